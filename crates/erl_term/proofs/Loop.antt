@@ -1,0 +1,82 @@
+-- Reading terms one after the other, as a loop does.
+use Rattle.std.proofs.Common.{◌≡◌, ℕ, suc, ◌-◌, ◌+◌, ◌≤◌, ◌<◌, List, [], ◌∷◌, ◌++◌, Result, Ok, Err, refl, sym, ap, ◌∙◌, arith}
+use Rattle.erl_term.specs.declared.error.TermError.{TermError}
+use Rattle.erl_term.specs.Data.{Data, Items, no_items, item}
+use Rattle.erl_term.specs.View.{items_of}
+use Rattle.erl_term.specs.Skipping.{rest_of}
+use Rattle.erl_term.specs.Reading.{◌>>=◌, Read, Fails, items_with}
+
+abbrev pub put_front : List Data → Items → Items
+put_front [] ts = ts
+put_front (d ∷ ds) ts = item d (put_front ds ts)
+
+-- what was read before, and what is still read
+abbrev pub with_front : List Data → Read Items → Read Items
+with_front front read = read >>= λ x. Ok (put_front front x.0, x.1)
+
+put_front-push : (front : List Data) (d : Data) (ts : Items) → put_front (front ++ d ∷ []) ts ≡ put_front front (item d ts)
+put_front-push [] d ts = refl
+put_front-push (e ∷ front) d ts = ap (item e) (put_front-push front d ts)
+
+put_front-end : (front : List Data) → put_front front no_items ≡ items_of front
+put_front-end [] = refl
+put_front-end (e ∷ front) = ap (item e) (put_front-end front)
+
+regroup : (front : List Data) (d : Data) (read : Read Items) → with_front front (read >>= λ x. Ok (item d x.0, x.1)) ≡ with_front (front ++ d ∷ []) read
+regroup front d (Ok x) = ap (λ (ts : Items). Ok (ts, x.1)) (sym (put_front-push front d x.0))
+regroup front d (Err f) = refl
+
+pub goes_on : (one : List ℕ → Read Data) (front : List Data) (count i : ℕ) (bytes : List ℕ) (d : Data) (after : List ℕ) (total : Read Items) → i < count → one bytes ≡ Ok (d, after)
+    → with_front front (items_with one (count - i) bytes) ≡ total → with_front (front ++ d ∷ []) (items_with one (count - (i + 1)) after) ≡ total
+unfolding items_with
+goes_on one front count i bytes d after total lt h so_far =
+    let k : count - i ≡ suc (count - (i + 1)) = omega arith in
+    let e : with_front front (items_with one (count - i) bytes) ≡ with_front (front ++ d ∷ []) (items_with one (count - (i + 1)) after) = rw (k, h) (regroup front d (items_with one (count - (i + 1)) after)) in
+    sym e ∙ so_far
+
+pub ends : (one : List ℕ → Read Data) (e : TermError) (front : List Data) (count i : ℕ) (bytes : List ℕ) (total : Read Items) → i < count → Fails e (one bytes)
+    → with_front front (items_with one (count - i) bytes) ≡ total → Fails e total
+unfolding items_with
+ends one e front count i bytes total lt h so_far = λ known.
+    let k : count - i ≡ suc (count - (i + 1)) = omega arith in
+    let all : with_front front (items_with one (count - i) bytes) ≡ Err e = rw (k, h known) refl in
+    sym so_far ∙ all
+
+pub is_done : (one : List ℕ → Read Data) (front : List Data) (count i : ℕ) (bytes : List ℕ) (total : Read Items) → count ≤ i → with_front front (items_with one (count - i) bytes) ≡ total → total ≡ Ok (items_of front, bytes)
+unfolding items_with
+is_done one front count i bytes total le so_far =
+    let k : count - i ≡ 0 = omega arith in
+    let all : with_front front (items_with one (count - i) bytes) ≡ Ok (items_of front, bytes) = rw k (ap (λ (ts : Items). Ok (ts, bytes)) (put_front-end front)) in
+    sym so_far ∙ all
+
+-- ---- the same with no values
+
+pub skips_more : (one : List ℕ → Read Data) (count i : ℕ) (bytes after : List ℕ) (total : Result (List ℕ) TermError) → i < count → rest_of (one bytes) ≡ Ok after → rest_of (items_with one (count - i) bytes) ≡ total → rest_of (items_with one (count - (i + 1)) after) ≡ total
+unfolding items_with
+skips_more one count i bytes after total lt h so_far =
+    let k : count - i ≡ suc (count - (i + 1)) = omega arith in
+    sym (by (one bytes) h) ∙ ap (λ (n : ℕ). rest_of (items_with one n bytes)) (sym k) ∙ so_far
+  where
+    last : (t : Data) (r : Read Items) → rest_of (r >>= λ ts. Ok (item t ts.0, ts.1)) ≡ rest_of r
+    last t (Ok x) = refl
+    last t (Err e) = refl
+
+    by : (r : Read Data) → rest_of r ≡ Ok after → rest_of (r >>= λ t. items_with one (count - (i + 1)) t.1 >>= λ ts. Ok (item t.0 ts.0, ts.1)) ≡ rest_of (items_with one (count - (i + 1)) after)
+    by (Ok x) e = last x.0 (items_with one (count - (i + 1)) x.1) ∙ ap (λ (b : List ℕ). rest_of (items_with one (count - (i + 1)) b)) (let q : x.1 ≡ after = cc in q)
+    by (Err f) e = absurd cc
+
+pub skips_end : (one : List ℕ → Read Data) (e : TermError) (count i : ℕ) (bytes : List ℕ) (total : Result (List ℕ) TermError) → i < count → rest_of (one bytes) ≡ Err e → rest_of (items_with one (count - i) bytes) ≡ total → total ≡ Err e
+unfolding items_with
+skips_end one e count i bytes total lt h so_far =
+    let k : count - i ≡ suc (count - (i + 1)) = omega arith in
+    sym so_far ∙ ap (λ (n : ℕ). rest_of (items_with one n bytes)) k ∙ by (one bytes) h
+  where
+    by : (r : Read Data) → rest_of r ≡ Err e → rest_of (r >>= λ t. items_with one (count - (i + 1)) t.1 >>= λ ts. Ok (item t.0 ts.0, ts.1)) ≡ Err e
+    by (Ok x) q = absurd cc
+    by (Err f) q = q
+
+pub skips_done : (one : List ℕ → Read Data) (count i : ℕ) (bytes : List ℕ) (total : Result (List ℕ) TermError) → count ≤ i → rest_of (items_with one (count - i) bytes) ≡ total → total ≡ Ok bytes
+unfolding items_with
+skips_done one count i bytes total le so_far =
+    let k : count - i ≡ 0 = omega arith in
+    sym so_far ∙ ap (λ (n : ℕ). rest_of (items_with one n bytes)) k

@@ -1,0 +1,101 @@
+-- Where bytes stop being the beginning of a spelling, and why.
+use Rattle.std.specs.Prelude.{◌≡◌, ℕ, zero, suc, ◌+◌, ◌<◌, ◌≤◌, ◌^◌, ◌⊎◌, List, [], ◌∷◌, ◌++◌, length, take}
+use Rattle.erl_term.specs.declared.error.TermError.{TermError}
+use Rattle.erl_term.specs.declared.error.TermError.TheVariants.{Cut, Malformed, OutOfProfile, TooDeep, TooLong, OutOfMemory}
+use Rattle.erl_term.specs.Data.{Data, Items, count}
+use Rattle.erl_term.specs.Numbers.{low_first}
+use Rattle.erl_term.specs.Spelling.{IsNumber, SpellAll, Spells, IsSpelling}
+
+-- a spelling begins with these bytes
+pub record IsBeginning (levels : ℕ) (front : List ℕ) : Type 0 where
+  pub term : Data
+  pub more : List ℕ
+  pub spelled : IsSpelling levels term (front ++ more)
+
+-- a spelling begins with these bytes, and they are no whole one
+pub record IsInside (levels : ℕ) (front : List ℕ) : Type 0 where
+  pub begins : IsBeginning levels front
+  pub open_end : (t : Data) → IsSpelling levels t front → ⊥
+
+-- the first byte with which the front of the bytes stops being a beginning
+pub record FirstFault (bytes : List ℕ) (front : List ℕ) (byte : ℕ) : Type 0 where
+  pub rest : List ℕ
+  pub parts : bytes ≡ front ++ byte ∷ rest
+  pub inside : IsInside 64 front
+  pub stops : IsBeginning 64 (front ++ byte ∷ []) → ⊥
+
+-- a spelling of t stands at the front and takes n bytes
+pub record IsAtFront (bytes : List ℕ) (t : Data) (n : ℕ) : Type 0 where
+  pub within : n ≤ length bytes
+  pub spelled : IsSpelling 64 t (take n bytes)
+
+abbrev pub IsTag : ℕ → Type 0
+IsTag b = (b ≡ 97) ⊎ ((b ≡ 98) ⊎ ((b ≡ 110) ⊎ ((b ≡ 118) ⊎ ((b ≡ 119) ⊎ ((b ≡ 104) ⊎ ((b ≡ 105) ⊎ (b ≡ 88)))))))
+
+-- a tuple was begun, some of its elements stand there, not all of them, and then what At says
+pub record InTuple (Spell : Data → List ℕ → Type 0) (At : List ℕ → Type 0) (front : List ℕ) : Type 0 where
+  pub tag : ℕ
+  pub width : ℕ
+  pub arity : List ℕ
+  pub n : ℕ
+  pub before : Items
+  pub elements : List ℕ
+  pub inner : List ℕ
+  pub is_tuple : ((tag ≡ 104) × (width ≡ 1)) ⊎ ((tag ≡ 105) × (width ≡ 4))
+  pub number : IsNumber width n arity
+  pub spelled : SpellAll Spell before elements
+  pub left : count before < n
+  pub at : At inner
+  pub parts : front ≡ tag ∷ (arity ++ (elements ++ inner))
+
+-- At stands at the end of the front, within some tuples, of so many levels at most
+abbrev pub Nested : ℕ → (List ℕ → Type 0) → List ℕ → Type 0
+Nested zero At front = ⊥
+Nested (suc below) At front = At front ⊎ InTuple (Spells below) (Nested below At) front
+
+-- a SMALL_BIG was begun, and this byte ends a magnitude that is out of range
+pub record IsLargeBig (byte : ℕ) (front : List ℕ) : Type 0 where
+  pub sign : ℕ
+  pub digits : List ℕ
+  pub is_sign : sign ≤ 1
+  pub short : length digits < 16
+  pub large : 2 ^ 127 + sign ≤ low_first (digits ++ byte ∷ [])
+  pub parts : front ≡ 110 ∷ suc (length digits) ∷ sign ∷ digits
+
+-- a SMALL_BIG was begun, and this byte says a length above 16, or a magnitude that is out of range
+abbrev pub IsBadBig : ℕ → List ℕ → Type 0
+IsBadBig byte front = ((front ≡ 110 ∷ []) × (16 < byte)) ⊎ IsLargeBig byte front
+
+-- the same behind the version byte
+pub record AtPlace (At : List ℕ → Type 0) (front : List ℕ) : Type 0 where
+  pub inner : List ℕ
+  pub nested : Nested 64 At inner
+  pub parts : front ≡ 131 ∷ inner
+
+-- a term must come next, and the byte is no tag
+abbrev pub IsUnknownTag : List ℕ → ℕ → Type 0
+IsUnknownTag front byte = AtPlace (λ inner. inner ≡ []) front × (IsTag byte → ⊥)
+
+-- only the number of levels forbids the byte
+abbrev pub IsTooDeep : List ℕ → ℕ → Type 0
+IsTooDeep front byte = (levels : ℕ) × IsBeginning levels (front ++ byte ∷ [])
+
+abbrev pub IsOutOfProfile : List ℕ → ℕ → ℕ → Type 0
+IsOutOfProfile front byte tag = ((tag ≡ byte) × IsUnknownTag front byte) ⊎ ((tag ≡ 110) × AtPlace (IsBadBig byte) front)
+
+-- of a byte that may not stand after front: why
+abbrev pub IsKind : List ℕ → ℕ → TermError → Type 0
+IsKind front byte TooDeep = IsTooDeep front byte
+IsKind front byte (OutOfProfile tag) = IsOutOfProfile front byte tag
+-- everywhere else
+IsKind front byte Malformed = (IsTooDeep front byte → ⊥) × ((tag : ℕ) → IsOutOfProfile front byte tag → ⊥)
+IsKind front byte Cut = ⊥
+IsKind front byte TooLong = ⊥
+IsKind front byte OutOfMemory = ⊥
+
+-- the first fault is of this kind
+pub record HasFault (bytes : List ℕ) (kind : TermError) : Type 0 where
+  pub front : List ℕ
+  pub byte : ℕ
+  pub first : FirstFault bytes front byte
+  pub why : IsKind front byte kind

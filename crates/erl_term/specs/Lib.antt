@@ -1,0 +1,11 @@
+pub mod Numbers
+pub mod Text
+pub mod Data
+pub mod View
+pub mod Spelling
+pub mod Faults
+pub mod Reading
+pub mod Answer
+pub mod Limited
+pub mod Canonical
+pub mod Skipping

@@ -1,0 +1,92 @@
+-- The spellings of a term: for each kind of term, the rows of the table that stand for it.
+use Rattle.std.specs.Prelude.{◌≡◌, ℕ, zero, suc, ◌+◌, ◌^◌, ◌<◌, ◌≤◌, ◌⊎◌, ℤ, pos, List, [], ◌∷◌, ◌++◌, length}
+use Rattle.std.specs.Int.{w32, cast_signed}
+use Rattle.byteorder.specs.Endian.{big_number}
+use Rattle.erl_term.specs.declared.term.Pid.{Pid}
+use Rattle.erl_term.specs.Data.{Data, int, atom, tuple, pid, Items, no_items, item, count}
+use Rattle.erl_term.specs.Text.{IsAtomText}
+use Rattle.erl_term.specs.Numbers.{AreBytes, low_first, signed}
+
+-- b is the number n in so many bytes, the highest first
+pub record IsNumber (width n : ℕ) (b : List ℕ) : Type 0 where
+  pub len : length b ≡ width
+  pub bytes : AreBytes b
+  pub says : big_number width b ≡ n
+
+-- 97: a byte. 98: four bytes, in two's complement. 110: a length, a sign, and so many bytes, the lowest first
+pub record IsSmallInteger (z : ℤ) (b : List ℕ) : Type 0 where
+  pub n : ℕ
+  pub field : List ℕ
+  pub number : IsNumber 1 n field
+  pub value : z ≡ pos n
+  pub bytes : b ≡ 97 ∷ field
+
+pub record IsInteger (z : ℤ) (b : List ℕ) : Type 0 where
+  pub n : ℕ
+  pub field : List ℕ
+  pub number : IsNumber 4 n field
+  pub value : z ≡ cast_signed w32 n
+  pub bytes : b ≡ 98 ∷ field
+
+pub record IsSmallBig (z : ℤ) (b : List ℕ) : Type 0 where
+  pub sign : ℕ
+  pub magnitude : List ℕ
+  pub is_sign : sign ≤ 1
+  pub short : length magnitude ≤ 16
+  pub are_bytes : AreBytes magnitude
+  pub in_range : low_first magnitude < 2 ^ 127 + sign
+  pub value : z ≡ signed sign (low_first magnitude)
+  pub bytes : b ≡ 110 ∷ length magnitude ∷ sign ∷ magnitude
+
+-- 119 and 118: a length of one byte or of two, and the text
+pub record IsAtom (tag width : ℕ) (a b : List ℕ) : Type 0 where
+  pub len : List ℕ
+  pub is_text : IsAtomText a
+  pub number : IsNumber width (length a) len
+  pub bytes : b ≡ tag ∷ (len ++ a)
+
+abbrev pub SpellsAtom : List ℕ → List ℕ → Type 0
+SpellsAtom a b = IsAtom 119 1 a b ⊎ IsAtom 118 2 a b
+
+-- b is the spellings of the terms, one after the other, where Spell says which each has
+abbrev pub SpellAll : (Data → List ℕ → Type 0) → Items → List ℕ → Type 0
+SpellAll Spell no_items b = b ≡ []
+SpellAll Spell (item t ts) b = (x : List ℕ) × (y : List ℕ) × Spell t x × SpellAll Spell ts y × (b ≡ x ++ y)
+
+-- 104 and 105: how many elements there are, in one byte or in four, and the elements
+pub record IsTuple (Spell : Data → List ℕ → Type 0) (tag width : ℕ) (ts : Items) (b : List ℕ) : Type 0 where
+  pub arity : List ℕ
+  pub elements : List ℕ
+  pub number : IsNumber width (count ts) arity
+  pub spelled : SpellAll Spell ts elements
+  pub bytes : b ≡ tag ∷ (arity ++ elements)
+
+-- 88: the node, an atom in any spelling, and three numbers
+pub record IsPid (p : Pid) (b : List ℕ) : Type 0 where
+  pub node : List ℕ
+  pub id : List ℕ
+  pub serial : List ℕ
+  pub creation : List ℕ
+  pub is_node : SpellsAtom p.node node
+  pub is_id : IsNumber 4 p.id id
+  pub is_serial : IsNumber 4 p.serial serial
+  pub is_creation : IsNumber 4 p.creation creation
+  pub bytes : b ≡ 88 ∷ (node ++ (id ++ (serial ++ creation)))
+
+-- the rows that stand for a term, where Spell says which spellings the elements have
+abbrev pub SpellsBy : (Data → List ℕ → Type 0) → Data → List ℕ → Type 0
+SpellsBy Spell (int z) b = IsSmallInteger z b ⊎ (IsInteger z b ⊎ IsSmallBig z b)
+SpellsBy Spell (atom a) b = SpellsAtom a b
+SpellsBy Spell (tuple ts) b = IsTuple Spell 104 1 ts b ⊎ IsTuple Spell 105 4 ts b
+SpellsBy Spell (pid p) b = IsPid p b
+
+-- b stands for t, and has at most so many levels
+abbrev pub Spells : ℕ → Data → List ℕ → Type 0
+Spells zero t b = ⊥
+Spells (suc levels) t b = SpellsBy (Spells levels) t b
+
+-- the same behind the version byte
+pub record IsSpelling (levels : ℕ) (t : Data) (b : List ℕ) : Type 0 where
+  pub term : List ℕ
+  pub spelled : Spells levels t term
+  pub bytes : b ≡ 131 ∷ term

@@ -1,0 +1,28 @@
+//! Laws of the definitions.
+ghost use Rattle.std.specs.Prelude.{◌≡◌, ◌≤◌, ◌↔◌, ◌++◌, List, ℕ, length, Result, Ok};
+ghost use Rattle.erl_term.specs.declared.error.TermError.{TermError};
+ghost use Rattle.erl_term.specs.Data.{Data};
+ghost use Rattle.erl_term.specs.Numbers.{AreBytes};
+ghost use Rattle.erl_term.specs.Spelling.{IsSpelling};
+ghost use Rattle.erl_term.specs.Answer.{IsDue};
+ghost use Rattle.erl_term.specs.Canonical.{canonical, levels_of, IsInRange, IsWritable};
+
+/// No spelling begins another, so what was written is read again, whatever follows it.
+pub fn one_spelling()
+    ensures { (t u : Data) (a b x y : List ℕ) → IsSpelling 64 t a → IsSpelling 64 u b → a ++ x ≡ b ++ y → (t ≡ u) × (a ≡ b) }
+{}
+
+/// The canonical spelling of a value is a spelling of it, and has exactly its levels.
+pub fn canonical_is_spelling()
+    ensures { (t : Data) (levels : ℕ) → IsInRange t → (IsSpelling levels t (canonical t) ↔ (levels_of t ≤ levels)) }
+{}
+
+/// What `encode` writes is what `decode` reads, whatever follows it.
+pub fn read_again()
+    ensures { (t : Data) (rest : List ℕ) → IsWritable t → IsDue (canonical t ++ rest) (Ok (t, length (canonical t))) }
+{}
+
+/// To any bytes one answer is due.
+pub fn one_answer()
+    ensures { (bytes : List ℕ) → AreBytes bytes → (due : Result (Data × ℕ) TermError) × IsDue bytes due × ((other : Result (Data × ℕ) TermError) → IsDue bytes other → other ≡ due) }
+{}
