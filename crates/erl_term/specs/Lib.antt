@@ -6,6 +6,7 @@ pub mod Spelling
 pub mod Faults
 pub mod Reading
 pub mod Answer
+pub mod ErrorNumbers
 pub mod Limited
 pub mod Canonical
 pub mod Skipping

@@ -1,3 +1,8 @@
+//! Why a call was refused.
+
+ghost use Rattle.std.specs.Prelude.{◌≡◌};
+ghost use Rattle.erl_term.specs.ErrorNumbers.{refusal_number};
+
 use thiserror::Error;
 
 /// Why a call was refused. A refused call changes nothing.
@@ -65,4 +70,34 @@ pub enum Refusal {
     /// A thread couldn't be started.
     #[error("30 NoThread")]
     NoThread,
+}
+
+impl Refusal {
+    /// The number of the refusal, with which its text begins.
+    pub fn number(self) -> u8
+        ensures { result ≡ refusal_number self }
+    {
+        match self {
+            Refusal::BadName => 1,
+            Refusal::NodeDown => 2,
+            Refusal::NoSuchProcess => 3,
+            Refusal::IdsUsedUp => 4,
+            Refusal::NotTheOwner => 5,
+            Refusal::TooLong => 8,
+            Refusal::BadMessage => 10,
+            Refusal::FlagsMissing => 11,
+            Refusal::OutOfMemory => 12,
+            Refusal::BadDigest => 13,
+            Refusal::Nok => 14,
+            Refusal::Superseded => 15,
+            Refusal::Busy => 16,
+            Refusal::SelfDial => 17,
+            Refusal::NotLive => 18,
+            Refusal::NothingThere => 19,
+            Refusal::Forged => 20,
+            Refusal::NodeUp => 23,
+            Refusal::StrangeSeat => 29,
+            Refusal::NoThread => 30,
+        }
+    }
 }
