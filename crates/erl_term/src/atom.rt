@@ -1,3 +1,4 @@
+//! Atoms.
 ghost use Rattle.std.specs.Prelude.{◌≡◌, ◌≤◌, ◌↔◌, IsTrue, List, ℕ, Some, length, refl, nat_eq};
 ghost use Rattle.std.specs.Ordering.{nat_cmp};
 ghost use Rattle.std.specs.String.{string_bytes};
@@ -10,7 +11,7 @@ use std::alloc::AllocError;
 use std::cmp::Ordering;
 use std::marker::Model;
 
-/// An atom: a text of at most 255 characters. Contracts see its UTF-8 bytes.
+/// An atom: a text of 0 to 255 characters. Contracts see its UTF-8 bytes.
 ///
 /// Atoms are ordered by these bytes. (ERTS User's Guide, External Term Format, ATOM_UTF8_EXT;
 /// Reference Manual, Data Types, Atom.)
@@ -39,7 +40,7 @@ impl Atom {
         text.chars().count() <= 255
     }
 
-    /// The atom of a text that [`Atom::fits`].
+    /// The atom of a text that [fits](Atom::fits). It takes no memory.
     pub fn new(text: String) -> Atom
         requires { length (chars (string_bytes text)) ≤ 255 }
         ensures { result ≡ string_bytes text }

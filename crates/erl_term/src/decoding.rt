@@ -1,3 +1,4 @@
+//! The answer to bytes: the term at the front, or why there is none.
 ghost use Rattle.std.specs.Prelude.{◌≡◌, ◌≤◌, ◌≢◌, ℕ, length, IfOk, IfErr, IsErrOf, Ok, Err, Result};
 ghost use Rattle.erl_term.specs.declared.error.TermError.{TermError};
 ghost use Rattle.erl_term.specs.declared.error.TermError.TheVariants.{OutOfMemory};
@@ -13,7 +14,7 @@ use crate::skipping::skip_spelling;
 use crate::term::Term;
 use std::alloc::Global;
 
-/// The most bytes of a term.
+/// The most bytes of a term, its version byte included.
 pub const LIMIT: usize = 1_048_576;
 
 /// The same as `decode`, but that it may run out of memory before it comes to a fault.
@@ -62,7 +63,13 @@ fn scanned(bytes: &[u8]) -> Result<usize, TermError>
     }
 }
 
-/// The term at the front of the bytes, and how many bytes it takes.
+/// The term at the front of the bytes, and how many bytes it takes. What follows it is not read.
+///
+/// Each spelling of a term is read. `Malformed`, `OutOfProfile` and `TooDeep` say what the first
+/// fault from the left is. Where there is none, `Cut` says that the bytes end within a term, and
+/// `TooLong` that the term has more than [`LIMIT`] bytes, or that they end within it and are more
+/// than those. `OutOfMemory` comes only where there is a term.
+/// (ERTS User's Guide, External Term Format.)
 pub fn decode(alloc: Global, bytes: &[u8]) -> Result<(Term, usize), TermError>
     // What is answered is due, unless memory ran out.
     ensures ok { IfOk result (λ x. IsDue bytes.now (Ok (view x.0, x.1))) }

@@ -1,4 +1,4 @@
-//! Laws of the definitions.
+//! Laws of the definitions. Each function does nothing: its contract is the law, for proofs above to cite.
 ghost use Rattle.std.specs.Prelude.{◌≡◌, ◌≤◌, ◌↔◌, ◌++◌, List, ℕ, length, Result, Ok};
 ghost use Rattle.erl_term.specs.declared.error.TermError.{TermError};
 ghost use Rattle.erl_term.specs.Data.{Data};

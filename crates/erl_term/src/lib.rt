@@ -1,23 +1,39 @@
-//! Erlang terms as bytes.
+//! Erlang terms as bytes, in the External Term Format.
+//!
+//! [`decode`] reads the [`Term`] at the front of any bytes, and [`encode`] writes a term. A term has
+//! many spellings: `decode` reads each of them, and `encode` writes the canonical one. The contract
+//! of `decode` names the one answer that is due to any bytes. Where no term stands at the front, the
+//! first fault from the left decides which [`TermError`] comes.
+//!
+//! The profile has integers of 128 bits, atoms, tuples and pids, in at most 64 levels and 1,048,576
+//! bytes. No other kind of term is read, and nothing of the distribution protocol stands here: frames
+//! and signals are made of these terms elsewhere. [`Refusal`] is here because each crate above names
+//! it.
+//!
+//! Know first: [`Term`], [`Atom`], whose value in a contract is its UTF-8 bytes, and [`Pid`].
 #![tactic(auto)]
 
 mod atom;
 mod decoding;
 mod encoding;
 mod error;
+mod field;
 mod laws;
+mod magnitude;
+mod measuring;
 mod reading;
 mod refusal;
 mod skipping;
+mod tag;
 mod term;
+mod text;
 
 pub use atom::Atom;
 pub use decoding::{LIMIT, decode};
-pub use encoding::{
-    encode, integer_len, pid_len, put_integer, put_pid, put_tuple_head, tuple_head_len,
-};
+pub use encoding::{encode, put_integer, put_pid, put_tuple_head};
 pub use error::TermError;
 pub use laws::{canonical_is_spelling, one_answer, one_spelling, read_again};
+pub use measuring::{integer_len, pid_len, tuple_head_len};
 pub use refusal::Refusal;
 pub use term::{Pid, Term};
 

@@ -1,12 +1,13 @@
-//! The first pass: where the term ends, or the first fault, with no memory.
+//! The same reading with no value and no memory: where the term ends, or the first fault.
 ghost use Rattle.std.specs.Prelude.{◌≡◌, ◌≤◌, ◌<◌, List, length, Ok, ℕ};
 ghost use Rattle.erl_term.specs.Reading.{small_at, integer_at, big_at, text_at, atom_at, node_at, pid_at, items_with, tuple_with, row_with, term_at, spelling_at};
 ghost use Rattle.erl_term.specs.Skipping.{Skips};
 
 use crate::error::TermError;
-use crate::reading::{
-    atom_text, byte_of, magnitude_of, may_become_text, number_of, part_of, word_of,
-};
+use crate::field::{byte_of, number_of, part_of, word_of};
+use crate::magnitude::number_in;
+use crate::tag;
+use crate::text::{atom_text, may_become_text};
 
 #[tactic(auto, unfolding(crate::specs::Reading::text_at))]
 fn skip_text(len: usize, bytes: &[u8]) -> Result<&[u8], TermError>
@@ -41,8 +42,8 @@ fn skip_node(bytes: &[u8]) -> Result<&[u8], TermError>
 {
     let (tag, rest) = byte_of(bytes)?;
     match tag {
-        119 => skip_atom(1, rest),
-        118 => skip_atom(2, rest),
+        tag::SMALL_ATOM_UTF8 => skip_atom(1, rest),
+        tag::ATOM_UTF8 => skip_atom(2, rest),
         _ => Err(TermError::Malformed),
     }
 }
@@ -62,11 +63,11 @@ fn skip_pid(bytes: &[u8]) -> Result<&[u8], TermError>
 fn skip_big(bytes: &[u8]) -> Result<&[u8], TermError>
     ensures { Skips (big_at bytes.now) result }
 {
-    let (len, rest) = number_of(bytes, 1, 16, TermError::OutOfProfile(110))?;
+    let (len, rest) = number_of(bytes, 1, 16, TermError::OutOfProfile(tag::SMALL_BIG))?;
     let (sign, rest) = number_of(rest, 1, 1, TermError::Malformed)?;
     let (magnitude, rest) = part_of(rest, len as usize)?;
-    if magnitude_of(magnitude) >= (1 << 127) + sign as u128 {
-        return Err(TermError::OutOfProfile(110));
+    if number_in(magnitude) >= (1 << 127) + sign as u128 {
+        return Err(TermError::OutOfProfile(tag::SMALL_BIG));
     }
     Ok(rest)
 }
@@ -81,26 +82,26 @@ fn skip_term(levels: u32, bytes: &[u8]) -> Result<&[u8], TermError>
     };
     let (tag, rest) = byte_of(bytes)?;
     match tag {
-        97 => {
+        tag::SMALL_INTEGER => {
             let (_, rest) = byte_of(rest)?;
             Ok(rest)
         }
-        98 => {
+        tag::INTEGER => {
             let (_, rest) = word_of(rest)?;
             Ok(rest)
         }
-        110 => skip_big(rest),
-        118 => {
+        tag::SMALL_BIG => skip_big(rest),
+        tag::ATOM_UTF8 => {
             let rest = skip_atom(2, rest)?;
             Ok(rest)
         }
-        119 => {
+        tag::SMALL_ATOM_UTF8 => {
             let rest = skip_atom(1, rest)?;
             Ok(rest)
         }
-        104 => skip_tuple(below, 1, rest),
-        105 => skip_tuple(below, 4, rest),
-        88 => {
+        tag::SMALL_TUPLE => skip_tuple(below, 1, rest),
+        tag::LARGE_TUPLE => skip_tuple(below, 4, rest),
+        tag::NEW_PID => {
             let rest = skip_pid(rest)?;
             Ok(rest)
         }
@@ -138,7 +139,7 @@ pub fn skip_spelling(bytes: &[u8]) -> Result<&[u8], TermError>
     ensures { Skips (spelling_at bytes.now) result }
 {
     let (version, rest) = byte_of(bytes)?;
-    if version != 131 {
+    if version != tag::VERSION {
         return Err(TermError::Malformed);
     }
     skip_term(64, rest)

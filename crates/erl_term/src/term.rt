@@ -1,3 +1,4 @@
+//! Terms, and pids among them.
 ghost use Rattle.std.specs.Prelude.{IsTrue, ◌↔◌, ◌≡◌};
 
 use crate::atom::Atom;

@@ -2,7 +2,7 @@ use Rattle.std.proofs.Common.{◌≡◌, ℕ, length, arith, ap, ◌∙◌}
 use Rattle.erl_term.specs.Canonical.{canonical_term, canonical_head}
 use Rattle.erl_term.specs.View.{view}
 use Rattle.erl_term.proofs.Terms.{length-canon_tuple, room_fits, room_full, flat_item}
-use Rattle.erl_term.proofs.encoding.+room.Goals as goal
+use Rattle.erl_term.proofs.measuring.+room.Goals as goal
 
 pub room_after-returns-in_default-clause-full : goal.room_after-returns-in_default-clause-full
 room_after-returns-in_default-clause-full t c =

@@ -4,7 +4,7 @@ use Rattle.std.proofs.lemmas.List.Elements.{All-more, All-same}
 use Rattle.erl_term.specs.Canonical.{IsInRange}
 use Rattle.erl_term.specs.View.{view}
 use Rattle.erl_term.proofs.Terms.{tuple_in_range, tuple_too_long}
-use Rattle.erl_term.proofs.encoding.+range.Goals as goal
+use Rattle.erl_term.proofs.measuring.+range.Goals as goal
 
 pub are_in_range-loop-item-preserved : goal.are_in_range-loop-item-preserved
 are_in_range-loop-item-preserved t c =

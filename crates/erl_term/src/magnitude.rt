@@ -1,0 +1,48 @@
+//! The magnitude of a SMALL_BIG: its bytes, the lowest first.
+ghost use Rattle.std.specs.Prelude.{◌≡◌, ◌≤◌, ◌<◌, ◌^◌, ◌+◌, length, take};
+ghost use Rattle.erl_term.specs.Numbers.{low_first, signed};
+ghost use Rattle.erl_term.specs.Canonical.{magnitude};
+
+use byteorder::{ByteOrder, LittleEndian};
+
+/// The number in the bytes, the lowest first.
+pub fn number_in(bytes: &[u8]) -> u128
+    requires { length bytes.now ≤ 16 }
+    ensures { result ≡ low_first bytes.now }
+{
+    if bytes.is_empty() {
+        return 0;
+    }
+    LittleEndian::read_uint128(bytes, bytes.len())
+}
+
+/// The integer of a sign, 1 for minus, and a magnitude.
+pub fn signed_of(sign: u64, magnitude: u128) -> i128
+    requires sign { sign ≤ 1 }
+    requires fits { magnitude < 2 ^ 127 + sign }
+    ensures { result ≡ signed sign magnitude }
+{
+    if sign == 0 {
+        magnitude as i128
+    } else if magnitude == 0 {
+        0
+    } else {
+        -1 - (magnitude - 1) as i128
+    }
+}
+
+/// The bytes of the number, the lowest first, in a buffer, and how many there are.
+pub fn digits_of(n: u128) -> ([u8; 16], usize)
+    ensures bound { result.1 ≤ 16 }
+    ensures bytes { take result.1 result.0 ≡ magnitude n }
+{
+    let mut bytes = [0u8; 16];
+    let mut len = 0;
+    let mut rest = n;
+    while rest != 0 && len < 16 {
+        bytes[len] = (rest % 256) as u8;
+        rest /= 256;
+        len += 1;
+    }
+    (bytes, len)
+}

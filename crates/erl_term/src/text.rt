@@ -1,0 +1,90 @@
+//! The text of an atom in UTF-8, whole or begun.
+ghost use Rattle.std.specs.Prelude.{◌≡◌, ◌≤◌, ◌<◌, length, IfSome, is_some, is_none, take, drop, IsUtf8};
+ghost use Rattle.std.specs.Str.{chars};
+ghost use Rattle.std.specs.Str.Lossy.{utf8_valid_len, utf8_error_len};
+ghost use Rattle.erl_term.specs.Text.{is_atom_text};
+ghost use Rattle.erl_term.specs.Text as text;
+
+use crate::atom::Atom;
+
+/// The bytes as the text of an atom, if they are one.
+#[tactic(auto, using(crate::proofs::Texts::the_texts))]
+pub fn atom_text(bytes: &[u8]) -> Option<&str>
+    ensures some { is_some result ≡ is_atom_text bytes.now }
+    ensures text { IfSome result (λ t. t.now ≡ bytes.now) }
+    ensures fits { IfSome result (λ t. length (chars t.now) ≤ 255) }
+{
+    match str::from_utf8(bytes) {
+        Ok(text) => { if Atom::fits(text) { Some(text) } else { None } }
+        Err(_) => None,
+    }
+}
+
+/// How many bytes at the front are UTF-8, and whether the bytes end within the character after them, or after them.
+#[tactic(auto, using(crate::proofs::Texts::the_texts))]
+fn valid_front(bytes: &[u8]) -> (usize, bool)
+    ensures valid { result.0 ≡ utf8_valid_len bytes.now }
+    ensures bound { result.0 ≤ length bytes.now }
+    ensures front { IsUtf8 (take result.0 bytes.now) }
+    ensures cut { result.1 ≡ is_none (utf8_error_len (drop result.0 bytes.now)) }
+{
+    match str::from_utf8(bytes) {
+        Ok(_) => (bytes.len(), true),
+        Err(e) => (e.valid_up_to(), e.error_len().is_none()),
+    }
+}
+
+/// How many characters the text has.
+fn char_count(text: &[u8]) -> usize
+    requires { IsUtf8 text.now }
+    ensures { result ≡ length (chars text.now) }
+{
+    match str::from_utf8(text) {
+        Ok(text) => text.chars().count(),
+        Err(_) => 0,
+    }
+}
+
+/// Whether fewer than `len` bytes may still become the text of an atom of `len` bytes.
+#[tactic(auto, unfolding(crate::specs::Text::may_become_text))]
+pub fn may_become_text(len: usize, bytes: &[u8]) -> bool
+    requires { length bytes.now < len }
+    ensures { result ≡ text.may_become_text len bytes.now }
+{
+    let (valid, cut) = valid_front(bytes);
+    let (front, part) = bytes.split_at(valid);
+    let chars = char_count(front);
+    cut && goes_on(len - valid, chars, part)
+}
+
+/// Whether `part`, the beginning of a character, may go on for `len` bytes after so many characters.
+fn goes_on(len: usize, chars: usize, part: &[u8]) -> bool
+    ensures { result ≡ text.goes_on len chars part.now }
+{
+    match part {
+        [] => has_room(chars, len),
+        [lead, ..] => {
+            let need = char_len(*lead);
+            part.len() < need && need <= len && chars < 255 && has_room(chars + 1, len - need)
+        }
+    }
+}
+
+/// Whether so many bytes can be the rest of a text after so many characters.
+fn has_room(chars: usize, bytes: usize) -> bool
+    ensures { result ≡ text.has_room chars bytes }
+{
+    chars <= 255 && bytes <= 4 * (255 - chars)
+}
+
+/// How many bytes a character has that begins with this byte.
+fn char_len(lead: u8) -> usize
+    ensures { result ≡ text.char_len lead }
+{
+    match lead {
+        0..128 => 1,
+        128..224 => 2,
+        224..240 => 3,
+        _ => 4,
+    }
+}
