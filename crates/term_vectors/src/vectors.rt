@@ -1,0 +1,75 @@
+//! The files of vectors, and the answer to a line of each.
+
+use anyhow::Result;
+use erl_term::{decode, encode};
+use std::alloc::Global;
+
+/// A file of vectors.
+#[derive(Clone, Copy)]
+pub enum Vectors {
+    /// The spelling that Erlang/OTP writes of each term, which is the canonical one.
+    Terms,
+    /// Other spellings that Erlang/OTP reads, each with the canonical one.
+    Spellings,
+    /// Bytes that are no spelling of the profile, each with the error, and some at its edge that are one.
+    Refused,
+}
+
+impl Vectors {
+    /// What the file is called where its lines are counted.
+    pub fn name(self) -> &'static str {
+        match self {
+            Vectors::Terms => "terms",
+            Vectors::Spellings => "spellings",
+            Vectors::Refused => "refused",
+        }
+    }
+
+    pub fn path(self) -> &'static str {
+        match self {
+            Vectors::Terms => "terms.txt",
+            Vectors::Spellings => "spellings.txt",
+            Vectors::Refused => "refused.txt",
+        }
+    }
+
+    /// The answer that a line wants, by its first two columns.
+    pub fn wanted<'a>(self, spelling: &'a str, second: &'a str) -> &'a str {
+        match self {
+            Vectors::Terms => spelling,
+            Vectors::Spellings | Vectors::Refused => second,
+        }
+    }
+
+    /// The answer to the bytes of a line.
+    pub fn answer(self, alloc: Global, bytes: &[u8]) -> Result<String> {
+        match self {
+            Vectors::Terms | Vectors::Spellings => respelled(alloc, bytes),
+            Vectors::Refused => verdict(alloc, bytes),
+        }
+    }
+}
+
+/// The canonical spelling, in hex, of the term that all the bytes spell, or why there is none.
+fn respelled(alloc: Global, bytes: &[u8]) -> Result<String> {
+    let (term, taken) = match decode(alloc, bytes) {
+        Ok(answer) => answer,
+        Err(e) => return Ok(format!(in alloc; "{e}")?),
+    };
+    if taken != bytes.len() {
+        return Ok(format!(in alloc; "reads, takes {taken}")?);
+    }
+    match encode(alloc, &term) {
+        Ok(canonical) => Ok(hex::encode_upper(alloc, canonical.as_slice())?),
+        Err(e) => Ok(format!(in alloc; "{e}")?),
+    }
+}
+
+/// The error, or how many bytes are read where they aren't all of them.
+fn verdict(alloc: Global, bytes: &[u8]) -> Result<String> {
+    match decode(alloc, bytes) {
+        Err(e) => Ok(format!(in alloc; "{e}")?),
+        Ok((_, taken)) if taken == bytes.len() => Ok(String::from_str(alloc, "reads")?),
+        Ok((_, taken)) => Ok(format!(in alloc; "reads, takes {taken}")?),
+    }
+}
