@@ -4,10 +4,17 @@
 pub const VERSION: u8 = 131;
 
 pub const SMALL_INTEGER: u8 = 97;
+
 pub const INTEGER: u8 = 98;
+
 pub const SMALL_BIG: u8 = 110;
+
 pub const ATOM_UTF8: u8 = 118;
+
 pub const SMALL_ATOM_UTF8: u8 = 119;
+
 pub const SMALL_TUPLE: u8 = 104;
+
 pub const LARGE_TUPLE: u8 = 105;
+
 pub const NEW_PID: u8 = 88;
