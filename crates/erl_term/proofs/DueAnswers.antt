@@ -7,14 +7,14 @@ use Rattle.erl_term.specs.declared.error.TermError.TheVariants.{Cut, Malformed, 
 use Rattle.erl_term.specs.Numbers.{AreBytes}
 use Rattle.erl_term.specs.Data.{Data}
 use Rattle.erl_term.specs.Spelling.{IsSpelling}
-use Rattle.erl_term.specs.Faults.{IsBeginning, IsInside, IsAtFront, HasFault}
+use Rattle.erl_term.specs.Faults.{IsInside, IsAtFront, HasFault}
 use Rattle.std.specs.Prelude.{IsErrOf}
 use Rattle.erl_term.specs.declared.term.Term.{Term}
 use Rattle.erl_term.specs.Reading.{spelling_at}
 use Rattle.erl_term.specs.Answer.{limit, IsDue}
 use Rattle.erl_term.specs.Limited.{limited, answer_at, taken_of}
 use Rattle.erl_term.specs.Skipping.{rest_of}
-use Rattle.erl_term.proofs.Readers.{Begins, AreBytes-rest, Known, known, is_ok, is_err, cut_or}
+use Rattle.erl_term.proofs.Readers.{AreBytes-rest, Known, known, is_ok, is_err, cut_or}
 use Rattle.erl_term.proofs.Table.{Reads-spelling}
 use Rattle.readers.proofs.Places as position
 use Rattle.erl_term.proofs.WhyRows.{Explains-spelling, kind_of}
@@ -24,19 +24,13 @@ use Rattle.erl_term.proofs.Errors.{IsReadError, read_error}
 pub rest_short : (bytes : List ℕ) (t : Data) (rest : List ℕ) → AreBytes bytes → spelling_at bytes ≡ Ok (t, rest) → length rest ≤ length bytes
 rest_short bytes t rest h e = let k = Reads-spelling.takes bytes t rest h e in let l = ap length k.parts in omega (arith, length-append k.text rest)
 
-begins : (front : List ℕ) → Begins (IsSpelling 64) front → IsBeginning 64 front
-begins front b = record { term = b.value; more = b.more; spelled = b.is_text }
-
-begins_back : (front : List ℕ) → IsBeginning 64 front → Begins (IsSpelling 64) front
-begins_back front b = record { value = b.term; more = b.more; is_text = b.spelled }
-
 -- where the reader is cut the bytes end inside a spelling
 pub cut_inside : (bytes : List ℕ) → AreBytes bytes → spelling_at bytes ≡ Err Cut → IsInside 64 bytes
-cut_inside bytes h e = record { begins = begins bytes (Reads-spelling.goes_on bytes h e); open_end = position.cut_open cut_or (IsSpelling 64) spelling_at Reads-spelling bytes e }
+cut_inside bytes h e = record { begins = Reads-spelling.goes_on bytes h e; open_end = position.cut_open cut_or (IsSpelling 64) spelling_at Reads-spelling bytes e }
 
 -- and nowhere else
 pub inside_cut : (bytes : List ℕ) → AreBytes bytes → IsInside 64 bytes → spelling_at bytes ≡ Err Cut
-inside_cut bytes h i = position.inside_is_cut cut_or (IsSpelling 64) spelling_at Reads-spelling bytes h (begins_back bytes i.begins) i.open_end
+inside_cut bytes h i = position.inside_is_cut cut_or (IsSpelling 64) spelling_at Reads-spelling bytes h i.begins i.open_end
 
 last_byte : (front : List ℕ) (byte : ℕ) → AreBytes (front ++ byte ∷ []) → byte < 256
 last_byte front byte h = AreBytes-rest front (byte ∷ []) h 0
@@ -55,7 +49,7 @@ fault_first bytes e h err not =
         rest = f.rest;
         parts = f.parts;
         inside = cut_inside f.front front_fits f.before;
-        stops = λ b. position.begins_none cut_or (IsSpelling 64) spelling_at Reads-spelling (f.front ++ f.byte ∷ []) e fits f.after not (begins_back (f.front ++ f.byte ∷ []) b);
+        stops = λ b. position.begins_none cut_or (IsSpelling 64) spelling_at Reads-spelling (f.front ++ f.byte ∷ []) e fits f.after not b;
       };
       why = kind_is f.front f.byte e fits (last_byte f.front f.byte fits) not f.after (kind_of f.front f.byte e (Explains-spelling.why f.front f.byte e fits not f.before f.after fits));
     }
@@ -67,7 +61,7 @@ fault_answer bytes kind h w =
     let split = f.parts ∙ sym (append_assoc w.front (w.byte ∷ []) f.rest) in
     let fits : AreBytes (w.front ++ w.byte ∷ []) = position.AreBytes-front (w.front ++ w.byte ∷ []) f.rest (subst AreBytes split h) in
     let front_fits : AreBytes w.front = position.AreBytes-front w.front (w.byte ∷ []) fits in
-    let k = position.fault_fails cut_or (IsSpelling 64) spelling_at Reads-spelling w.front w.byte fits (begins_back w.front f.inside.begins) f.inside.open_end (λ b. f.stops (begins (w.front ++ w.byte ∷ []) b)) in
+    let k = position.fault_fails cut_or (IsSpelling 64) spelling_at Reads-spelling w.front w.byte fits f.inside.begins f.inside.open_end f.stops in
     let before = inside_cut w.front front_fits f.inside in
     let same : k.0 ≡ kind = kind_answer w.front w.byte k.0 kind fits (last_byte w.front w.byte fits) k.1 k.2 (kind_of w.front w.byte k.0 (Explains-spelling.why w.front w.byte k.0 fits k.1 before k.2 fits)) w.why in
     ap spelling_at split ∙ Reads-spelling.stable (w.front ++ w.byte ∷ []) f.rest k.0 fits k.1 k.2 ∙ ap (λ (e : TermError). Err e) same
@@ -79,11 +73,11 @@ read_front bytes t rest h e =
     let l : length bytes ≡ length k.text + length rest = ap length k.parts ∙ length-append k.text rest in
     let n : length bytes - length rest ≡ length k.text = omega arith in
     let front : take (length bytes - length rest) bytes ≡ k.text = ap (take (length bytes - length rest)) k.parts ∙ take_at k.text rest (length bytes - length rest) (sym n) in
-    record { within = omega arith; spelled = subst (IsSpelling 64 t) (sym front) k.is_text }
+    record { within = omega arith; is_text = subst (IsSpelling 64 t) (sym front) k.is_text }
 
 -- and what stands there is read
 pub front_read : (bytes : List ℕ) (t : Data) (n : ℕ) → IsAtFront bytes t n → spelling_at bytes ≡ Ok (t, drop n bytes)
-front_read bytes t n f = ap spelling_at (sym (take-append-drop n bytes)) ∙ Reads-spelling.again t (take n bytes) (drop n bytes) f.spelled
+front_read bytes t n f = ap spelling_at (sym (take-append-drop n bytes)) ∙ Reads-spelling.again t (take n bytes) (drop n bytes) f.is_text
 
 due_ok : (bytes : List ℕ) (x : Data × List ℕ) (b : Bool) → AreBytes bytes → spelling_at bytes ≡ Ok x → ltb limit (length bytes - length x.1) ≡ b → IsDue bytes (cond b (Err TooLong) (Ok (x.0, length bytes - length x.1)))
 due_ok bytes x true h e l = inr (x.0, length bytes - length x.1, ltb-true limit (length bytes - length x.1) l, read_front bytes x.0 x.1 h e)

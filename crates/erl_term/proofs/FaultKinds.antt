@@ -120,12 +120,12 @@ deep_read front byte e h c k d =
     elim (deep_or e) as (λ _. e ≡ TooDeep) [
       | inl q ↦ q
       | inr not ↦
-          let s = d.1.spelled in
+          let s = d.1.is_text in
           let bad : spelling_at (131 ∷ s.term) ≡ Err e = ap spelling_at (sym s.bytes) ∙ Reads-spelling.stable (front ++ byte ∷ []) d.1.more e h c k in
           let inner : term_at 64 s.term ≡ Err e = sym (version_read s.term) ∙ bad in
           let high : term_at (64 + d.0) s.term ≡ Err e = other_stays (64 + d.0) 64 s.term e (omega arith) not inner in
-          let good : term_at (64 + d.0) (s.term ++ []) ≡ Ok (d.1.term, []) = (Reads-term (64 + d.0) (omega arith)).again d.1.term s.term [] (more_levels (64 + d.0) d.0 d.1.term s.term (omega arith) s.spelled) in
-          absurd (never e (d.1.term, []) (term_at (64 + d.0) s.term) high (ap (term_at (64 + d.0)) (sym (append-nil s.term)) ∙ good))
+          let good : term_at (64 + d.0) (s.term ++ []) ≡ Ok (d.1.value, []) = (Reads-term (64 + d.0) (omega arith)).again d.1.value s.term [] (more_levels (64 + d.0) d.0 d.1.value s.term (omega arith) s.spelled) in
+          absurd (never e (d.1.value, []) (term_at (64 + d.0) s.term) high (ap (term_at (64 + d.0)) (sym (append-nil s.term)) ∙ good))
     ]
 
 -- ---- a fault within open tuples is the fault of the whole

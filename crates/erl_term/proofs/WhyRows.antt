@@ -352,7 +352,7 @@ pub data Kind (front : List ℕ) (byte : ℕ) (e : TermError) : Type 0 where
 kind_within : (inner : List ℕ) (byte : ℕ) (e : TermError) → Why 64 inner byte e → Kind (131 ∷ inner) byte e
 kind_within inner byte e (unknown q t at) = out_of_profile byte q (inl (refl, (record { inner = inner; nested = at; parts = refl }, λ tag. let k = is_tag-true byte tag in cc)))
 kind_within inner byte e (in_big q at) = out_of_profile 110 q (inr (refl, record { inner = inner; nested = at; parts = refl }))
-kind_within inner byte e (by_levels q b) = too_deep q (65, record { term = b.value; more = b.more; spelled = record { term = (inner ++ byte ∷ []) ++ b.more; spelled = b.is_text; bytes = refl } })
+kind_within inner byte e (by_levels q b) = too_deep q (65, record { value = b.value; more = b.more; is_text = record { term = (inner ++ byte ∷ []) ++ b.more; spelled = b.is_text; bytes = refl } })
 kind_within inner byte e (elsewhere q) = is_malformed q
 
 pub kind_of : (front : List ℕ) (byte : ℕ) (e : TermError) → SpellWhy front byte e → Kind front byte e

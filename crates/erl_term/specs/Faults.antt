@@ -1,33 +1,27 @@
 -- Where bytes stop being the beginning of a spelling, and why.
 use Rattle.std.specs.Prelude.{◌≡◌, ℕ, zero, suc, ◌+◌, ◌<◌, ◌≤◌, ◌^◌, ◌⊎◌, List, [], ◌∷◌, ◌++◌, length, take}
+use Rattle.readers.specs.Places.{Begins, IsFirstFault, IsInside as IsInsideOf, IsAtFront as IsAtFrontOf}
 use Rattle.erl_term.specs.declared.error.TermError.{TermError}
 use Rattle.erl_term.specs.declared.error.TermError.TheVariants.{Cut, Malformed, OutOfProfile, TooDeep, TooLong, OutOfMemory}
 use Rattle.erl_term.specs.Data.{Data, Items, count}
 use Rattle.erl_term.specs.Numbers.{low_first}
 use Rattle.erl_term.specs.Spelling.{IsNumber, SpellAll, Spells, IsSpelling}
 
--- a spelling begins with these bytes
-pub record IsBeginning (levels : ℕ) (front : List ℕ) : Type 0 where
-  pub term : Data
-  pub more : List ℕ
-  pub spelled : IsSpelling levels term (front ++ more)
+-- a spelling of at most so many levels begins with these bytes
+abbrev pub IsBeginning : ℕ → List ℕ → Type 0
+IsBeginning levels front = Begins (IsSpelling levels) front
 
--- a spelling begins with these bytes, and they are no whole one
-pub record IsInside (levels : ℕ) (front : List ℕ) : Type 0 where
-  pub begins : IsBeginning levels front
-  pub open_end : (t : Data) → IsSpelling levels t front → ⊥
-
--- the first byte with which the front of the bytes stops being a beginning
-pub record FirstFault (bytes : List ℕ) (front : List ℕ) (byte : ℕ) : Type 0 where
-  pub rest : List ℕ
-  pub parts : bytes ≡ front ++ byte ∷ rest
-  pub inside : IsInside 64 front
-  pub stops : IsBeginning 64 (front ++ byte ∷ []) → ⊥
+-- and they are no whole one
+abbrev pub IsInside : ℕ → List ℕ → Type 0
+IsInside levels front = IsInsideOf (IsSpelling levels) front
 
 -- a spelling of t stands at the front and takes n bytes
-pub record IsAtFront (bytes : List ℕ) (t : Data) (n : ℕ) : Type 0 where
-  pub within : n ≤ length bytes
-  pub spelled : IsSpelling 64 t (take n bytes)
+abbrev pub IsAtFront : List ℕ → Data → ℕ → Type 0
+IsAtFront bytes t n = IsAtFrontOf (IsSpelling 64) bytes t n
+
+-- the byte behind front is the first with which no spelling goes on
+abbrev pub FirstFault : List ℕ → List ℕ → ℕ → Type 0
+FirstFault bytes front byte = IsFirstFault (IsSpelling 64) bytes front byte
 
 abbrev pub IsTag : ℕ → Type 0
 IsTag b = (b ≡ 97) ⊎ ((b ≡ 98) ⊎ ((b ≡ 110) ⊎ ((b ≡ 118) ⊎ ((b ≡ 119) ⊎ ((b ≡ 104) ⊎ ((b ≡ 105) ⊎ (b ≡ 88)))))))

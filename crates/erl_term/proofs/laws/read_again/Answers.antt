@@ -10,7 +10,7 @@ use Rattle.erl_term.proofs.laws.read_again.Goals as goal
 stands : (t : Data) (rest : List ℕ) → IsWritable t → IsAtFront (canonical t ++ rest) t (length (canonical t))
 stands t rest w = record {
   within = omega (arith, length-append (canonical t) rest);
-  spelled = subst (IsSpelling 64 t) (sym (take_at (canonical t) rest (length (canonical t)) refl)) (canon_is t 64 w.0 w.1);
+  is_text = subst (IsSpelling 64 t) (sym (take_at (canonical t) rest (length (canonical t)) refl)) (canon_is t 64 w.0 w.1);
 }
 
 pub returns : goal.returns

@@ -1,0 +1,23 @@
+//! Measures how fast the crates of this repository are.
+//!
+//! `benchmark SUBJECT` measures one subject on this machine. With no subject it says which there are.
+#![tactic(auto)]
+
+mod rate;
+mod terms;
+
+use anyhow::Result;
+use std::env;
+
+const USAGE: &str = "usage: benchmark SUBJECT
+
+subjects:
+  terms    decode and encode of terms";
+
+fn main(rt: HostRuntime) -> Result<()> {
+    let subject = env::args(&rt)?.nth(1);
+    match subject.as_ref().map_or("", |word| word.as_str()) {
+        "terms" => terms::measure(&rt),
+        _ => Ok(println!(rt; "{USAGE}")?),
+    }
+}

@@ -1,0 +1,96 @@
+//! Terms as bytes: small control terms, and one of about a megabyte.
+
+use crate::rate::Rate;
+use anyhow::Result;
+use erl_term::{Atom, Pid, Term, decode, encode};
+use std::alloc::Global;
+use std::hint::black_box;
+use std::time::Instant;
+
+/// The elements of each of the two levels of the large term.
+const WIDTH: usize = 160;
+
+/// How often a control term is read or written.
+const SMALL_ROUNDS: u64 = 2_000_000;
+
+/// How often the large term is read or written.
+const LARGE_ROUNDS: u64 = 50;
+
+pub fn measure(rt: &HostRuntime) -> Result<()> {
+    let alloc = rt.alloc();
+    measure_term(rt, "link", &link(alloc)?, SMALL_ROUNDS)?;
+    measure_term(rt, "unlink", &unlink(alloc)?, SMALL_ROUNDS)?;
+    measure_term(rt, "links in links", &table(alloc)?, LARGE_ROUNDS)
+}
+
+/// Writes and reads the term so many times.
+fn measure_term(rt: &HostRuntime, name: &str, term: &Term, rounds: u64) -> Result<()> {
+    let alloc = rt.alloc();
+    let bytes = encode(alloc, term)?;
+    let start = Instant::now(rt)?;
+    for _ in 0..rounds {
+        black_box(encode(alloc, term)?);
+    }
+    let encoding = Rate {
+        name: "encode",
+        rounds,
+        bytes: bytes.len(),
+        elapsed: start.elapsed(rt)?,
+    };
+    let start = Instant::now(rt)?;
+    for _ in 0..rounds {
+        black_box(decode(alloc, bytes.as_slice())?);
+    }
+    let decoding = Rate {
+        name: "decode",
+        rounds,
+        bytes: bytes.len(),
+        elapsed: start.elapsed(rt)?,
+    };
+    println!(rt; "{name}")?;
+    encoding.print(rt)?;
+    decoding.print(rt)
+}
+
+fn pid(alloc: Global, node: &str, id: u32) -> Result<Term> {
+    let node = String::from_str(alloc, node)?;
+    let node = if Atom::fits(node.as_str()) { Atom::new(node) } else { Atom::new(String::new(alloc)) };
+    Ok(Term::Pid(Pid {
+        node,
+        creation: 1,
+        id,
+        serial: 0,
+    }))
+}
+
+/// The control term of LINK: {1, From, To}.
+fn link(alloc: Global) -> Result<Term> {
+    let mut items = Vec::with_capacity(alloc, 3)?;
+    items.push(Term::Int(1))?;
+    items.push(pid(alloc, "a@h", 1)?)?;
+    items.push(pid(alloc, "b@h", 1)?)?;
+    Ok(Term::Tuple(items))
+}
+
+/// The control term of UNLINK_ID: {35, Id, From, To}.
+fn unlink(alloc: Global) -> Result<Term> {
+    let mut items = Vec::with_capacity(alloc, 4)?;
+    items.push(Term::Int(35))?;
+    items.push(Term::Int(1))?;
+    items.push(pid(alloc, "a@h", 1)?)?;
+    items.push(pid(alloc, "b@h", 1)?)?;
+    Ok(Term::Tuple(items))
+}
+
+/// A tuple of tuples of control terms.
+fn table(alloc: Global) -> Result<Term> {
+    let mut rows = Vec::with_capacity(alloc, WIDTH)?;
+    for _ in 0..WIDTH {
+        let mut row = Vec::with_capacity(alloc, WIDTH)?;
+        for _ in 0..WIDTH {
+            row.push(link(alloc)?)?;
+        }
+        rows.push(Term::Tuple(row))?;
+    }
+    Ok(Term::Tuple(rows))
+}
