@@ -4,6 +4,7 @@ use anyhow::Result;
 use std::time::Duration;
 
 /// So many rounds, each over as many bytes, in the time that they took.
+#[derive(Clone, Copy)]
 pub struct Rate<'a> {
     /// What a round did.
     pub name: &'a str,
@@ -14,18 +15,14 @@ pub struct Rate<'a> {
 }
 
 impl Rate<'_> {
-    /// Prints how many rounds and how many megabytes of 1,000,000 bytes a second has.
+    /// Prints how many rounds a second has, and how many megabytes of 1,000,000 bytes.
     pub fn print(&self, rt: &HostRuntime) -> Result<()> {
-        let seconds = self.elapsed.as_secs_f64();
-        let rounds = self.rounds as f64;
-        let megabytes = rounds * self.bytes as f64 / 1e6;
-        println!(rt;
-            "{}: {} bytes, {:.0} a second, {:.1} MB/s",
-            self.name,
-            self.bytes,
-            rounds / seconds,
-            megabytes / seconds
-        )?;
+        let nanos = self.elapsed.as_nanos().max(1);
+        let rounds = u128::from(self.rounds);
+        let a_second = rounds.saturating_mul(1_000_000_000) / nanos;
+        let bytes = rounds.saturating_mul(self.bytes as u128);
+        let megabytes = bytes.saturating_mul(1_000) / nanos;
+        println!(rt; "  {}: {a_second} a second, {megabytes} MB/s", self.name)?;
         Ok(())
     }
 }

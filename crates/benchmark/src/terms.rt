@@ -1,7 +1,7 @@
 //! Terms as bytes: small control terms, and one of about a megabyte.
 
 use crate::rate::Rate;
-use anyhow::Result;
+use anyhow::{Result, ensure};
 use erl_term::{Atom, Pid, Term, decode, encode};
 use std::alloc::Global;
 use std::hint::black_box;
@@ -47,14 +47,15 @@ fn measure_term(rt: &HostRuntime, name: &str, term: &Term, rounds: u64) -> Resul
         bytes: bytes.len(),
         elapsed: start.elapsed(rt)?,
     };
-    println!(rt; "{name}")?;
+    println!(rt; "{name}, {} bytes", bytes.len())?;
     encoding.print(rt)?;
     decoding.print(rt)
 }
 
 fn pid(alloc: Global, node: &str, id: u32) -> Result<Term> {
     let node = String::from_str(alloc, node)?;
-    let node = if Atom::fits(node.as_str()) { Atom::new(node) } else { Atom::new(String::new(alloc)) };
+    ensure!(Atom::fits(node.as_str()), "{node} is too long");
+    let node = Atom::new(node);
     Ok(Term::Pid(Pid {
         node,
         creation: 1,
