@@ -9,7 +9,7 @@ use Rattle.std.proofs.Math.Seq.{drop-cons}
 use Rattle.erl_term.specs.declared.term.Term.{Term, Tuple, the_lemmas}
 use Rattle.erl_term.specs.Data.{tuple, count}
 use Rattle.std.specs.Global.{Vec}
-use Rattle.std.specs.Prelude.{Option, Some, None, IfSome, IfNone, Result, Ok, Err, OnOk, IsTrue, ◌↔◌}
+use Rattle.std.specs.Prelude.{Option, Some, None, IfSome, IfNone, Result, Ok, Err, OnOk, IsTrue, ◌↔◌, is_ok, if◌then◌else◌}
 use Rattle.erl_term.specs.View.{view, items_view}
 use Rattle.erl_term.specs.Canonical.{digits, canonical_head, canonical_term, canonical_items, levels_of, most_levels, IsInRange, AreInRange}
 
@@ -105,6 +105,11 @@ digits_full most bytes len rest le = let k : most - len ≡ 0 = omega arith in r
 pub put_tuple : {R E : Type 0} (r : Result R E) (new old mid head body whole : List ℕ) → mid ≡ old ++ head → whole ≡ head ++ body → OnOk r (new ≡ mid ++ body) → OnOk r (new ≡ old ++ whole)
 put_tuple (Ok x) new old mid head body whole m w p = p ∙ ap (λ (l : List ℕ). l ++ body) m ∙ append_assoc old head body ∙ ap (λ (l : List ℕ). old ++ l) (sym w)
 put_tuple (Err e) new old mid head body whole m w p = tt
+
+-- what was written, where it is known that there was room
+pub appended : {U E : Type 0} (r : Result U E) (u : U) (new old more : List ℕ) → new ≡ (if is_ok r then old ++ more else old) → r ≡ Ok u → new ≡ old ++ more
+appended (Ok v) u new old more e k = e
+appended (Err v) u new old more e k = absurd cc
 
 pub five : (o a b c d e y z w v : List ℕ) (x : ℕ) → a ≡ o ++ x ∷ [] → b ≡ a ++ y → c ≡ b ++ z → d ≡ c ++ w → e ≡ d ++ v → e ≡ o ++ x ∷ (y ++ (z ++ (w ++ v)))
 five o a b c d e y z w v x p q r s t = rw (t, s, r, q, p) (simp append_assoc)

@@ -1,6 +1,7 @@
 //! Writing the one canonical spelling of a term.
-ghost use Rattle.std.specs.Prelude.{◌≡◌, ◌≢◌, ◌<◌, ◌^◌, ◌++◌, ◌↔◌, OnOk, IfOk, IfErr, IsErrOf, All};
+ghost use Rattle.std.specs.Prelude.{◌≡◌, ◌≢◌, ◌≤◌, ◌<◌, ◌^◌, ◌+◌, ◌++◌, ◌↔◌, length, OnOk, IfOk, IfErr, IsErrOf, MatchResult, All};
 ghost use Rattle.std.specs.List.{flat_map};
+ghost use Rattle.std.specs.Vec.{vec_len, vec_capacity};
 ghost use Rattle.erl_term.specs.Canonical.{canonical_int, canonical_big, canonical_atom, canonical_head, canonical_pid, canonical_term, canonical, levels_of, IsInRange, IsTooLongToWrite, IsWritable};
 ghost use Rattle.erl_term.specs.View.{view};
 
@@ -8,7 +9,7 @@ use crate::atom::Atom;
 use crate::decoding::LIMIT;
 use crate::error::TermError;
 use crate::magnitude::digits_of;
-use crate::measuring::{has_levels, is_in_range, room_after};
+use crate::measuring::{atom_len, has_levels, is_in_range, pid_len, room_after};
 use crate::tag;
 use crate::term::{Pid, Term};
 use std::alloc::{AllocError, Global};
@@ -71,82 +72,94 @@ fn put_items(out: &mut Vec<u8>, items: &[Term]) -> Result<(), AllocError>
     Ok(())
 }
 
-/// Writes an integer behind the bytes of `out`, without a version byte.
+/// Writes an integer behind the bytes of `out`, without a version byte. Where memory is wanting
+/// `out` stays as it was.
 ///
 /// (ERTS User's Guide, External Term Format, SMALL_INTEGER_EXT, INTEGER_EXT, SMALL_BIG_EXT.)
 #[tactic(auto, unfolding(crate::specs::Canonical::canonical_int))]
 pub fn put_integer(out: &mut Vec<u8>, n: i128) -> Result<(), AllocError>
-    ensures { OnOk result (out.new.items ≡ out.old.items ++ canonical_int n) }
+    ensures { MatchResult result (λ _. out.new.items ≡ out.old.items ++ canonical_int n) (λ _. out.new.items ≡ out.old.items) }
 {
     if let Ok(small) = u8::try_from(n) {
-        out.push(tag::SMALL_INTEGER)?;
-        out.push(small)?;
-        return Ok(());
+        return out.extend_from_slice(&[tag::SMALL_INTEGER, small]);
     }
     if let Ok(word) = i32::try_from(n) {
-        out.push(tag::INTEGER)?;
-        out.extend_from_slice(&word.to_be_bytes())?;
+        out.reserve(5)?;
+        out.push(tag::INTEGER).unwrap();
+        out.extend_from_slice(&word.to_be_bytes()).unwrap();
         return Ok(());
     }
     put_big(out, u8::from(n < 0), n.unsigned_abs())
 }
 
 fn put_big(out: &mut Vec<u8>, sign: u8, n: u128) -> Result<(), AllocError>
-    ensures { OnOk result (out.new.items ≡ out.old.items ++ canonical_big sign n) }
+    ensures { MatchResult result (λ _. out.new.items ≡ out.old.items ++ canonical_big sign n) (λ _. out.new.items ≡ out.old.items) }
 {
     let (bytes, len) = digits_of(n);
-    out.push(tag::SMALL_BIG)?;
-    out.push(len as u8)?;
-    out.push(sign)?;
-    out.extend_from_slice(&bytes[..len])?;
+    out.reserve(len + 3)?;
+    out.extend_from_slice(&[tag::SMALL_BIG, len as u8, sign]).unwrap();
+    out.extend_from_slice(&bytes[..len]).unwrap();
     Ok(())
 }
 
-#[tactic(auto, unfolding(crate::specs::Canonical::canonical_atom))]
 fn put_atom(out: &mut Vec<u8>, atom: &Atom) -> Result<(), AllocError>
-    ensures { OnOk result (out.new.items ≡ out.old.items ++ canonical_atom atom.now) }
+    ensures { MatchResult result (λ _. out.new.items ≡ out.old.items ++ canonical_atom atom.now) (λ _. out.new.items ≡ out.old.items) }
+{
+    out.reserve(atom_len(atom))?;
+    write_atom(out, atom);
+    Ok(())
+}
+
+/// Writes an atom where there is room for it.
+#[tactic(auto, unfolding(crate::specs::Canonical::canonical_atom))]
+fn write_atom(out: &mut Vec<u8>, atom: &Atom)
+    requires { vec_len out.old + length (canonical_atom atom.now) ≤ vec_capacity out.old }
+    ensures items { out.new.items ≡ out.old.items ++ canonical_atom atom.now }
+    ensures len { vec_len out.new ≡ vec_len out.old + length (canonical_atom atom.now) }
+    ensures capacity { vec_capacity out.old ≤ vec_capacity out.new }
 {
     let text = atom.text();
     if text.len() < 256 {
-        out.push(tag::SMALL_ATOM_UTF8)?;
-        out.push(text.len() as u8)?;
+        out.push(tag::SMALL_ATOM_UTF8).unwrap();
+        out.push(text.len() as u8).unwrap();
     } else {
-        out.push(tag::ATOM_UTF8)?;
-        out.extend_from_slice(&(text.len() as u16).to_be_bytes())?;
+        out.push(tag::ATOM_UTF8).unwrap();
+        out.extend_from_slice(&(text.len() as u16).to_be_bytes()).unwrap();
     }
-    out.extend_from_slice(text.as_bytes())?;
-    Ok(())
+    out.extend_from_slice(text.as_bytes()).unwrap();
 }
 
-/// Writes what comes before the elements of a tuple: its tag and its arity.
+/// Writes what comes before the elements of a tuple: its tag and its arity. Where memory is wanting
+/// `out` stays as it was.
 ///
 /// (ERTS User's Guide, External Term Format, SMALL_TUPLE_EXT, LARGE_TUPLE_EXT.)
 #[tactic(auto, unfolding(crate::specs::Canonical::canonical_head))]
 pub fn put_tuple_head(out: &mut Vec<u8>, count: usize) -> Result<(), AllocError>
     requires { count < 2 ^ 32 }
-    ensures { OnOk result (out.new.items ≡ out.old.items ++ canonical_head count) }
+    ensures { MatchResult result (λ _. out.new.items ≡ out.old.items ++ canonical_head count) (λ _. out.new.items ≡ out.old.items) }
 {
     if count < 256 {
-        out.push(tag::SMALL_TUPLE)?;
-        out.push(count as u8)?;
-    } else {
-        out.push(tag::LARGE_TUPLE)?;
-        out.extend_from_slice(&(count as u32).to_be_bytes())?;
+        return out.extend_from_slice(&[tag::SMALL_TUPLE, count as u8]);
     }
+    out.reserve(5)?;
+    out.push(tag::LARGE_TUPLE).unwrap();
+    out.extend_from_slice(&(count as u32).to_be_bytes()).unwrap();
     Ok(())
 }
 
-/// Writes a pid behind the bytes of `out`, without a version byte.
+/// Writes a pid behind the bytes of `out`, without a version byte. Where memory is wanting `out`
+/// stays as it was.
 ///
 /// (ERTS User's Guide, External Term Format, NEW_PID_EXT.)
 #[tactic(auto, unfolding(crate::specs::Canonical::canonical_pid))]
 pub fn put_pid(out: &mut Vec<u8>, pid: &Pid) -> Result<(), AllocError>
-    ensures { OnOk result (out.new.items ≡ out.old.items ++ canonical_pid pid.now) }
+    ensures { MatchResult result (λ _. out.new.items ≡ out.old.items ++ canonical_pid pid.now) (λ _. out.new.items ≡ out.old.items) }
 {
-    out.push(tag::NEW_PID)?;
-    put_atom(out, &pid.node)?;
-    out.extend_from_slice(&pid.id.to_be_bytes())?;
-    out.extend_from_slice(&pid.serial.to_be_bytes())?;
-    out.extend_from_slice(&pid.creation.to_be_bytes())?;
+    out.reserve(pid_len(pid))?;
+    out.push(tag::NEW_PID).unwrap();
+    write_atom(out, &pid.node);
+    out.extend_from_slice(&pid.id.to_be_bytes()).unwrap();
+    out.extend_from_slice(&pid.serial.to_be_bytes()).unwrap();
+    out.extend_from_slice(&pid.creation.to_be_bytes()).unwrap();
     Ok(())
 }

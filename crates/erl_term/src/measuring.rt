@@ -94,9 +94,9 @@ fn have_levels(items: &[Term], levels: u32) -> bool
     true
 }
 
-/// How many bytes the text is written in.
+/// How many bytes an atom is written in.
 #[tactic(auto, unfolding(crate::specs::Canonical::canonical_atom))]
-fn atom_len(atom: &Atom) -> usize
+pub fn atom_len(atom: &Atom) -> usize
     ensures len { result ≡ length (canonical_atom atom.now) }
     ensures bound { result ≤ 1023 }
 {

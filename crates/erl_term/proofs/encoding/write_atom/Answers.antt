@@ -1,6 +1,6 @@
 use Rattle.std.proofs.Common.{◌≤◌, arith, length}
 use Rattle.erl_term.proofs.Utf8.{atom_bytes}
-use Rattle.erl_term.proofs.encoding.put_atom.Goals as goal
+use Rattle.erl_term.proofs.encoding.write_atom.Goals as goal
 
 pub overflow_cast-text-else-text-lt256 : goal.overflow_cast-text-else-text-lt256
 overflow_cast-text-else-text-lt256 c =
