@@ -1,10 +1,11 @@
--- The one spelling that is written of each term, and which terms have one.
+-- The canonical spelling of each term: of all its spellings the one that is written.
 use Rattle.std.specs.Prelude.{ℕ, zero, suc, ◌-◌, ◌/◌, ◌%◌, ◌^◌, ◌<◌, ◌≤◌, max, ℤ, pos, negsuc, List, [], ◌∷◌, ◌++◌, length, nat_lt, ◌==◌, if◌then◌else◌, FitsSigned}
 use Rattle.std.specs.Int.{w128}
 use Rattle.byteorder.specs.Endian.{big_bytes}
 use Rattle.erl_term.specs.declared.term.Pid.{Pid}
 use Rattle.erl_term.specs.Data.{Data, int, atom, tuple, pid, Items, no_items, item, count}
 use Rattle.erl_term.specs.Text.{IsAtomText}
+use Rattle.erl_term.specs.Limits.{limit}
 
 -- the bytes of a number, the lowest first, with no zeros behind them
 abbrev pub digits : ℕ → ℕ → List ℕ
@@ -17,16 +18,16 @@ magnitude m = digits 16 m
 abbrev pub canonical_big : ℕ → ℕ → List ℕ
 canonical_big sign m = 110 ∷ length (magnitude m) ∷ sign ∷ magnitude m
 
--- 97 up to 255, 98 up to 31 bits and a sign, and else 110. -1 is negsuc 0.
+-- SMALL_INTEGER from 0 to 255, INTEGER from -2 ^ 31 to 2 ^ 31 - 1, and else SMALL_BIG. -1 is negsuc 0.
 unfoldable pub canonical_int : ℤ → List ℕ
 canonical_int (pos n) = if nat_lt n 256 then 97 ∷ n ∷ [] else (if nat_lt n (2 ^ 31) then 98 ∷ big_bytes 4 n else canonical_big 0 n)
 canonical_int (negsuc n) = if nat_lt n (2 ^ 31) then 98 ∷ big_bytes 4 (2 ^ 32 - 1 - n) else canonical_big 1 (suc n)
 
--- 119 up to 255 bytes, and else 118
+-- SMALL_ATOM_UTF8 up to 255 bytes, and else ATOM_UTF8
 unfoldable pub canonical_atom : List ℕ → List ℕ
 canonical_atom a = if nat_lt (length a) 256 then 119 ∷ length a ∷ a else 118 ∷ (big_bytes 2 (length a) ++ a)
 
--- 104 up to 255 elements, and else 105
+-- SMALL_TUPLE up to 255 elements, and else LARGE_TUPLE
 unfoldable pub canonical_head : ℕ → List ℕ
 canonical_head n = if nat_lt n 256 then 104 ∷ n ∷ [] else 105 ∷ big_bytes 4 n
 
@@ -60,7 +61,7 @@ abbrev mutual
   most_levels no_items = 0
   most_levels (item t ts) = max (levels_of t) (most_levels ts)
 
--- a text and three words
+-- NEW_PID: an atom and three words of 32 bits
 pub record IsPidInRange (p : Pid) : Type 0 where
   pub node : IsAtomText p.node
   pub id : p.id < 2 ^ 32
@@ -79,9 +80,10 @@ abbrev mutual
   AreInRange no_items = Unit {0}
   AreInRange (item t ts) = IsInRange t × AreInRange ts
 
--- it may be written, but for its length
+-- a value that only its length forbids to write
 abbrev pub IsTooLongToWrite : Data → Type 0
-IsTooLongToWrite t = IsInRange t × (levels_of t ≤ 64) × (1048576 < length (canonical t))
+IsTooLongToWrite t = IsInRange t × (levels_of t ≤ 64) × (limit < length (canonical t))
 
+-- a value that `encode` writes
 abbrev pub IsWritable : Data → Type 0
-IsWritable t = IsInRange t × (levels_of t ≤ 64) × (length (canonical t) ≤ 1048576)
+IsWritable t = IsInRange t × (levels_of t ≤ 64) × (length (canonical t) ≤ limit)

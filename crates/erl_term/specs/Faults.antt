@@ -23,6 +23,7 @@ IsAtFront bytes t n = IsAtFrontOf (IsSpelling 64) bytes t n
 abbrev pub FirstFault : List ℕ → List ℕ → ℕ → Type 0
 FirstFault bytes front byte = IsFirstFault (IsSpelling 64) bytes front byte
 
+-- the tags of the rows
 abbrev pub IsTag : ℕ → Type 0
 IsTag b = (b ≡ 97) ⊎ ((b ≡ 98) ⊎ ((b ≡ 110) ⊎ ((b ≡ 118) ⊎ ((b ≡ 119) ⊎ ((b ≡ 104) ⊎ ((b ≡ 105) ⊎ (b ≡ 88)))))))
 
@@ -60,7 +61,7 @@ pub record IsLargeBig (byte : ℕ) (front : List ℕ) : Type 0 where
 abbrev pub IsBadBig : ℕ → List ℕ → Type 0
 IsBadBig byte front = ((front ≡ 110 ∷ []) × (16 < byte)) ⊎ IsLargeBig byte front
 
--- the same behind the version byte
+-- the same behind the version byte 131
 pub record AtPlace (At : List ℕ → Type 0) (front : List ℕ) : Type 0 where
   pub inner : List ℕ
   pub nested : Nested 64 At inner

@@ -1,9 +1,11 @@
 pub mod Numbers
 pub mod Text
 pub mod Data
+pub mod Order
 pub mod View
 pub mod Spelling
 pub mod Faults
+pub mod Limits
 pub mod Reading
 pub mod Answer
 pub mod ErrorNumbers

@@ -1,4 +1,5 @@
--- The spellings of a term: for each kind of term, the rows of the table that stand for it.
+-- The spellings of a term: for each kind of term the rows of the External Term Format that stand for it.
+-- In a row `b` is the tag and what stands behind it, and a field of several bytes has the highest first.
 use Rattle.std.specs.Prelude.{◌≡◌, ℕ, zero, suc, ◌+◌, ◌^◌, ◌<◌, ◌≤◌, ◌⊎◌, ℤ, pos, List, [], ◌∷◌, ◌++◌, length}
 use Rattle.std.specs.Int.{w32, cast_signed}
 use Rattle.byteorder.specs.Endian.{big_number}
@@ -7,13 +8,13 @@ use Rattle.erl_term.specs.Data.{Data, int, atom, tuple, pid, Items, no_items, it
 use Rattle.erl_term.specs.Text.{IsAtomText}
 use Rattle.erl_term.specs.Numbers.{AreBytes, low_first, signed}
 
--- b is the number n in so many bytes, the highest first
+-- b is the number n, in so many bytes
 pub record IsNumber (width n : ℕ) (b : List ℕ) : Type 0 where
   pub len : length b ≡ width
   pub bytes : AreBytes b
   pub says : big_number width b ≡ n
 
--- 97: a byte. 98: four bytes, in two's complement. 110: a length, a sign, and so many bytes, the lowest first
+-- SMALL_INTEGER 97: a byte
 pub record IsSmallInteger (z : ℤ) (b : List ℕ) : Type 0 where
   pub n : ℕ
   pub field : List ℕ
@@ -21,6 +22,7 @@ pub record IsSmallInteger (z : ℤ) (b : List ℕ) : Type 0 where
   pub value : z ≡ pos n
   pub bytes : b ≡ 97 ∷ field
 
+-- INTEGER 98: four bytes, in two's complement
 pub record IsInteger (z : ℤ) (b : List ℕ) : Type 0 where
   pub n : ℕ
   pub field : List ℕ
@@ -28,6 +30,7 @@ pub record IsInteger (z : ℤ) (b : List ℕ) : Type 0 where
   pub value : z ≡ cast_signed w32 n
   pub bytes : b ≡ 98 ∷ field
 
+-- SMALL_BIG 110: the length of the magnitude, a sign (1 for minus), and the magnitude, its lowest byte first
 pub record IsSmallBig (z : ℤ) (b : List ℕ) : Type 0 where
   pub sign : ℕ
   pub magnitude : List ℕ
@@ -38,7 +41,7 @@ pub record IsSmallBig (z : ℤ) (b : List ℕ) : Type 0 where
   pub value : z ≡ signed sign (low_first magnitude)
   pub bytes : b ≡ 110 ∷ length magnitude ∷ sign ∷ magnitude
 
--- 119 and 118: a length of one byte or of two, and the text
+-- SMALL_ATOM_UTF8 119 and ATOM_UTF8 118: the length, in one byte or in two, and the text
 pub record IsAtom (tag width : ℕ) (a b : List ℕ) : Type 0 where
   pub len : List ℕ
   pub is_text : IsAtomText a
@@ -53,7 +56,7 @@ abbrev pub SpellAll : (Data → List ℕ → Type 0) → Items → List ℕ → 
 SpellAll Spell no_items b = b ≡ []
 SpellAll Spell (item t ts) b = (x : List ℕ) × (y : List ℕ) × Spell t x × SpellAll Spell ts y × (b ≡ x ++ y)
 
--- 104 and 105: how many elements there are, in one byte or in four, and the elements
+-- SMALL_TUPLE 104 and LARGE_TUPLE 105: how many elements there are, in one byte or in four, and the elements
 pub record IsTuple (Spell : Data → List ℕ → Type 0) (tag width : ℕ) (ts : Items) (b : List ℕ) : Type 0 where
   pub arity : List ℕ
   pub elements : List ℕ
@@ -61,7 +64,7 @@ pub record IsTuple (Spell : Data → List ℕ → Type 0) (tag width : ℕ) (ts 
   pub spelled : SpellAll Spell ts elements
   pub bytes : b ≡ tag ∷ (arity ++ elements)
 
--- 88: the node, an atom in any spelling, and three numbers
+-- NEW_PID 88: the node, an atom in any spelling, and three numbers
 pub record IsPid (p : Pid) (b : List ℕ) : Type 0 where
   pub node : List ℕ
   pub id : List ℕ
@@ -80,12 +83,12 @@ SpellsBy Spell (atom a) b = SpellsAtom a b
 SpellsBy Spell (tuple ts) b = IsTuple Spell 104 1 ts b ⊎ IsTuple Spell 105 4 ts b
 SpellsBy Spell (pid p) b = IsPid p b
 
--- b stands for t, and has at most so many levels
+-- b stands for t, and has at most so many levels. A term in which no other stands has one level.
 abbrev pub Spells : ℕ → Data → List ℕ → Type 0
 Spells zero t b = ⊥
 Spells (suc levels) t b = SpellsBy (Spells levels) t b
 
--- the same behind the version byte
+-- the same behind the version byte 131
 pub record IsSpelling (levels : ℕ) (t : Data) (b : List ℕ) : Type 0 where
   pub term : List ℕ
   pub spelled : Spells levels t term

@@ -1,10 +1,12 @@
 //! Laws of the definitions. Each function does nothing: its contract is the law, for proofs above to cite.
 ghost use Rattle.std.specs.Prelude.{◌≡◌, ◌≤◌, ◌↔◌, ◌++◌, List, ℕ, length, Result, Ok};
 ghost use Rattle.erl_term.specs.declared.error.TermError.{TermError};
+ghost use Rattle.erl_term.specs.declared.term.Pid.{Pid};
 ghost use Rattle.erl_term.specs.Data.{Data};
 ghost use Rattle.erl_term.specs.Numbers.{AreBytes};
 ghost use Rattle.erl_term.specs.Spelling.{IsSpelling};
 ghost use Rattle.erl_term.specs.Answer.{IsDue};
+ghost use Rattle.erl_term.specs.Order.{compared, pid_cmp};
 ghost use Rattle.erl_term.specs.Canonical.{canonical, levels_of, IsInRange, IsWritable};
 
 /// No spelling begins another, so what was written is read again, whatever follows it.
@@ -25,4 +27,9 @@ pub fn read_again()
 /// To any bytes one answer is due.
 pub fn one_answer()
     ensures { (bytes : List ℕ) → AreBytes bytes → (due : Result (Data × ℕ) TermError) × IsDue bytes due × ((other : Result (Data × ℕ) TermError) → IsDue bytes other → other ≡ due) }
+{}
+
+/// Pids are ordered by the name of the node, then by creation, id and serial.
+pub fn order_of_pids()
+    ensures { (p q : Pid) → compared p q ≡ pid_cmp p q }
 {}
