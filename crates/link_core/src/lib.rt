@@ -1,0 +1,8 @@
+//! The link records of a process, and the protocol of the two ends of a link.
+#![tactic(auto)]
+
+mod end;
+mod laws;
+
+pub use end::{End, LinkSignal};
+pub use laws::two_processes;
