@@ -1,2 +1,5 @@
 pub mod Table
+pub mod Pids
+pub mod Ends
+pub mod Records
 pub mod Pair

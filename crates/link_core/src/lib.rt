@@ -2,7 +2,9 @@
 #![tactic(auto)]
 
 mod end;
+mod ends;
 mod laws;
 
 pub use end::{End, LinkSignal};
+pub use ends::Ends;
 pub use laws::two_processes;
