@@ -3,3 +3,4 @@ pub mod Pids
 pub mod Ends
 pub mod Records
 pub mod Pair
+pub mod Schedules

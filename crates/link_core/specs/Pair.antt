@@ -29,12 +29,12 @@ pub data Event : Type 0 where
   There : Act → Event
 
 -- a signal, if there is one, goes on its way behind the others
-abbrev pub and_then : List LinkSignal → Option LinkSignal → List LinkSignal
-and_then signals None = signals
-and_then signals (Some signal) = signals ++ signal ∷ []
+abbrev pub followed_by : List LinkSignal → Option LinkSignal → List LinkSignal
+followed_by signals None = signals
+followed_by signals (Some signal) = signals ++ signal ∷ []
 
 abbrev pub links : Side → Side
-links a = record { end = linked a.end; drawn = a.drawn; sent = and_then a.sent (link_sent a.end) }
+links a = record { end = linked a.end; drawn = a.drawn; sent = followed_by a.sent (link_sent a.end) }
 
 -- an id is drawn only where it is sent
 abbrev pub unlinks : ℕ → Side → Side
@@ -42,7 +42,7 @@ unlinks id a =
     record {
       end = unlinked a.end id;
       drawn = if is_some (unlink_sent a.end id) then id else a.drawn;
-      sent = and_then a.sent (unlink_sent a.end id);
+      sent = followed_by a.sent (unlink_sent a.end id);
     }
 
 -- unlink ids only rise. Other links of the node may draw ids between
@@ -50,7 +50,7 @@ abbrev pub unlinks_above : ℕ → Side → Side
 unlinks_above id a = if nat_lt a.drawn id then unlinks id a else a
 
 abbrev pub takes : LinkSignal → Side → Side
-takes signal a = record { end = received a.end signal; drawn = a.drawn; sent = and_then a.sent (answered signal) }
+takes signal a = record { end = received a.end signal; drawn = a.drawn; sent = followed_by a.sent (answered signal) }
 
 -- the first of the signals that travel from there comes here
 abbrev pub first_comes : Pair → List LinkSignal → Pair
