@@ -3,11 +3,10 @@
 use Rattle.std.proofs.Common.{◌≡◌, ℕ, zero, suc, ◌+◌, ◌<◌, ◌≤◌, Bool, true, false, cond, List, [], ◌∷◌, ◌++◌, Option, None, Some, Contains, refl, sym, ap, ◌∙◌, subst, arith, ◌⊎◌, ◌↔◌, inl, inr, ◌==◌, nat_lt}
 use Rattle.std.specs.Option.{option_or}
 use Rattle.link_core.specs.declared.end.End.{End}
-use Rattle.link_core.specs.declared.end.End.TheVariants as End
 use Rattle.link_core.specs.declared.end.LinkSignal.{LinkSignal}
 use Rattle.link_core.specs.declared.end.LinkSignal.TheVariants.{Link, Unlink, Ack}
 use Rattle.link_core.specs.Table.{received, drained}
-use Rattle.link_core.specs.Pair.{Side, Pair, Act, Links, Unlinks, Takes, Event, Here, There, links, unlinks, unlinks_above, takes, first_comes, acts, swap, happens, run, start, last_word, Agree, PendingTravels, IsAtRest}
+use Rattle.link_core.specs.Pair.{Side, Pair, Act, Links, Unlinks, Takes, Event, Here, There, links, unlinks, takes, first_comes, acts, swap, happens, run, start, last_word, Agree, PendingTravels, IsAtRest}
 use Rattle.link_core.proofs.Travelling.{unlinks_in, acks_in, drained-push, last_word-push, unlinks_in-push, acks_in-push, one_if_same, Contains_ack, stays_pending, outcome, drained_by_word}
 
 abbrev pub settled : Side → Side → End
@@ -280,5 +279,6 @@ pending_travels a b h i e = go (acks_in i b.sent) refl
 
 pub agree_at_rest : (w : Pair) → IsKept w → IsAtRest w → (w.here.end ≡ End.Active) ↔ (w.there.end ≡ End.Active)
 agree_at_rest w k rest = (
-    λ h. sym (ap (drained w.there.end) rest.0) ∙ k.agree.0 (ap (drained w.here.end) rest.1 ∙ h),
-    λ h. sym (ap (drained w.here.end) rest.1) ∙ k.agree.1 (ap (drained w.there.end) rest.0 ∙ h))
+  λ h. sym (ap (drained w.there.end) rest.0) ∙ k.agree.0 (ap (drained w.here.end) rest.1 ∙ h),
+  λ h. sym (ap (drained w.here.end) rest.1) ∙ k.agree.1 (ap (drained w.there.end) rest.0 ∙ h),
+)

@@ -1,5 +1,5 @@
 -- What a partner's end is after an edit, of any map of ends and of one that records make.
-use Rattle.std.proofs.Common.{◌≡◌, ◌≢◌, ℕ, zero, suc, Bool, true, false, cond, List, [], ◌∷◌, get_or, set, Option, None, Some, unwrap_or, refl, sym, ap, subst, ◌∙◌}
+use Rattle.std.proofs.Common.{◌≡◌, ◌≢◌, ℕ, zero, suc, Bool, true, false, cond, [], ◌∷◌, get_or, set, Option, None, Some, unwrap_or, refl, sym, ap, subst, ◌∙◌}
 use Rattle.std.specs.declared.cmp.Ordering.{Ordering}
 use Rattle.std.specs.declared.cmp.Ordering.TheVariants.{Less, Equal, Greater}
 use Rattle.std.specs.Ordering.{is_eq, eq_by_cmp}
@@ -8,7 +8,6 @@ use Rattle.std.proofs.lemmas.Cmp.{tied_itself}
 use Rattle.std.specs.FinMap as map
 use Rattle.erl_term.specs.declared.term.Pid.{Pid}
 use Rattle.link_core.specs.declared.end.End.{End}
-use Rattle.link_core.specs.declared.end.End.TheVariants as End
 use Rattle.link_core.specs.Pids.{pid_cmp}
 use Rattle.link_core.specs.Ends.{EndMap, end_of, with_end}
 use Rattle.link_core.specs.Records.{Records, AreRecords, AreLinks, IsLink, IsFoundAt, IsGapAt}

@@ -1,5 +1,5 @@
 -- Where a record stands, and what an edit there does to the map that the records make.
-use Rattle.std.proofs.Common.{◌≡◌, ℕ, zero, suc, ◌+◌, ◌<◌, ◌≤◌, Bool, true, false, cond, not, ◌&&◌, T, List, [], ◌∷◌, ◌++◌, length, get_or, take, drop, set, Option, None, Some, Result, Ok, Err, IfOk, IfErr, refl, sym, ap, subst, ◌∙◌, arith}
+use Rattle.std.proofs.Common.{◌≡◌, ℕ, zero, suc, ◌<◌, ◌≤◌, Bool, true, false, cond, not, ◌&&◌, T, [], ◌∷◌, length, get_or, set, None, Some, Result, Ok, Err, IfOk, IfErr, refl, sym, ap, subst, ◌∙◌, arith}
 use Rattle.std.specs.declared.cmp.Ordering.{Ordering}
 use Rattle.std.specs.declared.cmp.Ordering.TheVariants.{Less, Equal, Greater}
 use Rattle.std.specs.Ordering.{is_lt, is_eq, ordering_reverse, ordering_index, eq_by_cmp}
@@ -11,7 +11,6 @@ use Rattle.std.specs.FinMap as map
 use Rattle.std.specs.FinMap.Entries.{by_order, below_all, where_key, is_sorted-where_key, find-where_key, is_sorted-put}
 use Rattle.erl_term.specs.declared.term.Pid.{Pid}
 use Rattle.link_core.specs.declared.end.End.{End}
-use Rattle.link_core.specs.declared.end.End.TheVariants as End
 use Rattle.link_core.specs.Pids.{pid_cmp}
 use Rattle.link_core.specs.Records.{Records, AreSorted, IsFoundAt, IsGapAt}
 use Rattle.link_core.proofs.Order.{pid_cmp_total, pid_cmp_exact}
@@ -40,6 +39,7 @@ index_rises x y q lt = go (pid_cmp y q) refl
     at_most_two Less = omega arith
     at_most_two Equal = omega arith
     at_most_two Greater = omega arith
+
     go : (o : Ordering) → pid_cmp y q ≡ o → ordering_index (pid_cmp x q) ≤ ordering_index o
     go Less e = let l : pid_cmp x q ≡ Less = pid_cmp_total.trans x y q lt e in rw l (omega arith)
     go Equal e = let s : y ≡ q = pid_cmp_exact y q e in let l : pid_cmp x q ≡ Less = subst (λ p. pid_cmp x p ≡ Less) s lt in rw l (omega arith)

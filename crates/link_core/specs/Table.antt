@@ -2,7 +2,6 @@
 -- (ERTS User's Guide, Distribution Protocol, New Link Protocol; a cell for each end and cause.)
 use Rattle.std.specs.Prelude.{ℕ, ◌==◌, if◌then◌else◌, List, [], ◌∷◌, Option, None, Some}
 use Rattle.link_core.specs.declared.end.End.{End}
-use Rattle.link_core.specs.declared.end.End.TheVariants as End
 use Rattle.link_core.specs.declared.end.LinkSignal.{LinkSignal}
 use Rattle.link_core.specs.declared.end.LinkSignal.TheVariants.{Link, Unlink, Ack}
 

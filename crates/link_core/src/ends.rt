@@ -6,11 +6,10 @@ ghost use Rattle.link_core.specs.Table.{linked, link_sent, unlinked, unlink_sent
 ghost use Rattle.link_core.specs.Ends.{end_of, with_end};
 ghost use Rattle.link_core.specs.Records.{IsLink, AreSorted, IsFoundAt, IsGapAt};
 
-use std::alloc::Global;
-use std::marker::Model;
-
 use crate::end::{End, LinkSignal};
 use erl_term::{Pid, Refusal};
+use std::alloc::Global;
+use std::marker::Model;
 
 /// The ends of the links of one process, by partner. Contracts see the finite map from pids to
 /// ends, in the order of pids; a partner that isn't there has the end [`End::None`].
@@ -24,7 +23,6 @@ impl Model for Ends {
     ghost use Rattle.link_core.specs.Pids.{pid_cmp};
     ghost use Rattle.link_core.specs.declared.end.End.{End};
     ghost use Rattle.link_core.specs.Records.{AreRecords};
-
     ghost use Rattle.erl_term.specs.contracts.term.Pid as pid;
     ghost use Rattle.link_core.specs.contracts.end.End as end;
 

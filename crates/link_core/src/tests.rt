@@ -78,7 +78,10 @@ fn several_partners(rt: HostRuntime) -> Result<(), Fail> {
         assert_eq!(rt; ends.link(&partner)?, None);
         ends.on_link(&pid(rt.alloc(), "a@h", id)?)?;
     }
-    assert_eq!(rt; ends.on_unlink(&pid(rt.alloc(), "b@h", 2)?, 6), LinkSignal::Ack(6));
+    assert_eq!(rt;
+        ends.on_unlink(&pid(rt.alloc(), "b@h", 2)?, 6),
+        LinkSignal::Ack(6)
+    );
     for (id, end) in [
         (1, End::Active),
         (2, End::None),
@@ -90,7 +93,11 @@ fn several_partners(rt: HostRuntime) -> Result<(), Fail> {
         assert_eq!(rt; ends.end(&pid(rt.alloc(), "b@h", id)?), end, "of {id}");
     }
     for id in [1, 2, 3, 4, 5] {
-        assert_eq!(rt; ends.end(&pid(rt.alloc(), "a@h", id)?), End::Active, "of {id}");
+        assert_eq!(rt;
+            ends.end(&pid(rt.alloc(), "a@h", id)?),
+            End::Active,
+            "of {id}"
+        );
     }
     Ok(())
 }
@@ -99,7 +106,7 @@ fn several_partners(rt: HostRuntime) -> Result<(), Fail> {
 #[test]
 fn refused_memory(rt: HostRuntime) {
     let mut ends = Ends::new(rt.alloc());
-    let mut refused = 0;
+    let mut refused = false;
     for id in [7, 3, 8, 1, 6, 2, 5, 4] {
         let Ok(partner) = pid(rt.alloc(), "b@h", id) else {
             return;
@@ -114,9 +121,9 @@ fn refused_memory(rt: HostRuntime) {
             Err(refusal) => {
                 assert_eq!(rt; refusal, Refusal::OutOfMemory);
                 assert_eq!(rt; ends.end(&partner), End::None);
-                refused += 1;
+                assert!(rt; !refused);
+                refused = true;
             }
         }
     }
-    assert!(rt; refused <= 1);
 }

@@ -1,4 +1,4 @@
-use Rattle.link_core.specs.Pair.{start, run}
+use Rattle.link_core.specs.Pair.{start}
 use Rattle.link_core.proofs.Kept.{keeps_run, kept_start, pending_travels, agree_at_rest}
 use Rattle.link_core.proofs.laws.two_processes.Goals as goal
 

@@ -1,8 +1,8 @@
-use Rattle.std.proofs.Common.{◌≡◌, sym, ap, ◌∙◌, subst, arith}
+use Rattle.std.proofs.Common.{ap, ◌∙◌, subst, arith}
 use Rattle.std.specs.List.{insert}
 use Rattle.link_core.specs.declared.end.End.TheVariants as End
 use Rattle.link_core.specs.Ends.{end_of, with_end}
-use Rattle.link_core.specs.Records.{AreRecords, IsFoundAt, IsGapAt}
+use Rattle.link_core.specs.Records.{IsFoundAt, IsGapAt}
 use Rattle.link_core.proofs.Order.{same_fields}
 use Rattle.link_core.proofs.Places.{gap_in_range, map_of}
 use Rattle.link_core.proofs.Maps.{records_insert, map_insert, has_link_where_found}

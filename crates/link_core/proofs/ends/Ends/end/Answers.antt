@@ -1,6 +1,5 @@
 use Rattle.std.proofs.Common.{sym, ap, ◌∙◌, subst, arith}
-use Rattle.std.proofs.lemmas.List.{get_or_default}
-use Rattle.link_core.specs.Ends.{end_of, with_end}
+use Rattle.link_core.specs.Ends.{end_of}
 use Rattle.link_core.specs.Records.{IsFoundAt, IsGapAt}
 use Rattle.link_core.proofs.Places.{found_in_range}
 use Rattle.link_core.proofs.Maps.{end_found, end_gap, own_found, own_gap}

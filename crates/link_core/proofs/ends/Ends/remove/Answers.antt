@@ -1,6 +1,6 @@
 use Rattle.std.proofs.Common.{◌≡◌, sym, ap, ◌∙◌, subst, arith}
-use Rattle.link_core.specs.Ends.{end_of, with_end}
-use Rattle.link_core.specs.Records.{AreRecords, IsFoundAt, IsGapAt}
+use Rattle.link_core.specs.Ends.{with_end}
+use Rattle.link_core.specs.Records.{IsFoundAt, IsGapAt}
 use Rattle.link_core.proofs.Places.{found_in_range, map_of}
 use Rattle.link_core.proofs.Maps.{records_remove, map_remove, own_gap}
 use Rattle.link_core.specs.declared.end.End.TheVariants as End

@@ -1,7 +1,7 @@
-use Rattle.std.proofs.Common.{◌≡◌, sym, ap, ◌∙◌, subst, arith}
-use Rattle.link_core.specs.Ends.{end_of, with_end}
-use Rattle.link_core.specs.Records.{AreRecords, IsLink, IsFoundAt, IsGapAt}
-use Rattle.link_core.proofs.Places.{found_in_range, map_of}
+use Rattle.std.proofs.Common.{sym, ap, ◌∙◌, subst, arith}
+use Rattle.link_core.specs.Ends.{end_of}
+use Rattle.link_core.specs.Records.{IsLink, IsFoundAt, IsGapAt}
+use Rattle.link_core.proofs.Places.{found_in_range}
 use Rattle.link_core.proofs.Maps.{records_set, map_set, end_gap}
 use Rattle.link_core.proofs.ends.Ends.set.Goals as goal
 
