@@ -6,7 +6,8 @@ use Rattle.link_core.specs.declared.end.End.{End}
 use Rattle.link_core.specs.declared.end.LinkSignal.{LinkSignal}
 use Rattle.link_core.specs.declared.end.LinkSignal.TheVariants.{Link, Unlink, Ack}
 use Rattle.link_core.specs.Table.{received, drained}
-use Rattle.link_core.specs.Pair.{Side, Pair, Act, Links, Unlinks, Takes, Event, Here, There, links, unlinks, takes, first_comes, acts, swap, happens, run, start, last_word, Agree, PendingTravels, IsAtRest}
+use Rattle.link_core.specs.Pair.{Side, Pair, Act, Links, Unlinks, Takes, Event, Here, There, links, unlinks, takes, first_comes, acts, swap, happens, run, start}
+use Rattle.link_core.specs.Claims.{last_word, Agree, PendingTravels, IsAtRest}
 use Rattle.link_core.proofs.Travelling.{unlinks_in, acks_in, drained-push, last_word-push, unlinks_in-push, acks_in-push, one_if_same, Contains_ack, stays_pending, outcome, drained_by_word}
 
 abbrev pub settled : Side → Side → End

@@ -6,7 +6,7 @@ use Rattle.link_core.specs.declared.end.End.{End}
 use Rattle.link_core.specs.declared.end.LinkSignal.{LinkSignal}
 use Rattle.link_core.specs.declared.end.LinkSignal.TheVariants.{Link, Unlink, Ack}
 use Rattle.link_core.specs.Table.{received, drained}
-use Rattle.link_core.specs.Pair.{last_word}
+use Rattle.link_core.specs.Claims.{last_word}
 
 -- how many UNLINK_ID i, how many ACK i a list holds
 abbrev pub unlinks_of : ℕ → LinkSignal → ℕ

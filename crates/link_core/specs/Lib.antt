@@ -3,4 +3,5 @@ pub mod Pids
 pub mod Ends
 pub mod Records
 pub mod Pair
+pub mod Claims
 pub mod Schedules

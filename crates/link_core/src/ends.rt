@@ -13,7 +13,7 @@ use std::marker::Model;
 
 /// The ends of the links of one process, by partner. Contracts see the finite map from pids to
 /// ends, in the order of pids; a partner that isn't there has the end [`End::None`].
-#[derive(Drop)]
+#[derive(Debug, Drop)]
 pub struct Ends {
     records: Vec<(Pid, End)>,
 }
@@ -48,8 +48,8 @@ impl Ends {
     /// The end towards a partner.
     pub fn end(&self, partner: &Pid) -> End
         ensures end { result ≡ end_of self.now partner.now }
-        // a partner's own end put back changes nothing
-        ensures own { with_end self.now partner.now result ≡ self.now }
+        // the end that a partner has, set again, changes nothing
+        ensures set_again { with_end self.now partner.now result ≡ self.now }
     {
         match place(&self.records, partner) {
             Ok(at) => self.records[at].1,
@@ -62,8 +62,14 @@ impl Ends {
     /// The only refusal is [`Refusal::OutOfMemory`], and only where there was no link. (ERTS
     /// User's Guide, Distribution Protocol, New Link Protocol.)
     pub fn link(&mut self, partner: &Pid) -> Result<Option<LinkSignal>, Refusal>
-        ensures end { OnOk result (self.new ≡ with_end self.old partner.now (linked (end_of self.old partner.now))) }
-        ensures same { linked (end_of self.old partner.now) ≡ end_of self.old partner.now → self.new ≡ self.old }
+        ensures end {
+            let was = end_of self.old partner.now in
+            OnOk result (self.new ≡ with_end self.old partner.now (linked was))
+        }
+        ensures unchanged {
+            let was = end_of self.old partner.now in
+            linked was ≡ was → self.new ≡ self.old
+        }
         ensures sent { IfOk result (λ sent. sent ≡ link_sent (end_of self.old partner.now)) }
         ensures err { OnErr result (self.new ≡ self.old) }
         ensures only_memory { IsOkUnless result Refusal.OutOfMemory }
@@ -86,8 +92,14 @@ impl Ends {
     /// be sent to the partner, if any. Takes no memory. (ERTS User's Guide, Distribution Protocol,
     /// New Link Protocol.)
     pub fn unlink(&mut self, partner: &Pid, id: u64) -> Option<LinkSignal>
-        ensures end { self.new ≡ with_end self.old partner.now (unlinked (end_of self.old partner.now) id) }
-        ensures same { unlinked (end_of self.old partner.now) id ≡ end_of self.old partner.now → self.new ≡ self.old }
+        ensures end {
+            let was = end_of self.old partner.now in
+            self.new ≡ with_end self.old partner.now (unlinked was id)
+        }
+        ensures unchanged {
+            let was = end_of self.old partner.now in
+            unlinked was id ≡ was → self.new ≡ self.old
+        }
         ensures sent { result ≡ unlink_sent (end_of self.old partner.now) id }
     {
         match self.end(partner) {
@@ -104,8 +116,14 @@ impl Ends {
     /// The only refusal is [`Refusal::OutOfMemory`], and only where there was no link. (ERTS
     /// User's Guide, Distribution Protocol, New Link Protocol.)
     pub fn on_link(&mut self, partner: &Pid) -> Result<(), Refusal>
-        ensures end { OnOk result (self.new ≡ with_end self.old partner.now (received (end_of self.old partner.now) LinkSignal.Link)) }
-        ensures same { received (end_of self.old partner.now) LinkSignal.Link ≡ end_of self.old partner.now → self.new ≡ self.old }
+        ensures end {
+            let was = end_of self.old partner.now in
+            OnOk result (self.new ≡ with_end self.old partner.now (received was LinkSignal.Link))
+        }
+        ensures unchanged {
+            let was = end_of self.old partner.now in
+            received was LinkSignal.Link ≡ was → self.new ≡ self.old
+        }
         ensures err { OnErr result (self.new ≡ self.old) }
         ensures only_memory { IsOkUnless result Refusal.OutOfMemory }
         ensures only_new { OnErr result (end_of self.old partner.now ≡ End.None) }
@@ -120,8 +138,14 @@ impl Ends {
     /// before any other signal. Takes no memory. (ERTS User's Guide, Distribution Protocol, New
     /// Link Protocol.)
     pub fn on_unlink(&mut self, partner: &Pid, id: u64) -> LinkSignal
-        ensures end { self.new ≡ with_end self.old partner.now (received (end_of self.old partner.now) (LinkSignal.Unlink id)) }
-        ensures same { received (end_of self.old partner.now) (LinkSignal.Unlink id) ≡ end_of self.old partner.now → self.new ≡ self.old }
+        ensures end {
+            let was = end_of self.old partner.now in
+            self.new ≡ with_end self.old partner.now (received was (LinkSignal.Unlink id))
+        }
+        ensures unchanged {
+            let was = end_of self.old partner.now in
+            received was (LinkSignal.Unlink id) ≡ was → self.new ≡ self.old
+        }
         ensures answer { Some result ≡ answered (LinkSignal.Unlink id) }
     {
         if self.end(partner) == End::Active {
@@ -133,8 +157,14 @@ impl Ends {
     /// UNLINK_ID_ACK came from a partner, for this id. Takes no memory. (ERTS User's Guide,
     /// Distribution Protocol, New Link Protocol.)
     pub fn on_ack(&mut self, partner: &Pid, id: u64)
-        ensures end { self.new ≡ with_end self.old partner.now (received (end_of self.old partner.now) (LinkSignal.Ack id)) }
-        ensures same { received (end_of self.old partner.now) (LinkSignal.Ack id) ≡ end_of self.old partner.now → self.new ≡ self.old }
+        ensures end {
+            let was = end_of self.old partner.now in
+            self.new ≡ with_end self.old partner.now (received was (LinkSignal.Ack id))
+        }
+        ensures unchanged {
+            let was = end_of self.old partner.now in
+            received was (LinkSignal.Ack id) ≡ was → self.new ≡ self.old
+        }
     {
         if self.end(partner) == End::Pending(id) {
             self.remove(partner);

@@ -5,7 +5,8 @@ ghost use Rattle.erl_term.specs.declared.term.Pid.{Pid};
 ghost use Rattle.link_core.specs.declared.end.End.{End};
 ghost use Rattle.link_core.specs.declared.end.End.TheVariants as End;
 ghost use Rattle.link_core.specs.Ends.{EndMap, end_of, with_end};
-ghost use Rattle.link_core.specs.Pair.{Event, Pair, happens, run, start, Agree, PendingTravels, IsAtRest};
+ghost use Rattle.link_core.specs.Pair.{Event, Pair, happens, run, start};
+ghost use Rattle.link_core.specs.Claims.{Agree, PendingTravels, IsAtRest};
 ghost use Rattle.link_core.specs.Schedules as schedule;
 
 /// A new end at one partner is that partner's end, and all others stay.

@@ -14,8 +14,8 @@ returns-in-Ok-clause-end c =
     let found = subst (λ l. IsFoundAt l c.args.partner.now c.in-Ok.at) c.deref.ensures.value c.in-Ok.ensures.found in
     ap (λ r. r.1) c.index.ensures ∙ sym (end_found _ _ _ c.index.result.now c.self.invariant found) ∙ ap (λ m. end_of m c.args.partner.now) c.self.view_is
 
-pub returns-in-Ok-clause-own : goal.returns-in-Ok-clause-own
-returns-in-Ok-clause-own c =
+pub returns-in-Ok-clause-set_again : goal.returns-in-Ok-clause-set_again
+returns-in-Ok-clause-set_again c =
     let found = subst (λ l. IsFoundAt l c.args.partner.now c.in-Ok.at) c.deref.ensures.value c.in-Ok.ensures.found in
     rw (← c.self.view_is, c.index.ensures) (own_found _ _ _ c.index.result.now c.self.invariant found)
 
@@ -24,7 +24,7 @@ returns-in-Err-clause-end c =
     let gap = subst (λ l. IsGapAt l c.args.partner.now c.in-Err.field-0) c.deref.ensures.value c.in-Err.ensures.gap in
     sym (end_gap _ _ _ c.self.invariant gap) ∙ ap (λ m. end_of m c.args.partner.now) c.self.view_is
 
-pub returns-in-Err-clause-own : goal.returns-in-Err-clause-own
-returns-in-Err-clause-own c =
+pub returns-in-Err-clause-set_again : goal.returns-in-Err-clause-set_again
+returns-in-Err-clause-set_again c =
     let gap = subst (λ l. IsGapAt l c.args.partner.now c.in-Err.field-0) c.deref.ensures.value c.in-Err.ensures.gap in
     rw (← c.self.view_is) (own_gap _ _ _ c.self.invariant gap)
