@@ -1,5 +1,5 @@
--- The number of each error and of each refusal, as scripts print them.
-use Rattle.std.specs.Prelude.{ℕ}
+-- The number of each error, and the number and the name of each refusal, as scripts print them.
+use Rattle.std.specs.Prelude.{ℕ, List, codes}
 use Rattle.erl_term.specs.declared.error.TermError.{TermError}
 use Rattle.erl_term.specs.declared.error.TermError.TheVariants as error
 use Rattle.erl_term.specs.declared.refusal.Refusal.{Refusal}
@@ -36,3 +36,25 @@ refusal_number refusal.Forged = 20
 refusal_number refusal.NodeUp = 23
 refusal_number refusal.StrangeSeat = 29
 refusal_number refusal.NoThread = 30
+
+abbrev pub refusal_name : Refusal → List ℕ
+refusal_name refusal.BadName = codes "BadName"
+refusal_name refusal.NodeDown = codes "NodeDown"
+refusal_name refusal.NoSuchProcess = codes "NoSuchProcess"
+refusal_name refusal.IdsUsedUp = codes "IdsUsedUp"
+refusal_name refusal.NotTheOwner = codes "NotTheOwner"
+refusal_name refusal.TooLong = codes "TooLong"
+refusal_name refusal.BadMessage = codes "BadMessage"
+refusal_name refusal.FlagsMissing = codes "FlagsMissing"
+refusal_name refusal.OutOfMemory = codes "OutOfMemory"
+refusal_name refusal.BadDigest = codes "BadDigest"
+refusal_name refusal.Nok = codes "Nok"
+refusal_name refusal.Superseded = codes "Superseded"
+refusal_name refusal.Busy = codes "Busy"
+refusal_name refusal.SelfDial = codes "SelfDial"
+refusal_name refusal.NotLive = codes "NotLive"
+refusal_name refusal.NothingThere = codes "NothingThere"
+refusal_name refusal.Forged = codes "Forged"
+refusal_name refusal.NodeUp = codes "NodeUp"
+refusal_name refusal.StrangeSeat = codes "StrangeSeat"
+refusal_name refusal.NoThread = codes "NoThread"

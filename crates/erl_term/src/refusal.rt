@@ -1,8 +1,10 @@
 //! Why a call was refused.
 
 ghost use Rattle.std.specs.Prelude.{◌≡◌};
-ghost use Rattle.erl_term.specs.ErrorNumbers.{refusal_number};
+ghost use Rattle.erl_term.specs.declared.refusal.Refusal.TheVariants.{OutOfMemory};
+ghost use Rattle.erl_term.specs.ErrorNumbers.{refusal_number, refusal_name};
 
+use std::alloc::{AllocError, AllocFailed};
 use thiserror::Error;
 
 /// Why a call was refused. A refused call changes nothing.
@@ -99,5 +101,49 @@ impl Refusal {
             Refusal::StrangeSeat => 29,
             Refusal::NoThread => 30,
         }
+    }
+
+    /// The name of the refusal, with which its text ends.
+    pub fn name(self) -> &'static str
+        ensures { result.now ≡ refusal_name self }
+    {
+        match self {
+            Refusal::BadName => "BadName",
+            Refusal::NodeDown => "NodeDown",
+            Refusal::NoSuchProcess => "NoSuchProcess",
+            Refusal::IdsUsedUp => "IdsUsedUp",
+            Refusal::NotTheOwner => "NotTheOwner",
+            Refusal::TooLong => "TooLong",
+            Refusal::BadMessage => "BadMessage",
+            Refusal::FlagsMissing => "FlagsMissing",
+            Refusal::OutOfMemory => "OutOfMemory",
+            Refusal::BadDigest => "BadDigest",
+            Refusal::Nok => "Nok",
+            Refusal::Superseded => "Superseded",
+            Refusal::Busy => "Busy",
+            Refusal::SelfDial => "SelfDial",
+            Refusal::NotLive => "NotLive",
+            Refusal::NothingThere => "NothingThere",
+            Refusal::Forged => "Forged",
+            Refusal::NodeUp => "NodeUp",
+            Refusal::StrangeSeat => "StrangeSeat",
+            Refusal::NoThread => "NoThread",
+        }
+    }
+}
+
+impl From<AllocError> for Refusal {
+    ghost from_gives = { λ _ e. e ≡ OutOfMemory };
+
+    fn from(_e: AllocError) -> Refusal {
+        Refusal::OutOfMemory
+    }
+}
+
+impl<T: Drop> From<AllocFailed<T>> for Refusal {
+    ghost from_gives = { λ _ e. e ≡ OutOfMemory };
+
+    fn from(_e: AllocFailed<T>) -> Refusal {
+        Refusal::OutOfMemory
     }
 }

@@ -1,0 +1,5 @@
+pub mod Travelling
+pub mod Kept
+pub mod Order
+pub mod Places
+pub mod Maps

@@ -1,0 +1,7 @@
+use Rattle.std.proofs.Common.{ap, ◌∙◌, [], length}
+use Rattle.std.specs.FinMap as map
+use Rattle.link_core.specs.Pids.{pid_cmp}
+use Rattle.link_core.proofs.ends.Ends.new.Goals as goal
+
+pub returns : goal.returns
+returns c = rw c.new.ensures.items (map.empty_of_len _ (map.len-entries _ ∙ ap length (map.entries-from_sorted pid_cmp [] tt)))

@@ -1,0 +1,7 @@
+pub mod Table
+pub mod Pids
+pub mod Ends
+pub mod Records
+pub mod Pair
+pub mod Claims
+pub mod Schedules
