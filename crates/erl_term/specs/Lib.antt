@@ -9,3 +9,4 @@ pub mod Answer
 pub mod Limited
 pub mod Canonical
 pub mod Skipping
+pub mod Parts

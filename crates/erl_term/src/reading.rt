@@ -1,5 +1,6 @@
 ghost use Rattle.std.specs.Prelude.{◌≡◌, ◌≤◌, ◌<◌, ◌^◌, ◌+◌, List, length, IfOk, Ok, ℕ};
 ghost use Rattle.erl_term.specs.Reading.{Gives, Answers, part_at, any_at, number_at, small_at, integer_at, big_at, text_at, atom_at, node_at, pid_at, items_with, tuple_with, row_with, term_at, spelling_at};
+ghost use Rattle.erl_term.specs.Data.{int};
 ghost use Rattle.erl_term.specs.Numbers.{low_first, signed};
 ghost use Rattle.byteorder.specs.Endian.{big_number};
 ghost use Rattle.erl_term.specs.View.{view, items_view};
@@ -119,8 +120,8 @@ fn atom_of(alloc: Global, width: usize, bytes: &[u8]) -> Result<(Atom, &[u8]), T
 }
 
 #[tactic(auto, unfolding(crate::specs::Reading::big_at))]
-fn big_of(bytes: &[u8]) -> Result<(Term, &[u8]), TermError>
-    ensures { Gives (λ x. (view x.0, x.1.now)) result (big_at bytes.now) }
+pub fn big_value_of(bytes: &[u8]) -> Result<(i128, &[u8]), TermError>
+    ensures { Answers (λ x. (int x.0, x.1.now)) result (big_at bytes.now) }
 {
     let (len, rest) = number_of(bytes, 1, 16, TermError::OutOfProfile(110))?;
     let (sign, rest) = number_of(rest, 1, 1, TermError::Malformed)?;
@@ -129,7 +130,14 @@ fn big_of(bytes: &[u8]) -> Result<(Term, &[u8]), TermError>
     if magnitude >= (1 << 127) + sign as u128 {
         return Err(TermError::OutOfProfile(110));
     }
-    Ok((Term::Int(signed_of(sign, magnitude)), rest))
+    Ok((signed_of(sign, magnitude), rest))
+}
+
+fn big_of(bytes: &[u8]) -> Result<(Term, &[u8]), TermError>
+    ensures { Gives (λ x. (view x.0, x.1.now)) result (big_at bytes.now) }
+{
+    let (n, rest) = big_value_of(bytes)?;
+    Ok((Term::Int(n), rest))
 }
 
 /// The first `len` bytes.
