@@ -1,0 +1,12 @@
+//! Link signals between processes as frames between nodes.
+#![tactic(auto)]
+
+mod control;
+mod error;
+mod framing;
+mod signal;
+mod unframing;
+
+pub use error::FrameError;
+pub use signal::{Item, Signal};
+pub use unframing::{FRAME_LIMIT, unframe};
