@@ -1,2 +1,4 @@
 pub mod Sequence
 pub mod Table
+pub mod Rows
+pub mod Frames

@@ -4,9 +4,11 @@
 mod control;
 mod error;
 mod framing;
+mod laws;
 mod signal;
 mod unframing;
 
 pub use error::FrameError;
+pub use laws::{one_answer, one_frame, read_again};
 pub use signal::{Item, Signal};
 pub use unframing::{FRAME_LIMIT, unframe};

@@ -8,6 +8,7 @@ ghost use Rattle.erl_control.specs.Reading.{IsBody, IsBodyFault};
 
 use crate::control::signal_of;
 use crate::error::FrameError;
+use crate::laws::one_answer;
 use crate::signal::Item;
 use byteorder::{BigEndian, ByteOrder};
 use std::alloc::Global;
@@ -48,6 +49,19 @@ fn item_of(alloc: Global, body: &[u8]) -> Result<Item, FrameError>
     }
 }
 
+/// The same as [`unframe`], but that no clause says that nothing else is due.
+fn answer_of(alloc: Global, bytes: &[u8]) -> Result<Option<(Item, usize)>, FrameError>
+    ensures ok { IfOk result (λ x. IsFrameDue bytes.now (Ok x)) }
+    ensures err { IfErr result (λ e. e ≢ FrameError.OutOfMemory → IsFrameDue bytes.now (Err e)) }
+    ensures memory { IsErrOf result FrameError.OutOfMemory → (signal : TheSignal) × (n : ℕ) × IsFrameDue bytes.now (Ok (Some (Item.Signal signal, n))) }
+{
+    let Some(body) = body_at(bytes)? else {
+        return Ok(None);
+    };
+    let item = item_of(alloc, body)?;
+    Ok(Some((item, body.len() + 4)))
+}
+
 /// The item of the frame at the front, and how many bytes the frame takes. None asks for more
 /// bytes. (ERTS User's Guide, Distribution Protocol, Protocol between Connected Nodes.)
 ///
@@ -64,9 +78,6 @@ pub fn unframe(alloc: Global, bytes: &[u8]) -> Result<Option<(Item, usize)>, Fra
     // Memory is asked for only where a signal is due.
     ensures memory { IsErrOf result FrameError.OutOfMemory → (signal : TheSignal) × (n : ℕ) × IsFrameDue bytes.now (Ok (Some (Item.Signal signal, n))) }
 {
-    let Some(body) = body_at(bytes)? else {
-        return Ok(None);
-    };
-    let item = item_of(alloc, body)?;
-    Ok(Some((item, body.len() + 4)))
+    one_answer();
+    answer_of(alloc, bytes)
 }

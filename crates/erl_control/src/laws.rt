@@ -1,0 +1,26 @@
+//! Laws of the definitions.
+ghost use Rattle.std.specs.Prelude.{◌≡◌, ◌++◌, List, ℕ, length, Option, Some, Result, Ok};
+ghost use Rattle.erl_term.specs.Numbers.{AreBytes};
+ghost use Rattle.erl_control.specs.declared.signal.Item.{Item};
+ghost use Rattle.erl_control.specs.declared.error.FrameError.{FrameError};
+ghost use Rattle.erl_control.specs.Frame.{IsFramed};
+ghost use Rattle.erl_control.specs.Answer.{IsFrameDue};
+
+/// To any bytes one answer is due.
+pub fn one_answer()
+    ensures { (bytes : List ℕ) → AreBytes bytes → (due : Result (Option (Item × ℕ)) FrameError) × IsFrameDue bytes due × ((other : Result (Option (Item × ℕ)) FrameError) → IsFrameDue bytes other → other ≡ due) }
+{
+    erl_term::one_answer();
+}
+
+/// No frame begins another.
+pub fn one_frame()
+    ensures { (i j : Item) (a b x y : List ℕ) → IsFramed i a → IsFramed j b → a ++ x ≡ b ++ y → (i ≡ j) × (a ≡ b) }
+{
+    erl_term::one_spelling();
+}
+
+/// A frame is read again, whatever follows it.
+pub fn read_again()
+    ensures { (item : Item) (frame rest : List ℕ) → IsFramed item frame → IsFrameDue (frame ++ rest) (Ok (Some (item, length frame))) }
+{}
