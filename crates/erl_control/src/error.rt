@@ -3,7 +3,7 @@ ghost use Rattle.std.specs.Prelude.{◌≡◌};
 ghost use Rattle.erl_control.specs.declared.error.FrameError.TheVariants.{OutOfMemory};
 
 use erl_term::TermError;
-use std::alloc::AllocError;
+use std::alloc::{AllocError, AllocFailed};
 use thiserror::Error;
 
 /// Why a frame could not be read or written.
@@ -47,6 +47,14 @@ impl From<AllocError> for FrameError {
     ghost from_gives = { λ _ e. e ≡ OutOfMemory };
 
     fn from(_e: AllocError) -> FrameError {
+        FrameError::OutOfMemory
+    }
+}
+
+impl<T: Drop> From<AllocFailed<T>> for FrameError {
+    ghost from_gives = { λ _ e. e ≡ OutOfMemory };
+
+    fn from(_e: AllocFailed<T>) -> FrameError {
         FrameError::OutOfMemory
     }
 }

@@ -3,6 +3,10 @@ ghost use Rattle.std.specs.Prelude.{◌≡◌, ◌++◌, List, ℕ, length, Opti
 ghost use Rattle.erl_term.specs.Numbers.{AreBytes};
 ghost use Rattle.erl_control.specs.declared.signal.Item.{Item};
 ghost use Rattle.erl_control.specs.declared.error.FrameError.{FrameError};
+ghost use Rattle.erl_control.specs.declared.signal.Signal.{Signal};
+ghost use Rattle.erl_term.specs.Canonical.{IsInRange};
+ghost use Rattle.erl_control.specs.Control.{control_term, IsSendable};
+ghost use Rattle.erl_control.specs.Canonical.{canonical_frame};
 ghost use Rattle.erl_control.specs.Frame.{IsFramed};
 ghost use Rattle.erl_control.specs.Answer.{IsFrameDue};
 
@@ -24,3 +28,11 @@ pub fn one_frame()
 pub fn read_again()
     ensures { (item : Item) (frame rest : List ℕ) → IsFramed item frame → IsFrameDue (frame ++ rest) (Ok (Some (item, length frame))) }
 {}
+
+/// The frame that is written is a frame of its signal.
+pub fn canonical_is_framed()
+    ensures { (signal : Signal) → IsSendable signal → IsInRange (control_term signal) → IsFramed (Item.Signal signal) (canonical_frame signal) }
+{
+    erl_term::canonical_is_spelling();
+    erl_term::short_parts();
+}

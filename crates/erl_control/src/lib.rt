@@ -9,6 +9,7 @@ mod signal;
 mod unframing;
 
 pub use error::FrameError;
-pub use laws::{one_answer, one_frame, read_again};
+pub use framing::frame;
+pub use laws::{canonical_is_framed, one_answer, one_frame, read_again};
 pub use signal::{Item, Signal};
 pub use unframing::{FRAME_LIMIT, unframe};

@@ -1,11 +1,12 @@
 //! Laws of the definitions.
-ghost use Rattle.std.specs.Prelude.{◌≡◌, ◌≤◌, ◌↔◌, ◌++◌, List, ℕ, length, Result, Ok};
+ghost use Rattle.std.specs.Prelude.{◌≡◌, ◌≤◌, ◌↔◌, ◌++◌, List, ℕ, ℤ, length, Result, Ok};
 ghost use Rattle.erl_term.specs.declared.error.TermError.{TermError};
+ghost use Rattle.erl_term.specs.declared.term.Pid.{Pid};
 ghost use Rattle.erl_term.specs.Data.{Data};
 ghost use Rattle.erl_term.specs.Numbers.{AreBytes};
 ghost use Rattle.erl_term.specs.Spelling.{IsSpelling};
 ghost use Rattle.erl_term.specs.Answer.{IsDue};
-ghost use Rattle.erl_term.specs.Canonical.{canonical, levels_of, IsInRange, IsWritable};
+ghost use Rattle.erl_term.specs.Canonical.{canonical, canonical_int, canonical_pid, levels_of, IsInRange, IsPidInRange, IsWritable};
 
 /// No spelling begins another, so what was written is read again, whatever follows it.
 pub fn one_spelling()
@@ -25,4 +26,10 @@ pub fn read_again()
 /// To any bytes one answer is due.
 pub fn one_answer()
     ensures { (bytes : List ℕ) → AreBytes bytes → (due : Result (Data × ℕ) TermError) × IsDue bytes due × ((other : Result (Data × ℕ) TermError) → IsDue bytes other → other ≡ due) }
+{}
+
+/// The canonical spellings of integers and pids are short.
+pub fn short_parts()
+    ensures integer { (z : ℤ) → length (canonical_int z) ≤ 19 }
+    ensures pid { (p : Pid) → IsPidInRange p → length (canonical_pid p) ≤ 1036 }
 {}
