@@ -8,7 +8,7 @@ use Rattle.erl_term.specs.Numbers.{AreBytes}
 use Rattle.erl_term.specs.Data.{Data}
 use Rattle.erl_term.specs.Spelling.{IsSpelling}
 use Rattle.erl_term.specs.Faults.{IsInside, IsAtFront, HasFault}
-use Rattle.std.specs.Prelude.{IsErrOf}
+use Rattle.std.specs.Prelude.{IsErrOf, IfOk, IfErr}
 use Rattle.erl_term.specs.declared.term.Term.{Term}
 use Rattle.erl_term.specs.Reading.{spelling_at}
 use Rattle.erl_term.specs.Answer.{limit, IsDue}
@@ -168,3 +168,15 @@ memory_never bytes e d q = let z : IsDue bytes (Err OutOfMemory) = subst (λ (f 
 
 pub is_err_of : (e : TermError) → IsErrOf {T = Term × ℕ} (Err e) OutOfMemory → e ≡ OutOfMemory
 is_err_of e q = cc
+
+pub len_due : (bytes : List ℕ) (r : Result ℕ TermError) → AreBytes bytes → taken_of (answer_at bytes) ≡ r → IfOk r (λ n. (t : Data) × IsDue bytes (Ok (t, n)))
+len_due bytes (Err e) h s = tt
+len_due bytes (Ok n) h s =
+    let x = scan_ok (answer_at bytes) n s in
+    let q : taken_of (answer_at bytes) ≡ Ok x.0.1 = ap taken_of x.1 in
+    let same : x.0.1 ≡ n = cc in
+    (x.0.0, subst (λ (m : ℕ). IsDue bytes (Ok (x.0.0, m))) same (subst (IsDue bytes) x.1 (answer_due bytes h)))
+
+pub len_err_due : (bytes : List ℕ) (r : Result ℕ TermError) → AreBytes bytes → taken_of (answer_at bytes) ≡ r → IfErr r (λ e. IsDue bytes (Err e))
+len_err_due bytes (Err e) h s = scanned_due bytes e h s
+len_err_due bytes (Ok n) h s = tt

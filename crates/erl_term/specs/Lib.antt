@@ -12,3 +12,4 @@ pub mod ErrorNumbers
 pub mod Limited
 pub mod Canonical
 pub mod Skipping
+pub mod Parts

@@ -90,3 +90,12 @@ pub fn decode(alloc: Global, bytes: &[u8]) -> Result<(Term, usize), TermError>
         }
     }
 }
+
+/// How many bytes the term at the front takes, or why there is none: what [`decode`] answers, but
+/// for the term. It takes no memory.
+pub fn term_len(bytes: &[u8]) -> Result<usize, TermError>
+    ensures ok { IfOk result (λ n. (t : Data) × IsDue bytes.now (Ok (t, n))) }
+    ensures err { IfErr result (λ e. IsDue bytes.now (Err e)) }
+{
+    scanned(bytes)
+}

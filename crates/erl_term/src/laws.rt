@@ -1,5 +1,5 @@
 //! Laws of the definitions. Each function does nothing: its contract is the law, for proofs above to cite.
-ghost use Rattle.std.specs.Prelude.{◌≡◌, ◌≤◌, ◌↔◌, ◌++◌, List, ℕ, length, Result, Ok};
+ghost use Rattle.std.specs.Prelude.{◌≡◌, ◌≤◌, ◌↔◌, ◌++◌, List, ℕ, ℤ, length, Result, Ok};
 ghost use Rattle.erl_term.specs.declared.error.TermError.{TermError};
 ghost use Rattle.erl_term.specs.declared.term.Pid.{Pid};
 ghost use Rattle.erl_term.specs.Data.{Data};
@@ -7,7 +7,7 @@ ghost use Rattle.erl_term.specs.Numbers.{AreBytes};
 ghost use Rattle.erl_term.specs.Spelling.{IsSpelling};
 ghost use Rattle.erl_term.specs.Answer.{IsDue};
 ghost use Rattle.erl_term.specs.Order.{compared, pid_cmp};
-ghost use Rattle.erl_term.specs.Canonical.{canonical, levels_of, IsInRange, IsWritable};
+ghost use Rattle.erl_term.specs.Canonical.{canonical, canonical_int, canonical_pid, levels_of, IsInRange, IsPidInRange, IsWritable};
 
 /// No spelling begins another, so what was written is read again, whatever follows it.
 pub fn one_spelling()
@@ -32,4 +32,10 @@ pub fn one_answer()
 /// Pids are ordered by the name of the node, then by creation, id and serial.
 pub fn order_of_pids()
     ensures { (p q : Pid) → compared p q ≡ pid_cmp p q }
+{}
+
+/// The canonical spellings of integers and pids are short.
+pub fn short_parts()
+    ensures integer { (z : ℤ) → length (canonical_int z) ≤ 19 }
+    ensures pid { (p : Pid) → IsPidInRange p → length (canonical_pid p) ≤ 1036 }
 {}

@@ -123,7 +123,8 @@ pub fn integer_len(n: i128) -> usize
 /// How many bytes [`put_tuple_head`](crate::put_tuple_head) writes: 2 or 5.
 #[tactic(auto, unfolding(crate::specs::Canonical::canonical_head))]
 pub fn tuple_head_len(count: usize) -> usize
-    ensures { result ≡ length (canonical_head count) }
+    ensures len { result ≡ length (canonical_head count) }
+    ensures bound { result ≤ 5 }
 {
     if count < 256 { 2 } else { 5 }
 }
@@ -131,8 +132,12 @@ pub fn tuple_head_len(count: usize) -> usize
 /// How many bytes [`put_pid`](crate::put_pid) writes: 15 to 1,036.
 #[tactic(auto, unfolding(crate::specs::Canonical::canonical_pid))]
 pub fn pid_len(pid: &Pid) -> usize
-    ensures { result ≡ length (canonical_pid pid.now) }
+    ensures len { result ≡ length (canonical_pid pid.now) }
+    ensures bound { result ≤ 1036 }
+    ensures in_range { IsPidInRange pid.now }
 {
+    are_words(pid.id, pid.serial, pid.creation);
+    pid.node.text();
     atom_len(&pid.node) + 13
 }
 

@@ -1,6 +1,7 @@
 //! Reading a term from the left, up to the first fault.
 ghost use Rattle.std.specs.Prelude.{◌≡◌, ◌≤◌};
-ghost use Rattle.erl_term.specs.Reading.{Gives, small_at, integer_at, big_at, text_at, atom_at, node_at, pid_at, items_with, tuple_with, row_with, term_at, spelling_at};
+ghost use Rattle.erl_term.specs.Reading.{Gives, Answers, small_at, integer_at, big_at, text_at, atom_at, node_at, pid_at, items_with, tuple_with, row_with, term_at, spelling_at};
+ghost use Rattle.erl_term.specs.Data.{int};
 ghost use Rattle.erl_term.specs.View.{view, items_view};
 
 use crate::atom::Atom;
@@ -72,8 +73,8 @@ fn integer_of(bytes: &[u8]) -> Result<(Term, &[u8]), TermError>
 }
 
 #[tactic(auto, unfolding(crate::specs::Reading::big_at))]
-fn big_of(bytes: &[u8]) -> Result<(Term, &[u8]), TermError>
-    ensures { Gives (λ x. (view x.0, x.1.now)) result (big_at bytes.now) }
+pub fn big_value_of(bytes: &[u8]) -> Result<(i128, &[u8]), TermError>
+    ensures { Answers (λ x. (int x.0, x.1.now)) result (big_at bytes.now) }
 {
     let (len, rest) = number_of(bytes, 1, 16, TermError::OutOfProfile(tag::SMALL_BIG))?;
     let (sign, rest) = number_of(rest, 1, 1, TermError::Malformed)?;
@@ -82,7 +83,14 @@ fn big_of(bytes: &[u8]) -> Result<(Term, &[u8]), TermError>
     if magnitude >= (1 << 127) + sign as u128 {
         return Err(TermError::OutOfProfile(tag::SMALL_BIG));
     }
-    Ok((Term::Int(signed_of(sign, magnitude)), rest))
+    Ok((signed_of(sign, magnitude), rest))
+}
+
+fn big_of(bytes: &[u8]) -> Result<(Term, &[u8]), TermError>
+    ensures { Gives (λ x. (view x.0, x.1.now)) result (big_at bytes.now) }
+{
+    let (n, rest) = big_value_of(bytes)?;
+    Ok((Term::Int(n), rest))
 }
 
 #[tactic(auto, unfolding(crate::specs::Reading::text_at))]

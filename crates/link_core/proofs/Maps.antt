@@ -8,7 +8,7 @@ use Rattle.std.proofs.lemmas.Cmp.{tied_itself}
 use Rattle.std.specs.FinMap as map
 use Rattle.erl_term.specs.declared.term.Pid.{Pid}
 use Rattle.link_core.specs.declared.end.End.{End}
-use Rattle.link_core.specs.Pids.{pid_cmp}
+use Rattle.erl_term.specs.Order.{pid_cmp}
 use Rattle.link_core.specs.Ends.{EndMap, end_of, with_end}
 use Rattle.link_core.specs.Records.{Records, AreRecords, AreLinks, IsLink, IsFoundAt, IsGapAt}
 use Rattle.link_core.proofs.Order.{pid_cmp_total, pid_cmp_exact}

@@ -7,7 +7,7 @@ use Rattle.std.specs.FinMap.{IsAntisymmetric}
 use Rattle.std.proofs.lemmas.Cmp.{on_total, then_total}
 use Rattle.std.proofs.lemmas.Map.Lookups.{exact_pairs, exact_unsigned, exact_bytes}
 use Rattle.erl_term.specs.declared.term.Pid.{Pid}
-use Rattle.link_core.specs.Pids.{pid_cmp}
+use Rattle.erl_term.specs.Order.{pid_cmp}
 
 pub pid_cmp_total : IsTotalOrder pid_cmp
 pid_cmp_total = then_total (on_total (λ p. p.node) nat_list_cmp_total) (then_total (on_total (λ p. p.creation) nat_cmp_total) (then_total (on_total (λ p. p.id) nat_cmp_total) (on_total (λ p. p.serial) nat_cmp_total)))

@@ -11,7 +11,7 @@ use Rattle.std.specs.FinMap as map
 use Rattle.std.specs.FinMap.Entries.{by_order, below_all, where_key, is_sorted-where_key, find-where_key, is_sorted-put}
 use Rattle.erl_term.specs.declared.term.Pid.{Pid}
 use Rattle.link_core.specs.declared.end.End.{End}
-use Rattle.link_core.specs.Pids.{pid_cmp}
+use Rattle.erl_term.specs.Order.{pid_cmp}
 use Rattle.link_core.specs.Records.{Records, AreSorted, IsFoundAt, IsGapAt}
 use Rattle.link_core.proofs.Order.{pid_cmp_total, pid_cmp_exact}
 

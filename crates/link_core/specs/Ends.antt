@@ -3,7 +3,7 @@ use Rattle.std.specs.Prelude.{unwrap_or}
 use Rattle.std.specs.FinMap as map
 use Rattle.erl_term.specs.declared.term.Pid.{Pid}
 use Rattle.link_core.specs.declared.end.End.{End}
-use Rattle.link_core.specs.Pids.{pid_cmp}
+use Rattle.erl_term.specs.Order.{pid_cmp}
 
 abbrev pub EndMap : Type 0
 EndMap = map.FinMap pid_cmp End

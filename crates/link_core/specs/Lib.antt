@@ -1,5 +1,4 @@
 pub mod Table
-pub mod Pids
 pub mod Ends
 pub mod Records
 pub mod Pair

@@ -4,7 +4,7 @@ use Rattle.std.specs.declared.cmp.Ordering.TheVariants.{Less, Greater}
 use Rattle.std.specs.FinMap as map
 use Rattle.erl_term.specs.declared.term.Pid.{Pid}
 use Rattle.link_core.specs.declared.end.End.{End}
-use Rattle.link_core.specs.Pids.{pid_cmp}
+use Rattle.erl_term.specs.Order.{pid_cmp}
 
 abbrev pub Records : Type 0
 Records = List (Pid × End)

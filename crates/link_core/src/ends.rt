@@ -20,7 +20,7 @@ pub struct Ends {
 
 impl Model for Ends {
     ghost use Rattle.std.specs.FinMap as map;
-    ghost use Rattle.link_core.specs.Pids.{pid_cmp};
+    ghost use Rattle.erl_term.specs.Order.{pid_cmp};
     ghost use Rattle.link_core.specs.declared.end.End.{End};
     ghost use Rattle.link_core.specs.Records.{AreRecords};
     ghost use Rattle.erl_term.specs.contracts.term.Pid as pid;

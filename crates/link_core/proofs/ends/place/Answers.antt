@@ -1,6 +1,6 @@
 use Rattle.std.proofs.Common.{rules}
 use Rattle.std.proofs.lemmas.Fn.{always_returns_same}
-use Rattle.link_core.specs.Pids.{pid_cmp}
+use Rattle.erl_term.specs.Order.{pid_cmp}
 use Rattle.link_core.proofs.Places.{searched}
 use Rattle.link_core.proofs.ends.place.Goals as goal
 

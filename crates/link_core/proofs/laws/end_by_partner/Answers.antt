@@ -1,7 +1,7 @@
 use Rattle.std.proofs.Common.{ap, unwrap_or}
 use Rattle.std.specs.FinMap as map
 use Rattle.link_core.specs.declared.end.End.TheVariants as End
-use Rattle.link_core.specs.Pids.{pid_cmp}
+use Rattle.erl_term.specs.Order.{pid_cmp}
 use Rattle.link_core.proofs.Maps.{end_of_this, end_of_other}
 use Rattle.link_core.proofs.laws.end_by_partner.Goals as goal
 

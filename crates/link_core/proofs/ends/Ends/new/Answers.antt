@@ -1,6 +1,6 @@
 use Rattle.std.proofs.Common.{ap, ◌∙◌, [], length}
 use Rattle.std.specs.FinMap as map
-use Rattle.link_core.specs.Pids.{pid_cmp}
+use Rattle.erl_term.specs.Order.{pid_cmp}
 use Rattle.link_core.proofs.ends.Ends.new.Goals as goal
 
 pub returns : goal.returns

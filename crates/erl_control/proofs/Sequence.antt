@@ -1,0 +1,133 @@
+-- Readers in a row.
+use Rattle.std.proofs.Common.{◌≡◌, ℕ, ◌^◌, ◌<◌, ◌≤◌, List, [], ◌∷◌, ◌++◌, length, Bool, true, false, ◌-◌, ◌+◌, take, drop, get_or, rules, nat_abs, Option, Some, None, Bor, refl, sym, ap, subst, ◌∙◌, append_assoc, arith}
+use Rattle.std.proofs.lemmas.List.{append-nil, take_all}
+use Rattle.std.specs.Prelude.{ℤ, pos, negsuc, ◌==◌}
+use Rattle.std.proofs.lemmas.Bool.{eqb-true}
+use Rattle.std.proofs.lemmas.Int.{ints}
+use Rattle.std.specs.Int.{w64, FitsUnsigned}
+use Rattle.erl_term.specs.Parts.{ReadsFront, Takes, IsTupleHead, IsIntegerText}
+use Rattle.erl_control.specs.Reading.{IsPair, IsOpening, IsNaturalText, IsIdText, ReadsAll}
+
+both_are : {A B : Type 0} (a : A) (b : B) (x : A × B) → a ≡ x.0 → b ≡ x.1 → (a, b) ≡ x
+both_are a b x p q = ap (λ u. (u, b)) p ∙ ap (λ v. (x.0, v)) q
+
+split_pair : (bytes text front back rest : List ℕ) → text ≡ front ++ back → bytes ≡ text ++ rest → bytes ≡ front ++ (back ++ rest)
+split_pair bytes text front back rest p e = e ∙ ap (λ (w : List ℕ). w ++ rest) p ∙ append_assoc front back rest
+
+pub first_none : {A B : Type 0} (S : A → List ℕ → Type 0) (T : B → List ℕ → Type 0) (bytes : List ℕ) → ReadsFront S bytes None → ReadsFront (IsPair S T) bytes None
+first_none S T bytes r = record { takes = tt; again = λ x text rest s p. r.again x.0 s.front (s.back ++ rest) s.is_front (split_pair bytes text s.front s.back rest s.parts p) }
+
+pub second_none : {A B : Type 0} (S : A → List ℕ → Type 0) (T : B → List ℕ → Type 0) (bytes : List ℕ) (a : A × Bor (List ℕ)) → ReadsFront S bytes (Some a) → ReadsFront T a.1.now None → ReadsFront (IsPair S T) bytes None
+second_none S T bytes a r q = record {
+  takes = tt;
+  again = λ x text rest s p.
+      let k = r.again x.0 s.front (s.back ++ rest) s.is_front (split_pair bytes text s.front s.back rest s.parts p) in
+      q.again x.1 s.back rest s.is_back k.1;
+}
+
+pub both_some : {A B : Type 0} (S : A → List ℕ → Type 0) (T : B → List ℕ → Type 0) (bytes : List ℕ) (a : A × Bor (List ℕ)) (b : B × Bor (List ℕ)) → ReadsFront S bytes (Some a) → ReadsFront T a.1.now (Some b) → ReadsFront (IsPair S T) bytes (Some ((a.0, b.0), b.1))
+both_some S T bytes a b r q = record {
+  takes = record {
+    text = r.takes.text ++ q.takes.text;
+    is_text = record { front = r.takes.text; back = q.takes.text; is_front = r.takes.is_text; is_back = q.takes.is_text; parts = refl };
+    parts = r.takes.parts ∙ ap (λ (w : List ℕ). r.takes.text ++ w) q.takes.parts ∙ sym (append_assoc r.takes.text q.takes.text b.1.now);
+  };
+  again = λ x text rest s p.
+      let k = r.again x.0 s.front (s.back ++ rest) s.is_front (split_pair bytes text s.front s.back rest s.parts p) in
+      let l = q.again x.1 s.back rest s.is_back k.1 in
+      (both_are a.0 b.0 x k.0 l.0, l.1);
+}
+
+-- ---- the version byte and the head
+
+pub front_is : (bytes : List ℕ) (b : ℕ) → 1 ≤ length bytes → get_or bytes 0 0 ≡ b → bytes ≡ b ∷ take (length bytes - 1) (drop 1 bytes)
+front_is [] b le e = absurd (omega arith)
+front_is (x ∷ xs) b le e = let tail : take (length (x ∷ xs) - 1) xs ≡ xs = take_all (length (x ∷ xs) - 1) xs (omega arith) in ap (λ (y : ℕ). y ∷ xs) e ∙ ap (λ (w : List ℕ). b ∷ w) (sym tail)
+
+unversioned : (bytes text head rest more : List ℕ) → text ≡ 131 ∷ head → bytes ≡ text ++ more → bytes ≡ 131 ∷ rest → rest ≡ head ++ more
+unversioned bytes text head rest more t p e = let q : 131 ∷ rest ≡ 131 ∷ (head ++ more) = sym e ∙ p ∙ ap (λ (w : List ℕ). w ++ more) t in cc
+
+pub opening : (bytes rest : List ℕ) (o : Option (ℕ × Bor (List ℕ))) → bytes ≡ 131 ∷ rest → ReadsFront IsTupleHead rest o → ReadsFront IsOpening bytes o
+opening bytes rest None e r = record { takes = tt; again = λ n text more s p. r.again n s.head more s.is_head (unversioned bytes text s.head rest more s.bytes p e) }
+opening bytes rest (Some x) e r = record {
+  takes = record { text = 131 ∷ r.takes.text; is_text = record { head = r.takes.text; is_head = r.takes.is_text; bytes = refl }; parts = e ∙ ap (λ (w : List ℕ). 131 ∷ w) r.takes.parts };
+  again = λ n text more s p. r.again n s.head more s.is_head (unversioned bytes text s.head rest more s.bytes p e);
+}
+
+-- ---- numbers
+
+pub natural_of : (z seen : ℤ) (n : ℕ) → seen ≡ z → FitsUnsigned w64 seen → n ≡ nat_abs seen → (z ≡ pos n) × (n < 2 ^ 64)
+natural_of (pos m) seen n e f a = let g : FitsUnsigned w64 (pos m) = subst (λ (x : ℤ). FitsUnsigned w64 x) e f in let same : n ≡ m = a ∙ ap nat_abs e in (ap pos (sym same), omega (arith, ints, g.1))
+natural_of (negsuc m) seen n e f a = absurd (let g : FitsUnsigned w64 (negsuc m) = subst (λ (x : ℤ). FitsUnsigned w64 x) e f in omega (arith, ints, g.0))
+
+pub no_natural : (z seen : ℤ) → seen ≡ z → (FitsUnsigned w64 seen → ⊥) → (n : ℕ) → n < 2 ^ 64 → z ≡ pos n → ⊥
+no_natural z seen e not n lt q = not (rw (e, q) fits)
+  where
+    fits : FitsUnsigned w64 (pos n)
+    fits = search (rules, ints)
+
+pub no_integer : (bytes : List ℕ) → ReadsFront IsIntegerText bytes None → ReadsFront IsNaturalText bytes None
+no_integer bytes r = record { takes = tt; again = λ n text rest s p. r.again (pos n) text rest s.1 p }
+
+pub natural_none : (bytes : List ℕ) (x : ℤ × Bor (List ℕ)) → ReadsFront IsIntegerText bytes (Some x) → ((n : ℕ) → n < 2 ^ 64 → x.0 ≡ pos n → ⊥) → ReadsFront IsNaturalText bytes None
+natural_none bytes x r never = record { takes = tt; again = λ n text rest s p. let k = r.again (pos n) text rest s.1 p in never n s.0 k.0 }
+
+pub natural_some : (bytes : List ℕ) (x : ℤ × Bor (List ℕ)) (n : ℕ) → ReadsFront IsIntegerText bytes (Some x) → x.0 ≡ pos n → n < 2 ^ 64 → ReadsFront IsNaturalText bytes (Some (n, x.1))
+natural_some bytes x n r e u = record {
+  takes = record { text = r.takes.text; is_text = (u, subst (λ (z : ℤ). IsIntegerText z r.takes.text) e r.takes.is_text); parts = r.takes.parts };
+  again = λ j text rest s p. let k = r.again (pos j) text rest s.1 p in let q : pos n ≡ pos j = sym e ∙ k.0 in (cc, k.1);
+}
+
+pub id_no_natural : (bytes : List ℕ) → ReadsFront IsNaturalText bytes None → ReadsFront IsIdText bytes None
+id_no_natural bytes r = record { takes = tt; again = λ id text rest s p. r.again id text rest (s.0.1, s.1) p }
+
+pub id_zero : (bytes : List ℕ) (x : ℕ × Bor (List ℕ)) → ReadsFront IsNaturalText bytes (Some x) → x.0 ≡ 0 → ReadsFront IsIdText bytes None
+id_zero bytes x r z = record { takes = tt; again = λ id text rest s p. let k = r.again id text rest (s.0.1, s.1) p in let lt = s.0.0 in omega (arith, k.0) }
+
+pub id_some : (bytes : List ℕ) (x : ℕ × Bor (List ℕ)) → ReadsFront IsNaturalText bytes (Some x) → 1 ≤ x.0 → ReadsFront IsIdText bytes (Some x)
+id_some bytes x r lt = record {
+  takes = record { text = r.takes.text; is_text = ((lt, r.takes.is_text.0), r.takes.is_text.1); parts = r.takes.parts };
+  again = λ j text rest s p. r.again j text rest (s.0.1, s.1) p;
+}
+
+-- ---- all of the bytes
+
+pub all_none : {A : Type 0} (S : A → List ℕ → Type 0) (bytes : List ℕ) → ReadsFront S bytes None → ReadsAll S bytes None
+all_none S bytes r = record { some = tt; only = λ x s. absurd (r.again x bytes [] s (sym (append-nil bytes))) }
+
+pub all_left_over : {A : Type 0} (S : A → List ℕ → Type 0) (bytes : List ℕ) (x : A × Bor (List ℕ)) → ReadsFront S bytes (Some x) → 0 < length x.1.now → ReadsAll S bytes None
+all_left_over S bytes x r lt = record { some = tt; only = λ y s. absurd (let k = r.again y bytes [] s (sym (append-nil bytes)) in let l = ap length k.1 in omega arith) }
+
+pub all_some : {A : Type 0} (S : A → List ℕ → Type 0) (bytes : List ℕ) (x : A × Bor (List ℕ)) → ReadsFront S bytes (Some x) → x.1.now ≡ [] → ReadsAll S bytes (Some x.0)
+all_some S bytes x r e = record {
+  some = subst (S x.0) (sym (r.takes.parts ∙ ap (λ (w : List ℕ). r.takes.text ++ w) e ∙ append-nil r.takes.text)) r.takes.is_text;
+  only = λ y s. let k = r.again y bytes [] s (sym (append-nil bytes)) in ap (λ z. Some z) k.0;
+}
+
+
+pub all_first_none : {A B : Type 0} (S : A → List ℕ → Type 0) (T : B → List ℕ → Type 0) (bytes : List ℕ) → ReadsFront S bytes None → ReadsAll (IsPair S T) bytes None
+all_first_none S T bytes r = record { some = tt; only = λ x s. absurd (r.again x.0 s.front s.back s.is_front s.parts) }
+
+pub all_second_none : {A B : Type 0} (S : A → List ℕ → Type 0) (T : B → List ℕ → Type 0) (bytes : List ℕ) (a : A × Bor (List ℕ)) → ReadsFront S bytes (Some a) → ReadsAll T a.1.now None → ReadsAll (IsPair S T) bytes None
+all_second_none S T bytes a r q = record {
+  some = tt;
+  only = λ x s. absurd (let k = r.again x.0 s.front s.back s.is_front s.parts in let e = q.only x.1 (subst (T x.1) (sym k.1) s.is_back) in cc);
+}
+
+pub all_both : {A B : Type 0} (S : A → List ℕ → Type 0) (T : B → List ℕ → Type 0) (bytes : List ℕ) (a : A × Bor (List ℕ)) (b : B) → ReadsFront S bytes (Some a) → ReadsAll T a.1.now (Some b) → ReadsAll (IsPair S T) bytes (Some (a.0, b))
+all_both {B = B} S T bytes a b r q = record {
+  some = record { front = r.takes.text; back = a.1.now; is_front = r.takes.is_text; is_back = q.some; parts = r.takes.parts };
+  only = λ x s.
+      let k = r.again x.0 s.front s.back s.is_front s.parts in
+      let e = q.only x.1 (subst (T x.1) (sym k.1) s.is_back) in
+      let same : b ≡ x.1 = cc in
+      ap (λ z. Some z) (both_are a.0 b x k.0 same);
+}
+
+pub is_empty_nil : (xs : List ℕ) (b : Bool) → b ≡ (length xs == 0) → b ≡ true → xs ≡ []
+is_empty_nil [] b e t = refl
+is_empty_nil (x ∷ xs) b e t = absurd (let k = eqb-true (length (x ∷ xs)) 0 (sym e ∙ t) in omega arith)
+
+pub not_empty : (xs : List ℕ) (b : Bool) → b ≡ (length xs == 0) → b ≡ false → 0 < length xs
+not_empty [] b e f = absurd (let q : true ≡ false = sym e ∙ f in cc)
+not_empty (x ∷ xs) b e f = omega arith

@@ -1,0 +1,8 @@
+use Rattle.erl_term.proofs.Short.{integer_short, pid_short}
+use Rattle.erl_term.proofs.laws.short_parts.Goals as goal
+
+pub returns-clause-integer : goal.returns-clause-integer
+returns-clause-integer c = integer_short
+
+pub returns-clause-pid : goal.returns-clause-pid
+returns-clause-pid c = pid_short

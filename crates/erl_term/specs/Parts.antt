@@ -1,0 +1,44 @@
+-- Parts of a term that are read where they lie, each by itself.
+use Rattle.std.specs.Prelude.{◌≡◌, ℕ, ℤ, ◌⊎◌, List, ◌∷◌, ◌++◌, Ok, Err, Option, IfSome, MatchOption, ◌==◌, if◌then◌else◌}
+use Rattle.std.specs.Borrow.{Bor}
+pub use Rattle.readers.specs.Laws.{Takes}
+use Rattle.erl_term.specs.declared.error.TermError.TheVariants.{Malformed}
+use Rattle.erl_term.specs.declared.term.Pid.{Pid}
+use Rattle.erl_term.specs.Data.{Data, int}
+use Rattle.erl_term.specs.Spelling.{IsNumber, IsSmallInteger, IsInteger, IsSmallBig}
+use Rattle.erl_term.specs.Reading.{Read, ◌>>=◌, any_at, small_at, integer_at, big_at, pid_at}
+
+-- the tag of a tuple, and how many elements it has
+pub record IsHeadBy (tag width n : ℕ) (b : List ℕ) : Type 0 where
+  pub arity : List ℕ
+  pub number : IsNumber width n arity
+  pub bytes : b ≡ tag ∷ arity
+
+abbrev pub IsTupleHead : ℕ → List ℕ → Type 0
+IsTupleHead n b = IsHeadBy 104 1 n b ⊎ IsHeadBy 105 4 n b
+
+-- an integer, by any of its rows
+abbrev pub IsIntegerText : ℤ → List ℕ → Type 0
+IsIntegerText z b = IsSmallInteger z b ⊎ (IsInteger z b ⊎ IsSmallBig z b)
+
+-- What a reader of the texts of S answers: the text at the front and the bytes behind it. It answers none only where no text stands there.
+pub record ReadsFront {A : Type 0} (S : A → List ℕ → Type 0) (bytes : List ℕ) (answer : Option (A × Bor (List ℕ))) : Type 0 where
+  pub takes : IfSome answer (λ x. Takes S bytes x.0 x.1.now)
+  pub again : (a : A) (text rest : List ℕ) → S a text → bytes ≡ text ++ rest → MatchOption answer ⊥ (λ x. (x.0 ≡ a) × (x.1.now ≡ rest))
+
+-- ---- reading them from the left
+
+unfoldable pub head_part_at : List ℕ → Read ℕ
+head_part_at bytes =
+    any_at 1 bytes >>= λ tag.
+    if tag.0 == 104 then any_at 1 tag.1 else (if tag.0 == 105 then any_at 4 tag.1 else Err Malformed)
+
+unfoldable pub integer_part_at : List ℕ → Read Data
+integer_part_at bytes =
+    any_at 1 bytes >>= λ tag.
+    if tag.0 == 97 then small_at tag.1 else (if tag.0 == 98 then integer_at tag.1 else (if tag.0 == 110 then big_at tag.1 else Err Malformed))
+
+unfoldable pub pid_part_at : List ℕ → Read Pid
+pid_part_at bytes =
+    any_at 1 bytes >>= λ tag.
+    if tag.0 == 88 then pid_at tag.1 else Err Malformed
