@@ -62,14 +62,10 @@ impl Ends {
     /// The only refusal is [`Refusal::OutOfMemory`], and only where there was no link. (ERTS
     /// User's Guide, Distribution Protocol, New Link Protocol.)
     pub fn link(&mut self, partner: &Pid) -> Result<Option<LinkSignal>, Refusal>
-        ensures end {
-            let was = end_of self.old partner.now in
-            OnOk result (self.new ≡ with_end self.old partner.now (linked was))
-        }
-        ensures unchanged {
-            let was = end_of self.old partner.now in
-            linked was ≡ was → self.new ≡ self.old
-        }
+        ensures end { let was = end_of self.old partner.now in
+            OnOk result (self.new ≡ with_end self.old partner.now (linked was)) }
+        ensures unchanged { let was = end_of self.old partner.now in
+            linked was ≡ was → self.new ≡ self.old }
         ensures sent { IfOk result (λ sent. sent ≡ link_sent (end_of self.old partner.now)) }
         ensures err { OnErr result (self.new ≡ self.old) }
         ensures only_memory { IsOkUnless result Refusal.OutOfMemory }
@@ -92,14 +88,10 @@ impl Ends {
     /// be sent to the partner, if any. Takes no memory. (ERTS User's Guide, Distribution Protocol,
     /// New Link Protocol.)
     pub fn unlink(&mut self, partner: &Pid, id: u64) -> Option<LinkSignal>
-        ensures end {
-            let was = end_of self.old partner.now in
-            self.new ≡ with_end self.old partner.now (unlinked was id)
-        }
-        ensures unchanged {
-            let was = end_of self.old partner.now in
-            unlinked was id ≡ was → self.new ≡ self.old
-        }
+        ensures end { let was = end_of self.old partner.now in
+            self.new ≡ with_end self.old partner.now (unlinked was id) }
+        ensures unchanged { let was = end_of self.old partner.now in
+            unlinked was id ≡ was → self.new ≡ self.old }
         ensures sent { result ≡ unlink_sent (end_of self.old partner.now) id }
     {
         match self.end(partner) {
@@ -116,14 +108,10 @@ impl Ends {
     /// The only refusal is [`Refusal::OutOfMemory`], and only where there was no link. (ERTS
     /// User's Guide, Distribution Protocol, New Link Protocol.)
     pub fn on_link(&mut self, partner: &Pid) -> Result<(), Refusal>
-        ensures end {
-            let was = end_of self.old partner.now in
-            OnOk result (self.new ≡ with_end self.old partner.now (received was LinkSignal.Link))
-        }
-        ensures unchanged {
-            let was = end_of self.old partner.now in
-            received was LinkSignal.Link ≡ was → self.new ≡ self.old
-        }
+        ensures end { let was = end_of self.old partner.now in
+            OnOk result (self.new ≡ with_end self.old partner.now (received was LinkSignal.Link)) }
+        ensures unchanged { let was = end_of self.old partner.now in
+            received was LinkSignal.Link ≡ was → self.new ≡ self.old }
         ensures err { OnErr result (self.new ≡ self.old) }
         ensures only_memory { IsOkUnless result Refusal.OutOfMemory }
         ensures only_new { OnErr result (end_of self.old partner.now ≡ End.None) }
@@ -138,14 +126,10 @@ impl Ends {
     /// before any other signal. Takes no memory. (ERTS User's Guide, Distribution Protocol, New
     /// Link Protocol.)
     pub fn on_unlink(&mut self, partner: &Pid, id: u64) -> LinkSignal
-        ensures end {
-            let was = end_of self.old partner.now in
-            self.new ≡ with_end self.old partner.now (received was (LinkSignal.Unlink id))
-        }
-        ensures unchanged {
-            let was = end_of self.old partner.now in
-            received was (LinkSignal.Unlink id) ≡ was → self.new ≡ self.old
-        }
+        ensures end { let was = end_of self.old partner.now in
+            self.new ≡ with_end self.old partner.now (received was (LinkSignal.Unlink id)) }
+        ensures unchanged { let was = end_of self.old partner.now in
+            received was (LinkSignal.Unlink id) ≡ was → self.new ≡ self.old }
         ensures answer { Some result ≡ answered (LinkSignal.Unlink id) }
     {
         if self.end(partner) == End::Active {
@@ -157,14 +141,10 @@ impl Ends {
     /// UNLINK_ID_ACK came from a partner, for this id. Takes no memory. (ERTS User's Guide,
     /// Distribution Protocol, New Link Protocol.)
     pub fn on_ack(&mut self, partner: &Pid, id: u64)
-        ensures end {
-            let was = end_of self.old partner.now in
-            self.new ≡ with_end self.old partner.now (received was (LinkSignal.Ack id))
-        }
-        ensures unchanged {
-            let was = end_of self.old partner.now in
-            received was (LinkSignal.Ack id) ≡ was → self.new ≡ self.old
-        }
+        ensures end { let was = end_of self.old partner.now in
+            self.new ≡ with_end self.old partner.now (received was (LinkSignal.Ack id)) }
+        ensures unchanged { let was = end_of self.old partner.now in
+            received was (LinkSignal.Ack id) ≡ was → self.new ≡ self.old }
     {
         if self.end(partner) == End::Pending(id) {
             self.remove(partner);
