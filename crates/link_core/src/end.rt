@@ -8,7 +8,8 @@ pub enum End {
     None,
     /// The process is linked.
     Active,
-    /// The process took its link back under this unlink id, and waits for the acknowledgement.
+    /// The process took its link back under this unlink id, which is from 1 to 2^64 - 1, and waits
+    /// for the acknowledgement.
     Pending(u64),
 }
 

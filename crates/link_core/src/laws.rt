@@ -13,7 +13,8 @@ ghost use Rattle.link_core.specs.Schedules as schedule;
 pub fn end_by_partner()
     ensures none { (partner : Pid) → end_of map.empty partner ≡ End.None }
     ensures this { (ends : EndMap) (partner : Pid) (end : End) → end_of (with_end ends partner end) partner ≡ end }
-    ensures others { (ends : EndMap) (partner : Pid) (end : End) (other : Pid) → other ≢ partner → end_of (with_end ends partner end) other ≡ end_of ends other }
+    ensures others { (ends : EndMap) (partner : Pid) (end : End) (other : Pid) → other ≢ partner →
+        end_of (with_end ends partner end) other ≡ end_of ends other }
 {}
 
 /// Whatever two processes do, and whenever the signals on their way come, the two ends agree once
@@ -23,12 +24,14 @@ pub fn two_processes()
     ensures agreement { (events : List Event) → let w = run events start in Agree w.here w.there }
     ensures pending_here { (events : List Event) → let w = run events start in PendingTravels w.here w.there }
     ensures pending_there { (events : List Event) → let w = run events start in PendingTravels w.there w.here }
-    ensures rest { (events : List Event) → let w = run events start in IsAtRest w → ((w.here.end ≡ End.Active) ↔ (w.there.end ≡ End.Active)) }
+    ensures rest { (events : List Event) → let w = run events start in
+        IsAtRest w → ((w.here.end ≡ End.Active) ↔ (w.there.end ≡ End.Active)) }
 {}
 
 /// A run goes on by one event.
 pub fn run_goes_on()
-    ensures { (events : List Event) (event : Event) (w : Pair) → run (events ++ event ∷ []) w ≡ happens (run events w) event }
+    ensures { (events : List Event) (event : Event) (w : Pair) →
+        run (events ++ event ∷ []) w ≡ happens (run events w) event }
 {}
 
 /// Two processes become linked.
