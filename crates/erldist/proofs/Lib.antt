@@ -1,0 +1,4 @@
+pub mod LineLemmas
+pub mod NodeLemmas
+pub mod KeeperLemmas
+pub mod NameLemmas
