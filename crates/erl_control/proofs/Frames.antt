@@ -269,9 +269,10 @@ due_once one bytes x y h (whole body a b d p) (whole other_body c e f q) =
 
 -- the same as the words of the definition
 front_body : (bytes : List ℕ) (n : ℕ) (len body : List ℕ) → n ≤ length bytes → IsNumber 4 (length body) len → length body ≤ limit → take n bytes ≡ len ++ body → HasBody bytes body × (n ≡ length body + 4)
-front_body bytes n len body le k s e =
-    (record { len = len; rest = drop n bytes; number = k; short = s; parts = sym (take-append-drop n bytes) ∙ ap (λ (w : List ℕ). w ++ drop n bytes) e ∙ append_assoc len body (drop n bytes) },
-     (let l = ap length e in let m = k.len in omega (arith, length-take n bytes, length-append len body)))
+front_body bytes n len body le k s e = (
+  record { len = len; rest = drop n bytes; number = k; short = s; parts = sym (take-append-drop n bytes) ∙ ap (λ (w : List ℕ). w ++ drop n bytes) e ∙ append_assoc len body (drop n bytes) },
+  (let l = ap length e in let m = k.len in omega (arith, length-take n bytes, length-append len body)),
+)
 
 pub due_from : (bytes : List ℕ) (x : Result (Option (Item × ℕ)) FrameError) → IsFrameDue bytes x → Due bytes x
 due_from bytes (Ok None) d = begun d refl
@@ -305,16 +306,18 @@ item_due bytes body Tick b p =
 item_due bytes body (SignalItem s) b p =
     let w = (placed bytes body b).within in
     let l : length body ≡ suc (length p.0) = ap length p.1 in
-    let short = b.short in
-    (omega arith, record {
-      len = b.len;
-      control = p.0;
-      sendable = p.2.0;
-      spelled = p.2.1;
-      number = subst (λ (n : ℕ). IsNumber 4 n b.len) l b.number;
-      short = omega arith;
-      bytes = take_body bytes body b ∙ ap (λ (w : List ℕ). b.len ++ w) p.1;
-    })
+    let short = b.short in (
+      omega arith,
+      record {
+        len = b.len;
+        control = p.0;
+        sendable = p.2.0;
+        spelled = p.2.1;
+        number = subst (λ (n : ℕ). IsNumber 4 n b.len) l b.number;
+        short = omega arith;
+        bytes = take_body bytes body b ∙ ap (λ (w : List ℕ). b.len ++ w) p.1;
+      },
+    )
 
 pub fault_due : (bytes body : List ℕ) (e : FrameError) → HasBody bytes body → IsBodyFault body e → IsFrameDue bytes (Err e)
 fault_due bytes body NotPassThrough b p = (p.0, p.1, subst (HasBody bytes) p.2 b, p.3)
@@ -457,6 +460,7 @@ one_made one i j a b x y f g e =
     let lens : m.len ≡ n.len = sym (take_at m.len (m.body ++ x) 4 m.number.len) ∙ ap (take 4) all ∙ take_at n.len (n.body ++ y) 4 n.number.len in
     let tails : m.body ++ x ≡ n.body ++ y = sym (drop_at m.len (m.body ++ x) 4 m.number.len) ∙ ap (drop 4) all ∙ drop_at n.len (n.body ++ y) 4 n.number.len in
     let sizes : length m.body ≡ length n.body = sym m.number.says ∙ ap (big_number 4) lens ∙ n.number.says in
-    let bodies : m.body ≡ n.body = sym (take_at m.body x (length m.body) refl) ∙ ap (take (length m.body)) tails ∙ take_at n.body y (length m.body) (sym sizes) in
-    (bodies_say one i j n.body (subst (IsBody i) bodies m.carries) n.carries,
-     m.parts ∙ ap (λ (w : List ℕ). w ++ m.body) lens ∙ ap (λ (w : List ℕ). n.len ++ w) bodies ∙ sym n.parts)
+    let bodies : m.body ≡ n.body = sym (take_at m.body x (length m.body) refl) ∙ ap (take (length m.body)) tails ∙ take_at n.body y (length m.body) (sym sizes) in (
+      bodies_say one i j n.body (subst (IsBody i) bodies m.carries) n.carries,
+      m.parts ∙ ap (λ (w : List ℕ). w ++ m.body) lens ∙ ap (λ (w : List ℕ). n.len ++ w) bodies ∙ sym n.parts,
+    )

@@ -104,7 +104,6 @@ all_some S bytes x r e = record {
   only = λ y s. let k = r.again y bytes [] s (sym (append-nil bytes)) in ap (λ z. Some z) k.0;
 }
 
-
 pub all_first_none : {A B : Type 0} (S : A → List ℕ → Type 0) (T : B → List ℕ → Type 0) (bytes : List ℕ) → ReadsFront S bytes None → ReadsAll (IsPair S T) bytes None
 all_first_none S T bytes r = record { some = tt; only = λ x s. absurd (r.again x.0 s.front s.back s.is_front s.parts) }
 

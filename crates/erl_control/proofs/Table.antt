@@ -161,11 +161,15 @@ whole_front b t n e s = subst (IsSpelling 64 t) (take_all n b (omega arith)) s
 
 pub bad_control : (b : List ℕ) (t : Data) (n : ℕ) → IsDue b (Ok (t, n)) → ((signal : Signal) → IsControl signal b → ⊥) → IsBadControl b
 bad_control b t n d none =
-    let within = d.0.within in
-    (t, n, d, elim (cases_lt n (length b)) [
-      | inl lt ↦ inr lt
-      | inr le ↦ inl (λ r. none r.0 (r.1, subst (λ (u : Data). IsSpelling 64 u b) r.2 (whole_front b t n (omega arith) d.0.spelled)))
-    ])
+    let within = d.0.within in (
+      t,
+      n,
+      d,
+      elim (cases_lt n (length b)) [
+        | inl lt ↦ inr lt
+        | inr le ↦ inl (λ r. none r.0 (r.1, subst (λ (u : Data). IsSpelling 64 u b) r.2 (whole_front b t n (omega arith) d.0.spelled)))
+      ],
+    )
 
 pub no_signal : (b : List ℕ) (o : Option Signal) → ReadsWhole IsControl b (Ok o) → o ≡ None → (signal : Signal) → IsControl signal b → ⊥
 no_signal b None r e = r.none

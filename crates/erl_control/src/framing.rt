@@ -10,9 +10,7 @@ ghost use Rattle.erl_control.specs.Canonical.{canonical_frame};
 use crate::error::FrameError;
 use crate::laws::canonical_is_framed;
 use crate::signal::Signal;
-use erl_term::{
-    Pid, integer_len, pid_len, put_integer, put_pid, put_tuple_head, tuple_head_len,
-};
+use erl_term::{Pid, integer_len, pid_len, put_integer, put_pid, put_tuple_head, tuple_head_len};
 use std::alloc::{AllocError, Global};
 
 fn is_sendable(signal: &Signal) -> bool

@@ -9,13 +9,17 @@ use std::test::*;
 const A: [u8; 18] = [
     0x58, 0x77, 3, 0x61, 0x40, 0x68, 0, 0, 0, 1, 0, 0, 0, 0, 0, 0, 0, 1,
 ];
+
 const B: [u8; 18] = [
     0x58, 0x77, 3, 0x62, 0x40, 0x68, 0, 0, 0, 1, 0, 0, 0, 0, 0, 0, 0, 1,
 ];
 
 const LINK: [u8; 10] = [0, 0, 0, 0x2A, 0x70, 0x83, 0x68, 3, 0x61, 1];
+
 const UNLINK_ID_1: [u8; 12] = [0, 0, 0, 0x2C, 0x70, 0x83, 0x68, 4, 0x61, 0x23, 0x61, 1];
+
 const UNLINK_ID_ACK_1: [u8; 12] = [0, 0, 0, 0x2C, 0x70, 0x83, 0x68, 4, 0x61, 0x24, 0x61, 1];
+
 const UNLINK_ID_LAST: [u8; 21] = [
     0, 0, 0, 0x35, 0x70, 0x83, 0x68, 4, 0x61, 0x23, 0x6E, 8, 0, 255, 255, 255, 255, 255, 255, 255,
     255,
@@ -62,13 +66,23 @@ fn signals_travel(rt: HostRuntime) -> Result<(), Fail> {
         from: pid(&rt, rt.alloc(), &A)?,
         to: pid(&rt, rt.alloc(), &B)?,
     };
-    travels(&rt, rt.alloc(), link, &joined(rt.alloc(), &[&LINK, &A, &B])?)?;
+    travels(
+        &rt,
+        rt.alloc(),
+        link,
+        &joined(rt.alloc(), &[&LINK, &A, &B])?,
+    )?;
     let unlink = Signal::UnlinkId {
         id: 1,
         from: pid(&rt, rt.alloc(), &A)?,
         to: pid(&rt, rt.alloc(), &B)?,
     };
-    travels(&rt, rt.alloc(), unlink, &joined(rt.alloc(), &[&UNLINK_ID_1, &A, &B])?)?;
+    travels(
+        &rt,
+        rt.alloc(),
+        unlink,
+        &joined(rt.alloc(), &[&UNLINK_ID_1, &A, &B])?,
+    )?;
     let acknowledged = Signal::UnlinkIdAck {
         id: 1,
         from: pid(&rt, rt.alloc(), &B)?,
@@ -81,7 +95,12 @@ fn signals_travel(rt: HostRuntime) -> Result<(), Fail> {
         from: pid(&rt, rt.alloc(), &A)?,
         to: pid(&rt, rt.alloc(), &B)?,
     };
-    travels(&rt, rt.alloc(), last, &joined(rt.alloc(), &[&UNLINK_ID_LAST, &A, &B])?)
+    travels(
+        &rt,
+        rt.alloc(),
+        last,
+        &joined(rt.alloc(), &[&UNLINK_ID_LAST, &A, &B])?,
+    )
 }
 
 #[test]
@@ -91,7 +110,10 @@ fn ids_have_a_range(rt: HostRuntime) -> Result<(), Fail> {
         from: pid(&rt, rt.alloc(), &A)?,
         to: pid(&rt, rt.alloc(), &B)?,
     };
-    assert_eq!(rt; frame(rt.alloc(), &zero).err(), Some(FrameError::BadControl));
+    assert_eq!(rt;
+        frame(rt.alloc(), &zero).err(),
+        Some(FrameError::BadControl)
+    );
     let zero = framed(rt.alloc(), &[&[0x68, 4, 0x61, 0x23, 0x61, 0], &A, &B])?;
     assert_eq!(rt; refusal(rt.alloc(), &zero), Some(FrameError::BadControl));
     let above = [0x68, 4, 0x61, 0x23, 0x6E, 9, 0, 0, 0, 0, 0, 0, 0, 0, 0, 1];
@@ -172,9 +194,18 @@ fn frames_have_their_refusals(rt: HostRuntime) -> Result<(), Fail> {
         (&[0, 1, 0, 1], FrameError::TooLong),
         (&[0, 0, 0, 2, 0x83, 0x61], FrameError::NotPassThrough),
         (&[0, 0, 0, 1, 0x70], FrameError::Term(TermError::Cut)),
-        (&[0, 0, 0, 4, 0x70, 0x83, 0x68, 3], FrameError::Term(TermError::Cut)),
-        (&[0, 0, 0, 2, 0x70, 0x82], FrameError::Term(TermError::Malformed)),
-        (&[0, 0, 0, 3, 0x70, 0x83, 0x46], FrameError::Term(TermError::OutOfProfile(70))),
+        (
+            &[0, 0, 0, 4, 0x70, 0x83, 0x68, 3],
+            FrameError::Term(TermError::Cut),
+        ),
+        (
+            &[0, 0, 0, 2, 0x70, 0x82],
+            FrameError::Term(TermError::Malformed),
+        ),
+        (
+            &[0, 0, 0, 3, 0x70, 0x83, 0x46],
+            FrameError::Term(TermError::OutOfProfile(70)),
+        ),
     ];
     for (bytes, error) in refused {
         assert_eq!(rt; refusal(rt.alloc(), bytes), Some(error));
@@ -223,7 +254,10 @@ fn want_of_memory_is_an_answer(rt: HostRuntime) -> Result<(), Fail> {
             },
             other => assert_eq!(rt; other.err(), Some(FrameError::OutOfMemory)),
         }
-        assert_eq!(rt; refusal(rt.alloc(), &left_over), Some(FrameError::BadControl));
+        assert_eq!(rt;
+            refusal(rt.alloc(), &left_over),
+            Some(FrameError::BadControl)
+        );
     }
     Ok(())
 }
