@@ -1,5 +1,5 @@
 -- What is due to bytes, body by body.
-use Rattle.std.proofs.Common.{◌≡◌, ◌≢◌, ℕ, zero, suc, ◌+◌, ◌-◌, ◌*◌, ◌^◌, ◌<◌, ◌≤◌, List, [], ◌∷◌, ◌++◌, length, take, drop, Option, Some, None, Result, Ok, Err, refl, sym, ap, subst, ◌∙◌, append_assoc, arith, ◌⊎◌, inl, inr}
+use Rattle.std.proofs.Common.{◌≡◌, ◌≢◌, ℕ, zero, suc, ◌+◌, ◌<◌, ◌≤◌, List, [], ◌∷◌, ◌++◌, length, take, drop, Option, Some, None, Result, Ok, Err, refl, sym, ap, subst, ◌∙◌, append_assoc, arith, ◌⊎◌, inl, inr}
 use Rattle.std.proofs.lemmas.Bool.{cases_lt}
 use Rattle.std.proofs.lemmas.List.{take_at, drop_at, take_all, take-append-drop, length-append, length-take, length-drop, append-nil}
 use Rattle.byteorder.specs.Endian.{big_number}
@@ -18,8 +18,8 @@ use Rattle.erl_control.specs.declared.signal.Item.{Item}
 use Rattle.erl_control.specs.declared.signal.Item.TheVariants.{Tick, Signal as SignalItem}
 use Rattle.erl_control.specs.declared.error.FrameError.{FrameError}
 use Rattle.erl_control.specs.declared.error.FrameError.TheVariants.{NotPassThrough, BadControl, TooLong, Term, OutOfMemory}
-use Rattle.erl_control.specs.Control.{control_term, IsSendable}
-use Rattle.erl_control.specs.Frame.{limit, IsSignalFrame, IsFramed}
+use Rattle.erl_control.specs.Control.{control_term}
+use Rattle.erl_control.specs.Frame.{limit, IsFramed}
 use Rattle.erl_control.specs.Answer.{HasBody, IsBegun, IsLong, IsRow, IsBadControl, IsFrameDue}
 use Rattle.erl_control.proofs.Rows.{same_or_not, is_row}
 use Rattle.erl_control.specs.Reading.{IsControl, IsControlFault, IsBody, IsBodyFault}

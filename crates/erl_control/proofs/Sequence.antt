@@ -1,11 +1,11 @@
 -- Readers in a row.
-use Rattle.std.proofs.Common.{◌≡◌, ℕ, ◌^◌, ◌<◌, ◌≤◌, List, [], ◌∷◌, ◌++◌, length, Bool, true, false, ◌-◌, ◌+◌, take, drop, get_or, rules, nat_abs, Option, Some, None, Bor, refl, sym, ap, subst, ◌∙◌, append_assoc, arith}
+use Rattle.std.proofs.Common.{◌≡◌, ℕ, ◌^◌, ◌<◌, ◌≤◌, List, [], ◌∷◌, ◌++◌, length, Bool, true, false, ◌-◌, take, drop, get_or, rules, nat_abs, Option, Some, None, Bor, refl, sym, ap, subst, ◌∙◌, append_assoc, arith}
 use Rattle.std.proofs.lemmas.List.{append-nil, take_all}
 use Rattle.std.specs.Prelude.{ℤ, pos, negsuc, ◌==◌}
 use Rattle.std.proofs.lemmas.Bool.{eqb-true}
 use Rattle.std.proofs.lemmas.Int.{ints}
 use Rattle.std.specs.Int.{w64, FitsUnsigned}
-use Rattle.erl_term.specs.Parts.{ReadsFront, Takes, IsTupleHead, IsIntegerText}
+use Rattle.erl_term.specs.Parts.{ReadsFront, IsTupleHead, IsIntegerText}
 use Rattle.erl_control.specs.Reading.{IsPair, IsOpening, IsNaturalText, IsIdText, ReadsAll}
 
 both_are : {A B : Type 0} (a : A) (b : B) (x : A × B) → a ≡ x.0 → b ≡ x.1 → (a, b) ≡ x

@@ -1,19 +1,19 @@
 -- The control term of a signal, part by part.
-use Rattle.std.proofs.Common.{◌≡◌, ℕ, suc, ◌^◌, ◌<◌, ◌≤◌, List, [], ◌∷◌, ◌++◌, length, take, Option, Some, None, Result, Ok, Err, Bor, refl, sym, ap, subst, ◌∙◌, append_assoc, arith, ◌⊎◌, inl, inr}
+use Rattle.std.proofs.Common.{◌≡◌, ℕ, suc, ◌^◌, ◌<◌, List, [], ◌∷◌, ◌++◌, length, take, Option, Some, None, Result, Ok, Err, Bor, refl, sym, ap, subst, ◌∙◌, append_assoc, arith, inl, inr}
 use Rattle.std.proofs.lemmas.Bool.{cases_lt}
 use Rattle.std.proofs.lemmas.List.{append-nil, take_all}
 use Rattle.std.specs.Prelude.{pos}
 use Rattle.std.specs.declared.alloc.AllocError.{AllocError}
 use Rattle.erl_term.specs.declared.term.Pid.{Pid}
 use Rattle.erl_term.specs.Data.{Data, int, tuple, pid, Items, no_items, item, count}
-use Rattle.erl_term.specs.Spelling.{IsPid, IsTuple, SpellAll, Spells, IsSpelling}
-use Rattle.erl_term.specs.Parts.{ReadsFront, IsHeadBy, IsTupleHead, IsIntegerText}
+use Rattle.erl_term.specs.Spelling.{IsPid, SpellAll, Spells, IsSpelling}
+use Rattle.erl_term.specs.Parts.{ReadsFront, IsTupleHead, IsIntegerText}
 use Rattle.erl_control.specs.declared.signal.Signal.{Signal}
 use Rattle.erl_control.specs.declared.signal.Signal.TheVariants.{Link, UnlinkId, UnlinkIdAck}
-use Rattle.erl_control.specs.Control.{control_term, IsUnlinkId, IsSendable}
+use Rattle.erl_control.specs.Control.{IsUnlinkId}
 use Rattle.erl_term.specs.Answer.{IsDue}
 use Rattle.erl_control.specs.Answer.{IsBadControl}
-use Rattle.erl_control.specs.Reading.{IsPair, IsOpening, IsNaturalText, IsRowHead, IsIdText, ArePids, AreIdAndPids, tag_of, arity_of, AreFields, HasFields, IsControl, ReadsWhole, ReadsRow}
+use Rattle.erl_control.specs.Reading.{IsRowHead, ArePids, AreIdAndPids, tag_of, arity_of, AreFields, HasFields, IsControl, ReadsWhole, ReadsRow}
 
 -- ---- tuples
 

@@ -1,6 +1,6 @@
 -- The control term of each signal.
 -- (ERTS User's Guide, Distribution Protocol, Protocol between Connected Nodes; New Link Protocol.)
-use Rattle.std.specs.Prelude.{◌≡◌, ℕ, ◌≤◌, ◌<◌, ◌^◌, pos, List, [], ◌∷◌}
+use Rattle.std.specs.Prelude.{ℕ, ◌≤◌, ◌<◌, ◌^◌, pos, List, [], ◌∷◌}
 use Rattle.erl_term.specs.Data.{Data, int, tuple, pid}
 use Rattle.erl_term.specs.View.{items_of}
 use Rattle.erl_control.specs.declared.signal.Signal.{Signal}

@@ -1,4 +1,11 @@
-//! Link signals between processes as frames between nodes.
+//! Link signals as frames between nodes.
+//!
+//! A [`Signal`] goes from one process to another. [`frame`] writes the bytes in which it travels
+//! between two nodes, and [`unframe`] reads the item at the front of such bytes: a signal, or a
+//! tick. A [`FrameError`] says why bytes are no frame.
+//!
+//! (ERTS User's Guide, Distribution Protocol, Protocol between Connected Nodes and New Link
+//! Protocol.)
 #![tactic(auto)]
 
 mod control;
@@ -13,3 +20,6 @@ pub use framing::frame;
 pub use laws::{canonical_is_framed, one_answer, one_frame, read_again};
 pub use signal::{Item, Signal};
 pub use unframing::{FRAME_LIMIT, unframe};
+
+#[cfg(test)]
+mod tests;

@@ -1,6 +1,4 @@
 use Rattle.erl_term.specs.Spelling.{IsPid}
-use Rattle.erl_term.specs.Parts.{IsIntegerText}
-use Rattle.erl_control.specs.Reading.{IsOpening, IsIdText, ArePids}
 use Rattle.erl_control.proofs.Sequence.{first_none, second_none, both_some}
 use Rattle.erl_control.proofs.control.pids_at.Goals as goal
 

@@ -1,5 +1,4 @@
-use Rattle.erl_term.specs.Spelling.{IsPid}
-use Rattle.erl_control.specs.Reading.{IsOpening, IsNaturalText, IsIdText, ArePids}
+use Rattle.erl_control.specs.Reading.{IsOpening, IsNaturalText}
 use Rattle.erl_control.proofs.Sequence.{first_none, second_none, both_some}
 use Rattle.erl_control.proofs.control.row_head_at.Goals as goal
 
