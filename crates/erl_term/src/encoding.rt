@@ -97,7 +97,8 @@ fn put_big(out: &mut Vec<u8>, sign: u8, n: u128) -> Result<(), AllocError>
 {
     let (bytes, len) = digits_of(n);
     out.reserve(len + 3)?;
-    out.extend_from_slice(&[tag::SMALL_BIG, len as u8, sign]).unwrap();
+    out.extend_from_slice(&[tag::SMALL_BIG, len as u8, sign])
+        .unwrap();
     out.extend_from_slice(&bytes[..len]).unwrap();
     Ok(())
 }
@@ -124,7 +125,8 @@ fn write_atom(out: &mut Vec<u8>, atom: &Atom)
         out.push(text.len() as u8).unwrap();
     } else {
         out.push(tag::ATOM_UTF8).unwrap();
-        out.extend_from_slice(&(text.len() as u16).to_be_bytes()).unwrap();
+        out.extend_from_slice(&(text.len() as u16).to_be_bytes())
+            .unwrap();
     }
     out.extend_from_slice(text.as_bytes()).unwrap();
 }
@@ -143,7 +145,8 @@ pub fn put_tuple_head(out: &mut Vec<u8>, count: usize) -> Result<(), AllocError>
     }
     out.reserve(5)?;
     out.push(tag::LARGE_TUPLE).unwrap();
-    out.extend_from_slice(&(count as u32).to_be_bytes()).unwrap();
+    out.extend_from_slice(&(count as u32).to_be_bytes())
+        .unwrap();
     Ok(())
 }
 
