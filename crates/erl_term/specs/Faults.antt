@@ -1,5 +1,5 @@
 -- Where bytes stop being the beginning of a spelling, and why.
-use Rattle.std.specs.Prelude.{◌≡◌, ℕ, zero, suc, ◌+◌, ◌<◌, ◌≤◌, ◌^◌, ◌⊎◌, List, [], ◌∷◌, ◌++◌, length, take}
+use Rattle.std.specs.Prelude.{◌≡◌, ℕ, zero, suc, ◌+◌, ◌<◌, ◌≤◌, ◌^◌, ◌⊎◌, List, [], ◌∷◌, ◌++◌, length}
 use Rattle.readers.specs.Places.{Begins, IsFirstFault, IsInside as IsInsideOf, IsAtFront as IsAtFrontOf}
 use Rattle.erl_term.specs.declared.error.TermError.{TermError}
 use Rattle.erl_term.specs.declared.error.TermError.TheVariants.{Cut, Malformed, OutOfProfile, TooDeep, TooLong, OutOfMemory}
