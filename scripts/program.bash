@@ -1,0 +1,48 @@
+# The proved program and where it is kept: out/SUM/erldist, where SUM is a checksum of all that the
+# program is built from. `./erldist` and `./verify` read this file, with `top` set to the folder of
+# the repository.
+
+# The crates of this repository that the program stands on, itself first.
+crates_of_program() {
+    local -A libraries=() seen=()
+    local head words name todo=(erldist)
+    while IFS=: read -r head words; do
+        name=${head%%[[:space:]]*}
+        [ -z "$name" ] || libraries[$name]=$words
+    done < <(sed 's/#.*//' "$top/crates.txt")
+    while [ ${#todo[@]} -gt 0 ]; do
+        name=${todo[0]}
+        todo=("${todo[@]:1}")
+        [ -z "${seen[$name]:-}" ] && [ -d "$top/crates/$name" ] || continue
+        seen[$name]=1
+        echo "$name"
+        read -ra words <<< "${libraries[$name]:-}"
+        todo+=("${words[@]}")
+    done
+}
+
+# The checksum of crates.txt and of the sources, definitions and proofs of those crates.
+sum_of_sources() {
+    (
+        cd "$top" || exit 1
+        folders=()
+        for name in $(crates_of_program); do
+            for part in src specs proofs; do
+                [ ! -d "crates/$name/$part" ] || folders+=("crates/$name/$part")
+            done
+        done
+        {
+            printf 'crates.txt\0'
+            find "${folders[@]}" -type f \( -name '*.rt' -o -name '*.antt' \) -print0 | LC_ALL=C sort -z
+        } | xargs -0 sha256sum | sha256sum | cut -c1-16
+    )
+}
+
+# Keeps the program of a file as the one that was built from the sources of this checksum.
+keep_program() {
+    local file=$1 sum=$2
+    mkdir -p "$top/out/$sum" &&
+        cp "$file" "$top/out/$sum/erldist.$$" &&
+        chmod 755 "$top/out/$sum/erldist.$$" &&
+        mv -f "$top/out/$sum/erldist.$$" "$top/out/$sum/erldist"
+}
