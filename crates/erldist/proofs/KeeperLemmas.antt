@@ -1,18 +1,17 @@
 -- What a list of frames says of the signals that it stands for.
-use Rattle.std.proofs.Common.{◌≡◌, ◌⊎◌, ℕ, List, [], ◌∷◌, Result, Ok, Err, MatchResult, drop, refl, sym, ap, subst, ◌∙◌}
+use Rattle.std.proofs.Common.{◌≡◌, ◌⊎◌, ℕ, List, [], ◌∷◌, Result, Ok, Err, MatchResult, refl, sym, ap, subst}
 use Rattle.link_core.specs.declared.end.LinkSignal.{LinkSignal}
 use Rattle.erl_term.specs.declared.refusal.Refusal.{Refusal}
 use Rattle.erl_term.specs.declared.refusal.Refusal.TheVariants.{OutOfMemory, NothingThere}
-use Rattle.link_core.specs.Pair.{Side, Pair, Takes, happens, first_comes, swap}
+use Rattle.link_core.specs.Pair.{Pair, Takes, happens, first_comes, swap}
 use Rattle.erldist.specs.declared.node.Node.{Node}
 use Rattle.erldist.specs.declared.node.Node.TheVariants.{A, B}
-use Rattle.erldist.specs.declared.site.Site.{Site}
 use Rattle.erldist.specs.Nodes.{peer}
 use Rattle.erldist.specs.Wire.{frame_bytes, frames, IsSent}
 use Rattle.std.specs.List.{AllByRecursion}
 use Rattle.erldist.specs.declared.keeper.Keeper.{Keeper}
 use Rattle.erldist.specs.Session.{side_of, at_node}
-use Rattle.erldist.specs.Keeper.{Stands, StandFor, Takes as SiteTakes}
+use Rattle.erldist.specs.Keeper.{StandFor, Takes as SiteTakes}
 
 pub peer-peer : (node : Node) → peer (peer node) ≡ node
 peer-peer A = refl

@@ -1,12 +1,11 @@
 -- What the tests of a line come to.
-use Rattle.std.proofs.Common.{◌≡◌, ◌≤◌, ℕ, Bool, true, false, List, [], ◌∷◌, length, map, Result, Ok, Err, Option, refl, sym, ap, ◌∙◌, arith, rules, nat_lt, get_or, take, drop, take_all, ◌-◌, ◌&&◌, MatchResult, subst, Bor}
+use Rattle.std.proofs.Common.{◌≡◌, ◌≤◌, ℕ, Bool, true, false, List, [], ◌∷◌, length, map, Result, Ok, Err, Option, refl, sym, ap, ◌∙◌, arith, nat_lt, get_or, take, drop, take_all, ◌-◌, ◌&&◌, MatchResult, subst, Bor}
 use Rattle.std.proofs.lemmas.Bool.{le-ltb}
 use Rattle.std.proofs.lemmas.Str.{IsUtf8-from_is_utf8, is_utf8-from_IsUtf8}
 use Rattle.std.specs.Str.{IsUtf8, is_utf8}
 use Rattle.erldist.specs.declared.command.Command.{Command}
 use Rattle.erldist.specs.declared.command.Reason.{Reason}
 use Rattle.erldist.specs.declared.command.Reason.TheVariants.{NotText}
-use Rattle.std.specs.Char.{is_ascii_lowercase}
 use Rattle.std.specs.List.{list_all}
 use Rattle.std.specs.Prelude.{IsErrAnd}
 use Rattle.std.proofs.lemmas.Result.{err_from_is_err_and}

@@ -1,5 +1,5 @@
 -- The names that a pair binds.
-use Rattle.std.proofs.Common.{◌≡◌, ℕ, Bool, true, false, cond, List, [], ◌∷◌, Option, Some, None, String, bytes_eq, codes, get_or, eqb, refl, sym, subst, ◌∙◌}
+use Rattle.std.proofs.Common.{◌≡◌, ℕ, Bool, true, false, cond, List, Option, Some, None, String, bytes_eq, codes, get_or, eqb, refl, sym, subst, ◌∙◌}
 use Rattle.std.specs.Prelude.{T}
 use Rattle.std.specs.Cmp.Lexicographic.{same_text}
 use Rattle.std.specs.HashMap.{HashMap, get_by_text}

@@ -1,8 +1,7 @@
 -- The names of the two nodes are texts of atoms, and the signals between the processes can be written.
-use Rattle.std.proofs.Common.{◌≡◌, ◌≤◌, ◌<◌, ◌^◌, ℕ, List, [], ◌++◌, Ok, Some, length, lit≤, refl, sym, ap, subst, ◌∙◌, rules, arith}
-use Rattle.std.proofs.lemmas.List.{append-nil}
+use Rattle.std.proofs.Common.{◌≤◌, length, lit≤, rules, arith}
 use Rattle.std.proofs.lemmas.Str.{IsUtf8-from_ascii, chars-IsAscii}
-use Rattle.std.specs.Str.{IsAscii, chars}
+use Rattle.std.specs.Str.{IsAscii}
 use Rattle.erl_term.specs.Text.{IsAtomText}
 use Rattle.erl_term.specs.Canonical.{IsInRange, IsPidInRange}
 use Rattle.link_core.specs.declared.end.LinkSignal.{LinkSignal}

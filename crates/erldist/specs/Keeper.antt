@@ -1,8 +1,8 @@
 -- What the two nodes of the program stand for: the sides of the abstract pair, each list of frames read as signals.
-use Rattle.std.specs.Prelude.{◌≡◌, ◌⊎◌, ◌<◌, ◌^◌, ◌+◌, ℕ, List, [], ◌∷◌, Option, Result, MatchResult, Ok, Err}
+use Rattle.std.specs.Prelude.{◌≡◌, ◌⊎◌, ◌<◌, ◌^◌, ◌+◌, ℕ, List, [], ◌∷◌, Result, MatchResult}
 use Rattle.std.specs.List.{AllByRecursion}
 use Rattle.erl_term.specs.declared.refusal.Refusal.{Refusal}
-use Rattle.erl_term.specs.declared.refusal.Refusal.TheVariants.{OutOfMemory, IdsUsedUp, NothingThere}
+use Rattle.erl_term.specs.declared.refusal.Refusal.TheVariants.{OutOfMemory, NothingThere}
 use Rattle.link_core.specs.declared.end.End.TheVariants as End
 use Rattle.link_core.specs.declared.end.LinkSignal.{LinkSignal}
 use Rattle.link_core.specs.Ends.{end_of}

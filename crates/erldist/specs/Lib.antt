@@ -6,3 +6,4 @@ pub mod Session
 pub mod Script
 pub mod Keeper
 pub mod Sessions
+pub mod Outcomes

@@ -5,7 +5,6 @@ use Rattle.hex.specs.Hex.{encode_upper}
 use Rattle.erl_term.specs.declared.refusal.Refusal.{Refusal}
 use Rattle.erl_term.specs.ErrorNumbers.{refusal_number, refusal_name}
 use Rattle.link_core.specs.declared.end.End.{End}
-use Rattle.link_core.specs.declared.end.End.TheVariants as End
 use Rattle.link_core.specs.declared.end.LinkSignal.{LinkSignal}
 use Rattle.link_core.specs.declared.end.LinkSignal.TheVariants.{Link, Unlink, Ack}
 use Rattle.erldist.specs.declared.node.Node.{Node}

@@ -1,5 +1,5 @@
 -- The frames that carry the link signals between the two processes.
-use Rattle.std.specs.Prelude.{ℕ, List, [], ◌∷◌, map}
+use Rattle.std.specs.Prelude.{ℕ, List, map}
 use Rattle.link_core.specs.declared.end.LinkSignal.{LinkSignal}
 use Rattle.link_core.specs.declared.end.LinkSignal.TheVariants as signal
 use Rattle.erl_control.specs.declared.signal.Signal.{Signal}

@@ -1,15 +1,65 @@
-//! `erldist`
+//! `erldist`: Erlang nodes in one process, driven by a script.
+//!
+//! The script comes on standard input, a command a line; what it does goes to standard output.
+//! [`read_options`] reads the command line and [`run_script`] runs the script, over any reader and
+//! writer. In this version a script begins with `pair`, which makes two nodes `a@h` and `b@h`, a
+//! process `p` on the one and `q` on the other, and a trunk between them.
 #![tactic(auto)]
 
 mod command;
 mod frames;
 mod keeper;
+mod laws;
 mod line;
 mod node;
 mod options;
 mod replies;
+mod script;
 mod session;
 mod site;
 mod text;
 
-fn main() {}
+pub use laws::{every_script, framed_signals};
+pub use options::{Options, read_options};
+pub use script::{Outcome, run_script};
+use std::alloc::Global;
+use std::io::{self, BufWriter};
+use std::process::ExitCode;
+
+/// The exit status for a bad command line.
+const BAD_COMMAND_LINE: u8 = 2;
+
+/// Runs the script on standard input, and answers the exit status.
+fn run<R: Input + Print + Eprint>(rt: &R, alloc: Global, options: &Options) -> u8 {
+    let Ok(mut writer) = BufWriter::new(alloc, io::writer(rt)) else {
+        return Outcome::OutOfMemory.status();
+    };
+    let outcome = run_script(alloc, &mut rt.reader(), &mut writer, options);
+    if let Outcome::BadLine(line, reason) = outcome {
+        let _ = eprintln!(rt; "line {line}: {reason}");
+    }
+    outcome.status()
+}
+
+fn main(rt: HostRuntime) -> ExitCode {
+    let alloc = rt.alloc();
+    let Ok(words) = std::env::args(&rt) else {
+        let _ = eprintln!(rt; "erldist: the command line can't be read");
+        return ExitCode::from(BAD_COMMAND_LINE);
+    };
+    let words: Vec<String> = match words.collect(alloc) {
+        Ok(words) => words,
+        Err(_) => return ExitCode::from(Outcome::OutOfMemory.status()),
+    };
+    match read_options(alloc, words.as_slice()) {
+        Ok(options) if options.threads => {
+            let _ = eprintln!(rt; "erldist: --threads: this version has no node threads yet");
+            ExitCode::from(BAD_COMMAND_LINE)
+        }
+        Ok(options) => ExitCode::from(run(&rt, alloc, &options)),
+        Err(fault) => {
+            let _ = fault.print(&rt);
+            ExitCode::from(fault.exit_code() as u8)
+        }
+    }
+}

@@ -1,7 +1,6 @@
-use Rattle.std.proofs.Common.{◌≡◌, rules, tests, ap, sym, ◌∙◌}
+use Rattle.std.proofs.Common.{rules, tests, ap, sym, ◌∙◌}
 use Rattle.std.proofs.lemmas.Iterator.{YieldsList-from_slice}
 use Rattle.std.proofs.lemmas.Iterator.Search.{all_from_yields_List}
-use Rattle.std.specs.List.{list_all}
 use Rattle.erldist.specs.Lines.{is_name, is_name_byte}
 use Rattle.erldist.proofs.LineLemmas.{name_of_parts}
 use Rattle.erldist.proofs.line.is_name.Goals as goal

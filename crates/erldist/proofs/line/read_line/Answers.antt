@@ -1,4 +1,4 @@
-use Rattle.std.proofs.Common.{◌≡◌, rules, ap, sym, ◌∙◌}
+use Rattle.std.proofs.Common.{◌≡◌, rules}
 use Rattle.std.specs.Str.{IsUtf8}
 use Rattle.erldist.specs.Lines.{line_says}
 use Rattle.erldist.proofs.LineLemmas.{says_no_text, says_words, says_mapped, words_said}

@@ -1,4 +1,4 @@
-use Rattle.std.proofs.Common.{◌≡◌, ℕ, List, [], ◌++◌, Result, Ok, Some, length, sym, subst, ◌∙◌}
+use Rattle.std.proofs.Common.{ℕ, List, [], Ok, Some, length, sym, subst, ◌∙◌}
 use Rattle.std.proofs.lemmas.List.{append-nil}
 use Rattle.erl_control.specs.declared.signal.Item.TheVariants.{Signal}
 use Rattle.erl_control.specs.Canonical.{canonical_frame}

@@ -1,10 +1,7 @@
-use Rattle.std.proofs.Common.{◌≡◌, ℕ, List, drop, inl, inr, refl, sym, ap, ◌∙◌}
+use Rattle.std.proofs.Common.{◌≡◌, drop, inl, inr, refl, sym, ap, ◌∙◌}
 use Rattle.std.proofs.lemmas.Result.{err_from_is_err_and, MatchResult-at_ok, MatchResult-at_err}
-use Rattle.link_core.specs.Pair.{Side, takes}
-use Rattle.erldist.specs.declared.node.Node.{Node}
 use Rattle.erldist.specs.Nodes.{process_of, peer}
-use Rattle.erldist.specs.Keeper.{Stands, Takes}
-use Rattle.erldist.proofs.KeeperLemmas.{peer-peer, FirstFrame, first_frame, no_frames}
+use Rattle.erldist.proofs.KeeperLemmas.{peer-peer, first_frame, no_frames}
 use Rattle.erldist.proofs.site.Site.take.Goals as goal
 
 pub returns-in_default : goal.returns-in_default
