@@ -1,8 +1,9 @@
 //! Terms as bytes: small control terms, and one of about a megabyte.
 
+use crate::pids::pid;
 use crate::rate::Rate;
-use anyhow::{Result, ensure};
-use erl_term::{Atom, Pid, Term, decode, encode};
+use anyhow::Result;
+use erl_term::{Term, decode, encode};
 use std::alloc::Global;
 use std::hint::black_box;
 use std::time::Instant;
@@ -52,24 +53,12 @@ fn measure_term(rt: &HostRuntime, name: &str, term: &Term, rounds: u64) -> Resul
     decoding.print(rt)
 }
 
-fn pid(alloc: Global, node: &str, id: u32) -> Result<Term> {
-    let node = String::from_str(alloc, node)?;
-    ensure!(Atom::fits(node.as_str()), "{node} is too long");
-    let node = Atom::new(node);
-    Ok(Term::Pid(Pid {
-        node,
-        creation: 1,
-        id,
-        serial: 0,
-    }))
-}
-
 /// The control term of LINK: {1, From, To}.
 fn link(alloc: Global) -> Result<Term> {
     let mut items = Vec::with_capacity(alloc, 3)?;
     items.push(Term::Int(1))?;
-    items.push(pid(alloc, "a@h", 1)?)?;
-    items.push(pid(alloc, "b@h", 1)?)?;
+    items.push(Term::Pid(pid(alloc, "a@h", 1)?))?;
+    items.push(Term::Pid(pid(alloc, "b@h", 1)?))?;
     Ok(Term::Tuple(items))
 }
 
@@ -78,8 +67,8 @@ fn unlink(alloc: Global) -> Result<Term> {
     let mut items = Vec::with_capacity(alloc, 4)?;
     items.push(Term::Int(35))?;
     items.push(Term::Int(1))?;
-    items.push(pid(alloc, "a@h", 1)?)?;
-    items.push(pid(alloc, "b@h", 1)?)?;
+    items.push(Term::Pid(pid(alloc, "a@h", 1)?))?;
+    items.push(Term::Pid(pid(alloc, "b@h", 1)?))?;
     Ok(Term::Tuple(items))
 }
 

@@ -33,7 +33,9 @@ pub use atom::Atom;
 pub use decoding::{LIMIT, decode, term_len};
 pub use encoding::{encode, put_integer, put_pid, put_tuple_head};
 pub use error::TermError;
-pub use laws::{canonical_is_spelling, one_answer, one_spelling, read_again, short_parts};
+pub use laws::{
+    canonical_is_spelling, one_answer, one_spelling, order_of_pids, read_again, short_parts,
+};
 pub use measuring::{integer_len, pid_len, tuple_head_len};
 pub use parts::{PidRef, integer_at, pid_at, tuple_head_at};
 pub use refusal::Refusal;

@@ -134,8 +134,9 @@ fn text_ref_of(len: usize, bytes: &[u8]) -> Result<(&str, &[u8]), TermError>
 
 ghost use Rattle.std.specs.Str.{chars};
 
+/// The text of an atom whose length, in so many bytes, comes next.
 #[tactic(auto, unfolding(crate::specs::Reading::atom_at))]
-fn atom_ref_of(width: usize, bytes: &[u8]) -> Result<(&str, &[u8]), TermError>
+pub fn atom_ref_of(width: usize, bytes: &[u8]) -> Result<(&str, &[u8]), TermError>
     requires low { 1 ≤ width }
     requires high { width ≤ 8 }
     ensures value { Answers (λ x. (x.0.now, x.1.now)) result (atom_at width bytes.now) }
@@ -158,7 +159,7 @@ fn node_ref_of(bytes: &[u8]) -> Result<(&str, &[u8]), TermError>
     }
 }
 
-#[tactic(auto, unfolding(crate::specs::Parts::pid_part_at, crate::specs::Reading::pid_at))]
+#[tactic(auto, unfolding(crate::specs::Parts::pid_part_at))]
 fn pid_ref_of(bytes: &[u8]) -> Result<(PidRef<'_>, &[u8]), TermError>
     ensures { Answers (λ x. (x.0, x.1.now)) result (pid_part_at bytes.now) }
 {
@@ -166,7 +167,15 @@ fn pid_ref_of(bytes: &[u8]) -> Result<(PidRef<'_>, &[u8]), TermError>
     if tag != tag::NEW_PID {
         return Err(TermError::Malformed);
     }
-    let (node, rest) = node_ref_of(rest)?;
+    pid_fields_of(rest)
+}
+
+/// The process identifier whose fields come next, behind its tag.
+#[tactic(auto, unfolding(crate::specs::Reading::pid_at))]
+pub fn pid_fields_of(bytes: &[u8]) -> Result<(PidRef<'_>, &[u8]), TermError>
+    ensures { Answers (λ x. (x.0, x.1.now)) result (pid_at bytes.now) }
+{
+    let (node, rest) = node_ref_of(bytes)?;
     let (id, rest) = word_of(rest)?;
     let (serial, rest) = word_of(rest)?;
     let (creation, rest) = word_of(rest)?;

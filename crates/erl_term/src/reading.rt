@@ -1,6 +1,6 @@
 //! Reading a term from the left, up to the first fault.
 ghost use Rattle.std.specs.Prelude.{◌≡◌, ◌≤◌};
-ghost use Rattle.erl_term.specs.Reading.{Gives, Answers, small_at, integer_at, big_at, text_at, atom_at, node_at, pid_at, items_with, tuple_with, row_with, term_at, spelling_at};
+ghost use Rattle.erl_term.specs.Reading.{Gives, Answers, small_at, integer_at, big_at, atom_at, items_with, tuple_with, row_with, term_at, spelling_at};
 ghost use Rattle.erl_term.specs.Data.{int};
 ghost use Rattle.erl_term.specs.View.{view, items_view};
 
@@ -8,9 +8,9 @@ use crate::atom::Atom;
 use crate::error::TermError;
 use crate::field::{byte_of, number_of, part_of, word_of};
 use crate::magnitude::{number_in, signed_of};
+use crate::parts::{atom_ref_of, pid_fields_of};
 use crate::tag;
-use crate::term::{Pid, Term};
-use crate::text::{atom_text, may_become_text};
+use crate::term::Term;
 use std::alloc::Global;
 
 /// The term whose spelling stands at the front, and the bytes after it.
@@ -49,8 +49,8 @@ fn term_of(alloc: Global, levels: u32, bytes: &[u8]) -> Result<(Term, &[u8]), Te
         tag::SMALL_TUPLE => tuple_of(alloc, below, 1, rest),
         tag::LARGE_TUPLE => tuple_of(alloc, below, 4, rest),
         tag::NEW_PID => {
-            let (pid, rest) = pid_of(alloc, rest)?;
-            Ok((Term::Pid(pid), rest))
+            let (pid, rest) = pid_fields_of(rest)?;
+            Ok((Term::Pid(pid.to_pid(alloc)?), rest))
         }
         _ => Err(TermError::OutOfProfile(tag)),
     }
@@ -93,31 +93,14 @@ fn big_of(bytes: &[u8]) -> Result<(Term, &[u8]), TermError>
     Ok((Term::Int(n), rest))
 }
 
-#[tactic(auto, unfolding(crate::specs::Reading::text_at))]
-fn text_of(alloc: Global, len: usize, bytes: &[u8]) -> Result<(Atom, &[u8]), TermError>
-    ensures { Gives (λ x. (x.0, x.1.now)) result (text_at len bytes.now) }
-{
-    if bytes.len() < len {
-        if may_become_text(len, bytes) {
-            return Err(TermError::Cut);
-        }
-        return Err(TermError::Malformed);
-    }
-    let (text, rest) = bytes.split_at(len);
-    match atom_text(text) {
-        None => Err(TermError::Malformed),
-        Some(text) => Ok((Atom::new(String::from_str(alloc, text)?), rest)),
-    }
-}
-
-#[tactic(auto, unfolding(crate::specs::Reading::atom_at))]
+/// The atom whose length, in so many bytes, and text come next.
 fn atom_of(alloc: Global, width: usize, bytes: &[u8]) -> Result<(Atom, &[u8]), TermError>
     requires low { 1 ≤ width }
     requires high { width ≤ 8 }
     ensures { Gives (λ x. (x.0, x.1.now)) result (atom_at width bytes.now) }
 {
-    let (len, rest) = number_of(bytes, width, 1020, TermError::Malformed)?;
-    text_of(alloc, len as usize, rest)
+    let (text, rest) = atom_ref_of(width, bytes)?;
+    Ok((Atom::new(String::from_str(alloc, text)?), rest))
 }
 
 #[cycle(reader)]
@@ -155,33 +138,4 @@ fn items_of(
         rest = after;
     }
     Ok((items, rest))
-}
-
-#[tactic(auto, unfolding(crate::specs::Reading::pid_at))]
-fn pid_of(alloc: Global, bytes: &[u8]) -> Result<(Pid, &[u8]), TermError>
-    ensures { Gives (λ x. (x.0, x.1.now)) result (pid_at bytes.now) }
-{
-    let (node, rest) = node_of(alloc, bytes)?;
-    let (id, rest) = word_of(rest)?;
-    let (serial, rest) = word_of(rest)?;
-    let (creation, rest) = word_of(rest)?;
-    let pid = Pid {
-        node,
-        id,
-        serial,
-        creation,
-    };
-    Ok((pid, rest))
-}
-
-#[tactic(auto, unfolding(crate::specs::Reading::node_at))]
-fn node_of(alloc: Global, bytes: &[u8]) -> Result<(Atom, &[u8]), TermError>
-    ensures { Gives (λ x. (x.0, x.1.now)) result (node_at bytes.now) }
-{
-    let (tag, rest) = byte_of(bytes)?;
-    match tag {
-        tag::SMALL_ATOM_UTF8 => atom_of(alloc, 1, rest),
-        tag::ATOM_UTF8 => atom_of(alloc, 2, rest),
-        _ => Err(TermError::Malformed),
-    }
 }
