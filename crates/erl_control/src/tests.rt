@@ -233,10 +233,10 @@ fn errors_have_their_texts(rt: HostRuntime) -> Result<(), Fail> {
     Ok(())
 }
 
-/// Meant to run while one allocation fails: each call answers as ever or that memory is wanted, a
-/// refusal comes all the same, and the next call answers as ever.
+/// Run by the script fail-allocations too, with each allocation refused in turn. A refusal comes all
+/// the same.
 #[test]
-fn want_of_memory_is_an_answer(rt: HostRuntime) -> Result<(), Fail> {
+fn each_allocation(rt: HostRuntime) -> Result<(), Fail> {
     let mut bytes = [0; 46];
     let mut left_over = [0; 47];
     for (i, byte) in LINK.iter().chain(A.iter()).chain(B.iter()).enumerate() {
@@ -247,13 +247,10 @@ fn want_of_memory_is_an_answer(rt: HostRuntime) -> Result<(), Fail> {
     }
     left_over[3] = 0x2B;
     for _ in 0..3 {
-        match unframe(rt.alloc(), &bytes) {
-            Ok(Some((Item::Signal(signal), 46))) => match frame(rt.alloc(), &signal) {
-                Ok(written) => assert!(rt; written.as_slice() == bytes.as_slice()),
-                Err(e) => assert_eq!(rt; e, FrameError::OutOfMemory),
-            },
-            other => assert_eq!(rt; other.err(), Some(FrameError::OutOfMemory)),
-        }
+        let Some((Item::Signal(signal), 46)) = unframe(rt.alloc(), &bytes)? else {
+            return Err(Fail::from("no signal of 46 bytes"));
+        };
+        assert!(rt; frame(rt.alloc(), &signal)?.as_slice() == bytes.as_slice());
         assert_eq!(rt;
             refusal(rt.alloc(), &left_over),
             Some(FrameError::BadControl)
