@@ -17,6 +17,8 @@ mod replies;
 mod script;
 mod session;
 mod site;
+#[cfg(test)]
+mod tests;
 mod text;
 
 pub use laws::{every_script, framed_signals};
