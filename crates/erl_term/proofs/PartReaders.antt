@@ -1,5 +1,5 @@
 -- Parts of a term are read exactly as they are spelled.
-use Rattle.std.proofs.Common.{◌≡◌, ℕ, zero, suc, ◌<◌, ◌≤◌, Bool, true, false, cond, eqb, List, [], ◌∷◌, ◌++◌, length, Result, Ok, Err, Some, None, Bor, refl, sym, ap, subst, ◌∙◌, arith, inl, inr}
+use Rattle.std.proofs.Common.{◌≡◌, ℕ, ◌<◌, Bool, true, false, cond, eqb, List, [], ◌∷◌, ◌++◌, length, Ok, Err, Some, None, Bor, refl, sym, ap, subst, ◌∙◌, arith, inl, inr}
 use Rattle.std.specs.Prelude.{ℤ}
 use Rattle.std.proofs.lemmas.Bool.{eqb-true}
 use Rattle.erl_term.specs.declared.error.TermError.{TermError}
@@ -7,11 +7,11 @@ use Rattle.erl_term.specs.declared.error.TermError.TheVariants.{Malformed}
 use Rattle.erl_term.specs.declared.term.Pid.{Pid}
 use Rattle.erl_term.specs.Numbers.{AreBytes}
 use Rattle.erl_term.specs.Data.{Data, int, pid}
-use Rattle.erl_term.specs.Spelling.{IsNumber, IsPid, Spells}
-use Rattle.erl_term.specs.Reading.{Read, Answers, ◌>>=◌, any_at, small_at, integer_at, big_at, pid_at, row_with, term_at}
+use Rattle.erl_term.specs.Spelling.{IsPid}
+use Rattle.erl_term.specs.Reading.{Read, ◌>>=◌, any_at, small_at, integer_at, big_at, pid_at, row_with, term_at}
 use Rattle.erl_term.specs.Parts.{ReadsFront, IsHeadBy, IsTupleHead, IsIntegerText, head_part_at, integer_part_at, pid_part_at}
 use Rattle.erl_term.proofs.Readers.{Takes, AreBytes-rest, Known, known, is_ok, is_err, err_of_bind, ok_of_bind}
-use Rattle.erl_term.proofs.Base.{ok_is, any_takes, Reads-any}
+use Rattle.erl_term.proofs.Base.{ok_is, Reads-any}
 use Rattle.erl_term.proofs.Table.{one_byte, byte_number, Reads-term}
 
 -- ---- the tag

@@ -1,10 +1,10 @@
 -- Parts of a term that are read where they lie, each by itself.
-use Rattle.std.specs.Prelude.{◌≡◌, ℕ, ℤ, ◌⊎◌, List, ◌∷◌, ◌++◌, Ok, Err, Option, IfSome, MatchOption, ◌==◌, if◌then◌else◌}
+use Rattle.std.specs.Prelude.{◌≡◌, ℕ, ℤ, ◌⊎◌, List, ◌∷◌, ◌++◌, Err, Option, IfSome, MatchOption, ◌==◌, if◌then◌else◌}
 use Rattle.std.specs.Borrow.{Bor}
 pub use Rattle.readers.specs.Laws.{Takes}
 use Rattle.erl_term.specs.declared.error.TermError.TheVariants.{Malformed}
 use Rattle.erl_term.specs.declared.term.Pid.{Pid}
-use Rattle.erl_term.specs.Data.{Data, int}
+use Rattle.erl_term.specs.Data.{Data}
 use Rattle.erl_term.specs.Spelling.{IsNumber, IsSmallInteger, IsInteger, IsSmallBig}
 use Rattle.erl_term.specs.Reading.{Read, ◌>>=◌, any_at, small_at, integer_at, big_at, pid_at}
 

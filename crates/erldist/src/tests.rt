@@ -91,7 +91,8 @@ fn scripts(rt: HostRuntime) -> Result<(), Fail> {
 #[test]
 fn frames_in_hex(rt: HostRuntime) {
     let (printed, outcome) = ran(rt.alloc(), b"pair\nlink p q\nunlink p q\n");
-    let expected = "sent a@h b@h 0000002A708368036101587703614068000000010000000000000001587703624068000000010000000000000001\ndone\nsent a@h b@h 0000002C7083680461236101587703614068000000010000000000000001587703624068000000010000000000000001\ndone\n";
+    let expected =
+        "sent a@h b@h 0000002A708368036101587703614068000000010000000000000001587703624068000000010000000000000001\ndone\nsent a@h b@h 0000002C7083680461236101587703614068000000010000000000000001587703624068000000010000000000000001\ndone\n";
     assert_eq!(rt; outcome, Outcome::Ran);
     assert!(rt; printed.as_slice() == expected.as_bytes());
 }
@@ -134,7 +135,10 @@ fn bad_lines(rt: HostRuntime) -> Result<(), Fail> {
             let parts: [&[u8]; 3] = [b"# a\npair\nends p q\n\n", line, end.as_bytes()];
             let (printed, outcome) = ran(rt.alloc(), &joined(rt.alloc(), &parts)?);
             assert_eq!(rt; outcome, Outcome::BadLine(5, *reason), "row {row}");
-            assert!(rt; printed.as_slice() == b"ends none none\n".as_slice(), "row {row}");
+            assert!(rt;
+                printed.as_slice() == b"ends none none\n".as_slice(),
+                "row {row}"
+            );
         }
     }
     Ok(())
@@ -174,7 +178,10 @@ fn longest_line(rt: HostRuntime) -> Result<(), Fail> {
         let script = joined(rt.alloc(), &[b"pair\nends p q\n", &line])?;
         let (printed, ended) = ran(rt.alloc(), &script);
         assert_eq!(rt; ended, outcome, "{count} of {byte}");
-        assert!(rt; printed.as_slice() == b"ends none none\n".as_slice(), "{count} of {byte}");
+        assert!(rt;
+            printed.as_slice() == b"ends none none\n".as_slice(),
+            "{count} of {byte}"
+        );
     }
     Ok(())
 }
@@ -207,8 +214,18 @@ fn halting_reader(rt: HostRuntime) {
         (0, ErrorKind::BrokenPipe, Outcome::Ran, both),
         (16, ErrorKind::Interrupted, Outcome::Ran, both),
         (1, ErrorKind::BrokenPipe, Outcome::Failed, ""),
-        (16, ErrorKind::BrokenPipe, Outcome::Failed, "ends none none\n"),
-        (23, ErrorKind::BrokenPipe, Outcome::Failed, "ends none none\n"),
+        (
+            16,
+            ErrorKind::BrokenPipe,
+            Outcome::Failed,
+            "ends none none\n",
+        ),
+        (
+            23,
+            ErrorKind::BrokenPipe,
+            Outcome::Failed,
+            "ends none none\n",
+        ),
         (24, ErrorKind::BrokenPipe, Outcome::Ran, both),
     ] {
         let mut reader = Halting {
@@ -269,7 +286,10 @@ fn full_writer(rt: HostRuntime) {
         };
         let ended = run_script(rt.alloc(), &mut script, &mut writer, &OPTIONS);
         assert_eq!(rt; ended, outcome, "{writes} writes, {flushes} flushes");
-        assert!(rt; writer.taken.as_slice() == expected.as_bytes(), "{writes} writes, {flushes} flushes");
+        assert!(rt;
+            writer.taken.as_slice() == expected.as_bytes(),
+            "{writes} writes, {flushes} flushes"
+        );
     }
 }
 
