@@ -345,3 +345,23 @@ fn command_lines(rt: HostRuntime) -> Result<(), Fail> {
     }
     Ok(())
 }
+
+/// Run by the script fail-allocations too, with each allocation refused in turn. What was printed by
+/// then is how the whole begins.
+#[test]
+fn each_allocation(rt: HostRuntime) -> Result<(), Fail> {
+    let (printed, outcome) = ran(
+        rt.alloc(),
+        b"pair\nlink p q\ndeliver b@h a@h\nunlink p q\ndeliver b@h a@h\ndeliver a@h b@h\nends p q\n",
+    );
+    let expected =
+        "sent a@h b@h 0000002A708368036101587703614068000000010000000000000001587703624068000000010000000000000001\ndone\ntook link\nsent a@h b@h 0000002C7083680461236101587703614068000000010000000000000001587703624068000000010000000000000001\ndone\nsent b@h a@h 0000002C7083680461246101587703624068000000010000000000000001587703614068000000010000000000000001\ntook unlink\ntook unlink_ack\nends none none\n";
+    assert!(rt; expected.as_bytes().starts_with(printed.as_slice()));
+    if outcome != Outcome::Ran {
+        // The list that is written to can't grow, or the script finds no memory.
+        assert!(rt; outcome == Outcome::Failed || outcome == Outcome::OutOfMemory);
+        return Err(Fail::from("out of memory"));
+    }
+    assert_eq!(rt; printed.len(), expected.len());
+    Ok(())
+}
