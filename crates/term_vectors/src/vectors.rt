@@ -1,7 +1,7 @@
 //! The files of vectors, and the answer to a line of each.
 
 use anyhow::Result;
-use erl_term::{decode, encode};
+use erl_term::{TermError, decode, encode};
 use std::alloc::Global;
 
 /// A file of vectors.
@@ -54,22 +54,30 @@ impl Vectors {
 fn respelled(alloc: Global, bytes: &[u8]) -> Result<String> {
     let (term, taken) = match decode(alloc, bytes) {
         Ok(answer) => answer,
-        Err(e) => return Ok(format!(in alloc; "{e}")?),
+        Err(e) => return fault(alloc, e),
     };
     if taken != bytes.len() {
         return Ok(format!(in alloc; "reads, takes {taken}")?);
     }
     match encode(alloc, &term) {
         Ok(canonical) => Ok(hex::encode_upper(alloc, canonical.as_slice())?),
-        Err(e) => Ok(format!(in alloc; "{e}")?),
+        Err(e) => fault(alloc, e),
     }
 }
 
 /// The error, or how many bytes are read where they aren't all of them.
 fn verdict(alloc: Global, bytes: &[u8]) -> Result<String> {
     match decode(alloc, bytes) {
-        Err(e) => Ok(format!(in alloc; "{e}")?),
+        Err(e) => fault(alloc, e),
         Ok((_, taken)) if taken == bytes.len() => Ok(String::from_str(alloc, "reads")?),
         Ok((_, taken)) => Ok(format!(in alloc; "reads, takes {taken}")?),
     }
+}
+
+/// The text of an error. Want of memory says nothing of the bytes, so it is no answer.
+fn fault(alloc: Global, error: TermError) -> Result<String> {
+    if error.is_out_of_memory() {
+        return Err(error.into());
+    }
+    Ok(format!(in alloc; "{error}")?)
 }
