@@ -1,5 +1,8 @@
 //! What a measurement found.
 
+ghost use Rattle.std.specs.Prelude.{◌≡◌, ◌≤◌, ◌<◌, ◌*◌, ◌/◌, ◌-◌, ◌^◌};
+ghost use Rattle.benchmark.specs.Rates.{nanos_of, a_second, megabytes_a_second};
+
 use anyhow::Result;
 use std::time::Duration;
 
@@ -15,13 +18,36 @@ pub struct Rate<'a> {
 }
 
 impl Rate<'_> {
+    /// How many rounds a second has.
+    pub fn a_second(&self) -> u128
+        ensures { result ≡ a_second self.now.rounds self.now.elapsed }
+    {
+        u128::from(self.rounds).saturating_mul(1_000_000_000) / self.nanos()
+    }
+
+    /// How many megabytes of 1,000,000 bytes a second has.
+    #[tactic(auto, using(crate::proofs::Megabytes::thousand_a_nanosecond))]
+    pub fn megabytes(&self) -> u128
+        ensures exact { let bytes = self.now.rounds * self.now.bytes in
+            bytes * 1000 < 2 ^ 128 → result ≡ megabytes_a_second bytes self.now.elapsed }
+        // Of more bytes 2^128 - 1 thousandths of a byte are counted.
+        ensures most { let bytes = self.now.rounds * self.now.bytes in
+            2 ^ 128 ≤ bytes * 1000 → result ≡ (2 ^ 128 - 1) / nanos_of self.now.elapsed }
+    {
+        let bytes = u128::from(self.rounds).saturating_mul(self.bytes as u128);
+        bytes.saturating_mul(1_000) / self.nanos()
+    }
+
+    /// The time in nanoseconds, of which 0 count as 1.
+    fn nanos(&self) -> u128
+        ensures { result ≡ nanos_of self.now.elapsed }
+    {
+        self.elapsed.as_nanos().max(1)
+    }
+
     /// Prints how many rounds a second has, and how many megabytes of 1,000,000 bytes.
     pub fn print(&self, rt: &HostRuntime) -> Result<()> {
-        let nanos = self.elapsed.as_nanos().max(1);
-        let rounds = u128::from(self.rounds);
-        let a_second = rounds.saturating_mul(1_000_000_000) / nanos;
-        let bytes = rounds.saturating_mul(self.bytes as u128);
-        let megabytes = bytes.saturating_mul(1_000) / nanos;
+        let (a_second, megabytes) = (self.a_second(), self.megabytes());
         println!(rt; "  {}: {a_second} a second, {megabytes} MB/s", self.name)?;
         Ok(())
     }
