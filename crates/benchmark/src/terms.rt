@@ -14,14 +14,25 @@ const WIDTH: usize = 160;
 /// How often a control term is read or written.
 const SMALL_ROUNDS: u64 = 2_000_000;
 
-/// How often the large term is read or written.
+/// How often a large term is read or written.
 const LARGE_ROUNDS: u64 = 50;
+
+/// How often the binary is read or written.
+const BINARY_ROUNDS: u64 = 2_000;
+
+/// The elements of the list.
+const INTEGERS: usize = 100_000;
+
+/// The bytes of the binary.
+const BYTES: usize = 1_000_000;
 
 pub fn measure(rt: &HostRuntime) -> Result<()> {
     let alloc = rt.alloc();
     measure_term(rt, "link", &link(alloc)?, SMALL_ROUNDS)?;
     measure_term(rt, "unlink", &unlink(alloc)?, SMALL_ROUNDS)?;
-    measure_term(rt, "links in links", &table(alloc)?, LARGE_ROUNDS)
+    measure_term(rt, "links in links", &table(alloc)?, LARGE_ROUNDS)?;
+    measure_term(rt, "list of integers", &integers(alloc)?, LARGE_ROUNDS)?;
+    measure_term(rt, "binary", &binary(alloc)?, BINARY_ROUNDS)
 }
 
 /// Writes and reads the term so many times.
@@ -83,4 +94,21 @@ fn table(alloc: Global) -> Result<Term> {
         rows.push(Term::Tuple(row))?;
     }
     Ok(Term::Tuple(rows))
+}
+
+/// The integers from 0.
+fn integers(alloc: Global) -> Result<Term> {
+    let mut items = Vec::with_capacity(alloc, INTEGERS)?;
+    for i in 0..INTEGERS {
+        items.push(Term::Int(i as i128))?;
+    }
+    Ok(Term::list(items))
+}
+
+fn binary(alloc: Global) -> Result<Term> {
+    let mut bytes = Vec::with_capacity(alloc, BYTES)?;
+    for _ in 0..BYTES {
+        bytes.push(7)?;
+    }
+    Ok(Term::Binary(bytes))
 }

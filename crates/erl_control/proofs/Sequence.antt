@@ -5,8 +5,10 @@ use Rattle.std.specs.Prelude.{ℤ, pos, negsuc, ◌==◌}
 use Rattle.std.proofs.lemmas.Bool.{eqb-true}
 use Rattle.std.proofs.lemmas.Int.{ints}
 use Rattle.std.specs.Int.{w64, FitsUnsigned}
-use Rattle.erl_term.specs.Parts.{ReadsFront, IsTupleHead, IsIntegerText}
-use Rattle.erl_control.specs.Reading.{IsPair, IsOpening, IsNaturalText, IsIdText, ReadsAll}
+use Rattle.erl_term.specs.Data.{int}
+use Rattle.erl_term.specs.Spelling.{Spells}
+use Rattle.erl_term.specs.Parts.{ReadsFront, IsTupleHead}
+use Rattle.erl_control.specs.Reading.{IsPair, IsOpening, IsNaturalText, IsRowHead, IsIdText, ReadsAll}
 
 both_are : {A B : Type 0} (a : A) (b : B) (x : A × B) → a ≡ x.0 → b ≡ x.1 → (a, b) ≡ x
 both_are a b x p q = ap (λ u. (u, b)) p ∙ ap (λ v. (x.0, v)) q
@@ -47,11 +49,41 @@ front_is (x ∷ xs) b le e = let tail : take (length (x ∷ xs) - 1) xs ≡ xs =
 unversioned : (bytes text head rest more : List ℕ) → text ≡ 131 ∷ head → bytes ≡ text ++ more → bytes ≡ 131 ∷ rest → rest ≡ head ++ more
 unversioned bytes text head rest more t p e = let q : 131 ∷ rest ≡ 131 ∷ (head ++ more) = sym e ∙ p ∙ ap (λ (w : List ℕ). w ++ more) t in cc
 
-pub opening : (bytes rest : List ℕ) (o : Option (ℕ × Bor (List ℕ))) → bytes ≡ 131 ∷ rest → ReadsFront IsTupleHead rest o → ReadsFront IsOpening bytes o
+pub opening : (bytes rest : List ℕ) (o : Option ((ℕ × ℕ) × Bor (List ℕ))) → bytes ≡ 131 ∷ rest → ReadsFront (IsTupleHead 64) rest o → ReadsFront IsOpening bytes o
 opening bytes rest None e r = record { takes = tt; again = λ n text more s p. r.again n s.head more s.is_head (unversioned bytes text s.head rest more s.bytes p e) }
 opening bytes rest (Some x) e r = record {
   takes = record { text = 131 ∷ r.takes.text; is_text = record { head = r.takes.text; is_head = r.takes.is_text; bytes = refl }; parts = e ∙ ap (λ (w : List ℕ). 131 ∷ w) r.takes.parts };
   again = λ n text more s p. r.again n s.head more s.is_head (unversioned bytes text s.head rest more s.bytes p e);
+}
+
+-- ---- the head of a row
+
+pub no_opening : (bytes : List ℕ) → ReadsFront IsOpening bytes None → ReadsFront IsRowHead bytes None
+no_opening bytes r = record { takes = tt; again = λ x text rest s p. r.again x.0 s.front (s.back ++ rest) s.is_front (split_pair bytes text s.front s.back rest s.parts p) }
+
+-- the levels of the first element are those of the opening
+natural_moved : (x y : ℕ × ℕ) (n : ℕ) (text : List ℕ) → x ≡ y → IsNaturalText y.1 n text → IsNaturalText x.1 n text
+natural_moved x y n text e s = subst (λ (z : ℕ × ℕ). IsNaturalText z.1 n text) (sym e) s
+
+pub no_first : (bytes : List ℕ) (a : (ℕ × ℕ) × Bor (List ℕ)) → ReadsFront IsOpening bytes (Some a) → ReadsFront (IsNaturalText a.0.1) a.1.now None → ReadsFront IsRowHead bytes None
+no_first bytes a r q = record {
+  takes = tt;
+  again = λ x text rest s p.
+      let k = r.again x.0 s.front (s.back ++ rest) s.is_front (split_pair bytes text s.front s.back rest s.parts p) in
+      q.again x.1 s.back rest (natural_moved a.0 x.0 x.1 s.back k.0 s.is_back) k.1;
+}
+
+pub row_head : (bytes : List ℕ) (a : (ℕ × ℕ) × Bor (List ℕ)) (b : ℕ × Bor (List ℕ)) → ReadsFront IsOpening bytes (Some a) → ReadsFront (IsNaturalText a.0.1) a.1.now (Some b) → ReadsFront IsRowHead bytes (Some ((a.0, b.0), b.1))
+row_head bytes a b r q = record {
+  takes = record {
+    text = r.takes.text ++ q.takes.text;
+    is_text = record { front = r.takes.text; back = q.takes.text; is_front = r.takes.is_text; is_back = q.takes.is_text; parts = refl };
+    parts = r.takes.parts ∙ ap (λ (w : List ℕ). r.takes.text ++ w) q.takes.parts ∙ sym (append_assoc r.takes.text q.takes.text b.1.now);
+  };
+  again = λ x text rest s p.
+      let k = r.again x.0 s.front (s.back ++ rest) s.is_front (split_pair bytes text s.front s.back rest s.parts p) in
+      let l = q.again x.1 s.back rest (natural_moved a.0 x.0 x.1 s.back k.0 s.is_back) k.1 in
+      (both_are a.0 b.0 x k.0 l.0, l.1);
 }
 
 -- ---- numbers
@@ -66,26 +98,26 @@ no_natural z seen e not n lt q = not (rw (e, q) fits)
     fits : FitsUnsigned w64 (pos n)
     fits = search (rules, ints)
 
-pub no_integer : (bytes : List ℕ) → ReadsFront IsIntegerText bytes None → ReadsFront IsNaturalText bytes None
-no_integer bytes r = record { takes = tt; again = λ n text rest s p. r.again (pos n) text rest s.1 p }
+pub no_integer : (levels : ℕ) (bytes : List ℕ) → ReadsFront (λ z b. Spells levels (int z) b) bytes None → ReadsFront (IsNaturalText levels) bytes None
+no_integer levels bytes r = record { takes = tt; again = λ n text rest s p. r.again (pos n) text rest s.1 p }
 
-pub natural_none : (bytes : List ℕ) (x : ℤ × Bor (List ℕ)) → ReadsFront IsIntegerText bytes (Some x) → ((n : ℕ) → n < 2 ^ 64 → x.0 ≡ pos n → ⊥) → ReadsFront IsNaturalText bytes None
-natural_none bytes x r never = record { takes = tt; again = λ n text rest s p. let k = r.again (pos n) text rest s.1 p in never n s.0 k.0 }
+pub natural_none : (levels : ℕ) (bytes : List ℕ) (x : ℤ × Bor (List ℕ)) → ReadsFront (λ z b. Spells levels (int z) b) bytes (Some x) → ((n : ℕ) → n < 2 ^ 64 → x.0 ≡ pos n → ⊥) → ReadsFront (IsNaturalText levels) bytes None
+natural_none levels bytes x r never = record { takes = tt; again = λ n text rest s p. let k = r.again (pos n) text rest s.1 p in never n s.0 k.0 }
 
-pub natural_some : (bytes : List ℕ) (x : ℤ × Bor (List ℕ)) (n : ℕ) → ReadsFront IsIntegerText bytes (Some x) → x.0 ≡ pos n → n < 2 ^ 64 → ReadsFront IsNaturalText bytes (Some (n, x.1))
-natural_some bytes x n r e u = record {
-  takes = record { text = r.takes.text; is_text = (u, subst (λ (z : ℤ). IsIntegerText z r.takes.text) e r.takes.is_text); parts = r.takes.parts };
+pub natural_some : (levels : ℕ) (bytes : List ℕ) (x : ℤ × Bor (List ℕ)) (n : ℕ) → ReadsFront (λ z b. Spells levels (int z) b) bytes (Some x) → x.0 ≡ pos n → n < 2 ^ 64 → ReadsFront (IsNaturalText levels) bytes (Some (n, x.1))
+natural_some levels bytes x n r e u = record {
+  takes = record { text = r.takes.text; is_text = (u, subst (λ (z : ℤ). Spells levels (int z) r.takes.text) e r.takes.is_text); parts = r.takes.parts };
   again = λ j text rest s p. let k = r.again (pos j) text rest s.1 p in let q : pos n ≡ pos j = sym e ∙ k.0 in (cc, k.1);
 }
 
-pub id_no_natural : (bytes : List ℕ) → ReadsFront IsNaturalText bytes None → ReadsFront IsIdText bytes None
-id_no_natural bytes r = record { takes = tt; again = λ id text rest s p. r.again id text rest (s.0.1, s.1) p }
+pub id_no_natural : (levels : ℕ) (bytes : List ℕ) → ReadsFront (IsNaturalText levels) bytes None → ReadsFront (IsIdText levels) bytes None
+id_no_natural levels bytes r = record { takes = tt; again = λ id text rest s p. r.again id text rest (s.0.1, s.1) p }
 
-pub id_zero : (bytes : List ℕ) (x : ℕ × Bor (List ℕ)) → ReadsFront IsNaturalText bytes (Some x) → x.0 ≡ 0 → ReadsFront IsIdText bytes None
-id_zero bytes x r z = record { takes = tt; again = λ id text rest s p. let k = r.again id text rest (s.0.1, s.1) p in let lt = s.0.0 in omega (arith, k.0) }
+pub id_zero : (levels : ℕ) (bytes : List ℕ) (x : ℕ × Bor (List ℕ)) → ReadsFront (IsNaturalText levels) bytes (Some x) → x.0 ≡ 0 → ReadsFront (IsIdText levels) bytes None
+id_zero levels bytes x r z = record { takes = tt; again = λ id text rest s p. let k = r.again id text rest (s.0.1, s.1) p in let lt = s.0.0 in omega (arith, k.0) }
 
-pub id_some : (bytes : List ℕ) (x : ℕ × Bor (List ℕ)) → ReadsFront IsNaturalText bytes (Some x) → 1 ≤ x.0 → ReadsFront IsIdText bytes (Some x)
-id_some bytes x r lt = record {
+pub id_some : (levels : ℕ) (bytes : List ℕ) (x : ℕ × Bor (List ℕ)) → ReadsFront (IsNaturalText levels) bytes (Some x) → 1 ≤ x.0 → ReadsFront (IsIdText levels) bytes (Some x)
+id_some levels bytes x r lt = record {
   takes = record { text = r.takes.text; is_text = ((lt, r.takes.is_text.0), r.takes.is_text.1); parts = r.takes.parts };
   again = λ j text rest s p. r.again j text rest (s.0.1, s.1) p;
 }

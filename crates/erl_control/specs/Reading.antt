@@ -2,9 +2,10 @@
 use Rattle.std.specs.Prelude.{◌≡◌, ◌≢◌, ℕ, ◌<◌, ◌^◌, pos, List, [], ◌∷◌, ◌++◌, Option, Some, Result, Err, IfSome, IfNone, IfOk, IfErr}
 use Rattle.std.specs.declared.alloc.AllocError.{AllocError}
 use Rattle.erl_term.specs.declared.term.Pid.{Pid}
-use Rattle.erl_term.specs.Spelling.{IsPid, IsSpelling}
+use Rattle.erl_term.specs.Data.{int, pid}
+use Rattle.erl_term.specs.Spelling.{Spells, IsSpelling}
 use Rattle.erl_term.specs.Answer.{IsDue}
-use Rattle.erl_term.specs.Parts.{IsTupleHead, IsIntegerText}
+use Rattle.erl_term.specs.Parts.{IsTupleHead}
 use Rattle.erl_control.specs.declared.signal.Signal.{Signal}
 use Rattle.erl_control.specs.declared.signal.Signal.TheVariants.{Link, UnlinkId, UnlinkIdAck}
 use Rattle.erl_control.specs.declared.signal.Item.{Item}
@@ -22,30 +23,37 @@ pub record IsPair {A B : Type 0} (S : A → List ℕ → Type 0) (T : B → List
   pub is_back : T x.1 back
   pub parts : text ≡ front ++ back
 
--- the version byte, and the head of a tuple
-pub record IsOpening (arity : ℕ) (text : List ℕ) : Type 0 where
+-- the version byte, and the head of a tuple: how many elements it has, and how many levels each may have
+pub record IsOpening (x : ℕ × ℕ) (text : List ℕ) : Type 0 where
   pub head : List ℕ
-  pub is_head : IsTupleHead arity head
+  pub is_head : IsTupleHead 64 x head
   pub bytes : text ≡ 131 ∷ head
 
--- a number of 64 bits without a sign
-abbrev pub IsNaturalText : ℕ → List ℕ → Type 0
-IsNaturalText n text = (n < 2 ^ 64) × IsIntegerText (pos n) text
+-- a number of 64 bits without a sign, of so many levels at most
+abbrev pub IsNaturalText : ℕ → ℕ → List ℕ → Type 0
+IsNaturalText levels n text = (n < 2 ^ 64) × Spells levels (int (pos n)) text
 
--- how many elements the tuple has, and the first of them
-abbrev pub IsRowHead : ℕ × ℕ → List ℕ → Type 0
-IsRowHead = IsPair IsOpening IsNaturalText
+-- the opening of a row, and its first element
+pub record IsRowHead (x : (ℕ × ℕ) × ℕ) (text : List ℕ) : Type 0 where
+  pub front : List ℕ
+  pub back : List ℕ
+  pub is_front : IsOpening x.0 front
+  pub is_back : IsNaturalText x.0.1 x.1 back
+  pub parts : text ≡ front ++ back
 
-abbrev pub IsIdText : ℕ → List ℕ → Type 0
-IsIdText id text = IsUnlinkId id × IsIntegerText (pos id) text
+abbrev pub IsIdText : ℕ → ℕ → List ℕ → Type 0
+IsIdText levels id text = IsUnlinkId id × Spells levels (int (pos id)) text
+
+abbrev pub IsPidText : ℕ → Pid → List ℕ → Type 0
+IsPidText levels p text = Spells levels (pid p) text
 
 -- From and To
-abbrev pub ArePids : Pid × Pid → List ℕ → Type 0
-ArePids = IsPair IsPid IsPid
+abbrev pub ArePids : ℕ → Pid × Pid → List ℕ → Type 0
+ArePids levels = IsPair (IsPidText levels) (IsPidText levels)
 
 -- Id, From and To
-abbrev pub AreIdAndPids : ℕ × (Pid × Pid) → List ℕ → Type 0
-AreIdAndPids = IsPair IsIdText ArePids
+abbrev pub AreIdAndPids : ℕ → ℕ × (Pid × Pid) → List ℕ → Type 0
+AreIdAndPids levels = IsPair (IsIdText levels) (ArePids levels)
 
 abbrev pub tag_of : Signal → ℕ
 tag_of (Link from to) = 1
@@ -57,15 +65,15 @@ arity_of (Link from to) = 3
 arity_of (UnlinkId id from to) = 4
 arity_of (UnlinkIdAck id from to) = 4
 
--- what stands behind the tag
-abbrev pub AreFields : Signal → List ℕ → Type 0
-AreFields (Link from to) b = ArePids (from, to) b
-AreFields (UnlinkId id from to) b = AreIdAndPids (id, (from, to)) b
-AreFields (UnlinkIdAck id from to) b = AreIdAndPids (id, (from, to)) b
+-- what stands behind the tag, each of so many levels at most
+abbrev pub AreFields : ℕ → Signal → List ℕ → Type 0
+AreFields levels (Link from to) b = ArePids levels (from, to) b
+AreFields levels (UnlinkId id from to) b = AreIdAndPids levels (id, (from, to)) b
+AreFields levels (UnlinkIdAck id from to) b = AreIdAndPids levels (id, (from, to)) b
 
 -- the same, of the signals of one tag
-abbrev pub HasFields : ℕ → Signal → List ℕ → Type 0
-HasFields tag signal b = (tag_of signal ≡ tag) × AreFields signal b
+abbrev pub HasFields : ℕ → ℕ → Signal → List ℕ → Type 0
+HasFields levels tag signal b = (tag_of signal ≡ tag) × AreFields levels signal b
 
 -- the whole of the bytes is the signal's control term
 abbrev pub IsControl : Signal → List ℕ → Type 0
@@ -89,8 +97,8 @@ pub record ReadsWhole (S : Signal → List ℕ → Type 0) (bytes : List ℕ) (a
   pub none : IfOk answer (λ row. IfNone row ((signal : Signal) → S signal bytes → ⊥))
   pub memory : IfErr answer (λ e. (signal : Signal) × S signal bytes)
 
-abbrev pub ReadsRow : ℕ → List ℕ → Result (Option Signal) AllocError → Type 0
-ReadsRow tag = ReadsWhole (HasFields tag)
+abbrev pub ReadsRow : ℕ → ℕ → List ℕ → Result (Option Signal) AllocError → Type 0
+ReadsRow levels tag = ReadsWhole (HasFields levels tag)
 
 -- what a frame's body carries
 abbrev pub IsBody : Item → List ℕ → Type 0

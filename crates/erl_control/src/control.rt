@@ -10,74 +10,75 @@ use crate::signal::Signal;
 use erl_term::{PidRef, integer_at, pid_at, term_len, tuple_head_at};
 use std::alloc::{AllocError, Global};
 
-fn opening_at(bytes: &[u8]) -> Option<(u32, &[u8])>
+/// How many elements the tuple behind the version byte has, and how many levels each may have.
+fn opening_at(bytes: &[u8]) -> Option<((u32, u32), &[u8])>
     ensures { ReadsFront IsOpening bytes.now result }
 {
     match bytes {
-        [131, rest @ ..] => tuple_head_at(rest),
+        [131, rest @ ..] => tuple_head_at(64, rest),
         _ => None,
     }
 }
 
 /// The number at the front, where it is one of 64 bits without a sign.
-fn natural_at(bytes: &[u8]) -> Option<(u64, &[u8])>
-    ensures { ReadsFront IsNaturalText bytes.now result }
+fn natural_at(levels: u32, bytes: &[u8]) -> Option<(u64, &[u8])>
+    ensures { ReadsFront (IsNaturalText levels) bytes.now result }
 {
-    let (n, rest) = integer_at(bytes)?;
+    let (n, rest) = integer_at(levels, bytes)?;
     match u64::try_from(n) {
         Ok(natural) => Some((natural, rest)),
         Err(_) => None,
     }
 }
 
-/// How many elements the control term has, the first of them, and the bytes of the others.
-fn row_head_at(bytes: &[u8]) -> Option<((u32, u64), &[u8])>
+/// The opening of the control term, its first element, and the bytes of the others.
+fn row_head_at(bytes: &[u8]) -> Option<(((u32, u32), u64), &[u8])>
     ensures { ReadsFront IsRowHead bytes.now result }
 {
-    let (arity, elements) = opening_at(bytes)?;
-    let (tag, fields) = natural_at(elements)?;
-    Some(((arity, tag), fields))
+    let ((arity, levels), elements) = opening_at(bytes)?;
+    let (tag, fields) = natural_at(levels, elements)?;
+    Some((((arity, levels), tag), fields))
 }
 
-fn id_at(bytes: &[u8]) -> Option<(u64, &[u8])>
-    ensures { ReadsFront IsIdText bytes.now result }
+fn id_at(levels: u32, bytes: &[u8]) -> Option<(u64, &[u8])>
+    ensures { ReadsFront (IsIdText levels) bytes.now result }
 {
-    let (id, rest) = natural_at(bytes)?;
+    let (id, rest) = natural_at(levels, bytes)?;
     if id == 0 {
         return None;
     }
     Some((id, rest))
 }
 
-fn pids_at(bytes: &[u8]) -> Option<((PidRef<'_>, PidRef<'_>), &[u8])>
-    ensures { ReadsFront ArePids bytes.now result }
+fn pids_at(levels: u32, bytes: &[u8]) -> Option<((PidRef<'_>, PidRef<'_>), &[u8])>
+    ensures { ReadsFront (ArePids levels) bytes.now result }
 {
-    let (from, rest) = pid_at(bytes)?;
-    let (to, rest) = pid_at(rest)?;
+    let (from, rest) = pid_at(levels, bytes)?;
+    let (to, rest) = pid_at(levels, rest)?;
     Some(((from, to), rest))
 }
 
 /// From and To, and nothing behind them.
-fn pids_of(fields: &[u8]) -> Option<(PidRef<'_>, PidRef<'_>)>
-    ensures { ReadsAll ArePids fields.now result }
+fn pids_of(levels: u32, fields: &[u8]) -> Option<(PidRef<'_>, PidRef<'_>)>
+    ensures { ReadsAll (ArePids levels) fields.now result }
 {
-    let (pids, rest) = pids_at(fields)?;
+    let (pids, rest) = pids_at(levels, fields)?;
     if rest.is_empty() { Some(pids) } else { None }
 }
 
 /// Id, From and To, and nothing behind them.
-fn id_and_pids_of(fields: &[u8]) -> Option<(u64, (PidRef<'_>, PidRef<'_>))>
-    ensures { ReadsAll AreIdAndPids fields.now result }
+fn id_and_pids_of(levels: u32, fields: &[u8]) -> Option<(u64, (PidRef<'_>, PidRef<'_>))>
+    ensures { ReadsAll (AreIdAndPids levels) fields.now result }
 {
-    let (id, rest) = id_at(fields)?;
-    let pids = pids_of(rest)?;
+    let (id, rest) = id_at(levels, fields)?;
+    let pids = pids_of(levels, rest)?;
     Some((id, pids))
 }
 
-fn link_of(alloc: Global, fields: &[u8]) -> Result<Option<Signal>, AllocError>
-    ensures { ReadsRow 1 fields.now result }
+fn link_of(alloc: Global, levels: u32, fields: &[u8]) -> Result<Option<Signal>, AllocError>
+    ensures { ReadsRow levels 1 fields.now result }
 {
-    let Some((from, to)) = pids_of(fields) else {
+    let Some((from, to)) = pids_of(levels, fields) else {
         return Ok(None);
     };
     let from = from.to_pid(alloc)?;
@@ -85,10 +86,10 @@ fn link_of(alloc: Global, fields: &[u8]) -> Result<Option<Signal>, AllocError>
     Ok(Some(Signal::Link { from, to }))
 }
 
-fn unlink_id_of(alloc: Global, fields: &[u8]) -> Result<Option<Signal>, AllocError>
-    ensures { ReadsRow 35 fields.now result }
+fn unlink_id_of(alloc: Global, levels: u32, fields: &[u8]) -> Result<Option<Signal>, AllocError>
+    ensures { ReadsRow levels 35 fields.now result }
 {
-    let Some((id, (from, to))) = id_and_pids_of(fields) else {
+    let Some((id, (from, to))) = id_and_pids_of(levels, fields) else {
         return Ok(None);
     };
     let from = from.to_pid(alloc)?;
@@ -96,10 +97,10 @@ fn unlink_id_of(alloc: Global, fields: &[u8]) -> Result<Option<Signal>, AllocErr
     Ok(Some(Signal::UnlinkId { id, from, to }))
 }
 
-fn unlink_id_ack_of(alloc: Global, fields: &[u8]) -> Result<Option<Signal>, AllocError>
-    ensures { ReadsRow 36 fields.now result }
+fn unlink_id_ack_of(alloc: Global, levels: u32, fields: &[u8]) -> Result<Option<Signal>, AllocError>
+    ensures { ReadsRow levels 36 fields.now result }
 {
-    let Some((id, (from, to))) = id_and_pids_of(fields) else {
+    let Some((id, (from, to))) = id_and_pids_of(levels, fields) else {
         return Ok(None);
     };
     let from = from.to_pid(alloc)?;
@@ -111,13 +112,13 @@ fn unlink_id_ack_of(alloc: Global, fields: &[u8]) -> Result<Option<Signal>, Allo
 fn row_of(alloc: Global, control: &[u8]) -> Result<Option<Signal>, AllocError>
     ensures { ReadsWhole IsControl control.now result }
 {
-    let Some(((arity, tag), fields)) = row_head_at(control) else {
+    let Some((((arity, levels), tag), fields)) = row_head_at(control) else {
         return Ok(None);
     };
     match tag {
-        1 if arity == 3 => link_of(alloc, fields),
-        35 if arity == 4 => unlink_id_of(alloc, fields),
-        36 if arity == 4 => unlink_id_ack_of(alloc, fields),
+        1 if arity == 3 => link_of(alloc, levels, fields),
+        35 if arity == 4 => unlink_id_of(alloc, levels, fields),
+        36 if arity == 4 => unlink_id_ack_of(alloc, levels, fields),
         _ => Ok(None),
     }
 }

@@ -45,7 +45,7 @@ fn refusal(alloc: Global, bytes: &[u8]) -> Option<FrameError> {
 }
 
 fn pid(rt: &impl Abort, alloc: Global, bytes: &[u8]) -> Result<Pid, AllocError> {
-    let (pid, _) = pid_at(bytes).expect(rt, "a pid");
+    let (pid, _) = pid_at(1, bytes).expect(rt, "a pid");
     pid.to_pid(alloc)
 }
 
@@ -101,6 +101,30 @@ fn signals_travel(rt: HostRuntime) -> Result<(), Fail> {
         last,
         &joined(rt.alloc(), &[&UNLINK_ID_LAST, &A, &B])?,
     )
+}
+
+/// A list without elements stands for its tail, so a pid behind one is spelled there, and a control
+/// term behind one too.
+#[test]
+fn lists_without_elements(rt: HostRuntime) -> Result<(), Fail> {
+    let alloc = rt.alloc();
+    let list = [0x6C, 0, 0, 0, 0];
+    let within = framed(alloc, &[&[0x68, 3, 0x61, 1], &list, &A, &B])?;
+    let around = framed(alloc, &[&list, &[0x68, 3, 0x61, 1], &A, &list, &list, &B])?;
+    for bytes in [&within, &around] {
+        let wanted = Signal::Link {
+            from: pid(&rt, alloc, &A)?,
+            to: pid(&rt, alloc, &B)?,
+        };
+        assert!(rt; unframe(alloc, bytes)? == Some((Item::Signal(wanted), bytes.len())));
+    }
+    // With an element it stands for a list.
+    let other = framed(
+        alloc,
+        &[&[0x68, 3, 0x61, 1, 0x6C, 0, 0, 0, 1], &A, &[0x6A], &B],
+    )?;
+    assert_eq!(rt; refusal(alloc, &other), Some(FrameError::BadControl));
+    Ok(())
 }
 
 #[test]

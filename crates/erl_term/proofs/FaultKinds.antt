@@ -1,5 +1,5 @@
 -- The kinds of the first fault exclude each other.
-use Rattle.std.proofs.Common.{◌≡◌, ◌≢◌, ℕ, zero, suc, ◌+◌, ◌-◌, ◌^◌, ◌<◌, ◌≤◌, Bool, true, false, cond, eqb, ltb, List, [], ◌∷◌, ◌++◌, length, take, Result, Ok, Err, refl, sym, ap, subst, ◌∙◌, append_assoc, arith, ◌⊎◌, inl, inr}
+use Rattle.std.proofs.Common.{◌≡◌, ◌≢◌, ℕ, zero, suc, ◌+◌, ◌-◌, ◌^◌, ◌<◌, ◌≤◌, Bool, true, false, cond, ltb, List, [], ◌∷◌, ◌++◌, length, take, Result, Ok, Err, refl, sym, ap, subst, ◌∙◌, append_assoc, arith, ◌⊎◌, inl, inr}
 use Rattle.std.specs.Prelude.{◌==◌}
 use Rattle.std.proofs.lemmas.List.{append-nil, length-append, take_all}
 use Rattle.std.proofs.lemmas.Bool.{cases_lt, ltb-false, le-ltb, lt-ltb}
@@ -7,14 +7,16 @@ use Rattle.byteorder.specs.Endian.{big_number}
 use Rattle.erl_term.specs.declared.error.TermError.{TermError}
 use Rattle.erl_term.specs.declared.error.TermError.TheVariants.{Cut, Malformed, OutOfProfile, TooDeep, TooLong, OutOfMemory}
 use Rattle.erl_term.specs.Numbers.{AreBytes, low_first}
-use Rattle.erl_term.specs.Data.{Data, tuple, Items, no_items, item, count}
+use Rattle.erl_term.specs.Data.{Data, tuple, Items, no_items, item, count, joined}
 use Rattle.erl_term.specs.Spelling.{IsNumber, SpellAll, Spells}
-use Rattle.erl_term.specs.Faults.{Nested, IsBadBig, IsTag, IsTooDeep, IsOutOfProfile, IsKind, AtPlace}
-use Rattle.erl_term.specs.Reading.{Read, ◌>>=◌, any_at, number_at, big_at, items_with, arities, tuple_with, row_with, term_at, spelling_at}
-use Rattle.erl_term.proofs.Readers.{err_of_bind, ok_of_bind}
+use Rattle.erl_term.specs.Faults.{is_tag, Nested, IsBadBig, IsTooDeep, IsOutOfProfile, IsKind, AtPlace}
+use Rattle.erl_term.specs.Reading.{Read, ◌>>=◌, any_at, number_at, big_at, items_with, arities, tuple_with, list_with, row_with, term_at, spelling_at}
+use Rattle.erl_term.proofs.Readers.{and_then, err_of_bind, ok_of_bind}
 use Rattle.erl_term.proofs.Base.{Reads-any, Reads-number}
-use Rattle.erl_term.proofs.Rows.{magnitude_at, Weighs, weighs, weighs_cut, weighs_large, weighs_in}
-use Rattle.erl_term.proofs.Table.{byte_number, number_1, number_4, suc_not, is_tag, tag_is, TagIs, tag97, tag98, tag110, tag118, tag119, tag104, tag105, tag88, tag_fails, Reads-term, Reads-spelling}
+use Rattle.erl_term.proofs.Rows.{Reads-items, magnitude_at, Weighs, weighs, weighs_cut, weighs_large, weighs_in}
+use Rattle.erl_term.proofs.Bytes.{byte_number, number_1, number_4}
+use Rattle.erl_term.proofs.Tags.{suc_not}
+use Rattle.erl_term.proofs.Table.{tail_after, cells_at, list_same, unknown_row, Reads-term, Reads-spelling}
 use Rattle.erl_term.proofs.Why.{one_more}
 use Rattle.erl_term.proofs.WhyRows.{Kind, out_of_profile, too_deep, is_malformed}
 
@@ -43,8 +45,8 @@ arity_at zero n r false e =
     let low : ltb (2 ^ 32 - 1) n ≡ false = le-ltb (2 ^ 32 - 1) n (omega arith) in
     same (rw (e, low) refl)
 arity_at (suc below) n r false e =
-    let one : arities (suc below) ≡ 2 ^ 32 - 1 = rw (suc_not below (eqb (suc below) 0) refl) refl in
-    let two : arities (suc (suc below)) ≡ 2 ^ 32 - 1 = rw (suc_not (suc below) (eqb (suc (suc below)) 0) refl) refl in
+    let one : arities (suc below) ≡ 2 ^ 32 - 1 = rw (suc_not below) refl in
+    let two : arities (suc (suc below)) ≡ 2 ^ 32 - 1 = rw (suc_not (suc below)) refl in
     same (rw (one, two) refl)
 
 items : (one two : List ℕ → Read Data) → ((bytes : List ℕ) → Deeper (one bytes) (two bytes)) → (n : ℕ) (bytes : List ℕ) → Deeper (items_with one n bytes) (items_with two n bytes)
@@ -58,11 +60,21 @@ tuples below one two h width bytes =
     bind (number_at TooDeep (arities below) width bytes) (number_at TooDeep (arities (suc below)) width bytes) _ _ (arity_at below (big_number width bytes) (any_at width bytes) _ refl)
     (λ n. bind (items_with one n.0 n.1) (items_with two n.0 n.1) _ _ (items one two h n.0 n.1) (λ ts. same refl))
 
+lists : (below : ℕ) (one two : List ℕ → Read Data) → ((bytes : List ℕ) → Deeper (one bytes) (two bytes)) → (bytes : List ℕ) → Deeper (list_with below one bytes) (list_with (suc below) two bytes)
+unfolding list_with
+lists zero one two h bytes = deep refl
+lists (suc below) one two h bytes =
+    subst (λ (r : Read Data). Deeper r (list_with (suc (suc below)) two bytes)) (sym (list_same (suc below) one bytes (omega arith)))
+    (subst (Deeper (cells_at one bytes)) (sym (list_same (suc (suc below)) two bytes (omega arith)))
+    (bind (any_at 4 bytes) (any_at 4 bytes) _ _ (same refl) (λ n. bind (items_with one n.0 n.1) (items_with two n.0 n.1) _ _ (items one two h n.0 n.1) (λ ts. bind (one ts.1) (two ts.1) _ _ (h ts.1) (λ t. same refl)))))
+
 rows : (below : ℕ) (one two : List ℕ → Read Data) → ((bytes : List ℕ) → Deeper (one bytes) (two bytes)) → (tag : ℕ) (bytes : List ℕ) → Deeper (row_with below one tag bytes) (row_with (suc below) two tag bytes)
 unfolding row_with
 rows below one two h tag bytes =
     choose (tag == 97) _ _ _ _ (same refl) (choose (tag == 98) _ _ _ _ (same refl) (choose (tag == 110) _ _ _ _ (same refl) (choose (tag == 118) _ _ _ _ (same refl) (choose (tag == 119) _ _ _ _ (same refl)
-    (choose (tag == 104) _ _ _ _ (tuples below one two h 1 bytes) (choose (tag == 105) _ _ _ _ (tuples below one two h 4 bytes) (same refl)))))))
+    (choose (tag == 104) _ _ _ _ (tuples below one two h 1 bytes) (choose (tag == 105) _ _ _ _ (tuples below one two h 4 bytes) (choose (tag == 88) _ _ _ _ (same refl)
+    (choose (tag == 115) _ _ _ _ (same refl) (choose (tag == 100) _ _ _ _ (same refl) (choose (tag == 106) _ _ _ _ (same refl) (choose (tag == 107) _ _ _ _ (same refl)
+    (choose (tag == 108) _ _ _ _ (lists below one two h bytes) (same refl)))))))))))))
 
 deeper : (levels : ℕ) (bytes : List ℕ) → Deeper (term_at levels bytes) (term_at (suc levels) bytes)
 unfolding term_at
@@ -146,7 +158,7 @@ items_err below (suc n) (item t ts) elements last e some s lt h =
 
 arity_low : (below n : ℕ) → 0 < below → n < 2 ^ 32 → n ≤ arities below
 arity_low zero n some lt = absurd (omega arith)
-arity_low (suc below) n some lt = let e : arities (suc below) ≡ 2 ^ 32 - 1 = rw (suc_not below (eqb (suc below) 0) refl) refl in omega arith
+arity_low (suc below) n some lt = let e : arities (suc below) ≡ 2 ^ 32 - 1 = rw (suc_not below) refl in omega arith
 
 tuple_err : (below width n : ℕ) (before : Items) (arity elements last : List ℕ) (e : TermError) → 0 < below → n < 2 ^ 32 → IsNumber width n arity → SpellAll (Spells below) before elements → count before < n → term_at below last ≡ Err e → tuple_with below (term_at below) width (arity ++ (elements ++ last)) ≡ Err e
 unfolding tuple_with
@@ -164,37 +176,46 @@ tag_err below tag width n before arity elements last e (inr w) some num s lt h =
     let four = subst (λ (j : ℕ). IsNumber j n arity) w.1 num in
     ap (λ (j : ℕ). term_at (suc below) (j ∷ (arity ++ (elements ++ last)))) w.0 ∙ tag_read below 105 (arity ++ (elements ++ last)) (omega arith) ∙ tuple_err below 4 n before arity elements last e some (number_4 n arity four) four s lt h
 
+-- a list whose items are all there, and whose tail is at fault
+tail_err : (below n : ℕ) (before : Items) (elements last : List ℕ) (e : TermError) → 0 < below → SpellAll (Spells below) before elements → count before ≡ n → term_at below last ≡ Err e → and_then (items_with (term_at below) n) (tail_after (term_at below)) (elements ++ last) ≡ Err e
+tail_err below n before elements last e some s all h =
+    let items = (Reads-items (Spells below) (term_at below) n (λ lt. Reads-term below some)).again before elements last (all, s) in
+    ok_of_bind (items_with (term_at below) n (elements ++ last)) (λ ts. tail_after (term_at below) ts.0 ts.1) (before, last) items ∙ err_of_bind (term_at below last) (λ t. Ok (joined before t.0, t.1)) e h
+
+cells_err : (below n : ℕ) (before : Items) (len elements last : List ℕ) (e : TermError) → 0 < below → IsNumber 4 n len → SpellAll (Spells below) before elements → count before ≤ n → term_at below last ≡ Err e → term_at (suc below) (108 ∷ (len ++ (elements ++ last))) ≡ Err e
+unfolding row_with
+cells_err below n before len elements last e some num s le h =
+    tag_read below 108 (len ++ (elements ++ last)) (omega arith)
+    ∙ list_same below (term_at below) (len ++ (elements ++ last)) some
+    ∙ ok_of_bind (any_at 4 (len ++ (elements ++ last))) (λ n. and_then (items_with (term_at below) n.0) (tail_after (term_at below)) n.1) (n, elements ++ last) ((Reads-any 4).again n len (elements ++ last) num)
+    ∙ elim (cases_lt (count before) n) as (λ _. and_then (items_with (term_at below) n) (tail_after (term_at below)) (elements ++ last) ≡ Err e) [
+      | inl lt ↦ err_of_bind (items_with (term_at below) n (elements ++ last)) (λ ts. tail_after (term_at below) ts.0 ts.1) e (items_err below n before elements last e some s lt h)
+      | inr ge ↦ tail_err below n before elements last e some s (let z : count before ≡ n = omega arith in z) h
+    ]
+
 nested_err : (levels : ℕ) (At : List ℕ → Type 0) (byte : ℕ) (e : TermError) → ((below : ℕ) (inner : List ℕ) → At inner → term_at (suc below) (inner ++ byte ∷ []) ≡ Err e) → (front : List ℕ) → Nested levels At front → term_at levels (front ++ byte ∷ []) ≡ Err e
 nested_err zero At byte e h front n = absurd n
 nested_err (suc below) At byte e h front (inl at) = h below front at
-nested_err (suc below) At byte e h front (inr t) =
+nested_err (suc below) At byte e h front (inr (inl t)) =
     let inside = nested_err below At byte e h t.inner t.at in
     let parts : front ++ byte ∷ [] ≡ t.tag ∷ (t.arity ++ (t.elements ++ (t.inner ++ byte ∷ []))) =
     ap (λ (w : List ℕ). w ++ byte ∷ []) t.parts ∙ ap (λ (w : List ℕ). t.tag ∷ w) (append_assoc t.arity (t.elements ++ t.inner) (byte ∷ []) ∙ ap (λ (w : List ℕ). t.arity ++ w) (append_assoc t.elements t.inner (byte ∷ []))) in
     ap (term_at (suc below)) parts
     ∙ tag_err below t.tag t.width t.n t.before t.arity t.elements (t.inner ++ byte ∷ []) e t.is_tuple (some_nested below At t.inner t.at) t.number t.spelled t.left inside
+nested_err (suc below) At byte e h front (inr (inr t)) =
+    let inside = nested_err below At byte e h t.inner t.at in
+    let parts : front ++ byte ∷ [] ≡ 108 ∷ (t.len ++ (t.elements ++ (t.inner ++ byte ∷ []))) =
+    ap (λ (w : List ℕ). w ++ byte ∷ []) t.parts ∙ ap (λ (w : List ℕ). 108 ∷ w) (append_assoc t.len (t.elements ++ t.inner) (byte ∷ []) ∙ ap (λ (w : List ℕ). t.len ++ w) (append_assoc t.elements t.inner (byte ∷ []))) in
+    ap (term_at (suc below)) parts
+    ∙ cells_err below t.n t.before t.len t.elements (t.inner ++ byte ∷ []) e (some_nested below At t.inner t.at) t.number t.spelled t.left inside
 
 place_err : (At : List ℕ → Type 0) (byte : ℕ) (e : TermError) (front : List ℕ) → ((below : ℕ) (inner : List ℕ) → At inner → term_at (suc below) (inner ++ byte ∷ []) ≡ Err e) → AtPlace At front → spelling_at (front ++ byte ∷ []) ≡ Err e
 place_err At byte e front h p = ap (λ (w : List ℕ). spelling_at (w ++ byte ∷ [])) p.parts ∙ version_read (p.inner ++ byte ∷ []) ∙ nested_err 64 At byte e h p.inner p.nested
 
 -- ---- out of the profile
 
-tag_in : (k : ℕ) → TagIs k → IsTag k
-tag_in k (tag97 e) = inl e
-tag_in k (tag98 e) = inr (inl e)
-tag_in k (tag110 e) = inr (inr (inl e))
-tag_in k (tag118 e) = inr (inr (inr (inl e)))
-tag_in k (tag119 e) = inr (inr (inr (inr (inl e))))
-tag_in k (tag104 e) = inr (inr (inr (inr (inr (inl e)))))
-tag_in k (tag105 e) = inr (inr (inr (inr (inr (inr (inl e))))))
-tag_in k (tag88 e) = inr (inr (inr (inr (inr (inr (inr e))))))
-
-no_tag : (k : ℕ) (b : Bool) → is_tag k ≡ b → (IsTag k → ⊥) → is_tag k ≡ false
-no_tag k true e h = absurd (h (tag_in k (tag_is k e)))
-no_tag k false e h = e
-
-unknown_err : (byte : ℕ) → byte < 256 → (IsTag byte → ⊥) → (below : ℕ) (inner : List ℕ) → inner ≡ [] → term_at (suc below) (inner ++ byte ∷ []) ≡ Err (OutOfProfile byte)
-unknown_err byte lt h below inner none = ap (λ (w : List ℕ). term_at (suc below) (w ++ byte ∷ [])) none ∙ tag_read below byte [] lt ∙ tag_fails below (term_at below) byte [] (no_tag byte _ refl h)
+unknown_err : (byte : ℕ) → byte < 256 → is_tag byte ≡ false → (below : ℕ) (inner : List ℕ) → inner ≡ [] → term_at (suc below) (inner ++ byte ∷ []) ≡ Err (OutOfProfile byte)
+unknown_err byte lt h below inner none = ap (λ (w : List ℕ). term_at (suc below) (w ++ byte ∷ [])) none ∙ tag_read below byte [] lt ∙ unknown_row below (term_at below) byte [] h
 
 long_err : (byte : ℕ) → 16 < byte → big_at (byte ∷ []) ≡ Err (OutOfProfile 110)
 unfolding big_at

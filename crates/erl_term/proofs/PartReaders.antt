@@ -7,12 +7,14 @@ use Rattle.erl_term.specs.declared.error.TermError.TheVariants.{Malformed}
 use Rattle.erl_term.specs.declared.term.Pid.{Pid}
 use Rattle.erl_term.specs.Numbers.{AreBytes}
 use Rattle.erl_term.specs.Data.{Data, int, pid}
-use Rattle.erl_term.specs.Spelling.{IsPid}
-use Rattle.erl_term.specs.Reading.{Read, ◌>>=◌, any_at, small_at, integer_at, big_at, pid_at, row_with, term_at}
-use Rattle.erl_term.specs.Parts.{ReadsFront, IsHeadBy, IsTupleHead, IsIntegerText, head_part_at, integer_part_at, pid_part_at}
+use Rattle.erl_term.specs.declared.term.Reference.{Reference}
+use Rattle.erl_term.specs.Spelling.{IsPid, IsReference, SpellsBy, Spells}
+use Rattle.erl_term.specs.Reading.{Read, ◌>>=◌, any_at, small_at, integer_at, big_at, pid_at, reference_at, row_with, term_at}
+use Rattle.erl_term.specs.Parts.{ReadsFront, IsHeadBy, IsHead, IsIntegerText, head_part_at, integer_part_at, pid_part_at, reference_part_at}
 use Rattle.erl_term.proofs.Readers.{Takes, AreBytes-rest, Known, known, is_ok, is_err, err_of_bind, ok_of_bind}
 use Rattle.erl_term.proofs.Base.{ok_is, Reads-any}
-use Rattle.erl_term.proofs.Table.{one_byte, byte_number, Reads-term}
+use Rattle.erl_term.proofs.Bytes.{one_byte, byte_number}
+use Rattle.erl_term.proofs.Table.{Reads-term, Reads-reference, reference_to, reference_back}
 
 -- ---- the tag
 
@@ -52,19 +54,19 @@ head_by tag width more n rest h e =
     let t = (Reads-any width).takes more n rest h e in
     record { text = tag ∷ t.text; is_text = record { arity = t.text; number = t.is_text; bytes = refl }; parts = ap (λ (w : List ℕ). tag ∷ w) t.parts }
 
-head_from : (k : ℕ) (more : List ℕ) (n : ℕ) (rest : List ℕ) (a b : Bool) → eqb k 104 ≡ a → eqb k 105 ≡ b → AreBytes more → cond a (any_at 1 more) (cond b (any_at 4 more) (Err Malformed)) ≡ Ok (n, rest) → Takes IsTupleHead (k ∷ more) n rest
+head_from : (k : ℕ) (more : List ℕ) (n : ℕ) (rest : List ℕ) (a b : Bool) → eqb k 104 ≡ a → eqb k 105 ≡ b → AreBytes more → cond a (any_at 1 more) (cond b (any_at 4 more) (Err Malformed)) ≡ Ok (n, rest) → Takes IsHead (k ∷ more) n rest
 head_from k more n rest true b p q h e = let t = head_by 104 1 more n rest h e in record { text = t.text; is_text = inl t.is_text; parts = ap (λ (j : ℕ). j ∷ more) (eqb-true k 104 p) ∙ t.parts }
 head_from k more n rest false true p q h e = let t = head_by 105 4 more n rest h e in record { text = t.text; is_text = inr t.is_text; parts = ap (λ (j : ℕ). j ∷ more) (eqb-true k 105 q) ∙ t.parts }
 head_from k more n rest false false p q h e = absurd cc
 
-pub head_takes : (bytes : List ℕ) (n : ℕ) (rest : List ℕ) → AreBytes bytes → head_part_at bytes ≡ Ok (n, rest) → Takes IsTupleHead bytes n rest
+pub head_takes : (bytes : List ℕ) (n : ℕ) (rest : List ℕ) → AreBytes bytes → head_part_at bytes ≡ Ok (n, rest) → Takes IsHead bytes n rest
 unfolding head_part_at
 head_takes bytes n rest h e =
     let t = tag_takes head_row bytes (n, rest) h (known (any_at 1 bytes)) e in
     let s = head_from t.tag t.more n rest (eqb t.tag 104) (eqb t.tag 105) refl refl t.fit t.row_is in
     record { text = s.text; is_text = s.is_text; parts = t.parts ∙ s.parts }
 
-pub head_again : (bytes : List ℕ) (n : ℕ) (text rest : List ℕ) → IsTupleHead n text → bytes ≡ text ++ rest → head_part_at bytes ≡ Ok (n, rest)
+pub head_again : (bytes : List ℕ) (n : ℕ) (text rest : List ℕ) → IsHead n text → bytes ≡ text ++ rest → head_part_at bytes ≡ Ok (n, rest)
 unfolding head_part_at
 head_again bytes n text rest (inl s) e =
     ap (tagged head_row) (e ∙ ap (λ (w : List ℕ). w ++ rest) s.bytes) ∙ tag_again head_row 104 (s.arity ++ rest) (omega arith) ∙ (Reads-any 1).again n s.arity rest s.number
@@ -103,6 +105,11 @@ row_88 more = refl
 from_row : (k j : ℕ) (more : List ℕ) (x : Data × List ℕ) → eqb k j ≡ true → j < 256 → one_row j more ≡ Ok x → term_at 1 (k ∷ more) ≡ Ok x
 from_row k j more x p lt e = ap (λ (i : ℕ). term_at 1 (i ∷ more)) (eqb-true k j p) ∙ one_again j more lt ∙ e
 
+-- a term of one level is none by LIST
+own_row : (t : Data) (b : List ℕ) → Spells 1 t b → SpellsBy (Spells 0) t b
+own_row t b (inl s) = s
+own_row t b (inr s) = absurd s.is_tail
+
 integer_from : (k : ℕ) (more : List ℕ) (x : Data × List ℕ) (a b c : Bool) → eqb k 97 ≡ a → eqb k 98 ≡ b → eqb k 110 ≡ c → cond a (small_at more) (cond b (integer_at more) (cond c (big_at more) (Err Malformed))) ≡ Ok x → term_at 1 (k ∷ more) ≡ Ok x
 integer_from k more x true b c p q r e = from_row k 97 more x p (omega arith) (row_97 more ∙ e)
 integer_from k more x false true c p q r e = from_row k 98 more x q (omega arith) (row_98 more ∙ e)
@@ -115,7 +122,7 @@ integer_takes bytes z rest h e =
     let t = tag_takes integer_row bytes (int z, rest) h (known (any_at 1 bytes)) e in
     let k = integer_from t.tag t.more (int z, rest) (eqb t.tag 97) (eqb t.tag 98) (eqb t.tag 110) refl refl refl t.row_is in
     let s = (Reads-term 1 (omega arith)).takes bytes (int z) rest h (ap (term_at 1) t.parts ∙ k) in
-    record { text = s.text; is_text = s.is_text; parts = s.parts }
+    record { text = s.text; is_text = own_row (int z) s.text s.is_text; parts = s.parts }
 
 integer_tagged : (bytes : List ℕ) (x : Data × List ℕ) (k : ℕ) (more : List ℕ) → k < 256 → integer_row k more ≡ one_row k more → bytes ≡ k ∷ more → term_at 1 bytes ≡ Ok x → tagged integer_row bytes ≡ Ok x
 integer_tagged bytes x k more lt same e t = ap (tagged integer_row) e ∙ tag_again integer_row k more lt ∙ same ∙ sym (one_again k more lt) ∙ ap (term_at 1) (sym e) ∙ t
@@ -123,7 +130,7 @@ integer_tagged bytes x k more lt same e t = ap (tagged integer_row) e ∙ tag_ag
 pub integer_again : (bytes : List ℕ) (z : ℤ) (text rest : List ℕ) → IsIntegerText z text → bytes ≡ text ++ rest → integer_part_at bytes ≡ Ok (int z, rest)
 unfolding integer_part_at
 integer_again bytes z text rest s e =
-    let t : term_at 1 bytes ≡ Ok (int z, rest) = ap (term_at 1) e ∙ (Reads-term 1 (omega arith)).again (int z) text rest s in
+    let t : term_at 1 bytes ≡ Ok (int z, rest) = ap (term_at 1) e ∙ (Reads-term 1 (omega arith)).again (int z) text rest (inl s) in
     elim s [
       | inl s ↦ integer_tagged bytes (int z, rest) 97 (s.field ++ rest) (omega arith) (sym (row_97 (s.field ++ rest))) (e ∙ ap (λ (w : List ℕ). w ++ rest) s.bytes) t
       | inr s ↦
@@ -149,7 +156,7 @@ pid_takes bytes p rest h e =
     let t = tag_takes pid_row bytes (p, rest) h (known (any_at 1 bytes)) e in
     let k = pid_from t.tag t.more p rest (eqb t.tag 88) refl t.row_is in
     let s = (Reads-term 1 (omega arith)).takes bytes (pid p) rest h (ap (term_at 1) t.parts ∙ k) in
-    record { text = s.text; is_text = s.is_text; parts = s.parts }
+    record { text = s.text; is_text = own_row (pid p) s.text s.is_text; parts = s.parts }
 
 pid_of_row : (more : List ℕ) (p : Pid) (rest : List ℕ) → Known (pid_at more) → (pid_at more >>= seen_pid) ≡ Ok (pid p, rest) → pid_at more ≡ Ok (p, rest)
 pid_of_row more p rest (is_err e q) k = absurd (let r = err_of_bind (pid_at more) seen_pid e q in cc)
@@ -165,9 +172,33 @@ unfolding pid_part_at
 pid_again bytes p text rest s e =
     let more : List ℕ = (s.node ++ (s.id ++ (s.serial ++ s.creation))) ++ rest in
     let split : bytes ≡ 88 ∷ more = e ∙ ap (λ (w : List ℕ). w ++ rest) s.bytes in
-    let t : term_at 1 bytes ≡ Ok (pid p, rest) = ap (term_at 1) e ∙ (Reads-term 1 (omega arith)).again (pid p) text rest s in
+    let t : term_at 1 bytes ≡ Ok (pid p, rest) = ap (term_at 1) e ∙ (Reads-term 1 (omega arith)).again (pid p) text rest (inl s) in
     let k : (pid_at more >>= seen_pid) ≡ Ok (pid p, rest) = sym (row_88 more) ∙ sym (one_again 88 more (omega arith)) ∙ ap (term_at 1) (sym split) ∙ t in
     ap (tagged pid_row) split ∙ tag_again pid_row 88 more (omega arith) ∙ pid_of_row more p rest (known (pid_at more)) k
+
+-- ---- references
+
+abbrev reference_row : ℕ → List ℕ → Read Reference
+reference_row k more = cond (eqb k 90) (reference_at more) (Err Malformed)
+
+reference_by : (k : ℕ) (more : List ℕ) (r : Reference) (rest : List ℕ) (b : Bool) → eqb k 90 ≡ b → AreBytes more → cond b (reference_at more) (Err Malformed) ≡ Ok (r, rest) → Takes IsReference (k ∷ more) r rest
+reference_by k more r rest true q h e =
+    let t = Reads-reference.takes more r rest h e in
+    record { text = 90 ∷ t.text; is_text = reference_to r t.text (90 ∷ t.text) refl t.is_text; parts = ap (λ (j : ℕ). j ∷ more) (eqb-true k 90 q) ∙ ap (λ (w : List ℕ). 90 ∷ w) t.parts }
+reference_by k more r rest false q h e = absurd cc
+
+pub reference_takes : (bytes : List ℕ) (r : Reference) (rest : List ℕ) → AreBytes bytes → reference_part_at bytes ≡ Ok (r, rest) → Takes IsReference bytes r rest
+unfolding reference_part_at
+reference_takes bytes r rest h e =
+    let t = tag_takes reference_row bytes (r, rest) h (known (any_at 1 bytes)) e in
+    subst (λ (w : List ℕ). Takes IsReference w r rest) (sym t.parts) (reference_by t.tag t.more r rest (eqb t.tag 90) refl t.fit t.row_is)
+
+pub reference_again : (bytes : List ℕ) (r : Reference) (text rest : List ℕ) → IsReference r text → bytes ≡ text ++ rest → reference_part_at bytes ≡ Ok (r, rest)
+unfolding reference_part_at
+reference_again bytes r text rest s e =
+    let m = reference_back r text s in
+    let split : bytes ≡ 90 ∷ (m.0 ++ rest) = e ∙ ap (λ (w : List ℕ). w ++ rest) m.2 in
+    ap (tagged reference_row) split ∙ tag_again reference_row 90 (m.0 ++ rest) (omega arith) ∙ Reads-reference.again r m.0 rest m.1
 
 -- ---- what the readers answer
 
@@ -185,11 +216,11 @@ front_some {B = B} f S read bytes x inj e takes again = record {
 front_none : {A B : Type 0} (f : A → B) (S : A → List ℕ → Type 0) (read : Read B) (bytes : List ℕ) (d : TermError) → read ≡ Err d → ((a : A) (text rest : List ℕ) → S a text → bytes ≡ text ++ rest → read ≡ Ok (f a, rest)) → ReadsFront S bytes None
 front_none f S read bytes d e again = record { takes = tt; again = λ a text rest s p. let q = again a text rest s p in absurd cc }
 
-pub head_some : (bytes : List ℕ) (x : ℕ × Bor (List ℕ)) → AreBytes bytes → head_part_at bytes ≡ Ok (x.0, x.1.now) → ReadsFront IsTupleHead bytes (Some x)
-head_some bytes x h e = front_some (λ (n : ℕ). n) IsTupleHead (head_part_at bytes) bytes x (λ a b q. q) e (head_takes bytes x.0 x.1.now h e) (head_again bytes)
+pub head_some : (bytes : List ℕ) (x : ℕ × Bor (List ℕ)) → AreBytes bytes → head_part_at bytes ≡ Ok (x.0, x.1.now) → ReadsFront IsHead bytes (Some x)
+head_some bytes x h e = front_some (λ (n : ℕ). n) IsHead (head_part_at bytes) bytes x (λ a b q. q) e (head_takes bytes x.0 x.1.now h e) (head_again bytes)
 
-pub head_none : (bytes : List ℕ) (d : TermError) → head_part_at bytes ≡ Err d → ReadsFront IsTupleHead bytes None
-head_none bytes d e = front_none (λ (n : ℕ). n) IsTupleHead (head_part_at bytes) bytes d e (head_again bytes)
+pub head_none : (bytes : List ℕ) (d : TermError) → head_part_at bytes ≡ Err d → ReadsFront IsHead bytes None
+head_none bytes d e = front_none (λ (n : ℕ). n) IsHead (head_part_at bytes) bytes d e (head_again bytes)
 
 pub integer_some : (bytes : List ℕ) (x : ℤ × Bor (List ℕ)) → AreBytes bytes → integer_part_at bytes ≡ Ok (int x.0, x.1.now) → ReadsFront IsIntegerText bytes (Some x)
 integer_some bytes x h e = front_some int IsIntegerText (integer_part_at bytes) bytes x (λ a b q. cc) e (integer_takes bytes x.0 x.1.now h e) (integer_again bytes)
@@ -202,3 +233,9 @@ pid_some bytes x h e = front_some (λ (p : Pid). p) IsPid (pid_part_at bytes) by
 
 pub pid_none : (bytes : List ℕ) (d : TermError) → pid_part_at bytes ≡ Err d → ReadsFront IsPid bytes None
 pid_none bytes d e = front_none (λ (p : Pid). p) IsPid (pid_part_at bytes) bytes d e (pid_again bytes)
+
+pub reference_some : (bytes : List ℕ) (x : Reference × Bor (List ℕ)) → AreBytes bytes → reference_part_at bytes ≡ Ok (x.0, x.1.now) → ReadsFront IsReference bytes (Some x)
+reference_some bytes x h e = front_some (λ (r : Reference). r) IsReference (reference_part_at bytes) bytes x (λ a b q. q) e (reference_takes bytes x.0 x.1.now h e) (reference_again bytes)
+
+pub reference_none : (bytes : List ℕ) (d : TermError) → reference_part_at bytes ≡ Err d → ReadsFront IsReference bytes None
+reference_none bytes d e = front_none (λ (r : Reference). r) IsReference (reference_part_at bytes) bytes d e (reference_again bytes)

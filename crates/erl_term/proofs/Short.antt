@@ -4,8 +4,10 @@ use Rattle.std.proofs.lemmas.List.{length-append}
 use Rattle.std.specs.Prelude.{ℤ, pos, negsuc}
 use Rattle.byteorder.specs.Endian.{big_bytes}
 use Rattle.erl_term.specs.declared.term.Pid.{Pid}
+use Rattle.erl_term.specs.declared.term.Reference.{Reference}
 use Rattle.erl_term.specs.Text.{IsAtomText}
-use Rattle.erl_term.specs.Canonical.{digits, magnitude, canonical_big, canonical_int, canonical_atom, canonical_pid, IsPidInRange}
+use Rattle.erl_term.specs.Canonical.{digits, magnitude, canonical_big, canonical_int, canonical_atom, canonical_pid, canonical_reference, IsPidInRange, IsReferenceInRange}
+use Rattle.erl_term.proofs.Lengths.{length-reference}
 use Rattle.erl_term.proofs.Utf8.{atom_bytes}
 
 digits_short : (most m : ℕ) → length (digits most m) ≤ most
@@ -47,3 +49,9 @@ unfolding canonical_pid
 pid_short p h =
     let k = atom_short p.node h.node in
     omega (arith, length-append (canonical_atom p.node) (big_bytes 4 p.id ++ (big_bytes 4 p.serial ++ big_bytes 4 p.creation)), length-append (big_bytes 4 p.id) (big_bytes 4 p.serial ++ big_bytes 4 p.creation), length-append (big_bytes 4 p.serial) (big_bytes 4 p.creation))
+
+pub reference_short : (r : Reference) → IsReferenceInRange r → length (canonical_reference r) ≤ 1050
+reference_short r h =
+    let k = atom_short r.node h.node in
+    let few = h.few in
+    omega (arith, length-reference r)

@@ -1,48 +1,27 @@
 -- A term is read exactly as it is spelled.
-use Rattle.std.proofs.Common.{◌≡◌, ℕ, zero, suc, ◌+◌, ◌-◌, ◌*◌, ◌^◌, ◌<◌, ◌≤◌, Bool, true, false, cond, eqb, List, [], ◌∷◌, ◌++◌, length, get_or, Ok, Err, refl, sym, ap, subst, ◌∙◌, arith, ◌⊎◌, inl, inr}
-use Rattle.std.specs.Prelude.{ℤ, pos, ◌||◌, ◌==◌, MatchBool}
+use Rattle.std.proofs.Common.{◌≡◌, ◌≢◌, ℕ, zero, suc, ◌-◌, ◌^◌, ◌<◌, ◌≤◌, Bool, true, false, cond, List, [], ◌∷◌, ◌++◌, length, Ok, Err, refl, sym, ap, subst, ◌∙◌, arith, inl, inr}
+use Rattle.std.specs.Prelude.{ℤ, pos, nat_lt, ◌==◌, MatchBool}
+use Rattle.std.specs.List.{list_any}
 use Rattle.std.specs.Int.{w32, cast_signed}
-use Rattle.std.proofs.lemmas.Bool.{eqb-true}
-use Rattle.std.proofs.lemmas.List.{get_or_past}
-use Rattle.byteorder.specs.Endian.{big_number}
-use Rattle.erl_term.specs.declared.error.TermError.TheVariants.{Malformed, OutOfProfile}
+use Rattle.std.proofs.lemmas.Bool.{eqb-true, ltb-false, ltb-true, lt-ltb}
+use Rattle.erl_term.specs.declared.error.TermError.{TermError}
+use Rattle.erl_term.specs.declared.error.TermError.TheVariants.{Cut, Malformed, OutOfProfile, TooDeep}
 use Rattle.erl_term.specs.declared.term.Pid.{Pid}
-use Rattle.erl_term.specs.Data.{Data, int, atom, tuple, pid, Items, no_items, item, count}
-use Rattle.erl_term.specs.Numbers.{AreBytes, low_first, signed}
-use Rattle.erl_term.specs.Spelling.{IsNumber, IsSmallBig, IsAtom, SpellsAtom, SpellAll, IsTuple, IsPid, SpellsBy, Spells, IsSpelling}
-use Rattle.erl_term.specs.Reading.{Read, ◌>>=◌, any_at, atom_at, node_at, pid_at, arities, row_with, term_at, spelling_at}
-use Rattle.erl_term.proofs.Readers.{Reads, Then, and_then, Reads-then, Reads-same, Reads-by, Mapped, Reads-map}
+use Rattle.erl_term.specs.declared.term.Reference.{Reference}
+use Rattle.erl_term.specs.Data.{Data, int, atom, tuple, list, improper, binary, pid, reference, Items, no_items, item, count, joined}
+use Rattle.erl_term.specs.Numbers.{low_first, signed}
+use Rattle.erl_term.specs.Spelling.{IsNumber, IsSmallBig, IsAtom, SpellsAtom, SpellAll, IsTuple, IsList, IsPid, IsReference, SpellsBy, Spells, IsSpelling}
+use Rattle.erl_term.specs.Faults.{tags, is_tag}
+use Rattle.erl_term.specs.Reading.{Read, ◌>>=◌, any_at, atom_at, latin_at, node_at, pid_at, word_count_at, words_at, reference_at, items_with, list_with, arities, row_with, term_at, spelling_at}
+use Rattle.readers.specs.Laws.{IsOnly}
+use Rattle.erl_term.proofs.Readers.{Reads, Then, and_then, Reads-then, Reads-same, Reads-by, Mapped, Reads-map, Reads-only}
+use Rattle.erl_term.proofs.Bytes.{one_byte, byte_number, number_1, number_4}
+use Rattle.erl_term.proofs.Tags.{each_found, none_found, suc_not}
 use Rattle.erl_term.proofs.Base.{Reads-any, IsNumberTo, byte_where, bind_where, IsByteWhere, Reads-where}
 use Rattle.erl_term.proofs.TextReader.{IsText}
 use Rattle.erl_term.proofs.Utf8.{atom_bytes}
-use Rattle.erl_term.proofs.Rows.{Reads-small, Reads-integer, Reads-atom, AreItems, Reads-tuple, IsMagnitude, Reads-big}
-
-or_true : (x y : Bool) → (x || y) ≡ true → (x ≡ true) ⊎ (y ≡ true)
-or_true true y e = inl refl
-or_true false y e = inr e
-
-or_false : (x y : Bool) → (x || y) ≡ false → (x ≡ false) × (y ≡ false)
-or_false true y e = absurd cc
-or_false false y e = (refl, e)
-
--- a field of one byte is that byte
-pub one_byte : (n : ℕ) (b : List ℕ) → IsNumber 1 n b → b ≡ n ∷ []
-one_byte n [] s = absurd (let l = s.len in omega arith)
-one_byte n (x ∷ []) s = let e : x * 256 ^ 0 + 0 ≡ n = s.says in let k : x ≡ n = omega arith in ap (λ (y : ℕ). y ∷ []) k
-one_byte n (x ∷ y ∷ b) s = absurd (let l = s.len in omega arith)
-
-pub byte_number : (n : ℕ) → n < 256 → IsNumber 1 n (n ∷ [])
-byte_number n lt = record { len = refl; bytes = fits; says = omega arith }
-  where
-    fits : AreBytes (n ∷ [])
-    fits zero = lt
-    fits (suc i) = let e : get_or {A = ℕ} [] i 0 ≡ 0 = get_or_past [] i 0 (omega arith) in omega arith
-
-pub number_1 : (n : ℕ) (b : List ℕ) → IsNumber 1 n b → n < 256
-number_1 n b s = let e : get_or b 0 0 * 256 ^ 0 + 0 ≡ n = s.says in let k = s.bytes 0 in omega arith
-
-pub number_4 : (n : ℕ) (b : List ℕ) → IsNumber 4 n b → n < 2 ^ 32
-number_4 n b s = let e : big_number 4 b ≡ n = s.says in let k0 = s.bytes 0 in let k1 = s.bytes 1 in let k2 = s.bytes 2 in let k3 = s.bytes 3 in omega arith
+use Rattle.erl_term.proofs.Rows.{Reads-small, Reads-integer, Reads-atom, AreItems, Reads-items, Reads-tuple, IsMagnitude, Reads-big}
+use Rattle.erl_term.proofs.Pieces.{LatinText, Reads-latin, latin_to, latin_back, Sized, listed, Reads-string, Reads-binary, string_to, binary_to, sized_back, IsWordCount, Reads-word_count, Counted, Reads-words}
 
 -- ---- what stands after each tag
 
@@ -66,63 +45,67 @@ AfterTuple below Spell width = Then (IsNumberTo (arities below) width) (λ n. Ma
 
 -- ---- nodes
 
+abbrev pub node_tags : List ℕ
+node_tags = 119 ∷ 118 ∷ 115 ∷ 100 ∷ []
+
 abbrev pub is_node : ℕ → Bool
-is_node k = (k == 119) || (k == 118)
+is_node k = list_any (λ tag. k == tag) node_tags
 
 abbrev pub AfterNode : ℕ → List ℕ → List ℕ → Type 0
-AfterNode k a b = MatchBool (k == 119) (AtomText 1 a b) (AtomText 2 a b)
+AfterNode k a b = MatchBool (k == 119) (AtomText 1 a b) (MatchBool (k == 118) (AtomText 2 a b) (MatchBool (k == 115) (LatinText 1 a b) (LatinText 2 a b)))
 
 abbrev pub node_row : ℕ → List ℕ → Read (List ℕ)
-node_row k bytes = cond (k == 119) (atom_at 1 bytes) (cond (k == 118) (atom_at 2 bytes) (Err Malformed))
+node_row k bytes = cond (k == 119) (atom_at 1 bytes) (cond (k == 118) (atom_at 2 bytes) (cond (k == 115) (latin_at 1 bytes) (cond (k == 100) (latin_at 2 bytes) (Err Malformed))))
 
-pub node_rows : (k : ℕ) (b : List ℕ) → IsByteWhere is_node k b → Reads (AfterNode k) (node_row k)
-node_rows k b s =
-    elim (or_true (k == 119) (k == 118) s.passes) [
-      | inl e ↦ subst (λ (j : ℕ). Reads (AfterNode j) (node_row j)) (sym (eqb-true k 119 e)) (Reads-atom 1)
-      | inr e ↦ subst (λ (j : ℕ). Reads (AfterNode j) (node_row j)) (sym (eqb-true k 118 e)) (Reads-atom 2)
-    ]
+pub node_rows : (k : ℕ) → is_node k ≡ true → Reads (AfterNode k) (node_row k)
+node_rows k e = each_found (λ j. Reads (AfterNode j) (node_row j)) node_tags (Reads-atom 1, (Reads-atom 2, (Reads-latin 1, (Reads-latin 2, tt)))) k e
 
 node_fails : (k : ℕ) (bytes : List ℕ) → is_node k ≡ false → node_row k bytes ≡ Err Malformed
-node_fails k bytes e = let p = or_false (k == 119) (k == 118) e in rw (p.0, p.1) refl
+node_fails k bytes e = let p = none_found node_tags k e in rw (p.0, p.1.0, p.1.1.0, p.1.1.1.0) refl
 
 pub node_same : (bytes : List ℕ) → node_at bytes ≡ and_then (byte_where is_node (λ k. Malformed)) node_row bytes
 unfolding node_at
 node_same bytes = bind_where is_node (λ k. Malformed) node_row bytes node_fails
 
-atom_to : (tag width : ℕ) (a front back : List ℕ) → front ≡ tag ∷ [] → AtomText width a back → (text : List ℕ) → text ≡ front ++ back → IsAtom tag width a text
-atom_to tag width a front back f s text e =
+atom_to : (tag width : ℕ) (a back b : List ℕ) → b ≡ tag ∷ back → AtomText width a back → IsAtom tag width a b
+atom_to tag width a back b e s =
     let t = s.is_back in
     record {
       len = s.front;
       is_text = t.is_text;
       number = subst (λ (n : ℕ). IsNumber width n s.front) (sym t.len) s.is_front.number;
-      bytes = e ∙ ap (λ (w : List ℕ). w ++ back) f ∙ ap (λ (w : List ℕ). tag ∷ w) (s.parts ∙ ap (λ (w : List ℕ). s.front ++ w) t.same);
+      bytes = e ∙ ap (λ (w : List ℕ). tag ∷ w) (s.parts ∙ ap (λ (w : List ℕ). s.front ++ w) t.same);
     }
 
 atom_back : (tag width : ℕ) (a b : List ℕ) → IsAtom tag width a b → (back : List ℕ) × AtomText width a back × (b ≡ tag ∷ back)
 atom_back tag width a b s =
     (s.len ++ a, record { value = length a; front = s.len; back = a; is_front = record { number = s.number; bound = atom_bytes a s.is_text }; is_back = record { same = refl; len = refl; is_text = s.is_text }; parts = refl }, s.bytes)
 
+node_by : (a : List ℕ) (k : ℕ) → is_node k ≡ true → (back b : List ℕ) → b ≡ k ∷ back → AfterNode k a back → SpellsAtom a b
+node_by a k e = each_found (λ j. (back b : List ℕ) → b ≡ j ∷ back → AfterNode j a back → SpellsAtom a b) node_tags
+    (λ back b p s. inl (atom_to 119 1 a back b p s), (λ back b p s. inr (inl (atom_to 118 2 a back b p s)), (λ back b p s. inr (inr (inl (latin_to 115 1 a back b p s))), (λ back b p s. inr (inr (inr (latin_to 100 2 a back b p s))), tt)))) k e
+
+-- the byte at the front, and what stands behind it
+byte_front : (test : ℕ → Bool) (k : ℕ) (front back b : List ℕ) → IsByteWhere test k front → b ≡ front ++ back → b ≡ k ∷ back
+byte_front test k front back b s e = e ∙ ap (λ (w : List ℕ). w ++ back) (one_byte k front s.number)
+
 node_to : (a b : List ℕ) → Then (IsByteWhere is_node) AfterNode a b → SpellsAtom a b
-node_to a b s =
-    elim (or_true (s.value == 119) (s.value == 118) s.is_front.passes) [
-      | inl e ↦
-          let k = eqb-true s.value 119 e in
-          inl (atom_to 119 1 a s.front s.back (one_byte s.value s.front s.is_front.number ∙ ap (λ (y : ℕ). y ∷ []) k) (subst (λ (j : ℕ). AfterNode j a s.back) k s.is_back) b s.parts)
-      | inr e ↦
-          let k = eqb-true s.value 118 e in
-          inr (atom_to 118 2 a s.front s.back (one_byte s.value s.front s.is_front.number ∙ ap (λ (y : ℕ). y ∷ []) k) (subst (λ (j : ℕ). AfterNode j a s.back) k s.is_back) b s.parts)
-    ]
+node_to a b s = node_by a s.value s.is_front.passes s.back b (byte_front is_node s.value s.front s.back b s.is_front s.parts) s.is_back
+
+noded : (k : ℕ) (a back b : List ℕ) → is_node k ≡ true → k < 256 → AfterNode k a back → b ≡ k ∷ back → Then (IsByteWhere is_node) AfterNode a b
+noded k a back b e lt s p = record { value = k; front = k ∷ []; back = back; is_front = record { passes = e; number = byte_number k lt }; is_back = s; parts = p }
 
 node_back : (a b : List ℕ) → SpellsAtom a b → Then (IsByteWhere is_node) AfterNode a b
-node_back a b (inl s) = let t = atom_back 119 1 a b s in record { value = 119; front = 119 ∷ []; back = t.0; is_front = record { passes = refl; number = byte_number 119 (omega arith) }; is_back = t.1; parts = t.2 }
-node_back a b (inr s) = let t = atom_back 118 2 a b s in record { value = 118; front = 118 ∷ []; back = t.0; is_front = record { passes = refl; number = byte_number 118 (omega arith) }; is_back = t.1; parts = t.2 }
+node_back a b (inl s) = let t = atom_back 119 1 a b s in noded 119 a t.0 b refl (omega arith) t.1 t.2
+node_back a b (inr (inl s)) = let t = atom_back 118 2 a b s in noded 118 a t.0 b refl (omega arith) t.1 t.2
+node_back a b (inr (inr (inl s))) = let t = latin_back 115 1 a b s in noded 115 a t.0 b refl (omega arith) t.1 t.2
+node_back a b (inr (inr (inr s))) = let t = latin_back 100 2 a b s in noded 100 a t.0 b refl (omega arith) t.1 t.2
 
 pub Reads-node : Reads SpellsAtom node_at
 Reads-node =
     Reads-by SpellsAtom (and_then (byte_where is_node (λ k. Malformed)) node_row) node_at node_same
     (Reads-same (Then (IsByteWhere is_node) AfterNode) SpellsAtom (and_then (byte_where is_node (λ k. Malformed)) node_row) node_to node_back
-    (Reads-then (IsByteWhere is_node) AfterNode (byte_where is_node (λ k. Malformed)) node_row (Reads-where is_node (λ k. Malformed) (λ k e. cc) 119 refl (omega arith)) node_rows))
+    (Reads-then (IsByteWhere is_node) AfterNode (byte_where is_node (λ k. Malformed)) node_row (Reads-where is_node (λ k. Malformed) (λ k e. cc) 119 refl (omega arith)) (λ k b s. node_rows k s.passes)))
 
 -- ---- pids
 
@@ -187,107 +170,265 @@ pid_back p b s = (
   s.bytes,
 )
 
+-- ---- references
+
+abbrev pub made_reference : List ℕ → ℕ → List ℕ → Reference
+made_reference node creation words = record { node = node; creation = creation; words = words }
+
+abbrev pub ReferenceText : Reference → List ℕ → Type 0
+ReferenceText = Then IsWordCount (λ n. Then SpellsAtom (λ node. Then (IsNumber 4) (λ creation. Mapped (made_reference node creation) (Counted n))))
+
+abbrev pub reference_words : ℕ → List ℕ → ℕ → List ℕ → Read Reference
+reference_words n node creation bytes = words_at n bytes >>= λ words. Ok (made_reference node creation words.0, words.1)
+
+pub Reads-reference_words : (n : ℕ) (node : List ℕ) (creation : ℕ) → Reads (Mapped (made_reference node creation) (Counted n)) (reference_words n node creation)
+Reads-reference_words n node creation = Reads-map (made_reference node creation) (Counted n) (words_at n) (Reads-words n)
+
+pub Reads-reference_creation : (n : ℕ) (node : List ℕ) → Reads (Then (IsNumber 4) (λ creation. Mapped (made_reference node creation) (Counted n))) (and_then (any_at 4) (reference_words n node))
+Reads-reference_creation n node = Reads-then (IsNumber 4) (λ creation. Mapped (made_reference node creation) (Counted n)) (any_at 4) (reference_words n node) (Reads-any 4) (λ creation t s. Reads-reference_words n node creation)
+
+pub Reads-reference_node : (n : ℕ) → Reads (Then SpellsAtom (λ node. Then (IsNumber 4) (λ creation. Mapped (made_reference node creation) (Counted n)))) (and_then node_at (λ node. and_then (any_at 4) (reference_words n node)))
+Reads-reference_node n =
+    Reads-then SpellsAtom (λ node. Then (IsNumber 4) (λ creation. Mapped (made_reference node creation) (Counted n))) node_at (λ node. and_then (any_at 4) (reference_words n node)) Reads-node (λ node t s. Reads-reference_creation n node)
+
+pub Reads-reference : Reads ReferenceText reference_at
+unfolding reference_at
+Reads-reference =
+    Reads-then IsWordCount (λ n. Then SpellsAtom (λ node. Then (IsNumber 4) (λ creation. Mapped (made_reference node creation) (Counted n)))) word_count_at (λ n. and_then node_at (λ node. and_then (any_at 4) (reference_words n node))) Reads-word_count
+    (λ n t s. Reads-reference_node n)
+
+pub reference_to : (r : Reference) (back b : List ℕ) → b ≡ 90 ∷ back → ReferenceText r back → IsReference r b
+reference_to r back b e s =
+    let i = s.is_back in
+    let j = i.is_back in
+    let c = j.is_back in
+    let n = c.is_text.0 in
+    subst (λ (q : Reference). IsReference q b) (sym c.made)
+    (record {
+      len = s.front;
+      node = i.front;
+      creation = j.front;
+      words = j.back;
+      some = let k = s.is_front.some in omega arith;
+      few = let k = s.is_front.few in omega arith;
+      number = subst (λ (m : ℕ). IsNumber 2 m s.front) (sym n) s.is_front.number;
+      is_node = i.is_front;
+      is_creation = j.is_front;
+      are_words = c.is_text.1;
+      bytes = e ∙ ap (λ (w : List ℕ). 90 ∷ w) (s.parts ∙ ap (λ (w : List ℕ). s.front ++ w) (i.parts ∙ ap (λ (w : List ℕ). i.front ++ w) j.parts));
+    })
+
+pub reference_back : (r : Reference) (b : List ℕ) → IsReference r b → (back : List ℕ) × ReferenceText r back × (b ≡ 90 ∷ back)
+reference_back r b s = (
+  s.len ++ (s.node ++ (s.creation ++ s.words)),
+  record {
+    value = length r.words;
+    front = s.len;
+    back = s.node ++ (s.creation ++ s.words);
+    is_front = record { number = s.number; some = s.some; few = s.few };
+    parts = refl;
+    is_back = record {
+      value = r.node;
+      front = s.node;
+      back = s.creation ++ s.words;
+      is_front = s.is_node;
+      parts = refl;
+      is_back = record {
+        value = r.creation;
+        front = s.creation;
+        back = s.words;
+        is_front = s.is_creation;
+        parts = refl;
+        is_back = record { value = r.words; is_text = (refl, s.are_words); made = refl };
+      };
+    };
+  },
+  s.bytes,
+)
+
+-- ---- lists
+
+abbrev pub ListText : (Data → List ℕ → Type 0) → Data → List ℕ → Type 0
+ListText Spell = Then (IsNumber 4) (λ n. Then (AreItems Spell n) (λ ts. Mapped (joined ts) Spell))
+
+abbrev pub tail_after : (List ℕ → Read Data) → Items → List ℕ → Read Data
+tail_after one ts bytes = one bytes >>= λ t. Ok (joined ts t.0, t.1)
+
+abbrev pub cells_at : (List ℕ → Read Data) → List ℕ → Read Data
+cells_at one = and_then (any_at 4) (λ n. and_then (items_with one n) (tail_after one))
+
+pub Reads-tail : (Spell : Data → List ℕ → Type 0) (one : List ℕ → Read Data) → Reads Spell one → (n : ℕ) → Reads (Then (AreItems Spell n) (λ ts. Mapped (joined ts) Spell)) (and_then (items_with one n) (tail_after one))
+Reads-tail Spell one r n = Reads-then (AreItems Spell n) (λ ts. Mapped (joined ts) Spell) (items_with one n) (tail_after one) (Reads-items Spell one n (λ some. r)) (λ ts t s. Reads-map (joined ts) Spell one r)
+
+pub Reads-cells : (Spell : Data → List ℕ → Type 0) (one : List ℕ → Read Data) → Reads Spell one → Reads (ListText Spell) (cells_at one)
+Reads-cells Spell one r = Reads-then (IsNumber 4) (λ n. Then (AreItems Spell n) (λ ts. Mapped (joined ts) Spell)) (any_at 4) (λ n. and_then (items_with one n) (tail_after one)) (Reads-any 4) (λ n t s. Reads-tail Spell one r n)
+
+pub list_same : (below : ℕ) (one : List ℕ → Read Data) (bytes : List ℕ) → 0 < below → list_with below one bytes ≡ cells_at one bytes
+unfolding list_with
+list_same zero one bytes lt = absurd (omega arith)
+list_same (suc below) one bytes lt = rw (suc_not below) refl
+
+list_to : (below : ℕ) (t : Data) (back b : List ℕ) → b ≡ 108 ∷ back → ListText (Spells below) t back → IsList (Spells below) t b
+list_to below t back b e s =
+    let i = s.is_back in
+    let m = i.is_back in
+    record {
+      items = i.value;
+      last = m.value;
+      len = s.front;
+      elements = i.front;
+      tail = i.back;
+      number = subst (λ (n : ℕ). IsNumber 4 n s.front) (sym i.is_front.0) s.is_front;
+      spelled = i.is_front.1;
+      is_tail = m.is_text;
+      value = m.made;
+      bytes = e ∙ ap (λ (w : List ℕ). 108 ∷ w) (s.parts ∙ ap (λ (w : List ℕ). s.front ++ w) i.parts);
+    }
+
+list_back : (below : ℕ) (t : Data) (b : List ℕ) → IsList (Spells below) t b → (back : List ℕ) × ListText (Spells below) t back × (b ≡ 108 ∷ back)
+list_back below t b s = (
+  s.len ++ (s.elements ++ s.tail),
+  record {
+    value = count s.items;
+    front = s.len;
+    back = s.elements ++ s.tail;
+    is_front = s.number;
+    parts = refl;
+    is_back = record {
+      value = s.items;
+      front = s.elements;
+      back = s.tail;
+      is_front = (refl, s.spelled);
+      parts = refl;
+      is_back = record { value = s.last; is_text = s.is_tail; made = s.value };
+    };
+  },
+  s.bytes,
+)
+
 -- ---- the table
 
-abbrev pub tags6 : ℕ → Bool
-tags6 k = (k == 105) || (k == 88)
-
-abbrev pub tags5 : ℕ → Bool
-tags5 k = (k == 104) || tags6 k
-
-abbrev pub tags4 : ℕ → Bool
-tags4 k = (k == 119) || tags5 k
-
-abbrev pub tags3 : ℕ → Bool
-tags3 k = (k == 118) || tags4 k
-
-abbrev pub tags2 : ℕ → Bool
-tags2 k = (k == 110) || tags3 k
-
-abbrev pub tags1 : ℕ → Bool
-tags1 k = (k == 98) || tags2 k
-
-abbrev pub is_tag : ℕ → Bool
-is_tag k = (k == 97) || tags1 k
-
-pub data TagIs (k : ℕ) : Type 0 where
-  tag97 : k ≡ 97 → TagIs k
-  tag98 : k ≡ 98 → TagIs k
-  tag110 : k ≡ 110 → TagIs k
-  tag118 : k ≡ 118 → TagIs k
-  tag119 : k ≡ 119 → TagIs k
-  tag104 : k ≡ 104 → TagIs k
-  tag105 : k ≡ 105 → TagIs k
-  tag88 : k ≡ 88 → TagIs k
-
-pub tag_is : (k : ℕ) → is_tag k ≡ true → TagIs k
-tag_is k e =
-    elim (or_true (k == 97) (tags1 k) e) [
-      | inl p ↦ tag97 (eqb-true k 97 p)
-      | inr e ↦
-          elim (or_true (k == 98) (tags2 k) e) [
-            | inl p ↦ tag98 (eqb-true k 98 p)
-            | inr e ↦
-                elim (or_true (k == 110) (tags3 k) e) [
-                  | inl p ↦ tag110 (eqb-true k 110 p)
-                  | inr e ↦
-                      elim (or_true (k == 118) (tags4 k) e) [
-                        | inl p ↦ tag118 (eqb-true k 118 p)
-                        | inr e ↦
-                            elim (or_true (k == 119) (tags5 k) e) [
-                              | inl p ↦ tag119 (eqb-true k 119 p)
-                              | inr e ↦
-                                  elim (or_true (k == 104) (tags6 k) e) [
-                                    | inl p ↦ tag104 (eqb-true k 104 p)
-                                    | inr e ↦
-                                        elim (or_true (k == 105) (k == 88) e) [ inl p ↦ tag105 (eqb-true k 105 p) | inr e ↦ tag88 (eqb-true k 88 e) ]
-                                  ]
-                            ]
-                      ]
-                ]
-          ]
-    ]
+abbrev pub NilText : Data → List ℕ → Type 0
+NilText = IsOnly (list no_items)
 
 abbrev pub AfterTag : ℕ → (Data → List ℕ → Type 0) → ℕ → Data → List ℕ → Type 0
 AfterTag below Spell k t b =
     MatchBool (k == 97) (AfterSmall t b) (MatchBool (k == 98) (AfterInteger t b) (MatchBool (k == 110) (AfterBig t b) (MatchBool (k == 118) (AfterAtom 2 t b) (MatchBool (k == 119) (AfterAtom 1 t b)
-    (MatchBool (k == 104) (AfterTuple below Spell 1 t b) (MatchBool (k == 105) (AfterTuple below Spell 4 t b) (Mapped pid PidText t b)))))))
+    (MatchBool (k == 104) (AfterTuple below Spell 1 t b) (MatchBool (k == 105) (AfterTuple below Spell 4 t b) (MatchBool (k == 88) (Mapped pid PidText t b)
+    (MatchBool (k == 115) (Mapped atom (LatinText 1) t b) (MatchBool (k == 100) (Mapped atom (LatinText 2) t b) (MatchBool (k == 106) (NilText t b) (MatchBool (k == 107) (Sized 2 listed t b)
+    (MatchBool (k == 108) (ListText Spell t b) (MatchBool (k == 109) (Sized 4 binary t b) (Mapped reference ReferenceText t b))))))))))))))
 
-pub tag_fails : (below : ℕ) (one : List ℕ → Read Data) (k : ℕ) (bytes : List ℕ) → is_tag k ≡ false → row_with below one k bytes ≡ Err (OutOfProfile k)
-unfolding row_with
-tag_fails below one k bytes e =
-    let p1 = or_false (k == 97) (tags1 k) e in
-    let p2 = or_false (k == 98) (tags2 k) p1.1 in
-    let p3 = or_false (k == 110) (tags3 k) p2.1 in
-    let p4 = or_false (k == 118) (tags4 k) p3.1 in
-    let p5 = or_false (k == 119) (tags5 k) p4.1 in
-    let p6 = or_false (k == 104) (tags6 k) p5.1 in
-    let p7 = or_false (k == 105) (k == 88) p6.1 in
-    rw (p1.0, p2.0, p3.0, p4.0, p5.0, p6.0, p7.0, p7.1) refl
+-- LIST may stand where a level is left below it
+abbrev pub may_stand : ℕ → ℕ → Bool
+may_stand below k = cond (k == 108) (nat_lt 0 below) (is_tag k)
 
-pub tag_rows : (below : ℕ) (Spell : Data → List ℕ → Type 0) (one : List ℕ → Read Data) → (0 < below → Reads Spell one) → (k : ℕ) → TagIs k → Reads (AfterTag below Spell k) (row_with below one k)
+abbrev pub tag_fault : ℕ → TermError
+tag_fault k = cond (k == 108) TooDeep (OutOfProfile k)
+
+pub fault_not_cut : (k : ℕ) → tag_fault k ≢ Cut
+fault_not_cut k e = by (k == 108) e
+  where
+    by : (b : Bool) → cond b TooDeep (OutOfProfile k) ≡ Cut → ⊥
+    by true e = cc
+    by false e = cc
+
+no_level : (below : ℕ) → nat_lt 0 below ≡ false → below ≡ 0
+no_level below e = let le = ltb-false 0 below e in omega arith
+
+pub unknown_row : (below : ℕ) (one : List ℕ → Read Data) (k : ℕ) (bytes : List ℕ) → is_tag k ≡ false → row_with below one k bytes ≡ Err (OutOfProfile k)
 unfolding row_with
-tag_rows below Spell one r k (tag97 e) = subst (λ (j : ℕ). Reads (AfterTag below Spell j) (row_with below one j)) (sym e) Reads-small
-tag_rows below Spell one r k (tag98 e) = subst (λ (j : ℕ). Reads (AfterTag below Spell j) (row_with below one j)) (sym e) Reads-integer
-tag_rows below Spell one r k (tag110 e) = subst (λ (j : ℕ). Reads (AfterTag below Spell j) (row_with below one j)) (sym e) Reads-big
-tag_rows below Spell one r k (tag118 e) = subst (λ (j : ℕ). Reads (AfterTag below Spell j) (row_with below one j)) (sym e) (Reads-map atom (AtomText 2) (atom_at 2) (Reads-atom 2))
-tag_rows below Spell one r k (tag119 e) = subst (λ (j : ℕ). Reads (AfterTag below Spell j) (row_with below one j)) (sym e) (Reads-map atom (AtomText 1) (atom_at 1) (Reads-atom 1))
-tag_rows below Spell one r k (tag104 e) = subst (λ (j : ℕ). Reads (AfterTag below Spell j) (row_with below one j)) (sym e) (Reads-tuple below Spell one 1 r)
-tag_rows below Spell one r k (tag105 e) = subst (λ (j : ℕ). Reads (AfterTag below Spell j) (row_with below one j)) (sym e) (Reads-tuple below Spell one 4 r)
-tag_rows below Spell one r k (tag88 e) = subst (λ (j : ℕ). Reads (AfterTag below Spell j) (row_with below one j)) (sym e) (Reads-map pid PidText pid_at Reads-pid)
+unknown_row below one k bytes e =
+    let p = none_found tags k e in
+    rw (p.0, p.1.0, p.1.1.0, p.1.1.1.0, p.1.1.1.1.0, p.1.1.1.1.1.0, p.1.1.1.1.1.1.0, p.1.1.1.1.1.1.1.0, p.1.1.1.1.1.1.1.1.0, p.1.1.1.1.1.1.1.1.1.0, p.1.1.1.1.1.1.1.1.1.1.0, p.1.1.1.1.1.1.1.1.1.1.1.0, p.1.1.1.1.1.1.1.1.1.1.1.1.0, p.1.1.1.1.1.1.1.1.1.1.1.1.1.0, p.1.1.1.1.1.1.1.1.1.1.1.1.1.1.0) refl
+
+deep_row : (below : ℕ) (one : List ℕ → Read Data) (k : ℕ) (bytes : List ℕ) → k ≡ 108 → below ≡ 0 → row_with below one k bytes ≡ Err TooDeep
+unfolding row_with list_with
+deep_row below one k bytes e z = rw (e, z) refl
+
+pub tag_fails : (below : ℕ) (one : List ℕ → Read Data) (k : ℕ) (bytes : List ℕ) → may_stand below k ≡ false → row_with below one k bytes ≡ Err (tag_fault k)
+tag_fails below one k bytes e = by (k == 108) refl e
+  where
+    by : (b : Bool) → (k == 108) ≡ b → cond b (nat_lt 0 below) (is_tag k) ≡ false → row_with below one k bytes ≡ Err (cond (k == 108) TooDeep (OutOfProfile k))
+    by true p e = rw p (deep_row below one k bytes (eqb-true k 108 p) (no_level below e))
+    by false p e = rw p (unknown_row below one k bytes e)
+
+-- a row of the table, where LIST has a level below it
+pub record Stands (below k : ℕ) : Type 0 where
+  pub tag : is_tag k ≡ true
+  pub level : k ≡ 108 → 0 < below
+
+pub stands : (below k : ℕ) → may_stand below k ≡ true → Stands below k
+stands below k e = by (k == 108) refl e
+  where
+    tag_is : (k : ℕ) → k ≡ 108 → is_tag k ≡ true
+    tag_is k p = rw p refl
+
+    not : (k == 108) ≡ false → k ≡ 108 → ⊥
+    not p q = let z : (k == 108) ≡ true = rw q refl in cc
+
+    by : (b : Bool) → (k == 108) ≡ b → cond b (nat_lt 0 below) (is_tag k) ≡ true → Stands below k
+    by true p e = record { tag = tag_is k (eqb-true k 108 p); level = λ q. ltb-true 0 below e }
+    by false p e = record { tag = e; level = λ q. absurd (not p q) }
+
+pub may_stand-true : (below k : ℕ) → is_tag k ≡ true → (k ≡ 108 → 0 < below) → may_stand below k ≡ true
+may_stand-true below k e h = by (k == 108) refl
+  where
+    by : (b : Bool) → (k == 108) ≡ b → cond b (nat_lt 0 below) (is_tag k) ≡ true
+    by true p = lt-ltb 0 below (h (eqb-true k 108 p))
+    by false p = e
+
+abbrev RowReads : ℕ → (Data → List ℕ → Type 0) → (List ℕ → Read Data) → ℕ → Type 0
+RowReads below Spell one k = (k ≡ 108 → 0 < below) → Reads (AfterTag below Spell k) (row_with below one k)
+
+pub tag_rows : (below : ℕ) (Spell : Data → List ℕ → Type 0) (one : List ℕ → Read Data) → (0 < below → Reads Spell one) → (k : ℕ) → Stands below k → Reads (AfterTag below Spell k) (row_with below one k)
+unfolding row_with
+tag_rows below Spell one r k s = each_found (RowReads below Spell one) tags (
+  λ h. Reads-small,
+  (
+    λ h. Reads-integer,
+    (
+      λ h. Reads-big,
+      (
+        λ h. Reads-map atom (AtomText 1) (atom_at 1) (Reads-atom 1),
+        (
+          λ h. Reads-map atom (AtomText 2) (atom_at 2) (Reads-atom 2),
+          (
+            λ h. Reads-map atom (LatinText 1) (latin_at 1) (Reads-latin 1),
+            (
+              λ h. Reads-map atom (LatinText 2) (latin_at 2) (Reads-latin 2),
+              (
+                λ h. Reads-tuple below Spell one 1 r,
+                (
+                  λ h. Reads-tuple below Spell one 4 r,
+                  (
+                    λ h. Reads-only (list no_items),
+                    (
+                      λ h. Reads-string,
+                      (
+                        λ h. let lt : 0 < below = h refl in Reads-by (ListText Spell) (cells_at one) (list_with below one) (λ bytes. list_same below one bytes lt) (Reads-cells Spell one (r lt)),
+                        (λ h. Reads-binary, (λ h. Reads-map pid PidText pid_at Reads-pid, (λ h. Reads-map reference ReferenceText reference_at Reads-reference, tt))),
+                      ),
+                    ),
+                  ),
+                ),
+              ),
+            ),
+          ),
+        ),
+      ),
+    ),
+  ),
+)
+    k s.tag s.level
 
 -- the terms of a tuple at the last level are none
 pub none_there : (ts : Items) (b : List ℕ) → SpellAll (λ t b. ⊥) ts b → count ts ≡ 0
 none_there no_items b s = refl
 none_there (item t ts) b s = absurd s.2
 
-pub suc_not : (n : ℕ) (b : Bool) → eqb (suc n) 0 ≡ b → eqb (suc n) 0 ≡ false
-suc_not n true e = absurd (let k = eqb-true (suc n) 0 e in omega arith)
-suc_not n false e = e
-
 arity_fits : (below width : ℕ) (ts : Items) (arity b : List ℕ) → count ts < 2 ^ 32 → SpellAll (Spells below) ts b → count ts ≤ arities below
 arity_fits zero width ts arity b n s = let e = none_there ts b s in omega arith
-arity_fits (suc below) width ts arity b n s = let e : arities (suc below) ≡ 2 ^ 32 - 1 = rw (suc_not below (eqb (suc below) 0) refl) refl in omega arith
+arity_fits (suc below) width ts arity b n s = let e : arities (suc below) ≡ 2 ^ 32 - 1 = rw (suc_not below) refl in omega arith
 
 tuple_to : (below : ℕ) (tag width : ℕ) (t : Data) (back b : List ℕ) → b ≡ tag ∷ back → AfterTuple below (Spells below) width t back → (ts : Items) × (t ≡ tuple ts) × IsTuple (Spells below) tag width ts b
 tuple_to below tag width t back b e s =
@@ -361,62 +502,108 @@ big_back z b s = (
 
 -- ---- a term
 
-row_to : (below : ℕ) (k : ℕ) (t : Data) (back b : List ℕ) → TagIs k → b ≡ k ∷ back → AfterTag below (Spells below) k t back → SpellsBy (Spells below) t b
-row_to below k t back b (tag97 e) p s =
-    let m : AfterSmall t back = subst (λ (j : ℕ). AfterTag below (Spells below) j t back) e s in
-    subst (λ (u : Data). SpellsBy (Spells below) u b) (sym m.made) (inl (record { n = m.value; field = back; number = m.is_text; value = refl; bytes = p ∙ ap (λ (j : ℕ). j ∷ back) e }))
-row_to below k t back b (tag98 e) p s =
-    let m : AfterInteger t back = subst (λ (j : ℕ). AfterTag below (Spells below) j t back) e s in
-    subst (λ (u : Data). SpellsBy (Spells below) u b) (sym m.made) (inr (inl (record { n = m.value; field = back; number = m.is_text; value = refl; bytes = p ∙ ap (λ (j : ℕ). j ∷ back) e })))
-row_to below k t back b (tag110 e) p s =
-    let m = big_to t back b (p ∙ ap (λ (j : ℕ). j ∷ back) e) (subst (λ (j : ℕ). AfterTag below (Spells below) j t back) e s) in
-    subst (λ (u : Data). SpellsBy (Spells below) u b) (sym m.1) (inr (inr m.2))
-row_to below k t back b (tag118 e) p s =
-    let m : AfterAtom 2 t back = subst (λ (j : ℕ). AfterTag below (Spells below) j t back) e s in
-    subst (λ (u : Data). SpellsBy (Spells below) u b) (sym m.made) (inr (atom_to 118 2 m.value (118 ∷ []) back refl m.is_text b (p ∙ ap (λ (j : ℕ). j ∷ back) e)))
-row_to below k t back b (tag119 e) p s =
-    let m : AfterAtom 1 t back = subst (λ (j : ℕ). AfterTag below (Spells below) j t back) e s in
-    subst (λ (u : Data). SpellsBy (Spells below) u b) (sym m.made) (inl (atom_to 119 1 m.value (119 ∷ []) back refl m.is_text b (p ∙ ap (λ (j : ℕ). j ∷ back) e)))
-row_to below k t back b (tag104 e) p s =
-    let m = tuple_to below 104 1 t back b (p ∙ ap (λ (j : ℕ). j ∷ back) e) (subst (λ (j : ℕ). AfterTag below (Spells below) j t back) e s) in
-    subst (λ (u : Data). SpellsBy (Spells below) u b) (sym m.1) (inl m.2)
-row_to below k t back b (tag105 e) p s =
-    let m = tuple_to below 105 4 t back b (p ∙ ap (λ (j : ℕ). j ∷ back) e) (subst (λ (j : ℕ). AfterTag below (Spells below) j t back) e s) in
-    subst (λ (u : Data). SpellsBy (Spells below) u b) (sym m.1) (inr m.2)
-row_to below k t back b (tag88 e) p s =
-    let m : Mapped pid PidText t back = subst (λ (j : ℕ). AfterTag below (Spells below) j t back) e s in
-    subst (λ (u : Data). SpellsBy (Spells below) u b) (sym m.made) (pid_to m.value back b (p ∙ ap (λ (j : ℕ). j ∷ back) e) m.is_text)
+abbrev RowTo : ℕ → ℕ → Type 0
+RowTo below k = (t : Data) (back b : List ℕ) → b ≡ k ∷ back → AfterTag below (Spells below) k t back → Spells (suc below) t b
+
+own : (below : ℕ) (t u : Data) (b : List ℕ) → t ≡ u → SpellsBy (Spells below) u b → Spells (suc below) t b
+own below t u b e s = inl (subst (λ (v : Data). SpellsBy (Spells below) v b) (sym e) s)
+
+row_to : (below k : ℕ) → is_tag k ≡ true → RowTo below k
+row_to below k e = each_found (RowTo below) tags (
+  λ t back b p m. own below t (int (pos m.value)) b m.made (inl (record { n = m.value; field = back; number = m.is_text; value = refl; bytes = p })),
+  (
+    λ t back b p m. own below t (int (cast_signed w32 m.value)) b m.made (inr (inl (record { n = m.value; field = back; number = m.is_text; value = refl; bytes = p }))),
+    (
+      λ t back b p s. let m = big_to t back b p s in own below t (int m.0) b m.1 (inr (inr m.2)),
+      (
+        λ t back b p m. own below t (atom m.value) b m.made (inl (atom_to 119 1 m.value back b p m.is_text)),
+        (
+          λ t back b p m. own below t (atom m.value) b m.made (inr (inl (atom_to 118 2 m.value back b p m.is_text))),
+          (
+            λ t back b p m. own below t (atom m.value) b m.made (inr (inr (inl (latin_to 115 1 m.value back b p m.is_text)))),
+            (
+              λ t back b p m. own below t (atom m.value) b m.made (inr (inr (inr (latin_to 100 2 m.value back b p m.is_text)))),
+              (
+                λ t back b p s. let m = tuple_to below 104 1 t back b p s in own below t (tuple m.0) b m.1 (inl m.2),
+                (
+                  λ t back b p s. let m = tuple_to below 105 4 t back b p s in own below t (tuple m.0) b m.1 (inr m.2),
+                  (
+                    λ t back b p s. own below t (list no_items) b s.0 (inl (refl, p ∙ ap (λ (w : List ℕ). 106 ∷ w) s.1)),
+                    (
+                      λ t back b p s. let m = string_to t back b p s in own below t (listed m.0) b m.1 (inr m.2),
+                      (
+                        λ t back b p s. inr (list_to below t back b p s),
+                        (
+                          λ t back b p s. let m = binary_to t back b p s in own below t (binary m.0) b m.1 m.2,
+                          (
+                            λ t back b p m. own below t (pid m.value) b m.made (pid_to m.value back b p m.is_text),
+                            (λ t back b p m. own below t (reference m.value) b m.made (reference_to m.value back b p m.is_text), tt),
+                          ),
+                        ),
+                      ),
+                    ),
+                  ),
+                ),
+              ),
+            ),
+          ),
+        ),
+      ),
+    ),
+  ),
+) k e
 
 abbrev Tagged : ℕ → Data → List ℕ → Type 0
-Tagged below = Then (IsByteWhere is_tag) (AfterTag below (Spells below))
+Tagged below = Then (IsByteWhere (may_stand below)) (AfterTag below (Spells below))
 
 term_to : (below : ℕ) (t : Data) (b : List ℕ) → Tagged below t b → Spells (suc below) t b
-term_to below t b s = row_to below s.value t s.back b (tag_is s.value s.is_front.passes) (s.parts ∙ ap (λ (w : List ℕ). w ++ s.back) (one_byte s.value s.front s.is_front.number)) s.is_back
+term_to below t b s = row_to below s.value (stands below s.value s.is_front.passes).tag t s.back b (byte_front (may_stand below) s.value s.front s.back b s.is_front s.parts) s.is_back
 
-tagged : (below k : ℕ) (t : Data) (back b : List ℕ) → is_tag k ≡ true → k < 256 → AfterTag below (Spells below) k t back → b ≡ k ∷ back → Tagged below t b
-tagged below k t back b e lt s p = record { value = k; front = k ∷ []; back = back; is_front = record { passes = e; number = byte_number k lt }; is_back = s; parts = p }
+tagged : (below k : ℕ) (t : Data) (back b : List ℕ) → is_tag k ≡ true → (k ≡ 108 → 0 < below) → k < 256 → AfterTag below (Spells below) k t back → b ≡ k ∷ back → Tagged below t b
+tagged below k t back b e h lt s p = record { value = k; front = k ∷ []; back = back; is_front = record { passes = may_stand-true below k e h; number = byte_number k lt }; is_back = s; parts = p }
+
+-- a tail lies a level below
+some_below : (below : ℕ) (t : Data) (b : List ℕ) → Spells below t b → 0 < below
+some_below zero t b s = absurd s
+some_below (suc below) t b s = omega arith
+
+-- any tag but that of LIST
+other : (k below : ℕ) → (k == 108) ≡ false → k ≡ 108 → 0 < below
+other k below p q = absurd (let z : (k == 108) ≡ true = rw q refl in cc)
 
 term_back : (below : ℕ) (t : Data) (b : List ℕ) → Spells (suc below) t b → Tagged below t b
-term_back below (int z) b (inl s) = tagged below 97 (int z) s.field b refl (omega arith) (record { value = s.n; is_text = s.number; made = ap int s.value }) s.bytes
-term_back below (int z) b (inr (inl s)) = tagged below 98 (int z) s.field b refl (omega arith) (record { value = s.n; is_text = s.number; made = ap int s.value }) s.bytes
-term_back below (int z) b (inr (inr s)) = let m = big_back z b s in tagged below 110 (int z) m.0 b refl (omega arith) m.1 m.2
-term_back below (atom a) b (inl s) = let m = atom_back 119 1 a b s in tagged below 119 (atom a) m.0 b refl (omega arith) (record { value = a; is_text = m.1; made = refl }) m.2
-term_back below (atom a) b (inr s) = let m = atom_back 118 2 a b s in tagged below 118 (atom a) m.0 b refl (omega arith) (record { value = a; is_text = m.1; made = refl }) m.2
-term_back below (tuple ts) b (inl s) = let m = tuple_back below 104 1 ts b (λ n c k. let l = number_1 n c k in omega arith) s in tagged below 104 (tuple ts) m.0 b refl (omega arith) m.1 m.2
-term_back below (tuple ts) b (inr s) = let m = tuple_back below 105 4 ts b number_4 s in tagged below 105 (tuple ts) m.0 b refl (omega arith) m.1 m.2
-term_back below (pid p) b s = let m = pid_back p b s in tagged below 88 (pid p) m.0 b refl (omega arith) (record { value = p; is_text = m.1; made = refl }) m.2
+term_back below (int z) b (inl (inl s)) = tagged below 97 (int z) s.field b refl (other 97 below refl) (omega arith) (record { value = s.n; is_text = s.number; made = ap int s.value }) s.bytes
+term_back below (int z) b (inl (inr (inl s))) = tagged below 98 (int z) s.field b refl (other 98 below refl) (omega arith) (record { value = s.n; is_text = s.number; made = ap int s.value }) s.bytes
+term_back below (int z) b (inl (inr (inr s))) = let m = big_back z b s in tagged below 110 (int z) m.0 b refl (other 110 below refl) (omega arith) m.1 m.2
+term_back below (atom a) b (inl (inl s)) = let m = atom_back 119 1 a b s in tagged below 119 (atom a) m.0 b refl (other 119 below refl) (omega arith) (record { value = a; is_text = m.1; made = refl }) m.2
+term_back below (atom a) b (inl (inr (inl s))) = let m = atom_back 118 2 a b s in tagged below 118 (atom a) m.0 b refl (other 118 below refl) (omega arith) (record { value = a; is_text = m.1; made = refl }) m.2
+term_back below (atom a) b (inl (inr (inr (inl s)))) = let m = latin_back 115 1 a b s in tagged below 115 (atom a) m.0 b refl (other 115 below refl) (omega arith) (record { value = a; is_text = m.1; made = refl }) m.2
+term_back below (atom a) b (inl (inr (inr (inr s)))) = let m = latin_back 100 2 a b s in tagged below 100 (atom a) m.0 b refl (other 100 below refl) (omega arith) (record { value = a; is_text = m.1; made = refl }) m.2
+term_back below (tuple ts) b (inl (inl s)) = let m = tuple_back below 104 1 ts b (λ n c k. let l = number_1 n c k in omega arith) s in tagged below 104 (tuple ts) m.0 b refl (other 104 below refl) (omega arith) m.1 m.2
+term_back below (tuple ts) b (inl (inr s)) = let m = tuple_back below 105 4 ts b number_4 s in tagged below 105 (tuple ts) m.0 b refl (other 105 below refl) (omega arith) m.1 m.2
+term_back below (list ts) b (inl (inl s)) = tagged below 106 (list ts) [] b refl (other 106 below refl) (omega arith) (ap list s.0, refl) s.1
+term_back below (list ts) b (inl (inr s)) =
+    tagged below 107 (list ts) (s.len ++ s.letters) b refl (other 107 below refl) (omega arith) (subst (λ (us : Items). Sized 2 listed (list us) (s.len ++ s.letters)) (sym s.value) (sized_back 2 listed s.letters s.len s.are_bytes s.number)) s.bytes
+term_back below (improper ts t) b (inl s) = absurd s
+term_back below (binary a) b (inl s) = tagged below 109 (binary a) (s.len ++ a) b refl (other 109 below refl) (omega arith) (sized_back 4 binary a s.len s.are_bytes s.number) s.bytes
+term_back below (pid p) b (inl s) = let m = pid_back p b s in tagged below 88 (pid p) m.0 b refl (other 88 below refl) (omega arith) (record { value = p; is_text = m.1; made = refl }) m.2
+term_back below (reference r) b (inl s) = let m = reference_back r b s in tagged below 90 (reference r) m.0 b refl (other 90 below refl) (omega arith) (record { value = r; is_text = m.1; made = refl }) m.2
+term_back below t b (inr s) = let m = list_back below t b s in tagged below 108 t m.0 b refl (λ q. some_below below s.last s.tail s.is_tail) (omega arith) m.1 m.2
 
-pub term_same : (below : ℕ) (bytes : List ℕ) → term_at (suc below) bytes ≡ and_then (byte_where is_tag (λ k. OutOfProfile k)) (row_with below (term_at below)) bytes
+pub term_same : (below : ℕ) (bytes : List ℕ) → term_at (suc below) bytes ≡ and_then (byte_where (may_stand below) tag_fault) (row_with below (term_at below)) bytes
 unfolding term_at
-term_same below bytes = bind_where is_tag (λ k. OutOfProfile k) (row_with below (term_at below)) bytes (tag_fails below (term_at below))
+term_same below bytes = bind_where (may_stand below) tag_fault (row_with below (term_at below)) bytes (tag_fails below (term_at below))
+
+pub Reads-tag : (below : ℕ) → Reads (IsByteWhere (may_stand below)) (byte_where (may_stand below) tag_fault)
+Reads-tag below = Reads-where (may_stand below) tag_fault fault_not_cut 97 refl (omega arith)
 
 pub Reads-term : (levels : ℕ) → 0 < levels → Reads (Spells levels) (term_at levels)
 Reads-term zero lt = absurd (omega arith)
 Reads-term (suc below) lt =
-    Reads-by (Spells (suc below)) (and_then (byte_where is_tag (λ k. OutOfProfile k)) (row_with below (term_at below))) (term_at (suc below)) (term_same below)
-    (Reads-same (Tagged below) (Spells (suc below)) (and_then (byte_where is_tag (λ k. OutOfProfile k)) (row_with below (term_at below))) (term_to below) (term_back below)
-    (Reads-then (IsByteWhere is_tag) (AfterTag below (Spells below)) (byte_where is_tag (λ k. OutOfProfile k)) (row_with below (term_at below)) (Reads-where is_tag (λ k. OutOfProfile k) (λ k e. cc) 97 refl (omega arith))
-    (λ k b s. tag_rows below (Spells below) (term_at below) (Reads-term below) k (tag_is k s.passes))))
+    Reads-by (Spells (suc below)) (and_then (byte_where (may_stand below) tag_fault) (row_with below (term_at below))) (term_at (suc below)) (term_same below)
+    (Reads-same (Tagged below) (Spells (suc below)) (and_then (byte_where (may_stand below) tag_fault) (row_with below (term_at below))) (term_to below) (term_back below)
+    (Reads-then (IsByteWhere (may_stand below)) (AfterTag below (Spells below)) (byte_where (may_stand below) tag_fault) (row_with below (term_at below)) (Reads-tag below)
+    (λ k b s. tag_rows below (Spells below) (term_at below) (Reads-term below) k (stands below k s.passes))))
 
 -- ---- with the version byte
 

@@ -5,14 +5,13 @@ use Rattle.byteorder.specs.Endian.{big_number}
 use Rattle.erl_term.specs.declared.error.TermError.{TermError}
 use Rattle.erl_term.specs.declared.error.TermError.TheVariants.{Cut, Malformed, OutOfProfile, TooDeep}
 use Rattle.erl_term.specs.Numbers.{AreBytes}
-use Rattle.erl_term.specs.Data.{Data, int, atom, tuple, pid, Items, no_items, item, count}
-use Rattle.erl_term.specs.Spelling.{SpellAll, IsTuple, Spells}
-use Rattle.erl_term.specs.Faults.{Nested, IsBadBig}
+use Rattle.erl_term.specs.Data.{Data, int, atom, tuple, list, improper, binary, pid, reference, Items, no_items, item, count, append_items}
+use Rattle.erl_term.specs.Spelling.{SpellAll, IsTuple, IsList, SpellsBy, Spells}
+use Rattle.erl_term.specs.Faults.{is_tag, Nested, IsBadBig}
 use Rattle.erl_term.specs.Reading.{any_at, number_at, items_with, term_at}
 use Rattle.erl_term.proofs.Readers.{Begins, Reads, AreBytes-nil, known, Mapped, Reads-map, Explains, Explains-then, Explains-map, map_read}
 use Rattle.erl_term.proofs.Base.{ok_is, any_cut, number_err, where_err, byte_where}
 use Rattle.erl_term.proofs.Rows.{AreItems, Reads-items}
-use Rattle.erl_term.proofs.Table.{is_tag}
 
 -- ---- more levels allow no less
 
@@ -23,27 +22,43 @@ all_more S T to (item t ts) b s = (s.0, s.1, to t s.0 s.2, all_more S T to ts s.
 tuple_more : (S T : Data → List ℕ → Type 0) → ((t : Data) (b : List ℕ) → S t b → T t b) → (tag width : ℕ) (ts : Items) (b : List ℕ) → IsTuple S tag width ts b → IsTuple T tag width ts b
 tuple_more S T to tag width ts b s = record { arity = s.arity; elements = s.elements; number = s.number; spelled = all_more S T to ts s.elements s.spelled; bytes = s.bytes }
 
+list_more : (S T : Data → List ℕ → Type 0) → ((t : Data) (b : List ℕ) → S t b → T t b) → (t : Data) (b : List ℕ) → IsList S t b → IsList T t b
+list_more S T to t b s = record {
+  items = s.items;
+  last = s.last;
+  len = s.len;
+  elements = s.elements;
+  tail = s.tail;
+  number = s.number;
+  spelled = all_more S T to s.items s.elements s.spelled;
+  is_tail = to s.last s.tail s.is_tail;
+  value = s.value;
+  bytes = s.bytes;
+}
+
+row_more : (S T : Data → List ℕ → Type 0) → ((t : Data) (b : List ℕ) → S t b → T t b) → (t : Data) (b : List ℕ) → SpellsBy S t b → SpellsBy T t b
+row_more S T to (int z) b s = s
+row_more S T to (atom a) b s = s
+row_more S T to (tuple ts) b (inl s) = inl (tuple_more S T to 104 1 ts b s)
+row_more S T to (tuple ts) b (inr s) = inr (tuple_more S T to 105 4 ts b s)
+row_more S T to (list ts) b s = s
+row_more S T to (improper ts t) b s = s
+row_more S T to (binary a) b s = s
+row_more S T to (pid p) b s = s
+row_more S T to (reference r) b s = s
+
 pub one_more : (levels : ℕ) (t : Data) (b : List ℕ) → Spells levels t b → Spells (suc levels) t b
 one_more zero t b s = absurd s
-one_more (suc below) (int z) b s = s
-one_more (suc below) (atom a) b s = s
-one_more (suc below) (pid p) b s = s
-one_more (suc below) (tuple ts) b (inl s) = inl (tuple_more (Spells below) (Spells (suc below)) (one_more below) 104 1 ts b s)
-one_more (suc below) (tuple ts) b (inr s) = inr (tuple_more (Spells below) (Spells (suc below)) (one_more below) 105 4 ts b s)
+one_more (suc below) t b (inl s) = inl (row_more (Spells below) (Spells (suc below)) (one_more below) t b s)
+one_more (suc below) t b (inr s) = inr (list_more (Spells below) (Spells (suc below)) (one_more below) t b s)
 
--- ---- a tuple that is filled up
-
-pub append_items : Items → Items → Items
-append_items no_items us = us
-append_items (item t ts) us = item t (append_items ts us)
+-- ---- a tuple or a list that is filled up
 
 pub count-append : (ts us : Items) → count (append_items ts us) ≡ count ts + count us
-unfolding append_items
 count-append no_items us = omega arith
 count-append (item t ts) us = let e = count-append ts us in omega arith
 
 pub spell_append : (S : Data → List ℕ → Type 0) (ts us : Items) (x y : List ℕ) → SpellAll S ts x → SpellAll S us y → SpellAll S (append_items ts us) (x ++ y)
-unfolding append_items
 spell_append S no_items us x y s t = subst (SpellAll S us) (ap (λ (w : List ℕ). w ++ y) (sym s)) t
 spell_append S (item t ts) us x y s u = (s.0, s.1 ++ y, s.2, spell_append S ts us s.1 y s.3 u, ap (λ (w : List ℕ). w ++ y) s.4 ∙ append_assoc s.0 s.1 y)
 
@@ -67,7 +82,7 @@ zero_byte (suc i) = AreBytes-nil i
 pub zero_spelled : (below n : ℕ) → SpellAll (Spells (suc below)) (zero_items n) (zero_bytes n)
 unfolding zero_items zero_bytes
 zero_spelled below zero = refl
-zero_spelled below (suc n) = (97 ∷ 0 ∷ [], zero_bytes n, inl (record { n = 0; field = 0 ∷ []; number = record { len = refl; bytes = zero_byte; says = refl }; value = refl; bytes = refl }), zero_spelled below n, refl)
+zero_spelled below (suc n) = (97 ∷ 0 ∷ [], zero_bytes n, inl (inl (record { n = 0; field = 0 ∷ []; number = record { len = refl; bytes = zero_byte; says = refl }; value = refl; bytes = refl })), zero_spelled below n, refl)
 
 -- ---- the readers of fields
 

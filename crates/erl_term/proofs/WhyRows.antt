@@ -1,6 +1,6 @@
 -- Why each row of the table is at fault.
-use Rattle.std.proofs.Common.{◌≡◌, ◌≢◌, ℕ, zero, suc, ◌+◌, ◌-◌, ◌^◌, ◌<◌, ◌≤◌, Bool, true, false, List, [], ◌∷◌, ◌++◌, length, get_or, take, Err, refl, sym, ap, subst, ◌∙◌, append_assoc, arith, ◌⊎◌, inl, inr}
-use Rattle.std.specs.Prelude.{pos, ◌==◌, replicate}
+use Rattle.std.proofs.Common.{◌≡◌, ◌≢◌, ℕ, zero, suc, ◌+◌, ◌-◌, ◌^◌, ◌<◌, ◌≤◌, Bool, true, false, cond, List, [], ◌∷◌, ◌++◌, length, get_or, take, Err, refl, sym, ap, subst, ◌∙◌, append_assoc, arith, ◌⊎◌, inl, inr}
+use Rattle.std.specs.Prelude.{pos, nat_lt, ◌==◌, replicate, slice_index}
 use Rattle.std.specs.Int.{w32, cast_signed}
 use Rattle.std.proofs.lemmas.List.{length-append, length-replicate, take_all}
 use Rattle.std.proofs.lemmas.Bool.{eqb-true}
@@ -8,16 +8,21 @@ use Rattle.byteorder.specs.Endian.{big_number}
 use Rattle.erl_term.specs.declared.error.TermError.{TermError}
 use Rattle.erl_term.specs.declared.error.TermError.TheVariants.{Cut, Malformed, OutOfProfile, TooDeep}
 use Rattle.erl_term.specs.Numbers.{AreBytes, low_first}
-use Rattle.erl_term.specs.Data.{Data, int, atom, tuple, pid, Items, item, count}
+use Rattle.erl_term.specs.Data.{Data, int, atom, tuple, list, binary, pid, reference, Items, no_items, item, count, append_items}
+use Rattle.erl_term.specs.Text.{latin_text}
 use Rattle.erl_term.specs.Spelling.{IsNumber, SpellsAtom, SpellAll, IsTuple, Spells}
-use Rattle.erl_term.specs.Faults.{Nested, IsBadBig, IsTag, IsTooDeep, IsOutOfProfile}
-use Rattle.erl_term.specs.Reading.{Read, any_at, number_at, small_at, integer_at, big_at, text_at, atom_at, node_at, pid_at, items_with, arities, tuple_with, row_with, term_at, spelling_at}
-use Rattle.erl_term.proofs.Readers.{AreBytes-split, Reads, Then, and_then, Reads-then, Mapped, Reads-map, Explains, Explains-weaker, Explains-by, Explains-then, Explains-map, map_read}
+use Rattle.erl_term.specs.Faults.{tags, is_tag, Nested, IsBadBig, IsTooDeep, IsOutOfProfile}
+use Rattle.erl_term.specs.Reading.{Read, any_at, number_at, part_at, small_at, integer_at, big_at, text_at, atom_at, letters_at, latin_at, node_at, pid_at, word_count_at, words_at, reference_at, string_at, binary_at, items_with, arities, tuple_with, list_with, row_with, term_at, spelling_at}
+use Rattle.erl_term.proofs.Readers.{AreBytes-nil, AreBytes-split, Begins, Reads, Then, and_then, Reads-then, Mapped, Reads-map, Explains, Explains-weaker, Explains-by, Explains-then, Explains-map, map_read}
 use Rattle.erl_term.proofs.Base.{AreBytes-padded, big_number-padded, byte_where, bind_where, IsByteWhere, Reads-where, IsNumberTo, Reads-any, Reads-number}
 use Rattle.erl_term.proofs.TextReader.{IsText, Reads-text, Says, says, says_cut, says_hopeless, says_text, says_bad}
 use Rattle.erl_term.proofs.Rows.{AreItems, Reads-items, IsMagnitude, magnitude_at, Reads-magnitude, Weighs, weighs, weighs_cut, weighs_large, weighs_in}
-use Rattle.erl_term.proofs.Table.{is_tag, tag_is, TagIs, tag97, tag98, tag110, tag118, tag119, tag104, tag105, tag88, tag_rows, term_same, one_byte, is_node, AfterNode, node_row, node_rows, node_same, AfterTag, Reads-node, made_pid, Reads-term, is_version, version_row, version_fails, version_rows}
-use Rattle.erl_term.proofs.Why.{Nothing, IsOnly, Explains-any, TooMuch, Explains-number, IsUnknown, Explains-where, Why, unknown, in_big, by_levels, elsewhere, WhyItems, Explains-items, one_more, all_more, append_items, count-append, spell_append, zero_items, zero_bytes, zero_count, zero_spelled}
+use Rattle.erl_term.proofs.Bytes.{one_byte}
+use Rattle.erl_term.proofs.Tags.{each_found}
+use Rattle.erl_term.proofs.Pieces.{IsPart, part_cut, Reads-part, sized_at, listed, IsWordCount, Reads-word_count, word_count_why, Counted, words_after, Reads-words}
+use Rattle.erl_term.proofs.Table.{tag_rows, term_same, node_tags, is_node, AfterNode, node_row, node_rows, node_same, AfterTag, may_stand, tag_fault, fault_not_cut, Reads-tag, Stands, stands, Reads-node, made_pid, made_reference, reference_words, Reads-reference_words, Reads-reference_creation, Reads-reference_node, cells_at, list_same, Reads-term, is_version, version_row, version_fails, version_rows}
+use Rattle.erl_term.proofs.WhyLists.{Explains-cells}
+use Rattle.erl_term.proofs.Why.{Nothing, IsOnly, Explains-any, TooMuch, Explains-number, IsUnknown, Explains-where, Why, unknown, in_big, by_levels, elsewhere, WhyItems, Explains-items, one_more, all_more, count-append, spell_append, zero_items, zero_bytes, zero_count, zero_spelled}
 
 text_why : (n : ℕ) (bytes : List ℕ) (e : TermError) → e ≢ Cut → Says n bytes (text_at n bytes) → text_at n bytes ≡ Err e → e ≡ Malformed
 text_why n bytes e c (says_cut l m r) k = absurd (c (let q = sym k ∙ r in cc))
@@ -35,19 +40,28 @@ Explains-atom width =
     (TooMuch 1020 width Malformed) (λ n. IsOnly Malformed) (IsOnly Malformed) (Explains-number Malformed 1020 width (λ e. cc)) (λ n text s. Explains-text n)
     (λ front byte e w. w.is_fault) (λ n text inner byte e s w. w)
 
-node_explains : (k : ℕ) (b : List ℕ) → IsByteWhere is_node k b → Explains (IsOnly Malformed) (node_row k)
-node_explains k b s = at (k == 119) (k == 118) refl refl
-  where
-    at : (x y : Bool) → (k == 119) ≡ x → (k == 118) ≡ y → Explains (IsOnly Malformed) (node_row k)
-    at true y p q = Explains-by (IsOnly Malformed) (atom_at 1) (node_row k) (λ bytes. rw p refl) (Explains-atom 1)
-    at false true p q = Explains-by (IsOnly Malformed) (atom_at 2) (node_row k) (λ bytes. rw (p, q) refl) (Explains-atom 2)
-    at false false p q = record { why = λ front byte e h c l m. absurd (let z : node_row k front ≡ Err Malformed = rw (p, q) refl in cc) }
+Explains-part : (n : ℕ) → Explains Nothing (part_at n)
+Explains-part n = record { why = λ front byte e h c k l. absurd (c (part_cut n (front ++ byte ∷ []) e l).1) }
+
+Explains-letters : (width : ℕ) → Explains (IsOnly Malformed) (letters_at width)
+unfolding letters_at
+Explains-letters width =
+    Explains-then (IsNumberTo 255 width) IsPart (number_at Malformed 255 width) part_at (Reads-number Malformed 255 width (λ e. cc)) (λ n text s. Reads-part n)
+    (TooMuch 255 width Malformed) (λ n. Nothing) (IsOnly Malformed) (Explains-number Malformed 255 width (λ e. cc)) (λ n text s. Explains-part n)
+    (λ front byte e w. w.is_fault) (λ n text inner byte e s w. absurd w)
+
+Explains-latin : (width : ℕ) → Explains (IsOnly Malformed) (latin_at width)
+unfolding latin_at
+Explains-latin width = Explains-map latin_text (IsOnly Malformed) (letters_at width) (Explains-letters width)
+
+node_explains : (k : ℕ) → is_node k ≡ true → Explains (IsOnly Malformed) (node_row k)
+node_explains k e = each_found (λ j. Explains (IsOnly Malformed) (node_row j)) node_tags (Explains-atom 1, (Explains-atom 2, (Explains-latin 1, (Explains-latin 2, tt)))) k e
 
 Explains-node : Explains (IsOnly Malformed) node_at
 Explains-node =
     Explains-by (IsOnly Malformed) (and_then (byte_where is_node (λ k. Malformed)) node_row) node_at node_same
-    (Explains-then (IsByteWhere is_node) AfterNode (byte_where is_node (λ k. Malformed)) node_row (Reads-where is_node (λ k. Malformed) (λ k e. cc) 119 refl (omega arith)) node_rows
-    (IsUnknown is_node (λ k. Malformed)) (λ k. IsOnly Malformed) (IsOnly Malformed) (Explains-where is_node (λ k. Malformed) (λ k e. cc)) node_explains
+    (Explains-then (IsByteWhere is_node) AfterNode (byte_where is_node (λ k. Malformed)) node_row (Reads-where is_node (λ k. Malformed) (λ k e. cc) 119 refl (omega arith)) (λ k b s. node_rows k s.passes)
+    (IsUnknown is_node (λ k. Malformed)) (λ k. IsOnly Malformed) (IsOnly Malformed) (Explains-where is_node (λ k. Malformed) (λ k e. cc)) (λ k b s. node_explains k s.passes)
     (λ front byte e w. w.is_fault) (λ n text inner byte e s w. w))
 
 Explains-words : {A : Type 0} (T : ℕ → A → List ℕ → Type 0) (next : ℕ → List ℕ → Read A) → ((n : ℕ) → Reads (T n) (next n)) → ((n : ℕ) → Explains Nothing (next n)) → Explains Nothing (and_then (any_at 4) next)
@@ -66,6 +80,32 @@ Explains-pid =
     (λ id. Explains-words (λ serial. Mapped (made_pid node id serial) (IsNumber 4)) (λ serial bytes. map_read (made_pid node id serial) (any_at 4 bytes)) (last node id)
     (λ serial. Explains-map (made_pid node id serial) Nothing (any_at 4) (Explains-any 4))))
     (λ front byte e w. w) (λ n text inner byte e s w. absurd w)
+
+-- ---- strings, binaries and references
+
+Explains-sized : {A : Type 0} (width : ℕ) (f : List ℕ → A) → Explains Nothing (sized_at width f)
+Explains-sized width f =
+    Explains-then (IsNumber width) (λ n. Mapped f (IsPart n)) (any_at width) (λ n bytes. map_read f (part_at n bytes)) (Reads-any width) (λ n text s. Reads-map f (IsPart n) (part_at n) (Reads-part n))
+    Nothing (λ n. Nothing) Nothing (Explains-any width) (λ n text s. Explains-map f Nothing (part_at n) (Explains-part n)) (λ front byte e w. w) (λ n text inner byte e s w. w)
+
+Explains-word_count : Explains (IsOnly Malformed) word_count_at
+Explains-word_count = record { why = λ front byte e h c k l. word_count_why (front ++ byte ∷ []) e c l }
+
+Explains-counted : (n : ℕ) → Explains Nothing (words_at n)
+unfolding words_at
+Explains-counted zero = record { why = λ front byte e h c k l. absurd cc }
+Explains-counted (suc n) = Explains-words (λ w. Mapped (λ (us : List ℕ). w ∷ us) (Counted n)) (words_after n) (λ w. Reads-map (λ (us : List ℕ). w ∷ us) (Counted n) (words_at n) (Reads-words n)) (λ w. Explains-map (λ (us : List ℕ). w ∷ us) Nothing (words_at n) (Explains-counted n))
+
+Explains-reference : Explains (IsOnly Malformed) reference_at
+unfolding reference_at
+Explains-reference =
+    Explains-then IsWordCount (λ n. Then SpellsAtom (λ node. Then (IsNumber 4) (λ creation. Mapped (made_reference node creation) (Counted n)))) word_count_at (λ n. and_then node_at (λ node. and_then (any_at 4) (reference_words n node))) Reads-word_count
+    (λ n t s. Reads-reference_node n) (IsOnly Malformed) (λ n. IsOnly Malformed) (IsOnly Malformed) Explains-word_count
+    (λ n t s. Explains-then SpellsAtom (λ node. Then (IsNumber 4) (λ creation. Mapped (made_reference node creation) (Counted n))) node_at (λ node. and_then (any_at 4) (reference_words n node)) Reads-node (λ node u v. Reads-reference_creation n node)
+    (IsOnly Malformed) (λ node. Nothing) (IsOnly Malformed) Explains-node
+    (λ node u v. Explains-words (λ creation. Mapped (made_reference node creation) (Counted n)) (reference_words n node) (Reads-reference_words n node) (λ creation. Explains-map (made_reference node creation) Nothing (words_at n) (Explains-counted n)))
+    (λ front byte e w. w) (λ node text inner byte e v w. absurd w))
+    (λ front byte e w. w) (λ n text inner byte e s w. w)
 
 -- ---- big integers
 
@@ -184,15 +224,15 @@ data Row (k width : ℕ) : Type 0 where
   row105 : k ≡ 105 → width ≡ 4 → Row k width
 
 row_spells : (m k width : ℕ) (ts : Items) (b : List ℕ) → Row k width → IsTuple (Spells m) k width ts b → Spells (suc m) (tuple ts) b
-row_spells m k width ts b (row104 p q) s = inl (subst (λ (j : ℕ). IsTuple (Spells m) j 1 ts b) p (subst (λ (w : ℕ). IsTuple (Spells m) k w ts b) q s))
-row_spells m k width ts b (row105 p q) s = inr (subst (λ (j : ℕ). IsTuple (Spells m) j 4 ts b) p (subst (λ (w : ℕ). IsTuple (Spells m) k w ts b) q s))
+row_spells m k width ts b (row104 p q) s = inl (inl (subst (λ (j : ℕ). IsTuple (Spells m) j 1 ts b) p (subst (λ (w : ℕ). IsTuple (Spells m) k w ts b) q s)))
+row_spells m k width ts b (row105 p q) s = inl (inr (subst (λ (j : ℕ). IsTuple (Spells m) j 4 ts b) p (subst (λ (w : ℕ). IsTuple (Spells m) k w ts b) q s)))
 
 row_is : (k width : ℕ) → Row k width → ((k ≡ 104) × (width ≡ 1)) ⊎ ((k ≡ 105) × (width ≡ 4))
 row_is k width (row104 p q) = inl (p, q)
 row_is k width (row105 p q) = inr (p, q)
 
 in_tuple : (below k width n : ℕ) (At : List ℕ → Type 0) (arity inner : List ℕ) (w-before : Items) (w-elements w-inner : List ℕ) → Row k width → IsNumber width n arity → SpellAll (Spells below) w-before w-elements → count w-before < n → inner ≡ w-elements ++ w-inner → Nested below At w-inner → Nested (suc below) At (k ∷ (arity ++ inner))
-in_tuple below k width n At arity inner before elements last r num s lt p at = inr (record {
+in_tuple below k width n At arity inner before elements last r num s lt p at = inr (inl (record {
   tag = k;
   width = width;
   arity = arity;
@@ -206,7 +246,7 @@ in_tuple below k width n At arity inner before elements last r num s lt p at = i
   left = lt;
   at = at;
   parts = ap (λ (v : List ℕ). k ∷ (arity ++ v)) p;
-})
+}))
 
 regroup5 : (k b : ℕ) (a e l m : List ℕ) → (k ∷ (a ++ (e ++ (l ++ b ∷ [])))) ++ m ≡ ((k ∷ (a ++ (e ++ l))) ++ b ∷ []) ++ m
 regroup5 k b a e l m = ap (λ (w : List ℕ). (k ∷ w) ++ m) (sym (append_assoc a (e ++ l) (b ∷ []) ∙ ap (λ (w : List ℕ). a ++ w) (append_assoc e l (b ∷ []))))
@@ -269,24 +309,104 @@ big_row : (below : ℕ) (front : List ℕ) (byte : ℕ) (e : TermError) → BigW
 big_row below front byte e (inl w) h = elsewhere w
 big_row below front byte e (inr w) h = in_big w.0 (inl w.1)
 
-row_why : (below k : ℕ) → TagIs k → (0 < below → Reads (Spells below) (term_at below) × Explains (Why below) (term_at below)) → Explains (RowWhy below k) (row_with below (term_at below) k)
-unfolding row_with small_at integer_at
-row_why below k (tag97 e) both = subst (λ (j : ℕ). Explains (RowWhy below j) (row_with below (term_at below) j)) (sym e) (nothing_why (λ n. int (pos n)) below 97 (any_at 1) (Explains-any 1))
-row_why below k (tag98 e) both = subst (λ (j : ℕ). Explains (RowWhy below j) (row_with below (term_at below) j)) (sym e) (nothing_why (λ n. int (cast_signed w32 n)) below 98 (any_at 4) (Explains-any 4))
-row_why below k (tag110 e) both = subst (λ (j : ℕ). Explains (RowWhy below j) (row_with below (term_at below) j)) (sym e) (Explains-weaker BigWhy (RowWhy below 110) big_at (big_row below) Explains-big)
-row_why below k (tag118 e) both = subst (λ (j : ℕ). Explains (RowWhy below j) (row_with below (term_at below) j)) (sym e) (malformed_why atom below 118 (atom_at 2) (Explains-atom 2))
-row_why below k (tag119 e) both = subst (λ (j : ℕ). Explains (RowWhy below j) (row_with below (term_at below) j)) (sym e) (malformed_why atom below 119 (atom_at 1) (Explains-atom 1))
-row_why below k (tag88 e) both = subst (λ (j : ℕ). Explains (RowWhy below j) (row_with below (term_at below) j)) (sym e) (malformed_why pid below 88 pid_at Explains-pid)
-row_why below k (tag104 e) both = subst (λ (j : ℕ). Explains (RowWhy below j) (row_with below (term_at below) j)) (sym e) (record { why = λ front byte f h c l m g. tuple_why below 104 1 (row104 refl refl) both front byte f h c l m })
-row_why below k (tag105 e) both = subst (λ (j : ℕ). Explains (RowWhy below j) (row_with below (term_at below) j)) (sym e) (record { why = λ front byte f h c l m g. tuple_why below 105 4 (row105 refl refl) both front byte f h c l m })
+list_row : (below : ℕ) → (0 < below → Reads (Spells below) (term_at below) × Explains (Why below) (term_at below)) → 0 < below → Explains (RowWhy below 108) (list_with below (term_at below))
+list_row below both lt =
+    let b = both lt in
+    Explains-weaker (λ front byte e. Why (suc below) (108 ∷ front) byte e) (RowWhy below 108) (list_with below (term_at below)) (λ front byte e w h. w)
+    (Explains-by (λ front byte e. Why (suc below) (108 ∷ front) byte e) (cells_at (term_at below)) (list_with below (term_at below)) (λ bytes. list_same below (term_at below) bytes lt) (Explains-cells below b.0 b.1))
+
+quiet_row : (below k : ℕ) (read : List ℕ → Read Data) → Explains Nothing read → Explains (RowWhy below k) read
+quiet_row below k read x = Explains-weaker Nothing (RowWhy below k) read (λ front byte e w h. absurd w) x
+
+abbrev Explained : ℕ → ℕ → Type 0
+Explained below k = (k ≡ 108 → 0 < below) → Explains (RowWhy below k) (row_with below (term_at below) k)
+
+row_why : (below k : ℕ) → Stands below k → (0 < below → Reads (Spells below) (term_at below) × Explains (Why below) (term_at below)) → Explains (RowWhy below k) (row_with below (term_at below) k)
+unfolding row_with small_at integer_at string_at binary_at
+row_why below k s both = each_found (Explained below) tags (
+  λ h. nothing_why (λ n. int (pos n)) below 97 (any_at 1) (Explains-any 1),
+  (
+    λ h. nothing_why (λ n. int (cast_signed w32 n)) below 98 (any_at 4) (Explains-any 4),
+    (
+      λ h. Explains-weaker BigWhy (RowWhy below 110) big_at (big_row below) Explains-big,
+      (
+        λ h. malformed_why atom below 119 (atom_at 1) (Explains-atom 1),
+        (
+          λ h. malformed_why atom below 118 (atom_at 2) (Explains-atom 2),
+          (
+            λ h. malformed_why atom below 115 (latin_at 1) (Explains-latin 1),
+            (
+              λ h. malformed_why atom below 100 (latin_at 2) (Explains-latin 2),
+              (
+                λ h. record { why = λ front byte f h c l m g. tuple_why below 104 1 (row104 refl refl) both front byte f h c l m },
+                (
+                  λ h. record { why = λ front byte f h c l m g. tuple_why below 105 4 (row105 refl refl) both front byte f h c l m },
+                  (
+                    λ h. record { why = λ front byte f h c l m g. absurd cc },
+                    (
+                      λ h. quiet_row below 107 string_at (Explains-sized 2 listed),
+                      (
+                        λ h. list_row below both (h refl),
+                        (
+                          λ h. quiet_row below 109 binary_at (Explains-sized 4 binary),
+                          (
+                            λ h. malformed_why pid below 88 pid_at Explains-pid,
+                            (λ h. malformed_why reference below 90 reference_at Explains-reference, tt),
+                          ),
+                        ),
+                      ),
+                    ),
+                  ),
+                ),
+              ),
+            ),
+          ),
+        ),
+      ),
+    ),
+  ),
+) k s.tag s.level
 
 abbrev TermWhy : ℕ → List ℕ → ℕ → TermError → Type 0
 TermWhy levels front byte e = AreBytes (front ++ byte ∷ []) → Why levels front byte e
 
-unknown_why : (below : ℕ) (front : List ℕ) (byte : ℕ) (e : TermError) → IsUnknown is_tag (λ k. OutOfProfile k) front byte e → TermWhy (suc below) front byte e
-unknown_why below front byte e w h = unknown w.is_fault w.fails (inl w.first)
+-- a list at the last level is one of two levels
+list_begins : (below byte : ℕ) → byte ≡ 108 → Begins (Spells (suc (suc below))) (byte ∷ [])
+list_begins below byte e = record {
+  value = list no_items;
+  more = 0 ∷ 0 ∷ 0 ∷ 0 ∷ 106 ∷ [];
+  is_text = inr (record {
+    items = no_items;
+    last = list no_items;
+    len = 0 ∷ 0 ∷ 0 ∷ 0 ∷ [];
+    elements = [];
+    tail = 106 ∷ [];
+    number = four_bytes 0;
+    spelled = refl;
+    is_tail = inl (inl (refl, refl));
+    value = refl;
+    bytes = ap (λ (j : ℕ). j ∷ 0 ∷ 0 ∷ 0 ∷ 0 ∷ 106 ∷ []) e;
+  });
+}
+  where
+    zeros : (i : ℕ) → slice_index (0 ∷ 0 ∷ 0 ∷ 0 ∷ []) i < 256
+    zeros zero = omega arith
+    zeros (suc zero) = omega arith
+    zeros (suc (suc zero)) = omega arith
+    zeros (suc (suc (suc zero))) = omega arith
+    zeros (suc (suc (suc (suc i)))) = AreBytes-nil i
 
-tagged_why : (below k : ℕ) (text inner : List ℕ) (byte : ℕ) (e : TermError) → IsByteWhere is_tag k text → RowWhy below k inner byte e → TermWhy (suc below) (text ++ inner) byte e
+    four_bytes : (n : ℕ) → IsNumber 4 0 (0 ∷ 0 ∷ 0 ∷ 0 ∷ [])
+    four_bytes n = record { len = refl; bytes = zeros; says = refl }
+
+unknown_why : (below : ℕ) (front : List ℕ) (byte : ℕ) (e : TermError) → IsUnknown (may_stand below) tag_fault front byte e → TermWhy (suc below) front byte e
+unknown_why below front byte e w h = by (byte == 108) refl w.fails w.is_fault
+  where
+    by : (b : Bool) → (byte == 108) ≡ b → cond b (nat_lt 0 below) (is_tag byte) ≡ false → e ≡ cond b TooDeep (OutOfProfile byte) → Why (suc below) front byte e
+    by true p f q = by_levels q (subst (λ (v : List ℕ). Begins (Spells (suc (suc below))) (v ++ byte ∷ [])) (sym w.first) (list_begins below byte (eqb-true byte 108 p)))
+    by false p f q = unknown q f (inl w.first)
+
+tagged_why : (below k : ℕ) (text inner : List ℕ) (byte : ℕ) (e : TermError) → IsByteWhere (may_stand below) k text → RowWhy below k inner byte e → TermWhy (suc below) (text ++ inner) byte e
 tagged_why below k text inner byte e s w h =
     let t = one_byte k text s.number in
     let split : (text ++ inner) ++ byte ∷ [] ≡ k ∷ (inner ++ byte ∷ []) = ap (λ (v : List ℕ). (v ++ inner) ++ byte ∷ []) t in
@@ -297,10 +417,10 @@ pub Explains-term : (levels : ℕ) → 0 < levels → Explains (TermWhy levels) 
 Explains-term zero lt = absurd (omega arith)
 Explains-term (suc below) lt =
     let both : 0 < below → Reads (Spells below) (term_at below) × Explains (Why below) (term_at below) = λ some. (Reads-term below some, record { why = λ front byte e h c k l. (Explains-term below some).why front byte e h c k l h }) in
-    Explains-by (TermWhy (suc below)) (and_then (byte_where is_tag (λ k. OutOfProfile k)) (row_with below (term_at below))) (term_at (suc below)) (term_same below)
-    (Explains-then (IsByteWhere is_tag) (AfterTag below (Spells below)) (byte_where is_tag (λ k. OutOfProfile k)) (row_with below (term_at below)) (Reads-where is_tag (λ k. OutOfProfile k) (λ k e. cc) 97 refl (omega arith))
-    (λ k b s. tag_rows below (Spells below) (term_at below) (Reads-term below) k (tag_is k s.passes))
-    (IsUnknown is_tag (λ k. OutOfProfile k)) (RowWhy below) (TermWhy (suc below)) (Explains-where is_tag (λ k. OutOfProfile k) (λ k e. cc)) (λ k b s. row_why below k (tag_is k s.passes) both)
+    Explains-by (TermWhy (suc below)) (and_then (byte_where (may_stand below) tag_fault) (row_with below (term_at below))) (term_at (suc below)) (term_same below)
+    (Explains-then (IsByteWhere (may_stand below)) (AfterTag below (Spells below)) (byte_where (may_stand below) tag_fault) (row_with below (term_at below)) (Reads-tag below)
+    (λ k b s. tag_rows below (Spells below) (term_at below) (Reads-term below) k (stands below k s.passes))
+    (IsUnknown (may_stand below) tag_fault) (RowWhy below) (TermWhy (suc below)) (Explains-where (may_stand below) tag_fault fault_not_cut) (λ k b s. row_why below k (stands below k s.passes) both)
     (unknown_why below) (tagged_why below))
 
 -- ---- with the version byte
@@ -333,16 +453,6 @@ Explains-spelling =
 
 -- ---- the kinds
 
-pub is_tag-true : (k : ℕ) → IsTag k → is_tag k ≡ true
-is_tag-true k (inl e) = rw e refl
-is_tag-true k (inr (inl e)) = rw e refl
-is_tag-true k (inr (inr (inl e))) = rw e refl
-is_tag-true k (inr (inr (inr (inl e)))) = rw e refl
-is_tag-true k (inr (inr (inr (inr (inl e))))) = rw e refl
-is_tag-true k (inr (inr (inr (inr (inr (inl e)))))) = rw e refl
-is_tag-true k (inr (inr (inr (inr (inr (inr (inl e))))))) = rw e refl
-is_tag-true k (inr (inr (inr (inr (inr (inr (inr e))))))) = rw e refl
-
 -- what the reader answers, as the kinds say it
 pub data Kind (front : List ℕ) (byte : ℕ) (e : TermError) : Type 0 where
   out_of_profile : (tag : ℕ) → e ≡ OutOfProfile tag → IsOutOfProfile front byte tag → Kind front byte e
@@ -350,7 +460,7 @@ pub data Kind (front : List ℕ) (byte : ℕ) (e : TermError) : Type 0 where
   is_malformed : e ≡ Malformed → Kind front byte e
 
 kind_within : (inner : List ℕ) (byte : ℕ) (e : TermError) → Why 64 inner byte e → Kind (131 ∷ inner) byte e
-kind_within inner byte e (unknown q t at) = out_of_profile byte q (inl (refl, (record { inner = inner; nested = at; parts = refl }, λ tag. let k = is_tag-true byte tag in cc)))
+kind_within inner byte e (unknown q t at) = out_of_profile byte q (inl (refl, (record { inner = inner; nested = at; parts = refl }, t)))
 kind_within inner byte e (in_big q at) = out_of_profile 110 q (inr (refl, record { inner = inner; nested = at; parts = refl }))
 kind_within inner byte e (by_levels q b) = too_deep q (65, record { value = b.value; more = b.more; is_text = record { term = (inner ++ byte ∷ []) ++ b.more; spelled = b.is_text; bytes = refl } })
 kind_within inner byte e (elsewhere q) = is_malformed q

@@ -1,5 +1,6 @@
 -- Where bytes stop being the beginning of a spelling, and why.
-use Rattle.std.specs.Prelude.{◌≡◌, ℕ, zero, suc, ◌+◌, ◌<◌, ◌≤◌, ◌^◌, ◌⊎◌, List, [], ◌∷◌, ◌++◌, length}
+use Rattle.std.specs.Prelude.{◌≡◌, ℕ, zero, suc, ◌+◌, ◌<◌, ◌≤◌, ◌^◌, ◌⊎◌, Bool, false, ◌==◌, List, [], ◌∷◌, ◌++◌, length}
+use Rattle.std.specs.List.{list_any}
 use Rattle.readers.specs.Places.{Begins, IsFirstFault, IsInside as IsInsideOf, IsAtFront as IsAtFrontOf}
 use Rattle.erl_term.specs.declared.error.TermError.{TermError}
 use Rattle.erl_term.specs.declared.error.TermError.TheVariants.{Cut, Malformed, OutOfProfile, TooDeep, TooLong, OutOfMemory}
@@ -24,8 +25,11 @@ abbrev pub FirstFault : List ℕ → List ℕ → ℕ → Type 0
 FirstFault bytes front byte = IsFirstFault (IsSpelling 64) bytes front byte
 
 -- the tags of the rows
-abbrev pub IsTag : ℕ → Type 0
-IsTag b = (b ≡ 97) ⊎ ((b ≡ 98) ⊎ ((b ≡ 110) ⊎ ((b ≡ 118) ⊎ ((b ≡ 119) ⊎ ((b ≡ 104) ⊎ ((b ≡ 105) ⊎ (b ≡ 88)))))))
+abbrev pub tags : List ℕ
+tags = 97 ∷ 98 ∷ 110 ∷ 119 ∷ 118 ∷ 115 ∷ 100 ∷ 104 ∷ 105 ∷ 106 ∷ 107 ∷ 108 ∷ 109 ∷ 88 ∷ 90 ∷ []
+
+abbrev pub is_tag : ℕ → Bool
+is_tag b = list_any (λ tag. b == tag) tags
 
 -- a tuple was begun, some of its elements stand there, not all of them, and then what At says
 pub record InTuple (Spell : Data → List ℕ → Type 0) (At : List ℕ → Type 0) (front : List ℕ) : Type 0 where
@@ -43,10 +47,23 @@ pub record InTuple (Spell : Data → List ℕ → Type 0) (At : List ℕ → Typ
   pub at : At inner
   pub parts : front ≡ tag ∷ (arity ++ (elements ++ inner))
 
--- At stands at the end of the front, within some tuples, of so many levels at most
+-- a list was begun, some of its elements stand there, and then, in an element or in the tail behind all of them, what At says
+pub record InList (Spell : Data → List ℕ → Type 0) (At : List ℕ → Type 0) (front : List ℕ) : Type 0 where
+  pub len : List ℕ
+  pub n : ℕ
+  pub before : Items
+  pub elements : List ℕ
+  pub inner : List ℕ
+  pub number : IsNumber 4 n len
+  pub spelled : SpellAll Spell before elements
+  pub left : count before ≤ n
+  pub at : At inner
+  pub parts : front ≡ 108 ∷ (len ++ (elements ++ inner))
+
+-- At stands at the end of the front, within some tuples and lists, of so many levels at most
 abbrev pub Nested : ℕ → (List ℕ → Type 0) → List ℕ → Type 0
 Nested zero At front = ⊥
-Nested (suc below) At front = At front ⊎ InTuple (Spells below) (Nested below At) front
+Nested (suc below) At front = At front ⊎ (InTuple (Spells below) (Nested below At) front ⊎ InList (Spells below) (Nested below At) front)
 
 -- a SMALL_BIG was begun, and this byte ends a magnitude that is out of range
 pub record IsLargeBig (byte : ℕ) (front : List ℕ) : Type 0 where
@@ -69,7 +86,7 @@ pub record AtPlace (At : List ℕ → Type 0) (front : List ℕ) : Type 0 where
 
 -- a term must come next, and the byte is no tag
 abbrev pub IsUnknownTag : List ℕ → ℕ → Type 0
-IsUnknownTag front byte = AtPlace (λ inner. inner ≡ []) front × (IsTag byte → ⊥)
+IsUnknownTag front byte = AtPlace (λ inner. inner ≡ []) front × (is_tag byte ≡ false)
 
 -- only the number of levels forbids the byte
 abbrev pub IsTooDeep : List ℕ → ℕ → Type 0

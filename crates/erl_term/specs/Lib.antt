@@ -13,3 +13,4 @@ pub mod Limited
 pub mod Canonical
 pub mod Skipping
 pub mod Parts
+pub mod PartText

@@ -1,12 +1,33 @@
 -- Parts of a term that are read where they lie, each by itself.
-use Rattle.std.specs.Prelude.{◌≡◌, ℕ, ℤ, ◌⊎◌, List, ◌∷◌, ◌++◌, Err, Option, IfSome, MatchOption, ◌==◌, if◌then◌else◌}
+use Rattle.std.specs.Prelude.{◌≡◌, ℕ, ℤ, zero, suc, ◌+◌, ◌⊎◌, List, [], ◌∷◌, ◌++◌, Err, Option, IfSome, MatchOption, ◌==◌, if◌then◌else◌}
 use Rattle.std.specs.Borrow.{Bor}
 pub use Rattle.readers.specs.Laws.{Takes}
 use Rattle.erl_term.specs.declared.error.TermError.TheVariants.{Malformed}
 use Rattle.erl_term.specs.declared.term.Pid.{Pid}
+use Rattle.erl_term.specs.declared.term.Reference.{Reference}
 use Rattle.erl_term.specs.Data.{Data}
 use Rattle.erl_term.specs.Spelling.{IsNumber, IsSmallInteger, IsInteger, IsSmallBig}
-use Rattle.erl_term.specs.Reading.{Read, ◌>>=◌, any_at, small_at, integer_at, big_at, pid_at}
+use Rattle.erl_term.specs.Reading.{Read, ◌>>=◌, any_at, small_at, integer_at, big_at, pid_at, reference_at}
+
+-- so many lists with no elements, each in the tail of the one before it. Such a list stands for its tail
+abbrev pub lists : ℕ → List ℕ
+lists zero = []
+lists (suc k) = 108 ∷ 0 ∷ 0 ∷ 0 ∷ 0 ∷ lists k
+
+-- b is such lists, and then a text of S, where so many levels are left below it
+pub record Behind (S : ℕ → List ℕ → Type 0) (levels : ℕ) (b : List ℕ) : Type 0 where
+  pub k : ℕ
+  pub below : ℕ
+  pub text : List ℕ
+  pub is_text : S below text
+  pub depth : levels ≡ k + suc below
+  pub bytes : b ≡ lists k ++ text
+
+-- all such lists at the front are passed over, or the levels don't suffice for them
+abbrev pub PassesOver : ℕ → List ℕ → Option (ℕ × Bor (List ℕ)) → Type 0
+PassesOver levels bytes answer = MatchOption answer
+    ((rest : List ℕ) × (bytes ≡ lists levels ++ rest))
+    (λ x. (k : ℕ) × (levels ≡ k + suc x.0) × (bytes ≡ lists k ++ x.1.now) × ((rest : List ℕ) → x.1.now ≡ lists 1 ++ rest → ⊥))
 
 -- the tag of a tuple, and how many elements it has
 pub record IsHeadBy (tag width n : ℕ) (b : List ℕ) : Type 0 where
@@ -14,10 +35,14 @@ pub record IsHeadBy (tag width n : ℕ) (b : List ℕ) : Type 0 where
   pub number : IsNumber width n arity
   pub bytes : b ≡ tag ∷ arity
 
-abbrev pub IsTupleHead : ℕ → List ℕ → Type 0
-IsTupleHead n b = IsHeadBy 104 1 n b ⊎ IsHeadBy 105 4 n b
+abbrev pub IsHead : ℕ → List ℕ → Type 0
+IsHead n b = IsHeadBy 104 1 n b ⊎ IsHeadBy 105 4 n b
 
--- an integer, by any of its rows
+-- the same of a tuple of so many levels: how many elements it has, and how many levels each may have
+abbrev pub IsTupleHead : ℕ → ℕ × ℕ → List ℕ → Type 0
+IsTupleHead levels x b = Behind (λ below head. (x.1 ≡ below) × IsHead x.0 head) levels b
+
+-- an integer, by any of its own rows
 abbrev pub IsIntegerText : ℤ → List ℕ → Type 0
 IsIntegerText z b = IsSmallInteger z b ⊎ (IsInteger z b ⊎ IsSmallBig z b)
 
@@ -42,3 +67,8 @@ unfoldable pub pid_part_at : List ℕ → Read Pid
 pid_part_at bytes =
     any_at 1 bytes >>= λ tag.
     if tag.0 == 88 then pid_at tag.1 else Err Malformed
+
+unfoldable pub reference_part_at : List ℕ → Read Reference
+reference_part_at bytes =
+    any_at 1 bytes >>= λ tag.
+    if tag.0 == 90 then reference_at tag.1 else Err Malformed

@@ -1,17 +1,20 @@
 //! Writing the one canonical spelling of a term.
-ghost use Rattle.std.specs.Prelude.{◌≡◌, ◌≢◌, ◌≤◌, ◌<◌, ◌^◌, ◌+◌, ◌++◌, ◌↔◌, length, OnOk, IfOk, IfErr, IsErrOf, MatchResult, All};
+ghost use Rattle.std.specs.Prelude.{◌≡◌, ◌≢◌, ◌≤◌, ◌<◌, ◌^◌, ◌+◌, ◌*◌, ◌++◌, ◌∷◌, ◌↔◌, true, length, OnOk, IfOk, IfErr, IsErrOf, MatchResult, All};
 ghost use Rattle.std.specs.List.{flat_map};
 ghost use Rattle.std.specs.Vec.{vec_len, vec_capacity};
-ghost use Rattle.erl_term.specs.Canonical.{canonical_int, canonical_big, canonical_atom, canonical_head, canonical_pid, canonical_term, canonical, levels_of, IsInRange, IsTooLongToWrite, IsWritable};
-ghost use Rattle.erl_term.specs.View.{view};
+ghost use Rattle.erl_term.specs.Canonical.{canonical_int, canonical_big, canonical_atom, canonical_head, canonical_pid, canonical_reference, canonical_binary, canonical_list, words_text, canonical_items, canonical_term, canonical, levels_of, IsInRange, IsTooLongToWrite, IsWritable};
+ghost use Rattle.byteorder.specs.Endian.{big_bytes};
+ghost use Rattle.erl_term.specs.Canonical as canonical;
+ghost use Rattle.erl_term.specs.View.{view, items_view};
 
 use crate::atom::Atom;
 use crate::decoding::LIMIT;
 use crate::error::TermError;
+use crate::lists::{byte_in, is_string};
 use crate::magnitude::digits_of;
-use crate::measuring::{atom_len, has_levels, is_in_range, pid_len, room_after};
+use crate::measuring::{atom_len, has_levels, is_in_range, pid_len, reference_len, room_after};
 use crate::tag;
-use crate::term::{Pid, Term};
+use crate::term::{Pid, Reference, Term};
 use std::alloc::{AllocError, Global};
 
 /// The canonical spelling of the term.
@@ -57,7 +60,17 @@ fn put_term(out: &mut Vec<u8>, term: &Term) -> Result<(), AllocError>
             put_tuple_head(out, items.len())?;
             put_items(out, items)
         }
+        Term::List { items, tail } => match tail {
+            None => put_list(out, items),
+            Some(tail) => {
+                put_list_head(out, items.len())?;
+                put_items(out, items)?;
+                put_term(out, tail)
+            }
+        },
+        Term::Binary(bytes) => put_binary(out, bytes),
         Term::Pid(pid) => put_pid(out, pid),
+        Term::Reference(reference) => put_reference(out, reference),
     }
 }
 
@@ -70,6 +83,58 @@ fn put_items(out: &mut Vec<u8>, items: &[Term]) -> Result<(), AllocError>
         put_term(out, item)?;
     }
     Ok(())
+}
+
+#[cycle(put)]
+fn put_list(out: &mut Vec<u8>, items: &[Term]) -> Result<(), AllocError>
+    requires count { length items.now < 2 ^ 32 }
+    requires items { All (λ t. IsInRange (view t)) items.now }
+    ensures { OnOk result (out.new.items ≡ out.old.items ++ canonical_list (items_view items.now) (canonical_items (items_view items.now))) }
+{
+    if items.is_empty() {
+        out.push(tag::NIL)?;
+        return Ok(());
+    }
+    if is_string(items) {
+        return put_string(out, items);
+    }
+    put_list_head(out, items.len())?;
+    put_items(out, items)?;
+    out.push(tag::NIL)?;
+    Ok(())
+}
+
+/// Writes the tag of a LIST and how many elements it has.
+fn put_list_head(out: &mut Vec<u8>, count: usize) -> Result<(), AllocError>
+    requires { count < 2 ^ 32 }
+    ensures { OnOk result (out.new.items ≡ out.old.items ++ 108 ∷ big_bytes 4 count) }
+{
+    out.push(tag::LIST)?;
+    out.extend_from_slice(&(count as u32).to_be_bytes())
+}
+
+/// Writes a STRING of these integers.
+fn put_string(out: &mut Vec<u8>, items: &[Term]) -> Result<(), AllocError>
+    requires { canonical.is_string (items_view items.now) ≡ true }
+    ensures { OnOk result (out.new.items ≡ out.old.items ++ 107 ∷ (big_bytes 2 (length items.now) ++ canonical.bytes_of (items_view items.now))) }
+{
+    out.push(tag::STRING)?;
+    out.extend_from_slice(&(items.len() as u16).to_be_bytes())?;
+    for item in items {
+        out.push(byte_in(item).unwrap_or(0))?;
+    }
+    Ok(())
+}
+
+/// Writes a binary.
+#[tactic(auto, unfolding(crate::specs::Canonical::canonical_binary))]
+fn put_binary(out: &mut Vec<u8>, bytes: &[u8]) -> Result<(), AllocError>
+    requires { length bytes.now < 2 ^ 32 }
+    ensures { OnOk result (out.new.items ≡ out.old.items ++ canonical_binary bytes.now) }
+{
+    out.push(tag::BINARY)?;
+    out.extend_from_slice(&(bytes.len() as u32).to_be_bytes())?;
+    out.extend_from_slice(bytes)
 }
 
 /// Writes an integer behind the bytes of `out`, without a version byte. Where memory is wanting
@@ -165,4 +230,34 @@ pub fn put_pid(out: &mut Vec<u8>, pid: &Pid) -> Result<(), AllocError>
     out.extend_from_slice(&pid.serial.to_be_bytes()).unwrap();
     out.extend_from_slice(&pid.creation.to_be_bytes()).unwrap();
     Ok(())
+}
+
+/// Writes a reference behind the bytes of `out`, without a version byte. Where memory is wanting
+/// `out` stays as it was.
+///
+/// (ERTS User's Guide, External Term Format, NEWER_REFERENCE_EXT.)
+#[tactic(auto, unfolding(crate::specs::Canonical::canonical_reference))]
+pub fn put_reference(out: &mut Vec<u8>, reference: &Reference) -> Result<(), AllocError>
+    ensures { MatchResult result (λ _. out.new.items ≡ out.old.items ++ canonical_reference reference.now) (λ _. out.new.items ≡ out.old.items) }
+{
+    let words = reference.words.as_slice();
+    out.reserve(reference_len(reference))?;
+    out.push(tag::NEWER_REFERENCE).unwrap();
+    out.extend_from_slice(&(words.len() as u16).to_be_bytes())
+        .unwrap();
+    write_atom(out, &reference.node);
+    out.extend_from_slice(&reference.creation.to_be_bytes())
+        .unwrap();
+    write_words(out, words);
+    Ok(())
+}
+
+/// Writes the words of a reference where there is room for them.
+fn write_words(out: &mut Vec<u8>, words: &[u32])
+    requires { vec_len out.old + 4 * length words.now ≤ vec_capacity out.old }
+    ensures { out.new.items ≡ out.old.items ++ words_text words.now }
+{
+    for word in words {
+        out.extend_from_slice(&word.to_be_bytes()).unwrap();
+    }
 }

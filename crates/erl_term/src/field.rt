@@ -27,6 +27,17 @@ pub fn word_of(bytes: &[u8]) -> Result<(u32, &[u8]), TermError>
     Ok((BigEndian::read_u32(field), rest))
 }
 
+/// The number of 16 bits in the first two bytes.
+pub fn half_of(bytes: &[u8]) -> Result<(u16, &[u8]), TermError>
+    ensures { Answers (λ x. (x.0, x.1.now)) result (any_at 2 bytes.now) }
+{
+    if bytes.len() < 2 {
+        return Err(TermError::Cut);
+    }
+    let (field, rest) = bytes.split_at(2);
+    Ok((BigEndian::read_u16(field), rest))
+}
+
 /// The number that the first `width` bytes say, those that are missing being 0.
 fn number_begun(bytes: &[u8], width: usize) -> u64
     requires low { 1 ≤ width }

@@ -2,12 +2,13 @@
 ghost use Rattle.std.specs.Prelude.{◌≡◌, ◌≤◌, ◌↔◌, ◌++◌, List, ℕ, ℤ, length, Result, Ok};
 ghost use Rattle.erl_term.specs.declared.error.TermError.{TermError};
 ghost use Rattle.erl_term.specs.declared.term.Pid.{Pid};
+ghost use Rattle.erl_term.specs.declared.term.Reference.{Reference};
 ghost use Rattle.erl_term.specs.Data.{Data};
 ghost use Rattle.erl_term.specs.Numbers.{AreBytes};
 ghost use Rattle.erl_term.specs.Spelling.{IsSpelling};
 ghost use Rattle.erl_term.specs.Answer.{IsDue};
 ghost use Rattle.erl_term.specs.Order.{compared, pid_cmp};
-ghost use Rattle.erl_term.specs.Canonical.{canonical, canonical_int, canonical_pid, levels_of, IsInRange, IsPidInRange, IsWritable};
+ghost use Rattle.erl_term.specs.Canonical.{canonical, canonical_int, canonical_pid, canonical_reference, levels_of, IsInRange, IsPidInRange, IsReferenceInRange, IsWritable};
 
 /// No spelling begins another, so what was written is read again, whatever follows it.
 pub fn one_spelling()
@@ -34,8 +35,9 @@ pub fn order_of_pids()
     ensures { (p q : Pid) → compared p q ≡ pid_cmp p q }
 {}
 
-/// The canonical spellings of integers and pids are short.
+/// The canonical spellings of integers, pids and references are short.
 pub fn short_parts()
     ensures integer { (z : ℤ) → length (canonical_int z) ≤ 19 }
     ensures pid { (p : Pid) → IsPidInRange p → length (canonical_pid p) ≤ 1036 }
+    ensures reference { (r : Reference) → IsReferenceInRange r → length (canonical_reference r) ≤ 1050 }
 {}

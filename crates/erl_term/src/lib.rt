@@ -5,8 +5,8 @@
 //! of `decode` names the one answer that is due to any bytes. Where no term stands at the front, the
 //! first fault from the left decides which [`TermError`] comes.
 //!
-//! The profile has integers of 128 bits, atoms, tuples and pids, in at most 64 levels and 1,048,576
-//! bytes. No other kind of term is read, and nothing of the distribution protocol stands here: frames
+//! The profile has integers of 128 bits, atoms, tuples, lists, binaries, pids and references, in at
+//! most 64 levels and 1,048,576 bytes. No other kind of term is read, and nothing of the distribution protocol stands here: frames
 //! and signals are made of these terms elsewhere. [`Refusal`] is here because each crate above names
 //! it.
 //!
@@ -19,6 +19,7 @@ mod encoding;
 mod error;
 mod field;
 mod laws;
+mod lists;
 mod magnitude;
 mod measuring;
 mod parts;
@@ -28,18 +29,20 @@ mod skipping;
 mod tag;
 mod term;
 mod text;
+mod words;
 
 pub use atom::Atom;
 pub use decoding::{LIMIT, decode, term_len};
-pub use encoding::{encode, put_integer, put_pid, put_tuple_head};
+pub use encoding::{encode, put_integer, put_pid, put_reference, put_tuple_head};
 pub use error::TermError;
 pub use laws::{
     canonical_is_spelling, one_answer, one_spelling, order_of_pids, read_again, short_parts,
 };
-pub use measuring::{integer_len, pid_len, tuple_head_len};
-pub use parts::{PidRef, integer_at, pid_at, tuple_head_at};
+pub use measuring::{integer_len, pid_len, reference_len, tuple_head_len};
+pub use parts::{AtomRef, PidRef, ReferenceRef, integer_at, pid_at, reference_at, tuple_head_at};
 pub use refusal::Refusal;
-pub use term::{Pid, Term};
+pub use term::{Pid, Reference, Term};
+pub use words::Words;
 
 #[cfg(test)]
 mod tests;

@@ -1,16 +1,21 @@
 //! Which terms can be written, and how many bytes each takes.
-ghost use Rattle.std.specs.Prelude.{◌≡◌, ◌≤◌, ◌<◌, ◌^◌, ◌+◌, ◌↔◌, length, IsTrue, IfSome, IfNone, All, FitsSigned};
+ghost use Rattle.std.specs.Prelude.{◌≡◌, ◌≤◌, ◌<◌, ◌^◌, ◌+◌, ◌↔◌, false, length, IsTrue, MatchOption, All, FitsSigned};
 ghost use Rattle.std.specs.Int.{w128};
 ghost use Rattle.std.specs.List.{flat_map};
-ghost use Rattle.erl_term.specs.Canonical.{canonical_int, canonical_atom, canonical_head, canonical_pid, canonical_term, levels_of, IsPidInRange, IsInRange};
+ghost use Rattle.erl_term.specs.Canonical.{canonical_int, canonical_atom, canonical_head, canonical_pid, canonical_reference, canonical_binary, canonical_list, canonical_items, canonical_term, levels_of, IsPidInRange, IsReferenceInRange, IsInRange, AreInRange};
+ghost use Rattle.erl_term.specs.Canonical as canonical;
+ghost use Rattle.erl_term.specs.Data.{count};
+ghost use Rattle.erl_term.specs.Numbers.{AreBytes};
 ghost use Rattle.erl_term.specs.Text.{IsAtomText};
-ghost use Rattle.erl_term.specs.View.{view};
+ghost use Rattle.erl_term.specs.View.{view, items_view};
 
 use crate::atom::Atom;
+use crate::lists::{is_list, is_string};
 use crate::magnitude::digits_of;
-use crate::term::{Pid, Term};
+use crate::term::{Pid, Reference, Term};
+use crate::words::Words;
 
-// The types keep the ranges of all terms but tuples.
+// The types keep the ranges of what holds no other term, but for the length of a binary.
 
 fn is_integer(n: i128) -> bool
     ensures { IsTrue result ↔ FitsSigned w128 n }
@@ -32,6 +37,30 @@ fn is_pid(pid: &Pid) -> bool
     is_text(&pid.node)
 }
 
+fn is_reference(reference: &Reference) -> bool
+    ensures { IsTrue result ↔ IsReferenceInRange reference.now }
+{
+    are_words(reference.creation, 0, 0);
+    have_words(&reference.words);
+    is_text(&reference.node)
+}
+
+fn have_words(words: &Words)
+    ensures some { 1 ≤ length words.now }
+    ensures few { length words.now ≤ 5 }
+    ensures words { All (λ w. w < 2 ^ 32) words.now }
+{
+    for word in words.as_slice() {
+        are_words(*word, 0, 0);
+    }
+}
+
+fn is_binary(bytes: &[u8]) -> bool
+    ensures { IsTrue result ↔ (AreBytes bytes.now × (length bytes.now < 2 ^ 32)) }
+{
+    bytes.len() <= 4294967295
+}
+
 fn are_words(id: u32, serial: u32, creation: u32)
     ensures id { id < 2 ^ 32 }
     ensures serial { serial < 2 ^ 32 }
@@ -44,16 +73,39 @@ pub fn is_in_range(term: &Term) -> bool
     ensures { IsTrue result ↔ IsInRange (view term.now) }
 {
     match term {
-        Term::Tuple(items) => {
-            if items.len() > 4294967295 {
-                return false;
-            }
-            are_in_range(items)
-        }
+        Term::Tuple(items) => can_stand(items),
         Term::Int(n) => is_integer(*n),
         Term::Atom(atom) => is_text(atom),
+        Term::List { items, tail } => match tail {
+            None => can_stand(items),
+            Some(tail) => can_end(items, tail) && can_stand(items) && is_in_range(tail),
+        },
+        Term::Binary(bytes) => is_binary(bytes),
         Term::Pid(pid) => is_pid(pid),
+        Term::Reference(reference) => is_reference(reference),
     }
+}
+
+/// Whether the tail can stand behind the items.
+fn can_end(items: &[Term], tail: &Term) -> bool
+    ensures { IsTrue result ↔ ((0 < length items.now) × (canonical.is_list (view tail.now) ≡ false)) }
+{
+    !items.is_empty() && !is_list(tail)
+}
+
+/// Whether a tuple or a list can have these items.
+#[cycle(range)]
+fn can_stand(items: &[Term]) -> bool
+    ensures { IsTrue result ↔ ((count (items_view items.now) < 2 ^ 32) × AreInRange (items_view items.now)) }
+{
+    has_count(items) && are_in_range(items)
+}
+
+/// Whether four bytes can say how many items there are.
+fn has_count(items: &[Term]) -> bool
+    ensures { IsTrue result ↔ (length items.now < 2 ^ 32) }
+{
+    items.len() <= 4294967295
 }
 
 #[cycle(range)]
@@ -78,7 +130,11 @@ pub fn has_levels(term: &Term, levels: u32) -> bool
     }
     match term {
         Term::Tuple(items) => have_levels(items, levels - 1),
-        _ => true,
+        Term::List { items, tail } => match tail {
+            None => is_string(items) || have_levels(items, levels - 1),
+            Some(tail) => have_levels(items, levels - 1) && has_levels(tail, levels - 1),
+        },
+        Term::Int(_) | Term::Atom(_) | Term::Binary(_) | Term::Pid(_) | Term::Reference(_) => true,
     }
 }
 
@@ -141,31 +197,73 @@ pub fn pid_len(pid: &Pid) -> usize
     atom_len(&pid.node) + 13
 }
 
+/// How many bytes [`put_reference`](crate::put_reference) writes: 16 to 1,050.
+#[tactic(auto, unfolding(crate::specs::Canonical::canonical_reference))]
+pub fn reference_len(reference: &Reference) -> usize
+    ensures len { result ≡ length (canonical_reference reference.now) }
+    ensures bound { result ≤ 1050 }
+    ensures in_range { IsReferenceInRange reference.now }
+{
+    are_words(reference.creation, 0, 0);
+    have_words(&reference.words);
+    reference.node.text();
+    atom_len(&reference.node) + 4 * reference.words.as_slice().len() + 7
+}
+
+/// How many bytes a binary is written in.
+#[tactic(auto, unfolding(crate::specs::Canonical::canonical_binary))]
+fn binary_len(bytes: &[u8]) -> usize
+    ensures { result ≡ length (canonical_binary bytes.now) }
+{
+    bytes.len() + 5
+}
+
 /// What is left of so many bytes once the term is written there, or none where they don't do.
 #[cycle(room)]
 pub fn room_after(term: &Term, room: usize) -> Option<usize>
-    ensures fits { IfSome result (λ left. length (canonical_term (view term.now)) + left ≡ room) }
-    ensures full { IfNone result (room < length (canonical_term (view term.now))) }
+    ensures { MatchOption result (room < length (canonical_term (view term.now))) (λ left. length (canonical_term (view term.now)) + left ≡ room) }
 {
     match term {
         Term::Int(n) => room.checked_sub(integer_len(*n)),
         Term::Atom(atom) => room.checked_sub(atom_len(atom)),
-        Term::Tuple(items) => {
-            let Some(left) = room.checked_sub(tuple_head_len(items.len())) else {
-                return None;
-            };
-            room_after_items(items, left)
-        }
+        Term::Tuple(items) => room_after_items(tuple_head_len(items.len()), items, room),
+        Term::List { items, tail } => match tail {
+            None => room_after_list(items, room),
+            Some(tail) => {
+                let Some(left) = room_after_items(5, items, room) else {
+                    return None;
+                };
+                room_after(tail, left)
+            }
+        },
+        Term::Binary(bytes) => room.checked_sub(binary_len(bytes)),
         Term::Pid(pid) => room.checked_sub(pid_len(pid)),
+        Term::Reference(reference) => room.checked_sub(reference_len(reference)),
     }
 }
 
+/// The same of a proper list.
 #[cycle(room)]
-fn room_after_items(items: &[Term], room: usize) -> Option<usize>
-    ensures fits { IfSome result (λ left. length (flat_map (λ t. canonical_term (view t)) items.now) + left ≡ room) }
-    ensures full { IfNone result (room < length (flat_map (λ t. canonical_term (view t)) items.now)) }
+fn room_after_list(items: &[Term], room: usize) -> Option<usize>
+    ensures { MatchOption result (room < length (canonical_list (items_view items.now) (canonical_items (items_view items.now)))) (λ left. length (canonical_list (items_view items.now) (canonical_items (items_view items.now))) + left ≡ room) }
 {
-    let mut left = room;
+    if items.is_empty() {
+        return room.checked_sub(1);
+    }
+    if is_string(items) {
+        return room.checked_sub(items.len() + 3);
+    }
+    room_after_items(6, items, room)
+}
+
+/// The same of so many bytes and then the items.
+#[cycle(room)]
+fn room_after_items(head: usize, items: &[Term], room: usize) -> Option<usize>
+    ensures { MatchOption result (room < head + length (flat_map (λ t. canonical_term (view t)) items.now)) (λ left. head + length (flat_map (λ t. canonical_term (view t)) items.now) + left ≡ room) }
+{
+    let Some(mut left) = room.checked_sub(head) else {
+        return None;
+    };
     for item in items {
         let Some(less) = room_after(item, left) else {
             return None;

@@ -3,41 +3,76 @@
 //! What stands at the front of the bytes is read by itself, so that a caller can tell a message
 //! by its shape before it copies anything.
 ghost use Rattle.std.specs.Prelude.{◌≡◌, ◌≤◌, List, ℕ, length, OnOk};
-ghost use Rattle.erl_term.specs.Data.{int};
-ghost use Rattle.erl_term.specs.Spelling.{IsPid};
-ghost use Rattle.erl_term.specs.Reading.{Answers, small_at, integer_at, text_at, atom_at, node_at, pid_at};
-ghost use Rattle.erl_term.specs.Parts.{ReadsFront, IsTupleHead, IsIntegerText, head_part_at, integer_part_at, pid_part_at};
+ghost use Rattle.erl_term.specs.Data.{int, pid, reference};
+ghost use Rattle.erl_term.specs.Spelling.{IsPid, IsReference, Spells};
+ghost use Rattle.erl_term.specs.Reading.{Answers, small_at, integer_at, text_at, atom_at, letters_at, latin_at, node_at, pid_at, word_count_at, words_at, reference_at};
+ghost use Rattle.erl_term.specs.Parts.{ReadsFront, PassesOver, IsHead, IsTupleHead, IsIntegerText, head_part_at, integer_part_at, pid_part_at, reference_part_at};
 
 use crate::atom::Atom;
 use crate::error::TermError;
-use crate::field::{byte_of, number_of, word_of};
+use crate::field::{byte_of, number_of, part_of, word_of};
 use crate::reading::big_value_of;
 use crate::tag;
-use crate::term::Pid;
-use crate::text::{atom_text, may_become_text};
+use crate::term::{Pid, Reference};
+use crate::text::{atom_text, latin_text, may_become_text};
+use crate::words::{MOST, Words};
 use std::alloc::{AllocError, Global};
 use std::marker::Model;
+
+/// The text of an atom, where it lies in the bytes that were read.
+#[derive(Clone, Copy, Debug, Drop)]
+pub enum Text<'a> {
+    /// UTF-8.
+    Utf8(&'a str),
+    /// Letters of Latin-1.
+    Latin(&'a [u8]),
+}
+
+/// An atom whose text still lies in the bytes that were read. Contracts see the atom.
+#[derive(Debug, Drop)]
+pub struct AtomRef<'a> {
+    text: Text<'a>,
+}
+
+impl<'a> Model for AtomRef<'a> {
+    ghost use Rattle.std.specs.Prelude.{List, ℕ};
+    ghost use Rattle.erl_term.specs.PartText.{text_of, IsShort};
+
+    ghost Value = { List ℕ };
+
+    ghost view = { λ a. text_of a.text };
+
+    ghost invariant = { λ a. IsShort a.text };
+}
+
+impl<'a> AtomRef<'a> {
+    /// The atom, with a text of its own.
+    pub fn to_atom(&self, alloc: Global) -> Result<Atom, AllocError>
+        ensures { IfOk result (λ a. a ≡ self.now) }
+    {
+        match self.text {
+            Text::Utf8(text) => Ok(Atom::new(String::from_str(alloc, text)?)),
+            Text::Latin(letters) => Ok(Atom::new(latin_text(alloc, letters)?)),
+        }
+    }
+}
 
 /// A process identifier whose node still lies in the bytes that were read. Contracts see the
 /// [`Pid`] that it names.
 #[derive(Debug, Drop)]
 pub struct PidRef<'a> {
-    node: &'a str,
+    node: AtomRef<'a>,
     id: u32,
     serial: u32,
     creation: u32,
 }
 
 impl<'a> Model for PidRef<'a> {
-    ghost use Rattle.std.specs.Prelude.{length, ◌≤◌};
-    ghost use Rattle.std.specs.Str.{chars};
     ghost use Rattle.erl_term.specs.declared.term.Pid.{Pid};
 
     ghost Value = { Pid };
 
-    ghost view = { λ p. record { node = p.node.now; creation = p.creation; id = p.id; serial = p.serial } };
-
-    ghost invariant = { λ p. length (chars p.node.now) ≤ 255 };
+    ghost view = { λ p. record { node = p.node; creation = p.creation; id = p.id; serial = p.serial } };
 }
 
 impl<'a> PidRef<'a> {
@@ -46,10 +81,40 @@ impl<'a> PidRef<'a> {
         ensures { IfOk result (λ p. p ≡ self.now) }
     {
         Ok(Pid {
-            node: Atom::new(String::from_str(alloc, self.node)?),
+            node: self.node.to_atom(alloc)?,
             creation: self.creation,
             id: self.id,
             serial: self.serial,
+        })
+    }
+}
+
+/// A reference whose node still lies in the bytes that were read. Contracts see the [`Reference`]
+/// that it names.
+#[derive(Debug, Drop)]
+pub struct ReferenceRef<'a> {
+    node: AtomRef<'a>,
+    creation: u32,
+    words: Words,
+}
+
+impl<'a> Model for ReferenceRef<'a> {
+    ghost use Rattle.erl_term.specs.declared.term.Reference.{Reference};
+
+    ghost Value = { Reference };
+
+    ghost view = { λ r. record { node = r.node; creation = r.creation; words = r.words } };
+}
+
+impl<'a> ReferenceRef<'a> {
+    /// The reference, with a node of its own.
+    pub fn to_reference(&self, alloc: Global) -> Result<Reference, AllocError>
+        ensures { IfOk result (λ r. r ≡ self.now) }
+    {
+        Ok(Reference {
+            node: self.node.to_atom(alloc)?,
+            creation: self.creation,
+            words: self.words.clone()?,
         })
     }
 }
@@ -71,11 +136,34 @@ fn head_of(bytes: &[u8]) -> Result<(u32, &[u8]), TermError>
     }
 }
 
-/// How many elements the tuple at the front has, and the bytes of its elements. None where no
-/// tuple begins there. (ERTS User's Guide, External Term Format, SMALL_TUPLE_EXT and
-/// LARGE_TUPLE_EXT.)
-pub fn tuple_head_at(bytes: &[u8]) -> Option<(u32, &[u8])>
-    ensures { ReadsFront IsTupleHead bytes.now result }
+/// The first bytes of a list with no elements. It stands for its tail, which follows.
+const EMPTY_LIST: [u8; 5] = [tag::LIST, 0, 0, 0, 0];
+
+/// The bytes behind all lists with no elements at the front, and how many levels are left below
+/// what stands there. None where the levels don't suffice.
+fn pass_over(levels: u32, bytes: &[u8]) -> Option<(u32, &[u8])>
+    ensures { PassesOver levels bytes.now result }
+{
+    let below = levels.checked_sub(1)?;
+    match bytes.strip_prefix(&EMPTY_LIST) {
+        Some(tail) => pass_over(below, tail),
+        None => Some((below, bytes)),
+    }
+}
+
+/// How many elements the tuple at the front has, where it has at most so many levels, and how many
+/// levels each of them may have. Then come the bytes of its elements. None where no such tuple
+/// begins there. (ERTS User's Guide, External Term Format, SMALL_TUPLE_EXT and LARGE_TUPLE_EXT.)
+pub fn tuple_head_at(levels: u32, bytes: &[u8]) -> Option<((u32, u32), &[u8])>
+    ensures { ReadsFront (IsTupleHead levels) bytes.now result }
+{
+    let (below, bytes) = pass_over(levels, bytes)?;
+    let (count, elements) = own_head_at(bytes)?;
+    Some(((count, below), elements))
+}
+
+fn own_head_at(bytes: &[u8]) -> Option<(u32, &[u8])>
+    ensures { ReadsFront IsHead bytes.now result }
 {
     match head_of(bytes) {
         Ok(head) => Some(head),
@@ -102,10 +190,17 @@ fn integer_of(bytes: &[u8]) -> Result<(i128, &[u8]), TermError>
     }
 }
 
-/// The integer at the front, in any of its spellings, and the bytes after it. None where no
-/// integer of the profile stands there. (ERTS User's Guide, External Term Format,
+/// The integer at the front, in any spelling of at most so many levels, and the bytes after it.
+/// None where no integer of the profile stands there. (ERTS User's Guide, External Term Format,
 /// SMALL_INTEGER_EXT, INTEGER_EXT and SMALL_BIG_EXT.)
-pub fn integer_at(bytes: &[u8]) -> Option<(i128, &[u8])>
+pub fn integer_at(levels: u32, bytes: &[u8]) -> Option<(i128, &[u8])>
+    ensures { ReadsFront (λ z b. Spells levels (int z) b) bytes.now result }
+{
+    let (_, bytes) = pass_over(levels, bytes)?;
+    own_integer_at(bytes)
+}
+
+fn own_integer_at(bytes: &[u8]) -> Option<(i128, &[u8])>
     ensures { ReadsFront IsIntegerText bytes.now result }
 {
     match integer_of(bytes) {
@@ -146,15 +241,53 @@ pub fn atom_ref_of(width: usize, bytes: &[u8]) -> Result<(&str, &[u8]), TermErro
     text_ref_of(len as usize, rest)
 }
 
+/// The letters of an atom in Latin-1 whose length, in so many bytes, comes next.
+#[tactic(auto, unfolding(crate::specs::Reading::letters_at))]
+pub fn letters_of(width: usize, bytes: &[u8]) -> Result<(&[u8], &[u8]), TermError>
+    requires low { 1 ≤ width }
+    requires high { width ≤ 8 }
+    ensures value { Answers (λ x. (x.0.now, x.1.now)) result (letters_at width bytes.now) }
+    ensures fits { IfOk result (λ x. length x.0.now ≤ 255) }
+{
+    let (len, rest) = number_of(bytes, width, 255, TermError::Malformed)?;
+    part_of(rest, len as usize)
+}
+
+fn utf8_ref_of(width: usize, bytes: &[u8]) -> Result<(AtomRef<'_>, &[u8]), TermError>
+    requires low { 1 ≤ width }
+    requires high { width ≤ 8 }
+    ensures { Answers (λ x. (x.0, x.1.now)) result (atom_at width bytes.now) }
+{
+    let (text, rest) = atom_ref_of(width, bytes)?;
+    let atom = AtomRef {
+        text: Text::Utf8(text),
+    };
+    Ok((atom, rest))
+}
+
+#[tactic(auto, unfolding(crate::specs::Reading::latin_at))]
+fn latin_ref_of(width: usize, bytes: &[u8]) -> Result<(AtomRef<'_>, &[u8]), TermError>
+    requires low { 1 ≤ width }
+    requires high { width ≤ 8 }
+    ensures { Answers (λ x. (x.0, x.1.now)) result (latin_at width bytes.now) }
+{
+    let (letters, rest) = letters_of(width, bytes)?;
+    let atom = AtomRef {
+        text: Text::Latin(letters),
+    };
+    Ok((atom, rest))
+}
+
 #[tactic(auto, unfolding(crate::specs::Reading::node_at))]
-fn node_ref_of(bytes: &[u8]) -> Result<(&str, &[u8]), TermError>
-    ensures value { Answers (λ x. (x.0.now, x.1.now)) result (node_at bytes.now) }
-    ensures fits { IfOk result (λ x. length (chars x.0.now) ≤ 255) }
+fn node_ref_of(bytes: &[u8]) -> Result<(AtomRef<'_>, &[u8]), TermError>
+    ensures { Answers (λ x. (x.0, x.1.now)) result (node_at bytes.now) }
 {
     let (tag, rest) = byte_of(bytes)?;
     match tag {
-        tag::SMALL_ATOM_UTF8 => atom_ref_of(1, rest),
-        tag::ATOM_UTF8 => atom_ref_of(2, rest),
+        tag::SMALL_ATOM_UTF8 => utf8_ref_of(1, rest),
+        tag::ATOM_UTF8 => utf8_ref_of(2, rest),
+        tag::SMALL_ATOM => latin_ref_of(1, rest),
+        tag::ATOM => latin_ref_of(2, rest),
         _ => Err(TermError::Malformed),
     }
 }
@@ -188,14 +321,98 @@ pub fn pid_fields_of(bytes: &[u8]) -> Result<(PidRef<'_>, &[u8]), TermError>
     Ok((pid, rest))
 }
 
-/// The process identifier at the front, its node in any spelling, and the bytes after it. None
-/// where no process identifier of the profile stands there. (ERTS User's Guide, External Term
-/// Format, NEW_PID_EXT.)
-pub fn pid_at(bytes: &[u8]) -> Option<(PidRef<'_>, &[u8])>
+/// The process identifier at the front, in any spelling of at most so many levels, and the bytes
+/// after it. None where no process identifier of the profile stands there. (ERTS User's Guide,
+/// External Term Format, NEW_PID_EXT.)
+pub fn pid_at(levels: u32, bytes: &[u8]) -> Option<(PidRef<'_>, &[u8])>
+    ensures { ReadsFront (λ p b. Spells levels (pid p) b) bytes.now result }
+{
+    let (_, bytes) = pass_over(levels, bytes)?;
+    own_pid_at(bytes)
+}
+
+fn own_pid_at(bytes: &[u8]) -> Option<(PidRef<'_>, &[u8])>
     ensures { ReadsFront IsPid bytes.now result }
 {
     match pid_ref_of(bytes) {
         Ok(pid) => Some(pid),
+        Err(_) => None,
+    }
+}
+
+/// How many words a reference has.
+#[tactic(auto, unfolding(crate::specs::Reading::word_count_at))]
+fn word_count_of(bytes: &[u8]) -> Result<(usize, &[u8]), TermError>
+    ensures value { Answers (λ x. (x.0, x.1.now)) result (word_count_at bytes.now) }
+    ensures some { IfOk result (λ x. 1 ≤ x.0) }
+    ensures few { IfOk result (λ x. x.0 ≤ 5) }
+{
+    let (count, rest) = number_of(bytes, 2, MOST as u64, TermError::Malformed)?;
+    if count == 0 {
+        return Err(TermError::Malformed);
+    }
+    Ok((count as usize, rest))
+}
+
+/// So many words.
+fn words_of(count: usize, bytes: &[u8]) -> Result<(Words, &[u8]), TermError>
+    requires some { 1 ≤ count }
+    requires few { count ≤ 5 }
+    ensures { Answers (λ x. (x.0, x.1.now)) result (words_at count bytes.now) }
+{
+    let mut words = [0; MOST];
+    let mut rest = bytes;
+    for i in 0..count {
+        let (word, after) = word_of(rest)?;
+        words[i] = word;
+        rest = after;
+    }
+    Ok((Words::of(words, count), rest))
+}
+
+/// The reference whose fields come next, behind its tag.
+#[tactic(auto, unfolding(crate::specs::Reading::reference_at))]
+pub fn reference_fields_of(bytes: &[u8]) -> Result<(ReferenceRef<'_>, &[u8]), TermError>
+    ensures { Answers (λ x. (x.0, x.1.now)) result (reference_at bytes.now) }
+{
+    let (count, rest) = word_count_of(bytes)?;
+    let (node, rest) = node_ref_of(rest)?;
+    let (creation, rest) = word_of(rest)?;
+    let (words, rest) = words_of(count, rest)?;
+    let reference = ReferenceRef {
+        node,
+        creation,
+        words,
+    };
+    Ok((reference, rest))
+}
+
+#[tactic(auto, unfolding(crate::specs::Parts::reference_part_at))]
+fn reference_ref_of(bytes: &[u8]) -> Result<(ReferenceRef<'_>, &[u8]), TermError>
+    ensures { Answers (λ x. (x.0, x.1.now)) result (reference_part_at bytes.now) }
+{
+    let (tag, rest) = byte_of(bytes)?;
+    if tag != tag::NEWER_REFERENCE {
+        return Err(TermError::Malformed);
+    }
+    reference_fields_of(rest)
+}
+
+/// The reference at the front, in any spelling of at most so many levels, and the bytes after it.
+/// None where no reference of the profile stands there. (ERTS User's Guide, External Term Format,
+/// NEWER_REFERENCE_EXT.)
+pub fn reference_at(levels: u32, bytes: &[u8]) -> Option<(ReferenceRef<'_>, &[u8])>
+    ensures { ReadsFront (λ r b. Spells levels (reference r) b) bytes.now result }
+{
+    let (_, bytes) = pass_over(levels, bytes)?;
+    own_reference_at(bytes)
+}
+
+fn own_reference_at(bytes: &[u8]) -> Option<(ReferenceRef<'_>, &[u8])>
+    ensures { ReadsFront IsReference bytes.now result }
+{
+    match reference_ref_of(bytes) {
+        Ok(reference) => Some(reference),
         Err(_) => None,
     }
 }

@@ -1,16 +1,18 @@
 //! Reading a term from the left, up to the first fault.
 ghost use Rattle.std.specs.Prelude.{◌≡◌, ◌≤◌};
-ghost use Rattle.erl_term.specs.Reading.{Gives, Answers, small_at, integer_at, big_at, atom_at, items_with, tuple_with, row_with, term_at, spelling_at};
+ghost use Rattle.erl_term.specs.Reading.{Gives, Answers, small_at, integer_at, big_at, atom_at, latin_at, string_at, binary_at, items_with, tuple_with, list_with, row_with, term_at, spelling_at};
 ghost use Rattle.erl_term.specs.Data.{int};
 ghost use Rattle.erl_term.specs.View.{view, items_view};
 
 use crate::atom::Atom;
 use crate::error::TermError;
-use crate::field::{byte_of, number_of, part_of, word_of};
+use crate::field::{byte_of, half_of, number_of, part_of, word_of};
+use crate::lists::{byte_list, join};
 use crate::magnitude::{number_in, signed_of};
-use crate::parts::{atom_ref_of, pid_fields_of};
+use crate::parts::{atom_ref_of, letters_of, pid_fields_of, reference_fields_of};
 use crate::tag;
 use crate::term::Term;
+use crate::text::latin_text;
 use std::alloc::Global;
 
 /// The term whose spelling stands at the front, and the bytes after it.
@@ -51,6 +53,22 @@ fn term_of(alloc: Global, levels: u32, bytes: &[u8]) -> Result<(Term, &[u8]), Te
         tag::NEW_PID => {
             let (pid, rest) = pid_fields_of(rest)?;
             Ok((Term::Pid(pid.to_pid(alloc)?), rest))
+        }
+        tag::SMALL_ATOM => {
+            let (atom, rest) = latin_of(alloc, 1, rest)?;
+            Ok((Term::Atom(atom), rest))
+        }
+        tag::ATOM => {
+            let (atom, rest) = latin_of(alloc, 2, rest)?;
+            Ok((Term::Atom(atom), rest))
+        }
+        tag::NIL => Ok((Term::list(Vec::new(alloc)), rest)),
+        tag::STRING => string_of(alloc, rest),
+        tag::LIST => list_of(alloc, below, rest),
+        tag::BINARY => binary_of(alloc, rest),
+        tag::NEWER_REFERENCE => {
+            let (reference, rest) = reference_fields_of(rest)?;
+            Ok((Term::Reference(reference.to_reference(alloc)?), rest))
         }
         _ => Err(TermError::OutOfProfile(tag)),
     }
@@ -101,6 +119,49 @@ fn atom_of(alloc: Global, width: usize, bytes: &[u8]) -> Result<(Atom, &[u8]), T
 {
     let (text, rest) = atom_ref_of(width, bytes)?;
     Ok((Atom::new(String::from_str(alloc, text)?), rest))
+}
+
+/// The atom in Latin-1 whose length, in so many bytes, and letters come next.
+#[tactic(auto, unfolding(crate::specs::Reading::latin_at))]
+fn latin_of(alloc: Global, width: usize, bytes: &[u8]) -> Result<(Atom, &[u8]), TermError>
+    requires low { 1 ≤ width }
+    requires high { width ≤ 8 }
+    ensures { Gives (λ x. (x.0, x.1.now)) result (latin_at width bytes.now) }
+{
+    let (letters, rest) = letters_of(width, bytes)?;
+    Ok((Atom::new(latin_text(alloc, letters)?), rest))
+}
+
+#[tactic(auto, unfolding(crate::specs::Reading::string_at))]
+fn string_of(alloc: Global, bytes: &[u8]) -> Result<(Term, &[u8]), TermError>
+    ensures { Gives (λ x. (view x.0, x.1.now)) result (string_at bytes.now) }
+{
+    let (len, rest) = half_of(bytes)?;
+    let (letters, rest) = part_of(rest, usize::from(len))?;
+    Ok((Term::list(byte_list(alloc, letters)?), rest))
+}
+
+#[tactic(auto, unfolding(crate::specs::Reading::binary_at))]
+fn binary_of(alloc: Global, bytes: &[u8]) -> Result<(Term, &[u8]), TermError>
+    ensures { Gives (λ x. (view x.0, x.1.now)) result (binary_at bytes.now) }
+{
+    let (len, rest) = word_of(bytes)?;
+    let (part, rest) = part_of(rest, len as usize)?;
+    Ok((Term::Binary(Vec::from_slice(alloc, part)?), rest))
+}
+
+#[cycle(reader)]
+#[tactic(auto, unfolding(crate::specs::Reading::list_with))]
+fn list_of(alloc: Global, below: u32, bytes: &[u8]) -> Result<(Term, &[u8]), TermError>
+    ensures { Gives (λ x. (view x.0, x.1.now)) result (list_with below (term_at below) bytes.now) }
+{
+    if below == 0 {
+        return Err(TermError::TooDeep);
+    }
+    let (count, rest) = word_of(bytes)?;
+    let (items, rest) = items_of(alloc, below, u64::from(count), rest)?;
+    let (tail, rest) = term_of(alloc, below, rest)?;
+    Ok((join(alloc, items, tail)?, rest))
 }
 
 #[cycle(reader)]

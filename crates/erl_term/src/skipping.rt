@@ -1,16 +1,16 @@
 //! The same reading with no value and no memory: where the term ends, or the first fault.
 ghost use Rattle.std.specs.Prelude.{◌≡◌, ◌≤◌};
-ghost use Rattle.erl_term.specs.Reading.{items_with, tuple_with, term_at, spelling_at};
+ghost use Rattle.erl_term.specs.Reading.{string_at, binary_at, items_with, tuple_with, list_with, term_at, spelling_at};
 ghost use Rattle.erl_term.specs.Skipping.{Skips};
 
 use crate::error::TermError;
-use crate::field::{byte_of, number_of, word_of};
-use crate::parts::{atom_ref_of, pid_fields_of};
+use crate::field::{byte_of, half_of, number_of, part_of, word_of};
+use crate::parts::{atom_ref_of, letters_of, pid_fields_of, reference_fields_of};
 use crate::reading::big_value_of;
 use crate::tag;
 
 #[cycle(skipper)]
-#[tactic(auto, unfolding(crate::specs::Reading::term_at, crate::specs::Reading::row_with, crate::specs::Reading::small_at, crate::specs::Reading::integer_at))]
+#[tactic(auto, unfolding(crate::specs::Reading::term_at, crate::specs::Reading::row_with, crate::specs::Reading::small_at, crate::specs::Reading::integer_at, crate::specs::Reading::latin_at))]
 fn skip_term(levels: u32, bytes: &[u8]) -> Result<&[u8], TermError>
     ensures { Skips (term_at levels bytes.now) result }
 {
@@ -45,8 +45,55 @@ fn skip_term(levels: u32, bytes: &[u8]) -> Result<&[u8], TermError>
             let (_, rest) = pid_fields_of(rest)?;
             Ok(rest)
         }
+        tag::SMALL_ATOM => {
+            let (_, rest) = letters_of(1, rest)?;
+            Ok(rest)
+        }
+        tag::ATOM => {
+            let (_, rest) = letters_of(2, rest)?;
+            Ok(rest)
+        }
+        tag::NIL => Ok(rest),
+        tag::STRING => skip_string(rest),
+        tag::LIST => skip_list(below, rest),
+        tag::BINARY => skip_binary(rest),
+        tag::NEWER_REFERENCE => {
+            let (_, rest) = reference_fields_of(rest)?;
+            Ok(rest)
+        }
         _ => Err(TermError::OutOfProfile(tag)),
     }
+}
+
+#[tactic(auto, unfolding(crate::specs::Reading::string_at))]
+fn skip_string(bytes: &[u8]) -> Result<&[u8], TermError>
+    ensures { Skips (string_at bytes.now) result }
+{
+    let (len, rest) = half_of(bytes)?;
+    let (_, rest) = part_of(rest, usize::from(len))?;
+    Ok(rest)
+}
+
+#[tactic(auto, unfolding(crate::specs::Reading::binary_at))]
+fn skip_binary(bytes: &[u8]) -> Result<&[u8], TermError>
+    ensures { Skips (binary_at bytes.now) result }
+{
+    let (len, rest) = word_of(bytes)?;
+    let (_, rest) = part_of(rest, len as usize)?;
+    Ok(rest)
+}
+
+#[cycle(skipper)]
+#[tactic(auto, unfolding(crate::specs::Reading::list_with))]
+fn skip_list(below: u32, bytes: &[u8]) -> Result<&[u8], TermError>
+    ensures { Skips (list_with below (term_at below) bytes.now) result }
+{
+    if below == 0 {
+        return Err(TermError::TooDeep);
+    }
+    let (count, rest) = word_of(bytes)?;
+    let rest = skip_items(below, u64::from(count), rest)?;
+    skip_term(below, rest)
 }
 
 #[cycle(skipper)]

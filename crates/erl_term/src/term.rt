@@ -1,7 +1,8 @@
-//! Terms, and pids among them.
+//! Terms, and pids and references among them.
 ghost use Rattle.std.specs.Prelude.{IsTrue, ◌↔◌, ◌≡◌};
 
 use crate::atom::Atom;
+use crate::words::Words;
 
 /// A process identifier.
 ///
@@ -19,9 +20,23 @@ pub struct Pid {
     pub serial: u32,
 }
 
+/// A reference, which is unique among those that its node makes in one incarnation.
+///
+/// References are ordered by the name of the node, then by creation and words. (ERTS User's Guide,
+/// External Term Format, NEWER_REFERENCE_EXT.)
+#[derive(Clone, Debug, Drop, PartialEq, Eq, PartialOrd, Ord)]
+pub struct Reference {
+    /// The name of the node that made the reference.
+    pub node: Atom,
+    /// The incarnation of that node.
+    pub creation: u32,
+    /// The numbers that tell the references of the incarnation apart.
+    pub words: Words,
+}
+
 /// An Erlang term. (ERTS User's Guide, External Term Format.)
 ///
-/// Integers go from -2^127 to 2^127 - 1, and tuples have fewer than 2^32 elements.
+/// Integers go from -2^127 to 2^127 - 1, and tuples and lists have fewer than 2^32 elements.
 #[derive(Debug, Drop)]
 pub enum Term {
     /// An integer.
@@ -30,8 +45,22 @@ pub enum Term {
     Atom(Atom),
     /// A tuple, with its elements in order.
     Tuple(Vec<Term>),
+    /// A list. The empty list has no items and no tail.
+    ///
+    /// An improper list has at least one item, and a tail that is no list: what else has a tail is
+    /// no value of the profile.
+    List {
+        /// The items, in order.
+        items: Vec<Term>,
+        /// What stands behind them in place of the empty list.
+        tail: Option<Box<Term>>,
+    },
+    /// A binary, with its bytes in order.
+    Binary(Vec<u8>),
     /// A process identifier.
     Pid(Pid),
+    /// A reference.
+    Reference(Reference),
 }
 
 impl Pid {

@@ -1,11 +1,13 @@
 //! The text of an atom in UTF-8, whole or begun.
-ghost use Rattle.std.specs.Prelude.{◌≡◌, ◌≤◌, ◌<◌, length, IfSome, is_some, is_none, take, drop, IsUtf8};
+ghost use Rattle.std.specs.Prelude.{◌≡◌, ◌≤◌, ◌<◌, length, IfSome, IfOk, is_some, is_none, take, drop, IsUtf8};
 ghost use Rattle.std.specs.Str.{chars};
+ghost use Rattle.std.specs.String.{string_bytes};
 ghost use Rattle.std.specs.Str.Lossy.{utf8_valid_len, utf8_error_len};
 ghost use Rattle.erl_term.specs.Text.{is_atom_text};
 ghost use Rattle.erl_term.specs.Text as text;
 
 use crate::atom::Atom;
+use std::alloc::{AllocError, Global};
 
 /// The bytes as the text of an atom, if they are one.
 #[tactic(auto, using(crate::proofs::Texts::the_texts))]
@@ -18,6 +20,19 @@ pub fn atom_text(bytes: &[u8]) -> Option<&str>
         Ok(text) => { if Atom::fits(text) { Some(text) } else { None } }
         Err(_) => None,
     }
+}
+
+/// The text of letters of Latin-1.
+#[tactic(auto, unfolding(crate::specs::Text::latin_text))]
+pub fn latin_text(alloc: Global, letters: &[u8]) -> Result<String, AllocError>
+    ensures text { IfOk result (λ t. string_bytes t ≡ text.latin_text letters.now) }
+    ensures count { IfOk result (λ t. length (chars (string_bytes t)) ≡ length letters.now) }
+{
+    let mut text = String::with_capacity(alloc, letters.len())?;
+    for letter in letters {
+        text.push(char::from(*letter))?;
+    }
+    Ok(text)
 }
 
 /// How many bytes at the front are UTF-8, and whether the bytes end within the character after them, or after them.

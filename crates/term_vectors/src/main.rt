@@ -5,16 +5,19 @@
 //! both, and then each file has a line with its count.
 #![tactic(auto)]
 
+mod large;
 mod vectors;
 
 use anyhow::{Context, Result};
+use large::ALL;
 use std::fs;
 use vectors::Vectors;
 
 fn main(rt: HostRuntime) -> Result<()> {
     check(&rt, Vectors::Terms)?;
     check(&rt, Vectors::Spellings)?;
-    check(&rt, Vectors::Refused)
+    check(&rt, Vectors::Refused)?;
+    check_large(&rt)
 }
 
 /// Prints each wrong line of the file, and how many lines it has.
@@ -37,5 +40,25 @@ fn check(rt: &HostRuntime, vectors: Vectors) -> Result<()> {
         }
     }
     println!(rt; "{name}: {lines} lines, {wrong} wrong")?;
+    Ok(())
+}
+
+/// The same of the large terms, each of which the program makes.
+fn check_large(rt: &HostRuntime) -> Result<()> {
+    let text = fs::read_to_string(rt, "large.txt").context("large.txt")?;
+    let mut lines = 0u64;
+    let mut wrong = 0u64;
+    for (line, large) in text.as_str().lines().skip(1).zip(ALL) {
+        let mut columns = line.split('\t');
+        let name = columns.next().unwrap_or("");
+        let wanted = columns.next().unwrap_or("");
+        let answer = large.answer(rt.alloc())?;
+        lines = lines.saturating_add(1);
+        if answer.as_str() != wanted {
+            wrong = wrong.saturating_add(1);
+            println!(rt; "large: {name}: {answer}, and not {wanted}")?;
+        }
+    }
+    println!(rt; "large: {lines} lines, {wrong} wrong")?;
     Ok(())
 }

@@ -1,6 +1,6 @@
 use Rattle.std.proofs.Common.{ℕ, List, ◌++◌, ◌∷◌, [], ◌∙◌, ap}
 use Rattle.erl_term.specs.Canonical.{canonical_pid}
-use Rattle.erl_term.proofs.Terms.{appended, five}
+use Rattle.erl_term.proofs.Written.{appended, five}
 use Rattle.erl_term.proofs.encoding.put_pid.Goals as goal
 
 pub returns : goal.returns

@@ -1,6 +1,6 @@
 use Rattle.std.proofs.Common.{◌%◌, length-set, ◌∙◌, sym, refl, arith}
 use Rattle.erl_term.specs.Canonical.{magnitude}
-use Rattle.erl_term.proofs.Terms.{digit_more, digits_end, digits_full}
+use Rattle.erl_term.proofs.Digits.{digit_more, digits_end, digits_full}
 use Rattle.erl_term.proofs.magnitude.digits_of.Goals as goal
 
 pub loop-rest-init : goal.loop-rest-init

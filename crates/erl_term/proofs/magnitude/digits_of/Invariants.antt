@@ -1,6 +1,6 @@
 use Rattle.std.proofs.Common.{◌≡◌, ◌≤◌, ◌-◌, length}
 use Rattle.erl_term.specs.Canonical.{magnitude}
-use Rattle.erl_term.proofs.Terms.{digits_within}
+use Rattle.erl_term.proofs.Digits.{digits_within}
 use Rattle.erl_term.proofs.magnitude.digits_of.Given as goal
 
 abbrev pub invariant-loop-rest : goal.invariant-loop-rest

@@ -5,4 +5,4 @@ use Rattle.erl_term.specs.View.{view}
 use Rattle.erl_term.proofs.measuring.+room.Given as goal
 
 abbrev pub invariant-room_after_items-loop-item : goal.invariant-room_after_items-loop-item
-invariant-room_after_items-loop-item l = length (flat_map (λ t. canonical_term (view t)) (take l.item-index l.items)) + l.left ≡ l.room
+invariant-room_after_items-loop-item l = l.head + length (flat_map (λ t. canonical_term (view t)) (take l.item-index l.items)) + l.left ≡ l.room

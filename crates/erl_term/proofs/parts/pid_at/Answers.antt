@@ -1,9 +1,8 @@
-use Rattle.std.proofs.Common.{arith}
-use Rattle.erl_term.proofs.PartReaders.{pid_some, pid_none}
+use Rattle.erl_term.proofs.Behind.{pid_behind, no_pid}
 use Rattle.erl_term.proofs.parts.pid_at.Goals as goal
 
-pub returns-in-Ok : goal.returns-in-Ok
-returns-in-Ok c = pid_some c.args.bytes.now c.in-Ok.pid (λ i. omega (arith, c.type_inv.bytes i)) c.in-Ok.ensures
+pub returns-in_err-bytes : goal.returns-in_err-bytes
+returns-in_err-bytes c = let p = c.in_err-bytes.ensures in rw c.from_residual.ensures (no_pid c.args.levels c.args.bytes.now p.0 p.1)
 
-pub returns-in-Err : goal.returns-in-Err
-returns-in-Err c = pid_none c.args.bytes.now c.in-Err.field-0 c.in-Err.ensures
+pub returns : goal.returns
+returns c = pid_behind c.args.levels _ c.args.bytes.now c.in_ok-bytes.bytes.now c.own_pid_at.result c.in_ok-bytes.ensures c.own_pid_at.ensures

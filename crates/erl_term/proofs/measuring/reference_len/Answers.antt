@@ -1,0 +1,13 @@
+use Rattle.std.proofs.Common.{length, arith, ap}
+use Rattle.erl_term.proofs.Lengths.{length-reference}
+use Rattle.erl_term.proofs.measuring.reference_len.Goals as goal
+
+pub returns-clause-len : goal.returns-clause-len
+returns-clause-len c =
+    let k = length-reference c.args.reference.now in
+    let n = ap length c.as_slice.ensures.words in
+    let a = c.atom_len.ensures.len in
+    omega arith
+
+pub returns-clause-in_range : goal.returns-clause-in_range
+returns-clause-in_range c = record { node = c.text.ensures.fits; creation = c.are_words.ensures.id; some = c.have_words.ensures.some; few = c.have_words.ensures.few; words = c.have_words.ensures.words }
