@@ -153,6 +153,10 @@ abbrev mutual
 abbrev pub IsTooLongToWrite : Data → Type 0
 IsTooLongToWrite t = IsInRange t × (levels_of t ≤ 64) × (limit < length (canonical t))
 
+-- a value whose spelling has at most so many levels and bytes
+abbrev pub IsWithin : ℕ → ℕ → Data → Type 0
+IsWithin levels most t = IsInRange t × (levels_of t ≤ levels) × (length (canonical t) ≤ most)
+
 -- a value that `encode` writes
 abbrev pub IsWritable : Data → Type 0
-IsWritable t = IsInRange t × (levels_of t ≤ 64) × (length (canonical t) ≤ limit)
+IsWritable t = IsWithin 64 limit t

@@ -1,6 +1,7 @@
 pub mod Numbers
 pub mod Text
 pub mod Data
+pub mod Code
 pub mod Order
 pub mod View
 pub mod Spelling

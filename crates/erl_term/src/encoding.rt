@@ -48,8 +48,12 @@ pub fn encode(alloc: Global, term: &Term) -> Result<Vec<u8>, TermError>
     Ok(out)
 }
 
+/// Writes the canonical spelling of a value of the profile behind the bytes of `out`, without a
+/// version byte. Where memory is wanting, a part of it may stand there.
+///
+/// (ERTS User's Guide, External Term Format.)
 #[cycle(put)]
-fn put_term(out: &mut Vec<u8>, term: &Term) -> Result<(), AllocError>
+pub fn put_term(out: &mut Vec<u8>, term: &Term) -> Result<(), AllocError>
     requires { IsInRange (view term.now) }
     ensures { OnOk result (out.new.items ≡ out.old.items ++ canonical_term (view term.now)) }
 {

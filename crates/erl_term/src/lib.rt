@@ -23,6 +23,7 @@ mod lists;
 mod magnitude;
 mod measuring;
 mod parts;
+mod payload;
 mod reading;
 mod refusal;
 mod skipping;
@@ -33,13 +34,14 @@ mod words;
 
 pub use atom::Atom;
 pub use decoding::{LIMIT, decode, term_len};
-pub use encoding::{encode, put_integer, put_pid, put_reference, put_tuple_head};
+pub use encoding::{encode, put_integer, put_pid, put_reference, put_term, put_tuple_head};
 pub use error::TermError;
 pub use laws::{
     canonical_is_spelling, one_answer, one_spelling, order_of_pids, read_again, short_parts,
 };
-pub use measuring::{integer_len, pid_len, reference_len, tuple_head_len};
+pub use measuring::{integer_len, pid_len, reference_len, size_within, tuple_head_len};
 pub use parts::{AtomRef, PidRef, ReferenceRef, integer_at, pid_at, reference_at, tuple_head_at};
+pub use payload::Payload;
 pub use refusal::Refusal;
 pub use term::{Pid, Reference, Term};
 pub use words::Words;

@@ -2,7 +2,7 @@
 ghost use Rattle.std.specs.Prelude.{◌≡◌, ◌≤◌, ◌<◌, ◌^◌, ◌+◌, ◌↔◌, false, length, IsTrue, MatchOption, All, FitsSigned};
 ghost use Rattle.std.specs.Int.{w128};
 ghost use Rattle.std.specs.List.{flat_map};
-ghost use Rattle.erl_term.specs.Canonical.{canonical_int, canonical_atom, canonical_head, canonical_pid, canonical_reference, canonical_binary, canonical_list, canonical_items, canonical_term, levels_of, IsPidInRange, IsReferenceInRange, IsInRange, AreInRange};
+ghost use Rattle.erl_term.specs.Canonical.{canonical_int, canonical_atom, canonical_head, canonical_pid, canonical_reference, canonical_binary, canonical_list, canonical_items, canonical_term, canonical as spelling, levels_of, IsPidInRange, IsReferenceInRange, IsInRange, AreInRange, IsWithin};
 ghost use Rattle.erl_term.specs.Canonical as canonical;
 ghost use Rattle.erl_term.specs.Data.{count};
 ghost use Rattle.erl_term.specs.Numbers.{AreBytes};
@@ -240,6 +240,22 @@ pub fn room_after(term: &Term, room: usize) -> Option<usize>
         Term::Pid(pid) => room.checked_sub(pid_len(pid)),
         Term::Reference(reference) => room.checked_sub(reference_len(reference)),
     }
+}
+
+/// How many bytes the canonical spelling takes, its version byte included. None where the term is
+/// no value of the profile, or where the spelling has more levels or bytes than these. It takes no
+/// memory.
+///
+/// (ERTS User's Guide, External Term Format.)
+pub fn size_within(term: &Term, levels: u32, most: usize) -> Option<usize>
+    ensures { MatchOption result (¬ IsWithin levels most (view term.now)) (λ n. (n ≡ length (spelling (view term.now))) × IsWithin levels most (view term.now)) }
+{
+    let room = most.checked_sub(1)?;
+    if !is_in_range(term) || !has_levels(term, levels) {
+        return None;
+    }
+    let left = room_after(term, room)?;
+    Some(most - left)
 }
 
 /// The same of a proper list.
