@@ -282,7 +282,7 @@ items_levels ts = by (is_string ts) refl
     by true e = rw e (string_levels ts (is_string_parts ts e).0)
     by false e = rw e (omega arith)
 
-append_levels : (ts us : Items) → most_levels (append_items ts us) ≡ max (most_levels ts) (most_levels us)
+pub append_levels : (ts us : Items) → most_levels (append_items ts us) ≡ max (most_levels ts) (most_levels us)
 append_levels no_items us = omega arith
 append_levels (item t ts) us = let e = append_levels ts us in omega arith
 

@@ -70,7 +70,7 @@ length-tuple ts =
     let c : length (canonical_head (count (items_view ts))) ≡ length (canonical_head (length ts)) = ap (λ (n : ℕ). length (canonical_head n)) (count-view ts) in
     omega arith
 
-length-cells : (n : ℕ) (elements tail : List ℕ) → length (canonical_cells n elements tail) ≡ 5 + length elements + length tail
+pub length-cells : (n : ℕ) (elements tail : List ℕ) → length (canonical_cells n elements tail) ≡ 5 + length elements + length tail
 length-cells n elements tail =
     let a = length-append (big_bytes 4 n) (elements ++ tail) in
     let b = length-append elements tail in

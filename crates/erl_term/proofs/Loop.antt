@@ -4,7 +4,6 @@ use Rattle.std.proofs.lemmas.List.{append-nil, take_more_set}
 use Rattle.erl_term.specs.declared.error.TermError.{TermError}
 use Rattle.erl_term.specs.Data.{Data, Items, no_items, item}
 use Rattle.erl_term.specs.View.{items_of}
-use Rattle.erl_term.specs.Skipping.{rest_of}
 use Rattle.erl_term.specs.Reading.{◌>>=◌, Read, Fails, any_at, words_at, items_with}
 
 abbrev pub put_front : List Data → Items → Items
@@ -82,35 +81,3 @@ words_done words count i bytes total same so_far =
     let k : count - i ≡ 0 = omega arith in
     let all : with_words (take i words) (words_at (count - i) bytes) ≡ Ok (take i words, bytes) = rw k (ap (λ (ws : List ℕ). Ok (ws, bytes)) (append-nil (take i words))) in
     sym so_far ∙ all ∙ ap (λ (n : ℕ). Ok (take n words, bytes)) same
-
--- ---- the same with no values
-
-pub skips_more : (one : List ℕ → Read Data) (count i : ℕ) (bytes after : List ℕ) (total : Result (List ℕ) TermError) → i < count → rest_of (one bytes) ≡ Ok after → rest_of (items_with one (count - i) bytes) ≡ total → rest_of (items_with one (count - (i + 1)) after) ≡ total
-unfolding items_with
-skips_more one count i bytes after total lt h so_far =
-    let k : count - i ≡ suc (count - (i + 1)) = omega arith in
-    sym (by (one bytes) h) ∙ ap (λ (n : ℕ). rest_of (items_with one n bytes)) (sym k) ∙ so_far
-  where
-    last : (t : Data) (r : Read Items) → rest_of (r >>= λ ts. Ok (item t ts.0, ts.1)) ≡ rest_of r
-    last t (Ok x) = refl
-    last t (Err e) = refl
-
-    by : (r : Read Data) → rest_of r ≡ Ok after → rest_of (r >>= λ t. items_with one (count - (i + 1)) t.1 >>= λ ts. Ok (item t.0 ts.0, ts.1)) ≡ rest_of (items_with one (count - (i + 1)) after)
-    by (Ok x) e = last x.0 (items_with one (count - (i + 1)) x.1) ∙ ap (λ (b : List ℕ). rest_of (items_with one (count - (i + 1)) b)) (let q : x.1 ≡ after = cc in q)
-    by (Err f) e = absurd cc
-
-pub skips_end : (one : List ℕ → Read Data) (e : TermError) (count i : ℕ) (bytes : List ℕ) (total : Result (List ℕ) TermError) → i < count → rest_of (one bytes) ≡ Err e → rest_of (items_with one (count - i) bytes) ≡ total → total ≡ Err e
-unfolding items_with
-skips_end one e count i bytes total lt h so_far =
-    let k : count - i ≡ suc (count - (i + 1)) = omega arith in
-    sym so_far ∙ ap (λ (n : ℕ). rest_of (items_with one n bytes)) k ∙ by (one bytes) h
-  where
-    by : (r : Read Data) → rest_of r ≡ Err e → rest_of (r >>= λ t. items_with one (count - (i + 1)) t.1 >>= λ ts. Ok (item t.0 ts.0, ts.1)) ≡ Err e
-    by (Ok x) q = absurd cc
-    by (Err f) q = q
-
-pub skips_done : (one : List ℕ → Read Data) (count i : ℕ) (bytes : List ℕ) (total : Result (List ℕ) TermError) → count ≤ i → rest_of (items_with one (count - i) bytes) ≡ total → total ≡ Ok bytes
-unfolding items_with
-skips_done one count i bytes total le so_far =
-    let k : count - i ≡ 0 = omega arith in
-    sym so_far ∙ ap (λ (n : ℕ). rest_of (items_with one n bytes)) k

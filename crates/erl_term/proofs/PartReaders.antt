@@ -205,7 +205,7 @@ reference_again bytes r text rest s e =
 abbrev lent : {A : Type 0} → A × Bor (List ℕ) → A × List ℕ
 lent x = (x.0, x.1.now)
 
-front_some : {A B : Type 0} (f : A → B) (S : A → List ℕ → Type 0) (read : Read B) (bytes : List ℕ) (x : A × Bor (List ℕ)) → ((a b : A) → f a ≡ f b → a ≡ b) → read ≡ Ok (f x.0, x.1.now) → Takes S bytes x.0 x.1.now → ((a : A) (text rest : List ℕ) → S a text → bytes ≡ text ++ rest → read ≡ Ok (f a, rest)) → ReadsFront S bytes (Some x)
+pub front_some : {A B : Type 0} (f : A → B) (S : A → List ℕ → Type 0) (read : Read B) (bytes : List ℕ) (x : A × Bor (List ℕ)) → ((a b : A) → f a ≡ f b → a ≡ b) → read ≡ Ok (f x.0, x.1.now) → Takes S bytes x.0 x.1.now → ((a : A) (text rest : List ℕ) → S a text → bytes ≡ text ++ rest → read ≡ Ok (f a, rest)) → ReadsFront S bytes (Some x)
 front_some {B = B} f S read bytes x inj e takes again = record {
   takes = takes;
   again = λ a text rest s p.
@@ -213,7 +213,7 @@ front_some {B = B} f S read bytes x inj e takes again = record {
       (inj x.0 a (ap (λ (y : B × List ℕ). y.0) both), ap (λ (y : B × List ℕ). y.1) both);
 }
 
-front_none : {A B : Type 0} (f : A → B) (S : A → List ℕ → Type 0) (read : Read B) (bytes : List ℕ) (d : TermError) → read ≡ Err d → ((a : A) (text rest : List ℕ) → S a text → bytes ≡ text ++ rest → read ≡ Ok (f a, rest)) → ReadsFront S bytes None
+pub front_none : {A B : Type 0} (f : A → B) (S : A → List ℕ → Type 0) (read : Read B) (bytes : List ℕ) (d : TermError) → read ≡ Err d → ((a : A) (text rest : List ℕ) → S a text → bytes ≡ text ++ rest → read ≡ Ok (f a, rest)) → ReadsFront S bytes None
 front_none f S read bytes d e again = record { takes = tt; again = λ a text rest s p. let q = again a text rest s p in absurd cc }
 
 pub head_some : (bytes : List ℕ) (x : ℕ × Bor (List ℕ)) → AreBytes bytes → head_part_at bytes ≡ Ok (x.0, x.1.now) → ReadsFront IsHead bytes (Some x)

@@ -15,3 +15,5 @@ pub mod Canonical
 pub mod Skipping
 pub mod Parts
 pub mod PartText
+pub mod Size
+pub mod TermAt

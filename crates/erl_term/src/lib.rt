@@ -26,9 +26,11 @@ mod parts;
 mod payload;
 mod reading;
 mod refusal;
-mod skipping;
+mod size;
+mod sizing;
 mod tag;
 mod term;
+mod term_ref;
 mod text;
 mod words;
 
@@ -44,6 +46,7 @@ pub use parts::{AtomRef, PidRef, ReferenceRef, integer_at, pid_at, reference_at,
 pub use payload::Payload;
 pub use refusal::Refusal;
 pub use term::{Pid, Reference, Term};
+pub use term_ref::{TermRef, term_at};
 pub use words::Words;
 
 #[cfg(test)]

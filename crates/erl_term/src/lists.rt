@@ -1,6 +1,6 @@
 //! Lists: made of what was read, and told by their items.
 ghost use Rattle.std.specs.Prelude.{◌≡◌, IfOk, IfSome, is_some};
-ghost use Rattle.erl_term.specs.Data.{list, joined};
+ghost use Rattle.erl_term.specs.Data.{int, list, joined};
 ghost use Rattle.erl_term.specs.Canonical as canonical;
 ghost use Rattle.erl_term.specs.Spelling.{byte_items};
 ghost use Rattle.erl_term.specs.View.{view, items_view};
@@ -58,6 +58,13 @@ pub fn is_list(term: &Term) -> bool
     ensures { result ≡ canonical.is_list (view term.now) }
 {
     matches!(term, Term::List { .. })
+}
+
+/// Whether the integer is one of a byte.
+pub fn is_byte(n: i128) -> bool
+    ensures { result ≡ canonical.is_byte (int n) }
+{
+    u8::try_from(n).is_ok()
 }
 
 /// The integer of a byte that the term is, if it is one.

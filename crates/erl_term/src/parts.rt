@@ -14,7 +14,7 @@ use crate::field::{byte_of, number_of, part_of, word_of};
 use crate::reading::big_value_of;
 use crate::tag;
 use crate::term::{Pid, Reference};
-use crate::text::{atom_text, latin_text, may_become_text};
+use crate::text::{atom_text, latin_len, latin_text, may_become_text, utf8_len};
 use crate::words::{MOST, Words};
 use std::alloc::{AllocError, Global};
 use std::marker::Model;
@@ -55,6 +55,30 @@ impl<'a> AtomRef<'a> {
             Text::Latin(letters) => Ok(Atom::new(latin_text(alloc, letters)?)),
         }
     }
+
+    /// How many bytes the atom is written in.
+    #[tactic(auto, unfolding(crate::specs::Canonical::canonical_atom))]
+    pub fn written_len(&self) -> usize
+        ensures len { result ≡ length (canonical_atom self.now) }
+        ensures bound { result ≤ 1023 }
+    {
+        let len = self.text.len();
+        if len < 256 { len + 2 } else { len + 3 }
+    }
+}
+
+impl<'a> Text<'a> {
+    /// How many bytes the text has in UTF-8.
+    fn len(&self) -> usize
+        requires { IsShort self.now }
+        ensures len { result ≡ length (text_of self.now) }
+        ensures bound { result ≤ 1020 }
+    {
+        match *self {
+            Text::Utf8(text) => utf8_len(text),
+            Text::Latin(letters) => latin_len(letters),
+        }
+    }
 }
 
 /// A process identifier whose node still lies in the bytes that were read. Contracts see the
@@ -87,6 +111,15 @@ impl<'a> PidRef<'a> {
             serial: self.serial,
         })
     }
+
+    /// How many bytes the process identifier is written in.
+    #[tactic(auto, unfolding(crate::specs::Canonical::canonical_pid))]
+    pub fn written_len(&self) -> usize
+        ensures len { result ≡ length (canonical_pid self.now) }
+        ensures bound { result ≤ 1036 }
+    {
+        self.node.written_len() + 13
+    }
 }
 
 /// A reference whose node still lies in the bytes that were read. Contracts see the [`Reference`]
@@ -117,9 +150,20 @@ impl<'a> ReferenceRef<'a> {
             words: self.words.clone()?,
         })
     }
+
+    /// How many bytes the reference is written in.
+    #[tactic(auto, unfolding(crate::specs::Canonical::canonical_reference))]
+    pub fn written_len(&self) -> usize
+        ensures len { result ≡ length (canonical_reference self.now) }
+        ensures bound { result ≤ 1050 }
+    {
+        self.node.written_len() + 4 * self.words.as_slice().len() + 7
+    }
 }
 
 ghost use Rattle.std.specs.Prelude.{IfOk};
+ghost use Rattle.erl_term.specs.Canonical.{canonical_atom, canonical_pid, canonical_reference};
+ghost use Rattle.erl_term.specs.PartText.{text_of, IsShort};
 
 #[tactic(auto, unfolding(crate::specs::Parts::head_part_at))]
 fn head_of(bytes: &[u8]) -> Result<(u32, &[u8]), TermError>
@@ -253,7 +297,8 @@ pub fn letters_of(width: usize, bytes: &[u8]) -> Result<(&[u8], &[u8]), TermErro
     part_of(rest, len as usize)
 }
 
-fn utf8_ref_of(width: usize, bytes: &[u8]) -> Result<(AtomRef<'_>, &[u8]), TermError>
+/// The atom whose length, in so many bytes, and text come next.
+pub fn utf8_ref_of(width: usize, bytes: &[u8]) -> Result<(AtomRef<'_>, &[u8]), TermError>
     requires low { 1 ≤ width }
     requires high { width ≤ 8 }
     ensures { Answers (λ x. (x.0, x.1.now)) result (atom_at width bytes.now) }
@@ -265,8 +310,9 @@ fn utf8_ref_of(width: usize, bytes: &[u8]) -> Result<(AtomRef<'_>, &[u8]), TermE
     Ok((atom, rest))
 }
 
+/// The atom in Latin-1 whose length, in so many bytes, and letters come next.
 #[tactic(auto, unfolding(crate::specs::Reading::latin_at))]
-fn latin_ref_of(width: usize, bytes: &[u8]) -> Result<(AtomRef<'_>, &[u8]), TermError>
+pub fn latin_ref_of(width: usize, bytes: &[u8]) -> Result<(AtomRef<'_>, &[u8]), TermError>
     requires low { 1 ≤ width }
     requires high { width ≤ 8 }
     ensures { Answers (λ x. (x.0, x.1.now)) result (latin_at width bytes.now) }

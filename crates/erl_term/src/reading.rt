@@ -27,9 +27,10 @@ pub fn spelling_of(alloc: Global, bytes: &[u8]) -> Result<(Term, &[u8]), TermErr
     term_of(alloc, 64, rest)
 }
 
+/// The term of at most so many levels at the front, and the bytes after it.
 #[cycle(reader)]
 #[tactic(auto, unfolding(crate::specs::Reading::term_at, crate::specs::Reading::row_with))]
-fn term_of(alloc: Global, levels: u32, bytes: &[u8]) -> Result<(Term, &[u8]), TermError>
+pub fn term_of(alloc: Global, levels: u32, bytes: &[u8]) -> Result<(Term, &[u8]), TermError>
     ensures { Gives (λ x. (view x.0, x.1.now)) result (term_at levels bytes.now) }
 {
     let Some(below) = levels.checked_sub(1) else {

@@ -35,6 +35,29 @@ pub fn latin_text(alloc: Global, letters: &[u8]) -> Result<String, AllocError>
     Ok(text)
 }
 
+/// How many bytes the text of an atom has.
+pub fn utf8_len(text: &str) -> usize
+    requires { length (chars text.now) ≤ 255 }
+    ensures len { result ≡ length text.now }
+    ensures bound { result ≤ 1020 }
+{
+    text.len()
+}
+
+/// How many bytes the text of letters of Latin-1 has.
+#[tactic(auto, unfolding(crate::specs::Text::latin_text))]
+pub fn latin_len(letters: &[u8]) -> usize
+    requires { length letters.now ≤ 255 }
+    ensures len { result ≡ length (text.latin_text letters.now) }
+    ensures bound { result ≤ 1020 }
+{
+    let mut len = 0;
+    for letter in letters {
+        len += char::from(*letter).len_utf8();
+    }
+    len
+}
+
 /// How many bytes at the front are UTF-8, and whether the bytes end within the character after them, or after them.
 #[tactic(auto, using(crate::proofs::Texts::the_texts))]
 fn valid_front(bytes: &[u8]) -> (usize, bool)

@@ -1,0 +1,143 @@
+//! The same reading with no value and no memory: where the term ends and what its canonical spelling
+//! takes, or the first fault.
+ghost use Rattle.std.specs.Prelude.{◌≡◌, ◌≤◌};
+ghost use Rattle.erl_term.specs.Data.{list, atom, no_items};
+ghost use Rattle.erl_term.specs.Reading.{string_at, binary_at, latin_at, atom_at, items_with, tuple_with, list_with, term_at, spelling_at};
+ghost use Rattle.erl_term.specs.Skipping.{Skips};
+ghost use Rattle.erl_term.specs.Size.{Measures, measure_of, run_of};
+
+use crate::error::TermError;
+use crate::field::{byte_of, half_of, number_of, part_of, word_of};
+use crate::parts::{latin_ref_of, pid_fields_of, reference_fields_of, utf8_ref_of};
+use crate::reading::big_value_of;
+use crate::size::{Measure, Run};
+use crate::tag;
+
+/// The measure of the term at the front, and the bytes after it.
+#[cycle(sizer)]
+#[tactic(auto, unfolding(crate::specs::Reading::term_at, crate::specs::Reading::row_with, crate::specs::Reading::small_at, crate::specs::Reading::integer_at))]
+pub fn measure_at(levels: u32, bytes: &[u8]) -> Result<(Measure, &[u8]), TermError>
+    ensures { Measures measure_of (term_at levels bytes.now) result }
+{
+    let Some(below) = levels.checked_sub(1) else {
+        return Err(TermError::TooDeep);
+    };
+    let (tag, rest) = byte_of(bytes)?;
+    match tag {
+        tag::SMALL_INTEGER => {
+            let (n, rest) = byte_of(rest)?;
+            Ok((Measure::of_integer(i128::from(n)), rest))
+        }
+        tag::INTEGER => {
+            let (n, rest) = word_of(rest)?;
+            Ok((Measure::of_integer(i128::from(n.cast_signed())), rest))
+        }
+        tag::SMALL_BIG => {
+            let (n, rest) = big_value_of(rest)?;
+            Ok((Measure::of_integer(n), rest))
+        }
+        tag::ATOM_UTF8 => {
+            let (atom, rest) = utf8_ref_of(2, rest)?;
+            Ok((Measure::of_atom(&atom), rest))
+        }
+        tag::SMALL_ATOM_UTF8 => {
+            let (atom, rest) = utf8_ref_of(1, rest)?;
+            Ok((Measure::of_atom(&atom), rest))
+        }
+        tag::SMALL_TUPLE => tuple_measure_at(below, 1, rest),
+        tag::LARGE_TUPLE => tuple_measure_at(below, 4, rest),
+        tag::NEW_PID => {
+            let (pid, rest) = pid_fields_of(rest)?;
+            Ok((Measure::of_pid(&pid), rest))
+        }
+        tag::SMALL_ATOM => {
+            let (atom, rest) = latin_ref_of(1, rest)?;
+            Ok((Measure::of_atom(&atom), rest))
+        }
+        tag::ATOM => {
+            let (atom, rest) = latin_ref_of(2, rest)?;
+            Ok((Measure::of_atom(&atom), rest))
+        }
+        tag::NIL => Ok((Measure::of_bytes(&[]), rest)),
+        tag::STRING => string_measure_at(rest),
+        tag::LIST => list_measure_at(below, rest),
+        tag::BINARY => binary_measure_at(rest),
+        tag::NEWER_REFERENCE => {
+            let (reference, rest) = reference_fields_of(rest)?;
+            Ok((Measure::of_reference(&reference), rest))
+        }
+        _ => Err(TermError::OutOfProfile(tag)),
+    }
+}
+
+#[tactic(auto, unfolding(crate::specs::Reading::string_at))]
+fn string_measure_at(bytes: &[u8]) -> Result<(Measure, &[u8]), TermError>
+    ensures { Measures measure_of (string_at bytes.now) result }
+{
+    let (len, rest) = half_of(bytes)?;
+    let (letters, rest) = part_of(rest, usize::from(len))?;
+    Ok((Measure::of_bytes(letters), rest))
+}
+
+#[tactic(auto, unfolding(crate::specs::Reading::binary_at))]
+fn binary_measure_at(bytes: &[u8]) -> Result<(Measure, &[u8]), TermError>
+    ensures { Measures measure_of (binary_at bytes.now) result }
+{
+    let (len, rest) = word_of(bytes)?;
+    let (part, rest) = part_of(rest, len as usize)?;
+    Ok((Measure::of_binary(part), rest))
+}
+
+#[cycle(sizer)]
+#[tactic(auto, unfolding(crate::specs::Reading::list_with))]
+fn list_measure_at(below: u32, bytes: &[u8]) -> Result<(Measure, &[u8]), TermError>
+    ensures { Measures measure_of (list_with below (term_at below) bytes.now) result }
+{
+    if below == 0 {
+        return Err(TermError::TooDeep);
+    }
+    let (count, rest) = word_of(bytes)?;
+    let (items, rest) = items_measure_at(below, u64::from(count), rest)?;
+    let (tail, rest) = measure_at(below, rest)?;
+    Ok((items.join(tail), rest))
+}
+
+#[cycle(sizer)]
+#[tactic(auto, unfolding(crate::specs::Reading::tuple_with))]
+fn tuple_measure_at(below: u32, width: usize, bytes: &[u8]) -> Result<(Measure, &[u8]), TermError>
+    requires low { 1 ≤ width }
+    requires high { width ≤ 8 }
+    ensures { Measures measure_of (tuple_with below (term_at below) width bytes.now) result }
+{
+    let most = if below == 0 { 0 } else { 4294967295 };
+    let (arity, rest) = number_of(bytes, width, most, TermError::TooDeep)?;
+    let (items, rest) = items_measure_at(below, arity, rest)?;
+    Ok((items.tuple(), rest))
+}
+
+#[cycle(sizer)]
+fn items_measure_at(below: u32, count: u64, bytes: &[u8]) -> Result<(Run, &[u8]), TermError>
+    ensures { Measures run_of (items_with (term_at below) count bytes.now) result }
+{
+    let mut items = Run::empty();
+    let mut rest = bytes;
+    for _ in 0..count {
+        let (item, after) = measure_at(below, rest)?;
+        items = items.then(item.alone());
+        rest = after;
+    }
+    Ok((items, rest))
+}
+
+/// The bytes after the spelling at the front.
+#[tactic(auto, unfolding(crate::specs::Reading::spelling_at))]
+pub fn skip_spelling(bytes: &[u8]) -> Result<&[u8], TermError>
+    ensures { Skips (spelling_at bytes.now) result }
+{
+    let (version, rest) = byte_of(bytes)?;
+    if version != tag::VERSION {
+        return Err(TermError::Malformed);
+    }
+    let (_, rest) = measure_at(64, rest)?;
+    Ok(rest)
+}
