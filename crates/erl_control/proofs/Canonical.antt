@@ -1,20 +1,24 @@
 -- The frame that is written is a frame.
-use Rattle.std.proofs.Common.{ℕ, zero, suc, ◌+◌, ◌^◌, ◌<◌, ◌≤◌, ◌↔◌, Bool, true, false, cond, List, [], ◌∷◌, ◌++◌, length, refl, arith}
+use Rattle.std.proofs.Common.{◌≡◌, ℕ, zero, suc, ◌+◌, ◌^◌, ◌<◌, ◌≤◌, ◌↔◌, Bool, true, false, cond, List, [], ◌∷◌, ◌++◌, length, refl, rules, arith}
 use Rattle.std.proofs.lemmas.List.{length-append}
-use Rattle.std.specs.Prelude.{ℤ, pos}
-use Rattle.std.specs.Int.{byte_at}
+use Rattle.std.proofs.lemmas.Str.{IsUtf8-nil, chars-nil}
+use Rattle.std.proofs.lemmas.Int.{ints}
+use Rattle.std.specs.Prelude.{ℤ, pos, FitsSigned}
+use Rattle.std.specs.Int.{byte_at, w128}
 use Rattle.byteorder.specs.Endian.{big_bytes}
 use Rattle.readers.specs.Reading.{AreBytes}
 use Rattle.readers.proofs.Sequence.{AreBytes-nil}
 use Rattle.erl_term.specs.declared.term.Pid.{Pid}
-use Rattle.erl_term.specs.Data.{Data, int, tuple, pid, Items, no_items, item, count}
+use Rattle.erl_term.specs.declared.term.Reference.{Reference}
+use Rattle.erl_term.specs.Data.{Data, int, atom, tuple, pid, reference, Items, no_items, item, count}
 use Rattle.erl_term.specs.Spelling.{IsNumber, IsSpelling}
-use Rattle.erl_term.specs.Canonical.{canonical, canonical_head, canonical_int, canonical_pid, canonical_items, levels_of, IsInRange, IsPidInRange}
+use Rattle.erl_term.specs.Text.{IsAtomText}
+use Rattle.erl_term.specs.Canonical.{canonical, canonical_term, canonical_head, canonical_int, canonical_atom, canonical_pid, canonical_reference, canonical_items, levels_of, IsInRange, IsPidInRange, IsReferenceInRange}
 use Rattle.erl_control.specs.declared.signal.Signal.{Signal}
-use Rattle.erl_control.specs.declared.signal.Signal.TheVariants.{Link, UnlinkId, UnlinkIdAck}
-use Rattle.erl_control.specs.Control.{control_term, IsSendable}
-use Rattle.erl_control.specs.Frame.{limit, IsSignalFrame}
-use Rattle.erl_control.specs.Canonical.{canonical_frame}
+use Rattle.erl_control.specs.declared.signal.Signal.TheVariants.{Link, Send, Exit, Exit2, Monitor, Demonitor, MonitorExit, UnlinkId, UnlinkIdAck}
+use Rattle.erl_control.specs.Control.{row, control_term, message_of, Carries, Fits, IsFit, IsSendable}
+use Rattle.erl_control.specs.Frame.{limit, SpellsMessage, IsSignalText, IsSignalFrame}
+use Rattle.erl_control.specs.Canonical.{canonical_control, canonical_message, canonical_text, canonical_frame}
 
 -- ---- a number in four bytes
 
@@ -33,6 +37,35 @@ high_bytes (suc k) x = AreBytes-cons (byte_at k x) (big_bytes k x) (byte_low k x
 four_bytes : (x : ℕ) → x < 2 ^ 32 → IsNumber 4 x (big_bytes 4 x)
 four_bytes x lt = record { len = refl; bytes = high_bytes 4 x; says = omega arith }
 
+-- ---- the atom ''
+
+pub empty_atom : IsAtomText []
+empty_atom = record { utf8 = IsUtf8-nil; short = rw chars-nil (omega arith) }
+
+empty_atom_len : length (canonical_atom []) ≡ 2
+unfolding canonical_atom
+empty_atom_len = refl
+
+pub send_len : (to : Pid) (m : Data) → length (canonical_text (Send to m)) ≡ length (131 ∷ (canonical_head 3 ++ canonical_int (pos 2))) + 2 + length (canonical_pid to) + 1 + length (canonical_term m)
+send_len to m =
+    let pids : List ℕ = canonical_pid to ++ [] in
+    let a = empty_atom_len in
+    omega (
+      arith,
+      length-append (canonical_control (Send to m)) (canonical m),
+      length-append (canonical_head 3) (canonical_int (pos 2) ++ (canonical_atom [] ++ pids)),
+      length-append (canonical_int (pos 2)) (canonical_atom [] ++ pids),
+      length-append (canonical_atom []) pids,
+      length-append {A = ℕ} (canonical_pid to) [],
+      length-append (canonical_head 3) (canonical_int (pos 2)),
+    )
+
+two_fits : FitsSigned w128 (pos 2)
+two_fits = search (rules, ints)
+
+pub send_in_range : (to : Pid) (m : Data) → IsPidInRange to → IsInRange (control_term (atom []) (Send to m))
+send_in_range to m h = (omega arith, (two_fits, (empty_atom, (h, tt))))
+
 -- ---- lengths
 
 abbrev pub ShortIntegers : Type 0
@@ -40,6 +73,9 @@ ShortIntegers = (z : ℤ) → length (canonical_int z) ≤ 19
 
 abbrev pub ShortPids : Type 0
 ShortPids = (p : Pid) → IsPidInRange p → length (canonical_pid p) ≤ 1036
+
+abbrev pub ShortReferences : Type 0
+ShortReferences = (r : Reference) → IsReferenceInRange r → length (canonical_reference r) ≤ 1050
 
 head_short : (n : ℕ) → length (canonical_head n) ≤ 5
 unfolding canonical_head
@@ -49,55 +85,105 @@ head_short n = by _
     by true = omega arith
     by false = omega arith
 
-pids_short : ShortPids → (p q : Pid) → IsPidInRange p → IsPidInRange q → length (canonical_items (item (pid p) (item (pid q) no_items))) ≤ 2072
-pids_short short p q h k =
-    let a = short p h in let b = short q k in
-    omega (arith, length-append (canonical_pid p) (canonical_pid q ++ []), length-append {A = ℕ} (canonical_pid q) [])
+-- the elements, of which each has at most so many bytes
+abbrev AtMost : ℕ → Items → Type 0
+AtMost n ts = length (canonical_items ts) ≤ n
 
-integer_first : ShortIntegers → (z : ℤ) (ts : Items) → length (canonical_items (item (int z) ts)) ≤ 19 + length (canonical_items ts)
-integer_first short z ts = let k = short z in omega (arith, length-append (canonical_int z) (canonical_items ts))
+one_more : (k n : ℕ) (t : Data) (ts : Items) → length (canonical_term t) ≤ k → AtMost n ts → AtMost (k + n) (item t ts)
+one_more k n t ts a b = omega (arith, length-append (canonical_term t) (canonical_items ts))
 
-tuple_short : (ts : Items) → length (canonical (tuple ts)) ≤ 6 + length (canonical_items ts)
-tuple_short ts = let k = head_short (count ts) in omega (arith, length-append (canonical_head (count ts)) (canonical_items ts))
+row_short : (tag n : ℕ) (ts : Items) → ShortIntegers → AtMost n ts → length (canonical (tuple (item (int (pos tag)) ts))) ≤ 25 + n
+row_short tag n ts ints h =
+    let a = ints (pos tag) in
+    let k = head_short (suc (count ts)) in
+    omega (
+      arith,
+      length-append (canonical_head (suc (count ts))) (canonical_int (pos tag) ++ canonical_items ts),
+      length-append (canonical_int (pos tag)) (canonical_items ts),
+    )
 
-control_short : ShortIntegers → ShortPids → (s : Signal) → IsInRange (control_term s) → length (canonical (control_term s)) < limit
-control_short ints short (Link p q) h =
-    let a = pids_short short p q h.1.1.0 h.1.1.1.0 in
-    let b = integer_first ints (pos 1) (item (pid p) (item (pid q) no_items)) in
-    let c = tuple_short (item (int (pos 1)) (item (pid p) (item (pid q) no_items))) in
-    omega arith
-control_short ints short (UnlinkId id p q) h =
-    let a = pids_short short p q h.1.1.1.0 h.1.1.1.1.0 in
-    let b = integer_first ints (pos id) (item (pid p) (item (pid q) no_items)) in
-    let c = integer_first ints (pos 35) (item (int (pos id)) (item (pid p) (item (pid q) no_items))) in
-    let d = tuple_short (item (int (pos 35)) (item (int (pos id)) (item (pid p) (item (pid q) no_items)))) in
-    omega arith
-control_short ints short (UnlinkIdAck id p q) h =
-    let a = pids_short short p q h.1.1.1.0 h.1.1.1.1.0 in
-    let b = integer_first ints (pos id) (item (pid p) (item (pid q) no_items)) in
-    let c = integer_first ints (pos 36) (item (int (pos id)) (item (pid p) (item (pid q) no_items))) in
-    let d = tuple_short (item (int (pos 36)) (item (int (pos id)) (item (pid p) (item (pid q) no_items)))) in
-    omega arith
+module _ (ints : ShortIntegers) (pids : ShortPids) (references : ShortReferences) where
+  two_pids : (n : ℕ) (p q : Pid) (ts : Items) → IsPidInRange p → IsPidInRange q → AtMost n ts → AtMost (2072 + n) (item (pid p) (item (pid q) ts))
+  two_pids n p q ts h k a = let b = one_more 1036 (1036 + n) (pid p) (item (pid q) ts) (pids p h) (one_more 1036 n (pid q) ts (pids q k) a) in omega arith
+
+  exit_short : (tag : ℕ) (p q : Pid) (t : Data) → IsPidInRange p → IsPidInRange q → length (canonical t) ≤ 60000 → length (canonical (row tag (pid p ∷ pid q ∷ t ∷ []))) ≤ 62097
+  exit_short tag p q t h k fit = row_short tag 62072 (item (pid p) (item (pid q) (item t no_items))) ints (two_pids 60000 p q (item t no_items) h k (one_more 60000 0 t no_items (omega arith) (omega arith)))
+
+  monitor_short : (tag : ℕ) (p q : Pid) (r : Reference) → IsPidInRange p → IsPidInRange q → IsReferenceInRange r → length (canonical (row tag (pid p ∷ pid q ∷ reference r ∷ []))) ≤ 3147
+  monitor_short tag p q r h k l = row_short tag 3122 (item (pid p) (item (pid q) (item (reference r) no_items))) ints (two_pids 1050 p q (item (reference r) no_items) h k (one_more 1050 0 (reference r) no_items (references r l) (omega arith)))
+
+  unlink_short : (tag id : ℕ) (p q : Pid) → IsPidInRange p → IsPidInRange q → length (canonical (row tag (int (pos id) ∷ pid p ∷ pid q ∷ []))) ≤ 2116
+  unlink_short tag id p q h k = row_short tag 2091 (item (int (pos id)) (item (pid p) (item (pid q) no_items))) ints (one_more 19 2072 (int (pos id)) (item (pid p) (item (pid q) no_items)) (ints (pos id)) (two_pids 0 p q no_items h k (omega arith)))
+
+  -- the control term of a signal that carries what fits, and its message
+  text_short : (s : Signal) → Carries Fits s → IsInRange (control_term (atom []) s) → length (canonical_text s) < limit
+  text_short (Link p q) f h =
+      let a = row_short 1 2072 (item (pid p) (item (pid q) no_items)) ints (two_pids 0 p q no_items h.1.1.0 h.1.1.1.0 (omega arith)) in
+      omega (arith, length-append {A = ℕ} (canonical_control (Link p q)) [])
+  text_short (Send p t) f h =
+      let a = pids p h.1.1.1.0 in
+      let b = ints (pos 2) in
+      let k = head_short 3 in
+      let l = f.2 in
+      let n = send_len p t in
+      omega (arith, length-append (canonical_head 3) (canonical_int (pos 2)))
+  text_short (Exit p q t) f h = let a = exit_short 3 p q t h.1.1.0 h.1.1.1.0 f.2 in omega (arith, length-append {A = ℕ} (canonical_control (Exit p q t)) [])
+  text_short (Exit2 p q t) f h = let a = exit_short 8 p q t h.1.1.0 h.1.1.1.0 f.2 in omega (arith, length-append {A = ℕ} (canonical_control (Exit2 p q t)) [])
+  text_short (Monitor p q r) f h = let a = monitor_short 19 p q r h.1.1.0 h.1.1.1.0 h.1.1.1.1.0 in omega (arith, length-append {A = ℕ} (canonical_control (Monitor p q r)) [])
+  text_short (Demonitor p q r) f h = let a = monitor_short 20 p q r h.1.1.0 h.1.1.1.0 h.1.1.1.1.0 in omega (arith, length-append {A = ℕ} (canonical_control (Demonitor p q r)) [])
+  text_short (MonitorExit p q r t) f h =
+      let g = f.2 in
+      let last = one_more 60000 0 t no_items (omega arith) (omega arith) in
+      let ts = two_pids 61050 p q (item (reference r) (item t no_items)) h.1.1.0 h.1.1.1.0 (one_more 1050 60000 (reference r) (item t no_items) (references r h.1.1.1.1.0) last) in
+      let a = row_short 21 63122 (item (pid p) (item (pid q) (item (reference r) (item t no_items)))) ints ts in
+      omega (arith, length-append {A = ℕ} (canonical_control (MonitorExit p q r t)) [])
+  text_short (UnlinkId id p q) f h = let a = unlink_short 35 id p q h.1.1.1.0 h.1.1.1.1.0 in omega (arith, length-append {A = ℕ} (canonical_control (UnlinkId id p q)) [])
+  text_short (UnlinkIdAck id p q) f h = let a = unlink_short 36 id p q h.1.1.1.0 h.1.1.1.1.0 in omega (arith, length-append {A = ℕ} (canonical_control (UnlinkIdAck id p q)) [])
 
 -- ---- frames
 
 abbrev pub CanonicalSpells : Type 0
 CanonicalSpells = (t : Data) (levels : ℕ) → IsInRange t → (IsSpelling levels t (canonical t) ↔ (levels_of t ≤ levels))
 
-two_levels : (s : Signal) → levels_of (control_term s) ≤ 64
-two_levels (Link p q) = omega arith
-two_levels (UnlinkId id p q) = omega arith
-two_levels (UnlinkIdAck id p q) = omega arith
+few_levels : (s : Signal) → Carries Fits s → levels_of (control_term (atom []) s) ≤ 64
+few_levels (Link p q) f = omega arith
+few_levels (Send p t) f = omega arith
+few_levels (Exit p q t) f = let l = f.1 in omega arith
+few_levels (Exit2 p q t) f = let l = f.1 in omega arith
+few_levels (Monitor p q r) f = omega arith
+few_levels (Demonitor p q r) f = omega arith
+few_levels (MonitorExit p q r t) f = let l = f.1 in omega arith
+few_levels (UnlinkId id p q) f = omega arith
+few_levels (UnlinkIdAck id p q) f = omega arith
 
-pub canonical_framed : CanonicalSpells → ShortIntegers → ShortPids → (s : Signal) → IsSendable s → IsInRange (control_term s) → IsSignalFrame s (canonical_frame s)
-canonical_framed spells ints short s u h =
-    let k = control_short ints short s h in
+told : CanonicalSpells → (s : Signal) → Carries Fits s → SpellsMessage (message_of s) (canonical_message (message_of s))
+told spells (Send p t) f = (spells t 64 f.0).1 (let l = f.1 in omega arith)
+told spells s f = refl
+
+fit_of : (s : Signal) → Carries Fits s → Carries IsFit s
+fit_of (Send p t) f = (f.1, f.2)
+fit_of (Exit p q t) f = (f.1, f.2)
+fit_of (Exit2 p q t) f = (f.1, f.2)
+fit_of (MonitorExit p q r t) f = (f.1, f.2)
+fit_of s f = tt
+
+pub canonical_framed : CanonicalSpells → ShortIntegers → ShortPids → ShortReferences → (s : Signal) → IsSendable s → IsInRange (control_term (atom []) s) → IsSignalFrame s (canonical_frame s)
+canonical_framed spells ints pids references s u h =
+    let k = text_short ints pids references s u.1 h in
     record {
-      len = big_bytes 4 (suc (length (canonical (control_term s))));
-      control = canonical (control_term s);
-      sendable = u;
-      spelled = (spells (control_term s) 64 h).1 (two_levels s);
-      number = four_bytes (suc (length (canonical (control_term s)))) (omega arith);
+      len = big_bytes 4 (suc (length (canonical_text s)));
+      text = canonical_text s;
+      is_text = record {
+        unused = atom [];
+        control = canonical_control s;
+        message = canonical_message (message_of s);
+        has_id = u.0;
+        spelled = (spells (control_term (atom []) s) 64 h).1 (few_levels s u.1);
+        told = told spells s u.1;
+        bytes = refl;
+      };
+      fit = fit_of s u.1;
+      number = four_bytes (suc (length (canonical_text s))) (omega arith);
       short = omega arith;
       bytes = refl;
     }

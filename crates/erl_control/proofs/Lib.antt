@@ -1,5 +1,9 @@
 pub mod Sequence
 pub mod Table
+pub mod Arms
+pub mod Answered
+pub mod Same
 pub mod Rows
+pub mod Texts
 pub mod Frames
 pub mod Canonical

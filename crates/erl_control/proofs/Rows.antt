@@ -1,90 +1,153 @@
--- Whether a term is a row of the table.
-use Rattle.std.proofs.Common.{◌≡◌, ℕ, ◌^◌, refl, sym, ap, subst, arith, ◌⊎◌, inl, inr}
+-- The rows of the table: a control term tells its signal, but for the message.
+use Rattle.std.proofs.Common.{◌≡◌, ℕ, ◌^◌, cond, eqb, List, [], ◌∷◌, Option, Some, None, refl, sym, ap, subst, ◌∙◌, arith, ◌⊎◌, inl, inr}
 use Rattle.std.proofs.lemmas.Bool.{cases_lt}
 use Rattle.std.specs.Prelude.{pos}
 use Rattle.erl_term.specs.declared.term.Pid.{Pid}
-use Rattle.erl_term.specs.Data.{Data, int, tuple, pid, Items, no_items, item}
+use Rattle.erl_term.specs.declared.term.Reference.{Reference}
+use Rattle.erl_term.specs.Data.{Data, int, tuple, pid, reference, Items, no_items, item}
 use Rattle.erl_control.specs.declared.signal.Signal.{Signal}
-use Rattle.erl_control.specs.declared.signal.Signal.TheVariants.{Link, UnlinkId, UnlinkIdAck}
-use Rattle.erl_control.specs.Control.{control_term, IsUnlinkId, IsSendable}
+use Rattle.erl_control.specs.declared.signal.Signal.TheVariants.{Link, Send, Exit, Exit2, Monitor, Demonitor, MonitorExit, UnlinkId, UnlinkIdAck}
+use Rattle.erl_control.specs.Control.{control_term, message_of, IsUnlinkId, HasId}
 use Rattle.erl_control.specs.Answer.{IsRow}
+use Rattle.erl_control.proofs.Same.{same_term}
 
-abbrev pids : Pid → Pid → Items
-pids p q = item (pid p) (item (pid q) no_items)
+-- ---- the parts of a term, where it is a row
 
-abbrev HasPids : Items → Type 0
-HasPids ts = (p : Pid) × (q : Pid) × (ts ≡ pids p q)
+abbrev nothing : Data
+nothing = int (pos 0)
 
-abbrev HasIdAndPids : Items → Type 0
-HasIdAndPids ts = (id : ℕ) × (p : Pid) × (q : Pid) × IsUnlinkId id × (ts ≡ item (int (pos id)) (pids p q))
+abbrev no_pid : Pid
+no_pid = record { node = []; creation = 0; id = 0; serial = 0 }
 
-has_pids : (ts : Items) → HasPids ts ⊎ (¬ HasPids ts)
-has_pids (item (pid p) (item (pid q) no_items)) = inl (p, q, refl)
-has_pids ts = inr (λ h. let e = h.2 in cc)
+abbrev pid_in : Data → Pid
+pid_in (pid p) = p
+pid_in t = no_pid
+
+abbrev reference_in : Data → Reference
+reference_in (reference r) = r
+reference_in t = record { node = []; creation = 0; words = [] }
+
+abbrev id_in : Data → ℕ
+id_in (int (pos n)) = n
+id_in t = 0
 
 abbrev rest_in : Items → Items
 rest_in (item t ts) = ts
 rest_in no_items = no_items
 
-abbrev id_in : Items → ℕ
-id_in (item (int (pos n)) ts) = n
-id_in ts = 0
+abbrev first_in : Items → Data
+first_in (item t ts) = t
+first_in no_items = nothing
 
-has_id : (id : ℕ) (ts : Items) → (HasPids ts ⊎ (¬ HasPids ts)) → (IsUnlinkId id ⊎ (¬ IsUnlinkId id)) → HasIdAndPids (item (int (pos id)) ts) ⊎ (¬ HasIdAndPids (item (int (pos id)) ts))
-has_id id ts (inl h) (inl u) = inl (id, h.0, h.1, u, ap (λ (us : Items). item (int (pos id)) us) h.2)
-has_id id ts (inr free) u = inr (λ h. free (h.1, h.2, ap rest_in h.4))
-has_id id ts h (inr out) = inr (λ h. out (subst IsUnlinkId (sym (ap id_in h.4)) h.3))
+abbrev items_in : Data → Items
+items_in (tuple ts) = ts
+items_in t = no_items
 
-in_range : (id : ℕ) → IsUnlinkId id ⊎ (¬ IsUnlinkId id)
-in_range id =
+-- the fields behind the tag
+abbrev a_in : Data → Data
+a_in t = first_in (rest_in (items_in t))
+
+abbrev b_in : Data → Data
+b_in t = first_in (rest_in (rest_in (items_in t)))
+
+abbrev c_in : Data → Data
+c_in t = first_in (rest_in (rest_in (rest_in (items_in t))))
+
+abbrev d_in : Data → Data
+d_in t = first_in (rest_in (rest_in (rest_in (rest_in (items_in t)))))
+
+abbrev by_tag : ℕ → Data → Signal
+by_tag n t =
+    cond (eqb n 1) (Link (pid_in (a_in t)) (pid_in (b_in t)))
+    (cond (eqb n 2) (Send (pid_in (b_in t)) nothing)
+    (cond (eqb n 3) (Exit (pid_in (a_in t)) (pid_in (b_in t)) (c_in t))
+    (cond (eqb n 8) (Exit2 (pid_in (a_in t)) (pid_in (b_in t)) (c_in t))
+    (cond (eqb n 19) (Monitor (pid_in (a_in t)) (pid_in (b_in t)) (reference_in (c_in t)))
+    (cond (eqb n 20) (Demonitor (pid_in (a_in t)) (pid_in (b_in t)) (reference_in (c_in t)))
+    (cond (eqb n 21) (MonitorExit (pid_in (a_in t)) (pid_in (b_in t)) (reference_in (c_in t)) (d_in t))
+    (cond (eqb n 35) (UnlinkId (id_in (a_in t)) (pid_in (b_in t)) (pid_in (c_in t)))
+    (UnlinkIdAck (id_in (a_in t)) (pid_in (b_in t)) (pid_in (c_in t))))))))))
+
+-- the signal of which the term is a row, but for the message
+abbrev signal_in : Data → Signal
+signal_in t = by_tag (id_in (first_in (items_in t))) t
+
+abbrev pub but_message : Signal → Signal
+but_message (Send to message) = Send to nothing
+but_message s = s
+
+signal_back : (unused : Data) (s : Signal) → signal_in (control_term unused s) ≡ but_message s
+signal_back unused (Link p q) = refl
+signal_back unused (Send p t) = refl
+signal_back unused (Exit p q t) = refl
+signal_back unused (Exit2 p q t) = refl
+signal_back unused (Monitor p q r) = refl
+signal_back unused (Demonitor p q r) = refl
+signal_back unused (MonitorExit p q r t) = refl
+signal_back unused (UnlinkId id p q) = refl
+signal_back unused (UnlinkIdAck id p q) = refl
+
+pub row_tells : (u v : Data) (s r : Signal) → control_term u s ≡ control_term v r → but_message s ≡ but_message r
+row_tells u v s r e = sym (signal_back u s) ∙ ap signal_in e ∙ signal_back v r
+
+-- ---- whether a term is a row
+
+row_back : (unused : Data) (s : Signal) → control_term (a_in (control_term unused s)) (but_message s) ≡ control_term unused s
+row_back unused (Link p q) = refl
+row_back unused (Send p t) = refl
+row_back unused (Exit p q t) = refl
+row_back unused (Exit2 p q t) = refl
+row_back unused (Monitor p q r) = refl
+row_back unused (Demonitor p q r) = refl
+row_back unused (MonitorExit p q r t) = refl
+row_back unused (UnlinkId id p q) = refl
+row_back unused (UnlinkIdAck id p q) = refl
+
+id_kept : (s : Signal) → HasId s → HasId (but_message s)
+id_kept (Send p t) h = tt
+id_kept s h = h
+
+id_or_not : (id : ℕ) → IsUnlinkId id ⊎ (¬ IsUnlinkId id)
+id_or_not id =
     elim (cases_lt id 1) [
       | inl low ↦ inr (λ u. let l = u.0 in omega arith)
       | inr le ↦ elim (cases_lt id (2 ^ 64)) [ inl lt ↦ inl (le, lt) | inr high ↦ inr (λ u. let l = u.1 in omega arith) ]
     ]
 
-has_id_and_pids : (ts : Items) → HasIdAndPids ts ⊎ (¬ HasIdAndPids ts)
-has_id_and_pids (item (int (pos id)) ts) = has_id id ts (has_pids ts) (in_range id)
-has_id_and_pids ts = inr (λ h. let e = h.4 in cc)
+has_id_or_not : (s : Signal) → HasId s ⊎ (¬ HasId s)
+has_id_or_not (UnlinkId id p q) = id_or_not id
+has_id_or_not (UnlinkIdAck id p q) = id_or_not id
+has_id_or_not s = inl tt
 
-pub same_or_not : (k j : ℕ) → (k ≡ j) ⊎ (¬ (k ≡ j))
-same_or_not k j =
-    elim (cases_lt k j) [
-      | inl lt ↦ inr (λ e. omega arith)
-      | inr le ↦ elim (cases_lt j k) [ inl lt ↦ inr (λ e. omega arith) | inr ge ↦ inl (omega arith) ]
-    ]
+-- what it must be, if it is a row
+abbrev rebuilt : Data → Data
+rebuilt t = control_term (a_in t) (signal_in t)
 
-abbrev tag_in : Data → ℕ
-tag_in (tuple (item (int (pos n)) ts)) = n
-tag_in t = 0
+rebuilt_row : (t : Data) → IsRow t → (t ≡ rebuilt t) × HasId (signal_in t)
+rebuilt_row t r =
+    let back = ap signal_in r.3 ∙ signal_back r.1 r.0 in (
+      r.3 ∙ sym (row_back r.1 r.0) ∙ ap (λ (u : Data). control_term (a_in u) (but_message r.0)) (sym r.3) ∙ ap (λ (s : Signal). control_term (a_in t) s) (sym back),
+      subst HasId (sym back) (id_kept r.0 r.2),
+    )
 
-abbrev fields_in : Data → Items
-fields_in (tuple (item t ts)) = ts
-fields_in t = no_items
-
--- what a row has, from its term
-has_of : (s : Signal) → IsSendable s → ((tag_in (control_term s) ≡ 1) × HasPids (fields_in (control_term s))) ⊎ (((tag_in (control_term s) ≡ 35) ⊎ (tag_in (control_term s) ≡ 36)) × HasIdAndPids (fields_in (control_term s)))
-has_of (Link p q) u = inl (refl, (p, q, refl))
-has_of (UnlinkId id p q) u = inr (inl refl, (id, p, q, u, refl))
-has_of (UnlinkIdAck id p q) u = inr (inr refl, (id, p, q, u, refl))
-
-no_row : (t : Data) → ¬ ((tag_in t ≡ 1) × HasPids (fields_in t)) → ¬ (((tag_in t ≡ 35) ⊎ (tag_in t ≡ 36)) × HasIdAndPids (fields_in t)) → ¬ IsRow t
-no_row t a b r =
-    elim (has_of r.0 r.1) [
-      | inl h ↦ a (subst (λ (u : Data). (tag_in u ≡ 1) × HasPids (fields_in u)) (sym r.2) h)
-      | inr h ↦ b (subst (λ (u : Data). ((tag_in u ≡ 35) ⊎ (tag_in u ≡ 36)) × HasIdAndPids (fields_in u)) (sym r.2) h)
-    ]
-
-tagged_row : (k : ℕ) (ts : Items) → ((k ≡ 1) ⊎ (¬ (k ≡ 1))) → ((k ≡ 35) ⊎ (¬ (k ≡ 35))) → ((k ≡ 36) ⊎ (¬ (k ≡ 36))) → (HasPids ts ⊎ (¬ HasPids ts)) → (HasIdAndPids ts ⊎ (¬ HasIdAndPids ts)) → IsRow (tuple (item (int (pos k)) ts)) ⊎ (¬ IsRow (tuple (item (int (pos k)) ts)))
-tagged_row k ts (inl e) b c (inl h) g = inl (Link h.0 h.1, tt, rw (e, h.2) refl)
-tagged_row k ts (inl e) b c (inr free) g = inr (no_row (tuple (item (int (pos k)) ts)) (λ x. free x.1) (λ x. elim x.0 [ inl f ↦ omega arith | inr f ↦ omega arith ]))
-tagged_row k ts (inr n) (inl e) c h (inl g) = inl (UnlinkId g.0 g.1 g.2, g.3, rw (e, g.4) refl)
-tagged_row k ts (inr n) b c h (inr free) = inr (no_row (tuple (item (int (pos k)) ts)) (λ x. n x.0) (λ x. free x.1))
-tagged_row k ts (inr n) (inr m) (inl e) h (inl g) = inl (UnlinkIdAck g.0 g.1 g.2, g.3, rw (e, g.4) refl)
-tagged_row k ts (inr n) (inr m) (inr l) h g = inr (no_row (tuple (item (int (pos k)) ts)) (λ x. n x.0) (λ x. elim x.0 [ inl f ↦ m f | inr f ↦ l f ]))
-
-untagged : (t : Data) → tag_in t ≡ 0 → ¬ IsRow t
-untagged t z = no_row t (λ x. let e = x.0 in omega arith) (λ x. elim x.0 [ inl f ↦ omega arith | inr f ↦ omega arith ])
+row_or_not : (t : Data) → ((t ≡ rebuilt t) ⊎ (¬ (t ≡ rebuilt t))) → (HasId (signal_in t) ⊎ (¬ HasId (signal_in t))) → IsRow t ⊎ (¬ IsRow t)
+row_or_not t (inl e) (inl h) = inl (signal_in t, a_in t, h, e)
+row_or_not t (inl e) (inr f) = inr (λ r. f ((rebuilt_row t r).1))
+row_or_not t (inr f) h = inr (λ r. f ((rebuilt_row t r).0))
 
 pub is_row : (t : Data) → IsRow t ⊎ (¬ IsRow t)
-is_row (tuple (item (int (pos k)) ts)) = tagged_row k ts (same_or_not k 1) (same_or_not k 35) (same_or_not k 36) (has_pids ts) (has_id_and_pids ts)
-is_row t = inr (untagged t refl)
+is_row t = row_or_not t (same_term t (rebuilt t)) (has_id_or_not (signal_in t))
+
+-- ---- the message
+
+pub with_message : Signal → Option Data → Signal
+with_message (Send to message) (Some t) = Send to t
+with_message s o = s
+
+whole_signal : (s : Signal) → with_message (but_message s) (message_of s) ≡ s
+unfolding with_message
+whole_signal (Send p t) = refl
+whole_signal s = refl
+
+pub same_signal : (s r : Signal) → but_message s ≡ but_message r → message_of s ≡ message_of r → s ≡ r
+same_signal s r p q = sym (whole_signal s) ∙ ap (λ (z : Signal). with_message z (message_of s)) p ∙ ap (with_message (but_message r)) q ∙ whole_signal r

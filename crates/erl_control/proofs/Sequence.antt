@@ -5,15 +5,15 @@ use Rattle.std.specs.Prelude.{ℤ, pos, negsuc, ◌==◌}
 use Rattle.std.proofs.lemmas.Bool.{eqb-true}
 use Rattle.std.proofs.lemmas.Int.{ints}
 use Rattle.std.specs.Int.{w64, FitsUnsigned}
-use Rattle.erl_term.specs.Data.{int}
-use Rattle.erl_term.specs.Spelling.{Spells}
+use Rattle.erl_term.specs.Data.{Data, int}
+use Rattle.erl_term.specs.Spelling.{Spells, IsSpelling}
 use Rattle.erl_term.specs.Parts.{ReadsFront, IsTupleHead}
-use Rattle.erl_control.specs.Reading.{IsPair, IsOpening, IsNaturalText, IsRowHead, IsIdText, ReadsAll}
+use Rattle.erl_control.specs.Reading.{IsPair, IsOpening, IsNaturalText, IsRowHead, IsIdText}
 
 both_are : {A B : Type 0} (a : A) (b : B) (x : A × B) → a ≡ x.0 → b ≡ x.1 → (a, b) ≡ x
 both_are a b x p q = ap (λ u. (u, b)) p ∙ ap (λ v. (x.0, v)) q
 
-split_pair : (bytes text front back rest : List ℕ) → text ≡ front ++ back → bytes ≡ text ++ rest → bytes ≡ front ++ (back ++ rest)
+pub split_pair : (bytes text front back rest : List ℕ) → text ≡ front ++ back → bytes ≡ text ++ rest → bytes ≡ front ++ (back ++ rest)
 split_pair bytes text front back rest p e = e ∙ ap (λ (w : List ℕ). w ++ rest) p ∙ append_assoc front back rest
 
 pub first_none : {A B : Type 0} (S : A → List ℕ → Type 0) (T : B → List ℕ → Type 0) (bytes : List ℕ) → ReadsFront S bytes None → ReadsFront (IsPair S T) bytes None
@@ -54,6 +54,16 @@ opening bytes rest None e r = record { takes = tt; again = λ n text more s p. r
 opening bytes rest (Some x) e r = record {
   takes = record { text = 131 ∷ r.takes.text; is_text = record { head = r.takes.text; is_head = r.takes.is_text; bytes = refl }; parts = e ∙ ap (λ (w : List ℕ). 131 ∷ w) r.takes.parts };
   again = λ n text more s p. r.again n s.head more s.is_head (unversioned bytes text s.head rest more s.bytes p e);
+}
+
+pub unopened : (bytes : List ℕ) → ((rest : List ℕ) → bytes ≡ 131 ∷ rest → ⊥) → ReadsFront IsOpening bytes None
+unopened bytes never = record { takes = tt; again = λ n text more s p. never (s.head ++ more) (p ∙ ap (λ (w : List ℕ). w ++ more) s.bytes) }
+
+pub spelling : (bytes rest : List ℕ) (o : Option (Data × Bor (List ℕ))) → bytes ≡ 131 ∷ rest → ReadsFront (λ t b. Spells 64 t b) rest o → ReadsFront (IsSpelling 64) bytes o
+spelling bytes rest None e r = record { takes = tt; again = λ t text more s p. r.again t s.term more s.spelled (unversioned bytes text s.term rest more s.bytes p e) }
+spelling bytes rest (Some x) e r = record {
+  takes = record { text = 131 ∷ r.takes.text; is_text = record { term = r.takes.text; spelled = r.takes.is_text; bytes = refl }; parts = e ∙ ap (λ (w : List ℕ). 131 ∷ w) r.takes.parts };
+  again = λ t text more s p. r.again t s.term more s.spelled (unversioned bytes text s.term rest more s.bytes p e);
 }
 
 -- ---- the head of a row
@@ -122,38 +132,21 @@ id_some levels bytes x r lt = record {
   again = λ j text rest s p. r.again j text rest (s.0.1, s.1) p;
 }
 
--- ---- all of the bytes
+-- ---- another view of what is read
 
-pub all_none : {A : Type 0} (S : A → List ℕ → Type 0) (bytes : List ℕ) → ReadsFront S bytes None → ReadsAll S bytes None
-all_none S bytes r = record { some = tt; only = λ x s. absurd (r.again x bytes [] s (sym (append-nil bytes))) }
+abbrev pub mapped : {A B : Type 0} → (A → B) → Option (A × Bor (List ℕ)) → Option (B × Bor (List ℕ))
+mapped f None = None
+mapped f (Some x) = Some (f x.0, x.1)
 
-pub all_left_over : {A : Type 0} (S : A → List ℕ → Type 0) (bytes : List ℕ) (x : A × Bor (List ℕ)) → ReadsFront S bytes (Some x) → 0 < length x.1.now → ReadsAll S bytes None
-all_left_over S bytes x r lt = record { some = tt; only = λ y s. absurd (let k = r.again y bytes [] s (sym (append-nil bytes)) in let l = ap length k.1 in omega arith) }
-
-pub all_some : {A : Type 0} (S : A → List ℕ → Type 0) (bytes : List ℕ) (x : A × Bor (List ℕ)) → ReadsFront S bytes (Some x) → x.1.now ≡ [] → ReadsAll S bytes (Some x.0)
-all_some S bytes x r e = record {
-  some = subst (S x.0) (sym (r.takes.parts ∙ ap (λ (w : List ℕ). r.takes.text ++ w) e ∙ append-nil r.takes.text)) r.takes.is_text;
-  only = λ y s. let k = r.again y bytes [] s (sym (append-nil bytes)) in ap (λ z. Some z) k.0;
+-- where the texts of T are those of S, seen by f
+pub read_as : {A B : Type 0} (S : A → List ℕ → Type 0) (T : B → List ℕ → Type 0) (f : A → B) → ((x : A) (b : List ℕ) → S x b → T (f x) b) → ((y : B) (b : List ℕ) → T y b → (x : A) × (f x ≡ y) × S x b) → (bytes : List ℕ) (answer : Option (A × Bor (List ℕ))) → ReadsFront S bytes answer → ReadsFront T bytes (mapped f answer)
+read_as S T f to from bytes None r = record { takes = tt; again = λ y text rest t p. let s = from y text t in r.again s.0 text rest s.2 p }
+read_as S T f to from bytes (Some x) r = record {
+  takes = record { text = r.takes.text; is_text = to x.0 r.takes.text r.takes.is_text; parts = r.takes.parts };
+  again = λ y text rest t p. let s = from y text t in let k = r.again s.0 text rest s.2 p in (ap f k.0 ∙ s.1, k.1);
 }
 
-pub all_first_none : {A B : Type 0} (S : A → List ℕ → Type 0) (T : B → List ℕ → Type 0) (bytes : List ℕ) → ReadsFront S bytes None → ReadsAll (IsPair S T) bytes None
-all_first_none S T bytes r = record { some = tt; only = λ x s. absurd (r.again x.0 s.front s.back s.is_front s.parts) }
-
-pub all_second_none : {A B : Type 0} (S : A → List ℕ → Type 0) (T : B → List ℕ → Type 0) (bytes : List ℕ) (a : A × Bor (List ℕ)) → ReadsFront S bytes (Some a) → ReadsAll T a.1.now None → ReadsAll (IsPair S T) bytes None
-all_second_none S T bytes a r q = record {
-  some = tt;
-  only = λ x s. absurd (let k = r.again x.0 s.front s.back s.is_front s.parts in let e = q.only x.1 (subst (T x.1) (sym k.1) s.is_back) in cc);
-}
-
-pub all_both : {A B : Type 0} (S : A → List ℕ → Type 0) (T : B → List ℕ → Type 0) (bytes : List ℕ) (a : A × Bor (List ℕ)) (b : B) → ReadsFront S bytes (Some a) → ReadsAll T a.1.now (Some b) → ReadsAll (IsPair S T) bytes (Some (a.0, b))
-all_both {B = B} S T bytes a b r q = record {
-  some = record { front = r.takes.text; back = a.1.now; is_front = r.takes.is_text; is_back = q.some; parts = r.takes.parts };
-  only = λ x s.
-      let k = r.again x.0 s.front s.back s.is_front s.parts in
-      let e = q.only x.1 (subst (T x.1) (sym k.1) s.is_back) in
-      let same : b ≡ x.1 = cc in
-      ap (λ z. Some z) (both_are a.0 b x k.0 same);
-}
+-- ---- emptiness
 
 pub is_empty_nil : (xs : List ℕ) (b : Bool) → b ≡ (length xs == 0) → b ≡ true → xs ≡ []
 is_empty_nil [] b e t = refl

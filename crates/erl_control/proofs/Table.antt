@@ -1,69 +1,247 @@
--- The control term of a signal, part by part.
-use Rattle.std.proofs.Common.{◌≡◌, ℕ, suc, ◌^◌, ◌<◌, List, [], ◌∷◌, ◌++◌, length, take, Option, Some, None, Result, Ok, Err, Bor, refl, sym, ap, subst, ◌∙◌, append_assoc, arith, inl, inr}
-use Rattle.std.proofs.lemmas.Bool.{cases_lt}
-use Rattle.std.proofs.lemmas.List.{append-nil, take_all}
+-- The text of a signal, part by part.
+use Rattle.std.proofs.Common.{◌≡◌, ℕ, suc, ◌^◌, ◌<◌, List, [], ◌∷◌, ◌++◌, length, Option, Some, None, Bor, refl, sym, ap, subst, ◌∙◌, append_assoc, arith}
+use Rattle.std.proofs.lemmas.List.{append-nil}
 use Rattle.std.specs.Prelude.{pos}
-use Rattle.std.specs.declared.alloc.AllocError.{AllocError}
 use Rattle.erl_term.specs.declared.term.Pid.{Pid}
-use Rattle.erl_term.specs.Data.{Data, int, tuple, pid, Items, no_items, item, count}
+use Rattle.erl_term.specs.declared.term.Reference.{Reference}
+use Rattle.erl_term.specs.Data.{Data, int, tuple, pid, reference, Items, no_items, item, count}
 use Rattle.erl_term.specs.Spelling.{SpellAll, Spells, IsSpelling}
 use Rattle.erl_term.specs.Parts.{ReadsFront, IsTupleHead}
 use Rattle.erl_term.proofs.Behind.{tuple_opened, tuple_closed}
 use Rattle.erl_control.specs.declared.signal.Signal.{Signal}
-use Rattle.erl_control.specs.declared.signal.Signal.TheVariants.{Link, UnlinkId, UnlinkIdAck}
-use Rattle.erl_control.specs.Control.{IsUnlinkId}
-use Rattle.erl_term.specs.Answer.{IsDue}
-use Rattle.erl_control.specs.Answer.{IsBadControl}
-use Rattle.erl_control.specs.Reading.{IsRowHead, ArePids, AreIdAndPids, tag_of, arity_of, AreFields, HasFields, IsControl, ReadsWhole, ReadsRow}
+use Rattle.erl_control.specs.declared.signal.Signal.TheVariants.{Link, Send, Exit, Exit2, Monitor, Demonitor, MonitorExit, UnlinkId, UnlinkIdAck}
+use Rattle.erl_control.specs.Control.{send_term, control_term, message_of, IsUnlinkId, HasId}
+use Rattle.erl_control.specs.Frame.{SpellsMessage, IsSignalText}
+use Rattle.erl_control.specs.Reading.{IsPair, IsRowHead, ArePids, AreIdAndPids, ArePidsAndReason, ArePidsAndReference, AreMonitorExit, AreSend, AreSendAndMessage, IsSendText, tag_of, arity_of, AreFields}
 
--- ---- the fields of a row
+-- ---- fields in a row
 
-abbrev pids : Pid → Pid → Items
-pids p q = item (pid p) (item (pid q) no_items)
+-- the last field
+last_from : (S : Data → List ℕ → Type 0) (t : Data) (b : List ℕ) → SpellAll S (item t no_items) b → S t b
+last_from S t b s = subst (S t) (sym (s.4 ∙ ap (λ (w : List ℕ). s.0 ++ w) s.3 ∙ append-nil s.0)) s.2
 
-pids_from : (levels : ℕ) (p q : Pid) (b : List ℕ) → SpellAll (Spells levels) (pids p q) b → ArePids levels (p, q) b
-pids_from levels p q b s =
-    let last : s.1 ≡ s.3.0 = s.3.4 ∙ ap (λ (w : List ℕ). s.3.0 ++ w) s.3.3 ∙ append-nil s.3.0 in
-    record { front = s.0; back = s.1; is_front = s.2; is_back = subst (Spells levels (pid q)) (sym last) s.3.2; parts = s.4 }
+last_to : (S : Data → List ℕ → Type 0) (t : Data) (b : List ℕ) → S t b → SpellAll S (item t no_items) b
+last_to S t b s = (b, [], s, refl, sym (append-nil b))
 
-pids_to : (levels : ℕ) (p q : Pid) (b : List ℕ) → ArePids levels (p, q) b → SpellAll (Spells levels) (pids p q) b
-pids_to levels p q b s = (s.front, s.back, s.is_front, (s.back, [], s.is_back, refl, sym (append-nil s.back)), s.parts)
+-- two fields, and those behind them
+record Two (S : Data → List ℕ → Type 0) (t u : Data) (ts : Items) (b : List ℕ) : Type 0 where
+  first : List ℕ
+  second : List ℕ
+  others : List ℕ
+  is_first : S t first
+  is_second : S u second
+  are_others : SpellAll S ts others
+  parts : b ≡ (first ++ second) ++ others
 
-abbrev id_and_pids : ℕ → Pid → Pid → Items
-id_and_pids id p q = item (int (pos id)) (pids p q)
+two_from : (S : Data → List ℕ → Type 0) (t u : Data) (ts : Items) (b : List ℕ) → SpellAll S (item t (item u ts)) b → Two S t u ts b
+two_from S t u ts b s = record {
+  first = s.0;
+  second = s.3.0;
+  others = s.3.1;
+  is_first = s.2;
+  is_second = s.3.2;
+  are_others = s.3.3;
+  parts = s.4 ∙ ap (λ (w : List ℕ). s.0 ++ w) s.3.4 ∙ sym (append_assoc s.0 s.3.0 s.3.1);
+}
 
-id_from : (id : ℕ) (p q : Pid) → IsUnlinkId id → (levels : ℕ) (b : List ℕ) → SpellAll (Spells levels) (id_and_pids id p q) b → AreIdAndPids levels (id, (p, q)) b
-id_from id p q u levels b s = record { front = s.0; back = s.1; is_front = (u, s.2); is_back = pids_from levels p q s.1 s.3; parts = s.4 }
+two_to : (S : Data → List ℕ → Type 0) (t u : Data) (ts : Items) (b x y z : List ℕ) → S t x → S u y → SpellAll S ts z → b ≡ (x ++ y) ++ z → SpellAll S (item t (item u ts)) b
+two_to S t u ts b x y z p q r e = (x, y ++ z, p, (y, z, q, r, refl), e ∙ append_assoc x y z)
 
-id_to : (id : ℕ) (p q : Pid) (levels : ℕ) (b : List ℕ) → AreIdAndPids levels (id, (p, q)) b → SpellAll (Spells levels) (id_and_pids id p q) b
-id_to id p q levels b s = (s.front, s.back, s.is_front.1, pids_to levels p q s.back s.is_back, s.parts)
+-- From and To, and what is behind them
+record PidsThen (levels : ℕ) (p q : Pid) (ts : Items) (b : List ℕ) : Type 0 where
+  front : List ℕ
+  back : List ℕ
+  are_pids : ArePids levels (p, q) front
+  are_others : SpellAll (Spells levels) ts back
+  parts : b ≡ front ++ back
+
+pids_from : (levels : ℕ) (p q : Pid) (ts : Items) (b : List ℕ) → SpellAll (Spells levels) (item (pid p) (item (pid q) ts)) b → PidsThen levels p q ts b
+pids_from levels p q ts b s =
+    let w = two_from (Spells levels) (pid p) (pid q) ts b s in
+    record {
+      front = w.first ++ w.second;
+      back = w.others;
+      are_pids = record { front = w.first; back = w.second; is_front = w.is_first; is_back = w.is_second; parts = refl };
+      are_others = w.are_others;
+      parts = w.parts;
+    }
+
+pids_to : (levels : ℕ) (p q : Pid) (ts : Items) (b front back : List ℕ) → ArePids levels (p, q) front → SpellAll (Spells levels) ts back → b ≡ front ++ back → SpellAll (Spells levels) (item (pid p) (item (pid q) ts)) b
+pids_to levels p q ts b front back s r e =
+    two_to (Spells levels) (pid p) (pid q) ts b s.front s.back back s.is_front s.is_back r (e ∙ ap (λ (w : List ℕ). w ++ back) s.parts)
+
+-- ---- the fields of a row, and its message
+
+abbrev fields_of : Data → Signal → Items
+fields_of unused (Link p q) = item (pid p) (item (pid q) no_items)
+fields_of unused (Send p t) = item unused (item (pid p) no_items)
+fields_of unused (Exit p q t) = item (pid p) (item (pid q) (item t no_items))
+fields_of unused (Exit2 p q t) = item (pid p) (item (pid q) (item t no_items))
+fields_of unused (Monitor p q r) = item (pid p) (item (pid q) (item (reference r) no_items))
+fields_of unused (Demonitor p q r) = item (pid p) (item (pid q) (item (reference r) no_items))
+fields_of unused (MonitorExit p q r t) = item (pid p) (item (pid q) (item (reference r) (item t no_items)))
+fields_of unused (UnlinkId id p q) = item (int (pos id)) (item (pid p) (item (pid q) no_items))
+fields_of unused (UnlinkIdAck id p q) = item (int (pos id)) (item (pid p) (item (pid q) no_items))
+
+-- a row is its tag and its fields
+abbrev by_parts : Data → Signal → Data
+by_parts unused s = tuple (item (int (pos (tag_of s))) (fields_of unused s))
+
+row_parts : (unused : Data) (s : Signal) → control_term unused s ≡ by_parts unused s
+row_parts unused (Link p q) = refl
+row_parts unused (Send p t) = refl
+row_parts unused (Exit p q t) = refl
+row_parts unused (Exit2 p q t) = refl
+row_parts unused (Monitor p q r) = refl
+row_parts unused (Demonitor p q r) = refl
+row_parts unused (MonitorExit p q r t) = refl
+row_parts unused (UnlinkId id p q) = refl
+row_parts unused (UnlinkIdAck id p q) = refl
+
+row_arity : (unused : Data) (s : Signal) → suc (count (fields_of unused s)) ≡ arity_of s
+row_arity unused (Link p q) = refl
+row_arity unused (Send p t) = refl
+row_arity unused (Exit p q t) = refl
+row_arity unused (Exit2 p q t) = refl
+row_arity unused (Monitor p q r) = refl
+row_arity unused (Demonitor p q r) = refl
+row_arity unused (MonitorExit p q r t) = refl
+row_arity unused (UnlinkId id p q) = refl
+row_arity unused (UnlinkIdAck id p q) = refl
+
+row_tag : (s : Signal) → tag_of s < 2 ^ 64
+row_tag (Link p q) = omega arith
+row_tag (Send p t) = omega arith
+row_tag (Exit p q t) = omega arith
+row_tag (Exit2 p q t) = omega arith
+row_tag (Monitor p q r) = omega arith
+row_tag (Demonitor p q r) = omega arith
+row_tag (MonitorExit p q r t) = omega arith
+row_tag (UnlinkId id p q) = omega arith
+row_tag (UnlinkIdAck id p q) = omega arith
+
+module _ (levels : ℕ) where
+  two_pids_from : (p q : Pid) (b : List ℕ) → SpellAll (Spells levels) (item (pid p) (item (pid q) no_items)) b → ArePids levels (p, q) b
+  two_pids_from p q b s =
+      let w = pids_from levels p q no_items b s in
+      subst (ArePids levels (p, q)) (sym (w.parts ∙ ap (λ (v : List ℕ). w.front ++ v) w.are_others ∙ append-nil w.front)) w.are_pids
+
+  two_pids_to : (p q : Pid) (b : List ℕ) → ArePids levels (p, q) b → SpellAll (Spells levels) (item (pid p) (item (pid q) no_items)) b
+  two_pids_to p q b s = pids_to levels p q no_items b b [] s refl (sym (append-nil b))
+
+  exit_from : (p q : Pid) (t : Data) (b : List ℕ) → SpellAll (Spells levels) (item (pid p) (item (pid q) (item t no_items))) b → ArePidsAndReason levels ((p, q), t) b
+  exit_from p q t b s =
+      let w = pids_from levels p q (item t no_items) b s in
+      record { front = w.front; back = w.back; is_front = w.are_pids; is_back = last_from (Spells levels) t w.back w.are_others; parts = w.parts }
+
+  exit_to : (p q : Pid) (t : Data) (b : List ℕ) → ArePidsAndReason levels ((p, q), t) b → SpellAll (Spells levels) (item (pid p) (item (pid q) (item t no_items))) b
+  exit_to p q t b s = pids_to levels p q (item t no_items) b s.front s.back s.is_front (last_to (Spells levels) t s.back s.is_back) s.parts
+
+  monitor_from : (p q : Pid) (r : Reference) (b : List ℕ) → SpellAll (Spells levels) (item (pid p) (item (pid q) (item (reference r) no_items))) b → ArePidsAndReference levels ((p, q), r) b
+  monitor_from p q r b s =
+      let w = pids_from levels p q (item (reference r) no_items) b s in
+      record { front = w.front; back = w.back; is_front = w.are_pids; is_back = last_from (Spells levels) (reference r) w.back w.are_others; parts = w.parts }
+
+  monitor_to : (p q : Pid) (r : Reference) (b : List ℕ) → ArePidsAndReference levels ((p, q), r) b → SpellAll (Spells levels) (item (pid p) (item (pid q) (item (reference r) no_items))) b
+  monitor_to p q r b s = pids_to levels p q (item (reference r) no_items) b s.front s.back s.is_front (last_to (Spells levels) (reference r) s.back s.is_back) s.parts
+
+  monitor_exit_from : (p q : Pid) (r : Reference) (t : Data) (b : List ℕ) → SpellAll (Spells levels) (item (pid p) (item (pid q) (item (reference r) (item t no_items)))) b → AreMonitorExit levels (((p, q), r), t) b
+  monitor_exit_from p q r t b s =
+      let w = pids_from levels p q (item (reference r) (item t no_items)) b s in
+      let o = w.are_others in
+      record {
+        front = w.front ++ o.0;
+        back = o.1;
+        is_front = record { front = w.front; back = o.0; is_front = w.are_pids; is_back = o.2; parts = refl };
+        is_back = last_from (Spells levels) t o.1 o.3;
+        parts = w.parts ∙ ap (λ (v : List ℕ). w.front ++ v) o.4 ∙ sym (append_assoc w.front o.0 o.1);
+      }
+
+  monitor_exit_to : (p q : Pid) (r : Reference) (t : Data) (b : List ℕ) → AreMonitorExit levels (((p, q), r), t) b → SpellAll (Spells levels) (item (pid p) (item (pid q) (item (reference r) (item t no_items)))) b
+  monitor_exit_to p q r t b s =
+      let f = s.is_front in
+      pids_to levels p q (item (reference r) (item t no_items)) b f.front (f.back ++ s.back) f.is_front
+      (f.back, s.back, f.is_back, last_to (Spells levels) t s.back s.is_back, refl)
+      (s.parts ∙ ap (λ (v : List ℕ). v ++ s.back) f.parts ∙ append_assoc f.front f.back s.back)
+
+  unlink_from : (id : ℕ) (p q : Pid) (b : List ℕ) → IsUnlinkId id → SpellAll (Spells levels) (item (int (pos id)) (item (pid p) (item (pid q) no_items))) b → AreIdAndPids levels (id, (p, q)) b
+  unlink_from id p q b u s = record { front = s.0; back = s.1; is_front = (u, s.2); is_back = two_pids_from p q s.1 s.3; parts = s.4 }
+
+  unlink_to : (id : ℕ) (p q : Pid) (b : List ℕ) → AreIdAndPids levels (id, (p, q)) b → SpellAll (Spells levels) (item (int (pos id)) (item (pid p) (item (pid q) no_items))) b
+  unlink_to id p q b s = (s.front, s.back, s.is_front.1, two_pids_to p q s.back s.is_back, s.parts)
+
+  pub send_from : (t : Data) (p : Pid) (b : List ℕ) → SpellAll (Spells levels) (item t (item (pid p) no_items)) b → AreSend levels (t, p) b
+  send_from t p b s = record { front = s.0; back = s.1; is_front = s.2; is_back = last_from (Spells levels) (pid p) s.1 s.3; parts = s.4 }
+
+  pub send_to : (t : Data) (p : Pid) (b : List ℕ) → AreSend levels (t, p) b → SpellAll (Spells levels) (item t (item (pid p) no_items)) b
+  send_to t p b s = (s.front, s.back, s.is_front, last_to (Spells levels) (pid p) s.back s.is_back, s.parts)
+
+  -- nothing stands behind
+  alone : (T : List ℕ → Type 0) (x message : List ℕ) → message ≡ [] → T x → T (x ++ message)
+  alone T x message e s = subst T (sym (ap (λ (w : List ℕ). x ++ w) e ∙ append-nil x)) s
+
+  fields_from : (unused : Data) (s : Signal) (x message : List ℕ) → HasId s → SpellAll (Spells levels) (fields_of unused s) x → SpellsMessage (message_of s) message → AreFields levels s (x ++ message)
+  fields_from unused (Link p q) x message h s e = alone (AreFields levels (Link p q)) x message e (two_pids_from p q x s)
+  fields_from unused (Send p t) x message h s e = (unused, record { front = x; back = message; is_front = send_from unused p x s; is_back = e; parts = refl })
+  fields_from unused (Exit p q t) x message h s e = alone (AreFields levels (Exit p q t)) x message e (exit_from p q t x s)
+  fields_from unused (Exit2 p q t) x message h s e = alone (AreFields levels (Exit2 p q t)) x message e (exit_from p q t x s)
+  fields_from unused (Monitor p q r) x message h s e = alone (AreFields levels (Monitor p q r)) x message e (monitor_from p q r x s)
+  fields_from unused (Demonitor p q r) x message h s e = alone (AreFields levels (Demonitor p q r)) x message e (monitor_from p q r x s)
+  fields_from unused (MonitorExit p q r t) x message h s e = alone (AreFields levels (MonitorExit p q r t)) x message e (monitor_exit_from p q r t x s)
+  fields_from unused (UnlinkId id p q) x message h s e = alone (AreFields levels (UnlinkId id p q)) x message e (unlink_from id p q x h s)
+  fields_from unused (UnlinkIdAck id p q) x message h s e = alone (AreFields levels (UnlinkIdAck id p q)) x message e (unlink_from id p q x h s)
+
+  pub record Fields (s : Signal) (b : List ℕ) : Type 0 where
+    pub unused : Data
+    pub elements : List ℕ
+    pub message : List ℕ
+    pub has_id : HasId s
+    pub spelled : SpellAll (Spells levels) (fields_of unused s) elements
+    pub told : SpellsMessage (message_of s) message
+    pub parts : b ≡ elements ++ message
+
+  abbrev lone : (s : Signal) (b : List ℕ) → HasId s → SpellAll (Spells levels) (fields_of (int (pos 0)) s) b → SpellsMessage (message_of s) [] → Fields s b
+  lone s b h all e = record { unused = int (pos 0); elements = b; message = []; has_id = h; spelled = all; told = e; parts = sym (append-nil b) }
+
+  fields_to : (s : Signal) (b : List ℕ) → AreFields levels s b → Fields s b
+  fields_to (Link p q) b f = lone (Link p q) b tt (two_pids_to p q b f) refl
+  fields_to (Send p t) b f =
+      let g = f.1 in
+      record { unused = f.0; elements = g.front; message = g.back; has_id = tt; spelled = send_to f.0 p g.front g.is_front; told = g.is_back; parts = g.parts }
+  fields_to (Exit p q t) b f = lone (Exit p q t) b tt (exit_to p q t b f) refl
+  fields_to (Exit2 p q t) b f = lone (Exit2 p q t) b tt (exit_to p q t b f) refl
+  fields_to (Monitor p q r) b f = lone (Monitor p q r) b tt (monitor_to p q r b f) refl
+  fields_to (Demonitor p q r) b f = lone (Demonitor p q r) b tt (monitor_to p q r b f) refl
+  fields_to (MonitorExit p q r t) b f = lone (MonitorExit p q r t) b tt (monitor_exit_to p q r t b f) refl
+  fields_to (UnlinkId id p q) b f = lone (UnlinkId id p q) b f.is_front.0 (unlink_to id p q b f) refl
+  fields_to (UnlinkIdAck id p q) b f = lone (UnlinkIdAck id p q) b f.is_front.0 (unlink_to id p q b f) refl
 
 -- ---- rows
 
--- the head of a row, and its fields
-record Shape (signal : Signal) (b : List ℕ) : Type 0 where
-  levels : ℕ
-  front : List ℕ
-  fields : List ℕ
-  is_front : IsRowHead ((arity_of signal, levels), tag_of signal) front
-  are_fields : AreFields levels signal fields
-  parts : b ≡ front ++ fields
+-- a tuple as the head of a row, and the fields behind it
+pub record Row (tag : ℕ) (ts : Items) (b : List ℕ) : Type 0 where
+  pub levels : ℕ
+  pub front : List ℕ
+  pub fields : List ℕ
+  pub is_front : IsRowHead ((suc (count ts), levels), tag) front
+  pub are_fields : SpellAll (Spells levels) ts fields
+  pub parts : b ≡ front ++ fields
 
-row_shape : (signal : Signal) (tag : ℕ) (ts : Items) (b : List ℕ) → tag < 2 ^ 64 → arity_of signal ≡ suc (count ts) → tag_of signal ≡ tag → ((levels : ℕ) (fields : List ℕ) → SpellAll (Spells levels) ts fields → AreFields levels signal fields) → IsSpelling 64 (tuple (item (int (pos tag)) ts)) b → Shape signal b
-row_shape signal tag ts b lt n k from s =
+pub row_from : (tag : ℕ) (ts : Items) (b : List ℕ) → tag < 2 ^ 64 → IsSpelling 64 (tuple (item (int (pos tag)) ts)) b → Row tag ts b
+row_from tag ts b lt s =
     let o = tuple_opened 64 (item (int (pos tag)) ts) s.term s.spelled in
     let e = o.spelled in
     record {
       levels = o.below;
       front = 131 ∷ (o.head ++ e.0);
       fields = e.1;
-      is_front = rw (n, k) (record { front = 131 ∷ o.head; back = e.0; is_front = record { head = o.head; is_head = o.is_head; bytes = refl }; is_back = (lt, e.2); parts = refl });
-      are_fields = from o.below e.1 e.3;
+      is_front = record { front = 131 ∷ o.head; back = e.0; is_front = record { head = o.head; is_head = o.is_head; bytes = refl }; is_back = (lt, e.2); parts = refl };
+      are_fields = e.3;
       parts = s.bytes ∙ ap (λ (w : List ℕ). 131 ∷ w) (o.parts ∙ ap (λ (w : List ℕ). o.head ++ w) e.4 ∙ sym (append_assoc o.head e.0 e.1));
     }
 
-shape_row : (signal : Signal) (tag : ℕ) (ts : Items) (b : List ℕ) → arity_of signal ≡ suc (count ts) → tag_of signal ≡ tag → ((levels : ℕ) (fields : List ℕ) → AreFields levels signal fields → SpellAll (Spells levels) ts fields) → Shape signal b → IsSpelling 64 (tuple (item (int (pos tag)) ts)) b
-shape_row signal tag ts b n k to s =
+pub row_to : (tag : ℕ) (ts : Items) (b : List ℕ) → Row tag ts b → IsSpelling 64 (tuple (item (int (pos tag)) ts)) b
+row_to tag ts b s =
     let f = s.is_front in
     let h = f.is_front in
     record {
@@ -72,101 +250,60 @@ shape_row signal tag ts b n k to s =
         below = s.levels;
         head = h.head;
         elements = f.back ++ s.fields;
-        is_head = subst (λ (m : ℕ). IsTupleHead 64 (m, s.levels) h.head) n h.is_head;
-        spelled = (f.back, s.fields, subst (λ (m : ℕ). Spells s.levels (int (pos m)) f.back) k f.is_back.1, to s.levels s.fields s.are_fields, refl);
+        is_head = h.is_head;
+        spelled = (f.back, s.fields, f.is_back.1, s.are_fields, refl);
         parts = refl;
       });
       bytes = s.parts ∙ ap (λ (w : List ℕ). w ++ s.fields) (f.parts ∙ ap (λ (w : List ℕ). w ++ f.back) h.bytes) ∙ ap (λ (w : List ℕ). 131 ∷ w) (append_assoc h.head f.back s.fields);
     }
 
-shape : (signal : Signal) (b : List ℕ) → IsControl signal b → Shape signal b
-shape (Link p q) b s = row_shape (Link p q) 1 (pids p q) b (omega arith) refl refl (λ levels. pids_from levels p q) s.1
-shape (UnlinkId id p q) b s = row_shape (UnlinkId id p q) 35 (id_and_pids id p q) b (omega arith) refl refl (id_from id p q s.0) s.1
-shape (UnlinkIdAck id p q) b s = row_shape (UnlinkIdAck id p q) 36 (id_and_pids id p q) b (omega arith) refl refl (id_from id p q s.0) s.1
+-- ---- the text of a signal as the head of a row and what is behind it
 
-control : (signal : Signal) (b : List ℕ) → Shape signal b → IsControl signal b
-control (Link p q) b s = (tt, shape_row (Link p q) 1 (pids p q) b refl refl (λ levels. pids_to levels p q) s)
-control (UnlinkId id p q) b s = (s.are_fields.is_front.0, shape_row (UnlinkId id p q) 35 (id_and_pids id p q) b refl refl (id_to id p q) s)
-control (UnlinkIdAck id p q) b s = (s.are_fields.is_front.0, shape_row (UnlinkIdAck id p q) 36 (id_and_pids id p q) b refl refl (id_to id p q) s)
+pub record Shape (s : Signal) (b : List ℕ) : Type 0 where
+  pub levels : ℕ
+  pub front : List ℕ
+  pub fields : List ℕ
+  pub is_front : IsRowHead ((arity_of s, levels), tag_of s) front
+  pub are_fields : AreFields levels s fields
+  pub parts : b ≡ front ++ fields
 
--- ---- what a reader of rows answers
-
-pub no_row_head : (b : List ℕ) → ReadsFront IsRowHead b None → ReadsWhole IsControl b (Ok None)
-no_row_head b r = record { some = tt; none = λ signal s. let h = shape signal b s in r.again ((arity_of signal, h.levels), tag_of signal) h.front h.fields h.is_front h.parts; memory = tt }
-
--- the head that stands there is that of any signal of which the bytes are the control term
-record Headed (n levels tag : ℕ) (fields : List ℕ) (signal : Signal) : Type 0 where
-  arity : arity_of signal ≡ n
-  tagged : tag_of signal ≡ tag
-  are_fields : AreFields levels signal fields
-
-headed : (b : List ℕ) (n levels tag : ℕ) (fields : Bor (List ℕ)) (signal : Signal) → ReadsFront IsRowHead b (Some (((n, levels), tag), fields)) → IsControl signal b → Headed n levels tag fields.now signal
-headed b n levels tag fields signal r s =
-    let h = shape signal b s in
-    let k = r.again ((arity_of signal, h.levels), tag_of signal) h.front h.fields h.is_front h.parts in
-    let same : levels ≡ h.levels = ap (λ (x : (ℕ × ℕ) × ℕ). x.0.1) k.0 in
+pub shape : (s : Signal) (b : List ℕ) → IsSignalText s b → Shape s b
+shape s b i =
+    let w = row_from (tag_of s) (fields_of i.unused s) i.control (row_tag s) (subst (λ (t : Data). IsSpelling 64 t i.control) (row_parts i.unused s) i.spelled) in
     record {
-      arity = sym (ap (λ (x : (ℕ × ℕ) × ℕ). x.0.0) k.0);
-      tagged = sym (ap (λ (x : (ℕ × ℕ) × ℕ). x.1) k.0);
-      are_fields = subst (λ (m : ℕ). AreFields m signal fields.now) (sym same) (subst (AreFields h.levels signal) (sym k.1) h.are_fields);
+      levels = w.levels;
+      front = w.front;
+      fields = w.fields ++ i.message;
+      is_front = subst (λ (n : ℕ). IsRowHead ((n, w.levels), tag_of s) w.front) (row_arity i.unused s) w.is_front;
+      are_fields = fields_from w.levels i.unused s w.fields i.message i.has_id w.are_fields i.told;
+      parts = i.bytes ∙ ap (λ (v : List ℕ). v ++ i.message) w.parts ∙ append_assoc w.front w.fields i.message;
     }
 
-unheaded : (b : List ℕ) (n levels tag : ℕ) (fields : Bor (List ℕ)) (signal : Signal) → ReadsFront IsRowHead b (Some (((n, levels), tag), fields)) → arity_of signal ≡ n → HasFields levels tag signal fields.now → IsControl signal b
-unheaded b n levels tag fields signal r a s =
-    control signal b (record { levels = levels; front = r.takes.text; fields = fields.now; is_front = rw (a, s.0) r.takes.is_text; are_fields = s.1; parts = r.takes.parts })
+pub unshape : (s : Signal) (b : List ℕ) → Shape s b → IsSignalText s b
+unshape s b h =
+    let f = fields_to h.levels s h.fields h.are_fields in
+    let row : Row (tag_of s) (fields_of f.unused s) (h.front ++ f.elements) = record {
+      levels = h.levels;
+      front = h.front;
+      fields = f.elements;
+      is_front = subst (λ (n : ℕ). IsRowHead ((n, h.levels), tag_of s) h.front) (sym (row_arity f.unused s)) h.is_front;
+      are_fields = f.spelled;
+      parts = refl;
+    } in
+    record {
+      unused = f.unused;
+      control = h.front ++ f.elements;
+      message = f.message;
+      has_id = f.has_id;
+      spelled = subst (λ (t : Data). IsSpelling 64 t (h.front ++ f.elements)) (sym (row_parts f.unused s)) (row_to (tag_of s) (fields_of f.unused s) (h.front ++ f.elements) row);
+      told = f.told;
+      bytes = h.parts ∙ ap (λ (w : List ℕ). h.front ++ w) f.parts ∙ sym (append_assoc h.front f.elements f.message);
+    }
 
-pub row : (b : List ℕ) (n levels tag m k : ℕ) (fields : Bor (List ℕ)) (answer : Result (Option Signal) AllocError) → ReadsFront IsRowHead b (Some (((n, levels), tag), fields)) → n ≡ m → tag ≡ k → ((signal : Signal) → tag_of signal ≡ k → arity_of signal ≡ m) → ReadsRow levels k fields.now answer → ReadsWhole IsControl b answer
-row b n levels tag m k fields (Ok (Some signal)) r p q same a = record { some = unheaded b n levels tag fields signal r (same signal a.some.0 ∙ sym p) (a.some.0 ∙ sym q, a.some.1); none = tt; memory = tt }
-row b n levels tag m k fields (Ok None) r p q same a = record { some = tt; none = λ signal s. let h = headed b n levels tag fields signal r s in a.none signal (h.tagged ∙ q, h.are_fields); memory = tt }
-row b n levels tag m k fields (Err e) r p q same a =
-    let s = a.memory in
-    record { some = tt; none = tt; memory = (s.0, unheaded b n levels tag fields s.0 r (same s.0 s.1.0 ∙ sym p) (s.1.0 ∙ sym q, s.1.1)) }
+-- ---- a SEND's control term
 
-pub other_row : (b : List ℕ) (n levels tag : ℕ) (fields : Bor (List ℕ)) → ReadsFront IsRowHead b (Some (((n, levels), tag), fields)) → ((signal : Signal) → tag_of signal ≡ tag → arity_of signal ≡ n → ⊥) → ReadsWhole IsControl b (Ok None)
-other_row b n levels tag fields r never = record { some = tt; none = λ signal s. let h = headed b n levels tag fields signal r s in never signal h.tagged h.arity; memory = tt }
+pub send_row : (x : Data × Pid) (b : List ℕ) → IsSendText x b → Row 2 (item x.0 (item (pid x.1) no_items)) b
+send_row x b s = row_from 2 (item x.0 (item (pid x.1) no_items)) b (omega arith) s
 
--- a signal's arity goes with its tag
-pub arity_1 : (signal : Signal) → tag_of signal ≡ 1 → arity_of signal ≡ 3
-arity_1 (Link p q) e = refl
-arity_1 (UnlinkId id p q) e = absurd (omega arith)
-arity_1 (UnlinkIdAck id p q) e = absurd (omega arith)
-
-pub arity_35 : (signal : Signal) → tag_of signal ≡ 35 → arity_of signal ≡ 4
-arity_35 (Link p q) e = absurd (omega arith)
-arity_35 (UnlinkId id p q) e = refl
-arity_35 (UnlinkIdAck id p q) e = absurd (omega arith)
-
-pub arity_36 : (signal : Signal) → tag_of signal ≡ 36 → arity_of signal ≡ 4
-arity_36 (Link p q) e = absurd (omega arith)
-arity_36 (UnlinkId id p q) e = absurd (omega arith)
-arity_36 (UnlinkIdAck id p q) e = refl
-
-pub no_memory : (S : Signal → List ℕ → Type 0) (b : List ℕ) (answer : Result (Option Signal) AllocError) (e : AllocError) (signal : Signal) → S signal b → answer ≡ Err e → ReadsWhole S b answer
-no_memory S b answer e signal s q = rw q (record { some = tt; none = tt; memory = (signal, s) })
-
--- no row of the table has this tag and this number of elements
-pub no_row : (n tag : ℕ) → (tag ≡ 1 → n ≡ 3 → ⊥) → (tag ≡ 35 → n ≡ 4 → ⊥) → (tag ≡ 36 → n ≡ 4 → ⊥) → (signal : Signal) → tag_of signal ≡ tag → arity_of signal ≡ n → ⊥
-no_row n tag a b c (Link p q) t e = a (sym t) (sym e)
-no_row n tag a b c (UnlinkId id p q) t e = b (sym t) (sym e)
-no_row n tag a b c (UnlinkIdAck id p q) t e = c (sym t) (sym e)
-
--- ---- a term that is no row
-
-whole_front : (b : List ℕ) (t : Data) (n : ℕ) → n ≡ length b → IsSpelling 64 t (take n b) → IsSpelling 64 t b
-whole_front b t n e s = subst (IsSpelling 64 t) (take_all n b (omega arith)) s
-
-pub bad_control : (b : List ℕ) (t : Data) (n : ℕ) → IsDue b (Ok (t, n)) → ((signal : Signal) → IsControl signal b → ⊥) → IsBadControl b
-bad_control b t n d none =
-    let within = d.0.within in (
-      t,
-      n,
-      d,
-      elim (cases_lt n (length b)) [
-        | inl lt ↦ inr lt
-        | inr le ↦ inl (λ r. none r.0 (r.1, subst (λ (u : Data). IsSpelling 64 u b) r.2 (whole_front b t n (omega arith) d.0.is_text)))
-      ],
-    )
-
-pub no_signal : (b : List ℕ) (o : Option Signal) → ReadsWhole IsControl b (Ok o) → o ≡ None → (signal : Signal) → IsControl signal b → ⊥
-no_signal b None r e = r.none
-no_signal b (Some signal) r e = absurd cc
+pub send_unrow : (x : Data × Pid) (b : List ℕ) → Row 2 (item x.0 (item (pid x.1) no_items)) b → IsSendText x b
+send_unrow x b s = row_to 2 (item x.0 (item (pid x.1) no_items)) b s

@@ -1,26 +1,62 @@
--- The control term of each signal.
+-- The control term of each signal, and the message behind it.
 -- (ERTS User's Guide, Distribution Protocol, Protocol between Connected Nodes; New Link Protocol.)
-use Rattle.std.specs.Prelude.{ℕ, ◌≤◌, ◌<◌, ◌^◌, pos, List, [], ◌∷◌}
-use Rattle.erl_term.specs.Data.{Data, int, tuple, pid}
+use Rattle.std.specs.Prelude.{ℕ, ◌≤◌, ◌<◌, ◌^◌, pos, List, [], ◌∷◌, length, Option, Some, None}
+use Rattle.erl_term.specs.declared.term.Pid.{Pid}
+use Rattle.erl_term.specs.Data.{Data, int, tuple, pid, reference}
 use Rattle.erl_term.specs.View.{items_of}
+use Rattle.erl_term.specs.Canonical.{canonical, levels_of, IsWithin}
 use Rattle.erl_control.specs.declared.signal.Signal.{Signal}
-use Rattle.erl_control.specs.declared.signal.Signal.TheVariants.{Link, UnlinkId, UnlinkIdAck}
+use Rattle.erl_control.specs.declared.signal.Signal.TheVariants.{Link, Send, Exit, Exit2, Monitor, Demonitor, MonitorExit, UnlinkId, UnlinkIdAck}
 
 abbrev pub row : ℕ → List Data → Data
 row tag fields = tuple (items_of (int (pos tag) ∷ fields))
 
+-- SEND has a field that nobody uses: any term
+abbrev pub send_term : Data → Pid → Data
+send_term unused to = row 2 (unused ∷ pid to ∷ [])
+
 -- the table
-abbrev pub control_term : Signal → Data
-control_term (Link from to) = row 1 (pid from ∷ pid to ∷ [])
-control_term (UnlinkId id from to) = row 35 (int (pos id) ∷ pid from ∷ pid to ∷ [])
-control_term (UnlinkIdAck id from to) = row 36 (int (pos id) ∷ pid from ∷ pid to ∷ [])
+abbrev pub control_term : Data → Signal → Data
+control_term unused (Link from to) = row 1 (pid from ∷ pid to ∷ [])
+control_term unused (Send to message) = send_term unused to
+control_term unused (Exit from to reason) = row 3 (pid from ∷ pid to ∷ reason ∷ [])
+control_term unused (Exit2 from to reason) = row 8 (pid from ∷ pid to ∷ reason ∷ [])
+control_term unused (Monitor from to r) = row 19 (pid from ∷ pid to ∷ reference r ∷ [])
+control_term unused (Demonitor from to r) = row 20 (pid from ∷ pid to ∷ reference r ∷ [])
+control_term unused (MonitorExit from to r reason) = row 21 (pid from ∷ pid to ∷ reference r ∷ reason ∷ [])
+control_term unused (UnlinkId id from to) = row 35 (int (pos id) ∷ pid from ∷ pid to ∷ [])
+control_term unused (UnlinkIdAck id from to) = row 36 (int (pos id) ∷ pid from ∷ pid to ∷ [])
+
+-- the term behind the control term
+abbrev pub message_of : Signal → Option Data
+message_of (Send to message) = Some message
+message_of signal = None
+
+-- what it carries, the message or the reason, is P
+abbrev pub Carries : (Data → Type 0) → Signal → Type 0
+Carries P (Send to message) = P message
+Carries P (Exit from to reason) = P reason
+Carries P (Exit2 from to reason) = P reason
+Carries P (MonitorExit from to r reason) = P reason
+Carries P signal = Unit {0}
 
 -- the Id of UNLINK_ID and of its acknowledgement
 abbrev pub IsUnlinkId : ℕ → Type 0
 IsUnlinkId id = (1 ≤ id) × (id < 2 ^ 64)
 
+abbrev pub HasId : Signal → Type 0
+HasId (UnlinkId id from to) = IsUnlinkId id
+HasId (UnlinkIdAck id from to) = IsUnlinkId id
+HasId signal = Unit {0}
+
+-- what can be carried: at most 60 levels, and 60,000 bytes of canonical spelling
+abbrev pub IsFit : Data → Type 0
+IsFit t = (levels_of t ≤ 60) × (length (canonical t) ≤ 60000)
+
+-- the same of a value of the profile
+abbrev pub Fits : Data → Type 0
+Fits t = IsWithin 60 60000 t
+
 -- which signals are sent
 abbrev pub IsSendable : Signal → Type 0
-IsSendable (Link from to) = Unit {0}
-IsSendable (UnlinkId id from to) = IsUnlinkId id
-IsSendable (UnlinkIdAck id from to) = IsUnlinkId id
+IsSendable signal = HasId signal × Carries Fits signal

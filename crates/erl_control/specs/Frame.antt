@@ -1,25 +1,40 @@
 -- The frames of an item.
 -- (ERTS User's Guide, Distribution Protocol, Protocol between Connected Nodes.)
-use Rattle.std.specs.Prelude.{◌≡◌, ℕ, suc, ◌≤◌, List, [], ◌∷◌, ◌++◌, length}
+use Rattle.std.specs.Prelude.{◌≡◌, ℕ, suc, ◌≤◌, List, [], ◌∷◌, ◌++◌, length, Option, Some, None}
+use Rattle.erl_term.specs.Data.{Data}
 use Rattle.erl_term.specs.Spelling.{IsNumber, IsSpelling}
 use Rattle.erl_control.specs.declared.signal.Signal.{Signal as TheSignal}
 use Rattle.erl_control.specs.declared.signal.Item.{Item}
 use Rattle.erl_control.specs.declared.signal.Item.TheVariants.{Tick, Signal}
-use Rattle.erl_control.specs.Control.{control_term, IsSendable}
+use Rattle.erl_control.specs.Control.{control_term, message_of, HasId, Carries, IsFit}
 
 -- the most bytes of a frame after its length
 abbrev pub limit : ℕ
 limit = 65536
 
--- the length of what follows it, pass-through, and the control term
+abbrev pub SpellsMessage : Option Data → List ℕ → Type 0
+SpellsMessage None b = b ≡ []
+SpellsMessage (Some t) b = IsSpelling 64 t b
+
+-- the control term of a signal, and its message where it has one
+pub record IsSignalText (signal : TheSignal) (b : List ℕ) : Type 0 where
+  pub unused : Data
+  pub control : List ℕ
+  pub message : List ℕ
+  pub has_id : HasId signal
+  pub spelled : IsSpelling 64 (control_term unused signal) control
+  pub told : SpellsMessage (message_of signal) message
+  pub bytes : b ≡ control ++ message
+
+-- the length of what follows it, pass-through, and the signal
 pub record IsSignalFrame (signal : TheSignal) (b : List ℕ) : Type 0 where
   pub len : List ℕ
-  pub control : List ℕ
-  pub sendable : IsSendable signal
-  pub spelled : IsSpelling 64 (control_term signal) control
-  pub number : IsNumber 4 (suc (length control)) len
-  pub short : suc (length control) ≤ limit
-  pub bytes : b ≡ len ++ 112 ∷ control
+  pub text : List ℕ
+  pub is_text : IsSignalText signal text
+  pub fit : Carries IsFit signal
+  pub number : IsNumber 4 (suc (length text)) len
+  pub short : suc (length text) ≤ limit
+  pub bytes : b ≡ len ++ 112 ∷ text
 
 abbrev pub IsFramed : Item → List ℕ → Type 0
 IsFramed Tick b = b ≡ 0 ∷ 0 ∷ 0 ∷ 0 ∷ []

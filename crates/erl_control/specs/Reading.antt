@@ -1,19 +1,33 @@
--- The parts of a control term, as they are read one after the other.
-use Rattle.std.specs.Prelude.{◌≡◌, ◌≢◌, ℕ, ◌<◌, ◌^◌, pos, List, [], ◌∷◌, ◌++◌, Option, Some, Result, Err, IfSome, IfNone, IfOk, IfErr}
-use Rattle.std.specs.declared.alloc.AllocError.{AllocError}
+-- The parts of a signal's text, as they are read one after the other.
+use Rattle.std.specs.Prelude.{◌≡◌, ◌≢◌, ℕ, ◌<◌, ◌^◌, pos, List, [], ◌∷◌, ◌++◌, Result, Err}
 use Rattle.erl_term.specs.declared.term.Pid.{Pid}
-use Rattle.erl_term.specs.Data.{int, pid}
+use Rattle.erl_term.specs.declared.term.Reference.{Reference}
+use Rattle.erl_term.specs.Data.{Data, int, pid, reference}
 use Rattle.erl_term.specs.Spelling.{Spells, IsSpelling}
-use Rattle.erl_term.specs.Answer.{IsDue}
 use Rattle.erl_term.specs.Parts.{IsTupleHead}
 use Rattle.erl_control.specs.declared.signal.Signal.{Signal}
-use Rattle.erl_control.specs.declared.signal.Signal.TheVariants.{Link, UnlinkId, UnlinkIdAck}
+use Rattle.erl_control.specs.declared.signal.Signal.TheVariants as signal
+use Rattle.erl_control.specs.declared.signal_ref.SignalRef.{SignalRef}
+use Rattle.erl_control.specs.declared.signal_ref.SignalRef.TheVariants as lying
 use Rattle.erl_control.specs.declared.signal.Item.{Item}
 use Rattle.erl_control.specs.declared.signal.Item.TheVariants.{Tick, Signal as SignalItem}
 use Rattle.erl_control.specs.declared.error.FrameError.{FrameError}
 use Rattle.erl_control.specs.declared.error.FrameError.TheVariants.{NotPassThrough, BadControl, TooLong, Term, OutOfMemory}
-use Rattle.erl_control.specs.Control.{control_term, IsUnlinkId, IsSendable}
-use Rattle.erl_control.specs.Answer.{IsBadControl}
+use Rattle.erl_control.specs.Control.{send_term, IsUnlinkId, Carries, IsFit}
+use Rattle.erl_control.specs.Frame.{IsSignalText}
+use Rattle.erl_control.specs.Answer.{IsTermFault, IsBadControl, IsUnfit}
+
+-- the signal whose parts lie in the bytes
+abbrev pub signal_in : SignalRef → Signal
+signal_in (lying.Link from to) = signal.Link from to
+signal_in (lying.Send to message) = signal.Send to message
+signal_in (lying.Exit from to reason) = signal.Exit from to reason
+signal_in (lying.Exit2 from to reason) = signal.Exit2 from to reason
+signal_in (lying.Monitor from to r) = signal.Monitor from to r
+signal_in (lying.Demonitor from to r) = signal.Demonitor from to r
+signal_in (lying.MonitorExit from to r reason) = signal.MonitorExit from to r reason
+signal_in (lying.UnlinkId id from to) = signal.UnlinkId id from to
+signal_in (lying.UnlinkIdAck id from to) = signal.UnlinkIdAck id from to
 
 -- a text of S, and then one of T
 pub record IsPair {A B : Type 0} (S : A → List ℕ → Type 0) (T : B → List ℕ → Type 0) (x : A × B) (text : List ℕ) : Type 0 where
@@ -41,11 +55,19 @@ pub record IsRowHead (x : (ℕ × ℕ) × ℕ) (text : List ℕ) : Type 0 where
   pub is_back : IsNaturalText x.0.1 x.1 back
   pub parts : text ≡ front ++ back
 
+-- ---- fields, each of so many levels at most
+
 abbrev pub IsIdText : ℕ → ℕ → List ℕ → Type 0
 IsIdText levels id text = IsUnlinkId id × Spells levels (int (pos id)) text
 
 abbrev pub IsPidText : ℕ → Pid → List ℕ → Type 0
 IsPidText levels p text = Spells levels (pid p) text
+
+abbrev pub IsReferenceText : ℕ → Reference → List ℕ → Type 0
+IsReferenceText levels r text = Spells levels (reference r) text
+
+abbrev pub IsTermText : ℕ → Data → List ℕ → Type 0
+IsTermText levels t text = Spells levels t text
 
 -- From and To
 abbrev pub ArePids : ℕ → Pid × Pid → List ℕ → Type 0
@@ -55,59 +77,98 @@ ArePids levels = IsPair (IsPidText levels) (IsPidText levels)
 abbrev pub AreIdAndPids : ℕ → ℕ × (Pid × Pid) → List ℕ → Type 0
 AreIdAndPids levels = IsPair (IsIdText levels) (ArePids levels)
 
+-- From, To and Reason
+abbrev pub ArePidsAndReason : ℕ → (Pid × Pid) × Data → List ℕ → Type 0
+ArePidsAndReason levels = IsPair (ArePids levels) (IsTermText levels)
+
+-- From, To and Ref
+abbrev pub ArePidsAndReference : ℕ → (Pid × Pid) × Reference → List ℕ → Type 0
+ArePidsAndReference levels = IsPair (ArePids levels) (IsReferenceText levels)
+
+-- From, To, Ref and Reason
+abbrev pub AreMonitorExit : ℕ → ((Pid × Pid) × Reference) × Data → List ℕ → Type 0
+AreMonitorExit levels = IsPair (ArePidsAndReference levels) (IsTermText levels)
+
+-- Unused and To
+abbrev pub AreSend : ℕ → Data × Pid → List ℕ → Type 0
+AreSend levels = IsPair (IsTermText levels) (IsPidText levels)
+
+-- the same, and the message behind the control term
+abbrev pub AreSendAndMessage : ℕ → (Data × Pid) × Data → List ℕ → Type 0
+AreSendAndMessage levels = IsPair (AreSend levels) (IsSpelling 64)
+
+-- a SEND's control term
+abbrev pub IsSendText : Data × Pid → List ℕ → Type 0
+IsSendText x text = IsSpelling 64 (send_term x.0 x.1) text
+
+-- ---- rows
+
 abbrev pub tag_of : Signal → ℕ
-tag_of (Link from to) = 1
-tag_of (UnlinkId id from to) = 35
-tag_of (UnlinkIdAck id from to) = 36
+tag_of (signal.Link from to) = 1
+tag_of (signal.Send to message) = 2
+tag_of (signal.Exit from to reason) = 3
+tag_of (signal.Exit2 from to reason) = 8
+tag_of (signal.Monitor from to r) = 19
+tag_of (signal.Demonitor from to r) = 20
+tag_of (signal.MonitorExit from to r reason) = 21
+tag_of (signal.UnlinkId id from to) = 35
+tag_of (signal.UnlinkIdAck id from to) = 36
 
 abbrev pub arity_of : Signal → ℕ
-arity_of (Link from to) = 3
-arity_of (UnlinkId id from to) = 4
-arity_of (UnlinkIdAck id from to) = 4
+arity_of (signal.Link from to) = 3
+arity_of (signal.Send to message) = 3
+arity_of (signal.Exit from to reason) = 4
+arity_of (signal.Exit2 from to reason) = 4
+arity_of (signal.Monitor from to r) = 4
+arity_of (signal.Demonitor from to r) = 4
+arity_of (signal.MonitorExit from to r reason) = 5
+arity_of (signal.UnlinkId id from to) = 4
+arity_of (signal.UnlinkIdAck id from to) = 4
 
--- what stands behind the tag, each of so many levels at most
+-- what stands behind the tag, each element of so many levels at most, and the message
 abbrev pub AreFields : ℕ → Signal → List ℕ → Type 0
-AreFields levels (Link from to) b = ArePids levels (from, to) b
-AreFields levels (UnlinkId id from to) b = AreIdAndPids levels (id, (from, to)) b
-AreFields levels (UnlinkIdAck id from to) b = AreIdAndPids levels (id, (from, to)) b
+AreFields levels (signal.Link from to) b = ArePids levels (from, to) b
+AreFields levels (signal.Send to message) b = (unused : Data) × AreSendAndMessage levels ((unused, to), message) b
+AreFields levels (signal.Exit from to reason) b = ArePidsAndReason levels ((from, to), reason) b
+AreFields levels (signal.Exit2 from to reason) b = ArePidsAndReason levels ((from, to), reason) b
+AreFields levels (signal.Monitor from to r) b = ArePidsAndReference levels ((from, to), r) b
+AreFields levels (signal.Demonitor from to r) b = ArePidsAndReference levels ((from, to), r) b
+AreFields levels (signal.MonitorExit from to r reason) b = AreMonitorExit levels (((from, to), r), reason) b
+AreFields levels (signal.UnlinkId id from to) b = AreIdAndPids levels (id, (from, to)) b
+AreFields levels (signal.UnlinkIdAck id from to) b = AreIdAndPids levels (id, (from, to)) b
 
 -- the same, of the signals of one tag
-abbrev pub HasFields : ℕ → ℕ → Signal → List ℕ → Type 0
-HasFields levels tag signal b = (tag_of signal ≡ tag) × AreFields levels signal b
+abbrev pub HasFields : ℕ → ℕ → SignalRef → List ℕ → Type 0
+HasFields levels tag s b = (tag_of (signal_in s) ≡ tag) × AreFields levels (signal_in s) b
 
--- the whole of the bytes is the signal's control term
-abbrev pub IsControl : Signal → List ℕ → Type 0
-IsControl signal b = IsSendable signal × IsSpelling 64 (control_term signal) b
+-- ---- the text of a signal and the body of a frame
 
-abbrev pub IsControlFault : List ℕ → FrameError → Type 0
-IsControlFault control (Term e) = IsDue control (Err e)
-IsControlFault control BadControl = IsBadControl control
-IsControlFault control NotPassThrough = ⊥
-IsControlFault control TooLong = ⊥
-IsControlFault control OutOfMemory = ⊥
+abbrev pub IsText : SignalRef → List ℕ → Type 0
+IsText s b = IsSignalText (signal_in s) b
 
--- What a reader of the texts of S answers that wants all of the bytes.
-pub record ReadsAll {A : Type 0} (S : A → List ℕ → Type 0) (bytes : List ℕ) (answer : Option A) : Type 0 where
-  pub some : IfSome answer (λ x. S x bytes)
-  pub only : (x : A) → S x bytes → answer ≡ Some x
+-- no signal's text stands at the front
+abbrev pub HasNoText : List ℕ → Type 0
+HasNoText text = (s : Signal) (front rest : List ℕ) → IsSignalText s front → text ≡ front ++ rest → ⊥
 
--- What a reader answers that looks for a signal of which the bytes are the whole text. It asks for memory only where there is one.
-pub record ReadsWhole (S : Signal → List ℕ → Type 0) (bytes : List ℕ) (answer : Result (Option Signal) AllocError) : Type 0 where
-  pub some : IfOk answer (λ row. IfSome row (λ signal. S signal bytes))
-  pub none : IfOk answer (λ row. IfNone row ((signal : Signal) → S signal bytes → ⊥))
-  pub memory : IfErr answer (λ e. (signal : Signal) × S signal bytes)
+abbrev pub IsTextFault : List ℕ → FrameError → Type 0
+IsTextFault text (Term e) = IsTermFault text e
+IsTextFault text BadControl = IsBadControl text
+IsTextFault text TooLong = IsUnfit text
+IsTextFault text NotPassThrough = ⊥
+IsTextFault text OutOfMemory = ⊥
 
-abbrev pub ReadsRow : ℕ → ℕ → List ℕ → Result (Option Signal) AllocError → Type 0
-ReadsRow levels tag = ReadsWhole (HasFields levels tag)
+-- the whole text of a signal, and what it carries fits
+abbrev pub IsFitText : Signal → List ℕ → Type 0
+IsFitText s text = IsSignalText s text × Carries IsFit s
 
 -- what a frame's body carries
 abbrev pub IsBody : Item → List ℕ → Type 0
 IsBody Tick body = body ≡ []
-IsBody (SignalItem signal) body = (control : List ℕ) × (body ≡ 112 ∷ control) × IsControl signal control
+IsBody (SignalItem s) body = (text : List ℕ) × (body ≡ 112 ∷ text) × IsFitText s text
 
 abbrev pub IsBodyFault : List ℕ → FrameError → Type 0
-IsBodyFault body NotPassThrough = (first : ℕ) × (control : List ℕ) × (body ≡ first ∷ control) × (first ≢ 112)
-IsBodyFault body (Term e) = (control : List ℕ) × (body ≡ 112 ∷ control) × IsDue control (Err e)
-IsBodyFault body BadControl = (control : List ℕ) × (body ≡ 112 ∷ control) × IsBadControl control
-IsBodyFault body TooLong = ⊥
+IsBodyFault body NotPassThrough = (first : ℕ) × (text : List ℕ) × (body ≡ first ∷ text) × (first ≢ 112)
+IsBodyFault body (Term e) = (text : List ℕ) × (body ≡ 112 ∷ text) × IsTermFault text e
+IsBodyFault body BadControl = (text : List ℕ) × (body ≡ 112 ∷ text) × IsBadControl text
+IsBodyFault body TooLong = (text : List ℕ) × (body ≡ 112 ∷ text) × IsUnfit text
 IsBodyFault body OutOfMemory = ⊥

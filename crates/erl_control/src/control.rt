@@ -1,139 +1,172 @@
-//! Control terms, read row by row. No memory is asked for before the whole row stands there.
+//! The text of a signal, read row by row where it lies. No memory is asked for before the whole text
+//! stands there.
 ghost use Rattle.std.specs.Prelude.{◌≡◌, ◌≢◌, List, ℕ, IfOk, IfErr, IsErrOf};
 ghost use Rattle.erl_term.specs.Parts.{ReadsFront};
 ghost use Rattle.erl_control.specs.declared.signal.Signal.{Signal};
 ghost use Rattle.erl_control.specs.declared.error.FrameError.{FrameError};
-ghost use Rattle.erl_control.specs.Reading.{IsOpening, IsNaturalText, IsRowHead, IsIdText, ArePids, AreIdAndPids, IsControl, IsControlFault, ReadsAll, ReadsRow, ReadsWhole};
+ghost use Rattle.erl_control.specs.Reading.{IsRowHead, HasFields, IsSendText, IsText, HasNoText, IsTextFault, IsFitText};
 
 use crate::error::FrameError;
+use crate::fields::{
+    id_and_pids_at, pids_and_reason_at, pids_and_reference_at, pids_at,
+    pids_reference_and_reason_at, row_head_at, send_and_message_at, send_at,
+};
 use crate::signal::Signal;
-use erl_term::{PidRef, integer_at, pid_at, term_len, tuple_head_at};
-use std::alloc::{AllocError, Global};
+use crate::signal_ref::SignalRef;
+use erl_term::{PidRef, TermRef, term_len};
+use std::alloc::Global;
 
-/// How many elements the tuple behind the version byte has, and how many levels each may have.
-fn opening_at(bytes: &[u8]) -> Option<((u32, u32), &[u8])>
-    ensures { ReadsFront IsOpening bytes.now result }
+fn link_at(levels: u32, fields: &[u8]) -> Option<(SignalRef<'_>, &[u8])>
+    ensures { ReadsFront (HasFields levels 1) fields.now result }
 {
-    match bytes {
-        [131, rest @ ..] => tuple_head_at(64, rest),
+    let ((from, to), rest) = pids_at(levels, fields)?;
+    Some((SignalRef::Link { from, to }, rest))
+}
+
+fn message_at(levels: u32, fields: &[u8]) -> Option<(SignalRef<'_>, &[u8])>
+    ensures { ReadsFront (HasFields levels 2) fields.now result }
+{
+    let (((_, to), message), rest) = send_and_message_at(levels, fields)?;
+    Some((SignalRef::Send { to, message }, rest))
+}
+
+fn exit_at(levels: u32, fields: &[u8]) -> Option<(SignalRef<'_>, &[u8])>
+    ensures { ReadsFront (HasFields levels 3) fields.now result }
+{
+    let (((from, to), reason), rest) = pids_and_reason_at(levels, fields)?;
+    Some((SignalRef::Exit { from, to, reason }, rest))
+}
+
+fn exit2_at(levels: u32, fields: &[u8]) -> Option<(SignalRef<'_>, &[u8])>
+    ensures { ReadsFront (HasFields levels 8) fields.now result }
+{
+    let (((from, to), reason), rest) = pids_and_reason_at(levels, fields)?;
+    Some((SignalRef::Exit2 { from, to, reason }, rest))
+}
+
+fn monitor_at(levels: u32, fields: &[u8]) -> Option<(SignalRef<'_>, &[u8])>
+    ensures { ReadsFront (HasFields levels 19) fields.now result }
+{
+    let (((from, to), reference), rest) = pids_and_reference_at(levels, fields)?;
+    let signal = SignalRef::Monitor {
+        from,
+        to,
+        reference,
+    };
+    Some((signal, rest))
+}
+
+fn demonitor_at(levels: u32, fields: &[u8]) -> Option<(SignalRef<'_>, &[u8])>
+    ensures { ReadsFront (HasFields levels 20) fields.now result }
+{
+    let (((from, to), reference), rest) = pids_and_reference_at(levels, fields)?;
+    let signal = SignalRef::Demonitor {
+        from,
+        to,
+        reference,
+    };
+    Some((signal, rest))
+}
+
+fn monitor_exit_at(levels: u32, fields: &[u8]) -> Option<(SignalRef<'_>, &[u8])>
+    ensures { ReadsFront (HasFields levels 21) fields.now result }
+{
+    let ((((from, to), reference), reason), rest) = pids_reference_and_reason_at(levels, fields)?;
+    let signal = SignalRef::MonitorExit {
+        from,
+        to,
+        reference,
+        reason,
+    };
+    Some((signal, rest))
+}
+
+fn unlink_id_at(levels: u32, fields: &[u8]) -> Option<(SignalRef<'_>, &[u8])>
+    ensures { ReadsFront (HasFields levels 35) fields.now result }
+{
+    let ((id, (from, to)), rest) = id_and_pids_at(levels, fields)?;
+    Some((SignalRef::UnlinkId { id, from, to }, rest))
+}
+
+fn unlink_id_ack_at(levels: u32, fields: &[u8]) -> Option<(SignalRef<'_>, &[u8])>
+    ensures { ReadsFront (HasFields levels 36) fields.now result }
+{
+    let ((id, (from, to)), rest) = id_and_pids_at(levels, fields)?;
+    Some((SignalRef::UnlinkIdAck { id, from, to }, rest))
+}
+
+/// What stands behind a row's tag, and the message.
+fn fields_at(tag: u64, levels: u32, fields: &[u8]) -> Option<(SignalRef<'_>, &[u8])>
+    ensures { ReadsFront (HasFields levels tag) fields.now result }
+{
+    match tag {
+        1 => link_at(levels, fields),
+        2 => message_at(levels, fields),
+        3 => exit_at(levels, fields),
+        8 => exit2_at(levels, fields),
+        19 => monitor_at(levels, fields),
+        20 => demonitor_at(levels, fields),
+        21 => monitor_exit_at(levels, fields),
+        35 => unlink_id_at(levels, fields),
+        36 => unlink_id_ack_at(levels, fields),
         _ => None,
     }
 }
 
-/// The number at the front, where it is one of 64 bits without a sign.
-fn natural_at(levels: u32, bytes: &[u8]) -> Option<(u64, &[u8])>
-    ensures { ReadsFront (IsNaturalText levels) bytes.now result }
+/// The signal whose text stands at the front.
+fn text_at(text: &[u8]) -> Option<(SignalRef<'_>, &[u8])>
+    ensures { ReadsFront IsText text.now result }
 {
-    let (n, rest) = integer_at(levels, bytes)?;
-    match u64::try_from(n) {
-        Ok(natural) => Some((natural, rest)),
-        Err(_) => None,
-    }
-}
-
-/// The opening of the control term, its first element, and the bytes of the others.
-fn row_head_at(bytes: &[u8]) -> Option<(((u32, u32), u64), &[u8])>
-    ensures { ReadsFront IsRowHead bytes.now result }
-{
-    let ((arity, levels), elements) = opening_at(bytes)?;
-    let (tag, fields) = natural_at(levels, elements)?;
-    Some((((arity, levels), tag), fields))
-}
-
-fn id_at(levels: u32, bytes: &[u8]) -> Option<(u64, &[u8])>
-    ensures { ReadsFront (IsIdText levels) bytes.now result }
-{
-    let (id, rest) = natural_at(levels, bytes)?;
-    if id == 0 {
+    let (((arity, levels), tag), fields) = row_head_at(text)?;
+    let (signal, rest) = fields_at(tag, levels, fields)?;
+    if signal.arity() != arity {
         return None;
     }
-    Some((id, rest))
+    Some((signal, rest))
 }
 
-fn pids_at(levels: u32, bytes: &[u8]) -> Option<((PidRef<'_>, PidRef<'_>), &[u8])>
-    ensures { ReadsFront (ArePids levels) bytes.now result }
+/// A SEND's control term at the front: the field that nobody uses, and To.
+fn send_term_at(text: &[u8]) -> Option<((TermRef<'_>, PidRef<'_>), &[u8])>
+    ensures { ReadsFront IsSendText text.now result }
 {
-    let (from, rest) = pid_at(levels, bytes)?;
-    let (to, rest) = pid_at(levels, rest)?;
-    Some(((from, to), rest))
+    let (((arity, levels), tag), fields) = row_head_at(text)?;
+    if arity != 3 || tag != 2 {
+        return None;
+    }
+    send_at(levels, fields)
 }
 
-/// From and To, and nothing behind them.
-fn pids_of(levels: u32, fields: &[u8]) -> Option<(PidRef<'_>, PidRef<'_>)>
-    ensures { ReadsAll (ArePids levels) fields.now result }
+/// What is wrong with a text at whose front no signal's text stands.
+fn fault_of(text: &[u8]) -> FrameError
+    requires { HasNoText text.now }
+    ensures { IsTextFault text.now result }
 {
-    let (pids, rest) = pids_at(levels, fields)?;
-    if rest.is_empty() { Some(pids) } else { None }
-}
-
-/// Id, From and To, and nothing behind them.
-fn id_and_pids_of(levels: u32, fields: &[u8]) -> Option<(u64, (PidRef<'_>, PidRef<'_>))>
-    ensures { ReadsAll (AreIdAndPids levels) fields.now result }
-{
-    let (id, rest) = id_at(levels, fields)?;
-    let pids = pids_of(levels, rest)?;
-    Some((id, pids))
-}
-
-fn link_of(alloc: Global, levels: u32, fields: &[u8]) -> Result<Option<Signal>, AllocError>
-    ensures { ReadsRow levels 1 fields.now result }
-{
-    let Some((from, to)) = pids_of(levels, fields) else {
-        return Ok(None);
+    if let Err(e) = term_len(text) {
+        return FrameError::Term(e);
+    }
+    let Some((_, message)) = send_term_at(text) else {
+        return FrameError::BadControl;
     };
-    let from = from.to_pid(alloc)?;
-    let to = to.to_pid(alloc)?;
-    Ok(Some(Signal::Link { from, to }))
-}
-
-fn unlink_id_of(alloc: Global, levels: u32, fields: &[u8]) -> Result<Option<Signal>, AllocError>
-    ensures { ReadsRow levels 35 fields.now result }
-{
-    let Some((id, (from, to))) = id_and_pids_of(levels, fields) else {
-        return Ok(None);
-    };
-    let from = from.to_pid(alloc)?;
-    let to = to.to_pid(alloc)?;
-    Ok(Some(Signal::UnlinkId { id, from, to }))
-}
-
-fn unlink_id_ack_of(alloc: Global, levels: u32, fields: &[u8]) -> Result<Option<Signal>, AllocError>
-    ensures { ReadsRow levels 36 fields.now result }
-{
-    let Some((id, (from, to))) = id_and_pids_of(levels, fields) else {
-        return Ok(None);
-    };
-    let from = from.to_pid(alloc)?;
-    let to = to.to_pid(alloc)?;
-    Ok(Some(Signal::UnlinkIdAck { id, from, to }))
-}
-
-/// The signal of which the bytes are the whole control term, if there is one.
-fn row_of(alloc: Global, control: &[u8]) -> Result<Option<Signal>, AllocError>
-    ensures { ReadsWhole IsControl control.now result }
-{
-    let Some((((arity, levels), tag), fields)) = row_head_at(control) else {
-        return Ok(None);
-    };
-    match tag {
-        1 if arity == 3 => link_of(alloc, levels, fields),
-        35 if arity == 4 => unlink_id_of(alloc, levels, fields),
-        36 if arity == 4 => unlink_id_ack_of(alloc, levels, fields),
-        _ => Ok(None),
+    match term_len(message) {
+        Err(e) => FrameError::Term(e),
+        Ok(_) => FrameError::BadControl,
     }
 }
 
-/// The signal of which the bytes are the whole control term, or what is wrong with them.
-pub fn signal_of(alloc: Global, control: &[u8]) -> Result<Signal, FrameError>
-    ensures ok { IfOk result (λ signal. IsControl signal control.now) }
-    ensures err { IfErr result (λ e. e ≢ FrameError.OutOfMemory → IsControlFault control.now e) }
-    ensures memory { IsErrOf result FrameError.OutOfMemory → (signal : Signal) × IsControl signal control.now }
+/// The signal of which the bytes are the whole text, or what is wrong with them.
+pub fn signal_of(alloc: Global, text: &[u8]) -> Result<Signal, FrameError>
+    ensures ok { IfOk result (λ signal. IsFitText signal text.now) }
+    ensures err { IfErr result (λ e. e ≢ FrameError.OutOfMemory → IsTextFault text.now e) }
+    ensures memory { IsErrOf result FrameError.OutOfMemory → (signal : Signal) × IsFitText signal text.now }
 {
-    if let Some(signal) = row_of(alloc, control)? {
-        return Ok(signal);
+    let Some((signal, rest)) = text_at(text) else {
+        return Err(fault_of(text));
+    };
+    if !rest.is_empty() {
+        return Err(FrameError::BadControl);
     }
-    match term_len(control) {
-        Ok(_) => Err(FrameError::BadControl),
-        Err(e) => Err(FrameError::Term(e)),
+    if !signal.is_fit() {
+        return Err(FrameError::TooLong);
     }
+    Ok(signal.to_signal(alloc)?)
 }

@@ -15,10 +15,11 @@ pub enum FrameError {
     /// The control term is no control message of the profile, or bytes are left over.
     #[error("7 BadControl")]
     BadControl,
-    /// The length is above [`FRAME_LIMIT`](crate::FRAME_LIMIT).
+    /// The length is above [`FRAME_LIMIT`](crate::FRAME_LIMIT), or a message or a reason doesn't fit
+    /// ([`fits`](crate::fits)).
     #[error("8 TooLong")]
     TooLong,
-    /// The control term doesn't read.
+    /// The control term or the message doesn't read.
     #[error("9 Term")]
     Term(TermError),
     /// Memory was refused.

@@ -1,5 +1,6 @@
 //! Laws of the definitions.
-ghost use Rattle.std.specs.Prelude.{◌≡◌, ◌++◌, List, ℕ, length, Option, Some, Result, Ok};
+ghost use Rattle.std.specs.Prelude.{◌≡◌, ◌++◌, List, [], ℕ, length, Option, Some, Result, Ok};
+ghost use Rattle.erl_term.specs.Data.{atom};
 ghost use Rattle.erl_term.specs.Numbers.{AreBytes};
 ghost use Rattle.erl_control.specs.declared.signal.Item.{Item};
 ghost use Rattle.erl_control.specs.declared.error.FrameError.{FrameError};
@@ -15,6 +16,7 @@ pub fn one_answer()
     ensures { (bytes : List ℕ) → AreBytes bytes → (due : Result (Option (Item × ℕ)) FrameError) × IsFrameDue bytes due × ((other : Result (Option (Item × ℕ)) FrameError) → IsFrameDue bytes other → other ≡ due) }
 {
     erl_term::one_answer();
+    erl_term::one_spelling();
 }
 
 /// No frame begins another.
@@ -31,7 +33,7 @@ pub fn read_again()
 
 /// The frame that is written is a frame of its signal.
 pub fn canonical_is_framed()
-    ensures { (signal : Signal) → IsSendable signal → IsInRange (control_term signal) → IsFramed (Item.Signal signal) (canonical_frame signal) }
+    ensures { (signal : Signal) → IsSendable signal → IsInRange (control_term (atom []) signal) → IsFramed (Item.Signal signal) (canonical_frame signal) }
 {
     erl_term::canonical_is_spelling();
     erl_term::short_parts();

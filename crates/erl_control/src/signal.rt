@@ -1,8 +1,8 @@
-use erl_term::Pid;
+use erl_term::{Payload, Pid, Reference};
 
 /// A signal from one process to another. (ERTS User's Guide, Distribution Protocol, Protocol
 /// between Connected Nodes and New Link Protocol.)
-#[derive(Debug, Drop, PartialEq, Eq)]
+#[derive(Debug, Drop)]
 pub enum Signal {
     /// LINK: `from` links itself to `to`.
     Link {
@@ -10,6 +10,60 @@ pub enum Signal {
         from: Pid,
         /// Its partner.
         to: Pid,
+    },
+    /// SEND: a message to `to`. It names no sender.
+    Send {
+        /// The process that gets the message.
+        to: Pid,
+        /// What is sent.
+        message: Payload,
+    },
+    /// EXIT: `from` has ended, and was linked to `to`.
+    Exit {
+        /// The process that has ended.
+        from: Pid,
+        /// Its partner.
+        to: Pid,
+        /// Why it ended.
+        reason: Payload,
+    },
+    /// EXIT2: `from` asks `to` to end, as by `exit/2`.
+    Exit2 {
+        /// The process that asks.
+        from: Pid,
+        /// The process that is to end.
+        to: Pid,
+        /// The reason that it is given.
+        reason: Payload,
+    },
+    /// MONITOR_P: `from` monitors `to`.
+    Monitor {
+        /// The process that monitors, which owns the reference.
+        from: Pid,
+        /// The process that is monitored.
+        to: Pid,
+        /// Tells this monitor from others.
+        reference: Reference,
+    },
+    /// DEMONITOR_P: `from` no longer monitors `to`.
+    Demonitor {
+        /// The process that monitored, which owns the reference.
+        from: Pid,
+        /// The process that was monitored.
+        to: Pid,
+        /// The reference of the MONITOR_P that is taken back.
+        reference: Reference,
+    },
+    /// MONITOR_P_EXIT: `from`, which `to` monitors, has ended.
+    MonitorExit {
+        /// The process that was monitored.
+        from: Pid,
+        /// The process that monitored it, which owns the reference.
+        to: Pid,
+        /// The reference of the MONITOR_P.
+        reference: Reference,
+        /// Why it ended.
+        reason: Payload,
     },
     /// UNLINK_ID: `from` removes its link to `to`.
     UnlinkId {
@@ -32,7 +86,7 @@ pub enum Signal {
 }
 
 /// What a frame carries.
-#[derive(Debug, Drop, PartialEq, Eq)]
+#[derive(Debug, Drop)]
 pub enum Item {
     /// Nothing: the peer is there.
     Tick,

@@ -44,7 +44,7 @@ fn item_of(alloc: Global, body: &[u8]) -> Result<Item, FrameError>
 {
     match body {
         [] => Ok(Item::Tick),
-        [112, control @ ..] => Ok(Item::Signal(signal_of(alloc, control)?)),
+        [112, text @ ..] => Ok(Item::Signal(signal_of(alloc, text)?)),
         _ => Err(FrameError::NotPassThrough),
     }
 }
@@ -67,8 +67,9 @@ fn answer_of(alloc: Global, bytes: &[u8]) -> Result<Option<(Item, usize)>, Frame
 ///
 /// The refusals, in their order: [`FrameError::TooLong`] for a length above [`FRAME_LIMIT`],
 /// [`FrameError::NotPassThrough`], [`FrameError::Term`] where the control term doesn't read,
-/// [`FrameError::BadControl`] where it is no control message or bytes are left over, and
-/// [`FrameError::OutOfMemory`].
+/// [`FrameError::BadControl`] where it is no control message, [`FrameError::Term`] where the message
+/// doesn't read, [`FrameError::BadControl`] where bytes are left over, [`FrameError::TooLong`] where
+/// a message or a reason doesn't fit ([`fits`](crate::fits)), and [`FrameError::OutOfMemory`].
 pub fn unframe(alloc: Global, bytes: &[u8]) -> Result<Option<(Item, usize)>, FrameError>
     // What is answered is due, unless memory ran out.
     ensures ok { IfOk result (λ x. IsFrameDue bytes.now (Ok x)) }

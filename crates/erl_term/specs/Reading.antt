@@ -109,6 +109,10 @@ string_at bytes = any_at 2 bytes >>= λ n. part_at n.0 n.1 >>= λ letters. Ok (l
 unfoldable pub binary_at : List ℕ → Read Data
 binary_at bytes = any_at 4 bytes >>= λ n. part_at n.0 n.1 >>= λ part. Ok (binary part.0, part.1)
 
+-- what is read, as a term
+abbrev pub seen : {A : Type 0} → (A → Data) → Read A → Read Data
+seen f read = read >>= λ x. Ok (f x.0, x.1)
+
 -- so many terms
 unfoldable pub items_with : (List ℕ → Read Data) → ℕ → List ℕ → Read Items
 items_with one zero bytes = Ok (no_items, bytes)

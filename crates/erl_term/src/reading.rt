@@ -1,7 +1,7 @@
 //! Reading a term from the left, up to the first fault.
 ghost use Rattle.std.specs.Prelude.{◌≡◌, ◌≤◌};
-ghost use Rattle.erl_term.specs.Reading.{Gives, Answers, small_at, integer_at, big_at, atom_at, latin_at, string_at, binary_at, items_with, tuple_with, list_with, row_with, term_at, spelling_at};
-ghost use Rattle.erl_term.specs.Data.{int};
+ghost use Rattle.erl_term.specs.Reading.{Gives, Answers, seen, small_at, integer_at, big_at, atom_at, latin_at, pid_at, reference_at, string_at, binary_at, items_with, tuple_with, list_with, row_with, term_at, spelling_at};
+ghost use Rattle.erl_term.specs.Data.{int, atom, pid, reference};
 ghost use Rattle.erl_term.specs.View.{view, items_view};
 
 use crate::atom::Atom;
@@ -41,36 +41,18 @@ pub fn term_of(alloc: Global, levels: u32, bytes: &[u8]) -> Result<(Term, &[u8])
         tag::SMALL_INTEGER => small_of(rest),
         tag::INTEGER => integer_of(rest),
         tag::SMALL_BIG => big_of(rest),
-        tag::ATOM_UTF8 => {
-            let (atom, rest) = atom_of(alloc, 2, rest)?;
-            Ok((Term::Atom(atom), rest))
-        }
-        tag::SMALL_ATOM_UTF8 => {
-            let (atom, rest) = atom_of(alloc, 1, rest)?;
-            Ok((Term::Atom(atom), rest))
-        }
+        tag::ATOM_UTF8 => atom_term_of(alloc, 2, rest),
+        tag::SMALL_ATOM_UTF8 => atom_term_of(alloc, 1, rest),
         tag::SMALL_TUPLE => tuple_of(alloc, below, 1, rest),
         tag::LARGE_TUPLE => tuple_of(alloc, below, 4, rest),
-        tag::NEW_PID => {
-            let (pid, rest) = pid_fields_of(rest)?;
-            Ok((Term::Pid(pid.to_pid(alloc)?), rest))
-        }
-        tag::SMALL_ATOM => {
-            let (atom, rest) = latin_of(alloc, 1, rest)?;
-            Ok((Term::Atom(atom), rest))
-        }
-        tag::ATOM => {
-            let (atom, rest) = latin_of(alloc, 2, rest)?;
-            Ok((Term::Atom(atom), rest))
-        }
+        tag::NEW_PID => pid_term_of(alloc, rest),
+        tag::SMALL_ATOM => latin_term_of(alloc, 1, rest),
+        tag::ATOM => latin_term_of(alloc, 2, rest),
         tag::NIL => Ok((Term::list(Vec::new(alloc)), rest)),
         tag::STRING => string_of(alloc, rest),
         tag::LIST => list_of(alloc, below, rest),
         tag::BINARY => binary_of(alloc, rest),
-        tag::NEWER_REFERENCE => {
-            let (reference, rest) = reference_fields_of(rest)?;
-            Ok((Term::Reference(reference.to_reference(alloc)?), rest))
-        }
+        tag::NEWER_REFERENCE => reference_term_of(alloc, rest),
         _ => Err(TermError::OutOfProfile(tag)),
     }
 }
@@ -133,6 +115,38 @@ fn latin_of(alloc: Global, width: usize, bytes: &[u8]) -> Result<(Atom, &[u8]), 
     Ok((Atom::new(latin_text(alloc, letters)?), rest))
 }
 
+fn atom_term_of(alloc: Global, width: usize, bytes: &[u8]) -> Result<(Term, &[u8]), TermError>
+    requires low { 1 ≤ width }
+    requires high { width ≤ 8 }
+    ensures { Gives (λ x. (view x.0, x.1.now)) result (seen atom (atom_at width bytes.now)) }
+{
+    let (atom, rest) = atom_of(alloc, width, bytes)?;
+    Ok((Term::Atom(atom), rest))
+}
+
+fn latin_term_of(alloc: Global, width: usize, bytes: &[u8]) -> Result<(Term, &[u8]), TermError>
+    requires low { 1 ≤ width }
+    requires high { width ≤ 8 }
+    ensures { Gives (λ x. (view x.0, x.1.now)) result (seen atom (latin_at width bytes.now)) }
+{
+    let (atom, rest) = latin_of(alloc, width, bytes)?;
+    Ok((Term::Atom(atom), rest))
+}
+
+fn pid_term_of(alloc: Global, bytes: &[u8]) -> Result<(Term, &[u8]), TermError>
+    ensures { Gives (λ x. (view x.0, x.1.now)) result (seen pid (pid_at bytes.now)) }
+{
+    let (pid, rest) = pid_fields_of(bytes)?;
+    Ok((Term::Pid(pid.to_pid(alloc)?), rest))
+}
+
+fn reference_term_of(alloc: Global, bytes: &[u8]) -> Result<(Term, &[u8]), TermError>
+    ensures { Gives (λ x. (view x.0, x.1.now)) result (seen reference (reference_at bytes.now)) }
+{
+    let (reference, rest) = reference_fields_of(bytes)?;
+    Ok((Term::Reference(reference.to_reference(alloc)?), rest))
+}
+
 #[tactic(auto, unfolding(crate::specs::Reading::string_at))]
 fn string_of(alloc: Global, bytes: &[u8]) -> Result<(Term, &[u8]), TermError>
     ensures { Gives (λ x. (view x.0, x.1.now)) result (string_at bytes.now) }
@@ -192,7 +206,8 @@ fn items_of(
 ) -> Result<(Vec<Term>, &[u8]), TermError>
     ensures { Gives (λ x. (items_view x.0.items, x.1.now)) result (items_with (term_at below) count bytes.now) }
 {
-    let mut items = Vec::new(alloc);
+    // Each item takes a byte at least.
+    let mut items = Vec::with_capacity(alloc, bytes.len().min(count as usize))?;
     let mut rest = bytes;
     for _ in 0..count {
         let (item, after) = term_of(alloc, below, rest)?;

@@ -18,7 +18,7 @@ pub const MOST: usize = 5;
 #[derive(Debug, Drop)]
 pub struct Words {
     words: [u32; 5],
-    count: usize,
+    count: u8,
 }
 
 impl Model for Words {
@@ -44,7 +44,7 @@ impl Words {
         array[..words.len()].copy_from_slice(words);
         Some(Words {
             words: array,
-            count: words.len(),
+            count: words.len() as u8,
         })
     }
 
@@ -54,7 +54,10 @@ impl Words {
         requires few { count ≤ 5 }
         ensures { result ≡ take count words }
     {
-        Words { words, count }
+        Words {
+            words,
+            count: count as u8,
+        }
     }
 
     /// The words, in their order.
@@ -63,7 +66,7 @@ impl Words {
         ensures some { 1 ≤ length self.now }
         ensures few { length self.now ≤ 5 }
     {
-        &self.words[..self.count]
+        &self.words[..usize::from(self.count)]
     }
 }
 

@@ -1,7 +1,8 @@
 -- The names of the two nodes are texts of atoms, and the signals between the processes can be written.
-use Rattle.std.proofs.Common.{◌≤◌, length, lit≤, rules, arith}
+use Rattle.std.proofs.Common.{◌≤◌, [], length, lit≤, rules, arith}
 use Rattle.std.proofs.lemmas.Str.{IsUtf8-from_ascii, chars-IsAscii}
 use Rattle.std.specs.Str.{IsAscii}
+use Rattle.erl_term.specs.Data.{atom}
 use Rattle.erl_term.specs.Text.{IsAtomText}
 use Rattle.erl_term.specs.Canonical.{IsInRange, IsPidInRange}
 use Rattle.link_core.specs.declared.end.LinkSignal.{LinkSignal}
@@ -27,11 +28,11 @@ process_in_range : (node : Node) → IsPidInRange (process_of node)
 process_in_range node = record { node = name_is_text node; id = omega arith; serial = omega arith; creation = omega arith }
 
 pub is_sendable : (node : Node) (signal : LinkSignal) → IsSent signal → IsSendable (signal_from node signal)
-is_sendable node Link h = tt
-is_sendable node (Unlink id) h = h
-is_sendable node (Ack id) h = h
+is_sendable node Link h = (tt, tt)
+is_sendable node (Unlink id) h = (h, tt)
+is_sendable node (Ack id) h = (h, tt)
 
-pub in_range : (node : Node) (signal : LinkSignal) → IsSent signal → IsInRange (control_term (signal_from node signal))
+pub in_range : (node : Node) (signal : LinkSignal) → IsSent signal → IsInRange (control_term (atom []) (signal_from node signal))
 in_range node Link h = (omega arith, (omega arith, (process_in_range node, (process_in_range (peer node), tt))))
 in_range node (Unlink id) h = (omega arith, (omega arith, (omega arith, (process_in_range node, (process_in_range (peer node), tt)))))
 in_range node (Ack id) h = (omega arith, (omega arith, (omega arith, (process_in_range node, (process_in_range (peer node), tt)))))

@@ -205,6 +205,12 @@ fn link_signal(signal: &Signal, from: &Pid, to: &Pid) -> Result<LinkSignal, Refu
         Signal::Link { from, to } => (from, to, LinkSignal::Link),
         Signal::UnlinkId { id, from, to } => (from, to, LinkSignal::Unlink(*id)),
         Signal::UnlinkIdAck { id, from, to } => (from, to, LinkSignal::Ack(*id)),
+        Signal::Send { .. }
+        | Signal::Exit { .. }
+        | Signal::Exit2 { .. }
+        | Signal::Monitor { .. }
+        | Signal::Demonitor { .. }
+        | Signal::MonitorExit { .. } => return Err(Refusal::BadMessage),
     };
     if sender != from || receiver != to {
         return Err(Refusal::Forged);
