@@ -1,5 +1,5 @@
 -- What the canonical spelling of a term takes, from what its parts take.
-use Rattle.std.proofs.Common.{◌≡◌, ℕ, zero, suc, ◌+◌, ◌-◌, ◌*◌, ◌^◌, ◌<◌, ◌≤◌, min, max, Bool, true, false, ltb, List, [], ◌∷◌, ◌++◌, length, refl, sym, ap, ◌∙◌, arith}
+use Rattle.std.proofs.Common.{◌≡◌, ℕ, suc, ◌+◌, ◌^◌, ◌<◌, ◌≤◌, min, max, Bool, true, false, ltb, List, [], ◌∷◌, length, refl, sym, ap, ◌∙◌, arith}
 use Rattle.std.specs.Prelude.{ℤ, pos, negsuc, ◌&&◌}
 use Rattle.std.proofs.lemmas.List.{length-append}
 use Rattle.std.proofs.lemmas.Bool.{false≢true, ltb-true, ltb-false, lt-ltb, le-ltb, and_left, and_right, and_from, cond-true, cond-false}
@@ -13,7 +13,7 @@ use Rattle.erl_term.specs.declared.term.Reference.{Reference}
 use Rattle.erl_term.specs.Data.{Data, int, atom, tuple, list, improper, binary, pid, reference, Items, no_items, item, count, append_items, joined}
 use Rattle.erl_term.specs.Numbers.{AreBytes}
 use Rattle.erl_term.specs.Spelling.{byte_items}
-use Rattle.erl_term.specs.Canonical.{canonical_int, canonical_atom, canonical_head, canonical_pid, canonical_reference, canonical_binary, canonical_cells, canonical_list, bytes_of, is_byte, are_byte_items, is_string, is_list, canonical_term, canonical_items, levels_of, most_levels}
+use Rattle.erl_term.specs.Canonical.{canonical_int, canonical_atom, canonical_head, canonical_pid, canonical_reference, canonical_binary, canonical_list, bytes_of, is_byte, are_byte_items, is_string, is_list, canonical_term, canonical_items, levels_of, most_levels}
 use Rattle.erl_term.specs.Size.{capped, size_of, run_of, measure_of}
 use Rattle.erl_term.proofs.Canonical.{string_count, append_levels, joined_improper}
 use Rattle.erl_term.proofs.Lengths.{length-cells}

@@ -1,5 +1,5 @@
 -- A term that lies in bytes, as it is read, and what its canonical spelling takes.
-use Rattle.std.proofs.Common.{◌≡◌, ℕ, zero, suc, ◌+◌, ◌<◌, ◌≤◌, ltb, leb, List, ◌++◌, length, Result, Ok, Err, Some, None, Bor, ◌^◌, refl, sym, ap, ◌∙◌, arith}
+use Rattle.std.proofs.Common.{◌≡◌, ℕ, zero, suc, ◌<◌, ◌≤◌, ltb, leb, List, ◌++◌, length, Ok, Err, Some, None, Bor, ◌^◌, sym, ap, ◌∙◌, arith}
 use Rattle.std.specs.Prelude.{IsTrue, ◌↔◌}
 use Rattle.std.proofs.lemmas.Bool.{ltb-true, lt-ltb, leb-true}
 use Rattle.erl_term.specs.declared.error.TermError.{TermError}

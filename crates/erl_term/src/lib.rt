@@ -3,7 +3,8 @@
 //! [`decode`] reads the [`Term`] at the front of any bytes, and [`encode`] writes a term. A term has
 //! many spellings: `decode` reads each of them, and `encode` writes the canonical one. The contract
 //! of `decode` names the one answer that is due to any bytes. Where no term stands at the front, the
-//! first fault from the left decides which [`TermError`] comes.
+//! first fault from the left decides which [`TermError`] comes. Memory is needed for neither where a
+//! term ends nor how large it is: [`term_len`] says the one, and a [`TermRef`] the other.
 //!
 //! The profile has integers of 128 bits, atoms, tuples, lists, binaries, pids and references, in at
 //! most 64 levels and 1,048,576 bytes. No other kind of term is read, and nothing of the distribution protocol stands here: frames

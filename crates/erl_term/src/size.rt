@@ -1,7 +1,7 @@
 //! What the canonical spelling of a term takes, told from its parts.
 //!
-//! The spelling may be another than the one that is read, so its size is no part of that one's. A
-//! sum that is too large for its word stays at the greatest number.
+//! A term may have been read in another spelling. A sum that is too large for its type stays at the
+//! greatest number.
 ghost use Rattle.std.specs.Prelude.{◌≡◌};
 ghost use Rattle.erl_term.specs.Data.{Data, Items, int, atom, tuple, list, improper, binary, pid, reference, no_items, item, append_items, joined};
 ghost use Rattle.erl_term.specs.Spelling.{byte_items};
@@ -47,6 +47,8 @@ pub enum Measure {
 }
 
 impl Measure {
+    // The measures of what holds no other term.
+
     pub fn of_integer(n: i128) -> Measure
         ensures { result ≡ measure_of (int n) }
     {

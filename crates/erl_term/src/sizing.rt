@@ -1,8 +1,7 @@
 //! The same reading with no value and no memory: where the term ends and what its canonical spelling
 //! takes, or the first fault.
-ghost use Rattle.std.specs.Prelude.{◌≡◌, ◌≤◌};
-ghost use Rattle.erl_term.specs.Data.{list, atom, no_items};
-ghost use Rattle.erl_term.specs.Reading.{string_at, binary_at, latin_at, atom_at, items_with, tuple_with, list_with, term_at, spelling_at};
+ghost use Rattle.std.specs.Prelude.{◌≤◌};
+ghost use Rattle.erl_term.specs.Reading.{string_at, binary_at, items_with, tuple_with, list_with, term_at, spelling_at};
 ghost use Rattle.erl_term.specs.Skipping.{Skips};
 ghost use Rattle.erl_term.specs.Size.{Measures, measure_of, run_of};
 

@@ -1,4 +1,4 @@
-use Rattle.std.proofs.Common.{◌≡◌, true, false, sym}
+use Rattle.std.proofs.Common.{true, false, sym}
 use Rattle.erl_term.proofs.Sizes.{size_byte, no_byte, alone_run}
 use Rattle.erl_term.proofs.size.Measure.alone.Goals as goal
 

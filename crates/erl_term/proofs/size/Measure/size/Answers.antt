@@ -1,4 +1,4 @@
-use Rattle.std.proofs.Common.{◌≡◌, sym, ap, ◌∙◌}
+use Rattle.std.proofs.Common.{sym, ap, ◌∙◌}
 use Rattle.erl_term.specs.Size.{size_of}
 use Rattle.erl_term.proofs.Sizes.{size_byte, size_other, size_proper, size_improper}
 use Rattle.erl_term.proofs.size.Measure.size.Goals as goal

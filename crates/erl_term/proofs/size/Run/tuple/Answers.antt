@@ -1,4 +1,4 @@
-use Rattle.std.proofs.Common.{◌≡◌, ◌+◌, ℕ, ap, ◌∙◌}
+use Rattle.std.proofs.Common.{◌+◌, ℕ, ap, ◌∙◌}
 use Rattle.erl_term.specs.Size.{capped}
 use Rattle.erl_term.proofs.Sizes.{tuple_measure}
 use Rattle.erl_term.proofs.size.Run.tuple.Goals as goal
