@@ -145,19 +145,22 @@ fn reads(alloc: Global, bytes: &[u8], text: &str, len: usize) -> Result<bool, Fa
     }
 }
 
+/// Whether the signal that is told is the whole of the bytes, and is written so again.
+fn is_written_again(alloc: Global, bytes: &[u8], text: &str) -> Result<bool, Fail> {
+    let answer = unframe(alloc, bytes)?;
+    match &answer {
+        Some((Item::Signal(signal), _)) => is_written(alloc, signal, bytes, text),
+        _ => Ok(false),
+    }
+}
+
 /// Both ways, with bytes behind the frame.
 fn travels(rt: &impl Abort, alloc: Global, text: &str, parts: &[&[u8]]) -> Result<(), Fail> {
     let bytes = joined(alloc, parts)?;
     let more = joined(alloc, &[&bytes, &[0, 1, 2]])?;
     assert!(rt; reads(alloc, &more, text, bytes.len())?);
-    let answer = unframe(alloc, &bytes)?;
-    match &answer {
-        Some((Item::Signal(signal), _)) => {
-            assert!(rt; is_written(alloc, signal, &bytes, text)?);
-            Ok(())
-        }
-        _ => Err(Fail::from("no signal")),
-    }
+    assert!(rt; is_written_again(alloc, &bytes, text)?);
+    Ok(())
 }
 
 #[test]
@@ -211,10 +214,10 @@ fn sent(alloc: Global, message: &[u8]) -> Result<Vec<u8>, AllocError> {
     joined(alloc, &[&head, &B, message])
 }
 
-/// So many tuples, one in another, each but the last with one element.
-fn nested(alloc: Global, levels: usize) -> Result<Vec<u8>, AllocError> {
+/// The head, and so many tuples, one in another, each but the last with one element.
+fn nested(alloc: Global, head: &[u8], levels: usize) -> Result<Vec<u8>, AllocError> {
     let mut bytes = Vec::new(alloc);
-    bytes.push(131)?;
+    bytes.extend_from_slice(head)?;
     for _ in 1..levels {
         bytes.extend_from_slice(&[0x68, 1])?;
     }
@@ -270,9 +273,9 @@ fn is_taken(rt: &impl Abort, alloc: Global, message: &[u8]) -> Result<bool, Fail
 #[test]
 fn payloads_have_a_size(rt: HostRuntime) -> Result<(), Fail> {
     let alloc = rt.alloc();
-    assert!(rt; is_taken(&rt, alloc, &nested(alloc, 60)?)?);
-    assert!(rt; !is_taken(&rt, alloc, &nested(alloc, 61)?)?);
-    assert!(rt; !is_taken(&rt, alloc, &nested(alloc, 64)?)?);
+    assert!(rt; is_taken(&rt, alloc, &nested(alloc, &[131], 60)?)?);
+    assert!(rt; !is_taken(&rt, alloc, &nested(alloc, &[131], 61)?)?);
+    assert!(rt; !is_taken(&rt, alloc, &nested(alloc, &[131], 64)?)?);
     // A binary of 60,000 bytes with its head of 6, and one byte more.
     let longest = repeated(alloc, &[131, 0x6D, 0, 0, 0xEA, 0x5A], 59_994, &[7])?;
     assert!(rt; is_taken(&rt, alloc, &longest)?);
@@ -294,15 +297,24 @@ fn payloads_have_a_size(rt: HostRuntime) -> Result<(), Fail> {
 #[test]
 fn reasons_have_a_size(rt: HostRuntime) -> Result<(), Fail> {
     let alloc = rt.alloc();
-    let deep = nested(alloc, 61)?;
-    let (_, reason) = deep.split_at(1);
-    let bytes = framed(alloc, &[&[0x68, 4, 0x61, 3], &B, &A, reason])?;
+    let reason = nested(alloc, &[], 61)?;
+    let bytes = framed(alloc, &[&[0x68, 4, 0x61, 3], &B, &A, &reason])?;
     assert_eq!(rt; refusal(alloc, &bytes), Some(FrameError::TooLong));
-    let ended = framed(alloc, &[&[0x68, 5, 0x61, 0x15], &B, &A, &REFERENCE, reason])?;
+    let ended = framed(
+        alloc,
+        &[&[0x68, 5, 0x61, 0x15], &B, &A, &REFERENCE, &reason],
+    )?;
     assert_eq!(rt; refusal(alloc, &ended), Some(FrameError::TooLong));
     // Bytes left over come first.
-    let more = framed(alloc, &[&[0x68, 4, 0x61, 3], &B, &A, reason, &[0]])?;
+    let more = framed(alloc, &[&[0x68, 4, 0x61, 3], &B, &A, &reason, &[0]])?;
     assert_eq!(rt; refusal(alloc, &more), Some(FrameError::BadControl));
+    Ok(())
+}
+
+#[test]
+fn deep_reason_is_not_sent(rt: HostRuntime) -> Result<(), Fail> {
+    let alloc = rt.alloc();
+    let deep = nested(alloc, &[131], 61)?;
     let exit = exit2_of(&rt, alloc, payload(alloc, &deep)?)?;
     assert_eq!(rt; frame(alloc, &exit).err(), Some(FrameError::TooLong));
     Ok(())
@@ -348,7 +360,7 @@ fn messages_that_do_not_read(rt: HostRuntime) -> Result<(), Fail> {
     for (message, error) in wrong {
         assert_eq!(rt; refusal(alloc, &sent(alloc, message)?), Some(error));
     }
-    let deep = nested(alloc, 65)?;
+    let deep = nested(alloc, &[131], 65)?;
     let error = FrameError::Term(TermError::TooDeep);
     assert_eq!(rt; refusal(alloc, &sent(alloc, &deep)?), Some(error));
     Ok(())
