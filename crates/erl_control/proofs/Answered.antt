@@ -1,21 +1,21 @@
 -- What the readers of a signal's text answer.
-use Rattle.std.proofs.Common.{◌≡◌, ◌≢◌, ℕ, ◌<◌, List, [], ◌∷◌, ◌++◌, length, take, drop, Option, Some, None, Ok, Err, Bor, refl, sym, ap, subst, ◌∙◌, append_assoc, arith, inl, inr}
+use Rattle.std.proofs.Common.{◌≡◌, ℕ, ◌<◌, List, [], ◌++◌, length, take, drop, Option, Some, None, Ok, Err, Bor, refl, sym, ap, subst, ◌∙◌, append_assoc, arith, inl, inr}
 use Rattle.std.proofs.lemmas.List.{take-append-drop, append-nil}
 use Rattle.erl_term.specs.declared.error.TermError.{TermError}
 use Rattle.erl_term.specs.declared.term.Pid.{Pid}
-use Rattle.erl_term.specs.Data.{Data, pid, no_items, item}
+use Rattle.erl_term.specs.Data.{Data}
 use Rattle.erl_term.specs.Spelling.{IsSpelling}
 use Rattle.erl_term.specs.Parts.{ReadsFront}
 use Rattle.erl_term.specs.Answer.{IsDue}
 use Rattle.erl_control.specs.declared.signal.Signal.{Signal}
-use Rattle.erl_control.specs.declared.signal.Signal.TheVariants.{Link, Send, Exit, Exit2, Monitor, Demonitor, MonitorExit, UnlinkId, UnlinkIdAck}
+use Rattle.erl_control.specs.declared.signal.Signal.TheVariants.{Send}
 use Rattle.erl_control.specs.declared.signal_ref.SignalRef.{SignalRef}
-use Rattle.erl_control.specs.Control.{send_term, control_term, HasId}
+use Rattle.erl_control.specs.Control.{control_term, HasId}
 use Rattle.erl_control.specs.Frame.{IsSignalText}
-use Rattle.erl_control.specs.Answer.{IsTermFault, IsRow, IsBadControl}
+use Rattle.erl_control.specs.Answer.{IsTermFault, IsBadControl}
 use Rattle.erl_control.specs.Reading.{signal_in, IsRowHead, AreSend, IsSendText, tag_of, arity_of, AreFields, HasFields, IsText, HasNoText}
 use Rattle.erl_control.proofs.Sequence.{split_pair}
-use Rattle.erl_control.proofs.Table.{Shape, shape, unshape, Row, send_row, send_unrow, send_from, send_to}
+use Rattle.erl_control.proofs.Table.{shape, unshape, send_row, send_unrow, send_from, send_to}
 use Rattle.erl_control.proofs.Arms.{lying}
 
 -- ---- the text of a signal

@@ -17,7 +17,7 @@ use Rattle.erl_term.specs.Canonical.{canonical, canonical_term, canonical_head, 
 use Rattle.erl_control.specs.declared.signal.Signal.{Signal}
 use Rattle.erl_control.specs.declared.signal.Signal.TheVariants.{Link, Send, Exit, Exit2, Monitor, Demonitor, MonitorExit, UnlinkId, UnlinkIdAck}
 use Rattle.erl_control.specs.Control.{row, control_term, message_of, Carries, Fits, IsFit, IsSendable}
-use Rattle.erl_control.specs.Frame.{limit, SpellsMessage, IsSignalText, IsSignalFrame}
+use Rattle.erl_control.specs.Frame.{limit, SpellsMessage, IsSignalFrame}
 use Rattle.erl_control.specs.Canonical.{canonical_control, canonical_message, canonical_text, canonical_frame}
 
 -- ---- a number in four bytes

@@ -1,5 +1,5 @@
 -- What is due to bytes, body by body.
-use Rattle.std.proofs.Common.{◌≡◌, ◌≢◌, ℕ, zero, suc, ◌+◌, ◌<◌, ◌≤◌, List, [], ◌∷◌, ◌++◌, length, take, drop, Option, Some, None, Result, Ok, Err, refl, sym, ap, subst, ◌∙◌, append_assoc, arith, ◌⊎◌, inl, inr}
+use Rattle.std.proofs.Common.{◌≡◌, ◌≢◌, ℕ, zero, suc, ◌+◌, ◌≤◌, List, [], ◌∷◌, ◌++◌, length, take, drop, Option, Some, None, Result, Ok, Err, refl, sym, ap, subst, ◌∙◌, append_assoc, arith, ◌⊎◌, inl, inr}
 use Rattle.std.proofs.lemmas.Bool.{cases_lt}
 use Rattle.std.proofs.lemmas.List.{take_at, drop_at, take-append-drop, length-append, length-take, length-drop, append-nil}
 use Rattle.byteorder.specs.Endian.{big_number}
@@ -13,8 +13,8 @@ use Rattle.erl_control.specs.declared.signal.Item.{Item}
 use Rattle.erl_control.specs.declared.signal.Item.TheVariants.{Tick, Signal as SignalItem}
 use Rattle.erl_control.specs.declared.error.FrameError.{FrameError}
 use Rattle.erl_control.specs.declared.error.FrameError.TheVariants.{NotPassThrough, BadControl, TooLong, Term, OutOfMemory}
-use Rattle.erl_control.specs.Frame.{limit, IsSignalText, IsFramed}
-use Rattle.erl_control.specs.Answer.{HasBody, IsBegun, IsLong, IsUnfit, IsFrameDue}
+use Rattle.erl_control.specs.Frame.{limit, IsFramed}
+use Rattle.erl_control.specs.Answer.{HasBody, IsBegun, IsLong, IsFrameDue}
 use Rattle.erl_control.specs.Reading.{IsTextFault, IsFitText, IsBody, IsBodyFault}
 use Rattle.erl_control.proofs.Same.{same_or_not}
 use Rattle.erl_control.proofs.Texts.{OneTerm, OneSpelling, IsTextDue, text_due, text_once, some_text, one_text}

@@ -1,18 +1,17 @@
 -- The text of a signal, part by part.
-use Rattle.std.proofs.Common.{◌≡◌, ℕ, suc, ◌^◌, ◌<◌, List, [], ◌∷◌, ◌++◌, length, Option, Some, None, Bor, refl, sym, ap, subst, ◌∙◌, append_assoc, arith}
+use Rattle.std.proofs.Common.{◌≡◌, ℕ, suc, ◌^◌, ◌<◌, List, [], ◌∷◌, ◌++◌, refl, sym, ap, subst, ◌∙◌, append_assoc, arith}
 use Rattle.std.proofs.lemmas.List.{append-nil}
 use Rattle.std.specs.Prelude.{pos}
 use Rattle.erl_term.specs.declared.term.Pid.{Pid}
 use Rattle.erl_term.specs.declared.term.Reference.{Reference}
 use Rattle.erl_term.specs.Data.{Data, int, tuple, pid, reference, Items, no_items, item, count}
 use Rattle.erl_term.specs.Spelling.{SpellAll, Spells, IsSpelling}
-use Rattle.erl_term.specs.Parts.{ReadsFront, IsTupleHead}
 use Rattle.erl_term.proofs.Behind.{tuple_opened, tuple_closed}
 use Rattle.erl_control.specs.declared.signal.Signal.{Signal}
 use Rattle.erl_control.specs.declared.signal.Signal.TheVariants.{Link, Send, Exit, Exit2, Monitor, Demonitor, MonitorExit, UnlinkId, UnlinkIdAck}
-use Rattle.erl_control.specs.Control.{send_term, control_term, message_of, IsUnlinkId, HasId}
+use Rattle.erl_control.specs.Control.{control_term, message_of, IsUnlinkId, HasId}
 use Rattle.erl_control.specs.Frame.{SpellsMessage, IsSignalText}
-use Rattle.erl_control.specs.Reading.{IsPair, IsRowHead, ArePids, AreIdAndPids, ArePidsAndReason, ArePidsAndReference, AreMonitorExit, AreSend, AreSendAndMessage, IsSendText, tag_of, arity_of, AreFields}
+use Rattle.erl_control.specs.Reading.{IsRowHead, ArePids, AreIdAndPids, ArePidsAndReason, ArePidsAndReference, AreMonitorExit, AreSend, IsSendText, tag_of, arity_of, AreFields}
 
 -- ---- fields in a row
 

@@ -1,7 +1,7 @@
 -- What is due to the text of a signal.
-use Rattle.std.proofs.Common.{◌≡◌, ◌≢◌, ℕ, ◌+◌, ◌<◌, ◌≤◌, Bool, true, false, List, [], ◌∷◌, ◌++◌, length, take, drop, Option, Some, None, Result, Ok, Err, refl, sym, ap, subst, ◌∙◌, append_assoc, arith, ◌⊎◌, inl, inr}
+use Rattle.std.proofs.Common.{◌≡◌, ◌≢◌, ℕ, ◌≤◌, Bool, true, false, List, [], ◌∷◌, ◌++◌, length, take, drop, Option, Some, None, Result, Ok, Err, refl, sym, ap, subst, ◌∙◌, append_assoc, arith, ◌⊎◌, inl, inr}
 use Rattle.std.proofs.lemmas.Bool.{cases_lt}
-use Rattle.std.proofs.lemmas.List.{take_at, take_all, take-append-drop, length-append, append-nil, append_cancel_left}
+use Rattle.std.proofs.lemmas.List.{take_at, take-append-drop, length-append, append-nil, append_cancel_left}
 use Rattle.readers.specs.Reading.{AreBytes}
 use Rattle.readers.proofs.Sequence.{AreBytes-rest}
 use Rattle.erl_term.specs.declared.error.TermError.{TermError}
@@ -11,12 +11,12 @@ use Rattle.erl_term.specs.Spelling.{IsSpelling}
 use Rattle.erl_term.specs.Canonical.{canonical, levels_of}
 use Rattle.erl_term.specs.Answer.{IsDue}
 use Rattle.erl_control.specs.declared.signal.Signal.{Signal}
-use Rattle.erl_control.specs.declared.signal.Signal.TheVariants.{Link, Send, Exit, Exit2, Monitor, Demonitor, MonitorExit, UnlinkId, UnlinkIdAck}
+use Rattle.erl_control.specs.declared.signal.Signal.TheVariants.{Send, Exit, Exit2, MonitorExit}
 use Rattle.erl_control.specs.declared.error.FrameError.{FrameError}
 use Rattle.erl_control.specs.declared.error.FrameError.TheVariants.{NotPassThrough, BadControl, TooLong, Term, OutOfMemory}
 use Rattle.erl_control.specs.Control.{send_term, control_term, message_of, HasId, Carries, IsFit}
 use Rattle.erl_control.specs.Frame.{limit, SpellsMessage, IsSignalText}
-use Rattle.erl_control.specs.Answer.{IsTermFault, IsMessageFault, IsRow, IsNoRow, IsLeftOver, IsBadControl, IsUnfit}
+use Rattle.erl_control.specs.Answer.{IsTermFault, IsMessageFault, IsRow, IsNoRow}
 use Rattle.erl_control.specs.Reading.{IsTextFault, IsFitText}
 use Rattle.erl_control.proofs.Rows.{but_message, row_tells, same_signal, is_row}
 

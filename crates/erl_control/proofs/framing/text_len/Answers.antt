@@ -1,4 +1,4 @@
-use Rattle.std.proofs.Common.{◌≡◌, [], arith, sym, subst}
+use Rattle.std.proofs.Common.{[], arith, sym, subst}
 use Rattle.erl_term.specs.Data.{atom}
 use Rattle.erl_term.specs.Canonical.{IsInRange}
 use Rattle.erl_control.specs.Control.{control_term}
