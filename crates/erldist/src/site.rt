@@ -152,18 +152,24 @@ impl Site {
     }
 }
 
+/// The signal that carries a link signal from the one process to the other.
+fn carrier(signal: LinkSignal, from: Pid, to: Pid) -> Signal
+    ensures { (node : Node) → from ≡ process_of node → to ≡ process_of (peer node) → result ≡ signal_from node signal }
+{
+    match signal {
+        LinkSignal::Link => Signal::Link { from, to },
+        LinkSignal::Unlink(id) => Signal::UnlinkId { id, from, to },
+        LinkSignal::Ack(id) => Signal::UnlinkIdAck { id, from, to },
+    }
+}
+
 /// The frame that carries a link signal from the one process to the other.
 #[tactic(auto, unfolding(crate::specs::Wire::frame_bytes))]
 fn frame_of(alloc: Global, signal: LinkSignal, from: &Pid, to: &Pid) -> Result<Vec<u8>, Refusal>
     ensures ok { (node : Node) → from.now ≡ process_of node → to.now ≡ process_of (peer node) → IfOk result (λ frame. frame.items ≡ frame_bytes node signal) }
     ensures only_memory { IsSent signal → IsOkUnless result OutOfMemory }
 {
-    let (from, to) = (from.clone()?, to.clone()?);
-    let signal = match signal {
-        LinkSignal::Link => Signal::Link { from, to },
-        LinkSignal::Unlink(id) => Signal::UnlinkId { id, from, to },
-        LinkSignal::Ack(id) => Signal::UnlinkIdAck { id, from, to },
-    };
+    let signal = carrier(signal, from.clone()?, to.clone()?);
     match frame(alloc, &signal) {
         Ok(frame) => Ok(frame),
         Err(_) => Err(Refusal::OutOfMemory),
