@@ -1,0 +1,4 @@
+pub mod Name
+pub mod Draw
+pub mod Minted
+pub mod Ids
