@@ -1,5 +1,5 @@
 //! The names of nodes.
-ghost use Rattle.std.specs.Prelude.{◌≡◌, ◌⊎◌, ◌↔◌, IsTrue, IfOk, OnOk, IfErr, IsErrOf};
+ghost use Rattle.std.specs.Prelude.{◌≡◌, ◌⊎◌, ◌↔◌, IsTrue, IfOk, OnOk, IfErr, IsErrOf, ◌==◌, position};
 ghost use Rattle.erl_names.specs.Name.{IsNodeName, IsWord, is_name_byte, is_host_byte};
 
 use erl_term::{Atom, Refusal};
@@ -79,10 +79,20 @@ impl Clone for NodeName {
 fn has_form(text: &[u8]) -> bool
     ensures { IsTrue result ↔ IsNodeName text.now }
 {
-    let Some(at) = text.iter().position(|b| *b == b'@') else {
+    if text.len() > 64 {
         return false;
-    };
-    text.len() <= 64 && is_name(&text[..at]) && is_host(&text[at + 1..])
+    }
+    match first_at(text) {
+        Some(at) => is_name(&text[..at]) && is_host(&text[at + 1..]),
+        None => false,
+    }
+}
+
+// Where the first `@` is.
+fn first_at(text: &[u8]) -> Option<usize>
+    ensures { result ≡ position (λ b. b == 64) text.now }
+{
+    text.iter().position(|b| *b == b'@')
 }
 
 // Whether these are the bytes of a first word.
