@@ -13,7 +13,10 @@ mod name;
 mod trunk;
 
 pub use creation::Creation;
-pub use laws::no_id_twice;
+pub use laws::{no_id_twice, orders};
 pub use mint::Mint;
 pub use name::NodeName;
 pub use trunk::TrunkId;
+
+#[cfg(test)]
+mod tests;
