@@ -1,4 +1,5 @@
--- What one incarnation of a node has drawn, and what its next draws give.
+-- What one incarnation of a node has drawn, and what its next draws give. (ERTS User's Guide, External
+-- Term Format, NEW_PID_EXT and NEWER_REFERENCE_EXT; Distribution Protocol, New Link Protocol.)
 use Rattle.std.specs.Prelude.{ℕ, ◌+◌, ◌-◌, ◌^◌, nat_lt, if◌then◌else◌, List, [], ◌∷◌, ◌++◌, Option, None, Some}
 use Rattle.erl_names.specs.Draw.{Draw}
 use Rattle.erl_names.specs.Draw as draw
@@ -19,7 +20,7 @@ count m draw.Pid = m.pids
 count m draw.Reference = m.references
 count m draw.UnlinkId = m.unlink_ids
 
--- the highest number of a kind
+-- the highest number of a kind: 32 bits of a pid, 18 of the first word of a reference, 64 of an unlink
 abbrev pub last : Draw → ℕ
 last draw.Pid = 2 ^ 32 - 1
 last draw.Reference = 2 ^ 18 - 1

@@ -13,7 +13,7 @@ mod name;
 mod trunk;
 
 pub use creation::Creation;
-pub use laws::{no_id_twice, orders};
+pub use laws::{no_id_twice, orders, used_up_for_good};
 pub use mint::Mint;
 pub use name::NodeName;
 pub use trunk::TrunkId;

@@ -71,7 +71,8 @@ impl Mint {
     }
 
     /// Draws the id of a pid: 1, 2 and so on up to 2^32 - 1, and then [`Refusal::IdsUsedUp`] for
-    /// good. Takes no memory. (ERTS User's Guide, External Term Format, NEW_PID_EXT.)
+    /// good. Takes no memory, and a refused draw changes nothing. (ERTS User's Guide, External Term
+    /// Format, NEW_PID_EXT.)
     pub fn next_pid(&mut self) -> Result<u32, Refusal>
         ensures id { result ≡ ok_or (id_of self.old draw.Pid) Refusal.IdsUsedUp }
         ensures drawn { self.new ≡ drawn self.old draw.Pid }
@@ -85,8 +86,8 @@ impl Mint {
     }
 
     /// Draws the count of a reference: 1, 2 and so on up to 262,143, and then
-    /// [`Refusal::IdsUsedUp`] for good. Takes no memory. (ERTS User's Guide, External Term Format,
-    /// NEWER_REFERENCE_EXT.)
+    /// [`Refusal::IdsUsedUp`] for good. Takes no memory, and a refused draw changes nothing. (ERTS
+    /// User's Guide, External Term Format, NEWER_REFERENCE_EXT.)
     pub fn next_reference(&mut self) -> Result<u32, Refusal>
         ensures id { result ≡ ok_or (id_of self.old draw.Reference) Refusal.IdsUsedUp }
         ensures drawn { self.new ≡ drawn self.old draw.Reference }
@@ -100,7 +101,8 @@ impl Mint {
     }
 
     /// Draws an unlink id: 1, 2 and so on up to 2^64 - 1, and then [`Refusal::IdsUsedUp`] for good.
-    /// Takes no memory. (ERTS User's Guide, Distribution Protocol, New Link Protocol.)
+    /// Takes no memory, and a refused draw changes nothing. (ERTS User's Guide, Distribution
+    /// Protocol, New Link Protocol.)
     pub fn next_unlink_id(&mut self) -> Result<u64, Refusal>
         ensures id { result ≡ ok_or (id_of self.old draw.UnlinkId) Refusal.IdsUsedUp }
         ensures drawn { self.new ≡ drawn self.old draw.UnlinkId }
@@ -113,8 +115,8 @@ impl Mint {
         Ok(self.unlink_ids)
     }
 
-    /// The pid of this id. The only refusal is [`Refusal::OutOfMemory`]. (ERTS User's Guide, External
-    /// Term Format, NEW_PID_EXT.)
+    /// The pid of this id, with serial 0. The only refusal is [`Refusal::OutOfMemory`]. (ERTS User's
+    /// Guide, External Term Format, NEW_PID_EXT.)
     pub fn pid(&self, id: u32) -> Result<Pid, Refusal>
         ensures pid { IfOk result (λ pid. pid ≡ pid_of self.now id) }
         ensures only_memory { IsOkUnless result Refusal.OutOfMemory }
@@ -127,8 +129,8 @@ impl Mint {
         })
     }
 
-    /// The reference of this count. The only refusal is [`Refusal::OutOfMemory`]. (ERTS User's
-    /// Guide, External Term Format, NEWER_REFERENCE_EXT.)
+    /// The reference of this count, whose words are the count, 0 and 0. The only refusal is
+    /// [`Refusal::OutOfMemory`]. (ERTS User's Guide, External Term Format, NEWER_REFERENCE_EXT.)
     pub fn reference(&self, count: u32) -> Result<Reference, Refusal>
         ensures reference { IfOk result (λ reference. reference ≡ reference_of self.now count) }
         ensures only_memory { IsOkUnless result Refusal.OutOfMemory }
