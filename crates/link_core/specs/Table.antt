@@ -1,6 +1,6 @@
 -- What becomes of one end of a link, and what is sent, by the rules of the New Link Protocol.
 -- (ERTS User's Guide, Distribution Protocol, New Link Protocol; a cell for each end and cause.)
-use Rattle.std.specs.Prelude.{ℕ, ◌==◌, if◌then◌else◌, List, [], ◌∷◌, Option, None, Some}
+use Rattle.std.specs.Prelude.{ℕ, ◌==◌, if◌then◌else◌, Bool, true, false, List, [], ◌∷◌, Option, None, Some}
 use Rattle.link_core.specs.declared.end.End.{End}
 use Rattle.link_core.specs.declared.end.LinkSignal.{LinkSignal}
 use Rattle.link_core.specs.declared.end.LinkSignal.TheVariants.{Link, Unlink, Ack}
@@ -38,6 +38,15 @@ received End.Active (Ack id) = End.Active
 received (End.Pending i) Link = End.Pending i
 received (End.Pending i) (Unlink id) = End.Pending i
 received (End.Pending i) (Ack id) = if i == id then End.None else End.Pending i
+
+-- the partner's exit comes: the process reacts to it only where the end was active
+abbrev pub exited : End → End
+exited end = End.None
+
+abbrev pub is_active : End → Bool
+is_active End.None = false
+is_active End.Active = true
+is_active (End.Pending i) = false
 
 -- what goes back to the partner at once, whatever the end
 abbrev pub answered : LinkSignal → Option LinkSignal

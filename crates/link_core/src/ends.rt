@@ -2,7 +2,7 @@
 
 ghost use Rattle.std.specs.Prelude.{◌≡◌, IfOk, IfErr, OnOk, OnErr, IsOkUnless, Some};
 ghost use Rattle.std.specs.FinMap as map;
-ghost use Rattle.link_core.specs.Table.{linked, link_sent, unlinked, unlink_sent, received, answered};
+ghost use Rattle.link_core.specs.Table.{linked, link_sent, unlinked, unlink_sent, received, exited, is_active, answered};
 ghost use Rattle.link_core.specs.Ends.{end_of, with_end};
 ghost use Rattle.link_core.specs.Records.{IsLink, AreSorted, IsFoundAt, IsGapAt};
 
@@ -149,6 +149,29 @@ impl Ends {
         if self.end(partner) == End::Pending(id) {
             self.remove(partner);
         }
+    }
+
+    /// EXIT came from a partner, or the connection to it was lost: the link is gone. Answers whether
+    /// the end was active: only then does the process react. Takes no memory. (ERTS User's Guide,
+    /// Distribution Protocol, New Link Protocol; Reference Manual, Processes, Links.)
+    pub fn on_exit(&mut self, partner: &Pid) -> bool
+        ensures end { let was = end_of self.old partner.now in
+            self.new ≡ with_end self.old partner.now (exited was) }
+        ensures unchanged { let was = end_of self.old partner.now in
+            exited was ≡ was → self.new ≡ self.old }
+        ensures active { result ≡ is_active (end_of self.old partner.now) }
+    {
+        let was_active = self.end(partner) == End::Active;
+        self.remove(partner);
+        was_active
+    }
+
+    /// The partners to which there is a link, active or pending, in the order of pids, and the end
+    /// towards each. Takes no memory.
+    pub fn partners(&self) -> &[(Pid, End)]
+        ensures { result.now ≡ map.entries self.now }
+    {
+        &self.records
     }
 
     // Adds the record of an active end.

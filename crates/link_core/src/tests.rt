@@ -50,6 +50,21 @@ fn old_acknowledgement(rt: HostRuntime) -> Result<(), Fail> {
 }
 
 #[test]
+fn exits_end_links(rt: HostRuntime) -> Result<(), Fail> {
+    let p = pid(rt.alloc(), "a@h", 1)?;
+    let q = pid(rt.alloc(), "b@h", 1)?;
+    let (mut of_p, mut of_q) = linked(rt.alloc(), &p, &q)?;
+    assert_eq!(rt; of_p.partners().len(), 1);
+    assert!(rt; of_p.on_exit(&q));
+    assert!(rt; !of_p.on_exit(&q));
+    assert!(rt; of_p.partners().is_empty());
+    assert_eq!(rt; of_q.unlink(&p, 1), Some(LinkSignal::Unlink(1)));
+    assert!(rt; !of_q.on_exit(&p));
+    assert_eq!(rt; of_q.end(&p), End::None);
+    Ok(())
+}
+
+#[test]
 fn crossed_unlinks(rt: HostRuntime) -> Result<(), Fail> {
     let p = pid(rt.alloc(), "a@h", 1)?;
     let q = pid(rt.alloc(), "b@h", 1)?;
