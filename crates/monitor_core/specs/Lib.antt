@@ -1,0 +1,4 @@
+pub mod Order
+pub mod Monitors
+pub mod Records
+pub mod Runs
