@@ -2,3 +2,4 @@ pub mod Order
 pub mod Places
 pub mod Maps
 pub mod Held
+pub mod First

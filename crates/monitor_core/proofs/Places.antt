@@ -20,13 +20,17 @@ pub both_pass : (a b : Bool) → T (a && b) → T a × T b
 both_pass true b h = (tt, h)
 both_pass false b h = absurd h
 
+pub both_hold : (a b : Bool) → T a → T b → T (a && b)
+both_hold true b g h = h
+both_hold false b g h = absurd g
+
 less : (o : Ordering) → T (is_lt o) → o ≡ Less
 less Less h = refl
 less Equal h = absurd h
 less Greater h = absurd h
 
 -- each later reference is greater
-later_greater : (x : Reference) (rest : Records) (at : ℕ) (d : Reference × Monitor) → T (below_all reference_cmp x rest) → at < length rest → reference_cmp x (get_or rest at d).0 ≡ Less
+pub later_greater : (x : Reference) (rest : Records) (at : ℕ) (d : Reference × Monitor) → T (below_all reference_cmp x rest) → at < length rest → reference_cmp x (get_or rest at d).0 ≡ Less
 later_greater x [] at d h l = absurd (omega arith)
 later_greater x (e ∷ rest) zero d h l = less _ (both_pass _ _ h).0
 later_greater x (e ∷ rest) (suc at) d h l = later_greater x rest at d (both_pass _ _ h).1 (omega arith)
@@ -101,14 +105,14 @@ finds [] q at d h = absurd h
 finds (e ∷ rest) q zero d h = ap (λ o. cond (is_eq o) (Some e.1) (map.find reference_cmp q rest)) (equal_of_same e.0 q h)
 finds (e ∷ rest) q (suc at) d h = ap (λ o. cond (is_eq o) (Some e.1) (map.find reference_cmp q rest)) (greater_of_less e.0 q h.0) ∙ finds rest q at d h.1
 
-all_greater : (q x : Reference) (rs : Records) → reference_cmp q x ≡ Less → T (below_all reference_cmp x rs) → T (below_all reference_cmp q rs)
+pub all_greater : (q x : Reference) (rs : Records) → reference_cmp q x ≡ Less → T (below_all reference_cmp x rs) → T (below_all reference_cmp q rs)
 all_greater q x [] l h = tt
 all_greater q x (e ∷ rest) l h =
     let t = both_pass _ _ h in
     let r : T (below_all reference_cmp q rest) = all_greater q x rest l t.1 in
     subst (λ o. T (is_lt o && below_all reference_cmp q rest)) (sym (reference_cmp_total.trans q x e.0 l (less _ t.0))) r
 
-find_below_all : (q : Reference) (rs : Records) → T (below_all reference_cmp q rs) → map.find reference_cmp q rs ≡ None
+pub find_below_all : (q : Reference) (rs : Records) → T (below_all reference_cmp q rs) → map.find reference_cmp q rs ≡ None
 find_below_all q [] h = refl
 find_below_all q (e ∷ rest) h =
     let t = both_pass _ _ h in

@@ -2,3 +2,4 @@ pub mod Order
 pub mod Monitors
 pub mod Records
 pub mod Runs
+pub mod Sought

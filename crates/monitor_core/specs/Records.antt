@@ -25,3 +25,13 @@ IsGapAt [] reference zero = Unit {0}
 IsGapAt [] reference (suc at) = ⊥
 IsGapAt (first ∷ rest) reference zero = reference_cmp first.0 reference ≡ Greater
 IsGapAt (first ∷ rest) reference (suc at) = (reference_cmp first.0 reference ≡ Less) × IsGapAt rest reference at
+
+-- the record at this place passes, and none before it does
+abbrev pub PassesFirstAt : (Monitor → Type 0) → Records → ℕ → Type 0
+PassesFirstAt Passes [] at = ⊥
+PassesFirstAt Passes (first ∷ rest) zero = Passes first.1
+PassesFirstAt Passes (first ∷ rest) (suc at) = (¬ Passes first.1) × PassesFirstAt Passes rest at
+
+abbrev pub NonePasses : (Monitor → Type 0) → Records → Type 0
+NonePasses Passes [] = Unit {0}
+NonePasses Passes (first ∷ rest) = (¬ Passes first.1) × NonePasses Passes rest

@@ -3,5 +3,7 @@
 
 mod monitor;
 mod monitors;
+mod watches;
 
 pub use monitor::Monitor;
+pub use watches::Watches;

@@ -1,15 +1,16 @@
 //! Monitors in the order of their references.
 
-ghost use Rattle.std.specs.Prelude.{◌≡◌, ◌↔◌, IsTrue, IfOk, IfErr, OnOk, OnErr, IsOkUnless, None, Some};
+ghost use Rattle.std.specs.Prelude.{◌≡◌, ◌↔◌, IsTrue, IfOk, IfErr, OnOk, OnErr, IsOkUnless, IfSome, IfNone, None, Some};
 ghost use Rattle.std.specs.Bool.{OnFalse};
 ghost use Rattle.std.specs.Option.{option_copied};
 ghost use Rattle.std.specs.FinMap as map;
-ghost use Rattle.monitor_core.specs.Monitors.{monitor_of, is_held};
+ghost use Rattle.monitor_core.specs.Monitors.{monitor_of, is_held, IsFirst};
+ghost use Rattle.monitor_core.specs.Sought.{Meets};
 ghost use Rattle.monitor_core.specs.Runs.{Adds, Removes, Ends, takes, called};
-ghost use Rattle.monitor_core.specs.Records.{AreSorted, IsFoundAt, IsGapAt};
+ghost use Rattle.monitor_core.specs.Records.{AreSorted, IsFoundAt, IsGapAt, PassesFirstAt, NonePasses};
 
 use crate::monitor::Monitor;
-use erl_term::{Pid, Reference, Refusal};
+use erl_term::{Atom, Pid, Reference, Refusal};
 use std::alloc::Global;
 use std::marker::Model;
 
@@ -35,6 +36,33 @@ impl Model for Monitors {
     ghost view = { λ a. map.from_sorted a.records.items };
 
     ghost invariant = { λ a. AreSorted a.records.items };
+}
+
+/// Which monitors are sought.
+#[derive(Clone, Copy)]
+pub(crate) enum Sought<'a> {
+    /// Those that the process owns.
+    OwnedBy(&'a Pid),
+    /// Those that watch the process.
+    Targeting(&'a Pid),
+    /// Those whose owner is on a node of the name.
+    OwnedOn(&'a Atom),
+    /// Those whose target is on a node of the name.
+    TargetingOn(&'a Atom),
+}
+
+impl Sought<'_> {
+    // Whether the monitor is one of them.
+    fn is_met_by(&self, monitor: &Monitor) -> bool
+        ensures { IsTrue result ↔ Meets self.now monitor.now }
+    {
+        match self {
+            Sought::OwnedBy(owner) => monitor.owner.is_same(owner),
+            Sought::Targeting(target) => monitor.target.is_same(target),
+            Sought::OwnedOn(node) => monitor.owner.node == **node,
+            Sought::TargetingOn(node) => monitor.target.node == **node,
+        }
+    }
 }
 
 impl Monitors {
@@ -96,12 +124,35 @@ impl Monitors {
         ensures answer { result ≡ takes self.old (Ends reference.now (monitor_of owner.now target.now)) }
         ensures together { IsTrue result ↔ (map.get self.old reference.now ≡ Some (monitor_of owner.now target.now)) }
         ensures monitors { self.new ≡ called self.old (Ends reference.now (monitor_of owner.now target.now)) }
+        ensures unchanged { OnFalse result (self.new ≡ self.old) }
     {
         let ends = self.holds(reference, owner, target);
         if ends {
             self.remove(reference);
         }
         ends
+    }
+
+    /// Of the monitors that are sought, the one of the least reference.
+    pub(crate) fn first(&self, sought: &Sought<'_>) -> Option<&(Reference, Monitor)>
+        ensures { IsFirst self.now (Meets sought.now) (option_copied result) }
+    {
+        match first_place(&self.records, sought) {
+            Some(at) => Some(&self.records[at]),
+            None => None,
+        }
+    }
+
+    /// Takes that one out, and gives it. Takes no memory.
+    pub(crate) fn take_first(&mut self, sought: &Sought<'_>) -> Option<(Reference, Monitor)>
+        ensures first { IsFirst self.old (Meets sought.now) result }
+        ensures gone { IfSome result (λ entry. self.new ≡ map.remove self.old entry.0) }
+        ensures unchanged { IfNone result (self.new ≡ self.old) }
+    {
+        match first_place(&self.records, sought) {
+            Some(at) => Some(self.records.remove(at)),
+            None => None,
+        }
     }
 
     // Whether reference, owner and target stand together.
@@ -139,4 +190,14 @@ fn place(records: &[(Reference, Monitor)], reference: &Reference) -> Result<usiz
     ensures gap { IfErr result (IsGapAt records.now reference.now) }
 {
     records.binary_search_by(|(held, _)| held.cmp(reference))
+}
+
+// The first place of a record that is sought.
+fn first_place(records: &[(Reference, Monitor)], sought: &Sought<'_>) -> Option<usize>
+    ensures at { IfSome result (PassesFirstAt (Meets sought.now) records.now) }
+    ensures none { IfNone result (NonePasses (Meets sought.now) records.now) }
+{
+    records
+        .iter()
+        .position(|(_, monitor)| sought.is_met_by(monitor))
 }
