@@ -1,5 +1,5 @@
 -- Whether an owner and a target are those of the monitor that is held.
-use Rattle.std.proofs.Common.{◌≡◌, ◌↔◌, IsTrue, Bool, true, false, ◌&&◌, Option, Some, Result, Ok, Err, OnErr, is_some, refl, sym, ap, subst, ◌∙◌}
+use Rattle.std.proofs.Common.{◌≡◌, ◌↔◌, IsTrue, Bool, true, false, ◌&&◌, Option, None, Some, Result, Ok, Err, OnErr, is_some, refl, sym, ap, subst, ◌∙◌}
 use Rattle.std.specs.Ordering.{is_eq, eq_by_cmp}
 use Rattle.std.specs.declared.cmp.Ordering.{Ordering}
 use Rattle.std.specs.declared.cmp.Ordering.TheVariants.{Less, Equal, Greater}
@@ -36,6 +36,24 @@ pub another_owner : (o : Option Monitor) (held : Monitor) (owner target : Pid) (
 another_owner o held owner target a e t f =
     t ∙ ap (λ x. x && eq_by_cmp pid_cmp held.target target) (sym t ∙ decided a held.owner owner f)
     ∙ ap (λ x. is_this x (monitor_of owner target)) e
+
+-- an owner and a target that pass the test are those of the monitor that is held
+both_true : (a b : Bool) → a && b ≡ true → (a ≡ true) × (b ≡ true)
+both_true true b h = (refl, h)
+both_true false b h = cc
+
+same_monitor : (m n : Monitor) → m.owner ≡ n.owner → m.target ≡ n.target → m ≡ n
+same_monitor m n p q = λ i. record { owner = p i; target = q i }
+
+pub this_held : (o : Option Monitor) (m : Monitor) → is_this o m ≡ true → o ≡ Some m
+this_held None m h = cc
+this_held (Some held) m h =
+    let t = both_true _ _ h in
+    ap (λ x. Some x) (same_monitor held m (tied_same _ _ _ refl t.0) (tied_same _ _ _ refl t.1))
+
+pub held_this : (o : Option Monitor) (m : Monitor) → o ≡ Some m → is_this o m ≡ true
+held_this o m e =
+    ap (λ x. is_this x m) e ∙ ap (λ x. x && eq_by_cmp pid_cmp m.target m.target) (same_tied m.owner m.owner refl) ∙ same_tied m.target m.target refl
 
 -- a fact holds at a refusal too
 pub at_refusal : {A E P : Type 0} (r : Result A E) → P → OnErr r P

@@ -3,3 +3,4 @@ pub mod Places
 pub mod Maps
 pub mod Held
 pub mod First
+pub mod Leaving
