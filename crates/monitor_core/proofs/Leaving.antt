@@ -97,7 +97,7 @@ end_out false b x y o h e p q = omega (arith, q refl)
 
 step : (r : Reference) (m : MonitorMap) (call : Call)
     → cond (takes m call && eq_by_cmp reference_cmp r (reference_of call)) 1 0 + times (map.get (called m call) r)
-      ≤ times (map.get m r) + cond (is_add call && eq_by_cmp reference_cmp r (reference_of call)) 1 0
+    ≤ times (map.get m r) + cond (is_add call && eq_by_cmp reference_cmp r (reference_of call)) 1 0
 step r m (Adds q e) =
     let l = same_if (map.contains_key m q) m (map.insert m q e) r _ (map.get-insert reference_cmp_total m q e r) in
     omega (arith, ap times l, put_in (eq_by_cmp reference_cmp r q) (map.contains_key m q) e (map.get m r))
@@ -108,9 +108,9 @@ step r m (Removes q) =
 step r m (Ends q e) =
     let same : eq_by_cmp reference_cmp r q ≡ true → map.get m q ≡ map.get m r = λ t. ap (map.get m) (sym (equal_reference r q t)) in
     let out = end_out (is_held m q e) (eq_by_cmp reference_cmp r q) (map.get m q) (map.get m r) (times (map.get (called m (Ends q e)) r))
-        (λ t. ap is_some (this_held _ e t)) same
-        (λ t. ap (λ b. times (map.get (cond b (map.remove m q) m) r)) t ∙ ap times (map.get-remove reference_cmp_total m q r))
-        (λ t. ap (λ b. times (map.get (cond b (map.remove m q) m) r)) t) in
+    (λ t. ap is_some (this_held _ e t)) same
+    (λ t. ap (λ b. times (map.get (cond b (map.remove m q) m) r)) t ∙ ap times (map.get-remove reference_cmp_total m q r))
+    (λ t. ap (λ b. times (map.get (cond b (map.remove m q) m) r)) t) in
     omega (arith, out)
 
 pub no_more_than_added : (r : Reference) (calls : List Call) (m : MonitorMap) → departures r calls m ≤ times (map.get m r) + additions r calls

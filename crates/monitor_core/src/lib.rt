@@ -16,3 +16,6 @@ pub use laws::{leaves_once, one_entry};
 pub use monitor::Monitor;
 pub use watchers::Watchers;
 pub use watches::Watches;
+
+#[cfg(test)]
+mod tests;

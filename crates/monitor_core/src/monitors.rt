@@ -168,11 +168,7 @@ impl Monitors {
 }
 
 // The record of a monitor.
-fn record(
-    reference: &Reference,
-    owner: &Pid,
-    target: &Pid,
-) -> Result<(Reference, Monitor), Refusal>
+fn record(reference: &Reference, owner: &Pid, target: &Pid) -> Result<(Reference, Monitor), Refusal>
     ensures ok { IfOk result (λ made. made ≡ (reference.now, monitor_of owner.now target.now)) }
     ensures only_memory { IsOkUnless result Refusal.OutOfMemory }
 {

@@ -56,12 +56,7 @@ impl Watches {
     ///
     /// The only refusal is [`Refusal::OutOfMemory`], and only where the reference is new. (Reference
     /// Manual, Processes, Monitors; ERTS User's Guide, Distribution Protocol, MONITOR_P.)
-    pub fn add(
-        &mut self,
-        reference: &Reference,
-        owner: &Pid,
-        target: &Pid,
-    ) -> Result<(), Refusal>
+    pub fn add(&mut self, reference: &Reference, owner: &Pid, target: &Pid) -> Result<(), Refusal>
         ensures monitors { let monitor = monitor_of owner.now target.now in
             OnOk result (self.new ≡ called self.old (Adds reference.now monitor)) }
         ensures err { OnErr result (self.new ≡ self.old) }
