@@ -1,19 +1,16 @@
 -- The first record that passes is that of the least reference.
-use Rattle.std.proofs.Common.{◌≡◌, ◌≢◌, ℕ, zero, suc, ◌+◌, ◌<◌, ◌≤◌, Bool, true, false, cond, T, [], ◌∷◌, length, get_or, Option, None, Some, IfSome, IfNone, unwrap_or, is_some, refl, sym, ap, subst, ◌∙◌, arith}
-use Rattle.std.specs.declared.cmp.Ordering.{Ordering}
-use Rattle.std.specs.declared.cmp.Ordering.TheVariants.{Less, Equal, Greater}
-use Rattle.std.specs.Ordering.{is_eq, is_lt, eq_by_cmp}
+use Rattle.std.proofs.Common.{◌≡◌, ◌≢◌, ℕ, zero, suc, ◌<◌, Bool, true, false, cond, T, [], ◌∷◌, length, get_or, Option, None, Some, IfSome, IfNone, unwrap_or, refl, sym, ap, subst, ◌∙◌, arith}
+use Rattle.std.specs.declared.cmp.Ordering.TheVariants.{Less}
+use Rattle.std.specs.Ordering.{is_lt, eq_by_cmp}
 use Rattle.std.specs.Option.{MatchOption}
 use Rattle.std.specs.List.{AllWithin, HoldsAt}
-use Rattle.std.proofs.lemmas.Cmp.{tied_itself}
 use Rattle.std.specs.FinMap as map
 use Rattle.std.specs.FinMap.Entries.{below_all}
 use Rattle.erl_term.specs.declared.term.Reference.{Reference}
 use Rattle.monitor_core.specs.declared.monitor.Monitor.{Monitor}
 use Rattle.monitor_core.specs.Order.{reference_cmp}
-use Rattle.monitor_core.specs.Monitors.{IsLeast, IsFirst}
+use Rattle.monitor_core.specs.Monitors.{IsFirst}
 use Rattle.monitor_core.specs.Records.{Records, AreSorted, IsFoundAt, PassesFirstAt, NonePasses}
-use Rattle.monitor_core.proofs.Order.{reference_cmp_total}
 use Rattle.monitor_core.proofs.Places.{both_pass, both_hold, later_greater, find_below_all, all_greater, map_of}
 use Rattle.monitor_core.proofs.Maps.{get_found}
 

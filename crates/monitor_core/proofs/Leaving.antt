@@ -1,5 +1,5 @@
 -- What a call does at a reference, and that a reference leaves no more often than it comes.
-use Rattle.std.proofs.Common.{◌≡◌, ◌≢◌, ◌↔◌, IsTrue, ℕ, ◌+◌, ◌≤◌, Bool, true, false, cond, ◌&&◌, List, [], ◌∷◌, Option, None, Some, is_some, refl, sym, ap, subst, ◌∙◌, arith}
+use Rattle.std.proofs.Common.{◌≡◌, ◌≢◌, ◌↔◌, IsTrue, ℕ, ◌+◌, ◌≤◌, Bool, true, false, cond, ◌&&◌, List, [], ◌∷◌, Option, None, Some, is_some, refl, sym, ap, ◌∙◌, arith}
 use Rattle.std.specs.declared.cmp.Ordering.{Ordering}
 use Rattle.std.specs.declared.cmp.Ordering.TheVariants.{Less, Equal, Greater}
 use Rattle.std.specs.Ordering.{is_eq, eq_by_cmp}
@@ -8,7 +8,7 @@ use Rattle.std.specs.FinMap as map
 use Rattle.erl_term.specs.declared.term.Reference.{Reference}
 use Rattle.monitor_core.specs.declared.monitor.Monitor.{Monitor}
 use Rattle.monitor_core.specs.Order.{reference_cmp}
-use Rattle.monitor_core.specs.Monitors.{MonitorMap, added, is_this, is_held}
+use Rattle.monitor_core.specs.Monitors.{MonitorMap, added, is_held}
 use Rattle.monitor_core.specs.Runs.{Call, Adds, Removes, Ends, takes, called, reference_of, is_add, additions, departures}
 use Rattle.monitor_core.proofs.Order.{reference_cmp_total, reference_cmp_exact}
 use Rattle.monitor_core.proofs.Maps.{equal_reference}

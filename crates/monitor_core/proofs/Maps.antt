@@ -1,10 +1,9 @@
 -- What a reference has in a map that records make, and the map after an edit.
-use Rattle.std.proofs.Common.{◌≡◌, ◌≢◌, ◌↔◌, IsTrue, ℕ, zero, suc, Bool, true, false, cond, ◌&&◌, [], ◌∷◌, get_or, Option, None, Some, unwrap_or, is_some, refl, sym, ap, subst, ◌∙◌}
+use Rattle.std.proofs.Common.{◌≡◌, ℕ, Bool, true, false, cond, [], ◌∷◌, get_or, Option, None, Some, is_some, refl, sym, ap, ◌∙◌}
 use Rattle.std.specs.declared.cmp.Ordering.{Ordering}
 use Rattle.std.specs.declared.cmp.Ordering.TheVariants.{Less, Equal, Greater}
 use Rattle.std.specs.Ordering.{is_eq, eq_by_cmp}
-use Rattle.std.specs.List.{insert, remove}
-use Rattle.std.proofs.lemmas.Cmp.{tied_itself}
+use Rattle.std.specs.List.{insert}
 use Rattle.std.specs.FinMap as map
 use Rattle.erl_term.specs.declared.term.Reference.{Reference}
 use Rattle.monitor_core.specs.declared.monitor.Monitor.{Monitor}
@@ -12,7 +11,7 @@ use Rattle.monitor_core.specs.Order.{reference_cmp}
 use Rattle.monitor_core.specs.Monitors.{MonitorMap, added}
 use Rattle.monitor_core.specs.Records.{Records, AreSorted, IsFoundAt, IsGapAt}
 use Rattle.monitor_core.proofs.Order.{reference_cmp_total, reference_cmp_exact}
-use Rattle.monitor_core.proofs.Places.{finds, finds_none, map_of, sorted_put, map_put, put_gap, sorted_others, map_others}
+use Rattle.monitor_core.proofs.Places.{finds, finds_none, map_of, sorted_put, map_put, put_gap}
 
 -- what is there already, put again, changes nothing
 same_at : (x : Option Monitor) (y : Option Monitor) (b : Bool) → (b ≡ true → y ≡ x) → cond b x y ≡ y

@@ -1,4 +1,4 @@
-use Rattle.std.proofs.Common.{◌≡◌, rules, tests}
+use Rattle.std.proofs.Common.{rules, tests}
 use Rattle.std.proofs.lemmas.Iterator.{IsFirst-from_position, YieldsList-from_slice}
 use Rattle.monitor_core.specs.Sought.{Meets}
 use Rattle.monitor_core.proofs.First.{searched_from_front}

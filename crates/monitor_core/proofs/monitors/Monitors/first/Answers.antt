@@ -1,4 +1,4 @@
-use Rattle.std.proofs.Common.{None, Some, sym, subst, arith}
+use Rattle.std.proofs.Common.{None, Some, subst, arith}
 use Rattle.monitor_core.specs.Monitors.{IsFirst}
 use Rattle.monitor_core.specs.Records.{PassesFirstAt, NonePasses}
 use Rattle.monitor_core.specs.Sought.{Meets}

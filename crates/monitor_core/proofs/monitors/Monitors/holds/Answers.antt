@@ -1,4 +1,4 @@
-use Rattle.std.proofs.Common.{Some, sym, ap, ◌∙◌}
+use Rattle.std.proofs.Common.{sym, ap, ◌∙◌}
 use Rattle.std.specs.Option.{option_copied}
 use Rattle.monitor_core.proofs.Held.{both_named, another_owner}
 use Rattle.monitor_core.proofs.monitors.Monitors.holds.Goals as goal

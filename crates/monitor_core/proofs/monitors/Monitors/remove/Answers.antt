@@ -1,6 +1,5 @@
-use Rattle.std.proofs.Common.{◌≡◌, Some, is_some, sym, ap, ◌∙◌, subst, arith}
+use Rattle.std.proofs.Common.{is_some, sym, ap, ◌∙◌, subst, arith}
 use Rattle.std.specs.FinMap as map
-use Rattle.monitor_core.specs.Monitors.{monitor_of}
 use Rattle.monitor_core.specs.Records.{IsFoundAt, IsGapAt}
 use Rattle.monitor_core.proofs.Places.{found_in_range, map_of, sorted_others, map_others}
 use Rattle.monitor_core.proofs.Maps.{some_found, get_gap, remove_same}

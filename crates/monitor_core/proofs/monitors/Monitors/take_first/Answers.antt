@@ -1,4 +1,4 @@
-use Rattle.std.proofs.Common.{None, Some, sym, ap, ◌∙◌, subst, arith}
+use Rattle.std.proofs.Common.{None, Some, ap, ◌∙◌, subst, arith}
 use Rattle.std.specs.FinMap as map
 use Rattle.monitor_core.specs.Monitors.{IsFirst}
 use Rattle.monitor_core.specs.Records.{PassesFirstAt, NonePasses}
