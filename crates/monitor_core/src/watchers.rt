@@ -104,7 +104,9 @@ impl Watchers {
         self.monitors.first(&Sought::Targeting(target))
     }
 
-    /// Takes that one out, and gives it. Takes no memory.
+    /// Takes the monitor of the least reference out, of those that watch a process, and gives it. Takes
+    /// no memory. (Reference Manual, Processes, Monitors; ERTS User's Guide, Distribution Protocol,
+    /// MONITOR_P_EXIT.)
     pub fn take_targeting(&mut self, target: &Pid) -> Option<(Reference, Monitor)>
         ensures first { IsFirst self.old (λ monitor. monitor.target ≡ target.now) result }
         ensures gone { IfSome result (λ entry. self.new ≡ called self.old (Removes entry.0)) }
@@ -121,7 +123,8 @@ impl Watchers {
         self.monitors.first(&Sought::OwnedOn(node))
     }
 
-    /// Takes that one out, and gives it. Takes no memory.
+    /// Takes the monitor of the least reference out, of those whose owner is on a node of this name, and
+    /// gives it. Takes no memory. (Reference Manual, Processes, Monitors.)
     pub fn take_towards(&mut self, node: &Atom) -> Option<(Reference, Monitor)>
         ensures first { IsFirst self.old (λ monitor. monitor.owner.node ≡ node.now) result }
         ensures gone { IfSome result (λ entry. self.new ≡ called self.old (Removes entry.0)) }

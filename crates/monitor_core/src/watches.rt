@@ -100,7 +100,9 @@ impl Watches {
         self.monitors.first(&Sought::OwnedBy(owner))
     }
 
-    /// Takes that one out, and gives it. Takes no memory.
+    /// Takes the monitor of the least reference out, of those that a process owns, and gives it. Takes
+    /// no memory. (Reference Manual, Processes, Monitors; ERTS User's Guide, Distribution Protocol,
+    /// DEMONITOR_P.)
     pub fn take_owned_by(&mut self, owner: &Pid) -> Option<(Reference, Monitor)>
         ensures first { IsFirst self.old (λ monitor. monitor.owner ≡ owner.now) result }
         ensures gone { IfSome result (λ entry. self.new ≡ called self.old (Removes entry.0)) }
@@ -117,7 +119,8 @@ impl Watches {
         self.monitors.first(&Sought::TargetingOn(node))
     }
 
-    /// Takes that one out, and gives it. Takes no memory.
+    /// Takes the monitor of the least reference out, of those whose target is on a node of this name, and
+    /// gives it. Takes no memory. (Reference Manual, Processes, Monitors.)
     pub fn take_towards(&mut self, node: &Atom) -> Option<(Reference, Monitor)>
         ensures first { IsFirst self.old (λ monitor. monitor.target.node ≡ node.now) result }
         ensures gone { IfSome result (λ entry. self.new ≡ called self.old (Removes entry.0)) }
