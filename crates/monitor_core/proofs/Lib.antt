@@ -1,0 +1,6 @@
+pub mod Order
+pub mod Places
+pub mod Maps
+pub mod Held
+pub mod First
+pub mod Leaving

@@ -1,0 +1,5 @@
+pub mod Order
+pub mod Monitors
+pub mod Records
+pub mod Runs
+pub mod Sought

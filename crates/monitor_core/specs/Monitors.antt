@@ -1,0 +1,41 @@
+-- Monitors by reference.
+use Rattle.std.specs.Prelude.{◌≡◌, ◌≢◌, ◌&&◌, if◌then◌else◌, Bool, false, Option, None, Some}
+use Rattle.std.specs.declared.cmp.Ordering.TheVariants.{Less}
+use Rattle.std.specs.Ordering.{eq_by_cmp}
+use Rattle.std.specs.FinMap as map
+use Rattle.erl_term.specs.declared.term.Pid.{Pid}
+use Rattle.erl_term.specs.declared.term.Reference.{Reference}
+use Rattle.erl_term.specs.Order.{pid_cmp}
+use Rattle.monitor_core.specs.declared.monitor.Monitor.{Monitor}
+use Rattle.monitor_core.specs.Order.{reference_cmp}
+
+abbrev pub MonitorMap : Type 0
+MonitorMap = map.FinMap reference_cmp Monitor
+
+abbrev pub monitor_of : Pid → Pid → Monitor
+monitor_of owner target = record { owner = owner; target = target }
+
+-- a reference that has a monitor keeps it
+abbrev pub added : MonitorMap → Reference → Monitor → MonitorMap
+added monitors reference monitor =
+    if map.contains_key monitors reference then monitors else map.insert monitors reference monitor
+
+-- whether there is a monitor, and its owner and target are these
+abbrev pub is_this : Option Monitor → Monitor → Bool
+is_this None monitor = false
+is_this (Some held) monitor = eq_by_cmp pid_cmp held.owner monitor.owner && eq_by_cmp pid_cmp held.target monitor.target
+
+-- whether reference, owner and target stand together
+abbrev pub is_held : MonitorMap → Reference → Monitor → Bool
+is_held monitors reference monitor = is_this (map.get monitors reference) monitor
+
+-- of the monitors that pass, the one of the least reference
+pub record IsLeast (monitors : MonitorMap) (Passes : Monitor → Type 0) (reference : Reference) (monitor : Monitor) : Type 0 where
+  pub held : map.get monitors reference ≡ Some monitor
+  pub passes : Passes monitor
+  pub least : (other : Reference) (its : Monitor) → map.get monitors other ≡ Some its → Passes its → reference_cmp other reference ≢ Less
+
+-- that one, or none where none passes
+abbrev pub IsFirst : MonitorMap → (Monitor → Type 0) → Option (Reference × Monitor) → Type 0
+IsFirst monitors Passes None = (other : Reference) (its : Monitor) → map.get monitors other ≡ Some its → ¬ Passes its
+IsFirst monitors Passes (Some entry) = IsLeast monitors Passes entry.0 entry.1

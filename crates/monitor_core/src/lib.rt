@@ -1,0 +1,21 @@
+//! The monitors that the processes of a node own, and those of its processes that others own.
+//!
+//! [`Watches`] has the first, at the owner's node, and [`Watchers`] the second, at the target's node:
+//! each a map from references to a [`Monitor`]. The laws say what the calls do at one reference, and
+//! that a reference leaves no more often than it comes. (Reference Manual, Processes, Monitors; ERTS
+//! User's Guide, Distribution Protocol, MONITOR_P, DEMONITOR_P, MONITOR_P_EXIT.)
+#![tactic(auto)]
+
+mod laws;
+mod monitor;
+mod monitors;
+mod watchers;
+mod watches;
+
+pub use laws::{leaves_once, one_entry};
+pub use monitor::Monitor;
+pub use watchers::Watchers;
+pub use watches::Watches;
+
+#[cfg(test)]
+mod tests;
