@@ -1,0 +1,59 @@
+//! The messages that exits become.
+ghost use Rattle.std.specs.Prelude.{◌≡◌, ◌≤◌, IfOk, IsOkUnless, length};
+ghost use Rattle.std.specs.Str.{chars};
+ghost use Rattle.erl_term.specs.declared.refusal.Refusal.TheVariants as Refusal;
+ghost use Rattle.erl_term.specs.Data.{atom};
+ghost use Rattle.erl_term.specs.View.{view};
+ghost use Rattle.exit_core.specs.Messages.{exit_term, down_term};
+
+use erl_term::{Atom, Payload, Pid, Reference, Refusal, Term};
+use std::alloc::Global;
+
+/// {'EXIT',Sender,Reason}: what a process that traps exits gets of an exit signal. The only refusal
+/// is [`Refusal::OutOfMemory`]. (Reference Manual, Processes, Receiving Exit Signals.)
+pub fn exit_message(alloc: Global, sender: &Pid, reason: Payload) -> Result<Payload, Refusal>
+    ensures ok { IfOk result (λ m. m ≡ exit_term sender.now reason) }
+    ensures only_memory { IsOkUnless result Refusal.OutOfMemory }
+{
+    let name = atom_of(alloc, "EXIT")?;
+    let sender = Term::Pid(sender.clone()?);
+    let elements = vec![in alloc; name, sender, reason.into_term()]?;
+    Ok(Payload::new(Term::Tuple(elements)))
+}
+
+/// {'DOWN',Ref,process,Pid,Info}: what the owner of a monitor gets when the process that it
+/// monitors has ended, or can't be reached. The only refusal is [`Refusal::OutOfMemory`].
+/// (Reference Manual, Processes, Monitors.)
+pub fn down_message(
+    alloc: Global,
+    reference: &Reference,
+    target: &Pid,
+    info: Payload,
+) -> Result<Payload, Refusal>
+    ensures ok { IfOk result (λ m. m ≡ down_term reference.now target.now info) }
+    ensures only_memory { IsOkUnless result Refusal.OutOfMemory }
+{
+    let name = atom_of(alloc, "DOWN")?;
+    let reference = Term::Reference(reference.clone()?);
+    let kind = atom_of(alloc, "process")?;
+    let target = Term::Pid(target.clone()?);
+    let elements = vec![in alloc; name, reference, kind, target, info.into_term()]?;
+    Ok(Payload::new(Term::Tuple(elements)))
+}
+
+/// The payload that is the atom of this name.
+pub(crate) fn named(alloc: Global, name: &str) -> Result<Payload, Refusal>
+    requires { length (chars name.now) ≤ 255 }
+    ensures ok { IfOk result (λ p. p ≡ atom name.now) }
+    ensures only_memory { IsOkUnless result Refusal.OutOfMemory }
+{
+    Ok(Payload::new(atom_of(alloc, name)?))
+}
+
+fn atom_of(alloc: Global, name: &str) -> Result<Term, Refusal>
+    requires { length (chars name.now) ≤ 255 }
+    ensures ok { IfOk result (λ t. view t ≡ atom name.now) }
+    ensures only_memory { IsOkUnless result Refusal.OutOfMemory }
+{
+    Ok(Term::Atom(Atom::new(String::from_str(alloc, name)?)))
+}
