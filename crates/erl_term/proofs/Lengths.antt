@@ -60,7 +60,7 @@ length-reference r =
     let c = length-append (big_bytes 2 (length r.words)) (canonical_atom r.node ++ (big_bytes 4 r.creation ++ words_text r.words)) in
     omega arith
 
-length-items : (ts : List Term) → length (canonical_items (items_view ts)) ≡ length (flat_map (λ t. canonical_term (view t)) ts)
+pub length-items : (ts : List Term) → length (canonical_items (items_view ts)) ≡ length (flat_map (λ t. canonical_term (view t)) ts)
 length-items ts = ap length (canonical-view ts)
 
 pub length-tuple : (ts : List Term) → length (canonical_head (length ts)) + length (flat_map (λ t. canonical_term (view t)) ts) ≡ length (canonical_term (tuple (items_view ts)))

@@ -12,6 +12,7 @@ pub mod Answer
 pub mod ErrorNumbers
 pub mod Limited
 pub mod Canonical
+pub mod Room
 pub mod Skipping
 pub mod Parts
 pub mod PartText

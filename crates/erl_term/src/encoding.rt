@@ -5,6 +5,7 @@ ghost use Rattle.std.specs.Vec.{vec_len, vec_capacity};
 ghost use Rattle.erl_term.specs.Canonical.{canonical_int, canonical_big, canonical_atom, canonical_head, canonical_pid, canonical_reference, canonical_binary, canonical_list, words_text, canonical_items, canonical_term, canonical, levels_of, IsInRange, IsTooLongToWrite, IsWritable};
 ghost use Rattle.byteorder.specs.Endian.{big_bytes};
 ghost use Rattle.erl_term.specs.Canonical as canonical;
+ghost use Rattle.erl_term.specs.Data.{tuple};
 ghost use Rattle.erl_term.specs.View.{view, items_view};
 
 use crate::atom::Atom;
@@ -12,7 +13,8 @@ use crate::decoding::LIMIT;
 use crate::error::TermError;
 use crate::lists::{byte_in, is_string};
 use crate::magnitude::digits_of;
-use crate::measuring::{atom_len, has_levels, is_in_range, pid_len, reference_len, room_after};
+use crate::measuring::{atom_len, has_levels, is_in_range, pid_len, reference_len};
+use crate::room::size_within;
 use crate::tag;
 use crate::term::{Pid, Reference, Term};
 use std::alloc::{AllocError, Global};
@@ -33,19 +35,31 @@ pub fn encode(alloc: Global, term: &Term) -> Result<Vec<u8>, TermError>
     // Memory is asked for only where the term can be written, and no other error comes.
     ensures memory { IfErr result (λ e. e ≢ TermError.Malformed → e ≢ TermError.TooDeep → e ≢ TermError.TooLong → (e ≡ TermError.OutOfMemory) × IsWritable (view term.now)) }
 {
-    if !is_in_range(term) {
-        return Err(TermError::Malformed);
-    }
-    if !has_levels(term, 64) {
-        return Err(TermError::TooDeep);
-    }
-    let Some(left) = room_after(term, LIMIT - 1) else {
-        return Err(TermError::TooLong);
+    let Some(len) = size_within(term, 64, LIMIT) else {
+        return Err(refusal_of(term));
     };
-    let mut out = Vec::with_capacity(alloc, LIMIT - left)?;
+    let mut out = Vec::with_capacity(alloc, len)?;
     out.push(tag::VERSION)?;
     put_term(&mut out, term)?;
     Ok(out)
+}
+
+/// Why the term isn't written.
+#[cold]
+#[inline(never)]
+fn refusal_of(term: &Term) -> TermError
+    ensures malformed { result ≡ TermError.Malformed ↔ ¬ IsInRange (view term.now) }
+    ensures too_deep { result ≡ TermError.TooDeep ↔ (IsInRange (view term.now) × (64 < levels_of (view term.now))) }
+    ensures too_long { result ≡ TermError.TooLong ↔ (IsInRange (view term.now) × (levels_of (view term.now) ≤ 64)) }
+    ensures only { result ≢ TermError.Malformed → result ≢ TermError.TooDeep → result ≡ TermError.TooLong }
+{
+    if !is_in_range(term) {
+        TermError::Malformed
+    } else if !has_levels(term, 64) {
+        TermError::TooDeep
+    } else {
+        TermError::TooLong
+    }
 }
 
 /// Writes the canonical spelling of a value of the profile behind the bytes of `out`, without a
@@ -60,10 +74,7 @@ pub fn put_term(out: &mut Vec<u8>, term: &Term) -> Result<(), AllocError>
     match term {
         Term::Int(n) => put_integer(out, *n),
         Term::Atom(atom) => put_atom(out, atom),
-        Term::Tuple(items) => {
-            put_tuple_head(out, items.len())?;
-            put_items(out, items)
-        }
+        Term::Tuple(items) => put_tuple(out, items),
         Term::List { items, tail } => match tail {
             None => put_list(out, items),
             Some(tail) => {
@@ -78,6 +89,20 @@ pub fn put_term(out: &mut Vec<u8>, term: &Term) -> Result<(), AllocError>
     }
 }
 
+// Tuples and lists have functions of their own, which aren't inlined: what holds no term doesn't pay
+// for them.
+
+#[cycle(put)]
+#[inline(never)]
+fn put_tuple(out: &mut Vec<u8>, items: &[Term]) -> Result<(), AllocError>
+    requires count { length items.now < 2 ^ 32 }
+    requires items { All (λ t. IsInRange (view t)) items.now }
+    ensures { OnOk result (out.new.items ≡ out.old.items ++ canonical_term (tuple (items_view items.now))) }
+{
+    put_tuple_head(out, items.len())?;
+    put_items(out, items)
+}
+
 #[cycle(put)]
 fn put_items(out: &mut Vec<u8>, items: &[Term]) -> Result<(), AllocError>
     requires { All (λ t. IsInRange (view t)) items.now }
@@ -90,6 +115,7 @@ fn put_items(out: &mut Vec<u8>, items: &[Term]) -> Result<(), AllocError>
 }
 
 #[cycle(put)]
+#[inline(never)]
 fn put_list(out: &mut Vec<u8>, items: &[Term]) -> Result<(), AllocError>
     requires count { length items.now < 2 ^ 32 }
     requires items { All (λ t. IsInRange (view t)) items.now }
@@ -113,8 +139,7 @@ fn put_list_head(out: &mut Vec<u8>, count: usize) -> Result<(), AllocError>
     requires { count < 2 ^ 32 }
     ensures { OnOk result (out.new.items ≡ out.old.items ++ 108 ∷ big_bytes 4 count) }
 {
-    out.push(tag::LIST)?;
-    out.extend_from_slice(&(count as u32).to_be_bytes())
+    out.extend_from_slice(&word_behind(tag::LIST, count as u32))
 }
 
 /// Writes a STRING of these integers.
@@ -136,8 +161,7 @@ fn put_binary(out: &mut Vec<u8>, bytes: &[u8]) -> Result<(), AllocError>
     requires { length bytes.now < 2 ^ 32 }
     ensures { OnOk result (out.new.items ≡ out.old.items ++ canonical_binary bytes.now) }
 {
-    out.push(tag::BINARY)?;
-    out.extend_from_slice(&(bytes.len() as u32).to_be_bytes())?;
+    out.extend_from_slice(&word_behind(tag::BINARY, bytes.len() as u32))?;
     out.extend_from_slice(bytes)
 }
 
@@ -153,14 +177,21 @@ pub fn put_integer(out: &mut Vec<u8>, n: i128) -> Result<(), AllocError>
         return out.extend_from_slice(&[tag::SMALL_INTEGER, small]);
     }
     if let Ok(word) = i32::try_from(n) {
-        out.reserve(5)?;
-        out.push(tag::INTEGER).unwrap();
-        out.extend_from_slice(&word.to_be_bytes()).unwrap();
-        return Ok(());
+        return out.extend_from_slice(&word_behind(tag::INTEGER, word.cast_unsigned()));
     }
     put_big(out, u8::from(n < 0), n.unsigned_abs())
 }
 
+/// A tag and the bytes of a word behind it.
+fn word_behind(tag: u8, word: u32) -> [u8; 5]
+    ensures { result ≡ tag ∷ big_bytes 4 word }
+{
+    let [first, second, third, fourth] = word.to_be_bytes();
+    [tag, first, second, third, fourth]
+}
+
+/// Writes a SMALL_BIG of this sign and magnitude.
+#[inline(never)]
 fn put_big(out: &mut Vec<u8>, sign: u8, n: u128) -> Result<(), AllocError>
     ensures { MatchResult result (λ _. out.new.items ≡ out.old.items ++ canonical_big sign n) (λ _. out.new.items ≡ out.old.items) }
 {
@@ -212,11 +243,7 @@ pub fn put_tuple_head(out: &mut Vec<u8>, count: usize) -> Result<(), AllocError>
     if count < 256 {
         return out.extend_from_slice(&[tag::SMALL_TUPLE, count as u8]);
     }
-    out.reserve(5)?;
-    out.push(tag::LARGE_TUPLE).unwrap();
-    out.extend_from_slice(&(count as u32).to_be_bytes())
-        .unwrap();
-    Ok(())
+    out.extend_from_slice(&word_behind(tag::LARGE_TUPLE, count as u32))
 }
 
 /// Writes a pid behind the bytes of `out`, without a version byte. Where memory is wanting `out`

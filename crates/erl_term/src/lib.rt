@@ -27,6 +27,7 @@ mod parts;
 mod payload;
 mod reading;
 mod refusal;
+mod room;
 mod size;
 mod sizing;
 mod tag;
@@ -42,10 +43,11 @@ pub use error::TermError;
 pub use laws::{
     canonical_is_spelling, one_answer, one_spelling, order_of_pids, read_again, short_parts,
 };
-pub use measuring::{integer_len, pid_len, reference_len, size_within, tuple_head_len};
+pub use measuring::{integer_len, pid_len, reference_len, tuple_head_len};
 pub use parts::{AtomRef, PidRef, ReferenceRef, integer_at, pid_at, reference_at, tuple_head_at};
 pub use payload::Payload;
 pub use refusal::Refusal;
+pub use room::size_within;
 pub use term::{Pid, Reference, Term};
 pub use term_ref::{TermRef, term_at};
 pub use words::Words;

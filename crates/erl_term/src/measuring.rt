@@ -1,8 +1,7 @@
-//! Which terms can be written, and how many bytes each takes.
-ghost use Rattle.std.specs.Prelude.{◌≡◌, ◌≤◌, ◌<◌, ◌^◌, ◌+◌, ◌↔◌, false, length, IsTrue, MatchOption, All, FitsSigned};
+//! Which terms can be written, and how many bytes each part takes.
+ghost use Rattle.std.specs.Prelude.{◌≡◌, ◌≤◌, ◌<◌, ◌^◌, ◌+◌, ◌↔◌, false, length, IsTrue, All, FitsSigned};
 ghost use Rattle.std.specs.Int.{w128};
-ghost use Rattle.std.specs.List.{flat_map};
-ghost use Rattle.erl_term.specs.Canonical.{canonical_int, canonical_atom, canonical_head, canonical_pid, canonical_reference, canonical_binary, canonical_list, canonical_items, canonical_term, canonical as spelling, levels_of, IsPidInRange, IsReferenceInRange, IsInRange, AreInRange, IsWithin};
+ghost use Rattle.erl_term.specs.Canonical.{canonical_int, canonical_atom, canonical_head, canonical_pid, canonical_reference, canonical_binary, levels_of, magnitude, IsPidInRange, IsReferenceInRange, IsInRange, AreInRange};
 ghost use Rattle.erl_term.specs.Canonical as canonical;
 ghost use Rattle.erl_term.specs.Data.{count};
 ghost use Rattle.erl_term.specs.Numbers.{AreBytes};
@@ -55,7 +54,7 @@ fn have_words(words: &Words)
     }
 }
 
-fn is_binary(bytes: &[u8]) -> bool
+pub fn is_binary(bytes: &[u8]) -> bool
     ensures { IsTrue result ↔ (AreBytes bytes.now × (length bytes.now < 2 ^ 32)) }
 {
     bytes.len() <= 4294967295
@@ -87,7 +86,7 @@ pub fn is_in_range(term: &Term) -> bool
 }
 
 /// Whether the tail can stand behind the items.
-fn can_end(items: &[Term], tail: &Term) -> bool
+pub fn can_end(items: &[Term], tail: &Term) -> bool
     ensures { IsTrue result ↔ ((0 < length items.now) × (canonical.is_list (view tail.now) ≡ false)) }
 {
     !items.is_empty() && !is_list(tail)
@@ -102,7 +101,7 @@ fn can_stand(items: &[Term]) -> bool
 }
 
 /// Whether four bytes can say how many items there are.
-fn has_count(items: &[Term]) -> bool
+pub fn has_count(items: &[Term]) -> bool
     ensures { IsTrue result ↔ (length items.now < 2 ^ 32) }
 {
     items.len() <= 4294967295
@@ -155,6 +154,7 @@ fn have_levels(items: &[Term], levels: u32) -> bool
 pub fn atom_len(atom: &Atom) -> usize
     ensures len { result ≡ length (canonical_atom atom.now) }
     ensures bound { result ≤ 1023 }
+    ensures in_range { IsAtomText atom.now }
 {
     let len = atom.text().len();
     if len < 256 { len + 2 } else { len + 3 }
@@ -165,6 +165,7 @@ pub fn atom_len(atom: &Atom) -> usize
 pub fn integer_len(n: i128) -> usize
     ensures len { result ≡ length (canonical_int n) }
     ensures bound { result ≤ 19 }
+    ensures in_range { FitsSigned w128 n }
 {
     if u8::try_from(n).is_ok() {
         return 2;
@@ -172,7 +173,16 @@ pub fn integer_len(n: i128) -> usize
     if i32::try_from(n).is_ok() {
         return 5;
     }
-    let (_, len) = digits_of(n.unsigned_abs());
+    big_len(n.unsigned_abs())
+}
+
+/// How many bytes a SMALL_BIG of this magnitude is written in.
+#[inline(never)]
+fn big_len(n: u128) -> usize
+    ensures len { result ≡ 3 + length (magnitude n) }
+    ensures bound { result ≤ 19 }
+{
+    let (_, len) = digits_of(n);
     len + 3
 }
 
@@ -212,79 +222,8 @@ pub fn reference_len(reference: &Reference) -> usize
 
 /// How many bytes a binary is written in.
 #[tactic(auto, unfolding(crate::specs::Canonical::canonical_binary))]
-fn binary_len(bytes: &[u8]) -> usize
+pub fn binary_len(bytes: &[u8]) -> usize
     ensures { result ≡ length (canonical_binary bytes.now) }
 {
     bytes.len() + 5
-}
-
-/// What is left of so many bytes once the term is written there, or none where they don't do.
-#[cycle(room)]
-pub fn room_after(term: &Term, room: usize) -> Option<usize>
-    ensures { MatchOption result (room < length (canonical_term (view term.now))) (λ left. length (canonical_term (view term.now)) + left ≡ room) }
-{
-    match term {
-        Term::Int(n) => room.checked_sub(integer_len(*n)),
-        Term::Atom(atom) => room.checked_sub(atom_len(atom)),
-        Term::Tuple(items) => room_after_items(tuple_head_len(items.len()), items, room),
-        Term::List { items, tail } => match tail {
-            None => room_after_list(items, room),
-            Some(tail) => {
-                let Some(left) = room_after_items(5, items, room) else {
-                    return None;
-                };
-                room_after(tail, left)
-            }
-        },
-        Term::Binary(bytes) => room.checked_sub(binary_len(bytes)),
-        Term::Pid(pid) => room.checked_sub(pid_len(pid)),
-        Term::Reference(reference) => room.checked_sub(reference_len(reference)),
-    }
-}
-
-/// How many bytes the canonical spelling takes, its version byte included. None where the term is
-/// no value of the profile, or where the spelling has more levels or bytes than these. It takes no
-/// memory.
-///
-/// (ERTS User's Guide, External Term Format.)
-pub fn size_within(term: &Term, levels: u32, most: usize) -> Option<usize>
-    ensures { MatchOption result (¬ IsWithin levels most (view term.now)) (λ n. (n ≡ length (spelling (view term.now))) × IsWithin levels most (view term.now)) }
-{
-    let room = most.checked_sub(1)?;
-    if !is_in_range(term) || !has_levels(term, levels) {
-        return None;
-    }
-    let left = room_after(term, room)?;
-    Some(most - left)
-}
-
-/// The same of a proper list.
-#[cycle(room)]
-fn room_after_list(items: &[Term], room: usize) -> Option<usize>
-    ensures { MatchOption result (room < length (canonical_list (items_view items.now) (canonical_items (items_view items.now)))) (λ left. length (canonical_list (items_view items.now) (canonical_items (items_view items.now))) + left ≡ room) }
-{
-    if items.is_empty() {
-        return room.checked_sub(1);
-    }
-    if is_string(items) {
-        return room.checked_sub(items.len() + 3);
-    }
-    room_after_items(6, items, room)
-}
-
-/// The same of so many bytes and then the items.
-#[cycle(room)]
-fn room_after_items(head: usize, items: &[Term], room: usize) -> Option<usize>
-    ensures { MatchOption result (room < head + length (flat_map (λ t. canonical_term (view t)) items.now)) (λ left. head + length (flat_map (λ t. canonical_term (view t)) items.now) + left ≡ room) }
-{
-    let Some(mut left) = room.checked_sub(head) else {
-        return None;
-    };
-    for item in items {
-        let Some(less) = room_after(item, left) else {
-            return None;
-        };
-        left = less;
-    }
-    Some(left)
 }

@@ -11,27 +11,20 @@ use Rattle.erl_term.proofs.encoding.+put.Goals as goal
 
 -- tuples
 
-pub put_term-put_tuple_head-requires : goal.put_term-put_tuple_head-requires
-put_term-put_tuple_head-requires t c =
+pub put_term-put_tuple-requires : goal.put_term-put_tuple-requires
+put_term-put_tuple-requires t c =
     let a = c.in-Tuple in
     let r = items_range a.items.items (subst IsInRange (view-tuple c.args.term.now a.items a.is) c.requires) in
-    let lt = r.0 in
-    let e = c.len.ensures in
-    omega arith
+    (search (rules, the_lemmas), rw c.deref.ensures.value r)
 
-pub put_term-put_items-requires : goal.put_term-put_items-requires
-put_term-put_items-requires t c =
+pub put_term-returns-in-Tuple : goal.put_term-returns-in-Tuple
+put_term-returns-in-Tuple t c =
     let a = c.in-Tuple in
-    let r = items_range a.items.items (subst IsInRange (view-tuple c.args.term.now a.items a.is) c.requires) in
-    (search (rules, the_lemmas), rw c.deref.ensures.value r.1)
+    rw (view-tuple c.args.term.now a.items a.is) (rw c.deref.ensures.value at c.put_tuple.ensures)
 
-pub put_term-returns-in_ok-put_tuple_head-in-Tuple : goal.put_term-returns-in_ok-put_tuple_head-in-Tuple
-put_term-returns-in_ok-put_tuple_head-in-Tuple t c =
-    let a = c.in-Tuple in
-    rw (view-tuple c.args.term.now a.items a.is)
-    (put_two c.put_items.result _ _ _ (canonical_head c.len.result) _ _ c.in_ok-put_tuple_head-in-Tuple.ensures
-    (tuple_text a.items.items ∙ rw (c.len.ensures, a.items.ok.0, c.deref.ensures.value) refl)
-    c.put_items.ensures)
+pub put_tuple-returns : goal.put_tuple-returns
+put_tuple-returns t c =
+    put_two c.put_items.result _ _ _ (canonical_head (length c.args.items.now)) _ _ c.in_ok-put_tuple_head.ensures (tuple_text c.args.items.now) c.put_items.ensures
 
 -- proper lists
 
@@ -66,11 +59,11 @@ put_term-put_list_head-requires t c =
     let h = subst IsInRange (view-improper c.args.term.now a.items a.tail c.in-Some.tail a.is c.in-Some.is) c.requires in
     let r = items_range a.items.items (h.1, h.3) in
     let lt = r.0 in
-    let e = c.len-in-Some.ensures in
+    let e = c.len.ensures in
     omega arith
 
-pub put_term-put_items-requires-in-Some : goal.put_term-put_items-requires-in-Some
-put_term-put_items-requires-in-Some t c =
+pub put_term-put_items-requires : goal.put_term-put_items-requires
+put_term-put_items-requires t c =
     let a = c.in-List in
     let h = subst IsInRange (view-improper c.args.term.now a.items a.tail c.in-Some.tail a.is c.in-Some.is) c.requires in
     let r = items_range a.items.items (h.1, h.3) in
@@ -82,6 +75,6 @@ put_term-returns-in_ok-put_items-in-Some t c =
     let b = c.in-Some in
     rw (view-improper c.args.term.now a.items a.tail b.tail a.is b.is, improper_text a.items.items (view b.tail.value))
     (put_three c.put_term.result _ _ _ _ (108 ∷ big_bytes 4 (length a.items.items)) _ _
-    (rw (c.len-in-Some.ensures, a.items.ok.0) at c.in_ok-put_list_head-in-Some.ensures)
+    (rw (c.len.ensures, a.items.ok.0) at c.in_ok-put_list_head-in-Some.ensures)
     (rw c.deref-in-Some.ensures.value at c.in_ok-put_items-in-Some.ensures)
     (rw c.deref-in-Some-2.ensures at c.put_term.ensures))
