@@ -104,6 +104,7 @@ fn put_tuple(out: &mut Vec<u8>, items: &[Term]) -> Result<(), AllocError>
 }
 
 #[cycle(put)]
+#[inline(never)]
 fn put_items(out: &mut Vec<u8>, items: &[Term]) -> Result<(), AllocError>
     requires { All (λ t. IsInRange (view t)) items.now }
     ensures { OnOk result (out.new.items ≡ out.old.items ++ flat_map (λ t. canonical_term (view t)) items.now) }
@@ -135,6 +136,7 @@ fn put_list(out: &mut Vec<u8>, items: &[Term]) -> Result<(), AllocError>
 }
 
 /// Writes the tag of a LIST and how many elements it has.
+#[inline(never)]
 fn put_list_head(out: &mut Vec<u8>, count: usize) -> Result<(), AllocError>
     requires { count < 2 ^ 32 }
     ensures { OnOk result (out.new.items ≡ out.old.items ++ 108 ∷ big_bytes 4 count) }
@@ -156,6 +158,7 @@ fn put_string(out: &mut Vec<u8>, items: &[Term]) -> Result<(), AllocError>
 }
 
 /// Writes a binary.
+#[inline(never)]
 #[tactic(auto, unfolding(crate::specs::Canonical::canonical_binary))]
 fn put_binary(out: &mut Vec<u8>, bytes: &[u8]) -> Result<(), AllocError>
     requires { length bytes.now < 2 ^ 32 }
@@ -203,6 +206,7 @@ fn put_big(out: &mut Vec<u8>, sign: u8, n: u128) -> Result<(), AllocError>
     Ok(())
 }
 
+#[inline(never)]
 fn put_atom(out: &mut Vec<u8>, atom: &Atom) -> Result<(), AllocError>
     ensures { MatchResult result (λ _. out.new.items ≡ out.old.items ++ canonical_atom atom.now) (λ _. out.new.items ≡ out.old.items) }
 {

@@ -7,7 +7,7 @@ use crate::error::TermError;
 use byteorder::{BigEndian, ByteOrder};
 
 /// The first byte.
-pub fn byte_of(bytes: &[u8]) -> Result<(u8, &[u8]), TermError>
+pub(crate) fn byte_of(bytes: &[u8]) -> Result<(u8, &[u8]), TermError>
     ensures { Answers (λ x. (x.0, x.1.now)) result (any_at 1 bytes.now) }
 {
     match bytes {
@@ -17,7 +17,7 @@ pub fn byte_of(bytes: &[u8]) -> Result<(u8, &[u8]), TermError>
 }
 
 /// The number of 32 bits in the first four bytes.
-pub fn word_of(bytes: &[u8]) -> Result<(u32, &[u8]), TermError>
+pub(crate) fn word_of(bytes: &[u8]) -> Result<(u32, &[u8]), TermError>
     ensures { Answers (λ x. (x.0, x.1.now)) result (any_at 4 bytes.now) }
 {
     if bytes.len() < 4 {
@@ -28,7 +28,7 @@ pub fn word_of(bytes: &[u8]) -> Result<(u32, &[u8]), TermError>
 }
 
 /// The number of 16 bits in the first two bytes.
-pub fn half_of(bytes: &[u8]) -> Result<(u16, &[u8]), TermError>
+pub(crate) fn half_of(bytes: &[u8]) -> Result<(u16, &[u8]), TermError>
     ensures { Answers (λ x. (x.0, x.1.now)) result (any_at 2 bytes.now) }
 {
     if bytes.len() < 2 {
@@ -44,6 +44,10 @@ fn number_begun(bytes: &[u8], width: usize) -> u64
     requires high { width ≤ 8 }
     ensures { result ≡ big_number width bytes.now }
 {
+    // Most fields are of one byte, which needs no copy.
+    if width == 1 {
+        return u64::from(bytes.first().copied().unwrap_or(0));
+    }
     let mut field = [0u8; 8];
     let present = bytes.len().min(width);
     field[..present].copy_from_slice(&bytes[..present]);
@@ -51,7 +55,7 @@ fn number_begun(bytes: &[u8], width: usize) -> u64
 }
 
 /// The number in the first `width` bytes, or `fault` as soon as the bytes that are there say more than `most`.
-pub fn number_of(
+pub(crate) fn number_of(
     bytes: &[u8],
     width: usize,
     most: u64,
@@ -74,7 +78,7 @@ pub fn number_of(
 }
 
 /// The first `len` bytes.
-pub fn part_of(bytes: &[u8], len: usize) -> Result<(&[u8], &[u8]), TermError>
+pub(crate) fn part_of(bytes: &[u8], len: usize) -> Result<(&[u8], &[u8]), TermError>
     ensures value { Answers (λ x. (x.0.now, x.1.now)) result (part_at len bytes.now) }
     ensures length { IfOk result (λ x. length x.0.now ≡ len) }
 {

@@ -18,7 +18,7 @@ impl Term {
 }
 
 /// The integers that the bytes are.
-pub fn byte_list(alloc: Global, bytes: &[u8]) -> Result<Vec<Term>, AllocError>
+pub(crate) fn byte_list(alloc: Global, bytes: &[u8]) -> Result<Vec<Term>, AllocError>
     ensures { IfOk result (λ v. items_view v.items ≡ byte_items bytes.now) }
 {
     let mut items = Vec::with_capacity(alloc, bytes.len())?;
@@ -30,7 +30,7 @@ pub fn byte_list(alloc: Global, bytes: &[u8]) -> Result<Vec<Term>, AllocError>
 
 /// The items with the tail behind them. A list in the tail goes on with its own items, and no
 /// items leave the tail alone.
-pub fn join(alloc: Global, mut items: Vec<Term>, tail: Term) -> Result<Term, AllocError>
+pub(crate) fn join(alloc: Global, mut items: Vec<Term>, tail: Term) -> Result<Term, AllocError>
     ensures { IfOk result (λ t. view t ≡ joined (items_view items.items) (view tail)) }
 {
     match tail {
@@ -54,21 +54,21 @@ pub fn join(alloc: Global, mut items: Vec<Term>, tail: Term) -> Result<Term, All
 }
 
 /// Whether the term is a list, proper or not.
-pub fn is_list(term: &Term) -> bool
+pub(crate) fn is_list(term: &Term) -> bool
     ensures { result ≡ canonical.is_list (view term.now) }
 {
     matches!(term, Term::List { .. })
 }
 
 /// Whether the integer is one of a byte.
-pub fn is_byte(n: i128) -> bool
+pub(crate) fn is_byte(n: i128) -> bool
     ensures { result ≡ canonical.is_byte (int n) }
 {
     u8::try_from(n).is_ok()
 }
 
 /// The integer of a byte that the term is, if it is one.
-pub fn byte_in(term: &Term) -> Option<u8>
+pub(crate) fn byte_in(term: &Term) -> Option<u8>
     ensures some { is_some result ≡ canonical.is_byte (view term.now) }
     ensures byte { IfSome result (λ b. b ≡ canonical.byte_of (view term.now)) }
 {
@@ -79,7 +79,7 @@ pub fn byte_in(term: &Term) -> Option<u8>
 }
 
 /// Whether a STRING can hold the items.
-pub fn is_string(items: &[Term]) -> bool
+pub(crate) fn is_string(items: &[Term]) -> bool
     ensures { result ≡ canonical.is_string (items_view items.now) }
 {
     if items.len() > 65535 {

@@ -6,7 +6,7 @@ ghost use Rattle.erl_term.specs.Canonical.{magnitude};
 use byteorder::{ByteOrder, LittleEndian};
 
 /// The number in the bytes, the lowest first.
-pub fn number_in(bytes: &[u8]) -> u128
+pub(crate) fn number_in(bytes: &[u8]) -> u128
     requires { length bytes.now ≤ 16 }
     ensures { result ≡ low_first bytes.now }
 {
@@ -17,7 +17,7 @@ pub fn number_in(bytes: &[u8]) -> u128
 }
 
 /// The integer of a sign, 1 for minus, and a magnitude.
-pub fn signed_of(sign: u64, magnitude: u128) -> i128
+pub(crate) fn signed_of(sign: u64, magnitude: u128) -> i128
     requires sign { sign ≤ 1 }
     requires fits { magnitude < 2 ^ 127 + sign }
     ensures { result ≡ signed sign magnitude }
@@ -32,7 +32,7 @@ pub fn signed_of(sign: u64, magnitude: u128) -> i128
 }
 
 /// The bytes of the number, the lowest first, in a buffer, and how many there are.
-pub fn digits_of(n: u128) -> ([u8; 16], usize)
+pub(crate) fn digits_of(n: u128) -> ([u8; 16], usize)
     ensures bound { result.1 ≤ 16 }
     ensures bytes { take result.1 result.0 ≡ magnitude n }
 {

@@ -54,7 +54,7 @@ fn have_words(words: &Words)
     }
 }
 
-pub fn is_binary(bytes: &[u8]) -> bool
+pub(crate) fn is_binary(bytes: &[u8]) -> bool
     ensures { IsTrue result ↔ (AreBytes bytes.now × (length bytes.now < 2 ^ 32)) }
 {
     bytes.len() <= 4294967295
@@ -68,7 +68,7 @@ fn are_words(id: u32, serial: u32, creation: u32)
 
 /// Whether the term is a value of the profile.
 #[cycle(range)]
-pub fn is_in_range(term: &Term) -> bool
+pub(crate) fn is_in_range(term: &Term) -> bool
     ensures { IsTrue result ↔ IsInRange (view term.now) }
 {
     match term {
@@ -86,7 +86,7 @@ pub fn is_in_range(term: &Term) -> bool
 }
 
 /// Whether the tail can stand behind the items.
-pub fn can_end(items: &[Term], tail: &Term) -> bool
+pub(crate) fn can_end(items: &[Term], tail: &Term) -> bool
     ensures { IsTrue result ↔ ((0 < length items.now) × (canonical.is_list (view tail.now) ≡ false)) }
 {
     !items.is_empty() && !is_list(tail)
@@ -101,7 +101,7 @@ fn can_stand(items: &[Term]) -> bool
 }
 
 /// Whether four bytes can say how many items there are.
-pub fn has_count(items: &[Term]) -> bool
+pub(crate) fn has_count(items: &[Term]) -> bool
     ensures { IsTrue result ↔ (length items.now < 2 ^ 32) }
 {
     items.len() <= 4294967295
@@ -121,7 +121,7 @@ fn are_in_range(items: &[Term]) -> bool
 
 /// Whether the spelling of the term has at most so many levels.
 #[cycle(levels)]
-pub fn has_levels(term: &Term, levels: u32) -> bool
+pub(crate) fn has_levels(term: &Term, levels: u32) -> bool
     ensures { IsTrue result ↔ (levels_of (view term.now) ≤ levels) }
 {
     if levels == 0 {
@@ -151,7 +151,7 @@ fn have_levels(items: &[Term], levels: u32) -> bool
 
 /// How many bytes an atom is written in.
 #[tactic(auto, unfolding(crate::specs::Canonical::canonical_atom))]
-pub fn atom_len(atom: &Atom) -> usize
+pub(crate) fn atom_len(atom: &Atom) -> usize
     ensures len { result ≡ length (canonical_atom atom.now) }
     ensures bound { result ≤ 1023 }
     ensures in_range { IsAtomText atom.now }
@@ -222,7 +222,7 @@ pub fn reference_len(reference: &Reference) -> usize
 
 /// How many bytes a binary is written in.
 #[tactic(auto, unfolding(crate::specs::Canonical::canonical_binary))]
-pub fn binary_len(bytes: &[u8]) -> usize
+pub(crate) fn binary_len(bytes: &[u8]) -> usize
     ensures { result ≡ length (canonical_binary bytes.now) }
 {
     bytes.len() + 5

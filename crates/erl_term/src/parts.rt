@@ -58,7 +58,7 @@ impl<'a> AtomRef<'a> {
 
     /// How many bytes the atom is written in.
     #[tactic(auto, unfolding(crate::specs::Canonical::canonical_atom))]
-    pub fn written_len(&self) -> usize
+    pub(crate) fn written_len(&self) -> usize
         ensures len { result ≡ length (canonical_atom self.now) }
         ensures bound { result ≤ 1023 }
     {
@@ -114,7 +114,7 @@ impl<'a> PidRef<'a> {
 
     /// How many bytes the process identifier is written in.
     #[tactic(auto, unfolding(crate::specs::Canonical::canonical_pid))]
-    pub fn written_len(&self) -> usize
+    pub(crate) fn written_len(&self) -> usize
         ensures len { result ≡ length (canonical_pid self.now) }
         ensures bound { result ≤ 1036 }
     {
@@ -153,7 +153,7 @@ impl<'a> ReferenceRef<'a> {
 
     /// How many bytes the reference is written in.
     #[tactic(auto, unfolding(crate::specs::Canonical::canonical_reference))]
-    pub fn written_len(&self) -> usize
+    pub(crate) fn written_len(&self) -> usize
         ensures len { result ≡ length (canonical_reference self.now) }
         ensures bound { result ≤ 1050 }
     {
@@ -275,7 +275,7 @@ ghost use Rattle.std.specs.Str.{chars};
 
 /// The text of an atom whose length, in so many bytes, comes next.
 #[tactic(auto, unfolding(crate::specs::Reading::atom_at))]
-pub fn atom_ref_of(width: usize, bytes: &[u8]) -> Result<(&str, &[u8]), TermError>
+pub(crate) fn atom_ref_of(width: usize, bytes: &[u8]) -> Result<(&str, &[u8]), TermError>
     requires low { 1 ≤ width }
     requires high { width ≤ 8 }
     ensures value { Answers (λ x. (x.0.now, x.1.now)) result (atom_at width bytes.now) }
@@ -287,7 +287,7 @@ pub fn atom_ref_of(width: usize, bytes: &[u8]) -> Result<(&str, &[u8]), TermErro
 
 /// The letters of an atom in Latin-1 whose length, in so many bytes, comes next.
 #[tactic(auto, unfolding(crate::specs::Reading::letters_at))]
-pub fn letters_of(width: usize, bytes: &[u8]) -> Result<(&[u8], &[u8]), TermError>
+pub(crate) fn letters_of(width: usize, bytes: &[u8]) -> Result<(&[u8], &[u8]), TermError>
     requires low { 1 ≤ width }
     requires high { width ≤ 8 }
     ensures value { Answers (λ x. (x.0.now, x.1.now)) result (letters_at width bytes.now) }
@@ -298,7 +298,7 @@ pub fn letters_of(width: usize, bytes: &[u8]) -> Result<(&[u8], &[u8]), TermErro
 }
 
 /// The atom whose length, in so many bytes, and text come next.
-pub fn utf8_ref_of(width: usize, bytes: &[u8]) -> Result<(AtomRef<'_>, &[u8]), TermError>
+pub(crate) fn utf8_ref_of(width: usize, bytes: &[u8]) -> Result<(AtomRef<'_>, &[u8]), TermError>
     requires low { 1 ≤ width }
     requires high { width ≤ 8 }
     ensures { Answers (λ x. (x.0, x.1.now)) result (atom_at width bytes.now) }
@@ -312,7 +312,7 @@ pub fn utf8_ref_of(width: usize, bytes: &[u8]) -> Result<(AtomRef<'_>, &[u8]), T
 
 /// The atom in Latin-1 whose length, in so many bytes, and letters come next.
 #[tactic(auto, unfolding(crate::specs::Reading::latin_at))]
-pub fn latin_ref_of(width: usize, bytes: &[u8]) -> Result<(AtomRef<'_>, &[u8]), TermError>
+pub(crate) fn latin_ref_of(width: usize, bytes: &[u8]) -> Result<(AtomRef<'_>, &[u8]), TermError>
     requires low { 1 ≤ width }
     requires high { width ≤ 8 }
     ensures { Answers (λ x. (x.0, x.1.now)) result (latin_at width bytes.now) }
@@ -351,7 +351,7 @@ fn pid_ref_of(bytes: &[u8]) -> Result<(PidRef<'_>, &[u8]), TermError>
 
 /// The process identifier whose fields come next, behind its tag.
 #[tactic(auto, unfolding(crate::specs::Reading::pid_at))]
-pub fn pid_fields_of(bytes: &[u8]) -> Result<(PidRef<'_>, &[u8]), TermError>
+pub(crate) fn pid_fields_of(bytes: &[u8]) -> Result<(PidRef<'_>, &[u8]), TermError>
     ensures { Answers (λ x. (x.0, x.1.now)) result (pid_at bytes.now) }
 {
     let (node, rest) = node_ref_of(bytes)?;
@@ -418,7 +418,7 @@ fn words_of(count: usize, bytes: &[u8]) -> Result<(Words, &[u8]), TermError>
 
 /// The reference whose fields come next, behind its tag.
 #[tactic(auto, unfolding(crate::specs::Reading::reference_at))]
-pub fn reference_fields_of(bytes: &[u8]) -> Result<(ReferenceRef<'_>, &[u8]), TermError>
+pub(crate) fn reference_fields_of(bytes: &[u8]) -> Result<(ReferenceRef<'_>, &[u8]), TermError>
     ensures { Answers (λ x. (x.0, x.1.now)) result (reference_at bytes.now) }
 {
     let (count, rest) = word_count_of(bytes)?;

@@ -17,7 +17,7 @@ use std::alloc::Global;
 
 /// The term whose spelling stands at the front, and the bytes after it.
 #[tactic(auto, unfolding(crate::specs::Reading::spelling_at))]
-pub fn spelling_of(alloc: Global, bytes: &[u8]) -> Result<(Term, &[u8]), TermError>
+pub(crate) fn spelling_of(alloc: Global, bytes: &[u8]) -> Result<(Term, &[u8]), TermError>
     ensures { Gives (λ x. (view x.0, x.1.now)) result (spelling_at bytes.now) }
 {
     let (version, rest) = byte_of(bytes)?;
@@ -30,7 +30,7 @@ pub fn spelling_of(alloc: Global, bytes: &[u8]) -> Result<(Term, &[u8]), TermErr
 /// The term of at most so many levels at the front, and the bytes after it.
 #[cycle(reader)]
 #[tactic(auto, unfolding(crate::specs::Reading::term_at, crate::specs::Reading::row_with))]
-pub fn term_of(alloc: Global, levels: u32, bytes: &[u8]) -> Result<(Term, &[u8]), TermError>
+pub(crate) fn term_of(alloc: Global, levels: u32, bytes: &[u8]) -> Result<(Term, &[u8]), TermError>
     ensures { Gives (λ x. (view x.0, x.1.now)) result (term_at levels bytes.now) }
 {
     let Some(below) = levels.checked_sub(1) else {
@@ -74,7 +74,7 @@ fn integer_of(bytes: &[u8]) -> Result<(Term, &[u8]), TermError>
 }
 
 #[tactic(auto, unfolding(crate::specs::Reading::big_at))]
-pub fn big_value_of(bytes: &[u8]) -> Result<(i128, &[u8]), TermError>
+pub(crate) fn big_value_of(bytes: &[u8]) -> Result<(i128, &[u8]), TermError>
     ensures { Answers (λ x. (int x.0, x.1.now)) result (big_at bytes.now) }
 {
     let (len, rest) = number_of(bytes, 1, 16, TermError::OutOfProfile(tag::SMALL_BIG))?;

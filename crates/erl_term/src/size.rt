@@ -49,7 +49,7 @@ pub enum Measure {
 impl Measure {
     // The measures of what holds no other term.
 
-    pub fn of_integer(n: i128) -> Measure
+    pub(crate) fn of_integer(n: i128) -> Measure
         ensures { result ≡ measure_of (int n) }
     {
         if is_byte(n) {
@@ -61,7 +61,7 @@ impl Measure {
         })
     }
 
-    pub fn of_atom(name: &AtomRef<'_>) -> Measure
+    pub(crate) fn of_atom(name: &AtomRef<'_>) -> Measure
         ensures { result ≡ measure_of (atom name.now) }
     {
         Measure::Other(Size {
@@ -70,7 +70,7 @@ impl Measure {
         })
     }
 
-    pub fn of_pid(process: &PidRef<'_>) -> Measure
+    pub(crate) fn of_pid(process: &PidRef<'_>) -> Measure
         ensures { result ≡ measure_of (pid process.now) }
     {
         Measure::Other(Size {
@@ -79,7 +79,7 @@ impl Measure {
         })
     }
 
-    pub fn of_reference(made: &ReferenceRef<'_>) -> Measure
+    pub(crate) fn of_reference(made: &ReferenceRef<'_>) -> Measure
         ensures { result ≡ measure_of (reference made.now) }
     {
         Measure::Other(Size {
@@ -88,7 +88,7 @@ impl Measure {
         })
     }
 
-    pub fn of_binary(bytes: &[u8]) -> Measure
+    pub(crate) fn of_binary(bytes: &[u8]) -> Measure
         ensures { result ≡ measure_of (binary bytes.now) }
     {
         Measure::Other(Size {
@@ -98,7 +98,7 @@ impl Measure {
     }
 
     /// The measure of the list of the integers that the bytes are.
-    pub fn of_bytes(bytes: &[u8]) -> Measure
+    pub(crate) fn of_bytes(bytes: &[u8]) -> Measure
         ensures { result ≡ measure_of (list (byte_items bytes.now)) }
     {
         Measure::Proper(Run {
@@ -110,7 +110,7 @@ impl Measure {
     }
 
     /// What the spelling of the term takes.
-    pub fn size(self) -> Size
+    pub(crate) fn size(self) -> Size
         ensures { (t : Data) → self ≡ measure_of t → result ≡ size_of t }
     {
         match self {
@@ -122,7 +122,7 @@ impl Measure {
     }
 
     /// The term as the only item.
-    pub fn alone(self) -> Run
+    pub(crate) fn alone(self) -> Run
         ensures { (t : Data) → self ≡ measure_of t → result ≡ run_of (item t no_items) }
     {
         let size = self.size();
@@ -137,7 +137,7 @@ impl Measure {
 
 impl Run {
     /// No items.
-    pub fn empty() -> Run
+    pub(crate) fn empty() -> Run
         ensures { result ≡ run_of no_items }
     {
         Run {
@@ -149,7 +149,7 @@ impl Run {
     }
 
     /// The items, and then these.
-    pub fn then(self, more: Run) -> Run
+    pub(crate) fn then(self, more: Run) -> Run
         ensures { (ts us : Items) → self ≡ run_of ts → more ≡ run_of us → result ≡ run_of (append_items ts us) }
     {
         Run {
@@ -161,7 +161,7 @@ impl Run {
     }
 
     /// The tuple of the items.
-    pub fn tuple(self) -> Measure
+    pub(crate) fn tuple(self) -> Measure
         ensures { (ts : Items) → self ≡ run_of ts → result ≡ measure_of (tuple ts) }
     {
         Measure::Other(Size {
@@ -172,7 +172,7 @@ impl Run {
 
     /// The items with the tail behind them. A list in the tail goes on with its own items, and no
     /// items leave the tail alone.
-    pub fn join(self, tail: Measure) -> Measure
+    pub(crate) fn join(self, tail: Measure) -> Measure
         ensures { (ts : Items) (t : Data) → self ≡ run_of ts → tail ≡ measure_of t → result ≡ measure_of (joined ts t) }
     {
         match tail {

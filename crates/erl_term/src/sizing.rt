@@ -15,7 +15,7 @@ use crate::tag;
 /// The measure of the term at the front, and the bytes after it.
 #[cycle(sizer)]
 #[tactic(auto, unfolding(crate::specs::Reading::term_at, crate::specs::Reading::row_with, crate::specs::Reading::small_at, crate::specs::Reading::integer_at))]
-pub fn measure_at(levels: u32, bytes: &[u8]) -> Result<(Measure, &[u8]), TermError>
+pub(crate) fn measure_at(levels: u32, bytes: &[u8]) -> Result<(Measure, &[u8]), TermError>
     ensures { Measures measure_of (term_at levels bytes.now) result }
 {
     let Some(below) = levels.checked_sub(1) else {
@@ -130,7 +130,7 @@ fn items_measure_at(below: u32, count: u64, bytes: &[u8]) -> Result<(Run, &[u8])
 
 /// The bytes after the spelling at the front.
 #[tactic(auto, unfolding(crate::specs::Reading::spelling_at))]
-pub fn skip_spelling(bytes: &[u8]) -> Result<&[u8], TermError>
+pub(crate) fn skip_spelling(bytes: &[u8]) -> Result<&[u8], TermError>
     ensures { Skips (spelling_at bytes.now) result }
 {
     let (version, rest) = byte_of(bytes)?;

@@ -11,7 +11,7 @@ use std::alloc::{AllocError, Global};
 
 /// The bytes as the text of an atom, if they are one.
 #[tactic(auto, using(crate::proofs::Texts::the_texts))]
-pub fn atom_text(bytes: &[u8]) -> Option<&str>
+pub(crate) fn atom_text(bytes: &[u8]) -> Option<&str>
     ensures some { is_some result ≡ is_atom_text bytes.now }
     ensures text { IfSome result (λ t. t.now ≡ bytes.now) }
     ensures fits { IfSome result (λ t. length (chars t.now) ≤ 255) }
@@ -24,7 +24,7 @@ pub fn atom_text(bytes: &[u8]) -> Option<&str>
 
 /// The text of letters of Latin-1.
 #[tactic(auto, unfolding(crate::specs::Text::latin_text))]
-pub fn latin_text(alloc: Global, letters: &[u8]) -> Result<String, AllocError>
+pub(crate) fn latin_text(alloc: Global, letters: &[u8]) -> Result<String, AllocError>
     ensures text { IfOk result (λ t. string_bytes t ≡ text.latin_text letters.now) }
     ensures count { IfOk result (λ t. length (chars (string_bytes t)) ≡ length letters.now) }
 {
@@ -36,7 +36,7 @@ pub fn latin_text(alloc: Global, letters: &[u8]) -> Result<String, AllocError>
 }
 
 /// How many bytes the text of an atom has.
-pub fn utf8_len(text: &str) -> usize
+pub(crate) fn utf8_len(text: &str) -> usize
     requires { length (chars text.now) ≤ 255 }
     ensures len { result ≡ length text.now }
     ensures bound { result ≤ 1020 }
@@ -46,7 +46,7 @@ pub fn utf8_len(text: &str) -> usize
 
 /// How many bytes the text of letters of Latin-1 has.
 #[tactic(auto, unfolding(crate::specs::Text::latin_text))]
-pub fn latin_len(letters: &[u8]) -> usize
+pub(crate) fn latin_len(letters: &[u8]) -> usize
     requires { length letters.now ≤ 255 }
     ensures len { result ≡ length (text.latin_text letters.now) }
     ensures bound { result ≤ 1020 }
@@ -85,7 +85,7 @@ fn char_count(text: &[u8]) -> usize
 
 /// Whether fewer than `len` bytes may still become the text of an atom of `len` bytes.
 #[tactic(auto, unfolding(crate::specs::Text::may_become_text))]
-pub fn may_become_text(len: usize, bytes: &[u8]) -> bool
+pub(crate) fn may_become_text(len: usize, bytes: &[u8]) -> bool
     requires { length bytes.now < len }
     ensures { result ≡ text.may_become_text len bytes.now }
 {
