@@ -1,5 +1,5 @@
 -- What is left of some room behind the parts of a term.
-use Rattle.std.proofs.Common.{true, false, Bool, cond, get_or, take, ◌-◌, ◌^◌, ◌≡◌, ℕ, zero, suc, ◌+◌, ◌<◌, ◌≤◌, List, [], ◌∷◌, ◌++◌, length, refl, sym, subst, ap, ◌∙◌, arith}
+use Rattle.std.proofs.Common.{true, false, get_or, take, ◌-◌, ◌^◌, ◌≡◌, ℕ, zero, suc, ◌+◌, ◌<◌, ◌≤◌, List, [], ◌∷◌, length, sym, subst, arith}
 use Rattle.std.specs.Prelude.{Option, Some, None, SomeIff}
 use Rattle.std.specs.Prelude.{pos, negsuc}
 use Rattle.std.proofs.lemmas.Bool.{cond-true, cond-false, and_parts, ltb-true}
@@ -7,8 +7,8 @@ use Rattle.std.proofs.lemmas.List.{length-append}
 use Rattle.erl_term.specs.declared.term.Term.{Term}
 use Rattle.erl_term.specs.Data.{Data, int, atom, tuple, list, improper, binary, pid, reference, Items, no_items, item, count}
 use Rattle.erl_term.specs.View.{view, items_view}
-use Rattle.erl_term.specs.Canonical.{canonical_head, canonical_cells, canonical_list, canonical_items, canonical_term, is_byte, are_byte_items, is_string, is_list, levels_of, most_levels, IsInRange, AreInRange}
-use Rattle.erl_term.specs.Room.{HasRoom, Leaves, HaveRoom, LeavesOfItems}
+use Rattle.erl_term.specs.Canonical.{canonical_head, canonical_list, canonical_items, canonical_term, is_byte, are_byte_items, is_string, is_list, levels_of, most_levels, IsInRange, AreInRange}
+use Rattle.erl_term.specs.Room.{HasRoom, Leaves, LeavesOfItems}
 use Rattle.erl_term.proofs.Canonical.{is_string_parts}
 use Rattle.erl_term.proofs.Terms.{count-view}
 use Rattle.erl_term.proofs.Lengths.{length-items, length-string, length-list, length-cells}

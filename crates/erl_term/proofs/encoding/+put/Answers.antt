@@ -1,4 +1,4 @@
-use Rattle.std.proofs.Common.{◌∙◌, ◌∷◌, [], sym, subst, length, arith, rules, refl}
+use Rattle.std.proofs.Common.{◌∙◌, ◌∷◌, [], sym, subst, length, arith, rules}
 use Rattle.std.proofs.lemmas.Bool.{eqb-true, eqb-false}
 use Rattle.byteorder.specs.Endian.{big_bytes}
 use Rattle.erl_term.specs.declared.term.Term.{the_lemmas}

@@ -1,4 +1,4 @@
-use Rattle.std.proofs.Common.{◌≡◌, ◌≤◌, length, arith, refl, rules}
+use Rattle.std.proofs.Common.{◌≤◌, length, arith, refl}
 use Rattle.erl_term.specs.Canonical.{canonical}
 use Rattle.erl_term.specs.Limits.{limit}
 use Rattle.erl_term.specs.View.{view}

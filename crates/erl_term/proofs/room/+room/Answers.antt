@@ -1,4 +1,4 @@
-use Rattle.std.proofs.Common.{length, sym, ap, arith, ◌∙◌, ◌+◌, ◌-◌, subst, List, refl}
+use Rattle.std.proofs.Common.{length, sym, arith, ◌∙◌, ◌+◌, subst, List, refl}
 use Rattle.std.proofs.lemmas.Bool.{eqb-true, eqb-false, false≢true}
 use Rattle.std.proofs.lemmas.List.{take_all}
 use Rattle.erl_term.specs.declared.term.Term.{Term}
