@@ -1,5 +1,5 @@
 //! The incarnations of a node.
-ghost use Rattle.std.specs.Prelude.{◌≡◌, ◌≤◌, ◌+◌, ◌-◌, ◌^◌, ◌↔◌, IfOk, IsErr, IsOkUnless};
+ghost use Rattle.std.specs.Prelude.{◌≡◌, ◌≤◌, ◌+◌, ◌-◌, ◌^◌, ◌↔◌, IfOk, IsErr, IsOkUnless, MatchOption};
 
 use erl_term::Refusal;
 use std::marker::Model;
@@ -31,6 +31,16 @@ impl Creation {
         ensures { result ≡ 1 }
     {
         Creation { number: 1 }
+    }
+
+    /// The incarnation of this number, which is none where it is 0.
+    pub fn new(number: u32) -> Option<Creation>
+        ensures { MatchOption result (number ≡ 0) (λ c. (c ≡ number) × (1 ≤ number)) }
+    {
+        if number == 0 {
+            return None;
+        }
+        Some(Creation { number })
     }
 
     /// The number of the incarnation, from 1 to 2^32 - 1.

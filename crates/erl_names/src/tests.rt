@@ -108,3 +108,12 @@ fn each_allocation(rt: HostRuntime) -> Result<(), Fail> {
     assert_eq!(rt; reference?.creation, 1);
     Ok(())
 }
+
+#[test]
+fn incarnations_by_number(rt: HostRuntime) {
+    assert_eq!(rt; Creation::new(0).is_none(), true);
+    assert_eq!(rt; Creation::new(1), Some(Creation::first()));
+    let last = Creation::new(4294967295);
+    assert_eq!(rt; last.map(Creation::number), Some(4294967295));
+    assert_eq!(rt; last.map(|creation| creation.next()), Some(Err(Refusal::IdsUsedUp)));
+}
