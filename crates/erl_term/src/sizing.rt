@@ -1,7 +1,8 @@
 //! The same reading with no value and no memory: where the term ends and what its canonical spelling
 //! takes, or the first fault.
 ghost use Rattle.std.specs.Prelude.{◌≤◌};
-ghost use Rattle.erl_term.specs.Reading.{string_at, binary_at, items_with, tuple_with, list_with, term_at, spelling_at};
+ghost use Rattle.erl_term.specs.Data.{atom, pid, reference};
+ghost use Rattle.erl_term.specs.Reading.{seen, small_at, integer_at, big_at, atom_at, latin_at, pid_at, reference_at, string_at, binary_at, items_with, tuple_with, list_with, term_at, spelling_at};
 ghost use Rattle.erl_term.specs.Skipping.{Skips};
 ghost use Rattle.erl_term.specs.Size.{Measures, measure_of, run_of};
 
@@ -14,7 +15,7 @@ use crate::tag;
 
 /// The measure of the term at the front, and the bytes after it.
 #[cycle(sizer)]
-#[tactic(auto, unfolding(crate::specs::Reading::term_at, crate::specs::Reading::row_with, crate::specs::Reading::small_at, crate::specs::Reading::integer_at))]
+#[tactic(auto, unfolding(crate::specs::Reading::term_at, crate::specs::Reading::row_with))]
 pub(crate) fn measure_at(levels: u32, bytes: &[u8]) -> Result<(Measure, &[u8]), TermError>
     ensures { Measures measure_of (term_at levels bytes.now) result }
 {
@@ -23,50 +24,78 @@ pub(crate) fn measure_at(levels: u32, bytes: &[u8]) -> Result<(Measure, &[u8]), 
     };
     let (tag, rest) = byte_of(bytes)?;
     match tag {
-        tag::SMALL_INTEGER => {
-            let (n, rest) = byte_of(rest)?;
-            Ok((Measure::of_integer(i128::from(n)), rest))
-        }
-        tag::INTEGER => {
-            let (n, rest) = word_of(rest)?;
-            Ok((Measure::of_integer(i128::from(n.cast_signed())), rest))
-        }
-        tag::SMALL_BIG => {
-            let (n, rest) = big_value_of(rest)?;
-            Ok((Measure::of_integer(n), rest))
-        }
-        tag::ATOM_UTF8 => {
-            let (atom, rest) = utf8_ref_of(2, rest)?;
-            Ok((Measure::of_atom(&atom), rest))
-        }
-        tag::SMALL_ATOM_UTF8 => {
-            let (atom, rest) = utf8_ref_of(1, rest)?;
-            Ok((Measure::of_atom(&atom), rest))
-        }
+        tag::SMALL_INTEGER => small_measure_at(rest),
+        tag::INTEGER => integer_measure_at(rest),
+        tag::SMALL_BIG => big_measure_at(rest),
+        tag::ATOM_UTF8 => atom_measure_at(2, rest),
+        tag::SMALL_ATOM_UTF8 => atom_measure_at(1, rest),
         tag::SMALL_TUPLE => tuple_measure_at(below, 1, rest),
         tag::LARGE_TUPLE => tuple_measure_at(below, 4, rest),
-        tag::NEW_PID => {
-            let (pid, rest) = pid_fields_of(rest)?;
-            Ok((Measure::of_pid(&pid), rest))
-        }
-        tag::SMALL_ATOM => {
-            let (atom, rest) = latin_ref_of(1, rest)?;
-            Ok((Measure::of_atom(&atom), rest))
-        }
-        tag::ATOM => {
-            let (atom, rest) = latin_ref_of(2, rest)?;
-            Ok((Measure::of_atom(&atom), rest))
-        }
+        tag::NEW_PID => pid_measure_at(rest),
+        tag::SMALL_ATOM => latin_measure_at(1, rest),
+        tag::ATOM => latin_measure_at(2, rest),
         tag::NIL => Ok((Measure::of_bytes(&[]), rest)),
         tag::STRING => string_measure_at(rest),
         tag::LIST => list_measure_at(below, rest),
         tag::BINARY => binary_measure_at(rest),
-        tag::NEWER_REFERENCE => {
-            let (reference, rest) = reference_fields_of(rest)?;
-            Ok((Measure::of_reference(&reference), rest))
-        }
+        tag::NEWER_REFERENCE => reference_measure_at(rest),
         _ => Err(TermError::OutOfProfile(tag)),
     }
+}
+
+#[tactic(auto, unfolding(crate::specs::Reading::small_at))]
+fn small_measure_at(bytes: &[u8]) -> Result<(Measure, &[u8]), TermError>
+    ensures { Measures measure_of (small_at bytes.now) result }
+{
+    let (n, rest) = byte_of(bytes)?;
+    Ok((Measure::of_integer(i128::from(n)), rest))
+}
+
+#[tactic(auto, unfolding(crate::specs::Reading::integer_at))]
+fn integer_measure_at(bytes: &[u8]) -> Result<(Measure, &[u8]), TermError>
+    ensures { Measures measure_of (integer_at bytes.now) result }
+{
+    let (n, rest) = word_of(bytes)?;
+    Ok((Measure::of_integer(i128::from(n.cast_signed())), rest))
+}
+
+fn big_measure_at(bytes: &[u8]) -> Result<(Measure, &[u8]), TermError>
+    ensures { Measures measure_of (big_at bytes.now) result }
+{
+    let (n, rest) = big_value_of(bytes)?;
+    Ok((Measure::of_integer(n), rest))
+}
+
+fn atom_measure_at(width: usize, bytes: &[u8]) -> Result<(Measure, &[u8]), TermError>
+    requires low { 1 ≤ width }
+    requires high { width ≤ 2 }
+    ensures { Measures measure_of (seen atom (atom_at width bytes.now)) result }
+{
+    let (atom, rest) = utf8_ref_of(width, bytes)?;
+    Ok((Measure::of_atom(&atom), rest))
+}
+
+fn latin_measure_at(width: usize, bytes: &[u8]) -> Result<(Measure, &[u8]), TermError>
+    requires low { 1 ≤ width }
+    requires high { width ≤ 2 }
+    ensures { Measures measure_of (seen atom (latin_at width bytes.now)) result }
+{
+    let (atom, rest) = latin_ref_of(width, bytes)?;
+    Ok((Measure::of_atom(&atom), rest))
+}
+
+fn pid_measure_at(bytes: &[u8]) -> Result<(Measure, &[u8]), TermError>
+    ensures { Measures measure_of (seen pid (pid_at bytes.now)) result }
+{
+    let (pid, rest) = pid_fields_of(bytes)?;
+    Ok((Measure::of_pid(&pid), rest))
+}
+
+fn reference_measure_at(bytes: &[u8]) -> Result<(Measure, &[u8]), TermError>
+    ensures { Measures measure_of (seen reference (reference_at bytes.now)) result }
+{
+    let (reference, rest) = reference_fields_of(bytes)?;
+    Ok((Measure::of_reference(&reference), rest))
 }
 
 #[tactic(auto, unfolding(crate::specs::Reading::string_at))]
