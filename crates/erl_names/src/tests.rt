@@ -111,9 +111,9 @@ fn each_allocation(rt: HostRuntime) -> Result<(), Fail> {
 
 #[test]
 fn incarnations_by_number(rt: HostRuntime) {
-    assert_eq!(rt; Creation::new(0).is_none(), true);
+    assert!(rt; Creation::new(0).is_none());
     assert_eq!(rt; Creation::new(1), Some(Creation::first()));
-    let last = Creation::new(4294967295);
-    assert_eq!(rt; last.map(Creation::number), Some(4294967295));
-    assert_eq!(rt; last.map(|creation| creation.next()), Some(Err(Refusal::IdsUsedUp)));
+    let last = Creation::new(4294967295).unwrap_or(Creation::first());
+    assert_eq!(rt; last.number(), 4294967295);
+    assert_eq!(rt; last.next(), Err(Refusal::IdsUsedUp));
 }
