@@ -1,7 +1,7 @@
 //! Writing messages.
 ghost use Rattle.std.specs.Prelude.{◌≡◌, ◌++◌, ◌<◌, ◌^◌, length, IfOk, OnOk, IsOkUnless};
 ghost use Rattle.erl_term.specs.declared.refusal.Refusal.TheVariants as Refusal;
-ghost use Rattle.erl_handshake.specs.Messages.{named, content, written};
+ghost use Rattle.erl_handshake.specs.Messages.{counted, content, written};
 
 use crate::message::ShakeMsg;
 use erl_names::NodeName;
@@ -24,7 +24,7 @@ fn content_len(message: &ShakeMsg) -> usize
 
 /// Writes a name behind its length.
 fn put_name(out: &mut Vec<u8>, name: &NodeName) -> Result<(), AllocError>
-    ensures { OnOk result (out.new.items ≡ out.old.items ++ named name.now) }
+    ensures { OnOk result (out.new.items ≡ out.old.items ++ counted name.now) }
 {
     let text = name.text().as_bytes();
     out.extend_from_slice(&(text.len() as u16).to_be_bytes())?;
