@@ -1,5 +1,5 @@
 -- Numbers and counted texts at the front of bytes.
-use Rattle.std.proofs.Common.{◌≡◌, ℕ, suc, ◌+◌, ◌<◌, ◌≤◌, ◌^◌, List, [], ◌∷◌, ◌++◌, length, take, drop, ap, sym, refl, subst, ◌∙◌, append_assoc, arith, length-take, length-append, length-drop, ◌⊎◌, inl, inr}
+use Rattle.std.proofs.Common.{◌≡◌, ℕ, suc, ◌+◌, ◌<◌, ◌≤◌, ◌^◌, List, [], ◌∷◌, ◌++◌, length, take, drop, ap, sym, refl, subst, ◌∙◌, append_assoc, arith, length-take, length-append, length-drop, ◌⊎◌, inl, inr, ◌-◌, Option, Some, None, MatchOption, Bor, slice_range}
 use Rattle.std.proofs.lemmas.Bool.{cases_lt}
 use Rattle.std.specs.Int.{to_be_bytes, from_be_bytes, w16, w32, w64}
 use Rattle.std.proofs.lemmas.Nat.{from_be_bytes-to_be_bytes_2, from_be_bytes-to_be_bytes_4, from_be_bytes-to_be_bytes_8, be_bytes_2, be_bytes_4, be_bytes_8}
@@ -34,7 +34,7 @@ bytes_rest bytes n h = AreBytes-split bytes (take n bytes) (drop n bytes) h (sym
 with_front : (bytes field rest number : List ℕ) (n : ℕ) → number ≡ field → field ≡ take n bytes → rest ≡ drop n bytes → bytes ≡ number ++ rest
 with_front bytes field rest number n e f r = sym (take-append-drop n bytes) ∙ ap (λ (w : List ℕ). w ++ drop n bytes) (sym (e ∙ f)) ∙ ap (λ (w : List ℕ). number ++ w) (sym r)
 
-front_len : (bytes field : List ℕ) (n : ℕ) → n ≤ length bytes → field ≡ take n bytes → length field ≡ n
+pub front_len : (bytes field : List ℕ) (n : ℕ) → n ≤ length bytes → field ≡ take n bytes → length field ≡ n
 front_len bytes field n le f = ap length f ∙ length-take n bytes ∙ omega arith
 
 pub split_2 : (bytes field rest : List ℕ) (n : ℕ) → AreBytes bytes → 2 ≤ length bytes → field ≡ take 2 bytes → rest ≡ drop 2 bytes → n ≡ from_be_bytes w16 field → bytes ≡ to_be_bytes w16 n ++ rest
@@ -85,8 +85,8 @@ begun_or_not bytes body h b =
     elim b [ inl few ↦ omega arith | inr few ↦ omega arith ]
 
 -- of bytes that aren't only begun the body
-pub whole_body : (bytes body rest : List ℕ) (n : ℕ) → AreBytes bytes → 2 ≤ length bytes → n ≡ from_be_bytes w16 (take 2 bytes) → n < 2 ^ 16 → n ≤ length (drop 2 bytes) → body ≡ take n (drop 2 bytes) → HasBody bytes body
-whole_body bytes body rest n h le e small enough f =
+pub whole_body : (bytes body : List ℕ) (n : ℕ) → AreBytes bytes → 2 ≤ length bytes → n ≡ from_be_bytes w16 (take 2 bytes) → n < 2 ^ 16 → n ≤ length (drop 2 bytes) → body ≡ take n (drop 2 bytes) → HasBody bytes body
+whole_body bytes body n h le e small enough f =
     let len : length body ≡ n = front_len (drop 2 bytes) body n enough f in
     record {
       rest = drop n (drop 2 bytes);
@@ -108,9 +108,17 @@ begun_or_whole bytes h =
             | inl few ↦ inl (inr few)
             | inr all ↦
                 let n = from_be_bytes w16 (take 2 bytes) in
-                inr (take n (drop 2 bytes), whole_body bytes (take n (drop 2 bytes)) [] n h le refl (number_small bytes h) (omega (arith, length-drop 2 bytes)) refl)
+                inr (take n (drop 2 bytes), whole_body bytes (take n (drop 2 bytes)) n h le refl (number_small bytes h) (omega (arith, length-drop 2 bytes)) refl)
           ]
     ]
   where
     number_small : (bytes : List ℕ) → AreBytes bytes → from_be_bytes w16 (take 2 bytes) < 2 ^ 16
-    number_small bytes h = ?
+    number_small bytes h = let a = bytes_front bytes 2 h 0 in let b = bytes_front bytes 2 h 1 in omega arith
+
+-- what a lookup of the counted bytes tells
+pub whole_or_begun : (bytes rest : List ℕ) (n : ℕ) (r : Option (Bor (List ℕ))) → AreBytes bytes → 2 ≤ length bytes → rest ≡ drop 2 bytes → n ≡ from_be_bytes w16 (take 2 bytes) → n < 2 ^ 16
+    → MatchOption r ((n < 0) ⊎ (length rest < n)) (λ x. (0 ≤ n) × (n ≤ length rest) × (x.now ≡ slice_range rest 0 n) × (length x.now + 0 ≡ n))
+    → MatchOption r (IsBegun bytes) (λ body. HasBody bytes body.now)
+whole_or_begun bytes rest n None h le f e small few = inr (elim few [ inl low ↦ absurd (omega arith) | inr short ↦ omega (arith, ap length f ∙ length-drop 2 bytes) ])
+whole_or_begun bytes rest n (Some x) h le f e small all =
+    whole_body bytes x.now n h le e small (let a = all.1 in let b = ap length f in omega arith) (all.2 ∙ ap (λ (k : ℕ). take k rest) (let z : n - 0 ≡ n = omega arith in z) ∙ ap (λ (w : List ℕ). take n w) f)

@@ -1,5 +1,5 @@
 //! Reading messages.
-ghost use Rattle.std.specs.Prelude.{◌≡◌, ◌≢◌, ◌⊎◌, ◌∷◌, ◌++◌, ◌<◌, List, ℕ, Option, Some, None, Result, Ok, Err, IfOk, IfErr, IfSome, IfNone, IsErrOf, MatchOption, length};
+ghost use Rattle.std.specs.Prelude.{◌≡◌, ◌≢◌, ◌⊎◌, ◌∷◌, ◌++◌, ◌<◌, ◌^◌, List, ℕ, Option, Some, None, Result, Ok, Err, IfOk, IfErr, IfSome, IfNone, IsErrOf, MatchOption, length};
 ghost use Rattle.std.specs.Int.{to_be_bytes, w32, w64};
 ghost use Rattle.erl_term.specs.declared.refusal.Refusal.{Refusal};
 ghost use Rattle.erl_handshake.specs.declared.message.ShakeMsg.{ShakeMsg as TheMessage};
@@ -17,7 +17,7 @@ use std::alloc::Global;
 
 /// The fields of a send_name before the name, and what follows them.
 fn send_name_fields(bytes: &[u8]) -> Option<(u64, u32, &[u8])>
-    ensures { MatchOption result (length bytes.now < 12) (λ x. bytes.now ≡ to_be_bytes w64 x.0 ++ (to_be_bytes w32 x.1 ++ x.2.now)) }
+    ensures { MatchOption result (length bytes.now < 12) (λ x. (x.0 < 2 ^ 64) × (x.1 < 2 ^ 32) × (bytes.now ≡ to_be_bytes w64 x.0 ++ (to_be_bytes w32 x.1 ++ x.2.now))) }
 {
     let (flags, bytes) = u64_at(bytes)?;
     let (creation, bytes) = u32_at(bytes)?;
@@ -41,7 +41,7 @@ fn send_name_of(alloc: Global, bytes: &[u8]) -> Result<ShakeMsg, Refusal>
 
 /// The fields of a challenge before the name, and what follows them.
 fn challenge_fields(bytes: &[u8]) -> Option<(u64, u32, u32, &[u8])>
-    ensures { MatchOption result (length bytes.now < 16) (λ x. bytes.now ≡ to_be_bytes w64 x.0 ++ (to_be_bytes w32 x.1 ++ (to_be_bytes w32 x.2 ++ x.3.now))) }
+    ensures { MatchOption result (length bytes.now < 16) (λ x. (x.0 < 2 ^ 64) × (x.1 < 2 ^ 32) × (x.2 < 2 ^ 32) × (bytes.now ≡ to_be_bytes w64 x.0 ++ (to_be_bytes w32 x.1 ++ (to_be_bytes w32 x.2 ++ x.3.now)))) }
 {
     let (flags, bytes) = u64_at(bytes)?;
     let (challenge, bytes) = u32_at(bytes)?;
@@ -82,23 +82,33 @@ fn challenge_ack_of(bytes: &[u8]) -> Option<ShakeMsg>
     Some(ShakeMsg::ChallengeAck { digest })
 }
 
+/// The message without a name that begins with this letter, behind which these bytes stand.
+fn nameless_of(letter: u8, bytes: &[u8]) -> Option<ShakeMsg>
+    requires { letter ≢ 78 }
+    ensures { MatchOption result ((role : TheRole) (message : TheMessage) → ¬ IsBody role message (letter ∷ bytes.now)) (λ message. (role : TheRole) → IsBody role message (letter ∷ bytes.now)) }
+{
+    match letter {
+        b's' => Some(ShakeMsg::Status(Status::read(bytes)?)),
+        b'r' => challenge_reply_of(bytes),
+        b'a' => challenge_ack_of(bytes),
+        _ => None,
+    }
+}
+
 /// The message of which the bytes are the body.
 fn message_of(alloc: Global, role: Role, body: &[u8]) -> Result<ShakeMsg, Refusal>
     ensures { Decides (λ message. IsBody role message body.now) result }
 {
-    let answer = match body {
-        [b'N', fields @ ..] => {
-            return match role {
-                Role::Acceptor => send_name_of(alloc, fields),
-                Role::Dialer => challenge_of(alloc, fields),
-            };
-        }
-        [b's', text @ ..] => Status::read(text).map(ShakeMsg::Status),
-        [b'r', fields @ ..] => challenge_reply_of(fields),
-        [b'a', digest @ ..] => challenge_ack_of(digest),
-        _ => None,
+    let Some((letter, bytes)) = body.split_first() else {
+        return Err(Refusal::BadMessage);
     };
-    answer.ok_or(Refusal::BadMessage)
+    if *letter != b'N' {
+        return nameless_of(*letter, bytes).ok_or(Refusal::BadMessage);
+    }
+    match role {
+        Role::Acceptor => send_name_of(alloc, bytes),
+        Role::Dialer => challenge_of(alloc, bytes),
+    }
 }
 
 /// The message at the front, for a reader of this role, and how many bytes it takes. None asks for
