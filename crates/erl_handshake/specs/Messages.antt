@@ -19,15 +19,15 @@ status_text status.Alive = codes "alive"
 status_text status.True = codes "true"
 status_text status.False = codes "false"
 
--- a name, behind its length in two bytes
-abbrev pub named : List ℕ → List ℕ
-named name = to_be_bytes w16 (length name) ++ name
+-- bytes behind their length in two bytes
+abbrev pub counted : List ℕ → List ℕ
+counted bytes = to_be_bytes w16 (length bytes) ++ bytes
 
 -- the table: the letter N, s, r or a, and the fields
 abbrev pub content : ShakeMsg → List ℕ
-content (SendName flags creation name) = 78 ∷ (to_be_bytes w64 flags ++ (to_be_bytes w32 creation ++ named name))
+content (SendName flags creation name) = 78 ∷ (to_be_bytes w64 flags ++ (to_be_bytes w32 creation ++ counted name))
 content (Status s) = 115 ∷ status_text s
-content (Challenge flags challenge creation name) = 78 ∷ (to_be_bytes w64 flags ++ (to_be_bytes w32 challenge ++ (to_be_bytes w32 creation ++ named name)))
+content (Challenge flags challenge creation name) = 78 ∷ (to_be_bytes w64 flags ++ (to_be_bytes w32 challenge ++ (to_be_bytes w32 creation ++ counted name)))
 content (ChallengeReply challenge digest) = 114 ∷ (to_be_bytes w32 challenge ++ digest)
 content (ChallengeAck digest) = 97 ∷ digest
 
@@ -62,10 +62,6 @@ pub record IsBody (role : Role) (message : ShakeMsg) (body : List ℕ) : Type 0 
   pub is_for : IsFor role message
   pub may_follow : MayFollow message rest
   pub parts : body ≡ content message ++ rest
-
--- bytes behind their length in two bytes
-abbrev pub counted : List ℕ → List ℕ
-counted body = to_be_bytes w16 (length body) ++ body
 
 -- the whole message
 pub record IsShake (role : Role) (message : ShakeMsg) (bytes : List ℕ) : Type 0 where

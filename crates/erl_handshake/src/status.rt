@@ -28,14 +28,17 @@ impl Status {
     pub fn read(text: &[u8]) -> Option<Status>
         ensures { MatchOption result ((status : TheStatus) → text.now ≢ status_text status) (λ status. text.now ≡ status_text status) }
     {
+        let Ok(text) = str::from_utf8(text) else {
+            return None;
+        };
         match text {
-            b"ok" => Some(Status::Ok),
-            b"ok_simultaneous" => Some(Status::OkSimultaneous),
-            b"nok" => Some(Status::Nok),
-            b"not_allowed" => Some(Status::NotAllowed),
-            b"alive" => Some(Status::Alive),
-            b"true" => Some(Status::True),
-            b"false" => Some(Status::False),
+            "ok" => Some(Status::Ok),
+            "ok_simultaneous" => Some(Status::OkSimultaneous),
+            "nok" => Some(Status::Nok),
+            "not_allowed" => Some(Status::NotAllowed),
+            "alive" => Some(Status::Alive),
+            "true" => Some(Status::True),
+            "false" => Some(Status::False),
             _ => None,
         }
     }
