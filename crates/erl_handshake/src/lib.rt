@@ -23,6 +23,7 @@ mod identity;
 mod introduction;
 mod message;
 mod reading;
+mod role_laws;
 mod status;
 mod turn;
 mod writing;
@@ -36,6 +37,10 @@ pub use flags::{Flag, Flags};
 pub use identity::Identity;
 pub use message::{Role, ShakeMsg};
 pub use reading::read;
+pub use role_laws::{done_only_by_digest, later_attempt_goes_on, one_of_two_dials};
 pub use status::Status;
 pub use turn::{Next, Outcome};
 pub use writing::write;
+
+#[cfg(test)]
+mod role_tests;
