@@ -1,1 +1,3 @@
 pub mod Side
+pub mod Arrivals
+pub mod Halves

@@ -8,8 +8,13 @@
 //! Nodes.)
 #![tactic(auto)]
 
+mod arriving;
+mod half;
+mod one_item;
+mod side;
 mod state;
 mod taken;
 
+pub use side::Side;
 pub use state::State;
 pub use taken::{Fault, Taken};
