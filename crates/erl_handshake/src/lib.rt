@@ -11,6 +11,7 @@
 mod digesting;
 mod fields;
 mod flags;
+mod laws;
 mod message;
 mod reading;
 mod status;
@@ -18,6 +19,7 @@ mod writing;
 
 pub use digesting::digest;
 pub use flags::{Flag, Flags};
+pub use laws::{digests, flags_by_bits, one_answer, one_message, read_again, written_is_shake};
 pub use message::{Role, ShakeMsg};
 pub use reading::read;
 pub use status::Status;
