@@ -24,3 +24,6 @@ pub use message::{Role, ShakeMsg};
 pub use reading::read;
 pub use status::Status;
 pub use writing::write;
+
+#[cfg(test)]
+mod tests;
