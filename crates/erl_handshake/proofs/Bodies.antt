@@ -1,12 +1,12 @@
 -- The bodies of messages: what a body with a letter in front is, and that a body is of one message.
-use Rattle.std.proofs.Common.{Bool, true, false, ◌||◌, ◌&&◌, ◌==◌, nat_le, get_or, rules, if◌then◌else◌, codes, ◌≡◌, ℕ, ◌+◌, ◌<◌, ◌≤◌, ◌^◌, List, [], ◌∷◌, ◌++◌, length, take, drop, ap, sym, refl, subst, ◌∙◌, append_assoc, arith, length-append, ◌⊎◌, inl, inr}
+use Rattle.std.proofs.Common.{Bool, true, false, ◌||◌, ◌&&◌, ◌==◌, nat_le, get_or, rules, if◌then◌else◌, codes, ◌≡◌, ℕ, ◌<◌, ◌≤◌, ◌^◌, List, [], ◌∷◌, ◌++◌, length, drop, ap, sym, refl, subst, ◌∙◌, append_assoc, arith, ◌⊎◌, inl, inr}
 use Rattle.std.proofs.lemmas.List.{append-nil}
 use Rattle.std.specs.Str.{bytes_eq, IsUtf8, IsAscii}
 use Rattle.std.proofs.lemmas.Str.{IsUtf8-from_ascii}
-use Rattle.std.specs.Int.{to_be_bytes, w16, w32, w64}
+use Rattle.std.specs.Int.{to_be_bytes, w32, w64}
 use Rattle.std.specs.Int.{is_in_range}
 use Rattle.std.specs.Char.{is_ascii_alphanumeric}
-use Rattle.std.proofs.lemmas.Bool.{eqb-true, leb-true, cases_lt}
+use Rattle.std.proofs.lemmas.Bool.{eqb-true, leb-true}
 use Rattle.std.proofs.lemmas.Str.{IsAscii-append}
 use Rattle.std.proofs.lemmas.Str.Ascii.{IsAscii-from_all}
 use Rattle.erl_names.specs.Name.{IsNodeName, IsWord, is_name_byte, is_host_byte}
@@ -16,10 +16,10 @@ use Rattle.erl_handshake.specs.declared.message.Role.{Role}
 use Rattle.erl_handshake.specs.declared.message.Role.TheVariants.{Dialer, Acceptor}
 use Rattle.erl_handshake.specs.declared.message.ShakeMsg.{ShakeMsg}
 use Rattle.erl_handshake.specs.declared.message.ShakeMsg.TheVariants.{SendName, Status, Challenge, ChallengeReply, ChallengeAck}
-use Rattle.erl_handshake.specs.Messages.{status_text, counted, content, HasFields, IsFor, MayFollow, IsBody}
+use Rattle.erl_handshake.specs.Messages.{status_text, counted, IsBody}
 use Rattle.erl_handshake.specs.Answer.{HasBody}
 use Rattle.erl_handshake.specs.Reading.{BeginsWithName}
-use Rattle.erl_handshake.proofs.Bytes.{one_number_2, one_number_4, one_number_8, one_counted, same_fronts}
+use Rattle.erl_handshake.proofs.Bytes.{one_number_4, one_number_8, one_counted}
 
 -- ---- what stands behind a letter
 
@@ -65,7 +65,7 @@ pub record IsAck (message : ShakeMsg) (bytes : List ℕ) : Type 0 where
   pub len : length bytes ≡ 16
   pub message_is : message ≡ ChallengeAck bytes
 
-same_letter : (x y : ℕ) (a b : List ℕ) → x ∷ a ≡ y ∷ b → x ≡ y
+pub same_letter : (x y : ℕ) (a b : List ℕ) → x ∷ a ≡ y ∷ b → x ≡ y
 same_letter x y a b e = cc
 
 behind : {x y : ℕ} (a b : List ℕ) → x ∷ a ≡ y ∷ b → a ≡ b
@@ -195,7 +195,7 @@ challenge_named flags challenge creation tail bytes p q r e m b =
 
 -- ---- a body is of one message
 
-short_name : (name : List ℕ) → IsNodeName name → length name < 2 ^ 16
+pub short_name : (name : List ℕ) → IsNodeName name → length name < 2 ^ 16
 short_name name n = let s = n.short in omega arith
 
 one_name : (tail a b : List ℕ) → BeginsWithName tail a → BeginsWithName tail b → a ≡ b
@@ -287,7 +287,7 @@ same_reply m k bytes p q =
     p.message_is ∙ ap (λ (x : ℕ). ChallengeReply x p.digest) h.0 ∙ ap (λ (w : List ℕ). ChallengeReply q.challenge w) h.1 ∙ sym q.message_is
 
 -- the status of a text, if it is the text of one
-status_in : List ℕ → TheStatus
+pub status_in : List ℕ → TheStatus
 status_in text =
     if bytes_eq text (codes "ok") then status.Ok
     else (if bytes_eq text (codes "ok_simultaneous") then status.OkSimultaneous
@@ -297,7 +297,7 @@ status_in text =
     else (if bytes_eq text (codes "true") then status.True
     else status.False)))))
 
-status_back : (s : TheStatus) → status_in (status_text s) ≡ s
+pub status_back : (s : TheStatus) → status_in (status_text s) ≡ s
 unfolding status_in
 status_back status.Ok = refl
 status_back status.OkSimultaneous = refl
@@ -325,7 +325,7 @@ status_utf8 status.False = search rules
 moved : (role r : Role) (m : ShakeMsg) (body b : List ℕ) → role ≡ r → body ≡ b → IsBody role m body → IsBody r m b
 moved role r m body b e f p = subst (λ (x : Role). IsBody x m b) e (subst (IsBody role m) f p)
 
-with_letter : (letter : ℕ) (body w : List ℕ) → body ≡ letter ∷ w → body ≡ letter ∷ drop 1 body
+pub with_letter : (letter : ℕ) (body w : List ℕ) → body ≡ letter ∷ w → body ≡ letter ∷ drop 1 body
 with_letter letter body w e = e ∙ ap (λ (v : List ℕ). letter ∷ v) (sym (ap (λ (v : List ℕ). drop 1 v) e))
 
 -- a body is of one message

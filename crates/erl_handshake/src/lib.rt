@@ -21,6 +21,7 @@ mod fields;
 mod flags;
 mod identity;
 mod introduction;
+mod laws;
 mod message;
 mod reading;
 mod role_laws;
@@ -35,6 +36,7 @@ pub use dialer::{Dialer, DialerState};
 pub use digesting::digest;
 pub use flags::{Flag, Flags};
 pub use identity::Identity;
+pub use laws::{digests, flags_by_bits, one_answer, one_message, read_again, written_is_shake};
 pub use message::{Role, ShakeMsg};
 pub use reading::read;
 pub use role_laws::{done_only_by_digest, later_attempt_goes_on, one_of_two_dials};
@@ -44,3 +46,4 @@ pub use writing::write;
 
 #[cfg(test)]
 mod role_tests;
+mod tests;

@@ -1,4 +1,4 @@
-use Rattle.std.proofs.Common.{◌≡◌, ◌∙◌, ◌+◌, ◌<◌, ◌≤◌, length, take, drop, ap, sym, arith, inl, inr}
+use Rattle.std.proofs.Common.{◌∙◌, ap, arith}
 use Rattle.std.specs.Int.{from_be_bytes, w16}
 use Rattle.erl_handshake.proofs.Bytes.{whole_or_begun}
 use Rattle.erl_handshake.proofs.fields.counted_at.Goals as goal

@@ -1,4 +1,4 @@
-use Rattle.std.proofs.Common.{◌+◌, length, Option, Some, None, Ok, Err, sym, ◌∙◌, inl, inr}
+use Rattle.std.proofs.Common.{◌+◌, length, Some, None, Ok, inl}
 use Rattle.std.proofs.lemmas.Result.{err_from_is_err_and}
 use Rattle.erl_handshake.proofs.Dues.{at_front, due_once, err_only, due_memory}
 use Rattle.erl_handshake.proofs.reading.read.Goals as goal
