@@ -46,4 +46,5 @@ pub use writing::write;
 
 #[cfg(test)]
 mod role_tests;
+#[cfg(test)]
 mod tests;
