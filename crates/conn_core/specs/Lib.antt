@@ -1,3 +1,4 @@
 pub mod Side
 pub mod Arrivals
 pub mod Halves
+pub mod FaultNumbers

@@ -18,3 +18,6 @@ mod taken;
 pub use side::Side;
 pub use state::State;
 pub use taken::{Fault, Taken};
+
+#[cfg(test)]
+mod tests;
