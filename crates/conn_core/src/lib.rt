@@ -10,11 +10,13 @@
 
 mod arriving;
 mod half;
+mod laws;
 mod one_item;
 mod side;
 mod state;
 mod taken;
 
+pub use laws::up_only_by_digest;
 pub use side::Side;
 pub use state::State;
 pub use taken::{Fault, Taken};
