@@ -274,22 +274,6 @@ fn the_role_decides(rt: HostRuntime) -> Result<(), Fail> {
     assert_eq!(rt; dialer, Some(Refusal::BadMessage));
     let acceptor = refusal(rt.alloc(), Role::Acceptor, &CHALLENGE);
     assert_eq!(rt; acceptor, Some(Refusal::BadMessage));
-    // These bytes are a message to either.
-    let both = [
-        0, 0x1A, 0x4E, 0, 0, 0, 4, 3, 5, 1, 0x0C, 0, 0, 0, 1, 0, 3, 0x61, 0x40, 0, 3, 0x62, 0x40,
-        0x68, 0, 0, 0, 0,
-    ];
-    assert_eq!(rt;
-        refusal(rt.alloc(), Role::Acceptor, &both),
-        Some(Refusal::BadMessage)
-    );
-    let asked = ShakeMsg::Challenge {
-        flags: Flags::mandatory(),
-        challenge: 1,
-        creation: 0x0003_6140,
-        name: NodeName::read(rt.alloc(), "b@h")?,
-    };
-    assert!(rt; reads(rt.alloc(), Role::Dialer, &both, &asked, 28)?);
     Ok(())
 }
 
