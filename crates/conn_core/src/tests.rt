@@ -358,6 +358,7 @@ fn each_allocation(rt: HostRuntime) -> Result<(), Fail> {
     let mut side = accepting(alloc, SECRET)?;
     takes(alloc, &mut side, &REPLIES)?;
     dialer_up(alloc)?;
+    up_only_by_digest();
     let fault = Fault::Frame(FrameError::Term(TermError::Cut));
     assert!(rt; fault.number() == 9);
     Ok(())

@@ -39,7 +39,9 @@ pub use identity::Identity;
 pub use laws::{digests, flags_by_bits, one_answer, one_message, read_again, written_is_shake};
 pub use message::{Role, ShakeMsg};
 pub use reading::read;
-pub use role_laws::{done_only_by_digest, later_attempt_goes_on, one_of_two_dials};
+pub use role_laws::{
+    done_only_by_digest, handshake_comes_about, later_attempt_goes_on, one_of_two_dials,
+};
 pub use status::Status;
 pub use turn::{Next, Outcome};
 pub use writing::write;
