@@ -121,6 +121,24 @@ fn is_tick(alloc: Global, side: &mut Side) -> Result<bool, Refusal> {
     }
 }
 
+fn stands(side: &Side, state: State, peer_creation: Option<u32>) -> bool {
+    side.state() == state && side.peer_creation() == peer_creation
+}
+
+fn is_between(side: &Side, dialer: &str, count: u64, peer: &str) -> bool {
+    let trunk = side.trunk();
+    trunk.dialer.text() == dialer && trunk.count == count && side.peer().text() == peer
+}
+
+fn loses(side: &mut Side, state: State) -> bool {
+    side.lose().is_ok() && side.state() == state
+}
+
+/// Whether the side can't be lost, and stays as it was.
+fn keeps(side: &mut Side, state: State) -> bool {
+    matches!(&side.lose(), Err(Refusal::NotLive)) && side.state() == state
+}
+
 /// Takes a message that goes through. None of these tests goes on where it doesn't.
 fn takes(alloc: Global, side: &mut Side, bytes: &[u8]) -> Result<(), Refusal> {
     match &arrives(alloc, side, bytes)? {
@@ -158,42 +176,52 @@ fn asked(alloc: Global) -> Result<Side, Refusal> {
     Ok(side)
 }
 
+/// The side of a@h as its node makes it, and the first message.
+#[test]
+fn a_side_that_dials(rt: HostRuntime) -> Result<(), Fail> {
+    let alloc = rt.alloc();
+    let own = identity(alloc, "a@h", SECRET)?;
+    let (side, message) = Side::dial(own, 7, NodeName::read(alloc, "b@h")?, CHALLENGE)?;
+    assert!(rt; is_written(alloc, Some(&message), Some(&SEND_NAME))?);
+    assert!(rt; stands(&side, State::Dialing, None));
+    assert!(rt; is_between(&side, "a@h", 7, "b@h"));
+    Ok(())
+}
+
 #[test]
 fn full_handshake_of_the_dialer(rt: HostRuntime) -> Result<(), Fail> {
     let alloc = rt.alloc();
-    let own = identity(alloc, "a@h", SECRET)?;
-    let (mut side, message) = Side::dial(own, 7, NodeName::read(alloc, "b@h")?, CHALLENGE)?;
-    assert!(rt; write(alloc, &message)?.as_slice() == &SEND_NAME[..]);
-    assert!(rt; side.state() == State::Dialing);
-    assert!(rt; side.peer().text() == "b@h");
-    assert!(rt; side.trunk().dialer.text() == "a@h");
-    assert!(rt; side.trunk().count == 7);
+    let mut side = dialing(alloc)?;
     assert!(rt; is_answered(alloc, &mut side, &OK, None)?);
-    assert!(rt; side.peer_creation().is_none());
+    assert!(rt; stands(&side, State::Dialing, None));
     assert!(rt; is_answered(alloc, &mut side, &CHALLENGES, Some(&REPLIES))?);
-    assert!(rt; side.state() == State::Dialing);
+    assert!(rt; stands(&side, State::Dialing, Some(1)));
     assert!(rt; is_answered(alloc, &mut side, &ACKNOWLEDGES, None)?);
-    assert!(rt; side.state() == State::Up);
-    assert!(rt; side.peer_creation() == Some(1));
-    assert!(rt; is_tick(alloc, &mut side)?);
+    assert!(rt; stands(&side, State::Up, Some(1)));
+    Ok(())
+}
+
+#[test]
+fn a_side_that_is_dialed(rt: HostRuntime) -> Result<(), Fail> {
+    let alloc = rt.alloc();
+    let mut side = fresh(alloc, SECRET)?;
+    assert!(rt; stands(&side, State::Fresh, None));
+    assert!(rt; is_between(&side, "a@h", 1, "a@h"));
+    assert!(rt; is_answered(alloc, &mut side, &SEND_NAME, None)?);
+    let admission = side.admit(ALONE)?;
+    assert!(rt; is_written(alloc, admission.next.send.as_ref(), Some(&OK))?);
+    let next = side.go_on()?;
+    assert!(rt; is_written(alloc, next.send.as_ref(), Some(&CHALLENGES))?);
     Ok(())
 }
 
 #[test]
 fn full_handshake_of_the_acceptor(rt: HostRuntime) -> Result<(), Fail> {
     let alloc = rt.alloc();
-    let mut side = fresh(alloc, SECRET)?;
-    assert!(rt; side.state() == State::Fresh);
-    assert!(rt; side.peer().text() == "a@h");
-    assert!(rt; is_answered(alloc, &mut side, &SEND_NAME, None)?);
-    let admission = side.admit(ALONE)?;
-    assert!(rt; is_written(alloc, admission.next.send.as_ref(), Some(&OK))?);
-    let next = side.go_on()?;
-    assert!(rt; is_written(alloc, next.send.as_ref(), Some(&CHALLENGES))?);
-    assert!(rt; side.state() == State::Accepting);
+    let mut side = accepting(alloc, SECRET)?;
+    assert!(rt; stands(&side, State::Accepting, Some(1)));
     assert!(rt; is_answered(alloc, &mut side, &REPLIES, Some(&ACKNOWLEDGES))?);
-    assert!(rt; side.state() == State::Up);
-    assert!(rt; side.peer_creation() == Some(1));
+    assert!(rt; stands(&side, State::Up, Some(1)));
     assert!(rt; is_tick(alloc, &mut side)?);
     Ok(())
 }
@@ -255,24 +283,37 @@ fn wrong_cookies(rt: HostRuntime) -> Result<(), Fail> {
     Ok(())
 }
 
-/// Bytes behind the name are passed over; another length, letter or name isn't.
+/// A send_name with this byte at this place.
+fn with(place: usize, byte: u8) -> [u8; 20] {
+    let mut bytes = SEND_NAME;
+    if place < bytes.len() {
+        bytes[place] = byte;
+    }
+    bytes
+}
+
+/// Another name, a missing flag, another letter, and a message of no bytes.
 #[test]
 fn other_names(rt: HostRuntime) -> Result<(), Fail> {
+    let alloc = rt.alloc();
+    let faults: [(usize, u8, u8); 3] = [(17, 0x63, 20), (7, 1, 11), (2, 0x6E, 10)];
+    for (place, byte, number) in faults {
+        let mut side = fresh(alloc, SECRET)?;
+        assert!(rt; is_broken(alloc, &mut side, &with(place, byte), number, State::Gone)?);
+    }
+    let mut side = fresh(alloc, SECRET)?;
+    assert!(rt; is_broken(alloc, &mut side, &[0, 0], 10, State::Gone)?);
+    Ok(())
+}
+
+/// Bytes behind the name are passed over.
+#[test]
+fn bytes_behind_the_name(rt: HostRuntime) -> Result<(), Fail> {
     let alloc = rt.alloc();
     let mut long = [0; 22];
     long[..20].copy_from_slice(&SEND_NAME);
     long[1] = 20;
     assert!(rt; is_answered(alloc, &mut fresh(alloc, SECRET)?, &long, None)?);
-    let mut other = SEND_NAME;
-    other[17] = 0x63;
-    assert!(rt; is_broken(alloc, &mut fresh(alloc, SECRET)?, &other, 20, State::Gone)?);
-    let mut weak = SEND_NAME;
-    weak[7] = 1;
-    assert!(rt; is_broken(alloc, &mut fresh(alloc, SECRET)?, &weak, 11, State::Gone)?);
-    let mut letter = SEND_NAME;
-    letter[2] = 0x6E;
-    assert!(rt; is_broken(alloc, &mut fresh(alloc, SECRET)?, &letter, 10, State::Gone)?);
-    assert!(rt; is_broken(alloc, &mut fresh(alloc, SECRET)?, &[0, 0], 10, State::Gone)?);
     Ok(())
 }
 
@@ -301,7 +342,6 @@ fn faulty_frames(rt: HostRuntime) -> Result<(), Fail> {
     for (bytes, number) in faults {
         let mut side = dialer_up(alloc)?;
         assert!(rt; is_broken(alloc, &mut side, bytes, number, State::Losing)?);
-        assert!(rt; side.peer_creation() == Some(1));
         assert!(rt; matches!(&side.arrive(alloc, &[0, 0, 0, 0], 0), Err(Refusal::NotLive)));
     }
     Ok(())
@@ -311,19 +351,21 @@ fn faulty_frames(rt: HostRuntime) -> Result<(), Fail> {
 fn lost_sides(rt: HostRuntime) -> Result<(), Fail> {
     let alloc = rt.alloc();
     let mut up = dialer_up(alloc)?;
-    assert!(rt; up.lose().is_ok());
-    assert!(rt; up.state() == State::Losing);
-    assert!(rt; matches!(&up.lose(), Err(Refusal::NotLive)));
+    assert!(rt; loses(&mut up, State::Losing));
+    assert!(rt; keeps(&mut up, State::Losing));
     up.close();
-    assert!(rt; up.state() == State::Gone);
-    assert!(rt; matches!(&up.lose(), Err(Refusal::NotLive)));
-    assert!(rt; up.peer_creation().is_none());
-    let mut asked = asked(alloc)?;
-    assert!(rt; asked.lose().is_ok());
-    assert!(rt; asked.state() == State::Gone);
-    let mut fresh = fresh(alloc, SECRET)?;
-    assert!(rt; matches!(&fresh.lose(), Err(Refusal::NotLive)));
-    assert!(rt; fresh.state() == State::Fresh);
+    assert!(rt; keeps(&mut up, State::Gone));
+    assert!(rt; stands(&up, State::Gone, None));
+    Ok(())
+}
+
+#[test]
+fn lost_attempts(rt: HostRuntime) -> Result<(), Fail> {
+    let alloc = rt.alloc();
+    assert!(rt; loses(&mut asked(alloc)?, State::Gone));
+    assert!(rt; loses(&mut dialing(alloc)?, State::Gone));
+    assert!(rt; loses(&mut accepting(alloc, SECRET)?, State::Gone));
+    assert!(rt; keeps(&mut fresh(alloc, SECRET)?, State::Fresh));
     Ok(())
 }
 
