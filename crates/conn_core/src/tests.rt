@@ -435,24 +435,23 @@ fn lost_attempts(rt: HostRuntime) -> Result<(), Fail> {
     Ok(())
 }
 
-/// How many of the beginnings of these bytes are taken for one item.
-fn fronts(side: &Side, bytes: &[u8]) -> usize {
-    let mut taken = 0;
+/// Whether a beginning of these bytes is taken for one item.
+fn has_whole_front(side: &Side, bytes: &[u8]) -> bool {
     for end in 0..bytes.len() {
         if side.is_one_item(&bytes[..end]) {
-            taken += 1;
+            return true;
         }
     }
-    taken
+    false
 }
 
 /// An item that is cut at any byte is no item.
 #[test]
 fn cut_items(rt: HostRuntime) -> Result<(), Fail> {
     let alloc = rt.alloc();
-    assert!(rt; fronts(&fresh(alloc, SECRET)?, &SEND_NAME) == 0);
-    assert!(rt; fronts(&dialing(alloc)?, &CHALLENGES) == 0);
-    assert!(rt; fronts(&dialer_up(alloc)?, &[0, 0, 0, 2, 112, 131]) == 0);
+    assert!(rt; !has_whole_front(&fresh(alloc, SECRET)?, &SEND_NAME));
+    assert!(rt; !has_whole_front(&dialing(alloc)?, &CHALLENGES));
+    assert!(rt; !has_whole_front(&dialer_up(alloc)?, &[0, 0, 0, 2, 112, 131]));
     Ok(())
 }
 
