@@ -1,0 +1,270 @@
+-- What a call or a signal does to each pair of processes.
+use Rattle.dist_model.specs.Node.{Tick, fits, Item, LinkSignal, Message, Exit2, MonitorP, DemonitorP, MonitorPExit, Handshake, Life, Living, Ended, Node, Work, end_of, is_living_life, living, never, reaches, set_life, put, react, traps_life, take, register, unregister, unwatch, same_pids}
+use Rattle.std.proofs.Common.{◌==◌, nat_lt, ◌^◌, ◌≡◌, ℕ, ◌+◌, Bool, true, false, cond, not, List, [], ◌∷◌, refl, sym, ap, ◌∙◌, subst, arith, ◌&&◌, ◌||◌, Option, Some, None}
+use Rattle.std.specs.FinMap as fm
+use Rattle.std.specs.FinMap.{FinMap}
+use Rattle.dist_model.specs.Term.{Pid, Reference, NoProc, NoConnection, DownNote}
+use Rattle.dist_model.specs.Pair.{End, Absent, Active, Pending}
+use Rattle.dist_model.proofs.Kept.{Kept}
+use Rattle.dist_model.specs.Orders.{pid_cmp, same_name, same_pid}
+use Rattle.dist_model.specs.World.{signal_of}
+use Rattle.dist_model.proofs.Keys.{pid_total, same_pid_true, same_pid_refl, same_pid_is, same_name_true, same_name_refl}
+use Rattle.dist_model.specs.Step.{Command, Spawn, Send, MakeLink, EndLink, MakeMonitor, EndMonitor, Trap, ExitTo, ExitSelf, Receive, LinksOf, IsAlive, Outcome, Refuses, Goes, at_work, acting, toward, unlink_by, new_reference, draw_reference, watch, monitor, demonitor_by, spawn_life, next_pid, trapping, without_first, with_life, call}
+use Rattle.dist_model.proofs.Views.{over, view, side_path}
+use Rattle.dist_model.proofs.Moves.{Moves, Homely, stays, then, puts, finishes, carries_out, posts_other, links, unlinks_as, set_life_living}
+
+-- what holds of the work where the event goes through
+abbrev pub IfGoes : Outcome → (Work → Type 0) → Type 0
+IfGoes (Refuses k) P = Unit {0}
+IfGoes (Goes a o) P = P o
+
+if_cond : (b : Bool) (k : Outcome) (j : ℕ) (P : Work → Type 0) → (b ≡ true → IfGoes k P) → IfGoes (cond b k (Refuses j)) P
+if_cond true k j P h = h refl
+if_cond false k j P h = tt
+
+if_not : (b : Bool) (k : Outcome) (j : ℕ) (P : Work → Type 0) → IfGoes k P → IfGoes (cond b (Refuses j) k) P
+if_not true k j P h = tt
+if_not false k j P h = h
+
+-- only the lives change, and not who lives
+pub same_lives : (o : Work) (m : FinMap pid_cmp Life) → ((x : Pid) → is_living_life (fm.get m x) ≡ living o.node x) → Moves o (record o { node = record (o.node) { lives = m } })
+same_lives o m h = record {
+  sides = refl;
+  dialed = refl;
+  name = refl;
+  keeps = λ k. record { born = λ p l. k.born p (sym (h p) ∙ l); rooted = λ p q e. let r = k.rooted p q e in (h p ∙ r.0, r.1, r.2) };
+  grows = λ p l. ap (λ v. not v && not (never o.node p)) (h p) ∙ l;
+  draws = omega arith;
+  routed = λ a. a;
+  nevers = λ p h. h;
+  home = λ k h. h;
+  views = λ n b p q c r k. subst (λ a. Kept a c) (sym (side_path (view b (record o { node = record (o.node) { lives = m } }) p q) (view b o p q) refl (ap (λ v. not v && not (never o.node p)) (h p)) refl refl)) k;
+}
+
+-- neither a life nor an end nor a side
+pub registers : (u : Option (Pid × Pid)) (k : Reference) (v : Pid × Pid) (o : Work) → Moves o (register u k v o)
+registers None k v o = record { sides = refl; dialed = refl; name = refl; keeps = λ n. record { born = n.born; rooted = n.rooted }; grows = λ p h. h; draws = omega arith; routed = λ a. a; nevers = λ p h. h; home = λ k h. h; views = λ n b p q c r t. t }
+registers (Some u) k v o = stays o
+
+pub unregisters : (k : Reference) (o : Work) → Moves o (unregister k o)
+unregisters k o = record { sides = refl; dialed = refl; name = refl; keeps = λ n. record { born = n.born; rooted = n.rooted }; grows = λ p h. h; draws = omega arith; routed = λ a. a; nevers = λ p h. h; home = λ k h. h; views = λ n b p q c r t. t }
+
+pub unwatches_one : (k : Reference) (o : Work) → Moves o (unwatch k o)
+unwatches_one k o = record { sides = refl; dialed = refl; name = refl; keeps = λ n. record { born = n.born; rooted = n.rooted }; grows = λ p h. h; draws = omega arith; routed = λ a. a; nevers = λ p h. h; home = λ k h. h; views = λ n b p q c r t. t }
+
+pub watches_one : (k : Reference) (v : Pid × Pid) (o : Work) → Moves o (watch k v o)
+watches_one k v o = record { sides = refl; dialed = refl; name = refl; keeps = λ n. record { born = n.born; rooted = n.rooted }; grows = λ p h. h; draws = omega arith; routed = λ a. a; nevers = λ p h. h; home = λ k h. h; views = λ n b p q c r t. t }
+
+pub draws_reference : (o : Work) → Moves o (draw_reference o)
+draws_reference o = record { sides = refl; dialed = refl; name = refl; keeps = λ n. record { born = n.born; rooted = n.rooted }; grows = λ p h. h; draws = omega arith; routed = λ a. a; nevers = λ p h. h; home = λ k h. h; views = λ n b p q c r t. t }
+
+moves_cond : (b : Bool) (o x y : Work) → (b ≡ true → Moves o x) → (b ≡ false → Moves o y) → Moves o (cond b x y)
+moves_cond true o x y f g = f refl
+moves_cond false o x y f g = g refl
+
+-- the other signals
+pub takes_other : (x : Item) (o : Work) → ((p q : Pid) → signal_of p q x ≡ []) → Moves o (take x o)
+takes_other (LinkSignal q p s) o h = let n : s ∷ [] ≡ [] = sym (ap (λ t. cond (t && same_pid p p) (s ∷ []) []) (same_pid_refl q) ∙ ap (λ t. cond t (s ∷ []) []) (same_pid_refl p)) ∙ h q p in cc
+takes_other (Message p t) o h = moves_cond (living o.node p) o (put p t o) o (λ l. puts p t o) (λ l. stays o)
+takes_other (Exit2 q p r) o h = moves_cond (living o.node p) o _ o (λ l. carries_out (react false false (traps_life (fm.get o.node.lives p)) (same_pid q p) q r) p o l) (λ l. stays o)
+takes_other (MonitorP q p k) o h = moves_cond (living o.node p) o _ _ (λ l. registers (fm.get o.node.registered k) k (q, p) o) (λ l. posts_other q.node (MonitorPExit p q k NoProc) o (λ a b. refl))
+takes_other (DemonitorP q p k) o h = moves_cond (same_pids (fm.get o.node.registered k) q p) o _ _ (λ l. unregisters k o) (λ l. stays o)
+takes_other (MonitorPExit q p k r) o h = moves_cond (living o.node p && same_pids (fm.get o.node.watches k) p q) o _ _
+    (λ l. then o (unwatch k o) (put p (DownNote k q r) (unwatch k o)) (unwatches_one k o) (puts p (DownNote k q r) (unwatch k o))) (λ l. stays o)
+takes_other (Handshake m) o h = stays o
+takes_other Tick o h = stays o
+
+-- a new process
+is_same : (x y : ℕ) → (x == y) ≡ true → x ≡ y
+is_same x y h = grind arith
+
+next_id : (s i : ℕ) → nat_lt s i ≡ true → nat_lt (s + 1) i ≡ false → i ≡ s + 1
+next_id s i h k = grind arith
+
+later_id : (s i : ℕ) → nat_lt s i ≡ false → nat_lt (s + 1) i ≡ false
+later_id s i h = grind arith
+
+never_by : (n : Node) (p : Pid) → same_pid p (next_pid n) ≡ false → (a b c d e f g : Bool) → same_name p.node n.name ≡ a → (p.creation == n.creation) ≡ c → nat_lt n.spawned p.id ≡ d → nat_lt (n.spawned + 1) p.id ≡ e → (p.serial == 0) ≡ g
+    → ((((not a || b) || (c && e)) || f) || not g) ≡ ((((not a || b) || (c && d)) || f) || not g)
+never_by n p new false b c d e f g ha hc hd he hg = refl
+never_by n p new true true c d e f g ha hc hd he hg = refl
+never_by n p new true false false d e f g ha hc hd he hg = refl
+never_by n p new true false true true true f g ha hc hd he hg = refl
+never_by n p new true false true false true f g ha hc hd he hg = let k : true ≡ false = sym he ∙ later_id n.spawned p.id hd in cc
+never_by n p new true false true false false f g ha hc hd he hg = refl
+never_by n p new true false true true false true g ha hc hd he hg = refl
+never_by n p new true false true true false false false ha hc hd he hg = refl
+never_by n p new true false true true false false true ha hc hd he hg =
+    let nm : p.node ≡ n.name = same_name_true p.node n.name ha in
+    let cr : p.creation ≡ n.creation = is_same _ _ hc in
+    let id : p.id ≡ n.spawned + 1 = next_id n.spawned p.id hd he in
+    let se : p.serial ≡ 0 = is_same _ _ hg in
+    let eq : p ≡ next_pid n = λ i. record { node = nm i; creation = cr i; id = id i; serial = se i } in
+    let k : true ≡ false = sym (same_pid_is p (next_pid n) eq) ∙ new in cc
+
+spawned_never : (n : Node) (p : Pid) → same_pid p (next_pid n) ≡ false → never ((spawn_life n (next_pid n)).node) p ≡ never n p
+spawned_never n p new = never_by n p new (same_name p.node n.name) (nat_lt n.creation p.creation) (p.creation == n.creation) (nat_lt n.spawned p.id) (nat_lt (n.spawned + 1) p.id) (p.id == 0) (p.serial == 0) refl refl refl refl refl
+
+not_less : (x : ℕ) → nat_lt x x ≡ false
+not_less x = grind arith
+
+not_zero : (x : ℕ) → (x + 1 == 0) ≡ false
+not_zero x = grind arith
+
+next_never : (n : Node) → never ((spawn_life n (next_pid n)).node) (next_pid n) ≡ false
+next_never n =
+    let a = same_name_refl n.name in
+    let b = not_less n.creation in
+    let d = not_less (n.spawned + 1) in
+    let f = not_zero n.spawned in
+    go (same_name n.name n.name) a (nat_lt n.creation n.creation) b (n.creation == n.creation) (nat_lt (n.spawned + 1) (n.spawned + 1)) d (n.spawned + 1 == 0) f
+  where
+    go : (a : Bool) → a ≡ true → (b : Bool) → b ≡ false → (c : Bool) → (d : Bool) → d ≡ false → (f : Bool) → f ≡ false → (((not a || b) || (c && d)) || f || false) ≡ false
+    go true ha true hb c d hd f hf = cc
+    go true ha false hb c true hd f hf = cc
+    go true ha false hb true false hd true hf = cc
+    go true ha false hb false false hd true hf = cc
+    go true ha false hb true false hd false hf = refl
+    go true ha false hb false false hd false hf = refl
+    go false ha b hb c d hd f hf = cc
+
+next_was_never : (n : Node) → never n (next_pid n) ≡ true
+next_was_never n =
+    go (same_name n.name n.name) (same_name_refl n.name) (nat_lt n.creation n.creation) (n.creation == n.creation) (same_nat n.creation) (nat_lt n.spawned (n.spawned + 1)) (less_next n.spawned) (n.spawned + 1 == 0)
+  where
+    same_nat : (x : ℕ) → (x == x) ≡ true
+    same_nat x = grind arith
+
+    less_next : (x : ℕ) → nat_lt x (x + 1) ≡ true
+    less_next x = grind arith
+
+    go : (a : Bool) → a ≡ true → (b : Bool) (c : Bool) → c ≡ true → (d : Bool) → d ≡ true → (f : Bool) → (((not a || b) || (c && d)) || f || false) ≡ true
+    go true ha true c hc d hd f = refl
+    go true ha false true hc true hd f = refl
+    go true ha false true hc false hd f = cc
+    go true ha false false hc d hd f = cc
+    go false ha b c hc d hd f = cc
+
+-- a Bool fact by the two cases of a test
+pub by_test : (P : Type 0) (b : Bool) → (b ≡ true → P) → (b ≡ false → P) → P
+by_test P true f g = f refl
+by_test P false f g = g refl
+
+spawned_living : (n : Node) (p : Pid) → living ((spawn_life n (next_pid n)).node) p ≡ is_living_life (cond (same_pid p (next_pid n)) (Some (Living false [])) (fm.get n.lives p))
+spawned_living n p = ap is_living_life (fm.get-insert pid_total n.lives (next_pid n) (Living false []) p)
+
+born_cond_true : (b : Bool) (l : Option Life) → b ≡ true → is_living_life (cond b (Some (Living false [])) l) ≡ true
+born_cond_true true l h = refl
+born_cond_true false l h = cc
+
+born_cond_false : (b : Bool) (l : Option Life) → b ≡ false → is_living_life (cond b (Some (Living false [])) l) ≡ is_living_life l
+born_cond_false true l h = cc
+born_cond_false false l h = refl
+
+and_not_true : (a b : Bool) → b ≡ true → (a && not b) ≡ false
+and_not_true true b h = ap not h
+and_not_true false b h = refl
+
+-- who is spawned was never there, and is not over
+spawned_over : (n : Node) (p : Pid) → over ((spawn_life n (next_pid n)).node) p ≡ over n p
+spawned_over n p = by_test _ (same_pid p (next_pid n))
+    (λ h.
+    let e : p ≡ next_pid n = same_pid_true p (next_pid n) h in
+    let a : over ((spawn_life n (next_pid n)).node) p ≡ false = ap (λ v. not v && not (never ((spawn_life n (next_pid n)).node) p)) (spawned_living n p ∙ born_cond_true (same_pid p (next_pid n)) (fm.get n.lives p) h) in
+    let c : over n p ≡ false = and_not_true (not (living n p)) (never n p) (ap (never n) e ∙ next_was_never n) in
+    a ∙ sym c)
+    (λ h. ap (λ v. not v && not (never ((spawn_life n (next_pid n)).node) p)) (spawned_living n p ∙ born_cond_false (same_pid p (next_pid n)) (fm.get n.lives p) h)
+    ∙ ap (λ v. not (living n p) && not v) (spawned_never n p h))
+
+spawned_stays_living : (n : Node) (p : Pid) → living n p ≡ true → living ((spawn_life n (next_pid n)).node) p ≡ true
+spawned_stays_living n p l = by_test _ (same_pid p (next_pid n)) (λ h. spawned_living n p ∙ born_cond_true (same_pid p (next_pid n)) (fm.get n.lives p) h)
+    (λ h. spawned_living n p ∙ born_cond_false (same_pid p (next_pid n)) (fm.get n.lives p) h ∙ l)
+
+spawned_stays_born : (n : Node) (p : Pid) → never n p ≡ false → never ((spawn_life n (next_pid n)).node) p ≡ false
+spawned_stays_born n p h = by_test _ (same_pid p (next_pid n)) (λ e. ap (never ((spawn_life n (next_pid n)).node)) (same_pid_true p (next_pid n) e) ∙ next_never n) (λ e. spawned_never n p e ∙ h)
+
+home_along : (f g : Pid → Bool) (xs : List Item) → ((p : Pid) → f p ≡ false → g p ≡ false) → Homely f xs → Homely g xs
+home_along f g [] h k = tt
+home_along f g (LinkSignal a b x ∷ xs) h k = ((h a k.0.0, h b k.0.1, k.0.2), home_along f g xs h k.1)
+home_along f g (Message b x ∷ xs) h k = (tt, home_along f g xs h k.1)
+home_along f g (Exit2 a b x ∷ xs) h k = (tt, home_along f g xs h k.1)
+home_along f g (MonitorP a b x ∷ xs) h k = (tt, home_along f g xs h k.1)
+home_along f g (DemonitorP a b x ∷ xs) h k = (tt, home_along f g xs h k.1)
+home_along f g (MonitorPExit a b j x ∷ xs) h k = (tt, home_along f g xs h k.1)
+home_along f g (Handshake x ∷ xs) h k = (tt, home_along f g xs h k.1)
+home_along f g (Tick ∷ xs) h k = (tt, home_along f g xs h k.1)
+
+pub spawns : (n : Node) → Moves (at_work n) (spawn_life n (next_pid n))
+spawns n = record {
+  sides = refl;
+  dialed = refl;
+  name = refl;
+  keeps = λ k. record {
+    born = λ p l. by_test _ (same_pid p (next_pid n)) (λ h. ap (never ((spawn_life n (next_pid n)).node)) (same_pid_true p (next_pid n) h) ∙ next_never n)
+        (λ h. spawned_never n p h ∙ k.born p (sym (spawned_living n p ∙ born_cond_false (same_pid p (next_pid n)) (fm.get n.lives p) h) ∙ l));
+    rooted = λ p q e. let r = k.rooted p q e in (spawned_stays_living n p r.0, r.1, λ i. let d = r.2 i in (spawned_stays_born n q d.0, d.1));
+  };
+  grows = λ p h. spawned_over n p ∙ h;
+  draws = omega arith;
+  routed = λ a. a;
+  nevers = λ p h. spawned_stays_born n p h;
+  home = λ k h. home_along (λ p. never n p) (λ p. never ((spawn_life n (next_pid n)).node) p) n.local (λ p e. spawned_stays_born n p e) h;
+  views = λ k b p q c r t. subst (λ a. Kept a c) (sym (side_path (view b (spawn_life n (next_pid n)) p q) (view b (at_work n) p q) refl (spawned_over n p) refl refl)) t;
+}
+
+living_trapping : (l : Option Life) (b : Bool) → is_living_life (trapping l b) ≡ is_living_life l
+living_trapping None b = refl
+living_trapping (Some (Living t m)) b = refl
+living_trapping (Some (Ended r)) b = refl
+
+living_without : (l : Option Life) → is_living_life (without_first l) ≡ is_living_life l
+living_without None = refl
+living_without (Some (Living t [])) = refl
+living_without (Some (Living t (m ∷ ms))) = refl
+living_without (Some (Ended r)) = refl
+
+sets_life : (n : Node) (p : Pid) (l : Option Life) → is_living_life l ≡ living n p → Moves (at_work n) (with_life n p l)
+sets_life n p l h = same_lives (at_work n) (set_life n.lives p l) (λ x. set_life_living n.lives p l x (λ e. h ∙ ap (living n) (sym (same_pid_true x p e))))
+
+demonitors : (v : Option (Pid × Pid)) (p : Pid) (k : Reference) (o : Work) → IfGoes (demonitor_by v p k o) (Moves o)
+demonitors None p k o = tt
+demonitors (Some v) p k o = if_cond (same_pid v.0 p) _ 5 (Moves o) (λ h. then o (unwatch k o) _ (unwatches_one k o) (posts_other v.1.node (DemonitorP p v.1 k) (unwatch k o) (λ a b. refl)))
+
+unlinks_by : (e : End) (p q : Pid) (o : Work) → end_of o.node p q ≡ e → living o.node p ≡ true → IfGoes (unlink_by e p q o) (Moves o)
+unlinks_by Absent p q o h l = stays o
+unlinks_by Active p q o h l = if_cond (nat_lt (o.node.unlinks + 1) (2 ^ 64)) _ 4 (Moves o) (λ c. unlinks_as p q o (o.node.unlinks + 1) l h (omega arith))
+unlinks_by (Pending i) p q o h l = stays o
+
+forged_not : (a b : Bool) → (a && b) ≡ false → a ≡ true → b ≡ false
+forged_not true b h e = h
+forged_not false b h e = cc
+
+if_not_known : (b : Bool) (k : Outcome) (j : ℕ) (P : Work → Type 0) → (b ≡ false → IfGoes k P) → IfGoes (cond b (Refuses j) k) P
+if_not_known true k j P h = tt
+if_not_known false k j P h = h refl
+
+acts_known : (n : Node) (p q : Pid) (k : Outcome) → (living n p ≡ true → (same_name q.node n.name ≡ true → never n q ≡ false) → IfGoes k (Moves (at_work n))) → IfGoes (acting n p (toward n q k)) (Moves (at_work n))
+acts_known n p q k h = if_cond (living n p) (toward n q k) 3 (Moves (at_work n)) (λ l. if_not_known (same_name q.node n.name && never n q) k 20 (Moves (at_work n)) (λ v. h l (forged_not (same_name q.node n.name) (never n q) v)))
+
+acts : (n : Node) (p q : Pid) (k : Outcome) → (living n p ≡ true → IfGoes k (Moves (at_work n))) → IfGoes (acting n p (toward n q k)) (Moves (at_work n))
+acts n p q k h = if_cond (living n p) (toward n q k) 3 (Moves (at_work n)) (λ l. if_not (same_name q.node n.name && never n q) k 20 (Moves (at_work n)) (h l))
+
+-- whatever a call does, no pair is hurt
+pub calls : (n : Node) (c : Command) → IfGoes (call n c) (Moves (at_work n))
+calls n Spawn = if_cond (nat_lt (n.spawned + 1) (2 ^ 32)) _ 4 (Moves (at_work n)) (λ h. spawns n)
+calls n (Send p q t) = acts n p q _ (λ l. if_cond (fits t) _ 8 (Moves (at_work n)) (λ f. posts_other q.node (Message q t) (at_work n) (λ a b. refl)))
+calls n (MakeLink p q) = acts_known n p q _ (λ l v. links p q (at_work n) v l)
+calls n (EndLink p q) = acts n p q _ (λ l. unlinks_by (end_of n p q) p q (at_work n) refl l)
+calls n (MakeMonitor p q) = acts n p q _ (λ l. if_cond (nat_lt (n.references + 1) (2 ^ 18)) _ 4 (Moves (at_work n)) (λ h.
+    let o = draw_reference (at_work n) in
+    let k = new_reference n in
+    then (at_work n) o (monitor k p q o) (draws_reference (at_work n)) (moves_cond (reaches o.node q.node) o _ _
+    (λ r. then o (watch k (p, q) o) _ (watches_one k (p, q) o) (posts_other q.node (MonitorP p q k) (watch k (p, q) o) (λ a b. refl)))
+    (λ r. puts p (DownNote k q NoConnection) o))))
+calls n (EndMonitor p k) = if_cond (living n p) _ 3 (Moves (at_work n)) (λ l. demonitors (fm.get n.watches k) p k (at_work n))
+calls n (Trap p b) = if_cond (living n p) _ 3 (Moves (at_work n)) (λ l. sets_life n p (trapping (fm.get n.lives p) b) (living_trapping (fm.get n.lives p) b))
+calls n (ExitTo p q r) = acts n p q _ (λ l. if_cond (fits r) _ 8 (Moves (at_work n)) (λ f. posts_other q.node (Exit2 p q r) (at_work n) (λ a b. refl)))
+calls n (ExitSelf p r) = if_cond (living n p) _ 3 (Moves (at_work n)) (λ l. if_cond (fits r) _ 8 (Moves (at_work n)) (λ f. finishes p r (at_work n) l))
+calls n (Receive p) = if_cond (living n p) _ 3 (Moves (at_work n)) (λ l. sets_life n p (without_first (fm.get n.lives p)) (living_without (fm.get n.lives p)))
+calls n (LinksOf p) = if_cond (living n p) _ 3 (Moves (at_work n)) (λ l. stays (at_work n))
+calls n (IsAlive p) = stays (at_work n)

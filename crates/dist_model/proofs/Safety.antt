@@ -1,0 +1,276 @@
+-- What the kept facts say, and that they hold of an opening world.
+use Rattle.dist_model.specs.Node.{Tick, Item, LinkSignal, Message, Exit2, MonitorP, DemonitorP, MonitorPExit, Handshake, State, AwaitsStatus, AwaitsChallenge, AwaitsAck, Asked, Parked, Accepting, Up, Losing, Gone, TrunkSide, Node, end_of, living, never, is_up}
+use Rattle.std.proofs.Common.{◌≡◌, ℕ, Bool, true, false, cond, not, List, [], ◌∷◌, refl, sym, ap, ◌∙◌, subst, ◌&&◌, ◌||◌, ◌++◌, Option, Some, None, ◌⊎◌, inl, inr, ◌↔◌}
+use Rattle.std.specs.Option.{is_some}
+use Rattle.std.specs.FinMap as fm
+use Rattle.dist_model.specs.Term.{Name, Pid}
+use Rattle.dist_model.specs.Pair.{Signal, drained, Unlinked, last_word, acks, has_link, End, Absent, Active, Pending}
+use Rattle.dist_model.proofs.Kept.{pending_travels, Kept}
+use Rattle.dist_model.specs.Orders.{Trunk, name_cmp, trunk_cmp, place_cmp, same_name, same_pid}
+use Rattle.dist_model.specs.World.{new_nodes, new_node, opening, World, signals, signal_of, node_of, list_to}
+use Rattle.dist_model.specs.Claims.{living_at, end_at, end_between, local_at, local_list, side_in, connected_at, is_connected, Stands, is_of, is_silent, Within, Over, Unconnected, Agreement, AgreementWithin, AgreementInQuiet, PendingOnItsWay, PendingWithin, NoLinkToTheDead, NoLinkToItself, OneTrunk, NoUpBesideLosing}
+use Rattle.dist_model.proofs.Keys.{same_name_true, same_name_is, and_both, same_pid_refl, same_pid_true}
+use Rattle.dist_model.proofs.Views.{over, side_of}
+use Rattle.dist_model.proofs.Moves.{NodeKept}
+use Rattle.dist_model.proofs.Routes.{some_same, node_of_name}
+use Rattle.dist_model.proofs.Calls.{by_test}
+use Rattle.dist_model.proofs.Sides.{side_at, up_not_gone, holds, beside, or_true, or_false, holds_kinds, up_holds, unheld_absent}
+use Rattle.dist_model.proofs.Pairs.{up_joined}
+use Rattle.dist_model.proofs.Table.{Likely, up_likely, HomeKept, Good, no_asks_beside}
+use Rattle.dist_model.proofs.Reside.{blank}
+use Rattle.dist_model.specs.Node
+use Rattle.dist_model.specs.Orders
+use Rattle.dist_model.specs.Step.{is_losing}
+
+living_not_over : (n : Node) (p : Pid) → living n p ≡ true → over n p ≡ false
+living_not_over n p l = ap (λ v. not v && not (never n p)) l
+
+-- a silent list has no signals about a link
+silent_signals : (p q : Pid) (l : List Item) → is_silent p q l ≡ true → (signals p q l ≡ []) × (signals q p l ≡ [])
+silent_signals p q [] h = (refl, refl)
+silent_signals p q (x ∷ xs) h =
+    let v = and_both (not (is_of p q x || is_of q p x)) (is_silent p q xs) h in
+    let u = neither (is_of p q x) (is_of q p x) v.0 in
+    let r = silent_signals p q xs v.1 in
+    (ap (λ l. l ++ signals p q xs) (unnamed p q x u.0) ∙ r.0, ap (λ l. l ++ signals q p xs) (unnamed q p x u.1) ∙ r.1)
+  where
+    neither : (a b : Bool) → not (a || b) ≡ true → (a ≡ false) × (b ≡ false)
+    neither true b h = cc
+    neither false true h = cc
+    neither false false h = (refl, refl)
+
+    unnamed : (p q : Pid) (x : Item) → is_of p q x ≡ false → signal_of p q x ≡ []
+    unnamed p q (LinkSignal a b s) h = ap (λ t. cond t (s ∷ []) []) h
+    unnamed p q (Message b m) h = refl
+    unnamed p q (Exit2 a b r) h = refl
+    unnamed p q (MonitorP a b k) h = refl
+    unnamed p q (DemonitorP a b k) h = refl
+    unnamed p q (MonitorPExit a b k r) h = refl
+    unnamed p q (Handshake m) h = refl
+    unnamed p q Tick h = refl
+
+absent_or2 : (e : End) → ((e ≡ Absent → ⊥) → ⊥) → e ≡ Absent
+absent_or2 Absent n = refl
+absent_or2 Active n = absurd (n (λ h. cc))
+absent_or2 (Pending i) n = absurd (n (λ h. cc))
+
+not_active : {P : Type 0} (e : End) → e ≡ Absent → e ≡ Active → P
+not_active e a h = absurd (let c : Absent ≡ Active = sym a ∙ h in cc)
+
+some_none : {A : Type 0} {P : Type 0} (a : A) → Some a ≡ None → P
+some_none a h = absurd (let c : true ≡ false = ap is_some h in cc)
+
+none_living : {P : Type 0} → false ≡ true → P
+none_living h = absurd (let c : true ≡ false = sym h in cc)
+
+-- of a pair that is kept
+module _ (p q : Pid) (a b : Node) (m l : List Signal) (k : Kept (side_of a p q m) (side_of b q p l)) where
+  agrees : living a p ≡ true → living b q ≡ true → drained (end_of a p q) l ≡ Active ↔ drained (end_of b q p) m ≡ Active
+  agrees lp lq = k.agree (living_not_over a p lp) (living_not_over b q lq)
+
+  pends : (i : ℕ) → living a p ≡ true → living b q ≡ true → end_of a p q ≡ Pending i → (last_word m ≡ Unlinked i) ⊎ (acks i l ≡ 1)
+  pends i lp lq e = pending_travels (record { here = side_of a p q m; there = side_of b q p l }) k (living_not_over a p lp) (living_not_over b q lq) i e
+
+  not_to_dead : NodeKept b → living a p ≡ true → living b q ≡ false → m ≡ [] → l ≡ [] → end_of a p q ≡ Active → ⊥
+  not_to_dead kb lp lq em el e =
+      let lo : over a p ≡ false = living_not_over a p lp in
+      let act : drained (end_of a p q) l ≡ Active = ap (drained (end_of a p q)) el ∙ e in
+      let none : end_of b q p ≡ Absent = absent_or2 (end_of b q p) (λ d. let c : true ≡ false = sym (kb.rooted q p d).0 ∙ lq in cc) in
+      by_test ⊥ (over b q)
+      (λ o. let n : true ≡ false = sym (k.one.orphan lo o act) ∙ ap has_link em in cc)
+      (λ o. not_active (drained (end_of b q p) m) (ap (drained (end_of b q p)) em ∙ none) ((k.agree lo o).0 act))
+
+module _ (w : World) (g : Good w) where
+  own_name : (x : Name) (a : Node) → node_of w.nodes x ≡ Some a → same_name x a.name ≡ true
+  own_name x a h = same_name_is x a.name (sym (node_of_name w.nodes x a h))
+
+  kept_over : (p q : Pid) (a b : Node) (t : Trunk) → node_of w.nodes p.node ≡ Some a → node_of w.nodes q.node ≡ Some b → Stands w p.node t q.node is_up → Stands w q.node t p.node is_up
+      → Kept (side_of a p q (signals p q (list_to w.lists t q.node))) (side_of b q p (signals q p (list_to w.lists t p.node)))
+  kept_over p q a b t ha hb s v = g.core.trunks p.node q.node a b t s.side v.side ha hb (sym (ap (λ o. side_in o t) ha) ∙ s.there) (sym (ap (λ o. side_in o t) hb) ∙ v.there) s.peer v.peer s.state (up_joined v.side.state v.state) p q refl refl
+
+  kept_within : (p q : Pid) (a : Node) → node_of w.nodes p.node ≡ Some a → p.node ≡ q.node → same_pid p q ≡ false → Kept (side_of a p q (signals p q a.local)) (side_of a q p (signals q p a.local))
+  kept_within p q a h e d = (g.home p.node a h).pairs p q (own_name p.node a h) (ap (λ z. same_name z a.name) (sym e) ∙ own_name p.node a h) d
+
+  one_node : (p q : Pid) (a b : Node) → node_of w.nodes p.node ≡ Some a → node_of w.nodes q.node ≡ Some b → p.node ≡ q.node → a ≡ b
+  one_node p q a b ha hb e = some_same a b (sym ha ∙ ap (node_of w.nodes) e ∙ hb)
+
+  pub agreement : Agreement w
+  agreement p q t s v lp lq = go (node_of w.nodes p.node) (node_of w.nodes q.node) refl refl lp lq
+    where
+      go : (c d : Option Node) → node_of w.nodes p.node ≡ c → node_of w.nodes q.node ≡ d → living_at c p ≡ true → living_at d q ≡ true
+          → drained (end_at c p q) (signals q p (list_to w.lists t p.node)) ≡ Active ↔ drained (end_at d q p) (signals p q (list_to w.lists t q.node)) ≡ Active
+      go None d hc hd lp lq = none_living lp
+      go (Some a) None hc hd lp lq = none_living lq
+      go (Some a) (Some b) hc hd lp lq = agrees p q a b _ _ (kept_over p q a b t hc hd s v) lp lq
+
+  pub agreement_within : AgreementWithin w
+  agreement_within p q e lp lq = go (node_of w.nodes p.node) (node_of w.nodes q.node) refl refl lp lq
+    where
+      go : (c d : Option Node) → node_of w.nodes p.node ≡ c → node_of w.nodes q.node ≡ d → living_at c p ≡ true → living_at d q ≡ true
+          → drained (end_at c p q) (signals q p (local_at c)) ≡ Active ↔ drained (end_at d q p) (signals p q (local_at c)) ≡ Active
+      go None d hc hd lp lq = none_living lp
+      go (Some a) None hc hd lp lq = none_living lq
+      go (Some a) (Some b) hc hd lp lq =
+          let ab = one_node p q a b hc hd e in
+          subst (λ z. drained (end_of a p q) (signals q p a.local) ≡ Active ↔ drained (end_of z q p) (signals p q a.local) ≡ Active) ab
+          (by_test _ (same_pid p q)
+          (λ i. subst (λ z. drained (end_of a p z) (signals z p a.local) ≡ Active ↔ drained (end_of a z p) (signals p z a.local) ≡ Active) (same_pid_true p q i) (λ h. h, λ h. h))
+          (λ i. agrees p q a a _ _ (kept_within p q a hc e i) lp (ap (λ z. living z q) ab ∙ lq)))
+
+  -- where the nodes have no connection there is no end
+  unconnected : (p q : Pid) → same_name p.node q.node ≡ false → is_connected w p.node q.node ≡ false → end_between w p q ≡ Absent
+  unconnected p q n c = go (node_of w.nodes p.node) refl c
+    where
+      go : (o : Option Node) → node_of w.nodes p.node ≡ o → connected_at o q.node ≡ false → end_at o p q ≡ Absent
+      go None h c = refl
+      go (Some a) h c = unheld_absent a p q (g.core.nodes p.node a h) (or_false (same_name q.node a.name) _
+          (by_test _ (same_name q.node a.name)
+          (λ i. let z : true ≡ false = sym (same_name_is p.node q.node (sym (node_of_name w.nodes p.node a h) ∙ sym (same_name_true q.node a.name i))) ∙ n in cc) (λ i. i)) c)
+
+  name_turned : (x y : Name) → same_name x y ≡ false → same_name y x ≡ false
+  name_turned x y h = by_test _ (same_name y x) (λ i. let z : true ≡ false = sym (same_name_is x y (sym (same_name_true y x i))) ∙ h in cc) (λ i. i)
+
+  pub agreement_in_quiet : AgreementInQuiet w
+  agreement_in_quiet p q (Within e s) lp lq =
+      let v = silent_signals p q (local_list w p.node) s in
+      subst (λ u. drained (end_between w p q) u ≡ Active ↔ end_between w q p ≡ Active) v.1
+      (subst (λ u. drained (end_between w p q) (signals q p (local_list w p.node)) ≡ Active ↔ drained (end_between w q p) u ≡ Active) v.0 (agreement_within p q e lp lq))
+  agreement_in_quiet p q (Over t a b s r) lp lq =
+      let v = silent_signals p q (list_to w.lists t p.node) s in
+      let u = silent_signals p q (list_to w.lists t q.node) r in
+      subst (λ z. drained (end_between w p q) z ≡ Active ↔ end_between w q p ≡ Active) v.1
+      (subst (λ z. drained (end_between w p q) (signals q p (list_to w.lists t p.node)) ≡ Active ↔ drained (end_between w q p) z ≡ Active) u.0 (agreement p q t a b lp lq))
+  agreement_in_quiet p q (Unconnected n c d) lp lq =
+      (λ h. not_active (end_between w p q) (unconnected p q n c) h, λ h. not_active (end_between w q p) (unconnected q p (name_turned p.node q.node n) d) h)
+
+  pub no_link_to_itself : NoLinkToItself w
+  no_link_to_itself p = go (node_of w.nodes p.node) refl
+    where
+      go : (o : Option Node) → node_of w.nodes p.node ≡ o → end_at o p p ≡ Absent
+      go None h = refl
+      go (Some a) h = absent_or2 (end_of a p p) (λ e. let c : true ≡ false = sym (same_pid_refl p) ∙ (((g.core.nodes p.node a h).rooted p p e).2 (own_name p.node a h)).1 in cc)
+
+  pub pending : PendingOnItsWay w
+  pending p q t i s v lp lq e = go (node_of w.nodes p.node) (node_of w.nodes q.node) refl refl lp lq e
+    where
+      go : (c d : Option Node) → node_of w.nodes p.node ≡ c → node_of w.nodes q.node ≡ d → living_at c p ≡ true → living_at d q ≡ true → end_at c p q ≡ Pending i
+          → (last_word (signals p q (list_to w.lists t q.node)) ≡ Unlinked i) ⊎ (acks i (signals q p (list_to w.lists t p.node)) ≡ 1)
+      go None d hc hd lp lq e = none_living lp
+      go (Some a) None hc hd lp lq e = none_living lq
+      go (Some a) (Some b) hc hd lp lq e = pends p q a b _ _ (kept_over p q a b t hc hd s v) i lp lq e
+
+  pub pending_within : PendingWithin w
+  pending_within p q i n lp lq e = by_test _ (same_pid p q)
+      (λ j. absurd (let c : Absent ≡ Pending i = sym (no_link_to_itself p) ∙ ap (end_between w p) (same_pid_true p q j) ∙ e in cc))
+      (λ j. go j (node_of w.nodes p.node) (node_of w.nodes q.node) refl refl lp lq e)
+    where
+      go : same_pid p q ≡ false → (c d : Option Node) → node_of w.nodes p.node ≡ c → node_of w.nodes q.node ≡ d → living_at c p ≡ true → living_at d q ≡ true → end_at c p q ≡ Pending i
+          → (last_word (signals p q (local_at c)) ≡ Unlinked i) ⊎ (acks i (signals q p (local_at c)) ≡ 1)
+      go j None d hc hd lp lq e = none_living lp
+      go j (Some a) None hc hd lp lq e = none_living lq
+      go j (Some a) (Some b) hc hd lp lq e = pends p q a a _ _ (kept_within p q a hc n j) i lp (ap (λ z. living z q) (one_node p q a b hc hd n) ∙ lq) e
+
+  dead_within : (p q : Pid) → p.node ≡ q.node → (c d : Option Node) → node_of w.nodes p.node ≡ c → node_of w.nodes q.node ≡ d → is_silent p q (local_at c) ≡ true → living_at c p ≡ true → living_at d q ≡ false → end_at c p q ≡ Active → ⊥
+  dead_within p q n None d hc hd s lp lq e = none_living lp
+  dead_within p q n (Some a) None hc hd s lp lq e = some_none a (sym hc ∙ ap (node_of w.nodes) n ∙ hd)
+  dead_within p q n (Some a) (Some b) hc hd s lp lq e =
+      let v = silent_signals p q a.local s in
+      let dead : living a q ≡ false = ap (λ z. living z q) (one_node p q a b hc hd n) ∙ lq in
+      by_test ⊥ (same_pid p q)
+      (λ j. let c : true ≡ false = sym lp ∙ ap (living a) (same_pid_true p q j) ∙ dead in cc)
+      (λ j. not_to_dead p q a a _ _ (kept_within p q a hc n j) (g.core.nodes p.node a hc) lp dead v.0 v.1 e)
+
+  dead_over : (p q : Pid) (t : Trunk) → Stands w p.node t q.node is_up → Stands w q.node t p.node is_up → is_silent p q (list_to w.lists t p.node) ≡ true → is_silent p q (list_to w.lists t q.node) ≡ true
+      → (c d : Option Node) → node_of w.nodes p.node ≡ c → node_of w.nodes q.node ≡ d → living_at c p ≡ true → living_at d q ≡ false → end_at c p q ≡ Active → ⊥
+  dead_over p q t x y s r None d hc hd lp lq e = none_living lp
+  dead_over p q t x y s r (Some a) None hc hd lp lq e = some_none y.side (sym y.there ∙ ap (λ o. side_in o t) hd)
+  dead_over p q t x y s r (Some a) (Some b) hc hd lp lq e =
+      not_to_dead p q a b _ _ (kept_over p q a b t hc hd x y) (g.core.nodes q.node b hd) lp lq ((silent_signals p q (list_to w.lists t q.node) r).0) ((silent_signals p q (list_to w.lists t p.node) s).1) e
+
+  pub no_link_to_the_dead : NoLinkToTheDead w
+  no_link_to_the_dead p q (Within n s) lp lq e = dead_within p q n (node_of w.nodes p.node) (node_of w.nodes q.node) refl refl s lp lq e
+  no_link_to_the_dead p q (Over t x y s r) lp lq e = dead_over p q t x y s r (node_of w.nodes p.node) (node_of w.nodes q.node) refl refl lp lq e
+  no_link_to_the_dead p q (Unconnected n c d) lp lq e = not_active (end_between w p q) (unconnected p q n c) e
+
+  -- one trunk
+  likely : (x y : Name) (t : Trunk) → Stands w x t y is_up → Likely w.nodes w.lists x t y
+  likely x y t s = go (node_of w.nodes x) refl s.there
+    where
+      go : (o : Option Node) → node_of w.nodes x ≡ o → side_in o t ≡ Some s.side → Likely w.nodes w.lists x t y
+      go None h e = some_none s.side (sym e)
+      go (Some a) h e = record { node = a; at = h; side = s.side; there = e; peer = s.peer; may = up_likely s.side.state _ s.state }
+
+  pub one_trunk : OneTrunk w
+  one_trunk x y t u s v = g.single x y t u (likely x y t s) (likely y x u v)
+
+  up_not_losing : (v : State) → is_up v ≡ true → is_losing v ≡ true → ⊥
+  up_not_losing Up h k = cc
+  up_not_losing (AwaitsStatus w) h k = cc
+  up_not_losing (AwaitsChallenge w) h k = cc
+  up_not_losing (AwaitsAck w) h k = cc
+  up_not_losing (Asked w) h k = cc
+  up_not_losing (Parked w) h k = cc
+  up_not_losing (Accepting w) h k = cc
+  up_not_losing Losing h k = cc
+  up_not_losing Gone h k = cc
+
+  pub no_up_beside_losing : NoUpBesideLosing w
+  no_up_beside_losing x y t u s v = go (node_of w.nodes x) refl s.there v.there
+    where
+      go : (o : Option Node) → node_of w.nodes x ≡ o → side_in o t ≡ Some s.side → side_in o u ≡ Some v.side → ⊥
+      go None h e f = some_none s.side (sym e)
+      go (Some a) h e f = pick ((g.core.sides x a h).one t u s.side v.side e f (s.peer ∙ sym v.peer) (up_not_gone s.side.state s.state) lk.0)
+        where
+          lk : (Rattle.dist_model.specs.Step.is_gone v.side.state ≡ false) × (Rattle.dist_model.proofs.Sides.asks v.side.state ≡ false)
+          lk = holds_kinds v.side.state (or_true (is_up v.side.state) (is_losing v.side.state) v.state)
+
+          pick : (t ≡ u) ⊎ (beside s.side.state v.side.state ≡ true) → ⊥
+          pick (inl i) = up_not_losing v.side.state (ap (λ (z : TrunkSide). is_up z.state) (some_same v.side s.side (sym f ∙ ap (side_at a) (sym i) ∙ e)) ∙ s.state) v.state
+          pick (inr i) = no_asks_beside s.side.state v.side.state ((up_holds s.side.state s.state).1) lk.1 i
+
+-- the opening world
+module _ (cs : List (Name × List ℕ)) where
+  new_is : (ds : List (Name × List ℕ)) (x : Name) (n : Node) → node_of (new_nodes ds) x ≡ Some n → (y : Name) × (c : List ℕ) × (n ≡ new_node y c)
+  new_is [] x n h = let e : false ≡ true = ap is_some h in cc
+  new_is (d ∷ ds) x n h = go (same_name d.0 x) h (new_is ds x n)
+    where
+      go : (b : Bool) → cond b (Some (new_node d.0 d.1)) (node_of (new_nodes ds) x) ≡ Some n → (node_of (new_nodes ds) x ≡ Some n → (y : Name) × (c : List ℕ) × (n ≡ new_node y c)) → (y : Name) × (c : List ℕ) × (n ≡ new_node y c)
+      go true h f = (d.0, d.1, sym (some_same (new_node d.0 d.1) n h))
+      go false h f = f h
+
+  no_side : (y : Name) (c : List ℕ) (t : Trunk) → side_at (new_node y c) t ≡ None
+  no_side y c t = fm.get-empty trunk_cmp t
+
+  none_at : (x : Name) (n : Node) (t : Trunk) (s : TrunkSide) → node_of (new_nodes cs) x ≡ Some n → side_at n t ≡ Some s → ⊥
+  none_at x n t s h f =
+      let k = new_is cs x n h in
+      let e : false ≡ true = sym (ap is_some (no_side k.0 k.1 t)) ∙ ap is_some (ap (λ v. side_at v t) (sym k.2) ∙ f) in cc
+
+  new_kept : (y : Name) (c : List ℕ) → NodeKept (new_node y c)
+  new_kept y c = record {
+    born = λ p l. let e : false ≡ true = sym (ap Rattle.dist_model.specs.Node.is_living_life (fm.get-empty Rattle.dist_model.specs.Orders.pid_cmp p)) ∙ l in cc;
+    rooted = λ p q e. absurd (e (ap Rattle.dist_model.specs.Node.end_in (fm.get-empty Rattle.dist_model.specs.Orders.pair_cmp (p, q))));
+  }
+
+  new_end : (y : Name) (c : List ℕ) (p q : Pid) → end_of (new_node y c) p q ≡ Absent
+  new_end y c p q = ap Rattle.dist_model.specs.Node.end_in (fm.get-empty Rattle.dist_model.specs.Orders.pair_cmp (p, q))
+
+  pub good_opening : Good (opening cs)
+  good_opening = record {
+    core = record {
+      nodes = λ x n h. let k = new_is cs x n h in subst (λ v. NodeKept v) (sym k.2) (new_kept k.0 k.1);
+      sides = λ x n h. record { one = λ t u s v hs hv e a b. absurd (none_at x n t s h hs); other = λ t s hs e. none_at x n t s h hs; mine = λ t s hs. absurd (none_at x n t s h hs) };
+      met = λ x n t s h hs d. absurd (none_at x n t s h hs);
+      trunks = λ x y a b t s v ha hb fs fv sy vx us jv p q px qy. absurd (none_at x a t s ha fs);
+    };
+    home = λ x n h. let k = new_is cs x n h in
+        subst (λ v. HomeKept v) (sym k.2) (record {
+          local = tt;
+          pairs = λ p q hp hq d. blank (side_of (new_node k.0 k.1) p q []) (side_of (new_node k.0 k.1) q p []) (new_end k.0 k.1 p q) (new_end k.0 k.1 q p) refl refl;
+          roles = λ t s hs. let e : false ≡ true = sym (ap is_some (no_side k.0 k.1 t)) ∙ ap is_some hs in cc;
+          counts = λ t s hs i. let e : false ≡ true = sym (ap is_some (no_side k.0 k.1 t)) ∙ ap is_some hs in absurd (let f : true ≡ false = sym e in cc);
+        });
+    table = λ t d a s hd fs ha. absurd (none_at t.dialer d t s hd fs);
+    posted = λ t x h. let e : false ≡ true = sym (ap is_some (fm.get-empty place_cmp (t, x))) ∙ h in absurd (let f : true ≡ false = sym e in cc);
+    single = λ x y t u a b. absurd (none_at x a.node t a.side a.at a.there);
+  }

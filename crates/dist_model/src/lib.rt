@@ -1,0 +1,6 @@
+//! The world.
+#![tactic(auto)]
+
+mod laws;
+
+pub use laws::every_run;
