@@ -1,22 +1,30 @@
 -- What comes on a side that is known.
-use Rattle.dist_model.specs.Node.{Item, Handshake, HandshakeMessage, ChallengeAck, ChallengeReply, Challenge, SendName, StatusTrue, StatusFalse, StatusOk, StatusOkSimultaneous, StatusNok, StatusNotAllowed, StatusAlive, State, AwaitsStatus, AwaitsChallenge, AwaitsAck, Asked, Parked, Accepting, Up, Losing, Gone, TrunkSide, Node, Work, is_up, take}
 use Rattle.std.proofs.Common.{◌≡◌, ℕ, Bool, true, false, cond, List, [], ◌∷◌, refl, sym, ap, ◌∙◌, subst, ◌||◌, Some, ◌⊎◌, inl, inr, ◌==◌}
 use Rattle.std.specs.FinMap as fm
-use Rattle.dist_model.specs.Term.{Name, Pid}
-use Rattle.dist_model.specs.Orders.{Trunk, same_name}
-use Rattle.dist_model.specs.Step.{at_work, is_gone, Outcome, Goes, is_good, lost, set_state, write, fault, lose_at, awaits_status, awaits_reply, dig, Took, on_up}
-use Rattle.dist_model.specs.World.{World, signal_of, node_of, set_node, list_to, carried, ends_in}
-use Rattle.dist_model.proofs.Keys.{same_name_true, same_name_is}
-use Rattle.dist_model.proofs.Routes.{some_same, node_of_name, node_of_set_same, node_of_set_other}
-use Rattle.dist_model.proofs.Calls.{by_test, IfGoes}
-use Rattle.dist_model.proofs.Sides.{side_at, joined, asks}
-use Rattle.dist_model.proofs.Table.{partners, is_challenge, begun, is_early, went_up, holds_side, is_accept, is_reply, has, Row, role_state, Posted, Good}
-use Rattle.dist_model.proofs.Reside.{with_side_at, side_after_same}
-use Rattle.dist_model.proofs.Primitives.{good_pushed, good_popped}
-use Rattle.dist_model.proofs.Handshake.{as_state, in_state, good_lost, good_awaits_challenge, good_awaits_ack, good_dialer_up, good_acceptor_up}
+use Rattle.dist_model.proofs.Calls.{IfGoes, by_test}
+use Rattle.dist_model.proofs.Handshake.{as_state, good_acceptor_up, good_awaits_ack, good_awaits_challenge, good_dialer_up, good_lost, in_state}
+use Rattle.dist_model.proofs.Keys.{same_name_is, same_name_true}
+use Rattle.dist_model.proofs.Primitives.{good_popped, good_pushed}
+use Rattle.dist_model.proofs.Reside.{side_after_same, with_side_at}
+use Rattle.dist_model.proofs.Routes.{node_of_name, node_of_set_other, node_of_set_same, some_same}
+use Rattle.dist_model.proofs.Sides.{asks, joined, side_at}
 use Rattle.dist_model.proofs.Signals.{good_arrive}
+use Rattle.dist_model.proofs.Table.{Good, Posted, Row, begun, has, holds_side, is_accept, is_challenge, is_early, is_reply, partners, role_state, went_up}
+use Rattle.dist_model.specs.Arrivals.{is_good, on_up}
+use Rattle.dist_model.specs.Commands.{Goes, Outcome, Took}
+use Rattle.dist_model.specs.Handshake.{awaits_reply, awaits_status, dig, fault, set_state, write}
+use Rattle.dist_model.specs.Items.{Challenge, ChallengeAck, ChallengeReply, Handshake, HandshakeMessage, Item, SendName, StatusAlive, StatusFalse, StatusNok, StatusNotAllowed, StatusOk, StatusOkSimultaneous, StatusTrue, signal_of}
+use Rattle.dist_model.specs.Losses.{lose_at}
+use Rattle.dist_model.specs.Names.{Name, same_name}
+use Rattle.dist_model.specs.Node.{Node}
+use Rattle.dist_model.specs.Sides.{Accepting, Asked, AwaitsAck, AwaitsChallenge, AwaitsStatus, Gone, Losing, Parked, State, TrunkSide, Up, is_gone, is_up, lost}
+use Rattle.dist_model.specs.Taking.{take}
+use Rattle.dist_model.specs.Work.{Work, at_work}
+use Rattle.dist_model.specs.World.{World, carried, ends_in, list_to, node_of, set_node}
+use Rattle.erl_names.specs.declared.trunk.TrunkId.{TrunkId}
+use Rattle.erl_term.specs.declared.term.Pid.{Pid}
 
-module _ (w : World) (x : Name) (n : Node) (t : Trunk) (v : TrunkSide) (i : Item) (rest : List Item) (hx : node_of w.nodes x ≡ Some n)
+module _ (w : World) (x : Name) (n : Node) (t : TrunkId) (v : TrunkSide) (i : Item) (rest : List Item) (hx : node_of w.nodes x ≡ Some n)
     (h : side_at n t ≡ Some v) (g : Good w) (first : list_to w.lists t x ≡ i ∷ rest) where
   -- the world after the event
   abbrev Fin : Work → Type 0
@@ -161,7 +169,7 @@ module _ (w : World) (x : Name) (n : Node) (t : Trunk) (v : TrunkSide) (i : Item
           not_mine : t.dialer ≡ x → role_state (same_name t.dialer n.name) v.state ≡ true → ⊥
           not_mine j f = let c : false ≡ true = sym (ap (λ b. role_state b v.state) (same_name_is t.dialer n.name (j ∙ sym nx)) ∙ ap (role_state true) e) ∙ f in cc
 
-module _ (w : World) (x : Name) (n : Node) (t : Trunk) (v : TrunkSide) (rest : List Item) (hx : node_of w.nodes x ≡ Some n) (h : side_at n t ≡ Some v) (g : Good w) where
+module _ (w : World) (x : Name) (n : Node) (t : TrunkId) (v : TrunkSide) (rest : List Item) (hx : node_of w.nodes x ≡ Some n) (h : side_at n t ≡ Some v) (g : Good w) where
   abbrev Ends : Item → Outcome → Type 0
   Ends i o = list_to w.lists t x ≡ i ∷ rest → IfGoes o (λ p. Good (record { names = w.names; nodes = set_node w.nodes x p.node; lists = carried (fm.insert w.lists (t, x) rest) p.sent }))
 
@@ -200,7 +208,7 @@ module _ (w : World) (x : Name) (n : Node) (t : Trunk) (v : TrunkSide) (rest : L
   good_awaits_reply u s (Challenge a b c d) e = broken 10 (Handshake (Challenge a b c d)) e
 
 -- a side is lost by a call
-pub good_lose : (w : World) (x : Name) (n : Node) (t : Trunk) (v : TrunkSide) → node_of w.nodes x ≡ Some n → side_at n t ≡ Some v → Good w → Good ((ends_in w x w.lists (lose_at v.state t v (at_work n))).world)
+pub good_lose : (w : World) (x : Name) (n : Node) (t : TrunkId) (v : TrunkSide) → node_of w.nodes x ≡ Some n → side_at n t ≡ Some v → Good w → Good ((ends_in w x w.lists (lose_at v.state t v (at_work n))).world)
 good_lose w x n t v hx h g = go v.state refl
   where
     one : (a : State) → v.state ≡ a → Good (record { names = w.names; nodes = set_node w.nodes x (with_side_at n t (as_state v (lost a))); lists = w.lists })

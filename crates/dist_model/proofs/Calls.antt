@@ -1,17 +1,29 @@
 -- What a call or a signal does to each pair of processes.
-use Rattle.dist_model.specs.Node.{Tick, fits, Item, LinkSignal, Message, Exit2, MonitorP, DemonitorP, MonitorPExit, Handshake, Life, Living, Ended, Node, Work, end_of, is_living_life, living, never, reaches, set_life, put, react, traps_life, take, register, unregister, unwatch, same_pids}
 use Rattle.std.proofs.Common.{◌==◌, nat_lt, ◌^◌, ◌≡◌, ℕ, ◌+◌, Bool, true, false, cond, not, List, [], ◌∷◌, refl, sym, ap, ◌∙◌, subst, arith, ◌&&◌, ◌||◌, Option, Some, None}
 use Rattle.std.specs.FinMap as fm
-use Rattle.std.specs.FinMap.{FinMap}
-use Rattle.dist_model.specs.Term.{Pid, Reference, NoProc, NoConnection, DownNote}
-use Rattle.dist_model.specs.Pair.{End, Absent, Active, Pending}
 use Rattle.dist_model.proofs.Kept.{Kept}
-use Rattle.dist_model.specs.Orders.{pid_cmp, same_name, same_pid}
-use Rattle.dist_model.specs.World.{signal_of}
-use Rattle.dist_model.proofs.Keys.{pid_total, same_pid_true, same_pid_refl, same_pid_is, same_name_true, same_name_refl}
-use Rattle.dist_model.specs.Step.{Command, Spawn, Send, MakeLink, EndLink, MakeMonitor, EndMonitor, Trap, ExitTo, ExitSelf, Receive, LinksOf, IsAlive, Outcome, Refuses, Goes, at_work, acting, toward, unlink_by, new_reference, draw_reference, watch, monitor, demonitor_by, spawn_life, next_pid, trapping, without_first, with_life, call}
-use Rattle.dist_model.proofs.Views.{over, view, side_path}
-use Rattle.dist_model.proofs.Moves.{Moves, Homely, stays, then, puts, finishes, carries_out, posts_other, links, unlinks_as, set_life_living}
+use Rattle.dist_model.proofs.Keys.{pid_total, same_name_refl, same_name_true, same_pid_is, same_pid_refl, same_pid_true}
+use Rattle.dist_model.proofs.Moves.{Homely, Moves, carries_out, finishes, links, posts_other, puts, set_life_living, stays, then, unlinks_as}
+use Rattle.dist_model.proofs.Views.{over, side_path, view}
+use Rattle.dist_model.specs.Calls.{acting, call, next_pid, spawn_life, toward, trapping, with_life, without_first}
+use Rattle.dist_model.specs.Commands.{Command, EndLink, EndMonitor, ExitSelf, ExitTo, Goes, IsAlive, LinksOf, MakeLink, MakeMonitor, Outcome, Receive, Refuses, Send, Spawn, Trap}
+use Rattle.dist_model.specs.Exits.{sent_exit}
+use Rattle.dist_model.specs.Fits.{fits}
+use Rattle.dist_model.specs.Items.{AboutLink, DemonitorP, Exit2, Handshake, Item, Message, MonitorP, MonitorPExit, Tick, signal_of}
+use Rattle.dist_model.specs.Linking.{unlink_by}
+use Rattle.dist_model.specs.Links.{noconnection, noproc}
+use Rattle.dist_model.specs.Monitoring.{demonitor_by, draw_reference, monitor, new_reference, watch}
+use Rattle.dist_model.specs.Names.{same_name, same_pid}
+use Rattle.dist_model.specs.Node.{Ended, Life, Living, Node, end_of, is_living_life, living, never, reaches, traps_life}
+use Rattle.dist_model.specs.Taking.{register, same_pids, take, unregister, unwatch}
+use Rattle.dist_model.specs.Work.{Work, at_work, put, set_life}
+use Rattle.erl_term.specs.Order.{pid_cmp}
+use Rattle.erl_term.specs.declared.term.Pid.{Pid}
+use Rattle.erl_term.specs.declared.term.Reference.{Reference}
+use Rattle.exit_core.specs.Messages.{down_term}
+use Rattle.exit_core.specs.Reaction.{reaction}
+use Rattle.link_core.specs.declared.end.End.{End}
+use Rattle.std.specs.FinMap.{FinMap}
 
 -- what holds of the work where the event goes through
 abbrev pub IfGoes : Outcome → (Work → Type 0) → Type 0
@@ -64,13 +76,13 @@ moves_cond false o x y f g = g refl
 
 -- the other signals
 pub takes_other : (x : Item) (o : Work) → ((p q : Pid) → signal_of p q x ≡ []) → Moves o (take x o)
-takes_other (LinkSignal q p s) o h = let n : s ∷ [] ≡ [] = sym (ap (λ t. cond (t && same_pid p p) (s ∷ []) []) (same_pid_refl q) ∙ ap (λ t. cond t (s ∷ []) []) (same_pid_refl p)) ∙ h q p in cc
+takes_other (AboutLink q p s) o h = let n : s ∷ [] ≡ [] = sym (ap (λ t. cond (t && same_pid p p) (s ∷ []) []) (same_pid_refl q) ∙ ap (λ t. cond t (s ∷ []) []) (same_pid_refl p)) ∙ h q p in cc
 takes_other (Message p t) o h = moves_cond (living o.node p) o (put p t o) o (λ l. puts p t o) (λ l. stays o)
-takes_other (Exit2 q p r) o h = moves_cond (living o.node p) o _ o (λ l. carries_out (react false false (traps_life (fm.get o.node.lives p)) (same_pid q p) q r) p o l) (λ l. stays o)
-takes_other (MonitorP q p k) o h = moves_cond (living o.node p) o _ _ (λ l. registers (fm.get o.node.registered k) k (q, p) o) (λ l. posts_other q.node (MonitorPExit p q k NoProc) o (λ a b. refl))
+takes_other (Exit2 q p r) o h = moves_cond (living o.node p) o _ o (λ l. carries_out (reaction (traps_life (fm.get o.node.lives p)) (sent_exit p q r)) p o l) (λ l. stays o)
+takes_other (MonitorP q p k) o h = moves_cond (living o.node p) o _ _ (λ l. registers (fm.get o.node.registered k) k (q, p) o) (λ l. posts_other q.node (MonitorPExit p q k noproc) o (λ a b. refl))
 takes_other (DemonitorP q p k) o h = moves_cond (same_pids (fm.get o.node.registered k) q p) o _ _ (λ l. unregisters k o) (λ l. stays o)
 takes_other (MonitorPExit q p k r) o h = moves_cond (living o.node p && same_pids (fm.get o.node.watches k) p q) o _ _
-    (λ l. then o (unwatch k o) (put p (DownNote k q r) (unwatch k o)) (unwatches_one k o) (puts p (DownNote k q r) (unwatch k o))) (λ l. stays o)
+    (λ l. then o (unwatch k o) (put p (down_term k q r) (unwatch k o)) (unwatches_one k o) (puts p (down_term k q r) (unwatch k o))) (λ l. stays o)
 takes_other (Handshake m) o h = stays o
 takes_other Tick o h = stays o
 
@@ -185,7 +197,7 @@ spawned_stays_born n p h = by_test _ (same_pid p (next_pid n)) (λ e. ap (never 
 
 home_along : (f g : Pid → Bool) (xs : List Item) → ((p : Pid) → f p ≡ false → g p ≡ false) → Homely f xs → Homely g xs
 home_along f g [] h k = tt
-home_along f g (LinkSignal a b x ∷ xs) h k = ((h a k.0.0, h b k.0.1, k.0.2), home_along f g xs h k.1)
+home_along f g (AboutLink a b x ∷ xs) h k = ((h a k.0.0, h b k.0.1, k.0.2), home_along f g xs h k.1)
 home_along f g (Message b x ∷ xs) h k = (tt, home_along f g xs h k.1)
 home_along f g (Exit2 a b x ∷ xs) h k = (tt, home_along f g xs h k.1)
 home_along f g (MonitorP a b x ∷ xs) h k = (tt, home_along f g xs h k.1)
@@ -231,9 +243,9 @@ demonitors None p k o = tt
 demonitors (Some v) p k o = if_cond (same_pid v.0 p) _ 5 (Moves o) (λ h. then o (unwatch k o) _ (unwatches_one k o) (posts_other v.1.node (DemonitorP p v.1 k) (unwatch k o) (λ a b. refl)))
 
 unlinks_by : (e : End) (p q : Pid) (o : Work) → end_of o.node p q ≡ e → living o.node p ≡ true → IfGoes (unlink_by e p q o) (Moves o)
-unlinks_by Absent p q o h l = stays o
-unlinks_by Active p q o h l = if_cond (nat_lt (o.node.unlinks + 1) (2 ^ 64)) _ 4 (Moves o) (λ c. unlinks_as p q o (o.node.unlinks + 1) l h (omega arith))
-unlinks_by (Pending i) p q o h l = stays o
+unlinks_by End.None p q o h l = stays o
+unlinks_by End.Active p q o h l = if_cond (nat_lt (o.node.unlinks + 1) (2 ^ 64)) _ 4 (Moves o) (λ c. unlinks_as p q o (o.node.unlinks + 1) l h (omega arith))
+unlinks_by (End.Pending i) p q o h l = stays o
 
 forged_not : (a b : Bool) → (a && b) ≡ false → a ≡ true → b ≡ false
 forged_not true b h e = h
@@ -260,7 +272,7 @@ calls n (MakeMonitor p q) = acts n p q _ (λ l. if_cond (nat_lt (n.references + 
     let k = new_reference n in
     then (at_work n) o (monitor k p q o) (draws_reference (at_work n)) (moves_cond (reaches o.node q.node) o _ _
     (λ r. then o (watch k (p, q) o) _ (watches_one k (p, q) o) (posts_other q.node (MonitorP p q k) (watch k (p, q) o) (λ a b. refl)))
-    (λ r. puts p (DownNote k q NoConnection) o))))
+    (λ r. puts p (down_term k q noconnection) o))))
 calls n (EndMonitor p k) = if_cond (living n p) _ 3 (Moves (at_work n)) (λ l. demonitors (fm.get n.watches k) p k (at_work n))
 calls n (Trap p b) = if_cond (living n p) _ 3 (Moves (at_work n)) (λ l. sets_life n p (trapping (fm.get n.lives p) b) (living_trapping (fm.get n.lives p) b))
 calls n (ExitTo p q r) = acts n p q _ (λ l. if_cond (fits r) _ 8 (Moves (at_work n)) (λ f. posts_other q.node (Exit2 p q r) (at_work n) (λ a b. refl)))

@@ -1,36 +1,45 @@
 -- The events that close sides.
-use Rattle.dist_model.specs.Node.{Tick, never, LinkSignal, Message, Exit2, MonitorP, DemonitorP, MonitorPExit, Item, Handshake, HandshakeMessage, State, AwaitsStatus, AwaitsChallenge, AwaitsAck, Asked, Parked, Accepting, Up, Losing, Gone, TrunkSide, Node, Envelope, Work, end_of, is_up, is_living_life, end_in}
-use Rattle.dist_model.proofs.Views.{side_path, over, side_of}
 use Rattle.std.proofs.Common.{not, ◌+◌, ◌≡◌, ℕ, Bool, true, false, cond, List, [], ◌∷◌, ◌++◌, refl, sym, ap, ◌∙◌, subst, ◌&&◌, Option, Some, None, ◌⊎◌, inl, inr, T}
-use Rattle.dist_model.proofs.Keys.{and_both, same_pid_true, same_name_true, same_name_is, trunk_total}
-use Rattle.dist_model.proofs.Kept.{Kept, keeps_stop}
-use Rattle.dist_model.specs.Orders.{same_pid, Trunk, trunk_cmp, place_cmp, same_name, pair_cmp, pid_cmp}
-use Rattle.dist_model.specs.Pair.{Signal, Absent}
-use Rattle.dist_model.specs.Term.{Pid, Name}
-use Rattle.dist_model.specs.World.{signals, signal_of, World, node_of, set_node, list_to, carried, ends_in}
-use Rattle.dist_model.specs.Step.{stopped, started, at_work, is_gone, set_state, with_side, write, is_losing, side_where, any_side, link_to, sweep_link, has_records, close, close_if, swept, sweep_by, parked_goes, is_parked, challenge, parked_by, sweep, all_gone}
-use Rattle.dist_model.proofs.Home.{HomePairs}
-use Rattle.dist_model.proofs.Moves.{Homely, HomeItem, home_of, NodeKept, held}
 use Rattle.std.specs.Option.{is_some}
 use Rattle.std.specs.FinMap as fm
-use Rattle.std.specs.FinMap.{FinMap}
-use Rattle.dist_model.proofs.Routes.{some_same, none_some, at_place, node_of_name, node_of_set_same, node_of_set_other, list_to_insert, list_to_carried, side_where_none, side_where_found, Found}
-use Rattle.dist_model.proofs.Calls.{by_test}
-use Rattle.dist_model.proofs.Sides.{side_at, SidesKept, joined, holds, asks, beside}
-use Rattle.dist_model.proofs.Pairs.{Met, WorldKept}
 use Rattle.std.specs.Ordering.{eq_by_cmp, is_eq}
-use Rattle.dist_model.proofs.Table.{Likely, single_kept, may_be_up, is_challenge, begun, begun_state, is_accept, is_reply, Row, role_state, HomeKept, Posted, Good, good_moved}
-use Rattle.dist_model.proofs.Reside.{with_side_at, side_after_same, side_after_other, blank, held_by, Holder}
-use Rattle.dist_model.proofs.Primitives.{good_pushed}
-use Rattle.dist_model.proofs.Handshake.{as_state, in_state, hold_kind}
-use Rattle.dist_model.proofs.NewSides.{set_twice}
-use Rattle.dist_model.proofs.Steps.{not_beside}
 use Rattle.std.specs.FinMap.Entries.{find, is_sorted, below_all}
 use Rattle.std.specs.Cmp.{tied_itself}
 use Rattle.dist_model.proofs.Routes
-use Rattle.dist_model.proofs.Sweeping.{sweep_moves, good_closed, good_unparked}
+use Rattle.dist_model.proofs.Calls.{by_test}
+use Rattle.dist_model.proofs.Handshake.{as_state, hold_kind, in_state}
+use Rattle.dist_model.proofs.Home.{HomePairs}
+use Rattle.dist_model.proofs.Kept.{Kept, keeps_stop}
+use Rattle.dist_model.proofs.Keys.{and_both, same_name_is, same_name_true, same_pid_true, trunk_total}
+use Rattle.dist_model.proofs.Moves.{HomeItem, Homely, NodeKept, held, home_of}
+use Rattle.dist_model.proofs.NewSides.{set_twice}
+use Rattle.dist_model.proofs.Pairs.{Met, WorldKept}
+use Rattle.dist_model.proofs.Primitives.{good_pushed}
+use Rattle.dist_model.proofs.Reside.{Holder, blank, held_by, side_after_other, side_after_same, with_side_at}
+use Rattle.dist_model.proofs.Routes.{node_of_name, node_of_set_other, node_of_set_same, side_where_found, some_same}
+use Rattle.dist_model.proofs.Sides.{SidesKept, asks, beside, holds, joined, side_at}
+use Rattle.dist_model.proofs.Steps.{not_beside}
+use Rattle.dist_model.proofs.Sweeping.{good_closed, good_unparked, sweep_moves}
+use Rattle.dist_model.proofs.Table.{Good, HomeKept, Likely, Posted, Row, begun, begun_state, good_moved, is_accept, is_challenge, is_reply, may_be_up, role_state, single_kept}
+use Rattle.dist_model.proofs.Views.{over, side_of, side_path}
+use Rattle.dist_model.specs.Handshake.{challenge, set_state, with_side, write}
+use Rattle.dist_model.specs.Incarnations.{all_gone, started, stopped}
+use Rattle.dist_model.specs.Items.{AboutLink, DemonitorP, Exit2, Handshake, HandshakeMessage, Item, Message, MonitorP, MonitorPExit, Tick, signal_of, signals}
+use Rattle.dist_model.specs.Links.{LinkWord}
+use Rattle.dist_model.specs.Losses.{any_side, close, close_if, has_records, link_to, parked_by, parked_goes, sweep, sweep_by, sweep_link, swept}
+use Rattle.dist_model.specs.Names.{Name, pair_cmp, place_cmp, same_name, same_pid}
+use Rattle.dist_model.specs.Node.{Node, end_in, end_of, is_living_life, never, side_where}
+use Rattle.dist_model.specs.Sides.{Accepting, Asked, AwaitsAck, AwaitsChallenge, AwaitsStatus, Gone, Losing, Parked, State, TrunkSide, Up, is_gone, is_losing, is_parked, is_up}
+use Rattle.dist_model.specs.Work.{Envelope, Work, at_work}
+use Rattle.dist_model.specs.World.{World, carried, ends_in, list_to, node_of, set_node}
+use Rattle.erl_names.specs.Order.{trunk_cmp}
+use Rattle.erl_names.specs.declared.trunk.TrunkId.{TrunkId}
+use Rattle.erl_term.specs.Order.{pid_cmp}
+use Rattle.erl_term.specs.declared.term.Pid.{Pid}
+use Rattle.link_core.specs.declared.end.End.{End}
+use Rattle.std.specs.FinMap.{FinMap}
 
-any_found : (test : State → Bool) (es : List (Trunk × TrunkSide)) (e : Trunk × TrunkSide) → T (is_sorted trunk_cmp es) → any_side test es ≡ Some e → (find trunk_cmp e.0 es ≡ Some e.1) × (test e.1.state ≡ true)
+any_found : (test : State → Bool) (es : List (TrunkId × TrunkSide)) (e : TrunkId × TrunkSide) → T (is_sorted trunk_cmp es) → any_side test es ≡ Some e → (find trunk_cmp e.0 es ≡ Some e.1) × (test e.1.state ≡ true)
 any_found test [] e s h = let c : false ≡ true = ap is_some h in cc
 any_found test (d ∷ es) e s h =
     elim (test d.1.state) as (λ b. test d.1.state ≡ b → cond b (Some d) (any_side test es) ≡ Some e → (find trunk_cmp e.0 (d ∷ es) ≡ Some e.1) × (test e.1.state ≡ true)) [
@@ -69,17 +78,17 @@ parked_is Losing h = cc
 parked_is Gone h = cc
 
 -- the one that held y is gone: nobody holds y any more
-freed : (n : Node) (t : Trunk) (v : TrunkSide) → SidesKept n → side_at n t ≡ Some v → v.state ≡ Losing → held (with_side_at n t (as_state v Gone)) v.peer ≡ false
+freed : (n : Node) (t : TrunkId) (v : TrunkSide) → SidesKept n → side_at n t ≡ Some v → v.state ≡ Losing → held (with_side_at n t (as_state v Gone)) v.peer ≡ false
 freed n t v k h e = by_test _ (held (with_side_at n t (as_state v Gone)) v.peer) (λ r. absurd (go (held_by (with_side_at n t (as_state v Gone)) v.peer r))) (λ r. r)
   where
-    at : (u : Trunk) (b : TrunkSide) → side_at (with_side_at n t (as_state v Gone)) u ≡ Some b → holds b.state ≡ true → (u ≡ t → ⊥) × (side_at n u ≡ Some b)
+    at : (u : TrunkId) (b : TrunkSide) → side_at (with_side_at n t (as_state v Gone)) u ≡ Some b → holds b.state ≡ true → (u ≡ t → ⊥) × (side_at n u ≡ Some b)
     at u b f hb =
         let d : u ≡ t → ⊥ = λ i.
         let s : as_state v Gone ≡ b = some_same (as_state v Gone) b (sym (side_after_same n t (as_state v Gone)) ∙ ap (side_at (with_side_at n t (as_state v Gone))) (sym i) ∙ f) in
         let c : true ≡ false = sym hb ∙ ap (λ (z : TrunkSide). holds z.state) (sym s) in cc in
         (d, sym (side_after_other n t (as_state v Gone) u d) ∙ f)
 
-    pick : (b : TrunkSide) (u : Trunk) → holds b.state ≡ true → (u ≡ t → ⊥) → (t ≡ u) ⊎ (beside v.state b.state ≡ true) → ⊥
+    pick : (b : TrunkSide) (u : TrunkId) → holds b.state ≡ true → (u ≡ t → ⊥) → (t ≡ u) ⊎ (beside v.state b.state ≡ true) → ⊥
     pick b u hb d (inl i) = d (sym i)
     pick b u hb d (inr i) = not_beside v.state b.state (ap asks e) ((hold_kind b.state hb).2) i
 
@@ -90,7 +99,7 @@ freed n t v k h e = by_test _ (held (with_side_at n t (as_state v Gone)) v.peer)
         pick m.side m.trunk m.holding a.0 (k.one t m.trunk v m.side h a.1 (sym m.peer) (ap is_gone e) ((hold_kind m.side.state m.holding).3))
 
 -- what a handshake message to the own peer needs
-pub good_written : (w : World) (x : Name) (n : Node) (t : Trunk) (v : TrunkSide) (m : HandshakeMessage) → node_of w.nodes x ≡ Some n → side_at n t ≡ Some v → is_accept (Handshake m) ≡ false → is_reply (Handshake m) ≡ false → (is_challenge (Handshake m) ≡ true → (k : ℕ) × (v.state ≡ Accepting k)) → Good w
+pub good_written : (w : World) (x : Name) (n : Node) (t : TrunkId) (v : TrunkSide) (m : HandshakeMessage) → node_of w.nodes x ≡ Some n → side_at n t ≡ Some v → is_accept (Handshake m) ≡ false → is_reply (Handshake m) ≡ false → (is_challenge (Handshake m) ≡ true → (k : ℕ) × (v.state ≡ Accepting k)) → Good w
     → Good (record { names = w.names; nodes = w.nodes; lists = fm.insert w.lists (t, v.peer) (list_to w.lists t v.peer ++ Handshake m ∷ []) })
 good_written w x n t v m hx h na nr ch g = good_pushed w t v.peer m g known
     (λ d a s hd hs ha. (λ j. let c : true ≡ false = sym j ∙ na in cc, λ j. let c : true ≡ false = sym j ∙ nr in cc, λ j. challenged d a s hd hs ha (ch j), λ j. let c : true ≡ false = sym j ∙ nr in cc))
@@ -133,23 +142,23 @@ abbrev pub placed : World → Name → Work → World
 placed w x o = record { names = w.names; nodes = set_node w.nodes x o.node; lists = carried w.lists o.sent }
 
 -- with a side in a new state
-pub placed_state : (w : World) (x : Name) (o : Work) (t : Trunk) (s : TrunkSide) → o.node.name ≡ x → Good (in_state (placed w x o) x o.node t s) → Good (placed w x (with_side t s o))
+pub placed_state : (w : World) (x : Name) (o : Work) (t : TrunkId) (s : TrunkSide) → o.node.name ≡ x → Good (in_state (placed w x o) x o.node t s) → Good (placed w x (with_side t s o))
 placed_state w x o t s e g = subst (λ ns. Good (record { names = w.names; nodes = ns; lists = carried w.lists o.sent })) (set_twice w.nodes x o.node (with_side_at o.node t s) e) g
 
-pub placed_write : (w : World) (x : Name) (o : Work) (t : Trunk) (y : Name) (m : HandshakeMessage) → Good (record { names = w.names; nodes = set_node w.nodes x o.node; lists = fm.insert (carried w.lists o.sent) (t, y) (list_to (carried w.lists o.sent) t y ++ Handshake m ∷ []) }) → Good (placed w x (write t y m o))
+pub placed_write : (w : World) (x : Name) (o : Work) (t : TrunkId) (y : Name) (m : HandshakeMessage) → Good (record { names = w.names; nodes = set_node w.nodes x o.node; lists = fm.insert (carried w.lists o.sent) (t, y) (list_to (carried w.lists o.sent) t y ++ Handshake m ∷ []) }) → Good (placed w x (write t y m o))
 placed_write w x o t y m g = subst (λ l. Good (record { names = w.names; nodes = set_node w.nodes x o.node; lists = l })) (sym (carried-push w.lists o.sent (record { trunk = t; target = y; item = Handshake m }))) g
 
 -- a sweep
 module _ (w : World) (x : Name) (n : Node) (hx : node_of w.nodes x ≡ Some n) where
   -- the node in the midst of the event, after which the side t is to be closed
-  closes : (o : Work) (t : Trunk) (v : TrunkSide) → o.node.name ≡ x → side_at o.node t ≡ Some v → v.state ≡ Losing → has_records v.peer o.node ≡ false → Good (placed w x o) → Good (placed w x (close t v o))
+  closes : (o : Work) (t : TrunkId) (v : TrunkSide) → o.node.name ≡ x → side_at o.node t ≡ Some v → v.state ≡ Losing → has_records v.peer o.node ≡ false → Good (placed w x o) → Good (placed w x (close t v o))
   closes o t v e h los clean g =
       let hw : node_of (placed w x o).nodes x ≡ Some o.node = node_of_set_same w.nodes x n o.node hx e in
       let o1 = set_state t v Gone o in
       let g1 : Good (placed w x o1) = placed_state w x o t (as_state v Gone) e (good_closed (placed w x o) x o.node t v hw h clean g) in
       unparks o1 e (freed o.node t v (g.core.sides x o.node hw) h los) g1 (side_where is_parked v.peer (fm.entries o1.node.sides)) refl
     where
-      go_by : (o1 : Work) → o1.node.name ≡ x → (u : Trunk) (b : TrunkSide) → side_at o1.node u ≡ Some b → held o1.node b.peer ≡ false → Good (placed w x o1) → (a : State) → b.state ≡ a → is_parked a ≡ true → Good (placed w x (parked_goes (Some (u, b)) o1))
+      go_by : (o1 : Work) → o1.node.name ≡ x → (u : TrunkId) (b : TrunkSide) → side_at o1.node u ≡ Some b → held o1.node b.peer ≡ false → Good (placed w x o1) → (a : State) → b.state ≡ a → is_parked a ≡ true → Good (placed w x (parked_goes (Some (u, b)) o1))
       go_by o1 e u b hb nh g a ea pa =
           let k = parked_is b.state (ap is_parked ea ∙ pa) in
           let hw : node_of (placed w x o1).nodes x ≡ Some o1.node = node_of_set_same w.nodes x n o1.node hx e in
@@ -160,13 +169,13 @@ module _ (w : World) (x : Name) (n : Node) (hx : node_of w.nodes x ≡ Some n) w
           let g3 : Good (placed w x (write u b.peer (challenge o1.node k.0) o2)) = placed_write w x o2 u b.peer (challenge o1.node k.0) (good_written (placed w x o2) x o2.node u s (challenge o1.node k.0) hw2 (side_after_same o1.node u s) refl refl (λ j. (k.0, refl)) g2) in
           subst (λ z. Good (placed w x (parked_by z u b o1))) (sym k.1) g3
 
-      unparks : (o1 : Work) → o1.node.name ≡ x → held o1.node v.peer ≡ false → Good (placed w x o1) → (d : Option (Trunk × TrunkSide)) → side_where is_parked v.peer (fm.entries o1.node.sides) ≡ d → Good (placed w x (parked_goes d o1))
+      unparks : (o1 : Work) → o1.node.name ≡ x → held o1.node v.peer ≡ false → Good (placed w x o1) → (d : Option (TrunkId × TrunkSide)) → side_where is_parked v.peer (fm.entries o1.node.sides) ≡ d → Good (placed w x (parked_goes d o1))
       unparks o1 e nh g None i = g
       unparks o1 e nh g (Some d) i =
           let f = side_where_found is_parked v.peer (fm.entries o1.node.sides) d (fm.entries_sorted o1.node.sides) i in
           go_by o1 e d.0 d.1 (fm.get-entries o1.node.sides d.0 ∙ f.there) (ap (held o1.node) f.peer ∙ nh) g d.1.state refl f.passes
 
-  swept_by : (o : Work) (t : Trunk) (v : TrunkSide) → o.node.name ≡ x → side_at o.node t ≡ Some v → v.state ≡ Losing → Good (placed w x o) → Good (placed w x (swept t v o))
+  swept_by : (o : Work) (t : TrunkId) (v : TrunkSide) → o.node.name ≡ x → side_at o.node t ≡ Some v → v.state ≡ Losing → Good (placed w x o) → Good (placed w x (swept t v o))
   swept_by o t v e h los g = go (has_records v.peer o.node) refl
     where
       go : (b : Bool) → has_records v.peer o.node ≡ b → Good (placed w x (close_if b t v o))
@@ -176,7 +185,7 @@ module _ (w : World) (x : Name) (n : Node) (hx : node_of w.nodes x ≡ Some n) w
   pub good_sweep : Good w → Good ((ends_in w x w.lists (sweep n)).world)
   good_sweep g = go (any_side is_losing (fm.entries n.sides)) refl
     where
-      go : (d : Option (Trunk × TrunkSide)) → any_side is_losing (fm.entries n.sides) ≡ d → Good ((ends_in w x w.lists (sweep_by d (at_work n))).world)
+      go : (d : Option (TrunkId × TrunkSide)) → any_side is_losing (fm.entries n.sides) ≡ d → Good ((ends_in w x w.lists (sweep_by d (at_work n))).world)
       go None i = g
       go (Some d) i =
           let r = any_found is_losing (fm.entries n.sides) d (fm.entries_sorted n.sides) i in
@@ -191,7 +200,7 @@ abbrev pub gone_side : Option TrunkSide → Option TrunkSide
 gone_side None = None
 gone_side (Some s) = Some (as_state s Gone)
 
-find_gone : (t : Trunk) (es : List (Trunk × TrunkSide)) → find trunk_cmp t (all_gone es) ≡ gone_side (find trunk_cmp t es)
+find_gone : (t : TrunkId) (es : List (TrunkId × TrunkSide)) → find trunk_cmp t (all_gone es) ≡ gone_side (find trunk_cmp t es)
 find_gone t [] = refl
 find_gone t (e ∷ es) = elim (eq_by_cmp trunk_cmp t e.0) as (λ b. cond b (Some (as_state e.1 Gone)) (find trunk_cmp t (all_gone es)) ≡ gone_side (cond b (Some e.1) (find trunk_cmp t es))) [ true ↦ refl | false ↦ find_gone t es ]
 
@@ -199,15 +208,15 @@ find_gone t (e ∷ es) = elim (eq_by_cmp trunk_cmp t e.0) as (λ b. cond b (Some
 abbrev cleared : Node → (c : ℕ) → Bool → (s r u : ℕ) → List Item → Node
 cleared n c b s r u l = record n { creation = c; up = b; spawned = s; references = r; unlinks = u; lives = fm.empty; ends = fm.empty; watches = fm.empty; registered = fm.empty; sides = fm.from_entries (all_gone (fm.entries n.sides)); local = l }
 
-gone_sides : (n : Node) (t : Trunk) → fm.get {R = trunk_cmp} (fm.from_entries (all_gone (fm.entries n.sides))) t ≡ gone_side (side_at n t)
+gone_sides : (n : Node) (t : TrunkId) → fm.get {R = trunk_cmp} (fm.from_entries (all_gone (fm.entries n.sides))) t ≡ gone_side (side_at n t)
 gone_sides n t = fm.get-from_entries trunk_total (all_gone (fm.entries n.sides)) t ∙ find_gone t (fm.entries n.sides) ∙ ap gone_side (sym (fm.get-entries n.sides t))
 
-record Cleared (n : Node) (t : Trunk) (s : TrunkSide) : Type 0 where
+record Cleared (n : Node) (t : TrunkId) (s : TrunkSide) : Type 0 where
   old : TrunkSide
   was : side_at n t ≡ Some old
   now : s ≡ as_state old Gone
 
-was_side : (n : Node) (t : Trunk) (s : TrunkSide) → fm.get {R = trunk_cmp} (fm.from_entries (all_gone (fm.entries n.sides))) t ≡ Some s → Cleared n t s
+was_side : (n : Node) (t : TrunkId) (s : TrunkSide) → fm.get {R = trunk_cmp} (fm.from_entries (all_gone (fm.entries n.sides))) t ≡ Some s → Cleared n t s
 was_side n t s h = go (side_at n t) refl (sym (gone_sides n t) ∙ h)
   where
     go : (o : Option TrunkSide) → side_at n t ≡ o → gone_side o ≡ Some s → Cleared n t s
@@ -234,7 +243,7 @@ module _ (w : World) (x : Name) (n : Node) (hx : node_of w.nodes x ≡ Some n) (
   is_nc : (y : Name) (a : Node) → x ≡ y → node_of (set_node w.nodes x nc) y ≡ Some a → nc ≡ a
   is_nc y a e h = some_same nc a (sym here3 ∙ ap (node_of (set_node w.nodes x nc)) e ∙ h)
 
-  nc_end : (p q : Pid) → end_of nc p q ≡ Absent
+  nc_end : (p q : Pid) → end_of nc p q ≡ End.None
   nc_end p q = ap end_in (fm.get-empty pair_cmp (p, q))
 
   nc_kept : NodeKept nc
@@ -250,18 +259,18 @@ module _ (w : World) (x : Name) (n : Node) (hx : node_of w.nodes x ≡ Some n) (
     mine = λ t s hs. let k = was_side n t s hs in again t s k ((g.core.sides x n hx).mine t k.old k.was);
   }
     where
-      again : (t : Trunk) (s : TrunkSide) (k : Cleared n t s) → (t.dialer ≡ n.name) ⊎ (t.dialer ≡ k.old.peer) → (t.dialer ≡ n.name) ⊎ (t.dialer ≡ s.peer)
+      again : (t : TrunkId) (s : TrunkSide) (k : Cleared n t s) → (t.dialer ≡ n.name) ⊎ (t.dialer ≡ k.old.peer) → (t.dialer ≡ n.name) ⊎ (t.dialer ≡ s.peer)
       again t s k (inl e) = inl e
       again t s k (inr e) = inr (e ∙ ap (λ (y : TrunkSide). y.peer) (sym k.now))
 
-  still3 : (t : Trunk) (y : Name) → Met w.nodes t y → Met (set_node w.nodes x nc) t y
+  still3 : (t : TrunkId) (y : Name) → Met w.nodes t y → Met (set_node w.nodes x nc) t y
   still3 t y u = by_x3 _ t.dialer
       (λ e.
       let same : n ≡ u.dialer = some_same n u.dialer (sym hx ∙ ap (node_of w.nodes) e ∙ u.at) in
       record { dialer = nc; at = ap (node_of (set_node w.nodes x nc)) (sym e) ∙ here3; side = as_state u.side Gone; there = gone_sides n t ∙ ap gone_side (ap (λ v. side_at v t) same ∙ u.there); peer = u.peer })
       (λ d. record { dialer = u.dialer; at = there3 t.dialer d ∙ u.at; side = u.side; there = u.there; peer = u.peer })
 
-  not_joined3 : (t : Trunk) (s : TrunkSide) → side_at nc t ≡ Some s → (joined s.state ≡ false) × (is_up s.state ≡ false)
+  not_joined3 : (t : TrunkId) (s : TrunkSide) → side_at nc t ≡ Some s → (joined s.state ≡ false) × (is_up s.state ≡ false)
   not_joined3 t s h = let k = was_side n t s h in (ap (λ (y : TrunkSide). joined y.state) k.now, ap (λ (y : TrunkSide). is_up y.state) k.now)
 
   core3 : WorldKept (record { names = w.names; nodes = set_node w.nodes x nc; lists = w.lists })
@@ -315,7 +324,7 @@ module _ (w : World) (x : Name) (n : Node) (hx : node_of w.nodes x ≡ Some n) (
     single = single_kept w.nodes w.lists (set_node w.nodes x nc) w.lists core3.sides (λ y z t o ho l. inl (likely3 y z t l)) g.single;
   }
     where
-      likely3 : (y z : Name) (t : Trunk) → Likely (set_node w.nodes x nc) w.lists y t z → Likely w.nodes w.lists y t z
+      likely3 : (y z : Name) (t : TrunkId) → Likely (set_node w.nodes x nc) w.lists y t z → Likely w.nodes w.lists y t z
       likely3 y z t l = by_x3 _ y
           (λ e.
           let k = was_side n t l.side (ap (λ m. side_at m t) (is_nc y l.node e l.at) ∙ l.there) in
@@ -326,7 +335,7 @@ module _ (w : World) (x : Name) (n : Node) (hx : node_of w.nodes x ≡ Some n) (
       role_gone true = refl
       role_gone false = refl
 
-      still_p : (t : Trunk) (z : Name) → Posted w.nodes t z → Posted (set_node w.nodes x nc) t z
+      still_p : (t : TrunkId) (z : Name) → Posted w.nodes t z → Posted (set_node w.nodes x nc) t z
       still_p t z k = by_x3 _ t.dialer
           (λ e.
           let same : k.1 ≡ n = some_same k.1 n (sym k.2 ∙ ap (node_of w.nodes) (sym e) ∙ hx) in
@@ -341,7 +350,7 @@ strange f p q (x ∷ xs) h k =
     let v = one x k.0 in
     (ap (λ l. l ++ signals p q xs) v.0 ∙ r.0, ap (λ l. l ++ signals q p xs) v.1 ∙ r.1)
   where
-    miss : (a b : Pid) → f a ≡ false → f b ≡ false → (s : Signal) → (signal_of p q (LinkSignal a b s) ≡ []) × (signal_of q p (LinkSignal a b s) ≡ [])
+    miss : (a b : Pid) → f a ≡ false → f b ≡ false → (s : LinkWord) → (signal_of p q (AboutLink a b s) ≡ []) × (signal_of q p (AboutLink a b s) ≡ [])
     miss a b fa fb s = (
       by_test _ (same_pid a p && same_pid b q)
           (λ i. let c : true ≡ false = sym h ∙ ap f (sym (same_pid_true a p (and_both (same_pid a p) (same_pid b q) i).0)) ∙ fa in absurd (let d : true ≡ false = c in cc))
@@ -352,7 +361,7 @@ strange f p q (x ∷ xs) h k =
     )
 
     one : (x : Item) → HomeItem f x → (signal_of p q x ≡ []) × (signal_of q p x ≡ [])
-    one (LinkSignal a b s) m = miss a b m.0 m.1 s
+    one (AboutLink a b s) m = miss a b m.0 m.1 s
     one (Message b m) i = (refl, refl)
     one (Exit2 a b r) i = (refl, refl)
     one (MonitorP a b j) i = (refl, refl)
@@ -362,7 +371,7 @@ strange f p q (x ∷ xs) h k =
     one Tick i = (refl, refl)
 
 module _ (w : World) (x : Name) (n : Node) (hx : node_of w.nodes x ≡ Some n) (g : Good w) where
-  no_end : (p q : Pid) → end_of (stopped n) p q ≡ Absent
+  no_end : (p q : Pid) → end_of (stopped n) p q ≡ End.None
   no_end p q = ap end_in (fm.get-empty pair_cmp (p, q))
 
   stopped_over : (p : Pid) → never n p ≡ false → over (stopped n) p ≡ true
@@ -378,8 +387,8 @@ module _ (w : World) (x : Name) (n : Node) (hx : node_of w.nodes x ≡ Some n) (
       (λ i. by_test _ (never n q)
       (λ j. let v = strange (λ z. never n z) q p n.local j k.local in blank a b (no_end p q) (no_end q p) v.1 v.0)
       (λ j.
-      subst (λ c. Kept c b) (side_path (record { end = Absent; gone = true; drawn = n.unlinks; sent = signals p q n.local }) a (sym (no_end p q)) (sym (stopped_over p i)) refl refl)
-      (subst (λ c. Kept (record { end = Absent; gone = true; drawn = n.unlinks; sent = signals p q n.local }) c) (side_path (record { end = Absent; gone = true; drawn = n.unlinks; sent = signals q p n.local }) b (sym (no_end q p)) (sym (stopped_over q j)) refl refl)
+      subst (λ c. Kept c b) (side_path (record { end = End.None; gone = true; drawn = n.unlinks; sent = signals p q n.local }) a (sym (no_end p q)) (sym (stopped_over p i)) refl refl)
+      (subst (λ c. Kept (record { end = End.None; gone = true; drawn = n.unlinks; sent = signals p q n.local }) c) (side_path (record { end = End.None; gone = true; drawn = n.unlinks; sent = signals q p n.local }) b (sym (no_end q p)) (sym (stopped_over q j)) refl refl)
       (keeps_stop (side_of n p q (signals p q n.local)) (side_of n q p (signals q p n.local)) (k.pairs p q hp hq d)))))
 
   pub good_stopped : Good (record { names = w.names; nodes = set_node w.nodes x (stopped n); lists = w.lists })

@@ -4,14 +4,20 @@ use Rattle.std.specs.declared.cmp.Ordering.{Ordering}
 use Rattle.std.specs.declared.cmp.Ordering.TheVariants.{Less, Equal, Greater}
 use Rattle.std.specs.Ordering.{is_eq, is_lt, eq_by_cmp}
 use Rattle.std.specs.FinMap as fm
-use Rattle.dist_model.specs.Term.{Name, Pid, Reference, Term}
-use Rattle.dist_model.specs.Pair.{Signal, Exit, End, Absent, Active, Pending, farewell, finished, Side}
-use Rattle.dist_model.specs.Orders.{pair_cmp, same_pid}
-use Rattle.dist_model.specs.Node.{Item, DemonitorP, MonitorPExit, Life, Ended, Work, end_in, end_of, is_living_life, living, never, reaches, post_all, exit_for, exits, downs, unwatches, buried, finish}
-use Rattle.dist_model.specs.World.{signals}
-use Rattle.dist_model.proofs.Keys.{pid_total, pair_exact, same_pid_true, same_pid_refl, same_pid_is, same_pair, and_both}
 use Rattle.std.specs.FinMap.Entries.{find, is_sorted, below_all}
-use Rattle.dist_model.proofs.Views.{line, over, view, side_path, post_all_keeps, posted, AllSuit, post_all_view, posted-append, AllSuit-append, linking_suits, signal_other}
+use Rattle.dist_model.proofs.Keys.{and_both, pair_exact, pid_total, same_pair, same_pid_is, same_pid_refl, same_pid_true}
+use Rattle.dist_model.proofs.Pair.{Side, farewell, finished}
+use Rattle.dist_model.proofs.Views.{AllSuit, AllSuit-append, line, linking_suits, over, post_all_keeps, post_all_view, posted, posted-append, side_path, signal_other, view}
+use Rattle.dist_model.specs.Exits.{buried, demonitors, exit_for, exits, finish, monitor_exits}
+use Rattle.dist_model.specs.Items.{DemonitorP, Item, MonitorPExit, signals}
+use Rattle.dist_model.specs.Links.{Exits, LinkWord}
+use Rattle.dist_model.specs.Names.{Name, pair_cmp, same_pid}
+use Rattle.dist_model.specs.Node.{Ended, Life, end_in, end_of, is_living_life, living, never, reaches}
+use Rattle.dist_model.specs.Work.{Work, post_all}
+use Rattle.erl_term.specs.Data.{Data}
+use Rattle.erl_term.specs.declared.term.Pid.{Pid}
+use Rattle.erl_term.specs.declared.term.Reference.{Reference}
+use Rattle.link_core.specs.declared.end.End.{End}
 
 T_and : (a b : Bool) → T (a && b) → T a × T b
 T_and true b h = (tt, h)
@@ -33,27 +39,27 @@ same_pid_sym p q h = go (same_pid q p) refl
     go true e = let c : same_pid p q ≡ true = same_pid_is p q (sym (same_pid_true q p e)) in let n : true ≡ false = sym c ∙ h in cc
     go false e = e
 
-abbrev head : Pid → Term → Pid → Pid → End → List (Name × Item)
+abbrev head : Pid → Data → Pid → Pid → End → List (Name × Item)
 head p r o y e = cond (same_pid o p) (exit_for p r y e) []
 
 -- an exit for another pair says nothing to this one
-exit_miss : (p q x y : Pid) (r : Term) (e : End) → (same_pid x p && same_pid y q) ≡ false → posted p q (exit_for x r y e) ≡ []
-exit_miss p q x y r Absent h = refl
-exit_miss p q x y r Active h = append-nil _ ∙ signal_other (same_pid x p && same_pid y q) (Exit r) h
-exit_miss p q x y r (Pending i) h = refl
+exit_miss : (p q x y : Pid) (r : Data) (e : End) → (same_pid x p && same_pid y q) ≡ false → posted p q (exit_for x r y e) ≡ []
+exit_miss p q x y r End.None h = refl
+exit_miss p q x y r End.Active h = append-nil _ ∙ signal_other (same_pid x p && same_pid y q) (Exits r) h
+exit_miss p q x y r (End.Pending i) h = refl
 
-exit_hit : (p q : Pid) (r : Term) (e : End) → posted p q (exit_for p r q e) ≡ farewell e r
-exit_hit p q r Absent = refl
-exit_hit p q r Active = ap (λ b. cond (b && same_pid q q) (Exit r ∷ []) [] ++ []) (same_pid_refl p) ∙ ap (λ b. cond b (Exit r ∷ []) [] ++ []) (same_pid_refl q)
-exit_hit p q r (Pending i) = refl
+exit_hit : (p q : Pid) (r : Data) (e : End) → posted p q (exit_for p r q e) ≡ farewell e r
+exit_hit p q r End.None = refl
+exit_hit p q r End.Active = ap (λ b. cond (b && same_pid q q) (Exits r ∷ []) [] ++ []) (same_pid_refl p) ∙ ap (λ b. cond b (Exits r ∷ []) [] ++ []) (same_pid_refl q)
+exit_hit p q r (End.Pending i) = refl
 
-head_miss_by : (b : Bool) (p q o y : Pid) (r : Term) (e : End) → same_pid o p ≡ b → (same_pid o p && same_pid y q) ≡ false → posted p q (cond b (exit_for p r y e) []) ≡ []
+head_miss_by : (b : Bool) (p q o y : Pid) (r : Data) (e : End) → same_pid o p ≡ b → (same_pid o p && same_pid y q) ≡ false → posted p q (cond b (exit_for p r y e) []) ≡ []
 head_miss_by true p q o y r e t h =
     let n : same_pid y q ≡ false = ap (λ b. b && same_pid y q) (sym t) ∙ h in
     exit_miss p q p y r e (and_false (same_pid p p) (same_pid y q) n)
 head_miss_by false p q o y r e t h = refl
 
-head_hit : (p q : Pid) (r : Term) (k : Pid × Pid) (e : End) → k ≡ (p, q) → posted p q (head p r k.0 k.1 e) ≡ farewell e r
+head_hit : (p q : Pid) (r : Data) (k : Pid × Pid) (e : End) → k ≡ (p, q) → posted p q (head p r k.0 k.1 e) ≡ farewell e r
 head_hit p q r k e h =
     ap (λ (v : Pid × Pid). posted p q (head p r v.0 v.1 e)) h
     ∙ ap (λ b. posted p q (cond b (exit_for p r q e) [])) (same_pid_refl p)
@@ -72,10 +78,10 @@ apart p q k h = go (same_pid k.0 p && same_pid k.1 q) refl
         let n : true ≡ false = sym (same_pair p q k.0 k.1 ∙ d) ∙ h in cc
     go false e = e
 
-head_step : (p q : Pid) (r : Term) (e : (Pid × Pid) × End) (es : List ((Pid × Pid) × End)) (L : List Signal) → posted p q (head p r e.0.0 e.0.1 e.1) ≡ L → posted p q (exits p r (e ∷ es)) ≡ L ++ posted p q (exits p r es)
+head_step : (p q : Pid) (r : Data) (e : (Pid × Pid) × End) (es : List ((Pid × Pid) × End)) (L : List LinkWord) → posted p q (head p r e.0.0 e.0.1 e.1) ≡ L → posted p q (exits p r (e ∷ es)) ≡ L ++ posted p q (exits p r es)
 head_step p q r e es L h = posted-append p q (head p r e.0.0 e.0.1 e.1) (exits p r es) ∙ ap (λ l. l ++ posted p q (exits p r es)) h
 
-exits_below : (p q : Pid) (r : Term) (es : List ((Pid × Pid) × End)) → T (below_all pair_cmp (p, q) es) → posted p q (exits p r es) ≡ []
+exits_below : (p q : Pid) (r : Data) (es : List ((Pid × Pid) × End)) → T (below_all pair_cmp (p, q) es) → posted p q (exits p r es) ≡ []
 exits_below p q r [] h = refl
 exits_below p q r (e ∷ es) h =
     let t = T_and (is_lt (pair_cmp (p, q) e.0)) (below_all pair_cmp (p, q) es) h in
@@ -87,20 +93,20 @@ is_equal Equal h = refl
 is_equal Greater h = cc
 
 -- what a process that ends sends to q
-exits_by : (b : Bool) (p q : Pid) (r : Term) (e : (Pid × Pid) × End) (es : List ((Pid × Pid) × End)) → eq_by_cmp pair_cmp (p, q) e.0 ≡ b → T (below_all pair_cmp e.0 es) → posted p q (exits p r es) ≡ farewell (end_in (find pair_cmp (p, q) es)) r
+exits_by : (b : Bool) (p q : Pid) (r : Data) (e : (Pid × Pid) × End) (es : List ((Pid × Pid) × End)) → eq_by_cmp pair_cmp (p, q) e.0 ≡ b → T (below_all pair_cmp e.0 es) → posted p q (exits p r es) ≡ farewell (end_in (find pair_cmp (p, q) es)) r
     → posted p q (exits p r (e ∷ es)) ≡ farewell (end_in (cond b (Some e.1) (find pair_cmp (p, q) es))) r
 exits_by true p q r e es h s ih =
     let k : e.0 ≡ (p, q) = sym (pair_exact (p, q) e.0 (is_equal (pair_cmp (p, q) e.0) h)) in
     head_step p q r e es (farewell e.1 r) (head_hit p q r e.0 e.1 k) ∙ ap (λ l. farewell e.1 r ++ l) (exits_below p q r es (subst (λ v. T (below_all pair_cmp v es)) k s)) ∙ append-nil _
 exits_by false p q r e es h s ih = head_step p q r e es [] (head_miss_by (same_pid e.0.0 p) p q e.0.0 e.0.1 r e.1 refl (apart p q e.0 h)) ∙ ih
 
-pub exits_here : (p q : Pid) (r : Term) (es : List ((Pid × Pid) × End)) → T (is_sorted pair_cmp es) → posted p q (exits p r es) ≡ farewell (end_in (find pair_cmp (p, q) es)) r
+pub exits_here : (p q : Pid) (r : Data) (es : List ((Pid × Pid) × End)) → T (is_sorted pair_cmp es) → posted p q (exits p r es) ≡ farewell (end_in (find pair_cmp (p, q) es)) r
 exits_here p q r [] h = refl
 exits_here p q r (e ∷ es) h =
     let t = T_and (below_all pair_cmp e.0 es) (is_sorted pair_cmp es) h in
     exits_by (eq_by_cmp pair_cmp (p, q) e.0) p q r e es refl t.0 (exits_here p q r es t.1)
 
-exits_other : (p q x : Pid) (r : Term) (es : List ((Pid × Pid) × End)) → same_pid x p ≡ false → posted p q (exits x r es) ≡ []
+exits_other : (p q x : Pid) (r : Data) (es : List ((Pid × Pid) × End)) → same_pid x p ≡ false → posted p q (exits x r es) ≡ []
 exits_other p q x r [] h = refl
 exits_other p q x r (e ∷ es) h = posted-append p q (head x r e.0.0 e.0.1 e.1) (exits x r es) ∙ ap (λ l. l ++ posted p q (exits x r es)) (go (same_pid e.0.0 x)) ∙ exits_other p q x r es h
   where
@@ -108,32 +114,32 @@ exits_other p q x r (e ∷ es) h = posted-append p q (head x r e.0.0 e.0.1 e.1) 
     go true = exit_miss p q x e.0.1 r e.1 (ap (λ b. b && same_pid e.0.1 q) h)
     go false = refl
 
-posted_downs : (p q x : Pid) (r : Term) (es : List (Reference × (Pid × Pid))) → posted p q (downs x r es) ≡ []
+posted_downs : (p q x : Pid) (r : Data) (es : List (Reference × (Pid × Pid))) → posted p q (monitor_exits x r es) ≡ []
 posted_downs p q x r [] = refl
 posted_downs p q x r (e ∷ es) =
-    elim (same_pid e.1.1 x) as (λ b. posted p q (cond b ((e.1.0.node, MonitorPExit x e.1.0 e.0 r) ∷ []) [] ++ downs x r es) ≡ []) [ true ↦ posted_downs p q x r es | false ↦ posted_downs p q x r es ]
+    elim (same_pid e.1.1 x) as (λ b. posted p q (cond b ((e.1.0.node, MonitorPExit x e.1.0 e.0 r) ∷ []) [] ++ monitor_exits x r es) ≡ []) [ true ↦ posted_downs p q x r es | false ↦ posted_downs p q x r es ]
 
-posted_unwatches : (p q x : Pid) (es : List (Reference × (Pid × Pid))) → posted p q (unwatches x es) ≡ []
+posted_unwatches : (p q x : Pid) (es : List (Reference × (Pid × Pid))) → posted p q (demonitors x es) ≡ []
 posted_unwatches p q x [] = refl
 posted_unwatches p q x (e ∷ es) =
-    elim (same_pid e.1.0 x) as (λ b. posted p q (cond b ((e.1.1.node, DemonitorP x e.1.1 e.0) ∷ []) [] ++ unwatches x es) ≡ []) [ true ↦ posted_unwatches p q x es | false ↦ posted_unwatches p q x es ]
+    elim (same_pid e.1.0 x) as (λ b. posted p q (cond b ((e.1.1.node, DemonitorP x e.1.1 e.0) ∷ []) [] ++ demonitors x es) ≡ []) [ true ↦ posted_unwatches p q x es | false ↦ posted_unwatches p q x es ]
 
-suits_downs : (p q x : Pid) (r : Term) (es : List (Reference × (Pid × Pid))) → AllSuit p q (downs x r es)
+suits_downs : (p q x : Pid) (r : Data) (es : List (Reference × (Pid × Pid))) → AllSuit p q (monitor_exits x r es)
 suits_downs p q x r [] = tt
 suits_downs p q x r (e ∷ es) =
-    elim (same_pid e.1.1 x) as (λ b. AllSuit p q (cond b ((e.1.0.node, MonitorPExit x e.1.0 e.0 r) ∷ []) [] ++ downs x r es)) [ true ↦ (inr refl, suits_downs p q x r es) | false ↦ suits_downs p q x r es ]
+    elim (same_pid e.1.1 x) as (λ b. AllSuit p q (cond b ((e.1.0.node, MonitorPExit x e.1.0 e.0 r) ∷ []) [] ++ monitor_exits x r es)) [ true ↦ (inr refl, suits_downs p q x r es) | false ↦ suits_downs p q x r es ]
 
-suits_unwatches : (p q x : Pid) (es : List (Reference × (Pid × Pid))) → AllSuit p q (unwatches x es)
+suits_unwatches : (p q x : Pid) (es : List (Reference × (Pid × Pid))) → AllSuit p q (demonitors x es)
 suits_unwatches p q x [] = tt
 suits_unwatches p q x (e ∷ es) =
-    elim (same_pid e.1.0 x) as (λ b. AllSuit p q (cond b ((e.1.1.node, DemonitorP x e.1.1 e.0) ∷ []) [] ++ unwatches x es)) [ true ↦ (inr refl, suits_unwatches p q x es) | false ↦ suits_unwatches p q x es ]
+    elim (same_pid e.1.0 x) as (λ b. AllSuit p q (cond b ((e.1.1.node, DemonitorP x e.1.1 e.0) ∷ []) [] ++ demonitors x es)) [ true ↦ (inr refl, suits_unwatches p q x es) | false ↦ suits_unwatches p q x es ]
 
-suits_exit : (p q x y : Pid) (r : Term) (e : End) → AllSuit p q (exit_for x r y e)
-suits_exit p q x y r Absent = tt
-suits_exit p q x y r Active = (linking_suits x y p q (Exit r), tt)
-suits_exit p q x y r (Pending i) = tt
+suits_exit : (p q x y : Pid) (r : Data) (e : End) → AllSuit p q (exit_for x r y e)
+suits_exit p q x y r End.None = tt
+suits_exit p q x y r End.Active = (linking_suits x y p q (Exits r), tt)
+suits_exit p q x y r (End.Pending i) = tt
 
-suits_exits : (p q x : Pid) (r : Term) (es : List ((Pid × Pid) × End)) → AllSuit p q (exits x r es)
+suits_exits : (p q x : Pid) (r : Data) (es : List ((Pid × Pid) × End)) → AllSuit p q (exits x r es)
 suits_exits p q x r [] = tt
 suits_exits p q x r (e ∷ es) = AllSuit-append p q (head x r e.0.0 e.0.1 e.1) (exits x r es) (go (same_pid e.0.0 x)) (suits_exits p q x r es)
   where
@@ -141,23 +147,23 @@ suits_exits p q x r (e ∷ es) = AllSuit-append p q (head x r e.0.0 e.0.1 e.1) (
     go true = suits_exit p q x e.0.1 r e.1
     go false = tt
 
-abbrev pub last_posts : Pid → Term → Work → List (Name × Item)
-last_posts p r o = exits p r (fm.entries o.node.ends) ++ downs p r (fm.entries o.node.registered) ++ unwatches p (fm.entries o.node.watches)
+abbrev pub last_posts : Pid → Data → Work → List (Name × Item)
+last_posts p r o = exits p r (fm.entries o.node.ends) ++ monitor_exits p r (fm.entries o.node.registered) ++ demonitors p (fm.entries o.node.watches)
 
-suits_last : (p q x : Pid) (r : Term) (o : Work) → AllSuit p q (last_posts x r o)
-suits_last p q x r o = AllSuit-append p q (exits x r (fm.entries o.node.ends) ++ downs x r (fm.entries o.node.registered)) (unwatches x (fm.entries o.node.watches))
-    (AllSuit-append p q (exits x r (fm.entries o.node.ends)) (downs x r (fm.entries o.node.registered)) (suits_exits p q x r _) (suits_downs p q x r _)) (suits_unwatches p q x _)
+suits_last : (p q x : Pid) (r : Data) (o : Work) → AllSuit p q (last_posts x r o)
+suits_last p q x r o = AllSuit-append p q (exits x r (fm.entries o.node.ends) ++ monitor_exits x r (fm.entries o.node.registered)) (demonitors x (fm.entries o.node.watches))
+    (AllSuit-append p q (exits x r (fm.entries o.node.ends)) (monitor_exits x r (fm.entries o.node.registered)) (suits_exits p q x r _) (suits_downs p q x r _)) (suits_unwatches p q x _)
 
-posted_last : (p q x : Pid) (r : Term) (o : Work) → posted p q (last_posts x r o) ≡ posted p q (exits x r (fm.entries o.node.ends))
+posted_last : (p q x : Pid) (r : Data) (o : Work) → posted p q (last_posts x r o) ≡ posted p q (exits x r (fm.entries o.node.ends))
 posted_last p q x r o =
-    posted-append p q (exits x r (fm.entries o.node.ends) ++ downs x r (fm.entries o.node.registered)) (unwatches x (fm.entries o.node.watches))
-    ∙ ap (λ l. posted p q (exits x r (fm.entries o.node.ends) ++ downs x r (fm.entries o.node.registered)) ++ l) (posted_unwatches p q x _)
+    posted-append p q (exits x r (fm.entries o.node.ends) ++ monitor_exits x r (fm.entries o.node.registered)) (demonitors x (fm.entries o.node.watches))
+    ∙ ap (λ l. posted p q (exits x r (fm.entries o.node.ends) ++ monitor_exits x r (fm.entries o.node.registered)) ++ l) (posted_unwatches p q x _)
     ∙ append-nil _
-    ∙ posted-append p q (exits x r (fm.entries o.node.ends)) (downs x r (fm.entries o.node.registered))
+    ∙ posted-append p q (exits x r (fm.entries o.node.ends)) (monitor_exits x r (fm.entries o.node.registered))
     ∙ ap (λ l. posted p q (exits x r (fm.entries o.node.ends)) ++ l) (posted_downs p q x r _)
     ∙ append-nil _
 
-end_cond : (b : Bool) (o : Option End) → b ≡ false → end_in (cond b o None) ≡ Absent
+end_cond : (b : Bool) (o : Option End) → b ≡ false → end_in (cond b o None) ≡ End.None
 end_cond true o h = cc
 end_cond false o h = refl
 
@@ -171,22 +177,22 @@ not_is a b h = ap not h
 alike : (x : Pid) (k v : Pid × Pid) → pair_cmp v k ≡ Equal → not (same_pid k.0 x) ≡ not (same_pid v.0 x)
 alike x k v h = ap (λ (w : Pid × Pid). not (same_pid w.0 x)) (sym (pair_exact v k h))
 
-pub buried_end : (x : Pid) (r : Term) (o : Work) (p q : Pid) → end_of ((buried x r o).node) p q ≡ end_in (cond (not (same_pid p x)) (fm.get o.node.ends (p, q)) None)
+pub buried_end : (x : Pid) (r : Data) (o : Work) (p q : Pid) → end_of ((buried x r o).node) p q ≡ end_in (cond (not (same_pid p x)) (fm.get o.node.ends (p, q)) None)
 buried_end x r o p q = ap end_in (fm.get-retain_keys o.node.ends (λ k. not (same_pid k.0 x)) (p, q) (λ k h. alike x k (p, q) h))
 
-pub buried_living : (x : Pid) (r : Term) (o : Work) (p : Pid) → living ((buried x r o).node) p ≡ is_living_life (cond (same_pid p x) (Some (Ended r)) (fm.get o.node.lives p))
+pub buried_living : (x : Pid) (r : Data) (o : Work) (p : Pid) → living ((buried x r o).node) p ≡ is_living_life (cond (same_pid p x) (Some (Ended r)) (fm.get o.node.lives p))
 buried_living x r o p = ap is_living_life (fm.get-insert pid_total o.node.lives x (Ended r) p)
 
-is_living_cond : (b : Bool) (r : Term) (l : Option Life) → b ≡ true → is_living_life (cond b (Some (Ended r)) l) ≡ false
+is_living_cond : (b : Bool) (r : Data) (l : Option Life) → b ≡ true → is_living_life (cond b (Some (Ended r)) l) ≡ false
 is_living_cond true r l h = refl
 is_living_cond false r l h = cc
 
-is_living_kept : (b : Bool) (r : Term) (l : Option Life) → b ≡ false → is_living_life (cond b (Some (Ended r)) l) ≡ is_living_life l
+is_living_kept : (b : Bool) (r : Data) (l : Option Life) → b ≡ false → is_living_life (cond b (Some (Ended r)) l) ≡ is_living_life l
 is_living_kept true r l h = cc
 is_living_kept false r l h = refl
 
 -- the process that ends
-pub finish_view : (b : List Signal) (p : Pid) (r : Term) (o : Work) (q : Pid) → reaches o.node q.node ≡ true → never o.node p ≡ false → view b (finish p r o) p q ≡ finished false r (view b o p q)
+pub finish_view : (b : List LinkWord) (p : Pid) (r : Data) (o : Work) (q : Pid) → reaches o.node q.node ≡ true → never o.node p ≡ false → view b (finish p r o) p q ≡ finished false r (view b o p q)
 finish_view b p r o q reach born =
     let o1 = post_all (last_posts p r o) o in
     let s = post_all_view b (last_posts p r o) o p q reach (suits_last p q p r o) in
@@ -200,7 +206,7 @@ finish_view b p r o q reach born =
     sent
 
 -- the others
-pub finish_view_other : (b : List Signal) (x : Pid) (r : Term) (o : Work) (p q : Pid) → reaches o.node q.node ≡ true → same_pid p x ≡ false → view b (finish x r o) p q ≡ view b o p q
+pub finish_view_other : (b : List LinkWord) (x : Pid) (r : Data) (o : Work) (p q : Pid) → reaches o.node q.node ≡ true → same_pid p x ≡ false → view b (finish x r o) p q ≡ view b o p q
 finish_view_other b x r o p q reach other =
     let o1 = post_all (last_posts x r o) o in
     let s = post_all_view b (last_posts x r o) o p q reach (suits_last p q x r o) in

@@ -2,31 +2,36 @@
 use Rattle.std.proofs.Common.{◌≡◌, ℕ, Bool, true, false, cond, List, refl, sym, ap, ◌∙◌, subst, ◌||◌, Option, Some, None, ◌⊎◌, inl, inr, nat_lt}
 use Rattle.std.specs.Option.{is_some}
 use Rattle.std.specs.FinMap as fm
-use Rattle.dist_model.specs.Term.{Name}
-use Rattle.dist_model.specs.Orders.{Trunk, name_cmp, same_name}
-use Rattle.dist_model.specs.Node.{Item, Handshake, SendName, StatusOk, StatusOkSimultaneous, StatusNok, State, AwaitsStatus, AwaitsChallenge, AwaitsAck, Asked, Parked, Accepting, Up, Losing, Gone, TrunkSide, Node, Work, is_up}
-use Rattle.dist_model.specs.Step.{at_work, is_gone, Goes, lost, set_state, write, fault, is_losing, has_flags, Broke, Took, side_where, challenge, is_waiting, is_dialing, give_up, accepts, greet_dialing, greet_up, greet, greet_waiting, awaits_name, goes_on, go_on, end_up}
-use Rattle.dist_model.specs.World.{World, node_of}
-use Rattle.dist_model.proofs.Keys.{same_name_true, same_name_is}
-use Rattle.dist_model.proofs.Moves.{held}
-use Rattle.dist_model.proofs.Routes.{some_same, node_of_name, side_where_found, Found}
-use Rattle.dist_model.proofs.Calls.{by_test, IfGoes}
-use Rattle.dist_model.proofs.Sides.{side_at, SidesKept, holds, asks, beside}
-use Rattle.dist_model.proofs.Pairs.{Met}
-use Rattle.dist_model.proofs.Table.{begun_state, up_once, role_state, Posted, Good}
-use Rattle.dist_model.proofs.Reside.{with_side_at, Fits, side_after_same, side_after_other, drops, comes_up, accepts_up, replies_to, alone, resided, blank, held_by, Holder}
-use Rattle.dist_model.proofs.Handshake.{as_state, in_state, good_lost, good_state, fits_state, role_is_acceptor}
 use Rattle.dist_model.proofs.Reside
-use Rattle.dist_model.proofs.Sweeping.{good_unparked}
-use Rattle.dist_model.proofs.Closing.{placed, placed_state, placed_write, good_written}
 use Rattle.std.specs.Ordering.{is_gt}
-use Rattle.dist_model.proofs.Greeting.{set_self, NoneIs, none_is, waits_kind, dials_kind, given, still_none, none_left, first_state, accepted, refused_one, told_alive, at_x}
+use Rattle.dist_model.proofs.Calls.{IfGoes, by_test}
+use Rattle.dist_model.proofs.Closing.{good_written, placed, placed_state, placed_write}
+use Rattle.dist_model.proofs.Greeting.{NoneIs, accepted, at_x, dials_kind, first_state, given, none_is, none_left, refused_one, set_self, still_none, told_alive, waits_kind}
+use Rattle.dist_model.proofs.Handshake.{as_state, fits_state, good_lost, good_state, in_state, role_is_acceptor}
+use Rattle.dist_model.proofs.Keys.{same_name_is, same_name_true}
+use Rattle.dist_model.proofs.Moves.{held}
+use Rattle.dist_model.proofs.Pairs.{Met}
+use Rattle.dist_model.proofs.Reside.{Holder, held_by, side_after_other, side_after_same, with_side_at}
+use Rattle.dist_model.proofs.Routes.{Found, node_of_name, side_where_found, some_same}
+use Rattle.dist_model.proofs.Sides.{SidesKept, asks, beside, holds, side_at}
+use Rattle.dist_model.proofs.Sweeping.{good_unparked}
+use Rattle.dist_model.proofs.Table.{Good, Posted, begun_state, role_state, up_once}
+use Rattle.dist_model.specs.Commands.{Broke, Goes, Took}
+use Rattle.dist_model.specs.Handshake.{accepts, awaits_name, challenge, end_up, fault, give_up, go_on, goes_on, greet, greet_dialing, greet_up, greet_waiting, has_flags, set_state, write}
+use Rattle.dist_model.specs.Items.{Handshake, Item, SendName, StatusNok, StatusOk, StatusOkSimultaneous}
+use Rattle.dist_model.specs.Names.{Name, same_name}
+use Rattle.dist_model.specs.Node.{Node, side_where}
+use Rattle.dist_model.specs.Sides.{Accepting, Asked, AwaitsAck, AwaitsChallenge, AwaitsStatus, Gone, Losing, Parked, State, TrunkSide, Up, is_dialing, is_gone, is_losing, is_up, is_waiting, lost}
+use Rattle.dist_model.specs.Work.{Work, at_work}
+use Rattle.dist_model.specs.World.{World, node_of}
+use Rattle.erl_names.specs.Order.{name_cmp}
+use Rattle.erl_names.specs.declared.trunk.TrunkId.{TrunkId}
 
 or_no : (p q : Bool) → p ≡ false → q ≡ false → (p || q) ≡ false
 or_no true q a b = cc
 or_no false q a b = b
 
-module _ (w : World) (x : Name) (n : Node) (hx : node_of w.nodes x ≡ Some n) (g : Good w) (t : Trunk) (c : ℕ) (far : same_name t.dialer n.name ≡ false)
+module _ (w : World) (x : Name) (n : Node) (hx : node_of w.nodes x ≡ Some n) (g : Good w) (t : TrunkId) (c : ℕ) (far : same_name t.dialer n.name ≡ false)
     (key : is_some (fm.get w.lists (t, x)) ≡ true) (none : side_at n t ≡ None) where
   abbrev s : TrunkSide
   s = record { peer = t.dialer; peer_creation = c; state = Gone }
@@ -52,7 +57,7 @@ module _ (w : World) (x : Name) (n : Node) (hx : node_of w.nodes x ≡ Some n) (
 
   -- the item, any
   module _ (k : ℕ) (i : Item) where
-    dialing_by : (m : Node) → m.name ≡ x → side_at m t ≡ None → NoneIs is_waiting t.dialer m → NoneIs holds t.dialer m → Good (placed w x (at_work m)) → (d : Option (Trunk × TrunkSide)) → side_where is_dialing t.dialer (fm.entries m.sides) ≡ d
+    dialing_by : (m : Node) → m.name ≡ x → side_at m t ≡ None → NoneIs is_waiting t.dialer m → NoneIs holds t.dialer m → Good (placed w x (at_work m)) → (d : Option (TrunkId × TrunkSide)) → side_where is_dialing t.dialer (fm.entries m.sides) ≡ d
         → IfGoes (greet_dialing d t s k i (at_work m)) Pl
     dialing_by m e nm nw nh gm None h = accepted w x n hx t c far m0 (at_work m) k StatusOk e nm refl refl nw (none_is is_dialing t.dialer m h) nh (met_in _ (gm.posted t x key)) gm
     dialing_by m e nm nw nh gm (Some d) h = go (is_gt (name_cmp t.dialer m.name))
@@ -84,13 +89,13 @@ module _ (w : World) (x : Name) (n : Node) (hx : node_of w.nodes x ≡ Some n) (
     greets : (m : Node) → m.name ≡ x → side_at m t ≡ None → NoneIs is_waiting t.dialer m → Good (placed w x (at_work m)) → IfGoes (greet t s k i (at_work m)) Pl
     greets m e nm nw gm = go (side_where holds t.dialer (fm.entries m.sides)) refl
       where
-        go : (d : Option (Trunk × TrunkSide)) → side_where holds t.dialer (fm.entries m.sides) ≡ d → IfGoes (greet_up d t s k i (at_work m)) Pl
+        go : (d : Option (TrunkId × TrunkSide)) → side_where holds t.dialer (fm.entries m.sides) ≡ d → IfGoes (greet_up d t s k i (at_work m)) Pl
         go None h = dialing_by m e nm nw (none_is holds t.dialer m h) gm (side_where is_dialing t.dialer (fm.entries m.sides)) refl
         go (Some d) h =
             let f = side_where_found holds t.dialer (fm.entries m.sides) d (fm.entries_sorted m.sides) h in
             told_alive w x n hx t c far m0 (at_work m) k d e nm (fm.get-entries m.sides d.0 ∙ f.there) f.peer f.passes nw (met_in _ (gm.posted t x key)) gm
 
-    waits : (d : Option (Trunk × TrunkSide)) → side_where is_waiting t.dialer (fm.entries n.sides) ≡ d → IfGoes (greet_waiting d t s k i (at_work n)) Pl
+    waits : (d : Option (TrunkId × TrunkSide)) → side_where is_waiting t.dialer (fm.entries n.sides) ≡ d → IfGoes (greet_waiting d t s k i (at_work n)) Pl
     waits None h = greets n nx none (none_is is_waiting t.dialer n h) g0
     waits (Some d) h = go (nat_lt d.0.count t.count)
       where
@@ -127,7 +132,7 @@ module _ (w : World) (x : Name) (n : Node) (hx : node_of w.nodes x ≡ Some n) (
       go false b = fresh_fault 20
 
 -- Asked: the dialer goes on
-module _ (w : World) (x : Name) (n : Node) (hx : node_of w.nodes x ≡ Some n) (g : Good w) (t : Trunk) (v : TrunkSide) (k : ℕ) (h : side_at n t ≡ Some v) (e : v.state ≡ Asked k) where
+module _ (w : World) (x : Name) (n : Node) (hx : node_of w.nodes x ≡ Some n) (g : Good w) (t : TrunkId) (v : TrunkSide) (k : ℕ) (h : side_at n t ≡ Some v) (e : v.state ≡ Asked k) where
   gz : Good (placed w x (at_work n))
   gz = subst (λ ns. Good (record { names = w.names; nodes = ns; lists = w.lists })) (sym (set_self w.nodes x n hx)) g
 
@@ -144,7 +149,7 @@ module _ (w : World) (x : Name) (n : Node) (hx : node_of w.nodes x ≡ Some n) (
         λ m a ha. cc,
       ))
 
-  on : (o : Work) → o.node.name ≡ x → side_at o.node t ≡ Some v → NoneIs is_up v.peer o.node ⊎ ((d : Trunk × TrunkSide) × (side_at o.node d.0 ≡ Some d.1) × (d.1.peer ≡ v.peer) × (d.1.state ≡ Losing)) → Good (placed w x o) → Good (placed w x (goes_on t v k o))
+  on : (o : Work) → o.node.name ≡ x → side_at o.node t ≡ Some v → NoneIs is_up v.peer o.node ⊎ ((d : TrunkId × TrunkSide) × (side_at o.node d.0 ≡ Some d.1) × (d.1.peer ≡ v.peer) × (d.1.state ≡ Losing)) → Good (placed w x o) → Good (placed w x (goes_on t v k o))
   on o eo ho up go = by (side_where is_losing v.peer (fm.entries o.node.sides)) refl
     where
       not_holds : (s : State) → is_up s ≡ false → is_losing s ≡ false → holds s ≡ false
@@ -157,11 +162,11 @@ module _ (w : World) (x : Name) (n : Node) (hx : node_of w.nodes x ≡ Some n) (
           pick (inl i) = (go.core.sides x o.node (at_x w x n hx o eo)).other t v ho (same_name_true v.peer o.node.name i)
           pick (inr m) = let z : true ≡ false = sym m.holding ∙ not_holds m.side.state (nu m.trunk m.side m.at m.peer) (nl m.trunk m.side m.at m.peer) in cc
 
-      no_up : NoneIs is_losing v.peer o.node → (NoneIs is_up v.peer o.node ⊎ ((d : Trunk × TrunkSide) × (side_at o.node d.0 ≡ Some d.1) × (d.1.peer ≡ v.peer) × (d.1.state ≡ Losing))) → NoneIs is_up v.peer o.node
+      no_up : NoneIs is_losing v.peer o.node → (NoneIs is_up v.peer o.node ⊎ ((d : TrunkId × TrunkSide) × (side_at o.node d.0 ≡ Some d.1) × (d.1.peer ≡ v.peer) × (d.1.state ≡ Losing))) → NoneIs is_up v.peer o.node
       no_up nl (inl a) = a
       no_up nl (inr a) = let z : true ≡ false = sym (ap is_losing a.3) ∙ nl a.0.0 a.0.1 a.1 a.2 in absurd (let y : true ≡ false = z in cc)
 
-      by : (d : Option (Trunk × TrunkSide)) → side_where is_losing v.peer (fm.entries o.node.sides) ≡ d → Good (placed w x (go_on d t v k o))
+      by : (d : Option (TrunkId × TrunkSide)) → side_where is_losing v.peer (fm.entries o.node.sides) ≡ d → Good (placed w x (go_on d t v k o))
       by (Some d) i = parks o eo ho go
       by None i =
           let nl = none_is is_losing v.peer o.node i in
@@ -186,7 +191,7 @@ module _ (w : World) (x : Name) (n : Node) (hx : node_of w.nodes x ≡ Some n) (
       up_is Losing i = cc
       up_is Gone i = cc
 
-      go : (d : Option (Trunk × TrunkSide)) → side_where is_up v.peer (fm.entries n.sides) ≡ d → Good (placed w x (goes_on t v k (end_up d (at_work n))))
+      go : (d : Option (TrunkId × TrunkSide)) → side_where is_up v.peer (fm.entries n.sides) ≡ d → Good (placed w x (goes_on t v k (end_up d (at_work n))))
       go None i = on (at_work n) nn h (inl (none_is is_up v.peer n i)) gz
       go (Some d) i =
           let f = side_where_found is_up v.peer (fm.entries n.sides) d (fm.entries_sorted n.sides) i in
@@ -200,5 +205,5 @@ module _ (w : World) (x : Name) (n : Node) (hx : node_of w.nodes x ≡ Some n) (
           on (set_state d.0 d.1 Losing (at_work n)) nn (side_after_other n d.0 (as_state d.1 Losing) t apart ∙ h)
           (inr (d_losing d f.peer)) g1
         where
-          d_losing : (d : Trunk × TrunkSide) → d.1.peer ≡ v.peer → (b : Trunk × TrunkSide) × (side_at (with_side_at n d.0 (as_state d.1 Losing)) b.0 ≡ Some b.1) × (b.1.peer ≡ v.peer) × (b.1.state ≡ Losing)
+          d_losing : (d : TrunkId × TrunkSide) → d.1.peer ≡ v.peer → (b : TrunkId × TrunkSide) × (side_at (with_side_at n d.0 (as_state d.1 Losing)) b.0 ≡ Some b.1) × (b.1.peer ≡ v.peer) × (b.1.state ≡ Losing)
           d_losing d p = ((d.0, as_state d.1 Losing), side_after_same n d.0 (as_state d.1 Losing), p, refl)

@@ -2,22 +2,25 @@
 use Rattle.std.proofs.Common.{◌≡◌, ℕ, Bool, true, false, cond, List, [], ◌∷◌, refl, sym, ap, ◌∙◌, subst, ◌&&◌, ◌||◌, Some, None, ◌⊎◌, inl, inr}
 use Rattle.std.specs.Option.{is_some}
 use Rattle.std.specs.FinMap as fm
-use Rattle.dist_model.specs.Term.{Name}
-use Rattle.dist_model.specs.Orders.{Trunk, same_name}
-use Rattle.dist_model.specs.Node.{Handshake, HandshakeMessage, StatusNok, StatusAlive, State, AwaitsStatus, AwaitsChallenge, AwaitsAck, Asked, Parked, Accepting, Up, Losing, Gone, TrunkSide, Node, Work}
-use Rattle.dist_model.specs.Step.{is_gone, lost, set_state, write, side_where, challenge, is_waiting, is_dialing, give_up}
-use Rattle.dist_model.specs.World.{World, node_of, set_node}
-use Rattle.dist_model.proofs.Keys.{same_trunk, same_trunk_true, same_trunk_is, same_name_is}
-use Rattle.dist_model.proofs.Routes.{some_same, node_of_name, node_of_set_same, side_where_none}
 use Rattle.dist_model.proofs.Calls.{by_test}
-use Rattle.dist_model.proofs.Sides.{side_at, SidesKept, joined, holds, asks, beside}
-use Rattle.dist_model.proofs.Pairs.{Met}
-use Rattle.dist_model.proofs.Steps.{kind}
-use Rattle.dist_model.proofs.Table.{is_challenge, up_once, is_accept, is_reply, role_state, Good}
-use Rattle.dist_model.proofs.Reside.{with_side_at, side_after_same, side_after_other}
-use Rattle.dist_model.proofs.Handshake.{as_state, in_state, good_lost, hold_kind}
+use Rattle.dist_model.proofs.Closing.{good_written, placed, placed_state, placed_write}
+use Rattle.dist_model.proofs.Handshake.{as_state, good_lost, hold_kind, in_state}
+use Rattle.dist_model.proofs.Keys.{same_name_is, same_trunk, same_trunk_is, same_trunk_true}
 use Rattle.dist_model.proofs.NewSides.{good_new}
-use Rattle.dist_model.proofs.Closing.{placed, placed_state, placed_write, good_written}
+use Rattle.dist_model.proofs.Pairs.{Met}
+use Rattle.dist_model.proofs.Reside.{side_after_other, side_after_same, with_side_at}
+use Rattle.dist_model.proofs.Routes.{node_of_name, node_of_set_same, side_where_none, some_same}
+use Rattle.dist_model.proofs.Sides.{SidesKept, asks, beside, holds, joined, side_at}
+use Rattle.dist_model.proofs.Steps.{kind}
+use Rattle.dist_model.proofs.Table.{Good, is_accept, is_challenge, is_reply, role_state, up_once}
+use Rattle.dist_model.specs.Handshake.{challenge, give_up, set_state, write}
+use Rattle.dist_model.specs.Items.{Handshake, HandshakeMessage, StatusAlive, StatusNok}
+use Rattle.dist_model.specs.Names.{Name, same_name}
+use Rattle.dist_model.specs.Node.{Node, side_where}
+use Rattle.dist_model.specs.Sides.{Accepting, Asked, AwaitsAck, AwaitsChallenge, AwaitsStatus, Gone, Losing, Parked, State, TrunkSide, Up, is_dialing, is_gone, is_waiting, lost}
+use Rattle.dist_model.specs.Work.{Work}
+use Rattle.dist_model.specs.World.{World, node_of, set_node}
+use Rattle.erl_names.specs.declared.trunk.TrunkId.{TrunkId}
 
 pub set_self : (ns : List Node) (x : Name) (n : Node) → node_of ns x ≡ Some n → set_node ns x n ≡ ns
 set_self [] x n h = refl
@@ -25,7 +28,7 @@ set_self (m ∷ ns) x n h = elim (same_name m.name x) as (λ b. cond b (Some m) 
 
 -- no side towards y passes the test
 abbrev pub NoneIs : (State → Bool) → Name → Node → Type 0
-NoneIs test y m = (u : Trunk) (b : TrunkSide) → side_at m u ≡ Some b → b.peer ≡ y → test b.state ≡ false
+NoneIs test y m = (u : TrunkId) (b : TrunkSide) → side_at m u ≡ Some b → b.peer ≡ y → test b.state ≡ false
 
 pub none_is : (test : State → Bool) (y : Name) (m : Node) → side_where test y (fm.entries m.sides) ≡ None → NoneIs test y m
 none_is test y m h u b f e = side_where_none test y (fm.entries m.sides) u b h (sym (fm.get-entries m.sides u) ∙ f) e
@@ -91,7 +94,7 @@ module _ (w : World) (x : Name) (n : Node) (hx : node_of w.nodes x ≡ Some n) w
   at_x o e = node_of_set_same w.nodes x n o.node hx e
 
   -- a side that doesn't hold is given up
-  pub given : (o : Work) (d : Trunk × TrunkSide) → o.node.name ≡ x → side_at o.node d.0 ≡ Some d.1 → holds d.1.state ≡ false → Good (placed w x o) → Good (placed w x (give_up (Some d) o))
+  pub given : (o : Work) (d : TrunkId × TrunkSide) → o.node.name ≡ x → side_at o.node d.0 ≡ Some d.1 → holds d.1.state ≡ false → Good (placed w x o) → Good (placed w x (give_up (Some d) o))
   given o d e h nh g = placed_state w x o d.0 (as_state d.1 Gone) e
       (subst (λ z. Good (in_state (placed w x o) x o.node d.0 (as_state d.1 z))) (lost_is d.1.state nh) (good_lost (placed w x o) x o.node d.0 d.1 (at_x o e) h g))
     where
@@ -107,7 +110,7 @@ module _ (w : World) (x : Name) (n : Node) (hx : node_of w.nodes x ≡ Some n) w
       lost_is Gone i = refl
 
   -- what it leaves
-  pub left_over : (m : Node) (d : Trunk × TrunkSide) (u : Trunk) (b : TrunkSide) → side_at (with_side_at m d.0 (as_state d.1 Gone)) u ≡ Some b → (b.state ≡ Gone) ⊎ ((u ≡ d.0 → ⊥) × (side_at m u ≡ Some b))
+  pub left_over : (m : Node) (d : TrunkId × TrunkSide) (u : TrunkId) (b : TrunkSide) → side_at (with_side_at m d.0 (as_state d.1 Gone)) u ≡ Some b → (b.state ≡ Gone) ⊎ ((u ≡ d.0 → ⊥) × (side_at m u ≡ Some b))
   left_over m d u b f = by_test _ (same_trunk u d.0)
       (λ i.
       let e : u ≡ d.0 = same_trunk_true u d.0 i in
@@ -117,14 +120,14 @@ module _ (w : World) (x : Name) (n : Node) (hx : node_of w.nodes x ≡ Some n) w
       let e : u ≡ d.0 → ⊥ = λ j. let c : true ≡ false = sym (same_trunk_is u d.0 j) ∙ i in cc in
       inr (e, sym (side_after_other m d.0 (as_state d.1 Gone) u e) ∙ f))
 
-  pub still_none : (test : State → Bool) (y : Name) (m : Node) (d : Trunk × TrunkSide) → test Gone ≡ false → NoneIs test y m → NoneIs test y (with_side_at m d.0 (as_state d.1 Gone))
+  pub still_none : (test : State → Bool) (y : Name) (m : Node) (d : TrunkId × TrunkSide) → test Gone ≡ false → NoneIs test y m → NoneIs test y (with_side_at m d.0 (as_state d.1 Gone))
   still_none test y m d t k u b f e = pick (left_over m d u b f)
     where
       pick : (b.state ≡ Gone) ⊎ ((u ≡ d.0 → ⊥) × (side_at m u ≡ Some b)) → test b.state ≡ false
       pick (inl i) = ap test i ∙ t
       pick (inr i) = k u b i.1 e
 
-  pub none_left : (test : State → Bool) (y : Name) (m : Node) (d : Trunk × TrunkSide) → SidesKept m → side_at m d.0 ≡ Some d.1 → d.1.peer ≡ y → test d.1.state ≡ true → test Gone ≡ false
+  pub none_left : (test : State → Bool) (y : Name) (m : Node) (d : TrunkId × TrunkSide) → SidesKept m → side_at m d.0 ≡ Some d.1 → d.1.peer ≡ y → test d.1.state ≡ true → test Gone ≡ false
       → ((v : State) → test v ≡ true → (holds v ≡ false) × (is_gone v ≡ false)) → NoneIs test y (with_side_at m d.0 (as_state d.1 Gone))
   none_left test y m d sk hd yd td tg kind u b f e = pick (left_over m d u b f)
     where
@@ -136,13 +139,13 @@ module _ (w : World) (x : Name) (n : Node) (hx : node_of w.nodes x ≡ Some n) w
       pick (inl i) = ap test i ∙ tg
       pick (inr i) = by_test _ (test b.state) (λ t. absurd (crowd (sk.one d.0 u d.1 b hd i.1 (yd ∙ sym e) (kind d.1.state td).1 (kind b.state t).1) i.0 t)) (λ t. t)
 
-  module _ (t : Trunk) (c : ℕ) (far : same_name t.dialer n.name ≡ false) (dialer : Met w.nodes t x) where
+  module _ (t : TrunkId) (c : ℕ) (far : same_name t.dialer n.name ≡ false) (dialer : Met w.nodes t x) where
     abbrev s : TrunkSide
     s = record { peer = t.dialer; peer_creation = c; state = Gone }
 
     -- a fresh side in its first state
     pub first_state : (o : Work) (v : State) → o.node.name ≡ x → side_at o.node t ≡ None → joined v ≡ false → role_state false v ≡ true → (up_once v ≡ false) ⊎ (is_gone v ≡ true) → holds v ≡ false
-        → ((u : Trunk) (b : TrunkSide) → side_at o.node u ≡ Some b → b.peer ≡ t.dialer → is_gone v ≡ false → is_gone b.state ≡ false → beside v b.state ≡ true)
+        → ((u : TrunkId) (b : TrunkSide) → side_at o.node u ≡ Some b → b.peer ≡ t.dialer → is_gone v ≡ false → is_gone b.state ≡ false → beside v b.state ≡ true)
         → Met (placed w x o).nodes t x → Good (placed w x o) → Good (placed w x (set_state t s v o))
     first_state o v e none j role kind hold room met g =
         let apart : same_name t.dialer o.node.name ≡ false = ap (same_name t.dialer) (e ∙ sym (node_of_name w.nodes x n hx)) ∙ far in
@@ -178,7 +181,7 @@ module _ (w : World) (x : Name) (n : Node) (hx : node_of w.nodes x ≡ Some n) w
         let g1 = first_state o Gone e none refl refl (inr refl) refl (λ u b hb eb gs gb. let z : true ≡ false = gs in cc) met g in
         answer (set_state t s Gone o) Gone StatusNok e (side_after_same o.node t (as_state s Gone)) refl refl (λ j. absurd (let z : false ≡ true = j in cc)) g1
 
-    pub told_alive : (o : Work) (k : ℕ) (d : Trunk × TrunkSide) → o.node.name ≡ x → side_at o.node t ≡ None → side_at o.node d.0 ≡ Some d.1 → d.1.peer ≡ t.dialer → holds d.1.state ≡ true
+    pub told_alive : (o : Work) (k : ℕ) (d : TrunkId × TrunkSide) → o.node.name ≡ x → side_at o.node t ≡ None → side_at o.node d.0 ≡ Some d.1 → d.1.peer ≡ t.dialer → holds d.1.state ≡ true
         → NoneIs is_waiting t.dialer o.node → Met (placed w x o).nodes t x → Good (placed w x o) → Good (placed w x (write t t.dialer StatusAlive (set_state t s (Asked k) o)))
     told_alive o k d e none hd yd td nw met g =
         let sk = g.core.sides x o.node (at_x o e) in
@@ -205,7 +208,7 @@ module _ (w : World) (x : Name) (n : Node) (hx : node_of w.nodes x ≡ Some n) w
         first_part false q false u i j = cc
         first_part p q true u i j = cc
 
-        holder : (u : Trunk) (b : TrunkSide) → side_at o.node u ≡ Some b → b.peer ≡ t.dialer → is_gone b.state ≡ false → (d.0 ≡ u) ⊎ (beside d.1.state b.state ≡ true) → holds b.state ≡ true
+        holder : (u : TrunkId) (b : TrunkSide) → side_at o.node u ≡ Some b → b.peer ≡ t.dialer → is_gone b.state ≡ false → (d.0 ≡ u) ⊎ (beside d.1.state b.state ≡ true) → holds b.state ≡ true
         holder u b hb eb gb (inl i) = ap (λ (z : TrunkSide). holds z.state) (some_same b d.1 (sym hb ∙ ap (side_at o.node) (sym i) ∙ hd)) ∙ td
         holder u b hb eb gb (inr i) =
             let a : asks b.state ≡ true = first_part (holds d.1.state) (asks b.state) (asks d.1.state) (holds b.state) ((hold_kind d.1.state td).2) i in

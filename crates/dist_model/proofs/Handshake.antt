@@ -1,19 +1,21 @@
 -- The events of the handshake.
 use Rattle.std.proofs.Common.{◌≡◌, ℕ, Bool, true, false, refl, sym, ap, ◌∙◌, subst, ◌&&◌, ◌||◌, Option, Some, ◌⊎◌, inl, inr}
-use Rattle.dist_model.specs.Term.{Name, Pid}
-use Rattle.dist_model.specs.Pair.{Absent}
-use Rattle.dist_model.specs.Orders.{Trunk, same_name}
-use Rattle.dist_model.specs.Node.{State, AwaitsStatus, AwaitsChallenge, AwaitsAck, Asked, Parked, Accepting, Up, Losing, Gone, TrunkSide, Node, end_of, is_up}
-use Rattle.dist_model.specs.Step.{is_gone, lost}
-use Rattle.dist_model.specs.World.{World, signals, node_of, set_node, list_to}
-use Rattle.dist_model.proofs.Keys.{same_name_true, same_name_is}
-use Rattle.dist_model.proofs.Routes.{some_same, node_of_name}
 use Rattle.dist_model.proofs.Calls.{by_test}
-use Rattle.dist_model.proofs.Sides.{side_at, SidesKept, joined, holds, asks, beside}
+use Rattle.dist_model.proofs.Keys.{same_name_is, same_name_true}
 use Rattle.dist_model.proofs.Pairs.{WorldKept}
-use Rattle.dist_model.proofs.Table.{likely_kind, not_begun_not_went, may_be_up, is_early, up_once, went_up, holds_side, is_accept, is_reply, has, Row, role_state, Good, not_holds_not_up}
-use Rattle.dist_model.proofs.Reside.{with_side_at, Fits, drops, comes_up, accepts_up, replies_to}
 use Rattle.dist_model.proofs.Primitives.{good_resided}
+use Rattle.dist_model.proofs.Reside.{Fits, accepts_up, comes_up, drops, replies_to, with_side_at}
+use Rattle.dist_model.proofs.Routes.{node_of_name, some_same}
+use Rattle.dist_model.proofs.Sides.{SidesKept, asks, beside, holds, joined, side_at}
+use Rattle.dist_model.proofs.Table.{Good, Row, has, holds_side, is_accept, is_early, is_reply, likely_kind, may_be_up, not_begun_not_went, not_holds_not_up, role_state, up_once, went_up}
+use Rattle.dist_model.specs.Items.{signals}
+use Rattle.dist_model.specs.Names.{Name, same_name}
+use Rattle.dist_model.specs.Node.{Node, end_of}
+use Rattle.dist_model.specs.Sides.{Accepting, Asked, AwaitsAck, AwaitsChallenge, AwaitsStatus, Gone, Losing, Parked, State, TrunkSide, Up, is_gone, is_up, lost}
+use Rattle.dist_model.specs.World.{World, list_to, node_of, set_node}
+use Rattle.erl_names.specs.declared.trunk.TrunkId.{TrunkId}
+use Rattle.erl_term.specs.declared.term.Pid.{Pid}
+use Rattle.link_core.specs.declared.end.End.{End}
 
 -- a side of n that gets another state
 pub beside_neither : (a b : State) → holds a ≡ false → asks a ≡ false → beside a b ≡ true → ⊥
@@ -24,7 +26,7 @@ beside_neither a b h k e = go (holds a) (asks b) (asks a) (holds b) h k e
     go p q true s h k e = cc
     go false q false s h k e = cc
 
-pub fits_state : (n : Node) (t : Trunk) (v s : TrunkSide) → SidesKept n → side_at n t ≡ Some v → v.peer ≡ s.peer → is_gone v.state ≡ false
+pub fits_state : (n : Node) (t : TrunkId) (v s : TrunkSide) → SidesKept n → side_at n t ≡ Some v → v.peer ≡ s.peer → is_gone v.state ≡ false
     → ((b : State) → beside v.state b ≡ true → beside s.state b ≡ true) → (holds v.state ≡ true → holds s.state ≡ false → ⊥) → Fits n t s
 fits_state n t v s k h e ng mono hold = record {
   stranger = λ i. k.other t v h (e ∙ i);
@@ -38,12 +40,12 @@ fits_state n t v s k h e ng mono hold = record {
     role (inl i) = inl i
     role (inr i) = inr (i ∙ e)
 
-    pick : (u : Trunk) (b : TrunkSide) → (u ≡ t → ⊥) → (t ≡ u) ⊎ (beside v.state b.state ≡ true) → beside s.state b.state ≡ true
+    pick : (u : TrunkId) (b : TrunkSide) → (u ≡ t → ⊥) → (t ≡ u) ⊎ (beside v.state b.state ≡ true) → beside s.state b.state ≡ true
     pick u b d (inl i) = absurd (d (sym i))
     pick u b d (inr i) = mono b.state i
 
-pub fits_gone : (n : Node) (t : Trunk) (v s : TrunkSide) → SidesKept n → side_at n t ≡ Some v → v.peer ≡ s.peer → is_gone s.state ≡ true
-    → (holds v.state ≡ true → (p q : Pid) → q.node ≡ s.peer → end_of n p q ≡ Absent) → Fits n t s
+pub fits_gone : (n : Node) (t : TrunkId) (v s : TrunkSide) → SidesKept n → side_at n t ≡ Some v → v.peer ≡ s.peer → is_gone s.state ≡ true
+    → (holds v.state ≡ true → (p q : Pid) → q.node ≡ s.peer → end_of n p q ≡ End.None) → Fits n t s
 fits_gone n t v s k h e gone hold = record {
   stranger = λ i. k.other t v h (e ∙ i);
   role = role (k.mine t v h);
@@ -57,14 +59,14 @@ fits_gone n t v s k h e gone hold = record {
     role (inr i) = inr (i ∙ e)
 
 -- the rows on which a side of x stands
-abbrev pub RowsKeep : World → Name → Trunk → TrunkSide → TrunkSide → Type 0
+abbrev pub RowsKeep : World → Name → TrunkId → TrunkSide → TrunkSide → Type 0
 RowsKeep w x t v s =
     ((a : Option TrunkSide) → t.dialer ≡ x → Row v.state a (list_to w.lists t t.dialer) (list_to w.lists t s.peer) → Row s.state a (list_to w.lists t t.dialer) (list_to w.lists t s.peer))
     × ((d : State) (y : Name) → y ≡ x → (t.dialer ≡ x → ⊥) → Row d (Some v) (list_to w.lists t t.dialer) (list_to w.lists t y) → Row d (Some s) (list_to w.lists t t.dialer) (list_to w.lists t y))
     × (may_be_up s.state (list_to w.lists t x) ≡ true → (a : Node) → node_of w.nodes s.peer ≡ Some a → may_be_up v.state (list_to w.lists t x) ≡ true)
 
 -- an old side in a new state
-pub good_state : (w : World) (x : Name) (n : Node) (t : Trunk) (v s : TrunkSide) → node_of w.nodes x ≡ Some n → side_at n t ≡ Some v → v.peer ≡ s.peer → Fits n t s → Good w
+pub good_state : (w : World) (x : Name) (n : Node) (t : TrunkId) (v s : TrunkSide) → node_of w.nodes x ≡ Some n → side_at n t ≡ Some v → v.peer ≡ s.peer → Fits n t s → Good w
     → WorldKept (record { names = w.names; nodes = set_node w.nodes x (with_side_at n t s); lists = w.lists })
     → role_state (same_name t.dialer n.name) s.state ≡ true → RowsKeep w x t v s
     → Good (record { names = w.names; nodes = set_node w.nodes x (with_side_at n t s); lists = w.lists })
@@ -125,7 +127,7 @@ hold_kind Up h = (refl, refl, refl, refl)
 hold_kind Losing h = (refl, refl, refl, refl)
 hold_kind Gone h = cc
 
-pub rows_gone : (w : World) (x : Name) (t : Trunk) (v s : TrunkSide) → is_gone s.state ≡ true → RowsKeep w x t v s
+pub rows_gone : (w : World) (x : Name) (t : TrunkId) (v s : TrunkSide) → is_gone s.state ≡ true → RowsKeep w x t v s
 rows_gone w x t v s e =
     let k = gone_kind s.state e in (
       λ a di r. record { before = λ h. let b = r.before h in (k.0, b.1, b.2, b.3); early = λ h. let c : true ≡ false = sym h ∙ k.1 in cc; waits = r.waits },
@@ -133,7 +135,7 @@ rows_gone w x t v s e =
       λ m a ha. let c : true ≡ false = sym e ∙ (likely_kind s.state _ m).0 in cc,
     )
 
-rows_hold : (w : World) (x : Name) (t : Trunk) (v s : TrunkSide) → holds v.state ≡ true → holds s.state ≡ true → s.state ≡ Losing → RowsKeep w x t v s
+rows_hold : (w : World) (x : Name) (t : TrunkId) (v s : TrunkSide) → holds v.state ≡ true → holds s.state ≡ true → s.state ≡ Losing → RowsKeep w x t v s
 rows_hold w x t v s hv hs lo =
     let k = hold_kind s.state hs in (
       λ a di r. record { before = λ h. let b = r.before h in let c : true ≡ false = sym hv ∙ b.0 in cc; early = λ h. let c : true ≡ false = sym h ∙ k.0 in cc; waits = r.waits },
@@ -174,11 +176,11 @@ hold_beside a b c ha hc h = go (holds a) (asks b) (asks a) (holds b) ((hold_kind
 abbrev pub as_state : TrunkSide → State → TrunkSide
 as_state s v = record { peer = s.peer; peer_creation = s.peer_creation; state = v }
 
-abbrev pub in_state : World → Name → Node → Trunk → TrunkSide → World
+abbrev pub in_state : World → Name → Node → TrunkId → TrunkSide → World
 in_state w x n t s = record { names = w.names; nodes = set_node w.nodes x (with_side_at n t s); lists = w.lists }
 
 -- a side that is lost
-pub good_lost : (w : World) (x : Name) (n : Node) (t : Trunk) (v : TrunkSide) → node_of w.nodes x ≡ Some n → side_at n t ≡ Some v → Good w → Good (in_state w x n t (as_state v (lost v.state)))
+pub good_lost : (w : World) (x : Name) (n : Node) (t : TrunkId) (v : TrunkSide) → node_of w.nodes x ≡ Some n → side_at n t ≡ Some v → Good w → Good (in_state w x n t (as_state v (lost v.state)))
 good_lost w x n t v hx h g = go (lost_kind v.state)
   where
     s1 : TrunkSide
@@ -210,7 +212,7 @@ pub role_is_acceptor : (b : Bool) (v : State) → role_state b v ≡ true → ro
 role_is_acceptor false v h n = refl
 role_is_acceptor true v h n = let c : true ≡ false = sym h ∙ n in cc
 
-pub good_awaits_challenge : (w : World) (x : Name) (n : Node) (t : Trunk) (v : TrunkSide) (u : ℕ) → node_of w.nodes x ≡ Some n → side_at n t ≡ Some v → v.state ≡ AwaitsStatus u → Good w → Good (in_state w x n t (as_state v (AwaitsChallenge u)))
+pub good_awaits_challenge : (w : World) (x : Name) (n : Node) (t : TrunkId) (v : TrunkSide) (u : ℕ) → node_of w.nodes x ≡ Some n → side_at n t ≡ Some v → v.state ≡ AwaitsStatus u → Good w → Good (in_state w x n t (as_state v (AwaitsChallenge u)))
 good_awaits_challenge w x n t v u hx h e g =
     let f = fits_state n t v (as_state v (AwaitsChallenge u)) (g.core.sides x n hx) h refl (ap is_gone e) (λ b i. absurd (beside_neither v.state b (ap holds e) (ap asks e) i)) (λ i j. let c : true ≡ false = sym i ∙ ap holds e in cc) in
     good_state w x n t v (as_state v (AwaitsChallenge u)) hx h refl f g (drops w x n t v (as_state v (AwaitsChallenge u)) hx h refl refl f g.core)
@@ -221,7 +223,7 @@ good_awaits_challenge w x n t v u hx h e g =
     )
 
 -- the acceptor's side of a trunk that x dialed isn't up before x replied
-pub good_awaits_ack : (w : World) (x : Name) (n : Node) (t : Trunk) (v s : TrunkSide) (u : ℕ) → node_of w.nodes x ≡ Some n → side_at n t ≡ Some v → v.state ≡ AwaitsChallenge u → v.peer ≡ s.peer → s.state ≡ AwaitsAck u → Good w → Good (in_state w x n t s)
+pub good_awaits_ack : (w : World) (x : Name) (n : Node) (t : TrunkId) (v s : TrunkSide) (u : ℕ) → node_of w.nodes x ≡ Some n → side_at n t ≡ Some v → v.state ≡ AwaitsChallenge u → v.peer ≡ s.peer → s.state ≡ AwaitsAck u → Good w → Good (in_state w x n t s)
 good_awaits_ack w x n t v s u hx h e pe se g =
     let f = fits_state n t v s (g.core.sides x n hx) h pe (ap is_gone e) (λ b i. absurd (beside_neither v.state b (ap holds e) (ap asks e) i)) (λ i j. let c : true ≡ false = sym i ∙ ap holds e in cc) in
     let rl = (g.home x n hx).roles t v h in
@@ -251,7 +253,7 @@ acceptor_up Up h j = refl
 acceptor_up Losing h j = cc
 acceptor_up Gone h j = cc
 
-pub good_dialer_up : (w : World) (x : Name) (n : Node) (t : Trunk) (v : TrunkSide) (u : ℕ) → node_of w.nodes x ≡ Some n → side_at n t ≡ Some v → v.state ≡ AwaitsAck u → has is_accept (list_to w.lists t x) ≡ true → Good w → Good (in_state w x n t (as_state v Up))
+pub good_dialer_up : (w : World) (x : Name) (n : Node) (t : TrunkId) (v : TrunkSide) (u : ℕ) → node_of w.nodes x ≡ Some n → side_at n t ≡ Some v → v.state ≡ AwaitsAck u → has is_accept (list_to w.lists t x) ≡ true → Good w → Good (in_state w x n t (as_state v Up))
 good_dialer_up w x n t v u hx h e got g =
     let f = fits_state n t v (as_state v Up) (g.core.sides x n hx) h refl (ap is_gone e) (λ b i. absurd (beside_neither v.state b (ap holds e) (ap asks e) i)) (λ i j. let c : true ≡ false = sym i ∙ ap holds e in cc) in
     let rl = (g.home x n hx).roles t v h in
@@ -270,7 +272,7 @@ good_dialer_up w x n t v u hx h e got g =
     )
 
 -- the reply was right
-pub good_acceptor_up : (w : World) (x : Name) (n : Node) (t : Trunk) (v : TrunkSide) (u : ℕ) → node_of w.nodes x ≡ Some n → side_at n t ≡ Some v → v.state ≡ Accepting u → has is_reply (list_to w.lists t x) ≡ true → Good w → Good (in_state w x n t (as_state v Up))
+pub good_acceptor_up : (w : World) (x : Name) (n : Node) (t : TrunkId) (v : TrunkSide) (u : ℕ) → node_of w.nodes x ≡ Some n → side_at n t ≡ Some v → v.state ≡ Accepting u → has is_reply (list_to w.lists t x) ≡ true → Good w → Good (in_state w x n t (as_state v Up))
 good_acceptor_up w x n t v u hx h e got g =
     let f = fits_state n t v (as_state v Up) (g.core.sides x n hx) h refl (ap is_gone e) (λ b i. absurd (beside_neither v.state b (ap holds e) (ap asks e) i)) (λ i j. let c : true ≡ false = sym i ∙ ap holds e in cc) in
     let rl = (g.home x n hx).roles t v h in

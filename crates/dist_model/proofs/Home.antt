@@ -1,18 +1,20 @@
 -- The pairs of one node.
 use Rattle.std.proofs.Common.{◌==◌, ◌≡◌, Bool, true, false, cond, not, List, [], ◌∷◌, ◌++◌, refl, sym, ap, ◌∙◌, subst, ◌&&◌, ◌||◌, ◌⊎◌, inl, inr, nat_lt}
 use Rattle.std.specs.Option.{is_some}
-use Rattle.dist_model.specs.Term.{Name, Pid}
-use Rattle.dist_model.specs.Pair.{Signal, Side}
-use Rattle.dist_model.proofs.Kept.{Kept, kept_swap}
-use Rattle.dist_model.specs.Orders.{same_name, same_pid}
-use Rattle.dist_model.specs.Node.{Item, LinkSignal, Node, Work, never, route, reaches, take, take_link}
-use Rattle.dist_model.specs.Step.{at_work}
-use Rattle.dist_model.specs.World.{signals, signal_of}
-use Rattle.dist_model.proofs.Keys.{and_both, same_pid_true, same_pid_is}
-use Rattle.dist_model.proofs.Views.{to_name, side_of, view, side_path}
-use Rattle.dist_model.proofs.Moves.{NodeKept, Moves, Takes, Homely, HomeItem, home_of, held, with_sent, reach_held, takes_link}
 use Rattle.dist_model.proofs.Calls.{by_test, takes_other}
-use Rattle.dist_model.proofs.Steps.{kind, signal_miss, signal_hit}
+use Rattle.dist_model.proofs.Kept.{Kept, kept_swap}
+use Rattle.dist_model.proofs.Keys.{and_both, same_pid_is, same_pid_true}
+use Rattle.dist_model.proofs.Moves.{HomeItem, Homely, Moves, NodeKept, Takes, held, home_of, reach_held, takes_link, with_sent}
+use Rattle.dist_model.proofs.Pair.{Side}
+use Rattle.dist_model.proofs.Steps.{kind, signal_hit, signal_miss}
+use Rattle.dist_model.proofs.Views.{side_of, side_path, to_name, view}
+use Rattle.dist_model.specs.Items.{AboutLink, Item, signal_of, signals}
+use Rattle.dist_model.specs.Links.{LinkWord}
+use Rattle.dist_model.specs.Names.{Name, same_name, same_pid}
+use Rattle.dist_model.specs.Node.{Node, never, reaches, route}
+use Rattle.dist_model.specs.Taking.{take, take_link}
+use Rattle.dist_model.specs.Work.{Work, at_work}
+use Rattle.erl_term.specs.declared.term.Pid.{Pid}
 
 -- each pair of processes of one node, and its local list
 abbrev pub HomePairs : Node → Type 0
@@ -63,7 +65,7 @@ module _ (n : Node) (xs : List Item) (kn : NodeKept n) where
       let gone : (x y : Pid) → signals x y n.local ≡ signals x y xs = λ x y. ap (signals x y) first ∙ ap (λ l. l ++ signals x y xs) (none x y) in
       subst (λ l. Kept (side_of n p q l) (side_of n q p (signals q p xs))) (gone p q) (subst (λ l. Kept (side_of n p q (signals p q n.local)) (side_of n q p l)) (gone q p) (k p q hp hq d)))
 
-  module _ (q0 p0 : Pid) (s : Signal) (first : n.local ≡ LinkSignal q0 p0 s ∷ xs) (hp0 : never n p0 ≡ false) (hq0 : never n q0 ≡ false) (own0 : same_name q0.node n.name ≡ true) (two : same_pid p0 q0 ≡ false) where
+  module _ (q0 p0 : Pid) (s : LinkWord) (first : n.local ≡ AboutLink q0 p0 s ∷ xs) (hp0 : never n p0 ≡ false) (hq0 : never n q0 ≡ false) (own0 : same_name q0.node n.name ≡ true) (two : same_pid p0 q0 ≡ false) where
     o0 : Work
     o0 = at_work (record n { local = xs })
 
@@ -79,7 +81,7 @@ module _ (n : Node) (xs : List Item) (kn : NodeKept n) where
     hd : held n q0.node ≡ true
     hd = reach_held n q0.node (own_reached n q0.node own0)
 
-    at_local : (x y : Pid) → signals x y n.local ≡ signal_of x y (LinkSignal q0 p0 s) ++ signals x y xs
+    at_local : (x y : Pid) → signals x y n.local ≡ signal_of x y (AboutLink q0 p0 s) ++ signals x y xs
     at_local x y = ap (signals x y) first
 
     miss_at : (x y : Pid) → (same_pid q0 x && same_pid p0 y) ≡ false → signals x y n.local ≡ signals x y xs
@@ -153,7 +155,7 @@ pub local_home : (n : Node) (i : Item) (xs : List Item) → n.local ≡ i ∷ xs
 unfolding o1
 local_home n i xs first kn hm k = go (kind i) (subst (λ l. Homely (λ p. never n p) l) first hm).0
   where
-    go : ((p q : Pid) → signal_of p q i ≡ []) ⊎ ((q : Pid) × (p : Pid) × (s : Signal) × (i ≡ LinkSignal q p s)) → HomeItem (λ p. never n p) i → HomePairs ((take i (at_work (record n { local = xs }))).node)
+    go : ((p q : Pid) → signal_of p q i ≡ []) ⊎ ((q : Pid) × (p : Pid) × (s : LinkWord) × (i ≡ AboutLink q p s)) → HomeItem (λ p. never n p) i → HomePairs ((take i (at_work (record n { local = xs }))).node)
     go (inl h) m = plain_home n xs kn i first h k
     go (inr h) m =
         let g : (never n h.0 ≡ false) × (never n h.1 ≡ false) × (same_pid h.0 h.1 ≡ false) = subst (λ z. HomeItem (λ p. never n p) z) h.3 m in

@@ -1,3 +1,4 @@
+pub mod Pair
 pub mod Lists
 pub mod Kept
 pub mod Keys

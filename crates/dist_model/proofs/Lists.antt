@@ -1,37 +1,40 @@
 -- What the words of Pair say of a list with one signal more.
 use Rattle.std.proofs.Common.{◌≡◌, ◌≢◌, ℕ, ◌+◌, Bool, true, false, cond, List, [], ◌∷◌, ◌++◌, refl, sym, ap, ◌∙◌, arith, ◌||◌, ◌==◌}
-use Rattle.dist_model.specs.Pair.{Signal, Link, UnlinkId, UnlinkIdAck, Exit, End, Absent, Active, Pending, recv, drained, Word, Silent, Linked, Unlinked, said, later, last_word, is_link, is_exit, has_link, has_exit, unlink_of, ack_of, unlinks, acks}
+use Rattle.dist_model.proofs.Pair.{Linked, Silent, Unlinked, Word, ack_of, acks, has_exit, has_link, is_exit, is_link, last_word, later, said, unlink_of, unlinks}
+use Rattle.dist_model.specs.Links.{Exits, LinkWord, Says, drained, heard}
+use Rattle.link_core.specs.declared.end.End.{End}
+use Rattle.link_core.specs.declared.end.LinkSignal.{LinkSignal}
 
-pub drained-push : (e : End) (L : List Signal) (s : Signal) → drained e (L ++ s ∷ []) ≡ recv (drained e L) s
+pub drained-push : (e : End) (L : List LinkWord) (s : LinkWord) → drained e (L ++ s ∷ []) ≡ heard (drained e L) s
 drained-push e [] s = refl
-drained-push e (x ∷ L) s = drained-push (recv e x) L s
+drained-push e (x ∷ L) s = drained-push (heard e x) L s
 
-later-said : (v w : Word) (s : Signal) → later v (said w s) ≡ said (later v w) s
-later-said v Silent Link = refl
-later-said v Silent (UnlinkId j) = refl
-later-said v Silent (UnlinkIdAck j) = refl
-later-said v Silent (Exit r) = refl
-later-said v Linked Link = refl
-later-said v Linked (UnlinkId j) = refl
-later-said v Linked (UnlinkIdAck j) = refl
-later-said v Linked (Exit r) = refl
-later-said v (Unlinked i) Link = refl
-later-said v (Unlinked i) (UnlinkId j) = refl
-later-said v (Unlinked i) (UnlinkIdAck j) = refl
-later-said v (Unlinked i) (Exit r) = refl
+later-said : (v w : Word) (s : LinkWord) → later v (said w s) ≡ said (later v w) s
+later-said v Silent (Says LinkSignal.Link) = refl
+later-said v Silent (Says (LinkSignal.Unlink j)) = refl
+later-said v Silent (Says (LinkSignal.Ack j)) = refl
+later-said v Silent (Exits r) = refl
+later-said v Linked (Says LinkSignal.Link) = refl
+later-said v Linked (Says (LinkSignal.Unlink j)) = refl
+later-said v Linked (Says (LinkSignal.Ack j)) = refl
+later-said v Linked (Exits r) = refl
+later-said v (Unlinked i) (Says LinkSignal.Link) = refl
+later-said v (Unlinked i) (Says (LinkSignal.Unlink j)) = refl
+later-said v (Unlinked i) (Says (LinkSignal.Ack j)) = refl
+later-said v (Unlinked i) (Exits r) = refl
 
 later-silent : (w : Word) → later w Silent ≡ w
 later-silent w = refl
 
-pub last_word-push : (L : List Signal) (s : Signal) → last_word (L ++ s ∷ []) ≡ said (last_word L) s
+pub last_word-push : (L : List LinkWord) (s : LinkWord) → last_word (L ++ s ∷ []) ≡ said (last_word L) s
 last_word-push [] s = refl
 last_word-push (x ∷ L) s = ap (later (said Silent x)) (last_word-push L s) ∙ later-said (said Silent x) (last_word L) s
 
-pub unlinks-push : (i : ℕ) (L : List Signal) (s : Signal) → unlinks i (L ++ s ∷ []) ≡ unlinks i L + unlink_of i s
+pub unlinks-push : (i : ℕ) (L : List LinkWord) (s : LinkWord) → unlinks i (L ++ s ∷ []) ≡ unlinks i L + unlink_of i s
 unlinks-push i [] s = omega arith
 unlinks-push i (x ∷ L) s = omega (arith, unlinks-push i L s)
 
-pub acks-push : (i : ℕ) (L : List Signal) (s : Signal) → acks i (L ++ s ∷ []) ≡ acks i L + ack_of i s
+pub acks-push : (i : ℕ) (L : List LinkWord) (s : LinkWord) → acks i (L ++ s ∷ []) ≡ acks i L + ack_of i s
 acks-push i [] s = omega arith
 acks-push i (x ∷ L) s = omega (arith, acks-push i L s)
 
@@ -43,11 +46,11 @@ or-false : (a : Bool) → (a || false) ≡ a
 or-false true = refl
 or-false false = refl
 
-pub has_link-push : (L : List Signal) (s : Signal) → has_link (L ++ s ∷ []) ≡ (has_link L || is_link s)
+pub has_link-push : (L : List LinkWord) (s : LinkWord) → has_link (L ++ s ∷ []) ≡ (has_link L || is_link s)
 has_link-push [] s = or-false (is_link s)
 has_link-push (x ∷ L) s = ap (λ b. is_link x || b) (has_link-push L s) ∙ or-assoc (is_link x) (has_link L) (is_link s)
 
-pub has_exit-push : (L : List Signal) (s : Signal) → has_exit (L ++ s ∷ []) ≡ (has_exit L || is_exit s)
+pub has_exit-push : (L : List LinkWord) (s : LinkWord) → has_exit (L ++ s ∷ []) ≡ (has_exit L || is_exit s)
 has_exit-push [] s = or-false (is_exit s)
 has_exit-push (x ∷ L) s = ap (λ b. is_exit x || b) (has_exit-push L s) ∙ or-assoc (is_exit x) (has_exit L) (is_exit s)
 
@@ -68,34 +71,34 @@ none_of_or false b h = (refl, h)
 same_id : (i : ℕ) → (i == i) ≡ true
 same_id i = grind arith
 
-ack_comes : (b : Bool) (i : ℕ) (L : List Signal) → cond b 1 0 + acks i L ≡ 0 → (acks i L ≡ 0 → drained (Pending i) L ≡ Pending i) → drained (cond b Absent (Pending i)) L ≡ Pending i
+ack_comes : (b : Bool) (i : ℕ) (L : List LinkWord) → cond b 1 0 + acks i L ≡ 0 → (acks i L ≡ 0 → drained (End.Pending i) L ≡ End.Pending i) → drained (cond b End.None (End.Pending i)) L ≡ End.Pending i
 ack_comes true i L h f = absurd (omega arith)
 ack_comes false i L h f = f (omega arith)
 
-ack_or_not : (b : Bool) (i : ℕ) (L : List Signal) → (drained (Pending i) L ≡ Active → drained Absent L ≡ Active) → drained (cond b Absent (Pending i)) L ≡ Active → drained Absent L ≡ Active
+ack_or_not : (b : Bool) (i : ℕ) (L : List LinkWord) → (drained (End.Pending i) L ≡ End.Active → drained End.None L ≡ End.Active) → drained (cond b End.None (End.Pending i)) L ≡ End.Active → drained End.None L ≡ End.Active
 ack_or_not true i L f h = h
 ack_or_not false i L f h = f h
 
 -- a pending end stays so where neither its ACK nor an EXIT comes
-pub stays_pending : (i : ℕ) (L : List Signal) → acks i L ≡ 0 → has_exit L ≡ false → drained (Pending i) L ≡ Pending i
+pub stays_pending : (i : ℕ) (L : List LinkWord) → acks i L ≡ 0 → has_exit L ≡ false → drained (End.Pending i) L ≡ End.Pending i
 stays_pending i [] none quiet = refl
-stays_pending i (Link ∷ L) none quiet = stays_pending i L (omega arith) quiet
-stays_pending i (UnlinkId j ∷ L) none quiet = stays_pending i L (omega arith) quiet
-stays_pending i (UnlinkIdAck j ∷ L) none quiet = ack_comes (i == j) i L none (λ h. stays_pending i L h quiet)
-stays_pending i (Exit r ∷ L) none quiet = cc
+stays_pending i ((Says LinkSignal.Link) ∷ L) none quiet = stays_pending i L (omega arith) quiet
+stays_pending i (Says (LinkSignal.Unlink j) ∷ L) none quiet = stays_pending i L (omega arith) quiet
+stays_pending i (Says (LinkSignal.Ack j) ∷ L) none quiet = ack_comes (i == j) i L none (λ h. stays_pending i L h quiet)
+stays_pending i (Exits r ∷ L) none quiet = cc
 
 -- what becomes of an end that isn't pending, by the last word
 abbrev pub outcome : End → Word → End
 outcome e Silent = e
-outcome e Linked = Active
-outcome e (Unlinked j) = Absent
+outcome e Linked = End.Active
+outcome e (Unlinked j) = End.None
 
-outcome-link : (e : End) (w : Word) → outcome e (later Linked w) ≡ outcome Active w
+outcome-link : (e : End) (w : Word) → outcome e (later Linked w) ≡ outcome End.Active w
 outcome-link e Silent = refl
 outcome-link e Linked = refl
 outcome-link e (Unlinked j) = refl
 
-outcome-unlink : (e : End) (j : ℕ) (w : Word) → outcome e (later (Unlinked j) w) ≡ outcome Absent w
+outcome-unlink : (e : End) (j : ℕ) (w : Word) → outcome e (later (Unlinked j) w) ≡ outcome End.None w
 outcome-unlink e j Silent = refl
 outcome-unlink e j Linked = refl
 outcome-unlink e j (Unlinked i) = refl
@@ -105,35 +108,35 @@ outcome-none e Silent = refl
 outcome-none e Linked = refl
 outcome-none e (Unlinked i) = refl
 
-pub drained_by_word : (L : List Signal) → has_exit L ≡ false → (drained Active L ≡ outcome Active (last_word L)) × (drained Absent L ≡ outcome Absent (last_word L))
+pub drained_by_word : (L : List LinkWord) → has_exit L ≡ false → (drained End.Active L ≡ outcome End.Active (last_word L)) × (drained End.None L ≡ outcome End.None (last_word L))
 drained_by_word [] quiet = (refl, refl)
-drained_by_word (Link ∷ L) quiet = let h = drained_by_word L quiet in (h.0 ∙ sym (outcome-link Active (last_word L)), h.0 ∙ sym (outcome-link Absent (last_word L)))
-drained_by_word (UnlinkId j ∷ L) quiet = let h = drained_by_word L quiet in (h.1 ∙ sym (outcome-unlink Active j (last_word L)), h.1 ∙ sym (outcome-unlink Absent j (last_word L)))
-drained_by_word (UnlinkIdAck j ∷ L) quiet = let h = drained_by_word L quiet in (h.0 ∙ sym (outcome-none Active (last_word L)), h.1 ∙ sym (outcome-none Absent (last_word L)))
-drained_by_word (Exit r ∷ L) quiet = cc
+drained_by_word ((Says LinkSignal.Link) ∷ L) quiet = let h = drained_by_word L quiet in (h.0 ∙ sym (outcome-link End.Active (last_word L)), h.0 ∙ sym (outcome-link End.None (last_word L)))
+drained_by_word (Says (LinkSignal.Unlink j) ∷ L) quiet = let h = drained_by_word L quiet in (h.1 ∙ sym (outcome-unlink End.Active j (last_word L)), h.1 ∙ sym (outcome-unlink End.None j (last_word L)))
+drained_by_word (Says (LinkSignal.Ack j) ∷ L) quiet = let h = drained_by_word L quiet in (h.0 ∙ sym (outcome-none End.Active (last_word L)), h.1 ∙ sym (outcome-none End.None (last_word L)))
+drained_by_word (Exits r ∷ L) quiet = cc
 
 -- an active end stays or becomes active wherever another one does
-pub active_wins : (i : ℕ) (L : List Signal) → (drained Absent L ≡ Active → drained Active L ≡ Active) × (drained (Pending i) L ≡ Active → drained Absent L ≡ Active)
+pub active_wins : (i : ℕ) (L : List LinkWord) → (drained End.None L ≡ End.Active → drained End.Active L ≡ End.Active) × (drained (End.Pending i) L ≡ End.Active → drained End.None L ≡ End.Active)
 active_wins i [] = (λ h. refl, λ h. cc)
-active_wins i (Link ∷ L) = let h = active_wins i L in (λ k. k, λ k. h.0 (h.1 k))
-active_wins i (UnlinkId j ∷ L) = let h = active_wins i L in (λ k. k, λ k. h.1 k)
-active_wins i (UnlinkIdAck j ∷ L) = let h = active_wins i L in (λ k. h.0 k, λ k. ack_or_not (i == j) i L h.1 k)
-active_wins i (Exit r ∷ L) = (λ k. k, λ k. k)
+active_wins i ((Says LinkSignal.Link) ∷ L) = let h = active_wins i L in (λ k. k, λ k. h.0 (h.1 k))
+active_wins i (Says (LinkSignal.Unlink j) ∷ L) = let h = active_wins i L in (λ k. k, λ k. h.1 k)
+active_wins i (Says (LinkSignal.Ack j) ∷ L) = let h = active_wins i L in (λ k. h.0 k, λ k. ack_or_not (i == j) i L h.1 k)
+active_wins i (Exits r ∷ L) = (λ k. k, λ k. k)
 
-pub active_wins_any : (e : End) (L : List Signal) → drained e L ≡ Active → drained Active L ≡ Active
-active_wins_any Absent L h = (active_wins 0 L).0 h
-active_wins_any Active L h = h
-active_wins_any (Pending i) L h = (active_wins i L).0 ((active_wins i L).1 h)
+pub active_wins_any : (e : End) (L : List LinkWord) → drained e L ≡ End.Active → drained End.Active L ≡ End.Active
+active_wins_any End.None L h = (active_wins 0 L).0 h
+active_wins_any End.Active L h = h
+active_wins_any (End.Pending i) L h = (active_wins i L).0 ((active_wins i L).1 h)
 
 -- only a LINK makes an absent end active
-pub by_a_link : (L : List Signal) → drained Absent L ≡ Active → has_link L ≡ true
+pub by_a_link : (L : List LinkWord) → drained End.None L ≡ End.Active → has_link L ≡ true
 by_a_link [] h = cc
-by_a_link (Link ∷ L) h = refl
-by_a_link (UnlinkId j ∷ L) h = by_a_link L h
-by_a_link (UnlinkIdAck j ∷ L) h = by_a_link L h
-by_a_link (Exit r ∷ L) h = by_a_link L h
+by_a_link ((Says LinkSignal.Link) ∷ L) h = refl
+by_a_link (Says (LinkSignal.Unlink j) ∷ L) h = by_a_link L h
+by_a_link (Says (LinkSignal.Ack j) ∷ L) h = by_a_link L h
+by_a_link (Exits r ∷ L) h = by_a_link L h
 
-pub by_a_link_any : (e : End) (L : List Signal) → e ≢ Active → drained e L ≡ Active → has_link L ≡ true
-by_a_link_any Absent L n h = by_a_link L h
-by_a_link_any Active L n h = absurd (n refl)
-by_a_link_any (Pending i) L n h = by_a_link L ((active_wins i L).1 h)
+pub by_a_link_any : (e : End) (L : List LinkWord) → e ≢ End.Active → drained e L ≡ End.Active → has_link L ≡ true
+by_a_link_any End.None L n h = by_a_link L h
+by_a_link_any End.Active L n h = absurd (n refl)
+by_a_link_any (End.Pending i) L n h = by_a_link L ((active_wins i L).1 h)

@@ -1,5 +1,4 @@
 -- What an event does to each pair of processes of its node.
-use Rattle.dist_model.specs.Node.{Tick, Item, LinkSignal, Message, Exit2, MonitorP, DemonitorP, MonitorPExit, Handshake, TrunkSide, Life, Living, Ended, Node, Effect, LinkExit, Envelope, Work, end_in, end_of, is_living_life, living, never, route, route_in, reaches, set_end, report, keep_local, send_on, post, post_all, received, set_life, put, exit_for, exits, downs, unwatches, finish, Reaction, Ignore, Note, EndBy, react, carry_out, traps_life, link_exit, exit_follows, replies, take_link_by, take_link, is_up}
 use Rattle.std.proofs.Common.{◌≡◌, ℕ, ◌<◌, ◌≤◌, Bool, true, false, cond, not, List, [], ◌∷◌, ◌++◌, refl, sym, ap, ◌∙◌, subst, arith, ◌&&◌, ◌||◌, Option, Some, None, inr, append-nil, T}
 use Rattle.std.specs.Option.{is_some}
 use Rattle.std.specs.declared.cmp.Ordering.{Ordering}
@@ -7,17 +6,32 @@ use Rattle.std.specs.declared.cmp.Ordering.TheVariants.{Less, Equal, Greater}
 use Rattle.std.specs.Ordering.{is_eq, is_lt, eq_by_cmp}
 use Rattle.std.specs.Cmp.{tied_itself}
 use Rattle.std.specs.FinMap as fm
-use Rattle.std.specs.FinMap.{FinMap}
-use Rattle.dist_model.specs.Term.{Name, Pid, Reference, Term, NoConnection}
-use Rattle.dist_model.specs.Pair.{Signal, Link, UnlinkId, UnlinkIdAck, Exit, End, Absent, Active, Pending, recv, reply, finished, Side}
-use Rattle.dist_model.proofs.Kept.{Kept, keeps_link, keeps_unlink, keeps_draw, keeps_finish, keeps_take}
-use Rattle.dist_model.specs.Orders.{Trunk, pid_cmp, pair_cmp, trunk_cmp, same_name, same_pid}
-use Rattle.dist_model.specs.World.{signal_of}
-use Rattle.dist_model.proofs.Keys.{pid_total, pair_total, pair_exact, same_pid_true, same_pid_refl, same_pid_is, same_pair, and_both, set_in-get}
-use Rattle.dist_model.specs.Step.{link_new, link_by, link, draw_unlink, unlink_as, is_losing, side_where}
-use Rattle.dist_model.proofs.Views.{over, view, more, side_path, post_keeps, post_all_keeps, post_view, posted, AllSuit, post_all_view, linking_suits}
 use Rattle.std.specs.FinMap.Entries.{find, is_sorted, below_all}
-use Rattle.dist_model.proofs.Ending.{finish_view, finish_view_other, buried_end, buried_living, last_posts}
+use Rattle.dist_model.proofs.Ending.{buried_end, buried_living, finish_view, finish_view_other, last_posts}
+use Rattle.dist_model.proofs.Kept.{Kept, keeps_draw, keeps_finish, keeps_link, keeps_take, keeps_unlink}
+use Rattle.dist_model.proofs.Keys.{and_both, pair_exact, pair_total, pid_total, same_pair, same_pid_is, same_pid_refl, same_pid_true, set_in-get}
+use Rattle.dist_model.proofs.Pair.{Side, finished}
+use Rattle.dist_model.proofs.Views.{AllSuit, linking_suits, more, over, post_all_keeps, post_all_view, post_keeps, post_view, posted, side_path, view}
+use Rattle.dist_model.specs.Exits.{carry_out, demonitors, exit_for, exits, finish, link_exit, linked_exit, monitor_exits}
+use Rattle.dist_model.specs.Items.{AboutLink, DemonitorP, Exit2, Handshake, Item, Message, MonitorP, MonitorPExit, Tick, signal_of}
+use Rattle.dist_model.specs.Linking.{draw_unlink, link, link_by, link_new, unlink_as}
+use Rattle.dist_model.specs.Links.{Exits, LinkWord, Says, heard, noconnection, reply}
+use Rattle.dist_model.specs.Names.{Name, pair_cmp, same_name, same_pid}
+use Rattle.dist_model.specs.Node.{Ended, Life, Living, Node, end_in, end_of, is_living_life, living, never, reaches, route, route_in, side_where, traps_life}
+use Rattle.dist_model.specs.Sides.{TrunkSide, is_losing, is_up}
+use Rattle.dist_model.specs.Taking.{exit_follows, replies, take_link, take_link_by}
+use Rattle.dist_model.specs.Work.{Effect, Envelope, LinkExit, Work, delivered, keep_local, post, post_all, put, report, send_on, set_end, set_life}
+use Rattle.erl_names.specs.Order.{trunk_cmp}
+use Rattle.erl_names.specs.declared.trunk.TrunkId.{TrunkId}
+use Rattle.erl_term.specs.Data.{Data}
+use Rattle.erl_term.specs.Order.{pid_cmp}
+use Rattle.erl_term.specs.declared.term.Pid.{Pid}
+use Rattle.erl_term.specs.declared.term.Reference.{Reference}
+use Rattle.exit_core.specs.Reaction.{reaction}
+use Rattle.exit_core.specs.declared.reaction.Reaction.{Reaction}
+use Rattle.link_core.specs.declared.end.End.{End}
+use Rattle.link_core.specs.declared.end.LinkSignal.{LinkSignal}
+use Rattle.std.specs.FinMap.{FinMap}
 
 T_and : (a b : Bool) → T (a && b) → T a × T b
 T_and true b h = (tt, h)
@@ -54,11 +68,11 @@ held n y = same_name y n.name || is_some (side_where (λ v. is_up v || is_losing
 -- what a node keeps by itself
 pub record NodeKept (n : Node) : Type 0 where
   pub born : (p : Pid) → living n p ≡ true → never n p ≡ false
-  pub rooted : (p q : Pid) → (end_of n p q ≡ Absent → ⊥) → (living n p ≡ true) × (held n q.node ≡ true) × (same_name q.node n.name ≡ true → (never n q ≡ false) × (same_pid p q ≡ false))
+  pub rooted : (p q : Pid) → (end_of n p q ≡ End.None → ⊥) → (living n p ≡ true) × (held n q.node ≡ true) × (same_name q.node n.name ≡ true → (never n q ≡ false) × (same_pid p q ≡ false))
 
 -- what a local list holds about links: between two that were spawned here, and are two
 abbrev pub HomeItem : (Pid → Bool) → Item → Type 0
-HomeItem f (LinkSignal a b x) = (f a ≡ false) × (f b ≡ false) × (same_pid a b ≡ false)
+HomeItem f (AboutLink a b x) = (f a ≡ false) × (f b ≡ false) × (same_pid a b ≡ false)
 HomeItem f (Message b x) = Unit {0}
 HomeItem f (Exit2 a b x) = Unit {0}
 HomeItem f (MonitorP a b x) = Unit {0}
@@ -79,7 +93,7 @@ abbrev pub home_of : Node → Type 0
 home_of n = Homely (λ p. never n p) n.local
 
 home_plain : (f : Pid → Bool) (x : Item) → ((p q : Pid) → signal_of p q x ≡ []) → HomeItem f x
-home_plain f (LinkSignal q p s) h = let n : s ∷ [] ≡ [] = sym (ap (λ t. cond (t && same_pid p p) (s ∷ []) []) (same_pid_refl q) ∙ ap (λ t. cond t (s ∷ []) []) (same_pid_refl p)) ∙ h q p in cc
+home_plain f (AboutLink q p s) h = let n : s ∷ [] ≡ [] = sym (ap (λ t. cond (t && same_pid p p) (s ∷ []) []) (same_pid_refl q) ∙ ap (λ t. cond t (s ∷ []) []) (same_pid_refl p)) ∙ h q p in cc
 home_plain f (Message b x) h = tt
 home_plain f (Exit2 a b x) h = tt
 home_plain f (MonitorP a b x) h = tt
@@ -92,7 +106,7 @@ home_plain f Tick h = tt
 pub post_home : (y : Name) (x : Item) (o : Work) → (same_name y o.node.name ≡ true → HomeItem (λ p. never o.node p) x) → home_of o.node → home_of ((post y x o).node)
 post_home y x o i h = go (same_name y o.node.name) refl
   where
-    sent : (r : Option Trunk) → home_of ((send_on r y x o).node)
+    sent : (r : Option TrunkId) → home_of ((send_on r y x o).node)
     sent None = h
     sent (Some t) = h
 
@@ -116,7 +130,7 @@ PostsHome-append z f [] ys a b = b
 PostsHome-append z f (x ∷ xs) ys a b = (a.0, PostsHome-append z f xs ys a.1 b)
 
 -- what a process that ends posts
-exits_home : (z : Name) (f : Pid → Bool) (p : Pid) (r : Term) (es : List ((Pid × Pid) × End)) → f p ≡ false → ((e : (Pid × Pid) × End) → find pair_cmp e.0 es ≡ Some e.1 → (e.1 ≡ Absent → ⊥) → same_name e.0.1.node z ≡ true → (f e.0.1 ≡ false) × (same_pid e.0.0 e.0.1 ≡ false)) → T (is_sorted pair_cmp es) → PostsHome z f (exits p r es)
+exits_home : (z : Name) (f : Pid → Bool) (p : Pid) (r : Data) (es : List ((Pid × Pid) × End)) → f p ≡ false → ((e : (Pid × Pid) × End) → find pair_cmp e.0 es ≡ Some e.1 → (e.1 ≡ End.None → ⊥) → same_name e.0.1.node z ≡ true → (f e.0.1 ≡ false) × (same_pid e.0.0 e.0.1 ≡ false)) → T (is_sorted pair_cmp es) → PostsHome z f (exits p r es)
 exits_home z f p r [] hp h s = tt
 exits_home z f p r (e ∷ es) hp h s =
     let t = T_and (below_all pair_cmp e.0 es) (is_sorted pair_cmp es) s in
@@ -127,18 +141,18 @@ exits_home z f p r (e ∷ es) hp h s =
     rest d fd n = ap (λ b. cond b (Some e.1) (find pair_cmp d.0 es)) n ∙ fd
 
     own : (b : Bool) → same_pid e.0.0 p ≡ b → (v : End) → v ≡ e.1 → PostsHome z f (cond b (exit_for p r e.0.1 v) [])
-    own true j Absent i = tt
-    own true j Active i = (λ nm. let d : (f e.0.1 ≡ false) × (same_pid p e.0.1 ≡ false) = subst (λ u. (f e.0.1 ≡ false) × (same_pid u e.0.1 ≡ false)) (same_pid_true e.0.0 p j) (h e (ap (λ c. cond (is_eq c) (Some e.1) (find pair_cmp e.0 es)) (tied_itself pair_total e.0)) (λ a. let c : Active ≡ Absent = i ∙ a in cc) nm) in (hp, d.0, d.1), tt)
-    own true j (Pending u) i = tt
+    own true j End.None i = tt
+    own true j End.Active i = (λ nm. let d : (f e.0.1 ≡ false) × (same_pid p e.0.1 ≡ false) = subst (λ u. (f e.0.1 ≡ false) × (same_pid u e.0.1 ≡ false)) (same_pid_true e.0.0 p j) (h e (ap (λ c. cond (is_eq c) (Some e.1) (find pair_cmp e.0 es)) (tied_itself pair_total e.0)) (λ a. let c : End.Active ≡ End.None = i ∙ a in cc) nm) in (hp, d.0, d.1), tt)
+    own true j (End.Pending u) i = tt
     own false j v i = tt
 
-downs_home : (z : Name) (f : Pid → Bool) (p : Pid) (r : Term) (es : List (Reference × (Pid × Pid))) → PostsHome z f (downs p r es)
+downs_home : (z : Name) (f : Pid → Bool) (p : Pid) (r : Data) (es : List (Reference × (Pid × Pid))) → PostsHome z f (monitor_exits p r es)
 downs_home z f p r [] = tt
-downs_home z f p r (e ∷ es) = elim (same_pid e.1.1 p) as (λ b. PostsHome z f (cond b ((e.1.0.node, MonitorPExit p e.1.0 e.0 r) ∷ []) [] ++ downs p r es)) [ true ↦ (λ h. tt, downs_home z f p r es) | false ↦ downs_home z f p r es ]
+downs_home z f p r (e ∷ es) = elim (same_pid e.1.1 p) as (λ b. PostsHome z f (cond b ((e.1.0.node, MonitorPExit p e.1.0 e.0 r) ∷ []) [] ++ monitor_exits p r es)) [ true ↦ (λ h. tt, downs_home z f p r es) | false ↦ downs_home z f p r es ]
 
-unwatches_home : (z : Name) (f : Pid → Bool) (p : Pid) (es : List (Reference × (Pid × Pid))) → PostsHome z f (unwatches p es)
+unwatches_home : (z : Name) (f : Pid → Bool) (p : Pid) (es : List (Reference × (Pid × Pid))) → PostsHome z f (demonitors p es)
 unwatches_home z f p [] = tt
-unwatches_home z f p (e ∷ es) = elim (same_pid e.1.0 p) as (λ b. PostsHome z f (cond b ((e.1.1.node, DemonitorP p e.1.1 e.0) ∷ []) [] ++ unwatches p es)) [ true ↦ (λ h. tt, unwatches_home z f p es) | false ↦ unwatches_home z f p es ]
+unwatches_home z f p (e ∷ es) = elim (same_pid e.1.0 p) as (λ b. PostsHome z f (cond b ((e.1.1.node, DemonitorP p e.1.1 e.0) ∷ []) [] ++ demonitors p es)) [ true ↦ (λ h. tt, unwatches_home z f p es) | false ↦ unwatches_home z f p es ]
 
 -- each envelope is on the trunk that is up
 abbrev pub AllRouted : FinMap trunk_cmp TrunkSide → List Envelope → Type 0
@@ -149,7 +163,7 @@ routed-push : (m : FinMap trunk_cmp TrunkSide) (es : List Envelope) (e : Envelop
 routed-push m [] e a r = (r, tt)
 routed-push m (d ∷ es) e a r = (a.0, routed-push m es e a.1 r)
 
-send_routed : (r : Option Trunk) (y : Name) (x : Item) (o : Work) → route o.node y ≡ r → AllRouted o.node.sides o.sent → AllRouted ((send_on r y x o).node.sides) ((send_on r y x o).sent)
+send_routed : (r : Option TrunkId) (y : Name) (x : Item) (o : Work) → route o.node y ≡ r → AllRouted o.node.sides o.sent → AllRouted ((send_on r y x o).node.sides) ((send_on r y x o).sent)
 send_routed None y x o h a = a
 send_routed (Some t) y x o h a = routed-push o.node.sides o.sent (record { trunk = t; target = y; item = x }) a h
 
@@ -175,7 +189,7 @@ pub record Moves (o o' : Work) : Type 0 where
   pub routed : AllRouted o.node.sides o.sent → AllRouted o'.node.sides o'.sent
   pub nevers : (p : Pid) → never o.node p ≡ false → never o'.node p ≡ false
   pub home : NodeKept o.node → home_of o.node → home_of o'.node
-  pub views : NodeKept o.node → (b : List Signal) (p q : Pid) (c : Side) → reaches o.node q.node ≡ true → Kept (view b o p q) c → Kept (view b o' p q) c
+  pub views : NodeKept o.node → (b : List LinkWord) (p q : Pid) (c : Side) → reaches o.node q.node ≡ true → Kept (view b o p q) c → Kept (view b o' p q) c
 
 pub reach_along : (m n : Node) → n.sides ≡ m.sides → n.name ≡ m.name → (y : Name) → reaches n y ≡ reaches m y
 reach_along m n s e y = λ i. same_name y (e i) || is_some (route_in (fm.entries (s i)) y)
@@ -204,7 +218,7 @@ then a b c f g = record {
 pub reported : (f : Effect) (o : Work) → Moves o (report f o)
 reported f o = record { sides = refl; dialed = refl; name = refl; keeps = λ k. record { born = k.born; rooted = k.rooted }; grows = λ p h. h; draws = omega arith; routed = λ a. a; nevers = λ p h. h; home = λ k h. h; views = λ n b p q c r k. k }
 
-living_received : (l : Option Life) (t : Term) → is_living_life (received l t) ≡ is_living_life l
+living_received : (l : Option Life) (t : Data) → is_living_life (delivered l t) ≡ is_living_life l
 living_received None t = refl
 living_received (Some (Living a m)) t = refl
 living_received (Some (Ended r)) t = refl
@@ -217,13 +231,13 @@ pub set_life_living : (m : FinMap pid_cmp Life) (p : Pid) (l : Option Life) (x :
 set_life_living m p None x h = refl
 set_life_living m p (Some l) x h = ap is_living_life (fm.get-insert pid_total m p l x) ∙ living_cond (same_pid x p) (Some l) (fm.get m x) h
 
-put_living : (p : Pid) (t : Term) (o : Work) (x : Pid) → living ((put p t o).node) x ≡ living o.node x
-put_living p t o x = set_life_living o.node.lives p (received (fm.get o.node.lives p) t) x (λ h. living_received (fm.get o.node.lives p) t ∙ ap (λ v. is_living_life (fm.get o.node.lives v)) (sym (same_pid_true x p h)))
+put_living : (p : Pid) (t : Data) (o : Work) (x : Pid) → living ((put p t o).node) x ≡ living o.node x
+put_living p t o x = set_life_living o.node.lives p (delivered (fm.get o.node.lives p) t) x (λ h. living_received (fm.get o.node.lives p) t ∙ ap (λ v. is_living_life (fm.get o.node.lives v)) (sym (same_pid_true x p h)))
 
-put_view : (b : List Signal) (x : Pid) (t : Term) (o : Work) (p q : Pid) → view b (put x t o) p q ≡ view b o p q
+put_view : (b : List LinkWord) (x : Pid) (t : Data) (o : Work) (p q : Pid) → view b (put x t o) p q ≡ view b o p q
 put_view b x t o p q = side_path (view b (put x t o) p q) (view b o p q) refl (ap (λ v. not v && not (never o.node p)) (put_living x t o p)) refl refl
 
-pub puts : (x : Pid) (t : Term) (o : Work) → Moves o (put x t o)
+pub puts : (x : Pid) (t : Data) (o : Work) → Moves o (put x t o)
 puts x t o = record {
   sides = refl;
   dialed = refl;
@@ -238,7 +252,7 @@ puts x t o = record {
 }
 
 -- a process ends
-keeps_finish_at : (r : Term) (a b : Side) → a.gone ≡ false → Kept a b → Kept (finished false r a) b
+keeps_finish_at : (r : Data) (a b : Side) → a.gone ≡ false → Kept a b → Kept (finished false r a) b
 keeps_finish_at r a b g k =
     let P : Bool → Type 0 = λ v. Kept (record { end = a.end; gone = v; drawn = a.drawn; sent = a.sent }) b → Kept (finished false r a) b in
     subst P (sym g) (keeps_finish r a.end false a.drawn a.sent b) k
@@ -246,7 +260,7 @@ keeps_finish_at r a b g k =
 not_over : (n : Node) (p : Pid) → living n p ≡ true → over n p ≡ false
 not_over n p l = ap (λ v. not v && not (never n p)) l
 
-finish_views : (x : Pid) (r : Term) (o : Work) → living o.node x ≡ true → NodeKept o.node → (b : List Signal) (p q : Pid) (c : Side) → reaches o.node q.node ≡ true → (t : Bool) → same_pid p x ≡ t → Kept (view b o p q) c → Kept (view b (finish x r o) p q) c
+finish_views : (x : Pid) (r : Data) (o : Work) → living o.node x ≡ true → NodeKept o.node → (b : List LinkWord) (p q : Pid) (c : Side) → reaches o.node q.node ≡ true → (t : Bool) → same_pid p x ≡ t → Kept (view b o p q) c → Kept (view b (finish x r o) p q) c
 finish_views x r o l n b p q c reach true e k =
     let h : p ≡ x = same_pid_true p x e in
     let lp : living o.node p ≡ true = subst (λ v. living o.node v ≡ true) (sym h) l in
@@ -254,17 +268,17 @@ finish_views x r o l n b p q c reach true e k =
     subst (λ v. Kept (view b (finish v r o) p q) c) h d
 finish_views x r o l n b p q c reach false e k = subst (λ a. Kept a c) (sym (finish_view_other b x r o p q reach e)) k
 
-cond_absent : (b : Bool) (o : Option End) → (end_in (cond (not b) o None) ≡ Absent → ⊥) → b ≡ false
+cond_absent : (b : Bool) (o : Option End) → (end_in (cond (not b) o None) ≡ End.None → ⊥) → b ≡ false
 cond_absent true o h = absurd (h refl)
 cond_absent false o h = refl
 
-finish_end : (x : Pid) (r : Term) (o : Work) (p q : Pid) → end_of ((finish x r o).node) p q ≡ end_in (cond (not (same_pid p x)) (fm.get ((post_all (last_posts x r o) o).node.ends) (p, q)) None)
+finish_end : (x : Pid) (r : Data) (o : Work) (p q : Pid) → end_of ((finish x r o).node) p q ≡ end_in (cond (not (same_pid p x)) (fm.get ((post_all (last_posts x r o) o).node.ends) (p, q)) None)
 finish_end x r o p q = buried_end x r (post_all (last_posts x r o) o) p q
 
-finish_living : (x : Pid) (r : Term) (o : Work) (p : Pid) → living ((finish x r o).node) p ≡ is_living_life (cond (same_pid p x) (Some (Ended r)) (fm.get ((post_all (last_posts x r o) o).node.lives) p))
+finish_living : (x : Pid) (r : Data) (o : Work) (p : Pid) → living ((finish x r o).node) p ≡ is_living_life (cond (same_pid p x) (Some (Ended r)) (fm.get ((post_all (last_posts x r o) o).node.lives) p))
 finish_living x r o p = buried_living x r (post_all (last_posts x r o) o) p
 
-ended_cond : (b : Bool) (r : Term) (l : Option Life) → is_living_life (cond b (Some (Ended r)) l) ≡ true → (b ≡ false) × (is_living_life l ≡ true)
+ended_cond : (b : Bool) (r : Data) (l : Option Life) → is_living_life (cond b (Some (Ended r)) l) ≡ true → (b ≡ false) × (is_living_life l ≡ true)
 ended_cond true r l h = cc
 ended_cond false r l h = (refl, h)
 
@@ -272,15 +286,15 @@ cond_end_kept : (b : Bool) (o : Option End) → b ≡ false → end_in (cond (no
 cond_end_kept true o h = cc
 cond_end_kept false o h = refl
 
-cond_life_kept : (b : Bool) (r : Term) (l : Option Life) → b ≡ false → is_living_life (cond b (Some (Ended r)) l) ≡ is_living_life l
+cond_life_kept : (b : Bool) (r : Data) (l : Option Life) → b ≡ false → is_living_life (cond b (Some (Ended r)) l) ≡ is_living_life l
 cond_life_kept true r l h = cc
 cond_life_kept false r l h = refl
 
-over_grows : (b : Bool) (r : Term) (l : Option Life) (v : Bool) → (not (is_living_life l) && not v) ≡ true → (not (is_living_life (cond b (Some (Ended r)) l)) && not v) ≡ true
+over_grows : (b : Bool) (r : Data) (l : Option Life) (v : Bool) → (not (is_living_life l) && not v) ≡ true → (not (is_living_life (cond b (Some (Ended r)) l)) && not v) ≡ true
 over_grows true r l v h = (and_both (not (is_living_life l)) (not v) h).1
 over_grows false r l v h = h
 
-pub finishes : (x : Pid) (r : Term) (o : Work) → living o.node x ≡ true → Moves o (finish x r o)
+pub finishes : (x : Pid) (r : Data) (o : Work) → living o.node x ≡ true → Moves o (finish x r o)
 finishes x r o l =
     let posts = last_posts x r o in
     let o1 = post_all posts o in
@@ -306,8 +320,8 @@ finishes x r o l =
       routed = λ a. post_all_routed posts o a;
       nevers = λ p h. post_all_keeps (λ n. never n p) (λ n m. refl) posts o ∙ h;
       home = λ k h. post_all_home posts o
-          (PostsHome-append o.node.name (λ p. never o.node p) (exits x r (fm.entries o.node.ends) ++ downs x r (fm.entries o.node.registered)) (unwatches x (fm.entries o.node.watches))
-          (PostsHome-append o.node.name (λ p. never o.node p) (exits x r (fm.entries o.node.ends)) (downs x r (fm.entries o.node.registered))
+          (PostsHome-append o.node.name (λ p. never o.node p) (exits x r (fm.entries o.node.ends) ++ monitor_exits x r (fm.entries o.node.registered)) (demonitors x (fm.entries o.node.watches))
+          (PostsHome-append o.node.name (λ p. never o.node p) (exits x r (fm.entries o.node.ends)) (monitor_exits x r (fm.entries o.node.registered))
           (exits_home o.node.name (λ p. never o.node p) x r (fm.entries o.node.ends) (k.born x l)
           (λ e fe ne nn. (k.rooted e.0.0 e.0.1 (λ a. ne (sym (ap end_in (fm.get-entries o.node.ends e.0 ∙ fe)) ∙ a))).2 nn) (fm.entries_sorted o.node.ends))
           (downs_home o.node.name (λ p. never o.node p) x r (fm.entries o.node.registered)))
@@ -316,33 +330,33 @@ finishes x r o l =
     }
 
 pub carries_out : (f : Reaction) (x : Pid) (o : Work) → living o.node x ≡ true → Moves o (carry_out f x o)
-carries_out Ignore x o l = stays o
-carries_out (Note t) x o l = puts x t o
-carries_out (EndBy r) x o l = finishes x r o l
+carries_out Reaction.Ignore x o l = stays o
+carries_out (Reaction.Put t) x o l = puts x t o
+carries_out (Reaction.End r) x o l = finishes x r o l
 
-pub link_exits : (p q : Pid) (r : Term) (o : Work) → living o.node p ≡ true → Moves o (link_exit p q r o)
+pub link_exits : (p q : Pid) (r : Data) (o : Work) → living o.node p ≡ true → Moves o (link_exit p q r o)
 link_exits p q r o l =
     let o1 = report (LinkExit p q r) o in
-    then o o1 (link_exit p q r o) (reported (LinkExit p q r) o) (carries_out (react true true (traps_life (fm.get o1.node.lives p)) (same_pid q p) q r) p o1 l)
+    then o o1 (link_exit p q r o) (reported (LinkExit p q r) o) (carries_out (reaction (traps_life (fm.get o1.node.lives p)) (linked_exit p q r)) p o1 l)
 
 -- one end is set
 abbrev pub ended_at : Bool → End → Side → Side
 ended_at t e a = record { end = cond t e a.end; gone = a.gone; drawn = a.drawn; sent = a.sent }
 
-pub set_view : (b : List Signal) (x y : Pid) (e : End) (o : Work) (p q : Pid) → view b (set_end x y e o) p q ≡ ended_at (same_pid p x && same_pid q y) e (view b o p q)
+pub set_view : (b : List LinkWord) (x y : Pid) (e : End) (o : Work) (p q : Pid) → view b (set_end x y e o) p q ≡ ended_at (same_pid p x && same_pid q y) e (view b o p q)
 set_view b x y e o p q = side_path (view b (set_end x y e o) p q) (ended_at (same_pid p x && same_pid q y) e (view b o p q))
     (set_in-get o.node.ends (x, y) e (p, q) ∙ ap (λ t. cond t e (end_of o.node p q)) (same_pair p q x y)) refl refl refl
 
 end_set : (x y : Pid) (e : End) (o : Work) (p q : Pid) → end_of ((set_end x y e o).node) p q ≡ cond (same_pid p x && same_pid q y) e (end_of o.node p q)
 end_set x y e o p q = set_in-get o.node.ends (x, y) e (p, q) ∙ ap (λ t. cond t e (end_of o.node p q)) (same_pair p q x y)
 
-set_rooted : (x y : Pid) (e : End) (o : Work) → NodeKept o.node → ((e ≡ Absent → ⊥) → (living o.node x ≡ true) × (held o.node y.node ≡ true) × (same_name y.node o.node.name ≡ true → (never o.node y ≡ false) × (same_pid x y ≡ false))) → NodeKept ((set_end x y e o).node)
+set_rooted : (x y : Pid) (e : End) (o : Work) → NodeKept o.node → ((e ≡ End.None → ⊥) → (living o.node x ≡ true) × (held o.node y.node ≡ true) × (same_name y.node o.node.name ≡ true → (never o.node y ≡ false) × (same_pid x y ≡ false))) → NodeKept ((set_end x y e o).node)
 set_rooted x y e o k h = record {
   born = k.born;
   rooted = λ p q n. go p q (same_pid p x && same_pid q y) refl (λ m. n (end_set x y e o p q ∙ m));
 }
   where
-    go : (p q : Pid) (t : Bool) → (same_pid p x && same_pid q y) ≡ t → (cond (same_pid p x && same_pid q y) e (end_of o.node p q) ≡ Absent → ⊥) → (living o.node p ≡ true) × (held o.node q.node ≡ true) × (same_name q.node o.node.name ≡ true → (never o.node q ≡ false) × (same_pid p q ≡ false))
+    go : (p q : Pid) (t : Bool) → (same_pid p x && same_pid q y) ≡ t → (cond (same_pid p x && same_pid q y) e (end_of o.node p q) ≡ End.None → ⊥) → (living o.node p ≡ true) × (held o.node q.node ≡ true) × (same_name q.node o.node.name ≡ true → (never o.node q ≡ false) × (same_pid p q ≡ false))
     go p q true i n =
         let v = and_both (same_pid p x) (same_pid q y) i in
         let r = h (λ m. n (ap (λ t. cond t e (end_of o.node p q)) i ∙ m)) in (
@@ -354,7 +368,7 @@ set_rooted x y e o k h = record {
     go p q false i n = k.rooted p q (λ m. n (ap (λ t. cond t e (end_of o.node p q)) i ∙ m))
 
 -- a route is a side that is up
-reach_held_in : (es : List (Trunk × TrunkSide)) (y : Name) → is_some (route_in es y) ≡ true → is_some (side_where (λ v. is_up v || is_losing v) y es) ≡ true
+reach_held_in : (es : List (TrunkId × TrunkSide)) (y : Name) → is_some (route_in es y) ≡ true → is_some (side_where (λ v. is_up v || is_losing v) y es) ≡ true
 reach_held_in [] y h = h
 reach_held_in (e ∷ es) y h = go (same_name e.1.peer y) (is_up e.1.state) refl (is_losing e.1.state) h (reach_held_in es y)
   where
@@ -396,20 +410,20 @@ posts_other y x o none = record {
 }
 
 -- p's end for q is set, and a signal goes to q
-abbrev pub told : End → Signal → Side → Side
+abbrev pub told : End → LinkWord → Side → Side
 told e s a = record { end = e; gone = a.gone; drawn = a.drawn; sent = a.sent ++ s ∷ [] }
 
-pub told_view : (b : List Signal) (x y : Pid) (e : End) (s : Signal) (o : Work) (p q : Pid) → reaches o.node q.node ≡ true → (t : Bool) → (same_pid p x && same_pid q y) ≡ t
-    → view b (post y.node (LinkSignal x y s) (set_end x y e o)) p q ≡ cond t (told e s (view b o p q)) (view b o p q)
+pub told_view : (b : List LinkWord) (x y : Pid) (e : End) (s : LinkWord) (o : Work) (p q : Pid) → reaches o.node q.node ≡ true → (t : Bool) → (same_pid p x && same_pid q y) ≡ t
+    → view b (post y.node (AboutLink x y s) (set_end x y e o)) p q ≡ cond t (told e s (view b o p q)) (view b o p q)
 told_view b x y e s o p q reach true h =
     let v = and_both (same_pid p x) (same_pid q y) h in
     let w : (same_pid x p && same_pid y q) ≡ true = ap (λ t. t && same_pid y q) (same_pid_is x p (sym (same_pid_true p x v.0))) ∙ same_pid_is y q (sym (same_pid_true q y v.1)) in
-    post_view b y.node (LinkSignal x y s) (set_end x y e o) p q reach (linking_suits x y p q s)
+    post_view b y.node (AboutLink x y s) (set_end x y e o) p q reach (linking_suits x y p q s)
     ∙ ap (λ a. more a (cond (same_pid x p && same_pid y q) (s ∷ []) [])) (set_view b x y e o p q)
     ∙ ap (λ t. more (ended_at t e (view b o p q)) (cond (same_pid x p && same_pid y q) (s ∷ []) [])) h
     ∙ ap (λ t. more (ended_at true e (view b o p q)) (cond t (s ∷ []) [])) w
 told_view b x y e s o p q reach false h =
-    post_view b y.node (LinkSignal x y s) (set_end x y e o) p q reach (linking_suits x y p q s)
+    post_view b y.node (AboutLink x y s) (set_end x y e o) p q reach (linking_suits x y p q s)
     ∙ ap (λ a. more a (cond (same_pid x p && same_pid y q) (s ∷ []) [])) (set_view b x y e o p q)
     ∙ ap (λ t. more (ended_at t e (view b o p q)) (cond (same_pid x p && same_pid y q) (s ∷ []) [])) h
     ∙ ap (λ t. more (view b o p q) (cond t (s ∷ []) [])) (other_way x y p q h)
@@ -426,39 +440,39 @@ told_view b x y e s o p q reach false h =
         go false i = i
 
 -- a process links to another
-keeps_activate_at : (a b : Side) → a.gone ≡ false → (a.end ≡ Active → ⊥) → Kept a b → Kept (told Active Link a) b
+keeps_activate_at : (a b : Side) → a.gone ≡ false → (a.end ≡ End.Active → ⊥) → Kept a b → Kept (told End.Active (Says LinkSignal.Link) a) b
 keeps_activate_at a b g n k =
-    let P : Bool → Type 0 = λ v. Kept (record { end = a.end; gone = v; drawn = a.drawn; sent = a.sent }) b → Kept (record { end = Active; gone = v; drawn = a.drawn; sent = a.sent ++ Link ∷ [] }) b in
+    let P : Bool → Type 0 = λ v. Kept (record { end = a.end; gone = v; drawn = a.drawn; sent = a.sent }) b → Kept (record { end = End.Active; gone = v; drawn = a.drawn; sent = a.sent ++ (Says LinkSignal.Link) ∷ [] }) b in
     subst P (sym g) (go a.end n) k
   where
-    go : (e : End) → (e ≡ Active → ⊥) → Kept (record { end = e; gone = false; drawn = a.drawn; sent = a.sent }) b → Kept (record { end = Active; gone = false; drawn = a.drawn; sent = a.sent ++ Link ∷ [] }) b
-    go Absent n k = keeps_link Absent false a.drawn a.sent b k
-    go Active n k = absurd (n refl)
-    go (Pending i) n k = keeps_link (Pending i) false a.drawn a.sent b k
+    go : (e : End) → (e ≡ End.Active → ⊥) → Kept (record { end = e; gone = false; drawn = a.drawn; sent = a.sent }) b → Kept (record { end = End.Active; gone = false; drawn = a.drawn; sent = a.sent ++ (Says LinkSignal.Link) ∷ [] }) b
+    go End.None n k = keeps_link End.None false a.drawn a.sent b k
+    go End.Active n k = absurd (n refl)
+    go (End.Pending i) n k = keeps_link (End.Pending i) false a.drawn a.sent b k
 
 at_pair : (P : Pid → Pid → Type 0) (p q x y : Pid) → (same_pid p x && same_pid q y) ≡ true → P x y → P p q
 at_pair P p q x y h k =
     let v = and_both (same_pid p x) (same_pid q y) h in
     subst (λ z. P z q) (sym (same_pid_true p x v.0)) (subst (λ z. P x z) (sym (same_pid_true q y v.1)) k)
 
-links_reached : (x y : Pid) (o : Work) → (same_name y.node o.node.name ≡ true → (never o.node y ≡ false) × (same_pid x y ≡ false)) → living o.node x ≡ true → reaches o.node y.node ≡ true → (end_of o.node x y ≡ Active → ⊥) → Moves o (post y.node (LinkSignal x y Link) (set_end x y Active o))
+links_reached : (x y : Pid) (o : Work) → (same_name y.node o.node.name ≡ true → (never o.node y ≡ false) × (same_pid x y ≡ false)) → living o.node x ≡ true → reaches o.node y.node ≡ true → (end_of o.node x y ≡ End.Active → ⊥) → Moves o (post y.node (AboutLink x y (Says LinkSignal.Link)) (set_end x y End.Active o))
 links_reached x y o v l reach n = record {
-  sides = post_keeps (λ m. m.sides) (λ m u. refl) y.node (LinkSignal x y Link) (set_end x y Active o);
-  dialed = post_keeps (λ m. m.dialed) (λ m u. refl) y.node (LinkSignal x y Link) (set_end x y Active o);
-  name = post_keeps (λ m. m.name) (λ m u. refl) y.node (LinkSignal x y Link) (set_end x y Active o);
-  keeps = λ k. post_kept y.node (LinkSignal x y Link) (set_end x y Active o) (set_rooted x y Active o k (λ h. (l, reach_held o.node y.node reach, v)));
-  grows = λ p h. post_keeps (λ m. over m p) (λ m u. refl) y.node (LinkSignal x y Link) (set_end x y Active o) ∙ h;
-  draws = omega (arith, post_keeps (λ m. m.unlinks) (λ m u. refl) y.node (LinkSignal x y Link) (set_end x y Active o));
-  routed = λ a. post_routed y.node (LinkSignal x y Link) (set_end x y Active o) a;
-  nevers = λ p h. post_keeps (λ m. never m p) (λ m u. refl) y.node (LinkSignal x y Link) (set_end x y Active o) ∙ h;
-  home = λ k h. post_home y.node (LinkSignal x y Link) (set_end x y Active o) (λ e. let d = v e in (k.born x l, d.0, d.1)) h;
+  sides = post_keeps (λ m. m.sides) (λ m u. refl) y.node (AboutLink x y (Says LinkSignal.Link)) (set_end x y End.Active o);
+  dialed = post_keeps (λ m. m.dialed) (λ m u. refl) y.node (AboutLink x y (Says LinkSignal.Link)) (set_end x y End.Active o);
+  name = post_keeps (λ m. m.name) (λ m u. refl) y.node (AboutLink x y (Says LinkSignal.Link)) (set_end x y End.Active o);
+  keeps = λ k. post_kept y.node (AboutLink x y (Says LinkSignal.Link)) (set_end x y End.Active o) (set_rooted x y End.Active o k (λ h. (l, reach_held o.node y.node reach, v)));
+  grows = λ p h. post_keeps (λ m. over m p) (λ m u. refl) y.node (AboutLink x y (Says LinkSignal.Link)) (set_end x y End.Active o) ∙ h;
+  draws = omega (arith, post_keeps (λ m. m.unlinks) (λ m u. refl) y.node (AboutLink x y (Says LinkSignal.Link)) (set_end x y End.Active o));
+  routed = λ a. post_routed y.node (AboutLink x y (Says LinkSignal.Link)) (set_end x y End.Active o) a;
+  nevers = λ p h. post_keeps (λ m. never m p) (λ m u. refl) y.node (AboutLink x y (Says LinkSignal.Link)) (set_end x y End.Active o) ∙ h;
+  home = λ k h. post_home y.node (AboutLink x y (Says LinkSignal.Link)) (set_end x y End.Active o) (λ e. let d = v e in (k.born x l, d.0, d.1)) h;
   views = λ nk b p q c r k. go b p q c r k (same_pid p x && same_pid q y) refl;
 }
   where
-    go : (b : List Signal) (p q : Pid) (c : Side) → reaches o.node q.node ≡ true → Kept (view b o p q) c → (t : Bool) → (same_pid p x && same_pid q y) ≡ t → Kept (view b (post y.node (LinkSignal x y Link) (set_end x y Active o)) p q) c
-    go b p q c r k true h = subst (λ a. Kept a c) (sym (told_view b x y Active Link o p q r true h))
-        (keeps_activate_at (view b o p q) c (at_pair (λ u v. over o.node u ≡ false) p q x y h (not_over o.node x l)) (at_pair (λ u v. end_of o.node u v ≡ Active → ⊥) p q x y h n) k)
-    go b p q c r k false h = subst (λ a. Kept a c) (sym (told_view b x y Active Link o p q r false h)) k
+    go : (b : List LinkWord) (p q : Pid) (c : Side) → reaches o.node q.node ≡ true → Kept (view b o p q) c → (t : Bool) → (same_pid p x && same_pid q y) ≡ t → Kept (view b (post y.node (AboutLink x y (Says LinkSignal.Link)) (set_end x y End.Active o)) p q) c
+    go b p q c r k true h = subst (λ a. Kept a c) (sym (told_view b x y End.Active (Says LinkSignal.Link) o p q r true h))
+        (keeps_activate_at (view b o p q) c (at_pair (λ u v. over o.node u ≡ false) p q x y h (not_over o.node x l)) (at_pair (λ u v. end_of o.node u v ≡ End.Active → ⊥) p q x y h n) k)
+    go b p q c r k false h = subst (λ a. Kept a c) (sym (told_view b x y End.Active (Says LinkSignal.Link) o p q r false h)) k
 
 -- the partner's node isn't reached: no pair that is reached is meant
 apart_by_reach : (n : Node) (p q x y : Pid) → reaches n q.node ≡ true → reaches n y.node ≡ false → (same_pid p x && same_pid q y) ≡ false
@@ -471,28 +485,28 @@ apart_by_reach n p q x y r u = go (same_pid p x && same_pid q y) refl
         let m : true ≡ false = sym w ∙ u in cc
     go false h = h
 
-pub removes_unreached : (x y : Pid) (o : Work) → reaches o.node y.node ≡ false → Moves o (set_end x y Absent o)
+pub removes_unreached : (x y : Pid) (o : Work) → reaches o.node y.node ≡ false → Moves o (set_end x y End.None o)
 removes_unreached x y o u = record {
   sides = refl;
   dialed = refl;
   name = refl;
-  keeps = λ k. set_rooted x y Absent o k (λ h. absurd (h refl));
+  keeps = λ k. set_rooted x y End.None o k (λ h. absurd (h refl));
   grows = λ p h. h;
   draws = omega arith;
   routed = λ a. a;
   nevers = λ p h. h;
   home = λ k h. h;
-  views = λ nk b p q c r k. subst (λ a. Kept a c) (sym (set_view b x y Absent o p q ∙ ap (λ t. ended_at t Absent (view b o p q)) (apart_by_reach o.node p q x y r u))) k;
+  views = λ nk b p q c r k. subst (λ a. Kept a c) (sym (set_view b x y End.None o p q ∙ ap (λ t. ended_at t End.None (view b o p q)) (apart_by_reach o.node p q x y r u))) k;
 }
 
-pub link_news : (t : Bool) (x y : Pid) (o : Work) → (same_name y.node o.node.name ≡ true → (never o.node y ≡ false) × (same_pid x y ≡ false)) → reaches o.node y.node ≡ t → living o.node x ≡ true → (end_of o.node x y ≡ Active → ⊥) → Moves o (link_new t x y o)
+pub link_news : (t : Bool) (x y : Pid) (o : Work) → (same_name y.node o.node.name ≡ true → (never o.node y ≡ false) × (same_pid x y ≡ false)) → reaches o.node y.node ≡ t → living o.node x ≡ true → (end_of o.node x y ≡ End.Active → ⊥) → Moves o (link_new t x y o)
 link_news true x y o v r l n = links_reached x y o v l r n
-link_news false x y o v r l n = then o (set_end x y Absent o) (link_new false x y o) (removes_unreached x y o r) (link_exits x y NoConnection (set_end x y Absent o) l)
+link_news false x y o v r l n = then o (set_end x y End.None o) (link_new false x y o) (removes_unreached x y o r) (link_exits x y noconnection (set_end x y End.None o) l)
 
 links_by : (e : End) (x y : Pid) (o : Work) → (same_name y.node o.node.name ≡ true → (never o.node y ≡ false) × (same_pid x y ≡ false)) → end_of o.node x y ≡ e → living o.node x ≡ true → Moves o (link_by e x y o)
-links_by Absent x y o v h l = link_news (reaches o.node y.node) x y o v refl l (λ a. let n : Absent ≡ Active = sym h ∙ a in cc)
-links_by Active x y o v h l = stays o
-links_by (Pending i) x y o v h l = link_news (reaches o.node y.node) x y o v refl l (λ a. let n : Pending i ≡ Active = sym h ∙ a in cc)
+links_by End.None x y o v h l = link_news (reaches o.node y.node) x y o v refl l (λ a. let n : End.None ≡ End.Active = sym h ∙ a in cc)
+links_by End.Active x y o v h l = stays o
+links_by (End.Pending i) x y o v h l = link_news (reaches o.node y.node) x y o v refl l (λ a. let n : End.Pending i ≡ End.Active = sym h ∙ a in cc)
 
 pub links : (x y : Pid) (o : Work) → (same_name y.node o.node.name ≡ true → never o.node y ≡ false) → living o.node x ≡ true → Moves o (link x y o)
 links x y o v l = go (same_pid x y) refl
@@ -502,38 +516,38 @@ links x y o v l = go (same_pid x y) refl
     go false e = links_by (end_of o.node x y) x y o (λ i. (v i, e)) refl l
 
 -- a process unlinks
-keeps_unlink_at : (a b : Side) (j : ℕ) → a.gone ≡ false → a.end ≡ Active → a.drawn < j → Kept a b → Kept (record { end = Pending j; gone = a.gone; drawn = j; sent = a.sent ++ UnlinkId j ∷ [] }) b
+keeps_unlink_at : (a b : Side) (j : ℕ) → a.gone ≡ false → a.end ≡ End.Active → a.drawn < j → Kept a b → Kept (record { end = End.Pending j; gone = a.gone; drawn = j; sent = a.sent ++ Says (LinkSignal.Unlink j) ∷ [] }) b
 keeps_unlink_at a b j g e lt k =
-    let P : Bool → End → Type 0 = λ v u. Kept (record { end = u; gone = v; drawn = a.drawn; sent = a.sent }) b → Kept (record { end = Pending j; gone = v; drawn = j; sent = a.sent ++ UnlinkId j ∷ [] }) b in
-    subst (λ v. P v a.end) (sym g) (subst (λ u. P false u) (sym e) (keeps_unlink Active a.drawn j a.sent b lt)) k
+    let P : Bool → End → Type 0 = λ v u. Kept (record { end = u; gone = v; drawn = a.drawn; sent = a.sent }) b → Kept (record { end = End.Pending j; gone = v; drawn = j; sent = a.sent ++ Says (LinkSignal.Unlink j) ∷ [] }) b in
+    subst (λ v. P v a.end) (sym g) (subst (λ u. P false u) (sym e) (keeps_unlink End.Active a.drawn j a.sent b lt)) k
 
-pub unlinks_as : (x y : Pid) (o : Work) (j : ℕ) → living o.node x ≡ true → end_of o.node x y ≡ Active → o.node.unlinks < j → Moves o (unlink_as j x y o)
+pub unlinks_as : (x y : Pid) (o : Work) (j : ℕ) → living o.node x ≡ true → end_of o.node x y ≡ End.Active → o.node.unlinks < j → Moves o (unlink_as j x y o)
 unlinks_as x y o j l e lt =
     let o0 = draw_unlink j o in
     record {
-      sides = post_keeps (λ m. m.sides) (λ m u. refl) y.node (LinkSignal x y (UnlinkId j)) (set_end x y (Pending j) o0);
-      dialed = post_keeps (λ m. m.dialed) (λ m u. refl) y.node (LinkSignal x y (UnlinkId j)) (set_end x y (Pending j) o0);
-      name = post_keeps (λ m. m.name) (λ m u. refl) y.node (LinkSignal x y (UnlinkId j)) (set_end x y (Pending j) o0);
-      keeps = λ k. post_kept y.node (LinkSignal x y (UnlinkId j)) (set_end x y (Pending j) o0)
-          (set_rooted x y (Pending j) o0 (record { born = k.born; rooted = k.rooted }) (λ h. k.rooted x y (λ a. let n : Active ≡ Absent = sym e ∙ a in cc)));
-      grows = λ p h. post_keeps (λ m. over m p) (λ m u. refl) y.node (LinkSignal x y (UnlinkId j)) (set_end x y (Pending j) o0) ∙ h;
-      draws = omega (arith, lt, post_keeps (λ m. m.unlinks) (λ m u. refl) y.node (LinkSignal x y (UnlinkId j)) (set_end x y (Pending j) o0));
-      routed = λ a. post_routed y.node (LinkSignal x y (UnlinkId j)) (set_end x y (Pending j) o0) a;
-      nevers = λ p h. post_keeps (λ m. never m p) (λ m u. refl) y.node (LinkSignal x y (UnlinkId j)) (set_end x y (Pending j) o0) ∙ h;
-      home = λ k h. post_home y.node (LinkSignal x y (UnlinkId j)) (set_end x y (Pending j) o0) (λ i. let d = (k.rooted x y (λ a. let n : Active ≡ Absent = sym e ∙ a in cc)).2 i in (k.born x l, d.0, d.1)) h;
+      sides = post_keeps (λ m. m.sides) (λ m u. refl) y.node (AboutLink x y (Says (LinkSignal.Unlink j))) (set_end x y (End.Pending j) o0);
+      dialed = post_keeps (λ m. m.dialed) (λ m u. refl) y.node (AboutLink x y (Says (LinkSignal.Unlink j))) (set_end x y (End.Pending j) o0);
+      name = post_keeps (λ m. m.name) (λ m u. refl) y.node (AboutLink x y (Says (LinkSignal.Unlink j))) (set_end x y (End.Pending j) o0);
+      keeps = λ k. post_kept y.node (AboutLink x y (Says (LinkSignal.Unlink j))) (set_end x y (End.Pending j) o0)
+          (set_rooted x y (End.Pending j) o0 (record { born = k.born; rooted = k.rooted }) (λ h. k.rooted x y (λ a. let n : End.Active ≡ End.None = sym e ∙ a in cc)));
+      grows = λ p h. post_keeps (λ m. over m p) (λ m u. refl) y.node (AboutLink x y (Says (LinkSignal.Unlink j))) (set_end x y (End.Pending j) o0) ∙ h;
+      draws = omega (arith, lt, post_keeps (λ m. m.unlinks) (λ m u. refl) y.node (AboutLink x y (Says (LinkSignal.Unlink j))) (set_end x y (End.Pending j) o0));
+      routed = λ a. post_routed y.node (AboutLink x y (Says (LinkSignal.Unlink j))) (set_end x y (End.Pending j) o0) a;
+      nevers = λ p h. post_keeps (λ m. never m p) (λ m u. refl) y.node (AboutLink x y (Says (LinkSignal.Unlink j))) (set_end x y (End.Pending j) o0) ∙ h;
+      home = λ k h. post_home y.node (AboutLink x y (Says (LinkSignal.Unlink j))) (set_end x y (End.Pending j) o0) (λ i. let d = (k.rooted x y (λ a. let n : End.Active ≡ End.None = sym e ∙ a in cc)).2 i in (k.born x l, d.0, d.1)) h;
       views = λ nk b p q c r k. go b p q c r k (same_pid p x && same_pid q y) refl;
     }
   where
-    go : (b : List Signal) (p q : Pid) (c : Side) → reaches o.node q.node ≡ true → Kept (view b o p q) c → (t : Bool) → (same_pid p x && same_pid q y) ≡ t → Kept (view b (unlink_as j x y o) p q) c
-    go b p q c r k true h = subst (λ a. Kept a c) (sym (told_view b x y (Pending j) (UnlinkId j) (draw_unlink j o) p q r true h))
-        (keeps_unlink_at (view b o p q) c j (at_pair (λ u v. over o.node u ≡ false) p q x y h (not_over o.node x l)) (at_pair (λ u v. end_of o.node u v ≡ Active) p q x y h e) lt k)
-    go b p q c r k false h = subst (λ a. Kept a c) (sym (told_view b x y (Pending j) (UnlinkId j) (draw_unlink j o) p q r false h)) (keeps_draw (view b o p q) c j lt k)
+    go : (b : List LinkWord) (p q : Pid) (c : Side) → reaches o.node q.node ≡ true → Kept (view b o p q) c → (t : Bool) → (same_pid p x && same_pid q y) ≡ t → Kept (view b (unlink_as j x y o) p q) c
+    go b p q c r k true h = subst (λ a. Kept a c) (sym (told_view b x y (End.Pending j) (Says (LinkSignal.Unlink j)) (draw_unlink j o) p q r true h))
+        (keeps_unlink_at (view b o p q) c j (at_pair (λ u v. over o.node u ≡ false) p q x y h (not_over o.node x l)) (at_pair (λ u v. end_of o.node u v ≡ End.Active) p q x y h e) lt k)
+    go b p q c r k false h = subst (λ a. Kept a c) (sym (told_view b x y (End.Pending j) (Says (LinkSignal.Unlink j)) (draw_unlink j o) p q r false h)) (keeps_draw (view b o p q) c j lt k)
 
 -- a signal about a link is taken
-abbrev pub with_sent : Side → List Signal → Side
+abbrev pub with_sent : Side → List LinkWord → Side
 with_sent c L = record { end = c.end; gone = c.gone; drawn = c.drawn; sent = L }
 
-pub record Takes (x y : Pid) (s : Signal) (o o' : Work) : Type 0 where
+pub record Takes (x y : Pid) (s : LinkWord) (o o' : Work) : Type 0 where
   pub sides : o'.node.sides ≡ o.node.sides
   pub dialed : o'.node.dialed ≡ o.node.dialed
   pub name : o'.node.name ≡ o.node.name
@@ -543,10 +557,10 @@ pub record Takes (x y : Pid) (s : Signal) (o o' : Work) : Type 0 where
   pub routed : AllRouted o.node.sides o.sent → AllRouted o'.node.sides o'.sent
   pub nevers : (p : Pid) → never o.node p ≡ false → never o'.node p ≡ false
   pub home : NodeKept o.node → held o.node y.node ≡ true → home_of o.node → home_of o'.node
-  pub here : NodeKept o.node → held o.node y.node ≡ true → (b : List Signal) (c : Side) (L : List Signal) → reaches o.node y.node ≡ true → Kept (view b o x y) (with_sent c (s ∷ L)) → Kept (view b o' x y) (with_sent c L)
-  pub others : NodeKept o.node → held o.node y.node ≡ true → (b : List Signal) (p q : Pid) (c : Side) → reaches o.node q.node ≡ true → (same_pid p x && same_pid q y) ≡ false → Kept (view b o p q) c → Kept (view b o' p q) c
+  pub here : NodeKept o.node → held o.node y.node ≡ true → (b : List LinkWord) (c : Side) (L : List LinkWord) → reaches o.node y.node ≡ true → Kept (view b o x y) (with_sent c (s ∷ L)) → Kept (view b o' x y) (with_sent c L)
+  pub others : NodeKept o.node → held o.node y.node ≡ true → (b : List LinkWord) (p q : Pid) (c : Side) → reaches o.node q.node ≡ true → (same_pid p x && same_pid q y) ≡ false → Kept (view b o p q) c → Kept (view b o' p q) c
 
-pub takes_then : (x y : Pid) (s : Signal) (a b c : Work) → Takes x y s a b → Moves b c → Takes x y s a c
+pub takes_then : (x y : Pid) (s : LinkWord) (a b c : Work) → Takes x y s a b → Moves b c → Takes x y s a c
 takes_then x y s a b c f g = record {
   sides = g.sides ∙ f.sides;
   dialed = g.dialed ∙ f.dialed;
@@ -561,11 +575,11 @@ takes_then x y s a b c f g = record {
   others = λ n h l p q d r t k. g.views (f.keeps n h) l p q d (reach_along a.node b.node f.sides f.name q.node ∙ r) (f.others n h l p q d r t k);
 }
 
-suits_replies : (p q x y : Pid) (ss : List Signal) → AllSuit p q (replies x y ss)
+suits_replies : (p q x y : Pid) (ss : List LinkWord) → AllSuit p q (replies x y ss)
 suits_replies p q x y [] = tt
 suits_replies p q x y (s ∷ ss) = (linking_suits x y p q s, suits_replies p q x y ss)
 
-posted_replies : (t : Bool) (p q x y : Pid) (ss : List Signal) → (same_pid x p && same_pid y q) ≡ t → posted p q (replies x y ss) ≡ cond t ss []
+posted_replies : (t : Bool) (p q x y : Pid) (ss : List LinkWord) → (same_pid x p && same_pid y q) ≡ t → posted p q (replies x y ss) ≡ cond t ss []
 posted_replies true p q x y [] h = refl
 posted_replies true p q x y (s ∷ ss) h = ap (λ t. cond t (s ∷ []) [] ++ posted p q (replies x y ss)) h ∙ ap (λ l. s ∷ l) (posted_replies true p q x y ss h)
 posted_replies false p q x y [] h = refl
@@ -589,25 +603,25 @@ one_pair : (x y : Pid) → (same_pid x x && same_pid y y) ≡ true
 one_pair x y = ap (λ t. t && same_pid y y) (same_pid_refl x) ∙ same_pid_refl y
 
 -- after replies by x to y
-replied_here : (b : List Signal) (x y : Pid) (ss : List Signal) (o : Work) → reaches o.node y.node ≡ true → view b (post_all (replies x y ss) o) x y ≡ more (view b o x y) ss
+replied_here : (b : List LinkWord) (x y : Pid) (ss : List LinkWord) (o : Work) → reaches o.node y.node ≡ true → view b (post_all (replies x y ss) o) x y ≡ more (view b o x y) ss
 replied_here b x y ss o r = post_all_view b (replies x y ss) o x y r (suits_replies x y x y ss) ∙ ap (more (view b o x y)) (posted_replies true x y x y ss (one_pair x y))
 
-replied_there : (b : List Signal) (x y : Pid) (ss : List Signal) (o : Work) (p q : Pid) → reaches o.node q.node ≡ true → (same_pid p x && same_pid q y) ≡ false → view b (post_all (replies x y ss) o) p q ≡ view b o p q
+replied_there : (b : List LinkWord) (x y : Pid) (ss : List LinkWord) (o : Work) (p q : Pid) → reaches o.node q.node ≡ true → (same_pid p x && same_pid q y) ≡ false → view b (post_all (replies x y ss) o) p q ≡ view b o p q
 replied_there b x y ss o p q r t = post_all_view b (replies x y ss) o p q r (suits_replies p q x y ss) ∙ ap (more (view b o p q)) (posted_replies false p q x y ss (turned x y p q t))
     ∙ side_path (more (view b o p q) []) (view b o p q) refl refl refl (append-nil _)
 
-takes_at : (g : Bool) (a b : Side) (s : Signal) (L : List Signal) → a.gone ≡ g → Kept a (with_sent b (s ∷ L)) → Kept (record { end = cond g a.end (recv a.end s); gone = a.gone; drawn = a.drawn; sent = a.sent ++ reply g s }) (with_sent b L)
+takes_at : (g : Bool) (a b : Side) (s : LinkWord) (L : List LinkWord) → a.gone ≡ g → Kept a (with_sent b (s ∷ L)) → Kept (record { end = cond g a.end (heard a.end s); gone = a.gone; drawn = a.drawn; sent = a.sent ++ reply g s }) (with_sent b L)
 takes_at g a b s L h k =
-    let P : Bool → Type 0 = λ v. Kept (record { end = a.end; gone = v; drawn = a.drawn; sent = a.sent }) (with_sent b (s ∷ L)) → Kept (record { end = cond g a.end (recv a.end s); gone = v; drawn = a.drawn; sent = a.sent ++ reply g s }) (with_sent b L) in
+    let P : Bool → Type 0 = λ v. Kept (record { end = a.end; gone = v; drawn = a.drawn; sent = a.sent }) (with_sent b (s ∷ L)) → Kept (record { end = cond g a.end (heard a.end s); gone = v; drawn = a.drawn; sent = a.sent ++ reply g s }) (with_sent b L) in
     subst P (sym h) (keeps_take a.end g a.drawn a.sent b.end b.gone b.drawn s L) k
 
-replies_home : (z : Name) (f : Pid → Bool) (x y : Pid) (ss : List Signal) → f x ≡ false → (same_name y.node z ≡ true → (f y ≡ false) × (same_pid x y ≡ false)) → PostsHome z f (replies x y ss)
+replies_home : (z : Name) (f : Pid → Bool) (x y : Pid) (ss : List LinkWord) → f x ≡ false → (same_name y.node z ≡ true → (f y ≡ false) × (same_pid x y ≡ false)) → PostsHome z f (replies x y ss)
 replies_home z f x y [] hx hy = tt
 replies_home z f x y (s ∷ ss) hx hy = (λ e. let d = hy e in (hx, d.0, d.1), replies_home z f x y ss hx hy)
 
-takes_living : (x y : Pid) (s : Signal) (o : Work) → (same_name y.node o.node.name ≡ true → (never o.node y ≡ false) × (same_pid x y ≡ false)) → never o.node x ≡ false → living o.node x ≡ true → Takes x y s o (post_all (replies x y (reply false s)) (set_end x y (recv (end_of o.node x y) s) o))
+takes_living : (x y : Pid) (s : LinkWord) (o : Work) → (same_name y.node o.node.name ≡ true → (never o.node y ≡ false) × (same_pid x y ≡ false)) → never o.node x ≡ false → living o.node x ≡ true → Takes x y s o (post_all (replies x y (reply false s)) (set_end x y (heard (end_of o.node x y) s) o))
 takes_living x y s o v nx l =
-    let e = recv (end_of o.node x y) s in
+    let e = heard (end_of o.node x y) s in
     let o1 = set_end x y e o in
     let es = replies x y (reply false s) in
     record {
@@ -627,7 +641,7 @@ takes_living x y s o v nx l =
           (sym (replied_there b x y (reply false s) o1 p q r t ∙ set_view b x y e o p q ∙ ap (λ t. ended_at t e (view b o p q)) t)) k;
     }
 
-takes_over : (x y : Pid) (s : Signal) (o : Work) → (same_name y.node o.node.name ≡ true → (never o.node y ≡ false) × (same_pid x y ≡ false)) → never o.node x ≡ false → over o.node x ≡ true → Takes x y s o (post_all (replies x y (reply true s)) o)
+takes_over : (x y : Pid) (s : LinkWord) (o : Work) → (same_name y.node o.node.name ≡ true → (never o.node y ≡ false) × (same_pid x y ≡ false)) → never o.node x ≡ false → over o.node x ≡ true → Takes x y s o (post_all (replies x y (reply true s)) o)
 takes_over x y s o v nx l =
     let es = replies x y (reply true s) in
     record {
@@ -644,21 +658,21 @@ takes_over x y s o v nx l =
       others = λ n h b p q c r t k. subst (λ a. Kept a c) (sym (replied_there b x y (reply true s) o p q r t)) k;
     }
 
-exit_moves : (e : End) (s : Signal) (x y : Pid) (o : Work) → living o.node x ≡ true → Moves o (exit_follows e s x y o)
-exit_moves e Link x y o l = stays o
-exit_moves e (UnlinkId j) x y o l = stays o
-exit_moves e (UnlinkIdAck j) x y o l = stays o
-exit_moves Absent (Exit r) x y o l = stays o
-exit_moves Active (Exit r) x y o l = link_exits x y r o l
-exit_moves (Pending i) (Exit r) x y o l = stays o
+exit_moves : (e : End) (s : LinkWord) (x y : Pid) (o : Work) → living o.node x ≡ true → Moves o (exit_follows e s x y o)
+exit_moves e (Says LinkSignal.Link) x y o l = stays o
+exit_moves e (Says (LinkSignal.Unlink j)) x y o l = stays o
+exit_moves e (Says (LinkSignal.Ack j)) x y o l = stays o
+exit_moves End.None (Exits r) x y o l = stays o
+exit_moves End.Active (Exits r) x y o l = link_exits x y r o l
+exit_moves (End.Pending i) (Exits r) x y o l = stays o
 
 -- whoever was spawned takes it by the rules of the pair
-pub takes_link : (x y : Pid) (s : Signal) (o : Work) → (same_name y.node o.node.name ≡ true → (never o.node y ≡ false) × (same_pid x y ≡ false)) → never o.node x ≡ false → Takes x y s o (take_link x y s o)
+pub takes_link : (x y : Pid) (s : LinkWord) (o : Work) → (same_name y.node o.node.name ≡ true → (never o.node y ≡ false) × (same_pid x y ≡ false)) → never o.node x ≡ false → Takes x y s o (take_link x y s o)
 takes_link x y s o u v = go (living o.node x) refl
   where
     go : (t : Bool) → living o.node x ≡ t → Takes x y s o (take_link_by t x y s o)
     go true l =
-        let o1 = set_end x y (recv (end_of o.node x y) s) o in
+        let o1 = set_end x y (heard (end_of o.node x y) s) o in
         let o2 = post_all (replies x y (reply false s)) o1 in
         takes_then x y s o o2 (exit_follows (end_of o.node x y) s x y o2) (takes_living x y s o u v l)
         (exit_moves (end_of o.node x y) s x y o2 (post_all_keeps (λ m. living m x) (λ m u. refl) (replies x y (reply false s)) o1 ∙ l))

@@ -2,22 +2,26 @@
 use Rattle.std.proofs.Common.{◌^◌, ◌+◌, nat_lt, ◌≡◌, ℕ, ◌≤◌, Bool, true, false, cond, not, List, [], ◌∷◌, refl, sym, ap, ◌∙◌, subst, arith, Option, Some, None, ◌⊎◌, inl, inr, append-nil}
 use Rattle.std.specs.Option.{is_some}
 use Rattle.std.specs.FinMap as fm
-use Rattle.dist_model.specs.Term.{Name}
-use Rattle.dist_model.specs.Orders.{Trunk, same_name}
-use Rattle.dist_model.specs.Node.{Item, Handshake, SendName, State, AwaitsStatus, AwaitsChallenge, AwaitsAck, Asked, Parked, Accepting, Up, Losing, Gone, TrunkSide, Node, is_up}
-use Rattle.dist_model.specs.Step.{at_work, is_gone, call, Outcome, Refuses, Goes, Command, is_from, is_to, is_good, lost, set_state, with_side, write, fault, lose, lose_at, is_losing, awaits_status, awaits_challenge, awaits_ack, awaits_reply, dig, has_flags, Broke, Took, Done, arrive_at, on_up, draw_trunk, next_trunk, dial, flag_word, side_where}
-use Rattle.dist_model.specs.World.{list_in, World, signals, node_of, set_node, list_to, carried, ends_in}
-use Rattle.dist_model.proofs.Keys.{same_name_refl, same_name_is}
-use Rattle.dist_model.proofs.Routes.{some_same, node_of_name, node_of_set_same, side_where_none}
 use Rattle.dist_model.proofs.Calls.{by_test}
-use Rattle.dist_model.proofs.Sides.{side_at, joined, holds}
-use Rattle.dist_model.proofs.Pairs.{Met, changed, up_joined}
-use Rattle.dist_model.proofs.Steps.{kind}
-use Rattle.dist_model.proofs.Table.{may_be_up, is_challenge, begun, up_once, holds_side, is_accept, is_reply, has, Row, role_state, Good, good_changed}
-use Rattle.dist_model.proofs.Reside.{with_side_at, Fits, side_after_same, resided}
-use Rattle.dist_model.proofs.Primitives.{good_pushed, good_resided}
 use Rattle.dist_model.proofs.Handshake.{in_state}
-use Rattle.dist_model.specs.Step
+use Rattle.dist_model.proofs.Keys.{same_name_is, same_name_refl}
+use Rattle.dist_model.proofs.Pairs.{Met, changed, up_joined}
+use Rattle.dist_model.proofs.Primitives.{good_pushed, good_resided}
+use Rattle.dist_model.proofs.Reside.{Fits, resided, side_after_same, with_side_at}
+use Rattle.dist_model.proofs.Routes.{node_of_name, node_of_set_same, side_where_none, some_same}
+use Rattle.dist_model.proofs.Sides.{holds, joined, side_at}
+use Rattle.dist_model.proofs.Steps.{kind}
+use Rattle.dist_model.proofs.Table.{Good, Row, begun, good_changed, has, holds_side, is_accept, is_challenge, is_reply, may_be_up, role_state, up_once}
+use Rattle.dist_model.specs.Commands.{Dialed, Goes, Refuses}
+use Rattle.dist_model.specs.Dialing.{dial, draw_trunk, has_name, next_trunk}
+use Rattle.dist_model.specs.Handshake.{flag_word, with_side, write}
+use Rattle.dist_model.specs.Items.{Handshake, Item, SendName, signals}
+use Rattle.dist_model.specs.Names.{Name, same_name}
+use Rattle.dist_model.specs.Node.{Node, side_where}
+use Rattle.dist_model.specs.Sides.{Accepting, Asked, AwaitsAck, AwaitsChallenge, AwaitsStatus, Gone, Losing, Parked, State, TrunkSide, Up, is_gone, is_up}
+use Rattle.dist_model.specs.Work.{at_work}
+use Rattle.dist_model.specs.World.{World, carried, ends_in, list_in, list_to, node_of, set_node}
+use Rattle.erl_names.specs.declared.trunk.TrunkId.{TrunkId}
 
 -- a node's place is set twice
 pub set_twice : (ns : List Node) (x : Name) (a b : Node) → a.name ≡ x → set_node (set_node ns x a) x b ≡ set_node ns x b
@@ -59,7 +63,7 @@ unjoined_unlikely Losing l j h = refl
 unjoined_unlikely Gone l j h = refl
 
 -- a new side
-pub good_new : (w : World) (x : Name) (n : Node) (t : Trunk) (s : TrunkSide) → node_of w.nodes x ≡ Some n → side_at n t ≡ None → Fits n t s → ((t.dialer ≡ x → ⊥) → Met w.nodes t x) → joined s.state ≡ false
+pub good_new : (w : World) (x : Name) (n : Node) (t : TrunkId) (s : TrunkSide) → node_of w.nodes x ≡ Some n → side_at n t ≡ None → Fits n t s → ((t.dialer ≡ x → ⊥) → Met w.nodes t x) → joined s.state ≡ false
     → role_state (same_name t.dialer n.name) s.state ≡ true → (t.dialer ≡ n.name → t.count ≤ n.dialed)
     → (t.dialer ≡ x → holds s.state ≡ false) → (up_once s.state ≡ false) ⊎ (is_gone s.state ≡ true) → holds s.state ≡ false → Good w → Good (in_state w x n t s)
 good_new w x n t s hx none f met j role count nh kind hold g =
@@ -108,13 +112,13 @@ good_drawn w x n hx g =
     (changed w x n (at_work (draw_trunk n)) w.lists hx refl refl (record { born = k.born; rooted = k.rooted }) tt (λ t y d. sym (append-nil (list_to w.lists t y))) (λ t s fs j b p q pn qn old. old) g.core)
     hk.local hk.pairs (λ t nu z. refl) (λ t z h. inl h)
 
-all_none : (test : State → Bool) (y : Name) (n : Node) → side_where test y (fm.entries n.sides) ≡ None → (t : Trunk) (s : TrunkSide) → side_at n t ≡ Some s → s.peer ≡ y → test s.state ≡ false
+all_none : (test : State → Bool) (y : Name) (n : Node) → side_where test y (fm.entries n.sides) ≡ None → (t : TrunkId) (s : TrunkSide) → side_at n t ≡ Some s → s.peer ≡ y → test s.state ≡ false
 all_none test y n h t s f p = side_where_none test y (fm.entries n.sides) t s h (sym (fm.get-entries n.sides t) ∙ f) p
 
 next_free : (w : World) (x : Name) (n : Node) → node_of w.nodes x ≡ Some n → Good w → side_at n (next_trunk n) ≡ None
 next_free w x n hx g = option_none (side_at n (next_trunk n)) (λ s h. let c = (g.home x n hx).counts (next_trunk n) s h refl in absurd (omega arith))
 
-none_case : (o : Option (Trunk × TrunkSide)) → is_some o ≡ false → o ≡ None
+none_case : (o : Option (TrunkId × TrunkSide)) → is_some o ≡ false → o ≡ None
 none_case None h = refl
 none_case (Some e) h = cc
 
@@ -132,7 +136,7 @@ dialed w x n y k hx g ny busy =
     let w1 : World = record { names = w.names; nodes = set_node w.nodes x (draw_trunk n); lists = w.lists } in
     let g1 : Good w1 = good_drawn w x n hx g in
     let hx1 : node_of w1.nodes x ≡ Some (draw_trunk n) = node_of_set_same w.nodes x n (draw_trunk n) hx nx in
-    let gone : (u : Trunk) (v : TrunkSide) → side_at n u ≡ Some v → v.peer ≡ y → is_gone v.state ≡ true = λ u v hv e. not_not (is_gone v.state) (all_none (λ v. not (is_gone v)) y n (none_case _ busy) u v hv e) in
+    let gone : (u : TrunkId) (v : TrunkSide) → side_at n u ≡ Some v → v.peer ≡ y → is_gone v.state ≡ true = λ u v hv e. not_not (is_gone v.state) (all_none (λ v. not (is_gone v)) y n (none_case _ busy) u v hv e) in
     let f : Fits (draw_trunk n) t s = record {
       stranger = λ i. let c : true ≡ false = sym (same_name_is y n.name i) ∙ ny in cc;
       role = inl refl;
@@ -154,10 +158,10 @@ dialed w x n y k hx g ny busy =
     neither (inr j) = cc
 
 pub good_dial : (w : World) (x : Name) (n : Node) (y : Name) (k : ℕ) → node_of w.nodes x ≡ Some n → Good w → Good ((ends_in w x w.lists (dial w.names n y k)).world)
-good_dial w x n y k hx g = go (same_name y n.name) refl (not (Rattle.dist_model.specs.Step.has_name y w.names)) (is_some (side_where (λ v. not (is_gone v)) y (fm.entries n.sides))) refl (not (nat_lt (n.dialed + 1) (2 ^ 64)))
+good_dial w x n y k hx g = go (same_name y n.name) refl (not (has_name y w.names)) (is_some (side_where (λ v. not (is_gone v)) y (fm.entries n.sides))) refl (not (nat_lt (n.dialed + 1) (2 ^ 64)))
   where
     go : (a : Bool) → same_name y n.name ≡ a → (b : Bool) (c : Bool) → is_some (side_where (λ v. not (is_gone v)) y (fm.entries n.sides)) ≡ c → (d : Bool)
-        → Good ((ends_in w x w.lists (cond a (Refuses 17) (cond b (Refuses 19) (cond c (Refuses 16) (cond d (Refuses 4) (Goes (Rattle.dist_model.specs.Step.Dialed (next_trunk n)) (write (next_trunk n) y (SendName n.name n.creation flag_word) (with_side (next_trunk n) (record { peer = y; peer_creation = 0; state = AwaitsStatus k }) (at_work (draw_trunk n)))))))))).world)
+        → Good ((ends_in w x w.lists (cond a (Refuses 17) (cond b (Refuses 19) (cond c (Refuses 16) (cond d (Refuses 4) (Goes (Dialed (next_trunk n)) (write (next_trunk n) y (SendName n.name n.creation flag_word) (with_side (next_trunk n) (record { peer = y; peer_creation = 0; state = AwaitsStatus k }) (at_work (draw_trunk n)))))))))).world)
     go true ea b c ec d = g
     go false ea true c ec d = g
     go false ea false true ec d = g

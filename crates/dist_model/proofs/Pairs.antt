@@ -1,21 +1,25 @@
 -- What all nodes keep together.
 use Rattle.std.proofs.Common.{◌≡◌, true, false, List, [], ◌++◌, refl, sym, ap, ◌∙◌, subst, Some, ◌⊎◌, inl, inr, append-nil}
 use Rattle.std.specs.FinMap as fm
-use Rattle.std.specs.FinMap.{FinMap}
-use Rattle.dist_model.specs.Term.{Name, Pid}
-use Rattle.dist_model.proofs.Kept.{Kept, kept_swap}
-use Rattle.dist_model.specs.Orders.{Trunk, place_cmp, same_name}
-use Rattle.dist_model.specs.Node.{Item, State, AwaitsStatus, AwaitsChallenge, AwaitsAck, Asked, Parked, Accepting, Up, Losing, Gone, TrunkSide, Node, Work, is_up, route_in}
-use Rattle.dist_model.specs.World.{World, signals, node_of, set_node, list_to}
-use Rattle.dist_model.proofs.Keys.{same_name_true, same_name_is}
-use Rattle.dist_model.proofs.Views.{side_of}
-use Rattle.dist_model.proofs.Moves.{NodeKept, AllRouted}
-use Rattle.dist_model.proofs.Routes.{some_same, at_place, node_of_name, node_of_set_same, node_of_set_other}
 use Rattle.dist_model.proofs.Calls.{by_test}
-use Rattle.dist_model.proofs.Sides.{side_at, SidesKept, joined, sides_kept, at_place_none, route_from, Routed}
+use Rattle.dist_model.proofs.Kept.{Kept, kept_swap}
+use Rattle.dist_model.proofs.Keys.{same_name_is, same_name_true}
+use Rattle.dist_model.proofs.Moves.{AllRouted, NodeKept}
+use Rattle.dist_model.proofs.Routes.{at_place, node_of_name, node_of_set_other, node_of_set_same, some_same}
+use Rattle.dist_model.proofs.Sides.{Routed, SidesKept, at_place_none, joined, route_from, side_at, sides_kept}
+use Rattle.dist_model.proofs.Views.{side_of}
+use Rattle.dist_model.specs.Items.{Item, signals}
+use Rattle.dist_model.specs.Names.{Name, place_cmp, same_name}
+use Rattle.dist_model.specs.Node.{Node, route_in}
+use Rattle.dist_model.specs.Sides.{Accepting, Asked, AwaitsAck, AwaitsChallenge, AwaitsStatus, Gone, Losing, Parked, State, TrunkSide, Up, is_up}
+use Rattle.dist_model.specs.Work.{Work}
+use Rattle.dist_model.specs.World.{World, list_to, node_of, set_node}
+use Rattle.erl_names.specs.declared.trunk.TrunkId.{TrunkId}
+use Rattle.erl_term.specs.declared.term.Pid.{Pid}
+use Rattle.std.specs.FinMap.{FinMap}
 
 -- a trunk that isn't x's own: its dialer has it, towards x
-pub record Met (ns : List Node) (t : Trunk) (x : Name) : Type 0 where
+pub record Met (ns : List Node) (t : TrunkId) (x : Name) : Type 0 where
   pub dialer : Node
   pub at : node_of ns t.dialer ≡ Some dialer
   pub side : TrunkSide
@@ -24,14 +28,14 @@ pub record Met (ns : List Node) (t : Trunk) (x : Name) : Type 0 where
 
 -- one trunk, up at x and up or about to be at y: each pair of their processes
 abbrev pub TrunkPairs : List Node → FinMap place_cmp (List Item) → Type 0
-TrunkPairs ns m = (x y : Name) (a b : Node) (t : Trunk) (s v : TrunkSide) → node_of ns x ≡ Some a → node_of ns y ≡ Some b → side_at a t ≡ Some s → side_at b t ≡ Some v
+TrunkPairs ns m = (x y : Name) (a b : Node) (t : TrunkId) (s v : TrunkSide) → node_of ns x ≡ Some a → node_of ns y ≡ Some b → side_at a t ≡ Some s → side_at b t ≡ Some v
     → s.peer ≡ y → v.peer ≡ x → is_up s.state ≡ true → joined v.state ≡ true → (p q : Pid) → p.node ≡ x → q.node ≡ y
     → Kept (side_of a p q (signals p q (list_to m t y))) (side_of b q p (signals q p (list_to m t x)))
 
 pub record WorldKept (w : World) : Type 0 where
   pub nodes : (x : Name) (n : Node) → node_of w.nodes x ≡ Some n → NodeKept n
   pub sides : (x : Name) (n : Node) → node_of w.nodes x ≡ Some n → SidesKept n
-  pub met : (x : Name) (n : Node) (t : Trunk) (s : TrunkSide) → node_of w.nodes x ≡ Some n → side_at n t ≡ Some s → (t.dialer ≡ x → ⊥) → Met w.nodes t x
+  pub met : (x : Name) (n : Node) (t : TrunkId) (s : TrunkSide) → node_of w.nodes x ≡ Some n → side_at n t ≡ Some s → (t.dialer ≡ x → ⊥) → Met w.nodes t x
   pub trunks : TrunkPairs w.nodes w.lists
 
 pub up_joined : (v : State) → is_up v ≡ true → joined v ≡ true
@@ -47,8 +51,8 @@ up_joined Gone h = cc
 
 module _ (w : World) (x : Name) (n : Node) (o : Work) (m' : FinMap place_cmp (List Item)) (hx : node_of w.nodes x ≡ Some n)
     (sd : o.node.sides ≡ n.sides) (nm : o.node.name ≡ n.name) (ko : NodeKept o.node) (ro : AllRouted o.node.sides o.sent)
-    (lists : (t : Trunk) (y : Name) → (y ≡ x → ⊥) → list_to m' t y ≡ list_to w.lists t y ++ at_place t y o.sent)
-    (mover : (t : Trunk) (s : TrunkSide) → side_at n t ≡ Some s → joined s.state ≡ true → (b : Node) (p q : Pid) → p.node ≡ x → q.node ≡ s.peer
+    (lists : (t : TrunkId) (y : Name) → (y ≡ x → ⊥) → list_to m' t y ≡ list_to w.lists t y ++ at_place t y o.sent)
+    (mover : (t : TrunkId) (s : TrunkSide) → side_at n t ≡ Some s → joined s.state ≡ true → (b : Node) (p q : Pid) → p.node ≡ x → q.node ≡ s.peer
     → Kept (side_of n p q (signals p q (list_to w.lists t s.peer))) (side_of b q p (signals q p (list_to w.lists t x)))
     → Kept (side_of o.node p q (signals p q (list_to m' t s.peer))) (side_of b q p (signals q p (list_to m' t x))))
     (k : WorldKept w) where
@@ -61,7 +65,7 @@ module _ (w : World) (x : Name) (n : Node) (o : Work) (m' : FinMap place_cmp (Li
   there : (y : Name) → (x ≡ y → ⊥) → node_of (set_node w.nodes x o.node) y ≡ node_of w.nodes y
   there y d = node_of_set_other w.nodes x y o.node (nm ∙ name_x) d
 
-  at_x : (t : Trunk) → side_at o.node t ≡ side_at n t
+  at_x : (t : TrunkId) → side_at o.node t ≡ side_at n t
   at_x t = ap (λ l. fm.get l t) sd
 
   -- each node is x's, or one of before
@@ -78,14 +82,14 @@ module _ (w : World) (x : Name) (n : Node) (o : Work) (m' : FinMap place_cmp (Li
       (λ e. subst (λ v. SidesKept v) (some_same o.node a (sym here ∙ ap (node_of (set_node w.nodes x o.node)) e ∙ h)) (sides_kept n o.node sd nm (k.sides x n hx)))
       (λ d. k.sides y a (sym (there y d) ∙ h))
 
-  met_still : (t : Trunk) (y : Name) → Met w.nodes t y → Met (set_node w.nodes x o.node) t y
+  met_still : (t : TrunkId) (y : Name) → Met w.nodes t y → Met (set_node w.nodes x o.node) t y
   met_still t y u = by_name (Met (set_node w.nodes x o.node) t y) t.dialer
       (λ e.
       let same : n ≡ u.dialer = some_same n u.dialer (sym hx ∙ ap (node_of w.nodes) e ∙ u.at) in
       record { dialer = o.node; at = ap (node_of (set_node w.nodes x o.node)) (sym e) ∙ here; side = u.side; there = at_x t ∙ ap (λ v. side_at v t) same ∙ u.there; peer = u.peer })
       (λ d. record { dialer = u.dialer; at = there t.dialer d ∙ u.at; side = u.side; there = u.there; peer = u.peer })
 
-  new_met : (y : Name) (a : Node) (t : Trunk) (s : TrunkSide) → node_of (set_node w.nodes x o.node) y ≡ Some a → side_at a t ≡ Some s → (t.dialer ≡ y → ⊥) → Met (set_node w.nodes x o.node) t y
+  new_met : (y : Name) (a : Node) (t : TrunkId) (s : TrunkSide) → node_of (set_node w.nodes x o.node) y ≡ Some a → side_at a t ≡ Some s → (t.dialer ≡ y → ⊥) → Met (set_node w.nodes x o.node) t y
   new_met y a t s h f d = by_name (Met (set_node w.nodes x o.node) t y) y
       (λ e.
       let same : o.node ≡ a = some_same o.node a (sym here ∙ ap (node_of (set_node w.nodes x o.node)) e ∙ h) in
@@ -93,7 +97,7 @@ module _ (w : World) (x : Name) (n : Node) (o : Work) (m' : FinMap place_cmp (Li
       (λ e. met_still t y (k.met y a t s (sym (there y e) ∙ h) f d))
 
   -- x sends nothing on a trunk of two others
-  not_between : (y z : Name) (b : Node) (t : Trunk) (v : TrunkSide) → node_of w.nodes y ≡ Some b → side_at b t ≡ Some v → v.peer ≡ z → (x ≡ y → ⊥) → (x ≡ z → ⊥) → at_place t y o.sent ≡ []
+  not_between : (y z : Name) (b : Node) (t : TrunkId) (v : TrunkSide) → node_of w.nodes y ≡ Some b → side_at b t ≡ Some v → v.peer ≡ z → (x ≡ y → ⊥) → (x ≡ z → ⊥) → at_place t y o.sent ≡ []
   not_between y z b t v hb f vz dy dz = at_place_none o.node.sides o.sent t y ro (λ r.
       let u = route_from n y t (ap (λ l. route_in (fm.entries l) y) (sym sd) ∙ r) in
       by_test ⊥ (same_name t.dialer y)

@@ -2,25 +2,29 @@
 use Rattle.std.proofs.Common.{◌≡◌, ◌≤◌, Bool, true, false, cond, List, [], ◌∷◌, ◌++◌, refl, sym, ap, ◌∙◌, subst, ◌&&◌, ◌||◌, Option, Some, None, ◌⊎◌, inl, inr, append-nil}
 use Rattle.std.specs.Option.{is_some}
 use Rattle.std.specs.FinMap as fm
-use Rattle.std.specs.FinMap.{FinMap}
-use Rattle.dist_model.specs.Term.{Name, Pid}
-use Rattle.dist_model.specs.Pair.{Signal}
-use Rattle.dist_model.proofs.Kept.{Kept}
-use Rattle.dist_model.specs.Orders.{Trunk, place_cmp, same_name}
-use Rattle.dist_model.specs.Node.{Item, Handshake, HandshakeMessage, TrunkSide, Node}
-use Rattle.dist_model.specs.World.{list_in, World, signals, signal_of, node_of, set_node, list_to}
-use Rattle.dist_model.proofs.Keys.{same_trunk, same_trunk_true, same_trunk_is, same_name_true, same_name_is, and_both}
-use Rattle.dist_model.proofs.Views.{side_of, signals-append}
-use Rattle.dist_model.proofs.Routes.{some_same, node_of_name, node_of_set_same, node_of_set_other, list_to_insert}
 use Rattle.dist_model.proofs.Calls.{by_test}
-use Rattle.dist_model.proofs.Sides.{side_at, joined}
+use Rattle.dist_model.proofs.Kept.{Kept}
+use Rattle.dist_model.proofs.Keys.{and_both, same_name_is, same_name_true, same_trunk, same_trunk_is, same_trunk_true}
 use Rattle.dist_model.proofs.Pairs.{WorldKept, up_joined}
-use Rattle.dist_model.proofs.Table.{Likely, Anchor, single_kept, may_be_up, likely_along, is_challenge, begun, is_early, went_up, is_accept, is_reply, has, NoLinks, Row, Table, role_state, HomeKept, Posted, Good, insert_key}
-use Rattle.dist_model.proofs.Reside.{with_side_at, Fits, side_after_same, side_after_other}
+use Rattle.dist_model.proofs.Reside.{Fits, side_after_other, side_after_same, with_side_at}
+use Rattle.dist_model.proofs.Routes.{list_to_insert, node_of_name, node_of_set_other, node_of_set_same, some_same}
+use Rattle.dist_model.proofs.Sides.{joined, side_at}
+use Rattle.dist_model.proofs.Table.{Anchor, Good, HomeKept, Likely, NoLinks, Posted, Row, Table, begun, has, insert_key, is_accept, is_challenge, is_early, is_reply, likely_along, may_be_up, role_state, single_kept, went_up}
+use Rattle.dist_model.proofs.Views.{side_of, signals-append}
+use Rattle.dist_model.specs.Fits.{fits}
+use Rattle.dist_model.specs.Items.{Handshake, HandshakeMessage, Item, signal_of, signals}
+use Rattle.dist_model.specs.Links.{LinkWord}
+use Rattle.dist_model.specs.Names.{Name, place_cmp, same_name}
+use Rattle.dist_model.specs.Node.{Node}
+use Rattle.dist_model.specs.Sides.{TrunkSide}
+use Rattle.dist_model.specs.World.{World, list_in, list_to, node_of, set_node}
+use Rattle.erl_names.specs.declared.trunk.TrunkId.{TrunkId}
+use Rattle.erl_term.specs.declared.term.Pid.{Pid}
+use Rattle.std.specs.FinMap.{FinMap}
 
 -- the lists change, and no claim on a pair does
 pub relisted : (w : World) (m' : FinMap place_cmp (List Item))
-    → ((x : Name) (n : Node) (t : Trunk) (s : TrunkSide) → node_of w.nodes x ≡ Some n → side_at n t ≡ Some s → joined s.state ≡ true → (p q : Pid) → signals p q (list_to m' t x) ≡ signals p q (list_to w.lists t x))
+    → ((x : Name) (n : Node) (t : TrunkId) (s : TrunkSide) → node_of w.nodes x ≡ Some n → side_at n t ≡ Some s → joined s.state ≡ true → (p q : Pid) → signals p q (list_to m' t x) ≡ signals p q (list_to w.lists t x))
     → WorldKept w → WorldKept (record { names = w.names; nodes = w.nodes; lists = m' })
 relisted w m' same k = record {
   nodes = k.nodes;
@@ -49,7 +53,7 @@ not_true_false : (b : Bool) → (b ≡ true → ⊥) → b ≡ false
 not_true_false true h = absurd (h refl)
 not_true_false false h = refl
 
-module _ (w : World) (t : Trunk) (y : Name) (m : HandshakeMessage) (g : Good w) (known : Posted w.nodes t y)
+module _ (w : World) (t : TrunkId) (y : Name) (m : HandshakeMessage) (g : Good w) (known : Posted w.nodes t y)
     (fits : (d a : Node) (s : TrunkSide) → node_of w.nodes t.dialer ≡ Some d → side_at d t ≡ Some s → node_of w.nodes s.peer ≡ Some a
     → (is_accept (Handshake m) ≡ true → (went_up (side_at a t) ≡ true) × (is_early s.state ≡ false)) × (is_reply (Handshake m) ≡ true → is_early s.state ≡ false)
     × (is_challenge (Handshake m) ≡ true → begun (side_at a t) ≡ true) × (is_reply (Handshake m) ≡ true → begun (side_at a t) ≡ true))
@@ -58,7 +62,7 @@ module _ (w : World) (t : Trunk) (y : Name) (m : HandshakeMessage) (g : Good w) 
   abbrev pushed : FinMap place_cmp (List Item)
   pushed = fm.insert w.lists (t, y) (list_to w.lists t y ++ Handshake m ∷ [])
 
-  at : (u : Trunk) (z : Name) → (list_to pushed u z ≡ list_to w.lists u z) ⊎ ((list_to pushed u z ≡ list_to w.lists u z ++ Handshake m ∷ []) × (u ≡ t))
+  at : (u : TrunkId) (z : Name) → (list_to pushed u z ≡ list_to w.lists u z) ⊎ ((list_to pushed u z ≡ list_to w.lists u z ++ Handshake m ∷ []) × (u ≡ t))
   at u z = by_test _ (same_trunk u t && same_name z y)
       (λ h.
       let v = and_both (same_trunk u t) (same_name z y) h in
@@ -67,26 +71,26 @@ module _ (w : World) (t : Trunk) (y : Name) (m : HandshakeMessage) (g : Good w) 
       inr (list_to_insert w.lists t y (list_to w.lists t y ++ Handshake m ∷ []) u z ∙ ap (λ b. cond b (list_to w.lists t y ++ Handshake m ∷ []) (list_to w.lists u z)) h ∙ (λ i. list_to w.lists (sym e i) (sym f i) ++ Handshake m ∷ []), e))
       (λ h. inl (list_to_insert w.lists t y (list_to w.lists t y ++ Handshake m ∷ []) u z ∙ ap (λ b. cond b (list_to w.lists t y ++ Handshake m ∷ []) (list_to w.lists u z)) h))
 
-  same_signals : (u : Trunk) (z : Name) (p q : Pid) → signals p q (list_to pushed u z) ≡ signals p q (list_to w.lists u z)
+  same_signals : (u : TrunkId) (z : Name) (p q : Pid) → signals p q (list_to pushed u z) ≡ signals p q (list_to w.lists u z)
   same_signals u z p q = go (at u z)
     where
       go : (list_to pushed u z ≡ list_to w.lists u z) ⊎ ((list_to pushed u z ≡ list_to w.lists u z ++ Handshake m ∷ []) × (u ≡ t)) → signals p q (list_to pushed u z) ≡ signals p q (list_to w.lists u z)
       go (inl h) = ap (signals p q) h
       go (inr h) = ap (signals p q) h.0 ∙ signals-append p q (list_to w.lists u z) (Handshake m ∷ []) ∙ append-nil _
 
-  still_has : (f : Item → Bool) (u : Trunk) (z : Name) → has f (list_to w.lists u z) ≡ false → (u ≡ t → f (Handshake m) ≡ false) → has f (list_to pushed u z) ≡ false
+  still_has : (f : Item → Bool) (u : TrunkId) (z : Name) → has f (list_to w.lists u z) ≡ false → (u ≡ t → f (Handshake m) ≡ false) → has f (list_to pushed u z) ≡ false
   still_has f u z h k = go (at u z)
     where
       go : (list_to pushed u z ≡ list_to w.lists u z) ⊎ ((list_to pushed u z ≡ list_to w.lists u z ++ Handshake m ∷ []) × (u ≡ t)) → has f (list_to pushed u z) ≡ false
       go (inl e) = ap (has f) e ∙ h
       go (inr e) = ap (has f) e.0 ∙ has-push f (list_to w.lists u z) (Handshake m) h (k e.1)
 
-  pushed_row : (u : Trunk) (d a : Node) (s : TrunkSide) → node_of w.nodes u.dialer ≡ Some d → side_at d u ≡ Some s → node_of w.nodes s.peer ≡ Some a → Row s.state (side_at a u) (list_to pushed u u.dialer) (list_to pushed u s.peer)
+  pushed_row : (u : TrunkId) (d a : Node) (s : TrunkSide) → node_of w.nodes u.dialer ≡ Some d → side_at d u ≡ Some s → node_of w.nodes s.peer ≡ Some a → Row s.state (side_at a u) (list_to pushed u u.dialer) (list_to pushed u s.peer)
   pushed_row u d a s hd fs ha =
       let r = g.table u d a s hd fs ha in
       let fit : u ≡ t → (is_accept (Handshake m) ≡ true → (went_up (side_at a u) ≡ true) × (is_early s.state ≡ false)) × (is_reply (Handshake m) ≡ true → is_early s.state ≡ false)
       × (is_challenge (Handshake m) ≡ true → begun (side_at a u) ≡ true) × (is_reply (Handshake m) ≡ true → begun (side_at a u) ≡ true) =
-      λ e. let c = fits d a s (ap (λ (z : Trunk). node_of w.nodes z.dialer) (sym e) ∙ hd) (ap (side_at d) (sym e) ∙ fs) ha in
+      λ e. let c = fits d a s (ap (λ (z : TrunkId). node_of w.nodes z.dialer) (sym e) ∙ hd) (ap (side_at d) (sym e) ∙ fs) ha in
       (λ h. let v = c.0 h in (ap (λ z. went_up (side_at a z)) e ∙ v.0, v.1), c.1, λ h. ap (λ z. begun (side_at a z)) e ∙ c.2 h, λ h. ap (λ z. begun (side_at a z)) e ∙ c.3 h) in
       record {
         before = λ h.
@@ -109,7 +113,7 @@ module _ (w : World) (t : Trunk) (y : Name) (m : HandshakeMessage) (g : Good w) 
             );
       }
 
-  each : (a z : Name) (u : Trunk) (b : Node) → node_of w.nodes z ≡ Some b → Likely w.nodes pushed a u z → Likely w.nodes w.lists a u z ⊎ Anchor w.nodes z u a
+  each : (a z : Name) (u : TrunkId) (b : Node) → node_of w.nodes z ≡ Some b → Likely w.nodes pushed a u z → Likely w.nodes w.lists a u z ⊎ Anchor w.nodes z u a
   each a z u b hb l = by_test _ (same_trunk u t && same_name a y)
       (λ h.
       let v = and_both (same_trunk u t) (same_name a y) h in
@@ -130,7 +134,7 @@ module _ (w : World) (t : Trunk) (y : Name) (m : HandshakeMessage) (g : Good w) 
       was_there : (f : Item → Bool) → (u ≡ t → f (Handshake m) ≡ false) → has f (list_to pushed u a) ≡ true → has f (list_to w.lists u a) ≡ true
       was_there f n h = by_test _ (has f (list_to w.lists u a)) (λ i. i) (λ i. let c : true ≡ false = sym h ∙ still_has f u a i n in cc)
 
-  pushed_key : (u : Trunk) (z : Name) → is_some (fm.get pushed (u, z)) ≡ true → Posted w.nodes u z
+  pushed_key : (u : TrunkId) (z : Name) → is_some (fm.get pushed (u, z)) ≡ true → Posted w.nodes u z
   pushed_key u z h = go (insert_key w.lists t y (list_to w.lists t y ++ Handshake m ∷ []) u z h)
     where
       go : (is_some (fm.get w.lists (u, z)) ≡ true) ⊎ ((u ≡ t) × (z ≡ y)) → Posted w.nodes u z
@@ -147,17 +151,17 @@ module _ (w : World) (t : Trunk) (y : Name) (m : HandshakeMessage) (g : Good w) 
   }
 
 -- the first item is taken off a list
-nil_of : (xs ys : List Signal) → xs ++ ys ≡ [] → ys ≡ []
+nil_of : (xs ys : List LinkWord) → xs ++ ys ≡ [] → ys ≡ []
 nil_of [] ys h = h
 nil_of (x ∷ xs) ys h = cc
 
-module _ (w : World) (t : Trunk) (x : Name) (i : Item) (rest : List Item) (g : Good w) (first : list_to w.lists t x ≡ i ∷ rest)
+module _ (w : World) (t : TrunkId) (x : Name) (i : Item) (rest : List Item) (g : Good w) (first : list_to w.lists t x ≡ i ∷ rest)
     -- it is no signal about a link, or the side takes no part any more
     (free : (n : Node) (s : TrunkSide) → node_of w.nodes x ≡ Some n → side_at n t ≡ Some s → joined s.state ≡ true → (p q : Pid) → signal_of p q i ≡ []) where
   abbrev popped : FinMap place_cmp (List Item)
   popped = fm.insert w.lists (t, x) rest
 
-  at_pop : (u : Trunk) (z : Name) → (list_to popped u z ≡ list_to w.lists u z) ⊎ ((list_to popped u z ≡ rest) × (list_to w.lists u z ≡ i ∷ rest) × (u ≡ t) × (z ≡ x))
+  at_pop : (u : TrunkId) (z : Name) → (list_to popped u z ≡ list_to w.lists u z) ⊎ ((list_to popped u z ≡ rest) × (list_to w.lists u z ≡ i ∷ rest) × (u ≡ t) × (z ≡ x))
   at_pop u z = by_test _ (same_trunk u t && same_name z x)
       (λ h.
       let v = and_both (same_trunk u t) (same_name z x) h in
@@ -166,7 +170,7 @@ module _ (w : World) (t : Trunk) (x : Name) (i : Item) (rest : List Item) (g : G
       inr (list_to_insert w.lists t x rest u z ∙ ap (λ b. cond b rest (list_to w.lists u z)) h, (λ k. list_to w.lists (e k) (f k)) ∙ first, e, f))
       (λ h. inl (list_to_insert w.lists t x rest u z ∙ ap (λ b. cond b rest (list_to w.lists u z)) h))
 
-  pop_has : (f : Item → Bool) (u : Trunk) (z : Name) → has f (list_to w.lists u z) ≡ false → has f (list_to popped u z) ≡ false
+  pop_has : (f : Item → Bool) (u : TrunkId) (z : Name) → has f (list_to w.lists u z) ≡ false → has f (list_to popped u z) ≡ false
   pop_has f u z h = go (at_pop u z)
     where
       right : (a b : Bool) → (a || b) ≡ false → b ≡ false
@@ -177,17 +181,17 @@ module _ (w : World) (t : Trunk) (x : Name) (i : Item) (rest : List Item) (g : G
       go (inl e) = ap (has f) e ∙ h
       go (inr e) = ap (has f) e.0 ∙ right (f i) (has f rest) (sym (ap (has f) e.1) ∙ h)
 
-  pop_had : (f : Item → Bool) (u : Trunk) (z : Name) → has f (list_to popped u z) ≡ true → has f (list_to w.lists u z) ≡ true
+  pop_had : (f : Item → Bool) (u : TrunkId) (z : Name) → has f (list_to popped u z) ≡ true → has f (list_to w.lists u z) ≡ true
   pop_had f u z h = by_test _ (has f (list_to w.lists u z)) (λ e. e) (λ e. let c : true ≡ false = sym h ∙ pop_has f u z e in cc)
 
-  pop_none : (u : Trunk) (z : Name) → NoLinks (list_to w.lists u z) → NoLinks (list_to popped u z)
+  pop_none : (u : TrunkId) (z : Name) → NoLinks (list_to w.lists u z) → NoLinks (list_to popped u z)
   pop_none u z h p q = go (at_pop u z)
     where
       go : (list_to popped u z ≡ list_to w.lists u z) ⊎ ((list_to popped u z ≡ rest) × (list_to w.lists u z ≡ i ∷ rest) × (u ≡ t) × (z ≡ x)) → signals p q (list_to popped u z) ≡ []
       go (inl e) = ap (signals p q) e ∙ h p q
       go (inr e) = ap (signals p q) e.0 ∙ nil_of (signal_of p q i) (signals p q rest) (sym (ap (signals p q) e.1) ∙ h p q)
 
-  pop_signals : (y : Name) (n : Node) (u : Trunk) (s : TrunkSide) → node_of w.nodes y ≡ Some n → side_at n u ≡ Some s → joined s.state ≡ true → (p q : Pid) → signals p q (list_to popped u y) ≡ signals p q (list_to w.lists u y)
+  pop_signals : (y : Name) (n : Node) (u : TrunkId) (s : TrunkSide) → node_of w.nodes y ≡ Some n → side_at n u ≡ Some s → joined s.state ≡ true → (p q : Pid) → signals p q (list_to popped u y) ≡ signals p q (list_to w.lists u y)
   pop_signals y n u s hy fs j p q = go (at_pop u y)
     where
       go : (list_to popped u y ≡ list_to w.lists u y) ⊎ ((list_to popped u y ≡ rest) × (list_to w.lists u y ≡ i ∷ rest) × (u ≡ t) × (y ≡ x)) → signals p q (list_to popped u y) ≡ signals p q (list_to w.lists u y)
@@ -198,7 +202,7 @@ module _ (w : World) (t : Trunk) (x : Name) (i : Item) (rest : List Item) (g : G
   some_list None h = cc
   some_list (Some l) h = refl
 
-  pop_key : (u : Trunk) (z : Name) → is_some (fm.get popped (u, z)) ≡ true → Posted w.nodes u z
+  pop_key : (u : TrunkId) (z : Name) → is_some (fm.get popped (u, z)) ≡ true → Posted w.nodes u z
   pop_key u z h = go (insert_key w.lists t x rest u z h)
     where
       go : (is_some (fm.get w.lists (u, z)) ≡ true) ⊎ ((u ≡ t) × (z ≡ x)) → Posted w.nodes u z
@@ -222,7 +226,7 @@ module _ (w : World) (t : Trunk) (x : Name) (i : Item) (rest : List Item) (g : G
   }
 
 -- a side gets a new state
-module _ (w : World) (x : Name) (n : Node) (t0 : Trunk) (s0 : TrunkSide) (hx : node_of w.nodes x ≡ Some n) (f : Fits n t0 s0) (g : Good w)
+module _ (w : World) (x : Name) (n : Node) (t0 : TrunkId) (s0 : TrunkSide) (hx : node_of w.nodes x ≡ Some n) (f : Fits n t0 s0) (g : Good w)
     (core : WorldKept (record { names = w.names; nodes = set_node w.nodes x (with_side_at n t0 s0); lists = w.lists }))
     (role : role_state (same_name t0.dialer n.name) s0.state ≡ true) (count : t0.dialer ≡ n.name → t0.count ≤ n.dialed)
     (as_dialer : (a : Node) → t0.dialer ≡ x → node_of w.nodes s0.peer ≡ Some a → Row s0.state (side_at a t0) (list_to w.lists t0 t0.dialer) (list_to w.lists t0 s0.peer))
@@ -243,7 +247,7 @@ module _ (w : World) (x : Name) (n : Node) (t0 : Trunk) (s0 : TrunkSide) (hx : n
   by_x : (P : Type 0) (y : Name) → (x ≡ y → P) → ((x ≡ y → ⊥) → P) → P
   by_x P y a b = by_test P (same_name x y) (λ h. a (same_name_true x y h)) (λ h. b (λ e. let c : true ≡ false = sym (same_name_is x y e) ∙ h in cc))
 
-  by_t : (P : Type 0) (t : Trunk) → (t ≡ t0 → P) → ((t ≡ t0 → ⊥) → P) → P
+  by_t : (P : Type 0) (t : TrunkId) → (t ≡ t0 → P) → ((t ≡ t0 → ⊥) → P) → P
   by_t P t a b = by_test P (same_trunk t t0) (λ h. a (same_trunk_true t t0 h)) (λ h. b (λ e. let c : true ≡ false = sym (same_trunk_is t t0 e) ∙ h in cc))
 
   is_n2 : (y : Name) (a : Node) → x ≡ y → node_of (set_node w.nodes x n2) y ≡ Some a → n2 ≡ a
@@ -261,7 +265,7 @@ module _ (w : World) (x : Name) (n : Node) (t0 : Trunk) (s0 : TrunkSide) (hx : n
             (λ i. role_state (same_name ((te i).dialer) n.name) ((sym se i).state)) ∙ role)
             (λ td. k.roles t s (sym (side_after_other n t0 s0 t td) ∙ fs));
         counts = λ t s fs i. by_t _ t
-            (λ te. subst (λ (v : Trunk). v.count ≤ n.dialed) (sym te) (count (ap (λ (v : Trunk). v.dialer) (sym te) ∙ i)))
+            (λ te. subst (λ (v : TrunkId). v.count ≤ n.dialed) (sym te) (count (ap (λ (v : TrunkId). v.dialer) (sym te) ∙ i)))
             (λ td. k.counts t s (sym (side_after_other n t0 s0 t td) ∙ fs) i);
       }))
       (λ d. g.home y a (sym (there2 y d) ∙ h))
@@ -277,9 +281,9 @@ module _ (w : World) (x : Name) (n : Node) (t0 : Trunk) (s0 : TrunkSide) (hx : n
       by_t _ t
       (λ te.
       let se : s0 ≡ s = some_same s0 s (sym (side_after_same n t0 s0) ∙ ap (side_at n2) (sym te) ∙ fs2) in
-      subst (λ (v : Trunk). Row s.state (side_at a v) (list_to w.lists v v.dialer) (list_to w.lists v s.peer)) (sym te)
+      subst (λ (v : TrunkId). Row s.state (side_at a v) (list_to w.lists v v.dialer) (list_to w.lists v s.peer)) (sym te)
       (subst (λ (v : TrunkSide). Row v.state (side_at a t0) (list_to w.lists t0 t0.dialer) (list_to w.lists t0 v.peer)) se
-      (as_dialer a (ap (λ (v : Trunk). v.dialer) (sym te) ∙ sym e) (ap (λ (v : TrunkSide). node_of w.nodes v.peer) se ∙ ha2))))
+      (as_dialer a (ap (λ (v : TrunkId). v.dialer) (sym te) ∙ sym e) (ap (λ (v : TrunkSide). node_of w.nodes v.peer) se ∙ ha2))))
       (λ td. g.table t n a s (ap (node_of w.nodes) (sym e) ∙ hx) (sym (side_after_other n t0 s0 t td) ∙ fs2) ha2))
       (λ dd.
       let hd2 : node_of w.nodes t.dialer ≡ Some d = sym (there2 t.dialer dd) ∙ hd in
@@ -289,16 +293,16 @@ module _ (w : World) (x : Name) (n : Node) (t0 : Trunk) (s0 : TrunkSide) (hx : n
       by_t _ t
       (λ te.
       subst (λ v. Row s.state (side_at v t) (list_to w.lists t t.dialer) (list_to w.lists t s.peer)) na
-      (subst (λ (v : Trunk). Row s.state (side_at n2 v) (list_to w.lists v v.dialer) (list_to w.lists v s.peer)) (sym te)
+      (subst (λ (v : TrunkId). Row s.state (side_at n2 v) (list_to w.lists v v.dialer) (list_to w.lists v s.peer)) (sym te)
       (subst (λ o. Row s.state o (list_to w.lists t0 t0.dialer) (list_to w.lists t0 s.peer)) (sym (side_after_same n t0 s0))
-      (as_acceptor d s (ap (λ (v : Trunk). node_of w.nodes v.dialer) (sym te) ∙ hd2) (ap (side_at d) (sym te) ∙ fs) (sym e)))))
+      (as_acceptor d s (ap (λ (v : TrunkId). node_of w.nodes v.dialer) (sym te) ∙ hd2) (ap (side_at d) (sym te) ∙ fs) (sym e)))))
       (λ td.
       subst (λ v. Row s.state (side_at v t) (list_to w.lists t t.dialer) (list_to w.lists t s.peer)) na
       (subst (λ o. Row s.state o (list_to w.lists t t.dialer) (list_to w.lists t s.peer)) (sym (side_after_other n t0 s0 t td))
       (g.table t d n s hd2 fs (ap (node_of w.nodes) (sym e) ∙ hx)))))
       (λ da. g.table t d a s hd2 fs (sym (there2 s.peer da) ∙ ha)))
 
-  new_posted2 : (t : Trunk) (z : Name) → is_some (fm.get w.lists (t, z)) ≡ true → Posted (set_node w.nodes x n2) t z
+  new_posted2 : (t : TrunkId) (z : Name) → is_some (fm.get w.lists (t, z)) ≡ true → Posted (set_node w.nodes x n2) t z
   new_posted2 t z h = go (g.posted t z h)
     where
       go : Posted w.nodes t z → Posted (set_node w.nodes x n2) t z
@@ -316,7 +320,7 @@ module _ (w : World) (x : Name) (n : Node) (t0 : Trunk) (s0 : TrunkSide) (hx : n
           peer_kept v e (inl h) = inl h
           peer_kept v e (inr h) = inr (sym e ∙ h)
 
-  each2 : (a z : Name) (t : Trunk) (b : Node) → node_of (set_node w.nodes x n2) z ≡ Some b → Likely (set_node w.nodes x n2) w.lists a t z → Likely w.nodes w.lists a t z
+  each2 : (a z : Name) (t : TrunkId) (b : Node) → node_of (set_node w.nodes x n2) z ≡ Some b → Likely (set_node w.nodes x n2) w.lists a t z → Likely w.nodes w.lists a t z
   each2 a z t b hb l = by_x _ a
       (λ e.
       let nd : n2 ≡ l.node = is_n2 a l.node e l.at in

@@ -1,25 +1,48 @@
 -- Who reacts to the exit of a link.
 use Rattle.dist_model.specs.World
-use Rattle.dist_model.specs.World.{World, Event, Call, Arrive, Local, Lose, Sweep, Dial, Stop, Start, Report, Refused, Reported, Stepped, ends_in, refused, arrives_first, is_over, running, step_at, node_name, step, node_of, list_to}
-use Rattle.dist_model.specs.Claims.{end_at, end_between, reacts, reached_at, ReactsOnlyWhereLinked, is_reaction, reacts_in}
-use Rattle.dist_model.specs.Step.{dial, has_name, is_gone, start, stop, give_up, write, greet_dialing, greet_up, greet, greet_waiting, is_dialing, is_waiting, has_flags, dig, awaits_name, awaits_status, awaits_challenge, awaits_ack, awaits_true, awaits_reply, go_on, end_up, handshake_at, signal_at, handshake_in, arrive_at, arrive_fresh, arrive, lose_at, lose, take_local, is_good, Command, Spawn, Send, MakeLink, EndLink, MakeMonitor, EndMonitor, Trap, ExitTo, ExitSelf, Receive, LinksOf, IsAlive, Outcome, Refuses, Goes, at_work, acting, toward, link_new, link_by, unlink_by, draw_unlink, demonitor_by, call, new_reference, watch, draw_reference, parked_by, parked_goes, challenge, set_state, swept, has_records, close_if, side_where, is_parked, sweep_registered, registered_by, sweep_watch, sweep_end, sweep_link, link_to, watch_to, sweep, sweep_by, any_side, is_losing}
-use Rattle.dist_model.proofs.Table.{Good}
-use Rattle.dist_model.proofs.Home.{never_own}
-use Rattle.dist_model.proofs.Routes.{node_of_name}
-use Rattle.dist_model.proofs.Keys.{same_name_true, and_both, same_pid_true}
-use Rattle.dist_model.specs.Node.{HandshakeMessage, StatusOk, StatusOkSimultaneous, StatusNok, StatusNotAllowed, StatusAlive, StatusTrue, StatusFalse, SendName, Challenge, ChallengeReply, ChallengeAck, is_up, never, fits, State, AwaitsStatus, AwaitsChallenge, AwaitsAck, Asked, Parked, Accepting, Up, Losing, Gone, end_in, Item, LinkSignal, Message, Exit2, MonitorP, DemonitorP, MonitorPExit, Handshake, Tick, Effect, Put, EndedBy, LinkExit, Sent, Work, Node, TrunkSide, keep_local, send_on, post, post_all, put, finish, exits, downs, unwatches, Reaction, Ignore, Note, EndBy, carry_out, react, link_exit, report, exit_follows, replies, take_link_by, take_link, take, set_end, living, end_of, same_pids, register, unregister, unwatch, reaches, traps_life, route}
 use Rattle.std.specs.Ordering.{is_gt}
 use Rattle.std.proofs.Common.{◌==◌, nat_lt, ◌+◌, ◌≡◌, ℕ, Bool, true, false, cond, not, List, [], ◌∷◌, ◌++◌, refl, sym, ap, ◌∙◌, subst, ◌||◌, ◌&&◌, Option, Some, None, ◌⊎◌, inl, inr}
-use Rattle.dist_model.proofs.Moves.{NodeKept}
-use Rattle.dist_model.proofs.Sweeping.{link_found}
-use Rattle.dist_model.proofs.Calls.{IfGoes}
 use Rattle.std.specs.Prelude.{◌^◌}
 use Rattle.std.specs.Option.{is_some}
 use Rattle.std.specs.FinMap as fm
+use Rattle.dist_model.proofs.Calls.{IfGoes}
+use Rattle.dist_model.proofs.Home.{never_own}
+use Rattle.dist_model.proofs.Keys.{and_both, same_name_true, same_pid_true}
+use Rattle.dist_model.proofs.Moves.{NodeKept}
+use Rattle.dist_model.proofs.Routes.{node_of_name}
+use Rattle.dist_model.proofs.Sweeping.{link_found}
+use Rattle.dist_model.proofs.Table.{Good}
+use Rattle.dist_model.specs.Arrivals.{arrive, arrive_at, arrive_fresh, handshake_at, handshake_in, is_good, signal_at, take_local}
+use Rattle.dist_model.specs.Calls.{acting, call, toward}
+use Rattle.dist_model.specs.Claims.{ReactsOnlyWhereLinked, end_at, end_between, is_reaction, reached_at, reacts, reacts_in}
+use Rattle.dist_model.specs.Commands.{Command, EndLink, EndMonitor, ExitSelf, ExitTo, Goes, IsAlive, LinksOf, MakeLink, MakeMonitor, Outcome, Receive, Refuses, Send, Spawn, Trap}
+use Rattle.dist_model.specs.Dialing.{dial, has_name}
+use Rattle.dist_model.specs.Exits.{carry_out, demonitors, exits, finish, link_exit, linked_exit, monitor_exits, sent_exit}
+use Rattle.dist_model.specs.Fits.{fits}
+use Rattle.dist_model.specs.Handshake.{awaits_ack, awaits_challenge, awaits_name, awaits_reply, awaits_status, awaits_true, challenge, dig, end_up, give_up, go_on, greet, greet_dialing, greet_up, greet_waiting, has_flags, set_state, write}
+use Rattle.dist_model.specs.Incarnations.{start, stop}
+use Rattle.dist_model.specs.Items.{AboutLink, Challenge, ChallengeAck, ChallengeReply, DemonitorP, Exit2, Handshake, HandshakeMessage, Item, Message, MonitorP, MonitorPExit, SendName, StatusAlive, StatusFalse, StatusNok, StatusNotAllowed, StatusOk, StatusOkSimultaneous, StatusTrue, Tick}
+use Rattle.dist_model.specs.Linking.{draw_unlink, link_by, link_new, unlink_by}
+use Rattle.dist_model.specs.Links.{Exits, LinkWord, Says, heard, noconnection, noproc, reply}
+use Rattle.dist_model.specs.Losses.{any_side, close_if, has_records, link_to, lose, lose_at, parked_by, parked_goes, registered_by, sweep, sweep_by, sweep_end, sweep_link, sweep_registered, sweep_watch, swept, watch_to}
+use Rattle.dist_model.specs.Monitoring.{demonitor_by, draw_reference, new_reference, watch}
+use Rattle.dist_model.specs.Names.{Name, place_cmp, same_name, same_pid}
+use Rattle.dist_model.specs.Node.{Node, end_in, end_of, living, never, reaches, route, side_where, traps_life}
+use Rattle.dist_model.specs.Sides.{Accepting, Asked, AwaitsAck, AwaitsChallenge, AwaitsStatus, Gone, Losing, Parked, State, TrunkSide, Up, is_dialing, is_gone, is_losing, is_parked, is_up, is_waiting}
+use Rattle.dist_model.specs.Taking.{exit_follows, register, replies, same_pids, take, take_link, take_link_by, unregister, unwatch}
+use Rattle.dist_model.specs.Work.{Effect, EndedBy, LinkExit, Put, Sent, Work, at_work, keep_local, post, post_all, put, report, send_on, set_end}
+use Rattle.dist_model.specs.World.{Arrive, Call, Dial, Event, Local, Lose, Refused, Report, Start, Stepped, Stop, Sweep, World, arrives, arrives_first, ends_in, is_over, list_to, node_name, node_of, refused, running, step_at}
+use Rattle.erl_names.specs.Order.{name_cmp}
+use Rattle.erl_names.specs.declared.trunk.TrunkId.{TrunkId}
+use Rattle.erl_term.specs.Data.{Data}
+use Rattle.erl_term.specs.declared.term.Pid.{Pid}
+use Rattle.erl_term.specs.declared.term.Reference.{Reference}
+use Rattle.exit_core.specs.Messages.{down_term}
+use Rattle.exit_core.specs.Reaction.{reaction}
+use Rattle.exit_core.specs.declared.reaction.Reaction.{Reaction}
+use Rattle.link_core.specs.declared.end.End.{End}
+use Rattle.link_core.specs.declared.end.LinkSignal.{LinkSignal}
 use Rattle.std.specs.FinMap.{FinMap}
-use Rattle.dist_model.specs.Term.{Name, Pid, Reference, Term, NoProc, NoConnection, DownNote}
-use Rattle.dist_model.specs.Pair.{Signal, Link, UnlinkId, UnlinkIdAck, Exit, End, Absent, Active, Pending, recv, reply}
-use Rattle.dist_model.specs.Orders.{Trunk, name_cmp, same_name, same_pid, place_cmp}
 
 -- what is added last
 added : (p q : Pid) (fs : List Effect) (f : Effect) → reacts_in p q (fs ++ f ∷ []) ≡ true → (reacts_in p q fs ≡ true) ⊎ (is_reaction p q f ≡ true)
@@ -44,7 +67,7 @@ calm_last fs f n p q h = pick (added p q fs f h)
     pick (inl e) = e
     pick (inr e) = let c : true ≡ false = sym e ∙ n p q in cc
 
-calm_send : (r : Option Trunk) (y : Name) (x : Item) (o : Work) → Calm o (send_on r y x o)
+calm_send : (r : Option TrunkId) (y : Name) (x : Item) (o : Work) → Calm o (send_on r y x o)
 calm_send None y x o p q h = h
 calm_send (Some t) y x o p q h = calm_last o.effects (Sent y x) (λ a b. refl) p q h
 
@@ -59,22 +82,22 @@ calm_post_all : (es : List (Name × Item)) (o : Work) → Calm o (post_all es o)
 calm_post_all [] o p q h = h
 calm_post_all (e ∷ es) o p q h = calm_post e.0 e.1 o p q (calm_post_all es (post e.0 e.1 o) p q h)
 
-pub calm_put : (x : Pid) (t : Term) (o : Work) → Calm o (put x t o)
+pub calm_put : (x : Pid) (t : Data) (o : Work) → Calm o (put x t o)
 calm_put x t o p q h = calm_last o.effects (Put x t) (λ a b. refl) p q h
 
-pub calm_finish : (x : Pid) (r : Term) (o : Work) → Calm o (finish x r o)
+pub calm_finish : (x : Pid) (r : Data) (o : Work) → Calm o (finish x r o)
 calm_finish x r o p q h =
-    let es = exits x r (fm.entries o.node.ends) ++ downs x r (fm.entries o.node.registered) ++ unwatches x (fm.entries o.node.watches) in
+    let es = exits x r (fm.entries o.node.ends) ++ monitor_exits x r (fm.entries o.node.registered) ++ demonitors x (fm.entries o.node.watches) in
     calm_post_all es o p q (calm_last ((post_all es o).effects) (EndedBy x r) (λ a b. refl) p q h)
 
 calm_carry : (f : Reaction) (x : Pid) (o : Work) → Calm o (carry_out f x o)
-calm_carry Ignore x o p q h = h
-calm_carry (Note t) x o p q h = calm_put x t o p q h
-calm_carry (EndBy r) x o p q h = calm_finish x r o p q h
+calm_carry Reaction.Ignore x o p q h = h
+calm_carry (Reaction.Put t) x o p q h = calm_put x t o p q h
+calm_carry (Reaction.End r) x o p q h = calm_finish x r o p q h
 
 -- a link's exit is of the two that it names
-pub exit_of : (a b : Pid) (r : Term) (o : Work) (p q : Pid) → reacts_in p q ((link_exit a b r o).effects) ≡ true → (reacts_in p q o.effects ≡ true) ⊎ ((a ≡ p) × (b ≡ q))
-exit_of a b r o p q h = pick (added p q o.effects (LinkExit a b r) (calm_carry (react true true (traps_life (fm.get o.node.lives a)) (same_pid b a) b r) a (report (LinkExit a b r) o) p q h))
+pub exit_of : (a b : Pid) (r : Data) (o : Work) (p q : Pid) → reacts_in p q ((link_exit a b r o).effects) ≡ true → (reacts_in p q o.effects ≡ true) ⊎ ((a ≡ p) × (b ≡ q))
+exit_of a b r o p q h = pick (added p q o.effects (LinkExit a b r) (calm_carry (reaction (traps_life (fm.get o.node.lives a)) (linked_exit a b r)) a (report (LinkExit a b r) o) p q h))
   where
     pick : (reacts_in p q o.effects ≡ true) ⊎ ((same_pid a p && same_pid b q) ≡ true) → (reacts_in p q o.effects ≡ true) ⊎ ((a ≡ p) × (b ≡ q))
     pick (inl e) = inl e
@@ -82,32 +105,32 @@ exit_of a b r o p q h = pick (added p q o.effects (LinkExit a b r) (calm_carry (
 
 -- who takes a signal held the link active
 abbrev pub Held : Node → Pid → Pid → Type 0
-Held n p q = (living n p ≡ true) × (end_of n p q ≡ Active)
+Held n p q = (living n p ≡ true) × (end_of n p q ≡ End.Active)
 
-follows_of : (e : End) (s : Signal) (a b : Pid) (o : Work) (p q : Pid) → reacts_in p q ((exit_follows e s a b o).effects) ≡ true → (reacts_in p q o.effects ≡ true) ⊎ ((a ≡ p) × (b ≡ q) × (e ≡ Active))
-follows_of e Link a b o p q h = inl h
-follows_of e (UnlinkId j) a b o p q h = inl h
-follows_of e (UnlinkIdAck j) a b o p q h = inl h
-follows_of Absent (Exit r) a b o p q h = inl h
-follows_of Active (Exit r) a b o p q h = pick (exit_of a b r o p q h)
+follows_of : (e : End) (s : LinkWord) (a b : Pid) (o : Work) (p q : Pid) → reacts_in p q ((exit_follows e s a b o).effects) ≡ true → (reacts_in p q o.effects ≡ true) ⊎ ((a ≡ p) × (b ≡ q) × (e ≡ End.Active))
+follows_of e (Says LinkSignal.Link) a b o p q h = inl h
+follows_of e (Says (LinkSignal.Unlink j)) a b o p q h = inl h
+follows_of e (Says (LinkSignal.Ack j)) a b o p q h = inl h
+follows_of End.None (Exits r) a b o p q h = inl h
+follows_of End.Active (Exits r) a b o p q h = pick (exit_of a b r o p q h)
   where
-    pick : (reacts_in p q o.effects ≡ true) ⊎ ((a ≡ p) × (b ≡ q)) → (reacts_in p q o.effects ≡ true) ⊎ ((a ≡ p) × (b ≡ q) × (Active ≡ Active))
+    pick : (reacts_in p q o.effects ≡ true) ⊎ ((a ≡ p) × (b ≡ q)) → (reacts_in p q o.effects ≡ true) ⊎ ((a ≡ p) × (b ≡ q) × (End.Active ≡ End.Active))
     pick (inl e) = inl e
     pick (inr e) = inr (e.0, e.1, refl)
-follows_of (Pending i) (Exit r) a b o p q h = inl h
+follows_of (End.Pending i) (Exits r) a b o p q h = inl h
 
-held_at : (n : Node) (a b p q : Pid) → a ≡ p → b ≡ q → living n a ≡ true → end_of n a b ≡ Active → Held n p q
+held_at : (n : Node) (a b p q : Pid) → a ≡ p → b ≡ q → living n a ≡ true → end_of n a b ≡ End.Active → Held n p q
 held_at n a b p q ap1 bq l e = subst (λ z. Held n z q) ap1 (subst (λ z. Held n a z) bq (l, e))
 
-pub link_taken : (a b : Pid) (s : Signal) (o : Work) (p q : Pid) → reacts_in p q ((take_link a b s o).effects) ≡ true → (reacts_in p q o.effects ≡ true) ⊎ Held o.node p q
+pub link_taken : (a b : Pid) (s : LinkWord) (o : Work) (p q : Pid) → reacts_in p q ((take_link a b s o).effects) ≡ true → (reacts_in p q o.effects ≡ true) ⊎ Held o.node p q
 link_taken a b s o p q h = go (living o.node a) refl h
   where
     go : (t : Bool) → living o.node a ≡ t → reacts_in p q ((take_link_by t a b s o).effects) ≡ true → (reacts_in p q o.effects ≡ true) ⊎ Held o.node p q
     go false l h = inl (calm_post_all (replies a b (reply true s)) o p q h)
-    go true l h = pick (follows_of (end_of o.node a b) s a b (post_all (replies a b (reply false s)) (set_end a b (recv (end_of o.node a b) s) o)) p q h)
+    go true l h = pick (follows_of (end_of o.node a b) s a b (post_all (replies a b (reply false s)) (set_end a b (heard (end_of o.node a b) s) o)) p q h)
       where
-        pick : (reacts_in p q ((post_all (replies a b (reply false s)) (set_end a b (recv (end_of o.node a b) s) o)).effects) ≡ true) ⊎ ((a ≡ p) × (b ≡ q) × (end_of o.node a b ≡ Active)) → (reacts_in p q o.effects ≡ true) ⊎ Held o.node p q
-        pick (inl e) = inl (calm_post_all (replies a b (reply false s)) (set_end a b (recv (end_of o.node a b) s) o) p q e)
+        pick : (reacts_in p q ((post_all (replies a b (reply false s)) (set_end a b (heard (end_of o.node a b) s) o)).effects) ≡ true) ⊎ ((a ≡ p) × (b ≡ q) × (end_of o.node a b ≡ End.Active)) → (reacts_in p q o.effects ≡ true) ⊎ Held o.node p q
+        pick (inl e) = inl (calm_post_all (replies a b (reply false s)) (set_end a b (heard (end_of o.node a b) s) o) p q e)
         pick (inr e) = inr (held_at o.node a b p q e.0 e.1 l e.2)
 
 calm_cond : (b : Bool) (o x y : Work) → Calm o x → Calm o y → Calm o (cond b x y)
@@ -119,12 +142,12 @@ calm_register None k u o p q h = h
 calm_register (Some v) k u o p q h = h
 
 pub item_taken : (x : Item) (o : Work) (p q : Pid) → reacts_in p q ((take x o).effects) ≡ true → (reacts_in p q o.effects ≡ true) ⊎ Held o.node p q
-item_taken (LinkSignal b a s) o p q h = link_taken a b s o p q h
+item_taken (AboutLink b a s) o p q h = link_taken a b s o p q h
 item_taken (Message a t) o p q h = inl (calm_cond (living o.node a) o (put a t o) o (calm_put a t o) (λ c d k. k) p q h)
-item_taken (Exit2 b a r) o p q h = inl (calm_cond (living o.node a) o _ o (calm_carry (react false false (traps_life (fm.get o.node.lives a)) (same_pid b a) b r) a o) (λ c d k. k) p q h)
-item_taken (MonitorP b a k) o p q h = inl (calm_cond (living o.node a) o _ _ (calm_register (fm.get o.node.registered k) k (b, a) o) (calm_post b.node (MonitorPExit a b k NoProc) o) p q h)
+item_taken (Exit2 b a r) o p q h = inl (calm_cond (living o.node a) o _ o (calm_carry (reaction (traps_life (fm.get o.node.lives a)) (sent_exit a b r)) a o) (λ c d k. k) p q h)
+item_taken (MonitorP b a k) o p q h = inl (calm_cond (living o.node a) o _ _ (calm_register (fm.get o.node.registered k) k (b, a) o) (calm_post b.node (MonitorPExit a b k noproc) o) p q h)
 item_taken (DemonitorP b a k) o p q h = inl (calm_cond (same_pids (fm.get o.node.registered k) b a) o (unregister k o) o (λ c d z. z) (λ c d z. z) p q h)
-item_taken (MonitorPExit b a k r) o p q h = inl (calm_cond (living o.node a && same_pids (fm.get o.node.watches k) a b) o _ o (calm_put a (DownNote k b r) (unwatch k o)) (λ c d z. z) p q h)
+item_taken (MonitorPExit b a k r) o p q h = inl (calm_cond (living o.node a && same_pids (fm.get o.node.watches k) a b) o _ o (calm_put a (down_term k b r) (unwatch k o)) (λ c d z. z) p q h)
 item_taken (Handshake m) o p q h = inl h
 item_taken Tick o p q h = inl h
 
@@ -148,26 +171,26 @@ module _ (n : Node) where
   acts_on c p q k h = on_cond (living n p) (toward n q k) 3 (OwnLink n c) (λ l. on_not (same_name q.node n.name && never n q) k 20 (OwnLink n c) (h l))
 
   links_new : (a b : Pid) (o : Work) → o.effects ≡ [] → (t : Bool) → reaches n b.node ≡ t → living n a ≡ true → OwnLink n (MakeLink a b) (link_new t a b o)
-  links_new a b o e true r l p q h = nothing (sym (ap (reacts_in p q) e) ∙ calm_post b.node (LinkSignal a b Link) (set_end a b Active o) p q h)
-  links_new a b o e false r l p q h = pick (exit_of a b NoConnection (set_end a b Absent o) p q h)
+  links_new a b o e true r l p q h = nothing (sym (ap (reacts_in p q) e) ∙ calm_post b.node (AboutLink a b (Says LinkSignal.Link)) (set_end a b End.Active o) p q h)
+  links_new a b o e false r l p q h = pick (exit_of a b noconnection (set_end a b End.None o) p q h)
     where
       pick : (reacts_in p q o.effects ≡ true) ⊎ ((a ≡ p) × (b ≡ q)) → (MakeLink a b ≡ MakeLink p q) × (living n p ≡ true) × (reaches n q.node ≡ false)
       pick (inl i) = nothing (sym (ap (reacts_in p q) e) ∙ i)
       pick (inr i) = ((λ j. MakeLink (i.0 j) (i.1 j)), subst (λ z. living n z ≡ true) i.0 l, subst (λ (z : Pid). reaches n z.node ≡ false) i.1 r)
 
   links_on : (e : End) (a b : Pid) → living n a ≡ true → OwnLink n (MakeLink a b) (link_by e a b (at_work n))
-  links_on Absent a b l = links_new a b (at_work n) refl (reaches n b.node) refl l
-  links_on Active a b l = λ p q h. nothing h
-  links_on (Pending i) a b l = links_new a b (at_work n) refl (reaches n b.node) refl l
+  links_on End.None a b l = links_new a b (at_work n) refl (reaches n b.node) refl l
+  links_on End.Active a b l = λ p q h. nothing h
+  links_on (End.Pending i) a b l = links_new a b (at_work n) refl (reaches n b.node) refl l
 
   link_cond : (t : Bool) (a b : Pid) → living n a ≡ true → OwnLink n (MakeLink a b) (cond t (at_work n) (link_by (end_of n a b) a b (at_work n)))
   link_cond true a b l = λ p q h. nothing h
   link_cond false a b l = links_on (end_of n a b) a b l
 
   unlinks_on : (e : End) (a b : Pid) → IfGoes (unlink_by e a b (at_work n)) (OwnLink n (EndLink a b))
-  unlinks_on Absent a b = λ p q h. nothing h
-  unlinks_on Active a b = on_cond (nat_lt (n.unlinks + 1) (2 ^ 64)) _ 4 (OwnLink n (EndLink a b)) (λ i p q h. nothing (calm_post b.node (LinkSignal a b (UnlinkId (n.unlinks + 1))) (set_end a b (Pending (n.unlinks + 1)) (draw_unlink (n.unlinks + 1) (at_work n))) p q h))
-  unlinks_on (Pending i) a b = λ p q h. nothing h
+  unlinks_on End.None a b = λ p q h. nothing h
+  unlinks_on End.Active a b = on_cond (nat_lt (n.unlinks + 1) (2 ^ 64)) _ 4 (OwnLink n (EndLink a b)) (λ i p q h. nothing (calm_post b.node (AboutLink a b (Says (LinkSignal.Unlink (n.unlinks + 1)))) (set_end a b (End.Pending (n.unlinks + 1)) (draw_unlink (n.unlinks + 1) (at_work n))) p q h))
+  unlinks_on (End.Pending i) a b = λ p q h. nothing h
 
   demonitors_on : (v : Option (Pid × Pid)) (a : Pid) (k : Reference) → IfGoes (demonitor_by v a k (at_work n)) (OwnLink n (EndMonitor a k))
   demonitors_on None a k = tt
@@ -181,7 +204,7 @@ module _ (n : Node) where
   called (MakeMonitor a b) = acts_on (MakeMonitor a b) a b _ (λ l. on_cond (nat_lt (n.references + 1) (2 ^ 18)) _ 4 (OwnLink n (MakeMonitor a b))
       (λ i p q h. nothing (calm_cond (reaches n b.node) (at_work n) _ _
       (calm_post b.node (MonitorP a b (new_reference n)) (watch (new_reference n) (a, b) (draw_reference (at_work n))))
-      (calm_put a (DownNote (new_reference n) b NoConnection) (draw_reference (at_work n))) p q h)))
+      (calm_put a (down_term (new_reference n) b noconnection) (draw_reference (at_work n))) p q h)))
   called (EndMonitor a k) = on_cond (living n a) _ 3 (OwnLink n (EndMonitor a k)) (λ l. demonitors_on (fm.get n.watches k) a k)
   called (Trap a b) = on_cond (living n a) _ 3 (OwnLink n (Trap a b)) (λ l p q h. nothing h)
   called (ExitTo a b r) = acts_on (ExitTo a b r) a b _ (λ l. on_cond (fits r) _ 8 (OwnLink n (ExitTo a b r)) (λ i p q h. nothing (calm_post b.node (Exit2 a b r) (at_work n) p q h)))
@@ -191,7 +214,7 @@ module _ (n : Node) where
   called (IsAlive a) = λ p q h. nothing h
 
 -- sweeps
-calm_parked : (v : State) (t : Trunk) (s : TrunkSide) (o : Work) → Calm o (parked_by v t s o)
+calm_parked : (v : State) (t : TrunkId) (s : TrunkSide) (o : Work) → Calm o (parked_by v t s o)
 calm_parked (Parked k) t s o p q h = calm_send (Some t) s.peer (Handshake (challenge o.node k)) (set_state t s (Accepting k) o) p q h
 calm_parked (AwaitsStatus k) t s o p q h = h
 calm_parked (AwaitsChallenge k) t s o p q h = h
@@ -202,11 +225,11 @@ calm_parked Up t s o p q h = h
 calm_parked Losing t s o p q h = h
 calm_parked Gone t s o p q h = h
 
-calm_goes : (d : Option (Trunk × TrunkSide)) (o : Work) → Calm o (parked_goes d o)
+calm_goes : (d : Option (TrunkId × TrunkSide)) (o : Work) → Calm o (parked_goes d o)
 calm_goes None o p q h = h
 calm_goes (Some d) o p q h = calm_parked d.1.state d.0 d.1 o p q h
 
-calm_swept : (t : Trunk) (s : TrunkSide) (o : Work) → Calm o (swept t s o)
+calm_swept : (t : TrunkId) (s : TrunkSide) (o : Work) → Calm o (swept t s o)
 calm_swept t s o p q h = go (has_records s.peer o.node) h
   where
     go : (b : Bool) → reacts_in p q ((close_if b t s o).effects) ≡ true → reacts_in p q o.effects ≡ true
@@ -219,23 +242,23 @@ calm_unregistered (Some d) o p q h = h
 
 calm_unwatched : (d : Option (Reference × (Pid × Pid))) (y : Name) (o : Work) → Calm o (sweep_watch d y o)
 calm_unwatched None y o p q h = calm_unregistered (registered_by y (fm.entries o.node.registered)) o p q h
-calm_unwatched (Some d) y o p q h = calm_put d.1.0 (DownNote d.0 d.1.1 NoConnection) (unwatch d.0 o) p q h
+calm_unwatched (Some d) y o p q h = calm_put d.1.0 (down_term d.0 d.1.1 noconnection) (unwatch d.0 o) p q h
 
 abbrev pub HeldBefore : Node → Work → Type 0
 HeldBefore n o = (p q : Pid) → reacts_in p q o.effects ≡ true → Held n p q
 
 module _ (n : Node) (kn : NodeKept n) where
-  held_by_end : (a b : Pid) → end_of n a b ≡ Active → Held n a b
-  held_by_end a b e = ((kn.rooted a b (λ z. let c : Active ≡ Absent = sym e ∙ z in cc)).0, e)
+  held_by_end : (a b : Pid) → end_of n a b ≡ End.Active → Held n a b
+  held_by_end a b e = ((kn.rooted a b (λ z. let c : End.Active ≡ End.None = sym e ∙ z in cc)).0, e)
 
   end_swept : (e : End) (a b : Pid) → end_of n a b ≡ e → (p q : Pid) → reacts_in p q ((sweep_end e a b (at_work n)).effects) ≡ true → Held n p q
-  end_swept Absent a b i p q h = nothing h
-  end_swept Active a b i p q h = pick (exit_of a b NoConnection (set_end a b Absent (at_work n)) p q h)
+  end_swept End.None a b i p q h = nothing h
+  end_swept End.Active a b i p q h = pick (exit_of a b noconnection (set_end a b End.None (at_work n)) p q h)
     where
       pick : (false ≡ true) ⊎ ((a ≡ p) × (b ≡ q)) → Held n p q
       pick (inl z) = nothing z
       pick (inr z) = let l = held_by_end a b i in held_at n a b p q z.0 z.1 l.0 l.1
-  end_swept (Pending j) a b i p q h = nothing h
+  end_swept (End.Pending j) a b i p q h = nothing h
 
   link_swept : (y : Name) (d : Option ((Pid × Pid) × End)) → link_to y (fm.entries n.ends) ≡ d → (p q : Pid) → reacts_in p q ((sweep_link d y (at_work n)).effects) ≡ true → Held n p q
   link_swept y None i p q h = nothing (calm_unwatched (watch_to y (fm.entries n.watches)) y (at_work n) p q h)
@@ -246,7 +269,7 @@ module _ (n : Node) (kn : NodeKept n) where
   pub sweeps : IfGoes (sweep n) (HeldBefore n)
   sweeps = go (any_side is_losing (fm.entries n.sides))
     where
-      go : (d : Option (Trunk × TrunkSide)) → IfGoes (sweep_by d (at_work n)) (HeldBefore n)
+      go : (d : Option (TrunkId × TrunkSide)) → IfGoes (sweep_by d (at_work n)) (HeldBefore n)
       go None = tt
       go (Some d) = λ p q h. link_swept d.1.peer (link_to d.1.peer (fm.entries n.ends)) refl p q (calm_swept d.0 d.1 (sweep_link (link_to d.1.peer (fm.entries n.ends)) d.1.peer (at_work n)) p q h)
 
@@ -255,11 +278,11 @@ either : (b : Bool) (x y : Outcome) (P : Work → Type 0) → IfGoes x P → IfG
 either true x y P f g = f
 either false x y P f g = g
 
-calm_given : (d : Option (Trunk × TrunkSide)) (o : Work) → Calm o (give_up d o)
+calm_given : (d : Option (TrunkId × TrunkSide)) (o : Work) → Calm o (give_up d o)
 calm_given None o p q h = h
 calm_given (Some d) o p q h = h
 
-module _ (n : Node) (t : Trunk) where
+module _ (n : Node) (t : TrunkId) where
   -- nobody reacts
   abbrev Still : Work → Type 0
   Still o = (p q : Pid) → reacts_in p q o.effects ≡ true → false ≡ true
@@ -268,18 +291,18 @@ module _ (n : Node) (t : Trunk) where
     accepted : (m : HandshakeMessage) (o : Work) → Still o → Still (write t s.peer (challenge o.node w) (write t s.peer m (set_state t s (Accepting w) o)))
     accepted m o k p q h = k p q (calm_send (Some t) s.peer (Handshake m) (set_state t s (Accepting w) o) p q (calm_send (Some t) s.peer (Handshake (challenge o.node w)) (write t s.peer m (set_state t s (Accepting w) o)) p q h))
 
-    greets_dialing : (d : Option (Trunk × TrunkSide)) (o : Work) → Still o → IfGoes (greet_dialing d t s w x o) Still
+    greets_dialing : (d : Option (TrunkId × TrunkSide)) (o : Work) → Still o → IfGoes (greet_dialing d t s w x o) Still
     greets_dialing None o k = accepted StatusOk o k
     greets_dialing (Some d) o k = either (is_gt (name_cmp t.dialer o.node.name)) _ _ Still (accepted StatusOkSimultaneous (give_up (Some d) o) k) (λ p q h. k p q (calm_send (Some t) s.peer (Handshake StatusNok) (set_state t s Gone o) p q h))
 
-    greets_up : (d : Option (Trunk × TrunkSide)) (o : Work) → Still o → IfGoes (greet_up d t s w x o) Still
+    greets_up : (d : Option (TrunkId × TrunkSide)) (o : Work) → Still o → IfGoes (greet_up d t s w x o) Still
     greets_up None o k = greets_dialing (side_where is_dialing s.peer (fm.entries o.node.sides)) o k
     greets_up (Some d) o k = λ p q h. k p q (calm_send (Some t) s.peer (Handshake StatusAlive) (set_state t s (Asked w) o) p q h)
 
     greets : (o : Work) → Still o → IfGoes (greet t s w x o) Still
     greets o k = greets_up (side_where (λ v. is_up v || is_losing v) s.peer (fm.entries o.node.sides)) o k
 
-    greets_waiting : (d : Option (Trunk × TrunkSide)) (o : Work) → Still o → IfGoes (greet_waiting d t s w x o) Still
+    greets_waiting : (d : Option (TrunkId × TrunkSide)) (o : Work) → Still o → IfGoes (greet_waiting d t s w x o) Still
     greets_waiting None o k = greets o k
     greets_waiting (Some d) o k = either (nat_lt d.0.count t.count) _ _ Still (greets (give_up (Some d) o) k) (λ p q h. k p q (calm_send (Some t) s.peer (Handshake StatusNok) (set_state t s Gone o) p q h))
 
@@ -337,11 +360,11 @@ module _ (n : Node) (t : Trunk) where
     still_ack u (ChallengeReply a b) = λ p q h. h
     still_ack u (ChallengeAck a) = either (a == dig n.cookie u) _ _ Still (λ p q h. h) (λ p q h. h)
 
-    still_on : (d : Option (Trunk × TrunkSide)) (u : ℕ) (o : Work) → Still o → Still (go_on d t v u o)
+    still_on : (d : Option (TrunkId × TrunkSide)) (u : ℕ) (o : Work) → Still o → Still (go_on d t v u o)
     still_on None u o k = λ p q h. k p q (calm_send (Some t) v.peer (Handshake (challenge o.node u)) (set_state t v (Accepting u) o) p q h)
     still_on (Some d) u o k = k
 
-    still_end : (d : Option (Trunk × TrunkSide)) → Still (end_up d (at_work n))
+    still_end : (d : Option (TrunkId × TrunkSide)) → Still (end_up d (at_work n))
     still_end None = λ p q h. h
     still_end (Some d) = λ p q h. h
 
@@ -412,19 +435,19 @@ still_holds : (n : Node) (o : Outcome) → IfGoes o (λ z. (p q : Pid) → react
 still_holds n (Refuses k) h = tt
 still_holds n (Goes a o) h = λ p q r. nothing (h p q r)
 
-known_comes : (n : Node) (t : Trunk) (v : TrunkSide) (x : Item) (m : Option HandshakeMessage) → IfGoes (arrive_at m t v x (at_work n)) (HeldBefore n)
+known_comes : (n : Node) (t : TrunkId) (v : TrunkSide) (x : Item) (m : Option HandshakeMessage) → IfGoes (arrive_at m t v x (at_work n)) (HeldBefore n)
 known_comes n t v x None = signal_comes n t v v.state x
 known_comes n t v x (Some m) = still_holds n (handshake_at v.state t v m (at_work n)) (still_handshake n t v v.state m)
 
-fresh_comes : (n : Node) (t : Trunk) (k : ℕ) (m : Option HandshakeMessage) → IfGoes (arrive_fresh m t k (at_work n)) (HeldBefore n)
+fresh_comes : (n : Node) (t : TrunkId) (k : ℕ) (m : Option HandshakeMessage) → IfGoes (arrive_fresh m t k (at_work n)) (HeldBefore n)
 fresh_comes n t k None = λ p q h. nothing h
 fresh_comes n t k (Some m) = still_holds n (awaits_name t m k (at_work n)) (still_fresh n t m k)
 
-pub arrives : (n : Node) (t : Trunk) (o : Option TrunkSide) (x : Item) (k : ℕ) → IfGoes (arrive n t o x k) (HeldBefore n)
-arrives n t None x k = fresh_comes n t k (handshake_in x)
-arrives n t (Some v) x k = known_comes n t v x (handshake_in x)
+pub arriving : (n : Node) (t : TrunkId) (o : Option TrunkSide) (x : Item) (k : ℕ) → IfGoes (arrive n t o x k) (HeldBefore n)
+arriving n t None x k = fresh_comes n t k (handshake_in x)
+arriving n t (Some v) x k = known_comes n t v x (handshake_in x)
 
-pub loses : (n : Node) (t : Trunk) (o : Option TrunkSide) → IfGoes (lose n t o) (HeldBefore n)
+pub loses : (n : Node) (t : TrunkId) (o : Option TrunkSide) → IfGoes (lose n t o) (HeldBefore n)
 loses n t None = tt
 loses n t (Some v) = still_holds n (lose_at v.state t v (at_work n)) (still_lost n t v v.state)
 
@@ -439,48 +462,48 @@ takes_local n (x ∷ xs) = λ p q h. old p q (item_taken x (at_work (record n { 
 -- one event of a world
 module _ (w : World) (g : Good w) where
   -- what a process of x held, the world says
-  in_world : (x : Name) (n : Node) → node_of w.nodes x ≡ Some n → (p q : Pid) → Held n p q → end_between w p q ≡ Active
+  in_world : (x : Name) (n : Node) → node_of w.nodes x ≡ Some n → (p q : Pid) → Held n p q → end_between w p q ≡ End.Active
   in_world x n hx p q h =
       let e : p.node ≡ x = same_name_true p.node n.name (never_own n p ((g.core.nodes x n hx).born p h.0)) ∙ node_of_name w.nodes x n hx in
       ap (λ o. end_at o p q) (ap (node_of w.nodes) e ∙ hx) ∙ h.1
 
-  abbrev pub Says : Event → Report → Type 0
-  Says e r = (p q : Pid) → reacts p q r ≡ true → (end_between w p q ≡ Active) ⊎ ((e ≡ Call p.node (MakeLink p q)) × (reached_at (node_of w.nodes p.node) q.node ≡ false))
+  abbrev pub Tells : Event → Report → Type 0
+  Tells e r = (p q : Pid) → reacts p q r ≡ true → (end_between w p q ≡ End.Active) ⊎ ((e ≡ Call p.node (MakeLink p q)) × (reached_at (node_of w.nodes p.node) q.node ≡ false))
 
-  refusal : (e : Event) (k : ℕ) → Says e (Refused k)
+  refusal : (e : Event) (k : ℕ) → Tells e (Refused k)
   refusal e k p q h = nothing h
 
-  outcome : (e : Event) (x : Name) (n : Node) (m : FinMap place_cmp (List Item)) → node_of w.nodes x ≡ Some n → (o : Outcome) → IfGoes o (HeldBefore n) → Says e ((ends_in w x m o).report)
+  outcome : (e : Event) (x : Name) (n : Node) (m : FinMap place_cmp (List Item)) → node_of w.nodes x ≡ Some n → (o : Outcome) → IfGoes o (HeldBefore n) → Tells e ((ends_in w x m o).report)
   outcome e x n m hx (Refuses k) h = refusal e k
   outcome e x n m hx (Goes a o) h = λ p q r. inl (in_world x n hx p q (h p q r))
 
-  call_outcome : (x : Name) (n : Node) (c : Command) → node_of w.nodes x ≡ Some n → (o : Outcome) → IfGoes o (OwnLink n c) → Says (Call x c) ((ends_in w x w.lists o).report)
+  call_outcome : (x : Name) (n : Node) (c : Command) → node_of w.nodes x ≡ Some n → (o : Outcome) → IfGoes o (OwnLink n c) → Tells (Call x c) ((ends_in w x w.lists o).report)
   call_outcome x n c hx (Refuses k) h = refusal (Call x c) k
   call_outcome x n c hx (Goes a o) h = λ p q r.
       let v = h p q r in
       let e : p.node ≡ x = same_name_true p.node n.name (never_own n p ((g.core.nodes x n hx).born p v.1)) ∙ node_of_name w.nodes x n hx in
       inr ((λ i. Call (sym e i) (v.0 i)), ap (λ o. reached_at o q.node) (ap (node_of w.nodes) e ∙ hx) ∙ v.2)
 
-  while_up : (e : Event) (n : Node) (s : Stepped) → Says e s.report → Says e ((running w n s).report)
+  while_up : (e : Event) (n : Node) (s : Stepped) → Tells e s.report → Tells e ((running w n s).report)
   while_up e n s h = go n.up
     where
-      go : (b : Bool) → Says e ((cond b s (refused w 2)).report)
+      go : (b : Bool) → Tells e ((cond b s (refused w 2)).report)
       go true = h
       go false = refusal e 2
 
-  first_comes : (t : Trunk) (x : Name) (n : Node) (k : ℕ) (o : Option TrunkSide) (l : List Item) → node_of w.nodes x ≡ Some n → Says (Arrive t x k) ((arrives_first w n t x k o l).report)
+  first_comes : (t : TrunkId) (x : Name) (n : Node) (k : ℕ) (o : Option TrunkSide) (l : List Item) → node_of w.nodes x ≡ Some n → Tells (Arrive t x k) ((arrives_first w n t x k o l).report)
   first_comes t x n k o [] hx = refusal (Arrive t x k) 19
-  first_comes t x n k o (i ∷ is) hx = outcome (Arrive t x k) x n (fm.insert w.lists (t, x) is) hx (arrive n t o i k) (arrives n t o i k)
+  first_comes t x n k o (i ∷ is) hx = outcome (Arrive t x k) x n (fm.insert w.lists (t, x) is) hx (arrive n t o i k) (arriving n t o i k)
 
-  comes : (t : Trunk) (x : Name) (n : Node) (k : ℕ) (o : Option TrunkSide) → node_of w.nodes x ≡ Some n → Says (Arrive t x k) ((Rattle.dist_model.specs.World.arrives w n t x k o).report)
+  comes : (t : TrunkId) (x : Name) (n : Node) (k : ℕ) (o : Option TrunkSide) → node_of w.nodes x ≡ Some n → Tells (Arrive t x k) ((arrives w n t x k o).report)
   comes t x n k None hx = go (is_some (fm.get w.lists (t, x)) && not (same_name t.dialer x))
     where
-      go : (b : Bool) → Says (Arrive t x k) ((cond b (arrives_first w n t x k None (list_to w.lists t x)) (refused w 18)).report)
+      go : (b : Bool) → Tells (Arrive t x k) ((cond b (arrives_first w n t x k None (list_to w.lists t x)) (refused w 18)).report)
       go true = first_comes t x n k None (list_to w.lists t x) hx
       go false = refusal (Arrive t x k) 18
   comes t x n k (Some v) hx = go (is_over v.state)
     where
-      go : (b : Bool) → Says (Arrive t x k) ((cond b (refused w 18) (arrives_first w n t x k (Some v) (list_to w.lists t x))).report)
+      go : (b : Bool) → Tells (Arrive t x k) ((cond b (refused w 18) (arrives_first w n t x k (Some v) (list_to w.lists t x))).report)
       go true = refusal (Arrive t x k) 18
       go false = first_comes t x n k (Some v) (list_to w.lists t x) hx
 
@@ -491,7 +514,7 @@ module _ (w : World) (g : Good w) where
   starts : (n : Node) → IfGoes (start n) (HeldBefore n)
   starts n = on_not n.up _ 23 (HeldBefore n) (on_cond (nat_lt (n.creation + 1) (2 ^ 32)) _ 4 (HeldBefore n) (λ i p q h. nothing h))
 
-  at_node : (o : Option Node) (e : Event) → node_of w.nodes (node_name e) ≡ o → Says e ((step_at w o e).report)
+  at_node : (o : Option Node) (e : Event) → node_of w.nodes (node_name e) ≡ o → Tells e ((step_at w o e).report)
   at_node None e h = refusal e 19
   at_node (Some n) (Call x c) h = while_up (Call x c) n _ (call_outcome x n c h (call n c) (called n c))
   at_node (Some n) (Arrive t x k) h = while_up (Arrive t x k) n _ (comes t x n k (fm.get n.sides t) h)

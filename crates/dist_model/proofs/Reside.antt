@@ -2,49 +2,52 @@
 use Rattle.std.proofs.Common.{◌≡◌, ℕ, Bool, true, false, cond, [], refl, sym, ap, ◌∙◌, subst, arith, ◌&&◌, ◌||◌, Option, Some, None, ◌⊎◌, inl, inr}
 use Rattle.std.specs.Option.{is_some}
 use Rattle.std.specs.FinMap as fm
-use Rattle.dist_model.specs.Term.{Name, Pid}
-use Rattle.dist_model.specs.Pair.{Absent, Side}
-use Rattle.dist_model.proofs.Kept.{Kept, kept_swap, Half}
-use Rattle.dist_model.proofs.Sides.{not_held, side_at, SidesKept, joined, holds, asks, beside, holds_kinds, unheld_absent}
-use Rattle.dist_model.specs.Orders.{Trunk, same_name}
-use Rattle.dist_model.specs.Node.{State, TrunkSide, Node, end_of, is_up}
-use Rattle.dist_model.specs.Step.{is_gone, side_where}
-use Rattle.dist_model.specs.World.{World, signals, node_of, set_node, list_to}
-use Rattle.dist_model.proofs.Keys.{same_trunk, same_trunk_true, same_trunk_refl, same_trunk_is, same_name_true, same_name_is, trunk_total}
-use Rattle.dist_model.proofs.Views.{side_of, side_path}
-use Rattle.dist_model.proofs.Routes.{side_where_found, side_where_none, some_same, node_of_name, node_of_set_same, node_of_set_other}
-use Rattle.dist_model.proofs.Moves.{NodeKept, held}
 use Rattle.dist_model.proofs.Calls.{by_test}
+use Rattle.dist_model.proofs.Kept.{Half, Kept, kept_swap}
+use Rattle.dist_model.proofs.Keys.{same_name_is, same_name_true, same_trunk, same_trunk_is, same_trunk_refl, same_trunk_true, trunk_total}
+use Rattle.dist_model.proofs.Moves.{NodeKept, held}
+use Rattle.dist_model.proofs.Pair.{Side}
 use Rattle.dist_model.proofs.Pairs.{Met, TrunkPairs, WorldKept, up_joined}
+use Rattle.dist_model.proofs.Routes.{node_of_name, node_of_set_other, node_of_set_same, side_where_found, side_where_none, some_same}
+use Rattle.dist_model.proofs.Sides.{SidesKept, asks, beside, holds, holds_kinds, joined, not_held, side_at, unheld_absent}
+use Rattle.dist_model.proofs.Views.{side_of, side_path}
+use Rattle.dist_model.specs.Items.{signals}
+use Rattle.dist_model.specs.Names.{Name, same_name}
+use Rattle.dist_model.specs.Node.{Node, end_of, side_where}
+use Rattle.dist_model.specs.Sides.{State, TrunkSide, is_gone, is_up}
+use Rattle.dist_model.specs.World.{World, list_to, node_of, set_node}
+use Rattle.erl_names.specs.declared.trunk.TrunkId.{TrunkId}
+use Rattle.erl_term.specs.declared.term.Pid.{Pid}
+use Rattle.link_core.specs.declared.end.End.{End}
 
 -- one side of a node gets a new state, or is new
-abbrev pub with_side_at : Node → Trunk → TrunkSide → Node
+abbrev pub with_side_at : Node → TrunkId → TrunkSide → Node
 with_side_at n t s = record n { sides = fm.insert n.sides t s }
 
-pub side_after : (n : Node) (t0 : Trunk) (s : TrunkSide) (t : Trunk) → side_at (with_side_at n t0 s) t ≡ cond (same_trunk t t0) (Some s) (side_at n t)
+pub side_after : (n : Node) (t0 : TrunkId) (s : TrunkSide) (t : TrunkId) → side_at (with_side_at n t0 s) t ≡ cond (same_trunk t t0) (Some s) (side_at n t)
 side_after n t0 s t = fm.get-insert trunk_total n.sides t0 s t
 
-pub side_after_same : (n : Node) (t0 : Trunk) (s : TrunkSide) → side_at (with_side_at n t0 s) t0 ≡ Some s
+pub side_after_same : (n : Node) (t0 : TrunkId) (s : TrunkSide) → side_at (with_side_at n t0 s) t0 ≡ Some s
 side_after_same n t0 s = side_after n t0 s t0 ∙ ap (λ b. cond b (Some s) (side_at n t0)) (same_trunk_refl t0)
 
 cond_false : {A : Type 0} (b : Bool) (x y : A) → b ≡ false → cond b x y ≡ y
 cond_false true x y h = cc
 cond_false false x y h = refl
 
-apart_trunk : (t u : Trunk) → (t ≡ u → ⊥) → same_trunk t u ≡ false
+apart_trunk : (t u : TrunkId) → (t ≡ u → ⊥) → same_trunk t u ≡ false
 apart_trunk t u d = by_test _ (same_trunk t u) (λ h. absurd (d (same_trunk_true t u h))) (λ h. h)
 
-pub side_after_other : (n : Node) (t0 : Trunk) (s : TrunkSide) (t : Trunk) → (t ≡ t0 → ⊥) → side_at (with_side_at n t0 s) t ≡ side_at n t
+pub side_after_other : (n : Node) (t0 : TrunkId) (s : TrunkSide) (t : TrunkId) → (t ≡ t0 → ⊥) → side_at (with_side_at n t0 s) t ≡ side_at n t
 side_after_other n t0 s t d = side_after n t0 s t ∙ cond_false (same_trunk t t0) (Some s) (side_at n t) (apart_trunk t t0 d)
 
 -- what a new state of a side has to meet at its own node
-pub record Fits (n : Node) (t0 : Trunk) (s : TrunkSide) : Type 0 where
+pub record Fits (n : Node) (t0 : TrunkId) (s : TrunkSide) : Type 0 where
   pub stranger : s.peer ≡ n.name → ⊥
   pub role : (t0.dialer ≡ n.name) ⊎ (t0.dialer ≡ s.peer)
   pub peer_stays : (v : TrunkSide) → side_at n t0 ≡ Some v → v.peer ≡ s.peer
-  pub room : (u : Trunk) (v : TrunkSide) → side_at n u ≡ Some v → v.peer ≡ s.peer → (u ≡ t0 → ⊥) → is_gone s.state ≡ false → is_gone v.state ≡ false → beside s.state v.state ≡ true
+  pub room : (u : TrunkId) (v : TrunkSide) → side_at n u ≡ Some v → v.peer ≡ s.peer → (u ≡ t0 → ⊥) → is_gone s.state ≡ false → is_gone v.state ≡ false → beside s.state v.state ≡ true
   -- no records are left where it stops to hold them
-  pub empty : (v : TrunkSide) → side_at n t0 ≡ Some v → holds v.state ≡ true → holds s.state ≡ false → (p q : Pid) → q.node ≡ s.peer → end_of n p q ≡ Absent
+  pub empty : (v : TrunkSide) → side_at n t0 ≡ Some v → holds v.state ≡ true → holds s.state ≡ false → (p q : Pid) → q.node ≡ s.peer → end_of n p q ≡ End.None
 
 beside_turned : (a b : State) → beside a b ≡ true → beside b a ≡ true
 beside_turned a b h = go (holds a) (asks b) (asks a) (holds b) h
@@ -61,16 +64,16 @@ beside_turned a b h = go (holds a) (asks b) (asks a) (holds b) h
     go false q true false h = cc
     go false q false s h = cc
 
-pub sides_after : (n : Node) (t0 : Trunk) (s : TrunkSide) → SidesKept n → Fits n t0 s → SidesKept (with_side_at n t0 s)
+pub sides_after : (n : Node) (t0 : TrunkId) (s : TrunkSide) → SidesKept n → Fits n t0 s → SidesKept (with_side_at n t0 s)
 sides_after n t0 s k f = record { one = one; other = other; mine = mine }
   where
-    by_trunk : (P : Type 0) (t : Trunk) → (t ≡ t0 → P) → ((t ≡ t0 → ⊥) → P) → P
+    by_trunk : (P : Type 0) (t : TrunkId) → (t ≡ t0 → P) → ((t ≡ t0 → ⊥) → P) → P
     by_trunk P t a b = by_test P (same_trunk t t0) (λ h. a (same_trunk_true t t0 h)) (λ h. b (λ e. let c : true ≡ false = sym (same_trunk_is t t0 e) ∙ h in cc))
 
-    at_same : (t : Trunk) (v : TrunkSide) → t ≡ t0 → side_at (with_side_at n t0 s) t ≡ Some v → s ≡ v
+    at_same : (t : TrunkId) (v : TrunkSide) → t ≡ t0 → side_at (with_side_at n t0 s) t ≡ Some v → s ≡ v
     at_same t v e h = some_same s v (sym (side_after_same n t0 s) ∙ ap (side_at (with_side_at n t0 s)) (sym e) ∙ h)
 
-    one : (t u : Trunk) (a b : TrunkSide) → side_at (with_side_at n t0 s) t ≡ Some a → side_at (with_side_at n t0 s) u ≡ Some b → a.peer ≡ b.peer → is_gone a.state ≡ false → is_gone b.state ≡ false → (t ≡ u) ⊎ (beside a.state b.state ≡ true)
+    one : (t u : TrunkId) (a b : TrunkSide) → side_at (with_side_at n t0 s) t ≡ Some a → side_at (with_side_at n t0 s) u ≡ Some b → a.peer ≡ b.peer → is_gone a.state ≡ false → is_gone b.state ≡ false → (t ≡ u) ⊎ (beside a.state b.state ≡ true)
     one t u a b ha hb e ga gb = by_trunk _ t
         (λ te. by_trunk _ u (λ ue. inl (te ∙ sym ue))
         (λ ud.
@@ -82,32 +85,32 @@ sides_after n t0 s k f = record { one = one; other = other; mine = mine }
         inr (beside_turned b.state a.state (subst (λ (z : TrunkSide). beside z.state a.state ≡ true) sb (f.room t a (sym (side_after_other n t0 s t td) ∙ ha) (e ∙ ap (λ (z : TrunkSide). z.peer) (sym sb)) td (ap (λ (z : TrunkSide). is_gone z.state) sb ∙ gb) ga))))
         (λ ud. k.one t u a b (sym (side_after_other n t0 s t td) ∙ ha) (sym (side_after_other n t0 s u ud) ∙ hb) e ga gb))
 
-    other : (t : Trunk) (a : TrunkSide) → side_at (with_side_at n t0 s) t ≡ Some a → a.peer ≡ n.name → ⊥
+    other : (t : TrunkId) (a : TrunkSide) → side_at (with_side_at n t0 s) t ≡ Some a → a.peer ≡ n.name → ⊥
     other t a ha e = by_trunk _ t (λ te. f.stranger (ap (λ (z : TrunkSide). z.peer) (at_same t a te ha) ∙ e)) (λ td. k.other t a (sym (side_after_other n t0 s t td) ∙ ha) e)
 
     role_of : (a : TrunkSide) → s ≡ a → (t0.dialer ≡ n.name) ⊎ (t0.dialer ≡ s.peer) → (t0.dialer ≡ n.name) ⊎ (t0.dialer ≡ a.peer)
     role_of a e (inl h) = inl h
     role_of a e (inr h) = inr (h ∙ ap (λ (z : TrunkSide). z.peer) e)
 
-    mine : (t : Trunk) (a : TrunkSide) → side_at (with_side_at n t0 s) t ≡ Some a → (t.dialer ≡ n.name) ⊎ (t.dialer ≡ a.peer)
+    mine : (t : TrunkId) (a : TrunkSide) → side_at (with_side_at n t0 s) t ≡ Some a → (t.dialer ≡ n.name) ⊎ (t.dialer ≡ a.peer)
     mine t a ha = by_trunk _ t
-        (λ te. subst (λ (z : Trunk). (z.dialer ≡ n.name) ⊎ (z.dialer ≡ a.peer)) (sym te) (role_of a (at_same t a te ha) f.role))
+        (λ te. subst (λ (z : TrunkId). (z.dialer ≡ n.name) ⊎ (z.dialer ≡ a.peer)) (sym te) (role_of a (at_same t a te ha) f.role))
         (λ td. k.mine t a (sym (side_after_other n t0 s t td) ∙ ha))
 
 -- a node that held y still does, but for the side itself
-pub held_is : (n : Node) (t : Trunk) (v : TrunkSide) → side_at n t ≡ Some v → holds v.state ≡ true → held n v.peer ≡ true
+pub held_is : (n : Node) (t : TrunkId) (v : TrunkSide) → side_at n t ≡ Some v → holds v.state ≡ true → held n v.peer ≡ true
 held_is n t v h u = go (side_where holds v.peer (fm.entries n.sides)) refl
   where
     or_right : (a b : Bool) → b ≡ true → (a || b) ≡ true
     or_right true b h = refl
     or_right false b h = h
 
-    go : (o : Option (Trunk × TrunkSide)) → side_where holds v.peer (fm.entries n.sides) ≡ o → held n v.peer ≡ true
+    go : (o : Option (TrunkId × TrunkSide)) → side_where holds v.peer (fm.entries n.sides) ≡ o → held n v.peer ≡ true
     go None e = let c : true ≡ false = sym u ∙ side_where_none holds v.peer (fm.entries n.sides) t v e (sym (fm.get-entries n.sides t) ∙ h) refl in cc
     go (Some e) i = or_right (same_name v.peer n.name) _ (ap is_some i)
 
 pub record Holder (n : Node) (y : Name) : Type 0 where
-  pub trunk : Trunk
+  pub trunk : TrunkId
   pub side : TrunkSide
   pub at : side_at n trunk ≡ Some side
   pub peer : side.peer ≡ y
@@ -120,14 +123,14 @@ held_by n y h = go (same_name y n.name) refl (side_where holds y (fm.entries n.s
     or_rest true b e h = cc
     or_rest false b e h = h
 
-    go : (b : Bool) → same_name y n.name ≡ b → (o : Option (Trunk × TrunkSide)) → side_where holds y (fm.entries n.sides) ≡ o → (same_name y n.name ≡ true) ⊎ Holder n y
+    go : (b : Bool) → same_name y n.name ≡ b → (o : Option (TrunkId × TrunkSide)) → side_where holds y (fm.entries n.sides) ≡ o → (same_name y n.name ≡ true) ⊎ Holder n y
     go true e o i = inl e
     go false e None i = let c : true ≡ false = sym (or_rest (same_name y n.name) _ e h) ∙ ap is_some i in cc
     go false e (Some d) i =
         let f = side_where_found holds y (fm.entries n.sides) d (fm.entries_sorted n.sides) i in
         inr (record { trunk = d.0; side = d.1; at = fm.get-entries n.sides d.0 ∙ f.there; peer = f.peer; holding = f.passes })
 
-pub nodes_after : (n : Node) (t0 : Trunk) (s : TrunkSide) → NodeKept n → Fits n t0 s → NodeKept (with_side_at n t0 s)
+pub nodes_after : (n : Node) (t0 : TrunkId) (s : TrunkSide) → NodeKept n → Fits n t0 s → NodeKept (with_side_at n t0 s)
 nodes_after n t0 s k f = record {
   born = k.born;
   rooted = λ p q e. let r = k.rooted p q e in (r.0, still p q e (held_by n q.node r.1), r.2);
@@ -139,7 +142,7 @@ nodes_after n t0 s k f = record {
     moved_to : (q : Pid) (y : Name) → y ≡ q.node → held (with_side_at n t0 s) y ≡ true → held (with_side_at n t0 s) q.node ≡ true
     moved_to q y e h = ap (held (with_side_at n t0 s)) (sym e) ∙ h
 
-    still : (p q : Pid) → (end_of n p q ≡ Absent → ⊥) → (same_name q.node n.name ≡ true) ⊎ Holder n q.node → held (with_side_at n t0 s) q.node ≡ true
+    still : (p q : Pid) → (end_of n p q ≡ End.None → ⊥) → (same_name q.node n.name ≡ true) ⊎ Holder n q.node → held (with_side_at n t0 s) q.node ≡ true
     still p q e (inl h) = or_left (same_name q.node n.name) _ h
     still p q e (inr g) = by_test _ (same_trunk g.trunk t0)
         (λ i.
@@ -153,7 +156,7 @@ nodes_after n t0 s k f = record {
         let td : g.trunk ≡ t0 → ⊥ = λ j. let c : true ≡ false = sym (same_trunk_is g.trunk t0 j) ∙ i in cc in
         moved_to q g.side.peer g.peer (held_is (with_side_at n t0 s) g.trunk g.side (side_after_other n t0 s g.trunk td ∙ g.at) g.holding))
 
-module _ (w : World) (x : Name) (n : Node) (t0 : Trunk) (s0 : TrunkSide) (hx : node_of w.nodes x ≡ Some n) (f : Fits n t0 s0)
+module _ (w : World) (x : Name) (n : Node) (t0 : TrunkId) (s0 : TrunkSide) (hx : node_of w.nodes x ≡ Some n) (f : Fits n t0 s0)
     (met0 : (t0.dialer ≡ x → ⊥) → Met w.nodes t0 x)
     -- what is claimed of the pairs on this trunk
     (claim : (z : Name) (b : Node) (v : TrunkSide) → node_of w.nodes z ≡ Some b → side_at b t0 ≡ Some v → s0.peer ≡ z → v.peer ≡ x
@@ -177,7 +180,7 @@ module _ (w : World) (x : Name) (n : Node) (t0 : Trunk) (s0 : TrunkSide) (hx : n
   by_name : (P : Type 0) (y : Name) → (x ≡ y → P) → ((x ≡ y → ⊥) → P) → P
   by_name P y g h = by_test P (same_name x y) (λ e. g (same_name_true x y e)) (λ e. h (λ i. let c : true ≡ false = sym (same_name_is x y i) ∙ e in cc))
 
-  by_trunk : (P : Type 0) (t : Trunk) → (t ≡ t0 → P) → ((t ≡ t0 → ⊥) → P) → P
+  by_trunk : (P : Type 0) (t : TrunkId) → (t ≡ t0 → P) → ((t ≡ t0 → ⊥) → P) → P
   by_trunk P t a b = by_test P (same_trunk t t0) (λ h. a (same_trunk_true t t0 h)) (λ h. b (λ e. let c : true ≡ false = sym (same_trunk_is t t0 e) ∙ h in cc))
 
   own : (y : Name) (a : Node) → x ≡ y → node_of (set_node w.nodes x n1) y ≡ Some a → n1 ≡ a
@@ -195,11 +198,11 @@ module _ (w : World) (x : Name) (n : Node) (t0 : Trunk) (s0 : TrunkSide) (hx : n
   unfolding n1
   at_same = side_after_same n t0 s0
 
-  at_other : (t : Trunk) → (t ≡ t0 → ⊥) → side_at n1 t ≡ side_at n t
+  at_other : (t : TrunkId) → (t ≡ t0 → ⊥) → side_at n1 t ≡ side_at n t
   unfolding n1
   at_other t d = side_after_other n t0 s0 t d
 
-  met_still : (t : Trunk) (y : Name) → Met w.nodes t y → Met (set_node w.nodes x n1) t y
+  met_still : (t : TrunkId) (y : Name) → Met w.nodes t y → Met (set_node w.nodes x n1) t y
   met_still t y u = by_name (Met (set_node w.nodes x n1) t y) t.dialer
       (λ e.
       let same : n ≡ u.dialer = some_same n u.dialer (sym hx ∙ ap (node_of w.nodes) e ∙ u.at) in
@@ -210,15 +213,15 @@ module _ (w : World) (x : Name) (n : Node) (t0 : Trunk) (s0 : TrunkSide) (hx : n
       (λ td. record { dialer = n1; at = at; side = u.side; there = at_other t td ∙ old; peer = u.peer }))
       (λ d. record { dialer = u.dialer; at = there t.dialer d ∙ u.at; side = u.side; there = u.there; peer = u.peer })
 
-  new_met : (y : Name) (a : Node) (t : Trunk) (s : TrunkSide) → node_of (set_node w.nodes x n1) y ≡ Some a → side_at a t ≡ Some s → (t.dialer ≡ y → ⊥) → Met (set_node w.nodes x n1) t y
+  new_met : (y : Name) (a : Node) (t : TrunkId) (s : TrunkSide) → node_of (set_node w.nodes x n1) y ≡ Some a → side_at a t ≡ Some s → (t.dialer ≡ y → ⊥) → Met (set_node w.nodes x n1) t y
   new_met y a t s h g d = by_name (Met (set_node w.nodes x n1) t y) y
       (λ e. by_trunk (Met (set_node w.nodes x n1) t y) t
-      (λ te. met_still t y (subst (λ z. Met w.nodes t z) e (subst (λ z. Met w.nodes z x) (sym te) (met0 (λ i. d (ap (λ (z : Trunk). z.dialer) te ∙ i ∙ e))))))
+      (λ te. met_still t y (subst (λ z. Met w.nodes t z) e (subst (λ z. Met w.nodes z x) (sym te) (met0 (λ i. d (ap (λ (z : TrunkId). z.dialer) te ∙ i ∙ e))))))
       (λ td. met_still t y (subst (λ z. Met w.nodes t z) e (k.met x n t s hx (sym (at_other t td) ∙ ap (λ v. side_at v t) (own y a e h) ∙ g) (λ i. d (i ∙ e))))))
       (λ e. met_still t y (k.met y a t s (sym (there y e) ∙ h) g d))
 
   -- a pair of which one process is of x
-  new_at_x : (z : Name) (b : Node) (t : Trunk) (s v : TrunkSide) → node_of w.nodes z ≡ Some b → side_at n1 t ≡ Some s → side_at b t ≡ Some v → s.peer ≡ z → v.peer ≡ x
+  new_at_x : (z : Name) (b : Node) (t : TrunkId) (s v : TrunkSide) → node_of w.nodes z ≡ Some b → side_at n1 t ≡ Some s → side_at b t ≡ Some v → s.peer ≡ z → v.peer ≡ x
       → ((is_up s.state ≡ true) × (joined v.state ≡ true)) ⊎ ((joined s.state ≡ true) × (is_up v.state ≡ true)) → (p q : Pid) → p.node ≡ x → q.node ≡ z
       → Kept (side_of n p q (signals p q (list_to w.lists t z))) (side_of b q p (signals q p (list_to w.lists t x)))
   new_at_x z b t s v hb fs fv sz vx j p q pn qn = by_trunk _ t
@@ -262,7 +265,7 @@ module _ (w : World) (x : Name) (n : Node) (t0 : Trunk) (s0 : TrunkSide) (hx : n
   resided = record { nodes = new_nodes; sides = new_sides; met = new_met; trunks = new_trunks }
 
 -- a side that stops taking part, and holds no records any more or goes on to hold them
-pub drops : (w : World) (x : Name) (n : Node) (t : Trunk) (v s : TrunkSide) → node_of w.nodes x ≡ Some n → side_at n t ≡ Some v → v.peer ≡ s.peer → joined s.state ≡ false
+pub drops : (w : World) (x : Name) (n : Node) (t : TrunkId) (v s : TrunkSide) → node_of w.nodes x ≡ Some n → side_at n t ≡ Some v → v.peer ≡ s.peer → joined s.state ≡ false
     → Fits n t s → WorldKept w → WorldKept (record { names = w.names; nodes = set_node w.nodes x (with_side_at n t s); lists = w.lists })
 drops w x n t v s hx hv e j f k = resided w x n t s hx f (λ d. k.met x n t v hx hv d)
     (λ z b u hb fb sz ux c p q pn qn. absurd (none u c)) k
@@ -272,7 +275,7 @@ drops w x n t v s hx hv e j f k = resided w x n t s hx f (λ d. k.met x n t v hx
     none u (inr h) = let c : true ≡ false = sym h.0 ∙ j in cc
 
 -- the dialer's side that gets the acceptance is up
-pub comes_up : (w : World) (x : Name) (n : Node) (t : Trunk) (v s : TrunkSide) → node_of w.nodes x ≡ Some n → side_at n t ≡ Some v → v.peer ≡ s.peer → joined v.state ≡ true → is_up v.state ≡ false
+pub comes_up : (w : World) (x : Name) (n : Node) (t : TrunkId) (v s : TrunkSide) → node_of w.nodes x ≡ Some n → side_at n t ≡ Some v → v.peer ≡ s.peer → joined v.state ≡ true → is_up v.state ≡ false
     -- the acceptor's side is never a dialer's
     → ((z : Name) (b : Node) (u : TrunkSide) → node_of w.nodes z ≡ Some b → side_at b t ≡ Some u → v.peer ≡ z → joined u.state ≡ true → is_up u.state ≡ true)
     → Fits n t s → WorldKept w → WorldKept (record { names = w.names; nodes = set_node w.nodes x (with_side_at n t s); lists = w.lists })
@@ -284,7 +287,7 @@ comes_up w x n t v s hx hv e j nu acceptor f k = resided w x n t s hx f (λ d. k
     up z b u hb fb sz (inr h) = h.1
 
 -- a side that neither holds nor asks nor is gone is alone: the node holds nothing of the peer
-pub alone : (n : Node) (t : Trunk) (v : TrunkSide) → SidesKept n → side_at n t ≡ Some v → is_gone v.state ≡ false → holds v.state ≡ false → asks v.state ≡ false → held n v.peer ≡ false
+pub alone : (n : Node) (t : TrunkId) (v : TrunkSide) → SidesKept n → side_at n t ≡ Some v → is_gone v.state ≡ false → holds v.state ≡ false → asks v.state ≡ false → held n v.peer ≡ false
 alone n t v k h ng nh na = by_test _ (held n v.peer) (λ e. absurd (go (held_by n v.peer e))) (λ e. e)
   where
     no : (a b c d : Bool) → a ≡ false → c ≡ false → ((a && b) || (c && d)) ≡ true → ⊥
@@ -302,7 +305,7 @@ alone n t v k h ng nh na = by_test _ (held n v.peer) (λ e. absurd (go (held_by 
     go (inl e) = k.other t v h (same_name_true v.peer n.name e)
     go (inr g) = pick g (k.one t g.trunk v g.side h g.at (sym g.peer) ng (holds_kinds g.side.state g.holding).0)
 
-blank_half : (g h : Bool) (n m : ℕ) → Half (record { end = Absent; gone = g; drawn = n; sent = [] }) (record { end = Absent; gone = h; drawn = m; sent = [] })
+blank_half : (g h : Bool) (n m : ℕ) → Half (record { end = End.None; gone = g; drawn = n; sent = [] }) (record { end = End.None; gone = h; drawn = m; sent = [] })
 blank_half g h n m = record {
   pending_says = λ x y i e. cc;
   says_pending = λ x y i e. cc;
@@ -313,15 +316,15 @@ blank_half g h n m = record {
   idle = λ x. refl;
 }
 
--- two that aren't linked, with nothing between them
-pub blank : (a b : Side) → a.end ≡ Absent → b.end ≡ Absent → a.sent ≡ [] → b.sent ≡ [] → Kept a b
+-- two that aren't linked_side, with nothing between them
+pub blank : (a b : Side) → a.end ≡ End.None → b.end ≡ End.None → a.sent ≡ [] → b.sent ≡ [] → Kept a b
 blank a b ea eb sa sb =
-    subst (λ c. Kept c b) (side_path (record { end = Absent; gone = a.gone; drawn = a.drawn; sent = [] }) a (sym ea) refl refl (sym sa))
-    (subst (λ c. Kept (record { end = Absent; gone = a.gone; drawn = a.drawn; sent = [] }) c) (side_path (record { end = Absent; gone = b.gone; drawn = b.drawn; sent = [] }) b (sym eb) refl refl (sym sb))
+    subst (λ c. Kept c b) (side_path (record { end = End.None; gone = a.gone; drawn = a.drawn; sent = [] }) a (sym ea) refl refl (sym sa))
+    (subst (λ c. Kept (record { end = End.None; gone = a.gone; drawn = a.drawn; sent = [] }) c) (side_path (record { end = End.None; gone = b.gone; drawn = b.drawn; sent = [] }) b (sym eb) refl refl (sym sb))
     (record { one = blank_half a.gone b.gone a.drawn b.drawn; other = blank_half b.gone a.gone b.drawn a.drawn; agree = λ x y. (λ h. h, λ h. h) }))
 
 -- the acceptor's side is up once the digest was right
-pub accepts_up : (w : World) (x : Name) (n : Node) (t : Trunk) (v s : TrunkSide) → node_of w.nodes x ≡ Some n → side_at n t ≡ Some v → v.peer ≡ s.peer
+pub accepts_up : (w : World) (x : Name) (n : Node) (t : TrunkId) (v s : TrunkSide) → node_of w.nodes x ≡ Some n → side_at n t ≡ Some v → v.peer ≡ s.peer
     → is_gone v.state ≡ false → holds v.state ≡ false → asks v.state ≡ false
     -- nothing about links was sent on this trunk, and the dialer isn't up
     → ((p q : Pid) → signals p q (list_to w.lists t x) ≡ []) → ((p q : Pid) → signals p q (list_to w.lists t s.peer) ≡ [])
@@ -330,8 +333,8 @@ pub accepts_up : (w : World) (x : Name) (n : Node) (t : Trunk) (v s : TrunkSide)
 accepts_up w x n t v s hx hv e ng nh na none_x none_p dialer f k = resided w x n t s hx f (λ d. k.met x n t v hx hv d)
     (λ z b u hb fb sz ux c p q pn qn.
     let j : joined u.state ≡ true = of_other u c in
-    let a1 : end_of n p q ≡ Absent = unheld_absent n p q (k.nodes x n hx) (ap (held n) (qn ∙ sym sz ∙ sym e) ∙ alone n t v (k.sides x n hx) hv ng nh na) in
-    let a2 : end_of b q p ≡ Absent = unheld_absent b q p (k.nodes z b hb) (ap (held b) (pn ∙ sym ux) ∙ not_held b t u (k.sides z b hb) fb j (dialer z b u hb fb (e ∙ sz) j)) in
+    let a1 : end_of n p q ≡ End.None = unheld_absent n p q (k.nodes x n hx) (ap (held n) (qn ∙ sym sz ∙ sym e) ∙ alone n t v (k.sides x n hx) hv ng nh na) in
+    let a2 : end_of b q p ≡ End.None = unheld_absent b q p (k.nodes z b hb) (ap (held b) (pn ∙ sym ux) ∙ not_held b t u (k.sides z b hb) fb j (dialer z b u hb fb (e ∙ sz) j)) in
     blank (side_of n p q (signals p q (list_to w.lists t z))) (side_of b q p (signals q p (list_to w.lists t x))) a1 a2 (ap (λ c. signals p q (list_to w.lists t c)) (sym sz) ∙ none_p p q) (none_x q p)) k
   where
     of_other : (u : TrunkSide) → ((is_up s.state ≡ true) × (joined u.state ≡ true)) ⊎ ((joined s.state ≡ true) × (is_up u.state ≡ true)) → joined u.state ≡ true
@@ -339,7 +342,7 @@ accepts_up w x n t v s hx hv e ng nh na none_x none_p dialer f k = resided w x n
     of_other u (inr h) = up_joined u.state h.1
 
 -- the dialer replies: the acceptor isn't up yet
-pub replies_to : (w : World) (x : Name) (n : Node) (t : Trunk) (v s : TrunkSide) → node_of w.nodes x ≡ Some n → side_at n t ≡ Some v → v.peer ≡ s.peer → is_up s.state ≡ false
+pub replies_to : (w : World) (x : Name) (n : Node) (t : TrunkId) (v s : TrunkSide) → node_of w.nodes x ≡ Some n → side_at n t ≡ Some v → v.peer ≡ s.peer → is_up s.state ≡ false
     → ((z : Name) (b : Node) (u : TrunkSide) → node_of w.nodes z ≡ Some b → side_at b t ≡ Some u → v.peer ≡ z → is_up u.state ≡ false)
     → Fits n t s → WorldKept w → WorldKept (record { names = w.names; nodes = set_node w.nodes x (with_side_at n t s); lists = w.lists })
 replies_to w x n t v s hx hv e nu dialer f k = resided w x n t s hx f (λ d. k.met x n t v hx hv d)

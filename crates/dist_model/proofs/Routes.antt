@@ -6,14 +6,17 @@ use Rattle.std.specs.declared.cmp.Ordering.TheVariants.{Less, Equal, Greater}
 use Rattle.std.specs.Ordering.{is_eq, is_lt, eq_by_cmp}
 use Rattle.std.specs.Cmp.{tied_itself}
 use Rattle.std.specs.FinMap as fm
-use Rattle.std.specs.FinMap.{FinMap}
 use Rattle.std.specs.FinMap.Entries.{find, is_sorted, below_all}
-use Rattle.dist_model.specs.Term.{Name}
-use Rattle.dist_model.specs.Orders.{Trunk, trunk_cmp, place_cmp, same_name}
-use Rattle.dist_model.specs.Node.{Item, State, TrunkSide, Node, Envelope, is_up, route_in}
-use Rattle.dist_model.specs.Step.{side_where}
-use Rattle.dist_model.specs.World.{node_of, set_node, list_in, list_to, carried}
-use Rattle.dist_model.proofs.Keys.{trunk_total, place_total, same_trunk, same_place, same_trunk_true, same_trunk_is, same_name_true, same_name_is, and_both}
+use Rattle.dist_model.proofs.Keys.{and_both, place_total, same_name_is, same_name_true, same_place, same_trunk, same_trunk_is, same_trunk_true, trunk_total}
+use Rattle.dist_model.specs.Items.{Item}
+use Rattle.dist_model.specs.Names.{Name, place_cmp, same_name}
+use Rattle.dist_model.specs.Node.{Node, route_in, side_where}
+use Rattle.dist_model.specs.Sides.{State, TrunkSide, is_up}
+use Rattle.dist_model.specs.Work.{Envelope}
+use Rattle.dist_model.specs.World.{carried, list_in, list_to, node_of, set_node}
+use Rattle.erl_names.specs.Order.{trunk_cmp}
+use Rattle.erl_names.specs.declared.trunk.TrunkId.{TrunkId}
+use Rattle.std.specs.FinMap.{FinMap}
 
 -- nodes
 pub some_same : {A : Type 0} (a b : A) → Some a ≡ Some b → a ≡ b
@@ -54,7 +57,7 @@ node_of_set_other (k ∷ ns) x y m e d = go (same_name k.name x) refl (node_of_s
     go false i f = ap (cond (same_name k.name y) (Some k)) f
 
 -- lists
-abbrev pub at_place : Trunk → Name → List Envelope → List Item
+abbrev pub at_place : TrunkId → Name → List Envelope → List Item
 at_place t y [] = []
 at_place t y (e ∷ es) = cond (same_trunk t e.trunk && same_name y e.target) (e.item ∷ []) [] ++ at_place t y es
 
@@ -62,14 +65,14 @@ list_cond : (b : Bool) (l : List Item) (x : Item) (o : Option (List Item)) → l
 list_cond true l x o = refl
 list_cond false l x o = refl
 
-pub list_to_insert : (m : FinMap place_cmp (List Item)) (u : Trunk) (z : Name) (l : List Item) (t : Trunk) (y : Name) → list_to (fm.insert m (u, z) l) t y ≡ cond (same_trunk t u && same_name y z) l (list_to m t y)
+pub list_to_insert : (m : FinMap place_cmp (List Item)) (u : TrunkId) (z : Name) (l : List Item) (t : TrunkId) (y : Name) → list_to (fm.insert m (u, z) l) t y ≡ cond (same_trunk t u && same_name y z) l (list_to m t y)
 list_to_insert m u z l t y = ap list_in (fm.get-insert place_total m (u, z) l (t, y)) ∙ go (eq_by_cmp place_cmp (t, y) (u, z)) ∙ ap (λ b. cond b l (list_to m t y)) (same_place t u y z)
   where
     go : (b : Bool) → list_in (cond b (Some l) (fm.get m (t, y))) ≡ cond b l (list_in (fm.get m (t, y)))
     go true = refl
     go false = refl
 
-pub list_to_carried : (m : FinMap place_cmp (List Item)) (es : List Envelope) (t : Trunk) (y : Name) → list_to (carried m es) t y ≡ list_to m t y ++ at_place t y es
+pub list_to_carried : (m : FinMap place_cmp (List Item)) (es : List Envelope) (t : TrunkId) (y : Name) → list_to (carried m es) t y ≡ list_to m t y ++ at_place t y es
 list_to_carried m [] t y = sym (append-nil (list_to m t y))
 list_to_carried m (e ∷ es) t y =
     list_to_carried (fm.insert m (e.trunk, e.target) (list_to m e.trunk e.target ++ e.item ∷ [])) es t y
@@ -95,7 +98,7 @@ T_less Equal h = absurd h
 T_less Greater h = absurd h
 
 -- a key of the rest isn't the first key
-pub below_find : (t u : Trunk) (s : TrunkSide) (es : List (Trunk × TrunkSide)) → T (below_all trunk_cmp u es) → find trunk_cmp t es ≡ Some s → same_trunk t u ≡ false
+pub below_find : (t u : TrunkId) (s : TrunkSide) (es : List (TrunkId × TrunkSide)) → T (below_all trunk_cmp u es) → find trunk_cmp t es ≡ Some s → same_trunk t u ≡ false
 below_find t u s [] b h = absurd (none_some s h)
 below_find t u s (e ∷ es) b h = go (same_trunk t e.0) refl h (below_find t u s es (T_and (is_lt (trunk_cmp u e.0)) (below_all trunk_cmp u es) b).1)
   where
@@ -110,15 +113,15 @@ below_find t u s (e ∷ es) b h = go (same_trunk t e.0) refl h (below_find t u s
         pick false j a c = j
     go false i h f = f h
 
-pub record Found (test : State → Bool) (y : Name) (es : List (Trunk × TrunkSide)) (e : Trunk × TrunkSide) : Type 0 where
+pub record Found (test : State → Bool) (y : Name) (es : List (TrunkId × TrunkSide)) (e : TrunkId × TrunkSide) : Type 0 where
   pub there : find trunk_cmp e.0 es ≡ Some e.1
   pub peer : e.1.peer ≡ y
   pub passes : test e.1.state ≡ true
 
-first_there : (e : Trunk × TrunkSide) (es : List (Trunk × TrunkSide)) → find trunk_cmp e.0 (e ∷ es) ≡ Some e.1
+first_there : (e : TrunkId × TrunkSide) (es : List (TrunkId × TrunkSide)) → find trunk_cmp e.0 (e ∷ es) ≡ Some e.1
 first_there e es = ap (λ r. cond (is_eq r) (Some e.1) (find trunk_cmp e.0 es)) (tied_itself trunk_total e.0)
 
-pub side_where_found : (test : State → Bool) (y : Name) (es : List (Trunk × TrunkSide)) (e : Trunk × TrunkSide) → T (is_sorted trunk_cmp es) → side_where test y es ≡ Some e → Found test y es e
+pub side_where_found : (test : State → Bool) (y : Name) (es : List (TrunkId × TrunkSide)) (e : TrunkId × TrunkSide) → T (is_sorted trunk_cmp es) → side_where test y es ≡ Some e → Found test y es e
 side_where_found test y [] e s h = absurd (none_some e h)
 side_where_found test y (d ∷ es) e s h =
     let t = T_and (below_all trunk_cmp d.0 es) (is_sorted trunk_cmp es) s in
@@ -132,7 +135,7 @@ side_where_found test y (d ∷ es) e s h =
         let g = f h in
         record { there = ap (λ b. cond b (Some d.1) (find trunk_cmp e.0 es)) (below_find e.0 d.0 e.1 es t g.there) ∙ g.there; peer = g.peer; passes = g.passes }
 
-pub side_where_none : (test : State → Bool) (y : Name) (es : List (Trunk × TrunkSide)) (t : Trunk) (s : TrunkSide) → side_where test y es ≡ None → find trunk_cmp t es ≡ Some s → s.peer ≡ y → test s.state ≡ false
+pub side_where_none : (test : State → Bool) (y : Name) (es : List (TrunkId × TrunkSide)) (t : TrunkId) (s : TrunkSide) → side_where test y es ≡ None → find trunk_cmp t es ≡ Some s → s.peer ≡ y → test s.state ≡ false
 side_where_none test y [] t s h f p = absurd (none_some s f)
 side_where_none test y (d ∷ es) t s h f p = go (same_name d.1.peer y && test d.1.state) refl h (same_trunk t d.0) f (λ n g. side_where_none test y es t s n g p)
   where
@@ -149,11 +152,11 @@ side_where_none test y (d ∷ es) t s h f p = go (same_name d.1.peer y && test d
     go false i h false f k = k h f
 
 -- the route is the first side that is up
-abbrev pub fst_of : Option (Trunk × TrunkSide) → Option Trunk
+abbrev pub fst_of : Option (TrunkId × TrunkSide) → Option TrunkId
 fst_of None = None
 fst_of (Some e) = Some e.0
 
-pub route_is : (es : List (Trunk × TrunkSide)) (y : Name) → route_in es y ≡ fst_of (side_where is_up y es)
+pub route_is : (es : List (TrunkId × TrunkSide)) (y : Name) → route_in es y ≡ fst_of (side_where is_up y es)
 route_is [] y = refl
 route_is (e ∷ es) y = go (same_name e.1.peer y && is_up e.1.state) (route_is es y)
   where

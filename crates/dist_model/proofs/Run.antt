@@ -1,31 +1,38 @@
 -- Every step keeps the world good.
-use Rattle.dist_model.specs.Step.{handshake_at, arrive_fresh, handshake_in, signal_at, started, at_work, Outcome, Refuses, Goes, fault, lose, awaits_challenge, awaits_ack, dig, has_flags, Done, arrive_at, start, awaits_true, take_local}
-use Rattle.dist_model.proofs.Routes.{none_some, some_same, node_of_name}
-use Rattle.dist_model.specs.Node.{HandshakeMessage, Tick, Item, LinkSignal, Message, Exit2, MonitorP, DemonitorP, MonitorPExit, Handshake, ChallengeAck, ChallengeReply, Challenge, SendName, StatusTrue, StatusFalse, StatusOk, StatusOkSimultaneous, StatusNok, StatusNotAllowed, StatusAlive, State, AwaitsStatus, AwaitsChallenge, AwaitsAck, Asked, Parked, Accepting, Up, Losing, Gone, TrunkSide, Node, is_up}
 use Rattle.std.proofs.Common.{◌≡◌, ℕ, ◌+◌, Bool, true, false, cond, not, List, [], ◌∷◌, refl, sym, ap, ◌∙◌, ◌&&◌, Option, Some, None, nat_lt, ◌==◌, ◌^◌}
 use Rattle.std.specs.Option.{is_some}
 use Rattle.std.specs.FinMap as fm
-use Rattle.std.specs.FinMap.{FinMap}
-use Rattle.dist_model.specs.Term.{Name}
-use Rattle.dist_model.specs.Orders.{Trunk, place_cmp, same_name}
-use Rattle.dist_model.specs.World.{World, node_of, set_node, list_to, carried, Stepped, ends_in, Event, Call, Arrive, Local, Lose, Sweep, Dial, Stop, Start, arrives_first, is_over, arrives, running, step_at, node_name, step, run, refused}
-use Rattle.dist_model.proofs.Keys.{same_trunk_refl, same_name_refl, and_both, place_total, same_place}
+use Rattle.dist_model.proofs.Arrivals.{acceptance_comes, broken, challenge_comes, good_awaits_reply, good_awaits_status, good_lose, good_on_up, unless}
 use Rattle.dist_model.proofs.Calls.{IfGoes}
-use Rattle.dist_model.proofs.Sides.{side_at}
-use Rattle.dist_model.proofs.Table.{Good, good_call}
-use Rattle.dist_model.proofs.Primitives.{good_popped}
-use Rattle.dist_model.proofs.Fresh.{fresh_hello, fresh_fault, asked_on}
-use Rattle.dist_model.proofs.Arrivals.{broken, unless, good_awaits_status, good_awaits_reply, good_on_up, good_lose, challenge_comes, acceptance_comes}
+use Rattle.dist_model.proofs.Closing.{good_started, good_stopped, good_sweep}
+use Rattle.dist_model.proofs.Fresh.{asked_on, fresh_fault, fresh_hello}
+use Rattle.dist_model.proofs.Keys.{and_both, place_total, same_name_refl, same_place, same_trunk_refl}
 use Rattle.dist_model.proofs.NewSides.{good_dial}
-use Rattle.dist_model.proofs.Closing.{good_sweep, good_stopped, good_started}
+use Rattle.dist_model.proofs.Primitives.{good_popped}
+use Rattle.dist_model.proofs.Routes.{node_of_name, none_some, some_same}
+use Rattle.dist_model.proofs.Sides.{side_at}
 use Rattle.dist_model.proofs.Signals.{good_local}
+use Rattle.dist_model.proofs.Table.{Good, good_call}
+use Rattle.dist_model.specs.Arrivals.{arrive_at, arrive_fresh, handshake_at, handshake_in, signal_at, take_local}
+use Rattle.dist_model.specs.Commands.{Done, Goes, Outcome, Refuses}
+use Rattle.dist_model.specs.Handshake.{awaits_ack, awaits_challenge, awaits_true, dig, fault, has_flags}
+use Rattle.dist_model.specs.Incarnations.{start, started}
+use Rattle.dist_model.specs.Items.{AboutLink, Challenge, ChallengeAck, ChallengeReply, DemonitorP, Exit2, Handshake, HandshakeMessage, Item, Message, MonitorP, MonitorPExit, SendName, StatusAlive, StatusFalse, StatusNok, StatusNotAllowed, StatusOk, StatusOkSimultaneous, StatusTrue, Tick}
+use Rattle.dist_model.specs.Losses.{lose}
+use Rattle.dist_model.specs.Names.{Name, place_cmp, same_name}
+use Rattle.dist_model.specs.Node.{Node}
+use Rattle.dist_model.specs.Sides.{Accepting, Asked, AwaitsAck, AwaitsChallenge, AwaitsStatus, Gone, Losing, Parked, State, TrunkSide, Up, is_up}
+use Rattle.dist_model.specs.Work.{at_work}
+use Rattle.dist_model.specs.World.{Arrive, Call, Dial, Event, Local, Lose, Start, Stepped, Stop, Sweep, World, arrives, arrives_first, carried, ends_in, is_over, list_to, node_name, node_of, refused, run, running, set_node, step, step_at}
+use Rattle.erl_names.specs.declared.trunk.TrunkId.{TrunkId}
+use Rattle.std.specs.FinMap.{FinMap}
 
-popped_world : World → Trunk → Name → List Item → World
+popped_world : World → TrunkId → Name → List Item → World
 popped_world w t x rest = record { names = w.names; nodes = w.nodes; lists = fm.insert w.lists (t, x) rest }
 
 handshake_is : (i : Item) (m : HandshakeMessage) → handshake_in i ≡ Some m → i ≡ Handshake m
 handshake_is (Handshake l) m h = ap Handshake (some_same l m h)
-handshake_is (LinkSignal a b c) m h = absurd (none_some m h)
+handshake_is (AboutLink a b c) m h = absurd (none_some m h)
 handshake_is (Message a b) m h = absurd (none_some m h)
 handshake_is (Exit2 a b c) m h = absurd (none_some m h)
 handshake_is (MonitorP a b c) m h = absurd (none_some m h)
@@ -33,7 +40,7 @@ handshake_is (DemonitorP a b c) m h = absurd (none_some m h)
 handshake_is (MonitorPExit a b c d) m h = absurd (none_some m h)
 handshake_is Tick m h = absurd (none_some m h)
 
-module _ (w : World) (x : Name) (n : Node) (t : Trunk) (v : TrunkSide) (rest : List Item) (hx : node_of w.nodes x ≡ Some n) (h : side_at n t ≡ Some v) (g : Good w) where
+module _ (w : World) (x : Name) (n : Node) (t : TrunkId) (v : TrunkSide) (rest : List Item) (hx : node_of w.nodes x ≡ Some n) (h : side_at n t ≡ Some v) (g : Good w) where
   abbrev To : Item → Outcome → Type 0
   To i o = list_to w.lists t x ≡ i ∷ rest → IfGoes o (λ p. Good (record { names = w.names; nodes = set_node w.nodes x p.node; lists = carried (fm.insert w.lists (t, x) rest) p.sent }))
 
@@ -110,12 +117,12 @@ ends_well : (w : World) (x : Name) (m : FinMap place_cmp (List Item)) (o : Outco
 ends_well w x m (Refuses k) g h = g
 ends_well w x m (Goes a o) g h = h
 
-first_known : (w : World) (x : Name) (n : Node) (t : Trunk) (v : TrunkSide) (k : ℕ) (l : List Item) → node_of w.nodes x ≡ Some n → side_at n t ≡ Some v → Good w → list_to w.lists t x ≡ l → Good ((arrives_first w n t x k (Some v) l).world)
+first_known : (w : World) (x : Name) (n : Node) (t : TrunkId) (v : TrunkSide) (k : ℕ) (l : List Item) → node_of w.nodes x ≡ Some n → side_at n t ≡ Some v → Good w → list_to w.lists t x ≡ l → Good ((arrives_first w n t x k (Some v) l).world)
 first_known w x n t v k [] hx h g e = g
 first_known w x n t v k (i ∷ rest) hx h g e = ends_well w x (fm.insert w.lists (t, x) rest) (arrive_at (handshake_in i) t v i (at_work n)) g (by_kind w x n t v rest hx h g (handshake_in i) i refl e)
 
 -- a fresh side, any item
-module _ (w : World) (x : Name) (n : Node) (hx : node_of w.nodes x ≡ Some n) (g : Good w) (t : Trunk) (far : same_name t.dialer n.name ≡ false) (key : is_some (fm.get w.lists (t, x)) ≡ true) (none : side_at n t ≡ None) where
+module _ (w : World) (x : Name) (n : Node) (hx : node_of w.nodes x ≡ Some n) (g : Good w) (t : TrunkId) (far : same_name t.dialer n.name ≡ false) (key : is_some (fm.get w.lists (t, x)) ≡ true) (none : side_at n t ≡ None) where
   abbrev Well : Outcome → Type 0
   Well o = IfGoes o (λ p. Good (record { names = w.names; nodes = set_node w.nodes x p.node; lists = carried w.lists p.sent }))
 
@@ -136,7 +143,7 @@ module _ (w : World) (x : Name) (n : Node) (hx : node_of w.nodes x ≡ Some n) (
   fresh_item (Some (ChallengeReply a b)) z = bad
   fresh_item (Some (ChallengeAck a)) z = bad
 
-first_fresh : (w : World) (x : Name) (n : Node) (t : Trunk) (k : ℕ) (l : List Item) → node_of w.nodes x ≡ Some n → side_at n t ≡ None → Good w → is_some (fm.get w.lists (t, x)) ≡ true → same_name t.dialer x ≡ false → list_to w.lists t x ≡ l → Good ((arrives_first w n t x k None l).world)
+first_fresh : (w : World) (x : Name) (n : Node) (t : TrunkId) (k : ℕ) (l : List Item) → node_of w.nodes x ≡ Some n → side_at n t ≡ None → Good w → is_some (fm.get w.lists (t, x)) ≡ true → same_name t.dialer x ≡ false → list_to w.lists t x ≡ l → Good ((arrives_first w n t x k None l).world)
 first_fresh w x n t k [] hx none g key far e = g
 first_fresh w x n t k (i ∷ rest) hx none g key far e =
     ends_well w x (fm.insert w.lists (t, x) rest) (arrive_fresh (handshake_in i) t k (at_work n)) g
@@ -152,7 +159,7 @@ not_is_false : (b : Bool) → not b ≡ true → b ≡ false
 not_is_false true h = cc
 not_is_false false h = refl
 
-good_arrives : (w : World) (x : Name) (n : Node) (t : Trunk) (k : ℕ) (o : Option TrunkSide) → node_of w.nodes x ≡ Some n → side_at n t ≡ o → Good w → Good ((arrives w n t x k o).world)
+good_arrives : (w : World) (x : Name) (n : Node) (t : TrunkId) (k : ℕ) (o : Option TrunkSide) → node_of w.nodes x ≡ Some n → side_at n t ≡ o → Good w → Good ((arrives w n t x k o).world)
 good_arrives w x n t k None hx h g = go (is_some (fm.get w.lists (t, x)) && not (same_name t.dialer x)) refl
   where
     go : (b : Bool) → (is_some (fm.get w.lists (t, x)) && not (same_name t.dialer x)) ≡ b → Good ((cond b (arrives_first w n t x k None (list_to w.lists t x)) (refused w 18)).world)
@@ -168,7 +175,7 @@ good_local_list : (w : World) (x : Name) (n : Node) (l : List Item) → node_of 
 good_local_list w x n [] hx e g = g
 good_local_list w x n (i ∷ xs) hx e g = good_local w x n i xs hx g e
 
-good_lose_any : (w : World) (x : Name) (n : Node) (t : Trunk) (o : Option TrunkSide) → node_of w.nodes x ≡ Some n → side_at n t ≡ o → Good w → Good ((ends_in w x w.lists (lose n t o)).world)
+good_lose_any : (w : World) (x : Name) (n : Node) (t : TrunkId) (o : Option TrunkSide) → node_of w.nodes x ≡ Some n → side_at n t ≡ o → Good w → Good ((ends_in w x w.lists (lose n t o)).world)
 good_lose_any w x n t None hx h g = g
 good_lose_any w x n t (Some v) hx h g = good_lose w x n t v hx h g
 

@@ -1,26 +1,33 @@
 -- What the kept facts say, and that they hold of an opening world.
-use Rattle.dist_model.specs.Node.{Tick, Item, LinkSignal, Message, Exit2, MonitorP, DemonitorP, MonitorPExit, Handshake, State, AwaitsStatus, AwaitsChallenge, AwaitsAck, Asked, Parked, Accepting, Up, Losing, Gone, TrunkSide, Node, end_of, living, never, is_up}
+use Rattle.std.proofs.Common.{Contains}
 use Rattle.std.proofs.Common.{◌≡◌, ℕ, Bool, true, false, cond, not, List, [], ◌∷◌, refl, sym, ap, ◌∙◌, subst, ◌&&◌, ◌||◌, ◌++◌, Option, Some, None, ◌⊎◌, inl, inr, ◌↔◌}
 use Rattle.std.specs.Option.{is_some}
 use Rattle.std.specs.FinMap as fm
-use Rattle.dist_model.specs.Term.{Name, Pid}
-use Rattle.dist_model.specs.Pair.{Signal, drained, Unlinked, last_word, acks, has_link, End, Absent, Active, Pending}
-use Rattle.dist_model.proofs.Kept.{pending_travels, Kept}
-use Rattle.dist_model.specs.Orders.{Trunk, name_cmp, trunk_cmp, place_cmp, same_name, same_pid}
-use Rattle.dist_model.specs.World.{new_nodes, new_node, opening, World, signals, signal_of, node_of, list_to}
-use Rattle.dist_model.specs.Claims.{living_at, end_at, end_between, local_at, local_list, side_in, connected_at, is_connected, Stands, is_of, is_silent, Within, Over, Unconnected, Agreement, AgreementWithin, AgreementInQuiet, PendingOnItsWay, PendingWithin, NoLinkToTheDead, NoLinkToItself, OneTrunk, NoUpBesideLosing}
-use Rattle.dist_model.proofs.Keys.{same_name_true, same_name_is, and_both, same_pid_refl, same_pid_true}
-use Rattle.dist_model.proofs.Views.{over, side_of}
-use Rattle.dist_model.proofs.Moves.{NodeKept}
-use Rattle.dist_model.proofs.Routes.{some_same, node_of_name}
-use Rattle.dist_model.proofs.Calls.{by_test}
-use Rattle.dist_model.proofs.Sides.{side_at, up_not_gone, holds, beside, or_true, or_false, holds_kinds, up_holds, unheld_absent}
-use Rattle.dist_model.proofs.Pairs.{up_joined}
-use Rattle.dist_model.proofs.Table.{Likely, up_likely, HomeKept, Good, no_asks_beside}
-use Rattle.dist_model.proofs.Reside.{blank}
 use Rattle.dist_model.specs.Node
-use Rattle.dist_model.specs.Orders
-use Rattle.dist_model.specs.Step.{is_losing}
+use Rattle.dist_model.proofs.Calls.{by_test}
+use Rattle.dist_model.proofs.Kept.{Kept, pending_travels}
+use Rattle.dist_model.proofs.Keys.{and_both, same_name_is, same_name_true, same_pid_refl, same_pid_true}
+use Rattle.dist_model.proofs.Moves.{NodeKept}
+use Rattle.dist_model.proofs.Pair.{has_link}
+use Rattle.dist_model.proofs.Pairs.{up_joined}
+use Rattle.dist_model.proofs.Reside.{blank}
+use Rattle.dist_model.proofs.Routes.{node_of_name, some_same}
+use Rattle.dist_model.proofs.Sides.{beside, holds_kinds, or_false, or_true, side_at, unheld_absent, up_holds, up_not_gone}
+use Rattle.dist_model.proofs.Table.{Good, HomeKept, Likely, no_asks_beside, up_likely}
+use Rattle.dist_model.proofs.Views.{over, side_of}
+use Rattle.dist_model.specs.Claims.{Agreement, AgreementInQuiet, AgreementWithin, NoLinkToItself, NoLinkToTheDead, NoUpBesideLosing, OneTrunk, Over, PendingOnItsWay, PendingWithin, Stands, Unconnected, Within, connected_at, end_at, end_between, is_connected, is_of, is_silent, living_at, local_at, local_list, side_in}
+use Rattle.dist_model.specs.Items.{AboutLink, DemonitorP, Exit2, Handshake, Item, Message, MonitorP, MonitorPExit, Tick, signal_of, signals}
+use Rattle.dist_model.specs.Links.{LinkWord, Says, drained, last_said}
+use Rattle.dist_model.specs.Names.{Name, pair_cmp, place_cmp, same_name, same_pid}
+use Rattle.dist_model.specs.Node.{Node, end_in, end_of, is_living_life, living, never}
+use Rattle.dist_model.specs.Sides.{Accepting, Asked, AwaitsAck, AwaitsChallenge, AwaitsStatus, Gone, Losing, Parked, State, TrunkSide, Up, is_gone, is_losing, is_up}
+use Rattle.dist_model.specs.World.{World, list_to, new_node, new_nodes, node_of, opening}
+use Rattle.erl_names.specs.Order.{trunk_cmp}
+use Rattle.erl_names.specs.declared.trunk.TrunkId.{TrunkId}
+use Rattle.erl_term.specs.Order.{pid_cmp}
+use Rattle.erl_term.specs.declared.term.Pid.{Pid}
+use Rattle.link_core.specs.declared.end.End.{End}
+use Rattle.link_core.specs.declared.end.LinkSignal.{LinkSignal}
 
 living_not_over : (n : Node) (p : Pid) → living n p ≡ true → over n p ≡ false
 living_not_over n p l = ap (λ v. not v && not (never n p)) l
@@ -40,7 +47,7 @@ silent_signals p q (x ∷ xs) h =
     neither false false h = (refl, refl)
 
     unnamed : (p q : Pid) (x : Item) → is_of p q x ≡ false → signal_of p q x ≡ []
-    unnamed p q (LinkSignal a b s) h = ap (λ t. cond t (s ∷ []) []) h
+    unnamed p q (AboutLink a b s) h = ap (λ t. cond t (s ∷ []) []) h
     unnamed p q (Message b m) h = refl
     unnamed p q (Exit2 a b r) h = refl
     unnamed p q (MonitorP a b k) h = refl
@@ -49,13 +56,13 @@ silent_signals p q (x ∷ xs) h =
     unnamed p q (Handshake m) h = refl
     unnamed p q Tick h = refl
 
-absent_or2 : (e : End) → ((e ≡ Absent → ⊥) → ⊥) → e ≡ Absent
-absent_or2 Absent n = refl
-absent_or2 Active n = absurd (n (λ h. cc))
-absent_or2 (Pending i) n = absurd (n (λ h. cc))
+absent_or2 : (e : End) → ((e ≡ End.None → ⊥) → ⊥) → e ≡ End.None
+absent_or2 End.None n = refl
+absent_or2 End.Active n = absurd (n (λ h. cc))
+absent_or2 (End.Pending i) n = absurd (n (λ h. cc))
 
-not_active : {P : Type 0} (e : End) → e ≡ Absent → e ≡ Active → P
-not_active e a h = absurd (let c : Absent ≡ Active = sym a ∙ h in cc)
+not_active : {P : Type 0} (e : End) → e ≡ End.None → e ≡ End.Active → P
+not_active e a h = absurd (let c : End.None ≡ End.Active = sym a ∙ h in cc)
 
 some_none : {A : Type 0} {P : Type 0} (a : A) → Some a ≡ None → P
 some_none a h = absurd (let c : true ≡ false = ap is_some h in cc)
@@ -64,18 +71,18 @@ none_living : {P : Type 0} → false ≡ true → P
 none_living h = absurd (let c : true ≡ false = sym h in cc)
 
 -- of a pair that is kept
-module _ (p q : Pid) (a b : Node) (m l : List Signal) (k : Kept (side_of a p q m) (side_of b q p l)) where
-  agrees : living a p ≡ true → living b q ≡ true → drained (end_of a p q) l ≡ Active ↔ drained (end_of b q p) m ≡ Active
+module _ (p q : Pid) (a b : Node) (m l : List LinkWord) (k : Kept (side_of a p q m) (side_of b q p l)) where
+  agrees : living a p ≡ true → living b q ≡ true → drained (end_of a p q) l ≡ End.Active ↔ drained (end_of b q p) m ≡ End.Active
   agrees lp lq = k.agree (living_not_over a p lp) (living_not_over b q lq)
 
-  pends : (i : ℕ) → living a p ≡ true → living b q ≡ true → end_of a p q ≡ Pending i → (last_word m ≡ Unlinked i) ⊎ (acks i l ≡ 1)
-  pends i lp lq e = pending_travels (record { here = side_of a p q m; there = side_of b q p l }) k (living_not_over a p lp) (living_not_over b q lq) i e
+  pends : (i : ℕ) → living a p ≡ true → living b q ≡ true → end_of a p q ≡ End.Pending i → (last_said m ≡ Some (LinkSignal.Unlink i)) ⊎ Contains l (Says (LinkSignal.Ack i))
+  pends i lp lq e = pending_travels (side_of a p q m) (side_of b q p l) k (living_not_over a p lp) (living_not_over b q lq) i e
 
-  not_to_dead : NodeKept b → living a p ≡ true → living b q ≡ false → m ≡ [] → l ≡ [] → end_of a p q ≡ Active → ⊥
+  not_to_dead : NodeKept b → living a p ≡ true → living b q ≡ false → m ≡ [] → l ≡ [] → end_of a p q ≡ End.Active → ⊥
   not_to_dead kb lp lq em el e =
       let lo : over a p ≡ false = living_not_over a p lp in
-      let act : drained (end_of a p q) l ≡ Active = ap (drained (end_of a p q)) el ∙ e in
-      let none : end_of b q p ≡ Absent = absent_or2 (end_of b q p) (λ d. let c : true ≡ false = sym (kb.rooted q p d).0 ∙ lq in cc) in
+      let act : drained (end_of a p q) l ≡ End.Active = ap (drained (end_of a p q)) el ∙ e in
+      let none : end_of b q p ≡ End.None = absent_or2 (end_of b q p) (λ d. let c : true ≡ false = sym (kb.rooted q p d).0 ∙ lq in cc) in
       by_test ⊥ (over b q)
       (λ o. let n : true ≡ false = sym (k.one.orphan lo o act) ∙ ap has_link em in cc)
       (λ o. not_active (drained (end_of b q p) m) (ap (drained (end_of b q p)) em ∙ none) ((k.agree lo o).0 act))
@@ -84,7 +91,7 @@ module _ (w : World) (g : Good w) where
   own_name : (x : Name) (a : Node) → node_of w.nodes x ≡ Some a → same_name x a.name ≡ true
   own_name x a h = same_name_is x a.name (sym (node_of_name w.nodes x a h))
 
-  kept_over : (p q : Pid) (a b : Node) (t : Trunk) → node_of w.nodes p.node ≡ Some a → node_of w.nodes q.node ≡ Some b → Stands w p.node t q.node is_up → Stands w q.node t p.node is_up
+  kept_over : (p q : Pid) (a b : Node) (t : TrunkId) → node_of w.nodes p.node ≡ Some a → node_of w.nodes q.node ≡ Some b → Stands w p.node t q.node is_up → Stands w q.node t p.node is_up
       → Kept (side_of a p q (signals p q (list_to w.lists t q.node))) (side_of b q p (signals q p (list_to w.lists t p.node)))
   kept_over p q a b t ha hb s v = g.core.trunks p.node q.node a b t s.side v.side ha hb (sym (ap (λ o. side_in o t) ha) ∙ s.there) (sym (ap (λ o. side_in o t) hb) ∙ v.there) s.peer v.peer s.state (up_joined v.side.state v.state) p q refl refl
 
@@ -98,7 +105,7 @@ module _ (w : World) (g : Good w) where
   agreement p q t s v lp lq = go (node_of w.nodes p.node) (node_of w.nodes q.node) refl refl lp lq
     where
       go : (c d : Option Node) → node_of w.nodes p.node ≡ c → node_of w.nodes q.node ≡ d → living_at c p ≡ true → living_at d q ≡ true
-          → drained (end_at c p q) (signals q p (list_to w.lists t p.node)) ≡ Active ↔ drained (end_at d q p) (signals p q (list_to w.lists t q.node)) ≡ Active
+          → drained (end_at c p q) (signals q p (list_to w.lists t p.node)) ≡ End.Active ↔ drained (end_at d q p) (signals p q (list_to w.lists t q.node)) ≡ End.Active
       go None d hc hd lp lq = none_living lp
       go (Some a) None hc hd lp lq = none_living lq
       go (Some a) (Some b) hc hd lp lq = agrees p q a b _ _ (kept_over p q a b t hc hd s v) lp lq
@@ -107,21 +114,21 @@ module _ (w : World) (g : Good w) where
   agreement_within p q e lp lq = go (node_of w.nodes p.node) (node_of w.nodes q.node) refl refl lp lq
     where
       go : (c d : Option Node) → node_of w.nodes p.node ≡ c → node_of w.nodes q.node ≡ d → living_at c p ≡ true → living_at d q ≡ true
-          → drained (end_at c p q) (signals q p (local_at c)) ≡ Active ↔ drained (end_at d q p) (signals p q (local_at c)) ≡ Active
+          → drained (end_at c p q) (signals q p (local_at c)) ≡ End.Active ↔ drained (end_at d q p) (signals p q (local_at c)) ≡ End.Active
       go None d hc hd lp lq = none_living lp
       go (Some a) None hc hd lp lq = none_living lq
       go (Some a) (Some b) hc hd lp lq =
           let ab = one_node p q a b hc hd e in
-          subst (λ z. drained (end_of a p q) (signals q p a.local) ≡ Active ↔ drained (end_of z q p) (signals p q a.local) ≡ Active) ab
+          subst (λ z. drained (end_of a p q) (signals q p a.local) ≡ End.Active ↔ drained (end_of z q p) (signals p q a.local) ≡ End.Active) ab
           (by_test _ (same_pid p q)
-          (λ i. subst (λ z. drained (end_of a p z) (signals z p a.local) ≡ Active ↔ drained (end_of a z p) (signals p z a.local) ≡ Active) (same_pid_true p q i) (λ h. h, λ h. h))
+          (λ i. subst (λ z. drained (end_of a p z) (signals z p a.local) ≡ End.Active ↔ drained (end_of a z p) (signals p z a.local) ≡ End.Active) (same_pid_true p q i) (λ h. h, λ h. h))
           (λ i. agrees p q a a _ _ (kept_within p q a hc e i) lp (ap (λ z. living z q) ab ∙ lq)))
 
   -- where the nodes have no connection there is no end
-  unconnected : (p q : Pid) → same_name p.node q.node ≡ false → is_connected w p.node q.node ≡ false → end_between w p q ≡ Absent
+  unconnected : (p q : Pid) → same_name p.node q.node ≡ false → is_connected w p.node q.node ≡ false → end_between w p q ≡ End.None
   unconnected p q n c = go (node_of w.nodes p.node) refl c
     where
-      go : (o : Option Node) → node_of w.nodes p.node ≡ o → connected_at o q.node ≡ false → end_at o p q ≡ Absent
+      go : (o : Option Node) → node_of w.nodes p.node ≡ o → connected_at o q.node ≡ false → end_at o p q ≡ End.None
       go None h c = refl
       go (Some a) h c = unheld_absent a p q (g.core.nodes p.node a h) (or_false (same_name q.node a.name) _
           (by_test _ (same_name q.node a.name)
@@ -133,44 +140,44 @@ module _ (w : World) (g : Good w) where
   pub agreement_in_quiet : AgreementInQuiet w
   agreement_in_quiet p q (Within e s) lp lq =
       let v = silent_signals p q (local_list w p.node) s in
-      subst (λ u. drained (end_between w p q) u ≡ Active ↔ end_between w q p ≡ Active) v.1
-      (subst (λ u. drained (end_between w p q) (signals q p (local_list w p.node)) ≡ Active ↔ drained (end_between w q p) u ≡ Active) v.0 (agreement_within p q e lp lq))
+      subst (λ u. drained (end_between w p q) u ≡ End.Active ↔ end_between w q p ≡ End.Active) v.1
+      (subst (λ u. drained (end_between w p q) (signals q p (local_list w p.node)) ≡ End.Active ↔ drained (end_between w q p) u ≡ End.Active) v.0 (agreement_within p q e lp lq))
   agreement_in_quiet p q (Over t a b s r) lp lq =
       let v = silent_signals p q (list_to w.lists t p.node) s in
       let u = silent_signals p q (list_to w.lists t q.node) r in
-      subst (λ z. drained (end_between w p q) z ≡ Active ↔ end_between w q p ≡ Active) v.1
-      (subst (λ z. drained (end_between w p q) (signals q p (list_to w.lists t p.node)) ≡ Active ↔ drained (end_between w q p) z ≡ Active) u.0 (agreement p q t a b lp lq))
+      subst (λ z. drained (end_between w p q) z ≡ End.Active ↔ end_between w q p ≡ End.Active) v.1
+      (subst (λ z. drained (end_between w p q) (signals q p (list_to w.lists t p.node)) ≡ End.Active ↔ drained (end_between w q p) z ≡ End.Active) u.0 (agreement p q t a b lp lq))
   agreement_in_quiet p q (Unconnected n c d) lp lq =
       (λ h. not_active (end_between w p q) (unconnected p q n c) h, λ h. not_active (end_between w q p) (unconnected q p (name_turned p.node q.node n) d) h)
 
   pub no_link_to_itself : NoLinkToItself w
   no_link_to_itself p = go (node_of w.nodes p.node) refl
     where
-      go : (o : Option Node) → node_of w.nodes p.node ≡ o → end_at o p p ≡ Absent
+      go : (o : Option Node) → node_of w.nodes p.node ≡ o → end_at o p p ≡ End.None
       go None h = refl
       go (Some a) h = absent_or2 (end_of a p p) (λ e. let c : true ≡ false = sym (same_pid_refl p) ∙ (((g.core.nodes p.node a h).rooted p p e).2 (own_name p.node a h)).1 in cc)
 
   pub pending : PendingOnItsWay w
   pending p q t i s v lp lq e = go (node_of w.nodes p.node) (node_of w.nodes q.node) refl refl lp lq e
     where
-      go : (c d : Option Node) → node_of w.nodes p.node ≡ c → node_of w.nodes q.node ≡ d → living_at c p ≡ true → living_at d q ≡ true → end_at c p q ≡ Pending i
-          → (last_word (signals p q (list_to w.lists t q.node)) ≡ Unlinked i) ⊎ (acks i (signals q p (list_to w.lists t p.node)) ≡ 1)
+      go : (c d : Option Node) → node_of w.nodes p.node ≡ c → node_of w.nodes q.node ≡ d → living_at c p ≡ true → living_at d q ≡ true → end_at c p q ≡ End.Pending i
+          → (last_said (signals p q (list_to w.lists t q.node)) ≡ Some (LinkSignal.Unlink i)) ⊎ Contains (signals q p (list_to w.lists t p.node)) (Says (LinkSignal.Ack i))
       go None d hc hd lp lq e = none_living lp
       go (Some a) None hc hd lp lq e = none_living lq
       go (Some a) (Some b) hc hd lp lq e = pends p q a b _ _ (kept_over p q a b t hc hd s v) i lp lq e
 
   pub pending_within : PendingWithin w
   pending_within p q i n lp lq e = by_test _ (same_pid p q)
-      (λ j. absurd (let c : Absent ≡ Pending i = sym (no_link_to_itself p) ∙ ap (end_between w p) (same_pid_true p q j) ∙ e in cc))
+      (λ j. absurd (let c : End.None ≡ End.Pending i = sym (no_link_to_itself p) ∙ ap (end_between w p) (same_pid_true p q j) ∙ e in cc))
       (λ j. go j (node_of w.nodes p.node) (node_of w.nodes q.node) refl refl lp lq e)
     where
-      go : same_pid p q ≡ false → (c d : Option Node) → node_of w.nodes p.node ≡ c → node_of w.nodes q.node ≡ d → living_at c p ≡ true → living_at d q ≡ true → end_at c p q ≡ Pending i
-          → (last_word (signals p q (local_at c)) ≡ Unlinked i) ⊎ (acks i (signals q p (local_at c)) ≡ 1)
+      go : same_pid p q ≡ false → (c d : Option Node) → node_of w.nodes p.node ≡ c → node_of w.nodes q.node ≡ d → living_at c p ≡ true → living_at d q ≡ true → end_at c p q ≡ End.Pending i
+          → (last_said (signals p q (local_at c)) ≡ Some (LinkSignal.Unlink i)) ⊎ Contains (signals q p (local_at c)) (Says (LinkSignal.Ack i))
       go j None d hc hd lp lq e = none_living lp
       go j (Some a) None hc hd lp lq e = none_living lq
       go j (Some a) (Some b) hc hd lp lq e = pends p q a a _ _ (kept_within p q a hc n j) i lp (ap (λ z. living z q) (one_node p q a b hc hd n) ∙ lq) e
 
-  dead_within : (p q : Pid) → p.node ≡ q.node → (c d : Option Node) → node_of w.nodes p.node ≡ c → node_of w.nodes q.node ≡ d → is_silent p q (local_at c) ≡ true → living_at c p ≡ true → living_at d q ≡ false → end_at c p q ≡ Active → ⊥
+  dead_within : (p q : Pid) → p.node ≡ q.node → (c d : Option Node) → node_of w.nodes p.node ≡ c → node_of w.nodes q.node ≡ d → is_silent p q (local_at c) ≡ true → living_at c p ≡ true → living_at d q ≡ false → end_at c p q ≡ End.Active → ⊥
   dead_within p q n None d hc hd s lp lq e = none_living lp
   dead_within p q n (Some a) None hc hd s lp lq e = some_none a (sym hc ∙ ap (node_of w.nodes) n ∙ hd)
   dead_within p q n (Some a) (Some b) hc hd s lp lq e =
@@ -180,8 +187,8 @@ module _ (w : World) (g : Good w) where
       (λ j. let c : true ≡ false = sym lp ∙ ap (living a) (same_pid_true p q j) ∙ dead in cc)
       (λ j. not_to_dead p q a a _ _ (kept_within p q a hc n j) (g.core.nodes p.node a hc) lp dead v.0 v.1 e)
 
-  dead_over : (p q : Pid) (t : Trunk) → Stands w p.node t q.node is_up → Stands w q.node t p.node is_up → is_silent p q (list_to w.lists t p.node) ≡ true → is_silent p q (list_to w.lists t q.node) ≡ true
-      → (c d : Option Node) → node_of w.nodes p.node ≡ c → node_of w.nodes q.node ≡ d → living_at c p ≡ true → living_at d q ≡ false → end_at c p q ≡ Active → ⊥
+  dead_over : (p q : Pid) (t : TrunkId) → Stands w p.node t q.node is_up → Stands w q.node t p.node is_up → is_silent p q (list_to w.lists t p.node) ≡ true → is_silent p q (list_to w.lists t q.node) ≡ true
+      → (c d : Option Node) → node_of w.nodes p.node ≡ c → node_of w.nodes q.node ≡ d → living_at c p ≡ true → living_at d q ≡ false → end_at c p q ≡ End.Active → ⊥
   dead_over p q t x y s r None d hc hd lp lq e = none_living lp
   dead_over p q t x y s r (Some a) None hc hd lp lq e = some_none y.side (sym y.there ∙ ap (λ o. side_in o t) hd)
   dead_over p q t x y s r (Some a) (Some b) hc hd lp lq e =
@@ -193,7 +200,7 @@ module _ (w : World) (g : Good w) where
   no_link_to_the_dead p q (Unconnected n c d) lp lq e = not_active (end_between w p q) (unconnected p q n c) e
 
   -- one trunk
-  likely : (x y : Name) (t : Trunk) → Stands w x t y is_up → Likely w.nodes w.lists x t y
+  likely : (x y : Name) (t : TrunkId) → Stands w x t y is_up → Likely w.nodes w.lists x t y
   likely x y t s = go (node_of w.nodes x) refl s.there
     where
       go : (o : Option Node) → node_of w.nodes x ≡ o → side_in o t ≡ Some s.side → Likely w.nodes w.lists x t y
@@ -221,7 +228,7 @@ module _ (w : World) (g : Good w) where
       go None h e f = some_none s.side (sym e)
       go (Some a) h e f = pick ((g.core.sides x a h).one t u s.side v.side e f (s.peer ∙ sym v.peer) (up_not_gone s.side.state s.state) lk.0)
         where
-          lk : (Rattle.dist_model.specs.Step.is_gone v.side.state ≡ false) × (Rattle.dist_model.proofs.Sides.asks v.side.state ≡ false)
+          lk : (is_gone v.side.state ≡ false) × (Rattle.dist_model.proofs.Sides.asks v.side.state ≡ false)
           lk = holds_kinds v.side.state (or_true (is_up v.side.state) (is_losing v.side.state) v.state)
 
           pick : (t ≡ u) ⊎ (beside s.side.state v.side.state ≡ true) → ⊥
@@ -238,22 +245,22 @@ module _ (cs : List (Name × List ℕ)) where
       go true h f = (d.0, d.1, sym (some_same (new_node d.0 d.1) n h))
       go false h f = f h
 
-  no_side : (y : Name) (c : List ℕ) (t : Trunk) → side_at (new_node y c) t ≡ None
+  no_side : (y : Name) (c : List ℕ) (t : TrunkId) → side_at (new_node y c) t ≡ None
   no_side y c t = fm.get-empty trunk_cmp t
 
-  none_at : (x : Name) (n : Node) (t : Trunk) (s : TrunkSide) → node_of (new_nodes cs) x ≡ Some n → side_at n t ≡ Some s → ⊥
+  none_at : (x : Name) (n : Node) (t : TrunkId) (s : TrunkSide) → node_of (new_nodes cs) x ≡ Some n → side_at n t ≡ Some s → ⊥
   none_at x n t s h f =
       let k = new_is cs x n h in
       let e : false ≡ true = sym (ap is_some (no_side k.0 k.1 t)) ∙ ap is_some (ap (λ v. side_at v t) (sym k.2) ∙ f) in cc
 
   new_kept : (y : Name) (c : List ℕ) → NodeKept (new_node y c)
   new_kept y c = record {
-    born = λ p l. let e : false ≡ true = sym (ap Rattle.dist_model.specs.Node.is_living_life (fm.get-empty Rattle.dist_model.specs.Orders.pid_cmp p)) ∙ l in cc;
-    rooted = λ p q e. absurd (e (ap Rattle.dist_model.specs.Node.end_in (fm.get-empty Rattle.dist_model.specs.Orders.pair_cmp (p, q))));
+    born = λ p l. let e : false ≡ true = sym (ap is_living_life (fm.get-empty pid_cmp p)) ∙ l in cc;
+    rooted = λ p q e. absurd (e (ap end_in (fm.get-empty pair_cmp (p, q))));
   }
 
-  new_end : (y : Name) (c : List ℕ) (p q : Pid) → end_of (new_node y c) p q ≡ Absent
-  new_end y c p q = ap Rattle.dist_model.specs.Node.end_in (fm.get-empty Rattle.dist_model.specs.Orders.pair_cmp (p, q))
+  new_end : (y : Name) (c : List ℕ) (p q : Pid) → end_of (new_node y c) p q ≡ End.None
+  new_end y c p q = ap end_in (fm.get-empty pair_cmp (p, q))
 
   pub good_opening : Good (opening cs)
   good_opening = record {

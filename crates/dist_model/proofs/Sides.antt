@@ -2,19 +2,24 @@
 use Rattle.std.proofs.Common.{◌≡◌, ℕ, ◌<◌, ◌≤◌, Bool, true, false, cond, List, [], ◌∷◌, ◌++◌, refl, sym, ap, ◌∙◌, subst, arith, ◌&&◌, ◌||◌, Option, Some, None, ◌⊎◌, inl, inr, append-nil, nat_lt}
 use Rattle.std.specs.Option.{is_some}
 use Rattle.std.specs.FinMap as fm
-use Rattle.std.specs.FinMap.{FinMap}
-use Rattle.dist_model.specs.Term.{Name, Pid, Normal}
-use Rattle.dist_model.specs.Pair.{Signal, End, Absent, Active, Pending, Side}
-use Rattle.dist_model.proofs.Kept.{Kept, keeps_draw, keeps_finish}
-use Rattle.dist_model.specs.Orders.{Trunk, trunk_cmp, same_name}
-use Rattle.dist_model.specs.Node.{Item, State, AwaitsStatus, AwaitsChallenge, AwaitsAck, Asked, Parked, Accepting, Up, Losing, Gone, TrunkSide, Node, Envelope, Work, end_of, is_up, route_in, route, reaches}
-use Rattle.dist_model.specs.Step.{side_where, is_losing, is_gone, at_work}
-use Rattle.dist_model.specs.World.{signals}
-use Rattle.dist_model.proofs.Keys.{same_trunk, same_trunk_true, same_trunk_is, same_name_true, same_name_is, and_both}
-use Rattle.dist_model.proofs.Views.{to_name, over, side_of, view, side_path}
-use Rattle.dist_model.proofs.Moves.{NodeKept, AllRouted, held, reach_held, held_along}
-use Rattle.dist_model.proofs.Routes.{some_same, none_some, at_place, Found, side_where_found, side_where_none, fst_of, route_is}
 use Rattle.dist_model.proofs.Calls.{by_test}
+use Rattle.dist_model.proofs.Kept.{Kept, keeps_draw, keeps_finish}
+use Rattle.dist_model.proofs.Keys.{and_both, same_name_is, same_name_true, same_trunk, same_trunk_is, same_trunk_true}
+use Rattle.dist_model.proofs.Moves.{AllRouted, NodeKept, held, held_along, reach_held}
+use Rattle.dist_model.proofs.Pair.{Side}
+use Rattle.dist_model.proofs.Routes.{Found, at_place, fst_of, none_some, route_is, side_where_found, side_where_none, some_same}
+use Rattle.dist_model.proofs.Views.{over, side_of, side_path, to_name, view}
+use Rattle.dist_model.specs.Items.{Item, signals}
+use Rattle.dist_model.specs.Links.{LinkWord, noproc}
+use Rattle.dist_model.specs.Names.{Name, same_name}
+use Rattle.dist_model.specs.Node.{Node, end_of, reaches, route, route_in, side_where}
+use Rattle.dist_model.specs.Sides.{Accepting, Asked, AwaitsAck, AwaitsChallenge, AwaitsStatus, Gone, Losing, Parked, State, TrunkSide, Up, is_gone, is_losing, is_up}
+use Rattle.dist_model.specs.Work.{Envelope, Work, at_work}
+use Rattle.erl_names.specs.Order.{trunk_cmp}
+use Rattle.erl_names.specs.declared.trunk.TrunkId.{TrunkId}
+use Rattle.erl_term.specs.declared.term.Pid.{Pid}
+use Rattle.link_core.specs.declared.end.End.{End}
+use Rattle.std.specs.FinMap.{FinMap}
 
 abbrev pub holds : State → Bool
 holds v = is_up v || is_losing v
@@ -34,14 +39,14 @@ asks Gone = false
 abbrev pub beside : State → State → Bool
 beside a b = (holds a && asks b) || (asks a && holds b)
 
-abbrev pub side_at : Node → Trunk → Option TrunkSide
+abbrev pub side_at : Node → TrunkId → Option TrunkSide
 side_at n t = fm.get n.sides t
 
 pub record SidesKept (n : Node) : Type 0 where
   -- two sides towards one peer that aren't gone are one, or one waits for the end of the other
-  pub one : (t u : Trunk) (s v : TrunkSide) → side_at n t ≡ Some s → side_at n u ≡ Some v → s.peer ≡ v.peer → is_gone s.state ≡ false → is_gone v.state ≡ false → (t ≡ u) ⊎ (beside s.state v.state ≡ true)
-  pub other : (t : Trunk) (s : TrunkSide) → side_at n t ≡ Some s → s.peer ≡ n.name → ⊥
-  pub mine : (t : Trunk) (s : TrunkSide) → side_at n t ≡ Some s → (t.dialer ≡ n.name) ⊎ (t.dialer ≡ s.peer)
+  pub one : (t u : TrunkId) (s v : TrunkSide) → side_at n t ≡ Some s → side_at n u ≡ Some v → s.peer ≡ v.peer → is_gone s.state ≡ false → is_gone v.state ≡ false → (t ≡ u) ⊎ (beside s.state v.state ≡ true)
+  pub other : (t : TrunkId) (s : TrunkSide) → side_at n t ≡ Some s → s.peer ≡ n.name → ⊥
+  pub mine : (t : TrunkId) (s : TrunkSide) → side_at n t ≡ Some s → (t.dialer ≡ n.name) ⊎ (t.dialer ≡ s.peer)
 
 -- of the two sides of a pair of nodes one is up, and the other is up or about to be
 abbrev pub joined : State → Bool
@@ -98,30 +103,30 @@ pub beside_up : (a b : State) → holds a ≡ true → holds b ≡ true → besi
 beside_up a b ha hb h = let n : true ≡ false = sym h ∙ beside_none (holds a) (asks b) (holds b) (asks a) (holds_kinds a ha).1 (holds_kinds b hb).1 in cc
 
 -- the route of a side that is up
-pub route_up : (n : Node) (t : Trunk) (s : TrunkSide) → SidesKept n → side_at n t ≡ Some s → is_up s.state ≡ true → route n s.peer ≡ Some t
+pub route_up : (n : Node) (t : TrunkId) (s : TrunkSide) → SidesKept n → side_at n t ≡ Some s → is_up s.state ≡ true → route n s.peer ≡ Some t
 route_up n t s k h u = route_is (fm.entries n.sides) s.peer ∙ go (side_where is_up s.peer (fm.entries n.sides)) refl
   where
-    pick : (e : Trunk × TrunkSide) → Found is_up s.peer (fm.entries n.sides) e → (e.0 ≡ t) ⊎ (beside e.1.state s.state ≡ true) → fst_of (Some e) ≡ Some t
+    pick : (e : TrunkId × TrunkSide) → Found is_up s.peer (fm.entries n.sides) e → (e.0 ≡ t) ⊎ (beside e.1.state s.state ≡ true) → fst_of (Some e) ≡ Some t
     pick e f (inl h) = ap Some h
     pick e f (inr h) = absurd (beside_up e.1.state s.state (up_holds e.1.state f.passes).0 (up_holds s.state u).0 h)
 
-    go : (o : Option (Trunk × TrunkSide)) → side_where is_up s.peer (fm.entries n.sides) ≡ o → fst_of o ≡ Some t
+    go : (o : Option (TrunkId × TrunkSide)) → side_where is_up s.peer (fm.entries n.sides) ≡ o → fst_of o ≡ Some t
     go None e = let c : true ≡ false = sym u ∙ side_where_none is_up s.peer (fm.entries n.sides) t s e (sym (fm.get-entries n.sides t) ∙ h) refl in cc
     go (Some e) i =
         let f = side_where_found is_up s.peer (fm.entries n.sides) e (fm.entries_sorted n.sides) i in
         pick e f (k.one e.0 t e.1 s (fm.get-entries n.sides e.0 ∙ f.there) h f.peer (up_not_gone e.1.state f.passes) (up_not_gone s.state u))
 
 -- what a route comes from
-pub record Routed (n : Node) (y : Name) (t : Trunk) : Type 0 where
+pub record Routed (n : Node) (y : Name) (t : TrunkId) : Type 0 where
   pub found : TrunkSide
   pub there : side_at n t ≡ Some found
   pub peer : found.peer ≡ y
   pub up : is_up found.state ≡ true
 
-pub route_from : (n : Node) (y : Name) (t : Trunk) → route n y ≡ Some t → Routed n y t
+pub route_from : (n : Node) (y : Name) (t : TrunkId) → route n y ≡ Some t → Routed n y t
 route_from n y t h = go (side_where is_up y (fm.entries n.sides)) refl (sym (route_is (fm.entries n.sides) y) ∙ h)
   where
-    go : (o : Option (Trunk × TrunkSide)) → side_where is_up y (fm.entries n.sides) ≡ o → fst_of o ≡ Some t → Routed n y t
+    go : (o : Option (TrunkId × TrunkSide)) → side_where is_up y (fm.entries n.sides) ≡ o → fst_of o ≡ Some t → Routed n y t
     go None i h = absurd (none_some t h)
     go (Some e) i h =
         let f = side_where_found is_up y (fm.entries n.sides) e (fm.entries_sorted n.sides) i in
@@ -162,7 +167,7 @@ some_not_none : {A : Type 0} (o : Option A) → (o ≡ None → ⊥) → is_some
 some_not_none None n = absurd (n refl)
 some_not_none (Some a) n = refl
 
-pub not_own : (n : Node) (t : Trunk) (s : TrunkSide) → SidesKept n → side_at n t ≡ Some s → same_name s.peer n.name ≡ false
+pub not_own : (n : Node) (t : TrunkId) (s : TrunkSide) → SidesKept n → side_at n t ≡ Some s → same_name s.peer n.name ≡ false
 not_own n t s k h = go (same_name s.peer n.name) refl
   where
     go : (b : Bool) → same_name s.peer n.name ≡ b → same_name s.peer n.name ≡ false
@@ -173,23 +178,23 @@ pub or_false : (a b : Bool) → a ≡ false → b ≡ false → (a || b) ≡ fal
 or_false true b h k = cc
 or_false false b h k = k
 
-pub not_held : (n : Node) (t : Trunk) (s : TrunkSide) → SidesKept n → side_at n t ≡ Some s → joined s.state ≡ true → is_up s.state ≡ false → held n s.peer ≡ false
+pub not_held : (n : Node) (t : TrunkId) (s : TrunkSide) → SidesKept n → side_at n t ≡ Some s → joined s.state ≡ true → is_up s.state ≡ false → held n s.peer ≡ false
 not_held n t s k h j u = or_false (same_name s.peer n.name) (is_some (side_where holds s.peer (fm.entries n.sides))) (not_own n t s k h) (go (side_where holds s.peer (fm.entries n.sides)) refl)
   where
-    pick : (e : Trunk × TrunkSide) → Found holds s.peer (fm.entries n.sides) e → (t ≡ e.0) ⊎ (beside s.state e.1.state ≡ true) → ⊥
+    pick : (e : TrunkId × TrunkSide) → Found holds s.peer (fm.entries n.sides) e → (t ≡ e.0) ⊎ (beside s.state e.1.state ≡ true) → ⊥
     pick e f (inl i) =
         let g : e.1 ≡ s = some_same e.1 s (sym (fm.get-entries n.sides e.0 ∙ f.there) ∙ ap (fm.get n.sides) (sym i) ∙ h) in
         (not_held_replied s.state e.1.state j u f.passes).0 (ap (λ (v : TrunkSide). v.state) (sym g))
     pick e f (inr i) = (not_held_replied s.state e.1.state j u f.passes).1 i
 
-    go : (o : Option (Trunk × TrunkSide)) → side_where holds s.peer (fm.entries n.sides) ≡ o → is_some o ≡ false
+    go : (o : Option (TrunkId × TrunkSide)) → side_where holds s.peer (fm.entries n.sides) ≡ o → is_some o ≡ false
     go None e = refl
     go (Some e) i =
         let f = side_where_found holds s.peer (fm.entries n.sides) e (fm.entries_sorted n.sides) i in
         absurd (pick e f (k.one t e.0 s e.1 h (fm.get-entries n.sides e.0 ∙ f.there) (sym f.peer) (joined_not_gone s.state j) (holds_kinds e.1.state f.passes).0))
 
 -- envelopes to y
-pub at_place_all : (m : FinMap trunk_cmp TrunkSide) (es : List Envelope) (t : Trunk) (y : Name) → AllRouted m es → route_in (fm.entries m) y ≡ Some t → at_place t y es ≡ to_name y es
+pub at_place_all : (m : FinMap trunk_cmp TrunkSide) (es : List Envelope) (t : TrunkId) (y : Name) → AllRouted m es → route_in (fm.entries m) y ≡ Some t → at_place t y es ≡ to_name y es
 at_place_all m [] t y a r = refl
 at_place_all m (e ∷ es) t y a r = λ i. cond (tests i) (e.item ∷ []) [] ++ at_place_all m es t y a.1 r i
   where
@@ -203,7 +208,7 @@ at_place_all m (e ∷ es) t y a r = λ i. cond (tests i) (e.item ∷ []) [] ++ a
         (λ g. let v = and_both (same_trunk t e.trunk) (same_name y e.target) g in let c : true ≡ false = sym (same_name_is e.target y (sym (same_name_true y e.target v.1))) ∙ h in cc)
         (λ g. g ∙ sym h))
 
-pub at_place_none : (m : FinMap trunk_cmp TrunkSide) (es : List Envelope) (t : Trunk) (y : Name) → AllRouted m es → (route_in (fm.entries m) y ≡ Some t → ⊥) → at_place t y es ≡ []
+pub at_place_none : (m : FinMap trunk_cmp TrunkSide) (es : List Envelope) (t : TrunkId) (y : Name) → AllRouted m es → (route_in (fm.entries m) y ≡ Some t → ⊥) → at_place t y es ≡ []
 at_place_none m [] t y a r = refl
 at_place_none m (e ∷ es) t y a r = by_test _ (same_trunk t e.trunk && same_name y e.target)
     (λ h.
@@ -214,10 +219,10 @@ at_place_none m (e ∷ es) t y a r = by_test _ (same_trunk t e.trunk && same_nam
     (λ h. ap (λ b. cond b (e.item ∷ []) [] ++ at_place t y es) h ∙ at_place_none m es t y a.1 r)
 
 -- a half with no link may go on drawing ids, and end
-quiet : (g h : Bool) (n m : ℕ) (L : List Signal) (b : Side) → n ≤ m → (g ≡ true → h ≡ true) → Kept (record { end = Absent; gone = g; drawn = n; sent = L }) b → Kept (record { end = Absent; gone = h; drawn = m; sent = L }) b
+quiet : (g h : Bool) (n m : ℕ) (L : List LinkWord) (b : Side) → n ≤ m → (g ≡ true → h ≡ true) → Kept (record { end = End.None; gone = g; drawn = n; sent = L }) b → Kept (record { end = End.None; gone = h; drawn = m; sent = L }) b
 quiet g h n m L b le gh k = ends g h gh (by_test _ (nat_lt n m)
-    (λ lt. keeps_draw (record { end = Absent; gone = g; drawn = n; sent = L }) b m (below n m lt) k)
-    (λ ge. subst (λ j. Kept (record { end = Absent; gone = g; drawn = j; sent = L }) b) (equal n m le ge) k))
+    (λ lt. keeps_draw (record { end = End.None; gone = g; drawn = n; sent = L }) b m (below n m lt) k)
+    (λ ge. subst (λ j. Kept (record { end = End.None; gone = g; drawn = j; sent = L }) b) (equal n m le ge) k))
   where
     below : (n m : ℕ) → nat_lt n m ≡ true → n < m
     below n m h = grind arith
@@ -225,24 +230,24 @@ quiet g h n m L b le gh k = ends g h gh (by_test _ (nat_lt n m)
     equal : (n m : ℕ) → n ≤ m → nat_lt n m ≡ false → n ≡ m
     equal n m h k = grind arith
 
-    ends : (g h : Bool) → (g ≡ true → h ≡ true) → Kept (record { end = Absent; gone = g; drawn = m; sent = L }) b → Kept (record { end = Absent; gone = h; drawn = m; sent = L }) b
+    ends : (g h : Bool) → (g ≡ true → h ≡ true) → Kept (record { end = End.None; gone = g; drawn = m; sent = L }) b → Kept (record { end = End.None; gone = h; drawn = m; sent = L }) b
     ends true true f k = k
     ends true false f k = let c : false ≡ true = f refl in cc
     ends false false f k = k
-    ends false true f k = subst (λ l. Kept (record { end = Absent; gone = true; drawn = m; sent = l }) b) (append-nil L) (keeps_finish Normal Absent false m L b k)
+    ends false true f k = subst (λ l. Kept (record { end = End.None; gone = true; drawn = m; sent = l }) b) (append-nil L) (keeps_finish noproc End.None false m L b k)
 
-pub quiet_half : (a c b : Side) → a.end ≡ Absent → c.end ≡ Absent → a.drawn ≤ c.drawn → (a.gone ≡ true → c.gone ≡ true) → c.sent ≡ a.sent → Kept a b → Kept c b
+pub quiet_half : (a c b : Side) → a.end ≡ End.None → c.end ≡ End.None → a.drawn ≤ c.drawn → (a.gone ≡ true → c.gone ≡ true) → c.sent ≡ a.sent → Kept a b → Kept c b
 quiet_half a c b ea ec d g s k =
-    subst (λ v. Kept v b) (side_path (record { end = Absent; gone = c.gone; drawn = c.drawn; sent = a.sent }) c (sym ec) refl refl (sym s))
+    subst (λ v. Kept v b) (side_path (record { end = End.None; gone = c.gone; drawn = c.drawn; sent = a.sent }) c (sym ec) refl refl (sym s))
     (quiet a.gone c.gone a.drawn c.drawn a.sent b d g
-    (subst (λ v. Kept v b) (side_path a (record { end = Absent; gone = a.gone; drawn = a.drawn; sent = a.sent }) ea refl refl refl) k))
+    (subst (λ v. Kept v b) (side_path a (record { end = End.None; gone = a.gone; drawn = a.drawn; sent = a.sent }) ea refl refl refl) k))
 
-absent_or : (e : End) → ((e ≡ Absent → ⊥) → ⊥) → e ≡ Absent
-absent_or Absent n = refl
-absent_or Active n = absurd (n (λ h. cc))
-absent_or (Pending i) n = absurd (n (λ h. cc))
+absent_or : (e : End) → ((e ≡ End.None → ⊥) → ⊥) → e ≡ End.None
+absent_or End.None n = refl
+absent_or End.Active n = absurd (n (λ h. cc))
+absent_or (End.Pending i) n = absurd (n (λ h. cc))
 
-pub unheld_absent : (n : Node) (p q : Pid) → NodeKept n → held n q.node ≡ false → end_of n p q ≡ Absent
+pub unheld_absent : (n : Node) (p q : Pid) → NodeKept n → held n q.node ≡ false → end_of n p q ≡ End.None
 unheld_absent n p q k h = absent_or (end_of n p q) (λ e. let c : true ≡ false = sym (k.rooted p q e).1 ∙ h in cc)
 
 pub or_true : (a b : Bool) → b ≡ true → (a || b) ≡ true
@@ -252,14 +257,14 @@ or_true false b h = h
 pub some_true : {A : Type 0} (o : Option A) (a : A) → o ≡ Some a → is_some o ≡ true
 some_true o a h = ap is_some h
 
-pub reach_up : (n : Node) (t : Trunk) (s : TrunkSide) → SidesKept n → side_at n t ≡ Some s → is_up s.state ≡ true → reaches n s.peer ≡ true
+pub reach_up : (n : Node) (t : TrunkId) (s : TrunkSide) → SidesKept n → side_at n t ≡ Some s → is_up s.state ≡ true → reaches n s.peer ≡ true
 reach_up n t s k h u = or_true (same_name s.peer n.name) (is_some (route n s.peer)) (some_true (route n s.peer) t (route_up n t s k h u))
 
 -- what one part of an event does to the own half of a pair on a trunk
 module _ (n : Node) (o : Work) (sd : o.node.sides ≡ n.sides) (nm : o.node.name ≡ n.name) (kn : NodeKept n) (ko : NodeKept o.node)
     (gr : (p : Pid) → over n p ≡ true → over o.node p ≡ true) (dr : n.unlinks ≤ o.node.unlinks) (ro : AllRouted o.node.sides o.sent) (sk : SidesKept n) where
-  pub up_half : (t : Trunk) (s : TrunkSide) → side_at n t ≡ Some s → is_up s.state ≡ true → (p q : Pid) → q.node ≡ s.peer → (L : List Item) (c d : Side)
-      → ((b : List Signal) → reaches n q.node ≡ true → Kept (view b (at_work n) p q) c → Kept (view b o p q) d)
+  pub up_half : (t : TrunkId) (s : TrunkSide) → side_at n t ≡ Some s → is_up s.state ≡ true → (p q : Pid) → q.node ≡ s.peer → (L : List Item) (c d : Side)
+      → ((b : List LinkWord) → reaches n q.node ≡ true → Kept (view b (at_work n) p q) c → Kept (view b o p q) d)
       → Kept (side_of n p q (signals p q L)) c → Kept (side_of o.node p q (signals p q L ++ signals p q (at_place t s.peer o.sent))) d
   up_half t s h u p q e L c d vs k =
       let own : same_name q.node n.name ≡ false = ap (λ y. same_name y n.name) e ∙ not_own n t s sk h in
@@ -274,7 +279,7 @@ module _ (n : Node) (o : Work) (sd : o.node.sides ≡ n.sides) (nm : o.node.name
       subst (λ a. Kept a d) (side_path (view (signals p q L) o p q) (side_of o.node p q (signals p q L ++ signals p q (at_place t s.peer o.sent))) refl refl refl after)
       (vs (signals p q L) r (subst (λ a. Kept a c) (side_path (side_of n p q (signals p q L)) (view (signals p q L) (at_work n) p q) refl refl refl (sym before)) k))
 
-  far_half : (t : Trunk) (s : TrunkSide) → side_at n t ≡ Some s → joined s.state ≡ true → is_up s.state ≡ false → (p q : Pid) → q.node ≡ s.peer → (L : List Item) (c : Side)
+  far_half : (t : TrunkId) (s : TrunkSide) → side_at n t ≡ Some s → joined s.state ≡ true → is_up s.state ≡ false → (p q : Pid) → q.node ≡ s.peer → (L : List Item) (c : Side)
       → Kept (side_of n p q (signals p q L)) c → Kept (side_of o.node p q (signals p q L ++ signals p q (at_place t s.peer o.sent))) c
   far_half t s h j u p q e L c k =
       let f : held n q.node ≡ false = ap (held n) e ∙ not_held n t s sk h j u in
@@ -285,8 +290,8 @@ module _ (n : Node) (o : Work) (sd : o.node.sides ≡ n.sides) (nm : o.node.name
       quiet_half (side_of n p q (signals p q L)) (side_of o.node p q (signals p q L ++ signals p q (at_place t s.peer o.sent))) c
       (unheld_absent n p q kn f) (unheld_absent o.node p q ko g) dr (gr p) (ap (λ l. signals p q L ++ signals p q l) none ∙ append-nil (signals p q L)) k
 
-  pub half : (t : Trunk) (s : TrunkSide) → side_at n t ≡ Some s → joined s.state ≡ true → (p q : Pid) → q.node ≡ s.peer → (L : List Item) (c : Side)
-      → ((b : List Signal) → reaches n q.node ≡ true → Kept (view b (at_work n) p q) c → Kept (view b o p q) c)
+  pub half : (t : TrunkId) (s : TrunkSide) → side_at n t ≡ Some s → joined s.state ≡ true → (p q : Pid) → q.node ≡ s.peer → (L : List Item) (c : Side)
+      → ((b : List LinkWord) → reaches n q.node ≡ true → Kept (view b (at_work n) p q) c → Kept (view b o p q) c)
       → Kept (side_of n p q (signals p q L)) c → Kept (side_of o.node p q (signals p q L ++ signals p q (at_place t s.peer o.sent))) c
   half t s h j p q e L c vs k = by_test _ (is_up s.state) (λ u. up_half t s h u p q e L c c vs k) (λ u. far_half t s h j u p q e L c k)
 
@@ -297,9 +302,9 @@ sides_kept n m sd nm k = record {
   mine = λ t s a. pick t s (k.mine t s (at t ∙ a));
 }
   where
-    at : (t : Trunk) → side_at n t ≡ side_at m t
+    at : (t : TrunkId) → side_at n t ≡ side_at m t
     at t = ap (λ l. fm.get l t) (sym sd)
 
-    pick : (t : Trunk) (s : TrunkSide) → (t.dialer ≡ n.name) ⊎ (t.dialer ≡ s.peer) → (t.dialer ≡ m.name) ⊎ (t.dialer ≡ s.peer)
+    pick : (t : TrunkId) (s : TrunkSide) → (t.dialer ≡ n.name) ⊎ (t.dialer ≡ s.peer) → (t.dialer ≡ m.name) ⊎ (t.dialer ≡ s.peer)
     pick t s (inl e) = inl (e ∙ sym nm)
     pick t s (inr e) = inr e

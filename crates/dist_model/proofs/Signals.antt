@@ -2,23 +2,29 @@
 use Rattle.std.proofs.Common.{◌≡◌, ◌≤◌, Bool, true, false, cond, List, [], ◌∷◌, ◌++◌, refl, sym, ap, ◌∙◌, subst, arith, ◌&&◌, Option, Some, None, ◌⊎◌, inl, inr, append-nil}
 use Rattle.std.specs.Option.{is_some}
 use Rattle.std.specs.FinMap as fm
-use Rattle.dist_model.specs.Term.{Name, Pid}
-use Rattle.dist_model.specs.Pair.{Signal, Side}
-use Rattle.dist_model.proofs.Kept.{Kept}
-use Rattle.dist_model.specs.Orders.{Trunk, same_name, same_pid}
-use Rattle.dist_model.specs.Node.{Item, LinkSignal, TrunkSide, Node, Work, never, is_up, reaches, take, take_link}
-use Rattle.dist_model.specs.Step.{at_work, is_from, is_to, is_good}
-use Rattle.dist_model.specs.World.{list_in, World, signals, signal_of, node_of, set_node, list_to, carried}
-use Rattle.dist_model.proofs.Keys.{same_trunk, same_trunk_true, and_both, same_pid_true}
-use Rattle.dist_model.proofs.Views.{over, side_of, view}
-use Rattle.dist_model.proofs.Moves.{NodeKept, Homely, HomeItem, home_of, AllRouted, held, reach_held, takes_link}
-use Rattle.dist_model.proofs.Routes.{at_place, node_of_name, list_to_insert, list_to_carried}
 use Rattle.dist_model.proofs.Calls.{by_test, takes_other}
-use Rattle.dist_model.proofs.Sides.{side_at, SidesKept, half, sides_kept, not_own, reach_up}
+use Rattle.dist_model.proofs.Home.{HomePairs, home_moves, home_pair, local_home, never_own, own_reached, pid_turned, without_local}
+use Rattle.dist_model.proofs.Kept.{Kept}
+use Rattle.dist_model.proofs.Keys.{and_both, same_pid_true, same_trunk, same_trunk_true}
+use Rattle.dist_model.proofs.Moves.{AllRouted, HomeItem, Homely, NodeKept, held, home_of, reach_held, takes_link}
+use Rattle.dist_model.proofs.Pair.{Side}
 use Rattle.dist_model.proofs.Pairs.{WorldKept, changed}
-use Rattle.dist_model.proofs.Steps.{kind, own_none, two_parts, good_item, is_from_peer, not_never}
-use Rattle.dist_model.proofs.Home.{pid_turned, HomePairs, home_moves, home_pair, local_home, own_reached, without_local, never_own}
-use Rattle.dist_model.proofs.Table.{HomeKept, Good, insert_key, carried_key, unsent, key_of, good_changed}
+use Rattle.dist_model.proofs.Routes.{at_place, list_to_carried, list_to_insert, node_of_name}
+use Rattle.dist_model.proofs.Sides.{SidesKept, half, not_own, reach_up, side_at, sides_kept}
+use Rattle.dist_model.proofs.Steps.{good_item, is_from_peer, kind, not_never, own_none, two_parts}
+use Rattle.dist_model.proofs.Table.{Good, HomeKept, carried_key, good_changed, insert_key, key_of, unsent}
+use Rattle.dist_model.proofs.Views.{over, side_of, view}
+use Rattle.dist_model.specs.Arrivals.{is_from, is_good, is_to}
+use Rattle.dist_model.specs.Items.{AboutLink, Item, signal_of, signals}
+use Rattle.dist_model.specs.Links.{LinkWord}
+use Rattle.dist_model.specs.Names.{Name, same_name, same_pid}
+use Rattle.dist_model.specs.Node.{Node, never, reaches}
+use Rattle.dist_model.specs.Sides.{TrunkSide, is_up}
+use Rattle.dist_model.specs.Taking.{take, take_link}
+use Rattle.dist_model.specs.Work.{Work, at_work}
+use Rattle.dist_model.specs.World.{World, carried, list_in, list_to, node_of, set_node}
+use Rattle.erl_names.specs.declared.trunk.TrunkId.{TrunkId}
+use Rattle.erl_term.specs.declared.term.Pid.{Pid}
 
 -- what a node is after a signal was taken
 record After (n : Node) (o : Work) : Type 0 where
@@ -37,7 +43,7 @@ own_other n s0 q0 y e d h b = go b (by_test _ (same_pid y q0)
     go true h = h
     go false h = refl
 
-module _ (w : World) (x : Name) (n : Node) (t0 : Trunk) (s0 : TrunkSide) (i : Item) (rest : List Item) (hx : node_of w.nodes x ≡ Some n)
+module _ (w : World) (x : Name) (n : Node) (t0 : TrunkId) (s0 : TrunkSide) (i : Item) (rest : List Item) (hx : node_of w.nodes x ≡ Some n)
     (h0 : side_at n t0 ≡ Some s0) (u0 : is_up s0.state ≡ true) (g : Good w) (first : list_to w.lists t0 x ≡ i ∷ rest) (good : is_good n s0 i ≡ true) where
   kn : NodeKept n
   kn = g.core.nodes x n hx
@@ -48,7 +54,7 @@ module _ (w : World) (x : Name) (n : Node) (t0 : Trunk) (s0 : TrunkSide) (i : It
   hk : HomeKept n
   hk = g.home x n hx
 
-  after_link : (q0 p0 : Pid) (s : Signal) → (is_from s0 q0 && is_to n p0) ≡ true → After n (take_link p0 q0 s (at_work n))
+  after_link : (q0 p0 : Pid) (s : LinkWord) → (is_from s0 q0 && is_to n p0) ≡ true → After n (take_link p0 q0 s (at_work n))
   after_link q0 p0 s c =
       let v = and_both (is_from s0 q0) (is_to n p0) c in
       let from : q0.node ≡ s0.peer = is_from_peer s0 q0 v.0 in
@@ -80,7 +86,7 @@ module _ (w : World) (x : Name) (n : Node) (t0 : Trunk) (s0 : TrunkSide) (i : It
   after : After n (take i (at_work n))
   after = go (kind i)
     where
-      go : ((p q : Pid) → signal_of p q i ≡ []) ⊎ ((q : Pid) × (p : Pid) × (s : Signal) × (i ≡ LinkSignal q p s)) → After n (take i (at_work n))
+      go : ((p q : Pid) → signal_of p q i ≡ []) ⊎ ((q : Pid) × (p : Pid) × (s : LinkWord) × (i ≡ AboutLink q p s)) → After n (take i (at_work n))
       go (inl h) = after_plain i h
       go (inr h) = subst (λ z. After n (take z (at_work n))) (sym h.3) (after_link h.0 h.1 h.2 (sym (ap (is_good n s0) h.3) ∙ good))
 
@@ -104,7 +110,7 @@ module _ (w : World) (x : Name) (n : Node) (t0 : Trunk) (s0 : TrunkSide) (i : It
       (λ e. ap (λ b. cond b rest (list_to w.lists t z)) e))
       (λ t z h. key_of n o t z after.sides _ (old_key t z (carried_key o.node.sides m1 o.sent t z after.routed h)))
     where
-      old_key : (t : Trunk) (z : Name) → {P : Type 0} → (is_some (fm.get (fm.insert w.lists (t0, x) rest) (t, z)) ≡ true) ⊎ P → (is_some (fm.get w.lists (t, z)) ≡ true) ⊎ P
+      old_key : (t : TrunkId) (z : Name) → {P : Type 0} → (is_some (fm.get (fm.insert w.lists (t0, x) rest) (t, z)) ≡ true) ⊎ P → (is_some (fm.get w.lists (t, z)) ≡ true) ⊎ P
       old_key t z (inr h) = inr h
       old_key t z (inl h) = inl (pick (insert_key w.lists t0 x rest t z h))
         where
@@ -130,7 +136,7 @@ module _ (w : World) (x : Name) (n : Node) (i : Item) (xs : List Item) (hx : nod
   nx1 = node_of_name w.nodes x n hx
 
   local_core : (sd : o1.node.sides ≡ n.sides) (nm : o1.node.name ≡ n.name) (ko : NodeKept o1.node) (gr : (p : Pid) → over n p ≡ true → over o1.node p ≡ true) (dr : n.unlinks ≤ o1.node.unlinks) (ro : AllRouted o1.node.sides o1.sent)
-      → ((p q : Pid) (b : List Signal) (c : Side) → same_name q.node n.name ≡ false → reaches n q.node ≡ true → Kept (view b (at_work n1) p q) c → Kept (view b o1 p q) c)
+      → ((p q : Pid) (b : List LinkWord) (c : Side) → same_name q.node n.name ≡ false → reaches n q.node ≡ true → Kept (view b (at_work n1) p q) c → Kept (view b o1 p q) c)
       → WorldKept (record { names = w.names; nodes = set_node w.nodes x o1.node; lists = carried w.lists o1.sent })
   local_core sd nm ko gr dr ro vs = changed w x n o1 (carried w.lists o1.sent) hx sd nm ko ro (λ t y d. list_to_carried w.lists o1.sent t y)
       (λ t s fs j b p q pn qn old.
@@ -168,16 +174,16 @@ good_local w x n i xs hx g first = go (kind i) (subst (λ l. Homely (λ p. never
         (local_core w x n j xs hx g e f.sides f.name (f.keeps k1) f.grows f.draws (f.routed tt) (λ p q b c far r k. f.views k1 b p q c r k))
         f.sides f.dialed f.name (f.routed tt) (f.home k1 (rest_home w x n j xs hx g e))
 
-    linking : (q0 p0 : Pid) (s : Signal) → n.local ≡ LinkSignal q0 p0 s ∷ xs → never n q0 ≡ false → never n p0 ≡ false → same_pid q0 p0 ≡ false → Good (after_local w x n xs (LinkSignal q0 p0 s))
+    linking : (q0 p0 : Pid) (s : LinkWord) → n.local ≡ AboutLink q0 p0 s ∷ xs → never n q0 ≡ false → never n p0 ≡ false → same_pid q0 p0 ≡ false → Good (after_local w x n xs (AboutLink q0 p0 s))
     linking q0 p0 s e hq hp two =
         let f = takes_link p0 q0 s (at_work (record n { local = xs })) (λ z. (hq, pid_turned q0 p0 two)) hp in
-        let k1 = kl w x n (LinkSignal q0 p0 s) xs hx g e in
+        let k1 = kl w x n (AboutLink q0 p0 s) xs hx g e in
         let own : same_name q0.node n.name ≡ true = never_own n q0 hq in
         let hd : held n q0.node ≡ true = reach_held n q0.node (own_reached n q0.node own) in
-        good_local_by w x n (LinkSignal q0 p0 s) xs hx g e
-        (local_core w x n (LinkSignal q0 p0 s) xs hx g e f.sides f.name (f.keeps k1 hd) f.grows f.draws (f.routed tt)
+        good_local_by w x n (AboutLink q0 p0 s) xs hx g e
+        (local_core w x n (AboutLink q0 p0 s) xs hx g e f.sides f.name (f.keeps k1 hd) f.grows f.draws (f.routed tt)
         (λ p q b c far r k. f.others k1 hd b p q c r (not_this p q q0 own far (same_pid p p0)) k))
-        f.sides f.dialed f.name (f.routed tt) (f.home k1 hd (rest_home w x n (LinkSignal q0 p0 s) xs hx g e))
+        f.sides f.dialed f.name (f.routed tt) (f.home k1 hd (rest_home w x n (AboutLink q0 p0 s) xs hx g e))
       where
         and_no2 : (a b : Bool) → b ≡ false → (a && b) ≡ false
         and_no2 true b h = h
@@ -187,7 +193,7 @@ good_local w x n i xs hx g first = go (kind i) (subst (λ l. Homely (λ p. never
         not_this p q q0 own far b = and_no2 b (same_pid q q0) (by_test _ (same_pid q q0)
             (λ i. let c : true ≡ false = sym own ∙ ap (λ (v : Pid). same_name v.node n.name) (sym (same_pid_true q q0 i)) ∙ far in cc) (λ i. i))
 
-    go : ((p q : Pid) → signal_of p q i ≡ []) ⊎ ((q : Pid) × (p : Pid) × (s : Signal) × (i ≡ LinkSignal q p s)) → HomeItem (λ p. never n p) i → Good (after_local w x n xs i)
+    go : ((p q : Pid) → signal_of p q i ≡ []) ⊎ ((q : Pid) × (p : Pid) × (s : LinkWord) × (i ≡ AboutLink q p s)) → HomeItem (λ p. never n p) i → Good (after_local w x n xs i)
     go (inl h) m = plain i first h
     go (inr h) m =
         let v : (never n h.0 ≡ false) × (never n h.1 ≡ false) × (same_pid h.0 h.1 ≡ false) = subst (λ z. HomeItem (λ p. never n p) z) h.3 m in

@@ -1,24 +1,32 @@
 -- What the steps keep.
-use Rattle.dist_model.specs.Node.{Tick, Item, LinkSignal, Message, Exit2, MonitorP, DemonitorP, MonitorPExit, Handshake, State, AwaitsStatus, AwaitsChallenge, AwaitsAck, Asked, Parked, Accepting, Up, Losing, Gone, TrunkSide, Node, Work, never, is_up, route_in, reaches, take, take_link}
 use Rattle.std.proofs.Common.{◌≡◌, ◌≤◌, Bool, true, false, cond, not, List, [], ◌∷◌, ◌++◌, refl, sym, ap, ◌∙◌, subst, ◌&&◌, ◌||◌, Some, ◌⊎◌, inl, inr, append-nil}
 use Rattle.std.specs.FinMap as fm
-use Rattle.std.specs.FinMap.{FinMap}
-use Rattle.dist_model.specs.Term.{Name, Pid}
-use Rattle.dist_model.specs.Pair.{Signal, Side}
+use Rattle.dist_model.proofs.Calls.{IfGoes, by_test, calls, takes_other}
 use Rattle.dist_model.proofs.Kept.{Kept}
-use Rattle.dist_model.specs.Orders.{Trunk, place_cmp, same_name, same_pid}
-use Rattle.dist_model.specs.Step.{at_work, call, Outcome, Refuses, Goes, Command, is_from, is_to, is_good}
-use Rattle.dist_model.specs.World.{World, signals, signal_of, node_of, set_node, list_to, carried, ends_in}
-use Rattle.dist_model.proofs.Keys.{same_trunk, same_trunk_true, same_trunk_is, same_name_true, same_name_refl, and_both, same_pid_true, same_pid_is}
-use Rattle.dist_model.proofs.Views.{over, side_of, view, signals-append}
-use Rattle.dist_model.proofs.Moves.{NodeKept, Moves, Takes, AllRouted, held, with_sent, reach_held, takes_link}
-use Rattle.dist_model.proofs.Routes.{some_same, at_place, node_of_name, list_to_insert, list_to_carried}
-use Rattle.dist_model.proofs.Calls.{by_test, IfGoes, calls, takes_other}
-use Rattle.dist_model.proofs.Sides.{side_at, SidesKept, joined, half, at_place_none, route_from, not_own, up_half, reach_up, joined_not_gone, up_not_gone, holds, asks, beside, up_holds}
+use Rattle.dist_model.proofs.Keys.{and_both, same_name_refl, same_name_true, same_pid_is, same_pid_true, same_trunk, same_trunk_is, same_trunk_true}
+use Rattle.dist_model.proofs.Moves.{AllRouted, Moves, NodeKept, Takes, held, reach_held, takes_link, with_sent}
+use Rattle.dist_model.proofs.Pair.{Side}
 use Rattle.dist_model.proofs.Pairs.{WorldKept, changed}
+use Rattle.dist_model.proofs.Routes.{at_place, list_to_carried, list_to_insert, node_of_name, some_same}
+use Rattle.dist_model.proofs.Sides.{SidesKept, asks, at_place_none, beside, half, holds, joined, joined_not_gone, not_own, reach_up, route_from, side_at, up_half, up_holds, up_not_gone}
+use Rattle.dist_model.proofs.Views.{more, over, side_of, signals-append, view}
+use Rattle.dist_model.specs.Arrivals.{is_from, is_good, is_to}
+use Rattle.dist_model.specs.Calls.{call}
+use Rattle.dist_model.specs.Commands.{Command, Goes, Outcome, Refuses}
+use Rattle.dist_model.specs.Items.{AboutLink, DemonitorP, Exit2, Handshake, Item, Message, MonitorP, MonitorPExit, Tick, signal_of, signals}
+use Rattle.dist_model.specs.Links.{LinkWord}
+use Rattle.dist_model.specs.Names.{Name, place_cmp, same_name, same_pid}
+use Rattle.dist_model.specs.Node.{Node, never, reaches, route_in}
+use Rattle.dist_model.specs.Sides.{Accepting, Asked, AwaitsAck, AwaitsChallenge, AwaitsStatus, Gone, Losing, Parked, State, TrunkSide, Up, is_up}
+use Rattle.dist_model.specs.Taking.{take, take_link}
+use Rattle.dist_model.specs.Work.{Work, at_work}
+use Rattle.dist_model.specs.World.{World, carried, ends_in, list_to, node_of, set_node}
+use Rattle.erl_names.specs.declared.trunk.TrunkId.{TrunkId}
+use Rattle.erl_term.specs.declared.term.Pid.{Pid}
+use Rattle.std.specs.FinMap.{FinMap}
 
 -- nothing is sent to the own node on a trunk
-pub own_none : (n : Node) (o : Work) (x : Name) (t : Trunk) → SidesKept n → n.name ≡ x → o.node.sides ≡ n.sides → AllRouted o.node.sides o.sent → at_place t x o.sent ≡ []
+pub own_none : (n : Node) (o : Work) (x : Name) (t : TrunkId) → SidesKept n → n.name ≡ x → o.node.sides ≡ n.sides → AllRouted o.node.sides o.sent → at_place t x o.sent ≡ []
 own_none n o x t k e sd ro = at_place_none o.node.sides o.sent t x ro (λ r.
     let u = route_from n x t (ap (λ l. route_in (fm.entries l) x) (sym sd) ∙ r) in
     k.other t u.found u.there (u.peer ∙ sym e))
@@ -80,20 +88,20 @@ not_beside a b ha hb h = let n : true ≡ false = sym h ∙ go (holds a) (asks b
     go false q false s hr hq = refl
     go p q true s hr hq = cc
 
-pub signal_miss : (a b q p : Pid) (s : Signal) → (same_pid a q && same_pid b p) ≡ false → signal_of q p (LinkSignal a b s) ≡ []
+pub signal_miss : (a b q p : Pid) (s : LinkWord) → (same_pid a q && same_pid b p) ≡ false → signal_of q p (AboutLink a b s) ≡ []
 signal_miss a b q p s h = ap (λ t. cond t (s ∷ []) []) h
 
-pub signal_hit : (a b q p : Pid) (s : Signal) → (same_pid a q && same_pid b p) ≡ true → signal_of q p (LinkSignal a b s) ≡ s ∷ []
+pub signal_hit : (a b q p : Pid) (s : LinkWord) → (same_pid a q && same_pid b p) ≡ true → signal_of q p (AboutLink a b s) ≡ s ∷ []
 signal_hit a b q p s h = ap (λ t. cond t (s ∷ []) []) h
 
-module _ (w : World) (x : Name) (n : Node) (t0 : Trunk) (s0 : TrunkSide) (i : Item) (rest : List Item) (o : Work) (hx : node_of w.nodes x ≡ Some n)
+module _ (w : World) (x : Name) (n : Node) (t0 : TrunkId) (s0 : TrunkSide) (i : Item) (rest : List Item) (o : Work) (hx : node_of w.nodes x ≡ Some n)
     (h0 : side_at n t0 ≡ Some s0) (u0 : is_up s0.state ≡ true) (first : list_to w.lists t0 x ≡ i ∷ rest) (k : WorldKept w)
     (sd : o.node.sides ≡ n.sides) (nm : o.node.name ≡ n.name) (ko : NodeKept o.node)
     (gr : (p : Pid) → over n p ≡ true → over o.node p ≡ true) (dr : n.unlinks ≤ o.node.unlinks) (ro : AllRouted o.node.sides o.sent)
     -- what it does to each pair: at a pair that it is about, the signal is taken
-    (views : (p q : Pid) (b : List Signal) (c : Side) → signal_of q p i ≡ [] → reaches n q.node ≡ true → Kept (view b (at_work n) p q) c → Kept (view b o p q) c)
-    (taking : (p q : Pid) (b : List Signal) (c : Side) (s : Signal) (L : List Signal) → signal_of q p i ≡ s ∷ [] → reaches n q.node ≡ true → Kept (view b (at_work n) p q) (with_sent c (s ∷ L)) → Kept (view b o p q) (with_sent c L))
-    (about : (p q : Pid) → (signal_of q p i ≡ []) ⊎ ((s : Signal) × (signal_of q p i ≡ s ∷ []) × (q.node ≡ s0.peer))) where
+    (views : (p q : Pid) (b : List LinkWord) (c : Side) → signal_of q p i ≡ [] → reaches n q.node ≡ true → Kept (view b (at_work n) p q) c → Kept (view b o p q) c)
+    (taking : (p q : Pid) (b : List LinkWord) (c : Side) (s : LinkWord) (L : List LinkWord) → signal_of q p i ≡ s ∷ [] → reaches n q.node ≡ true → Kept (view b (at_work n) p q) (with_sent c (s ∷ L)) → Kept (view b o p q) (with_sent c L))
+    (about : (p q : Pid) → (signal_of q p i ≡ []) ⊎ ((s : LinkWord) × (signal_of q p i ≡ s ∷ []) × (q.node ≡ s0.peer))) where
   m1 : FinMap place_cmp (List Item)
   m1 = fm.insert w.lists (t0, x) rest
 
@@ -106,32 +114,32 @@ module _ (w : World) (x : Name) (n : Node) (t0 : Trunk) (s0 : TrunkSide) (i : It
   sk : SidesKept n
   sk = k.sides x n hx
 
-  others_stay : (t : Trunk) (y : Name) → (y ≡ x → ⊥) → list_to (carried m1 o.sent) t y ≡ list_to w.lists t y ++ at_place t y o.sent
+  others_stay : (t : TrunkId) (y : Name) → (y ≡ x → ⊥) → list_to (carried m1 o.sent) t y ≡ list_to w.lists t y ++ at_place t y o.sent
   unfolding m1
   others_stay t y d = list_to_carried m1 o.sent t y ∙ ap (λ l. l ++ at_place t y o.sent)
       (list_to_insert w.lists t0 x rest t y ∙ ap (λ b. cond b rest (list_to w.lists t y)) (and_no (same_trunk t t0) (same_name y x) (not_same x y d)))
 
-  own_list : (t : Trunk) → list_to (carried m1 o.sent) t x ≡ cond (same_trunk t t0 && same_name x x) rest (list_to w.lists t x)
+  own_list : (t : TrunkId) → list_to (carried m1 o.sent) t x ≡ cond (same_trunk t t0 && same_name x x) rest (list_to w.lists t x)
   unfolding m1
   own_list t = list_to_carried m1 o.sent t x ∙ ap (λ l. list_to m1 t x ++ l) (own_none n o x t sk nx sd ro) ∙ append-nil (list_to m1 t x) ∙ list_to_insert w.lists t0 x rest t x
 
   -- only the trunk itself leads to the sender's node
-  same_one : (t : Trunk) (s : TrunkSide) → side_at n t ≡ Some s → joined s.state ≡ true → s.peer ≡ s0.peer → t ≡ t0
+  same_one : (t : TrunkId) (s : TrunkSide) → side_at n t ≡ Some s → joined s.state ≡ true → s.peer ≡ s0.peer → t ≡ t0
   same_one t s fs j e = go (sk.one t t0 s s0 fs h0 e (joined_not_gone s.state j) (up_not_gone s0.state u0))
     where
       go : (t ≡ t0) ⊎ (beside s.state s0.state ≡ true) → t ≡ t0
       go (inl h) = h
       go (inr h) = absurd (not_beside s.state s0.state (joined_asks s.state j) (up_holds s0.state u0).1 h)
 
-  halves : (t : Trunk) (s : TrunkSide) → side_at n t ≡ Some s → joined s.state ≡ true → (p q : Pid) → q.node ≡ s.peer → (c : Side)
-      → ((b : List Signal) → reaches n q.node ≡ true → Kept (view b (at_work n) p q) c → Kept (view b o p q) c)
+  halves : (t : TrunkId) (s : TrunkSide) → side_at n t ≡ Some s → joined s.state ≡ true → (p q : Pid) → q.node ≡ s.peer → (c : Side)
+      → ((b : List LinkWord) → reaches n q.node ≡ true → Kept (view b (at_work n) p q) c → Kept (view b o p q) c)
       → Kept (side_of n p q (signals p q (list_to w.lists t s.peer))) c → Kept (side_of o.node p q (signals p q (list_to (carried m1 o.sent) t s.peer))) c
   halves t s fs j p q qn c vs old =
       let d : s.peer ≡ x → ⊥ = λ e. sk.other t s fs (e ∙ sym nx) in
       subst (λ l. Kept (side_of o.node p q l) c) (sym (two_parts p q (list_to w.lists t s.peer) (at_place t s.peer o.sent) _ (others_stay t s.peer d)))
       (half n o sd nm kn ko gr dr ro sk t s fs j p q qn (list_to w.lists t s.peer) c vs old)
 
-  mover : (t : Trunk) (s : TrunkSide) → side_at n t ≡ Some s → joined s.state ≡ true → (b : Node) (p q : Pid) → p.node ≡ x → q.node ≡ s.peer
+  mover : (t : TrunkId) (s : TrunkSide) → side_at n t ≡ Some s → joined s.state ≡ true → (b : Node) (p q : Pid) → p.node ≡ x → q.node ≡ s.peer
       → Kept (side_of n p q (signals p q (list_to w.lists t s.peer))) (side_of b q p (signals q p (list_to w.lists t x)))
       → Kept (side_of o.node p q (signals p q (list_to (carried m1 o.sent) t s.peer))) (side_of b q p (signals q p (list_to (carried m1 o.sent) t x)))
   mover t s fs j b p q pn qn old = by_test _ (same_trunk t t0)
@@ -150,13 +158,13 @@ module _ (w : World) (x : Name) (n : Node) (t0 : Trunk) (s0 : TrunkSide) (i : It
       subst (λ l. Kept (side_of o.node p q (signals p q (list_to (carried m1 o.sent) t s.peer))) (side_of b q p (signals q p l))) (sym l1)
       (halves t s fs j p q qn (side_of b q p (signals q p (list_to w.lists t x))) (λ l r. views p q l _ (not_about t s fs j p q qn e (about p q)) r) old))
     where
-      not_about : (t : Trunk) (s : TrunkSide) → side_at n t ≡ Some s → joined s.state ≡ true → (p q : Pid) → q.node ≡ s.peer → same_trunk t t0 ≡ false → (signal_of q p i ≡ []) ⊎ ((s : Signal) × (signal_of q p i ≡ s ∷ []) × (q.node ≡ s0.peer)) → signal_of q p i ≡ []
+      not_about : (t : TrunkId) (s : TrunkSide) → side_at n t ≡ Some s → joined s.state ≡ true → (p q : Pid) → q.node ≡ s.peer → same_trunk t t0 ≡ false → (signal_of q p i ≡ []) ⊎ ((s : LinkWord) × (signal_of q p i ≡ s ∷ []) × (q.node ≡ s0.peer)) → signal_of q p i ≡ []
       not_about t s fs j p q qn e (inl h) = h
       not_about t s fs j p q qn e (inr h) = let c : true ≡ false = sym (same_trunk_is t t0 (same_one t s fs j (sym qn ∙ h.2))) ∙ e in cc
 
-      on_it : (t : Trunk) (s : TrunkSide) → side_at n t ≡ Some s → joined s.state ≡ true → is_up s.state ≡ true → (b : Node) (p q : Pid) → q.node ≡ s.peer
+      on_it : (t : TrunkId) (s : TrunkSide) → side_at n t ≡ Some s → joined s.state ≡ true → is_up s.state ≡ true → (b : Node) (p q : Pid) → q.node ≡ s.peer
           → Kept (side_of n p q (signals p q (list_to w.lists t s.peer))) (side_of b q p (signal_of q p i ++ signals q p rest))
-          → (signal_of q p i ≡ []) ⊎ ((s : Signal) × (signal_of q p i ≡ s ∷ []) × (q.node ≡ s0.peer))
+          → (signal_of q p i ≡ []) ⊎ ((s : LinkWord) × (signal_of q p i ≡ s ∷ []) × (q.node ≡ s0.peer))
           → Kept (side_of o.node p q (signals p q (list_to (carried m1 o.sent) t s.peer))) (side_of b q p (signals q p rest))
       on_it t s fs j us b p q qn old (inl h) = halves t s fs j p q qn (side_of b q p (signals q p rest)) (λ l r. views p q l _ h r)
           (subst (λ l. Kept (side_of n p q (signals p q (list_to w.lists t s.peer))) (side_of b q p (l ++ signals q p rest))) h old)
@@ -183,8 +191,8 @@ not_never n p h = go (never n p) (and_both (same_name p.node n.name) (not (never
     go false h = refl
 
 -- about a link, or not
-pub kind : (i : Item) → ((p q : Pid) → signal_of p q i ≡ []) ⊎ ((q : Pid) × (p : Pid) × (s : Signal) × (i ≡ LinkSignal q p s))
-kind (LinkSignal q p s) = inr (q, p, s, refl)
+pub kind : (i : Item) → ((p q : Pid) → signal_of p q i ≡ []) ⊎ ((q : Pid) × (p : Pid) × (s : LinkWord) × (i ≡ AboutLink q p s))
+kind (AboutLink q p s) = inr (q, p, s, refl)
 kind (Message p t) = inl (λ a b. refl)
 kind (Exit2 q p r) = inl (λ a b. refl)
 kind (MonitorP q p r) = inl (λ a b. refl)
@@ -193,7 +201,7 @@ kind (MonitorPExit q p r e) = inl (λ a b. refl)
 kind (Handshake m) = inl (λ a b. refl)
 kind Tick = inl (λ a b. refl)
 
-module _ (w : World) (x : Name) (n : Node) (t0 : Trunk) (s0 : TrunkSide) (rest : List Item) (hx : node_of w.nodes x ≡ Some n)
+module _ (w : World) (x : Name) (n : Node) (t0 : TrunkId) (s0 : TrunkSide) (rest : List Item) (hx : node_of w.nodes x ≡ Some n)
     (h0 : side_at n t0 ≡ Some s0) (u0 : is_up s0.state ≡ true) (k : WorldKept w) where
   plain : (i : Item) → list_to w.lists t0 x ≡ i ∷ rest → ((p q : Pid) → signal_of p q i ≡ [])
       → WorldKept (record { names = w.names; nodes = set_node w.nodes x ((take i (at_work n)).node); lists = carried (fm.insert w.lists (t0, x) rest) ((take i (at_work n)).sent) })
@@ -205,7 +213,7 @@ module _ (w : World) (x : Name) (n : Node) (t0 : Trunk) (s0 : TrunkSide) (rest :
       (λ p q b c s l e r. let z : s ∷ [] ≡ [] = sym e ∙ none q p in cc)
       (λ p q. inl (none q p))
 
-  linking : (q0 p0 : Pid) (s : Signal) → list_to w.lists t0 x ≡ LinkSignal q0 p0 s ∷ rest → (is_from s0 q0 && is_to n p0) ≡ true
+  linking : (q0 p0 : Pid) (s : LinkWord) → list_to w.lists t0 x ≡ AboutLink q0 p0 s ∷ rest → (is_from s0 q0 && is_to n p0) ≡ true
       → WorldKept (record { names = w.names; nodes = set_node w.nodes x ((take_link p0 q0 s (at_work n)).node); lists = carried (fm.insert w.lists (t0, x) rest) ((take_link p0 q0 s (at_work n)).sent) })
   linking q0 p0 s first good =
       let g = and_both (is_from s0 q0) (is_to n p0) good in
@@ -213,14 +221,14 @@ module _ (w : World) (x : Name) (n : Node) (t0 : Trunk) (s0 : TrunkSide) (rest :
       let f = takes_link p0 q0 s (at_work n) (λ e. absurd (let c : true ≡ false = sym e ∙ ap (λ y. same_name y n.name) from ∙ not_own n t0 s0 (k.sides x n hx) h0 in cc)) (not_never n p0 g.1) in
       let kn = k.nodes x n hx in
       let hd : held n q0.node ≡ true = ap (held n) from ∙ reach_held n s0.peer (reach_up n t0 s0 (k.sides x n hx) h0 u0) in
-      arrived w x n t0 s0 (LinkSignal q0 p0 s) rest (take_link p0 q0 s (at_work n)) hx h0 u0 first k f.sides f.name (f.keeps kn hd) f.grows f.draws (f.routed tt)
+      arrived w x n t0 s0 (AboutLink q0 p0 s) rest (take_link p0 q0 s (at_work n)) hx h0 u0 first k f.sides f.name (f.keeps kn hd) f.grows f.draws (f.routed tt)
       (λ p q b c e r. f.others kn hd b p q c r (miss p q e))
       (λ p q b c u l e r. hit p q b c u l e r f kn hd)
       (λ p q. by_test _ (same_pid q0 q && same_pid p0 p)
       (λ h. inr (s, signal_hit q0 p0 q p s h, ap (λ (v : Pid). v.node) (sym (same_pid_true q0 q (and_both (same_pid q0 q) (same_pid p0 p) h).0)) ∙ from))
       (λ h. inl (signal_miss q0 p0 q p s h)))
     where
-      miss : (p q : Pid) → signal_of q p (LinkSignal q0 p0 s) ≡ [] → (same_pid p p0 && same_pid q q0) ≡ false
+      miss : (p q : Pid) → signal_of q p (AboutLink q0 p0 s) ≡ [] → (same_pid p p0 && same_pid q q0) ≡ false
       miss p q e = by_test _ (same_pid p p0 && same_pid q q0)
           (λ h.
           let v = and_both (same_pid p p0) (same_pid q q0) h in
@@ -228,7 +236,7 @@ module _ (w : World) (x : Name) (n : Node) (t0 : Trunk) (s0 : TrunkSide) (rest :
           let z : s ∷ [] ≡ [] = sym (signal_hit q0 p0 q p s c) ∙ e in cc)
           (λ h. h)
 
-      hit : (p q : Pid) (b : List Signal) (c : Side) (u : Signal) (l : List Signal) → signal_of q p (LinkSignal q0 p0 s) ≡ u ∷ [] → reaches n q.node ≡ true → Takes p0 q0 s (at_work n) (take_link p0 q0 s (at_work n)) → NodeKept n → held n q0.node ≡ true
+      hit : (p q : Pid) (b : List LinkWord) (c : Side) (u : LinkWord) (l : List LinkWord) → signal_of q p (AboutLink q0 p0 s) ≡ u ∷ [] → reaches n q.node ≡ true → Takes p0 q0 s (at_work n) (take_link p0 q0 s (at_work n)) → NodeKept n → held n q0.node ≡ true
           → Kept (view b (at_work n) p q) (with_sent c (u ∷ l)) → Kept (view b (take_link p0 q0 s (at_work n)) p q) (with_sent c l)
       hit p q b c u l e r f kn hd old = by_test _ (same_pid q0 q && same_pid p0 p)
           (λ h.
@@ -250,6 +258,6 @@ module _ (w : World) (x : Name) (n : Node) (t0 : Trunk) (s0 : TrunkSide) (rest :
   pub good_item : (i : Item) → list_to w.lists t0 x ≡ i ∷ rest → is_good n s0 i ≡ true → taken i
   good_item i first good = go (kind i)
     where
-      go : ((p q : Pid) → signal_of p q i ≡ []) ⊎ ((q : Pid) × (p : Pid) × (s : Signal) × (i ≡ LinkSignal q p s)) → taken i
+      go : ((p q : Pid) → signal_of p q i ≡ []) ⊎ ((q : Pid) × (p : Pid) × (s : LinkWord) × (i ≡ AboutLink q p s)) → taken i
       go (inl h) = plain i first h
       go (inr h) = subst (λ z. taken z) (sym h.3) (linking h.0 h.1 h.2 (first ∙ ap (λ z. z ∷ rest) h.3) (sym (ap (is_good n s0) h.3) ∙ good))

@@ -2,31 +2,39 @@
 use Rattle.std.proofs.Common.{◌≡◌, ℕ, Bool, true, false, cond, List, [], ◌∷◌, refl, sym, ap, ◌∙◌, subst, ◌&&◌, ◌||◌, Option, Some, None, ◌⊎◌, inl, inr, T}
 use Rattle.std.specs.Option.{is_some}
 use Rattle.std.specs.FinMap as fm
-use Rattle.dist_model.specs.Term.{Name, Pid, NoConnection, DownNote, Reference}
-use Rattle.dist_model.specs.Pair.{End, Absent, Active, Pending}
-use Rattle.dist_model.specs.Orders.{Trunk, same_name, pair_cmp}
-use Rattle.dist_model.specs.Node.{Item, LinkSignal, Message, Exit2, MonitorP, DemonitorP, MonitorPExit, Handshake, HandshakeMessage, ChallengeAck, ChallengeReply, Challenge, SendName, StatusTrue, StatusFalse, StatusOk, StatusOkSimultaneous, StatusNok, StatusNotAllowed, StatusAlive, State, AwaitsStatus, AwaitsChallenge, AwaitsAck, Asked, Parked, Accepting, Up, Losing, Gone, TrunkSide, Node, Envelope, Work, end_of, living, never, is_up, route_in, route, reaches, take, take_link, set_end, link_exit, put, unwatch}
-use Rattle.dist_model.specs.Step.{at_work, is_gone, link_to, watch_to, registered_by, sweep_end, sweep_registered, sweep_watch, sweep_link, has_records}
-use Rattle.dist_model.specs.World.{World, node_of, list_to}
-use Rattle.dist_model.proofs.Keys.{same_name_true, same_name_is, pair_total, pair_exact}
-use Rattle.dist_model.proofs.Moves.{NodeKept, Moves, held, stays, then, puts, removes_unreached, link_exits}
-use Rattle.dist_model.proofs.Routes.{some_same, node_of_name}
-use Rattle.dist_model.proofs.Calls.{by_test, unwatches_one, unregisters}
-use Rattle.dist_model.proofs.Sides.{side_at, SidesKept, route_from, Routed, not_own, up_not_gone, holds, asks, beside, up_holds}
 use Rattle.std.specs.Ordering.{eq_by_cmp, is_eq, is_lt}
-use Rattle.dist_model.proofs.Table.{begun, begun_state, up_once, is_reply, has, Row, role_state, Good}
-use Rattle.dist_model.proofs.Reside.{with_side_at, Fits, side_after_same, side_after_other, drops, comes_up, accepts_up, replies_to, alone, resided, blank}
-use Rattle.dist_model.proofs.Handshake.{as_state, in_state, good_state, fits_gone, rows_gone, role_is_acceptor}
 use Rattle.dist_model.proofs.Reside
 use Rattle.dist_model.specs.Node
-use Rattle.dist_model.proofs.Steps.{not_beside}
 use Rattle.std.specs.FinMap.Entries.{find, is_sorted, below_all}
 use Rattle.std.specs.declared.cmp.Ordering.{Ordering}
 use Rattle.std.specs.declared.cmp.Ordering.TheVariants.{Less, Equal, Greater}
 use Rattle.std.specs.Cmp.{tied_itself}
+use Rattle.dist_model.proofs.Calls.{by_test, unregisters, unwatches_one}
+use Rattle.dist_model.proofs.Handshake.{as_state, fits_gone, good_state, in_state, role_is_acceptor, rows_gone}
+use Rattle.dist_model.proofs.Keys.{pair_exact, pair_total, same_name_is, same_name_true}
+use Rattle.dist_model.proofs.Moves.{Moves, NodeKept, held, link_exits, puts, removes_unreached, stays, then}
+use Rattle.dist_model.proofs.Reside.{Fits}
+use Rattle.dist_model.proofs.Routes.{node_of_name, some_same}
+use Rattle.dist_model.proofs.Sides.{Routed, SidesKept, asks, beside, holds, not_own, route_from, side_at, up_holds, up_not_gone}
+use Rattle.dist_model.proofs.Steps.{kind, not_beside}
+use Rattle.dist_model.proofs.Table.{Good, Row, begun, begun_state, has, is_reply, role_state, up_once}
+use Rattle.dist_model.specs.Exits.{link_exit}
+use Rattle.dist_model.specs.Links.{noconnection}
+use Rattle.dist_model.specs.Losses.{has_records, link_to, registered_by, sweep_end, sweep_link, sweep_registered, sweep_watch, watch_to}
+use Rattle.dist_model.specs.Names.{Name, pair_cmp, same_name}
+use Rattle.dist_model.specs.Node.{Node, end_in, living, reaches, route}
+use Rattle.dist_model.specs.Sides.{Accepting, Asked, AwaitsAck, AwaitsChallenge, AwaitsStatus, Gone, Losing, Parked, State, TrunkSide, Up, is_gone, is_up}
+use Rattle.dist_model.specs.Taking.{unwatch}
+use Rattle.dist_model.specs.Work.{Work, at_work, put, set_end}
+use Rattle.dist_model.specs.World.{World, list_to, node_of}
+use Rattle.erl_names.specs.declared.trunk.TrunkId.{TrunkId}
+use Rattle.erl_term.specs.declared.term.Pid.{Pid}
+use Rattle.erl_term.specs.declared.term.Reference.{Reference}
+use Rattle.exit_core.specs.Messages.{down_term}
+use Rattle.link_core.specs.declared.end.End.{End}
 
 -- towards y the node has a side that is losing, and none that is up
-pub losing_unreached : (n : Node) (t : Trunk) (v : TrunkSide) → SidesKept n → side_at n t ≡ Some v → v.state ≡ Losing → reaches n v.peer ≡ false
+pub losing_unreached : (n : Node) (t : TrunkId) (v : TrunkSide) → SidesKept n → side_at n t ≡ Some v → v.state ≡ Losing → reaches n v.peer ≡ false
 losing_unreached n t v k h e = by_test _ (reaches n v.peer) (λ r. absurd (go (same_name v.peer n.name) (not_own n t v k h) (route n v.peer) refl r)) (λ r. r)
   where
     pick : (u : Routed n v.peer t) → ⊥
@@ -34,11 +42,11 @@ losing_unreached n t v k h e = by_test _ (reaches n v.peer) (λ r. absurd (go (s
         let s : u.found ≡ v = some_same u.found v (sym u.there ∙ h) in
         let c : true ≡ false = sym u.up ∙ ap (λ (z : TrunkSide). is_up z.state) s ∙ ap is_up e in cc
 
-    other : (r : Trunk) (u : Routed n v.peer r) → (t ≡ r) ⊎ (beside v.state u.found.state ≡ true) → ⊥
+    other : (r : TrunkId) (u : Routed n v.peer r) → (t ≡ r) ⊎ (beside v.state u.found.state ≡ true) → ⊥
     other r u (inl i) = pick (subst (λ z. Routed n v.peer z) (sym i) u)
     other r u (inr i) = not_beside v.state u.found.state (ap asks e) ((up_holds u.found.state u.up).1) i
 
-    go : (b : Bool) → b ≡ false → (o : Option Trunk) → route n v.peer ≡ o → (b || is_some o) ≡ true → ⊥
+    go : (b : Bool) → b ≡ false → (o : Option TrunkId) → route n v.peer ≡ o → (b || is_some o) ≡ true → ⊥
     go true h o i r = cc
     go false hb None i r = cc
     go false hb (Some u) i r =
@@ -102,10 +110,10 @@ link_none y (d ∷ es) h p q e = elim (same_name d.0.1.node y) as (λ b. same_na
     is_eq_equal Equal h = refl
     is_eq_equal Greater h = cc
 
-ends_swept : (e : End) (p q : Pid) (o : Work) → reaches o.node q.node ≡ false → ((e ≡ Absent → ⊥) → living o.node p ≡ true) → Moves o (sweep_end e p q o)
-ends_swept Absent p q o r l = removes_unreached p q o r
-ends_swept Active p q o r l = then o (set_end p q Absent o) (link_exit p q NoConnection (set_end p q Absent o)) (removes_unreached p q o r) (link_exits p q NoConnection (set_end p q Absent o) (l (λ h. cc)))
-ends_swept (Pending i) p q o r l = removes_unreached p q o r
+ends_swept : (e : End) (p q : Pid) (o : Work) → reaches o.node q.node ≡ false → ((e ≡ End.None → ⊥) → living o.node p ≡ true) → Moves o (sweep_end e p q o)
+ends_swept End.None p q o r l = removes_unreached p q o r
+ends_swept End.Active p q o r l = then o (set_end p q End.None o) (link_exit p q noconnection (set_end p q End.None o)) (removes_unreached p q o r) (link_exits p q noconnection (set_end p q End.None o) (l (λ h. cc)))
+ends_swept (End.Pending i) p q o r l = removes_unreached p q o r
 
 registered_swept : (d : Option (Reference × (Pid × Pid))) (o : Work) → Moves o (sweep_registered d o)
 registered_swept None o = stays o
@@ -113,24 +121,24 @@ registered_swept (Some e) o = unregisters e.0 o
 
 watches_swept : (d : Option (Reference × (Pid × Pid))) (y : Name) (o : Work) → Moves o (sweep_watch d y o)
 watches_swept None y o = registered_swept (registered_by y (fm.entries o.node.registered)) o
-watches_swept (Some e) y o = then o (unwatch e.0 o) (put e.1.0 (DownNote e.0 e.1.1 NoConnection) (unwatch e.0 o)) (unwatches_one e.0 o) (puts e.1.0 (DownNote e.0 e.1.1 NoConnection) (unwatch e.0 o))
+watches_swept (Some e) y o = then o (unwatch e.0 o) (put e.1.0 (down_term e.0 e.1.1 noconnection) (unwatch e.0 o)) (unwatches_one e.0 o) (puts e.1.0 (down_term e.0 e.1.1 noconnection) (unwatch e.0 o))
 
 links_swept : (d : Option ((Pid × Pid) × End)) (y : Name) (o : Work) → link_to y (fm.entries o.node.ends) ≡ d → NodeKept o.node → reaches o.node y ≡ false → Moves o (sweep_link d y o)
 links_swept None y o h k r = watches_swept (watch_to y (fm.entries o.node.watches)) y o
 links_swept (Some e) y o h k r =
     let f = link_found y (fm.entries o.node.ends) e (fm.entries_sorted o.node.ends) h in
     ends_swept e.1 e.0.0 e.0.1 o (ap (reaches o.node) f.1 ∙ r)
-    (λ n. (k.rooted e.0.0 e.0.1 (λ a. n (sym (ap Rattle.dist_model.specs.Node.end_in (fm.get-entries o.node.ends e.0 ∙ f.0)) ∙ a))).0)
+    (λ n. (k.rooted e.0.0 e.0.1 (λ a. n (sym (ap end_in (fm.get-entries o.node.ends e.0 ∙ f.0)) ∙ a))).0)
 
 -- one record goes
-pub sweep_moves : (n : Node) (t : Trunk) (v : TrunkSide) → NodeKept n → SidesKept n → side_at n t ≡ Some v → v.state ≡ Losing → Moves (at_work n) (sweep_link (link_to v.peer (fm.entries n.ends)) v.peer (at_work n))
+pub sweep_moves : (n : Node) (t : TrunkId) (v : TrunkSide) → NodeKept n → SidesKept n → side_at n t ≡ Some v → v.state ≡ Losing → Moves (at_work n) (sweep_link (link_to v.peer (fm.entries n.ends)) v.peer (at_work n))
 sweep_moves n t v kn sk h e = links_swept (link_to v.peer (fm.entries n.ends)) v.peer (at_work n) refl kn (losing_unreached n t v sk h e)
 
 -- with no records left the side is gone
-pub good_closed : (w : World) (x : Name) (n : Node) (t : Trunk) (v : TrunkSide) → node_of w.nodes x ≡ Some n → side_at n t ≡ Some v → has_records v.peer n ≡ false → Good w → Good (in_state w x n t (as_state v Gone))
+pub good_closed : (w : World) (x : Name) (n : Node) (t : TrunkId) (v : TrunkSide) → node_of w.nodes x ≡ Some n → side_at n t ≡ Some v → has_records v.peer n ≡ false → Good w → Good (in_state w x n t (as_state v Gone))
 good_closed w x n t v hx h clean g =
     let none : link_to v.peer (fm.entries n.ends) ≡ None = none_of (link_to v.peer (fm.entries n.ends)) (is_some (watch_to v.peer (fm.entries n.watches))) (is_some (registered_by v.peer (fm.entries n.registered))) clean in
-    let f = fits_gone n t v (as_state v Gone) (g.core.sides x n hx) h refl refl (λ i p q e. ap Rattle.dist_model.specs.Node.end_in (fm.get-entries n.ends (p, q) ∙ link_none v.peer (fm.entries n.ends) none p q e)) in
+    let f = fits_gone n t v (as_state v Gone) (g.core.sides x n hx) h refl refl (λ i p q e. ap end_in (fm.get-entries n.ends (p, q) ∙ link_none v.peer (fm.entries n.ends) none p q e)) in
     good_state w x n t v (as_state v Gone) hx h refl f g (Rattle.dist_model.proofs.Reside.drops w x n t v (as_state v Gone) hx h refl refl f g.core) (role_gone (same_name t.dialer n.name)) (rows_gone w x t v (as_state v Gone) refl)
   where
     role_gone : (b : Bool) → role_state b Gone ≡ true
@@ -142,7 +150,7 @@ good_closed w x n t v hx h clean g =
     none_of (Some e) a b h = cc
 
 -- a side that waited goes on, where nobody holds the peer's records any more
-pub good_unparked : (w : World) (x : Name) (n : Node) (t : Trunk) (v : TrunkSide) (k : ℕ) → node_of w.nodes x ≡ Some n → side_at n t ≡ Some v → asks v.state ≡ true → held n v.peer ≡ false → Good w → Good (in_state w x n t (as_state v (Accepting k)))
+pub good_unparked : (w : World) (x : Name) (n : Node) (t : TrunkId) (v : TrunkSide) (k : ℕ) → node_of w.nodes x ≡ Some n → side_at n t ≡ Some v → asks v.state ≡ true → held n v.peer ≡ false → Good w → Good (in_state w x n t (as_state v (Accepting k)))
 good_unparked w x n t v k hx h a nh g =
     let kind = ask_kind v.state a in
     let sk = g.core.sides x n hx in
@@ -184,7 +192,7 @@ good_unparked w x n t v k hx h a nh g =
     second_holds false q true s h e = e
     second_holds false q false s h e = cc
 
-    crowd : (u : Trunk) (b : TrunkSide) → side_at n u ≡ Some b → b.peer ≡ v.peer → (u ≡ t → ⊥) → (t ≡ u) ⊎ (beside v.state b.state ≡ true) → ⊥
+    crowd : (u : TrunkId) (b : TrunkSide) → side_at n u ≡ Some b → b.peer ≡ v.peer → (u ≡ t → ⊥) → (t ≡ u) ⊎ (beside v.state b.state ≡ true) → ⊥
     crowd u b hb eb d (inl i) = d (sym i)
     crowd u b hb eb d (inr i) =
         let hold : holds b.state ≡ true = second_holds (holds v.state) (asks b.state) (asks v.state) (holds b.state) (ask_kind v.state a).1 i in

@@ -2,20 +2,26 @@
 use Rattle.std.proofs.Common.{◌≡◌, ◌≤◌, Bool, true, false, cond, List, [], ◌∷◌, ◌++◌, refl, sym, ap, ◌∙◌, subst, arith, ◌&&◌, ◌||◌, Option, Some, None, ◌⊎◌, inl, inr, append-nil}
 use Rattle.std.specs.Option.{is_some}
 use Rattle.std.specs.FinMap as fm
-use Rattle.std.specs.FinMap.{FinMap}
-use Rattle.dist_model.specs.Term.{Name, Pid}
-use Rattle.dist_model.specs.Orders.{Trunk, trunk_cmp, place_cmp, same_name}
-use Rattle.dist_model.specs.Node.{Item, Handshake, ChallengeAck, ChallengeReply, Challenge, State, AwaitsStatus, AwaitsChallenge, AwaitsAck, Asked, Parked, Accepting, Up, Losing, Gone, TrunkSide, Node, Envelope, Work, is_up, route_in}
-use Rattle.dist_model.specs.Step.{at_work, is_gone, call, Outcome, Refuses, Goes, Command}
-use Rattle.dist_model.specs.World.{World, signals, node_of, set_node, list_to, carried, ends_in}
-use Rattle.dist_model.proofs.Keys.{same_trunk, same_trunk_true, same_name_true, same_name_is, and_both, place_total, same_place}
-use Rattle.dist_model.proofs.Moves.{Moves, home_of, AllRouted}
-use Rattle.dist_model.proofs.Routes.{some_same, at_place, node_of_name, node_of_set_same, node_of_set_other, list_to_carried}
-use Rattle.dist_model.proofs.Calls.{by_test, IfGoes, calls}
-use Rattle.dist_model.proofs.Sides.{side_at, SidesKept, at_place_none, route_from, Routed, up_not_gone, holds, asks, beside, up_holds}
-use Rattle.dist_model.proofs.Pairs.{WorldKept}
-use Rattle.dist_model.proofs.Steps.{moved}
+use Rattle.dist_model.proofs.Calls.{IfGoes, by_test, calls}
 use Rattle.dist_model.proofs.Home.{HomePairs, home_moves}
+use Rattle.dist_model.proofs.Keys.{and_both, place_total, same_name_is, same_name_true, same_place, same_trunk, same_trunk_true}
+use Rattle.dist_model.proofs.Moves.{AllRouted, Moves, home_of}
+use Rattle.dist_model.proofs.Pairs.{WorldKept}
+use Rattle.dist_model.proofs.Routes.{at_place, list_to_carried, node_of_name, node_of_set_other, node_of_set_same, some_same}
+use Rattle.dist_model.proofs.Sides.{Routed, SidesKept, asks, at_place_none, beside, holds, route_from, side_at, up_holds, up_not_gone}
+use Rattle.dist_model.proofs.Steps.{moved}
+use Rattle.dist_model.specs.Calls.{call}
+use Rattle.dist_model.specs.Commands.{Command, Goes, Outcome, Refuses}
+use Rattle.dist_model.specs.Items.{Challenge, ChallengeAck, ChallengeReply, Handshake, Item, signals}
+use Rattle.dist_model.specs.Names.{Name, place_cmp, same_name}
+use Rattle.dist_model.specs.Node.{Node, route_in}
+use Rattle.dist_model.specs.Sides.{Accepting, Asked, AwaitsAck, AwaitsChallenge, AwaitsStatus, Gone, Losing, Parked, State, TrunkSide, Up, is_gone, is_up}
+use Rattle.dist_model.specs.Work.{Envelope, Work, at_work}
+use Rattle.dist_model.specs.World.{World, carried, ends_in, list_to, node_of, set_node}
+use Rattle.erl_names.specs.Order.{trunk_cmp}
+use Rattle.erl_names.specs.declared.trunk.TrunkId.{TrunkId}
+use Rattle.erl_term.specs.declared.term.Pid.{Pid}
+use Rattle.std.specs.FinMap.{FinMap}
 
 -- the dialer's side before it replied
 abbrev pub is_early : State → Bool
@@ -94,7 +100,7 @@ pub record Row (v : State) (a : Option TrunkSide) (to_dialer to_acceptor : List 
   pub waits : begun a ≡ false → (has is_challenge to_dialer ≡ false) × (has is_reply to_acceptor ≡ false)
 
 abbrev pub Table : List Node → FinMap place_cmp (List Item) → Type 0
-Table ns m = (t : Trunk) (d a : Node) (s : TrunkSide) → node_of ns t.dialer ≡ Some d → side_at d t ≡ Some s → node_of ns s.peer ≡ Some a → Row s.state (side_at a t) (list_to m t t.dialer) (list_to m t s.peer)
+Table ns m = (t : TrunkId) (d a : Node) (s : TrunkSide) → node_of ns t.dialer ≡ Some d → side_at d t ≡ Some s → node_of ns s.peer ≡ Some a → Row s.state (side_at a t) (list_to m t t.dialer) (list_to m t s.peer)
 
 -- a dialer's side is never Asked, Parked or Accepting, an acceptor's never Dialing
 abbrev pub role_state : Bool → State → Bool
@@ -120,10 +126,10 @@ role_state false Gone = true
 pub record HomeKept (n : Node) : Type 0 where
   pub local : home_of n
   pub pairs : HomePairs n
-  pub roles : (t : Trunk) (s : TrunkSide) → side_at n t ≡ Some s → role_state (same_name t.dialer n.name) s.state ≡ true
-  pub counts : (t : Trunk) (s : TrunkSide) → side_at n t ≡ Some s → t.dialer ≡ n.name → t.count ≤ n.dialed
+  pub roles : (t : TrunkId) (s : TrunkSide) → side_at n t ≡ Some s → role_state (same_name t.dialer n.name) s.state ≡ true
+  pub counts : (t : TrunkId) (s : TrunkSide) → side_at n t ≡ Some s → t.dialer ≡ n.name → t.count ≤ n.dialed
 
-abbrev pub Posted : List Node → Trunk → Name → Type 0
+abbrev pub Posted : List Node → TrunkId → Name → Type 0
 Posted ns t z = (s : TrunkSide) × (d : Node) × (node_of ns t.dialer ≡ Some d) × (side_at d t ≡ Some s) × ((t.dialer ≡ z) ⊎ (s.peer ≡ z))
 
 -- one that is up, or will be by what stands in its list
@@ -139,7 +145,7 @@ may_be_up Losing l = false
 may_be_up Gone l = false
 
 -- such a side of x towards y
-pub record Likely (ns : List Node) (m : FinMap place_cmp (List Item)) (x : Name) (t : Trunk) (y : Name) : Type 0 where
+pub record Likely (ns : List Node) (m : FinMap place_cmp (List Item)) (x : Name) (t : TrunkId) (y : Name) : Type 0 where
   pub node : Node
   pub at : node_of ns x ≡ Some node
   pub side : TrunkSide
@@ -149,10 +155,10 @@ pub record Likely (ns : List Node) (m : FinMap place_cmp (List Item)) (x : Name)
 
 -- those of x towards y and of y towards x are sides of one trunk
 abbrev pub Single : List Node → FinMap place_cmp (List Item) → Type 0
-Single ns m = (x y : Name) (t u : Trunk) → Likely ns m x t y → Likely ns m y u x → t ≡ u
+Single ns m = (x y : Name) (t u : TrunkId) → Likely ns m x t y → Likely ns m y u x → t ≡ u
 
 -- the one side of x towards y that dials, accepts, is up or is losing
-pub record Anchor (ns : List Node) (x : Name) (t : Trunk) (y : Name) : Type 0 where
+pub record Anchor (ns : List Node) (x : Name) (t : TrunkId) (y : Name) : Type 0 where
   pub node : Node
   pub at : node_of ns x ≡ Some node
   pub side : TrunkSide
@@ -205,11 +211,11 @@ no_asks_beside a b ha hb h = go (holds a) (asks b) (asks a) (holds b) hb ha h
 
 -- where each likely side was likely before, or its peer has an anchor on that trunk
 pub single_kept : (ns : List Node) (m : FinMap place_cmp (List Item)) (ns' : List Node) (m' : FinMap place_cmp (List Item)) → ((x : Name) (n : Node) → node_of ns' x ≡ Some n → SidesKept n)
-    → ((x y : Name) (t : Trunk) (b : Node) → node_of ns' y ≡ Some b → Likely ns' m' x t y → Likely ns m x t y ⊎ Anchor ns' y t x) → Single ns m → Single ns' m'
+    → ((x y : Name) (t : TrunkId) (b : Node) → node_of ns' y ≡ Some b → Likely ns' m' x t y → Likely ns m x t y ⊎ Anchor ns' y t x) → Single ns m → Single ns' m'
 single_kept ns m ns' m' sk each s x y t u a b = go (each x y t b.node b.at a) (each y x u a.node a.at b)
   where
     -- an anchor of z, and a likely side of z
-    one : (z o : Name) (p q : Trunk) → Anchor ns' z p o → Likely ns' m' z q o → p ≡ q
+    one : (z o : Name) (p q : TrunkId) → Anchor ns' z p o → Likely ns' m' z q o → p ≡ q
     one z o p q c l =
         let k = likely_kind l.side.state (list_to m' q z) l.may in
         let same : c.node ≡ l.node = some_same c.node l.node (sym c.at ∙ l.at) in
@@ -225,7 +231,7 @@ single_kept ns m ns' m' sk each s x y t u a b = go (each x y t b.node b.at a) (e
     go (inl c) (inr d) = sym (one x y u t d a)
 
 -- the two sides of a trunk are towards each other
-pub partners : (w : World) → WorldKept w → (x a : Name) (n m : Node) (t : Trunk) (s v : TrunkSide) → node_of w.nodes x ≡ Some n → node_of w.nodes a ≡ Some m → side_at n t ≡ Some s → side_at m t ≡ Some v → (x ≡ a → ⊥) → (s.peer ≡ a) × (v.peer ≡ x)
+pub partners : (w : World) → WorldKept w → (x a : Name) (n m : Node) (t : TrunkId) (s v : TrunkSide) → node_of w.nodes x ≡ Some n → node_of w.nodes a ≡ Some m → side_at n t ≡ Some s → side_at m t ≡ Some v → (x ≡ a → ⊥) → (s.peer ≡ a) × (v.peer ≡ x)
 partners w k x a n m t s v hx ha hs hv d = by_test _ (same_name t.dialer x)
     (λ e.
     let tx : t.dialer ≡ x = same_name_true t.dialer x e in
@@ -258,7 +264,7 @@ pub record Good (w : World) : Type 0 where
   pub home : (x : Name) (n : Node) → node_of w.nodes x ≡ Some n → HomeKept n
   pub table : Table w.nodes w.lists
   -- nothing travels but on a trunk that its dialer has
-  pub posted : (t : Trunk) (x : Name) → is_some (fm.get w.lists (t, x)) ≡ true → Posted w.nodes t x
+  pub posted : (t : TrunkId) (x : Name) → is_some (fm.get w.lists (t, x)) ≡ true → Posted w.nodes t x
   pub single : Single w.nodes w.lists
 
 pub early_not_holds : (v : State) → is_early v ≡ true → holds v ≡ false
@@ -317,15 +323,15 @@ not_holds_not_up Gone h = refl
 pub record Was (ns : List Node) (y : Name) (a : Node) : Type 0 where
   pub old : Node
   pub at : node_of ns y ≡ Some old
-  pub sides : (t : Trunk) → side_at a t ≡ side_at old t
+  pub sides : (t : TrunkId) → side_at a t ≡ side_at old t
 
 -- where no side changes
 module _ (w : World) (x : Name) (n : Node) (o : Node) (m' : FinMap place_cmp (List Item)) (hx : node_of w.nodes x ≡ Some n) (g : Good w)
     (sd : o.sides ≡ n.sides) (dl : n.dialed ≤ o.dialed) (nm : o.name ≡ n.name)
     (core : WorldKept (record { names = w.names; nodes = set_node w.nodes x o; lists = m' }))
     (local : home_of o) (pairs : HomePairs o)
-    (lists_same : (t : Trunk) → ((s : TrunkSide) → side_at n t ≡ Some s → is_up s.state ≡ false) → (z : Name) → list_to m' t z ≡ list_to w.lists t z)
-    (keys : (t : Trunk) (z : Name) → is_some (fm.get m' (t, z)) ≡ true → (is_some (fm.get w.lists (t, z)) ≡ true) ⊎ Routed n z t) where
+    (lists_same : (t : TrunkId) → ((s : TrunkSide) → side_at n t ≡ Some s → is_up s.state ≡ false) → (z : Name) → list_to m' t z ≡ list_to w.lists t z)
+    (keys : (t : TrunkId) (z : Name) → is_some (fm.get m' (t, z)) ≡ true → (is_some (fm.get w.lists (t, z)) ≡ true) ⊎ Routed n z t) where
   by_x : (P : Type 0) (y : Name) → (x ≡ y → P) → ((x ≡ y → ⊥) → P) → P
   by_x P y a b = by_test P (same_name x y) (λ h. a (same_name_true x y h)) (λ h. b (λ e. let c : true ≡ false = sym (same_name_is x y e) ∙ h in cc))
 
@@ -346,7 +352,7 @@ module _ (w : World) (x : Name) (n : Node) (o : Node) (m' : FinMap place_cmp (Li
       (λ d. record { old = a; at = sym (there y d) ∙ h; sides = λ t. refl })
 
   -- x isn't up on a trunk of which neither side holds
-  not_up : (t : Trunk) (d a : Node) (s : TrunkSide) → node_of w.nodes t.dialer ≡ Some d → side_at d t ≡ Some s → node_of w.nodes s.peer ≡ Some a → holds s.state ≡ false → holds_side (side_at a t) ≡ false
+  not_up : (t : TrunkId) (d a : Node) (s : TrunkSide) → node_of w.nodes t.dialer ≡ Some d → side_at d t ≡ Some s → node_of w.nodes s.peer ≡ Some a → holds s.state ≡ false → holds_side (side_at a t) ≡ false
       → (v : TrunkSide) → side_at n t ≡ Some v → is_up v.state ≡ false
   not_up t d a s hd fs ha ns na v fv = by_x _ t.dialer
       (λ e.
@@ -400,14 +406,14 @@ module _ (w : World) (x : Name) (n : Node) (o : Node) (m' : FinMap place_cmp (Li
       }))
       (λ d. g.home y a (sym (there y d) ∙ h))
 
-  still_posted : (t : Trunk) (z : Name) → Posted w.nodes t z → Posted (set_node w.nodes x o) t z
+  still_posted : (t : TrunkId) (z : Name) → Posted w.nodes t z → Posted (set_node w.nodes x o) t z
   still_posted t z h = by_x _ t.dialer
       (λ e.
       let same : h.1 ≡ n = some_same h.1 n (sym h.2 ∙ ap (node_of w.nodes) (sym e) ∙ hx) in
       (h.0, o, ap (node_of (set_node w.nodes x o)) (sym e) ∙ here, ap (λ l. fm.get l t) sd ∙ ap (λ v. side_at v t) (sym same) ∙ h.3, h.4))
       (λ d. (h.0, h.1, there t.dialer d ∙ h.2, h.3, h.4))
 
-  routed_posted : (t : Trunk) (z : Name) → Routed n z t → Posted w.nodes t z
+  routed_posted : (t : TrunkId) (z : Name) → Routed n z t → Posted w.nodes t z
   routed_posted t z r = pick ((g.core.sides x n hx).mine t r.found r.there)
     where
       pick : (t.dialer ≡ n.name) ⊎ (t.dialer ≡ r.found.peer) → (s : TrunkSide) × (d : Node) × (node_of w.nodes t.dialer ≡ Some d) × (side_at d t ≡ Some s) × ((t.dialer ≡ z) ⊎ (s.peer ≡ z))
@@ -416,7 +422,7 @@ module _ (w : World) (x : Name) (n : Node) (o : Node) (m' : FinMap place_cmp (Li
           let u = g.core.met x n t r.found hx r.there (λ i. (g.core.sides x n hx).other t r.found r.there (sym e ∙ i ∙ sym nx)) in
           (u.side, u.dialer, u.at, u.there, inl (e ∙ r.peer))
 
-  new_posted : (t : Trunk) (z : Name) → is_some (fm.get m' (t, z)) ≡ true → Posted (set_node w.nodes x o) t z
+  new_posted : (t : TrunkId) (z : Name) → is_some (fm.get m' (t, z)) ≡ true → Posted (set_node w.nodes x o) t z
   new_posted t z h = go (keys t z h)
     where
       go : (is_some (fm.get w.lists (t, z)) ≡ true) ⊎ Routed n z t → Posted (set_node w.nodes x o) t z
@@ -427,7 +433,7 @@ module _ (w : World) (x : Name) (n : Node) (o : Node) (m' : FinMap place_cmp (Li
       go (inr r) = still_posted t z (routed_posted t z r)
 
   -- on a trunk on which x is up, x is the anchor of the other side
-  each : (y z : Name) (t : Trunk) (b : Node) → node_of (set_node w.nodes x o) z ≡ Some b → Likely (set_node w.nodes x o) m' y t z → Likely w.nodes w.lists y t z ⊎ Anchor (set_node w.nodes x o) z t y
+  each : (y z : Name) (t : TrunkId) (b : Node) → node_of (set_node w.nodes x o) z ≡ Some b → Likely (set_node w.nodes x o) m' y t z → Likely w.nodes w.lists y t z ⊎ Anchor (set_node w.nodes x o) z t y
   each y z t b hb l = go (side_at n t) refl
     where
       wl : Was w.nodes y l.node
@@ -457,7 +463,7 @@ module _ (w : World) (x : Name) (n : Node) (o : Node) (m' : FinMap place_cmp (Li
   good_changed = record { core = core; home = new_home; table = new_table; posted = new_posted; single = single_kept w.nodes w.lists (set_node w.nodes x o) m' core.sides each g.single }
 
 -- keys of the lists
-pub insert_key : (m : FinMap place_cmp (List Item)) (u : Trunk) (y : Name) (l : List Item) (t : Trunk) (z : Name) → is_some (fm.get (fm.insert m (u, y) l) (t, z)) ≡ true → (is_some (fm.get m (t, z)) ≡ true) ⊎ ((t ≡ u) × (z ≡ y))
+pub insert_key : (m : FinMap place_cmp (List Item)) (u : TrunkId) (y : Name) (l : List Item) (t : TrunkId) (z : Name) → is_some (fm.get (fm.insert m (u, y) l) (t, z)) ≡ true → (is_some (fm.get m (t, z)) ≡ true) ⊎ ((t ≡ u) × (z ≡ y))
 insert_key m u y l t z h = go (same_trunk t u && same_name z y) refl
     (sym (ap is_some (fm.get-insert place_total m (u, y) l (t, z)) ∙ ap (λ b. is_some (cond b (Some l) (fm.get m (t, z)))) (same_place t u z y)) ∙ h)
   where
@@ -465,7 +471,7 @@ insert_key m u y l t z h = go (same_trunk t u && same_name z y) refl
     go true e h = let v = and_both (same_trunk t u) (same_name z y) e in inr (same_trunk_true t u v.0, same_name_true z y v.1)
     go false e h = inl h
 
-pub carried_key : (sd : FinMap trunk_cmp TrunkSide) (m : FinMap place_cmp (List Item)) (es : List Envelope) (t : Trunk) (z : Name) → AllRouted sd es → is_some (fm.get (carried m es) (t, z)) ≡ true → (is_some (fm.get m (t, z)) ≡ true) ⊎ (route_in (fm.entries sd) z ≡ Some t)
+pub carried_key : (sd : FinMap trunk_cmp TrunkSide) (m : FinMap place_cmp (List Item)) (es : List Envelope) (t : TrunkId) (z : Name) → AllRouted sd es → is_some (fm.get (carried m es) (t, z)) ≡ true → (is_some (fm.get m (t, z)) ≡ true) ⊎ (route_in (fm.entries sd) z ≡ Some t)
 carried_key sd m [] t z a h = inl h
 carried_key sd m (e ∷ es) t z a h = go (carried_key sd (fm.insert m (e.trunk, e.target) (list_to m e.trunk e.target ++ e.item ∷ [])) es t z a.1 h)
   where
@@ -477,12 +483,12 @@ carried_key sd m (e ∷ es) t z a h = go (carried_key sd (fm.insert m (e.trunk, 
     go (inl i) = last (insert_key m e.trunk e.target _ t z i)
     go (inr i) = inr i
 
-pub unsent : (n : Node) (o : Work) (t : Trunk) (z : Name) → o.node.sides ≡ n.sides → AllRouted o.node.sides o.sent → ((s : TrunkSide) → side_at n t ≡ Some s → is_up s.state ≡ false) → at_place t z o.sent ≡ []
+pub unsent : (n : Node) (o : Work) (t : TrunkId) (z : Name) → o.node.sides ≡ n.sides → AllRouted o.node.sides o.sent → ((s : TrunkSide) → side_at n t ≡ Some s → is_up s.state ≡ false) → at_place t z o.sent ≡ []
 unsent n o t z sd ro nu = at_place_none o.node.sides o.sent t z ro (λ r.
     let u = route_from n z t (ap (λ l. route_in (fm.entries l) z) (sym sd) ∙ r) in
     let c : true ≡ false = sym u.up ∙ nu u.found u.there in cc)
 
-pub key_of : (n : Node) (o : Work) (t : Trunk) (z : Name) → o.node.sides ≡ n.sides → (P : Type 0) → P ⊎ (route_in (fm.entries o.node.sides) z ≡ Some t) → P ⊎ Routed n z t
+pub key_of : (n : Node) (o : Work) (t : TrunkId) (z : Name) → o.node.sides ≡ n.sides → (P : Type 0) → P ⊎ (route_in (fm.entries o.node.sides) z ≡ Some t) → P ⊎ Routed n z t
 key_of n o t z sd P (inl h) = inl h
 key_of n o t z sd P (inr h) = inr (route_from n z t (ap (λ l. route_in (fm.entries l) z) (sym sd) ∙ h))
 

@@ -1,12 +1,15 @@
 -- What a node in the midst of an event is to one pair of processes.
 use Rattle.std.proofs.Common.{◌≡◌, Bool, true, false, cond, not, List, [], ◌∷◌, ◌++◌, refl, sym, ap, ◌∙◌, subst, ◌&&◌, ◌||◌, Option, Some, None, ◌⊎◌, inl, inr, append_assoc, append-nil}
 use Rattle.std.specs.Option.{is_some}
-use Rattle.dist_model.specs.Term.{Name, Pid}
-use Rattle.dist_model.specs.Pair.{Signal, Side}
-use Rattle.dist_model.specs.Orders.{Trunk, same_name, same_pid}
-use Rattle.dist_model.specs.Node.{Item, LinkSignal, Node, Envelope, Work, end_of, living, never, route, reaches, keep_local, send_on, post, post_all}
-use Rattle.dist_model.specs.World.{signal_of, signals}
-use Rattle.dist_model.proofs.Keys.{same_pid_true, same_name_is, and_both}
+use Rattle.dist_model.proofs.Keys.{and_both, same_name_is, same_pid_true}
+use Rattle.dist_model.proofs.Pair.{Side}
+use Rattle.dist_model.specs.Items.{AboutLink, Item, signal_of, signals}
+use Rattle.dist_model.specs.Links.{LinkWord}
+use Rattle.dist_model.specs.Names.{Name, same_name, same_pid}
+use Rattle.dist_model.specs.Node.{Node, end_of, living, never, reaches, route}
+use Rattle.dist_model.specs.Work.{Envelope, Work, keep_local, post, post_all, send_on}
+use Rattle.erl_names.specs.declared.trunk.TrunkId.{TrunkId}
+use Rattle.erl_term.specs.declared.term.Pid.{Pid}
 
 abbrev pub to_name : Name → List Envelope → List Item
 to_name y [] = []
@@ -20,14 +23,14 @@ line o y = cond (same_name y o.node.name) o.node.local (to_name y o.sent)
 abbrev pub over : Node → Pid → Bool
 over n p = not (living n p) && not (never n p)
 
-abbrev pub side_of : Node → Pid → Pid → List Signal → Side
+abbrev pub side_of : Node → Pid → Pid → List LinkWord → Side
 side_of n p q L = record { end = end_of n p q; gone = over n p; drawn = n.unlinks; sent = L }
 
 -- p's side of its link with q, where b stood on the way before the event
-abbrev pub view : List Signal → Work → Pid → Pid → Side
+abbrev pub view : List LinkWord → Work → Pid → Pid → Side
 view b o p q = side_of o.node p q (b ++ signals p q (line o q.node))
 
-abbrev pub more : Side → List Signal → Side
+abbrev pub more : Side → List LinkWord → Side
 more a L = record { end = a.end; gone = a.gone; drawn = a.drawn; sent = a.sent ++ L }
 
 pub side_path : (a b : Side) → a.end ≡ b.end → a.gone ≡ b.gone → a.drawn ≡ b.drawn → a.sent ≡ b.sent → a ≡ b
@@ -48,7 +51,7 @@ to_name-push y (d ∷ es) e = ap (λ l. cond (same_name d.target y) (d.item ∷ 
 abbrev pub Suits : Name → Item → Pid → Pid → Type 0
 Suits y x p q = (y ≡ q.node) ⊎ (signal_of p q x ≡ [])
 
-nothing_more : (L R : List Signal) → R ≡ [] → L ≡ L ++ R
+nothing_more : (L R : List LinkWord) → R ≡ [] → L ≡ L ++ R
 nothing_more L R h = sym (append-nil L) ∙ ap (λ l. L ++ l) (sym h)
 
 module _ (y : Name) (x : Item) (o : Work) (p q : Pid) where
@@ -58,13 +61,13 @@ module _ (y : Name) (x : Item) (o : Work) (p q : Pid) where
   local_line false e h (inl d) = let c : same_name q.node o.node.name ≡ true = subst (λ z. same_name z o.node.name ≡ true) d h in absurd (let n : true ≡ false = sym c ∙ e in cc)
   local_line false e h (inr n) = nothing_more (signals p q (to_name q.node o.sent)) (signal_of p q x) n
 
-  sent_on_line : (t : Trunk) (c : Bool) → same_name y q.node ≡ c → Suits y x p q
+  sent_on_line : (t : TrunkId) (c : Bool) → same_name y q.node ≡ c → Suits y x p q
       → signals p q (to_name q.node o.sent ++ cond c (x ∷ []) []) ≡ signals p q (to_name q.node o.sent) ++ signal_of p q x
   sent_on_line t true e s = signals-push p q (to_name q.node o.sent) x
   sent_on_line t false e (inl d) = absurd (let n : true ≡ false = sym (same_name_is y q.node d) ∙ e in cc)
   sent_on_line t false e (inr n) = ap (signals p q) (append-nil (to_name q.node o.sent)) ∙ nothing_more (signals p q (to_name q.node o.sent)) (signal_of p q x) n
 
-  sent_line : (r : Option Trunk) (b : Bool) → route o.node y ≡ r → same_name q.node o.node.name ≡ b → same_name y o.node.name ≡ false → (b || is_some (route o.node q.node)) ≡ true → Suits y x p q
+  sent_line : (r : Option TrunkId) (b : Bool) → route o.node y ≡ r → same_name q.node o.node.name ≡ b → same_name y o.node.name ≡ false → (b || is_some (route o.node q.node)) ≡ true → Suits y x p q
       → signals p q (cond b (send_on r y x o).node.local (to_name q.node (send_on r y x o).sent)) ≡ signals p q (cond b o.node.local (to_name q.node o.sent)) ++ signal_of p q x
   sent_line r true e f h reach (inl d) = absurd (let c : same_name y o.node.name ≡ true = subst (λ z. same_name z o.node.name ≡ true) (sym d) f in let n : true ≡ false = sym c ∙ h in cc)
   sent_line None true e f h reach (inr n) = nothing_more (signals p q o.node.local) (signal_of p q x) n
@@ -73,7 +76,7 @@ module _ (y : Name) (x : Item) (o : Work) (p q : Pid) where
   sent_line None false e f h reach (inr n) = nothing_more (signals p q (to_name q.node o.sent)) (signal_of p q x) n
   sent_line (Some t) false e f h reach s = ap (signals p q) (to_name-push q.node o.sent (record { trunk = t; target = y; item = x })) ∙ sent_on_line t (same_name y q.node) refl s
 
-  sent_all : (r : Option Trunk) → route o.node y ≡ r → same_name y o.node.name ≡ false → reaches o.node q.node ≡ true → Suits y x p q
+  sent_all : (r : Option TrunkId) → route o.node y ≡ r → same_name y o.node.name ≡ false → reaches o.node q.node ≡ true → Suits y x p q
       → signals p q (line (send_on r y x o) q.node) ≡ signals p q (line o q.node) ++ signal_of p q x
   sent_all None e h reach s = sent_line None (same_name q.node o.node.name) e refl h reach s
   sent_all (Some t) e h reach s = sent_line (Some t) (same_name q.node o.node.name) e refl h reach s
@@ -89,7 +92,7 @@ module _ (y : Name) (x : Item) (o : Work) (p q : Pid) where
 
 -- what no post changes
 module _ {A : Type 0} (f : Node → A) (free : (n : Node) (l : List Item) → f (record n { local = l }) ≡ f n) where
-  send_keeps : (r : Option Trunk) (y : Name) (x : Item) (o : Work) → f ((send_on r y x o).node) ≡ f o.node
+  send_keeps : (r : Option TrunkId) (y : Name) (x : Item) (o : Work) → f ((send_on r y x o).node) ≡ f o.node
   send_keeps None y x o = refl
   send_keeps (Some t) y x o = refl
 
@@ -105,13 +108,13 @@ module _ {A : Type 0} (f : Node → A) (free : (n : Node) (l : List Item) → f 
   post_all_keeps (e ∷ es) o = post_all_keeps es (post e.0 e.1 o) ∙ post_keeps e.0 e.1 o
 
 -- a post is one signal more, or none
-pub post_view : (b : List Signal) (y : Name) (x : Item) (o : Work) (p q : Pid) → reaches o.node q.node ≡ true → Suits y x p q → view b (post y x o) p q ≡ more (view b o p q) (signal_of p q x)
+pub post_view : (b : List LinkWord) (y : Name) (x : Item) (o : Work) (p q : Pid) → reaches o.node q.node ≡ true → Suits y x p q → view b (post y x o) p q ≡ more (view b o p q) (signal_of p q x)
 post_view b y x o p q reach s = side_path (view b (post y x o) p q) (more (view b o p q) (signal_of p q x))
     (post_keeps (λ n. end_of n p q) (λ n l. refl) y x o) (post_keeps (λ n. over n p) (λ n l. refl) y x o) (post_keeps (λ n. n.unlinks) (λ n l. refl) y x o)
     (ap (λ l. b ++ l) (post_line y x o p q reach s) ∙ sym (append_assoc b (signals p q (line o q.node)) (signal_of p q x)))
 
 -- several posts
-abbrev pub posted : Pid → Pid → List (Name × Item) → List Signal
+abbrev pub posted : Pid → Pid → List (Name × Item) → List LinkWord
 posted p q [] = []
 posted p q (e ∷ es) = signal_of p q e.1 ++ posted p q es
 
@@ -122,10 +125,10 @@ AllSuit p q (e ∷ es) = Suits e.0 e.1 p q × AllSuit p q es
 more-nil : (a : Side) → a ≡ more a []
 more-nil a = side_path a (more a []) refl refl refl (sym (append-nil a.sent))
 
-more-more : (a : Side) (L R : List Signal) → more (more a L) R ≡ more a (L ++ R)
+more-more : (a : Side) (L R : List LinkWord) → more (more a L) R ≡ more a (L ++ R)
 more-more a L R = side_path (more (more a L) R) (more a (L ++ R)) refl refl refl (append_assoc a.sent L R)
 
-pub post_all_view : (b : List Signal) (es : List (Name × Item)) (o : Work) (p q : Pid) → reaches o.node q.node ≡ true → AllSuit p q es → view b (post_all es o) p q ≡ more (view b o p q) (posted p q es)
+pub post_all_view : (b : List LinkWord) (es : List (Name × Item)) (o : Work) (p q : Pid) → reaches o.node q.node ≡ true → AllSuit p q es → view b (post_all es o) p q ≡ more (view b o p q) (posted p q es)
 post_all_view b [] o p q reach s = more-nil (view b o p q)
 post_all_view b (e ∷ es) o p q reach s =
     post_all_view b es (post e.0 e.1 o) p q (post_keeps (λ n. reaches n q.node) (λ n l. refl) e.0 e.1 o ∙ reach) s.1
@@ -141,13 +144,13 @@ AllSuit-append p q [] ys a b = b
 AllSuit-append p q (x ∷ xs) ys a b = (a.0, AllSuit-append p q xs ys a.1 b)
 
 -- a signal about a link suits where it goes to its receiver's node
-pub signal_other : (b : Bool) (s : Signal) → b ≡ false → ◌≡◌ {A = List Signal} (cond b (s ∷ []) []) []
+pub signal_other : (b : Bool) (s : LinkWord) → b ≡ false → ◌≡◌ {A = List LinkWord} (cond b (s ∷ []) []) []
 signal_other true s h = cc
 signal_other false s h = refl
 
-pub linking_suits_by : (b : Bool) (x y p q : Pid) (s : Signal) → (same_pid x p && same_pid y q) ≡ b → Suits y.node (LinkSignal x y s) p q
+pub linking_suits_by : (b : Bool) (x y p q : Pid) (s : LinkWord) → (same_pid x p && same_pid y q) ≡ b → Suits y.node (AboutLink x y s) p q
 linking_suits_by true x y p q s e = inl (ap (λ (v : Pid). v.node) (same_pid_true y q (and_both (same_pid x p) (same_pid y q) e).1))
 linking_suits_by false x y p q s e = inr (signal_other (same_pid x p && same_pid y q) s e)
 
-pub linking_suits : (x y p q : Pid) (s : Signal) → Suits y.node (LinkSignal x y s) p q
+pub linking_suits : (x y p q : Pid) (s : LinkWord) → Suits y.node (AboutLink x y s) p q
 linking_suits x y p q s = linking_suits_by (same_pid x p && same_pid y q) x y p q s refl

@@ -1,12 +1,19 @@
 -- All nodes, and what travels between them.
-use Rattle.dist_model.specs.Node.{Tick, Item, LinkSignal, Message, Exit2, MonitorP, DemonitorP, MonitorPExit, Handshake, State, AwaitsStatus, AwaitsChallenge, AwaitsAck, Asked, Parked, Accepting, Up, Losing, Gone, TrunkSide, Node, Envelope, Effect}
 use Rattle.std.specs.Prelude.{Option, None, Some, is_some, ℕ, Bool, true, false, cond, not, List, [], ◌∷◌, ◌++◌, ◌&&◌}
 use Rattle.std.specs.FinMap as fm
+use Rattle.dist_model.specs.Arrivals.{arrive, take_local}
+use Rattle.dist_model.specs.Calls.{call}
+use Rattle.dist_model.specs.Commands.{Answer, Command, Goes, Outcome, Refuses}
+use Rattle.dist_model.specs.Dialing.{dial}
+use Rattle.dist_model.specs.Incarnations.{start, stop}
+use Rattle.dist_model.specs.Items.{Item}
+use Rattle.dist_model.specs.Losses.{lose, sweep}
+use Rattle.dist_model.specs.Names.{Name, place_cmp, same_name}
+use Rattle.dist_model.specs.Node.{Node}
+use Rattle.dist_model.specs.Sides.{Accepting, Asked, AwaitsAck, AwaitsChallenge, AwaitsStatus, Gone, Losing, Parked, State, TrunkSide, Up}
+use Rattle.dist_model.specs.Work.{Effect, Envelope}
+use Rattle.erl_names.specs.declared.trunk.TrunkId.{TrunkId}
 use Rattle.std.specs.FinMap.{FinMap}
-use Rattle.dist_model.specs.Term.{Name, Pid}
-use Rattle.dist_model.specs.Pair.{Signal}
-use Rattle.dist_model.specs.Orders.{Trunk, place_cmp, same_name, same_pid}
-use Rattle.dist_model.specs.Step.{Command, Answer, Outcome, Refuses, Goes, call, arrive, take_local, lose, sweep, dial, stop, start}
 
 pub record World : Type 0 where
   pub names : List Name
@@ -27,7 +34,7 @@ abbrev pub list_in : Option (List Item) → List Item
 list_in None = []
 list_in (Some xs) = xs
 
-abbrev pub list_to : FinMap place_cmp (List Item) → Trunk → Name → List Item
+abbrev pub list_to : FinMap place_cmp (List Item) → TrunkId → Name → List Item
 list_to m t x = list_in (fm.get m (t, x))
 
 abbrev pub carried : FinMap place_cmp (List Item) → List Envelope → FinMap place_cmp (List Item)
@@ -36,9 +43,9 @@ carried m (e ∷ es) = carried (fm.insert m (e.trunk, e.target) (list_to m e.tru
 
 pub data Event : Type 0 where
   Call : (node : Name) → Command → Event
-  Arrive : (trunk : Trunk) → (node : Name) → (word : ℕ) → Event
+  Arrive : (trunk : TrunkId) → (node : Name) → (word : ℕ) → Event
   Local : (node : Name) → Event
-  Lose : (trunk : Trunk) → (node : Name) → Event
+  Lose : (trunk : TrunkId) → (node : Name) → Event
   Sweep : (node : Name) → Event
   Dial : (node : Name) → (peer : Name) → (word : ℕ) → Event
   Stop : (node : Name) → Event
@@ -60,7 +67,7 @@ ends_in w x m (Goes a o) = record { world = record { names = w.names; nodes = se
 abbrev pub refused : World → ℕ → Stepped
 refused w k = record { world = w; report = Refused k }
 
-abbrev pub arrives_first : World → Node → Trunk → Name → ℕ → Option TrunkSide → List Item → Stepped
+abbrev pub arrives_first : World → Node → TrunkId → Name → ℕ → Option TrunkSide → List Item → Stepped
 arrives_first w n t x v s [] = refused w 19
 arrives_first w n t x v s (i ∷ is) = ends_in w x (fm.insert w.lists (t, x) is) (arrive n t s i v)
 
@@ -76,7 +83,7 @@ is_over Losing = true
 is_over Gone = true
 
 -- a side that isn't known counts as Fresh where something was sent to it, and else as Gone
-abbrev pub arrives : World → Node → Trunk → Name → ℕ → Option TrunkSide → Stepped
+abbrev pub arrives : World → Node → TrunkId → Name → ℕ → Option TrunkSide → Stepped
 arrives w n t x v None = cond (is_some (fm.get w.lists (t, x)) && not (same_name t.dialer x)) (arrives_first w n t x v None (list_to w.lists t x)) (refused w 18)
 arrives w n t x v (Some s) = cond (is_over s.state) (refused w 18) (arrives_first w n t x v (Some s) (list_to w.lists t x))
 
@@ -139,18 +146,3 @@ new_names (c ∷ cs) = c.0 ∷ new_names cs
 
 abbrev pub opening : List (Name × List ℕ) → World
 opening cs = record { names = new_names cs; nodes = new_nodes cs; lists = fm.empty }
-
--- the signals from q to p about their link, in a list
-abbrev pub signal_of : Pid → Pid → Item → List Signal
-signal_of q p (LinkSignal a b s) = cond (same_pid a q && same_pid b p) (s ∷ []) []
-signal_of q p (Message b x) = []
-signal_of q p (Exit2 a b x) = []
-signal_of q p (MonitorP a b x) = []
-signal_of q p (DemonitorP a b x) = []
-signal_of q p (MonitorPExit a b k x) = []
-signal_of q p (Handshake x) = []
-signal_of q p Tick = []
-
-abbrev pub signals : Pid → Pid → List Item → List Signal
-signals q p [] = []
-signals q p (x ∷ xs) = signal_of q p x ++ signals q p xs

@@ -1,7 +1,7 @@
 //! Laws.
 
 ghost use Rattle.std.specs.Prelude.{List, ℕ};
-ghost use Rattle.dist_model.specs.Term.{Name};
+ghost use Rattle.dist_model.specs.Names.{Name};
 ghost use Rattle.dist_model.specs.World.{Event, run, opening};
 ghost use Rattle.dist_model.specs.Claims.{Agreement, AgreementWithin, AgreementInQuiet, PendingOnItsWay, PendingWithin, NoLinkToTheDead, NoLinkToItself, OneTrunk, NoUpBesideLosing, ReactsOnlyWhereLinked};
 

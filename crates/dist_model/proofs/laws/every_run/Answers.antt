@@ -1,8 +1,8 @@
-use Rattle.dist_model.specs.World.{opening, run}
-use Rattle.dist_model.proofs.Run.{good_run}
-use Rattle.dist_model.proofs.Reactions.{reactions}
-use Rattle.dist_model.proofs.Safety.{good_opening, agreement, agreement_within, agreement_in_quiet, pending, pending_within, no_link_to_the_dead, no_link_to_itself, one_trunk, no_up_beside_losing}
 use Rattle.dist_model.proofs.laws.every_run.Goals as goal
+use Rattle.dist_model.proofs.Reactions.{reactions}
+use Rattle.dist_model.proofs.Run.{good_run}
+use Rattle.dist_model.proofs.Safety.{agreement, agreement_in_quiet, agreement_within, good_opening, no_link_to_itself, no_link_to_the_dead, no_up_beside_losing, one_trunk, pending, pending_within}
+use Rattle.dist_model.specs.World.{opening, run}
 
 pub returns-clause-agreement : goal.returns-clause-agreement
 returns-clause-agreement c = λ cs es. agreement (run es (opening cs)) (good_run es (opening cs) (good_opening cs))

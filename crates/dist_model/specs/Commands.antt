@@ -1,0 +1,47 @@
+-- What a caller may ask of a node, and what it answers.
+use Rattle.std.specs.Prelude.{Option, None, Some, is_some, ℕ, ◌+◌, ◌^◌, Bool, true, false, cond, not, List, [], ◌∷◌, ◌==◌, nat_lt, nat_le, ◌&&◌, ◌||◌}
+use Rattle.std.specs.FinMap as fm
+use Rattle.dist_model.specs.Items.{Item}
+use Rattle.dist_model.specs.Work.{Work}
+use Rattle.erl_names.specs.declared.trunk.TrunkId.{TrunkId}
+use Rattle.erl_term.specs.Data.{Data}
+use Rattle.erl_term.specs.declared.term.Pid.{Pid}
+use Rattle.erl_term.specs.declared.term.Reference.{Reference}
+use Rattle.link_core.specs.declared.end.End.{End}
+
+pub data Command : Type 0 where
+  Spawn : Command
+  Send : (sender receiver : Pid) → Data → Command
+  MakeLink : (process partner : Pid) → Command
+  EndLink : (process partner : Pid) → Command
+  MakeMonitor : (process target : Pid) → Command
+  EndMonitor : (process : Pid) → Reference → Command
+  Trap : (process : Pid) → Bool → Command
+  ExitTo : (sender receiver : Pid) → (reason : Data) → Command
+  ExitSelf : (process : Pid) → (reason : Data) → Command
+  Receive : (process : Pid) → Command
+  LinksOf : (process : Pid) → Command
+  IsAlive : (process : Pid) → Command
+
+-- what a sweep takes: a record, or the side once no record is left
+pub data Swept : Type 0 where
+  SweptLink : Swept
+  SweptWatch : Swept
+  SweptRegistration : Swept
+  SweptSide : Swept
+
+pub data Answer : Type 0 where
+  Done : Answer
+  Spawned : Pid → Answer
+  Watching : Reference → Answer
+  Received : Option Data → Answer
+  Links : List (Pid × End) → Answer
+  IsLiving : Bool → Answer
+  Dialed : TrunkId → Answer
+  Sweeps : Swept → Answer
+  Took : Item → Answer
+  Broke : ℕ → Answer
+
+pub data Outcome : Type 0 where
+  Refuses : (number : ℕ) → Outcome
+  Goes : Answer → Work → Outcome

@@ -1,0 +1,31 @@
+-- A process monitors another, or ends that.
+-- (Reference Manual, Processes, Monitors.)
+use Rattle.std.specs.Prelude.{Option, None, Some, is_some, ℕ, ◌+◌, ◌^◌, Bool, true, false, cond, not, List, [], ◌∷◌, ◌==◌, nat_lt, nat_le, ◌&&◌, ◌||◌}
+use Rattle.std.specs.FinMap as fm
+use Rattle.dist_model.specs.Commands.{Done, Goes, Outcome, Refuses}
+use Rattle.dist_model.specs.Items.{DemonitorP, MonitorP}
+use Rattle.dist_model.specs.Links.{noconnection}
+use Rattle.dist_model.specs.Names.{same_pid}
+use Rattle.dist_model.specs.Node.{Node, reaches}
+use Rattle.dist_model.specs.Taking.{unwatch}
+use Rattle.dist_model.specs.Work.{Work, post, put}
+use Rattle.erl_term.specs.declared.term.Pid.{Pid}
+use Rattle.erl_term.specs.declared.term.Reference.{Reference}
+use Rattle.exit_core.specs.Messages.{down_term}
+
+-- monitors
+abbrev pub new_reference : Node → Reference
+new_reference n = record { node = n.name; creation = n.creation; words = (n.references + 1) ∷ 0 ∷ 0 ∷ [] }
+
+abbrev pub draw_reference : Work → Work
+draw_reference o = record o { node = record (o.node) { references = o.node.references + 1 } }
+
+abbrev pub watch : Reference → Pid × Pid → Work → Work
+watch k v o = record o { node = record (o.node) { watches = fm.insert o.node.watches k v } }
+
+abbrev pub monitor : Reference → Pid → Pid → Work → Work
+monitor k p q o = cond (reaches o.node q.node) (post q.node (MonitorP p q k) (watch k (p, q) o)) (put p (down_term k q noconnection) o)
+
+abbrev pub demonitor_by : Option (Pid × Pid) → Pid → Reference → Work → Outcome
+demonitor_by None p k o = Refuses 5
+demonitor_by (Some v) p k o = cond (same_pid v.0 p) (Goes Done (post v.1.node (DemonitorP p v.1 k) (unwatch k o))) (Refuses 5)
