@@ -22,6 +22,7 @@ use Rattle.dist_model.specs.Taking.{take}
 use Rattle.dist_model.specs.Work.{Work, at_work}
 use Rattle.dist_model.specs.World.{World, carried, ends_in, list_to, node_of, set_node}
 use Rattle.erl_names.specs.declared.trunk.TrunkId.{TrunkId}
+use Rattle.erl_term.specs.declared.refusal.Refusal.{Refusal}
 use Rattle.erl_term.specs.declared.term.Pid.{Pid}
 
 module _ (w : World) (x : Name) (n : Node) (t : TrunkId) (v : TrunkSide) (i : Item) (rest : List Item) (hx : node_of w.nodes x ≡ Some n)
@@ -87,10 +88,10 @@ module _ (w : World) (x : Name) (n : Node) (t : TrunkId) (v : TrunkSide) (i : It
   lost_not_joined Losing = refl
   lost_not_joined Gone = refl
 
-  pub good_fault : (k : ℕ) → IfGoes (fault k t v (at_work n)) Fin
+  pub good_fault : (k : Refusal) → IfGoes (fault k t v (at_work n)) Fin
   good_fault k = popped_after (as_state v (lost v.state)) (good_lost w x n t v hx h g) (inl (lost_not_joined v.state))
 
-  fault_cond : (b : Bool) (o : Outcome) (k : ℕ) → (b ≡ true → IfGoes o Fin) → IfGoes (cond b o (fault k t v (at_work n))) Fin
+  fault_cond : (b : Bool) (o : Outcome) (k : Refusal) → (b ≡ true → IfGoes o Fin) → IfGoes (cond b o (fault k t v (at_work n))) Fin
   fault_cond true o k f = f refl
   fault_cond false o k f = good_fault k
 
@@ -98,9 +99,9 @@ module _ (w : World) (x : Name) (n : Node) (t : TrunkId) (v : TrunkSide) (i : It
   pub good_on_up : is_up v.state ≡ true → IfGoes (on_up t v i (at_work n)) Fin
   good_on_up u = go (is_good n v i) refl
     where
-      go : (b : Bool) → is_good n v i ≡ b → IfGoes (cond b (Goes (Took i) (take i (at_work n))) (fault 20 t v (at_work n))) Fin
+      go : (b : Bool) → is_good n v i ≡ b → IfGoes (cond b (Goes (Took i) (take i (at_work n))) (fault Refusal.Forged t v (at_work n))) Fin
       go true e = good_arrive w x n t v i rest hx h u g first e
-      go false e = good_fault 20
+      go false e = good_fault Refusal.Forged
 
   -- the handshake, where the item is the one that is due
   pub status_comes : (u : ℕ) → v.state ≡ AwaitsStatus u → ((p q : Pid) → signal_of p q i ≡ []) → Fin (set_state t v (AwaitsChallenge u) (at_work n))
@@ -173,10 +174,10 @@ module _ (w : World) (x : Name) (n : Node) (t : TrunkId) (v : TrunkSide) (rest :
   abbrev Ends : Item → Outcome → Type 0
   Ends i o = list_to w.lists t x ≡ i ∷ rest → IfGoes o (λ p. Good (record { names = w.names; nodes = set_node w.nodes x p.node; lists = carried (fm.insert w.lists (t, x) rest) p.sent }))
 
-  pub broken : (k : ℕ) (i : Item) → Ends i (fault k t v (at_work n))
+  pub broken : (k : Refusal) (i : Item) → Ends i (fault k t v (at_work n))
   broken k i e = good_fault w x n t v i rest hx h g e k
 
-  pub unless : (b : Bool) (i : Item) (o : Outcome) (k : ℕ) → (b ≡ true → Ends i o) → Ends i (cond b o (fault k t v (at_work n)))
+  pub unless : (b : Bool) (i : Item) (o : Outcome) (k : Refusal) → (b ≡ true → Ends i o) → Ends i (cond b o (fault k t v (at_work n)))
   unless true i o k f e = f refl e
   unless false i o k f e = broken k i e
 
@@ -184,28 +185,28 @@ module _ (w : World) (x : Name) (n : Node) (t : TrunkId) (v : TrunkSide) (rest :
   good_awaits_status u s StatusOk e = status_comes w x n t v (Handshake StatusOk) rest hx h g e u s (λ p q. refl)
   good_awaits_status u s StatusOkSimultaneous e = status_comes w x n t v (Handshake StatusOkSimultaneous) rest hx h g e u s (λ p q. refl)
   good_awaits_status u s StatusAlive e = alive_comes w x n t v (Handshake StatusAlive) rest hx h g e u s (λ p q. refl)
-  good_awaits_status u s StatusNok e = broken 14 (Handshake StatusNok) e
-  good_awaits_status u s StatusNotAllowed e = broken 14 (Handshake StatusNotAllowed) e
-  good_awaits_status u s (SendName a b c) e = broken 10 (Handshake (SendName a b c)) e
-  good_awaits_status u s StatusTrue e = broken 10 (Handshake StatusTrue) e
-  good_awaits_status u s StatusFalse e = broken 10 (Handshake StatusFalse) e
-  good_awaits_status u s (Challenge a b c d) e = broken 10 (Handshake (Challenge a b c d)) e
-  good_awaits_status u s (ChallengeReply a b) e = broken 10 (Handshake (ChallengeReply a b)) e
-  good_awaits_status u s (ChallengeAck a) e = broken 10 (Handshake (ChallengeAck a)) e
+  good_awaits_status u s StatusNok e = broken Refusal.Nok (Handshake StatusNok) e
+  good_awaits_status u s StatusNotAllowed e = broken Refusal.Nok (Handshake StatusNotAllowed) e
+  good_awaits_status u s (SendName a b c) e = broken Refusal.BadMessage (Handshake (SendName a b c)) e
+  good_awaits_status u s StatusTrue e = broken Refusal.BadMessage (Handshake StatusTrue) e
+  good_awaits_status u s StatusFalse e = broken Refusal.BadMessage (Handshake StatusFalse) e
+  good_awaits_status u s (Challenge a b c d) e = broken Refusal.BadMessage (Handshake (Challenge a b c d)) e
+  good_awaits_status u s (ChallengeReply a b) e = broken Refusal.BadMessage (Handshake (ChallengeReply a b)) e
+  good_awaits_status u s (ChallengeAck a) e = broken Refusal.BadMessage (Handshake (ChallengeAck a)) e
 
   pub good_awaits_reply : (u : ℕ) → v.state ≡ Accepting u → (m : HandshakeMessage) → Ends (Handshake m) (awaits_reply t v u m (at_work n))
-  good_awaits_reply u s (ChallengeReply k d) e = unless (d == dig n.cookie u) (Handshake (ChallengeReply k d)) _ 13
+  good_awaits_reply u s (ChallengeReply k d) e = unless (d == dig n.cookie u) (Handshake (ChallengeReply k d)) _ Refusal.BadDigest
       (λ c f. reply_comes w x n t v (Handshake (ChallengeReply k d)) rest hx h g f u (dig n.cookie k) s refl (λ p q. refl)) e
-  good_awaits_reply u s (ChallengeAck a) e = broken 10 (Handshake (ChallengeAck a)) e
-  good_awaits_reply u s StatusOk e = broken 10 (Handshake StatusOk) e
-  good_awaits_reply u s StatusOkSimultaneous e = broken 10 (Handshake StatusOkSimultaneous) e
-  good_awaits_reply u s StatusAlive e = broken 10 (Handshake StatusAlive) e
-  good_awaits_reply u s StatusNok e = broken 10 (Handshake StatusNok) e
-  good_awaits_reply u s StatusNotAllowed e = broken 10 (Handshake StatusNotAllowed) e
-  good_awaits_reply u s (SendName a b c) e = broken 10 (Handshake (SendName a b c)) e
-  good_awaits_reply u s StatusTrue e = broken 10 (Handshake StatusTrue) e
-  good_awaits_reply u s StatusFalse e = broken 10 (Handshake StatusFalse) e
-  good_awaits_reply u s (Challenge a b c d) e = broken 10 (Handshake (Challenge a b c d)) e
+  good_awaits_reply u s (ChallengeAck a) e = broken Refusal.BadMessage (Handshake (ChallengeAck a)) e
+  good_awaits_reply u s StatusOk e = broken Refusal.BadMessage (Handshake StatusOk) e
+  good_awaits_reply u s StatusOkSimultaneous e = broken Refusal.BadMessage (Handshake StatusOkSimultaneous) e
+  good_awaits_reply u s StatusAlive e = broken Refusal.BadMessage (Handshake StatusAlive) e
+  good_awaits_reply u s StatusNok e = broken Refusal.BadMessage (Handshake StatusNok) e
+  good_awaits_reply u s StatusNotAllowed e = broken Refusal.BadMessage (Handshake StatusNotAllowed) e
+  good_awaits_reply u s (SendName a b c) e = broken Refusal.BadMessage (Handshake (SendName a b c)) e
+  good_awaits_reply u s StatusTrue e = broken Refusal.BadMessage (Handshake StatusTrue) e
+  good_awaits_reply u s StatusFalse e = broken Refusal.BadMessage (Handshake StatusFalse) e
+  good_awaits_reply u s (Challenge a b c d) e = broken Refusal.BadMessage (Handshake (Challenge a b c d)) e
 
 -- a side is lost by a call
 pub good_lose : (w : World) (x : Name) (n : Node) (t : TrunkId) (v : TrunkSide) → node_of w.nodes x ≡ Some n → side_at n t ≡ Some v → Good w → Good ((ends_in w x w.lists (lose_at v.state t v (at_work n))).world)

@@ -18,6 +18,7 @@ use Rattle.dist_model.specs.Node.{Ended, Life, Living, Node, end_of, is_living_l
 use Rattle.dist_model.specs.Taking.{register, same_pids, take, unregister, unwatch}
 use Rattle.dist_model.specs.Work.{Work, at_work, put, set_life}
 use Rattle.erl_term.specs.Order.{pid_cmp}
+use Rattle.erl_term.specs.declared.refusal.Refusal.{Refusal}
 use Rattle.erl_term.specs.declared.term.Pid.{Pid}
 use Rattle.erl_term.specs.declared.term.Reference.{Reference}
 use Rattle.exit_core.specs.Messages.{down_term}
@@ -30,11 +31,11 @@ abbrev pub IfGoes : Outcome → (Work → Type 0) → Type 0
 IfGoes (Refuses k) P = Unit {0}
 IfGoes (Goes a o) P = P o
 
-if_cond : (b : Bool) (k : Outcome) (j : ℕ) (P : Work → Type 0) → (b ≡ true → IfGoes k P) → IfGoes (cond b k (Refuses j)) P
+if_cond : (b : Bool) (k : Outcome) (j : Refusal) (P : Work → Type 0) → (b ≡ true → IfGoes k P) → IfGoes (cond b k (Refuses j)) P
 if_cond true k j P h = h refl
 if_cond false k j P h = tt
 
-if_not : (b : Bool) (k : Outcome) (j : ℕ) (P : Work → Type 0) → IfGoes k P → IfGoes (cond b (Refuses j) k) P
+if_not : (b : Bool) (k : Outcome) (j : Refusal) (P : Work → Type 0) → IfGoes k P → IfGoes (cond b (Refuses j) k) P
 if_not true k j P h = tt
 if_not false k j P h = h
 
@@ -240,43 +241,43 @@ sets_life n p l h = same_lives (at_work n) (set_life n.lives p l) (λ x. set_lif
 
 demonitors : (v : Option (Pid × Pid)) (p : Pid) (k : Reference) (o : Work) → IfGoes (demonitor_by v p k o) (Moves o)
 demonitors None p k o = tt
-demonitors (Some v) p k o = if_cond (same_pid v.0 p) _ 5 (Moves o) (λ h. then o (unwatch k o) _ (unwatches_one k o) (posts_other v.1.node (DemonitorP p v.1 k) (unwatch k o) (λ a b. refl)))
+demonitors (Some v) p k o = if_cond (same_pid v.0 p) _ Refusal.NotTheOwner (Moves o) (λ h. then o (unwatch k o) _ (unwatches_one k o) (posts_other v.1.node (DemonitorP p v.1 k) (unwatch k o) (λ a b. refl)))
 
 unlinks_by : (e : End) (p q : Pid) (o : Work) → end_of o.node p q ≡ e → living o.node p ≡ true → IfGoes (unlink_by e p q o) (Moves o)
 unlinks_by End.None p q o h l = stays o
-unlinks_by End.Active p q o h l = if_cond (nat_lt (o.node.unlinks + 1) (2 ^ 64)) _ 4 (Moves o) (λ c. unlinks_as p q o (o.node.unlinks + 1) l h (omega arith))
+unlinks_by End.Active p q o h l = if_cond (nat_lt (o.node.unlinks + 1) (2 ^ 64)) _ Refusal.IdsUsedUp (Moves o) (λ c. unlinks_as p q o (o.node.unlinks + 1) l h (omega arith))
 unlinks_by (End.Pending i) p q o h l = stays o
 
 forged_not : (a b : Bool) → (a && b) ≡ false → a ≡ true → b ≡ false
 forged_not true b h e = h
 forged_not false b h e = cc
 
-if_not_known : (b : Bool) (k : Outcome) (j : ℕ) (P : Work → Type 0) → (b ≡ false → IfGoes k P) → IfGoes (cond b (Refuses j) k) P
+if_not_known : (b : Bool) (k : Outcome) (j : Refusal) (P : Work → Type 0) → (b ≡ false → IfGoes k P) → IfGoes (cond b (Refuses j) k) P
 if_not_known true k j P h = tt
 if_not_known false k j P h = h refl
 
 acts_known : (n : Node) (p q : Pid) (k : Outcome) → (living n p ≡ true → (same_name q.node n.name ≡ true → never n q ≡ false) → IfGoes k (Moves (at_work n))) → IfGoes (acting n p (toward n q k)) (Moves (at_work n))
-acts_known n p q k h = if_cond (living n p) (toward n q k) 3 (Moves (at_work n)) (λ l. if_not_known (same_name q.node n.name && never n q) k 20 (Moves (at_work n)) (λ v. h l (forged_not (same_name q.node n.name) (never n q) v)))
+acts_known n p q k h = if_cond (living n p) (toward n q k) Refusal.NoSuchProcess (Moves (at_work n)) (λ l. if_not_known (same_name q.node n.name && never n q) k Refusal.Forged (Moves (at_work n)) (λ v. h l (forged_not (same_name q.node n.name) (never n q) v)))
 
 acts : (n : Node) (p q : Pid) (k : Outcome) → (living n p ≡ true → IfGoes k (Moves (at_work n))) → IfGoes (acting n p (toward n q k)) (Moves (at_work n))
-acts n p q k h = if_cond (living n p) (toward n q k) 3 (Moves (at_work n)) (λ l. if_not (same_name q.node n.name && never n q) k 20 (Moves (at_work n)) (h l))
+acts n p q k h = if_cond (living n p) (toward n q k) Refusal.NoSuchProcess (Moves (at_work n)) (λ l. if_not (same_name q.node n.name && never n q) k Refusal.Forged (Moves (at_work n)) (h l))
 
 -- whatever a call does, no pair is hurt
 pub calls : (n : Node) (c : Command) → IfGoes (call n c) (Moves (at_work n))
-calls n Spawn = if_cond (nat_lt (n.spawned + 1) (2 ^ 32)) _ 4 (Moves (at_work n)) (λ h. spawns n)
-calls n (Send p q t) = acts n p q _ (λ l. if_cond (fits t) _ 8 (Moves (at_work n)) (λ f. posts_other q.node (Message q t) (at_work n) (λ a b. refl)))
+calls n Spawn = if_cond (nat_lt (n.spawned + 1) (2 ^ 32)) _ Refusal.IdsUsedUp (Moves (at_work n)) (λ h. spawns n)
+calls n (Send p q t) = acts n p q _ (λ l. if_cond (fits t) _ Refusal.TooLong (Moves (at_work n)) (λ f. posts_other q.node (Message q t) (at_work n) (λ a b. refl)))
 calls n (MakeLink p q) = acts_known n p q _ (λ l v. links p q (at_work n) v l)
 calls n (EndLink p q) = acts n p q _ (λ l. unlinks_by (end_of n p q) p q (at_work n) refl l)
-calls n (MakeMonitor p q) = acts n p q _ (λ l. if_cond (nat_lt (n.references + 1) (2 ^ 18)) _ 4 (Moves (at_work n)) (λ h.
+calls n (MakeMonitor p q) = acts n p q _ (λ l. if_cond (nat_lt (n.references + 1) (2 ^ 18)) _ Refusal.IdsUsedUp (Moves (at_work n)) (λ h.
     let o = draw_reference (at_work n) in
     let k = new_reference n in
     then (at_work n) o (monitor k p q o) (draws_reference (at_work n)) (moves_cond (reaches o.node q.node) o _ _
     (λ r. then o (watch k (p, q) o) _ (watches_one k (p, q) o) (posts_other q.node (MonitorP p q k) (watch k (p, q) o) (λ a b. refl)))
     (λ r. puts p (down_term k q noconnection) o))))
-calls n (EndMonitor p k) = if_cond (living n p) _ 3 (Moves (at_work n)) (λ l. demonitors (fm.get n.watches k) p k (at_work n))
-calls n (Trap p b) = if_cond (living n p) _ 3 (Moves (at_work n)) (λ l. sets_life n p (trapping (fm.get n.lives p) b) (living_trapping (fm.get n.lives p) b))
-calls n (ExitTo p q r) = acts n p q _ (λ l. if_cond (fits r) _ 8 (Moves (at_work n)) (λ f. posts_other q.node (Exit2 p q r) (at_work n) (λ a b. refl)))
-calls n (ExitSelf p r) = if_cond (living n p) _ 3 (Moves (at_work n)) (λ l. if_cond (fits r) _ 8 (Moves (at_work n)) (λ f. finishes p r (at_work n) l))
-calls n (Receive p) = if_cond (living n p) _ 3 (Moves (at_work n)) (λ l. sets_life n p (without_first (fm.get n.lives p)) (living_without (fm.get n.lives p)))
-calls n (LinksOf p) = if_cond (living n p) _ 3 (Moves (at_work n)) (λ l. stays (at_work n))
+calls n (EndMonitor p k) = if_cond (living n p) _ Refusal.NoSuchProcess (Moves (at_work n)) (λ l. demonitors (fm.get n.watches k) p k (at_work n))
+calls n (Trap p b) = if_cond (living n p) _ Refusal.NoSuchProcess (Moves (at_work n)) (λ l. sets_life n p (trapping (fm.get n.lives p) b) (living_trapping (fm.get n.lives p) b))
+calls n (ExitTo p q r) = acts n p q _ (λ l. if_cond (fits r) _ Refusal.TooLong (Moves (at_work n)) (λ f. posts_other q.node (Exit2 p q r) (at_work n) (λ a b. refl)))
+calls n (ExitSelf p r) = if_cond (living n p) _ Refusal.NoSuchProcess (Moves (at_work n)) (λ l. if_cond (fits r) _ Refusal.TooLong (Moves (at_work n)) (λ f. finishes p r (at_work n) l))
+calls n (Receive p) = if_cond (living n p) _ Refusal.NoSuchProcess (Moves (at_work n)) (λ l. sets_life n p (without_first (fm.get n.lives p)) (living_without (fm.get n.lives p)))
+calls n (LinksOf p) = if_cond (living n p) _ Refusal.NoSuchProcess (Moves (at_work n)) (λ l. stays (at_work n))
 calls n (IsAlive p) = stays (at_work n)

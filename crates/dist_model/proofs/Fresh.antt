@@ -26,6 +26,7 @@ use Rattle.dist_model.specs.Work.{Work, at_work}
 use Rattle.dist_model.specs.World.{World, node_of}
 use Rattle.erl_names.specs.Order.{name_cmp}
 use Rattle.erl_names.specs.declared.trunk.TrunkId.{TrunkId}
+use Rattle.erl_term.specs.declared.refusal.Refusal.{Refusal}
 
 or_no : (p q : Bool) → p ≡ false → q ≡ false → (p || q) ≡ false
 or_no true q a b = cc
@@ -111,7 +112,7 @@ module _ (w : World) (x : Name) (n : Node) (hx : node_of w.nodes x ≡ Some n) (
         g1 : Good (placed w x (give_up (Some d) (at_work n)))
         g1 = given w x n hx (at_work n) d nx hd (waits_kind d.1.state f.passes).0 g0
 
-        go : (b : Bool) → IfGoes (cond b (greet t s k i (give_up (Some d) (at_work n))) (Goes (Broke 15) (write t t.dialer StatusNok (set_state t s Gone (at_work n))))) Pl
+        go : (b : Bool) → IfGoes (cond b (greet t s k i (give_up (Some d) (at_work n))) (Goes (Broke Refusal.Superseded) (write t t.dialer StatusNok (set_state t s Gone (at_work n))))) Pl
         go true = greets (with_side_at n d.0 (as_state d.1 Gone)) nx (side_after_other n d.0 (as_state d.1 Gone) t td ∙ none)
             (none_left w x n hx is_waiting t.dialer n d (g.core.sides x n hx) hd f.peer f.passes refl waits_kind) g1
         go false = refused_one w x n hx t c far m0 (at_work n) nx none m0s g0
@@ -120,16 +121,16 @@ module _ (w : World) (x : Name) (n : Node) (hx : node_of w.nodes x ≡ Some n) (
             m0s = met_in _ (g0.posted t x key)
 
   -- a first message that is no good
-  pub fresh_fault : (k : ℕ) → IfGoes (fault k t s (at_work n)) Pl
+  pub fresh_fault : (k : Refusal) → IfGoes (fault k t s (at_work n)) Pl
   fresh_fault k = first_state w x n hx t c far m0 (at_work n) Gone nx none refl refl (inr refl) refl (λ u b hb eb gs gb. let z : true ≡ false = gs in cc) (met_in _ (g0.posted t x key)) g0
 
   pub fresh_hello : (name : Name) (flags k : ℕ) → IfGoes (awaits_name t (SendName name c flags) k (at_work n)) Pl
   fresh_hello name flags k = go (same_name name t.dialer) (has_flags flags)
     where
-      go : (a b : Bool) → IfGoes (cond a (cond b (greet_waiting (side_where is_waiting t.dialer (fm.entries n.sides)) t s k (Handshake (SendName name c flags)) (at_work n)) (fault 11 t s (at_work n))) (fault 20 t s (at_work n))) Pl
+      go : (a b : Bool) → IfGoes (cond a (cond b (greet_waiting (side_where is_waiting t.dialer (fm.entries n.sides)) t s k (Handshake (SendName name c flags)) (at_work n)) (fault Refusal.FlagsMissing t s (at_work n))) (fault Refusal.Forged t s (at_work n))) Pl
       go true true = waits k (Handshake (SendName name c flags)) (side_where is_waiting t.dialer (fm.entries n.sides)) refl
-      go true false = fresh_fault 11
-      go false b = fresh_fault 20
+      go true false = fresh_fault Refusal.FlagsMissing
+      go false b = fresh_fault Refusal.Forged
 
 -- Asked: the dialer goes on
 module _ (w : World) (x : Name) (n : Node) (hx : node_of w.nodes x ≡ Some n) (g : Good w) (t : TrunkId) (v : TrunkSide) (k : ℕ) (h : side_at n t ≡ Some v) (e : v.state ≡ Asked k) where

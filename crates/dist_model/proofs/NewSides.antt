@@ -22,6 +22,7 @@ use Rattle.dist_model.specs.Sides.{Accepting, Asked, AwaitsAck, AwaitsChallenge,
 use Rattle.dist_model.specs.Work.{at_work}
 use Rattle.dist_model.specs.World.{World, carried, ends_in, list_in, list_to, node_of, set_node}
 use Rattle.erl_names.specs.declared.trunk.TrunkId.{TrunkId}
+use Rattle.erl_term.specs.declared.refusal.Refusal.{Refusal}
 
 -- a node's place is set twice
 pub set_twice : (ns : List Node) (x : Name) (a b : Node) → a.name ≡ x → set_node (set_node ns x a) x b ≡ set_node ns x b
@@ -161,7 +162,7 @@ pub good_dial : (w : World) (x : Name) (n : Node) (y : Name) (k : ℕ) → node_
 good_dial w x n y k hx g = go (same_name y n.name) refl (not (has_name y w.names)) (is_some (side_where (λ v. not (is_gone v)) y (fm.entries n.sides))) refl (not (nat_lt (n.dialed + 1) (2 ^ 64)))
   where
     go : (a : Bool) → same_name y n.name ≡ a → (b : Bool) (c : Bool) → is_some (side_where (λ v. not (is_gone v)) y (fm.entries n.sides)) ≡ c → (d : Bool)
-        → Good ((ends_in w x w.lists (cond a (Refuses 17) (cond b (Refuses 19) (cond c (Refuses 16) (cond d (Refuses 4) (Goes (Dialed (next_trunk n)) (write (next_trunk n) y (SendName n.name n.creation flag_word) (with_side (next_trunk n) (record { peer = y; peer_creation = 0; state = AwaitsStatus k }) (at_work (draw_trunk n)))))))))).world)
+        → Good ((ends_in w x w.lists (cond a (Refuses Refusal.SelfDial) (cond b (Refuses Refusal.NothingThere) (cond c (Refuses Refusal.Busy) (cond d (Refuses Refusal.IdsUsedUp) (Goes (Dialed (next_trunk n)) (write (next_trunk n) y (SendName n.name n.creation flag_word) (with_side (next_trunk n) (record { peer = y; peer_creation = 0; state = AwaitsStatus k }) (at_work (draw_trunk n)))))))))).world)
     go true ea b c ec d = g
     go false ea true c ec d = g
     go false ea false true ec d = g

@@ -35,6 +35,7 @@ use Rattle.dist_model.specs.World.{Arrive, Call, Dial, Event, Local, Lose, Refus
 use Rattle.erl_names.specs.Order.{name_cmp}
 use Rattle.erl_names.specs.declared.trunk.TrunkId.{TrunkId}
 use Rattle.erl_term.specs.Data.{Data}
+use Rattle.erl_term.specs.declared.refusal.Refusal.{Refusal}
 use Rattle.erl_term.specs.declared.term.Pid.{Pid}
 use Rattle.erl_term.specs.declared.term.Reference.{Reference}
 use Rattle.exit_core.specs.Messages.{down_term}
@@ -155,11 +156,11 @@ item_taken Tick o p q h = inl h
 nothing : {P : Type 0} → false ≡ true → P
 nothing h = absurd (let c : true ≡ false = sym h in cc)
 
-on_cond : (b : Bool) (k : Outcome) (j : ℕ) (P : Work → Type 0) → (b ≡ true → IfGoes k P) → IfGoes (cond b k (Refuses j)) P
+on_cond : (b : Bool) (k : Outcome) (j : Refusal) (P : Work → Type 0) → (b ≡ true → IfGoes k P) → IfGoes (cond b k (Refuses j)) P
 on_cond true k j P h = h refl
 on_cond false k j P h = tt
 
-on_not : (b : Bool) (k : Outcome) (j : ℕ) (P : Work → Type 0) → IfGoes k P → IfGoes (cond b (Refuses j) k) P
+on_not : (b : Bool) (k : Outcome) (j : Refusal) (P : Work → Type 0) → IfGoes k P → IfGoes (cond b (Refuses j) k) P
 on_not true k j P h = tt
 on_not false k j P h = h
 
@@ -168,7 +169,7 @@ OwnLink n c o = (p q : Pid) → reacts_in p q o.effects ≡ true → (c ≡ Make
 
 module _ (n : Node) where
   acts_on : (c : Command) (p q : Pid) (k : Outcome) → (living n p ≡ true → IfGoes k (OwnLink n c)) → IfGoes (acting n p (toward n q k)) (OwnLink n c)
-  acts_on c p q k h = on_cond (living n p) (toward n q k) 3 (OwnLink n c) (λ l. on_not (same_name q.node n.name && never n q) k 20 (OwnLink n c) (h l))
+  acts_on c p q k h = on_cond (living n p) (toward n q k) Refusal.NoSuchProcess (OwnLink n c) (λ l. on_not (same_name q.node n.name && never n q) k Refusal.Forged (OwnLink n c) (h l))
 
   links_new : (a b : Pid) (o : Work) → o.effects ≡ [] → (t : Bool) → reaches n b.node ≡ t → living n a ≡ true → OwnLink n (MakeLink a b) (link_new t a b o)
   links_new a b o e true r l p q h = nothing (sym (ap (reacts_in p q) e) ∙ calm_post b.node (AboutLink a b (Says LinkSignal.Link)) (set_end a b End.Active o) p q h)
@@ -189,28 +190,28 @@ module _ (n : Node) where
 
   unlinks_on : (e : End) (a b : Pid) → IfGoes (unlink_by e a b (at_work n)) (OwnLink n (EndLink a b))
   unlinks_on End.None a b = λ p q h. nothing h
-  unlinks_on End.Active a b = on_cond (nat_lt (n.unlinks + 1) (2 ^ 64)) _ 4 (OwnLink n (EndLink a b)) (λ i p q h. nothing (calm_post b.node (AboutLink a b (Says (LinkSignal.Unlink (n.unlinks + 1)))) (set_end a b (End.Pending (n.unlinks + 1)) (draw_unlink (n.unlinks + 1) (at_work n))) p q h))
+  unlinks_on End.Active a b = on_cond (nat_lt (n.unlinks + 1) (2 ^ 64)) _ Refusal.IdsUsedUp (OwnLink n (EndLink a b)) (λ i p q h. nothing (calm_post b.node (AboutLink a b (Says (LinkSignal.Unlink (n.unlinks + 1)))) (set_end a b (End.Pending (n.unlinks + 1)) (draw_unlink (n.unlinks + 1) (at_work n))) p q h))
   unlinks_on (End.Pending i) a b = λ p q h. nothing h
 
   demonitors_on : (v : Option (Pid × Pid)) (a : Pid) (k : Reference) → IfGoes (demonitor_by v a k (at_work n)) (OwnLink n (EndMonitor a k))
   demonitors_on None a k = tt
-  demonitors_on (Some v) a k = on_cond (same_pid v.0 a) _ 5 (OwnLink n (EndMonitor a k)) (λ i p q h. nothing (calm_post v.1.node (DemonitorP a v.1 k) (unwatch k (at_work n)) p q h))
+  demonitors_on (Some v) a k = on_cond (same_pid v.0 a) _ Refusal.NotTheOwner (OwnLink n (EndMonitor a k)) (λ i p q h. nothing (calm_post v.1.node (DemonitorP a v.1 k) (unwatch k (at_work n)) p q h))
 
   pub called : (c : Command) → IfGoes (call n c) (OwnLink n c)
-  called Spawn = on_cond (nat_lt (n.spawned + 1) (2 ^ 32)) _ 4 (OwnLink n Spawn) (λ i p q h. nothing h)
-  called (Send a b t) = acts_on (Send a b t) a b _ (λ l. on_cond (fits t) _ 8 (OwnLink n (Send a b t)) (λ i p q h. nothing (calm_post b.node (Message b t) (at_work n) p q h)))
+  called Spawn = on_cond (nat_lt (n.spawned + 1) (2 ^ 32)) _ Refusal.IdsUsedUp (OwnLink n Spawn) (λ i p q h. nothing h)
+  called (Send a b t) = acts_on (Send a b t) a b _ (λ l. on_cond (fits t) _ Refusal.TooLong (OwnLink n (Send a b t)) (λ i p q h. nothing (calm_post b.node (Message b t) (at_work n) p q h)))
   called (MakeLink a b) = acts_on (MakeLink a b) a b _ (λ l. link_cond (same_pid a b) a b l)
   called (EndLink a b) = acts_on (EndLink a b) a b _ (λ l. unlinks_on (end_of n a b) a b)
-  called (MakeMonitor a b) = acts_on (MakeMonitor a b) a b _ (λ l. on_cond (nat_lt (n.references + 1) (2 ^ 18)) _ 4 (OwnLink n (MakeMonitor a b))
+  called (MakeMonitor a b) = acts_on (MakeMonitor a b) a b _ (λ l. on_cond (nat_lt (n.references + 1) (2 ^ 18)) _ Refusal.IdsUsedUp (OwnLink n (MakeMonitor a b))
       (λ i p q h. nothing (calm_cond (reaches n b.node) (at_work n) _ _
       (calm_post b.node (MonitorP a b (new_reference n)) (watch (new_reference n) (a, b) (draw_reference (at_work n))))
       (calm_put a (down_term (new_reference n) b noconnection) (draw_reference (at_work n))) p q h)))
-  called (EndMonitor a k) = on_cond (living n a) _ 3 (OwnLink n (EndMonitor a k)) (λ l. demonitors_on (fm.get n.watches k) a k)
-  called (Trap a b) = on_cond (living n a) _ 3 (OwnLink n (Trap a b)) (λ l p q h. nothing h)
-  called (ExitTo a b r) = acts_on (ExitTo a b r) a b _ (λ l. on_cond (fits r) _ 8 (OwnLink n (ExitTo a b r)) (λ i p q h. nothing (calm_post b.node (Exit2 a b r) (at_work n) p q h)))
-  called (ExitSelf a r) = on_cond (living n a) _ 3 (OwnLink n (ExitSelf a r)) (λ l. on_cond (fits r) _ 8 (OwnLink n (ExitSelf a r)) (λ i p q h. nothing (calm_finish a r (at_work n) p q h)))
-  called (Receive a) = on_cond (living n a) _ 3 (OwnLink n (Receive a)) (λ l p q h. nothing h)
-  called (LinksOf a) = on_cond (living n a) _ 3 (OwnLink n (LinksOf a)) (λ l p q h. nothing h)
+  called (EndMonitor a k) = on_cond (living n a) _ Refusal.NoSuchProcess (OwnLink n (EndMonitor a k)) (λ l. demonitors_on (fm.get n.watches k) a k)
+  called (Trap a b) = on_cond (living n a) _ Refusal.NoSuchProcess (OwnLink n (Trap a b)) (λ l p q h. nothing h)
+  called (ExitTo a b r) = acts_on (ExitTo a b r) a b _ (λ l. on_cond (fits r) _ Refusal.TooLong (OwnLink n (ExitTo a b r)) (λ i p q h. nothing (calm_post b.node (Exit2 a b r) (at_work n) p q h)))
+  called (ExitSelf a r) = on_cond (living n a) _ Refusal.NoSuchProcess (OwnLink n (ExitSelf a r)) (λ l. on_cond (fits r) _ Refusal.TooLong (OwnLink n (ExitSelf a r)) (λ i p q h. nothing (calm_finish a r (at_work n) p q h)))
+  called (Receive a) = on_cond (living n a) _ Refusal.NoSuchProcess (OwnLink n (Receive a)) (λ l p q h. nothing h)
+  called (LinksOf a) = on_cond (living n a) _ Refusal.NoSuchProcess (OwnLink n (LinksOf a)) (λ l p q h. nothing h)
   called (IsAlive a) = λ p q h. nothing h
 
 -- sweeps
@@ -470,7 +471,7 @@ module _ (w : World) (g : Good w) where
   abbrev pub Tells : Event → Report → Type 0
   Tells e r = (p q : Pid) → reacts p q r ≡ true → (end_between w p q ≡ End.Active) ⊎ ((e ≡ Call p.node (MakeLink p q)) × (reached_at (node_of w.nodes p.node) q.node ≡ false))
 
-  refusal : (e : Event) (k : ℕ) → Tells e (Refused k)
+  refusal : (e : Event) (k : Refusal) → Tells e (Refused k)
   refusal e k p q h = nothing h
 
   outcome : (e : Event) (x : Name) (n : Node) (m : FinMap place_cmp (List Item)) → node_of w.nodes x ≡ Some n → (o : Outcome) → IfGoes o (HeldBefore n) → Tells e ((ends_in w x m o).report)
@@ -487,35 +488,35 @@ module _ (w : World) (g : Good w) where
   while_up : (e : Event) (n : Node) (s : Stepped) → Tells e s.report → Tells e ((running w n s).report)
   while_up e n s h = go n.up
     where
-      go : (b : Bool) → Tells e ((cond b s (refused w 2)).report)
+      go : (b : Bool) → Tells e ((cond b s (refused w Refusal.NodeDown)).report)
       go true = h
-      go false = refusal e 2
+      go false = refusal e Refusal.NodeDown
 
   first_comes : (t : TrunkId) (x : Name) (n : Node) (k : ℕ) (o : Option TrunkSide) (l : List Item) → node_of w.nodes x ≡ Some n → Tells (Arrive t x k) ((arrives_first w n t x k o l).report)
-  first_comes t x n k o [] hx = refusal (Arrive t x k) 19
+  first_comes t x n k o [] hx = refusal (Arrive t x k) Refusal.NothingThere
   first_comes t x n k o (i ∷ is) hx = outcome (Arrive t x k) x n (fm.insert w.lists (t, x) is) hx (arrive n t o i k) (arriving n t o i k)
 
   comes : (t : TrunkId) (x : Name) (n : Node) (k : ℕ) (o : Option TrunkSide) → node_of w.nodes x ≡ Some n → Tells (Arrive t x k) ((arrives w n t x k o).report)
   comes t x n k None hx = go (is_some (fm.get w.lists (t, x)) && not (same_name t.dialer x))
     where
-      go : (b : Bool) → Tells (Arrive t x k) ((cond b (arrives_first w n t x k None (list_to w.lists t x)) (refused w 18)).report)
+      go : (b : Bool) → Tells (Arrive t x k) ((cond b (arrives_first w n t x k None (list_to w.lists t x)) (refused w Refusal.NotLive)).report)
       go true = first_comes t x n k None (list_to w.lists t x) hx
-      go false = refusal (Arrive t x k) 18
+      go false = refusal (Arrive t x k) Refusal.NotLive
   comes t x n k (Some v) hx = go (is_over v.state)
     where
-      go : (b : Bool) → Tells (Arrive t x k) ((cond b (refused w 18) (arrives_first w n t x k (Some v) (list_to w.lists t x))).report)
-      go true = refusal (Arrive t x k) 18
+      go : (b : Bool) → Tells (Arrive t x k) ((cond b (refused w Refusal.NotLive) (arrives_first w n t x k (Some v) (list_to w.lists t x))).report)
+      go true = refusal (Arrive t x k) Refusal.NotLive
       go false = first_comes t x n k (Some v) (list_to w.lists t x) hx
 
   dials : (n : Node) (y : Name) (k : ℕ) → IfGoes (dial w.names n y k) (HeldBefore n)
-  dials n y k = on_not (same_name y n.name) _ 17 (HeldBefore n) (on_not (not (has_name y w.names)) _ 19 (HeldBefore n) (on_not (is_some (side_where (λ v. not (is_gone v)) y (fm.entries n.sides))) _ 16 (HeldBefore n)
-      (on_not (not (nat_lt (n.dialed + 1) (2 ^ 64))) _ 4 (HeldBefore n) (λ p q h. nothing h))))
+  dials n y k = on_not (same_name y n.name) _ Refusal.SelfDial (HeldBefore n) (on_not (not (has_name y w.names)) _ Refusal.NothingThere (HeldBefore n) (on_not (is_some (side_where (λ v. not (is_gone v)) y (fm.entries n.sides))) _ Refusal.Busy (HeldBefore n)
+      (on_not (not (nat_lt (n.dialed + 1) (2 ^ 64))) _ Refusal.IdsUsedUp (HeldBefore n) (λ p q h. nothing h))))
 
   starts : (n : Node) → IfGoes (start n) (HeldBefore n)
-  starts n = on_not n.up _ 23 (HeldBefore n) (on_cond (nat_lt (n.creation + 1) (2 ^ 32)) _ 4 (HeldBefore n) (λ i p q h. nothing h))
+  starts n = on_not n.up _ Refusal.NodeUp (HeldBefore n) (on_cond (nat_lt (n.creation + 1) (2 ^ 32)) _ Refusal.IdsUsedUp (HeldBefore n) (λ i p q h. nothing h))
 
   at_node : (o : Option Node) (e : Event) → node_of w.nodes (node_name e) ≡ o → Tells e ((step_at w o e).report)
-  at_node None e h = refusal e 19
+  at_node None e h = refusal e Refusal.NothingThere
   at_node (Some n) (Call x c) h = while_up (Call x c) n _ (call_outcome x n c h (call n c) (called n c))
   at_node (Some n) (Arrive t x k) h = while_up (Arrive t x k) n _ (comes t x n k (fm.get n.sides t) h)
   at_node (Some n) (Local x) h = while_up (Local x) n _ (outcome (Local x) x n w.lists h (take_local n n.local) (takes_local n n.local))

@@ -25,6 +25,7 @@ use Rattle.dist_model.specs.Sides.{Accepting, Asked, AwaitsAck, AwaitsChallenge,
 use Rattle.dist_model.specs.Work.{at_work}
 use Rattle.dist_model.specs.World.{Arrive, Call, Dial, Event, Local, Lose, Start, Stepped, Stop, Sweep, World, arrives, arrives_first, carried, ends_in, is_over, list_to, node_name, node_of, refused, run, running, set_node, step, step_at}
 use Rattle.erl_names.specs.declared.trunk.TrunkId.{TrunkId}
+use Rattle.erl_term.specs.declared.refusal.Refusal.{Refusal}
 use Rattle.std.specs.FinMap.{FinMap}
 
 popped_world : World → TrunkId → Name → List Item → World
@@ -45,65 +46,65 @@ module _ (w : World) (x : Name) (n : Node) (t : TrunkId) (v : TrunkSide) (rest :
   To i o = list_to w.lists t x ≡ i ∷ rest → IfGoes o (λ p. Good (record { names = w.names; nodes = set_node w.nodes x p.node; lists = carried (fm.insert w.lists (t, x) rest) p.sent }))
 
   good_awaits_challenge_item : (u : ℕ) → v.state ≡ AwaitsChallenge u → (m : HandshakeMessage) → To (Handshake m) (awaits_challenge t v u m (at_work n))
-  good_awaits_challenge_item u s (Challenge a b c d) e = unless w x n t v rest hx h g (same_name a v.peer) (Handshake (Challenge a b c d)) _ 20
-      (λ _ f. unless w x n t v rest hx h g (has_flags c) (Handshake (Challenge a b c d)) _ 11
+  good_awaits_challenge_item u s (Challenge a b c d) e = unless w x n t v rest hx h g (same_name a v.peer) (Handshake (Challenge a b c d)) _ Refusal.Forged
+      (λ _ f. unless w x n t v rest hx h g (has_flags c) (Handshake (Challenge a b c d)) _ Refusal.FlagsMissing
       (λ _ k. challenge_comes w x n t v (Handshake (Challenge a b c d)) rest hx h g k u b (dig n.cookie d) s refl (λ p q. refl)) f) e
-  good_awaits_challenge_item u s StatusOk e = broken w x n t v rest hx h g 10 (Handshake StatusOk) e
-  good_awaits_challenge_item u s StatusOkSimultaneous e = broken w x n t v rest hx h g 10 (Handshake StatusOkSimultaneous) e
-  good_awaits_challenge_item u s StatusAlive e = broken w x n t v rest hx h g 10 (Handshake StatusAlive) e
-  good_awaits_challenge_item u s StatusNok e = broken w x n t v rest hx h g 10 (Handshake StatusNok) e
-  good_awaits_challenge_item u s StatusNotAllowed e = broken w x n t v rest hx h g 10 (Handshake StatusNotAllowed) e
-  good_awaits_challenge_item u s (SendName a b c) e = broken w x n t v rest hx h g 10 (Handshake (SendName a b c)) e
-  good_awaits_challenge_item u s StatusTrue e = broken w x n t v rest hx h g 10 (Handshake StatusTrue) e
-  good_awaits_challenge_item u s StatusFalse e = broken w x n t v rest hx h g 10 (Handshake StatusFalse) e
-  good_awaits_challenge_item u s (ChallengeReply a b) e = broken w x n t v rest hx h g 10 (Handshake (ChallengeReply a b)) e
-  good_awaits_challenge_item u s (ChallengeAck a) e = broken w x n t v rest hx h g 10 (Handshake (ChallengeAck a)) e
+  good_awaits_challenge_item u s StatusOk e = broken w x n t v rest hx h g Refusal.BadMessage (Handshake StatusOk) e
+  good_awaits_challenge_item u s StatusOkSimultaneous e = broken w x n t v rest hx h g Refusal.BadMessage (Handshake StatusOkSimultaneous) e
+  good_awaits_challenge_item u s StatusAlive e = broken w x n t v rest hx h g Refusal.BadMessage (Handshake StatusAlive) e
+  good_awaits_challenge_item u s StatusNok e = broken w x n t v rest hx h g Refusal.BadMessage (Handshake StatusNok) e
+  good_awaits_challenge_item u s StatusNotAllowed e = broken w x n t v rest hx h g Refusal.BadMessage (Handshake StatusNotAllowed) e
+  good_awaits_challenge_item u s (SendName a b c) e = broken w x n t v rest hx h g Refusal.BadMessage (Handshake (SendName a b c)) e
+  good_awaits_challenge_item u s StatusTrue e = broken w x n t v rest hx h g Refusal.BadMessage (Handshake StatusTrue) e
+  good_awaits_challenge_item u s StatusFalse e = broken w x n t v rest hx h g Refusal.BadMessage (Handshake StatusFalse) e
+  good_awaits_challenge_item u s (ChallengeReply a b) e = broken w x n t v rest hx h g Refusal.BadMessage (Handshake (ChallengeReply a b)) e
+  good_awaits_challenge_item u s (ChallengeAck a) e = broken w x n t v rest hx h g Refusal.BadMessage (Handshake (ChallengeAck a)) e
 
   good_awaits_ack_item : (u : ℕ) → v.state ≡ AwaitsAck u → (m : HandshakeMessage) → To (Handshake m) (awaits_ack t v u m (at_work n))
-  good_awaits_ack_item u s (ChallengeAck a) e = unless w x n t v rest hx h g (a == dig n.cookie u) (Handshake (ChallengeAck a)) _ 13
+  good_awaits_ack_item u s (ChallengeAck a) e = unless w x n t v rest hx h g (a == dig n.cookie u) (Handshake (ChallengeAck a)) _ Refusal.BadDigest
       (λ _ k. acceptance_comes w x n t v (Handshake (ChallengeAck a)) rest hx h g k u s refl (λ p q. refl)) e
-  good_awaits_ack_item u s StatusOk e = broken w x n t v rest hx h g 10 (Handshake StatusOk) e
-  good_awaits_ack_item u s StatusOkSimultaneous e = broken w x n t v rest hx h g 10 (Handshake StatusOkSimultaneous) e
-  good_awaits_ack_item u s StatusAlive e = broken w x n t v rest hx h g 10 (Handshake StatusAlive) e
-  good_awaits_ack_item u s StatusNok e = broken w x n t v rest hx h g 10 (Handshake StatusNok) e
-  good_awaits_ack_item u s StatusNotAllowed e = broken w x n t v rest hx h g 10 (Handshake StatusNotAllowed) e
-  good_awaits_ack_item u s (SendName a b c) e = broken w x n t v rest hx h g 10 (Handshake (SendName a b c)) e
-  good_awaits_ack_item u s StatusTrue e = broken w x n t v rest hx h g 10 (Handshake StatusTrue) e
-  good_awaits_ack_item u s StatusFalse e = broken w x n t v rest hx h g 10 (Handshake StatusFalse) e
-  good_awaits_ack_item u s (Challenge a b c d) e = broken w x n t v rest hx h g 10 (Handshake (Challenge a b c d)) e
-  good_awaits_ack_item u s (ChallengeReply a b) e = broken w x n t v rest hx h g 10 (Handshake (ChallengeReply a b)) e
+  good_awaits_ack_item u s StatusOk e = broken w x n t v rest hx h g Refusal.BadMessage (Handshake StatusOk) e
+  good_awaits_ack_item u s StatusOkSimultaneous e = broken w x n t v rest hx h g Refusal.BadMessage (Handshake StatusOkSimultaneous) e
+  good_awaits_ack_item u s StatusAlive e = broken w x n t v rest hx h g Refusal.BadMessage (Handshake StatusAlive) e
+  good_awaits_ack_item u s StatusNok e = broken w x n t v rest hx h g Refusal.BadMessage (Handshake StatusNok) e
+  good_awaits_ack_item u s StatusNotAllowed e = broken w x n t v rest hx h g Refusal.BadMessage (Handshake StatusNotAllowed) e
+  good_awaits_ack_item u s (SendName a b c) e = broken w x n t v rest hx h g Refusal.BadMessage (Handshake (SendName a b c)) e
+  good_awaits_ack_item u s StatusTrue e = broken w x n t v rest hx h g Refusal.BadMessage (Handshake StatusTrue) e
+  good_awaits_ack_item u s StatusFalse e = broken w x n t v rest hx h g Refusal.BadMessage (Handshake StatusFalse) e
+  good_awaits_ack_item u s (Challenge a b c d) e = broken w x n t v rest hx h g Refusal.BadMessage (Handshake (Challenge a b c d)) e
+  good_awaits_ack_item u s (ChallengeReply a b) e = broken w x n t v rest hx h g Refusal.BadMessage (Handshake (ChallengeReply a b)) e
 
   good_awaits_true_item : (u : ℕ) → v.state ≡ Asked u → (m : HandshakeMessage) → To (Handshake m) (awaits_true t v u m (at_work n))
   good_awaits_true_item u s StatusTrue e = asked_on (record { names = w.names; nodes = w.nodes; lists = fm.insert w.lists (t, x) rest }) x n hx (good_popped w t x (Handshake StatusTrue) rest g e (λ m b hm hb j p q. refl)) t v u h s
-  good_awaits_true_item u s StatusOk e = broken w x n t v rest hx h g 10 (Handshake StatusOk) e
-  good_awaits_true_item u s StatusOkSimultaneous e = broken w x n t v rest hx h g 10 (Handshake StatusOkSimultaneous) e
-  good_awaits_true_item u s StatusAlive e = broken w x n t v rest hx h g 10 (Handshake StatusAlive) e
-  good_awaits_true_item u s StatusNok e = broken w x n t v rest hx h g 10 (Handshake StatusNok) e
-  good_awaits_true_item u s StatusNotAllowed e = broken w x n t v rest hx h g 10 (Handshake StatusNotAllowed) e
-  good_awaits_true_item u s (SendName a b c) e = broken w x n t v rest hx h g 10 (Handshake (SendName a b c)) e
-  good_awaits_true_item u s StatusFalse e = broken w x n t v rest hx h g 14 (Handshake StatusFalse) e
-  good_awaits_true_item u s (Challenge a b c d) e = broken w x n t v rest hx h g 10 (Handshake (Challenge a b c d)) e
-  good_awaits_true_item u s (ChallengeReply a b) e = broken w x n t v rest hx h g 10 (Handshake (ChallengeReply a b)) e
-  good_awaits_true_item u s (ChallengeAck a) e = broken w x n t v rest hx h g 10 (Handshake (ChallengeAck a)) e
+  good_awaits_true_item u s StatusOk e = broken w x n t v rest hx h g Refusal.BadMessage (Handshake StatusOk) e
+  good_awaits_true_item u s StatusOkSimultaneous e = broken w x n t v rest hx h g Refusal.BadMessage (Handshake StatusOkSimultaneous) e
+  good_awaits_true_item u s StatusAlive e = broken w x n t v rest hx h g Refusal.BadMessage (Handshake StatusAlive) e
+  good_awaits_true_item u s StatusNok e = broken w x n t v rest hx h g Refusal.BadMessage (Handshake StatusNok) e
+  good_awaits_true_item u s StatusNotAllowed e = broken w x n t v rest hx h g Refusal.BadMessage (Handshake StatusNotAllowed) e
+  good_awaits_true_item u s (SendName a b c) e = broken w x n t v rest hx h g Refusal.BadMessage (Handshake (SendName a b c)) e
+  good_awaits_true_item u s StatusFalse e = broken w x n t v rest hx h g Refusal.Nok (Handshake StatusFalse) e
+  good_awaits_true_item u s (Challenge a b c d) e = broken w x n t v rest hx h g Refusal.BadMessage (Handshake (Challenge a b c d)) e
+  good_awaits_true_item u s (ChallengeReply a b) e = broken w x n t v rest hx h g Refusal.BadMessage (Handshake (ChallengeReply a b)) e
+  good_awaits_true_item u s (ChallengeAck a) e = broken w x n t v rest hx h g Refusal.BadMessage (Handshake (ChallengeAck a)) e
 
   by_handshake : (a : State) → v.state ≡ a → (m : HandshakeMessage) → To (Handshake m) (handshake_at a t v m (at_work n))
   by_handshake (AwaitsStatus u) s m = good_awaits_status w x n t v rest hx h g u s m
   by_handshake (AwaitsChallenge u) s m = good_awaits_challenge_item u s m
   by_handshake (AwaitsAck u) s m = good_awaits_ack_item u s m
   by_handshake (Asked u) s m = good_awaits_true_item u s m
-  by_handshake (Parked u) s m = broken w x n t v rest hx h g 10 (Handshake m)
+  by_handshake (Parked u) s m = broken w x n t v rest hx h g Refusal.BadMessage (Handshake m)
   by_handshake (Accepting u) s m = good_awaits_reply w x n t v rest hx h g u s m
-  by_handshake Up s m = broken w x n t v rest hx h g 10 (Handshake m)
+  by_handshake Up s m = broken w x n t v rest hx h g Refusal.BadMessage (Handshake m)
   by_handshake Losing s m = λ e. tt
   by_handshake Gone s m = λ e. tt
 
   by_signal : (a : State) → v.state ≡ a → (i : Item) → To i (signal_at a t v i (at_work n))
-  by_signal (AwaitsStatus u) s i = broken w x n t v rest hx h g 10 i
-  by_signal (AwaitsChallenge u) s i = broken w x n t v rest hx h g 10 i
-  by_signal (AwaitsAck u) s i = broken w x n t v rest hx h g 10 i
-  by_signal (Asked u) s i = broken w x n t v rest hx h g 10 i
-  by_signal (Parked u) s i = broken w x n t v rest hx h g 10 i
-  by_signal (Accepting u) s i = broken w x n t v rest hx h g 10 i
+  by_signal (AwaitsStatus u) s i = broken w x n t v rest hx h g Refusal.BadMessage i
+  by_signal (AwaitsChallenge u) s i = broken w x n t v rest hx h g Refusal.BadMessage i
+  by_signal (AwaitsAck u) s i = broken w x n t v rest hx h g Refusal.BadMessage i
+  by_signal (Asked u) s i = broken w x n t v rest hx h g Refusal.BadMessage i
+  by_signal (Parked u) s i = broken w x n t v rest hx h g Refusal.BadMessage i
+  by_signal (Accepting u) s i = broken w x n t v rest hx h g Refusal.BadMessage i
   by_signal Up s i = λ e. good_on_up w x n t v i rest hx h g e (ap is_up s)
   by_signal Losing s i = λ e. tt
   by_signal Gone s i = λ e. tt
@@ -126,8 +127,8 @@ module _ (w : World) (x : Name) (n : Node) (hx : node_of w.nodes x ≡ Some n) (
   abbrev Well : Outcome → Type 0
   Well o = IfGoes o (λ p. Good (record { names = w.names; nodes = set_node w.nodes x p.node; lists = carried w.lists p.sent }))
 
-  bad : Well (fault 10 t (record { peer = t.dialer; peer_creation = 0; state = Gone }) (at_work n))
-  bad = fresh_fault w x n hx g t 0 far key none 10
+  bad : Well (fault Refusal.BadMessage t (record { peer = t.dialer; peer_creation = 0; state = Gone }) (at_work n))
+  bad = fresh_fault w x n hx g t 0 far key none Refusal.BadMessage
 
   fresh_item : (o : Option HandshakeMessage) (k : ℕ) → Well (arrive_fresh o t k (at_work n))
   fresh_item None z = bad
@@ -162,12 +163,12 @@ not_is_false false h = refl
 good_arrives : (w : World) (x : Name) (n : Node) (t : TrunkId) (k : ℕ) (o : Option TrunkSide) → node_of w.nodes x ≡ Some n → side_at n t ≡ o → Good w → Good ((arrives w n t x k o).world)
 good_arrives w x n t k None hx h g = go (is_some (fm.get w.lists (t, x)) && not (same_name t.dialer x)) refl
   where
-    go : (b : Bool) → (is_some (fm.get w.lists (t, x)) && not (same_name t.dialer x)) ≡ b → Good ((cond b (arrives_first w n t x k None (list_to w.lists t x)) (refused w 18)).world)
+    go : (b : Bool) → (is_some (fm.get w.lists (t, x)) && not (same_name t.dialer x)) ≡ b → Good ((cond b (arrives_first w n t x k None (list_to w.lists t x)) (refused w Refusal.NotLive)).world)
     go true e = let v = and_both (is_some (fm.get w.lists (t, x))) (not (same_name t.dialer x)) e in first_fresh w x n t k (list_to w.lists t x) hx h g v.0 (not_is_false (same_name t.dialer x) v.1) refl
     go false e = g
 good_arrives w x n t k (Some v) hx h g = go (is_over v.state)
   where
-    go : (b : Bool) → Good ((cond b (refused w 18) (arrives_first w n t x k (Some v) (list_to w.lists t x))).world)
+    go : (b : Bool) → Good ((cond b (refused w Refusal.NotLive) (arrives_first w n t x k (Some v) (list_to w.lists t x))).world)
     go true = g
     go false = first_known w x n t v k (list_to w.lists t x) hx h g refl
 
@@ -182,14 +183,14 @@ good_lose_any w x n t (Some v) hx h g = good_lose w x n t v hx h g
 runs_well : (w : World) (n : Node) (s : Stepped) → Good w → Good (s.world) → Good ((running w n s).world)
 runs_well w n s g h = go n.up
   where
-    go : (b : Bool) → Good ((cond b s (refused w 2)).world)
+    go : (b : Bool) → Good ((cond b s (refused w Refusal.NodeDown)).world)
     go true = h
     go false = g
 
 good_start : (w : World) (x : Name) (n : Node) → node_of w.nodes x ≡ Some n → Good w → Good ((ends_in w x w.lists (start n)).world)
 good_start w x n hx g = go n.up (nat_lt (n.creation + 1) (2 ^ 32))
   where
-    go : (a b : Bool) → Good ((ends_in w x w.lists (cond a (Refuses 23) (cond b (Goes Done (at_work (started n))) (Refuses 4)))).world)
+    go : (a b : Bool) → Good ((ends_in w x w.lists (cond a (Refuses Refusal.NodeUp) (cond b (Goes Done (at_work (started n))) (Refuses Refusal.IdsUsedUp)))).world)
     go true b = g
     go false true = good_started w x n hx g
     go false false = g

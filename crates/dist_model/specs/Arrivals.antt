@@ -11,6 +11,7 @@ use Rattle.dist_model.specs.Sides.{Accepting, Asked, AwaitsAck, AwaitsChallenge,
 use Rattle.dist_model.specs.Taking.{take}
 use Rattle.dist_model.specs.Work.{Work, at_work}
 use Rattle.erl_names.specs.declared.trunk.TrunkId.{TrunkId}
+use Rattle.erl_term.specs.declared.refusal.Refusal.{Refusal}
 use Rattle.erl_term.specs.declared.term.Pid.{Pid}
 
 -- on a side that is up: who it is from, and to whom
@@ -32,7 +33,7 @@ is_good n s Tick = true
 
 -- a signal comes on a side that is up
 abbrev pub on_up : TrunkId → TrunkSide → Item → Work → Outcome
-on_up t s x o = cond (is_good o.node s x) (Goes (Took x) (take x o)) (fault 20 t s o)
+on_up t s x o = cond (is_good o.node s x) (Goes (Took x) (take x o)) (fault Refusal.Forged t s o)
 
 abbrev pub handshake_in : Item → Option HandshakeMessage
 handshake_in (Handshake m) = Some m
@@ -44,30 +45,30 @@ handshake_at (AwaitsStatus v) t s m o = awaits_status t s v m o
 handshake_at (AwaitsChallenge v) t s m o = awaits_challenge t s v m o
 handshake_at (AwaitsAck v) t s m o = awaits_ack t s v m o
 handshake_at (Asked v) t s m o = awaits_true t s v m o
-handshake_at (Parked v) t s m o = fault 10 t s o
+handshake_at (Parked v) t s m o = fault Refusal.BadMessage t s o
 handshake_at (Accepting v) t s m o = awaits_reply t s v m o
-handshake_at Up t s m o = fault 10 t s o
-handshake_at Losing t s m o = Refuses 18
-handshake_at Gone t s m o = Refuses 18
+handshake_at Up t s m o = fault Refusal.BadMessage t s o
+handshake_at Losing t s m o = Refuses Refusal.NotLive
+handshake_at Gone t s m o = Refuses Refusal.NotLive
 
 -- a signal or a tick comes
 abbrev pub signal_at : State → TrunkId → TrunkSide → Item → Work → Outcome
-signal_at (AwaitsStatus v) t s x o = fault 10 t s o
-signal_at (AwaitsChallenge v) t s x o = fault 10 t s o
-signal_at (AwaitsAck v) t s x o = fault 10 t s o
-signal_at (Asked v) t s x o = fault 10 t s o
-signal_at (Parked v) t s x o = fault 10 t s o
-signal_at (Accepting v) t s x o = fault 10 t s o
+signal_at (AwaitsStatus v) t s x o = fault Refusal.BadMessage t s o
+signal_at (AwaitsChallenge v) t s x o = fault Refusal.BadMessage t s o
+signal_at (AwaitsAck v) t s x o = fault Refusal.BadMessage t s o
+signal_at (Asked v) t s x o = fault Refusal.BadMessage t s o
+signal_at (Parked v) t s x o = fault Refusal.BadMessage t s o
+signal_at (Accepting v) t s x o = fault Refusal.BadMessage t s o
 signal_at Up t s x o = on_up t s x o
-signal_at Losing t s x o = Refuses 18
-signal_at Gone t s x o = Refuses 18
+signal_at Losing t s x o = Refuses Refusal.NotLive
+signal_at Gone t s x o = Refuses Refusal.NotLive
 
 abbrev pub arrive_at : Option HandshakeMessage → TrunkId → TrunkSide → Item → Work → Outcome
 arrive_at None t s x o = signal_at s.state t s x o
 arrive_at (Some m) t s x o = handshake_at s.state t s m o
 
 abbrev pub arrive_fresh : Option HandshakeMessage → TrunkId → ℕ → Work → Outcome
-arrive_fresh None t w o = fault 10 t (record { peer = t.dialer; peer_creation = 0; state = Gone }) o
+arrive_fresh None t w o = fault Refusal.BadMessage t (record { peer = t.dialer; peer_creation = 0; state = Gone }) o
 arrive_fresh (Some m) t w o = awaits_name t m w o
 
 -- the first item of a trunk comes; None: the side is Fresh
@@ -77,5 +78,5 @@ arrive n t (Some s) x w = arrive_at (handshake_in x) t s x (at_work n)
 
 -- the first item of the own list
 abbrev pub take_local : Node → List Item → Outcome
-take_local n [] = Refuses 19
+take_local n [] = Refuses Refusal.NothingThere
 take_local n (x ∷ xs) = Goes (Took x) (take x (at_work (record n { local = xs })))

@@ -11,18 +11,19 @@ use Rattle.dist_model.specs.Names.{same_name, same_pid}
 use Rattle.dist_model.specs.Node.{Ended, Life, Living, Node, end_of, living, never}
 use Rattle.dist_model.specs.Work.{Work, at_work, post, set_life}
 use Rattle.erl_term.specs.Data.{Data}
+use Rattle.erl_term.specs.declared.refusal.Refusal.{Refusal}
 use Rattle.erl_term.specs.declared.term.Pid.{Pid}
 use Rattle.link_core.specs.declared.end.End.{End}
 
 -- the process has to be living here; its target may not be one of this node that was never spawned
 abbrev pub acting : Node → Pid → Outcome → Outcome
-acting n p k = cond (living n p) k (Refuses 3)
+acting n p k = cond (living n p) k (Refuses Refusal.NoSuchProcess)
 
 abbrev pub toward : Node → Pid → Outcome → Outcome
-toward n q k = cond (same_name q.node n.name && never n q) (Refuses 20) k
+toward n q k = cond (same_name q.node n.name && never n q) (Refuses Refusal.Forged) k
 
 abbrev pub fitting : Data → Outcome → Outcome
-fitting t k = cond (fits t) k (Refuses 8)
+fitting t k = cond (fits t) k (Refuses Refusal.TooLong)
 
 abbrev pub spawn_life : Node → Pid → Work
 spawn_life n p = at_work (record n { spawned = n.spawned + 1; lives = fm.insert n.lives p (Living false []) })
@@ -58,11 +59,11 @@ links_in (((o, q), End.Active) ∷ es) p = cond (same_pid o p) ((q, End.Active) 
 links_in (((o, q), End.Pending i) ∷ es) p = cond (same_pid o p) ((q, End.Pending i) ∷ links_in es p) (links_in es p)
 
 abbrev pub call : Node → Command → Outcome
-call n Spawn = cond (nat_lt (n.spawned + 1) (2 ^ 32)) (Goes (Spawned (next_pid n)) (spawn_life n (next_pid n))) (Refuses 4)
+call n Spawn = cond (nat_lt (n.spawned + 1) (2 ^ 32)) (Goes (Spawned (next_pid n)) (spawn_life n (next_pid n))) (Refuses Refusal.IdsUsedUp)
 call n (Send p q t) = acting n p (toward n q (fitting t (Goes Done (post q.node (Message q t) (at_work n)))))
 call n (MakeLink p q) = acting n p (toward n q (Goes Done (link p q (at_work n))))
 call n (EndLink p q) = acting n p (toward n q (unlink_by (end_of n p q) p q (at_work n)))
-call n (MakeMonitor p q) = acting n p (toward n q (cond (nat_lt (n.references + 1) (2 ^ 18)) (Goes (Watching (new_reference n)) (monitor (new_reference n) p q (draw_reference (at_work n)))) (Refuses 4)))
+call n (MakeMonitor p q) = acting n p (toward n q (cond (nat_lt (n.references + 1) (2 ^ 18)) (Goes (Watching (new_reference n)) (monitor (new_reference n) p q (draw_reference (at_work n)))) (Refuses Refusal.IdsUsedUp)))
 call n (EndMonitor p k) = acting n p (demonitor_by (fm.get n.watches k) p k (at_work n))
 call n (Trap p b) = acting n p (Goes Done (with_life n p (trapping (fm.get n.lives p) b)))
 call n (ExitTo p q r) = acting n p (toward n q (fitting r (Goes Done (post q.node (Exit2 p q r) (at_work n)))))

@@ -5,6 +5,7 @@ use Rattle.dist_model.specs.Items.{Item}
 use Rattle.dist_model.specs.Work.{Work}
 use Rattle.erl_names.specs.declared.trunk.TrunkId.{TrunkId}
 use Rattle.erl_term.specs.Data.{Data}
+use Rattle.erl_term.specs.declared.refusal.Refusal.{Refusal}
 use Rattle.erl_term.specs.declared.term.Pid.{Pid}
 use Rattle.erl_term.specs.declared.term.Reference.{Reference}
 use Rattle.link_core.specs.declared.end.End.{End}
@@ -40,8 +41,8 @@ pub data Answer : Type 0 where
   Dialed : TrunkId → Answer
   Sweeps : Swept → Answer
   Took : Item → Answer
-  Broke : ℕ → Answer
+  Broke : Refusal → Answer
 
 pub data Outcome : Type 0 where
-  Refuses : (number : ℕ) → Outcome
+  Refuses : Refusal → Outcome
   Goes : Answer → Work → Outcome

@@ -10,6 +10,7 @@ use Rattle.dist_model.specs.Node.{Node, side_where}
 use Rattle.dist_model.specs.Sides.{AwaitsStatus, is_gone}
 use Rattle.dist_model.specs.Work.{at_work}
 use Rattle.erl_names.specs.declared.trunk.TrunkId.{TrunkId}
+use Rattle.erl_term.specs.declared.refusal.Refusal.{Refusal}
 
 abbrev pub has_name : Name → List Name → Bool
 has_name y [] = false
@@ -23,10 +24,10 @@ draw_trunk n = record n { dialed = n.dialed + 1 }
 
 abbrev pub dial : List Name → Node → Name → ℕ → Outcome
 dial names n y w =
-    cond (same_name y n.name) (Refuses 17)
-    (cond (not (has_name y names)) (Refuses 19)
-    (cond (is_some (side_where (λ v. not (is_gone v)) y (fm.entries n.sides))) (Refuses 16)
-    (cond (not (nat_lt (n.dialed + 1) (2 ^ 64))) (Refuses 4)
+    cond (same_name y n.name) (Refuses Refusal.SelfDial)
+    (cond (not (has_name y names)) (Refuses Refusal.NothingThere)
+    (cond (is_some (side_where (λ v. not (is_gone v)) y (fm.entries n.sides))) (Refuses Refusal.Busy)
+    (cond (not (nat_lt (n.dialed + 1) (2 ^ 64))) (Refuses Refusal.IdsUsedUp)
     (Goes (Dialed (next_trunk n))
     (write (next_trunk n) y (SendName n.name n.creation flag_word)
     (with_side (next_trunk n) (record { peer = y; peer_creation = 0; state = AwaitsStatus w }) (at_work (draw_trunk n))))))))

@@ -11,6 +11,7 @@ use Rattle.dist_model.specs.Sides.{Accepting, Asked, AwaitsAck, AwaitsChallenge,
 use Rattle.dist_model.specs.Work.{Work, send_on}
 use Rattle.erl_names.specs.Order.{name_cmp}
 use Rattle.erl_names.specs.declared.trunk.TrunkId.{TrunkId}
+use Rattle.erl_term.specs.declared.refusal.Refusal.{Refusal}
 
 -- sides of trunks
 abbrev pub with_side : TrunkId → TrunkSide → Work → Work
@@ -22,7 +23,7 @@ set_state t s x o = with_side t (record { peer = s.peer; peer_creation = s.peer_
 abbrev pub write : TrunkId → Name → HandshakeMessage → Work → Work
 write t y m o = send_on (Some t) y (Handshake m) o
 
-abbrev pub fault : ℕ → TrunkId → TrunkSide → Work → Outcome
+abbrev pub fault : Refusal → TrunkId → TrunkSide → Work → Outcome
 fault k t s o = Goes (Broke k) (set_state t s (lost s.state) o)
 
 -- the flags of the profile
@@ -65,25 +66,25 @@ greet t s w x o = greet_up (side_where (λ v. is_up v || is_losing v) s.peer (fm
 abbrev pub greet_waiting : Option (TrunkId × TrunkSide) → TrunkId → TrunkSide → ℕ → Item → Work → Outcome
 greet_waiting None t s w x o = greet t s w x o
 greet_waiting (Some e) t s w x o =
-    cond (nat_lt e.0.count t.count) (greet t s w x (give_up (Some e) o)) (Goes (Broke 15) (write t s.peer StatusNok (set_state t s Gone o)))
+    cond (nat_lt e.0.count t.count) (greet t s w x (give_up (Some e) o)) (Goes (Broke Refusal.Superseded) (write t s.peer StatusNok (set_state t s Gone o)))
 
 -- a Fresh side gets its first message
 abbrev pub awaits_name : TrunkId → HandshakeMessage → ℕ → Work → Outcome
 awaits_name t (SendName name creation flags) w o =
     let s : TrunkSide = record { peer = t.dialer; peer_creation = creation; state = Gone } in
     cond (same_name name t.dialer)
-    (cond (has_flags flags) (greet_waiting (side_where is_waiting t.dialer (fm.entries o.node.sides)) t s w (Handshake (SendName name creation flags)) o) (fault 11 t s o))
-    (fault 20 t s o)
-awaits_name t _ w o = fault 10 t (record { peer = t.dialer; peer_creation = 0; state = Gone }) o
+    (cond (has_flags flags) (greet_waiting (side_where is_waiting t.dialer (fm.entries o.node.sides)) t s w (Handshake (SendName name creation flags)) o) (fault Refusal.FlagsMissing t s o))
+    (fault Refusal.Forged t s o)
+awaits_name t _ w o = fault Refusal.BadMessage t (record { peer = t.dialer; peer_creation = 0; state = Gone }) o
 
 -- the dialer awaits the status
 abbrev pub awaits_status : TrunkId → TrunkSide → ℕ → HandshakeMessage → Work → Outcome
 awaits_status t s v StatusOk o = Goes (Took (Handshake StatusOk)) (set_state t s (AwaitsChallenge v) o)
 awaits_status t s v StatusOkSimultaneous o = Goes (Took (Handshake StatusOkSimultaneous)) (set_state t s (AwaitsChallenge v) o)
 awaits_status t s v StatusAlive o = Goes (Took (Handshake StatusAlive)) (write t s.peer StatusTrue (set_state t s (AwaitsChallenge v) o))
-awaits_status t s v StatusNok o = fault 14 t s o
-awaits_status t s v StatusNotAllowed o = fault 14 t s o
-awaits_status t s v _ o = fault 10 t s o
+awaits_status t s v StatusNok o = fault Refusal.Nok t s o
+awaits_status t s v StatusNotAllowed o = fault Refusal.Nok t s o
+awaits_status t s v _ o = fault Refusal.BadMessage t s o
 
 -- the dialer awaits the challenge
 abbrev pub awaits_challenge : TrunkId → TrunkSide → ℕ → HandshakeMessage → Work → Outcome
@@ -91,14 +92,14 @@ awaits_challenge t s v (Challenge name creation flags word) o =
     cond (same_name name s.peer)
     (cond (has_flags flags)
     (Goes (Took (Handshake (Challenge name creation flags word))) (write t s.peer (ChallengeReply v (dig o.node.cookie word)) (set_state t (record { peer = s.peer; peer_creation = creation; state = s.state }) (AwaitsAck v) o)))
-    (fault 11 t s o))
-    (fault 20 t s o)
-awaits_challenge t s v _ o = fault 10 t s o
+    (fault Refusal.FlagsMissing t s o))
+    (fault Refusal.Forged t s o)
+awaits_challenge t s v _ o = fault Refusal.BadMessage t s o
 
 -- the dialer awaits the acceptance
 abbrev pub awaits_ack : TrunkId → TrunkSide → ℕ → HandshakeMessage → Work → Outcome
-awaits_ack t s v (ChallengeAck digest) o = cond (digest == dig o.node.cookie v) (Goes (Took (Handshake (ChallengeAck digest))) (set_state t s Up o)) (fault 13 t s o)
-awaits_ack t s v _ o = fault 10 t s o
+awaits_ack t s v (ChallengeAck digest) o = cond (digest == dig o.node.cookie v) (Goes (Took (Handshake (ChallengeAck digest))) (set_state t s Up o)) (fault Refusal.BadDigest t s o)
+awaits_ack t s v _ o = fault Refusal.BadMessage t s o
 
 -- the acceptor waits for the dialer's word that it goes on
 abbrev pub end_up : Option (TrunkId × TrunkSide) → Work → Work
@@ -114,11 +115,11 @@ goes_on t s w o = go_on (side_where is_losing s.peer (fm.entries o.node.sides)) 
 
 abbrev pub awaits_true : TrunkId → TrunkSide → ℕ → HandshakeMessage → Work → Outcome
 awaits_true t s w StatusTrue o = Goes (Took (Handshake StatusTrue)) (goes_on t s w (end_up (side_where is_up s.peer (fm.entries o.node.sides)) o))
-awaits_true t s w StatusFalse o = fault 14 t s o
-awaits_true t s w _ o = fault 10 t s o
+awaits_true t s w StatusFalse o = fault Refusal.Nok t s o
+awaits_true t s w _ o = fault Refusal.BadMessage t s o
 
 -- the acceptor checks the dialer's digest
 abbrev pub awaits_reply : TrunkId → TrunkSide → ℕ → HandshakeMessage → Work → Outcome
 awaits_reply t s w (ChallengeReply word digest) o =
-    cond (digest == dig o.node.cookie w) (Goes (Took (Handshake (ChallengeReply word digest))) (write t s.peer (ChallengeAck (dig o.node.cookie word)) (set_state t s Up o))) (fault 13 t s o)
-awaits_reply t s w _ o = fault 10 t s o
+    cond (digest == dig o.node.cookie w) (Goes (Took (Handshake (ChallengeReply word digest))) (write t s.peer (ChallengeAck (dig o.node.cookie word)) (set_state t s Up o))) (fault Refusal.BadDigest t s o)
+awaits_reply t s w _ o = fault Refusal.BadMessage t s o

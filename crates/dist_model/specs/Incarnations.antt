@@ -7,6 +7,7 @@ use Rattle.dist_model.specs.Node.{Node}
 use Rattle.dist_model.specs.Sides.{Gone, TrunkSide}
 use Rattle.dist_model.specs.Work.{at_work}
 use Rattle.erl_names.specs.declared.trunk.TrunkId.{TrunkId}
+use Rattle.erl_term.specs.declared.refusal.Refusal.{Refusal}
 
 abbrev pub all_gone : List (TrunkId × TrunkSide) → List (TrunkId × TrunkSide)
 all_gone [] = []
@@ -23,5 +24,5 @@ abbrev pub stop : Node → Outcome
 stop n = Goes Done (at_work (stopped n))
 
 abbrev pub start : Node → Outcome
-start n = cond n.up (Refuses 23) (cond (nat_lt (n.creation + 1) (2 ^ 32)) (Goes Done (at_work (started n))) (Refuses 4))
+start n = cond n.up (Refuses Refusal.NodeUp) (cond (nat_lt (n.creation + 1) (2 ^ 32)) (Goes Done (at_work (started n))) (Refuses Refusal.IdsUsedUp))
 

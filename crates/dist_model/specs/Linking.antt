@@ -9,6 +9,7 @@ use Rattle.dist_model.specs.Links.{Says, noconnection}
 use Rattle.dist_model.specs.Names.{same_pid}
 use Rattle.dist_model.specs.Node.{end_of, reaches}
 use Rattle.dist_model.specs.Work.{Work, post, set_end}
+use Rattle.erl_term.specs.declared.refusal.Refusal.{Refusal}
 use Rattle.erl_term.specs.declared.term.Pid.{Pid}
 use Rattle.link_core.specs.declared.end.End.{End}
 use Rattle.link_core.specs.declared.end.LinkSignal.{LinkSignal}
@@ -35,5 +36,5 @@ unlink_as j p q o = post q.node (AboutLink p q (Says (LinkSignal.Unlink j))) (se
 
 abbrev pub unlink_by : End → Pid → Pid → Work → Outcome
 unlink_by End.None p q o = Goes Done o
-unlink_by End.Active p q o = cond (nat_lt (o.node.unlinks + 1) (2 ^ 64)) (Goes Done (unlink_as (o.node.unlinks + 1) p q o)) (Refuses 4)
+unlink_by End.Active p q o = cond (nat_lt (o.node.unlinks + 1) (2 ^ 64)) (Goes Done (unlink_as (o.node.unlinks + 1) p q o)) (Refuses Refusal.IdsUsedUp)
 unlink_by (End.Pending i) p q o = Goes Done o

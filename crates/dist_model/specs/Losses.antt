@@ -12,18 +12,19 @@ use Rattle.dist_model.specs.Sides.{Accepting, Gone, Losing, Parked, State, Trunk
 use Rattle.dist_model.specs.Taking.{unwatch}
 use Rattle.dist_model.specs.Work.{Work, at_work, put, set_end}
 use Rattle.erl_names.specs.declared.trunk.TrunkId.{TrunkId}
+use Rattle.erl_term.specs.declared.refusal.Refusal.{Refusal}
 use Rattle.erl_term.specs.declared.term.Pid.{Pid}
 use Rattle.erl_term.specs.declared.term.Reference.{Reference}
 use Rattle.exit_core.specs.Messages.{down_term}
 use Rattle.link_core.specs.declared.end.End.{End}
 
 abbrev pub lose_at : State → TrunkId → TrunkSide → Work → Outcome
-lose_at Losing t s o = Refuses 18
-lose_at Gone t s o = Refuses 18
+lose_at Losing t s o = Refuses Refusal.NotLive
+lose_at Gone t s o = Refuses Refusal.NotLive
 lose_at x t s o = Goes Done (set_state t s (lost x) o)
 
 abbrev pub lose : Node → TrunkId → Option TrunkSide → Outcome
-lose n t None = Refuses 18
+lose n t None = Refuses Refusal.NotLive
 lose n t (Some s) = lose_at s.state t s (at_work n)
 
 abbrev pub any_side : (State → Bool) → List (TrunkId × TrunkSide) → Option (TrunkId × TrunkSide)
@@ -92,7 +93,7 @@ abbrev pub first_of : Name → Node → Swept
 first_of y n = cond (is_some (link_to y (fm.entries n.ends))) SweptLink (cond (is_some (watch_to y (fm.entries n.watches))) SweptWatch (cond (is_some (registered_by y (fm.entries n.registered))) SweptRegistration SweptSide))
 
 abbrev pub sweep_by : Option (TrunkId × TrunkSide) → Work → Outcome
-sweep_by None o = Refuses 19
+sweep_by None o = Refuses Refusal.NothingThere
 sweep_by (Some e) o = Goes (Sweeps (first_of e.1.peer o.node)) (swept e.0 e.1 (sweep_link (link_to e.1.peer (fm.entries o.node.ends)) e.1.peer o))
 
 abbrev pub sweep : Node → Outcome

@@ -9,6 +9,7 @@ use Rattle.dist_model.specs.Names.{same_pid}
 use Rattle.dist_model.specs.Node.{Node, reaches}
 use Rattle.dist_model.specs.Taking.{unwatch}
 use Rattle.dist_model.specs.Work.{Work, post, put}
+use Rattle.erl_term.specs.declared.refusal.Refusal.{Refusal}
 use Rattle.erl_term.specs.declared.term.Pid.{Pid}
 use Rattle.erl_term.specs.declared.term.Reference.{Reference}
 use Rattle.exit_core.specs.Messages.{down_term}
@@ -27,5 +28,5 @@ abbrev pub monitor : Reference → Pid → Pid → Work → Work
 monitor k p q o = cond (reaches o.node q.node) (post q.node (MonitorP p q k) (watch k (p, q) o)) (put p (down_term k q noconnection) o)
 
 abbrev pub demonitor_by : Option (Pid × Pid) → Pid → Reference → Work → Outcome
-demonitor_by None p k o = Refuses 5
-demonitor_by (Some v) p k o = cond (same_pid v.0 p) (Goes Done (post v.1.node (DemonitorP p v.1 k) (unwatch k o))) (Refuses 5)
+demonitor_by None p k o = Refuses Refusal.NotTheOwner
+demonitor_by (Some v) p k o = cond (same_pid v.0 p) (Goes Done (post v.1.node (DemonitorP p v.1 k) (unwatch k o))) (Refuses Refusal.NotTheOwner)

@@ -13,6 +13,7 @@ use Rattle.dist_model.specs.Node.{Node}
 use Rattle.dist_model.specs.Sides.{Accepting, Asked, AwaitsAck, AwaitsChallenge, AwaitsStatus, Gone, Losing, Parked, State, TrunkSide, Up}
 use Rattle.dist_model.specs.Work.{Effect, Envelope}
 use Rattle.erl_names.specs.declared.trunk.TrunkId.{TrunkId}
+use Rattle.erl_term.specs.declared.refusal.Refusal.{Refusal}
 use Rattle.std.specs.FinMap.{FinMap}
 
 pub record World : Type 0 where
@@ -53,7 +54,7 @@ pub data Event : Type 0 where
 
 -- what was answered, and what was reported
 pub data Report : Type 0 where
-  Refused : (number : ℕ) → Report
+  Refused : Refusal → Report
   Reported : Answer → List Effect → Report
 
 pub record Stepped : Type 0 where
@@ -64,11 +65,11 @@ abbrev pub ends_in : World → Name → FinMap place_cmp (List Item) → Outcome
 ends_in w x m (Refuses k) = record { world = w; report = Refused k }
 ends_in w x m (Goes a o) = record { world = record { names = w.names; nodes = set_node w.nodes x o.node; lists = carried m o.sent }; report = Reported a o.effects }
 
-abbrev pub refused : World → ℕ → Stepped
+abbrev pub refused : World → Refusal → Stepped
 refused w k = record { world = w; report = Refused k }
 
 abbrev pub arrives_first : World → Node → TrunkId → Name → ℕ → Option TrunkSide → List Item → Stepped
-arrives_first w n t x v s [] = refused w 19
+arrives_first w n t x v s [] = refused w Refusal.NothingThere
 arrives_first w n t x v s (i ∷ is) = ends_in w x (fm.insert w.lists (t, x) is) (arrive n t s i v)
 
 abbrev pub is_over : State → Bool
@@ -84,14 +85,14 @@ is_over Gone = true
 
 -- a side that isn't known counts as Fresh where something was sent to it, and else as Gone
 abbrev pub arrives : World → Node → TrunkId → Name → ℕ → Option TrunkSide → Stepped
-arrives w n t x v None = cond (is_some (fm.get w.lists (t, x)) && not (same_name t.dialer x)) (arrives_first w n t x v None (list_to w.lists t x)) (refused w 18)
-arrives w n t x v (Some s) = cond (is_over s.state) (refused w 18) (arrives_first w n t x v (Some s) (list_to w.lists t x))
+arrives w n t x v None = cond (is_some (fm.get w.lists (t, x)) && not (same_name t.dialer x)) (arrives_first w n t x v None (list_to w.lists t x)) (refused w Refusal.NotLive)
+arrives w n t x v (Some s) = cond (is_over s.state) (refused w Refusal.NotLive) (arrives_first w n t x v (Some s) (list_to w.lists t x))
 
 abbrev pub running : World → Node → Stepped → Stepped
-running w n s = cond n.up s (refused w 2)
+running w n s = cond n.up s (refused w Refusal.NodeDown)
 
 abbrev pub step_at : World → Option Node → Event → Stepped
-step_at w None e = refused w 19
+step_at w None e = refused w Refusal.NothingThere
 step_at w (Some n) (Call x c) = running w n (ends_in w x w.lists (call n c))
 step_at w (Some n) (Arrive t x v) = running w n (arrives w n t x v (fm.get n.sides t))
 step_at w (Some n) (Local x) = running w n (ends_in w x w.lists (take_local n n.local))
