@@ -4,19 +4,20 @@ use Rattle.std.specs.FinMap as fm
 use Rattle.dist_model.proofs.Kept.{Kept}
 use Rattle.dist_model.proofs.Keys.{pid_total, same_name_refl, same_name_true, same_pid_is, same_pid_refl, same_pid_true}
 use Rattle.dist_model.proofs.Moves.{Homely, Moves, carries_out, finishes, links, posts_other, puts, set_life_living, stays, then, unlinks_as}
-use Rattle.dist_model.proofs.Views.{over, side_path, view}
+use Rattle.dist_model.proofs.Views.{over, side_path, telling_word, view}
 use Rattle.dist_model.specs.Calls.{acting, call, next_pid, spawn_life, toward, trapping, with_life, without_first}
 use Rattle.dist_model.specs.Commands.{Command, EndLink, EndMonitor, ExitSelf, ExitTo, Goes, IsAlive, LinksOf, MakeLink, MakeMonitor, Outcome, Receive, Refuses, Send, Spawn, Trap}
 use Rattle.dist_model.specs.Exits.{sent_exit}
 use Rattle.dist_model.specs.Fits.{fits}
-use Rattle.dist_model.specs.Items.{AboutLink, DemonitorP, Exit2, Handshake, Item, Message, MonitorP, MonitorPExit, Tick, signal_of}
+use Rattle.dist_model.specs.Items.{Handshake, Item, Signalled, Tick, telling, word_in}
 use Rattle.dist_model.specs.Linking.{unlink_by}
-use Rattle.dist_model.specs.Links.{noconnection, noproc}
+use Rattle.dist_model.specs.Links.{Exits, LinkWord, Says, noconnection, noproc}
 use Rattle.dist_model.specs.Monitoring.{demonitor_by, draw_reference, monitor, new_reference, watch}
 use Rattle.dist_model.specs.Names.{same_name, same_pid}
 use Rattle.dist_model.specs.Node.{Ended, Life, Living, Node, end_of, is_living_life, living, never, reaches, traps_life}
-use Rattle.dist_model.specs.Taking.{register, same_pids, take, unregister, unwatch}
+use Rattle.dist_model.specs.Taking.{register, same_pids, take_item, unregister, unwatch}
 use Rattle.dist_model.specs.Work.{Work, at_work, put, set_life}
+use Rattle.erl_control.specs.declared.signal.Signal.{Signal}
 use Rattle.erl_term.specs.Order.{pid_cmp}
 use Rattle.erl_term.specs.declared.refusal.Refusal.{Refusal}
 use Rattle.erl_term.specs.declared.term.Pid.{Pid}
@@ -24,6 +25,7 @@ use Rattle.erl_term.specs.declared.term.Reference.{Reference}
 use Rattle.exit_core.specs.Messages.{down_term}
 use Rattle.exit_core.specs.Reaction.{reaction}
 use Rattle.link_core.specs.declared.end.End.{End}
+use Rattle.link_core.specs.declared.end.LinkSignal.{LinkSignal}
 use Rattle.std.specs.FinMap.{FinMap}
 
 -- what holds of the work where the event goes through
@@ -75,14 +77,20 @@ moves_cond : (b : Bool) (o x y : Work) → (b ≡ true → Moves o x) → (b ≡
 moves_cond true o x y f g = f refl
 moves_cond false o x y f g = g refl
 
+says_something : (q p : Pid) (s : LinkWord) → word_in q p (Signalled (telling q p s)) ≡ [] → ⊥
+says_something q p s h = let n : s ∷ [] ≡ [] = sym (telling_word q p q p s ∙ ap (λ t. cond (t && same_pid p p) (s ∷ []) []) (same_pid_refl q) ∙ ap (λ t. cond t (s ∷ []) []) (same_pid_refl p)) ∙ h in cc
+
 -- the other signals
-pub takes_other : (x : Item) (o : Work) → ((p q : Pid) → signal_of p q x ≡ []) → Moves o (take x o)
-takes_other (AboutLink q p s) o h = let n : s ∷ [] ≡ [] = sym (ap (λ t. cond (t && same_pid p p) (s ∷ []) []) (same_pid_refl q) ∙ ap (λ t. cond t (s ∷ []) []) (same_pid_refl p)) ∙ h q p in cc
-takes_other (Message p t) o h = moves_cond (living o.node p) o (put p t o) o (λ l. puts p t o) (λ l. stays o)
-takes_other (Exit2 q p r) o h = moves_cond (living o.node p) o _ o (λ l. carries_out (reaction (traps_life (fm.get o.node.lives p)) (sent_exit p q r)) p o l) (λ l. stays o)
-takes_other (MonitorP q p k) o h = moves_cond (living o.node p) o _ _ (λ l. registers (fm.get o.node.registered k) k (q, p) o) (λ l. posts_other q.node (MonitorPExit p q k noproc) o (λ a b. refl))
-takes_other (DemonitorP q p k) o h = moves_cond (same_pids (fm.get o.node.registered k) q p) o _ _ (λ l. unregisters k o) (λ l. stays o)
-takes_other (MonitorPExit q p k r) o h = moves_cond (living o.node p && same_pids (fm.get o.node.watches k) p q) o _ _
+pub takes_other : (x : Item) (o : Work) → ((p q : Pid) → word_in p q x ≡ []) → Moves o (take_item x o)
+takes_other (Signalled (Signal.Link q p)) o h = absurd (says_something q p (Says LinkSignal.Link) (h q p))
+takes_other (Signalled (Signal.Exit q p r)) o h = absurd (says_something q p (Exits r) (h q p))
+takes_other (Signalled (Signal.UnlinkId i q p)) o h = absurd (says_something q p (Says (LinkSignal.Unlink i)) (h q p))
+takes_other (Signalled (Signal.UnlinkIdAck i q p)) o h = absurd (says_something q p (Says (LinkSignal.Ack i)) (h q p))
+takes_other (Signalled (Signal.Send p t)) o h = moves_cond (living o.node p) o (put p t o) o (λ l. puts p t o) (λ l. stays o)
+takes_other (Signalled (Signal.Exit2 q p r)) o h = moves_cond (living o.node p) o _ o (λ l. carries_out (reaction (traps_life (fm.get o.node.lives p)) (sent_exit p q r)) p o l) (λ l. stays o)
+takes_other (Signalled (Signal.Monitor q p k)) o h = moves_cond (living o.node p) o _ _ (λ l. registers (fm.get o.node.registered k) k (q, p) o) (λ l. posts_other q.node (Signalled (Signal.MonitorExit p q k noproc)) o (λ a b. refl))
+takes_other (Signalled (Signal.Demonitor q p k)) o h = moves_cond (same_pids (fm.get o.node.registered k) q p) o _ _ (λ l. unregisters k o) (λ l. stays o)
+takes_other (Signalled (Signal.MonitorExit q p k r)) o h = moves_cond (living o.node p && same_pids (fm.get o.node.watches k) p q) o _ _
     (λ l. then o (unwatch k o) (put p (down_term k q r) (unwatch k o)) (unwatches_one k o) (puts p (down_term k q r) (unwatch k o))) (λ l. stays o)
 takes_other (Handshake m) o h = stays o
 takes_other Tick o h = stays o
@@ -198,14 +206,7 @@ spawned_stays_born n p h = by_test _ (same_pid p (next_pid n)) (λ e. ap (never 
 
 home_along : (f g : Pid → Bool) (xs : List Item) → ((p : Pid) → f p ≡ false → g p ≡ false) → Homely f xs → Homely g xs
 home_along f g [] h k = tt
-home_along f g (AboutLink a b x ∷ xs) h k = ((h a k.0.0, h b k.0.1, k.0.2), home_along f g xs h k.1)
-home_along f g (Message b x ∷ xs) h k = (tt, home_along f g xs h k.1)
-home_along f g (Exit2 a b x ∷ xs) h k = (tt, home_along f g xs h k.1)
-home_along f g (MonitorP a b x ∷ xs) h k = (tt, home_along f g xs h k.1)
-home_along f g (DemonitorP a b x ∷ xs) h k = (tt, home_along f g xs h k.1)
-home_along f g (MonitorPExit a b j x ∷ xs) h k = (tt, home_along f g xs h k.1)
-home_along f g (Handshake x ∷ xs) h k = (tt, home_along f g xs h k.1)
-home_along f g (Tick ∷ xs) h k = (tt, home_along f g xs h k.1)
+home_along f g (x ∷ xs) h k = (λ a b n. let v = k.0 a b n in (h a v.0, h b v.1, v.2), home_along f g xs h k.1)
 
 pub spawns : (n : Node) → Moves (at_work n) (spawn_life n (next_pid n))
 spawns n = record {
@@ -241,7 +242,7 @@ sets_life n p l h = same_lives (at_work n) (set_life n.lives p l) (λ x. set_lif
 
 demonitors : (v : Option (Pid × Pid)) (p : Pid) (k : Reference) (o : Work) → IfGoes (demonitor_by v p k o) (Moves o)
 demonitors None p k o = tt
-demonitors (Some v) p k o = if_cond (same_pid v.0 p) _ Refusal.NotTheOwner (Moves o) (λ h. then o (unwatch k o) _ (unwatches_one k o) (posts_other v.1.node (DemonitorP p v.1 k) (unwatch k o) (λ a b. refl)))
+demonitors (Some v) p k o = if_cond (same_pid v.0 p) _ Refusal.NotTheOwner (Moves o) (λ h. then o (unwatch k o) _ (unwatches_one k o) (posts_other v.1.node (Signalled (Signal.Demonitor p v.1 k)) (unwatch k o) (λ a b. refl)))
 
 unlinks_by : (e : End) (p q : Pid) (o : Work) → end_of o.node p q ≡ e → living o.node p ≡ true → IfGoes (unlink_by e p q o) (Moves o)
 unlinks_by End.None p q o h l = stays o
@@ -265,18 +266,18 @@ acts n p q k h = if_cond (living n p) (toward n q k) Refusal.NoSuchProcess (Move
 -- whatever a call does, no pair is hurt
 pub calls : (n : Node) (c : Command) → IfGoes (call n c) (Moves (at_work n))
 calls n Spawn = if_cond (nat_lt (n.spawned + 1) (2 ^ 32)) _ Refusal.IdsUsedUp (Moves (at_work n)) (λ h. spawns n)
-calls n (Send p q t) = acts n p q _ (λ l. if_cond (fits t) _ Refusal.TooLong (Moves (at_work n)) (λ f. posts_other q.node (Message q t) (at_work n) (λ a b. refl)))
+calls n (Send p q t) = acts n p q _ (λ l. if_cond (fits t) _ Refusal.TooLong (Moves (at_work n)) (λ f. posts_other q.node (Signalled (Signal.Send q t)) (at_work n) (λ a b. refl)))
 calls n (MakeLink p q) = acts_known n p q _ (λ l v. links p q (at_work n) v l)
 calls n (EndLink p q) = acts n p q _ (λ l. unlinks_by (end_of n p q) p q (at_work n) refl l)
 calls n (MakeMonitor p q) = acts n p q _ (λ l. if_cond (nat_lt (n.references + 1) (2 ^ 18)) _ Refusal.IdsUsedUp (Moves (at_work n)) (λ h.
     let o = draw_reference (at_work n) in
     let k = new_reference n in
     then (at_work n) o (monitor k p q o) (draws_reference (at_work n)) (moves_cond (reaches o.node q.node) o _ _
-    (λ r. then o (watch k (p, q) o) _ (watches_one k (p, q) o) (posts_other q.node (MonitorP p q k) (watch k (p, q) o) (λ a b. refl)))
+    (λ r. then o (watch k (p, q) o) _ (watches_one k (p, q) o) (posts_other q.node (Signalled (Signal.Monitor p q k)) (watch k (p, q) o) (λ a b. refl)))
     (λ r. puts p (down_term k q noconnection) o))))
 calls n (EndMonitor p k) = if_cond (living n p) _ Refusal.NoSuchProcess (Moves (at_work n)) (λ l. demonitors (fm.get n.watches k) p k (at_work n))
 calls n (Trap p b) = if_cond (living n p) _ Refusal.NoSuchProcess (Moves (at_work n)) (λ l. sets_life n p (trapping (fm.get n.lives p) b) (living_trapping (fm.get n.lives p) b))
-calls n (ExitTo p q r) = acts n p q _ (λ l. if_cond (fits r) _ Refusal.TooLong (Moves (at_work n)) (λ f. posts_other q.node (Exit2 p q r) (at_work n) (λ a b. refl)))
+calls n (ExitTo p q r) = acts n p q _ (λ l. if_cond (fits r) _ Refusal.TooLong (Moves (at_work n)) (λ f. posts_other q.node (Signalled (Signal.Exit2 p q r)) (at_work n) (λ a b. refl)))
 calls n (ExitSelf p r) = if_cond (living n p) _ Refusal.NoSuchProcess (Moves (at_work n)) (λ l. if_cond (fits r) _ Refusal.TooLong (Moves (at_work n)) (λ f. finishes p r (at_work n) l))
 calls n (Receive p) = if_cond (living n p) _ Refusal.NoSuchProcess (Moves (at_work n)) (λ l. sets_life n p (without_first (fm.get n.lives p)) (living_without (fm.get n.lives p)))
 calls n (LinksOf p) = if_cond (living n p) _ Refusal.NoSuchProcess (Moves (at_work n)) (λ l. stays (at_work n))

@@ -11,20 +11,20 @@ use Rattle.dist_model.proofs.Handshake.{as_state, hold_kind, in_state}
 use Rattle.dist_model.proofs.Home.{HomePairs}
 use Rattle.dist_model.proofs.Kept.{Kept, keeps_stop}
 use Rattle.dist_model.proofs.Keys.{and_both, same_name_is, same_name_true, same_pid_true, trunk_total}
-use Rattle.dist_model.proofs.Moves.{HomeItem, Homely, NodeKept, held, home_of}
+use Rattle.dist_model.proofs.Moves.{HomeItem, Homely, NodeKept, held, home_of, home_saying}
 use Rattle.dist_model.proofs.NewSides.{set_twice}
 use Rattle.dist_model.proofs.Pairs.{Met, WorldKept}
 use Rattle.dist_model.proofs.Primitives.{good_pushed}
 use Rattle.dist_model.proofs.Reside.{Holder, blank, held_by, side_after_other, side_after_same, with_side_at}
 use Rattle.dist_model.proofs.Routes.{node_of_name, node_of_set_other, node_of_set_same, side_where_found, some_same}
 use Rattle.dist_model.proofs.Sides.{SidesKept, asks, beside, holds, joined, side_at}
-use Rattle.dist_model.proofs.Steps.{not_beside}
+use Rattle.dist_model.proofs.Steps.{kind, not_beside}
 use Rattle.dist_model.proofs.Sweeping.{good_closed, good_unparked, sweep_moves}
 use Rattle.dist_model.proofs.Table.{Good, HomeKept, Likely, Posted, Row, begun, begun_state, good_moved, is_accept, is_challenge, is_reply, may_be_up, role_state, single_kept}
-use Rattle.dist_model.proofs.Views.{over, side_of, side_path}
+use Rattle.dist_model.proofs.Views.{over, side_of, side_path, telling_word}
 use Rattle.dist_model.specs.Handshake.{challenge, set_state, with_side, write}
 use Rattle.dist_model.specs.Incarnations.{all_gone, started, stopped}
-use Rattle.dist_model.specs.Items.{AboutLink, DemonitorP, Exit2, Handshake, HandshakeMessage, Item, Message, MonitorP, MonitorPExit, Tick, signal_of, signals}
+use Rattle.dist_model.specs.Items.{Handshake, HandshakeMessage, Item, Signalled, telling, word_in, words}
 use Rattle.dist_model.specs.Links.{LinkWord}
 use Rattle.dist_model.specs.Losses.{any_side, close, close_if, has_records, link_to, parked_by, parked_goes, sweep, sweep_by, sweep_link, swept}
 use Rattle.dist_model.specs.Names.{Name, pair_cmp, place_cmp, same_name, same_pid}
@@ -343,32 +343,32 @@ module _ (w : World) (x : Name) (n : Node) (hx : node_of w.nodes x ≡ Some n) (
           (λ d. (k.0, k.1, there3 t.dialer d ∙ k.2, k.3, k.4))
 
 -- a list that is between spawned processes has nothing of another
-strange : (f : Pid → Bool) (p q : Pid) (l : List Item) → f p ≡ true → Homely f l → (signals p q l ≡ []) × (signals q p l ≡ [])
+strange : (f : Pid → Bool) (p q : Pid) (l : List Item) → f p ≡ true → Homely f l → (words p q l ≡ []) × (words q p l ≡ [])
 strange f p q [] h k = (refl, refl)
 strange f p q (x ∷ xs) h k =
     let r = strange f p q xs h k.1 in
     let v = one x k.0 in
-    (ap (λ l. l ++ signals p q xs) v.0 ∙ r.0, ap (λ l. l ++ signals q p xs) v.1 ∙ r.1)
+    (ap (λ l. l ++ words p q xs) v.0 ∙ r.0, ap (λ l. l ++ words q p xs) v.1 ∙ r.1)
   where
-    miss : (a b : Pid) → f a ≡ false → f b ≡ false → (s : LinkWord) → (signal_of p q (AboutLink a b s) ≡ []) × (signal_of q p (AboutLink a b s) ≡ [])
+    miss : (a b : Pid) → f a ≡ false → f b ≡ false → (s : LinkWord) → (word_in p q (Signalled (telling a b s)) ≡ []) × (word_in q p (Signalled (telling a b s)) ≡ [])
     miss a b fa fb s = (
       by_test _ (same_pid a p && same_pid b q)
           (λ i. let c : true ≡ false = sym h ∙ ap f (sym (same_pid_true a p (and_both (same_pid a p) (same_pid b q) i).0)) ∙ fa in absurd (let d : true ≡ false = c in cc))
-          (λ i. ap (λ t. cond t (s ∷ []) []) i),
+          (λ i. telling_word a b p q s ∙ ap (λ t. cond t (s ∷ []) []) i),
       by_test _ (same_pid a q && same_pid b p)
           (λ i. let c : true ≡ false = sym h ∙ ap f (sym (same_pid_true b p (and_both (same_pid a q) (same_pid b p) i).1)) ∙ fb in absurd (let d : true ≡ false = c in cc))
-          (λ i. ap (λ t. cond t (s ∷ []) []) i),
+          (λ i. telling_word a b q p s ∙ ap (λ t. cond t (s ∷ []) []) i),
     )
 
-    one : (x : Item) → HomeItem f x → (signal_of p q x ≡ []) × (signal_of q p x ≡ [])
-    one (AboutLink a b s) m = miss a b m.0 m.1 s
-    one (Message b m) i = (refl, refl)
-    one (Exit2 a b r) i = (refl, refl)
-    one (MonitorP a b j) i = (refl, refl)
-    one (DemonitorP a b j) i = (refl, refl)
-    one (MonitorPExit a b j r) i = (refl, refl)
-    one (Handshake m) i = (refl, refl)
-    one Tick i = (refl, refl)
+    one : (x : Item) → HomeItem f x → (word_in p q x ≡ []) × (word_in q p x ≡ [])
+    one x m = pick (kind x)
+      where
+        pick : ((p q : Pid) → word_in p q x ≡ []) ⊎ ((q : Pid) × (p : Pid) × (s : LinkWord) × (x ≡ Signalled (telling q p s))) → (word_in p q x ≡ []) × (word_in q p x ≡ [])
+        pick (inl n) = (n p q, n q p)
+        pick (inr e) =
+            let v = home_saying f e.0 e.1 e.2 (subst (HomeItem f) e.3 m) in
+            let r = miss e.0 e.1 v.0 v.1 e.2 in
+            (ap (word_in p q) e.3 ∙ r.0, ap (word_in q p) e.3 ∙ r.1)
 
 module _ (w : World) (x : Name) (n : Node) (hx : node_of w.nodes x ≡ Some n) (g : Good w) where
   no_end : (p q : Pid) → end_of (stopped n) p q ≡ End.None
@@ -380,16 +380,16 @@ module _ (w : World) (x : Name) (n : Node) (hx : node_of w.nodes x ≡ Some n) (
   stopped_pairs : HomePairs (stopped n)
   stopped_pairs p q hp hq d =
       let k = g.home x n hx in
-      let a = side_of (stopped n) p q (signals p q n.local) in
-      let b = side_of (stopped n) q p (signals q p n.local) in
+      let a = side_of (stopped n) p q (words p q n.local) in
+      let b = side_of (stopped n) q p (words q p n.local) in
       by_test _ (never n p)
       (λ i. let v = strange (λ z. never n z) p q n.local i k.local in blank a b (no_end p q) (no_end q p) v.0 v.1)
       (λ i. by_test _ (never n q)
       (λ j. let v = strange (λ z. never n z) q p n.local j k.local in blank a b (no_end p q) (no_end q p) v.1 v.0)
       (λ j.
-      subst (λ c. Kept c b) (side_path (record { end = End.None; gone = true; drawn = n.unlinks; sent = signals p q n.local }) a (sym (no_end p q)) (sym (stopped_over p i)) refl refl)
-      (subst (λ c. Kept (record { end = End.None; gone = true; drawn = n.unlinks; sent = signals p q n.local }) c) (side_path (record { end = End.None; gone = true; drawn = n.unlinks; sent = signals q p n.local }) b (sym (no_end q p)) (sym (stopped_over q j)) refl refl)
-      (keeps_stop (side_of n p q (signals p q n.local)) (side_of n q p (signals q p n.local)) (k.pairs p q hp hq d)))))
+      subst (λ c. Kept c b) (side_path (record { end = End.None; gone = true; drawn = n.unlinks; sent = words p q n.local }) a (sym (no_end p q)) (sym (stopped_over p i)) refl refl)
+      (subst (λ c. Kept (record { end = End.None; gone = true; drawn = n.unlinks; sent = words p q n.local }) c) (side_path (record { end = End.None; gone = true; drawn = n.unlinks; sent = words q p n.local }) b (sym (no_end q p)) (sym (stopped_over q j)) refl refl)
+      (keeps_stop (side_of n p q (words p q n.local)) (side_of n q p (words q p n.local)) (k.pairs p q hp hq d)))))
 
   pub good_stopped : Good (record { names = w.names; nodes = set_node w.nodes x (stopped n); lists = w.lists })
   good_stopped = good_cleared w x n hx n.creation false n.spawned n.references n.unlinks n.local g ((g.home x n hx).local) stopped_pairs

@@ -9,11 +9,12 @@ use Rattle.dist_model.proofs.Keys.{and_both, pair_exact, pid_total, same_pair, s
 use Rattle.dist_model.proofs.Pair.{Side, farewell, finished}
 use Rattle.dist_model.proofs.Views.{AllSuit, AllSuit-append, line, linking_suits, over, post_all_keeps, post_all_view, posted, posted-append, side_path, signal_other, view}
 use Rattle.dist_model.specs.Exits.{buried, demonitors, exit_for, exits, finish, monitor_exits}
-use Rattle.dist_model.specs.Items.{DemonitorP, Item, MonitorPExit, signals}
+use Rattle.dist_model.specs.Items.{words}
 use Rattle.dist_model.specs.Links.{Exits, LinkWord}
-use Rattle.dist_model.specs.Names.{Name, pair_cmp, same_pid}
+use Rattle.dist_model.specs.Names.{pair_cmp, same_pid}
 use Rattle.dist_model.specs.Node.{Ended, Life, end_in, end_of, is_living_life, living, never, reaches}
 use Rattle.dist_model.specs.Work.{Work, post_all}
+use Rattle.erl_control.specs.declared.signal.Signal.{Signal}
 use Rattle.erl_term.specs.Data.{Data}
 use Rattle.erl_term.specs.declared.term.Pid.{Pid}
 use Rattle.erl_term.specs.declared.term.Reference.{Reference}
@@ -39,7 +40,7 @@ same_pid_sym p q h = go (same_pid q p) refl
     go true e = let c : same_pid p q ≡ true = same_pid_is p q (sym (same_pid_true q p e)) in let n : true ≡ false = sym c ∙ h in cc
     go false e = e
 
-abbrev head : Pid → Data → Pid → Pid → End → List (Name × Item)
+abbrev head : Pid → Data → Pid → Pid → End → List Signal
 head p r o y e = cond (same_pid o p) (exit_for p r y e) []
 
 -- an exit for another pair says nothing to this one
@@ -117,22 +118,22 @@ exits_other p q x r (e ∷ es) h = posted-append p q (head x r e.0.0 e.0.1 e.1) 
 posted_downs : (p q x : Pid) (r : Data) (es : List (Reference × (Pid × Pid))) → posted p q (monitor_exits x r es) ≡ []
 posted_downs p q x r [] = refl
 posted_downs p q x r (e ∷ es) =
-    elim (same_pid e.1.1 x) as (λ b. posted p q (cond b ((e.1.0.node, MonitorPExit x e.1.0 e.0 r) ∷ []) [] ++ monitor_exits x r es) ≡ []) [ true ↦ posted_downs p q x r es | false ↦ posted_downs p q x r es ]
+    elim (same_pid e.1.1 x) as (λ b. posted p q (cond b (Signal.MonitorExit x e.1.0 e.0 r ∷ []) [] ++ monitor_exits x r es) ≡ []) [ true ↦ posted_downs p q x r es | false ↦ posted_downs p q x r es ]
 
 posted_unwatches : (p q x : Pid) (es : List (Reference × (Pid × Pid))) → posted p q (demonitors x es) ≡ []
 posted_unwatches p q x [] = refl
 posted_unwatches p q x (e ∷ es) =
-    elim (same_pid e.1.0 x) as (λ b. posted p q (cond b ((e.1.1.node, DemonitorP x e.1.1 e.0) ∷ []) [] ++ demonitors x es) ≡ []) [ true ↦ posted_unwatches p q x es | false ↦ posted_unwatches p q x es ]
+    elim (same_pid e.1.0 x) as (λ b. posted p q (cond b (Signal.Demonitor x e.1.1 e.0 ∷ []) [] ++ demonitors x es) ≡ []) [ true ↦ posted_unwatches p q x es | false ↦ posted_unwatches p q x es ]
 
 suits_downs : (p q x : Pid) (r : Data) (es : List (Reference × (Pid × Pid))) → AllSuit p q (monitor_exits x r es)
 suits_downs p q x r [] = tt
 suits_downs p q x r (e ∷ es) =
-    elim (same_pid e.1.1 x) as (λ b. AllSuit p q (cond b ((e.1.0.node, MonitorPExit x e.1.0 e.0 r) ∷ []) [] ++ monitor_exits x r es)) [ true ↦ (inr refl, suits_downs p q x r es) | false ↦ suits_downs p q x r es ]
+    elim (same_pid e.1.1 x) as (λ b. AllSuit p q (cond b (Signal.MonitorExit x e.1.0 e.0 r ∷ []) [] ++ monitor_exits x r es)) [ true ↦ (inr refl, suits_downs p q x r es) | false ↦ suits_downs p q x r es ]
 
 suits_unwatches : (p q x : Pid) (es : List (Reference × (Pid × Pid))) → AllSuit p q (demonitors x es)
 suits_unwatches p q x [] = tt
 suits_unwatches p q x (e ∷ es) =
-    elim (same_pid e.1.0 x) as (λ b. AllSuit p q (cond b ((e.1.1.node, DemonitorP x e.1.1 e.0) ∷ []) [] ++ demonitors x es)) [ true ↦ (inr refl, suits_unwatches p q x es) | false ↦ suits_unwatches p q x es ]
+    elim (same_pid e.1.0 x) as (λ b. AllSuit p q (cond b (Signal.Demonitor x e.1.1 e.0 ∷ []) [] ++ demonitors x es)) [ true ↦ (inr refl, suits_unwatches p q x es) | false ↦ suits_unwatches p q x es ]
 
 suits_exit : (p q x y : Pid) (r : Data) (e : End) → AllSuit p q (exit_for x r y e)
 suits_exit p q x y r End.None = tt
@@ -147,7 +148,7 @@ suits_exits p q x r (e ∷ es) = AllSuit-append p q (head x r e.0.0 e.0.1 e.1) (
     go true = suits_exit p q x e.0.1 r e.1
     go false = tt
 
-abbrev pub last_posts : Pid → Data → Work → List (Name × Item)
+abbrev pub last_posts : Pid → Data → Work → List Signal
 last_posts p r o = exits p r (fm.entries o.node.ends) ++ monitor_exits p r (fm.entries o.node.registered) ++ demonitors p (fm.entries o.node.watches)
 
 suits_last : (p q x : Pid) (r : Data) (o : Work) → AllSuit p q (last_posts x r o)
@@ -198,7 +199,7 @@ finish_view b p r o q reach born =
     let s = post_all_view b (last_posts p r o) o p q reach (suits_last p q p r o) in
     let sent : (view b (finish p r o) p q).sent ≡ (finished false r (view b o p q)).sent =
     ap (λ (a : Side). a.sent) s
-    ∙ ap (λ l. (b ++ signals p q (line o q.node)) ++ l) (posted_last p q p r o ∙ exits_here p q r (fm.entries o.node.ends) (fm.entries_sorted o.node.ends) ∙ ap (λ e. farewell (end_in e) r) (sym (fm.get-entries o.node.ends (p, q)))) in
+    ∙ ap (λ l. (b ++ words p q (line o q.node)) ++ l) (posted_last p q p r o ∙ exits_here p q r (fm.entries o.node.ends) (fm.entries_sorted o.node.ends) ∙ ap (λ e. farewell (end_in e) r) (sym (fm.get-entries o.node.ends (p, q)))) in
     side_path (view b (finish p r o) p q) (finished false r (view b o p q))
     (buried_end p r o1 p q ∙ end_cond _ _ (ap not (same_pid_refl p)))
     (ap (λ v. not v && not (never o1.node p)) (buried_living p r o1 p ∙ is_living_cond _ r _ (same_pid_refl p)) ∙ ap not (post_all_keeps (λ n. never n p) (λ n l. refl) (last_posts p r o) o ∙ born))
@@ -212,7 +213,7 @@ finish_view_other b x r o p q reach other =
     let s = post_all_view b (last_posts x r o) o p q reach (suits_last p q x r o) in
     let sent : (view b (finish x r o) p q).sent ≡ (view b o p q).sent =
     ap (λ (a : Side). a.sent) s
-    ∙ ap (λ l. (b ++ signals p q (line o q.node)) ++ l) (posted_last p q x r o ∙ exits_other p q x r (fm.entries o.node.ends) (same_pid_sym p x other))
+    ∙ ap (λ l. (b ++ words p q (line o q.node)) ++ l) (posted_last p q x r o ∙ exits_other p q x r (fm.entries o.node.ends) (same_pid_sym p x other))
     ∙ append-nil _ in
     side_path (view b (finish x r o) p q) (view b o p q)
     (buried_end x r o1 p q ∙ end_cond_kept _ _ (ap not other) ∙ post_all_keeps (λ n. end_of n p q) (λ n l. refl) (last_posts x r o) o)

@@ -1,30 +1,31 @@
 -- The pairs of one node.
+use Rattle.dist_model.proofs.Steps.{taken_link}
 use Rattle.std.proofs.Common.{◌==◌, ◌≡◌, Bool, true, false, cond, not, List, [], ◌∷◌, ◌++◌, refl, sym, ap, ◌∙◌, subst, ◌&&◌, ◌||◌, ◌⊎◌, inl, inr, nat_lt}
 use Rattle.std.specs.Option.{is_some}
 use Rattle.dist_model.proofs.Calls.{by_test, takes_other}
 use Rattle.dist_model.proofs.Kept.{Kept, kept_swap}
 use Rattle.dist_model.proofs.Keys.{and_both, same_pid_is, same_pid_true}
-use Rattle.dist_model.proofs.Moves.{HomeItem, Homely, Moves, NodeKept, Takes, held, home_of, reach_held, takes_link, with_sent}
+use Rattle.dist_model.proofs.Moves.{HomeItem, Homely, Moves, NodeKept, Takes, held, home_of, home_saying, reach_held, takes_link, with_sent}
 use Rattle.dist_model.proofs.Pair.{Side}
 use Rattle.dist_model.proofs.Steps.{kind, signal_hit, signal_miss}
 use Rattle.dist_model.proofs.Views.{side_of, side_path, to_name, view}
-use Rattle.dist_model.specs.Items.{AboutLink, Item, signal_of, signals}
+use Rattle.dist_model.specs.Items.{Item, Signalled, telling, word_in, words}
 use Rattle.dist_model.specs.Links.{LinkWord}
 use Rattle.dist_model.specs.Names.{Name, same_name, same_pid}
 use Rattle.dist_model.specs.Node.{Node, never, reaches, route}
-use Rattle.dist_model.specs.Taking.{take, take_link}
+use Rattle.dist_model.specs.Taking.{take_item, take_link}
 use Rattle.dist_model.specs.Work.{Work, at_work}
 use Rattle.erl_term.specs.declared.term.Pid.{Pid}
 
 -- each pair of processes of one node, and its local list
 abbrev pub HomePairs : Node → Type 0
-HomePairs n = (p q : Pid) → same_name p.node n.name ≡ true → same_name q.node n.name ≡ true → same_pid p q ≡ false → Kept (side_of n p q (signals p q n.local)) (side_of n q p (signals q p n.local))
+HomePairs n = (p q : Pid) → same_name p.node n.name ≡ true → same_name q.node n.name ≡ true → same_pid p q ≡ false → Kept (side_of n p q (words p q n.local)) (side_of n q p (words q p n.local))
 
 pub own_reached : (n : Node) (y : Name) → same_name y n.name ≡ true → reaches n y ≡ true
 own_reached n y h = ap (λ b. b || is_some (route n y)) h
 
-pub own_view : (o : Work) (p q : Pid) → same_name q.node o.node.name ≡ true → view [] o p q ≡ side_of o.node p q (signals p q o.node.local)
-own_view o p q h = side_path (view [] o p q) (side_of o.node p q (signals p q o.node.local)) refl refl refl (ap (λ b. signals p q (cond b o.node.local (to_name q.node o.sent))) h)
+pub own_view : (o : Work) (p q : Pid) → same_name q.node o.node.name ≡ true → view [] o p q ≡ side_of o.node p q (words p q o.node.local)
+own_view o p q h = side_path (view [] o p q) (side_of o.node p q (words p q o.node.local)) refl refl refl (ap (λ b. words p q (cond b o.node.local (to_name q.node o.sent))) h)
 
 pub pid_turned : (p q : Pid) → same_pid p q ≡ false → same_pid q p ≡ false
 pid_turned p q h = by_test _ (same_pid q p) (λ e. let c : true ≡ false = sym (same_pid_is p q (sym (same_pid_true q p e))) ∙ h in cc) (λ e. e)
@@ -33,17 +34,17 @@ module _ (a b : Work) (nm : b.node.name ≡ a.node.name) where
   -- where both of a pair only move
   pub home_pair : (p q : Pid) → same_name p.node a.node.name ≡ true → same_name q.node a.node.name ≡ true
       → ((x y : Pid) → (((x ≡ p) × (y ≡ q)) ⊎ ((x ≡ q) × (y ≡ p))) → (c : Side) → reaches a.node y.node ≡ true → Kept (view [] a x y) c → Kept (view [] b x y) c)
-      → Kept (side_of a.node p q (signals p q a.node.local)) (side_of a.node q p (signals q p a.node.local))
-      → Kept (side_of b.node p q (signals p q b.node.local)) (side_of b.node q p (signals q p b.node.local))
+      → Kept (side_of a.node p q (words p q a.node.local)) (side_of a.node q p (words q p a.node.local))
+      → Kept (side_of b.node p q (words p q b.node.local)) (side_of b.node q p (words q p b.node.local))
   home_pair p q hp hq vs k =
       let bp : same_name p.node b.node.name ≡ true = ap (same_name p.node) nm ∙ hp in
       let bq : same_name q.node b.node.name ≡ true = ap (same_name q.node) nm ∙ hq in
-      let k1 : Kept (view [] a p q) (side_of a.node q p (signals q p a.node.local)) = subst (λ c. Kept c (side_of a.node q p (signals q p a.node.local))) (sym (own_view a p q hq)) k in
-      let k2 : Kept (view [] b p q) (side_of a.node q p (signals q p a.node.local)) = vs p q (inl (refl, refl)) _ (own_reached a.node q.node hq) k1 in
-      let k3 : Kept (side_of a.node q p (signals q p a.node.local)) (side_of b.node p q (signals p q b.node.local)) = kept_swap _ _ (subst (λ c. Kept c (side_of a.node q p (signals q p a.node.local))) (own_view b p q bq) k2) in
-      let k4 : Kept (view [] a q p) (side_of b.node p q (signals p q b.node.local)) = subst (λ c. Kept c (side_of b.node p q (signals p q b.node.local))) (sym (own_view a q p hp)) k3 in
-      let k5 : Kept (view [] b q p) (side_of b.node p q (signals p q b.node.local)) = vs q p (inr (refl, refl)) _ (own_reached a.node p.node hp) k4 in
-      kept_swap _ _ (subst (λ c. Kept c (side_of b.node p q (signals p q b.node.local))) (own_view b q p bp) k5)
+      let k1 : Kept (view [] a p q) (side_of a.node q p (words q p a.node.local)) = subst (λ c. Kept c (side_of a.node q p (words q p a.node.local))) (sym (own_view a p q hq)) k in
+      let k2 : Kept (view [] b p q) (side_of a.node q p (words q p a.node.local)) = vs p q (inl (refl, refl)) _ (own_reached a.node q.node hq) k1 in
+      let k3 : Kept (side_of a.node q p (words q p a.node.local)) (side_of b.node p q (words p q b.node.local)) = kept_swap _ _ (subst (λ c. Kept c (side_of a.node q p (words q p a.node.local))) (own_view b p q bq) k2) in
+      let k4 : Kept (view [] a q p) (side_of b.node p q (words p q b.node.local)) = subst (λ c. Kept c (side_of b.node p q (words p q b.node.local))) (sym (own_view a q p hp)) k3 in
+      let k5 : Kept (view [] b q p) (side_of b.node p q (words p q b.node.local)) = vs q p (inr (refl, refl)) _ (own_reached a.node p.node hp) k4 in
+      kept_swap _ _ (subst (λ c. Kept c (side_of b.node p q (words p q b.node.local))) (own_view b q p bp) k5)
 
 pub home_moves : (a b : Work) → Moves a b → NodeKept a.node → HomePairs a.node → HomePairs b.node
 home_moves a b f kn k p q hp hq d =
@@ -59,13 +60,13 @@ module _ (n : Node) (xs : List Item) (kn : NodeKept n) where
   n1 : Node
   n1 = record n { local = xs }
 
-  plain_home : (i : Item) → n.local ≡ i ∷ xs → ((p q : Pid) → signal_of p q i ≡ []) → HomePairs n → HomePairs ((take i (at_work (record n { local = xs }))).node)
-  plain_home i first none k = home_moves (at_work (record n { local = xs })) (take i (at_work (record n { local = xs }))) (takes_other i (at_work (record n { local = xs })) none) (without_local n xs kn)
+  plain_home : (i : Item) → n.local ≡ i ∷ xs → ((p q : Pid) → word_in p q i ≡ []) → HomePairs n → HomePairs ((take_item i (at_work (record n { local = xs }))).node)
+  plain_home i first none k = home_moves (at_work (record n { local = xs })) (take_item i (at_work (record n { local = xs }))) (takes_other i (at_work (record n { local = xs })) none) (without_local n xs kn)
       (λ p q hp hq d.
-      let gone : (x y : Pid) → signals x y n.local ≡ signals x y xs = λ x y. ap (signals x y) first ∙ ap (λ l. l ++ signals x y xs) (none x y) in
-      subst (λ l. Kept (side_of n p q l) (side_of n q p (signals q p xs))) (gone p q) (subst (λ l. Kept (side_of n p q (signals p q n.local)) (side_of n q p l)) (gone q p) (k p q hp hq d)))
+      let gone : (x y : Pid) → words x y n.local ≡ words x y xs = λ x y. ap (words x y) first ∙ ap (λ l. l ++ words x y xs) (none x y) in
+      subst (λ l. Kept (side_of n p q l) (side_of n q p (words q p xs))) (gone p q) (subst (λ l. Kept (side_of n p q (words p q n.local)) (side_of n q p l)) (gone q p) (k p q hp hq d)))
 
-  module _ (q0 p0 : Pid) (s : LinkWord) (first : n.local ≡ AboutLink q0 p0 s ∷ xs) (hp0 : never n p0 ≡ false) (hq0 : never n q0 ≡ false) (own0 : same_name q0.node n.name ≡ true) (two : same_pid p0 q0 ≡ false) where
+  module _ (q0 p0 : Pid) (s : LinkWord) (first : n.local ≡ Signalled (telling q0 p0 s) ∷ xs) (hp0 : never n p0 ≡ false) (hq0 : never n q0 ≡ false) (own0 : same_name q0.node n.name ≡ true) (two : same_pid p0 q0 ≡ false) where
     o0 : Work
     o0 = at_work (record n { local = xs })
 
@@ -81,14 +82,14 @@ module _ (n : Node) (xs : List Item) (kn : NodeKept n) where
     hd : held n q0.node ≡ true
     hd = reach_held n q0.node (own_reached n q0.node own0)
 
-    at_local : (x y : Pid) → signals x y n.local ≡ signal_of x y (AboutLink q0 p0 s) ++ signals x y xs
-    at_local x y = ap (signals x y) first
+    at_local : (x y : Pid) → words x y n.local ≡ word_in x y (Signalled (telling q0 p0 s)) ++ words x y xs
+    at_local x y = ap (words x y) first
 
-    miss_at : (x y : Pid) → (same_pid q0 x && same_pid p0 y) ≡ false → signals x y n.local ≡ signals x y xs
-    miss_at x y h = at_local x y ∙ ap (λ l. l ++ signals x y xs) (signal_miss q0 p0 x y s h)
+    miss_at : (x y : Pid) → (same_pid q0 x && same_pid p0 y) ≡ false → words x y n.local ≡ words x y xs
+    miss_at x y h = at_local x y ∙ ap (λ l. l ++ words x y xs) (signal_miss q0 p0 x y s h)
 
-    hit_at : (x y : Pid) → (same_pid q0 x && same_pid p0 y) ≡ true → signals x y n.local ≡ s ∷ signals x y xs
-    hit_at x y h = at_local x y ∙ ap (λ l. l ++ signals x y xs) (signal_hit q0 p0 x y s h)
+    hit_at : (x y : Pid) → (same_pid q0 x && same_pid p0 y) ≡ true → words x y n.local ≡ s ∷ words x y xs
+    hit_at x y h = at_local x y ∙ ap (λ l. l ++ words x y xs) (signal_hit q0 p0 x y s h)
 
     -- the same test, the other way round
     flip : (x y : Pid) → (same_pid q0 x && same_pid p0 y) ≡ false → (same_pid y p0 && same_pid x q0) ≡ false
@@ -101,7 +102,7 @@ module _ (n : Node) (xs : List Item) (kn : NodeKept n) where
 
     -- p takes from q
     takes_home : (p q : Pid) → same_name p.node n.name ≡ true → same_name q.node n.name ≡ true → same_pid p q ≡ false → (same_pid q0 q && same_pid p0 p) ≡ true
-        → Kept (side_of n p q (signals p q n.local)) (side_of n q p (signals q p n.local)) → Kept (side_of o1.node p q (signals p q o1.node.local)) (side_of o1.node q p (signals q p o1.node.local))
+        → Kept (side_of n p q (words p q n.local)) (side_of n q p (words q p n.local)) → Kept (side_of o1.node p q (words p q o1.node.local)) (side_of o1.node q p (words q p o1.node.local))
     unfolding o1 o0 f kn1
     takes_home p q hp hq d t k =
         let v = and_both (same_pid q0 q) (same_pid p0 p) t in
@@ -112,18 +113,18 @@ module _ (n : Node) (xs : List Item) (kn : NodeKept n) where
         let bq : same_name q.node w.node.name ≡ true = ap (same_name q.node) f.name ∙ hq in
         let no : (same_pid q0 p && same_pid p0 q) ≡ false = by_test _ (same_pid q0 p && same_pid p0 q)
         (λ e. let c : true ≡ false = sym (same_pid_is p q (sym (same_pid_true q0 p (and_both (same_pid q0 p) (same_pid p0 q) e).0) ∙ qe)) ∙ d in cc) (λ e. e) in
-        let k1 : Kept (side_of n p q (signals p q xs)) (side_of n q p (s ∷ signals q p xs)) =
-        subst (λ l. Kept (side_of n p q l) (side_of n q p (s ∷ signals q p xs))) (miss_at p q no) (subst (λ l. Kept (side_of n p q (signals p q n.local)) (side_of n q p l)) (hit_at q p t) k) in
-        let k2 : Kept (view [] (at_work (record n { local = xs })) p q) (with_sent (side_of n q p []) (s ∷ signals q p xs)) =
-        subst (λ c. Kept c (side_of n q p (s ∷ signals q p xs))) (sym (own_view (at_work (record n { local = xs })) p q hq)) k1 in
-        let k3 : Kept (view [] w p q) (side_of n q p (signals q p xs)) =
-        subst (λ z. Kept (view [] w z q) (side_of n q p (signals q p xs))) pe (subst (λ z. Kept (view [] w p0 z) (side_of n q p (signals q p xs))) qe
-        (f.here kn1 hd [] (side_of n q p []) (signals q p xs) (own_reached n q0.node own0)
-        (subst (λ z. Kept (view [] (at_work (record n { local = xs })) p0 z) (side_of n q p (s ∷ signals q p xs))) (sym qe) (subst (λ z. Kept (view [] (at_work (record n { local = xs })) z q) (side_of n q p (s ∷ signals q p xs))) (sym pe) k2)))) in
-        let k4 : Kept (view [] (at_work (record n { local = xs })) q p) (side_of w.node p q (signals p q w.node.local)) =
-        subst (λ c. Kept c (side_of w.node p q (signals p q w.node.local))) (sym (own_view (at_work (record n { local = xs })) q p hp)) (kept_swap _ _ (subst (λ c. Kept c (side_of n q p (signals q p xs))) (own_view w p q bq) k3)) in
-        let k5 : Kept (view [] w q p) (side_of w.node p q (signals p q w.node.local)) = f.others kn1 hd [] q p _ (own_reached n p.node hp) (flip p q no) k4 in
-        kept_swap _ _ (subst (λ c. Kept c (side_of w.node p q (signals p q w.node.local))) (own_view w q p bp) k5)
+        let k1 : Kept (side_of n p q (words p q xs)) (side_of n q p (s ∷ words q p xs)) =
+        subst (λ l. Kept (side_of n p q l) (side_of n q p (s ∷ words q p xs))) (miss_at p q no) (subst (λ l. Kept (side_of n p q (words p q n.local)) (side_of n q p l)) (hit_at q p t) k) in
+        let k2 : Kept (view [] (at_work (record n { local = xs })) p q) (with_sent (side_of n q p []) (s ∷ words q p xs)) =
+        subst (λ c. Kept c (side_of n q p (s ∷ words q p xs))) (sym (own_view (at_work (record n { local = xs })) p q hq)) k1 in
+        let k3 : Kept (view [] w p q) (side_of n q p (words q p xs)) =
+        subst (λ z. Kept (view [] w z q) (side_of n q p (words q p xs))) pe (subst (λ z. Kept (view [] w p0 z) (side_of n q p (words q p xs))) qe
+        (f.here kn1 hd [] (side_of n q p []) (words q p xs) (own_reached n q0.node own0)
+        (subst (λ z. Kept (view [] (at_work (record n { local = xs })) p0 z) (side_of n q p (s ∷ words q p xs))) (sym qe) (subst (λ z. Kept (view [] (at_work (record n { local = xs })) z q) (side_of n q p (s ∷ words q p xs))) (sym pe) k2)))) in
+        let k4 : Kept (view [] (at_work (record n { local = xs })) q p) (side_of w.node p q (words p q w.node.local)) =
+        subst (λ c. Kept c (side_of w.node p q (words p q w.node.local))) (sym (own_view (at_work (record n { local = xs })) q p hp)) (kept_swap _ _ (subst (λ c. Kept c (side_of n q p (words q p xs))) (own_view w p q bq) k3)) in
+        let k5 : Kept (view [] w q p) (side_of w.node p q (words p q w.node.local)) = f.others kn1 hd [] q p _ (own_reached n p.node hp) (flip p q no) k4 in
+        kept_swap _ _ (subst (λ c. Kept c (side_of w.node p q (words p q w.node.local))) (own_view w q p bp) k5)
 
     linking_home : HomePairs n → HomePairs o1.node
     unfolding o1 o0 f kn1
@@ -136,7 +137,7 @@ module _ (n : Node) (xs : List Item) (kn : NodeKept n) where
         (λ u. kept_swap _ _ (takes_home q p hq hp (pid_turned p q d) u (kept_swap _ _ (k p q hp hq d))))
         (λ u. home_pair (at_work (record n { local = xs })) (take_link p0 q0 s (at_work (record n { local = xs }))) f.name p q hp hq
         (λ x y e c r. both p q t u x y e c r)
-        (subst (λ l. Kept (side_of n p q l) (side_of n q p (signals q p xs))) (miss_at p q u) (subst (λ l. Kept (side_of n p q (signals p q n.local)) (side_of n q p l)) (miss_at q p t) (k p q hp hq d)))))
+        (subst (λ l. Kept (side_of n p q l) (side_of n q p (words q p xs))) (miss_at p q u) (subst (λ l. Kept (side_of n p q (words p q n.local)) (side_of n q p l)) (miss_at q p t) (k p q hp hq d)))))
       where
         both : (p q : Pid) → (same_pid q0 q && same_pid p0 p) ≡ false → (same_pid q0 p && same_pid p0 q) ≡ false → (x y : Pid) → (((x ≡ p) × (y ≡ q)) ⊎ ((x ≡ q) × (y ≡ p))) → (c : Side) → reaches n y.node ≡ true
             → Kept (view [] (at_work (record n { local = xs })) x y) c → Kept (view [] (take_link p0 q0 s (at_work (record n { local = xs }))) x y) c
@@ -151,13 +152,13 @@ never_own n p h = go (same_name p.node n.name) h
     go false h = cc
 
 -- Local: each pair of the node
-pub local_home : (n : Node) (i : Item) (xs : List Item) → n.local ≡ i ∷ xs → NodeKept n → home_of n → HomePairs n → HomePairs ((take i (at_work (record n { local = xs }))).node)
+pub local_home : (n : Node) (i : Item) (xs : List Item) → n.local ≡ i ∷ xs → NodeKept n → home_of n → HomePairs n → HomePairs ((take_item i (at_work (record n { local = xs }))).node)
 unfolding o1
 local_home n i xs first kn hm k = go (kind i) (subst (λ l. Homely (λ p. never n p) l) first hm).0
   where
-    go : ((p q : Pid) → signal_of p q i ≡ []) ⊎ ((q : Pid) × (p : Pid) × (s : LinkWord) × (i ≡ AboutLink q p s)) → HomeItem (λ p. never n p) i → HomePairs ((take i (at_work (record n { local = xs }))).node)
+    go : ((p q : Pid) → word_in p q i ≡ []) ⊎ ((q : Pid) × (p : Pid) × (s : LinkWord) × (i ≡ Signalled (telling q p s))) → HomeItem (λ p. never n p) i → HomePairs ((take_item i (at_work (record n { local = xs }))).node)
     go (inl h) m = plain_home n xs kn i first h k
     go (inr h) m =
-        let g : (never n h.0 ≡ false) × (never n h.1 ≡ false) × (same_pid h.0 h.1 ≡ false) = subst (λ z. HomeItem (λ p. never n p) z) h.3 m in
-        subst (λ z. HomePairs ((take z (at_work (record n { local = xs }))).node)) (sym h.3)
-        (linking_home n xs kn h.0 h.1 h.2 (first ∙ ap (λ z. z ∷ xs) h.3) g.1 g.0 (never_own n h.0 g.0) (pid_turned h.0 h.1 g.2) k)
+        let g : (never n h.0 ≡ false) × (never n h.1 ≡ false) × (same_pid h.0 h.1 ≡ false) = home_saying (λ p. never n p) h.0 h.1 h.2 (subst (λ z. HomeItem (λ p. never n p) z) h.3 m) in
+        subst (λ z. HomePairs ((take_item z (at_work (record n { local = xs }))).node)) (sym h.3)
+        (subst (λ (z : Work). HomePairs z.node) (sym (taken_link h.0 h.1 h.2 (at_work (record n { local = xs })))) (linking_home n xs kn h.0 h.1 h.2 (first ∙ ap (λ z. z ∷ xs) h.3) g.1 g.0 (never_own n h.0 g.0) (pid_turned h.0 h.1 g.2) k))

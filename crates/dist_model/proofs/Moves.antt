@@ -11,16 +11,17 @@ use Rattle.dist_model.proofs.Ending.{buried_end, buried_living, finish_view, fin
 use Rattle.dist_model.proofs.Kept.{Kept, keeps_draw, keeps_finish, keeps_link, keeps_take, keeps_unlink}
 use Rattle.dist_model.proofs.Keys.{and_both, pair_exact, pair_total, pid_total, same_pair, same_pid_is, same_pid_refl, same_pid_true, set_in-get}
 use Rattle.dist_model.proofs.Pair.{Side, finished}
-use Rattle.dist_model.proofs.Views.{AllSuit, linking_suits, more, over, post_all_keeps, post_all_view, post_keeps, post_view, posted, side_path, view}
+use Rattle.dist_model.proofs.Views.{AllSuit, Suits, linking_suits, more, over, post_all_keeps, post_all_view, post_keeps, post_view, posted, side_path, telling_receiver, telling_word, view}
 use Rattle.dist_model.specs.Exits.{carry_out, demonitors, exit_for, exits, finish, link_exit, linked_exit, monitor_exits}
-use Rattle.dist_model.specs.Items.{AboutLink, DemonitorP, Exit2, Handshake, Item, Message, MonitorP, MonitorPExit, Tick, signal_of}
+use Rattle.dist_model.specs.Items.{Item, Signalled, receiver_of, telling, word_in}
 use Rattle.dist_model.specs.Linking.{draw_unlink, link, link_by, link_new, unlink_as}
 use Rattle.dist_model.specs.Links.{Exits, LinkWord, Says, heard, noconnection, reply}
 use Rattle.dist_model.specs.Names.{Name, pair_cmp, same_name, same_pid}
 use Rattle.dist_model.specs.Node.{Ended, Life, Living, Node, end_in, end_of, is_living_life, living, never, reaches, route, route_in, side_where, traps_life}
 use Rattle.dist_model.specs.Sides.{TrunkSide, is_losing, is_up}
 use Rattle.dist_model.specs.Taking.{exit_follows, replies, take_link, take_link_by}
-use Rattle.dist_model.specs.Work.{Effect, Envelope, LinkExit, Work, delivered, keep_local, post, post_all, put, report, send_on, set_end, set_life}
+use Rattle.dist_model.specs.Work.{Effect, Envelope, LinkExit, Work, delivered, keep_local, post, post_all, post_to, put, report, send_on, set_end, set_life}
+use Rattle.erl_control.specs.declared.signal.Signal.{Signal}
 use Rattle.erl_names.specs.Order.{trunk_cmp}
 use Rattle.erl_names.specs.declared.trunk.TrunkId.{TrunkId}
 use Rattle.erl_term.specs.Data.{Data}
@@ -72,14 +73,21 @@ pub record NodeKept (n : Node) : Type 0 where
 
 -- what a local list holds about links: between two that were spawned here, and are two
 abbrev pub HomeItem : (Pid → Bool) → Item → Type 0
-HomeItem f (AboutLink a b x) = (f a ≡ false) × (f b ≡ false) × (same_pid a b ≡ false)
-HomeItem f (Message b x) = Unit {0}
-HomeItem f (Exit2 a b x) = Unit {0}
-HomeItem f (MonitorP a b x) = Unit {0}
-HomeItem f (DemonitorP a b x) = Unit {0}
-HomeItem f (MonitorPExit a b k x) = Unit {0}
-HomeItem f (Handshake x) = Unit {0}
-HomeItem f Tick = Unit {0}
+HomeItem f x = (a b : Pid) → (word_in a b x ≡ [] → ⊥) → (f a ≡ false) × (f b ≡ false) × (same_pid a b ≡ false)
+
+pub home_said : (f : Pid → Bool) (a b : Pid) (s : LinkWord) → (f a ≡ false) × (f b ≡ false) × (same_pid a b ≡ false) → HomeItem f (Signalled (telling a b s))
+home_said f a b s h x y n = go (same_pid a x && same_pid b y) refl
+  where
+    go : (t : Bool) → (same_pid a x && same_pid b y) ≡ t → (f x ≡ false) × (f y ≡ false) × (same_pid x y ≡ false)
+    go true e =
+        let v = and_both (same_pid a x) (same_pid b y) e in
+        let xe : a ≡ x = same_pid_true a x v.0 in
+        let ye : b ≡ y = same_pid_true b y v.1 in
+        (sym (ap f xe) ∙ h.0, sym (ap f ye) ∙ h.1, sym (ap (λ z. same_pid z y) xe) ∙ sym (ap (same_pid a) ye) ∙ h.2)
+    go false e = absurd (n (telling_word a b x y s ∙ ap (λ t. cond t (s ∷ []) []) e))
+
+pub home_saying : (f : Pid → Bool) (a b : Pid) (s : LinkWord) → HomeItem f (Signalled (telling a b s)) → (f a ≡ false) × (f b ≡ false) × (same_pid a b ≡ false)
+home_saying f a b s h = h a b (λ e. let n : s ∷ [] ≡ [] = sym (telling_word a b a b s ∙ ap (λ t. cond (t && same_pid b b) (s ∷ []) []) (same_pid_refl a) ∙ ap (λ t. cond t (s ∷ []) []) (same_pid_refl b)) ∙ e in cc)
 
 abbrev pub Homely : (Pid → Bool) → List Item → Type 0
 Homely f [] = Unit {0}
@@ -92,18 +100,11 @@ Homely-push f (y ∷ ys) x h k = (h.0, Homely-push f ys x h.1 k)
 abbrev pub home_of : Node → Type 0
 home_of n = Homely (λ p. never n p) n.local
 
-home_plain : (f : Pid → Bool) (x : Item) → ((p q : Pid) → signal_of p q x ≡ []) → HomeItem f x
-home_plain f (AboutLink q p s) h = let n : s ∷ [] ≡ [] = sym (ap (λ t. cond (t && same_pid p p) (s ∷ []) []) (same_pid_refl q) ∙ ap (λ t. cond t (s ∷ []) []) (same_pid_refl p)) ∙ h q p in cc
-home_plain f (Message b x) h = tt
-home_plain f (Exit2 a b x) h = tt
-home_plain f (MonitorP a b x) h = tt
-home_plain f (DemonitorP a b x) h = tt
-home_plain f (MonitorPExit a b k x) h = tt
-home_plain f (Handshake x) h = tt
-home_plain f Tick h = tt
+home_plain : (f : Pid → Bool) (x : Item) → ((p q : Pid) → word_in p q x ≡ []) → HomeItem f x
+home_plain f x none a b n = absurd (n (none a b))
 
 -- an item may be posted to y: it is plain, or y is another node, or both were spawned here
-pub post_home : (y : Name) (x : Item) (o : Work) → (same_name y o.node.name ≡ true → HomeItem (λ p. never o.node p) x) → home_of o.node → home_of ((post y x o).node)
+pub post_home : (y : Name) (x : Item) (o : Work) → (same_name y o.node.name ≡ true → HomeItem (λ p. never o.node p) x) → home_of o.node → home_of ((post_to y x o).node)
 post_home y x o i h = go (same_name y o.node.name) refl
   where
     sent : (r : Option TrunkId) → home_of ((send_on r y x o).node)
@@ -114,18 +115,18 @@ post_home y x o i h = go (same_name y o.node.name) refl
     go true e = Homely-push (λ p. never o.node p) o.node.local x h (i e)
     go false e = sent (route o.node y)
 
-abbrev pub PostsHome : Name → (Pid → Bool) → List (Name × Item) → Type 0
+abbrev pub PostsHome : Name → (Pid → Bool) → List Signal → Type 0
 PostsHome z f [] = Unit {0}
-PostsHome z f (e ∷ es) = (same_name e.0 z ≡ true → HomeItem f e.1) × PostsHome z f es
+PostsHome z f (e ∷ es) = (same_name (receiver_of e).node z ≡ true → HomeItem f (Signalled e)) × PostsHome z f es
 
-pub post_all_home : (es : List (Name × Item)) (o : Work) → PostsHome o.node.name (λ p. never o.node p) es → home_of o.node → home_of ((post_all es o).node)
+pub post_all_home : (es : List Signal) (o : Work) → PostsHome o.node.name (λ p. never o.node p) es → home_of o.node → home_of ((post_all es o).node)
 post_all_home [] o i h = h
-post_all_home (e ∷ es) o i h = post_all_home es (post e.0 e.1 o)
-    (subst (λ f. PostsHome ((post e.0 e.1 o).node.name) f es) (sym (λ j p. post_keeps (λ n. never n p) (λ n m. refl) e.0 e.1 o j))
-    (subst (λ z. PostsHome z (λ p. never o.node p) es) (sym (post_keeps (λ n. n.name) (λ n m. refl) e.0 e.1 o)) i.1))
-    (post_home e.0 e.1 o i.0 h)
+post_all_home (e ∷ es) o i h = post_all_home es (post e o)
+    (subst (λ f. PostsHome ((post e o).node.name) f es) (sym (λ j p. post_keeps (λ n. never n p) (λ n m. refl) (receiver_of e).node (Signalled e) o j))
+    (subst (λ z. PostsHome z (λ p. never o.node p) es) (sym (post_keeps (λ n. n.name) (λ n m. refl) (receiver_of e).node (Signalled e) o)) i.1))
+    (post_home (receiver_of e).node (Signalled e) o i.0 h)
 
-PostsHome-append : (z : Name) (f : Pid → Bool) (xs ys : List (Name × Item)) → PostsHome z f xs → PostsHome z f ys → PostsHome z f (xs ++ ys)
+PostsHome-append : (z : Name) (f : Pid → Bool) (xs ys : List Signal) → PostsHome z f xs → PostsHome z f ys → PostsHome z f (xs ++ ys)
 PostsHome-append z f [] ys a b = b
 PostsHome-append z f (x ∷ xs) ys a b = (a.0, PostsHome-append z f xs ys a.1 b)
 
@@ -142,17 +143,17 @@ exits_home z f p r (e ∷ es) hp h s =
 
     own : (b : Bool) → same_pid e.0.0 p ≡ b → (v : End) → v ≡ e.1 → PostsHome z f (cond b (exit_for p r e.0.1 v) [])
     own true j End.None i = tt
-    own true j End.Active i = (λ nm. let d : (f e.0.1 ≡ false) × (same_pid p e.0.1 ≡ false) = subst (λ u. (f e.0.1 ≡ false) × (same_pid u e.0.1 ≡ false)) (same_pid_true e.0.0 p j) (h e (ap (λ c. cond (is_eq c) (Some e.1) (find pair_cmp e.0 es)) (tied_itself pair_total e.0)) (λ a. let c : End.Active ≡ End.None = i ∙ a in cc) nm) in (hp, d.0, d.1), tt)
+    own true j End.Active i = (λ nm. let d : (f e.0.1 ≡ false) × (same_pid p e.0.1 ≡ false) = subst (λ u. (f e.0.1 ≡ false) × (same_pid u e.0.1 ≡ false)) (same_pid_true e.0.0 p j) (h e (ap (λ c. cond (is_eq c) (Some e.1) (find pair_cmp e.0 es)) (tied_itself pair_total e.0)) (λ a. let c : End.Active ≡ End.None = i ∙ a in cc) nm) in home_said f p e.0.1 (Exits r) (hp, d.0, d.1), tt)
     own true j (End.Pending u) i = tt
     own false j v i = tt
 
 downs_home : (z : Name) (f : Pid → Bool) (p : Pid) (r : Data) (es : List (Reference × (Pid × Pid))) → PostsHome z f (monitor_exits p r es)
 downs_home z f p r [] = tt
-downs_home z f p r (e ∷ es) = elim (same_pid e.1.1 p) as (λ b. PostsHome z f (cond b ((e.1.0.node, MonitorPExit p e.1.0 e.0 r) ∷ []) [] ++ monitor_exits p r es)) [ true ↦ (λ h. tt, downs_home z f p r es) | false ↦ downs_home z f p r es ]
+downs_home z f p r (e ∷ es) = elim (same_pid e.1.1 p) as (λ b. PostsHome z f (cond b (Signal.MonitorExit p e.1.0 e.0 r ∷ []) [] ++ monitor_exits p r es)) [ true ↦ (λ h a b n. absurd (n refl), downs_home z f p r es) | false ↦ downs_home z f p r es ]
 
 unwatches_home : (z : Name) (f : Pid → Bool) (p : Pid) (es : List (Reference × (Pid × Pid))) → PostsHome z f (demonitors p es)
 unwatches_home z f p [] = tt
-unwatches_home z f p (e ∷ es) = elim (same_pid e.1.0 p) as (λ b. PostsHome z f (cond b ((e.1.1.node, DemonitorP p e.1.1 e.0) ∷ []) [] ++ demonitors p es)) [ true ↦ (λ h. tt, unwatches_home z f p es) | false ↦ unwatches_home z f p es ]
+unwatches_home z f p (e ∷ es) = elim (same_pid e.1.0 p) as (λ b. PostsHome z f (cond b (Signal.Demonitor p e.1.1 e.0 ∷ []) [] ++ demonitors p es)) [ true ↦ (λ h a b n. absurd (n refl), unwatches_home z f p es) | false ↦ unwatches_home z f p es ]
 
 -- each envelope is on the trunk that is up
 abbrev pub AllRouted : FinMap trunk_cmp TrunkSide → List Envelope → Type 0
@@ -167,16 +168,16 @@ send_routed : (r : Option TrunkId) (y : Name) (x : Item) (o : Work) → route o.
 send_routed None y x o h a = a
 send_routed (Some t) y x o h a = routed-push o.node.sides o.sent (record { trunk = t; target = y; item = x }) a h
 
-pub post_routed : (y : Name) (x : Item) (o : Work) → AllRouted o.node.sides o.sent → AllRouted ((post y x o).node.sides) ((post y x o).sent)
+pub post_routed : (y : Name) (x : Item) (o : Work) → AllRouted o.node.sides o.sent → AllRouted ((post_to y x o).node.sides) ((post_to y x o).sent)
 post_routed y x o a = go (same_name y o.node.name)
   where
     go : (b : Bool) → AllRouted ((cond b (keep_local x o) (send_on (route o.node y) y x o)).node.sides) ((cond b (keep_local x o) (send_on (route o.node y) y x o)).sent)
     go true = a
     go false = send_routed (route o.node y) y x o refl a
 
-pub post_all_routed : (es : List (Name × Item)) (o : Work) → AllRouted o.node.sides o.sent → AllRouted ((post_all es o).node.sides) ((post_all es o).sent)
+pub post_all_routed : (es : List Signal) (o : Work) → AllRouted o.node.sides o.sent → AllRouted ((post_all es o).node.sides) ((post_all es o).sent)
 post_all_routed [] o a = a
-post_all_routed (e ∷ es) o a = post_all_routed es (post e.0 e.1 o) (post_routed e.0 e.1 o a)
+post_all_routed (e ∷ es) o a = post_all_routed es (post e o) (post_routed (receiver_of e).node (Signalled e) o a)
 
 -- an event's part that no pair takes a signal in
 pub record Moves (o o' : Work) : Type 0 where
@@ -386,7 +387,7 @@ pub reach_held : (n : Node) (y : Name) → reaches n y ≡ true → held n y ≡
 reach_held n y h = or_either (same_name y n.name) (is_some (route n y)) (is_some (side_where (λ v. is_up v || is_losing v) y (fm.entries n.sides))) h (reach_held_in (fm.entries n.sides) y)
 
 -- posts keep what a node keeps
-post_kept : (y : Name) (x : Item) (o : Work) → NodeKept o.node → NodeKept ((post y x o).node)
+post_kept : (y : Name) (x : Item) (o : Work) → NodeKept o.node → NodeKept ((post_to y x o).node)
 post_kept y x o k = record {
   born = λ p l. post_keeps (λ n. never n p) (λ n m. refl) y x o ∙ k.born p (sym (post_keeps (λ n. living n p) (λ n m. refl) y x o) ∙ l);
   rooted = λ p q e.
@@ -395,7 +396,7 @@ post_kept y x o k = record {
 }
 
 -- an item that is no signal about a link
-pub posts_other : (y : Name) (x : Item) (o : Work) → ((p q : Pid) → signal_of p q x ≡ []) → Moves o (post y x o)
+pub posts_other : (y : Name) (x : Item) (o : Work) → ((p q : Pid) → word_in p q x ≡ []) → Moves o (post_to y x o)
 posts_other y x o none = record {
   sides = post_keeps (λ n. n.sides) (λ n m. refl) y x o;
   dialed = post_keeps (λ n. n.dialed) (λ n m. refl) y x o;
@@ -414,16 +415,18 @@ abbrev pub told : End → LinkWord → Side → Side
 told e s a = record { end = e; gone = a.gone; drawn = a.drawn; sent = a.sent ++ s ∷ [] }
 
 pub told_view : (b : List LinkWord) (x y : Pid) (e : End) (s : LinkWord) (o : Work) (p q : Pid) → reaches o.node q.node ≡ true → (t : Bool) → (same_pid p x && same_pid q y) ≡ t
-    → view b (post y.node (AboutLink x y s) (set_end x y e o)) p q ≡ cond t (told e s (view b o p q)) (view b o p q)
+    → view b (post_to y.node (Signalled (telling x y s)) (set_end x y e o)) p q ≡ cond t (told e s (view b o p q)) (view b o p q)
 told_view b x y e s o p q reach true h =
     let v = and_both (same_pid p x) (same_pid q y) h in
     let w : (same_pid x p && same_pid y q) ≡ true = ap (λ t. t && same_pid y q) (same_pid_is x p (sym (same_pid_true p x v.0))) ∙ same_pid_is y q (sym (same_pid_true q y v.1)) in
-    post_view b y.node (AboutLink x y s) (set_end x y e o) p q reach (linking_suits x y p q s)
+    post_view b y.node (Signalled (telling x y s)) (set_end x y e o) p q reach (linking_suits x y p q s)
+    ∙ ap (more (view b (set_end x y e o) p q)) (telling_word x y p q s)
     ∙ ap (λ a. more a (cond (same_pid x p && same_pid y q) (s ∷ []) [])) (set_view b x y e o p q)
     ∙ ap (λ t. more (ended_at t e (view b o p q)) (cond (same_pid x p && same_pid y q) (s ∷ []) [])) h
     ∙ ap (λ t. more (ended_at true e (view b o p q)) (cond t (s ∷ []) [])) w
 told_view b x y e s o p q reach false h =
-    post_view b y.node (AboutLink x y s) (set_end x y e o) p q reach (linking_suits x y p q s)
+    post_view b y.node (Signalled (telling x y s)) (set_end x y e o) p q reach (linking_suits x y p q s)
+    ∙ ap (more (view b (set_end x y e o) p q)) (telling_word x y p q s)
     ∙ ap (λ a. more a (cond (same_pid x p && same_pid y q) (s ∷ []) [])) (set_view b x y e o p q)
     ∙ ap (λ t. more (ended_at t e (view b o p q)) (cond (same_pid x p && same_pid y q) (s ∷ []) [])) h
     ∙ ap (λ t. more (view b o p q) (cond t (s ∷ []) [])) (other_way x y p q h)
@@ -455,21 +458,21 @@ at_pair P p q x y h k =
     let v = and_both (same_pid p x) (same_pid q y) h in
     subst (λ z. P z q) (sym (same_pid_true p x v.0)) (subst (λ z. P x z) (sym (same_pid_true q y v.1)) k)
 
-links_reached : (x y : Pid) (o : Work) → (same_name y.node o.node.name ≡ true → (never o.node y ≡ false) × (same_pid x y ≡ false)) → living o.node x ≡ true → reaches o.node y.node ≡ true → (end_of o.node x y ≡ End.Active → ⊥) → Moves o (post y.node (AboutLink x y (Says LinkSignal.Link)) (set_end x y End.Active o))
+links_reached : (x y : Pid) (o : Work) → (same_name y.node o.node.name ≡ true → (never o.node y ≡ false) × (same_pid x y ≡ false)) → living o.node x ≡ true → reaches o.node y.node ≡ true → (end_of o.node x y ≡ End.Active → ⊥) → Moves o (post_to y.node (Signalled (telling x y (Says LinkSignal.Link))) (set_end x y End.Active o))
 links_reached x y o v l reach n = record {
-  sides = post_keeps (λ m. m.sides) (λ m u. refl) y.node (AboutLink x y (Says LinkSignal.Link)) (set_end x y End.Active o);
-  dialed = post_keeps (λ m. m.dialed) (λ m u. refl) y.node (AboutLink x y (Says LinkSignal.Link)) (set_end x y End.Active o);
-  name = post_keeps (λ m. m.name) (λ m u. refl) y.node (AboutLink x y (Says LinkSignal.Link)) (set_end x y End.Active o);
-  keeps = λ k. post_kept y.node (AboutLink x y (Says LinkSignal.Link)) (set_end x y End.Active o) (set_rooted x y End.Active o k (λ h. (l, reach_held o.node y.node reach, v)));
-  grows = λ p h. post_keeps (λ m. over m p) (λ m u. refl) y.node (AboutLink x y (Says LinkSignal.Link)) (set_end x y End.Active o) ∙ h;
-  draws = omega (arith, post_keeps (λ m. m.unlinks) (λ m u. refl) y.node (AboutLink x y (Says LinkSignal.Link)) (set_end x y End.Active o));
-  routed = λ a. post_routed y.node (AboutLink x y (Says LinkSignal.Link)) (set_end x y End.Active o) a;
-  nevers = λ p h. post_keeps (λ m. never m p) (λ m u. refl) y.node (AboutLink x y (Says LinkSignal.Link)) (set_end x y End.Active o) ∙ h;
-  home = λ k h. post_home y.node (AboutLink x y (Says LinkSignal.Link)) (set_end x y End.Active o) (λ e. let d = v e in (k.born x l, d.0, d.1)) h;
+  sides = post_keeps (λ m. m.sides) (λ m u. refl) y.node (Signalled (telling x y (Says LinkSignal.Link))) (set_end x y End.Active o);
+  dialed = post_keeps (λ m. m.dialed) (λ m u. refl) y.node (Signalled (telling x y (Says LinkSignal.Link))) (set_end x y End.Active o);
+  name = post_keeps (λ m. m.name) (λ m u. refl) y.node (Signalled (telling x y (Says LinkSignal.Link))) (set_end x y End.Active o);
+  keeps = λ k. post_kept y.node (Signalled (telling x y (Says LinkSignal.Link))) (set_end x y End.Active o) (set_rooted x y End.Active o k (λ h. (l, reach_held o.node y.node reach, v)));
+  grows = λ p h. post_keeps (λ m. over m p) (λ m u. refl) y.node (Signalled (telling x y (Says LinkSignal.Link))) (set_end x y End.Active o) ∙ h;
+  draws = omega (arith, post_keeps (λ m. m.unlinks) (λ m u. refl) y.node (Signalled (telling x y (Says LinkSignal.Link))) (set_end x y End.Active o));
+  routed = λ a. post_routed y.node (Signalled (telling x y (Says LinkSignal.Link))) (set_end x y End.Active o) a;
+  nevers = λ p h. post_keeps (λ m. never m p) (λ m u. refl) y.node (Signalled (telling x y (Says LinkSignal.Link))) (set_end x y End.Active o) ∙ h;
+  home = λ k h. post_home y.node (Signalled (telling x y (Says LinkSignal.Link))) (set_end x y End.Active o) (λ e. let d = v e in home_said (λ p. never o.node p) x y (Says LinkSignal.Link) (k.born x l, d.0, d.1)) h;
   views = λ nk b p q c r k. go b p q c r k (same_pid p x && same_pid q y) refl;
 }
   where
-    go : (b : List LinkWord) (p q : Pid) (c : Side) → reaches o.node q.node ≡ true → Kept (view b o p q) c → (t : Bool) → (same_pid p x && same_pid q y) ≡ t → Kept (view b (post y.node (AboutLink x y (Says LinkSignal.Link)) (set_end x y End.Active o)) p q) c
+    go : (b : List LinkWord) (p q : Pid) (c : Side) → reaches o.node q.node ≡ true → Kept (view b o p q) c → (t : Bool) → (same_pid p x && same_pid q y) ≡ t → Kept (view b (post_to y.node (Signalled (telling x y (Says LinkSignal.Link))) (set_end x y End.Active o)) p q) c
     go b p q c r k true h = subst (λ a. Kept a c) (sym (told_view b x y End.Active (Says LinkSignal.Link) o p q r true h))
         (keeps_activate_at (view b o p q) c (at_pair (λ u v. over o.node u ≡ false) p q x y h (not_over o.node x l)) (at_pair (λ u v. end_of o.node u v ≡ End.Active → ⊥) p q x y h n) k)
     go b p q c r k false h = subst (λ a. Kept a c) (sym (told_view b x y End.Active (Says LinkSignal.Link) o p q r false h)) k
@@ -525,16 +528,16 @@ pub unlinks_as : (x y : Pid) (o : Work) (j : ℕ) → living o.node x ≡ true �
 unlinks_as x y o j l e lt =
     let o0 = draw_unlink j o in
     record {
-      sides = post_keeps (λ m. m.sides) (λ m u. refl) y.node (AboutLink x y (Says (LinkSignal.Unlink j))) (set_end x y (End.Pending j) o0);
-      dialed = post_keeps (λ m. m.dialed) (λ m u. refl) y.node (AboutLink x y (Says (LinkSignal.Unlink j))) (set_end x y (End.Pending j) o0);
-      name = post_keeps (λ m. m.name) (λ m u. refl) y.node (AboutLink x y (Says (LinkSignal.Unlink j))) (set_end x y (End.Pending j) o0);
-      keeps = λ k. post_kept y.node (AboutLink x y (Says (LinkSignal.Unlink j))) (set_end x y (End.Pending j) o0)
+      sides = post_keeps (λ m. m.sides) (λ m u. refl) y.node (Signalled (telling x y (Says (LinkSignal.Unlink j)))) (set_end x y (End.Pending j) o0);
+      dialed = post_keeps (λ m. m.dialed) (λ m u. refl) y.node (Signalled (telling x y (Says (LinkSignal.Unlink j)))) (set_end x y (End.Pending j) o0);
+      name = post_keeps (λ m. m.name) (λ m u. refl) y.node (Signalled (telling x y (Says (LinkSignal.Unlink j)))) (set_end x y (End.Pending j) o0);
+      keeps = λ k. post_kept y.node (Signalled (telling x y (Says (LinkSignal.Unlink j)))) (set_end x y (End.Pending j) o0)
           (set_rooted x y (End.Pending j) o0 (record { born = k.born; rooted = k.rooted }) (λ h. k.rooted x y (λ a. let n : End.Active ≡ End.None = sym e ∙ a in cc)));
-      grows = λ p h. post_keeps (λ m. over m p) (λ m u. refl) y.node (AboutLink x y (Says (LinkSignal.Unlink j))) (set_end x y (End.Pending j) o0) ∙ h;
-      draws = omega (arith, lt, post_keeps (λ m. m.unlinks) (λ m u. refl) y.node (AboutLink x y (Says (LinkSignal.Unlink j))) (set_end x y (End.Pending j) o0));
-      routed = λ a. post_routed y.node (AboutLink x y (Says (LinkSignal.Unlink j))) (set_end x y (End.Pending j) o0) a;
-      nevers = λ p h. post_keeps (λ m. never m p) (λ m u. refl) y.node (AboutLink x y (Says (LinkSignal.Unlink j))) (set_end x y (End.Pending j) o0) ∙ h;
-      home = λ k h. post_home y.node (AboutLink x y (Says (LinkSignal.Unlink j))) (set_end x y (End.Pending j) o0) (λ i. let d = (k.rooted x y (λ a. let n : End.Active ≡ End.None = sym e ∙ a in cc)).2 i in (k.born x l, d.0, d.1)) h;
+      grows = λ p h. post_keeps (λ m. over m p) (λ m u. refl) y.node (Signalled (telling x y (Says (LinkSignal.Unlink j)))) (set_end x y (End.Pending j) o0) ∙ h;
+      draws = omega (arith, lt, post_keeps (λ m. m.unlinks) (λ m u. refl) y.node (Signalled (telling x y (Says (LinkSignal.Unlink j)))) (set_end x y (End.Pending j) o0));
+      routed = λ a. post_routed y.node (Signalled (telling x y (Says (LinkSignal.Unlink j)))) (set_end x y (End.Pending j) o0) a;
+      nevers = λ p h. post_keeps (λ m. never m p) (λ m u. refl) y.node (Signalled (telling x y (Says (LinkSignal.Unlink j)))) (set_end x y (End.Pending j) o0) ∙ h;
+      home = λ k h. post_home y.node (Signalled (telling x y (Says (LinkSignal.Unlink j)))) (set_end x y (End.Pending j) o0) (λ i. let d = (k.rooted x y (λ a. let n : End.Active ≡ End.None = sym e ∙ a in cc)).2 i in home_said (λ p. never o.node p) x y (Says (LinkSignal.Unlink j)) (k.born x l, d.0, d.1)) h;
       views = λ nk b p q c r k. go b p q c r k (same_pid p x && same_pid q y) refl;
     }
   where
@@ -577,17 +580,17 @@ takes_then x y s a b c f g = record {
 
 suits_replies : (p q x y : Pid) (ss : List LinkWord) → AllSuit p q (replies x y ss)
 suits_replies p q x y [] = tt
-suits_replies p q x y (s ∷ ss) = (linking_suits x y p q s, suits_replies p q x y ss)
+suits_replies p q x y (s ∷ ss) = (subst (λ (z : Pid). Suits z.node (Signalled (telling x y s)) p q) (sym (telling_receiver x y s)) (linking_suits x y p q s), suits_replies p q x y ss)
 
 posted_replies : (t : Bool) (p q x y : Pid) (ss : List LinkWord) → (same_pid x p && same_pid y q) ≡ t → posted p q (replies x y ss) ≡ cond t ss []
 posted_replies true p q x y [] h = refl
-posted_replies true p q x y (s ∷ ss) h = ap (λ t. cond t (s ∷ []) [] ++ posted p q (replies x y ss)) h ∙ ap (λ l. s ∷ l) (posted_replies true p q x y ss h)
+posted_replies true p q x y (s ∷ ss) h = ap (λ l. l ++ posted p q (replies x y ss)) (telling_word x y p q s) ∙ ap (λ t. cond t (s ∷ []) [] ++ posted p q (replies x y ss)) h ∙ ap (λ l. s ∷ l) (posted_replies true p q x y ss h)
 posted_replies false p q x y [] h = refl
-posted_replies false p q x y (s ∷ ss) h = ap (λ t. cond t (s ∷ []) [] ++ posted p q (replies x y ss)) h ∙ posted_replies false p q x y ss h
+posted_replies false p q x y (s ∷ ss) h = ap (λ l. l ++ posted p q (replies x y ss)) (telling_word x y p q s) ∙ ap (λ t. cond t (s ∷ []) [] ++ posted p q (replies x y ss)) h ∙ posted_replies false p q x y ss h
 
-post_all_kept : (es : List (Name × Item)) (o : Work) → NodeKept o.node → NodeKept ((post_all es o).node)
+post_all_kept : (es : List Signal) (o : Work) → NodeKept o.node → NodeKept ((post_all es o).node)
 post_all_kept [] o k = k
-post_all_kept (e ∷ es) o k = post_all_kept es (post e.0 e.1 o) (post_kept e.0 e.1 o k)
+post_all_kept (e ∷ es) o k = post_all_kept es (post e o) (post_kept (receiver_of e).node (Signalled e) o k)
 
 turned : (x y p q : Pid) → (same_pid p x && same_pid q y) ≡ false → (same_pid x p && same_pid y q) ≡ false
 turned x y p q h = go (same_pid x p && same_pid y q) refl
@@ -617,7 +620,7 @@ takes_at g a b s L h k =
 
 replies_home : (z : Name) (f : Pid → Bool) (x y : Pid) (ss : List LinkWord) → f x ≡ false → (same_name y.node z ≡ true → (f y ≡ false) × (same_pid x y ≡ false)) → PostsHome z f (replies x y ss)
 replies_home z f x y [] hx hy = tt
-replies_home z f x y (s ∷ ss) hx hy = (λ e. let d = hy e in (hx, d.0, d.1), replies_home z f x y ss hx hy)
+replies_home z f x y (s ∷ ss) hx hy = (λ e. let d = hy (ap (λ (u : Pid). same_name u.node z) (sym (telling_receiver x y s)) ∙ e) in home_said f x y s (hx, d.0, d.1), replies_home z f x y ss hx hy)
 
 takes_living : (x y : Pid) (s : LinkWord) (o : Work) → (same_name y.node o.node.name ≡ true → (never o.node y ≡ false) × (same_pid x y ≡ false)) → never o.node x ≡ false → living o.node x ≡ true → Takes x y s o (post_all (replies x y (reply false s)) (set_end x y (heard (end_of o.node x y) s) o))
 takes_living x y s o v nx l =

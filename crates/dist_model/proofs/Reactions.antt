@@ -21,7 +21,7 @@ use Rattle.dist_model.specs.Exits.{carry_out, demonitors, exits, finish, link_ex
 use Rattle.dist_model.specs.Fits.{fits}
 use Rattle.dist_model.specs.Handshake.{awaits_ack, awaits_challenge, awaits_name, awaits_reply, awaits_status, awaits_true, challenge, dig, end_up, give_up, go_on, greet, greet_dialing, greet_up, greet_waiting, has_flags, set_state, write}
 use Rattle.dist_model.specs.Incarnations.{start, stop}
-use Rattle.dist_model.specs.Items.{AboutLink, Challenge, ChallengeAck, ChallengeReply, DemonitorP, Exit2, Handshake, HandshakeMessage, Item, Message, MonitorP, MonitorPExit, SendName, StatusAlive, StatusFalse, StatusNok, StatusNotAllowed, StatusOk, StatusOkSimultaneous, StatusTrue, Tick}
+use Rattle.dist_model.specs.Items.{Challenge, ChallengeAck, ChallengeReply, Handshake, HandshakeMessage, Item, SendName, Signalled, StatusAlive, StatusFalse, StatusNok, StatusNotAllowed, StatusOk, StatusOkSimultaneous, StatusTrue, Tick, receiver_of, telling}
 use Rattle.dist_model.specs.Linking.{draw_unlink, link_by, link_new, unlink_by}
 use Rattle.dist_model.specs.Links.{Exits, LinkWord, Says, heard, noconnection, noproc, reply}
 use Rattle.dist_model.specs.Losses.{any_side, close_if, has_records, link_to, lose, lose_at, parked_by, parked_goes, registered_by, sweep, sweep_by, sweep_end, sweep_link, sweep_registered, sweep_watch, swept, watch_to}
@@ -29,9 +29,10 @@ use Rattle.dist_model.specs.Monitoring.{demonitor_by, draw_reference, new_refere
 use Rattle.dist_model.specs.Names.{Name, place_cmp, same_name, same_pid}
 use Rattle.dist_model.specs.Node.{Node, end_in, end_of, living, never, reaches, route, side_where, traps_life}
 use Rattle.dist_model.specs.Sides.{Accepting, Asked, AwaitsAck, AwaitsChallenge, AwaitsStatus, Gone, Losing, Parked, State, TrunkSide, Up, is_dialing, is_gone, is_losing, is_parked, is_up, is_waiting}
-use Rattle.dist_model.specs.Taking.{exit_follows, register, replies, same_pids, take, take_link, take_link_by, unregister, unwatch}
-use Rattle.dist_model.specs.Work.{Effect, EndedBy, LinkExit, Put, Sent, Work, at_work, keep_local, post, post_all, put, report, send_on, set_end}
+use Rattle.dist_model.specs.Taking.{exit_follows, register, replies, same_pids, take_item, take_link, take_link_by, unregister, unwatch}
+use Rattle.dist_model.specs.Work.{Effect, EndedBy, LinkExit, Put, Sent, Work, at_work, keep_local, post, post_all, post_to, put, report, send_on, set_end}
 use Rattle.dist_model.specs.World.{Arrive, Call, Dial, Event, Local, Lose, Refused, Report, Start, Stepped, Stop, Sweep, World, arrives, arrives_first, ends_in, is_over, list_to, node_name, node_of, refused, running, step_at}
+use Rattle.erl_control.specs.declared.signal.Signal.{Signal}
 use Rattle.erl_names.specs.Order.{name_cmp}
 use Rattle.erl_names.specs.declared.trunk.TrunkId.{TrunkId}
 use Rattle.erl_term.specs.Data.{Data}
@@ -72,16 +73,16 @@ calm_send : (r : Option TrunkId) (y : Name) (x : Item) (o : Work) → Calm o (se
 calm_send None y x o p q h = h
 calm_send (Some t) y x o p q h = calm_last o.effects (Sent y x) (λ a b. refl) p q h
 
-pub calm_post : (y : Name) (x : Item) (o : Work) → Calm o (post y x o)
+pub calm_post : (y : Name) (x : Item) (o : Work) → Calm o (post_to y x o)
 calm_post y x o p q h = go (same_name y o.node.name) h
   where
     go : (b : Bool) → reacts_in p q ((cond b (keep_local x o) (send_on (route o.node y) y x o)).effects) ≡ true → reacts_in p q o.effects ≡ true
     go true h = calm_last o.effects (Sent o.node.name x) (λ a b. refl) p q h
     go false h = calm_send (route o.node y) y x o p q h
 
-calm_post_all : (es : List (Name × Item)) (o : Work) → Calm o (post_all es o)
+calm_post_all : (es : List Signal) (o : Work) → Calm o (post_all es o)
 calm_post_all [] o p q h = h
-calm_post_all (e ∷ es) o p q h = calm_post e.0 e.1 o p q (calm_post_all es (post e.0 e.1 o) p q h)
+calm_post_all (e ∷ es) o p q h = calm_post (receiver_of e).node (Signalled e) o p q (calm_post_all es (post e o) p q h)
 
 pub calm_put : (x : Pid) (t : Data) (o : Work) → Calm o (put x t o)
 calm_put x t o p q h = calm_last o.effects (Put x t) (λ a b. refl) p q h
@@ -142,13 +143,16 @@ calm_register : (v : Option (Pid × Pid)) (k : Reference) (u : Pid × Pid) (o : 
 calm_register None k u o p q h = h
 calm_register (Some v) k u o p q h = h
 
-pub item_taken : (x : Item) (o : Work) (p q : Pid) → reacts_in p q ((take x o).effects) ≡ true → (reacts_in p q o.effects ≡ true) ⊎ Held o.node p q
-item_taken (AboutLink b a s) o p q h = link_taken a b s o p q h
-item_taken (Message a t) o p q h = inl (calm_cond (living o.node a) o (put a t o) o (calm_put a t o) (λ c d k. k) p q h)
-item_taken (Exit2 b a r) o p q h = inl (calm_cond (living o.node a) o _ o (calm_carry (reaction (traps_life (fm.get o.node.lives a)) (sent_exit a b r)) a o) (λ c d k. k) p q h)
-item_taken (MonitorP b a k) o p q h = inl (calm_cond (living o.node a) o _ _ (calm_register (fm.get o.node.registered k) k (b, a) o) (calm_post b.node (MonitorPExit a b k noproc) o) p q h)
-item_taken (DemonitorP b a k) o p q h = inl (calm_cond (same_pids (fm.get o.node.registered k) b a) o (unregister k o) o (λ c d z. z) (λ c d z. z) p q h)
-item_taken (MonitorPExit b a k r) o p q h = inl (calm_cond (living o.node a && same_pids (fm.get o.node.watches k) a b) o _ o (calm_put a (down_term k b r) (unwatch k o)) (λ c d z. z) p q h)
+pub item_taken : (x : Item) (o : Work) (p q : Pid) → reacts_in p q ((take_item x o).effects) ≡ true → (reacts_in p q o.effects ≡ true) ⊎ Held o.node p q
+item_taken (Signalled (Signal.Link b a)) o p q h = link_taken a b (Says LinkSignal.Link) o p q h
+item_taken (Signalled (Signal.Exit b a r)) o p q h = link_taken a b (Exits r) o p q h
+item_taken (Signalled (Signal.UnlinkId i b a)) o p q h = link_taken a b (Says (LinkSignal.Unlink i)) o p q h
+item_taken (Signalled (Signal.UnlinkIdAck i b a)) o p q h = link_taken a b (Says (LinkSignal.Ack i)) o p q h
+item_taken (Signalled (Signal.Send a t)) o p q h = inl (calm_cond (living o.node a) o (put a t o) o (calm_put a t o) (λ c d k. k) p q h)
+item_taken (Signalled (Signal.Exit2 b a r)) o p q h = inl (calm_cond (living o.node a) o _ o (calm_carry (reaction (traps_life (fm.get o.node.lives a)) (sent_exit a b r)) a o) (λ c d k. k) p q h)
+item_taken (Signalled (Signal.Monitor b a k)) o p q h = inl (calm_cond (living o.node a) o _ _ (calm_register (fm.get o.node.registered k) k (b, a) o) (calm_post b.node (Signalled (Signal.MonitorExit a b k noproc)) o) p q h)
+item_taken (Signalled (Signal.Demonitor b a k)) o p q h = inl (calm_cond (same_pids (fm.get o.node.registered k) b a) o (unregister k o) o (λ c d z. z) (λ c d z. z) p q h)
+item_taken (Signalled (Signal.MonitorExit b a k r)) o p q h = inl (calm_cond (living o.node a && same_pids (fm.get o.node.watches k) a b) o _ o (calm_put a (down_term k b r) (unwatch k o)) (λ c d z. z) p q h)
 item_taken (Handshake m) o p q h = inl h
 item_taken Tick o p q h = inl h
 
@@ -172,7 +176,7 @@ module _ (n : Node) where
   acts_on c p q k h = on_cond (living n p) (toward n q k) Refusal.NoSuchProcess (OwnLink n c) (λ l. on_not (same_name q.node n.name && never n q) k Refusal.Forged (OwnLink n c) (h l))
 
   links_new : (a b : Pid) (o : Work) → o.effects ≡ [] → (t : Bool) → reaches n b.node ≡ t → living n a ≡ true → OwnLink n (MakeLink a b) (link_new t a b o)
-  links_new a b o e true r l p q h = nothing (sym (ap (reacts_in p q) e) ∙ calm_post b.node (AboutLink a b (Says LinkSignal.Link)) (set_end a b End.Active o) p q h)
+  links_new a b o e true r l p q h = nothing (sym (ap (reacts_in p q) e) ∙ calm_post b.node (Signalled (telling a b (Says LinkSignal.Link))) (set_end a b End.Active o) p q h)
   links_new a b o e false r l p q h = pick (exit_of a b noconnection (set_end a b End.None o) p q h)
     where
       pick : (reacts_in p q o.effects ≡ true) ⊎ ((a ≡ p) × (b ≡ q)) → (MakeLink a b ≡ MakeLink p q) × (living n p ≡ true) × (reaches n q.node ≡ false)
@@ -190,25 +194,25 @@ module _ (n : Node) where
 
   unlinks_on : (e : End) (a b : Pid) → IfGoes (unlink_by e a b (at_work n)) (OwnLink n (EndLink a b))
   unlinks_on End.None a b = λ p q h. nothing h
-  unlinks_on End.Active a b = on_cond (nat_lt (n.unlinks + 1) (2 ^ 64)) _ Refusal.IdsUsedUp (OwnLink n (EndLink a b)) (λ i p q h. nothing (calm_post b.node (AboutLink a b (Says (LinkSignal.Unlink (n.unlinks + 1)))) (set_end a b (End.Pending (n.unlinks + 1)) (draw_unlink (n.unlinks + 1) (at_work n))) p q h))
+  unlinks_on End.Active a b = on_cond (nat_lt (n.unlinks + 1) (2 ^ 64)) _ Refusal.IdsUsedUp (OwnLink n (EndLink a b)) (λ i p q h. nothing (calm_post b.node (Signalled (Signal.UnlinkId (n.unlinks + 1) a b)) (set_end a b (End.Pending (n.unlinks + 1)) (draw_unlink (n.unlinks + 1) (at_work n))) p q h))
   unlinks_on (End.Pending i) a b = λ p q h. nothing h
 
   demonitors_on : (v : Option (Pid × Pid)) (a : Pid) (k : Reference) → IfGoes (demonitor_by v a k (at_work n)) (OwnLink n (EndMonitor a k))
   demonitors_on None a k = tt
-  demonitors_on (Some v) a k = on_cond (same_pid v.0 a) _ Refusal.NotTheOwner (OwnLink n (EndMonitor a k)) (λ i p q h. nothing (calm_post v.1.node (DemonitorP a v.1 k) (unwatch k (at_work n)) p q h))
+  demonitors_on (Some v) a k = on_cond (same_pid v.0 a) _ Refusal.NotTheOwner (OwnLink n (EndMonitor a k)) (λ i p q h. nothing (calm_post v.1.node (Signalled (Signal.Demonitor a v.1 k)) (unwatch k (at_work n)) p q h))
 
   pub called : (c : Command) → IfGoes (call n c) (OwnLink n c)
   called Spawn = on_cond (nat_lt (n.spawned + 1) (2 ^ 32)) _ Refusal.IdsUsedUp (OwnLink n Spawn) (λ i p q h. nothing h)
-  called (Send a b t) = acts_on (Send a b t) a b _ (λ l. on_cond (fits t) _ Refusal.TooLong (OwnLink n (Send a b t)) (λ i p q h. nothing (calm_post b.node (Message b t) (at_work n) p q h)))
+  called (Send a b t) = acts_on (Send a b t) a b _ (λ l. on_cond (fits t) _ Refusal.TooLong (OwnLink n (Send a b t)) (λ i p q h. nothing (calm_post b.node (Signalled (Signal.Send b t)) (at_work n) p q h)))
   called (MakeLink a b) = acts_on (MakeLink a b) a b _ (λ l. link_cond (same_pid a b) a b l)
   called (EndLink a b) = acts_on (EndLink a b) a b _ (λ l. unlinks_on (end_of n a b) a b)
   called (MakeMonitor a b) = acts_on (MakeMonitor a b) a b _ (λ l. on_cond (nat_lt (n.references + 1) (2 ^ 18)) _ Refusal.IdsUsedUp (OwnLink n (MakeMonitor a b))
       (λ i p q h. nothing (calm_cond (reaches n b.node) (at_work n) _ _
-      (calm_post b.node (MonitorP a b (new_reference n)) (watch (new_reference n) (a, b) (draw_reference (at_work n))))
+      (calm_post b.node (Signalled (Signal.Monitor a b (new_reference n))) (watch (new_reference n) (a, b) (draw_reference (at_work n))))
       (calm_put a (down_term (new_reference n) b noconnection) (draw_reference (at_work n))) p q h)))
   called (EndMonitor a k) = on_cond (living n a) _ Refusal.NoSuchProcess (OwnLink n (EndMonitor a k)) (λ l. demonitors_on (fm.get n.watches k) a k)
   called (Trap a b) = on_cond (living n a) _ Refusal.NoSuchProcess (OwnLink n (Trap a b)) (λ l p q h. nothing h)
-  called (ExitTo a b r) = acts_on (ExitTo a b r) a b _ (λ l. on_cond (fits r) _ Refusal.TooLong (OwnLink n (ExitTo a b r)) (λ i p q h. nothing (calm_post b.node (Exit2 a b r) (at_work n) p q h)))
+  called (ExitTo a b r) = acts_on (ExitTo a b r) a b _ (λ l. on_cond (fits r) _ Refusal.TooLong (OwnLink n (ExitTo a b r)) (λ i p q h. nothing (calm_post b.node (Signalled (Signal.Exit2 a b r)) (at_work n) p q h)))
   called (ExitSelf a r) = on_cond (living n a) _ Refusal.NoSuchProcess (OwnLink n (ExitSelf a r)) (λ l. on_cond (fits r) _ Refusal.TooLong (OwnLink n (ExitSelf a r)) (λ i p q h. nothing (calm_finish a r (at_work n) p q h)))
   called (Receive a) = on_cond (living n a) _ Refusal.NoSuchProcess (OwnLink n (Receive a)) (λ l p q h. nothing h)
   called (LinksOf a) = on_cond (living n a) _ Refusal.NoSuchProcess (OwnLink n (LinksOf a)) (λ l p q h. nothing h)

@@ -17,7 +17,7 @@ use Rattle.dist_model.specs.Arrivals.{arrive_at, arrive_fresh, handshake_at, han
 use Rattle.dist_model.specs.Commands.{Done, Goes, Outcome, Refuses}
 use Rattle.dist_model.specs.Handshake.{awaits_ack, awaits_challenge, awaits_true, dig, fault, has_flags}
 use Rattle.dist_model.specs.Incarnations.{start, started}
-use Rattle.dist_model.specs.Items.{AboutLink, Challenge, ChallengeAck, ChallengeReply, DemonitorP, Exit2, Handshake, HandshakeMessage, Item, Message, MonitorP, MonitorPExit, SendName, StatusAlive, StatusFalse, StatusNok, StatusNotAllowed, StatusOk, StatusOkSimultaneous, StatusTrue, Tick}
+use Rattle.dist_model.specs.Items.{Challenge, ChallengeAck, ChallengeReply, Handshake, HandshakeMessage, Item, SendName, Signalled, StatusAlive, StatusFalse, StatusNok, StatusNotAllowed, StatusOk, StatusOkSimultaneous, StatusTrue, Tick}
 use Rattle.dist_model.specs.Losses.{lose}
 use Rattle.dist_model.specs.Names.{Name, place_cmp, same_name}
 use Rattle.dist_model.specs.Node.{Node}
@@ -33,12 +33,7 @@ popped_world w t x rest = record { names = w.names; nodes = w.nodes; lists = fm.
 
 handshake_is : (i : Item) (m : HandshakeMessage) → handshake_in i ≡ Some m → i ≡ Handshake m
 handshake_is (Handshake l) m h = ap Handshake (some_same l m h)
-handshake_is (AboutLink a b c) m h = absurd (none_some m h)
-handshake_is (Message a b) m h = absurd (none_some m h)
-handshake_is (Exit2 a b c) m h = absurd (none_some m h)
-handshake_is (MonitorP a b c) m h = absurd (none_some m h)
-handshake_is (DemonitorP a b c) m h = absurd (none_some m h)
-handshake_is (MonitorPExit a b c d) m h = absurd (none_some m h)
+handshake_is (Signalled s) m h = absurd (none_some m h)
 handshake_is Tick m h = absurd (none_some m h)
 
 module _ (w : World) (x : Name) (n : Node) (t : TrunkId) (v : TrunkSide) (rest : List Item) (hx : node_of w.nodes x ≡ Some n) (h : side_at n t ≡ Some v) (g : Good w) where

@@ -1,4 +1,7 @@
 -- A signal is taken, from a trunk or from the own list.
+use Rattle.dist_model.proofs.Steps.{good_link}
+use Rattle.dist_model.proofs.Moves.{Takes}
+use Rattle.dist_model.proofs.Steps.{taken_link}
 use Rattle.std.proofs.Common.{◌≡◌, ◌≤◌, Bool, true, false, cond, List, [], ◌∷◌, ◌++◌, refl, sym, ap, ◌∙◌, subst, arith, ◌&&◌, Option, Some, None, ◌⊎◌, inl, inr, append-nil}
 use Rattle.std.specs.Option.{is_some}
 use Rattle.std.specs.FinMap as fm
@@ -6,7 +9,7 @@ use Rattle.dist_model.proofs.Calls.{by_test, takes_other}
 use Rattle.dist_model.proofs.Home.{HomePairs, home_moves, home_pair, local_home, never_own, own_reached, pid_turned, without_local}
 use Rattle.dist_model.proofs.Kept.{Kept}
 use Rattle.dist_model.proofs.Keys.{and_both, same_pid_true, same_trunk, same_trunk_true}
-use Rattle.dist_model.proofs.Moves.{AllRouted, HomeItem, Homely, NodeKept, held, home_of, reach_held, takes_link}
+use Rattle.dist_model.proofs.Moves.{AllRouted, HomeItem, Homely, NodeKept, held, home_of, home_saying, reach_held, takes_link}
 use Rattle.dist_model.proofs.Pair.{Side}
 use Rattle.dist_model.proofs.Pairs.{WorldKept, changed}
 use Rattle.dist_model.proofs.Routes.{at_place, list_to_carried, list_to_insert, node_of_name}
@@ -15,12 +18,12 @@ use Rattle.dist_model.proofs.Steps.{good_item, is_from_peer, kind, not_never, ow
 use Rattle.dist_model.proofs.Table.{Good, HomeKept, carried_key, good_changed, insert_key, key_of, unsent}
 use Rattle.dist_model.proofs.Views.{over, side_of, view}
 use Rattle.dist_model.specs.Arrivals.{is_from, is_good, is_to}
-use Rattle.dist_model.specs.Items.{AboutLink, Item, signal_of, signals}
+use Rattle.dist_model.specs.Items.{Item, Signalled, telling, word_in, words}
 use Rattle.dist_model.specs.Links.{LinkWord}
 use Rattle.dist_model.specs.Names.{Name, same_name, same_pid}
 use Rattle.dist_model.specs.Node.{Node, never, reaches}
 use Rattle.dist_model.specs.Sides.{TrunkSide, is_up}
-use Rattle.dist_model.specs.Taking.{take, take_link}
+use Rattle.dist_model.specs.Taking.{take, take_item, take_link}
 use Rattle.dist_model.specs.Work.{Work, at_work}
 use Rattle.dist_model.specs.World.{World, carried, list_in, list_to, node_of, set_node}
 use Rattle.erl_names.specs.declared.trunk.TrunkId.{TrunkId}
@@ -78,26 +81,26 @@ module _ (w : World) (x : Name) (n : Node) (t0 : TrunkId) (s0 : TrunkSide) (i : 
       own_of a b p q hp hq (inl e) = ap (λ (v : Pid). same_name v.node n.name) e.1 ∙ hq
       own_of a b p q hp hq (inr e) = ap (λ (v : Pid). same_name v.node n.name) e.1 ∙ hp
 
-  after_plain : (j : Item) → ((p q : Pid) → signal_of p q j ≡ []) → After n (take j (at_work n))
+  after_plain : (j : Item) → ((p q : Pid) → word_in p q j ≡ []) → After n (take_item j (at_work n))
   after_plain j none =
       let f = takes_other j (at_work n) none in
-      record { sides = f.sides; dialed = f.dialed; name = f.name; routed = f.routed tt; local = f.home kn hk.local; pairs = home_moves (at_work n) (take j (at_work n)) f kn hk.pairs }
+      record { sides = f.sides; dialed = f.dialed; name = f.name; routed = f.routed tt; local = f.home kn hk.local; pairs = home_moves (at_work n) (take_item j (at_work n)) f kn hk.pairs }
 
-  after : After n (take i (at_work n))
+  after : After n (take_item i (at_work n))
   after = go (kind i)
     where
-      go : ((p q : Pid) → signal_of p q i ≡ []) ⊎ ((q : Pid) × (p : Pid) × (s : LinkWord) × (i ≡ AboutLink q p s)) → After n (take i (at_work n))
+      go : ((p q : Pid) → word_in p q i ≡ []) ⊎ ((q : Pid) × (p : Pid) × (s : LinkWord) × (i ≡ Signalled (telling q p s))) → After n (take_item i (at_work n))
       go (inl h) = after_plain i h
-      go (inr h) = subst (λ z. After n (take z (at_work n))) (sym h.3) (after_link h.0 h.1 h.2 (sym (ap (is_good n s0) h.3) ∙ good))
+      go (inr h) = subst (λ z. After n (take_item z (at_work n))) (sym h.3) (subst (λ z. After n z) (sym (taken_link h.0 h.1 h.2 (at_work n))) (after_link h.0 h.1 h.2 (sym (good_link n s0 h.0 h.1 h.2) ∙ sym (ap (is_good n s0) h.3) ∙ good)))
 
   some_first : (o : Option (List Item)) → list_in o ≡ i ∷ rest → is_some o ≡ true
   some_first None h = cc
   some_first (Some l) h = refl
 
   -- Arrive on a side that is up
-  pub good_arrive : Good (record { names = w.names; nodes = set_node w.nodes x ((take i (at_work n)).node); lists = carried (fm.insert w.lists (t0, x) rest) ((take i (at_work n)).sent) })
+  pub good_arrive : Good (record { names = w.names; nodes = set_node w.nodes x ((take_item i (at_work n)).node); lists = carried (fm.insert w.lists (t0, x) rest) ((take_item i (at_work n)).sent) })
   good_arrive =
-      let o = take i (at_work n) in
+      let o = take_item i (at_work n) in
       let m1 = fm.insert w.lists (t0, x) rest in
       good_changed w x n o.node (carried m1 o.sent) hx g after.sides (omega (arith, after.dialed)) after.name
       (good_item w x n t0 s0 rest hx h0 u0 g.core i first good) after.local after.pairs
@@ -124,7 +127,7 @@ module _ (w : World) (x : Name) (n : Node) (i : Item) (xs : List Item) (hx : nod
   n1 = record n { local = xs }
 
   abbrev o1 : Work
-  o1 = take i (at_work (record n { local = xs }))
+  o1 = take_item i (at_work (record n { local = xs }))
 
   kl : NodeKept n1
   kl = without_local n xs (g.core.nodes x n hx)
@@ -141,13 +144,13 @@ module _ (w : World) (x : Name) (n : Node) (i : Item) (xs : List Item) (hx : nod
   local_core sd nm ko gr dr ro vs = changed w x n o1 (carried w.lists o1.sent) hx sd nm ko ro (λ t y d. list_to_carried w.lists o1.sent t y)
       (λ t s fs j b p q pn qn old.
       let same : list_to (carried w.lists o1.sent) t x ≡ list_to w.lists t x = list_to_carried w.lists o1.sent t x ∙ ap (λ l. list_to w.lists t x ++ l) (own_none n o1 x t (g.core.sides x n hx) nx1 sd ro) ∙ append-nil (list_to w.lists t x) in
-      let grown : signals p q (list_to (carried w.lists o1.sent) t s.peer) ≡ signals p q (list_to w.lists t s.peer) ++ signals p q (at_place t s.peer o1.sent) =
+      let grown : words p q (list_to (carried w.lists o1.sent) t s.peer) ≡ words p q (list_to w.lists t s.peer) ++ words p q (at_place t s.peer o1.sent) =
       two_parts p q (list_to w.lists t s.peer) (at_place t s.peer o1.sent) _ (list_to_carried w.lists o1.sent t s.peer) in
       let far : same_name q.node n.name ≡ false = ap (λ v. same_name v n.name) qn ∙ not_own n t s (g.core.sides x n hx) fs in
-      subst (λ l. Kept (side_of o1.node p q (signals p q (list_to (carried w.lists o1.sent) t s.peer))) (side_of b q p (signals q p l))) (sym same)
-      (subst (λ l. Kept (side_of o1.node p q l) (side_of b q p (signals q p (list_to w.lists t x)))) (sym grown)
-      (half n1 o1 sd nm kl ko gr dr ro sl t s fs j p q qn (list_to w.lists t s.peer) (side_of b q p (signals q p (list_to w.lists t x)))
-      (λ l r k. vs p q l (side_of b q p (signals q p (list_to w.lists t x))) far r k) old)))
+      subst (λ l. Kept (side_of o1.node p q (words p q (list_to (carried w.lists o1.sent) t s.peer))) (side_of b q p (words q p l))) (sym same)
+      (subst (λ l. Kept (side_of o1.node p q l) (side_of b q p (words q p (list_to w.lists t x)))) (sym grown)
+      (half n1 o1 sd nm kl ko gr dr ro sl t s fs j p q qn (list_to w.lists t s.peer) (side_of b q p (words q p (list_to w.lists t x)))
+      (λ l r k. vs p q l (side_of b q p (words q p (list_to w.lists t x))) far r k) old)))
       g.core
 
   good_local_by : (core : WorldKept (record { names = w.names; nodes = set_node w.nodes x o1.node; lists = carried w.lists o1.sent })) (sd : o1.node.sides ≡ n.sides) (dl : o1.node.dialed ≡ n.dialed) (nm : o1.node.name ≡ n.name) (ro : AllRouted o1.node.sides o1.sent) → home_of o1.node
@@ -161,12 +164,12 @@ module _ (w : World) (x : Name) (n : Node) (i : Item) (xs : List Item) (hx : nod
   rest_home = (subst (λ l. Homely (λ p. never n p) l) first ((g.home x n hx).local)).1
 
 abbrev after_local : (w : World) (x : Name) (n : Node) (xs : List Item) → Item → World
-after_local w x n xs i = record { names = w.names; nodes = set_node w.nodes x ((take i (at_work (record n { local = xs }))).node); lists = carried w.lists ((take i (at_work (record n { local = xs }))).sent) }
+after_local w x n xs i = record { names = w.names; nodes = set_node w.nodes x ((take_item i (at_work (record n { local = xs }))).node); lists = carried w.lists ((take_item i (at_work (record n { local = xs }))).sent) }
 
 pub good_local : (w : World) (x : Name) (n : Node) (i : Item) (xs : List Item) → node_of w.nodes x ≡ Some n → Good w → n.local ≡ i ∷ xs → Good (after_local w x n xs i)
 good_local w x n i xs hx g first = go (kind i) (subst (λ l. Homely (λ p. never n p) l) first ((g.home x n hx).local)).0
   where
-    plain : (j : Item) → n.local ≡ j ∷ xs → ((p q : Pid) → signal_of p q j ≡ []) → Good (after_local w x n xs j)
+    plain : (j : Item) → n.local ≡ j ∷ xs → ((p q : Pid) → word_in p q j ≡ []) → Good (after_local w x n xs j)
     plain j e none =
         let f = takes_other j (at_work (record n { local = xs })) none in
         let k1 = kl w x n j xs hx g e in
@@ -174,16 +177,17 @@ good_local w x n i xs hx g first = go (kind i) (subst (λ l. Homely (λ p. never
         (local_core w x n j xs hx g e f.sides f.name (f.keeps k1) f.grows f.draws (f.routed tt) (λ p q b c far r k. f.views k1 b p q c r k))
         f.sides f.dialed f.name (f.routed tt) (f.home k1 (rest_home w x n j xs hx g e))
 
-    linking : (q0 p0 : Pid) (s : LinkWord) → n.local ≡ AboutLink q0 p0 s ∷ xs → never n q0 ≡ false → never n p0 ≡ false → same_pid q0 p0 ≡ false → Good (after_local w x n xs (AboutLink q0 p0 s))
+    linking : (q0 p0 : Pid) (s : LinkWord) → n.local ≡ Signalled (telling q0 p0 s) ∷ xs → never n q0 ≡ false → never n p0 ≡ false → same_pid q0 p0 ≡ false → Good (after_local w x n xs (Signalled (telling q0 p0 s)))
     linking q0 p0 s e hq hp two =
-        let f = takes_link p0 q0 s (at_work (record n { local = xs })) (λ z. (hq, pid_turned q0 p0 two)) hp in
-        let k1 = kl w x n (AboutLink q0 p0 s) xs hx g e in
+        let f : Takes p0 q0 s (at_work (record n { local = xs })) (take (telling q0 p0 s) (at_work (record n { local = xs }))) =
+            subst (λ z. Takes p0 q0 s (at_work (record n { local = xs })) z) (sym (taken_link q0 p0 s (at_work (record n { local = xs })))) (takes_link p0 q0 s (at_work (record n { local = xs })) (λ z. (hq, pid_turned q0 p0 two)) hp) in
+        let k1 = kl w x n (Signalled (telling q0 p0 s)) xs hx g e in
         let own : same_name q0.node n.name ≡ true = never_own n q0 hq in
         let hd : held n q0.node ≡ true = reach_held n q0.node (own_reached n q0.node own) in
-        good_local_by w x n (AboutLink q0 p0 s) xs hx g e
-        (local_core w x n (AboutLink q0 p0 s) xs hx g e f.sides f.name (f.keeps k1 hd) f.grows f.draws (f.routed tt)
+        good_local_by w x n (Signalled (telling q0 p0 s)) xs hx g e
+        (local_core w x n (Signalled (telling q0 p0 s)) xs hx g e f.sides f.name (f.keeps k1 hd) f.grows f.draws (f.routed tt)
         (λ p q b c far r k. f.others k1 hd b p q c r (not_this p q q0 own far (same_pid p p0)) k))
-        f.sides f.dialed f.name (f.routed tt) (f.home k1 hd (rest_home w x n (AboutLink q0 p0 s) xs hx g e))
+        f.sides f.dialed f.name (f.routed tt) (f.home k1 hd (rest_home w x n (Signalled (telling q0 p0 s)) xs hx g e))
       where
         and_no2 : (a b : Bool) → b ≡ false → (a && b) ≡ false
         and_no2 true b h = h
@@ -193,8 +197,8 @@ good_local w x n i xs hx g first = go (kind i) (subst (λ l. Homely (λ p. never
         not_this p q q0 own far b = and_no2 b (same_pid q q0) (by_test _ (same_pid q q0)
             (λ i. let c : true ≡ false = sym own ∙ ap (λ (v : Pid). same_name v.node n.name) (sym (same_pid_true q q0 i)) ∙ far in cc) (λ i. i))
 
-    go : ((p q : Pid) → signal_of p q i ≡ []) ⊎ ((q : Pid) × (p : Pid) × (s : LinkWord) × (i ≡ AboutLink q p s)) → HomeItem (λ p. never n p) i → Good (after_local w x n xs i)
+    go : ((p q : Pid) → word_in p q i ≡ []) ⊎ ((q : Pid) × (p : Pid) × (s : LinkWord) × (i ≡ Signalled (telling q p s))) → HomeItem (λ p. never n p) i → Good (after_local w x n xs i)
     go (inl h) m = plain i first h
     go (inr h) m =
-        let v : (never n h.0 ≡ false) × (never n h.1 ≡ false) × (same_pid h.0 h.1 ≡ false) = subst (λ z. HomeItem (λ p. never n p) z) h.3 m in
+        let v : (never n h.0 ≡ false) × (never n h.1 ≡ false) × (same_pid h.0 h.1 ≡ false) = home_saying (λ p. never n p) h.0 h.1 h.2 (subst (λ z. HomeItem (λ p. never n p) z) h.3 m) in
         subst (λ z. Good (after_local w x n xs z)) (sym h.3) (linking h.0 h.1 h.2 (first ∙ ap (λ z. z ∷ xs) h.3) v.0 v.1 v.2)

@@ -3,13 +3,15 @@ use Rattle.std.proofs.Common.{◌≡◌, Bool, true, false, cond, not, List, [],
 use Rattle.std.specs.Option.{is_some}
 use Rattle.dist_model.proofs.Keys.{and_both, same_name_is, same_pid_true}
 use Rattle.dist_model.proofs.Pair.{Side}
-use Rattle.dist_model.specs.Items.{AboutLink, Item, signal_of, signals}
-use Rattle.dist_model.specs.Links.{LinkWord}
+use Rattle.dist_model.specs.Items.{Item, Signalled, receiver_of, sender_of, telling, word_in, words}
+use Rattle.dist_model.specs.Links.{Exits, LinkWord, Says}
 use Rattle.dist_model.specs.Names.{Name, same_name, same_pid}
 use Rattle.dist_model.specs.Node.{Node, end_of, living, never, reaches, route}
-use Rattle.dist_model.specs.Work.{Envelope, Work, keep_local, post, post_all, send_on}
+use Rattle.dist_model.specs.Work.{Envelope, Work, keep_local, post, post_all, post_to, send_on}
+use Rattle.erl_control.specs.declared.signal.Signal.{Signal}
 use Rattle.erl_names.specs.declared.trunk.TrunkId.{TrunkId}
 use Rattle.erl_term.specs.declared.term.Pid.{Pid}
+use Rattle.link_core.specs.declared.end.LinkSignal.{LinkSignal}
 
 abbrev pub to_name : Name → List Envelope → List Item
 to_name y [] = []
@@ -28,7 +30,7 @@ side_of n p q L = record { end = end_of n p q; gone = over n p; drawn = n.unlink
 
 -- p's side of its link with q, where b stood on the way before the event
 abbrev pub view : List LinkWord → Work → Pid → Pid → Side
-view b o p q = side_of o.node p q (b ++ signals p q (line o q.node))
+view b o p q = side_of o.node p q (b ++ words p q (line o q.node))
 
 abbrev pub more : Side → List LinkWord → Side
 more a L = record { end = a.end; gone = a.gone; drawn = a.drawn; sent = a.sent ++ L }
@@ -36,12 +38,12 @@ more a L = record { end = a.end; gone = a.gone; drawn = a.drawn; sent = a.sent +
 pub side_path : (a b : Side) → a.end ≡ b.end → a.gone ≡ b.gone → a.drawn ≡ b.drawn → a.sent ≡ b.sent → a ≡ b
 side_path a b e g d s = λ i. record { end = e i; gone = g i; drawn = d i; sent = s i }
 
-pub signals-append : (p q : Pid) (xs ys : List Item) → signals p q (xs ++ ys) ≡ signals p q xs ++ signals p q ys
-signals-append p q [] ys = refl
-signals-append p q (x ∷ xs) ys = ap (λ l. signal_of p q x ++ l) (signals-append p q xs ys) ∙ sym (append_assoc (signal_of p q x) (signals p q xs) (signals p q ys))
+pub words-append : (p q : Pid) (xs ys : List Item) → words p q (xs ++ ys) ≡ words p q xs ++ words p q ys
+words-append p q [] ys = refl
+words-append p q (x ∷ xs) ys = ap (λ l. word_in p q x ++ l) (words-append p q xs ys) ∙ sym (append_assoc (word_in p q x) (words p q xs) (words p q ys))
 
-pub signals-push : (p q : Pid) (xs : List Item) (x : Item) → signals p q (xs ++ x ∷ []) ≡ signals p q xs ++ signal_of p q x
-signals-push p q xs x = signals-append p q xs (x ∷ []) ∙ ap (λ l. signals p q xs ++ l) (append-nil (signal_of p q x))
+pub words-push : (p q : Pid) (xs : List Item) (x : Item) → words p q (xs ++ x ∷ []) ≡ words p q xs ++ word_in p q x
+words-push p q xs x = words-append p q xs (x ∷ []) ∙ ap (λ l. words p q xs ++ l) (append-nil (word_in p q x))
 
 pub to_name-push : (y : Name) (es : List Envelope) (e : Envelope) → to_name y (es ++ e ∷ []) ≡ to_name y es ++ cond (same_name e.target y) (e.item ∷ []) []
 to_name-push y [] e = append-nil _
@@ -49,45 +51,45 @@ to_name-push y (d ∷ es) e = ap (λ l. cond (same_name d.target y) (d.item ∷ 
 
 -- an item that is addressed to the node of its receiver
 abbrev pub Suits : Name → Item → Pid → Pid → Type 0
-Suits y x p q = (y ≡ q.node) ⊎ (signal_of p q x ≡ [])
+Suits y x p q = (y ≡ q.node) ⊎ (word_in p q x ≡ [])
 
 nothing_more : (L R : List LinkWord) → R ≡ [] → L ≡ L ++ R
 nothing_more L R h = sym (append-nil L) ∙ ap (λ l. L ++ l) (sym h)
 
 module _ (y : Name) (x : Item) (o : Work) (p q : Pid) where
   local_line : (b : Bool) → same_name q.node o.node.name ≡ b → same_name y o.node.name ≡ true → Suits y x p q
-      → signals p q (cond b (o.node.local ++ x ∷ []) (to_name q.node o.sent)) ≡ signals p q (cond b o.node.local (to_name q.node o.sent)) ++ signal_of p q x
-  local_line true e h s = signals-push p q o.node.local x
+      → words p q (cond b (o.node.local ++ x ∷ []) (to_name q.node o.sent)) ≡ words p q (cond b o.node.local (to_name q.node o.sent)) ++ word_in p q x
+  local_line true e h s = words-push p q o.node.local x
   local_line false e h (inl d) = let c : same_name q.node o.node.name ≡ true = subst (λ z. same_name z o.node.name ≡ true) d h in absurd (let n : true ≡ false = sym c ∙ e in cc)
-  local_line false e h (inr n) = nothing_more (signals p q (to_name q.node o.sent)) (signal_of p q x) n
+  local_line false e h (inr n) = nothing_more (words p q (to_name q.node o.sent)) (word_in p q x) n
 
   sent_on_line : (t : TrunkId) (c : Bool) → same_name y q.node ≡ c → Suits y x p q
-      → signals p q (to_name q.node o.sent ++ cond c (x ∷ []) []) ≡ signals p q (to_name q.node o.sent) ++ signal_of p q x
-  sent_on_line t true e s = signals-push p q (to_name q.node o.sent) x
+      → words p q (to_name q.node o.sent ++ cond c (x ∷ []) []) ≡ words p q (to_name q.node o.sent) ++ word_in p q x
+  sent_on_line t true e s = words-push p q (to_name q.node o.sent) x
   sent_on_line t false e (inl d) = absurd (let n : true ≡ false = sym (same_name_is y q.node d) ∙ e in cc)
-  sent_on_line t false e (inr n) = ap (signals p q) (append-nil (to_name q.node o.sent)) ∙ nothing_more (signals p q (to_name q.node o.sent)) (signal_of p q x) n
+  sent_on_line t false e (inr n) = ap (words p q) (append-nil (to_name q.node o.sent)) ∙ nothing_more (words p q (to_name q.node o.sent)) (word_in p q x) n
 
   sent_line : (r : Option TrunkId) (b : Bool) → route o.node y ≡ r → same_name q.node o.node.name ≡ b → same_name y o.node.name ≡ false → (b || is_some (route o.node q.node)) ≡ true → Suits y x p q
-      → signals p q (cond b (send_on r y x o).node.local (to_name q.node (send_on r y x o).sent)) ≡ signals p q (cond b o.node.local (to_name q.node o.sent)) ++ signal_of p q x
+      → words p q (cond b (send_on r y x o).node.local (to_name q.node (send_on r y x o).sent)) ≡ words p q (cond b o.node.local (to_name q.node o.sent)) ++ word_in p q x
   sent_line r true e f h reach (inl d) = absurd (let c : same_name y o.node.name ≡ true = subst (λ z. same_name z o.node.name ≡ true) (sym d) f in let n : true ≡ false = sym c ∙ h in cc)
-  sent_line None true e f h reach (inr n) = nothing_more (signals p q o.node.local) (signal_of p q x) n
-  sent_line (Some t) true e f h reach (inr n) = nothing_more (signals p q o.node.local) (signal_of p q x) n
+  sent_line None true e f h reach (inr n) = nothing_more (words p q o.node.local) (word_in p q x) n
+  sent_line (Some t) true e f h reach (inr n) = nothing_more (words p q o.node.local) (word_in p q x) n
   sent_line None false e f h reach (inl d) = absurd (let c : route o.node q.node ≡ None = subst (λ z. route o.node z ≡ None) d e in let n : false ≡ true = sym (ap is_some c) ∙ reach in cc)
-  sent_line None false e f h reach (inr n) = nothing_more (signals p q (to_name q.node o.sent)) (signal_of p q x) n
-  sent_line (Some t) false e f h reach s = ap (signals p q) (to_name-push q.node o.sent (record { trunk = t; target = y; item = x })) ∙ sent_on_line t (same_name y q.node) refl s
+  sent_line None false e f h reach (inr n) = nothing_more (words p q (to_name q.node o.sent)) (word_in p q x) n
+  sent_line (Some t) false e f h reach s = ap (words p q) (to_name-push q.node o.sent (record { trunk = t; target = y; item = x })) ∙ sent_on_line t (same_name y q.node) refl s
 
   sent_all : (r : Option TrunkId) → route o.node y ≡ r → same_name y o.node.name ≡ false → reaches o.node q.node ≡ true → Suits y x p q
-      → signals p q (line (send_on r y x o) q.node) ≡ signals p q (line o q.node) ++ signal_of p q x
+      → words p q (line (send_on r y x o) q.node) ≡ words p q (line o q.node) ++ word_in p q x
   sent_all None e h reach s = sent_line None (same_name q.node o.node.name) e refl h reach s
   sent_all (Some t) e h reach s = sent_line (Some t) (same_name q.node o.node.name) e refl h reach s
 
   post_line_by : (b : Bool) → same_name y o.node.name ≡ b → reaches o.node q.node ≡ true → Suits y x p q
-      → signals p q (cond (same_name q.node (cond b (keep_local x o) (send_on (route o.node y) y x o)).node.name) (cond b (keep_local x o) (send_on (route o.node y) y x o)).node.local (to_name q.node (cond b (keep_local x o) (send_on (route o.node y) y x o)).sent))
-      ≡ signals p q (line o q.node) ++ signal_of p q x
+      → words p q (cond (same_name q.node (cond b (keep_local x o) (send_on (route o.node y) y x o)).node.name) (cond b (keep_local x o) (send_on (route o.node y) y x o)).node.local (to_name q.node (cond b (keep_local x o) (send_on (route o.node y) y x o)).sent))
+      ≡ words p q (line o q.node) ++ word_in p q x
   post_line_by true e reach s = local_line (same_name q.node o.node.name) refl e s
   post_line_by false e reach s = sent_all (route o.node y) refl e reach s
 
-  pub post_line : reaches o.node q.node ≡ true → Suits y x p q → signals p q (line (post y x o) q.node) ≡ signals p q (line o q.node) ++ signal_of p q x
+  pub post_line : reaches o.node q.node ≡ true → Suits y x p q → words p q (line (post_to y x o) q.node) ≡ words p q (line o q.node) ++ word_in p q x
   post_line reach s = post_line_by (same_name y o.node.name) refl reach s
 
 -- what no post changes
@@ -100,27 +102,27 @@ module _ {A : Type 0} (f : Node → A) (free : (n : Node) (l : List Item) → f 
   post_keeps_by true y x o = free o.node (o.node.local ++ x ∷ [])
   post_keeps_by false y x o = send_keeps (route o.node y) y x o
 
-  pub post_keeps : (y : Name) (x : Item) (o : Work) → f ((post y x o).node) ≡ f o.node
+  pub post_keeps : (y : Name) (x : Item) (o : Work) → f ((post_to y x o).node) ≡ f o.node
   post_keeps y x o = post_keeps_by (same_name y o.node.name) y x o
 
-  pub post_all_keeps : (es : List (Name × Item)) (o : Work) → f ((post_all es o).node) ≡ f o.node
+  pub post_all_keeps : (es : List Signal) (o : Work) → f ((post_all es o).node) ≡ f o.node
   post_all_keeps [] o = refl
-  post_all_keeps (e ∷ es) o = post_all_keeps es (post e.0 e.1 o) ∙ post_keeps e.0 e.1 o
+  post_all_keeps (e ∷ es) o = post_all_keeps es (post e o) ∙ post_keeps (receiver_of e).node (Signalled e) o
 
 -- a post is one signal more, or none
-pub post_view : (b : List LinkWord) (y : Name) (x : Item) (o : Work) (p q : Pid) → reaches o.node q.node ≡ true → Suits y x p q → view b (post y x o) p q ≡ more (view b o p q) (signal_of p q x)
-post_view b y x o p q reach s = side_path (view b (post y x o) p q) (more (view b o p q) (signal_of p q x))
+pub post_view : (b : List LinkWord) (y : Name) (x : Item) (o : Work) (p q : Pid) → reaches o.node q.node ≡ true → Suits y x p q → view b (post_to y x o) p q ≡ more (view b o p q) (word_in p q x)
+post_view b y x o p q reach s = side_path (view b (post_to y x o) p q) (more (view b o p q) (word_in p q x))
     (post_keeps (λ n. end_of n p q) (λ n l. refl) y x o) (post_keeps (λ n. over n p) (λ n l. refl) y x o) (post_keeps (λ n. n.unlinks) (λ n l. refl) y x o)
-    (ap (λ l. b ++ l) (post_line y x o p q reach s) ∙ sym (append_assoc b (signals p q (line o q.node)) (signal_of p q x)))
+    (ap (λ l. b ++ l) (post_line y x o p q reach s) ∙ sym (append_assoc b (words p q (line o q.node)) (word_in p q x)))
 
 -- several posts
-abbrev pub posted : Pid → Pid → List (Name × Item) → List LinkWord
+abbrev pub posted : Pid → Pid → List Signal → List LinkWord
 posted p q [] = []
-posted p q (e ∷ es) = signal_of p q e.1 ++ posted p q es
+posted p q (e ∷ es) = word_in p q (Signalled e) ++ posted p q es
 
-abbrev pub AllSuit : Pid → Pid → List (Name × Item) → Type 0
+abbrev pub AllSuit : Pid → Pid → List Signal → Type 0
 AllSuit p q [] = Unit {0}
-AllSuit p q (e ∷ es) = Suits e.0 e.1 p q × AllSuit p q es
+AllSuit p q (e ∷ es) = Suits (receiver_of e).node (Signalled e) p q × AllSuit p q es
 
 more-nil : (a : Side) → a ≡ more a []
 more-nil a = side_path a (more a []) refl refl refl (sym (append-nil a.sent))
@@ -128,18 +130,18 @@ more-nil a = side_path a (more a []) refl refl refl (sym (append-nil a.sent))
 more-more : (a : Side) (L R : List LinkWord) → more (more a L) R ≡ more a (L ++ R)
 more-more a L R = side_path (more (more a L) R) (more a (L ++ R)) refl refl refl (append_assoc a.sent L R)
 
-pub post_all_view : (b : List LinkWord) (es : List (Name × Item)) (o : Work) (p q : Pid) → reaches o.node q.node ≡ true → AllSuit p q es → view b (post_all es o) p q ≡ more (view b o p q) (posted p q es)
+pub post_all_view : (b : List LinkWord) (es : List Signal) (o : Work) (p q : Pid) → reaches o.node q.node ≡ true → AllSuit p q es → view b (post_all es o) p q ≡ more (view b o p q) (posted p q es)
 post_all_view b [] o p q reach s = more-nil (view b o p q)
 post_all_view b (e ∷ es) o p q reach s =
-    post_all_view b es (post e.0 e.1 o) p q (post_keeps (λ n. reaches n q.node) (λ n l. refl) e.0 e.1 o ∙ reach) s.1
-    ∙ ap (λ a. more a (posted p q es)) (post_view b e.0 e.1 o p q reach s.0)
-    ∙ more-more (view b o p q) (signal_of p q e.1) (posted p q es)
+    post_all_view b es (post e o) p q (post_keeps (λ n. reaches n q.node) (λ n l. refl) (receiver_of e).node (Signalled e) o ∙ reach) s.1
+    ∙ ap (λ a. more a (posted p q es)) (post_view b (receiver_of e).node (Signalled e) o p q reach s.0)
+    ∙ more-more (view b o p q) (word_in p q (Signalled e)) (posted p q es)
 
-pub posted-append : (p q : Pid) (xs ys : List (Name × Item)) → posted p q (xs ++ ys) ≡ posted p q xs ++ posted p q ys
+pub posted-append : (p q : Pid) (xs ys : List Signal) → posted p q (xs ++ ys) ≡ posted p q xs ++ posted p q ys
 posted-append p q [] ys = refl
-posted-append p q (x ∷ xs) ys = ap (λ l. signal_of p q x.1 ++ l) (posted-append p q xs ys) ∙ sym (append_assoc (signal_of p q x.1) (posted p q xs) (posted p q ys))
+posted-append p q (x ∷ xs) ys = ap (λ l. word_in p q (Signalled x) ++ l) (posted-append p q xs ys) ∙ sym (append_assoc (word_in p q (Signalled x)) (posted p q xs) (posted p q ys))
 
-pub AllSuit-append : (p q : Pid) (xs ys : List (Name × Item)) → AllSuit p q xs → AllSuit p q ys → AllSuit p q (xs ++ ys)
+pub AllSuit-append : (p q : Pid) (xs ys : List Signal) → AllSuit p q xs → AllSuit p q ys → AllSuit p q (xs ++ ys)
 AllSuit-append p q [] ys a b = b
 AllSuit-append p q (x ∷ xs) ys a b = (a.0, AllSuit-append p q xs ys a.1 b)
 
@@ -148,9 +150,27 @@ pub signal_other : (b : Bool) (s : LinkWord) → b ≡ false → ◌≡◌ {A = 
 signal_other true s h = cc
 signal_other false s h = refl
 
-pub linking_suits_by : (b : Bool) (x y p q : Pid) (s : LinkWord) → (same_pid x p && same_pid y q) ≡ b → Suits y.node (AboutLink x y s) p q
-linking_suits_by true x y p q s e = inl (ap (λ (v : Pid). v.node) (same_pid_true y q (and_both (same_pid x p) (same_pid y q) e).1))
-linking_suits_by false x y p q s e = inr (signal_other (same_pid x p && same_pid y q) s e)
+pub telling_word : (a b p q : Pid) (s : LinkWord) → word_in p q (Signalled (telling a b s)) ≡ cond (same_pid a p && same_pid b q) (s ∷ []) []
+telling_word a b p q (Says LinkSignal.Link) = refl
+telling_word a b p q (Says (LinkSignal.Unlink i)) = refl
+telling_word a b p q (Says (LinkSignal.Ack i)) = refl
+telling_word a b p q (Exits r) = refl
 
-pub linking_suits : (x y p q : Pid) (s : LinkWord) → Suits y.node (AboutLink x y s) p q
+pub telling_receiver : (a b : Pid) (s : LinkWord) → receiver_of (telling a b s) ≡ b
+telling_receiver a b (Says LinkSignal.Link) = refl
+telling_receiver a b (Says (LinkSignal.Unlink i)) = refl
+telling_receiver a b (Says (LinkSignal.Ack i)) = refl
+telling_receiver a b (Exits r) = refl
+
+pub telling_sender : (a b : Pid) (s : LinkWord) → sender_of (telling a b s) ≡ Some a
+telling_sender a b (Says LinkSignal.Link) = refl
+telling_sender a b (Says (LinkSignal.Unlink i)) = refl
+telling_sender a b (Says (LinkSignal.Ack i)) = refl
+telling_sender a b (Exits r) = refl
+
+pub linking_suits_by : (b : Bool) (x y p q : Pid) (s : LinkWord) → (same_pid x p && same_pid y q) ≡ b → Suits y.node (Signalled (telling x y s)) p q
+linking_suits_by true x y p q s e = inl (ap (λ (v : Pid). v.node) (same_pid_true y q (and_both (same_pid x p) (same_pid y q) e).1))
+linking_suits_by false x y p q s e = inr (telling_word x y p q s ∙ signal_other (same_pid x p && same_pid y q) s e)
+
+pub linking_suits : (x y p q : Pid) (s : LinkWord) → Suits y.node (Signalled (telling x y s)) p q
 linking_suits x y p q s = linking_suits_by (same_pid x p && same_pid y q) x y p q s refl

@@ -4,11 +4,11 @@ use Rattle.std.specs.Prelude.{Option, None, Some, is_some, ℕ, ◌+◌, ◌^◌
 use Rattle.std.specs.FinMap as fm
 use Rattle.dist_model.specs.Commands.{Goes, Outcome, Refuses, Took}
 use Rattle.dist_model.specs.Handshake.{awaits_ack, awaits_challenge, awaits_name, awaits_reply, awaits_status, awaits_true, fault}
-use Rattle.dist_model.specs.Items.{AboutLink, DemonitorP, Exit2, Handshake, HandshakeMessage, Item, Message, MonitorP, MonitorPExit, Tick}
+use Rattle.dist_model.specs.Items.{Handshake, HandshakeMessage, Item, Signalled, Tick, receiver_of, sender_of}
 use Rattle.dist_model.specs.Names.{same_name}
 use Rattle.dist_model.specs.Node.{Node, never}
 use Rattle.dist_model.specs.Sides.{Accepting, Asked, AwaitsAck, AwaitsChallenge, AwaitsStatus, Gone, Losing, Parked, State, TrunkSide, Up}
-use Rattle.dist_model.specs.Taking.{take}
+use Rattle.dist_model.specs.Taking.{take_item}
 use Rattle.dist_model.specs.Work.{Work, at_work}
 use Rattle.erl_names.specs.declared.trunk.TrunkId.{TrunkId}
 use Rattle.erl_term.specs.declared.refusal.Refusal.{Refusal}
@@ -21,19 +21,18 @@ is_from s q = same_name q.node s.peer && nat_le q.creation s.peer_creation
 abbrev pub is_to : Node → Pid → Bool
 is_to n p = same_name p.node n.name && not (never n p)
 
+abbrev pub from_peer : TrunkSide → Option Pid → Bool
+from_peer s None = true
+from_peer s (Some q) = is_from s q
+
 abbrev pub is_good : Node → TrunkSide → Item → Bool
-is_good n s (AboutLink q p x) = is_from s q && is_to n p
-is_good n s (Message p x) = is_to n p
-is_good n s (Exit2 q p x) = is_from s q && is_to n p
-is_good n s (MonitorP q p x) = is_from s q && is_to n p
-is_good n s (DemonitorP q p x) = is_from s q && is_to n p
-is_good n s (MonitorPExit q p k x) = is_from s q && is_to n p
+is_good n s (Signalled x) = from_peer s (sender_of x) && is_to n (receiver_of x)
 is_good n s (Handshake x) = true
 is_good n s Tick = true
 
 -- a signal comes on a side that is up
 abbrev pub on_up : TrunkId → TrunkSide → Item → Work → Outcome
-on_up t s x o = cond (is_good o.node s x) (Goes (Took x) (take x o)) (fault Refusal.Forged t s o)
+on_up t s x o = cond (is_good o.node s x) (Goes (Took x) (take_item x o)) (fault Refusal.Forged t s o)
 
 abbrev pub handshake_in : Item → Option HandshakeMessage
 handshake_in (Handshake m) = Some m
@@ -79,4 +78,4 @@ arrive n t (Some s) x w = arrive_at (handshake_in x) t s x (at_work n)
 -- the first item of the own list
 abbrev pub take_local : Node → List Item → Outcome
 take_local n [] = Refuses Refusal.NothingThere
-take_local n (x ∷ xs) = Goes (Took x) (take x (at_work (record n { local = xs })))
+take_local n (x ∷ xs) = Goes (Took x) (take_item x (at_work (record n { local = xs })))

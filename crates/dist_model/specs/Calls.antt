@@ -4,12 +4,12 @@ use Rattle.std.specs.FinMap as fm
 use Rattle.dist_model.specs.Commands.{Command, Done, EndLink, EndMonitor, ExitSelf, ExitTo, Goes, IsAlive, IsLiving, Links, LinksOf, MakeLink, MakeMonitor, Outcome, Receive, Received, Refuses, Send, Spawn, Spawned, Trap, Watching}
 use Rattle.dist_model.specs.Exits.{finish}
 use Rattle.dist_model.specs.Fits.{fits}
-use Rattle.dist_model.specs.Items.{Exit2, Message}
 use Rattle.dist_model.specs.Linking.{link, unlink_by}
 use Rattle.dist_model.specs.Monitoring.{demonitor_by, draw_reference, monitor, new_reference}
 use Rattle.dist_model.specs.Names.{same_name, same_pid}
 use Rattle.dist_model.specs.Node.{Ended, Life, Living, Node, end_of, living, never}
 use Rattle.dist_model.specs.Work.{Work, at_work, post, set_life}
+use Rattle.erl_control.specs.declared.signal.Signal.{Signal}
 use Rattle.erl_term.specs.Data.{Data}
 use Rattle.erl_term.specs.declared.refusal.Refusal.{Refusal}
 use Rattle.erl_term.specs.declared.term.Pid.{Pid}
@@ -60,13 +60,13 @@ links_in (((o, q), End.Pending i) ∷ es) p = cond (same_pid o p) ((q, End.Pendi
 
 abbrev pub call : Node → Command → Outcome
 call n Spawn = cond (nat_lt (n.spawned + 1) (2 ^ 32)) (Goes (Spawned (next_pid n)) (spawn_life n (next_pid n))) (Refuses Refusal.IdsUsedUp)
-call n (Send p q t) = acting n p (toward n q (fitting t (Goes Done (post q.node (Message q t) (at_work n)))))
+call n (Send p q t) = acting n p (toward n q (fitting t (Goes Done (post (Signal.Send q t) (at_work n)))))
 call n (MakeLink p q) = acting n p (toward n q (Goes Done (link p q (at_work n))))
 call n (EndLink p q) = acting n p (toward n q (unlink_by (end_of n p q) p q (at_work n)))
 call n (MakeMonitor p q) = acting n p (toward n q (cond (nat_lt (n.references + 1) (2 ^ 18)) (Goes (Watching (new_reference n)) (monitor (new_reference n) p q (draw_reference (at_work n)))) (Refuses Refusal.IdsUsedUp)))
 call n (EndMonitor p k) = acting n p (demonitor_by (fm.get n.watches k) p k (at_work n))
 call n (Trap p b) = acting n p (Goes Done (with_life n p (trapping (fm.get n.lives p) b)))
-call n (ExitTo p q r) = acting n p (toward n q (fitting r (Goes Done (post q.node (Exit2 p q r) (at_work n)))))
+call n (ExitTo p q r) = acting n p (toward n q (fitting r (Goes Done (post (Signal.Exit2 p q r) (at_work n)))))
 call n (ExitSelf p r) = acting n p (fitting r (Goes Done (finish p r (at_work n))))
 call n (Receive p) = acting n p (Goes (Received (first_message (fm.get n.lives p))) (with_life n p (without_first (fm.get n.lives p))))
 call n (LinksOf p) = acting n p (Goes (Links (links_in (fm.entries n.ends) p)) (at_work n))

@@ -2,7 +2,7 @@
 use Rattle.std.specs.Prelude.{Option, None, Some, is_some, ◌≡◌, ℕ, Bool, true, false, not, List, [], ◌∷◌, ◌&&◌, ◌||◌, ◌⊎◌, ◌↔◌, Contains}
 use Rattle.std.specs.FinMap as fm
 use Rattle.dist_model.specs.Commands.{MakeLink}
-use Rattle.dist_model.specs.Items.{AboutLink, DemonitorP, Exit2, Handshake, Item, Message, MonitorP, MonitorPExit, Tick, signals}
+use Rattle.dist_model.specs.Items.{Handshake, Item, Signalled, Tick, receiver_of, sender_of, words}
 use Rattle.dist_model.specs.Links.{Says, drained, last_said}
 use Rattle.dist_model.specs.Names.{Name, same_name, same_pid}
 use Rattle.dist_model.specs.Node.{Node, end_of, living, reaches, side_where}
@@ -57,13 +57,12 @@ pub record Stands (w : World) (x : Name) (t : TrunkId) (y : Name) (test : State 
   pub state : test side.state ≡ true
 
 -- a signal of p to q; a message names no sender
+abbrev pub is_by : Pid → Option Pid → Bool
+is_by p None = false
+is_by p (Some a) = same_pid a p
+
 abbrev pub is_of : Pid → Pid → Item → Bool
-is_of p q (AboutLink a b s) = same_pid a p && same_pid b q
-is_of p q (Message b m) = false
-is_of p q (Exit2 a b r) = same_pid a p && same_pid b q
-is_of p q (MonitorP a b k) = same_pid a p && same_pid b q
-is_of p q (DemonitorP a b k) = same_pid a p && same_pid b q
-is_of p q (MonitorPExit a b k r) = same_pid a p && same_pid b q
+is_of p q (Signalled s) = is_by p (sender_of s) && same_pid (receiver_of s) q
 is_of p q (Handshake m) = false
 is_of p q Tick = false
 
@@ -100,12 +99,12 @@ reached_at (Some n) y = reaches n y
 -- over a trunk: both or neither are linked_side, once all that travels has come
 abbrev pub Agreement : World → Type 0
 Agreement w = (p q : Pid) (t : TrunkId) → Stands w p.node t q.node is_up → Stands w q.node t p.node is_up → is_living w p ≡ true → is_living w q ≡ true
-    → drained (end_between w p q) (signals q p (list_to w.lists t p.node)) ≡ End.Active ↔ drained (end_between w q p) (signals p q (list_to w.lists t q.node)) ≡ End.Active
+    → drained (end_between w p q) (words q p (list_to w.lists t p.node)) ≡ End.Active ↔ drained (end_between w q p) (words p q (list_to w.lists t q.node)) ≡ End.Active
 
 -- within a node
 abbrev pub AgreementWithin : World → Type 0
 AgreementWithin w = (p q : Pid) → p.node ≡ q.node → is_living w p ≡ true → is_living w q ≡ true
-    → drained (end_between w p q) (signals q p (local_list w p.node)) ≡ End.Active ↔ drained (end_between w q p) (signals p q (local_list w p.node)) ≡ End.Active
+    → drained (end_between w p q) (words q p (local_list w p.node)) ≡ End.Active ↔ drained (end_between w q p) (words p q (local_list w p.node)) ≡ End.Active
 
 -- where nothing travels both or neither are linked_side
 abbrev pub AgreementInQuiet : World → Type 0
@@ -114,11 +113,11 @@ AgreementInQuiet w = (p q : Pid) → Quiet w p q → is_living w p ≡ true → 
 -- a pending end's UNLINK_ID is the last word on its way, or its acknowledgement is on its way back
 abbrev pub PendingOnItsWay : World → Type 0
 PendingOnItsWay w = (p q : Pid) (t : TrunkId) (i : ℕ) → Stands w p.node t q.node is_up → Stands w q.node t p.node is_up → is_living w p ≡ true → is_living w q ≡ true → end_between w p q ≡ End.Pending i
-    → (last_said (signals p q (list_to w.lists t q.node)) ≡ Some (LinkSignal.Unlink i)) ⊎ Contains (signals q p (list_to w.lists t p.node)) (Says (LinkSignal.Ack i))
+    → (last_said (words p q (list_to w.lists t q.node)) ≡ Some (LinkSignal.Unlink i)) ⊎ Contains (words q p (list_to w.lists t p.node)) (Says (LinkSignal.Ack i))
 
 abbrev pub PendingWithin : World → Type 0
 PendingWithin w = (p q : Pid) (i : ℕ) → p.node ≡ q.node → is_living w p ≡ true → is_living w q ≡ true → end_between w p q ≡ End.Pending i
-    → (last_said (signals p q (local_list w p.node)) ≡ Some (LinkSignal.Unlink i)) ⊎ Contains (signals q p (local_list w p.node)) (Says (LinkSignal.Ack i))
+    → (last_said (words p q (local_list w p.node)) ≡ Some (LinkSignal.Unlink i)) ⊎ Contains (words q p (local_list w p.node)) (Says (LinkSignal.Ack i))
 
 abbrev pub NoLinkToTheDead : World → Type 0
 NoLinkToTheDead w = (p q : Pid) → Quiet w p q → is_living w p ≡ true → is_living w q ≡ false → end_between w p q ≡ End.Active → ⊥

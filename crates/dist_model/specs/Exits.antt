@@ -1,11 +1,10 @@
 -- What exits do. (Reference Manual, Processes, Receiving Exit Signals; Links; Monitors.)
 use Rattle.std.specs.Prelude.{Option, None, Some, Bool, true, false, cond, not, List, [], ◌∷◌, ◌++◌}
 use Rattle.std.specs.FinMap as fm
-use Rattle.dist_model.specs.Items.{AboutLink, DemonitorP, Item, MonitorPExit}
-use Rattle.dist_model.specs.Links.{Exits}
-use Rattle.dist_model.specs.Names.{Name, same_pid}
+use Rattle.dist_model.specs.Names.{same_pid}
 use Rattle.dist_model.specs.Node.{Ended, traps_life}
 use Rattle.dist_model.specs.Work.{EndedBy, LinkExit, Work, post_all, put, report}
+use Rattle.erl_control.specs.declared.signal.Signal.{Signal}
 use Rattle.erl_term.specs.Data.{Data}
 use Rattle.erl_term.specs.declared.term.Pid.{Pid}
 use Rattle.erl_term.specs.declared.term.Reference.{Reference}
@@ -14,25 +13,25 @@ use Rattle.exit_core.specs.declared.reaction.ExitSignal.{ExitSignal}
 use Rattle.exit_core.specs.declared.reaction.Reaction.{Reaction}
 use Rattle.link_core.specs.declared.end.End.{End}
 
--- what goes to the partners of p whose ends are active
-abbrev pub exit_for : Pid → Data → Pid → End → List (Name × Item)
+-- EXIT to the partners of p to which its link is active
+abbrev pub exit_for : Pid → Data → Pid → End → List Signal
 exit_for p r q End.None = []
-exit_for p r q End.Active = (q.node, AboutLink p q (Exits r)) ∷ []
+exit_for p r q End.Active = Signal.Exit p q r ∷ []
 exit_for p r q (End.Pending i) = []
 
-abbrev pub exits : Pid → Data → List ((Pid × Pid) × End) → List (Name × Item)
+abbrev pub exits : Pid → Data → List ((Pid × Pid) × End) → List Signal
 exits p r [] = []
 exits p r (e ∷ es) = cond (same_pid e.0.0 p) (exit_for p r e.0.1 e.1) [] ++ exits p r es
 
--- to the owners of the registrations of p
-abbrev pub monitor_exits : Pid → Data → List (Reference × (Pid × Pid)) → List (Name × Item)
+-- MONITOR_P_EXIT to the owners of the registrations of p
+abbrev pub monitor_exits : Pid → Data → List (Reference × (Pid × Pid)) → List Signal
 monitor_exits p r [] = []
-monitor_exits p r (e ∷ es) = cond (same_pid e.1.1 p) ((e.1.0.node, MonitorPExit p e.1.0 e.0 r) ∷ []) [] ++ monitor_exits p r es
+monitor_exits p r (e ∷ es) = cond (same_pid e.1.1 p) (Signal.MonitorExit p e.1.0 e.0 r ∷ []) [] ++ monitor_exits p r es
 
--- for the watches of p
-abbrev pub demonitors : Pid → List (Reference × (Pid × Pid)) → List (Name × Item)
+-- DEMONITOR_P for the watches of p
+abbrev pub demonitors : Pid → List (Reference × (Pid × Pid)) → List Signal
 demonitors p [] = []
-demonitors p (e ∷ es) = cond (same_pid e.1.0 p) ((e.1.1.node, DemonitorP p e.1.1 e.0) ∷ []) [] ++ demonitors p es
+demonitors p (e ∷ es) = cond (same_pid e.1.0 p) (Signal.Demonitor p e.1.1 e.0 ∷ []) [] ++ demonitors p es
 
 abbrev pub is_owned : Pid → Option (Pid × Pid) → Bool
 is_owned p None = false

@@ -1,11 +1,11 @@
 -- What travels between two nodes, and from a node to itself.
 -- (ERTS User's Guide, Distribution Protocol.)
-use Rattle.std.specs.Prelude.{ℕ, Bool, true, false, cond, ◌&&◌, List, [], ◌∷◌, ◌++◌}
-use Rattle.dist_model.specs.Links.{LinkWord}
+use Rattle.std.specs.Prelude.{Option, None, Some, ℕ, Bool, true, false, cond, ◌&&◌, List, [], ◌∷◌, ◌++◌}
+use Rattle.dist_model.specs.Links.{Exits, LinkWord, Says}
 use Rattle.dist_model.specs.Names.{Name, same_pid}
-use Rattle.erl_term.specs.Data.{Data}
+use Rattle.erl_control.specs.declared.signal.Signal.{Signal}
 use Rattle.erl_term.specs.declared.term.Pid.{Pid}
-use Rattle.erl_term.specs.declared.term.Reference.{Reference}
+use Rattle.link_core.specs.declared.end.LinkSignal.{LinkSignal}
 
 -- the messages of the handshake
 pub data HandshakeMessage : Type 0 where
@@ -22,27 +22,52 @@ pub data HandshakeMessage : Type 0 where
   ChallengeAck : (digest : ℕ) → HandshakeMessage
 
 pub data Item : Type 0 where
-  AboutLink : (sender : Pid) → (receiver : Pid) → LinkWord → Item
-  Message : (receiver : Pid) → Data → Item
-  Exit2 : (sender : Pid) → (receiver : Pid) → (reason : Data) → Item
-  MonitorP : (sender : Pid) → (receiver : Pid) → Reference → Item
-  DemonitorP : (sender : Pid) → (receiver : Pid) → Reference → Item
-  MonitorPExit : (sender : Pid) → (receiver : Pid) → Reference → (reason : Data) → Item
+  Signalled : Signal → Item
   Handshake : HandshakeMessage → Item
-  -- keeps a connection alive
+  -- tells that the peer is there
   Tick : Item
 
--- the words of q to p about their link, in a list
-abbrev pub signal_of : Pid → Pid → Item → List LinkWord
-signal_of q p (AboutLink a b s) = cond (same_pid a q && same_pid b p) (s ∷ []) []
-signal_of q p (Message b x) = []
-signal_of q p (Exit2 a b x) = []
-signal_of q p (MonitorP a b x) = []
-signal_of q p (DemonitorP a b x) = []
-signal_of q p (MonitorPExit a b k x) = []
-signal_of q p (Handshake x) = []
-signal_of q p Tick = []
+-- a message names no sender
+abbrev pub sender_of : Signal → Option Pid
+sender_of (Signal.Link from to) = Some from
+sender_of (Signal.Send to message) = None
+sender_of (Signal.Exit from to reason) = Some from
+sender_of (Signal.Exit2 from to reason) = Some from
+sender_of (Signal.Monitor from to r) = Some from
+sender_of (Signal.Demonitor from to r) = Some from
+sender_of (Signal.MonitorExit from to r reason) = Some from
+sender_of (Signal.UnlinkId id from to) = Some from
+sender_of (Signal.UnlinkIdAck id from to) = Some from
 
-abbrev pub signals : Pid → Pid → List Item → List LinkWord
-signals q p [] = []
-signals q p (x ∷ xs) = signal_of q p x ++ signals q p xs
+abbrev pub receiver_of : Signal → Pid
+receiver_of (Signal.Link from to) = to
+receiver_of (Signal.Send to message) = to
+receiver_of (Signal.Exit from to reason) = to
+receiver_of (Signal.Exit2 from to reason) = to
+receiver_of (Signal.Monitor from to r) = to
+receiver_of (Signal.Demonitor from to r) = to
+receiver_of (Signal.MonitorExit from to r reason) = to
+receiver_of (Signal.UnlinkId id from to) = to
+receiver_of (Signal.UnlinkIdAck id from to) = to
+
+-- the signal by which p tells q a word of their link
+abbrev pub telling : Pid → Pid → LinkWord → Signal
+telling p q (Says LinkSignal.Link) = Signal.Link p q
+telling p q (Says (LinkSignal.Unlink id)) = Signal.UnlinkId id p q
+telling p q (Says (LinkSignal.Ack id)) = Signal.UnlinkIdAck id p q
+telling p q (Exits reason) = Signal.Exit p q reason
+
+-- what p tells q of their link in an item, and in a list
+abbrev pub if_between : Pid → Pid → Pid → Pid → LinkWord → List LinkWord
+if_between p q from to word = cond (same_pid from p && same_pid to q) (word ∷ []) []
+
+abbrev pub word_in : Pid → Pid → Item → List LinkWord
+word_in p q (Signalled (Signal.Link from to)) = if_between p q from to (Says LinkSignal.Link)
+word_in p q (Signalled (Signal.Exit from to reason)) = if_between p q from to (Exits reason)
+word_in p q (Signalled (Signal.UnlinkId id from to)) = if_between p q from to (Says (LinkSignal.Unlink id))
+word_in p q (Signalled (Signal.UnlinkIdAck id from to)) = if_between p q from to (Says (LinkSignal.Ack id))
+word_in p q _ = []
+
+abbrev pub words : Pid → Pid → List Item → List LinkWord
+words p q [] = []
+words p q (x ∷ xs) = word_in p q x ++ words p q xs

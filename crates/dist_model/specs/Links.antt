@@ -26,7 +26,7 @@ heard end (Exits reason) = exited end
 -- and once it has heard all that travels to it
 abbrev pub drained : End → List LinkWord → End
 drained end [] = end
-drained end (word ∷ words) = drained (heard end word) words
+drained end (word ∷ rest) = drained (heard end word) rest
 
 -- what goes back at once: a process that isn't living answers LINK by EXIT with noproc, and UNLINK_ID is acknowledged in any case
 abbrev pub reply : Bool → LinkWord → List LinkWord

@@ -3,12 +3,12 @@
 use Rattle.std.specs.Prelude.{Option, None, Some, is_some, ℕ, ◌+◌, ◌^◌, Bool, true, false, cond, not, List, [], ◌∷◌, ◌==◌, nat_lt, nat_le, ◌&&◌, ◌||◌}
 use Rattle.std.specs.FinMap as fm
 use Rattle.dist_model.specs.Commands.{Done, Goes, Outcome, Refuses}
-use Rattle.dist_model.specs.Items.{DemonitorP, MonitorP}
 use Rattle.dist_model.specs.Links.{noconnection}
 use Rattle.dist_model.specs.Names.{same_pid}
 use Rattle.dist_model.specs.Node.{Node, reaches}
 use Rattle.dist_model.specs.Taking.{unwatch}
 use Rattle.dist_model.specs.Work.{Work, post, put}
+use Rattle.erl_control.specs.declared.signal.Signal.{Signal}
 use Rattle.erl_term.specs.declared.refusal.Refusal.{Refusal}
 use Rattle.erl_term.specs.declared.term.Pid.{Pid}
 use Rattle.erl_term.specs.declared.term.Reference.{Reference}
@@ -25,8 +25,8 @@ abbrev pub watch : Reference → Pid × Pid → Work → Work
 watch k v o = record o { node = record (o.node) { watches = fm.insert o.node.watches k v } }
 
 abbrev pub monitor : Reference → Pid → Pid → Work → Work
-monitor k p q o = cond (reaches o.node q.node) (post q.node (MonitorP p q k) (watch k (p, q) o)) (put p (down_term k q noconnection) o)
+monitor k p q o = cond (reaches o.node q.node) (post (Signal.Monitor p q k) (watch k (p, q) o)) (put p (down_term k q noconnection) o)
 
 abbrev pub demonitor_by : Option (Pid × Pid) → Pid → Reference → Work → Outcome
 demonitor_by None p k o = Refuses Refusal.NotTheOwner
-demonitor_by (Some v) p k o = cond (same_pid v.0 p) (Goes Done (post v.1.node (DemonitorP p v.1 k) (unwatch k o))) (Refuses Refusal.NotTheOwner)
+demonitor_by (Some v) p k o = cond (same_pid v.0 p) (Goes Done (post (Signal.Demonitor p v.1 k) (unwatch k o))) (Refuses Refusal.NotTheOwner)

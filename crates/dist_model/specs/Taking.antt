@@ -3,16 +3,18 @@
 use Rattle.std.specs.Prelude.{Option, None, Some, Bool, true, false, cond, List, [], ◌∷◌, ◌&&◌}
 use Rattle.std.specs.FinMap as fm
 use Rattle.dist_model.specs.Exits.{carry_out, link_exit, sent_exit}
-use Rattle.dist_model.specs.Items.{AboutLink, DemonitorP, Exit2, Handshake, Item, Message, MonitorP, MonitorPExit, Tick}
+use Rattle.dist_model.specs.Items.{Handshake, Item, Signalled, Tick, telling}
 use Rattle.dist_model.specs.Links.{Exits, LinkWord, Says, heard, noproc, reply}
-use Rattle.dist_model.specs.Names.{Name, same_pid}
+use Rattle.dist_model.specs.Names.{same_pid}
 use Rattle.dist_model.specs.Node.{end_of, living, traps_life}
 use Rattle.dist_model.specs.Work.{Work, post, post_all, put, set_end}
+use Rattle.erl_control.specs.declared.signal.Signal.{Signal}
 use Rattle.erl_term.specs.declared.term.Pid.{Pid}
 use Rattle.erl_term.specs.declared.term.Reference.{Reference}
 use Rattle.exit_core.specs.Messages.{down_term}
 use Rattle.exit_core.specs.Reaction.{reaction}
 use Rattle.link_core.specs.declared.end.End.{End}
+use Rattle.link_core.specs.declared.end.LinkSignal.{LinkSignal}
 
 -- what a signal about a link does once the end has changed: e is the end before
 abbrev pub exit_follows : End → LinkWord → Pid → Pid → Work → Work
@@ -21,9 +23,9 @@ exit_follows End.None (Exits r) p q o = o
 exit_follows End.Active (Exits r) p q o = link_exit p q r o
 exit_follows (End.Pending i) (Exits r) p q o = o
 
-abbrev pub replies : Pid → Pid → List LinkWord → List (Name × Item)
+abbrev pub replies : Pid → Pid → List LinkWord → List Signal
 replies p q [] = []
-replies p q (s ∷ ss) = (q.node, AboutLink p q s) ∷ replies p q ss
+replies p q (s ∷ ss) = telling p q s ∷ replies p q ss
 
 -- p takes a signal of q about their link
 abbrev pub take_link_by : Bool → Pid → Pid → LinkWord → Work → Work
@@ -47,13 +49,20 @@ unregister r o = record o { node = record (o.node) { registered = fm.remove o.no
 abbrev pub unwatch : Reference → Work → Work
 unwatch r o = record o { node = record (o.node) { watches = fm.remove o.node.watches r } }
 
--- a signal that isn't about the handshake
-abbrev pub take : Item → Work → Work
-take (AboutLink q p s) o = take_link p q s o
-take (Message p t) o = cond (living o.node p) (put p t o) o
-take (Exit2 q p r) o = cond (living o.node p) (carry_out (reaction (traps_life (fm.get o.node.lives p)) (sent_exit p q r)) p o) o
-take (MonitorP q p k) o = cond (living o.node p) (register (fm.get o.node.registered k) k (q, p) o) (post q.node (MonitorPExit p q k noproc) o)
-take (DemonitorP q p k) o = cond (same_pids (fm.get o.node.registered k) q p) (unregister k o) o
-take (MonitorPExit q p k r) o = cond (living o.node p && same_pids (fm.get o.node.watches k) p q) (put p (down_term k q r) (unwatch k o)) o
-take (Handshake m) o = o
-take Tick o = o
+-- the process that a signal names takes it
+abbrev pub take : Signal → Work → Work
+take (Signal.Link from to) o = take_link to from (Says LinkSignal.Link) o
+take (Signal.Send to message) o = cond (living o.node to) (put to message o) o
+take (Signal.Exit from to reason) o = take_link to from (Exits reason) o
+take (Signal.Exit2 from to reason) o = cond (living o.node to) (carry_out (reaction (traps_life (fm.get o.node.lives to)) (sent_exit to from reason)) to o) o
+take (Signal.Monitor from to r) o = cond (living o.node to) (register (fm.get o.node.registered r) r (from, to) o) (post (Signal.MonitorExit to from r noproc) o)
+take (Signal.Demonitor from to r) o = cond (same_pids (fm.get o.node.registered r) from to) (unregister r o) o
+take (Signal.MonitorExit from to r reason) o = cond (living o.node to && same_pids (fm.get o.node.watches r) to from) (put to (down_term r from reason) (unwatch r o)) o
+take (Signal.UnlinkId id from to) o = take_link to from (Says (LinkSignal.Unlink id)) o
+take (Signal.UnlinkIdAck id from to) o = take_link to from (Says (LinkSignal.Ack id)) o
+
+-- a message of the handshake, or a tick, is nobody's
+abbrev pub take_item : Item → Work → Work
+take_item (Signalled s) o = take s o
+take_item (Handshake m) o = o
+take_item Tick o = o

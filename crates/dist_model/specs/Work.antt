@@ -1,9 +1,10 @@
 -- A node in the midst of an event: what it has become, what it has sent, what it reports.
 use Rattle.std.specs.Prelude.{Option, None, Some, Bool, cond, List, [], ◌∷◌, ◌++◌}
 use Rattle.std.specs.FinMap as fm
-use Rattle.dist_model.specs.Items.{Item}
+use Rattle.dist_model.specs.Items.{Item, Signalled, receiver_of}
 use Rattle.dist_model.specs.Names.{Name, pair_cmp, same_name}
 use Rattle.dist_model.specs.Node.{Ended, Life, Living, Node, route}
+use Rattle.erl_control.specs.declared.signal.Signal.{Signal}
 use Rattle.erl_names.specs.declared.trunk.TrunkId.{TrunkId}
 use Rattle.erl_term.specs.Data.{Data}
 use Rattle.erl_term.specs.Order.{pid_cmp}
@@ -41,14 +42,17 @@ abbrev pub send_on : Option TrunkId → Name → Item → Work → Work
 send_on None y x o = o
 send_on (Some t) y x o = record o { sent = o.sent ++ (record { trunk = t; target = y; item = x }) ∷ []; effects = o.effects ++ Sent y x ∷ [] }
 
--- a signal to a process of y: into the own list, onto the trunk that is up, or dropped.
--- (Reference Manual, Processes, Delivery of Signals; Distributed Erlang)
-abbrev pub post : Name → Item → Work → Work
-post y x o = cond (same_name y o.node.name) (keep_local x o) (send_on (route o.node y) y x o)
+-- what goes to y: into the own list, onto the trunk that is up, or nowhere
+abbrev pub post_to : Name → Item → Work → Work
+post_to y x o = cond (same_name y o.node.name) (keep_local x o) (send_on (route o.node y) y x o)
 
-abbrev pub post_all : List (Name × Item) → Work → Work
+-- a signal goes to its receiver's node. (Reference Manual, Processes, Delivery of Signals)
+abbrev pub post : Signal → Work → Work
+post s o = post_to (receiver_of s).node (Signalled s) o
+
+abbrev pub post_all : List Signal → Work → Work
 post_all [] o = o
-post_all (e ∷ es) o = post_all es (post e.0 e.1 o)
+post_all (s ∷ ss) o = post_all ss (post s o)
 
 -- a message for the mailbox of a living process
 abbrev pub delivered : Option Life → Data → Option Life
