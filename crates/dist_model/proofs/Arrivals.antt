@@ -31,7 +31,7 @@ module _ (w : World) (x : Name) (n : Node) (t : TrunkId) (v : TrunkSide) (i : It
   abbrev Fin : Work → Type 0
   Fin o = Good (record { names = w.names; nodes = set_node w.nodes x o.node; lists = carried (fm.insert w.lists (t, x) rest) o.sent })
 
-  nx : n.name ≡ x
+  nx : n.mint.name ≡ x
   nx = node_of_name w.nodes x n hx
 
   -- the side has its new state; the item is taken off
@@ -72,7 +72,7 @@ module _ (w : World) (x : Name) (n : Node) (t : TrunkId) (v : TrunkSide) (i : It
           let m = gs.core.met x (with_side_at n t s) t s here (side_after_same n t s) d in
           (m.side, m.dialer, m.at, m.there, inl (dialer_is ((gs.core.sides x (with_side_at n t s) here).mine t s (side_after_same n t s)) d)))
         where
-          dialer_is : (t.dialer ≡ n.name) ⊎ (t.dialer ≡ s.peer) → (t.dialer ≡ x → ⊥) → t.dialer ≡ s.peer
+          dialer_is : (t.dialer ≡ n.mint.name) ⊎ (t.dialer ≡ s.peer) → (t.dialer ≡ x → ⊥) → t.dialer ≡ s.peer
           dialer_is (inl j) k = absurd (k (j ∙ nx))
           dialer_is (inr j) k = j
 
@@ -134,11 +134,11 @@ module _ (w : World) (x : Name) (n : Node) (t : TrunkId) (v : TrunkSide) (i : It
             (λ b. let f : true ≡ false = sym (ap (λ y. has is_challenge (list_to w.lists t y)) dn ∙ ap (has is_challenge) first ∙ ap (λ y. y || has is_challenge rest) ch) ∙ (r.waits b).0 in cc),
       )) (λ j. (refl, refl))
     where
-      role_true : role_state (same_name t.dialer n.name) v.state ≡ true → same_name t.dialer n.name ≡ true
-      role_true f = by_test _ (same_name t.dialer n.name) (λ b. b) (λ b. let k : false ≡ true = sym (ap (λ z. role_state z v.state) b ∙ ap (role_state false) e) ∙ f in cc)
+      role_true : role_state (same_name t.dialer n.mint.name) v.state ≡ true → same_name t.dialer n.mint.name ≡ true
+      role_true f = by_test _ (same_name t.dialer n.mint.name) (λ b. b) (λ b. let k : false ≡ true = sym (ap (λ z. role_state z v.state) b ∙ ap (role_state false) e) ∙ f in cc)
 
-      dialer_here : same_name t.dialer n.name ≡ true → t.dialer ≡ x
-      dialer_here b = same_name_true t.dialer n.name b ∙ nx
+      dialer_here : same_name t.dialer n.mint.name ≡ true → t.dialer ≡ x
+      dialer_here b = same_name_true t.dialer n.mint.name b ∙ nx
 
   pub acceptance_comes : (u : ℕ) → v.state ≡ AwaitsAck u → is_accept i ≡ true → ((p q : Pid) → word_in p q i ≡ []) → Fin (set_state t v Up (at_work n))
   acceptance_comes u e got none = popped_after (as_state v Up) (good_dialer_up w x n t v u hx h e (ap (has is_accept) first ∙ ap (λ b. b || has is_accept rest) got) g) (inr none)
@@ -167,8 +167,8 @@ module _ (w : World) (x : Name) (n : Node) (t : TrunkId) (v : TrunkSide) (i : It
           gp2 : Good (record { names = w.names; nodes = set_node w.nodes x (with_side_at n t (as_state v Up)); lists = fm.insert w.lists (t, x) rest })
           gp2 = popped_after (as_state v Up) (good_acceptor_up w x n t v u hx h e (ap (has is_reply) first ∙ ap (λ b. b || has is_reply rest) got) g) (inr none)
 
-          not_mine : t.dialer ≡ x → role_state (same_name t.dialer n.name) v.state ≡ true → ⊥
-          not_mine j f = let c : false ≡ true = sym (ap (λ b. role_state b v.state) (same_name_is t.dialer n.name (j ∙ sym nx)) ∙ ap (role_state true) e) ∙ f in cc
+          not_mine : t.dialer ≡ x → role_state (same_name t.dialer n.mint.name) v.state ≡ true → ⊥
+          not_mine j f = let c : false ≡ true = sym (ap (λ b. role_state b v.state) (same_name_is t.dialer n.mint.name (j ∙ sym nx)) ∙ ap (role_state true) e) ∙ f in cc
 
 module _ (w : World) (x : Name) (n : Node) (t : TrunkId) (v : TrunkSide) (rest : List Item) (hx : node_of w.nodes x ≡ Some n) (h : side_at n t ≡ Some v) (g : Good w) where
   abbrev Ends : Item → Outcome → Type 0

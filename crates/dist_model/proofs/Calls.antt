@@ -1,23 +1,27 @@
 -- What a call or a signal does to each pair of processes.
+use Rattle.std.proofs.Common.{◌<◌}
+use Rattle.erl_names.specs.Draw as kind
 use Rattle.std.proofs.Common.{◌==◌, nat_lt, ◌^◌, ◌≡◌, ℕ, ◌+◌, Bool, true, false, cond, not, List, [], ◌∷◌, refl, sym, ap, ◌∙◌, subst, arith, ◌&&◌, ◌||◌, Option, Some, None}
 use Rattle.std.specs.FinMap as fm
 use Rattle.dist_model.proofs.Kept.{Kept}
 use Rattle.dist_model.proofs.Keys.{pid_total, same_name_refl, same_name_true, same_pid_is, same_pid_refl, same_pid_true}
 use Rattle.dist_model.proofs.Moves.{Homely, Moves, carries_out, finishes, links, posts_other, puts, set_life_living, stays, then, unlinks_as}
 use Rattle.dist_model.proofs.Views.{over, side_path, telling_word, view}
-use Rattle.dist_model.specs.Calls.{acting, call, next_pid, spawn_life, toward, trapping, with_life, without_first}
-use Rattle.dist_model.specs.Commands.{Command, EndLink, EndMonitor, ExitSelf, ExitTo, Goes, IsAlive, LinksOf, MakeLink, MakeMonitor, Outcome, Receive, Refuses, Send, Spawn, Trap}
+use Rattle.dist_model.specs.Calls.{acting, call, spawn_life, toward, trapping, with_life, without_first}
+use Rattle.dist_model.specs.Commands.{Command, EndLink, EndMonitor, ExitSelf, ExitTo, Goes, IsAlive, LinksOf, MakeLink, MakeMonitor, Outcome, Receive, Refuses, Send, Spawn, Trap, with_id}
 use Rattle.dist_model.specs.Exits.{sent_exit}
 use Rattle.dist_model.specs.Fits.{fits}
 use Rattle.dist_model.specs.Items.{Handshake, Item, Signalled, Tick, telling, word_in}
 use Rattle.dist_model.specs.Linking.{unlink_by}
 use Rattle.dist_model.specs.Links.{Exits, LinkWord, Says, noconnection, noproc}
-use Rattle.dist_model.specs.Monitoring.{demonitor_by, draw_reference, monitor, new_reference, watch}
+use Rattle.dist_model.specs.Monitoring.{demonitor_by, monitor, watch}
 use Rattle.dist_model.specs.Names.{same_name, same_pid}
 use Rattle.dist_model.specs.Node.{Ended, Life, Living, Node, end_of, is_living_life, living, never, reaches, traps_life}
 use Rattle.dist_model.specs.Taking.{register, same_pids, take_item, unregister, unwatch}
-use Rattle.dist_model.specs.Work.{Work, at_work, put, set_life}
+use Rattle.dist_model.specs.Work.{Work, at_work, draw, post, put, set_end, set_life}
 use Rattle.erl_control.specs.declared.signal.Signal.{Signal}
+use Rattle.erl_names.specs.Ids.{pid_of, reference_of}
+use Rattle.erl_names.specs.Minted.{Minted, drawn, id_of, last}
 use Rattle.erl_term.specs.Order.{pid_cmp}
 use Rattle.erl_term.specs.declared.refusal.Refusal.{Refusal}
 use Rattle.erl_term.specs.declared.term.Pid.{Pid}
@@ -70,7 +74,7 @@ unwatches_one k o = record { sides = refl; dialed = refl; name = refl; keeps = �
 pub watches_one : (k : Reference) (v : Pid × Pid) (o : Work) → Moves o (watch k v o)
 watches_one k v o = record { sides = refl; dialed = refl; name = refl; keeps = λ n. record { born = n.born; rooted = n.rooted }; grows = λ p h. h; draws = omega arith; routed = λ a. a; nevers = λ p h. h; home = λ k h. h; views = λ n b p q c r t. t }
 
-pub draws_reference : (o : Work) → Moves o (draw_reference o)
+pub draws_reference : (o : Work) → Moves o (draw kind.Reference o)
 draws_reference o = record { sides = refl; dialed = refl; name = refl; keeps = λ n. record { born = n.born; rooted = n.rooted }; grows = λ p h. h; draws = omega arith; routed = λ a. a; nevers = λ p h. h; home = λ k h. h; views = λ n b p q c r t. t }
 
 moves_cond : (b : Bool) (o x y : Work) → (b ≡ true → Moves o x) → (b ≡ false → Moves o y) → Moves o (cond b x y)
@@ -95,7 +99,40 @@ takes_other (Signalled (Signal.MonitorExit q p k r)) o h = moves_cond (living o.
 takes_other (Handshake m) o h = stays o
 takes_other Tick o h = stays o
 
+-- what a draw gives, and what it leaves
+pub if_drawn : (o : Option ℕ) (k : ℕ → Outcome) (P : Work → Type 0) → ((id : ℕ) → o ≡ Some id → IfGoes (k id) P) → IfGoes (with_id o k) P
+if_drawn None k P f = tt
+if_drawn (Some id) k P f = f id refl
+
+some_number : (a b : ℕ) → ◌≡◌ {A = Option ℕ} (Some a) (Some b) → a ≡ b
+some_number a b h = cc
+
+none_number : (P : Type 0) (b : ℕ) → ◌≡◌ {A = Option ℕ} None (Some b) → P
+none_number P b h = cc
+
+pid_drawn : (m : Minted) (id : ℕ) → id_of m kind.Pid ≡ Some id → (drawn m kind.Pid ≡ record m { pids = m.pids + 1 }) × (id ≡ m.pids + 1)
+pid_drawn m id h = go (nat_lt m.pids (last kind.Pid)) refl h
+  where
+    go : (b : Bool) → nat_lt m.pids (last kind.Pid) ≡ b → cond b (Some (m.pids + 1)) None ≡ Some id → (drawn m kind.Pid ≡ record m { pids = m.pids + 1 }) × (id ≡ m.pids + 1)
+    go true e j = (λ i. record m { pids = cond (e i) (m.pids + 1) m.pids }, sym (some_number (m.pids + 1) id j))
+    go false e j = none_number _ id j
+
+unlink_drawn : (m : Minted) (id : ℕ) → id_of m kind.UnlinkId ≡ Some id → (drawn m kind.UnlinkId ≡ record m { unlink_ids = id }) × (m.unlink_ids < id)
+unlink_drawn m id h = go (nat_lt m.unlink_ids (last kind.UnlinkId)) refl h
+  where
+    go : (b : Bool) → nat_lt m.unlink_ids (last kind.UnlinkId) ≡ b → cond b (Some (m.unlink_ids + 1)) None ≡ Some id → (drawn m kind.UnlinkId ≡ record m { unlink_ids = id }) × (m.unlink_ids < id)
+    go true e j =
+        let is : m.unlink_ids + 1 ≡ id = some_number (m.unlink_ids + 1) id j in
+        ((λ i. record m { unlink_ids = cond (e i) (m.unlink_ids + 1) m.unlink_ids }) ∙ (λ i. record m { unlink_ids = is i }), omega (arith, is))
+    go false e j = none_number _ id j
+
 -- a new process
+abbrev pub next_pid : Node → Pid
+next_pid n = pid_of n.mint (n.mint.pids + 1)
+
+abbrev pub spawned_at : Node → Pid → Work
+spawned_at n p = at_work (record n { mint = record (n.mint) { pids = n.mint.pids + 1 }; lives = fm.insert n.lives p (Living false []) })
+
 is_same : (x y : ℕ) → (x == y) ≡ true → x ≡ y
 is_same x y h = grind arith
 
@@ -105,26 +142,26 @@ next_id s i h k = grind arith
 later_id : (s i : ℕ) → nat_lt s i ≡ false → nat_lt (s + 1) i ≡ false
 later_id s i h = grind arith
 
-never_by : (n : Node) (p : Pid) → same_pid p (next_pid n) ≡ false → (a b c d e f g : Bool) → same_name p.node n.name ≡ a → (p.creation == n.creation) ≡ c → nat_lt n.spawned p.id ≡ d → nat_lt (n.spawned + 1) p.id ≡ e → (p.serial == 0) ≡ g
+never_by : (n : Node) (p : Pid) → same_pid p (next_pid n) ≡ false → (a b c d e f g : Bool) → same_name p.node n.mint.name ≡ a → (p.creation == n.mint.creation) ≡ c → nat_lt n.mint.pids p.id ≡ d → nat_lt (n.mint.pids + 1) p.id ≡ e → (p.serial == 0) ≡ g
     → ((((not a || b) || (c && e)) || f) || not g) ≡ ((((not a || b) || (c && d)) || f) || not g)
 never_by n p new false b c d e f g ha hc hd he hg = refl
 never_by n p new true true c d e f g ha hc hd he hg = refl
 never_by n p new true false false d e f g ha hc hd he hg = refl
 never_by n p new true false true true true f g ha hc hd he hg = refl
-never_by n p new true false true false true f g ha hc hd he hg = let k : true ≡ false = sym he ∙ later_id n.spawned p.id hd in cc
+never_by n p new true false true false true f g ha hc hd he hg = let k : true ≡ false = sym he ∙ later_id n.mint.pids p.id hd in cc
 never_by n p new true false true false false f g ha hc hd he hg = refl
 never_by n p new true false true true false true g ha hc hd he hg = refl
 never_by n p new true false true true false false false ha hc hd he hg = refl
 never_by n p new true false true true false false true ha hc hd he hg =
-    let nm : p.node ≡ n.name = same_name_true p.node n.name ha in
-    let cr : p.creation ≡ n.creation = is_same _ _ hc in
-    let id : p.id ≡ n.spawned + 1 = next_id n.spawned p.id hd he in
+    let nm : p.node ≡ n.mint.name = same_name_true p.node n.mint.name ha in
+    let cr : p.creation ≡ n.mint.creation = is_same _ _ hc in
+    let id : p.id ≡ n.mint.pids + 1 = next_id n.mint.pids p.id hd he in
     let se : p.serial ≡ 0 = is_same _ _ hg in
     let eq : p ≡ next_pid n = λ i. record { node = nm i; creation = cr i; id = id i; serial = se i } in
     let k : true ≡ false = sym (same_pid_is p (next_pid n) eq) ∙ new in cc
 
-spawned_never : (n : Node) (p : Pid) → same_pid p (next_pid n) ≡ false → never ((spawn_life n (next_pid n)).node) p ≡ never n p
-spawned_never n p new = never_by n p new (same_name p.node n.name) (nat_lt n.creation p.creation) (p.creation == n.creation) (nat_lt n.spawned p.id) (nat_lt (n.spawned + 1) p.id) (p.id == 0) (p.serial == 0) refl refl refl refl refl
+spawned_never : (n : Node) (p : Pid) → same_pid p (next_pid n) ≡ false → never ((spawned_at n (next_pid n)).node) p ≡ never n p
+spawned_never n p new = never_by n p new (same_name p.node n.mint.name) (nat_lt n.mint.creation p.creation) (p.creation == n.mint.creation) (nat_lt n.mint.pids p.id) (nat_lt (n.mint.pids + 1) p.id) (p.id == 0) (p.serial == 0) refl refl refl refl refl
 
 not_less : (x : ℕ) → nat_lt x x ≡ false
 not_less x = grind arith
@@ -132,13 +169,13 @@ not_less x = grind arith
 not_zero : (x : ℕ) → (x + 1 == 0) ≡ false
 not_zero x = grind arith
 
-next_never : (n : Node) → never ((spawn_life n (next_pid n)).node) (next_pid n) ≡ false
+next_never : (n : Node) → never ((spawned_at n (next_pid n)).node) (next_pid n) ≡ false
 next_never n =
-    let a = same_name_refl n.name in
-    let b = not_less n.creation in
-    let d = not_less (n.spawned + 1) in
-    let f = not_zero n.spawned in
-    go (same_name n.name n.name) a (nat_lt n.creation n.creation) b (n.creation == n.creation) (nat_lt (n.spawned + 1) (n.spawned + 1)) d (n.spawned + 1 == 0) f
+    let a = same_name_refl n.mint.name in
+    let b = not_less n.mint.creation in
+    let d = not_less (n.mint.pids + 1) in
+    let f = not_zero n.mint.pids in
+    go (same_name n.mint.name n.mint.name) a (nat_lt n.mint.creation n.mint.creation) b (n.mint.creation == n.mint.creation) (nat_lt (n.mint.pids + 1) (n.mint.pids + 1)) d (n.mint.pids + 1 == 0) f
   where
     go : (a : Bool) → a ≡ true → (b : Bool) → b ≡ false → (c : Bool) → (d : Bool) → d ≡ false → (f : Bool) → f ≡ false → (((not a || b) || (c && d)) || f || false) ≡ false
     go true ha true hb c d hd f hf = cc
@@ -151,7 +188,7 @@ next_never n =
 
 next_was_never : (n : Node) → never n (next_pid n) ≡ true
 next_was_never n =
-    go (same_name n.name n.name) (same_name_refl n.name) (nat_lt n.creation n.creation) (n.creation == n.creation) (same_nat n.creation) (nat_lt n.spawned (n.spawned + 1)) (less_next n.spawned) (n.spawned + 1 == 0)
+    go (same_name n.mint.name n.mint.name) (same_name_refl n.mint.name) (nat_lt n.mint.creation n.mint.creation) (n.mint.creation == n.mint.creation) (same_nat n.mint.creation) (nat_lt n.mint.pids (n.mint.pids + 1)) (less_next n.mint.pids) (n.mint.pids + 1 == 0)
   where
     same_nat : (x : ℕ) → (x == x) ≡ true
     same_nat x = grind arith
@@ -171,7 +208,7 @@ pub by_test : (P : Type 0) (b : Bool) → (b ≡ true → P) → (b ≡ false �
 by_test P true f g = f refl
 by_test P false f g = g refl
 
-spawned_living : (n : Node) (p : Pid) → living ((spawn_life n (next_pid n)).node) p ≡ is_living_life (cond (same_pid p (next_pid n)) (Some (Living false [])) (fm.get n.lives p))
+spawned_living : (n : Node) (p : Pid) → living ((spawned_at n (next_pid n)).node) p ≡ is_living_life (cond (same_pid p (next_pid n)) (Some (Living false [])) (fm.get n.lives p))
 spawned_living n p = ap is_living_life (fm.get-insert pid_total n.lives (next_pid n) (Living false []) p)
 
 born_cond_true : (b : Bool) (l : Option Life) → b ≡ true → is_living_life (cond b (Some (Living false [])) l) ≡ true
@@ -187,34 +224,34 @@ and_not_true true b h = ap not h
 and_not_true false b h = refl
 
 -- who is spawned was never there, and is not over
-spawned_over : (n : Node) (p : Pid) → over ((spawn_life n (next_pid n)).node) p ≡ over n p
+spawned_over : (n : Node) (p : Pid) → over ((spawned_at n (next_pid n)).node) p ≡ over n p
 spawned_over n p = by_test _ (same_pid p (next_pid n))
     (λ h.
     let e : p ≡ next_pid n = same_pid_true p (next_pid n) h in
-    let a : over ((spawn_life n (next_pid n)).node) p ≡ false = ap (λ v. not v && not (never ((spawn_life n (next_pid n)).node) p)) (spawned_living n p ∙ born_cond_true (same_pid p (next_pid n)) (fm.get n.lives p) h) in
+    let a : over ((spawned_at n (next_pid n)).node) p ≡ false = ap (λ v. not v && not (never ((spawned_at n (next_pid n)).node) p)) (spawned_living n p ∙ born_cond_true (same_pid p (next_pid n)) (fm.get n.lives p) h) in
     let c : over n p ≡ false = and_not_true (not (living n p)) (never n p) (ap (never n) e ∙ next_was_never n) in
     a ∙ sym c)
-    (λ h. ap (λ v. not v && not (never ((spawn_life n (next_pid n)).node) p)) (spawned_living n p ∙ born_cond_false (same_pid p (next_pid n)) (fm.get n.lives p) h)
+    (λ h. ap (λ v. not v && not (never ((spawned_at n (next_pid n)).node) p)) (spawned_living n p ∙ born_cond_false (same_pid p (next_pid n)) (fm.get n.lives p) h)
     ∙ ap (λ v. not (living n p) && not v) (spawned_never n p h))
 
-spawned_stays_living : (n : Node) (p : Pid) → living n p ≡ true → living ((spawn_life n (next_pid n)).node) p ≡ true
+spawned_stays_living : (n : Node) (p : Pid) → living n p ≡ true → living ((spawned_at n (next_pid n)).node) p ≡ true
 spawned_stays_living n p l = by_test _ (same_pid p (next_pid n)) (λ h. spawned_living n p ∙ born_cond_true (same_pid p (next_pid n)) (fm.get n.lives p) h)
     (λ h. spawned_living n p ∙ born_cond_false (same_pid p (next_pid n)) (fm.get n.lives p) h ∙ l)
 
-spawned_stays_born : (n : Node) (p : Pid) → never n p ≡ false → never ((spawn_life n (next_pid n)).node) p ≡ false
-spawned_stays_born n p h = by_test _ (same_pid p (next_pid n)) (λ e. ap (never ((spawn_life n (next_pid n)).node)) (same_pid_true p (next_pid n) e) ∙ next_never n) (λ e. spawned_never n p e ∙ h)
+spawned_stays_born : (n : Node) (p : Pid) → never n p ≡ false → never ((spawned_at n (next_pid n)).node) p ≡ false
+spawned_stays_born n p h = by_test _ (same_pid p (next_pid n)) (λ e. ap (never ((spawned_at n (next_pid n)).node)) (same_pid_true p (next_pid n) e) ∙ next_never n) (λ e. spawned_never n p e ∙ h)
 
 home_along : (f g : Pid → Bool) (xs : List Item) → ((p : Pid) → f p ≡ false → g p ≡ false) → Homely f xs → Homely g xs
 home_along f g [] h k = tt
 home_along f g (x ∷ xs) h k = (λ a b n. let v = k.0 a b n in (h a v.0, h b v.1, v.2), home_along f g xs h k.1)
 
-pub spawns : (n : Node) → Moves (at_work n) (spawn_life n (next_pid n))
+pub spawns : (n : Node) → Moves (at_work n) (spawned_at n (next_pid n))
 spawns n = record {
   sides = refl;
   dialed = refl;
   name = refl;
   keeps = λ k. record {
-    born = λ p l. by_test _ (same_pid p (next_pid n)) (λ h. ap (never ((spawn_life n (next_pid n)).node)) (same_pid_true p (next_pid n) h) ∙ next_never n)
+    born = λ p l. by_test _ (same_pid p (next_pid n)) (λ h. ap (never ((spawned_at n (next_pid n)).node)) (same_pid_true p (next_pid n) h) ∙ next_never n)
         (λ h. spawned_never n p h ∙ k.born p (sym (spawned_living n p ∙ born_cond_false (same_pid p (next_pid n)) (fm.get n.lives p) h) ∙ l));
     rooted = λ p q e. let r = k.rooted p q e in (spawned_stays_living n p r.0, r.1, λ i. let d = r.2 i in (spawned_stays_born n q d.0, d.1));
   };
@@ -222,8 +259,8 @@ spawns n = record {
   draws = omega arith;
   routed = λ a. a;
   nevers = λ p h. spawned_stays_born n p h;
-  home = λ k h. home_along (λ p. never n p) (λ p. never ((spawn_life n (next_pid n)).node) p) n.local (λ p e. spawned_stays_born n p e) h;
-  views = λ k b p q c r t. subst (λ a. Kept a c) (sym (side_path (view b (spawn_life n (next_pid n)) p q) (view b (at_work n) p q) refl (spawned_over n p) refl refl)) t;
+  home = λ k h. home_along (λ p. never n p) (λ p. never ((spawned_at n (next_pid n)).node) p) n.local (λ p e. spawned_stays_born n p e) h;
+  views = λ k b p q c r t. subst (λ a. Kept a c) (sym (side_path (view b (spawned_at n (next_pid n)) p q) (view b (at_work n) p q) refl (spawned_over n p) refl refl)) t;
 }
 
 living_trapping : (l : Option Life) (b : Bool) → is_living_life (trapping l b) ≡ is_living_life l
@@ -246,7 +283,9 @@ demonitors (Some v) p k o = if_cond (same_pid v.0 p) _ Refusal.NotTheOwner (Move
 
 unlinks_by : (e : End) (p q : Pid) (o : Work) → end_of o.node p q ≡ e → living o.node p ≡ true → IfGoes (unlink_by e p q o) (Moves o)
 unlinks_by End.None p q o h l = stays o
-unlinks_by End.Active p q o h l = if_cond (nat_lt (o.node.unlinks + 1) (2 ^ 64)) _ Refusal.IdsUsedUp (Moves o) (λ c. unlinks_as p q o (o.node.unlinks + 1) l h (omega arith))
+unlinks_by End.Active p q o h l = if_drawn (id_of o.node.mint kind.UnlinkId) _ (Moves o) (λ id e.
+    let d = unlink_drawn o.node.mint id e in
+    subst (λ m. Moves o (post (Signal.UnlinkId id p q) (set_end p q (End.Pending id) (record o { node = record (o.node) { mint = m } })))) (sym d.0) (unlinks_as p q o id l h d.1))
 unlinks_by (End.Pending i) p q o h l = stays o
 
 forged_not : (a b : Bool) → (a && b) ≡ false → a ≡ true → b ≡ false
@@ -257,21 +296,24 @@ if_not_known : (b : Bool) (k : Outcome) (j : Refusal) (P : Work → Type 0) → 
 if_not_known true k j P h = tt
 if_not_known false k j P h = h refl
 
-acts_known : (n : Node) (p q : Pid) (k : Outcome) → (living n p ≡ true → (same_name q.node n.name ≡ true → never n q ≡ false) → IfGoes k (Moves (at_work n))) → IfGoes (acting n p (toward n q k)) (Moves (at_work n))
-acts_known n p q k h = if_cond (living n p) (toward n q k) Refusal.NoSuchProcess (Moves (at_work n)) (λ l. if_not_known (same_name q.node n.name && never n q) k Refusal.Forged (Moves (at_work n)) (λ v. h l (forged_not (same_name q.node n.name) (never n q) v)))
+acts_known : (n : Node) (p q : Pid) (k : Outcome) → (living n p ≡ true → (same_name q.node n.mint.name ≡ true → never n q ≡ false) → IfGoes k (Moves (at_work n))) → IfGoes (acting n p (toward n q k)) (Moves (at_work n))
+acts_known n p q k h = if_cond (living n p) (toward n q k) Refusal.NoSuchProcess (Moves (at_work n)) (λ l. if_not_known (same_name q.node n.mint.name && never n q) k Refusal.Forged (Moves (at_work n)) (λ v. h l (forged_not (same_name q.node n.mint.name) (never n q) v)))
 
 acts : (n : Node) (p q : Pid) (k : Outcome) → (living n p ≡ true → IfGoes k (Moves (at_work n))) → IfGoes (acting n p (toward n q k)) (Moves (at_work n))
-acts n p q k h = if_cond (living n p) (toward n q k) Refusal.NoSuchProcess (Moves (at_work n)) (λ l. if_not (same_name q.node n.name && never n q) k Refusal.Forged (Moves (at_work n)) (h l))
+acts n p q k h = if_cond (living n p) (toward n q k) Refusal.NoSuchProcess (Moves (at_work n)) (λ l. if_not (same_name q.node n.mint.name && never n q) k Refusal.Forged (Moves (at_work n)) (h l))
 
 -- whatever a call does, no pair is hurt
 pub calls : (n : Node) (c : Command) → IfGoes (call n c) (Moves (at_work n))
-calls n Spawn = if_cond (nat_lt (n.spawned + 1) (2 ^ 32)) _ Refusal.IdsUsedUp (Moves (at_work n)) (λ h. spawns n)
+calls n Spawn = if_drawn (id_of n.mint kind.Pid) _ (Moves (at_work n)) (λ id h.
+    let d = pid_drawn n.mint id h in
+    subst (λ j. Moves (at_work n) (spawn_life n (pid_of n.mint j))) (sym d.1)
+    (subst (λ m. Moves (at_work n) (at_work (record n { mint = m; lives = fm.insert n.lives (next_pid n) (Living false []) }))) (sym d.0) (spawns n)))
 calls n (Send p q t) = acts n p q _ (λ l. if_cond (fits t) _ Refusal.TooLong (Moves (at_work n)) (λ f. posts_other q.node (Signalled (Signal.Send q t)) (at_work n) (λ a b. refl)))
 calls n (MakeLink p q) = acts_known n p q _ (λ l v. links p q (at_work n) v l)
 calls n (EndLink p q) = acts n p q _ (λ l. unlinks_by (end_of n p q) p q (at_work n) refl l)
-calls n (MakeMonitor p q) = acts n p q _ (λ l. if_cond (nat_lt (n.references + 1) (2 ^ 18)) _ Refusal.IdsUsedUp (Moves (at_work n)) (λ h.
-    let o = draw_reference (at_work n) in
-    let k = new_reference n in
+calls n (MakeMonitor p q) = acts n p q _ (λ l. if_drawn (id_of n.mint kind.Reference) _ (Moves (at_work n)) (λ count h.
+    let o = draw kind.Reference (at_work n) in
+    let k = reference_of n.mint count in
     then (at_work n) o (monitor k p q o) (draws_reference (at_work n)) (moves_cond (reaches o.node q.node) o _ _
     (λ r. then o (watch k (p, q) o) _ (watches_one k (p, q) o) (posts_other q.node (Signalled (Signal.Monitor p q k)) (watch k (p, q) o) (λ a b. refl)))
     (λ r. puts p (down_term k q noconnection) o))))

@@ -92,8 +92,8 @@ freed n t v k h e = by_test _ (held (with_side_at n t (as_state v Gone)) v.peer)
     pick b u hb d (inl i) = d (sym i)
     pick b u hb d (inr i) = not_beside v.state b.state (ap asks e) ((hold_kind b.state hb).2) i
 
-    go : (same_name v.peer n.name ≡ true) ⊎ Holder (with_side_at n t (as_state v Gone)) v.peer → ⊥
-    go (inl i) = k.other t v h (same_name_true v.peer n.name i)
+    go : (same_name v.peer n.mint.name ≡ true) ⊎ Holder (with_side_at n t (as_state v Gone)) v.peer → ⊥
+    go (inl i) = k.other t v h (same_name_true v.peer n.mint.name i)
     go (inr m) =
         let a = at m.trunk m.side m.at m.holding in
         pick m.side m.trunk m.holding a.0 (k.one t m.trunk v m.side h a.1 (sym m.peer) (ap is_gone e) ((hold_kind m.side.state m.holding).3))
@@ -105,7 +105,7 @@ good_written w x n t v m hx h na nr ch g = good_pushed w t v.peer m g known
     (λ d a s hd hs ha. (λ j. let c : true ≡ false = sym j ∙ na in cc, λ j. let c : true ≡ false = sym j ∙ nr in cc, λ j. challenged d a s hd hs ha (ch j), λ j. let c : true ≡ false = sym j ∙ nr in cc))
     (λ j z l. absurd (neither j))
   where
-    nx : n.name ≡ x
+    nx : n.mint.name ≡ x
     nx = node_of_name w.nodes x n hx
 
     neither : (is_accept (Handshake m) ≡ true) ⊎ (is_reply (Handshake m) ≡ true) → ⊥
@@ -115,14 +115,14 @@ good_written w x n t v m hx h na nr ch g = good_pushed w t v.peer m g known
     challenged : (d a : Node) (s : TrunkSide) → node_of w.nodes t.dialer ≡ Some d → side_at d t ≡ Some s → node_of w.nodes s.peer ≡ Some a → (k : ℕ) × (v.state ≡ Accepting k) → begun (side_at a t) ≡ true
     challenged d a s hd hs ha k =
         let nd : t.dialer ≡ x → ⊥ = λ i.
-        let c : false ≡ true = sym (ap (λ b. role_state b v.state) (same_name_is t.dialer n.name (i ∙ sym nx)) ∙ ap (role_state true) k.1) ∙ (g.home x n hx).roles t v h in cc in
+        let c : false ≡ true = sym (ap (λ b. role_state b v.state) (same_name_is t.dialer n.mint.name (i ∙ sym nx)) ∙ ap (role_state true) k.1) ∙ (g.home x n hx).roles t v h in cc in
         let u = g.core.met x n t v hx h nd in
         let dn : u.dialer ≡ d = some_same u.dialer d (sym u.at ∙ hd) in
         let us : u.side ≡ s = some_same u.side s (sym u.there ∙ ap (λ z. side_at z t) dn ∙ hs) in
         let an : n ≡ a = some_same n a (sym hx ∙ ap (node_of w.nodes) (sym u.peer ∙ ap (λ (z : TrunkSide). z.peer) us) ∙ ha) in
         ap begun (ap (λ z. side_at z t) (sym an) ∙ h) ∙ ap begun_state k.1
 
-    dialer_is : (t.dialer ≡ n.name) ⊎ (t.dialer ≡ v.peer) → (t.dialer ≡ x → ⊥) → t.dialer ≡ v.peer
+    dialer_is : (t.dialer ≡ n.mint.name) ⊎ (t.dialer ≡ v.peer) → (t.dialer ≡ x → ⊥) → t.dialer ≡ v.peer
     dialer_is (inl j) k = absurd (k (j ∙ nx))
     dialer_is (inr j) k = j
 
@@ -142,7 +142,7 @@ abbrev pub placed : World → Name → Work → World
 placed w x o = record { names = w.names; nodes = set_node w.nodes x o.node; lists = carried w.lists o.sent }
 
 -- with a side in a new state
-pub placed_state : (w : World) (x : Name) (o : Work) (t : TrunkId) (s : TrunkSide) → o.node.name ≡ x → Good (in_state (placed w x o) x o.node t s) → Good (placed w x (with_side t s o))
+pub placed_state : (w : World) (x : Name) (o : Work) (t : TrunkId) (s : TrunkSide) → o.node.mint.name ≡ x → Good (in_state (placed w x o) x o.node t s) → Good (placed w x (with_side t s o))
 placed_state w x o t s e g = subst (λ ns. Good (record { names = w.names; nodes = ns; lists = carried w.lists o.sent })) (set_twice w.nodes x o.node (with_side_at o.node t s) e) g
 
 pub placed_write : (w : World) (x : Name) (o : Work) (t : TrunkId) (y : Name) (m : HandshakeMessage) → Good (record { names = w.names; nodes = set_node w.nodes x o.node; lists = fm.insert (carried w.lists o.sent) (t, y) (list_to (carried w.lists o.sent) t y ++ Handshake m ∷ []) }) → Good (placed w x (write t y m o))
@@ -151,14 +151,14 @@ placed_write w x o t y m g = subst (λ l. Good (record { names = w.names; nodes 
 -- a sweep
 module _ (w : World) (x : Name) (n : Node) (hx : node_of w.nodes x ≡ Some n) where
   -- the node in the midst of the event, after which the side t is to be closed
-  closes : (o : Work) (t : TrunkId) (v : TrunkSide) → o.node.name ≡ x → side_at o.node t ≡ Some v → v.state ≡ Losing → has_records v.peer o.node ≡ false → Good (placed w x o) → Good (placed w x (close t v o))
+  closes : (o : Work) (t : TrunkId) (v : TrunkSide) → o.node.mint.name ≡ x → side_at o.node t ≡ Some v → v.state ≡ Losing → has_records v.peer o.node ≡ false → Good (placed w x o) → Good (placed w x (close t v o))
   closes o t v e h los clean g =
       let hw : node_of (placed w x o).nodes x ≡ Some o.node = node_of_set_same w.nodes x n o.node hx e in
       let o1 = set_state t v Gone o in
       let g1 : Good (placed w x o1) = placed_state w x o t (as_state v Gone) e (good_closed (placed w x o) x o.node t v hw h clean g) in
       unparks o1 e (freed o.node t v (g.core.sides x o.node hw) h los) g1 (side_where is_parked v.peer (fm.entries o1.node.sides)) refl
     where
-      go_by : (o1 : Work) → o1.node.name ≡ x → (u : TrunkId) (b : TrunkSide) → side_at o1.node u ≡ Some b → held o1.node b.peer ≡ false → Good (placed w x o1) → (a : State) → b.state ≡ a → is_parked a ≡ true → Good (placed w x (parked_goes (Some (u, b)) o1))
+      go_by : (o1 : Work) → o1.node.mint.name ≡ x → (u : TrunkId) (b : TrunkSide) → side_at o1.node u ≡ Some b → held o1.node b.peer ≡ false → Good (placed w x o1) → (a : State) → b.state ≡ a → is_parked a ≡ true → Good (placed w x (parked_goes (Some (u, b)) o1))
       go_by o1 e u b hb nh g a ea pa =
           let k = parked_is b.state (ap is_parked ea ∙ pa) in
           let hw : node_of (placed w x o1).nodes x ≡ Some o1.node = node_of_set_same w.nodes x n o1.node hx e in
@@ -169,13 +169,13 @@ module _ (w : World) (x : Name) (n : Node) (hx : node_of w.nodes x ≡ Some n) w
           let g3 : Good (placed w x (write u b.peer (challenge o1.node k.0) o2)) = placed_write w x o2 u b.peer (challenge o1.node k.0) (good_written (placed w x o2) x o2.node u s (challenge o1.node k.0) hw2 (side_after_same o1.node u s) refl refl (λ j. (k.0, refl)) g2) in
           subst (λ z. Good (placed w x (parked_by z u b o1))) (sym k.1) g3
 
-      unparks : (o1 : Work) → o1.node.name ≡ x → held o1.node v.peer ≡ false → Good (placed w x o1) → (d : Option (TrunkId × TrunkSide)) → side_where is_parked v.peer (fm.entries o1.node.sides) ≡ d → Good (placed w x (parked_goes d o1))
+      unparks : (o1 : Work) → o1.node.mint.name ≡ x → held o1.node v.peer ≡ false → Good (placed w x o1) → (d : Option (TrunkId × TrunkSide)) → side_where is_parked v.peer (fm.entries o1.node.sides) ≡ d → Good (placed w x (parked_goes d o1))
       unparks o1 e nh g None i = g
       unparks o1 e nh g (Some d) i =
           let f = side_where_found is_parked v.peer (fm.entries o1.node.sides) d (fm.entries_sorted o1.node.sides) i in
           go_by o1 e d.0 d.1 (fm.get-entries o1.node.sides d.0 ∙ f.there) (ap (held o1.node) f.peer ∙ nh) g d.1.state refl f.passes
 
-  swept_by : (o : Work) (t : TrunkId) (v : TrunkSide) → o.node.name ≡ x → side_at o.node t ≡ Some v → v.state ≡ Losing → Good (placed w x o) → Good (placed w x (swept t v o))
+  swept_by : (o : Work) (t : TrunkId) (v : TrunkSide) → o.node.mint.name ≡ x → side_at o.node t ≡ Some v → v.state ≡ Losing → Good (placed w x o) → Good (placed w x (swept t v o))
   swept_by o t v e h los g = go (has_records v.peer o.node) refl
     where
       go : (b : Bool) → has_records v.peer o.node ≡ b → Good (placed w x (close_if b t v o))
@@ -206,7 +206,7 @@ find_gone t (e ∷ es) = elim (eq_by_cmp trunk_cmp t e.0) as (λ b. cond b (Some
 
 -- without processes and records, and with all sides gone
 abbrev cleared : Node → (c : ℕ) → Bool → (s r u : ℕ) → List Item → Node
-cleared n c b s r u l = record n { creation = c; up = b; spawned = s; references = r; unlinks = u; lives = fm.empty; ends = fm.empty; watches = fm.empty; registered = fm.empty; sides = fm.from_entries (all_gone (fm.entries n.sides)); local = l }
+cleared n c b s r u l = record n { mint = record { name = n.mint.name; creation = c; pids = s; references = r; unlink_ids = u }; up = b; lives = fm.empty; ends = fm.empty; watches = fm.empty; registered = fm.empty; sides = fm.from_entries (all_gone (fm.entries n.sides)); local = l }
 
 gone_sides : (n : Node) (t : TrunkId) → fm.get {R = trunk_cmp} (fm.from_entries (all_gone (fm.entries n.sides))) t ≡ gone_side (side_at n t)
 gone_sides n t = fm.get-from_entries trunk_total (all_gone (fm.entries n.sides)) t ∙ find_gone t (fm.entries n.sides) ∙ ap gone_side (sym (fm.get-entries n.sides t))
@@ -225,7 +225,7 @@ was_side n t s h = go (side_at n t) refl (sym (gone_sides n t) ∙ h)
 
 module _ (w : World) (x : Name) (n : Node) (hx : node_of w.nodes x ≡ Some n) (c : ℕ) (b : Bool) (sp rf ul : ℕ) (lc : List Item) (g : Good w)
     (lo : home_of (cleared n c b sp rf ul lc)) (pr : HomePairs (cleared n c b sp rf ul lc)) where
-  nz : n.name ≡ x
+  nz : n.mint.name ≡ x
   nz = node_of_name w.nodes x n hx
 
   abbrev nc : Node
@@ -259,7 +259,7 @@ module _ (w : World) (x : Name) (n : Node) (hx : node_of w.nodes x ≡ Some n) (
     mine = λ t s hs. let k = was_side n t s hs in again t s k ((g.core.sides x n hx).mine t k.old k.was);
   }
     where
-      again : (t : TrunkId) (s : TrunkSide) (k : Cleared n t s) → (t.dialer ≡ n.name) ⊎ (t.dialer ≡ k.old.peer) → (t.dialer ≡ n.name) ⊎ (t.dialer ≡ s.peer)
+      again : (t : TrunkId) (s : TrunkSide) (k : Cleared n t s) → (t.dialer ≡ n.mint.name) ⊎ (t.dialer ≡ k.old.peer) → (t.dialer ≡ n.mint.name) ⊎ (t.dialer ≡ s.peer)
       again t s k (inl e) = inl e
       again t s k (inr e) = inr (e ∙ ap (λ (y : TrunkSide). y.peer) (sym k.now))
 
@@ -304,7 +304,7 @@ module _ (w : World) (x : Name) (n : Node) (hx : node_of w.nodes x ≡ Some n) (
         (λ e. subst (λ v. HomeKept v) (is_nc y a e h) (record {
           local = lo;
           pairs = pr;
-          roles = λ t s f. let k = was_side n t s f in ap (λ (z : TrunkSide). role_state (same_name t.dialer n.name) z.state) k.now ∙ role_gone (same_name t.dialer n.name);
+          roles = λ t s f. let k = was_side n t s f in ap (λ (z : TrunkSide). role_state (same_name t.dialer n.mint.name) z.state) k.now ∙ role_gone (same_name t.dialer n.mint.name);
           counts = λ t s f i. let k = was_side n t s f in (g.home x n hx).counts t k.old k.was i;
         }))
         (λ d. g.home y a (sym (there3 y d) ∙ h));
@@ -387,13 +387,13 @@ module _ (w : World) (x : Name) (n : Node) (hx : node_of w.nodes x ≡ Some n) (
       (λ i. by_test _ (never n q)
       (λ j. let v = strange (λ z. never n z) q p n.local j k.local in blank a b (no_end p q) (no_end q p) v.1 v.0)
       (λ j.
-      subst (λ c. Kept c b) (side_path (record { end = End.None; gone = true; drawn = n.unlinks; sent = words p q n.local }) a (sym (no_end p q)) (sym (stopped_over p i)) refl refl)
-      (subst (λ c. Kept (record { end = End.None; gone = true; drawn = n.unlinks; sent = words p q n.local }) c) (side_path (record { end = End.None; gone = true; drawn = n.unlinks; sent = words q p n.local }) b (sym (no_end q p)) (sym (stopped_over q j)) refl refl)
+      subst (λ c. Kept c b) (side_path (record { end = End.None; gone = true; drawn = n.mint.unlink_ids; sent = words p q n.local }) a (sym (no_end p q)) (sym (stopped_over p i)) refl refl)
+      (subst (λ c. Kept (record { end = End.None; gone = true; drawn = n.mint.unlink_ids; sent = words p q n.local }) c) (side_path (record { end = End.None; gone = true; drawn = n.mint.unlink_ids; sent = words q p n.local }) b (sym (no_end q p)) (sym (stopped_over q j)) refl refl)
       (keeps_stop (side_of n p q (words p q n.local)) (side_of n q p (words q p n.local)) (k.pairs p q hp hq d)))))
 
   pub good_stopped : Good (record { names = w.names; nodes = set_node w.nodes x (stopped n); lists = w.lists })
-  good_stopped = good_cleared w x n hx n.creation false n.spawned n.references n.unlinks n.local g ((g.home x n hx).local) stopped_pairs
+  good_stopped = good_cleared w x n hx n.mint.creation false n.mint.pids n.mint.references n.mint.unlink_ids n.local g ((g.home x n hx).local) stopped_pairs
 
   pub good_started : Good (record { names = w.names; nodes = set_node w.nodes x (started n); lists = w.lists })
-  good_started = good_cleared w x n hx (n.creation + 1) true 0 0 0 [] g tt
+  good_started = good_cleared w x n hx (n.mint.creation + 1) true 0 0 0 [] g tt
       (λ p q hp hq d. blank (side_of (started n) p q []) (side_of (started n) q p []) (ap end_in (fm.get-empty pair_cmp (p, q))) (ap end_in (fm.get-empty pair_cmp (q, p))) refl refl)

@@ -203,7 +203,7 @@ finish_view b p r o q reach born =
     side_path (view b (finish p r o) p q) (finished false r (view b o p q))
     (buried_end p r o1 p q ∙ end_cond _ _ (ap not (same_pid_refl p)))
     (ap (λ v. not v && not (never o1.node p)) (buried_living p r o1 p ∙ is_living_cond _ r _ (same_pid_refl p)) ∙ ap not (post_all_keeps (λ n. never n p) (λ n l. refl) (last_posts p r o) o ∙ born))
-    (post_all_keeps (λ n. n.unlinks) (λ n l. refl) (last_posts p r o) o)
+    (post_all_keeps (λ n. n.mint.unlink_ids) (λ n l. refl) (last_posts p r o) o)
     sent
 
 -- the others
@@ -218,5 +218,5 @@ finish_view_other b x r o p q reach other =
     side_path (view b (finish x r o) p q) (view b o p q)
     (buried_end x r o1 p q ∙ end_cond_kept _ _ (ap not other) ∙ post_all_keeps (λ n. end_of n p q) (λ n l. refl) (last_posts x r o) o)
     (ap (λ v. not v && not (never o1.node p)) (buried_living x r o1 p ∙ is_living_kept _ r _ other) ∙ post_all_keeps (λ n. over n p) (λ n l. refl) (last_posts x r o) o)
-    (post_all_keeps (λ n. n.unlinks) (λ n l. refl) (last_posts x r o) o)
+    (post_all_keeps (λ n. n.mint.unlink_ids) (λ n l. refl) (last_posts x r o) o)
     sent

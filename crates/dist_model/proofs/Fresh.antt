@@ -32,12 +32,12 @@ or_no : (p q : Bool) → p ≡ false → q ≡ false → (p || q) ≡ false
 or_no true q a b = cc
 or_no false q a b = b
 
-module _ (w : World) (x : Name) (n : Node) (hx : node_of w.nodes x ≡ Some n) (g : Good w) (t : TrunkId) (c : ℕ) (far : same_name t.dialer n.name ≡ false)
+module _ (w : World) (x : Name) (n : Node) (hx : node_of w.nodes x ≡ Some n) (g : Good w) (t : TrunkId) (c : ℕ) (far : same_name t.dialer n.mint.name ≡ false)
     (key : is_some (fm.get w.lists (t, x)) ≡ true) (none : side_at n t ≡ None) where
   abbrev s : TrunkSide
   s = record { peer = t.dialer; peer_creation = c; state = Gone }
 
-  nx : n.name ≡ x
+  nx : n.mint.name ≡ x
   nx = node_of_name w.nodes x n hx
 
   g0 : Good (placed w x (at_work n))
@@ -47,7 +47,7 @@ module _ (w : World) (x : Name) (n : Node) (hx : node_of w.nodes x ≡ Some n) (
   met_in ns p = go p.4
     where
       go : (t.dialer ≡ x) ⊎ (p.0.peer ≡ x) → Met ns t x
-      go (inl e) = let z : true ≡ false = sym (same_name_is t.dialer n.name (e ∙ sym nx)) ∙ far in cc
+      go (inl e) = let z : true ≡ false = sym (same_name_is t.dialer n.mint.name (e ∙ sym nx)) ∙ far in cc
       go (inr e) = record { dialer = p.1; at = p.2; side = p.0; there = p.3; peer = e }
 
   m0 : Met w.nodes t x
@@ -58,10 +58,10 @@ module _ (w : World) (x : Name) (n : Node) (hx : node_of w.nodes x ≡ Some n) (
 
   -- the item, any
   module _ (k : ℕ) (i : Item) where
-    dialing_by : (m : Node) → m.name ≡ x → side_at m t ≡ None → NoneIs is_waiting t.dialer m → NoneIs holds t.dialer m → Good (placed w x (at_work m)) → (d : Option (TrunkId × TrunkSide)) → side_where is_dialing t.dialer (fm.entries m.sides) ≡ d
+    dialing_by : (m : Node) → m.mint.name ≡ x → side_at m t ≡ None → NoneIs is_waiting t.dialer m → NoneIs holds t.dialer m → Good (placed w x (at_work m)) → (d : Option (TrunkId × TrunkSide)) → side_where is_dialing t.dialer (fm.entries m.sides) ≡ d
         → IfGoes (greet_dialing d t s k i (at_work m)) Pl
     dialing_by m e nm nw nh gm None h = accepted w x n hx t c far m0 (at_work m) k StatusOk e nm refl refl nw (none_is is_dialing t.dialer m h) nh (met_in _ (gm.posted t x key)) gm
-    dialing_by m e nm nw nh gm (Some d) h = go (is_gt (name_cmp t.dialer m.name))
+    dialing_by m e nm nw nh gm (Some d) h = go (is_gt (name_cmp t.dialer m.mint.name))
       where
         f : Found is_dialing t.dialer (fm.entries m.sides) d
         f = side_where_found is_dialing t.dialer (fm.entries m.sides) d (fm.entries_sorted m.sides) h
@@ -87,7 +87,7 @@ module _ (w : World) (x : Name) (n : Node) (hx : node_of w.nodes x ≡ Some n) (
             (met_in _ (g1.posted t x key)) g1
         go false = refused_one w x n hx t c far m0 (at_work m) e nm (met_in _ (gm.posted t x key)) gm
 
-    greets : (m : Node) → m.name ≡ x → side_at m t ≡ None → NoneIs is_waiting t.dialer m → Good (placed w x (at_work m)) → IfGoes (greet t s k i (at_work m)) Pl
+    greets : (m : Node) → m.mint.name ≡ x → side_at m t ≡ None → NoneIs is_waiting t.dialer m → Good (placed w x (at_work m)) → IfGoes (greet t s k i (at_work m)) Pl
     greets m e nm nw gm = go (side_where holds t.dialer (fm.entries m.sides)) refl
       where
         go : (d : Option (TrunkId × TrunkSide)) → side_where holds t.dialer (fm.entries m.sides) ≡ d → IfGoes (greet_up d t s k i (at_work m)) Pl
@@ -138,19 +138,19 @@ module _ (w : World) (x : Name) (n : Node) (hx : node_of w.nodes x ≡ Some n) (
   gz = subst (λ ns. Good (record { names = w.names; nodes = ns; lists = w.lists })) (sym (set_self w.nodes x n hx)) g
 
   -- it waits on
-  parks : (o : Work) → o.node.name ≡ x → side_at o.node t ≡ Some v → Good (placed w x o) → Good (placed w x (set_state t v (Parked k) o))
+  parks : (o : Work) → o.node.mint.name ≡ x → side_at o.node t ≡ Some v → Good (placed w x o) → Good (placed w x (set_state t v (Parked k) o))
   parks o eo ho go =
       let hw = at_x w x n hx o eo in
       let f = fits_state o.node t v (as_state v (Parked k)) (go.core.sides x o.node hw) ho refl (ap is_gone e) (λ b i. subst (λ z. beside z b ≡ true → beside (Parked k) b ≡ true) (sym e) (λ j. j) i) (λ i j. let z : true ≡ false = sym i ∙ ap holds e in cc) in
       placed_state w x o t (as_state v (Parked k)) eo
       (good_state (placed w x o) x o.node t v (as_state v (Parked k)) hw ho refl f go (Rattle.dist_model.proofs.Reside.drops (placed w x o) x o.node t v (as_state v (Parked k)) hw ho refl refl f go.core)
-      (ap (λ b. role_state b (Parked k)) (role_is_acceptor (same_name t.dialer o.node.name) v.state ((go.home x o.node hw).roles t v ho) (ap (role_state true) e))) (
+      (ap (λ b. role_state b (Parked k)) (role_is_acceptor (same_name t.dialer o.node.mint.name) v.state ((go.home x o.node hw).roles t v ho) (ap (role_state true) e))) (
         λ a di r. record { before = λ z. let b = r.before z in (refl, b.1, b.2, b.3); early = λ z. cc; waits = r.waits },
         λ d y yx nd r. record { before = λ z. r.before (ap up_once e); early = λ z. let b = r.early z in (refl, b.1, b.2); waits = λ z. r.waits (ap begun_state e) },
         λ m a ha. cc,
       ))
 
-  on : (o : Work) → o.node.name ≡ x → side_at o.node t ≡ Some v → NoneIs is_up v.peer o.node ⊎ ((d : TrunkId × TrunkSide) × (side_at o.node d.0 ≡ Some d.1) × (d.1.peer ≡ v.peer) × (d.1.state ≡ Losing)) → Good (placed w x o) → Good (placed w x (goes_on t v k o))
+  on : (o : Work) → o.node.mint.name ≡ x → side_at o.node t ≡ Some v → NoneIs is_up v.peer o.node ⊎ ((d : TrunkId × TrunkSide) × (side_at o.node d.0 ≡ Some d.1) × (d.1.peer ≡ v.peer) × (d.1.state ≡ Losing)) → Good (placed w x o) → Good (placed w x (goes_on t v k o))
   on o eo ho up go = by (side_where is_losing v.peer (fm.entries o.node.sides)) refl
     where
       not_holds : (s : State) → is_up s ≡ false → is_losing s ≡ false → holds s ≡ false
@@ -159,8 +159,8 @@ module _ (w : World) (x : Name) (n : Node) (hx : node_of w.nodes x ≡ Some n) (
       free : NoneIs is_up v.peer o.node → NoneIs is_losing v.peer o.node → held o.node v.peer ≡ false
       free nu nl = by_test _ (held o.node v.peer) (λ r. absurd (pick (held_by o.node v.peer r))) (λ r. r)
         where
-          pick : (same_name v.peer o.node.name ≡ true) ⊎ Holder o.node v.peer → ⊥
-          pick (inl i) = (go.core.sides x o.node (at_x w x n hx o eo)).other t v ho (same_name_true v.peer o.node.name i)
+          pick : (same_name v.peer o.node.mint.name ≡ true) ⊎ Holder o.node v.peer → ⊥
+          pick (inl i) = (go.core.sides x o.node (at_x w x n hx o eo)).other t v ho (same_name_true v.peer o.node.mint.name i)
           pick (inr m) = let z : true ≡ false = sym m.holding ∙ not_holds m.side.state (nu m.trunk m.side m.at m.peer) (nl m.trunk m.side m.at m.peer) in cc
 
       no_up : NoneIs is_losing v.peer o.node → (NoneIs is_up v.peer o.node ⊎ ((d : TrunkId × TrunkSide) × (side_at o.node d.0 ≡ Some d.1) × (d.1.peer ≡ v.peer) × (d.1.state ≡ Losing))) → NoneIs is_up v.peer o.node
@@ -178,7 +178,7 @@ module _ (w : World) (x : Name) (n : Node) (hx : node_of w.nodes x ≡ Some n) (
   pub asked_on : Good (placed w x (goes_on t v k (end_up (side_where is_up v.peer (fm.entries n.sides)) (at_work n))))
   asked_on = go (side_where is_up v.peer (fm.entries n.sides)) refl
     where
-      nn : n.name ≡ x
+      nn : n.mint.name ≡ x
       nn = node_of_name w.nodes x n hx
 
       up_is : (s : State) → is_up s ≡ true → s ≡ Up

@@ -24,7 +24,7 @@ use Rattle.erl_names.specs.declared.trunk.TrunkId.{TrunkId}
 
 pub set_self : (ns : List Node) (x : Name) (n : Node) → node_of ns x ≡ Some n → set_node ns x n ≡ ns
 set_self [] x n h = refl
-set_self (m ∷ ns) x n h = elim (same_name m.name x) as (λ b. cond b (Some m) (node_of ns x) ≡ Some n → cond b (n ∷ ns) (m ∷ set_node ns x n) ≡ m ∷ ns) [ true ↦ λ i. ap (λ z. z ∷ ns) (sym (some_same m n i)) | false ↦ λ i. ap (λ l. m ∷ l) (set_self ns x n i) ] h
+set_self (m ∷ ns) x n h = elim (same_name m.mint.name x) as (λ b. cond b (Some m) (node_of ns x) ≡ Some n → cond b (n ∷ ns) (m ∷ set_node ns x n) ≡ m ∷ ns) [ true ↦ λ i. ap (λ z. z ∷ ns) (sym (some_same m n i)) | false ↦ λ i. ap (λ l. m ∷ l) (set_self ns x n i) ] h
 
 -- no side towards y passes the test
 abbrev pub NoneIs : (State → Bool) → Name → Node → Type 0
@@ -90,11 +90,11 @@ gives_up v = is_waiting v || is_dialing v
 
 -- the first of a kind is given up
 module _ (w : World) (x : Name) (n : Node) (hx : node_of w.nodes x ≡ Some n) where
-  pub at_x : (o : Work) → o.node.name ≡ x → node_of (placed w x o).nodes x ≡ Some o.node
+  pub at_x : (o : Work) → o.node.mint.name ≡ x → node_of (placed w x o).nodes x ≡ Some o.node
   at_x o e = node_of_set_same w.nodes x n o.node hx e
 
   -- a side that doesn't hold is given up
-  pub given : (o : Work) (d : TrunkId × TrunkSide) → o.node.name ≡ x → side_at o.node d.0 ≡ Some d.1 → holds d.1.state ≡ false → Good (placed w x o) → Good (placed w x (give_up (Some d) o))
+  pub given : (o : Work) (d : TrunkId × TrunkSide) → o.node.mint.name ≡ x → side_at o.node d.0 ≡ Some d.1 → holds d.1.state ≡ false → Good (placed w x o) → Good (placed w x (give_up (Some d) o))
   given o d e h nh g = placed_state w x o d.0 (as_state d.1 Gone) e
       (subst (λ z. Good (in_state (placed w x o) x o.node d.0 (as_state d.1 z))) (lost_is d.1.state nh) (good_lost (placed w x o) x o.node d.0 d.1 (at_x o e) h g))
     where
@@ -139,34 +139,34 @@ module _ (w : World) (x : Name) (n : Node) (hx : node_of w.nodes x ≡ Some n) w
       pick (inl i) = ap test i ∙ tg
       pick (inr i) = by_test _ (test b.state) (λ t. absurd (crowd (sk.one d.0 u d.1 b hd i.1 (yd ∙ sym e) (kind d.1.state td).1 (kind b.state t).1) i.0 t)) (λ t. t)
 
-  module _ (t : TrunkId) (c : ℕ) (far : same_name t.dialer n.name ≡ false) (dialer : Met w.nodes t x) where
+  module _ (t : TrunkId) (c : ℕ) (far : same_name t.dialer n.mint.name ≡ false) (dialer : Met w.nodes t x) where
     abbrev s : TrunkSide
     s = record { peer = t.dialer; peer_creation = c; state = Gone }
 
     -- a fresh side in its first state
-    pub first_state : (o : Work) (v : State) → o.node.name ≡ x → side_at o.node t ≡ None → joined v ≡ false → role_state false v ≡ true → (up_once v ≡ false) ⊎ (is_gone v ≡ true) → holds v ≡ false
+    pub first_state : (o : Work) (v : State) → o.node.mint.name ≡ x → side_at o.node t ≡ None → joined v ≡ false → role_state false v ≡ true → (up_once v ≡ false) ⊎ (is_gone v ≡ true) → holds v ≡ false
         → ((u : TrunkId) (b : TrunkSide) → side_at o.node u ≡ Some b → b.peer ≡ t.dialer → is_gone v ≡ false → is_gone b.state ≡ false → beside v b.state ≡ true)
         → Met (placed w x o).nodes t x → Good (placed w x o) → Good (placed w x (set_state t s v o))
     first_state o v e none j role kind hold room met g =
-        let apart : same_name t.dialer o.node.name ≡ false = ap (same_name t.dialer) (e ∙ sym (node_of_name w.nodes x n hx)) ∙ far in
+        let apart : same_name t.dialer o.node.mint.name ≡ false = ap (same_name t.dialer) (e ∙ sym (node_of_name w.nodes x n hx)) ∙ far in
         placed_state w x o t (as_state s v) e
         (good_new (placed w x o) x o.node t (as_state s v) (at_x o e) none
         (record {
-          stranger = λ i. let k : true ≡ false = sym (same_name_is t.dialer o.node.name i) ∙ apart in cc;
+          stranger = λ i. let k : true ≡ false = sym (same_name_is t.dialer o.node.mint.name i) ∙ apart in cc;
           role = inr refl;
           peer_stays = λ u hu. let k : false ≡ true = sym (ap is_some none) ∙ ap is_some hu in cc;
           room = λ u b hb eb d gs gb. room u b hb eb gs gb;
           empty = λ u hu hh nh p q i. let k : false ≡ true = sym (ap is_some none) ∙ ap is_some hu in cc;
         })
         (λ d. met) j (ap (λ b. role_state b v) apart ∙ role)
-        (λ i. let k : true ≡ false = sym (same_name_is t.dialer o.node.name i) ∙ apart in absurd (let z : true ≡ false = k in cc))
+        (λ i. let k : true ≡ false = sym (same_name_is t.dialer o.node.mint.name i) ∙ apart in absurd (let z : true ≡ false = k in cc))
         (λ i. hold) kind hold g)
 
     -- and an answer to the dialer
-    pub answer : (o : Work) (v : State) (m : HandshakeMessage) → o.node.name ≡ x → side_at o.node t ≡ Some (as_state s v) → is_accept (Handshake m) ≡ false → is_reply (Handshake m) ≡ false → (is_challenge (Handshake m) ≡ true → (k : ℕ) × (v ≡ Accepting k)) → Good (placed w x o) → Good (placed w x (write t t.dialer m o))
+    pub answer : (o : Work) (v : State) (m : HandshakeMessage) → o.node.mint.name ≡ x → side_at o.node t ≡ Some (as_state s v) → is_accept (Handshake m) ≡ false → is_reply (Handshake m) ≡ false → (is_challenge (Handshake m) ≡ true → (k : ℕ) × (v ≡ Accepting k)) → Good (placed w x o) → Good (placed w x (write t t.dialer m o))
     answer o v m e h na nr ch g = placed_write w x o t t.dialer m (good_written (placed w x o) x o.node t (as_state s v) m (at_x o e) h na nr ch g)
 
-    pub accepted : (o : Work) (k : ℕ) (m : HandshakeMessage) → o.node.name ≡ x → side_at o.node t ≡ None → is_accept (Handshake m) ≡ false → is_reply (Handshake m) ≡ false
+    pub accepted : (o : Work) (k : ℕ) (m : HandshakeMessage) → o.node.mint.name ≡ x → side_at o.node t ≡ None → is_accept (Handshake m) ≡ false → is_reply (Handshake m) ≡ false
         → NoneIs is_waiting t.dialer o.node → NoneIs is_dialing t.dialer o.node → NoneIs holds t.dialer o.node → Met (placed w x o).nodes t x → Good (placed w x o)
         → Good (placed w x (write t t.dialer (challenge o.node k) (write t t.dialer m (set_state t s (Accepting k) o))))
     accepted o k m e none na nr nw nd nh met g =
@@ -176,12 +176,12 @@ module _ (w : World) (x : Name) (n : Node) (hx : node_of w.nodes x ≡ Some n) w
         let h1 : side_at o1.node t ≡ Some (as_state s (Accepting k)) = side_after_same o.node t (as_state s (Accepting k)) in
         answer (write t t.dialer m o1) (Accepting k) (challenge o.node k) e h1 refl refl (λ j. (k, refl)) (answer o1 (Accepting k) m e h1 na nr (λ j. (k, refl)) g1)
 
-    pub refused_one : (o : Work) → o.node.name ≡ x → side_at o.node t ≡ None → Met (placed w x o).nodes t x → Good (placed w x o) → Good (placed w x (write t t.dialer StatusNok (set_state t s Gone o)))
+    pub refused_one : (o : Work) → o.node.mint.name ≡ x → side_at o.node t ≡ None → Met (placed w x o).nodes t x → Good (placed w x o) → Good (placed w x (write t t.dialer StatusNok (set_state t s Gone o)))
     refused_one o e none met g =
         let g1 = first_state o Gone e none refl refl (inr refl) refl (λ u b hb eb gs gb. let z : true ≡ false = gs in cc) met g in
         answer (set_state t s Gone o) Gone StatusNok e (side_after_same o.node t (as_state s Gone)) refl refl (λ j. absurd (let z : false ≡ true = j in cc)) g1
 
-    pub told_alive : (o : Work) (k : ℕ) (d : TrunkId × TrunkSide) → o.node.name ≡ x → side_at o.node t ≡ None → side_at o.node d.0 ≡ Some d.1 → d.1.peer ≡ t.dialer → holds d.1.state ≡ true
+    pub told_alive : (o : Work) (k : ℕ) (d : TrunkId × TrunkSide) → o.node.mint.name ≡ x → side_at o.node t ≡ None → side_at o.node d.0 ≡ Some d.1 → d.1.peer ≡ t.dialer → holds d.1.state ≡ true
         → NoneIs is_waiting t.dialer o.node → Met (placed w x o).nodes t x → Good (placed w x o) → Good (placed w x (write t t.dialer StatusAlive (set_state t s (Asked k) o)))
     told_alive o k d e none hd yd td nw met g =
         let sk = g.core.sides x o.node (at_x o e) in

@@ -36,7 +36,7 @@ fits_state n t v s k h e ng mono hold = record {
   empty = λ u hu hh nh p q i. absurd (hold (ap (λ (z : TrunkSide). holds z.state) (some_same v u (sym h ∙ hu)) ∙ hh) nh);
 }
   where
-    role : (t.dialer ≡ n.name) ⊎ (t.dialer ≡ v.peer) → (t.dialer ≡ n.name) ⊎ (t.dialer ≡ s.peer)
+    role : (t.dialer ≡ n.mint.name) ⊎ (t.dialer ≡ v.peer) → (t.dialer ≡ n.mint.name) ⊎ (t.dialer ≡ s.peer)
     role (inl i) = inl i
     role (inr i) = inr (i ∙ e)
 
@@ -54,7 +54,7 @@ fits_gone n t v s k h e gone hold = record {
   empty = λ u hu hh nh p q i. hold (ap (λ (z : TrunkSide). holds z.state) (some_same v u (sym h ∙ hu)) ∙ hh) p q i;
 }
   where
-    role : (t.dialer ≡ n.name) ⊎ (t.dialer ≡ v.peer) → (t.dialer ≡ n.name) ⊎ (t.dialer ≡ s.peer)
+    role : (t.dialer ≡ n.mint.name) ⊎ (t.dialer ≡ v.peer) → (t.dialer ≡ n.mint.name) ⊎ (t.dialer ≡ s.peer)
     role (inl i) = inl i
     role (inr i) = inr (i ∙ e)
 
@@ -68,7 +68,7 @@ RowsKeep w x t v s =
 -- an old side in a new state
 pub good_state : (w : World) (x : Name) (n : Node) (t : TrunkId) (v s : TrunkSide) → node_of w.nodes x ≡ Some n → side_at n t ≡ Some v → v.peer ≡ s.peer → Fits n t s → Good w
     → WorldKept (record { names = w.names; nodes = set_node w.nodes x (with_side_at n t s); lists = w.lists })
-    → role_state (same_name t.dialer n.name) s.state ≡ true → RowsKeep w x t v s
+    → role_state (same_name t.dialer n.mint.name) s.state ≡ true → RowsKeep w x t v s
     → Good (record { names = w.names; nodes = set_node w.nodes x (with_side_at n t s); lists = w.lists })
 good_state w x n t v s hx h e f g core role rows = good_resided w x n t s hx f g core role (λ i. (g.home x n hx).counts t v h i)
     (λ a di ha. rows.0 (side_at a t) di
@@ -227,7 +227,7 @@ pub good_awaits_ack : (w : World) (x : Name) (n : Node) (t : TrunkId) (v s : Tru
 good_awaits_ack w x n t v s u hx h e pe se g =
     let f = fits_state n t v s (g.core.sides x n hx) h pe (ap is_gone e) (λ b i. absurd (beside_neither v.state b (ap holds e) (ap asks e) i)) (λ i j. let c : true ≡ false = sym i ∙ ap holds e in cc) in
     let rl = (g.home x n hx).roles t v h in
-    let di : t.dialer ≡ x = same_name_true t.dialer n.name (role_is_dialer _ v.state rl (ap (role_state false) e)) ∙ node_of_name w.nodes x n hx in
+    let di : t.dialer ≡ x = same_name_true t.dialer n.mint.name (role_is_dialer _ v.state rl (ap (role_state false) e)) ∙ node_of_name w.nodes x n hx in
     good_state w x n t v s hx h pe f g
     (replies_to w x n t v s hx h pe (ap is_up se)
     (λ z b a hb fb vz.
@@ -257,13 +257,13 @@ pub good_dialer_up : (w : World) (x : Name) (n : Node) (t : TrunkId) (v : TrunkS
 good_dialer_up w x n t v u hx h e got g =
     let f = fits_state n t v (as_state v Up) (g.core.sides x n hx) h refl (ap is_gone e) (λ b i. absurd (beside_neither v.state b (ap holds e) (ap asks e) i)) (λ i j. let c : true ≡ false = sym i ∙ ap holds e in cc) in
     let rl = (g.home x n hx).roles t v h in
-    let nx : n.name ≡ x = node_of_name w.nodes x n hx in
-    let di : t.dialer ≡ x = same_name_true t.dialer n.name (role_is_dialer _ v.state rl (ap (role_state false) e)) ∙ nx in
+    let nx : n.mint.name ≡ x = node_of_name w.nodes x n hx in
+    let di : t.dialer ≡ x = same_name_true t.dialer n.mint.name (role_is_dialer _ v.state rl (ap (role_state false) e)) ∙ nx in
     good_state w x n t v (as_state v Up) hx h refl f g
     (comes_up w x n t v (as_state v Up) hx h refl (ap joined e) (ap is_up e)
     (λ z b a hb fb vz j.
-    let other : same_name t.dialer b.name ≡ false = by_test _ (same_name t.dialer b.name)
-    (λ i. absurd ((g.core.sides x n hx).other t v h (vz ∙ sym (node_of_name w.nodes z b hb) ∙ sym (same_name_true t.dialer b.name i) ∙ di ∙ sym nx))) (λ i. i) in
+    let other : same_name t.dialer b.mint.name ≡ false = by_test _ (same_name t.dialer b.mint.name)
+    (λ i. absurd ((g.core.sides x n hx).other t v h (vz ∙ sym (node_of_name w.nodes z b hb) ∙ sym (same_name_true t.dialer b.mint.name i) ∙ di ∙ sym nx))) (λ i. i) in
     acceptor_up a.state (ap (λ c. role_state c a.state) (sym other) ∙ (g.home z b hb).roles t a fb) j) f g.core)
     (role_is _ v.state Up rl (ap (role_state false) e) refl) (
       λ a di2 r. record { before = λ k. let b = r.before k in let c : true ≡ false = sym got ∙ ap (λ z. has is_accept (list_to w.lists t z)) (sym di) ∙ b.1 in cc; early = λ k. cc; waits = r.waits },
@@ -276,8 +276,8 @@ pub good_acceptor_up : (w : World) (x : Name) (n : Node) (t : TrunkId) (v : Trun
 good_acceptor_up w x n t v u hx h e got g =
     let f = fits_state n t v (as_state v Up) (g.core.sides x n hx) h refl (ap is_gone e) (λ b i. absurd (beside_neither v.state b (ap holds e) (ap asks e) i)) (λ i j. let c : true ≡ false = sym i ∙ ap holds e in cc) in
     let rl = (g.home x n hx).roles t v h in
-    let nx : n.name ≡ x = node_of_name w.nodes x n hx in
-    let nd : t.dialer ≡ x → ⊥ = λ i. let c : true ≡ false = sym (same_name_is t.dialer n.name (i ∙ sym nx)) ∙ role_is_acceptor _ v.state rl (ap (role_state true) e) in cc in
+    let nx : n.mint.name ≡ x = node_of_name w.nodes x n hx in
+    let nd : t.dialer ≡ x → ⊥ = λ i. let c : true ≡ false = sym (same_name_is t.dialer n.mint.name (i ∙ sym nx)) ∙ role_is_acceptor _ v.state rl (ap (role_state true) e) in cc in
     let m = g.core.met x n t v hx h nd in
     let r0 : Row m.side.state (side_at n t) (list_to w.lists t t.dialer) (list_to w.lists t m.side.peer) = g.table t m.dialer n m.side m.at m.there (ap (node_of w.nodes) m.peer ∙ hx) in
     let b0 = r0.before (ap went_up h ∙ ap up_once e) in
@@ -290,13 +290,13 @@ good_acceptor_up w x n t v u hx h e got g =
     let same : m.dialer ≡ b = some_same m.dialer b (sym m.at ∙ ap (node_of w.nodes) (vd ∙ vz) ∙ hb) in
     let same2 : m.side ≡ a = some_same m.side a (sym m.there ∙ ap (λ y. side_at y t) same ∙ fb) in
     not_holds_not_up a.state (ap (λ (y : TrunkSide). holds y.state) (sym same2) ∙ b0.0)) f g.core)
-    (role_up (same_name t.dialer n.name)) (
+    (role_up (same_name t.dialer n.mint.name)) (
       λ a di r. absurd (nd di),
       λ d y yx nd2 r. record { before = λ k. cc; early = λ k. let b = r.early k in let c : true ≡ false = sym got ∙ ap (λ z. has is_reply (list_to w.lists t z)) (sym yx) ∙ b.1 in cc; waits = λ k. cc },
       λ m a ha. ap (λ z. may_be_up z (list_to w.lists t x)) e ∙ got,
     )
   where
-    dialer_is : (t.dialer ≡ n.name) ⊎ (t.dialer ≡ v.peer) → (t.dialer ≡ n.name → ⊥) → t.dialer ≡ v.peer
+    dialer_is : (t.dialer ≡ n.mint.name) ⊎ (t.dialer ≡ v.peer) → (t.dialer ≡ n.mint.name → ⊥) → t.dialer ≡ v.peer
     dialer_is (inl i) k = absurd (k i)
     dialer_is (inr i) k = i
 

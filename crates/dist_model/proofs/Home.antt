@@ -1,5 +1,4 @@
 -- The pairs of one node.
-use Rattle.dist_model.proofs.Steps.{taken_link}
 use Rattle.std.proofs.Common.{◌==◌, ◌≡◌, Bool, true, false, cond, not, List, [], ◌∷◌, ◌++◌, refl, sym, ap, ◌∙◌, subst, ◌&&◌, ◌||◌, ◌⊎◌, inl, inr, nat_lt}
 use Rattle.std.specs.Option.{is_some}
 use Rattle.dist_model.proofs.Calls.{by_test, takes_other}
@@ -7,7 +6,7 @@ use Rattle.dist_model.proofs.Kept.{Kept, kept_swap}
 use Rattle.dist_model.proofs.Keys.{and_both, same_pid_is, same_pid_true}
 use Rattle.dist_model.proofs.Moves.{HomeItem, Homely, Moves, NodeKept, Takes, held, home_of, home_saying, reach_held, takes_link, with_sent}
 use Rattle.dist_model.proofs.Pair.{Side}
-use Rattle.dist_model.proofs.Steps.{kind, signal_hit, signal_miss}
+use Rattle.dist_model.proofs.Steps.{kind, signal_hit, signal_miss, taken_link}
 use Rattle.dist_model.proofs.Views.{side_of, side_path, to_name, view}
 use Rattle.dist_model.specs.Items.{Item, Signalled, telling, word_in, words}
 use Rattle.dist_model.specs.Links.{LinkWord}
@@ -19,26 +18,26 @@ use Rattle.erl_term.specs.declared.term.Pid.{Pid}
 
 -- each pair of processes of one node, and its local list
 abbrev pub HomePairs : Node → Type 0
-HomePairs n = (p q : Pid) → same_name p.node n.name ≡ true → same_name q.node n.name ≡ true → same_pid p q ≡ false → Kept (side_of n p q (words p q n.local)) (side_of n q p (words q p n.local))
+HomePairs n = (p q : Pid) → same_name p.node n.mint.name ≡ true → same_name q.node n.mint.name ≡ true → same_pid p q ≡ false → Kept (side_of n p q (words p q n.local)) (side_of n q p (words q p n.local))
 
-pub own_reached : (n : Node) (y : Name) → same_name y n.name ≡ true → reaches n y ≡ true
+pub own_reached : (n : Node) (y : Name) → same_name y n.mint.name ≡ true → reaches n y ≡ true
 own_reached n y h = ap (λ b. b || is_some (route n y)) h
 
-pub own_view : (o : Work) (p q : Pid) → same_name q.node o.node.name ≡ true → view [] o p q ≡ side_of o.node p q (words p q o.node.local)
+pub own_view : (o : Work) (p q : Pid) → same_name q.node o.node.mint.name ≡ true → view [] o p q ≡ side_of o.node p q (words p q o.node.local)
 own_view o p q h = side_path (view [] o p q) (side_of o.node p q (words p q o.node.local)) refl refl refl (ap (λ b. words p q (cond b o.node.local (to_name q.node o.sent))) h)
 
 pub pid_turned : (p q : Pid) → same_pid p q ≡ false → same_pid q p ≡ false
 pid_turned p q h = by_test _ (same_pid q p) (λ e. let c : true ≡ false = sym (same_pid_is p q (sym (same_pid_true q p e))) ∙ h in cc) (λ e. e)
 
-module _ (a b : Work) (nm : b.node.name ≡ a.node.name) where
+module _ (a b : Work) (nm : b.node.mint.name ≡ a.node.mint.name) where
   -- where both of a pair only move
-  pub home_pair : (p q : Pid) → same_name p.node a.node.name ≡ true → same_name q.node a.node.name ≡ true
+  pub home_pair : (p q : Pid) → same_name p.node a.node.mint.name ≡ true → same_name q.node a.node.mint.name ≡ true
       → ((x y : Pid) → (((x ≡ p) × (y ≡ q)) ⊎ ((x ≡ q) × (y ≡ p))) → (c : Side) → reaches a.node y.node ≡ true → Kept (view [] a x y) c → Kept (view [] b x y) c)
       → Kept (side_of a.node p q (words p q a.node.local)) (side_of a.node q p (words q p a.node.local))
       → Kept (side_of b.node p q (words p q b.node.local)) (side_of b.node q p (words q p b.node.local))
   home_pair p q hp hq vs k =
-      let bp : same_name p.node b.node.name ≡ true = ap (same_name p.node) nm ∙ hp in
-      let bq : same_name q.node b.node.name ≡ true = ap (same_name q.node) nm ∙ hq in
+      let bp : same_name p.node b.node.mint.name ≡ true = ap (same_name p.node) nm ∙ hp in
+      let bq : same_name q.node b.node.mint.name ≡ true = ap (same_name q.node) nm ∙ hq in
       let k1 : Kept (view [] a p q) (side_of a.node q p (words q p a.node.local)) = subst (λ c. Kept c (side_of a.node q p (words q p a.node.local))) (sym (own_view a p q hq)) k in
       let k2 : Kept (view [] b p q) (side_of a.node q p (words q p a.node.local)) = vs p q (inl (refl, refl)) _ (own_reached a.node q.node hq) k1 in
       let k3 : Kept (side_of a.node q p (words q p a.node.local)) (side_of b.node p q (words p q b.node.local)) = kept_swap _ _ (subst (λ c. Kept c (side_of a.node q p (words q p a.node.local))) (own_view b p q bq) k2) in
@@ -48,8 +47,8 @@ module _ (a b : Work) (nm : b.node.name ≡ a.node.name) where
 
 pub home_moves : (a b : Work) → Moves a b → NodeKept a.node → HomePairs a.node → HomePairs b.node
 home_moves a b f kn k p q hp hq d =
-    let ap1 : same_name p.node a.node.name ≡ true = ap (same_name p.node) (sym f.name) ∙ hp in
-    let aq1 : same_name q.node a.node.name ≡ true = ap (same_name q.node) (sym f.name) ∙ hq in
+    let ap1 : same_name p.node a.node.mint.name ≡ true = ap (same_name p.node) (sym f.name) ∙ hp in
+    let aq1 : same_name q.node a.node.mint.name ≡ true = ap (same_name q.node) (sym f.name) ∙ hq in
     home_pair a b f.name p q ap1 aq1 (λ x y e c r. f.views kn [] x y c r) (k p q ap1 aq1 d)
 
 -- the first signal of the local list is taken
@@ -66,7 +65,7 @@ module _ (n : Node) (xs : List Item) (kn : NodeKept n) where
       let gone : (x y : Pid) → words x y n.local ≡ words x y xs = λ x y. ap (words x y) first ∙ ap (λ l. l ++ words x y xs) (none x y) in
       subst (λ l. Kept (side_of n p q l) (side_of n q p (words q p xs))) (gone p q) (subst (λ l. Kept (side_of n p q (words p q n.local)) (side_of n q p l)) (gone q p) (k p q hp hq d)))
 
-  module _ (q0 p0 : Pid) (s : LinkWord) (first : n.local ≡ Signalled (telling q0 p0 s) ∷ xs) (hp0 : never n p0 ≡ false) (hq0 : never n q0 ≡ false) (own0 : same_name q0.node n.name ≡ true) (two : same_pid p0 q0 ≡ false) where
+  module _ (q0 p0 : Pid) (s : LinkWord) (first : n.local ≡ Signalled (telling q0 p0 s) ∷ xs) (hp0 : never n p0 ≡ false) (hq0 : never n q0 ≡ false) (own0 : same_name q0.node n.mint.name ≡ true) (two : same_pid p0 q0 ≡ false) where
     o0 : Work
     o0 = at_work (record n { local = xs })
 
@@ -101,7 +100,7 @@ module _ (n : Node) (xs : List Item) (kn : NodeKept n) where
         (λ e. e)
 
     -- p takes from q
-    takes_home : (p q : Pid) → same_name p.node n.name ≡ true → same_name q.node n.name ≡ true → same_pid p q ≡ false → (same_pid q0 q && same_pid p0 p) ≡ true
+    takes_home : (p q : Pid) → same_name p.node n.mint.name ≡ true → same_name q.node n.mint.name ≡ true → same_pid p q ≡ false → (same_pid q0 q && same_pid p0 p) ≡ true
         → Kept (side_of n p q (words p q n.local)) (side_of n q p (words q p n.local)) → Kept (side_of o1.node p q (words p q o1.node.local)) (side_of o1.node q p (words q p o1.node.local))
     unfolding o1 o0 f kn1
     takes_home p q hp hq d t k =
@@ -109,8 +108,8 @@ module _ (n : Node) (xs : List Item) (kn : NodeKept n) where
         let qe : q0 ≡ q = same_pid_true q0 q v.0 in
         let pe : p0 ≡ p = same_pid_true p0 p v.1 in
         let w = take_link p0 q0 s (at_work (record n { local = xs })) in
-        let bp : same_name p.node w.node.name ≡ true = ap (same_name p.node) f.name ∙ hp in
-        let bq : same_name q.node w.node.name ≡ true = ap (same_name q.node) f.name ∙ hq in
+        let bp : same_name p.node w.node.mint.name ≡ true = ap (same_name p.node) f.name ∙ hp in
+        let bq : same_name q.node w.node.mint.name ≡ true = ap (same_name q.node) f.name ∙ hq in
         let no : (same_pid q0 p && same_pid p0 q) ≡ false = by_test _ (same_pid q0 p && same_pid p0 q)
         (λ e. let c : true ≡ false = sym (same_pid_is p q (sym (same_pid_true q0 p (and_both (same_pid q0 p) (same_pid p0 q) e).0) ∙ qe)) ∙ d in cc) (λ e. e) in
         let k1 : Kept (side_of n p q (words p q xs)) (side_of n q p (s ∷ words q p xs)) =
@@ -129,8 +128,8 @@ module _ (n : Node) (xs : List Item) (kn : NodeKept n) where
     linking_home : HomePairs n → HomePairs o1.node
     unfolding o1 o0 f kn1
     linking_home k p q hp1 hq1 d =
-        let hp : same_name p.node n.name ≡ true = ap (same_name p.node) (sym f.name) ∙ hp1 in
-        let hq : same_name q.node n.name ≡ true = ap (same_name q.node) (sym f.name) ∙ hq1 in
+        let hp : same_name p.node n.mint.name ≡ true = ap (same_name p.node) (sym f.name) ∙ hp1 in
+        let hq : same_name q.node n.mint.name ≡ true = ap (same_name q.node) (sym f.name) ∙ hq1 in
         by_test _ (same_pid q0 q && same_pid p0 p)
         (λ t. takes_home p q hp hq d t (k p q hp hq d))
         (λ t. by_test _ (same_pid q0 p && same_pid p0 q)
@@ -144,10 +143,10 @@ module _ (n : Node) (xs : List Item) (kn : NodeKept n) where
         both p q t u x y (inl e) c r k = f.others kn1 hd [] x y c r (subst (λ z. (same_pid z p0 && same_pid y q0) ≡ false) (sym e.0) (subst (λ z. (same_pid p p0 && same_pid z q0) ≡ false) (sym e.1) (flip q p t))) k
         both p q t u x y (inr e) c r k = f.others kn1 hd [] x y c r (subst (λ z. (same_pid z p0 && same_pid y q0) ≡ false) (sym e.0) (subst (λ z. (same_pid q p0 && same_pid z q0) ≡ false) (sym e.1) (flip p q u))) k
 
-pub never_own : (n : Node) (p : Pid) → never n p ≡ false → same_name p.node n.name ≡ true
-never_own n p h = go (same_name p.node n.name) h
+pub never_own : (n : Node) (p : Pid) → never n p ≡ false → same_name p.node n.mint.name ≡ true
+never_own n p h = go (same_name p.node n.mint.name) h
   where
-    go : (b : Bool) → ((((not b || nat_lt n.creation p.creation) || (p.creation == n.creation && nat_lt n.spawned p.id)) || p.id == 0) || not (p.serial == 0)) ≡ false → b ≡ true
+    go : (b : Bool) → ((((not b || nat_lt n.mint.creation p.creation) || (p.creation == n.mint.creation && nat_lt n.mint.pids p.id)) || p.id == 0) || not (p.serial == 0)) ≡ false → b ≡ true
     go true h = refl
     go false h = cc
 

@@ -14,7 +14,7 @@ use Rattle.dist_model.proofs.Pair.{Side, finished}
 use Rattle.dist_model.proofs.Views.{AllSuit, Suits, linking_suits, more, over, post_all_keeps, post_all_view, post_keeps, post_view, posted, side_path, telling_receiver, telling_word, view}
 use Rattle.dist_model.specs.Exits.{carry_out, demonitors, exit_for, exits, finish, link_exit, linked_exit, monitor_exits}
 use Rattle.dist_model.specs.Items.{Item, Signalled, receiver_of, telling, word_in}
-use Rattle.dist_model.specs.Linking.{draw_unlink, link, link_by, link_new, unlink_as}
+use Rattle.dist_model.specs.Linking.{link, link_by, link_new}
 use Rattle.dist_model.specs.Links.{Exits, LinkWord, Says, heard, noconnection, reply}
 use Rattle.dist_model.specs.Names.{Name, pair_cmp, same_name, same_pid}
 use Rattle.dist_model.specs.Node.{Ended, Life, Living, Node, end_in, end_of, is_living_life, living, never, reaches, route, route_in, side_where, traps_life}
@@ -64,12 +64,12 @@ below_pair k u v (e ∷ es) b h = go (eq_by_cmp pair_cmp k e.0) refl h (below_pa
 
 -- a node up or losing towards y, or the node of y
 abbrev pub held : Node → Name → Bool
-held n y = same_name y n.name || is_some (side_where (λ v. is_up v || is_losing v) y (fm.entries n.sides))
+held n y = same_name y n.mint.name || is_some (side_where (λ v. is_up v || is_losing v) y (fm.entries n.sides))
 
 -- what a node keeps by itself
 pub record NodeKept (n : Node) : Type 0 where
   pub born : (p : Pid) → living n p ≡ true → never n p ≡ false
-  pub rooted : (p q : Pid) → (end_of n p q ≡ End.None → ⊥) → (living n p ≡ true) × (held n q.node ≡ true) × (same_name q.node n.name ≡ true → (never n q ≡ false) × (same_pid p q ≡ false))
+  pub rooted : (p q : Pid) → (end_of n p q ≡ End.None → ⊥) → (living n p ≡ true) × (held n q.node ≡ true) × (same_name q.node n.mint.name ≡ true → (never n q ≡ false) × (same_pid p q ≡ false))
 
 -- what a local list holds about links: between two that were spawned here, and are two
 abbrev pub HomeItem : (Pid → Bool) → Item → Type 0
@@ -104,14 +104,14 @@ home_plain : (f : Pid → Bool) (x : Item) → ((p q : Pid) → word_in p q x �
 home_plain f x none a b n = absurd (n (none a b))
 
 -- an item may be posted to y: it is plain, or y is another node, or both were spawned here
-pub post_home : (y : Name) (x : Item) (o : Work) → (same_name y o.node.name ≡ true → HomeItem (λ p. never o.node p) x) → home_of o.node → home_of ((post_to y x o).node)
-post_home y x o i h = go (same_name y o.node.name) refl
+pub post_home : (y : Name) (x : Item) (o : Work) → (same_name y o.node.mint.name ≡ true → HomeItem (λ p. never o.node p) x) → home_of o.node → home_of ((post_to y x o).node)
+post_home y x o i h = go (same_name y o.node.mint.name) refl
   where
     sent : (r : Option TrunkId) → home_of ((send_on r y x o).node)
     sent None = h
     sent (Some t) = h
 
-    go : (b : Bool) → same_name y o.node.name ≡ b → home_of ((cond b (keep_local x o) (send_on (route o.node y) y x o)).node)
+    go : (b : Bool) → same_name y o.node.mint.name ≡ b → home_of ((cond b (keep_local x o) (send_on (route o.node y) y x o)).node)
     go true e = Homely-push (λ p. never o.node p) o.node.local x h (i e)
     go false e = sent (route o.node y)
 
@@ -119,11 +119,11 @@ abbrev pub PostsHome : Name → (Pid → Bool) → List Signal → Type 0
 PostsHome z f [] = Unit {0}
 PostsHome z f (e ∷ es) = (same_name (receiver_of e).node z ≡ true → HomeItem f (Signalled e)) × PostsHome z f es
 
-pub post_all_home : (es : List Signal) (o : Work) → PostsHome o.node.name (λ p. never o.node p) es → home_of o.node → home_of ((post_all es o).node)
+pub post_all_home : (es : List Signal) (o : Work) → PostsHome o.node.mint.name (λ p. never o.node p) es → home_of o.node → home_of ((post_all es o).node)
 post_all_home [] o i h = h
 post_all_home (e ∷ es) o i h = post_all_home es (post e o)
-    (subst (λ f. PostsHome ((post e o).node.name) f es) (sym (λ j p. post_keeps (λ n. never n p) (λ n m. refl) (receiver_of e).node (Signalled e) o j))
-    (subst (λ z. PostsHome z (λ p. never o.node p) es) (sym (post_keeps (λ n. n.name) (λ n m. refl) (receiver_of e).node (Signalled e) o)) i.1))
+    (subst (λ f. PostsHome ((post e o).node.mint.name) f es) (sym (λ j p. post_keeps (λ n. never n p) (λ n m. refl) (receiver_of e).node (Signalled e) o j))
+    (subst (λ z. PostsHome z (λ p. never o.node p) es) (sym (post_keeps (λ n. n.mint.name) (λ n m. refl) (receiver_of e).node (Signalled e) o)) i.1))
     (post_home (receiver_of e).node (Signalled e) o i.0 h)
 
 PostsHome-append : (z : Name) (f : Pid → Bool) (xs ys : List Signal) → PostsHome z f xs → PostsHome z f ys → PostsHome z f (xs ++ ys)
@@ -169,7 +169,7 @@ send_routed None y x o h a = a
 send_routed (Some t) y x o h a = routed-push o.node.sides o.sent (record { trunk = t; target = y; item = x }) a h
 
 pub post_routed : (y : Name) (x : Item) (o : Work) → AllRouted o.node.sides o.sent → AllRouted ((post_to y x o).node.sides) ((post_to y x o).sent)
-post_routed y x o a = go (same_name y o.node.name)
+post_routed y x o a = go (same_name y o.node.mint.name)
   where
     go : (b : Bool) → AllRouted ((cond b (keep_local x o) (send_on (route o.node y) y x o)).node.sides) ((cond b (keep_local x o) (send_on (route o.node y) y x o)).sent)
     go true = a
@@ -183,19 +183,19 @@ post_all_routed (e ∷ es) o a = post_all_routed es (post e o) (post_routed (rec
 pub record Moves (o o' : Work) : Type 0 where
   pub sides : o'.node.sides ≡ o.node.sides
   pub dialed : o'.node.dialed ≡ o.node.dialed
-  pub name : o'.node.name ≡ o.node.name
+  pub name : o'.node.mint.name ≡ o.node.mint.name
   pub keeps : NodeKept o.node → NodeKept o'.node
   pub grows : (p : Pid) → over o.node p ≡ true → over o'.node p ≡ true
-  pub draws : o.node.unlinks ≤ o'.node.unlinks
+  pub draws : o.node.mint.unlink_ids ≤ o'.node.mint.unlink_ids
   pub routed : AllRouted o.node.sides o.sent → AllRouted o'.node.sides o'.sent
   pub nevers : (p : Pid) → never o.node p ≡ false → never o'.node p ≡ false
   pub home : NodeKept o.node → home_of o.node → home_of o'.node
   pub views : NodeKept o.node → (b : List LinkWord) (p q : Pid) (c : Side) → reaches o.node q.node ≡ true → Kept (view b o p q) c → Kept (view b o' p q) c
 
-pub reach_along : (m n : Node) → n.sides ≡ m.sides → n.name ≡ m.name → (y : Name) → reaches n y ≡ reaches m y
+pub reach_along : (m n : Node) → n.sides ≡ m.sides → n.mint.name ≡ m.mint.name → (y : Name) → reaches n y ≡ reaches m y
 reach_along m n s e y = λ i. same_name y (e i) || is_some (route_in (fm.entries (s i)) y)
 
-pub held_along : (m n : Node) → n.sides ≡ m.sides → n.name ≡ m.name → (y : Name) → held n y ≡ held m y
+pub held_along : (m n : Node) → n.sides ≡ m.sides → n.mint.name ≡ m.mint.name → (y : Name) → held n y ≡ held m y
 held_along m n s e y = λ i. same_name y (e i) || is_some (side_where (λ v. is_up v || is_losing v) y (fm.entries (s i)))
 
 pub stays : (o : Work) → Moves o o
@@ -300,7 +300,7 @@ finishes x r o l =
     let posts = last_posts x r o in
     let o1 = post_all posts o in
     let sd : o1.node.sides ≡ o.node.sides = post_all_keeps (λ n. n.sides) (λ n m. refl) posts o in
-    let nm : o1.node.name ≡ o.node.name = post_all_keeps (λ n. n.name) (λ n m. refl) posts o in
+    let nm : o1.node.mint.name ≡ o.node.mint.name = post_all_keeps (λ n. n.mint.name) (λ n m. refl) posts o in
     record {
       sides = sd;
       dialed = post_all_keeps (λ n. n.dialed) (λ n m. refl) posts o;
@@ -317,16 +317,16 @@ finishes x r o l =
             (g ∙ t.0, held_along o.node ((finish x r o).node) sd nm q.node ∙ t.1, λ nn. let u = t.2 (ap (same_name q.node) (sym nm) ∙ nn) in (post_all_keeps (λ n. never n q) (λ n m. refl) posts o ∙ u.0, u.1));
       };
       grows = λ p h. ap (λ v. not v && not (never o1.node p)) (finish_living x r o p) ∙ over_grows (same_pid p x) r (fm.get o1.node.lives p) (never o1.node p) (post_all_keeps (λ n. over n p) (λ n m. refl) posts o ∙ h);
-      draws = omega (arith, post_all_keeps (λ n. n.unlinks) (λ n m. refl) posts o);
+      draws = omega (arith, post_all_keeps (λ n. n.mint.unlink_ids) (λ n m. refl) posts o);
       routed = λ a. post_all_routed posts o a;
       nevers = λ p h. post_all_keeps (λ n. never n p) (λ n m. refl) posts o ∙ h;
       home = λ k h. post_all_home posts o
-          (PostsHome-append o.node.name (λ p. never o.node p) (exits x r (fm.entries o.node.ends) ++ monitor_exits x r (fm.entries o.node.registered)) (demonitors x (fm.entries o.node.watches))
-          (PostsHome-append o.node.name (λ p. never o.node p) (exits x r (fm.entries o.node.ends)) (monitor_exits x r (fm.entries o.node.registered))
-          (exits_home o.node.name (λ p. never o.node p) x r (fm.entries o.node.ends) (k.born x l)
+          (PostsHome-append o.node.mint.name (λ p. never o.node p) (exits x r (fm.entries o.node.ends) ++ monitor_exits x r (fm.entries o.node.registered)) (demonitors x (fm.entries o.node.watches))
+          (PostsHome-append o.node.mint.name (λ p. never o.node p) (exits x r (fm.entries o.node.ends)) (monitor_exits x r (fm.entries o.node.registered))
+          (exits_home o.node.mint.name (λ p. never o.node p) x r (fm.entries o.node.ends) (k.born x l)
           (λ e fe ne nn. (k.rooted e.0.0 e.0.1 (λ a. ne (sym (ap end_in (fm.get-entries o.node.ends e.0 ∙ fe)) ∙ a))).2 nn) (fm.entries_sorted o.node.ends))
-          (downs_home o.node.name (λ p. never o.node p) x r (fm.entries o.node.registered)))
-          (unwatches_home o.node.name (λ p. never o.node p) x (fm.entries o.node.watches))) h;
+          (downs_home o.node.mint.name (λ p. never o.node p) x r (fm.entries o.node.registered)))
+          (unwatches_home o.node.mint.name (λ p. never o.node p) x (fm.entries o.node.watches))) h;
       views = λ n b p q c reach k. finish_views x r o l n b p q c reach (same_pid p x) refl k;
     }
 
@@ -351,20 +351,20 @@ set_view b x y e o p q = side_path (view b (set_end x y e o) p q) (ended_at (sam
 end_set : (x y : Pid) (e : End) (o : Work) (p q : Pid) → end_of ((set_end x y e o).node) p q ≡ cond (same_pid p x && same_pid q y) e (end_of o.node p q)
 end_set x y e o p q = set_in-get o.node.ends (x, y) e (p, q) ∙ ap (λ t. cond t e (end_of o.node p q)) (same_pair p q x y)
 
-set_rooted : (x y : Pid) (e : End) (o : Work) → NodeKept o.node → ((e ≡ End.None → ⊥) → (living o.node x ≡ true) × (held o.node y.node ≡ true) × (same_name y.node o.node.name ≡ true → (never o.node y ≡ false) × (same_pid x y ≡ false))) → NodeKept ((set_end x y e o).node)
+set_rooted : (x y : Pid) (e : End) (o : Work) → NodeKept o.node → ((e ≡ End.None → ⊥) → (living o.node x ≡ true) × (held o.node y.node ≡ true) × (same_name y.node o.node.mint.name ≡ true → (never o.node y ≡ false) × (same_pid x y ≡ false))) → NodeKept ((set_end x y e o).node)
 set_rooted x y e o k h = record {
   born = k.born;
   rooted = λ p q n. go p q (same_pid p x && same_pid q y) refl (λ m. n (end_set x y e o p q ∙ m));
 }
   where
-    go : (p q : Pid) (t : Bool) → (same_pid p x && same_pid q y) ≡ t → (cond (same_pid p x && same_pid q y) e (end_of o.node p q) ≡ End.None → ⊥) → (living o.node p ≡ true) × (held o.node q.node ≡ true) × (same_name q.node o.node.name ≡ true → (never o.node q ≡ false) × (same_pid p q ≡ false))
+    go : (p q : Pid) (t : Bool) → (same_pid p x && same_pid q y) ≡ t → (cond (same_pid p x && same_pid q y) e (end_of o.node p q) ≡ End.None → ⊥) → (living o.node p ≡ true) × (held o.node q.node ≡ true) × (same_name q.node o.node.mint.name ≡ true → (never o.node q ≡ false) × (same_pid p q ≡ false))
     go p q true i n =
         let v = and_both (same_pid p x) (same_pid q y) i in
         let r = h (λ m. n (ap (λ t. cond t e (end_of o.node p q)) i ∙ m)) in (
           subst (λ z. living o.node z ≡ true) (sym (same_pid_true p x v.0)) r.0,
           subst (λ (z : Pid). held o.node z.node ≡ true) (sym (same_pid_true q y v.1)) r.1,
-          subst (λ (z : Pid). same_name z.node o.node.name ≡ true → (never o.node z ≡ false) × (same_pid p z ≡ false)) (sym (same_pid_true q y v.1))
-              (subst (λ z. same_name y.node o.node.name ≡ true → (never o.node y ≡ false) × (same_pid z y ≡ false)) (sym (same_pid_true p x v.0)) r.2),
+          subst (λ (z : Pid). same_name z.node o.node.mint.name ≡ true → (never o.node z ≡ false) × (same_pid p z ≡ false)) (sym (same_pid_true q y v.1))
+              (subst (λ z. same_name y.node o.node.mint.name ≡ true → (never o.node y ≡ false) × (same_pid z y ≡ false)) (sym (same_pid_true p x v.0)) r.2),
         )
     go p q false i n = k.rooted p q (λ m. n (ap (λ t. cond t e (end_of o.node p q)) i ∙ m))
 
@@ -384,7 +384,7 @@ or_either true b c h f = refl
 or_either false b c h f = f h
 
 pub reach_held : (n : Node) (y : Name) → reaches n y ≡ true → held n y ≡ true
-reach_held n y h = or_either (same_name y n.name) (is_some (route n y)) (is_some (side_where (λ v. is_up v || is_losing v) y (fm.entries n.sides))) h (reach_held_in (fm.entries n.sides) y)
+reach_held n y h = or_either (same_name y n.mint.name) (is_some (route n y)) (is_some (side_where (λ v. is_up v || is_losing v) y (fm.entries n.sides))) h (reach_held_in (fm.entries n.sides) y)
 
 -- posts keep what a node keeps
 post_kept : (y : Name) (x : Item) (o : Work) → NodeKept o.node → NodeKept ((post_to y x o).node)
@@ -392,7 +392,7 @@ post_kept y x o k = record {
   born = λ p l. post_keeps (λ n. never n p) (λ n m. refl) y x o ∙ k.born p (sym (post_keeps (λ n. living n p) (λ n m. refl) y x o) ∙ l);
   rooted = λ p q e.
       let r = k.rooted p q (λ m. e (post_keeps (λ n. end_of n p q) (λ n m. refl) y x o ∙ m)) in
-      (post_keeps (λ n. living n p) (λ n m. refl) y x o ∙ r.0, post_keeps (λ n. held n q.node) (λ n m. refl) y x o ∙ r.1, λ nn. let d = r.2 (sym (post_keeps (λ n. same_name q.node n.name) (λ n m. refl) y x o) ∙ nn) in (post_keeps (λ n. never n q) (λ n m. refl) y x o ∙ d.0, d.1));
+      (post_keeps (λ n. living n p) (λ n m. refl) y x o ∙ r.0, post_keeps (λ n. held n q.node) (λ n m. refl) y x o ∙ r.1, λ nn. let d = r.2 (sym (post_keeps (λ n. same_name q.node n.mint.name) (λ n m. refl) y x o) ∙ nn) in (post_keeps (λ n. never n q) (λ n m. refl) y x o ∙ d.0, d.1));
 }
 
 -- an item that is no signal about a link
@@ -400,10 +400,10 @@ pub posts_other : (y : Name) (x : Item) (o : Work) → ((p q : Pid) → word_in 
 posts_other y x o none = record {
   sides = post_keeps (λ n. n.sides) (λ n m. refl) y x o;
   dialed = post_keeps (λ n. n.dialed) (λ n m. refl) y x o;
-  name = post_keeps (λ n. n.name) (λ n m. refl) y x o;
+  name = post_keeps (λ n. n.mint.name) (λ n m. refl) y x o;
   keeps = post_kept y x o;
   grows = λ p h. post_keeps (λ n. over n p) (λ n m. refl) y x o ∙ h;
-  draws = omega (arith, post_keeps (λ n. n.unlinks) (λ n m. refl) y x o);
+  draws = omega (arith, post_keeps (λ n. n.mint.unlink_ids) (λ n m. refl) y x o);
   routed = post_routed y x o;
   nevers = λ p h. post_keeps (λ n. never n p) (λ n m. refl) y x o ∙ h;
   home = λ k h. post_home y x o (λ e. home_plain (λ p. never o.node p) x none) h;
@@ -458,14 +458,14 @@ at_pair P p q x y h k =
     let v = and_both (same_pid p x) (same_pid q y) h in
     subst (λ z. P z q) (sym (same_pid_true p x v.0)) (subst (λ z. P x z) (sym (same_pid_true q y v.1)) k)
 
-links_reached : (x y : Pid) (o : Work) → (same_name y.node o.node.name ≡ true → (never o.node y ≡ false) × (same_pid x y ≡ false)) → living o.node x ≡ true → reaches o.node y.node ≡ true → (end_of o.node x y ≡ End.Active → ⊥) → Moves o (post_to y.node (Signalled (telling x y (Says LinkSignal.Link))) (set_end x y End.Active o))
+links_reached : (x y : Pid) (o : Work) → (same_name y.node o.node.mint.name ≡ true → (never o.node y ≡ false) × (same_pid x y ≡ false)) → living o.node x ≡ true → reaches o.node y.node ≡ true → (end_of o.node x y ≡ End.Active → ⊥) → Moves o (post_to y.node (Signalled (telling x y (Says LinkSignal.Link))) (set_end x y End.Active o))
 links_reached x y o v l reach n = record {
   sides = post_keeps (λ m. m.sides) (λ m u. refl) y.node (Signalled (telling x y (Says LinkSignal.Link))) (set_end x y End.Active o);
   dialed = post_keeps (λ m. m.dialed) (λ m u. refl) y.node (Signalled (telling x y (Says LinkSignal.Link))) (set_end x y End.Active o);
-  name = post_keeps (λ m. m.name) (λ m u. refl) y.node (Signalled (telling x y (Says LinkSignal.Link))) (set_end x y End.Active o);
+  name = post_keeps (λ m. m.mint.name) (λ m u. refl) y.node (Signalled (telling x y (Says LinkSignal.Link))) (set_end x y End.Active o);
   keeps = λ k. post_kept y.node (Signalled (telling x y (Says LinkSignal.Link))) (set_end x y End.Active o) (set_rooted x y End.Active o k (λ h. (l, reach_held o.node y.node reach, v)));
   grows = λ p h. post_keeps (λ m. over m p) (λ m u. refl) y.node (Signalled (telling x y (Says LinkSignal.Link))) (set_end x y End.Active o) ∙ h;
-  draws = omega (arith, post_keeps (λ m. m.unlinks) (λ m u. refl) y.node (Signalled (telling x y (Says LinkSignal.Link))) (set_end x y End.Active o));
+  draws = omega (arith, post_keeps (λ m. m.mint.unlink_ids) (λ m u. refl) y.node (Signalled (telling x y (Says LinkSignal.Link))) (set_end x y End.Active o));
   routed = λ a. post_routed y.node (Signalled (telling x y (Says LinkSignal.Link))) (set_end x y End.Active o) a;
   nevers = λ p h. post_keeps (λ m. never m p) (λ m u. refl) y.node (Signalled (telling x y (Says LinkSignal.Link))) (set_end x y End.Active o) ∙ h;
   home = λ k h. post_home y.node (Signalled (telling x y (Says LinkSignal.Link))) (set_end x y End.Active o) (λ e. let d = v e in home_said (λ p. never o.node p) x y (Says LinkSignal.Link) (k.born x l, d.0, d.1)) h;
@@ -502,16 +502,16 @@ removes_unreached x y o u = record {
   views = λ nk b p q c r k. subst (λ a. Kept a c) (sym (set_view b x y End.None o p q ∙ ap (λ t. ended_at t End.None (view b o p q)) (apart_by_reach o.node p q x y r u))) k;
 }
 
-pub link_news : (t : Bool) (x y : Pid) (o : Work) → (same_name y.node o.node.name ≡ true → (never o.node y ≡ false) × (same_pid x y ≡ false)) → reaches o.node y.node ≡ t → living o.node x ≡ true → (end_of o.node x y ≡ End.Active → ⊥) → Moves o (link_new t x y o)
+pub link_news : (t : Bool) (x y : Pid) (o : Work) → (same_name y.node o.node.mint.name ≡ true → (never o.node y ≡ false) × (same_pid x y ≡ false)) → reaches o.node y.node ≡ t → living o.node x ≡ true → (end_of o.node x y ≡ End.Active → ⊥) → Moves o (link_new t x y o)
 link_news true x y o v r l n = links_reached x y o v l r n
 link_news false x y o v r l n = then o (set_end x y End.None o) (link_new false x y o) (removes_unreached x y o r) (link_exits x y noconnection (set_end x y End.None o) l)
 
-links_by : (e : End) (x y : Pid) (o : Work) → (same_name y.node o.node.name ≡ true → (never o.node y ≡ false) × (same_pid x y ≡ false)) → end_of o.node x y ≡ e → living o.node x ≡ true → Moves o (link_by e x y o)
+links_by : (e : End) (x y : Pid) (o : Work) → (same_name y.node o.node.mint.name ≡ true → (never o.node y ≡ false) × (same_pid x y ≡ false)) → end_of o.node x y ≡ e → living o.node x ≡ true → Moves o (link_by e x y o)
 links_by End.None x y o v h l = link_news (reaches o.node y.node) x y o v refl l (λ a. let n : End.None ≡ End.Active = sym h ∙ a in cc)
 links_by End.Active x y o v h l = stays o
 links_by (End.Pending i) x y o v h l = link_news (reaches o.node y.node) x y o v refl l (λ a. let n : End.Pending i ≡ End.Active = sym h ∙ a in cc)
 
-pub links : (x y : Pid) (o : Work) → (same_name y.node o.node.name ≡ true → never o.node y ≡ false) → living o.node x ≡ true → Moves o (link x y o)
+pub links : (x y : Pid) (o : Work) → (same_name y.node o.node.mint.name ≡ true → never o.node y ≡ false) → living o.node x ≡ true → Moves o (link x y o)
 links x y o v l = go (same_pid x y) refl
   where
     go : (t : Bool) → same_pid x y ≡ t → Moves o (cond t o (link_by (end_of o.node x y) x y o))
@@ -524,24 +524,31 @@ keeps_unlink_at a b j g e lt k =
     let P : Bool → End → Type 0 = λ v u. Kept (record { end = u; gone = v; drawn = a.drawn; sent = a.sent }) b → Kept (record { end = End.Pending j; gone = v; drawn = j; sent = a.sent ++ Says (LinkSignal.Unlink j) ∷ [] }) b in
     subst (λ v. P v a.end) (sym g) (subst (λ u. P false u) (sym e) (keeps_unlink End.Active a.drawn j a.sent b lt)) k
 
-pub unlinks_as : (x y : Pid) (o : Work) (j : ℕ) → living o.node x ≡ true → end_of o.node x y ≡ End.Active → o.node.unlinks < j → Moves o (unlink_as j x y o)
+-- under any id above those drawn
+abbrev pub draw_unlink : ℕ → Work → Work
+draw_unlink j o = record o { node = record (o.node) { mint = record (o.node.mint) { unlink_ids = j } } }
+
+abbrev pub unlink_at : ℕ → Pid → Pid → Work → Work
+unlink_at j p q o = post (Signal.UnlinkId j p q) (set_end p q (End.Pending j) (draw_unlink j o))
+
+pub unlinks_as : (x y : Pid) (o : Work) (j : ℕ) → living o.node x ≡ true → end_of o.node x y ≡ End.Active → o.node.mint.unlink_ids < j → Moves o (unlink_at j x y o)
 unlinks_as x y o j l e lt =
     let o0 = draw_unlink j o in
     record {
       sides = post_keeps (λ m. m.sides) (λ m u. refl) y.node (Signalled (telling x y (Says (LinkSignal.Unlink j)))) (set_end x y (End.Pending j) o0);
       dialed = post_keeps (λ m. m.dialed) (λ m u. refl) y.node (Signalled (telling x y (Says (LinkSignal.Unlink j)))) (set_end x y (End.Pending j) o0);
-      name = post_keeps (λ m. m.name) (λ m u. refl) y.node (Signalled (telling x y (Says (LinkSignal.Unlink j)))) (set_end x y (End.Pending j) o0);
+      name = post_keeps (λ m. m.mint.name) (λ m u. refl) y.node (Signalled (telling x y (Says (LinkSignal.Unlink j)))) (set_end x y (End.Pending j) o0);
       keeps = λ k. post_kept y.node (Signalled (telling x y (Says (LinkSignal.Unlink j)))) (set_end x y (End.Pending j) o0)
           (set_rooted x y (End.Pending j) o0 (record { born = k.born; rooted = k.rooted }) (λ h. k.rooted x y (λ a. let n : End.Active ≡ End.None = sym e ∙ a in cc)));
       grows = λ p h. post_keeps (λ m. over m p) (λ m u. refl) y.node (Signalled (telling x y (Says (LinkSignal.Unlink j)))) (set_end x y (End.Pending j) o0) ∙ h;
-      draws = omega (arith, lt, post_keeps (λ m. m.unlinks) (λ m u. refl) y.node (Signalled (telling x y (Says (LinkSignal.Unlink j)))) (set_end x y (End.Pending j) o0));
+      draws = omega (arith, lt, post_keeps (λ m. m.mint.unlink_ids) (λ m u. refl) y.node (Signalled (telling x y (Says (LinkSignal.Unlink j)))) (set_end x y (End.Pending j) o0));
       routed = λ a. post_routed y.node (Signalled (telling x y (Says (LinkSignal.Unlink j)))) (set_end x y (End.Pending j) o0) a;
       nevers = λ p h. post_keeps (λ m. never m p) (λ m u. refl) y.node (Signalled (telling x y (Says (LinkSignal.Unlink j)))) (set_end x y (End.Pending j) o0) ∙ h;
       home = λ k h. post_home y.node (Signalled (telling x y (Says (LinkSignal.Unlink j)))) (set_end x y (End.Pending j) o0) (λ i. let d = (k.rooted x y (λ a. let n : End.Active ≡ End.None = sym e ∙ a in cc)).2 i in home_said (λ p. never o.node p) x y (Says (LinkSignal.Unlink j)) (k.born x l, d.0, d.1)) h;
       views = λ nk b p q c r k. go b p q c r k (same_pid p x && same_pid q y) refl;
     }
   where
-    go : (b : List LinkWord) (p q : Pid) (c : Side) → reaches o.node q.node ≡ true → Kept (view b o p q) c → (t : Bool) → (same_pid p x && same_pid q y) ≡ t → Kept (view b (unlink_as j x y o) p q) c
+    go : (b : List LinkWord) (p q : Pid) (c : Side) → reaches o.node q.node ≡ true → Kept (view b o p q) c → (t : Bool) → (same_pid p x && same_pid q y) ≡ t → Kept (view b (unlink_at j x y o) p q) c
     go b p q c r k true h = subst (λ a. Kept a c) (sym (told_view b x y (End.Pending j) (Says (LinkSignal.Unlink j)) (draw_unlink j o) p q r true h))
         (keeps_unlink_at (view b o p q) c j (at_pair (λ u v. over o.node u ≡ false) p q x y h (not_over o.node x l)) (at_pair (λ u v. end_of o.node u v ≡ End.Active) p q x y h e) lt k)
     go b p q c r k false h = subst (λ a. Kept a c) (sym (told_view b x y (End.Pending j) (Says (LinkSignal.Unlink j)) (draw_unlink j o) p q r false h)) (keeps_draw (view b o p q) c j lt k)
@@ -553,10 +560,10 @@ with_sent c L = record { end = c.end; gone = c.gone; drawn = c.drawn; sent = L }
 pub record Takes (x y : Pid) (s : LinkWord) (o o' : Work) : Type 0 where
   pub sides : o'.node.sides ≡ o.node.sides
   pub dialed : o'.node.dialed ≡ o.node.dialed
-  pub name : o'.node.name ≡ o.node.name
+  pub name : o'.node.mint.name ≡ o.node.mint.name
   pub keeps : NodeKept o.node → held o.node y.node ≡ true → NodeKept o'.node
   pub grows : (p : Pid) → over o.node p ≡ true → over o'.node p ≡ true
-  pub draws : o.node.unlinks ≤ o'.node.unlinks
+  pub draws : o.node.mint.unlink_ids ≤ o'.node.mint.unlink_ids
   pub routed : AllRouted o.node.sides o.sent → AllRouted o'.node.sides o'.sent
   pub nevers : (p : Pid) → never o.node p ≡ false → never o'.node p ≡ false
   pub home : NodeKept o.node → held o.node y.node ≡ true → home_of o.node → home_of o'.node
@@ -622,7 +629,7 @@ replies_home : (z : Name) (f : Pid → Bool) (x y : Pid) (ss : List LinkWord) �
 replies_home z f x y [] hx hy = tt
 replies_home z f x y (s ∷ ss) hx hy = (λ e. let d = hy (ap (λ (u : Pid). same_name u.node z) (sym (telling_receiver x y s)) ∙ e) in home_said f x y s (hx, d.0, d.1), replies_home z f x y ss hx hy)
 
-takes_living : (x y : Pid) (s : LinkWord) (o : Work) → (same_name y.node o.node.name ≡ true → (never o.node y ≡ false) × (same_pid x y ≡ false)) → never o.node x ≡ false → living o.node x ≡ true → Takes x y s o (post_all (replies x y (reply false s)) (set_end x y (heard (end_of o.node x y) s) o))
+takes_living : (x y : Pid) (s : LinkWord) (o : Work) → (same_name y.node o.node.mint.name ≡ true → (never o.node y ≡ false) × (same_pid x y ≡ false)) → never o.node x ≡ false → living o.node x ≡ true → Takes x y s o (post_all (replies x y (reply false s)) (set_end x y (heard (end_of o.node x y) s) o))
 takes_living x y s o v nx l =
     let e = heard (end_of o.node x y) s in
     let o1 = set_end x y e o in
@@ -630,13 +637,13 @@ takes_living x y s o v nx l =
     record {
       sides = post_all_keeps (λ m. m.sides) (λ m u. refl) es o1;
       dialed = post_all_keeps (λ m. m.dialed) (λ m u. refl) es o1;
-      name = post_all_keeps (λ m. m.name) (λ m u. refl) es o1;
+      name = post_all_keeps (λ m. m.mint.name) (λ m u. refl) es o1;
       keeps = λ k h. post_all_kept es o1 (set_rooted x y e o k (λ n. (l, h, v)));
       grows = λ p h. post_all_keeps (λ m. over m p) (λ m u. refl) es o1 ∙ h;
-      draws = omega (arith, post_all_keeps (λ m. m.unlinks) (λ m u. refl) es o1);
+      draws = omega (arith, post_all_keeps (λ m. m.mint.unlink_ids) (λ m u. refl) es o1);
       routed = λ a. post_all_routed es o1 a;
       nevers = λ p h. post_all_keeps (λ m. never m p) (λ m u. refl) es o1 ∙ h;
-      home = λ k h m. post_all_home es o1 (replies_home o.node.name (λ p. never o.node p) x y (reply false s) nx v) m;
+      home = λ k h m. post_all_home es o1 (replies_home o.node.mint.name (λ p. never o.node p) x y (reply false s) nx v) m;
       here = λ n h b c L r k. subst (λ a. Kept a (with_sent c L))
           (sym (replied_here b x y (reply false s) o1 r ∙ ap (λ a. more a (reply false s)) (set_view b x y e o x y ∙ ap (λ t. ended_at t e (view b o x y)) (one_pair x y))))
           (takes_at false (view b o x y) c s L (not_over o.node x l) k);
@@ -644,19 +651,19 @@ takes_living x y s o v nx l =
           (sym (replied_there b x y (reply false s) o1 p q r t ∙ set_view b x y e o p q ∙ ap (λ t. ended_at t e (view b o p q)) t)) k;
     }
 
-takes_over : (x y : Pid) (s : LinkWord) (o : Work) → (same_name y.node o.node.name ≡ true → (never o.node y ≡ false) × (same_pid x y ≡ false)) → never o.node x ≡ false → over o.node x ≡ true → Takes x y s o (post_all (replies x y (reply true s)) o)
+takes_over : (x y : Pid) (s : LinkWord) (o : Work) → (same_name y.node o.node.mint.name ≡ true → (never o.node y ≡ false) × (same_pid x y ≡ false)) → never o.node x ≡ false → over o.node x ≡ true → Takes x y s o (post_all (replies x y (reply true s)) o)
 takes_over x y s o v nx l =
     let es = replies x y (reply true s) in
     record {
       sides = post_all_keeps (λ m. m.sides) (λ m u. refl) es o;
       dialed = post_all_keeps (λ m. m.dialed) (λ m u. refl) es o;
-      name = post_all_keeps (λ m. m.name) (λ m u. refl) es o;
+      name = post_all_keeps (λ m. m.mint.name) (λ m u. refl) es o;
       keeps = λ k h. post_all_kept es o k;
       grows = λ p h. post_all_keeps (λ m. over m p) (λ m u. refl) es o ∙ h;
-      draws = omega (arith, post_all_keeps (λ m. m.unlinks) (λ m u. refl) es o);
+      draws = omega (arith, post_all_keeps (λ m. m.mint.unlink_ids) (λ m u. refl) es o);
       routed = λ a. post_all_routed es o a;
       nevers = λ p h. post_all_keeps (λ m. never m p) (λ m u. refl) es o ∙ h;
-      home = λ k h m. post_all_home es o (replies_home o.node.name (λ p. never o.node p) x y (reply true s) nx v) m;
+      home = λ k h m. post_all_home es o (replies_home o.node.mint.name (λ p. never o.node p) x y (reply true s) nx v) m;
       here = λ n h b c L r k. subst (λ a. Kept a (with_sent c L)) (sym (replied_here b x y (reply true s) o r)) (takes_at true (view b o x y) c s L l k);
       others = λ n h b p q c r t k. subst (λ a. Kept a c) (sym (replied_there b x y (reply true s) o p q r t)) k;
     }
@@ -670,7 +677,7 @@ exit_moves End.Active (Exits r) x y o l = link_exits x y r o l
 exit_moves (End.Pending i) (Exits r) x y o l = stays o
 
 -- whoever was spawned takes it by the rules of the pair
-pub takes_link : (x y : Pid) (s : LinkWord) (o : Work) → (same_name y.node o.node.name ≡ true → (never o.node y ≡ false) × (same_pid x y ≡ false)) → never o.node x ≡ false → Takes x y s o (take_link x y s o)
+pub takes_link : (x y : Pid) (s : LinkWord) (o : Work) → (same_name y.node o.node.mint.name ≡ true → (never o.node y ≡ false) × (same_pid x y ≡ false)) → never o.node x ≡ false → Takes x y s o (take_link x y s o)
 takes_link x y s o u v = go (living o.node x) refl
   where
     go : (t : Bool) → living o.node x ≡ t → Takes x y s o (take_link_by t x y s o)

@@ -25,12 +25,12 @@ use Rattle.erl_names.specs.declared.trunk.TrunkId.{TrunkId}
 use Rattle.erl_term.specs.declared.refusal.Refusal.{Refusal}
 
 -- a node's place is set twice
-pub set_twice : (ns : List Node) (x : Name) (a b : Node) → a.name ≡ x → set_node (set_node ns x a) x b ≡ set_node ns x b
+pub set_twice : (ns : List Node) (x : Name) (a b : Node) → a.mint.name ≡ x → set_node (set_node ns x a) x b ≡ set_node ns x b
 set_twice [] x a b e = refl
-set_twice (m ∷ ns) x a b e = go (same_name m.name x) refl (set_twice ns x a b e)
+set_twice (m ∷ ns) x a b e = go (same_name m.mint.name x) refl (set_twice ns x a b e)
   where
-    go : (c : Bool) → same_name m.name x ≡ c → set_node (set_node ns x a) x b ≡ set_node ns x b → set_node (cond c (a ∷ ns) (m ∷ set_node ns x a)) x b ≡ cond c (b ∷ ns) (m ∷ set_node ns x b)
-    go true i h = ap (λ c. cond c (b ∷ ns) (a ∷ set_node ns x b)) (same_name_is a.name x e)
+    go : (c : Bool) → same_name m.mint.name x ≡ c → set_node (set_node ns x a) x b ≡ set_node ns x b → set_node (cond c (a ∷ ns) (m ∷ set_node ns x a)) x b ≡ cond c (b ∷ ns) (m ∷ set_node ns x b)
+    go true i h = ap (λ c. cond c (b ∷ ns) (a ∷ set_node ns x b)) (same_name_is a.mint.name x e)
     go false i h = ap (λ c. cond c (b ∷ set_node ns x a) (m ∷ set_node (set_node ns x a) x b)) i ∙ ap (λ l. m ∷ l) h
 
 list_none : (o : Option (List Item)) → (is_some o ≡ true → ⊥) → list_in o ≡ []
@@ -65,7 +65,7 @@ unjoined_unlikely Gone l j h = refl
 
 -- a new side
 pub good_new : (w : World) (x : Name) (n : Node) (t : TrunkId) (s : TrunkSide) → node_of w.nodes x ≡ Some n → side_at n t ≡ None → Fits n t s → ((t.dialer ≡ x → ⊥) → Met w.nodes t x) → joined s.state ≡ false
-    → role_state (same_name t.dialer n.name) s.state ≡ true → (t.dialer ≡ n.name → t.count ≤ n.dialed)
+    → role_state (same_name t.dialer n.mint.name) s.state ≡ true → (t.dialer ≡ n.mint.name → t.count ≤ n.dialed)
     → (t.dialer ≡ x → holds s.state ≡ false) → (up_once s.state ≡ false) ⊎ (is_gone s.state ≡ true) → holds s.state ≡ false → Good w → Good (in_state w x n t s)
 good_new w x n t s hx none f met j role count nh kind hold g =
     let nx = node_of_name w.nodes x n hx in
@@ -92,10 +92,10 @@ good_new w x n t s hx none f met j role count nh kind hold g =
     (λ d u hd fu ux.
     let r : Row u.state None (list_to w.lists t t.dialer) (list_to w.lists t u.peer) = subst (λ o. Row u.state o (list_to w.lists t t.dialer) (list_to w.lists t u.peer)) none (g.table t d n u hd fu (ap (node_of w.nodes) ux ∙ hx)) in
     record { before = λ k. r.before refl; early = λ k. let b = r.early k in (hold, b.1, b.2); waits = λ k. r.waits refl })
-    (λ m a ha. absurd (by_test ⊥ (same_name t.dialer n.name)
+    (λ m a ha. absurd (by_test ⊥ (same_name t.dialer n.mint.name)
     (λ i. let c : true ≡ false = sym m ∙ dialer_unlikely s.state _ (ap (λ b. role_state b s.state) (sym i) ∙ role) j in cc)
     (λ i.
-    let nd : t.dialer ≡ x → ⊥ = λ e. let c : true ≡ false = sym (same_name_is t.dialer n.name (e ∙ sym nx)) ∙ i in cc in
+    let nd : t.dialer ≡ x → ⊥ = λ e. let c : true ≡ false = sym (same_name_is t.dialer n.mint.name (e ∙ sym nx)) ∙ i in cc in
     let d = met nd in
     let r : Row d.side.state (side_at n t) (list_to w.lists t t.dialer) (list_to w.lists t d.side.peer) = g.table t d.dialer n d.side d.at d.there (ap (node_of w.nodes) d.peer ∙ hx) in
     let c : true ≡ false = sym m ∙ unjoined_unlikely s.state _ j (ap (λ z. has is_reply (list_to w.lists t z)) (sym d.peer) ∙ (r.waits (ap begun none)).1) in cc)))
@@ -128,8 +128,8 @@ not_not true h = refl
 not_not false h = cc
 
 -- a new attempt
-dialed : (w : World) (x : Name) (n : Node) (y : Name) (k : ℕ) → node_of w.nodes x ≡ Some n → Good w → same_name y n.name ≡ false → is_some (side_where (λ v. not (is_gone v)) y (fm.entries n.sides)) ≡ false
-    → Good (record { names = w.names; nodes = set_node w.nodes x (with_side_at (draw_trunk n) (next_trunk n) (record { peer = y; peer_creation = 0; state = AwaitsStatus k })); lists = carried w.lists ((record { trunk = next_trunk n; target = y; item = Handshake (SendName n.name n.creation flag_word) }) ∷ []) })
+dialed : (w : World) (x : Name) (n : Node) (y : Name) (k : ℕ) → node_of w.nodes x ≡ Some n → Good w → same_name y n.mint.name ≡ false → is_some (side_where (λ v. not (is_gone v)) y (fm.entries n.sides)) ≡ false
+    → Good (record { names = w.names; nodes = set_node w.nodes x (with_side_at (draw_trunk n) (next_trunk n) (record { peer = y; peer_creation = 0; state = AwaitsStatus k })); lists = carried w.lists ((record { trunk = next_trunk n; target = y; item = Handshake (SendName n.mint.name n.mint.creation flag_word) }) ∷ []) })
 dialed w x n y k hx g ny busy =
     let s : TrunkSide = record { peer = y; peer_creation = 0; state = AwaitsStatus k } in
     let t = next_trunk n in
@@ -139,18 +139,18 @@ dialed w x n y k hx g ny busy =
     let hx1 : node_of w1.nodes x ≡ Some (draw_trunk n) = node_of_set_same w.nodes x n (draw_trunk n) hx nx in
     let gone : (u : TrunkId) (v : TrunkSide) → side_at n u ≡ Some v → v.peer ≡ y → is_gone v.state ≡ true = λ u v hv e. not_not (is_gone v.state) (all_none (λ v. not (is_gone v)) y n (none_case _ busy) u v hv e) in
     let f : Fits (draw_trunk n) t s = record {
-      stranger = λ i. let c : true ≡ false = sym (same_name_is y n.name i) ∙ ny in cc;
+      stranger = λ i. let c : true ≡ false = sym (same_name_is y n.mint.name i) ∙ ny in cc;
       role = inl refl;
       peer_stays = λ v hv. let c : true ≡ false = sym (ap is_some hv) ∙ ap is_some (next_free w x n hx g) in cc;
       room = λ u v hv e d gs gv. let c : true ≡ false = sym (gone u v hv e) ∙ gv in cc;
       empty = λ v hv hh nh p q i. let c : true ≡ false = sym (ap is_some hv) ∙ ap is_some (next_free w x n hx g) in cc;
     } in
     let g2 : Good (in_state w1 x (draw_trunk n) t s) = good_new w1 x (draw_trunk n) t s hx1 (next_free w x n hx g) f (λ d. absurd (d nx)) refl
-    (ap (λ b. role_state b (AwaitsStatus k)) (same_name_refl n.name)) (λ i. omega arith) (λ i. refl) (inl refl) refl g1 in
+    (ap (λ b. role_state b (AwaitsStatus k)) (same_name_refl n.mint.name)) (λ i. omega arith) (λ i. refl) (inl refl) refl g1 in
     let g3 : Good (record { names = w.names; nodes = set_node w.nodes x (with_side_at (draw_trunk n) t s); lists = w.lists }) =
     subst (λ ns. Good (record { names = w.names; nodes = ns; lists = w.lists })) (set_twice w.nodes x (draw_trunk n) (with_side_at (draw_trunk n) t s) nx) g2 in
     let here : node_of (set_node w.nodes x (with_side_at (draw_trunk n) t s)) x ≡ Some (with_side_at (draw_trunk n) t s) = node_of_set_same w.nodes x n (with_side_at (draw_trunk n) t s) hx nx in
-    good_pushed (record { names = w.names; nodes = set_node w.nodes x (with_side_at (draw_trunk n) t s); lists = w.lists }) t y (SendName n.name n.creation flag_word) g3
+    good_pushed (record { names = w.names; nodes = set_node w.nodes x (with_side_at (draw_trunk n) t s); lists = w.lists }) t y (SendName n.mint.name n.mint.creation flag_word) g3
     (s, with_side_at (draw_trunk n) t s, ap (node_of (set_node w.nodes x (with_side_at (draw_trunk n) t s))) nx ∙ here, side_after_same (draw_trunk n) t s, inr refl)
     (λ d a u hd hu ha. (λ j. cc, λ j. cc, λ j. cc, λ j. cc)) (λ j z l. absurd (neither j))
   where
@@ -159,10 +159,10 @@ dialed w x n y k hx g ny busy =
     neither (inr j) = cc
 
 pub good_dial : (w : World) (x : Name) (n : Node) (y : Name) (k : ℕ) → node_of w.nodes x ≡ Some n → Good w → Good ((ends_in w x w.lists (dial w.names n y k)).world)
-good_dial w x n y k hx g = go (same_name y n.name) refl (not (has_name y w.names)) (is_some (side_where (λ v. not (is_gone v)) y (fm.entries n.sides))) refl (not (nat_lt (n.dialed + 1) (2 ^ 64)))
+good_dial w x n y k hx g = go (same_name y n.mint.name) refl (not (has_name y w.names)) (is_some (side_where (λ v. not (is_gone v)) y (fm.entries n.sides))) refl (not (nat_lt (n.dialed + 1) (2 ^ 64)))
   where
-    go : (a : Bool) → same_name y n.name ≡ a → (b : Bool) (c : Bool) → is_some (side_where (λ v. not (is_gone v)) y (fm.entries n.sides)) ≡ c → (d : Bool)
-        → Good ((ends_in w x w.lists (cond a (Refuses Refusal.SelfDial) (cond b (Refuses Refusal.NothingThere) (cond c (Refuses Refusal.Busy) (cond d (Refuses Refusal.IdsUsedUp) (Goes (Dialed (next_trunk n)) (write (next_trunk n) y (SendName n.name n.creation flag_word) (with_side (next_trunk n) (record { peer = y; peer_creation = 0; state = AwaitsStatus k }) (at_work (draw_trunk n)))))))))).world)
+    go : (a : Bool) → same_name y n.mint.name ≡ a → (b : Bool) (c : Bool) → is_some (side_where (λ v. not (is_gone v)) y (fm.entries n.sides)) ≡ c → (d : Bool)
+        → Good ((ends_in w x w.lists (cond a (Refuses Refusal.SelfDial) (cond b (Refuses Refusal.NothingThere) (cond c (Refuses Refusal.Busy) (cond d (Refuses Refusal.IdsUsedUp) (Goes (Dialed (next_trunk n)) (write (next_trunk n) y (SendName n.mint.name n.mint.creation flag_word) (with_side (next_trunk n) (record { peer = y; peer_creation = 0; state = AwaitsStatus k }) (at_work (draw_trunk n)))))))))).world)
     go true ea b c ec d = g
     go false ea true c ec d = g
     go false ea false true ec d = g

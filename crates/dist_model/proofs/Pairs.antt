@@ -50,13 +50,13 @@ up_joined Losing h = cc
 up_joined Gone h = cc
 
 module _ (w : World) (x : Name) (n : Node) (o : Work) (m' : FinMap place_cmp (List Item)) (hx : node_of w.nodes x ≡ Some n)
-    (sd : o.node.sides ≡ n.sides) (nm : o.node.name ≡ n.name) (ko : NodeKept o.node) (ro : AllRouted o.node.sides o.sent)
+    (sd : o.node.sides ≡ n.sides) (nm : o.node.mint.name ≡ n.mint.name) (ko : NodeKept o.node) (ro : AllRouted o.node.sides o.sent)
     (lists : (t : TrunkId) (y : Name) → (y ≡ x → ⊥) → list_to m' t y ≡ list_to w.lists t y ++ at_place t y o.sent)
     (mover : (t : TrunkId) (s : TrunkSide) → side_at n t ≡ Some s → joined s.state ≡ true → (b : Node) (p q : Pid) → p.node ≡ x → q.node ≡ s.peer
     → Kept (side_of n p q (words p q (list_to w.lists t s.peer))) (side_of b q p (words q p (list_to w.lists t x)))
     → Kept (side_of o.node p q (words p q (list_to m' t s.peer))) (side_of b q p (words q p (list_to m' t x))))
     (k : WorldKept w) where
-  name_x : n.name ≡ x
+  name_x : n.mint.name ≡ x
   name_x = node_of_name w.nodes x n hx
 
   here : node_of (set_node w.nodes x o.node) x ≡ Some o.node
@@ -111,7 +111,7 @@ module _ (w : World) (x : Name) (n : Node) (o : Work) (m' : FinMap place_cmp (Li
       let ny : t.dialer ≡ y → ⊥ = λ i. let c : true ≡ false = sym (same_name_is t.dialer y i) ∙ e in cc in
       pick u ((k.sides y b hb).mine t v f) ((k.sides x n hx).mine t u.found u.there) ny))
     where
-      pick : (u : Routed n y t) → (t.dialer ≡ b.name) ⊎ (t.dialer ≡ v.peer) → (t.dialer ≡ n.name) ⊎ (t.dialer ≡ u.found.peer) → (t.dialer ≡ y → ⊥) → ⊥
+      pick : (u : Routed n y t) → (t.dialer ≡ b.mint.name) ⊎ (t.dialer ≡ v.peer) → (t.dialer ≡ n.mint.name) ⊎ (t.dialer ≡ u.found.peer) → (t.dialer ≡ y → ⊥) → ⊥
       pick u (inl i) j ny = ny (i ∙ node_of_name w.nodes y b hb)
       pick u (inr i) (inl j) ny = dz (sym name_x ∙ sym j ∙ i ∙ vz)
       pick u (inr i) (inr j) ny = ny (j ∙ u.peer)

@@ -228,11 +228,11 @@ module _ (w : World) (t : TrunkId) (x : Name) (i : Item) (rest : List Item) (g :
 -- a side gets a new state
 module _ (w : World) (x : Name) (n : Node) (t0 : TrunkId) (s0 : TrunkSide) (hx : node_of w.nodes x ≡ Some n) (f : Fits n t0 s0) (g : Good w)
     (core : WorldKept (record { names = w.names; nodes = set_node w.nodes x (with_side_at n t0 s0); lists = w.lists }))
-    (role : role_state (same_name t0.dialer n.name) s0.state ≡ true) (count : t0.dialer ≡ n.name → t0.count ≤ n.dialed)
+    (role : role_state (same_name t0.dialer n.mint.name) s0.state ≡ true) (count : t0.dialer ≡ n.mint.name → t0.count ≤ n.dialed)
     (as_dialer : (a : Node) → t0.dialer ≡ x → node_of w.nodes s0.peer ≡ Some a → Row s0.state (side_at a t0) (list_to w.lists t0 t0.dialer) (list_to w.lists t0 s0.peer))
     (as_acceptor : (d : Node) (s : TrunkSide) → node_of w.nodes t0.dialer ≡ Some d → side_at d t0 ≡ Some s → s.peer ≡ x → Row s.state (Some s0) (list_to w.lists t0 t0.dialer) (list_to w.lists t0 s.peer))
     (likely : may_be_up s0.state (list_to w.lists t0 x) ≡ true → (a : Node) → node_of w.nodes s0.peer ≡ Some a → Likely w.nodes w.lists x t0 s0.peer) where
-  private_nx : n.name ≡ x
+  private_nx : n.mint.name ≡ x
   private_nx = node_of_name w.nodes x n hx
 
   abbrev n2 : Node
@@ -262,7 +262,7 @@ module _ (w : World) (x : Name) (n : Node) (t0 : TrunkId) (s0 : TrunkSide) (hx :
         pairs = k.pairs;
         roles = λ t s fs. by_t _ t
             (λ te. let se : s0 ≡ s = some_same s0 s (sym (side_after_same n t0 s0) ∙ ap (side_at n2) (sym te) ∙ fs) in
-            (λ i. role_state (same_name ((te i).dialer) n.name) ((sym se i).state)) ∙ role)
+            (λ i. role_state (same_name ((te i).dialer) n.mint.name) ((sym se i).state)) ∙ role)
             (λ td. k.roles t s (sym (side_after_other n t0 s0 t td) ∙ fs));
         counts = λ t s fs i. by_t _ t
             (λ te. subst (λ (v : TrunkId). v.count ≤ n.dialed) (sym te) (count (ap (λ (v : TrunkId). v.dialer) (sym te) ∙ i)))

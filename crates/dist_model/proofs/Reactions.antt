@@ -1,4 +1,5 @@
 -- Who reacts to the exit of a link.
+use Rattle.erl_names.specs.Draw as kind
 use Rattle.dist_model.specs.World
 use Rattle.std.specs.Ordering.{is_gt}
 use Rattle.std.proofs.Common.{◌==◌, nat_lt, ◌+◌, ◌≡◌, ℕ, Bool, true, false, cond, not, List, [], ◌∷◌, ◌++◌, refl, sym, ap, ◌∙◌, subst, ◌||◌, ◌&&◌, Option, Some, None, ◌⊎◌, inl, inr}
@@ -15,24 +16,26 @@ use Rattle.dist_model.proofs.Table.{Good}
 use Rattle.dist_model.specs.Arrivals.{arrive, arrive_at, arrive_fresh, handshake_at, handshake_in, is_good, signal_at, take_local}
 use Rattle.dist_model.specs.Calls.{acting, call, toward}
 use Rattle.dist_model.specs.Claims.{ReactsOnlyWhereLinked, end_at, end_between, is_reaction, reached_at, reacts, reacts_in}
-use Rattle.dist_model.specs.Commands.{Command, EndLink, EndMonitor, ExitSelf, ExitTo, Goes, IsAlive, LinksOf, MakeLink, MakeMonitor, Outcome, Receive, Refuses, Send, Spawn, Trap}
+use Rattle.dist_model.specs.Commands.{Command, EndLink, EndMonitor, ExitSelf, ExitTo, Goes, IsAlive, LinksOf, MakeLink, MakeMonitor, Outcome, Receive, Refuses, Send, Spawn, Trap, with_id}
 use Rattle.dist_model.specs.Dialing.{dial, has_name}
 use Rattle.dist_model.specs.Exits.{carry_out, demonitors, exits, finish, link_exit, linked_exit, monitor_exits, sent_exit}
 use Rattle.dist_model.specs.Fits.{fits}
 use Rattle.dist_model.specs.Handshake.{awaits_ack, awaits_challenge, awaits_name, awaits_reply, awaits_status, awaits_true, challenge, dig, end_up, give_up, go_on, greet, greet_dialing, greet_up, greet_waiting, has_flags, set_state, write}
 use Rattle.dist_model.specs.Incarnations.{start, stop}
 use Rattle.dist_model.specs.Items.{Challenge, ChallengeAck, ChallengeReply, Handshake, HandshakeMessage, Item, SendName, Signalled, StatusAlive, StatusFalse, StatusNok, StatusNotAllowed, StatusOk, StatusOkSimultaneous, StatusTrue, Tick, receiver_of, telling}
-use Rattle.dist_model.specs.Linking.{draw_unlink, link_by, link_new, unlink_by}
+use Rattle.dist_model.specs.Linking.{link_by, link_new, unlink_by}
 use Rattle.dist_model.specs.Links.{Exits, LinkWord, Says, heard, noconnection, noproc, reply}
 use Rattle.dist_model.specs.Losses.{any_side, close_if, has_records, link_to, lose, lose_at, parked_by, parked_goes, registered_by, sweep, sweep_by, sweep_end, sweep_link, sweep_registered, sweep_watch, swept, watch_to}
-use Rattle.dist_model.specs.Monitoring.{demonitor_by, draw_reference, new_reference, watch}
+use Rattle.dist_model.specs.Monitoring.{demonitor_by, watch}
 use Rattle.dist_model.specs.Names.{Name, place_cmp, same_name, same_pid}
 use Rattle.dist_model.specs.Node.{Node, end_in, end_of, living, never, reaches, route, side_where, traps_life}
 use Rattle.dist_model.specs.Sides.{Accepting, Asked, AwaitsAck, AwaitsChallenge, AwaitsStatus, Gone, Losing, Parked, State, TrunkSide, Up, is_dialing, is_gone, is_losing, is_parked, is_up, is_waiting}
 use Rattle.dist_model.specs.Taking.{exit_follows, register, replies, same_pids, take_item, take_link, take_link_by, unregister, unwatch}
-use Rattle.dist_model.specs.Work.{Effect, EndedBy, LinkExit, Put, Sent, Work, at_work, keep_local, post, post_all, post_to, put, report, send_on, set_end}
+use Rattle.dist_model.specs.Work.{Effect, EndedBy, LinkExit, Put, Sent, Work, at_work, draw, keep_local, post, post_all, post_to, put, report, send_on, set_end}
 use Rattle.dist_model.specs.World.{Arrive, Call, Dial, Event, Local, Lose, Refused, Report, Start, Stepped, Stop, Sweep, World, arrives, arrives_first, ends_in, is_over, list_to, node_name, node_of, refused, running, step_at}
 use Rattle.erl_control.specs.declared.signal.Signal.{Signal}
+use Rattle.erl_names.specs.Ids.{reference_of}
+use Rattle.erl_names.specs.Minted.{id_of}
 use Rattle.erl_names.specs.Order.{name_cmp}
 use Rattle.erl_names.specs.declared.trunk.TrunkId.{TrunkId}
 use Rattle.erl_term.specs.Data.{Data}
@@ -74,10 +77,10 @@ calm_send None y x o p q h = h
 calm_send (Some t) y x o p q h = calm_last o.effects (Sent y x) (λ a b. refl) p q h
 
 pub calm_post : (y : Name) (x : Item) (o : Work) → Calm o (post_to y x o)
-calm_post y x o p q h = go (same_name y o.node.name) h
+calm_post y x o p q h = go (same_name y o.node.mint.name) h
   where
     go : (b : Bool) → reacts_in p q ((cond b (keep_local x o) (send_on (route o.node y) y x o)).effects) ≡ true → reacts_in p q o.effects ≡ true
-    go true h = calm_last o.effects (Sent o.node.name x) (λ a b. refl) p q h
+    go true h = calm_last o.effects (Sent o.node.mint.name x) (λ a b. refl) p q h
     go false h = calm_send (route o.node y) y x o p q h
 
 calm_post_all : (es : List Signal) (o : Work) → Calm o (post_all es o)
@@ -164,6 +167,10 @@ on_cond : (b : Bool) (k : Outcome) (j : Refusal) (P : Work → Type 0) → (b �
 on_cond true k j P h = h refl
 on_cond false k j P h = tt
 
+on_drawn : (o : Option ℕ) (k : ℕ → Outcome) (P : Work → Type 0) → ((id : ℕ) → IfGoes (k id) P) → IfGoes (with_id o k) P
+on_drawn None k P f = tt
+on_drawn (Some id) k P f = f id
+
 on_not : (b : Bool) (k : Outcome) (j : Refusal) (P : Work → Type 0) → IfGoes k P → IfGoes (cond b (Refuses j) k) P
 on_not true k j P h = tt
 on_not false k j P h = h
@@ -173,7 +180,7 @@ OwnLink n c o = (p q : Pid) → reacts_in p q o.effects ≡ true → (c ≡ Make
 
 module _ (n : Node) where
   acts_on : (c : Command) (p q : Pid) (k : Outcome) → (living n p ≡ true → IfGoes k (OwnLink n c)) → IfGoes (acting n p (toward n q k)) (OwnLink n c)
-  acts_on c p q k h = on_cond (living n p) (toward n q k) Refusal.NoSuchProcess (OwnLink n c) (λ l. on_not (same_name q.node n.name && never n q) k Refusal.Forged (OwnLink n c) (h l))
+  acts_on c p q k h = on_cond (living n p) (toward n q k) Refusal.NoSuchProcess (OwnLink n c) (λ l. on_not (same_name q.node n.mint.name && never n q) k Refusal.Forged (OwnLink n c) (h l))
 
   links_new : (a b : Pid) (o : Work) → o.effects ≡ [] → (t : Bool) → reaches n b.node ≡ t → living n a ≡ true → OwnLink n (MakeLink a b) (link_new t a b o)
   links_new a b o e true r l p q h = nothing (sym (ap (reacts_in p q) e) ∙ calm_post b.node (Signalled (telling a b (Says LinkSignal.Link))) (set_end a b End.Active o) p q h)
@@ -194,7 +201,7 @@ module _ (n : Node) where
 
   unlinks_on : (e : End) (a b : Pid) → IfGoes (unlink_by e a b (at_work n)) (OwnLink n (EndLink a b))
   unlinks_on End.None a b = λ p q h. nothing h
-  unlinks_on End.Active a b = on_cond (nat_lt (n.unlinks + 1) (2 ^ 64)) _ Refusal.IdsUsedUp (OwnLink n (EndLink a b)) (λ i p q h. nothing (calm_post b.node (Signalled (Signal.UnlinkId (n.unlinks + 1) a b)) (set_end a b (End.Pending (n.unlinks + 1)) (draw_unlink (n.unlinks + 1) (at_work n))) p q h))
+  unlinks_on End.Active a b = on_drawn (id_of n.mint kind.UnlinkId) _ (OwnLink n (EndLink a b)) (λ id p q h. nothing (calm_post b.node (Signalled (Signal.UnlinkId id a b)) (set_end a b (End.Pending id) (draw kind.UnlinkId (at_work n))) p q h))
   unlinks_on (End.Pending i) a b = λ p q h. nothing h
 
   demonitors_on : (v : Option (Pid × Pid)) (a : Pid) (k : Reference) → IfGoes (demonitor_by v a k (at_work n)) (OwnLink n (EndMonitor a k))
@@ -202,14 +209,14 @@ module _ (n : Node) where
   demonitors_on (Some v) a k = on_cond (same_pid v.0 a) _ Refusal.NotTheOwner (OwnLink n (EndMonitor a k)) (λ i p q h. nothing (calm_post v.1.node (Signalled (Signal.Demonitor a v.1 k)) (unwatch k (at_work n)) p q h))
 
   pub called : (c : Command) → IfGoes (call n c) (OwnLink n c)
-  called Spawn = on_cond (nat_lt (n.spawned + 1) (2 ^ 32)) _ Refusal.IdsUsedUp (OwnLink n Spawn) (λ i p q h. nothing h)
+  called Spawn = on_drawn (id_of n.mint kind.Pid) _ (OwnLink n Spawn) (λ id p q h. nothing h)
   called (Send a b t) = acts_on (Send a b t) a b _ (λ l. on_cond (fits t) _ Refusal.TooLong (OwnLink n (Send a b t)) (λ i p q h. nothing (calm_post b.node (Signalled (Signal.Send b t)) (at_work n) p q h)))
   called (MakeLink a b) = acts_on (MakeLink a b) a b _ (λ l. link_cond (same_pid a b) a b l)
   called (EndLink a b) = acts_on (EndLink a b) a b _ (λ l. unlinks_on (end_of n a b) a b)
-  called (MakeMonitor a b) = acts_on (MakeMonitor a b) a b _ (λ l. on_cond (nat_lt (n.references + 1) (2 ^ 18)) _ Refusal.IdsUsedUp (OwnLink n (MakeMonitor a b))
-      (λ i p q h. nothing (calm_cond (reaches n b.node) (at_work n) _ _
-      (calm_post b.node (Signalled (Signal.Monitor a b (new_reference n))) (watch (new_reference n) (a, b) (draw_reference (at_work n))))
-      (calm_put a (down_term (new_reference n) b noconnection) (draw_reference (at_work n))) p q h)))
+  called (MakeMonitor a b) = acts_on (MakeMonitor a b) a b _ (λ l. on_drawn (id_of n.mint kind.Reference) _ (OwnLink n (MakeMonitor a b))
+      (λ count p q h. nothing (calm_cond (reaches n b.node) (at_work n) _ _
+      (calm_post b.node (Signalled (Signal.Monitor a b (reference_of n.mint count))) (watch (reference_of n.mint count) (a, b) (draw kind.Reference (at_work n))))
+      (calm_put a (down_term (reference_of n.mint count) b noconnection) (draw kind.Reference (at_work n))) p q h)))
   called (EndMonitor a k) = on_cond (living n a) _ Refusal.NoSuchProcess (OwnLink n (EndMonitor a k)) (λ l. demonitors_on (fm.get n.watches k) a k)
   called (Trap a b) = on_cond (living n a) _ Refusal.NoSuchProcess (OwnLink n (Trap a b)) (λ l p q h. nothing h)
   called (ExitTo a b r) = acts_on (ExitTo a b r) a b _ (λ l. on_cond (fits r) _ Refusal.TooLong (OwnLink n (ExitTo a b r)) (λ i p q h. nothing (calm_post b.node (Signalled (Signal.Exit2 a b r)) (at_work n) p q h)))
@@ -298,7 +305,7 @@ module _ (n : Node) (t : TrunkId) where
 
     greets_dialing : (d : Option (TrunkId × TrunkSide)) (o : Work) → Still o → IfGoes (greet_dialing d t s w x o) Still
     greets_dialing None o k = accepted StatusOk o k
-    greets_dialing (Some d) o k = either (is_gt (name_cmp t.dialer o.node.name)) _ _ Still (accepted StatusOkSimultaneous (give_up (Some d) o) k) (λ p q h. k p q (calm_send (Some t) s.peer (Handshake StatusNok) (set_state t s Gone o) p q h))
+    greets_dialing (Some d) o k = either (is_gt (name_cmp t.dialer o.node.mint.name)) _ _ Still (accepted StatusOkSimultaneous (give_up (Some d) o) k) (λ p q h. k p q (calm_send (Some t) s.peer (Handshake StatusNok) (set_state t s Gone o) p q h))
 
     greets_up : (d : Option (TrunkId × TrunkSide)) (o : Work) → Still o → IfGoes (greet_up d t s w x o) Still
     greets_up None o k = greets_dialing (side_where is_dialing s.peer (fm.entries o.node.sides)) o k
@@ -469,7 +476,7 @@ module _ (w : World) (g : Good w) where
   -- what a process of x held, the world says
   in_world : (x : Name) (n : Node) → node_of w.nodes x ≡ Some n → (p q : Pid) → Held n p q → end_between w p q ≡ End.Active
   in_world x n hx p q h =
-      let e : p.node ≡ x = same_name_true p.node n.name (never_own n p ((g.core.nodes x n hx).born p h.0)) ∙ node_of_name w.nodes x n hx in
+      let e : p.node ≡ x = same_name_true p.node n.mint.name (never_own n p ((g.core.nodes x n hx).born p h.0)) ∙ node_of_name w.nodes x n hx in
       ap (λ o. end_at o p q) (ap (node_of w.nodes) e ∙ hx) ∙ h.1
 
   abbrev pub Tells : Event → Report → Type 0
@@ -486,7 +493,7 @@ module _ (w : World) (g : Good w) where
   call_outcome x n c hx (Refuses k) h = refusal (Call x c) k
   call_outcome x n c hx (Goes a o) h = λ p q r.
       let v = h p q r in
-      let e : p.node ≡ x = same_name_true p.node n.name (never_own n p ((g.core.nodes x n hx).born p v.1)) ∙ node_of_name w.nodes x n hx in
+      let e : p.node ≡ x = same_name_true p.node n.mint.name (never_own n p ((g.core.nodes x n hx).born p v.1)) ∙ node_of_name w.nodes x n hx in
       inr ((λ i. Call (sym e i) (v.0 i)), ap (λ o. reached_at o q.node) (ap (node_of w.nodes) e ∙ hx) ∙ v.2)
 
   while_up : (e : Event) (n : Node) (s : Stepped) → Tells e s.report → Tells e ((running w n s).report)
@@ -513,11 +520,11 @@ module _ (w : World) (g : Good w) where
       go false = first_comes t x n k (Some v) (list_to w.lists t x) hx
 
   dials : (n : Node) (y : Name) (k : ℕ) → IfGoes (dial w.names n y k) (HeldBefore n)
-  dials n y k = on_not (same_name y n.name) _ Refusal.SelfDial (HeldBefore n) (on_not (not (has_name y w.names)) _ Refusal.NothingThere (HeldBefore n) (on_not (is_some (side_where (λ v. not (is_gone v)) y (fm.entries n.sides))) _ Refusal.Busy (HeldBefore n)
+  dials n y k = on_not (same_name y n.mint.name) _ Refusal.SelfDial (HeldBefore n) (on_not (not (has_name y w.names)) _ Refusal.NothingThere (HeldBefore n) (on_not (is_some (side_where (λ v. not (is_gone v)) y (fm.entries n.sides))) _ Refusal.Busy (HeldBefore n)
       (on_not (not (nat_lt (n.dialed + 1) (2 ^ 64))) _ Refusal.IdsUsedUp (HeldBefore n) (λ p q h. nothing h))))
 
   starts : (n : Node) → IfGoes (start n) (HeldBefore n)
-  starts n = on_not n.up _ Refusal.NodeUp (HeldBefore n) (on_cond (nat_lt (n.creation + 1) (2 ^ 32)) _ Refusal.IdsUsedUp (HeldBefore n) (λ i p q h. nothing h))
+  starts n = on_not n.up _ Refusal.NodeUp (HeldBefore n) (on_cond (nat_lt (n.mint.creation + 1) (2 ^ 32)) _ Refusal.IdsUsedUp (HeldBefore n) (λ i p q h. nothing h))
 
   at_node : (o : Option Node) (e : Event) → node_of w.nodes (node_name e) ≡ o → Tells e ((step_at w o e).report)
   at_node None e h = refusal e Refusal.NothingThere

@@ -42,8 +42,8 @@ side_after_other n t0 s t d = side_after n t0 s t ∙ cond_false (same_trunk t t
 
 -- what a new state of a side has to meet at its own node
 pub record Fits (n : Node) (t0 : TrunkId) (s : TrunkSide) : Type 0 where
-  pub stranger : s.peer ≡ n.name → ⊥
-  pub role : (t0.dialer ≡ n.name) ⊎ (t0.dialer ≡ s.peer)
+  pub stranger : s.peer ≡ n.mint.name → ⊥
+  pub role : (t0.dialer ≡ n.mint.name) ⊎ (t0.dialer ≡ s.peer)
   pub peer_stays : (v : TrunkSide) → side_at n t0 ≡ Some v → v.peer ≡ s.peer
   pub room : (u : TrunkId) (v : TrunkSide) → side_at n u ≡ Some v → v.peer ≡ s.peer → (u ≡ t0 → ⊥) → is_gone s.state ≡ false → is_gone v.state ≡ false → beside s.state v.state ≡ true
   -- no records are left where it stops to hold them
@@ -85,16 +85,16 @@ sides_after n t0 s k f = record { one = one; other = other; mine = mine }
         inr (beside_turned b.state a.state (subst (λ (z : TrunkSide). beside z.state a.state ≡ true) sb (f.room t a (sym (side_after_other n t0 s t td) ∙ ha) (e ∙ ap (λ (z : TrunkSide). z.peer) (sym sb)) td (ap (λ (z : TrunkSide). is_gone z.state) sb ∙ gb) ga))))
         (λ ud. k.one t u a b (sym (side_after_other n t0 s t td) ∙ ha) (sym (side_after_other n t0 s u ud) ∙ hb) e ga gb))
 
-    other : (t : TrunkId) (a : TrunkSide) → side_at (with_side_at n t0 s) t ≡ Some a → a.peer ≡ n.name → ⊥
+    other : (t : TrunkId) (a : TrunkSide) → side_at (with_side_at n t0 s) t ≡ Some a → a.peer ≡ n.mint.name → ⊥
     other t a ha e = by_trunk _ t (λ te. f.stranger (ap (λ (z : TrunkSide). z.peer) (at_same t a te ha) ∙ e)) (λ td. k.other t a (sym (side_after_other n t0 s t td) ∙ ha) e)
 
-    role_of : (a : TrunkSide) → s ≡ a → (t0.dialer ≡ n.name) ⊎ (t0.dialer ≡ s.peer) → (t0.dialer ≡ n.name) ⊎ (t0.dialer ≡ a.peer)
+    role_of : (a : TrunkSide) → s ≡ a → (t0.dialer ≡ n.mint.name) ⊎ (t0.dialer ≡ s.peer) → (t0.dialer ≡ n.mint.name) ⊎ (t0.dialer ≡ a.peer)
     role_of a e (inl h) = inl h
     role_of a e (inr h) = inr (h ∙ ap (λ (z : TrunkSide). z.peer) e)
 
-    mine : (t : TrunkId) (a : TrunkSide) → side_at (with_side_at n t0 s) t ≡ Some a → (t.dialer ≡ n.name) ⊎ (t.dialer ≡ a.peer)
+    mine : (t : TrunkId) (a : TrunkSide) → side_at (with_side_at n t0 s) t ≡ Some a → (t.dialer ≡ n.mint.name) ⊎ (t.dialer ≡ a.peer)
     mine t a ha = by_trunk _ t
-        (λ te. subst (λ (z : TrunkId). (z.dialer ≡ n.name) ⊎ (z.dialer ≡ a.peer)) (sym te) (role_of a (at_same t a te ha) f.role))
+        (λ te. subst (λ (z : TrunkId). (z.dialer ≡ n.mint.name) ⊎ (z.dialer ≡ a.peer)) (sym te) (role_of a (at_same t a te ha) f.role))
         (λ td. k.mine t a (sym (side_after_other n t0 s t td) ∙ ha))
 
 -- a node that held y still does, but for the side itself
@@ -107,7 +107,7 @@ held_is n t v h u = go (side_where holds v.peer (fm.entries n.sides)) refl
 
     go : (o : Option (TrunkId × TrunkSide)) → side_where holds v.peer (fm.entries n.sides) ≡ o → held n v.peer ≡ true
     go None e = let c : true ≡ false = sym u ∙ side_where_none holds v.peer (fm.entries n.sides) t v e (sym (fm.get-entries n.sides t) ∙ h) refl in cc
-    go (Some e) i = or_right (same_name v.peer n.name) _ (ap is_some i)
+    go (Some e) i = or_right (same_name v.peer n.mint.name) _ (ap is_some i)
 
 pub record Holder (n : Node) (y : Name) : Type 0 where
   pub trunk : TrunkId
@@ -116,16 +116,16 @@ pub record Holder (n : Node) (y : Name) : Type 0 where
   pub peer : side.peer ≡ y
   pub holding : holds side.state ≡ true
 
-pub held_by : (n : Node) (y : Name) → held n y ≡ true → (same_name y n.name ≡ true) ⊎ Holder n y
-held_by n y h = go (same_name y n.name) refl (side_where holds y (fm.entries n.sides)) refl
+pub held_by : (n : Node) (y : Name) → held n y ≡ true → (same_name y n.mint.name ≡ true) ⊎ Holder n y
+held_by n y h = go (same_name y n.mint.name) refl (side_where holds y (fm.entries n.sides)) refl
   where
     or_rest : (a b : Bool) → a ≡ false → (a || b) ≡ true → b ≡ true
     or_rest true b e h = cc
     or_rest false b e h = h
 
-    go : (b : Bool) → same_name y n.name ≡ b → (o : Option (TrunkId × TrunkSide)) → side_where holds y (fm.entries n.sides) ≡ o → (same_name y n.name ≡ true) ⊎ Holder n y
+    go : (b : Bool) → same_name y n.mint.name ≡ b → (o : Option (TrunkId × TrunkSide)) → side_where holds y (fm.entries n.sides) ≡ o → (same_name y n.mint.name ≡ true) ⊎ Holder n y
     go true e o i = inl e
-    go false e None i = let c : true ≡ false = sym (or_rest (same_name y n.name) _ e h) ∙ ap is_some i in cc
+    go false e None i = let c : true ≡ false = sym (or_rest (same_name y n.mint.name) _ e h) ∙ ap is_some i in cc
     go false e (Some d) i =
         let f = side_where_found holds y (fm.entries n.sides) d (fm.entries_sorted n.sides) i in
         inr (record { trunk = d.0; side = d.1; at = fm.get-entries n.sides d.0 ∙ f.there; peer = f.peer; holding = f.passes })
@@ -142,8 +142,8 @@ nodes_after n t0 s k f = record {
     moved_to : (q : Pid) (y : Name) → y ≡ q.node → held (with_side_at n t0 s) y ≡ true → held (with_side_at n t0 s) q.node ≡ true
     moved_to q y e h = ap (held (with_side_at n t0 s)) (sym e) ∙ h
 
-    still : (p q : Pid) → (end_of n p q ≡ End.None → ⊥) → (same_name q.node n.name ≡ true) ⊎ Holder n q.node → held (with_side_at n t0 s) q.node ≡ true
-    still p q e (inl h) = or_left (same_name q.node n.name) _ h
+    still : (p q : Pid) → (end_of n p q ≡ End.None → ⊥) → (same_name q.node n.mint.name ≡ true) ⊎ Holder n q.node → held (with_side_at n t0 s) q.node ≡ true
+    still p q e (inl h) = or_left (same_name q.node n.mint.name) _ h
     still p q e (inr g) = by_test _ (same_trunk g.trunk t0)
         (λ i.
         let te : g.trunk ≡ t0 = same_trunk_true g.trunk t0 i in
@@ -166,7 +166,7 @@ module _ (w : World) (x : Name) (n : Node) (t0 : TrunkId) (s0 : TrunkSide) (hx :
   n1 : Node
   n1 = with_side_at n t0 s0
 
-  nx : n.name ≡ x
+  nx : n.mint.name ≡ x
   nx = node_of_name w.nodes x n hx
 
   here : node_of (set_node w.nodes x n1) x ≡ Some n1
@@ -301,8 +301,8 @@ alone n t v k h ng nh na = by_test _ (held n v.peer) (λ e. absurd (go (held_by 
         let c : true ≡ false = sym g.holding ∙ ap (λ (z : TrunkSide). holds z.state) (sym e) ∙ nh in cc
     pick g (inr i) = no (holds v.state) (asks g.side.state) (asks v.state) (holds g.side.state) nh na i
 
-    go : (same_name v.peer n.name ≡ true) ⊎ Holder n v.peer → ⊥
-    go (inl e) = k.other t v h (same_name_true v.peer n.name e)
+    go : (same_name v.peer n.mint.name ≡ true) ⊎ Holder n v.peer → ⊥
+    go (inl e) = k.other t v h (same_name_true v.peer n.mint.name e)
     go (inr g) = pick g (k.one t g.trunk v g.side h g.at (sym g.peer) ng (holds_kinds g.side.state g.holding).0)
 
 blank_half : (g h : Bool) (n m : ℕ) → Half (record { end = End.None; gone = g; drawn = n; sent = [] }) (record { end = End.None; gone = h; drawn = m; sent = [] })

@@ -25,25 +25,25 @@ some_same a b h = ap (λ o. unwrap_or o a) h
 pub none_some : {A : Type 0} (a : A) → None ≡ Some a → ⊥
 none_some a h = let n : false ≡ true = ap is_some h in cc
 
-pub node_of_name : (ns : List Node) (x : Name) (n : Node) → node_of ns x ≡ Some n → n.name ≡ x
+pub node_of_name : (ns : List Node) (x : Name) (n : Node) → node_of ns x ≡ Some n → n.mint.name ≡ x
 node_of_name [] x n h = absurd (none_some n h)
-node_of_name (m ∷ ns) x n h = go (same_name m.name x) refl h (node_of_name ns x n)
+node_of_name (m ∷ ns) x n h = go (same_name m.mint.name x) refl h (node_of_name ns x n)
   where
-    go : (b : Bool) → same_name m.name x ≡ b → cond b (Some m) (node_of ns x) ≡ Some n → (node_of ns x ≡ Some n → n.name ≡ x) → n.name ≡ x
-    go true e h f = ap (λ (v : Node). v.name) (sym (some_same m n h)) ∙ same_name_true m.name x e
+    go : (b : Bool) → same_name m.mint.name x ≡ b → cond b (Some m) (node_of ns x) ≡ Some n → (node_of ns x ≡ Some n → n.mint.name ≡ x) → n.mint.name ≡ x
+    go true e h f = ap (λ (v : Node). v.mint.name) (sym (some_same m n h)) ∙ same_name_true m.mint.name x e
     go false e h f = f h
 
-pub node_of_set_same : (ns : List Node) (x : Name) (n m : Node) → node_of ns x ≡ Some n → m.name ≡ x → node_of (set_node ns x m) x ≡ Some m
+pub node_of_set_same : (ns : List Node) (x : Name) (n m : Node) → node_of ns x ≡ Some n → m.mint.name ≡ x → node_of (set_node ns x m) x ≡ Some m
 node_of_set_same [] x n m h e = absurd (none_some n h)
-node_of_set_same (k ∷ ns) x n m h e = go (same_name k.name x) refl h (λ f. node_of_set_same ns x n m f e)
+node_of_set_same (k ∷ ns) x n m h e = go (same_name k.mint.name x) refl h (λ f. node_of_set_same ns x n m f e)
   where
-    go : (b : Bool) → same_name k.name x ≡ b → cond b (Some k) (node_of ns x) ≡ Some n → (node_of ns x ≡ Some n → node_of (set_node ns x m) x ≡ Some m) → node_of (cond b (m ∷ ns) (k ∷ set_node ns x m)) x ≡ Some m
-    go true i h f = ap (λ b. cond b (Some m) (node_of ns x)) (same_name_is m.name x e)
+    go : (b : Bool) → same_name k.mint.name x ≡ b → cond b (Some k) (node_of ns x) ≡ Some n → (node_of ns x ≡ Some n → node_of (set_node ns x m) x ≡ Some m) → node_of (cond b (m ∷ ns) (k ∷ set_node ns x m)) x ≡ Some m
+    go true i h f = ap (λ b. cond b (Some m) (node_of ns x)) (same_name_is m.mint.name x e)
     go false i h f = ap (λ b. cond b (Some k) (node_of (set_node ns x m) x)) i ∙ f h
 
-pub node_of_set_other : (ns : List Node) (x y : Name) (m : Node) → m.name ≡ x → (x ≡ y → ⊥) → node_of (set_node ns x m) y ≡ node_of ns y
+pub node_of_set_other : (ns : List Node) (x y : Name) (m : Node) → m.mint.name ≡ x → (x ≡ y → ⊥) → node_of (set_node ns x m) y ≡ node_of ns y
 node_of_set_other [] x y m e d = refl
-node_of_set_other (k ∷ ns) x y m e d = go (same_name k.name x) refl (node_of_set_other ns x y m e d)
+node_of_set_other (k ∷ ns) x y m e d = go (same_name k.mint.name x) refl (node_of_set_other ns x y m e d)
   where
     not_same : (z : Name) → z ≡ x → same_name z y ≡ false
     not_same z h = pick (same_name z y) refl
@@ -52,9 +52,9 @@ node_of_set_other (k ∷ ns) x y m e d = go (same_name k.name x) refl (node_of_s
         pick true i = absurd (d (sym h ∙ same_name_true z y i))
         pick false i = i
 
-    go : (b : Bool) → same_name k.name x ≡ b → node_of (set_node ns x m) y ≡ node_of ns y → node_of (cond b (m ∷ ns) (k ∷ set_node ns x m)) y ≡ cond (same_name k.name y) (Some k) (node_of ns y)
-    go true i f = ap (λ b. cond b (Some m) (node_of ns y)) (not_same m.name e) ∙ ap (λ b. cond b (Some k) (node_of ns y)) (sym (not_same k.name (same_name_true k.name x i)))
-    go false i f = ap (cond (same_name k.name y) (Some k)) f
+    go : (b : Bool) → same_name k.mint.name x ≡ b → node_of (set_node ns x m) y ≡ node_of ns y → node_of (cond b (m ∷ ns) (k ∷ set_node ns x m)) y ≡ cond (same_name k.mint.name y) (Some k) (node_of ns y)
+    go true i f = ap (λ b. cond b (Some m) (node_of ns y)) (not_same m.mint.name e) ∙ ap (λ b. cond b (Some k) (node_of ns y)) (sym (not_same k.mint.name (same_name_true k.mint.name x i)))
+    go false i f = ap (cond (same_name k.mint.name y) (Some k)) f
 
 -- lists
 abbrev pub at_place : TrunkId → Name → List Envelope → List Item

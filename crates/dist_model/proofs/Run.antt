@@ -118,7 +118,7 @@ first_known w x n t v k [] hx h g e = g
 first_known w x n t v k (i ∷ rest) hx h g e = ends_well w x (fm.insert w.lists (t, x) rest) (arrive_at (handshake_in i) t v i (at_work n)) g (by_kind w x n t v rest hx h g (handshake_in i) i refl e)
 
 -- a fresh side, any item
-module _ (w : World) (x : Name) (n : Node) (hx : node_of w.nodes x ≡ Some n) (g : Good w) (t : TrunkId) (far : same_name t.dialer n.name ≡ false) (key : is_some (fm.get w.lists (t, x)) ≡ true) (none : side_at n t ≡ None) where
+module _ (w : World) (x : Name) (n : Node) (hx : node_of w.nodes x ≡ Some n) (g : Good w) (t : TrunkId) (far : same_name t.dialer n.mint.name ≡ false) (key : is_some (fm.get w.lists (t, x)) ≡ true) (none : side_at n t ≡ None) where
   abbrev Well : Outcome → Type 0
   Well o = IfGoes o (λ p. Good (record { names = w.names; nodes = set_node w.nodes x p.node; lists = carried w.lists p.sent }))
 
@@ -183,7 +183,7 @@ runs_well w n s g h = go n.up
     go false = g
 
 good_start : (w : World) (x : Name) (n : Node) → node_of w.nodes x ≡ Some n → Good w → Good ((ends_in w x w.lists (start n)).world)
-good_start w x n hx g = go n.up (nat_lt (n.creation + 1) (2 ^ 32))
+good_start w x n hx g = go n.up (nat_lt (n.mint.creation + 1) (2 ^ 32))
   where
     go : (a b : Bool) → Good ((ends_in w x w.lists (cond a (Refuses Refusal.NodeUp) (cond b (Goes Done (at_work (started n))) (Refuses Refusal.IdsUsedUp)))).world)
     go true b = g

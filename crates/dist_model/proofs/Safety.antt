@@ -92,15 +92,15 @@ module _ (p q : Pid) (a b : Node) (m l : List LinkWord) (k : Kept (side_of a p q
       (λ o. not_active (drained (end_of b q p) m) (ap (drained (end_of b q p)) em ∙ none) ((k.agree lo o).0 act))
 
 module _ (w : World) (g : Good w) where
-  own_name : (x : Name) (a : Node) → node_of w.nodes x ≡ Some a → same_name x a.name ≡ true
-  own_name x a h = same_name_is x a.name (sym (node_of_name w.nodes x a h))
+  own_name : (x : Name) (a : Node) → node_of w.nodes x ≡ Some a → same_name x a.mint.name ≡ true
+  own_name x a h = same_name_is x a.mint.name (sym (node_of_name w.nodes x a h))
 
   kept_over : (p q : Pid) (a b : Node) (t : TrunkId) → node_of w.nodes p.node ≡ Some a → node_of w.nodes q.node ≡ Some b → Stands w p.node t q.node is_up → Stands w q.node t p.node is_up
       → Kept (side_of a p q (words p q (list_to w.lists t q.node))) (side_of b q p (words q p (list_to w.lists t p.node)))
   kept_over p q a b t ha hb s v = g.core.trunks p.node q.node a b t s.side v.side ha hb (sym (ap (λ o. side_in o t) ha) ∙ s.there) (sym (ap (λ o. side_in o t) hb) ∙ v.there) s.peer v.peer s.state (up_joined v.side.state v.state) p q refl refl
 
   kept_within : (p q : Pid) (a : Node) → node_of w.nodes p.node ≡ Some a → p.node ≡ q.node → same_pid p q ≡ false → Kept (side_of a p q (words p q a.local)) (side_of a q p (words q p a.local))
-  kept_within p q a h e d = (g.home p.node a h).pairs p q (own_name p.node a h) (ap (λ z. same_name z a.name) (sym e) ∙ own_name p.node a h) d
+  kept_within p q a h e d = (g.home p.node a h).pairs p q (own_name p.node a h) (ap (λ z. same_name z a.mint.name) (sym e) ∙ own_name p.node a h) d
 
   one_node : (p q : Pid) (a b : Node) → node_of w.nodes p.node ≡ Some a → node_of w.nodes q.node ≡ Some b → p.node ≡ q.node → a ≡ b
   one_node p q a b ha hb e = some_same a b (sym ha ∙ ap (node_of w.nodes) e ∙ hb)
@@ -134,9 +134,9 @@ module _ (w : World) (g : Good w) where
     where
       go : (o : Option Node) → node_of w.nodes p.node ≡ o → connected_at o q.node ≡ false → end_at o p q ≡ End.None
       go None h c = refl
-      go (Some a) h c = unheld_absent a p q (g.core.nodes p.node a h) (or_false (same_name q.node a.name) _
-          (by_test _ (same_name q.node a.name)
-          (λ i. let z : true ≡ false = sym (same_name_is p.node q.node (sym (node_of_name w.nodes p.node a h) ∙ sym (same_name_true q.node a.name i))) ∙ n in cc) (λ i. i)) c)
+      go (Some a) h c = unheld_absent a p q (g.core.nodes p.node a h) (or_false (same_name q.node a.mint.name) _
+          (by_test _ (same_name q.node a.mint.name)
+          (λ i. let z : true ≡ false = sym (same_name_is p.node q.node (sym (node_of_name w.nodes p.node a h) ∙ sym (same_name_true q.node a.mint.name i))) ∙ n in cc) (λ i. i)) c)
 
   name_turned : (x y : Name) → same_name x y ≡ false → same_name y x ≡ false
   name_turned x y h = by_test _ (same_name y x) (λ i. let z : true ≡ false = sym (same_name_is x y (sym (same_name_true y x i))) ∙ h in cc) (λ i. i)

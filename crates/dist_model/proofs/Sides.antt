@@ -45,8 +45,8 @@ side_at n t = fm.get n.sides t
 pub record SidesKept (n : Node) : Type 0 where
   -- two sides towards one peer that aren't gone are one, or one waits for the end of the other
   pub one : (t u : TrunkId) (s v : TrunkSide) → side_at n t ≡ Some s → side_at n u ≡ Some v → s.peer ≡ v.peer → is_gone s.state ≡ false → is_gone v.state ≡ false → (t ≡ u) ⊎ (beside s.state v.state ≡ true)
-  pub other : (t : TrunkId) (s : TrunkSide) → side_at n t ≡ Some s → s.peer ≡ n.name → ⊥
-  pub mine : (t : TrunkId) (s : TrunkSide) → side_at n t ≡ Some s → (t.dialer ≡ n.name) ⊎ (t.dialer ≡ s.peer)
+  pub other : (t : TrunkId) (s : TrunkSide) → side_at n t ≡ Some s → s.peer ≡ n.mint.name → ⊥
+  pub mine : (t : TrunkId) (s : TrunkSide) → side_at n t ≡ Some s → (t.dialer ≡ n.mint.name) ⊎ (t.dialer ≡ s.peer)
 
 -- of the two sides of a pair of nodes one is up, and the other is up or about to be
 abbrev pub joined : State → Bool
@@ -167,11 +167,11 @@ some_not_none : {A : Type 0} (o : Option A) → (o ≡ None → ⊥) → is_some
 some_not_none None n = absurd (n refl)
 some_not_none (Some a) n = refl
 
-pub not_own : (n : Node) (t : TrunkId) (s : TrunkSide) → SidesKept n → side_at n t ≡ Some s → same_name s.peer n.name ≡ false
-not_own n t s k h = go (same_name s.peer n.name) refl
+pub not_own : (n : Node) (t : TrunkId) (s : TrunkSide) → SidesKept n → side_at n t ≡ Some s → same_name s.peer n.mint.name ≡ false
+not_own n t s k h = go (same_name s.peer n.mint.name) refl
   where
-    go : (b : Bool) → same_name s.peer n.name ≡ b → same_name s.peer n.name ≡ false
-    go true e = absurd (k.other t s h (same_name_true s.peer n.name e))
+    go : (b : Bool) → same_name s.peer n.mint.name ≡ b → same_name s.peer n.mint.name ≡ false
+    go true e = absurd (k.other t s h (same_name_true s.peer n.mint.name e))
     go false e = e
 
 pub or_false : (a b : Bool) → a ≡ false → b ≡ false → (a || b) ≡ false
@@ -179,7 +179,7 @@ or_false true b h k = cc
 or_false false b h k = k
 
 pub not_held : (n : Node) (t : TrunkId) (s : TrunkSide) → SidesKept n → side_at n t ≡ Some s → joined s.state ≡ true → is_up s.state ≡ false → held n s.peer ≡ false
-not_held n t s k h j u = or_false (same_name s.peer n.name) (is_some (side_where holds s.peer (fm.entries n.sides))) (not_own n t s k h) (go (side_where holds s.peer (fm.entries n.sides)) refl)
+not_held n t s k h j u = or_false (same_name s.peer n.mint.name) (is_some (side_where holds s.peer (fm.entries n.sides))) (not_own n t s k h) (go (side_where holds s.peer (fm.entries n.sides)) refl)
   where
     pick : (e : TrunkId × TrunkSide) → Found holds s.peer (fm.entries n.sides) e → (t ≡ e.0) ⊎ (beside s.state e.1.state ≡ true) → ⊥
     pick e f (inl i) =
@@ -258,17 +258,17 @@ pub some_true : {A : Type 0} (o : Option A) (a : A) → o ≡ Some a → is_some
 some_true o a h = ap is_some h
 
 pub reach_up : (n : Node) (t : TrunkId) (s : TrunkSide) → SidesKept n → side_at n t ≡ Some s → is_up s.state ≡ true → reaches n s.peer ≡ true
-reach_up n t s k h u = or_true (same_name s.peer n.name) (is_some (route n s.peer)) (some_true (route n s.peer) t (route_up n t s k h u))
+reach_up n t s k h u = or_true (same_name s.peer n.mint.name) (is_some (route n s.peer)) (some_true (route n s.peer) t (route_up n t s k h u))
 
 -- what one part of an event does to the own half of a pair on a trunk
-module _ (n : Node) (o : Work) (sd : o.node.sides ≡ n.sides) (nm : o.node.name ≡ n.name) (kn : NodeKept n) (ko : NodeKept o.node)
-    (gr : (p : Pid) → over n p ≡ true → over o.node p ≡ true) (dr : n.unlinks ≤ o.node.unlinks) (ro : AllRouted o.node.sides o.sent) (sk : SidesKept n) where
+module _ (n : Node) (o : Work) (sd : o.node.sides ≡ n.sides) (nm : o.node.mint.name ≡ n.mint.name) (kn : NodeKept n) (ko : NodeKept o.node)
+    (gr : (p : Pid) → over n p ≡ true → over o.node p ≡ true) (dr : n.mint.unlink_ids ≤ o.node.mint.unlink_ids) (ro : AllRouted o.node.sides o.sent) (sk : SidesKept n) where
   pub up_half : (t : TrunkId) (s : TrunkSide) → side_at n t ≡ Some s → is_up s.state ≡ true → (p q : Pid) → q.node ≡ s.peer → (L : List Item) (c d : Side)
       → ((b : List LinkWord) → reaches n q.node ≡ true → Kept (view b (at_work n) p q) c → Kept (view b o p q) d)
       → Kept (side_of n p q (words p q L)) c → Kept (side_of o.node p q (words p q L ++ words p q (at_place t s.peer o.sent))) d
   up_half t s h u p q e L c d vs k =
-      let own : same_name q.node n.name ≡ false = ap (λ y. same_name y n.name) e ∙ not_own n t s sk h in
-      let own2 : same_name q.node o.node.name ≡ false = ap (same_name q.node) nm ∙ own in
+      let own : same_name q.node n.mint.name ≡ false = ap (λ y. same_name y n.mint.name) e ∙ not_own n t s sk h in
+      let own2 : same_name q.node o.node.mint.name ≡ false = ap (same_name q.node) nm ∙ own in
       let r : reaches n q.node ≡ true = ap (reaches n) e ∙ reach_up n t s sk h u in
       let before : (view (words p q L) (at_work n) p q).sent ≡ words p q L = ap (λ b. words p q L ++ words p q (cond b n.local [])) own ∙ append-nil (words p q L) in
       let route2 : route_in (fm.entries o.node.sides) s.peer ≡ Some t = ap (λ m. route_in (fm.entries m) s.peer) sd ∙ route_up n t s sk h u in
@@ -285,7 +285,7 @@ module _ (n : Node) (o : Work) (sd : o.node.sides ≡ n.sides) (nm : o.node.name
       let f : held n q.node ≡ false = ap (held n) e ∙ not_held n t s sk h j u in
       let g : held o.node q.node ≡ false = held_along n o.node sd nm q.node ∙ f in
       let none : at_place t s.peer o.sent ≡ [] = at_place_none o.node.sides o.sent t s.peer ro (λ r.
-      let r2 : reaches n s.peer ≡ true = or_true (same_name s.peer n.name) (is_some (route n s.peer)) (some_true (route n s.peer) t (ap (λ m. route_in (fm.entries m) s.peer) (sym sd) ∙ r)) in
+      let r2 : reaches n s.peer ≡ true = or_true (same_name s.peer n.mint.name) (is_some (route n s.peer)) (some_true (route n s.peer) t (ap (λ m. route_in (fm.entries m) s.peer) (sym sd) ∙ r)) in
       let c : true ≡ false = sym (reach_held n s.peer r2) ∙ not_held n t s sk h j u in cc) in
       quiet_half (side_of n p q (words p q L)) (side_of o.node p q (words p q L ++ words p q (at_place t s.peer o.sent))) c
       (unheld_absent n p q kn f) (unheld_absent o.node p q ko g) dr (gr p) (ap (λ l. words p q L ++ words p q l) none ∙ append-nil (words p q L)) k
@@ -295,7 +295,7 @@ module _ (n : Node) (o : Work) (sd : o.node.sides ≡ n.sides) (nm : o.node.name
       → Kept (side_of n p q (words p q L)) c → Kept (side_of o.node p q (words p q L ++ words p q (at_place t s.peer o.sent))) c
   half t s h j p q e L c vs k = by_test _ (is_up s.state) (λ u. up_half t s h u p q e L c c vs k) (λ u. far_half t s h j u p q e L c k)
 
-pub sides_kept : (n m : Node) → m.sides ≡ n.sides → m.name ≡ n.name → SidesKept n → SidesKept m
+pub sides_kept : (n m : Node) → m.sides ≡ n.sides → m.mint.name ≡ n.mint.name → SidesKept n → SidesKept m
 sides_kept n m sd nm k = record {
   one = λ t u s v a b. k.one t u s v (at t ∙ a) (at u ∙ b);
   other = λ t s a e. k.other t s (at t ∙ a) (e ∙ nm);
@@ -305,6 +305,6 @@ sides_kept n m sd nm k = record {
     at : (t : TrunkId) → side_at n t ≡ side_at m t
     at t = ap (λ l. fm.get l t) (sym sd)
 
-    pick : (t : TrunkId) (s : TrunkSide) → (t.dialer ≡ n.name) ⊎ (t.dialer ≡ s.peer) → (t.dialer ≡ m.name) ⊎ (t.dialer ≡ s.peer)
+    pick : (t : TrunkId) (s : TrunkSide) → (t.dialer ≡ n.mint.name) ⊎ (t.dialer ≡ s.peer) → (t.dialer ≡ m.mint.name) ⊎ (t.dialer ≡ s.peer)
     pick t s (inl e) = inl (e ∙ sym nm)
     pick t s (inr e) = inr e

@@ -1,7 +1,4 @@
 -- A signal is taken, from a trunk or from the own list.
-use Rattle.dist_model.proofs.Steps.{good_link}
-use Rattle.dist_model.proofs.Moves.{Takes}
-use Rattle.dist_model.proofs.Steps.{taken_link}
 use Rattle.std.proofs.Common.{◌≡◌, ◌≤◌, Bool, true, false, cond, List, [], ◌∷◌, ◌++◌, refl, sym, ap, ◌∙◌, subst, arith, ◌&&◌, Option, Some, None, ◌⊎◌, inl, inr, append-nil}
 use Rattle.std.specs.Option.{is_some}
 use Rattle.std.specs.FinMap as fm
@@ -9,12 +6,12 @@ use Rattle.dist_model.proofs.Calls.{by_test, takes_other}
 use Rattle.dist_model.proofs.Home.{HomePairs, home_moves, home_pair, local_home, never_own, own_reached, pid_turned, without_local}
 use Rattle.dist_model.proofs.Kept.{Kept}
 use Rattle.dist_model.proofs.Keys.{and_both, same_pid_true, same_trunk, same_trunk_true}
-use Rattle.dist_model.proofs.Moves.{AllRouted, HomeItem, Homely, NodeKept, held, home_of, home_saying, reach_held, takes_link}
+use Rattle.dist_model.proofs.Moves.{AllRouted, HomeItem, Homely, NodeKept, Takes, held, home_of, home_saying, reach_held, takes_link}
 use Rattle.dist_model.proofs.Pair.{Side}
 use Rattle.dist_model.proofs.Pairs.{WorldKept, changed}
 use Rattle.dist_model.proofs.Routes.{at_place, list_to_carried, list_to_insert, node_of_name}
 use Rattle.dist_model.proofs.Sides.{SidesKept, half, not_own, reach_up, side_at, sides_kept}
-use Rattle.dist_model.proofs.Steps.{good_item, is_from_peer, kind, not_never, own_none, two_parts}
+use Rattle.dist_model.proofs.Steps.{good_item, good_link, is_from_peer, kind, not_never, own_none, taken_link, two_parts}
 use Rattle.dist_model.proofs.Table.{Good, HomeKept, carried_key, good_changed, insert_key, key_of, unsent}
 use Rattle.dist_model.proofs.Views.{over, side_of, view}
 use Rattle.dist_model.specs.Arrivals.{is_from, is_good, is_to}
@@ -33,14 +30,14 @@ use Rattle.erl_term.specs.declared.term.Pid.{Pid}
 record After (n : Node) (o : Work) : Type 0 where
   sides : o.node.sides ≡ n.sides
   dialed : o.node.dialed ≡ n.dialed
-  name : o.node.name ≡ n.name
+  name : o.node.mint.name ≡ n.mint.name
   routed : AllRouted o.node.sides o.sent
   local : home_of o.node
   pairs : HomePairs o.node
 
-own_other : (n : Node) (s0 : TrunkSide) (q0 y : Pid) → q0.node ≡ s0.peer → same_name s0.peer n.name ≡ false → same_name y.node n.name ≡ true → (b : Bool) → (b && same_pid y q0) ≡ false
+own_other : (n : Node) (s0 : TrunkSide) (q0 y : Pid) → q0.node ≡ s0.peer → same_name s0.peer n.mint.name ≡ false → same_name y.node n.mint.name ≡ true → (b : Bool) → (b && same_pid y q0) ≡ false
 own_other n s0 q0 y e d h b = go b (by_test _ (same_pid y q0)
-    (λ i. let c : true ≡ false = sym h ∙ ap (λ (v : Pid). same_name v.node n.name) (same_pid_true y q0 i) ∙ ap (λ v. same_name v n.name) e ∙ d in cc) (λ i. i))
+    (λ i. let c : true ≡ false = sym h ∙ ap (λ (v : Pid). same_name v.node n.mint.name) (same_pid_true y q0 i) ∙ ap (λ v. same_name v n.mint.name) e ∙ d in cc) (λ i. i))
   where
     go : (b : Bool) {c : Bool} → c ≡ false → (b && c) ≡ false
     go true h = h
@@ -61,8 +58,8 @@ module _ (w : World) (x : Name) (n : Node) (t0 : TrunkId) (s0 : TrunkSide) (i : 
   after_link q0 p0 s c =
       let v = and_both (is_from s0 q0) (is_to n p0) c in
       let from : q0.node ≡ s0.peer = is_from_peer s0 q0 v.0 in
-      let no : same_name s0.peer n.name ≡ false = not_own n t0 s0 sk h0 in
-      let f = takes_link p0 q0 s (at_work n) (λ e. absurd (let z : true ≡ false = sym e ∙ ap (λ y. same_name y n.name) from ∙ no in cc)) (not_never n p0 v.1) in
+      let no : same_name s0.peer n.mint.name ≡ false = not_own n t0 s0 sk h0 in
+      let f = takes_link p0 q0 s (at_work n) (λ e. absurd (let z : true ≡ false = sym e ∙ ap (λ y. same_name y n.mint.name) from ∙ no in cc)) (not_never n p0 v.1) in
       let hd : held n q0.node ≡ true = ap (held n) from ∙ reach_held n s0.peer (reach_up n t0 s0 sk h0 u0) in
       record {
         sides = f.sides;
@@ -71,15 +68,15 @@ module _ (w : World) (x : Name) (n : Node) (t0 : TrunkId) (s0 : TrunkSide) (i : 
         routed = f.routed tt;
         local = f.home kn hd hk.local;
         pairs = λ p q hp hq d.
-            let hp1 : same_name p.node n.name ≡ true = ap (same_name p.node) (sym f.name) ∙ hp in
-            let hq1 : same_name q.node n.name ≡ true = ap (same_name q.node) (sym f.name) ∙ hq in
+            let hp1 : same_name p.node n.mint.name ≡ true = ap (same_name p.node) (sym f.name) ∙ hp in
+            let hq1 : same_name q.node n.mint.name ≡ true = ap (same_name q.node) (sym f.name) ∙ hq in
             home_pair (at_work n) (take_link p0 q0 s (at_work n)) f.name p q hp1 hq1
             (λ a b e k r. f.others kn hd [] a b k r (own_other n s0 q0 b from no (own_of a b p q hp1 hq1 e) (same_pid a p0))) (hk.pairs p q hp1 hq1 d);
       }
     where
-      own_of : (a b p q : Pid) → same_name p.node n.name ≡ true → same_name q.node n.name ≡ true → ((a ≡ p) × (b ≡ q)) ⊎ ((a ≡ q) × (b ≡ p)) → same_name b.node n.name ≡ true
-      own_of a b p q hp hq (inl e) = ap (λ (v : Pid). same_name v.node n.name) e.1 ∙ hq
-      own_of a b p q hp hq (inr e) = ap (λ (v : Pid). same_name v.node n.name) e.1 ∙ hp
+      own_of : (a b p q : Pid) → same_name p.node n.mint.name ≡ true → same_name q.node n.mint.name ≡ true → ((a ≡ p) × (b ≡ q)) ⊎ ((a ≡ q) × (b ≡ p)) → same_name b.node n.mint.name ≡ true
+      own_of a b p q hp hq (inl e) = ap (λ (v : Pid). same_name v.node n.mint.name) e.1 ∙ hq
+      own_of a b p q hp hq (inr e) = ap (λ (v : Pid). same_name v.node n.mint.name) e.1 ∙ hp
 
   after_plain : (j : Item) → ((p q : Pid) → word_in p q j ≡ []) → After n (take_item j (at_work n))
   after_plain j none =
@@ -135,25 +132,25 @@ module _ (w : World) (x : Name) (n : Node) (i : Item) (xs : List Item) (hx : nod
   sl : SidesKept n1
   sl = sides_kept n n1 refl refl (g.core.sides x n hx)
 
-  nx1 : n.name ≡ x
+  nx1 : n.mint.name ≡ x
   nx1 = node_of_name w.nodes x n hx
 
-  local_core : (sd : o1.node.sides ≡ n.sides) (nm : o1.node.name ≡ n.name) (ko : NodeKept o1.node) (gr : (p : Pid) → over n p ≡ true → over o1.node p ≡ true) (dr : n.unlinks ≤ o1.node.unlinks) (ro : AllRouted o1.node.sides o1.sent)
-      → ((p q : Pid) (b : List LinkWord) (c : Side) → same_name q.node n.name ≡ false → reaches n q.node ≡ true → Kept (view b (at_work n1) p q) c → Kept (view b o1 p q) c)
+  local_core : (sd : o1.node.sides ≡ n.sides) (nm : o1.node.mint.name ≡ n.mint.name) (ko : NodeKept o1.node) (gr : (p : Pid) → over n p ≡ true → over o1.node p ≡ true) (dr : n.mint.unlink_ids ≤ o1.node.mint.unlink_ids) (ro : AllRouted o1.node.sides o1.sent)
+      → ((p q : Pid) (b : List LinkWord) (c : Side) → same_name q.node n.mint.name ≡ false → reaches n q.node ≡ true → Kept (view b (at_work n1) p q) c → Kept (view b o1 p q) c)
       → WorldKept (record { names = w.names; nodes = set_node w.nodes x o1.node; lists = carried w.lists o1.sent })
   local_core sd nm ko gr dr ro vs = changed w x n o1 (carried w.lists o1.sent) hx sd nm ko ro (λ t y d. list_to_carried w.lists o1.sent t y)
       (λ t s fs j b p q pn qn old.
       let same : list_to (carried w.lists o1.sent) t x ≡ list_to w.lists t x = list_to_carried w.lists o1.sent t x ∙ ap (λ l. list_to w.lists t x ++ l) (own_none n o1 x t (g.core.sides x n hx) nx1 sd ro) ∙ append-nil (list_to w.lists t x) in
       let grown : words p q (list_to (carried w.lists o1.sent) t s.peer) ≡ words p q (list_to w.lists t s.peer) ++ words p q (at_place t s.peer o1.sent) =
       two_parts p q (list_to w.lists t s.peer) (at_place t s.peer o1.sent) _ (list_to_carried w.lists o1.sent t s.peer) in
-      let far : same_name q.node n.name ≡ false = ap (λ v. same_name v n.name) qn ∙ not_own n t s (g.core.sides x n hx) fs in
+      let far : same_name q.node n.mint.name ≡ false = ap (λ v. same_name v n.mint.name) qn ∙ not_own n t s (g.core.sides x n hx) fs in
       subst (λ l. Kept (side_of o1.node p q (words p q (list_to (carried w.lists o1.sent) t s.peer))) (side_of b q p (words q p l))) (sym same)
       (subst (λ l. Kept (side_of o1.node p q l) (side_of b q p (words q p (list_to w.lists t x)))) (sym grown)
       (half n1 o1 sd nm kl ko gr dr ro sl t s fs j p q qn (list_to w.lists t s.peer) (side_of b q p (words q p (list_to w.lists t x)))
       (λ l r k. vs p q l (side_of b q p (words q p (list_to w.lists t x))) far r k) old)))
       g.core
 
-  good_local_by : (core : WorldKept (record { names = w.names; nodes = set_node w.nodes x o1.node; lists = carried w.lists o1.sent })) (sd : o1.node.sides ≡ n.sides) (dl : o1.node.dialed ≡ n.dialed) (nm : o1.node.name ≡ n.name) (ro : AllRouted o1.node.sides o1.sent) → home_of o1.node
+  good_local_by : (core : WorldKept (record { names = w.names; nodes = set_node w.nodes x o1.node; lists = carried w.lists o1.sent })) (sd : o1.node.sides ≡ n.sides) (dl : o1.node.dialed ≡ n.dialed) (nm : o1.node.mint.name ≡ n.mint.name) (ro : AllRouted o1.node.sides o1.sent) → home_of o1.node
       → Good (record { names = w.names; nodes = set_node w.nodes x o1.node; lists = carried w.lists o1.sent })
   good_local_by core sd dl nm ro hm = good_changed w x n o1.node (carried w.lists o1.sent) hx g sd (omega (arith, dl)) nm core hm
       (local_home n i xs first (g.core.nodes x n hx) ((g.home x n hx).local) ((g.home x n hx).pairs))
@@ -182,7 +179,7 @@ good_local w x n i xs hx g first = go (kind i) (subst (λ l. Homely (λ p. never
         let f : Takes p0 q0 s (at_work (record n { local = xs })) (take (telling q0 p0 s) (at_work (record n { local = xs }))) =
             subst (λ z. Takes p0 q0 s (at_work (record n { local = xs })) z) (sym (taken_link q0 p0 s (at_work (record n { local = xs })))) (takes_link p0 q0 s (at_work (record n { local = xs })) (λ z. (hq, pid_turned q0 p0 two)) hp) in
         let k1 = kl w x n (Signalled (telling q0 p0 s)) xs hx g e in
-        let own : same_name q0.node n.name ≡ true = never_own n q0 hq in
+        let own : same_name q0.node n.mint.name ≡ true = never_own n q0 hq in
         let hd : held n q0.node ≡ true = reach_held n q0.node (own_reached n q0.node own) in
         good_local_by w x n (Signalled (telling q0 p0 s)) xs hx g e
         (local_core w x n (Signalled (telling q0 p0 s)) xs hx g e f.sides f.name (f.keeps k1 hd) f.grows f.draws (f.routed tt)
@@ -193,9 +190,9 @@ good_local w x n i xs hx g first = go (kind i) (subst (λ l. Homely (λ p. never
         and_no2 true b h = h
         and_no2 false b h = refl
 
-        not_this : (p q q0 : Pid) → same_name q0.node n.name ≡ true → same_name q.node n.name ≡ false → (b : Bool) → (b && same_pid q q0) ≡ false
+        not_this : (p q q0 : Pid) → same_name q0.node n.mint.name ≡ true → same_name q.node n.mint.name ≡ false → (b : Bool) → (b && same_pid q q0) ≡ false
         not_this p q q0 own far b = and_no2 b (same_pid q q0) (by_test _ (same_pid q q0)
-            (λ i. let c : true ≡ false = sym own ∙ ap (λ (v : Pid). same_name v.node n.name) (sym (same_pid_true q q0 i)) ∙ far in cc) (λ i. i))
+            (λ i. let c : true ≡ false = sym own ∙ ap (λ (v : Pid). same_name v.node n.mint.name) (sym (same_pid_true q q0 i)) ∙ far in cc) (λ i. i))
 
     go : ((p q : Pid) → word_in p q i ≡ []) ⊎ ((q : Pid) × (p : Pid) × (s : LinkWord) × (i ≡ Signalled (telling q p s))) → HomeItem (λ p. never n p) i → Good (after_local w x n xs i)
     go (inl h) m = plain i first h

@@ -28,7 +28,7 @@ use Rattle.link_core.specs.declared.end.LinkSignal.{LinkSignal}
 use Rattle.std.specs.FinMap.{FinMap}
 
 -- nothing is sent to the own node on a trunk
-pub own_none : (n : Node) (o : Work) (x : Name) (t : TrunkId) → SidesKept n → n.name ≡ x → o.node.sides ≡ n.sides → AllRouted o.node.sides o.sent → at_place t x o.sent ≡ []
+pub own_none : (n : Node) (o : Work) (x : Name) (t : TrunkId) → SidesKept n → n.mint.name ≡ x → o.node.sides ≡ n.sides → AllRouted o.node.sides o.sent → at_place t x o.sent ≡ []
 own_none n o x t k e sd ro = at_place_none o.node.sides o.sent t x ro (λ r.
     let u = route_from n x t (ap (λ l. route_in (fm.entries l) x) (sym sd) ∙ r) in
     k.other t u.found u.there (u.peer ∙ sym e))
@@ -43,7 +43,7 @@ moved w x n o hx f k =
     let kn = k.nodes x n hx in
     let sk = k.sides x n hx in
     let ro : AllRouted o.node.sides o.sent = f.routed tt in
-    let nm : n.name ≡ x = node_of_name w.nodes x n hx in
+    let nm : n.mint.name ≡ x = node_of_name w.nodes x n hx in
     changed w x n o (carried w.lists o.sent) hx f.sides f.name (f.keeps kn) ro (λ t y d. list_to_carried w.lists o.sent t y)
     (λ t s fs j b p q pn qn old.
     let same : list_to (carried w.lists o.sent) t x ≡ list_to w.lists t x = list_to_carried w.lists o.sent t x ∙ ap (λ l. list_to w.lists t x ++ l) (own_none n o x t sk nm f.sides ro) ∙ append-nil (list_to w.lists t x) in
@@ -98,8 +98,8 @@ signal_hit a b q p s h = telling_word a b q p s ∙ ap (λ t. cond t (s ∷ []) 
 
 module _ (w : World) (x : Name) (n : Node) (t0 : TrunkId) (s0 : TrunkSide) (i : Item) (rest : List Item) (o : Work) (hx : node_of w.nodes x ≡ Some n)
     (h0 : side_at n t0 ≡ Some s0) (u0 : is_up s0.state ≡ true) (first : list_to w.lists t0 x ≡ i ∷ rest) (k : WorldKept w)
-    (sd : o.node.sides ≡ n.sides) (nm : o.node.name ≡ n.name) (ko : NodeKept o.node)
-    (gr : (p : Pid) → over n p ≡ true → over o.node p ≡ true) (dr : n.unlinks ≤ o.node.unlinks) (ro : AllRouted o.node.sides o.sent)
+    (sd : o.node.sides ≡ n.sides) (nm : o.node.mint.name ≡ n.mint.name) (ko : NodeKept o.node)
+    (gr : (p : Pid) → over n p ≡ true → over o.node p ≡ true) (dr : n.mint.unlink_ids ≤ o.node.mint.unlink_ids) (ro : AllRouted o.node.sides o.sent)
     -- what it does to each pair: at a pair that it is about, the signal is taken
     (views : (p q : Pid) (b : List LinkWord) (c : Side) → word_in q p i ≡ [] → reaches n q.node ≡ true → Kept (view b (at_work n) p q) c → Kept (view b o p q) c)
     (taking : (p q : Pid) (b : List LinkWord) (c : Side) (s : LinkWord) (L : List LinkWord) → word_in q p i ≡ s ∷ [] → reaches n q.node ≡ true → Kept (view b (at_work n) p q) (with_sent c (s ∷ L)) → Kept (view b o p q) (with_sent c L))
@@ -107,7 +107,7 @@ module _ (w : World) (x : Name) (n : Node) (t0 : TrunkId) (s0 : TrunkSide) (i : 
   m1 : FinMap place_cmp (List Item)
   m1 = fm.insert w.lists (t0, x) rest
 
-  nx : n.name ≡ x
+  nx : n.mint.name ≡ x
   nx = node_of_name w.nodes x n hx
 
   kn : NodeKept n
@@ -186,7 +186,7 @@ pub is_from_peer : (s : TrunkSide) (q : Pid) → is_from s q ≡ true → q.node
 is_from_peer s q h = same_name_true q.node s.peer (and_both (same_name q.node s.peer) _ h).0
 
 pub not_never : (n : Node) (p : Pid) → is_to n p ≡ true → never n p ≡ false
-not_never n p h = go (never n p) (and_both (same_name p.node n.name) (not (never n p)) h).1
+not_never n p h = go (never n p) (and_both (same_name p.node n.mint.name) (not (never n p)) h).1
   where
     go : (b : Bool) → not b ≡ true → b ≡ false
     go true h = cc
@@ -236,7 +236,7 @@ module _ (w : World) (x : Name) (n : Node) (t0 : TrunkId) (s0 : TrunkSide) (rest
   linking q0 p0 s first good =
       let g = and_both (is_from s0 q0) (is_to n p0) good in
       let from : q0.node ≡ s0.peer = is_from_peer s0 q0 g.0 in
-      let f = takes_link p0 q0 s (at_work n) (λ e. absurd (let c : true ≡ false = sym e ∙ ap (λ y. same_name y n.name) from ∙ not_own n t0 s0 (k.sides x n hx) h0 in cc)) (not_never n p0 g.1) in
+      let f = takes_link p0 q0 s (at_work n) (λ e. absurd (let c : true ≡ false = sym e ∙ ap (λ y. same_name y n.mint.name) from ∙ not_own n t0 s0 (k.sides x n hx) h0 in cc)) (not_never n p0 g.1) in
       let kn = k.nodes x n hx in
       let hd : held n q0.node ≡ true = ap (held n) from ∙ reach_held n s0.peer (reach_up n t0 s0 (k.sides x n hx) h0 u0) in
       arrived w x n t0 s0 (Signalled (telling q0 p0 s)) rest (take_link p0 q0 s (at_work n)) hx h0 u0 first k f.sides f.name (f.keeps kn hd) f.grows f.draws (f.routed tt)

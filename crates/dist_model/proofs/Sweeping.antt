@@ -35,7 +35,7 @@ use Rattle.link_core.specs.declared.end.End.{End}
 
 -- towards y the node has a side that is losing, and none that is up
 pub losing_unreached : (n : Node) (t : TrunkId) (v : TrunkSide) → SidesKept n → side_at n t ≡ Some v → v.state ≡ Losing → reaches n v.peer ≡ false
-losing_unreached n t v k h e = by_test _ (reaches n v.peer) (λ r. absurd (go (same_name v.peer n.name) (not_own n t v k h) (route n v.peer) refl r)) (λ r. r)
+losing_unreached n t v k h e = by_test _ (reaches n v.peer) (λ r. absurd (go (same_name v.peer n.mint.name) (not_own n t v k h) (route n v.peer) refl r)) (λ r. r)
   where
     pick : (u : Routed n v.peer t) → ⊥
     pick u =
@@ -139,7 +139,7 @@ pub good_closed : (w : World) (x : Name) (n : Node) (t : TrunkId) (v : TrunkSide
 good_closed w x n t v hx h clean g =
     let none : link_to v.peer (fm.entries n.ends) ≡ None = none_of (link_to v.peer (fm.entries n.ends)) (is_some (watch_to v.peer (fm.entries n.watches))) (is_some (registered_by v.peer (fm.entries n.registered))) clean in
     let f = fits_gone n t v (as_state v Gone) (g.core.sides x n hx) h refl refl (λ i p q e. ap end_in (fm.get-entries n.ends (p, q) ∙ link_none v.peer (fm.entries n.ends) none p q e)) in
-    good_state w x n t v (as_state v Gone) hx h refl f g (Rattle.dist_model.proofs.Reside.drops w x n t v (as_state v Gone) hx h refl refl f g.core) (role_gone (same_name t.dialer n.name)) (rows_gone w x t v (as_state v Gone) refl)
+    good_state w x n t v (as_state v Gone) hx h refl f g (Rattle.dist_model.proofs.Reside.drops w x n t v (as_state v Gone) hx h refl refl f g.core) (role_gone (same_name t.dialer n.mint.name)) (rows_gone w x t v (as_state v Gone) refl)
   where
     role_gone : (b : Bool) → role_state b Gone ≡ true
     role_gone true = refl
@@ -162,7 +162,7 @@ good_unparked w x n t v k hx h a nh g =
       empty = λ u hu hh nh2 p q i. let c : true ≡ false = sym hh ∙ ap (λ (z : TrunkSide). holds z.state) (some_same u v (sym hu ∙ h)) ∙ kind.1 in cc;
     } in
     good_state w x n t v (as_state v (Accepting k)) hx h refl f g (Rattle.dist_model.proofs.Reside.drops w x n t v (as_state v (Accepting k)) hx h refl refl f g.core)
-    (ap (λ b. role_state b (Accepting k)) (role_is_acceptor (same_name t.dialer n.name) v.state ((g.home x n hx).roles t v h) kind.2)) (
+    (ap (λ b. role_state b (Accepting k)) (role_is_acceptor (same_name t.dialer n.mint.name) v.state ((g.home x n hx).roles t v h) kind.2)) (
       λ o di r. record { before = λ z. let b = r.before z in (refl, b.1, b.2, b.3); early = λ z. cc; waits = r.waits },
       λ d y yx nd r. record { before = λ z. r.before kind.3; early = λ z. let b = r.early z in (refl, b.1, b.2); waits = λ z. cc },
       λ z b hb. let c : true ≡ false = sym z ∙ no_reply in cc,
@@ -182,7 +182,7 @@ good_unparked w x n t v k hx h a nh g =
     no_reply : has is_reply (list_to w.lists t x) ≡ false
     no_reply =
         let nd : t.dialer ≡ x → ⊥ = λ i.
-        let c : true ≡ false = sym (same_name_is t.dialer n.name (i ∙ sym (node_of_name w.nodes x n hx))) ∙ role_is_acceptor _ v.state ((g.home x n hx).roles t v h) (ask_kind v.state a).2 in cc in
+        let c : true ≡ false = sym (same_name_is t.dialer n.mint.name (i ∙ sym (node_of_name w.nodes x n hx))) ∙ role_is_acceptor _ v.state ((g.home x n hx).roles t v h) (ask_kind v.state a).2 in cc in
         let m = g.core.met x n t v hx h nd in
         let r : Row m.side.state (side_at n t) (list_to w.lists t t.dialer) (list_to w.lists t m.side.peer) = g.table t m.dialer n m.side m.at m.there (ap (node_of w.nodes) m.peer ∙ hx) in
         ap (λ z. has is_reply (list_to w.lists t z)) (sym m.peer) ∙ (r.waits (ap begun h ∙ (ask_kind v.state a).4)).1

@@ -126,8 +126,8 @@ role_state false Gone = true
 pub record HomeKept (n : Node) : Type 0 where
   pub local : home_of n
   pub pairs : HomePairs n
-  pub roles : (t : TrunkId) (s : TrunkSide) → side_at n t ≡ Some s → role_state (same_name t.dialer n.name) s.state ≡ true
-  pub counts : (t : TrunkId) (s : TrunkSide) → side_at n t ≡ Some s → t.dialer ≡ n.name → t.count ≤ n.dialed
+  pub roles : (t : TrunkId) (s : TrunkSide) → side_at n t ≡ Some s → role_state (same_name t.dialer n.mint.name) s.state ≡ true
+  pub counts : (t : TrunkId) (s : TrunkSide) → side_at n t ≡ Some s → t.dialer ≡ n.mint.name → t.count ≤ n.dialed
 
 abbrev pub Posted : List Node → TrunkId → Name → Type 0
 Posted ns t z = (s : TrunkSide) × (d : Node) × (node_of ns t.dialer ≡ Some d) × (side_at d t ≡ Some s) × ((t.dialer ≡ z) ⊎ (s.peer ≡ z))
@@ -255,7 +255,7 @@ partners w k x a n m t s v hx ha hs hv d = by_test _ (same_name t.dialer x)
     let us : u.side ≡ o.side = some_same u.side o.side (sym u.there ∙ ap (λ z. side_at z t) dn ∙ o.there) in
     absurd (d (sym u.peer ∙ ap (λ (z : TrunkSide). z.peer) us ∙ o.peer))))
   where
-    second : (y : Name) (b : Node) (z : TrunkSide) → b.name ≡ y → (t.dialer ≡ b.name) ⊎ (t.dialer ≡ z.peer) → (t.dialer ≡ y → ⊥) → t.dialer ≡ z.peer
+    second : (y : Name) (b : Node) (z : TrunkSide) → b.mint.name ≡ y → (t.dialer ≡ b.mint.name) ⊎ (t.dialer ≡ z.peer) → (t.dialer ≡ y → ⊥) → t.dialer ≡ z.peer
     second y b z e (inl i) f = absurd (f (i ∙ e))
     second y b z e (inr i) f = i
 
@@ -327,7 +327,7 @@ pub record Was (ns : List Node) (y : Name) (a : Node) : Type 0 where
 
 -- where no side changes
 module _ (w : World) (x : Name) (n : Node) (o : Node) (m' : FinMap place_cmp (List Item)) (hx : node_of w.nodes x ≡ Some n) (g : Good w)
-    (sd : o.sides ≡ n.sides) (dl : n.dialed ≤ o.dialed) (nm : o.name ≡ n.name)
+    (sd : o.sides ≡ n.sides) (dl : n.dialed ≤ o.dialed) (nm : o.mint.name ≡ n.mint.name)
     (core : WorldKept (record { names = w.names; nodes = set_node w.nodes x o; lists = m' }))
     (local : home_of o) (pairs : HomePairs o)
     (lists_same : (t : TrunkId) → ((s : TrunkSide) → side_at n t ≡ Some s → is_up s.state ≡ false) → (z : Name) → list_to m' t z ≡ list_to w.lists t z)
@@ -335,7 +335,7 @@ module _ (w : World) (x : Name) (n : Node) (o : Node) (m' : FinMap place_cmp (Li
   by_x : (P : Type 0) (y : Name) → (x ≡ y → P) → ((x ≡ y → ⊥) → P) → P
   by_x P y a b = by_test P (same_name x y) (λ h. a (same_name_true x y h)) (λ h. b (λ e. let c : true ≡ false = sym (same_name_is x y e) ∙ h in cc))
 
-  nx : n.name ≡ x
+  nx : n.mint.name ≡ x
   nx = node_of_name w.nodes x n hx
 
   here : node_of (set_node w.nodes x o) x ≡ Some o
@@ -416,7 +416,7 @@ module _ (w : World) (x : Name) (n : Node) (o : Node) (m' : FinMap place_cmp (Li
   routed_posted : (t : TrunkId) (z : Name) → Routed n z t → Posted w.nodes t z
   routed_posted t z r = pick ((g.core.sides x n hx).mine t r.found r.there)
     where
-      pick : (t.dialer ≡ n.name) ⊎ (t.dialer ≡ r.found.peer) → (s : TrunkSide) × (d : Node) × (node_of w.nodes t.dialer ≡ Some d) × (side_at d t ≡ Some s) × ((t.dialer ≡ z) ⊎ (s.peer ≡ z))
+      pick : (t.dialer ≡ n.mint.name) ⊎ (t.dialer ≡ r.found.peer) → (s : TrunkSide) × (d : Node) × (node_of w.nodes t.dialer ≡ Some d) × (side_at d t ≡ Some s) × ((t.dialer ≡ z) ⊎ (s.peer ≡ z))
       pick (inl e) = (r.found, n, ap (node_of w.nodes) (e ∙ nx) ∙ hx, r.there, inr r.peer)
       pick (inr e) =
           let u = g.core.met x n t r.found hx r.there (λ i. (g.core.sides x n hx).other t r.found r.there (sym e ∙ i ∙ sym nx)) in

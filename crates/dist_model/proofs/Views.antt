@@ -19,14 +19,14 @@ to_name y (e ∷ es) = cond (same_name e.target y) (e.item ∷ []) [] ++ to_name
 
 -- what the node has waiting for processes of y: its local list, or what this event sent
 abbrev pub line : Work → Name → List Item
-line o y = cond (same_name y o.node.name) o.node.local (to_name y o.sent)
+line o y = cond (same_name y o.node.mint.name) o.node.local (to_name y o.sent)
 
 -- once spawned, and not living
 abbrev pub over : Node → Pid → Bool
 over n p = not (living n p) && not (never n p)
 
 abbrev pub side_of : Node → Pid → Pid → List LinkWord → Side
-side_of n p q L = record { end = end_of n p q; gone = over n p; drawn = n.unlinks; sent = L }
+side_of n p q L = record { end = end_of n p q; gone = over n p; drawn = n.mint.unlink_ids; sent = L }
 
 -- p's side of its link with q, where b stood on the way before the event
 abbrev pub view : List LinkWord → Work → Pid → Pid → Side
@@ -57,10 +57,10 @@ nothing_more : (L R : List LinkWord) → R ≡ [] → L ≡ L ++ R
 nothing_more L R h = sym (append-nil L) ∙ ap (λ l. L ++ l) (sym h)
 
 module _ (y : Name) (x : Item) (o : Work) (p q : Pid) where
-  local_line : (b : Bool) → same_name q.node o.node.name ≡ b → same_name y o.node.name ≡ true → Suits y x p q
+  local_line : (b : Bool) → same_name q.node o.node.mint.name ≡ b → same_name y o.node.mint.name ≡ true → Suits y x p q
       → words p q (cond b (o.node.local ++ x ∷ []) (to_name q.node o.sent)) ≡ words p q (cond b o.node.local (to_name q.node o.sent)) ++ word_in p q x
   local_line true e h s = words-push p q o.node.local x
-  local_line false e h (inl d) = let c : same_name q.node o.node.name ≡ true = subst (λ z. same_name z o.node.name ≡ true) d h in absurd (let n : true ≡ false = sym c ∙ e in cc)
+  local_line false e h (inl d) = let c : same_name q.node o.node.mint.name ≡ true = subst (λ z. same_name z o.node.mint.name ≡ true) d h in absurd (let n : true ≡ false = sym c ∙ e in cc)
   local_line false e h (inr n) = nothing_more (words p q (to_name q.node o.sent)) (word_in p q x) n
 
   sent_on_line : (t : TrunkId) (c : Bool) → same_name y q.node ≡ c → Suits y x p q
@@ -69,28 +69,28 @@ module _ (y : Name) (x : Item) (o : Work) (p q : Pid) where
   sent_on_line t false e (inl d) = absurd (let n : true ≡ false = sym (same_name_is y q.node d) ∙ e in cc)
   sent_on_line t false e (inr n) = ap (words p q) (append-nil (to_name q.node o.sent)) ∙ nothing_more (words p q (to_name q.node o.sent)) (word_in p q x) n
 
-  sent_line : (r : Option TrunkId) (b : Bool) → route o.node y ≡ r → same_name q.node o.node.name ≡ b → same_name y o.node.name ≡ false → (b || is_some (route o.node q.node)) ≡ true → Suits y x p q
+  sent_line : (r : Option TrunkId) (b : Bool) → route o.node y ≡ r → same_name q.node o.node.mint.name ≡ b → same_name y o.node.mint.name ≡ false → (b || is_some (route o.node q.node)) ≡ true → Suits y x p q
       → words p q (cond b (send_on r y x o).node.local (to_name q.node (send_on r y x o).sent)) ≡ words p q (cond b o.node.local (to_name q.node o.sent)) ++ word_in p q x
-  sent_line r true e f h reach (inl d) = absurd (let c : same_name y o.node.name ≡ true = subst (λ z. same_name z o.node.name ≡ true) (sym d) f in let n : true ≡ false = sym c ∙ h in cc)
+  sent_line r true e f h reach (inl d) = absurd (let c : same_name y o.node.mint.name ≡ true = subst (λ z. same_name z o.node.mint.name ≡ true) (sym d) f in let n : true ≡ false = sym c ∙ h in cc)
   sent_line None true e f h reach (inr n) = nothing_more (words p q o.node.local) (word_in p q x) n
   sent_line (Some t) true e f h reach (inr n) = nothing_more (words p q o.node.local) (word_in p q x) n
   sent_line None false e f h reach (inl d) = absurd (let c : route o.node q.node ≡ None = subst (λ z. route o.node z ≡ None) d e in let n : false ≡ true = sym (ap is_some c) ∙ reach in cc)
   sent_line None false e f h reach (inr n) = nothing_more (words p q (to_name q.node o.sent)) (word_in p q x) n
   sent_line (Some t) false e f h reach s = ap (words p q) (to_name-push q.node o.sent (record { trunk = t; target = y; item = x })) ∙ sent_on_line t (same_name y q.node) refl s
 
-  sent_all : (r : Option TrunkId) → route o.node y ≡ r → same_name y o.node.name ≡ false → reaches o.node q.node ≡ true → Suits y x p q
+  sent_all : (r : Option TrunkId) → route o.node y ≡ r → same_name y o.node.mint.name ≡ false → reaches o.node q.node ≡ true → Suits y x p q
       → words p q (line (send_on r y x o) q.node) ≡ words p q (line o q.node) ++ word_in p q x
-  sent_all None e h reach s = sent_line None (same_name q.node o.node.name) e refl h reach s
-  sent_all (Some t) e h reach s = sent_line (Some t) (same_name q.node o.node.name) e refl h reach s
+  sent_all None e h reach s = sent_line None (same_name q.node o.node.mint.name) e refl h reach s
+  sent_all (Some t) e h reach s = sent_line (Some t) (same_name q.node o.node.mint.name) e refl h reach s
 
-  post_line_by : (b : Bool) → same_name y o.node.name ≡ b → reaches o.node q.node ≡ true → Suits y x p q
-      → words p q (cond (same_name q.node (cond b (keep_local x o) (send_on (route o.node y) y x o)).node.name) (cond b (keep_local x o) (send_on (route o.node y) y x o)).node.local (to_name q.node (cond b (keep_local x o) (send_on (route o.node y) y x o)).sent))
+  post_line_by : (b : Bool) → same_name y o.node.mint.name ≡ b → reaches o.node q.node ≡ true → Suits y x p q
+      → words p q (cond (same_name q.node (cond b (keep_local x o) (send_on (route o.node y) y x o)).node.mint.name) (cond b (keep_local x o) (send_on (route o.node y) y x o)).node.local (to_name q.node (cond b (keep_local x o) (send_on (route o.node y) y x o)).sent))
       ≡ words p q (line o q.node) ++ word_in p q x
-  post_line_by true e reach s = local_line (same_name q.node o.node.name) refl e s
+  post_line_by true e reach s = local_line (same_name q.node o.node.mint.name) refl e s
   post_line_by false e reach s = sent_all (route o.node y) refl e reach s
 
   pub post_line : reaches o.node q.node ≡ true → Suits y x p q → words p q (line (post_to y x o) q.node) ≡ words p q (line o q.node) ++ word_in p q x
-  post_line reach s = post_line_by (same_name y o.node.name) refl reach s
+  post_line reach s = post_line_by (same_name y o.node.mint.name) refl reach s
 
 -- what no post changes
 module _ {A : Type 0} (f : Node → A) (free : (n : Node) (l : List Item) → f (record n { local = l }) ≡ f n) where
@@ -103,7 +103,7 @@ module _ {A : Type 0} (f : Node → A) (free : (n : Node) (l : List Item) → f 
   post_keeps_by false y x o = send_keeps (route o.node y) y x o
 
   pub post_keeps : (y : Name) (x : Item) (o : Work) → f ((post_to y x o).node) ≡ f o.node
-  post_keeps y x o = post_keeps_by (same_name y o.node.name) y x o
+  post_keeps y x o = post_keeps_by (same_name y o.node.mint.name) y x o
 
   pub post_all_keeps : (es : List Signal) (o : Work) → f ((post_all es o).node) ≡ f o.node
   post_all_keeps [] o = refl
@@ -112,7 +112,7 @@ module _ {A : Type 0} (f : Node → A) (free : (n : Node) (l : List Item) → f 
 -- a post is one signal more, or none
 pub post_view : (b : List LinkWord) (y : Name) (x : Item) (o : Work) (p q : Pid) → reaches o.node q.node ≡ true → Suits y x p q → view b (post_to y x o) p q ≡ more (view b o p q) (word_in p q x)
 post_view b y x o p q reach s = side_path (view b (post_to y x o) p q) (more (view b o p q) (word_in p q x))
-    (post_keeps (λ n. end_of n p q) (λ n l. refl) y x o) (post_keeps (λ n. over n p) (λ n l. refl) y x o) (post_keeps (λ n. n.unlinks) (λ n l. refl) y x o)
+    (post_keeps (λ n. end_of n p q) (λ n l. refl) y x o) (post_keeps (λ n. over n p) (λ n l. refl) y x o) (post_keeps (λ n. n.mint.unlink_ids) (λ n l. refl) y x o)
     (ap (λ l. b ++ l) (post_line y x o p q reach s) ∙ sym (append_assoc b (words p q (line o q.node)) (word_in p q x)))
 
 -- several posts

@@ -19,7 +19,7 @@ abbrev pub is_from : TrunkSide → Pid → Bool
 is_from s q = same_name q.node s.peer && nat_le q.creation s.peer_creation
 
 abbrev pub is_to : Node → Pid → Bool
-is_to n p = same_name p.node n.name && not (never n p)
+is_to n p = same_name p.node n.mint.name && not (never n p)
 
 abbrev pub from_peer : TrunkSide → Option Pid → Bool
 from_peer s None = true

@@ -46,3 +46,8 @@ pub data Answer : Type 0 where
 pub data Outcome : Type 0 where
   Refuses : Refusal → Outcome
   Goes : Answer → Work → Outcome
+
+-- a number is drawn for it, unless they are used up
+abbrev pub with_id : Option ℕ → (ℕ → Outcome) → Outcome
+with_id None use_of = Refuses Refusal.IdsUsedUp
+with_id (Some id) use_of = use_of id

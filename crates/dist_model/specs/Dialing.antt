@@ -17,17 +17,17 @@ has_name y [] = false
 has_name y (x ∷ xs) = same_name x y || has_name y xs
 
 abbrev pub next_trunk : Node → TrunkId
-next_trunk n = record { dialer = n.name; count = n.dialed + 1 }
+next_trunk n = record { dialer = n.mint.name; count = n.dialed + 1 }
 
 abbrev pub draw_trunk : Node → Node
 draw_trunk n = record n { dialed = n.dialed + 1 }
 
 abbrev pub dial : List Name → Node → Name → ℕ → Outcome
 dial names n y w =
-    cond (same_name y n.name) (Refuses Refusal.SelfDial)
+    cond (same_name y n.mint.name) (Refuses Refusal.SelfDial)
     (cond (not (has_name y names)) (Refuses Refusal.NothingThere)
     (cond (is_some (side_where (λ v. not (is_gone v)) y (fm.entries n.sides))) (Refuses Refusal.Busy)
     (cond (not (nat_lt (n.dialed + 1) (2 ^ 64))) (Refuses Refusal.IdsUsedUp)
     (Goes (Dialed (next_trunk n))
-    (write (next_trunk n) y (SendName n.name n.creation flag_word)
+    (write (next_trunk n) y (SendName n.mint.name n.mint.creation flag_word)
     (with_side (next_trunk n) (record { peer = y; peer_creation = 0; state = AwaitsStatus w }) (at_work (draw_trunk n))))))))

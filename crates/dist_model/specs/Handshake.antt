@@ -43,7 +43,7 @@ give_up None o = o
 give_up (Some e) o = set_state e.0 e.1 Gone o
 
 abbrev pub challenge : Node → ℕ → HandshakeMessage
-challenge n w = Challenge n.name n.creation flag_word w
+challenge n w = Challenge n.mint.name n.mint.creation flag_word w
 
 abbrev pub accepts : TrunkId → TrunkSide → ℕ → HandshakeMessage → Item → Work → Outcome
 accepts t s w status x o = Goes (Took x) (write t s.peer (challenge o.node w) (write t s.peer status (set_state t s (Accepting w) o)))
@@ -52,7 +52,7 @@ accepts t s w status x o = Goes (Took x) (write t s.peer (challenge o.node w) (w
 abbrev pub greet_dialing : Option (TrunkId × TrunkSide) → TrunkId → TrunkSide → ℕ → Item → Work → Outcome
 greet_dialing None t s w x o = accepts t s w StatusOk x o
 greet_dialing (Some e) t s w x o =
-    cond (is_gt (name_cmp t.dialer o.node.name))
+    cond (is_gt (name_cmp t.dialer o.node.mint.name))
     (accepts t s w StatusOkSimultaneous x (give_up (Some e) o))
     (Goes (Took x) (write t s.peer StatusNok (set_state t s Gone o)))
 

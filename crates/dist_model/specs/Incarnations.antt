@@ -6,6 +6,7 @@ use Rattle.dist_model.specs.Commands.{Done, Goes, Outcome, Refuses}
 use Rattle.dist_model.specs.Node.{Node}
 use Rattle.dist_model.specs.Sides.{Gone, TrunkSide}
 use Rattle.dist_model.specs.Work.{at_work}
+use Rattle.erl_names.specs.Minted.{nothing_drawn}
 use Rattle.erl_names.specs.declared.trunk.TrunkId.{TrunkId}
 use Rattle.erl_term.specs.declared.refusal.Refusal.{Refusal}
 
@@ -18,11 +19,11 @@ abbrev pub stopped : Node → Node
 stopped n = record n { up = false; lives = fm.empty; ends = fm.empty; watches = fm.empty; registered = fm.empty; sides = fm.from_entries (all_gone (fm.entries n.sides)) }
 
 abbrev pub started : Node → Node
-started n = record n { creation = n.creation + 1; up = true; spawned = 0; references = 0; unlinks = 0; lives = fm.empty; ends = fm.empty; watches = fm.empty; registered = fm.empty; sides = fm.from_entries (all_gone (fm.entries n.sides)); local = [] }
+started n = record n { mint = nothing_drawn n.mint.name (n.mint.creation + 1); up = true; lives = fm.empty; ends = fm.empty; watches = fm.empty; registered = fm.empty; sides = fm.from_entries (all_gone (fm.entries n.sides)); local = [] }
 
 abbrev pub stop : Node → Outcome
 stop n = Goes Done (at_work (stopped n))
 
 abbrev pub start : Node → Outcome
-start n = cond n.up (Refuses Refusal.NodeUp) (cond (nat_lt (n.creation + 1) (2 ^ 32)) (Goes Done (at_work (started n))) (Refuses Refusal.IdsUsedUp))
+start n = cond n.up (Refuses Refusal.NodeUp) (cond (nat_lt (n.mint.creation + 1) (2 ^ 32)) (Goes Done (at_work (started n))) (Refuses Refusal.IdsUsedUp))
 

@@ -5,7 +5,7 @@ use Rattle.std.specs.FinMap as fm
 use Rattle.dist_model.specs.Commands.{Done, Goes, Outcome, Refuses}
 use Rattle.dist_model.specs.Links.{noconnection}
 use Rattle.dist_model.specs.Names.{same_pid}
-use Rattle.dist_model.specs.Node.{Node, reaches}
+use Rattle.dist_model.specs.Node.{reaches}
 use Rattle.dist_model.specs.Taking.{unwatch}
 use Rattle.dist_model.specs.Work.{Work, post, put}
 use Rattle.erl_control.specs.declared.signal.Signal.{Signal}
@@ -15,12 +15,6 @@ use Rattle.erl_term.specs.declared.term.Reference.{Reference}
 use Rattle.exit_core.specs.Messages.{down_term}
 
 -- monitors
-abbrev pub new_reference : Node → Reference
-new_reference n = record { node = n.name; creation = n.creation; words = (n.references + 1) ∷ 0 ∷ 0 ∷ [] }
-
-abbrev pub draw_reference : Work → Work
-draw_reference o = record o { node = record (o.node) { references = o.node.references + 1 } }
-
 abbrev pub watch : Reference → Pid × Pid → Work → Work
 watch k v o = record o { node = record (o.node) { watches = fm.insert o.node.watches k v } }
 

@@ -4,6 +4,7 @@ use Rattle.std.specs.FinMap as fm
 use Rattle.dist_model.specs.Items.{Item}
 use Rattle.dist_model.specs.Names.{Name, pair_cmp, same_name}
 use Rattle.dist_model.specs.Sides.{State, TrunkSide, is_up}
+use Rattle.erl_names.specs.Minted.{Minted}
 use Rattle.erl_names.specs.Order.{trunk_cmp}
 use Rattle.erl_names.specs.declared.trunk.TrunkId.{TrunkId}
 use Rattle.erl_term.specs.Data.{Data}
@@ -19,14 +20,11 @@ pub data Life : Type 0 where
   Ended : (reason : Data) → Life
 
 pub record Node : Type 0 where
-  pub name : Name
+  -- its name and creation, and what this incarnation has drawn
+  pub mint : Minted
   pub cookie : List ℕ
-  pub creation : ℕ
   pub up : Bool
-  -- how many pids, references and unlink ids this incarnation drew, and how many trunks the node ever dialed
-  pub spawned : ℕ
-  pub references : ℕ
-  pub unlinks : ℕ
+  -- how many trunks it has ever dialed
   pub dialed : ℕ
   pub lives : FinMap pid_cmp Life
   pub ends : FinMap pair_cmp End
@@ -57,7 +55,7 @@ living n p = is_living_life (fm.get n.lives p)
 
 -- never spawned here: it is of another node, or its creation is to come, or its id
 abbrev pub never : Node → Pid → Bool
-never n p = not (same_name p.node n.name) || nat_lt n.creation p.creation || (p.creation == n.creation && nat_lt n.spawned p.id) || p.id == 0 || not (p.serial == 0)
+never n p = not (same_name p.node n.mint.name) || nat_lt n.mint.creation p.creation || (p.creation == n.mint.creation && nat_lt n.mint.pids p.id) || p.id == 0 || not (p.serial == 0)
 
 abbrev pub route_in : List (TrunkId × TrunkSide) → Name → Option TrunkId
 route_in [] y = None
@@ -69,7 +67,7 @@ route n y = route_in (fm.entries n.sides) y
 
 -- whether a signal to a process of y goes anywhere
 abbrev pub reaches : Node → Name → Bool
-reaches n y = same_name y n.name || is_some (route n y)
+reaches n y = same_name y n.mint.name || is_some (route n y)
 
 -- the first side towards y whose state passes the test
 abbrev pub side_where : (State → Bool) → Name → List (TrunkId × TrunkSide) → Option (TrunkId × TrunkSide)

@@ -5,6 +5,8 @@ use Rattle.dist_model.specs.Items.{Item, Signalled, receiver_of}
 use Rattle.dist_model.specs.Names.{Name, pair_cmp, same_name}
 use Rattle.dist_model.specs.Node.{Ended, Life, Living, Node, route}
 use Rattle.erl_control.specs.declared.signal.Signal.{Signal}
+use Rattle.erl_names.specs.Draw.{Draw}
+use Rattle.erl_names.specs.Minted.{drawn}
 use Rattle.erl_names.specs.declared.trunk.TrunkId.{TrunkId}
 use Rattle.erl_term.specs.Data.{Data}
 use Rattle.erl_term.specs.Order.{pid_cmp}
@@ -36,7 +38,7 @@ abbrev pub report : Effect → Work → Work
 report f o = record o { effects = o.effects ++ f ∷ [] }
 
 abbrev pub keep_local : Item → Work → Work
-keep_local x o = record o { node = record (o.node) { local = o.node.local ++ x ∷ [] }; effects = o.effects ++ Sent o.node.name x ∷ [] }
+keep_local x o = record o { node = record (o.node) { local = o.node.local ++ x ∷ [] }; effects = o.effects ++ Sent o.node.mint.name x ∷ [] }
 
 abbrev pub send_on : Option TrunkId → Name → Item → Work → Work
 send_on None y x o = o
@@ -44,7 +46,7 @@ send_on (Some t) y x o = record o { sent = o.sent ++ (record { trunk = t; target
 
 -- what goes to y: into the own list, onto the trunk that is up, or nowhere
 abbrev pub post_to : Name → Item → Work → Work
-post_to y x o = cond (same_name y o.node.name) (keep_local x o) (send_on (route o.node y) y x o)
+post_to y x o = cond (same_name y o.node.mint.name) (keep_local x o) (send_on (route o.node y) y x o)
 
 -- a signal goes to its receiver's node. (Reference Manual, Processes, Delivery of Signals)
 abbrev pub post : Signal → Work → Work
@@ -77,3 +79,7 @@ set_in m k (End.Pending i) = fm.insert m k (End.Pending i)
 
 abbrev pub set_end : Pid → Pid → End → Work → Work
 set_end p q e o = with_ends o (set_in o.node.ends (p, q) e)
+
+-- a number is drawn
+abbrev pub draw : Draw → Work → Work
+draw kind o = record o { node = record (o.node) { mint = drawn o.node.mint kind } }

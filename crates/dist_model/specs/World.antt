@@ -12,6 +12,7 @@ use Rattle.dist_model.specs.Names.{Name, place_cmp, same_name}
 use Rattle.dist_model.specs.Node.{Node}
 use Rattle.dist_model.specs.Sides.{Accepting, Asked, AwaitsAck, AwaitsChallenge, AwaitsStatus, Gone, Losing, Parked, State, TrunkSide, Up}
 use Rattle.dist_model.specs.Work.{Effect, Envelope}
+use Rattle.erl_names.specs.Minted.{nothing_drawn}
 use Rattle.erl_names.specs.declared.trunk.TrunkId.{TrunkId}
 use Rattle.erl_term.specs.declared.refusal.Refusal.{Refusal}
 use Rattle.std.specs.FinMap.{FinMap}
@@ -24,12 +25,12 @@ pub record World : Type 0 where
 
 abbrev pub node_of : List Node → Name → Option Node
 node_of [] x = None
-node_of (n ∷ ns) x = cond (same_name n.name x) (Some n) (node_of ns x)
+node_of (n ∷ ns) x = cond (same_name n.mint.name x) (Some n) (node_of ns x)
 
 -- in the place of the node of that name
 abbrev pub set_node : List Node → Name → Node → List Node
 set_node [] x m = []
-set_node (n ∷ ns) x m = cond (same_name n.name x) (m ∷ ns) (n ∷ set_node ns x m)
+set_node (n ∷ ns) x m = cond (same_name n.mint.name x) (m ∷ ns) (n ∷ set_node ns x m)
 
 abbrev pub list_in : Option (List Item) → List Item
 list_in None = []
@@ -121,13 +122,9 @@ run (e ∷ es) w = run es ((step w e).world)
 
 abbrev pub new_node : Name → List ℕ → Node
 new_node x c = record {
-  name = x;
+  mint = nothing_drawn x 1;
   cookie = c;
-  creation = 1;
   up = true;
-  spawned = 0;
-  references = 0;
-  unlinks = 0;
   dialed = 0;
   lives = fm.empty;
   ends = fm.empty;
