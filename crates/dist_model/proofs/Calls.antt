@@ -17,7 +17,7 @@ use Rattle.dist_model.specs.Links.{Exits, LinkWord, Says, noconnection, noproc}
 use Rattle.dist_model.specs.Monitoring.{demonitor_by, monitor, watch}
 use Rattle.dist_model.specs.Names.{same_name, same_pid}
 use Rattle.dist_model.specs.Node.{Ended, Life, Living, Node, end_of, is_living_life, living, never, reaches, traps_life}
-use Rattle.dist_model.specs.Taking.{register, same_pids, take_item, unregister, unwatch}
+use Rattle.dist_model.specs.Taking.{register, take_item, unregister, unwatch}
 use Rattle.dist_model.specs.Work.{Work, at_work, draw, post, put, set_end, set_life}
 use Rattle.erl_control.specs.declared.signal.Signal.{Signal}
 use Rattle.erl_names.specs.Ids.{pid_of, reference_of}
@@ -30,6 +30,8 @@ use Rattle.exit_core.specs.Messages.{down_term}
 use Rattle.exit_core.specs.Reaction.{reaction}
 use Rattle.link_core.specs.declared.end.End.{End}
 use Rattle.link_core.specs.declared.end.LinkSignal.{LinkSignal}
+use Rattle.monitor_core.specs.Monitors.{is_held, monitor_of}
+use Rattle.monitor_core.specs.declared.monitor.Monitor.{Monitor}
 use Rattle.std.specs.FinMap.{FinMap}
 
 -- what holds of the work where the event goes through
@@ -61,9 +63,8 @@ same_lives o m h = record {
 }
 
 -- neither a life nor an end nor a side
-pub registers : (u : Option (Pid × Pid)) (k : Reference) (v : Pid × Pid) (o : Work) → Moves o (register u k v o)
-registers None k v o = record { sides = refl; dialed = refl; name = refl; keeps = λ n. record { born = n.born; rooted = n.rooted }; grows = λ p h. h; draws = omega arith; routed = λ a. a; nevers = λ p h. h; home = λ k h. h; views = λ n b p q c r t. t }
-registers (Some u) k v o = stays o
+pub registers : (k : Reference) (v : Monitor) (o : Work) → Moves o (register k v o)
+registers k v o = record { sides = refl; dialed = refl; name = refl; keeps = λ n. record { born = n.born; rooted = n.rooted }; grows = λ p h. h; draws = omega arith; routed = λ a. a; nevers = λ p h. h; home = λ k h. h; views = λ n b p q c r k. k }
 
 pub unregisters : (k : Reference) (o : Work) → Moves o (unregister k o)
 unregisters k o = record { sides = refl; dialed = refl; name = refl; keeps = λ n. record { born = n.born; rooted = n.rooted }; grows = λ p h. h; draws = omega arith; routed = λ a. a; nevers = λ p h. h; home = λ k h. h; views = λ n b p q c r t. t }
@@ -71,7 +72,7 @@ unregisters k o = record { sides = refl; dialed = refl; name = refl; keeps = λ 
 pub unwatches_one : (k : Reference) (o : Work) → Moves o (unwatch k o)
 unwatches_one k o = record { sides = refl; dialed = refl; name = refl; keeps = λ n. record { born = n.born; rooted = n.rooted }; grows = λ p h. h; draws = omega arith; routed = λ a. a; nevers = λ p h. h; home = λ k h. h; views = λ n b p q c r t. t }
 
-pub watches_one : (k : Reference) (v : Pid × Pid) (o : Work) → Moves o (watch k v o)
+pub watches_one : (k : Reference) (v : Monitor) (o : Work) → Moves o (watch k v o)
 watches_one k v o = record { sides = refl; dialed = refl; name = refl; keeps = λ n. record { born = n.born; rooted = n.rooted }; grows = λ p h. h; draws = omega arith; routed = λ a. a; nevers = λ p h. h; home = λ k h. h; views = λ n b p q c r t. t }
 
 pub draws_reference : (o : Work) → Moves o (draw kind.Reference o)
@@ -92,9 +93,9 @@ takes_other (Signalled (Signal.UnlinkId i q p)) o h = absurd (says_something q p
 takes_other (Signalled (Signal.UnlinkIdAck i q p)) o h = absurd (says_something q p (Says (LinkSignal.Ack i)) (h q p))
 takes_other (Signalled (Signal.Send p t)) o h = moves_cond (living o.node p) o (put p t o) o (λ l. puts p t o) (λ l. stays o)
 takes_other (Signalled (Signal.Exit2 q p r)) o h = moves_cond (living o.node p) o _ o (λ l. carries_out (reaction (traps_life (fm.get o.node.lives p)) (sent_exit p q r)) p o l) (λ l. stays o)
-takes_other (Signalled (Signal.Monitor q p k)) o h = moves_cond (living o.node p) o _ _ (λ l. registers (fm.get o.node.registered k) k (q, p) o) (λ l. posts_other q.node (Signalled (Signal.MonitorExit p q k noproc)) o (λ a b. refl))
-takes_other (Signalled (Signal.Demonitor q p k)) o h = moves_cond (same_pids (fm.get o.node.registered k) q p) o _ _ (λ l. unregisters k o) (λ l. stays o)
-takes_other (Signalled (Signal.MonitorExit q p k r)) o h = moves_cond (living o.node p && same_pids (fm.get o.node.watches k) p q) o _ _
+takes_other (Signalled (Signal.Monitor q p k)) o h = moves_cond (living o.node p) o _ _ (λ l. registers k (monitor_of q p) o) (λ l. posts_other q.node (Signalled (Signal.MonitorExit p q k noproc)) o (λ a b. refl))
+takes_other (Signalled (Signal.Demonitor q p k)) o h = moves_cond (is_held o.node.registered k (monitor_of q p)) o _ _ (λ l. unregisters k o) (λ l. stays o)
+takes_other (Signalled (Signal.MonitorExit q p k r)) o h = moves_cond (living o.node p && is_held o.node.watches k (monitor_of p q)) o _ _
     (λ l. then o (unwatch k o) (put p (down_term k q r) (unwatch k o)) (unwatches_one k o) (puts p (down_term k q r) (unwatch k o))) (λ l. stays o)
 takes_other (Handshake m) o h = stays o
 takes_other Tick o h = stays o
@@ -277,9 +278,9 @@ living_without (Some (Ended r)) = refl
 sets_life : (n : Node) (p : Pid) (l : Option Life) → is_living_life l ≡ living n p → Moves (at_work n) (with_life n p l)
 sets_life n p l h = same_lives (at_work n) (set_life n.lives p l) (λ x. set_life_living n.lives p l x (λ e. h ∙ ap (living n) (sym (same_pid_true x p e))))
 
-demonitors : (v : Option (Pid × Pid)) (p : Pid) (k : Reference) (o : Work) → IfGoes (demonitor_by v p k o) (Moves o)
+demonitors : (v : Option Monitor) (p : Pid) (k : Reference) (o : Work) → IfGoes (demonitor_by v p k o) (Moves o)
 demonitors None p k o = tt
-demonitors (Some v) p k o = if_cond (same_pid v.0 p) _ Refusal.NotTheOwner (Moves o) (λ h. then o (unwatch k o) _ (unwatches_one k o) (posts_other v.1.node (Signalled (Signal.Demonitor p v.1 k)) (unwatch k o) (λ a b. refl)))
+demonitors (Some v) p k o = if_cond (same_pid v.owner p) _ Refusal.NotTheOwner (Moves o) (λ h. then o (unwatch k o) _ (unwatches_one k o) (posts_other v.target.node (Signalled (Signal.Demonitor p v.target k)) (unwatch k o) (λ a b. refl)))
 
 unlinks_by : (e : End) (p q : Pid) (o : Work) → end_of o.node p q ≡ e → living o.node p ≡ true → IfGoes (unlink_by e p q o) (Moves o)
 unlinks_by End.None p q o h l = stays o
@@ -315,7 +316,7 @@ calls n (MakeMonitor p q) = acts n p q _ (λ l. if_drawn (id_of n.mint kind.Refe
     let o = draw kind.Reference (at_work n) in
     let k = reference_of n.mint count in
     then (at_work n) o (monitor k p q o) (draws_reference (at_work n)) (moves_cond (reaches o.node q.node) o _ _
-    (λ r. then o (watch k (p, q) o) _ (watches_one k (p, q) o) (posts_other q.node (Signalled (Signal.Monitor p q k)) (watch k (p, q) o) (λ a b. refl)))
+    (λ r. then o (watch k (monitor_of p q) o) _ (watches_one k (monitor_of p q) o) (posts_other q.node (Signalled (Signal.Monitor p q k)) (watch k (monitor_of p q) o) (λ a b. refl)))
     (λ r. puts p (down_term k q noconnection) o))))
 calls n (EndMonitor p k) = if_cond (living n p) _ Refusal.NoSuchProcess (Moves (at_work n)) (λ l. demonitors (fm.get n.watches k) p k (at_work n))
 calls n (Trap p b) = if_cond (living n p) _ Refusal.NoSuchProcess (Moves (at_work n)) (λ l. sets_life n p (trapping (fm.get n.lives p) b) (living_trapping (fm.get n.lives p) b))

@@ -19,6 +19,7 @@ use Rattle.erl_term.specs.Data.{Data}
 use Rattle.erl_term.specs.declared.term.Pid.{Pid}
 use Rattle.erl_term.specs.declared.term.Reference.{Reference}
 use Rattle.link_core.specs.declared.end.End.{End}
+use Rattle.monitor_core.specs.declared.monitor.Monitor.{Monitor}
 
 T_and : (a b : Bool) → T (a && b) → T a × T b
 T_and true b h = (tt, h)
@@ -115,25 +116,25 @@ exits_other p q x r (e ∷ es) h = posted-append p q (head x r e.0.0 e.0.1 e.1) 
     go true = exit_miss p q x e.0.1 r e.1 (ap (λ b. b && same_pid e.0.1 q) h)
     go false = refl
 
-posted_downs : (p q x : Pid) (r : Data) (es : List (Reference × (Pid × Pid))) → posted p q (monitor_exits x r es) ≡ []
+posted_downs : (p q x : Pid) (r : Data) (es : List (Reference × Monitor)) → posted p q (monitor_exits x r es) ≡ []
 posted_downs p q x r [] = refl
 posted_downs p q x r (e ∷ es) =
-    elim (same_pid e.1.1 x) as (λ b. posted p q (cond b (Signal.MonitorExit x e.1.0 e.0 r ∷ []) [] ++ monitor_exits x r es) ≡ []) [ true ↦ posted_downs p q x r es | false ↦ posted_downs p q x r es ]
+    elim (same_pid e.1.target x) as (λ b. posted p q (cond b (Signal.MonitorExit x e.1.owner e.0 r ∷ []) [] ++ monitor_exits x r es) ≡ []) [ true ↦ posted_downs p q x r es | false ↦ posted_downs p q x r es ]
 
-posted_unwatches : (p q x : Pid) (es : List (Reference × (Pid × Pid))) → posted p q (demonitors x es) ≡ []
+posted_unwatches : (p q x : Pid) (es : List (Reference × Monitor)) → posted p q (demonitors x es) ≡ []
 posted_unwatches p q x [] = refl
 posted_unwatches p q x (e ∷ es) =
-    elim (same_pid e.1.0 x) as (λ b. posted p q (cond b (Signal.Demonitor x e.1.1 e.0 ∷ []) [] ++ demonitors x es) ≡ []) [ true ↦ posted_unwatches p q x es | false ↦ posted_unwatches p q x es ]
+    elim (same_pid e.1.owner x) as (λ b. posted p q (cond b (Signal.Demonitor x e.1.target e.0 ∷ []) [] ++ demonitors x es) ≡ []) [ true ↦ posted_unwatches p q x es | false ↦ posted_unwatches p q x es ]
 
-suits_downs : (p q x : Pid) (r : Data) (es : List (Reference × (Pid × Pid))) → AllSuit p q (monitor_exits x r es)
+suits_downs : (p q x : Pid) (r : Data) (es : List (Reference × Monitor)) → AllSuit p q (monitor_exits x r es)
 suits_downs p q x r [] = tt
 suits_downs p q x r (e ∷ es) =
-    elim (same_pid e.1.1 x) as (λ b. AllSuit p q (cond b (Signal.MonitorExit x e.1.0 e.0 r ∷ []) [] ++ monitor_exits x r es)) [ true ↦ (inr refl, suits_downs p q x r es) | false ↦ suits_downs p q x r es ]
+    elim (same_pid e.1.target x) as (λ b. AllSuit p q (cond b (Signal.MonitorExit x e.1.owner e.0 r ∷ []) [] ++ monitor_exits x r es)) [ true ↦ (inr refl, suits_downs p q x r es) | false ↦ suits_downs p q x r es ]
 
-suits_unwatches : (p q x : Pid) (es : List (Reference × (Pid × Pid))) → AllSuit p q (demonitors x es)
+suits_unwatches : (p q x : Pid) (es : List (Reference × Monitor)) → AllSuit p q (demonitors x es)
 suits_unwatches p q x [] = tt
 suits_unwatches p q x (e ∷ es) =
-    elim (same_pid e.1.0 x) as (λ b. AllSuit p q (cond b (Signal.Demonitor x e.1.1 e.0 ∷ []) [] ++ demonitors x es)) [ true ↦ (inr refl, suits_unwatches p q x es) | false ↦ suits_unwatches p q x es ]
+    elim (same_pid e.1.owner x) as (λ b. AllSuit p q (cond b (Signal.Demonitor x e.1.target e.0 ∷ []) [] ++ demonitors x es)) [ true ↦ (inr refl, suits_unwatches p q x es) | false ↦ suits_unwatches p q x es ]
 
 suits_exit : (p q x y : Pid) (r : Data) (e : End) → AllSuit p q (exit_for x r y e)
 suits_exit p q x y r End.None = tt

@@ -32,6 +32,7 @@ use Rattle.exit_core.specs.Reaction.{reaction}
 use Rattle.exit_core.specs.declared.reaction.Reaction.{Reaction}
 use Rattle.link_core.specs.declared.end.End.{End}
 use Rattle.link_core.specs.declared.end.LinkSignal.{LinkSignal}
+use Rattle.monitor_core.specs.declared.monitor.Monitor.{Monitor}
 use Rattle.std.specs.FinMap.{FinMap}
 
 T_and : (a b : Bool) → T (a && b) → T a × T b
@@ -147,13 +148,13 @@ exits_home z f p r (e ∷ es) hp h s =
     own true j (End.Pending u) i = tt
     own false j v i = tt
 
-downs_home : (z : Name) (f : Pid → Bool) (p : Pid) (r : Data) (es : List (Reference × (Pid × Pid))) → PostsHome z f (monitor_exits p r es)
+downs_home : (z : Name) (f : Pid → Bool) (p : Pid) (r : Data) (es : List (Reference × Monitor)) → PostsHome z f (monitor_exits p r es)
 downs_home z f p r [] = tt
-downs_home z f p r (e ∷ es) = elim (same_pid e.1.1 p) as (λ b. PostsHome z f (cond b (Signal.MonitorExit p e.1.0 e.0 r ∷ []) [] ++ monitor_exits p r es)) [ true ↦ (λ h a b n. absurd (n refl), downs_home z f p r es) | false ↦ downs_home z f p r es ]
+downs_home z f p r (e ∷ es) = elim (same_pid e.1.target p) as (λ b. PostsHome z f (cond b (Signal.MonitorExit p e.1.owner e.0 r ∷ []) [] ++ monitor_exits p r es)) [ true ↦ (λ h a b n. absurd (n refl), downs_home z f p r es) | false ↦ downs_home z f p r es ]
 
-unwatches_home : (z : Name) (f : Pid → Bool) (p : Pid) (es : List (Reference × (Pid × Pid))) → PostsHome z f (demonitors p es)
+unwatches_home : (z : Name) (f : Pid → Bool) (p : Pid) (es : List (Reference × Monitor)) → PostsHome z f (demonitors p es)
 unwatches_home z f p [] = tt
-unwatches_home z f p (e ∷ es) = elim (same_pid e.1.0 p) as (λ b. PostsHome z f (cond b (Signal.Demonitor p e.1.1 e.0 ∷ []) [] ++ demonitors p es)) [ true ↦ (λ h a b n. absurd (n refl), unwatches_home z f p es) | false ↦ unwatches_home z f p es ]
+unwatches_home z f p (e ∷ es) = elim (same_pid e.1.owner p) as (λ b. PostsHome z f (cond b (Signal.Demonitor p e.1.target e.0 ∷ []) [] ++ demonitors p es)) [ true ↦ (λ h a b n. absurd (n refl), unwatches_home z f p es) | false ↦ unwatches_home z f p es ]
 
 -- each envelope is on the trunk that is up
 abbrev pub AllRouted : FinMap trunk_cmp TrunkSide → List Envelope → Type 0

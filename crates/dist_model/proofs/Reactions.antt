@@ -30,7 +30,7 @@ use Rattle.dist_model.specs.Monitoring.{demonitor_by, watch}
 use Rattle.dist_model.specs.Names.{Name, place_cmp, same_name, same_pid}
 use Rattle.dist_model.specs.Node.{Node, end_in, end_of, living, never, reaches, route, side_where, traps_life}
 use Rattle.dist_model.specs.Sides.{Accepting, Asked, AwaitsAck, AwaitsChallenge, AwaitsStatus, Gone, Losing, Parked, State, TrunkSide, Up, is_dialing, is_gone, is_losing, is_parked, is_up, is_waiting}
-use Rattle.dist_model.specs.Taking.{exit_follows, register, replies, same_pids, take_item, take_link, take_link_by, unregister, unwatch}
+use Rattle.dist_model.specs.Taking.{exit_follows, register, replies, take_item, take_link, take_link_by, unregister, unwatch}
 use Rattle.dist_model.specs.Work.{Effect, EndedBy, LinkExit, Put, Sent, Work, at_work, draw, keep_local, post, post_all, post_to, put, report, send_on, set_end}
 use Rattle.dist_model.specs.World.{Arrive, Call, Dial, Event, Local, Lose, Refused, Report, Start, Stepped, Stop, Sweep, World, arrives, arrives_first, ends_in, is_over, list_to, node_name, node_of, refused, running, step_at}
 use Rattle.erl_control.specs.declared.signal.Signal.{Signal}
@@ -47,6 +47,8 @@ use Rattle.exit_core.specs.Reaction.{reaction}
 use Rattle.exit_core.specs.declared.reaction.Reaction.{Reaction}
 use Rattle.link_core.specs.declared.end.End.{End}
 use Rattle.link_core.specs.declared.end.LinkSignal.{LinkSignal}
+use Rattle.monitor_core.specs.Monitors.{is_held, monitor_of}
+use Rattle.monitor_core.specs.declared.monitor.Monitor.{Monitor}
 use Rattle.std.specs.FinMap.{FinMap}
 
 -- what is added last
@@ -142,9 +144,8 @@ calm_cond : (b : Bool) (o x y : Work) → Calm o x → Calm o y → Calm o (cond
 calm_cond true o x y f g = f
 calm_cond false o x y f g = g
 
-calm_register : (v : Option (Pid × Pid)) (k : Reference) (u : Pid × Pid) (o : Work) → Calm o (register v k u o)
-calm_register None k u o p q h = h
-calm_register (Some v) k u o p q h = h
+calm_register : (k : Reference) (u : Monitor) (o : Work) → Calm o (register k u o)
+calm_register k u o p q h = h
 
 pub item_taken : (x : Item) (o : Work) (p q : Pid) → reacts_in p q ((take_item x o).effects) ≡ true → (reacts_in p q o.effects ≡ true) ⊎ Held o.node p q
 item_taken (Signalled (Signal.Link b a)) o p q h = link_taken a b (Says LinkSignal.Link) o p q h
@@ -153,9 +154,9 @@ item_taken (Signalled (Signal.UnlinkId i b a)) o p q h = link_taken a b (Says (L
 item_taken (Signalled (Signal.UnlinkIdAck i b a)) o p q h = link_taken a b (Says (LinkSignal.Ack i)) o p q h
 item_taken (Signalled (Signal.Send a t)) o p q h = inl (calm_cond (living o.node a) o (put a t o) o (calm_put a t o) (λ c d k. k) p q h)
 item_taken (Signalled (Signal.Exit2 b a r)) o p q h = inl (calm_cond (living o.node a) o _ o (calm_carry (reaction (traps_life (fm.get o.node.lives a)) (sent_exit a b r)) a o) (λ c d k. k) p q h)
-item_taken (Signalled (Signal.Monitor b a k)) o p q h = inl (calm_cond (living o.node a) o _ _ (calm_register (fm.get o.node.registered k) k (b, a) o) (calm_post b.node (Signalled (Signal.MonitorExit a b k noproc)) o) p q h)
-item_taken (Signalled (Signal.Demonitor b a k)) o p q h = inl (calm_cond (same_pids (fm.get o.node.registered k) b a) o (unregister k o) o (λ c d z. z) (λ c d z. z) p q h)
-item_taken (Signalled (Signal.MonitorExit b a k r)) o p q h = inl (calm_cond (living o.node a && same_pids (fm.get o.node.watches k) a b) o _ o (calm_put a (down_term k b r) (unwatch k o)) (λ c d z. z) p q h)
+item_taken (Signalled (Signal.Monitor b a k)) o p q h = inl (calm_cond (living o.node a) o _ _ (calm_register k (monitor_of b a) o) (calm_post b.node (Signalled (Signal.MonitorExit a b k noproc)) o) p q h)
+item_taken (Signalled (Signal.Demonitor b a k)) o p q h = inl (calm_cond (is_held o.node.registered k (monitor_of b a)) o (unregister k o) o (λ c d z. z) (λ c d z. z) p q h)
+item_taken (Signalled (Signal.MonitorExit b a k r)) o p q h = inl (calm_cond (living o.node a && is_held o.node.watches k (monitor_of a b)) o _ o (calm_put a (down_term k b r) (unwatch k o)) (λ c d z. z) p q h)
 item_taken (Handshake m) o p q h = inl h
 item_taken Tick o p q h = inl h
 
@@ -204,9 +205,9 @@ module _ (n : Node) where
   unlinks_on End.Active a b = on_drawn (id_of n.mint kind.UnlinkId) _ (OwnLink n (EndLink a b)) (λ id p q h. nothing (calm_post b.node (Signalled (Signal.UnlinkId id a b)) (set_end a b (End.Pending id) (draw kind.UnlinkId (at_work n))) p q h))
   unlinks_on (End.Pending i) a b = λ p q h. nothing h
 
-  demonitors_on : (v : Option (Pid × Pid)) (a : Pid) (k : Reference) → IfGoes (demonitor_by v a k (at_work n)) (OwnLink n (EndMonitor a k))
+  demonitors_on : (v : Option Monitor) (a : Pid) (k : Reference) → IfGoes (demonitor_by v a k (at_work n)) (OwnLink n (EndMonitor a k))
   demonitors_on None a k = tt
-  demonitors_on (Some v) a k = on_cond (same_pid v.0 a) _ Refusal.NotTheOwner (OwnLink n (EndMonitor a k)) (λ i p q h. nothing (calm_post v.1.node (Signalled (Signal.Demonitor a v.1 k)) (unwatch k (at_work n)) p q h))
+  demonitors_on (Some v) a k = on_cond (same_pid v.owner a) _ Refusal.NotTheOwner (OwnLink n (EndMonitor a k)) (λ i p q h. nothing (calm_post v.target.node (Signalled (Signal.Demonitor a v.target k)) (unwatch k (at_work n)) p q h))
 
   pub called : (c : Command) → IfGoes (call n c) (OwnLink n c)
   called Spawn = on_drawn (id_of n.mint kind.Pid) _ (OwnLink n Spawn) (λ id p q h. nothing h)
@@ -215,7 +216,7 @@ module _ (n : Node) where
   called (EndLink a b) = acts_on (EndLink a b) a b _ (λ l. unlinks_on (end_of n a b) a b)
   called (MakeMonitor a b) = acts_on (MakeMonitor a b) a b _ (λ l. on_drawn (id_of n.mint kind.Reference) _ (OwnLink n (MakeMonitor a b))
       (λ count p q h. nothing (calm_cond (reaches n b.node) (at_work n) _ _
-      (calm_post b.node (Signalled (Signal.Monitor a b (reference_of n.mint count))) (watch (reference_of n.mint count) (a, b) (draw kind.Reference (at_work n))))
+      (calm_post b.node (Signalled (Signal.Monitor a b (reference_of n.mint count))) (watch (reference_of n.mint count) (monitor_of a b) (draw kind.Reference (at_work n))))
       (calm_put a (down_term (reference_of n.mint count) b noconnection) (draw kind.Reference (at_work n))) p q h)))
   called (EndMonitor a k) = on_cond (living n a) _ Refusal.NoSuchProcess (OwnLink n (EndMonitor a k)) (λ l. demonitors_on (fm.get n.watches k) a k)
   called (Trap a b) = on_cond (living n a) _ Refusal.NoSuchProcess (OwnLink n (Trap a b)) (λ l p q h. nothing h)
@@ -248,13 +249,13 @@ calm_swept t s o p q h = go (has_records s.peer o.node) h
     go true h = h
     go false h = calm_goes (side_where is_parked s.peer (fm.entries ((set_state t s Gone o).node.sides))) (set_state t s Gone o) p q h
 
-calm_unregistered : (d : Option (Reference × (Pid × Pid))) (o : Work) → Calm o (sweep_registered d o)
+calm_unregistered : (d : Option (Reference × Monitor)) (o : Work) → Calm o (sweep_registered d o)
 calm_unregistered None o p q h = h
 calm_unregistered (Some d) o p q h = h
 
-calm_unwatched : (d : Option (Reference × (Pid × Pid))) (y : Name) (o : Work) → Calm o (sweep_watch d y o)
+calm_unwatched : (d : Option (Reference × Monitor)) (y : Name) (o : Work) → Calm o (sweep_watch d y o)
 calm_unwatched None y o p q h = calm_unregistered (registered_by y (fm.entries o.node.registered)) o p q h
-calm_unwatched (Some d) y o p q h = calm_put d.1.0 (down_term d.0 d.1.1 noconnection) (unwatch d.0 o) p q h
+calm_unwatched (Some d) y o p q h = calm_put d.1.owner (down_term d.0 d.1.target noconnection) (unwatch d.0 o) p q h
 
 abbrev pub HeldBefore : Node → Work → Type 0
 HeldBefore n o = (p q : Pid) → reacts_in p q o.effects ≡ true → Held n p q

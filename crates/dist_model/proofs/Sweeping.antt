@@ -32,6 +32,7 @@ use Rattle.erl_term.specs.declared.term.Pid.{Pid}
 use Rattle.erl_term.specs.declared.term.Reference.{Reference}
 use Rattle.exit_core.specs.Messages.{down_term}
 use Rattle.link_core.specs.declared.end.End.{End}
+use Rattle.monitor_core.specs.declared.monitor.Monitor.{Monitor}
 
 -- towards y the node has a side that is losing, and none that is up
 pub losing_unreached : (n : Node) (t : TrunkId) (v : TrunkSide) → SidesKept n → side_at n t ≡ Some v → v.state ≡ Losing → reaches n v.peer ≡ false
@@ -115,13 +116,13 @@ ends_swept End.None p q o r l = removes_unreached p q o r
 ends_swept End.Active p q o r l = then o (set_end p q End.None o) (link_exit p q noconnection (set_end p q End.None o)) (removes_unreached p q o r) (link_exits p q noconnection (set_end p q End.None o) (l (λ h. cc)))
 ends_swept (End.Pending i) p q o r l = removes_unreached p q o r
 
-registered_swept : (d : Option (Reference × (Pid × Pid))) (o : Work) → Moves o (sweep_registered d o)
+registered_swept : (d : Option (Reference × Monitor)) (o : Work) → Moves o (sweep_registered d o)
 registered_swept None o = stays o
 registered_swept (Some e) o = unregisters e.0 o
 
-watches_swept : (d : Option (Reference × (Pid × Pid))) (y : Name) (o : Work) → Moves o (sweep_watch d y o)
+watches_swept : (d : Option (Reference × Monitor)) (y : Name) (o : Work) → Moves o (sweep_watch d y o)
 watches_swept None y o = registered_swept (registered_by y (fm.entries o.node.registered)) o
-watches_swept (Some e) y o = then o (unwatch e.0 o) (put e.1.0 (down_term e.0 e.1.1 noconnection) (unwatch e.0 o)) (unwatches_one e.0 o) (puts e.1.0 (down_term e.0 e.1.1 noconnection) (unwatch e.0 o))
+watches_swept (Some e) y o = then o (unwatch e.0 o) (put e.1.owner (down_term e.0 e.1.target noconnection) (unwatch e.0 o)) (unwatches_one e.0 o) (puts e.1.owner (down_term e.0 e.1.target noconnection) (unwatch e.0 o))
 
 links_swept : (d : Option ((Pid × Pid) × End)) (y : Name) (o : Work) → link_to y (fm.entries o.node.ends) ≡ d → NodeKept o.node → reaches o.node y ≡ false → Moves o (sweep_link d y o)
 links_swept None y o h k r = watches_swept (watch_to y (fm.entries o.node.watches)) y o

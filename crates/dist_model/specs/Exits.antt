@@ -12,6 +12,7 @@ use Rattle.exit_core.specs.Reaction.{reaction}
 use Rattle.exit_core.specs.declared.reaction.ExitSignal.{ExitSignal}
 use Rattle.exit_core.specs.declared.reaction.Reaction.{Reaction}
 use Rattle.link_core.specs.declared.end.End.{End}
+use Rattle.monitor_core.specs.declared.monitor.Monitor.{Monitor}
 
 -- EXIT to the partners of p to which its link is active
 abbrev pub exit_for : Pid → Data → Pid → End → List Signal
@@ -24,22 +25,22 @@ exits p r [] = []
 exits p r (e ∷ es) = cond (same_pid e.0.0 p) (exit_for p r e.0.1 e.1) [] ++ exits p r es
 
 -- MONITOR_P_EXIT to the owners of the registrations of p
-abbrev pub monitor_exits : Pid → Data → List (Reference × (Pid × Pid)) → List Signal
+abbrev pub monitor_exits : Pid → Data → List (Reference × Monitor) → List Signal
 monitor_exits p r [] = []
-monitor_exits p r (e ∷ es) = cond (same_pid e.1.1 p) (Signal.MonitorExit p e.1.0 e.0 r ∷ []) [] ++ monitor_exits p r es
+monitor_exits p r (e ∷ es) = cond (same_pid e.1.target p) (Signal.MonitorExit p e.1.owner e.0 r ∷ []) [] ++ monitor_exits p r es
 
 -- DEMONITOR_P for the watches of p
-abbrev pub demonitors : Pid → List (Reference × (Pid × Pid)) → List Signal
+abbrev pub demonitors : Pid → List (Reference × Monitor) → List Signal
 demonitors p [] = []
-demonitors p (e ∷ es) = cond (same_pid e.1.0 p) (Signal.Demonitor p e.1.1 e.0 ∷ []) [] ++ demonitors p es
+demonitors p (e ∷ es) = cond (same_pid e.1.owner p) (Signal.Demonitor p e.1.target e.0 ∷ []) [] ++ demonitors p es
 
-abbrev pub is_owned : Pid → Option (Pid × Pid) → Bool
+abbrev pub is_owned : Pid → Option Monitor → Bool
 is_owned p None = false
-is_owned p (Some v) = same_pid v.0 p
+is_owned p (Some m) = same_pid m.owner p
 
-abbrev pub is_target : Pid → Option (Pid × Pid) → Bool
+abbrev pub is_target : Pid → Option Monitor → Bool
 is_target p None = false
-is_target p (Some v) = same_pid v.1 p
+is_target p (Some m) = same_pid m.target p
 
 -- its records go, and it keeps its reason
 abbrev pub buried : Pid → Data → Work → Work

@@ -9,7 +9,7 @@ use Rattle.dist_model.specs.Links.{noconnection}
 use Rattle.dist_model.specs.Names.{Name, same_name}
 use Rattle.dist_model.specs.Node.{Node, side_where}
 use Rattle.dist_model.specs.Sides.{Accepting, Gone, Losing, Parked, State, TrunkSide, is_losing, is_parked, lost}
-use Rattle.dist_model.specs.Taking.{unwatch}
+use Rattle.dist_model.specs.Taking.{unregister, unwatch}
 use Rattle.dist_model.specs.Work.{Work, at_work, put, set_end}
 use Rattle.erl_names.specs.declared.trunk.TrunkId.{TrunkId}
 use Rattle.erl_term.specs.declared.refusal.Refusal.{Refusal}
@@ -17,6 +17,7 @@ use Rattle.erl_term.specs.declared.term.Pid.{Pid}
 use Rattle.erl_term.specs.declared.term.Reference.{Reference}
 use Rattle.exit_core.specs.Messages.{down_term}
 use Rattle.link_core.specs.declared.end.End.{End}
+use Rattle.monitor_core.specs.declared.monitor.Monitor.{Monitor}
 
 abbrev pub lose_at : State → TrunkId → TrunkSide → Work → Outcome
 lose_at Losing t s o = Refuses Refusal.NotLive
@@ -36,29 +37,26 @@ abbrev pub link_to : Name → List ((Pid × Pid) × End) → Option ((Pid × Pid
 link_to y [] = None
 link_to y (e ∷ es) = cond (same_name e.0.1.node y) (Some e) (link_to y es)
 
-abbrev pub watch_to : Name → List (Reference × (Pid × Pid)) → Option (Reference × (Pid × Pid))
+abbrev pub watch_to : Name → List (Reference × Monitor) → Option (Reference × Monitor)
 watch_to y [] = None
-watch_to y (e ∷ es) = cond (same_name e.1.1.node y) (Some e) (watch_to y es)
+watch_to y (e ∷ es) = cond (same_name e.1.target.node y) (Some e) (watch_to y es)
 
-abbrev pub registered_by : Name → List (Reference × (Pid × Pid)) → Option (Reference × (Pid × Pid))
+abbrev pub registered_by : Name → List (Reference × Monitor) → Option (Reference × Monitor)
 registered_by y [] = None
-registered_by y (e ∷ es) = cond (same_name e.1.0.node y) (Some e) (registered_by y es)
+registered_by y (e ∷ es) = cond (same_name e.1.owner.node y) (Some e) (registered_by y es)
 
 abbrev pub sweep_end : End → Pid → Pid → Work → Work
 sweep_end End.None p q o = set_end p q End.None o
 sweep_end End.Active p q o = link_exit p q noconnection (set_end p q End.None o)
 sweep_end (End.Pending i) p q o = set_end p q End.None o
 
-abbrev pub unregister_swept : Reference → Work → Work
-unregister_swept k o = record o { node = record (o.node) { registered = fm.remove o.node.registered k } }
-
-abbrev pub sweep_registered : Option (Reference × (Pid × Pid)) → Work → Work
+abbrev pub sweep_registered : Option (Reference × Monitor) → Work → Work
 sweep_registered None o = o
-sweep_registered (Some e) o = unregister_swept e.0 o
+sweep_registered (Some e) o = unregister e.0 o
 
-abbrev pub sweep_watch : Option (Reference × (Pid × Pid)) → Name → Work → Work
+abbrev pub sweep_watch : Option (Reference × Monitor) → Name → Work → Work
 sweep_watch None y o = sweep_registered (registered_by y (fm.entries o.node.registered)) o
-sweep_watch (Some e) y o = put e.1.0 (down_term e.0 e.1.1 noconnection) (unwatch e.0 o)
+sweep_watch (Some e) y o = put e.1.owner (down_term e.0 e.1.target noconnection) (unwatch e.0 o)
 
 abbrev pub sweep_link : Option ((Pid × Pid) × End) → Name → Work → Work
 sweep_link None y o = sweep_watch (watch_to y (fm.entries o.node.watches)) y o

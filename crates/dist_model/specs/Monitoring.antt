@@ -13,14 +13,16 @@ use Rattle.erl_term.specs.declared.refusal.Refusal.{Refusal}
 use Rattle.erl_term.specs.declared.term.Pid.{Pid}
 use Rattle.erl_term.specs.declared.term.Reference.{Reference}
 use Rattle.exit_core.specs.Messages.{down_term}
+use Rattle.monitor_core.specs.Monitors.{monitor_of}
+use Rattle.monitor_core.specs.declared.monitor.Monitor.{Monitor}
 
 -- monitors
-abbrev pub watch : Reference → Pid × Pid → Work → Work
+abbrev pub watch : Reference → Monitor → Work → Work
 watch k v o = record o { node = record (o.node) { watches = fm.insert o.node.watches k v } }
 
 abbrev pub monitor : Reference → Pid → Pid → Work → Work
-monitor k p q o = cond (reaches o.node q.node) (post (Signal.Monitor p q k) (watch k (p, q) o)) (put p (down_term k q noconnection) o)
+monitor k p q o = cond (reaches o.node q.node) (post (Signal.Monitor p q k) (watch k (monitor_of p q) o)) (put p (down_term k q noconnection) o)
 
-abbrev pub demonitor_by : Option (Pid × Pid) → Pid → Reference → Work → Outcome
+abbrev pub demonitor_by : Option Monitor → Pid → Reference → Work → Outcome
 demonitor_by None p k o = Refuses Refusal.NotTheOwner
-demonitor_by (Some v) p k o = cond (same_pid v.0 p) (Goes Done (post (Signal.Demonitor p v.1 k) (unwatch k o))) (Refuses Refusal.NotTheOwner)
+demonitor_by (Some m) p k o = cond (same_pid m.owner p) (Goes Done (post (Signal.Demonitor p m.target k) (unwatch k o))) (Refuses Refusal.NotTheOwner)

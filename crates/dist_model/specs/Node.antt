@@ -11,7 +11,7 @@ use Rattle.erl_term.specs.Data.{Data}
 use Rattle.erl_term.specs.Order.{pid_cmp}
 use Rattle.erl_term.specs.declared.term.Pid.{Pid}
 use Rattle.link_core.specs.declared.end.End.{End}
-use Rattle.monitor_core.specs.Order.{reference_cmp}
+use Rattle.monitor_core.specs.Monitors.{MonitorMap}
 use Rattle.std.specs.FinMap.{FinMap}
 
 -- a process of the running incarnation. (Reference Manual, Processes)
@@ -28,8 +28,8 @@ pub record Node : Type 0 where
   pub dialed : ℕ
   pub lives : FinMap pid_cmp Life
   pub ends : FinMap pair_cmp End
-  pub watches : FinMap reference_cmp (Pid × Pid)
-  pub registered : FinMap reference_cmp (Pid × Pid)
+  pub watches : MonitorMap
+  pub registered : MonitorMap
   pub sides : FinMap trunk_cmp TrunkSide
   pub local : List Item
 

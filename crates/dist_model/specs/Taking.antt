@@ -5,7 +5,6 @@ use Rattle.std.specs.FinMap as fm
 use Rattle.dist_model.specs.Exits.{carry_out, link_exit, sent_exit}
 use Rattle.dist_model.specs.Items.{Handshake, Item, Signalled, Tick, telling}
 use Rattle.dist_model.specs.Links.{Exits, LinkWord, Says, heard, noproc, reply}
-use Rattle.dist_model.specs.Names.{same_pid}
 use Rattle.dist_model.specs.Node.{end_of, living, traps_life}
 use Rattle.dist_model.specs.Work.{Work, post, post_all, put, set_end}
 use Rattle.erl_control.specs.declared.signal.Signal.{Signal}
@@ -15,6 +14,8 @@ use Rattle.exit_core.specs.Messages.{down_term}
 use Rattle.exit_core.specs.Reaction.{reaction}
 use Rattle.link_core.specs.declared.end.End.{End}
 use Rattle.link_core.specs.declared.end.LinkSignal.{LinkSignal}
+use Rattle.monitor_core.specs.Monitors.{added, is_held, monitor_of}
+use Rattle.monitor_core.specs.declared.monitor.Monitor.{Monitor}
 
 -- what a signal about a link does once the end has changed: e is the end before
 abbrev pub exit_follows : End → LinkWord → Pid → Pid → Work → Work
@@ -35,13 +36,8 @@ take_link_by false p q s o = post_all (replies p q (reply true s)) o
 abbrev pub take_link : Pid → Pid → LinkWord → Work → Work
 take_link p q s o = take_link_by (living o.node p) p q s o
 
-abbrev pub register : Option (Pid × Pid) → Reference → Pid × Pid → Work → Work
-register None r v o = record o { node = record (o.node) { registered = fm.insert o.node.registered r v } }
-register (Some u) r v o = o
-
-abbrev pub same_pids : Option (Pid × Pid) → Pid → Pid → Bool
-same_pids None p q = false
-same_pids (Some v) p q = same_pid v.0 p && same_pid v.1 q
+abbrev pub register : Reference → Monitor → Work → Work
+register r m o = record o { node = record (o.node) { registered = added o.node.registered r m } }
 
 abbrev pub unregister : Reference → Work → Work
 unregister r o = record o { node = record (o.node) { registered = fm.remove o.node.registered r } }
@@ -55,9 +51,9 @@ take (Signal.Link from to) o = take_link to from (Says LinkSignal.Link) o
 take (Signal.Send to message) o = cond (living o.node to) (put to message o) o
 take (Signal.Exit from to reason) o = take_link to from (Exits reason) o
 take (Signal.Exit2 from to reason) o = cond (living o.node to) (carry_out (reaction (traps_life (fm.get o.node.lives to)) (sent_exit to from reason)) to o) o
-take (Signal.Monitor from to r) o = cond (living o.node to) (register (fm.get o.node.registered r) r (from, to) o) (post (Signal.MonitorExit to from r noproc) o)
-take (Signal.Demonitor from to r) o = cond (same_pids (fm.get o.node.registered r) from to) (unregister r o) o
-take (Signal.MonitorExit from to r reason) o = cond (living o.node to && same_pids (fm.get o.node.watches r) to from) (put to (down_term r from reason) (unwatch r o)) o
+take (Signal.Monitor from to r) o = cond (living o.node to) (register r (monitor_of from to) o) (post (Signal.MonitorExit to from r noproc) o)
+take (Signal.Demonitor from to r) o = cond (is_held o.node.registered r (monitor_of from to)) (unregister r o) o
+take (Signal.MonitorExit from to r reason) o = cond (living o.node to && is_held o.node.watches r (monitor_of to from)) (put to (down_term r from reason) (unwatch r o)) o
 take (Signal.UnlinkId id from to) o = take_link to from (Says (LinkSignal.Unlink id)) o
 take (Signal.UnlinkIdAck id from to) o = take_link to from (Says (LinkSignal.Ack id)) o
 
