@@ -14,10 +14,10 @@ use Rattle.dist_model.specs.Fits.{fits}
 use Rattle.dist_model.specs.Items.{Handshake, Item, Signalled, Tick, telling, word_in}
 use Rattle.dist_model.specs.Linking.{unlink_by}
 use Rattle.dist_model.specs.Links.{Exits, LinkWord, Says, noconnection, noproc}
-use Rattle.dist_model.specs.Monitoring.{demonitor_by, monitor, watch}
+use Rattle.dist_model.specs.Monitoring.{demonitor_by, monitor, register, unregister, unwatch, watch}
 use Rattle.dist_model.specs.Names.{same_name, same_pid}
 use Rattle.dist_model.specs.Node.{Ended, Life, Living, Node, end_of, is_living_life, living, never, reaches, traps_life}
-use Rattle.dist_model.specs.Taking.{register, take_item, unregister, unwatch}
+use Rattle.dist_model.specs.Taking.{take_item}
 use Rattle.dist_model.specs.Work.{Work, at_work, draw, post, put, set_end, set_life}
 use Rattle.erl_control.specs.declared.signal.Signal.{Signal}
 use Rattle.erl_names.specs.Ids.{pid_of, reference_of}

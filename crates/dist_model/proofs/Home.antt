@@ -9,10 +9,11 @@ use Rattle.dist_model.proofs.Pair.{Side}
 use Rattle.dist_model.proofs.Steps.{kind, signal_hit, signal_miss, taken_link}
 use Rattle.dist_model.proofs.Views.{side_of, side_path, to_name, view}
 use Rattle.dist_model.specs.Items.{Item, Signalled, telling, word_in, words}
+use Rattle.dist_model.specs.Linking.{take_link}
 use Rattle.dist_model.specs.Links.{LinkWord}
 use Rattle.dist_model.specs.Names.{Name, same_name, same_pid}
 use Rattle.dist_model.specs.Node.{Node, never, reaches, route}
-use Rattle.dist_model.specs.Taking.{take_item, take_link}
+use Rattle.dist_model.specs.Taking.{take_item}
 use Rattle.dist_model.specs.Work.{Work, at_work}
 use Rattle.erl_term.specs.declared.term.Pid.{Pid}
 

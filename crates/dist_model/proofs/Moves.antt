@@ -14,12 +14,11 @@ use Rattle.dist_model.proofs.Pair.{Side, finished}
 use Rattle.dist_model.proofs.Views.{AllSuit, Suits, linking_suits, more, over, post_all_keeps, post_all_view, post_keeps, post_view, posted, side_path, telling_receiver, telling_word, view}
 use Rattle.dist_model.specs.Exits.{carry_out, demonitors, exit_for, exits, finish, link_exit, linked_exit, monitor_exits}
 use Rattle.dist_model.specs.Items.{Item, Signalled, receiver_of, telling, word_in}
-use Rattle.dist_model.specs.Linking.{link, link_by, link_new}
+use Rattle.dist_model.specs.Linking.{exit_follows, link, link_by, link_new, replies, take_link, take_link_by}
 use Rattle.dist_model.specs.Links.{Exits, LinkWord, Says, heard, noconnection, reply}
 use Rattle.dist_model.specs.Names.{Name, pair_cmp, same_name, same_pid}
 use Rattle.dist_model.specs.Node.{Ended, Life, Living, Node, end_in, end_of, is_living_life, living, never, reaches, route, route_in, side_where, traps_life}
 use Rattle.dist_model.specs.Sides.{TrunkSide, is_losing, is_up}
-use Rattle.dist_model.specs.Taking.{exit_follows, replies, take_link, take_link_by}
 use Rattle.dist_model.specs.Work.{Effect, Envelope, LinkExit, Work, delivered, keep_local, post, post_all, post_to, put, report, send_on, set_end, set_life}
 use Rattle.erl_control.specs.declared.signal.Signal.{Signal}
 use Rattle.erl_names.specs.Order.{trunk_cmp}

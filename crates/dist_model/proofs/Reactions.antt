@@ -23,14 +23,14 @@ use Rattle.dist_model.specs.Fits.{fits}
 use Rattle.dist_model.specs.Handshake.{awaits_ack, awaits_challenge, awaits_name, awaits_reply, awaits_status, awaits_true, challenge, dig, end_up, give_up, go_on, greet, greet_dialing, greet_up, greet_waiting, has_flags, set_state, write}
 use Rattle.dist_model.specs.Incarnations.{start, stop}
 use Rattle.dist_model.specs.Items.{Challenge, ChallengeAck, ChallengeReply, Handshake, HandshakeMessage, Item, SendName, Signalled, StatusAlive, StatusFalse, StatusNok, StatusNotAllowed, StatusOk, StatusOkSimultaneous, StatusTrue, Tick, receiver_of, telling}
-use Rattle.dist_model.specs.Linking.{link_by, link_new, unlink_by}
+use Rattle.dist_model.specs.Linking.{exit_follows, link_by, link_new, replies, take_link, take_link_by, unlink_by}
 use Rattle.dist_model.specs.Links.{Exits, LinkWord, Says, heard, noconnection, noproc, reply}
 use Rattle.dist_model.specs.Losses.{any_side, close_if, has_records, link_to, lose, lose_at, parked_by, parked_goes, registered_by, sweep, sweep_by, sweep_end, sweep_link, sweep_registered, sweep_watch, swept, watch_to}
-use Rattle.dist_model.specs.Monitoring.{demonitor_by, watch}
+use Rattle.dist_model.specs.Monitoring.{demonitor_by, register, unregister, unwatch, watch}
 use Rattle.dist_model.specs.Names.{Name, place_cmp, same_name, same_pid}
 use Rattle.dist_model.specs.Node.{Node, end_in, end_of, living, never, reaches, route, side_where, traps_life}
 use Rattle.dist_model.specs.Sides.{Accepting, Asked, AwaitsAck, AwaitsChallenge, AwaitsStatus, Gone, Losing, Parked, State, TrunkSide, Up, is_dialing, is_gone, is_losing, is_parked, is_up, is_waiting}
-use Rattle.dist_model.specs.Taking.{exit_follows, register, replies, take_item, take_link, take_link_by, unregister, unwatch}
+use Rattle.dist_model.specs.Taking.{take_item}
 use Rattle.dist_model.specs.Work.{Effect, EndedBy, LinkExit, Put, Sent, Work, at_work, draw, keep_local, post, post_all, post_to, put, report, send_on, set_end}
 use Rattle.dist_model.specs.World.{Arrive, Call, Dial, Event, Local, Lose, Refused, Report, Start, Stepped, Stop, Sweep, World, arrives, arrives_first, ends_in, is_over, list_to, node_name, node_of, refused, running, step_at}
 use Rattle.erl_control.specs.declared.signal.Signal.{Signal}

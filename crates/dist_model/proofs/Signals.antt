@@ -16,11 +16,12 @@ use Rattle.dist_model.proofs.Table.{Good, HomeKept, carried_key, good_changed, i
 use Rattle.dist_model.proofs.Views.{over, side_of, view}
 use Rattle.dist_model.specs.Arrivals.{is_from, is_good, is_to}
 use Rattle.dist_model.specs.Items.{Item, Signalled, telling, word_in, words}
+use Rattle.dist_model.specs.Linking.{take_link}
 use Rattle.dist_model.specs.Links.{LinkWord}
 use Rattle.dist_model.specs.Names.{Name, same_name, same_pid}
 use Rattle.dist_model.specs.Node.{Node, never, reaches}
 use Rattle.dist_model.specs.Sides.{TrunkSide, is_up}
-use Rattle.dist_model.specs.Taking.{take, take_item, take_link}
+use Rattle.dist_model.specs.Taking.{take, take_item}
 use Rattle.dist_model.specs.Work.{Work, at_work}
 use Rattle.dist_model.specs.World.{World, carried, list_in, list_to, node_of, set_node}
 use Rattle.erl_names.specs.declared.trunk.TrunkId.{TrunkId}

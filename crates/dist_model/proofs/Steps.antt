@@ -14,11 +14,12 @@ use Rattle.dist_model.specs.Arrivals.{is_from, is_good, is_to}
 use Rattle.dist_model.specs.Calls.{call}
 use Rattle.dist_model.specs.Commands.{Command, Goes, Outcome, Refuses}
 use Rattle.dist_model.specs.Items.{Handshake, Item, Signalled, Tick, telling, word_in, words}
+use Rattle.dist_model.specs.Linking.{take_link}
 use Rattle.dist_model.specs.Links.{Exits, LinkWord, Says}
 use Rattle.dist_model.specs.Names.{Name, place_cmp, same_name, same_pid}
 use Rattle.dist_model.specs.Node.{Node, never, reaches, route_in}
 use Rattle.dist_model.specs.Sides.{Accepting, Asked, AwaitsAck, AwaitsChallenge, AwaitsStatus, Gone, Losing, Parked, State, TrunkSide, Up, is_up}
-use Rattle.dist_model.specs.Taking.{take, take_item, take_link}
+use Rattle.dist_model.specs.Taking.{take, take_item}
 use Rattle.dist_model.specs.Work.{Work, at_work}
 use Rattle.dist_model.specs.World.{World, carried, ends_in, list_to, node_of, set_node}
 use Rattle.erl_control.specs.declared.signal.Signal.{Signal}

@@ -21,10 +21,10 @@ use Rattle.dist_model.proofs.Table.{Good, Row, begun, begun_state, has, is_reply
 use Rattle.dist_model.specs.Exits.{link_exit}
 use Rattle.dist_model.specs.Links.{noconnection}
 use Rattle.dist_model.specs.Losses.{has_records, link_to, registered_by, sweep_end, sweep_link, sweep_registered, sweep_watch, watch_to}
+use Rattle.dist_model.specs.Monitoring.{unwatch}
 use Rattle.dist_model.specs.Names.{Name, pair_cmp, same_name}
 use Rattle.dist_model.specs.Node.{Node, end_in, living, reaches, route}
 use Rattle.dist_model.specs.Sides.{Accepting, Asked, AwaitsAck, AwaitsChallenge, AwaitsStatus, Gone, Losing, Parked, State, TrunkSide, Up, is_gone, is_up}
-use Rattle.dist_model.specs.Taking.{unwatch}
 use Rattle.dist_model.specs.Work.{Work, at_work, put, set_end}
 use Rattle.dist_model.specs.World.{World, list_to, node_of}
 use Rattle.erl_names.specs.declared.trunk.TrunkId.{TrunkId}

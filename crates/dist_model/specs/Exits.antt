@@ -1,8 +1,10 @@
--- What exits do. (Reference Manual, Processes, Receiving Exit Signals; Links; Monitors.)
-use Rattle.std.specs.Prelude.{Option, None, Some, Bool, true, false, cond, not, List, [], ◌∷◌, ◌++◌}
+-- What exits do: a process ends, and an exit signal comes to one.
+-- (Reference Manual, Processes, Receiving Exit Signals; Links; Monitors.)
+use Rattle.std.specs.Prelude.{Option, None, Some, is_some, ℕ, ◌+◌, ◌^◌, Bool, true, false, cond, not, if◌then◌else◌, List, [], ◌∷◌, ◌++◌, ◌==◌, nat_lt, nat_le, ◌&&◌, ◌||◌}
 use Rattle.std.specs.FinMap as fm
+use Rattle.dist_model.specs.Monitoring.{monitor}
 use Rattle.dist_model.specs.Names.{same_pid}
-use Rattle.dist_model.specs.Node.{Ended, traps_life}
+use Rattle.dist_model.specs.Node.{Ended, traps}
 use Rattle.dist_model.specs.Work.{EndedBy, LinkExit, Work, post_all, put, report}
 use Rattle.erl_control.specs.declared.signal.Signal.{Signal}
 use Rattle.erl_term.specs.Data.{Data}
@@ -11,65 +13,73 @@ use Rattle.erl_term.specs.declared.term.Reference.{Reference}
 use Rattle.exit_core.specs.Reaction.{reaction}
 use Rattle.exit_core.specs.declared.reaction.ExitSignal.{ExitSignal}
 use Rattle.exit_core.specs.declared.reaction.Reaction.{Reaction}
+use Rattle.link_core.specs.Table.{is_active}
 use Rattle.link_core.specs.declared.end.End.{End}
 use Rattle.monitor_core.specs.declared.monitor.Monitor.{Monitor}
 
--- EXIT to the partners of p to which its link is active
+-- ---- a process ends
+
+-- EXIT to each partner to which its link is active
 abbrev pub exit_for : Pid → Data → Pid → End → List Signal
-exit_for p r q End.None = []
-exit_for p r q End.Active = Signal.Exit p q r ∷ []
-exit_for p r q (End.Pending i) = []
+exit_for p reason q end = if is_active end then Signal.Exit p q reason ∷ [] else []
 
 abbrev pub exits : Pid → Data → List ((Pid × Pid) × End) → List Signal
-exits p r [] = []
-exits p r (e ∷ es) = cond (same_pid e.0.0 p) (exit_for p r e.0.1 e.1) [] ++ exits p r es
+exits p reason [] = []
+exits p reason (entry ∷ rest) = (if same_pid entry.0.0 p then exit_for p reason entry.0.1 entry.1 else []) ++ exits p reason rest
 
--- MONITOR_P_EXIT to the owners of the registrations of p
+-- MONITOR_P_EXIT to the owner of each monitor that others have of it
 abbrev pub monitor_exits : Pid → Data → List (Reference × Monitor) → List Signal
-monitor_exits p r [] = []
-monitor_exits p r (e ∷ es) = cond (same_pid e.1.target p) (Signal.MonitorExit p e.1.owner e.0 r ∷ []) [] ++ monitor_exits p r es
+monitor_exits p reason [] = []
+monitor_exits p reason (entry ∷ rest) = (if same_pid entry.1.target p then Signal.MonitorExit p entry.1.owner entry.0 reason ∷ [] else []) ++ monitor_exits p reason rest
 
--- DEMONITOR_P for the watches of p
+-- DEMONITOR_P for each of its own monitors
 abbrev pub demonitors : Pid → List (Reference × Monitor) → List Signal
 demonitors p [] = []
-demonitors p (e ∷ es) = cond (same_pid e.1.owner p) (Signal.Demonitor p e.1.target e.0 ∷ []) [] ++ demonitors p es
+demonitors p (entry ∷ rest) = (if same_pid entry.1.owner p then Signal.Demonitor p entry.1.target entry.0 ∷ [] else []) ++ demonitors p rest
 
 abbrev pub is_owned : Pid → Option Monitor → Bool
 is_owned p None = false
-is_owned p (Some m) = same_pid m.owner p
+is_owned p (Some monitor) = same_pid monitor.owner p
 
 abbrev pub is_target : Pid → Option Monitor → Bool
 is_target p None = false
-is_target p (Some m) = same_pid m.target p
+is_target p (Some monitor) = same_pid monitor.target p
 
--- its records go, and it keeps its reason
+-- its mailbox and its records go, and it keeps its reason
 abbrev pub buried : Pid → Data → Work → Work
-buried p r o = record o {
-  node = record (o.node) {
-    lives = fm.insert o.node.lives p (Ended r);
-    ends = fm.retain_keys o.node.ends (λ k. not (same_pid k.0 p));
-    watches = fm.retain_keys o.node.watches (λ k. not (is_owned p (fm.get o.node.watches k)));
-    registered = fm.retain_keys o.node.registered (λ k. not (is_target p (fm.get o.node.registered k)));
+buried p reason work = record work {
+  node = record (work.node) {
+    lives = fm.insert work.node.lives p (Ended reason);
+    ends = fm.retain_keys work.node.ends (λ pair. not (same_pid pair.0 p));
+    watches = fm.retain_keys work.node.watches (λ r. not (is_owned p (fm.get work.node.watches r)));
+    registered = fm.retain_keys work.node.registered (λ r. not (is_target p (fm.get work.node.registered r)));
   };
-  effects = o.effects ++ EndedBy p r ∷ [];
+  effects = work.effects ++ EndedBy p reason ∷ [];
 }
 
+-- each group in the order of its keys
 abbrev pub finish : Pid → Data → Work → Work
-finish p r o = buried p r (post_all (exits p r (fm.entries o.node.ends) ++ monitor_exits p r (fm.entries o.node.registered) ++ demonitors p (fm.entries o.node.watches)) o)
+finish p reason work = buried p reason
+    (post_all (exits p reason (fm.entries work.node.ends) ++ monitor_exits p reason (fm.entries work.node.registered) ++ demonitors p (fm.entries work.node.watches)) work)
 
--- p gets the exit of its link with q, which was active
+-- ---- an exit signal comes to p
+
+-- of its active link with q
 abbrev pub linked_exit : Pid → Pid → Data → ExitSignal
-linked_exit p q r = record { sender = q; reason = r; link = true; is_active = true; is_own = same_pid q p }
+linked_exit p q reason = record { sender = q; reason = reason; link = true; is_active = true; is_own = same_pid q p }
 
--- p gets an exit that q sent
+-- as q sent it
 abbrev pub sent_exit : Pid → Pid → Data → ExitSignal
-sent_exit p q r = record { sender = q; reason = r; link = false; is_active = false; is_own = same_pid q p }
+sent_exit p q reason = record { sender = q; reason = reason; link = false; is_active = false; is_own = same_pid q p }
 
 abbrev pub carry_out : Reaction → Pid → Work → Work
-carry_out Reaction.Ignore p o = o
-carry_out (Reaction.Put t) p o = put p t o
-carry_out (Reaction.End r) p o = finish p r o
+carry_out Reaction.Ignore p work = work
+carry_out (Reaction.Put message) p work = put p message work
+carry_out (Reaction.End reason) p work = finish p reason work
 
--- a link's exit reaches a process whose end was active; the record is gone already
+-- the link's record is gone by now, so no EXIT goes back to q
 abbrev pub link_exit : Pid → Pid → Data → Work → Work
-link_exit p q r o = carry_out (reaction (traps_life (fm.get o.node.lives p)) (linked_exit p q r)) p (report (LinkExit p q r) o)
+link_exit p q reason work = carry_out (reaction (traps work.node p) (linked_exit p q reason)) p (report (LinkExit p q reason) work)
+
+abbrev pub other_exit : Pid → Pid → Data → Work → Work
+other_exit p q reason work = carry_out (reaction (traps work.node p) (sent_exit p q reason)) p work

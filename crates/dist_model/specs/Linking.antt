@@ -1,37 +1,59 @@
--- A process links itself to another, or takes its link back.
+-- Links: a process links itself, takes its link back, and hears its partner's words.
 -- (Reference Manual, Processes, Links; ERTS User's Guide, Distribution Protocol, New Link Protocol.)
 use Rattle.erl_names.specs.Draw as kind
-use Rattle.std.specs.Prelude.{Option, None, Some, is_some, ℕ, ◌+◌, ◌^◌, Bool, true, false, cond, not, List, [], ◌∷◌, ◌==◌, nat_lt, nat_le, ◌&&◌, ◌||◌}
+use Rattle.std.specs.Prelude.{Option, None, Some, is_some, ℕ, ◌+◌, ◌^◌, Bool, true, false, cond, not, if◌then◌else◌, List, [], ◌∷◌, ◌++◌, ◌==◌, nat_lt, nat_le, ◌&&◌, ◌||◌}
 use Rattle.std.specs.FinMap as fm
 use Rattle.dist_model.specs.Commands.{Done, Goes, Outcome, with_id}
 use Rattle.dist_model.specs.Exits.{link_exit}
-use Rattle.dist_model.specs.Links.{noconnection}
+use Rattle.dist_model.specs.Items.{telling}
+use Rattle.dist_model.specs.Links.{Exits, LinkWord, Says, heard, noconnection, reply}
 use Rattle.dist_model.specs.Names.{same_pid}
-use Rattle.dist_model.specs.Node.{end_of, reaches}
-use Rattle.dist_model.specs.Work.{Work, draw, post, set_end}
+use Rattle.dist_model.specs.Node.{end_of, living, reaches}
+use Rattle.dist_model.specs.Work.{Work, draw, post, post_all, set_end}
 use Rattle.erl_control.specs.declared.signal.Signal.{Signal}
 use Rattle.erl_names.specs.Minted.{id_of}
 use Rattle.erl_term.specs.declared.term.Pid.{Pid}
+use Rattle.link_core.specs.Table.{is_active}
 use Rattle.link_core.specs.declared.end.End.{End}
 
--- link
+-- ---- p links itself to q: nothing where it is linked already, or where q is p
+
+-- where q's node isn't reached, the link is lost at once
 abbrev pub link_new : Bool → Pid → Pid → Work → Work
-link_new true p q o = post (Signal.Link p q) (set_end p q End.Active o)
-link_new false p q o = link_exit p q noconnection (set_end p q End.None o)
+link_new true p q work = post (Signal.Link p q) (set_end p q End.Active work)
+link_new false p q work = link_exit p q noconnection (set_end p q End.None work)
 
 abbrev pub link_by : End → Pid → Pid → Work → Work
-link_by End.None p q o = link_new (reaches o.node q.node) p q o
-link_by End.Active p q o = o
-link_by (End.Pending i) p q o = link_new (reaches o.node q.node) p q o
+link_by end p q work = if is_active end then work else link_new (reaches work.node q.node) p q work
 
 abbrev pub link : Pid → Pid → Work → Work
-link p q o = cond (same_pid p q) o (link_by (end_of o.node p q) p q o)
+link p q work = if same_pid p q then work else link_by (end_of work.node p q) p q work
 
--- unlink
+-- ---- p takes its link to q back, under a new id: nothing where it isn't linked
+
 abbrev pub unlink_as : ℕ → Pid → Pid → Work → Work
-unlink_as id p q o = post (Signal.UnlinkId id p q) (set_end p q (End.Pending id) (draw kind.UnlinkId o))
+unlink_as id p q work = post (Signal.UnlinkId id p q) (set_end p q (End.Pending id) (draw kind.UnlinkId work))
 
 abbrev pub unlink_by : End → Pid → Pid → Work → Outcome
-unlink_by End.None p q o = Goes Done o
-unlink_by End.Active p q o = with_id (id_of o.node.mint kind.UnlinkId) (λ id. Goes Done (unlink_as id p q o))
-unlink_by (End.Pending i) p q o = Goes Done o
+unlink_by end p q work = if is_active end then with_id (id_of work.node.mint kind.UnlinkId) (λ id. Goes Done (unlink_as id p q work)) else Goes Done work
+
+-- ---- p hears a word of q about their link
+
+abbrev pub replies : Pid → Pid → List LinkWord → List Signal
+replies p q [] = []
+replies p q (word ∷ rest) = telling p q word ∷ replies p q rest
+
+-- to an exit it reacts only where it was linked
+abbrev pub exit_follows : End → LinkWord → Pid → Pid → Work → Work
+exit_follows was (Says signal) p q work = work
+exit_follows was (Exits reason) p q work = if is_active was then link_exit p q reason work else work
+
+-- the reply goes before anything else
+abbrev pub take_link_by : Bool → Pid → Pid → LinkWord → Work → Work
+take_link_by true p q word work =
+    let was = end_of work.node p q in
+    exit_follows was word p q (post_all (replies p q (reply false word)) (set_end p q (heard was word) work))
+take_link_by false p q word work = post_all (replies p q (reply true word)) work
+
+abbrev pub take_link : Pid → Pid → LinkWord → Work → Work
+take_link p q word work = take_link_by (living work.node p) p q word work

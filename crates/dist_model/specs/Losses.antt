@@ -6,10 +6,10 @@ use Rattle.dist_model.specs.Commands.{Done, Goes, Outcome, Refuses, Sweeps, Swep
 use Rattle.dist_model.specs.Exits.{link_exit}
 use Rattle.dist_model.specs.Handshake.{challenge, set_state, write}
 use Rattle.dist_model.specs.Links.{noconnection}
+use Rattle.dist_model.specs.Monitoring.{unregister, unwatch}
 use Rattle.dist_model.specs.Names.{Name, same_name}
 use Rattle.dist_model.specs.Node.{Node, side_where}
 use Rattle.dist_model.specs.Sides.{Accepting, Gone, Losing, Parked, State, TrunkSide, is_losing, is_parked, lost}
-use Rattle.dist_model.specs.Taking.{unregister, unwatch}
 use Rattle.dist_model.specs.Work.{Work, at_work, put, set_end}
 use Rattle.erl_names.specs.declared.trunk.TrunkId.{TrunkId}
 use Rattle.erl_term.specs.declared.refusal.Refusal.{Refusal}

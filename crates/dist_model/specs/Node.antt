@@ -1,5 +1,5 @@
--- One node: what it keeps.
-use Rattle.std.specs.Prelude.{Option, None, Some, is_some, unwrap_or, ℕ, Bool, true, false, cond, not, List, [], ◌∷◌, ◌==◌, nat_lt, ◌&&◌, ◌||◌}
+-- One node: what it keeps of its processes, their links and monitors, and its connections.
+use Rattle.std.specs.Prelude.{Option, None, Some, is_some, ℕ, ◌+◌, ◌^◌, Bool, true, false, cond, not, if◌then◌else◌, List, [], ◌∷◌, ◌++◌, ◌==◌, nat_lt, nat_le, ◌&&◌, ◌||◌}
 use Rattle.std.specs.FinMap as fm
 use Rattle.dist_model.specs.Items.{Item}
 use Rattle.dist_model.specs.Names.{Name, pair_cmp, same_name}
@@ -27,49 +27,63 @@ pub record Node : Type 0 where
   -- how many trunks it has ever dialed
   pub dialed : ℕ
   pub lives : FinMap pid_cmp Life
+  -- by the process and its partner
   pub ends : FinMap pair_cmp End
+  -- the monitors that its processes own, and those that others have of them
   pub watches : MonitorMap
   pub registered : MonitorMap
   pub sides : FinMap trunk_cmp TrunkSide
+  -- what travels from the node to itself
   pub local : List Item
 
-abbrev pub end_in : Option End → End
-end_in None = End.None
-end_in (Some e) = e
-
-abbrev pub end_of : Node → Pid → Pid → End
-end_of n p q = end_in (fm.get n.ends (p, q))
-
 abbrev pub is_living_life : Option Life → Bool
-is_living_life None = false
 is_living_life (Some (Living trap mailbox)) = true
-is_living_life (Some (Ended reason)) = false
-
-abbrev pub traps_life : Option Life → Bool
-traps_life None = false
-traps_life (Some (Living trap mailbox)) = trap
-traps_life (Some (Ended reason)) = false
+is_living_life _ = false
 
 abbrev pub living : Node → Pid → Bool
-living n p = is_living_life (fm.get n.lives p)
+living node p = is_living_life (fm.get node.lives p)
 
--- never spawned here: it is of another node, or its creation is to come, or its id
+abbrev pub traps_life : Option Life → Bool
+traps_life (Some (Living trap mailbox)) = trap
+traps_life _ = false
+
+abbrev pub traps : Node → Pid → Bool
+traps node p = traps_life (fm.get node.lives p)
+
+-- no process of the node has had this pid: it is of another node, or its creation or its id is to come, or no process has such an id
 abbrev pub never : Node → Pid → Bool
-never n p = not (same_name p.node n.mint.name) || nat_lt n.mint.creation p.creation || (p.creation == n.mint.creation && nat_lt n.mint.pids p.id) || p.id == 0 || not (p.serial == 0)
+never node p =
+    not (same_name p.node node.mint.name)
+    || nat_lt node.mint.creation p.creation
+    || (p.creation == node.mint.creation && nat_lt node.mint.pids p.id)
+    || p.id == 0
+    || not (p.serial == 0)
+
+-- an end that isn't there is one of no link
+abbrev pub end_in : Option End → End
+end_in None = End.None
+end_in (Some end) = end
+
+abbrev pub end_of : Node → Pid → Pid → End
+end_of node p q = end_in (fm.get node.ends (p, q))
+
+-- the first entry that passes, in the order of the keys
+abbrev pub first_where : {K X : Type 0} → (K → X → Bool) → List (K × X) → Option (K × X)
+first_where passes [] = None
+first_where passes (entry ∷ rest) = if passes entry.0 entry.1 then Some entry else first_where passes rest
+
+-- the first side towards a peer whose state passes
+abbrev pub side_where : (State → Bool) → Name → List (TrunkId × TrunkSide) → Option (TrunkId × TrunkSide)
+side_where test peer = first_where (λ trunk side. same_name side.peer peer && test side.state)
 
 abbrev pub route_in : List (TrunkId × TrunkSide) → Name → Option TrunkId
-route_in [] y = None
-route_in (e ∷ es) y = cond (same_name e.1.peer y && is_up e.1.state) (Some e.0) (route_in es y)
+route_in [] peer = None
+route_in (entry ∷ rest) peer = if same_name entry.1.peer peer && is_up entry.1.state then Some entry.0 else route_in rest peer
 
--- the trunk that is up towards y
+-- the trunk that is up towards a peer
 abbrev pub route : Node → Name → Option TrunkId
-route n y = route_in (fm.entries n.sides) y
+route node peer = route_in (fm.entries node.sides) peer
 
--- whether a signal to a process of y goes anywhere
+-- whether a signal to a process of that name's node goes anywhere
 abbrev pub reaches : Node → Name → Bool
-reaches n y = same_name y n.mint.name || is_some (route n y)
-
--- the first side towards y whose state passes the test
-abbrev pub side_where : (State → Bool) → Name → List (TrunkId × TrunkSide) → Option (TrunkId × TrunkSide)
-side_where test y [] = None
-side_where test y (e ∷ es) = cond (same_name e.1.peer y && test e.1.state) (Some e) (side_where test y es)
+reaches node name = same_name name node.mint.name || is_some (route node name)

@@ -1,9 +1,9 @@
 -- A node in the midst of an event: what it has become, what it has sent, what it reports.
-use Rattle.std.specs.Prelude.{Option, None, Some, Bool, cond, List, [], ◌∷◌, ◌++◌}
+use Rattle.std.specs.Prelude.{Option, None, Some, is_some, ℕ, ◌+◌, ◌^◌, Bool, true, false, cond, not, if◌then◌else◌, List, [], ◌∷◌, ◌++◌, ◌==◌, nat_lt, nat_le, ◌&&◌, ◌||◌}
 use Rattle.std.specs.FinMap as fm
 use Rattle.dist_model.specs.Items.{Item, Signalled, receiver_of}
 use Rattle.dist_model.specs.Names.{Name, pair_cmp, same_name}
-use Rattle.dist_model.specs.Node.{Ended, Life, Living, Node, route}
+use Rattle.dist_model.specs.Node.{Life, Living, Node, route}
 use Rattle.erl_control.specs.declared.signal.Signal.{Signal}
 use Rattle.erl_names.specs.Draw.{Draw}
 use Rattle.erl_names.specs.Minted.{drawn}
@@ -15,10 +15,13 @@ use Rattle.link_core.specs.declared.end.End.{End}
 use Rattle.std.specs.FinMap.{FinMap}
 
 pub data Effect : Type 0 where
+  -- a message was put into a mailbox
   Put : (receiver : Pid) → (message : Data) → Effect
+  -- the process ended
   EndedBy : (process : Pid) → (reason : Data) → Effect
   -- the process reacted to the exit of its link
   LinkExit : (process : Pid) → (partner : Pid) → (reason : Data) → Effect
+  -- the item was sent to a node, maybe the own one
   Sent : (target : Name) → (item : Item) → Effect
 
 pub record Envelope : Type 0 where
@@ -29,57 +32,61 @@ pub record Envelope : Type 0 where
 pub record Work : Type 0 where
   pub node : Node
   pub sent : List Envelope
+  -- in the order in which they happened
   pub effects : List Effect
 
 abbrev pub at_work : Node → Work
-at_work n = record { node = n; sent = []; effects = [] }
+at_work node = record { node = node; sent = []; effects = [] }
 
 abbrev pub report : Effect → Work → Work
-report f o = record o { effects = o.effects ++ f ∷ [] }
+report effect work = record work { effects = work.effects ++ effect ∷ [] }
+
+-- ---- what is sent
 
 abbrev pub keep_local : Item → Work → Work
-keep_local x o = record o { node = record (o.node) { local = o.node.local ++ x ∷ [] }; effects = o.effects ++ Sent o.node.mint.name x ∷ [] }
+keep_local item work = record work { node = record (work.node) { local = work.node.local ++ item ∷ [] }; effects = work.effects ++ Sent work.node.mint.name item ∷ [] }
 
 abbrev pub send_on : Option TrunkId → Name → Item → Work → Work
-send_on None y x o = o
-send_on (Some t) y x o = record o { sent = o.sent ++ (record { trunk = t; target = y; item = x }) ∷ []; effects = o.effects ++ Sent y x ∷ [] }
+send_on None target item work = work
+send_on (Some trunk) target item work = record work { sent = work.sent ++ (record { trunk = trunk; target = target; item = item }) ∷ []; effects = work.effects ++ Sent target item ∷ [] }
 
--- what goes to y: into the own list, onto the trunk that is up, or nowhere
+-- into the own list, onto the trunk that is up, or nowhere
 abbrev pub post_to : Name → Item → Work → Work
-post_to y x o = cond (same_name y o.node.mint.name) (keep_local x o) (send_on (route o.node y) y x o)
+post_to target item work = if same_name target work.node.mint.name then keep_local item work else send_on (route work.node target) target item work
 
 -- a signal goes to its receiver's node. (Reference Manual, Processes, Delivery of Signals)
 abbrev pub post : Signal → Work → Work
-post s o = post_to (receiver_of s).node (Signalled s) o
+post signal work = post_to (receiver_of signal).node (Signalled signal) work
 
 abbrev pub post_all : List Signal → Work → Work
-post_all [] o = o
-post_all (s ∷ ss) o = post_all ss (post s o)
+post_all [] work = work
+post_all (signal ∷ rest) work = post_all rest (post signal work)
 
--- a message for the mailbox of a living process
+-- ---- what is kept
+
 abbrev pub delivered : Option Life → Data → Option Life
-delivered None t = None
-delivered (Some (Living trap mailbox)) t = Some (Living trap (mailbox ++ t ∷ []))
-delivered (Some (Ended reason)) t = Some (Ended reason)
+delivered (Some (Living trap mailbox)) message = Some (Living trap (mailbox ++ message ∷ []))
+delivered life message = life
 
 abbrev pub set_life : FinMap pid_cmp Life → Pid → Option Life → FinMap pid_cmp Life
-set_life m p None = m
-set_life m p (Some l) = fm.insert m p l
+set_life lives p None = lives
+set_life lives p (Some life) = fm.insert lives p life
 
+-- a message comes into the mailbox of a living process
 abbrev pub put : Pid → Data → Work → Work
-put p t o = record o { node = record (o.node) { lives = set_life o.node.lives p (delivered (fm.get o.node.lives p) t) }; effects = o.effects ++ Put p t ∷ [] }
-
-abbrev pub with_ends : Work → FinMap pair_cmp End → Work
-with_ends o m = record o { node = record (o.node) { ends = m } }
+put p message work = record work {
+  node = record (work.node) { lives = set_life work.node.lives p (delivered (fm.get work.node.lives p) message) };
+  effects = work.effects ++ Put p message ∷ [];
+}
 
 abbrev pub set_in : FinMap pair_cmp End → Pid × Pid → End → FinMap pair_cmp End
-set_in m k End.None = fm.remove m k
-set_in m k End.Active = fm.insert m k End.Active
-set_in m k (End.Pending i) = fm.insert m k (End.Pending i)
+set_in ends pair End.None = fm.remove ends pair
+set_in ends pair End.Active = fm.insert ends pair End.Active
+set_in ends pair (End.Pending id) = fm.insert ends pair (End.Pending id)
 
 abbrev pub set_end : Pid → Pid → End → Work → Work
-set_end p q e o = with_ends o (set_in o.node.ends (p, q) e)
+set_end p q end work = record work { node = record (work.node) { ends = set_in work.node.ends (p, q) end } }
 
 -- a number is drawn
 abbrev pub draw : Draw → Work → Work
-draw kind o = record o { node = record (o.node) { mint = drawn o.node.mint kind } }
+draw kind work = record work { node = record (work.node) { mint = drawn work.node.mint kind } }
