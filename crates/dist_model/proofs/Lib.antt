@@ -24,4 +24,4 @@ pub mod Closing
 pub mod Greeting
 pub mod Fresh
 pub mod Run
-pub mod Reactions
+pub mod Reacting

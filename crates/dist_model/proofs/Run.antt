@@ -1,4 +1,7 @@
 -- Every step keeps the world good.
+use Rattle.std.proofs.Common.{inr}
+use Rattle.std.proofs.Common.{subst}
+use Rattle.std.proofs.Common.{inl}
 use Rattle.std.proofs.Common.{◌≡◌, ℕ, ◌+◌, Bool, true, false, cond, not, List, [], ◌∷◌, refl, sym, ap, ◌∙◌, ◌&&◌, Option, Some, None, nat_lt, ◌==◌, ◌^◌}
 use Rattle.std.specs.Option.{is_some}
 use Rattle.std.specs.FinMap as fm
@@ -21,9 +24,10 @@ use Rattle.dist_model.specs.Items.{Challenge, ChallengeAck, ChallengeReply, Hand
 use Rattle.dist_model.specs.Losses.{lose}
 use Rattle.dist_model.specs.Names.{Name, place_cmp, same_name}
 use Rattle.dist_model.specs.Node.{Node}
+use Rattle.dist_model.specs.Runs.{Always, Comes, Runs, opening, run}
 use Rattle.dist_model.specs.Sides.{Accepting, Asked, AwaitsAck, AwaitsChallenge, AwaitsStatus, Gone, Losing, Parked, State, TrunkSide, Up, is_up}
 use Rattle.dist_model.specs.Work.{at_work}
-use Rattle.dist_model.specs.World.{Arrive, Call, Dial, Event, Local, Lose, Start, Stepped, Stop, Sweep, World, arrives, arrives_first, carried, ends_in, is_over, list_to, node_name, node_of, refused, run, running, set_node, step, step_at}
+use Rattle.dist_model.specs.World.{Arrive, Call, Dial, Event, Local, Lose, Report, Start, Stepped, Stop, Sweep, World, arrives, arrives_first, carried, ends_in, is_over, list_to, node_name, node_of, refused, running, set_node, step, step_at}
 use Rattle.erl_names.specs.declared.trunk.TrunkId.{TrunkId}
 use Rattle.erl_term.specs.declared.refusal.Refusal.{Refusal}
 use Rattle.std.specs.FinMap.{FinMap}
@@ -204,3 +208,17 @@ good_step_at w (Some n) (Start x) h g = good_start w x n h g
 pub good_run : (es : List Event) (w : World) → Good w → Good (run es w)
 good_run [] w g = g
 good_run (e ∷ es) w g = good_run es ((step w e).world) (good_step_at w (node_of w.nodes (node_name e)) e refl g)
+
+-- whatever memory does
+comes : (w : World) (e : Event) (r : Report) (v : World) → Good w → Comes w e r v → Good v
+comes w e r v g (inl h) = subst Good (sym h.1) (good_step_at w (node_of w.nodes (node_name e)) e refl g)
+comes w e r v g (inr h) = subst Good (sym h.1) g
+
+good_runs : (w : World) (es : List Event) (rs : List Report) (v : World) → Good w → Runs w es rs v → Good v
+good_runs w [] [] v g h = subst Good (sym h) g
+good_runs w [] (r ∷ rs) v g h = absurd h
+good_runs w (e ∷ es) [] v g h = absurd h
+good_runs w (e ∷ es) (r ∷ rs) v g h = good_runs h.0 es rs v (comes w e r h.0 g h.1) h.2
+
+pub always : (Holds : World → Type 0) → ((cs : List (Name × List ℕ)) → Good (opening cs)) → ((w : World) → Good w → Holds w) → Always Holds
+always Holds opens f cs es rs w h = f w (good_runs (opening cs) es rs w (opens cs) h)

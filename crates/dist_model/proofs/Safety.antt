@@ -15,13 +15,16 @@ use Rattle.dist_model.proofs.Routes.{node_of_name, some_same}
 use Rattle.dist_model.proofs.Sides.{beside, holds_kinds, or_false, or_true, side_at, unheld_absent, up_holds, up_not_gone}
 use Rattle.dist_model.proofs.Table.{Good, HomeKept, Likely, no_asks_beside, up_likely}
 use Rattle.dist_model.proofs.Views.{over, side_of}
-use Rattle.dist_model.specs.Claims.{Agreement, AgreementInQuiet, AgreementWithin, NoLinkToItself, NoLinkToTheDead, NoUpBesideLosing, OneTrunk, Over, PendingOnItsWay, PendingWithin, Stands, Unconnected, Within, connected_at, end_at, end_between, is_connected, is_of, is_silent, living_at, local_at, local_list, side_in}
+use Rattle.dist_model.specs.Claims.{Agreement, AgreementInQuiet, AgreementWithin, NoLinkToItself, NoLinkToTheDead, NoUpBesideLosing, OneTrunk, PendingOnItsWay, PendingWithin}
 use Rattle.dist_model.specs.Items.{Handshake, Item, Signalled, Tick, word_in, words}
 use Rattle.dist_model.specs.Links.{Exits, LinkWord, Says, drained, last_said}
 use Rattle.dist_model.specs.Names.{Name, pair_cmp, place_cmp, same_name, same_pid}
 use Rattle.dist_model.specs.Node.{Node, end_in, end_of, is_living_life, living, never}
+use Rattle.dist_model.specs.Quiet.{Over, Unconnected, Within, is_of, is_silent}
+use Rattle.dist_model.specs.Runs.{new_node, new_nodes, opening}
+use Rattle.dist_model.specs.Seen.{HasSide, connected_at, end_at, end_between, is_connected, living_at, local_at, local_list, side_in}
 use Rattle.dist_model.specs.Sides.{Accepting, Asked, AwaitsAck, AwaitsChallenge, AwaitsStatus, Gone, Losing, Parked, State, TrunkSide, Up, is_gone, is_losing, is_up}
-use Rattle.dist_model.specs.World.{World, list_to, new_node, new_nodes, node_of, opening}
+use Rattle.dist_model.specs.World.{World, list_to, node_of}
 use Rattle.erl_control.specs.declared.signal.Signal.{Signal}
 use Rattle.erl_names.specs.Order.{trunk_cmp}
 use Rattle.erl_names.specs.declared.trunk.TrunkId.{TrunkId}
@@ -95,7 +98,7 @@ module _ (w : World) (g : Good w) where
   own_name : (x : Name) (a : Node) → node_of w.nodes x ≡ Some a → same_name x a.mint.name ≡ true
   own_name x a h = same_name_is x a.mint.name (sym (node_of_name w.nodes x a h))
 
-  kept_over : (p q : Pid) (a b : Node) (t : TrunkId) → node_of w.nodes p.node ≡ Some a → node_of w.nodes q.node ≡ Some b → Stands w p.node t q.node is_up → Stands w q.node t p.node is_up
+  kept_over : (p q : Pid) (a b : Node) (t : TrunkId) → node_of w.nodes p.node ≡ Some a → node_of w.nodes q.node ≡ Some b → HasSide w p.node t q.node is_up → HasSide w q.node t p.node is_up
       → Kept (side_of a p q (words p q (list_to w.lists t q.node))) (side_of b q p (words q p (list_to w.lists t p.node)))
   kept_over p q a b t ha hb s v = g.core.trunks p.node q.node a b t s.side v.side ha hb (sym (ap (λ o. side_in o t) ha) ∙ s.there) (sym (ap (λ o. side_in o t) hb) ∙ v.there) s.peer v.peer s.state (up_joined v.side.state v.state) p q refl refl
 
@@ -191,7 +194,7 @@ module _ (w : World) (g : Good w) where
       (λ j. let c : true ≡ false = sym lp ∙ ap (living a) (same_pid_true p q j) ∙ dead in cc)
       (λ j. not_to_dead p q a a _ _ (kept_within p q a hc n j) (g.core.nodes p.node a hc) lp dead v.0 v.1 e)
 
-  dead_over : (p q : Pid) (t : TrunkId) → Stands w p.node t q.node is_up → Stands w q.node t p.node is_up → is_silent p q (list_to w.lists t p.node) ≡ true → is_silent p q (list_to w.lists t q.node) ≡ true
+  dead_over : (p q : Pid) (t : TrunkId) → HasSide w p.node t q.node is_up → HasSide w q.node t p.node is_up → is_silent p q (list_to w.lists t p.node) ≡ true → is_silent p q (list_to w.lists t q.node) ≡ true
       → (c d : Option Node) → node_of w.nodes p.node ≡ c → node_of w.nodes q.node ≡ d → living_at c p ≡ true → living_at d q ≡ false → end_at c p q ≡ End.Active → ⊥
   dead_over p q t x y s r None d hc hd lp lq e = none_living lp
   dead_over p q t x y s r (Some a) None hc hd lp lq e = some_none y.side (sym y.there ∙ ap (λ o. side_in o t) hd)
@@ -204,7 +207,7 @@ module _ (w : World) (g : Good w) where
   no_link_to_the_dead p q (Unconnected n c d) lp lq e = not_active (end_between w p q) (unconnected p q n c) e
 
   -- one trunk
-  likely : (x y : Name) (t : TrunkId) → Stands w x t y is_up → Likely w.nodes w.lists x t y
+  likely : (x y : Name) (t : TrunkId) → HasSide w x t y is_up → Likely w.nodes w.lists x t y
   likely x y t s = go (node_of w.nodes x) refl s.there
     where
       go : (o : Option Node) → node_of w.nodes x ≡ o → side_in o t ≡ Some s.side → Likely w.nodes w.lists x t y

@@ -1,6 +1,5 @@
--- What a caller may ask of a node, and what it answers.
-use Rattle.std.specs.Prelude.{Option, None, Some, is_some, ℕ, ◌+◌, ◌^◌, Bool, true, false, cond, not, List, [], ◌∷◌, ◌==◌, nat_lt, nat_le, ◌&&◌, ◌||◌}
-use Rattle.std.specs.FinMap as fm
+-- What a caller may ask of a node, and how an event ends.
+use Rattle.std.specs.Prelude.{◌≡◌, ◌⊎◌, ◌↔◌, Option, None, Some, is_some, ℕ, ◌+◌, ◌^◌, Bool, true, false, cond, not, if◌then◌else◌, List, [], ◌∷◌, ◌++◌, ◌==◌, nat_lt, nat_le, ◌&&◌, ◌||◌, Contains, map}
 use Rattle.dist_model.specs.Items.{Item}
 use Rattle.dist_model.specs.Work.{Work}
 use Rattle.erl_names.specs.declared.trunk.TrunkId.{TrunkId}
@@ -10,6 +9,7 @@ use Rattle.erl_term.specs.declared.term.Pid.{Pid}
 use Rattle.erl_term.specs.declared.term.Reference.{Reference}
 use Rattle.link_core.specs.declared.end.End.{End}
 
+-- (Reference Manual, Processes; own: `Receive`, `LinksOf` and `IsAlive` look from outside)
 pub data Command : Type 0 where
   Spawn : Command
   Send : (sender receiver : Pid) → Data → Command
@@ -24,7 +24,7 @@ pub data Command : Type 0 where
   LinksOf : (process : Pid) → Command
   IsAlive : (process : Pid) → Command
 
--- what a sweep takes: a record, or the side once no record is left
+-- what a sweep takes: a record, or the side where there is none to take
 pub data Swept : Type 0 where
   SweptLink : Swept
   SweptWatch : Swept
@@ -40,14 +40,17 @@ pub data Answer : Type 0 where
   IsLiving : Bool → Answer
   Dialed : TrunkId → Answer
   Sweeps : Swept → Answer
+  -- an item was taken
   Took : Item → Answer
+  -- what came broke the side
   Broke : Refusal → Answer
 
 pub data Outcome : Type 0 where
+  -- and the node is as it was
   Refuses : Refusal → Outcome
   Goes : Answer → Work → Outcome
 
 -- a number is drawn for it, unless they are used up
 abbrev pub with_id : Option ℕ → (ℕ → Outcome) → Outcome
-with_id None use_of = Refuses Refusal.IdsUsedUp
-with_id (Some id) use_of = use_of id
+with_id None outcome_of = Refuses Refusal.IdsUsedUp
+with_id (Some id) outcome_of = outcome_of id

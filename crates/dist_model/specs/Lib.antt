@@ -5,11 +5,11 @@ pub mod Sides
 pub mod Node
 pub mod Work
 pub mod Exits
-pub mod Taking
-pub mod Fits
 pub mod Commands
 pub mod Linking
 pub mod Monitoring
+pub mod Taking
+pub mod Fits
 pub mod Calls
 pub mod Handshake
 pub mod Arrivals
@@ -17,4 +17,9 @@ pub mod Losses
 pub mod Dialing
 pub mod Incarnations
 pub mod World
+pub mod Runs
+pub mod Seen
+pub mod Quiet
+pub mod Causes
+pub mod Downs
 pub mod Claims

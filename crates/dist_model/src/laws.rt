@@ -1,20 +1,42 @@
-//! Laws.
-
-ghost use Rattle.std.specs.Prelude.{List, ℕ};
-ghost use Rattle.dist_model.specs.Names.{Name};
-ghost use Rattle.dist_model.specs.World.{Event, run, opening};
+//! Laws of every world that events lead to. Each function does nothing: its contract is the law.
+//!
+//! Every law is of every world to which any list of events leads, from any opening world, with or
+//! without memory; and so of each moment of every run.
+ghost use Rattle.dist_model.specs.Runs.{Always};
 ghost use Rattle.dist_model.specs.Claims.{Agreement, AgreementWithin, AgreementInQuiet, PendingOnItsWay, PendingWithin, NoLinkToTheDead, NoLinkToItself, OneTrunk, NoUpBesideLosing, ReactsOnlyWhereLinked};
 
-/// Over every list of events from every opening world.
-pub fn every_run()
-    ensures agreement { (cs : List (Name × List ℕ)) (es : List Event) → Agreement (run es (opening cs)) }
-    ensures agreement_within { (cs : List (Name × List ℕ)) (es : List Event) → AgreementWithin (run es (opening cs)) }
-    ensures agreement_in_quiet { (cs : List (Name × List ℕ)) (es : List Event) → AgreementInQuiet (run es (opening cs)) }
-    ensures pending { (cs : List (Name × List ℕ)) (es : List Event) → PendingOnItsWay (run es (opening cs)) }
-    ensures pending_within { (cs : List (Name × List ℕ)) (es : List Event) → PendingWithin (run es (opening cs)) }
-    ensures no_link_to_the_dead { (cs : List (Name × List ℕ)) (es : List Event) → NoLinkToTheDead (run es (opening cs)) }
-    ensures no_link_to_itself { (cs : List (Name × List ℕ)) (es : List Event) → NoLinkToItself (run es (opening cs)) }
-    ensures one_trunk { (cs : List (Name × List ℕ)) (es : List Event) → OneTrunk (run es (opening cs)) }
-    ensures no_up_beside_losing { (cs : List (Name × List ℕ)) (es : List Event) → NoUpBesideLosing (run es (opening cs)) }
-    ensures reactions { (cs : List (Name × List ℕ)) (es : List Event) → ReactsOnlyWhereLinked (run es (opening cs)) }
+/// Of two living processes both hold their link active, or neither does, once all that travels
+/// between them has come: on one node, over a connection, and whenever nothing travels. (Reference
+/// Manual, Processes, Links; ERTS User's Guide, Distribution Protocol, New Link Protocol.)
+pub fn agreement()
+    ensures connected { Always Agreement }
+    ensures within { Always AgreementWithin }
+    ensures quiet { Always AgreementInQuiet }
+{}
+
+/// A link that was taken back waits for an acknowledgement that is to come. (ERTS User's Guide,
+/// Distribution Protocol, New Link Protocol.)
+pub fn pending()
+    ensures connected { Always PendingOnItsWay }
+    ensures within { Always PendingWithin }
+{}
+
+/// Whenever nothing travels, no living process is linked to one that isn't living, and none is
+/// ever linked to itself. (Reference Manual, Processes, Links.)
+pub fn no_link_to_the_dead()
+    ensures quiet { Always NoLinkToTheDead }
+    ensures itself { Always NoLinkToItself }
+{}
+
+/// Two nodes are connected by one trunk, and by none while records of a lost connection between
+/// them are left. (ERTS User's Guide, Distribution Protocol, Distribution Handshake.)
+pub fn one_trunk()
+    ensures one { Always OneTrunk }
+    ensures swept { Always NoUpBesideLosing }
+{}
+
+/// A process reacts to the exit of a link only where it held it active, or where it links in that
+/// very event towards a node that isn't reached. (Reference Manual, Processes, Links.)
+pub fn reactions()
+    ensures linked { Always ReactsOnlyWhereLinked }
 {}

@@ -1,4 +1,6 @@
 -- Who reacts to the exit of a link.
+use Rattle.std.proofs.lemmas.List.Elements.{Contains-append_cases, Contains-push_cases}
+use Rattle.std.proofs.Common.{Contains, arith}
 use Rattle.erl_names.specs.Draw as kind
 use Rattle.dist_model.specs.World
 use Rattle.std.specs.Ordering.{is_gt}
@@ -8,14 +10,16 @@ use Rattle.std.specs.Option.{is_some}
 use Rattle.std.specs.FinMap as fm
 use Rattle.dist_model.proofs.Calls.{IfGoes}
 use Rattle.dist_model.proofs.Home.{never_own}
-use Rattle.dist_model.proofs.Keys.{and_both, same_name_true, same_pid_true}
+use Rattle.dist_model.proofs.Keys.{and_both, same_name_true, same_pid_refl, same_pid_true}
 use Rattle.dist_model.proofs.Moves.{NodeKept}
+use Rattle.dist_model.proofs.Pair.{later}
 use Rattle.dist_model.proofs.Routes.{node_of_name}
 use Rattle.dist_model.proofs.Sweeping.{link_found}
 use Rattle.dist_model.proofs.Table.{Good}
 use Rattle.dist_model.specs.Arrivals.{arrive, arrive_at, arrive_fresh, handshake_at, handshake_in, is_good, signal_at, take_local}
 use Rattle.dist_model.specs.Calls.{acting, call, toward}
-use Rattle.dist_model.specs.Claims.{ReactsOnlyWhereLinked, end_at, end_between, is_reaction, reached_at, reacts, reacts_in}
+use Rattle.dist_model.specs.Causes.{Reacts}
+use Rattle.dist_model.specs.Claims.{ReactsOnlyWhereLinked}
 use Rattle.dist_model.specs.Commands.{Command, EndLink, EndMonitor, ExitSelf, ExitTo, Goes, IsAlive, LinksOf, MakeLink, MakeMonitor, Outcome, Receive, Refuses, Send, Spawn, Trap, with_id}
 use Rattle.dist_model.specs.Dialing.{dial, has_name}
 use Rattle.dist_model.specs.Exits.{carry_out, demonitors, exits, finish, link_exit, linked_exit, monitor_exits, sent_exit}
@@ -29,10 +33,11 @@ use Rattle.dist_model.specs.Losses.{any_side, close_if, has_records, link_to, lo
 use Rattle.dist_model.specs.Monitoring.{demonitor_by, register, unregister, unwatch, watch}
 use Rattle.dist_model.specs.Names.{Name, place_cmp, same_name, same_pid}
 use Rattle.dist_model.specs.Node.{Node, end_in, end_of, living, never, reaches, route, side_where, traps_life}
+use Rattle.dist_model.specs.Seen.{end_at, end_between, reached_at}
 use Rattle.dist_model.specs.Sides.{Accepting, Asked, AwaitsAck, AwaitsChallenge, AwaitsStatus, Gone, Losing, Parked, State, TrunkSide, Up, is_dialing, is_gone, is_losing, is_parked, is_up, is_waiting}
 use Rattle.dist_model.specs.Taking.{take_item}
 use Rattle.dist_model.specs.Work.{Effect, EndedBy, LinkExit, Put, Sent, Work, at_work, draw, keep_local, post, post_all, post_to, put, report, send_on, set_end}
-use Rattle.dist_model.specs.World.{Arrive, Call, Dial, Event, Local, Lose, Refused, Report, Start, Stepped, Stop, Sweep, World, arrives, arrives_first, ends_in, is_over, list_to, node_name, node_of, refused, running, step_at}
+use Rattle.dist_model.specs.World.{Arrive, Call, Dial, Event, Local, Lose, Refused, Report, Reported, Start, Stepped, Stop, Sweep, World, arrives, arrives_first, ends_in, is_over, list_to, node_name, node_of, refused, running, step, step_at}
 use Rattle.erl_control.specs.declared.signal.Signal.{Signal}
 use Rattle.erl_names.specs.Ids.{reference_of}
 use Rattle.erl_names.specs.Minted.{id_of}
@@ -50,6 +55,48 @@ use Rattle.link_core.specs.declared.end.LinkSignal.{LinkSignal}
 use Rattle.monitor_core.specs.Monitors.{is_held, monitor_of}
 use Rattle.monitor_core.specs.declared.monitor.Monitor.{Monitor}
 use Rattle.std.specs.FinMap.{FinMap}
+
+-- p reacted to the exit of its link with q
+abbrev pub is_reaction : Pid → Pid → Effect → Bool
+is_reaction p q (Put a m) = false
+is_reaction p q (EndedBy a r) = false
+is_reaction p q (LinkExit a b r) = same_pid a p && same_pid b q
+is_reaction p q (Sent y x) = false
+
+abbrev pub reacts_in : Pid → Pid → List Effect → Bool
+reacts_in p q [] = false
+reacts_in p q (f ∷ fs) = is_reaction p q f || reacts_in p q fs
+
+abbrev pub reacts : Pid → Pid → Report → Bool
+reacts p q (Refused k) = false
+reacts p q (Reported a fs) = reacts_in p q fs
+
+or_first : (a b : Bool) → a ≡ true → (a || b) ≡ true
+or_first true b h = refl
+or_first false b h = cc
+
+or_second : (a b : Bool) → b ≡ true → (a || b) ≡ true
+or_second true b h = refl
+or_second false b h = h
+
+is_this : (p q : Pid) (r : Data) (f : Effect) → f ≡ LinkExit p q r → is_reaction p q f ≡ true
+is_this p q r f h = ap (is_reaction p q) h ∙ ap (λ b. b && same_pid q q) (same_pid_refl p) ∙ same_pid_refl q
+
+told_in : (p q : Pid) (r : Data) (fs : List Effect) → Contains fs (LinkExit p q r) → reacts_in p q fs ≡ true
+told_in p q r [] h = let lt = h.1 in absurd (omega arith)
+told_in p q r (f ∷ fs) h = pick (told_in p q r fs) (Contains-append_cases (f ∷ []) fs (LinkExit p q r) h)
+  where
+    one : Contains [] (LinkExit p q r) ⊎ (f ≡ LinkExit p q r) → reacts_in p q (f ∷ fs) ≡ true
+    one (inl e) = let lt = e.1 in absurd (omega arith)
+    one (inr e) = or_first (is_reaction p q f) (reacts_in p q fs) (is_this p q r f e)
+
+    pick : (Contains fs (LinkExit p q r) → reacts_in p q fs ≡ true) → Contains (f ∷ []) (LinkExit p q r) ⊎ Contains fs (LinkExit p q r) → reacts_in p q (f ∷ fs) ≡ true
+    pick later (inl e) = one (Contains-push_cases [] f (LinkExit p q r) e)
+    pick later (inr e) = or_second (is_reaction p q f) (reacts_in p q fs) (later e)
+
+told : (p q : Pid) (r : Data) (a : Report) → Reacts p q r a → reacts p q a ≡ true
+told p q r (Refused k) h = absurd h
+told p q r (Reported a fs) h = told_in p q r fs h
 
 -- what is added last
 added : (p q : Pid) (fs : List Effect) (f : Effect) → reacts_in p q (fs ++ f ∷ []) ≡ true → (reacts_in p q fs ≡ true) ⊎ (is_reaction p q f ≡ true)
@@ -539,4 +586,4 @@ module _ (w : World) (g : Good w) where
   at_node (Some n) (Start x) h = outcome (Start x) x n w.lists h (start n) (starts n)
 
   pub reactions : ReactsOnlyWhereLinked w
-  reactions e = at_node (node_of w.nodes (node_name e)) e refl
+  reactions e p q r h = at_node (node_of w.nodes (node_name e)) e refl p q (told p q r ((step w e).report) h)

@@ -1,0 +1,58 @@
+-- Opening worlds, and what comes of a list of events.
+use Rattle.std.specs.Prelude.{◌≡◌, ◌⊎◌, ◌↔◌, Option, None, Some, is_some, ℕ, ◌+◌, ◌^◌, Bool, true, false, cond, not, if◌then◌else◌, List, [], ◌∷◌, ◌++◌, ◌==◌, nat_lt, nat_le, ◌&&◌, ◌||◌, Contains, map}
+use Rattle.std.specs.FinMap as fm
+use Rattle.dist_model.specs.Names.{Name}
+use Rattle.dist_model.specs.Node.{Node}
+use Rattle.dist_model.specs.Work.{report}
+use Rattle.dist_model.specs.World.{Event, Refused, Report, World, step}
+use Rattle.erl_names.specs.Minted.{nothing_drawn}
+use Rattle.erl_term.specs.declared.refusal.Refusal.{Refusal}
+
+-- a node that is up, in its first incarnation, with nothing done yet
+abbrev pub new_node : Name → List ℕ → Node
+new_node name cookie = record {
+  mint = nothing_drawn name 1;
+  cookie = cookie;
+  up = true;
+  dialed = 0;
+  lives = fm.empty;
+  ends = fm.empty;
+  watches = fm.empty;
+  registered = fm.empty;
+  sides = fm.empty;
+  local = [];
+}
+
+abbrev pub new_nodes : List (Name × List ℕ) → List Node
+new_nodes [] = []
+new_nodes (first ∷ rest) = new_node first.0 first.1 ∷ new_nodes rest
+
+abbrev pub new_names : List (Name × List ℕ) → List Name
+new_names [] = []
+new_names (first ∷ rest) = first.0 ∷ new_names rest
+
+-- of names and cookies
+abbrev pub opening : List (Name × List ℕ) → World
+opening nodes = record { names = new_names nodes; nodes = new_nodes nodes; lists = fm.empty }
+
+-- what an event may come to: its step, or memory was wanting and nothing has changed
+abbrev pub Comes : World → Event → Report → World → Type 0
+Comes world event report new =
+    ((report ≡ (step world event).report) × (new ≡ (step world event).world))
+    ⊎ ((report ≡ Refused Refusal.OutOfMemory) × (new ≡ world))
+
+-- the events lead from one world to the other, with a report of each
+abbrev pub Runs : World → List Event → List Report → World → Type 0
+Runs world [] [] new = new ≡ world
+Runs world [] (report ∷ reports) new = ⊥
+Runs world (event ∷ events) [] new = ⊥
+Runs world (event ∷ events) (report ∷ reports) new = (next : World) × Comes world event report next × Runs next events reports new
+
+-- the same where memory never wants
+abbrev pub run : List Event → World → World
+run [] world = world
+run (event ∷ events) world = run events ((step world event).world)
+
+-- whatever happens, and so at each moment of whatever happens
+abbrev pub Always : (World → Type 0) → Type 0
+Always Holds = (nodes : List (Name × List ℕ)) (events : List Event) (reports : List Report) (world : World) → Runs (opening nodes) events reports world → Holds world
