@@ -25,3 +25,4 @@ pub mod Greeting
 pub mod Fresh
 pub mod Run
 pub mod Reacting
+pub mod Silence

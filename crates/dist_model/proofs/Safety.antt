@@ -149,7 +149,7 @@ module _ (w : World) (g : Good w) where
       let v = silent_signals p q (local_list w p.node) s in
       subst (λ u. drained (end_between w p q) u ≡ End.Active ↔ end_between w q p ≡ End.Active) v.1
       (subst (λ u. drained (end_between w p q) (words q p (local_list w p.node)) ≡ End.Active ↔ drained (end_between w q p) u ≡ End.Active) v.0 (agreement_within p q e lp lq))
-  agreement_in_quiet p q (Over t a b s r) lp lq =
+  agreement_in_quiet p q (Over d t a b s r) lp lq =
       let v = silent_signals p q (list_to w.lists t p.node) s in
       let u = silent_signals p q (list_to w.lists t q.node) r in
       subst (λ z. drained (end_between w p q) z ≡ End.Active ↔ end_between w q p ≡ End.Active) v.1
@@ -203,7 +203,7 @@ module _ (w : World) (g : Good w) where
 
   pub no_link_to_the_dead : NoLinkToTheDead w
   no_link_to_the_dead p q (Within n s) lp lq e = dead_within p q n (node_of w.nodes p.node) (node_of w.nodes q.node) refl refl s lp lq e
-  no_link_to_the_dead p q (Over t x y s r) lp lq e = dead_over p q t x y s r (node_of w.nodes p.node) (node_of w.nodes q.node) refl refl lp lq e
+  no_link_to_the_dead p q (Over d t x y s r) lp lq e = dead_over p q t x y s r (node_of w.nodes p.node) (node_of w.nodes q.node) refl refl lp lq e
   no_link_to_the_dead p q (Unconnected n c d) lp lq e = not_active (end_between w p q) (unconnected p q n c) e
 
   -- one trunk

@@ -2,6 +2,10 @@
 //!
 //! Every law is of every world to which any list of events leads, from any opening world, with or
 //! without memory; and so of each moment of every run.
+ghost use Rattle.std.specs.Prelude.{◌≡◌, ◌↔◌, true};
+ghost use Rattle.erl_term.specs.declared.term.Pid.{Pid};
+ghost use Rattle.dist_model.specs.World.{World};
+ghost use Rattle.dist_model.specs.Quiet.{Quiet, is_quiet};
 ghost use Rattle.dist_model.specs.Runs.{Always};
 ghost use Rattle.dist_model.specs.Claims.{Agreement, AgreementWithin, AgreementInQuiet, PendingOnItsWay, PendingWithin, NoLinkToTheDead, NoLinkToItself, OneTrunk, NoUpBesideLosing, ReactsOnlyWhereLinked};
 
@@ -39,4 +43,9 @@ pub fn one_trunk()
 /// very event towards a node that isn't reached. (Reference Manual, Processes, Links.)
 pub fn reactions()
     ensures linked { Always ReactsOnlyWhereLinked }
+{}
+
+/// Whether nothing travels between two processes can be tested.
+pub fn quiet_test()
+    ensures test { (world : World) (p q : Pid) → (is_quiet world p q ≡ true) ↔ Quiet world p q }
 {}

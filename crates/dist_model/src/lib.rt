@@ -8,4 +8,4 @@
 
 mod laws;
 
-pub use laws::{agreement, no_link_to_the_dead, one_trunk, pending, reactions};
+pub use laws::{agreement, no_link_to_the_dead, one_trunk, pending, quiet_test, reactions};
