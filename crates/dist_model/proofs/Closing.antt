@@ -24,7 +24,7 @@ use Rattle.dist_model.proofs.Table.{Good, HomeKept, Likely, Posted, Row, begun, 
 use Rattle.dist_model.proofs.Views.{over, side_of, side_path, telling_word}
 use Rattle.dist_model.specs.Handshake.{challenge, set_state, with_side, write}
 use Rattle.dist_model.specs.Incarnations.{all_gone, started, stopped}
-use Rattle.dist_model.specs.Items.{Handshake, HandshakeMessage, Item, Signalled, telling, word_in, words}
+use Rattle.dist_model.specs.Items.{Handshake, Item, Signalled, telling, word_in, words}
 use Rattle.dist_model.specs.Links.{LinkWord}
 use Rattle.dist_model.specs.Losses.{any_side, close, close_if, has_records, link_to, parked_by, parked_goes, sweep, sweep_by, sweep_link, swept}
 use Rattle.dist_model.specs.Names.{Name, pair_cmp, place_cmp, same_name, same_pid}
@@ -32,6 +32,7 @@ use Rattle.dist_model.specs.Node.{Node, end_in, end_of, is_living_life, never, s
 use Rattle.dist_model.specs.Sides.{Accepting, Asked, AwaitsAck, AwaitsChallenge, AwaitsStatus, Gone, Losing, Parked, State, TrunkSide, Up, is_gone, is_losing, is_parked, is_up}
 use Rattle.dist_model.specs.Work.{Envelope, Work, at_work}
 use Rattle.dist_model.specs.World.{World, carried, ends_in, list_to, node_of, set_node}
+use Rattle.erl_handshake.specs.declared.message.ShakeMsg.{ShakeMsg}
 use Rattle.erl_names.specs.Order.{trunk_cmp}
 use Rattle.erl_names.specs.declared.trunk.TrunkId.{TrunkId}
 use Rattle.erl_term.specs.Order.{pid_cmp}
@@ -99,7 +100,7 @@ freed n t v k h e = by_test _ (held (with_side_at n t (as_state v Gone)) v.peer)
         pick m.side m.trunk m.holding a.0 (k.one t m.trunk v m.side h a.1 (sym m.peer) (ap is_gone e) ((hold_kind m.side.state m.holding).3))
 
 -- what a handshake message to the own peer needs
-pub good_written : (w : World) (x : Name) (n : Node) (t : TrunkId) (v : TrunkSide) (m : HandshakeMessage) → node_of w.nodes x ≡ Some n → side_at n t ≡ Some v → is_accept (Handshake m) ≡ false → is_reply (Handshake m) ≡ false → (is_challenge (Handshake m) ≡ true → (k : ℕ) × (v.state ≡ Accepting k)) → Good w
+pub good_written : (w : World) (x : Name) (n : Node) (t : TrunkId) (v : TrunkSide) (m : ShakeMsg) → node_of w.nodes x ≡ Some n → side_at n t ≡ Some v → is_accept (Handshake m) ≡ false → is_reply (Handshake m) ≡ false → (is_challenge (Handshake m) ≡ true → (k : ℕ) × (v.state ≡ Accepting k)) → Good w
     → Good (record { names = w.names; nodes = w.nodes; lists = fm.insert w.lists (t, v.peer) (list_to w.lists t v.peer ++ Handshake m ∷ []) })
 good_written w x n t v m hx h na nr ch g = good_pushed w t v.peer m g known
     (λ d a s hd hs ha. (λ j. let c : true ≡ false = sym j ∙ na in cc, λ j. let c : true ≡ false = sym j ∙ nr in cc, λ j. challenged d a s hd hs ha (ch j), λ j. let c : true ≡ false = sym j ∙ nr in cc))
@@ -145,7 +146,7 @@ placed w x o = record { names = w.names; nodes = set_node w.nodes x o.node; list
 pub placed_state : (w : World) (x : Name) (o : Work) (t : TrunkId) (s : TrunkSide) → o.node.mint.name ≡ x → Good (in_state (placed w x o) x o.node t s) → Good (placed w x (with_side t s o))
 placed_state w x o t s e g = subst (λ ns. Good (record { names = w.names; nodes = ns; lists = carried w.lists o.sent })) (set_twice w.nodes x o.node (with_side_at o.node t s) e) g
 
-pub placed_write : (w : World) (x : Name) (o : Work) (t : TrunkId) (y : Name) (m : HandshakeMessage) → Good (record { names = w.names; nodes = set_node w.nodes x o.node; lists = fm.insert (carried w.lists o.sent) (t, y) (list_to (carried w.lists o.sent) t y ++ Handshake m ∷ []) }) → Good (placed w x (write t y m o))
+pub placed_write : (w : World) (x : Name) (o : Work) (t : TrunkId) (y : Name) (m : ShakeMsg) → Good (record { names = w.names; nodes = set_node w.nodes x o.node; lists = fm.insert (carried w.lists o.sent) (t, y) (list_to (carried w.lists o.sent) t y ++ Handshake m ∷ []) }) → Good (placed w x (write t y m o))
 placed_write w x o t y m g = subst (λ l. Good (record { names = w.names; nodes = set_node w.nodes x o.node; lists = l })) (sym (carried-push w.lists o.sent (record { trunk = t; target = y; item = Handshake m }))) g
 
 -- a sweep

@@ -12,12 +12,13 @@ use Rattle.dist_model.proofs.Sides.{joined, side_at}
 use Rattle.dist_model.proofs.Table.{Anchor, Good, HomeKept, Likely, NoLinks, Posted, Row, Table, begun, has, insert_key, is_accept, is_challenge, is_early, is_reply, likely_along, may_be_up, role_state, single_kept, went_up}
 use Rattle.dist_model.proofs.Views.{side_of, words-append}
 use Rattle.dist_model.specs.Fits.{fits}
-use Rattle.dist_model.specs.Items.{Handshake, HandshakeMessage, Item, word_in, words}
+use Rattle.dist_model.specs.Items.{Handshake, Item, word_in, words}
 use Rattle.dist_model.specs.Links.{LinkWord}
 use Rattle.dist_model.specs.Names.{Name, place_cmp, same_name}
 use Rattle.dist_model.specs.Node.{Node}
 use Rattle.dist_model.specs.Sides.{TrunkSide}
 use Rattle.dist_model.specs.World.{World, list_in, list_to, node_of, set_node}
+use Rattle.erl_handshake.specs.declared.message.ShakeMsg.{ShakeMsg}
 use Rattle.erl_names.specs.declared.trunk.TrunkId.{TrunkId}
 use Rattle.erl_term.specs.declared.term.Pid.{Pid}
 use Rattle.std.specs.FinMap.{FinMap}
@@ -53,7 +54,7 @@ not_true_false : (b : Bool) → (b ≡ true → ⊥) → b ≡ false
 not_true_false true h = absurd (h refl)
 not_true_false false h = refl
 
-module _ (w : World) (t : TrunkId) (y : Name) (m : HandshakeMessage) (g : Good w) (known : Posted w.nodes t y)
+module _ (w : World) (t : TrunkId) (y : Name) (m : ShakeMsg) (g : Good w) (known : Posted w.nodes t y)
     (fits : (d a : Node) (s : TrunkSide) → node_of w.nodes t.dialer ≡ Some d → side_at d t ≡ Some s → node_of w.nodes s.peer ≡ Some a
     → (is_accept (Handshake m) ≡ true → (went_up (side_at a t) ≡ true) × (is_early s.state ≡ false)) × (is_reply (Handshake m) ≡ true → is_early s.state ≡ false)
     × (is_challenge (Handshake m) ≡ true → begun (side_at a t) ≡ true) × (is_reply (Handshake m) ≡ true → begun (side_at a t) ≡ true))

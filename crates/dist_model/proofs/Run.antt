@@ -18,9 +18,9 @@ use Rattle.dist_model.proofs.Signals.{good_local}
 use Rattle.dist_model.proofs.Table.{Good, good_call}
 use Rattle.dist_model.specs.Arrivals.{arrive_at, arrive_fresh, handshake_at, handshake_in, signal_at, take_local}
 use Rattle.dist_model.specs.Commands.{Done, Goes, Outcome, Refuses}
-use Rattle.dist_model.specs.Handshake.{awaits_ack, awaits_challenge, awaits_true, dig, fault, has_flags}
+use Rattle.dist_model.specs.Handshake.{awaits_ack, awaits_challenge, awaits_true, fault, is_answered}
 use Rattle.dist_model.specs.Incarnations.{start, started}
-use Rattle.dist_model.specs.Items.{Challenge, ChallengeAck, ChallengeReply, Handshake, HandshakeMessage, Item, SendName, Signalled, StatusAlive, StatusFalse, StatusNok, StatusNotAllowed, StatusOk, StatusOkSimultaneous, StatusTrue, Tick}
+use Rattle.dist_model.specs.Items.{Handshake, Item, Signalled, Tick}
 use Rattle.dist_model.specs.Losses.{lose}
 use Rattle.dist_model.specs.Names.{Name, place_cmp, same_name}
 use Rattle.dist_model.specs.Node.{Node}
@@ -28,6 +28,10 @@ use Rattle.dist_model.specs.Runs.{Always, Comes, Runs, opening, run}
 use Rattle.dist_model.specs.Sides.{Accepting, Asked, AwaitsAck, AwaitsChallenge, AwaitsStatus, Gone, Losing, Parked, State, TrunkSide, Up, is_up}
 use Rattle.dist_model.specs.Work.{at_work}
 use Rattle.dist_model.specs.World.{Arrive, Call, Dial, Event, Local, Lose, Report, Start, Stepped, Stop, Sweep, World, arrives, arrives_first, carried, ends_in, is_over, list_to, node_name, node_of, refused, running, set_node, step, step_at}
+use Rattle.erl_handshake.specs.Digest.{digest_of}
+use Rattle.erl_handshake.specs.Flags.{has_all_of, mandatory}
+use Rattle.erl_handshake.specs.declared.message.ShakeMsg.{ShakeMsg}
+use Rattle.erl_handshake.specs.declared.status.Status.{Status}
 use Rattle.erl_names.specs.declared.trunk.TrunkId.{TrunkId}
 use Rattle.erl_term.specs.declared.refusal.Refusal.{Refusal}
 use Rattle.std.specs.FinMap.{FinMap}
@@ -35,7 +39,7 @@ use Rattle.std.specs.FinMap.{FinMap}
 popped_world : World → TrunkId → Name → List Item → World
 popped_world w t x rest = record { names = w.names; nodes = w.nodes; lists = fm.insert w.lists (t, x) rest }
 
-handshake_is : (i : Item) (m : HandshakeMessage) → handshake_in i ≡ Some m → i ≡ Handshake m
+handshake_is : (i : Item) (m : ShakeMsg) → handshake_in i ≡ Some m → i ≡ Handshake m
 handshake_is (Handshake l) m h = ap Handshake (some_same l m h)
 handshake_is (Signalled s) m h = absurd (none_some m h)
 handshake_is Tick m h = absurd (none_some m h)
@@ -44,49 +48,49 @@ module _ (w : World) (x : Name) (n : Node) (t : TrunkId) (v : TrunkSide) (rest :
   abbrev To : Item → Outcome → Type 0
   To i o = list_to w.lists t x ≡ i ∷ rest → IfGoes o (λ p. Good (record { names = w.names; nodes = set_node w.nodes x p.node; lists = carried (fm.insert w.lists (t, x) rest) p.sent }))
 
-  good_awaits_challenge_item : (u : ℕ) → v.state ≡ AwaitsChallenge u → (m : HandshakeMessage) → To (Handshake m) (awaits_challenge t v u m (at_work n))
-  good_awaits_challenge_item u s (Challenge a b c d) e = unless w x n t v rest hx h g (same_name a v.peer) (Handshake (Challenge a b c d)) _ Refusal.Forged
-      (λ _ f. unless w x n t v rest hx h g (has_flags c) (Handshake (Challenge a b c d)) _ Refusal.FlagsMissing
-      (λ _ k. challenge_comes w x n t v (Handshake (Challenge a b c d)) rest hx h g k u b (dig n.cookie d) s refl (λ p q. refl)) f) e
-  good_awaits_challenge_item u s StatusOk e = broken w x n t v rest hx h g Refusal.BadMessage (Handshake StatusOk) e
-  good_awaits_challenge_item u s StatusOkSimultaneous e = broken w x n t v rest hx h g Refusal.BadMessage (Handshake StatusOkSimultaneous) e
-  good_awaits_challenge_item u s StatusAlive e = broken w x n t v rest hx h g Refusal.BadMessage (Handshake StatusAlive) e
-  good_awaits_challenge_item u s StatusNok e = broken w x n t v rest hx h g Refusal.BadMessage (Handshake StatusNok) e
-  good_awaits_challenge_item u s StatusNotAllowed e = broken w x n t v rest hx h g Refusal.BadMessage (Handshake StatusNotAllowed) e
-  good_awaits_challenge_item u s (SendName a b c) e = broken w x n t v rest hx h g Refusal.BadMessage (Handshake (SendName a b c)) e
-  good_awaits_challenge_item u s StatusTrue e = broken w x n t v rest hx h g Refusal.BadMessage (Handshake StatusTrue) e
-  good_awaits_challenge_item u s StatusFalse e = broken w x n t v rest hx h g Refusal.BadMessage (Handshake StatusFalse) e
-  good_awaits_challenge_item u s (ChallengeReply a b) e = broken w x n t v rest hx h g Refusal.BadMessage (Handshake (ChallengeReply a b)) e
-  good_awaits_challenge_item u s (ChallengeAck a) e = broken w x n t v rest hx h g Refusal.BadMessage (Handshake (ChallengeAck a)) e
+  good_awaits_challenge_item : (u : ℕ) → v.state ≡ AwaitsChallenge u → (m : ShakeMsg) → To (Handshake m) (awaits_challenge t v u m (at_work n))
+  good_awaits_challenge_item u s (ShakeMsg.Challenge c d b a) e = unless w x n t v rest hx h g (same_name a v.peer) (Handshake (ShakeMsg.Challenge c d b a)) _ Refusal.Forged
+      (λ _ f. unless w x n t v rest hx h g (has_all_of c mandatory) (Handshake (ShakeMsg.Challenge c d b a)) _ Refusal.FlagsMissing
+      (λ _ k. challenge_comes w x n t v (Handshake (ShakeMsg.Challenge c d b a)) rest hx h g k u b (digest_of n.cookie d) s refl (λ p q. refl)) f) e
+  good_awaits_challenge_item u s (ShakeMsg.Status Status.Ok) e = broken w x n t v rest hx h g Refusal.BadMessage (Handshake (ShakeMsg.Status Status.Ok)) e
+  good_awaits_challenge_item u s (ShakeMsg.Status Status.OkSimultaneous) e = broken w x n t v rest hx h g Refusal.BadMessage (Handshake (ShakeMsg.Status Status.OkSimultaneous)) e
+  good_awaits_challenge_item u s (ShakeMsg.Status Status.Alive) e = broken w x n t v rest hx h g Refusal.BadMessage (Handshake (ShakeMsg.Status Status.Alive)) e
+  good_awaits_challenge_item u s (ShakeMsg.Status Status.Nok) e = broken w x n t v rest hx h g Refusal.BadMessage (Handshake (ShakeMsg.Status Status.Nok)) e
+  good_awaits_challenge_item u s (ShakeMsg.Status Status.NotAllowed) e = broken w x n t v rest hx h g Refusal.BadMessage (Handshake (ShakeMsg.Status Status.NotAllowed)) e
+  good_awaits_challenge_item u s (ShakeMsg.SendName c b a) e = broken w x n t v rest hx h g Refusal.BadMessage (Handshake (ShakeMsg.SendName c b a)) e
+  good_awaits_challenge_item u s (ShakeMsg.Status Status.True) e = broken w x n t v rest hx h g Refusal.BadMessage (Handshake (ShakeMsg.Status Status.True)) e
+  good_awaits_challenge_item u s (ShakeMsg.Status Status.False) e = broken w x n t v rest hx h g Refusal.BadMessage (Handshake (ShakeMsg.Status Status.False)) e
+  good_awaits_challenge_item u s (ShakeMsg.ChallengeReply a b) e = broken w x n t v rest hx h g Refusal.BadMessage (Handshake (ShakeMsg.ChallengeReply a b)) e
+  good_awaits_challenge_item u s (ShakeMsg.ChallengeAck a) e = broken w x n t v rest hx h g Refusal.BadMessage (Handshake (ShakeMsg.ChallengeAck a)) e
 
-  good_awaits_ack_item : (u : ℕ) → v.state ≡ AwaitsAck u → (m : HandshakeMessage) → To (Handshake m) (awaits_ack t v u m (at_work n))
-  good_awaits_ack_item u s (ChallengeAck a) e = unless w x n t v rest hx h g (a == dig n.cookie u) (Handshake (ChallengeAck a)) _ Refusal.BadDigest
-      (λ _ k. acceptance_comes w x n t v (Handshake (ChallengeAck a)) rest hx h g k u s refl (λ p q. refl)) e
-  good_awaits_ack_item u s StatusOk e = broken w x n t v rest hx h g Refusal.BadMessage (Handshake StatusOk) e
-  good_awaits_ack_item u s StatusOkSimultaneous e = broken w x n t v rest hx h g Refusal.BadMessage (Handshake StatusOkSimultaneous) e
-  good_awaits_ack_item u s StatusAlive e = broken w x n t v rest hx h g Refusal.BadMessage (Handshake StatusAlive) e
-  good_awaits_ack_item u s StatusNok e = broken w x n t v rest hx h g Refusal.BadMessage (Handshake StatusNok) e
-  good_awaits_ack_item u s StatusNotAllowed e = broken w x n t v rest hx h g Refusal.BadMessage (Handshake StatusNotAllowed) e
-  good_awaits_ack_item u s (SendName a b c) e = broken w x n t v rest hx h g Refusal.BadMessage (Handshake (SendName a b c)) e
-  good_awaits_ack_item u s StatusTrue e = broken w x n t v rest hx h g Refusal.BadMessage (Handshake StatusTrue) e
-  good_awaits_ack_item u s StatusFalse e = broken w x n t v rest hx h g Refusal.BadMessage (Handshake StatusFalse) e
-  good_awaits_ack_item u s (Challenge a b c d) e = broken w x n t v rest hx h g Refusal.BadMessage (Handshake (Challenge a b c d)) e
-  good_awaits_ack_item u s (ChallengeReply a b) e = broken w x n t v rest hx h g Refusal.BadMessage (Handshake (ChallengeReply a b)) e
+  good_awaits_ack_item : (u : ℕ) → v.state ≡ AwaitsAck u → (m : ShakeMsg) → To (Handshake m) (awaits_ack t v u m (at_work n))
+  good_awaits_ack_item u s (ShakeMsg.ChallengeAck a) e = unless w x n t v rest hx h g (is_answered n.cookie u a) (Handshake (ShakeMsg.ChallengeAck a)) _ Refusal.BadDigest
+      (λ _ k. acceptance_comes w x n t v (Handshake (ShakeMsg.ChallengeAck a)) rest hx h g k u s refl (λ p q. refl)) e
+  good_awaits_ack_item u s (ShakeMsg.Status Status.Ok) e = broken w x n t v rest hx h g Refusal.BadMessage (Handshake (ShakeMsg.Status Status.Ok)) e
+  good_awaits_ack_item u s (ShakeMsg.Status Status.OkSimultaneous) e = broken w x n t v rest hx h g Refusal.BadMessage (Handshake (ShakeMsg.Status Status.OkSimultaneous)) e
+  good_awaits_ack_item u s (ShakeMsg.Status Status.Alive) e = broken w x n t v rest hx h g Refusal.BadMessage (Handshake (ShakeMsg.Status Status.Alive)) e
+  good_awaits_ack_item u s (ShakeMsg.Status Status.Nok) e = broken w x n t v rest hx h g Refusal.BadMessage (Handshake (ShakeMsg.Status Status.Nok)) e
+  good_awaits_ack_item u s (ShakeMsg.Status Status.NotAllowed) e = broken w x n t v rest hx h g Refusal.BadMessage (Handshake (ShakeMsg.Status Status.NotAllowed)) e
+  good_awaits_ack_item u s (ShakeMsg.SendName c b a) e = broken w x n t v rest hx h g Refusal.BadMessage (Handshake (ShakeMsg.SendName c b a)) e
+  good_awaits_ack_item u s (ShakeMsg.Status Status.True) e = broken w x n t v rest hx h g Refusal.BadMessage (Handshake (ShakeMsg.Status Status.True)) e
+  good_awaits_ack_item u s (ShakeMsg.Status Status.False) e = broken w x n t v rest hx h g Refusal.BadMessage (Handshake (ShakeMsg.Status Status.False)) e
+  good_awaits_ack_item u s (ShakeMsg.Challenge c d b a) e = broken w x n t v rest hx h g Refusal.BadMessage (Handshake (ShakeMsg.Challenge c d b a)) e
+  good_awaits_ack_item u s (ShakeMsg.ChallengeReply a b) e = broken w x n t v rest hx h g Refusal.BadMessage (Handshake (ShakeMsg.ChallengeReply a b)) e
 
-  good_awaits_true_item : (u : ℕ) → v.state ≡ Asked u → (m : HandshakeMessage) → To (Handshake m) (awaits_true t v u m (at_work n))
-  good_awaits_true_item u s StatusTrue e = asked_on (record { names = w.names; nodes = w.nodes; lists = fm.insert w.lists (t, x) rest }) x n hx (good_popped w t x (Handshake StatusTrue) rest g e (λ m b hm hb j p q. refl)) t v u h s
-  good_awaits_true_item u s StatusOk e = broken w x n t v rest hx h g Refusal.BadMessage (Handshake StatusOk) e
-  good_awaits_true_item u s StatusOkSimultaneous e = broken w x n t v rest hx h g Refusal.BadMessage (Handshake StatusOkSimultaneous) e
-  good_awaits_true_item u s StatusAlive e = broken w x n t v rest hx h g Refusal.BadMessage (Handshake StatusAlive) e
-  good_awaits_true_item u s StatusNok e = broken w x n t v rest hx h g Refusal.BadMessage (Handshake StatusNok) e
-  good_awaits_true_item u s StatusNotAllowed e = broken w x n t v rest hx h g Refusal.BadMessage (Handshake StatusNotAllowed) e
-  good_awaits_true_item u s (SendName a b c) e = broken w x n t v rest hx h g Refusal.BadMessage (Handshake (SendName a b c)) e
-  good_awaits_true_item u s StatusFalse e = broken w x n t v rest hx h g Refusal.Nok (Handshake StatusFalse) e
-  good_awaits_true_item u s (Challenge a b c d) e = broken w x n t v rest hx h g Refusal.BadMessage (Handshake (Challenge a b c d)) e
-  good_awaits_true_item u s (ChallengeReply a b) e = broken w x n t v rest hx h g Refusal.BadMessage (Handshake (ChallengeReply a b)) e
-  good_awaits_true_item u s (ChallengeAck a) e = broken w x n t v rest hx h g Refusal.BadMessage (Handshake (ChallengeAck a)) e
+  good_awaits_true_item : (u : ℕ) → v.state ≡ Asked u → (m : ShakeMsg) → To (Handshake m) (awaits_true t v u m (at_work n))
+  good_awaits_true_item u s (ShakeMsg.Status Status.True) e = asked_on (record { names = w.names; nodes = w.nodes; lists = fm.insert w.lists (t, x) rest }) x n hx (good_popped w t x (Handshake (ShakeMsg.Status Status.True)) rest g e (λ m b hm hb j p q. refl)) t v u h s
+  good_awaits_true_item u s (ShakeMsg.Status Status.Ok) e = broken w x n t v rest hx h g Refusal.BadMessage (Handshake (ShakeMsg.Status Status.Ok)) e
+  good_awaits_true_item u s (ShakeMsg.Status Status.OkSimultaneous) e = broken w x n t v rest hx h g Refusal.BadMessage (Handshake (ShakeMsg.Status Status.OkSimultaneous)) e
+  good_awaits_true_item u s (ShakeMsg.Status Status.Alive) e = broken w x n t v rest hx h g Refusal.BadMessage (Handshake (ShakeMsg.Status Status.Alive)) e
+  good_awaits_true_item u s (ShakeMsg.Status Status.Nok) e = broken w x n t v rest hx h g Refusal.BadMessage (Handshake (ShakeMsg.Status Status.Nok)) e
+  good_awaits_true_item u s (ShakeMsg.Status Status.NotAllowed) e = broken w x n t v rest hx h g Refusal.BadMessage (Handshake (ShakeMsg.Status Status.NotAllowed)) e
+  good_awaits_true_item u s (ShakeMsg.SendName c b a) e = broken w x n t v rest hx h g Refusal.BadMessage (Handshake (ShakeMsg.SendName c b a)) e
+  good_awaits_true_item u s (ShakeMsg.Status Status.False) e = broken w x n t v rest hx h g Refusal.Nok (Handshake (ShakeMsg.Status Status.False)) e
+  good_awaits_true_item u s (ShakeMsg.Challenge c d b a) e = broken w x n t v rest hx h g Refusal.BadMessage (Handshake (ShakeMsg.Challenge c d b a)) e
+  good_awaits_true_item u s (ShakeMsg.ChallengeReply a b) e = broken w x n t v rest hx h g Refusal.BadMessage (Handshake (ShakeMsg.ChallengeReply a b)) e
+  good_awaits_true_item u s (ShakeMsg.ChallengeAck a) e = broken w x n t v rest hx h g Refusal.BadMessage (Handshake (ShakeMsg.ChallengeAck a)) e
 
-  by_handshake : (a : State) → v.state ≡ a → (m : HandshakeMessage) → To (Handshake m) (handshake_at a t v m (at_work n))
+  by_handshake : (a : State) → v.state ≡ a → (m : ShakeMsg) → To (Handshake m) (handshake_at a t v m (at_work n))
   by_handshake (AwaitsStatus u) s m = good_awaits_status w x n t v rest hx h g u s m
   by_handshake (AwaitsChallenge u) s m = good_awaits_challenge_item u s m
   by_handshake (AwaitsAck u) s m = good_awaits_ack_item u s m
@@ -108,7 +112,7 @@ module _ (w : World) (x : Name) (n : Node) (t : TrunkId) (v : TrunkSide) (rest :
   by_signal Losing s i = λ e. tt
   by_signal Gone s i = λ e. tt
 
-  by_kind : (o : Option HandshakeMessage) (i : Item) → handshake_in i ≡ o → To i (arrive_at o t v i (at_work n))
+  by_kind : (o : Option ShakeMsg) (i : Item) → handshake_in i ≡ o → To i (arrive_at o t v i (at_work n))
   by_kind None i k = by_signal v.state refl i
   by_kind (Some m) i k = λ e. by_handshake v.state refl m (e ∙ ap (λ z. z ∷ rest) (handshake_is i m k))
 
@@ -129,19 +133,19 @@ module _ (w : World) (x : Name) (n : Node) (hx : node_of w.nodes x ≡ Some n) (
   bad : Well (fault Refusal.BadMessage t (record { peer = t.dialer; peer_creation = 0; state = Gone }) (at_work n))
   bad = fresh_fault w x n hx g t 0 far key none Refusal.BadMessage
 
-  fresh_item : (o : Option HandshakeMessage) (k : ℕ) → Well (arrive_fresh o t k (at_work n))
+  fresh_item : (o : Option ShakeMsg) (k : ℕ) → Well (arrive_fresh o t k (at_work n))
   fresh_item None z = bad
-  fresh_item (Some (SendName a b c)) k = fresh_hello w x n hx g t b far key none a c k
-  fresh_item (Some StatusOk) z = bad
-  fresh_item (Some StatusOkSimultaneous) z = bad
-  fresh_item (Some StatusNok) z = bad
-  fresh_item (Some StatusNotAllowed) z = bad
-  fresh_item (Some StatusAlive) z = bad
-  fresh_item (Some StatusTrue) z = bad
-  fresh_item (Some StatusFalse) z = bad
-  fresh_item (Some (Challenge a b c d)) z = bad
-  fresh_item (Some (ChallengeReply a b)) z = bad
-  fresh_item (Some (ChallengeAck a)) z = bad
+  fresh_item (Some (ShakeMsg.SendName c b a)) k = fresh_hello w x n hx g t b far key none a c k
+  fresh_item (Some (ShakeMsg.Status Status.Ok)) z = bad
+  fresh_item (Some (ShakeMsg.Status Status.OkSimultaneous)) z = bad
+  fresh_item (Some (ShakeMsg.Status Status.Nok)) z = bad
+  fresh_item (Some (ShakeMsg.Status Status.NotAllowed)) z = bad
+  fresh_item (Some (ShakeMsg.Status Status.Alive)) z = bad
+  fresh_item (Some (ShakeMsg.Status Status.True)) z = bad
+  fresh_item (Some (ShakeMsg.Status Status.False)) z = bad
+  fresh_item (Some (ShakeMsg.Challenge c d b a)) z = bad
+  fresh_item (Some (ShakeMsg.ChallengeReply a b)) z = bad
+  fresh_item (Some (ShakeMsg.ChallengeAck a)) z = bad
 
 first_fresh : (w : World) (x : Name) (n : Node) (t : TrunkId) (k : ℕ) (l : List Item) → node_of w.nodes x ≡ Some n → side_at n t ≡ None → Good w → is_some (fm.get w.lists (t, x)) ≡ true → same_name t.dialer x ≡ false → list_to w.lists t x ≡ l → Good ((arrives_first w n t x k None l).world)
 first_fresh w x n t k [] hx none g key far e = g

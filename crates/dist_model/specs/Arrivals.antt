@@ -4,12 +4,13 @@ use Rattle.std.specs.Prelude.{Option, None, Some, is_some, ℕ, ◌+◌, ◌^◌
 use Rattle.std.specs.FinMap as fm
 use Rattle.dist_model.specs.Commands.{Goes, Outcome, Refuses, Took}
 use Rattle.dist_model.specs.Handshake.{awaits_ack, awaits_challenge, awaits_name, awaits_reply, awaits_status, awaits_true, fault}
-use Rattle.dist_model.specs.Items.{Handshake, HandshakeMessage, Item, Signalled, Tick, receiver_of, sender_of}
+use Rattle.dist_model.specs.Items.{Handshake, Item, Signalled, Tick, receiver_of, sender_of}
 use Rattle.dist_model.specs.Names.{same_name}
 use Rattle.dist_model.specs.Node.{Node, never}
 use Rattle.dist_model.specs.Sides.{Accepting, Asked, AwaitsAck, AwaitsChallenge, AwaitsStatus, Gone, Losing, Parked, State, TrunkSide, Up}
 use Rattle.dist_model.specs.Taking.{take_item}
 use Rattle.dist_model.specs.Work.{Work, at_work}
+use Rattle.erl_handshake.specs.declared.message.ShakeMsg.{ShakeMsg}
 use Rattle.erl_names.specs.declared.trunk.TrunkId.{TrunkId}
 use Rattle.erl_term.specs.declared.refusal.Refusal.{Refusal}
 use Rattle.erl_term.specs.declared.term.Pid.{Pid}
@@ -34,12 +35,12 @@ is_good n s Tick = true
 abbrev pub on_up : TrunkId → TrunkSide → Item → Work → Outcome
 on_up t s x o = cond (is_good o.node s x) (Goes (Took x) (take_item x o)) (fault Refusal.Forged t s o)
 
-abbrev pub handshake_in : Item → Option HandshakeMessage
+abbrev pub handshake_in : Item → Option ShakeMsg
 handshake_in (Handshake m) = Some m
 handshake_in _ = None
 
 -- a message of the handshake comes
-abbrev pub handshake_at : State → TrunkId → TrunkSide → HandshakeMessage → Work → Outcome
+abbrev pub handshake_at : State → TrunkId → TrunkSide → ShakeMsg → Work → Outcome
 handshake_at (AwaitsStatus v) t s m o = awaits_status t s v m o
 handshake_at (AwaitsChallenge v) t s m o = awaits_challenge t s v m o
 handshake_at (AwaitsAck v) t s m o = awaits_ack t s v m o
@@ -62,11 +63,11 @@ signal_at Up t s x o = on_up t s x o
 signal_at Losing t s x o = Refuses Refusal.NotLive
 signal_at Gone t s x o = Refuses Refusal.NotLive
 
-abbrev pub arrive_at : Option HandshakeMessage → TrunkId → TrunkSide → Item → Work → Outcome
+abbrev pub arrive_at : Option ShakeMsg → TrunkId → TrunkSide → Item → Work → Outcome
 arrive_at None t s x o = signal_at s.state t s x o
 arrive_at (Some m) t s x o = handshake_at s.state t s m o
 
-abbrev pub arrive_fresh : Option HandshakeMessage → TrunkId → ℕ → Work → Outcome
+abbrev pub arrive_fresh : Option ShakeMsg → TrunkId → ℕ → Work → Outcome
 arrive_fresh None t w o = fault Refusal.BadMessage t (record { peer = t.dialer; peer_creation = 0; state = Gone }) o
 arrive_fresh (Some m) t w o = awaits_name t m w o
 

@@ -3,12 +3,13 @@
 use Rattle.std.specs.Prelude.{Option, None, Some, is_some, ℕ, ◌+◌, ◌^◌, Bool, true, false, cond, not, List, [], ◌∷◌, ◌==◌, nat_lt, nat_le, ◌&&◌, ◌||◌}
 use Rattle.std.specs.FinMap as fm
 use Rattle.dist_model.specs.Commands.{Dialed, Goes, Outcome, Refuses}
-use Rattle.dist_model.specs.Handshake.{flag_word, with_side, write}
-use Rattle.dist_model.specs.Items.{SendName}
+use Rattle.dist_model.specs.Handshake.{with_side, write}
 use Rattle.dist_model.specs.Names.{Name, same_name}
 use Rattle.dist_model.specs.Node.{Node, side_where}
 use Rattle.dist_model.specs.Sides.{AwaitsStatus, is_gone}
 use Rattle.dist_model.specs.Work.{at_work}
+use Rattle.erl_handshake.specs.Flags.{mandatory}
+use Rattle.erl_handshake.specs.declared.message.ShakeMsg.{ShakeMsg}
 use Rattle.erl_names.specs.declared.trunk.TrunkId.{TrunkId}
 use Rattle.erl_term.specs.declared.refusal.Refusal.{Refusal}
 
@@ -29,5 +30,5 @@ dial names n y w =
     (cond (is_some (side_where (λ v. not (is_gone v)) y (fm.entries n.sides))) (Refuses Refusal.Busy)
     (cond (not (nat_lt (n.dialed + 1) (2 ^ 64))) (Refuses Refusal.IdsUsedUp)
     (Goes (Dialed (next_trunk n))
-    (write (next_trunk n) y (SendName n.mint.name n.mint.creation flag_word)
+    (write (next_trunk n) y (ShakeMsg.SendName mandatory n.mint.creation n.mint.name)
     (with_side (next_trunk n) (record { peer = y; peer_creation = 0; state = AwaitsStatus w }) (at_work (draw_trunk n))))))))

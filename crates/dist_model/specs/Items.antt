@@ -2,28 +2,15 @@
 -- (ERTS User's Guide, Distribution Protocol.)
 use Rattle.std.specs.Prelude.{Option, None, Some, ℕ, Bool, true, false, cond, ◌&&◌, List, [], ◌∷◌, ◌++◌}
 use Rattle.dist_model.specs.Links.{Exits, LinkWord, Says}
-use Rattle.dist_model.specs.Names.{Name, same_pid}
+use Rattle.dist_model.specs.Names.{same_pid}
 use Rattle.erl_control.specs.declared.signal.Signal.{Signal}
+use Rattle.erl_handshake.specs.declared.message.ShakeMsg.{ShakeMsg}
 use Rattle.erl_term.specs.declared.term.Pid.{Pid}
 use Rattle.link_core.specs.declared.end.LinkSignal.{LinkSignal}
 
--- the messages of the handshake
-pub data HandshakeMessage : Type 0 where
-  SendName : (name : Name) → (creation : ℕ) → (flags : ℕ) → HandshakeMessage
-  StatusOk : HandshakeMessage
-  StatusOkSimultaneous : HandshakeMessage
-  StatusNok : HandshakeMessage
-  StatusNotAllowed : HandshakeMessage
-  StatusAlive : HandshakeMessage
-  StatusTrue : HandshakeMessage
-  StatusFalse : HandshakeMessage
-  Challenge : (name : Name) → (creation : ℕ) → (flags : ℕ) → (word : ℕ) → HandshakeMessage
-  ChallengeReply : (word : ℕ) → (digest : ℕ) → HandshakeMessage
-  ChallengeAck : (digest : ℕ) → HandshakeMessage
-
 pub data Item : Type 0 where
   Signalled : Signal → Item
-  Handshake : HandshakeMessage → Item
+  Handshake : ShakeMsg → Item
   -- tells that the peer is there
   Tick : Item
 
