@@ -26,3 +26,4 @@ pub mod Fresh
 pub mod Run
 pub mod Reacting
 pub mod Silence
+pub mod Fitting

@@ -4,6 +4,9 @@
 //! without memory; and so of each moment of every run.
 ghost use Rattle.std.specs.Prelude.{◌≡◌, ◌↔◌, true};
 ghost use Rattle.erl_term.specs.declared.term.Pid.{Pid};
+ghost use Rattle.erl_term.specs.Data.{Data};
+ghost use Rattle.erl_control.specs.Control.{Fits};
+ghost use Rattle.dist_model.specs.Fits.{fits};
 ghost use Rattle.dist_model.specs.World.{World};
 ghost use Rattle.dist_model.specs.Quiet.{Quiet, is_quiet};
 ghost use Rattle.dist_model.specs.Runs.{Always};
@@ -48,4 +51,9 @@ pub fn reactions()
 /// Whether nothing travels between two processes can be tested.
 pub fn quiet_test()
     ensures test { (world : World) (p q : Pid) → (is_quiet world p q ≡ true) ↔ Quiet world p q }
+{}
+
+/// The terms that the world lets a signal carry are those that erl_control's signals carry.
+pub fn fits_test()
+    ensures test { (term : Data) → (fits term ≡ true) ↔ Fits term }
 {}

@@ -8,4 +8,4 @@
 
 mod laws;
 
-pub use laws::{agreement, no_link_to_the_dead, one_trunk, pending, quiet_test, reactions};
+pub use laws::{agreement, fits_test, no_link_to_the_dead, one_trunk, pending, quiet_test, reactions};
