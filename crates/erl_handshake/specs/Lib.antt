@@ -3,3 +3,6 @@ pub mod Messages
 pub mod Answer
 pub mod Digest
 pub mod Reading
+pub mod Admission
+pub mod Roles
+pub mod Parties
