@@ -7,12 +7,13 @@ use Rattle.dist_model.proofs.Keys.{same_name_is, same_name_true}
 use Rattle.dist_model.proofs.Primitives.{good_popped, good_pushed}
 use Rattle.dist_model.proofs.Reside.{side_after_same, with_side_at}
 use Rattle.dist_model.proofs.Routes.{node_of_name, node_of_set_other, node_of_set_same, some_same}
+use Rattle.dist_model.proofs.Rules.{awaits_reply, awaits_status}
 use Rattle.dist_model.proofs.Sides.{asks, joined, side_at}
 use Rattle.dist_model.proofs.Signals.{good_arrive}
 use Rattle.dist_model.proofs.Table.{Good, Posted, Row, begun, has, holds_side, is_accept, is_challenge, is_early, is_reply, partners, role_state, went_up}
 use Rattle.dist_model.specs.Arrivals.{is_good, on_up}
 use Rattle.dist_model.specs.Commands.{Goes, Outcome, Took}
-use Rattle.dist_model.specs.Handshake.{awaits_reply, awaits_status, fault, is_answered, set_state, write}
+use Rattle.dist_model.specs.Handshake.{fault, set_state, write}
 use Rattle.dist_model.specs.Items.{Handshake, Item, word_in}
 use Rattle.dist_model.specs.Losses.{lose_at}
 use Rattle.dist_model.specs.Names.{Name, same_name}
@@ -22,6 +23,7 @@ use Rattle.dist_model.specs.Taking.{take_item}
 use Rattle.dist_model.specs.Work.{Work, at_work}
 use Rattle.dist_model.specs.World.{World, carried, ends_in, list_to, node_of, set_node}
 use Rattle.erl_handshake.specs.Digest.{digest_of}
+use Rattle.erl_handshake.specs.Roles.{is_answered}
 use Rattle.erl_handshake.specs.declared.message.ShakeMsg.{ShakeMsg}
 use Rattle.erl_handshake.specs.declared.status.Status.{Status}
 use Rattle.erl_names.specs.declared.trunk.TrunkId.{TrunkId}

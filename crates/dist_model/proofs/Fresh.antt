@@ -16,8 +16,9 @@ use Rattle.dist_model.proofs.Routes.{Found, node_of_name, side_where_found, some
 use Rattle.dist_model.proofs.Sides.{SidesKept, asks, beside, holds, side_at}
 use Rattle.dist_model.proofs.Sweeping.{good_unparked}
 use Rattle.dist_model.proofs.Table.{Good, Posted, begun_state, role_state, up_once}
+use Rattle.dist_model.specs.Admission.{accepts, awaits_name, give_up, greet, greet_dialing, greet_up, greet_waiting}
 use Rattle.dist_model.specs.Commands.{Broke, Goes, Took}
-use Rattle.dist_model.specs.Handshake.{accepts, awaits_name, challenge, end_up, fault, give_up, go_on, goes_on, greet, greet_dialing, greet_up, greet_waiting, set_state, write}
+use Rattle.dist_model.specs.Handshake.{challenge, end_up, fault, go_on, goes_on, set_state, write}
 use Rattle.dist_model.specs.Items.{Handshake, Item}
 use Rattle.dist_model.specs.Names.{Name, same_name}
 use Rattle.dist_model.specs.Node.{Node, side_where}

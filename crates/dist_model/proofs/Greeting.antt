@@ -13,7 +13,8 @@ use Rattle.dist_model.proofs.Routes.{node_of_name, node_of_set_same, side_where_
 use Rattle.dist_model.proofs.Sides.{SidesKept, asks, beside, holds, joined, side_at}
 use Rattle.dist_model.proofs.Steps.{kind}
 use Rattle.dist_model.proofs.Table.{Good, is_accept, is_challenge, is_reply, role_state, up_once}
-use Rattle.dist_model.specs.Handshake.{challenge, give_up, set_state, write}
+use Rattle.dist_model.specs.Admission.{give_up}
+use Rattle.dist_model.specs.Handshake.{challenge, set_state, write}
 use Rattle.dist_model.specs.Items.{Handshake}
 use Rattle.dist_model.specs.Names.{Name, same_name}
 use Rattle.dist_model.specs.Node.{Node, side_where}

@@ -1,3 +1,4 @@
+pub mod Rules
 pub mod Pair
 pub mod Lists
 pub mod Kept

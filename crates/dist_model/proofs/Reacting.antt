@@ -14,9 +14,11 @@ use Rattle.dist_model.proofs.Keys.{and_both, same_name_true, same_pid_refl, same
 use Rattle.dist_model.proofs.Moves.{NodeKept}
 use Rattle.dist_model.proofs.Pair.{later}
 use Rattle.dist_model.proofs.Routes.{node_of_name}
+use Rattle.dist_model.proofs.Rules.{awaits_ack, awaits_challenge, awaits_reply, awaits_status, awaits_true, handshake_as, handshake_by}
 use Rattle.dist_model.proofs.Sweeping.{link_found}
 use Rattle.dist_model.proofs.Table.{Good}
-use Rattle.dist_model.specs.Arrivals.{arrive, arrive_at, arrive_fresh, handshake_at, handshake_in, is_good, signal_at, take_local}
+use Rattle.dist_model.specs.Admission.{awaits_name, give_up, greet, greet_dialing, greet_up, greet_waiting}
+use Rattle.dist_model.specs.Arrivals.{arrive, arrive_at, arrive_fresh, handshake_in, is_good, signal_at, take_local}
 use Rattle.dist_model.specs.Calls.{acting, call, toward}
 use Rattle.dist_model.specs.Causes.{Reacts}
 use Rattle.dist_model.specs.Claims.{ReactsOnlyWhereLinked}
@@ -24,7 +26,7 @@ use Rattle.dist_model.specs.Commands.{Command, EndLink, EndMonitor, ExitSelf, Ex
 use Rattle.dist_model.specs.Dialing.{dial, has_name}
 use Rattle.dist_model.specs.Exits.{carry_out, demonitors, exits, finish, link_exit, linked_exit, monitor_exits, sent_exit}
 use Rattle.dist_model.specs.Fits.{fits}
-use Rattle.dist_model.specs.Handshake.{awaits_ack, awaits_challenge, awaits_name, awaits_reply, awaits_status, awaits_true, challenge, end_up, give_up, go_on, greet, greet_dialing, greet_up, greet_waiting, is_answered, set_state, write}
+use Rattle.dist_model.specs.Handshake.{challenge, end_up, go_on, handshake_at, set_state, write}
 use Rattle.dist_model.specs.Incarnations.{start, stop}
 use Rattle.dist_model.specs.Items.{Handshake, Item, Signalled, Tick, receiver_of, telling}
 use Rattle.dist_model.specs.Linking.{exit_follows, link_by, link_new, replies, take_link, take_link_by, unlink_by}
@@ -40,6 +42,7 @@ use Rattle.dist_model.specs.Work.{Effect, EndedBy, LinkExit, Put, Sent, Work, at
 use Rattle.dist_model.specs.World.{Arrive, Call, Dial, Event, Local, Lose, Refused, Report, Reported, Start, Stepped, Stop, Sweep, World, arrives, arrives_first, ends_in, is_over, list_to, node_name, node_of, refused, running, step, step_at}
 use Rattle.erl_control.specs.declared.signal.Signal.{Signal}
 use Rattle.erl_handshake.specs.Flags.{has_all_of, mandatory}
+use Rattle.erl_handshake.specs.Roles.{is_answered, is_same}
 use Rattle.erl_handshake.specs.declared.message.ShakeMsg.{ShakeMsg}
 use Rattle.erl_handshake.specs.declared.status.Status.{Status}
 use Rattle.erl_names.specs.Ids.{reference_of}
@@ -406,7 +409,7 @@ module _ (n : Node) (t : TrunkId) where
     still_challenge u (ShakeMsg.Status Status.True) = λ p q h. h
     still_challenge u (ShakeMsg.Status Status.False) = λ p q h. h
     still_challenge u (ShakeMsg.SendName c b a) = λ p q h. h
-    still_challenge u (ShakeMsg.Challenge c d b a) = either (same_name a v.peer) _ _ Still (either (has_all_of c mandatory) _ _ Still (λ p q h. h) (λ p q h. h)) (λ p q h. h)
+    still_challenge u (ShakeMsg.Challenge c d b a) = either (is_same a v.peer) _ _ Still (either (has_all_of c mandatory) _ _ Still (λ p q h. h) (λ p q h. h)) (λ p q h. h)
     still_challenge u (ShakeMsg.ChallengeReply a b) = λ p q h. h
     still_challenge u (ShakeMsg.ChallengeAck a) = λ p q h. h
 
@@ -457,16 +460,19 @@ module _ (n : Node) (t : TrunkId) where
     still_reply u (ShakeMsg.ChallengeReply a b) = either (is_answered n.cookie u b) _ _ Still (λ p q h. h) (λ p q h. h)
     still_reply u (ShakeMsg.ChallengeAck a) = λ p q h. h
 
+    still_rule : (a : State) (m : ShakeMsg) → IfGoes (handshake_by a t v m (at_work n)) Still
+    still_rule (AwaitsStatus u) m = still_status u m
+    still_rule (AwaitsChallenge u) m = still_challenge u m
+    still_rule (AwaitsAck u) m = still_ack u m
+    still_rule (Asked u) m = still_true u m
+    still_rule (Parked u) m = λ p q h. h
+    still_rule (Accepting u) m = still_reply u m
+    still_rule Up m = λ p q h. h
+    still_rule Losing m = tt
+    still_rule Gone m = tt
+
     still_handshake : (a : State) (m : ShakeMsg) → IfGoes (handshake_at a t v m (at_work n)) Still
-    still_handshake (AwaitsStatus u) m = still_status u m
-    still_handshake (AwaitsChallenge u) m = still_challenge u m
-    still_handshake (AwaitsAck u) m = still_ack u m
-    still_handshake (Asked u) m = still_true u m
-    still_handshake (Parked u) m = λ p q h. h
-    still_handshake (Accepting u) m = still_reply u m
-    still_handshake Up m = λ p q h. h
-    still_handshake Losing m = tt
-    still_handshake Gone m = tt
+    still_handshake a m = subst (λ z. IfGoes z Still) (sym (handshake_as a t v m (at_work n))) (still_rule a m)
 
     still_lost : (a : State) → IfGoes (lose_at a t v (at_work n)) Still
     still_lost (AwaitsStatus u) = λ p q h. h

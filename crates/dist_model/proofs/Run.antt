@@ -13,12 +13,13 @@ use Rattle.dist_model.proofs.Keys.{and_both, place_total, same_name_refl, same_p
 use Rattle.dist_model.proofs.NewSides.{good_dial}
 use Rattle.dist_model.proofs.Primitives.{good_popped}
 use Rattle.dist_model.proofs.Routes.{node_of_name, none_some, some_same}
+use Rattle.dist_model.proofs.Rules.{awaits_ack, awaits_challenge, awaits_true, handshake_as, handshake_by}
 use Rattle.dist_model.proofs.Sides.{side_at}
 use Rattle.dist_model.proofs.Signals.{good_local}
 use Rattle.dist_model.proofs.Table.{Good, good_call}
-use Rattle.dist_model.specs.Arrivals.{arrive_at, arrive_fresh, handshake_at, handshake_in, signal_at, take_local}
+use Rattle.dist_model.specs.Arrivals.{arrive_at, arrive_fresh, handshake_in, signal_at, take_local}
 use Rattle.dist_model.specs.Commands.{Done, Goes, Outcome, Refuses}
-use Rattle.dist_model.specs.Handshake.{awaits_ack, awaits_challenge, awaits_true, fault, is_answered}
+use Rattle.dist_model.specs.Handshake.{fault, handshake_at}
 use Rattle.dist_model.specs.Incarnations.{start, started}
 use Rattle.dist_model.specs.Items.{Handshake, Item, Signalled, Tick}
 use Rattle.dist_model.specs.Losses.{lose}
@@ -30,6 +31,7 @@ use Rattle.dist_model.specs.Work.{at_work}
 use Rattle.dist_model.specs.World.{Arrive, Call, Dial, Event, Local, Lose, Report, Start, Stepped, Stop, Sweep, World, arrives, arrives_first, carried, ends_in, is_over, list_to, node_name, node_of, refused, running, set_node, step, step_at}
 use Rattle.erl_handshake.specs.Digest.{digest_of}
 use Rattle.erl_handshake.specs.Flags.{has_all_of, mandatory}
+use Rattle.erl_handshake.specs.Roles.{is_answered, is_same}
 use Rattle.erl_handshake.specs.declared.message.ShakeMsg.{ShakeMsg}
 use Rattle.erl_handshake.specs.declared.status.Status.{Status}
 use Rattle.erl_names.specs.declared.trunk.TrunkId.{TrunkId}
@@ -49,7 +51,7 @@ module _ (w : World) (x : Name) (n : Node) (t : TrunkId) (v : TrunkSide) (rest :
   To i o = list_to w.lists t x ≡ i ∷ rest → IfGoes o (λ p. Good (record { names = w.names; nodes = set_node w.nodes x p.node; lists = carried (fm.insert w.lists (t, x) rest) p.sent }))
 
   good_awaits_challenge_item : (u : ℕ) → v.state ≡ AwaitsChallenge u → (m : ShakeMsg) → To (Handshake m) (awaits_challenge t v u m (at_work n))
-  good_awaits_challenge_item u s (ShakeMsg.Challenge c d b a) e = unless w x n t v rest hx h g (same_name a v.peer) (Handshake (ShakeMsg.Challenge c d b a)) _ Refusal.Forged
+  good_awaits_challenge_item u s (ShakeMsg.Challenge c d b a) e = unless w x n t v rest hx h g (is_same a v.peer) (Handshake (ShakeMsg.Challenge c d b a)) _ Refusal.Forged
       (λ _ f. unless w x n t v rest hx h g (has_all_of c mandatory) (Handshake (ShakeMsg.Challenge c d b a)) _ Refusal.FlagsMissing
       (λ _ k. challenge_comes w x n t v (Handshake (ShakeMsg.Challenge c d b a)) rest hx h g k u b (digest_of n.cookie d) s refl (λ p q. refl)) f) e
   good_awaits_challenge_item u s (ShakeMsg.Status Status.Ok) e = broken w x n t v rest hx h g Refusal.BadMessage (Handshake (ShakeMsg.Status Status.Ok)) e
@@ -90,16 +92,19 @@ module _ (w : World) (x : Name) (n : Node) (t : TrunkId) (v : TrunkSide) (rest :
   good_awaits_true_item u s (ShakeMsg.ChallengeReply a b) e = broken w x n t v rest hx h g Refusal.BadMessage (Handshake (ShakeMsg.ChallengeReply a b)) e
   good_awaits_true_item u s (ShakeMsg.ChallengeAck a) e = broken w x n t v rest hx h g Refusal.BadMessage (Handshake (ShakeMsg.ChallengeAck a)) e
 
+  by_rule : (a : State) → v.state ≡ a → (m : ShakeMsg) → To (Handshake m) (handshake_by a t v m (at_work n))
+  by_rule (AwaitsStatus u) s m = good_awaits_status w x n t v rest hx h g u s m
+  by_rule (AwaitsChallenge u) s m = good_awaits_challenge_item u s m
+  by_rule (AwaitsAck u) s m = good_awaits_ack_item u s m
+  by_rule (Asked u) s m = good_awaits_true_item u s m
+  by_rule (Parked u) s m = broken w x n t v rest hx h g Refusal.BadMessage (Handshake m)
+  by_rule (Accepting u) s m = good_awaits_reply w x n t v rest hx h g u s m
+  by_rule Up s m = broken w x n t v rest hx h g Refusal.BadMessage (Handshake m)
+  by_rule Losing s m = λ e. tt
+  by_rule Gone s m = λ e. tt
+
   by_handshake : (a : State) → v.state ≡ a → (m : ShakeMsg) → To (Handshake m) (handshake_at a t v m (at_work n))
-  by_handshake (AwaitsStatus u) s m = good_awaits_status w x n t v rest hx h g u s m
-  by_handshake (AwaitsChallenge u) s m = good_awaits_challenge_item u s m
-  by_handshake (AwaitsAck u) s m = good_awaits_ack_item u s m
-  by_handshake (Asked u) s m = good_awaits_true_item u s m
-  by_handshake (Parked u) s m = broken w x n t v rest hx h g Refusal.BadMessage (Handshake m)
-  by_handshake (Accepting u) s m = good_awaits_reply w x n t v rest hx h g u s m
-  by_handshake Up s m = broken w x n t v rest hx h g Refusal.BadMessage (Handshake m)
-  by_handshake Losing s m = λ e. tt
-  by_handshake Gone s m = λ e. tt
+  by_handshake a s m = subst (λ z. To (Handshake m) z) (sym (handshake_as a t v m (at_work n))) (by_rule a s m)
 
   by_signal : (a : State) → v.state ≡ a → (i : Item) → To i (signal_at a t v i (at_work n))
   by_signal (AwaitsStatus u) s i = broken w x n t v rest hx h g Refusal.BadMessage i

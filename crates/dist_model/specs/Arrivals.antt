@@ -2,8 +2,9 @@
 -- (ERTS User's Guide, Distribution Protocol.)
 use Rattle.std.specs.Prelude.{Option, None, Some, is_some, ℕ, ◌+◌, ◌^◌, Bool, true, false, cond, not, List, [], ◌∷◌, ◌==◌, nat_lt, nat_le, ◌&&◌, ◌||◌}
 use Rattle.std.specs.FinMap as fm
+use Rattle.dist_model.specs.Admission.{awaits_name}
 use Rattle.dist_model.specs.Commands.{Goes, Outcome, Refuses, Took}
-use Rattle.dist_model.specs.Handshake.{awaits_ack, awaits_challenge, awaits_name, awaits_reply, awaits_status, awaits_true, fault}
+use Rattle.dist_model.specs.Handshake.{fault, handshake_at}
 use Rattle.dist_model.specs.Items.{Handshake, Item, Signalled, Tick, receiver_of, sender_of}
 use Rattle.dist_model.specs.Names.{same_name}
 use Rattle.dist_model.specs.Node.{Node, never}
@@ -38,18 +39,6 @@ on_up t s x o = cond (is_good o.node s x) (Goes (Took x) (take_item x o)) (fault
 abbrev pub handshake_in : Item → Option ShakeMsg
 handshake_in (Handshake m) = Some m
 handshake_in _ = None
-
--- a message of the handshake comes
-abbrev pub handshake_at : State → TrunkId → TrunkSide → ShakeMsg → Work → Outcome
-handshake_at (AwaitsStatus v) t s m o = awaits_status t s v m o
-handshake_at (AwaitsChallenge v) t s m o = awaits_challenge t s v m o
-handshake_at (AwaitsAck v) t s m o = awaits_ack t s v m o
-handshake_at (Asked v) t s m o = awaits_true t s v m o
-handshake_at (Parked v) t s m o = fault Refusal.BadMessage t s o
-handshake_at (Accepting v) t s m o = awaits_reply t s v m o
-handshake_at Up t s m o = fault Refusal.BadMessage t s o
-handshake_at Losing t s m o = Refuses Refusal.NotLive
-handshake_at Gone t s m o = Refuses Refusal.NotLive
 
 -- a signal or a tick comes
 abbrev pub signal_at : State → TrunkId → TrunkSide → Item → Work → Outcome
