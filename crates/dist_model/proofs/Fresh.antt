@@ -13,10 +13,11 @@ use Rattle.dist_model.proofs.Moves.{held}
 use Rattle.dist_model.proofs.Pairs.{Met}
 use Rattle.dist_model.proofs.Reside.{Holder, held_by, side_after_other, side_after_same, with_side_at}
 use Rattle.dist_model.proofs.Routes.{Found, node_of_name, side_where_found, some_same}
+use Rattle.dist_model.proofs.Rules.{awaits_name, greet, greet_dialing, greet_up, greet_waiting}
 use Rattle.dist_model.proofs.Sides.{SidesKept, asks, beside, holds, side_at}
 use Rattle.dist_model.proofs.Sweeping.{good_unparked}
 use Rattle.dist_model.proofs.Table.{Good, Posted, begun_state, role_state, up_once}
-use Rattle.dist_model.specs.Admission.{accepts, awaits_name, give_up, greet, greet_dialing, greet_up, greet_waiting}
+use Rattle.dist_model.specs.Admission.{accepts, give_up}
 use Rattle.dist_model.specs.Commands.{Broke, Goes, Took}
 use Rattle.dist_model.specs.Handshake.{challenge, end_up, fault, go_on, goes_on, set_state, write}
 use Rattle.dist_model.specs.Items.{Handshake, Item}
@@ -26,6 +27,7 @@ use Rattle.dist_model.specs.Sides.{Accepting, Asked, AwaitsAck, AwaitsChallenge,
 use Rattle.dist_model.specs.Work.{Work, at_work}
 use Rattle.dist_model.specs.World.{World, node_of}
 use Rattle.erl_handshake.specs.Flags.{has_all_of, mandatory}
+use Rattle.erl_handshake.specs.Roles.{is_same}
 use Rattle.erl_handshake.specs.declared.message.ShakeMsg.{ShakeMsg}
 use Rattle.erl_handshake.specs.declared.status.Status.{Status}
 use Rattle.erl_names.specs.Order.{name_cmp}
@@ -129,7 +131,7 @@ module _ (w : World) (x : Name) (n : Node) (hx : node_of w.nodes x ≡ Some n) (
   fresh_fault k = first_state w x n hx t c far m0 (at_work n) Gone nx none refl refl (inr refl) refl (λ u b hb eb gs gb. let z : true ≡ false = gs in cc) (met_in _ (g0.posted t x key)) g0
 
   pub fresh_hello : (name : Name) (flags k : ℕ) → IfGoes (awaits_name t (ShakeMsg.SendName flags c name) k (at_work n)) Pl
-  fresh_hello name flags k = go (same_name name t.dialer) (has_all_of flags mandatory)
+  fresh_hello name flags k = go (is_same name t.dialer) (has_all_of flags mandatory)
     where
       go : (a b : Bool) → IfGoes (cond a (cond b (greet_waiting (side_where is_waiting t.dialer (fm.entries n.sides)) t s k (Handshake (ShakeMsg.SendName flags c name)) (at_work n)) (fault Refusal.FlagsMissing t s (at_work n))) (fault Refusal.Forged t s (at_work n))) Pl
       go true true = waits k (Handshake (ShakeMsg.SendName flags c name)) (side_where is_waiting t.dialer (fm.entries n.sides)) refl

@@ -14,10 +14,10 @@ use Rattle.dist_model.proofs.Keys.{and_both, same_name_true, same_pid_refl, same
 use Rattle.dist_model.proofs.Moves.{NodeKept}
 use Rattle.dist_model.proofs.Pair.{later}
 use Rattle.dist_model.proofs.Routes.{node_of_name}
-use Rattle.dist_model.proofs.Rules.{awaits_ack, awaits_challenge, awaits_reply, awaits_status, awaits_true, handshake_as, handshake_by}
+use Rattle.dist_model.proofs.Rules.{awaits_ack, awaits_challenge, awaits_name, awaits_reply, awaits_status, awaits_true, greet, greet_dialing, greet_up, greet_waiting, handshake_as, handshake_by, name_as}
 use Rattle.dist_model.proofs.Sweeping.{link_found}
 use Rattle.dist_model.proofs.Table.{Good}
-use Rattle.dist_model.specs.Admission.{awaits_name, give_up, greet, greet_dialing, greet_up, greet_waiting}
+use Rattle.dist_model.specs.Admission.{give_up, hears_name}
 use Rattle.dist_model.specs.Arrivals.{arrive, arrive_at, arrive_fresh, handshake_in, is_good, signal_at, take_local}
 use Rattle.dist_model.specs.Calls.{acting, call, toward}
 use Rattle.dist_model.specs.Causes.{Reacts}
@@ -373,7 +373,7 @@ module _ (n : Node) (t : TrunkId) where
     greets_waiting (Some d) o k = either (nat_lt d.0.count t.count) _ _ Still (greets (give_up (Some d) o) k) (λ p q h. k p q (calm_send (Some t) s.peer (Handshake (ShakeMsg.Status Status.Nok)) (set_state t s Gone o) p q h))
 
   still_fresh : (m : ShakeMsg) (w : ℕ) → IfGoes (awaits_name t m w (at_work n)) Still
-  still_fresh (ShakeMsg.SendName f c a) w = either (same_name a t.dialer) _ _ Still
+  still_fresh (ShakeMsg.SendName f c a) w = either (is_same a t.dialer) _ _ Still
       (either (has_all_of f mandatory) _ _ Still (greets_waiting (record { peer = t.dialer; peer_creation = c; state = Gone }) w (Handshake (ShakeMsg.SendName f c a)) (side_where is_waiting t.dialer (fm.entries n.sides)) (at_work n) (λ p q h. h)) (λ p q h. h)) (λ p q h. h)
   still_fresh (ShakeMsg.Status Status.Ok) w = λ p q h. h
   still_fresh (ShakeMsg.Status Status.OkSimultaneous) w = λ p q h. h
@@ -510,7 +510,7 @@ known_comes n t v x (Some m) = still_holds n (handshake_at v.state t v m (at_wor
 
 fresh_comes : (n : Node) (t : TrunkId) (k : ℕ) (m : Option ShakeMsg) → IfGoes (arrive_fresh m t k (at_work n)) (HeldBefore n)
 fresh_comes n t k None = λ p q h. nothing h
-fresh_comes n t k (Some m) = still_holds n (awaits_name t m k (at_work n)) (still_fresh n t m k)
+fresh_comes n t k (Some m) = still_holds n (hears_name t m k (at_work n)) (subst (λ z. IfGoes z (Still n t)) (sym (name_as t m k (at_work n))) (still_fresh n t m k))
 
 pub arriving : (n : Node) (t : TrunkId) (o : Option TrunkSide) (x : Item) (k : ℕ) → IfGoes (arrive n t o x k) (HeldBefore n)
 arriving n t None x k = fresh_comes n t k (handshake_in x)

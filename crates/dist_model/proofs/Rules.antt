@@ -2,20 +2,25 @@
 use Rattle.std.specs.FinMap as fm
 use Rattle.erl_handshake.specs.declared.turn.Outcome.{Outcome as Verdict}
 use Rattle.erl_handshake.specs.declared.turn.Outcome.TheVariants as verdict
-use Rattle.std.proofs.Common.{◌≡◌, ℕ, Bool, true, false, cond, refl, Option, Some, None}
-use Rattle.dist_model.specs.Commands.{Goes, Outcome, Refuses, Took}
+use Rattle.std.proofs.Common.{◌≡◌, ℕ, Bool, true, false, cond, not, refl, ap, nat_lt, ◌||◌, Option, Some, None}
+use Rattle.std.specs.Option.{is_some}
+use Rattle.std.specs.Ordering.{is_gt}
+use Rattle.dist_model.specs.Admission.{accepts, admit, admit_later, after_name, give_up, hears_name, says_status}
+use Rattle.dist_model.specs.Commands.{Broke, Goes, Outcome, Refuses, Took}
 use Rattle.dist_model.specs.Handshake.{acceptor_side, dialer_side, end_up, fault, goes_on, handshake_at, handshake_on, identity, set_state, write}
-use Rattle.dist_model.specs.Items.{Handshake}
+use Rattle.dist_model.specs.Items.{Handshake, Item}
 use Rattle.dist_model.specs.Node.{side_where}
-use Rattle.dist_model.specs.Sides.{Accepting, Asked, AwaitsAck, AwaitsChallenge, AwaitsStatus, Gone, Losing, Parked, State, TrunkSide, Up, is_up}
+use Rattle.dist_model.specs.Sides.{Accepting, Asked, AwaitsAck, AwaitsChallenge, AwaitsStatus, Gone, Losing, Parked, State, TrunkSide, Up, is_dialing, is_losing, is_up, is_waiting}
 use Rattle.dist_model.specs.Work.{Work}
+use Rattle.erl_handshake.specs.Admission.{status_due}
 use Rattle.erl_handshake.specs.Digest.{digest_of}
 use Rattle.erl_handshake.specs.Flags.{has_all_of, mandatory}
-use Rattle.erl_handshake.specs.Roles.{acceptor_ends, dialer_ends, is_answered, is_same, on_challenge}
+use Rattle.erl_handshake.specs.Roles.{acceptor_ends, dialer_ends, is_answered, is_same, on_challenge, on_name}
 use Rattle.erl_handshake.specs.declared.acceptor.AcceptorState.{AcceptorState}
 use Rattle.erl_handshake.specs.declared.dialer.DialerState.{DialerState}
 use Rattle.erl_handshake.specs.declared.message.ShakeMsg.{ShakeMsg}
 use Rattle.erl_handshake.specs.declared.status.Status.{Status}
+use Rattle.erl_names.specs.Order.{name_cmp}
 use Rattle.erl_names.specs.declared.trunk.TrunkId.{TrunkId}
 use Rattle.erl_term.specs.declared.refusal.Refusal.{Refusal}
 
@@ -133,3 +138,74 @@ handshake_as (Accepting v) t s m o = reply_as t s v m o
 handshake_as Up t s m o = refl
 handshake_as Losing t s m o = refl
 handshake_as Gone t s m o = refl
+
+-- ---- a new side
+
+-- rules b, c and d, once no older attempt of this dialer is left
+abbrev pub greet_dialing : Option (TrunkId × TrunkSide) → TrunkId → TrunkSide → ℕ → Item → Work → Outcome
+greet_dialing None t s w x o = accepts t s w (ShakeMsg.Status Status.Ok) x o
+greet_dialing (Some e) t s w x o =
+    cond (is_gt (name_cmp t.dialer o.node.mint.name))
+    (accepts t s w (ShakeMsg.Status Status.OkSimultaneous) x (give_up (Some e) o))
+    (Goes (Took x) (write t s.peer (ShakeMsg.Status Status.Nok) (set_state t s Gone o)))
+
+abbrev pub greet_up : Option (TrunkId × TrunkSide) → TrunkId → TrunkSide → ℕ → Item → Work → Outcome
+greet_up None t s w x o = greet_dialing (side_where is_dialing s.peer (fm.entries o.node.sides)) t s w x o
+greet_up (Some e) t s w x o = Goes (Took x) (write t s.peer (ShakeMsg.Status Status.Alive) (set_state t s (Asked w) o))
+
+abbrev pub greet : TrunkId → TrunkSide → ℕ → Item → Work → Outcome
+greet t s w x o = greet_up (side_where (λ v. is_up v || is_losing v) s.peer (fm.entries o.node.sides)) t s w x o
+
+abbrev pub greet_waiting : Option (TrunkId × TrunkSide) → TrunkId → TrunkSide → ℕ → Item → Work → Outcome
+greet_waiting None t s w x o = greet t s w x o
+greet_waiting (Some e) t s w x o =
+    cond (nat_lt e.0.count t.count) (greet t s w x (give_up (Some e) o)) (Goes (Broke Refusal.Superseded) (write t s.peer (ShakeMsg.Status Status.Nok) (set_state t s Gone o)))
+
+-- a Fresh side gets its first message
+abbrev pub awaits_name : TrunkId → ShakeMsg → ℕ → Work → Outcome
+awaits_name t (ShakeMsg.SendName flags creation name) w o =
+    let s : TrunkSide = record { peer = t.dialer; peer_creation = creation; state = Gone } in
+    cond (is_same name t.dialer)
+    (cond (has_all_of flags mandatory) (greet_waiting (side_where is_waiting t.dialer (fm.entries o.node.sides)) t s w (Handshake (ShakeMsg.SendName flags creation name)) o) (fault Refusal.FlagsMissing t s o))
+    (fault Refusal.Forged t s o)
+awaits_name t _ w o = fault Refusal.BadMessage t (record { peer = t.dialer; peer_creation = 0; state = Gone }) o
+
+
+greet_dialing_as : (d : Option (TrunkId × TrunkSide)) (t : TrunkId) (s : TrunkSide) (w : ℕ) (x : Item) (o : Work) → side_where is_dialing s.peer (fm.entries o.node.sides) ≡ d
+    → says_status (status_due t.dialer o.node.mint.name t.count (record { waiting = None; connected = false; dialing = is_some d })) t s w x o ≡ greet_dialing d t s w x o
+greet_dialing_as None t s w x o h = refl
+greet_dialing_as (Some e) t s w x o h = go (is_gt (name_cmp t.dialer o.node.mint.name))
+  where
+    go : (b : Bool) → says_status (cond b Status.OkSimultaneous Status.Nok) t s w x o ≡ cond b (accepts t s w (ShakeMsg.Status Status.OkSimultaneous) x (give_up (Some e) o)) (Goes (Took x) (write t s.peer (ShakeMsg.Status Status.Nok) (set_state t s Gone o)))
+    go true = ap (λ d. accepts t s w (ShakeMsg.Status Status.OkSimultaneous) x (give_up d o)) h
+    go false = refl
+
+greet_up_as : (u : Option (TrunkId × TrunkSide)) (t : TrunkId) (s : TrunkSide) (w : ℕ) (x : Item) (o : Work)
+    → says_status (status_due t.dialer o.node.mint.name t.count (record { waiting = None; connected = is_some u; dialing = is_some (side_where is_dialing s.peer (fm.entries o.node.sides)) })) t s w x o ≡ greet_up u t s w x o
+greet_up_as None t s w x o = greet_dialing_as (side_where is_dialing s.peer (fm.entries o.node.sides)) t s w x o refl
+greet_up_as (Some e) t s w x o = refl
+
+greet_as : (t : TrunkId) (s : TrunkSide) (w : ℕ) (x : Item) (o : Work) → admit t s w x o ≡ greet t s w x o
+greet_as t s w x o = greet_up_as (side_where (λ v. is_up v || is_losing v) s.peer (fm.entries o.node.sides)) t s w x o
+
+later_as : (d : Option (TrunkId × TrunkSide)) (t : TrunkId) (s : TrunkSide) (w : ℕ) (x : Item) (o : Work) → admit_later d t s w x o ≡ greet_waiting d t s w x o
+later_as None t s w x o = greet_as t s w x o
+later_as (Some e) t s w x o = go (nat_lt e.0.count t.count)
+  where
+    go : (b : Bool) → cond (not b) (Goes (Broke Refusal.Superseded) (write t s.peer (ShakeMsg.Status Status.Nok) (set_state t s Gone o))) (admit t s w x (give_up (Some e) o))
+        ≡ cond b (greet t s w x (give_up (Some e) o)) (Goes (Broke Refusal.Superseded) (write t s.peer (ShakeMsg.Status Status.Nok) (set_state t s Gone o)))
+    go true = greet_as t s w x (give_up (Some e) o)
+    go false = refl
+
+pub name_as : (t : TrunkId) (m : ShakeMsg) (w : ℕ) (o : Work) → hears_name t m w o ≡ awaits_name t m w o
+name_as t (ShakeMsg.SendName f c n) w o = go (is_same n t.dialer) (has_all_of f mandatory)
+  where
+    go : (a b : Bool) → after_name ((on_name (cond a (cond b None (Some Refusal.FlagsMissing)) (Some Refusal.Forged)) c w).next.outcome) t (record { peer = t.dialer; peer_creation = c; state = Gone }) w (Handshake (ShakeMsg.SendName f c n)) o
+        ≡ cond a (cond b (greet_waiting (side_where is_waiting t.dialer (fm.entries o.node.sides)) t (record { peer = t.dialer; peer_creation = c; state = Gone }) w (Handshake (ShakeMsg.SendName f c n)) o) (fault Refusal.FlagsMissing t (record { peer = t.dialer; peer_creation = c; state = Gone }) o)) (fault Refusal.Forged t (record { peer = t.dialer; peer_creation = c; state = Gone }) o)
+    go true true = later_as (side_where is_waiting t.dialer (fm.entries o.node.sides)) t (record { peer = t.dialer; peer_creation = c; state = Gone }) w (Handshake (ShakeMsg.SendName f c n)) o
+    go true false = refl
+    go false b = refl
+name_as t (ShakeMsg.Status u) w o = refl
+name_as t (ShakeMsg.Challenge f v c n) w o = refl
+name_as t (ShakeMsg.ChallengeReply v d) w o = refl
+name_as t (ShakeMsg.ChallengeAck d) w o = refl

@@ -13,7 +13,7 @@ use Rattle.dist_model.proofs.Keys.{and_both, place_total, same_name_refl, same_p
 use Rattle.dist_model.proofs.NewSides.{good_dial}
 use Rattle.dist_model.proofs.Primitives.{good_popped}
 use Rattle.dist_model.proofs.Routes.{node_of_name, none_some, some_same}
-use Rattle.dist_model.proofs.Rules.{awaits_ack, awaits_challenge, awaits_true, handshake_as, handshake_by}
+use Rattle.dist_model.proofs.Rules.{awaits_ack, awaits_challenge, awaits_true, handshake_as, handshake_by, name_as}
 use Rattle.dist_model.proofs.Sides.{side_at}
 use Rattle.dist_model.proofs.Signals.{good_local}
 use Rattle.dist_model.proofs.Table.{Good, good_call}
@@ -140,7 +140,7 @@ module _ (w : World) (x : Name) (n : Node) (hx : node_of w.nodes x ≡ Some n) (
 
   fresh_item : (o : Option ShakeMsg) (k : ℕ) → Well (arrive_fresh o t k (at_work n))
   fresh_item None z = bad
-  fresh_item (Some (ShakeMsg.SendName c b a)) k = fresh_hello w x n hx g t b far key none a c k
+  fresh_item (Some (ShakeMsg.SendName c b a)) k = subst Well (sym (name_as t (ShakeMsg.SendName c b a) k (at_work n))) (fresh_hello w x n hx g t b far key none a c k)
   fresh_item (Some (ShakeMsg.Status Status.Ok)) z = bad
   fresh_item (Some (ShakeMsg.Status Status.OkSimultaneous)) z = bad
   fresh_item (Some (ShakeMsg.Status Status.Nok)) z = bad

@@ -2,7 +2,7 @@
 -- (ERTS User's Guide, Distribution Protocol.)
 use Rattle.std.specs.Prelude.{Option, None, Some, is_some, ℕ, ◌+◌, ◌^◌, Bool, true, false, cond, not, List, [], ◌∷◌, ◌==◌, nat_lt, nat_le, ◌&&◌, ◌||◌}
 use Rattle.std.specs.FinMap as fm
-use Rattle.dist_model.specs.Admission.{awaits_name}
+use Rattle.dist_model.specs.Admission.{hears_name}
 use Rattle.dist_model.specs.Commands.{Goes, Outcome, Refuses, Took}
 use Rattle.dist_model.specs.Handshake.{fault, handshake_at}
 use Rattle.dist_model.specs.Items.{Handshake, Item, Signalled, Tick, receiver_of, sender_of}
@@ -58,7 +58,7 @@ arrive_at (Some m) t s x o = handshake_at s.state t s m o
 
 abbrev pub arrive_fresh : Option ShakeMsg → TrunkId → ℕ → Work → Outcome
 arrive_fresh None t w o = fault Refusal.BadMessage t (record { peer = t.dialer; peer_creation = 0; state = Gone }) o
-arrive_fresh (Some m) t w o = awaits_name t m w o
+arrive_fresh (Some m) t w o = hears_name t m w o
 
 -- the first item of a trunk comes; None: the side is Fresh
 abbrev pub arrive : Node → TrunkId → Option TrunkSide → Item → ℕ → Outcome
