@@ -28,3 +28,4 @@ pub mod Run
 pub mod Reacting
 pub mod Silence
 pub mod Fitting
+pub mod Happening
