@@ -231,3 +231,9 @@ good_runs w (e ∷ es) (r ∷ rs) v g h = good_runs h.0 es rs v (comes w e r h.0
 
 pub always : (Holds : World → Type 0) → ((cs : List (Name × List ℕ)) → Good (opening cs)) → ((w : World) → Good w → Holds w) → Always Holds
 always Holds opens f cs es rs w h = f w (good_runs (opening cs) es rs w (opens cs) h)
+
+pub events_run : (es : List Event) (w : World) → (rs : List Report) × Runs w es rs (run es w)
+events_run [] w = ([], refl)
+events_run (e ∷ es) w =
+    let r = events_run es ((step w e).world) in
+    ((step w e).report ∷ r.0, ((step w e).world, inl (refl, refl), r.1))

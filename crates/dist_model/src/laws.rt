@@ -2,14 +2,18 @@
 //!
 //! Every law is of every world to which any list of events leads, from any opening world, with or
 //! without memory; and so of each moment of every run.
-ghost use Rattle.std.specs.Prelude.{◌≡◌, ◌↔◌, true};
+ghost use Rattle.std.specs.Prelude.{◌≡◌, ◌↔◌, ℕ, List, true};
 ghost use Rattle.erl_term.specs.declared.term.Pid.{Pid};
 ghost use Rattle.erl_term.specs.Data.{Data};
 ghost use Rattle.erl_control.specs.Control.{Fits};
 ghost use Rattle.dist_model.specs.Fits.{fits};
-ghost use Rattle.dist_model.specs.World.{World};
+ghost use Rattle.link_core.specs.declared.end.End.{End};
+ghost use Rattle.dist_model.specs.World.{World, Event, Report};
 ghost use Rattle.dist_model.specs.Quiet.{Quiet, is_quiet};
-ghost use Rattle.dist_model.specs.Runs.{Always};
+ghost use Rattle.dist_model.specs.Runs.{Runs, run, Always};
+ghost use Rattle.dist_model.specs.Sides.{is_up};
+ghost use Rattle.dist_model.specs.Seen.{end_between, AreConnected};
+ghost use Rattle.dist_model.specs.Schedules as schedule;
 ghost use Rattle.dist_model.specs.Claims.{Agreement, AgreementWithin, AgreementInQuiet, PendingOnItsWay, PendingWithin, NoLinkToTheDead, NoLinkToItself, OneTrunk, NoUpBesideLosing, ReactsOnlyWhereLinked};
 
 /// Of two living processes both hold their link active, or neither does, once all that travels
@@ -56,4 +60,35 @@ pub fn quiet_test()
 /// The terms that the world lets a signal carry are those that erl_control's signals carry.
 pub fn fits_test()
     ensures test { (term : Data) → (fits term ≡ true) ↔ Fits term }
+{}
+
+/// Events lead somewhere, whatever they are: where memory never wants, to the world of their steps.
+pub fn events_run()
+    ensures runs { (events : List Event) (world : World) → (reports : List Report) × Runs world events reports (run events world) }
+{}
+
+/// Two nodes of one cookie connect, and a process of each comes to hold a link to the other active.
+pub fn link_comes_about()
+    ensures here { (cookie : List ℕ) (own other : ℕ) → let w = run (schedule.linked_over_a_trunk own other) (schedule.two_nodes cookie) in
+        end_between w schedule.here schedule.there ≡ End.Active }
+    ensures there { (cookie : List ℕ) (own other : ℕ) → let w = run (schedule.linked_over_a_trunk own other) (schedule.two_nodes cookie) in
+        end_between w schedule.there schedule.here ≡ End.Active }
+{}
+
+/// One of them takes the link back, and neither holds it.
+pub fn link_is_taken_back()
+    ensures here { (cookie : List ℕ) (own other : ℕ) → let w = run (schedule.unlinked_over_a_trunk own other) (schedule.two_nodes cookie) in
+        end_between w schedule.here schedule.there ≡ End.None }
+    ensures there { (cookie : List ℕ) (own other : ℕ) → let w = run (schedule.unlinked_over_a_trunk own other) (schedule.two_nodes cookie) in
+        end_between w schedule.there schedule.here ≡ End.None }
+{}
+
+/// Their connection is lost and swept, and with it the link; and another connection comes up.
+pub fn connection_comes_again()
+    ensures connected { (cookie : List ℕ) (own other : ℕ) → let w = run (schedule.connected_again own other) (schedule.two_nodes cookie) in
+        AreConnected w schedule.first (schedule.trunk 2) schedule.second }
+    ensures here { (cookie : List ℕ) (own other : ℕ) → let w = run (schedule.connected_again own other) (schedule.two_nodes cookie) in
+        end_between w schedule.here schedule.there ≡ End.None }
+    ensures there { (cookie : List ℕ) (own other : ℕ) → let w = run (schedule.connected_again own other) (schedule.two_nodes cookie) in
+        end_between w schedule.there schedule.here ≡ End.None }
 {}

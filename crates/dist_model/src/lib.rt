@@ -8,4 +8,7 @@
 
 mod laws;
 
-pub use laws::{agreement, fits_test, no_link_to_the_dead, one_trunk, pending, quiet_test, reactions};
+pub use laws::{
+    agreement, connection_comes_again, events_run, fits_test, link_comes_about, link_is_taken_back,
+    no_link_to_the_dead, one_trunk, pending, quiet_test, reactions,
+};
