@@ -29,3 +29,4 @@ pub mod Reacting
 pub mod Silence
 pub mod Fitting
 pub mod Happening
+pub mod Downing

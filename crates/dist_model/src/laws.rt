@@ -2,8 +2,11 @@
 //!
 //! Every law is of every world to which any list of events leads, from any opening world, with or
 //! without memory; and so of each moment of every run.
-ghost use Rattle.std.specs.Prelude.{◌≡◌, ◌↔◌, ℕ, List, true};
+ghost use Rattle.std.specs.Prelude.{◌≡◌, ◌↔◌, ℕ, List, [], ◌∷◌, true};
 ghost use Rattle.erl_term.specs.declared.term.Pid.{Pid};
+ghost use Rattle.erl_term.specs.declared.term.Reference.{Reference};
+ghost use Rattle.exit_core.specs.Messages.{down_term};
+ghost use Rattle.dist_model.specs.Downs.{down_in};
 ghost use Rattle.erl_term.specs.Data.{Data};
 ghost use Rattle.erl_control.specs.Control.{Fits};
 ghost use Rattle.dist_model.specs.Fits.{fits};
@@ -91,4 +94,11 @@ pub fn connection_comes_again()
         end_between w schedule.here schedule.there ≡ End.None }
     ensures there { (cookie : List ℕ) (own other : ℕ) → let w = run (schedule.connected_again own other) (schedule.two_nodes cookie) in
         end_between w schedule.there schedule.here ≡ End.None }
+{}
+
+/// The DOWN of a reference is told apart: its owner, its target and its reason. (Reference Manual,
+/// Processes, Monitors.)
+pub fn downs_are_told()
+    ensures told { (r : Reference) (owner target : Pid) (info : Data) →
+        down_in r owner (down_term r target info) ≡ (record { owner = owner; target = target; info = info }) ∷ [] }
 {}
