@@ -1,5 +1,5 @@
 -- What comes on a side that is known.
-use Rattle.std.proofs.Common.{◌≡◌, ℕ, Bool, true, false, cond, List, [], ◌∷◌, refl, sym, ap, ◌∙◌, subst, ◌||◌, Some, ◌⊎◌, inl, inr, ◌==◌}
+use Rattle.std.proofs.Common.{◌≡◌, ℕ, Bool, true, false, cond, List, [], ◌∷◌, refl, sym, ap, ◌∙◌, subst, ◌||◌, Some, ◌⊎◌, inl, inr}
 use Rattle.std.specs.FinMap as fm
 use Rattle.dist_model.proofs.Calls.{IfGoes, by_test}
 use Rattle.dist_model.proofs.Handshake.{as_state, good_acceptor_up, good_awaits_ack, good_awaits_challenge, good_dialer_up, good_lost, in_state}

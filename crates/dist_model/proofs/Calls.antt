@@ -1,7 +1,7 @@
 -- What a call or a signal does to each pair of processes.
 use Rattle.std.proofs.Common.{◌<◌}
 use Rattle.erl_names.specs.Draw as kind
-use Rattle.std.proofs.Common.{◌==◌, nat_lt, ◌^◌, ◌≡◌, ℕ, ◌+◌, Bool, true, false, cond, not, List, [], ◌∷◌, refl, sym, ap, ◌∙◌, subst, arith, ◌&&◌, ◌||◌, Option, Some, None}
+use Rattle.std.proofs.Common.{◌==◌, nat_lt, ◌≡◌, ℕ, ◌+◌, Bool, true, false, cond, not, List, [], ◌∷◌, refl, sym, ap, ◌∙◌, subst, arith, ◌&&◌, ◌||◌, Option, Some, None}
 use Rattle.std.specs.FinMap as fm
 use Rattle.dist_model.proofs.Kept.{Kept}
 use Rattle.dist_model.proofs.Keys.{pid_total, same_name_refl, same_name_true, same_pid_is, same_pid_refl, same_pid_true}

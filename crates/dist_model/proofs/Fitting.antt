@@ -1,12 +1,12 @@
 -- Which terms fit: the test and the relation.
 use Rattle.erl_term.specs.Data.{Data, int, atom, tuple, list, improper, binary, pid, reference, Items, no_items, item, count}
-use Rattle.std.proofs.Common.{◌≡◌, ℕ, zero, suc, ◌<◌, ◌≤◌, ◌^◌, Bool, true, false, not, ◌&&◌, nat_lt, nat_le, List, [], ◌∷◌, length, refl, sym, ap, ◌∙◌, arith, ◌↔◌, get_or}
+use Rattle.std.proofs.Common.{◌≡◌, ℕ, zero, suc, ◌<◌, ◌≤◌, ◌^◌, Bool, true, false, not, ◌&&◌, nat_lt, nat_le, List, [], ◌∷◌, length, refl, ap, arith, ◌↔◌, get_or}
 use Rattle.std.specs.Prelude.{ℤ, pos, negsuc, FitsSigned, All}
 use Rattle.std.specs.Int.{w128}
 use Rattle.std.proofs.lemmas.List.{get_or_past}
 use Rattle.std.proofs.lemmas.List.Elements.{All-nil, All-cons, All-head, All-tail}
 use Rattle.erl_term.specs.Numbers.{AreBytes}
-use Rattle.erl_term.specs.Text.{IsAtomText, is_atom_text}
+use Rattle.erl_term.specs.Text.{is_atom_text}
 use Rattle.erl_term.specs.Canonical.{IsPidInRange, IsReferenceInRange, IsInRange, AreInRange, canonical, levels_of, is_list}
 use Rattle.erl_term.proofs.TextReader.{IsAtomText-from, is_atom_text-from}
 use Rattle.erl_control.specs.Control.{Fits}
@@ -128,9 +128,9 @@ pub fits_test : (t : Data) → (fits t ≡ true) ↔ Fits t
 unfolding fits
 fits_test t = (
   λ h.
-    let v = both (is_in_range t) (nat_le (levels_of t) 60 && nat_le (length (canonical t)) 60000) h in
-    let u = both (nat_le (levels_of t) 60) (nat_le (length (canonical t)) 60000) v.1 in
-    (from t v.0, at_most (levels_of t) 60 u.0, at_most (length (canonical t)) 60000 u.1),
+      let v = both (is_in_range t) (nat_le (levels_of t) 60 && nat_le (length (canonical t)) 60000) h in
+      let u = both (nat_le (levels_of t) 60) (nat_le (length (canonical t)) 60000) v.1 in
+      (from t v.0, at_most (levels_of t) 60 u.0, at_most (length (canonical t)) 60000 u.1),
   λ h. and (is_in_range t) (nat_le (levels_of t) 60 && nat_le (length (canonical t)) 60000) (is t h.0)
-    (and (nat_le (levels_of t) 60) (nat_le (length (canonical t)) 60000) (is_at_most (levels_of t) 60 h.1) (is_at_most (length (canonical t)) 60000 h.2)),
+      (and (nat_le (levels_of t) 60) (nat_le (length (canonical t)) 60000) (is_at_most (levels_of t) 60 h.1) (is_at_most (length (canonical t)) 60000 h.2)),
 )

@@ -1,7 +1,7 @@
 -- What each event keeps.
 use Rattle.std.proofs.lemmas.List.Elements.{Contains-push, Contains-append_left, Contains-append_right}
 use Rattle.std.specs.Option.{option_or}
-use Rattle.std.proofs.Common.{Contains, Option, None, Some, ◌≡◌, ◌≢◌, ℕ, zero, suc, ◌+◌, ◌<◌, ◌≤◌, Bool, true, false, cond, not, List, [], ◌∷◌, ◌++◌, refl, sym, ap, ◌∙◌, subst, arith, ◌&&◌, ◌⊎◌, ◌↔◌, inl, inr, ◌==◌, nat_lt, append-nil}
+use Rattle.std.proofs.Common.{Contains, Option, None, Some, ◌≡◌, ◌≢◌, ℕ, zero, suc, ◌+◌, ◌<◌, ◌≤◌, Bool, true, false, cond, List, [], ◌∷◌, ◌++◌, refl, sym, ap, ◌∙◌, subst, arith, ◌⊎◌, ◌↔◌, inl, inr, ◌==◌, append-nil}
 use Rattle.dist_model.proofs.Lists.{acks-push, active_wins_any, by_a_link_any, drained-push, drained_by_word, has_exit-push, has_link-push, last_word-push, none_of_or, or_left, or_none, or_right, outcome, stays_pending, unlinks-push}
 use Rattle.dist_model.proofs.Pair.{Linked, Side, Silent, Unlinked, Word, acks, drew, finished, has_exit, has_link, is_exit, last_word, later, linked_side, said, settled, takes, unlink_end, unlink_of, unlinks}
 use Rattle.dist_model.proofs.Views.{more}

@@ -1,5 +1,5 @@
 -- Two processes and their link, as each side of it is seen: words for the invariant of a pair.
-use Rattle.std.specs.Prelude.{◌≡◌, ℕ, ◌+◌, Bool, true, false, cond, not, List, [], ◌∷◌, ◌++◌, ◌==◌, nat_lt, ◌&&◌, ◌||◌, ◌↔◌, ◌⊎◌}
+use Rattle.std.specs.Prelude.{ℕ, ◌+◌, Bool, true, false, cond, List, [], ◌∷◌, ◌++◌, ◌==◌, ◌||◌}
 use Rattle.dist_model.specs.Links.{Exits, LinkWord, Says, drained, heard, reply}
 use Rattle.erl_term.specs.Data.{Data}
 use Rattle.link_core.specs.declared.end.End.{End}

@@ -2,9 +2,8 @@
 use Rattle.std.proofs.lemmas.List.Elements.{Contains-append_cases, Contains-push_cases}
 use Rattle.std.proofs.Common.{Contains, arith}
 use Rattle.erl_names.specs.Draw as kind
-use Rattle.dist_model.specs.World
 use Rattle.std.specs.Ordering.{is_gt}
-use Rattle.std.proofs.Common.{◌==◌, nat_lt, ◌+◌, ◌≡◌, ℕ, Bool, true, false, cond, not, List, [], ◌∷◌, ◌++◌, refl, sym, ap, ◌∙◌, subst, ◌||◌, ◌&&◌, Option, Some, None, ◌⊎◌, inl, inr}
+use Rattle.std.proofs.Common.{nat_lt, ◌+◌, ◌≡◌, ℕ, Bool, true, false, cond, not, List, [], ◌∷◌, ◌++◌, refl, sym, ap, ◌∙◌, subst, ◌||◌, ◌&&◌, Option, Some, None, ◌⊎◌, inl, inr}
 use Rattle.std.specs.Prelude.{◌^◌}
 use Rattle.std.specs.Option.{is_some}
 use Rattle.std.specs.FinMap as fm

@@ -1,6 +1,5 @@
 -- The rules of the handshake once more, written out for each state and message: the form that the proofs go by.
 use Rattle.std.specs.FinMap as fm
-use Rattle.erl_handshake.specs.declared.turn.Outcome.{Outcome as Verdict}
 use Rattle.erl_handshake.specs.declared.turn.Outcome.TheVariants as verdict
 use Rattle.std.proofs.Common.{◌≡◌, ℕ, Bool, true, false, cond, not, refl, ap, nat_lt, ◌||◌, Option, Some, None}
 use Rattle.std.specs.Option.{is_some}
@@ -59,7 +58,6 @@ awaits_reply t s w (ShakeMsg.ChallengeReply word digest) o =
     cond (is_answered o.node.cookie w digest) (Goes (Took (Handshake (ShakeMsg.ChallengeReply word digest))) (write t s.peer (ShakeMsg.ChallengeAck (digest_of o.node.cookie word)) (set_state t s Up o))) (fault Refusal.BadDigest t s o)
 awaits_reply t s w _ o = fault Refusal.BadMessage t s o
 
-
 abbrev pub handshake_by : State → TrunkId → TrunkSide → ShakeMsg → Work → Outcome
 handshake_by (AwaitsStatus v) t s m o = awaits_status t s v m o
 handshake_by (AwaitsChallenge v) t s m o = awaits_challenge t s v m o
@@ -87,9 +85,9 @@ status_as t s v (ShakeMsg.ChallengeAck d) o = refl
 challenge_as : (t : TrunkId) (s : TrunkSide) (v : ℕ) (m : ShakeMsg) (o : Work) → handshake_at (AwaitsChallenge v) t s m o ≡ awaits_challenge t s v m o
 challenge_as t s v (ShakeMsg.Challenge f w c n) o =
     elim (is_same n s.peer) as (λ a. handshake_on t s (ShakeMsg.Challenge f w c n) (dialer_side s ((on_challenge (cond a (cond (has_all_of f mandatory) None (Some Refusal.FlagsMissing)) (Some Refusal.Forged)) (identity o.node) v w c).state)) ((on_challenge (cond a (cond (has_all_of f mandatory) None (Some Refusal.FlagsMissing)) (Some Refusal.Forged)) (identity o.node) v w c).next) o
-        ≡ cond a (cond (has_all_of f mandatory) (Goes (Took (Handshake (ShakeMsg.Challenge f w c n))) (write t s.peer (ShakeMsg.ChallengeReply v (digest_of o.node.cookie w)) (set_state t (record { peer = s.peer; peer_creation = c; state = s.state }) (AwaitsAck v) o))) (fault Refusal.FlagsMissing t s o)) (fault Refusal.Forged t s o)) [
+    ≡ cond a (cond (has_all_of f mandatory) (Goes (Took (Handshake (ShakeMsg.Challenge f w c n))) (write t s.peer (ShakeMsg.ChallengeReply v (digest_of o.node.cookie w)) (set_state t (record { peer = s.peer; peer_creation = c; state = s.state }) (AwaitsAck v) o))) (fault Refusal.FlagsMissing t s o)) (fault Refusal.Forged t s o)) [
       | true ↦ elim (has_all_of f mandatory) as (λ b. handshake_on t s (ShakeMsg.Challenge f w c n) (dialer_side s ((on_challenge (cond b None (Some Refusal.FlagsMissing)) (identity o.node) v w c).state)) ((on_challenge (cond b None (Some Refusal.FlagsMissing)) (identity o.node) v w c).next) o
-        ≡ cond b (Goes (Took (Handshake (ShakeMsg.Challenge f w c n))) (write t s.peer (ShakeMsg.ChallengeReply v (digest_of o.node.cookie w)) (set_state t (record { peer = s.peer; peer_creation = c; state = s.state }) (AwaitsAck v) o))) (fault Refusal.FlagsMissing t s o)) [ true ↦ refl | false ↦ refl ]
+          ≡ cond b (Goes (Took (Handshake (ShakeMsg.Challenge f w c n))) (write t s.peer (ShakeMsg.ChallengeReply v (digest_of o.node.cookie w)) (set_state t (record { peer = s.peer; peer_creation = c; state = s.state }) (AwaitsAck v) o))) (fault Refusal.FlagsMissing t s o)) [ true ↦ refl | false ↦ refl ]
       | false ↦ refl
     ]
 challenge_as t s v (ShakeMsg.Status u) o = refl
@@ -100,7 +98,7 @@ challenge_as t s v (ShakeMsg.ChallengeAck d) o = refl
 ack_as : (t : TrunkId) (s : TrunkSide) (v : ℕ) (m : ShakeMsg) (o : Work) → handshake_at (AwaitsAck v) t s m o ≡ awaits_ack t s v m o
 ack_as t s v (ShakeMsg.ChallengeAck d) o =
     elim (is_answered o.node.cookie v d) as (λ a. handshake_on t s (ShakeMsg.ChallengeAck d) (dialer_side s ((cond a (record { state = DialerState.Done s.peer_creation; next = record { send = None; outcome = verdict.Done } }) (dialer_ends Refusal.BadDigest)).state)) ((cond a (record { state = DialerState.Done s.peer_creation; next = record { send = None; outcome = verdict.Done } }) (dialer_ends Refusal.BadDigest)).next) o
-        ≡ cond a (Goes (Took (Handshake (ShakeMsg.ChallengeAck d))) (set_state t s Up o)) (fault Refusal.BadDigest t s o)) [ true ↦ refl | false ↦ refl ]
+    ≡ cond a (Goes (Took (Handshake (ShakeMsg.ChallengeAck d))) (set_state t s Up o)) (fault Refusal.BadDigest t s o)) [ true ↦ refl | false ↦ refl ]
 ack_as t s v (ShakeMsg.Status u) o = refl
 ack_as t s v (ShakeMsg.SendName f c n) o = refl
 ack_as t s v (ShakeMsg.Challenge f w c n) o = refl
@@ -122,7 +120,7 @@ true_as t s v (ShakeMsg.ChallengeAck d) o = refl
 reply_as : (t : TrunkId) (s : TrunkSide) (v : ℕ) (m : ShakeMsg) (o : Work) → handshake_at (Accepting v) t s m o ≡ awaits_reply t s v m o
 reply_as t s v (ShakeMsg.ChallengeReply w d) o =
     elim (is_answered o.node.cookie v d) as (λ a. handshake_on t s (ShakeMsg.ChallengeReply w d) (acceptor_side s ((cond a (record { state = AcceptorState.Done s.peer_creation; next = record { send = Some (ShakeMsg.ChallengeAck (digest_of o.node.cookie w)); outcome = verdict.Done } }) (acceptor_ends Refusal.BadDigest)).state)) ((cond a (record { state = AcceptorState.Done s.peer_creation; next = record { send = Some (ShakeMsg.ChallengeAck (digest_of o.node.cookie w)); outcome = verdict.Done } }) (acceptor_ends Refusal.BadDigest)).next) o
-        ≡ cond a (Goes (Took (Handshake (ShakeMsg.ChallengeReply w d))) (write t s.peer (ShakeMsg.ChallengeAck (digest_of o.node.cookie w)) (set_state t s Up o))) (fault Refusal.BadDigest t s o)) [ true ↦ refl | false ↦ refl ]
+    ≡ cond a (Goes (Took (Handshake (ShakeMsg.ChallengeReply w d))) (write t s.peer (ShakeMsg.ChallengeAck (digest_of o.node.cookie w)) (set_state t s Up o))) (fault Refusal.BadDigest t s o)) [ true ↦ refl | false ↦ refl ]
 reply_as t s v (ShakeMsg.Status u) o = refl
 reply_as t s v (ShakeMsg.SendName f c n) o = refl
 reply_as t s v (ShakeMsg.Challenge f w c n) o = refl
@@ -169,7 +167,6 @@ awaits_name t (ShakeMsg.SendName flags creation name) w o =
     (cond (has_all_of flags mandatory) (greet_waiting (side_where is_waiting t.dialer (fm.entries o.node.sides)) t s w (Handshake (ShakeMsg.SendName flags creation name)) o) (fault Refusal.FlagsMissing t s o))
     (fault Refusal.Forged t s o)
 awaits_name t _ w o = fault Refusal.BadMessage t (record { peer = t.dialer; peer_creation = 0; state = Gone }) o
-
 
 greet_dialing_as : (d : Option (TrunkId × TrunkSide)) (t : TrunkId) (s : TrunkSide) (w : ℕ) (x : Item) (o : Work) → side_where is_dialing s.peer (fm.entries o.node.sides) ≡ d
     → says_status (status_due t.dialer o.node.mint.name t.count (record { waiting = None; connected = false; dialing = is_some d })) t s w x o ≡ greet_dialing d t s w x o

@@ -2,7 +2,7 @@
 use Rattle.std.proofs.Common.{inr}
 use Rattle.std.proofs.Common.{subst}
 use Rattle.std.proofs.Common.{inl}
-use Rattle.std.proofs.Common.{◌≡◌, ℕ, ◌+◌, Bool, true, false, cond, not, List, [], ◌∷◌, refl, sym, ap, ◌∙◌, ◌&&◌, Option, Some, None, nat_lt, ◌==◌, ◌^◌}
+use Rattle.std.proofs.Common.{◌≡◌, ℕ, ◌+◌, Bool, true, false, cond, not, List, [], ◌∷◌, refl, sym, ap, ◌∙◌, ◌&&◌, Option, Some, None, nat_lt, ◌^◌}
 use Rattle.std.specs.Option.{is_some}
 use Rattle.std.specs.FinMap as fm
 use Rattle.dist_model.proofs.Arrivals.{acceptance_comes, broken, challenge_comes, good_awaits_reply, good_awaits_status, good_lose, good_on_up, unless}

@@ -3,7 +3,6 @@ use Rattle.std.proofs.Common.{Contains}
 use Rattle.std.proofs.Common.{◌≡◌, ℕ, Bool, true, false, cond, not, List, [], ◌∷◌, refl, sym, ap, ◌∙◌, subst, ◌&&◌, ◌||◌, ◌++◌, Option, Some, None, ◌⊎◌, inl, inr, ◌↔◌}
 use Rattle.std.specs.Option.{is_some}
 use Rattle.std.specs.FinMap as fm
-use Rattle.dist_model.specs.Node
 use Rattle.dist_model.proofs.Calls.{by_test}
 use Rattle.dist_model.proofs.Kept.{Kept, pending_travels}
 use Rattle.dist_model.proofs.Keys.{and_both, same_name_is, same_name_true, same_pid_refl, same_pid_true}

@@ -9,7 +9,7 @@ use Rattle.dist_model.proofs.Pair.{Side}
 use Rattle.dist_model.proofs.Pairs.{WorldKept, changed}
 use Rattle.dist_model.proofs.Routes.{at_place, list_to_carried, list_to_insert, node_of_name, some_same}
 use Rattle.dist_model.proofs.Sides.{SidesKept, asks, at_place_none, beside, half, holds, joined, joined_not_gone, not_own, reach_up, route_from, side_at, up_half, up_holds, up_not_gone}
-use Rattle.dist_model.proofs.Views.{more, over, side_of, telling_word, view, words-append}
+use Rattle.dist_model.proofs.Views.{over, side_of, telling_word, view, words-append}
 use Rattle.dist_model.specs.Arrivals.{is_from, is_good, is_to}
 use Rattle.dist_model.specs.Calls.{call}
 use Rattle.dist_model.specs.Commands.{Command, Goes, Outcome, Refuses}

@@ -4,7 +4,6 @@ use Rattle.std.specs.Option.{is_some}
 use Rattle.std.specs.FinMap as fm
 use Rattle.std.specs.Ordering.{eq_by_cmp, is_eq, is_lt}
 use Rattle.dist_model.proofs.Reside
-use Rattle.dist_model.specs.Node
 use Rattle.std.specs.FinMap.Entries.{find, is_sorted, below_all}
 use Rattle.std.specs.declared.cmp.Ordering.{Ordering}
 use Rattle.std.specs.declared.cmp.Ordering.TheVariants.{Less, Equal, Greater}
@@ -16,7 +15,7 @@ use Rattle.dist_model.proofs.Moves.{Moves, NodeKept, held, link_exits, puts, rem
 use Rattle.dist_model.proofs.Reside.{Fits}
 use Rattle.dist_model.proofs.Routes.{node_of_name, some_same}
 use Rattle.dist_model.proofs.Sides.{Routed, SidesKept, asks, beside, holds, not_own, route_from, side_at, up_holds, up_not_gone}
-use Rattle.dist_model.proofs.Steps.{kind, not_beside}
+use Rattle.dist_model.proofs.Steps.{not_beside}
 use Rattle.dist_model.proofs.Table.{Good, Row, begun, begun_state, has, is_reply, role_state, up_once}
 use Rattle.dist_model.specs.Exits.{link_exit}
 use Rattle.dist_model.specs.Links.{noconnection}

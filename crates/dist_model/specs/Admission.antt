@@ -1,7 +1,7 @@
 -- A dialer's name comes to a new side: whether the attempt goes on, and which others it ends.
 -- (ERTS User's Guide, Distribution Protocol, Distribution Handshake, the status message. What each status tells the
 -- dialer is the standard's; which of several attempts goes on is own.)
-use Rattle.std.specs.Prelude.{Option, None, Some, is_some, ℕ, Bool, true, false, cond, if◌then◌else◌, List, [], ◌∷◌, ◌==◌, nat_lt, ◌&&◌, ◌||◌}
+use Rattle.std.specs.Prelude.{Option, None, Some, is_some, ℕ, if◌then◌else◌, ◌||◌}
 use Rattle.std.specs.FinMap as fm
 use Rattle.erl_handshake.specs.declared.turn.Outcome.{Outcome as Verdict}
 use Rattle.erl_handshake.specs.declared.turn.Outcome.TheVariants as verdict

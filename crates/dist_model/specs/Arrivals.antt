@@ -1,7 +1,6 @@
 -- What comes to a node: the first item of a trunk, or of its own list.
 -- (ERTS User's Guide, Distribution Protocol; Reference Manual, Processes, Delivery of Signals.)
-use Rattle.std.specs.Prelude.{Option, None, Some, is_some, ℕ, ◌+◌, ◌^◌, Bool, true, false, cond, not, if◌then◌else◌, List, [], ◌∷◌, ◌++◌, ◌==◌, nat_lt, nat_le, ◌&&◌, ◌||◌}
-use Rattle.std.specs.FinMap as fm
+use Rattle.std.specs.Prelude.{Option, None, Some, ℕ, Bool, true, not, if◌then◌else◌, List, [], ◌∷◌, nat_le, ◌&&◌}
 use Rattle.dist_model.specs.Admission.{hears_name}
 use Rattle.dist_model.specs.Commands.{Goes, Outcome, Refuses, Took}
 use Rattle.dist_model.specs.Handshake.{fault, handshake_at}

@@ -1,7 +1,6 @@
 -- Why a process reacts to a link's exit.
 -- (Reference Manual, Processes, Links and Receiving Exit Signals; Distributed Erlang.)
-use Rattle.std.specs.Prelude.{◌≡◌, ◌⊎◌, ◌↔◌, Option, None, Some, is_some, ℕ, ◌+◌, ◌^◌, Bool, true, false, cond, not, if◌then◌else◌, List, [], ◌∷◌, ◌++◌, ◌==◌, nat_lt, nat_le, ◌&&◌, ◌||◌, Contains, map}
-use Rattle.std.specs.FinMap as fm
+use Rattle.std.specs.Prelude.{◌≡◌, ◌⊎◌, false, List, [], ◌∷◌, Contains}
 use Rattle.dist_model.specs.Links.{noconnection, noproc}
 use Rattle.dist_model.specs.Names.{same_name}
 use Rattle.dist_model.specs.Seen.{is_living, is_reached}

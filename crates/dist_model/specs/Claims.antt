@@ -1,6 +1,5 @@
 -- What holds of every world that events lead to.
-use Rattle.std.specs.Prelude.{◌≡◌, ◌⊎◌, ◌↔◌, Option, None, Some, is_some, ℕ, ◌+◌, ◌^◌, Bool, true, false, cond, not, if◌then◌else◌, List, [], ◌∷◌, ◌++◌, ◌==◌, nat_lt, nat_le, ◌&&◌, ◌||◌, Contains, map}
-use Rattle.std.specs.FinMap as fm
+use Rattle.std.specs.Prelude.{◌≡◌, ◌⊎◌, ◌↔◌, Some, ℕ, true, false, Contains}
 use Rattle.dist_model.specs.Causes.{Reacts}
 use Rattle.dist_model.specs.Commands.{MakeLink}
 use Rattle.dist_model.specs.Items.{words}

@@ -1,6 +1,6 @@
 -- A node dials another.
 -- (ERTS User's Guide, Distribution Protocol, Distribution Handshake. That only a call dials is own.)
-use Rattle.std.specs.Prelude.{Option, None, Some, is_some, ℕ, ◌+◌, ◌^◌, Bool, true, false, cond, not, if◌then◌else◌, List, [], ◌∷◌, ◌++◌, ◌==◌, nat_lt, nat_le, ◌&&◌, ◌||◌}
+use Rattle.std.specs.Prelude.{is_some, ℕ, ◌+◌, ◌^◌, Bool, false, not, if◌then◌else◌, List, [], ◌∷◌, nat_lt, ◌||◌}
 use Rattle.std.specs.FinMap as fm
 use Rattle.dist_model.specs.Commands.{Dialed, Goes, Outcome, Refuses}
 use Rattle.dist_model.specs.Handshake.{identity, with_side, write}
@@ -30,5 +30,5 @@ dial names node peer word =
     (if is_some (side_where (λ state. not (is_gone state)) peer (fm.entries node.sides)) then Refuses Refusal.Busy else
     (if not (nat_lt (node.dialed + 1) (2 ^ 64)) then Refuses Refusal.IdsUsedUp else
     Goes (Dialed (next_trunk node))
-        (write (next_trunk node) peer (send_name (identity node))
-        (with_side (next_trunk node) (record { peer = peer; peer_creation = 0; state = AwaitsStatus word }) (at_work (draw_trunk node)))))))
+    (write (next_trunk node) peer (send_name (identity node))
+    (with_side (next_trunk node) (record { peer = peer; peer_creation = 0; state = AwaitsStatus word }) (at_work (draw_trunk node)))))))

@@ -1,15 +1,15 @@
 -- The DOWN messages of a monitor, as the reports of a run tell them.
 -- (Reference Manual, Processes, Monitors.)
-use Rattle.std.specs.Prelude.{ℕ, Bool, true, false, if◌then◌else◌, List, [], ◌∷◌, ◌++◌, ◌&&◌, codes, nat_eq}
+use Rattle.std.specs.Prelude.{Bool, true, false, if◌then◌else◌, List, [], ◌∷◌, ◌++◌, ◌&&◌, codes, nat_eq}
 use Rattle.std.specs.Cmp.Lexicographic.{pointwise}
 use Rattle.std.specs.Ordering.{eq_by_cmp}
-use Rattle.erl_term.specs.Data.{Data, atom, tuple, pid, reference, Items, no_items, item}
+use Rattle.erl_term.specs.Data.{Data, atom, tuple, pid, reference, no_items, item}
 use Rattle.erl_term.specs.declared.term.Pid.{Pid}
 use Rattle.erl_term.specs.declared.term.Reference.{Reference}
 use Rattle.erl_control.specs.declared.signal.Signal.{Signal}
 use Rattle.monitor_core.specs.Order.{reference_cmp}
-use Rattle.dist_model.specs.Items.{Item, Signalled}
-use Rattle.dist_model.specs.Work.{Effect, Put, EndedBy, LinkExit, Sent}
+use Rattle.dist_model.specs.Items.{Signalled}
+use Rattle.dist_model.specs.Work.{Effect, Put}
 use Rattle.dist_model.specs.Commands.{Answer, Took}
 use Rattle.dist_model.specs.World.{Report, Refused, Reported}
 

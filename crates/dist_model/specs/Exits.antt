@@ -1,6 +1,6 @@
 -- What exits do: a process ends, and an exit signal comes to one.
 -- (Reference Manual, Processes, Receiving Exit Signals; Links; Monitors.)
-use Rattle.std.specs.Prelude.{Option, None, Some, is_some, ℕ, ◌+◌, ◌^◌, Bool, true, false, cond, not, if◌then◌else◌, List, [], ◌∷◌, ◌++◌, ◌==◌, nat_lt, nat_le, ◌&&◌, ◌||◌}
+use Rattle.std.specs.Prelude.{Option, None, Some, Bool, true, false, not, if◌then◌else◌, List, [], ◌∷◌, ◌++◌}
 use Rattle.std.specs.FinMap as fm
 use Rattle.dist_model.specs.Monitoring.{monitor}
 use Rattle.dist_model.specs.Names.{same_pid}

@@ -1,7 +1,7 @@
 -- Which terms a signal can carry, as its message or its reason: erl_control's `Fits`, as a test.
 -- (own: at most 60 levels, and 60,000 bytes of the canonical spelling.)
 use Rattle.erl_term.specs.Data.{Data, int, atom, tuple, list, improper, binary, pid, reference, Items, no_items, item, count}
-use Rattle.std.specs.Prelude.{ℕ, ℤ, pos, negsuc, ◌^◌, Bool, true, false, not, ◌&&◌, nat_lt, nat_le, List, [], ◌∷◌, length}
+use Rattle.std.specs.Prelude.{ℕ, ℤ, pos, negsuc, ◌^◌, Bool, true, not, ◌&&◌, nat_lt, nat_le, List, [], ◌∷◌, length}
 use Rattle.erl_term.specs.Text.{is_atom_text}
 use Rattle.erl_term.specs.Canonical.{canonical, levels_of, is_list}
 use Rattle.erl_term.specs.declared.term.Pid.{Pid}

@@ -3,7 +3,7 @@
 -- the dialer are the standard's; which of several sides ends or waits, and when, is own.)
 use Rattle.erl_handshake.specs.declared.turn.Outcome.{Outcome as Verdict}
 use Rattle.erl_handshake.specs.declared.turn.Outcome.TheVariants as verdict
-use Rattle.std.specs.Prelude.{Option, None, Some, is_some, ℕ, Bool, true, false, cond, if◌then◌else◌, List, [], ◌∷◌, ◌==◌, nat_lt, ◌&&◌, ◌||◌}
+use Rattle.std.specs.Prelude.{Option, None, Some, ℕ}
 use Rattle.std.specs.FinMap as fm
 use Rattle.dist_model.specs.Commands.{Broke, Goes, Outcome, Refuses, Took}
 use Rattle.dist_model.specs.Items.{Handshake}

@@ -1,6 +1,6 @@
 -- A node stops, and starts again in another incarnation.
 -- (ERTS User's Guide, Distribution Protocol, Distribution Handshake, on creations.)
-use Rattle.std.specs.Prelude.{Option, None, Some, is_some, ℕ, ◌+◌, ◌^◌, Bool, true, false, cond, not, if◌then◌else◌, List, [], ◌∷◌, ◌++◌, ◌==◌, nat_lt, nat_le, ◌&&◌, ◌||◌}
+use Rattle.std.specs.Prelude.{◌+◌, ◌^◌, true, false, if◌then◌else◌, List, [], ◌∷◌, nat_lt}
 use Rattle.std.specs.FinMap as fm
 use Rattle.dist_model.specs.Commands.{Done, Goes, Outcome, Refuses}
 use Rattle.dist_model.specs.Node.{Node}

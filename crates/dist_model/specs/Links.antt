@@ -1,6 +1,6 @@
 -- What one process tells another of their link, and what that makes of the other's end.
 -- (ERTS User's Guide, Distribution Protocol, New Link Protocol; Reference Manual, Processes, Links.)
-use Rattle.std.specs.Prelude.{ℕ, if◌then◌else◌, Bool, List, [], ◌∷◌, Option, None, Some, codes}
+use Rattle.std.specs.Prelude.{if◌then◌else◌, Bool, List, [], ◌∷◌, Option, None, Some, codes}
 use Rattle.std.specs.Option.{option_or}
 use Rattle.erl_term.specs.Data.{Data, atom}
 use Rattle.link_core.specs.Table.{exited, received}

@@ -1,12 +1,12 @@
 -- A connection is lost, and the records of processes beyond it are swept, one at a time.
 -- (Reference Manual, Processes, Links and Monitors; Distributed Erlang. That records go one at a time is own.)
-use Rattle.std.specs.Prelude.{Option, None, Some, is_some, ℕ, ◌+◌, ◌^◌, Bool, true, false, cond, not, if◌then◌else◌, List, [], ◌∷◌, ◌++◌, ◌==◌, nat_lt, nat_le, ◌&&◌, ◌||◌}
+use Rattle.std.specs.Prelude.{Option, None, Some, is_some, Bool, true, false, if◌then◌else◌, List, ◌||◌}
 use Rattle.std.specs.FinMap as fm
 use Rattle.dist_model.specs.Commands.{Done, Goes, Outcome, Refuses, Sweeps, Swept, SweptLink, SweptRegistration, SweptSide, SweptWatch}
 use Rattle.dist_model.specs.Exits.{link_exit}
 use Rattle.dist_model.specs.Handshake.{challenge, set_state, write}
 use Rattle.dist_model.specs.Links.{noconnection}
-use Rattle.dist_model.specs.Monitoring.{monitor, unregister, unwatch}
+use Rattle.dist_model.specs.Monitoring.{unregister, unwatch}
 use Rattle.dist_model.specs.Names.{Name, same_name}
 use Rattle.dist_model.specs.Node.{Node, first_where, side_where}
 use Rattle.dist_model.specs.Sides.{Accepting, Gone, Losing, Parked, State, TrunkSide, is_losing, is_parked, lost}

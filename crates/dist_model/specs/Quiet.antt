@@ -1,5 +1,5 @@
 -- Where nothing travels between two processes.
-use Rattle.std.specs.Prelude.{◌≡◌, ◌⊎◌, ◌↔◌, Option, None, Some, is_some, ℕ, ◌+◌, ◌^◌, Bool, true, false, cond, not, if◌then◌else◌, List, [], ◌∷◌, ◌++◌, ◌==◌, nat_lt, nat_le, ◌&&◌, ◌||◌, Contains, map}
+use Rattle.std.specs.Prelude.{◌≡◌, Option, None, Some, is_some, Bool, true, false, not, if◌then◌else◌, List, [], ◌∷◌, ◌&&◌, ◌||◌}
 use Rattle.std.specs.FinMap as fm
 use Rattle.dist_model.specs.Items.{Handshake, Item, Signalled, Tick, receiver_of, sender_of}
 use Rattle.dist_model.specs.Names.{Name, same_name, same_pid}
@@ -54,4 +54,4 @@ is_quiet world p q =
     if same_name p.node q.node
     then is_silent p q (local_list world p.node)
     else is_some (first_where (is_quiet_on world p q) (sides_at (node_of world.nodes p.node)))
-        || (not (is_connected world p.node q.node) && not (is_connected world q.node p.node))
+    || (not (is_connected world p.node q.node) && not (is_connected world q.node p.node))

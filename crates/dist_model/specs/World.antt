@@ -1,5 +1,5 @@
 -- All nodes, and what travels between them: one event at a time.
-use Rattle.std.specs.Prelude.{◌≡◌, ◌⊎◌, ◌↔◌, Option, None, Some, is_some, ℕ, ◌+◌, ◌^◌, Bool, true, false, cond, not, if◌then◌else◌, List, [], ◌∷◌, ◌++◌, ◌==◌, nat_lt, nat_le, ◌&&◌, ◌||◌, Contains, map}
+use Rattle.std.specs.Prelude.{Option, None, Some, is_some, ℕ, Bool, not, if◌then◌else◌, List, [], ◌∷◌, ◌++◌, ◌&&◌, ◌||◌}
 use Rattle.std.specs.FinMap as fm
 use Rattle.dist_model.specs.Arrivals.{arrive, take_local}
 use Rattle.dist_model.specs.Calls.{call}

@@ -9,6 +9,6 @@
 mod laws;
 
 pub use laws::{
-    agreement, connection_comes_again, downs_are_told, events_run, fits_test, link_comes_about, link_is_taken_back,
-    no_link_to_the_dead, one_trunk, pending, quiet_test, reactions,
+    agreement, connection_comes_again, downs_are_told, events_run, fits_test, link_comes_about,
+    link_is_taken_back, no_link_to_the_dead, one_trunk, pending, quiet_test, reactions,
 };
