@@ -1,4 +1,5 @@
 -- Every step keeps the world good.
+use Rattle.std.proofs.Common.{◌++◌}
 use Rattle.std.proofs.Common.{inr}
 use Rattle.std.proofs.Common.{subst}
 use Rattle.std.proofs.Common.{inl}
@@ -237,3 +238,10 @@ events_run [] w = ([], refl)
 events_run (e ∷ es) w =
     let r = events_run es ((step w e).world) in
     ((step w e).report ∷ r.0, ((step w e).world, inl (refl, refl), r.1))
+
+pub moments : (es fs : List Event) (rs : List Report) (w v : World) → Runs w (es ++ fs) rs v → (earlier : List Report) × (later : List Report) × (now : World) × (rs ≡ earlier ++ later) × Runs w es earlier now × Runs now fs later v
+moments [] fs rs w v h = ([], rs, w, refl, refl, h)
+moments (e ∷ es) fs [] w v h = absurd h
+moments (e ∷ es) fs (r ∷ rs) w v h =
+    let m = moments es fs rs h.0 v h.2 in
+    (r ∷ m.0, m.1, m.2, ap (λ l. r ∷ l) m.3, (h.0, h.1, m.4), m.5)

@@ -14,7 +14,7 @@ use Rattle.dist_model.proofs.Routes.{node_of_name, some_same}
 use Rattle.dist_model.proofs.Sides.{beside, holds_kinds, or_false, or_true, side_at, unheld_absent, up_holds, up_not_gone}
 use Rattle.dist_model.proofs.Table.{Good, HomeKept, Likely, no_asks_beside, up_likely}
 use Rattle.dist_model.proofs.Views.{over, side_of}
-use Rattle.dist_model.specs.Claims.{Agreement, AgreementInQuiet, AgreementWithin, NoLinkToItself, NoLinkToTheDead, NoUpBesideLosing, OneTrunk, PendingOnItsWay, PendingWithin}
+use Rattle.dist_model.specs.Claims.{Agreement, AgreementInQuiet, AgreementWithin, LinkNeedsConnection, LivingWasSpawned, NoLinkToItself, NoLinkToTheDead, NoUpBesideLosing, OneTrunk, PendingOnItsWay, PendingWithin}
 use Rattle.dist_model.specs.Items.{Handshake, Item, Signalled, Tick, word_in, words}
 use Rattle.dist_model.specs.Links.{Exits, LinkWord, Says, drained, last_said}
 use Rattle.dist_model.specs.Names.{Name, pair_cmp, place_cmp, same_name, same_pid}
@@ -162,6 +162,23 @@ module _ (w : World) (g : Good w) where
       go : (o : Option Node) → node_of w.nodes p.node ≡ o → end_at o p p ≡ End.None
       go None h = refl
       go (Some a) h = absent_or2 (end_of a p p) (λ e. let c : true ≡ false = sym (same_pid_refl p) ∙ (((g.core.nodes p.node a h).rooted p p e).2 (own_name p.node a h)).1 in cc)
+
+  -- held is by its own node, or by a side that is up or losing
+  pub link_needs_connection : LinkNeedsConnection w
+  link_needs_connection p q n = go (node_of w.nodes p.node) refl n
+    where
+      either : (a b : Bool) (P : Type 0) → (a || b) ≡ true → (a ≡ true → P) → (b ≡ true → P) → P
+      either true b P h f k = f refl
+      either false b P h f k = k h
+
+      go : (o : Option Node) → node_of w.nodes p.node ≡ o → (end_at o p q ≡ End.None → ⊥) → (living_at o p ≡ true) × ((q.node ≡ p.node) ⊎ (connected_at o q.node ≡ true))
+      go None h e = absurd (e refl)
+      go (Some a) h e =
+          let r = (g.core.nodes p.node a h).rooted p q e in
+          (r.0, either (same_name q.node a.mint.name) (connected_at (Some a) q.node) _ r.1 (λ i. inl (same_name_true q.node a.mint.name i ∙ node_of_name w.nodes p.node a h)) (λ i. inr i))
+
+  pub living_was_spawned : LivingWasSpawned w
+  living_was_spawned x n p h l = (g.core.nodes x n h).born p l
 
   pub pending : PendingOnItsWay w
   pending p q t i s v lp lq e = go (node_of w.nodes p.node) (node_of w.nodes q.node) refl refl lp lq e

@@ -1,7 +1,7 @@
 -- What a node in the midst of an event is to one pair of processes.
 use Rattle.std.proofs.Common.{◌≡◌, Bool, true, false, cond, not, List, [], ◌∷◌, ◌++◌, refl, sym, ap, ◌∙◌, subst, ◌&&◌, ◌||◌, Option, Some, None, ◌⊎◌, inl, inr, append_assoc, append-nil}
 use Rattle.std.specs.Option.{is_some}
-use Rattle.dist_model.proofs.Keys.{and_both, same_name_is, same_pid_true}
+use Rattle.dist_model.proofs.Keys.{and_both, same_name_is, same_pid_refl, same_pid_true}
 use Rattle.dist_model.proofs.Pair.{Side}
 use Rattle.dist_model.specs.Items.{Item, Signalled, receiver_of, sender_of, telling, word_in, words}
 use Rattle.dist_model.specs.Links.{Exits, LinkWord, Says}
@@ -174,3 +174,13 @@ linking_suits_by false x y p q s e = inr (telling_word x y p q s ∙ signal_othe
 
 pub linking_suits : (x y p q : Pid) (s : LinkWord) → Suits y.node (Signalled (telling x y s)) p q
 linking_suits x y p q s = linking_suits_by (same_pid x p && same_pid y q) x y p q s refl
+
+pub word_told : (p q : Pid) (s : LinkWord) → word_in p q (Signalled (telling p q s)) ≡ s ∷ []
+word_told p q s = telling_word p q p q s ∙ ap (λ b. cond (b && same_pid q q) (s ∷ []) []) (same_pid_refl p) ∙ ap (λ b. cond b (s ∷ []) []) (same_pid_refl q)
+
+pub no_word_of_others : (p q a b : Pid) (s : LinkWord) → ((a ≡ p) × (b ≡ q) → ⊥) → word_in p q (Signalled (telling a b s)) ≡ []
+no_word_of_others p q a b s n = go (same_pid a p && same_pid b q) refl
+  where
+    go : (t : Bool) → (same_pid a p && same_pid b q) ≡ t → word_in p q (Signalled (telling a b s)) ≡ []
+    go true e = let v = and_both (same_pid a p) (same_pid b q) e in absurd (n (same_pid_true a p v.0, same_pid_true b q v.1))
+    go false e = telling_word a b p q s ∙ ap (λ t. cond t (s ∷ []) []) e

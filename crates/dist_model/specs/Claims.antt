@@ -5,10 +5,11 @@ use Rattle.dist_model.specs.Commands.{MakeLink}
 use Rattle.dist_model.specs.Items.{words}
 use Rattle.dist_model.specs.Links.{Says, drained, last_said}
 use Rattle.dist_model.specs.Names.{Name}
+use Rattle.dist_model.specs.Node.{Node, living, never}
 use Rattle.dist_model.specs.Quiet.{Quiet}
-use Rattle.dist_model.specs.Seen.{HasSide, end_between, is_living, is_reached, local_list}
+use Rattle.dist_model.specs.Seen.{HasSide, end_between, is_connected, is_living, is_reached, local_list}
 use Rattle.dist_model.specs.Sides.{is_losing, is_up}
-use Rattle.dist_model.specs.World.{Call, Event, World, list_to, step}
+use Rattle.dist_model.specs.World.{Call, Event, World, list_to, node_of, step}
 use Rattle.erl_names.specs.declared.trunk.TrunkId.{TrunkId}
 use Rattle.erl_term.specs.Data.{Data}
 use Rattle.erl_term.specs.declared.term.Pid.{Pid}
@@ -49,6 +50,16 @@ NoLinkToTheDead w = (p q : Pid) → Quiet w p q → is_living w p ≡ true → i
 
 abbrev pub NoLinkToItself : World → Type 0
 NoLinkToItself w = (p : Pid) → end_between w p p ≡ End.None
+
+-- ---- Links are of living processes that can reach each other. (Reference Manual, Processes, Links; Distributed Erlang)
+
+-- an end that isn't none is that of a living process, towards its own node or one that its node is connected to, or whose records it hasn't swept yet
+abbrev pub LinkNeedsConnection : World → Type 0
+LinkNeedsConnection w = (p q : Pid) → (end_between w p q ≡ End.None → ⊥) → (is_living w p ≡ true) × ((q.node ≡ p.node) ⊎ (is_connected w p.node q.node ≡ true))
+
+-- a process that is living was spawned
+abbrev pub LivingWasSpawned : World → Type 0
+LivingWasSpawned w = (name : Name) (node : Node) (p : Pid) → node_of w.nodes name ≡ Some node → living node p ≡ true → never node p ≡ false
 
 -- ---- One trunk. (ERTS User's Guide, Distribution Protocol, Distribution Handshake: at most one connection between two nodes)
 

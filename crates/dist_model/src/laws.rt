@@ -2,7 +2,7 @@
 //!
 //! Every law is of every world to which any list of events leads, from any opening world, with or
 //! without memory; and so of each moment of every run.
-ghost use Rattle.std.specs.Prelude.{◌≡◌, ◌↔◌, ℕ, List, [], ◌∷◌, true};
+ghost use Rattle.std.specs.Prelude.{◌≡◌, ◌↔◌, ℕ, List, [], ◌∷◌, ◌++◌, true};
 ghost use Rattle.erl_term.specs.declared.term.Pid.{Pid};
 ghost use Rattle.erl_term.specs.declared.term.Reference.{Reference};
 ghost use Rattle.exit_core.specs.Messages.{down_term};
@@ -10,6 +10,8 @@ ghost use Rattle.dist_model.specs.Downs.{down_in};
 ghost use Rattle.erl_term.specs.Data.{Data};
 ghost use Rattle.erl_control.specs.Control.{Fits};
 ghost use Rattle.dist_model.specs.Fits.{fits};
+ghost use Rattle.dist_model.specs.Links.{LinkWord};
+ghost use Rattle.dist_model.specs.Items.{Signalled, telling, word_in};
 ghost use Rattle.link_core.specs.declared.end.End.{End};
 ghost use Rattle.dist_model.specs.World.{World, Event, Report};
 ghost use Rattle.dist_model.specs.Quiet.{Quiet, is_quiet};
@@ -17,7 +19,7 @@ ghost use Rattle.dist_model.specs.Runs.{Runs, run, Always};
 ghost use Rattle.dist_model.specs.Sides.{is_up};
 ghost use Rattle.dist_model.specs.Seen.{end_between, AreConnected};
 ghost use Rattle.dist_model.specs.Schedules as schedule;
-ghost use Rattle.dist_model.specs.Claims.{Agreement, AgreementWithin, AgreementInQuiet, PendingOnItsWay, PendingWithin, NoLinkToTheDead, NoLinkToItself, OneTrunk, NoUpBesideLosing, ReactsOnlyWhereLinked};
+ghost use Rattle.dist_model.specs.Claims.{Agreement, AgreementWithin, AgreementInQuiet, PendingOnItsWay, PendingWithin, NoLinkToTheDead, NoLinkToItself, LinkNeedsConnection, LivingWasSpawned, OneTrunk, NoUpBesideLosing, ReactsOnlyWhereLinked};
 
 /// Of two living processes both hold their link active, or neither does, once all that travels
 /// between them has come: on one node, over a connection, and whenever nothing travels. (Reference
@@ -40,6 +42,14 @@ pub fn pending()
 pub fn no_link_to_the_dead()
     ensures quiet { Always NoLinkToTheDead }
     ensures itself { Always NoLinkToItself }
+{}
+
+/// A link, be it one that waits for its acknowledgement, is of a living process, and to a process of
+/// its own node or of one that its node is connected to, or whose records it hasn't swept yet; and
+/// a process that is living was spawned. (Reference Manual, Processes, Links; Distributed Erlang.)
+pub fn links_need_a_connection()
+    ensures connected { Always LinkNeedsConnection }
+    ensures spawned { Always LivingWasSpawned }
 {}
 
 /// Two nodes are connected by one trunk, and by none while records of a lost connection between
@@ -101,4 +111,18 @@ pub fn connection_comes_again()
 pub fn downs_are_told()
     ensures told { (r : Reference) (owner target : Pid) (info : Data) →
         down_in r owner (down_term r target info) ≡ (record { owner = owner; target = target; info = info }) ∷ [] }
+{}
+
+/// A beginning of a run is a run: between any two of its events there is a world, to which the events
+/// before lead, and from which those behind do.
+pub fn moments()
+    ensures between { (before behind : List Event) (reports : List Report) (world new : World) → Runs world (before ++ behind) reports new →
+        (earlier : List Report) × (later : List Report) × (now : World) × (reports ≡ earlier ++ later) × Runs world before earlier now × Runs now behind later new }
+{}
+
+/// What one process tells another of their link is heard of the signal that tells it, and of no
+/// signal between others.
+pub fn words_are_told()
+    ensures told { (p q : Pid) (word : LinkWord) → word_in p q (Signalled (telling p q word)) ≡ word ∷ [] }
+    ensures others { (p q from to : Pid) (word : LinkWord) → ((from ≡ p) × (to ≡ q) → ⊥) → word_in p q (Signalled (telling from to word)) ≡ [] }
 {}
