@@ -7,12 +7,13 @@ use Rattle.std.specs.FinMap as fm
 use Rattle.std.specs.FinMap.Entries.{find, is_sorted, below_all}
 use Rattle.dist_model.proofs.Keys.{and_both, pair_exact, pid_total, same_pair, same_pid_is, same_pid_refl, same_pid_true}
 use Rattle.dist_model.proofs.Pair.{Side, farewell, finished}
+use Rattle.dist_model.proofs.Seeing.{end_in}
 use Rattle.dist_model.proofs.Views.{AllSuit, AllSuit-append, line, linking_suits, over, post_all_keeps, post_all_view, posted, posted-append, side_path, signal_other, view}
 use Rattle.dist_model.specs.Exits.{buried, demonitors, exit_for, exits, finish, monitor_exits}
 use Rattle.dist_model.specs.Items.{words}
 use Rattle.dist_model.specs.Links.{Exits, LinkWord}
 use Rattle.dist_model.specs.Names.{pair_cmp, same_pid}
-use Rattle.dist_model.specs.Node.{Ended, Life, end_in, end_of, is_living_life, living, never, reaches}
+use Rattle.dist_model.specs.Node.{Ended, Life, end_of, is_living_life, living, never, reaches}
 use Rattle.dist_model.specs.Work.{Work, post_all}
 use Rattle.erl_control.specs.declared.signal.Signal.{Signal}
 use Rattle.erl_term.specs.Data.{Data}

@@ -1,5 +1,6 @@
 -- Runs in which something happens, step by step. Finite maps don't compute by themselves, so each world is written out,
 -- and each step is shown by what maps of known entries hold.
+use Rattle.dist_model.proofs.Seeing.{side_in}
 use Rattle.std.proofs.Common.{◌≡◌, ℕ, Bool, true, false, cond, List, [], ◌∷◌, ◌++◌, refl, sym, ap, ◌∙◌, arith, ◌&&◌, Some, None}
 use Rattle.std.specs.Prelude.{length, nat_eq}
 use Rattle.std.specs.Cmp.Lexicographic.{pointwise}
@@ -29,7 +30,7 @@ use Rattle.dist_model.specs.Node.{Node, Life, Living}
 use Rattle.dist_model.specs.Commands.{MakeLink, Spawn, EndLink, Trap}
 use Rattle.dist_model.specs.World.{World, Event, Call, Arrive, Lose, Sweep, Dial, step, node_of}
 use Rattle.dist_model.specs.Runs.{run}
-use Rattle.dist_model.specs.Seen.{end_between, HasSide, side_in}
+use Rattle.dist_model.specs.Seen.{HasSide, end_between}
 use Rattle.dist_model.specs.Schedules.{first, second, here, there, trunk, two_nodes, unlinking, losing, connecting, linked_over_a_trunk, unlinked_over_a_trunk, connected_again}
 use Rattle.dist_model.proofs.Keys.{pid_total, pair_total, pair_exact, trunk_total, place_total}
 

@@ -1,3 +1,4 @@
+pub mod Seeing
 pub mod Rules
 pub mod Pair
 pub mod Lists

@@ -9,6 +9,7 @@ use Rattle.dist_model.proofs.Pairs.{Met, changed, up_joined}
 use Rattle.dist_model.proofs.Primitives.{good_pushed, good_resided}
 use Rattle.dist_model.proofs.Reside.{Fits, resided, side_after_same, with_side_at}
 use Rattle.dist_model.proofs.Routes.{node_of_name, node_of_set_same, side_where_none, some_same}
+use Rattle.dist_model.proofs.Seeing.{list_in}
 use Rattle.dist_model.proofs.Sides.{holds, joined, side_at}
 use Rattle.dist_model.proofs.Steps.{kind}
 use Rattle.dist_model.proofs.Table.{Good, Row, begun, good_changed, has, holds_side, is_accept, is_challenge, is_reply, may_be_up, role_state, up_once}
@@ -20,7 +21,7 @@ use Rattle.dist_model.specs.Names.{Name, same_name}
 use Rattle.dist_model.specs.Node.{Node, side_where}
 use Rattle.dist_model.specs.Sides.{Accepting, Asked, AwaitsAck, AwaitsChallenge, AwaitsStatus, Gone, Losing, Parked, State, TrunkSide, Up, is_gone, is_up}
 use Rattle.dist_model.specs.Work.{at_work}
-use Rattle.dist_model.specs.World.{World, carried, ends_in, list_in, list_to, node_of, set_node}
+use Rattle.dist_model.specs.World.{World, carried, ends_in, list_to, node_of, set_node}
 use Rattle.erl_handshake.specs.Flags.{mandatory}
 use Rattle.erl_handshake.specs.declared.message.ShakeMsg.{ShakeMsg}
 use Rattle.erl_names.specs.declared.trunk.TrunkId.{TrunkId}

@@ -8,15 +8,17 @@ use Rattle.dist_model.proofs.Keys.{and_both, same_name_is, same_name_true, same_
 use Rattle.dist_model.proofs.Pairs.{WorldKept, up_joined}
 use Rattle.dist_model.proofs.Reside.{Fits, side_after_other, side_after_same, with_side_at}
 use Rattle.dist_model.proofs.Routes.{list_to_insert, node_of_name, node_of_set_other, node_of_set_same, some_same}
+use Rattle.dist_model.proofs.Seeing.{list_in}
 use Rattle.dist_model.proofs.Sides.{joined, side_at}
 use Rattle.dist_model.proofs.Table.{Anchor, Good, HomeKept, Likely, NoLinks, Posted, Row, Table, begun, has, insert_key, is_accept, is_challenge, is_early, is_reply, likely_along, may_be_up, role_state, single_kept, went_up}
 use Rattle.dist_model.proofs.Views.{side_of, words-append}
+use Rattle.dist_model.specs.Fits.{fits}
 use Rattle.dist_model.specs.Items.{Handshake, Item, word_in, words}
 use Rattle.dist_model.specs.Links.{LinkWord}
 use Rattle.dist_model.specs.Names.{Name, place_cmp, same_name}
 use Rattle.dist_model.specs.Node.{Node}
 use Rattle.dist_model.specs.Sides.{TrunkSide}
-use Rattle.dist_model.specs.World.{World, list_in, list_to, node_of, set_node}
+use Rattle.dist_model.specs.World.{World, list_to, node_of, set_node}
 use Rattle.erl_handshake.specs.declared.message.ShakeMsg.{ShakeMsg}
 use Rattle.erl_names.specs.declared.trunk.TrunkId.{TrunkId}
 use Rattle.erl_term.specs.declared.term.Pid.{Pid}

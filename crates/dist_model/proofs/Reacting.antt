@@ -14,6 +14,7 @@ use Rattle.dist_model.proofs.Moves.{NodeKept}
 use Rattle.dist_model.proofs.Pair.{later}
 use Rattle.dist_model.proofs.Routes.{node_of_name}
 use Rattle.dist_model.proofs.Rules.{awaits_ack, awaits_challenge, awaits_name, awaits_reply, awaits_status, awaits_true, greet, greet_dialing, greet_up, greet_waiting, handshake_as, handshake_by, name_as}
+use Rattle.dist_model.proofs.Seeing.{end_at, end_in, reached_at}
 use Rattle.dist_model.proofs.Sweeping.{link_found}
 use Rattle.dist_model.proofs.Table.{Good}
 use Rattle.dist_model.specs.Admission.{give_up, hears_name}
@@ -33,8 +34,8 @@ use Rattle.dist_model.specs.Links.{Exits, LinkWord, Says, heard, noconnection, n
 use Rattle.dist_model.specs.Losses.{any_side, close_if, has_records, link_to, lose, lose_at, parked_by, parked_goes, registered_by, sweep, sweep_by, sweep_end, sweep_link, sweep_registered, sweep_watch, swept, watch_to}
 use Rattle.dist_model.specs.Monitoring.{demonitor_by, register, unregister, unwatch, watch}
 use Rattle.dist_model.specs.Names.{Name, place_cmp, same_name, same_pid}
-use Rattle.dist_model.specs.Node.{Node, end_in, end_of, living, never, reaches, route, side_where, traps_life}
-use Rattle.dist_model.specs.Seen.{end_at, end_between, reached_at}
+use Rattle.dist_model.specs.Node.{Node, end_of, living, never, reaches, route, side_where, traps_life}
+use Rattle.dist_model.specs.Seen.{end_between}
 use Rattle.dist_model.specs.Sides.{Accepting, Asked, AwaitsAck, AwaitsChallenge, AwaitsStatus, Gone, Losing, Parked, State, TrunkSide, Up, is_dialing, is_gone, is_losing, is_parked, is_up, is_waiting}
 use Rattle.dist_model.specs.Taking.{take_item}
 use Rattle.dist_model.specs.Work.{Effect, EndedBy, LinkExit, Put, Sent, Work, at_work, draw, keep_local, post, post_all, post_to, put, report, send_on, set_end}

@@ -10,6 +10,7 @@ use Rattle.dist_model.proofs.Moves.{AllRouted, HomeItem, Homely, NodeKept, Takes
 use Rattle.dist_model.proofs.Pair.{Side}
 use Rattle.dist_model.proofs.Pairs.{WorldKept, changed}
 use Rattle.dist_model.proofs.Routes.{at_place, list_to_carried, list_to_insert, node_of_name}
+use Rattle.dist_model.proofs.Seeing.{list_in}
 use Rattle.dist_model.proofs.Sides.{SidesKept, half, not_own, reach_up, side_at, sides_kept}
 use Rattle.dist_model.proofs.Steps.{good_item, good_link, is_from_peer, kind, not_never, own_none, taken_link, two_parts}
 use Rattle.dist_model.proofs.Table.{Good, HomeKept, carried_key, good_changed, insert_key, key_of, unsent}
@@ -23,7 +24,7 @@ use Rattle.dist_model.specs.Node.{Node, never, reaches}
 use Rattle.dist_model.specs.Sides.{TrunkSide, is_up}
 use Rattle.dist_model.specs.Taking.{take, take_item}
 use Rattle.dist_model.specs.Work.{Work, at_work}
-use Rattle.dist_model.specs.World.{World, carried, list_in, list_to, node_of, set_node}
+use Rattle.dist_model.specs.World.{World, carried, list_to, node_of, set_node}
 use Rattle.erl_names.specs.declared.trunk.TrunkId.{TrunkId}
 use Rattle.erl_term.specs.declared.term.Pid.{Pid}
 

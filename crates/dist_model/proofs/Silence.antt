@@ -8,10 +8,11 @@ use Rattle.std.specs.FinMap.Entries.{find, is_sorted, below_all}
 use Rattle.dist_model.proofs.Calls.{by_test}
 use Rattle.dist_model.proofs.Keys.{and_both, same_name_is, same_name_true, same_trunk, same_trunk_true, trunk_total}
 use Rattle.dist_model.proofs.Routes.{below_find, none_some, some_same}
+use Rattle.dist_model.proofs.Seeing.{side_in, sides_at}
 use Rattle.dist_model.specs.Names.{Name, same_name}
 use Rattle.dist_model.specs.Node.{Node, first_where}
-use Rattle.dist_model.specs.Quiet.{Over, Quiet, Unconnected, Within, is_quiet, is_quiet_on, is_silent, is_up_to, sides_at}
-use Rattle.dist_model.specs.Seen.{HasSide, is_connected, local_list, side_in}
+use Rattle.dist_model.specs.Quiet.{Over, Quiet, Unconnected, Within, is_quiet, is_quiet_on, is_silent, is_up_to}
+use Rattle.dist_model.specs.Seen.{HasSide, is_connected, local_list}
 use Rattle.dist_model.specs.Sides.{TrunkSide, is_up}
 use Rattle.dist_model.specs.World.{World, list_to, node_of}
 use Rattle.erl_names.specs.Order.{trunk_cmp}

@@ -3,8 +3,8 @@ use Rattle.std.specs.Prelude.{◌≡◌, Option, None, Some, is_some, Bool, true
 use Rattle.std.specs.FinMap as fm
 use Rattle.dist_model.specs.Items.{Handshake, Item, Signalled, Tick, receiver_of, sender_of}
 use Rattle.dist_model.specs.Names.{Name, same_name, same_pid}
-use Rattle.dist_model.specs.Node.{Node, first_where}
-use Rattle.dist_model.specs.Seen.{HasSide, is_connected, local_list, side_in}
+use Rattle.dist_model.specs.Node.{first_where}
+use Rattle.dist_model.specs.Seen.{HasSide, is_connected, local_list, seen, side_of_trunk}
 use Rattle.dist_model.specs.Sides.{TrunkSide, is_up}
 use Rattle.dist_model.specs.World.{World, list_to, node_of}
 use Rattle.erl_names.specs.declared.trunk.TrunkId.{TrunkId}
@@ -41,17 +41,13 @@ is_up_to peer (Some side) = same_name side.peer peer && is_up side.state
 abbrev pub is_quiet_on : World → Pid → Pid → TrunkId → TrunkSide → Bool
 is_quiet_on world p q trunk side =
     is_up_to q.node (Some side)
-    && is_up_to p.node (side_in (node_of world.nodes q.node) trunk)
+    && is_up_to p.node (side_of_trunk world q.node trunk)
     && is_silent p q (list_to world.lists trunk p.node)
     && is_silent p q (list_to world.lists trunk q.node)
-
-abbrev pub sides_at : Option Node → List (TrunkId × TrunkSide)
-sides_at None = []
-sides_at (Some node) = fm.entries node.sides
 
 abbrev pub is_quiet : World → Pid → Pid → Bool
 is_quiet world p q =
     if same_name p.node q.node
     then is_silent p q (local_list world p.node)
-    else is_some (first_where (is_quiet_on world p q) (sides_at (node_of world.nodes p.node)))
+    else is_some (first_where (is_quiet_on world p q) (seen (node_of world.nodes p.node) [] (λ node. fm.entries node.sides)))
     || (not (is_connected world p.node q.node) && not (is_connected world q.node p.node))
