@@ -11,11 +11,11 @@ use Rattle.dist_model.proofs.Ending.{buried_end, buried_living, finish_view, fin
 use Rattle.dist_model.proofs.Kept.{Kept, keeps_draw, keeps_finish, keeps_link, keeps_take, keeps_unlink}
 use Rattle.dist_model.proofs.Keys.{and_both, pair_exact, pair_total, pid_total, same_pair, same_pid_is, same_pid_refl, same_pid_true, set_in-get}
 use Rattle.dist_model.proofs.Pair.{Side, finished}
-use Rattle.dist_model.proofs.Seeing.{end_in}
+use Rattle.dist_model.proofs.Seeing.{end_in, replies}
 use Rattle.dist_model.proofs.Views.{AllSuit, Suits, linking_suits, more, over, post_all_keeps, post_all_view, post_keeps, post_view, posted, side_path, telling_receiver, telling_word, view}
 use Rattle.dist_model.specs.Exits.{carry_out, demonitors, exit_for, exits, finish, link_exit, linked_exit, monitor_exits}
 use Rattle.dist_model.specs.Items.{Item, Signalled, receiver_of, telling, word_in}
-use Rattle.dist_model.specs.Linking.{exit_follows, link, link_by, link_new, replies, take_link, take_link_by}
+use Rattle.dist_model.specs.Linking.{exit_follows, link, link_by, link_new, take_link, take_link_by}
 use Rattle.dist_model.specs.Links.{Exits, LinkWord, Says, heard, noconnection, reply}
 use Rattle.dist_model.specs.Names.{Name, pair_cmp, same_name, same_pid}
 use Rattle.dist_model.specs.Node.{Ended, Life, Living, Node, end_of, is_living_life, living, never, reaches, route, route_in, side_where, traps_life}

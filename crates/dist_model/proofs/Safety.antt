@@ -11,7 +11,7 @@ use Rattle.dist_model.proofs.Pair.{has_link}
 use Rattle.dist_model.proofs.Pairs.{up_joined}
 use Rattle.dist_model.proofs.Reside.{blank}
 use Rattle.dist_model.proofs.Routes.{node_of_name, some_same}
-use Rattle.dist_model.proofs.Seeing.{connected_at, end_at, end_in, living_at, local_at, side_in}
+use Rattle.dist_model.proofs.Seeing.{connected_at, end_at, end_in, living_at, local_at, new_nodes, side_in}
 use Rattle.dist_model.proofs.Sides.{beside, holds_kinds, or_false, or_true, side_at, unheld_absent, up_holds, up_not_gone}
 use Rattle.dist_model.proofs.Table.{Good, HomeKept, Likely, no_asks_beside, up_likely}
 use Rattle.dist_model.proofs.Views.{over, side_of}
@@ -21,7 +21,7 @@ use Rattle.dist_model.specs.Links.{Exits, LinkWord, Says, drained, last_said}
 use Rattle.dist_model.specs.Names.{Name, pair_cmp, place_cmp, same_name, same_pid}
 use Rattle.dist_model.specs.Node.{Node, end_of, is_living_life, living, never}
 use Rattle.dist_model.specs.Quiet.{Over, Unconnected, Within, is_of, is_silent}
-use Rattle.dist_model.specs.Runs.{new_node, new_nodes, opening}
+use Rattle.dist_model.specs.Runs.{new_node, opening}
 use Rattle.dist_model.specs.Seen.{HasSide, end_between, is_connected, local_list}
 use Rattle.dist_model.specs.Sides.{Accepting, Asked, AwaitsAck, AwaitsChallenge, AwaitsStatus, Gone, Losing, Parked, State, TrunkSide, Up, is_gone, is_losing, is_up}
 use Rattle.dist_model.specs.World.{World, list_to, node_of}

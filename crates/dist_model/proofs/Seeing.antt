@@ -1,12 +1,15 @@
 -- What is seen of a node, if there is one, and of maps that hold nothing for a key.
-use Rattle.std.proofs.Common.{Bool, false, List, [], Option, None, ◌||◌}
+use Rattle.std.proofs.Common.{map, ℕ, Bool, false, List, [], Option, None, ◌||◌}
 use Rattle.std.specs.Option.{is_some, unwrap_or}
 use Rattle.std.specs.FinMap as fm
-use Rattle.dist_model.specs.Items.{Item}
+use Rattle.dist_model.specs.Items.{Item, telling, words}
+use Rattle.dist_model.specs.Links.{LinkWord}
 use Rattle.dist_model.specs.Names.{Name}
 use Rattle.dist_model.specs.Node.{Node, end_of, living, reaches, side_where}
+use Rattle.dist_model.specs.Runs.{new_node}
 use Rattle.dist_model.specs.Seen.{seen}
 use Rattle.dist_model.specs.Sides.{TrunkSide, is_losing, is_up}
+use Rattle.erl_control.specs.declared.signal.Signal.{Signal}
 use Rattle.erl_names.specs.declared.trunk.TrunkId.{TrunkId}
 use Rattle.erl_term.specs.declared.term.Pid.{Pid}
 use Rattle.link_core.specs.declared.end.End.{End}
@@ -37,3 +40,9 @@ reached_at o name = seen o false (λ node. reaches node name)
 
 abbrev pub sides_at : Option Node → List (TrunkId × TrunkSide)
 sides_at o = seen o [] (λ node. fm.entries node.sides)
+
+abbrev pub replies : Pid → Pid → List LinkWord → List Signal
+replies p q words = map (telling p q) words
+
+abbrev pub new_nodes : List (Name × List ℕ) → List Node
+new_nodes cs = map (λ (c : Name × List ℕ). new_node c.0 c.1) cs

@@ -1,7 +1,7 @@
 -- Links: a process links itself, takes its link back, and hears its partner's words.
 -- (Reference Manual, Processes, Links; ERTS User's Guide, Distribution Protocol, New Link Protocol.)
 use Rattle.erl_names.specs.Draw as kind
-use Rattle.std.specs.Prelude.{ℕ, Bool, true, false, if◌then◌else◌, List, [], ◌∷◌}
+use Rattle.std.specs.Prelude.{map, ℕ, Bool, true, false, if◌then◌else◌, List, [], ◌∷◌}
 use Rattle.dist_model.specs.Commands.{Done, Goes, Outcome, with_id}
 use Rattle.dist_model.specs.Exits.{link_exit}
 use Rattle.dist_model.specs.Items.{telling}
@@ -38,10 +38,6 @@ unlink_by end p q work = if is_active end then with_id (id_of work.node.mint kin
 
 -- ---- p hears a word of q about their link
 
-abbrev pub replies : Pid → Pid → List LinkWord → List Signal
-replies p q [] = []
-replies p q (word ∷ rest) = telling p q word ∷ replies p q rest
-
 -- to an exit it reacts only where it was linked
 abbrev pub exit_follows : End → LinkWord → Pid → Pid → Work → Work
 exit_follows was (Says signal) p q work = work
@@ -51,8 +47,8 @@ exit_follows was (Exits reason) p q work = if is_active was then link_exit p q r
 abbrev pub take_link_by : Bool → Pid → Pid → LinkWord → Work → Work
 take_link_by true p q word work =
     let was = end_of work.node p q in
-    exit_follows was word p q (post_all (replies p q (reply false word)) (set_end p q (heard was word) work))
-take_link_by false p q word work = post_all (replies p q (reply true word)) work
+    exit_follows was word p q (post_all (map (telling p q) (reply false word)) (set_end p q (heard was word) work))
+take_link_by false p q word work = post_all (map (telling p q) (reply true word)) work
 
 abbrev pub take_link : Pid → Pid → LinkWord → Work → Work
 take_link p q word work = take_link_by (living work.node p) p q word work
