@@ -1,5 +1,6 @@
 -- What a caller may ask of a node.
 -- (Reference Manual, Processes: Process Creation, Links, Monitors, Error Handling.)
+use Rattle.std.specs.List.{flat_map}
 use Rattle.std.specs.Prelude.{Option, None, Some, Bool, false, if◌then◌else◌, List, [], ◌∷◌, ◌++◌, ◌&&◌}
 use Rattle.std.specs.FinMap as fm
 use Rattle.erl_names.specs.Draw as kind
@@ -50,8 +51,7 @@ without_first life = life
 
 -- the ends of p, active and pending
 abbrev pub links_in : List ((Pid × Pid) × End) → Pid → List (Pid × End)
-links_in [] p = []
-links_in (entry ∷ rest) p = (if same_pid entry.0.0 p then (entry.0.1, entry.1) ∷ [] else []) ++ links_in rest p
+links_in entries p = flat_map (λ entry. if same_pid entry.0.0 p then (entry.0.1, entry.1) ∷ [] else []) entries
 
 abbrev pub call : Node → Command → Outcome
 call node Spawn = with_id (id_of node.mint kind.Pid) (λ id. Goes (Spawned (pid_of node.mint id)) (spawn_life node (pid_of node.mint id)))

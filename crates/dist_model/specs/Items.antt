@@ -1,6 +1,7 @@
 -- What travels between two nodes, and from a node to itself.
 -- (ERTS User's Guide, Distribution Protocol.)
-use Rattle.std.specs.Prelude.{Option, None, Some, cond, ◌&&◌, List, [], ◌∷◌, ◌++◌}
+use Rattle.std.specs.List.{flat_map}
+use Rattle.std.specs.Prelude.{Option, None, Some, if◌then◌else◌, ◌&&◌, List, [], ◌∷◌, ◌++◌}
 use Rattle.dist_model.specs.Links.{Exits, LinkWord, Says}
 use Rattle.dist_model.specs.Names.{same_pid}
 use Rattle.erl_control.specs.declared.signal.Signal.{Signal}
@@ -46,7 +47,7 @@ telling p q (Exits reason) = Signal.Exit p q reason
 
 -- what p tells q of their link in an item, and in a list
 abbrev pub if_between : Pid → Pid → Pid → Pid → LinkWord → List LinkWord
-if_between p q from to word = cond (same_pid from p && same_pid to q) (word ∷ []) []
+if_between p q from to word = if same_pid from p && same_pid to q then word ∷ [] else []
 
 abbrev pub word_in : Pid → Pid → Item → List LinkWord
 word_in p q (Signalled (Signal.Link from to)) = if_between p q from to (Says LinkSignal.Link)
@@ -56,5 +57,4 @@ word_in p q (Signalled (Signal.UnlinkIdAck id from to)) = if_between p q from to
 word_in p q _ = []
 
 abbrev pub words : Pid → Pid → List Item → List LinkWord
-words p q [] = []
-words p q (x ∷ xs) = word_in p q x ++ words p q xs
+words p q = flat_map (word_in p q)
