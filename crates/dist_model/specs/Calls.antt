@@ -1,7 +1,7 @@
 -- What a caller may ask of a node.
 -- (Reference Manual, Processes: Process Creation, Links, Monitors, Error Handling.)
 use Rattle.std.specs.List.{flat_map}
-use Rattle.std.specs.Prelude.{Option, None, Some, Bool, false, if◌then◌else◌, List, [], ◌∷◌, ◌++◌, ◌&&◌}
+use Rattle.std.specs.Prelude.{Option, None, Some, Bool, false, if◌then◌else◌, List, [], ◌∷◌, ◌&&◌}
 use Rattle.std.specs.FinMap as fm
 use Rattle.erl_names.specs.Draw as kind
 use Rattle.dist_model.specs.Commands.{Command, Done, EndLink, EndMonitor, ExitSelf, ExitTo, Goes, IsAlive, IsLiving, Links, LinksOf, MakeLink, MakeMonitor, Outcome, Receive, Received, Refuses, Send, Spawn, Spawned, Trap, Watching, with_id}

@@ -1,6 +1,7 @@
 -- A node dials another.
 -- (ERTS User's Guide, Distribution Protocol, Distribution Handshake. That only a call dials is own.)
-use Rattle.std.specs.Prelude.{is_some, ℕ, ◌+◌, ◌^◌, Bool, false, not, if◌then◌else◌, List, [], ◌∷◌, nat_lt, ◌||◌}
+use Rattle.std.specs.List.{list_any}
+use Rattle.std.specs.Prelude.{is_some, ℕ, ◌+◌, ◌^◌, Bool, not, if◌then◌else◌, List, nat_lt}
 use Rattle.std.specs.FinMap as fm
 use Rattle.dist_model.specs.Commands.{Dialed, Goes, Outcome, Refuses}
 use Rattle.dist_model.specs.Handshake.{identity, with_side, write}
@@ -13,8 +14,7 @@ use Rattle.erl_names.specs.declared.trunk.TrunkId.{TrunkId}
 use Rattle.erl_term.specs.declared.refusal.Refusal.{Refusal}
 
 abbrev pub has_name : Name → List Name → Bool
-has_name name [] = false
-has_name name (first ∷ rest) = same_name first name || has_name name rest
+has_name name = list_any (same_name name)
 
 abbrev pub next_trunk : Node → TrunkId
 next_trunk node = record { dialer = node.mint.name; count = node.dialed + 1 }

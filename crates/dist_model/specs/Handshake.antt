@@ -66,9 +66,8 @@ acceptor_side side AcceptorState.Over = record side { state = Gone }
 
 -- the role's turn says what is sent, and whether the handshake goes on
 abbrev pub after : Verdict → TrunkId → (old new : TrunkSide) → ShakeMsg → Option ShakeMsg → Work → Outcome
-after verdict.Go trunk old new message send work = Goes (Took (Handshake message)) (write_if trunk old.peer send (with_side trunk new work))
-after verdict.Done trunk old new message send work = Goes (Took (Handshake message)) (write_if trunk old.peer send (with_side trunk new work))
 after (verdict.Ended why) trunk old new message send work = fault why trunk old work
+after _ trunk old new message send work = Goes (Took (Handshake message)) (write_if trunk old.peer send (with_side trunk new work))
 
 abbrev pub handshake_on : TrunkId → TrunkSide → ShakeMsg → TrunkSide → Next → Work → Outcome
 handshake_on trunk old message new next work = after next.outcome trunk old new message next.send work

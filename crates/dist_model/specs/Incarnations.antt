@@ -1,6 +1,7 @@
 -- A node stops, and starts again in another incarnation.
 -- (ERTS User's Guide, Distribution Protocol, Distribution Handshake, on creations.)
-use Rattle.std.specs.Prelude.{◌+◌, ◌^◌, true, false, if◌then◌else◌, List, [], ◌∷◌, nat_lt}
+use Rattle.std.specs.Prelude.{map}
+use Rattle.std.specs.Prelude.{◌+◌, ◌^◌, true, false, if◌then◌else◌, List, [], nat_lt}
 use Rattle.std.specs.FinMap as fm
 use Rattle.dist_model.specs.Commands.{Done, Goes, Outcome, Refuses}
 use Rattle.dist_model.specs.Node.{Node}
@@ -13,8 +14,7 @@ use Rattle.erl_term.specs.declared.refusal.Refusal.{Refusal}
 use Rattle.std.specs.FinMap.{FinMap}
 
 abbrev pub all_gone : List (TrunkId × TrunkSide) → List (TrunkId × TrunkSide)
-all_gone [] = []
-all_gone (entry ∷ rest) = (entry.0, record (entry.1) { state = Gone }) ∷ all_gone rest
+all_gone = map (λ entry. (entry.0, record (entry.1) { state = Gone }))
 
 abbrev pub without_sides : Node → FinMap trunk_cmp TrunkSide
 without_sides node = fm.from_entries (all_gone (fm.entries node.sides))

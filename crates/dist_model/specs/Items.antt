@@ -1,7 +1,7 @@
 -- What travels between two nodes, and from a node to itself.
 -- (ERTS User's Guide, Distribution Protocol.)
 use Rattle.std.specs.List.{flat_map}
-use Rattle.std.specs.Prelude.{Option, None, Some, if◌then◌else◌, ◌&&◌, List, [], ◌∷◌, ◌++◌}
+use Rattle.std.specs.Prelude.{Option, None, Some, if◌then◌else◌, ◌&&◌, List, [], ◌∷◌}
 use Rattle.dist_model.specs.Links.{Exits, LinkWord, Says}
 use Rattle.dist_model.specs.Names.{same_pid}
 use Rattle.erl_control.specs.declared.signal.Signal.{Signal}

@@ -1,7 +1,7 @@
 -- Links: a process links itself, takes its link back, and hears its partner's words.
 -- (Reference Manual, Processes, Links; ERTS User's Guide, Distribution Protocol, New Link Protocol.)
 use Rattle.erl_names.specs.Draw as kind
-use Rattle.std.specs.Prelude.{map, ℕ, Bool, true, false, if◌then◌else◌, List, [], ◌∷◌}
+use Rattle.std.specs.Prelude.{map, ℕ, Bool, true, false, if◌then◌else◌}
 use Rattle.dist_model.specs.Commands.{Done, Goes, Outcome, with_id}
 use Rattle.dist_model.specs.Exits.{link_exit}
 use Rattle.dist_model.specs.Items.{telling}
