@@ -14,7 +14,9 @@ use Rattle.erl_handshake.specs.declared.dialer.DialerState.{DialerState}
 use Rattle.erl_handshake.specs.declared.dialer.DialerState.TheVariants as dialer
 use Rattle.erl_handshake.specs.declared.acceptor.AcceptorState.{AcceptorState}
 use Rattle.erl_handshake.specs.declared.acceptor.AcceptorState.TheVariants as acceptor
-use Rattle.erl_handshake.specs.Roles.{dialer_turn, acceptor_turn}
+use Rattle.erl_handshake.specs.declared.admission.Others.{Others}
+use Rattle.erl_handshake.specs.Admission.{status_due}
+use Rattle.erl_handshake.specs.Roles.{waits, dialer_turn, acceptor_turn, admitted, awaits_admission, goes_on, awaits_turn}
 use Rattle.conn_core.specs.declared.state.State.{State}
 use Rattle.conn_core.specs.declared.state.State.TheVariants as state
 use Rattle.conn_core.specs.declared.taken.Fault.TheVariants.{Shake, Frame}
@@ -36,7 +38,7 @@ pub record Side : Type 0 where
   pub peer : List ℕ
   pub standing : Standing
 
--- a handshake that is done or over is none
+-- a handshake goes on, or is done, or over
 abbrev pub of_dialer : DialerState → Standing
 of_dialer (dialer.AwaitsStatus challenge) = Dialing (dialer.AwaitsStatus challenge)
 of_dialer (dialer.AwaitsChallenge challenge) = Dialing (dialer.AwaitsChallenge challenge)
@@ -59,7 +61,7 @@ abbrev pub dialer_state : DialerState → State
 dialer_state (dialer.AwaitsStatus challenge) = state.Dialing
 dialer_state (dialer.AwaitsChallenge challenge) = state.Dialing
 dialer_state (dialer.AwaitsAck challenge creation) = state.Dialing
-dialer_state (dialer.Done creation) = state.Up
+dialer_state (dialer.Done creation) = state.Gone
 dialer_state dialer.Over = state.Gone
 
 -- a side is Fresh until the attempt is decided on
@@ -69,7 +71,7 @@ acceptor_state (acceptor.AwaitsAdmission challenge creation) = state.Fresh
 acceptor_state (acceptor.AwaitsAnswer challenge creation) = state.Asked
 acceptor_state (acceptor.AwaitsTurn challenge creation) = state.Parked
 acceptor_state (acceptor.AwaitsReply challenge creation) = state.Accepting
-acceptor_state (acceptor.Done creation) = state.Up
+acceptor_state (acceptor.Done creation) = state.Gone
 acceptor_state acceptor.Over = state.Gone
 
 abbrev pub state_of : Standing → State
@@ -82,20 +84,15 @@ state_of Gone = state.Gone
 -- ---- the peer's creation, once it has said it
 
 abbrev pub dialer_peer : DialerState → Option ℕ
-dialer_peer (dialer.AwaitsStatus challenge) = None
-dialer_peer (dialer.AwaitsChallenge challenge) = None
 dialer_peer (dialer.AwaitsAck challenge creation) = Some creation
-dialer_peer (dialer.Done creation) = Some creation
-dialer_peer dialer.Over = None
+dialer_peer _ = None
 
 abbrev pub acceptor_peer : AcceptorState → Option ℕ
-acceptor_peer acceptor.AwaitsName = None
 acceptor_peer (acceptor.AwaitsAdmission challenge creation) = Some creation
 acceptor_peer (acceptor.AwaitsAnswer challenge creation) = Some creation
 acceptor_peer (acceptor.AwaitsTurn challenge creation) = Some creation
 acceptor_peer (acceptor.AwaitsReply challenge creation) = Some creation
-acceptor_peer (acceptor.Done creation) = Some creation
-acceptor_peer acceptor.Over = None
+acceptor_peer _ = None
 
 abbrev pub peer_creation : Standing → Option ℕ
 peer_creation (Dialing d) = dialer_peer d
@@ -171,3 +168,27 @@ on_item standing item = record { standing = standing; was = taken.Item item }
 
 abbrev pub on_no_frame : Standing → FrameError → Arrival
 on_no_frame standing why = record { standing = lost standing; was = taken.Broken (Frame why) }
+
+-- ---- the node's word on an attempt
+
+abbrev pub awaits_admission_of : Standing → Bool
+awaits_admission_of (Accepting a) = awaits_admission a
+awaits_admission_of _ = false
+
+-- the attempt goes on, or not, beside these others
+abbrev pub admitted_at : (own : Identity) → TrunkId → Standing → Others → Standing
+admitted_at own trunk (Accepting a) others = of_acceptor (admitted (status_due trunk.dialer own.name trunk.count others) a)
+admitted_at own trunk standing others = standing
+
+abbrev pub awaits_turn_of : Standing → Bool
+awaits_turn_of (Accepting a) = awaits_turn a
+awaits_turn_of _ = false
+
+-- the challenge is sent
+abbrev pub gone_on : (own : Identity) → Standing → Standing
+gone_on own (Accepting a) = of_acceptor (goes_on own a).state
+gone_on own standing = standing
+
+abbrev pub goes_on_with : (own : Identity) → Standing → Next
+goes_on_with own (Accepting a) = (goes_on own a).next
+goes_on_with own standing = (waits standing).next

@@ -8,8 +8,18 @@
 //! Nodes.)
 #![tactic(auto)]
 
+mod arriving;
+mod half;
+mod laws;
+mod one_item;
+mod side;
 mod state;
 mod taken;
 
+pub use laws::up_only_by_digest;
+pub use side::Side;
 pub use state::State;
 pub use taken::{Fault, Taken};
+
+#[cfg(test)]
+mod tests;

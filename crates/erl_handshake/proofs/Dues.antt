@@ -1,6 +1,6 @@
 -- The answer that is due to bytes: that there is one, and no other.
 use Rattle.std.proofs.Common.{◌^◌, lit<, append_assoc, ◌≡◌, ℕ, ◌+◌, ◌<◌, List, [], ◌++◌, length, take, drop, Option, Some, None, Result, Ok, Err, ap, sym, refl, subst, ◌∙◌, arith, length-append, ◌⊎◌, inl, inr}
-use Rattle.std.specs.Prelude.{MatchOption, IsErrOf}
+use Rattle.std.specs.Prelude.{IsErrOf}
 use Rattle.std.specs.Option.{ok_or}
 use Rattle.std.proofs.Math.Seq.{take-append_seam}
 use Rattle.std.proofs.lemmas.List.{take-append-drop, append-nil}
@@ -17,7 +17,7 @@ use Rattle.erl_handshake.specs.declared.message.ShakeMsg.{ShakeMsg}
 use Rattle.erl_handshake.specs.declared.message.ShakeMsg.TheVariants.{SendName, Status, Challenge, ChallengeReply, ChallengeAck}
 use Rattle.erl_handshake.specs.Messages.{counted, content, HasFields, IsFor, MayFollow, IsBody, IsShake, written}
 use Rattle.erl_handshake.specs.Answer.{HasBody, IsBegun, IsNone, IsShakeDue}
-use Rattle.erl_handshake.specs.Reading.{Decides}
+use Rattle.erl_handshake.specs.Reading.{Decides, ReadsBody}
 use Rattle.erl_handshake.proofs.Bytes.{front_len, length-counted, one_counted, one_body, begun_or_not, begun_or_whole}
 use Rattle.erl_handshake.proofs.Bodies.{one_message}
 use Rattle.erl_handshake.proofs.Decided.{HasMessage, message_or_not}
@@ -94,7 +94,7 @@ pub decides_err : {A B : Type 0} (S : A → Type 0) (T : B → Type 0) (e : Refu
 decides_err S T e back to (inl p) = inl (p.0, λ b t. let a = back b t in p.1 a.0 a.1)
 decides_err S T e back to (inr p) = inr (p.0, to p.1.0 p.1.1)
 
-pub decides_option : (role : Role) (body : List ℕ) (o : Option ShakeMsg) → MatchOption o ((r : Role) (m : ShakeMsg) → ¬ IsBody r m body) (λ m. (r : Role) → IsBody r m body) → Decides (λ m. IsBody role m body) (ok_or o BadMessage)
+pub decides_option : (role : Role) (body : List ℕ) (o : Option ShakeMsg) → ReadsBody body o → Decides (λ m. IsBody role m body) (ok_or o BadMessage)
 decides_option role body None h = inl (refl, λ m b. h role m b)
 decides_option role body (Some m) h = h role
 

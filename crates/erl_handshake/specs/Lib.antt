@@ -6,3 +6,4 @@ pub mod Reading
 pub mod Admission
 pub mod Roles
 pub mod Parties
+pub mod Exchange

@@ -88,6 +88,13 @@ impl Acceptor {
         }
     }
 
+    /// The attempt: who dials, and under which count.
+    pub fn trunk(&self) -> &TrunkId
+        ensures { result.now ≡ self.now.trunk }
+    {
+        &self.trunk
+    }
+
     /// What the acceptor awaits.
     pub fn state(&self) -> AcceptorState
         ensures { result ≡ self.now.state }

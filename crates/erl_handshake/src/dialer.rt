@@ -78,6 +78,13 @@ impl Dialer {
         }
     }
 
+    /// The node that is dialed.
+    pub fn peer(&self) -> &NodeName
+        ensures { result.now ≡ self.now.peer }
+    {
+        &self.peer
+    }
+
     /// What the dialer awaits.
     pub fn state(&self) -> DialerState
         ensures { result ≡ self.now.state }

@@ -28,12 +28,13 @@ pub enum Flag {
     Handshake23,
     /// The new link protocol.
     UnlinkId,
-    /// Pids and ports of 64 bits.
+    /// More data in pids, ports and references.
     V4Nc,
 }
 
 impl Flag {
-    /// The bit of the flag.
+    /// The flag as a word, in which its bit alone is set. (ERTS User's Guide, Distribution Protocol,
+    /// Distribution Flags.)
     pub fn value(self) -> u64
         ensures { result ≡ flags.flag_value self }
     {

@@ -19,9 +19,9 @@ mod dialer;
 mod digesting;
 mod fields;
 mod flags;
-mod laws;
 mod identity;
 mod introduction;
+mod laws;
 mod message;
 mod reading;
 mod role_laws;
@@ -35,14 +35,18 @@ pub use cookie::Cookie;
 pub use dialer::{Dialer, DialerState};
 pub use digesting::digest;
 pub use flags::{Flag, Flags};
-pub use laws::{digests, flags_by_bits, one_answer, one_message, read_again, written_is_shake};
 pub use identity::Identity;
+pub use laws::{digests, flags_by_bits, one_answer, one_message, read_again, written_is_shake};
 pub use message::{Role, ShakeMsg};
 pub use reading::read;
-pub use role_laws::{done_only_by_digest, later_attempt_goes_on, one_of_two_dials};
+pub use role_laws::{
+    done_only_by_digest, handshake_comes_about, later_attempt_goes_on, one_of_two_dials,
+};
 pub use status::Status;
 pub use turn::{Next, Outcome};
 pub use writing::write;
 
 #[cfg(test)]
 mod role_tests;
+#[cfg(test)]
+mod tests;

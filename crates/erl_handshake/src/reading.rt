@@ -3,10 +3,9 @@ ghost use Rattle.std.specs.Prelude.{◌≡◌, ◌≢◌, ◌⊎◌, ◌∷◌, 
 ghost use Rattle.std.specs.Int.{to_be_bytes, w32, w64};
 ghost use Rattle.erl_term.specs.declared.refusal.Refusal.{Refusal};
 ghost use Rattle.erl_handshake.specs.declared.message.ShakeMsg.{ShakeMsg as TheMessage};
-ghost use Rattle.erl_handshake.specs.declared.message.Role.{Role as TheRole};
 ghost use Rattle.erl_handshake.specs.Messages.{IsBody};
 ghost use Rattle.erl_handshake.specs.Answer.{IsShakeDue};
-ghost use Rattle.erl_handshake.specs.Reading.{Decides};
+ghost use Rattle.erl_handshake.specs.Reading.{Decides, ReadsBody};
 
 use crate::fields::{counted_at, name_of, u32_at, u64_at};
 use crate::flags::Flags;
@@ -67,7 +66,7 @@ fn challenge_of(alloc: Global, bytes: &[u8]) -> Result<ShakeMsg, Refusal>
 
 /// The challenge_reply of which these are the bytes behind the letter.
 fn challenge_reply_of(bytes: &[u8]) -> Option<ShakeMsg>
-    ensures { MatchOption result ((role : TheRole) (message : TheMessage) → ¬ IsBody role message (114 ∷ bytes.now)) (λ message. (role : TheRole) → IsBody role message (114 ∷ bytes.now)) }
+    ensures { ReadsBody (114 ∷ bytes.now) result }
 {
     let (challenge, digest) = u32_at(bytes)?;
     let digest = <[u8; 16]>::try_from(digest).ok()?;
@@ -76,7 +75,7 @@ fn challenge_reply_of(bytes: &[u8]) -> Option<ShakeMsg>
 
 /// The challenge_ack of which these are the bytes behind the letter.
 fn challenge_ack_of(bytes: &[u8]) -> Option<ShakeMsg>
-    ensures { MatchOption result ((role : TheRole) (message : TheMessage) → ¬ IsBody role message (97 ∷ bytes.now)) (λ message. (role : TheRole) → IsBody role message (97 ∷ bytes.now)) }
+    ensures { ReadsBody (97 ∷ bytes.now) result }
 {
     let digest = <[u8; 16]>::try_from(bytes).ok()?;
     Some(ShakeMsg::ChallengeAck { digest })
@@ -85,7 +84,7 @@ fn challenge_ack_of(bytes: &[u8]) -> Option<ShakeMsg>
 /// The message without a name that begins with this letter, behind which these bytes stand.
 fn nameless_of(letter: u8, bytes: &[u8]) -> Option<ShakeMsg>
     requires { letter ≢ 78 }
-    ensures { MatchOption result ((role : TheRole) (message : TheMessage) → ¬ IsBody role message (letter ∷ bytes.now)) (λ message. (role : TheRole) → IsBody role message (letter ∷ bytes.now)) }
+    ensures { ReadsBody (letter ∷ bytes.now) result }
 {
     match letter {
         b's' => Some(ShakeMsg::Status(Status::read(bytes)?)),

@@ -13,6 +13,8 @@ ghost use Rattle.erl_handshake.specs.declared.acceptor.AcceptorState.TheVariants
 ghost use Rattle.erl_handshake.specs.Digest.{digest_of};
 ghost use Rattle.erl_handshake.specs.Roles.{dialer_turn, acceptor_turn};
 ghost use Rattle.erl_handshake.specs.Admission.{is_superseded, status_due};
+ghost use Rattle.erl_handshake.specs.Flags.{has_all_of, mandatory};
+ghost use Rattle.erl_handshake.specs.Exchange.{met};
 
 /// A handshake is done only on the digest of the node's own cookie and its own challenge: at the
 /// dialer as an acknowledgement, at the acceptor as a reply.
@@ -36,4 +38,13 @@ pub fn one_of_two_dials()
     ensures { (a b : List ℕ) (m n : ℕ) (others : Others) → a ≢ b → others.waiting ≡ None → others.connected ≡ false → others.dialing ≡ true →
         ((status_due a b m others ≡ Status.OkSimultaneous) × (status_due b a n others ≡ Status.Nok))
         ⊎ ((status_due a b m others ≡ Status.Nok) × (status_due b a n others ≡ Status.OkSimultaneous)) }
+{}
+
+/// Two nodes that have nothing else between them, offer the mandatory flags and share a cookie, are
+/// connected when all that they send has come, and each knows the other's incarnation.
+pub fn handshake_comes_about()
+    ensures dialer { (own peer : Identity) (count challenge theirs : ℕ) → has_all_of own.flags mandatory ≡ true → has_all_of peer.flags mandatory ≡ true → own.cookie ≡ peer.cookie →
+        (met own peer count challenge theirs).dialer ≡ dialer.Done peer.creation }
+    ensures acceptor { (own peer : Identity) (count challenge theirs : ℕ) → has_all_of own.flags mandatory ≡ true → has_all_of peer.flags mandatory ≡ true → own.cookie ≡ peer.cookie →
+        (met own peer count challenge theirs).acceptor ≡ acceptor.Done own.creation }
 {}

@@ -443,6 +443,7 @@ fn each_allocation_of_a_role(rt: HostRuntime) -> Result<(), Fail> {
     acceptor.admit(ALONE)?;
     acceptor.go_on()?;
     done_only_by_digest();
+    handshake_comes_about();
     later_attempt_goes_on();
     one_of_two_dials();
     Ok(())

@@ -11,7 +11,7 @@ use erl_names::NodeName;
 use erl_term::Refusal;
 use std::alloc::{AllocError, Global};
 
-/// How many bytes a digest has.
+/// How many bytes a digest has. The array is read, since its length is known of what was read.
 fn digest_len(digest: &[u8; 16]) -> usize
     ensures len { result ≡ length digest.now }
     ensures sixteen { result ≡ 16 }
