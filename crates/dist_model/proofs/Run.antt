@@ -18,18 +18,20 @@ use Rattle.dist_model.proofs.Rules.{awaits_ack, awaits_challenge, awaits_true, h
 use Rattle.dist_model.proofs.Sides.{side_at}
 use Rattle.dist_model.proofs.Signals.{good_local}
 use Rattle.dist_model.proofs.Table.{Good, good_call}
-use Rattle.dist_model.specs.Arrivals.{arrive_at, arrive_fresh, handshake_in, signal_at, take_local}
+use Rattle.dist_model.specs.Arrivals.{arrive, arrive_at, arrive_fresh, handshake_in, signal_at, take_local}
+use Rattle.dist_model.specs.Calls.{call}
 use Rattle.dist_model.specs.Commands.{Done, Goes, Outcome, Refuses}
+use Rattle.dist_model.specs.Dialing.{dial}
 use Rattle.dist_model.specs.Handshake.{fault, handshake_at}
-use Rattle.dist_model.specs.Incarnations.{start, started}
+use Rattle.dist_model.specs.Incarnations.{start, started, stop}
 use Rattle.dist_model.specs.Items.{Handshake, Item, Signalled, Tick}
-use Rattle.dist_model.specs.Losses.{lose}
+use Rattle.dist_model.specs.Losses.{lose, sweep}
 use Rattle.dist_model.specs.Names.{Name, place_cmp, same_name}
 use Rattle.dist_model.specs.Node.{Node}
 use Rattle.dist_model.specs.Runs.{Always, Comes, Runs, opening, run}
 use Rattle.dist_model.specs.Sides.{Accepting, Asked, AwaitsAck, AwaitsChallenge, AwaitsStatus, Gone, Losing, Parked, State, TrunkSide, Up, is_up}
 use Rattle.dist_model.specs.Work.{at_work}
-use Rattle.dist_model.specs.World.{Arrive, Call, Dial, Event, Local, Lose, Report, Start, Stepped, Stop, Sweep, World, arrives, arrives_first, carried, ends_in, is_over, list_to, node_name, node_of, refused, running, set_node, step, step_at}
+use Rattle.dist_model.specs.World.{Arrive, Call, Dial, Event, Local, Lose, Refused, Report, Start, Stepped, Stop, Sweep, World, arrives, arrives_first, carried, ends_in, is_over, list_to, node_name, node_of, refused, running, set_node, step, step_at}
 use Rattle.erl_handshake.specs.Digest.{digest_of}
 use Rattle.erl_handshake.specs.Flags.{has_all_of, mandatory}
 use Rattle.erl_handshake.specs.Roles.{is_answered, is_same}
@@ -245,3 +247,41 @@ moments (e ∷ es) fs [] w v h = absurd h
 moments (e ∷ es) fs (r ∷ rs) w v h =
     let m = moments es fs rs h.0 v h.2 in
     (r ∷ m.0, m.1, m.2, ap (λ l. r ∷ l) m.3, (h.0, h.1, m.4), m.5)
+
+-- a refusal changes nothing
+abbrev Unchanged : World → Stepped → Type 0
+Unchanged w s = (r : Refusal) → s.report ≡ Refused r → s.world ≡ w
+
+unchanged_ends : (w : World) (x : Name) (m : FinMap place_cmp (List Item)) (o : Outcome) → Unchanged w (ends_in w x m o)
+unchanged_ends w x m (Refuses k) r h = refl
+unchanged_ends w x m (Goes a o) r h = cc
+
+unchanged_cond : (w : World) (b : Bool) (s u : Stepped) → Unchanged w s → Unchanged w u → Unchanged w (cond b s u)
+unchanged_cond w true s u f g = f
+unchanged_cond w false s u f g = g
+
+unchanged_first : (w : World) (n : Node) (t : TrunkId) (x : Name) (k : ℕ) (o : Option TrunkSide) (l : List Item) → Unchanged w (arrives_first w n t x k o l)
+unchanged_first w n t x k o [] = λ r h. refl
+unchanged_first w n t x k o (i ∷ is) = unchanged_ends w x (fm.insert w.lists (t, x) is) (arrive n t o i k)
+
+unchanged_arrives : (w : World) (n : Node) (t : TrunkId) (x : Name) (k : ℕ) (o : Option TrunkSide) → Unchanged w (arrives w n t x k o)
+unchanged_arrives w n t x k None = unchanged_cond w _ _ _ (unchanged_first w n t x k None (list_to w.lists t x)) (λ r h. refl)
+unchanged_arrives w n t x k (Some s) = unchanged_cond w _ _ _ (λ r h. refl) (unchanged_first w n t x k (Some s) (list_to w.lists t x))
+
+unchanged_running : (w : World) (n : Node) (s : Stepped) → Unchanged w s → Unchanged w (running w n s)
+unchanged_running w n s f = unchanged_cond w n.up s (refused w Refusal.NodeDown) f (λ r h. refl)
+
+unchanged_at : (w : World) (o : Option Node) (e : Event) → Unchanged w (step_at w o e)
+unchanged_at w None e = λ r h. refl
+unchanged_at w (Some n) (Call x c) = unchanged_running w n _ (unchanged_ends w x w.lists (call n c))
+unchanged_at w (Some n) (Arrive t x k) = unchanged_running w n _ (unchanged_arrives w n t x k (fm.get n.sides t))
+unchanged_at w (Some n) (Local x) = unchanged_running w n _ (unchanged_ends w x w.lists (take_local n n.local))
+unchanged_at w (Some n) (Lose t x) = unchanged_running w n _ (unchanged_ends w x w.lists (lose n t (fm.get n.sides t)))
+unchanged_at w (Some n) (Sweep x) = unchanged_running w n _ (unchanged_ends w x w.lists (sweep n))
+unchanged_at w (Some n) (Dial x y k) = unchanged_running w n _ (unchanged_ends w x w.lists (dial w.names n y k))
+unchanged_at w (Some n) (Stop x) = unchanged_running w n _ (unchanged_ends w x w.lists (stop n))
+unchanged_at w (Some n) (Start x) = unchanged_ends w x w.lists (start n)
+
+pub refused_unchanged : (w v : World) (e : Event) (r : Refusal) → Comes w e (Refused r) v → v ≡ w
+refused_unchanged w v e r (inl h) = h.1 ∙ unchanged_at w (node_of w.nodes (node_name e)) e r (sym h.0)
+refused_unchanged w v e r (inr h) = h.1

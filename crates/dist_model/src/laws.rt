@@ -8,14 +8,15 @@ ghost use Rattle.erl_term.specs.declared.term.Reference.{Reference};
 ghost use Rattle.exit_core.specs.Messages.{down_term};
 ghost use Rattle.dist_model.specs.Downs.{down_in};
 ghost use Rattle.erl_term.specs.Data.{Data};
+ghost use Rattle.erl_term.specs.declared.refusal.Refusal.{Refusal};
 ghost use Rattle.erl_control.specs.Control.{Fits};
 ghost use Rattle.dist_model.specs.Fits.{fits};
 ghost use Rattle.dist_model.specs.Links.{LinkWord};
 ghost use Rattle.dist_model.specs.Items.{Signalled, telling, word_in};
 ghost use Rattle.link_core.specs.declared.end.End.{End};
-ghost use Rattle.dist_model.specs.World.{World, Event, Report};
+ghost use Rattle.dist_model.specs.World.{World, Event, Report, Refused};
 ghost use Rattle.dist_model.specs.Quiet.{Quiet, is_quiet};
-ghost use Rattle.dist_model.specs.Runs.{Runs, run, Always};
+ghost use Rattle.dist_model.specs.Runs.{Comes, Runs, run, Always};
 ghost use Rattle.dist_model.specs.Sides.{is_up};
 ghost use Rattle.dist_model.specs.Seen.{end_between, AreConnected};
 ghost use Rattle.dist_model.specs.Schedules as schedule;
@@ -78,6 +79,11 @@ pub fn fits_test()
 /// Events lead somewhere, whatever they are: where memory never wants, to the world of their steps.
 pub fn events_run()
     ensures runs { (events : List Event) (world : World) → (reports : List Report) × Runs world events reports (run events world) }
+{}
+
+/// An event that is refused changes nothing.
+pub fn refused_changes_nothing()
+    ensures unchanged { (world new : World) (event : Event) (refusal : Refusal) → Comes world event (Refused refusal) new → new ≡ world }
 {}
 
 /// Two nodes of one cookie connect, and a process of each comes to hold a link to the other active.
