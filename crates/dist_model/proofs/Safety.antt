@@ -109,13 +109,13 @@ module _ (w : World) (g : Good w) where
   one_node p q a b ha hb e = some_same a b (sym ha ∙ ap (node_of w.nodes) e ∙ hb)
 
   pub agreement : Agreement w
-  agreement p q t s v lp lq = go (node_of w.nodes p.node) (node_of w.nodes q.node) refl refl lp lq
+  agreement p q t u lp lq = go (node_of w.nodes p.node) (node_of w.nodes q.node) refl refl lp lq
     where
       go : (c d : Option Node) → node_of w.nodes p.node ≡ c → node_of w.nodes q.node ≡ d → living_at c p ≡ true → living_at d q ≡ true
           → drained (end_at c p q) (words q p (list_to w.lists t p.node)) ≡ End.Active ↔ drained (end_at d q p) (words p q (list_to w.lists t q.node)) ≡ End.Active
       go None d hc hd lp lq = none_living lp
       go (Some a) None hc hd lp lq = none_living lq
-      go (Some a) (Some b) hc hd lp lq = agrees p q a b _ _ (kept_over p q a b t hc hd s v) lp lq
+      go (Some a) (Some b) hc hd lp lq = agrees p q a b _ _ (kept_over p q a b t hc hd u.0 u.1) lp lq
 
   pub agreement_within : AgreementWithin w
   agreement_within p q e lp lq = go (node_of w.nodes p.node) (node_of w.nodes q.node) refl refl lp lq
@@ -149,11 +149,11 @@ module _ (w : World) (g : Good w) where
       let v = silent_signals p q (local_list w p.node) s in
       subst (λ u. drained (end_between w p q) u ≡ End.Active ↔ end_between w q p ≡ End.Active) v.1
       (subst (λ u. drained (end_between w p q) (words q p (local_list w p.node)) ≡ End.Active ↔ drained (end_between w q p) u ≡ End.Active) v.0 (agreement_within p q e lp lq))
-  agreement_in_quiet p q (Over d t a b s r) lp lq =
+  agreement_in_quiet p q (Over d t c s r) lp lq =
       let v = silent_signals p q (list_to w.lists t p.node) s in
       let u = silent_signals p q (list_to w.lists t q.node) r in
       subst (λ z. drained (end_between w p q) z ≡ End.Active ↔ end_between w q p ≡ End.Active) v.1
-      (subst (λ z. drained (end_between w p q) (words q p (list_to w.lists t p.node)) ≡ End.Active ↔ drained (end_between w q p) z ≡ End.Active) u.0 (agreement p q t a b lp lq))
+      (subst (λ z. drained (end_between w p q) (words q p (list_to w.lists t p.node)) ≡ End.Active ↔ drained (end_between w q p) z ≡ End.Active) u.0 (agreement p q t c lp lq))
   agreement_in_quiet p q (Unconnected n c d) lp lq =
       (λ h. not_active (end_between w p q) (unconnected p q n c) h, λ h. not_active (end_between w q p) (unconnected q p (name_turned p.node q.node n) d) h)
 
@@ -182,13 +182,13 @@ module _ (w : World) (g : Good w) where
   living_was_spawned x n p h l = (g.core.nodes x n h).born p l
 
   pub pending : PendingOnItsWay w
-  pending p q t i s v lp lq e = go (node_of w.nodes p.node) (node_of w.nodes q.node) refl refl lp lq e
+  pending p q t i u lp lq e = go (node_of w.nodes p.node) (node_of w.nodes q.node) refl refl lp lq e
     where
       go : (c d : Option Node) → node_of w.nodes p.node ≡ c → node_of w.nodes q.node ≡ d → living_at c p ≡ true → living_at d q ≡ true → end_at c p q ≡ End.Pending i
           → (last_said (words p q (list_to w.lists t q.node)) ≡ Some (LinkSignal.Unlink i)) ⊎ Contains (words q p (list_to w.lists t p.node)) (Says (LinkSignal.Ack i))
       go None d hc hd lp lq e = none_living lp
       go (Some a) None hc hd lp lq e = none_living lq
-      go (Some a) (Some b) hc hd lp lq e = pends p q a b _ _ (kept_over p q a b t hc hd s v) i lp lq e
+      go (Some a) (Some b) hc hd lp lq e = pends p q a b _ _ (kept_over p q a b t hc hd u.0 u.1) i lp lq e
 
   pub pending_within : PendingWithin w
   pending_within p q i n lp lq e = by_test _ (same_pid p q)
@@ -220,7 +220,7 @@ module _ (w : World) (g : Good w) where
 
   pub no_link_to_the_dead : NoLinkToTheDead w
   no_link_to_the_dead p q (Within n s) lp lq e = dead_within p q n (node_of w.nodes p.node) (node_of w.nodes q.node) refl refl s lp lq e
-  no_link_to_the_dead p q (Over d t x y s r) lp lq e = dead_over p q t x y s r (node_of w.nodes p.node) (node_of w.nodes q.node) refl refl lp lq e
+  no_link_to_the_dead p q (Over d t c s r) lp lq e = dead_over p q t c.0 c.1 s r (node_of w.nodes p.node) (node_of w.nodes q.node) refl refl lp lq e
   no_link_to_the_dead p q (Unconnected n c d) lp lq e = not_active (end_between w p q) (unconnected p q n c) e
 
   -- one trunk

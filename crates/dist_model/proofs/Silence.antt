@@ -85,7 +85,7 @@ module _ (w : World) (p q : Pid) where
       let r = passing (is_quiet_on w p q) (fm.entries n.sides) (fm.entries_sorted n.sides) h in
       let v = all_four (is_up_to q.node (Some r.side)) (is_up_to p.node (side_in (node_of w.nodes q.node) r.trunk)) (is_silent p q (list_to w.lists r.trunk p.node)) (is_silent p q (list_to w.lists r.trunk q.node)) r.passes in
       let at : side_in (node_of w.nodes p.node) r.trunk ≡ Some r.side = ap (λ u. side_in u r.trunk) e ∙ fm.get-entries n.sides r.trunk ∙ r.found in
-      Over d r.trunk (up_there w p.node r.trunk q.node (ap (is_up_to q.node) at ∙ v.0)) (up_there w q.node r.trunk p.node v.1) v.2 v.3
+      Over d r.trunk (up_there w p.node r.trunk q.node (ap (is_up_to q.node) at ∙ v.0), up_there w q.node r.trunk p.node v.1) v.2 v.3
 
   none_there : (a b : Bool) → (not a && not b) ≡ true → (a ≡ false) × (b ≡ false)
   none_there true b h = cc
@@ -113,11 +113,11 @@ module _ (w : World) (p q : Pid) where
 
   pub test_of_quiet : Quiet w p q → is_quiet w p q ≡ true
   test_of_quiet (Within e s) = ap (λ b. cond b (is_silent p q (local_list w p.node)) apart) (same_name_is p.node q.node e) ∙ s
-  test_of_quiet (Over d t x y s r) =
+  test_of_quiet (Over d t c s r) =
       ap (λ b. cond b (is_silent p q (local_list w p.node)) apart) d
-      ∙ ap (λ b. b || (not (is_connected w p.node q.node) && not (is_connected w q.node p.node))) (some_there t (node_of w.nodes p.node) refl x
-      (four_all (is_up_to q.node (Some x.side)) (is_up_to p.node (side_in (node_of w.nodes q.node) t)) (is_silent p q (list_to w.lists t p.node)) (is_silent p q (list_to w.lists t q.node))
-      (sym (ap (is_up_to q.node) x.there) ∙ is_up_there w p.node t q.node x) (is_up_there w q.node t p.node y) s r))
+      ∙ ap (λ b. b || (not (is_connected w p.node q.node) && not (is_connected w q.node p.node))) (some_there t (node_of w.nodes p.node) refl c.0
+      (four_all (is_up_to q.node (Some c.0.side)) (is_up_to p.node (side_in (node_of w.nodes q.node) t)) (is_silent p q (list_to w.lists t p.node)) (is_silent p q (list_to w.lists t q.node))
+      (sym (ap (is_up_to q.node) c.0.there) ∙ is_up_there w p.node t q.node c.0) (is_up_there w q.node t p.node c.1) s r))
   test_of_quiet (Unconnected d a b) =
       ap (λ c. cond c (is_silent p q (local_list w p.node)) apart) d
       ∙ ap (λ c. is_some (first_where (is_quiet_on w p q) (sides_at (node_of w.nodes p.node))) || c) (ap (λ c. not c && not (is_connected w q.node p.node)) a ∙ ap not b)

@@ -7,7 +7,7 @@ use Rattle.dist_model.specs.Links.{Says, drained, last_said}
 use Rattle.dist_model.specs.Names.{Name}
 use Rattle.dist_model.specs.Node.{Node, living, never}
 use Rattle.dist_model.specs.Quiet.{Quiet}
-use Rattle.dist_model.specs.Seen.{HasSide, end_between, is_connected, is_living, is_reached, local_list}
+use Rattle.dist_model.specs.Seen.{AreConnected, HasSide, end_between, is_connected, is_living, is_reached, local_list}
 use Rattle.dist_model.specs.Sides.{is_losing, is_up}
 use Rattle.dist_model.specs.World.{Call, Event, World, list_to, node_of, step}
 use Rattle.erl_names.specs.declared.trunk.TrunkId.{TrunkId}
@@ -20,7 +20,7 @@ use Rattle.link_core.specs.declared.end.LinkSignal.{LinkSignal}
 
 -- two living processes of connected nodes: once all that travels has come, both hold their link active, or neither does
 abbrev pub Agreement : World → Type 0
-Agreement w = (p q : Pid) (t : TrunkId) → HasSide w p.node t q.node is_up → HasSide w q.node t p.node is_up → is_living w p ≡ true → is_living w q ≡ true
+Agreement w = (p q : Pid) (t : TrunkId) → AreConnected w p.node t q.node → is_living w p ≡ true → is_living w q ≡ true
     → drained (end_between w p q) (words q p (list_to w.lists t p.node)) ≡ End.Active ↔ drained (end_between w q p) (words p q (list_to w.lists t q.node)) ≡ End.Active
 
 -- two living processes of one node
@@ -36,7 +36,7 @@ AgreementInQuiet w = (p q : Pid) → Quiet w p q → is_living w p ≡ true → 
 
 -- where an end waits for an acknowledgement, its UNLINK_ID is the last word on the way to the partner, or the acknowledgement is on its way back
 abbrev pub PendingOnItsWay : World → Type 0
-PendingOnItsWay w = (p q : Pid) (t : TrunkId) (i : ℕ) → HasSide w p.node t q.node is_up → HasSide w q.node t p.node is_up → is_living w p ≡ true → is_living w q ≡ true → end_between w p q ≡ End.Pending i
+PendingOnItsWay w = (p q : Pid) (t : TrunkId) (i : ℕ) → AreConnected w p.node t q.node → is_living w p ≡ true → is_living w q ≡ true → end_between w p q ≡ End.Pending i
     → (last_said (words p q (list_to w.lists t q.node)) ≡ Some (LinkSignal.Unlink i)) ⊎ Contains (words q p (list_to w.lists t p.node)) (Says (LinkSignal.Ack i))
 
 abbrev pub PendingWithin : World → Type 0

@@ -4,7 +4,7 @@ use Rattle.std.specs.FinMap as fm
 use Rattle.dist_model.specs.Items.{Handshake, Item, Signalled, Tick, receiver_of, sender_of}
 use Rattle.dist_model.specs.Names.{Name, same_name, same_pid}
 use Rattle.dist_model.specs.Node.{first_where}
-use Rattle.dist_model.specs.Seen.{HasSide, is_connected, local_list, seen, side_of_trunk}
+use Rattle.dist_model.specs.Seen.{AreConnected, is_connected, local_list, seen, side_of_trunk}
 use Rattle.dist_model.specs.Sides.{TrunkSide, is_up}
 use Rattle.dist_model.specs.World.{World, list_to, node_of}
 use Rattle.erl_names.specs.declared.trunk.TrunkId.{TrunkId}
@@ -28,7 +28,7 @@ is_silent p q (item ∷ rest) = not (is_of p q item || is_of q p item) && is_sil
 -- in their node's own list; on a trunk that is up at both nodes; or because the nodes aren't connected
 pub data Quiet (world : World) (p q : Pid) : Type 0 where
   Within : p.node ≡ q.node → is_silent p q (local_list world p.node) ≡ true → Quiet world p q
-  Over : same_name p.node q.node ≡ false → (trunk : TrunkId) → HasSide world p.node trunk q.node is_up → HasSide world q.node trunk p.node is_up
+  Over : same_name p.node q.node ≡ false → (trunk : TrunkId) → AreConnected world p.node trunk q.node
       → is_silent p q (list_to world.lists trunk p.node) ≡ true → is_silent p q (list_to world.lists trunk q.node) ≡ true → Quiet world p q
   Unconnected : same_name p.node q.node ≡ false → is_connected world p.node q.node ≡ false → is_connected world q.node p.node ≡ false → Quiet world p q
 
