@@ -31,3 +31,4 @@ pub mod Silence
 pub mod Fitting
 pub mod Happening
 pub mod Downing
+pub mod Giving

@@ -12,7 +12,6 @@ use Rattle.dist_model.proofs.Seeing.{list_in}
 use Rattle.dist_model.proofs.Sides.{joined, side_at}
 use Rattle.dist_model.proofs.Table.{Anchor, Good, HomeKept, Likely, NoLinks, Posted, Row, Table, begun, has, insert_key, is_accept, is_challenge, is_early, is_reply, likely_along, may_be_up, role_state, single_kept, went_up}
 use Rattle.dist_model.proofs.Views.{side_of, words-append}
-use Rattle.dist_model.specs.Fits.{fits}
 use Rattle.dist_model.specs.Items.{Handshake, Item, word_in, words}
 use Rattle.dist_model.specs.Links.{LinkWord}
 use Rattle.dist_model.specs.Names.{Name, place_cmp, same_name}

@@ -12,7 +12,6 @@ use Rattle.dist_model.proofs.Closing.{good_started, good_stopped, good_sweep}
 use Rattle.dist_model.proofs.Fresh.{asked_on, fresh_fault, fresh_hello}
 use Rattle.dist_model.proofs.Keys.{and_both, place_total, same_name_refl, same_place, same_trunk_refl}
 use Rattle.dist_model.proofs.NewSides.{good_dial}
-use Rattle.dist_model.proofs.Pair.{later}
 use Rattle.dist_model.proofs.Primitives.{good_popped}
 use Rattle.dist_model.proofs.Routes.{node_of_name, none_some, some_same}
 use Rattle.dist_model.proofs.Rules.{awaits_ack, awaits_challenge, awaits_true, handshake_as, handshake_by, name_as}

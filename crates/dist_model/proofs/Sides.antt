@@ -9,7 +9,6 @@ use Rattle.dist_model.proofs.Moves.{AllRouted, NodeKept, held, held_along, reach
 use Rattle.dist_model.proofs.Pair.{Side}
 use Rattle.dist_model.proofs.Routes.{Found, at_place, fst_of, none_some, route_is, side_where_found, side_where_none, some_same}
 use Rattle.dist_model.proofs.Views.{over, side_of, side_path, to_name, view}
-use Rattle.dist_model.specs.Handshake.{after}
 use Rattle.dist_model.specs.Items.{Item, words}
 use Rattle.dist_model.specs.Links.{LinkWord, noproc}
 use Rattle.dist_model.specs.Names.{Name, same_name}

@@ -35,13 +35,13 @@ four_all true b c d ha hb hc hd = ap (λ v. (v && c) && d) hb ∙ ap (λ v. v &&
 four_all false b c d ha hb hc hd = cc
 
 -- an entry that passes
-record Passing (test : TrunkId → TrunkSide → Bool) (es : List (TrunkId × TrunkSide)) : Type 0 where
-  trunk : TrunkId
-  side : TrunkSide
-  found : find trunk_cmp trunk es ≡ Some side
-  passes : test trunk side ≡ true
+pub record Passing (test : TrunkId → TrunkSide → Bool) (es : List (TrunkId × TrunkSide)) : Type 0 where
+  pub trunk : TrunkId
+  pub side : TrunkSide
+  pub found : find trunk_cmp trunk es ≡ Some side
+  pub passes : test trunk side ≡ true
 
-passing : (test : TrunkId → TrunkSide → Bool) (es : List (TrunkId × TrunkSide)) → T (is_sorted trunk_cmp es) → is_some (first_where test es) ≡ true → Passing test es
+pub passing : (test : TrunkId → TrunkSide → Bool) (es : List (TrunkId × TrunkSide)) → T (is_sorted trunk_cmp es) → is_some (first_where test es) ≡ true → Passing test es
 passing test [] s h = cc
 passing test (e ∷ es) s h = by_test (Passing test (e ∷ es)) (test e.0 e.1)
     (λ i. record { trunk = e.0; side = e.1; found = ap (λ c. cond (is_eq c) (Some e.1) (find trunk_cmp e.0 es)) (tied_itself trunk_total e.0); passes = i })
@@ -50,7 +50,7 @@ passing test (e ∷ es) s h = by_test (Passing test (e ∷ es)) (test e.0 e.1)
     let r = passing test es t.1 (sym (ap (λ b. is_some (cond b (Some e) (first_where test es))) i) ∙ h) in
     record { trunk = r.trunk; side = r.side; found = ap (λ b. cond b (Some e.1) (find trunk_cmp r.trunk es)) (below_find r.trunk e.0 r.side es t.0 r.found) ∙ r.found; passes = r.passes })
 
-passed : (test : TrunkId → TrunkSide → Bool) (es : List (TrunkId × TrunkSide)) (t : TrunkId) (s : TrunkSide) → find trunk_cmp t es ≡ Some s → test t s ≡ true → is_some (first_where test es) ≡ true
+pub passed : (test : TrunkId → TrunkSide → Bool) (es : List (TrunkId × TrunkSide)) (t : TrunkId) (s : TrunkSide) → find trunk_cmp t es ≡ Some s → test t s ≡ true → is_some (first_where test es) ≡ true
 passed test [] t s f h = absurd (none_some s f)
 passed test (e ∷ es) t s f h = by_test _ (test e.0 e.1)
     (λ i. ap (λ b. is_some (cond b (Some e) (first_where test es))) i)

@@ -6,7 +6,7 @@ use Rattle.dist_model.specs.Commands.{Done, Goes, Outcome, Refuses, Sweeps, Swep
 use Rattle.dist_model.specs.Exits.{link_exit}
 use Rattle.dist_model.specs.Handshake.{challenge, set_state, write}
 use Rattle.dist_model.specs.Links.{noconnection}
-use Rattle.dist_model.specs.Monitoring.{monitor, unregister, unwatch}
+use Rattle.dist_model.specs.Monitoring.{unregister, unwatch}
 use Rattle.dist_model.specs.Names.{Name, same_name}
 use Rattle.dist_model.specs.Node.{Node, first_where, side_where}
 use Rattle.dist_model.specs.Sides.{Accepting, Gone, Losing, Parked, State, TrunkSide, is_losing, is_parked, lost}

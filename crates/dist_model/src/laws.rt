@@ -2,7 +2,7 @@
 //!
 //! Every law is of every world to which any list of events leads, from any opening world, with or
 //! without memory; and so of each moment of every run.
-ghost use Rattle.std.specs.Prelude.{◌≡◌, ◌↔◌, ℕ, List, [], ◌∷◌, ◌++◌, true};
+ghost use Rattle.std.specs.Prelude.{◌≡◌, ◌↔◌, ℕ, List, [], ◌∷◌, ◌++◌, true, Some};
 ghost use Rattle.erl_term.specs.declared.term.Pid.{Pid};
 ghost use Rattle.erl_term.specs.declared.term.Reference.{Reference};
 ghost use Rattle.exit_core.specs.Messages.{down_term};
@@ -17,7 +17,13 @@ ghost use Rattle.link_core.specs.declared.end.End.{End};
 ghost use Rattle.dist_model.specs.World.{World, Event, Report, Refused};
 ghost use Rattle.dist_model.specs.Quiet.{Quiet, is_quiet};
 ghost use Rattle.dist_model.specs.Runs.{Comes, Runs, run, Always};
-ghost use Rattle.dist_model.specs.Sides.{is_up};
+ghost use Rattle.std.specs.FinMap as map;
+ghost use Rattle.erl_names.specs.declared.trunk.TrunkId.{TrunkId};
+ghost use Rattle.dist_model.specs.Names.{Name};
+ghost use Rattle.dist_model.specs.Sides.{TrunkSide, is_waiting};
+ghost use Rattle.dist_model.specs.Node.{Node, side_where};
+ghost use Rattle.dist_model.specs.Work.{at_work};
+ghost use Rattle.dist_model.specs.Admission.{give_up, others};
 ghost use Rattle.dist_model.specs.Seen.{end_between, AreConnected};
 ghost use Rattle.dist_model.specs.Schedules as schedule;
 ghost use Rattle.dist_model.specs.Claims.{Agreement, AgreementWithin, AgreementInQuiet, PendingOnItsWay, PendingWithin, NoLinkToTheDead, NoLinkToItself, LinkNeedsConnection, LivingWasSpawned, OneTrunk, NoUpBesideLosing, ReactsOnlyWhereLinked};
@@ -64,6 +70,13 @@ pub fn one_trunk()
 /// very event towards a node that isn't reached. (Reference Manual, Processes, Links.)
 pub fn reactions()
     ensures linked { Always ReactsOnlyWhereLinked }
+{}
+
+/// What a node tells a dialer of its other sides is the same before and after an older attempt of
+/// that dialer has given way. (ERTS User's Guide, Distribution Protocol, Distribution Handshake.)
+pub fn others_stay()
+    ensures stay { (node : Node) (dialer : Name) (older : TrunkId × TrunkSide) → side_where is_waiting dialer (map.entries node.sides) ≡ Some older →
+        others ((give_up (Some older) (at_work node)).node) dialer ≡ others node dialer }
 {}
 
 /// Whether nothing travels between two processes can be tested.
