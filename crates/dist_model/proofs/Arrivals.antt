@@ -14,7 +14,7 @@ use Rattle.dist_model.proofs.Table.{Good, Posted, Row, begun, has, holds_side, i
 use Rattle.dist_model.specs.Arrivals.{is_good, on_up}
 use Rattle.dist_model.specs.Commands.{Goes, Outcome, Took}
 use Rattle.dist_model.specs.Handshake.{fault, set_state, write}
-use Rattle.dist_model.specs.Items.{Handshake, Item, word_in}
+use Rattle.dist_model.specs.Items.{Handshake, Item, news_in}
 use Rattle.dist_model.specs.Losses.{lose_at}
 use Rattle.dist_model.specs.Names.{Name, same_name}
 use Rattle.dist_model.specs.Node.{Node}
@@ -40,13 +40,13 @@ module _ (w : World) (x : Name) (n : Node) (t : TrunkId) (v : TrunkSide) (i : It
   nx = node_of_name w.nodes x n hx
 
   -- the side has its new state; the item is taken off
-  popped_after : (s : TrunkSide) → Good (in_state w x n t s) → ((joined s.state ≡ false) ⊎ ((p q : Pid) → word_in p q i ≡ [])) → Good (record { names = w.names; nodes = set_node w.nodes x (with_side_at n t s); lists = fm.insert w.lists (t, x) rest })
+  popped_after : (s : TrunkSide) → Good (in_state w x n t s) → ((joined s.state ≡ false) ⊎ ((p q : Pid) → news_in p q i ≡ [])) → Good (record { names = w.names; nodes = set_node w.nodes x (with_side_at n t s); lists = fm.insert w.lists (t, x) rest })
   popped_after s gs c = good_popped (in_state w x n t s) t x i rest gs first (λ m u hm hu j p q. pick c m u hm hu j p q)
     where
       here : node_of (set_node w.nodes x (with_side_at n t s)) x ≡ Some (with_side_at n t s)
       here = node_of_set_same w.nodes x n (with_side_at n t s) hx nx
 
-      pick : (joined s.state ≡ false) ⊎ ((p q : Pid) → word_in p q i ≡ []) → (m : Node) (u : TrunkSide) → node_of (set_node w.nodes x (with_side_at n t s)) x ≡ Some m → side_at m t ≡ Some u → joined u.state ≡ true → (p q : Pid) → word_in p q i ≡ []
+      pick : (joined s.state ≡ false) ⊎ ((p q : Pid) → news_in p q i ≡ []) → (m : Node) (u : TrunkSide) → node_of (set_node w.nodes x (with_side_at n t s)) x ≡ Some m → side_at m t ≡ Some u → joined u.state ≡ true → (p q : Pid) → news_in p q i ≡ []
       pick (inr e) m u hm hu j p q = e p q
       pick (inl e) m u hm hu j p q =
           let nm : with_side_at n t s ≡ m = some_same (with_side_at n t s) m (sym here ∙ hm) in
@@ -109,13 +109,13 @@ module _ (w : World) (x : Name) (n : Node) (t : TrunkId) (v : TrunkSide) (i : It
       go false e = good_fault Refusal.Forged
 
   -- the handshake, where the item is the one that is due
-  pub status_comes : (u : ℕ) → v.state ≡ AwaitsStatus u → ((p q : Pid) → word_in p q i ≡ []) → Fin (set_state t v (AwaitsChallenge u) (at_work n))
+  pub status_comes : (u : ℕ) → v.state ≡ AwaitsStatus u → ((p q : Pid) → news_in p q i ≡ []) → Fin (set_state t v (AwaitsChallenge u) (at_work n))
   status_comes u e none = popped_after (as_state v (AwaitsChallenge u)) (good_awaits_challenge w x n t v u hx h e g) (inr none)
 
-  alive_comes : (u : ℕ) → v.state ≡ AwaitsStatus u → ((p q : Pid) → word_in p q i ≡ []) → Fin (write t v.peer (ShakeMsg.Status Status.True) (set_state t v (AwaitsChallenge u) (at_work n)))
+  alive_comes : (u : ℕ) → v.state ≡ AwaitsStatus u → ((p q : Pid) → news_in p q i ≡ []) → Fin (write t v.peer (ShakeMsg.Status Status.True) (set_state t v (AwaitsChallenge u) (at_work n)))
   alive_comes u e none = sent_after (as_state v (AwaitsChallenge u)) (ShakeMsg.Status Status.True) refl (status_comes u e none) (λ d a s hd hs ha. (λ j. cc, λ j. cc, λ j. cc, λ j. cc)) (λ j. (refl, refl))
 
-  pub challenge_comes : (u c : ℕ) (r : List ℕ) → v.state ≡ AwaitsChallenge u → is_challenge i ≡ true → ((p q : Pid) → word_in p q i ≡ [])
+  pub challenge_comes : (u c : ℕ) (r : List ℕ) → v.state ≡ AwaitsChallenge u → is_challenge i ≡ true → ((p q : Pid) → news_in p q i ≡ [])
       → Fin (write t v.peer (ShakeMsg.ChallengeReply u r) (set_state t (record { peer = v.peer; peer_creation = c; state = v.state }) (AwaitsAck u) (at_work n)))
   challenge_comes u c r e ch none =
       let s : TrunkSide = record { peer = v.peer; peer_creation = c; state = AwaitsAck u } in
@@ -145,10 +145,10 @@ module _ (w : World) (x : Name) (n : Node) (t : TrunkId) (v : TrunkSide) (i : It
       dialer_here : same_name t.dialer n.mint.name ≡ true → t.dialer ≡ x
       dialer_here b = same_name_true t.dialer n.mint.name b ∙ nx
 
-  pub acceptance_comes : (u : ℕ) → v.state ≡ AwaitsAck u → is_accept i ≡ true → ((p q : Pid) → word_in p q i ≡ []) → Fin (set_state t v Up (at_work n))
+  pub acceptance_comes : (u : ℕ) → v.state ≡ AwaitsAck u → is_accept i ≡ true → ((p q : Pid) → news_in p q i ≡ []) → Fin (set_state t v Up (at_work n))
   acceptance_comes u e got none = popped_after (as_state v Up) (good_dialer_up w x n t v u hx h e (ap (has is_accept) first ∙ ap (λ b. b || has is_accept rest) got) g) (inr none)
 
-  reply_comes : (u : ℕ) (r : List ℕ) → v.state ≡ Accepting u → is_reply i ≡ true → ((p q : Pid) → word_in p q i ≡ []) → Fin (write t v.peer (ShakeMsg.ChallengeAck r) (set_state t v Up (at_work n)))
+  reply_comes : (u : ℕ) (r : List ℕ) → v.state ≡ Accepting u → is_reply i ≡ true → ((p q : Pid) → news_in p q i ≡ []) → Fin (write t v.peer (ShakeMsg.ChallengeAck r) (set_state t v Up (at_work n)))
   reply_comes u r e got none =
       let s = as_state v Up in
       let here : node_of (set_node w.nodes x (with_side_at n t s)) x ≡ Some (with_side_at n t s) = node_of_set_same w.nodes x n (with_side_at n t s) hx nx in

@@ -16,7 +16,7 @@ use Rattle.dist_model.proofs.Table.{Good, Row, begun, good_changed, has, holds_s
 use Rattle.dist_model.specs.Commands.{Dialed, Goes, Refuses}
 use Rattle.dist_model.specs.Dialing.{dial, draw_trunk, has_name, next_trunk}
 use Rattle.dist_model.specs.Handshake.{with_side, write}
-use Rattle.dist_model.specs.Items.{Handshake, Item, words}
+use Rattle.dist_model.specs.Items.{Handshake, Item, news}
 use Rattle.dist_model.specs.Names.{Name, same_name}
 use Rattle.dist_model.specs.Node.{Node, side_where}
 use Rattle.dist_model.specs.Sides.{Accepting, Asked, AwaitsAck, AwaitsChallenge, AwaitsStatus, Gone, Losing, Parked, State, TrunkSide, Up, is_gone, is_up}
@@ -88,7 +88,7 @@ good_new w x n t s hx none f met j role count nh kind hold g =
     let l1 : list_to w.lists t t.dialer ≡ [] = list_none (fm.get w.lists (t, t.dialer)) (keyless t.dialer) in
     let l2 : list_to w.lists t s.peer ≡ [] = list_none (fm.get w.lists (t, s.peer)) (keyless s.peer) in
     record {
-      before = λ k. (nh di, ap (has is_accept) l1, λ p q. ap (words p q) l1, λ p q. ap (words p q) l2);
+      before = λ k. (nh di, ap (has is_accept) l1, λ p q. ap (news p q) l1, λ p q. ap (news p q) l2);
       early = λ k. (ap holds_side strange, ap (has is_reply) l2, ap (has is_accept) l1);
       waits = λ k. (ap (has is_challenge) l1, ap (has is_reply) l2);
     })

@@ -30,7 +30,7 @@ use Rattle.dist_model.specs.Handshake.{challenge, end_up, go_on, handshake_at, s
 use Rattle.dist_model.specs.Incarnations.{start, stop}
 use Rattle.dist_model.specs.Items.{Handshake, Item, Signalled, Tick, receiver_of, telling}
 use Rattle.dist_model.specs.Linking.{exit_follows, link_by, link_new, take_link, take_link_by, unlink_by}
-use Rattle.dist_model.specs.Links.{Exits, LinkWord, Says, heard, noconnection, noproc, reply}
+use Rattle.dist_model.specs.Links.{Exits, LinkNews, Says, heard, noconnection, noproc, reply}
 use Rattle.dist_model.specs.Losses.{any_side, close_if, has_records, link_to, lose, lose_at, parked_by, parked_goes, registered_by, sweep, sweep_by, sweep_end, sweep_link, sweep_registered, sweep_watch, swept, watch_to}
 use Rattle.dist_model.specs.Monitoring.{demonitor_by, register, unregister, unwatch, watch}
 use Rattle.dist_model.specs.Names.{Name, place_cmp, same_name, same_pid}
@@ -167,7 +167,7 @@ exit_of a b r o p q h = pick (added p q o.effects (LinkExit a b r) (calm_carry (
 abbrev pub Held : Node → Pid → Pid → Type 0
 Held n p q = (living n p ≡ true) × (end_of n p q ≡ End.Active)
 
-follows_of : (e : End) (s : LinkWord) (a b : Pid) (o : Work) (p q : Pid) → reacts_in p q ((exit_follows e s a b o).effects) ≡ true → (reacts_in p q o.effects ≡ true) ⊎ ((a ≡ p) × (b ≡ q) × (e ≡ End.Active))
+follows_of : (e : End) (s : LinkNews) (a b : Pid) (o : Work) (p q : Pid) → reacts_in p q ((exit_follows e s a b o).effects) ≡ true → (reacts_in p q o.effects ≡ true) ⊎ ((a ≡ p) × (b ≡ q) × (e ≡ End.Active))
 follows_of e (Says LinkSignal.Link) a b o p q h = inl h
 follows_of e (Says (LinkSignal.Unlink j)) a b o p q h = inl h
 follows_of e (Says (LinkSignal.Ack j)) a b o p q h = inl h
@@ -182,7 +182,7 @@ follows_of (End.Pending i) (Exits r) a b o p q h = inl h
 held_at : (n : Node) (a b p q : Pid) → a ≡ p → b ≡ q → living n a ≡ true → end_of n a b ≡ End.Active → Held n p q
 held_at n a b p q ap1 bq l e = subst (λ z. Held n z q) ap1 (subst (λ z. Held n a z) bq (l, e))
 
-pub link_taken : (a b : Pid) (s : LinkWord) (o : Work) (p q : Pid) → reacts_in p q ((take_link a b s o).effects) ≡ true → (reacts_in p q o.effects ≡ true) ⊎ Held o.node p q
+pub link_taken : (a b : Pid) (s : LinkNews) (o : Work) (p q : Pid) → reacts_in p q ((take_link a b s o).effects) ≡ true → (reacts_in p q o.effects ≡ true) ⊎ Held o.node p q
 link_taken a b s o p q h = go (living o.node a) refl h
   where
     go : (t : Bool) → living o.node a ≡ t → reacts_in p q ((take_link_by t a b s o).effects) ≡ true → (reacts_in p q o.effects ≡ true) ⊎ Held o.node p q

@@ -16,8 +16,8 @@ use Rattle.dist_model.proofs.Sides.{beside, holds_kinds, or_false, or_true, side
 use Rattle.dist_model.proofs.Table.{Good, HomeKept, Likely, no_asks_beside, up_likely}
 use Rattle.dist_model.proofs.Views.{over, side_of}
 use Rattle.dist_model.specs.Claims.{Agreement, AgreementInQuiet, AgreementWithin, LinkNeedsConnection, LivingWasSpawned, NoLinkToItself, NoLinkToTheDead, NoUpBesideLosing, OneTrunk, PendingOnItsWay, PendingWithin}
-use Rattle.dist_model.specs.Items.{Handshake, Item, Signalled, Tick, word_in, words}
-use Rattle.dist_model.specs.Links.{Exits, LinkWord, Says, drained, last_said}
+use Rattle.dist_model.specs.Items.{Handshake, Item, Signalled, Tick, news, news_in}
+use Rattle.dist_model.specs.Links.{Exits, LinkNews, Says, drained, last_said}
 use Rattle.dist_model.specs.Names.{Name, pair_cmp, place_cmp, same_name, same_pid}
 use Rattle.dist_model.specs.Node.{Node, end_of, is_living_life, living, never}
 use Rattle.dist_model.specs.Quiet.{Over, Unconnected, Within, is_of, is_silent}
@@ -37,20 +37,20 @@ living_not_over : (n : Node) (p : Pid) → living n p ≡ true → over n p ≡ 
 living_not_over n p l = ap (λ v. not v && not (never n p)) l
 
 -- a silent list has no signals about a link
-silent_signals : (p q : Pid) (l : List Item) → is_silent p q l ≡ true → (words p q l ≡ []) × (words q p l ≡ [])
+silent_signals : (p q : Pid) (l : List Item) → is_silent p q l ≡ true → (news p q l ≡ []) × (news q p l ≡ [])
 silent_signals p q [] h = (refl, refl)
 silent_signals p q (x ∷ xs) h =
     let v = and_both (not (is_of p q x || is_of q p x)) (is_silent p q xs) h in
     let u = neither (is_of p q x) (is_of q p x) v.0 in
     let r = silent_signals p q xs v.1 in
-    (ap (λ l. l ++ words p q xs) (unnamed p q x u.0) ∙ r.0, ap (λ l. l ++ words q p xs) (unnamed q p x u.1) ∙ r.1)
+    (ap (λ l. l ++ news p q xs) (unnamed p q x u.0) ∙ r.0, ap (λ l. l ++ news q p xs) (unnamed q p x u.1) ∙ r.1)
   where
     neither : (a b : Bool) → not (a || b) ≡ true → (a ≡ false) × (b ≡ false)
     neither true b h = cc
     neither false true h = cc
     neither false false h = (refl, refl)
 
-    unnamed : (p q : Pid) (x : Item) → is_of p q x ≡ false → word_in p q x ≡ []
+    unnamed : (p q : Pid) (x : Item) → is_of p q x ≡ false → news_in p q x ≡ []
     unnamed p q (Signalled (Signal.Link a b)) h = ap (λ t. cond t (Says LinkSignal.Link ∷ []) []) h
     unnamed p q (Signalled (Signal.Exit a b r)) h = ap (λ t. cond t (Exits r ∷ []) []) h
     unnamed p q (Signalled (Signal.UnlinkId i a b)) h = ap (λ t. cond t (Says (LinkSignal.Unlink i) ∷ []) []) h
@@ -78,7 +78,7 @@ none_living : {P : Type 0} → false ≡ true → P
 none_living h = absurd (let c : true ≡ false = sym h in cc)
 
 -- of a pair that is kept
-module _ (p q : Pid) (a b : Node) (m l : List LinkWord) (k : Kept (side_of a p q m) (side_of b q p l)) where
+module _ (p q : Pid) (a b : Node) (m l : List LinkNews) (k : Kept (side_of a p q m) (side_of b q p l)) where
   agrees : living a p ≡ true → living b q ≡ true → drained (end_of a p q) l ≡ End.Active ↔ drained (end_of b q p) m ≡ End.Active
   agrees lp lq = k.agree (living_not_over a p lp) (living_not_over b q lq)
 
@@ -99,10 +99,10 @@ module _ (w : World) (g : Good w) where
   own_name x a h = same_name_is x a.mint.name (sym (node_of_name w.nodes x a h))
 
   kept_over : (p q : Pid) (a b : Node) (t : TrunkId) → node_of w.nodes p.node ≡ Some a → node_of w.nodes q.node ≡ Some b → HasSide w p.node t q.node is_up → HasSide w q.node t p.node is_up
-      → Kept (side_of a p q (words p q (list_to w.lists t q.node))) (side_of b q p (words q p (list_to w.lists t p.node)))
+      → Kept (side_of a p q (news p q (list_to w.lists t q.node))) (side_of b q p (news q p (list_to w.lists t p.node)))
   kept_over p q a b t ha hb s v = g.core.trunks p.node q.node a b t s.side v.side ha hb (sym (ap (λ o. side_in o t) ha) ∙ s.there) (sym (ap (λ o. side_in o t) hb) ∙ v.there) s.peer v.peer s.state (up_joined v.side.state v.state) p q refl refl
 
-  kept_within : (p q : Pid) (a : Node) → node_of w.nodes p.node ≡ Some a → p.node ≡ q.node → same_pid p q ≡ false → Kept (side_of a p q (words p q a.local)) (side_of a q p (words q p a.local))
+  kept_within : (p q : Pid) (a : Node) → node_of w.nodes p.node ≡ Some a → p.node ≡ q.node → same_pid p q ≡ false → Kept (side_of a p q (news p q a.local)) (side_of a q p (news q p a.local))
   kept_within p q a h e d = (g.home p.node a h).pairs p q (own_name p.node a h) (ap (λ z. same_name z a.mint.name) (sym e) ∙ own_name p.node a h) d
 
   one_node : (p q : Pid) (a b : Node) → node_of w.nodes p.node ≡ Some a → node_of w.nodes q.node ≡ Some b → p.node ≡ q.node → a ≡ b
@@ -112,7 +112,7 @@ module _ (w : World) (g : Good w) where
   agreement p q t u lp lq = go (node_of w.nodes p.node) (node_of w.nodes q.node) refl refl lp lq
     where
       go : (c d : Option Node) → node_of w.nodes p.node ≡ c → node_of w.nodes q.node ≡ d → living_at c p ≡ true → living_at d q ≡ true
-          → drained (end_at c p q) (words q p (list_to w.lists t p.node)) ≡ End.Active ↔ drained (end_at d q p) (words p q (list_to w.lists t q.node)) ≡ End.Active
+          → drained (end_at c p q) (news q p (list_to w.lists t p.node)) ≡ End.Active ↔ drained (end_at d q p) (news p q (list_to w.lists t q.node)) ≡ End.Active
       go None d hc hd lp lq = none_living lp
       go (Some a) None hc hd lp lq = none_living lq
       go (Some a) (Some b) hc hd lp lq = agrees p q a b _ _ (kept_over p q a b t hc hd u.0 u.1) lp lq
@@ -121,14 +121,14 @@ module _ (w : World) (g : Good w) where
   agreement_within p q e lp lq = go (node_of w.nodes p.node) (node_of w.nodes q.node) refl refl lp lq
     where
       go : (c d : Option Node) → node_of w.nodes p.node ≡ c → node_of w.nodes q.node ≡ d → living_at c p ≡ true → living_at d q ≡ true
-          → drained (end_at c p q) (words q p (local_at c)) ≡ End.Active ↔ drained (end_at d q p) (words p q (local_at c)) ≡ End.Active
+          → drained (end_at c p q) (news q p (local_at c)) ≡ End.Active ↔ drained (end_at d q p) (news p q (local_at c)) ≡ End.Active
       go None d hc hd lp lq = none_living lp
       go (Some a) None hc hd lp lq = none_living lq
       go (Some a) (Some b) hc hd lp lq =
           let ab = one_node p q a b hc hd e in
-          subst (λ z. drained (end_of a p q) (words q p a.local) ≡ End.Active ↔ drained (end_of z q p) (words p q a.local) ≡ End.Active) ab
+          subst (λ z. drained (end_of a p q) (news q p a.local) ≡ End.Active ↔ drained (end_of z q p) (news p q a.local) ≡ End.Active) ab
           (by_test _ (same_pid p q)
-          (λ i. subst (λ z. drained (end_of a p z) (words z p a.local) ≡ End.Active ↔ drained (end_of a z p) (words p z a.local) ≡ End.Active) (same_pid_true p q i) (λ h. h, λ h. h))
+          (λ i. subst (λ z. drained (end_of a p z) (news z p a.local) ≡ End.Active ↔ drained (end_of a z p) (news p z a.local) ≡ End.Active) (same_pid_true p q i) (λ h. h, λ h. h))
           (λ i. agrees p q a a _ _ (kept_within p q a hc e i) lp (ap (λ z. living z q) ab ∙ lq)))
 
   -- where the nodes have no connection there is no end
@@ -148,12 +148,12 @@ module _ (w : World) (g : Good w) where
   agreement_in_quiet p q (Within e s) lp lq =
       let v = silent_signals p q (local_list w p.node) s in
       subst (λ u. drained (end_between w p q) u ≡ End.Active ↔ end_between w q p ≡ End.Active) v.1
-      (subst (λ u. drained (end_between w p q) (words q p (local_list w p.node)) ≡ End.Active ↔ drained (end_between w q p) u ≡ End.Active) v.0 (agreement_within p q e lp lq))
+      (subst (λ u. drained (end_between w p q) (news q p (local_list w p.node)) ≡ End.Active ↔ drained (end_between w q p) u ≡ End.Active) v.0 (agreement_within p q e lp lq))
   agreement_in_quiet p q (Over d t c s r) lp lq =
       let v = silent_signals p q (list_to w.lists t p.node) s in
       let u = silent_signals p q (list_to w.lists t q.node) r in
       subst (λ z. drained (end_between w p q) z ≡ End.Active ↔ end_between w q p ≡ End.Active) v.1
-      (subst (λ z. drained (end_between w p q) (words q p (list_to w.lists t p.node)) ≡ End.Active ↔ drained (end_between w q p) z ≡ End.Active) u.0 (agreement p q t c lp lq))
+      (subst (λ z. drained (end_between w p q) (news q p (list_to w.lists t p.node)) ≡ End.Active ↔ drained (end_between w q p) z ≡ End.Active) u.0 (agreement p q t c lp lq))
   agreement_in_quiet p q (Unconnected n c d) lp lq =
       (λ h. not_active (end_between w p q) (unconnected p q n c) h, λ h. not_active (end_between w q p) (unconnected q p (name_turned p.node q.node n) d) h)
 
@@ -185,7 +185,7 @@ module _ (w : World) (g : Good w) where
   pending p q t i u lp lq e = go (node_of w.nodes p.node) (node_of w.nodes q.node) refl refl lp lq e
     where
       go : (c d : Option Node) → node_of w.nodes p.node ≡ c → node_of w.nodes q.node ≡ d → living_at c p ≡ true → living_at d q ≡ true → end_at c p q ≡ End.Pending i
-          → (last_said (words p q (list_to w.lists t q.node)) ≡ Some (LinkSignal.Unlink i)) ⊎ Contains (words q p (list_to w.lists t p.node)) (Says (LinkSignal.Ack i))
+          → (last_said (news p q (list_to w.lists t q.node)) ≡ Some (LinkSignal.Unlink i)) ⊎ Contains (news q p (list_to w.lists t p.node)) (Says (LinkSignal.Ack i))
       go None d hc hd lp lq e = none_living lp
       go (Some a) None hc hd lp lq e = none_living lq
       go (Some a) (Some b) hc hd lp lq e = pends p q a b _ _ (kept_over p q a b t hc hd u.0 u.1) i lp lq e
@@ -196,7 +196,7 @@ module _ (w : World) (g : Good w) where
       (λ j. go j (node_of w.nodes p.node) (node_of w.nodes q.node) refl refl lp lq e)
     where
       go : same_pid p q ≡ false → (c d : Option Node) → node_of w.nodes p.node ≡ c → node_of w.nodes q.node ≡ d → living_at c p ≡ true → living_at d q ≡ true → end_at c p q ≡ End.Pending i
-          → (last_said (words p q (local_at c)) ≡ Some (LinkSignal.Unlink i)) ⊎ Contains (words q p (local_at c)) (Says (LinkSignal.Ack i))
+          → (last_said (news p q (local_at c)) ≡ Some (LinkSignal.Unlink i)) ⊎ Contains (news q p (local_at c)) (Says (LinkSignal.Ack i))
       go j None d hc hd lp lq e = none_living lp
       go j (Some a) None hc hd lp lq e = none_living lq
       go j (Some a) (Some b) hc hd lp lq e = pends p q a a _ _ (kept_within p q a hc n j) i lp (ap (λ z. living z q) (one_node p q a b hc hd n) ∙ lq) e

@@ -2,8 +2,8 @@
 use Rattle.std.proofs.Common.{map, ℕ, Bool, false, List, [], Option, None, ◌||◌}
 use Rattle.std.specs.Option.{is_some, unwrap_or}
 use Rattle.std.specs.FinMap as fm
-use Rattle.dist_model.specs.Items.{Item, telling, words}
-use Rattle.dist_model.specs.Links.{LinkWord}
+use Rattle.dist_model.specs.Items.{Item, news, telling}
+use Rattle.dist_model.specs.Links.{LinkNews}
 use Rattle.dist_model.specs.Names.{Name}
 use Rattle.dist_model.specs.Node.{Node, end_of, living, reaches, side_where}
 use Rattle.dist_model.specs.Runs.{new_node}
@@ -41,8 +41,8 @@ reached_at o name = seen o false (λ node. reaches node name)
 abbrev pub sides_at : Option Node → List (TrunkId × TrunkSide)
 sides_at o = seen o [] (λ node. fm.entries node.sides)
 
-abbrev pub replies : Pid → Pid → List LinkWord → List Signal
-replies p q words = map (telling p q) words
+abbrev pub replies : Pid → Pid → List LinkNews → List Signal
+replies p q news = map (telling p q) news
 
 abbrev pub new_nodes : List (Name × List ℕ) → List Node
 new_nodes cs = map (λ (c : Name × List ℕ). new_node c.0 c.1) cs

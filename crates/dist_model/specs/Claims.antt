@@ -2,7 +2,7 @@
 use Rattle.std.specs.Prelude.{◌≡◌, ◌⊎◌, ◌↔◌, Some, ℕ, true, false, Contains}
 use Rattle.dist_model.specs.Causes.{Reacts}
 use Rattle.dist_model.specs.Commands.{MakeLink}
-use Rattle.dist_model.specs.Items.{words}
+use Rattle.dist_model.specs.Items.{news}
 use Rattle.dist_model.specs.Links.{Says, drained, last_said}
 use Rattle.dist_model.specs.Names.{Name}
 use Rattle.dist_model.specs.Node.{Node, living, never}
@@ -21,12 +21,12 @@ use Rattle.link_core.specs.declared.end.LinkSignal.{LinkSignal}
 -- two living processes of connected nodes: once all that travels has come, both hold their link active, or neither does
 abbrev pub Agreement : World → Type 0
 Agreement w = (p q : Pid) (t : TrunkId) → AreConnected w p.node t q.node → is_living w p ≡ true → is_living w q ≡ true
-    → drained (end_between w p q) (words q p (list_to w.lists t p.node)) ≡ End.Active ↔ drained (end_between w q p) (words p q (list_to w.lists t q.node)) ≡ End.Active
+    → drained (end_between w p q) (news q p (list_to w.lists t p.node)) ≡ End.Active ↔ drained (end_between w q p) (news p q (list_to w.lists t q.node)) ≡ End.Active
 
 -- two living processes of one node
 abbrev pub AgreementWithin : World → Type 0
 AgreementWithin w = (p q : Pid) → p.node ≡ q.node → is_living w p ≡ true → is_living w q ≡ true
-    → drained (end_between w p q) (words q p (local_list w p.node)) ≡ End.Active ↔ drained (end_between w q p) (words p q (local_list w p.node)) ≡ End.Active
+    → drained (end_between w p q) (news q p (local_list w p.node)) ≡ End.Active ↔ drained (end_between w q p) (news p q (local_list w p.node)) ≡ End.Active
 
 -- whenever nothing travels between two living processes, both hold their link active, or neither does
 abbrev pub AgreementInQuiet : World → Type 0
@@ -34,14 +34,14 @@ AgreementInQuiet w = (p q : Pid) → Quiet w p q → is_living w p ≡ true → 
 
 -- ---- Pending. (ERTS User's Guide, Distribution Protocol, New Link Protocol)
 
--- where an end waits for an acknowledgement, its UNLINK_ID is the last word on the way to the partner, or the acknowledgement is on its way back
+-- where an end waits for an acknowledgement, its UNLINK_ID is the last LINK or UNLINK_ID on the way to the partner, or the acknowledgement is on its way back
 abbrev pub PendingOnItsWay : World → Type 0
 PendingOnItsWay w = (p q : Pid) (t : TrunkId) (i : ℕ) → AreConnected w p.node t q.node → is_living w p ≡ true → is_living w q ≡ true → end_between w p q ≡ End.Pending i
-    → (last_said (words p q (list_to w.lists t q.node)) ≡ Some (LinkSignal.Unlink i)) ⊎ Contains (words q p (list_to w.lists t p.node)) (Says (LinkSignal.Ack i))
+    → (last_said (news p q (list_to w.lists t q.node)) ≡ Some (LinkSignal.Unlink i)) ⊎ Contains (news q p (list_to w.lists t p.node)) (Says (LinkSignal.Ack i))
 
 abbrev pub PendingWithin : World → Type 0
 PendingWithin w = (p q : Pid) (i : ℕ) → p.node ≡ q.node → is_living w p ≡ true → is_living w q ≡ true → end_between w p q ≡ End.Pending i
-    → (last_said (words p q (local_list w p.node)) ≡ Some (LinkSignal.Unlink i)) ⊎ Contains (words q p (local_list w p.node)) (Says (LinkSignal.Ack i))
+    → (last_said (news p q (local_list w p.node)) ≡ Some (LinkSignal.Unlink i)) ⊎ Contains (news q p (local_list w p.node)) (Says (LinkSignal.Ack i))
 
 -- ---- No link to the dead, and none to itself. (Reference Manual, Processes, Links)
 

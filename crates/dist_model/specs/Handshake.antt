@@ -77,6 +77,7 @@ dialer_hears trunk side state message work =
     let turn = dialer_turn (identity work.node) side.peer state message in
     handshake_on trunk side message (dialer_side side turn.state) turn.next work
 
+-- the event's word is of use with a name alone
 abbrev pub acceptor_hears : TrunkId → TrunkSide → AcceptorState → ShakeMsg → Work → Outcome
 acceptor_hears trunk side state message work =
     let turn = acceptor_turn (identity work.node) side.peer state message 0 in

@@ -11,8 +11,8 @@ ghost use Rattle.erl_term.specs.Data.{Data};
 ghost use Rattle.erl_term.specs.declared.refusal.Refusal.{Refusal};
 ghost use Rattle.erl_control.specs.Control.{Fits};
 ghost use Rattle.dist_model.specs.Fits.{fits};
-ghost use Rattle.dist_model.specs.Links.{LinkWord};
-ghost use Rattle.dist_model.specs.Items.{Signalled, telling, word_in};
+ghost use Rattle.dist_model.specs.Links.{LinkNews};
+ghost use Rattle.dist_model.specs.Items.{Signalled, telling, news_in};
 ghost use Rattle.link_core.specs.declared.end.End.{End};
 ghost use Rattle.dist_model.specs.World.{World, Event, Report, Refused};
 ghost use Rattle.dist_model.specs.Quiet.{Quiet, is_quiet};
@@ -141,7 +141,7 @@ pub fn moments()
 
 /// What one process tells another of their link is heard of the signal that tells it, and of no
 /// signal between others.
-pub fn words_are_told()
-    ensures told { (p q : Pid) (word : LinkWord) → word_in p q (Signalled (telling p q word)) ≡ word ∷ [] }
-    ensures others { (p q from to : Pid) (word : LinkWord) → ((from ≡ p) × (to ≡ q) → ⊥) → word_in p q (Signalled (telling from to word)) ≡ [] }
+pub fn news_is_told()
+    ensures told { (p q : Pid) (told : LinkNews) → news_in p q (Signalled (telling p q told)) ≡ told ∷ [] }
+    ensures others { (p q from to : Pid) (told : LinkNews) → ((from ≡ p) × (to ≡ q) → ⊥) → news_in p q (Signalled (telling from to told)) ≡ [] }
 {}
