@@ -32,3 +32,4 @@ pub mod Fitting
 pub mod Happening
 pub mod Downing
 pub mod Giving
+pub mod Ordering

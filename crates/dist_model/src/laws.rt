@@ -26,7 +26,7 @@ ghost use Rattle.dist_model.specs.Work.{at_work};
 ghost use Rattle.dist_model.specs.Admission.{give_up, others};
 ghost use Rattle.dist_model.specs.Seen.{end_between, AreConnected};
 ghost use Rattle.dist_model.specs.Schedules as schedule;
-ghost use Rattle.dist_model.specs.Claims.{Agreement, AgreementWithin, AgreementInQuiet, PendingOnItsWay, PendingWithin, NoLinkToTheDead, NoLinkToItself, LinkNeedsConnection, LivingWasSpawned, OneTrunk, NoUpBesideLosing, ReactsOnlyWhereLinked};
+ghost use Rattle.dist_model.specs.Claims.{Agreement, AgreementWithin, AgreementInQuiet, PendingOnItsWay, PendingWithin, NoLinkToTheDead, NoLinkToItself, LinkNeedsConnection, LivingWasSpawned, OneTrunk, NoUpBesideLosing, KeepsOrder, ReactsOnlyWhereLinked};
 
 /// Of two living processes both hold their link active, or neither does, once all that travels
 /// between them has come: on one node, over a connection, and whenever nothing travels. (Reference
@@ -92,6 +92,11 @@ pub fn fits_test()
 /// Events lead somewhere, whatever they are: where memory never wants, to the world of their steps.
 pub fn events_run()
     ensures runs { (events : List Event) (world : World) → (reports : List Report) × Runs world events reports (run events world) }
+{}
+
+/// What travels to a node keeps its order. (Reference Manual, Processes, Delivery of Signals.)
+pub fn order_is_kept()
+    ensures kept { (world : World) → KeepsOrder world }
 {}
 
 /// An event that is refused changes nothing.
