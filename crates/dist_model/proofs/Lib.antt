@@ -33,3 +33,4 @@ pub mod Happening
 pub mod Downing
 pub mod Giving
 pub mod Ordering
+pub mod Tabled

@@ -2,7 +2,7 @@
 //!
 //! Every law is of every world to which any list of events leads, from any opening world, with or
 //! without memory; and so of each moment of every run.
-ghost use Rattle.std.specs.Prelude.{◌≡◌, ◌↔◌, ℕ, List, [], ◌∷◌, ◌++◌, true, Some};
+ghost use Rattle.std.specs.Prelude.{◌≡◌, ◌↔◌, ℕ, List, [], ◌∷◌, ◌++◌, true, false, Some};
 ghost use Rattle.erl_term.specs.declared.term.Pid.{Pid};
 ghost use Rattle.erl_term.specs.declared.term.Reference.{Reference};
 ghost use Rattle.exit_core.specs.Messages.{down_term};
@@ -14,14 +14,16 @@ ghost use Rattle.dist_model.specs.Fits.{fits};
 ghost use Rattle.dist_model.specs.Links.{LinkNews};
 ghost use Rattle.dist_model.specs.Items.{Signalled, telling, news_in};
 ghost use Rattle.link_core.specs.declared.end.End.{End};
+ghost use Rattle.link_core.specs.Table.{linked, unlinked};
+ghost use Rattle.dist_model.specs.Linking.{link, unlink_as};
 ghost use Rattle.dist_model.specs.World.{World, Event, Report, Refused};
 ghost use Rattle.dist_model.specs.Quiet.{Quiet, is_quiet};
 ghost use Rattle.dist_model.specs.Runs.{Comes, Runs, run, Always};
 ghost use Rattle.std.specs.FinMap as map;
 ghost use Rattle.erl_names.specs.declared.trunk.TrunkId.{TrunkId};
-ghost use Rattle.dist_model.specs.Names.{Name};
+ghost use Rattle.dist_model.specs.Names.{Name, same_pid};
 ghost use Rattle.dist_model.specs.Sides.{TrunkSide, is_waiting};
-ghost use Rattle.dist_model.specs.Node.{Node, side_where};
+ghost use Rattle.dist_model.specs.Node.{Node, side_where, end_of, reaches};
 ghost use Rattle.dist_model.specs.Work.{at_work};
 ghost use Rattle.dist_model.specs.Admission.{give_up, others};
 ghost use Rattle.dist_model.specs.Seen.{end_between, AreConnected};
@@ -92,6 +94,15 @@ pub fn fits_test()
 /// Events lead somewhere, whatever they are: where memory never wants, to the world of their steps.
 pub fn events_run()
     ensures runs { (events : List Event) (world : World) → (reports : List Report) × Runs world events reports (run events world) }
+{}
+
+/// What a process makes of its end by linking and unlinking is what link_core's table says. (ERTS
+/// User's Guide, Distribution Protocol, New Link Protocol.)
+pub fn calls_follow_the_table()
+    ensures link { (node : Node) (p q : Pid) → same_pid p q ≡ false → reaches node q.node ≡ true →
+        end_of ((link p q (at_work node)).node) p q ≡ linked (end_of node p q) }
+    ensures unlink { (node : Node) (p q : Pid) (id : ℕ) → end_of node p q ≡ End.Active →
+        end_of ((unlink_as id p q (at_work node)).node) p q ≡ unlinked (end_of node p q) id }
 {}
 
 /// What travels to a node keeps its order. (Reference Manual, Processes, Delivery of Signals.)
