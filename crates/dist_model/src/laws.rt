@@ -1,7 +1,8 @@
-//! Laws of every world that events lead to. Each function does nothing: its contract is the law.
+//! Laws of the abstract world. Each function does nothing: its contract is the law.
 //!
-//! Every law is of every world to which any list of events leads, from any opening world, with or
-//! without memory; and so of each moment of every run.
+//! A law of `Always` is of every world to which any list of events leads, from any opening world,
+//! with or without memory; and so of each moment of every run. The others are of all worlds, or of
+//! the definitions.
 ghost use Rattle.std.specs.Prelude.{◌≡◌, ◌↔◌, ℕ, List, [], ◌∷◌, ◌++◌, true, false, Some};
 ghost use Rattle.erl_term.specs.declared.term.Pid.{Pid};
 ghost use Rattle.erl_term.specs.declared.term.Reference.{Reference};
@@ -39,8 +40,9 @@ pub fn agreement()
     ensures quiet { Always AgreementInQuiet }
 {}
 
-/// A link that was taken back waits for an acknowledgement that is to come. (ERTS User's Guide,
-/// Distribution Protocol, New Link Protocol.)
+/// Where an end waits for an acknowledgement, its UNLINK_ID is the last LINK or UNLINK_ID on the way
+/// to the partner, or the acknowledgement is on its way back. (ERTS User's Guide, Distribution
+/// Protocol, New Link Protocol.)
 pub fn pending()
     ensures connected { Always PendingOnItsWay }
     ensures within { Always PendingWithin }
