@@ -1,0 +1,69 @@
+-- What a caller may ask of a node.
+-- (Reference Manual, Processes: Process Creation, Links, Monitors, Error Handling.)
+use Rattle.std.specs.List.{flat_map}
+use Rattle.std.specs.Prelude.{Option, None, Some, Bool, false, if◌then◌else◌, List, [], ◌∷◌, ◌&&◌}
+use Rattle.std.specs.FinMap as fm
+use Rattle.erl_names.specs.Draw as kind
+use Rattle.dist_model.specs.Commands.{Command, Done, EndLink, EndMonitor, ExitSelf, ExitTo, Goes, IsAlive, IsLiving, Links, LinksOf, MakeLink, MakeMonitor, Outcome, Receive, Received, Refuses, Send, Spawn, Spawned, Trap, Watching, with_id}
+use Rattle.dist_model.specs.Exits.{finish}
+use Rattle.dist_model.specs.Fits.{fits}
+use Rattle.dist_model.specs.Linking.{link, unlink_by}
+use Rattle.dist_model.specs.Monitoring.{demonitor_by, monitor}
+use Rattle.dist_model.specs.Names.{same_name, same_pid}
+use Rattle.dist_model.specs.Node.{Life, Living, Node, end_of, living, never}
+use Rattle.dist_model.specs.Work.{Work, at_work, draw, post, set_life}
+use Rattle.erl_control.specs.declared.signal.Signal.{Signal}
+use Rattle.erl_names.specs.Ids.{pid_of, reference_of}
+use Rattle.erl_names.specs.Minted.{drawn, id_of}
+use Rattle.erl_term.specs.Data.{Data}
+use Rattle.erl_term.specs.declared.refusal.Refusal.{Refusal}
+use Rattle.erl_term.specs.declared.term.Pid.{Pid}
+use Rattle.link_core.specs.declared.end.End.{End}
+
+-- the acting process has to be living here
+abbrev pub acting : Node → Pid → Outcome → Outcome
+acting node p outcome = if living node p then outcome else Refuses Refusal.NoSuchProcess
+
+-- what it acts on may not be a pid of this node that it never spawned
+abbrev pub toward : Node → Pid → Outcome → Outcome
+toward node q outcome = if same_name q.node node.mint.name && never node q then Refuses Refusal.Forged else outcome
+
+abbrev pub fitting : Data → Outcome → Outcome
+fitting term outcome = if fits term then outcome else Refuses Refusal.TooLong
+
+abbrev pub spawn_life : Node → Pid → Work
+spawn_life node p = at_work (record node { mint = drawn node.mint kind.Pid; lives = fm.insert node.lives p (Living false []) })
+
+abbrev pub with_life : Node → Pid → Option Life → Work
+with_life node p life = at_work (record node { lives = set_life node.lives p life })
+
+abbrev pub trapping : Option Life → Bool → Option Life
+trapping (Some (Living trap mailbox)) on = Some (Living on mailbox)
+trapping life on = life
+
+abbrev pub first_message : Option Life → Option Data
+first_message (Some (Living trap (message ∷ rest))) = Some message
+first_message _ = None
+
+abbrev pub without_first : Option Life → Option Life
+without_first (Some (Living trap (message ∷ rest))) = Some (Living trap rest)
+without_first life = life
+
+-- the ends of p, active and pending
+abbrev pub links_in : List ((Pid × Pid) × End) → Pid → List (Pid × End)
+links_in entries p = flat_map (λ entry. if same_pid entry.0.0 p then (entry.0.1, entry.1) ∷ [] else []) entries
+
+abbrev pub call : Node → Command → Outcome
+call node Spawn = with_id (id_of node.mint kind.Pid) (λ id. Goes (Spawned (pid_of node.mint id)) (spawn_life node (pid_of node.mint id)))
+call node (Send p q message) = acting node p (toward node q (fitting message (Goes Done (post (Signal.Send q message) (at_work node)))))
+call node (MakeLink p q) = acting node p (toward node q (Goes Done (link p q (at_work node))))
+call node (EndLink p q) = acting node p (toward node q (unlink_by (end_of node p q) p q (at_work node)))
+call node (MakeMonitor p q) = acting node p (toward node q (with_id (id_of node.mint kind.Reference) (λ count.
+    let r = reference_of node.mint count in Goes (Watching r) (monitor r p q (draw kind.Reference (at_work node))))))
+call node (EndMonitor p r) = acting node p (demonitor_by (fm.get node.watches r) p r (at_work node))
+call node (Trap p on) = acting node p (Goes Done (with_life node p (trapping (fm.get node.lives p) on)))
+call node (ExitTo p q reason) = acting node p (toward node q (fitting reason (Goes Done (post (Signal.Exit2 p q reason) (at_work node)))))
+call node (ExitSelf p reason) = acting node p (fitting reason (Goes Done (finish p reason (at_work node))))
+call node (Receive p) = acting node p (Goes (Received (first_message (fm.get node.lives p))) (with_life node p (without_first (fm.get node.lives p))))
+call node (LinksOf p) = acting node p (Goes (Links (links_in (fm.entries node.ends) p)) (at_work node))
+call node (IsAlive p) = Goes (IsLiving (living node p)) (at_work node)

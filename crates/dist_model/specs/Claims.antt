@@ -1,0 +1,94 @@
+-- What holds of every world that events lead to.
+use Rattle.std.specs.Prelude.{List, ◌∷◌, ◌++◌, ◌≡◌, ◌⊎◌, ◌↔◌, Some, ℕ, true, false, Contains}
+use Rattle.dist_model.specs.Causes.{Reacts}
+use Rattle.dist_model.specs.Commands.{MakeLink}
+use Rattle.dist_model.specs.Items.{Item, news}
+use Rattle.dist_model.specs.Links.{Says, drained, last_said}
+use Rattle.dist_model.specs.Names.{Name}
+use Rattle.dist_model.specs.Node.{Node, living, never}
+use Rattle.dist_model.specs.Quiet.{Quiet}
+use Rattle.dist_model.specs.Seen.{AreConnected, HasSide, end_between, is_connected, is_living, is_reached, local_list}
+use Rattle.dist_model.specs.Sides.{is_losing, is_up}
+use Rattle.dist_model.specs.World.{Arrive, Call, Event, World, list_to, node_of, step}
+use Rattle.erl_names.specs.declared.trunk.TrunkId.{TrunkId}
+use Rattle.erl_term.specs.Data.{Data}
+use Rattle.erl_term.specs.declared.term.Pid.{Pid}
+use Rattle.link_core.specs.declared.end.End.{End}
+use Rattle.link_core.specs.declared.end.LinkSignal.{LinkSignal}
+
+-- ---- Agreement. (Reference Manual, Processes, Links: a link is of both; ERTS User's Guide, Distribution Protocol, New Link Protocol)
+
+-- two living processes of connected nodes: once all that travels has come, both hold their link active, or neither does
+abbrev pub Agreement : World → Type 0
+Agreement w = (p q : Pid) (t : TrunkId) → AreConnected w p.node t q.node → is_living w p ≡ true → is_living w q ≡ true
+    → drained (end_between w p q) (news q p (list_to w.lists t p.node)) ≡ End.Active ↔ drained (end_between w q p) (news p q (list_to w.lists t q.node)) ≡ End.Active
+
+-- two living processes of one node
+abbrev pub AgreementWithin : World → Type 0
+AgreementWithin w = (p q : Pid) → p.node ≡ q.node → is_living w p ≡ true → is_living w q ≡ true
+    → drained (end_between w p q) (news q p (local_list w p.node)) ≡ End.Active ↔ drained (end_between w q p) (news p q (local_list w p.node)) ≡ End.Active
+
+-- whenever nothing travels between two living processes, both hold their link active, or neither does
+abbrev pub AgreementInQuiet : World → Type 0
+AgreementInQuiet w = (p q : Pid) → Quiet w p q → is_living w p ≡ true → is_living w q ≡ true → end_between w p q ≡ End.Active ↔ end_between w q p ≡ End.Active
+
+-- ---- Pending. (ERTS User's Guide, Distribution Protocol, New Link Protocol)
+
+-- where an end waits for an acknowledgement, its UNLINK_ID is the last LINK or UNLINK_ID on the way to the partner, or the acknowledgement is on its way back
+abbrev pub PendingOnItsWay : World → Type 0
+PendingOnItsWay w = (p q : Pid) (t : TrunkId) (i : ℕ) → AreConnected w p.node t q.node → is_living w p ≡ true → is_living w q ≡ true → end_between w p q ≡ End.Pending i
+    → (last_said (news p q (list_to w.lists t q.node)) ≡ Some (LinkSignal.Unlink i)) ⊎ Contains (news q p (list_to w.lists t p.node)) (Says (LinkSignal.Ack i))
+
+abbrev pub PendingWithin : World → Type 0
+PendingWithin w = (p q : Pid) (i : ℕ) → p.node ≡ q.node → is_living w p ≡ true → is_living w q ≡ true → end_between w p q ≡ End.Pending i
+    → (last_said (news p q (local_list w p.node)) ≡ Some (LinkSignal.Unlink i)) ⊎ Contains (news q p (local_list w p.node)) (Says (LinkSignal.Ack i))
+
+-- ---- No link to the dead, and none to itself. (Reference Manual, Processes, Links)
+
+abbrev pub NoLinkToTheDead : World → Type 0
+NoLinkToTheDead w = (p q : Pid) → Quiet w p q → is_living w p ≡ true → is_living w q ≡ false → end_between w p q ≡ End.Active → ⊥
+
+abbrev pub NoLinkToItself : World → Type 0
+NoLinkToItself w = (p : Pid) → end_between w p p ≡ End.None
+
+-- ---- Links are of living processes that can reach each other. (Reference Manual, Processes, Links; Distributed Erlang)
+
+-- an end that isn't none is that of a living process, towards its own node or one that its node is connected to, or whose records it hasn't swept yet
+abbrev pub LinkNeedsConnection : World → Type 0
+LinkNeedsConnection w = (p q : Pid) → (end_between w p q ≡ End.None → ⊥) → (is_living w p ≡ true) × ((q.node ≡ p.node) ⊎ (is_connected w p.node q.node ≡ true))
+
+-- a process that is living was spawned
+abbrev pub LivingWasSpawned : World → Type 0
+LivingWasSpawned w = (name : Name) (node : Node) (p : Pid) → node_of w.nodes name ≡ Some node → living node p ≡ true → never node p ≡ false
+
+-- ---- One trunk. (ERTS User's Guide, Distribution Protocol, Distribution Handshake: at most one connection between two nodes)
+
+-- two nodes of which each has a side up towards the other have the sides of one trunk
+abbrev pub OneTrunk : World → Type 0
+OneTrunk w = (x y : Name) (t u : TrunkId) → HasSide w x t y is_up → HasSide w y u x is_up → t ≡ u
+
+-- no node is connected to a peer while records of a lost connection to it are left
+abbrev pub NoUpBesideLosing : World → Type 0
+NoUpBesideLosing w = (x y : Name) (t u : TrunkId) → HasSide w x t y is_up → HasSide w x u y is_losing → ⊥
+
+-- ---- Reactions. (Reference Manual, Processes, Links)
+
+-- whatever comes next, a process reacts to the exit of a link only where it held it active, or where it links in this very event towards a node that isn't reached
+abbrev pub ReactsOnlyWhereLinked : World → Type 0
+ReactsOnlyWhereLinked w = (e : Event) (p q : Pid) (reason : Data) → Reacts p q reason ((step w e).report)
+    → (end_between w p q ≡ End.Active) ⊎ ((e ≡ Call p.node (MakeLink p q)) × (is_reached w p q.node ≡ false))
+
+-- ---- Order. (Reference Manual, Processes, Delivery of Signals)
+
+-- items come behind those that are on their way
+abbrev pub Grows : List Item → List Item → Type 0
+Grows old new = (more : List Item) × (new ≡ old ++ more)
+
+-- the first one is taken
+abbrev pub LosesFirst : List Item → List Item → Type 0
+LosesFirst old new = (first : Item) × (rest : List Item) × (old ≡ first ∷ rest) × Grows rest new
+
+-- whatever comes next, what travels on a trunk to a node keeps its order, and is taken only as it comes to that node
+abbrev pub KeepsOrder : World → Type 0
+KeepsOrder w = (e : Event) (t : TrunkId) (x : Name) → let new = list_to ((step w e).world).lists t x in
+    Grows (list_to w.lists t x) new ⊎ (((word : ℕ) × (e ≡ Arrive t x word)) × LosesFirst (list_to w.lists t x) new)

@@ -1,0 +1,83 @@
+-- What exits do: a process ends, and an exit signal comes to one.
+-- (Reference Manual, Processes, Receiving Exit Signals; Links; Monitors.)
+use Rattle.std.specs.List.{flat_map}
+use Rattle.std.specs.Prelude.{Option, None, Some, Bool, true, false, not, if◌then◌else◌, List, [], ◌∷◌, ◌++◌}
+use Rattle.std.specs.FinMap as fm
+use Rattle.dist_model.specs.Monitoring.{monitor}
+use Rattle.dist_model.specs.Names.{same_pid}
+use Rattle.dist_model.specs.Node.{Ended, traps}
+use Rattle.dist_model.specs.Work.{EndedBy, LinkExit, Work, post_all, put, report}
+use Rattle.erl_control.specs.declared.signal.Signal.{Signal}
+use Rattle.erl_term.specs.Data.{Data}
+use Rattle.erl_term.specs.declared.term.Pid.{Pid}
+use Rattle.erl_term.specs.declared.term.Reference.{Reference}
+use Rattle.exit_core.specs.Reaction.{reaction}
+use Rattle.exit_core.specs.declared.reaction.ExitSignal.{ExitSignal}
+use Rattle.exit_core.specs.declared.reaction.Reaction.{Reaction}
+use Rattle.link_core.specs.Table.{is_active}
+use Rattle.link_core.specs.declared.end.End.{End}
+use Rattle.monitor_core.specs.declared.monitor.Monitor.{Monitor}
+
+-- ---- a process ends
+
+-- EXIT to each partner to which its link is active
+abbrev pub exit_for : Pid → Data → Pid → End → List Signal
+exit_for p reason q end = if is_active end then Signal.Exit p q reason ∷ [] else []
+
+abbrev pub exits : Pid → Data → List ((Pid × Pid) × End) → List Signal
+exits p reason = flat_map (λ entry. if same_pid entry.0.0 p then exit_for p reason entry.0.1 entry.1 else [])
+
+-- MONITOR_P_EXIT to the owner of each monitor that others have of it
+abbrev pub monitor_exits : Pid → Data → List (Reference × Monitor) → List Signal
+monitor_exits p reason = flat_map (λ entry. if same_pid entry.1.target p then Signal.MonitorExit p entry.1.owner entry.0 reason ∷ [] else [])
+
+-- DEMONITOR_P for each of its own monitors
+abbrev pub demonitors : Pid → List (Reference × Monitor) → List Signal
+demonitors p = flat_map (λ entry. if same_pid entry.1.owner p then Signal.Demonitor p entry.1.target entry.0 ∷ [] else [])
+
+abbrev pub is_owned : Pid → Option Monitor → Bool
+is_owned p None = false
+is_owned p (Some monitor) = same_pid monitor.owner p
+
+abbrev pub is_target : Pid → Option Monitor → Bool
+is_target p None = false
+is_target p (Some monitor) = same_pid monitor.target p
+
+-- its mailbox and its records go, and it keeps its reason
+abbrev pub buried : Pid → Data → Work → Work
+buried p reason work = record work {
+  node = record (work.node) {
+    lives = fm.insert work.node.lives p (Ended reason);
+    ends = fm.retain_keys work.node.ends (λ pair. not (same_pid pair.0 p));
+    watches = fm.retain_keys work.node.watches (λ r. not (is_owned p (fm.get work.node.watches r)));
+    registered = fm.retain_keys work.node.registered (λ r. not (is_target p (fm.get work.node.registered r)));
+  };
+  effects = work.effects ++ EndedBy p reason ∷ [];
+}
+
+-- each group in the order of its keys
+abbrev pub finish : Pid → Data → Work → Work
+finish p reason work = buried p reason
+    (post_all (exits p reason (fm.entries work.node.ends) ++ monitor_exits p reason (fm.entries work.node.registered) ++ demonitors p (fm.entries work.node.watches)) work)
+
+-- ---- an exit signal comes to p
+
+-- of its active link with q
+abbrev pub linked_exit : Pid → Pid → Data → ExitSignal
+linked_exit p q reason = record { sender = q; reason = reason; link = true; is_active = true; is_own = same_pid q p }
+
+-- as q sent it
+abbrev pub sent_exit : Pid → Pid → Data → ExitSignal
+sent_exit p q reason = record { sender = q; reason = reason; link = false; is_active = false; is_own = same_pid q p }
+
+abbrev pub carry_out : Reaction → Pid → Work → Work
+carry_out Reaction.Ignore p work = work
+carry_out (Reaction.Put message) p work = put p message work
+carry_out (Reaction.End reason) p work = finish p reason work
+
+-- the link's record is gone by now, so no EXIT goes back to q
+abbrev pub link_exit : Pid → Pid → Data → Work → Work
+link_exit p q reason work = carry_out (reaction (traps work.node p) (linked_exit p q reason)) p (report (LinkExit p q reason) work)
+
+abbrev pub other_exit : Pid → Pid → Data → Work → Work
+other_exit p q reason work = carry_out (reaction (traps work.node p) (sent_exit p q reason)) p work

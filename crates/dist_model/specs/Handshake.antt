@@ -1,0 +1,119 @@
+-- How two nodes connect: what the messages of the handshake do to a node's sides.
+-- (ERTS User's Guide, Distribution Protocol, Distribution Handshake. The messages, the statuses and what each tells
+-- the dialer are the standard's; which of several sides ends or waits, and when, is own.)
+use Rattle.erl_handshake.specs.declared.turn.Outcome.{Outcome as Verdict}
+use Rattle.erl_handshake.specs.declared.turn.Outcome.TheVariants as verdict
+use Rattle.std.specs.Prelude.{Option, None, Some, ℕ}
+use Rattle.std.specs.FinMap as fm
+use Rattle.dist_model.specs.Commands.{Broke, Goes, Outcome, Refuses, Took}
+use Rattle.dist_model.specs.Items.{Handshake}
+use Rattle.dist_model.specs.Names.{Name}
+use Rattle.dist_model.specs.Node.{Node, side_where}
+use Rattle.dist_model.specs.Sides.{Accepting, Asked, AwaitsAck, AwaitsChallenge, AwaitsStatus, Gone, Losing, Parked, State, TrunkSide, Up, is_losing, is_up, lost}
+use Rattle.dist_model.specs.Work.{Work, send_on}
+use Rattle.erl_handshake.specs.Flags.{mandatory}
+use Rattle.erl_handshake.specs.Roles.{acceptor_turn, challenge_of, dialer_turn}
+use Rattle.erl_handshake.specs.declared.acceptor.AcceptorState.{AcceptorState}
+use Rattle.erl_handshake.specs.declared.dialer.DialerState.{DialerState}
+use Rattle.erl_handshake.specs.declared.identity.Identity.{Identity}
+use Rattle.erl_handshake.specs.declared.message.ShakeMsg.{ShakeMsg}
+use Rattle.erl_handshake.specs.declared.turn.Next.{Next}
+use Rattle.erl_names.specs.declared.trunk.TrunkId.{TrunkId}
+use Rattle.erl_term.specs.declared.refusal.Refusal.{Refusal}
+
+abbrev pub with_side : TrunkId → TrunkSide → Work → Work
+with_side trunk side work = record work { node = record (work.node) { sides = fm.insert work.node.sides trunk side } }
+
+abbrev pub set_state : TrunkId → TrunkSide → State → Work → Work
+set_state trunk side state = with_side trunk (record side { state = state })
+
+abbrev pub write : TrunkId → Name → ShakeMsg → Work → Work
+write trunk peer message = send_on (Some trunk) peer (Handshake message)
+
+abbrev pub write_if : TrunkId → Name → Option ShakeMsg → Work → Work
+write_if trunk peer None work = work
+write_if trunk peer (Some message) work = write trunk peer message work
+
+-- what comes breaks the side
+abbrev pub fault : Refusal → TrunkId → TrunkSide → Work → Outcome
+fault why trunk side work = Goes (Broke why) (set_state trunk side (lost side.state) work)
+
+-- the node as it introduces itself
+abbrev pub identity : Node → Identity
+identity node = record { name = node.mint.name; creation = node.mint.creation; flags = mandatory; cookie = node.cookie }
+
+abbrev pub challenge : Node → ℕ → ShakeMsg
+challenge node word = challenge_of (identity node) word
+
+-- ---- a message that a side awaits
+
+-- a side as the dialer's and the acceptor's turn leave it
+abbrev pub dialer_side : TrunkSide → DialerState → TrunkSide
+dialer_side side (DialerState.AwaitsStatus word) = record side { state = AwaitsStatus word }
+dialer_side side (DialerState.AwaitsChallenge word) = record side { state = AwaitsChallenge word }
+dialer_side side (DialerState.AwaitsAck word creation) = record side { peer_creation = creation; state = AwaitsAck word }
+dialer_side side (DialerState.Done creation) = record side { peer_creation = creation; state = Up }
+dialer_side side DialerState.Over = record side { state = Gone }
+
+abbrev pub acceptor_side : TrunkSide → AcceptorState → TrunkSide
+acceptor_side side AcceptorState.AwaitsName = side
+acceptor_side side (AcceptorState.AwaitsAdmission word creation) = side
+acceptor_side side (AcceptorState.AwaitsAnswer word creation) = record side { peer_creation = creation; state = Asked word }
+acceptor_side side (AcceptorState.AwaitsTurn word creation) = record side { peer_creation = creation; state = Parked word }
+acceptor_side side (AcceptorState.AwaitsReply word creation) = record side { peer_creation = creation; state = Accepting word }
+acceptor_side side (AcceptorState.Done creation) = record side { peer_creation = creation; state = Up }
+acceptor_side side AcceptorState.Over = record side { state = Gone }
+
+-- the role's turn says what is sent, and whether the handshake goes on
+abbrev pub after : Verdict → TrunkId → (old new : TrunkSide) → ShakeMsg → Option ShakeMsg → Work → Outcome
+after (verdict.Ended why) trunk old new message send work = fault why trunk old work
+after _ trunk old new message send work = Goes (Took (Handshake message)) (write_if trunk old.peer send (with_side trunk new work))
+
+abbrev pub handshake_on : TrunkId → TrunkSide → ShakeMsg → TrunkSide → Next → Work → Outcome
+handshake_on trunk old message new next work = after next.outcome trunk old new message next.send work
+
+abbrev pub dialer_hears : TrunkId → TrunkSide → DialerState → ShakeMsg → Work → Outcome
+dialer_hears trunk side state message work =
+    let turn = dialer_turn (identity work.node) side.peer state message in
+    handshake_on trunk side message (dialer_side side turn.state) turn.next work
+
+-- the event's word is of use with a name alone
+abbrev pub acceptor_hears : TrunkId → TrunkSide → AcceptorState → ShakeMsg → Work → Outcome
+acceptor_hears trunk side state message work =
+    let turn = acceptor_turn (identity work.node) side.peer state message 0 in
+    handshake_on trunk side message (acceptor_side side turn.state) turn.next work
+
+-- ---- the dialer answers `true`: the older connection is lost, and once its records are swept the handshake goes on
+
+abbrev pub end_up : Option (TrunkId × TrunkSide) → Work → Work
+end_up None work = work
+end_up (Some entry) work = set_state entry.0 entry.1 Losing work
+
+abbrev pub go_on : Option (TrunkId × TrunkSide) → TrunkId → TrunkSide → ℕ → Work → Work
+go_on None trunk side word work = write trunk side.peer (challenge work.node word) (set_state trunk side (Accepting word) work)
+go_on (Some losing) trunk side word work = set_state trunk side (Parked word) work
+
+abbrev pub goes_on : TrunkId → TrunkSide → ℕ → Work → Work
+goes_on trunk side word work = go_on (side_where is_losing side.peer (fm.entries work.node.sides)) trunk side word work
+
+abbrev pub after_answer : Verdict → TrunkId → TrunkSide → ℕ → ShakeMsg → Work → Outcome
+after_answer (verdict.Ended why) trunk side word message work = fault why trunk side work
+after_answer _ trunk side word message work = Goes (Took (Handshake message)) (goes_on trunk side word (end_up (side_where is_up side.peer (fm.entries work.node.sides)) work))
+
+abbrev pub hears_answer : TrunkId → TrunkSide → ℕ → ShakeMsg → Work → Outcome
+hears_answer trunk side word message work =
+    let turn = acceptor_turn (identity work.node) side.peer (AcceptorState.AwaitsAnswer word side.peer_creation) message 0 in
+    after_answer turn.next.outcome trunk side word message work
+
+-- ---- a message of the handshake comes to a side. Each state awaits one
+
+abbrev pub handshake_at : State → TrunkId → TrunkSide → ShakeMsg → Work → Outcome
+handshake_at (AwaitsStatus word) trunk side message work = dialer_hears trunk side (DialerState.AwaitsStatus word) message work
+handshake_at (AwaitsChallenge word) trunk side message work = dialer_hears trunk side (DialerState.AwaitsChallenge word) message work
+handshake_at (AwaitsAck word) trunk side message work = dialer_hears trunk side (DialerState.AwaitsAck word side.peer_creation) message work
+handshake_at (Asked word) trunk side message work = hears_answer trunk side word message work
+handshake_at (Parked word) trunk side message work = fault Refusal.BadMessage trunk side work
+handshake_at (Accepting word) trunk side message work = acceptor_hears trunk side (AcceptorState.AwaitsReply word side.peer_creation) message work
+handshake_at Up trunk side message work = fault Refusal.BadMessage trunk side work
+handshake_at Losing trunk side message work = Refuses Refusal.NotLive
+handshake_at Gone trunk side message work = Refuses Refusal.NotLive

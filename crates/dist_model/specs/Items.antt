@@ -1,0 +1,60 @@
+-- What travels between two nodes, and from a node to itself.
+-- (ERTS User's Guide, Distribution Protocol.)
+use Rattle.std.specs.List.{flat_map}
+use Rattle.std.specs.Prelude.{Option, None, Some, if◌then◌else◌, ◌&&◌, List, [], ◌∷◌}
+use Rattle.dist_model.specs.Links.{Exits, LinkNews, Says}
+use Rattle.dist_model.specs.Names.{same_pid}
+use Rattle.erl_control.specs.declared.signal.Signal.{Signal}
+use Rattle.erl_handshake.specs.declared.message.ShakeMsg.{ShakeMsg}
+use Rattle.erl_term.specs.declared.term.Pid.{Pid}
+use Rattle.link_core.specs.declared.end.LinkSignal.{LinkSignal}
+
+pub data Item : Type 0 where
+  Signalled : Signal → Item
+  Handshake : ShakeMsg → Item
+  -- tells that the peer is there
+  Tick : Item
+
+-- a message names no sender
+abbrev pub sender_of : Signal → Option Pid
+sender_of (Signal.Link from to) = Some from
+sender_of (Signal.Send to message) = None
+sender_of (Signal.Exit from to reason) = Some from
+sender_of (Signal.Exit2 from to reason) = Some from
+sender_of (Signal.Monitor from to r) = Some from
+sender_of (Signal.Demonitor from to r) = Some from
+sender_of (Signal.MonitorExit from to r reason) = Some from
+sender_of (Signal.UnlinkId id from to) = Some from
+sender_of (Signal.UnlinkIdAck id from to) = Some from
+
+abbrev pub receiver_of : Signal → Pid
+receiver_of (Signal.Link from to) = to
+receiver_of (Signal.Send to message) = to
+receiver_of (Signal.Exit from to reason) = to
+receiver_of (Signal.Exit2 from to reason) = to
+receiver_of (Signal.Monitor from to r) = to
+receiver_of (Signal.Demonitor from to r) = to
+receiver_of (Signal.MonitorExit from to r reason) = to
+receiver_of (Signal.UnlinkId id from to) = to
+receiver_of (Signal.UnlinkIdAck id from to) = to
+
+-- the signal by which p tells q news of their link
+abbrev pub telling : Pid → Pid → LinkNews → Signal
+telling p q (Says LinkSignal.Link) = Signal.Link p q
+telling p q (Says (LinkSignal.Unlink id)) = Signal.UnlinkId id p q
+telling p q (Says (LinkSignal.Ack id)) = Signal.UnlinkIdAck id p q
+telling p q (Exits reason) = Signal.Exit p q reason
+
+-- what p tells q of their link by an item, and by those of a list
+abbrev pub if_between : Pid → Pid → Pid → Pid → LinkNews → List LinkNews
+if_between p q from to told = if same_pid from p && same_pid to q then told ∷ [] else []
+
+abbrev pub news_in : Pid → Pid → Item → List LinkNews
+news_in p q (Signalled (Signal.Link from to)) = if_between p q from to (Says LinkSignal.Link)
+news_in p q (Signalled (Signal.Exit from to reason)) = if_between p q from to (Exits reason)
+news_in p q (Signalled (Signal.UnlinkId id from to)) = if_between p q from to (Says (LinkSignal.Unlink id))
+news_in p q (Signalled (Signal.UnlinkIdAck id from to)) = if_between p q from to (Says (LinkSignal.Ack id))
+news_in p q _ = []
+
+abbrev pub news : Pid → Pid → List Item → List LinkNews
+news p q = flat_map (news_in p q)

@@ -1,0 +1,85 @@
+-- One node: what it keeps of its processes, their links and monitors, and its connections.
+use Rattle.std.specs.Prelude.{unwrap_or, Option, None, Some, is_some, ℕ, Bool, true, false, not, if◌then◌else◌, List, [], ◌∷◌, ◌==◌, nat_lt, ◌&&◌, ◌||◌}
+use Rattle.std.specs.FinMap as fm
+use Rattle.dist_model.specs.Items.{Item}
+use Rattle.dist_model.specs.Names.{Name, pair_cmp, same_name}
+use Rattle.dist_model.specs.Sides.{State, TrunkSide, is_up}
+use Rattle.erl_names.specs.Minted.{Minted}
+use Rattle.erl_names.specs.Order.{trunk_cmp}
+use Rattle.erl_names.specs.declared.trunk.TrunkId.{TrunkId}
+use Rattle.erl_term.specs.Data.{Data}
+use Rattle.erl_term.specs.Order.{pid_cmp}
+use Rattle.erl_term.specs.declared.term.Pid.{Pid}
+use Rattle.link_core.specs.declared.end.End.{End}
+use Rattle.monitor_core.specs.Monitors.{MonitorMap}
+use Rattle.std.specs.FinMap.{FinMap}
+
+-- a process of the running incarnation. (Reference Manual, Processes)
+pub data Life : Type 0 where
+  Living : (trap : Bool) → (mailbox : List Data) → Life
+  Ended : (reason : Data) → Life
+
+pub record Node : Type 0 where
+  -- its name and creation, and what this incarnation has drawn
+  pub mint : Minted
+  pub cookie : List ℕ
+  pub up : Bool
+  -- how many trunks it has ever dialed
+  pub dialed : ℕ
+  pub lives : FinMap pid_cmp Life
+  -- by the process and its partner
+  pub ends : FinMap pair_cmp End
+  -- the monitors that its processes own, and those that others have of them
+  pub watches : MonitorMap
+  pub registered : MonitorMap
+  pub sides : FinMap trunk_cmp TrunkSide
+  -- what travels from the node to itself
+  pub local : List Item
+
+abbrev pub is_living_life : Option Life → Bool
+is_living_life (Some (Living trap mailbox)) = true
+is_living_life _ = false
+
+abbrev pub living : Node → Pid → Bool
+living node p = is_living_life (fm.get node.lives p)
+
+abbrev pub traps_life : Option Life → Bool
+traps_life (Some (Living trap mailbox)) = trap
+traps_life _ = false
+
+abbrev pub traps : Node → Pid → Bool
+traps node p = traps_life (fm.get node.lives p)
+
+-- no process of the node has had this pid: it is of another node, or its creation or its id is to come, or no process has such an id
+abbrev pub never : Node → Pid → Bool
+never node p =
+    not (same_name p.node node.mint.name)
+    || nat_lt node.mint.creation p.creation
+    || (p.creation == node.mint.creation && nat_lt node.mint.pids p.id)
+    || p.id == 0
+    || not (p.serial == 0)
+
+-- an end that isn't there is one of no link
+abbrev pub end_of : Node → Pid → Pid → End
+end_of node p q = unwrap_or (fm.get node.ends (p, q)) End.None
+
+-- the first entry that passes, in the order of the keys
+abbrev pub first_where : {K X : Type 0} → (K → X → Bool) → List (K × X) → Option (K × X)
+first_where passes [] = None
+first_where passes (entry ∷ rest) = if passes entry.0 entry.1 then Some entry else first_where passes rest
+
+-- the first side towards a peer whose state passes
+abbrev pub side_where : (State → Bool) → Name → List (TrunkId × TrunkSide) → Option (TrunkId × TrunkSide)
+side_where test peer = first_where (λ trunk side. same_name side.peer peer && test side.state)
+
+abbrev pub route_in : List (TrunkId × TrunkSide) → Name → Option TrunkId
+route_in [] peer = None
+route_in (entry ∷ rest) peer = if same_name entry.1.peer peer && is_up entry.1.state then Some entry.0 else route_in rest peer
+
+-- the trunk that is up towards a peer
+abbrev pub route : Node → Name → Option TrunkId
+route node peer = route_in (fm.entries node.sides) peer
+
+-- whether a signal to a process of that name's node goes anywhere
+abbrev pub reaches : Node → Name → Bool
+reaches node name = same_name name node.mint.name || is_some (route node name)

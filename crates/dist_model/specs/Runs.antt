@@ -1,0 +1,50 @@
+-- Opening worlds, and what comes of a list of events.
+use Rattle.std.specs.Prelude.{map, ◌≡◌, ◌⊎◌, ℕ, true, List, [], ◌∷◌}
+use Rattle.std.specs.FinMap as fm
+use Rattle.dist_model.specs.Names.{Name}
+use Rattle.dist_model.specs.Node.{Node}
+use Rattle.dist_model.specs.Work.{report}
+use Rattle.dist_model.specs.World.{Event, Refused, Report, World, step}
+use Rattle.erl_names.specs.Minted.{nothing_drawn}
+use Rattle.erl_term.specs.declared.refusal.Refusal.{Refusal}
+
+-- a node that is up, in its first incarnation, with nothing done yet
+abbrev pub new_node : Name → List ℕ → Node
+new_node name cookie = record {
+  mint = nothing_drawn name 1;
+  cookie = cookie;
+  up = true;
+  dialed = 0;
+  lives = fm.empty;
+  ends = fm.empty;
+  watches = fm.empty;
+  registered = fm.empty;
+  sides = fm.empty;
+  local = [];
+}
+
+-- of names and cookies
+abbrev pub opening : List (Name × List ℕ) → World
+opening nodes = record { names = map (λ node. node.0) nodes; nodes = map (λ node. new_node node.0 node.1) nodes; lists = fm.empty }
+
+-- what an event may come to: its step, or memory was wanting and nothing has changed
+abbrev pub Comes : World → Event → Report → World → Type 0
+Comes world event report new =
+    ((report ≡ (step world event).report) × (new ≡ (step world event).world))
+    ⊎ ((report ≡ Refused Refusal.OutOfMemory) × (new ≡ world))
+
+-- the events lead from one world to the other, with a report of each
+abbrev pub Runs : World → List Event → List Report → World → Type 0
+Runs world [] [] new = new ≡ world
+Runs world [] (report ∷ reports) new = ⊥
+Runs world (event ∷ events) [] new = ⊥
+Runs world (event ∷ events) (report ∷ reports) new = (next : World) × Comes world event report next × Runs next events reports new
+
+-- the same where memory never wants
+abbrev pub run : List Event → World → World
+run [] world = world
+run (event ∷ events) world = run events ((step world event).world)
+
+-- whatever happens, and so at each moment of whatever happens
+abbrev pub Always : (World → Type 0) → Type 0
+Always Holds = (nodes : List (Name × List ℕ)) (events : List Event) (reports : List Report) (world : World) → Runs (opening nodes) events reports world → Holds world

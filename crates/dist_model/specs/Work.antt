@@ -1,0 +1,92 @@
+-- A node in the midst of an event: what it has become, what it has sent, what it reports.
+use Rattle.std.specs.Prelude.{Option, None, Some, if◌then◌else◌, List, [], ◌∷◌, ◌++◌}
+use Rattle.std.specs.FinMap as fm
+use Rattle.dist_model.specs.Items.{Item, Signalled, receiver_of}
+use Rattle.dist_model.specs.Names.{Name, pair_cmp, same_name}
+use Rattle.dist_model.specs.Node.{Life, Living, Node, route}
+use Rattle.erl_control.specs.declared.signal.Signal.{Signal}
+use Rattle.erl_names.specs.Draw.{Draw}
+use Rattle.erl_names.specs.Minted.{drawn}
+use Rattle.erl_names.specs.declared.trunk.TrunkId.{TrunkId}
+use Rattle.erl_term.specs.Data.{Data}
+use Rattle.erl_term.specs.Order.{pid_cmp}
+use Rattle.erl_term.specs.declared.term.Pid.{Pid}
+use Rattle.link_core.specs.declared.end.End.{End}
+use Rattle.std.specs.FinMap.{FinMap}
+
+pub data Effect : Type 0 where
+  -- a message was put into a mailbox
+  Put : (receiver : Pid) → (message : Data) → Effect
+  -- the process ended
+  EndedBy : (process : Pid) → (reason : Data) → Effect
+  -- the process reacted to the exit of its link
+  LinkExit : (process : Pid) → (partner : Pid) → (reason : Data) → Effect
+  -- the item was sent to a node, maybe the own one
+  Sent : (target : Name) → (item : Item) → Effect
+
+pub record Envelope : Type 0 where
+  pub trunk : TrunkId
+  pub target : Name
+  pub item : Item
+
+pub record Work : Type 0 where
+  pub node : Node
+  pub sent : List Envelope
+  -- in the order in which they happened
+  pub effects : List Effect
+
+abbrev pub at_work : Node → Work
+at_work node = record { node = node; sent = []; effects = [] }
+
+abbrev pub report : Effect → Work → Work
+report effect work = record work { effects = work.effects ++ effect ∷ [] }
+
+-- ---- what is sent
+
+abbrev pub keep_local : Item → Work → Work
+keep_local item work = record work { node = record (work.node) { local = work.node.local ++ item ∷ [] }; effects = work.effects ++ Sent work.node.mint.name item ∷ [] }
+
+abbrev pub send_on : Option TrunkId → Name → Item → Work → Work
+send_on None target item work = work
+send_on (Some trunk) target item work = record work { sent = work.sent ++ (record { trunk = trunk; target = target; item = item }) ∷ []; effects = work.effects ++ Sent target item ∷ [] }
+
+-- into the own list, onto the trunk that is up, or nowhere
+abbrev pub post_to : Name → Item → Work → Work
+post_to target item work = if same_name target work.node.mint.name then keep_local item work else send_on (route work.node target) target item work
+
+-- a signal goes to its receiver's node. (Reference Manual, Processes, Delivery of Signals)
+abbrev pub post : Signal → Work → Work
+post signal work = post_to (receiver_of signal).node (Signalled signal) work
+
+abbrev pub post_all : List Signal → Work → Work
+post_all [] work = work
+post_all (signal ∷ rest) work = post_all rest (post signal work)
+
+-- ---- what is kept
+
+abbrev pub delivered : Option Life → Data → Option Life
+delivered (Some (Living trap mailbox)) message = Some (Living trap (mailbox ++ message ∷ []))
+delivered life message = life
+
+abbrev pub set_life : FinMap pid_cmp Life → Pid → Option Life → FinMap pid_cmp Life
+set_life lives p None = lives
+set_life lives p (Some life) = fm.insert lives p life
+
+-- a message comes into the mailbox of a living process
+abbrev pub put : Pid → Data → Work → Work
+put p message work = record work {
+  node = record (work.node) { lives = set_life work.node.lives p (delivered (fm.get work.node.lives p) message) };
+  effects = work.effects ++ Put p message ∷ [];
+}
+
+abbrev pub set_in : FinMap pair_cmp End → Pid × Pid → End → FinMap pair_cmp End
+set_in ends pair End.None = fm.remove ends pair
+set_in ends pair End.Active = fm.insert ends pair End.Active
+set_in ends pair (End.Pending id) = fm.insert ends pair (End.Pending id)
+
+abbrev pub set_end : Pid → Pid → End → Work → Work
+set_end p q end work = record work { node = record (work.node) { ends = set_in work.node.ends (p, q) end } }
+
+-- a number is drawn
+abbrev pub draw : Draw → Work → Work
+draw kind work = record work { node = record (work.node) { mint = drawn work.node.mint kind } }
