@@ -39,11 +39,11 @@ abbrev pub IfGoes : Outcome → (Work → Type 0) → Type 0
 IfGoes (Refuses k) P = Unit {0}
 IfGoes (Goes a o) P = P o
 
-if_cond : (b : Bool) (k : Outcome) (j : Refusal) (P : Work → Type 0) → (b ≡ true → IfGoes k P) → IfGoes (cond b k (Refuses j)) P
+pub if_cond : (b : Bool) (k : Outcome) (j : Refusal) (P : Work → Type 0) → (b ≡ true → IfGoes k P) → IfGoes (cond b k (Refuses j)) P
 if_cond true k j P h = h refl
 if_cond false k j P h = tt
 
-if_not : (b : Bool) (k : Outcome) (j : Refusal) (P : Work → Type 0) → IfGoes k P → IfGoes (cond b (Refuses j) k) P
+pub if_not : (b : Bool) (k : Outcome) (j : Refusal) (P : Work → Type 0) → IfGoes k P → IfGoes (cond b (Refuses j) k) P
 if_not true k j P h = tt
 if_not false k j P h = h
 

@@ -25,3 +25,5 @@ pub mod Greeting
 pub mod Fresh
 pub mod Run
 pub mod Reacting
+pub mod Handshaking
+pub mod Parts

@@ -20,6 +20,7 @@ pub mod World
 pub mod Runs
 pub mod Seen
 pub mod Quiet
+pub mod Histories
 pub mod Causes
 pub mod Downs
 pub mod Claims
