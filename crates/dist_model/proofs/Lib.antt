@@ -27,3 +27,5 @@ pub mod Run
 pub mod Reacting
 pub mod Handshaking
 pub mod Parts
+pub mod Entries
+pub mod Founding

@@ -1,33 +1,28 @@
--- What each part of an event keeps is kept by the whole event.
+-- What each part of an event keeps, but for its handshakes, is kept by the whole event.
 use Rattle.erl_names.specs.Draw as kind
 use Rattle.std.proofs.Common.{◌≡◌, ℕ, Bool, true, false, cond, not, List, [], ◌∷◌, ◌++◌, refl, sym, ap, ◌∙◌, subst, ◌&&◌, ◌||◌, Option, Some, None}
 use Rattle.std.specs.Prelude.{codes}
 use Rattle.std.specs.Option.{is_some}
 use Rattle.std.specs.FinMap as fm
 use Rattle.dist_model.proofs.Calls.{IfGoes, by_test, if_cond, if_drawn, if_not}
-use Rattle.dist_model.proofs.Handshaking.{Turned, swept_kept}
 use Rattle.dist_model.proofs.Keys.{and_both, same_pid_true}
-use Rattle.dist_model.proofs.Sides.{side_at}
 use Rattle.dist_model.specs.Calls.{acting, call, first_message, spawn_life, toward, trapping, with_life, without_first}
 use Rattle.dist_model.specs.Commands.{Command, EndLink, EndMonitor, ExitSelf, ExitTo, Goes, IsAlive, LinksOf, MakeLink, MakeMonitor, Outcome, Receive, Refuses, Send, Spawn, Trap}
 use Rattle.dist_model.specs.Downs.{down_of}
 use Rattle.dist_model.specs.Exits.{carry_out, finish, link_exit, linked_exit, sent_exit}
 use Rattle.dist_model.specs.Fits.{fits}
-use Rattle.dist_model.specs.Handshake.{with_side, write}
-use Rattle.dist_model.specs.Items.{Handshake, HandshakeMessage, Item, Signalled, Tick}
+use Rattle.dist_model.specs.Items.{Handshake, Item, Signalled, Tick}
 use Rattle.dist_model.specs.Linking.{exit_follows, link_by, link_new, replies, take_link, take_link_by, unlink_by}
 use Rattle.dist_model.specs.Links.{Exits, LinkWord, Says, heard, noconnection, noproc, reply}
-use Rattle.dist_model.specs.Losses.{link_to, registered_by, sweep_end, sweep_link, sweep_registered, sweep_watch, swept, watch_to}
+use Rattle.dist_model.specs.Losses.{link_to, registered_by, sweep_end, sweep_link, sweep_registered, sweep_watch, watch_to}
 use Rattle.dist_model.specs.Monitoring.{register, unregister, unwatch}
 use Rattle.dist_model.specs.Names.{Name, same_name, same_pid}
 use Rattle.dist_model.specs.Node.{Life, Living, Node, end_of, is_living_life, living, never, reaches, traps_life}
-use Rattle.dist_model.specs.Sides.{TrunkSide}
 use Rattle.dist_model.specs.Taking.{take_item}
 use Rattle.dist_model.specs.Work.{LinkExit, Work, at_work, draw, post, post_all, put, report, set_end, set_life}
 use Rattle.erl_control.specs.declared.signal.Signal.{Signal}
 use Rattle.erl_names.specs.Ids.{pid_of}
 use Rattle.erl_names.specs.Minted.{id_of}
-use Rattle.erl_names.specs.declared.trunk.TrunkId.{TrunkId}
 use Rattle.erl_term.specs.Data.{Data, atom}
 use Rattle.erl_term.specs.declared.refusal.Refusal.{Refusal}
 use Rattle.erl_term.specs.declared.term.Pid.{Pid}
@@ -63,8 +58,6 @@ pub record Rules : Type 1 where
 
 pub record Closed (rules : Rules) (X : Work → Type 0) : Type 0 where
   pub plain : (s : Signal) → is_plain s ≡ true → rules.Says s
-  pub side : (t : TrunkId) (s : TrunkSide) (o : Work) → Turned o.node t s → X o → X (with_side t s o)
-  pub wrote : (t : TrunkId) (y : Name) (m : HandshakeMessage) (o : Work) → X o → X (write t y m o)
   pub posted : (s : Signal) (o : Work) → rules.Says s → X o → X (post s o)
   pub end_set : (p q : Pid) (e : End) (o : Work) → X o → X (set_end p q e o)
   pub drew : (o : Work) → X o → X (draw kind.UnlinkId o)
@@ -229,15 +222,8 @@ module _ (rules : Rules) (X : Work → Type 0) (c : Closed rules X) where
   watch_swept None y o h j k = registered_swept (registered_by y (fm.entries o.node.registered)) o j k
   watch_swept (Some e) y o h j k = let v = h e refl in c.ended e.0 e.1 noconnection o v.0 v.1 k
 
-  link_swept : (d : Option ((Pid × Pid) × End)) (y : Name) (o : Work) → ((e : (Pid × Pid) × End) → d ≡ Some e → e.1 ≡ End.Active → rules.Reacts e.0.0 e.0.1 noconnection)
+  pub link_swept : (d : Option ((Pid × Pid) × End)) (y : Name) (o : Work) → ((e : (Pid × Pid) × End) → d ≡ Some e → e.1 ≡ End.Active → rules.Reacts e.0.0 e.0.1 noconnection)
       → ((e : Reference × Monitor) → watch_to y (fm.entries o.node.watches) ≡ Some e → (fm.get o.node.watches e.0 ≡ Some e.1) × rules.Tells e.0 e.1 noconnection)
       → ((e : Reference × Monitor) → registered_by y (fm.entries o.node.registered) ≡ Some e → (fm.get o.node.registered e.0 ≡ Some e.1) × rules.Drops e.0 e.1) → X o → X (sweep_link d y o)
   link_swept None y o h i j k = watch_swept (watch_to y (fm.entries o.node.watches)) y o i j k
   link_swept (Some e) y o h i j k = end_swept e.1 e.0.0 e.0.1 o (h e refl) k
-
-  pub sweep_kept : (t : TrunkId) (s : TrunkSide) (o : Work) → side_at ((sweep_link (link_to s.peer (fm.entries o.node.ends)) s.peer o).node) t ≡ Some s
-      → ((e : (Pid × Pid) × End) → link_to s.peer (fm.entries o.node.ends) ≡ Some e → e.1 ≡ End.Active → rules.Reacts e.0.0 e.0.1 noconnection)
-      → ((e : Reference × Monitor) → watch_to s.peer (fm.entries o.node.watches) ≡ Some e → (fm.get o.node.watches e.0 ≡ Some e.1) × rules.Tells e.0 e.1 noconnection)
-      → ((e : Reference × Monitor) → registered_by s.peer (fm.entries o.node.registered) ≡ Some e → (fm.get o.node.registered e.0 ≡ Some e.1) × rules.Drops e.0 e.1)
-      → X o → X (swept t s (sweep_link (link_to s.peer (fm.entries o.node.ends)) s.peer o))
-  sweep_kept t s o h a b d k = swept_kept X c.side c.wrote t s (sweep_link (link_to s.peer (fm.entries o.node.ends)) s.peer o) h (link_swept (link_to s.peer (fm.entries o.node.ends)) s.peer o a b d k)
