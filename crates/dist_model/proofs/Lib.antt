@@ -29,3 +29,4 @@ pub mod Handshaking
 pub mod Parts
 pub mod Entries
 pub mod Founding
+pub mod Turning
