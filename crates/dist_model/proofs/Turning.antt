@@ -224,6 +224,8 @@ module _ (n : Node) (Tells : Reference → Monitor → Data → Type 0) (Joins :
     pub name : o.node.mint.name ≡ n.mint.name
     pub creation : o.node.mint.creation ≡ n.mint.creation
     pub references : o.node.mint.references ≡ n.mint.references
+    pub pids : o.node.mint.pids ≡ n.mint.pids
+    pub owners : (k : Reference) (u : Monitor) → fm.get o.node.watches k ≡ Some u → living o.node u.owner ≡ true
 
   -- a part that touches no monitor
   record Aside (o o' : Work) : Type 0 where
@@ -236,6 +238,7 @@ module _ (n : Node) (Tells : Reference → Monitor → Data → Type 0) (Joins :
     name : o'.node.mint.name ≡ o.node.mint.name
     creation : o'.node.mint.creation ≡ o.node.mint.creation
     references : o'.node.mint.references ≡ o.node.mint.references
+    pids : o'.node.mint.pids ≡ o.node.mint.pids
 
   fate_aside : (o o' : Work) (k : Reference) → fm.get o'.node.watches k ≡ fm.get o.node.watches k → downs_in k o'.effects ≡ downs_in k o.effects → ((p : Pid) → living o.node p ≡ false → living o'.node p ≡ false) → Fate o k → Fate o' k
   fate_aside o o' k w d l (Same a b) = Same (w ∙ a) (d ∙ b)
@@ -255,6 +258,8 @@ module _ (n : Node) (Tells : Reference → Monitor → Data → Type 0) (Joins :
     name = a.name ∙ k.name;
     creation = a.creation ∙ k.creation;
     references = a.references ∙ k.references;
+    pids = a.pids ∙ k.pids;
+    owners = λ j u h. a.lives u.owner ∙ k.owners j u (sym (a.watches j) ∙ h);
   }
     where
       go : (j : Reference) (m : Monitor) → (fm.get o.node.registered j ≡ Some m) ⊎ (Lands (is_end j) n m.owner.node o ⊎ Drops j m) → (fm.get o'.node.registered j ≡ Some m) ⊎ (Lands (is_end j) n m.owner.node o' ⊎ Drops j m)
@@ -273,12 +278,13 @@ module _ (n : Node) (Tells : Reference → Monitor → Data → Type 0) (Joins :
     name = all_posts_keep (λ m. m.mint.name) (λ m l. refl) ss o;
     creation = all_posts_keep (λ m. m.mint.creation) (λ m l. refl) ss o;
     references = all_posts_keep (λ m. m.mint.references) (λ m l. refl) ss o;
+    pids = all_posts_keep (λ m. m.mint.pids) (λ m l. refl) ss o;
   }
 
   -- effects and lives alone change
   effects_aside : (o : Work) (m : Node) (gs : List Effect) → ((k : Reference) → downs_in k gs ≡ []) → m.watches ≡ o.node.watches → m.registered ≡ o.node.registered → m.local ≡ o.node.local → ((p : Pid) → living m p ≡ living o.node p)
-      → m.mint.name ≡ o.node.mint.name → m.mint.creation ≡ o.node.mint.creation → m.mint.references ≡ o.node.mint.references → Aside o (record o { node = m; effects = o.effects ++ gs })
-  effects_aside o m gs d w r l v a b c = record {
+      → m.mint.name ≡ o.node.mint.name → m.mint.creation ≡ o.node.mint.creation → m.mint.references ≡ o.node.mint.references → m.mint.pids ≡ o.node.mint.pids → Aside o (record o { node = m; effects = o.effects ++ gs })
+  effects_aside o m gs d w r l v a b c e = record {
     watches = λ k. ap (λ z. fm.get z k) w;
     downs = λ k. no_more k o.effects gs (d k);
     lives = v;
@@ -288,11 +294,12 @@ module _ (n : Node) (Tells : Reference → Monitor → Data → Type 0) (Joins :
     name = a;
     creation = b;
     references = c;
+    pids = e;
   }
 
   node_aside : (o : Work) (m : Node) → m.watches ≡ o.node.watches → m.registered ≡ o.node.registered → m.local ≡ o.node.local → ((p : Pid) → living m p ≡ living o.node p)
-      → m.mint.name ≡ o.node.mint.name → m.mint.creation ≡ o.node.mint.creation → m.mint.references ≡ o.node.mint.references → Aside o (record o { node = m })
-  node_aside o m w r l v a b c = record {
+      → m.mint.name ≡ o.node.mint.name → m.mint.creation ≡ o.node.mint.creation → m.mint.references ≡ o.node.mint.references → m.mint.pids ≡ o.node.mint.pids → Aside o (record o { node = m })
+  node_aside o m w r l v a b c e = record {
     watches = λ k. ap (λ z. fm.get z k) w;
     downs = λ k. refl;
     lives = v;
@@ -302,13 +309,14 @@ module _ (n : Node) (Tells : Reference → Monitor → Data → Type 0) (Joins :
     name = a;
     creation = b;
     references = c;
+    pids = e;
   }
 
   lives_same : (p : Pid) (l : Option Life) (o : Work) → is_living_life l ≡ living o.node p → (q : Pid) → is_living_life (fm.get (set_life o.node.lives p l) q) ≡ living o.node q
   lives_same p l o h q = set_life_living o.node.lives p l q (λ e. h ∙ ap (living o.node) (sym (same_pid_true q p e)))
 
   put_aside : (p : Pid) (m : Data) (o : Work) → ((r : Reference) → down_of r m ≡ None) → Aside o (put p m o)
-  put_aside p m o h = effects_aside o ((put p m o).node) (Put p m ∷ []) (λ k. ap (λ v. put_to p v ++ []) (h k)) refl refl refl (lives_same p (delivered (fm.get o.node.lives p) m) o (living_delivered (fm.get o.node.lives p) m)) refl refl refl
+  put_aside p m o h = effects_aside o ((put p m o).node) (Put p m ∷ []) (λ k. ap (λ v. put_to p v ++ []) (h k)) refl refl refl (lives_same p (delivered (fm.get o.node.lives p) m) o (living_delivered (fm.get o.node.lives p) m)) refl refl refl refl
 
   -- a process ends: posts, then its records go
   buried_turns : (p : Pid) (x : Data) (o : Work) → ((k : Reference) (m : Monitor) → fm.get o.node.registered k ≡ Some m → same_pid m.target p ≡ true → Lands (is_end k) n m.owner.node o) → Turns o → Turns (buried p x o)
@@ -323,6 +331,8 @@ module _ (n : Node) (Tells : Reference → Monitor → Data → Type 0) (Joins :
     name = k.name;
     creation = k.creation;
     references = k.references;
+    pids = k.pids;
+    owners = λ j u h. owner j u (fm.get o.node.watches j) refl h;
   }
     where
       both : (b : Bool) (v : Option Monitor) (m : Monitor) → cond b v None ≡ Some m → (b ≡ true) × (v ≡ Some m)
@@ -331,6 +341,11 @@ module _ (n : Node) (Tells : Reference → Monitor → Data → Type 0) (Joins :
 
       lived : (q : Pid) → living ((buried p x o).node) q ≡ is_living_life (cond (same_pid q p) (Some (Ended x)) (fm.get o.node.lives q))
       lived q = ap is_living_life (fm.get-insert pid_total o.node.lives p (Ended x) q)
+
+      owner : (j : Reference) (u : Monitor) (v : Option Monitor) → fm.get o.node.watches j ≡ v → fm.get ((buried p x o).node.watches) j ≡ Some u → living ((buried p x o).node) u.owner ≡ true
+      owner j u v e h =
+          let b = both (not (is_owned p (fm.get o.node.watches j))) (fm.get o.node.watches j) u (sym (watches_left p o.node.watches j) ∙ h) in
+          lived u.owner ∙ cond_other (same_pid u.owner p) x (fm.get o.node.lives u.owner) (not_true (same_pid u.owner p) (ap (λ z. not (is_owned p z)) (sym b.1) ∙ b.0)) ∙ k.owners j u b.1
 
       quiet : (j : Reference) → downs_in j ((buried p x o).effects) ≡ downs_in j o.effects
       quiet j = no_more j o.effects (EndedBy p x ∷ []) refl
@@ -398,6 +413,8 @@ module _ (n : Node) (Tells : Reference → Monitor → Data → Type 0) (Joins :
     name = k.name;
     creation = k.creation;
     references = k.references;
+    pids = k.pids;
+    owners = λ j u e. lived u.owner ∙ k.owners j u (removed_some o.node.watches r j u e);
   }
     where
       lived : (q : Pid) → living ((put m.owner (down_term r m.target x) (unwatch r o)).node) q ≡ living o.node q
@@ -437,6 +454,8 @@ module _ (n : Node) (Tells : Reference → Monitor → Data → Type 0) (Joins :
     name = k.name;
     creation = k.creation;
     references = k.references;
+    pids = k.pids;
+    owners = k.owners;
   }
     where
       new : (j : Reference) (v : Monitor) → (fm.get o.node.registered j ≡ Some v) ⊎ ((j ≡ r) × (m ≡ v)) → (living o.node v.target ≡ true) × ((fm.get n.registered j ≡ Some v) ⊎ Joins j v)
@@ -467,6 +486,8 @@ module _ (n : Node) (Tells : Reference → Monitor → Data → Type 0) (Joins :
     name = k.name;
     creation = k.creation;
     references = k.references;
+    pids = k.pids;
+    owners = k.owners;
   }
     where
       go : (j : Reference) (v : Monitor) → (fm.get o.node.registered j ≡ Some v) ⊎ (Lands (is_end j) n v.owner.node o ⊎ Drops j v) → (fm.get (fm.remove o.node.registered r) j ≡ Some v) ⊎ (Lands (is_end j) n v.owner.node (unregister r o) ⊎ Drops j v)
@@ -486,11 +507,11 @@ module _ (n : Node) (Tells : Reference → Monitor → Data → Type 0) (Joins :
   core_closed = record {
     plain = λ s h. tt;
     posted = λ s o h k. core_aside o (post s o) (posts_aside (s ∷ []) o) (posts_keep (λ m. m.sides) (λ m l. refl) (receiver_of s).node (Signalled s) o) k;
-    end_set = λ p q e o k. core_aside o (set_end p q e o) (node_aside o ((set_end p q e o).node) refl refl refl (λ z. refl) refl refl refl) refl k;
-    drew = λ o k. core_aside o (draw kind.UnlinkId o) (node_aside o ((draw kind.UnlinkId o).node) refl refl refl (λ z. refl) refl refl refl) refl k;
-    life_set = λ p l o h k. core_aside o (record o { node = record (o.node) { lives = set_life o.node.lives p l } }) (node_aside o (record (o.node) { lives = set_life o.node.lives p l }) refl refl refl (lives_same p l o h) refl refl refl) refl k;
+    end_set = λ p q e o k. core_aside o (set_end p q e o) (node_aside o ((set_end p q e o).node) refl refl refl (λ z. refl) refl refl refl refl) refl k;
+    drew = λ o k. core_aside o (draw kind.UnlinkId o) (node_aside o ((draw kind.UnlinkId o).node) refl refl refl (λ z. refl) refl refl refl refl) refl k;
+    life_set = λ p l o h k. core_aside o (record o { node = record (o.node) { lives = set_life o.node.lives p l } }) (node_aside o (record (o.node) { lives = set_life o.node.lives p l }) refl refl refl (lives_same p l o h) refl refl refl refl) refl k;
     message = λ p m o h k. core_aside o (put p m o) (put_aside p m o h) refl k;
-    reacted = λ p q x o h k. core_aside o (report (LinkExit p q x) o) (effects_aside o o.node (LinkExit p q x ∷ []) (λ r. refl) refl refl refl (λ z. refl) refl refl refl) refl k;
+    reacted = λ p q x o h k. core_aside o (report (LinkExit p q x) o) (effects_aside o o.node (LinkExit p q x ∷ []) (λ r. refl) refl refl refl (λ z. refl) refl refl refl refl) refl k;
     finished = λ p x o k. finish_turns p x o k;
     registers = λ r m o l h k. record { turns = registers_turns r m o l h k.turns; sides = k.sides };
     unregisters = λ r m o e h k. record { turns = unregisters_turns r m o e h k.turns; sides = k.sides };
@@ -499,7 +520,7 @@ module _ (n : Node) (Tells : Reference → Monitor → Data → Type 0) (Joins :
 
   -- the handshake
   pub turns_side : (t : TrunkId) (s : TrunkSide) (o : Work) → Turned o.node t s → Turns o → Turns (with_side t s o)
-  turns_side t s o h k = turns_aside o (with_side t s o) (node_aside o ((with_side t s o).node) refl refl refl (λ z. refl) refl refl refl) k
+  turns_side t s o h k = turns_aside o (with_side t s o) (node_aside o ((with_side t s o).node) refl refl refl (λ z. refl) refl refl refl refl) k
 
   pub turns_wrote : (t : TrunkId) (y : Name) (m : HandshakeMessage) (o : Work) → Turns o → Turns (write t y m o)
   turns_wrote t y m o k = turns_aside o (write t y m o) (record {
@@ -512,4 +533,5 @@ module _ (n : Node) (Tells : Reference → Monitor → Data → Type 0) (Joins :
     name = refl;
     creation = refl;
     references = refl;
+    pids = refl;
   }) k
