@@ -201,7 +201,7 @@ module _ (n : Node) (Old : Pid → Data → Type 0) (Ok : Pid → Pid → Data �
       offs r (inr h) = inr (h.0, none_by (fm.get o.node.watches r) (fm.get o'.node.watches r) (w r) h.1)
 
   -- the same items, and more effects
-  true_more : (o o' : Work) → o'.node.local ≡ o.node.local → o'.sent ≡ o.sent → ((f : Effect) → Contains o.effects f → Contains o'.effects f)
+  pub true_more : (o o' : Work) → o'.node.local ≡ o.node.local → o'.sent ≡ o.sent → ((f : Effect) → Contains o.effects f → Contains o'.effects f)
       → ((p q : Pid) (x : Data) → Contains o'.effects (LinkExit p q x) → Ok p q x) → ((r : Reference) (m : Monitor) → fm.get o'.node.watches r ≡ Some m → fm.get o.node.watches r ≡ Some m)
       → ((r : Reference) (m : Monitor) → fm.get o'.node.registered r ≡ Some m → Call m.owner m.target r) → True o → True o'
   true_more o o' l s f a w e k = let c = carried_by (FoundedIn o) (FoundedIn o') o (widen o o' f w) k.carried in record {
@@ -211,10 +211,10 @@ module _ (n : Node) (Old : Pid → Data → Type 0) (Ok : Pid → Pid → Data �
     enrolled = e;
   }
 
-  true_node : (o : Work) (m : Node) → m.local ≡ o.node.local → m.watches ≡ o.node.watches → m.registered ≡ o.node.registered → True o → True (record o { node = m })
+  pub true_node : (o : Work) (m : Node) → m.local ≡ o.node.local → m.watches ≡ o.node.watches → m.registered ≡ o.node.registered → True o → True (record o { node = m })
   true_node o m l w e k = true_more o (record o { node = m }) l refl (λ f h. h) k.acts (λ r v h. ap (λ z. fm.get z r) (sym w) ∙ h) (λ r v h. k.enrolled r v (ap (λ z. fm.get z r) (sym e) ∙ h)) k
 
-  true_put : (p : Pid) (m : Data) (o : Work) → True o → True (put p m o)
+  pub true_put : (p : Pid) (m : Data) (o : Work) → True o → True (put p m o)
   true_put p m o k = true_more o (put p m o) refl refl (λ f h. Contains-append_left o.effects (Put p m ∷ []) f h) (λ a b x h. pick a b x (Contains-push_cases o.effects (Put p m) (LinkExit a b x) h)) (λ r v h. h) k.enrolled k
     where
       pick : (a b : Pid) (x : Data) → Contains o.effects (LinkExit a b x) ⊎ (Put p m ≡ LinkExit a b x) → Ok a b x
@@ -244,7 +244,7 @@ module _ (n : Node) (Old : Pid → Data → Type 0) (Ok : Pid → Pid → Data �
   pub true_post : (s : Signal) (o : Work) → FoundedIn o (Signalled s) → True o → True (post s o)
   true_post s o h k = true_posts (s ∷ []) o (All-cons (λ z. FoundedIn o (Signalled z)) s [] h (All-nil (λ z. FoundedIn o (Signalled z)))) k
 
-  old_now : (o : Work) (i : Item) → Founded Old Call Off i → FoundedIn o i
+  pub old_now : (o : Work) (i : Item) → Founded Old Call Off i → FoundedIn o i
   old_now o = founded_by Old (EndedBefore o) Call Call Off (OffNow o) (λ q x h. inl h) (λ p q r h. h) (λ r h. inl h)
 
   -- a process ends

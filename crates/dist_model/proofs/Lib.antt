@@ -30,3 +30,5 @@ pub mod Parts
 pub mod Entries
 pub mod Founding
 pub mod Turning
+pub mod Aging
+pub mod Homing

@@ -192,9 +192,9 @@ module _ (rules : Rules) (X : Work → Type 0) (c : Closed rules X) where
     living_received (Some (Living t (m ∷ ms))) = refl
     living_received (Some (Rattle.dist_model.specs.Node.Ended r)) = refl
 
-    pub call_kept : (d : Command) → Apart d → ((id : ℕ) → id_of n.mint kind.Pid ≡ Some id → X (spawn_life n (pid_of n.mint id)))
+    pub call_kept : (d : Command) → Apart d → ((id : ℕ) → d ≡ Spawn → id_of n.mint kind.Pid ≡ Some id → X (spawn_life n (pid_of n.mint id)))
         → ((p q : Pid) → d ≡ MakeLink p q → living n p ≡ true → reaches n q.node ≡ false → rules.Reacts p q noconnection) → IfGoes (call n d) X
-    call_kept Spawn a s own = if_drawn (id_of n.mint kind.Pid) _ X (λ id h. s id h)
+    call_kept Spawn a s own = if_drawn (id_of n.mint kind.Pid) _ X (λ id h. s id refl h)
     call_kept (Send p q m) a s own = acts_kept p q _ (λ l. if_cond (fits m) _ Refusal.TooLong X (λ f. c.posted (Signal.Send q m) (at_work n) (c.plain (Signal.Send q m) refl) k))
     call_kept (MakeLink p q) a s own = acts_kept p q _ (λ l. cond_kept (same_pid p q) (at_work n) _ (λ e. k) (λ e. link_by_kept (end_of n p q) p q (at_work n) (own p q refl l) k))
     call_kept (EndLink p q) a s own = acts_kept p q _ (λ l. unlink_by_kept (end_of n p q) p q (at_work n) k)
