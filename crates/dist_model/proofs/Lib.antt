@@ -32,3 +32,4 @@ pub mod Founding
 pub mod Turning
 pub mod Aging
 pub mod Homing
+pub mod Told
