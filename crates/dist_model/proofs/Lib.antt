@@ -33,3 +33,4 @@ pub mod Turning
 pub mod Aging
 pub mod Homing
 pub mod Told
+pub mod Deeds

@@ -228,17 +228,17 @@ module _ (n : Node) (Tells : Reference → Monitor → Data → Type 0) (Joins :
     pub owners : (k : Reference) (u : Monitor) → fm.get o.node.watches k ≡ Some u → living o.node u.owner ≡ true
 
   -- a part that touches no monitor
-  record Aside (o o' : Work) : Type 0 where
-    watches : (k : Reference) → fm.get o'.node.watches k ≡ fm.get o.node.watches k
-    downs : (k : Reference) → downs_in k o'.effects ≡ downs_in k o.effects
-    lives : (p : Pid) → living o'.node p ≡ living o.node p
-    registered : (k : Reference) → fm.get o'.node.registered k ≡ fm.get o.node.registered k
-    local : (f : Item → Bool) → has f o.node.local ≡ true → has f o'.node.local ≡ true
-    sent : (f : Item → Bool) (t : TrunkId) (y : Name) → has f (at_place t y o.sent) ≡ true → has f (at_place t y o'.sent) ≡ true
-    name : o'.node.mint.name ≡ o.node.mint.name
-    creation : o'.node.mint.creation ≡ o.node.mint.creation
-    references : o'.node.mint.references ≡ o.node.mint.references
-    pids : o'.node.mint.pids ≡ o.node.mint.pids
+  pub record Aside (o o' : Work) : Type 0 where
+    pub watches : (k : Reference) → fm.get o'.node.watches k ≡ fm.get o.node.watches k
+    pub downs : (k : Reference) → downs_in k o'.effects ≡ downs_in k o.effects
+    pub lives : (p : Pid) → living o'.node p ≡ living o.node p
+    pub registered : (k : Reference) → fm.get o'.node.registered k ≡ fm.get o.node.registered k
+    pub local : (f : Item → Bool) → has f o.node.local ≡ true → has f o'.node.local ≡ true
+    pub sent : (f : Item → Bool) (t : TrunkId) (y : Name) → has f (at_place t y o.sent) ≡ true → has f (at_place t y o'.sent) ≡ true
+    pub name : o'.node.mint.name ≡ o.node.mint.name
+    pub creation : o'.node.mint.creation ≡ o.node.mint.creation
+    pub references : o'.node.mint.references ≡ o.node.mint.references
+    pub pids : o'.node.mint.pids ≡ o.node.mint.pids
 
   fate_aside : (o o' : Work) (k : Reference) → fm.get o'.node.watches k ≡ fm.get o.node.watches k → downs_in k o'.effects ≡ downs_in k o.effects → ((p : Pid) → living o.node p ≡ false → living o'.node p ≡ false) → Fate o k → Fate o' k
   fate_aside o o' k w d l (Same a b) = Same (w ∙ a) (d ∙ b)
@@ -248,7 +248,7 @@ module _ (n : Node) (Tells : Reference → Monitor → Data → Type 0) (Joins :
   lands_more : (f : Item → Bool) (y : Name) (o o' : Work) → (has f o.node.local ≡ true → has f o'.node.local ≡ true) → ((t : TrunkId) → has f (at_place t y o.sent) ≡ true → has f (at_place t y o'.sent) ≡ true) → Lands f n y o → Lands f n y o'
   lands_more f y o o' l s h = (λ e. l (h.0 e), λ t e r. s t (h.1 t e r))
 
-  turns_aside : (o o' : Work) → Aside o o' → Turns o → Turns o'
+  pub turns_aside : (o o' : Work) → Aside o o' → Turns o → Turns o'
   turns_aside o o' a k = record {
     fates = λ j. fate_aside o o' j (a.watches j) (a.downs j) (λ p h. a.lives p ∙ h) (k.fates j);
     dead = λ p h. a.lives p ∙ k.dead p h;
@@ -297,7 +297,7 @@ module _ (n : Node) (Tells : Reference → Monitor → Data → Type 0) (Joins :
     pids = e;
   }
 
-  node_aside : (o : Work) (m : Node) → m.watches ≡ o.node.watches → m.registered ≡ o.node.registered → m.local ≡ o.node.local → ((p : Pid) → living m p ≡ living o.node p)
+  pub node_aside : (o : Work) (m : Node) → m.watches ≡ o.node.watches → m.registered ≡ o.node.registered → m.local ≡ o.node.local → ((p : Pid) → living m p ≡ living o.node p)
       → m.mint.name ≡ o.node.mint.name → m.mint.creation ≡ o.node.mint.creation → m.mint.references ≡ o.node.mint.references → m.mint.pids ≡ o.node.mint.pids → Aside o (record o { node = m })
   node_aside o m w r l v a b c e = record {
     watches = λ k. ap (λ z. fm.get z k) w;
@@ -312,7 +312,7 @@ module _ (n : Node) (Tells : Reference → Monitor → Data → Type 0) (Joins :
     pids = e;
   }
 
-  lives_same : (p : Pid) (l : Option Life) (o : Work) → is_living_life l ≡ living o.node p → (q : Pid) → is_living_life (fm.get (set_life o.node.lives p l) q) ≡ living o.node q
+  pub lives_same : (p : Pid) (l : Option Life) (o : Work) → is_living_life l ≡ living o.node p → (q : Pid) → is_living_life (fm.get (set_life o.node.lives p l) q) ≡ living o.node q
   lives_same p l o h q = set_life_living o.node.lives p l q (λ e. h ∙ ap (living o.node) (sym (same_pid_true q p e)))
 
   put_aside : (p : Pid) (m : Data) (o : Work) → ((r : Reference) → down_of r m ≡ None) → Aside o (put p m o)
