@@ -34,3 +34,4 @@ pub mod Aging
 pub mod Homing
 pub mod Told
 pub mod Deeds
+pub mod Events

@@ -81,7 +81,7 @@ downs_append k (EndedBy p x ∷ fs) gs = downs_append k fs gs
 downs_append k (LinkExit p q x ∷ fs) gs = downs_append k fs gs
 downs_append k (Sent y i ∷ fs) gs = downs_append k fs gs
 
-no_more : (k : Reference) (fs gs : List Effect) → downs_in k gs ≡ [] → downs_in k (fs ++ gs) ≡ downs_in k fs
+pub no_more : (k : Reference) (fs gs : List Effect) → downs_in k gs ≡ [] → downs_in k (fs ++ gs) ≡ downs_in k fs
 no_more k fs gs h = downs_append k fs gs ∙ ap (λ l. downs_in k fs ++ l) h ∙ append-nil (downs_in k fs)
 
 pub quietly_downs : (k : Reference) (fs gs : List Effect) → Quietly fs gs → downs_in k gs ≡ downs_in k fs
