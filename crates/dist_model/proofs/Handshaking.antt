@@ -308,7 +308,7 @@ module _ (X : Work → Type 0) (side : (t : TrunkId) (s : TrunkSide) (o : Work) 
     replied v h (Challenge a b c d) = bad
     replied v h (ChallengeAck a) = bad
 
-    shaken : (v : State) → s.state ≡ v → (m : HandshakeMessage) → IfGoes (handshake_at v t s m o) X
+    pub shaken : (v : State) → s.state ≡ v → (m : HandshakeMessage) → IfGoes (handshake_at v t s m o) X
     shaken (AwaitsStatus v) h m = status v (ap is_open h) m
     shaken (AwaitsChallenge v) h m = challenged v (ap is_open h) m
     shaken (AwaitsAck v) h m = acknowledged v (ap is_open h) m

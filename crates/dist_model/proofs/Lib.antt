@@ -35,3 +35,4 @@ pub mod Homing
 pub mod Told
 pub mod Deeds
 pub mod Events
+pub mod Comings

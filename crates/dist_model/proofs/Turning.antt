@@ -201,7 +201,7 @@ not_true : (b : Bool) → not b ≡ true → b ≡ false
 not_true true h = cc
 not_true false h = refl
 
-living_delivered : (l : Option Life) (m : Data) → is_living_life (delivered l m) ≡ is_living_life l
+pub living_delivered : (l : Option Life) (m : Data) → is_living_life (delivered l m) ≡ is_living_life l
 living_delivered None m = refl
 living_delivered (Some (Living t b)) m = refl
 living_delivered (Some (Ended x)) m = refl
