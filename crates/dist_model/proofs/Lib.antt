@@ -36,3 +36,4 @@ pub mod Told
 pub mod Deeds
 pub mod Events
 pub mod Comings
+pub mod Histories

@@ -24,3 +24,4 @@ pub mod Histories
 pub mod Causes
 pub mod Downs
 pub mod Claims
+pub mod Fates

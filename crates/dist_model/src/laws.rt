@@ -3,6 +3,8 @@
 //! Every law is of every world to which any list of events leads, from any opening world, with or
 //! without memory; and so of each moment of every run.
 ghost use Rattle.dist_model.specs.Runs.{Always};
+ghost use Rattle.dist_model.specs.Histories.{Throughout};
+ghost use Rattle.dist_model.specs.Fates.{ReactsForTrueCause, ExitsTellTrueCause, ExitsTellTrueCauseWithin, AnsweredOnce, DownOnce, DownToTheOwner, NoDownWhereDemonitored, DownsTellTrueCause};
 ghost use Rattle.dist_model.specs.Claims.{Agreement, AgreementWithin, AgreementInQuiet, PendingOnItsWay, PendingWithin, NoLinkToTheDead, NoLinkToItself, OneTrunk, NoUpBesideLosing, ReactsOnlyWhereLinked};
 
 /// Of two living processes both hold their link active, or neither does, once all that travels
@@ -36,7 +38,23 @@ pub fn one_trunk()
 {}
 
 /// A process reacts to the exit of a link only where it held it active, or where it links in that
-/// very event towards a node that isn't reached. (Reference Manual, Processes, Links.)
+/// very event towards a node that isn't reached; and only for a true reason, which every EXIT that
+/// travels tells: the partner ended with it, there is no such process, or there is no connection.
+/// (Reference Manual, Processes, Links and Receiving Exit Signals.)
 pub fn reactions()
     ensures linked { Always ReactsOnlyWhereLinked }
+    ensures cause { Throughout ReactsForTrueCause }
+    ensures travelling { Throughout ExitsTellTrueCause }
+    ensures within { Throughout ExitsTellTrueCauseWithin }
+{}
+
+/// A reference is the answer of at most one Monitor call, and at most one DOWN comes of it: to the
+/// process that made the call, for the incarnation that it named, and for a true reason. None comes
+/// where the monitor was taken back. (Reference Manual, Processes, Monitors.)
+pub fn monitors()
+    ensures answered { Throughout AnsweredOnce }
+    ensures once { Throughout DownOnce }
+    ensures owner { Throughout DownToTheOwner }
+    ensures demonitored { Throughout NoDownWhereDemonitored }
+    ensures cause { Throughout DownsTellTrueCause }
 {}

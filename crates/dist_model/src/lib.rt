@@ -1,11 +1,11 @@
 //! The abstract world of nodes, processes, links, monitors and connections, and its laws.
 //!
 //! The definitions in `specs/` say what a node does at each event, what a world of nodes does, and
-//! what holds of it; [`agreement`], [`pending`], [`no_link_to_the_dead`], [`one_trunk`] and
-//! [`reactions`] are the laws. There is no code here: the crates of the node and of the world are
+//! what holds of it; [`agreement`], [`pending`], [`no_link_to_the_dead`], [`one_trunk`],
+//! [`reactions`] and [`monitors`] are the laws. There is no code here: the crates of the node and of the world are
 //! proved to be this world. `docs/MODEL.md` tells it in prose.
 #![tactic(auto)]
 
 mod laws;
 
-pub use laws::{agreement, no_link_to_the_dead, one_trunk, pending, reactions};
+pub use laws::{agreement, monitors, no_link_to_the_dead, one_trunk, pending, reactions};
