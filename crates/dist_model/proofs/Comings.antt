@@ -366,7 +366,7 @@ module _ (w : World) (h : History) (x : Name) (n : Node) (hx : node_of w.nodes x
         over = λ i. refl;
       };
       local = λ f j. inr unwatched;
-      leaving = λ k u j. inr (inr over_side);
+      leaving = λ k u j. inr (inr (over_side, unwatched));
     }
       where
         nothing : (f : Effect) → Contains [] f → ⊥

@@ -67,9 +67,9 @@ pub all_go : (P : Work → Type 0) (Q : Answer → Work → Type 0) (k : Outcome
 all_go P Q (Refuses j) f h = tt
 all_go P Q (Goes a o) f h = f a o h
 
--- all sides are over
+-- all sides are over, and nobody watches
 abbrev pub AllOver : Node → Type 0
-AllOver m = (t : TrunkId) (s : TrunkSide) → side_at m t ≡ Some s → is_over s.state ≡ true
+AllOver m = ((t : TrunkId) (s : TrunkSide) → side_at m t ≡ Some s → is_over s.state ≡ true) × ((k : Reference) → fm.get m.watches k ≡ None)
 
 reference_drawn : (m : Minted) (id : ℕ) → id_of m kind.Reference ≡ Some id → (id ≡ m.references + 1) × (risen m.references (last kind.Reference) ≡ m.references + 1)
 reference_drawn m id h = go (nat_lt m.references (last kind.Reference)) refl h

@@ -37,3 +37,4 @@ pub mod Deeds
 pub mod Events
 pub mod Comings
 pub mod Histories
+pub mod Linked
