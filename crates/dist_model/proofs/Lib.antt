@@ -38,3 +38,4 @@ pub mod Events
 pub mod Comings
 pub mod Histories
 pub mod Linked
+pub mod Following
