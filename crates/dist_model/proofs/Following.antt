@@ -13,7 +13,6 @@ use Rattle.dist_model.proofs.Entries.{same_reference_refl, same_reference_true}
 use Rattle.dist_model.proofs.Events.{AllGo, Done, call_done, go_cond, go_drawn, go_not}
 use Rattle.dist_model.proofs.Founding.{posts_keep}
 use Rattle.dist_model.proofs.Handshaking.{as_state, lost_over, set_at}
-use Rattle.dist_model.proofs.Histories.{popped_lists}
 use Rattle.dist_model.proofs.Home.{never_own}
 use Rattle.dist_model.proofs.Keys.{and_both, place_total, same_name_is, same_name_true, same_pid_is, same_trunk, same_trunk_refl, same_trunk_true}
 use Rattle.dist_model.proofs.Linked.{Linked, NewWatch, TakenCall, linked_after}

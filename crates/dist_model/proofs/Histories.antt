@@ -9,7 +9,9 @@ use Rattle.dist_model.proofs.Calls.{by_test}
 use Rattle.dist_model.proofs.Comings.{arrive_done, dial_done, local_done, lose_done, start_done, stop_done, sweep_done}
 use Rattle.dist_model.proofs.Deeds.{Right, old_cause}
 use Rattle.dist_model.proofs.Events.{AllGo, Done, call_done}
+use Rattle.dist_model.proofs.Following.{linked_step}
 use Rattle.dist_model.proofs.Keys.{place_total, same_trunk}
+use Rattle.dist_model.proofs.Linked.{Linked}
 use Rattle.dist_model.proofs.Routes.{list_to_insert, none_some}
 use Rattle.dist_model.proofs.Run.{good_step_at}
 use Rattle.dist_model.proofs.Safety.{good_opening, new_is}
@@ -217,15 +219,18 @@ module _ (w : World) (h : History) (gw : Good w) (g : Sound w h) where
 pub record Tale (w : World) (h : History) : Type 0 where
   pub good : Good w
   pub sound : Sound w h
+  pub linked : Linked w
 
 one_event : (w : World) (h : History) (e : Event) (r : Report) (v : World) → Tale w h → Comes w e r v → Tale v ((record { event = e; report = r }) ∷ h)
 one_event w h e r v t (inl c) = record {
   good = subst Good (sym c.1) (good_step_at w (node_of w.nodes (node_name e)) e refl t.good);
   sound = subst (λ z. Sound z ((record { event = e; report = r }) ∷ h)) (sym c.1) (subst (λ z. Sound ((step w e).world) ((record { event = e; report = z }) ∷ h)) (sym c.0) (next w h t.good t.sound e).sound);
+  linked = subst Linked (sym c.1) (linked_step w h t.good t.sound t.linked (node_of w.nodes (node_name e)) e refl);
 }
 one_event w h e r v t (inr c) = record {
   good = subst Good (sym c.1) t.good;
   sound = subst (λ z. Sound z ((record { event = e; report = r }) ∷ h)) (sym c.1) (subst (λ z. Sound w ((record { event = e; report = z }) ∷ h)) (sym c.0) (sound_refused w h t.sound e Refusal.OutOfMemory));
+  linked = subst Linked (sym c.1) t.linked;
 }
 
 tale_runs : (w : World) (h : History) (es : List Event) (rs : List Report) (v : World) → Tale w h → Runs w es rs v → Tale v (told es rs h)
@@ -250,8 +255,11 @@ sound_opening cs = record {
   waits = λ k p q m d r. absurd m;
 }
 
+linked_opening : (cs : List (Name × List ℕ)) → Linked (opening cs)
+linked_opening cs y v k u hv i = let m = new_is cs cs y v hv in absurd (none_some u (sym (fm.get-empty reference_cmp k) ∙ subst (λ (z : Node). fm.get z.watches k ≡ Some u) m.2 i))
+
 pub throughout : (Holds : History → World → Type 0) → ((h : History) (w : World) → Tale w h → Holds h w) → Throughout Holds
-throughout Holds f cs es rs w i = f (told es rs []) w (tale_runs (opening cs) [] es rs w (record { good = good_opening cs; sound = sound_opening cs }) i)
+throughout Holds f cs es rs w i = f (told es rs []) w (tale_runs (opening cs) [] es rs w (record { good = good_opening cs; sound = sound_opening cs; linked = linked_opening cs }) i)
 
 -- ---- the claims
 

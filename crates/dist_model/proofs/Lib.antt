@@ -36,6 +36,7 @@ pub mod Told
 pub mod Deeds
 pub mod Events
 pub mod Comings
-pub mod Histories
 pub mod Linked
 pub mod Following
+pub mod Histories
+pub mod Resting

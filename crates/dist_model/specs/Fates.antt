@@ -1,19 +1,24 @@
 -- What holds of every world and of all that happened before it: the exits of links, and the monitors.
-use Rattle.std.specs.Prelude.{◌≡◌, ◌⊎◌, ◌≤◌, Bool, true, false, List, [], Contains, length}
+use Rattle.std.specs.Prelude.{◌≡◌, ◌⊎◌, ◌≤◌, Bool, true, false, Option, None, Some, List, [], Contains, length}
+use Rattle.std.specs.FinMap as fm
 use Rattle.dist_model.specs.Causes.{Reacts, TrueCause}
 use Rattle.dist_model.specs.Commands.{MakeLink}
 use Rattle.dist_model.specs.Downs.{Demonitored, Down, Monitored, answers, downs, downs_by}
 use Rattle.dist_model.specs.Histories.{History}
 use Rattle.dist_model.specs.Items.{Signalled}
 use Rattle.dist_model.specs.Names.{Name}
-use Rattle.dist_model.specs.Seen.{end_between, is_reached, local_list}
-use Rattle.dist_model.specs.World.{Call, Event, World, list_to, step}
+use Rattle.dist_model.specs.Node.{Node}
+use Rattle.dist_model.specs.Quiet.{Quiet}
+use Rattle.dist_model.specs.Seen.{end_between, is_living, is_reached, local_list}
+use Rattle.dist_model.specs.World.{Call, Event, World, list_to, node_of, step}
 use Rattle.erl_control.specs.declared.signal.Signal.{Signal}
 use Rattle.erl_names.specs.declared.trunk.TrunkId.{TrunkId}
 use Rattle.erl_term.specs.Data.{Data}
 use Rattle.erl_term.specs.declared.term.Pid.{Pid}
 use Rattle.erl_term.specs.declared.term.Reference.{Reference}
 use Rattle.link_core.specs.declared.end.End.{End}
+use Rattle.monitor_core.specs.Monitors.{monitor_of}
+use Rattle.monitor_core.specs.declared.monitor.Monitor.{Monitor}
 
 -- ---- Reactions. (Reference Manual, Processes, Links and Receiving Exit Signals)
 
@@ -54,3 +59,16 @@ NoDownWhereDemonitored history world = (r : Reference) → Demonitored r history
 abbrev pub DownsTellTrueCause : History → World → Type 0
 DownsTellTrueCause history world = (event : Event) (r : Reference) (down : Down) → Contains (downs_by r event ((step world event).report)) down
     → TrueCause history world down.owner down.target down.info
+
+abbrev pub registered_at : Option Node → Reference → Option Monitor
+registered_at None r = None
+registered_at (Some node) r = fm.get node.registered r
+
+-- q is living, and its node holds p's monitor of it under the reference
+abbrev pub IsRegistered : World → Reference → Pid → Pid → Type 0
+IsRegistered world r p q = (is_living world q ≡ true) × (registered_at (node_of world.nodes q.node) r ≡ Some (monitor_of p q))
+
+-- whenever nothing travels between them, a living owner that didn't take its monitor back has got its DOWN, or the target is living and registered
+abbrev pub DownOrRegistered : History → World → Type 0
+DownOrRegistered history world = (r : Reference) (p q : Pid) → Monitored r p q history → is_living world p ≡ true → (Demonitored r history → ⊥) → Quiet world p q
+    → (length (downs r history) ≡ 1) ⊎ IsRegistered world r p q
