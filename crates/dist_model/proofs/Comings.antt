@@ -304,10 +304,10 @@ module _ (w : World) (h : History) (x : Name) (n : Node) (hx : node_of w.nodes x
       let at : side_at n d.0 ≡ Some d.1 = fm.get-entries n.sides d.0 ∙ r.0 in
       let far : reaches n d.1.peer ≡ false = losing_unreached n d.0 d.1 (gw.core.sides x n hx) at los in
       let k = link_swept (rules w h x n hx gw g (Sweep x) n.local) (Whole w h x n hx gw g (Sweep x) n.local) (whole_closed w h x n hx gw g (Sweep x) n.local) (link_to d.1.peer (fm.entries n.ends)) d.1.peer (at_work n)
-          (λ v l a. right d.1.peer far v l a)
-          (λ v l. let f = watch_found d.1.peer n.watches v l in (f.0, tells d.1.peer far v f))
-          (λ v l. let f = registered_found d.1.peer n.registered v l in (f.0, inr (ap (reaches n) f.1 ∙ far)))
-          (begins w h x n hx gw g (Sweep x) n.local (g.locals x n hx) (g.homes x n hx)) in
+      (λ v l a. right d.1.peer far v l a)
+      (λ v l. let f = watch_found d.1.peer n.watches v l in (f.0, tells d.1.peer far v f))
+      (λ v l. let f = registered_found d.1.peer n.registered v l in (f.0, inr (ap (reaches n) f.1 ∙ far)))
+      (begins w h x n hx gw g (Sweep x) n.local (g.locals x n hx) (g.homes x n hx)) in
       let o1 = sweep_link (link_to d.1.peer (fm.entries n.ends)) d.1.peer (at_work n) in
       let s = swept_kept (Shaken w h x n hx gw g (Sweep x) n.local) (shaken_side w h x n hx gw g (Sweep x) n.local) (shaken_wrote w h x n hx gw g (Sweep x) n.local) d.0 d.1 o1 (ap (λ z. fm.get z d.0) k.core.sides ∙ at) (shaken w h x n hx gw g (Sweep x) n.local o1 k) in
       done_shaken w h x n hx gw g (Sweep x) n.local _ (swept d.0 d.1 o1) (λ q. refl) (λ q. refl) refl s

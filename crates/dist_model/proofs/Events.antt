@@ -257,7 +257,7 @@ module _ (w : World) (h : History) (x : Name) (n : Node) (hx : node_of w.nodes x
         let hp : Homed n (λ a. never n a ≡ false) o = homed_post n (λ a. never n a ≡ false) s o1 (λ i. forged (same_name q.node n.mint.name) (never n q) known i) (record { local = g.homes x n hx; name = refl }) in
         let dn : (k : Reference) → downs_in k o.effects ≡ [] = λ k. quietly_downs k [] o.effects quietly in
         let cp = carried_post (Founded (EndedBefore n (Old w h) (λ a b z. Unit {0}) (Called h) (Off w h) o) (λ a b k. Monitored k a b ((record { event = Call x (MakeMonitor p q); report = Reported (Watching (reference_of n.mint id)) o.effects }) ∷ h)) (OffNow n (Old w h) (λ a b z. Unit {0}) (Called h) (Off w h) o))
-            q.node (Signalled s) o1 (inl (asked, same_reference_refl (reference_of n.mint id))) (record { local = All-weaker (IsFounded w h) _ (old_items o) n.local (g.locals x n hx); sent = All-nil _ }) in
+        q.node (Signalled s) o1 (inl (asked, same_reference_refl (reference_of n.mint id))) (record { local = All-weaker (IsFounded w h) _ (old_items o) n.local (g.locals x n hx); sent = All-nil _ }) in
         record {
           deed = record {
             name = ap (λ (m : Minted). m.name) mt ∙ nm w h x n hx gw g;
@@ -354,8 +354,8 @@ module _ (w : World) (h : History) (x : Name) (n : Node) (hx : node_of w.nodes x
       let hp : Homed n (λ a. never n a ≡ false) o = homed_post n (λ a. never n a ≡ false) s o1 (λ j. tt) (record { local = g.homes x n hx; name = refl }) in
       let dn : (k : Reference) → downs_in k o.effects ≡ [] = λ k. quietly_downs k [] o.effects quietly in
       let cp = carried_post (Founded (EndedBefore n (Old w h) (λ a b z. Unit {0}) (Called h) (Off w h) o) (λ a b k. Monitored k a b ((record { event = Call x (EndMonitor p r); report = Reported Rattle.dist_model.specs.Commands.Done o.effects }) ∷ h)) (OffNow n (Old w h) (λ a b z. Unit {0}) (Called h) (Off w h) o))
-          m.target.node (Signalled s) o1 (inr ((m, i), got r ∙ ap (λ b. cond b None (fm.get n.watches r)) (same_reference_refl r)))
-          (record { local = All-weaker (IsFounded w h) _ (founded_by _ _ _ _ _ _ (λ a z c. inl c) (λ a b k c. inr c) (λ k c. inl c)) n.local (g.locals x n hx); sent = All-nil _ }) in
+      m.target.node (Signalled s) o1 (inr ((m, i), got r ∙ ap (λ b. cond b None (fm.get n.watches r)) (same_reference_refl r)))
+      (record { local = All-weaker (IsFounded w h) _ (founded_by _ _ _ _ _ _ (λ a z c. inl c) (λ a b k c. inr c) (λ k c. inl c)) n.local (g.locals x n hx); sent = All-nil _ }) in
       record {
         deed = record {
           name = ap (λ (z : Minted). z.name) mt ∙ nm w h x n hx gw g;

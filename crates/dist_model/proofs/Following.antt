@@ -93,7 +93,7 @@ module _ (w : World) (h : History) (x : Name) (n : Node) (hx : node_of w.nodes x
         let alive : living n p ≡ true = subst (λ v. living n v ≡ true) (sym one.0) (g.watching x n k u hx j).4 in
         let both : (living n p && is_held n.watches r (monitor_of p q)) ≡ true = ap (λ b. b && is_held n.watches r (monitor_of p q)) alive ∙ held in
         let gone : fm.get ((cond (living n p && is_held n.watches r (monitor_of p q)) (put p (down_term r q z) (unwatch r (at_work (record n { local = xs })))) (at_work (record n { local = xs }))).node.watches) k ≡ None =
-            ap (λ b. fm.get ((cond b (put p (down_term r q z) (unwatch r (at_work (record n { local = xs })))) (at_work (record n { local = xs }))).node.watches) k) both ∙ fm.get-remove reference_cmp_total n.watches r k ∙ ap (λ b. cond b None (fm.get n.watches k)) e in
+        ap (λ b. fm.get ((cond b (put p (down_term r q z) (unwatch r (at_work (record n { local = xs })))) (at_work (record n { local = xs }))).node.watches) k) both ∙ fm.get-remove reference_cmp_total n.watches r k ∙ ap (λ b. cond b None (fm.get n.watches k)) e in
         none_some u (sym gone ∙ s)
     end_taken (Signalled (Signal.Link p q)) f k u e j s = cc
     end_taken (Signalled (Signal.Send p m)) f k u e j s = cc

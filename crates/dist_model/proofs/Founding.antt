@@ -307,10 +307,10 @@ module _ (n : Node) (Old : Pid → Data → Type 0) (Ok : Pid → Pid → Data �
         let more : (f : Effect) → Contains o.effects f → Contains (finish p x o).effects f = λ f h. Contains-append_left o1.effects (EndedBy p x ∷ []) f (quietly_more o.effects o1.effects q f h) in
         let less : (r : Reference) (m : Monitor) → fm.get (finish p x o).node.watches r ≡ Some m → fm.get o.node.watches r ≡ Some m = λ r m h. (retained (not (is_owned p (fm.get o.node.watches r))) (fm.get o.node.watches r) m (sym (left r) ∙ h)).1 in
         let c : Carried (FoundedIn (finish p x o)) o1 = carried_all (FoundedIn (finish p x o)) ss o
-            (All-append Good (exits p x (fm.entries o.node.ends) ++ monitor_exits p x (fm.entries o.node.registered)) (demonitors p (fm.entries o.node.watches))
-            (All-append Good (exits p x (fm.entries o.node.ends)) (monitor_exits p x (fm.entries o.node.registered)) (exits_good (fm.entries o.node.ends)) (monitor_exits_good (fm.entries o.node.registered) (each_entry o.node.registered)))
-            (demonitors_good (fm.entries o.node.watches) (each_entry o.node.watches)))
-            (carried_by (FoundedIn o) (FoundedIn (finish p x o)) o (widen o (finish p x o) more less) k.carried) in
+        (All-append Good (exits p x (fm.entries o.node.ends) ++ monitor_exits p x (fm.entries o.node.registered)) (demonitors p (fm.entries o.node.watches))
+        (All-append Good (exits p x (fm.entries o.node.ends)) (monitor_exits p x (fm.entries o.node.registered)) (exits_good (fm.entries o.node.ends)) (monitor_exits_good (fm.entries o.node.registered) (each_entry o.node.registered)))
+        (demonitors_good (fm.entries o.node.watches) (each_entry o.node.watches)))
+        (carried_by (FoundedIn o) (FoundedIn (finish p x o)) o (widen o (finish p x o) more less) k.carried) in
         record {
           carried = record { local = c.local; sent = c.sent };
           acts = λ a b z h. pick a b z (Contains-push_cases o1.effects (EndedBy p x) (LinkExit a b z) h);

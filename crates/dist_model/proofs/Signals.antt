@@ -178,7 +178,7 @@ good_local w x n i xs hx g first = go (kind i) (subst (λ l. Homely (λ p. never
     linking : (q0 p0 : Pid) (s : LinkWord) → n.local ≡ Signalled (telling q0 p0 s) ∷ xs → never n q0 ≡ false → never n p0 ≡ false → same_pid q0 p0 ≡ false → Good (after_local w x n xs (Signalled (telling q0 p0 s)))
     linking q0 p0 s e hq hp two =
         let f : Takes p0 q0 s (at_work (record n { local = xs })) (take (telling q0 p0 s) (at_work (record n { local = xs }))) =
-            subst (λ z. Takes p0 q0 s (at_work (record n { local = xs })) z) (sym (taken_link q0 p0 s (at_work (record n { local = xs })))) (takes_link p0 q0 s (at_work (record n { local = xs })) (λ z. (hq, pid_turned q0 p0 two)) hp) in
+        subst (λ z. Takes p0 q0 s (at_work (record n { local = xs })) z) (sym (taken_link q0 p0 s (at_work (record n { local = xs })))) (takes_link p0 q0 s (at_work (record n { local = xs })) (λ z. (hq, pid_turned q0 p0 two)) hp) in
         let k1 = kl w x n (Signalled (telling q0 p0 s)) xs hx g e in
         let own : same_name q0.node n.mint.name ≡ true = never_own n q0 hq in
         let hd : held n q0.node ≡ true = reach_held n q0.node (own_reached n q0.node own) in

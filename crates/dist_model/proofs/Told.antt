@@ -283,9 +283,12 @@ module _ (w : World) (h : History) (x : Name) (n : Node) (hx : node_of w.nodes x
   -- ---- what travels
 
   still_off : (k : Reference) → C k → Off w h k → (1 ≤ answers k happened) × ((v : Node) → node_of (set_node w.nodes x o.node) k.node ≡ Some v → fm.get v.watches k ≡ None)
-  still_off k c f = (omega (arith, f.0, le), λ v hv. by_name _ k.node
-      (λ i. subst (λ (z : Node). fm.get z.watches k ≡ None) (here_after k.node v i hv) (go c i))
-      (λ i. f.1 v (sym (elsewhere k.node i) ∙ hv)))
+  still_off k c f = (
+    omega (arith, f.0, le),
+    λ v hv. by_name _ k.node
+        (λ i. subst (λ (z : Node). fm.get z.watches k ≡ None) (here_after k.node v i hv) (go c i))
+        (λ i. f.1 v (sym (elsewhere k.node i) ∙ hv)),
+  )
     where
       le : answers k h ≤ answers k happened
       le = omega arith

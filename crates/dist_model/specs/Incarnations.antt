@@ -26,4 +26,3 @@ stop n = Goes Done (at_work (stopped n))
 
 abbrev pub start : Node → Outcome
 start n = cond n.up (Refuses Refusal.NodeUp) (cond (nat_lt (n.mint.creation + 1) (2 ^ 32)) (Goes Done (at_work (started n))) (Refuses Refusal.IdsUsedUp))
-

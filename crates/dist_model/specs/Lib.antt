@@ -25,3 +25,4 @@ pub mod Causes
 pub mod Downs
 pub mod Claims
 pub mod Fates
+pub mod Safety

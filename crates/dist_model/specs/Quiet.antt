@@ -54,4 +54,4 @@ is_quiet world p q =
     if same_name p.node q.node
     then is_silent p q (local_list world p.node)
     else is_some (first_where (is_quiet_on world p q) (sides_at (node_of world.nodes p.node)))
-        || (not (is_connected world p.node q.node) && not (is_connected world q.node p.node))
+    || (not (is_connected world p.node q.node) && not (is_connected world q.node p.node))

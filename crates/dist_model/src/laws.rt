@@ -4,7 +4,8 @@
 //! without memory; and so of each moment of every run.
 ghost use Rattle.dist_model.specs.Runs.{Always};
 ghost use Rattle.dist_model.specs.Histories.{Throughout};
-ghost use Rattle.dist_model.specs.Fates.{ReactsForTrueCause, ExitsTellTrueCause, ExitsTellTrueCauseWithin, AnsweredOnce, DownOnce, DownToTheOwner, NoDownWhereDemonitored, DownsTellTrueCause};
+ghost use Rattle.dist_model.specs.Fates.{ReactsForTrueCause, ExitsTellTrueCause, ExitsTellTrueCauseWithin, AnsweredOnce, DownOnce, DownToTheOwner, NoDownWhereDemonitored, DownsTellTrueCause, DownOrRegistered};
+ghost use Rattle.dist_model.specs.Safety.{Safe};
 ghost use Rattle.dist_model.specs.Claims.{Agreement, AgreementWithin, AgreementInQuiet, PendingOnItsWay, PendingWithin, NoLinkToTheDead, NoLinkToItself, OneTrunk, NoUpBesideLosing, ReactsOnlyWhereLinked};
 
 /// Of two living processes both hold their link active, or neither does, once all that travels
@@ -50,11 +51,19 @@ pub fn reactions()
 
 /// A reference is the answer of at most one Monitor call, and at most one DOWN comes of it: to the
 /// process that made the call, for the incarnation that it named, and for a true reason. None comes
-/// where the monitor was taken back. (Reference Manual, Processes, Monitors.)
+/// where the monitor was taken back. Else, whenever nothing travels, the DOWN has come to a living
+/// owner, or the target is living and registered. (Reference Manual, Processes, Monitors.)
 pub fn monitors()
     ensures answered { Throughout AnsweredOnce }
     ensures once { Throughout DownOnce }
     ensures owner { Throughout DownToTheOwner }
     ensures demonitored { Throughout NoDownWhereDemonitored }
     ensures cause { Throughout DownsTellTrueCause }
+    ensures quiet { Throughout DownOrRegistered }
+{}
+
+/// The safety of every run: agreement, pending, no link to the dead, reactions, monitors and one
+/// trunk, at each moment of whatever happens, from any opening world, with or without memory.
+pub fn every_run_is_safe()
+    ensures safe { Throughout Safe }
 {}

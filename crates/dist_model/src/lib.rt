@@ -2,10 +2,13 @@
 //!
 //! The definitions in `specs/` say what a node does at each event, what a world of nodes does, and
 //! what holds of it; [`agreement`], [`pending`], [`no_link_to_the_dead`], [`one_trunk`],
-//! [`reactions`] and [`monitors`] are the laws. There is no code here: the crates of the node and of the world are
-//! proved to be this world. `docs/MODEL.md` tells it in prose.
+//! [`reactions`] and [`monitors`] are the laws, and [`every_run_is_safe`] is all of them. There is no
+//! code here: the crates of the node and of the world are proved to be this world. `docs/MODEL.md`
+//! tells it in prose.
 #![tactic(auto)]
 
 mod laws;
 
-pub use laws::{agreement, monitors, no_link_to_the_dead, one_trunk, pending, reactions};
+pub use laws::{
+    agreement, every_run_is_safe, monitors, no_link_to_the_dead, one_trunk, pending, reactions,
+};

@@ -1,6 +1,7 @@
 use Rattle.dist_model.proofs.laws.monitors.Goals as goal
 use Rattle.dist_model.proofs.Histories.{answered_once, down_once, down_to_the_owner, downs_tell_true_cause, no_down_where_demonitored, throughout}
-use Rattle.dist_model.specs.Fates.{AnsweredOnce, DownOnce, DownToTheOwner, DownsTellTrueCause, NoDownWhereDemonitored}
+use Rattle.dist_model.proofs.Resting.{down_or_registered}
+use Rattle.dist_model.specs.Fates.{AnsweredOnce, DownOnce, DownOrRegistered, DownToTheOwner, DownsTellTrueCause, NoDownWhereDemonitored}
 
 pub returns-clause-answered : goal.returns-clause-answered
 returns-clause-answered c = throughout AnsweredOnce answered_once
@@ -16,3 +17,6 @@ returns-clause-demonitored c = throughout NoDownWhereDemonitored no_down_where_d
 
 pub returns-clause-cause : goal.returns-clause-cause
 returns-clause-cause c = throughout DownsTellTrueCause downs_tell_true_cause
+
+pub returns-clause-quiet : goal.returns-clause-quiet
+returns-clause-quiet c = throughout DownOrRegistered down_or_registered
