@@ -1,4 +1,5 @@
 -- What becomes of a node's sides in an event.
+use Rattle.erl_handshake.specs.declared.message.ShakeMsg.{ShakeMsg}
 use Rattle.std.proofs.Common.{◌≡◌, Bool, true, false, cond, List, [], ◌∷◌, refl, sym, ap, ◌∙◌, subst, ◌||◌, Option, Some, None, ◌⊎◌, inl, inr}
 use Rattle.std.specs.Option.{is_some}
 use Rattle.std.specs.FinMap as fm
@@ -11,7 +12,6 @@ use Rattle.dist_model.proofs.Routes.{none_some, some_same}
 use Rattle.dist_model.proofs.Sides.{holds, side_at}
 use Rattle.dist_model.specs.Downs.{same_reference}
 use Rattle.dist_model.specs.Handshake.{with_side, write}
-use Rattle.dist_model.specs.Items.{HandshakeMessage}
 use Rattle.dist_model.specs.Losses.{has_records, link_to, registered_by, watch_to}
 use Rattle.dist_model.specs.Names.{Name, same_name}
 use Rattle.dist_model.specs.Node.{Node}
@@ -85,5 +85,5 @@ aging_side n t s o c k u a h = by_test _ (same_trunk u t)
         let pb : b.peer ≡ a.peer = ap (λ (z : TrunkSide). z.peer) (sym same) ∙ v.peer in
         record { side = s; there = at; peer = p ∙ pb; holding = inr (λ j w q d. unwatched o.node b.peer r j w q (d ∙ sym pb), is_gone_over s g); over = λ i. is_gone_over s g }
 
-pub aging_wrote : (n : Node) (t : TrunkId) (y : Name) (m : HandshakeMessage) (o : Work) → Aging n o.node → Aging n ((write t y m o).node)
+pub aging_wrote : (n : Node) (t : TrunkId) (y : Name) (m : ShakeMsg) (o : Work) → Aging n o.node → Aging n ((write t y m o).node)
 aging_wrote n t y m o k = k

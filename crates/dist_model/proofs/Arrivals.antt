@@ -1,5 +1,5 @@
 -- What comes on a side that is known.
-use Rattle.std.proofs.Common.{◌≡◌, ℕ, Bool, true, false, cond, List, [], ◌∷◌, refl, sym, ap, ◌∙◌, subst, ◌||◌, Some, ◌⊎◌, inl, inr, ◌==◌}
+use Rattle.std.proofs.Common.{◌≡◌, ℕ, Bool, true, false, cond, List, [], ◌∷◌, refl, sym, ap, ◌∙◌, subst, ◌||◌, Some, ◌⊎◌, inl, inr}
 use Rattle.std.specs.FinMap as fm
 use Rattle.dist_model.proofs.Calls.{IfGoes, by_test}
 use Rattle.dist_model.proofs.Handshake.{as_state, good_acceptor_up, good_awaits_ack, good_awaits_challenge, good_dialer_up, good_lost, in_state}
@@ -7,13 +7,14 @@ use Rattle.dist_model.proofs.Keys.{same_name_is, same_name_true}
 use Rattle.dist_model.proofs.Primitives.{good_popped, good_pushed}
 use Rattle.dist_model.proofs.Reside.{side_after_same, with_side_at}
 use Rattle.dist_model.proofs.Routes.{node_of_name, node_of_set_other, node_of_set_same, some_same}
+use Rattle.dist_model.proofs.Rules.{awaits_reply, awaits_status}
 use Rattle.dist_model.proofs.Sides.{asks, joined, side_at}
 use Rattle.dist_model.proofs.Signals.{good_arrive}
 use Rattle.dist_model.proofs.Table.{Good, Posted, Row, begun, has, holds_side, is_accept, is_challenge, is_early, is_reply, partners, role_state, went_up}
 use Rattle.dist_model.specs.Arrivals.{is_good, on_up}
 use Rattle.dist_model.specs.Commands.{Goes, Outcome, Took}
-use Rattle.dist_model.specs.Handshake.{awaits_reply, awaits_status, dig, fault, set_state, write}
-use Rattle.dist_model.specs.Items.{Challenge, ChallengeAck, ChallengeReply, Handshake, HandshakeMessage, Item, SendName, StatusAlive, StatusFalse, StatusNok, StatusNotAllowed, StatusOk, StatusOkSimultaneous, StatusTrue, word_in}
+use Rattle.dist_model.specs.Handshake.{fault, set_state, write}
+use Rattle.dist_model.specs.Items.{Handshake, Item, news_in}
 use Rattle.dist_model.specs.Losses.{lose_at}
 use Rattle.dist_model.specs.Names.{Name, same_name}
 use Rattle.dist_model.specs.Node.{Node}
@@ -21,6 +22,10 @@ use Rattle.dist_model.specs.Sides.{Accepting, Asked, AwaitsAck, AwaitsChallenge,
 use Rattle.dist_model.specs.Taking.{take_item}
 use Rattle.dist_model.specs.Work.{Work, at_work}
 use Rattle.dist_model.specs.World.{World, carried, ends_in, list_to, node_of, set_node}
+use Rattle.erl_handshake.specs.Digest.{digest_of}
+use Rattle.erl_handshake.specs.Roles.{is_answered}
+use Rattle.erl_handshake.specs.declared.message.ShakeMsg.{ShakeMsg}
+use Rattle.erl_handshake.specs.declared.status.Status.{Status}
 use Rattle.erl_names.specs.declared.trunk.TrunkId.{TrunkId}
 use Rattle.erl_term.specs.declared.refusal.Refusal.{Refusal}
 use Rattle.erl_term.specs.declared.term.Pid.{Pid}
@@ -35,13 +40,13 @@ module _ (w : World) (x : Name) (n : Node) (t : TrunkId) (v : TrunkSide) (i : It
   nx = node_of_name w.nodes x n hx
 
   -- the side has its new state; the item is taken off
-  popped_after : (s : TrunkSide) → Good (in_state w x n t s) → ((joined s.state ≡ false) ⊎ ((p q : Pid) → word_in p q i ≡ [])) → Good (record { names = w.names; nodes = set_node w.nodes x (with_side_at n t s); lists = fm.insert w.lists (t, x) rest })
+  popped_after : (s : TrunkSide) → Good (in_state w x n t s) → ((joined s.state ≡ false) ⊎ ((p q : Pid) → news_in p q i ≡ [])) → Good (record { names = w.names; nodes = set_node w.nodes x (with_side_at n t s); lists = fm.insert w.lists (t, x) rest })
   popped_after s gs c = good_popped (in_state w x n t s) t x i rest gs first (λ m u hm hu j p q. pick c m u hm hu j p q)
     where
       here : node_of (set_node w.nodes x (with_side_at n t s)) x ≡ Some (with_side_at n t s)
       here = node_of_set_same w.nodes x n (with_side_at n t s) hx nx
 
-      pick : (joined s.state ≡ false) ⊎ ((p q : Pid) → word_in p q i ≡ []) → (m : Node) (u : TrunkSide) → node_of (set_node w.nodes x (with_side_at n t s)) x ≡ Some m → side_at m t ≡ Some u → joined u.state ≡ true → (p q : Pid) → word_in p q i ≡ []
+      pick : (joined s.state ≡ false) ⊎ ((p q : Pid) → news_in p q i ≡ []) → (m : Node) (u : TrunkSide) → node_of (set_node w.nodes x (with_side_at n t s)) x ≡ Some m → side_at m t ≡ Some u → joined u.state ≡ true → (p q : Pid) → news_in p q i ≡ []
       pick (inr e) m u hm hu j p q = e p q
       pick (inl e) m u hm hu j p q =
           let nm : with_side_at n t s ≡ m = some_same (with_side_at n t s) m (sym here ∙ hm) in
@@ -49,7 +54,7 @@ module _ (w : World) (x : Name) (n : Node) (t : TrunkId) (v : TrunkSide) (i : It
           let c : true ≡ false = sym j ∙ ap (λ (z : TrunkSide). joined z.state) (sym su) ∙ e in cc
 
   -- and a message is sent to the peer
-  sent_after : (s : TrunkSide) (m : HandshakeMessage) → v.peer ≡ s.peer → Good (record { names = w.names; nodes = set_node w.nodes x (with_side_at n t s); lists = fm.insert w.lists (t, x) rest })
+  sent_after : (s : TrunkSide) (m : ShakeMsg) → v.peer ≡ s.peer → Good (record { names = w.names; nodes = set_node w.nodes x (with_side_at n t s); lists = fm.insert w.lists (t, x) rest })
       → ((d a : Node) (u : TrunkSide) → node_of (set_node w.nodes x (with_side_at n t s)) t.dialer ≡ Some d → side_at d t ≡ Some u → node_of (set_node w.nodes x (with_side_at n t s)) u.peer ≡ Some a
       → (is_accept (Handshake m) ≡ true → (went_up (side_at a t) ≡ true) × (is_early u.state ≡ false)) × (is_reply (Handshake m) ≡ true → is_early u.state ≡ false)
       × (is_challenge (Handshake m) ≡ true → begun (side_at a t) ≡ true) × (is_reply (Handshake m) ≡ true → begun (side_at a t) ≡ true))
@@ -104,19 +109,19 @@ module _ (w : World) (x : Name) (n : Node) (t : TrunkId) (v : TrunkSide) (i : It
       go false e = good_fault Refusal.Forged
 
   -- the handshake, where the item is the one that is due
-  pub status_comes : (u : ℕ) → v.state ≡ AwaitsStatus u → ((p q : Pid) → word_in p q i ≡ []) → Fin (set_state t v (AwaitsChallenge u) (at_work n))
+  pub status_comes : (u : ℕ) → v.state ≡ AwaitsStatus u → ((p q : Pid) → news_in p q i ≡ []) → Fin (set_state t v (AwaitsChallenge u) (at_work n))
   status_comes u e none = popped_after (as_state v (AwaitsChallenge u)) (good_awaits_challenge w x n t v u hx h e g) (inr none)
 
-  alive_comes : (u : ℕ) → v.state ≡ AwaitsStatus u → ((p q : Pid) → word_in p q i ≡ []) → Fin (write t v.peer StatusTrue (set_state t v (AwaitsChallenge u) (at_work n)))
-  alive_comes u e none = sent_after (as_state v (AwaitsChallenge u)) StatusTrue refl (status_comes u e none) (λ d a s hd hs ha. (λ j. cc, λ j. cc, λ j. cc, λ j. cc)) (λ j. (refl, refl))
+  alive_comes : (u : ℕ) → v.state ≡ AwaitsStatus u → ((p q : Pid) → news_in p q i ≡ []) → Fin (write t v.peer (ShakeMsg.Status Status.True) (set_state t v (AwaitsChallenge u) (at_work n)))
+  alive_comes u e none = sent_after (as_state v (AwaitsChallenge u)) (ShakeMsg.Status Status.True) refl (status_comes u e none) (λ d a s hd hs ha. (λ j. cc, λ j. cc, λ j. cc, λ j. cc)) (λ j. (refl, refl))
 
-  pub challenge_comes : (u c r : ℕ) → v.state ≡ AwaitsChallenge u → is_challenge i ≡ true → ((p q : Pid) → word_in p q i ≡ [])
-      → Fin (write t v.peer (ChallengeReply u r) (set_state t (record { peer = v.peer; peer_creation = c; state = v.state }) (AwaitsAck u) (at_work n)))
+  pub challenge_comes : (u c : ℕ) (r : List ℕ) → v.state ≡ AwaitsChallenge u → is_challenge i ≡ true → ((p q : Pid) → news_in p q i ≡ [])
+      → Fin (write t v.peer (ShakeMsg.ChallengeReply u r) (set_state t (record { peer = v.peer; peer_creation = c; state = v.state }) (AwaitsAck u) (at_work n)))
   challenge_comes u c r e ch none =
       let s : TrunkSide = record { peer = v.peer; peer_creation = c; state = AwaitsAck u } in
       let here : node_of (set_node w.nodes x (with_side_at n t s)) x ≡ Some (with_side_at n t s) = node_of_set_same w.nodes x n (with_side_at n t s) hx nx in
       let dn : t.dialer ≡ x = dialer_here (role_true ((g.home x n hx).roles t v h)) in
-      sent_after s (ChallengeReply u r) refl (popped_after s (good_awaits_ack w x n t v s u hx h e refl refl g) (inr none))
+      sent_after s (ShakeMsg.ChallengeReply u r) refl (popped_after s (good_awaits_ack w x n t v s u hx h e refl refl g) (inr none))
       (λ d a z hd hz ha. (
         λ j. cc,
         λ j.
@@ -140,15 +145,15 @@ module _ (w : World) (x : Name) (n : Node) (t : TrunkId) (v : TrunkSide) (i : It
       dialer_here : same_name t.dialer n.mint.name ≡ true → t.dialer ≡ x
       dialer_here b = same_name_true t.dialer n.mint.name b ∙ nx
 
-  pub acceptance_comes : (u : ℕ) → v.state ≡ AwaitsAck u → is_accept i ≡ true → ((p q : Pid) → word_in p q i ≡ []) → Fin (set_state t v Up (at_work n))
+  pub acceptance_comes : (u : ℕ) → v.state ≡ AwaitsAck u → is_accept i ≡ true → ((p q : Pid) → news_in p q i ≡ []) → Fin (set_state t v Up (at_work n))
   acceptance_comes u e got none = popped_after (as_state v Up) (good_dialer_up w x n t v u hx h e (ap (has is_accept) first ∙ ap (λ b. b || has is_accept rest) got) g) (inr none)
 
-  reply_comes : (u r : ℕ) → v.state ≡ Accepting u → is_reply i ≡ true → ((p q : Pid) → word_in p q i ≡ []) → Fin (write t v.peer (ChallengeAck r) (set_state t v Up (at_work n)))
+  reply_comes : (u : ℕ) (r : List ℕ) → v.state ≡ Accepting u → is_reply i ≡ true → ((p q : Pid) → news_in p q i ≡ []) → Fin (write t v.peer (ShakeMsg.ChallengeAck r) (set_state t v Up (at_work n)))
   reply_comes u r e got none =
       let s = as_state v Up in
       let here : node_of (set_node w.nodes x (with_side_at n t s)) x ≡ Some (with_side_at n t s) = node_of_set_same w.nodes x n (with_side_at n t s) hx nx in
       let gp = popped_after s (good_acceptor_up w x n t v u hx h e (ap (has is_reply) first ∙ ap (λ b. b || has is_reply rest) got) g) (inr none) in
-      sent_after s (ChallengeAck r) refl gp
+      sent_after s (ShakeMsg.ChallengeAck r) refl gp
       (λ d a z hd hz ha. (λ j. up_row d a z hd hz ha (gp.table t d a z hd hz ha) here, λ j. cc, λ j. cc, λ j. cc)) (λ j. (refl, refl))
     where
       up_row : (d a : Node) (z : TrunkSide) → node_of (set_node w.nodes x (with_side_at n t (as_state v Up))) t.dialer ≡ Some d → side_at d t ≡ Some z → node_of (set_node w.nodes x (with_side_at n t (as_state v Up))) z.peer ≡ Some a
@@ -181,32 +186,32 @@ module _ (w : World) (x : Name) (n : Node) (t : TrunkId) (v : TrunkSide) (rest :
   unless true i o k f e = f refl e
   unless false i o k f e = broken k i e
 
-  pub good_awaits_status : (u : ℕ) → v.state ≡ AwaitsStatus u → (m : HandshakeMessage) → Ends (Handshake m) (awaits_status t v u m (at_work n))
-  good_awaits_status u s StatusOk e = status_comes w x n t v (Handshake StatusOk) rest hx h g e u s (λ p q. refl)
-  good_awaits_status u s StatusOkSimultaneous e = status_comes w x n t v (Handshake StatusOkSimultaneous) rest hx h g e u s (λ p q. refl)
-  good_awaits_status u s StatusAlive e = alive_comes w x n t v (Handshake StatusAlive) rest hx h g e u s (λ p q. refl)
-  good_awaits_status u s StatusNok e = broken Refusal.Nok (Handshake StatusNok) e
-  good_awaits_status u s StatusNotAllowed e = broken Refusal.Nok (Handshake StatusNotAllowed) e
-  good_awaits_status u s (SendName a b c) e = broken Refusal.BadMessage (Handshake (SendName a b c)) e
-  good_awaits_status u s StatusTrue e = broken Refusal.BadMessage (Handshake StatusTrue) e
-  good_awaits_status u s StatusFalse e = broken Refusal.BadMessage (Handshake StatusFalse) e
-  good_awaits_status u s (Challenge a b c d) e = broken Refusal.BadMessage (Handshake (Challenge a b c d)) e
-  good_awaits_status u s (ChallengeReply a b) e = broken Refusal.BadMessage (Handshake (ChallengeReply a b)) e
-  good_awaits_status u s (ChallengeAck a) e = broken Refusal.BadMessage (Handshake (ChallengeAck a)) e
+  pub good_awaits_status : (u : ℕ) → v.state ≡ AwaitsStatus u → (m : ShakeMsg) → Ends (Handshake m) (awaits_status t v u m (at_work n))
+  good_awaits_status u s (ShakeMsg.Status Status.Ok) e = status_comes w x n t v (Handshake (ShakeMsg.Status Status.Ok)) rest hx h g e u s (λ p q. refl)
+  good_awaits_status u s (ShakeMsg.Status Status.OkSimultaneous) e = status_comes w x n t v (Handshake (ShakeMsg.Status Status.OkSimultaneous)) rest hx h g e u s (λ p q. refl)
+  good_awaits_status u s (ShakeMsg.Status Status.Alive) e = alive_comes w x n t v (Handshake (ShakeMsg.Status Status.Alive)) rest hx h g e u s (λ p q. refl)
+  good_awaits_status u s (ShakeMsg.Status Status.Nok) e = broken Refusal.Nok (Handshake (ShakeMsg.Status Status.Nok)) e
+  good_awaits_status u s (ShakeMsg.Status Status.NotAllowed) e = broken Refusal.Nok (Handshake (ShakeMsg.Status Status.NotAllowed)) e
+  good_awaits_status u s (ShakeMsg.SendName c b a) e = broken Refusal.BadMessage (Handshake (ShakeMsg.SendName c b a)) e
+  good_awaits_status u s (ShakeMsg.Status Status.True) e = broken Refusal.BadMessage (Handshake (ShakeMsg.Status Status.True)) e
+  good_awaits_status u s (ShakeMsg.Status Status.False) e = broken Refusal.BadMessage (Handshake (ShakeMsg.Status Status.False)) e
+  good_awaits_status u s (ShakeMsg.Challenge c d b a) e = broken Refusal.BadMessage (Handshake (ShakeMsg.Challenge c d b a)) e
+  good_awaits_status u s (ShakeMsg.ChallengeReply a b) e = broken Refusal.BadMessage (Handshake (ShakeMsg.ChallengeReply a b)) e
+  good_awaits_status u s (ShakeMsg.ChallengeAck a) e = broken Refusal.BadMessage (Handshake (ShakeMsg.ChallengeAck a)) e
 
-  pub good_awaits_reply : (u : ℕ) → v.state ≡ Accepting u → (m : HandshakeMessage) → Ends (Handshake m) (awaits_reply t v u m (at_work n))
-  good_awaits_reply u s (ChallengeReply k d) e = unless (d == dig n.cookie u) (Handshake (ChallengeReply k d)) _ Refusal.BadDigest
-      (λ c f. reply_comes w x n t v (Handshake (ChallengeReply k d)) rest hx h g f u (dig n.cookie k) s refl (λ p q. refl)) e
-  good_awaits_reply u s (ChallengeAck a) e = broken Refusal.BadMessage (Handshake (ChallengeAck a)) e
-  good_awaits_reply u s StatusOk e = broken Refusal.BadMessage (Handshake StatusOk) e
-  good_awaits_reply u s StatusOkSimultaneous e = broken Refusal.BadMessage (Handshake StatusOkSimultaneous) e
-  good_awaits_reply u s StatusAlive e = broken Refusal.BadMessage (Handshake StatusAlive) e
-  good_awaits_reply u s StatusNok e = broken Refusal.BadMessage (Handshake StatusNok) e
-  good_awaits_reply u s StatusNotAllowed e = broken Refusal.BadMessage (Handshake StatusNotAllowed) e
-  good_awaits_reply u s (SendName a b c) e = broken Refusal.BadMessage (Handshake (SendName a b c)) e
-  good_awaits_reply u s StatusTrue e = broken Refusal.BadMessage (Handshake StatusTrue) e
-  good_awaits_reply u s StatusFalse e = broken Refusal.BadMessage (Handshake StatusFalse) e
-  good_awaits_reply u s (Challenge a b c d) e = broken Refusal.BadMessage (Handshake (Challenge a b c d)) e
+  pub good_awaits_reply : (u : ℕ) → v.state ≡ Accepting u → (m : ShakeMsg) → Ends (Handshake m) (awaits_reply t v u m (at_work n))
+  good_awaits_reply u s (ShakeMsg.ChallengeReply k d) e = unless (is_answered n.cookie u d) (Handshake (ShakeMsg.ChallengeReply k d)) _ Refusal.BadDigest
+      (λ c f. reply_comes w x n t v (Handshake (ShakeMsg.ChallengeReply k d)) rest hx h g f u (digest_of n.cookie k) s refl (λ p q. refl)) e
+  good_awaits_reply u s (ShakeMsg.ChallengeAck a) e = broken Refusal.BadMessage (Handshake (ShakeMsg.ChallengeAck a)) e
+  good_awaits_reply u s (ShakeMsg.Status Status.Ok) e = broken Refusal.BadMessage (Handshake (ShakeMsg.Status Status.Ok)) e
+  good_awaits_reply u s (ShakeMsg.Status Status.OkSimultaneous) e = broken Refusal.BadMessage (Handshake (ShakeMsg.Status Status.OkSimultaneous)) e
+  good_awaits_reply u s (ShakeMsg.Status Status.Alive) e = broken Refusal.BadMessage (Handshake (ShakeMsg.Status Status.Alive)) e
+  good_awaits_reply u s (ShakeMsg.Status Status.Nok) e = broken Refusal.BadMessage (Handshake (ShakeMsg.Status Status.Nok)) e
+  good_awaits_reply u s (ShakeMsg.Status Status.NotAllowed) e = broken Refusal.BadMessage (Handshake (ShakeMsg.Status Status.NotAllowed)) e
+  good_awaits_reply u s (ShakeMsg.SendName c b a) e = broken Refusal.BadMessage (Handshake (ShakeMsg.SendName c b a)) e
+  good_awaits_reply u s (ShakeMsg.Status Status.True) e = broken Refusal.BadMessage (Handshake (ShakeMsg.Status Status.True)) e
+  good_awaits_reply u s (ShakeMsg.Status Status.False) e = broken Refusal.BadMessage (Handshake (ShakeMsg.Status Status.False)) e
+  good_awaits_reply u s (ShakeMsg.Challenge c d b a) e = broken Refusal.BadMessage (Handshake (ShakeMsg.Challenge c d b a)) e
 
 -- a side is lost by a call
 pub good_lose : (w : World) (x : Name) (n : Node) (t : TrunkId) (v : TrunkSide) → node_of w.nodes x ≡ Some n → side_at n t ≡ Some v → Good w → Good ((ends_in w x w.lists (lose_at v.state t v (at_work n))).world)

@@ -1,19 +1,19 @@
 -- What a call or a signal does to each pair of processes.
 use Rattle.std.proofs.Common.{◌<◌}
 use Rattle.erl_names.specs.Draw as kind
-use Rattle.std.proofs.Common.{◌==◌, nat_lt, ◌^◌, ◌≡◌, ℕ, ◌+◌, Bool, true, false, cond, not, List, [], ◌∷◌, refl, sym, ap, ◌∙◌, subst, arith, ◌&&◌, ◌||◌, Option, Some, None}
+use Rattle.std.proofs.Common.{◌==◌, nat_lt, ◌≡◌, ℕ, ◌+◌, Bool, true, false, cond, not, List, [], ◌∷◌, refl, sym, ap, ◌∙◌, subst, arith, ◌&&◌, ◌||◌, Option, Some, None}
 use Rattle.std.specs.FinMap as fm
 use Rattle.dist_model.proofs.Kept.{Kept}
 use Rattle.dist_model.proofs.Keys.{pid_total, same_name_refl, same_name_true, same_pid_is, same_pid_refl, same_pid_true}
 use Rattle.dist_model.proofs.Moves.{Homely, Moves, carries_out, finishes, links, posts_other, puts, set_life_living, stays, then, unlinks_as}
-use Rattle.dist_model.proofs.Views.{over, side_path, telling_word, view}
+use Rattle.dist_model.proofs.Views.{over, side_path, telling_news, view}
 use Rattle.dist_model.specs.Calls.{acting, call, spawn_life, toward, trapping, with_life, without_first}
 use Rattle.dist_model.specs.Commands.{Command, EndLink, EndMonitor, ExitSelf, ExitTo, Goes, IsAlive, LinksOf, MakeLink, MakeMonitor, Outcome, Receive, Refuses, Send, Spawn, Trap, with_id}
 use Rattle.dist_model.specs.Exits.{sent_exit}
 use Rattle.dist_model.specs.Fits.{fits}
-use Rattle.dist_model.specs.Items.{Handshake, Item, Signalled, Tick, telling, word_in}
+use Rattle.dist_model.specs.Items.{Handshake, Item, Signalled, Tick, news_in, telling}
 use Rattle.dist_model.specs.Linking.{unlink_by}
-use Rattle.dist_model.specs.Links.{Exits, LinkWord, Says, noconnection, noproc}
+use Rattle.dist_model.specs.Links.{Exits, LinkNews, Says, noconnection, noproc}
 use Rattle.dist_model.specs.Monitoring.{demonitor_by, monitor, register, unregister, unwatch, watch}
 use Rattle.dist_model.specs.Names.{same_name, same_pid}
 use Rattle.dist_model.specs.Node.{Ended, Life, Living, Node, end_of, is_living_life, living, never, reaches, traps_life}
@@ -82,11 +82,11 @@ moves_cond : (b : Bool) (o x y : Work) → (b ≡ true → Moves o x) → (b ≡
 moves_cond true o x y f g = f refl
 moves_cond false o x y f g = g refl
 
-says_something : (q p : Pid) (s : LinkWord) → word_in q p (Signalled (telling q p s)) ≡ [] → ⊥
-says_something q p s h = let n : s ∷ [] ≡ [] = sym (telling_word q p q p s ∙ ap (λ t. cond (t && same_pid p p) (s ∷ []) []) (same_pid_refl q) ∙ ap (λ t. cond t (s ∷ []) []) (same_pid_refl p)) ∙ h in cc
+says_something : (q p : Pid) (s : LinkNews) → news_in q p (Signalled (telling q p s)) ≡ [] → ⊥
+says_something q p s h = let n : s ∷ [] ≡ [] = sym (telling_news q p q p s ∙ ap (λ t. cond (t && same_pid p p) (s ∷ []) []) (same_pid_refl q) ∙ ap (λ t. cond t (s ∷ []) []) (same_pid_refl p)) ∙ h in cc
 
 -- the other signals
-pub takes_other : (x : Item) (o : Work) → ((p q : Pid) → word_in p q x ≡ []) → Moves o (take_item x o)
+pub takes_other : (x : Item) (o : Work) → ((p q : Pid) → news_in p q x ≡ []) → Moves o (take_item x o)
 takes_other (Signalled (Signal.Link q p)) o h = absurd (says_something q p (Says LinkSignal.Link) (h q p))
 takes_other (Signalled (Signal.Exit q p r)) o h = absurd (says_something q p (Exits r) (h q p))
 takes_other (Signalled (Signal.UnlinkId i q p)) o h = absurd (says_something q p (Says (LinkSignal.Unlink i)) (h q p))

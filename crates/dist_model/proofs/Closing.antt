@@ -17,21 +17,23 @@ use Rattle.dist_model.proofs.Pairs.{Met, WorldKept}
 use Rattle.dist_model.proofs.Primitives.{good_pushed}
 use Rattle.dist_model.proofs.Reside.{Holder, blank, held_by, side_after_other, side_after_same, with_side_at}
 use Rattle.dist_model.proofs.Routes.{node_of_name, node_of_set_other, node_of_set_same, side_where_found, some_same}
+use Rattle.dist_model.proofs.Seeing.{end_in}
 use Rattle.dist_model.proofs.Sides.{SidesKept, asks, beside, holds, joined, side_at}
 use Rattle.dist_model.proofs.Steps.{kind, not_beside}
 use Rattle.dist_model.proofs.Sweeping.{good_closed, good_unparked, sweep_moves}
 use Rattle.dist_model.proofs.Table.{Good, HomeKept, Likely, Posted, Row, begun, begun_state, good_moved, is_accept, is_challenge, is_reply, may_be_up, role_state, single_kept}
-use Rattle.dist_model.proofs.Views.{over, side_of, side_path, telling_word}
+use Rattle.dist_model.proofs.Views.{over, side_of, side_path, telling_news}
 use Rattle.dist_model.specs.Handshake.{challenge, set_state, with_side, write}
 use Rattle.dist_model.specs.Incarnations.{all_gone, started, stopped}
-use Rattle.dist_model.specs.Items.{Handshake, HandshakeMessage, Item, Signalled, telling, word_in, words}
-use Rattle.dist_model.specs.Links.{LinkWord}
+use Rattle.dist_model.specs.Items.{Handshake, Item, Signalled, news, news_in, telling}
+use Rattle.dist_model.specs.Links.{LinkNews}
 use Rattle.dist_model.specs.Losses.{any_side, close, close_if, has_records, link_to, parked_by, parked_goes, sweep, sweep_by, sweep_link, swept}
 use Rattle.dist_model.specs.Names.{Name, pair_cmp, place_cmp, same_name, same_pid}
-use Rattle.dist_model.specs.Node.{Node, end_in, end_of, is_living_life, never, side_where}
+use Rattle.dist_model.specs.Node.{Node, end_of, is_living_life, never, side_where}
 use Rattle.dist_model.specs.Sides.{Accepting, Asked, AwaitsAck, AwaitsChallenge, AwaitsStatus, Gone, Losing, Parked, State, TrunkSide, Up, is_gone, is_losing, is_parked, is_up}
 use Rattle.dist_model.specs.Work.{Envelope, Work, at_work}
 use Rattle.dist_model.specs.World.{World, carried, ends_in, list_to, node_of, set_node}
+use Rattle.erl_handshake.specs.declared.message.ShakeMsg.{ShakeMsg}
 use Rattle.erl_names.specs.Order.{trunk_cmp}
 use Rattle.erl_names.specs.declared.trunk.TrunkId.{TrunkId}
 use Rattle.erl_term.specs.Order.{pid_cmp}
@@ -99,7 +101,7 @@ freed n t v k h e = by_test _ (held (with_side_at n t (as_state v Gone)) v.peer)
         pick m.side m.trunk m.holding a.0 (k.one t m.trunk v m.side h a.1 (sym m.peer) (ap is_gone e) ((hold_kind m.side.state m.holding).3))
 
 -- what a handshake message to the own peer needs
-pub good_written : (w : World) (x : Name) (n : Node) (t : TrunkId) (v : TrunkSide) (m : HandshakeMessage) → node_of w.nodes x ≡ Some n → side_at n t ≡ Some v → is_accept (Handshake m) ≡ false → is_reply (Handshake m) ≡ false → (is_challenge (Handshake m) ≡ true → (k : ℕ) × (v.state ≡ Accepting k)) → Good w
+pub good_written : (w : World) (x : Name) (n : Node) (t : TrunkId) (v : TrunkSide) (m : ShakeMsg) → node_of w.nodes x ≡ Some n → side_at n t ≡ Some v → is_accept (Handshake m) ≡ false → is_reply (Handshake m) ≡ false → (is_challenge (Handshake m) ≡ true → (k : ℕ) × (v.state ≡ Accepting k)) → Good w
     → Good (record { names = w.names; nodes = w.nodes; lists = fm.insert w.lists (t, v.peer) (list_to w.lists t v.peer ++ Handshake m ∷ []) })
 good_written w x n t v m hx h na nr ch g = good_pushed w t v.peer m g known
     (λ d a s hd hs ha. (λ j. let c : true ≡ false = sym j ∙ na in cc, λ j. let c : true ≡ false = sym j ∙ nr in cc, λ j. challenged d a s hd hs ha (ch j), λ j. let c : true ≡ false = sym j ∙ nr in cc))
@@ -145,7 +147,7 @@ placed w x o = record { names = w.names; nodes = set_node w.nodes x o.node; list
 pub placed_state : (w : World) (x : Name) (o : Work) (t : TrunkId) (s : TrunkSide) → o.node.mint.name ≡ x → Good (in_state (placed w x o) x o.node t s) → Good (placed w x (with_side t s o))
 placed_state w x o t s e g = subst (λ ns. Good (record { names = w.names; nodes = ns; lists = carried w.lists o.sent })) (set_twice w.nodes x o.node (with_side_at o.node t s) e) g
 
-pub placed_write : (w : World) (x : Name) (o : Work) (t : TrunkId) (y : Name) (m : HandshakeMessage) → Good (record { names = w.names; nodes = set_node w.nodes x o.node; lists = fm.insert (carried w.lists o.sent) (t, y) (list_to (carried w.lists o.sent) t y ++ Handshake m ∷ []) }) → Good (placed w x (write t y m o))
+pub placed_write : (w : World) (x : Name) (o : Work) (t : TrunkId) (y : Name) (m : ShakeMsg) → Good (record { names = w.names; nodes = set_node w.nodes x o.node; lists = fm.insert (carried w.lists o.sent) (t, y) (list_to (carried w.lists o.sent) t y ++ Handshake m ∷ []) }) → Good (placed w x (write t y m o))
 placed_write w x o t y m g = subst (λ l. Good (record { names = w.names; nodes = set_node w.nodes x o.node; lists = l })) (sym (carried-push w.lists o.sent (record { trunk = t; target = y; item = Handshake m }))) g
 
 -- a sweep
@@ -343,32 +345,32 @@ module _ (w : World) (x : Name) (n : Node) (hx : node_of w.nodes x ≡ Some n) (
           (λ d. (k.0, k.1, there3 t.dialer d ∙ k.2, k.3, k.4))
 
 -- a list that is between spawned processes has nothing of another
-strange : (f : Pid → Bool) (p q : Pid) (l : List Item) → f p ≡ true → Homely f l → (words p q l ≡ []) × (words q p l ≡ [])
+strange : (f : Pid → Bool) (p q : Pid) (l : List Item) → f p ≡ true → Homely f l → (news p q l ≡ []) × (news q p l ≡ [])
 strange f p q [] h k = (refl, refl)
 strange f p q (x ∷ xs) h k =
     let r = strange f p q xs h k.1 in
     let v = one x k.0 in
-    (ap (λ l. l ++ words p q xs) v.0 ∙ r.0, ap (λ l. l ++ words q p xs) v.1 ∙ r.1)
+    (ap (λ l. l ++ news p q xs) v.0 ∙ r.0, ap (λ l. l ++ news q p xs) v.1 ∙ r.1)
   where
-    miss : (a b : Pid) → f a ≡ false → f b ≡ false → (s : LinkWord) → (word_in p q (Signalled (telling a b s)) ≡ []) × (word_in q p (Signalled (telling a b s)) ≡ [])
+    miss : (a b : Pid) → f a ≡ false → f b ≡ false → (s : LinkNews) → (news_in p q (Signalled (telling a b s)) ≡ []) × (news_in q p (Signalled (telling a b s)) ≡ [])
     miss a b fa fb s = (
       by_test _ (same_pid a p && same_pid b q)
           (λ i. let c : true ≡ false = sym h ∙ ap f (sym (same_pid_true a p (and_both (same_pid a p) (same_pid b q) i).0)) ∙ fa in absurd (let d : true ≡ false = c in cc))
-          (λ i. telling_word a b p q s ∙ ap (λ t. cond t (s ∷ []) []) i),
+          (λ i. telling_news a b p q s ∙ ap (λ t. cond t (s ∷ []) []) i),
       by_test _ (same_pid a q && same_pid b p)
           (λ i. let c : true ≡ false = sym h ∙ ap f (sym (same_pid_true b p (and_both (same_pid a q) (same_pid b p) i).1)) ∙ fb in absurd (let d : true ≡ false = c in cc))
-          (λ i. telling_word a b q p s ∙ ap (λ t. cond t (s ∷ []) []) i),
+          (λ i. telling_news a b q p s ∙ ap (λ t. cond t (s ∷ []) []) i),
     )
 
-    one : (x : Item) → HomeItem f x → (word_in p q x ≡ []) × (word_in q p x ≡ [])
+    one : (x : Item) → HomeItem f x → (news_in p q x ≡ []) × (news_in q p x ≡ [])
     one x m = pick (kind x)
       where
-        pick : ((p q : Pid) → word_in p q x ≡ []) ⊎ ((q : Pid) × (p : Pid) × (s : LinkWord) × (x ≡ Signalled (telling q p s))) → (word_in p q x ≡ []) × (word_in q p x ≡ [])
+        pick : ((p q : Pid) → news_in p q x ≡ []) ⊎ ((q : Pid) × (p : Pid) × (s : LinkNews) × (x ≡ Signalled (telling q p s))) → (news_in p q x ≡ []) × (news_in q p x ≡ [])
         pick (inl n) = (n p q, n q p)
         pick (inr e) =
             let v = home_saying f e.0 e.1 e.2 (subst (HomeItem f) e.3 m) in
             let r = miss e.0 e.1 v.0 v.1 e.2 in
-            (ap (word_in p q) e.3 ∙ r.0, ap (word_in q p) e.3 ∙ r.1)
+            (ap (news_in p q) e.3 ∙ r.0, ap (news_in q p) e.3 ∙ r.1)
 
 module _ (w : World) (x : Name) (n : Node) (hx : node_of w.nodes x ≡ Some n) (g : Good w) where
   no_end : (p q : Pid) → end_of (stopped n) p q ≡ End.None
@@ -380,16 +382,16 @@ module _ (w : World) (x : Name) (n : Node) (hx : node_of w.nodes x ≡ Some n) (
   stopped_pairs : HomePairs (stopped n)
   stopped_pairs p q hp hq d =
       let k = g.home x n hx in
-      let a = side_of (stopped n) p q (words p q n.local) in
-      let b = side_of (stopped n) q p (words q p n.local) in
+      let a = side_of (stopped n) p q (news p q n.local) in
+      let b = side_of (stopped n) q p (news q p n.local) in
       by_test _ (never n p)
       (λ i. let v = strange (λ z. never n z) p q n.local i k.local in blank a b (no_end p q) (no_end q p) v.0 v.1)
       (λ i. by_test _ (never n q)
       (λ j. let v = strange (λ z. never n z) q p n.local j k.local in blank a b (no_end p q) (no_end q p) v.1 v.0)
       (λ j.
-      subst (λ c. Kept c b) (side_path (record { end = End.None; gone = true; drawn = n.mint.unlink_ids; sent = words p q n.local }) a (sym (no_end p q)) (sym (stopped_over p i)) refl refl)
-      (subst (λ c. Kept (record { end = End.None; gone = true; drawn = n.mint.unlink_ids; sent = words p q n.local }) c) (side_path (record { end = End.None; gone = true; drawn = n.mint.unlink_ids; sent = words q p n.local }) b (sym (no_end q p)) (sym (stopped_over q j)) refl refl)
-      (keeps_stop (side_of n p q (words p q n.local)) (side_of n q p (words q p n.local)) (k.pairs p q hp hq d)))))
+      subst (λ c. Kept c b) (side_path (record { end = End.None; gone = true; drawn = n.mint.unlink_ids; sent = news p q n.local }) a (sym (no_end p q)) (sym (stopped_over p i)) refl refl)
+      (subst (λ c. Kept (record { end = End.None; gone = true; drawn = n.mint.unlink_ids; sent = news p q n.local }) c) (side_path (record { end = End.None; gone = true; drawn = n.mint.unlink_ids; sent = news q p n.local }) b (sym (no_end q p)) (sym (stopped_over q j)) refl refl)
+      (keeps_stop (side_of n p q (news p q n.local)) (side_of n q p (news q p n.local)) (k.pairs p q hp hq d)))))
 
   pub good_stopped : Good (record { names = w.names; nodes = set_node w.nodes x (stopped n); lists = w.lists })
   good_stopped = good_cleared w x n hx n.mint.creation false n.mint.pids n.mint.references n.mint.unlink_ids n.local g ((g.home x n hx).local) stopped_pairs

@@ -1,4 +1,6 @@
 -- What comes to a node, and its other events, in the words of what is known.
+use Rattle.dist_model.proofs.Seeing.{end_in}
+use Rattle.erl_handshake.specs.declared.message.ShakeMsg.{ShakeMsg}
 use Rattle.std.proofs.Common.{◌==◌, nat_lt, ◌^◌, ◌≡◌, ℕ, ◌+◌, ◌<◌, ◌≤◌, Bool, true, false, cond, not, List, [], ◌∷◌, ◌++◌, refl, sym, ap, ◌∙◌, subst, arith, ◌&&◌, ◌||◌, Option, Some, None, ◌⊎◌, inl, inr, Contains}
 use Rattle.std.proofs.lemmas.List.Elements.{All-head, All-nil, All-tail, All-weaker}
 use Rattle.std.specs.List.{All}
@@ -30,14 +32,15 @@ use Rattle.dist_model.specs.Causes.{TrueCause}
 use Rattle.dist_model.specs.Commands.{Answer, Goes, Outcome, Refuses, Took}
 use Rattle.dist_model.specs.Dialing.{dial, draw_trunk, has_name, next_trunk}
 use Rattle.dist_model.specs.Downs.{Monitored, downs_in, is_answered, is_demonitored, is_sent_message, takes_message}
-use Rattle.dist_model.specs.Handshake.{fault, flag_word, with_side, write}
+use Rattle.erl_handshake.specs.Roles.{send_name}
+use Rattle.dist_model.specs.Handshake.{identity, fault, with_side, write}
 use Rattle.dist_model.specs.Histories.{History}
 use Rattle.dist_model.specs.Incarnations.{start, started, stop, stopped}
-use Rattle.dist_model.specs.Items.{Handshake, HandshakeMessage, Item, SendName, Signalled, Tick, receiver_of, sender_of, telling}
+use Rattle.dist_model.specs.Items.{Handshake, Item, Signalled, Tick, receiver_of, sender_of, telling}
 use Rattle.dist_model.specs.Links.{Says, noconnection, noproc}
 use Rattle.dist_model.specs.Losses.{any_side, link_to, lose, registered_by, sweep, sweep_by, sweep_link, swept, watch_to}
 use Rattle.dist_model.specs.Names.{Name, same_name}
-use Rattle.dist_model.specs.Node.{Node, end_in, end_of, is_living_life, living, never, reaches, side_where}
+use Rattle.dist_model.specs.Node.{Node, end_of, is_living_life, living, never, reaches, side_where}
 use Rattle.dist_model.specs.Sides.{Accepting, Asked, AwaitsAck, AwaitsChallenge, AwaitsStatus, Gone, Losing, Parked, State, TrunkSide, Up, is_gone, is_losing}
 use Rattle.dist_model.specs.Taking.{take_item}
 use Rattle.dist_model.specs.Work.{Effect, LinkExit, Sent, Work, at_work, delivered, put}
@@ -111,7 +114,7 @@ module _ (w : World) (h : History) (x : Name) (n : Node) (hx : node_of w.nodes x
     calm_side : (t : TrunkId) (s : TrunkSide) (o : Work) → Turned o.node t s → Calm o → Calm (with_side t s o)
     calm_side t s o c k = record { shaken = shaken_side w h x n hx gw g e xs t s o c k.shaken; none = k.none }
 
-    calm_wrote : (t : TrunkId) (y : Name) (m : HandshakeMessage) (o : Work) → Calm o → Calm (write t y m o)
+    calm_wrote : (t : TrunkId) (y : Name) (m : ShakeMsg) (o : Work) → Calm o → Calm (write t y m o)
     calm_wrote t y m o k = record { shaken = shaken_wrote w h x n hx gw g e xs t y m o k.shaken; none = λ r. no_more r o.effects (Sent y (Handshake m) ∷ []) refl ∙ k.none r }
 
     none_counted : (k : Reference) (b : Bool) (fs : List Effect) → downs_in k fs ≡ [] → downs_in k (cond b [] fs) ≡ downs_in k fs
@@ -234,7 +237,7 @@ module _ (w : World) (h : History) (x : Name) (n : Node) (hx : node_of w.nodes x
       signal_comes Losing = tt
       signal_comes Gone = tt
 
-      known_comes : (m : Option HandshakeMessage) → A (arrive_at m t v i (at_work n))
+      known_comes : (m : Option ShakeMsg) → A (arrive_at m t v i (at_work n))
       known_comes None = signal_comes v.state
       known_comes (Some m) = calms (arrive_at (Some m) t v i (at_work n))
           (Handshaking.shaken (Calm (Arrive t x k) n.local (λ r z. refl) (λ r z. refl)) (calm_side (Arrive t x k) n.local (λ r z. refl) (λ r z. refl)) (calm_wrote (Arrive t x k) n.local (λ r z. refl) (λ r z. refl)) t v (at_work n) at calm0 v.state refl m)
@@ -292,7 +295,7 @@ module _ (w : World) (h : History) (x : Name) (n : Node) (hx : node_of w.nodes x
         none = λ r. refl;
       } in
       let c2 = calm_side (Dial x y k) n.local (λ r v. refl) (λ r v. refl) (next_trunk n) s o (Fresh (no_next (side_at n (next_trunk n)) refl)) c1 in
-      calm_done (Dial x y k) n.local (λ r v. refl) (λ r v. refl) _ _ (calm_wrote (Dial x y k) n.local (λ r v. refl) (λ r v. refl) (next_trunk n) y (SendName n.mint.name n.mint.creation flag_word) (with_side (next_trunk n) s o) c2)))))
+      calm_done (Dial x y k) n.local (λ r v. refl) (λ r v. refl) _ _ (calm_wrote (Dial x y k) n.local (λ r v. refl) (λ r v. refl) (next_trunk n) y (send_name (identity n)) (with_side (next_trunk n) s o) c2)))))
 
   -- ---- a sweep
 

@@ -1,4 +1,6 @@
 -- What each event does, in the words of what is known.
+use Rattle.dist_model.proofs.Seeing.{end_at, living_at, reached_at}
+use Rattle.erl_handshake.specs.declared.message.ShakeMsg.{ShakeMsg}
 use Rattle.erl_names.specs.Draw as kind
 use Rattle.std.proofs.Common.{◌==◌, nat_lt, ◌^◌, ◌≡◌, ℕ, ◌+◌, ◌<◌, ◌≤◌, Bool, true, false, cond, not, List, [], ◌∷◌, ◌++◌, refl, sym, ap, ◌∙◌, subst, arith, ◌&&◌, ◌||◌, Option, Some, None, ◌⊎◌, inl, inr, Contains}
 use Rattle.std.proofs.lemmas.List.Elements.{All-contains, All-head, All-nil, All-tail, All-weaker}
@@ -25,11 +27,11 @@ use Rattle.dist_model.specs.Commands.{Answer, MakeLink, Outcome, Goes, Refuses}
 use Rattle.dist_model.specs.Downs.{Monitored, downs_by, downs_in, is_answered, is_demonitored, takes_message}
 use Rattle.dist_model.specs.Handshake.{with_side, write}
 use Rattle.dist_model.specs.Histories.{History}
-use Rattle.dist_model.specs.Items.{HandshakeMessage, Item}
+use Rattle.dist_model.specs.Items.{Item}
 use Rattle.dist_model.specs.Links.{noconnection, noproc}
 use Rattle.dist_model.specs.Names.{Name, same_name}
 use Rattle.dist_model.specs.Node.{Node, end_of, living, never, reaches, route}
-use Rattle.dist_model.specs.Seen.{end_at, end_between, is_living, is_reached, living_at, reached_at}
+use Rattle.dist_model.specs.Seen.{end_between, is_living, is_reached}
 use Rattle.dist_model.specs.Sides.{TrunkSide}
 use Rattle.dist_model.specs.Work.{Effect, EndedBy, LinkExit, Work, at_work}
 use Rattle.dist_model.specs.World.{Call, Event, Report, Reported, World, node_of}
@@ -181,7 +183,7 @@ module _ (w : World) (h : History) (x : Name) (n : Node) (hx : node_of w.nodes x
       aging = aging_side n t s o c k.aging;
     }
 
-    pub shaken_wrote : (t : TrunkId) (y : Name) (m : HandshakeMessage) (o : Work) → Shaken o → Shaken (write t y m o)
+    pub shaken_wrote : (t : TrunkId) (y : Name) (m : ShakeMsg) (o : Work) → Shaken o → Shaken (write t y m o)
     shaken_wrote t y m o k = record {
       truth = true_wrote (record n { local = xs }) (Old w h) (Right w h e) (Called h) (Off w h) t y m o k.truth;
       turns = turns_wrote (record n { local = xs }) Tells Joins Drops were t y m o k.turns;

@@ -7,12 +7,13 @@ use Rattle.std.specs.FinMap as fm
 use Rattle.std.specs.FinMap.Entries.{find, is_sorted, below_all}
 use Rattle.dist_model.proofs.Keys.{and_both, pair_exact, pid_total, same_pair, same_pid_is, same_pid_refl, same_pid_true}
 use Rattle.dist_model.proofs.Pair.{Side, farewell, finished}
+use Rattle.dist_model.proofs.Seeing.{end_in}
 use Rattle.dist_model.proofs.Views.{AllSuit, AllSuit-append, line, linking_suits, over, post_all_keeps, post_all_view, posted, posted-append, side_path, signal_other, view}
 use Rattle.dist_model.specs.Exits.{buried, demonitors, exit_for, exits, finish, monitor_exits}
-use Rattle.dist_model.specs.Items.{words}
-use Rattle.dist_model.specs.Links.{Exits, LinkWord}
+use Rattle.dist_model.specs.Items.{news}
+use Rattle.dist_model.specs.Links.{Exits, LinkNews}
 use Rattle.dist_model.specs.Names.{pair_cmp, same_pid}
-use Rattle.dist_model.specs.Node.{Ended, Life, end_in, end_of, is_living_life, living, never, reaches}
+use Rattle.dist_model.specs.Node.{Ended, Life, end_of, is_living_life, living, never, reaches}
 use Rattle.dist_model.specs.Work.{Work, post_all}
 use Rattle.erl_control.specs.declared.signal.Signal.{Signal}
 use Rattle.erl_term.specs.Data.{Data}
@@ -80,7 +81,7 @@ apart p q k h = go (same_pid k.0 p && same_pid k.1 q) refl
         let n : true ≡ false = sym (same_pair p q k.0 k.1 ∙ d) ∙ h in cc
     go false e = e
 
-head_step : (p q : Pid) (r : Data) (e : (Pid × Pid) × End) (es : List ((Pid × Pid) × End)) (L : List LinkWord) → posted p q (head p r e.0.0 e.0.1 e.1) ≡ L → posted p q (exits p r (e ∷ es)) ≡ L ++ posted p q (exits p r es)
+head_step : (p q : Pid) (r : Data) (e : (Pid × Pid) × End) (es : List ((Pid × Pid) × End)) (L : List LinkNews) → posted p q (head p r e.0.0 e.0.1 e.1) ≡ L → posted p q (exits p r (e ∷ es)) ≡ L ++ posted p q (exits p r es)
 head_step p q r e es L h = posted-append p q (head p r e.0.0 e.0.1 e.1) (exits p r es) ∙ ap (λ l. l ++ posted p q (exits p r es)) h
 
 exits_below : (p q : Pid) (r : Data) (es : List ((Pid × Pid) × End)) → T (below_all pair_cmp (p, q) es) → posted p q (exits p r es) ≡ []
@@ -194,13 +195,13 @@ is_living_kept true r l h = cc
 is_living_kept false r l h = refl
 
 -- the process that ends
-pub finish_view : (b : List LinkWord) (p : Pid) (r : Data) (o : Work) (q : Pid) → reaches o.node q.node ≡ true → never o.node p ≡ false → view b (finish p r o) p q ≡ finished false r (view b o p q)
+pub finish_view : (b : List LinkNews) (p : Pid) (r : Data) (o : Work) (q : Pid) → reaches o.node q.node ≡ true → never o.node p ≡ false → view b (finish p r o) p q ≡ finished false r (view b o p q)
 finish_view b p r o q reach born =
     let o1 = post_all (last_posts p r o) o in
     let s = post_all_view b (last_posts p r o) o p q reach (suits_last p q p r o) in
     let sent : (view b (finish p r o) p q).sent ≡ (finished false r (view b o p q)).sent =
     ap (λ (a : Side). a.sent) s
-    ∙ ap (λ l. (b ++ words p q (line o q.node)) ++ l) (posted_last p q p r o ∙ exits_here p q r (fm.entries o.node.ends) (fm.entries_sorted o.node.ends) ∙ ap (λ e. farewell (end_in e) r) (sym (fm.get-entries o.node.ends (p, q)))) in
+    ∙ ap (λ l. (b ++ news p q (line o q.node)) ++ l) (posted_last p q p r o ∙ exits_here p q r (fm.entries o.node.ends) (fm.entries_sorted o.node.ends) ∙ ap (λ e. farewell (end_in e) r) (sym (fm.get-entries o.node.ends (p, q)))) in
     side_path (view b (finish p r o) p q) (finished false r (view b o p q))
     (buried_end p r o1 p q ∙ end_cond _ _ (ap not (same_pid_refl p)))
     (ap (λ v. not v && not (never o1.node p)) (buried_living p r o1 p ∙ is_living_cond _ r _ (same_pid_refl p)) ∙ ap not (post_all_keeps (λ n. never n p) (λ n l. refl) (last_posts p r o) o ∙ born))
@@ -208,13 +209,13 @@ finish_view b p r o q reach born =
     sent
 
 -- the others
-pub finish_view_other : (b : List LinkWord) (x : Pid) (r : Data) (o : Work) (p q : Pid) → reaches o.node q.node ≡ true → same_pid p x ≡ false → view b (finish x r o) p q ≡ view b o p q
+pub finish_view_other : (b : List LinkNews) (x : Pid) (r : Data) (o : Work) (p q : Pid) → reaches o.node q.node ≡ true → same_pid p x ≡ false → view b (finish x r o) p q ≡ view b o p q
 finish_view_other b x r o p q reach other =
     let o1 = post_all (last_posts x r o) o in
     let s = post_all_view b (last_posts x r o) o p q reach (suits_last p q x r o) in
     let sent : (view b (finish x r o) p q).sent ≡ (view b o p q).sent =
     ap (λ (a : Side). a.sent) s
-    ∙ ap (λ l. (b ++ words p q (line o q.node)) ++ l) (posted_last p q x r o ∙ exits_other p q x r (fm.entries o.node.ends) (same_pid_sym p x other))
+    ∙ ap (λ l. (b ++ news p q (line o q.node)) ++ l) (posted_last p q x r o ∙ exits_other p q x r (fm.entries o.node.ends) (same_pid_sym p x other))
     ∙ append-nil _ in
     side_path (view b (finish x r o) p q) (view b o p q)
     (buried_end x r o1 p q ∙ end_cond_kept _ _ (ap not other) ∙ post_all_keeps (λ n. end_of n p q) (λ n l. refl) (last_posts x r o) o)

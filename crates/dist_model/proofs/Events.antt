@@ -23,7 +23,7 @@ use Rattle.dist_model.proofs.Views.{over}
 use Rattle.dist_model.specs.Calls.{acting, call, spawn_life, toward}
 use Rattle.dist_model.specs.Causes.{TrueCause}
 use Rattle.dist_model.specs.Commands.{Answer, Command, EndLink, EndMonitor, ExitSelf, ExitTo, Goes, IsAlive, LinksOf, MakeLink, MakeMonitor, Outcome, Receive, Refuses, Send, Spawn, Spawned, Trap, Watching, with_id}
-use Rattle.dist_model.specs.Downs.{Down, Monitored, down_of, downs_by, downs_in, is_answered, is_demonitored, put_to, same_reference, takes_message}
+use Rattle.dist_model.specs.Downs.{Down, Monitored, down_in, downs_by, downs_in, is_answered, is_demonitored, same_reference, takes_message}
 use Rattle.dist_model.specs.Histories.{Happening, History}
 use Rattle.dist_model.specs.Items.{Item, Signalled, receiver_of}
 use Rattle.dist_model.specs.Links.{noconnection}
@@ -292,7 +292,7 @@ module _ (w : World) (h : History) (x : Name) (n : Node) (hx : node_of w.nodes x
         let o1 = draw kind.Reference (at_work n) in
         let o = put p (down_term (reference_of n.mint id) q noconnection) o1 in
         let lv : (a : Pid) → living o.node a ≡ living n a = λ a. Rattle.dist_model.proofs.Moves.set_life_living n.lives p (delivered (fm.get n.lives p) (down_term (reference_of n.mint id) q noconnection)) a (λ i. delivered_living (fm.get n.lives p) ∙ ap (living n) (sym (same_pid_true a p i))) in
-        let dn : (k : Reference) → downs_in k o.effects ≡ cond (same_reference k (reference_of n.mint id)) (down (monitor_of p q) noconnection ∷ []) [] = λ k. append-nil (put_to p (down_of k (down_term (reference_of n.mint id) q noconnection))) ∙ ap (put_to p) (down_said k (reference_of n.mint id) q noconnection) ∙ each (same_reference k (reference_of n.mint id)) in
+        let dn : (k : Reference) → downs_in k o.effects ≡ cond (same_reference k (reference_of n.mint id)) (down (monitor_of p q) noconnection ∷ []) [] = λ k. append-nil (down_in k p (down_term (reference_of n.mint id) q noconnection)) ∙ down_said k (reference_of n.mint id) p q noconnection in
         record {
           deed = record {
             name = nm w h x n hx gw g;
@@ -318,10 +318,6 @@ module _ (w : World) (h : History) (x : Name) (n : Node) (hx : node_of w.nodes x
         delivered_living None = refl
         delivered_living (Some (Rattle.dist_model.specs.Node.Living t b)) = refl
         delivered_living (Some (Rattle.dist_model.specs.Node.Ended z)) = refl
-
-        each : (b : Bool) → put_to p (cond b (Some (q, noconnection)) None) ≡ cond b (down (monitor_of p q) noconnection ∷ []) []
-        each true = refl
-        each false = refl
 
         no_act : (a b : Pid) (z : Data) → Contains [] (LinkExit a b z) ⊎ (Put p (down_term (reference_of n.mint id) q noconnection) ≡ LinkExit a b z) → ⊥
         no_act a b z (inl c) = quiet [] a b z refl c

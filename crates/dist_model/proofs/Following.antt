@@ -1,4 +1,5 @@
 -- What is known of watched monitors is kept by every event.
+use Rattle.erl_handshake.specs.declared.message.ShakeMsg.{ShakeMsg}
 use Rattle.erl_names.specs.Draw as kind
 use Rattle.std.proofs.Common.{◌==◌, nat_lt, ◌^◌, ◌≡◌, ℕ, ◌+◌, Bool, true, false, cond, not, List, [], ◌∷◌, ◌++◌, refl, sym, ap, ◌∙◌, subst, arith, ◌&&◌, ◌||◌, Option, Some, None, ◌⊎◌, inl, inr}
 use Rattle.std.proofs.lemmas.List.Elements.{All-head}
@@ -30,7 +31,7 @@ use Rattle.dist_model.specs.Downs.{is_answered, same_reference}
 use Rattle.dist_model.specs.Handshake.{fault, set_state}
 use Rattle.dist_model.specs.Histories.{History}
 use Rattle.dist_model.specs.Incarnations.{start, stop}
-use Rattle.dist_model.specs.Items.{Handshake, HandshakeMessage, Item, Signalled, Tick, receiver_of}
+use Rattle.dist_model.specs.Items.{Handshake, Item, Signalled, Tick, receiver_of}
 use Rattle.dist_model.specs.Links.{noconnection, noproc}
 use Rattle.dist_model.specs.Losses.{any_side, lose, sweep}
 use Rattle.dist_model.specs.Monitoring.{monitor, register, unwatch, watch}
@@ -56,7 +57,7 @@ pub any_go : (P : Answer → Work → Type 0) (k : Outcome) → ((a : Answer) (o
 any_go P (Refuses j) f = tt
 any_go P (Goes a o) f = f a o
 
-no_signal : (i : Item) (m : HandshakeMessage) (k : Reference) → handshake_in i ≡ Some m → (is_end k i ≡ false) × (is_call k i ≡ false)
+no_signal : (i : Item) (m : ShakeMsg) (k : Reference) → handshake_in i ≡ Some m → (is_end k i ≡ false) × (is_call k i ≡ false)
 no_signal (Handshake l) m k h = (refl, refl)
 no_signal (Signalled s) m k h = absurd (none_some m h)
 no_signal Tick m k h = absurd (none_some m h)
@@ -182,13 +183,13 @@ module _ (w : World) (h : History) (x : Name) (n : Node) (hx : node_of w.nodes x
     }
 
     -- a message of the handshake is about no monitor
-    other_facts : (m : HandshakeMessage) → handshake_in i ≡ Some m → (o : Outcome) → AllGo o Facts
+    other_facts : (m : ShakeMsg) → handshake_in i ≡ Some m → (o : Outcome) → AllGo o Facts
     other_facts m e o = any_go Facts o (λ a p. record {
       ends = λ k u c. let z : true ≡ false = sym c ∙ (no_signal i m k e).0 in cc;
       calls = λ k y v u c. let z : true ≡ false = sym c ∙ (no_signal i m k e).1 in cc;
     })
 
-    fresh_facts : (c : Option HandshakeMessage) → handshake_in i ≡ c → AllGo (arrive_fresh c t k0 (at_work n)) Facts
+    fresh_facts : (c : Option ShakeMsg) → handshake_in i ≡ c → AllGo (arrive_fresh c t k0 (at_work n)) Facts
     fresh_facts None e = fault_facts Refusal.BadMessage (record { peer = t.dialer; peer_creation = 0; state = Gone })
     fresh_facts (Some m) e = other_facts m e (arrive_fresh (Some m) t k0 (at_work n))
 
@@ -226,7 +227,7 @@ module _ (w : World) (h : History) (x : Name) (n : Node) (hx : node_of w.nodes x
       signal_facts Losing s = tt
       signal_facts Gone s = tt
 
-      known_facts : (c : Option HandshakeMessage) → handshake_in i ≡ c → AllGo (arrive_at c t v i (at_work n)) Facts
+      known_facts : (c : Option ShakeMsg) → handshake_in i ≡ c → AllGo (arrive_at c t v i (at_work n)) Facts
       known_facts None e = signal_facts v.state refl
       known_facts (Some m) e = other_facts m e (arrive_at (Some m) t v i (at_work n))
 

@@ -1,4 +1,5 @@
 -- What travels, and what is reported, is founded: on what was so before the event, or on what it reports.
+use Rattle.erl_handshake.specs.declared.message.ShakeMsg.{ShakeMsg}
 use Rattle.erl_names.specs.Draw as kind
 use Rattle.std.proofs.Common.{◌≡◌, ℕ, Bool, true, false, cond, not, List, [], ◌∷◌, ◌++◌, refl, sym, ap, ◌∙◌, subst, ◌&&◌, Option, Some, None, ◌⊎◌, inl, inr, Contains, arith}
 use Rattle.std.proofs.lemmas.List.Elements.{All-append, All-contains, All-cons, All-nil, All-push, All-weaker, All-head, All-tail, Contains-append_left, Contains-push, Contains-push_cases}
@@ -10,10 +11,10 @@ use Rattle.dist_model.proofs.Handshaking.{Turned}
 use Rattle.dist_model.proofs.Keys.{same_pid_true}
 use Rattle.dist_model.proofs.Parts.{Closed, Rules, is_plain}
 use Rattle.dist_model.proofs.Routes.{none_some, some_same}
-use Rattle.dist_model.specs.Downs.{down_of, same_reference}
+use Rattle.dist_model.specs.Downs.{same_reference}
 use Rattle.dist_model.specs.Exits.{buried, demonitors, exit_for, exits, finish, is_owned, is_target, monitor_exits}
 use Rattle.dist_model.specs.Handshake.{with_side, write}
-use Rattle.dist_model.specs.Items.{Handshake, HandshakeMessage, Item, Signalled, Tick, receiver_of}
+use Rattle.dist_model.specs.Items.{Handshake, Item, Signalled, Tick, receiver_of}
 use Rattle.dist_model.specs.Monitoring.{register, unregister, unwatch}
 use Rattle.dist_model.specs.Names.{Name, same_name, same_pid}
 use Rattle.dist_model.specs.Node.{Life, Node, is_living_life, living, route}
@@ -348,7 +349,7 @@ module _ (n : Node) (Old : Pid → Data → Type 0) (Ok : Pid → Pid → Data �
   pub true_side : (t : TrunkId) (s : TrunkSide) (o : Work) → Turned o.node t s → True o → True (with_side t s o)
   true_side t s o h k = true_node o ((with_side t s o).node) refl refl refl k
 
-  pub true_wrote : (t : TrunkId) (y : Name) (m : HandshakeMessage) (o : Work) → True o → True (write t y m o)
+  pub true_wrote : (t : TrunkId) (y : Name) (m : ShakeMsg) (o : Work) → True o → True (write t y m o)
   true_wrote t y m o k =
       let o' = write t y m o in
       let c = carried_by (FoundedIn o) (FoundedIn o') o (widen o o' (λ f h. Contains-append_left o.effects (Sent y (Handshake m) ∷ []) f h) (λ r v h. h)) k.carried in

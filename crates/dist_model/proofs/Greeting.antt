@@ -13,13 +13,16 @@ use Rattle.dist_model.proofs.Routes.{node_of_name, node_of_set_same, side_where_
 use Rattle.dist_model.proofs.Sides.{SidesKept, asks, beside, holds, joined, side_at}
 use Rattle.dist_model.proofs.Steps.{kind}
 use Rattle.dist_model.proofs.Table.{Good, is_accept, is_challenge, is_reply, role_state, up_once}
-use Rattle.dist_model.specs.Handshake.{challenge, give_up, set_state, write}
-use Rattle.dist_model.specs.Items.{Handshake, HandshakeMessage, StatusAlive, StatusNok}
+use Rattle.dist_model.specs.Admission.{give_up}
+use Rattle.dist_model.specs.Handshake.{challenge, set_state, write}
+use Rattle.dist_model.specs.Items.{Handshake}
 use Rattle.dist_model.specs.Names.{Name, same_name}
 use Rattle.dist_model.specs.Node.{Node, side_where}
 use Rattle.dist_model.specs.Sides.{Accepting, Asked, AwaitsAck, AwaitsChallenge, AwaitsStatus, Gone, Losing, Parked, State, TrunkSide, Up, is_dialing, is_gone, is_waiting, lost}
 use Rattle.dist_model.specs.Work.{Work}
 use Rattle.dist_model.specs.World.{World, node_of, set_node}
+use Rattle.erl_handshake.specs.declared.message.ShakeMsg.{ShakeMsg}
+use Rattle.erl_handshake.specs.declared.status.Status.{Status}
 use Rattle.erl_names.specs.declared.trunk.TrunkId.{TrunkId}
 
 pub set_self : (ns : List Node) (x : Name) (n : Node) → node_of ns x ≡ Some n → set_node ns x n ≡ ns
@@ -163,10 +166,10 @@ module _ (w : World) (x : Name) (n : Node) (hx : node_of w.nodes x ≡ Some n) w
         (λ i. hold) kind hold g)
 
     -- and an answer to the dialer
-    pub answer : (o : Work) (v : State) (m : HandshakeMessage) → o.node.mint.name ≡ x → side_at o.node t ≡ Some (as_state s v) → is_accept (Handshake m) ≡ false → is_reply (Handshake m) ≡ false → (is_challenge (Handshake m) ≡ true → (k : ℕ) × (v ≡ Accepting k)) → Good (placed w x o) → Good (placed w x (write t t.dialer m o))
+    pub answer : (o : Work) (v : State) (m : ShakeMsg) → o.node.mint.name ≡ x → side_at o.node t ≡ Some (as_state s v) → is_accept (Handshake m) ≡ false → is_reply (Handshake m) ≡ false → (is_challenge (Handshake m) ≡ true → (k : ℕ) × (v ≡ Accepting k)) → Good (placed w x o) → Good (placed w x (write t t.dialer m o))
     answer o v m e h na nr ch g = placed_write w x o t t.dialer m (good_written (placed w x o) x o.node t (as_state s v) m (at_x o e) h na nr ch g)
 
-    pub accepted : (o : Work) (k : ℕ) (m : HandshakeMessage) → o.node.mint.name ≡ x → side_at o.node t ≡ None → is_accept (Handshake m) ≡ false → is_reply (Handshake m) ≡ false
+    pub accepted : (o : Work) (k : ℕ) (m : ShakeMsg) → o.node.mint.name ≡ x → side_at o.node t ≡ None → is_accept (Handshake m) ≡ false → is_reply (Handshake m) ≡ false
         → NoneIs is_waiting t.dialer o.node → NoneIs is_dialing t.dialer o.node → NoneIs holds t.dialer o.node → Met (placed w x o).nodes t x → Good (placed w x o)
         → Good (placed w x (write t t.dialer (challenge o.node k) (write t t.dialer m (set_state t s (Accepting k) o))))
     accepted o k m e none na nr nw nd nh met g =
@@ -176,17 +179,17 @@ module _ (w : World) (x : Name) (n : Node) (hx : node_of w.nodes x ≡ Some n) w
         let h1 : side_at o1.node t ≡ Some (as_state s (Accepting k)) = side_after_same o.node t (as_state s (Accepting k)) in
         answer (write t t.dialer m o1) (Accepting k) (challenge o.node k) e h1 refl refl (λ j. (k, refl)) (answer o1 (Accepting k) m e h1 na nr (λ j. (k, refl)) g1)
 
-    pub refused_one : (o : Work) → o.node.mint.name ≡ x → side_at o.node t ≡ None → Met (placed w x o).nodes t x → Good (placed w x o) → Good (placed w x (write t t.dialer StatusNok (set_state t s Gone o)))
+    pub refused_one : (o : Work) → o.node.mint.name ≡ x → side_at o.node t ≡ None → Met (placed w x o).nodes t x → Good (placed w x o) → Good (placed w x (write t t.dialer (ShakeMsg.Status Status.Nok) (set_state t s Gone o)))
     refused_one o e none met g =
         let g1 = first_state o Gone e none refl refl (inr refl) refl (λ u b hb eb gs gb. let z : true ≡ false = gs in cc) met g in
-        answer (set_state t s Gone o) Gone StatusNok e (side_after_same o.node t (as_state s Gone)) refl refl (λ j. absurd (let z : false ≡ true = j in cc)) g1
+        answer (set_state t s Gone o) Gone (ShakeMsg.Status Status.Nok) e (side_after_same o.node t (as_state s Gone)) refl refl (λ j. absurd (let z : false ≡ true = j in cc)) g1
 
     pub told_alive : (o : Work) (k : ℕ) (d : TrunkId × TrunkSide) → o.node.mint.name ≡ x → side_at o.node t ≡ None → side_at o.node d.0 ≡ Some d.1 → d.1.peer ≡ t.dialer → holds d.1.state ≡ true
-        → NoneIs is_waiting t.dialer o.node → Met (placed w x o).nodes t x → Good (placed w x o) → Good (placed w x (write t t.dialer StatusAlive (set_state t s (Asked k) o)))
+        → NoneIs is_waiting t.dialer o.node → Met (placed w x o).nodes t x → Good (placed w x o) → Good (placed w x (write t t.dialer (ShakeMsg.Status Status.Alive) (set_state t s (Asked k) o)))
     told_alive o k d e none hd yd td nw met g =
         let sk = g.core.sides x o.node (at_x o e) in
         let g1 = first_state o (Asked k) e none refl refl (inl refl) refl (λ u b hb eb gs gb. holder u b hb eb gb (sk.one d.0 u d.1 b hd hb (yd ∙ sym eb) ((hold_kind d.1.state td).3) gb)) met g in
-        answer (set_state t s (Asked k) o) (Asked k) StatusAlive e (side_after_same o.node t (as_state s (Asked k))) refl refl (λ j. absurd (let z : false ≡ true = j in cc)) g1
+        answer (set_state t s (Asked k) o) (Asked k) (ShakeMsg.Status Status.Alive) e (side_after_same o.node t (as_state s (Asked k))) refl refl (λ j. absurd (let z : false ≡ true = j in cc)) g1
       where
         asks_waits : (v : State) → asks v ≡ true → is_waiting v ≡ true
         asks_waits (Asked z) i = refl

@@ -8,7 +8,7 @@ use Rattle.dist_model.proofs.Reside.{Fits, accepts_up, comes_up, drops, replies_
 use Rattle.dist_model.proofs.Routes.{node_of_name, some_same}
 use Rattle.dist_model.proofs.Sides.{SidesKept, asks, beside, holds, joined, side_at}
 use Rattle.dist_model.proofs.Table.{Good, Row, has, holds_side, is_accept, is_early, is_reply, likely_kind, may_be_up, not_begun_not_went, not_holds_not_up, role_state, up_once, went_up}
-use Rattle.dist_model.specs.Items.{words}
+use Rattle.dist_model.specs.Items.{news}
 use Rattle.dist_model.specs.Names.{Name, same_name}
 use Rattle.dist_model.specs.Node.{Node, end_of}
 use Rattle.dist_model.specs.Sides.{Accepting, Asked, AwaitsAck, AwaitsChallenge, AwaitsStatus, Gone, Losing, Parked, State, TrunkSide, Up, is_gone, is_up, lost}
@@ -284,8 +284,8 @@ good_acceptor_up w x n t v u hx h e got g =
     let vd : t.dialer ≡ v.peer = dialer_is ((g.core.sides x n hx).mine t v h) (λ i. nd (i ∙ nx)) in
     good_state w x n t v (as_state v Up) hx h refl f g
     (accepts_up w x n t v (as_state v Up) hx h refl (ap is_gone e) (ap holds e) (ap asks e)
-    (λ p q. ap (λ z. words p q (list_to w.lists t z)) (sym m.peer) ∙ b0.3 p q)
-    (λ p q. ap (λ z. words p q (list_to w.lists t z)) (sym vd) ∙ b0.2 p q)
+    (λ p q. ap (λ z. news p q (list_to w.lists t z)) (sym m.peer) ∙ b0.3 p q)
+    (λ p q. ap (λ z. news p q (list_to w.lists t z)) (sym vd) ∙ b0.2 p q)
     (λ z b a hb fb vz j.
     let same : m.dialer ≡ b = some_same m.dialer b (sym m.at ∙ ap (node_of w.nodes) (vd ∙ vz) ∙ hb) in
     let same2 : m.side ≡ a = some_same m.side a (sym m.there ∙ ap (λ y. side_at y t) same ∙ fb) in

@@ -1,4 +1,12 @@
 -- What a new side and a written message keep is kept by the whole handshake, and by a lost connection.
+use Rattle.erl_handshake.specs.declared.message.ShakeMsg.{ShakeMsg}
+use Rattle.dist_model.proofs.Rules.{awaits_ack, awaits_challenge, awaits_name, awaits_reply, awaits_status, awaits_true, greet, greet_dialing, greet_up, greet_waiting, handshake_as, handshake_by, name_as}
+use Rattle.dist_model.specs.Admission.{accepts, give_up, hears_name}
+use Rattle.dist_model.specs.Handshake.{handshake_at}
+use Rattle.erl_handshake.specs.Digest.{digest_of}
+use Rattle.erl_handshake.specs.Flags.{has_all_of, mandatory}
+use Rattle.erl_handshake.specs.Roles.{is_answered, is_same}
+use Rattle.erl_handshake.specs.declared.status.Status.{Status}
 use Rattle.std.proofs.Common.{◌==◌, ◌≡◌, ℕ, Bool, true, false, cond, refl, sym, ap, ◌∙◌, ◌||◌, Option, Some, None, nat_lt, subst}
 use Rattle.std.specs.Ordering.{is_gt, eq_by_cmp}
 use Rattle.std.specs.FinMap as fm
@@ -6,11 +14,11 @@ use Rattle.dist_model.proofs.Calls.{IfGoes, by_test}
 use Rattle.dist_model.proofs.Keys.{same_trunk, same_trunk_true, trunk_total}
 use Rattle.dist_model.proofs.Routes.{none_some, side_where_found, some_same}
 use Rattle.dist_model.proofs.Sides.{holds, side_at}
-use Rattle.dist_model.specs.Arrivals.{arrive_at, arrive_fresh, handshake_at, on_up, signal_at}
+use Rattle.dist_model.specs.Arrivals.{arrive_at, arrive_fresh, on_up, signal_at}
 use Rattle.dist_model.specs.Arrivals
 use Rattle.dist_model.specs.Commands.{Goes, Outcome, Refuses, Took}
-use Rattle.dist_model.specs.Handshake.{accepts, awaits_ack, awaits_challenge, awaits_name, awaits_reply, awaits_status, awaits_true, challenge, dig, end_up, fault, give_up, go_on, goes_on, greet, greet_dialing, greet_up, greet_waiting, has_flags, set_state, with_side, write}
-use Rattle.dist_model.specs.Items.{Challenge, ChallengeAck, ChallengeReply, Handshake, HandshakeMessage, Item, SendName, StatusAlive, StatusFalse, StatusNok, StatusNotAllowed, StatusOk, StatusOkSimultaneous, StatusTrue}
+use Rattle.dist_model.specs.Handshake.{challenge, end_up, fault, go_on, goes_on, set_state, with_side, write}
+use Rattle.dist_model.specs.Items.{Handshake, Item}
 use Rattle.dist_model.specs.Losses.{close_if, has_records, lose, lose_at, parked_by, parked_goes, swept}
 use Rattle.dist_model.specs.Names.{Name, same_name}
 use Rattle.dist_model.specs.Node.{Node, side_where}
@@ -132,7 +140,7 @@ found : (test : State → Bool) (y : Name) (n : Node) (d : Option (TrunkId × Tr
 found test y n None h = tt
 found test y n (Some e) h = let f = side_where_found test y (fm.entries n.sides) e (fm.entries_sorted n.sides) h in (fm.get-entries n.sides e.0 ∙ f.there, f.passes)
 
-module _ (X : Work → Type 0) (side : (t : TrunkId) (s : TrunkSide) (o : Work) → Turned o.node t s → X o → X (with_side t s o)) (wrote : (t : TrunkId) (y : Name) (m : HandshakeMessage) (o : Work) → X o → X (write t y m o)) where
+module _ (X : Work → Type 0) (side : (t : TrunkId) (s : TrunkSide) (o : Work) → Turned o.node t s → X o → X (with_side t s o)) (wrote : (t : TrunkId) (y : Name) (m : ShakeMsg) (o : Work) → X o → X (write t y m o)) where
   fresh_state : (t : TrunkId) (s : TrunkSide) (x : State) (o : Work) → side_at o.node t ≡ None → X o → X (set_state t s x o)
   fresh_state t s x o h k = side t (as_state s x) o (Fresh h) k
 
@@ -142,7 +150,7 @@ module _ (X : Work → Type 0) (side : (t : TrunkId) (s : TrunkSide) (o : Work) 
   open_state : (t : TrunkId) (s : TrunkSide) (x : State) (o : Work) → side_at o.node t ≡ Some s → is_open s.state ≡ true → X o → X (set_state t s x o)
   open_state t s x o h a k = aged_state t s x o h (open_ages s.state x a) (open_starts s.state x a) k
 
-  told : (t : TrunkId) (s : TrunkSide) (x : State) (m : HandshakeMessage) (o : Work) → X (set_state t s x o) → X (write t s.peer m (set_state t s x o))
+  told : (t : TrunkId) (s : TrunkSide) (x : State) (m : ShakeMsg) (o : Work) → X (set_state t s x o) → X (write t s.peer m (set_state t s x o))
   told t s x m o k = wrote t s.peer m (set_state t s x o) k
 
   if_either : (b : Bool) (x y : Outcome) → IfGoes x X → IfGoes y X → IfGoes (cond b x y) X
@@ -164,18 +172,18 @@ module _ (X : Work → Type 0) (side : (t : TrunkId) (s : TrunkSide) (o : Work) 
   given_none None test o t p h = h
   given_none (Some e) test o t p h = still_none o e.0 t (as_state e.1 Gone) e.1 h p.0
 
-  accepted : (t : TrunkId) (s : TrunkSide) (w : ℕ) (m : HandshakeMessage) (x : Item) (o : Work) → side_at o.node t ≡ None → X o → IfGoes (accepts t s w m x o) X
+  accepted : (t : TrunkId) (s : TrunkSide) (w : ℕ) (m : ShakeMsg) (x : Item) (o : Work) → side_at o.node t ≡ None → X o → IfGoes (accepts t s w m x o) X
   accepted t s w m x o h k = wrote t s.peer (challenge o.node w) (write t s.peer m (set_state t s (Accepting w) o)) (told t s (Accepting w) m o (fresh_state t s (Accepting w) o h k))
 
   greeted_dialing : (d : Option (TrunkId × TrunkSide)) (t : TrunkId) (s : TrunkSide) (w : ℕ) (x : Item) (o : Work) → Passing is_dialing o.node d → side_at o.node t ≡ None → X o → IfGoes (greet_dialing d t s w x o) X
-  greeted_dialing None t s w x o p h k = accepted t s w StatusOk x o h k
+  greeted_dialing None t s w x o p h k = accepted t s w (ShakeMsg.Status Status.Ok) x o h k
   greeted_dialing (Some e) t s w x o p h k = if_either (is_gt (name_cmp t.dialer o.node.mint.name)) _ _
-      (accepted t s w StatusOkSimultaneous x (give_up (Some e) o) (given_none (Some e) is_dialing o t p h) (given (Some e) is_dialing o open_dialing p k))
-      (told t s Gone StatusNok o (fresh_state t s Gone o h k))
+      (accepted t s w (ShakeMsg.Status Status.OkSimultaneous) x (give_up (Some e) o) (given_none (Some e) is_dialing o t p h) (given (Some e) is_dialing o open_dialing p k))
+      (told t s Gone (ShakeMsg.Status Status.Nok) o (fresh_state t s Gone o h k))
 
   greeted_up : (d : Option (TrunkId × TrunkSide)) (t : TrunkId) (s : TrunkSide) (w : ℕ) (x : Item) (o : Work) → side_at o.node t ≡ None → X o → IfGoes (greet_up d t s w x o) X
   greeted_up None t s w x o h k = greeted_dialing (side_where is_dialing s.peer (fm.entries o.node.sides)) t s w x o (found is_dialing s.peer o.node _ refl) h k
-  greeted_up (Some e) t s w x o h k = told t s (Asked w) StatusAlive o (fresh_state t s (Asked w) o h k)
+  greeted_up (Some e) t s w x o h k = told t s (Asked w) (ShakeMsg.Status Status.Alive) o (fresh_state t s (Asked w) o h k)
 
   greeted : (t : TrunkId) (s : TrunkSide) (w : ℕ) (x : Item) (o : Work) → side_at o.node t ≡ None → X o → IfGoes (greet t s w x o) X
   greeted t s w x o h k = greeted_up (side_where (λ v. is_up v || is_losing v) s.peer (fm.entries o.node.sides)) t s w x o h k
@@ -184,74 +192,74 @@ module _ (X : Work → Type 0) (side : (t : TrunkId) (s : TrunkSide) (o : Work) 
   greeted_waiting None t s w x o p h k = greeted t s w x o h k
   greeted_waiting (Some e) t s w x o p h k = if_either (nat_lt e.0.count t.count) _ _
       (greeted t s w x (give_up (Some e) o) (given_none (Some e) is_waiting o t p h) (given (Some e) is_waiting o open_waiting p k))
-      (told t s Gone StatusNok o (fresh_state t s Gone o h k))
+      (told t s Gone (ShakeMsg.Status Status.Nok) o (fresh_state t s Gone o h k))
 
-  named : (t : TrunkId) (m : HandshakeMessage) (w : ℕ) (o : Work) → side_at o.node t ≡ None → X o → IfGoes (awaits_name t m w o) X
-  named t (SendName name creation flags) w o h k =
+  named : (t : TrunkId) (m : ShakeMsg) (w : ℕ) (o : Work) → side_at o.node t ≡ None → X o → IfGoes (awaits_name t m w o) X
+  named t (ShakeMsg.SendName flags creation name) w o h k =
       let s : TrunkSide = record { peer = t.dialer; peer_creation = creation; state = Gone } in
-      if_either (same_name name t.dialer) _ _ (if_either (has_flags flags) _ _ (greeted_waiting (side_where is_waiting t.dialer (fm.entries o.node.sides)) t s w (Handshake (SendName name creation flags)) o (found is_waiting t.dialer o.node _ refl) h k) (fresh_fault Refusal.FlagsMissing t s o h k)) (fresh_fault Refusal.Forged t s o h k)
-  named t StatusOk w o h k = fresh_fault Refusal.BadMessage t (record { peer = t.dialer; peer_creation = 0; state = Gone }) o h k
-  named t StatusOkSimultaneous w o h k = fresh_fault Refusal.BadMessage t (record { peer = t.dialer; peer_creation = 0; state = Gone }) o h k
-  named t StatusNok w o h k = fresh_fault Refusal.BadMessage t (record { peer = t.dialer; peer_creation = 0; state = Gone }) o h k
-  named t StatusNotAllowed w o h k = fresh_fault Refusal.BadMessage t (record { peer = t.dialer; peer_creation = 0; state = Gone }) o h k
-  named t StatusAlive w o h k = fresh_fault Refusal.BadMessage t (record { peer = t.dialer; peer_creation = 0; state = Gone }) o h k
-  named t StatusTrue w o h k = fresh_fault Refusal.BadMessage t (record { peer = t.dialer; peer_creation = 0; state = Gone }) o h k
-  named t StatusFalse w o h k = fresh_fault Refusal.BadMessage t (record { peer = t.dialer; peer_creation = 0; state = Gone }) o h k
-  named t (Challenge a b c d) w o h k = fresh_fault Refusal.BadMessage t (record { peer = t.dialer; peer_creation = 0; state = Gone }) o h k
-  named t (ChallengeReply a b) w o h k = fresh_fault Refusal.BadMessage t (record { peer = t.dialer; peer_creation = 0; state = Gone }) o h k
-  named t (ChallengeAck a) w o h k = fresh_fault Refusal.BadMessage t (record { peer = t.dialer; peer_creation = 0; state = Gone }) o h k
+      if_either (is_same name t.dialer) _ _ (if_either (has_all_of flags mandatory) _ _ (greeted_waiting (side_where is_waiting t.dialer (fm.entries o.node.sides)) t s w (Handshake (ShakeMsg.SendName flags creation name)) o (found is_waiting t.dialer o.node _ refl) h k) (fresh_fault Refusal.FlagsMissing t s o h k)) (fresh_fault Refusal.Forged t s o h k)
+  named t (ShakeMsg.Status Status.Ok) w o h k = fresh_fault Refusal.BadMessage t (record { peer = t.dialer; peer_creation = 0; state = Gone }) o h k
+  named t (ShakeMsg.Status Status.OkSimultaneous) w o h k = fresh_fault Refusal.BadMessage t (record { peer = t.dialer; peer_creation = 0; state = Gone }) o h k
+  named t (ShakeMsg.Status Status.Nok) w o h k = fresh_fault Refusal.BadMessage t (record { peer = t.dialer; peer_creation = 0; state = Gone }) o h k
+  named t (ShakeMsg.Status Status.NotAllowed) w o h k = fresh_fault Refusal.BadMessage t (record { peer = t.dialer; peer_creation = 0; state = Gone }) o h k
+  named t (ShakeMsg.Status Status.Alive) w o h k = fresh_fault Refusal.BadMessage t (record { peer = t.dialer; peer_creation = 0; state = Gone }) o h k
+  named t (ShakeMsg.Status Status.True) w o h k = fresh_fault Refusal.BadMessage t (record { peer = t.dialer; peer_creation = 0; state = Gone }) o h k
+  named t (ShakeMsg.Status Status.False) w o h k = fresh_fault Refusal.BadMessage t (record { peer = t.dialer; peer_creation = 0; state = Gone }) o h k
+  named t (ShakeMsg.Challenge a b c d) w o h k = fresh_fault Refusal.BadMessage t (record { peer = t.dialer; peer_creation = 0; state = Gone }) o h k
+  named t (ShakeMsg.ChallengeReply a b) w o h k = fresh_fault Refusal.BadMessage t (record { peer = t.dialer; peer_creation = 0; state = Gone }) o h k
+  named t (ShakeMsg.ChallengeAck a) w o h k = fresh_fault Refusal.BadMessage t (record { peer = t.dialer; peer_creation = 0; state = Gone }) o h k
 
-  pub fresh_kept : (m : Option HandshakeMessage) (t : TrunkId) (w : ℕ) (o : Work) → side_at o.node t ≡ None → X o → IfGoes (arrive_fresh m t w o) X
+  pub fresh_kept : (m : Option ShakeMsg) (t : TrunkId) (w : ℕ) (o : Work) → side_at o.node t ≡ None → X o → IfGoes (arrive_fresh m t w o) X
   fresh_kept None t w o h k = fresh_fault Refusal.BadMessage t (record { peer = t.dialer; peer_creation = 0; state = Gone }) o h k
-  fresh_kept (Some m) t w o h k = named t m w o h k
+  fresh_kept (Some m) t w o h k = subst (λ z. IfGoes z X) (sym (name_as t m w o)) (named t m w o h k)
 
   module _ (t : TrunkId) (s : TrunkSide) (o : Work) (at : side_at o.node t ≡ Some s) (k : X o) where
     bad : IfGoes (fault Refusal.BadMessage t s o) X
     bad = known_fault Refusal.BadMessage t s o at k
 
-    status : (v : ℕ) → is_open s.state ≡ true → (m : HandshakeMessage) → IfGoes (awaits_status t s v m o) X
-    status v h StatusOk = open_state t s (AwaitsChallenge v) o at h k
-    status v h StatusOkSimultaneous = open_state t s (AwaitsChallenge v) o at h k
-    status v h StatusAlive = told t s (AwaitsChallenge v) StatusTrue o (open_state t s (AwaitsChallenge v) o at h k)
-    status v h StatusNok = known_fault Refusal.Nok t s o at k
-    status v h StatusNotAllowed = known_fault Refusal.Nok t s o at k
-    status v h StatusTrue = bad
-    status v h StatusFalse = bad
-    status v h (SendName a b c) = bad
-    status v h (Challenge a b c d) = bad
-    status v h (ChallengeReply a b) = bad
-    status v h (ChallengeAck a) = bad
+    status : (v : ℕ) → is_open s.state ≡ true → (m : ShakeMsg) → IfGoes (awaits_status t s v m o) X
+    status v h (ShakeMsg.Status Status.Ok) = open_state t s (AwaitsChallenge v) o at h k
+    status v h (ShakeMsg.Status Status.OkSimultaneous) = open_state t s (AwaitsChallenge v) o at h k
+    status v h (ShakeMsg.Status Status.Alive) = told t s (AwaitsChallenge v) (ShakeMsg.Status Status.True) o (open_state t s (AwaitsChallenge v) o at h k)
+    status v h (ShakeMsg.Status Status.Nok) = known_fault Refusal.Nok t s o at k
+    status v h (ShakeMsg.Status Status.NotAllowed) = known_fault Refusal.Nok t s o at k
+    status v h (ShakeMsg.Status Status.True) = bad
+    status v h (ShakeMsg.Status Status.False) = bad
+    status v h (ShakeMsg.SendName a b c) = bad
+    status v h (ShakeMsg.Challenge a b c d) = bad
+    status v h (ShakeMsg.ChallengeReply a b) = bad
+    status v h (ShakeMsg.ChallengeAck a) = bad
 
-    challenged : (v : ℕ) → is_open s.state ≡ true → (m : HandshakeMessage) → IfGoes (awaits_challenge t s v m o) X
-    challenged v h (Challenge name creation flags word) =
+    challenged : (v : ℕ) → is_open s.state ≡ true → (m : ShakeMsg) → IfGoes (awaits_challenge t s v m o) X
+    challenged v h (ShakeMsg.Challenge flags word creation name) =
         let s1 : TrunkSide = record { peer = s.peer; peer_creation = creation; state = s.state } in
-        if_either (same_name name s.peer) _ _ (if_either (has_flags flags) _ _
-        (told t s1 (AwaitsAck v) (ChallengeReply v (dig o.node.cookie word)) o
+        if_either (is_same name s.peer) _ _ (if_either (has_all_of flags mandatory) _ _
+        (told t s1 (AwaitsAck v) (ShakeMsg.ChallengeReply v (digest_of o.node.cookie word)) o
         (side t (as_state s1 (AwaitsAck v)) o (Aged s at (record { peer = refl; holding = open_ages s.state (AwaitsAck v) h; over = open_starts s.state (AwaitsAck v) h })) k))
         (known_fault Refusal.FlagsMissing t s o at k)) (known_fault Refusal.Forged t s o at k)
-    challenged v h StatusOk = bad
-    challenged v h StatusOkSimultaneous = bad
-    challenged v h StatusAlive = bad
-    challenged v h StatusNok = bad
-    challenged v h StatusNotAllowed = bad
-    challenged v h StatusTrue = bad
-    challenged v h StatusFalse = bad
-    challenged v h (SendName a b c) = bad
-    challenged v h (ChallengeReply a b) = bad
-    challenged v h (ChallengeAck a) = bad
+    challenged v h (ShakeMsg.Status Status.Ok) = bad
+    challenged v h (ShakeMsg.Status Status.OkSimultaneous) = bad
+    challenged v h (ShakeMsg.Status Status.Alive) = bad
+    challenged v h (ShakeMsg.Status Status.Nok) = bad
+    challenged v h (ShakeMsg.Status Status.NotAllowed) = bad
+    challenged v h (ShakeMsg.Status Status.True) = bad
+    challenged v h (ShakeMsg.Status Status.False) = bad
+    challenged v h (ShakeMsg.SendName a b c) = bad
+    challenged v h (ShakeMsg.ChallengeReply a b) = bad
+    challenged v h (ShakeMsg.ChallengeAck a) = bad
 
-    acknowledged : (v : ℕ) → is_open s.state ≡ true → (m : HandshakeMessage) → IfGoes (awaits_ack t s v m o) X
-    acknowledged v h (ChallengeAck digest) = if_either (digest == dig o.node.cookie v) _ _ (open_state t s Up o at h k) (known_fault Refusal.BadDigest t s o at k)
-    acknowledged v h StatusOk = bad
-    acknowledged v h StatusOkSimultaneous = bad
-    acknowledged v h StatusAlive = bad
-    acknowledged v h StatusNok = bad
-    acknowledged v h StatusNotAllowed = bad
-    acknowledged v h StatusTrue = bad
-    acknowledged v h StatusFalse = bad
-    acknowledged v h (SendName a b c) = bad
-    acknowledged v h (Challenge a b c d) = bad
-    acknowledged v h (ChallengeReply a b) = bad
+    acknowledged : (v : ℕ) → is_open s.state ≡ true → (m : ShakeMsg) → IfGoes (awaits_ack t s v m o) X
+    acknowledged v h (ShakeMsg.ChallengeAck digest) = if_either (is_answered o.node.cookie v digest) _ _ (open_state t s Up o at h k) (known_fault Refusal.BadDigest t s o at k)
+    acknowledged v h (ShakeMsg.Status Status.Ok) = bad
+    acknowledged v h (ShakeMsg.Status Status.OkSimultaneous) = bad
+    acknowledged v h (ShakeMsg.Status Status.Alive) = bad
+    acknowledged v h (ShakeMsg.Status Status.Nok) = bad
+    acknowledged v h (ShakeMsg.Status Status.NotAllowed) = bad
+    acknowledged v h (ShakeMsg.Status Status.True) = bad
+    acknowledged v h (ShakeMsg.Status Status.False) = bad
+    acknowledged v h (ShakeMsg.SendName a b c) = bad
+    acknowledged v h (ShakeMsg.Challenge a b c d) = bad
+    acknowledged v h (ShakeMsg.ChallengeReply a b) = bad
 
     ended_up : (d : Option (TrunkId × TrunkSide)) → Passing is_up o.node d → X (end_up d o)
     ended_up None p = k
@@ -279,45 +287,48 @@ module _ (X : Work → Type 0) (side : (t : TrunkId) (s : TrunkSide) (o : Work) 
     gone_on None w o' a h j = told t s (Accepting w) (challenge o'.node w) o' (open_state t s (Accepting w) o' a h j)
     gone_on (Some e) w o' a h j = open_state t s (Parked w) o' a h j
 
-    asked : (v : ℕ) → is_open s.state ≡ true → (m : HandshakeMessage) → IfGoes (awaits_true t s v m o) X
-    asked v h StatusTrue =
+    asked : (v : ℕ) → is_open s.state ≡ true → (m : ShakeMsg) → IfGoes (awaits_true t s v m o) X
+    asked v h (ShakeMsg.Status Status.True) =
         let d = side_where is_up s.peer (fm.entries o.node.sides) in
         let p = found is_up s.peer o.node d refl in
         gone_on (side_where is_losing s.peer (fm.entries ((end_up d o).node.sides))) v (end_up d o) (still_at d p h) h (ended_up d p)
-    asked v h StatusFalse = known_fault Refusal.Nok t s o at k
-    asked v h StatusOk = bad
-    asked v h StatusOkSimultaneous = bad
-    asked v h StatusAlive = bad
-    asked v h StatusNok = bad
-    asked v h StatusNotAllowed = bad
-    asked v h (SendName a b c) = bad
-    asked v h (Challenge a b c d) = bad
-    asked v h (ChallengeReply a b) = bad
-    asked v h (ChallengeAck a) = bad
+    asked v h (ShakeMsg.Status Status.False) = known_fault Refusal.Nok t s o at k
+    asked v h (ShakeMsg.Status Status.Ok) = bad
+    asked v h (ShakeMsg.Status Status.OkSimultaneous) = bad
+    asked v h (ShakeMsg.Status Status.Alive) = bad
+    asked v h (ShakeMsg.Status Status.Nok) = bad
+    asked v h (ShakeMsg.Status Status.NotAllowed) = bad
+    asked v h (ShakeMsg.SendName a b c) = bad
+    asked v h (ShakeMsg.Challenge a b c d) = bad
+    asked v h (ShakeMsg.ChallengeReply a b) = bad
+    asked v h (ShakeMsg.ChallengeAck a) = bad
 
-    replied : (v : ℕ) → is_open s.state ≡ true → (m : HandshakeMessage) → IfGoes (awaits_reply t s v m o) X
-    replied v h (ChallengeReply word digest) = if_either (digest == dig o.node.cookie v) _ _ (told t s Up (ChallengeAck (dig o.node.cookie word)) o (open_state t s Up o at h k)) (known_fault Refusal.BadDigest t s o at k)
-    replied v h StatusOk = bad
-    replied v h StatusOkSimultaneous = bad
-    replied v h StatusAlive = bad
-    replied v h StatusNok = bad
-    replied v h StatusNotAllowed = bad
-    replied v h StatusTrue = bad
-    replied v h StatusFalse = bad
-    replied v h (SendName a b c) = bad
-    replied v h (Challenge a b c d) = bad
-    replied v h (ChallengeAck a) = bad
+    replied : (v : ℕ) → is_open s.state ≡ true → (m : ShakeMsg) → IfGoes (awaits_reply t s v m o) X
+    replied v h (ShakeMsg.ChallengeReply word digest) = if_either (is_answered o.node.cookie v digest) _ _ (told t s Up (ShakeMsg.ChallengeAck (digest_of o.node.cookie word)) o (open_state t s Up o at h k)) (known_fault Refusal.BadDigest t s o at k)
+    replied v h (ShakeMsg.Status Status.Ok) = bad
+    replied v h (ShakeMsg.Status Status.OkSimultaneous) = bad
+    replied v h (ShakeMsg.Status Status.Alive) = bad
+    replied v h (ShakeMsg.Status Status.Nok) = bad
+    replied v h (ShakeMsg.Status Status.NotAllowed) = bad
+    replied v h (ShakeMsg.Status Status.True) = bad
+    replied v h (ShakeMsg.Status Status.False) = bad
+    replied v h (ShakeMsg.SendName a b c) = bad
+    replied v h (ShakeMsg.Challenge a b c d) = bad
+    replied v h (ShakeMsg.ChallengeAck a) = bad
 
-    pub shaken : (v : State) → s.state ≡ v → (m : HandshakeMessage) → IfGoes (handshake_at v t s m o) X
-    shaken (AwaitsStatus v) h m = status v (ap is_open h) m
-    shaken (AwaitsChallenge v) h m = challenged v (ap is_open h) m
-    shaken (AwaitsAck v) h m = acknowledged v (ap is_open h) m
-    shaken (Asked v) h m = asked v (ap is_open h) m
-    shaken (Parked v) h m = bad
-    shaken (Accepting v) h m = replied v (ap is_open h) m
-    shaken Up h m = bad
-    shaken Losing h m = tt
-    shaken Gone h m = tt
+    by_rule : (v : State) → s.state ≡ v → (m : ShakeMsg) → IfGoes (handshake_by v t s m o) X
+    by_rule (AwaitsStatus v) h m = status v (ap is_open h) m
+    by_rule (AwaitsChallenge v) h m = challenged v (ap is_open h) m
+    by_rule (AwaitsAck v) h m = acknowledged v (ap is_open h) m
+    by_rule (Asked v) h m = asked v (ap is_open h) m
+    by_rule (Parked v) h m = bad
+    by_rule (Accepting v) h m = replied v (ap is_open h) m
+    by_rule Up h m = bad
+    by_rule Losing h m = tt
+    by_rule Gone h m = tt
+
+    pub shaken : (v : State) → s.state ≡ v → (m : ShakeMsg) → IfGoes (handshake_at v t s m o) X
+    shaken v h m = subst (λ z. IfGoes z X) (sym (handshake_as v t s m o)) (by_rule v h m)
 
     module _ (x : Item) (taken : s.state ≡ Up → Arrivals.is_good o.node s x ≡ true → X (take_item x o)) where
       on_up_kept : s.state ≡ Up → IfGoes (on_up t s x o) X
@@ -338,7 +349,7 @@ module _ (X : Work → Type 0) (side : (t : TrunkId) (s : TrunkSide) (o : Work) 
       signalled Losing h = tt
       signalled Gone h = tt
 
-      pub known_kept : (m : Option HandshakeMessage) → IfGoes (arrive_at m t s x o) X
+      pub known_kept : (m : Option ShakeMsg) → IfGoes (arrive_at m t s x o) X
       known_kept None = signalled s.state refl
       known_kept (Some m) = shaken s.state refl m
 

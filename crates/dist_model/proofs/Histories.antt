@@ -1,4 +1,5 @@
 -- Every step keeps what is known of a world and its history, and so does every run.
+use Rattle.dist_model.proofs.Seeing.{list_in, local_at, new_nodes}
 use Rattle.std.proofs.Common.{◌==◌, nat_lt, ◌^◌, ◌≡◌, ◌⊎◌, inl, inr, ℕ, ◌+◌, ◌≤◌, Bool, true, false, cond, not, List, [], ◌∷◌, length, refl, sym, ap, ◌∙◌, subst, arith, ◌&&◌, Option, Some, None, Contains}
 use Rattle.std.proofs.lemmas.List.Elements.{All-contains, All-nil, All-tail, All-weaker, Contains-push_cases}
 use Rattle.std.specs.List.{All}
@@ -32,11 +33,10 @@ use Rattle.dist_model.specs.Items.{Item, Signalled}
 use Rattle.dist_model.specs.Losses.{any_side, lose, sweep}
 use Rattle.dist_model.specs.Names.{Name, place_cmp, same_name}
 use Rattle.dist_model.specs.Node.{Node}
-use Rattle.dist_model.specs.Runs.{Comes, Runs, new_node, new_nodes, opening}
-use Rattle.dist_model.specs.Seen.{local_at}
+use Rattle.dist_model.specs.Runs.{Comes, Runs, new_node, opening}
 use Rattle.dist_model.specs.Sides.{TrunkSide, is_losing}
 use Rattle.dist_model.specs.Work.{Work}
-use Rattle.dist_model.specs.World.{Arrive, Call, Dial, Event, Local, Lose, Refused, Report, Reported, Start, Stepped, Stop, Sweep, World, arrives, arrives_first, carried, ends_in, is_over, list_in, list_to, node_name, node_of, refused, running, set_node, step, step_at}
+use Rattle.dist_model.specs.World.{Arrive, Call, Dial, Event, Local, Lose, Refused, Report, Reported, Start, Stepped, Stop, Sweep, World, arrives, arrives_first, carried, ends_in, is_over, list_to, node_name, node_of, refused, running, set_node, step, step_at}
 use Rattle.erl_control.specs.declared.signal.Signal.{Signal}
 use Rattle.erl_names.specs.declared.trunk.TrunkId.{TrunkId}
 use Rattle.erl_term.specs.Data.{Data}

@@ -1,4 +1,5 @@
 -- A node never asks itself to monitor a process that it never spawned.
+use Rattle.erl_handshake.specs.declared.message.ShakeMsg.{ShakeMsg}
 use Rattle.erl_names.specs.Draw as kind
 use Rattle.std.proofs.Common.{◌≡◌, ℕ, Bool, true, false, cond, List, [], ◌∷◌, ◌++◌, refl, sym, ap, ◌∙◌, subst, Option, Some, None}
 use Rattle.std.proofs.lemmas.List.Elements.{All-append, All-cons, All-head, All-nil, All-push, All-tail, All-weaker}
@@ -9,7 +10,7 @@ use Rattle.dist_model.proofs.Handshaking.{Turned}
 use Rattle.dist_model.proofs.Parts.{Closed, Rules, is_plain}
 use Rattle.dist_model.specs.Exits.{demonitors, exit_for, exits, finish, monitor_exits}
 use Rattle.dist_model.specs.Handshake.{with_side, write}
-use Rattle.dist_model.specs.Items.{Handshake, HandshakeMessage, Item, Signalled, Tick, receiver_of}
+use Rattle.dist_model.specs.Items.{Handshake, Item, Signalled, Tick, receiver_of}
 use Rattle.dist_model.specs.Names.{Name, same_name, same_pid}
 use Rattle.dist_model.specs.Node.{Node, never, route}
 use Rattle.dist_model.specs.Sides.{TrunkSide}
@@ -141,5 +142,5 @@ module _ (n : Node) (P : Pid → Type 0) where
   pub home_side : (t : TrunkId) (s : TrunkSide) (o : Work) → Turned o.node t s → Homed o → Homed (with_side t s o)
   home_side t s o h k = record { local = k.local; name = k.name }
 
-  pub home_wrote : (t : TrunkId) (y : Name) (m : HandshakeMessage) (o : Work) → Homed o → Homed (write t y m o)
+  pub home_wrote : (t : TrunkId) (y : Name) (m : ShakeMsg) (o : Work) → Homed o → Homed (write t y m o)
   home_wrote t y m o k = record { local = k.local; name = k.name }

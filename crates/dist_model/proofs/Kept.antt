@@ -1,11 +1,11 @@
 -- What each event keeps.
 use Rattle.std.proofs.lemmas.List.Elements.{Contains-push, Contains-append_left, Contains-append_right}
 use Rattle.std.specs.Option.{option_or}
-use Rattle.std.proofs.Common.{Contains, Option, None, Some, ◌≡◌, ◌≢◌, ℕ, zero, suc, ◌+◌, ◌<◌, ◌≤◌, Bool, true, false, cond, not, List, [], ◌∷◌, ◌++◌, refl, sym, ap, ◌∙◌, subst, arith, ◌&&◌, ◌⊎◌, ◌↔◌, inl, inr, ◌==◌, nat_lt, append-nil}
+use Rattle.std.proofs.Common.{Contains, Option, None, Some, ◌≡◌, ◌≢◌, ℕ, zero, suc, ◌+◌, ◌<◌, ◌≤◌, Bool, true, false, cond, List, [], ◌∷◌, ◌++◌, refl, sym, ap, ◌∙◌, subst, arith, ◌⊎◌, ◌↔◌, inl, inr, ◌==◌, append-nil}
 use Rattle.dist_model.proofs.Lists.{acks-push, active_wins_any, by_a_link_any, drained-push, drained_by_word, has_exit-push, has_link-push, last_word-push, none_of_or, or_left, or_none, or_right, outcome, stays_pending, unlinks-push}
 use Rattle.dist_model.proofs.Pair.{Linked, Side, Silent, Unlinked, Word, acks, drew, finished, has_exit, has_link, is_exit, last_word, later, linked_side, said, settled, takes, unlink_end, unlink_of, unlinks}
 use Rattle.dist_model.proofs.Views.{more}
-use Rattle.dist_model.specs.Links.{Exits, LinkWord, Says, drained, heard, last_said, noproc}
+use Rattle.dist_model.specs.Links.{Exits, LinkNews, Says, drained, heard, last_said, noproc}
 use Rattle.erl_term.specs.Data.{Data}
 use Rattle.link_core.specs.declared.end.End.{End}
 use Rattle.link_core.specs.declared.end.LinkSignal.{LinkSignal}
@@ -56,7 +56,7 @@ link_agrees x Silent f g = (λ h. recv_link_active x (λ i e. let n : Silent ≡
 link_agrees x Linked f g = (λ h. recv_link_active x (λ i e. let n : Linked ≡ Unlinked i = f i e in cc), λ h. refl)
 link_agrees x (Unlinked i) f g = (λ h. cc, λ h. let e : x ≡ End.Pending i = g i refl in let k : End.Pending i ≡ End.Active = rw e at h in cc)
 
-abbrev side : End → Bool → ℕ → List LinkWord → Side
+abbrev side : End → Bool → ℕ → List LinkNews → Side
 side e g n M = record { end = e; gone = g; drawn = n; sent = M }
 
 -- both end, and nothing is sent
@@ -67,7 +67,7 @@ keeps_stop a b k = record { one = half a b k.one; other = half b a k.other; agre
     half a b h = record { pending_says = λ x y i e. cc; says_pending = λ x y i e. cc; once = h.once; above = h.above; no_exit = λ x. cc; orphan = λ x y e. cc; idle = λ x. refl }
 
 -- p links where it wasn't linked_side
-activates : (e : End) (n : ℕ) (M : List LinkWord) (b : Side) → Kept (side e false n M) b → Kept (side End.Active false n (M ++ (Says LinkSignal.Link) ∷ [])) b
+activates : (e : End) (n : ℕ) (M : List LinkNews) (b : Side) → Kept (side e false n M) b → Kept (side End.Active false n (M ++ (Says LinkSignal.Link) ∷ [])) b
 activates e n M b k = record {
   one = record {
     pending_says = λ x y i h. absurd (outcome_not_pending (last_word b.sent) i (sym (drained_by_word b.sent (k.other.no_exit y)).0 ∙ h));
@@ -93,7 +93,7 @@ activates e n M b k = record {
       (λ h. drained-push b.end M (Says LinkSignal.Link) ∙ l.0 (sym d ∙ h), λ h. d ∙ l.1 (sym (drained-push b.end M (Says LinkSignal.Link)) ∙ h));
 }
 
-pub keeps_link : (e : End) (g : Bool) (n : ℕ) (M : List LinkWord) (b : Side) → Kept (side e g n M) b → Kept (linked_side g (side e g n M)) b
+pub keeps_link : (e : End) (g : Bool) (n : ℕ) (M : List LinkNews) (b : Side) → Kept (side e g n M) b → Kept (linked_side g (side e g n M)) b
 keeps_link e true n M b k = k
 keeps_link End.None false n M b k = activates End.None n M b k
 keeps_link End.Active false n M b k = k
@@ -124,7 +124,7 @@ same_pending x i j p q = cc
 same_unlinked : (w : Word) (x : End) (i j : ℕ) → w ≡ Unlinked j → w ≡ Unlinked i → x ≡ End.Pending j → x ≡ End.Pending i
 same_unlinked w x i j p q r = cc
 
-unlinking : (n j : ℕ) (M : List LinkWord) (b : Side) → n < j → Kept (side End.Active false n M) b → Kept (side (End.Pending j) false j (M ++ Says (LinkSignal.Unlink j) ∷ [])) b
+unlinking : (n j : ℕ) (M : List LinkNews) (b : Side) → n < j → Kept (side End.Active false n M) b → Kept (side (End.Pending j) false j (M ++ Says (LinkSignal.Unlink j) ∷ [])) b
 unlinking n j M b lt k =
     let none : unlinks j M + acks j b.sent ≡ 0 = k.one.above j lt in
     let waits : b.gone ≡ false → drained (End.Pending j) b.sent ≡ End.Pending j = λ y. stays_pending j b.sent (omega arith) (k.other.no_exit y) in
@@ -150,7 +150,7 @@ unlinking n j M b lt k =
       agree = λ x y. (λ h. let p = waits y in cc, λ h. absurd (recv_unlink_active _ j (sym (drained-push b.end M (Says (LinkSignal.Unlink j))) ∙ h)));
     }
 
-pub keeps_unlink : (e : End) (n j : ℕ) (M : List LinkWord) (b : Side) → n < j → Kept (side e false n M) b → Kept (unlink_end e j (side e false n M)) b
+pub keeps_unlink : (e : End) (n j : ℕ) (M : List LinkNews) (b : Side) → n < j → Kept (side e false n M) b → Kept (unlink_end e j (side e false n M)) b
 keeps_unlink End.None n j M b l k = k
 keeps_unlink End.Active n j M b l k = unlinking n j M b l k
 keeps_unlink (End.Pending i) n j M b l k = k
@@ -190,11 +190,11 @@ recv_exit End.None r = refl
 recv_exit End.Active r = refl
 recv_exit (End.Pending i) r = refl
 
-nil_end : (P : List LinkWord → Type 0) (M : List LinkWord) → P M → P (M ++ [])
+nil_end : (P : List LinkNews → Type 0) (M : List LinkNews) → P M → P (M ++ [])
 nil_end P M h = subst P (sym (append-nil M)) h
 
 -- with no EXIT for the partner
-ends_silently : (e : End) (n : ℕ) (M : List LinkWord) (b : Side) → e ≢ End.Active → Kept (side e false n M) b → Kept (side End.None true n M) b
+ends_silently : (e : End) (n : ℕ) (M : List LinkNews) (b : Side) → e ≢ End.Active → Kept (side e false n M) b → Kept (side End.None true n M) b
 ends_silently e n M b ne k = record {
   one = record {
     pending_says = λ x y i h. cc;
@@ -217,7 +217,7 @@ ends_silently e n M b ne k = record {
   agree = λ x y. cc;
 }
 
-ends_linked : (r : Data) (e : End) (n : ℕ) (M : List LinkWord) (b : Side) → Kept (side e false n M) b → Kept (side End.None true n (M ++ Exits r ∷ [])) b
+ends_linked : (r : Data) (e : End) (n : ℕ) (M : List LinkNews) (b : Side) → Kept (side e false n M) b → Kept (side End.None true n (M ++ Exits r ∷ [])) b
 ends_linked r e n M b k = record {
   one = record {
     pending_says = λ x y i h. cc;
@@ -240,7 +240,7 @@ ends_linked r e n M b k = record {
   agree = λ x y. cc;
 }
 
-pub keeps_finish : (r : Data) (e : End) (g : Bool) (n : ℕ) (M : List LinkWord) (b : Side) → Kept (side e g n M) b → Kept (finished g r (side e g n M)) b
+pub keeps_finish : (r : Data) (e : End) (g : Bool) (n : ℕ) (M : List LinkNews) (b : Side) → Kept (side e g n M) b → Kept (finished g r (side e g n M)) b
 keeps_finish r e true n M b k = k
 keeps_finish r End.None false n M b k = nil_end (λ l. Kept (side End.None true n l) b) M (ends_silently End.None n M b (λ h. cc) k)
 keeps_finish r End.Active false n M b k = ends_linked r End.Active n M b k
@@ -261,7 +261,7 @@ from_silent Linked i h = cc
 from_silent (Unlinked j) i h = h
 
 -- a signal that is answered by nothing
-takes_quiet : (e : End) (n : ℕ) (M : List LinkWord) (e' : End) (g' : Bool) (m : ℕ) (s : LinkWord) (L : List LinkWord)
+takes_quiet : (e : End) (n : ℕ) (M : List LinkNews) (e' : End) (g' : Bool) (m : ℕ) (s : LinkNews) (L : List LinkNews)
     → ((i : ℕ) → later (said Silent s) (last_word L) ≡ Unlinked i → last_word L ≡ Unlinked i)
     → Kept (side e false n M) (side e' g' m (s ∷ L)) → Kept (side (heard e s) false n M) (side e' g' m L)
 takes_quiet e n M e' g' m s L same k = record {
@@ -329,7 +329,7 @@ counted_here true i j e u f = omega arith
 counted_here false i j e u f = omega (arith, f (different i j e))
 
 -- what was last unlinked is there
-counted : (L : List LinkWord) (i : ℕ) → last_word L ≡ Unlinked i → 1 ≤ unlinks i L
+counted : (L : List LinkNews) (i : ℕ) → last_word L ≡ Unlinked i → 1 ≤ unlinks i L
 counted [] i h = cc
 counted ((Says LinkSignal.Link) ∷ L) i h = omega (arith, counted L i (from_link _ i h))
 counted (Says (LinkSignal.Unlink j) ∷ L) i h = counted_here (i == j) i j refl (unlinks i L) (λ n. counted L i (past_unlink (last_word L) i j n h))
@@ -339,7 +339,7 @@ counted (Exits r ∷ L) i h = omega (arith, counted L i (from_silent _ i h))
 cond_same : (i j : ℕ) → i ≡ j → ◌≡◌ {A = ℕ} (cond (i == j) 1 0) 1
 cond_same i j e = grind arith
 
-takes_unlink : (e : End) (n : ℕ) (M : List LinkWord) (e' : End) (g' : Bool) (m j : ℕ) (L : List LinkWord)
+takes_unlink : (e : End) (n : ℕ) (M : List LinkNews) (e' : End) (g' : Bool) (m j : ℕ) (L : List LinkNews)
     → Kept (side e false n M) (side e' g' m (Says (LinkSignal.Unlink j) ∷ L)) → Kept (side (heard e (Says (LinkSignal.Unlink j))) false n (M ++ Says (LinkSignal.Ack j) ∷ [])) (side e' g' m L)
 takes_unlink e n M e' g' m j L k = record {
   one = record {
@@ -368,7 +368,7 @@ takes_unlink e n M e' g' m j L k = record {
 }
 
 -- what comes to a process that has ended, answered by R
-takes_gone : (e : End) (n : ℕ) (M : List LinkWord) (e' : End) (g' : Bool) (m : ℕ) (s : LinkWord) (L R : List LinkWord)
+takes_gone : (e : End) (n : ℕ) (M : List LinkNews) (e' : End) (g' : Bool) (m : ℕ) (s : LinkNews) (L R : List LinkNews)
     → ((i : ℕ) → unlinks i (M ++ R) ≡ unlinks i M) → ((i : ℕ) → acks i (M ++ R) ≡ acks i M + unlink_of i s)
     → (drained e' (M ++ R) ≡ End.Active → has_link (s ∷ L) ≡ true → drained e' M ≡ End.Active → has_link L ≡ true)
     → (drained e' (M ++ R) ≡ End.Active → drained e' M ≡ End.Active)
@@ -395,7 +395,7 @@ takes_gone e n M e' g' m s L R us ac more back k = record {
   agree = λ x y. cc;
 }
 
-pub keeps_take : (e : End) (g : Bool) (n : ℕ) (M : List LinkWord) (e' : End) (g' : Bool) (m : ℕ) (s : LinkWord) (L : List LinkWord)
+pub keeps_take : (e : End) (g : Bool) (n : ℕ) (M : List LinkNews) (e' : End) (g' : Bool) (m : ℕ) (s : LinkNews) (L : List LinkNews)
     → Kept (side e g n M) (side e' g' m (s ∷ L)) → Kept (takes (side e g n M) s) (side e' g' m L)
 keeps_take e false n M e' g' m (Says LinkSignal.Link) L k = nil_end (λ l. Kept (side (heard e (Says LinkSignal.Link)) false n l) (side e' g' m L)) M (takes_quiet e n M e' g' m (Says LinkSignal.Link) L (from_link (last_word L)) k)
 keeps_take e false n M e' g' m (Says (LinkSignal.Unlink j)) L k = takes_unlink e n M e' g' m j L k
@@ -421,7 +421,7 @@ said_before w Silent = refl
 said_before w Linked = refl
 said_before w (Unlinked i) = refl
 
-last_is : (L : List LinkWord) → last_said L ≡ word_said (last_word L)
+last_is : (L : List LinkNews) → last_said L ≡ word_said (last_word L)
 last_is [] = refl
 last_is (Says LinkSignal.Link ∷ L) = ap (λ o. option_or o (Some LinkSignal.Link)) (last_is L) ∙ sym (said_before Linked (last_word L))
 last_is (Says (LinkSignal.Unlink i) ∷ L) = ap (λ o. option_or o (Some (LinkSignal.Unlink i))) (last_is L) ∙ sym (said_before (Unlinked i) (last_word L))
@@ -438,11 +438,11 @@ last_is (Exits r ∷ L) = last_is L ∙ same (last_word L)
     same Linked = refl
     same (Unlinked i) = refl
 
-ack_here : (b : Bool) (i j : ℕ) (L : List LinkWord) → (i == j) ≡ b → 1 ≤ cond b 1 0 + acks i L → (1 ≤ acks i L → Contains L (Says (LinkSignal.Ack i))) → Contains (Says (LinkSignal.Ack j) ∷ L) (Says (LinkSignal.Ack i))
+ack_here : (b : Bool) (i j : ℕ) (L : List LinkNews) → (i == j) ≡ b → 1 ≤ cond b 1 0 + acks i L → (1 ≤ acks i L → Contains L (Says (LinkSignal.Ack i))) → Contains (Says (LinkSignal.Ack j) ∷ L) (Says (LinkSignal.Ack i))
 ack_here true i j L e h f = let same : i ≡ j = grind arith in subst (λ n. Contains (Says (LinkSignal.Ack j) ∷ L) (Says (LinkSignal.Ack n))) (sym same) (Contains-append_left (Says (LinkSignal.Ack j) ∷ []) L (Says (LinkSignal.Ack j)) (Contains-push [] (Says (LinkSignal.Ack j))))
 ack_here false i j L e h f = Contains-append_right (Says (LinkSignal.Ack j) ∷ []) L (Says (LinkSignal.Ack i)) (f (omega arith))
 
-ack_there : (i : ℕ) (L : List LinkWord) → 1 ≤ acks i L → Contains L (Says (LinkSignal.Ack i))
+ack_there : (i : ℕ) (L : List LinkNews) → 1 ≤ acks i L → Contains L (Says (LinkSignal.Ack i))
 ack_there i [] h = absurd (omega arith)
 ack_there i (Says LinkSignal.Link ∷ L) h = Contains-append_right (Says LinkSignal.Link ∷ []) L (Says (LinkSignal.Ack i)) (ack_there i L (omega arith))
 ack_there i (Says (LinkSignal.Unlink j) ∷ L) h = Contains-append_right (Says (LinkSignal.Unlink j) ∷ []) L (Says (LinkSignal.Ack i)) (ack_there i L (omega arith))

@@ -8,8 +8,8 @@ use Rattle.std.specs.Cmp.Lexicographic.{slice_cmp}
 use Rattle.std.proofs.lemmas.Cmp.{on_total, then_total, nat_list_cmp_total}
 use Rattle.std.proofs.lemmas.Map.Lookups.{exact_unsigned, exact_bytes}
 use Rattle.std.specs.FinMap as fm
+use Rattle.dist_model.proofs.Seeing.{end_in}
 use Rattle.dist_model.specs.Names.{Name, pair_cmp, place_cmp, same_name, same_pid}
-use Rattle.dist_model.specs.Node.{end_in}
 use Rattle.dist_model.specs.Work.{set_in}
 use Rattle.erl_names.specs.Order.{name_cmp, trunk_cmp}
 use Rattle.erl_names.specs.declared.trunk.TrunkId.{TrunkId}

@@ -1,3 +1,5 @@
+pub mod Seeing
+pub mod Rules
 pub mod Pair
 pub mod Lists
 pub mod Kept
@@ -25,6 +27,11 @@ pub mod Greeting
 pub mod Fresh
 pub mod Run
 pub mod Reacting
+pub mod Silence
+pub mod Fitting
+pub mod Happening
+pub mod Downing
+pub mod Giving
 pub mod Handshaking
 pub mod Parts
 pub mod Entries

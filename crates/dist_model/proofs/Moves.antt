@@ -11,13 +11,14 @@ use Rattle.dist_model.proofs.Ending.{buried_end, buried_living, finish_view, fin
 use Rattle.dist_model.proofs.Kept.{Kept, keeps_draw, keeps_finish, keeps_link, keeps_take, keeps_unlink}
 use Rattle.dist_model.proofs.Keys.{and_both, pair_exact, pair_total, pid_total, same_pair, same_pid_is, same_pid_refl, same_pid_true, set_in-get}
 use Rattle.dist_model.proofs.Pair.{Side, finished}
-use Rattle.dist_model.proofs.Views.{AllSuit, Suits, linking_suits, more, over, post_all_keeps, post_all_view, post_keeps, post_view, posted, side_path, telling_receiver, telling_word, view}
+use Rattle.dist_model.proofs.Seeing.{end_in, replies}
+use Rattle.dist_model.proofs.Views.{AllSuit, Suits, linking_suits, more, over, post_all_keeps, post_all_view, post_keeps, post_view, posted, side_path, telling_news, telling_receiver, view}
 use Rattle.dist_model.specs.Exits.{carry_out, demonitors, exit_for, exits, finish, link_exit, linked_exit, monitor_exits}
-use Rattle.dist_model.specs.Items.{Item, Signalled, receiver_of, telling, word_in}
-use Rattle.dist_model.specs.Linking.{exit_follows, link, link_by, link_new, replies, take_link, take_link_by}
-use Rattle.dist_model.specs.Links.{Exits, LinkWord, Says, heard, noconnection, reply}
+use Rattle.dist_model.specs.Items.{Item, Signalled, news_in, receiver_of, telling}
+use Rattle.dist_model.specs.Linking.{exit_follows, link, link_by, link_new, take_link, take_link_by}
+use Rattle.dist_model.specs.Links.{Exits, LinkNews, Says, heard, noconnection, reply}
 use Rattle.dist_model.specs.Names.{Name, pair_cmp, same_name, same_pid}
-use Rattle.dist_model.specs.Node.{Ended, Life, Living, Node, end_in, end_of, is_living_life, living, never, reaches, route, route_in, side_where, traps_life}
+use Rattle.dist_model.specs.Node.{Ended, Life, Living, Node, end_of, is_living_life, living, never, reaches, route, route_in, side_where, traps_life}
 use Rattle.dist_model.specs.Sides.{TrunkSide, is_losing, is_up}
 use Rattle.dist_model.specs.Work.{Effect, Envelope, LinkExit, Work, delivered, keep_local, post, post_all, post_to, put, report, send_on, set_end, set_life}
 use Rattle.erl_control.specs.declared.signal.Signal.{Signal}
@@ -73,9 +74,9 @@ pub record NodeKept (n : Node) : Type 0 where
 
 -- what a local list holds about links: between two that were spawned here, and are two
 abbrev pub HomeItem : (Pid → Bool) → Item → Type 0
-HomeItem f x = (a b : Pid) → (word_in a b x ≡ [] → ⊥) → (f a ≡ false) × (f b ≡ false) × (same_pid a b ≡ false)
+HomeItem f x = (a b : Pid) → (news_in a b x ≡ [] → ⊥) → (f a ≡ false) × (f b ≡ false) × (same_pid a b ≡ false)
 
-pub home_said : (f : Pid → Bool) (a b : Pid) (s : LinkWord) → (f a ≡ false) × (f b ≡ false) × (same_pid a b ≡ false) → HomeItem f (Signalled (telling a b s))
+pub home_said : (f : Pid → Bool) (a b : Pid) (s : LinkNews) → (f a ≡ false) × (f b ≡ false) × (same_pid a b ≡ false) → HomeItem f (Signalled (telling a b s))
 home_said f a b s h x y n = go (same_pid a x && same_pid b y) refl
   where
     go : (t : Bool) → (same_pid a x && same_pid b y) ≡ t → (f x ≡ false) × (f y ≡ false) × (same_pid x y ≡ false)
@@ -84,10 +85,10 @@ home_said f a b s h x y n = go (same_pid a x && same_pid b y) refl
         let xe : a ≡ x = same_pid_true a x v.0 in
         let ye : b ≡ y = same_pid_true b y v.1 in
         (sym (ap f xe) ∙ h.0, sym (ap f ye) ∙ h.1, sym (ap (λ z. same_pid z y) xe) ∙ sym (ap (same_pid a) ye) ∙ h.2)
-    go false e = absurd (n (telling_word a b x y s ∙ ap (λ t. cond t (s ∷ []) []) e))
+    go false e = absurd (n (telling_news a b x y s ∙ ap (λ t. cond t (s ∷ []) []) e))
 
-pub home_saying : (f : Pid → Bool) (a b : Pid) (s : LinkWord) → HomeItem f (Signalled (telling a b s)) → (f a ≡ false) × (f b ≡ false) × (same_pid a b ≡ false)
-home_saying f a b s h = h a b (λ e. let n : s ∷ [] ≡ [] = sym (telling_word a b a b s ∙ ap (λ t. cond (t && same_pid b b) (s ∷ []) []) (same_pid_refl a) ∙ ap (λ t. cond t (s ∷ []) []) (same_pid_refl b)) ∙ e in cc)
+pub home_saying : (f : Pid → Bool) (a b : Pid) (s : LinkNews) → HomeItem f (Signalled (telling a b s)) → (f a ≡ false) × (f b ≡ false) × (same_pid a b ≡ false)
+home_saying f a b s h = h a b (λ e. let n : s ∷ [] ≡ [] = sym (telling_news a b a b s ∙ ap (λ t. cond (t && same_pid b b) (s ∷ []) []) (same_pid_refl a) ∙ ap (λ t. cond t (s ∷ []) []) (same_pid_refl b)) ∙ e in cc)
 
 abbrev pub Homely : (Pid → Bool) → List Item → Type 0
 Homely f [] = Unit {0}
@@ -100,7 +101,7 @@ Homely-push f (y ∷ ys) x h k = (h.0, Homely-push f ys x h.1 k)
 abbrev pub home_of : Node → Type 0
 home_of n = Homely (λ p. never n p) n.local
 
-home_plain : (f : Pid → Bool) (x : Item) → ((p q : Pid) → word_in p q x ≡ []) → HomeItem f x
+home_plain : (f : Pid → Bool) (x : Item) → ((p q : Pid) → news_in p q x ≡ []) → HomeItem f x
 home_plain f x none a b n = absurd (n (none a b))
 
 -- an item may be posted to y: it is plain, or y is another node, or both were spawned here
@@ -190,7 +191,7 @@ pub record Moves (o o' : Work) : Type 0 where
   pub routed : AllRouted o.node.sides o.sent → AllRouted o'.node.sides o'.sent
   pub nevers : (p : Pid) → never o.node p ≡ false → never o'.node p ≡ false
   pub home : NodeKept o.node → home_of o.node → home_of o'.node
-  pub views : NodeKept o.node → (b : List LinkWord) (p q : Pid) (c : Side) → reaches o.node q.node ≡ true → Kept (view b o p q) c → Kept (view b o' p q) c
+  pub views : NodeKept o.node → (b : List LinkNews) (p q : Pid) (c : Side) → reaches o.node q.node ≡ true → Kept (view b o p q) c → Kept (view b o' p q) c
 
 pub reach_along : (m n : Node) → n.sides ≡ m.sides → n.mint.name ≡ m.mint.name → (y : Name) → reaches n y ≡ reaches m y
 reach_along m n s e y = λ i. same_name y (e i) || is_some (route_in (fm.entries (s i)) y)
@@ -235,7 +236,7 @@ set_life_living m p (Some l) x h = ap is_living_life (fm.get-insert pid_total m 
 put_living : (p : Pid) (t : Data) (o : Work) (x : Pid) → living ((put p t o).node) x ≡ living o.node x
 put_living p t o x = set_life_living o.node.lives p (delivered (fm.get o.node.lives p) t) x (λ h. living_received (fm.get o.node.lives p) t ∙ ap (λ v. is_living_life (fm.get o.node.lives v)) (sym (same_pid_true x p h)))
 
-put_view : (b : List LinkWord) (x : Pid) (t : Data) (o : Work) (p q : Pid) → view b (put x t o) p q ≡ view b o p q
+put_view : (b : List LinkNews) (x : Pid) (t : Data) (o : Work) (p q : Pid) → view b (put x t o) p q ≡ view b o p q
 put_view b x t o p q = side_path (view b (put x t o) p q) (view b o p q) refl (ap (λ v. not v && not (never o.node p)) (put_living x t o p)) refl refl
 
 pub puts : (x : Pid) (t : Data) (o : Work) → Moves o (put x t o)
@@ -261,7 +262,7 @@ keeps_finish_at r a b g k =
 not_over : (n : Node) (p : Pid) → living n p ≡ true → over n p ≡ false
 not_over n p l = ap (λ v. not v && not (never n p)) l
 
-finish_views : (x : Pid) (r : Data) (o : Work) → living o.node x ≡ true → NodeKept o.node → (b : List LinkWord) (p q : Pid) (c : Side) → reaches o.node q.node ≡ true → (t : Bool) → same_pid p x ≡ t → Kept (view b o p q) c → Kept (view b (finish x r o) p q) c
+finish_views : (x : Pid) (r : Data) (o : Work) → living o.node x ≡ true → NodeKept o.node → (b : List LinkNews) (p q : Pid) (c : Side) → reaches o.node q.node ≡ true → (t : Bool) → same_pid p x ≡ t → Kept (view b o p q) c → Kept (view b (finish x r o) p q) c
 finish_views x r o l n b p q c reach true e k =
     let h : p ≡ x = same_pid_true p x e in
     let lp : living o.node p ≡ true = subst (λ v. living o.node v ≡ true) (sym h) l in
@@ -344,7 +345,7 @@ link_exits p q r o l =
 abbrev pub ended_at : Bool → End → Side → Side
 ended_at t e a = record { end = cond t e a.end; gone = a.gone; drawn = a.drawn; sent = a.sent }
 
-pub set_view : (b : List LinkWord) (x y : Pid) (e : End) (o : Work) (p q : Pid) → view b (set_end x y e o) p q ≡ ended_at (same_pid p x && same_pid q y) e (view b o p q)
+pub set_view : (b : List LinkNews) (x y : Pid) (e : End) (o : Work) (p q : Pid) → view b (set_end x y e o) p q ≡ ended_at (same_pid p x && same_pid q y) e (view b o p q)
 set_view b x y e o p q = side_path (view b (set_end x y e o) p q) (ended_at (same_pid p x && same_pid q y) e (view b o p q))
     (set_in-get o.node.ends (x, y) e (p, q) ∙ ap (λ t. cond t e (end_of o.node p q)) (same_pair p q x y)) refl refl refl
 
@@ -396,7 +397,7 @@ post_kept y x o k = record {
 }
 
 -- an item that is no signal about a link
-pub posts_other : (y : Name) (x : Item) (o : Work) → ((p q : Pid) → word_in p q x ≡ []) → Moves o (post_to y x o)
+pub posts_other : (y : Name) (x : Item) (o : Work) → ((p q : Pid) → news_in p q x ≡ []) → Moves o (post_to y x o)
 posts_other y x o none = record {
   sides = post_keeps (λ n. n.sides) (λ n m. refl) y x o;
   dialed = post_keeps (λ n. n.dialed) (λ n m. refl) y x o;
@@ -411,22 +412,22 @@ posts_other y x o none = record {
 }
 
 -- p's end for q is set, and a signal goes to q
-abbrev pub told : End → LinkWord → Side → Side
+abbrev pub told : End → LinkNews → Side → Side
 told e s a = record { end = e; gone = a.gone; drawn = a.drawn; sent = a.sent ++ s ∷ [] }
 
-pub told_view : (b : List LinkWord) (x y : Pid) (e : End) (s : LinkWord) (o : Work) (p q : Pid) → reaches o.node q.node ≡ true → (t : Bool) → (same_pid p x && same_pid q y) ≡ t
+pub told_view : (b : List LinkNews) (x y : Pid) (e : End) (s : LinkNews) (o : Work) (p q : Pid) → reaches o.node q.node ≡ true → (t : Bool) → (same_pid p x && same_pid q y) ≡ t
     → view b (post_to y.node (Signalled (telling x y s)) (set_end x y e o)) p q ≡ cond t (told e s (view b o p q)) (view b o p q)
 told_view b x y e s o p q reach true h =
     let v = and_both (same_pid p x) (same_pid q y) h in
     let w : (same_pid x p && same_pid y q) ≡ true = ap (λ t. t && same_pid y q) (same_pid_is x p (sym (same_pid_true p x v.0))) ∙ same_pid_is y q (sym (same_pid_true q y v.1)) in
     post_view b y.node (Signalled (telling x y s)) (set_end x y e o) p q reach (linking_suits x y p q s)
-    ∙ ap (more (view b (set_end x y e o) p q)) (telling_word x y p q s)
+    ∙ ap (more (view b (set_end x y e o) p q)) (telling_news x y p q s)
     ∙ ap (λ a. more a (cond (same_pid x p && same_pid y q) (s ∷ []) [])) (set_view b x y e o p q)
     ∙ ap (λ t. more (ended_at t e (view b o p q)) (cond (same_pid x p && same_pid y q) (s ∷ []) [])) h
     ∙ ap (λ t. more (ended_at true e (view b o p q)) (cond t (s ∷ []) [])) w
 told_view b x y e s o p q reach false h =
     post_view b y.node (Signalled (telling x y s)) (set_end x y e o) p q reach (linking_suits x y p q s)
-    ∙ ap (more (view b (set_end x y e o) p q)) (telling_word x y p q s)
+    ∙ ap (more (view b (set_end x y e o) p q)) (telling_news x y p q s)
     ∙ ap (λ a. more a (cond (same_pid x p && same_pid y q) (s ∷ []) [])) (set_view b x y e o p q)
     ∙ ap (λ t. more (ended_at t e (view b o p q)) (cond (same_pid x p && same_pid y q) (s ∷ []) [])) h
     ∙ ap (λ t. more (view b o p q) (cond t (s ∷ []) [])) (other_way x y p q h)
@@ -472,7 +473,7 @@ links_reached x y o v l reach n = record {
   views = λ nk b p q c r k. go b p q c r k (same_pid p x && same_pid q y) refl;
 }
   where
-    go : (b : List LinkWord) (p q : Pid) (c : Side) → reaches o.node q.node ≡ true → Kept (view b o p q) c → (t : Bool) → (same_pid p x && same_pid q y) ≡ t → Kept (view b (post_to y.node (Signalled (telling x y (Says LinkSignal.Link))) (set_end x y End.Active o)) p q) c
+    go : (b : List LinkNews) (p q : Pid) (c : Side) → reaches o.node q.node ≡ true → Kept (view b o p q) c → (t : Bool) → (same_pid p x && same_pid q y) ≡ t → Kept (view b (post_to y.node (Signalled (telling x y (Says LinkSignal.Link))) (set_end x y End.Active o)) p q) c
     go b p q c r k true h = subst (λ a. Kept a c) (sym (told_view b x y End.Active (Says LinkSignal.Link) o p q r true h))
         (keeps_activate_at (view b o p q) c (at_pair (λ u v. over o.node u ≡ false) p q x y h (not_over o.node x l)) (at_pair (λ u v. end_of o.node u v ≡ End.Active → ⊥) p q x y h n) k)
     go b p q c r k false h = subst (λ a. Kept a c) (sym (told_view b x y End.Active (Says LinkSignal.Link) o p q r false h)) k
@@ -548,16 +549,16 @@ unlinks_as x y o j l e lt =
       views = λ nk b p q c r k. go b p q c r k (same_pid p x && same_pid q y) refl;
     }
   where
-    go : (b : List LinkWord) (p q : Pid) (c : Side) → reaches o.node q.node ≡ true → Kept (view b o p q) c → (t : Bool) → (same_pid p x && same_pid q y) ≡ t → Kept (view b (unlink_at j x y o) p q) c
+    go : (b : List LinkNews) (p q : Pid) (c : Side) → reaches o.node q.node ≡ true → Kept (view b o p q) c → (t : Bool) → (same_pid p x && same_pid q y) ≡ t → Kept (view b (unlink_at j x y o) p q) c
     go b p q c r k true h = subst (λ a. Kept a c) (sym (told_view b x y (End.Pending j) (Says (LinkSignal.Unlink j)) (draw_unlink j o) p q r true h))
         (keeps_unlink_at (view b o p q) c j (at_pair (λ u v. over o.node u ≡ false) p q x y h (not_over o.node x l)) (at_pair (λ u v. end_of o.node u v ≡ End.Active) p q x y h e) lt k)
     go b p q c r k false h = subst (λ a. Kept a c) (sym (told_view b x y (End.Pending j) (Says (LinkSignal.Unlink j)) (draw_unlink j o) p q r false h)) (keeps_draw (view b o p q) c j lt k)
 
 -- a signal about a link is taken
-abbrev pub with_sent : Side → List LinkWord → Side
+abbrev pub with_sent : Side → List LinkNews → Side
 with_sent c L = record { end = c.end; gone = c.gone; drawn = c.drawn; sent = L }
 
-pub record Takes (x y : Pid) (s : LinkWord) (o o' : Work) : Type 0 where
+pub record Takes (x y : Pid) (s : LinkNews) (o o' : Work) : Type 0 where
   pub sides : o'.node.sides ≡ o.node.sides
   pub dialed : o'.node.dialed ≡ o.node.dialed
   pub name : o'.node.mint.name ≡ o.node.mint.name
@@ -567,10 +568,10 @@ pub record Takes (x y : Pid) (s : LinkWord) (o o' : Work) : Type 0 where
   pub routed : AllRouted o.node.sides o.sent → AllRouted o'.node.sides o'.sent
   pub nevers : (p : Pid) → never o.node p ≡ false → never o'.node p ≡ false
   pub home : NodeKept o.node → held o.node y.node ≡ true → home_of o.node → home_of o'.node
-  pub here : NodeKept o.node → held o.node y.node ≡ true → (b : List LinkWord) (c : Side) (L : List LinkWord) → reaches o.node y.node ≡ true → Kept (view b o x y) (with_sent c (s ∷ L)) → Kept (view b o' x y) (with_sent c L)
-  pub others : NodeKept o.node → held o.node y.node ≡ true → (b : List LinkWord) (p q : Pid) (c : Side) → reaches o.node q.node ≡ true → (same_pid p x && same_pid q y) ≡ false → Kept (view b o p q) c → Kept (view b o' p q) c
+  pub here : NodeKept o.node → held o.node y.node ≡ true → (b : List LinkNews) (c : Side) (L : List LinkNews) → reaches o.node y.node ≡ true → Kept (view b o x y) (with_sent c (s ∷ L)) → Kept (view b o' x y) (with_sent c L)
+  pub others : NodeKept o.node → held o.node y.node ≡ true → (b : List LinkNews) (p q : Pid) (c : Side) → reaches o.node q.node ≡ true → (same_pid p x && same_pid q y) ≡ false → Kept (view b o p q) c → Kept (view b o' p q) c
 
-pub takes_then : (x y : Pid) (s : LinkWord) (a b c : Work) → Takes x y s a b → Moves b c → Takes x y s a c
+pub takes_then : (x y : Pid) (s : LinkNews) (a b c : Work) → Takes x y s a b → Moves b c → Takes x y s a c
 takes_then x y s a b c f g = record {
   sides = g.sides ∙ f.sides;
   dialed = g.dialed ∙ f.dialed;
@@ -585,15 +586,15 @@ takes_then x y s a b c f g = record {
   others = λ n h l p q d r t k. g.views (f.keeps n h) l p q d (reach_along a.node b.node f.sides f.name q.node ∙ r) (f.others n h l p q d r t k);
 }
 
-suits_replies : (p q x y : Pid) (ss : List LinkWord) → AllSuit p q (replies x y ss)
+suits_replies : (p q x y : Pid) (ss : List LinkNews) → AllSuit p q (replies x y ss)
 suits_replies p q x y [] = tt
 suits_replies p q x y (s ∷ ss) = (subst (λ (z : Pid). Suits z.node (Signalled (telling x y s)) p q) (sym (telling_receiver x y s)) (linking_suits x y p q s), suits_replies p q x y ss)
 
-posted_replies : (t : Bool) (p q x y : Pid) (ss : List LinkWord) → (same_pid x p && same_pid y q) ≡ t → posted p q (replies x y ss) ≡ cond t ss []
+posted_replies : (t : Bool) (p q x y : Pid) (ss : List LinkNews) → (same_pid x p && same_pid y q) ≡ t → posted p q (replies x y ss) ≡ cond t ss []
 posted_replies true p q x y [] h = refl
-posted_replies true p q x y (s ∷ ss) h = ap (λ l. l ++ posted p q (replies x y ss)) (telling_word x y p q s) ∙ ap (λ t. cond t (s ∷ []) [] ++ posted p q (replies x y ss)) h ∙ ap (λ l. s ∷ l) (posted_replies true p q x y ss h)
+posted_replies true p q x y (s ∷ ss) h = ap (λ l. l ++ posted p q (replies x y ss)) (telling_news x y p q s) ∙ ap (λ t. cond t (s ∷ []) [] ++ posted p q (replies x y ss)) h ∙ ap (λ l. s ∷ l) (posted_replies true p q x y ss h)
 posted_replies false p q x y [] h = refl
-posted_replies false p q x y (s ∷ ss) h = ap (λ l. l ++ posted p q (replies x y ss)) (telling_word x y p q s) ∙ ap (λ t. cond t (s ∷ []) [] ++ posted p q (replies x y ss)) h ∙ posted_replies false p q x y ss h
+posted_replies false p q x y (s ∷ ss) h = ap (λ l. l ++ posted p q (replies x y ss)) (telling_news x y p q s) ∙ ap (λ t. cond t (s ∷ []) [] ++ posted p q (replies x y ss)) h ∙ posted_replies false p q x y ss h
 
 post_all_kept : (es : List Signal) (o : Work) → NodeKept o.node → NodeKept ((post_all es o).node)
 post_all_kept [] o k = k
@@ -613,23 +614,23 @@ one_pair : (x y : Pid) → (same_pid x x && same_pid y y) ≡ true
 one_pair x y = ap (λ t. t && same_pid y y) (same_pid_refl x) ∙ same_pid_refl y
 
 -- after replies by x to y
-replied_here : (b : List LinkWord) (x y : Pid) (ss : List LinkWord) (o : Work) → reaches o.node y.node ≡ true → view b (post_all (replies x y ss) o) x y ≡ more (view b o x y) ss
+replied_here : (b : List LinkNews) (x y : Pid) (ss : List LinkNews) (o : Work) → reaches o.node y.node ≡ true → view b (post_all (replies x y ss) o) x y ≡ more (view b o x y) ss
 replied_here b x y ss o r = post_all_view b (replies x y ss) o x y r (suits_replies x y x y ss) ∙ ap (more (view b o x y)) (posted_replies true x y x y ss (one_pair x y))
 
-replied_there : (b : List LinkWord) (x y : Pid) (ss : List LinkWord) (o : Work) (p q : Pid) → reaches o.node q.node ≡ true → (same_pid p x && same_pid q y) ≡ false → view b (post_all (replies x y ss) o) p q ≡ view b o p q
+replied_there : (b : List LinkNews) (x y : Pid) (ss : List LinkNews) (o : Work) (p q : Pid) → reaches o.node q.node ≡ true → (same_pid p x && same_pid q y) ≡ false → view b (post_all (replies x y ss) o) p q ≡ view b o p q
 replied_there b x y ss o p q r t = post_all_view b (replies x y ss) o p q r (suits_replies p q x y ss) ∙ ap (more (view b o p q)) (posted_replies false p q x y ss (turned x y p q t))
     ∙ side_path (more (view b o p q) []) (view b o p q) refl refl refl (append-nil _)
 
-takes_at : (g : Bool) (a b : Side) (s : LinkWord) (L : List LinkWord) → a.gone ≡ g → Kept a (with_sent b (s ∷ L)) → Kept (record { end = cond g a.end (heard a.end s); gone = a.gone; drawn = a.drawn; sent = a.sent ++ reply g s }) (with_sent b L)
+takes_at : (g : Bool) (a b : Side) (s : LinkNews) (L : List LinkNews) → a.gone ≡ g → Kept a (with_sent b (s ∷ L)) → Kept (record { end = cond g a.end (heard a.end s); gone = a.gone; drawn = a.drawn; sent = a.sent ++ reply g s }) (with_sent b L)
 takes_at g a b s L h k =
     let P : Bool → Type 0 = λ v. Kept (record { end = a.end; gone = v; drawn = a.drawn; sent = a.sent }) (with_sent b (s ∷ L)) → Kept (record { end = cond g a.end (heard a.end s); gone = v; drawn = a.drawn; sent = a.sent ++ reply g s }) (with_sent b L) in
     subst P (sym h) (keeps_take a.end g a.drawn a.sent b.end b.gone b.drawn s L) k
 
-replies_home : (z : Name) (f : Pid → Bool) (x y : Pid) (ss : List LinkWord) → f x ≡ false → (same_name y.node z ≡ true → (f y ≡ false) × (same_pid x y ≡ false)) → PostsHome z f (replies x y ss)
+replies_home : (z : Name) (f : Pid → Bool) (x y : Pid) (ss : List LinkNews) → f x ≡ false → (same_name y.node z ≡ true → (f y ≡ false) × (same_pid x y ≡ false)) → PostsHome z f (replies x y ss)
 replies_home z f x y [] hx hy = tt
 replies_home z f x y (s ∷ ss) hx hy = (λ e. let d = hy (ap (λ (u : Pid). same_name u.node z) (sym (telling_receiver x y s)) ∙ e) in home_said f x y s (hx, d.0, d.1), replies_home z f x y ss hx hy)
 
-takes_living : (x y : Pid) (s : LinkWord) (o : Work) → (same_name y.node o.node.mint.name ≡ true → (never o.node y ≡ false) × (same_pid x y ≡ false)) → never o.node x ≡ false → living o.node x ≡ true → Takes x y s o (post_all (replies x y (reply false s)) (set_end x y (heard (end_of o.node x y) s) o))
+takes_living : (x y : Pid) (s : LinkNews) (o : Work) → (same_name y.node o.node.mint.name ≡ true → (never o.node y ≡ false) × (same_pid x y ≡ false)) → never o.node x ≡ false → living o.node x ≡ true → Takes x y s o (post_all (replies x y (reply false s)) (set_end x y (heard (end_of o.node x y) s) o))
 takes_living x y s o v nx l =
     let e = heard (end_of o.node x y) s in
     let o1 = set_end x y e o in
@@ -651,7 +652,7 @@ takes_living x y s o v nx l =
           (sym (replied_there b x y (reply false s) o1 p q r t ∙ set_view b x y e o p q ∙ ap (λ t. ended_at t e (view b o p q)) t)) k;
     }
 
-takes_over : (x y : Pid) (s : LinkWord) (o : Work) → (same_name y.node o.node.mint.name ≡ true → (never o.node y ≡ false) × (same_pid x y ≡ false)) → never o.node x ≡ false → over o.node x ≡ true → Takes x y s o (post_all (replies x y (reply true s)) o)
+takes_over : (x y : Pid) (s : LinkNews) (o : Work) → (same_name y.node o.node.mint.name ≡ true → (never o.node y ≡ false) × (same_pid x y ≡ false)) → never o.node x ≡ false → over o.node x ≡ true → Takes x y s o (post_all (replies x y (reply true s)) o)
 takes_over x y s o v nx l =
     let es = replies x y (reply true s) in
     record {
@@ -668,7 +669,7 @@ takes_over x y s o v nx l =
       others = λ n h b p q c r t k. subst (λ a. Kept a c) (sym (replied_there b x y (reply true s) o p q r t)) k;
     }
 
-exit_moves : (e : End) (s : LinkWord) (x y : Pid) (o : Work) → living o.node x ≡ true → Moves o (exit_follows e s x y o)
+exit_moves : (e : End) (s : LinkNews) (x y : Pid) (o : Work) → living o.node x ≡ true → Moves o (exit_follows e s x y o)
 exit_moves e (Says LinkSignal.Link) x y o l = stays o
 exit_moves e (Says (LinkSignal.Unlink j)) x y o l = stays o
 exit_moves e (Says (LinkSignal.Ack j)) x y o l = stays o
@@ -677,7 +678,7 @@ exit_moves End.Active (Exits r) x y o l = link_exits x y r o l
 exit_moves (End.Pending i) (Exits r) x y o l = stays o
 
 -- whoever was spawned takes it by the rules of the pair
-pub takes_link : (x y : Pid) (s : LinkWord) (o : Work) → (same_name y.node o.node.mint.name ≡ true → (never o.node y ≡ false) × (same_pid x y ≡ false)) → never o.node x ≡ false → Takes x y s o (take_link x y s o)
+pub takes_link : (x y : Pid) (s : LinkNews) (o : Work) → (same_name y.node o.node.mint.name ≡ true → (never o.node y ≡ false) × (same_pid x y ≡ false)) → never o.node x ≡ false → Takes x y s o (take_link x y s o)
 takes_link x y s o u v = go (living o.node x) refl
   where
     go : (t : Bool) → living o.node x ≡ t → Takes x y s o (take_link_by t x y s o)

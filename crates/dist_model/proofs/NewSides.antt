@@ -9,18 +9,21 @@ use Rattle.dist_model.proofs.Pairs.{Met, changed, up_joined}
 use Rattle.dist_model.proofs.Primitives.{good_pushed, good_resided}
 use Rattle.dist_model.proofs.Reside.{Fits, resided, side_after_same, with_side_at}
 use Rattle.dist_model.proofs.Routes.{node_of_name, node_of_set_same, side_where_none, some_same}
+use Rattle.dist_model.proofs.Seeing.{list_in}
 use Rattle.dist_model.proofs.Sides.{holds, joined, side_at}
 use Rattle.dist_model.proofs.Steps.{kind}
 use Rattle.dist_model.proofs.Table.{Good, Row, begun, good_changed, has, holds_side, is_accept, is_challenge, is_reply, may_be_up, role_state, up_once}
 use Rattle.dist_model.specs.Commands.{Dialed, Goes, Refuses}
 use Rattle.dist_model.specs.Dialing.{dial, draw_trunk, has_name, next_trunk}
-use Rattle.dist_model.specs.Handshake.{flag_word, with_side, write}
-use Rattle.dist_model.specs.Items.{Handshake, Item, SendName, words}
+use Rattle.dist_model.specs.Handshake.{with_side, write}
+use Rattle.dist_model.specs.Items.{Handshake, Item, news}
 use Rattle.dist_model.specs.Names.{Name, same_name}
 use Rattle.dist_model.specs.Node.{Node, side_where}
 use Rattle.dist_model.specs.Sides.{Accepting, Asked, AwaitsAck, AwaitsChallenge, AwaitsStatus, Gone, Losing, Parked, State, TrunkSide, Up, is_gone, is_up}
 use Rattle.dist_model.specs.Work.{at_work}
-use Rattle.dist_model.specs.World.{World, carried, ends_in, list_in, list_to, node_of, set_node}
+use Rattle.dist_model.specs.World.{World, carried, ends_in, list_to, node_of, set_node}
+use Rattle.erl_handshake.specs.Flags.{mandatory}
+use Rattle.erl_handshake.specs.declared.message.ShakeMsg.{ShakeMsg}
 use Rattle.erl_names.specs.declared.trunk.TrunkId.{TrunkId}
 use Rattle.erl_term.specs.declared.refusal.Refusal.{Refusal}
 
@@ -85,7 +88,7 @@ good_new w x n t s hx none f met j role count nh kind hold g =
     let l1 : list_to w.lists t t.dialer ≡ [] = list_none (fm.get w.lists (t, t.dialer)) (keyless t.dialer) in
     let l2 : list_to w.lists t s.peer ≡ [] = list_none (fm.get w.lists (t, s.peer)) (keyless s.peer) in
     record {
-      before = λ k. (nh di, ap (has is_accept) l1, λ p q. ap (words p q) l1, λ p q. ap (words p q) l2);
+      before = λ k. (nh di, ap (has is_accept) l1, λ p q. ap (news p q) l1, λ p q. ap (news p q) l2);
       early = λ k. (ap holds_side strange, ap (has is_reply) l2, ap (has is_accept) l1);
       waits = λ k. (ap (has is_challenge) l1, ap (has is_reply) l2);
     })
@@ -129,7 +132,7 @@ not_not false h = cc
 
 -- a new attempt
 dialed : (w : World) (x : Name) (n : Node) (y : Name) (k : ℕ) → node_of w.nodes x ≡ Some n → Good w → same_name y n.mint.name ≡ false → is_some (side_where (λ v. not (is_gone v)) y (fm.entries n.sides)) ≡ false
-    → Good (record { names = w.names; nodes = set_node w.nodes x (with_side_at (draw_trunk n) (next_trunk n) (record { peer = y; peer_creation = 0; state = AwaitsStatus k })); lists = carried w.lists ((record { trunk = next_trunk n; target = y; item = Handshake (SendName n.mint.name n.mint.creation flag_word) }) ∷ []) })
+    → Good (record { names = w.names; nodes = set_node w.nodes x (with_side_at (draw_trunk n) (next_trunk n) (record { peer = y; peer_creation = 0; state = AwaitsStatus k })); lists = carried w.lists ((record { trunk = next_trunk n; target = y; item = Handshake (ShakeMsg.SendName mandatory n.mint.creation n.mint.name) }) ∷ []) })
 dialed w x n y k hx g ny busy =
     let s : TrunkSide = record { peer = y; peer_creation = 0; state = AwaitsStatus k } in
     let t = next_trunk n in
@@ -150,7 +153,7 @@ dialed w x n y k hx g ny busy =
     let g3 : Good (record { names = w.names; nodes = set_node w.nodes x (with_side_at (draw_trunk n) t s); lists = w.lists }) =
     subst (λ ns. Good (record { names = w.names; nodes = ns; lists = w.lists })) (set_twice w.nodes x (draw_trunk n) (with_side_at (draw_trunk n) t s) nx) g2 in
     let here : node_of (set_node w.nodes x (with_side_at (draw_trunk n) t s)) x ≡ Some (with_side_at (draw_trunk n) t s) = node_of_set_same w.nodes x n (with_side_at (draw_trunk n) t s) hx nx in
-    good_pushed (record { names = w.names; nodes = set_node w.nodes x (with_side_at (draw_trunk n) t s); lists = w.lists }) t y (SendName n.mint.name n.mint.creation flag_word) g3
+    good_pushed (record { names = w.names; nodes = set_node w.nodes x (with_side_at (draw_trunk n) t s); lists = w.lists }) t y (ShakeMsg.SendName mandatory n.mint.creation n.mint.name) g3
     (s, with_side_at (draw_trunk n) t s, ap (node_of (set_node w.nodes x (with_side_at (draw_trunk n) t s))) nx ∙ here, side_after_same (draw_trunk n) t s, inr refl)
     (λ d a u hd hu ha. (λ j. cc, λ j. cc, λ j. cc, λ j. cc)) (λ j z l. absurd (neither j))
   where
@@ -162,7 +165,7 @@ pub good_dial : (w : World) (x : Name) (n : Node) (y : Name) (k : ℕ) → node_
 good_dial w x n y k hx g = go (same_name y n.mint.name) refl (not (has_name y w.names)) (is_some (side_where (λ v. not (is_gone v)) y (fm.entries n.sides))) refl (not (nat_lt (n.dialed + 1) (2 ^ 64)))
   where
     go : (a : Bool) → same_name y n.mint.name ≡ a → (b : Bool) (c : Bool) → is_some (side_where (λ v. not (is_gone v)) y (fm.entries n.sides)) ≡ c → (d : Bool)
-        → Good ((ends_in w x w.lists (cond a (Refuses Refusal.SelfDial) (cond b (Refuses Refusal.NothingThere) (cond c (Refuses Refusal.Busy) (cond d (Refuses Refusal.IdsUsedUp) (Goes (Dialed (next_trunk n)) (write (next_trunk n) y (SendName n.mint.name n.mint.creation flag_word) (with_side (next_trunk n) (record { peer = y; peer_creation = 0; state = AwaitsStatus k }) (at_work (draw_trunk n)))))))))).world)
+        → Good ((ends_in w x w.lists (cond a (Refuses Refusal.SelfDial) (cond b (Refuses Refusal.NothingThere) (cond c (Refuses Refusal.Busy) (cond d (Refuses Refusal.IdsUsedUp) (Goes (Dialed (next_trunk n)) (write (next_trunk n) y (ShakeMsg.SendName mandatory n.mint.creation n.mint.name) (with_side (next_trunk n) (record { peer = y; peer_creation = 0; state = AwaitsStatus k }) (at_work (draw_trunk n)))))))))).world)
     go true ea b c ec d = g
     go false ea true c ec d = g
     go false ea false true ec d = g

@@ -1,27 +1,27 @@
 -- Two processes and their link, as each side of it is seen: words for the invariant of a pair.
-use Rattle.std.specs.Prelude.{◌≡◌, ℕ, ◌+◌, Bool, true, false, cond, not, List, [], ◌∷◌, ◌++◌, ◌==◌, nat_lt, ◌&&◌, ◌||◌, ◌↔◌, ◌⊎◌}
-use Rattle.dist_model.specs.Links.{Exits, LinkWord, Says, drained, heard, reply}
+use Rattle.std.specs.Prelude.{ℕ, ◌+◌, Bool, true, false, cond, List, [], ◌∷◌, ◌++◌, ◌==◌, ◌||◌}
+use Rattle.dist_model.specs.Links.{Exits, LinkNews, Says, drained, heard, reply}
 use Rattle.erl_term.specs.Data.{Data}
 use Rattle.link_core.specs.declared.end.End.{End}
 use Rattle.link_core.specs.declared.end.LinkSignal.{LinkSignal}
 
-abbrev pub is_link : LinkWord → Bool
+abbrev pub is_link : LinkNews → Bool
 is_link (Says LinkSignal.Link) = true
 is_link (Says (LinkSignal.Unlink j)) = false
 is_link (Says (LinkSignal.Ack j)) = false
 is_link (Exits r) = false
 
-abbrev pub is_exit : LinkWord → Bool
+abbrev pub is_exit : LinkNews → Bool
 is_exit (Says LinkSignal.Link) = false
 is_exit (Says (LinkSignal.Unlink j)) = false
 is_exit (Says (LinkSignal.Ack j)) = false
 is_exit (Exits r) = true
 
-abbrev pub has_link : List LinkWord → Bool
+abbrev pub has_link : List LinkNews → Bool
 has_link [] = false
 has_link (s ∷ L) = is_link s || has_link L
 
-abbrev pub has_exit : List LinkWord → Bool
+abbrev pub has_exit : List LinkNews → Bool
 has_exit [] = false
 has_exit (s ∷ L) = is_exit s || has_exit L
 
@@ -32,7 +32,7 @@ pub data Word : Type 0 where
   Unlinked : (id : ℕ) → Word
 
 -- the word that stands after w, if any, else w
-abbrev pub said : Word → LinkWord → Word
+abbrev pub said : Word → LinkNews → Word
 said w (Says LinkSignal.Link) = Linked
 said w (Says (LinkSignal.Unlink j)) = Unlinked j
 said w (Says (LinkSignal.Ack j)) = w
@@ -43,28 +43,28 @@ later w Silent = w
 later w Linked = Linked
 later w (Unlinked j) = Unlinked j
 
-abbrev pub last_word : List LinkWord → Word
+abbrev pub last_word : List LinkNews → Word
 last_word [] = Silent
 last_word (s ∷ L) = later (said Silent s) (last_word L)
 
-abbrev pub unlink_of : ℕ → LinkWord → ℕ
+abbrev pub unlink_of : ℕ → LinkNews → ℕ
 unlink_of i (Says LinkSignal.Link) = 0
 unlink_of i (Says (LinkSignal.Unlink j)) = cond (i == j) 1 0
 unlink_of i (Says (LinkSignal.Ack j)) = 0
 unlink_of i (Exits r) = 0
 
-abbrev pub ack_of : ℕ → LinkWord → ℕ
+abbrev pub ack_of : ℕ → LinkNews → ℕ
 ack_of i (Says LinkSignal.Link) = 0
 ack_of i (Says (LinkSignal.Unlink j)) = 0
 ack_of i (Says (LinkSignal.Ack j)) = cond (i == j) 1 0
 ack_of i (Exits r) = 0
 
 -- how many UNLINK_ID i, how many ACK i a list holds
-abbrev pub unlinks : ℕ → List LinkWord → ℕ
+abbrev pub unlinks : ℕ → List LinkNews → ℕ
 unlinks i [] = 0
 unlinks i (s ∷ L) = unlink_of i s + unlinks i L
 
-abbrev pub acks : ℕ → List LinkWord → ℕ
+abbrev pub acks : ℕ → List LinkNews → ℕ
 acks i [] = 0
 acks i (s ∷ L) = ack_of i s + acks i L
 
@@ -73,7 +73,7 @@ pub record Side : Type 0 where
   pub end : End
   pub gone : Bool
   pub drawn : ℕ
-  pub sent : List LinkWord
+  pub sent : List LinkNews
 
 -- a call of a process that has ended does nothing
 abbrev pub link_end : End → Side → Side
@@ -91,7 +91,7 @@ unlink_end End.None j a = a
 unlink_end End.Active j a = record { end = End.Pending j; gone = a.gone; drawn = j; sent = a.sent ++ Says (LinkSignal.Unlink j) ∷ [] }
 unlink_end (End.Pending i) j a = a
 
-abbrev pub farewell : End → Data → List LinkWord
+abbrev pub farewell : End → Data → List LinkNews
 farewell End.None r = []
 farewell End.Active r = Exits r ∷ []
 farewell (End.Pending i) r = []
@@ -101,7 +101,7 @@ finished true r a = a
 finished false r a = record { end = End.None; gone = true; drawn = a.drawn; sent = a.sent ++ farewell a.end r }
 
 -- the first signal is taken
-abbrev pub takes : Side → LinkWord → Side
+abbrev pub takes : Side → LinkNews → Side
 takes a s = record { end = cond a.gone a.end (heard a.end s); gone = a.gone; drawn = a.drawn; sent = a.sent ++ reply a.gone s }
 
 abbrev pub drew : ℕ → Side → Side

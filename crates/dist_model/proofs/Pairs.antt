@@ -8,7 +8,7 @@ use Rattle.dist_model.proofs.Moves.{AllRouted, NodeKept}
 use Rattle.dist_model.proofs.Routes.{at_place, node_of_name, node_of_set_other, node_of_set_same, some_same}
 use Rattle.dist_model.proofs.Sides.{Routed, SidesKept, at_place_none, joined, route_from, side_at, sides_kept}
 use Rattle.dist_model.proofs.Views.{side_of}
-use Rattle.dist_model.specs.Items.{Item, words}
+use Rattle.dist_model.specs.Items.{Item, news}
 use Rattle.dist_model.specs.Names.{Name, place_cmp, same_name}
 use Rattle.dist_model.specs.Node.{Node, route_in}
 use Rattle.dist_model.specs.Sides.{Accepting, Asked, AwaitsAck, AwaitsChallenge, AwaitsStatus, Gone, Losing, Parked, State, TrunkSide, Up, is_up}
@@ -30,7 +30,7 @@ pub record Met (ns : List Node) (t : TrunkId) (x : Name) : Type 0 where
 abbrev pub TrunkPairs : List Node → FinMap place_cmp (List Item) → Type 0
 TrunkPairs ns m = (x y : Name) (a b : Node) (t : TrunkId) (s v : TrunkSide) → node_of ns x ≡ Some a → node_of ns y ≡ Some b → side_at a t ≡ Some s → side_at b t ≡ Some v
     → s.peer ≡ y → v.peer ≡ x → is_up s.state ≡ true → joined v.state ≡ true → (p q : Pid) → p.node ≡ x → q.node ≡ y
-    → Kept (side_of a p q (words p q (list_to m t y))) (side_of b q p (words q p (list_to m t x)))
+    → Kept (side_of a p q (news p q (list_to m t y))) (side_of b q p (news q p (list_to m t x)))
 
 pub record WorldKept (w : World) : Type 0 where
   pub nodes : (x : Name) (n : Node) → node_of w.nodes x ≡ Some n → NodeKept n
@@ -53,8 +53,8 @@ module _ (w : World) (x : Name) (n : Node) (o : Work) (m' : FinMap place_cmp (Li
     (sd : o.node.sides ≡ n.sides) (nm : o.node.mint.name ≡ n.mint.name) (ko : NodeKept o.node) (ro : AllRouted o.node.sides o.sent)
     (lists : (t : TrunkId) (y : Name) → (y ≡ x → ⊥) → list_to m' t y ≡ list_to w.lists t y ++ at_place t y o.sent)
     (mover : (t : TrunkId) (s : TrunkSide) → side_at n t ≡ Some s → joined s.state ≡ true → (b : Node) (p q : Pid) → p.node ≡ x → q.node ≡ s.peer
-    → Kept (side_of n p q (words p q (list_to w.lists t s.peer))) (side_of b q p (words q p (list_to w.lists t x)))
-    → Kept (side_of o.node p q (words p q (list_to m' t s.peer))) (side_of b q p (words q p (list_to m' t x))))
+    → Kept (side_of n p q (news p q (list_to w.lists t s.peer))) (side_of b q p (news q p (list_to w.lists t x)))
+    → Kept (side_of o.node p q (news p q (list_to m' t s.peer))) (side_of b q p (news q p (list_to m' t x))))
     (k : WorldKept w) where
   name_x : n.mint.name ≡ x
   name_x = node_of_name w.nodes x n hx
@@ -123,28 +123,28 @@ module _ (w : World) (x : Name) (n : Node) (o : Work) (m' : FinMap place_cmp (Li
       let fn : side_at n t ≡ Some s = sym (at_x t) ∙ ap (λ m. side_at m t) na ∙ fa in
       let dz : x ≡ z → ⊥ = λ i. (k.sides x n hx).other t s fn (sz ∙ sym i ∙ sym name_x) in
       let old = k.trunks y z n b t s v (ap (node_of w.nodes) (sym e) ∙ hx) (sym (there z dz) ∙ hb) fn fb sz vy us jv p q py qz in
-      subst (λ m. Kept (side_of m p q (words p q (list_to m' t z))) (side_of b q p (words q p (list_to m' t y)))) na
-      (subst (λ c. Kept (side_of o.node p q (words p q (list_to m' t z))) (side_of b q p (words q p (list_to m' t c)))) e
-      (subst (λ c. Kept (side_of o.node p q (words p q (list_to m' t c))) (side_of b q p (words q p (list_to m' t x)))) sz
+      subst (λ m. Kept (side_of m p q (news p q (list_to m' t z))) (side_of b q p (news q p (list_to m' t y)))) na
+      (subst (λ c. Kept (side_of o.node p q (news p q (list_to m' t z))) (side_of b q p (news q p (list_to m' t c)))) e
+      (subst (λ c. Kept (side_of o.node p q (news p q (list_to m' t c))) (side_of b q p (news q p (list_to m' t x)))) sz
       (mover t s fn (up_joined s.state us) b p q (py ∙ sym e) (qz ∙ sym sz)
-      (subst (λ c. Kept (side_of n p q (words p q (list_to w.lists t c))) (side_of b q p (words q p (list_to w.lists t x)))) (sym sz)
-      (subst (λ c. Kept (side_of n p q (words p q (list_to w.lists t z))) (side_of b q p (words q p (list_to w.lists t c)))) (sym e) old))))))
+      (subst (λ c. Kept (side_of n p q (news p q (list_to w.lists t c))) (side_of b q p (news q p (list_to w.lists t x)))) (sym sz)
+      (subst (λ c. Kept (side_of n p q (news p q (list_to w.lists t z))) (side_of b q p (news q p (list_to w.lists t c)))) (sym e) old))))))
       (λ dy. by_name _ z
       (λ e.
       let nb : o.node ≡ b = some_same o.node b (sym here ∙ ap (node_of (set_node w.nodes x o.node)) e ∙ hb) in
       let fn : side_at n t ≡ Some v = sym (at_x t) ∙ ap (λ m. side_at m t) nb ∙ fb in
       let old = k.trunks y z a n t s v (sym (there y dy) ∙ ha) (ap (node_of w.nodes) (sym e) ∙ hx) fa fn sz vy us jv p q py qz in
-      kept_swap _ _ (subst (λ m. Kept (side_of m q p (words q p (list_to m' t y))) (side_of a p q (words p q (list_to m' t z)))) nb
-      (subst (λ c. Kept (side_of o.node q p (words q p (list_to m' t y))) (side_of a p q (words p q (list_to m' t c)))) e
-      (subst (λ c. Kept (side_of o.node q p (words q p (list_to m' t c))) (side_of a p q (words p q (list_to m' t x)))) vy
+      kept_swap _ _ (subst (λ m. Kept (side_of m q p (news q p (list_to m' t y))) (side_of a p q (news p q (list_to m' t z)))) nb
+      (subst (λ c. Kept (side_of o.node q p (news q p (list_to m' t y))) (side_of a p q (news p q (list_to m' t c)))) e
+      (subst (λ c. Kept (side_of o.node q p (news q p (list_to m' t c))) (side_of a p q (news p q (list_to m' t x)))) vy
       (mover t v fn jv a q p (qz ∙ sym e) (py ∙ sym vy)
-      (subst (λ c. Kept (side_of n q p (words q p (list_to w.lists t c))) (side_of a p q (words p q (list_to w.lists t x)))) (sym vy)
-      (subst (λ c. Kept (side_of n q p (words q p (list_to w.lists t y))) (side_of a p q (words p q (list_to w.lists t c)))) (sym e) (kept_swap _ _ old))))))))
+      (subst (λ c. Kept (side_of n q p (news q p (list_to w.lists t c))) (side_of a p q (news p q (list_to w.lists t x)))) (sym vy)
+      (subst (λ c. Kept (side_of n q p (news q p (list_to w.lists t y))) (side_of a p q (news p q (list_to w.lists t c)))) (sym e) (kept_swap _ _ old))))))))
       (λ dz.
       let a1 : list_to m' t z ≡ list_to w.lists t z = lists t z (λ i. dz (sym i)) ∙ ap (λ l. list_to w.lists t z ++ l) (not_between z y b t v (sym (there z dz) ∙ hb) fb vy dz dy) ∙ append-nil (list_to w.lists t z) in
       let a2 : list_to m' t y ≡ list_to w.lists t y = lists t y (λ i. dy (sym i)) ∙ ap (λ l. list_to w.lists t y ++ l) (not_between y z a t s (sym (there y dy) ∙ ha) fa sz dy dz) ∙ append-nil (list_to w.lists t y) in
-      subst (λ l. Kept (side_of a p q (words p q l)) (side_of b q p (words q p (list_to m' t y)))) (sym a1)
-      (subst (λ l. Kept (side_of a p q (words p q (list_to w.lists t z))) (side_of b q p (words q p l))) (sym a2)
+      subst (λ l. Kept (side_of a p q (news p q l)) (side_of b q p (news q p (list_to m' t y)))) (sym a1)
+      (subst (λ l. Kept (side_of a p q (news p q (list_to w.lists t z))) (side_of b q p (news q p l))) (sym a2)
       (k.trunks y z a b t s v (sym (there y dy) ∙ ha) (sym (there z dz) ∙ hb) fa fb sz vy us jv p q py qz))))
 
   pub changed : WorldKept (record { names = w.names; nodes = set_node w.nodes x o.node; lists = m' })

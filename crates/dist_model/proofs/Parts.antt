@@ -1,4 +1,5 @@
 -- What each part of an event keeps, but for its handshakes, is kept by the whole event.
+use Rattle.dist_model.proofs.Seeing.{replies}
 use Rattle.erl_names.specs.Draw as kind
 use Rattle.std.proofs.Common.{◌≡◌, ℕ, Bool, true, false, cond, not, List, [], ◌∷◌, ◌++◌, refl, sym, ap, ◌∙◌, subst, ◌&&◌, ◌||◌, Option, Some, None}
 use Rattle.std.specs.Prelude.{codes}
@@ -8,12 +9,12 @@ use Rattle.dist_model.proofs.Calls.{IfGoes, by_test, if_cond, if_drawn, if_not}
 use Rattle.dist_model.proofs.Keys.{and_both, same_pid_true}
 use Rattle.dist_model.specs.Calls.{acting, call, first_message, spawn_life, toward, trapping, with_life, without_first}
 use Rattle.dist_model.specs.Commands.{Command, EndLink, EndMonitor, ExitSelf, ExitTo, Goes, IsAlive, LinksOf, MakeLink, MakeMonitor, Outcome, Receive, Refuses, Send, Spawn, Trap}
-use Rattle.dist_model.specs.Downs.{down_of}
+use Rattle.dist_model.specs.Downs.{down_in}
 use Rattle.dist_model.specs.Exits.{carry_out, finish, link_exit, linked_exit, sent_exit}
 use Rattle.dist_model.specs.Fits.{fits}
 use Rattle.dist_model.specs.Items.{Handshake, Item, Signalled, Tick}
-use Rattle.dist_model.specs.Linking.{exit_follows, link_by, link_new, replies, take_link, take_link_by, unlink_by}
-use Rattle.dist_model.specs.Links.{Exits, LinkWord, Says, heard, noconnection, noproc, reply}
+use Rattle.dist_model.specs.Linking.{exit_follows, link_by, link_new, take_link, take_link_by, unlink_by}
+use Rattle.dist_model.specs.Links.{Exits, LinkNews, Says, heard, noconnection, noproc, reply}
 use Rattle.dist_model.specs.Losses.{link_to, registered_by, sweep_end, sweep_link, sweep_registered, sweep_watch, watch_to}
 use Rattle.dist_model.specs.Monitoring.{register, unregister, unwatch}
 use Rattle.dist_model.specs.Names.{Name, same_name, same_pid}
@@ -62,7 +63,7 @@ pub record Closed (rules : Rules) (X : Work → Type 0) : Type 0 where
   pub end_set : (p q : Pid) (e : End) (o : Work) → X o → X (set_end p q e o)
   pub drew : (o : Work) → X o → X (draw kind.UnlinkId o)
   pub life_set : (p : Pid) (l : Option Life) (o : Work) → is_living_life l ≡ living o.node p → X o → X (record o { node = record (o.node) { lives = set_life o.node.lives p l } })
-  pub message : (p : Pid) (m : Data) (o : Work) → ((r : Reference) → down_of r m ≡ None) → X o → X (put p m o)
+  pub message : (p : Pid) (m : Data) (o : Work) → ((r : Reference) → down_in r p m ≡ []) → X o → X (put p m o)
   pub reacted : (p q : Pid) (x : Data) (o : Work) → rules.Reacts p q x → X o → X (report (LinkExit p q x) o)
   pub finished : (p : Pid) (x : Data) (o : Work) → X o → X (finish p x o)
   pub registers : (r : Reference) (m : Monitor) (o : Work) → living o.node m.target ≡ true → rules.Joins r m → X o → X (register r m o)
@@ -111,20 +112,20 @@ module _ (rules : Rules) (X : Work → Type 0) (c : Closed rules X) where
   link_exit_kept p q x o h k = exit_kept (traps_life (fm.get o.node.lives p)) (linked_exit p q x) p (report (LinkExit p q x) o) (c.reacted p q x o h k)
 
   -- a word of a link is heard
-  follows_kept : (e : End) (s : LinkWord) (p q : Pid) (o : Work) → ((x : Data) → s ≡ Exits x → e ≡ End.Active → rules.Reacts p q x) → X o → X (exit_follows e s p q o)
+  follows_kept : (e : End) (s : LinkNews) (p q : Pid) (o : Work) → ((x : Data) → s ≡ Exits x → e ≡ End.Active → rules.Reacts p q x) → X o → X (exit_follows e s p q o)
   follows_kept e (Says s) p q o h k = k
   follows_kept End.None (Exits x) p q o h k = k
   follows_kept End.Active (Exits x) p q o h k = link_exit_kept p q x o (h x refl refl) k
   follows_kept (End.Pending i) (Exits x) p q o h k = k
 
-  replies_said : (g : Bool) (s : LinkWord) (p q : Pid) → (g ≡ true → s ≡ Says LinkSignal.Link → rules.Says (Signal.Exit p q noproc)) → AllSaid (replies p q (reply g s))
+  replies_said : (g : Bool) (s : LinkNews) (p q : Pid) → (g ≡ true → s ≡ Says LinkSignal.Link → rules.Says (Signal.Exit p q noproc)) → AllSaid (replies p q (reply g s))
   replies_said true (Says LinkSignal.Link) p q h = (h refl refl, tt)
   replies_said false (Says LinkSignal.Link) p q h = tt
   replies_said g (Says (LinkSignal.Unlink i)) p q h = (c.plain (Signal.UnlinkIdAck i p q) refl, tt)
   replies_said g (Says (LinkSignal.Ack i)) p q h = tt
   replies_said g (Exits x) p q h = tt
 
-  take_link_kept : (p q : Pid) (s : LinkWord) (o : Work) → (s ≡ Says LinkSignal.Link → living o.node p ≡ false → rules.Says (Signal.Exit p q noproc))
+  take_link_kept : (p q : Pid) (s : LinkNews) (o : Work) → (s ≡ Says LinkSignal.Link → living o.node p ≡ false → rules.Says (Signal.Exit p q noproc))
       → ((x : Data) → s ≡ Exits x → living o.node p ≡ true → end_of o.node p q ≡ End.Active → rules.Reacts p q x) → X o → X (take_link p q s o)
   take_link_kept p q s o gone acts k = go (living o.node p) refl
     where
@@ -143,7 +144,7 @@ module _ (rules : Rules) (X : Work → Type 0) (c : Closed rules X) where
   item_kept (Signalled (Signal.Link q p)) o h k = take_link_kept p q (Says LinkSignal.Link) o (λ e. h.gone p q refl) (λ x e. cc) k
   item_kept (Signalled (Signal.Exit q p x)) o h k = take_link_kept p q (Exits x) o (λ e. cc) (λ z e. h.acts p q z (ap (λ w. Signalled (Signal.Exit q p (reason_in x w))) e)) k
     where
-      reason_in : Data → LinkWord → Data
+      reason_in : Data → LinkNews → Data
       reason_in d (Says s) = d
       reason_in d (Exits z) = z
   item_kept (Signalled (Signal.UnlinkId i q p)) o h k = take_link_kept p q (Says (LinkSignal.Unlink i)) o (λ e. cc) (λ x e. cc) k

@@ -8,31 +8,32 @@ use Rattle.dist_model.proofs.Keys.{and_both, same_name_is, same_name_true, same_
 use Rattle.dist_model.proofs.Pairs.{WorldKept, up_joined}
 use Rattle.dist_model.proofs.Reside.{Fits, side_after_other, side_after_same, with_side_at}
 use Rattle.dist_model.proofs.Routes.{list_to_insert, node_of_name, node_of_set_other, node_of_set_same, some_same}
+use Rattle.dist_model.proofs.Seeing.{list_in}
 use Rattle.dist_model.proofs.Sides.{joined, side_at}
 use Rattle.dist_model.proofs.Table.{Anchor, Good, HomeKept, Likely, NoLinks, Posted, Row, Table, begun, has, insert_key, is_accept, is_challenge, is_early, is_reply, likely_along, may_be_up, role_state, single_kept, went_up}
-use Rattle.dist_model.proofs.Views.{side_of, words-append}
-use Rattle.dist_model.specs.Fits.{fits}
-use Rattle.dist_model.specs.Items.{Handshake, HandshakeMessage, Item, word_in, words}
-use Rattle.dist_model.specs.Links.{LinkWord}
+use Rattle.dist_model.proofs.Views.{news-append, side_of}
+use Rattle.dist_model.specs.Items.{Handshake, Item, news, news_in}
+use Rattle.dist_model.specs.Links.{LinkNews}
 use Rattle.dist_model.specs.Names.{Name, place_cmp, same_name}
 use Rattle.dist_model.specs.Node.{Node}
 use Rattle.dist_model.specs.Sides.{TrunkSide}
-use Rattle.dist_model.specs.World.{World, list_in, list_to, node_of, set_node}
+use Rattle.dist_model.specs.World.{World, list_to, node_of, set_node}
+use Rattle.erl_handshake.specs.declared.message.ShakeMsg.{ShakeMsg}
 use Rattle.erl_names.specs.declared.trunk.TrunkId.{TrunkId}
 use Rattle.erl_term.specs.declared.term.Pid.{Pid}
 use Rattle.std.specs.FinMap.{FinMap}
 
 -- the lists change, and no claim on a pair does
 pub relisted : (w : World) (m' : FinMap place_cmp (List Item))
-    → ((x : Name) (n : Node) (t : TrunkId) (s : TrunkSide) → node_of w.nodes x ≡ Some n → side_at n t ≡ Some s → joined s.state ≡ true → (p q : Pid) → words p q (list_to m' t x) ≡ words p q (list_to w.lists t x))
+    → ((x : Name) (n : Node) (t : TrunkId) (s : TrunkSide) → node_of w.nodes x ≡ Some n → side_at n t ≡ Some s → joined s.state ≡ true → (p q : Pid) → news p q (list_to m' t x) ≡ news p q (list_to w.lists t x))
     → WorldKept w → WorldKept (record { names = w.names; nodes = w.nodes; lists = m' })
 relisted w m' same k = record {
   nodes = k.nodes;
   sides = k.sides;
   met = k.met;
   trunks = λ x y a b t s v ha hb fs fv sy vx us jv p q px qy.
-      subst (λ l. Kept (side_of a p q l) (side_of b q p (words q p (list_to m' t x)))) (sym (same y b t v hb fv jv p q))
-      (subst (λ l. Kept (side_of a p q (words p q (list_to w.lists t y))) (side_of b q p l)) (sym (same x a t s ha fs (up_joined s.state us) q p))
+      subst (λ l. Kept (side_of a p q l) (side_of b q p (news q p (list_to m' t x)))) (sym (same y b t v hb fv jv p q))
+      (subst (λ l. Kept (side_of a p q (news p q (list_to w.lists t y))) (side_of b q p l)) (sym (same x a t s ha fs (up_joined s.state us) q p))
       (k.trunks x y a b t s v ha hb fs fv sy vx us jv p q px qy));
 }
 
@@ -53,7 +54,7 @@ not_true_false : (b : Bool) → (b ≡ true → ⊥) → b ≡ false
 not_true_false true h = absurd (h refl)
 not_true_false false h = refl
 
-module _ (w : World) (t : TrunkId) (y : Name) (m : HandshakeMessage) (g : Good w) (known : Posted w.nodes t y)
+module _ (w : World) (t : TrunkId) (y : Name) (m : ShakeMsg) (g : Good w) (known : Posted w.nodes t y)
     (fits : (d a : Node) (s : TrunkSide) → node_of w.nodes t.dialer ≡ Some d → side_at d t ≡ Some s → node_of w.nodes s.peer ≡ Some a
     → (is_accept (Handshake m) ≡ true → (went_up (side_at a t) ≡ true) × (is_early s.state ≡ false)) × (is_reply (Handshake m) ≡ true → is_early s.state ≡ false)
     × (is_challenge (Handshake m) ≡ true → begun (side_at a t) ≡ true) × (is_reply (Handshake m) ≡ true → begun (side_at a t) ≡ true))
@@ -71,12 +72,12 @@ module _ (w : World) (t : TrunkId) (y : Name) (m : HandshakeMessage) (g : Good w
       inr (list_to_insert w.lists t y (list_to w.lists t y ++ Handshake m ∷ []) u z ∙ ap (λ b. cond b (list_to w.lists t y ++ Handshake m ∷ []) (list_to w.lists u z)) h ∙ (λ i. list_to w.lists (sym e i) (sym f i) ++ Handshake m ∷ []), e))
       (λ h. inl (list_to_insert w.lists t y (list_to w.lists t y ++ Handshake m ∷ []) u z ∙ ap (λ b. cond b (list_to w.lists t y ++ Handshake m ∷ []) (list_to w.lists u z)) h))
 
-  same_signals : (u : TrunkId) (z : Name) (p q : Pid) → words p q (list_to pushed u z) ≡ words p q (list_to w.lists u z)
+  same_signals : (u : TrunkId) (z : Name) (p q : Pid) → news p q (list_to pushed u z) ≡ news p q (list_to w.lists u z)
   same_signals u z p q = go (at u z)
     where
-      go : (list_to pushed u z ≡ list_to w.lists u z) ⊎ ((list_to pushed u z ≡ list_to w.lists u z ++ Handshake m ∷ []) × (u ≡ t)) → words p q (list_to pushed u z) ≡ words p q (list_to w.lists u z)
-      go (inl h) = ap (words p q) h
-      go (inr h) = ap (words p q) h.0 ∙ words-append p q (list_to w.lists u z) (Handshake m ∷ []) ∙ append-nil _
+      go : (list_to pushed u z ≡ list_to w.lists u z) ⊎ ((list_to pushed u z ≡ list_to w.lists u z ++ Handshake m ∷ []) × (u ≡ t)) → news p q (list_to pushed u z) ≡ news p q (list_to w.lists u z)
+      go (inl h) = ap (news p q) h
+      go (inr h) = ap (news p q) h.0 ∙ news-append p q (list_to w.lists u z) (Handshake m ∷ []) ∙ append-nil _
 
   still_has : (f : Item → Bool) (u : TrunkId) (z : Name) → has f (list_to w.lists u z) ≡ false → (u ≡ t → f (Handshake m) ≡ false) → has f (list_to pushed u z) ≡ false
   still_has f u z h k = go (at u z)
@@ -151,13 +152,13 @@ module _ (w : World) (t : TrunkId) (y : Name) (m : HandshakeMessage) (g : Good w
   }
 
 -- the first item is taken off a list
-nil_of : (xs ys : List LinkWord) → xs ++ ys ≡ [] → ys ≡ []
+nil_of : (xs ys : List LinkNews) → xs ++ ys ≡ [] → ys ≡ []
 nil_of [] ys h = h
 nil_of (x ∷ xs) ys h = cc
 
 module _ (w : World) (t : TrunkId) (x : Name) (i : Item) (rest : List Item) (g : Good w) (first : list_to w.lists t x ≡ i ∷ rest)
     -- it is no signal about a link, or the side takes no part any more
-    (free : (n : Node) (s : TrunkSide) → node_of w.nodes x ≡ Some n → side_at n t ≡ Some s → joined s.state ≡ true → (p q : Pid) → word_in p q i ≡ []) where
+    (free : (n : Node) (s : TrunkSide) → node_of w.nodes x ≡ Some n → side_at n t ≡ Some s → joined s.state ≡ true → (p q : Pid) → news_in p q i ≡ []) where
   abbrev popped : FinMap place_cmp (List Item)
   popped = fm.insert w.lists (t, x) rest
 
@@ -187,16 +188,16 @@ module _ (w : World) (t : TrunkId) (x : Name) (i : Item) (rest : List Item) (g :
   pop_none : (u : TrunkId) (z : Name) → NoLinks (list_to w.lists u z) → NoLinks (list_to popped u z)
   pop_none u z h p q = go (at_pop u z)
     where
-      go : (list_to popped u z ≡ list_to w.lists u z) ⊎ ((list_to popped u z ≡ rest) × (list_to w.lists u z ≡ i ∷ rest) × (u ≡ t) × (z ≡ x)) → words p q (list_to popped u z) ≡ []
-      go (inl e) = ap (words p q) e ∙ h p q
-      go (inr e) = ap (words p q) e.0 ∙ nil_of (word_in p q i) (words p q rest) (sym (ap (words p q) e.1) ∙ h p q)
+      go : (list_to popped u z ≡ list_to w.lists u z) ⊎ ((list_to popped u z ≡ rest) × (list_to w.lists u z ≡ i ∷ rest) × (u ≡ t) × (z ≡ x)) → news p q (list_to popped u z) ≡ []
+      go (inl e) = ap (news p q) e ∙ h p q
+      go (inr e) = ap (news p q) e.0 ∙ nil_of (news_in p q i) (news p q rest) (sym (ap (news p q) e.1) ∙ h p q)
 
-  pop_signals : (y : Name) (n : Node) (u : TrunkId) (s : TrunkSide) → node_of w.nodes y ≡ Some n → side_at n u ≡ Some s → joined s.state ≡ true → (p q : Pid) → words p q (list_to popped u y) ≡ words p q (list_to w.lists u y)
+  pop_signals : (y : Name) (n : Node) (u : TrunkId) (s : TrunkSide) → node_of w.nodes y ≡ Some n → side_at n u ≡ Some s → joined s.state ≡ true → (p q : Pid) → news p q (list_to popped u y) ≡ news p q (list_to w.lists u y)
   pop_signals y n u s hy fs j p q = go (at_pop u y)
     where
-      go : (list_to popped u y ≡ list_to w.lists u y) ⊎ ((list_to popped u y ≡ rest) × (list_to w.lists u y ≡ i ∷ rest) × (u ≡ t) × (y ≡ x)) → words p q (list_to popped u y) ≡ words p q (list_to w.lists u y)
-      go (inl e) = ap (words p q) e
-      go (inr e) = ap (words p q) e.0 ∙ sym (ap (words p q) e.1 ∙ ap (λ l. l ++ words p q rest) (free n s (ap (node_of w.nodes) (sym e.3) ∙ hy) (ap (side_at n) (sym e.2) ∙ fs) j p q))
+      go : (list_to popped u y ≡ list_to w.lists u y) ⊎ ((list_to popped u y ≡ rest) × (list_to w.lists u y ≡ i ∷ rest) × (u ≡ t) × (y ≡ x)) → news p q (list_to popped u y) ≡ news p q (list_to w.lists u y)
+      go (inl e) = ap (news p q) e
+      go (inr e) = ap (news p q) e.0 ∙ sym (ap (news p q) e.1 ∙ ap (λ l. l ++ news p q rest) (free n s (ap (node_of w.nodes) (sym e.3) ∙ hy) (ap (side_at n) (sym e.2) ∙ fs) j p q))
 
   some_list : (o : Option (List Item)) → list_in o ≡ i ∷ rest → is_some o ≡ true
   some_list None h = cc

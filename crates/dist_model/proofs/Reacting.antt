@@ -2,9 +2,8 @@
 use Rattle.std.proofs.lemmas.List.Elements.{Contains-append_cases, Contains-push_cases}
 use Rattle.std.proofs.Common.{Contains, arith}
 use Rattle.erl_names.specs.Draw as kind
-use Rattle.dist_model.specs.World
 use Rattle.std.specs.Ordering.{is_gt}
-use Rattle.std.proofs.Common.{◌==◌, nat_lt, ◌+◌, ◌≡◌, ℕ, Bool, true, false, cond, not, List, [], ◌∷◌, ◌++◌, refl, sym, ap, ◌∙◌, subst, ◌||◌, ◌&&◌, Option, Some, None, ◌⊎◌, inl, inr}
+use Rattle.std.proofs.Common.{nat_lt, ◌+◌, ◌≡◌, ℕ, Bool, true, false, cond, not, List, [], ◌∷◌, ◌++◌, refl, sym, ap, ◌∙◌, subst, ◌||◌, ◌&&◌, Option, Some, None, ◌⊎◌, inl, inr}
 use Rattle.std.specs.Prelude.{◌^◌}
 use Rattle.std.specs.Option.{is_some}
 use Rattle.std.specs.FinMap as fm
@@ -14,9 +13,12 @@ use Rattle.dist_model.proofs.Keys.{and_both, same_name_true, same_pid_refl, same
 use Rattle.dist_model.proofs.Moves.{NodeKept}
 use Rattle.dist_model.proofs.Pair.{later}
 use Rattle.dist_model.proofs.Routes.{node_of_name}
+use Rattle.dist_model.proofs.Rules.{awaits_ack, awaits_challenge, awaits_name, awaits_reply, awaits_status, awaits_true, greet, greet_dialing, greet_up, greet_waiting, handshake_as, handshake_by, name_as}
+use Rattle.dist_model.proofs.Seeing.{end_at, end_in, reached_at, replies}
 use Rattle.dist_model.proofs.Sweeping.{link_found}
 use Rattle.dist_model.proofs.Table.{Good}
-use Rattle.dist_model.specs.Arrivals.{arrive, arrive_at, arrive_fresh, handshake_at, handshake_in, is_good, signal_at, take_local}
+use Rattle.dist_model.specs.Admission.{give_up, hears_name}
+use Rattle.dist_model.specs.Arrivals.{arrive, arrive_at, arrive_fresh, handshake_in, is_good, signal_at, take_local}
 use Rattle.dist_model.specs.Calls.{acting, call, toward}
 use Rattle.dist_model.specs.Causes.{Reacts}
 use Rattle.dist_model.specs.Claims.{ReactsOnlyWhereLinked}
@@ -24,21 +26,25 @@ use Rattle.dist_model.specs.Commands.{Command, EndLink, EndMonitor, ExitSelf, Ex
 use Rattle.dist_model.specs.Dialing.{dial, has_name}
 use Rattle.dist_model.specs.Exits.{carry_out, demonitors, exits, finish, link_exit, linked_exit, monitor_exits, sent_exit}
 use Rattle.dist_model.specs.Fits.{fits}
-use Rattle.dist_model.specs.Handshake.{awaits_ack, awaits_challenge, awaits_name, awaits_reply, awaits_status, awaits_true, challenge, dig, end_up, give_up, go_on, greet, greet_dialing, greet_up, greet_waiting, has_flags, set_state, write}
+use Rattle.dist_model.specs.Handshake.{challenge, end_up, go_on, handshake_at, set_state, write}
 use Rattle.dist_model.specs.Incarnations.{start, stop}
-use Rattle.dist_model.specs.Items.{Challenge, ChallengeAck, ChallengeReply, Handshake, HandshakeMessage, Item, SendName, Signalled, StatusAlive, StatusFalse, StatusNok, StatusNotAllowed, StatusOk, StatusOkSimultaneous, StatusTrue, Tick, receiver_of, telling}
-use Rattle.dist_model.specs.Linking.{exit_follows, link_by, link_new, replies, take_link, take_link_by, unlink_by}
-use Rattle.dist_model.specs.Links.{Exits, LinkWord, Says, heard, noconnection, noproc, reply}
+use Rattle.dist_model.specs.Items.{Handshake, Item, Signalled, Tick, receiver_of, telling}
+use Rattle.dist_model.specs.Linking.{exit_follows, link_by, link_new, take_link, take_link_by, unlink_by}
+use Rattle.dist_model.specs.Links.{Exits, LinkNews, Says, heard, noconnection, noproc, reply}
 use Rattle.dist_model.specs.Losses.{any_side, close_if, has_records, link_to, lose, lose_at, parked_by, parked_goes, registered_by, sweep, sweep_by, sweep_end, sweep_link, sweep_registered, sweep_watch, swept, watch_to}
 use Rattle.dist_model.specs.Monitoring.{demonitor_by, register, unregister, unwatch, watch}
 use Rattle.dist_model.specs.Names.{Name, place_cmp, same_name, same_pid}
-use Rattle.dist_model.specs.Node.{Node, end_in, end_of, living, never, reaches, route, side_where, traps_life}
-use Rattle.dist_model.specs.Seen.{end_at, end_between, reached_at}
+use Rattle.dist_model.specs.Node.{Node, end_of, living, never, reaches, route, side_where, traps_life}
+use Rattle.dist_model.specs.Seen.{end_between}
 use Rattle.dist_model.specs.Sides.{Accepting, Asked, AwaitsAck, AwaitsChallenge, AwaitsStatus, Gone, Losing, Parked, State, TrunkSide, Up, is_dialing, is_gone, is_losing, is_parked, is_up, is_waiting}
 use Rattle.dist_model.specs.Taking.{take_item}
 use Rattle.dist_model.specs.Work.{Effect, EndedBy, LinkExit, Put, Sent, Work, at_work, draw, keep_local, post, post_all, post_to, put, report, send_on, set_end}
 use Rattle.dist_model.specs.World.{Arrive, Call, Dial, Event, Local, Lose, Refused, Report, Reported, Start, Stepped, Stop, Sweep, World, arrives, arrives_first, ends_in, is_over, list_to, node_name, node_of, refused, running, step, step_at}
 use Rattle.erl_control.specs.declared.signal.Signal.{Signal}
+use Rattle.erl_handshake.specs.Flags.{has_all_of, mandatory}
+use Rattle.erl_handshake.specs.Roles.{is_answered, is_same}
+use Rattle.erl_handshake.specs.declared.message.ShakeMsg.{ShakeMsg}
+use Rattle.erl_handshake.specs.declared.status.Status.{Status}
 use Rattle.erl_names.specs.Ids.{reference_of}
 use Rattle.erl_names.specs.Minted.{id_of}
 use Rattle.erl_names.specs.Order.{name_cmp}
@@ -161,7 +167,7 @@ exit_of a b r o p q h = pick (added p q o.effects (LinkExit a b r) (calm_carry (
 abbrev pub Held : Node → Pid → Pid → Type 0
 Held n p q = (living n p ≡ true) × (end_of n p q ≡ End.Active)
 
-follows_of : (e : End) (s : LinkWord) (a b : Pid) (o : Work) (p q : Pid) → reacts_in p q ((exit_follows e s a b o).effects) ≡ true → (reacts_in p q o.effects ≡ true) ⊎ ((a ≡ p) × (b ≡ q) × (e ≡ End.Active))
+follows_of : (e : End) (s : LinkNews) (a b : Pid) (o : Work) (p q : Pid) → reacts_in p q ((exit_follows e s a b o).effects) ≡ true → (reacts_in p q o.effects ≡ true) ⊎ ((a ≡ p) × (b ≡ q) × (e ≡ End.Active))
 follows_of e (Says LinkSignal.Link) a b o p q h = inl h
 follows_of e (Says (LinkSignal.Unlink j)) a b o p q h = inl h
 follows_of e (Says (LinkSignal.Ack j)) a b o p q h = inl h
@@ -176,7 +182,7 @@ follows_of (End.Pending i) (Exits r) a b o p q h = inl h
 held_at : (n : Node) (a b p q : Pid) → a ≡ p → b ≡ q → living n a ≡ true → end_of n a b ≡ End.Active → Held n p q
 held_at n a b p q ap1 bq l e = subst (λ z. Held n z q) ap1 (subst (λ z. Held n a z) bq (l, e))
 
-pub link_taken : (a b : Pid) (s : LinkWord) (o : Work) (p q : Pid) → reacts_in p q ((take_link a b s o).effects) ≡ true → (reacts_in p q o.effects ≡ true) ⊎ Held o.node p q
+pub link_taken : (a b : Pid) (s : LinkNews) (o : Work) (p q : Pid) → reacts_in p q ((take_link a b s o).effects) ≡ true → (reacts_in p q o.effects ≡ true) ⊎ Held o.node p q
 link_taken a b s o p q h = go (living o.node a) refl h
   where
     go : (t : Bool) → living o.node a ≡ t → reacts_in p q ((take_link_by t a b s o).effects) ≡ true → (reacts_in p q o.effects ≡ true) ⊎ Held o.node p q
@@ -348,77 +354,77 @@ module _ (n : Node) (t : TrunkId) where
   Still o = (p q : Pid) → reacts_in p q o.effects ≡ true → false ≡ true
 
   module _ (s : TrunkSide) (w : ℕ) (x : Item) where
-    accepted : (m : HandshakeMessage) (o : Work) → Still o → Still (write t s.peer (challenge o.node w) (write t s.peer m (set_state t s (Accepting w) o)))
+    accepted : (m : ShakeMsg) (o : Work) → Still o → Still (write t s.peer (challenge o.node w) (write t s.peer m (set_state t s (Accepting w) o)))
     accepted m o k p q h = k p q (calm_send (Some t) s.peer (Handshake m) (set_state t s (Accepting w) o) p q (calm_send (Some t) s.peer (Handshake (challenge o.node w)) (write t s.peer m (set_state t s (Accepting w) o)) p q h))
 
     greets_dialing : (d : Option (TrunkId × TrunkSide)) (o : Work) → Still o → IfGoes (greet_dialing d t s w x o) Still
-    greets_dialing None o k = accepted StatusOk o k
-    greets_dialing (Some d) o k = either (is_gt (name_cmp t.dialer o.node.mint.name)) _ _ Still (accepted StatusOkSimultaneous (give_up (Some d) o) k) (λ p q h. k p q (calm_send (Some t) s.peer (Handshake StatusNok) (set_state t s Gone o) p q h))
+    greets_dialing None o k = accepted (ShakeMsg.Status Status.Ok) o k
+    greets_dialing (Some d) o k = either (is_gt (name_cmp t.dialer o.node.mint.name)) _ _ Still (accepted (ShakeMsg.Status Status.OkSimultaneous) (give_up (Some d) o) k) (λ p q h. k p q (calm_send (Some t) s.peer (Handshake (ShakeMsg.Status Status.Nok)) (set_state t s Gone o) p q h))
 
     greets_up : (d : Option (TrunkId × TrunkSide)) (o : Work) → Still o → IfGoes (greet_up d t s w x o) Still
     greets_up None o k = greets_dialing (side_where is_dialing s.peer (fm.entries o.node.sides)) o k
-    greets_up (Some d) o k = λ p q h. k p q (calm_send (Some t) s.peer (Handshake StatusAlive) (set_state t s (Asked w) o) p q h)
+    greets_up (Some d) o k = λ p q h. k p q (calm_send (Some t) s.peer (Handshake (ShakeMsg.Status Status.Alive)) (set_state t s (Asked w) o) p q h)
 
     greets : (o : Work) → Still o → IfGoes (greet t s w x o) Still
     greets o k = greets_up (side_where (λ v. is_up v || is_losing v) s.peer (fm.entries o.node.sides)) o k
 
     greets_waiting : (d : Option (TrunkId × TrunkSide)) (o : Work) → Still o → IfGoes (greet_waiting d t s w x o) Still
     greets_waiting None o k = greets o k
-    greets_waiting (Some d) o k = either (nat_lt d.0.count t.count) _ _ Still (greets (give_up (Some d) o) k) (λ p q h. k p q (calm_send (Some t) s.peer (Handshake StatusNok) (set_state t s Gone o) p q h))
+    greets_waiting (Some d) o k = either (nat_lt d.0.count t.count) _ _ Still (greets (give_up (Some d) o) k) (λ p q h. k p q (calm_send (Some t) s.peer (Handshake (ShakeMsg.Status Status.Nok)) (set_state t s Gone o) p q h))
 
-  still_fresh : (m : HandshakeMessage) (w : ℕ) → IfGoes (awaits_name t m w (at_work n)) Still
-  still_fresh (SendName a c f) w = either (same_name a t.dialer) _ _ Still
-      (either (has_flags f) _ _ Still (greets_waiting (record { peer = t.dialer; peer_creation = c; state = Gone }) w (Handshake (SendName a c f)) (side_where is_waiting t.dialer (fm.entries n.sides)) (at_work n) (λ p q h. h)) (λ p q h. h)) (λ p q h. h)
-  still_fresh StatusOk w = λ p q h. h
-  still_fresh StatusOkSimultaneous w = λ p q h. h
-  still_fresh StatusNok w = λ p q h. h
-  still_fresh StatusNotAllowed w = λ p q h. h
-  still_fresh StatusAlive w = λ p q h. h
-  still_fresh StatusTrue w = λ p q h. h
-  still_fresh StatusFalse w = λ p q h. h
-  still_fresh (Challenge a b c d) w = λ p q h. h
-  still_fresh (ChallengeReply a b) w = λ p q h. h
-  still_fresh (ChallengeAck a) w = λ p q h. h
+  still_fresh : (m : ShakeMsg) (w : ℕ) → IfGoes (awaits_name t m w (at_work n)) Still
+  still_fresh (ShakeMsg.SendName f c a) w = either (is_same a t.dialer) _ _ Still
+      (either (has_all_of f mandatory) _ _ Still (greets_waiting (record { peer = t.dialer; peer_creation = c; state = Gone }) w (Handshake (ShakeMsg.SendName f c a)) (side_where is_waiting t.dialer (fm.entries n.sides)) (at_work n) (λ p q h. h)) (λ p q h. h)) (λ p q h. h)
+  still_fresh (ShakeMsg.Status Status.Ok) w = λ p q h. h
+  still_fresh (ShakeMsg.Status Status.OkSimultaneous) w = λ p q h. h
+  still_fresh (ShakeMsg.Status Status.Nok) w = λ p q h. h
+  still_fresh (ShakeMsg.Status Status.NotAllowed) w = λ p q h. h
+  still_fresh (ShakeMsg.Status Status.Alive) w = λ p q h. h
+  still_fresh (ShakeMsg.Status Status.True) w = λ p q h. h
+  still_fresh (ShakeMsg.Status Status.False) w = λ p q h. h
+  still_fresh (ShakeMsg.Challenge c d b a) w = λ p q h. h
+  still_fresh (ShakeMsg.ChallengeReply a b) w = λ p q h. h
+  still_fresh (ShakeMsg.ChallengeAck a) w = λ p q h. h
 
   module _ (v : TrunkSide) where
-    still_status : (u : ℕ) (m : HandshakeMessage) → IfGoes (awaits_status t v u m (at_work n)) Still
-    still_status u StatusOk = λ p q h. h
-    still_status u StatusOkSimultaneous = λ p q h. h
-    still_status u StatusNok = λ p q h. h
-    still_status u StatusNotAllowed = λ p q h. h
-    still_status u StatusAlive = λ p q h. h
-    still_status u StatusTrue = λ p q h. h
-    still_status u StatusFalse = λ p q h. h
-    still_status u (SendName a b c) = λ p q h. h
-    still_status u (Challenge a b c d) = λ p q h. h
-    still_status u (ChallengeReply a b) = λ p q h. h
-    still_status u (ChallengeAck a) = λ p q h. h
+    still_status : (u : ℕ) (m : ShakeMsg) → IfGoes (awaits_status t v u m (at_work n)) Still
+    still_status u (ShakeMsg.Status Status.Ok) = λ p q h. h
+    still_status u (ShakeMsg.Status Status.OkSimultaneous) = λ p q h. h
+    still_status u (ShakeMsg.Status Status.Nok) = λ p q h. h
+    still_status u (ShakeMsg.Status Status.NotAllowed) = λ p q h. h
+    still_status u (ShakeMsg.Status Status.Alive) = λ p q h. h
+    still_status u (ShakeMsg.Status Status.True) = λ p q h. h
+    still_status u (ShakeMsg.Status Status.False) = λ p q h. h
+    still_status u (ShakeMsg.SendName c b a) = λ p q h. h
+    still_status u (ShakeMsg.Challenge c d b a) = λ p q h. h
+    still_status u (ShakeMsg.ChallengeReply a b) = λ p q h. h
+    still_status u (ShakeMsg.ChallengeAck a) = λ p q h. h
 
-    still_challenge : (u : ℕ) (m : HandshakeMessage) → IfGoes (awaits_challenge t v u m (at_work n)) Still
-    still_challenge u StatusOk = λ p q h. h
-    still_challenge u StatusOkSimultaneous = λ p q h. h
-    still_challenge u StatusNok = λ p q h. h
-    still_challenge u StatusNotAllowed = λ p q h. h
-    still_challenge u StatusAlive = λ p q h. h
-    still_challenge u StatusTrue = λ p q h. h
-    still_challenge u StatusFalse = λ p q h. h
-    still_challenge u (SendName a b c) = λ p q h. h
-    still_challenge u (Challenge a b c d) = either (same_name a v.peer) _ _ Still (either (has_flags c) _ _ Still (λ p q h. h) (λ p q h. h)) (λ p q h. h)
-    still_challenge u (ChallengeReply a b) = λ p q h. h
-    still_challenge u (ChallengeAck a) = λ p q h. h
+    still_challenge : (u : ℕ) (m : ShakeMsg) → IfGoes (awaits_challenge t v u m (at_work n)) Still
+    still_challenge u (ShakeMsg.Status Status.Ok) = λ p q h. h
+    still_challenge u (ShakeMsg.Status Status.OkSimultaneous) = λ p q h. h
+    still_challenge u (ShakeMsg.Status Status.Nok) = λ p q h. h
+    still_challenge u (ShakeMsg.Status Status.NotAllowed) = λ p q h. h
+    still_challenge u (ShakeMsg.Status Status.Alive) = λ p q h. h
+    still_challenge u (ShakeMsg.Status Status.True) = λ p q h. h
+    still_challenge u (ShakeMsg.Status Status.False) = λ p q h. h
+    still_challenge u (ShakeMsg.SendName c b a) = λ p q h. h
+    still_challenge u (ShakeMsg.Challenge c d b a) = either (is_same a v.peer) _ _ Still (either (has_all_of c mandatory) _ _ Still (λ p q h. h) (λ p q h. h)) (λ p q h. h)
+    still_challenge u (ShakeMsg.ChallengeReply a b) = λ p q h. h
+    still_challenge u (ShakeMsg.ChallengeAck a) = λ p q h. h
 
-    still_ack : (u : ℕ) (m : HandshakeMessage) → IfGoes (awaits_ack t v u m (at_work n)) Still
-    still_ack u StatusOk = λ p q h. h
-    still_ack u StatusOkSimultaneous = λ p q h. h
-    still_ack u StatusNok = λ p q h. h
-    still_ack u StatusNotAllowed = λ p q h. h
-    still_ack u StatusAlive = λ p q h. h
-    still_ack u StatusTrue = λ p q h. h
-    still_ack u StatusFalse = λ p q h. h
-    still_ack u (SendName a b c) = λ p q h. h
-    still_ack u (Challenge a b c d) = λ p q h. h
-    still_ack u (ChallengeReply a b) = λ p q h. h
-    still_ack u (ChallengeAck a) = either (a == dig n.cookie u) _ _ Still (λ p q h. h) (λ p q h. h)
+    still_ack : (u : ℕ) (m : ShakeMsg) → IfGoes (awaits_ack t v u m (at_work n)) Still
+    still_ack u (ShakeMsg.Status Status.Ok) = λ p q h. h
+    still_ack u (ShakeMsg.Status Status.OkSimultaneous) = λ p q h. h
+    still_ack u (ShakeMsg.Status Status.Nok) = λ p q h. h
+    still_ack u (ShakeMsg.Status Status.NotAllowed) = λ p q h. h
+    still_ack u (ShakeMsg.Status Status.Alive) = λ p q h. h
+    still_ack u (ShakeMsg.Status Status.True) = λ p q h. h
+    still_ack u (ShakeMsg.Status Status.False) = λ p q h. h
+    still_ack u (ShakeMsg.SendName c b a) = λ p q h. h
+    still_ack u (ShakeMsg.Challenge c d b a) = λ p q h. h
+    still_ack u (ShakeMsg.ChallengeReply a b) = λ p q h. h
+    still_ack u (ShakeMsg.ChallengeAck a) = either (is_answered n.cookie u a) _ _ Still (λ p q h. h) (λ p q h. h)
 
     still_on : (d : Option (TrunkId × TrunkSide)) (u : ℕ) (o : Work) → Still o → Still (go_on d t v u o)
     still_on None u o k = λ p q h. k p q (calm_send (Some t) v.peer (Handshake (challenge o.node u)) (set_state t v (Accepting u) o) p q h)
@@ -428,42 +434,45 @@ module _ (n : Node) (t : TrunkId) where
     still_end None = λ p q h. h
     still_end (Some d) = λ p q h. h
 
-    still_true : (u : ℕ) (m : HandshakeMessage) → IfGoes (awaits_true t v u m (at_work n)) Still
-    still_true u StatusOk = λ p q h. h
-    still_true u StatusOkSimultaneous = λ p q h. h
-    still_true u StatusNok = λ p q h. h
-    still_true u StatusNotAllowed = λ p q h. h
-    still_true u StatusAlive = λ p q h. h
-    still_true u StatusTrue = still_on (side_where is_losing v.peer (fm.entries (end_up (side_where is_up v.peer (fm.entries n.sides)) (at_work n)).node.sides)) u (end_up (side_where is_up v.peer (fm.entries n.sides)) (at_work n)) (still_end (side_where is_up v.peer (fm.entries n.sides)))
-    still_true u StatusFalse = λ p q h. h
-    still_true u (SendName a b c) = λ p q h. h
-    still_true u (Challenge a b c d) = λ p q h. h
-    still_true u (ChallengeReply a b) = λ p q h. h
-    still_true u (ChallengeAck a) = λ p q h. h
+    still_true : (u : ℕ) (m : ShakeMsg) → IfGoes (awaits_true t v u m (at_work n)) Still
+    still_true u (ShakeMsg.Status Status.Ok) = λ p q h. h
+    still_true u (ShakeMsg.Status Status.OkSimultaneous) = λ p q h. h
+    still_true u (ShakeMsg.Status Status.Nok) = λ p q h. h
+    still_true u (ShakeMsg.Status Status.NotAllowed) = λ p q h. h
+    still_true u (ShakeMsg.Status Status.Alive) = λ p q h. h
+    still_true u (ShakeMsg.Status Status.True) = still_on (side_where is_losing v.peer (fm.entries (end_up (side_where is_up v.peer (fm.entries n.sides)) (at_work n)).node.sides)) u (end_up (side_where is_up v.peer (fm.entries n.sides)) (at_work n)) (still_end (side_where is_up v.peer (fm.entries n.sides)))
+    still_true u (ShakeMsg.Status Status.False) = λ p q h. h
+    still_true u (ShakeMsg.SendName c b a) = λ p q h. h
+    still_true u (ShakeMsg.Challenge c d b a) = λ p q h. h
+    still_true u (ShakeMsg.ChallengeReply a b) = λ p q h. h
+    still_true u (ShakeMsg.ChallengeAck a) = λ p q h. h
 
-    still_reply : (u : ℕ) (m : HandshakeMessage) → IfGoes (awaits_reply t v u m (at_work n)) Still
-    still_reply u StatusOk = λ p q h. h
-    still_reply u StatusOkSimultaneous = λ p q h. h
-    still_reply u StatusNok = λ p q h. h
-    still_reply u StatusNotAllowed = λ p q h. h
-    still_reply u StatusAlive = λ p q h. h
-    still_reply u StatusTrue = λ p q h. h
-    still_reply u StatusFalse = λ p q h. h
-    still_reply u (SendName a b c) = λ p q h. h
-    still_reply u (Challenge a b c d) = λ p q h. h
-    still_reply u (ChallengeReply a b) = either (b == dig n.cookie u) _ _ Still (λ p q h. h) (λ p q h. h)
-    still_reply u (ChallengeAck a) = λ p q h. h
+    still_reply : (u : ℕ) (m : ShakeMsg) → IfGoes (awaits_reply t v u m (at_work n)) Still
+    still_reply u (ShakeMsg.Status Status.Ok) = λ p q h. h
+    still_reply u (ShakeMsg.Status Status.OkSimultaneous) = λ p q h. h
+    still_reply u (ShakeMsg.Status Status.Nok) = λ p q h. h
+    still_reply u (ShakeMsg.Status Status.NotAllowed) = λ p q h. h
+    still_reply u (ShakeMsg.Status Status.Alive) = λ p q h. h
+    still_reply u (ShakeMsg.Status Status.True) = λ p q h. h
+    still_reply u (ShakeMsg.Status Status.False) = λ p q h. h
+    still_reply u (ShakeMsg.SendName c b a) = λ p q h. h
+    still_reply u (ShakeMsg.Challenge c d b a) = λ p q h. h
+    still_reply u (ShakeMsg.ChallengeReply a b) = either (is_answered n.cookie u b) _ _ Still (λ p q h. h) (λ p q h. h)
+    still_reply u (ShakeMsg.ChallengeAck a) = λ p q h. h
 
-    still_handshake : (a : State) (m : HandshakeMessage) → IfGoes (handshake_at a t v m (at_work n)) Still
-    still_handshake (AwaitsStatus u) m = still_status u m
-    still_handshake (AwaitsChallenge u) m = still_challenge u m
-    still_handshake (AwaitsAck u) m = still_ack u m
-    still_handshake (Asked u) m = still_true u m
-    still_handshake (Parked u) m = λ p q h. h
-    still_handshake (Accepting u) m = still_reply u m
-    still_handshake Up m = λ p q h. h
-    still_handshake Losing m = tt
-    still_handshake Gone m = tt
+    still_rule : (a : State) (m : ShakeMsg) → IfGoes (handshake_by a t v m (at_work n)) Still
+    still_rule (AwaitsStatus u) m = still_status u m
+    still_rule (AwaitsChallenge u) m = still_challenge u m
+    still_rule (AwaitsAck u) m = still_ack u m
+    still_rule (Asked u) m = still_true u m
+    still_rule (Parked u) m = λ p q h. h
+    still_rule (Accepting u) m = still_reply u m
+    still_rule Up m = λ p q h. h
+    still_rule Losing m = tt
+    still_rule Gone m = tt
+
+    still_handshake : (a : State) (m : ShakeMsg) → IfGoes (handshake_at a t v m (at_work n)) Still
+    still_handshake a m = subst (λ z. IfGoes z Still) (sym (handshake_as a t v m (at_work n))) (still_rule a m)
 
     still_lost : (a : State) → IfGoes (lose_at a t v (at_work n)) Still
     still_lost (AwaitsStatus u) = λ p q h. h
@@ -495,13 +504,13 @@ still_holds : (n : Node) (o : Outcome) → IfGoes o (λ z. (p q : Pid) → react
 still_holds n (Refuses k) h = tt
 still_holds n (Goes a o) h = λ p q r. nothing (h p q r)
 
-known_comes : (n : Node) (t : TrunkId) (v : TrunkSide) (x : Item) (m : Option HandshakeMessage) → IfGoes (arrive_at m t v x (at_work n)) (HeldBefore n)
+known_comes : (n : Node) (t : TrunkId) (v : TrunkSide) (x : Item) (m : Option ShakeMsg) → IfGoes (arrive_at m t v x (at_work n)) (HeldBefore n)
 known_comes n t v x None = signal_comes n t v v.state x
 known_comes n t v x (Some m) = still_holds n (handshake_at v.state t v m (at_work n)) (still_handshake n t v v.state m)
 
-fresh_comes : (n : Node) (t : TrunkId) (k : ℕ) (m : Option HandshakeMessage) → IfGoes (arrive_fresh m t k (at_work n)) (HeldBefore n)
+fresh_comes : (n : Node) (t : TrunkId) (k : ℕ) (m : Option ShakeMsg) → IfGoes (arrive_fresh m t k (at_work n)) (HeldBefore n)
 fresh_comes n t k None = λ p q h. nothing h
-fresh_comes n t k (Some m) = still_holds n (awaits_name t m k (at_work n)) (still_fresh n t m k)
+fresh_comes n t k (Some m) = still_holds n (hears_name t m k (at_work n)) (subst (λ z. IfGoes z (Still n t)) (sym (name_as t m k (at_work n))) (still_fresh n t m k))
 
 pub arriving : (n : Node) (t : TrunkId) (o : Option TrunkSide) (x : Item) (k : ℕ) → IfGoes (arrive n t o x k) (HeldBefore n)
 arriving n t None x k = fresh_comes n t k (handshake_in x)

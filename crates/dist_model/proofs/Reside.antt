@@ -11,7 +11,7 @@ use Rattle.dist_model.proofs.Pairs.{Met, TrunkPairs, WorldKept, up_joined}
 use Rattle.dist_model.proofs.Routes.{node_of_name, node_of_set_other, node_of_set_same, side_where_found, side_where_none, some_same}
 use Rattle.dist_model.proofs.Sides.{SidesKept, asks, beside, holds, holds_kinds, joined, not_held, side_at, unheld_absent}
 use Rattle.dist_model.proofs.Views.{side_of, side_path}
-use Rattle.dist_model.specs.Items.{words}
+use Rattle.dist_model.specs.Items.{news}
 use Rattle.dist_model.specs.Names.{Name, same_name}
 use Rattle.dist_model.specs.Node.{Node, end_of, side_where}
 use Rattle.dist_model.specs.Sides.{State, TrunkSide, is_gone, is_up}
@@ -161,7 +161,7 @@ module _ (w : World) (x : Name) (n : Node) (t0 : TrunkId) (s0 : TrunkSide) (hx :
     -- what is claimed of the pairs on this trunk
     (claim : (z : Name) (b : Node) (v : TrunkSide) → node_of w.nodes z ≡ Some b → side_at b t0 ≡ Some v → s0.peer ≡ z → v.peer ≡ x
     → ((is_up s0.state ≡ true) × (joined v.state ≡ true)) ⊎ ((joined s0.state ≡ true) × (is_up v.state ≡ true)) → (p q : Pid) → p.node ≡ x → q.node ≡ z
-    → Kept (side_of n p q (words p q (list_to w.lists t0 z))) (side_of b q p (words q p (list_to w.lists t0 x))))
+    → Kept (side_of n p q (news p q (list_to w.lists t0 z))) (side_of b q p (news q p (list_to w.lists t0 x))))
     (k : WorldKept w) where
   n1 : Node
   n1 = with_side_at n t0 s0
@@ -223,11 +223,11 @@ module _ (w : World) (x : Name) (n : Node) (t0 : TrunkId) (s0 : TrunkSide) (hx :
   -- a pair of which one process is of x
   new_at_x : (z : Name) (b : Node) (t : TrunkId) (s v : TrunkSide) → node_of w.nodes z ≡ Some b → side_at n1 t ≡ Some s → side_at b t ≡ Some v → s.peer ≡ z → v.peer ≡ x
       → ((is_up s.state ≡ true) × (joined v.state ≡ true)) ⊎ ((joined s.state ≡ true) × (is_up v.state ≡ true)) → (p q : Pid) → p.node ≡ x → q.node ≡ z
-      → Kept (side_of n p q (words p q (list_to w.lists t z))) (side_of b q p (words q p (list_to w.lists t x)))
+      → Kept (side_of n p q (news p q (list_to w.lists t z))) (side_of b q p (news q p (list_to w.lists t x)))
   new_at_x z b t s v hb fs fv sz vx j p q pn qn = by_trunk _ t
       (λ te.
       let se : s0 ≡ s = some_same s0 s (sym at_same ∙ ap (side_at n1) (sym te) ∙ fs) in
-      subst (λ u. Kept (side_of n p q (words p q (list_to w.lists u z))) (side_of b q p (words q p (list_to w.lists u x)))) (sym te)
+      subst (λ u. Kept (side_of n p q (news p q (list_to w.lists u z))) (side_of b q p (news q p (list_to w.lists u x)))) (sym te)
       (claim z b v hb (ap (side_at b) (sym te) ∙ fv) (ap (λ (u : TrunkSide). u.peer) se ∙ sz) vx (states s se j) p q pn qn))
       (λ td. old td j)
     where
@@ -237,7 +237,7 @@ module _ (w : World) (x : Name) (n : Node) (t0 : TrunkId) (s0 : TrunkSide) (hx :
       states s e (inr h) = inr (ap (λ (u : TrunkSide). joined u.state) e ∙ h.0, h.1)
 
       old : (t ≡ t0 → ⊥) → ((is_up s.state ≡ true) × (joined v.state ≡ true)) ⊎ ((joined s.state ≡ true) × (is_up v.state ≡ true))
-          → Kept (side_of n p q (words p q (list_to w.lists t z))) (side_of b q p (words q p (list_to w.lists t x)))
+          → Kept (side_of n p q (news p q (list_to w.lists t z))) (side_of b q p (news q p (list_to w.lists t x)))
       old td (inl h) = k.trunks x z n b t s v hx hb (sym (at_other t td) ∙ fs) fv sz vx h.0 h.1 p q pn qn
       old td (inr h) = kept_swap _ _ (k.trunks z x b n t v s hb hx fv (sym (at_other t td) ∙ fs) vx sz h.1 h.0 q p qn pn)
 
@@ -248,15 +248,15 @@ module _ (w : World) (x : Name) (n : Node) (t0 : TrunkId) (s0 : TrunkSide) (hx :
       let na : n1 ≡ a = own y a e ha in
       let fs : side_at n1 t ≡ Some s = ap (λ m. side_at m t) na ∙ fa in
       let dz : x ≡ z → ⊥ = λ i. (new_sides x n1 here).other t s fs (sz ∙ sym i ∙ sym nx) in
-      subst (λ m. Kept (side_of m p q (words p q (list_to w.lists t z))) (side_of b q p (words q p (list_to w.lists t y)))) na
-      (subst (λ c. Kept (side_of n p q (words p q (list_to w.lists t z))) (side_of b q p (words q p (list_to w.lists t c)))) e
+      subst (λ m. Kept (side_of m p q (news p q (list_to w.lists t z))) (side_of b q p (news q p (list_to w.lists t y)))) na
+      (subst (λ c. Kept (side_of n p q (news p q (list_to w.lists t z))) (side_of b q p (news q p (list_to w.lists t c)))) e
       (new_at_x z b t s v (sym (there z dz) ∙ hb) fs fb sz (vy ∙ sym e) (inl (us, jv)) p q (py ∙ sym e) qz)))
       (λ dy. by_name _ z
       (λ e.
       let nb : n1 ≡ b = own z b e hb in
       let fs : side_at n1 t ≡ Some v = ap (λ m. side_at m t) nb ∙ fb in
-      kept_swap _ _ (subst (λ m. Kept (side_of m q p (words q p (list_to w.lists t y))) (side_of a p q (words p q (list_to w.lists t z)))) nb
-      (subst (λ c. Kept (side_of n q p (words q p (list_to w.lists t y))) (side_of a p q (words p q (list_to w.lists t c)))) e
+      kept_swap _ _ (subst (λ m. Kept (side_of m q p (news q p (list_to w.lists t y))) (side_of a p q (news p q (list_to w.lists t z)))) nb
+      (subst (λ c. Kept (side_of n q p (news q p (list_to w.lists t y))) (side_of a p q (news p q (list_to w.lists t c)))) e
       (new_at_x y a t v s (sym (there y dy) ∙ ha) fs fa vy (sz ∙ sym e) (inr (jv, us)) q p (qz ∙ sym e) py))))
       (λ dz. k.trunks y z a b t s v (sym (there y dy) ∙ ha) (sym (there z dz) ∙ hb) fa fb sz vy us jv p q py qz))
 
@@ -327,7 +327,7 @@ blank a b ea eb sa sb =
 pub accepts_up : (w : World) (x : Name) (n : Node) (t : TrunkId) (v s : TrunkSide) → node_of w.nodes x ≡ Some n → side_at n t ≡ Some v → v.peer ≡ s.peer
     → is_gone v.state ≡ false → holds v.state ≡ false → asks v.state ≡ false
     -- nothing about links was sent on this trunk, and the dialer isn't up
-    → ((p q : Pid) → words p q (list_to w.lists t x) ≡ []) → ((p q : Pid) → words p q (list_to w.lists t s.peer) ≡ [])
+    → ((p q : Pid) → news p q (list_to w.lists t x) ≡ []) → ((p q : Pid) → news p q (list_to w.lists t s.peer) ≡ [])
     → ((z : Name) (b : Node) (u : TrunkSide) → node_of w.nodes z ≡ Some b → side_at b t ≡ Some u → v.peer ≡ z → joined u.state ≡ true → is_up u.state ≡ false)
     → Fits n t s → WorldKept w → WorldKept (record { names = w.names; nodes = set_node w.nodes x (with_side_at n t s); lists = w.lists })
 accepts_up w x n t v s hx hv e ng nh na none_x none_p dialer f k = resided w x n t s hx f (λ d. k.met x n t v hx hv d)
@@ -335,7 +335,7 @@ accepts_up w x n t v s hx hv e ng nh na none_x none_p dialer f k = resided w x n
     let j : joined u.state ≡ true = of_other u c in
     let a1 : end_of n p q ≡ End.None = unheld_absent n p q (k.nodes x n hx) (ap (held n) (qn ∙ sym sz ∙ sym e) ∙ alone n t v (k.sides x n hx) hv ng nh na) in
     let a2 : end_of b q p ≡ End.None = unheld_absent b q p (k.nodes z b hb) (ap (held b) (pn ∙ sym ux) ∙ not_held b t u (k.sides z b hb) fb j (dialer z b u hb fb (e ∙ sz) j)) in
-    blank (side_of n p q (words p q (list_to w.lists t z))) (side_of b q p (words q p (list_to w.lists t x))) a1 a2 (ap (λ c. words p q (list_to w.lists t c)) (sym sz) ∙ none_p p q) (none_x q p)) k
+    blank (side_of n p q (news p q (list_to w.lists t z))) (side_of b q p (news q p (list_to w.lists t x))) a1 a2 (ap (λ c. news p q (list_to w.lists t c)) (sym sz) ∙ none_p p q) (none_x q p)) k
   where
     of_other : (u : TrunkSide) → ((is_up s.state ≡ true) × (joined u.state ≡ true)) ⊎ ((joined s.state ≡ true) × (is_up u.state ≡ true)) → joined u.state ≡ true
     of_other u (inl h) = h.1

@@ -1,4 +1,5 @@
 -- Where nothing travels, a monitor has come to its DOWN, or its target is living and registered.
+use Rattle.dist_model.proofs.Seeing.{connected_at, living_at, local_at, side_in}
 use Rattle.std.proofs.Common.{◌≡◌, ℕ, ◌≤◌, suc, Bool, true, false, cond, not, List, [], ◌∷◌, length, refl, sym, ap, ◌∙◌, subst, arith, ◌&&◌, ◌||◌, Option, Some, None, ◌⊎◌, inl, inr}
 use Rattle.std.proofs.lemmas.List.Elements.{All-head, All-tail}
 use Rattle.std.specs.List.{All}
@@ -25,7 +26,7 @@ use Rattle.dist_model.specs.Items.{Handshake, Item, Signalled, Tick}
 use Rattle.dist_model.specs.Names.{Name, same_name, same_pid}
 use Rattle.dist_model.specs.Node.{Node, living, side_where}
 use Rattle.dist_model.specs.Quiet.{Over, Quiet, Unconnected, Within, is_of, is_silent}
-use Rattle.dist_model.specs.Seen.{HasSide, connected_at, is_connected, is_living, living_at, local_at, local_list, side_in}
+use Rattle.dist_model.specs.Seen.{HasSide, is_connected, is_living, local_list}
 use Rattle.dist_model.specs.Sides.{State, TrunkSide, is_losing, is_up}
 use Rattle.dist_model.specs.World.{World, is_over, list_to, node_of}
 use Rattle.erl_control.specs.declared.signal.Signal.{Signal}
@@ -171,14 +172,9 @@ module _ (w : World) (h : History) (t : Tale w h) (k : Reference) (p q : Pid) (m
     apart : same_name p.node q.node ≡ false → same_name q.node v.mint.name ≡ false
     apart n = by_test _ (same_name q.node v.mint.name) (λ i. let z : true ≡ false = sym (same_name_is p.node q.node (sym own_name ∙ sym (same_name_true q.node v.mint.name i))) ∙ n in cc) (λ i. i)
 
-    side_apart : (u : TrunkId) → HasSide w p.node u q.node is_up → same_name q.node v.mint.name ≡ false
-    side_apart u a = by_test _ (same_name q.node v.mint.name)
-        (λ i. absurd ((t.good.core.sides y v hv).other u a.side (sym (ap (λ o. side_in o u) here) ∙ a.there) (a.peer ∙ same_name_true q.node v.mint.name i)))
-        (λ i. i)
-
     watched : Quiet w p q → IsRegistered w k p q
     watched (Within e s) = at_home e s (followed.0 (same_name_is q.node v.mint.name (sym e ∙ sym own_name)))
-    watched (Over u a b s r) = far_away (followed.1 (side_apart u a)) u a b s r
+    watched (Over n u c s r) = far_away (followed.1 (apart n)) u c.0 c.1 s r
     watched (Unconnected n c d) = absurd (not_away (followed.1 (apart n)) c)
 
 pub down_or_registered : (h : History) (w : World) → Tale w h → DownOrRegistered h w

@@ -8,12 +8,13 @@ use Rattle.std.specs.Cmp.{tied_itself}
 use Rattle.std.specs.FinMap as fm
 use Rattle.std.specs.FinMap.Entries.{find, is_sorted, below_all}
 use Rattle.dist_model.proofs.Keys.{and_both, place_total, same_name_is, same_name_true, same_place, same_trunk, same_trunk_is, same_trunk_true, trunk_total}
+use Rattle.dist_model.proofs.Seeing.{list_in}
 use Rattle.dist_model.specs.Items.{Item}
 use Rattle.dist_model.specs.Names.{Name, place_cmp, same_name}
 use Rattle.dist_model.specs.Node.{Node, route_in, side_where}
 use Rattle.dist_model.specs.Sides.{State, TrunkSide, is_up}
 use Rattle.dist_model.specs.Work.{Envelope}
-use Rattle.dist_model.specs.World.{carried, list_in, list_to, node_of, set_node}
+use Rattle.dist_model.specs.World.{carried, list_to, node_of, set_node}
 use Rattle.erl_names.specs.Order.{trunk_cmp}
 use Rattle.erl_names.specs.declared.trunk.TrunkId.{TrunkId}
 use Rattle.std.specs.FinMap.{FinMap}

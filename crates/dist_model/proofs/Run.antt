@@ -1,8 +1,9 @@
 -- Every step keeps the world good.
+use Rattle.std.proofs.Common.{◌++◌}
 use Rattle.std.proofs.Common.{inr}
 use Rattle.std.proofs.Common.{subst}
 use Rattle.std.proofs.Common.{inl}
-use Rattle.std.proofs.Common.{◌≡◌, ℕ, ◌+◌, Bool, true, false, cond, not, List, [], ◌∷◌, refl, sym, ap, ◌∙◌, ◌&&◌, Option, Some, None, nat_lt, ◌==◌, ◌^◌}
+use Rattle.std.proofs.Common.{◌≡◌, ℕ, ◌+◌, Bool, true, false, cond, not, List, [], ◌∷◌, refl, sym, ap, ◌∙◌, ◌&&◌, Option, Some, None, nat_lt, ◌^◌}
 use Rattle.std.specs.Option.{is_some}
 use Rattle.std.specs.FinMap as fm
 use Rattle.dist_model.proofs.Arrivals.{acceptance_comes, broken, challenge_comes, good_awaits_reply, good_awaits_status, good_lose, good_on_up, unless}
@@ -13,21 +14,29 @@ use Rattle.dist_model.proofs.Keys.{and_both, place_total, same_name_refl, same_p
 use Rattle.dist_model.proofs.NewSides.{good_dial}
 use Rattle.dist_model.proofs.Primitives.{good_popped}
 use Rattle.dist_model.proofs.Routes.{node_of_name, none_some, some_same}
+use Rattle.dist_model.proofs.Rules.{awaits_ack, awaits_challenge, awaits_true, handshake_as, handshake_by, name_as}
 use Rattle.dist_model.proofs.Sides.{side_at}
 use Rattle.dist_model.proofs.Signals.{good_local}
 use Rattle.dist_model.proofs.Table.{Good, good_call}
-use Rattle.dist_model.specs.Arrivals.{arrive_at, arrive_fresh, handshake_at, handshake_in, signal_at, take_local}
+use Rattle.dist_model.specs.Arrivals.{arrive, arrive_at, arrive_fresh, handshake_in, signal_at, take_local}
+use Rattle.dist_model.specs.Calls.{call}
 use Rattle.dist_model.specs.Commands.{Done, Goes, Outcome, Refuses}
-use Rattle.dist_model.specs.Handshake.{awaits_ack, awaits_challenge, awaits_true, dig, fault, has_flags}
-use Rattle.dist_model.specs.Incarnations.{start, started}
-use Rattle.dist_model.specs.Items.{Challenge, ChallengeAck, ChallengeReply, Handshake, HandshakeMessage, Item, SendName, Signalled, StatusAlive, StatusFalse, StatusNok, StatusNotAllowed, StatusOk, StatusOkSimultaneous, StatusTrue, Tick}
-use Rattle.dist_model.specs.Losses.{lose}
+use Rattle.dist_model.specs.Dialing.{dial}
+use Rattle.dist_model.specs.Handshake.{fault, handshake_at}
+use Rattle.dist_model.specs.Incarnations.{start, started, stop}
+use Rattle.dist_model.specs.Items.{Handshake, Item, Signalled, Tick}
+use Rattle.dist_model.specs.Losses.{lose, sweep}
 use Rattle.dist_model.specs.Names.{Name, place_cmp, same_name}
 use Rattle.dist_model.specs.Node.{Node}
 use Rattle.dist_model.specs.Runs.{Always, Comes, Runs, opening, run}
 use Rattle.dist_model.specs.Sides.{Accepting, Asked, AwaitsAck, AwaitsChallenge, AwaitsStatus, Gone, Losing, Parked, State, TrunkSide, Up, is_up}
 use Rattle.dist_model.specs.Work.{at_work}
-use Rattle.dist_model.specs.World.{Arrive, Call, Dial, Event, Local, Lose, Report, Start, Stepped, Stop, Sweep, World, arrives, arrives_first, carried, ends_in, is_over, list_to, node_name, node_of, refused, running, set_node, step, step_at}
+use Rattle.dist_model.specs.World.{Arrive, Call, Dial, Event, Local, Lose, Refused, Report, Start, Stepped, Stop, Sweep, World, arrives, arrives_first, carried, ends_in, is_over, list_to, node_name, node_of, refused, running, set_node, step, step_at}
+use Rattle.erl_handshake.specs.Digest.{digest_of}
+use Rattle.erl_handshake.specs.Flags.{has_all_of, mandatory}
+use Rattle.erl_handshake.specs.Roles.{is_answered, is_same}
+use Rattle.erl_handshake.specs.declared.message.ShakeMsg.{ShakeMsg}
+use Rattle.erl_handshake.specs.declared.status.Status.{Status}
 use Rattle.erl_names.specs.declared.trunk.TrunkId.{TrunkId}
 use Rattle.erl_term.specs.declared.refusal.Refusal.{Refusal}
 use Rattle.std.specs.FinMap.{FinMap}
@@ -35,7 +44,7 @@ use Rattle.std.specs.FinMap.{FinMap}
 popped_world : World → TrunkId → Name → List Item → World
 popped_world w t x rest = record { names = w.names; nodes = w.nodes; lists = fm.insert w.lists (t, x) rest }
 
-handshake_is : (i : Item) (m : HandshakeMessage) → handshake_in i ≡ Some m → i ≡ Handshake m
+handshake_is : (i : Item) (m : ShakeMsg) → handshake_in i ≡ Some m → i ≡ Handshake m
 handshake_is (Handshake l) m h = ap Handshake (some_same l m h)
 handshake_is (Signalled s) m h = absurd (none_some m h)
 handshake_is Tick m h = absurd (none_some m h)
@@ -44,58 +53,61 @@ module _ (w : World) (x : Name) (n : Node) (t : TrunkId) (v : TrunkSide) (rest :
   abbrev To : Item → Outcome → Type 0
   To i o = list_to w.lists t x ≡ i ∷ rest → IfGoes o (λ p. Good (record { names = w.names; nodes = set_node w.nodes x p.node; lists = carried (fm.insert w.lists (t, x) rest) p.sent }))
 
-  good_awaits_challenge_item : (u : ℕ) → v.state ≡ AwaitsChallenge u → (m : HandshakeMessage) → To (Handshake m) (awaits_challenge t v u m (at_work n))
-  good_awaits_challenge_item u s (Challenge a b c d) e = unless w x n t v rest hx h g (same_name a v.peer) (Handshake (Challenge a b c d)) _ Refusal.Forged
-      (λ _ f. unless w x n t v rest hx h g (has_flags c) (Handshake (Challenge a b c d)) _ Refusal.FlagsMissing
-      (λ _ k. challenge_comes w x n t v (Handshake (Challenge a b c d)) rest hx h g k u b (dig n.cookie d) s refl (λ p q. refl)) f) e
-  good_awaits_challenge_item u s StatusOk e = broken w x n t v rest hx h g Refusal.BadMessage (Handshake StatusOk) e
-  good_awaits_challenge_item u s StatusOkSimultaneous e = broken w x n t v rest hx h g Refusal.BadMessage (Handshake StatusOkSimultaneous) e
-  good_awaits_challenge_item u s StatusAlive e = broken w x n t v rest hx h g Refusal.BadMessage (Handshake StatusAlive) e
-  good_awaits_challenge_item u s StatusNok e = broken w x n t v rest hx h g Refusal.BadMessage (Handshake StatusNok) e
-  good_awaits_challenge_item u s StatusNotAllowed e = broken w x n t v rest hx h g Refusal.BadMessage (Handshake StatusNotAllowed) e
-  good_awaits_challenge_item u s (SendName a b c) e = broken w x n t v rest hx h g Refusal.BadMessage (Handshake (SendName a b c)) e
-  good_awaits_challenge_item u s StatusTrue e = broken w x n t v rest hx h g Refusal.BadMessage (Handshake StatusTrue) e
-  good_awaits_challenge_item u s StatusFalse e = broken w x n t v rest hx h g Refusal.BadMessage (Handshake StatusFalse) e
-  good_awaits_challenge_item u s (ChallengeReply a b) e = broken w x n t v rest hx h g Refusal.BadMessage (Handshake (ChallengeReply a b)) e
-  good_awaits_challenge_item u s (ChallengeAck a) e = broken w x n t v rest hx h g Refusal.BadMessage (Handshake (ChallengeAck a)) e
+  good_awaits_challenge_item : (u : ℕ) → v.state ≡ AwaitsChallenge u → (m : ShakeMsg) → To (Handshake m) (awaits_challenge t v u m (at_work n))
+  good_awaits_challenge_item u s (ShakeMsg.Challenge c d b a) e = unless w x n t v rest hx h g (is_same a v.peer) (Handshake (ShakeMsg.Challenge c d b a)) _ Refusal.Forged
+      (λ _ f. unless w x n t v rest hx h g (has_all_of c mandatory) (Handshake (ShakeMsg.Challenge c d b a)) _ Refusal.FlagsMissing
+      (λ _ k. challenge_comes w x n t v (Handshake (ShakeMsg.Challenge c d b a)) rest hx h g k u b (digest_of n.cookie d) s refl (λ p q. refl)) f) e
+  good_awaits_challenge_item u s (ShakeMsg.Status Status.Ok) e = broken w x n t v rest hx h g Refusal.BadMessage (Handshake (ShakeMsg.Status Status.Ok)) e
+  good_awaits_challenge_item u s (ShakeMsg.Status Status.OkSimultaneous) e = broken w x n t v rest hx h g Refusal.BadMessage (Handshake (ShakeMsg.Status Status.OkSimultaneous)) e
+  good_awaits_challenge_item u s (ShakeMsg.Status Status.Alive) e = broken w x n t v rest hx h g Refusal.BadMessage (Handshake (ShakeMsg.Status Status.Alive)) e
+  good_awaits_challenge_item u s (ShakeMsg.Status Status.Nok) e = broken w x n t v rest hx h g Refusal.BadMessage (Handshake (ShakeMsg.Status Status.Nok)) e
+  good_awaits_challenge_item u s (ShakeMsg.Status Status.NotAllowed) e = broken w x n t v rest hx h g Refusal.BadMessage (Handshake (ShakeMsg.Status Status.NotAllowed)) e
+  good_awaits_challenge_item u s (ShakeMsg.SendName c b a) e = broken w x n t v rest hx h g Refusal.BadMessage (Handshake (ShakeMsg.SendName c b a)) e
+  good_awaits_challenge_item u s (ShakeMsg.Status Status.True) e = broken w x n t v rest hx h g Refusal.BadMessage (Handshake (ShakeMsg.Status Status.True)) e
+  good_awaits_challenge_item u s (ShakeMsg.Status Status.False) e = broken w x n t v rest hx h g Refusal.BadMessage (Handshake (ShakeMsg.Status Status.False)) e
+  good_awaits_challenge_item u s (ShakeMsg.ChallengeReply a b) e = broken w x n t v rest hx h g Refusal.BadMessage (Handshake (ShakeMsg.ChallengeReply a b)) e
+  good_awaits_challenge_item u s (ShakeMsg.ChallengeAck a) e = broken w x n t v rest hx h g Refusal.BadMessage (Handshake (ShakeMsg.ChallengeAck a)) e
 
-  good_awaits_ack_item : (u : ℕ) → v.state ≡ AwaitsAck u → (m : HandshakeMessage) → To (Handshake m) (awaits_ack t v u m (at_work n))
-  good_awaits_ack_item u s (ChallengeAck a) e = unless w x n t v rest hx h g (a == dig n.cookie u) (Handshake (ChallengeAck a)) _ Refusal.BadDigest
-      (λ _ k. acceptance_comes w x n t v (Handshake (ChallengeAck a)) rest hx h g k u s refl (λ p q. refl)) e
-  good_awaits_ack_item u s StatusOk e = broken w x n t v rest hx h g Refusal.BadMessage (Handshake StatusOk) e
-  good_awaits_ack_item u s StatusOkSimultaneous e = broken w x n t v rest hx h g Refusal.BadMessage (Handshake StatusOkSimultaneous) e
-  good_awaits_ack_item u s StatusAlive e = broken w x n t v rest hx h g Refusal.BadMessage (Handshake StatusAlive) e
-  good_awaits_ack_item u s StatusNok e = broken w x n t v rest hx h g Refusal.BadMessage (Handshake StatusNok) e
-  good_awaits_ack_item u s StatusNotAllowed e = broken w x n t v rest hx h g Refusal.BadMessage (Handshake StatusNotAllowed) e
-  good_awaits_ack_item u s (SendName a b c) e = broken w x n t v rest hx h g Refusal.BadMessage (Handshake (SendName a b c)) e
-  good_awaits_ack_item u s StatusTrue e = broken w x n t v rest hx h g Refusal.BadMessage (Handshake StatusTrue) e
-  good_awaits_ack_item u s StatusFalse e = broken w x n t v rest hx h g Refusal.BadMessage (Handshake StatusFalse) e
-  good_awaits_ack_item u s (Challenge a b c d) e = broken w x n t v rest hx h g Refusal.BadMessage (Handshake (Challenge a b c d)) e
-  good_awaits_ack_item u s (ChallengeReply a b) e = broken w x n t v rest hx h g Refusal.BadMessage (Handshake (ChallengeReply a b)) e
+  good_awaits_ack_item : (u : ℕ) → v.state ≡ AwaitsAck u → (m : ShakeMsg) → To (Handshake m) (awaits_ack t v u m (at_work n))
+  good_awaits_ack_item u s (ShakeMsg.ChallengeAck a) e = unless w x n t v rest hx h g (is_answered n.cookie u a) (Handshake (ShakeMsg.ChallengeAck a)) _ Refusal.BadDigest
+      (λ _ k. acceptance_comes w x n t v (Handshake (ShakeMsg.ChallengeAck a)) rest hx h g k u s refl (λ p q. refl)) e
+  good_awaits_ack_item u s (ShakeMsg.Status Status.Ok) e = broken w x n t v rest hx h g Refusal.BadMessage (Handshake (ShakeMsg.Status Status.Ok)) e
+  good_awaits_ack_item u s (ShakeMsg.Status Status.OkSimultaneous) e = broken w x n t v rest hx h g Refusal.BadMessage (Handshake (ShakeMsg.Status Status.OkSimultaneous)) e
+  good_awaits_ack_item u s (ShakeMsg.Status Status.Alive) e = broken w x n t v rest hx h g Refusal.BadMessage (Handshake (ShakeMsg.Status Status.Alive)) e
+  good_awaits_ack_item u s (ShakeMsg.Status Status.Nok) e = broken w x n t v rest hx h g Refusal.BadMessage (Handshake (ShakeMsg.Status Status.Nok)) e
+  good_awaits_ack_item u s (ShakeMsg.Status Status.NotAllowed) e = broken w x n t v rest hx h g Refusal.BadMessage (Handshake (ShakeMsg.Status Status.NotAllowed)) e
+  good_awaits_ack_item u s (ShakeMsg.SendName c b a) e = broken w x n t v rest hx h g Refusal.BadMessage (Handshake (ShakeMsg.SendName c b a)) e
+  good_awaits_ack_item u s (ShakeMsg.Status Status.True) e = broken w x n t v rest hx h g Refusal.BadMessage (Handshake (ShakeMsg.Status Status.True)) e
+  good_awaits_ack_item u s (ShakeMsg.Status Status.False) e = broken w x n t v rest hx h g Refusal.BadMessage (Handshake (ShakeMsg.Status Status.False)) e
+  good_awaits_ack_item u s (ShakeMsg.Challenge c d b a) e = broken w x n t v rest hx h g Refusal.BadMessage (Handshake (ShakeMsg.Challenge c d b a)) e
+  good_awaits_ack_item u s (ShakeMsg.ChallengeReply a b) e = broken w x n t v rest hx h g Refusal.BadMessage (Handshake (ShakeMsg.ChallengeReply a b)) e
 
-  good_awaits_true_item : (u : ℕ) → v.state ≡ Asked u → (m : HandshakeMessage) → To (Handshake m) (awaits_true t v u m (at_work n))
-  good_awaits_true_item u s StatusTrue e = asked_on (record { names = w.names; nodes = w.nodes; lists = fm.insert w.lists (t, x) rest }) x n hx (good_popped w t x (Handshake StatusTrue) rest g e (λ m b hm hb j p q. refl)) t v u h s
-  good_awaits_true_item u s StatusOk e = broken w x n t v rest hx h g Refusal.BadMessage (Handshake StatusOk) e
-  good_awaits_true_item u s StatusOkSimultaneous e = broken w x n t v rest hx h g Refusal.BadMessage (Handshake StatusOkSimultaneous) e
-  good_awaits_true_item u s StatusAlive e = broken w x n t v rest hx h g Refusal.BadMessage (Handshake StatusAlive) e
-  good_awaits_true_item u s StatusNok e = broken w x n t v rest hx h g Refusal.BadMessage (Handshake StatusNok) e
-  good_awaits_true_item u s StatusNotAllowed e = broken w x n t v rest hx h g Refusal.BadMessage (Handshake StatusNotAllowed) e
-  good_awaits_true_item u s (SendName a b c) e = broken w x n t v rest hx h g Refusal.BadMessage (Handshake (SendName a b c)) e
-  good_awaits_true_item u s StatusFalse e = broken w x n t v rest hx h g Refusal.Nok (Handshake StatusFalse) e
-  good_awaits_true_item u s (Challenge a b c d) e = broken w x n t v rest hx h g Refusal.BadMessage (Handshake (Challenge a b c d)) e
-  good_awaits_true_item u s (ChallengeReply a b) e = broken w x n t v rest hx h g Refusal.BadMessage (Handshake (ChallengeReply a b)) e
-  good_awaits_true_item u s (ChallengeAck a) e = broken w x n t v rest hx h g Refusal.BadMessage (Handshake (ChallengeAck a)) e
+  good_awaits_true_item : (u : ℕ) → v.state ≡ Asked u → (m : ShakeMsg) → To (Handshake m) (awaits_true t v u m (at_work n))
+  good_awaits_true_item u s (ShakeMsg.Status Status.True) e = asked_on (record { names = w.names; nodes = w.nodes; lists = fm.insert w.lists (t, x) rest }) x n hx (good_popped w t x (Handshake (ShakeMsg.Status Status.True)) rest g e (λ m b hm hb j p q. refl)) t v u h s
+  good_awaits_true_item u s (ShakeMsg.Status Status.Ok) e = broken w x n t v rest hx h g Refusal.BadMessage (Handshake (ShakeMsg.Status Status.Ok)) e
+  good_awaits_true_item u s (ShakeMsg.Status Status.OkSimultaneous) e = broken w x n t v rest hx h g Refusal.BadMessage (Handshake (ShakeMsg.Status Status.OkSimultaneous)) e
+  good_awaits_true_item u s (ShakeMsg.Status Status.Alive) e = broken w x n t v rest hx h g Refusal.BadMessage (Handshake (ShakeMsg.Status Status.Alive)) e
+  good_awaits_true_item u s (ShakeMsg.Status Status.Nok) e = broken w x n t v rest hx h g Refusal.BadMessage (Handshake (ShakeMsg.Status Status.Nok)) e
+  good_awaits_true_item u s (ShakeMsg.Status Status.NotAllowed) e = broken w x n t v rest hx h g Refusal.BadMessage (Handshake (ShakeMsg.Status Status.NotAllowed)) e
+  good_awaits_true_item u s (ShakeMsg.SendName c b a) e = broken w x n t v rest hx h g Refusal.BadMessage (Handshake (ShakeMsg.SendName c b a)) e
+  good_awaits_true_item u s (ShakeMsg.Status Status.False) e = broken w x n t v rest hx h g Refusal.Nok (Handshake (ShakeMsg.Status Status.False)) e
+  good_awaits_true_item u s (ShakeMsg.Challenge c d b a) e = broken w x n t v rest hx h g Refusal.BadMessage (Handshake (ShakeMsg.Challenge c d b a)) e
+  good_awaits_true_item u s (ShakeMsg.ChallengeReply a b) e = broken w x n t v rest hx h g Refusal.BadMessage (Handshake (ShakeMsg.ChallengeReply a b)) e
+  good_awaits_true_item u s (ShakeMsg.ChallengeAck a) e = broken w x n t v rest hx h g Refusal.BadMessage (Handshake (ShakeMsg.ChallengeAck a)) e
 
-  by_handshake : (a : State) → v.state ≡ a → (m : HandshakeMessage) → To (Handshake m) (handshake_at a t v m (at_work n))
-  by_handshake (AwaitsStatus u) s m = good_awaits_status w x n t v rest hx h g u s m
-  by_handshake (AwaitsChallenge u) s m = good_awaits_challenge_item u s m
-  by_handshake (AwaitsAck u) s m = good_awaits_ack_item u s m
-  by_handshake (Asked u) s m = good_awaits_true_item u s m
-  by_handshake (Parked u) s m = broken w x n t v rest hx h g Refusal.BadMessage (Handshake m)
-  by_handshake (Accepting u) s m = good_awaits_reply w x n t v rest hx h g u s m
-  by_handshake Up s m = broken w x n t v rest hx h g Refusal.BadMessage (Handshake m)
-  by_handshake Losing s m = λ e. tt
-  by_handshake Gone s m = λ e. tt
+  by_rule : (a : State) → v.state ≡ a → (m : ShakeMsg) → To (Handshake m) (handshake_by a t v m (at_work n))
+  by_rule (AwaitsStatus u) s m = good_awaits_status w x n t v rest hx h g u s m
+  by_rule (AwaitsChallenge u) s m = good_awaits_challenge_item u s m
+  by_rule (AwaitsAck u) s m = good_awaits_ack_item u s m
+  by_rule (Asked u) s m = good_awaits_true_item u s m
+  by_rule (Parked u) s m = broken w x n t v rest hx h g Refusal.BadMessage (Handshake m)
+  by_rule (Accepting u) s m = good_awaits_reply w x n t v rest hx h g u s m
+  by_rule Up s m = broken w x n t v rest hx h g Refusal.BadMessage (Handshake m)
+  by_rule Losing s m = λ e. tt
+  by_rule Gone s m = λ e. tt
+
+  by_handshake : (a : State) → v.state ≡ a → (m : ShakeMsg) → To (Handshake m) (handshake_at a t v m (at_work n))
+  by_handshake a s m = subst (λ z. To (Handshake m) z) (sym (handshake_as a t v m (at_work n))) (by_rule a s m)
 
   by_signal : (a : State) → v.state ≡ a → (i : Item) → To i (signal_at a t v i (at_work n))
   by_signal (AwaitsStatus u) s i = broken w x n t v rest hx h g Refusal.BadMessage i
@@ -108,7 +120,7 @@ module _ (w : World) (x : Name) (n : Node) (t : TrunkId) (v : TrunkSide) (rest :
   by_signal Losing s i = λ e. tt
   by_signal Gone s i = λ e. tt
 
-  by_kind : (o : Option HandshakeMessage) (i : Item) → handshake_in i ≡ o → To i (arrive_at o t v i (at_work n))
+  by_kind : (o : Option ShakeMsg) (i : Item) → handshake_in i ≡ o → To i (arrive_at o t v i (at_work n))
   by_kind None i k = by_signal v.state refl i
   by_kind (Some m) i k = λ e. by_handshake v.state refl m (e ∙ ap (λ z. z ∷ rest) (handshake_is i m k))
 
@@ -129,19 +141,19 @@ module _ (w : World) (x : Name) (n : Node) (hx : node_of w.nodes x ≡ Some n) (
   bad : Well (fault Refusal.BadMessage t (record { peer = t.dialer; peer_creation = 0; state = Gone }) (at_work n))
   bad = fresh_fault w x n hx g t 0 far key none Refusal.BadMessage
 
-  fresh_item : (o : Option HandshakeMessage) (k : ℕ) → Well (arrive_fresh o t k (at_work n))
+  fresh_item : (o : Option ShakeMsg) (k : ℕ) → Well (arrive_fresh o t k (at_work n))
   fresh_item None z = bad
-  fresh_item (Some (SendName a b c)) k = fresh_hello w x n hx g t b far key none a c k
-  fresh_item (Some StatusOk) z = bad
-  fresh_item (Some StatusOkSimultaneous) z = bad
-  fresh_item (Some StatusNok) z = bad
-  fresh_item (Some StatusNotAllowed) z = bad
-  fresh_item (Some StatusAlive) z = bad
-  fresh_item (Some StatusTrue) z = bad
-  fresh_item (Some StatusFalse) z = bad
-  fresh_item (Some (Challenge a b c d)) z = bad
-  fresh_item (Some (ChallengeReply a b)) z = bad
-  fresh_item (Some (ChallengeAck a)) z = bad
+  fresh_item (Some (ShakeMsg.SendName c b a)) k = subst Well (sym (name_as t (ShakeMsg.SendName c b a) k (at_work n))) (fresh_hello w x n hx g t b far key none a c k)
+  fresh_item (Some (ShakeMsg.Status Status.Ok)) z = bad
+  fresh_item (Some (ShakeMsg.Status Status.OkSimultaneous)) z = bad
+  fresh_item (Some (ShakeMsg.Status Status.Nok)) z = bad
+  fresh_item (Some (ShakeMsg.Status Status.NotAllowed)) z = bad
+  fresh_item (Some (ShakeMsg.Status Status.Alive)) z = bad
+  fresh_item (Some (ShakeMsg.Status Status.True)) z = bad
+  fresh_item (Some (ShakeMsg.Status Status.False)) z = bad
+  fresh_item (Some (ShakeMsg.Challenge c d b a)) z = bad
+  fresh_item (Some (ShakeMsg.ChallengeReply a b)) z = bad
+  fresh_item (Some (ShakeMsg.ChallengeAck a)) z = bad
 
 first_fresh : (w : World) (x : Name) (n : Node) (t : TrunkId) (k : ℕ) (l : List Item) → node_of w.nodes x ≡ Some n → side_at n t ≡ None → Good w → is_some (fm.get w.lists (t, x)) ≡ true → same_name t.dialer x ≡ false → list_to w.lists t x ≡ l → Good ((arrives_first w n t x k None l).world)
 first_fresh w x n t k [] hx none g key far e = g
@@ -222,3 +234,54 @@ good_runs w (e ∷ es) (r ∷ rs) v g h = good_runs h.0 es rs v (comes w e r h.0
 
 pub always : (Holds : World → Type 0) → ((cs : List (Name × List ℕ)) → Good (opening cs)) → ((w : World) → Good w → Holds w) → Always Holds
 always Holds opens f cs es rs w h = f w (good_runs (opening cs) es rs w (opens cs) h)
+
+pub events_run : (es : List Event) (w : World) → (rs : List Report) × Runs w es rs (run es w)
+events_run [] w = ([], refl)
+events_run (e ∷ es) w =
+    let r = events_run es ((step w e).world) in
+    ((step w e).report ∷ r.0, ((step w e).world, inl (refl, refl), r.1))
+
+pub moments : (es fs : List Event) (rs : List Report) (w v : World) → Runs w (es ++ fs) rs v → (earlier : List Report) × (later : List Report) × (now : World) × (rs ≡ earlier ++ later) × Runs w es earlier now × Runs now fs later v
+moments [] fs rs w v h = ([], rs, w, refl, refl, h)
+moments (e ∷ es) fs [] w v h = absurd h
+moments (e ∷ es) fs (r ∷ rs) w v h =
+    let m = moments es fs rs h.0 v h.2 in
+    (r ∷ m.0, m.1, m.2, ap (λ l. r ∷ l) m.3, (h.0, h.1, m.4), m.5)
+
+-- a refusal changes nothing
+abbrev Unchanged : World → Stepped → Type 0
+Unchanged w s = (r : Refusal) → s.report ≡ Refused r → s.world ≡ w
+
+unchanged_ends : (w : World) (x : Name) (m : FinMap place_cmp (List Item)) (o : Outcome) → Unchanged w (ends_in w x m o)
+unchanged_ends w x m (Refuses k) r h = refl
+unchanged_ends w x m (Goes a o) r h = cc
+
+unchanged_cond : (w : World) (b : Bool) (s u : Stepped) → Unchanged w s → Unchanged w u → Unchanged w (cond b s u)
+unchanged_cond w true s u f g = f
+unchanged_cond w false s u f g = g
+
+unchanged_first : (w : World) (n : Node) (t : TrunkId) (x : Name) (k : ℕ) (o : Option TrunkSide) (l : List Item) → Unchanged w (arrives_first w n t x k o l)
+unchanged_first w n t x k o [] = λ r h. refl
+unchanged_first w n t x k o (i ∷ is) = unchanged_ends w x (fm.insert w.lists (t, x) is) (arrive n t o i k)
+
+unchanged_arrives : (w : World) (n : Node) (t : TrunkId) (x : Name) (k : ℕ) (o : Option TrunkSide) → Unchanged w (arrives w n t x k o)
+unchanged_arrives w n t x k None = unchanged_cond w _ _ _ (unchanged_first w n t x k None (list_to w.lists t x)) (λ r h. refl)
+unchanged_arrives w n t x k (Some s) = unchanged_cond w _ _ _ (λ r h. refl) (unchanged_first w n t x k (Some s) (list_to w.lists t x))
+
+unchanged_running : (w : World) (n : Node) (s : Stepped) → Unchanged w s → Unchanged w (running w n s)
+unchanged_running w n s f = unchanged_cond w n.up s (refused w Refusal.NodeDown) f (λ r h. refl)
+
+unchanged_at : (w : World) (o : Option Node) (e : Event) → Unchanged w (step_at w o e)
+unchanged_at w None e = λ r h. refl
+unchanged_at w (Some n) (Call x c) = unchanged_running w n _ (unchanged_ends w x w.lists (call n c))
+unchanged_at w (Some n) (Arrive t x k) = unchanged_running w n _ (unchanged_arrives w n t x k (fm.get n.sides t))
+unchanged_at w (Some n) (Local x) = unchanged_running w n _ (unchanged_ends w x w.lists (take_local n n.local))
+unchanged_at w (Some n) (Lose t x) = unchanged_running w n _ (unchanged_ends w x w.lists (lose n t (fm.get n.sides t)))
+unchanged_at w (Some n) (Sweep x) = unchanged_running w n _ (unchanged_ends w x w.lists (sweep n))
+unchanged_at w (Some n) (Dial x y k) = unchanged_running w n _ (unchanged_ends w x w.lists (dial w.names n y k))
+unchanged_at w (Some n) (Stop x) = unchanged_running w n _ (unchanged_ends w x w.lists (stop n))
+unchanged_at w (Some n) (Start x) = unchanged_ends w x w.lists (start n)
+
+pub refused_unchanged : (w v : World) (e : Event) (r : Refusal) → Comes w e (Refused r) v → v ≡ w
+refused_unchanged w v e r (inl h) = h.1 ∙ unchanged_at w (node_of w.nodes (node_name e)) e r (sym h.0)
+refused_unchanged w v e r (inr h) = h.1

@@ -3,7 +3,6 @@ use Rattle.std.proofs.Common.{Contains}
 use Rattle.std.proofs.Common.{◌≡◌, ℕ, Bool, true, false, cond, not, List, [], ◌∷◌, refl, sym, ap, ◌∙◌, subst, ◌&&◌, ◌||◌, ◌++◌, Option, Some, None, ◌⊎◌, inl, inr, ◌↔◌}
 use Rattle.std.specs.Option.{is_some}
 use Rattle.std.specs.FinMap as fm
-use Rattle.dist_model.specs.Node
 use Rattle.dist_model.proofs.Calls.{by_test}
 use Rattle.dist_model.proofs.Kept.{Kept, pending_travels}
 use Rattle.dist_model.proofs.Keys.{and_both, same_name_is, same_name_true, same_pid_refl, same_pid_true}
@@ -12,17 +11,18 @@ use Rattle.dist_model.proofs.Pair.{has_link}
 use Rattle.dist_model.proofs.Pairs.{up_joined}
 use Rattle.dist_model.proofs.Reside.{blank}
 use Rattle.dist_model.proofs.Routes.{node_of_name, some_same}
+use Rattle.dist_model.proofs.Seeing.{connected_at, end_at, end_in, living_at, local_at, new_nodes, side_in}
 use Rattle.dist_model.proofs.Sides.{beside, holds_kinds, or_false, or_true, side_at, unheld_absent, up_holds, up_not_gone}
 use Rattle.dist_model.proofs.Table.{Good, HomeKept, Likely, no_asks_beside, up_likely}
 use Rattle.dist_model.proofs.Views.{over, side_of}
-use Rattle.dist_model.specs.Claims.{Agreement, AgreementInQuiet, AgreementWithin, NoLinkToItself, NoLinkToTheDead, NoUpBesideLosing, OneTrunk, PendingOnItsWay, PendingWithin}
-use Rattle.dist_model.specs.Items.{Handshake, Item, Signalled, Tick, word_in, words}
-use Rattle.dist_model.specs.Links.{Exits, LinkWord, Says, drained, last_said}
+use Rattle.dist_model.specs.Claims.{Agreement, AgreementInQuiet, AgreementWithin, LinkNeedsConnection, LivingWasSpawned, NoLinkToItself, NoLinkToTheDead, NoUpBesideLosing, OneTrunk, PendingOnItsWay, PendingWithin}
+use Rattle.dist_model.specs.Items.{Handshake, Item, Signalled, Tick, news, news_in}
+use Rattle.dist_model.specs.Links.{Exits, LinkNews, Says, drained, last_said}
 use Rattle.dist_model.specs.Names.{Name, pair_cmp, place_cmp, same_name, same_pid}
-use Rattle.dist_model.specs.Node.{Node, end_in, end_of, is_living_life, living, never}
+use Rattle.dist_model.specs.Node.{Node, end_of, is_living_life, living, never}
 use Rattle.dist_model.specs.Quiet.{Over, Unconnected, Within, is_of, is_silent}
-use Rattle.dist_model.specs.Runs.{new_node, new_nodes, opening}
-use Rattle.dist_model.specs.Seen.{HasSide, connected_at, end_at, end_between, is_connected, living_at, local_at, local_list, side_in}
+use Rattle.dist_model.specs.Runs.{new_node, opening}
+use Rattle.dist_model.specs.Seen.{HasSide, end_between, is_connected, local_list}
 use Rattle.dist_model.specs.Sides.{Accepting, Asked, AwaitsAck, AwaitsChallenge, AwaitsStatus, Gone, Losing, Parked, State, TrunkSide, Up, is_gone, is_losing, is_up}
 use Rattle.dist_model.specs.World.{World, list_to, node_of}
 use Rattle.erl_control.specs.declared.signal.Signal.{Signal}
@@ -37,20 +37,20 @@ living_not_over : (n : Node) (p : Pid) → living n p ≡ true → over n p ≡ 
 living_not_over n p l = ap (λ v. not v && not (never n p)) l
 
 -- a silent list has no signals about a link
-silent_signals : (p q : Pid) (l : List Item) → is_silent p q l ≡ true → (words p q l ≡ []) × (words q p l ≡ [])
+silent_signals : (p q : Pid) (l : List Item) → is_silent p q l ≡ true → (news p q l ≡ []) × (news q p l ≡ [])
 silent_signals p q [] h = (refl, refl)
 silent_signals p q (x ∷ xs) h =
     let v = and_both (not (is_of p q x || is_of q p x)) (is_silent p q xs) h in
     let u = neither (is_of p q x) (is_of q p x) v.0 in
     let r = silent_signals p q xs v.1 in
-    (ap (λ l. l ++ words p q xs) (unnamed p q x u.0) ∙ r.0, ap (λ l. l ++ words q p xs) (unnamed q p x u.1) ∙ r.1)
+    (ap (λ l. l ++ news p q xs) (unnamed p q x u.0) ∙ r.0, ap (λ l. l ++ news q p xs) (unnamed q p x u.1) ∙ r.1)
   where
     neither : (a b : Bool) → not (a || b) ≡ true → (a ≡ false) × (b ≡ false)
     neither true b h = cc
     neither false true h = cc
     neither false false h = (refl, refl)
 
-    unnamed : (p q : Pid) (x : Item) → is_of p q x ≡ false → word_in p q x ≡ []
+    unnamed : (p q : Pid) (x : Item) → is_of p q x ≡ false → news_in p q x ≡ []
     unnamed p q (Signalled (Signal.Link a b)) h = ap (λ t. cond t (Says LinkSignal.Link ∷ []) []) h
     unnamed p q (Signalled (Signal.Exit a b r)) h = ap (λ t. cond t (Exits r ∷ []) []) h
     unnamed p q (Signalled (Signal.UnlinkId i a b)) h = ap (λ t. cond t (Says (LinkSignal.Unlink i) ∷ []) []) h
@@ -78,7 +78,7 @@ none_living : {P : Type 0} → false ≡ true → P
 none_living h = absurd (let c : true ≡ false = sym h in cc)
 
 -- of a pair that is kept
-module _ (p q : Pid) (a b : Node) (m l : List LinkWord) (k : Kept (side_of a p q m) (side_of b q p l)) where
+module _ (p q : Pid) (a b : Node) (m l : List LinkNews) (k : Kept (side_of a p q m) (side_of b q p l)) where
   agrees : living a p ≡ true → living b q ≡ true → drained (end_of a p q) l ≡ End.Active ↔ drained (end_of b q p) m ≡ End.Active
   agrees lp lq = k.agree (living_not_over a p lp) (living_not_over b q lq)
 
@@ -99,36 +99,36 @@ module _ (w : World) (g : Good w) where
   own_name x a h = same_name_is x a.mint.name (sym (node_of_name w.nodes x a h))
 
   kept_over : (p q : Pid) (a b : Node) (t : TrunkId) → node_of w.nodes p.node ≡ Some a → node_of w.nodes q.node ≡ Some b → HasSide w p.node t q.node is_up → HasSide w q.node t p.node is_up
-      → Kept (side_of a p q (words p q (list_to w.lists t q.node))) (side_of b q p (words q p (list_to w.lists t p.node)))
+      → Kept (side_of a p q (news p q (list_to w.lists t q.node))) (side_of b q p (news q p (list_to w.lists t p.node)))
   kept_over p q a b t ha hb s v = g.core.trunks p.node q.node a b t s.side v.side ha hb (sym (ap (λ o. side_in o t) ha) ∙ s.there) (sym (ap (λ o. side_in o t) hb) ∙ v.there) s.peer v.peer s.state (up_joined v.side.state v.state) p q refl refl
 
-  kept_within : (p q : Pid) (a : Node) → node_of w.nodes p.node ≡ Some a → p.node ≡ q.node → same_pid p q ≡ false → Kept (side_of a p q (words p q a.local)) (side_of a q p (words q p a.local))
+  kept_within : (p q : Pid) (a : Node) → node_of w.nodes p.node ≡ Some a → p.node ≡ q.node → same_pid p q ≡ false → Kept (side_of a p q (news p q a.local)) (side_of a q p (news q p a.local))
   kept_within p q a h e d = (g.home p.node a h).pairs p q (own_name p.node a h) (ap (λ z. same_name z a.mint.name) (sym e) ∙ own_name p.node a h) d
 
   one_node : (p q : Pid) (a b : Node) → node_of w.nodes p.node ≡ Some a → node_of w.nodes q.node ≡ Some b → p.node ≡ q.node → a ≡ b
   one_node p q a b ha hb e = some_same a b (sym ha ∙ ap (node_of w.nodes) e ∙ hb)
 
   pub agreement : Agreement w
-  agreement p q t s v lp lq = go (node_of w.nodes p.node) (node_of w.nodes q.node) refl refl lp lq
+  agreement p q t u lp lq = go (node_of w.nodes p.node) (node_of w.nodes q.node) refl refl lp lq
     where
       go : (c d : Option Node) → node_of w.nodes p.node ≡ c → node_of w.nodes q.node ≡ d → living_at c p ≡ true → living_at d q ≡ true
-          → drained (end_at c p q) (words q p (list_to w.lists t p.node)) ≡ End.Active ↔ drained (end_at d q p) (words p q (list_to w.lists t q.node)) ≡ End.Active
+          → drained (end_at c p q) (news q p (list_to w.lists t p.node)) ≡ End.Active ↔ drained (end_at d q p) (news p q (list_to w.lists t q.node)) ≡ End.Active
       go None d hc hd lp lq = none_living lp
       go (Some a) None hc hd lp lq = none_living lq
-      go (Some a) (Some b) hc hd lp lq = agrees p q a b _ _ (kept_over p q a b t hc hd s v) lp lq
+      go (Some a) (Some b) hc hd lp lq = agrees p q a b _ _ (kept_over p q a b t hc hd u.0 u.1) lp lq
 
   pub agreement_within : AgreementWithin w
   agreement_within p q e lp lq = go (node_of w.nodes p.node) (node_of w.nodes q.node) refl refl lp lq
     where
       go : (c d : Option Node) → node_of w.nodes p.node ≡ c → node_of w.nodes q.node ≡ d → living_at c p ≡ true → living_at d q ≡ true
-          → drained (end_at c p q) (words q p (local_at c)) ≡ End.Active ↔ drained (end_at d q p) (words p q (local_at c)) ≡ End.Active
+          → drained (end_at c p q) (news q p (local_at c)) ≡ End.Active ↔ drained (end_at d q p) (news p q (local_at c)) ≡ End.Active
       go None d hc hd lp lq = none_living lp
       go (Some a) None hc hd lp lq = none_living lq
       go (Some a) (Some b) hc hd lp lq =
           let ab = one_node p q a b hc hd e in
-          subst (λ z. drained (end_of a p q) (words q p a.local) ≡ End.Active ↔ drained (end_of z q p) (words p q a.local) ≡ End.Active) ab
+          subst (λ z. drained (end_of a p q) (news q p a.local) ≡ End.Active ↔ drained (end_of z q p) (news p q a.local) ≡ End.Active) ab
           (by_test _ (same_pid p q)
-          (λ i. subst (λ z. drained (end_of a p z) (words z p a.local) ≡ End.Active ↔ drained (end_of a z p) (words p z a.local) ≡ End.Active) (same_pid_true p q i) (λ h. h, λ h. h))
+          (λ i. subst (λ z. drained (end_of a p z) (news z p a.local) ≡ End.Active ↔ drained (end_of a z p) (news p z a.local) ≡ End.Active) (same_pid_true p q i) (λ h. h, λ h. h))
           (λ i. agrees p q a a _ _ (kept_within p q a hc e i) lp (ap (λ z. living z q) ab ∙ lq)))
 
   -- where the nodes have no connection there is no end
@@ -148,12 +148,12 @@ module _ (w : World) (g : Good w) where
   agreement_in_quiet p q (Within e s) lp lq =
       let v = silent_signals p q (local_list w p.node) s in
       subst (λ u. drained (end_between w p q) u ≡ End.Active ↔ end_between w q p ≡ End.Active) v.1
-      (subst (λ u. drained (end_between w p q) (words q p (local_list w p.node)) ≡ End.Active ↔ drained (end_between w q p) u ≡ End.Active) v.0 (agreement_within p q e lp lq))
-  agreement_in_quiet p q (Over t a b s r) lp lq =
+      (subst (λ u. drained (end_between w p q) (news q p (local_list w p.node)) ≡ End.Active ↔ drained (end_between w q p) u ≡ End.Active) v.0 (agreement_within p q e lp lq))
+  agreement_in_quiet p q (Over d t c s r) lp lq =
       let v = silent_signals p q (list_to w.lists t p.node) s in
       let u = silent_signals p q (list_to w.lists t q.node) r in
       subst (λ z. drained (end_between w p q) z ≡ End.Active ↔ end_between w q p ≡ End.Active) v.1
-      (subst (λ z. drained (end_between w p q) (words q p (list_to w.lists t p.node)) ≡ End.Active ↔ drained (end_between w q p) z ≡ End.Active) u.0 (agreement p q t a b lp lq))
+      (subst (λ z. drained (end_between w p q) (news q p (list_to w.lists t p.node)) ≡ End.Active ↔ drained (end_between w q p) z ≡ End.Active) u.0 (agreement p q t c lp lq))
   agreement_in_quiet p q (Unconnected n c d) lp lq =
       (λ h. not_active (end_between w p q) (unconnected p q n c) h, λ h. not_active (end_between w q p) (unconnected q p (name_turned p.node q.node n) d) h)
 
@@ -164,14 +164,31 @@ module _ (w : World) (g : Good w) where
       go None h = refl
       go (Some a) h = absent_or2 (end_of a p p) (λ e. let c : true ≡ false = sym (same_pid_refl p) ∙ (((g.core.nodes p.node a h).rooted p p e).2 (own_name p.node a h)).1 in cc)
 
+  -- held is by its own node, or by a side that is up or losing
+  pub link_needs_connection : LinkNeedsConnection w
+  link_needs_connection p q n = go (node_of w.nodes p.node) refl n
+    where
+      either : (a b : Bool) (P : Type 0) → (a || b) ≡ true → (a ≡ true → P) → (b ≡ true → P) → P
+      either true b P h f k = f refl
+      either false b P h f k = k h
+
+      go : (o : Option Node) → node_of w.nodes p.node ≡ o → (end_at o p q ≡ End.None → ⊥) → (living_at o p ≡ true) × ((q.node ≡ p.node) ⊎ (connected_at o q.node ≡ true))
+      go None h e = absurd (e refl)
+      go (Some a) h e =
+          let r = (g.core.nodes p.node a h).rooted p q e in
+          (r.0, either (same_name q.node a.mint.name) (connected_at (Some a) q.node) _ r.1 (λ i. inl (same_name_true q.node a.mint.name i ∙ node_of_name w.nodes p.node a h)) (λ i. inr i))
+
+  pub living_was_spawned : LivingWasSpawned w
+  living_was_spawned x n p h l = (g.core.nodes x n h).born p l
+
   pub pending : PendingOnItsWay w
-  pending p q t i s v lp lq e = go (node_of w.nodes p.node) (node_of w.nodes q.node) refl refl lp lq e
+  pending p q t i u lp lq e = go (node_of w.nodes p.node) (node_of w.nodes q.node) refl refl lp lq e
     where
       go : (c d : Option Node) → node_of w.nodes p.node ≡ c → node_of w.nodes q.node ≡ d → living_at c p ≡ true → living_at d q ≡ true → end_at c p q ≡ End.Pending i
-          → (last_said (words p q (list_to w.lists t q.node)) ≡ Some (LinkSignal.Unlink i)) ⊎ Contains (words q p (list_to w.lists t p.node)) (Says (LinkSignal.Ack i))
+          → (last_said (news p q (list_to w.lists t q.node)) ≡ Some (LinkSignal.Unlink i)) ⊎ Contains (news q p (list_to w.lists t p.node)) (Says (LinkSignal.Ack i))
       go None d hc hd lp lq e = none_living lp
       go (Some a) None hc hd lp lq e = none_living lq
-      go (Some a) (Some b) hc hd lp lq e = pends p q a b _ _ (kept_over p q a b t hc hd s v) i lp lq e
+      go (Some a) (Some b) hc hd lp lq e = pends p q a b _ _ (kept_over p q a b t hc hd u.0 u.1) i lp lq e
 
   pub pending_within : PendingWithin w
   pending_within p q i n lp lq e = by_test _ (same_pid p q)
@@ -179,7 +196,7 @@ module _ (w : World) (g : Good w) where
       (λ j. go j (node_of w.nodes p.node) (node_of w.nodes q.node) refl refl lp lq e)
     where
       go : same_pid p q ≡ false → (c d : Option Node) → node_of w.nodes p.node ≡ c → node_of w.nodes q.node ≡ d → living_at c p ≡ true → living_at d q ≡ true → end_at c p q ≡ End.Pending i
-          → (last_said (words p q (local_at c)) ≡ Some (LinkSignal.Unlink i)) ⊎ Contains (words q p (local_at c)) (Says (LinkSignal.Ack i))
+          → (last_said (news p q (local_at c)) ≡ Some (LinkSignal.Unlink i)) ⊎ Contains (news q p (local_at c)) (Says (LinkSignal.Ack i))
       go j None d hc hd lp lq e = none_living lp
       go j (Some a) None hc hd lp lq e = none_living lq
       go j (Some a) (Some b) hc hd lp lq e = pends p q a a _ _ (kept_within p q a hc n j) i lp (ap (λ z. living z q) (one_node p q a b hc hd n) ∙ lq) e
@@ -203,7 +220,7 @@ module _ (w : World) (g : Good w) where
 
   pub no_link_to_the_dead : NoLinkToTheDead w
   no_link_to_the_dead p q (Within n s) lp lq e = dead_within p q n (node_of w.nodes p.node) (node_of w.nodes q.node) refl refl s lp lq e
-  no_link_to_the_dead p q (Over t x y s r) lp lq e = dead_over p q t x y s r (node_of w.nodes p.node) (node_of w.nodes q.node) refl refl lp lq e
+  no_link_to_the_dead p q (Over d t c s r) lp lq e = dead_over p q t c.0 c.1 s r (node_of w.nodes p.node) (node_of w.nodes q.node) refl refl lp lq e
   no_link_to_the_dead p q (Unconnected n c d) lp lq e = not_active (end_between w p q) (unconnected p q n c) e
 
   -- one trunk

@@ -10,20 +10,21 @@ use Rattle.dist_model.proofs.Moves.{AllRouted, HomeItem, Homely, NodeKept, Takes
 use Rattle.dist_model.proofs.Pair.{Side}
 use Rattle.dist_model.proofs.Pairs.{WorldKept, changed}
 use Rattle.dist_model.proofs.Routes.{at_place, list_to_carried, list_to_insert, node_of_name}
+use Rattle.dist_model.proofs.Seeing.{list_in}
 use Rattle.dist_model.proofs.Sides.{SidesKept, half, not_own, reach_up, side_at, sides_kept}
 use Rattle.dist_model.proofs.Steps.{good_item, good_link, is_from_peer, kind, not_never, own_none, taken_link, two_parts}
 use Rattle.dist_model.proofs.Table.{Good, HomeKept, carried_key, good_changed, insert_key, key_of, unsent}
 use Rattle.dist_model.proofs.Views.{over, side_of, view}
 use Rattle.dist_model.specs.Arrivals.{is_from, is_good, is_to}
-use Rattle.dist_model.specs.Items.{Item, Signalled, telling, word_in, words}
+use Rattle.dist_model.specs.Items.{Item, Signalled, news, news_in, telling}
 use Rattle.dist_model.specs.Linking.{take_link}
-use Rattle.dist_model.specs.Links.{LinkWord}
+use Rattle.dist_model.specs.Links.{LinkNews}
 use Rattle.dist_model.specs.Names.{Name, same_name, same_pid}
 use Rattle.dist_model.specs.Node.{Node, never, reaches}
 use Rattle.dist_model.specs.Sides.{TrunkSide, is_up}
 use Rattle.dist_model.specs.Taking.{take, take_item}
 use Rattle.dist_model.specs.Work.{Work, at_work}
-use Rattle.dist_model.specs.World.{World, carried, list_in, list_to, node_of, set_node}
+use Rattle.dist_model.specs.World.{World, carried, list_to, node_of, set_node}
 use Rattle.erl_names.specs.declared.trunk.TrunkId.{TrunkId}
 use Rattle.erl_term.specs.declared.term.Pid.{Pid}
 
@@ -55,7 +56,7 @@ module _ (w : World) (x : Name) (n : Node) (t0 : TrunkId) (s0 : TrunkSide) (i : 
   hk : HomeKept n
   hk = g.home x n hx
 
-  after_link : (q0 p0 : Pid) (s : LinkWord) → (is_from s0 q0 && is_to n p0) ≡ true → After n (take_link p0 q0 s (at_work n))
+  after_link : (q0 p0 : Pid) (s : LinkNews) → (is_from s0 q0 && is_to n p0) ≡ true → After n (take_link p0 q0 s (at_work n))
   after_link q0 p0 s c =
       let v = and_both (is_from s0 q0) (is_to n p0) c in
       let from : q0.node ≡ s0.peer = is_from_peer s0 q0 v.0 in
@@ -79,7 +80,7 @@ module _ (w : World) (x : Name) (n : Node) (t0 : TrunkId) (s0 : TrunkSide) (i : 
       own_of a b p q hp hq (inl e) = ap (λ (v : Pid). same_name v.node n.mint.name) e.1 ∙ hq
       own_of a b p q hp hq (inr e) = ap (λ (v : Pid). same_name v.node n.mint.name) e.1 ∙ hp
 
-  after_plain : (j : Item) → ((p q : Pid) → word_in p q j ≡ []) → After n (take_item j (at_work n))
+  after_plain : (j : Item) → ((p q : Pid) → news_in p q j ≡ []) → After n (take_item j (at_work n))
   after_plain j none =
       let f = takes_other j (at_work n) none in
       record { sides = f.sides; dialed = f.dialed; name = f.name; routed = f.routed tt; local = f.home kn hk.local; pairs = home_moves (at_work n) (take_item j (at_work n)) f kn hk.pairs }
@@ -87,7 +88,7 @@ module _ (w : World) (x : Name) (n : Node) (t0 : TrunkId) (s0 : TrunkSide) (i : 
   after : After n (take_item i (at_work n))
   after = go (kind i)
     where
-      go : ((p q : Pid) → word_in p q i ≡ []) ⊎ ((q : Pid) × (p : Pid) × (s : LinkWord) × (i ≡ Signalled (telling q p s))) → After n (take_item i (at_work n))
+      go : ((p q : Pid) → news_in p q i ≡ []) ⊎ ((q : Pid) × (p : Pid) × (s : LinkNews) × (i ≡ Signalled (telling q p s))) → After n (take_item i (at_work n))
       go (inl h) = after_plain i h
       go (inr h) = subst (λ z. After n (take_item z (at_work n))) (sym h.3) (subst (λ z. After n z) (sym (taken_link h.0 h.1 h.2 (at_work n))) (after_link h.0 h.1 h.2 (sym (good_link n s0 h.0 h.1 h.2) ∙ sym (ap (is_good n s0) h.3) ∙ good)))
 
@@ -137,18 +138,18 @@ module _ (w : World) (x : Name) (n : Node) (i : Item) (xs : List Item) (hx : nod
   nx1 = node_of_name w.nodes x n hx
 
   local_core : (sd : o1.node.sides ≡ n.sides) (nm : o1.node.mint.name ≡ n.mint.name) (ko : NodeKept o1.node) (gr : (p : Pid) → over n p ≡ true → over o1.node p ≡ true) (dr : n.mint.unlink_ids ≤ o1.node.mint.unlink_ids) (ro : AllRouted o1.node.sides o1.sent)
-      → ((p q : Pid) (b : List LinkWord) (c : Side) → same_name q.node n.mint.name ≡ false → reaches n q.node ≡ true → Kept (view b (at_work n1) p q) c → Kept (view b o1 p q) c)
+      → ((p q : Pid) (b : List LinkNews) (c : Side) → same_name q.node n.mint.name ≡ false → reaches n q.node ≡ true → Kept (view b (at_work n1) p q) c → Kept (view b o1 p q) c)
       → WorldKept (record { names = w.names; nodes = set_node w.nodes x o1.node; lists = carried w.lists o1.sent })
   local_core sd nm ko gr dr ro vs = changed w x n o1 (carried w.lists o1.sent) hx sd nm ko ro (λ t y d. list_to_carried w.lists o1.sent t y)
       (λ t s fs j b p q pn qn old.
       let same : list_to (carried w.lists o1.sent) t x ≡ list_to w.lists t x = list_to_carried w.lists o1.sent t x ∙ ap (λ l. list_to w.lists t x ++ l) (own_none n o1 x t (g.core.sides x n hx) nx1 sd ro) ∙ append-nil (list_to w.lists t x) in
-      let grown : words p q (list_to (carried w.lists o1.sent) t s.peer) ≡ words p q (list_to w.lists t s.peer) ++ words p q (at_place t s.peer o1.sent) =
+      let grown : news p q (list_to (carried w.lists o1.sent) t s.peer) ≡ news p q (list_to w.lists t s.peer) ++ news p q (at_place t s.peer o1.sent) =
       two_parts p q (list_to w.lists t s.peer) (at_place t s.peer o1.sent) _ (list_to_carried w.lists o1.sent t s.peer) in
       let far : same_name q.node n.mint.name ≡ false = ap (λ v. same_name v n.mint.name) qn ∙ not_own n t s (g.core.sides x n hx) fs in
-      subst (λ l. Kept (side_of o1.node p q (words p q (list_to (carried w.lists o1.sent) t s.peer))) (side_of b q p (words q p l))) (sym same)
-      (subst (λ l. Kept (side_of o1.node p q l) (side_of b q p (words q p (list_to w.lists t x)))) (sym grown)
-      (half n1 o1 sd nm kl ko gr dr ro sl t s fs j p q qn (list_to w.lists t s.peer) (side_of b q p (words q p (list_to w.lists t x)))
-      (λ l r k. vs p q l (side_of b q p (words q p (list_to w.lists t x))) far r k) old)))
+      subst (λ l. Kept (side_of o1.node p q (news p q (list_to (carried w.lists o1.sent) t s.peer))) (side_of b q p (news q p l))) (sym same)
+      (subst (λ l. Kept (side_of o1.node p q l) (side_of b q p (news q p (list_to w.lists t x)))) (sym grown)
+      (half n1 o1 sd nm kl ko gr dr ro sl t s fs j p q qn (list_to w.lists t s.peer) (side_of b q p (news q p (list_to w.lists t x)))
+      (λ l r k. vs p q l (side_of b q p (news q p (list_to w.lists t x))) far r k) old)))
       g.core
 
   good_local_by : (core : WorldKept (record { names = w.names; nodes = set_node w.nodes x o1.node; lists = carried w.lists o1.sent })) (sd : o1.node.sides ≡ n.sides) (dl : o1.node.dialed ≡ n.dialed) (nm : o1.node.mint.name ≡ n.mint.name) (ro : AllRouted o1.node.sides o1.sent) → home_of o1.node
@@ -167,7 +168,7 @@ after_local w x n xs i = record { names = w.names; nodes = set_node w.nodes x ((
 pub good_local : (w : World) (x : Name) (n : Node) (i : Item) (xs : List Item) → node_of w.nodes x ≡ Some n → Good w → n.local ≡ i ∷ xs → Good (after_local w x n xs i)
 good_local w x n i xs hx g first = go (kind i) (subst (λ l. Homely (λ p. never n p) l) first ((g.home x n hx).local)).0
   where
-    plain : (j : Item) → n.local ≡ j ∷ xs → ((p q : Pid) → word_in p q j ≡ []) → Good (after_local w x n xs j)
+    plain : (j : Item) → n.local ≡ j ∷ xs → ((p q : Pid) → news_in p q j ≡ []) → Good (after_local w x n xs j)
     plain j e none =
         let f = takes_other j (at_work (record n { local = xs })) none in
         let k1 = kl w x n j xs hx g e in
@@ -175,7 +176,7 @@ good_local w x n i xs hx g first = go (kind i) (subst (λ l. Homely (λ p. never
         (local_core w x n j xs hx g e f.sides f.name (f.keeps k1) f.grows f.draws (f.routed tt) (λ p q b c far r k. f.views k1 b p q c r k))
         f.sides f.dialed f.name (f.routed tt) (f.home k1 (rest_home w x n j xs hx g e))
 
-    linking : (q0 p0 : Pid) (s : LinkWord) → n.local ≡ Signalled (telling q0 p0 s) ∷ xs → never n q0 ≡ false → never n p0 ≡ false → same_pid q0 p0 ≡ false → Good (after_local w x n xs (Signalled (telling q0 p0 s)))
+    linking : (q0 p0 : Pid) (s : LinkNews) → n.local ≡ Signalled (telling q0 p0 s) ∷ xs → never n q0 ≡ false → never n p0 ≡ false → same_pid q0 p0 ≡ false → Good (after_local w x n xs (Signalled (telling q0 p0 s)))
     linking q0 p0 s e hq hp two =
         let f : Takes p0 q0 s (at_work (record n { local = xs })) (take (telling q0 p0 s) (at_work (record n { local = xs }))) =
         subst (λ z. Takes p0 q0 s (at_work (record n { local = xs })) z) (sym (taken_link q0 p0 s (at_work (record n { local = xs })))) (takes_link p0 q0 s (at_work (record n { local = xs })) (λ z. (hq, pid_turned q0 p0 two)) hp) in
@@ -195,7 +196,7 @@ good_local w x n i xs hx g first = go (kind i) (subst (λ l. Homely (λ p. never
         not_this p q q0 own far b = and_no2 b (same_pid q q0) (by_test _ (same_pid q q0)
             (λ i. let c : true ≡ false = sym own ∙ ap (λ (v : Pid). same_name v.node n.mint.name) (sym (same_pid_true q q0 i)) ∙ far in cc) (λ i. i))
 
-    go : ((p q : Pid) → word_in p q i ≡ []) ⊎ ((q : Pid) × (p : Pid) × (s : LinkWord) × (i ≡ Signalled (telling q p s))) → HomeItem (λ p. never n p) i → Good (after_local w x n xs i)
+    go : ((p q : Pid) → news_in p q i ≡ []) ⊎ ((q : Pid) × (p : Pid) × (s : LinkNews) × (i ≡ Signalled (telling q p s))) → HomeItem (λ p. never n p) i → Good (after_local w x n xs i)
     go (inl h) m = plain i first h
     go (inr h) m =
         let v : (never n h.0 ≡ false) × (never n h.1 ≡ false) × (same_pid h.0 h.1 ≡ false) = home_saying (λ p. never n p) h.0 h.1 h.2 (subst (λ z. HomeItem (λ p. never n p) z) h.3 m) in

@@ -9,13 +9,13 @@ use Rattle.dist_model.proofs.Pair.{Side}
 use Rattle.dist_model.proofs.Pairs.{WorldKept, changed}
 use Rattle.dist_model.proofs.Routes.{at_place, list_to_carried, list_to_insert, node_of_name, some_same}
 use Rattle.dist_model.proofs.Sides.{SidesKept, asks, at_place_none, beside, half, holds, joined, joined_not_gone, not_own, reach_up, route_from, side_at, up_half, up_holds, up_not_gone}
-use Rattle.dist_model.proofs.Views.{more, over, side_of, telling_word, view, words-append}
+use Rattle.dist_model.proofs.Views.{news-append, over, side_of, telling_news, view}
 use Rattle.dist_model.specs.Arrivals.{is_from, is_good, is_to}
 use Rattle.dist_model.specs.Calls.{call}
 use Rattle.dist_model.specs.Commands.{Command, Goes, Outcome, Refuses}
-use Rattle.dist_model.specs.Items.{Handshake, Item, Signalled, Tick, telling, word_in, words}
+use Rattle.dist_model.specs.Items.{Handshake, Item, Signalled, Tick, news, news_in, telling}
 use Rattle.dist_model.specs.Linking.{take_link}
-use Rattle.dist_model.specs.Links.{Exits, LinkWord, Says}
+use Rattle.dist_model.specs.Links.{Exits, LinkNews, Says}
 use Rattle.dist_model.specs.Names.{Name, place_cmp, same_name, same_pid}
 use Rattle.dist_model.specs.Node.{Node, never, reaches, route_in}
 use Rattle.dist_model.specs.Sides.{Accepting, Asked, AwaitsAck, AwaitsChallenge, AwaitsStatus, Gone, Losing, Parked, State, TrunkSide, Up, is_up}
@@ -34,8 +34,8 @@ own_none n o x t k e sd ro = at_place_none o.node.sides o.sent t x ro (λ r.
     let u = route_from n x t (ap (λ l. route_in (fm.entries l) x) (sym sd) ∙ r) in
     k.other t u.found u.there (u.peer ∙ sym e))
 
-pub two_parts : (p q : Pid) (xs ys zs : List Item) → zs ≡ xs ++ ys → words p q zs ≡ words p q xs ++ words p q ys
-two_parts p q xs ys zs h = ap (words p q) h ∙ words-append p q xs ys
+pub two_parts : (p q : Pid) (xs ys zs : List Item) → zs ≡ xs ++ ys → news p q zs ≡ news p q xs ++ news p q ys
+two_parts p q xs ys zs h = ap (news p q) h ∙ news-append p q xs ys
 
 -- a part of an event in which no pair takes a signal
 pub moved : (w : World) (x : Name) (n : Node) (o : Work) → node_of w.nodes x ≡ Some n → Moves (at_work n) o → WorldKept w
@@ -48,12 +48,12 @@ moved w x n o hx f k =
     changed w x n o (carried w.lists o.sent) hx f.sides f.name (f.keeps kn) ro (λ t y d. list_to_carried w.lists o.sent t y)
     (λ t s fs j b p q pn qn old.
     let same : list_to (carried w.lists o.sent) t x ≡ list_to w.lists t x = list_to_carried w.lists o.sent t x ∙ ap (λ l. list_to w.lists t x ++ l) (own_none n o x t sk nm f.sides ro) ∙ append-nil (list_to w.lists t x) in
-    let more : words p q (list_to (carried w.lists o.sent) t s.peer) ≡ words p q (list_to w.lists t s.peer) ++ words p q (at_place t s.peer o.sent) =
+    let more : news p q (list_to (carried w.lists o.sent) t s.peer) ≡ news p q (list_to w.lists t s.peer) ++ news p q (at_place t s.peer o.sent) =
     two_parts p q (list_to w.lists t s.peer) (at_place t s.peer o.sent) _ (list_to_carried w.lists o.sent t s.peer) in
-    subst (λ l. Kept (side_of o.node p q (words p q (list_to (carried w.lists o.sent) t s.peer))) (side_of b q p (words q p l))) (sym same)
-    (subst (λ l. Kept (side_of o.node p q l) (side_of b q p (words q p (list_to w.lists t x)))) (sym more)
-    (half n o f.sides f.name kn (f.keeps kn) f.grows f.draws ro sk t s fs j p q qn (list_to w.lists t s.peer) (side_of b q p (words q p (list_to w.lists t x)))
-    (λ l r. f.views kn l p q (side_of b q p (words q p (list_to w.lists t x))) r) old)))
+    subst (λ l. Kept (side_of o.node p q (news p q (list_to (carried w.lists o.sent) t s.peer))) (side_of b q p (news q p l))) (sym same)
+    (subst (λ l. Kept (side_of o.node p q l) (side_of b q p (news q p (list_to w.lists t x)))) (sym more)
+    (half n o f.sides f.name kn (f.keeps kn) f.grows f.draws ro sk t s fs j p q qn (list_to w.lists t s.peer) (side_of b q p (news q p (list_to w.lists t x)))
+    (λ l r. f.views kn l p q (side_of b q p (news q p (list_to w.lists t x))) r) old)))
     k
 
 -- any call
@@ -91,20 +91,20 @@ not_beside a b ha hb h = let n : true ≡ false = sym h ∙ go (holds a) (asks b
     go false q false s hr hq = refl
     go p q true s hr hq = cc
 
-pub signal_miss : (a b q p : Pid) (s : LinkWord) → (same_pid a q && same_pid b p) ≡ false → word_in q p (Signalled (telling a b s)) ≡ []
-signal_miss a b q p s h = telling_word a b q p s ∙ ap (λ t. cond t (s ∷ []) []) h
+pub signal_miss : (a b q p : Pid) (s : LinkNews) → (same_pid a q && same_pid b p) ≡ false → news_in q p (Signalled (telling a b s)) ≡ []
+signal_miss a b q p s h = telling_news a b q p s ∙ ap (λ t. cond t (s ∷ []) []) h
 
-pub signal_hit : (a b q p : Pid) (s : LinkWord) → (same_pid a q && same_pid b p) ≡ true → word_in q p (Signalled (telling a b s)) ≡ s ∷ []
-signal_hit a b q p s h = telling_word a b q p s ∙ ap (λ t. cond t (s ∷ []) []) h
+pub signal_hit : (a b q p : Pid) (s : LinkNews) → (same_pid a q && same_pid b p) ≡ true → news_in q p (Signalled (telling a b s)) ≡ s ∷ []
+signal_hit a b q p s h = telling_news a b q p s ∙ ap (λ t. cond t (s ∷ []) []) h
 
 module _ (w : World) (x : Name) (n : Node) (t0 : TrunkId) (s0 : TrunkSide) (i : Item) (rest : List Item) (o : Work) (hx : node_of w.nodes x ≡ Some n)
     (h0 : side_at n t0 ≡ Some s0) (u0 : is_up s0.state ≡ true) (first : list_to w.lists t0 x ≡ i ∷ rest) (k : WorldKept w)
     (sd : o.node.sides ≡ n.sides) (nm : o.node.mint.name ≡ n.mint.name) (ko : NodeKept o.node)
     (gr : (p : Pid) → over n p ≡ true → over o.node p ≡ true) (dr : n.mint.unlink_ids ≤ o.node.mint.unlink_ids) (ro : AllRouted o.node.sides o.sent)
     -- what it does to each pair: at a pair that it is about, the signal is taken
-    (views : (p q : Pid) (b : List LinkWord) (c : Side) → word_in q p i ≡ [] → reaches n q.node ≡ true → Kept (view b (at_work n) p q) c → Kept (view b o p q) c)
-    (taking : (p q : Pid) (b : List LinkWord) (c : Side) (s : LinkWord) (L : List LinkWord) → word_in q p i ≡ s ∷ [] → reaches n q.node ≡ true → Kept (view b (at_work n) p q) (with_sent c (s ∷ L)) → Kept (view b o p q) (with_sent c L))
-    (about : (p q : Pid) → (word_in q p i ≡ []) ⊎ ((s : LinkWord) × (word_in q p i ≡ s ∷ []) × (q.node ≡ s0.peer))) where
+    (views : (p q : Pid) (b : List LinkNews) (c : Side) → news_in q p i ≡ [] → reaches n q.node ≡ true → Kept (view b (at_work n) p q) c → Kept (view b o p q) c)
+    (taking : (p q : Pid) (b : List LinkNews) (c : Side) (s : LinkNews) (L : List LinkNews) → news_in q p i ≡ s ∷ [] → reaches n q.node ≡ true → Kept (view b (at_work n) p q) (with_sent c (s ∷ L)) → Kept (view b o p q) (with_sent c L))
+    (about : (p q : Pid) → (news_in q p i ≡ []) ⊎ ((s : LinkNews) × (news_in q p i ≡ s ∷ []) × (q.node ≡ s0.peer))) where
   m1 : FinMap place_cmp (List Item)
   m1 = fm.insert w.lists (t0, x) rest
 
@@ -135,16 +135,16 @@ module _ (w : World) (x : Name) (n : Node) (t0 : TrunkId) (s0 : TrunkSide) (i : 
       go (inr h) = absurd (not_beside s.state s0.state (joined_asks s.state j) (up_holds s0.state u0).1 h)
 
   halves : (t : TrunkId) (s : TrunkSide) → side_at n t ≡ Some s → joined s.state ≡ true → (p q : Pid) → q.node ≡ s.peer → (c : Side)
-      → ((b : List LinkWord) → reaches n q.node ≡ true → Kept (view b (at_work n) p q) c → Kept (view b o p q) c)
-      → Kept (side_of n p q (words p q (list_to w.lists t s.peer))) c → Kept (side_of o.node p q (words p q (list_to (carried m1 o.sent) t s.peer))) c
+      → ((b : List LinkNews) → reaches n q.node ≡ true → Kept (view b (at_work n) p q) c → Kept (view b o p q) c)
+      → Kept (side_of n p q (news p q (list_to w.lists t s.peer))) c → Kept (side_of o.node p q (news p q (list_to (carried m1 o.sent) t s.peer))) c
   halves t s fs j p q qn c vs old =
       let d : s.peer ≡ x → ⊥ = λ e. sk.other t s fs (e ∙ sym nx) in
       subst (λ l. Kept (side_of o.node p q l) c) (sym (two_parts p q (list_to w.lists t s.peer) (at_place t s.peer o.sent) _ (others_stay t s.peer d)))
       (half n o sd nm kn ko gr dr ro sk t s fs j p q qn (list_to w.lists t s.peer) c vs old)
 
   mover : (t : TrunkId) (s : TrunkSide) → side_at n t ≡ Some s → joined s.state ≡ true → (b : Node) (p q : Pid) → p.node ≡ x → q.node ≡ s.peer
-      → Kept (side_of n p q (words p q (list_to w.lists t s.peer))) (side_of b q p (words q p (list_to w.lists t x)))
-      → Kept (side_of o.node p q (words p q (list_to (carried m1 o.sent) t s.peer))) (side_of b q p (words q p (list_to (carried m1 o.sent) t x)))
+      → Kept (side_of n p q (news p q (list_to w.lists t s.peer))) (side_of b q p (news q p (list_to w.lists t x)))
+      → Kept (side_of o.node p q (news p q (list_to (carried m1 o.sent) t s.peer))) (side_of b q p (news q p (list_to (carried m1 o.sent) t x)))
   mover t s fs j b p q pn qn old = by_test _ (same_trunk t t0)
       (λ e.
       let te : t ≡ t0 = same_trunk_true t t0 e in
@@ -152,31 +152,31 @@ module _ (w : World) (x : Name) (n : Node) (t0 : TrunkId) (s0 : TrunkSide) (i : 
       let us : is_up s.state ≡ true = ap (λ (v : TrunkSide). is_up v.state) se ∙ u0 in
       let l1 : list_to (carried m1 o.sent) t x ≡ rest = own_list t ∙ ap (λ v. cond (v && same_name x x) rest (list_to w.lists t x)) e ∙ ap (λ v. cond v rest (list_to w.lists t x)) (same_name_refl x) in
       let l0 : list_to w.lists t x ≡ i ∷ rest = ap (λ v. list_to w.lists v x) te ∙ first in
-      let old2 : Kept (side_of n p q (words p q (list_to w.lists t s.peer))) (side_of b q p (word_in q p i ++ words q p rest)) =
-      subst (λ l. Kept (side_of n p q (words p q (list_to w.lists t s.peer))) (side_of b q p (words q p l))) l0 old in
-      subst (λ l. Kept (side_of o.node p q (words p q (list_to (carried m1 o.sent) t s.peer))) (side_of b q p (words q p l))) (sym l1)
+      let old2 : Kept (side_of n p q (news p q (list_to w.lists t s.peer))) (side_of b q p (news_in q p i ++ news q p rest)) =
+      subst (λ l. Kept (side_of n p q (news p q (list_to w.lists t s.peer))) (side_of b q p (news q p l))) l0 old in
+      subst (λ l. Kept (side_of o.node p q (news p q (list_to (carried m1 o.sent) t s.peer))) (side_of b q p (news q p l))) (sym l1)
       (on_it t s fs j us b p q qn old2 (about p q)))
       (λ e.
       let l1 : list_to (carried m1 o.sent) t x ≡ list_to w.lists t x = own_list t ∙ ap (λ v. cond (v && same_name x x) rest (list_to w.lists t x)) e in
-      subst (λ l. Kept (side_of o.node p q (words p q (list_to (carried m1 o.sent) t s.peer))) (side_of b q p (words q p l))) (sym l1)
-      (halves t s fs j p q qn (side_of b q p (words q p (list_to w.lists t x))) (λ l r. views p q l _ (not_about t s fs j p q qn e (about p q)) r) old))
+      subst (λ l. Kept (side_of o.node p q (news p q (list_to (carried m1 o.sent) t s.peer))) (side_of b q p (news q p l))) (sym l1)
+      (halves t s fs j p q qn (side_of b q p (news q p (list_to w.lists t x))) (λ l r. views p q l _ (not_about t s fs j p q qn e (about p q)) r) old))
     where
-      not_about : (t : TrunkId) (s : TrunkSide) → side_at n t ≡ Some s → joined s.state ≡ true → (p q : Pid) → q.node ≡ s.peer → same_trunk t t0 ≡ false → (word_in q p i ≡ []) ⊎ ((s : LinkWord) × (word_in q p i ≡ s ∷ []) × (q.node ≡ s0.peer)) → word_in q p i ≡ []
+      not_about : (t : TrunkId) (s : TrunkSide) → side_at n t ≡ Some s → joined s.state ≡ true → (p q : Pid) → q.node ≡ s.peer → same_trunk t t0 ≡ false → (news_in q p i ≡ []) ⊎ ((s : LinkNews) × (news_in q p i ≡ s ∷ []) × (q.node ≡ s0.peer)) → news_in q p i ≡ []
       not_about t s fs j p q qn e (inl h) = h
       not_about t s fs j p q qn e (inr h) = let c : true ≡ false = sym (same_trunk_is t t0 (same_one t s fs j (sym qn ∙ h.2))) ∙ e in cc
 
       on_it : (t : TrunkId) (s : TrunkSide) → side_at n t ≡ Some s → joined s.state ≡ true → is_up s.state ≡ true → (b : Node) (p q : Pid) → q.node ≡ s.peer
-          → Kept (side_of n p q (words p q (list_to w.lists t s.peer))) (side_of b q p (word_in q p i ++ words q p rest))
-          → (word_in q p i ≡ []) ⊎ ((s : LinkWord) × (word_in q p i ≡ s ∷ []) × (q.node ≡ s0.peer))
-          → Kept (side_of o.node p q (words p q (list_to (carried m1 o.sent) t s.peer))) (side_of b q p (words q p rest))
-      on_it t s fs j us b p q qn old (inl h) = halves t s fs j p q qn (side_of b q p (words q p rest)) (λ l r. views p q l _ h r)
-          (subst (λ l. Kept (side_of n p q (words p q (list_to w.lists t s.peer))) (side_of b q p (l ++ words q p rest))) h old)
+          → Kept (side_of n p q (news p q (list_to w.lists t s.peer))) (side_of b q p (news_in q p i ++ news q p rest))
+          → (news_in q p i ≡ []) ⊎ ((s : LinkNews) × (news_in q p i ≡ s ∷ []) × (q.node ≡ s0.peer))
+          → Kept (side_of o.node p q (news p q (list_to (carried m1 o.sent) t s.peer))) (side_of b q p (news q p rest))
+      on_it t s fs j us b p q qn old (inl h) = halves t s fs j p q qn (side_of b q p (news q p rest)) (λ l r. views p q l _ h r)
+          (subst (λ l. Kept (side_of n p q (news p q (list_to w.lists t s.peer))) (side_of b q p (l ++ news q p rest))) h old)
       on_it t s fs j us b p q qn old (inr h) =
           let d : s.peer ≡ x → ⊥ = λ e. sk.other t s fs (e ∙ sym nx) in
-          subst (λ l. Kept (side_of o.node p q l) (side_of b q p (words q p rest))) (sym (two_parts p q (list_to w.lists t s.peer) (at_place t s.peer o.sent) _ (others_stay t s.peer d)))
-          (up_half n o sd nm kn ko gr dr ro sk t s fs us p q qn (list_to w.lists t s.peer) (side_of b q p (h.0 ∷ words q p rest)) (side_of b q p (words q p rest))
-          (λ l r. taking p q l (side_of b q p (words q p rest)) h.0 (words q p rest) h.1 r)
-          (subst (λ l. Kept (side_of n p q (words p q (list_to w.lists t s.peer))) (side_of b q p (l ++ words q p rest))) h.1 old))
+          subst (λ l. Kept (side_of o.node p q l) (side_of b q p (news q p rest))) (sym (two_parts p q (list_to w.lists t s.peer) (at_place t s.peer o.sent) _ (others_stay t s.peer d)))
+          (up_half n o sd nm kn ko gr dr ro sk t s fs us p q qn (list_to w.lists t s.peer) (side_of b q p (h.0 ∷ news q p rest)) (side_of b q p (news q p rest))
+          (λ l r. taking p q l (side_of b q p (news q p rest)) h.0 (news q p rest) h.1 r)
+          (subst (λ l. Kept (side_of n p q (news p q (list_to w.lists t s.peer))) (side_of b q p (l ++ news q p rest))) h.1 old))
 
   pub arrived : WorldKept (record { names = w.names; nodes = set_node w.nodes x o.node; lists = carried (fm.insert w.lists (t0, x) rest) o.sent })
   unfolding m1
@@ -194,20 +194,20 @@ not_never n p h = go (never n p) (and_both (same_name p.node n.mint.name) (not (
     go false h = refl
 
 -- who takes it
-pub taken_link : (q p : Pid) (s : LinkWord) (o : Work) → take (telling q p s) o ≡ take_link p q s o
+pub taken_link : (q p : Pid) (s : LinkNews) (o : Work) → take (telling q p s) o ≡ take_link p q s o
 taken_link q p (Says LinkSignal.Link) o = refl
 taken_link q p (Says (LinkSignal.Unlink i)) o = refl
 taken_link q p (Says (LinkSignal.Ack i)) o = refl
 taken_link q p (Exits r) o = refl
 
-pub good_link : (n : Node) (v : TrunkSide) (q p : Pid) (s : LinkWord) → is_good n v (Signalled (telling q p s)) ≡ (is_from v q && is_to n p)
+pub good_link : (n : Node) (v : TrunkSide) (q p : Pid) (s : LinkNews) → is_good n v (Signalled (telling q p s)) ≡ (is_from v q && is_to n p)
 good_link n v q p (Says LinkSignal.Link) = refl
 good_link n v q p (Says (LinkSignal.Unlink i)) = refl
 good_link n v q p (Says (LinkSignal.Ack i)) = refl
 good_link n v q p (Exits r) = refl
 
 -- about a link, or not
-pub kind : (i : Item) → ((p q : Pid) → word_in p q i ≡ []) ⊎ ((q : Pid) × (p : Pid) × (s : LinkWord) × (i ≡ Signalled (telling q p s)))
+pub kind : (i : Item) → ((p q : Pid) → news_in p q i ≡ []) ⊎ ((q : Pid) × (p : Pid) × (s : LinkNews) × (i ≡ Signalled (telling q p s)))
 kind (Signalled (Signal.Link q p)) = inr (q, p, Says LinkSignal.Link, refl)
 kind (Signalled (Signal.Exit q p r)) = inr (q, p, Exits r, refl)
 kind (Signalled (Signal.UnlinkId i q p)) = inr (q, p, Says (LinkSignal.Unlink i), refl)
@@ -222,7 +222,7 @@ kind Tick = inl (λ a b. refl)
 
 module _ (w : World) (x : Name) (n : Node) (t0 : TrunkId) (s0 : TrunkSide) (rest : List Item) (hx : node_of w.nodes x ≡ Some n)
     (h0 : side_at n t0 ≡ Some s0) (u0 : is_up s0.state ≡ true) (k : WorldKept w) where
-  plain : (i : Item) → list_to w.lists t0 x ≡ i ∷ rest → ((p q : Pid) → word_in p q i ≡ [])
+  plain : (i : Item) → list_to w.lists t0 x ≡ i ∷ rest → ((p q : Pid) → news_in p q i ≡ [])
       → WorldKept (record { names = w.names; nodes = set_node w.nodes x ((take_item i (at_work n)).node); lists = carried (fm.insert w.lists (t0, x) rest) ((take_item i (at_work n)).sent) })
   plain i first none =
       let f = takes_other i (at_work n) none in
@@ -232,7 +232,7 @@ module _ (w : World) (x : Name) (n : Node) (t0 : TrunkId) (s0 : TrunkSide) (rest
       (λ p q b c s l e r. let z : s ∷ [] ≡ [] = sym e ∙ none q p in cc)
       (λ p q. inl (none q p))
 
-  linking : (q0 p0 : Pid) (s : LinkWord) → list_to w.lists t0 x ≡ Signalled (telling q0 p0 s) ∷ rest → (is_from s0 q0 && is_to n p0) ≡ true
+  linking : (q0 p0 : Pid) (s : LinkNews) → list_to w.lists t0 x ≡ Signalled (telling q0 p0 s) ∷ rest → (is_from s0 q0 && is_to n p0) ≡ true
       → WorldKept (record { names = w.names; nodes = set_node w.nodes x ((take_link p0 q0 s (at_work n)).node); lists = carried (fm.insert w.lists (t0, x) rest) ((take_link p0 q0 s (at_work n)).sent) })
   linking q0 p0 s first good =
       let g = and_both (is_from s0 q0) (is_to n p0) good in
@@ -247,7 +247,7 @@ module _ (w : World) (x : Name) (n : Node) (t0 : TrunkId) (s0 : TrunkSide) (rest
       (λ h. inr (s, signal_hit q0 p0 q p s h, ap (λ (v : Pid). v.node) (sym (same_pid_true q0 q (and_both (same_pid q0 q) (same_pid p0 p) h).0)) ∙ from))
       (λ h. inl (signal_miss q0 p0 q p s h)))
     where
-      miss : (p q : Pid) → word_in q p (Signalled (telling q0 p0 s)) ≡ [] → (same_pid p p0 && same_pid q q0) ≡ false
+      miss : (p q : Pid) → news_in q p (Signalled (telling q0 p0 s)) ≡ [] → (same_pid p p0 && same_pid q q0) ≡ false
       miss p q e = by_test _ (same_pid p p0 && same_pid q q0)
           (λ h.
           let v = and_both (same_pid p p0) (same_pid q q0) h in
@@ -255,7 +255,7 @@ module _ (w : World) (x : Name) (n : Node) (t0 : TrunkId) (s0 : TrunkSide) (rest
           let z : s ∷ [] ≡ [] = sym (signal_hit q0 p0 q p s c) ∙ e in cc)
           (λ h. h)
 
-      hit : (p q : Pid) (b : List LinkWord) (c : Side) (u : LinkWord) (l : List LinkWord) → word_in q p (Signalled (telling q0 p0 s)) ≡ u ∷ [] → reaches n q.node ≡ true → Takes p0 q0 s (at_work n) (take_link p0 q0 s (at_work n)) → NodeKept n → held n q0.node ≡ true
+      hit : (p q : Pid) (b : List LinkNews) (c : Side) (u : LinkNews) (l : List LinkNews) → news_in q p (Signalled (telling q0 p0 s)) ≡ u ∷ [] → reaches n q.node ≡ true → Takes p0 q0 s (at_work n) (take_link p0 q0 s (at_work n)) → NodeKept n → held n q0.node ≡ true
           → Kept (view b (at_work n) p q) (with_sent c (u ∷ l)) → Kept (view b (take_link p0 q0 s (at_work n)) p q) (with_sent c l)
       hit p q b c u l e r f kn hd old = by_test _ (same_pid q0 q && same_pid p0 p)
           (λ h.
@@ -277,7 +277,7 @@ module _ (w : World) (x : Name) (n : Node) (t0 : TrunkId) (s0 : TrunkSide) (rest
   pub good_item : (i : Item) → list_to w.lists t0 x ≡ i ∷ rest → is_good n s0 i ≡ true → taken i
   good_item i first good = go (kind i)
     where
-      go : ((p q : Pid) → word_in p q i ≡ []) ⊎ ((q : Pid) × (p : Pid) × (s : LinkWord) × (i ≡ Signalled (telling q p s))) → taken i
+      go : ((p q : Pid) → news_in p q i ≡ []) ⊎ ((q : Pid) × (p : Pid) × (s : LinkNews) × (i ≡ Signalled (telling q p s))) → taken i
       go (inl h) = plain i first h
       go (inr h) = subst (λ z. taken z) (sym h.3)
           (subst (λ (z : Work). WorldKept (record { names = w.names; nodes = set_node w.nodes x z.node; lists = carried (fm.insert w.lists (t0, x) rest) z.sent })) (sym (taken_link h.0 h.1 h.2 (at_work n)))

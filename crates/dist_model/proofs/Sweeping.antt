@@ -4,7 +4,6 @@ use Rattle.std.specs.Option.{is_some}
 use Rattle.std.specs.FinMap as fm
 use Rattle.std.specs.Ordering.{eq_by_cmp, is_eq, is_lt}
 use Rattle.dist_model.proofs.Reside
-use Rattle.dist_model.specs.Node
 use Rattle.std.specs.FinMap.Entries.{find, is_sorted, below_all}
 use Rattle.std.specs.declared.cmp.Ordering.{Ordering}
 use Rattle.std.specs.declared.cmp.Ordering.TheVariants.{Less, Equal, Greater}
@@ -15,15 +14,16 @@ use Rattle.dist_model.proofs.Keys.{pair_exact, pair_total, same_name_is, same_na
 use Rattle.dist_model.proofs.Moves.{Moves, NodeKept, held, link_exits, puts, removes_unreached, stays, then}
 use Rattle.dist_model.proofs.Reside.{Fits}
 use Rattle.dist_model.proofs.Routes.{node_of_name, some_same}
+use Rattle.dist_model.proofs.Seeing.{end_in}
 use Rattle.dist_model.proofs.Sides.{Routed, SidesKept, asks, beside, holds, not_own, route_from, side_at, up_holds, up_not_gone}
-use Rattle.dist_model.proofs.Steps.{kind, not_beside}
+use Rattle.dist_model.proofs.Steps.{not_beside}
 use Rattle.dist_model.proofs.Table.{Good, Row, begun, begun_state, has, is_reply, role_state, up_once}
 use Rattle.dist_model.specs.Exits.{link_exit}
 use Rattle.dist_model.specs.Links.{noconnection}
 use Rattle.dist_model.specs.Losses.{has_records, link_to, registered_by, sweep_end, sweep_link, sweep_registered, sweep_watch, watch_to}
 use Rattle.dist_model.specs.Monitoring.{unwatch}
 use Rattle.dist_model.specs.Names.{Name, pair_cmp, same_name}
-use Rattle.dist_model.specs.Node.{Node, end_in, living, reaches, route}
+use Rattle.dist_model.specs.Node.{Node, living, reaches, route}
 use Rattle.dist_model.specs.Sides.{Accepting, Asked, AwaitsAck, AwaitsChallenge, AwaitsStatus, Gone, Losing, Parked, State, TrunkSide, Up, is_gone, is_up}
 use Rattle.dist_model.specs.Work.{Work, at_work, put, set_end}
 use Rattle.dist_model.specs.World.{World, list_to, node_of}

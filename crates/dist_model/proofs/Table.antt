@@ -12,12 +12,13 @@ use Rattle.dist_model.proofs.Sides.{Routed, SidesKept, asks, at_place_none, besi
 use Rattle.dist_model.proofs.Steps.{moved}
 use Rattle.dist_model.specs.Calls.{call}
 use Rattle.dist_model.specs.Commands.{Command, Goes, Outcome, Refuses}
-use Rattle.dist_model.specs.Items.{Challenge, ChallengeAck, ChallengeReply, Handshake, Item, words}
+use Rattle.dist_model.specs.Items.{Handshake, Item, news}
 use Rattle.dist_model.specs.Names.{Name, place_cmp, same_name}
 use Rattle.dist_model.specs.Node.{Node, route_in}
 use Rattle.dist_model.specs.Sides.{Accepting, Asked, AwaitsAck, AwaitsChallenge, AwaitsStatus, Gone, Losing, Parked, State, TrunkSide, Up, is_gone, is_up}
 use Rattle.dist_model.specs.Work.{Envelope, Work, at_work}
 use Rattle.dist_model.specs.World.{World, carried, ends_in, list_to, node_of, set_node}
+use Rattle.erl_handshake.specs.declared.message.ShakeMsg.{ShakeMsg}
 use Rattle.erl_names.specs.Order.{trunk_cmp}
 use Rattle.erl_names.specs.declared.trunk.TrunkId.{TrunkId}
 use Rattle.erl_term.specs.declared.term.Pid.{Pid}
@@ -56,15 +57,15 @@ holds_side None = false
 holds_side (Some s) = holds s.state
 
 abbrev pub is_accept : Item → Bool
-is_accept (Handshake (ChallengeAck d)) = true
+is_accept (Handshake (ShakeMsg.ChallengeAck d)) = true
 is_accept _ = false
 
 abbrev pub is_reply : Item → Bool
-is_reply (Handshake (ChallengeReply v d)) = true
+is_reply (Handshake (ShakeMsg.ChallengeReply v d)) = true
 is_reply _ = false
 
 abbrev pub is_challenge : Item → Bool
-is_challenge (Handshake (Challenge x c f v)) = true
+is_challenge (Handshake (ShakeMsg.Challenge f v c x)) = true
 is_challenge _ = false
 
 -- the acceptor's side has sent its challenge, or never will
@@ -88,7 +89,7 @@ has f [] = false
 has f (x ∷ xs) = f x || has f xs
 
 abbrev pub NoLinks : List Item → Type 0
-NoLinks l = (p q : Pid) → words p q l ≡ []
+NoLinks l = (p q : Pid) → news p q l ≡ []
 
 -- a trunk, by its dialer's side, its acceptor's, and what travels to each
 pub record Row (v : State) (a : Option TrunkSide) (to_dialer to_acceptor : List Item) : Type 0 where
@@ -380,7 +381,7 @@ module _ (w : World) (x : Name) (n : Node) (o : Node) (m' : FinMap place_cmp (Li
             let h0 : went_up (side_at wa.old t) ≡ false = ap went_up (sym (wa.sides t)) ∙ h in
             let b = r.before h0 in
             let l = same b.0 (not_went_not_holds (side_at wa.old t) h0) in
-            (b.0, ap (has is_accept) (l t.dialer) ∙ b.1, λ p q. ap (words p q) (l t.dialer) ∙ b.2 p q, λ p q. ap (words p q) (l s.peer) ∙ b.3 p q);
+            (b.0, ap (has is_accept) (l t.dialer) ∙ b.1, λ p q. ap (news p q) (l t.dialer) ∙ b.2 p q, λ p q. ap (news p q) (l s.peer) ∙ b.3 p q);
         early = λ h.
             let b = r.early h in
             let l = same (early_not_holds s.state h) b.0 in

@@ -1,4 +1,5 @@
 -- What an event does to each monitor: its watch, its registration, its DOWN, and the signals about it.
+use Rattle.erl_handshake.specs.declared.message.ShakeMsg.{ShakeMsg}
 use Rattle.erl_names.specs.Draw as kind
 use Rattle.std.proofs.Common.{◌≡◌, ℕ, Bool, true, false, cond, not, List, [], ◌∷◌, ◌++◌, refl, sym, ap, ◌∙◌, subst, ◌&&◌, ◌||◌, Option, Some, None, ◌⊎◌, inl, inr, append_assoc, append-nil}
 use Rattle.std.proofs.lemmas.List.Elements.{All-cons, All-nil}
@@ -14,10 +15,10 @@ use Rattle.dist_model.proofs.Moves.{set_life_living}
 use Rattle.dist_model.proofs.Parts.{Closed, Rules}
 use Rattle.dist_model.proofs.Routes.{at_place, none_some, some_same}
 use Rattle.dist_model.proofs.Table.{has}
-use Rattle.dist_model.specs.Downs.{Down, down_of, downs_in, put_to, same_reference}
+use Rattle.dist_model.specs.Downs.{Down, down_in, downs_in, same_reference}
 use Rattle.dist_model.specs.Exits.{buried, demonitors, exits, finish, is_owned, is_target, monitor_exits}
 use Rattle.dist_model.specs.Handshake.{with_side, write}
-use Rattle.dist_model.specs.Items.{Handshake, HandshakeMessage, Item, Signalled, Tick, receiver_of}
+use Rattle.dist_model.specs.Items.{Handshake, Item, Signalled, Tick, receiver_of}
 use Rattle.dist_model.specs.Monitoring.{register, unregister, unwatch}
 use Rattle.dist_model.specs.Names.{Name, same_name, same_pid}
 use Rattle.dist_model.specs.Node.{Ended, Life, Living, Node, is_living_life, living, route, route_in}
@@ -76,7 +77,7 @@ at_place_append t y (e ∷ es) fs = ap (λ l. cond (same_trunk t e.trunk && same
 
 downs_append : (k : Reference) (fs gs : List Effect) → downs_in k (fs ++ gs) ≡ downs_in k fs ++ downs_in k gs
 downs_append k [] gs = refl
-downs_append k (Put p m ∷ fs) gs = ap (λ l. put_to p (down_of k m) ++ l) (downs_append k fs gs) ∙ sym (append_assoc (put_to p (down_of k m)) (downs_in k fs) (downs_in k gs))
+downs_append k (Put p m ∷ fs) gs = ap (λ l. down_in k p m ++ l) (downs_append k fs gs) ∙ sym (append_assoc (down_in k p m) (downs_in k fs) (downs_in k gs))
 downs_append k (EndedBy p x ∷ fs) gs = downs_append k fs gs
 downs_append k (LinkExit p q x ∷ fs) gs = downs_append k fs gs
 downs_append k (Sent y i ∷ fs) gs = downs_append k fs gs
@@ -89,10 +90,10 @@ quietly_downs k fs gs Nothing = refl
 quietly_downs k fs gs (Sends hs y i q) = no_more k hs (Sent y i ∷ []) refl ∙ quietly_downs k fs hs q
 
 -- what a DOWN says
-pub down_said : (k : Reference) (r : Reference) (q : Pid) (x : Data) → down_of k (down_term r q x) ≡ cond (same_reference k r) (Some (q, x)) None
-down_said k r q x = go (same_reference k r)
+pub down_said : (k : Reference) (r : Reference) (p q : Pid) (x : Data) → down_in k p (down_term r q x) ≡ cond (same_reference k r) ((record { owner = p; target = q; info = x }) ∷ []) []
+down_said k r p q x = go (same_reference k r)
   where
-    go : (b : Bool) → ◌≡◌ {A = Option (Pid × Data)} (cond (b && true) (Some (q, x)) None) (cond b (Some (q, x)) None)
+    go : (b : Bool) → ◌≡◌ {A = List Down} (cond (b && true) ((record { owner = p; target = q; info = x }) ∷ []) []) (cond b ((record { owner = p; target = q; info = x }) ∷ []) [])
     go true = refl
     go false = refl
 
@@ -315,8 +316,8 @@ module _ (n : Node) (Tells : Reference → Monitor → Data → Type 0) (Joins :
   pub lives_same : (p : Pid) (l : Option Life) (o : Work) → is_living_life l ≡ living o.node p → (q : Pid) → is_living_life (fm.get (set_life o.node.lives p l) q) ≡ living o.node q
   lives_same p l o h q = set_life_living o.node.lives p l q (λ e. h ∙ ap (living o.node) (sym (same_pid_true q p e)))
 
-  put_aside : (p : Pid) (m : Data) (o : Work) → ((r : Reference) → down_of r m ≡ None) → Aside o (put p m o)
-  put_aside p m o h = effects_aside o ((put p m o).node) (Put p m ∷ []) (λ k. ap (λ v. put_to p v ++ []) (h k)) refl refl refl (lives_same p (delivered (fm.get o.node.lives p) m) o (living_delivered (fm.get o.node.lives p) m)) refl refl refl refl
+  put_aside : (p : Pid) (m : Data) (o : Work) → ((r : Reference) → down_in r p m ≡ []) → Aside o (put p m o)
+  put_aside p m o h = effects_aside o ((put p m o).node) (Put p m ∷ []) (λ k. ap (λ v. v ++ []) (h k)) refl refl refl (lives_same p (delivered (fm.get o.node.lives p) m) o (living_delivered (fm.get o.node.lives p) m)) refl refl refl refl
 
   -- a process ends: posts, then its records go
   buried_turns : (p : Pid) (x : Data) (o : Work) → ((k : Reference) (m : Monitor) → fm.get o.node.registered k ≡ Some m → same_pid m.target p ≡ true → Lands (is_end k) n m.owner.node o) → Turns o → Turns (buried p x o)
@@ -421,11 +422,7 @@ module _ (n : Node) (Tells : Reference → Monitor → Data → Type 0) (Joins :
       lived q = lives_same m.owner (delivered (fm.get o.node.lives m.owner) (down_term r m.target x)) o (living_delivered (fm.get o.node.lives m.owner) (down_term r m.target x)) q
 
       said : (j : Reference) → downs_in j ((put m.owner (down_term r m.target x) (unwatch r o)).effects) ≡ downs_in j o.effects ++ cond (same_reference j r) (down m x ∷ []) []
-      said j = downs_append j o.effects (Put m.owner (down_term r m.target x) ∷ []) ∙ ap (λ l. downs_in j o.effects ++ l) (append-nil (put_to m.owner (down_of j (down_term r m.target x))) ∙ ap (put_to m.owner) (down_said j r m.target x) ∙ each (same_reference j r))
-        where
-          each : (b : Bool) → put_to m.owner (cond b (Some (m.target, x)) None) ≡ cond b (down m x ∷ []) []
-          each true = refl
-          each false = refl
+      said j = downs_append j o.effects (Put m.owner (down_term r m.target x) ∷ []) ∙ ap (λ l. downs_in j o.effects ++ l) (append-nil (down_in j m.owner (down_term r m.target x)) ∙ down_said j r m.owner m.target x)
 
       left : (j : Reference) → fm.get ((put m.owner (down_term r m.target x) (unwatch r o)).node.watches) j ≡ cond (same_reference j r) None (fm.get o.node.watches j)
       left j = fm.get-remove reference_cmp_total o.node.watches r j
@@ -522,7 +519,7 @@ module _ (n : Node) (Tells : Reference → Monitor → Data → Type 0) (Joins :
   pub turns_side : (t : TrunkId) (s : TrunkSide) (o : Work) → Turned o.node t s → Turns o → Turns (with_side t s o)
   turns_side t s o h k = turns_aside o (with_side t s o) (node_aside o ((with_side t s o).node) refl refl refl (λ z. refl) refl refl refl refl) k
 
-  pub turns_wrote : (t : TrunkId) (y : Name) (m : HandshakeMessage) (o : Work) → Turns o → Turns (write t y m o)
+  pub turns_wrote : (t : TrunkId) (y : Name) (m : ShakeMsg) (o : Work) → Turns o → Turns (write t y m o)
   turns_wrote t y m o k = turns_aside o (write t y m o) (record {
     watches = λ j. refl;
     downs = λ j. no_more j o.effects (Sent y (Handshake m) ∷ []) refl;

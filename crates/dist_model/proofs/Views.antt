@@ -1,10 +1,10 @@
 -- What a node in the midst of an event is to one pair of processes.
 use Rattle.std.proofs.Common.{◌≡◌, Bool, true, false, cond, not, List, [], ◌∷◌, ◌++◌, refl, sym, ap, ◌∙◌, subst, ◌&&◌, ◌||◌, Option, Some, None, ◌⊎◌, inl, inr, append_assoc, append-nil}
 use Rattle.std.specs.Option.{is_some}
-use Rattle.dist_model.proofs.Keys.{and_both, same_name_is, same_pid_true}
+use Rattle.dist_model.proofs.Keys.{and_both, same_name_is, same_pid_refl, same_pid_true}
 use Rattle.dist_model.proofs.Pair.{Side}
-use Rattle.dist_model.specs.Items.{Item, Signalled, receiver_of, sender_of, telling, word_in, words}
-use Rattle.dist_model.specs.Links.{Exits, LinkWord, Says}
+use Rattle.dist_model.specs.Items.{Item, Signalled, news, news_in, receiver_of, sender_of, telling}
+use Rattle.dist_model.specs.Links.{Exits, LinkNews, Says}
 use Rattle.dist_model.specs.Names.{Name, same_name, same_pid}
 use Rattle.dist_model.specs.Node.{Node, end_of, living, never, reaches, route}
 use Rattle.dist_model.specs.Work.{Envelope, Work, keep_local, post, post_all, post_to, send_on}
@@ -25,25 +25,25 @@ line o y = cond (same_name y o.node.mint.name) o.node.local (to_name y o.sent)
 abbrev pub over : Node → Pid → Bool
 over n p = not (living n p) && not (never n p)
 
-abbrev pub side_of : Node → Pid → Pid → List LinkWord → Side
+abbrev pub side_of : Node → Pid → Pid → List LinkNews → Side
 side_of n p q L = record { end = end_of n p q; gone = over n p; drawn = n.mint.unlink_ids; sent = L }
 
 -- p's side of its link with q, where b stood on the way before the event
-abbrev pub view : List LinkWord → Work → Pid → Pid → Side
-view b o p q = side_of o.node p q (b ++ words p q (line o q.node))
+abbrev pub view : List LinkNews → Work → Pid → Pid → Side
+view b o p q = side_of o.node p q (b ++ news p q (line o q.node))
 
-abbrev pub more : Side → List LinkWord → Side
+abbrev pub more : Side → List LinkNews → Side
 more a L = record { end = a.end; gone = a.gone; drawn = a.drawn; sent = a.sent ++ L }
 
 pub side_path : (a b : Side) → a.end ≡ b.end → a.gone ≡ b.gone → a.drawn ≡ b.drawn → a.sent ≡ b.sent → a ≡ b
 side_path a b e g d s = λ i. record { end = e i; gone = g i; drawn = d i; sent = s i }
 
-pub words-append : (p q : Pid) (xs ys : List Item) → words p q (xs ++ ys) ≡ words p q xs ++ words p q ys
-words-append p q [] ys = refl
-words-append p q (x ∷ xs) ys = ap (λ l. word_in p q x ++ l) (words-append p q xs ys) ∙ sym (append_assoc (word_in p q x) (words p q xs) (words p q ys))
+pub news-append : (p q : Pid) (xs ys : List Item) → news p q (xs ++ ys) ≡ news p q xs ++ news p q ys
+news-append p q [] ys = refl
+news-append p q (x ∷ xs) ys = ap (λ l. news_in p q x ++ l) (news-append p q xs ys) ∙ sym (append_assoc (news_in p q x) (news p q xs) (news p q ys))
 
-pub words-push : (p q : Pid) (xs : List Item) (x : Item) → words p q (xs ++ x ∷ []) ≡ words p q xs ++ word_in p q x
-words-push p q xs x = words-append p q xs (x ∷ []) ∙ ap (λ l. words p q xs ++ l) (append-nil (word_in p q x))
+pub news-push : (p q : Pid) (xs : List Item) (x : Item) → news p q (xs ++ x ∷ []) ≡ news p q xs ++ news_in p q x
+news-push p q xs x = news-append p q xs (x ∷ []) ∙ ap (λ l. news p q xs ++ l) (append-nil (news_in p q x))
 
 pub to_name-push : (y : Name) (es : List Envelope) (e : Envelope) → to_name y (es ++ e ∷ []) ≡ to_name y es ++ cond (same_name e.target y) (e.item ∷ []) []
 to_name-push y [] e = append-nil _
@@ -51,45 +51,45 @@ to_name-push y (d ∷ es) e = ap (λ l. cond (same_name d.target y) (d.item ∷ 
 
 -- an item that is addressed to the node of its receiver
 abbrev pub Suits : Name → Item → Pid → Pid → Type 0
-Suits y x p q = (y ≡ q.node) ⊎ (word_in p q x ≡ [])
+Suits y x p q = (y ≡ q.node) ⊎ (news_in p q x ≡ [])
 
-nothing_more : (L R : List LinkWord) → R ≡ [] → L ≡ L ++ R
+nothing_more : (L R : List LinkNews) → R ≡ [] → L ≡ L ++ R
 nothing_more L R h = sym (append-nil L) ∙ ap (λ l. L ++ l) (sym h)
 
 module _ (y : Name) (x : Item) (o : Work) (p q : Pid) where
   local_line : (b : Bool) → same_name q.node o.node.mint.name ≡ b → same_name y o.node.mint.name ≡ true → Suits y x p q
-      → words p q (cond b (o.node.local ++ x ∷ []) (to_name q.node o.sent)) ≡ words p q (cond b o.node.local (to_name q.node o.sent)) ++ word_in p q x
-  local_line true e h s = words-push p q o.node.local x
+      → news p q (cond b (o.node.local ++ x ∷ []) (to_name q.node o.sent)) ≡ news p q (cond b o.node.local (to_name q.node o.sent)) ++ news_in p q x
+  local_line true e h s = news-push p q o.node.local x
   local_line false e h (inl d) = let c : same_name q.node o.node.mint.name ≡ true = subst (λ z. same_name z o.node.mint.name ≡ true) d h in absurd (let n : true ≡ false = sym c ∙ e in cc)
-  local_line false e h (inr n) = nothing_more (words p q (to_name q.node o.sent)) (word_in p q x) n
+  local_line false e h (inr n) = nothing_more (news p q (to_name q.node o.sent)) (news_in p q x) n
 
   sent_on_line : (t : TrunkId) (c : Bool) → same_name y q.node ≡ c → Suits y x p q
-      → words p q (to_name q.node o.sent ++ cond c (x ∷ []) []) ≡ words p q (to_name q.node o.sent) ++ word_in p q x
-  sent_on_line t true e s = words-push p q (to_name q.node o.sent) x
+      → news p q (to_name q.node o.sent ++ cond c (x ∷ []) []) ≡ news p q (to_name q.node o.sent) ++ news_in p q x
+  sent_on_line t true e s = news-push p q (to_name q.node o.sent) x
   sent_on_line t false e (inl d) = absurd (let n : true ≡ false = sym (same_name_is y q.node d) ∙ e in cc)
-  sent_on_line t false e (inr n) = ap (words p q) (append-nil (to_name q.node o.sent)) ∙ nothing_more (words p q (to_name q.node o.sent)) (word_in p q x) n
+  sent_on_line t false e (inr n) = ap (news p q) (append-nil (to_name q.node o.sent)) ∙ nothing_more (news p q (to_name q.node o.sent)) (news_in p q x) n
 
   sent_line : (r : Option TrunkId) (b : Bool) → route o.node y ≡ r → same_name q.node o.node.mint.name ≡ b → same_name y o.node.mint.name ≡ false → (b || is_some (route o.node q.node)) ≡ true → Suits y x p q
-      → words p q (cond b (send_on r y x o).node.local (to_name q.node (send_on r y x o).sent)) ≡ words p q (cond b o.node.local (to_name q.node o.sent)) ++ word_in p q x
+      → news p q (cond b (send_on r y x o).node.local (to_name q.node (send_on r y x o).sent)) ≡ news p q (cond b o.node.local (to_name q.node o.sent)) ++ news_in p q x
   sent_line r true e f h reach (inl d) = absurd (let c : same_name y o.node.mint.name ≡ true = subst (λ z. same_name z o.node.mint.name ≡ true) (sym d) f in let n : true ≡ false = sym c ∙ h in cc)
-  sent_line None true e f h reach (inr n) = nothing_more (words p q o.node.local) (word_in p q x) n
-  sent_line (Some t) true e f h reach (inr n) = nothing_more (words p q o.node.local) (word_in p q x) n
+  sent_line None true e f h reach (inr n) = nothing_more (news p q o.node.local) (news_in p q x) n
+  sent_line (Some t) true e f h reach (inr n) = nothing_more (news p q o.node.local) (news_in p q x) n
   sent_line None false e f h reach (inl d) = absurd (let c : route o.node q.node ≡ None = subst (λ z. route o.node z ≡ None) d e in let n : false ≡ true = sym (ap is_some c) ∙ reach in cc)
-  sent_line None false e f h reach (inr n) = nothing_more (words p q (to_name q.node o.sent)) (word_in p q x) n
-  sent_line (Some t) false e f h reach s = ap (words p q) (to_name-push q.node o.sent (record { trunk = t; target = y; item = x })) ∙ sent_on_line t (same_name y q.node) refl s
+  sent_line None false e f h reach (inr n) = nothing_more (news p q (to_name q.node o.sent)) (news_in p q x) n
+  sent_line (Some t) false e f h reach s = ap (news p q) (to_name-push q.node o.sent (record { trunk = t; target = y; item = x })) ∙ sent_on_line t (same_name y q.node) refl s
 
   sent_all : (r : Option TrunkId) → route o.node y ≡ r → same_name y o.node.mint.name ≡ false → reaches o.node q.node ≡ true → Suits y x p q
-      → words p q (line (send_on r y x o) q.node) ≡ words p q (line o q.node) ++ word_in p q x
+      → news p q (line (send_on r y x o) q.node) ≡ news p q (line o q.node) ++ news_in p q x
   sent_all None e h reach s = sent_line None (same_name q.node o.node.mint.name) e refl h reach s
   sent_all (Some t) e h reach s = sent_line (Some t) (same_name q.node o.node.mint.name) e refl h reach s
 
   post_line_by : (b : Bool) → same_name y o.node.mint.name ≡ b → reaches o.node q.node ≡ true → Suits y x p q
-      → words p q (cond (same_name q.node (cond b (keep_local x o) (send_on (route o.node y) y x o)).node.mint.name) (cond b (keep_local x o) (send_on (route o.node y) y x o)).node.local (to_name q.node (cond b (keep_local x o) (send_on (route o.node y) y x o)).sent))
-      ≡ words p q (line o q.node) ++ word_in p q x
+      → news p q (cond (same_name q.node (cond b (keep_local x o) (send_on (route o.node y) y x o)).node.mint.name) (cond b (keep_local x o) (send_on (route o.node y) y x o)).node.local (to_name q.node (cond b (keep_local x o) (send_on (route o.node y) y x o)).sent))
+      ≡ news p q (line o q.node) ++ news_in p q x
   post_line_by true e reach s = local_line (same_name q.node o.node.mint.name) refl e s
   post_line_by false e reach s = sent_all (route o.node y) refl e reach s
 
-  pub post_line : reaches o.node q.node ≡ true → Suits y x p q → words p q (line (post_to y x o) q.node) ≡ words p q (line o q.node) ++ word_in p q x
+  pub post_line : reaches o.node q.node ≡ true → Suits y x p q → news p q (line (post_to y x o) q.node) ≡ news p q (line o q.node) ++ news_in p q x
   post_line reach s = post_line_by (same_name y o.node.mint.name) refl reach s
 
 -- what no post changes
@@ -110,15 +110,15 @@ module _ {A : Type 0} (f : Node → A) (free : (n : Node) (l : List Item) → f 
   post_all_keeps (e ∷ es) o = post_all_keeps es (post e o) ∙ post_keeps (receiver_of e).node (Signalled e) o
 
 -- a post is one signal more, or none
-pub post_view : (b : List LinkWord) (y : Name) (x : Item) (o : Work) (p q : Pid) → reaches o.node q.node ≡ true → Suits y x p q → view b (post_to y x o) p q ≡ more (view b o p q) (word_in p q x)
-post_view b y x o p q reach s = side_path (view b (post_to y x o) p q) (more (view b o p q) (word_in p q x))
+pub post_view : (b : List LinkNews) (y : Name) (x : Item) (o : Work) (p q : Pid) → reaches o.node q.node ≡ true → Suits y x p q → view b (post_to y x o) p q ≡ more (view b o p q) (news_in p q x)
+post_view b y x o p q reach s = side_path (view b (post_to y x o) p q) (more (view b o p q) (news_in p q x))
     (post_keeps (λ n. end_of n p q) (λ n l. refl) y x o) (post_keeps (λ n. over n p) (λ n l. refl) y x o) (post_keeps (λ n. n.mint.unlink_ids) (λ n l. refl) y x o)
-    (ap (λ l. b ++ l) (post_line y x o p q reach s) ∙ sym (append_assoc b (words p q (line o q.node)) (word_in p q x)))
+    (ap (λ l. b ++ l) (post_line y x o p q reach s) ∙ sym (append_assoc b (news p q (line o q.node)) (news_in p q x)))
 
 -- several posts
-abbrev pub posted : Pid → Pid → List Signal → List LinkWord
+abbrev pub posted : Pid → Pid → List Signal → List LinkNews
 posted p q [] = []
-posted p q (e ∷ es) = word_in p q (Signalled e) ++ posted p q es
+posted p q (e ∷ es) = news_in p q (Signalled e) ++ posted p q es
 
 abbrev pub AllSuit : Pid → Pid → List Signal → Type 0
 AllSuit p q [] = Unit {0}
@@ -127,50 +127,60 @@ AllSuit p q (e ∷ es) = Suits (receiver_of e).node (Signalled e) p q × AllSuit
 more-nil : (a : Side) → a ≡ more a []
 more-nil a = side_path a (more a []) refl refl refl (sym (append-nil a.sent))
 
-more-more : (a : Side) (L R : List LinkWord) → more (more a L) R ≡ more a (L ++ R)
+more-more : (a : Side) (L R : List LinkNews) → more (more a L) R ≡ more a (L ++ R)
 more-more a L R = side_path (more (more a L) R) (more a (L ++ R)) refl refl refl (append_assoc a.sent L R)
 
-pub post_all_view : (b : List LinkWord) (es : List Signal) (o : Work) (p q : Pid) → reaches o.node q.node ≡ true → AllSuit p q es → view b (post_all es o) p q ≡ more (view b o p q) (posted p q es)
+pub post_all_view : (b : List LinkNews) (es : List Signal) (o : Work) (p q : Pid) → reaches o.node q.node ≡ true → AllSuit p q es → view b (post_all es o) p q ≡ more (view b o p q) (posted p q es)
 post_all_view b [] o p q reach s = more-nil (view b o p q)
 post_all_view b (e ∷ es) o p q reach s =
     post_all_view b es (post e o) p q (post_keeps (λ n. reaches n q.node) (λ n l. refl) (receiver_of e).node (Signalled e) o ∙ reach) s.1
     ∙ ap (λ a. more a (posted p q es)) (post_view b (receiver_of e).node (Signalled e) o p q reach s.0)
-    ∙ more-more (view b o p q) (word_in p q (Signalled e)) (posted p q es)
+    ∙ more-more (view b o p q) (news_in p q (Signalled e)) (posted p q es)
 
 pub posted-append : (p q : Pid) (xs ys : List Signal) → posted p q (xs ++ ys) ≡ posted p q xs ++ posted p q ys
 posted-append p q [] ys = refl
-posted-append p q (x ∷ xs) ys = ap (λ l. word_in p q (Signalled x) ++ l) (posted-append p q xs ys) ∙ sym (append_assoc (word_in p q (Signalled x)) (posted p q xs) (posted p q ys))
+posted-append p q (x ∷ xs) ys = ap (λ l. news_in p q (Signalled x) ++ l) (posted-append p q xs ys) ∙ sym (append_assoc (news_in p q (Signalled x)) (posted p q xs) (posted p q ys))
 
 pub AllSuit-append : (p q : Pid) (xs ys : List Signal) → AllSuit p q xs → AllSuit p q ys → AllSuit p q (xs ++ ys)
 AllSuit-append p q [] ys a b = b
 AllSuit-append p q (x ∷ xs) ys a b = (a.0, AllSuit-append p q xs ys a.1 b)
 
 -- a signal about a link suits where it goes to its receiver's node
-pub signal_other : (b : Bool) (s : LinkWord) → b ≡ false → ◌≡◌ {A = List LinkWord} (cond b (s ∷ []) []) []
+pub signal_other : (b : Bool) (s : LinkNews) → b ≡ false → ◌≡◌ {A = List LinkNews} (cond b (s ∷ []) []) []
 signal_other true s h = cc
 signal_other false s h = refl
 
-pub telling_word : (a b p q : Pid) (s : LinkWord) → word_in p q (Signalled (telling a b s)) ≡ cond (same_pid a p && same_pid b q) (s ∷ []) []
-telling_word a b p q (Says LinkSignal.Link) = refl
-telling_word a b p q (Says (LinkSignal.Unlink i)) = refl
-telling_word a b p q (Says (LinkSignal.Ack i)) = refl
-telling_word a b p q (Exits r) = refl
+pub telling_news : (a b p q : Pid) (s : LinkNews) → news_in p q (Signalled (telling a b s)) ≡ cond (same_pid a p && same_pid b q) (s ∷ []) []
+telling_news a b p q (Says LinkSignal.Link) = refl
+telling_news a b p q (Says (LinkSignal.Unlink i)) = refl
+telling_news a b p q (Says (LinkSignal.Ack i)) = refl
+telling_news a b p q (Exits r) = refl
 
-pub telling_receiver : (a b : Pid) (s : LinkWord) → receiver_of (telling a b s) ≡ b
+pub telling_receiver : (a b : Pid) (s : LinkNews) → receiver_of (telling a b s) ≡ b
 telling_receiver a b (Says LinkSignal.Link) = refl
 telling_receiver a b (Says (LinkSignal.Unlink i)) = refl
 telling_receiver a b (Says (LinkSignal.Ack i)) = refl
 telling_receiver a b (Exits r) = refl
 
-pub telling_sender : (a b : Pid) (s : LinkWord) → sender_of (telling a b s) ≡ Some a
+pub telling_sender : (a b : Pid) (s : LinkNews) → sender_of (telling a b s) ≡ Some a
 telling_sender a b (Says LinkSignal.Link) = refl
 telling_sender a b (Says (LinkSignal.Unlink i)) = refl
 telling_sender a b (Says (LinkSignal.Ack i)) = refl
 telling_sender a b (Exits r) = refl
 
-pub linking_suits_by : (b : Bool) (x y p q : Pid) (s : LinkWord) → (same_pid x p && same_pid y q) ≡ b → Suits y.node (Signalled (telling x y s)) p q
+pub linking_suits_by : (b : Bool) (x y p q : Pid) (s : LinkNews) → (same_pid x p && same_pid y q) ≡ b → Suits y.node (Signalled (telling x y s)) p q
 linking_suits_by true x y p q s e = inl (ap (λ (v : Pid). v.node) (same_pid_true y q (and_both (same_pid x p) (same_pid y q) e).1))
-linking_suits_by false x y p q s e = inr (telling_word x y p q s ∙ signal_other (same_pid x p && same_pid y q) s e)
+linking_suits_by false x y p q s e = inr (telling_news x y p q s ∙ signal_other (same_pid x p && same_pid y q) s e)
 
-pub linking_suits : (x y p q : Pid) (s : LinkWord) → Suits y.node (Signalled (telling x y s)) p q
+pub linking_suits : (x y p q : Pid) (s : LinkNews) → Suits y.node (Signalled (telling x y s)) p q
 linking_suits x y p q s = linking_suits_by (same_pid x p && same_pid y q) x y p q s refl
+
+pub news_told : (p q : Pid) (s : LinkNews) → news_in p q (Signalled (telling p q s)) ≡ s ∷ []
+news_told p q s = telling_news p q p q s ∙ ap (λ b. cond (b && same_pid q q) (s ∷ []) []) (same_pid_refl p) ∙ ap (λ b. cond b (s ∷ []) []) (same_pid_refl q)
+
+pub no_news_of_others : (p q a b : Pid) (s : LinkNews) → ((a ≡ p) × (b ≡ q) → ⊥) → news_in p q (Signalled (telling a b s)) ≡ []
+no_news_of_others p q a b s n = go (same_pid a p && same_pid b q) refl
+  where
+    go : (t : Bool) → (same_pid a p && same_pid b q) ≡ t → news_in p q (Signalled (telling a b s)) ≡ []
+    go true e = let v = and_both (same_pid a p) (same_pid b q) e in absurd (n (same_pid_true a p v.0, same_pid_true b q v.1))
+    go false e = telling_news a b p q s ∙ ap (λ t. cond t (s ∷ []) []) e

@@ -1,6 +1,7 @@
 -- What a caller may ask of a node.
 -- (Reference Manual, Processes: Process Creation, Links, Monitors, Error Handling.)
-use Rattle.std.specs.Prelude.{Option, None, Some, is_some, ℕ, ◌+◌, ◌^◌, Bool, true, false, cond, not, if◌then◌else◌, List, [], ◌∷◌, ◌++◌, ◌==◌, nat_lt, nat_le, ◌&&◌, ◌||◌}
+use Rattle.std.specs.List.{flat_map}
+use Rattle.std.specs.Prelude.{Option, None, Some, Bool, false, if◌then◌else◌, List, [], ◌∷◌, ◌&&◌}
 use Rattle.std.specs.FinMap as fm
 use Rattle.erl_names.specs.Draw as kind
 use Rattle.dist_model.specs.Commands.{Command, Done, EndLink, EndMonitor, ExitSelf, ExitTo, Goes, IsAlive, IsLiving, Links, LinksOf, MakeLink, MakeMonitor, Outcome, Receive, Received, Refuses, Send, Spawn, Spawned, Trap, Watching, with_id}
@@ -50,8 +51,7 @@ without_first life = life
 
 -- the ends of p, active and pending
 abbrev pub links_in : List ((Pid × Pid) × End) → Pid → List (Pid × End)
-links_in [] p = []
-links_in (entry ∷ rest) p = (if same_pid entry.0.0 p then (entry.0.1, entry.1) ∷ [] else []) ++ links_in rest p
+links_in entries p = flat_map (λ entry. if same_pid entry.0.0 p then (entry.0.1, entry.1) ∷ [] else []) entries
 
 abbrev pub call : Node → Command → Outcome
 call node Spawn = with_id (id_of node.mint kind.Pid) (λ id. Goes (Spawned (pid_of node.mint id)) (spawn_life node (pid_of node.mint id)))

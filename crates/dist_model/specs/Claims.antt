@@ -1,15 +1,15 @@
 -- What holds of every world that events lead to.
-use Rattle.std.specs.Prelude.{◌≡◌, ◌⊎◌, ◌↔◌, Option, None, Some, is_some, ℕ, ◌+◌, ◌^◌, Bool, true, false, cond, not, if◌then◌else◌, List, [], ◌∷◌, ◌++◌, ◌==◌, nat_lt, nat_le, ◌&&◌, ◌||◌, Contains, map}
-use Rattle.std.specs.FinMap as fm
+use Rattle.std.specs.Prelude.{◌≡◌, ◌⊎◌, ◌↔◌, Some, ℕ, true, false, Contains}
 use Rattle.dist_model.specs.Causes.{Reacts}
 use Rattle.dist_model.specs.Commands.{MakeLink}
-use Rattle.dist_model.specs.Items.{words}
+use Rattle.dist_model.specs.Items.{news}
 use Rattle.dist_model.specs.Links.{Says, drained, last_said}
 use Rattle.dist_model.specs.Names.{Name}
+use Rattle.dist_model.specs.Node.{Node, living, never}
 use Rattle.dist_model.specs.Quiet.{Quiet}
-use Rattle.dist_model.specs.Seen.{HasSide, end_between, is_living, is_reached, local_list}
+use Rattle.dist_model.specs.Seen.{AreConnected, HasSide, end_between, is_connected, is_living, is_reached, local_list}
 use Rattle.dist_model.specs.Sides.{is_losing, is_up}
-use Rattle.dist_model.specs.World.{Call, Event, World, list_to, step}
+use Rattle.dist_model.specs.World.{Call, Event, World, list_to, node_of, step}
 use Rattle.erl_names.specs.declared.trunk.TrunkId.{TrunkId}
 use Rattle.erl_term.specs.Data.{Data}
 use Rattle.erl_term.specs.declared.term.Pid.{Pid}
@@ -20,13 +20,13 @@ use Rattle.link_core.specs.declared.end.LinkSignal.{LinkSignal}
 
 -- two living processes of connected nodes: once all that travels has come, both hold their link active, or neither does
 abbrev pub Agreement : World → Type 0
-Agreement w = (p q : Pid) (t : TrunkId) → HasSide w p.node t q.node is_up → HasSide w q.node t p.node is_up → is_living w p ≡ true → is_living w q ≡ true
-    → drained (end_between w p q) (words q p (list_to w.lists t p.node)) ≡ End.Active ↔ drained (end_between w q p) (words p q (list_to w.lists t q.node)) ≡ End.Active
+Agreement w = (p q : Pid) (t : TrunkId) → AreConnected w p.node t q.node → is_living w p ≡ true → is_living w q ≡ true
+    → drained (end_between w p q) (news q p (list_to w.lists t p.node)) ≡ End.Active ↔ drained (end_between w q p) (news p q (list_to w.lists t q.node)) ≡ End.Active
 
 -- two living processes of one node
 abbrev pub AgreementWithin : World → Type 0
 AgreementWithin w = (p q : Pid) → p.node ≡ q.node → is_living w p ≡ true → is_living w q ≡ true
-    → drained (end_between w p q) (words q p (local_list w p.node)) ≡ End.Active ↔ drained (end_between w q p) (words p q (local_list w p.node)) ≡ End.Active
+    → drained (end_between w p q) (news q p (local_list w p.node)) ≡ End.Active ↔ drained (end_between w q p) (news p q (local_list w p.node)) ≡ End.Active
 
 -- whenever nothing travels between two living processes, both hold their link active, or neither does
 abbrev pub AgreementInQuiet : World → Type 0
@@ -34,14 +34,14 @@ AgreementInQuiet w = (p q : Pid) → Quiet w p q → is_living w p ≡ true → 
 
 -- ---- Pending. (ERTS User's Guide, Distribution Protocol, New Link Protocol)
 
--- where an end waits for an acknowledgement, its UNLINK_ID is the last word on the way to the partner, or the acknowledgement is on its way back
+-- where an end waits for an acknowledgement, its UNLINK_ID is the last LINK or UNLINK_ID on the way to the partner, or the acknowledgement is on its way back
 abbrev pub PendingOnItsWay : World → Type 0
-PendingOnItsWay w = (p q : Pid) (t : TrunkId) (i : ℕ) → HasSide w p.node t q.node is_up → HasSide w q.node t p.node is_up → is_living w p ≡ true → is_living w q ≡ true → end_between w p q ≡ End.Pending i
-    → (last_said (words p q (list_to w.lists t q.node)) ≡ Some (LinkSignal.Unlink i)) ⊎ Contains (words q p (list_to w.lists t p.node)) (Says (LinkSignal.Ack i))
+PendingOnItsWay w = (p q : Pid) (t : TrunkId) (i : ℕ) → AreConnected w p.node t q.node → is_living w p ≡ true → is_living w q ≡ true → end_between w p q ≡ End.Pending i
+    → (last_said (news p q (list_to w.lists t q.node)) ≡ Some (LinkSignal.Unlink i)) ⊎ Contains (news q p (list_to w.lists t p.node)) (Says (LinkSignal.Ack i))
 
 abbrev pub PendingWithin : World → Type 0
 PendingWithin w = (p q : Pid) (i : ℕ) → p.node ≡ q.node → is_living w p ≡ true → is_living w q ≡ true → end_between w p q ≡ End.Pending i
-    → (last_said (words p q (local_list w p.node)) ≡ Some (LinkSignal.Unlink i)) ⊎ Contains (words q p (local_list w p.node)) (Says (LinkSignal.Ack i))
+    → (last_said (news p q (local_list w p.node)) ≡ Some (LinkSignal.Unlink i)) ⊎ Contains (news q p (local_list w p.node)) (Says (LinkSignal.Ack i))
 
 -- ---- No link to the dead, and none to itself. (Reference Manual, Processes, Links)
 
@@ -50,6 +50,16 @@ NoLinkToTheDead w = (p q : Pid) → Quiet w p q → is_living w p ≡ true → i
 
 abbrev pub NoLinkToItself : World → Type 0
 NoLinkToItself w = (p : Pid) → end_between w p p ≡ End.None
+
+-- ---- Links are of living processes that can reach each other. (Reference Manual, Processes, Links; Distributed Erlang)
+
+-- an end that isn't none is that of a living process, towards its own node or one that its node is connected to, or whose records it hasn't swept yet
+abbrev pub LinkNeedsConnection : World → Type 0
+LinkNeedsConnection w = (p q : Pid) → (end_between w p q ≡ End.None → ⊥) → (is_living w p ≡ true) × ((q.node ≡ p.node) ⊎ (is_connected w p.node q.node ≡ true))
+
+-- a process that is living was spawned
+abbrev pub LivingWasSpawned : World → Type 0
+LivingWasSpawned w = (name : Name) (node : Node) (p : Pid) → node_of w.nodes name ≡ Some node → living node p ≡ true → never node p ≡ false
 
 -- ---- One trunk. (ERTS User's Guide, Distribution Protocol, Distribution Handshake: at most one connection between two nodes)
 

@@ -1,5 +1,5 @@
 -- What a caller may ask of a node, and how an event ends.
-use Rattle.std.specs.Prelude.{◌≡◌, ◌⊎◌, ◌↔◌, Option, None, Some, is_some, ℕ, ◌+◌, ◌^◌, Bool, true, false, cond, not, if◌then◌else◌, List, [], ◌∷◌, ◌++◌, ◌==◌, nat_lt, nat_le, ◌&&◌, ◌||◌, Contains, map}
+use Rattle.std.specs.Prelude.{Option, None, Some, ℕ, Bool, List}
 use Rattle.dist_model.specs.Items.{Item}
 use Rattle.dist_model.specs.Work.{Work}
 use Rattle.erl_names.specs.declared.trunk.TrunkId.{TrunkId}

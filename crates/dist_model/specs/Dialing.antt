@@ -1,33 +1,34 @@
 -- A node dials another.
--- (ERTS User's Guide, Distribution Protocol, Distribution Handshake.)
-use Rattle.std.specs.Prelude.{Option, None, Some, is_some, ℕ, ◌+◌, ◌^◌, Bool, true, false, cond, not, List, [], ◌∷◌, ◌==◌, nat_lt, nat_le, ◌&&◌, ◌||◌}
+-- (ERTS User's Guide, Distribution Protocol, Distribution Handshake. That only a call dials is own.)
+use Rattle.std.specs.List.{list_any}
+use Rattle.std.specs.Prelude.{is_some, ℕ, ◌+◌, ◌^◌, Bool, not, if◌then◌else◌, List, nat_lt}
 use Rattle.std.specs.FinMap as fm
 use Rattle.dist_model.specs.Commands.{Dialed, Goes, Outcome, Refuses}
-use Rattle.dist_model.specs.Handshake.{flag_word, with_side, write}
-use Rattle.dist_model.specs.Items.{SendName}
+use Rattle.dist_model.specs.Handshake.{identity, with_side, write}
 use Rattle.dist_model.specs.Names.{Name, same_name}
 use Rattle.dist_model.specs.Node.{Node, side_where}
 use Rattle.dist_model.specs.Sides.{AwaitsStatus, is_gone}
 use Rattle.dist_model.specs.Work.{at_work}
+use Rattle.erl_handshake.specs.Roles.{send_name}
 use Rattle.erl_names.specs.declared.trunk.TrunkId.{TrunkId}
 use Rattle.erl_term.specs.declared.refusal.Refusal.{Refusal}
 
 abbrev pub has_name : Name → List Name → Bool
-has_name y [] = false
-has_name y (x ∷ xs) = same_name x y || has_name y xs
+has_name name = list_any (same_name name)
 
 abbrev pub next_trunk : Node → TrunkId
-next_trunk n = record { dialer = n.mint.name; count = n.dialed + 1 }
+next_trunk node = record { dialer = node.mint.name; count = node.dialed + 1 }
 
 abbrev pub draw_trunk : Node → Node
-draw_trunk n = record n { dialed = n.dialed + 1 }
+draw_trunk node = record node { dialed = node.dialed + 1 }
 
+-- there is no side towards the peer but gone ones. The word is the new side's challenge
 abbrev pub dial : List Name → Node → Name → ℕ → Outcome
-dial names n y w =
-    cond (same_name y n.mint.name) (Refuses Refusal.SelfDial)
-    (cond (not (has_name y names)) (Refuses Refusal.NothingThere)
-    (cond (is_some (side_where (λ v. not (is_gone v)) y (fm.entries n.sides))) (Refuses Refusal.Busy)
-    (cond (not (nat_lt (n.dialed + 1) (2 ^ 64))) (Refuses Refusal.IdsUsedUp)
-    (Goes (Dialed (next_trunk n))
-    (write (next_trunk n) y (SendName n.mint.name n.mint.creation flag_word)
-    (with_side (next_trunk n) (record { peer = y; peer_creation = 0; state = AwaitsStatus w }) (at_work (draw_trunk n))))))))
+dial names node peer word =
+    if same_name peer node.mint.name then Refuses Refusal.SelfDial else
+    (if not (has_name peer names) then Refuses Refusal.NothingThere else
+    (if is_some (side_where (λ state. not (is_gone state)) peer (fm.entries node.sides)) then Refuses Refusal.Busy else
+    (if not (nat_lt (node.dialed + 1) (2 ^ 64)) then Refuses Refusal.IdsUsedUp else
+    Goes (Dialed (next_trunk node))
+    (write (next_trunk node) peer (send_name (identity node))
+    (with_side (next_trunk node) (record { peer = peer; peer_creation = 0; state = AwaitsStatus word }) (at_work (draw_trunk node)))))))

@@ -1,6 +1,7 @@
 -- The monitors of a run by their references: which calls began and ended them, and the DOWN messages that came of them.
 -- (Reference Manual, Processes, Monitors.)
-use Rattle.std.specs.Prelude.{◌≡◌, ◌⊎◌, ℕ, ◌+◌, if◌then◌else◌, ◌&&◌, Bool, true, false, Option, None, Some, List, [], ◌∷◌, ◌++◌, codes}
+use Rattle.std.specs.Prelude.{◌≡◌, ◌⊎◌, ℕ, ◌+◌, Bool, true, false, if◌then◌else◌, List, [], ◌∷◌, ◌++◌, ◌&&◌, codes, nat_eq}
+use Rattle.std.specs.Cmp.Lexicographic.{pointwise}
 use Rattle.std.specs.Ordering.{eq_by_cmp}
 use Rattle.dist_model.specs.Commands.{Answer, EndMonitor, MakeMonitor, Took, Watching}
 use Rattle.dist_model.specs.Histories.{Happening, History}
@@ -8,10 +9,9 @@ use Rattle.dist_model.specs.Items.{Signalled}
 use Rattle.dist_model.specs.Work.{Effect, Put}
 use Rattle.dist_model.specs.World.{Arrive, Call, Event, Local, Refused, Report, Reported}
 use Rattle.erl_control.specs.declared.signal.Signal.{Signal}
-use Rattle.erl_term.specs.Data.{Data, Items, item, no_items, pid, reference, tuple}
+use Rattle.erl_term.specs.Data.{Data, atom, item, no_items, pid, reference, tuple}
 use Rattle.erl_term.specs.declared.term.Pid.{Pid}
 use Rattle.erl_term.specs.declared.term.Reference.{Reference}
-use Rattle.exit_core.specs.Reaction.{is_atom}
 use Rattle.monitor_core.specs.Order.{reference_cmp}
 
 abbrev pub same_reference : Reference → Reference → Bool
@@ -46,31 +46,26 @@ Demonitored r (last ∷ before) = (is_demonitored r last.event last.report ≡ t
 
 -- ---- the messages
 
--- {'DOWN', Ref, process, Pid, Info} under this reference: the target and the info
-abbrev pub down_in : Reference → Items → Option (Pid × Data)
-down_in r (item tag (item (reference s) (item kind (item (pid target) (item info no_items))))) =
-    if is_atom (codes "DOWN") tag && same_reference r s && is_atom (codes "process") kind then Some (target, info) else None
-down_in r _ = None
-
-abbrev pub down_of : Reference → Data → Option (Pid × Data)
-down_of r (tuple items) = down_in r items
-down_of r _ = None
-
--- a DOWN that was put into a mailbox
+-- to whom one was put, of which process, and with which reason
 pub record Down : Type 0 where
   pub owner : Pid
   pub target : Pid
   pub info : Data
 
-abbrev pub put_to : Pid → Option (Pid × Data) → List Down
-put_to owner None = []
-put_to owner (Some down) = (record { owner = owner; target = down.0; info = down.1 }) ∷ []
+-- {'DOWN', Ref, process, Pid, Info}
+abbrev pub down_in : Reference → Pid → Data → List Down
+down_in r owner (tuple (item (atom name) (item (reference of) (item (atom kind) (item (pid target) (item info no_items)))))) =
+    if pointwise nat_eq name (codes "DOWN") && eq_by_cmp reference_cmp r of && pointwise nat_eq kind (codes "process")
+    then (record { owner = owner; target = target; info = info }) ∷ []
+    else []
+down_in r owner _ = []
 
 abbrev pub downs_in : Reference → List Effect → List Down
 downs_in r [] = []
-downs_in r (Put owner message ∷ rest) = put_to owner (down_of r message) ++ downs_in r rest
-downs_in r (_ ∷ rest) = downs_in r rest
+downs_in r (Put owner message ∷ rest) = down_in r owner message ++ downs_in r rest
+downs_in r (effect ∷ rest) = downs_in r rest
 
+-- a term that was sent may have that form too. It is a message and no DOWN
 abbrev pub is_sent_message : Answer → Bool
 is_sent_message (Took (Signalled (Signal.Send to message))) = true
 is_sent_message _ = false

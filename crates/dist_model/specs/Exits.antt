@@ -1,6 +1,7 @@
 -- What exits do: a process ends, and an exit signal comes to one.
 -- (Reference Manual, Processes, Receiving Exit Signals; Links; Monitors.)
-use Rattle.std.specs.Prelude.{Option, None, Some, is_some, ℕ, ◌+◌, ◌^◌, Bool, true, false, cond, not, if◌then◌else◌, List, [], ◌∷◌, ◌++◌, ◌==◌, nat_lt, nat_le, ◌&&◌, ◌||◌}
+use Rattle.std.specs.List.{flat_map}
+use Rattle.std.specs.Prelude.{Option, None, Some, Bool, true, false, not, if◌then◌else◌, List, [], ◌∷◌, ◌++◌}
 use Rattle.std.specs.FinMap as fm
 use Rattle.dist_model.specs.Monitoring.{monitor}
 use Rattle.dist_model.specs.Names.{same_pid}
@@ -24,18 +25,15 @@ abbrev pub exit_for : Pid → Data → Pid → End → List Signal
 exit_for p reason q end = if is_active end then Signal.Exit p q reason ∷ [] else []
 
 abbrev pub exits : Pid → Data → List ((Pid × Pid) × End) → List Signal
-exits p reason [] = []
-exits p reason (entry ∷ rest) = (if same_pid entry.0.0 p then exit_for p reason entry.0.1 entry.1 else []) ++ exits p reason rest
+exits p reason = flat_map (λ entry. if same_pid entry.0.0 p then exit_for p reason entry.0.1 entry.1 else [])
 
 -- MONITOR_P_EXIT to the owner of each monitor that others have of it
 abbrev pub monitor_exits : Pid → Data → List (Reference × Monitor) → List Signal
-monitor_exits p reason [] = []
-monitor_exits p reason (entry ∷ rest) = (if same_pid entry.1.target p then Signal.MonitorExit p entry.1.owner entry.0 reason ∷ [] else []) ++ monitor_exits p reason rest
+monitor_exits p reason = flat_map (λ entry. if same_pid entry.1.target p then Signal.MonitorExit p entry.1.owner entry.0 reason ∷ [] else [])
 
 -- DEMONITOR_P for each of its own monitors
 abbrev pub demonitors : Pid → List (Reference × Monitor) → List Signal
-demonitors p [] = []
-demonitors p (entry ∷ rest) = (if same_pid entry.1.owner p then Signal.Demonitor p entry.1.target entry.0 ∷ [] else []) ++ demonitors p rest
+demonitors p = flat_map (λ entry. if same_pid entry.1.owner p then Signal.Demonitor p entry.1.target entry.0 ∷ [] else [])
 
 abbrev pub is_owned : Pid → Option Monitor → Bool
 is_owned p None = false

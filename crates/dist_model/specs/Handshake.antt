@@ -1,125 +1,119 @@
--- How two nodes connect.
--- (ERTS User's Guide, Distribution Protocol, Distribution Handshake.)
-use Rattle.std.specs.Prelude.{Option, None, Some, is_some, ℕ, ◌+◌, ◌^◌, Bool, true, false, cond, not, List, [], ◌∷◌, ◌==◌, nat_lt, nat_le, ◌&&◌, ◌||◌}
+-- How two nodes connect: what the messages of the handshake do to a node's sides.
+-- (ERTS User's Guide, Distribution Protocol, Distribution Handshake. The messages, the statuses and what each tells
+-- the dialer are the standard's; which of several sides ends or waits, and when, is own.)
+use Rattle.erl_handshake.specs.declared.turn.Outcome.{Outcome as Verdict}
+use Rattle.erl_handshake.specs.declared.turn.Outcome.TheVariants as verdict
+use Rattle.std.specs.Prelude.{Option, None, Some, ℕ}
 use Rattle.std.specs.FinMap as fm
-use Rattle.std.specs.Ordering.{is_gt}
-use Rattle.dist_model.specs.Commands.{Broke, Goes, Outcome, Took}
-use Rattle.dist_model.specs.Items.{Challenge, ChallengeAck, ChallengeReply, Handshake, HandshakeMessage, Item, SendName, StatusAlive, StatusFalse, StatusNok, StatusNotAllowed, StatusOk, StatusOkSimultaneous, StatusTrue}
-use Rattle.dist_model.specs.Names.{Name, same_name}
+use Rattle.dist_model.specs.Commands.{Broke, Goes, Outcome, Refuses, Took}
+use Rattle.dist_model.specs.Items.{Handshake}
+use Rattle.dist_model.specs.Names.{Name}
 use Rattle.dist_model.specs.Node.{Node, side_where}
-use Rattle.dist_model.specs.Sides.{Accepting, Asked, AwaitsAck, AwaitsChallenge, Gone, Losing, Parked, State, TrunkSide, Up, is_dialing, is_losing, is_up, is_waiting, lost}
+use Rattle.dist_model.specs.Sides.{Accepting, Asked, AwaitsAck, AwaitsChallenge, AwaitsStatus, Gone, Losing, Parked, State, TrunkSide, Up, is_losing, is_up, lost}
 use Rattle.dist_model.specs.Work.{Work, send_on}
-use Rattle.erl_names.specs.Order.{name_cmp}
+use Rattle.erl_handshake.specs.Flags.{mandatory}
+use Rattle.erl_handshake.specs.Roles.{acceptor_turn, challenge_of, dialer_turn}
+use Rattle.erl_handshake.specs.declared.acceptor.AcceptorState.{AcceptorState}
+use Rattle.erl_handshake.specs.declared.dialer.DialerState.{DialerState}
+use Rattle.erl_handshake.specs.declared.identity.Identity.{Identity}
+use Rattle.erl_handshake.specs.declared.message.ShakeMsg.{ShakeMsg}
+use Rattle.erl_handshake.specs.declared.turn.Next.{Next}
 use Rattle.erl_names.specs.declared.trunk.TrunkId.{TrunkId}
 use Rattle.erl_term.specs.declared.refusal.Refusal.{Refusal}
 
--- sides of trunks
 abbrev pub with_side : TrunkId → TrunkSide → Work → Work
-with_side t s o = record o { node = record (o.node) { sides = fm.insert o.node.sides t s } }
+with_side trunk side work = record work { node = record (work.node) { sides = fm.insert work.node.sides trunk side } }
 
 abbrev pub set_state : TrunkId → TrunkSide → State → Work → Work
-set_state t s x o = with_side t (record { peer = s.peer; peer_creation = s.peer_creation; state = x }) o
+set_state trunk side state = with_side trunk (record side { state = state })
 
-abbrev pub write : TrunkId → Name → HandshakeMessage → Work → Work
-write t y m o = send_on (Some t) y (Handshake m) o
+abbrev pub write : TrunkId → Name → ShakeMsg → Work → Work
+write trunk peer message = send_on (Some trunk) peer (Handshake message)
 
+abbrev pub write_if : TrunkId → Name → Option ShakeMsg → Work → Work
+write_if trunk peer None work = work
+write_if trunk peer (Some message) work = write trunk peer message work
+
+-- what comes breaks the side
 abbrev pub fault : Refusal → TrunkId → TrunkSide → Work → Outcome
-fault k t s o = Goes (Broke k) (set_state t s (lost s.state) o)
+fault why trunk side work = Goes (Broke why) (set_state trunk side (lost side.state) work)
 
--- the flags of the profile
-abbrev pub flag_word : ℕ
-flag_word = 0x040305010C
+-- the node as it introduces itself
+abbrev pub identity : Node → Identity
+identity node = record { name = node.mint.name; creation = node.mint.creation; flags = mandatory; cookie = node.cookie }
 
-unfoldable pub has_flags : ℕ → Bool
-has_flags f = nat_le flag_word f
+abbrev pub challenge : Node → ℕ → ShakeMsg
+challenge node word = challenge_of (identity node) word
 
--- the digest of a cookie and a challenge
-unfoldable pub dig : List ℕ → ℕ → ℕ
-dig c n = n
+-- ---- a message that a side awaits
 
--- an attempt towards y that the arriving one ends: its side is Gone
-abbrev pub give_up : Option (TrunkId × TrunkSide) → Work → Work
-give_up None o = o
-give_up (Some e) o = set_state e.0 e.1 Gone o
+-- a side as the dialer's and the acceptor's turn leave it
+abbrev pub dialer_side : TrunkSide → DialerState → TrunkSide
+dialer_side side (DialerState.AwaitsStatus word) = record side { state = AwaitsStatus word }
+dialer_side side (DialerState.AwaitsChallenge word) = record side { state = AwaitsChallenge word }
+dialer_side side (DialerState.AwaitsAck word creation) = record side { peer_creation = creation; state = AwaitsAck word }
+dialer_side side (DialerState.Done creation) = record side { peer_creation = creation; state = Up }
+dialer_side side DialerState.Over = record side { state = Gone }
 
-abbrev pub challenge : Node → ℕ → HandshakeMessage
-challenge n w = Challenge n.mint.name n.mint.creation flag_word w
+abbrev pub acceptor_side : TrunkSide → AcceptorState → TrunkSide
+acceptor_side side AcceptorState.AwaitsName = side
+acceptor_side side (AcceptorState.AwaitsAdmission word creation) = side
+acceptor_side side (AcceptorState.AwaitsAnswer word creation) = record side { peer_creation = creation; state = Asked word }
+acceptor_side side (AcceptorState.AwaitsTurn word creation) = record side { peer_creation = creation; state = Parked word }
+acceptor_side side (AcceptorState.AwaitsReply word creation) = record side { peer_creation = creation; state = Accepting word }
+acceptor_side side (AcceptorState.Done creation) = record side { peer_creation = creation; state = Up }
+acceptor_side side AcceptorState.Over = record side { state = Gone }
 
-abbrev pub accepts : TrunkId → TrunkSide → ℕ → HandshakeMessage → Item → Work → Outcome
-accepts t s w status x o = Goes (Took x) (write t s.peer (challenge o.node w) (write t s.peer status (set_state t s (Accepting w) o)))
+-- the role's turn says what is sent, and whether the handshake goes on
+abbrev pub after : Verdict → TrunkId → (old new : TrunkSide) → ShakeMsg → Option ShakeMsg → Work → Outcome
+after (verdict.Ended why) trunk old new message send work = fault why trunk old work
+after _ trunk old new message send work = Goes (Took (Handshake message)) (write_if trunk old.peer send (with_side trunk new work))
 
--- rules b, c and d, once no older attempt of this dialer is left
-abbrev pub greet_dialing : Option (TrunkId × TrunkSide) → TrunkId → TrunkSide → ℕ → Item → Work → Outcome
-greet_dialing None t s w x o = accepts t s w StatusOk x o
-greet_dialing (Some e) t s w x o =
-    cond (is_gt (name_cmp t.dialer o.node.mint.name))
-    (accepts t s w StatusOkSimultaneous x (give_up (Some e) o))
-    (Goes (Took x) (write t s.peer StatusNok (set_state t s Gone o)))
+abbrev pub handshake_on : TrunkId → TrunkSide → ShakeMsg → TrunkSide → Next → Work → Outcome
+handshake_on trunk old message new next work = after next.outcome trunk old new message next.send work
 
-abbrev pub greet_up : Option (TrunkId × TrunkSide) → TrunkId → TrunkSide → ℕ → Item → Work → Outcome
-greet_up None t s w x o = greet_dialing (side_where is_dialing s.peer (fm.entries o.node.sides)) t s w x o
-greet_up (Some e) t s w x o = Goes (Took x) (write t s.peer StatusAlive (set_state t s (Asked w) o))
+abbrev pub dialer_hears : TrunkId → TrunkSide → DialerState → ShakeMsg → Work → Outcome
+dialer_hears trunk side state message work =
+    let turn = dialer_turn (identity work.node) side.peer state message in
+    handshake_on trunk side message (dialer_side side turn.state) turn.next work
 
-abbrev pub greet : TrunkId → TrunkSide → ℕ → Item → Work → Outcome
-greet t s w x o = greet_up (side_where (λ v. is_up v || is_losing v) s.peer (fm.entries o.node.sides)) t s w x o
+-- the event's word is of use with a name alone
+abbrev pub acceptor_hears : TrunkId → TrunkSide → AcceptorState → ShakeMsg → Work → Outcome
+acceptor_hears trunk side state message work =
+    let turn = acceptor_turn (identity work.node) side.peer state message 0 in
+    handshake_on trunk side message (acceptor_side side turn.state) turn.next work
 
-abbrev pub greet_waiting : Option (TrunkId × TrunkSide) → TrunkId → TrunkSide → ℕ → Item → Work → Outcome
-greet_waiting None t s w x o = greet t s w x o
-greet_waiting (Some e) t s w x o =
-    cond (nat_lt e.0.count t.count) (greet t s w x (give_up (Some e) o)) (Goes (Broke Refusal.Superseded) (write t s.peer StatusNok (set_state t s Gone o)))
+-- ---- the dialer answers `true`: the older connection is lost, and once its records are swept the handshake goes on
 
--- a Fresh side gets its first message
-abbrev pub awaits_name : TrunkId → HandshakeMessage → ℕ → Work → Outcome
-awaits_name t (SendName name creation flags) w o =
-    let s : TrunkSide = record { peer = t.dialer; peer_creation = creation; state = Gone } in
-    cond (same_name name t.dialer)
-    (cond (has_flags flags) (greet_waiting (side_where is_waiting t.dialer (fm.entries o.node.sides)) t s w (Handshake (SendName name creation flags)) o) (fault Refusal.FlagsMissing t s o))
-    (fault Refusal.Forged t s o)
-awaits_name t _ w o = fault Refusal.BadMessage t (record { peer = t.dialer; peer_creation = 0; state = Gone }) o
-
--- the dialer awaits the status
-abbrev pub awaits_status : TrunkId → TrunkSide → ℕ → HandshakeMessage → Work → Outcome
-awaits_status t s v StatusOk o = Goes (Took (Handshake StatusOk)) (set_state t s (AwaitsChallenge v) o)
-awaits_status t s v StatusOkSimultaneous o = Goes (Took (Handshake StatusOkSimultaneous)) (set_state t s (AwaitsChallenge v) o)
-awaits_status t s v StatusAlive o = Goes (Took (Handshake StatusAlive)) (write t s.peer StatusTrue (set_state t s (AwaitsChallenge v) o))
-awaits_status t s v StatusNok o = fault Refusal.Nok t s o
-awaits_status t s v StatusNotAllowed o = fault Refusal.Nok t s o
-awaits_status t s v _ o = fault Refusal.BadMessage t s o
-
--- the dialer awaits the challenge
-abbrev pub awaits_challenge : TrunkId → TrunkSide → ℕ → HandshakeMessage → Work → Outcome
-awaits_challenge t s v (Challenge name creation flags word) o =
-    cond (same_name name s.peer)
-    (cond (has_flags flags)
-    (Goes (Took (Handshake (Challenge name creation flags word))) (write t s.peer (ChallengeReply v (dig o.node.cookie word)) (set_state t (record { peer = s.peer; peer_creation = creation; state = s.state }) (AwaitsAck v) o)))
-    (fault Refusal.FlagsMissing t s o))
-    (fault Refusal.Forged t s o)
-awaits_challenge t s v _ o = fault Refusal.BadMessage t s o
-
--- the dialer awaits the acceptance
-abbrev pub awaits_ack : TrunkId → TrunkSide → ℕ → HandshakeMessage → Work → Outcome
-awaits_ack t s v (ChallengeAck digest) o = cond (digest == dig o.node.cookie v) (Goes (Took (Handshake (ChallengeAck digest))) (set_state t s Up o)) (fault Refusal.BadDigest t s o)
-awaits_ack t s v _ o = fault Refusal.BadMessage t s o
-
--- the acceptor waits for the dialer's word that it goes on
 abbrev pub end_up : Option (TrunkId × TrunkSide) → Work → Work
-end_up None o = o
-end_up (Some e) o = set_state e.0 e.1 Losing o
+end_up None work = work
+end_up (Some entry) work = set_state entry.0 entry.1 Losing work
 
 abbrev pub go_on : Option (TrunkId × TrunkSide) → TrunkId → TrunkSide → ℕ → Work → Work
-go_on None t s w o = write t s.peer (challenge o.node w) (set_state t s (Accepting w) o)
-go_on (Some e) t s w o = set_state t s (Parked w) o
+go_on None trunk side word work = write trunk side.peer (challenge work.node word) (set_state trunk side (Accepting word) work)
+go_on (Some losing) trunk side word work = set_state trunk side (Parked word) work
 
 abbrev pub goes_on : TrunkId → TrunkSide → ℕ → Work → Work
-goes_on t s w o = go_on (side_where is_losing s.peer (fm.entries o.node.sides)) t s w o
+goes_on trunk side word work = go_on (side_where is_losing side.peer (fm.entries work.node.sides)) trunk side word work
 
-abbrev pub awaits_true : TrunkId → TrunkSide → ℕ → HandshakeMessage → Work → Outcome
-awaits_true t s w StatusTrue o = Goes (Took (Handshake StatusTrue)) (goes_on t s w (end_up (side_where is_up s.peer (fm.entries o.node.sides)) o))
-awaits_true t s w StatusFalse o = fault Refusal.Nok t s o
-awaits_true t s w _ o = fault Refusal.BadMessage t s o
+abbrev pub after_answer : Verdict → TrunkId → TrunkSide → ℕ → ShakeMsg → Work → Outcome
+after_answer (verdict.Ended why) trunk side word message work = fault why trunk side work
+after_answer _ trunk side word message work = Goes (Took (Handshake message)) (goes_on trunk side word (end_up (side_where is_up side.peer (fm.entries work.node.sides)) work))
 
--- the acceptor checks the dialer's digest
-abbrev pub awaits_reply : TrunkId → TrunkSide → ℕ → HandshakeMessage → Work → Outcome
-awaits_reply t s w (ChallengeReply word digest) o =
-    cond (digest == dig o.node.cookie w) (Goes (Took (Handshake (ChallengeReply word digest))) (write t s.peer (ChallengeAck (dig o.node.cookie word)) (set_state t s Up o))) (fault Refusal.BadDigest t s o)
-awaits_reply t s w _ o = fault Refusal.BadMessage t s o
+abbrev pub hears_answer : TrunkId → TrunkSide → ℕ → ShakeMsg → Work → Outcome
+hears_answer trunk side word message work =
+    let turn = acceptor_turn (identity work.node) side.peer (AcceptorState.AwaitsAnswer word side.peer_creation) message 0 in
+    after_answer turn.next.outcome trunk side word message work
+
+-- ---- a message of the handshake comes to a side. Each state awaits one
+
+abbrev pub handshake_at : State → TrunkId → TrunkSide → ShakeMsg → Work → Outcome
+handshake_at (AwaitsStatus word) trunk side message work = dialer_hears trunk side (DialerState.AwaitsStatus word) message work
+handshake_at (AwaitsChallenge word) trunk side message work = dialer_hears trunk side (DialerState.AwaitsChallenge word) message work
+handshake_at (AwaitsAck word) trunk side message work = dialer_hears trunk side (DialerState.AwaitsAck word side.peer_creation) message work
+handshake_at (Asked word) trunk side message work = hears_answer trunk side word message work
+handshake_at (Parked word) trunk side message work = fault Refusal.BadMessage trunk side work
+handshake_at (Accepting word) trunk side message work = acceptor_hears trunk side (AcceptorState.AwaitsReply word side.peer_creation) message work
+handshake_at Up trunk side message work = fault Refusal.BadMessage trunk side work
+handshake_at Losing trunk side message work = Refuses Refusal.NotLive
+handshake_at Gone trunk side message work = Refuses Refusal.NotLive

@@ -1,28 +1,36 @@
--- A node stops, and starts again.
+-- A node stops, and starts again in another incarnation.
 -- (ERTS User's Guide, Distribution Protocol, Distribution Handshake, on creations.)
-use Rattle.std.specs.Prelude.{Option, None, Some, is_some, ℕ, ◌+◌, ◌^◌, Bool, true, false, cond, not, List, [], ◌∷◌, ◌==◌, nat_lt, nat_le, ◌&&◌, ◌||◌}
+use Rattle.std.specs.Prelude.{map}
+use Rattle.std.specs.Prelude.{◌+◌, ◌^◌, true, false, if◌then◌else◌, List, [], nat_lt}
 use Rattle.std.specs.FinMap as fm
 use Rattle.dist_model.specs.Commands.{Done, Goes, Outcome, Refuses}
 use Rattle.dist_model.specs.Node.{Node}
 use Rattle.dist_model.specs.Sides.{Gone, TrunkSide}
 use Rattle.dist_model.specs.Work.{at_work}
 use Rattle.erl_names.specs.Minted.{nothing_drawn}
+use Rattle.erl_names.specs.Order.{trunk_cmp}
 use Rattle.erl_names.specs.declared.trunk.TrunkId.{TrunkId}
 use Rattle.erl_term.specs.declared.refusal.Refusal.{Refusal}
+use Rattle.std.specs.FinMap.{FinMap}
 
 abbrev pub all_gone : List (TrunkId × TrunkSide) → List (TrunkId × TrunkSide)
-all_gone [] = []
-all_gone (e ∷ es) = (e.0, record { peer = e.1.peer; peer_creation = e.1.peer_creation; state = Gone }) ∷ all_gone es
+all_gone = map (λ entry. (entry.0, record (entry.1) { state = Gone }))
 
--- all processes end, and nothing is sent
+abbrev pub without_sides : Node → FinMap trunk_cmp TrunkSide
+without_sides node = fm.from_entries (all_gone (fm.entries node.sides))
+
+-- no process is living any more, nothing is sent, and every connection is gone
 abbrev pub stopped : Node → Node
-stopped n = record n { up = false; lives = fm.empty; ends = fm.empty; watches = fm.empty; registered = fm.empty; sides = fm.from_entries (all_gone (fm.entries n.sides)) }
+stopped node = record node { up = false; lives = fm.empty; ends = fm.empty; watches = fm.empty; registered = fm.empty; sides = without_sides node }
 
+-- the creation is one more, and nothing is left but the trunks that it has dialed and those that are gone
 abbrev pub started : Node → Node
-started n = record n { mint = nothing_drawn n.mint.name (n.mint.creation + 1); up = true; lives = fm.empty; ends = fm.empty; watches = fm.empty; registered = fm.empty; sides = fm.from_entries (all_gone (fm.entries n.sides)); local = [] }
+started node = record (stopped node) { mint = nothing_drawn node.mint.name (node.mint.creation + 1); up = true; local = [] }
 
 abbrev pub stop : Node → Outcome
-stop n = Goes Done (at_work (stopped n))
+stop node = Goes Done (at_work (stopped node))
 
 abbrev pub start : Node → Outcome
-start n = cond n.up (Refuses Refusal.NodeUp) (cond (nat_lt (n.mint.creation + 1) (2 ^ 32)) (Goes Done (at_work (started n))) (Refuses Refusal.IdsUsedUp))
+start node =
+    if node.up then Refuses Refusal.NodeUp else
+    (if nat_lt (node.mint.creation + 1) (2 ^ 32) then Goes Done (at_work (started node)) else Refuses Refusal.IdsUsedUp)

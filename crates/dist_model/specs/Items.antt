@@ -1,29 +1,17 @@
 -- What travels between two nodes, and from a node to itself.
 -- (ERTS User's Guide, Distribution Protocol.)
-use Rattle.std.specs.Prelude.{Option, None, Some, ℕ, Bool, true, false, cond, ◌&&◌, List, [], ◌∷◌, ◌++◌}
-use Rattle.dist_model.specs.Links.{Exits, LinkWord, Says}
-use Rattle.dist_model.specs.Names.{Name, same_pid}
+use Rattle.std.specs.List.{flat_map}
+use Rattle.std.specs.Prelude.{Option, None, Some, if◌then◌else◌, ◌&&◌, List, [], ◌∷◌}
+use Rattle.dist_model.specs.Links.{Exits, LinkNews, Says}
+use Rattle.dist_model.specs.Names.{same_pid}
 use Rattle.erl_control.specs.declared.signal.Signal.{Signal}
+use Rattle.erl_handshake.specs.declared.message.ShakeMsg.{ShakeMsg}
 use Rattle.erl_term.specs.declared.term.Pid.{Pid}
 use Rattle.link_core.specs.declared.end.LinkSignal.{LinkSignal}
 
--- the messages of the handshake
-pub data HandshakeMessage : Type 0 where
-  SendName : (name : Name) → (creation : ℕ) → (flags : ℕ) → HandshakeMessage
-  StatusOk : HandshakeMessage
-  StatusOkSimultaneous : HandshakeMessage
-  StatusNok : HandshakeMessage
-  StatusNotAllowed : HandshakeMessage
-  StatusAlive : HandshakeMessage
-  StatusTrue : HandshakeMessage
-  StatusFalse : HandshakeMessage
-  Challenge : (name : Name) → (creation : ℕ) → (flags : ℕ) → (word : ℕ) → HandshakeMessage
-  ChallengeReply : (word : ℕ) → (digest : ℕ) → HandshakeMessage
-  ChallengeAck : (digest : ℕ) → HandshakeMessage
-
 pub data Item : Type 0 where
   Signalled : Signal → Item
-  Handshake : HandshakeMessage → Item
+  Handshake : ShakeMsg → Item
   -- tells that the peer is there
   Tick : Item
 
@@ -50,24 +38,23 @@ receiver_of (Signal.MonitorExit from to r reason) = to
 receiver_of (Signal.UnlinkId id from to) = to
 receiver_of (Signal.UnlinkIdAck id from to) = to
 
--- the signal by which p tells q a word of their link
-abbrev pub telling : Pid → Pid → LinkWord → Signal
+-- the signal by which p tells q news of their link
+abbrev pub telling : Pid → Pid → LinkNews → Signal
 telling p q (Says LinkSignal.Link) = Signal.Link p q
 telling p q (Says (LinkSignal.Unlink id)) = Signal.UnlinkId id p q
 telling p q (Says (LinkSignal.Ack id)) = Signal.UnlinkIdAck id p q
 telling p q (Exits reason) = Signal.Exit p q reason
 
--- what p tells q of their link in an item, and in a list
-abbrev pub if_between : Pid → Pid → Pid → Pid → LinkWord → List LinkWord
-if_between p q from to word = cond (same_pid from p && same_pid to q) (word ∷ []) []
+-- what p tells q of their link by an item, and by those of a list
+abbrev pub if_between : Pid → Pid → Pid → Pid → LinkNews → List LinkNews
+if_between p q from to told = if same_pid from p && same_pid to q then told ∷ [] else []
 
-abbrev pub word_in : Pid → Pid → Item → List LinkWord
-word_in p q (Signalled (Signal.Link from to)) = if_between p q from to (Says LinkSignal.Link)
-word_in p q (Signalled (Signal.Exit from to reason)) = if_between p q from to (Exits reason)
-word_in p q (Signalled (Signal.UnlinkId id from to)) = if_between p q from to (Says (LinkSignal.Unlink id))
-word_in p q (Signalled (Signal.UnlinkIdAck id from to)) = if_between p q from to (Says (LinkSignal.Ack id))
-word_in p q _ = []
+abbrev pub news_in : Pid → Pid → Item → List LinkNews
+news_in p q (Signalled (Signal.Link from to)) = if_between p q from to (Says LinkSignal.Link)
+news_in p q (Signalled (Signal.Exit from to reason)) = if_between p q from to (Exits reason)
+news_in p q (Signalled (Signal.UnlinkId id from to)) = if_between p q from to (Says (LinkSignal.Unlink id))
+news_in p q (Signalled (Signal.UnlinkIdAck id from to)) = if_between p q from to (Says (LinkSignal.Ack id))
+news_in p q _ = []
 
-abbrev pub words : Pid → Pid → List Item → List LinkWord
-words p q [] = []
-words p q (x ∷ xs) = word_in p q x ++ words p q xs
+abbrev pub news : Pid → Pid → List Item → List LinkNews
+news p q = flat_map (news_in p q)

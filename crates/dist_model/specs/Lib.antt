@@ -12,6 +12,7 @@ pub mod Taking
 pub mod Fits
 pub mod Calls
 pub mod Handshake
+pub mod Admission
 pub mod Arrivals
 pub mod Losses
 pub mod Dialing
@@ -26,3 +27,4 @@ pub mod Downs
 pub mod Claims
 pub mod Fates
 pub mod Safety
+pub mod Schedules

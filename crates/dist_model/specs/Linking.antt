@@ -1,12 +1,11 @@
--- Links: a process links itself, takes its link back, and hears its partner's words.
+-- Links: a process links itself, takes its link back, and hears of its partner.
 -- (Reference Manual, Processes, Links; ERTS User's Guide, Distribution Protocol, New Link Protocol.)
 use Rattle.erl_names.specs.Draw as kind
-use Rattle.std.specs.Prelude.{Option, None, Some, is_some, ℕ, ◌+◌, ◌^◌, Bool, true, false, cond, not, if◌then◌else◌, List, [], ◌∷◌, ◌++◌, ◌==◌, nat_lt, nat_le, ◌&&◌, ◌||◌}
-use Rattle.std.specs.FinMap as fm
+use Rattle.std.specs.Prelude.{map, ℕ, Bool, true, false, if◌then◌else◌}
 use Rattle.dist_model.specs.Commands.{Done, Goes, Outcome, with_id}
 use Rattle.dist_model.specs.Exits.{link_exit}
 use Rattle.dist_model.specs.Items.{telling}
-use Rattle.dist_model.specs.Links.{Exits, LinkWord, Says, heard, noconnection, reply}
+use Rattle.dist_model.specs.Links.{Exits, LinkNews, Says, heard, noconnection, reply}
 use Rattle.dist_model.specs.Names.{same_pid}
 use Rattle.dist_model.specs.Node.{end_of, living, reaches}
 use Rattle.dist_model.specs.Work.{Work, draw, post, post_all, set_end}
@@ -37,23 +36,19 @@ unlink_as id p q work = post (Signal.UnlinkId id p q) (set_end p q (End.Pending 
 abbrev pub unlink_by : End → Pid → Pid → Work → Outcome
 unlink_by end p q work = if is_active end then with_id (id_of work.node.mint kind.UnlinkId) (λ id. Goes Done (unlink_as id p q work)) else Goes Done work
 
--- ---- p hears a word of q about their link
-
-abbrev pub replies : Pid → Pid → List LinkWord → List Signal
-replies p q [] = []
-replies p q (word ∷ rest) = telling p q word ∷ replies p q rest
+-- ---- p hears news of q about their link
 
 -- to an exit it reacts only where it was linked
-abbrev pub exit_follows : End → LinkWord → Pid → Pid → Work → Work
+abbrev pub exit_follows : End → LinkNews → Pid → Pid → Work → Work
 exit_follows was (Says signal) p q work = work
 exit_follows was (Exits reason) p q work = if is_active was then link_exit p q reason work else work
 
 -- the reply goes before anything else
-abbrev pub take_link_by : Bool → Pid → Pid → LinkWord → Work → Work
-take_link_by true p q word work =
+abbrev pub take_link_by : Bool → Pid → Pid → LinkNews → Work → Work
+take_link_by true p q told work =
     let was = end_of work.node p q in
-    exit_follows was word p q (post_all (replies p q (reply false word)) (set_end p q (heard was word) work))
-take_link_by false p q word work = post_all (replies p q (reply true word)) work
+    exit_follows was told p q (post_all (map (telling p q) (reply false told)) (set_end p q (heard was told) work))
+take_link_by false p q told work = post_all (map (telling p q) (reply true told)) work
 
-abbrev pub take_link : Pid → Pid → LinkWord → Work → Work
-take_link p q word work = take_link_by (living work.node p) p q word work
+abbrev pub take_link : Pid → Pid → LinkNews → Work → Work
+take_link p q told work = take_link_by (living work.node p) p q told work

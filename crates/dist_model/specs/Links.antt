@@ -1,6 +1,6 @@
 -- What one process tells another of their link, and what that makes of the other's end.
 -- (ERTS User's Guide, Distribution Protocol, New Link Protocol; Reference Manual, Processes, Links.)
-use Rattle.std.specs.Prelude.{ℕ, if◌then◌else◌, Bool, List, [], ◌∷◌, Option, None, Some, codes}
+use Rattle.std.specs.Prelude.{if◌then◌else◌, Bool, List, [], ◌∷◌, Option, None, Some, codes}
 use Rattle.std.specs.Option.{option_or}
 use Rattle.erl_term.specs.Data.{Data, atom}
 use Rattle.link_core.specs.Table.{exited, received}
@@ -14,29 +14,29 @@ abbrev pub noconnection : Data
 noconnection = atom (codes "noconnection")
 
 -- a signal of the New Link Protocol, or EXIT
-pub data LinkWord : Type 0 where
-  Says : (signal : LinkSignal) → LinkWord
-  Exits : (reason : Data) → LinkWord
+pub data LinkNews : Type 0 where
+  Says : (signal : LinkSignal) → LinkNews
+  Exits : (reason : Data) → LinkNews
 
--- an end once its process has heard the partner's word
-abbrev pub heard : End → LinkWord → End
+-- an end once its process has heard the partner's news
+abbrev pub heard : End → LinkNews → End
 heard end (Says signal) = received end signal
 heard end (Exits reason) = exited end
 
 -- and once it has heard all that travels to it
-abbrev pub drained : End → List LinkWord → End
+abbrev pub drained : End → List LinkNews → End
 drained end [] = end
-drained end (word ∷ rest) = drained (heard end word) rest
+drained end (first ∷ rest) = drained (heard end first) rest
 
 -- what goes back at once: a process that isn't living answers LINK by EXIT with noproc, and UNLINK_ID is acknowledged in any case
-abbrev pub reply : Bool → LinkWord → List LinkWord
+abbrev pub reply : (gone : Bool) → LinkNews → List LinkNews
 reply gone (Says LinkSignal.Link) = if gone then Exits noproc ∷ [] else []
 reply gone (Says (LinkSignal.Unlink id)) = Says (LinkSignal.Ack id) ∷ []
 reply gone (Says (LinkSignal.Ack id)) = []
 reply gone (Exits reason) = []
 
 -- the last LINK or UNLINK_ID, if there is one
-abbrev pub last_said : List LinkWord → Option LinkSignal
+abbrev pub last_said : List LinkNews → Option LinkSignal
 last_said [] = None
 last_said (Says LinkSignal.Link ∷ rest) = option_or (last_said rest) (Some LinkSignal.Link)
 last_said (Says (LinkSignal.Unlink id) ∷ rest) = option_or (last_said rest) (Some (LinkSignal.Unlink id))

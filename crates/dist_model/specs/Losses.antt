@@ -1,6 +1,6 @@
--- A connection is lost, and its records are swept.
--- (Reference Manual, Distributed Erlang; Processes, Links and Monitors.)
-use Rattle.std.specs.Prelude.{Option, None, Some, is_some, ℕ, ◌+◌, ◌^◌, Bool, true, false, cond, not, List, [], ◌∷◌, ◌==◌, nat_lt, nat_le, ◌&&◌, ◌||◌}
+-- A connection is lost, and the records of processes beyond it are swept, one at a time.
+-- (Reference Manual, Processes, Links and Monitors; Distributed Erlang. That records go one at a time is own.)
+use Rattle.std.specs.Prelude.{Option, None, Some, is_some, Bool, true, false, if◌then◌else◌, List, ◌||◌}
 use Rattle.std.specs.FinMap as fm
 use Rattle.dist_model.specs.Commands.{Done, Goes, Outcome, Refuses, Sweeps, Swept, SweptLink, SweptRegistration, SweptSide, SweptWatch}
 use Rattle.dist_model.specs.Exits.{link_exit}
@@ -8,7 +8,7 @@ use Rattle.dist_model.specs.Handshake.{challenge, set_state, write}
 use Rattle.dist_model.specs.Links.{noconnection}
 use Rattle.dist_model.specs.Monitoring.{unregister, unwatch}
 use Rattle.dist_model.specs.Names.{Name, same_name}
-use Rattle.dist_model.specs.Node.{Node, side_where}
+use Rattle.dist_model.specs.Node.{Node, first_where, side_where}
 use Rattle.dist_model.specs.Sides.{Accepting, Gone, Losing, Parked, State, TrunkSide, is_losing, is_parked, lost}
 use Rattle.dist_model.specs.Work.{Work, at_work, put, set_end}
 use Rattle.erl_names.specs.declared.trunk.TrunkId.{TrunkId}
@@ -16,83 +16,93 @@ use Rattle.erl_term.specs.declared.refusal.Refusal.{Refusal}
 use Rattle.erl_term.specs.declared.term.Pid.{Pid}
 use Rattle.erl_term.specs.declared.term.Reference.{Reference}
 use Rattle.exit_core.specs.Messages.{down_term}
+use Rattle.link_core.specs.Table.{is_active}
 use Rattle.link_core.specs.declared.end.End.{End}
 use Rattle.monitor_core.specs.declared.monitor.Monitor.{Monitor}
 
+-- ---- the node notices a loss
+
 abbrev pub lose_at : State → TrunkId → TrunkSide → Work → Outcome
-lose_at Losing t s o = Refuses Refusal.NotLive
-lose_at Gone t s o = Refuses Refusal.NotLive
-lose_at x t s o = Goes Done (set_state t s (lost x) o)
+lose_at Losing trunk side work = Refuses Refusal.NotLive
+lose_at Gone trunk side work = Refuses Refusal.NotLive
+lose_at state trunk side work = Goes Done (set_state trunk side (lost state) work)
 
 abbrev pub lose : Node → TrunkId → Option TrunkSide → Outcome
-lose n t None = Refuses Refusal.NotLive
-lose n t (Some s) = lose_at s.state t s (at_work n)
+lose node trunk None = Refuses Refusal.NotLive
+lose node trunk (Some side) = lose_at side.state trunk side (at_work node)
 
-abbrev pub any_side : (State → Bool) → List (TrunkId × TrunkSide) → Option (TrunkId × TrunkSide)
-any_side test [] = None
-any_side test (e ∷ es) = cond (test e.1.state) (Some e) (any_side test es)
+-- ---- the least record towards a peer: a link, then a monitor that a process owns, then one that others have of it
 
--- the least record towards y
 abbrev pub link_to : Name → List ((Pid × Pid) × End) → Option ((Pid × Pid) × End)
-link_to y [] = None
-link_to y (e ∷ es) = cond (same_name e.0.1.node y) (Some e) (link_to y es)
+link_to peer = first_where (λ pair end. same_name pair.1.node peer)
 
 abbrev pub watch_to : Name → List (Reference × Monitor) → Option (Reference × Monitor)
-watch_to y [] = None
-watch_to y (e ∷ es) = cond (same_name e.1.target.node y) (Some e) (watch_to y es)
+watch_to peer = first_where (λ r monitor. same_name monitor.target.node peer)
 
 abbrev pub registered_by : Name → List (Reference × Monitor) → Option (Reference × Monitor)
-registered_by y [] = None
-registered_by y (e ∷ es) = cond (same_name e.1.owner.node y) (Some e) (registered_by y es)
+registered_by peer = first_where (λ r monitor. same_name monitor.owner.node peer)
 
+-- a process that is linked gets the exit signal noconnection
 abbrev pub sweep_end : End → Pid → Pid → Work → Work
-sweep_end End.None p q o = set_end p q End.None o
-sweep_end End.Active p q o = link_exit p q noconnection (set_end p q End.None o)
-sweep_end (End.Pending i) p q o = set_end p q End.None o
+sweep_end end p q work = if is_active end then link_exit p q noconnection (set_end p q End.None work) else set_end p q End.None work
 
 abbrev pub sweep_registered : Option (Reference × Monitor) → Work → Work
-sweep_registered None o = o
-sweep_registered (Some e) o = unregister e.0 o
+sweep_registered None work = work
+sweep_registered (Some entry) work = unregister entry.0 work
 
+-- the owner of a monitor gets DOWN with noconnection
 abbrev pub sweep_watch : Option (Reference × Monitor) → Name → Work → Work
-sweep_watch None y o = sweep_registered (registered_by y (fm.entries o.node.registered)) o
-sweep_watch (Some e) y o = put e.1.owner (down_term e.0 e.1.target noconnection) (unwatch e.0 o)
+sweep_watch None peer work = sweep_registered (registered_by peer (fm.entries work.node.registered)) work
+sweep_watch (Some entry) peer work = put entry.1.owner (down_term entry.0 entry.1.target noconnection) (unwatch entry.0 work)
 
 abbrev pub sweep_link : Option ((Pid × Pid) × End) → Name → Work → Work
-sweep_link None y o = sweep_watch (watch_to y (fm.entries o.node.watches)) y o
-sweep_link (Some e) y o = sweep_end e.1 e.0.0 e.0.1 o
+sweep_link None peer work = sweep_watch (watch_to peer (fm.entries work.node.watches)) peer work
+sweep_link (Some entry) peer work = sweep_end entry.1 entry.0.0 entry.0.1 work
 
 abbrev pub has_records : Name → Node → Bool
-has_records y n = is_some (link_to y (fm.entries n.ends)) || is_some (watch_to y (fm.entries n.watches)) || is_some (registered_by y (fm.entries n.registered))
+has_records peer node =
+    is_some (link_to peer (fm.entries node.ends))
+    || is_some (watch_to peer (fm.entries node.watches))
+    || is_some (registered_by peer (fm.entries node.registered))
+
+-- ---- once no record is left the side is gone, and an attempt that waited for it goes on
 
 abbrev pub parked_by : State → TrunkId → TrunkSide → Work → Work
-parked_by (Parked w) t s o = write t s.peer (challenge o.node w) (set_state t s (Accepting w) o)
-parked_by _ t s o = o
+parked_by (Parked word) trunk side work = write trunk side.peer (challenge work.node word) (set_state trunk side (Accepting word) work)
+parked_by _ trunk side work = work
 
 abbrev pub parked_goes : Option (TrunkId × TrunkSide) → Work → Work
-parked_goes None o = o
-parked_goes (Some e) o = parked_by e.1.state e.0 e.1 o
-
-abbrev pub unpark : Name → Work → Work
-unpark y o = parked_goes (side_where is_parked y (fm.entries o.node.sides)) o
+parked_goes None work = work
+parked_goes (Some entry) work = parked_by entry.1.state entry.0 entry.1 work
 
 abbrev pub close : TrunkId → TrunkSide → Work → Work
-close t s o = unpark s.peer (set_state t s Gone o)
+close trunk side work =
+    let closed = set_state trunk side Gone work in
+    parked_goes (side_where is_parked side.peer (fm.entries closed.node.sides)) closed
 
 abbrev pub close_if : Bool → TrunkId → TrunkSide → Work → Work
-close_if true t s o = o
-close_if false t s o = close t s o
+close_if true trunk side work = work
+close_if false trunk side work = close trunk side work
 
 abbrev pub swept : TrunkId → TrunkSide → Work → Work
-swept t s o = close_if (has_records s.peer o.node) t s o
+swept trunk side work = close_if (has_records side.peer work.node) trunk side work
 
--- its first record, if any
+-- ---- a sweep takes the least record of the least trunk that is lost
+
+abbrev pub any_side : (State → Bool) → List (TrunkId × TrunkSide) → Option (TrunkId × TrunkSide)
+any_side test = first_where (λ trunk side. test side.state)
+
 abbrev pub first_of : Name → Node → Swept
-first_of y n = cond (is_some (link_to y (fm.entries n.ends))) SweptLink (cond (is_some (watch_to y (fm.entries n.watches))) SweptWatch (cond (is_some (registered_by y (fm.entries n.registered))) SweptRegistration SweptSide))
+first_of peer node =
+    if is_some (link_to peer (fm.entries node.ends)) then SweptLink else
+    (if is_some (watch_to peer (fm.entries node.watches)) then SweptWatch else
+    (if is_some (registered_by peer (fm.entries node.registered)) then SweptRegistration else SweptSide))
 
 abbrev pub sweep_by : Option (TrunkId × TrunkSide) → Work → Outcome
-sweep_by None o = Refuses Refusal.NothingThere
-sweep_by (Some e) o = Goes (Sweeps (first_of e.1.peer o.node)) (swept e.0 e.1 (sweep_link (link_to e.1.peer (fm.entries o.node.ends)) e.1.peer o))
+sweep_by None work = Refuses Refusal.NothingThere
+sweep_by (Some entry) work =
+    let peer = entry.1.peer in
+    Goes (Sweeps (first_of peer work.node)) (swept entry.0 entry.1 (sweep_link (link_to peer (fm.entries work.node.ends)) peer work))
 
 abbrev pub sweep : Node → Outcome
-sweep n = sweep_by (any_side is_losing (fm.entries n.sides)) (at_work n)
+sweep node = sweep_by (any_side is_losing (fm.entries node.sides)) (at_work node)

@@ -1,6 +1,6 @@
 -- Monitors: a process monitors another, or takes that back, and what comes of it.
 -- (Reference Manual, Processes, Monitors; ERTS User's Guide, Distribution Protocol, Protocol between Connected Nodes.)
-use Rattle.std.specs.Prelude.{Option, None, Some, is_some, ℕ, ◌+◌, ◌^◌, Bool, true, false, cond, not, if◌then◌else◌, List, [], ◌∷◌, ◌++◌, ◌==◌, nat_lt, nat_le, ◌&&◌, ◌||◌}
+use Rattle.std.specs.Prelude.{Option, None, Some, if◌then◌else◌, ◌&&◌}
 use Rattle.std.specs.FinMap as fm
 use Rattle.dist_model.specs.Commands.{Done, Goes, Outcome, Refuses}
 use Rattle.dist_model.specs.Links.{noconnection, noproc}

@@ -1,5 +1,5 @@
 -- One node: what it keeps of its processes, their links and monitors, and its connections.
-use Rattle.std.specs.Prelude.{Option, None, Some, is_some, ℕ, ◌+◌, ◌^◌, Bool, true, false, cond, not, if◌then◌else◌, List, [], ◌∷◌, ◌++◌, ◌==◌, nat_lt, nat_le, ◌&&◌, ◌||◌}
+use Rattle.std.specs.Prelude.{unwrap_or, Option, None, Some, is_some, ℕ, Bool, true, false, not, if◌then◌else◌, List, [], ◌∷◌, ◌==◌, nat_lt, ◌&&◌, ◌||◌}
 use Rattle.std.specs.FinMap as fm
 use Rattle.dist_model.specs.Items.{Item}
 use Rattle.dist_model.specs.Names.{Name, pair_cmp, same_name}
@@ -60,12 +60,8 @@ never node p =
     || not (p.serial == 0)
 
 -- an end that isn't there is one of no link
-abbrev pub end_in : Option End → End
-end_in None = End.None
-end_in (Some end) = end
-
 abbrev pub end_of : Node → Pid → Pid → End
-end_of node p q = end_in (fm.get node.ends (p, q))
+end_of node p q = unwrap_or (fm.get node.ends (p, q)) End.None
 
 -- the first entry that passes, in the order of the keys
 abbrev pub first_where : {K X : Type 0} → (K → X → Bool) → List (K × X) → Option (K × X)

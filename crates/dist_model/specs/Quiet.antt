@@ -1,10 +1,10 @@
 -- Where nothing travels between two processes.
-use Rattle.std.specs.Prelude.{◌≡◌, ◌⊎◌, ◌↔◌, Option, None, Some, is_some, ℕ, ◌+◌, ◌^◌, Bool, true, false, cond, not, if◌then◌else◌, List, [], ◌∷◌, ◌++◌, ◌==◌, nat_lt, nat_le, ◌&&◌, ◌||◌, Contains, map}
+use Rattle.std.specs.Prelude.{◌≡◌, Option, None, Some, is_some, Bool, true, false, not, if◌then◌else◌, List, [], ◌∷◌, ◌&&◌, ◌||◌}
 use Rattle.std.specs.FinMap as fm
 use Rattle.dist_model.specs.Items.{Handshake, Item, Signalled, Tick, receiver_of, sender_of}
 use Rattle.dist_model.specs.Names.{Name, same_name, same_pid}
-use Rattle.dist_model.specs.Node.{Node, first_where}
-use Rattle.dist_model.specs.Seen.{HasSide, is_connected, local_list, side_in}
+use Rattle.dist_model.specs.Node.{first_where}
+use Rattle.dist_model.specs.Seen.{AreConnected, is_connected, local_list, seen, side_of_trunk}
 use Rattle.dist_model.specs.Sides.{TrunkSide, is_up}
 use Rattle.dist_model.specs.World.{World, list_to, node_of}
 use Rattle.erl_names.specs.declared.trunk.TrunkId.{TrunkId}
@@ -28,7 +28,7 @@ is_silent p q (item ∷ rest) = not (is_of p q item || is_of q p item) && is_sil
 -- in their node's own list; on a trunk that is up at both nodes; or because the nodes aren't connected
 pub data Quiet (world : World) (p q : Pid) : Type 0 where
   Within : p.node ≡ q.node → is_silent p q (local_list world p.node) ≡ true → Quiet world p q
-  Over : (trunk : TrunkId) → HasSide world p.node trunk q.node is_up → HasSide world q.node trunk p.node is_up
+  Over : same_name p.node q.node ≡ false → (trunk : TrunkId) → AreConnected world p.node trunk q.node
       → is_silent p q (list_to world.lists trunk p.node) ≡ true → is_silent p q (list_to world.lists trunk q.node) ≡ true → Quiet world p q
   Unconnected : same_name p.node q.node ≡ false → is_connected world p.node q.node ≡ false → is_connected world q.node p.node ≡ false → Quiet world p q
 
@@ -41,17 +41,13 @@ is_up_to peer (Some side) = same_name side.peer peer && is_up side.state
 abbrev pub is_quiet_on : World → Pid → Pid → TrunkId → TrunkSide → Bool
 is_quiet_on world p q trunk side =
     is_up_to q.node (Some side)
-    && is_up_to p.node (side_in (node_of world.nodes q.node) trunk)
+    && is_up_to p.node (side_of_trunk world q.node trunk)
     && is_silent p q (list_to world.lists trunk p.node)
     && is_silent p q (list_to world.lists trunk q.node)
-
-abbrev pub sides_at : Option Node → List (TrunkId × TrunkSide)
-sides_at None = []
-sides_at (Some node) = fm.entries node.sides
 
 abbrev pub is_quiet : World → Pid → Pid → Bool
 is_quiet world p q =
     if same_name p.node q.node
     then is_silent p q (local_list world p.node)
-    else is_some (first_where (is_quiet_on world p q) (sides_at (node_of world.nodes p.node)))
+    else is_some (first_where (is_quiet_on world p q) (seen (node_of world.nodes p.node) [] (λ node. fm.entries node.sides)))
     || (not (is_connected world p.node q.node) && not (is_connected world q.node p.node))

@@ -1,5 +1,5 @@
 -- Opening worlds, and what comes of a list of events.
-use Rattle.std.specs.Prelude.{◌≡◌, ◌⊎◌, ◌↔◌, Option, None, Some, is_some, ℕ, ◌+◌, ◌^◌, Bool, true, false, cond, not, if◌then◌else◌, List, [], ◌∷◌, ◌++◌, ◌==◌, nat_lt, nat_le, ◌&&◌, ◌||◌, Contains, map}
+use Rattle.std.specs.Prelude.{map, ◌≡◌, ◌⊎◌, ℕ, true, List, [], ◌∷◌}
 use Rattle.std.specs.FinMap as fm
 use Rattle.dist_model.specs.Names.{Name}
 use Rattle.dist_model.specs.Node.{Node}
@@ -23,17 +23,9 @@ new_node name cookie = record {
   local = [];
 }
 
-abbrev pub new_nodes : List (Name × List ℕ) → List Node
-new_nodes [] = []
-new_nodes (first ∷ rest) = new_node first.0 first.1 ∷ new_nodes rest
-
-abbrev pub new_names : List (Name × List ℕ) → List Name
-new_names [] = []
-new_names (first ∷ rest) = first.0 ∷ new_names rest
-
 -- of names and cookies
 abbrev pub opening : List (Name × List ℕ) → World
-opening nodes = record { names = new_names nodes; nodes = new_nodes nodes; lists = fm.empty }
+opening nodes = record { names = map (λ node. node.0) nodes; nodes = map (λ node. new_node node.0 node.1) nodes; lists = fm.empty }
 
 -- what an event may come to: its step, or memory was wanting and nothing has changed
 abbrev pub Comes : World → Event → Report → World → Type 0

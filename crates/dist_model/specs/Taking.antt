@@ -1,7 +1,6 @@
 -- The process that a signal names takes it.
 -- (ERTS User's Guide, Distribution Protocol, Protocol between Connected Nodes.)
-use Rattle.std.specs.Prelude.{Option, None, Some, is_some, ℕ, ◌+◌, ◌^◌, Bool, true, false, cond, not, if◌then◌else◌, List, [], ◌∷◌, ◌++◌, ◌==◌, nat_lt, nat_le, ◌&&◌, ◌||◌}
-use Rattle.std.specs.FinMap as fm
+use Rattle.std.specs.Prelude.{if◌then◌else◌}
 use Rattle.dist_model.specs.Exits.{other_exit}
 use Rattle.dist_model.specs.Items.{Handshake, Item, Signalled, Tick}
 use Rattle.dist_model.specs.Linking.{take_link}

@@ -1,5 +1,5 @@
 -- All nodes, and what travels between them: one event at a time.
-use Rattle.std.specs.Prelude.{◌≡◌, ◌⊎◌, ◌↔◌, Option, None, Some, is_some, ℕ, ◌+◌, ◌^◌, Bool, true, false, cond, not, if◌then◌else◌, List, [], ◌∷◌, ◌++◌, ◌==◌, nat_lt, nat_le, ◌&&◌, ◌||◌, Contains, map}
+use Rattle.std.specs.Prelude.{unwrap_or, Option, None, Some, is_some, ℕ, Bool, not, if◌then◌else◌, List, [], ◌∷◌, ◌++◌, ◌&&◌, ◌||◌}
 use Rattle.std.specs.FinMap as fm
 use Rattle.dist_model.specs.Arrivals.{arrive, take_local}
 use Rattle.dist_model.specs.Calls.{call}
@@ -30,12 +30,8 @@ abbrev pub set_node : List Node → Name → Node → List Node
 set_node [] name new = []
 set_node (node ∷ rest) name new = if same_name node.mint.name name then new ∷ rest else node ∷ set_node rest name new
 
-abbrev pub list_in : Option (List Item) → List Item
-list_in None = []
-list_in (Some items) = items
-
 abbrev pub list_to : FinMap place_cmp (List Item) → TrunkId → Name → List Item
-list_to lists trunk name = list_in (fm.get lists (trunk, name))
+list_to lists trunk name = unwrap_or (fm.get lists (trunk, name)) []
 
 -- each envelope goes behind what is on its way already
 abbrev pub carried : FinMap place_cmp (List Item) → List Envelope → FinMap place_cmp (List Item)

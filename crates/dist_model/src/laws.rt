@@ -2,11 +2,34 @@
 //!
 //! Every law is of every world to which any list of events leads, from any opening world, with or
 //! without memory; and so of each moment of every run.
-ghost use Rattle.dist_model.specs.Runs.{Always};
+ghost use Rattle.std.specs.Prelude.{◌≡◌, ◌↔◌, ℕ, List, [], ◌∷◌, ◌++◌, true, Some};
+ghost use Rattle.erl_term.specs.declared.term.Pid.{Pid};
+ghost use Rattle.erl_term.specs.declared.term.Reference.{Reference};
+ghost use Rattle.exit_core.specs.Messages.{down_term};
+ghost use Rattle.dist_model.specs.Downs.{down_in};
+ghost use Rattle.erl_term.specs.Data.{Data};
+ghost use Rattle.erl_term.specs.declared.refusal.Refusal.{Refusal};
+ghost use Rattle.erl_control.specs.Control.{Fits};
+ghost use Rattle.dist_model.specs.Fits.{fits};
+ghost use Rattle.dist_model.specs.Links.{LinkNews};
+ghost use Rattle.dist_model.specs.Items.{Signalled, telling, news_in};
+ghost use Rattle.link_core.specs.declared.end.End.{End};
+ghost use Rattle.dist_model.specs.World.{World, Event, Report, Refused};
+ghost use Rattle.dist_model.specs.Quiet.{Quiet, is_quiet};
+ghost use Rattle.dist_model.specs.Runs.{Comes, Runs, run, Always};
+ghost use Rattle.std.specs.FinMap as map;
+ghost use Rattle.erl_names.specs.declared.trunk.TrunkId.{TrunkId};
+ghost use Rattle.dist_model.specs.Names.{Name};
+ghost use Rattle.dist_model.specs.Sides.{TrunkSide, is_waiting};
+ghost use Rattle.dist_model.specs.Node.{Node, side_where};
+ghost use Rattle.dist_model.specs.Work.{at_work};
+ghost use Rattle.dist_model.specs.Admission.{give_up, others};
+ghost use Rattle.dist_model.specs.Seen.{end_between, AreConnected};
+ghost use Rattle.dist_model.specs.Schedules as schedule;
+ghost use Rattle.dist_model.specs.Claims.{Agreement, AgreementWithin, AgreementInQuiet, PendingOnItsWay, PendingWithin, NoLinkToTheDead, NoLinkToItself, LinkNeedsConnection, LivingWasSpawned, OneTrunk, NoUpBesideLosing, ReactsOnlyWhereLinked};
 ghost use Rattle.dist_model.specs.Histories.{Throughout};
 ghost use Rattle.dist_model.specs.Fates.{ReactsForTrueCause, ExitsTellTrueCause, ExitsTellTrueCauseWithin, AnsweredOnce, DownOnce, DownToTheOwner, NoDownWhereDemonitored, DownsTellTrueCause, DownOrRegistered};
 ghost use Rattle.dist_model.specs.Safety.{Safe};
-ghost use Rattle.dist_model.specs.Claims.{Agreement, AgreementWithin, AgreementInQuiet, PendingOnItsWay, PendingWithin, NoLinkToTheDead, NoLinkToItself, OneTrunk, NoUpBesideLosing, ReactsOnlyWhereLinked};
 
 /// Of two living processes both hold their link active, or neither does, once all that travels
 /// between them has come: on one node, over a connection, and whenever nothing travels. (Reference
@@ -29,6 +52,14 @@ pub fn pending()
 pub fn no_link_to_the_dead()
     ensures quiet { Always NoLinkToTheDead }
     ensures itself { Always NoLinkToItself }
+{}
+
+/// A link, be it one that waits for its acknowledgement, is of a living process, and to a process of
+/// its own node or of one that its node is connected to, or whose records it hasn't swept yet; and
+/// a process that is living was spawned. (Reference Manual, Processes, Links; Distributed Erlang.)
+pub fn links_need_a_connection()
+    ensures connected { Always LinkNeedsConnection }
+    ensures spawned { Always LivingWasSpawned }
 {}
 
 /// Two nodes are connected by one trunk, and by none while records of a lost connection between
@@ -66,4 +97,78 @@ pub fn monitors()
 /// trunk, at each moment of whatever happens, from any opening world, with or without memory.
 pub fn every_run_is_safe()
     ensures safe { Throughout Safe }
+{}
+
+/// What a node tells a dialer of its other sides is the same before and after an older attempt of
+/// that dialer has given way. (ERTS User's Guide, Distribution Protocol, Distribution Handshake.)
+pub fn others_stay()
+    ensures stay { (node : Node) (dialer : Name) (older : TrunkId × TrunkSide) → side_where is_waiting dialer (map.entries node.sides) ≡ Some older →
+        others ((give_up (Some older) (at_work node)).node) dialer ≡ others node dialer }
+{}
+
+/// Whether nothing travels between two processes can be tested.
+pub fn quiet_test()
+    ensures test { (world : World) (p q : Pid) → (is_quiet world p q ≡ true) ↔ Quiet world p q }
+{}
+
+/// The terms that the world lets a signal carry are those that erl_control's signals carry.
+pub fn fits_test()
+    ensures test { (term : Data) → (fits term ≡ true) ↔ Fits term }
+{}
+
+/// Events lead somewhere, whatever they are: where memory never wants, to the world of their steps.
+pub fn events_run()
+    ensures runs { (events : List Event) (world : World) → (reports : List Report) × Runs world events reports (run events world) }
+{}
+
+/// An event that is refused changes nothing.
+pub fn refused_changes_nothing()
+    ensures unchanged { (world new : World) (event : Event) (refusal : Refusal) → Comes world event (Refused refusal) new → new ≡ world }
+{}
+
+/// Two nodes of one cookie connect, and a process of each comes to hold a link to the other active.
+pub fn link_comes_about()
+    ensures here { (cookie : List ℕ) (own other : ℕ) → let w = run (schedule.linked_over_a_trunk own other) (schedule.two_nodes cookie) in
+        end_between w schedule.here schedule.there ≡ End.Active }
+    ensures there { (cookie : List ℕ) (own other : ℕ) → let w = run (schedule.linked_over_a_trunk own other) (schedule.two_nodes cookie) in
+        end_between w schedule.there schedule.here ≡ End.Active }
+{}
+
+/// One of them takes the link back, and neither holds it.
+pub fn link_is_taken_back()
+    ensures here { (cookie : List ℕ) (own other : ℕ) → let w = run (schedule.unlinked_over_a_trunk own other) (schedule.two_nodes cookie) in
+        end_between w schedule.here schedule.there ≡ End.None }
+    ensures there { (cookie : List ℕ) (own other : ℕ) → let w = run (schedule.unlinked_over_a_trunk own other) (schedule.two_nodes cookie) in
+        end_between w schedule.there schedule.here ≡ End.None }
+{}
+
+/// Their connection is lost and swept, and with it the link; and another connection comes up.
+pub fn connection_comes_again()
+    ensures connected { (cookie : List ℕ) (own other : ℕ) → let w = run (schedule.connected_again own other) (schedule.two_nodes cookie) in
+        AreConnected w schedule.first (schedule.trunk 2) schedule.second }
+    ensures here { (cookie : List ℕ) (own other : ℕ) → let w = run (schedule.connected_again own other) (schedule.two_nodes cookie) in
+        end_between w schedule.here schedule.there ≡ End.None }
+    ensures there { (cookie : List ℕ) (own other : ℕ) → let w = run (schedule.connected_again own other) (schedule.two_nodes cookie) in
+        end_between w schedule.there schedule.here ≡ End.None }
+{}
+
+/// The DOWN of a reference is told apart: its owner, its target and its reason. (Reference Manual,
+/// Processes, Monitors.)
+pub fn downs_are_told()
+    ensures told { (r : Reference) (owner target : Pid) (info : Data) →
+        down_in r owner (down_term r target info) ≡ (record { owner = owner; target = target; info = info }) ∷ [] }
+{}
+
+/// A beginning of a run is a run: between any two of its events there is a world, to which the events
+/// before lead, and from which those behind do.
+pub fn moments()
+    ensures between { (before behind : List Event) (reports : List Report) (world new : World) → Runs world (before ++ behind) reports new →
+        (earlier : List Report) × (later : List Report) × (now : World) × (reports ≡ earlier ++ later) × Runs world before earlier now × Runs now behind later new }
+{}
+
+/// What one process tells another of their link is heard of the signal that tells it, and of no
+/// signal between others.
+pub fn news_is_told()
+    ensures told { (p q : Pid) (told : LinkNews) → news_in p q (Signalled (telling p q told)) ≡ told ∷ [] }
+    ensures others { (p q from to : Pid) (told : LinkNews) → ((from ≡ p) × (to ≡ q) → ⊥) → news_in p q (Signalled (telling from to told)) ≡ [] }
 {}

@@ -1,0 +1,5 @@
+pub mod Whole
+pub mod Steps
+pub mod Within
+pub mod DialerKept
+pub mod AcceptorKept

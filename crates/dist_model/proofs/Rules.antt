@@ -1,0 +1,208 @@
+-- The rules of the handshake once more, written out for each state and message: the form that the proofs go by.
+use Rattle.std.specs.FinMap as fm
+use Rattle.erl_handshake.specs.declared.turn.Outcome.TheVariants as verdict
+use Rattle.std.proofs.Common.{◌≡◌, ℕ, Bool, true, false, cond, not, refl, ap, nat_lt, ◌||◌, Option, Some, None}
+use Rattle.std.specs.Option.{is_some}
+use Rattle.std.specs.Ordering.{is_gt}
+use Rattle.dist_model.specs.Admission.{accepts, admit, admit_later, after_name, give_up, hears_name, says_status}
+use Rattle.dist_model.specs.Commands.{Broke, Goes, Outcome, Refuses, Took}
+use Rattle.dist_model.specs.Handshake.{acceptor_side, dialer_side, end_up, fault, goes_on, handshake_at, handshake_on, identity, set_state, write}
+use Rattle.dist_model.specs.Items.{Handshake, Item}
+use Rattle.dist_model.specs.Node.{side_where}
+use Rattle.dist_model.specs.Sides.{Accepting, Asked, AwaitsAck, AwaitsChallenge, AwaitsStatus, Gone, Losing, Parked, State, TrunkSide, Up, is_dialing, is_losing, is_up, is_waiting}
+use Rattle.dist_model.specs.Work.{Work}
+use Rattle.erl_handshake.specs.Admission.{status_due}
+use Rattle.erl_handshake.specs.Digest.{digest_of}
+use Rattle.erl_handshake.specs.Flags.{has_all_of, mandatory}
+use Rattle.erl_handshake.specs.Roles.{acceptor_ends, dialer_ends, is_answered, is_same, on_challenge, on_name}
+use Rattle.erl_handshake.specs.declared.acceptor.AcceptorState.{AcceptorState}
+use Rattle.erl_handshake.specs.declared.dialer.DialerState.{DialerState}
+use Rattle.erl_handshake.specs.declared.message.ShakeMsg.{ShakeMsg}
+use Rattle.erl_handshake.specs.declared.status.Status.{Status}
+use Rattle.erl_names.specs.Order.{name_cmp}
+use Rattle.erl_names.specs.declared.trunk.TrunkId.{TrunkId}
+use Rattle.erl_term.specs.declared.refusal.Refusal.{Refusal}
+
+-- the dialer awaits the status
+abbrev pub awaits_status : TrunkId → TrunkSide → ℕ → ShakeMsg → Work → Outcome
+awaits_status t s v (ShakeMsg.Status Status.Ok) o = Goes (Took (Handshake (ShakeMsg.Status Status.Ok))) (set_state t s (AwaitsChallenge v) o)
+awaits_status t s v (ShakeMsg.Status Status.OkSimultaneous) o = Goes (Took (Handshake (ShakeMsg.Status Status.OkSimultaneous))) (set_state t s (AwaitsChallenge v) o)
+awaits_status t s v (ShakeMsg.Status Status.Alive) o = Goes (Took (Handshake (ShakeMsg.Status Status.Alive))) (write t s.peer (ShakeMsg.Status Status.True) (set_state t s (AwaitsChallenge v) o))
+awaits_status t s v (ShakeMsg.Status Status.Nok) o = fault Refusal.Nok t s o
+awaits_status t s v (ShakeMsg.Status Status.NotAllowed) o = fault Refusal.Nok t s o
+awaits_status t s v _ o = fault Refusal.BadMessage t s o
+
+-- the dialer awaits the challenge
+abbrev pub awaits_challenge : TrunkId → TrunkSide → ℕ → ShakeMsg → Work → Outcome
+awaits_challenge t s v (ShakeMsg.Challenge flags word creation name) o =
+    cond (is_same name s.peer)
+    (cond (has_all_of flags mandatory)
+    (Goes (Took (Handshake (ShakeMsg.Challenge flags word creation name))) (write t s.peer (ShakeMsg.ChallengeReply v (digest_of o.node.cookie word)) (set_state t (record { peer = s.peer; peer_creation = creation; state = s.state }) (AwaitsAck v) o)))
+    (fault Refusal.FlagsMissing t s o))
+    (fault Refusal.Forged t s o)
+awaits_challenge t s v _ o = fault Refusal.BadMessage t s o
+
+-- the dialer awaits the acceptance
+abbrev pub awaits_ack : TrunkId → TrunkSide → ℕ → ShakeMsg → Work → Outcome
+awaits_ack t s v (ShakeMsg.ChallengeAck digest) o = cond (is_answered o.node.cookie v digest) (Goes (Took (Handshake (ShakeMsg.ChallengeAck digest))) (set_state t s Up o)) (fault Refusal.BadDigest t s o)
+awaits_ack t s v _ o = fault Refusal.BadMessage t s o
+
+abbrev pub awaits_true : TrunkId → TrunkSide → ℕ → ShakeMsg → Work → Outcome
+awaits_true t s w (ShakeMsg.Status Status.True) o = Goes (Took (Handshake (ShakeMsg.Status Status.True))) (goes_on t s w (end_up (side_where is_up s.peer (fm.entries o.node.sides)) o))
+awaits_true t s w (ShakeMsg.Status Status.False) o = fault Refusal.Nok t s o
+awaits_true t s w _ o = fault Refusal.BadMessage t s o
+
+-- the acceptor checks the dialer's digest
+abbrev pub awaits_reply : TrunkId → TrunkSide → ℕ → ShakeMsg → Work → Outcome
+awaits_reply t s w (ShakeMsg.ChallengeReply word digest) o =
+    cond (is_answered o.node.cookie w digest) (Goes (Took (Handshake (ShakeMsg.ChallengeReply word digest))) (write t s.peer (ShakeMsg.ChallengeAck (digest_of o.node.cookie word)) (set_state t s Up o))) (fault Refusal.BadDigest t s o)
+awaits_reply t s w _ o = fault Refusal.BadMessage t s o
+
+abbrev pub handshake_by : State → TrunkId → TrunkSide → ShakeMsg → Work → Outcome
+handshake_by (AwaitsStatus v) t s m o = awaits_status t s v m o
+handshake_by (AwaitsChallenge v) t s m o = awaits_challenge t s v m o
+handshake_by (AwaitsAck v) t s m o = awaits_ack t s v m o
+handshake_by (Asked v) t s m o = awaits_true t s v m o
+handshake_by (Parked v) t s m o = fault Refusal.BadMessage t s o
+handshake_by (Accepting v) t s m o = awaits_reply t s v m o
+handshake_by Up t s m o = fault Refusal.BadMessage t s o
+handshake_by Losing t s m o = Refuses Refusal.NotLive
+handshake_by Gone t s m o = Refuses Refusal.NotLive
+
+status_as : (t : TrunkId) (s : TrunkSide) (v : ℕ) (m : ShakeMsg) (o : Work) → handshake_at (AwaitsStatus v) t s m o ≡ awaits_status t s v m o
+status_as t s v (ShakeMsg.Status Status.Ok) o = refl
+status_as t s v (ShakeMsg.Status Status.OkSimultaneous) o = refl
+status_as t s v (ShakeMsg.Status Status.Alive) o = refl
+status_as t s v (ShakeMsg.Status Status.Nok) o = refl
+status_as t s v (ShakeMsg.Status Status.NotAllowed) o = refl
+status_as t s v (ShakeMsg.Status Status.True) o = refl
+status_as t s v (ShakeMsg.Status Status.False) o = refl
+status_as t s v (ShakeMsg.SendName f c n) o = refl
+status_as t s v (ShakeMsg.Challenge f w c n) o = refl
+status_as t s v (ShakeMsg.ChallengeReply w d) o = refl
+status_as t s v (ShakeMsg.ChallengeAck d) o = refl
+
+challenge_as : (t : TrunkId) (s : TrunkSide) (v : ℕ) (m : ShakeMsg) (o : Work) → handshake_at (AwaitsChallenge v) t s m o ≡ awaits_challenge t s v m o
+challenge_as t s v (ShakeMsg.Challenge f w c n) o =
+    elim (is_same n s.peer) as (λ a. handshake_on t s (ShakeMsg.Challenge f w c n) (dialer_side s ((on_challenge (cond a (cond (has_all_of f mandatory) None (Some Refusal.FlagsMissing)) (Some Refusal.Forged)) (identity o.node) v w c).state)) ((on_challenge (cond a (cond (has_all_of f mandatory) None (Some Refusal.FlagsMissing)) (Some Refusal.Forged)) (identity o.node) v w c).next) o
+    ≡ cond a (cond (has_all_of f mandatory) (Goes (Took (Handshake (ShakeMsg.Challenge f w c n))) (write t s.peer (ShakeMsg.ChallengeReply v (digest_of o.node.cookie w)) (set_state t (record { peer = s.peer; peer_creation = c; state = s.state }) (AwaitsAck v) o))) (fault Refusal.FlagsMissing t s o)) (fault Refusal.Forged t s o)) [
+      | true ↦ elim (has_all_of f mandatory) as (λ b. handshake_on t s (ShakeMsg.Challenge f w c n) (dialer_side s ((on_challenge (cond b None (Some Refusal.FlagsMissing)) (identity o.node) v w c).state)) ((on_challenge (cond b None (Some Refusal.FlagsMissing)) (identity o.node) v w c).next) o
+          ≡ cond b (Goes (Took (Handshake (ShakeMsg.Challenge f w c n))) (write t s.peer (ShakeMsg.ChallengeReply v (digest_of o.node.cookie w)) (set_state t (record { peer = s.peer; peer_creation = c; state = s.state }) (AwaitsAck v) o))) (fault Refusal.FlagsMissing t s o)) [ true ↦ refl | false ↦ refl ]
+      | false ↦ refl
+    ]
+challenge_as t s v (ShakeMsg.Status u) o = refl
+challenge_as t s v (ShakeMsg.SendName f c n) o = refl
+challenge_as t s v (ShakeMsg.ChallengeReply w d) o = refl
+challenge_as t s v (ShakeMsg.ChallengeAck d) o = refl
+
+ack_as : (t : TrunkId) (s : TrunkSide) (v : ℕ) (m : ShakeMsg) (o : Work) → handshake_at (AwaitsAck v) t s m o ≡ awaits_ack t s v m o
+ack_as t s v (ShakeMsg.ChallengeAck d) o =
+    elim (is_answered o.node.cookie v d) as (λ a. handshake_on t s (ShakeMsg.ChallengeAck d) (dialer_side s ((cond a (record { state = DialerState.Done s.peer_creation; next = record { send = None; outcome = verdict.Done } }) (dialer_ends Refusal.BadDigest)).state)) ((cond a (record { state = DialerState.Done s.peer_creation; next = record { send = None; outcome = verdict.Done } }) (dialer_ends Refusal.BadDigest)).next) o
+    ≡ cond a (Goes (Took (Handshake (ShakeMsg.ChallengeAck d))) (set_state t s Up o)) (fault Refusal.BadDigest t s o)) [ true ↦ refl | false ↦ refl ]
+ack_as t s v (ShakeMsg.Status u) o = refl
+ack_as t s v (ShakeMsg.SendName f c n) o = refl
+ack_as t s v (ShakeMsg.Challenge f w c n) o = refl
+ack_as t s v (ShakeMsg.ChallengeReply w d) o = refl
+
+true_as : (t : TrunkId) (s : TrunkSide) (v : ℕ) (m : ShakeMsg) (o : Work) → handshake_at (Asked v) t s m o ≡ awaits_true t s v m o
+true_as t s v (ShakeMsg.Status Status.Ok) o = refl
+true_as t s v (ShakeMsg.Status Status.OkSimultaneous) o = refl
+true_as t s v (ShakeMsg.Status Status.Alive) o = refl
+true_as t s v (ShakeMsg.Status Status.Nok) o = refl
+true_as t s v (ShakeMsg.Status Status.NotAllowed) o = refl
+true_as t s v (ShakeMsg.Status Status.True) o = refl
+true_as t s v (ShakeMsg.Status Status.False) o = refl
+true_as t s v (ShakeMsg.SendName f c n) o = refl
+true_as t s v (ShakeMsg.Challenge f w c n) o = refl
+true_as t s v (ShakeMsg.ChallengeReply w d) o = refl
+true_as t s v (ShakeMsg.ChallengeAck d) o = refl
+
+reply_as : (t : TrunkId) (s : TrunkSide) (v : ℕ) (m : ShakeMsg) (o : Work) → handshake_at (Accepting v) t s m o ≡ awaits_reply t s v m o
+reply_as t s v (ShakeMsg.ChallengeReply w d) o =
+    elim (is_answered o.node.cookie v d) as (λ a. handshake_on t s (ShakeMsg.ChallengeReply w d) (acceptor_side s ((cond a (record { state = AcceptorState.Done s.peer_creation; next = record { send = Some (ShakeMsg.ChallengeAck (digest_of o.node.cookie w)); outcome = verdict.Done } }) (acceptor_ends Refusal.BadDigest)).state)) ((cond a (record { state = AcceptorState.Done s.peer_creation; next = record { send = Some (ShakeMsg.ChallengeAck (digest_of o.node.cookie w)); outcome = verdict.Done } }) (acceptor_ends Refusal.BadDigest)).next) o
+    ≡ cond a (Goes (Took (Handshake (ShakeMsg.ChallengeReply w d))) (write t s.peer (ShakeMsg.ChallengeAck (digest_of o.node.cookie w)) (set_state t s Up o))) (fault Refusal.BadDigest t s o)) [ true ↦ refl | false ↦ refl ]
+reply_as t s v (ShakeMsg.Status u) o = refl
+reply_as t s v (ShakeMsg.SendName f c n) o = refl
+reply_as t s v (ShakeMsg.Challenge f w c n) o = refl
+reply_as t s v (ShakeMsg.ChallengeAck d) o = refl
+
+pub handshake_as : (a : State) (t : TrunkId) (s : TrunkSide) (m : ShakeMsg) (o : Work) → handshake_at a t s m o ≡ handshake_by a t s m o
+handshake_as (AwaitsStatus v) t s m o = status_as t s v m o
+handshake_as (AwaitsChallenge v) t s m o = challenge_as t s v m o
+handshake_as (AwaitsAck v) t s m o = ack_as t s v m o
+handshake_as (Asked v) t s m o = true_as t s v m o
+handshake_as (Parked v) t s m o = refl
+handshake_as (Accepting v) t s m o = reply_as t s v m o
+handshake_as Up t s m o = refl
+handshake_as Losing t s m o = refl
+handshake_as Gone t s m o = refl
+
+-- ---- a new side
+
+-- rules b, c and d, once no older attempt of this dialer is left
+abbrev pub greet_dialing : Option (TrunkId × TrunkSide) → TrunkId → TrunkSide → ℕ → Item → Work → Outcome
+greet_dialing None t s w x o = accepts t s w (ShakeMsg.Status Status.Ok) x o
+greet_dialing (Some e) t s w x o =
+    cond (is_gt (name_cmp t.dialer o.node.mint.name))
+    (accepts t s w (ShakeMsg.Status Status.OkSimultaneous) x (give_up (Some e) o))
+    (Goes (Took x) (write t s.peer (ShakeMsg.Status Status.Nok) (set_state t s Gone o)))
+
+abbrev pub greet_up : Option (TrunkId × TrunkSide) → TrunkId → TrunkSide → ℕ → Item → Work → Outcome
+greet_up None t s w x o = greet_dialing (side_where is_dialing s.peer (fm.entries o.node.sides)) t s w x o
+greet_up (Some e) t s w x o = Goes (Took x) (write t s.peer (ShakeMsg.Status Status.Alive) (set_state t s (Asked w) o))
+
+abbrev pub greet : TrunkId → TrunkSide → ℕ → Item → Work → Outcome
+greet t s w x o = greet_up (side_where (λ v. is_up v || is_losing v) s.peer (fm.entries o.node.sides)) t s w x o
+
+abbrev pub greet_waiting : Option (TrunkId × TrunkSide) → TrunkId → TrunkSide → ℕ → Item → Work → Outcome
+greet_waiting None t s w x o = greet t s w x o
+greet_waiting (Some e) t s w x o =
+    cond (nat_lt e.0.count t.count) (greet t s w x (give_up (Some e) o)) (Goes (Broke Refusal.Superseded) (write t s.peer (ShakeMsg.Status Status.Nok) (set_state t s Gone o)))
+
+-- a Fresh side gets its first message
+abbrev pub awaits_name : TrunkId → ShakeMsg → ℕ → Work → Outcome
+awaits_name t (ShakeMsg.SendName flags creation name) w o =
+    let s : TrunkSide = record { peer = t.dialer; peer_creation = creation; state = Gone } in
+    cond (is_same name t.dialer)
+    (cond (has_all_of flags mandatory) (greet_waiting (side_where is_waiting t.dialer (fm.entries o.node.sides)) t s w (Handshake (ShakeMsg.SendName flags creation name)) o) (fault Refusal.FlagsMissing t s o))
+    (fault Refusal.Forged t s o)
+awaits_name t _ w o = fault Refusal.BadMessage t (record { peer = t.dialer; peer_creation = 0; state = Gone }) o
+
+greet_dialing_as : (d : Option (TrunkId × TrunkSide)) (t : TrunkId) (s : TrunkSide) (w : ℕ) (x : Item) (o : Work) → side_where is_dialing s.peer (fm.entries o.node.sides) ≡ d
+    → says_status (status_due t.dialer o.node.mint.name t.count (record { waiting = None; connected = false; dialing = is_some d })) t s w x o ≡ greet_dialing d t s w x o
+greet_dialing_as None t s w x o h = refl
+greet_dialing_as (Some e) t s w x o h = go (is_gt (name_cmp t.dialer o.node.mint.name))
+  where
+    go : (b : Bool) → says_status (cond b Status.OkSimultaneous Status.Nok) t s w x o ≡ cond b (accepts t s w (ShakeMsg.Status Status.OkSimultaneous) x (give_up (Some e) o)) (Goes (Took x) (write t s.peer (ShakeMsg.Status Status.Nok) (set_state t s Gone o)))
+    go true = ap (λ d. accepts t s w (ShakeMsg.Status Status.OkSimultaneous) x (give_up d o)) h
+    go false = refl
+
+greet_up_as : (u : Option (TrunkId × TrunkSide)) (t : TrunkId) (s : TrunkSide) (w : ℕ) (x : Item) (o : Work)
+    → says_status (status_due t.dialer o.node.mint.name t.count (record { waiting = None; connected = is_some u; dialing = is_some (side_where is_dialing s.peer (fm.entries o.node.sides)) })) t s w x o ≡ greet_up u t s w x o
+greet_up_as None t s w x o = greet_dialing_as (side_where is_dialing s.peer (fm.entries o.node.sides)) t s w x o refl
+greet_up_as (Some e) t s w x o = refl
+
+greet_as : (t : TrunkId) (s : TrunkSide) (w : ℕ) (x : Item) (o : Work) → admit t s w x o ≡ greet t s w x o
+greet_as t s w x o = greet_up_as (side_where (λ v. is_up v || is_losing v) s.peer (fm.entries o.node.sides)) t s w x o
+
+later_as : (d : Option (TrunkId × TrunkSide)) (t : TrunkId) (s : TrunkSide) (w : ℕ) (x : Item) (o : Work) → admit_later d t s w x o ≡ greet_waiting d t s w x o
+later_as None t s w x o = greet_as t s w x o
+later_as (Some e) t s w x o = go (nat_lt e.0.count t.count)
+  where
+    go : (b : Bool) → cond (not b) (Goes (Broke Refusal.Superseded) (write t s.peer (ShakeMsg.Status Status.Nok) (set_state t s Gone o))) (admit t s w x (give_up (Some e) o))
+        ≡ cond b (greet t s w x (give_up (Some e) o)) (Goes (Broke Refusal.Superseded) (write t s.peer (ShakeMsg.Status Status.Nok) (set_state t s Gone o)))
+    go true = greet_as t s w x (give_up (Some e) o)
+    go false = refl
+
+pub name_as : (t : TrunkId) (m : ShakeMsg) (w : ℕ) (o : Work) → hears_name t m w o ≡ awaits_name t m w o
+name_as t (ShakeMsg.SendName f c n) w o = go (is_same n t.dialer) (has_all_of f mandatory)
+  where
+    go : (a b : Bool) → after_name ((on_name (cond a (cond b None (Some Refusal.FlagsMissing)) (Some Refusal.Forged)) c w).next.outcome) t (record { peer = t.dialer; peer_creation = c; state = Gone }) w (Handshake (ShakeMsg.SendName f c n)) o
+        ≡ cond a (cond b (greet_waiting (side_where is_waiting t.dialer (fm.entries o.node.sides)) t (record { peer = t.dialer; peer_creation = c; state = Gone }) w (Handshake (ShakeMsg.SendName f c n)) o) (fault Refusal.FlagsMissing t (record { peer = t.dialer; peer_creation = c; state = Gone }) o)) (fault Refusal.Forged t (record { peer = t.dialer; peer_creation = c; state = Gone }) o)
+    go true true = later_as (side_where is_waiting t.dialer (fm.entries o.node.sides)) t (record { peer = t.dialer; peer_creation = c; state = Gone }) w (Handshake (ShakeMsg.SendName f c n)) o
+    go true false = refl
+    go false b = refl
+name_as t (ShakeMsg.Status u) w o = refl
+name_as t (ShakeMsg.Challenge f v c n) w o = refl
+name_as t (ShakeMsg.ChallengeReply v d) w o = refl
+name_as t (ShakeMsg.ChallengeAck d) w o = refl

@@ -1,0 +1,5 @@
+pub mod Bytes
+pub mod Bodies
+pub mod Decided
+pub mod Dues
+pub mod FlagBits

@@ -1,0 +1,34 @@
+//! What both roles of a handshake test.
+ghost use Rattle.std.specs.Prelude.{◌≡◌};
+ghost use Rattle.erl_handshake.specs.Roles as table;
+
+use crate::cookie::Cookie;
+use crate::digesting::digest;
+use crate::flags::Flags;
+use erl_names::NodeName;
+use erl_term::Refusal;
+
+/// What is wrong with a peer that introduces itself: another name than that of the connection, then
+/// a mandatory flag that it doesn't offer.
+pub(crate) fn introduction_fault(
+    expected: &NodeName,
+    name: &NodeName,
+    flags: Flags,
+) -> Option<Refusal>
+    ensures { result ≡ table.introduction_fault expected.now name.now flags }
+{
+    if name.text() != expected.text() {
+        return Some(Refusal::Forged);
+    }
+    if !flags.has_all_of(Flags::mandatory()) {
+        return Some(Refusal::FlagsMissing);
+    }
+    None
+}
+
+/// Whether the answer to a challenge is the digest of the cookie and that challenge.
+pub(crate) fn is_answered(cookie: &Cookie, challenge: u32, answer: &[u8; 16]) -> bool
+    ensures { result ≡ table.is_answered cookie.now challenge answer.now }
+{
+    *answer == digest(cookie.as_slice(), challenge)
+}

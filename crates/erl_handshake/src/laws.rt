@@ -1,0 +1,52 @@
+//! Laws of the definitions. Each function does nothing: its contract is the law.
+ghost use Rattle.std.specs.Prelude.{◌≡◌, ◌↔◌, ◌<◌, ◌^◌, ◌++◌, List, ℕ, length, Option, Some, Result, Ok, IsTrue, codes, decimal, get_or};
+ghost use Rattle.std.specs.List.{AllPass};
+ghost use Rattle.std.specs.Int.{IsBitSet};
+ghost use Rattle.readers.specs.Reading.{AreBytes};
+ghost use Rattle.erl_term.specs.declared.refusal.Refusal.{Refusal};
+ghost use Rattle.erl_handshake.specs.declared.flags.Flag.{Flag};
+ghost use Rattle.erl_handshake.specs.declared.message.Role.{Role};
+ghost use Rattle.erl_handshake.specs.declared.message.ShakeMsg.{ShakeMsg};
+ghost use Rattle.erl_handshake.specs.Answer.{IsShakeDue};
+ghost use Rattle.erl_handshake.specs.Digest.{digest_of};
+ghost use Rattle.erl_handshake.specs.Flags.{flag_value, offers, has_all_of, mandatory, mandatory_flags};
+ghost use Rattle.erl_handshake.specs.Messages.{HasFields, IsFor, IsShake, written};
+
+/// To any bytes, and a reader of either role, one answer is due.
+pub fn one_answer()
+    ensures { (role : Role) (bytes : List ℕ) → AreBytes bytes → (due : Result (Option (ShakeMsg × ℕ)) Refusal) × IsShakeDue role bytes due × ((other : Result (Option (ShakeMsg × ℕ)) Refusal) → IsShakeDue role bytes other → other ≡ due) }
+{}
+
+/// To a reader of either role no message begins another.
+pub fn one_message()
+    ensures { (role : Role) (m k : ShakeMsg) (a b x y : List ℕ) → IsShake role m a → IsShake role k b → a ++ x ≡ b ++ y → (m ≡ k) × (a ≡ b) }
+{}
+
+/// A message is read again, whatever follows it.
+pub fn read_again()
+    ensures { (role : Role) (message : ShakeMsg) (bytes rest : List ℕ) → IsShake role message bytes → IsShakeDue role (bytes ++ rest) (Ok (Some (message, length bytes))) }
+{}
+
+/// What is written is a message of the table, to a reader that the message is for.
+pub fn written_is_shake()
+    ensures { (role : Role) (message : ShakeMsg) → IsFor role message → HasFields message → IsShake role message (written message) }
+{}
+
+/// Flags by their bits: a flag is one bit, and is offered where that bit is set; and a word has all
+/// of another where each bit of the other is set in it too. A word has all mandatory flags where it
+/// offers each of them.
+pub fn flags_by_bits()
+    ensures one_bit { (flag : Flag) → (k : ℕ) × (flag_value flag ≡ 2 ^ k) }
+    ensures offered { (word : ℕ) (flag : Flag) (k : ℕ) → flag_value flag ≡ 2 ^ k → IsTrue (offers word flag) ↔ IsBitSet word k }
+    ensures all { (word required : ℕ) → IsTrue (has_all_of word required) ↔ ((k : ℕ) → IsBitSet required k → IsBitSet word k) }
+    ensures mandatory { (word : ℕ) → IsTrue (has_all_of word mandatory) ↔ AllPass (offers word) mandatory_flags }
+{}
+
+/// A digest has 16 bytes. The challenge in decimal is 0, or begins with no 0; and no two challenges
+/// are written alike.
+pub fn digests()
+    ensures length { (cookie : List ℕ) (challenge : ℕ) → length (digest_of cookie challenge) ≡ 16 }
+    ensures zero { decimal 0 ≡ codes "0" }
+    ensures leading { (challenge : ℕ) → 0 < challenge → challenge < 2 ^ 32 → 48 < get_or (decimal challenge) 0 0 }
+    ensures one { (m n : ℕ) → m < 2 ^ 32 → n < 2 ^ 32 → decimal m ≡ decimal n → m ≡ n }
+{}
