@@ -1,32 +1,31 @@
 -- What comes to a node, and its other events, in the words of what is known.
 use Rattle.dist_model.proofs.Seeing.{end_in}
 use Rattle.erl_handshake.specs.declared.message.ShakeMsg.{ShakeMsg}
-use Rattle.std.proofs.Common.{◌==◌, nat_lt, ◌^◌, ◌≡◌, ℕ, ◌+◌, ◌<◌, ◌≤◌, Bool, true, false, cond, not, List, [], ◌∷◌, ◌++◌, refl, sym, ap, ◌∙◌, subst, arith, ◌&&◌, ◌||◌, Option, Some, None, ◌⊎◌, inl, inr, Contains}
+use Rattle.std.proofs.Common.{◌==◌, nat_lt, ◌^◌, ◌≡◌, ℕ, ◌+◌, Bool, true, false, cond, not, List, [], ◌∷◌, refl, sym, ap, ◌∙◌, subst, arith, ◌&&◌, ◌||◌, Option, Some, None, ◌⊎◌, inl, inr, Contains}
 use Rattle.std.proofs.lemmas.List.Elements.{All-head, All-nil, All-tail, All-weaker}
 use Rattle.std.specs.List.{All}
 use Rattle.std.specs.Option.{is_some}
 use Rattle.std.specs.FinMap as fm
-use Rattle.dist_model.proofs.Aging.{Aging, Later, Unwatched, ageless}
-use Rattle.dist_model.proofs.Calls.{IfGoes, by_test}
+use Rattle.dist_model.proofs.Aging.{ageless}
+use Rattle.dist_model.proofs.Calls.{IfGoes}
 use Rattle.dist_model.proofs.Closing.{any_found, gone_side, gone_sides, losing_is}
-use Rattle.dist_model.proofs.Deeds.{H, K, Right, Shaken, T, U, Whole, at_pid, begins, counted, dead_now, held_active, kn, nm, no_connection, old_cause, over_of, over_parts, rules, shaken, shaken_side, shaken_wrote, unreached, were, whole_closed}
+use Rattle.dist_model.proofs.Deeds.{Right, Shaken, U, Whole, at_pid, begins, counted, dead_now, held_active, kn, nm, no_connection, old_cause, over_of, over_parts, rules, shaken, shaken_side, shaken_wrote, were, whole_closed}
 use Rattle.dist_model.proofs.Entries.{registered_found, watch_found}
-use Rattle.dist_model.proofs.Events.{AllGo, AllOver, Done, all_go, done, done_shaken, done_whole, go_cond, go_not}
+use Rattle.dist_model.proofs.Events.{AllGo, Done, all_go, done, done_shaken, done_whole, go_cond, go_not}
 use Rattle.dist_model.proofs.Founding.{Founded, founded_by, true_put}
 use Rattle.dist_model.proofs.Handshaking.{Fresh, Turned, fresh_kept, known_fault, lose_kept, swept_kept}
 use Rattle.dist_model.proofs.Handshaking
-use Rattle.dist_model.proofs.Homing.{TargetsIn, targets_by}
-use Rattle.dist_model.proofs.Keys.{and_both, pid_total}
-use Rattle.dist_model.proofs.Moves.{HomeItem, Homely, home_saying, set_life_living}
+use Rattle.dist_model.proofs.Homing.{TargetsIn}
+use Rattle.dist_model.proofs.Keys.{and_both}
+use Rattle.dist_model.proofs.Moves.{HomeItem, Homely, home_saying}
 use Rattle.dist_model.proofs.Parts.{Reasons, item_kept, link_swept}
 use Rattle.dist_model.proofs.Routes.{none_some, some_same}
 use Rattle.dist_model.proofs.Sides.{side_at}
 use Rattle.dist_model.proofs.Steps.{not_never}
 use Rattle.dist_model.proofs.Sweeping.{link_found, losing_unreached}
-use Rattle.dist_model.proofs.Table.{Good, has}
+use Rattle.dist_model.proofs.Table.{Good}
 use Rattle.dist_model.proofs.Told.{Called, Course, Drawn, IsFounded, Leaves, Off, Old, Sound, Stays}
-use Rattle.dist_model.proofs.Turning.{Aside, lives_same, living_delivered, no_more, node_aside, turns_aside}
-use Rattle.dist_model.proofs.Views.{over}
+use Rattle.dist_model.proofs.Turning.{lives_same, living_delivered, no_more, node_aside, turns_aside}
 use Rattle.dist_model.specs.Arrivals.{arrive, arrive_at, arrive_fresh, from_peer, handshake_in, is_good, is_to, on_up, signal_at, take_local}
 use Rattle.dist_model.specs.Causes.{TrueCause}
 use Rattle.dist_model.specs.Commands.{Answer, Goes, Outcome, Refuses, Took}
@@ -36,9 +35,9 @@ use Rattle.erl_handshake.specs.Roles.{send_name}
 use Rattle.dist_model.specs.Handshake.{identity, fault, with_side, write}
 use Rattle.dist_model.specs.Histories.{History}
 use Rattle.dist_model.specs.Incarnations.{start, started, stop, stopped}
-use Rattle.dist_model.specs.Items.{Handshake, Item, Signalled, Tick, receiver_of, sender_of, telling}
-use Rattle.dist_model.specs.Links.{Says, noconnection, noproc}
-use Rattle.dist_model.specs.Losses.{any_side, link_to, lose, registered_by, sweep, sweep_by, sweep_link, swept, watch_to}
+use Rattle.dist_model.specs.Items.{Handshake, Item, Signalled, Tick, receiver_of, sender_of}
+use Rattle.dist_model.specs.Links.{Says, noconnection}
+use Rattle.dist_model.specs.Losses.{any_side, link_to, lose, sweep_by, sweep_link, swept}
 use Rattle.dist_model.specs.Names.{Name, same_name}
 use Rattle.dist_model.specs.Node.{Node, end_of, is_living_life, living, never, reaches, side_where}
 use Rattle.dist_model.specs.Sides.{Accepting, Asked, AwaitsAck, AwaitsChallenge, AwaitsStatus, Gone, Losing, Parked, State, TrunkSide, Up, is_gone, is_losing}
@@ -54,7 +53,6 @@ use Rattle.erl_term.specs.declared.term.Pid.{Pid}
 use Rattle.erl_term.specs.declared.term.Reference.{Reference}
 use Rattle.link_core.specs.declared.end.End.{End}
 use Rattle.link_core.specs.declared.end.LinkSignal.{LinkSignal}
-use Rattle.monitor_core.specs.Monitors.{monitor_of}
 use Rattle.monitor_core.specs.Order.{reference_cmp}
 use Rattle.monitor_core.specs.declared.monitor.Monitor.{Monitor}
 

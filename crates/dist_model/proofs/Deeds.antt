@@ -1,29 +1,26 @@
 -- What each event does, in the words of what is known.
 use Rattle.dist_model.proofs.Seeing.{end_at, living_at, reached_at}
 use Rattle.erl_handshake.specs.declared.message.ShakeMsg.{ShakeMsg}
-use Rattle.erl_names.specs.Draw as kind
-use Rattle.std.proofs.Common.{◌==◌, nat_lt, ◌^◌, ◌≡◌, ℕ, ◌+◌, ◌<◌, ◌≤◌, Bool, true, false, cond, not, List, [], ◌∷◌, ◌++◌, refl, sym, ap, ◌∙◌, subst, arith, ◌&&◌, ◌||◌, Option, Some, None, ◌⊎◌, inl, inr, Contains}
-use Rattle.std.proofs.lemmas.List.Elements.{All-contains, All-head, All-nil, All-tail, All-weaker}
+use Rattle.std.proofs.Common.{◌==◌, nat_lt, ◌≡◌, ◌≤◌, Bool, true, false, cond, not, List, [], refl, sym, ap, ◌∙◌, subst, arith, ◌&&◌, ◌||◌, Some, ◌⊎◌, inl, inr, Contains}
+use Rattle.std.proofs.lemmas.List.Elements.{All-nil, All-weaker}
 use Rattle.std.specs.List.{All}
 use Rattle.std.specs.Option.{is_some}
 use Rattle.std.specs.FinMap as fm
 use Rattle.dist_model.proofs.Aging.{Aging, ageless, aging_side}
-use Rattle.dist_model.proofs.Calls.{IfGoes, by_test}
-use Rattle.dist_model.proofs.Entries.{registered_found, watch_found}
-use Rattle.dist_model.proofs.Founding.{Carried, EndedBefore, Founded, FoundedSignal, OffNow, True, carried_by, founded_by, old_now, true_closed, true_side, true_wrote}
+use Rattle.dist_model.proofs.Founding.{FoundedSignal, True, carried_by, founded_by, old_now, true_closed, true_side, true_wrote}
 use Rattle.dist_model.proofs.Handshaking.{Turned}
 use Rattle.dist_model.proofs.Home.{never_own}
 use Rattle.dist_model.proofs.Homing.{Homed, Says, TargetsIn, home_closed, home_side, home_wrote, targets_by}
-use Rattle.dist_model.proofs.Keys.{and_both, same_name_is, same_name_true}
+use Rattle.dist_model.proofs.Keys.{and_both, same_name_true}
 use Rattle.dist_model.proofs.Moves.{NodeKept}
 use Rattle.dist_model.proofs.Parts.{Closed, Rules}
-use Rattle.dist_model.proofs.Routes.{node_of_name, some_same}
+use Rattle.dist_model.proofs.Routes.{node_of_name}
 use Rattle.dist_model.proofs.Table.{Good}
-use Rattle.dist_model.proofs.Told.{Called, Course, Dead, Deed, Downs, Drawn, IsFounded, Leaves, Off, Old, Sound, Stays}
-use Rattle.dist_model.proofs.Turning.{Core, Fate, Left, Same, Spent, Turns, core_closed, down, turns_side, turns_wrote}
+use Rattle.dist_model.proofs.Told.{Called, Course, Deed, Downs, Drawn, IsFounded, Leaves, Off, Old, Sound, Stays}
+use Rattle.dist_model.proofs.Turning.{Core, Fate, Left, Same, Spent, Turns, core_closed, turns_side, turns_wrote}
 use Rattle.dist_model.proofs.Views.{over}
 use Rattle.dist_model.specs.Causes.{HadEnded, NoConnection, NoProcess, TrueCause}
-use Rattle.dist_model.specs.Commands.{Answer, MakeLink, Outcome, Goes, Refuses}
+use Rattle.dist_model.specs.Commands.{Answer, MakeLink}
 use Rattle.dist_model.specs.Downs.{Monitored, downs_by, downs_in, is_answered, is_demonitored, takes_message}
 use Rattle.dist_model.specs.Handshake.{with_side, write}
 use Rattle.dist_model.specs.Histories.{History}
@@ -31,10 +28,10 @@ use Rattle.dist_model.specs.Items.{Item}
 use Rattle.dist_model.specs.Links.{noconnection, noproc}
 use Rattle.dist_model.specs.Names.{Name, same_name}
 use Rattle.dist_model.specs.Node.{Node, end_of, living, never, reaches, route}
-use Rattle.dist_model.specs.Seen.{end_between, is_living, is_reached}
+use Rattle.dist_model.specs.Seen.{end_between, is_reached}
 use Rattle.dist_model.specs.Sides.{TrunkSide}
-use Rattle.dist_model.specs.Work.{Effect, EndedBy, LinkExit, Work, at_work}
-use Rattle.dist_model.specs.World.{Call, Event, Report, Reported, World, node_of}
+use Rattle.dist_model.specs.Work.{Effect, LinkExit, Work, at_work}
+use Rattle.dist_model.specs.World.{Call, Event, Reported, World, node_of}
 use Rattle.erl_names.specs.declared.trunk.TrunkId.{TrunkId}
 use Rattle.erl_term.specs.Data.{Data}
 use Rattle.erl_term.specs.declared.term.Pid.{Pid}

@@ -1,14 +1,13 @@
 -- What stands in the entries of a map.
-use Rattle.std.proofs.Common.{◌≡◌, Bool, true, false, cond, List, [], ◌∷◌, ◌++◌, refl, sym, ap, ◌∙◌, subst, ◌&&◌, Option, Some, None, T, Contains, arith}
+use Rattle.std.proofs.Common.{◌≡◌, Bool, true, false, cond, List, [], ◌∷◌, refl, sym, ap, ◌∙◌, subst, ◌&&◌, Option, Some, None, T, Contains}
 use Rattle.std.proofs.lemmas.List.Elements.{All-cons, All-contains, All-nil, All-weaker, Contains-append_right, Contains-push}
 use Rattle.std.specs.List.{All}
 use Rattle.std.specs.declared.cmp.Ordering.{Ordering}
 use Rattle.std.specs.declared.cmp.Ordering.TheVariants.{Less, Equal, Greater}
-use Rattle.std.specs.Ordering.{eq_by_cmp, is_eq, is_lt}
-use Rattle.std.specs.Cmp.{IsTotalOrder, tied_itself}
+use Rattle.std.specs.Ordering.{is_eq, is_lt}
+use Rattle.std.specs.Cmp.{tied_itself}
 use Rattle.std.specs.FinMap as fm
 use Rattle.std.specs.FinMap.Entries.{below_all, find, is_sorted}
-use Rattle.dist_model.proofs.Calls.{by_test}
 use Rattle.dist_model.proofs.Keys.{same_name_true}
 use Rattle.dist_model.proofs.Routes.{none_some, some_same}
 use Rattle.dist_model.specs.Downs.{same_reference}

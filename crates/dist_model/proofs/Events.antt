@@ -1,41 +1,37 @@
 -- Calls, and the end of an incarnation, in the words of what is known.
 use Rattle.erl_names.specs.Draw as kind
-use Rattle.std.proofs.Common.{◌==◌, nat_lt, ◌^◌, ◌≡◌, ℕ, ◌+◌, ◌<◌, ◌≤◌, Bool, true, false, cond, not, List, [], ◌∷◌, ◌++◌, refl, sym, ap, ◌∙◌, subst, arith, ◌&&◌, ◌||◌, Option, Some, None, ◌⊎◌, inl, inr, Contains, append-nil}
-use Rattle.std.proofs.lemmas.List.Elements.{All-cons, All-nil, All-weaker, Contains-push_cases}
-use Rattle.std.specs.List.{All}
-use Rattle.std.specs.Option.{is_some}
+use Rattle.std.proofs.Common.{nat_lt, ◌≡◌, ℕ, ◌+◌, ◌≤◌, Bool, true, false, cond, List, [], ◌∷◌, refl, sym, ap, ◌∙◌, subst, arith, ◌&&◌, Option, Some, None, ◌⊎◌, inl, inr, Contains, append-nil}
+use Rattle.std.proofs.lemmas.List.Elements.{All-nil, All-weaker, Contains-push_cases}
 use Rattle.std.specs.FinMap as fm
-use Rattle.dist_model.proofs.Aging.{Aging, Later, ageless}
+use Rattle.dist_model.proofs.Aging.{Aging, ageless}
 use Rattle.dist_model.proofs.Calls.{IfGoes, by_test, next_pid, none_number, pid_drawn, some_number, spawned_at, spawned_stays_born, spawned_stays_living, spawns}
-use Rattle.dist_model.proofs.Deeds.{K, T, U, H, Right, Shaken, Whole, at_pid, base, begins, counted, deed, drawn_along, kn, never_same, nm, no_connection, node_here, over_of, over_parts, rules, shaken, unreached, whole_closed, were}
-use Rattle.dist_model.proofs.Entries.{same_reference_is, same_reference_refl, same_reference_true}
-use Rattle.dist_model.proofs.Founding.{Carried, EndedBefore, Founded, Nothing, OffNow, Quietly, carried_post, founded_by, posts_keep, quietly_acts, quietly_post}
+use Rattle.dist_model.proofs.Deeds.{T, U, H, Right, Shaken, Whole, at_pid, begins, counted, deed, drawn_along, kn, nm, no_connection, over_of, over_parts, rules, shaken, unreached, whole_closed}
+use Rattle.dist_model.proofs.Entries.{same_reference_refl, same_reference_true}
+use Rattle.dist_model.proofs.Founding.{EndedBefore, Founded, Nothing, OffNow, carried_post, founded_by, posts_keep, quietly_acts, quietly_post}
 use Rattle.dist_model.proofs.Homing.{Homed, TargetsIn, homed_post, targets_by}
 use Rattle.dist_model.proofs.Keys.{same_pid_true}
 use Rattle.dist_model.proofs.Moves.{NodeKept}
-use Rattle.dist_model.proofs.Parts.{Apart, call_kept}
+use Rattle.dist_model.proofs.Parts.{call_kept}
 use Rattle.dist_model.proofs.Routes.{none_some, some_same}
 use Rattle.dist_model.proofs.Sides.{side_at}
 use Rattle.dist_model.proofs.Table.{Good, has}
-use Rattle.dist_model.proofs.Told.{Begins, Called, Course, Deed, Downs, Drawn, IsFounded, Leaves, Off, Old, Revoked, Sound, Stays}
-use Rattle.dist_model.proofs.Turning.{Lands, Turns, down, down_said, is_end, local_grows, no_more, quietly_downs}
-use Rattle.dist_model.proofs.Views.{over}
-use Rattle.dist_model.specs.Calls.{acting, call, spawn_life, toward}
-use Rattle.dist_model.specs.Causes.{TrueCause}
+use Rattle.dist_model.proofs.Told.{Begins, Called, Deed, Drawn, IsFounded, Off, Old, Revoked, Sound, Stays}
+use Rattle.dist_model.proofs.Turning.{Lands, down, down_said, is_end, local_grows, quietly_downs}
+use Rattle.dist_model.specs.Calls.{call, spawn_life}
 use Rattle.dist_model.specs.Commands.{Answer, Command, EndLink, EndMonitor, ExitSelf, ExitTo, Goes, IsAlive, LinksOf, MakeLink, MakeMonitor, Outcome, Receive, Refuses, Send, Spawn, Spawned, Trap, Watching, with_id}
-use Rattle.dist_model.specs.Downs.{Down, Monitored, down_in, downs_by, downs_in, is_answered, is_demonitored, same_reference, takes_message}
-use Rattle.dist_model.specs.Histories.{Happening, History}
-use Rattle.dist_model.specs.Items.{Item, Signalled, receiver_of}
+use Rattle.dist_model.specs.Downs.{Monitored, down_in, downs_in, is_answered, is_demonitored, same_reference, takes_message}
+use Rattle.dist_model.specs.Histories.{History}
+use Rattle.dist_model.specs.Items.{Item, Signalled}
 use Rattle.dist_model.specs.Links.{noconnection}
 use Rattle.dist_model.specs.Monitoring.{demonitor_by, monitor, unwatch, watch}
 use Rattle.dist_model.specs.Names.{Name, same_name, same_pid}
 use Rattle.dist_model.specs.Node.{Node, is_living_life, living, never, reaches}
 use Rattle.dist_model.specs.Sides.{TrunkSide}
-use Rattle.dist_model.specs.Work.{Effect, LinkExit, Put, Work, at_work, draw, post, put, set_life, delivered}
-use Rattle.dist_model.specs.World.{Call, Event, Report, Reported, World, is_over, node_of}
+use Rattle.dist_model.specs.Work.{Effect, LinkExit, Put, Work, at_work, draw, post, put, delivered}
+use Rattle.dist_model.specs.World.{Call, Event, Reported, World, is_over, node_of}
 use Rattle.erl_control.specs.declared.signal.Signal.{Signal}
 use Rattle.erl_names.specs.Ids.{pid_of, reference_of}
-use Rattle.erl_names.specs.Minted.{Minted, drawn, id_of, last, risen}
+use Rattle.erl_names.specs.Minted.{Minted, id_of, last, risen}
 use Rattle.erl_names.specs.declared.trunk.TrunkId.{TrunkId}
 use Rattle.erl_term.specs.Data.{Data}
 use Rattle.erl_term.specs.declared.refusal.Refusal.{Refusal}

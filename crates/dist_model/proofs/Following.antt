@@ -1,21 +1,19 @@
 -- What is known of watched monitors is kept by every event.
 use Rattle.erl_handshake.specs.declared.message.ShakeMsg.{ShakeMsg}
 use Rattle.erl_names.specs.Draw as kind
-use Rattle.std.proofs.Common.{◌==◌, nat_lt, ◌^◌, ◌≡◌, ℕ, ◌+◌, Bool, true, false, cond, not, List, [], ◌∷◌, ◌++◌, refl, sym, ap, ◌∙◌, subst, arith, ◌&&◌, ◌||◌, Option, Some, None, ◌⊎◌, inl, inr}
+use Rattle.std.proofs.Common.{◌≡◌, ℕ, Bool, true, false, cond, not, List, [], ◌∷◌, refl, sym, ap, ◌∙◌, subst, ◌&&◌, ◌||◌, Option, Some, None, ◌⊎◌, inl, inr}
 use Rattle.std.proofs.lemmas.List.Elements.{All-head}
 use Rattle.std.specs.List.{All}
 use Rattle.std.specs.Option.{is_some}
 use Rattle.std.specs.FinMap as fm
-use Rattle.std.specs.FinMap.{FinMap}
 use Rattle.dist_model.proofs.Calls.{by_test}
 use Rattle.dist_model.proofs.Comings.{arrive_done, dial_done, local_done, lose_done, start_done, stop_done, sweep_done}
-use Rattle.dist_model.proofs.Deeds.{kn}
 use Rattle.dist_model.proofs.Entries.{same_reference_refl, same_reference_true}
 use Rattle.dist_model.proofs.Events.{AllGo, Done, call_done, go_cond, go_drawn, go_not}
 use Rattle.dist_model.proofs.Founding.{posts_keep}
 use Rattle.dist_model.proofs.Handshaking.{as_state, lost_over, set_at}
 use Rattle.dist_model.proofs.Home.{never_own}
-use Rattle.dist_model.proofs.Keys.{and_both, place_total, same_name_is, same_name_true, same_pid_is, same_trunk, same_trunk_refl, same_trunk_true}
+use Rattle.dist_model.proofs.Keys.{and_both, same_name_is, same_name_true, same_pid_is, same_trunk, same_trunk_refl, same_trunk_true}
 use Rattle.dist_model.proofs.Linked.{Linked, NewWatch, TakenCall, linked_after}
 use Rattle.dist_model.proofs.Routes.{list_to_insert, node_of_name, none_some, some_same}
 use Rattle.dist_model.proofs.Sides.{not_own, route_from, route_up, side_at, up_holds}
@@ -31,16 +29,16 @@ use Rattle.dist_model.specs.Downs.{is_answered, same_reference}
 use Rattle.dist_model.specs.Handshake.{fault, set_state}
 use Rattle.dist_model.specs.Histories.{History}
 use Rattle.dist_model.specs.Incarnations.{start, stop}
-use Rattle.dist_model.specs.Items.{Handshake, Item, Signalled, Tick, receiver_of}
+use Rattle.dist_model.specs.Items.{Handshake, Item, Signalled, Tick}
 use Rattle.dist_model.specs.Links.{noconnection, noproc}
 use Rattle.dist_model.specs.Losses.{any_side, lose, sweep}
 use Rattle.dist_model.specs.Monitoring.{monitor, register, unwatch, watch}
-use Rattle.dist_model.specs.Names.{Name, place_cmp, same_name, same_pid}
+use Rattle.dist_model.specs.Names.{Name, same_name, same_pid}
 use Rattle.dist_model.specs.Node.{Node, living, never, reaches, route}
 use Rattle.dist_model.specs.Sides.{Accepting, Asked, AwaitsAck, AwaitsChallenge, AwaitsStatus, Gone, Losing, Parked, State, TrunkSide, Up, is_losing, is_up}
 use Rattle.dist_model.specs.Taking.{take_item}
 use Rattle.dist_model.specs.Work.{Work, at_work, draw, post, put}
-use Rattle.dist_model.specs.World.{Arrive, Call, Dial, Event, Local, Lose, Report, Reported, Start, Stepped, Stop, Sweep, World, arrives, arrives_first, ends_in, is_over, list_to, node_name, node_of, refused, running, step, step_at}
+use Rattle.dist_model.specs.World.{Arrive, Call, Dial, Event, Local, Lose, Report, Reported, Start, Stepped, Stop, Sweep, World, arrives, arrives_first, ends_in, is_over, list_to, node_name, node_of, refused, running, step_at}
 use Rattle.erl_control.specs.declared.signal.Signal.{Signal}
 use Rattle.erl_names.specs.Ids.{reference_of}
 use Rattle.erl_names.specs.Minted.{id_of}

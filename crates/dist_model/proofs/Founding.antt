@@ -1,23 +1,22 @@
 -- What travels, and what is reported, is founded: on what was so before the event, or on what it reports.
 use Rattle.erl_handshake.specs.declared.message.ShakeMsg.{ShakeMsg}
 use Rattle.erl_names.specs.Draw as kind
-use Rattle.std.proofs.Common.{◌≡◌, ℕ, Bool, true, false, cond, not, List, [], ◌∷◌, ◌++◌, refl, sym, ap, ◌∙◌, subst, ◌&&◌, Option, Some, None, ◌⊎◌, inl, inr, Contains, arith}
-use Rattle.std.proofs.lemmas.List.Elements.{All-append, All-contains, All-cons, All-nil, All-push, All-weaker, All-head, All-tail, Contains-append_left, Contains-push, Contains-push_cases}
+use Rattle.std.proofs.Common.{◌≡◌, Bool, true, false, cond, not, List, [], ◌∷◌, ◌++◌, refl, sym, ap, ◌∙◌, subst, Option, Some, None, ◌⊎◌, inl, inr, Contains}
+use Rattle.std.proofs.lemmas.List.Elements.{All-append, All-cons, All-nil, All-push, All-weaker, All-head, All-tail, Contains-append_left, Contains-push, Contains-push_cases}
 use Rattle.std.specs.List.{All}
 use Rattle.std.specs.FinMap as fm
-use Rattle.dist_model.proofs.Calls.{IfGoes, by_test}
 use Rattle.dist_model.proofs.Entries.{each_entry, none_by, same_reference_true}
 use Rattle.dist_model.proofs.Handshaking.{Turned}
 use Rattle.dist_model.proofs.Keys.{same_pid_true}
 use Rattle.dist_model.proofs.Parts.{Closed, Rules, is_plain}
 use Rattle.dist_model.proofs.Routes.{none_some, some_same}
 use Rattle.dist_model.specs.Downs.{same_reference}
-use Rattle.dist_model.specs.Exits.{buried, demonitors, exit_for, exits, finish, is_owned, is_target, monitor_exits}
+use Rattle.dist_model.specs.Exits.{demonitors, exit_for, exits, finish, is_owned, is_target, monitor_exits}
 use Rattle.dist_model.specs.Handshake.{with_side, write}
 use Rattle.dist_model.specs.Items.{Handshake, Item, Signalled, Tick, receiver_of}
 use Rattle.dist_model.specs.Monitoring.{register, unregister, unwatch}
 use Rattle.dist_model.specs.Names.{Name, same_name, same_pid}
-use Rattle.dist_model.specs.Node.{Life, Node, is_living_life, living, route}
+use Rattle.dist_model.specs.Node.{Node, route}
 use Rattle.dist_model.specs.Sides.{TrunkSide}
 use Rattle.dist_model.specs.Work.{Effect, EndedBy, Envelope, LinkExit, Put, Sent, Work, draw, keep_local, post, post_all, post_to, put, report, send_on, set_end, set_life}
 use Rattle.erl_control.specs.declared.signal.Signal.{Signal}

@@ -1,14 +1,14 @@
 -- What a new side and a written message keep is kept by the whole handshake, and by a lost connection.
 use Rattle.erl_handshake.specs.declared.message.ShakeMsg.{ShakeMsg}
 use Rattle.dist_model.proofs.Rules.{awaits_ack, awaits_challenge, awaits_name, awaits_reply, awaits_status, awaits_true, greet, greet_dialing, greet_up, greet_waiting, handshake_as, handshake_by, name_as}
-use Rattle.dist_model.specs.Admission.{accepts, give_up, hears_name}
+use Rattle.dist_model.specs.Admission.{accepts, give_up}
 use Rattle.dist_model.specs.Handshake.{handshake_at}
 use Rattle.erl_handshake.specs.Digest.{digest_of}
 use Rattle.erl_handshake.specs.Flags.{has_all_of, mandatory}
 use Rattle.erl_handshake.specs.Roles.{is_answered, is_same}
 use Rattle.erl_handshake.specs.declared.status.Status.{Status}
-use Rattle.std.proofs.Common.{◌==◌, ◌≡◌, ℕ, Bool, true, false, cond, refl, sym, ap, ◌∙◌, ◌||◌, Option, Some, None, nat_lt, subst}
-use Rattle.std.specs.Ordering.{is_gt, eq_by_cmp}
+use Rattle.std.proofs.Common.{◌≡◌, ℕ, Bool, true, false, cond, refl, sym, ap, ◌∙◌, ◌||◌, Option, Some, None, nat_lt, subst}
+use Rattle.std.specs.Ordering.{is_gt}
 use Rattle.std.specs.FinMap as fm
 use Rattle.dist_model.proofs.Calls.{IfGoes, by_test}
 use Rattle.dist_model.proofs.Keys.{same_trunk, same_trunk_true, trunk_total}
@@ -16,17 +16,17 @@ use Rattle.dist_model.proofs.Routes.{none_some, side_where_found, some_same}
 use Rattle.dist_model.proofs.Sides.{holds, side_at}
 use Rattle.dist_model.specs.Arrivals.{arrive_at, arrive_fresh, on_up, signal_at}
 use Rattle.dist_model.specs.Arrivals
-use Rattle.dist_model.specs.Commands.{Goes, Outcome, Refuses, Took}
-use Rattle.dist_model.specs.Handshake.{challenge, end_up, fault, go_on, goes_on, set_state, with_side, write}
+use Rattle.dist_model.specs.Commands.{Goes, Outcome, Took}
+use Rattle.dist_model.specs.Handshake.{challenge, end_up, fault, go_on, set_state, with_side, write}
 use Rattle.dist_model.specs.Items.{Handshake, Item}
 use Rattle.dist_model.specs.Losses.{close_if, has_records, lose, lose_at, parked_by, parked_goes, swept}
-use Rattle.dist_model.specs.Names.{Name, same_name}
+use Rattle.dist_model.specs.Names.{Name}
 use Rattle.dist_model.specs.Node.{Node, side_where}
 use Rattle.dist_model.specs.Sides.{Accepting, Asked, AwaitsAck, AwaitsChallenge, AwaitsStatus, Gone, Losing, Parked, State, TrunkSide, Up, is_dialing, is_losing, is_parked, is_up, is_waiting, lost}
 use Rattle.dist_model.specs.Taking.{take_item}
 use Rattle.dist_model.specs.Work.{Work, at_work}
 use Rattle.dist_model.specs.World.{is_over}
-use Rattle.erl_names.specs.Order.{name_cmp, trunk_cmp}
+use Rattle.erl_names.specs.Order.{name_cmp}
 use Rattle.erl_names.specs.declared.trunk.TrunkId.{TrunkId}
 use Rattle.erl_term.specs.declared.refusal.Refusal.{Refusal}
 

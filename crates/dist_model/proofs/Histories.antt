@@ -1,17 +1,16 @@
 -- Every step keeps what is known of a world and its history, and so does every run.
-use Rattle.dist_model.proofs.Seeing.{list_in, local_at, new_nodes}
-use Rattle.std.proofs.Common.{◌==◌, nat_lt, ◌^◌, ◌≡◌, ◌⊎◌, inl, inr, ℕ, ◌+◌, ◌≤◌, Bool, true, false, cond, not, List, [], ◌∷◌, length, refl, sym, ap, ◌∙◌, subst, arith, ◌&&◌, Option, Some, None, Contains}
+use Rattle.dist_model.proofs.Seeing.{list_in, local_at}
+use Rattle.std.proofs.Common.{◌≡◌, ◌⊎◌, inl, inr, ℕ, ◌+◌, Bool, true, false, cond, not, List, [], ◌∷◌, refl, sym, ap, ◌∙◌, subst, arith, ◌&&◌, Option, Some, None, Contains}
 use Rattle.std.proofs.lemmas.List.Elements.{All-contains, All-nil, All-tail, All-weaker, Contains-push_cases}
 use Rattle.std.specs.List.{All}
 use Rattle.std.specs.Option.{is_some}
 use Rattle.std.specs.FinMap as fm
 use Rattle.std.specs.FinMap.{FinMap}
-use Rattle.dist_model.proofs.Calls.{by_test}
 use Rattle.dist_model.proofs.Comings.{arrive_done, dial_done, local_done, lose_done, start_done, stop_done, sweep_done}
 use Rattle.dist_model.proofs.Deeds.{Right, old_cause}
 use Rattle.dist_model.proofs.Events.{AllGo, Done, call_done}
 use Rattle.dist_model.proofs.Following.{linked_step}
-use Rattle.dist_model.proofs.Keys.{place_total, same_trunk}
+use Rattle.dist_model.proofs.Keys.{same_trunk}
 use Rattle.dist_model.proofs.Linked.{Linked}
 use Rattle.dist_model.proofs.Routes.{list_to_insert, none_some}
 use Rattle.dist_model.proofs.Run.{good_step_at}
@@ -23,7 +22,7 @@ use Rattle.dist_model.proofs.Turning.{down}
 use Rattle.dist_model.specs.Arrivals.{arrive, take_local}
 use Rattle.dist_model.specs.Calls.{call}
 use Rattle.dist_model.specs.Causes.{Reacts, TrueCause}
-use Rattle.dist_model.specs.Commands.{Answer, Command, EndLink, EndMonitor, ExitSelf, ExitTo, Goes, IsAlive, LinksOf, MakeLink, MakeMonitor, Outcome, Receive, Refuses, Send, Spawn, Trap}
+use Rattle.dist_model.specs.Commands.{Answer, EndLink, EndMonitor, ExitSelf, ExitTo, Goes, IsAlive, LinksOf, MakeLink, MakeMonitor, Outcome, Receive, Refuses, Send, Spawn, Trap}
 use Rattle.dist_model.specs.Dialing.{dial}
 use Rattle.dist_model.specs.Downs.{Demonitored, Down, Monitored, answers, downs, downs_by, is_answered, is_demonitored}
 use Rattle.dist_model.specs.Fates.{AnsweredOnce, DownOnce, DownToTheOwner, DownsTellTrueCause, ExitsTellTrueCause, ExitsTellTrueCauseWithin, NoDownWhereDemonitored, ReactsForTrueCause}
@@ -33,10 +32,10 @@ use Rattle.dist_model.specs.Items.{Item, Signalled}
 use Rattle.dist_model.specs.Losses.{any_side, lose, sweep}
 use Rattle.dist_model.specs.Names.{Name, place_cmp, same_name}
 use Rattle.dist_model.specs.Node.{Node}
-use Rattle.dist_model.specs.Runs.{Comes, Runs, new_node, opening}
+use Rattle.dist_model.specs.Runs.{Comes, Runs, opening}
 use Rattle.dist_model.specs.Sides.{TrunkSide, is_losing}
 use Rattle.dist_model.specs.Work.{Work}
-use Rattle.dist_model.specs.World.{Arrive, Call, Dial, Event, Local, Lose, Refused, Report, Reported, Start, Stepped, Stop, Sweep, World, arrives, arrives_first, carried, ends_in, is_over, list_to, node_name, node_of, refused, running, set_node, step, step_at}
+use Rattle.dist_model.specs.World.{Arrive, Call, Dial, Event, Local, Lose, Refused, Report, Reported, Start, Stepped, Stop, Sweep, World, arrives, arrives_first, ends_in, is_over, list_to, node_name, node_of, refused, running, step, step_at}
 use Rattle.erl_control.specs.declared.signal.Signal.{Signal}
 use Rattle.erl_names.specs.declared.trunk.TrunkId.{TrunkId}
 use Rattle.erl_term.specs.Data.{Data}
@@ -45,7 +44,6 @@ use Rattle.erl_term.specs.declared.term.Pid.{Pid}
 use Rattle.erl_term.specs.declared.term.Reference.{Reference}
 use Rattle.monitor_core.specs.Monitors.{monitor_of}
 use Rattle.monitor_core.specs.Order.{reference_cmp}
-use Rattle.monitor_core.specs.declared.monitor.Monitor.{Monitor}
 
 -- a refused event is no call that went through
 refused_unanswered : (k : Reference) (e : Event) (j : Refusal) → is_answered k e (Refused j) ≡ false

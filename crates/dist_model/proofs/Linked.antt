@@ -1,26 +1,25 @@
 -- A monitor that is watched is known at its target's node, or the word of it travels.
-use Rattle.std.proofs.Common.{◌≡◌, Bool, true, false, cond, List, [], ◌∷◌, ◌++◌, refl, sym, ap, ◌∙◌, subst, arith, ◌&&◌, ◌||◌, Option, Some, None, ◌⊎◌, inl, inr}
+use Rattle.std.proofs.Common.{◌≡◌, Bool, true, false, List, refl, sym, ap, ◌∙◌, subst, ◌||◌, Option, Some, None, ◌⊎◌, inl, inr}
 use Rattle.std.specs.Option.{is_some}
 use Rattle.std.specs.FinMap as fm
 use Rattle.std.specs.FinMap.{FinMap}
-use Rattle.dist_model.proofs.Aging.{Aging, Later, Unwatched}
+use Rattle.dist_model.proofs.Aging.{Later, Unwatched}
 use Rattle.dist_model.proofs.Calls.{by_test}
 use Rattle.dist_model.proofs.Events.{AllOver, Done}
 use Rattle.dist_model.proofs.Keys.{same_name_is, same_name_true}
 use Rattle.dist_model.proofs.Routes.{at_place, list_to_carried, node_of_name, none_some, some_same}
-use Rattle.dist_model.proofs.Sides.{SidesKept, holds, route_up, side_at, up_holds}
+use Rattle.dist_model.proofs.Sides.{holds, route_up, side_at, up_holds}
 use Rattle.dist_model.proofs.Table.{Good, has, partners}
 use Rattle.dist_model.proofs.Told.{Begins, Course, Downs, Leaves, Off, Revoked, Sound, Stays, after, at_x, by_name, elsewhere, happened, monitored_one}
 use Rattle.dist_model.proofs.Turning.{Lands, has_first, has_last, is_call, is_end}
 use Rattle.dist_model.specs.Commands.{Answer}
-use Rattle.dist_model.specs.Downs.{Monitored, answers, is_answered}
 use Rattle.dist_model.specs.Histories.{History}
 use Rattle.dist_model.specs.Items.{Item}
 use Rattle.dist_model.specs.Names.{Name, place_cmp, same_name}
-use Rattle.dist_model.specs.Node.{Node, living, reaches, route}
+use Rattle.dist_model.specs.Node.{Node, reaches, route}
 use Rattle.dist_model.specs.Sides.{TrunkSide, is_losing, is_up}
 use Rattle.dist_model.specs.Work.{Work}
-use Rattle.dist_model.specs.World.{Event, Report, Reported, World, carried, is_over, list_to, node_of, set_node}
+use Rattle.dist_model.specs.World.{Event, Reported, World, carried, is_over, list_to, node_of, set_node}
 use Rattle.erl_names.specs.declared.trunk.TrunkId.{TrunkId}
 use Rattle.erl_term.specs.declared.term.Pid.{Pid}
 use Rattle.erl_term.specs.declared.term.Reference.{Reference}

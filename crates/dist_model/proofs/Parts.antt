@@ -1,21 +1,20 @@
 -- What each part of an event keeps, but for its handshakes, is kept by the whole event.
 use Rattle.dist_model.proofs.Seeing.{replies}
 use Rattle.erl_names.specs.Draw as kind
-use Rattle.std.proofs.Common.{◌≡◌, ℕ, Bool, true, false, cond, not, List, [], ◌∷◌, ◌++◌, refl, sym, ap, ◌∙◌, subst, ◌&&◌, ◌||◌, Option, Some, None}
+use Rattle.std.proofs.Common.{◌≡◌, ℕ, Bool, true, false, cond, not, List, [], ◌∷◌, refl, ap, ◌&&◌, Option, Some, None}
 use Rattle.std.specs.Prelude.{codes}
-use Rattle.std.specs.Option.{is_some}
 use Rattle.std.specs.FinMap as fm
-use Rattle.dist_model.proofs.Calls.{IfGoes, by_test, if_cond, if_drawn, if_not}
+use Rattle.dist_model.proofs.Calls.{IfGoes, if_cond, if_drawn, if_not}
 use Rattle.dist_model.proofs.Keys.{and_both, same_pid_true}
-use Rattle.dist_model.specs.Calls.{acting, call, first_message, spawn_life, toward, trapping, with_life, without_first}
-use Rattle.dist_model.specs.Commands.{Command, EndLink, EndMonitor, ExitSelf, ExitTo, Goes, IsAlive, LinksOf, MakeLink, MakeMonitor, Outcome, Receive, Refuses, Send, Spawn, Trap}
+use Rattle.dist_model.specs.Calls.{acting, call, spawn_life, toward, trapping, without_first}
+use Rattle.dist_model.specs.Commands.{Command, EndLink, EndMonitor, ExitSelf, ExitTo, IsAlive, LinksOf, MakeLink, MakeMonitor, Outcome, Receive, Send, Spawn, Trap}
 use Rattle.dist_model.specs.Downs.{down_in}
 use Rattle.dist_model.specs.Exits.{carry_out, finish, link_exit, linked_exit, sent_exit}
 use Rattle.dist_model.specs.Fits.{fits}
 use Rattle.dist_model.specs.Items.{Handshake, Item, Signalled, Tick}
 use Rattle.dist_model.specs.Linking.{exit_follows, link_by, link_new, take_link, take_link_by, unlink_by}
 use Rattle.dist_model.specs.Links.{Exits, LinkNews, Says, heard, noconnection, noproc, reply}
-use Rattle.dist_model.specs.Losses.{link_to, registered_by, sweep_end, sweep_link, sweep_registered, sweep_watch, watch_to}
+use Rattle.dist_model.specs.Losses.{registered_by, sweep_end, sweep_link, sweep_registered, sweep_watch, watch_to}
 use Rattle.dist_model.specs.Monitoring.{register, unregister, unwatch}
 use Rattle.dist_model.specs.Names.{Name, same_name, same_pid}
 use Rattle.dist_model.specs.Node.{Life, Living, Node, end_of, is_living_life, living, never, reaches, traps_life}

@@ -1,6 +1,6 @@
 -- Where nothing travels, a monitor has come to its DOWN, or its target is living and registered.
 use Rattle.dist_model.proofs.Seeing.{connected_at, living_at, local_at, side_in}
-use Rattle.std.proofs.Common.{◌≡◌, ℕ, ◌≤◌, suc, Bool, true, false, cond, not, List, [], ◌∷◌, length, refl, sym, ap, ◌∙◌, subst, arith, ◌&&◌, ◌||◌, Option, Some, None, ◌⊎◌, inl, inr}
+use Rattle.std.proofs.Common.{◌≡◌, suc, Bool, true, false, not, List, [], ◌∷◌, length, refl, sym, ap, ◌∙◌, subst, arith, ◌&&◌, ◌||◌, Option, Some, None, ◌⊎◌, inl, inr}
 use Rattle.std.proofs.lemmas.List.Elements.{All-head, All-tail}
 use Rattle.std.specs.List.{All}
 use Rattle.std.specs.Option.{is_some}
@@ -12,21 +12,20 @@ use Rattle.dist_model.proofs.Histories.{Tale}
 use Rattle.dist_model.proofs.Home.{never_own}
 use Rattle.dist_model.proofs.Keys.{and_both, same_name_is, same_name_true, same_pid_is}
 use Rattle.dist_model.proofs.Linked.{Away, Enrolled, Followed, HomeKnown, Known, PeerOver, Returns, Travels}
-use Rattle.dist_model.proofs.Lists.{none_of_or, or_right}
-use Rattle.dist_model.proofs.Routes.{node_of_name, none_some, side_where_none, some_same}
-use Rattle.dist_model.proofs.Sides.{asks, beside, beside_up, holds, holds_kinds, side_at, up_holds, up_not_gone}
-use Rattle.dist_model.proofs.Table.{Good, has}
-use Rattle.dist_model.proofs.Told.{Called, IsFounded, monitored_one}
+use Rattle.dist_model.proofs.Routes.{node_of_name, side_where_none, some_same}
+use Rattle.dist_model.proofs.Sides.{beside, beside_up, holds_kinds, side_at, up_holds, up_not_gone}
+use Rattle.dist_model.proofs.Table.{has}
+use Rattle.dist_model.proofs.Told.{IsFounded, monitored_one}
 use Rattle.dist_model.proofs.Turning.{is_call, is_end}
 use Rattle.dist_model.proofs.Views.{over}
-use Rattle.dist_model.specs.Downs.{Demonitored, Down, Monitored, answers, downs, same_reference}
+use Rattle.dist_model.specs.Downs.{Down, Monitored, downs, same_reference}
 use Rattle.dist_model.specs.Fates.{DownOrRegistered, IsRegistered, registered_at}
 use Rattle.dist_model.specs.Histories.{History}
 use Rattle.dist_model.specs.Items.{Handshake, Item, Signalled, Tick}
 use Rattle.dist_model.specs.Names.{Name, same_name, same_pid}
 use Rattle.dist_model.specs.Node.{Node, living, side_where}
 use Rattle.dist_model.specs.Quiet.{Over, Quiet, Unconnected, Within, is_of, is_silent}
-use Rattle.dist_model.specs.Seen.{HasSide, is_connected, is_living, local_list}
+use Rattle.dist_model.specs.Seen.{HasSide, is_connected, local_list}
 use Rattle.dist_model.specs.Sides.{State, TrunkSide, is_losing, is_up}
 use Rattle.dist_model.specs.World.{World, is_over, list_to, node_of}
 use Rattle.erl_control.specs.declared.signal.Signal.{Signal}

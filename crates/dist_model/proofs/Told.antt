@@ -1,18 +1,17 @@
 -- What is known of a world and its history, and that an event keeps it.
-use Rattle.std.proofs.Common.{◌≡◌, ℕ, ◌+◌, ◌<◌, ◌≤◌, zero, suc, Bool, true, false, cond, List, [], ◌∷◌, ◌++◌, length, refl, sym, ap, ◌∙◌, subst, arith, ◌&&◌, ◌||◌, not, Option, Some, None, ◌⊎◌, inl, inr, Contains}
+use Rattle.std.proofs.Common.{◌≡◌, ℕ, ◌+◌, ◌<◌, ◌≤◌, zero, suc, Bool, true, false, cond, List, [], ◌∷◌, ◌++◌, length, refl, sym, ap, ◌∙◌, subst, arith, ◌&&◌, Option, Some, None, ◌⊎◌, inl, inr, Contains}
 use Rattle.std.proofs.lemmas.List.Elements.{All-append, All-cons, All-nil, All-push, All-weaker}
 use Rattle.std.specs.List.{All}
-use Rattle.std.specs.Option.{is_some}
 use Rattle.std.specs.FinMap as fm
 use Rattle.std.specs.FinMap.{FinMap}
 use Rattle.dist_model.proofs.Calls.{by_test}
 use Rattle.dist_model.proofs.Founding.{Carried, EndedBefore, Founded, OffNow, founded_by}
-use Rattle.dist_model.proofs.Homing.{TargetsIn, targets_by}
+use Rattle.dist_model.proofs.Homing.{TargetsIn}
 use Rattle.dist_model.proofs.Keys.{same_name_is, same_name_true, same_trunk}
 use Rattle.dist_model.proofs.Routes.{at_place, list_to_carried, node_of_set_other, node_of_set_same, none_some, some_same}
 use Rattle.dist_model.proofs.Turning.{down}
 use Rattle.dist_model.proofs.Views.{over}
-use Rattle.dist_model.specs.Causes.{Ends, HasEnded, TrueCause}
+use Rattle.dist_model.specs.Causes.{HasEnded, TrueCause}
 use Rattle.dist_model.specs.Commands.{Answer, MakeMonitor}
 use Rattle.dist_model.specs.Downs.{Demonitored, Down, Monitored, answers, downs, downs_by, is_answered, is_demonitored}
 use Rattle.dist_model.specs.Histories.{Happening, History}

@@ -1,16 +1,15 @@
 -- What an event does to each monitor: its watch, its registration, its DOWN, and the signals about it.
 use Rattle.erl_handshake.specs.declared.message.ShakeMsg.{ShakeMsg}
 use Rattle.erl_names.specs.Draw as kind
-use Rattle.std.proofs.Common.{◌≡◌, ℕ, Bool, true, false, cond, not, List, [], ◌∷◌, ◌++◌, refl, sym, ap, ◌∙◌, subst, ◌&&◌, ◌||◌, Option, Some, None, ◌⊎◌, inl, inr, append_assoc, append-nil}
-use Rattle.std.proofs.lemmas.List.Elements.{All-cons, All-nil}
+use Rattle.std.proofs.Common.{◌≡◌, Bool, true, false, cond, not, List, [], ◌∷◌, ◌++◌, refl, sym, ap, ◌∙◌, subst, ◌&&◌, ◌||◌, Option, Some, None, ◌⊎◌, inl, inr, append_assoc, append-nil}
 use Rattle.std.specs.FinMap as fm
 use Rattle.std.specs.FinMap.Entries.{find}
 use Rattle.dist_model.proofs.Calls.{by_test}
-use Rattle.dist_model.proofs.Entries.{each_entry, same_reference_is, same_reference_refl, same_reference_true}
-use Rattle.dist_model.proofs.Founding.{Nothing, Quietly, Sends, added_some, all_posts_keep, posts_keep, quietly_all, quietly_post, registered_left, removed_some, watches_left}
+use Rattle.dist_model.proofs.Entries.{same_reference_true}
+use Rattle.dist_model.proofs.Founding.{Nothing, Quietly, Sends, added_some, all_posts_keep, posts_keep, quietly_all, registered_left, removed_some, watches_left}
 use Rattle.dist_model.proofs.Handshaking.{Turned}
-use Rattle.dist_model.proofs.Keys.{and_both, pid_total, same_name_is, same_name_true, same_pid_is, same_pid_true, same_trunk, same_trunk_refl}
-use Rattle.dist_model.proofs.Lists.{or_left, or_right}
+use Rattle.dist_model.proofs.Keys.{and_both, pid_total, same_name_is, same_name_true, same_pid_true, same_trunk, same_trunk_refl}
+use Rattle.dist_model.proofs.Lists.{or_left}
 use Rattle.dist_model.proofs.Moves.{set_life_living}
 use Rattle.dist_model.proofs.Parts.{Closed, Rules}
 use Rattle.dist_model.proofs.Routes.{at_place, none_some, some_same}
@@ -18,7 +17,7 @@ use Rattle.dist_model.proofs.Table.{has}
 use Rattle.dist_model.specs.Downs.{Down, down_in, downs_in, same_reference}
 use Rattle.dist_model.specs.Exits.{buried, demonitors, exits, finish, is_owned, is_target, monitor_exits}
 use Rattle.dist_model.specs.Handshake.{with_side, write}
-use Rattle.dist_model.specs.Items.{Handshake, Item, Signalled, Tick, receiver_of}
+use Rattle.dist_model.specs.Items.{Handshake, Item, Signalled, receiver_of}
 use Rattle.dist_model.specs.Monitoring.{register, unregister, unwatch}
 use Rattle.dist_model.specs.Names.{Name, same_name, same_pid}
 use Rattle.dist_model.specs.Node.{Ended, Life, Living, Node, is_living_life, living, route, route_in}
@@ -30,9 +29,8 @@ use Rattle.erl_term.specs.Data.{Data}
 use Rattle.erl_term.specs.declared.term.Pid.{Pid}
 use Rattle.erl_term.specs.declared.term.Reference.{Reference}
 use Rattle.exit_core.specs.Messages.{down_term}
-use Rattle.link_core.specs.declared.end.End.{End}
-use Rattle.monitor_core.proofs.Order.{reference_cmp_exact, reference_cmp_total}
-use Rattle.monitor_core.specs.Monitors.{MonitorMap, added}
+use Rattle.monitor_core.proofs.Order.{reference_cmp_total}
+use Rattle.monitor_core.specs.Monitors.{added}
 use Rattle.monitor_core.specs.Order.{reference_cmp}
 use Rattle.monitor_core.specs.declared.monitor.Monitor.{Monitor}
 

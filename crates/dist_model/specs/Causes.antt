@@ -1,6 +1,6 @@
 -- Why a process reacts to a link's exit, and why a monitor comes to its end.
 -- (Reference Manual, Processes, Links, Monitors and Receiving Exit Signals; Distributed Erlang.)
-use Rattle.std.specs.Prelude.{◌≡◌, ◌⊎◌, Bool, true, false, List, [], ◌∷◌, Contains}
+use Rattle.std.specs.Prelude.{◌≡◌, ◌⊎◌, false, [], ◌∷◌, Contains}
 use Rattle.dist_model.specs.Histories.{History}
 use Rattle.dist_model.specs.Links.{noconnection, noproc}
 use Rattle.dist_model.specs.Names.{same_name}

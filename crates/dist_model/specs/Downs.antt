@@ -4,7 +4,7 @@ use Rattle.std.specs.Prelude.{◌≡◌, ◌⊎◌, ℕ, ◌+◌, Bool, true, fa
 use Rattle.std.specs.Cmp.Lexicographic.{pointwise}
 use Rattle.std.specs.Ordering.{eq_by_cmp}
 use Rattle.dist_model.specs.Commands.{Answer, EndMonitor, MakeMonitor, Took, Watching}
-use Rattle.dist_model.specs.Histories.{Happening, History}
+use Rattle.dist_model.specs.Histories.{History}
 use Rattle.dist_model.specs.Items.{Signalled}
 use Rattle.dist_model.specs.Work.{Effect, Put}
 use Rattle.dist_model.specs.World.{Arrive, Call, Event, Local, Refused, Report, Reported}

@@ -1,5 +1,5 @@
 -- What holds of every world and of all that happened before it: the exits of links, and the monitors.
-use Rattle.std.specs.Prelude.{◌≡◌, ◌⊎◌, ◌≤◌, Bool, true, false, Option, None, Some, List, [], Contains, length}
+use Rattle.std.specs.Prelude.{◌≡◌, ◌⊎◌, ◌≤◌, true, false, Option, None, Some, [], Contains, length}
 use Rattle.std.specs.FinMap as fm
 use Rattle.dist_model.specs.Causes.{Reacts, TrueCause}
 use Rattle.dist_model.specs.Commands.{MakeLink}

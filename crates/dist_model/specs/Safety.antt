@@ -1,5 +1,4 @@
 -- What holds of every run, at every moment of it: the six claims together.
-use Rattle.std.specs.Prelude.{List}
 use Rattle.dist_model.specs.Claims.{Agreement, AgreementInQuiet, AgreementWithin, NoLinkToItself, NoLinkToTheDead, NoUpBesideLosing, OneTrunk, PendingOnItsWay, PendingWithin}
 use Rattle.dist_model.specs.Fates.{AnsweredOnce, DownOnce, DownOrRegistered, DownToTheOwner, DownsTellTrueCause, NoDownWhereDemonitored, ReactsForTrueCause}
 use Rattle.dist_model.specs.Histories.{History}
