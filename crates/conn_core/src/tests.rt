@@ -1,7 +1,7 @@
 //! Sides driven by hand, message by message, over the bytes that travel.
 use super::*;
 use erl_control::{FrameError, Item};
-use erl_handshake::{Cookie, Flags, Identity, Others, Outcome, ShakeMsg, Status, digest, write};
+use erl_handshake::{Cookie, Flags, Identity, Others, Outcome, ShakeMsg, Status, write};
 use erl_names::{Creation, NodeName, TrunkId};
 use erl_term::{Refusal, TermError};
 use std::alloc::Global;
@@ -67,24 +67,22 @@ fn fresh(alloc: Global, secret: &[u8]) -> Result<Side, Refusal> {
     ))
 }
 
-/// What these bytes are at a side. None: they are no whole item for it.
-fn arrives(alloc: Global, side: &mut Side, bytes: &[u8]) -> Result<Option<Taken>, Refusal> {
+/// What these bytes are at a side.
+fn taken(alloc: Global, side: &mut Side, bytes: &[u8]) -> Result<Taken, Refusal> {
     if !side.is_one_item(bytes) {
-        return Ok(None);
+        return Err(Refusal::NothingThere);
     }
-    Ok(Some(side.arrive(alloc, bytes, CHALLENGE)?))
+    side.arrive(alloc, bytes, CHALLENGE)
 }
 
-/// Whether they are a message, to which these bytes are sent back, or nothing.
-fn is_answered(
-    alloc: Global,
-    side: &mut Side,
-    bytes: &[u8],
-    answer: Option<&[u8]>,
-) -> Result<bool, Refusal> {
-    match &arrives(alloc, side, bytes)? {
-        Some(Taken::Message { send, .. }) => is_written(alloc, send.as_ref(), answer),
-        _ => Ok(false),
+fn is_message(taken: &Taken) -> bool {
+    matches!(taken, Taken::Message { .. })
+}
+
+fn fault(taken: &Taken) -> Option<u8> {
+    match taken {
+        Taken::Broken(fault) => Some(fault.number()),
+        _ => None,
     }
 }
 
@@ -100,6 +98,24 @@ fn is_written(
     }
 }
 
+/// Whether it was a message, to which these bytes are sent back, or nothing.
+fn is_sent(alloc: Global, taken: &Taken, answer: Option<&[u8]>) -> Result<bool, Refusal> {
+    match taken {
+        Taken::Message { send, .. } => is_written(alloc, send.as_ref(), answer),
+        _ => Ok(false),
+    }
+}
+
+fn is_answered(
+    alloc: Global,
+    side: &mut Side,
+    bytes: &[u8],
+    answer: Option<&[u8]>,
+) -> Result<bool, Refusal> {
+    let taken = taken(alloc, side, bytes)?;
+    is_sent(alloc, &taken, answer)
+}
+
 /// Whether these bytes break the side by this number, and leave it so.
 fn is_broken(
     alloc: Global,
@@ -108,17 +124,13 @@ fn is_broken(
     number: u8,
     state: State,
 ) -> Result<bool, Refusal> {
-    match &arrives(alloc, side, bytes)? {
-        Some(Taken::Broken(fault)) => Ok(fault.number() == number && side.state() == state),
-        _ => Ok(false),
-    }
+    let taken = taken(alloc, side, bytes)?;
+    Ok(fault(&taken) == Some(number) && side.state() == state)
 }
 
 fn is_tick(alloc: Global, side: &mut Side) -> Result<bool, Refusal> {
-    match &arrives(alloc, side, &[0, 0, 0, 0])? {
-        Some(Taken::Item(Item::Tick)) => Ok(true),
-        _ => Ok(false),
-    }
+    let taken = taken(alloc, side, &[0, 0, 0, 0])?;
+    Ok(matches!(&taken, Taken::Item(Item::Tick)))
 }
 
 fn stands(side: &Side, state: State, peer_creation: Option<u32>) -> bool {
@@ -139,12 +151,10 @@ fn keeps(side: &mut Side, state: State) -> bool {
     matches!(&side.lose(), Err(Refusal::NotLive)) && side.state() == state
 }
 
-/// Takes a message that goes through. None of these tests goes on where it doesn't.
+/// Takes a message that goes through.
 fn takes(alloc: Global, side: &mut Side, bytes: &[u8]) -> Result<(), Refusal> {
-    match &arrives(alloc, side, bytes)? {
-        Some(Taken::Message { .. }) => Ok(()),
-        _ => Err(Refusal::BadMessage),
-    }
+    let taken = taken(alloc, side, bytes)?;
+    is_message(&taken).then_some(()).ok_or(Refusal::BadMessage)
 }
 
 /// The side of a@h that is up.
@@ -177,109 +187,147 @@ fn asked(alloc: Global) -> Result<Side, Refusal> {
 }
 
 /// The side of a@h as its node makes it, and the first message.
+fn is_dialed(alloc: Global, side: &Side, message: &ShakeMsg) -> Result<bool, Refusal> {
+    let is_right = stands(side, State::Dialing, None) && is_between(side, "a@h", 7, "b@h");
+    Ok(is_written(alloc, Some(message), Some(&SEND_NAME))? && is_right)
+}
+
 #[test]
 fn a_side_that_dials(rt: HostRuntime) -> Result<(), Fail> {
     let alloc = rt.alloc();
     let own = identity(alloc, "a@h", SECRET)?;
     let (side, message) = Side::dial(own, 7, NodeName::read(alloc, "b@h")?, CHALLENGE)?;
-    assert!(rt; is_written(alloc, Some(&message), Some(&SEND_NAME))?);
-    assert!(rt; stands(&side, State::Dialing, None));
-    assert!(rt; is_between(&side, "a@h", 7, "b@h"));
+    assert!(rt; is_dialed(alloc, &side, &message)?);
     Ok(())
+}
+
+fn dialer_shakes(alloc: Global, side: &mut Side) -> Result<bool, Refusal> {
+    Ok(
+        is_answered(alloc, side, &OK, None)?
+            && stands(side, State::Dialing, None)
+            && is_answered(alloc, side, &CHALLENGES, Some(&REPLIES))?
+            && stands(side, State::Dialing, Some(1))
+            && is_answered(alloc, side, &ACKNOWLEDGES, None)?
+            && stands(side, State::Up, Some(1)),
+    )
 }
 
 #[test]
 fn full_handshake_of_the_dialer(rt: HostRuntime) -> Result<(), Fail> {
     let alloc = rt.alloc();
     let mut side = dialing(alloc)?;
-    assert!(rt; is_answered(alloc, &mut side, &OK, None)?);
-    assert!(rt; stands(&side, State::Dialing, None));
-    assert!(rt; is_answered(alloc, &mut side, &CHALLENGES, Some(&REPLIES))?);
-    assert!(rt; stands(&side, State::Dialing, Some(1)));
-    assert!(rt; is_answered(alloc, &mut side, &ACKNOWLEDGES, None)?);
-    assert!(rt; stands(&side, State::Up, Some(1)));
+    assert!(rt; dialer_shakes(alloc, &mut side)?);
     Ok(())
 }
 
-#[test]
-fn a_side_that_is_dialed(rt: HostRuntime) -> Result<(), Fail> {
-    let alloc = rt.alloc();
-    let mut side = fresh(alloc, SECRET)?;
-    assert!(rt; stands(&side, State::Fresh, None));
-    assert!(rt; is_between(&side, "a@h", 1, "a@h"));
-    assert!(rt; is_answered(alloc, &mut side, &SEND_NAME, None)?);
-    let admission = side.admit(ALONE)?;
-    assert!(rt; is_written(alloc, admission.next.send.as_ref(), Some(&OK))?);
+/// What is sent when the node admits the attempt, beside these others.
+fn is_told(side: &mut Side, others: Others, status: Status) -> Result<bool, Refusal> {
+    let admission = side.admit(others)?;
+    Ok(admission.next.send == Some(ShakeMsg::Status(status)))
+}
+
+/// What is sent when the node lets the challenge be sent.
+fn is_challenged(alloc: Global, side: &mut Side) -> Result<bool, Refusal> {
     let next = side.go_on()?;
-    assert!(rt; is_written(alloc, next.send.as_ref(), Some(&CHALLENGES))?);
-    Ok(())
+    is_written(alloc, next.send.as_ref(), Some(&CHALLENGES))
+}
+
+fn acceptor_shakes(alloc: Global, side: &mut Side) -> Result<bool, Refusal> {
+    Ok(
+        stands(side, State::Fresh, None)
+            && is_answered(alloc, side, &SEND_NAME, None)?
+            && is_told(side, ALONE, Status::Ok)?
+            && is_challenged(alloc, side)?
+            && stands(side, State::Accepting, Some(1))
+            && is_answered(alloc, side, &REPLIES, Some(&ACKNOWLEDGES))?
+            && stands(side, State::Up, Some(1))
+            && is_tick(alloc, side)?,
+    )
 }
 
 #[test]
 fn full_handshake_of_the_acceptor(rt: HostRuntime) -> Result<(), Fail> {
     let alloc = rt.alloc();
-    let mut side = accepting(alloc, SECRET)?;
-    assert!(rt; stands(&side, State::Accepting, Some(1)));
-    assert!(rt; is_answered(alloc, &mut side, &REPLIES, Some(&ACKNOWLEDGES))?);
-    assert!(rt; stands(&side, State::Up, Some(1)));
-    assert!(rt; is_tick(alloc, &mut side)?);
+    let mut side = fresh(alloc, SECRET)?;
+    assert!(rt; is_between(&side, "a@h", 1, "a@h"));
+    assert!(rt; acceptor_shakes(alloc, &mut side)?);
     Ok(())
 }
 
 /// There is a connection already: the dialer goes on, and waits until the old one is cleared away.
+fn asked_goes_on(alloc: Global, side: &mut Side) -> Result<bool, Refusal> {
+    Ok(
+        stands(side, State::Asked, Some(1))
+            && matches!(&side.go_on(), Err(Refusal::NothingThere))
+            && is_answered(alloc, side, &TRUE, None)?
+            && stands(side, State::Parked, Some(1))
+            && is_challenged(alloc, side)?
+            && stands(side, State::Accepting, Some(1)),
+    )
+}
+
 #[test]
 fn an_asked_dialer(rt: HostRuntime) -> Result<(), Fail> {
     let alloc = rt.alloc();
     let mut side = asked(alloc)?;
-    assert!(rt; side.state() == State::Asked);
-    assert!(rt; matches!(&side.go_on(), Err(Refusal::NothingThere)));
-    assert!(rt; is_answered(alloc, &mut side, &TRUE, None)?);
-    assert!(rt; side.state() == State::Parked);
-    let next = side.go_on()?;
-    assert!(rt; next.outcome == Outcome::Go);
-    assert!(rt; is_written(alloc, next.send.as_ref(), Some(&CHALLENGES))?);
-    assert!(rt; side.state() == State::Accepting);
+    assert!(rt; asked_goes_on(alloc, &mut side)?);
     Ok(())
 }
 
 /// The other side of that: `alive` is answered by `true`.
+fn goes_on_when_asked(alloc: Global, side: &mut Side) -> Result<bool, Refusal> {
+    let alive = [0, 6, 0x73, 0x61, 0x6C, 0x69, 0x76, 0x65];
+    Ok(
+        is_answered(alloc, side, &alive, Some(&TRUE))?
+            && is_answered(alloc, side, &CHALLENGES, Some(&REPLIES))?,
+    )
+}
+
 #[test]
 fn a_dialer_that_is_asked(rt: HostRuntime) -> Result<(), Fail> {
     let alloc = rt.alloc();
     let mut side = dialing(alloc)?;
-    let alive = write(alloc, &ShakeMsg::Status(Status::Alive))?;
-    assert!(rt; is_answered(alloc, &mut side, &alive, Some(&TRUE))?);
-    assert!(rt; is_answered(alloc, &mut side, &CHALLENGES, Some(&REPLIES))?);
+    assert!(rt; goes_on_when_asked(alloc, &mut side)?);
     Ok(())
 }
 
 /// A later attempt goes on: the side is gone, and its node says 15.
+fn gives_way(side: &mut Side) -> Result<bool, Refusal> {
+    let admission = side.admit(Others {
+        waiting: Some(2),
+        ..ALONE
+    })?;
+    Ok(admission.next.outcome == Outcome::Ended(Refusal::Superseded))
+}
+
 #[test]
 fn a_late_attempt(rt: HostRuntime) -> Result<(), Fail> {
     let alloc = rt.alloc();
     let mut side = fresh(alloc, SECRET)?;
     takes(alloc, &mut side, &SEND_NAME)?;
-    let admission = side.admit(Others {
-        waiting: Some(2),
-        ..ALONE
-    })?;
-    assert!(rt; admission.next.outcome == Outcome::Ended(Refusal::Superseded));
-    assert!(rt; side.state() == State::Gone);
-    assert!(rt; matches!(&side.admit(ALONE), Err(Refusal::NothingThere)));
+    assert!(rt; gives_way(&mut side)?);
+    assert!(rt; stands(&side, State::Gone, None));
+    assert!(rt; matches!(&gives_way(&mut side), Err(Refusal::NothingThere)));
     Ok(())
 }
 
 #[test]
-fn wrong_cookies(rt: HostRuntime) -> Result<(), Fail> {
+fn wrong_reply(rt: HostRuntime) -> Result<(), Fail> {
     let alloc = rt.alloc();
     let mut side = accepting(alloc, b"d")?;
     assert!(rt; is_broken(alloc, &mut side, &REPLIES, 13, State::Gone)?);
+    Ok(())
+}
+
+#[test]
+fn wrong_acknowledgement(rt: HostRuntime) -> Result<(), Fail> {
+    let alloc = rt.alloc();
     let mut side = dialing(alloc)?;
     takes(alloc, &mut side, &OK)?;
     takes(alloc, &mut side, &CHALLENGES)?;
-    let digest = digest(b"d", CHALLENGE);
-    let ack = write(alloc, &ShakeMsg::ChallengeAck { digest })?;
-    assert!(rt; is_broken(alloc, &mut side, &ack, 13, State::Gone)?);
+    let mut other = ACKNOWLEDGES;
+    other[18] = 0;
+    assert!(rt; is_broken(alloc, &mut side, &other, 13, State::Gone)?);
     Ok(())
 }
 
@@ -292,17 +340,20 @@ fn with(place: usize, byte: u8) -> [u8; 20] {
     bytes
 }
 
+/// What these bytes do to a side of b@h that is fresh.
+fn breaks_fresh(alloc: Global, bytes: &[u8], number: u8) -> Result<bool, Refusal> {
+    let mut side = fresh(alloc, SECRET)?;
+    is_broken(alloc, &mut side, bytes, number, State::Gone)
+}
+
 /// Another name, a missing flag, another letter, and a message of no bytes.
 #[test]
 fn other_names(rt: HostRuntime) -> Result<(), Fail> {
     let alloc = rt.alloc();
-    let faults: [(usize, u8, u8); 3] = [(17, 0x63, 20), (7, 1, 11), (2, 0x6E, 10)];
-    for (place, byte, number) in faults {
-        let mut side = fresh(alloc, SECRET)?;
-        assert!(rt; is_broken(alloc, &mut side, &with(place, byte), number, State::Gone)?);
-    }
-    let mut side = fresh(alloc, SECRET)?;
-    assert!(rt; is_broken(alloc, &mut side, &[0, 0], 10, State::Gone)?);
+    assert!(rt; breaks_fresh(alloc, &with(17, 0x63), 20)?);
+    assert!(rt; breaks_fresh(alloc, &with(7, 1), 11)?);
+    assert!(rt; breaks_fresh(alloc, &with(2, 0x6E), 10)?);
+    assert!(rt; breaks_fresh(alloc, &[0, 0], 10)?);
     Ok(())
 }
 
@@ -313,49 +364,65 @@ fn bytes_behind_the_name(rt: HostRuntime) -> Result<(), Fail> {
     let mut long = [0; 22];
     long[..20].copy_from_slice(&SEND_NAME);
     long[1] = 20;
-    assert!(rt; is_answered(alloc, &mut fresh(alloc, SECRET)?, &long, None)?);
+    let mut side = fresh(alloc, SECRET)?;
+    assert!(rt; is_answered(alloc, &mut side, &long, None)?);
     Ok(())
+}
+
+/// What these bytes do to a side of a@h that dials.
+fn breaks_dialing(alloc: Global, bytes: &[u8], number: u8) -> Result<bool, Refusal> {
+    let mut side = dialing(alloc)?;
+    is_broken(alloc, &mut side, bytes, number, State::Gone)
 }
 
 /// A status that isn't due, or ends the attempt.
 #[test]
 fn statuses(rt: HostRuntime) -> Result<(), Fail> {
     let alloc = rt.alloc();
-    assert!(rt; is_broken(alloc, &mut dialing(alloc)?, &TRUE, 10, State::Gone)?);
-    let nok = write(alloc, &ShakeMsg::Status(Status::Nok))?;
-    assert!(rt; is_broken(alloc, &mut dialing(alloc)?, &nok, 14, State::Gone)?);
-    let not = write(alloc, &ShakeMsg::Status(Status::False))?;
-    assert!(rt; is_broken(alloc, &mut asked(alloc)?, &not, 14, State::Gone)?);
+    assert!(rt; breaks_dialing(alloc, &TRUE, 10)?);
+    assert!(rt; breaks_dialing(alloc, &[0, 4, 0x73, 0x6E, 0x6F, 0x6B], 14)?);
+    let mut side = asked(alloc)?;
+    let not = [0, 6, 0x73, 0x66, 0x61, 0x6C, 0x73, 0x65];
+    assert!(rt; is_broken(alloc, &mut side, &not, 14, State::Gone)?);
     Ok(())
+}
+
+/// What these bytes do to a side that is up, which then takes nothing more.
+fn breaks_up(alloc: Global, bytes: &[u8], number: u8) -> Result<bool, Refusal> {
+    let mut side = dialer_up(alloc)?;
+    Ok(
+        is_broken(alloc, &mut side, bytes, number, State::Losing)?
+            && stands(&side, State::Losing, Some(1))
+            && matches!(
+                &taken(alloc, &mut side, &[0, 0, 0, 0]),
+                Err(Refusal::NotLive)
+            ),
+    )
 }
 
 /// A frame that can't be read leaves a side that was up Losing, by its own number.
 #[test]
 fn faulty_frames(rt: HostRuntime) -> Result<(), Fail> {
     let alloc = rt.alloc();
-    let faults: [(&[u8], u8); 4] = [
-        (&[0, 0, 0, 2, 131, 97], 6),
-        (&[0, 0, 0, 4, 112, 131, 97, 1], 7),
-        (&[0, 1, 0, 1], 8),
-        (&[0, 0, 0, 1, 112], 9),
-    ];
-    for (bytes, number) in faults {
-        let mut side = dialer_up(alloc)?;
-        assert!(rt; is_broken(alloc, &mut side, bytes, number, State::Losing)?);
-        assert!(rt; matches!(&side.arrive(alloc, &[0, 0, 0, 0], 0), Err(Refusal::NotLive)));
-    }
+    assert!(rt; breaks_up(alloc, &[0, 0, 0, 2, 131, 97], 6)?);
+    assert!(rt; breaks_up(alloc, &[0, 0, 0, 4, 112, 131, 97, 1], 7)?);
+    assert!(rt; breaks_up(alloc, &[0, 1, 0, 1], 8)?);
+    assert!(rt; breaks_up(alloc, &[0, 0, 0, 1, 112], 9)?);
     Ok(())
+}
+
+/// A side that was up is lost, and cleared away.
+fn is_lost_and_cleared(side: &mut Side) -> bool {
+    let is_lost = loses(side, State::Losing) && keeps(side, State::Losing);
+    side.close();
+    is_lost && keeps(side, State::Gone) && stands(side, State::Gone, None)
 }
 
 #[test]
 fn lost_sides(rt: HostRuntime) -> Result<(), Fail> {
     let alloc = rt.alloc();
     let mut up = dialer_up(alloc)?;
-    assert!(rt; loses(&mut up, State::Losing));
-    assert!(rt; keeps(&mut up, State::Losing));
-    up.close();
-    assert!(rt; keeps(&mut up, State::Gone));
-    assert!(rt; stands(&up, State::Gone, None));
+    assert!(rt; is_lost_and_cleared(&mut up));
     Ok(())
 }
 
@@ -364,7 +431,6 @@ fn lost_attempts(rt: HostRuntime) -> Result<(), Fail> {
     let alloc = rt.alloc();
     assert!(rt; loses(&mut asked(alloc)?, State::Gone));
     assert!(rt; loses(&mut dialing(alloc)?, State::Gone));
-    assert!(rt; loses(&mut accepting(alloc, SECRET)?, State::Gone));
     assert!(rt; keeps(&mut fresh(alloc, SECRET)?, State::Fresh));
     Ok(())
 }
@@ -380,16 +446,13 @@ fn fronts(side: &Side, bytes: &[u8]) -> usize {
     taken
 }
 
-/// An item that is cut at any byte is no item, and one with a byte behind it isn't one.
+/// An item that is cut at any byte is no item.
 #[test]
 fn cut_items(rt: HostRuntime) -> Result<(), Fail> {
     let alloc = rt.alloc();
     assert!(rt; fronts(&fresh(alloc, SECRET)?, &SEND_NAME) == 0);
     assert!(rt; fronts(&dialing(alloc)?, &CHALLENGES) == 0);
     assert!(rt; fronts(&dialer_up(alloc)?, &[0, 0, 0, 2, 112, 131]) == 0);
-    let mut long = [0; 21];
-    long[..20].copy_from_slice(&SEND_NAME);
-    assert!(rt; !fresh(alloc, SECRET)?.is_one_item(&long));
     Ok(())
 }
 
@@ -401,7 +464,6 @@ fn each_allocation(rt: HostRuntime) -> Result<(), Fail> {
     takes(alloc, &mut side, &REPLIES)?;
     dialer_up(alloc)?;
     up_only_by_digest();
-    let fault = Fault::Frame(FrameError::Term(TermError::Cut));
-    assert!(rt; fault.number() == 9);
+    assert!(rt; Fault::Frame(FrameError::Term(TermError::Cut)).number() == 9);
     Ok(())
 }

@@ -17,7 +17,7 @@ use Rattle.dist_model.proofs.Pairs.{Met, WorldKept}
 use Rattle.dist_model.proofs.Primitives.{good_pushed}
 use Rattle.dist_model.proofs.Reside.{Holder, blank, held_by, side_after_other, side_after_same, with_side_at}
 use Rattle.dist_model.proofs.Routes.{node_of_name, node_of_set_other, node_of_set_same, side_where_found, some_same}
-use Rattle.dist_model.proofs.Seeing.{end_in}
+use Rattle.dist_model.proofs.Seeing.{close_if, end_in}
 use Rattle.dist_model.proofs.Sides.{SidesKept, asks, beside, holds, joined, side_at}
 use Rattle.dist_model.proofs.Steps.{kind, not_beside}
 use Rattle.dist_model.proofs.Sweeping.{good_closed, good_unparked, sweep_moves}
@@ -27,7 +27,7 @@ use Rattle.dist_model.specs.Handshake.{challenge, set_state, with_side, write}
 use Rattle.dist_model.specs.Incarnations.{all_gone, started, stopped}
 use Rattle.dist_model.specs.Items.{Handshake, Item, Signalled, news, news_in, telling}
 use Rattle.dist_model.specs.Links.{LinkNews}
-use Rattle.dist_model.specs.Losses.{any_side, close, close_if, has_records, link_to, parked_by, parked_goes, sweep, sweep_by, sweep_link, swept}
+use Rattle.dist_model.specs.Losses.{any_side, close, has_records, link_to, parked_by, parked_goes, sweep, sweep_by, sweep_link, swept}
 use Rattle.dist_model.specs.Names.{Name, pair_cmp, place_cmp, same_name, same_pid}
 use Rattle.dist_model.specs.Node.{Node, end_of, is_living_life, never, side_where}
 use Rattle.dist_model.specs.Sides.{Accepting, Asked, AwaitsAck, AwaitsChallenge, AwaitsStatus, Gone, Losing, Parked, State, TrunkSide, Up, is_gone, is_losing, is_parked, is_up}

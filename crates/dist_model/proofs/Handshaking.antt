@@ -19,7 +19,7 @@ use Rattle.dist_model.specs.Arrivals
 use Rattle.dist_model.specs.Commands.{Goes, Outcome, Took}
 use Rattle.dist_model.specs.Handshake.{challenge, end_up, fault, go_on, set_state, with_side, write}
 use Rattle.dist_model.specs.Items.{Handshake, Item}
-use Rattle.dist_model.specs.Losses.{close_if, has_records, lose, lose_at, parked_by, parked_goes, swept}
+use Rattle.dist_model.specs.Losses.{close, has_records, lose, lose_at, parked_by, parked_goes, swept}
 use Rattle.dist_model.specs.Names.{Name}
 use Rattle.dist_model.specs.Node.{Node, side_where}
 use Rattle.dist_model.specs.Sides.{Accepting, Asked, AwaitsAck, AwaitsChallenge, AwaitsStatus, Gone, Losing, Parked, State, TrunkSide, Up, is_dialing, is_losing, is_parked, is_up, is_waiting, lost}
@@ -387,7 +387,7 @@ module _ (X : Work → Type 0) (side : (t : TrunkId) (s : TrunkSide) (o : Work) 
   pub swept_kept : (t : TrunkId) (s : TrunkSide) (o : Work) → side_at o.node t ≡ Some s → X o → X (swept t s o)
   swept_kept t s o h k = go (has_records s.peer o.node) refl
     where
-      go : (b : Bool) → has_records s.peer o.node ≡ b → X (close_if b t s o)
+      go : (b : Bool) → has_records s.peer o.node ≡ b → X (cond b o (close t s o))
       go true e = k
       go false e =
           let o1 = set_state t s Gone o in

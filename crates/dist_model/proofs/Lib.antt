@@ -32,6 +32,8 @@ pub mod Fitting
 pub mod Happening
 pub mod Downing
 pub mod Giving
+pub mod Ordering
+pub mod Tabled
 pub mod Handshaking
 pub mod Parts
 pub mod Entries

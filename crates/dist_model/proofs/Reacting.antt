@@ -14,7 +14,7 @@ use Rattle.dist_model.proofs.Moves.{NodeKept}
 use Rattle.dist_model.proofs.Pair.{later}
 use Rattle.dist_model.proofs.Routes.{node_of_name}
 use Rattle.dist_model.proofs.Rules.{awaits_ack, awaits_challenge, awaits_name, awaits_reply, awaits_status, awaits_true, greet, greet_dialing, greet_up, greet_waiting, handshake_as, handshake_by, name_as}
-use Rattle.dist_model.proofs.Seeing.{end_at, end_in, reached_at, replies}
+use Rattle.dist_model.proofs.Seeing.{close_if, end_at, end_in, reached_at, replies}
 use Rattle.dist_model.proofs.Sweeping.{link_found}
 use Rattle.dist_model.proofs.Table.{Good}
 use Rattle.dist_model.specs.Admission.{give_up, hears_name}
@@ -31,7 +31,7 @@ use Rattle.dist_model.specs.Incarnations.{start, stop}
 use Rattle.dist_model.specs.Items.{Handshake, Item, Signalled, Tick, receiver_of, telling}
 use Rattle.dist_model.specs.Linking.{exit_follows, link_by, link_new, take_link, take_link_by, unlink_by}
 use Rattle.dist_model.specs.Links.{Exits, LinkNews, Says, heard, noconnection, noproc, reply}
-use Rattle.dist_model.specs.Losses.{any_side, close_if, has_records, link_to, lose, lose_at, parked_by, parked_goes, registered_by, sweep, sweep_by, sweep_end, sweep_link, sweep_registered, sweep_watch, swept, watch_to}
+use Rattle.dist_model.specs.Losses.{any_side, has_records, link_to, lose, lose_at, parked_by, parked_goes, registered_by, sweep, sweep_by, sweep_end, sweep_link, sweep_registered, sweep_watch, swept, watch_to}
 use Rattle.dist_model.specs.Monitoring.{demonitor_by, register, unregister, unwatch, watch}
 use Rattle.dist_model.specs.Names.{Name, place_cmp, same_name, same_pid}
 use Rattle.dist_model.specs.Node.{Node, end_of, living, never, reaches, route, side_where, traps_life}

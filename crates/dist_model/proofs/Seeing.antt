@@ -1,14 +1,16 @@
 -- What is seen of a node, if there is one, and of maps that hold nothing for a key.
-use Rattle.std.proofs.Common.{map, ℕ, Bool, false, List, [], Option, None, ◌||◌}
+use Rattle.std.proofs.Common.{cond, map, ℕ, Bool, false, List, [], Option, None, ◌||◌}
 use Rattle.std.specs.Option.{is_some, unwrap_or}
 use Rattle.std.specs.FinMap as fm
 use Rattle.dist_model.specs.Items.{Item, news, telling}
 use Rattle.dist_model.specs.Links.{LinkNews}
+use Rattle.dist_model.specs.Losses.{close}
 use Rattle.dist_model.specs.Names.{Name}
 use Rattle.dist_model.specs.Node.{Node, end_of, living, reaches, side_where}
 use Rattle.dist_model.specs.Runs.{new_node}
 use Rattle.dist_model.specs.Seen.{seen}
 use Rattle.dist_model.specs.Sides.{TrunkSide, is_losing, is_up}
+use Rattle.dist_model.specs.Work.{Work}
 use Rattle.erl_control.specs.declared.signal.Signal.{Signal}
 use Rattle.erl_names.specs.declared.trunk.TrunkId.{TrunkId}
 use Rattle.erl_term.specs.declared.term.Pid.{Pid}
@@ -46,3 +48,6 @@ replies p q news = map (telling p q) news
 
 abbrev pub new_nodes : List (Name × List ℕ) → List Node
 new_nodes cs = map (λ (c : Name × List ℕ). new_node c.0 c.1) cs
+
+abbrev pub close_if : Bool → TrunkId → TrunkSide → Work → Work
+close_if kept t s o = cond kept o (close t s o)

@@ -1,15 +1,15 @@
 -- What holds of every world that events lead to.
-use Rattle.std.specs.Prelude.{◌≡◌, ◌⊎◌, ◌↔◌, Some, ℕ, true, false, Contains}
+use Rattle.std.specs.Prelude.{List, ◌∷◌, ◌++◌, ◌≡◌, ◌⊎◌, ◌↔◌, Some, ℕ, true, false, Contains}
 use Rattle.dist_model.specs.Causes.{Reacts}
 use Rattle.dist_model.specs.Commands.{MakeLink}
-use Rattle.dist_model.specs.Items.{news}
+use Rattle.dist_model.specs.Items.{Item, news}
 use Rattle.dist_model.specs.Links.{Says, drained, last_said}
 use Rattle.dist_model.specs.Names.{Name}
 use Rattle.dist_model.specs.Node.{Node, living, never}
 use Rattle.dist_model.specs.Quiet.{Quiet}
 use Rattle.dist_model.specs.Seen.{AreConnected, HasSide, end_between, is_connected, is_living, is_reached, local_list}
 use Rattle.dist_model.specs.Sides.{is_losing, is_up}
-use Rattle.dist_model.specs.World.{Call, Event, World, list_to, node_of, step}
+use Rattle.dist_model.specs.World.{Arrive, Call, Event, World, list_to, node_of, step}
 use Rattle.erl_names.specs.declared.trunk.TrunkId.{TrunkId}
 use Rattle.erl_term.specs.Data.{Data}
 use Rattle.erl_term.specs.declared.term.Pid.{Pid}
@@ -77,3 +77,18 @@ NoUpBesideLosing w = (x y : Name) (t u : TrunkId) → HasSide w x t y is_up → 
 abbrev pub ReactsOnlyWhereLinked : World → Type 0
 ReactsOnlyWhereLinked w = (e : Event) (p q : Pid) (reason : Data) → Reacts p q reason ((step w e).report)
     → (end_between w p q ≡ End.Active) ⊎ ((e ≡ Call p.node (MakeLink p q)) × (is_reached w p q.node ≡ false))
+
+-- ---- Order. (Reference Manual, Processes, Delivery of Signals)
+
+-- items come behind those that are on their way
+abbrev pub Grows : List Item → List Item → Type 0
+Grows old new = (more : List Item) × (new ≡ old ++ more)
+
+-- the first one is taken
+abbrev pub LosesFirst : List Item → List Item → Type 0
+LosesFirst old new = (first : Item) × (rest : List Item) × (old ≡ first ∷ rest) × Grows rest new
+
+-- whatever comes next, what travels on a trunk to a node keeps its order, and is taken only as it comes to that node
+abbrev pub KeepsOrder : World → Type 0
+KeepsOrder w = (e : Event) (t : TrunkId) (x : Name) → let new = list_to ((step w e).world).lists t x in
+    Grows (list_to w.lists t x) new ⊎ (((word : ℕ) × (e ≡ Arrive t x word)) × LosesFirst (list_to w.lists t x) new)

@@ -1,6 +1,6 @@
 -- A connection is lost, and the records of processes beyond it are swept, one at a time.
 -- (Reference Manual, Processes, Links and Monitors; Distributed Erlang. That records go one at a time is own.)
-use Rattle.std.specs.Prelude.{Option, None, Some, is_some, Bool, true, false, if◌then◌else◌, List, ◌||◌}
+use Rattle.std.specs.Prelude.{Option, None, Some, is_some, Bool, if◌then◌else◌, List, ◌||◌}
 use Rattle.std.specs.FinMap as fm
 use Rattle.dist_model.specs.Commands.{Done, Goes, Outcome, Refuses, Sweeps, Swept, SweptLink, SweptRegistration, SweptSide, SweptWatch}
 use Rattle.dist_model.specs.Exits.{link_exit}
@@ -80,12 +80,8 @@ close trunk side work =
     let closed = set_state trunk side Gone work in
     parked_goes (side_where is_parked side.peer (fm.entries closed.node.sides)) closed
 
-abbrev pub close_if : Bool → TrunkId → TrunkSide → Work → Work
-close_if true trunk side work = work
-close_if false trunk side work = close trunk side work
-
 abbrev pub swept : TrunkId → TrunkSide → Work → Work
-swept trunk side work = close_if (has_records side.peer work.node) trunk side work
+swept trunk side work = if has_records side.peer work.node then work else close trunk side work
 
 -- ---- a sweep takes the least record of the least trunk that is lost
 

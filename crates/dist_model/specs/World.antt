@@ -79,7 +79,7 @@ arrives_first world node trunk name word side (item ∷ rest) = ends_in world na
 abbrev pub is_over : State → Bool
 is_over state = is_losing state || is_gone state
 
--- a side that the node doesn't know is Fresh where another dialed it, and else it counts as gone
+-- a side that the node doesn't know is fresh where its peer has sent something, and else it counts as gone
 abbrev pub arrives : World → Node → TrunkId → Name → ℕ → Option TrunkSide → Stepped
 arrives world node trunk name word None =
     if is_some (fm.get world.lists (trunk, name)) && not (same_name trunk.dialer name)

@@ -1,8 +1,9 @@
-//! Laws of every world that events lead to. Each function does nothing: its contract is the law.
+//! Laws of the abstract world. Each function does nothing: its contract is the law.
 //!
-//! Every law is of every world to which any list of events leads, from any opening world, with or
-//! without memory; and so of each moment of every run.
-ghost use Rattle.std.specs.Prelude.{◌≡◌, ◌↔◌, ℕ, List, [], ◌∷◌, ◌++◌, true, Some};
+//! A law of `Always` is of every world to which any list of events leads, from any opening world,
+//! with or without memory; and so of each moment of every run. The others are of all worlds, or of
+//! the definitions.
+ghost use Rattle.std.specs.Prelude.{◌≡◌, ◌↔◌, ℕ, List, [], ◌∷◌, ◌++◌, true, false, Some};
 ghost use Rattle.erl_term.specs.declared.term.Pid.{Pid};
 ghost use Rattle.erl_term.specs.declared.term.Reference.{Reference};
 ghost use Rattle.exit_core.specs.Messages.{down_term};
@@ -14,19 +15,21 @@ ghost use Rattle.dist_model.specs.Fits.{fits};
 ghost use Rattle.dist_model.specs.Links.{LinkNews};
 ghost use Rattle.dist_model.specs.Items.{Signalled, telling, news_in};
 ghost use Rattle.link_core.specs.declared.end.End.{End};
+ghost use Rattle.link_core.specs.Table.{linked, unlinked};
+ghost use Rattle.dist_model.specs.Linking.{link, unlink_as};
 ghost use Rattle.dist_model.specs.World.{World, Event, Report, Refused};
 ghost use Rattle.dist_model.specs.Quiet.{Quiet, is_quiet};
 ghost use Rattle.dist_model.specs.Runs.{Comes, Runs, run, Always};
 ghost use Rattle.std.specs.FinMap as map;
 ghost use Rattle.erl_names.specs.declared.trunk.TrunkId.{TrunkId};
-ghost use Rattle.dist_model.specs.Names.{Name};
+ghost use Rattle.dist_model.specs.Names.{Name, same_pid};
 ghost use Rattle.dist_model.specs.Sides.{TrunkSide, is_waiting};
-ghost use Rattle.dist_model.specs.Node.{Node, side_where};
+ghost use Rattle.dist_model.specs.Node.{Node, side_where, end_of, reaches};
 ghost use Rattle.dist_model.specs.Work.{at_work};
 ghost use Rattle.dist_model.specs.Admission.{give_up, others};
 ghost use Rattle.dist_model.specs.Seen.{end_between, AreConnected};
 ghost use Rattle.dist_model.specs.Schedules as schedule;
-ghost use Rattle.dist_model.specs.Claims.{Agreement, AgreementWithin, AgreementInQuiet, PendingOnItsWay, PendingWithin, NoLinkToTheDead, NoLinkToItself, LinkNeedsConnection, LivingWasSpawned, OneTrunk, NoUpBesideLosing, ReactsOnlyWhereLinked};
+ghost use Rattle.dist_model.specs.Claims.{Agreement, AgreementWithin, AgreementInQuiet, PendingOnItsWay, PendingWithin, NoLinkToTheDead, NoLinkToItself, LinkNeedsConnection, LivingWasSpawned, OneTrunk, NoUpBesideLosing, KeepsOrder, ReactsOnlyWhereLinked};
 ghost use Rattle.dist_model.specs.Histories.{Throughout};
 ghost use Rattle.dist_model.specs.Fates.{ReactsForTrueCause, ExitsTellTrueCause, ExitsTellTrueCauseWithin, AnsweredOnce, DownOnce, DownToTheOwner, NoDownWhereDemonitored, DownsTellTrueCause, DownOrRegistered};
 ghost use Rattle.dist_model.specs.Safety.{Safe};
@@ -40,8 +43,9 @@ pub fn agreement()
     ensures quiet { Always AgreementInQuiet }
 {}
 
-/// A link that was taken back waits for an acknowledgement that is to come. (ERTS User's Guide,
-/// Distribution Protocol, New Link Protocol.)
+/// Where an end waits for an acknowledgement, its UNLINK_ID is the last LINK or UNLINK_ID on the way
+/// to the partner, or the acknowledgement is on its way back. (ERTS User's Guide, Distribution
+/// Protocol, New Link Protocol.)
 pub fn pending()
     ensures connected { Always PendingOnItsWay }
     ensures within { Always PendingWithin }
@@ -119,6 +123,20 @@ pub fn fits_test()
 /// Events lead somewhere, whatever they are: where memory never wants, to the world of their steps.
 pub fn events_run()
     ensures runs { (events : List Event) (world : World) → (reports : List Report) × Runs world events reports (run events world) }
+{}
+
+/// What a process makes of its end by linking and unlinking is what link_core's table says. (ERTS
+/// User's Guide, Distribution Protocol, New Link Protocol.)
+pub fn calls_follow_the_table()
+    ensures link { (node : Node) (p q : Pid) → same_pid p q ≡ false → reaches node q.node ≡ true →
+        end_of ((link p q (at_work node)).node) p q ≡ linked (end_of node p q) }
+    ensures unlink { (node : Node) (p q : Pid) (id : ℕ) → end_of node p q ≡ End.Active →
+        end_of ((unlink_as id p q (at_work node)).node) p q ≡ unlinked (end_of node p q) id }
+{}
+
+/// What travels to a node keeps its order. (Reference Manual, Processes, Delivery of Signals.)
+pub fn order_is_kept()
+    ensures kept { (world : World) → KeepsOrder world }
 {}
 
 /// An event that is refused changes nothing.

@@ -1,4 +1,4 @@
-use Rattle.std.proofs.Common.{◌≡◌, ℕ, List, Option, Some, None, Bool, true, false, refl, sym, ap, ◌∙◌}
+use Rattle.std.proofs.Common.{◌≡◌, ℕ, List, None, true, refl, sym}
 use Rattle.std.specs.Cmp.Lexicographic.{bytes_decides}
 use Rattle.erl_handshake.specs.Flags.{has_all_of, mandatory}
 use Rattle.erl_handshake.specs.Digest.{digest_of}
