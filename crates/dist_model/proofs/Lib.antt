@@ -49,3 +49,4 @@ pub mod Linked
 pub mod Following
 pub mod Histories
 pub mod Resting
+pub mod Forms

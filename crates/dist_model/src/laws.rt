@@ -7,7 +7,7 @@ ghost use Rattle.std.specs.Prelude.{◌≡◌, ◌↔◌, ℕ, List, [], ◌∷�
 ghost use Rattle.erl_term.specs.declared.term.Pid.{Pid};
 ghost use Rattle.erl_term.specs.declared.term.Reference.{Reference};
 ghost use Rattle.exit_core.specs.Messages.{down_term};
-ghost use Rattle.dist_model.specs.Downs.{down_in};
+ghost use Rattle.dist_model.specs.Downs.{Down, down_in};
 ghost use Rattle.erl_term.specs.Data.{Data};
 ghost use Rattle.erl_term.specs.declared.refusal.Refusal.{Refusal};
 ghost use Rattle.erl_control.specs.Control.{Fits};
@@ -170,11 +170,13 @@ pub fn connection_comes_again()
         end_between w schedule.there schedule.here ≡ End.None }
 {}
 
-/// The DOWN of a reference is told apart: its owner, its target and its reason. (Reference Manual,
-/// Processes, Monitors.)
+/// The DOWN of a reference is told apart: its owner, its target and its reason; and what is told
+/// apart is such a message. (Reference Manual, Processes, Monitors.)
 pub fn downs_are_told()
     ensures told { (r : Reference) (owner target : Pid) (info : Data) →
         down_in r owner (down_term r target info) ≡ (record { owner = owner; target = target; info = info }) ∷ [] }
+    ensures read { (r : Reference) (owner : Pid) (message : Data) (down : Down) (more : List Down) → down_in r owner message ≡ down ∷ more →
+        (down.owner ≡ owner) × (message ≡ down_term r down.target down.info) }
 {}
 
 /// A beginning of a run is a run: between any two of its events there is a world, to which the events
