@@ -39,11 +39,11 @@ abbrev pub IfGoes : Outcome → (Work → Type 0) → Type 0
 IfGoes (Refuses k) P = Unit {0}
 IfGoes (Goes a o) P = P o
 
-if_cond : (b : Bool) (k : Outcome) (j : Refusal) (P : Work → Type 0) → (b ≡ true → IfGoes k P) → IfGoes (cond b k (Refuses j)) P
+pub if_cond : (b : Bool) (k : Outcome) (j : Refusal) (P : Work → Type 0) → (b ≡ true → IfGoes k P) → IfGoes (cond b k (Refuses j)) P
 if_cond true k j P h = h refl
 if_cond false k j P h = tt
 
-if_not : (b : Bool) (k : Outcome) (j : Refusal) (P : Work → Type 0) → IfGoes k P → IfGoes (cond b (Refuses j) k) P
+pub if_not : (b : Bool) (k : Outcome) (j : Refusal) (P : Work → Type 0) → IfGoes k P → IfGoes (cond b (Refuses j) k) P
 if_not true k j P h = tt
 if_not false k j P h = h
 
@@ -105,13 +105,13 @@ pub if_drawn : (o : Option ℕ) (k : ℕ → Outcome) (P : Work → Type 0) → 
 if_drawn None k P f = tt
 if_drawn (Some id) k P f = f id refl
 
-some_number : (a b : ℕ) → ◌≡◌ {A = Option ℕ} (Some a) (Some b) → a ≡ b
+pub some_number : (a b : ℕ) → ◌≡◌ {A = Option ℕ} (Some a) (Some b) → a ≡ b
 some_number a b h = cc
 
-none_number : (P : Type 0) (b : ℕ) → ◌≡◌ {A = Option ℕ} None (Some b) → P
+pub none_number : (P : Type 0) (b : ℕ) → ◌≡◌ {A = Option ℕ} None (Some b) → P
 none_number P b h = cc
 
-pid_drawn : (m : Minted) (id : ℕ) → id_of m kind.Pid ≡ Some id → (drawn m kind.Pid ≡ record m { pids = m.pids + 1 }) × (id ≡ m.pids + 1)
+pub pid_drawn : (m : Minted) (id : ℕ) → id_of m kind.Pid ≡ Some id → (drawn m kind.Pid ≡ record m { pids = m.pids + 1 }) × (id ≡ m.pids + 1)
 pid_drawn m id h = go (nat_lt m.pids (last kind.Pid)) refl h
   where
     go : (b : Bool) → nat_lt m.pids (last kind.Pid) ≡ b → cond b (Some (m.pids + 1)) None ≡ Some id → (drawn m kind.Pid ≡ record m { pids = m.pids + 1 }) × (id ≡ m.pids + 1)
@@ -235,11 +235,11 @@ spawned_over n p = by_test _ (same_pid p (next_pid n))
     (λ h. ap (λ v. not v && not (never ((spawned_at n (next_pid n)).node) p)) (spawned_living n p ∙ born_cond_false (same_pid p (next_pid n)) (fm.get n.lives p) h)
     ∙ ap (λ v. not (living n p) && not v) (spawned_never n p h))
 
-spawned_stays_living : (n : Node) (p : Pid) → living n p ≡ true → living ((spawned_at n (next_pid n)).node) p ≡ true
+pub spawned_stays_living : (n : Node) (p : Pid) → living n p ≡ true → living ((spawned_at n (next_pid n)).node) p ≡ true
 spawned_stays_living n p l = by_test _ (same_pid p (next_pid n)) (λ h. spawned_living n p ∙ born_cond_true (same_pid p (next_pid n)) (fm.get n.lives p) h)
     (λ h. spawned_living n p ∙ born_cond_false (same_pid p (next_pid n)) (fm.get n.lives p) h ∙ l)
 
-spawned_stays_born : (n : Node) (p : Pid) → never n p ≡ false → never ((spawned_at n (next_pid n)).node) p ≡ false
+pub spawned_stays_born : (n : Node) (p : Pid) → never n p ≡ false → never ((spawned_at n (next_pid n)).node) p ≡ false
 spawned_stays_born n p h = by_test _ (same_pid p (next_pid n)) (λ e. ap (never ((spawned_at n (next_pid n)).node)) (same_pid_true p (next_pid n) e) ∙ next_never n) (λ e. spawned_never n p e ∙ h)
 
 home_along : (f g : Pid → Bool) (xs : List Item) → ((p : Pid) → f p ≡ false → g p ≡ false) → Homely f xs → Homely g xs

@@ -41,7 +41,7 @@ use Rattle.erl_term.specs.declared.term.Pid.{Pid}
 use Rattle.link_core.specs.declared.end.End.{End}
 use Rattle.std.specs.FinMap.{FinMap}
 
-any_found : (test : State → Bool) (es : List (TrunkId × TrunkSide)) (e : TrunkId × TrunkSide) → T (is_sorted trunk_cmp es) → any_side test es ≡ Some e → (find trunk_cmp e.0 es ≡ Some e.1) × (test e.1.state ≡ true)
+pub any_found : (test : State → Bool) (es : List (TrunkId × TrunkSide)) (e : TrunkId × TrunkSide) → T (is_sorted trunk_cmp es) → any_side test es ≡ Some e → (find trunk_cmp e.0 es ≡ Some e.1) × (test e.1.state ≡ true)
 any_found test [] e s h = let c : false ≡ true = ap is_some h in cc
 any_found test (d ∷ es) e s h =
     elim (test d.1.state) as (λ b. test d.1.state ≡ b → cond b (Some d) (any_side test es) ≡ Some e → (find trunk_cmp e.0 (d ∷ es) ≡ Some e.1) × (test e.1.state ≡ true)) [
@@ -57,7 +57,7 @@ any_found test (d ∷ es) e s h =
     T_and3 true b h = (tt, h)
     T_and3 false b h = absurd h
 
-losing_is : (v : State) → is_losing v ≡ true → v ≡ Losing
+pub losing_is : (v : State) → is_losing v ≡ true → v ≡ Losing
 losing_is Losing h = refl
 losing_is (AwaitsStatus w) h = cc
 losing_is (AwaitsChallenge w) h = cc
@@ -210,7 +210,7 @@ find_gone t (e ∷ es) = elim (eq_by_cmp trunk_cmp t e.0) as (λ b. cond b (Some
 abbrev cleared : Node → (c : ℕ) → Bool → (s r u : ℕ) → List Item → Node
 cleared n c b s r u l = record n { mint = record { name = n.mint.name; creation = c; pids = s; references = r; unlink_ids = u }; up = b; lives = fm.empty; ends = fm.empty; watches = fm.empty; registered = fm.empty; sides = fm.from_entries (all_gone (fm.entries n.sides)); local = l }
 
-gone_sides : (n : Node) (t : TrunkId) → fm.get {R = trunk_cmp} (fm.from_entries (all_gone (fm.entries n.sides))) t ≡ gone_side (side_at n t)
+pub gone_sides : (n : Node) (t : TrunkId) → fm.get {R = trunk_cmp} (fm.from_entries (all_gone (fm.entries n.sides))) t ≡ gone_side (side_at n t)
 gone_sides n t = fm.get-from_entries trunk_total (all_gone (fm.entries n.sides)) t ∙ find_gone t (fm.entries n.sides) ∙ ap gone_side (sym (fm.get-entries n.sides t))
 
 record Cleared (n : Node) (t : TrunkId) (s : TrunkSide) : Type 0 where

@@ -206,7 +206,7 @@ good_start w x n hx g = go n.up (nat_lt (n.mint.creation + 1) (2 ^ 32))
     go false true = good_started w x n hx g
     go false false = g
 
-good_step_at : (w : World) (o : Option Node) (e : Event) → node_of w.nodes (node_name e) ≡ o → Good w → Good ((step_at w o e).world)
+pub good_step_at : (w : World) (o : Option Node) (e : Event) → node_of w.nodes (node_name e) ≡ o → Good w → Good ((step_at w o e).world)
 good_step_at w None e h g = g
 good_step_at w (Some n) (Call x c) h g = runs_well w n _ g (good_call w x n c h g)
 good_step_at w (Some n) (Arrive t x k) h g = runs_well w n _ g (good_arrives w x n t k (fm.get n.sides t) h refl g)

@@ -261,7 +261,7 @@ module _ (w : World) (g : Good w) where
 
 -- the opening world
 module _ (cs : List (Name × List ℕ)) where
-  new_is : (ds : List (Name × List ℕ)) (x : Name) (n : Node) → node_of (new_nodes ds) x ≡ Some n → (y : Name) × (c : List ℕ) × (n ≡ new_node y c)
+  pub new_is : (ds : List (Name × List ℕ)) (x : Name) (n : Node) → node_of (new_nodes ds) x ≡ Some n → (y : Name) × (c : List ℕ) × (n ≡ new_node y c)
   new_is [] x n h = let e : false ≡ true = ap is_some h in cc
   new_is (d ∷ ds) x n h = go (same_name d.0 x) h (new_is ds x n)
     where

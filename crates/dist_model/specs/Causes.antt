@@ -1,6 +1,7 @@
--- Why a process reacts to a link's exit.
--- (Reference Manual, Processes, Links and Receiving Exit Signals; Distributed Erlang.)
-use Rattle.std.specs.Prelude.{◌≡◌, ◌⊎◌, false, List, [], ◌∷◌, Contains}
+-- Why a process reacts to a link's exit, and why a monitor comes to its end.
+-- (Reference Manual, Processes, Links, Monitors and Receiving Exit Signals; Distributed Erlang.)
+use Rattle.std.specs.Prelude.{◌≡◌, ◌⊎◌, false, [], ◌∷◌, Contains}
+use Rattle.dist_model.specs.Histories.{History}
 use Rattle.dist_model.specs.Links.{noconnection, noproc}
 use Rattle.dist_model.specs.Names.{same_name}
 use Rattle.dist_model.specs.Seen.{is_living, is_reached}
@@ -14,14 +15,17 @@ abbrev pub Reacts : Pid → Pid → Data → Report → Type 0
 Reacts p q reason (Refused refusal) = ⊥
 Reacts p q reason (Reported answer effects) = Contains effects (LinkExit p q reason)
 
--- one of the reports says that q ended with this reason
-abbrev pub HasEnded : Pid → Data → List Report → Type 0
-HasEnded q reason [] = ⊥
-HasEnded q reason (Refused refusal ∷ reports) = HasEnded q reason reports
-HasEnded q reason (Reported answer effects ∷ reports) = Contains effects (EndedBy q reason) ⊎ HasEnded q reason reports
+-- q ended with this reason
+abbrev pub Ends : Pid → Data → Report → Type 0
+Ends q reason (Refused refusal) = ⊥
+Ends q reason (Reported answer effects) = Contains effects (EndedBy q reason)
 
--- the reason for which q's exit comes to p is true: q ended with it; there is no such process; or the nodes aren't connected
-pub data TrueCause (earlier : List Report) (world : World) (p q : Pid) (reason : Data) : Type 0 where
-  HadEnded : HasEnded q reason earlier → TrueCause earlier world p q reason
-  NoProcess : reason ≡ noproc → is_living world q ≡ false → TrueCause earlier world p q reason
-  NoConnection : reason ≡ noconnection → same_name q.node p.node ≡ false → is_reached world p q.node ≡ false → TrueCause earlier world p q reason
+abbrev pub HasEnded : Pid → Data → History → Type 0
+HasEnded q reason [] = ⊥
+HasEnded q reason (last ∷ before) = Ends q reason last.report ⊎ HasEnded q reason before
+
+-- the reason for which p is told of q's end is true: q ended with it; there is no such process; or p's node has no connection to q's
+pub data TrueCause (history : History) (world : World) (p q : Pid) (reason : Data) : Type 0 where
+  HadEnded : HasEnded q reason history → TrueCause history world p q reason
+  NoProcess : reason ≡ noproc → is_living world q ≡ false → TrueCause history world p q reason
+  NoConnection : reason ≡ noconnection → same_name q.node p.node ≡ false → is_reached world p q.node ≡ false → TrueCause history world p q reason

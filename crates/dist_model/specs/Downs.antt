@@ -1,17 +1,50 @@
--- The DOWN messages of a monitor, as the reports of a run tell them.
+-- The monitors of a run by their references: which calls began and ended them, and the DOWN messages that came of them.
 -- (Reference Manual, Processes, Monitors.)
-use Rattle.std.specs.Prelude.{Bool, true, false, if◌then◌else◌, List, [], ◌∷◌, ◌++◌, ◌&&◌, codes, nat_eq}
+use Rattle.std.specs.Prelude.{◌≡◌, ◌⊎◌, ℕ, ◌+◌, Bool, true, false, if◌then◌else◌, List, [], ◌∷◌, ◌++◌, ◌&&◌, codes, nat_eq}
 use Rattle.std.specs.Cmp.Lexicographic.{pointwise}
 use Rattle.std.specs.Ordering.{eq_by_cmp}
-use Rattle.erl_term.specs.Data.{Data, atom, tuple, pid, reference, no_items, item}
-use Rattle.erl_term.specs.declared.term.Pid.{Pid}
-use Rattle.erl_term.specs.declared.term.Reference.{Reference}
-use Rattle.erl_control.specs.declared.signal.Signal.{Signal}
-use Rattle.monitor_core.specs.Order.{reference_cmp}
+use Rattle.dist_model.specs.Commands.{Answer, EndMonitor, MakeMonitor, Took, Watching}
+use Rattle.dist_model.specs.Histories.{History}
 use Rattle.dist_model.specs.Items.{Signalled}
 use Rattle.dist_model.specs.Work.{Effect, Put}
-use Rattle.dist_model.specs.Commands.{Answer, Took}
-use Rattle.dist_model.specs.World.{Report, Refused, Reported}
+use Rattle.dist_model.specs.World.{Arrive, Call, Event, Local, Refused, Report, Reported}
+use Rattle.erl_control.specs.declared.signal.Signal.{Signal}
+use Rattle.erl_term.specs.Data.{Data, atom, item, no_items, pid, reference, tuple}
+use Rattle.erl_term.specs.declared.term.Pid.{Pid}
+use Rattle.erl_term.specs.declared.term.Reference.{Reference}
+use Rattle.monitor_core.specs.Order.{reference_cmp}
+
+abbrev pub same_reference : Reference → Reference → Bool
+same_reference r s = eq_by_cmp reference_cmp r s
+
+-- ---- the calls
+
+-- a Monitor call was answered with this reference
+abbrev pub is_answered : Reference → Event → Report → Bool
+is_answered r (Call node (MakeMonitor p q)) (Reported (Watching s) effects) = same_reference r s
+is_answered r _ _ = false
+
+-- how often
+abbrev pub answers : Reference → History → ℕ
+answers r [] = 0
+answers r (last ∷ before) = (if is_answered r last.event last.report then 1 else 0) + answers r before
+
+-- p monitors q under it
+abbrev pub Monitored : Reference → Pid → Pid → History → Type 0
+Monitored r p q [] = ⊥
+Monitored r p q (last ∷ before) =
+    ((last.event ≡ Call p.node (MakeMonitor p q)) × (is_answered r last.event last.report ≡ true)) ⊎ Monitored r p q before
+
+-- a Demonitor call for it went through
+abbrev pub is_demonitored : Reference → Event → Report → Bool
+is_demonitored r (Call node (EndMonitor p s)) (Reported answer effects) = same_reference r s
+is_demonitored r _ _ = false
+
+abbrev pub Demonitored : Reference → History → Type 0
+Demonitored r [] = ⊥
+Demonitored r (last ∷ before) = (is_demonitored r last.event last.report ≡ true) ⊎ Demonitored r before
+
+-- ---- the messages
 
 -- to whom one was put, of which process, and with which reason
 pub record Down : Type 0 where
@@ -37,11 +70,17 @@ abbrev pub is_sent_message : Answer → Bool
 is_sent_message (Took (Signalled (Signal.Send to message))) = true
 is_sent_message _ = false
 
-abbrev pub downs_of : Reference → Report → List Down
-downs_of r (Refused refusal) = []
-downs_of r (Reported answer effects) = if is_sent_message answer then [] else downs_in r effects
+-- what a process sent may have that form too. It is a message and no DOWN
+abbrev pub takes_message : Event → Report → Bool
+takes_message (Arrive trunk node word) (Reported answer effects) = is_sent_message answer
+takes_message (Local node) (Reported answer effects) = is_sent_message answer
+takes_message _ _ = false
 
--- all that were put, the first first
-abbrev pub downs : Reference → List Report → List Down
+abbrev pub downs_by : Reference → Event → Report → List Down
+downs_by r event (Refused refusal) = []
+downs_by r event (Reported answer effects) = if takes_message event (Reported answer effects) then [] else downs_in r effects
+
+-- the latest first
+abbrev pub downs : Reference → History → List Down
 downs r [] = []
-downs r (report ∷ reports) = downs_of r report ++ downs r reports
+downs r (last ∷ before) = downs_by r last.event last.report ++ downs r before

@@ -21,7 +21,10 @@ pub mod World
 pub mod Runs
 pub mod Seen
 pub mod Quiet
+pub mod Histories
 pub mod Causes
 pub mod Downs
 pub mod Claims
+pub mod Fates
+pub mod Safety
 pub mod Schedules

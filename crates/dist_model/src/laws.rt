@@ -7,7 +7,7 @@ ghost use Rattle.std.specs.Prelude.{◌≡◌, ◌↔◌, ℕ, List, [], ◌∷�
 ghost use Rattle.erl_term.specs.declared.term.Pid.{Pid};
 ghost use Rattle.erl_term.specs.declared.term.Reference.{Reference};
 ghost use Rattle.exit_core.specs.Messages.{down_term};
-ghost use Rattle.dist_model.specs.Downs.{down_in};
+ghost use Rattle.dist_model.specs.Downs.{Down, down_in};
 ghost use Rattle.erl_term.specs.Data.{Data};
 ghost use Rattle.erl_term.specs.declared.refusal.Refusal.{Refusal};
 ghost use Rattle.erl_control.specs.Control.{Fits};
@@ -30,6 +30,9 @@ ghost use Rattle.dist_model.specs.Admission.{give_up, others};
 ghost use Rattle.dist_model.specs.Seen.{end_between, AreConnected};
 ghost use Rattle.dist_model.specs.Schedules as schedule;
 ghost use Rattle.dist_model.specs.Claims.{Agreement, AgreementWithin, AgreementInQuiet, PendingOnItsWay, PendingWithin, NoLinkToTheDead, NoLinkToItself, LinkNeedsConnection, LivingWasSpawned, OneTrunk, NoUpBesideLosing, KeepsOrder, ReactsOnlyWhereLinked};
+ghost use Rattle.dist_model.specs.Histories.{Throughout};
+ghost use Rattle.dist_model.specs.Fates.{ReactsForTrueCause, ExitsTellTrueCause, ExitsTellTrueCauseWithin, AnsweredOnce, DownOnce, DownToTheOwner, NoDownWhereDemonitored, DownsTellTrueCause, DownOrRegistered};
+ghost use Rattle.dist_model.specs.Safety.{Safe};
 
 /// Of two living processes both hold their link active, or neither does, once all that travels
 /// between them has come: on one node, over a connection, and whenever nothing travels. (Reference
@@ -71,9 +74,33 @@ pub fn one_trunk()
 {}
 
 /// A process reacts to the exit of a link only where it held it active, or where it links in that
-/// very event towards a node that isn't reached. (Reference Manual, Processes, Links.)
+/// very event towards a node that isn't reached; and only for a true reason, which every EXIT that
+/// travels tells: the partner ended with it, there is no such process, or there is no connection.
+/// (Reference Manual, Processes, Links and Receiving Exit Signals.)
 pub fn reactions()
     ensures linked { Always ReactsOnlyWhereLinked }
+    ensures cause { Throughout ReactsForTrueCause }
+    ensures travelling { Throughout ExitsTellTrueCause }
+    ensures within { Throughout ExitsTellTrueCauseWithin }
+{}
+
+/// A reference is the answer of at most one Monitor call, and at most one DOWN comes of it: to the
+/// process that made the call, for the incarnation that it named, and for a true reason. None comes
+/// where the monitor was taken back. Else, whenever nothing travels, the DOWN has come to a living
+/// owner, or the target is living and registered. (Reference Manual, Processes, Monitors.)
+pub fn monitors()
+    ensures answered { Throughout AnsweredOnce }
+    ensures once { Throughout DownOnce }
+    ensures owner { Throughout DownToTheOwner }
+    ensures demonitored { Throughout NoDownWhereDemonitored }
+    ensures cause { Throughout DownsTellTrueCause }
+    ensures quiet { Throughout DownOrRegistered }
+{}
+
+/// The safety of every run: agreement, pending, no link to the dead, reactions, monitors and one
+/// trunk, at each moment of whatever happens, from any opening world, with or without memory.
+pub fn every_run_is_safe()
+    ensures safe { Throughout Safe }
 {}
 
 /// What a node tells a dialer of its other sides is the same before and after an older attempt of
@@ -143,11 +170,13 @@ pub fn connection_comes_again()
         end_between w schedule.there schedule.here ≡ End.None }
 {}
 
-/// The DOWN of a reference is told apart: its owner, its target and its reason. (Reference Manual,
-/// Processes, Monitors.)
+/// The DOWN of a reference is told apart: its owner, its target and its reason; and what is told
+/// apart is such a message. (Reference Manual, Processes, Monitors.)
 pub fn downs_are_told()
     ensures told { (r : Reference) (owner target : Pid) (info : Data) →
         down_in r owner (down_term r target info) ≡ (record { owner = owner; target = target; info = info }) ∷ [] }
+    ensures read { (r : Reference) (owner : Pid) (message : Data) (down : Down) (more : List Down) → down_in r owner message ≡ down ∷ more →
+        (down.owner ≡ owner) × (message ≡ down_term r down.target down.info) }
 {}
 
 /// A beginning of a run is a run: between any two of its events there is a world, to which the events

@@ -1,16 +1,17 @@
 //! The abstract world of nodes, processes, links, monitors and connections, and its laws.
 //!
 //! The definitions in `specs/` say what a node does at each event, what a world of nodes does, and
-//! what holds of it; [`agreement`], [`pending`], [`no_link_to_the_dead`], [`one_trunk`] and
-//! [`reactions`] are the laws. There is no code here: the crates of the node and of the world are
-//! proved to be this world. `docs/MODEL.md` tells it in prose.
+//! what holds of it; [`agreement`], [`pending`], [`no_link_to_the_dead`], [`one_trunk`],
+//! [`reactions`] and [`monitors`] are the laws, and [`every_run_is_safe`] is all of them. There is no
+//! code here: the crates of the node and of the world are proved to be this world. `docs/MODEL.md`
+//! tells it in prose.
 #![tactic(auto)]
 
 mod laws;
 
 pub use laws::{
     agreement, calls_follow_the_table, connection_comes_again, downs_are_told, events_run,
-    fits_test, link_comes_about, link_is_taken_back, links_need_a_connection, moments,
-    news_is_told, no_link_to_the_dead, one_trunk, order_is_kept, others_stay, pending, quiet_test,
-    reactions, refused_changes_nothing,
+    every_run_is_safe, fits_test, link_comes_about, link_is_taken_back, links_need_a_connection,
+    moments, monitors, news_is_told, no_link_to_the_dead, one_trunk, order_is_kept, others_stay,
+    pending, quiet_test, reactions, refused_changes_nothing,
 };

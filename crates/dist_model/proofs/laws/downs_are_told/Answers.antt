@@ -1,5 +1,9 @@
 use Rattle.dist_model.proofs.laws.downs_are_told.Goals as goal
 use Rattle.dist_model.proofs.Downing.{told}
+use Rattle.dist_model.proofs.Forms.{is_down}
 
-pub returns : goal.returns
-returns c = record { told = told }
+pub returns-clause-told : goal.returns-clause-told
+returns-clause-told c = told
+
+pub returns-clause-read : goal.returns-clause-read
+returns-clause-read c = is_down

@@ -1,0 +1,255 @@
+-- What each event does, in the words of what is known.
+use Rattle.dist_model.proofs.Seeing.{end_at, living_at, reached_at}
+use Rattle.erl_handshake.specs.declared.message.ShakeMsg.{ShakeMsg}
+use Rattle.std.proofs.Common.{◌==◌, nat_lt, ◌≡◌, ◌≤◌, Bool, true, false, cond, not, List, [], refl, sym, ap, ◌∙◌, subst, arith, ◌&&◌, ◌||◌, Some, ◌⊎◌, inl, inr, Contains}
+use Rattle.std.proofs.lemmas.List.Elements.{All-nil, All-weaker}
+use Rattle.std.specs.List.{All}
+use Rattle.std.specs.Option.{is_some}
+use Rattle.std.specs.FinMap as fm
+use Rattle.dist_model.proofs.Aging.{Aging, ageless, aging_side}
+use Rattle.dist_model.proofs.Founding.{FoundedSignal, True, carried_by, founded_by, old_now, true_closed, true_side, true_wrote}
+use Rattle.dist_model.proofs.Handshaking.{Turned}
+use Rattle.dist_model.proofs.Home.{never_own}
+use Rattle.dist_model.proofs.Homing.{Homed, Says, TargetsIn, home_closed, home_side, home_wrote, targets_by}
+use Rattle.dist_model.proofs.Keys.{and_both, same_name_true}
+use Rattle.dist_model.proofs.Moves.{NodeKept}
+use Rattle.dist_model.proofs.Parts.{Closed, Rules}
+use Rattle.dist_model.proofs.Routes.{node_of_name}
+use Rattle.dist_model.proofs.Table.{Good}
+use Rattle.dist_model.proofs.Told.{Called, Course, Deed, Downs, Drawn, IsFounded, Leaves, Off, Old, Sound, Stays}
+use Rattle.dist_model.proofs.Turning.{Core, Fate, Left, Same, Spent, Turns, core_closed, turns_side, turns_wrote}
+use Rattle.dist_model.proofs.Views.{over}
+use Rattle.dist_model.specs.Causes.{HadEnded, NoConnection, NoProcess, TrueCause}
+use Rattle.dist_model.specs.Commands.{Answer, MakeLink}
+use Rattle.dist_model.specs.Downs.{Monitored, downs_by, downs_in, is_answered, is_demonitored, takes_message}
+use Rattle.dist_model.specs.Handshake.{with_side, write}
+use Rattle.dist_model.specs.Histories.{History}
+use Rattle.dist_model.specs.Items.{Item}
+use Rattle.dist_model.specs.Links.{noconnection, noproc}
+use Rattle.dist_model.specs.Names.{Name, same_name}
+use Rattle.dist_model.specs.Node.{Node, end_of, living, never, reaches, route}
+use Rattle.dist_model.specs.Seen.{end_between, is_reached}
+use Rattle.dist_model.specs.Sides.{TrunkSide}
+use Rattle.dist_model.specs.Work.{Effect, LinkExit, Work, at_work}
+use Rattle.dist_model.specs.World.{Call, Event, Reported, World, node_of}
+use Rattle.erl_names.specs.declared.trunk.TrunkId.{TrunkId}
+use Rattle.erl_term.specs.Data.{Data}
+use Rattle.erl_term.specs.declared.term.Pid.{Pid}
+use Rattle.erl_term.specs.declared.term.Reference.{Reference}
+use Rattle.link_core.specs.declared.end.End.{End}
+use Rattle.monitor_core.specs.declared.monitor.Monitor.{Monitor}
+
+pub never_same : (m n : Node) → m.mint.name ≡ n.mint.name → m.mint.creation ≡ n.mint.creation → m.mint.pids ≡ n.mint.pids → (p : Pid) → never m p ≡ never n p
+never_same m n a b c p = λ i. not (same_name p.node (a i)) || nat_lt (b i) p.creation || (p.creation == b i && nat_lt (c i) p.id) || p.id == 0 || not (p.serial == 0)
+
+not_true : (b : Bool) → not b ≡ true → b ≡ false
+not_true true h = cc
+not_true false h = refl
+
+pub over_parts : (n : Node) (p : Pid) → over n p ≡ true → (living n p ≡ false) × (never n p ≡ false)
+over_parts n p h = let v = and_both (not (living n p)) (not (never n p)) h in (not_true (living n p) v.0, not_true (never n p) v.1)
+
+pub over_of : (n : Node) (p : Pid) → living n p ≡ false → never n p ≡ false → over n p ≡ true
+over_of n p l v = ap (λ b. not b && not (never n p)) l ∙ ap not v
+
+or_none : (a b : Bool) → (a || b) ≡ false → (a ≡ false) × (b ≡ false)
+or_none true b h = cc
+or_none false b h = (refl, h)
+
+pub drawn_along : (m n : Node) (k : Reference) → n.mint.creation ≡ m.mint.creation → m.mint.references ≤ n.mint.references → Drawn m k → Drawn n k
+drawn_along m n k c r (inl h) = inl (omega (arith, c))
+drawn_along m n k c r (inr h) = let d = h.1 in let l : d.0 ≤ m.mint.references = d.2 in inr (h.0 ∙ sym c, (d.0, d.1, omega (arith, r, l)))
+
+downs_cond : (k : Reference) (b : Bool) (fs : List Effect) → downs_in k (cond b [] fs) ≡ cond b [] (downs_in k fs)
+downs_cond k true fs = refl
+downs_cond k false fs = refl
+
+-- what is true of p and q, told to p
+abbrev pub Right : World → History → Event → Pid → Pid → Data → Type 0
+Right w h e p q z = ((end_between w p q ≡ End.Active) ⊎ ((e ≡ Call p.node (MakeLink p q)) × (is_reached w p q.node ≡ false))) × TrueCause h w p q z
+
+pub old_cause : (w : World) (h : History) (p q : Pid) (z : Data) → Old w h q z → TrueCause h w p q z
+old_cause w h p q z (inl i) = HadEnded i
+old_cause w h p q z (inr i) = let d = i.1 in NoProcess i.0 (ap (λ o. living_at o q) d.1 ∙ (over_parts d.0 q d.2).0)
+
+module _ (w : World) (h : History) (x : Name) (n : Node) (hx : node_of w.nodes x ≡ Some n) (gw : Good w) (g : Sound w h) where
+  pub nm : n.mint.name ≡ x
+  nm = node_of_name w.nodes x n hx
+
+  pub kn : NodeKept n
+  kn = gw.core.nodes x n hx
+
+  pub at_pid : (p : Pid) → never n p ≡ false → p.node ≡ x
+  at_pid p v = same_name_true p.node n.mint.name (never_own n p v) ∙ nm
+
+  pub node_here : (p : Pid) → never n p ≡ false → node_of w.nodes p.node ≡ Some n
+  node_here p v = subst (λ z. node_of w.nodes z ≡ Some n) (sym (at_pid p v)) hx
+
+  pub unreached : (p : Pid) (y : Name) → never n p ≡ false → reaches n y ≡ false → (same_name y p.node ≡ false) × (is_reached w p y ≡ false)
+  unreached p y v r = (ap (same_name y) (at_pid p v ∙ sym nm) ∙ (or_none (same_name y n.mint.name) (is_some (route n y)) r).0, ap (λ o. reached_at o y) (node_here p v) ∙ r)
+
+  pub no_connection : (p q : Pid) → never n p ≡ false → reaches n q.node ≡ false → TrueCause h w p q noconnection
+  no_connection p q v r = let u = unreached p q.node v r in NoConnection refl u.0 u.1
+
+  pub dead_now : (p : Pid) → living n p ≡ false → never n p ≡ false → Old w h p noproc
+  dead_now p l v = inr (refl, (n, node_here p v, over_of n p l v))
+
+  pub held_active : (e : Event) (p q : Pid) (z : Data) → living n p ≡ true → end_of n p q ≡ End.Active → TrueCause h w p q z → Right w h e p q z
+  held_active e p q z l a c = (inl (ap (λ o. end_at o p q) (node_here p (kn.born p l)) ∙ a), c)
+
+  pub were : (k : Reference) (u : Monitor) → fm.get n.registered k ≡ Some u → living n u.target ≡ true
+  were k u j = (g.enrolled x n k u hx j).0
+
+  module _ (e : Event) (xs : List Item) where
+    -- the node, its own list shortened where an item of it was taken
+    abbrev pub base : Node
+    base = record n { local = xs }
+
+    abbrev pub Tells : Reference → Monitor → Data → Type 0
+    Tells k u z = TrueCause h w u.owner u.target z
+
+    abbrev pub Joins : Reference → Monitor → Type 0
+    Joins k u = Monitored k u.owner u.target h
+
+    abbrev pub Drops : Reference → Monitor → Type 0
+    Drops k u = Off w h k ⊎ (reaches n u.owner.node ≡ false)
+
+    abbrev pub Spawned : Pid → Type 0
+    Spawned q = never n q ≡ false
+
+    abbrev pub T : Work → Type 0
+    T = True (record n { local = xs }) (Old w h) (Right w h e) (Called h) (Off w h)
+
+    abbrev pub U : Work → Type 0
+    U = Turns (record n { local = xs }) Tells Joins Drops were
+
+    abbrev pub K : Work → Type 0
+    K = Core (record n { local = xs }) Tells Joins Drops were
+
+    abbrev pub H : Work → Type 0
+    H = Homed (record n { local = xs }) Spawned
+
+    pub record Whole (o : Work) : Type 0 where
+      pub truth : T o
+      pub core : K o
+      pub home : H o
+
+    abbrev pub rules : Rules
+    rules = record {
+      Says = λ s. FoundedSignal (Old w h) (Called h) (Off w h) s × Says (record n { local = xs }) Spawned s;
+      Reacts = Right w h e;
+      Tells = Tells;
+      Joins = Joins;
+      Drops = Drops;
+    }
+
+    pub whole_closed : Closed rules Whole
+    whole_closed =
+        let a = true_closed (record n { local = xs }) (Old w h) (Right w h e) (Called h) (Off w h) in
+        let b = core_closed (record n { local = xs }) Tells Joins Drops were in
+        let c = home_closed (record n { local = xs }) Spawned in
+        record {
+          plain = λ s i. (a.plain s i, c.plain s i);
+          posted = λ s o i k. record { truth = a.posted s o i.0 k.truth; core = b.posted s o tt k.core; home = c.posted s o i.1 k.home };
+          end_set = λ p q v o k. record { truth = a.end_set p q v o k.truth; core = b.end_set p q v o k.core; home = c.end_set p q v o k.home };
+          drew = λ o k. record { truth = a.drew o k.truth; core = b.drew o k.core; home = c.drew o k.home };
+          life_set = λ p l o i k. record { truth = a.life_set p l o i k.truth; core = b.life_set p l o i k.core; home = c.life_set p l o i k.home };
+          message = λ p m o i k. record { truth = a.message p m o i k.truth; core = b.message p m o i k.core; home = c.message p m o i k.home };
+          reacted = λ p q z o i k. record { truth = a.reacted p q z o i k.truth; core = b.reacted p q z o tt k.core; home = c.reacted p q z o tt k.home };
+          finished = λ p z o k. record { truth = a.finished p z o k.truth; core = b.finished p z o k.core; home = c.finished p z o k.home };
+          registers = λ r m o l i k. record { truth = a.registers r m o l i k.truth; core = b.registers r m o l i k.core; home = c.registers r m o l tt k.home };
+          unregisters = λ r m o j i k. record { truth = a.unregisters r m o j tt k.truth; core = b.unregisters r m o j i k.core; home = c.unregisters r m o j tt k.home };
+          ended = λ r m z o j i k. record { truth = a.ended r m z o j tt k.truth; core = b.ended r m z o j i k.core; home = c.ended r m z o j tt k.home };
+        }
+
+    -- while its sides change
+    pub record Shaken (o : Work) : Type 0 where
+      pub truth : T o
+      pub turns : U o
+      pub home : H o
+      pub aging : Aging n o.node
+
+    pub shaken : (o : Work) → Whole o → Shaken o
+    shaken o k = record { truth = k.truth; turns = k.core.turns; home = k.home; aging = ageless n o.node k.core.sides }
+
+    pub shaken_side : (t : TrunkId) (s : TrunkSide) (o : Work) → Turned o.node t s → Shaken o → Shaken (with_side t s o)
+    shaken_side t s o c k = record {
+      truth = true_side (record n { local = xs }) (Old w h) (Right w h e) (Called h) (Off w h) t s o c k.truth;
+      turns = turns_side (record n { local = xs }) Tells Joins Drops were t s o c k.turns;
+      home = home_side (record n { local = xs }) Spawned t s o c k.home;
+      aging = aging_side n t s o c k.aging;
+    }
+
+    pub shaken_wrote : (t : TrunkId) (y : Name) (m : ShakeMsg) (o : Work) → Shaken o → Shaken (write t y m o)
+    shaken_wrote t y m o k = record {
+      truth = true_wrote (record n { local = xs }) (Old w h) (Right w h e) (Called h) (Off w h) t y m o k.truth;
+      turns = turns_wrote (record n { local = xs }) Tells Joins Drops were t y m o k.turns;
+      home = home_wrote (record n { local = xs }) Spawned t y m o k.home;
+      aging = k.aging;
+    }
+
+    pub begins : All (IsFounded w h) xs → All (TargetsIn Spawned) xs → Whole (at_work (record n { local = xs }))
+    begins fs ts = record {
+      truth = record {
+        carried = record { local = All-weaker (IsFounded w h) _ (old_now (record n { local = xs }) (Old w h) (Right w h e) (Called h) (Off w h) (at_work (record n { local = xs }))) xs fs; sent = All-nil _ };
+        acts = λ p q z c. absurd (nothing (LinkExit p q z) c);
+        watched = λ k u j. j;
+        enrolled = λ k u j. (g.enrolled x n k u hx j).1;
+      };
+      core = record {
+        turns = record {
+          fates = λ k. Same refl refl;
+          dead = λ p l. l;
+          enrolled = λ k u j. (were k u j, inl j);
+          leaving = λ k u j. inl j;
+          local = λ f j. j;
+          name = refl;
+          creation = refl;
+          references = refl;
+          pids = refl;
+          owners = λ k u j. (g.watching x n k u hx j).4;
+        };
+        sides = refl;
+      };
+      home = record { local = ts; name = refl };
+    }
+      where
+        nothing : (f : Effect) → Contains [] f → ⊥
+        nothing f c = let lt = c.1 in omega arith
+
+    -- what counts of a work: where a sent message is taken no effect is a DOWN
+    abbrev pub counted : Answer → Work → Work
+    counted a o = record { node = o.node; sent = o.sent; effects = cond (takes_message e (Reported a o.effects)) [] o.effects }
+
+    downs_counted : (a : Answer) (o : Work) (k : Reference) → downs_by k e (Reported a o.effects) ≡ downs_in k ((counted a o).effects)
+    downs_counted a o k = sym (downs_cond k (takes_message e (Reported a o.effects)) o.effects)
+
+    pub deed : (a : Answer) (o : Work) → ((k : Reference) → is_answered k e (Reported a o.effects) ≡ false) → ((k : Reference) → is_demonitored k e (Reported a o.effects) ≡ false) → T o → U (counted a o) → H o → Deed w h x n e a o
+    deed a o na nd t u k = record {
+      name = u.name ∙ nm;
+      nevers = λ p v. nv p ∙ v;
+      grows = older;
+      carries = carried_by _ _ o (founded_by _ _ _ _ _ _ (λ q z c. c) (λ p q r m. inr m) (λ r c. c)) t.carried;
+      homes = All-weaker (TargetsIn Spawned) (TargetsIn (λ q. never o.node q ≡ false)) (targets_by Spawned (λ q. never o.node q ≡ false) (λ q v. nv q ∙ v)) o.node.local k.local;
+      enrolled = λ r m j. let v = u.enrolled r m j in (v.0, joins r m v.1);
+      owners = λ r m j. u.owners r m j;
+      drawn = λ r d. drawn_along n o.node r u.creation (omega (arith, u.references)) d;
+      course = λ r. fate r (u.fates r);
+    }
+      where
+        nv : (p : Pid) → never o.node p ≡ never n p
+        nv p = never_same o.node n u.name u.creation u.pids p
+
+        older : (p : Pid) → over n p ≡ true → over o.node p ≡ true
+        older p v = let b = over_parts n p v in over_of o.node p (u.dead p b.0) (nv p ∙ b.1)
+
+        joins : (r : Reference) (m : Monitor) → (fm.get n.registered r ≡ Some m) ⊎ Joins r m → Monitored r m.owner m.target h
+        joins r m (inl j) = (g.enrolled x n r m hx j).1
+        joins r m (inr j) = j
+
+        fate : (r : Reference) → Fate (record n { local = xs }) Tells Joins Drops were (counted a o) r → Course w h n x e (Reported a o.effects) o r
+        fate r (Same b c) = Stays b (downs_counted a o r ∙ c) (na r) (nd r)
+        fate r (Left m b c l d) =
+            let v = kn.born m.owner (g.watching x n r m hx b).4 in
+            Leaves m b c (over_of o.node m.owner l (nv m.owner ∙ v)) (at_pid m.owner v) (downs_counted a o r ∙ d) (na r) (nd r)
+        fate r (Spent m z b c v d) = Downs m z b c v (downs_counted a o r ∙ d) (na r) (nd r)

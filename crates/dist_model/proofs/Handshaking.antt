@@ -1,0 +1,394 @@
+-- What a new side and a written message keep is kept by the whole handshake, and by a lost connection.
+use Rattle.erl_handshake.specs.declared.message.ShakeMsg.{ShakeMsg}
+use Rattle.dist_model.proofs.Rules.{awaits_ack, awaits_challenge, awaits_name, awaits_reply, awaits_status, awaits_true, greet, greet_dialing, greet_up, greet_waiting, handshake_as, handshake_by, name_as}
+use Rattle.dist_model.specs.Admission.{accepts, give_up}
+use Rattle.dist_model.specs.Handshake.{handshake_at}
+use Rattle.erl_handshake.specs.Digest.{digest_of}
+use Rattle.erl_handshake.specs.Flags.{has_all_of, mandatory}
+use Rattle.erl_handshake.specs.Roles.{is_answered, is_same}
+use Rattle.erl_handshake.specs.declared.status.Status.{Status}
+use Rattle.std.proofs.Common.{◌≡◌, ℕ, Bool, true, false, cond, refl, sym, ap, ◌∙◌, ◌||◌, Option, Some, None, nat_lt, subst}
+use Rattle.std.specs.Ordering.{is_gt}
+use Rattle.std.specs.FinMap as fm
+use Rattle.dist_model.proofs.Calls.{IfGoes, by_test}
+use Rattle.dist_model.proofs.Keys.{same_trunk, same_trunk_true, trunk_total}
+use Rattle.dist_model.proofs.Routes.{none_some, side_where_found, some_same}
+use Rattle.dist_model.proofs.Sides.{holds, side_at}
+use Rattle.dist_model.specs.Arrivals.{arrive_at, arrive_fresh, on_up, signal_at}
+use Rattle.dist_model.specs.Arrivals
+use Rattle.dist_model.specs.Commands.{Goes, Outcome, Took}
+use Rattle.dist_model.specs.Handshake.{challenge, end_up, fault, go_on, set_state, with_side, write}
+use Rattle.dist_model.specs.Items.{Handshake, Item}
+use Rattle.dist_model.specs.Losses.{close, has_records, lose, lose_at, parked_by, parked_goes, swept}
+use Rattle.dist_model.specs.Names.{Name}
+use Rattle.dist_model.specs.Node.{Node, side_where}
+use Rattle.dist_model.specs.Sides.{Accepting, Asked, AwaitsAck, AwaitsChallenge, AwaitsStatus, Gone, Losing, Parked, State, TrunkSide, Up, is_dialing, is_losing, is_parked, is_up, is_waiting, lost}
+use Rattle.dist_model.specs.Taking.{take_item}
+use Rattle.dist_model.specs.Work.{Work, at_work}
+use Rattle.dist_model.specs.World.{is_over}
+use Rattle.erl_names.specs.Order.{name_cmp}
+use Rattle.erl_names.specs.declared.trunk.TrunkId.{TrunkId}
+use Rattle.erl_term.specs.declared.refusal.Refusal.{Refusal}
+
+-- how a side changes: what holds the peer's records goes on to hold them, and what is over stays so
+pub record Ages (a b : TrunkSide) : Type 0 where
+  pub peer : b.peer ≡ a.peer
+  pub holding : holds a.state ≡ true → holds b.state ≡ true
+  pub over : is_over a.state ≡ true → is_over b.state ≡ true
+
+pub data Turned (o : Node) (t : TrunkId) (s : TrunkSide) : Type 0 where
+  Fresh : side_at o t ≡ None → Turned o t s
+  Aged : (a : TrunkSide) → side_at o t ≡ Some a → Ages a s → Turned o t s
+  -- no records are left
+  Shut : (a : TrunkSide) → side_at o t ≡ Some a → s.peer ≡ a.peer → s.state ≡ Gone → has_records a.peer o ≡ false → Turned o t s
+
+abbrev pub as_state : TrunkSide → State → TrunkSide
+as_state s x = record { peer = s.peer; peer_creation = s.peer_creation; state = x }
+
+-- states that hold nothing and are not over
+abbrev pub is_open : State → Bool
+is_open v = is_dialing v || is_waiting v
+
+open_ages : (v x : State) → is_open v ≡ true → (holds v ≡ true → holds x ≡ true)
+open_ages (AwaitsStatus w) x h = λ i. cc
+open_ages (AwaitsChallenge w) x h = λ i. cc
+open_ages (AwaitsAck w) x h = λ i. cc
+open_ages (Asked w) x h = λ i. cc
+open_ages (Parked w) x h = λ i. cc
+open_ages (Accepting w) x h = λ i. cc
+open_ages Up x h = cc
+open_ages Losing x h = cc
+open_ages Gone x h = cc
+
+open_starts : (v x : State) → is_open v ≡ true → (is_over v ≡ true → is_over x ≡ true)
+open_starts (AwaitsStatus w) x h = λ i. cc
+open_starts (AwaitsChallenge w) x h = λ i. cc
+open_starts (AwaitsAck w) x h = λ i. cc
+open_starts (Asked w) x h = λ i. cc
+open_starts (Parked w) x h = λ i. cc
+open_starts (Accepting w) x h = λ i. cc
+open_starts Up x h = cc
+open_starts Losing x h = cc
+open_starts Gone x h = cc
+
+lost_holds : (v : State) → holds v ≡ true → holds (lost v) ≡ true
+lost_holds Up h = refl
+lost_holds Losing h = refl
+lost_holds (AwaitsStatus w) h = cc
+lost_holds (AwaitsChallenge w) h = cc
+lost_holds (AwaitsAck w) h = cc
+lost_holds (Asked w) h = cc
+lost_holds (Parked w) h = cc
+lost_holds (Accepting w) h = cc
+lost_holds Gone h = cc
+
+pub lost_over : (v : State) → is_over (lost v) ≡ true
+lost_over Up = refl
+lost_over Losing = refl
+lost_over (AwaitsStatus w) = refl
+lost_over (AwaitsChallenge w) = refl
+lost_over (AwaitsAck w) = refl
+lost_over (Asked w) = refl
+lost_over (Parked w) = refl
+lost_over (Accepting w) = refl
+lost_over Gone = refl
+
+open_waiting : (v : State) → is_waiting v ≡ true → is_open v ≡ true
+open_waiting (Asked w) h = refl
+open_waiting (Parked w) h = refl
+open_waiting (Accepting w) h = refl
+open_waiting (AwaitsStatus w) h = cc
+open_waiting (AwaitsChallenge w) h = cc
+open_waiting (AwaitsAck w) h = cc
+open_waiting Up h = cc
+open_waiting Losing h = cc
+open_waiting Gone h = cc
+
+open_dialing : (v : State) → is_dialing v ≡ true → is_open v ≡ true
+open_dialing v h = ap (λ b. b || is_waiting v) h
+
+open_parked : (v : State) → is_parked v ≡ true → is_open v ≡ true
+open_parked (Parked w) h = refl
+open_parked (AwaitsStatus w) h = cc
+open_parked (AwaitsChallenge w) h = cc
+open_parked (AwaitsAck w) h = cc
+open_parked (Asked w) h = cc
+open_parked (Accepting w) h = cc
+open_parked Up h = cc
+open_parked Losing h = cc
+open_parked Gone h = cc
+
+up_ages : (v : State) → is_up v ≡ true → (is_over v ≡ true → is_over Losing ≡ true)
+up_ages v h i = refl
+
+-- a side is set
+pub set_at : (o : Work) (t : TrunkId) (s : TrunkSide) (u : TrunkId) → side_at ((with_side t s o).node) u ≡ cond (same_trunk u t) (Some s) (side_at o.node u)
+set_at o t s u = fm.get-insert trunk_total o.node.sides t s u
+
+still_there : (o : Work) (t u : TrunkId) (s v : TrunkSide) → side_at o.node u ≡ Some v → (u ≡ t → ⊥) → side_at ((with_side t s o).node) u ≡ Some v
+still_there o t u s v h d = set_at o t s u ∙ by_test _ (same_trunk u t) (λ e. absurd (d (same_trunk_true u t e))) (λ e. ap (λ b. cond b (Some s) (side_at o.node u)) e ∙ h)
+
+still_none : (o : Work) (t u : TrunkId) (s v : TrunkSide) → side_at o.node u ≡ None → side_at o.node t ≡ Some v → side_at ((with_side t s o).node) u ≡ None
+still_none o t u s v h e = set_at o t s u ∙ by_test _ (same_trunk u t) (λ i. absurd (none_some v (sym h ∙ ap (side_at o.node) (same_trunk_true u t i) ∙ e))) (λ i. ap (λ b. cond b (Some s) (side_at o.node u)) i ∙ h)
+
+-- the side that is given up, if there is one
+abbrev pub Passing : (State → Bool) → Node → Option (TrunkId × TrunkSide) → Type 0
+Passing test n None = Unit {0}
+Passing test n (Some e) = (side_at n e.0 ≡ Some e.1) × (test e.1.state ≡ true)
+
+found : (test : State → Bool) (y : Name) (n : Node) (d : Option (TrunkId × TrunkSide)) → side_where test y (fm.entries n.sides) ≡ d → Passing test n d
+found test y n None h = tt
+found test y n (Some e) h = let f = side_where_found test y (fm.entries n.sides) e (fm.entries_sorted n.sides) h in (fm.get-entries n.sides e.0 ∙ f.there, f.passes)
+
+module _ (X : Work → Type 0) (side : (t : TrunkId) (s : TrunkSide) (o : Work) → Turned o.node t s → X o → X (with_side t s o)) (wrote : (t : TrunkId) (y : Name) (m : ShakeMsg) (o : Work) → X o → X (write t y m o)) where
+  fresh_state : (t : TrunkId) (s : TrunkSide) (x : State) (o : Work) → side_at o.node t ≡ None → X o → X (set_state t s x o)
+  fresh_state t s x o h k = side t (as_state s x) o (Fresh h) k
+
+  aged_state : (t : TrunkId) (s : TrunkSide) (x : State) (o : Work) → side_at o.node t ≡ Some s → (holds s.state ≡ true → holds x ≡ true) → (is_over s.state ≡ true → is_over x ≡ true) → X o → X (set_state t s x o)
+  aged_state t s x o h a b k = side t (as_state s x) o (Aged s h (record { peer = refl; holding = a; over = b })) k
+
+  open_state : (t : TrunkId) (s : TrunkSide) (x : State) (o : Work) → side_at o.node t ≡ Some s → is_open s.state ≡ true → X o → X (set_state t s x o)
+  open_state t s x o h a k = aged_state t s x o h (open_ages s.state x a) (open_starts s.state x a) k
+
+  told : (t : TrunkId) (s : TrunkSide) (x : State) (m : ShakeMsg) (o : Work) → X (set_state t s x o) → X (write t s.peer m (set_state t s x o))
+  told t s x m o k = wrote t s.peer m (set_state t s x o) k
+
+  if_either : (b : Bool) (x y : Outcome) → IfGoes x X → IfGoes y X → IfGoes (cond b x y) X
+  if_either true x y h k = h
+  if_either false x y h k = k
+
+  fresh_fault : (j : Refusal) (t : TrunkId) (s : TrunkSide) (o : Work) → side_at o.node t ≡ None → X o → IfGoes (fault j t s o) X
+  fresh_fault j t s o h k = fresh_state t s (lost s.state) o h k
+
+  pub known_fault : (j : Refusal) (t : TrunkId) (s : TrunkSide) (o : Work) → side_at o.node t ≡ Some s → X o → IfGoes (fault j t s o) X
+  known_fault j t s o h k = aged_state t s (lost s.state) o h (lost_holds s.state) (λ i. lost_over s.state) k
+
+  -- an attempt that the arriving one ends
+  given : (d : Option (TrunkId × TrunkSide)) (test : State → Bool) (o : Work) → ((v : State) → test v ≡ true → is_open v ≡ true) → Passing test o.node d → X o → X (give_up d o)
+  given None test o f h k = k
+  given (Some e) test o f h k = open_state e.0 e.1 Gone o h.0 (f e.1.state h.1) k
+
+  given_none : (d : Option (TrunkId × TrunkSide)) (test : State → Bool) (o : Work) (t : TrunkId) → Passing test o.node d → side_at o.node t ≡ None → side_at ((give_up d o).node) t ≡ None
+  given_none None test o t p h = h
+  given_none (Some e) test o t p h = still_none o e.0 t (as_state e.1 Gone) e.1 h p.0
+
+  accepted : (t : TrunkId) (s : TrunkSide) (w : ℕ) (m : ShakeMsg) (x : Item) (o : Work) → side_at o.node t ≡ None → X o → IfGoes (accepts t s w m x o) X
+  accepted t s w m x o h k = wrote t s.peer (challenge o.node w) (write t s.peer m (set_state t s (Accepting w) o)) (told t s (Accepting w) m o (fresh_state t s (Accepting w) o h k))
+
+  greeted_dialing : (d : Option (TrunkId × TrunkSide)) (t : TrunkId) (s : TrunkSide) (w : ℕ) (x : Item) (o : Work) → Passing is_dialing o.node d → side_at o.node t ≡ None → X o → IfGoes (greet_dialing d t s w x o) X
+  greeted_dialing None t s w x o p h k = accepted t s w (ShakeMsg.Status Status.Ok) x o h k
+  greeted_dialing (Some e) t s w x o p h k = if_either (is_gt (name_cmp t.dialer o.node.mint.name)) _ _
+      (accepted t s w (ShakeMsg.Status Status.OkSimultaneous) x (give_up (Some e) o) (given_none (Some e) is_dialing o t p h) (given (Some e) is_dialing o open_dialing p k))
+      (told t s Gone (ShakeMsg.Status Status.Nok) o (fresh_state t s Gone o h k))
+
+  greeted_up : (d : Option (TrunkId × TrunkSide)) (t : TrunkId) (s : TrunkSide) (w : ℕ) (x : Item) (o : Work) → side_at o.node t ≡ None → X o → IfGoes (greet_up d t s w x o) X
+  greeted_up None t s w x o h k = greeted_dialing (side_where is_dialing s.peer (fm.entries o.node.sides)) t s w x o (found is_dialing s.peer o.node _ refl) h k
+  greeted_up (Some e) t s w x o h k = told t s (Asked w) (ShakeMsg.Status Status.Alive) o (fresh_state t s (Asked w) o h k)
+
+  greeted : (t : TrunkId) (s : TrunkSide) (w : ℕ) (x : Item) (o : Work) → side_at o.node t ≡ None → X o → IfGoes (greet t s w x o) X
+  greeted t s w x o h k = greeted_up (side_where (λ v. is_up v || is_losing v) s.peer (fm.entries o.node.sides)) t s w x o h k
+
+  greeted_waiting : (d : Option (TrunkId × TrunkSide)) (t : TrunkId) (s : TrunkSide) (w : ℕ) (x : Item) (o : Work) → Passing is_waiting o.node d → side_at o.node t ≡ None → X o → IfGoes (greet_waiting d t s w x o) X
+  greeted_waiting None t s w x o p h k = greeted t s w x o h k
+  greeted_waiting (Some e) t s w x o p h k = if_either (nat_lt e.0.count t.count) _ _
+      (greeted t s w x (give_up (Some e) o) (given_none (Some e) is_waiting o t p h) (given (Some e) is_waiting o open_waiting p k))
+      (told t s Gone (ShakeMsg.Status Status.Nok) o (fresh_state t s Gone o h k))
+
+  named : (t : TrunkId) (m : ShakeMsg) (w : ℕ) (o : Work) → side_at o.node t ≡ None → X o → IfGoes (awaits_name t m w o) X
+  named t (ShakeMsg.SendName flags creation name) w o h k =
+      let s : TrunkSide = record { peer = t.dialer; peer_creation = creation; state = Gone } in
+      if_either (is_same name t.dialer) _ _ (if_either (has_all_of flags mandatory) _ _ (greeted_waiting (side_where is_waiting t.dialer (fm.entries o.node.sides)) t s w (Handshake (ShakeMsg.SendName flags creation name)) o (found is_waiting t.dialer o.node _ refl) h k) (fresh_fault Refusal.FlagsMissing t s o h k)) (fresh_fault Refusal.Forged t s o h k)
+  named t (ShakeMsg.Status Status.Ok) w o h k = fresh_fault Refusal.BadMessage t (record { peer = t.dialer; peer_creation = 0; state = Gone }) o h k
+  named t (ShakeMsg.Status Status.OkSimultaneous) w o h k = fresh_fault Refusal.BadMessage t (record { peer = t.dialer; peer_creation = 0; state = Gone }) o h k
+  named t (ShakeMsg.Status Status.Nok) w o h k = fresh_fault Refusal.BadMessage t (record { peer = t.dialer; peer_creation = 0; state = Gone }) o h k
+  named t (ShakeMsg.Status Status.NotAllowed) w o h k = fresh_fault Refusal.BadMessage t (record { peer = t.dialer; peer_creation = 0; state = Gone }) o h k
+  named t (ShakeMsg.Status Status.Alive) w o h k = fresh_fault Refusal.BadMessage t (record { peer = t.dialer; peer_creation = 0; state = Gone }) o h k
+  named t (ShakeMsg.Status Status.True) w o h k = fresh_fault Refusal.BadMessage t (record { peer = t.dialer; peer_creation = 0; state = Gone }) o h k
+  named t (ShakeMsg.Status Status.False) w o h k = fresh_fault Refusal.BadMessage t (record { peer = t.dialer; peer_creation = 0; state = Gone }) o h k
+  named t (ShakeMsg.Challenge a b c d) w o h k = fresh_fault Refusal.BadMessage t (record { peer = t.dialer; peer_creation = 0; state = Gone }) o h k
+  named t (ShakeMsg.ChallengeReply a b) w o h k = fresh_fault Refusal.BadMessage t (record { peer = t.dialer; peer_creation = 0; state = Gone }) o h k
+  named t (ShakeMsg.ChallengeAck a) w o h k = fresh_fault Refusal.BadMessage t (record { peer = t.dialer; peer_creation = 0; state = Gone }) o h k
+
+  pub fresh_kept : (m : Option ShakeMsg) (t : TrunkId) (w : ℕ) (o : Work) → side_at o.node t ≡ None → X o → IfGoes (arrive_fresh m t w o) X
+  fresh_kept None t w o h k = fresh_fault Refusal.BadMessage t (record { peer = t.dialer; peer_creation = 0; state = Gone }) o h k
+  fresh_kept (Some m) t w o h k = subst (λ z. IfGoes z X) (sym (name_as t m w o)) (named t m w o h k)
+
+  module _ (t : TrunkId) (s : TrunkSide) (o : Work) (at : side_at o.node t ≡ Some s) (k : X o) where
+    bad : IfGoes (fault Refusal.BadMessage t s o) X
+    bad = known_fault Refusal.BadMessage t s o at k
+
+    status : (v : ℕ) → is_open s.state ≡ true → (m : ShakeMsg) → IfGoes (awaits_status t s v m o) X
+    status v h (ShakeMsg.Status Status.Ok) = open_state t s (AwaitsChallenge v) o at h k
+    status v h (ShakeMsg.Status Status.OkSimultaneous) = open_state t s (AwaitsChallenge v) o at h k
+    status v h (ShakeMsg.Status Status.Alive) = told t s (AwaitsChallenge v) (ShakeMsg.Status Status.True) o (open_state t s (AwaitsChallenge v) o at h k)
+    status v h (ShakeMsg.Status Status.Nok) = known_fault Refusal.Nok t s o at k
+    status v h (ShakeMsg.Status Status.NotAllowed) = known_fault Refusal.Nok t s o at k
+    status v h (ShakeMsg.Status Status.True) = bad
+    status v h (ShakeMsg.Status Status.False) = bad
+    status v h (ShakeMsg.SendName a b c) = bad
+    status v h (ShakeMsg.Challenge a b c d) = bad
+    status v h (ShakeMsg.ChallengeReply a b) = bad
+    status v h (ShakeMsg.ChallengeAck a) = bad
+
+    challenged : (v : ℕ) → is_open s.state ≡ true → (m : ShakeMsg) → IfGoes (awaits_challenge t s v m o) X
+    challenged v h (ShakeMsg.Challenge flags word creation name) =
+        let s1 : TrunkSide = record { peer = s.peer; peer_creation = creation; state = s.state } in
+        if_either (is_same name s.peer) _ _ (if_either (has_all_of flags mandatory) _ _
+        (told t s1 (AwaitsAck v) (ShakeMsg.ChallengeReply v (digest_of o.node.cookie word)) o
+        (side t (as_state s1 (AwaitsAck v)) o (Aged s at (record { peer = refl; holding = open_ages s.state (AwaitsAck v) h; over = open_starts s.state (AwaitsAck v) h })) k))
+        (known_fault Refusal.FlagsMissing t s o at k)) (known_fault Refusal.Forged t s o at k)
+    challenged v h (ShakeMsg.Status Status.Ok) = bad
+    challenged v h (ShakeMsg.Status Status.OkSimultaneous) = bad
+    challenged v h (ShakeMsg.Status Status.Alive) = bad
+    challenged v h (ShakeMsg.Status Status.Nok) = bad
+    challenged v h (ShakeMsg.Status Status.NotAllowed) = bad
+    challenged v h (ShakeMsg.Status Status.True) = bad
+    challenged v h (ShakeMsg.Status Status.False) = bad
+    challenged v h (ShakeMsg.SendName a b c) = bad
+    challenged v h (ShakeMsg.ChallengeReply a b) = bad
+    challenged v h (ShakeMsg.ChallengeAck a) = bad
+
+    acknowledged : (v : ℕ) → is_open s.state ≡ true → (m : ShakeMsg) → IfGoes (awaits_ack t s v m o) X
+    acknowledged v h (ShakeMsg.ChallengeAck digest) = if_either (is_answered o.node.cookie v digest) _ _ (open_state t s Up o at h k) (known_fault Refusal.BadDigest t s o at k)
+    acknowledged v h (ShakeMsg.Status Status.Ok) = bad
+    acknowledged v h (ShakeMsg.Status Status.OkSimultaneous) = bad
+    acknowledged v h (ShakeMsg.Status Status.Alive) = bad
+    acknowledged v h (ShakeMsg.Status Status.Nok) = bad
+    acknowledged v h (ShakeMsg.Status Status.NotAllowed) = bad
+    acknowledged v h (ShakeMsg.Status Status.True) = bad
+    acknowledged v h (ShakeMsg.Status Status.False) = bad
+    acknowledged v h (ShakeMsg.SendName a b c) = bad
+    acknowledged v h (ShakeMsg.Challenge a b c d) = bad
+    acknowledged v h (ShakeMsg.ChallengeReply a b) = bad
+
+    ended_up : (d : Option (TrunkId × TrunkSide)) → Passing is_up o.node d → X (end_up d o)
+    ended_up None p = k
+    ended_up (Some e) p = aged_state e.0 e.1 Losing o p.0 (λ h. refl) (λ h. refl) k
+
+    not_up : (e : TrunkId × TrunkSide) → is_open s.state ≡ true → side_at o.node e.0 ≡ Some e.1 → is_up e.1.state ≡ true → t ≡ e.0 → ⊥
+    not_up e h i u j = two s.state h (ap (λ (z : TrunkSide). is_up z.state) (some_same s e.1 (sym at ∙ ap (side_at o.node) j ∙ i)) ∙ u)
+      where
+        two : (v : State) → is_open v ≡ true → is_up v ≡ true → ⊥
+        two Up h u = cc
+        two (AwaitsStatus w) h u = cc
+        two (AwaitsChallenge w) h u = cc
+        two (AwaitsAck w) h u = cc
+        two (Asked w) h u = cc
+        two (Parked w) h u = cc
+        two (Accepting w) h u = cc
+        two Losing h u = cc
+        two Gone h u = cc
+
+    still_at : (d : Option (TrunkId × TrunkSide)) → Passing is_up o.node d → is_open s.state ≡ true → side_at ((end_up d o).node) t ≡ Some s
+    still_at None p h = at
+    still_at (Some e) p h = still_there o e.0 t (as_state e.1 Losing) s at (not_up e h p.0 p.1)
+
+    gone_on : (d : Option (TrunkId × TrunkSide)) (w : ℕ) (o' : Work) → side_at o'.node t ≡ Some s → is_open s.state ≡ true → X o' → X (go_on d t s w o')
+    gone_on None w o' a h j = told t s (Accepting w) (challenge o'.node w) o' (open_state t s (Accepting w) o' a h j)
+    gone_on (Some e) w o' a h j = open_state t s (Parked w) o' a h j
+
+    asked : (v : ℕ) → is_open s.state ≡ true → (m : ShakeMsg) → IfGoes (awaits_true t s v m o) X
+    asked v h (ShakeMsg.Status Status.True) =
+        let d = side_where is_up s.peer (fm.entries o.node.sides) in
+        let p = found is_up s.peer o.node d refl in
+        gone_on (side_where is_losing s.peer (fm.entries ((end_up d o).node.sides))) v (end_up d o) (still_at d p h) h (ended_up d p)
+    asked v h (ShakeMsg.Status Status.False) = known_fault Refusal.Nok t s o at k
+    asked v h (ShakeMsg.Status Status.Ok) = bad
+    asked v h (ShakeMsg.Status Status.OkSimultaneous) = bad
+    asked v h (ShakeMsg.Status Status.Alive) = bad
+    asked v h (ShakeMsg.Status Status.Nok) = bad
+    asked v h (ShakeMsg.Status Status.NotAllowed) = bad
+    asked v h (ShakeMsg.SendName a b c) = bad
+    asked v h (ShakeMsg.Challenge a b c d) = bad
+    asked v h (ShakeMsg.ChallengeReply a b) = bad
+    asked v h (ShakeMsg.ChallengeAck a) = bad
+
+    replied : (v : ℕ) → is_open s.state ≡ true → (m : ShakeMsg) → IfGoes (awaits_reply t s v m o) X
+    replied v h (ShakeMsg.ChallengeReply word digest) = if_either (is_answered o.node.cookie v digest) _ _ (told t s Up (ShakeMsg.ChallengeAck (digest_of o.node.cookie word)) o (open_state t s Up o at h k)) (known_fault Refusal.BadDigest t s o at k)
+    replied v h (ShakeMsg.Status Status.Ok) = bad
+    replied v h (ShakeMsg.Status Status.OkSimultaneous) = bad
+    replied v h (ShakeMsg.Status Status.Alive) = bad
+    replied v h (ShakeMsg.Status Status.Nok) = bad
+    replied v h (ShakeMsg.Status Status.NotAllowed) = bad
+    replied v h (ShakeMsg.Status Status.True) = bad
+    replied v h (ShakeMsg.Status Status.False) = bad
+    replied v h (ShakeMsg.SendName a b c) = bad
+    replied v h (ShakeMsg.Challenge a b c d) = bad
+    replied v h (ShakeMsg.ChallengeAck a) = bad
+
+    by_rule : (v : State) → s.state ≡ v → (m : ShakeMsg) → IfGoes (handshake_by v t s m o) X
+    by_rule (AwaitsStatus v) h m = status v (ap is_open h) m
+    by_rule (AwaitsChallenge v) h m = challenged v (ap is_open h) m
+    by_rule (AwaitsAck v) h m = acknowledged v (ap is_open h) m
+    by_rule (Asked v) h m = asked v (ap is_open h) m
+    by_rule (Parked v) h m = bad
+    by_rule (Accepting v) h m = replied v (ap is_open h) m
+    by_rule Up h m = bad
+    by_rule Losing h m = tt
+    by_rule Gone h m = tt
+
+    pub shaken : (v : State) → s.state ≡ v → (m : ShakeMsg) → IfGoes (handshake_at v t s m o) X
+    shaken v h m = subst (λ z. IfGoes z X) (sym (handshake_as v t s m o)) (by_rule v h m)
+
+    module _ (x : Item) (taken : s.state ≡ Up → Arrivals.is_good o.node s x ≡ true → X (take_item x o)) where
+      on_up_kept : s.state ≡ Up → IfGoes (on_up t s x o) X
+      on_up_kept u = go (Arrivals.is_good o.node s x) refl
+        where
+          go : (b : Bool) → Arrivals.is_good o.node s x ≡ b → IfGoes (cond b (Goes (Took x) (take_item x o)) (fault Refusal.Forged t s o)) X
+          go true e = taken u e
+          go false e = known_fault Refusal.Forged t s o at k
+
+      signalled : (v : State) → s.state ≡ v → IfGoes (signal_at v t s x o) X
+      signalled (AwaitsStatus v) h = bad
+      signalled (AwaitsChallenge v) h = bad
+      signalled (AwaitsAck v) h = bad
+      signalled (Asked v) h = bad
+      signalled (Parked v) h = bad
+      signalled (Accepting v) h = bad
+      signalled Up h = on_up_kept h
+      signalled Losing h = tt
+      signalled Gone h = tt
+
+      pub known_kept : (m : Option ShakeMsg) → IfGoes (arrive_at m t s x o) X
+      known_kept None = signalled s.state refl
+      known_kept (Some m) = shaken s.state refl m
+
+    lost_kept : (v : State) → s.state ≡ v → IfGoes (lose_at v t s o) X
+    lost_kept (AwaitsStatus v) h = open_state t s Gone o at (ap is_open h) k
+    lost_kept (AwaitsChallenge v) h = open_state t s Gone o at (ap is_open h) k
+    lost_kept (AwaitsAck v) h = open_state t s Gone o at (ap is_open h) k
+    lost_kept (Asked v) h = open_state t s Gone o at (ap is_open h) k
+    lost_kept (Parked v) h = open_state t s Gone o at (ap is_open h) k
+    lost_kept (Accepting v) h = open_state t s Gone o at (ap is_open h) k
+    lost_kept Up h = aged_state t s Losing o at (λ i. refl) (λ i. refl) k
+    lost_kept Losing h = tt
+    lost_kept Gone h = tt
+
+  pub lose_kept : (n : Node) (t : TrunkId) (s : Option TrunkSide) → side_at n t ≡ s → X (at_work n) → IfGoes (lose n t s) X
+  lose_kept n t None h k = tt
+  lose_kept n t (Some s) h k = lost_kept t s (at_work n) h k s.state refl
+
+  -- a swept connection
+  unparked_by : (v : State) (t : TrunkId) (s : TrunkSide) (o : Work) → s.state ≡ v → side_at o.node t ≡ Some s → X o → X (parked_by v t s o)
+  unparked_by (Parked w) t s o e h k = told t s (Accepting w) (challenge o.node w) o (open_state t s (Accepting w) o h (ap is_open e) k)
+  unparked_by (AwaitsStatus v) t s o e h k = k
+  unparked_by (AwaitsChallenge v) t s o e h k = k
+  unparked_by (AwaitsAck v) t s o e h k = k
+  unparked_by (Asked v) t s o e h k = k
+  unparked_by (Accepting v) t s o e h k = k
+  unparked_by Up t s o e h k = k
+  unparked_by Losing t s o e h k = k
+  unparked_by Gone t s o e h k = k
+
+  unparked : (d : Option (TrunkId × TrunkSide)) (o : Work) → Passing is_parked o.node d → X o → X (parked_goes d o)
+  unparked None o p k = k
+  unparked (Some e) o p k = unparked_by e.1.state e.0 e.1 o refl p.0 k
+
+  pub swept_kept : (t : TrunkId) (s : TrunkSide) (o : Work) → side_at o.node t ≡ Some s → X o → X (swept t s o)
+  swept_kept t s o h k = go (has_records s.peer o.node) refl
+    where
+      go : (b : Bool) → has_records s.peer o.node ≡ b → X (cond b o (close t s o))
+      go true e = k
+      go false e =
+          let o1 = set_state t s Gone o in
+          unparked (side_where is_parked s.peer (fm.entries o1.node.sides)) o1 (found is_parked s.peer o1.node _ refl) (side t (as_state s Gone) o (Shut s h refl refl e) k)

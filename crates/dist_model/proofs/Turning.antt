@@ -1,0 +1,532 @@
+-- What an event does to each monitor: its watch, its registration, its DOWN, and the signals about it.
+use Rattle.erl_handshake.specs.declared.message.ShakeMsg.{ShakeMsg}
+use Rattle.erl_names.specs.Draw as kind
+use Rattle.std.proofs.Common.{◌≡◌, Bool, true, false, cond, not, List, [], ◌∷◌, ◌++◌, refl, sym, ap, ◌∙◌, subst, ◌&&◌, ◌||◌, Option, Some, None, ◌⊎◌, inl, inr, append_assoc, append-nil}
+use Rattle.std.specs.FinMap as fm
+use Rattle.std.specs.FinMap.Entries.{find}
+use Rattle.dist_model.proofs.Calls.{by_test}
+use Rattle.dist_model.proofs.Entries.{same_reference_true}
+use Rattle.dist_model.proofs.Founding.{Nothing, Quietly, Sends, added_some, all_posts_keep, posts_keep, quietly_all, registered_left, removed_some, watches_left}
+use Rattle.dist_model.proofs.Handshaking.{Turned}
+use Rattle.dist_model.proofs.Keys.{and_both, pid_total, same_name_is, same_name_true, same_pid_true, same_trunk, same_trunk_refl}
+use Rattle.dist_model.proofs.Lists.{or_left}
+use Rattle.dist_model.proofs.Moves.{set_life_living}
+use Rattle.dist_model.proofs.Parts.{Closed, Rules}
+use Rattle.dist_model.proofs.Routes.{at_place, none_some, some_same}
+use Rattle.dist_model.proofs.Table.{has}
+use Rattle.dist_model.specs.Downs.{Down, down_in, downs_in, same_reference}
+use Rattle.dist_model.specs.Exits.{buried, demonitors, exits, finish, is_owned, is_target, monitor_exits}
+use Rattle.dist_model.specs.Handshake.{with_side, write}
+use Rattle.dist_model.specs.Items.{Handshake, Item, Signalled, receiver_of}
+use Rattle.dist_model.specs.Monitoring.{register, unregister, unwatch}
+use Rattle.dist_model.specs.Names.{Name, same_name, same_pid}
+use Rattle.dist_model.specs.Node.{Ended, Life, Living, Node, is_living_life, living, route, route_in}
+use Rattle.dist_model.specs.Sides.{TrunkSide}
+use Rattle.dist_model.specs.Work.{Effect, EndedBy, Envelope, LinkExit, Put, Sent, Work, delivered, draw, keep_local, post, post_all, post_to, put, report, send_on, set_end, set_life}
+use Rattle.erl_control.specs.declared.signal.Signal.{Signal}
+use Rattle.erl_names.specs.declared.trunk.TrunkId.{TrunkId}
+use Rattle.erl_term.specs.Data.{Data}
+use Rattle.erl_term.specs.declared.term.Pid.{Pid}
+use Rattle.erl_term.specs.declared.term.Reference.{Reference}
+use Rattle.exit_core.specs.Messages.{down_term}
+use Rattle.monitor_core.proofs.Order.{reference_cmp_total}
+use Rattle.monitor_core.specs.Monitors.{added}
+use Rattle.monitor_core.specs.Order.{reference_cmp}
+use Rattle.monitor_core.specs.declared.monitor.Monitor.{Monitor}
+
+abbrev pub down : Monitor → Data → Down
+down m x = record { owner = m.owner; target = m.target; info = x }
+
+-- MONITOR_P, and MONITOR_P_EXIT, of this reference
+abbrev pub is_call : Reference → Item → Bool
+is_call k (Signalled (Signal.Monitor p q r)) = same_reference k r
+is_call k _ = false
+
+abbrev pub is_end : Reference → Item → Bool
+is_end k (Signalled (Signal.MonitorExit q p r x)) = same_reference k r
+is_end k _ = false
+
+-- lists
+or_assoc : (a b c : Bool) → (a || (b || c)) ≡ ((a || b) || c)
+or_assoc true b c = refl
+or_assoc false b c = refl
+
+or_second : (a b : Bool) → b ≡ true → (a || b) ≡ true
+or_second true b h = refl
+or_second false b h = h
+
+pub has_append : (f : Item → Bool) (xs ys : List Item) → has f (xs ++ ys) ≡ (has f xs || has f ys)
+has_append f [] ys = refl
+has_append f (x ∷ xs) ys = ap (λ b. f x || b) (has_append f xs ys) ∙ or_assoc (f x) (has f xs) (has f ys)
+
+pub has_first : (f : Item → Bool) (xs ys : List Item) → has f xs ≡ true → has f (xs ++ ys) ≡ true
+has_first f xs ys h = has_append f xs ys ∙ ap (λ b. b || has f ys) h
+
+pub has_last : (f : Item → Bool) (xs ys : List Item) → has f ys ≡ true → has f (xs ++ ys) ≡ true
+has_last f xs ys h = has_append f xs ys ∙ or_second (has f xs) (has f ys) h
+
+has_one : (f : Item → Bool) (x : Item) → f x ≡ true → has f (x ∷ []) ≡ true
+has_one f x h = ap (λ b. b || false) h
+
+pub at_place_append : (t : TrunkId) (y : Name) (es fs : List Envelope) → at_place t y (es ++ fs) ≡ at_place t y es ++ at_place t y fs
+at_place_append t y [] fs = refl
+at_place_append t y (e ∷ es) fs = ap (λ l. cond (same_trunk t e.trunk && same_name y e.target) (e.item ∷ []) [] ++ l) (at_place_append t y es fs)
+    ∙ sym (append_assoc (cond (same_trunk t e.trunk && same_name y e.target) (e.item ∷ []) []) (at_place t y es) (at_place t y fs))
+
+downs_append : (k : Reference) (fs gs : List Effect) → downs_in k (fs ++ gs) ≡ downs_in k fs ++ downs_in k gs
+downs_append k [] gs = refl
+downs_append k (Put p m ∷ fs) gs = ap (λ l. down_in k p m ++ l) (downs_append k fs gs) ∙ sym (append_assoc (down_in k p m) (downs_in k fs) (downs_in k gs))
+downs_append k (EndedBy p x ∷ fs) gs = downs_append k fs gs
+downs_append k (LinkExit p q x ∷ fs) gs = downs_append k fs gs
+downs_append k (Sent y i ∷ fs) gs = downs_append k fs gs
+
+pub no_more : (k : Reference) (fs gs : List Effect) → downs_in k gs ≡ [] → downs_in k (fs ++ gs) ≡ downs_in k fs
+no_more k fs gs h = downs_append k fs gs ∙ ap (λ l. downs_in k fs ++ l) h ∙ append-nil (downs_in k fs)
+
+pub quietly_downs : (k : Reference) (fs gs : List Effect) → Quietly fs gs → downs_in k gs ≡ downs_in k fs
+quietly_downs k fs gs Nothing = refl
+quietly_downs k fs gs (Sends hs y i q) = no_more k hs (Sent y i ∷ []) refl ∙ quietly_downs k fs hs q
+
+-- what a DOWN says
+pub down_said : (k : Reference) (r : Reference) (p q : Pid) (x : Data) → down_in k p (down_term r q x) ≡ cond (same_reference k r) ((record { owner = p; target = q; info = x }) ∷ []) []
+down_said k r p q x = go (same_reference k r)
+  where
+    go : (b : Bool) → ◌≡◌ {A = List Down} (cond (b && true) ((record { owner = p; target = q; info = x }) ∷ []) []) (cond b ((record { owner = p; target = q; info = x }) ∷ []) [])
+    go true = refl
+    go false = refl
+
+-- a signal that goes to y
+abbrev pub any_to : (Item → Bool) → Name → List Signal → Bool
+any_to f y [] = false
+any_to f y (s ∷ ss) = (f (Signalled s) && same_name y (receiver_of s).node) || any_to f y ss
+
+any_to_append : (f : Item → Bool) (y : Name) (xs ys : List Signal) → any_to f y (xs ++ ys) ≡ (any_to f y xs || any_to f y ys)
+any_to_append f y [] ys = refl
+any_to_append f y (x ∷ xs) ys = ap (λ b. (f (Signalled x) && same_name y (receiver_of x).node) || b) (any_to_append f y xs ys) ∙ or_assoc (f (Signalled x) && same_name y (receiver_of x).node) (any_to f y xs) (any_to f y ys)
+
+-- posting keeps what is there
+pub local_grows : (f : Item → Bool) (z : Name) (x : Item) (o : Work) → has f o.node.local ≡ true → has f ((post_to z x o).node.local) ≡ true
+local_grows f z x o h = go (same_name z o.node.mint.name)
+  where
+    on : (r : Option TrunkId) → has f ((send_on r z x o).node.local) ≡ true
+    on None = h
+    on (Some t) = h
+
+    go : (b : Bool) → has f ((cond b (keep_local x o) (send_on (route o.node z) z x o)).node.local) ≡ true
+    go true = has_first f o.node.local (x ∷ []) h
+    go false = on (route o.node z)
+
+pub sent_grows : (f : Item → Bool) (t : TrunkId) (y : Name) (z : Name) (x : Item) (o : Work) → has f (at_place t y o.sent) ≡ true → has f (at_place t y ((post_to z x o).sent)) ≡ true
+sent_grows f t y z x o h = go (same_name z o.node.mint.name)
+  where
+    on : (r : Option TrunkId) → has f (at_place t y ((send_on r z x o).sent)) ≡ true
+    on None = h
+    on (Some u) = ap (has f) (at_place_append t y o.sent ((record { trunk = u; target = z; item = x }) ∷ [])) ∙ has_first f (at_place t y o.sent) _ h
+
+    go : (b : Bool) → has f (at_place t y ((cond b (keep_local x o) (send_on (route o.node z) z x o)).sent)) ≡ true
+    go true = h
+    go false = on (route o.node z)
+
+all_local_grows : (f : Item → Bool) (ss : List Signal) (o : Work) → has f o.node.local ≡ true → has f ((post_all ss o).node.local) ≡ true
+all_local_grows f [] o h = h
+all_local_grows f (s ∷ ss) o h = all_local_grows f ss (post s o) (local_grows f (receiver_of s).node (Signalled s) o h)
+
+all_sent_grows : (f : Item → Bool) (t : TrunkId) (y : Name) (ss : List Signal) (o : Work) → has f (at_place t y o.sent) ≡ true → has f (at_place t y ((post_all ss o).sent)) ≡ true
+all_sent_grows f t y [] o h = h
+all_sent_grows f t y (s ∷ ss) o h = all_sent_grows f t y ss (post s o) (sent_grows f t y (receiver_of s).node (Signalled s) o h)
+
+-- and what is posted comes there
+one_local : (f : Item → Bool) (z : Name) (x : Item) (o : Work) → f x ≡ true → same_name z o.node.mint.name ≡ true → has f ((post_to z x o).node.local) ≡ true
+one_local f z x o h e = ap (λ b. has f ((cond b (keep_local x o) (send_on (route o.node z) z x o)).node.local)) e ∙ has_last f o.node.local (x ∷ []) (has_one f x h)
+
+one_sent : (f : Item → Bool) (t : TrunkId) (z : Name) (x : Item) (o : Work) → f x ≡ true → same_name z o.node.mint.name ≡ false → route o.node z ≡ Some t → has f (at_place t z ((post_to z x o).sent)) ≡ true
+one_sent f t z x o h e r =
+    ap (λ b. has f (at_place t z ((cond b (keep_local x o) (send_on (route o.node z) z x o)).sent))) e
+    ∙ ap (λ v. has f (at_place t z ((send_on v z x o).sent))) r
+    ∙ ap (has f) (at_place_append t z o.sent ((record { trunk = t; target = z; item = x }) ∷ []))
+    ∙ has_last f (at_place t z o.sent) (at_place t z ((record { trunk = t; target = z; item = x }) ∷ []))
+    (ap (λ b. has f (cond b (x ∷ []) [] ++ [])) (ap (λ b. b && same_name z z) (same_trunk_refl t) ∙ same_name_is z z refl) ∙ has_one f x h)
+
+-- a signal of reference k goes to y's node
+abbrev pub Lands : (Item → Bool) → Node → Name → Work → Type 0
+Lands f n y o = (same_name y n.mint.name ≡ true → has f o.node.local ≡ true) × ((t : TrunkId) → same_name y n.mint.name ≡ false → route n y ≡ Some t → has f (at_place t y o.sent) ≡ true)
+
+pub lands_one : (f : Item → Bool) (n : Node) (s : Signal) (o : Work) → o.node.sides ≡ n.sides → o.node.mint.name ≡ n.mint.name → f (Signalled s) ≡ true → Lands f n (receiver_of s).node (post s o)
+lands_one f n s o sd nm h = (
+  λ e. one_local f (receiver_of s).node (Signalled s) o h (ap (same_name (receiver_of s).node) nm ∙ e),
+  λ t e r. one_sent f t (receiver_of s).node (Signalled s) o h (ap (same_name (receiver_of s).node) nm ∙ e) (ap (λ l. route_in (fm.entries l) (receiver_of s).node) sd ∙ r),
+)
+
+lands_all : (f : Item → Bool) (n : Node) (y : Name) (ss : List Signal) (o : Work) → o.node.sides ≡ n.sides → o.node.mint.name ≡ n.mint.name → any_to f y ss ≡ true → Lands f n y (post_all ss o)
+lands_all f n y [] o sd nm h = cc
+lands_all f n y (s ∷ ss) o sd nm h = go (f (Signalled s) && same_name y (receiver_of s).node) refl h
+    (lands_all f n y ss (post s o) (posts_keep (λ m. m.sides) (λ m l. refl) (receiver_of s).node (Signalled s) o ∙ sd) (posts_keep (λ m. m.mint.name) (λ m l. refl) (receiver_of s).node (Signalled s) o ∙ nm))
+  where
+    go : (b : Bool) → (f (Signalled s) && same_name y (receiver_of s).node) ≡ b → (b || any_to f y ss) ≡ true → (any_to f y ss ≡ true → Lands f n y (post_all ss (post s o))) → Lands f n y (post_all ss (post s o))
+    go true e h k =
+        let v = and_both (f (Signalled s)) (same_name y (receiver_of s).node) e in
+        let l : Lands f n y (post s o) = subst (λ z. Lands f n z (post s o)) (sym (same_name_true y (receiver_of s).node v.1)) (lands_one f n s o sd nm v.0) in
+        (λ i. all_local_grows f ss (post s o) (l.0 i), λ t i r. all_sent_grows f t y ss (post s o) (l.1 t i r))
+    go false e h k = k h
+
+-- one that ends tells the owner of each registration
+told_owner : (p : Pid) (x : Data) (k : Reference) (m : Monitor) (es : List (Reference × Monitor)) → find reference_cmp k es ≡ Some m → same_pid m.target p ≡ true → any_to (is_end k) m.owner.node (monitor_exits p x es) ≡ true
+told_owner p x k m [] h t = absurd (none_some m h)
+told_owner p x k m (e ∷ es) h t = any_to_append (is_end k) m.owner.node (cond (same_pid e.1.target p) (Signal.MonitorExit p e.1.owner e.0 x ∷ []) []) (monitor_exits p x es) ∙ go (same_reference k e.0) refl h (λ i. told_owner p x k m es i t)
+  where
+    first : (b : Bool) → same_pid e.1.target p ≡ b → b ≡ true → same_reference k e.0 ≡ true → same_name m.owner.node e.1.owner.node ≡ true → any_to (is_end k) m.owner.node (cond b (Signal.MonitorExit p e.1.owner e.0 x ∷ []) []) ≡ true
+    first true i j a c = ap (λ b. (b && same_name m.owner.node e.1.owner.node) || false) a ∙ ap (λ b. b || false) c
+    first false i j a c = cc
+
+    go : (b : Bool) → same_reference k e.0 ≡ b → cond b (Some e.1) (find reference_cmp k es) ≡ Some m → (find reference_cmp k es ≡ Some m → any_to (is_end k) m.owner.node (monitor_exits p x es) ≡ true)
+        → (any_to (is_end k) m.owner.node (cond (same_pid e.1.target p) (Signal.MonitorExit p e.1.owner e.0 x ∷ []) []) || any_to (is_end k) m.owner.node (monitor_exits p x es)) ≡ true
+    go true i h f = let c : e.1 ≡ m = some_same e.1 m h in
+        ap (λ b. b || any_to (is_end k) m.owner.node (monitor_exits p x es)) (first (same_pid e.1.target p) refl (ap (λ (z : Monitor). same_pid z.target p) c ∙ t) i (same_name_is m.owner.node e.1.owner.node (ap (λ (z : Monitor). z.owner.node) (sym c))))
+    go false i h f = or_second (any_to (is_end k) m.owner.node (cond (same_pid e.1.target p) (Signal.MonitorExit p e.1.owner e.0 x ∷ []) [])) (any_to (is_end k) m.owner.node (monitor_exits p x es)) (f h)
+
+cond_living : (b : Bool) (x : Data) (l : Option Life) → is_living_life l ≡ false → is_living_life (cond b (Some (Ended x)) l) ≡ false
+cond_living true x l h = refl
+cond_living false x l h = h
+
+cond_dead : (b : Bool) (x : Data) (l : Option Life) → b ≡ true → is_living_life (cond b (Some (Ended x)) l) ≡ false
+cond_dead true x l h = refl
+cond_dead false x l h = cc
+
+cond_other : (b : Bool) (x : Data) (l : Option Life) → b ≡ false → is_living_life (cond b (Some (Ended x)) l) ≡ is_living_life l
+cond_other true x l h = cc
+cond_other false x l h = refl
+
+not_true : (b : Bool) → not b ≡ true → b ≡ false
+not_true true h = cc
+not_true false h = refl
+
+pub living_delivered : (l : Option Life) (m : Data) → is_living_life (delivered l m) ≡ is_living_life l
+living_delivered None m = refl
+living_delivered (Some (Living t b)) m = refl
+living_delivered (Some (Ended x)) m = refl
+
+module _ (n : Node) (Tells : Reference → Monitor → Data → Type 0) (Joins : Reference → Monitor → Type 0) (Drops : Reference → Monitor → Type 0)
+    (were : (k : Reference) (m : Monitor) → fm.get n.registered k ≡ Some m → living n m.target ≡ true) where
+  -- the watch stays, or leaves with its owner, or is spent on a DOWN
+  pub data Fate (o : Work) (k : Reference) : Type 0 where
+    Same : fm.get o.node.watches k ≡ fm.get n.watches k → downs_in k o.effects ≡ [] → Fate o k
+    Left : (u : Monitor) → fm.get n.watches k ≡ Some u → fm.get o.node.watches k ≡ None → living o.node u.owner ≡ false → downs_in k o.effects ≡ [] → Fate o k
+    Spent : (u : Monitor) (x : Data) → fm.get n.watches k ≡ Some u → fm.get o.node.watches k ≡ None → Tells k u x → downs_in k o.effects ≡ down u x ∷ [] → Fate o k
+
+  pub record Turns (o : Work) : Type 0 where
+    pub fates : (k : Reference) → Fate o k
+    pub dead : (p : Pid) → living n p ≡ false → living o.node p ≡ false
+    pub enrolled : (k : Reference) (m : Monitor) → fm.get o.node.registered k ≡ Some m → (living o.node m.target ≡ true) × ((fm.get n.registered k ≡ Some m) ⊎ Joins k m)
+    -- a registration stays, or its owner is told, or it is dropped
+    pub leaving : (k : Reference) (m : Monitor) → fm.get n.registered k ≡ Some m → (fm.get o.node.registered k ≡ Some m) ⊎ (Lands (is_end k) n m.owner.node o ⊎ Drops k m)
+    pub local : (f : Item → Bool) → has f n.local ≡ true → has f o.node.local ≡ true
+    pub name : o.node.mint.name ≡ n.mint.name
+    pub creation : o.node.mint.creation ≡ n.mint.creation
+    pub references : o.node.mint.references ≡ n.mint.references
+    pub pids : o.node.mint.pids ≡ n.mint.pids
+    pub owners : (k : Reference) (u : Monitor) → fm.get o.node.watches k ≡ Some u → living o.node u.owner ≡ true
+
+  -- a part that touches no monitor
+  pub record Aside (o o' : Work) : Type 0 where
+    pub watches : (k : Reference) → fm.get o'.node.watches k ≡ fm.get o.node.watches k
+    pub downs : (k : Reference) → downs_in k o'.effects ≡ downs_in k o.effects
+    pub lives : (p : Pid) → living o'.node p ≡ living o.node p
+    pub registered : (k : Reference) → fm.get o'.node.registered k ≡ fm.get o.node.registered k
+    pub local : (f : Item → Bool) → has f o.node.local ≡ true → has f o'.node.local ≡ true
+    pub sent : (f : Item → Bool) (t : TrunkId) (y : Name) → has f (at_place t y o.sent) ≡ true → has f (at_place t y o'.sent) ≡ true
+    pub name : o'.node.mint.name ≡ o.node.mint.name
+    pub creation : o'.node.mint.creation ≡ o.node.mint.creation
+    pub references : o'.node.mint.references ≡ o.node.mint.references
+    pub pids : o'.node.mint.pids ≡ o.node.mint.pids
+
+  fate_aside : (o o' : Work) (k : Reference) → fm.get o'.node.watches k ≡ fm.get o.node.watches k → downs_in k o'.effects ≡ downs_in k o.effects → ((p : Pid) → living o.node p ≡ false → living o'.node p ≡ false) → Fate o k → Fate o' k
+  fate_aside o o' k w d l (Same a b) = Same (w ∙ a) (d ∙ b)
+  fate_aside o o' k w d l (Left u a b c e) = Left u a (w ∙ b) (l u.owner c) (d ∙ e)
+  fate_aside o o' k w d l (Spent u x a b t e) = Spent u x a (w ∙ b) t (d ∙ e)
+
+  lands_more : (f : Item → Bool) (y : Name) (o o' : Work) → (has f o.node.local ≡ true → has f o'.node.local ≡ true) → ((t : TrunkId) → has f (at_place t y o.sent) ≡ true → has f (at_place t y o'.sent) ≡ true) → Lands f n y o → Lands f n y o'
+  lands_more f y o o' l s h = (λ e. l (h.0 e), λ t e r. s t (h.1 t e r))
+
+  pub turns_aside : (o o' : Work) → Aside o o' → Turns o → Turns o'
+  turns_aside o o' a k = record {
+    fates = λ j. fate_aside o o' j (a.watches j) (a.downs j) (λ p h. a.lives p ∙ h) (k.fates j);
+    dead = λ p h. a.lives p ∙ k.dead p h;
+    enrolled = λ j m h. let v = k.enrolled j m (sym (a.registered j) ∙ h) in (a.lives m.target ∙ v.0, v.1);
+    leaving = λ j m h. go j m (k.leaving j m h);
+    local = λ f h. a.local f (k.local f h);
+    name = a.name ∙ k.name;
+    creation = a.creation ∙ k.creation;
+    references = a.references ∙ k.references;
+    pids = a.pids ∙ k.pids;
+    owners = λ j u h. a.lives u.owner ∙ k.owners j u (sym (a.watches j) ∙ h);
+  }
+    where
+      go : (j : Reference) (m : Monitor) → (fm.get o.node.registered j ≡ Some m) ⊎ (Lands (is_end j) n m.owner.node o ⊎ Drops j m) → (fm.get o'.node.registered j ≡ Some m) ⊎ (Lands (is_end j) n m.owner.node o' ⊎ Drops j m)
+      go j m (inl h) = inl (a.registered j ∙ h)
+      go j m (inr (inl h)) = inr (inl (lands_more (is_end j) m.owner.node o o' (a.local (is_end j)) (λ t. a.sent (is_end j) t m.owner.node) h))
+      go j m (inr (inr h)) = inr (inr h)
+
+  posts_aside : (ss : List Signal) (o : Work) → Aside o (post_all ss o)
+  posts_aside ss o = record {
+    watches = λ k. ap (λ z. fm.get z k) (all_posts_keep (λ m. m.watches) (λ m l. refl) ss o);
+    downs = λ k. quietly_downs k o.effects ((post_all ss o).effects) (quietly_all o.effects ss o Nothing);
+    lives = λ p. all_posts_keep (λ m. living m p) (λ m l. refl) ss o;
+    registered = λ k. ap (λ z. fm.get z k) (all_posts_keep (λ m. m.registered) (λ m l. refl) ss o);
+    local = λ f h. all_local_grows f ss o h;
+    sent = λ f t y h. all_sent_grows f t y ss o h;
+    name = all_posts_keep (λ m. m.mint.name) (λ m l. refl) ss o;
+    creation = all_posts_keep (λ m. m.mint.creation) (λ m l. refl) ss o;
+    references = all_posts_keep (λ m. m.mint.references) (λ m l. refl) ss o;
+    pids = all_posts_keep (λ m. m.mint.pids) (λ m l. refl) ss o;
+  }
+
+  -- effects and lives alone change
+  effects_aside : (o : Work) (m : Node) (gs : List Effect) → ((k : Reference) → downs_in k gs ≡ []) → m.watches ≡ o.node.watches → m.registered ≡ o.node.registered → m.local ≡ o.node.local → ((p : Pid) → living m p ≡ living o.node p)
+      → m.mint.name ≡ o.node.mint.name → m.mint.creation ≡ o.node.mint.creation → m.mint.references ≡ o.node.mint.references → m.mint.pids ≡ o.node.mint.pids → Aside o (record o { node = m; effects = o.effects ++ gs })
+  effects_aside o m gs d w r l v a b c e = record {
+    watches = λ k. ap (λ z. fm.get z k) w;
+    downs = λ k. no_more k o.effects gs (d k);
+    lives = v;
+    registered = λ k. ap (λ z. fm.get z k) r;
+    local = λ f h. ap (has f) l ∙ h;
+    sent = λ f t y h. h;
+    name = a;
+    creation = b;
+    references = c;
+    pids = e;
+  }
+
+  pub node_aside : (o : Work) (m : Node) → m.watches ≡ o.node.watches → m.registered ≡ o.node.registered → m.local ≡ o.node.local → ((p : Pid) → living m p ≡ living o.node p)
+      → m.mint.name ≡ o.node.mint.name → m.mint.creation ≡ o.node.mint.creation → m.mint.references ≡ o.node.mint.references → m.mint.pids ≡ o.node.mint.pids → Aside o (record o { node = m })
+  node_aside o m w r l v a b c e = record {
+    watches = λ k. ap (λ z. fm.get z k) w;
+    downs = λ k. refl;
+    lives = v;
+    registered = λ k. ap (λ z. fm.get z k) r;
+    local = λ f h. ap (has f) l ∙ h;
+    sent = λ f t y h. h;
+    name = a;
+    creation = b;
+    references = c;
+    pids = e;
+  }
+
+  pub lives_same : (p : Pid) (l : Option Life) (o : Work) → is_living_life l ≡ living o.node p → (q : Pid) → is_living_life (fm.get (set_life o.node.lives p l) q) ≡ living o.node q
+  lives_same p l o h q = set_life_living o.node.lives p l q (λ e. h ∙ ap (living o.node) (sym (same_pid_true q p e)))
+
+  put_aside : (p : Pid) (m : Data) (o : Work) → ((r : Reference) → down_in r p m ≡ []) → Aside o (put p m o)
+  put_aside p m o h = effects_aside o ((put p m o).node) (Put p m ∷ []) (λ k. ap (λ v. v ++ []) (h k)) refl refl refl (lives_same p (delivered (fm.get o.node.lives p) m) o (living_delivered (fm.get o.node.lives p) m)) refl refl refl refl
+
+  -- a process ends: posts, then its records go
+  buried_turns : (p : Pid) (x : Data) (o : Work) → ((k : Reference) (m : Monitor) → fm.get o.node.registered k ≡ Some m → same_pid m.target p ≡ true → Lands (is_end k) n m.owner.node o) → Turns o → Turns (buried p x o)
+  buried_turns p x o tell k = record {
+    fates = λ j. fate j (k.fates j);
+    dead = λ q h. lived q ∙ cond_living (same_pid q p) x (fm.get o.node.lives q) (k.dead q h);
+    enrolled = λ j m h. let v = both (not (is_target p (fm.get o.node.registered j))) (fm.get o.node.registered j) m (sym (registered_left p o.node.registered j) ∙ h) in
+        let w = k.enrolled j m v.1 in
+        (lived m.target ∙ cond_other (same_pid m.target p) x (fm.get o.node.lives m.target) (not_true (same_pid m.target p) (ap (λ z. not (is_target p z)) (sym v.1) ∙ v.0)) ∙ w.0, w.1);
+    leaving = λ j m h. go j m (k.leaving j m h);
+    local = k.local;
+    name = k.name;
+    creation = k.creation;
+    references = k.references;
+    pids = k.pids;
+    owners = λ j u h. owner j u (fm.get o.node.watches j) refl h;
+  }
+    where
+      both : (b : Bool) (v : Option Monitor) (m : Monitor) → cond b v None ≡ Some m → (b ≡ true) × (v ≡ Some m)
+      both true v m h = (refl, h)
+      both false v m h = absurd (none_some m h)
+
+      lived : (q : Pid) → living ((buried p x o).node) q ≡ is_living_life (cond (same_pid q p) (Some (Ended x)) (fm.get o.node.lives q))
+      lived q = ap is_living_life (fm.get-insert pid_total o.node.lives p (Ended x) q)
+
+      owner : (j : Reference) (u : Monitor) (v : Option Monitor) → fm.get o.node.watches j ≡ v → fm.get ((buried p x o).node.watches) j ≡ Some u → living ((buried p x o).node) u.owner ≡ true
+      owner j u v e h =
+          let b = both (not (is_owned p (fm.get o.node.watches j))) (fm.get o.node.watches j) u (sym (watches_left p o.node.watches j) ∙ h) in
+          lived u.owner ∙ cond_other (same_pid u.owner p) x (fm.get o.node.lives u.owner) (not_true (same_pid u.owner p) (ap (λ z. not (is_owned p z)) (sym b.1) ∙ b.0)) ∙ k.owners j u b.1
+
+      quiet : (j : Reference) → downs_in j ((buried p x o).effects) ≡ downs_in j o.effects
+      quiet j = no_more j o.effects (EndedBy p x ∷ []) refl
+
+      -- the watch of one who doesn't own it stays, and with its owner it goes
+      split : (j : Reference) (v : Option Monitor) → fm.get o.node.watches j ≡ v → (fm.get ((buried p x o).node.watches) j ≡ fm.get o.node.watches j) ⊎ ((u : Monitor) × (fm.get o.node.watches j ≡ Some u) × (same_pid u.owner p ≡ true) × (fm.get ((buried p x o).node.watches) j ≡ None))
+      split j None h = inl (watches_left p o.node.watches j ∙ ap (λ v. cond (not (is_owned p v)) v None) h ∙ sym h)
+      split j (Some u) h = by_test _ (same_pid u.owner p)
+          (λ e. inr (u, h, e, watches_left p o.node.watches j ∙ ap (λ v. cond (not (is_owned p v)) v None) h ∙ ap (λ b. cond (not b) (Some u) None) e))
+          (λ e. inl (watches_left p o.node.watches j ∙ ap (λ v. cond (not (is_owned p v)) v None) h ∙ ap (λ b. cond (not b) (Some u) None) e ∙ sym h))
+
+      deader : (q : Pid) → living o.node q ≡ false → living ((buried p x o).node) q ≡ false
+      deader q h = lived q ∙ cond_living (same_pid q p) x (fm.get o.node.lives q) h
+
+      fate : (j : Reference) → Fate o j → Fate (buried p x o) j
+      fate j f = pick f (split j (fm.get o.node.watches j) refl)
+        where
+          gone : (u : Monitor) → fm.get o.node.watches j ≡ Some u → same_pid u.owner p ≡ true → fm.get ((buried p x o).node.watches) j ≡ None → Fate o j → Fate (buried p x o) j
+          gone u h e w (Same a b) = Left u (sym a ∙ h) w (lived u.owner ∙ cond_dead (same_pid u.owner p) x (fm.get o.node.lives u.owner) e) (quiet j ∙ b)
+          gone u h e w (Left v a b c d) = absurd (none_some u (sym b ∙ h))
+          gone u h e w (Spent v y a b t d) = absurd (none_some u (sym b ∙ h))
+
+          pick : Fate o j → (fm.get ((buried p x o).node.watches) j ≡ fm.get o.node.watches j) ⊎ ((u : Monitor) × (fm.get o.node.watches j ≡ Some u) × (same_pid u.owner p ≡ true) × (fm.get ((buried p x o).node.watches) j ≡ None)) → Fate (buried p x o) j
+          pick f (inl w) = fate_aside o (buried p x o) j w (quiet j) deader f
+          pick f (inr w) = gone w.0 w.1 w.2 w.3 f
+
+      go : (j : Reference) (m : Monitor) → (fm.get o.node.registered j ≡ Some m) ⊎ (Lands (is_end j) n m.owner.node o ⊎ Drops j m) → (fm.get ((buried p x o).node.registered) j ≡ Some m) ⊎ (Lands (is_end j) n m.owner.node (buried p x o) ⊎ Drops j m)
+      go j m (inl h) = by_test _ (same_pid m.target p)
+          (λ e. inr (inl (tell j m h e)))
+          (λ e. inl (registered_left p o.node.registered j ∙ ap (λ v. cond (not (is_target p v)) v None) h ∙ ap (λ b. cond (not b) (Some m) None) e))
+      go j m (inr (inl h)) = inr (inl h)
+      go j m (inr (inr h)) = inr (inr h)
+
+  -- a part of an event that sets no side
+  pub record Core (o : Work) : Type 0 where
+    pub turns : Turns o
+    pub sides : o.node.sides ≡ n.sides
+
+  abbrev last_words : Pid → Data → Work → List Signal
+  last_words p x o = exits p x (fm.entries o.node.ends) ++ monitor_exits p x (fm.entries o.node.registered) ++ demonitors p (fm.entries o.node.watches)
+
+  owner_hears : (p : Pid) (x : Data) (o : Work) (j : Reference) (m : Monitor) → fm.get o.node.registered j ≡ Some m → same_pid m.target p ≡ true → any_to (is_end j) m.owner.node (last_words p x o) ≡ true
+  owner_hears p x o j m h e =
+      any_to_append (is_end j) m.owner.node (exits p x (fm.entries o.node.ends) ++ monitor_exits p x (fm.entries o.node.registered)) (demonitors p (fm.entries o.node.watches))
+      ∙ or_left _ (any_to (is_end j) m.owner.node (demonitors p (fm.entries o.node.watches)))
+      (any_to_append (is_end j) m.owner.node (exits p x (fm.entries o.node.ends)) (monitor_exits p x (fm.entries o.node.registered))
+      ∙ or_second (any_to (is_end j) m.owner.node (exits p x (fm.entries o.node.ends))) _ (told_owner p x j m (fm.entries o.node.registered) (sym (fm.get-entries o.node.registered j) ∙ h) e))
+
+  finish_turns : (p : Pid) (x : Data) (o : Work) → Core o → Core (finish p x o)
+  finish_turns p x o k = record {
+    turns = buried_turns p x (post_all (last_words p x o) o)
+        (λ j m h e. lands_all (is_end j) n m.owner.node (last_words p x o) o k.sides k.turns.name (owner_hears p x o j m (ap (λ z. fm.get z j) (sym (all_posts_keep (λ v. v.registered) (λ v l. refl) (last_words p x o) o)) ∙ h) e))
+        (turns_aside o (post_all (last_words p x o) o) (posts_aside (last_words p x o) o) k.turns);
+    sides = all_posts_keep (λ m. m.sides) (λ m l. refl) (last_words p x o) o ∙ k.sides;
+  }
+
+  -- a DOWN is put, and the watch goes
+  ended_turns : (r : Reference) (m : Monitor) (x : Data) (o : Work) → fm.get o.node.watches r ≡ Some m → Tells r m x → Turns o → Turns (put m.owner (down_term r m.target x) (unwatch r o))
+  ended_turns r m x o h t k = record {
+    fates = λ j. fate j (k.fates j);
+    dead = λ q d. lived q ∙ k.dead q d;
+    enrolled = λ j v e. let w = k.enrolled j v e in (lived v.target ∙ w.0, w.1);
+    leaving = λ j v e. k.leaving j v e;
+    local = k.local;
+    name = k.name;
+    creation = k.creation;
+    references = k.references;
+    pids = k.pids;
+    owners = λ j u e. lived u.owner ∙ k.owners j u (removed_some o.node.watches r j u e);
+  }
+    where
+      lived : (q : Pid) → living ((put m.owner (down_term r m.target x) (unwatch r o)).node) q ≡ living o.node q
+      lived q = lives_same m.owner (delivered (fm.get o.node.lives m.owner) (down_term r m.target x)) o (living_delivered (fm.get o.node.lives m.owner) (down_term r m.target x)) q
+
+      said : (j : Reference) → downs_in j ((put m.owner (down_term r m.target x) (unwatch r o)).effects) ≡ downs_in j o.effects ++ cond (same_reference j r) (down m x ∷ []) []
+      said j = downs_append j o.effects (Put m.owner (down_term r m.target x) ∷ []) ∙ ap (λ l. downs_in j o.effects ++ l) (append-nil (down_in j m.owner (down_term r m.target x)) ∙ down_said j r m.owner m.target x)
+
+      left : (j : Reference) → fm.get ((put m.owner (down_term r m.target x) (unwatch r o)).node.watches) j ≡ cond (same_reference j r) None (fm.get o.node.watches j)
+      left j = fm.get-remove reference_cmp_total o.node.watches r j
+
+      fate : (j : Reference) → Fate o j → Fate (put m.owner (down_term r m.target x) (unwatch r o)) j
+      fate j f = by_test _ (same_reference j r)
+          (λ e. here j e f)
+          (λ e. fate_aside o (put m.owner (down_term r m.target x) (unwatch r o)) j (left j ∙ ap (λ b. cond b None (fm.get o.node.watches j)) e) (said j ∙ ap (λ b. downs_in j o.effects ++ cond b (down m x ∷ []) []) e ∙ append-nil (downs_in j o.effects)) (λ q d. lived q ∙ d) f)
+        where
+          here : (j : Reference) → same_reference j r ≡ true → Fate o j → Fate (put m.owner (down_term r m.target x) (unwatch r o)) j
+          here j e (Same a b) =
+              let js : j ≡ r = same_reference_true j r e in
+              Spent m x (sym a ∙ ap (fm.get o.node.watches) js ∙ h) (left j ∙ ap (λ b. cond b None (fm.get o.node.watches j)) e) (subst (λ z. Tells z m x) (sym js) t)
+              (said j ∙ ap (λ l. l ++ cond (same_reference j r) (down m x ∷ []) []) b ∙ ap (λ b. cond b (down m x ∷ []) []) e)
+          here j e (Left u a b c d) = absurd (none_some m (sym b ∙ ap (fm.get o.node.watches) (same_reference_true j r e) ∙ h))
+          here j e (Spent u y a b s d) = absurd (none_some m (sym b ∙ ap (fm.get o.node.watches) (same_reference_true j r e) ∙ h))
+
+  -- a registration comes, or goes
+  registers_turns : (r : Reference) (m : Monitor) (o : Work) → living o.node m.target ≡ true → Joins r m → Turns o → Turns (register r m o)
+  registers_turns r m o l h k = record {
+    fates = λ j. fate_aside o (register r m o) j refl refl (λ p d. d) (k.fates j);
+    dead = k.dead;
+    enrolled = λ j v e. new j v (added_some o.node.registered r m j v e);
+    leaving = λ j v e. go j v (k.leaving j v e);
+    local = k.local;
+    name = k.name;
+    creation = k.creation;
+    references = k.references;
+    pids = k.pids;
+    owners = k.owners;
+  }
+    where
+      new : (j : Reference) (v : Monitor) → (fm.get o.node.registered j ≡ Some v) ⊎ ((j ≡ r) × (m ≡ v)) → (living o.node v.target ≡ true) × ((fm.get n.registered j ≡ Some v) ⊎ Joins j v)
+      new j v (inl e) = k.enrolled j v e
+      new j v (inr e) = (subst (λ (z : Monitor). living o.node z.target ≡ true) e.1 l, inr (subst (λ z. Joins z v) (sym e.0) (subst (λ z. Joins r z) e.1 h)))
+
+      stays : (j : Reference) (v : Monitor) → fm.get o.node.registered j ≡ Some v → fm.get (added o.node.registered r m) j ≡ Some v
+      stays j v e = pick (fm.contains_key o.node.registered r) refl
+        where
+          pick : (b : Bool) → fm.contains_key o.node.registered r ≡ b → fm.get (cond b o.node.registered (fm.insert o.node.registered r m)) j ≡ Some v
+          pick true i = e
+          pick false i = fm.get-insert reference_cmp_total o.node.registered r m j ∙ by_test _ (same_reference j r)
+              (λ s. let c : false ≡ true = sym i ∙ ap Rattle.std.specs.Option.is_some (ap (fm.get o.node.registered) (sym (same_reference_true j r s)) ∙ e) in cc)
+              (λ s. ap (λ b. cond b (Some m) (fm.get o.node.registered j)) s ∙ e)
+
+      go : (j : Reference) (v : Monitor) → (fm.get o.node.registered j ≡ Some v) ⊎ (Lands (is_end j) n v.owner.node o ⊎ Drops j v) → (fm.get (added o.node.registered r m) j ≡ Some v) ⊎ (Lands (is_end j) n v.owner.node (register r m o) ⊎ Drops j v)
+      go j v (inl e) = inl (stays j v e)
+      go j v (inr (inl e)) = inr (inl e)
+      go j v (inr (inr e)) = inr (inr e)
+
+  unregisters_turns : (r : Reference) (m : Monitor) (o : Work) → fm.get o.node.registered r ≡ Some m → Drops r m → Turns o → Turns (unregister r o)
+  unregisters_turns r m o h d k = record {
+    fates = λ j. fate_aside o (unregister r o) j refl refl (λ p e. e) (k.fates j);
+    dead = k.dead;
+    enrolled = λ j v e. k.enrolled j v (removed_some o.node.registered r j v e);
+    leaving = λ j v e. go j v (k.leaving j v e);
+    local = k.local;
+    name = k.name;
+    creation = k.creation;
+    references = k.references;
+    pids = k.pids;
+    owners = k.owners;
+  }
+    where
+      go : (j : Reference) (v : Monitor) → (fm.get o.node.registered j ≡ Some v) ⊎ (Lands (is_end j) n v.owner.node o ⊎ Drops j v) → (fm.get (fm.remove o.node.registered r) j ≡ Some v) ⊎ (Lands (is_end j) n v.owner.node (unregister r o) ⊎ Drops j v)
+      go j v (inl e) = by_test _ (same_reference j r)
+          (λ s. let js : j ≡ r = same_reference_true j r s in let mv : m ≡ v = some_same m v (sym h ∙ ap (fm.get o.node.registered) (sym js) ∙ e) in inr (inr (subst (λ z. Drops z v) (sym js) (subst (λ z. Drops r z) mv d))))
+          (λ s. inl (fm.get-remove reference_cmp_total o.node.registered r j ∙ ap (λ b. cond b None (fm.get o.node.registered j)) s ∙ e))
+      go j v (inr (inl e)) = inr (inl e)
+      go j v (inr (inr e)) = inr (inr e)
+
+  core_aside : (o o' : Work) → Aside o o' → o'.node.sides ≡ o.node.sides → Core o → Core o'
+  core_aside o o' a s k = record { turns = turns_aside o o' a k.turns; sides = s ∙ k.sides }
+
+  abbrev pub turn_rules : Rules
+  turn_rules = record { Says = λ s. Unit {0}; Reacts = λ p q x. Unit {0}; Tells = Tells; Joins = Joins; Drops = Drops }
+
+  pub core_closed : Closed turn_rules Core
+  core_closed = record {
+    plain = λ s h. tt;
+    posted = λ s o h k. core_aside o (post s o) (posts_aside (s ∷ []) o) (posts_keep (λ m. m.sides) (λ m l. refl) (receiver_of s).node (Signalled s) o) k;
+    end_set = λ p q e o k. core_aside o (set_end p q e o) (node_aside o ((set_end p q e o).node) refl refl refl (λ z. refl) refl refl refl refl) refl k;
+    drew = λ o k. core_aside o (draw kind.UnlinkId o) (node_aside o ((draw kind.UnlinkId o).node) refl refl refl (λ z. refl) refl refl refl refl) refl k;
+    life_set = λ p l o h k. core_aside o (record o { node = record (o.node) { lives = set_life o.node.lives p l } }) (node_aside o (record (o.node) { lives = set_life o.node.lives p l }) refl refl refl (lives_same p l o h) refl refl refl refl) refl k;
+    message = λ p m o h k. core_aside o (put p m o) (put_aside p m o h) refl k;
+    reacted = λ p q x o h k. core_aside o (report (LinkExit p q x) o) (effects_aside o o.node (LinkExit p q x ∷ []) (λ r. refl) refl refl refl (λ z. refl) refl refl refl refl) refl k;
+    finished = λ p x o k. finish_turns p x o k;
+    registers = λ r m o l h k. record { turns = registers_turns r m o l h k.turns; sides = k.sides };
+    unregisters = λ r m o e h k. record { turns = unregisters_turns r m o e h k.turns; sides = k.sides };
+    ended = λ r m x o e h k. record { turns = ended_turns r m x o e h k.turns; sides = k.sides };
+  }
+
+  -- the handshake
+  pub turns_side : (t : TrunkId) (s : TrunkSide) (o : Work) → Turned o.node t s → Turns o → Turns (with_side t s o)
+  turns_side t s o h k = turns_aside o (with_side t s o) (node_aside o ((with_side t s o).node) refl refl refl (λ z. refl) refl refl refl refl) k
+
+  pub turns_wrote : (t : TrunkId) (y : Name) (m : ShakeMsg) (o : Work) → Turns o → Turns (write t y m o)
+  turns_wrote t y m o k = turns_aside o (write t y m o) (record {
+    watches = λ j. refl;
+    downs = λ j. no_more j o.effects (Sent y (Handshake m) ∷ []) refl;
+    lives = λ p. refl;
+    registered = λ j. refl;
+    local = λ f h. h;
+    sent = λ f u z h. ap (has f) (at_place_append u z o.sent ((record { trunk = t; target = y; item = Handshake m }) ∷ [])) ∙ has_first f (at_place u z o.sent) _ h;
+    name = refl;
+    creation = refl;
+    references = refl;
+    pids = refl;
+  }) k

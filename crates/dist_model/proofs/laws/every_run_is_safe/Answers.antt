@@ -1,0 +1,30 @@
+use Rattle.dist_model.proofs.laws.every_run_is_safe.Goals as goal
+use Rattle.dist_model.proofs.Histories.{Tale, answered_once, down_once, down_to_the_owner, downs_tell_true_cause, no_down_where_demonitored, reacts_for_true_cause, throughout}
+use Rattle.dist_model.proofs.Resting.{down_or_registered}
+use Rattle.dist_model.proofs.Safety.{agreement, agreement_in_quiet, agreement_within, no_link_to_itself, no_link_to_the_dead, no_up_beside_losing, one_trunk, pending, pending_within}
+use Rattle.dist_model.specs.Histories.{History}
+use Rattle.dist_model.specs.Safety.{Safe}
+use Rattle.dist_model.specs.World.{World}
+
+safe : (h : History) (w : World) → Tale w h → Safe h w
+safe h w t = record {
+  agreement_connected = agreement w t.good;
+  agreement_within = agreement_within w t.good;
+  agreement_in_quiet = agreement_in_quiet w t.good;
+  pending_connected = pending w t.good;
+  pending_within = pending_within w t.good;
+  no_link_to_the_dead = no_link_to_the_dead w t.good;
+  no_link_to_itself = no_link_to_itself w t.good;
+  reactions = reacts_for_true_cause h w t;
+  answered_once = answered_once h w t;
+  down_once = down_once h w t;
+  down_to_the_owner = down_to_the_owner h w t;
+  downs_tell_true_cause = downs_tell_true_cause h w t;
+  no_down_where_demonitored = no_down_where_demonitored h w t;
+  down_or_registered = down_or_registered h w t;
+  one_trunk = one_trunk w t.good;
+  no_up_beside_losing = no_up_beside_losing w t.good;
+}
+
+pub returns : goal.returns
+returns c = record { safe = throughout Safe safe }

@@ -1,0 +1,24 @@
+-- All that has happened in a run: its events, each with what was reported of it.
+use Rattle.std.specs.Prelude.{List, [], ◌∷◌, ℕ}
+use Rattle.dist_model.specs.Names.{Name}
+use Rattle.dist_model.specs.Runs.{Runs, opening}
+use Rattle.dist_model.specs.World.{Event, Report, World}
+
+pub record Happening : Type 0 where
+  pub event : Event
+  pub report : Report
+
+-- the latest first
+abbrev pub History : Type 0
+History = List Happening
+
+-- these events with their reports, after all that was before
+abbrev pub told : List Event → List Report → History → History
+told [] reports before = before
+told (event ∷ events) [] before = before
+told (event ∷ events) (report ∷ reports) before = told events reports (record { event = event; report = report } ∷ before)
+
+-- whatever happens, and so at each moment of whatever happens
+abbrev pub Throughout : (History → World → Type 0) → Type 0
+Throughout Holds = (nodes : List (Name × List ℕ)) (events : List Event) (reports : List Report) (world : World)
+    → Runs (opening nodes) events reports world → Holds (told events reports []) world
