@@ -50,3 +50,4 @@ pub mod Following
 pub mod Histories
 pub mod Resting
 pub mod Forms
+pub mod Watching

@@ -28,3 +28,4 @@ pub mod Claims
 pub mod Fates
 pub mod Safety
 pub mod Schedules
+pub mod OneMonitor

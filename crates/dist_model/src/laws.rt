@@ -30,6 +30,7 @@ ghost use Rattle.dist_model.specs.Admission.{give_up, others};
 ghost use Rattle.dist_model.specs.Seen.{end_between, AreConnected};
 ghost use Rattle.dist_model.specs.Schedules as schedule;
 ghost use Rattle.dist_model.specs.Claims.{Agreement, AgreementWithin, AgreementInQuiet, PendingOnItsWay, PendingWithin, NoLinkToTheDead, NoLinkToItself, LinkNeedsConnection, LivingWasSpawned, OneTrunk, NoUpBesideLosing, KeepsOrder, ReactsOnlyWhereLinked};
+ghost use Rattle.dist_model.specs.OneMonitor as monitor;
 ghost use Rattle.dist_model.specs.Histories.{Throughout};
 ghost use Rattle.dist_model.specs.Fates.{ReactsForTrueCause, ExitsTellTrueCause, ExitsTellTrueCauseWithin, AnsweredOnce, DownOnce, DownToTheOwner, NoDownWhereDemonitored, DownsTellTrueCause, DownOrRegistered};
 ghost use Rattle.dist_model.specs.Safety.{Safe};
@@ -95,6 +96,18 @@ pub fn monitors()
     ensures demonitored { Throughout NoDownWhereDemonitored }
     ensures cause { Throughout DownsTellTrueCause }
     ensures quiet { Throughout DownOrRegistered }
+{}
+
+/// One monitor by itself, over every list of calls, ends, signals taken, lost connections, sweeps,
+/// stops and new connections: at most one DOWN, which names the target, for a true reason or for a
+/// lost connection; none where the monitor was taken back; and whenever nothing travels, the DOWN
+/// has come to a living owner, or the target is living and registered. (Reference Manual, Processes,
+/// Monitors.)
+pub fn one_monitor()
+    ensures once { (target : Pid) (events : List monitor.Event) → monitor.AtMostOne (monitor.run events (monitor.start target)) }
+    ensures names { (target : Pid) (events : List monitor.Event) → monitor.NamesTheTarget (monitor.run events (monitor.start target)) }
+    ensures demonitored { (target : Pid) (events : List monitor.Event) → monitor.NoneAfterDemonitor (monitor.run events (monitor.start target)) }
+    ensures quiet { (target : Pid) (events : List monitor.Event) → monitor.DownOrRegistered (monitor.run events (monitor.start target)) }
 {}
 
 /// The safety of every run: agreement, pending, no link to the dead, reactions, monitors and one
