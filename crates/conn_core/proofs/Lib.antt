@@ -1,4 +1,5 @@
 pub mod Whole
+pub mod OneArrival
 pub mod Steps
 pub mod Within
 pub mod DialerKept

@@ -16,7 +16,7 @@ mod side;
 mod state;
 mod taken;
 
-pub use laws::up_only_by_digest;
+pub use laws::{one_arrival, up_only_by_digest};
 pub use side::Side;
 pub use state::State;
 pub use taken::{Fault, Taken};
