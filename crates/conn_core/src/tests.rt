@@ -254,6 +254,42 @@ fn full_handshake_of_the_acceptor(rt: HostRuntime) -> Result<(), Fail> {
     Ok(())
 }
 
+/// What a side sends arrives at the other side. Answers what that sends back.
+fn passed(
+    alloc: Global,
+    message: Option<ShakeMsg>,
+    side: &mut Side,
+) -> Result<Option<ShakeMsg>, Refusal> {
+    let message = message.ok_or(Refusal::NothingThere)?;
+    let bytes = write(alloc, &message)?;
+    match taken(alloc, side, &bytes)? {
+        Taken::Message { send, .. } => Ok(send),
+        _ => Err(Refusal::BadMessage),
+    }
+}
+
+/// Two sides that take what the other sends, until both are up.
+fn shake_hands(alloc: Global, a: &mut Side, name: ShakeMsg, b: &mut Side) -> Result<(), Refusal> {
+    passed(alloc, Some(name), b)?;
+    passed(alloc, b.admit(ALONE)?.next.send, a)?;
+    let reply = passed(alloc, b.go_on()?.send, a)?;
+    let acknowledgement = passed(alloc, reply, b)?;
+    passed(alloc, acknowledgement, a)?;
+    Ok(())
+}
+
+#[test]
+fn full_handshake_of_two_sides(rt: HostRuntime) -> Result<(), Fail> {
+    let alloc = rt.alloc();
+    let own = identity(alloc, "a@h", SECRET)?;
+    let (mut a, name) = Side::dial(own, 1, NodeName::read(alloc, "b@h")?, CHALLENGE)?;
+    let mut b = fresh(alloc, SECRET)?;
+    shake_hands(alloc, &mut a, name, &mut b)?;
+    assert!(rt; stands(&a, State::Up, Some(1)) && is_tick(alloc, &mut a)?);
+    assert!(rt; stands(&b, State::Up, Some(1)) && is_tick(alloc, &mut b)?);
+    Ok(())
+}
+
 /// There is a connection already: the dialer goes on, and waits until the old one is cleared away.
 fn asked_goes_on(alloc: Global, side: &mut Side) -> Result<bool, Refusal> {
     Ok(
