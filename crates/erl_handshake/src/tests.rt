@@ -218,29 +218,45 @@ fn any_creation_is_read(rt: HostRuntime) -> Result<(), Fail> {
     Ok(())
 }
 
+/// Whether the body is no message, to a reader of either role.
+fn is_refused(alloc: Global, body: &[u8]) -> Result<bool, AllocError> {
+    let bytes = counted(alloc, &[body])?;
+    for role in ROLES {
+        if refusal(alloc, role, &bytes) != Some(Refusal::BadMessage) {
+            return Ok(false);
+        }
+    }
+    Ok(true)
+}
+
+/// The name is cut, has no host, no first word, is too short for its length, or isn't UTF-8.
+#[test]
+fn bad_names_are_refused(rt: HostRuntime) -> Result<(), Fail> {
+    let names: [&[u8]; 7] = [
+        &[0, 3, 0x61, 0x40],
+        &[0, 2, 0x61, 0x40],
+        &[0, 2, 0x40, 0x68],
+        &[3, 0, 0x61, 0x40, 0x68],
+        &[0, 3, 0x61, 0x40, 0xFF],
+        &[0],
+        &[],
+    ];
+    for name in names {
+        let alloc = rt.alloc();
+        let body = joined(
+            alloc,
+            &[&[0x4E, 0, 0, 0, 4, 3, 5, 1, 0x0C, 0, 0, 0, 1], name],
+        )?;
+        assert!(rt; is_refused(alloc, &body)?);
+    }
+    Ok(())
+}
+
 #[test]
 fn what_is_no_message_is_refused(rt: HostRuntime) -> Result<(), Fail> {
-    let bodies: [&[u8]; 16] = [
+    let bodies: [&[u8]; 9] = [
         b"",
         b"N",
-        // The name is cut, has no host, no first word, is too short for its length, or isn't UTF-8.
-        &[
-            0x4E, 0, 0, 0, 4, 3, 5, 1, 0x0C, 0, 0, 0, 1, 0, 3, 0x61, 0x40,
-        ],
-        &[
-            0x4E, 0, 0, 0, 4, 3, 5, 1, 0x0C, 0, 0, 0, 1, 0, 2, 0x61, 0x40,
-        ],
-        &[
-            0x4E, 0, 0, 0, 4, 3, 5, 1, 0x0C, 0, 0, 0, 1, 0, 2, 0x40, 0x68,
-        ],
-        &[
-            0x4E, 0, 0, 0, 4, 3, 5, 1, 0x0C, 0, 0, 0, 1, 3, 0, 0x61, 0x40, 0x68,
-        ],
-        &[
-            0x4E, 0, 0, 0, 4, 3, 5, 1, 0x0C, 0, 0, 0, 1, 0, 3, 0x61, 0x40, 0xFF,
-        ],
-        &[0x4E, 0, 0, 0, 4, 3, 5, 1, 0x0C, 0, 0, 0, 1, 0],
-        &[0x4E, 0, 0, 0, 4, 3, 5, 1, 0x0C, 0, 0, 0, 1],
         // A reply without its last byte, and one with another behind it; the same of an ack.
         &REPLY[2..22],
         &[
@@ -256,13 +272,7 @@ fn what_is_no_message_is_refused(rt: HostRuntime) -> Result<(), Fail> {
         &[0x78],
     ];
     for body in bodies {
-        let bytes = counted(rt.alloc(), &[body])?;
-        for role in ROLES {
-            assert_eq!(rt;
-                refusal(rt.alloc(), role, &bytes),
-                Some(Refusal::BadMessage)
-            );
-        }
+        assert!(rt; is_refused(rt.alloc(), body)?);
     }
     Ok(())
 }
@@ -321,64 +331,28 @@ fn is_written(alloc: Global, message: &ShakeMsg, bytes: &[u8]) -> Result<bool, R
     Ok(write(alloc, message)?.as_slice() == bytes)
 }
 
+/// What that is of each byte of a message with a name of three letters: its length, the letter, the
+/// numbers, the length of the name, and the name.
+fn values_of_a_name(at: usize, len: usize, needs_more: u32) -> (u32, u32) {
+    match (at, len.saturating_sub(at)) {
+        (0, _) => (1, 255),
+        (1, _) => (1, needs_more),
+        (2, _) | (_, 5 | 4 | 2) => (1, 0),
+        (_, 3) => (64, 0),
+        (_, 1) => (65, 0),
+        _ => (256, 0),
+    }
+}
+
 #[test]
 fn each_byte_of_a_name_replaced(rt: HostRuntime) -> Result<(), Fail> {
-    let any = (256, 0);
-    let one = (1, 0);
-    // The length, the letter, flags and creation, the length of the name, and the name.
-    let wanted = [
-        (1, 255),
-        (1, 237),
-        one,
-        any,
-        any,
-        any,
-        any,
-        any,
-        any,
-        any,
-        any,
-        any,
-        any,
-        any,
-        any,
-        one,
-        one,
-        (64, 0),
-        one,
-        (65, 0),
-    ];
-    for (at, counts) in wanted.into_iter().enumerate() {
-        assert_eq!(rt; values(rt.alloc(), Role::Acceptor, &SEND_NAME, at)?, counts);
+    for at in 0..SEND_NAME.len() {
+        let wanted = values_of_a_name(at, SEND_NAME.len(), 237);
+        assert_eq!(rt; values(rt.alloc(), Role::Acceptor, &SEND_NAME, at)?, wanted);
     }
-    let wanted = [
-        (1, 255),
-        (1, 233),
-        one,
-        any,
-        any,
-        any,
-        any,
-        any,
-        any,
-        any,
-        any,
-        any,
-        any,
-        any,
-        any,
-        any,
-        any,
-        any,
-        any,
-        one,
-        one,
-        (64, 0),
-        one,
-        (65, 0),
-    ];
-    for (at, counts) in wanted.into_iter().enumerate() {
-        assert_eq!(rt; values(rt.alloc(), Role::Dialer, &CHALLENGE, at)?, counts);
+    for at in 0..CHALLENGE.len() {
+        let wanted = values_of_a_name(at, CHALLENGE.len(), 233);
+        assert_eq!(rt; values(rt.alloc(), Role::Dialer, &CHALLENGE, at)?, wanted);
     }
     Ok(())
 }
