@@ -84,6 +84,10 @@ fn waits(next: &Next) -> bool {
     next.outcome == Outcome::Go && next.send.is_none()
 }
 
+fn is_done(next: &Next, send: Option<&ShakeMsg>) -> bool {
+    next.outcome == Outcome::Done && next.send.as_ref() == send
+}
+
 fn ends(next: &Next, why: Refusal) -> bool {
     next.outcome == Outcome::Ended(why) && next.send.is_none()
 }
@@ -139,87 +143,116 @@ fn challenging(alloc: Global) -> Result<Acceptor, Refusal> {
     Ok(acceptor)
 }
 
+/// Whether the first message of a@h is its name.
+fn gives_its_name(alloc: Global, dialer: &Dialer) -> Result<bool, Refusal> {
+    let wanted = ShakeMsg::SendName {
+        flags: Flags::mandatory(),
+        creation: 1,
+        name: NodeName::read(alloc, "a@h")?,
+    };
+    Ok(dialer.send_name()? == wanted)
+}
+
+/// Whether the dialer replies to the challenge of b@h.
+fn replies(alloc: Global, dialer: &mut Dialer) -> Result<bool, Refusal> {
+    let message = challenge(alloc, "b@h", Flags::mandatory())?;
+    Ok(says(&dialer.step(&message, 0), &reply(DIGEST)))
+}
+
 #[test]
 fn dialer_goes_all_the_way(rt: HostRuntime) -> Result<(), Fail> {
     let alloc = rt.alloc();
     let mut dialer = dialer(alloc)?;
-    let name = NodeName::read(alloc, "a@h")?;
-    let flags = Flags::mandatory();
-    let creation = 1;
-    assert!(rt;
-        dialer.send_name()?
-            == ShakeMsg::SendName {
-                flags,
-                creation,
-                name
-            }
-    );
+    assert!(rt; gives_its_name(alloc, &dialer)?);
     assert!(rt; waits(&dialer.step(&ShakeMsg::Status(Status::Ok), 0)));
-    let next = dialer.step(&challenge(alloc, "b@h", flags)?, 0);
-    assert!(rt; says(&next, &reply(DIGEST)));
-    let next = dialer.step(&ack(DIGEST), 0);
-    assert!(rt; next.outcome == Outcome::Done);
-    assert!(rt; next.send.is_none());
+    assert!(rt; replies(alloc, &mut dialer)?);
+    assert!(rt; is_done(&dialer.step(&ack(DIGEST), 0), None));
     assert!(rt; dialer.state() == DialerState::Done { creation: 7 });
     Ok(())
 }
 
-#[test]
-fn acceptor_goes_all_the_way(rt: HostRuntime) -> Result<(), Fail> {
-    let alloc = rt.alloc();
-    let mut acceptor = acceptor(alloc, "b@h", 1)?;
+/// Whether the acceptor takes the name of a@h.
+fn takes_a_name(alloc: Global, acceptor: &mut Acceptor) -> Result<bool, Refusal> {
     let message = send_name(alloc, "a@h", Flags::mandatory())?;
-    assert!(rt; waits(&acceptor.step(&message, CHALLENGE)));
+    Ok(waits(&acceptor.step(&message, CHALLENGE)))
+}
+
+/// Whether the attempt is told ok.
+fn is_admitted(acceptor: &mut Acceptor) -> Result<bool, Refusal> {
     let admission = acceptor.admit(ALONE)?;
-    assert!(rt; says(&admission.next, &ShakeMsg::Status(Status::Ok)));
-    let next = acceptor.go_on()?;
+    Ok(says(&admission.next, &ShakeMsg::Status(Status::Ok)))
+}
+
+/// Whether the acceptor sends the challenge of b@h.
+fn challenges(alloc: Global, acceptor: &mut Acceptor) -> Result<bool, Refusal> {
     let wanted = ShakeMsg::Challenge {
         flags: Flags::mandatory(),
         challenge: CHALLENGE,
         creation: 1,
         name: NodeName::read(alloc, "b@h")?,
     };
-    assert!(rt; says(&next, &wanted));
-    let next = acceptor.step(&reply(DIGEST), 0);
-    assert!(rt; next.outcome == Outcome::Done);
-    assert!(rt; next.send == Some(ack(DIGEST)));
+    Ok(says(&acceptor.go_on()?, &wanted))
+}
+
+#[test]
+fn acceptor_goes_all_the_way(rt: HostRuntime) -> Result<(), Fail> {
+    let alloc = rt.alloc();
+    let mut acceptor = acceptor(alloc, "b@h", 1)?;
+    assert!(rt; takes_a_name(alloc, &mut acceptor)?);
+    assert!(rt; is_admitted(&mut acceptor)?);
+    assert!(rt; challenges(alloc, &mut acceptor)?);
+    assert!(rt; is_done(&acceptor.step(&reply(DIGEST), 0), Some(&ack(DIGEST))));
     assert!(rt; acceptor.state() == AcceptorState::Done { creation: 7 });
     Ok(())
 }
 
-/// What a dialer that awaits the status makes of each.
+/// Whether a dialer that awaits the status makes of this one what it has to.
+fn takes_status(alloc: Global, status: Status) -> Result<bool, Refusal> {
+    let next = dialer(alloc)?.step(&ShakeMsg::Status(status), 0);
+    Ok(match status {
+        Status::Ok | Status::OkSimultaneous => waits(&next),
+        Status::Alive => says(&next, &ShakeMsg::Status(Status::True)),
+        Status::Nok | Status::NotAllowed => ends(&next, Refusal::Nok),
+        Status::True | Status::False => ends(&next, Refusal::BadMessage),
+    })
+}
+
 #[test]
 fn each_status(rt: HostRuntime) -> Result<(), Fail> {
-    let alloc = rt.alloc();
     for status in STATUSES {
-        let mut dialer = dialer(alloc)?;
-        let next = dialer.step(&ShakeMsg::Status(status), 0);
-        let is_right = match status {
-            Status::Ok | Status::OkSimultaneous => waits(&next),
-            Status::Alive => says(&next, &ShakeMsg::Status(Status::True)),
-            Status::Nok | Status::NotAllowed => ends(&next, Refusal::Nok),
-            Status::True | Status::False => ends(&next, Refusal::BadMessage),
-        };
-        assert!(rt; is_right);
+        assert!(rt; takes_status(rt.alloc(), status)?);
     }
     Ok(())
 }
 
-/// What an acceptor that has asked the dialer makes of each status.
+/// Whether an acceptor that has asked the dialer makes of this status what it has to.
+fn takes_answer(alloc: Global, status: Status) -> Result<bool, Refusal> {
+    let next = asked(alloc)?.step(&ShakeMsg::Status(status), 0);
+    Ok(match status {
+        Status::True => waits(&next),
+        Status::False => ends(&next, Refusal::Nok),
+        _ => ends(&next, Refusal::BadMessage),
+    })
+}
+
 #[test]
 fn each_answer(rt: HostRuntime) -> Result<(), Fail> {
-    let alloc = rt.alloc();
     for status in STATUSES {
-        let mut acceptor = asked(alloc)?;
-        let next = acceptor.step(&ShakeMsg::Status(status), 0);
-        let is_right = match status {
-            Status::True => waits(&next),
-            Status::False => ends(&next, Refusal::Nok),
-            _ => ends(&next, Refusal::BadMessage),
-        };
-        assert!(rt; is_right);
+        assert!(rt; takes_answer(rt.alloc(), status)?);
     }
     Ok(())
+}
+
+/// Whether an attempt at b@h ends for this reason, whose dialer says this name and these flags.
+fn acceptor_ends(alloc: Global, name: &str, flags: Flags, why: Refusal) -> Result<bool, Refusal> {
+    let message = send_name(alloc, name, flags)?;
+    Ok(ends(&acceptor(alloc, "b@h", 1)?.step(&message, 0), why))
+}
+
+/// Whether an attempt at b@h ends for this reason, whose acceptor says this name and these flags.
+fn dialer_ends(alloc: Global, name: &str, flags: Flags, why: Refusal) -> Result<bool, Refusal> {
+    let message = challenge(alloc, name, flags)?;
+    Ok(ends(&challenged(alloc)?.step(&message, 0), why))
 }
 
 /// Another name, then missing flags, at either role.
@@ -227,19 +260,13 @@ fn each_answer(rt: HostRuntime) -> Result<(), Fail> {
 fn introductions(rt: HostRuntime) -> Result<(), Fail> {
     let alloc = rt.alloc();
     for flag in [Flag::UnlinkId, Flag::ExtendedReferences, Flag::V4Nc] {
-        let mut acceptor = acceptor(alloc, "b@h", 1)?;
-        let message = send_name(alloc, "a@h", without(flag))?;
-        assert!(rt; ends(&acceptor.step(&message, 0), Refusal::FlagsMissing));
-        let mut dialer = challenged(alloc)?;
-        let message = challenge(alloc, "b@h", without(flag))?;
-        assert!(rt; ends(&dialer.step(&message, 0), Refusal::FlagsMissing));
+        let flags = without(flag);
+        assert!(rt; acceptor_ends(alloc, "a@h", flags, Refusal::FlagsMissing)?);
+        assert!(rt; dialer_ends(alloc, "b@h", flags, Refusal::FlagsMissing)?);
     }
-    let mut acceptor = acceptor(alloc, "b@h", 1)?;
-    let message = send_name(alloc, "c@h", without(Flag::UnlinkId))?;
-    assert!(rt; ends(&acceptor.step(&message, 0), Refusal::Forged));
-    let mut dialer = challenged(alloc)?;
-    let message = challenge(alloc, "c@h", without(Flag::UnlinkId))?;
-    assert!(rt; ends(&dialer.step(&message, 0), Refusal::Forged));
+    let flags = without(Flag::UnlinkId);
+    assert!(rt; acceptor_ends(alloc, "c@h", flags, Refusal::Forged)?);
+    assert!(rt; dialer_ends(alloc, "c@h", flags, Refusal::Forged)?);
     Ok(())
 }
 
@@ -254,105 +281,86 @@ fn more_flags(rt: HostRuntime) -> Result<(), Fail> {
 }
 
 #[test]
-fn wrong_digests(rt: HostRuntime) -> Result<(), Fail> {
-    let alloc = rt.alloc();
-    let mut dialer = replied(alloc)?;
+fn wrong_acknowledgement(rt: HostRuntime) -> Result<(), Fail> {
+    let mut dialer = replied(rt.alloc())?;
     assert!(rt; ends(&dialer.step(&ack(WRONG), 0), Refusal::BadDigest));
     assert!(rt; dialer.state() == DialerState::Over);
-    let mut acceptor = challenging(alloc)?;
+    Ok(())
+}
+
+#[test]
+fn wrong_reply(rt: HostRuntime) -> Result<(), Fail> {
+    let mut acceptor = challenging(rt.alloc())?;
     assert!(rt; ends(&acceptor.step(&reply(WRONG), 0), Refusal::BadDigest));
     assert!(rt; acceptor.state() == AcceptorState::Over);
     Ok(())
+}
+
+/// Whether a message isn't due at this dialer.
+fn is_undue(mut dialer: Dialer, message: ShakeMsg) -> bool {
+    ends(&dialer.step(&message, 0), Refusal::BadMessage)
 }
 
 /// Each message that no state of a dialer, but the one that it is for, awaits.
 #[test]
 fn undue_at_a_dialer(rt: HostRuntime) -> Result<(), Fail> {
     let alloc = rt.alloc();
-    let flags = Flags::mandatory();
-    assert!(rt;
-        ends(
-            &dialer(alloc)?.step(&challenge(alloc, "b@h", flags)?, 0),
-            Refusal::BadMessage
-        )
-    );
-    assert!(rt;
-        ends(
-            &challenged(alloc)?.step(&ShakeMsg::Status(Status::Ok), 0),
-            Refusal::BadMessage
-        )
-    );
-    assert!(rt;
-        ends(
-            &challenged(alloc)?.step(&ack(DIGEST), 0),
-            Refusal::BadMessage
-        )
-    );
-    assert!(rt;
-        ends(
-            &replied(alloc)?.step(&reply(DIGEST), 0),
-            Refusal::BadMessage
-        )
-    );
-    assert!(rt;
-        ends(
-            &replied(alloc)?.step(&challenge(alloc, "b@h", flags)?, 0),
-            Refusal::BadMessage
-        )
-    );
+    assert!(rt; is_undue(challenged(alloc)?, ShakeMsg::Status(Status::Ok)));
+    assert!(rt; is_undue(challenged(alloc)?, ack(DIGEST)));
+    assert!(rt; is_undue(replied(alloc)?, reply(DIGEST)));
     let mut done = replied(alloc)?;
     done.step(&ack(DIGEST), 0);
-    assert!(rt; ends(&done.step(&ack(DIGEST), 0), Refusal::BadMessage));
+    assert!(rt; is_undue(done, ack(DIGEST)));
     Ok(())
+}
+
+#[test]
+fn undue_challenges(rt: HostRuntime) -> Result<(), Fail> {
+    let alloc = rt.alloc();
+    let flags = Flags::mandatory();
+    assert!(rt; is_undue(dialer(alloc)?, challenge(alloc, "b@h", flags)?));
+    assert!(rt; is_undue(replied(alloc)?, challenge(alloc, "b@h", flags)?));
+    Ok(())
+}
+
+/// Whether a message isn't due at this acceptor.
+fn is_undue_here(mut acceptor: Acceptor, message: ShakeMsg) -> bool {
+    ends(&acceptor.step(&message, 0), Refusal::BadMessage)
 }
 
 #[test]
 fn undue_at_an_acceptor(rt: HostRuntime) -> Result<(), Fail> {
     let alloc = rt.alloc();
-    let name = send_name(alloc, "a@h", Flags::mandatory())?;
-    assert!(rt;
-        ends(
-            &acceptor(alloc, "b@h", 1)?.step(&reply(DIGEST), 0),
-            Refusal::BadMessage
-        )
-    );
-    assert!(rt;
-        ends(
-            &greeted(alloc, "b@h", 1)?.step(&name, 0),
-            Refusal::BadMessage
-        )
-    );
-    assert!(rt; ends(&asked(alloc)?.step(&name, 0), Refusal::BadMessage));
+    assert!(rt; is_undue_here(acceptor(alloc, "b@h", 1)?, reply(DIGEST)));
+    assert!(rt; is_undue_here(challenging(alloc)?, ack(DIGEST)));
     let mut parked = asked(alloc)?;
     parked.step(&ShakeMsg::Status(Status::True), 0);
-    assert!(rt;
-        ends(
-            &parked.step(&ShakeMsg::Status(Status::True), 0),
-            Refusal::BadMessage
-        )
-    );
-    assert!(rt;
-        ends(
-            &challenging(alloc)?.step(&ack(DIGEST), 0),
-            Refusal::BadMessage
-        )
-    );
+    assert!(rt; is_undue_here(parked, ShakeMsg::Status(Status::True)));
     Ok(())
 }
 
-/// A call for which the acceptor doesn't wait is refused and changes nothing.
+#[test]
+fn undue_names(rt: HostRuntime) -> Result<(), Fail> {
+    let alloc = rt.alloc();
+    let flags = Flags::mandatory();
+    assert!(rt; is_undue_here(greeted(alloc, "b@h", 1)?, send_name(alloc, "a@h", flags)?));
+    assert!(rt; is_undue_here(asked(alloc)?, send_name(alloc, "a@h", flags)?));
+    Ok(())
+}
+
+/// Whether the acceptor waits for no call: each is refused and changes nothing.
+fn refuses_calls(acceptor: &mut Acceptor) -> bool {
+    let before = acceptor.state();
+    matches!(&acceptor.admit(ALONE), Err(Refusal::NothingThere))
+        && matches!(&acceptor.go_on(), Err(Refusal::NothingThere))
+        && acceptor.state() == before
+}
+
 #[test]
 fn calls_out_of_turn(rt: HostRuntime) -> Result<(), Fail> {
     let alloc = rt.alloc();
-    let mut fresh = acceptor(alloc, "b@h", 1)?;
-    assert!(rt; fresh.admit(ALONE).is_err());
-    assert!(rt; fresh.go_on().is_err());
-    assert!(rt; fresh.state() == AcceptorState::AwaitsName);
-    let mut asked = asked(alloc)?;
-    let before = asked.state();
-    assert!(rt; matches!(&asked.go_on(), Err(Refusal::NothingThere)));
-    assert!(rt; matches!(&asked.admit(ALONE), Err(Refusal::NothingThere)));
-    assert!(rt; asked.state() == before);
+    assert!(rt; refuses_calls(&mut acceptor(alloc, "b@h", 1)?));
+    assert!(rt; refuses_calls(&mut asked(alloc)?));
     Ok(())
 }
 
