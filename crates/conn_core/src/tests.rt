@@ -67,53 +67,78 @@ fn fresh(alloc: Global, secret: &[u8]) -> Result<Side, Refusal> {
     ))
 }
 
-/// What these bytes are at a side.
-fn taken(alloc: Global, side: &mut Side, bytes: &[u8]) -> Result<Taken, Refusal> {
+/// What an item was.
+#[derive(Clone, Copy, Debug, PartialEq, Eq)]
+enum Kind {
+    Message,
+    Tick,
+    Signal,
+    Fault(u8),
+}
+
+fn kind_of(taken: &Taken) -> Kind {
+    match taken {
+        Taken::Message { .. } => Kind::Message,
+        Taken::Item(Item::Tick) => Kind::Tick,
+        Taken::Item(Item::Signal(_)) => Kind::Signal,
+        Taken::Broken(fault) => Kind::Fault(fault.number()),
+    }
+}
+
+/// The bytes of what is sent, if anything is.
+fn written(alloc: Global, message: Option<&ShakeMsg>) -> Result<Option<Vec<u8>>, Refusal> {
+    match message {
+        Some(message) => Ok(Some(write(alloc, message)?)),
+        None => Ok(None),
+    }
+}
+
+/// The bytes that are sent back.
+fn sent(alloc: Global, taken: &Taken) -> Result<Option<Vec<u8>>, Refusal> {
+    match taken {
+        Taken::Message { send, .. } => written(alloc, send.as_ref()),
+        _ => Ok(None),
+    }
+}
+
+/// What these bytes are at a side, and the bytes that it sends back.
+fn taken(alloc: Global, side: &mut Side, bytes: &[u8]) -> Result<(Kind, Option<Vec<u8>>), Refusal> {
     if !side.is_one_item(bytes) {
         return Err(Refusal::NothingThere);
     }
-    side.arrive(alloc, bytes, CHALLENGE)
+    let taken = side.arrive(alloc, bytes, CHALLENGE)?;
+    let sent = sent(alloc, &taken)?;
+    Ok((kind_of(&taken), sent))
 }
 
-fn is_message(taken: &Taken) -> bool {
-    matches!(taken, Taken::Message { .. })
-}
-
-fn fault(taken: &Taken) -> Option<u8> {
-    match taken {
-        Taken::Broken(fault) => Some(fault.number()),
-        _ => None,
+/// Whether these bytes were sent, or nothing.
+fn is_same(sent: Option<&Vec<u8>>, wanted: Option<&[u8]>) -> bool {
+    match (sent, wanted) {
+        (Some(sent), Some(wanted)) => sent.as_slice() == wanted,
+        (None, None) => true,
+        _ => false,
     }
 }
 
+/// Whether the message has these bytes.
 fn is_written(
     alloc: Global,
     message: Option<&ShakeMsg>,
     wanted: Option<&[u8]>,
 ) -> Result<bool, Refusal> {
-    match (message, wanted) {
-        (Some(message), Some(wanted)) => Ok(write(alloc, message)?.as_slice() == wanted),
-        (None, None) => Ok(true),
-        _ => Ok(false),
-    }
+    let sent = written(alloc, message)?;
+    Ok(is_same(sent.as_ref(), wanted))
 }
 
-/// Whether it was a message, to which these bytes are sent back, or nothing.
-fn is_sent(alloc: Global, taken: &Taken, answer: Option<&[u8]>) -> Result<bool, Refusal> {
-    match taken {
-        Taken::Message { send, .. } => is_written(alloc, send.as_ref(), answer),
-        _ => Ok(false),
-    }
-}
-
+/// Whether the bytes are a message, to which these are sent back, or nothing.
 fn is_answered(
     alloc: Global,
     side: &mut Side,
     bytes: &[u8],
     answer: Option<&[u8]>,
 ) -> Result<bool, Refusal> {
-    let taken = taken(alloc, side, bytes)?;
-    is_sent(alloc, &taken, answer)
+    let (kind, sent) = taken(alloc, side, bytes)?;
+    Ok(kind == Kind::Message && is_same(sent.as_ref(), answer))
 }
 
 /// Whether these bytes break the side by this number, and leave it so.
@@ -124,13 +149,13 @@ fn is_broken(
     number: u8,
     state: State,
 ) -> Result<bool, Refusal> {
-    let taken = taken(alloc, side, bytes)?;
-    Ok(fault(&taken) == Some(number) && side.state() == state)
+    let (kind, _) = taken(alloc, side, bytes)?;
+    Ok(kind == Kind::Fault(number) && side.state() == state)
 }
 
 fn is_tick(alloc: Global, side: &mut Side) -> Result<bool, Refusal> {
-    let taken = taken(alloc, side, &[0, 0, 0, 0])?;
-    Ok(matches!(&taken, Taken::Item(Item::Tick)))
+    let (kind, _) = taken(alloc, side, &[0, 0, 0, 0])?;
+    Ok(kind == Kind::Tick)
 }
 
 fn stands(side: &Side, state: State, peer_creation: Option<u32>) -> bool {
@@ -153,24 +178,37 @@ fn keeps(side: &mut Side, state: State) -> bool {
 
 /// Takes a message that goes through.
 fn takes(alloc: Global, side: &mut Side, bytes: &[u8]) -> Result<(), Refusal> {
-    let taken = taken(alloc, side, bytes)?;
-    is_message(&taken).then_some(()).ok_or(Refusal::BadMessage)
+    match taken(alloc, side, bytes)? {
+        (Kind::Message, _) => Ok(()),
+        _ => Err(Refusal::BadMessage),
+    }
+}
+
+/// Takes all that b@h sends in a handshake.
+fn comes_up(alloc: Global, side: &mut Side) -> Result<(), Refusal> {
+    takes(alloc, side, &OK)?;
+    takes(alloc, side, &CHALLENGES)?;
+    takes(alloc, side, &ACKNOWLEDGES)
 }
 
 /// The side of a@h that is up.
 fn dialer_up(alloc: Global) -> Result<Side, Refusal> {
     let mut side = dialing(alloc)?;
-    takes(alloc, &mut side, &OK)?;
-    takes(alloc, &mut side, &CHALLENGES)?;
-    takes(alloc, &mut side, &ACKNOWLEDGES)?;
+    comes_up(alloc, &mut side)?;
     Ok(side)
+}
+
+/// Takes the name of a@h, and decides on the attempt.
+fn greets(alloc: Global, side: &mut Side, others: Others) -> Result<(), Refusal> {
+    takes(alloc, side, &SEND_NAME)?;
+    side.admit(others)?;
+    Ok(())
 }
 
 /// The side of b@h that awaits the reply.
 fn accepting(alloc: Global, secret: &[u8]) -> Result<Side, Refusal> {
     let mut side = fresh(alloc, secret)?;
-    takes(alloc, &mut side, &SEND_NAME)?;
-    side.admit(ALONE)?;
+    greets(alloc, &mut side, ALONE)?;
     side.go_on()?;
     Ok(side)
 }
@@ -178,18 +216,18 @@ fn accepting(alloc: Global, secret: &[u8]) -> Result<Side, Refusal> {
 /// The side of b@h that has asked a@h whether to go on.
 fn asked(alloc: Global) -> Result<Side, Refusal> {
     let mut side = fresh(alloc, SECRET)?;
-    takes(alloc, &mut side, &SEND_NAME)?;
-    side.admit(Others {
+    let others = Others {
         connected: true,
         ..ALONE
-    })?;
+    };
+    greets(alloc, &mut side, others)?;
     Ok(side)
 }
 
 /// The side of a@h as its node makes it, and the first message.
-fn is_dialed(alloc: Global, side: &Side, message: &ShakeMsg) -> Result<bool, Refusal> {
-    let is_right = stands(side, State::Dialing, None) && is_between(side, "a@h", 7, "b@h");
-    Ok(is_written(alloc, Some(message), Some(&SEND_NAME))? && is_right)
+fn is_dialed(alloc: Global, side: Side, message: ShakeMsg) -> Result<bool, Refusal> {
+    let is_right = stands(&side, State::Dialing, None) && is_between(&side, "a@h", 7, "b@h");
+    Ok(is_written(alloc, Some(&message), Some(&SEND_NAME))? && is_right)
 }
 
 #[test]
@@ -197,7 +235,7 @@ fn a_side_that_dials(rt: HostRuntime) -> Result<(), Fail> {
     let alloc = rt.alloc();
     let own = identity(alloc, "a@h", SECRET)?;
     let (side, message) = Side::dial(own, 7, NodeName::read(alloc, "b@h")?, CHALLENGE)?;
-    assert!(rt; is_dialed(alloc, &side, &message)?);
+    assert!(rt; is_dialed(alloc, side, message)?);
     Ok(())
 }
 
@@ -254,25 +292,39 @@ fn full_handshake_of_the_acceptor(rt: HostRuntime) -> Result<(), Fail> {
     Ok(())
 }
 
-/// What a side sends arrives at the other side. Answers what that sends back.
+/// The bytes that a side sends arrive at the other side. Answers what that sends back.
 fn passed(
     alloc: Global,
-    message: Option<ShakeMsg>,
+    bytes: Option<Vec<u8>>,
     side: &mut Side,
-) -> Result<Option<ShakeMsg>, Refusal> {
-    let message = message.ok_or(Refusal::NothingThere)?;
-    let bytes = write(alloc, &message)?;
+) -> Result<Option<Vec<u8>>, Refusal> {
+    let bytes = bytes.ok_or(Refusal::NothingThere)?;
     match taken(alloc, side, &bytes)? {
-        Taken::Message { send, .. } => Ok(send),
+        (Kind::Message, sent) => Ok(sent),
         _ => Err(Refusal::BadMessage),
     }
 }
 
-/// Two sides that take what the other sends, until both are up.
+/// The status that the node's decision on the attempt sends.
+fn status(alloc: Global, side: &mut Side) -> Result<Option<Vec<u8>>, Refusal> {
+    let admission = side.admit(ALONE)?;
+    written(alloc, admission.next.send.as_ref())
+}
+
+/// The challenge that is sent.
+fn challenge(alloc: Global, side: &mut Side) -> Result<Option<Vec<u8>>, Refusal> {
+    let next = side.go_on()?;
+    written(alloc, next.send.as_ref())
+}
+
+/// Two sides of which each takes what the other sends.
 fn shake_hands(alloc: Global, a: &mut Side, name: ShakeMsg, b: &mut Side) -> Result<(), Refusal> {
-    passed(alloc, Some(name), b)?;
-    passed(alloc, b.admit(ALONE)?.next.send, a)?;
-    let reply = passed(alloc, b.go_on()?.send, a)?;
+    let name = written(alloc, Some(&name))?;
+    passed(alloc, name, b)?;
+    let status = status(alloc, b)?;
+    passed(alloc, status, a)?;
+    let challenge = challenge(alloc, b)?;
+    let reply = passed(alloc, challenge, a)?;
     let acknowledgement = passed(alloc, reply, b)?;
     passed(alloc, acknowledgement, a)?;
     Ok(())
@@ -336,14 +388,21 @@ fn gives_way(side: &mut Side) -> Result<bool, Refusal> {
     Ok(admission.next.outcome == Outcome::Ended(Refusal::Superseded))
 }
 
+/// Whether the side gives way, is gone, and is then asked in vain.
+fn is_late(side: &mut Side) -> Result<bool, Refusal> {
+    Ok(
+        gives_way(side)?
+            && stands(side, State::Gone, None)
+            && matches!(&gives_way(side), Err(Refusal::NothingThere)),
+    )
+}
+
 #[test]
 fn a_late_attempt(rt: HostRuntime) -> Result<(), Fail> {
     let alloc = rt.alloc();
     let mut side = fresh(alloc, SECRET)?;
     takes(alloc, &mut side, &SEND_NAME)?;
-    assert!(rt; gives_way(&mut side)?);
-    assert!(rt; stands(&side, State::Gone, None));
-    assert!(rt; matches!(&gives_way(&mut side), Err(Refusal::NothingThere)));
+    assert!(rt; is_late(&mut side)?);
     Ok(())
 }
 
@@ -423,16 +482,18 @@ fn statuses(rt: HostRuntime) -> Result<(), Fail> {
     Ok(())
 }
 
+/// Whether the side takes nothing.
+fn is_deaf(alloc: Global, side: &mut Side) -> bool {
+    matches!(&taken(alloc, side, &[0, 0, 0, 0]), Err(Refusal::NotLive))
+}
+
 /// What these bytes do to a side that is up, which then takes nothing more.
 fn breaks_up(alloc: Global, bytes: &[u8], number: u8) -> Result<bool, Refusal> {
     let mut side = dialer_up(alloc)?;
     Ok(
         is_broken(alloc, &mut side, bytes, number, State::Losing)?
             && stands(&side, State::Losing, Some(1))
-            && matches!(
-                &taken(alloc, &mut side, &[0, 0, 0, 0]),
-                Err(Refusal::NotLive)
-            ),
+            && is_deaf(alloc, &mut side),
     )
 }
 
@@ -462,17 +523,23 @@ fn lost_sides(rt: HostRuntime) -> Result<(), Fail> {
     Ok(())
 }
 
+/// Whether the side is gone once it is lost.
+fn ends_when_lost(mut side: Side) -> bool {
+    loses(&mut side, State::Gone)
+}
+
 #[test]
 fn lost_attempts(rt: HostRuntime) -> Result<(), Fail> {
     let alloc = rt.alloc();
-    assert!(rt; loses(&mut asked(alloc)?, State::Gone));
-    assert!(rt; loses(&mut dialing(alloc)?, State::Gone));
-    assert!(rt; keeps(&mut fresh(alloc, SECRET)?, State::Fresh));
+    assert!(rt; ends_when_lost(asked(alloc)?));
+    assert!(rt; ends_when_lost(dialing(alloc)?));
+    let mut side = fresh(alloc, SECRET)?;
+    assert!(rt; keeps(&mut side, State::Fresh));
     Ok(())
 }
 
 /// Whether a beginning of these bytes is taken for one item.
-fn has_whole_front(side: &Side, bytes: &[u8]) -> bool {
+fn has_whole_front(side: Side, bytes: &[u8]) -> bool {
     for end in 0..bytes.len() {
         if side.is_one_item(&bytes[..end]) {
             return true;
@@ -485,19 +552,25 @@ fn has_whole_front(side: &Side, bytes: &[u8]) -> bool {
 #[test]
 fn cut_items(rt: HostRuntime) -> Result<(), Fail> {
     let alloc = rt.alloc();
-    assert!(rt; !has_whole_front(&fresh(alloc, SECRET)?, &SEND_NAME));
-    assert!(rt; !has_whole_front(&dialing(alloc)?, &CHALLENGES));
-    assert!(rt; !has_whole_front(&dialer_up(alloc)?, &[0, 0, 0, 2, 112, 131]));
+    assert!(rt; !has_whole_front(fresh(alloc, SECRET)?, &SEND_NAME));
+    assert!(rt; !has_whole_front(dialing(alloc)?, &CHALLENGES));
+    assert!(rt; !has_whole_front(dialer_up(alloc)?, &[0, 0, 0, 2, 112, 131]));
     Ok(())
+}
+
+/// The side of b@h comes up.
+fn acceptor_comes_up(alloc: Global) -> Result<(), Refusal> {
+    let mut side = accepting(alloc, SECRET)?;
+    takes(alloc, &mut side, &REPLIES)
 }
 
 /// Run by the script fail-allocations too, with each allocation refused in turn.
 #[test]
 fn each_allocation(rt: HostRuntime) -> Result<(), Fail> {
     let alloc = rt.alloc();
-    let mut side = accepting(alloc, SECRET)?;
-    takes(alloc, &mut side, &REPLIES)?;
+    acceptor_comes_up(alloc)?;
     dialer_up(alloc)?;
+    one_arrival();
     up_only_by_digest();
     assert!(rt; Fault::Frame(FrameError::Term(TermError::Cut)).number() == 9);
     Ok(())
