@@ -32,6 +32,12 @@ const ACKNOWLEDGES: [u8; 19] = [
     0x07, 0xB6, 0x7A,
 ];
 
+/// A LINK from the first process of b@h to that of a@h.
+const LINK: [u8; 46] = [
+    0, 0, 0, 0x2A, 0x70, 0x83, 0x68, 3, 0x61, 1, 0x58, 0x77, 3, 0x62, 0x40, 0x68, 0, 0, 0, 1, 0, 0,
+    0, 0, 0, 0, 0, 1, 0x58, 0x77, 3, 0x61, 0x40, 0x68, 0, 0, 0, 1, 0, 0, 0, 0, 0, 0, 0, 1,
+];
+
 const TRUE: [u8; 7] = [0, 5, 0x73, 0x74, 0x72, 0x75, 0x65];
 
 const ALONE: Others = Others {
@@ -535,6 +541,16 @@ fn lost_attempts(rt: HostRuntime) -> Result<(), Fail> {
     assert!(rt; ends_when_lost(dialing(alloc)?));
     let mut side = fresh(alloc, SECRET)?;
     assert!(rt; keeps(&mut side, State::Fresh));
+    Ok(())
+}
+
+#[test]
+fn a_signal(rt: HostRuntime) -> Result<(), Fail> {
+    let alloc = rt.alloc();
+    let mut side = dialer_up(alloc)?;
+    let (kind, sent) = taken(alloc, &mut side, &LINK)?;
+    assert!(rt; kind == Kind::Signal && sent.is_none());
+    assert!(rt; stands(&side, State::Up, Some(1)));
     Ok(())
 }
 
