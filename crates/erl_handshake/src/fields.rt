@@ -9,7 +9,7 @@ use erl_term::Refusal;
 use std::alloc::Global;
 
 /// A number of 64 bits, and what follows it.
-pub fn u64_at(bytes: &[u8]) -> Option<(u64, &[u8])>
+pub(crate) fn u64_at(bytes: &[u8]) -> Option<(u64, &[u8])>
     ensures { MatchOption result (length bytes.now < 8) (λ x. bytes.now ≡ to_be_bytes w64 x.0 ++ x.1.now) }
 {
     let (field, rest) = bytes.split_first_chunk::<8>()?;
@@ -17,7 +17,7 @@ pub fn u64_at(bytes: &[u8]) -> Option<(u64, &[u8])>
 }
 
 /// A number of 32 bits, and what follows it.
-pub fn u32_at(bytes: &[u8]) -> Option<(u32, &[u8])>
+pub(crate) fn u32_at(bytes: &[u8]) -> Option<(u32, &[u8])>
     ensures { MatchOption result (length bytes.now < 4) (λ x. bytes.now ≡ to_be_bytes w32 x.0 ++ x.1.now) }
 {
     let (field, rest) = bytes.split_first_chunk::<4>()?;
@@ -26,7 +26,7 @@ pub fn u32_at(bytes: &[u8]) -> Option<(u32, &[u8])>
 
 /// The bytes behind their length of two bytes, where so many are there. What follows them is passed
 /// over.
-pub fn counted_at(bytes: &[u8]) -> Option<&[u8]>
+pub(crate) fn counted_at(bytes: &[u8]) -> Option<&[u8]>
     ensures { MatchOption result (IsBegun bytes.now) (λ body. HasBody bytes.now body.now) }
 {
     let (field, rest) = bytes.split_first_chunk::<2>()?;
@@ -34,7 +34,7 @@ pub fn counted_at(bytes: &[u8]) -> Option<&[u8]>
 }
 
 /// The name behind its length. What follows it is passed over.
-pub fn name_of(alloc: Global, bytes: &[u8]) -> Result<NodeName, Refusal>
+pub(crate) fn name_of(alloc: Global, bytes: &[u8]) -> Result<NodeName, Refusal>
     ensures { Decides (BeginsWithName bytes.now) result }
 {
     let Some(text) = counted_at(bytes) else {

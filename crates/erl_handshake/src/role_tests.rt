@@ -143,6 +143,18 @@ fn challenging(alloc: Global) -> Result<Acceptor, Refusal> {
     Ok(acceptor)
 }
 
+/// Who takes part, and a cookie of which there are two.
+#[test]
+fn parties(rt: HostRuntime) -> Result<(), Fail> {
+    let alloc = rt.alloc();
+    let acceptor = acceptor(alloc, "b@h", 3)?;
+    assert!(rt; acceptor.trunk().dialer.text() == "a@h" && acceptor.trunk().count == 3);
+    assert!(rt; dialer(alloc)?.peer().text() == "b@h");
+    let cookie = Cookie::new(Vec::from_slice(alloc, b"secret")?);
+    assert!(rt; cookie.clone()?.as_slice() == b"secret".as_slice());
+    Ok(())
+}
+
 /// Whether the first message of a@h is its name.
 fn gives_its_name(alloc: Global, dialer: &Dialer) -> Result<bool, Refusal> {
     let wanted = ShakeMsg::SendName {
