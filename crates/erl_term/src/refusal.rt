@@ -11,66 +11,47 @@ use thiserror::Error;
 ///
 /// The text of a refusal is what a script prints after the word `refused`: its number and its name.
 #[derive(Clone, Copy, Debug, PartialEq, Eq, Error)]
+#[error("{number} {name}", number = self.number(), name = self.name())]
 pub enum Refusal {
     /// The text is no name of a node.
-    #[error("1 BadName")]
     BadName,
     /// The node is down.
-    #[error("2 NodeDown")]
     NodeDown,
     /// The process that acts isn't living on this node.
-    #[error("3 NoSuchProcess")]
     NoSuchProcess,
     /// A counter has come to its end.
-    #[error("4 IdsUsedUp")]
     IdsUsedUp,
     /// The process holds no monitor of that reference.
-    #[error("5 NotTheOwner")]
     NotTheOwner,
     /// A message or reason has too many levels or bytes.
-    #[error("8 TooLong")]
     TooLong,
     /// A handshake message can't be read, or isn't due.
-    #[error("10 BadMessage")]
     BadMessage,
     /// The peer lacks a mandatory flag.
-    #[error("11 FlagsMissing")]
     FlagsMissing,
     /// Memory is wanting.
-    #[error("12 OutOfMemory")]
     OutOfMemory,
     /// The digest isn't that of the cookie and the challenge.
-    #[error("13 BadDigest")]
     BadDigest,
     /// The peer refused the connection.
-    #[error("14 Nok")]
     Nok,
     /// Another attempt at a connection took the place of this one.
-    #[error("15 Superseded")]
     Superseded,
     /// There is a connection to the peer, or an attempt at one.
-    #[error("16 Busy")]
     Busy,
     /// A node can't dial itself.
-    #[error("17 SelfDial")]
     SelfDial,
     /// The connection isn't live.
-    #[error("18 NotLive")]
     NotLive,
     /// There is nothing of that name, or nothing waits there.
-    #[error("19 NothingThere")]
     NothingThere,
     /// A name or a process that can't be true.
-    #[error("20 Forged")]
     Forged,
     /// The node is up already.
-    #[error("23 NodeUp")]
     NodeUp,
     /// The seat belongs to another node or another history.
-    #[error("29 StrangeSeat")]
     StrangeSeat,
     /// A thread couldn't be started.
-    #[error("30 NoThread")]
     NoThread,
 }
 

@@ -54,35 +54,51 @@ impl Large {
     }
 
     fn term(self, alloc: Global) -> Result<Term> {
-        Ok(match self {
-            Large::Zeros(count) => Term::list(integers(alloc, count, 1)?),
-            Large::Counted(modulus) => Term::list(integers(alloc, 100_000, modulus)?),
-            Large::Atoms(count) => {
-                let mut items = Vec::with_capacity(alloc, count)?;
-                for _ in 0..count {
-                    items.push(atom(alloc, "a")?)?;
-                }
-                Term::Tuple(items)
-            }
-            Large::Binary(count) => Term::Binary(vec_of(alloc, 7, count)?),
-            Large::Improper(count) => Term::List {
-                items: same(alloc, 1, count)?,
-                tail: Some(Box::new(alloc, atom(alloc, "z")?)?),
-            },
-            Large::ListInTuple(count) => {
-                let mut items = Vec::new(alloc);
-                items.push(Term::list(same(alloc, 255, count)?))?;
-                Term::Tuple(items)
-            }
-            Large::EmptyLists(count) => {
-                let mut items = Vec::with_capacity(alloc, count)?;
-                for _ in 0..count {
-                    items.push(Term::list(Vec::new(alloc)))?;
-                }
-                Term::list(items)
-            }
-        })
+        match self {
+            Large::Zeros(count) => counted(alloc, count, 1),
+            Large::Counted(modulus) => counted(alloc, 100_000, modulus),
+            Large::Atoms(count) => atoms(alloc, count),
+            Large::Binary(count) => Ok(Term::Binary(vec_of(alloc, 7, count)?)),
+            Large::Improper(count) => improper(alloc, count),
+            Large::ListInTuple(count) => list_in_tuple(alloc, count),
+            Large::EmptyLists(count) => empty_lists(alloc, count),
+        }
     }
+}
+
+/// The list of the integers from 0, so many, modulo a number.
+fn counted(alloc: Global, count: usize, modulus: usize) -> Result<Term> {
+    Ok(Term::list(integers(alloc, count, modulus)?))
+}
+
+fn atoms(alloc: Global, count: usize) -> Result<Term> {
+    let mut items = Vec::with_capacity(alloc, count)?;
+    for _ in 0..count {
+        items.push(atom(alloc, "a")?)?;
+    }
+    Ok(Term::Tuple(items))
+}
+
+fn improper(alloc: Global, count: usize) -> Result<Term> {
+    let items = same(alloc, 1, count)?;
+    let tail = Box::new(alloc, atom(alloc, "z")?)?;
+    Ok(Term::List {
+        items,
+        tail: Some(tail),
+    })
+}
+
+fn list_in_tuple(alloc: Global, count: usize) -> Result<Term> {
+    let list = Term::list(same(alloc, 255, count)?);
+    Ok(Term::Tuple(vec![in alloc; list]?))
+}
+
+fn empty_lists(alloc: Global, count: usize) -> Result<Term> {
+    let mut items = Vec::with_capacity(alloc, count)?;
+    for _ in 0..count {
+        items.push(Term::list(Vec::new(alloc)))?;
+    }
+    Ok(Term::list(items))
 }
 
 /// The integers from 0, so many, modulo a number.
