@@ -20,6 +20,3 @@ pub use laws::{one_arrival, up_only_by_digest};
 pub use side::Side;
 pub use state::State;
 pub use taken::{Fault, Taken};
-
-#[cfg(test)]
-mod tests;

@@ -25,6 +25,3 @@ pub use framing::frame;
 pub use laws::{canonical_is_framed, one_answer, one_frame, read_again};
 pub use signal::{Item, Signal};
 pub use unframing::{FRAME_LIMIT, unframe};
-
-#[cfg(test)]
-mod tests;

@@ -45,8 +45,3 @@ pub use role_laws::{
 pub use status::Status;
 pub use turn::{Next, Outcome};
 pub use writing::write;
-
-#[cfg(test)]
-mod role_tests;
-#[cfg(test)]
-mod tests;

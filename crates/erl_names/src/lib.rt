@@ -17,6 +17,3 @@ pub use laws::{no_id_twice, orders, used_up_for_good};
 pub use mint::Mint;
 pub use name::NodeName;
 pub use trunk::TrunkId;
-
-#[cfg(test)]
-mod tests;

@@ -51,6 +51,3 @@ pub use room::size_within;
 pub use term::{Pid, Reference, Term};
 pub use term_ref::{TermRef, term_at};
 pub use words::Words;
-
-#[cfg(test)]
-mod tests;

@@ -1,29 +1,10 @@
 //! `erldist`: Erlang nodes in one process, driven by a script.
 //!
 //! The script comes on standard input, a command a line; what it does goes to standard output.
-//! [`read_options`] reads the command line and [`run_script`] runs the script, over any reader and
-//! writer. In this version a script begins with `pair`, which makes two nodes `a@h` and `b@h`, a
-//! process `p` on the one and `q` on the other, and a trunk between them.
+//! [`read_options`] reads the command line, and [`run_script`] runs the script.
 #![tactic(auto)]
 
-mod command;
-mod frames;
-mod keeper;
-mod laws;
-mod line;
-mod node;
-mod options;
-mod replies;
-mod script;
-mod session;
-mod site;
-#[cfg(test)]
-mod tests;
-mod text;
-
-pub use laws::{every_script, framed_signals};
-pub use options::{Options, read_options};
-pub use script::{Outcome, run_script};
+use script_core::{Options, Outcome, read_options, run_script};
 use std::alloc::Global;
 use std::io::{self, BufWriter};
 use std::process::ExitCode;

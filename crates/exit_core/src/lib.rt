@@ -18,6 +18,3 @@ pub use mailbox::Mailbox;
 pub use messages::{down_message, exit_message};
 pub use process::Proc;
 pub use reaction::{ExitSignal, Reaction};
-
-#[cfg(test)]
-mod tests;

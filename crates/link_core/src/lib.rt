@@ -16,6 +16,3 @@ pub use laws::{
     crossed_unlinks, end_by_partner, link_comes_about, old_acknowledgement, run_goes_on,
     two_processes,
 };
-
-#[cfg(test)]
-mod tests;

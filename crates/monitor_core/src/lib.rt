@@ -16,6 +16,3 @@ pub use laws::{leaves_once, one_entry};
 pub use monitor::Monitor;
 pub use watchers::Watchers;
 pub use watches::Watches;
-
-#[cfg(test)]
-mod tests;

@@ -1,6 +1,0 @@
-use Rattle.std.proofs.Common.{take}
-use Rattle.erldist.specs.Outcomes.{Position, IsAt, Reaches}
-use Rattle.erldist.proofs.script.Script.take.Given as goal
-
-abbrev pub invariant-loop-byte : goal.invariant-loop-byte
-invariant-loop-byte g l = (p : Position) → IsAt l.fn.self p → Reaches p (take l.byte-index l.bytes) l.self (g.W.Write.contents l.fn.writer) (g.W.Write.contents l.writer)

@@ -1,0 +1,39 @@
+use Rattle.std.proofs.Common.{◌≡◌, ◌≤◌, ℕ, ◌+◌, List, [], ◌∷◌, ◌++◌, string_bytes, sym, ap, subst, ◌∙◌, arith}
+use Rattle.std.proofs.lemmas.List.Elements.{All-nil}
+use Rattle.std.specs.Io.KnownBytes.{Appends}
+use Rattle.script_core.specs.declared.script.Outcome.{Outcome}
+use Rattle.script_core.specs.declared.script.Outcome.TheVariants.{BadLine}
+use Rattle.script_core.specs.Script.{line_does}
+use Rattle.script_core.specs.Outcomes.{Answers, rest_of}
+use Rattle.script_core.proofs.ScriptLemmas.{bad_line, fault_within, one_line, obeys_bad, obeys_ok, wrote}
+use Rattle.script_core.proofs.script.Script.run_line.Goals as goal
+
+pub returns-in-Err-Bad-clause-took : goal.returns-in-Err-Bad-clause-took
+returns-in-Err-Bad-clause-took g c = λ p at rest.
+    let held = g.W.Write.contents c.args.writer.now in
+    let does = obeys_bad (line_does p.state c.deref.result.now) c.line.new.self (string_bytes c.new-out.result) (string_bytes c.line.new.out) c.line.result c.in-Err-Bad.field-0 c.in-Err-Bad.reason c.in-Err-Bad.is c.in-Err-Bad.field-0-is (c.line.ensures p.state at.session) in
+    let same : c.deref.result.now ≡ p.pending = c.deref.ensures.value ∙ at.pending in
+    let within : p.number ≤ 1048576 = let n = at.number in let m = c.if-self-gt-LINES.false in omega arith in
+    subst (λ (o : Outcome). Answers (rest_of p (10 ∷ rest)) held held o)
+    (fault_within p.number c.in-Err-Bad.reason within ∙ ap (λ (n : ℕ). BadLine n c.in-Err-Bad.reason) (sym at.number))
+    (bad_line p c.in-Err-Bad.reason rest held at.one_line (ap (line_does p.state) (sym same) ∙ does))
+
+pub returns-clause-took : goal.returns-clause-took
+returns-clause-took g c = λ p at.
+    let st = obeys_ok (line_does p.state c.deref.result.now) c.line.new.self (string_bytes c.new-out.result) (string_bytes c.line.new.out) c.line.result c.in-Ok.field-0 c.in-Ok.is (c.line.ensures p.state at.session) in
+    let same : c.deref.result.now ≡ p.pending = c.deref.ensures.value ∙ at.pending in
+    let within : p.number ≤ 1048576 = let n = at.number in let m = c.if-self-gt-LINES.false in omega arith in
+    let text : c.as_bytes.result.now ≡ st.step.text = c.as_bytes.ensures.value ∙ st.text ∙ ap (λ (w : List ℕ). w ++ st.step.text) c.new-out.ensures.bytes in
+    record {
+      to = record { number = p.number + 1; state = st.step.state; pending = [] };
+      text = st.step.text;
+      at = record {
+        session = st.session_is;
+        pending = c.clear.ensures.items;
+        number = ap (λ (n : ℕ). n + 1) at.number;
+        one_line = All-nil _;
+        short = omega arith;
+      };
+      goes = λ rest. one_line p st.step rest within at.one_line (ap (line_does p.state) (sym same) ∙ st.says);
+      appended = subst (λ (w : List ℕ). Appends (g.W.Write.contents c.args.writer.now) (g.W.Write.contents c.write_all.new.self) w) text (wrote c.write_all.result (sym c.if-is_err.false ∙ c.is_err.ensures.value) c.write_all.ensures.bytes);
+    }

@@ -1,0 +1,6 @@
+use Rattle.std.proofs.Common.{take}
+use Rattle.script_core.specs.Outcomes.{Position, IsAt, Reaches}
+use Rattle.script_core.proofs.script.Script.take.Given as goal
+
+abbrev pub invariant-loop-byte : goal.invariant-loop-byte
+invariant-loop-byte g l = (p : Position) → IsAt l.fn.self p → Reaches p (take l.byte-index l.bytes) l.self (g.W.Write.contents l.fn.writer) (g.W.Write.contents l.writer)

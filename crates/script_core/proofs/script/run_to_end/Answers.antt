@@ -1,0 +1,12 @@
+use Rattle.std.proofs.Common.{subst}
+use Rattle.script_core.specs.Script.{script}
+use Rattle.script_core.specs.Outcomes.{Answers, GoesOn}
+use Rattle.script_core.proofs.ScriptLemmas.{for_known}
+use Rattle.script_core.proofs.script.run_to_end.Goals as goal
+
+pub returns-in-Some : goal.returns-in-Some
+returns-in-Some g c =
+    let held = g.W.Write.contents c.args.writer.now in
+    let new = g.W.Write.contents c.read_on.new.writer in
+    for_known (g.R.Read.remaining c.args.reader.now) (λ input. Answers (script input) held new c.in-Some.outcome) (λ input e.
+    subst (GoesOn input (g.R.Read.remaining c.read_on.new.reader) c.read_on.new.self held new) c.in-Some.is (c.read_on.ensures input held (c.loop.invariant input e)))

@@ -1,0 +1,82 @@
+-- What running a script answers and writes, and where a run stands whose script has come in part.
+use Rattle.std.specs.Prelude.{◌≡◌, ◌≤◌, ℕ, ◌==◌, false, nat_lt, if◌then◌else◌, List, [], ◌++◌, length, All, Option, None, Some, Result, Ok, Err}
+use Rattle.std.specs.Io.KnownBytes.{Appends}
+use Rattle.script_core.specs.declared.command.Reason.{Reason}
+use Rattle.script_core.specs.declared.script.Outcome.{Outcome}
+use Rattle.script_core.specs.declared.script.Outcome.TheVariants.{Ran, BadLine, OutOfMemory, Failed}
+use Rattle.script_core.specs.declared.script.Script.{Script}
+use Rattle.script_core.specs.Script.{State, fresh_state, Run, Whole, AtBadLine, lines_of, runs_lines, script, prints}
+use Rattle.script_core.specs.Sessions.{StandsFor}
+
+-- the exit status of the program
+abbrev pub status_of : Outcome → ℕ
+status_of Ran = 0
+status_of (BadLine number reason) = 3
+status_of OutOfMemory = 4
+status_of Failed = 6
+
+-- a beginning of the text was put behind what the writer held
+pub record AppendsFront (text : List ℕ) (old new : Option (List ℕ)) : Type 0 where
+  pub front : List ℕ
+  pub rest : List ℕ
+  pub parts : text ≡ front ++ rest
+  pub appended : Appends old new front
+
+-- The answer to a script whose run this is, and what was written. Reading, writing and memory may fail at any place.
+abbrev pub Answers : Run → Option (List ℕ) → Option (List ℕ) → Outcome → Type 0
+Answers r old new Ran = (r.verdict ≡ Whole) × Appends old new r.text
+Answers r old new (BadLine number reason) = (r.verdict ≡ AtBadLine number reason) × Appends old new r.text
+Answers r old new OutOfMemory = AppendsFront r.text old new
+Answers r old new Failed = Unit {0}
+
+-- ---- a script that has come in part
+
+-- a line is bad, if it is still one of those that are run
+abbrev pub fault_at : ℕ → Reason → Outcome
+fault_at number reason = if nat_lt 1048576 number then Failed else BadLine number reason
+
+-- the number of the line that comes, the state before it, and what has come of it
+pub record Position : Type 0 where
+  pub number : ℕ
+  pub state : State
+  pub pending : List ℕ
+
+abbrev pub opening : Position
+opening = record { number = 1; state = fresh_state; pending = [] }
+
+-- the run of what is still to come
+abbrev pub rest_of : Position → List ℕ → Run
+rest_of p bytes = runs_lines p.number p.state (lines_of (p.pending ++ bytes))
+
+pub record IsAt (s : Script) (p : Position) : Type 0 where
+  pub session : StandsFor s.session p.state
+  pub pending : s.pending.items ≡ p.pending
+  pub number : s.number ≡ p.number
+  pub one_line : All (λ c. (c == 10) ≡ false) p.pending
+  pub short : length p.pending ≤ 65536
+
+-- the bytes were taken, and what they print was written
+pub record Reaches (p : Position) (bytes : List ℕ) (s : Script) (old new : Option (List ℕ)) : Type 0 where
+  pub to : Position
+  pub text : List ℕ
+  pub at : IsAt s to
+  pub goes : (rest : List ℕ) → rest_of p (bytes ++ rest) ≡ prints text (rest_of to rest)
+  pub appended : Appends old new text
+
+-- an error is the answer to the whole script, whatever else comes
+abbrev pub Took : Position → List ℕ → Script → Option (List ℕ) → Option (List ℕ) → Result (Unit {0}) Outcome → Type 0
+Took p bytes s old new (Ok x) = Reaches p bytes s old new
+Took p bytes s old new (Err outcome) = (rest : List ℕ) → Answers (rest_of p (bytes ++ rest)) old new outcome
+
+-- what has been read of the input was taken
+pub record Progress (input : List ℕ) (remaining : Option (List ℕ)) (s : Script) (old new : Option (List ℕ)) : Type 0 where
+  pub bytes : List ℕ
+  pub left : List ℕ
+  pub remains : remaining ≡ Some left
+  pub parts : input ≡ bytes ++ left
+  pub reached : Reaches opening bytes s old new
+
+-- more has been taken, or the script has ended
+abbrev pub GoesOn : List ℕ → Option (List ℕ) → Script → Option (List ℕ) → Option (List ℕ) → Option Outcome → Type 0
+GoesOn input remaining s old new None = Progress input remaining s old new
+GoesOn input remaining s old new (Some outcome) = Answers (script input) old new outcome

@@ -1,0 +1,195 @@
+//! A script, read from any reader and answered on any writer.
+
+ghost use Rattle.std.specs.Prelude.{◌≡◌, [], ◌∷◌, IfSome, OnOk, Option, List, ℕ};
+ghost use Rattle.script_core.specs.Script.{script};
+ghost use Rattle.script_core.specs.Outcomes.{status_of, fault_at, Answers, Position, opening, rest_of, IsAt, Took, Progress, GoesOn};
+
+use crate::command::Reason;
+use crate::line::{LINE_LIMIT, Stop};
+use crate::options::Options;
+use crate::session::Session;
+use std::alloc::Global;
+use std::io::{ErrorKind, Read, Write};
+
+/// The most lines of a script that are run.
+pub const LINES: u64 = 1_048_576;
+
+/// How a script ended.
+#[derive(Clone, Copy, Debug, PartialEq, Eq)]
+pub enum Outcome {
+    /// It ran through, refused commands included.
+    Ran,
+    /// A line is bad: its number, from 1, and why. The output of the lines before stays.
+    BadLine(u64, Reason),
+    /// Memory is wanting.
+    OutOfMemory,
+    /// Reading or writing failed, or the input has more than 1,048,576 lines.
+    Failed,
+}
+
+impl Outcome {
+    /// The exit status of the program.
+    pub fn status(self) -> u8
+        ensures { result ≡ status_of self }
+    {
+        match self {
+            Outcome::Ran => 0,
+            Outcome::BadLine(..) => 3,
+            Outcome::OutOfMemory => 4,
+            Outcome::Failed => 6,
+        }
+    }
+}
+
+/// Runs the script that the reader gives, and writes what it prints.
+///
+/// What is written is flushed whenever the reader has given all that it has at hand. After a bad
+/// line, and where memory, reading or writing fails, nothing more is read or written.
+pub fn run_script<R: Read, W: Write>(
+    alloc: Global,
+    reader: &mut R,
+    writer: &mut W,
+    _options: &Options,
+) -> Outcome
+    ensures { IfSome (R.remaining reader.old) (λ input. Answers (script input) (W.contents writer.old) (W.contents writer.new) result) }
+{
+    let outcome = run_to_end(alloc, reader, writer);
+    if outcome == Outcome::Failed || writer.flush().is_ok() {
+        return outcome;
+    }
+    Outcome::Failed
+}
+
+fn run_to_end<R: Read, W: Write>(alloc: Global, reader: &mut R, writer: &mut W) -> Outcome
+    ensures { IfSome (R.remaining reader.old) (λ input. Answers (script input) (W.contents writer.old) (W.contents writer.new) result) }
+{
+    let mut script = Script::new(alloc);
+    for _ in 0..u64::MAX {
+        if let Some(outcome) = script.read_on(alloc, reader, writer) {
+            return outcome;
+        }
+    }
+    Outcome::Failed
+}
+
+/// A script of which a part was read.
+#[derive(Drop)]
+struct Script {
+    session: Session,
+    /// What has come of the line that is being read.
+    pending: Vec<u8>,
+    /// The number of that line, from 1.
+    number: u64,
+}
+
+impl Script {
+    fn new(alloc: Global) -> Script
+        ensures { IsAt result opening }
+    {
+        Script {
+            session: Session::new(alloc),
+            pending: Vec::new(alloc),
+            number: 1,
+        }
+    }
+
+    /// Reads once, and takes what was read. The answer is how the script ended, if it did.
+    fn read_on<R: Read, W: Write>(
+        &mut self,
+        alloc: Global,
+        reader: &mut R,
+        writer: &mut W,
+    ) -> Option<Outcome>
+        ensures { (input : List ℕ) (held : Option (List ℕ)) → Progress input (R.remaining reader.old) self.old held (W.contents writer.old)
+            → GoesOn input (R.remaining reader.new) self.new held (W.contents writer.new) result }
+    {
+        let mut chunk = [0u8; 4096];
+        match reader.read(&mut chunk) {
+            Ok(0) => Some(self.finish(alloc, writer)),
+            Ok(len) => match self.take(alloc, &chunk[..len], writer) {
+                Ok(()) => None,
+                Err(outcome) => Some(outcome),
+            },
+            Err(error) if error.kind() == ErrorKind::Interrupted => None,
+            Err(_) => Some(Outcome::Failed),
+        }
+    }
+
+    /// More of the script comes.
+    fn take<W: Write>(&mut self, alloc: Global, bytes: &[u8], writer: &mut W) -> Result<(), Outcome>
+        ensures { (p : Position) → IsAt self.old p → Took p bytes.now self.new (W.contents writer.old) (W.contents writer.new) result }
+    {
+        for byte in bytes {
+            self.take_byte(alloc, *byte, writer)?;
+        }
+        match writer.flush() {
+            Ok(()) => Ok(()),
+            Err(_) => Err(Outcome::Failed),
+        }
+    }
+
+    fn take_byte<W: Write>(
+        &mut self,
+        alloc: Global,
+        byte: u8,
+        writer: &mut W,
+    ) -> Result<(), Outcome>
+        ensures { (p : Position) → IsAt self.old p → Took p (byte ∷ []) self.new (W.contents writer.old) (W.contents writer.new) result }
+    {
+        if byte == b'\n' {
+            return self.run_line(alloc, writer);
+        }
+        if self.pending.len() >= LINE_LIMIT {
+            return Err(self.fault(Reason::TooLong));
+        }
+        match self.pending.push(byte) {
+            Ok(()) => Ok(()),
+            Err(_) => Err(Outcome::OutOfMemory),
+        }
+    }
+
+    /// The line that is being read is bad, if it is still one of those that are run.
+    fn fault(&self, reason: Reason) -> Outcome
+        ensures { result ≡ fault_at self.now.number reason }
+    {
+        if self.number > LINES {
+            return Outcome::Failed;
+        }
+        Outcome::BadLine(self.number, reason)
+    }
+
+    /// Runs the line that was read, and begins the next.
+    fn run_line<W: Write>(&mut self, alloc: Global, writer: &mut W) -> Result<(), Outcome>
+        ensures next { OnOk result (self.new.pending.items ≡ []) }
+        ensures took { (p : Position) → IsAt self.old p → Took p (10 ∷ []) self.new (W.contents writer.old) (W.contents writer.new) result }
+    {
+        if self.number > LINES {
+            return Err(Outcome::Failed);
+        }
+        let mut out = String::new(alloc);
+        match self.session.line(alloc, &self.pending, &mut out) {
+            Ok(()) => {}
+            Err(Stop::Bad(reason)) => return Err(Outcome::BadLine(self.number, reason)),
+            Err(Stop::OutOfMemory) => return Err(Outcome::OutOfMemory),
+        }
+        if writer.write_all(out.as_bytes()).is_err() {
+            return Err(Outcome::Failed);
+        }
+        self.pending.clear();
+        self.number += 1;
+        Ok(())
+    }
+
+    /// The script has come to its end.
+    fn finish<W: Write>(&mut self, alloc: Global, writer: &mut W) -> Outcome
+        ensures { (p : Position) → IsAt self.old p → Answers (rest_of p []) (W.contents writer.old) (W.contents writer.new) result }
+    {
+        if self.pending.is_empty() {
+            return Outcome::Ran;
+        }
+        match self.run_line(alloc, writer) {
+            Ok(()) => Outcome::Ran,
+            Err(outcome) => outcome,
+        }
+    }
+}

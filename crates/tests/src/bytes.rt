@@ -1,0 +1,79 @@
+//! The bytes of a row.
+//!
+//! A row has them as text: `83 6801 6107` are five bytes by their hex digits, and `63*6801` are
+//! two of them 63 times. A word of [`NAMES`] stands for the bytes that it names.
+
+use std::alloc::Global;
+use std::test::Fail;
+
+/// Names, and the bytes that they stand for.
+const NAMES: &[(&str, &str)] = &[
+    // The process 1 of a@h in its first incarnation, and that of b@h.
+    ("A", "58 7703614068 00000001 00000000 00000001"),
+    ("B", "58 7703624068 00000001 00000000 00000001"),
+    // The same process as A, the length of whose node takes two bytes.
+    ("LONG_A", "58 760003614068 00000001 00000000 00000001"),
+    // The first reference of a@h.
+    (
+        "REFERENCE",
+        "5A0003 7703614068 00000001 00000001 00000000 00000000",
+    ),
+    ("ATOM", "770161"),
+    ("ONE", "6101"),
+    ("EMPTY_LIST", "6C00000000"),
+    // The message hi.
+    ("HI", "83 77026869"),
+    // The heads of control terms.
+    ("LINK", "6803 6101"),
+    ("SEND", "6803 6102"),
+    ("EXIT", "6804 6103"),
+    ("EXIT2", "6804 6108"),
+    ("MONITOR_P", "6804 6113"),
+    ("DEMONITOR_P", "6804 6114"),
+    ("MONITOR_P_EXIT", "6805 6115"),
+    ("UNLINK_ID", "6804 6123"),
+    ("UNLINK_ID_ACK", "6804 6124"),
+];
+
+/// The bytes of these texts, one after another.
+pub fn joined(alloc: Global, texts: &[&str]) -> Result<Vec<u8>, Fail> {
+    let mut bytes = Vec::new(alloc);
+    for text in texts {
+        put_words(alloc, &mut bytes, text)?;
+    }
+    Ok(bytes)
+}
+
+fn put_words(alloc: Global, bytes: &mut Vec<u8>, text: &str) -> Result<(), Fail> {
+    for word in text.split_whitespace() {
+        for part in named(word).split_whitespace() {
+            put_part(alloc, bytes, part)?;
+        }
+    }
+    Ok(())
+}
+
+/// The text that the word stands for.
+fn named(word: &str) -> &str {
+    for &(name, text) in NAMES {
+        if name == word {
+            return text;
+        }
+    }
+    word
+}
+
+fn put_part(alloc: Global, bytes: &mut Vec<u8>, part: &str) -> Result<(), Fail> {
+    let (count, digits) = match part.split_once('*') {
+        Some((count, digits)) => (count.parse::<usize>()?, digits),
+        None => (1, part),
+    };
+    put_times(bytes, count, &hex::decode(alloc, digits)?)
+}
+
+fn put_times(bytes: &mut Vec<u8>, count: usize, part: &[u8]) -> Result<(), Fail> {
+    for _ in 0..count {
+        bytes.extend_from_slice(part)?;
+    }
+    Ok(())
+}

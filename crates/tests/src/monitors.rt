@@ -1,0 +1,242 @@
+//! Monitors of processes, put in and taken out call by call.
+use crate::processes::{Process, pid, reference};
+use erl_term::{Reference, Refusal};
+use monitor_core::{Monitor, Watchers, Watches};
+use std::alloc::Global;
+use std::test::*;
+
+const OWNER: Process = ("a@h", 1, 1);
+
+const OTHER: Process = ("a@h", 1, 2);
+
+const TARGET: Process = ("b@h", 1, 2);
+
+const TARGET_OF_THE_NEXT: Process = ("b@h", 2, 2);
+
+const OWNER_OF_THE_NEXT: Process = ("a@h", 2, 1);
+
+/// What is done with a table of monitors. A reference is given by its word.
+#[derive(Clone, Copy)]
+enum Call {
+    /// Puts in the monitor of a reference, with its owner and its target.
+    Put(u32, Process, Process),
+    /// A DOWN or a DEMONITOR_P for a reference, with the owner and the target.
+    Ends(u32, Process, Process),
+    Has(u32),
+    Remove(u32),
+    /// The first of a process: of its own monitors, or of those that target it.
+    First(Process),
+    TakeFirst(Process),
+    /// The first whose other end is on the node of this process.
+    FirstTowards(Process),
+    TakeFirstTowards(Process),
+}
+
+/// What the call answers.
+#[derive(Clone, Copy, Debug, PartialEq, Eq)]
+enum Answer {
+    Done,
+    Yes,
+    No,
+    /// The word of the reference that was found.
+    Found(u32),
+    NotFound,
+}
+
+fn yes_or_no(is_so: bool) -> Answer {
+    if is_so { Answer::Yes } else { Answer::No }
+}
+
+fn found(entry: Option<&(Reference, Monitor)>) -> Answer {
+    match entry {
+        Some((reference, _)) => match reference.words.as_slice() {
+            [word, ..] => Answer::Found(*word),
+            [] => Answer::NotFound,
+        },
+        None => Answer::NotFound,
+    }
+}
+
+fn puts_own(
+    alloc: Global,
+    watches: &mut Watches,
+    call: (u32, Process, Process),
+) -> Result<Answer, Refusal> {
+    let (word, owner, target) = call;
+    let reference = reference(alloc, word)?;
+    let owner = pid(alloc, owner)?;
+    let target = pid(alloc, target)?;
+    watches
+        .add(&reference, &owner, &target)
+        .map(|()| Answer::Done)
+}
+
+fn ends_own(
+    alloc: Global,
+    watches: &mut Watches,
+    call: (u32, Process, Process),
+) -> Result<Answer, Refusal> {
+    let (word, owner, target) = call;
+    let reference = reference(alloc, word)?;
+    let owner = pid(alloc, owner)?;
+    let target = pid(alloc, target)?;
+    Ok(yes_or_no(watches.on_down(&owner, &reference, &target)))
+}
+
+/// Makes the call with the monitors that processes of the node own.
+fn call_own(alloc: Global, watches: &mut Watches, call: Call) -> Result<Answer, Refusal> {
+    Ok(match call {
+        Call::Put(word, owner, target) => puts_own(alloc, watches, (word, owner, target))?,
+        Call::Ends(word, owner, target) => ends_own(alloc, watches, (word, owner, target))?,
+        Call::Has(word) => yes_or_no(watches.get(&reference(alloc, word)?).is_some()),
+        Call::Remove(word) => yes_or_no(watches.remove(&reference(alloc, word)?)),
+        Call::First(process) => found(watches.first_owned_by(&pid(alloc, process)?)),
+        Call::TakeFirst(process) => found(watches.take_owned_by(&pid(alloc, process)?).as_ref()),
+        Call::FirstTowards(process) => found(watches.first_towards(&pid(alloc, process)?.node)),
+        Call::TakeFirstTowards(process) => found(
+            watches.take_towards(&pid(alloc, process)?.node).as_ref(),
+        ),
+    })
+}
+
+fn puts(
+    alloc: Global,
+    watchers: &mut Watchers,
+    call: (u32, Process, Process),
+) -> Result<Answer, Refusal> {
+    let (word, owner, target) = call;
+    let reference = reference(alloc, word)?;
+    let owner = pid(alloc, owner)?;
+    let target = pid(alloc, target)?;
+    watchers
+        .on_monitor(&reference, &owner, &target)
+        .map(|()| Answer::Done)
+}
+
+fn ends(
+    alloc: Global,
+    watchers: &mut Watchers,
+    call: (u32, Process, Process),
+) -> Result<Answer, Refusal> {
+    let (word, owner, target) = call;
+    let reference = reference(alloc, word)?;
+    let owner = pid(alloc, owner)?;
+    let target = pid(alloc, target)?;
+    Ok(yes_or_no(watchers.on_demonitor(&reference, &owner, &target)))
+}
+
+/// Makes the call with the monitors that others have of processes of the node.
+fn call_of_others(alloc: Global, watchers: &mut Watchers, call: Call) -> Result<Answer, Refusal> {
+    Ok(match call {
+        Call::Put(word, owner, target) => puts(alloc, watchers, (word, owner, target))?,
+        Call::Ends(word, owner, target) => ends(alloc, watchers, (word, owner, target))?,
+        Call::Has(word) => yes_or_no(watchers.get(&reference(alloc, word)?).is_some()),
+        Call::Remove(word) => yes_or_no(watchers.remove(&reference(alloc, word)?)),
+        Call::First(process) => found(watchers.first_targeting(&pid(alloc, process)?)),
+        Call::TakeFirst(process) => found(watchers.take_targeting(&pid(alloc, process)?).as_ref()),
+        Call::FirstTowards(process) => found(watchers.first_towards(&pid(alloc, process)?.node)),
+        Call::TakeFirstTowards(process) => found(
+            watchers.take_towards(&pid(alloc, process)?.node).as_ref(),
+        ),
+    })
+}
+
+/// A reference that has a monitor keeps it, and a DOWN ends the monitor that it names whole, once.
+const OWN: [(Call, Answer); 11] = [
+    (Call::Put(2, OWNER, TARGET), Answer::Done),
+    (Call::Put(1, OWNER, TARGET), Answer::Done),
+    (Call::Put(1, TARGET, OWNER), Answer::Done),
+    (Call::Ends(1, OWNER, TARGET_OF_THE_NEXT), Answer::No),
+    (Call::Ends(1, OTHER, TARGET), Answer::No),
+    (Call::Has(1), Answer::Yes),
+    (Call::Ends(1, OWNER, TARGET), Answer::Yes),
+    (Call::Ends(1, OWNER, TARGET), Answer::No),
+    (Call::Has(1), Answer::No),
+    (Call::Remove(2), Answer::Yes),
+    (Call::Ends(2, OWNER, TARGET), Answer::No),
+];
+
+/// The least reference comes first.
+const OWN_IN_ORDER: [(Call, Answer); 11] = [
+    (Call::Put(3, OWNER, TARGET), Answer::Done),
+    (Call::Put(1, OTHER, OWNER), Answer::Done),
+    (Call::Put(2, OWNER, TARGET), Answer::Done),
+    (Call::First(OWNER), Answer::Found(2)),
+    (Call::First(OTHER), Answer::Found(1)),
+    (Call::FirstTowards(TARGET), Answer::Found(2)),
+    (Call::TakeFirst(OWNER), Answer::Found(2)),
+    (Call::FirstTowards(TARGET), Answer::Found(3)),
+    (Call::TakeFirstTowards(TARGET), Answer::Found(3)),
+    (Call::TakeFirstTowards(TARGET), Answer::NotFound),
+    (Call::FirstTowards(OWNER), Answer::Found(1)),
+];
+
+const OF_OTHERS: [(Call, Answer); 14] = [
+    (Call::Put(3, OWNER, TARGET), Answer::Done),
+    (Call::Put(1, OWNER, TARGET), Answer::Done),
+    (Call::Put(2, OWNER, TARGET), Answer::Done),
+    (Call::Put(1, TARGET, OWNER), Answer::Done),
+    (Call::Ends(1, OWNER_OF_THE_NEXT, TARGET), Answer::No),
+    (Call::Has(1), Answer::Yes),
+    (Call::First(TARGET), Answer::Found(1)),
+    (Call::FirstTowards(OWNER), Answer::Found(1)),
+    (Call::Ends(1, OWNER, TARGET), Answer::Yes),
+    (Call::Remove(1), Answer::No),
+    (Call::TakeFirst(TARGET), Answer::Found(2)),
+    (Call::FirstTowards(OWNER), Answer::Found(3)),
+    (Call::TakeFirstTowards(OWNER), Answer::Found(3)),
+    (Call::TakeFirst(TARGET), Answer::NotFound),
+];
+
+/// The place of the first row that doesn't hold.
+fn first_wrong_own(alloc: Global, rows: &[(Call, Answer)]) -> Option<usize> {
+    let mut watches = Watches::new(alloc);
+    rows.iter().position(|(call, wanted)| call_own(alloc, &mut watches, *call) != Ok(*wanted))
+}
+
+fn first_wrong(alloc: Global, rows: &[(Call, Answer)]) -> Option<usize> {
+    let mut watchers = Watchers::new(alloc);
+    rows.iter().position(|(call, wanted)| call_of_others(alloc, &mut watchers, *call)
+        != Ok(*wanted))
+}
+
+#[test]
+fn monitors(rt: HostRuntime) {
+    assert_eq!(rt; first_wrong_own(rt.alloc(), &OWN), None);
+    assert_eq!(rt; first_wrong_own(rt.alloc(), &OWN_IN_ORDER), None);
+    assert_eq!(rt; first_wrong(rt.alloc(), &OF_OTHERS), None);
+}
+
+/// Puts in a monitor, and tells whether its reference has one exactly where it was not refused.
+fn is_put_or_not(alloc: Global, watches: &mut Watches, word: u32) -> Result<bool, Refusal> {
+    let put = puts_own(alloc, watches, (word, OWNER, TARGET));
+    let has = call_own(alloc, watches, Call::Has(word))?;
+    Ok(has == yes_or_no(put.is_ok()) && put? == Answer::Done)
+}
+
+fn comes_or_not(alloc: Global, watchers: &mut Watchers, word: u32) -> Result<bool, Refusal> {
+    let came = puts(alloc, watchers, (word, OWNER, TARGET));
+    let has = call_of_others(alloc, watchers, Call::Has(word))?;
+    Ok(has == yes_or_no(came.is_ok()) && came? == Answer::Done)
+}
+
+/// Run by the script fail-allocations too, with each allocation refused in turn: where a monitor is
+/// refused, its reference has none.
+#[test]
+fn monitor_allocations(rt: HostRuntime) -> Result<(), Fail> {
+    let mut watches = Watches::new(rt.alloc());
+    for word in [7, 3, 8, 1, 6, 2, 5, 4] {
+        assert!(rt; is_put_or_not(rt.alloc(), &mut watches, word)?);
+    }
+    Ok(())
+}
+
+/// The same of the monitors of others.
+#[test]
+fn registration_allocations(rt: HostRuntime) -> Result<(), Fail> {
+    let mut watchers = Watchers::new(rt.alloc());
+    for word in [7, 3, 8, 1, 6, 2, 5, 4] {
+        assert!(rt; comes_or_not(rt.alloc(), &mut watchers, word)?);
+    }
+    Ok(())
+}

@@ -1,0 +1,552 @@
+//! The two roles, line by line of their tables.
+use crate::handshakes::Message::*;
+use crate::handshakes::{CHALLENGE, DIGEST, MANDATORY, Message, made};
+use erl_handshake::{
+    Acceptor, AcceptorState, Admission, Cookie, Dialer, DialerState, Flags, Identity, Next, Others,
+    Outcome, ShakeMsg, Status, done_only_by_digest, handshake_comes_about, later_attempt_goes_on,
+    one_of_two_dials,
+};
+use erl_names::{Creation, NodeName, TrunkId};
+use erl_term::Refusal;
+use std::alloc::Global;
+use std::test::*;
+
+const SECRET: &[u8] = b"1234567890123456789012345678901234567890123456789012345678901234567890";
+
+const WRONG: [u8; 16] = [0; 16];
+
+/// The mandatory flags without that of unlink ids, of references of several words, or of more data
+/// in pids; and with that of exit payloads and one of no name.
+const NO_UNLINK: u64 = 0x4_0105_010C;
+
+const NO_WORDS: u64 = 0x4_0305_0108;
+
+const NO_V4: u64 = 0x0305_010C;
+
+const MORE_FLAGS: u64 = 0x8000_0004_0345_010C;
+
+/// What comes from the other node, in its seventh incarnation.
+const NAME: Message = SendName(MANDATORY, 7, "a@h");
+
+const OK: Message = SendStatus(Status::Ok);
+
+const CHALLENGES: Message = SendChallenge(MANDATORY, CHALLENGE, 7, "b@h");
+
+const REPLY: Message = SendReply(CHALLENGE, DIGEST);
+
+const ACK: Message = SendAck(DIGEST);
+
+const ALONE: Others = Others {
+    waiting: None,
+    connected: false,
+    dialing: false,
+};
+
+const CONNECTED: Others = Others {
+    waiting: None,
+    connected: true,
+    dialing: false,
+};
+
+/// What a message does.
+#[derive(Clone, Copy)]
+enum Answer {
+    /// The handshake goes on, and nothing is sent.
+    Waits,
+    /// It goes on, and this is sent.
+    Says(Message),
+    /// The nodes are connected, and this is sent.
+    Done(Option<Message>),
+    /// The handshake ends.
+    Ends(Refusal),
+}
+
+use Answer::*;
+
+const UNDUE: Answer = Ends(Refusal::BadMessage);
+
+const MISSING: Answer = Ends(Refusal::FlagsMissing);
+
+const FORGED: Answer = Ends(Refusal::Forged);
+
+/// Messages that come to a dialer of b@h, and what they do.
+type Turns = &'static [(Message, Answer)];
+
+const CHALLENGED: Turns = &[(OK, Waits)];
+
+const REPLIED: Turns = &[(OK, Waits), (CHALLENGES, Says(REPLY))];
+
+const DIALED: Turns = &[(OK, Waits), (CHALLENGES, Says(REPLY)), (ACK, Done(None))];
+
+/// What comes first to a dialer, then a message, and what that does.
+const DIALERS: &[(Turns, Message, Answer)] = &[
+    // All the way.
+    (REPLIED, ACK, Done(None)),
+    // Each status.
+    (&[], SendStatus(Status::Ok), Waits),
+    (&[], SendStatus(Status::OkSimultaneous), Waits),
+    (
+        &[],
+        SendStatus(Status::Alive),
+        Says(SendStatus(Status::True)),
+    ),
+    (&[], SendStatus(Status::Nok), Ends(Refusal::Nok)),
+    (&[], SendStatus(Status::NotAllowed), Ends(Refusal::Nok)),
+    (&[], SendStatus(Status::True), UNDUE),
+    (&[], SendStatus(Status::False), UNDUE),
+    // Missing flags, and before that another name.
+    (
+        CHALLENGED,
+        SendChallenge(NO_UNLINK, CHALLENGE, 7, "b@h"),
+        MISSING,
+    ),
+    (
+        CHALLENGED,
+        SendChallenge(NO_WORDS, CHALLENGE, 7, "b@h"),
+        MISSING,
+    ),
+    (
+        CHALLENGED,
+        SendChallenge(NO_V4, CHALLENGE, 7, "b@h"),
+        MISSING,
+    ),
+    (
+        CHALLENGED,
+        SendChallenge(NO_UNLINK, CHALLENGE, 7, "c@h"),
+        FORGED,
+    ),
+    (REPLIED, SendAck(WRONG), Ends(Refusal::BadDigest)),
+    // Messages that aren't due.
+    (CHALLENGED, OK, UNDUE),
+    (CHALLENGED, ACK, UNDUE),
+    (REPLIED, REPLY, UNDUE),
+    (DIALED, ACK, UNDUE),
+    (&[], CHALLENGES, UNDUE),
+    (REPLIED, CHALLENGES, UNDUE),
+];
+
+/// What is done to an acceptor, and what has to come of it.
+#[derive(Clone, Copy)]
+enum Step {
+    /// A message comes.
+    Comes(Message, Answer),
+    /// The attempt is decided on beside these others: it goes on, and this status is sent.
+    Admits(Others, Status),
+    /// The challenge may be sent.
+    GoesOn,
+    /// Neither is awaited: each is refused, and changes nothing.
+    RefusesCalls,
+}
+
+use Step::*;
+
+const GREETED: &[Step] = &[Comes(NAME, Waits)];
+
+const ASKED: &[Step] = &[Comes(NAME, Waits), Admits(CONNECTED, Status::Alive)];
+
+const PARKED: &[Step] = &[
+    Comes(NAME, Waits),
+    Admits(CONNECTED, Status::Alive),
+    Comes(SendStatus(Status::True), Waits),
+];
+
+const CHALLENGING: &[Step] = &[Comes(NAME, Waits), Admits(ALONE, Status::Ok), GoesOn];
+
+/// What is done first to an acceptor of b@h, whose dialer is a@h, and then.
+const ACCEPTORS: &[(&[Step], Step)] = &[
+    // All the way.
+    (CHALLENGING, Comes(REPLY, Done(Some(ACK)))),
+    // Each answer of a dialer that was asked whether to go on.
+    (ASKED, Comes(SendStatus(Status::Ok), UNDUE)),
+    (ASKED, Comes(SendStatus(Status::OkSimultaneous), UNDUE)),
+    (ASKED, Comes(SendStatus(Status::Nok), UNDUE)),
+    (ASKED, Comes(SendStatus(Status::NotAllowed), UNDUE)),
+    (ASKED, Comes(SendStatus(Status::Alive), UNDUE)),
+    (ASKED, Comes(SendStatus(Status::True), Waits)),
+    (ASKED, Comes(SendStatus(Status::False), Ends(Refusal::Nok))),
+    // Missing flags, before that another name, and more flags.
+    (&[], Comes(SendName(NO_UNLINK, 7, "a@h"), MISSING)),
+    (&[], Comes(SendName(NO_WORDS, 7, "a@h"), MISSING)),
+    (&[], Comes(SendName(NO_V4, 7, "a@h"), MISSING)),
+    (&[], Comes(SendName(NO_UNLINK, 7, "c@h"), FORGED)),
+    (&[], Comes(SendName(MORE_FLAGS, 7, "a@h"), Waits)),
+    (
+        CHALLENGING,
+        Comes(SendReply(CHALLENGE, WRONG), Ends(Refusal::BadDigest)),
+    ),
+    // Messages that aren't due.
+    (&[], Comes(REPLY, UNDUE)),
+    (CHALLENGING, Comes(ACK, UNDUE)),
+    (PARKED, Comes(SendStatus(Status::True), UNDUE)),
+    (GREETED, Comes(NAME, UNDUE)),
+    (ASKED, Comes(NAME, UNDUE)),
+    // Calls out of turn.
+    (&[], RefusesCalls),
+    (ASKED, RefusesCalls),
+];
+
+fn identity(alloc: Global, name: &str) -> Result<Identity, Refusal> {
+    let cookie = Vec::from_slice(alloc, SECRET)?;
+    Ok(Identity {
+        name: NodeName::read(alloc, name)?,
+        creation: Creation::first(),
+        flags: Flags::mandatory(),
+        cookie: Cookie::new(cookie),
+    })
+}
+
+/// The dialer of a@h, whose peer is b@h.
+fn dialer(alloc: Global) -> Result<Dialer, Refusal> {
+    let own = identity(alloc, "a@h")?;
+    Ok(Dialer::new(own, NodeName::read(alloc, "b@h")?, CHALLENGE))
+}
+
+/// The acceptor of the attempt that a@h counts as this one.
+fn acceptor(alloc: Global, own: &str, count: u64) -> Result<Acceptor, Refusal> {
+    let own = identity(alloc, own)?;
+    let dialer = NodeName::read(alloc, "a@h")?;
+    Ok(Acceptor::new(own, TrunkId { dialer, count }))
+}
+
+/// Whether this is the message.
+fn is_message(alloc: Global, message: &ShakeMsg, wanted: Message) -> Result<bool, Refusal> {
+    let wanted = made(alloc, wanted)?;
+    let is_so = *message == wanted;
+    drop(wanted);
+    Ok(is_so)
+}
+
+/// Whether this is sent, or nothing.
+fn is_sent(alloc: Global, next: &Next, wanted: Option<Message>) -> Result<bool, Refusal> {
+    match (&next.send, wanted) {
+        (Some(message), Some(wanted)) => is_message(alloc, message, wanted),
+        (None, None) => Ok(true),
+        _ => Ok(false),
+    }
+}
+
+/// Whether a step has this answer.
+fn is_answer(alloc: Global, next: &Next, answer: Answer) -> Result<bool, Refusal> {
+    let (outcome, send) = match answer {
+        Waits => (Outcome::Go, None),
+        Says(message) => (Outcome::Go, Some(message)),
+        Done(message) => (Outcome::Done, message),
+        Ends(why) => (Outcome::Ended(why), None),
+    };
+    Ok(next.outcome == outcome && is_sent(alloc, next, send)?)
+}
+
+/// Whether the dialer is connected, or has ended, where the answer says so.
+fn is_dialer_at(state: DialerState, answer: Answer) -> bool {
+    match answer {
+        Waits | Says(_) => true,
+        Done(_) => state == DialerState::Done { creation: 7 },
+        Ends(_) => state == DialerState::Over,
+    }
+}
+
+/// Whether the message does this to the dialer.
+fn dialer_answers(
+    alloc: Global,
+    dialer: &mut Dialer,
+    message: Message,
+    answer: Answer,
+) -> Result<bool, Refusal> {
+    let message = made(alloc, message)?;
+    let next = dialer.step(&message, 0);
+    drop(message);
+    let is_so = is_answer(alloc, &next, answer);
+    drop(next);
+    Ok(is_so? && is_dialer_at(dialer.state(), answer))
+}
+
+/// Whether each message does to the dialer what it has to.
+fn dialer_turns(
+    alloc: Global,
+    dialer: &mut Dialer,
+    turns: &[(Message, Answer)],
+) -> Result<bool, Refusal> {
+    for (message, answer) in turns {
+        if !dialer_answers(alloc, dialer, *message, *answer)? {
+            return Ok(false);
+        }
+    }
+    Ok(true)
+}
+
+/// Whether the message does this to a dialer to which the turns came first.
+fn dials(
+    alloc: Global,
+    turns: &[(Message, Answer)],
+    message: Message,
+    answer: Answer,
+) -> Result<bool, Refusal> {
+    let mut dialer = dialer(alloc)?;
+    let first = dialer_turns(alloc, &mut dialer, turns);
+    let then = dialer_turns(alloc, &mut dialer, &[(message, answer)]);
+    drop(dialer);
+    Ok(first? && then?)
+}
+
+#[test]
+fn dialers(rt: HostRuntime) -> Result<(), Fail> {
+    for (number, (turns, message, answer)) in DIALERS.iter().enumerate() {
+        assert!(rt;
+            dials(rt.alloc(), turns, *message, *answer)?,
+            "row {number}"
+        );
+    }
+    Ok(())
+}
+
+/// Whether the acceptor is connected, or has ended, where the answer says so.
+fn is_acceptor_at(state: AcceptorState, answer: Answer) -> bool {
+    match answer {
+        Waits | Says(_) => true,
+        Done(_) => state == AcceptorState::Done { creation: 7 },
+        Ends(_) => state == AcceptorState::Over,
+    }
+}
+
+/// Whether the message does this to the acceptor. The word is the acceptor's challenge where the
+/// dialer's name comes.
+fn acceptor_answers(
+    alloc: Global,
+    acceptor: &mut Acceptor,
+    message: Message,
+    answer: Answer,
+) -> Result<bool, Refusal> {
+    let word = match message {
+        SendName(..) => CHALLENGE,
+        _ => 0,
+    };
+    let message = made(alloc, message)?;
+    let next = acceptor.step(&message, word);
+    drop(message);
+    let is_so = is_answer(alloc, &next, answer);
+    drop(next);
+    Ok(is_so? && is_acceptor_at(acceptor.state(), answer))
+}
+
+/// What becomes of an attempt.
+#[derive(Clone, Copy, PartialEq, Eq)]
+struct Decision {
+    /// The status that is sent.
+    said: Option<Status>,
+    outcome: Outcome,
+    ends_waiting: bool,
+    ends_dialing: bool,
+}
+
+fn decision_of(admission: &Result<Admission, Refusal>) -> Result<Decision, Refusal> {
+    match admission {
+        Ok(admission) => Ok(Decision {
+            said: status_of(&admission.next),
+            outcome: admission.next.outcome,
+            ends_waiting: admission.ends_waiting,
+            ends_dialing: admission.ends_dialing,
+        }),
+        Err(why) => Err(*why),
+    }
+}
+
+/// The status that is sent.
+fn status_of(next: &Next) -> Option<Status> {
+    match &next.send {
+        Some(ShakeMsg::Status(status)) => Some(*status),
+        _ => None,
+    }
+}
+
+/// What is decided on the attempt.
+fn decided(acceptor: &mut Acceptor, others: Others) -> Result<Decision, Refusal> {
+    let admission = acceptor.admit(others);
+    let decision = decision_of(&admission);
+    drop(admission);
+    decision
+}
+
+/// Whether the attempt goes on, and is told so.
+fn admits(acceptor: &mut Acceptor, others: Others, status: Status) -> Result<bool, Refusal> {
+    let decision = decided(acceptor, others)?;
+    Ok(decision.said == Some(status) && decision.outcome == Outcome::Go)
+}
+
+/// Whether the challenge of b@h is sent.
+fn goes_on(alloc: Global, acceptor: &mut Acceptor) -> Result<bool, Refusal> {
+    let next = acceptor.go_on()?;
+    let challenge = SendChallenge(MANDATORY, CHALLENGE, 1, "b@h");
+    let is_so = is_answer(alloc, &next, Says(challenge));
+    drop(next);
+    is_so
+}
+
+fn refuses_calls(acceptor: &mut Acceptor) -> bool {
+    let before = acceptor.state();
+    acceptor.admit(ALONE).err() == Some(Refusal::NothingThere)
+        && acceptor.go_on().err() == Some(Refusal::NothingThere)
+        && acceptor.state() == before
+}
+
+/// Whether the step comes out as it has to.
+fn goes(alloc: Global, acceptor: &mut Acceptor, step: Step) -> Result<bool, Refusal> {
+    match step {
+        Comes(message, answer) => acceptor_answers(alloc, acceptor, message, answer),
+        Admits(others, status) => admits(acceptor, others, status),
+        GoesOn => goes_on(alloc, acceptor),
+        RefusesCalls => Ok(refuses_calls(acceptor)),
+    }
+}
+
+/// Whether each step comes out as it has to.
+fn acceptor_goes(alloc: Global, acceptor: &mut Acceptor, steps: &[Step]) -> Result<bool, Refusal> {
+    for step in steps {
+        if !goes(alloc, acceptor, *step)? {
+            return Ok(false);
+        }
+    }
+    Ok(true)
+}
+
+/// Whether the step comes out as it has to, behind the steps that come first.
+fn accepts(alloc: Global, steps: &[Step], step: Step) -> Result<bool, Refusal> {
+    let mut acceptor = acceptor(alloc, "b@h", 1)?;
+    let first = acceptor_goes(alloc, &mut acceptor, steps);
+    let then = acceptor_goes(alloc, &mut acceptor, &[step]);
+    drop(acceptor);
+    Ok(first? && then?)
+}
+
+#[test]
+fn acceptors(rt: HostRuntime) -> Result<(), Fail> {
+    for (number, (steps, step)) in ACCEPTORS.iter().enumerate() {
+        assert!(rt; accepts(rt.alloc(), steps, *step)?, "row {number}");
+    }
+    Ok(())
+}
+
+/// What is said to a dialer, and whether the attempt goes on.
+type Said = (Status, Outcome);
+
+const TOLD: Said = (Status::Ok, Outcome::Go);
+
+const TOLD_OF_BOTH: Said = (Status::OkSimultaneous, Outcome::Go);
+
+const QUESTIONED: Said = (Status::Alive, Outcome::Go);
+
+const REFUSED: Said = (Status::Nok, Outcome::Ended(Refusal::Nok));
+
+const TOO_LATE: Said = (Status::Nok, Outcome::Ended(Refusal::Superseded));
+
+/// The second attempt of a@h. The acceptor's name, which is greater than a@h or isn't; the count of
+/// a waiting attempt; whether there is a connection, and whether the acceptor dials; what is said;
+/// and whether the waiting attempt ends, and the acceptor's own.
+type Line = (&'static str, Option<u64>, bool, bool, Said, bool, bool);
+
+const DECISIONS: &[Line] = &[
+    // Nothing else.
+    ("z@h", None, false, false, TOLD, false, false),
+    // A later or the same attempt goes on here; an older one gives way.
+    ("z@h", Some(3), false, false, TOO_LATE, false, false),
+    ("z@h", Some(2), true, true, TOO_LATE, false, false),
+    ("z@h", Some(1), false, false, TOLD, true, false),
+    // There is a connection, whatever else.
+    ("z@h", None, true, false, QUESTIONED, false, false),
+    ("A@h", None, true, true, QUESTIONED, false, false),
+    ("z@h", Some(1), true, true, QUESTIONED, true, false),
+    // Both dial.
+    ("A@h", None, false, true, TOLD_OF_BOTH, false, true),
+    ("z@h", None, false, true, REFUSED, false, false),
+    ("z@h", Some(1), false, true, REFUSED, true, false),
+];
+
+/// What is decided on the second attempt of a@h at this node.
+fn decision_at(alloc: Global, own: &str, others: Others) -> Result<Decision, Refusal> {
+    let mut acceptor = acceptor(alloc, own, 2)?;
+    let greeted = acceptor_goes(alloc, &mut acceptor, GREETED);
+    let decision = decided(&mut acceptor, others);
+    drop(acceptor);
+    match greeted? {
+        true => decision,
+        false => Err(Refusal::NothingThere),
+    }
+}
+
+/// Whether the attempt is decided on so.
+fn is_decided(alloc: Global, line: Line) -> Result<bool, Refusal> {
+    let (own, waiting, connected, dialing, (said, outcome), ends_waiting, ends_dialing) = line;
+    let others = Others {
+        waiting,
+        connected,
+        dialing,
+    };
+    let wanted = Decision {
+        said: Some(said),
+        outcome,
+        ends_waiting,
+        ends_dialing,
+    };
+    Ok(decision_at(alloc, own, others)? == wanted)
+}
+
+#[test]
+fn decisions(rt: HostRuntime) -> Result<(), Fail> {
+    for (number, line) in DECISIONS.iter().enumerate() {
+        assert!(rt; is_decided(rt.alloc(), *line)?, "row {number}");
+    }
+    Ok(())
+}
+
+/// Whether the first message is the name of a@h.
+fn gives_its_name(alloc: Global, dialer: &Dialer) -> Result<bool, Refusal> {
+    let message = dialer.send_name()?;
+    let is_so = is_message(alloc, &message, SendName(MANDATORY, 1, "a@h"));
+    drop(message);
+    is_so
+}
+
+/// Whether the dialer has its peer, and gives its name.
+fn is_dialer(alloc: Global) -> Result<bool, Refusal> {
+    let dialer = dialer(alloc)?;
+    let is_of_peer = dialer.peer().text() == "b@h";
+    let is_named = gives_its_name(alloc, &dialer);
+    drop(dialer);
+    Ok(is_of_peer && is_named?)
+}
+
+/// Whether the acceptor has its attempt.
+fn is_acceptor(alloc: Global) -> Result<bool, Refusal> {
+    let acceptor = acceptor(alloc, "b@h", 3)?;
+    let is_so = acceptor.trunk().dialer.text() == "a@h" && acceptor.trunk().count == 3;
+    drop(acceptor);
+    Ok(is_so)
+}
+
+/// Who takes part, and a cookie of which there are two.
+#[test]
+fn parties(rt: HostRuntime) -> Result<(), Fail> {
+    assert!(rt; is_dialer(rt.alloc())?);
+    assert!(rt; is_acceptor(rt.alloc())?);
+    let cookie = Cookie::new(Vec::from_slice(rt.alloc(), b"secret")?);
+    assert!(rt; cookie.clone()?.as_slice() == b"secret".as_slice());
+    Ok(())
+}
+
+/// Run by the script fail-allocations too, with each allocation refused in turn.
+#[test]
+fn roles_allocations(rt: HostRuntime) -> Result<(), Fail> {
+    assert!(rt; is_dialer(rt.alloc())?);
+    assert!(rt; accepts(rt.alloc(), &[], Comes(NAME, Waits))?);
+    assert!(rt; accepts(rt.alloc(), GREETED, Admits(ALONE, Status::Ok))?);
+    assert!(rt; accepts(rt.alloc(), CHALLENGING, RefusesCalls)?);
+    Ok(())
+}
+
+/// The laws of the two roles.
+#[test]
+fn laws() {
+    done_only_by_digest();
+    handshake_comes_about();
+    later_attempt_goes_on();
+    one_of_two_dials();
+}

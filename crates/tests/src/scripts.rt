@@ -1,0 +1,393 @@
+//! Scripts written by hand, and what they print.
+use script_core::{Options, Outcome, Reason, read_options, run_script};
+use std::alloc::{AllocError, Global};
+use std::io::{self, ErrorKind, Read, Write};
+use std::test::*;
+
+const OPTIONS: Options = Options {
+    threads: false,
+    trace: false,
+    seed: 1,
+};
+
+fn is_line_end(byte: &u8) -> bool {
+    *byte == b'\n'
+}
+
+/// Whether these lines were printed, the frames left out.
+fn is_printed(printed: &[u8], wanted: &str) -> bool {
+    let mut wanted = wanted.lines();
+    for line in printed.split(is_line_end) {
+        let is_told = !line.is_empty() && !line.starts_with(b"sent ");
+        if is_told && wanted.next().map(|line| line.as_bytes()) != Some(line) {
+            return false;
+        }
+    }
+    wanted.next().is_none()
+}
+
+/// Whether a script prints these lines, the frames left out, and ends so.
+fn runs(alloc: Global, script: &[u8], wanted: &str, outcome: Outcome) -> bool {
+    let mut reader = script;
+    let mut printed = Vec::new(alloc);
+    let ended = run_script(alloc, &mut reader, &mut printed, &OPTIONS);
+    ended == outcome && is_printed(&printed, wanted)
+}
+
+const NOTHING_THERE: &str = "refused 19 NothingThere\n";
+
+const SCRIPTS: [(&str, &str); 12] = [
+    ("", ""),
+    ("\n\n# pair\n  #pair\n   \n#", ""),
+    ("pair\n", ""),
+    ("  pair  \n\n # p\nends   p  q  \n", "ends none none\n"),
+    ("pair\nends p q", "ends none none\n"),
+    ("deliver a@h b@h\n", NOTHING_THERE),
+    ("deliver a@h a@h\n", NOTHING_THERE),
+    (
+        "pair\ndeliver a@h a@h\ndeliver b@h a@h\nends q p\n",
+        "refused 19 NothingThere\nrefused 19 NothingThere\nends none none\n",
+    ),
+    (
+        "pair\nlink p p\nunlink q q\nends p p\nends q q\ndeliver b@h a@h\n",
+        "done\ndone\nends none none\nends none none\nrefused 19 NothingThere\n",
+    ),
+    (
+        "pair\nunlink p q\nlink p q\nlink p q\nends p q\nends q p\ndeliver b@h a@h\ndeliver b@h a@h\nends p q",
+        "done\ndone\ndone\nends active none\nends none active\ntook link\nrefused 19 NothingThere\nends active active\n",
+    ),
+    (
+        "pair\nlink p q\ndeliver b@h a@h\nunlink p q\nunlink q p\nends p q\nlink p q\ndeliver b@h a@h\ndeliver b@h a@h\nends p q\ndeliver a@h b@h\nends p q\ndeliver a@h b@h\ndeliver b@h a@h\nends p q\n",
+        "done\ntook link\ndone\ndone\nends pending:1 pending:1\ndone\ntook unlink\ntook link\nends active pending:1\ntook unlink\nends none pending:1\ntook unlink_ack\ntook unlink_ack\nends none none\n",
+    ),
+    (
+        "pair\nlink p q\ndeliver b@h a@h\nunlink p q\nlink p q\nunlink p q\ndeliver b@h a@h\ndeliver a@h b@h\nends p q\ndeliver b@h a@h\ndeliver b@h a@h\nends p q\ndeliver a@h b@h\nends q p\n",
+        "done\ntook link\ndone\ndone\ndone\ntook unlink\ntook unlink_ack\nends pending:2 none\ntook link\ntook unlink\nends pending:2 none\ntook unlink_ack\nends none none\n",
+    ),
+];
+
+#[test]
+fn scripts(rt: HostRuntime) {
+    for (script, wanted) in SCRIPTS {
+        assert!(rt;
+            runs(rt.alloc(), script.as_bytes(), wanted, Outcome::Ran),
+            "{script}"
+        );
+    }
+}
+
+/// A script of all that a pair does, and the whole that it prints. The control messages are
+/// {1, p, q}, {35, 1, p, q} and {36, 1, q, p}: LINK, UNLINK_ID and UNLINK_ID_ACK.
+const WHOLE: &[u8] =
+    b"pair\nlink p q\ndeliver b@h a@h\nunlink p q\ndeliver b@h a@h\ndeliver a@h b@h\nends p q\n";
+
+const ITS_OUTPUT: &str =
+    "sent a@h b@h 0000002A708368036101587703614068000000010000000000000001587703624068000000010000000000000001\ndone\ntook link\nsent a@h b@h 0000002C7083680461236101587703614068000000010000000000000001587703624068000000010000000000000001\ndone\nsent b@h a@h 0000002C7083680461246101587703624068000000010000000000000001587703614068000000010000000000000001\ntook unlink\ntook unlink_ack\nends none none\n";
+
+/// How the whole script ends, and how many bytes it printed, if they begin its output.
+fn printed_front(alloc: Global) -> (Outcome, Option<usize>) {
+    let mut reader = WHOLE;
+    let mut printed = Vec::new(alloc);
+    let outcome = run_script(alloc, &mut reader, &mut printed, &OPTIONS);
+    let is_front = ITS_OUTPUT.as_bytes().starts_with(&printed);
+    (outcome, is_front.then_some(printed.len()))
+}
+
+/// Run by the script fail-allocations too, with each allocation refused in turn. What was printed by
+/// then is how the whole begins. The list that is written to can't grow, or the script finds no
+/// memory.
+#[test]
+fn script_allocations(rt: HostRuntime) -> Result<(), Fail> {
+    let (outcome, printed) = printed_front(rt.alloc());
+    assert!(rt; printed.is_some());
+    match outcome {
+        Outcome::Failed | Outcome::OutOfMemory => Err(Fail::from("out of memory")),
+        _ => {
+            assert_eq!(rt; outcome, Outcome::Ran);
+            assert_eq!(rt; printed, Some(ITS_OUTPUT.len()));
+            Ok(())
+        }
+    }
+}
+
+const BAD_LINES: [(&[u8], Reason); 29] = [
+    (b"\xFF", Reason::NotText),
+    (b"ends p \xFF", Reason::NotText),
+    (b"# \xC3\x28", Reason::NotText),
+    (b"ends\0 p q", Reason::UnknownCommand),
+    (b"pear", Reason::UnknownCommand),
+    (b"Ends p q", Reason::UnknownCommand),
+    (b"\r", Reason::UnknownCommand),
+    (b"pair\r", Reason::UnknownCommand),
+    (b"\tends p q", Reason::UnknownCommand),
+    (b"pair", Reason::WrongWords),
+    (b"pair p", Reason::WrongWords),
+    (b"link p", Reason::WrongWords),
+    (b"link P 1 r", Reason::WrongWords),
+    (b"unlink", Reason::WrongWords),
+    (b"deliver c@h", Reason::WrongWords),
+    (b"ends p q # both", Reason::WrongWords),
+    (b"ends p q\r", Reason::BadName),
+    (b"ends p\0 q", Reason::BadName),
+    (b"ends p #", Reason::BadName),
+    (b"link P q", Reason::BadName),
+    (b"link r 1", Reason::BadName),
+    (b"unlink _p q", Reason::BadName),
+    (b"unlink p \xC3\xA4", Reason::BadName),
+    (b"deliver a@h c@h", Reason::BadName),
+    (b"deliver p q", Reason::BadName),
+    (b"link p r", Reason::UnknownName),
+    (b"unlink r q", Reason::UnknownName),
+    (b"ends q_1 p", Reason::UnknownName),
+    (b"ends p qq", Reason::UnknownName),
+];
+
+/// Whether a script with this line behind a pair, a command and an empty line ends so at its fifth
+/// line, with more lines behind it or none.
+fn ends_at(alloc: Global, line: &[u8], end: &[u8], outcome: Outcome) -> Result<bool, AllocError> {
+    let mut script = Vec::new(alloc);
+    script.extend_from_slice(b"# a\npair\nends p q\n\n")?;
+    script.extend_from_slice(line)?;
+    script.extend_from_slice(end)?;
+    Ok(runs(alloc, &script, "ends none none\n", outcome))
+}
+
+#[test]
+fn bad_lines(rt: HostRuntime) -> Result<(), Fail> {
+    for (row, (line, reason)) in BAD_LINES.iter().enumerate() {
+        let outcome = Outcome::BadLine(5, *reason);
+        assert!(rt; ends_at(rt.alloc(), line, b"", outcome)?, "row {row}");
+        assert!(rt;
+            ends_at(rt.alloc(), line, b"\nends p q\n", outcome)?,
+            "row {row}"
+        );
+    }
+    Ok(())
+}
+
+#[test]
+fn before_a_pair(rt: HostRuntime) {
+    for (script, wanted, line, reason) in [
+        ("link p q", "", 1, Reason::UnknownName),
+        ("\n\n\nends p p\n", "", 4, Reason::UnknownName),
+        ("unlink P q", "", 1, Reason::BadName),
+        ("pair p q", "", 1, Reason::WrongWords),
+        (
+            "deliver a@h b@h\npair\n",
+            NOTHING_THERE,
+            2,
+            Reason::WrongWords,
+        ),
+    ] {
+        let outcome = Outcome::BadLine(line, reason);
+        assert!(rt;
+            runs(rt.alloc(), script.as_bytes(), wanted, outcome),
+            "{script}"
+        );
+    }
+}
+
+/// So many bytes of one kind.
+fn repeated(alloc: Global, byte: u8, count: u32) -> Result<Vec<u8>, AllocError> {
+    let mut bytes = Vec::new(alloc);
+    for _ in 0..count {
+        bytes.push(byte)?;
+    }
+    Ok(bytes)
+}
+
+/// Whether the fifth line of a script, so long, ends it so.
+fn long_line_ends(
+    alloc: Global,
+    byte: u8,
+    count: u32,
+    outcome: Outcome,
+) -> Result<bool, AllocError> {
+    let line = repeated(alloc, byte, count)?;
+    ends_at(alloc, &line, b"", outcome)
+}
+
+#[test]
+fn longest_line(rt: HostRuntime) -> Result<(), Fail> {
+    for (byte, count, outcome) in [
+        (b'#', 65_536, Outcome::Ran),
+        (b' ', 65_536, Outcome::Ran),
+        (b'p', 65_536, Outcome::BadLine(5, Reason::UnknownCommand)),
+        (0xFF, 65_536, Outcome::BadLine(5, Reason::NotText)),
+        (b'#', 65_537, Outcome::BadLine(5, Reason::TooLong)),
+        (0xFF, 65_537, Outcome::BadLine(5, Reason::TooLong)),
+    ] {
+        assert!(rt;
+            long_line_ends(rt.alloc(), byte, count, outcome)?,
+            "{count} of {byte}"
+        );
+    }
+    Ok(())
+}
+
+/// Gives a byte at a time, and an error at the read of that number.
+#[derive(Drop)]
+struct Halting<'a> {
+    script: &'a [u8],
+    reads: u64,
+    halt: u64,
+    kind: ErrorKind,
+}
+
+impl Read for Halting<'_> {
+    fn read(&mut self, buf: &mut [u8]) -> io::Result<usize> {
+        self.reads = self.reads.wrapping_add(1);
+        if self.reads == self.halt {
+            return Err(io::Error::from(self.kind));
+        }
+        let len = buf.len().min(1);
+        self.script.read(&mut buf[..len])
+    }
+}
+
+const TWICE: &str = "ends none none\nends none none\n";
+
+const ONCE: &str = "ends none none\n";
+
+/// Whether a script of two lines that print ends so, where a read fails.
+fn halts(alloc: Global, halt: u64, kind: ErrorKind, outcome: Outcome, wanted: &str) -> bool {
+    let mut reader = Halting {
+        script: b"pair\nends p q\nends q p",
+        reads: 0,
+        halt,
+        kind,
+    };
+    let mut printed = Vec::new(alloc);
+    let ended = run_script(alloc, &mut reader, &mut printed, &OPTIONS);
+    ended == outcome && printed.as_slice() == wanted.as_bytes()
+}
+
+#[test]
+fn halting_reader(rt: HostRuntime) {
+    for (halt, kind, outcome, wanted) in [
+        (0, ErrorKind::BrokenPipe, Outcome::Ran, TWICE),
+        (16, ErrorKind::Interrupted, Outcome::Ran, TWICE),
+        (1, ErrorKind::BrokenPipe, Outcome::Failed, ""),
+        (16, ErrorKind::BrokenPipe, Outcome::Failed, ONCE),
+        (23, ErrorKind::BrokenPipe, Outcome::Failed, ONCE),
+        (24, ErrorKind::BrokenPipe, Outcome::Ran, TWICE),
+    ] {
+        assert!(rt;
+            halts(rt.alloc(), halt, kind, outcome, wanted),
+            "at read {halt}"
+        );
+    }
+}
+
+/// Takes so many writes, and as many flushes.
+#[derive(Drop)]
+struct Full {
+    taken: Vec<u8>,
+    writes: u64,
+    flushes: u64,
+}
+
+impl Write for Full {
+    fn write(&mut self, buf: &[u8]) -> io::Result<usize> {
+        if self.writes == 0 {
+            return Err(io::Error::from(ErrorKind::BrokenPipe));
+        }
+        self.writes -= 1;
+        self.taken.extend_from_slice(buf)?;
+        Ok(buf.len())
+    }
+
+    fn flush(&mut self) -> io::Result<()> {
+        if self.flushes == 0 {
+            return Err(io::Error::from(ErrorKind::BrokenPipe));
+        }
+        self.flushes -= 1;
+        Ok(())
+    }
+}
+
+/// Whether a script of two lines that print ends so, over a writer that takes so much.
+fn fills(alloc: Global, writes: u64, flushes: u64, outcome: Outcome, wanted: &str) -> bool {
+    let mut script: &[u8] = b"pair\nends p q\nlink p p\n";
+    let mut writer = Full {
+        taken: Vec::new(alloc),
+        writes,
+        flushes,
+    };
+    let ended = run_script(alloc, &mut script, &mut writer, &OPTIONS);
+    ended == outcome && writer.taken.as_slice() == wanted.as_bytes()
+}
+
+#[test]
+fn full_writer(rt: HostRuntime) {
+    for (writes, flushes, outcome, wanted) in [
+        (9, 9, Outcome::Ran, "ends none none\ndone\n"),
+        (2, 2, Outcome::Ran, "ends none none\ndone\n"),
+        (1, 9, Outcome::Failed, "ends none none\n"),
+        (0, 9, Outcome::Failed, ""),
+        (9, 1, Outcome::Failed, "ends none none\ndone\n"),
+        (9, 0, Outcome::Failed, "ends none none\ndone\n"),
+    ] {
+        assert!(rt;
+            fills(rt.alloc(), writes, flushes, outcome, wanted),
+            "{writes} writes, {flushes} flushes"
+        );
+    }
+}
+
+#[test]
+fn statuses(rt: HostRuntime) {
+    for (outcome, status) in [
+        (Outcome::Ran, 0),
+        (Outcome::BadLine(1, Reason::BadName), 3),
+        (Outcome::OutOfMemory, 4),
+        (Outcome::Failed, 6),
+    ] {
+        assert_eq!(rt; outcome.status(), status);
+    }
+}
+
+/// What the words ask for, or the exit status that they are refused with.
+fn options(alloc: Global, words: &[&str]) -> Result<Result<Options, i32>, AllocError> {
+    let mut given = Vec::new(alloc);
+    given.push(String::from_str(alloc, "erldist")?)?;
+    for word in words {
+        given.push(String::from_str(alloc, word)?)?;
+    }
+    Ok(read_options(alloc, given.as_slice()).map_err(|error| error.exit_code()))
+}
+
+/// Command lines, and what they ask for: threads, the trace, and the seed.
+const GOOD_WORDS: [(&[&str], bool, bool, u32); 5] = [
+    (&[], false, false, 1),
+    (&["--seed", "7"], false, false, 7),
+    (&["--seed=4294967295"], false, false, 4_294_967_295),
+    (&["--trace", "--seed", "0"], false, true, 0),
+    (&["--threads"], true, false, 1),
+];
+
+/// Others, and the status that they are refused with.
+const OTHER_WORDS: [(&[&str], i32); 6] = [
+    (&["--seed", "4294967296"], 2),
+    (&["--seed", "-1"], 2),
+    (&["--seed"], 2),
+    (&["script"], 2),
+    (&["--fast"], 2),
+    (&["--help"], 0),
+];
+
+#[test]
+fn command_lines(rt: HostRuntime) -> Result<(), Fail> {
+    for (words, threads, trace, seed) in GOOD_WORDS {
+        let wanted = Options {
+            threads,
+            trace,
+            seed,
+        };
+        assert_eq!(rt; options(rt.alloc(), words)?, Ok(wanted), "seed {seed}");
+    }
+    for (row, (words, status)) in OTHER_WORDS.iter().enumerate() {
+        assert_eq!(rt; options(rt.alloc(), words)?, Err(*status), "row {row}");
+    }
+    Ok(())
+}
