@@ -42,7 +42,8 @@ impl Rate<'_> {
     fn nanos(&self) -> u128
         ensures { result ≡ nanos_of self.now.elapsed }
     {
-        self.elapsed.as_nanos().max(1)
+        let nanos = self.elapsed.as_nanos();
+        nanos.max(1)
     }
 
     /// Prints how many rounds a second has, and how many megabytes of 1,000,000 bytes.
