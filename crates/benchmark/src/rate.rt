@@ -43,7 +43,7 @@ impl Rate<'_> {
         ensures { result ≡ nanos_of self.now.elapsed }
     {
         let nanos = self.elapsed.as_nanos();
-        nanos.max(1)
+        if nanos == 0 { 1 } else { nanos }
     }
 
     /// Prints how many rounds a second has, and how many megabytes of 1,000,000 bytes.

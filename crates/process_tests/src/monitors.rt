@@ -66,9 +66,8 @@ fn puts_own(
     let reference = reference(alloc, word)?;
     let owner = pid(alloc, owner)?;
     let target = pid(alloc, target)?;
-    watches
-        .add(&reference, &owner, &target)
-        .map(|()| Answer::Done)
+    watches.add(&reference, &owner, &target)?;
+    Ok(Answer::Done)
 }
 
 fn ends_own(
@@ -108,9 +107,8 @@ fn puts(
     let reference = reference(alloc, word)?;
     let owner = pid(alloc, owner)?;
     let target = pid(alloc, target)?;
-    watchers
-        .on_monitor(&reference, &owner, &target)
-        .map(|()| Answer::Done)
+    watchers.on_monitor(&reference, &owner, &target)?;
+    Ok(Answer::Done)
 }
 
 fn ends(
@@ -201,9 +199,14 @@ fn first_wrong(alloc: Global, rows: &[(Call, Answer)]) -> Option<usize> {
 }
 
 #[test]
-fn monitors(rt: HostRuntime) {
-    assert_eq!(rt; first_wrong_own(rt.alloc(), &OWN), None);
-    assert_eq!(rt; first_wrong_own(rt.alloc(), &OWN_IN_ORDER), None);
+fn own_monitors(rt: HostRuntime) {
+    for rows in [&OWN, &OWN_IN_ORDER] {
+        assert_eq!(rt; first_wrong_own(rt.alloc(), rows), None);
+    }
+}
+
+#[test]
+fn monitors_of_others(rt: HostRuntime) {
     assert_eq!(rt; first_wrong(rt.alloc(), &OF_OTHERS), None);
 }
 

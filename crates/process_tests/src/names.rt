@@ -37,7 +37,7 @@ fn names(rt: HostRuntime) -> Result<(), Fail> {
 }
 
 fn mint(alloc: Global, creation: Creation) -> Result<Mint, Refusal> {
-    Ok(Mint::new(NodeName::read(alloc, "a@h")?, creation))
+    NodeName::read(alloc, "a@h").map(|name| Mint::new(name, creation))
 }
 
 /// How many references are drawn before they are used up, if each is the number of the draw.
