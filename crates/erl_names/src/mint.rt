@@ -1,5 +1,5 @@
 //! The numbers that one incarnation of a node draws.
-ghost use Rattle.std.specs.Prelude.{◌≡◌, IfOk, OnErr, IsOkUnless};
+ghost use Rattle.std.specs.Prelude.{◌≡◌, ◌+◌, ◌-◌, ◌^◌, ◌↔◌, IfOk, OnOk, OnErr, IsErr, IsOkUnless};
 ghost use Rattle.std.specs.Option.{ok_or};
 ghost use Rattle.erl_names.specs.Draw as draw;
 ghost use Rattle.erl_names.specs.Minted.{nothing_drawn, drawn, id_of};
@@ -49,6 +49,21 @@ impl Mint {
         }
     }
 
+    /// The node starts again: its next incarnation has drawn nothing. Takes no memory. Refused with
+    /// [`Refusal::IdsUsedUp`] behind the last incarnation, 2^32 - 1, and then nothing has changed.
+    pub fn restart(&mut self) -> Result<(), Refusal>
+        ensures ok { OnOk result (self.new ≡ nothing_drawn self.old.name (self.old.creation + 1)) }
+        ensures last { IsErr result ↔ (self.old.creation ≡ 2 ^ 32 - 1) }
+        ensures err { OnErr result (self.new ≡ self.old) }
+        ensures only { IsOkUnless result Refusal.IdsUsedUp }
+    {
+        self.creation = self.creation.next()?;
+        self.pids = 0;
+        self.references = 0;
+        self.unlink_ids = 0;
+        Ok(())
+    }
+
     /// The name of the node.
     pub fn name(&self) -> &NodeName
         ensures { result.now ≡ self.now.name }
@@ -70,6 +85,45 @@ impl Mint {
         self.pids
     }
 
+    /// How many references were drawn.
+    pub fn references(&self) -> u32
+        ensures { result ≡ self.now.references }
+    {
+        self.references
+    }
+
+    /// How many unlink ids were drawn.
+    pub fn unlink_ids(&self) -> u64
+        ensures { result ≡ self.now.unlink_ids }
+    {
+        self.unlink_ids
+    }
+
+    /// The id that the next draw of a pid gives, or its refusal. Draws nothing, and takes no memory.
+    pub fn peek_pid(&self) -> Result<u32, Refusal>
+        ensures { result ≡ ok_or (id_of self.now draw.Pid) Refusal.IdsUsedUp }
+    {
+        self.pids.checked_add(1).ok_or(Refusal::IdsUsedUp)
+    }
+
+    /// The count that the next draw of a reference gives, or its refusal. Draws nothing, and takes no
+    /// memory.
+    pub fn peek_reference(&self) -> Result<u32, Refusal>
+        ensures { result ≡ ok_or (id_of self.now draw.Reference) Refusal.IdsUsedUp }
+    {
+        if self.references >= MOST_REFERENCES {
+            return Err(Refusal::IdsUsedUp);
+        }
+        Ok(self.references + 1)
+    }
+
+    /// The unlink id that the next draw gives, or its refusal. Draws nothing, and takes no memory.
+    pub fn peek_unlink_id(&self) -> Result<u64, Refusal>
+        ensures { result ≡ ok_or (id_of self.now draw.UnlinkId) Refusal.IdsUsedUp }
+    {
+        self.unlink_ids.checked_add(1).ok_or(Refusal::IdsUsedUp)
+    }
+
     /// Draws the id of a pid: 1, 2 and so on up to 2^32 - 1, and then [`Refusal::IdsUsedUp`] for
     /// good. Takes no memory, and a refused draw changes nothing. (ERTS User's Guide, External Term
     /// Format, NEW_PID_EXT.)
@@ -78,10 +132,7 @@ impl Mint {
         ensures drawn { self.new ≡ drawn self.old draw.Pid }
         ensures err { OnErr result (self.new ≡ self.old) }
     {
-        if self.pids == u32::MAX {
-            return Err(Refusal::IdsUsedUp);
-        }
-        self.pids += 1;
+        self.pids = self.peek_pid()?;
         Ok(self.pids)
     }
 
@@ -93,10 +144,7 @@ impl Mint {
         ensures drawn { self.new ≡ drawn self.old draw.Reference }
         ensures err { OnErr result (self.new ≡ self.old) }
     {
-        if self.references >= MOST_REFERENCES {
-            return Err(Refusal::IdsUsedUp);
-        }
-        self.references += 1;
+        self.references = self.peek_reference()?;
         Ok(self.references)
     }
 
@@ -108,10 +156,7 @@ impl Mint {
         ensures drawn { self.new ≡ drawn self.old draw.UnlinkId }
         ensures err { OnErr result (self.new ≡ self.old) }
     {
-        if self.unlink_ids == u64::MAX {
-            return Err(Refusal::IdsUsedUp);
-        }
-        self.unlink_ids += 1;
+        self.unlink_ids = self.peek_unlink_id()?;
         Ok(self.unlink_ids)
     }
 
