@@ -15,6 +15,7 @@
 #![tactic(auto)]
 
 mod atom;
+mod copying;
 mod decoding;
 mod encoding;
 mod error;
@@ -37,6 +38,7 @@ mod text;
 mod words;
 
 pub use atom::Atom;
+pub use copying::copy_of;
 pub use decoding::{LIMIT, decode, term_len};
 pub use encoding::{encode, put_integer, put_pid, put_reference, put_term, put_tuple_head};
 pub use error::TermError;

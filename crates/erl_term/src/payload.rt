@@ -1,8 +1,10 @@
 //! Terms that travel.
-ghost use Rattle.std.specs.Prelude.{◌≡◌};
+ghost use Rattle.std.specs.Prelude.{◌≡◌, IfOk};
 ghost use Rattle.erl_term.specs.View.{view};
 
+use crate::copying::copy_of;
 use crate::term::Term;
+use std::alloc::{AllocError, Global};
 use std::marker::Model;
 
 /// A term that a signal carries: a message, or the reason of an exit. Contracts see what the term
@@ -46,5 +48,14 @@ impl Payload {
         ensures { view result ≡ self }
     {
         self.term
+    }
+
+    /// A copy of the payload, with memory of its own. Fails for want of memory alone.
+    pub fn copy(&self, alloc: Global) -> Result<Payload, AllocError>
+        ensures { IfOk result (λ copy. copy ≡ self.now) }
+    {
+        Ok(Payload {
+            term: copy_of(alloc, &self.term)?,
+        })
     }
 }
