@@ -1,6 +1,6 @@
 -- The messages that exits become.
 -- (Reference Manual, Processes, Receiving Exit Signals and Monitors.)
-use Rattle.std.specs.Prelude.{List, ◌∷◌, [], codes}
+use Rattle.std.specs.Prelude.{◌∷◌, [], codes}
 use Rattle.erl_term.specs.declared.term.Pid.{Pid}
 use Rattle.erl_term.specs.declared.term.Reference.{Reference}
 use Rattle.erl_term.specs.Data.{Data, atom, tuple, pid, reference}

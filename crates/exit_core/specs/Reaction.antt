@@ -1,6 +1,6 @@
 -- What an exit signal does to a process: the first line that fits.
 -- (Reference Manual, Processes, Receiving Exit Signals.)
-use Rattle.std.specs.Prelude.{Bool, true, false, not, ◌&&◌, if◌then◌else◌, List, ℕ, nat_eq, codes}
+use Rattle.std.specs.Prelude.{Bool, false, not, ◌&&◌, if◌then◌else◌, List, ℕ, nat_eq, codes}
 use Rattle.std.specs.Cmp.Lexicographic.{pointwise}
 use Rattle.erl_term.specs.Data.{Data, atom}
 use Rattle.exit_core.specs.declared.reaction.ExitSignal.{ExitSignal}

@@ -1,5 +1,5 @@
 //! The messages that wait for a process.
-ghost use Rattle.std.specs.Prelude.{◌≡◌, ◌↔◌, ◌++◌, ◌∷◌, [], length, IsTrue, OnOk, OnErr, IsOkUnless, MatchOption};
+ghost use Rattle.std.specs.Prelude.{◌≡◌, ◌↔◌, ◌≤◌, ◌+◌, ◌++◌, ◌∷◌, [], length, IsTrue, OnOk, OnErr, IsOk, IsOkUnless, MatchOption};
 ghost use Rattle.erl_term.specs.declared.refusal.Refusal.TheVariants as Refusal;
 ghost use Rattle.std.specs.List.{slice_get};
 ghost use Rattle.std.specs.Option.{option_copied};
@@ -9,41 +9,57 @@ use std::alloc::Global;
 use std::collections::VecDeque;
 use std::marker::Model;
 
-/// The messages that wait for a process, the oldest first. Contracts see the list of them.
-/// (Reference Manual, Processes, Delivery of Signals.)
+/// The messages that wait for a process, the oldest first. Contracts see the list of them, and the
+/// room: how many more may come without memory. (Reference Manual, Processes, Delivery of Signals.)
 #[derive(Debug, Drop)]
 pub struct Mailbox {
     messages: VecDeque<Payload>,
 }
 
 impl Model for Mailbox {
-    ghost use Rattle.std.specs.Prelude.{List};
-    ghost use Rattle.std.specs.Coded.{coded_list};
-    ghost use Rattle.erl_term.specs.Code.{data_code};
-    ghost use Rattle.erl_term.specs.Data.{Data};
+    ghost use Rattle.std.specs.Prelude.{◌-◌};
+    ghost use Rattle.std.specs.VecDeque.{deque_len, deque_capacity};
+    ghost use Rattle.exit_core.specs.Waiting.{Waiting, waiting_code};
 
-    ghost Value = { List Data };
+    ghost Value = { Waiting };
 
-    ghost coded = { coded_list data_code };
+    ghost coded = { waiting_code };
 
-    ghost view = { λ m. m.messages.items };
+    ghost view = { λ m. record { messages = m.messages.items; room = deque_capacity m.messages - deque_len m.messages } };
 }
 
 impl Mailbox {
     /// No messages. Takes no memory.
     pub fn new(alloc: Global) -> Mailbox
-        ensures { result ≡ [] }
+        ensures { result.messages ≡ [] }
     {
         Mailbox {
             messages: VecDeque::new(alloc),
         }
     }
 
-    /// Puts a message behind the others. The only refusal is [`Refusal::OutOfMemory`].
-    pub fn put(&mut self, message: Payload) -> Result<(), Refusal>
-        ensures ok { OnOk result (self.new ≡ self.old ++ message ∷ []) }
-        ensures err { OnErr result (self.new ≡ self.old) }
+    /// Makes room for so many more messages: that many can be put without a refusal afterwards.
+    ///
+    /// The only refusal is [`Refusal::OutOfMemory`], and it changes nothing.
+    pub fn reserve(&mut self, additional: usize) -> Result<(), Refusal>
+        ensures messages { self.new.messages ≡ self.old.messages }
+        ensures room { OnOk result (additional ≤ self.new.room) }
+        ensures kept { self.old.room ≤ self.new.room }
         ensures only_memory { IsOkUnless result Refusal.OutOfMemory }
+        ensures succeeds { additional ≤ self.old.room → IsOk result }
+    {
+        self.messages.reserve(additional)?;
+        Ok(())
+    }
+
+    /// Puts a message behind the others. The only refusal is [`Refusal::OutOfMemory`], and only where
+    /// there is no room.
+    pub fn put(&mut self, message: Payload) -> Result<(), Refusal>
+        ensures ok { OnOk result (self.new.messages ≡ self.old.messages ++ message ∷ []) }
+        ensures room { self.old.room ≤ self.new.room + 1 }
+        ensures err { OnErr result (self.new.messages ≡ self.old.messages) }
+        ensures only_memory { IsOkUnless result Refusal.OutOfMemory }
+        ensures succeeds { 1 ≤ self.old.room → IsOk result }
     {
         self.messages.push_back(message)?;
         Ok(())
@@ -51,28 +67,30 @@ impl Mailbox {
 
     /// Takes the oldest message out, if there is one. Takes no memory.
     pub fn take(&mut self) -> Option<Payload>
-        ensures { MatchOption result ((self.old ≡ []) × (self.new ≡ [])) (λ m. self.old ≡ m ∷ self.new) }
+        ensures messages { MatchOption result ((self.old.messages ≡ []) × (self.new.messages ≡ []))
+            (λ m. self.old.messages ≡ m ∷ self.new.messages) }
+        ensures room { self.old.room ≤ self.new.room }
     {
         self.messages.pop_front()
     }
 
     /// How many messages wait.
     pub fn len(&self) -> usize
-        ensures { result ≡ length self.now }
+        ensures { result ≡ length self.now.messages }
     {
         self.messages.len()
     }
 
     /// Whether no message waits.
     pub fn is_empty(&self) -> bool
-        ensures { IsTrue result ↔ (self.now ≡ []) }
+        ensures { IsTrue result ↔ (self.now.messages ≡ []) }
     {
         self.messages.is_empty()
     }
 
     /// The message at a place, from the oldest on, counted from 0.
     pub fn get(&self, place: usize) -> Option<&Payload>
-        ensures { option_copied result ≡ slice_get self.now place }
+        ensures { option_copied result ≡ slice_get self.now.messages place }
     {
         self.messages.get(place)
     }

@@ -11,13 +11,12 @@ use std::alloc::Global;
 
 /// {'EXIT',Sender,Reason}: what a process that traps exits gets of an exit signal. The only refusal
 /// is [`Refusal::OutOfMemory`]. (Reference Manual, Processes, Receiving Exit Signals.)
-pub fn exit_message(alloc: Global, sender: &Pid, reason: Payload) -> Result<Payload, Refusal>
-    ensures ok { IfOk result (λ m. m ≡ exit_term sender.now reason) }
+pub fn exit_message(alloc: Global, sender: Pid, reason: Payload) -> Result<Payload, Refusal>
+    ensures ok { IfOk result (λ m. m ≡ exit_term sender reason) }
     ensures only_memory { IsOkUnless result Refusal.OutOfMemory }
 {
     let name = atom_of(alloc, "EXIT")?;
-    let sender = Term::Pid(sender.clone()?);
-    let elements = vec![in alloc; name, sender, reason.into_term()]?;
+    let elements = vec![in alloc; name, Term::Pid(sender), reason.into_term()]?;
     Ok(Payload::new(Term::Tuple(elements)))
 }
 
@@ -26,23 +25,25 @@ pub fn exit_message(alloc: Global, sender: &Pid, reason: Payload) -> Result<Payl
 /// (Reference Manual, Processes, Monitors.)
 pub fn down_message(
     alloc: Global,
-    reference: &Reference,
-    target: &Pid,
+    reference: Reference,
+    target: Pid,
     info: Payload,
 ) -> Result<Payload, Refusal>
-    ensures ok { IfOk result (λ m. m ≡ down_term reference.now target.now info) }
+    ensures ok { IfOk result (λ m. m ≡ down_term reference target info) }
     ensures only_memory { IsOkUnless result Refusal.OutOfMemory }
 {
     let name = atom_of(alloc, "DOWN")?;
-    let reference = Term::Reference(reference.clone()?);
+    let reference = Term::Reference(reference);
     let kind = atom_of(alloc, "process")?;
-    let target = Term::Pid(target.clone()?);
+    let target = Term::Pid(target);
     let elements = vec![in alloc; name, reference, kind, target, info.into_term()]?;
     Ok(Payload::new(Term::Tuple(elements)))
 }
 
-/// The payload that is the atom of this name.
-pub(crate) fn named(alloc: Global, name: &str) -> Result<Payload, Refusal>
+/// The payload that is the atom of this name of at most 255 characters, as noproc or noconnection,
+/// for which a process ends or a monitor's target is gone. The only refusal is
+/// [`Refusal::OutOfMemory`]. (Reference Manual, Processes, Links and Monitors.)
+pub fn named(alloc: Global, name: &str) -> Result<Payload, Refusal>
     requires { length (chars name.now) ≤ 255 }
     ensures ok { IfOk result (λ p. p ≡ atom name.now) }
     ensures only_memory { IsOkUnless result Refusal.OutOfMemory }

@@ -18,7 +18,7 @@ impl Proc {
     /// A process as it is spawned: it doesn't trap exits, and no message waits. Takes no memory.
     pub fn new(alloc: Global) -> Proc
         ensures trap { result.trap ≡ false }
-        ensures mailbox { result.mailbox ≡ [] }
+        ensures mailbox { result.mailbox.messages ≡ [] }
     {
         Proc {
             trap: false,

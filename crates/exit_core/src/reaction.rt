@@ -61,7 +61,7 @@ impl Proc {
             return Ok(Reaction::End(named(alloc, "killed")?));
         }
         if self.trap {
-            return Ok(Reaction::Put(exit_message(alloc, &sender, reason)?));
+            return Ok(Reaction::Put(exit_message(alloc, sender, reason)?));
         }
         if is_atom(&reason, "normal") && !is_own {
             return Ok(Reaction::Ignore);

@@ -128,13 +128,13 @@ const DOWN: &str =
 
 fn exit(alloc: Global) -> Result<Payload, Refusal> {
     let sender = pid(alloc, SENDER)?;
-    exit_message(alloc, &sender, atom(alloc, "noproc")?)
+    exit_message(alloc, sender, atom(alloc, "noproc")?)
 }
 
 fn down(alloc: Global) -> Result<Payload, Refusal> {
     let target = pid(alloc, TARGET)?;
     let reference = reference(alloc, 1)?;
-    down_message(alloc, &reference, &target, atom(alloc, "noconnection")?)
+    down_message(alloc, reference, target, atom(alloc, "noconnection")?)
 }
 
 fn is_written(alloc: Global, message: &Payload, hex: &str) -> Result<bool, Fail> {
