@@ -1,9 +1,8 @@
 -- What exits do: a process ends, and an exit signal comes to one.
 -- (Reference Manual, Processes, Receiving Exit Signals; Links; Monitors.)
 use Rattle.std.specs.List.{flat_map}
-use Rattle.std.specs.Prelude.{Option, None, Some, Bool, true, false, not, if◌then◌else◌, List, [], ◌∷◌, ◌++◌}
+use Rattle.std.specs.Prelude.{true, false, not, if◌then◌else◌, List, [], ◌∷◌, ◌++◌}
 use Rattle.std.specs.FinMap as fm
-use Rattle.dist_model.specs.Monitoring.{monitor}
 use Rattle.dist_model.specs.Names.{same_pid}
 use Rattle.dist_model.specs.Node.{Ended, traps}
 use Rattle.dist_model.specs.Work.{EndedBy, LinkExit, Work, post_all, put, report}
@@ -16,6 +15,7 @@ use Rattle.exit_core.specs.declared.reaction.ExitSignal.{ExitSignal}
 use Rattle.exit_core.specs.declared.reaction.Reaction.{Reaction}
 use Rattle.link_core.specs.Table.{is_active}
 use Rattle.link_core.specs.declared.end.End.{End}
+pub use Rattle.monitor_core.specs.Left.{is_owned, is_target, without_owner, without_target}
 use Rattle.monitor_core.specs.declared.monitor.Monitor.{Monitor}
 
 -- ---- a process ends
@@ -35,22 +35,14 @@ monitor_exits p reason = flat_map (λ entry. if same_pid entry.1.target p then S
 abbrev pub demonitors : Pid → List (Reference × Monitor) → List Signal
 demonitors p = flat_map (λ entry. if same_pid entry.1.owner p then Signal.Demonitor p entry.1.target entry.0 ∷ [] else [])
 
-abbrev pub is_owned : Pid → Option Monitor → Bool
-is_owned p None = false
-is_owned p (Some monitor) = same_pid monitor.owner p
-
-abbrev pub is_target : Pid → Option Monitor → Bool
-is_target p None = false
-is_target p (Some monitor) = same_pid monitor.target p
-
 -- its mailbox and its records go, and it keeps its reason
 abbrev pub buried : Pid → Data → Work → Work
 buried p reason work = record work {
   node = record (work.node) {
     lives = fm.insert work.node.lives p (Ended reason);
     ends = fm.retain_keys work.node.ends (λ pair. not (same_pid pair.0 p));
-    watches = fm.retain_keys work.node.watches (λ r. not (is_owned p (fm.get work.node.watches r)));
-    registered = fm.retain_keys work.node.registered (λ r. not (is_target p (fm.get work.node.registered r)));
+    watches = without_owner work.node.watches p;
+    registered = without_target work.node.registered p;
   };
   effects = work.effects ++ EndedBy p reason ∷ [];
 }

@@ -4,6 +4,7 @@ use Rattle.std.specs.FinMap as fm
 use Rattle.dist_model.specs.Items.{Item}
 use Rattle.dist_model.specs.Names.{Name, pair_cmp, same_name}
 use Rattle.dist_model.specs.Sides.{State, TrunkSide, is_up}
+pub use Rattle.sorted_map.specs.Entries.{first_where}
 use Rattle.erl_names.specs.Minted.{Minted}
 use Rattle.erl_names.specs.Order.{trunk_cmp}
 use Rattle.erl_names.specs.declared.trunk.TrunkId.{TrunkId}
@@ -62,11 +63,6 @@ never node p =
 -- an end that isn't there is one of no link
 abbrev pub end_of : Node → Pid → Pid → End
 end_of node p q = unwrap_or (fm.get node.ends (p, q)) End.None
-
--- the first entry that passes, in the order of the keys
-abbrev pub first_where : {K X : Type 0} → (K → X → Bool) → List (K × X) → Option (K × X)
-first_where passes [] = None
-first_where passes (entry ∷ rest) = if passes entry.0 entry.1 then Some entry else first_where passes rest
 
 -- the first side towards a peer whose state passes
 abbrev pub side_where : (State → Bool) → Name → List (TrunkId × TrunkSide) → Option (TrunkId × TrunkSide)

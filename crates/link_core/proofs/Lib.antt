@@ -1,5 +1,4 @@
 pub mod Travelling
 pub mod Kept
 pub mod Order
-pub mod Places
 pub mod Maps

@@ -1,18 +1,20 @@
 -- What a partner's end is after an edit, of any map of ends and of one that records make.
-use Rattle.std.proofs.Common.{◌≡◌, ◌≢◌, ℕ, zero, suc, Bool, true, false, cond, [], ◌∷◌, get_or, set, Option, None, Some, unwrap_or, refl, sym, ap, subst, ◌∙◌}
+use Rattle.std.proofs.Common.{◌≡◌, ◌≢◌, Bool, true, false, cond, not, [], ◌∷◌, Option, None, Some, Result, Ok, Err, OnErr, IsSome, is_some, unwrap_or, refl, sym, ap, subst, ◌∙◌}
 use Rattle.std.specs.declared.cmp.Ordering.{Ordering}
 use Rattle.std.specs.declared.cmp.Ordering.TheVariants.{Less, Equal, Greater}
 use Rattle.std.specs.Ordering.{is_eq, eq_by_cmp}
-use Rattle.std.specs.List.{insert, remove}
 use Rattle.std.proofs.lemmas.Cmp.{tied_itself}
 use Rattle.std.specs.FinMap as map
+use Rattle.std.specs.FinMap.{find, put}
+use Rattle.std.specs.FinMap.Entries.{by_order}
+use Rattle.sorted_map.specs.Entries.{without, changed}
+use Rattle.sorted_map.specs.Maps.{sorted_put, sorted_changed, sorted_without, map_put, map_changed, map_without}
 use Rattle.erl_term.specs.declared.term.Pid.{Pid}
 use Rattle.link_core.specs.declared.end.End.{End}
 use Rattle.erl_term.specs.Order.{pid_cmp}
 use Rattle.link_core.specs.Ends.{EndMap, end_of, with_end}
-use Rattle.link_core.specs.Records.{Records, AreRecords, AreLinks, IsLink, IsFoundAt, IsGapAt}
+use Rattle.link_core.specs.Records.{Records, AreRecords, AreLinks, IsLink}
 use Rattle.link_core.proofs.Order.{pid_cmp_total, pid_cmp_exact}
-use Rattle.link_core.proofs.Places.{finds, finds_none, map_of, sorted_put, map_put, put_found, put_gap, sorted_others, map_others}
 
 same_pid : (p : Pid) → eq_by_cmp pid_cmp p p ≡ true
 same_pid p = ap is_eq (tied_itself pid_cmp_total p)
@@ -62,69 +64,85 @@ remove_same : (m : EndMap) (p : Pid) → map.get m p ≡ None → map.remove m p
 remove_same m p h = map.same_map pid_cmp_total pid_cmp_exact _ _ (λ q.
     map.get-remove pid_cmp_total m p q ∙ same_at None (map.get m q) (eq_by_cmp pid_cmp q p) (λ t. ap (map.get m) (equal_pid q p t) ∙ h))
 
--- the record that stands at the partner's place
-link_at : (rs : Records) (q : Pid) (at : ℕ) (d : Pid × End) → AreLinks rs → IsFoundAt rs q at → IsLink (get_or rs at d).1
-link_at [] q at d l h = absurd h
-link_at (e ∷ rest) q zero d l h = l.0
-link_at (e ∷ rest) q (suc at) d l h = link_at rest q at d l.1 h.1
+abbrev pub map_of : Records → EndMap
+map_of rs = map.from_sorted rs
 
-get_found : (rs : Records) (q : Pid) (at : ℕ) (d : Pid × End) → AreRecords rs → IsFoundAt rs q at → map.get (map_of rs) q ≡ Some (get_or rs at d).1
-get_found rs q at d k h = map.get-from_sorted pid_cmp rs q k.sorted ∙ finds rs q at d h
+-- what a partner has
+pub end_here : (rs : Records) (q : Pid) → AreRecords rs → end_of (map_of rs) q ≡ unwrap_or (find pid_cmp q rs) End.None
+end_here rs q k = ap (λ o. unwrap_or o End.None) (map.get-from_sorted pid_cmp rs q k.sorted)
 
-get_gap : (rs : Records) (q : Pid) (at : ℕ) → AreRecords rs → IsGapAt rs q at → map.get (map_of rs) q ≡ None
-get_gap rs q at k h = map.get-from_sorted pid_cmp rs q k.sorted ∙ finds_none rs q at k.sorted h
+link_found : (rs : Records) (q : Pid) → AreLinks rs → (e : End) → find pid_cmp q rs ≡ Some e → IsLink e
+link_found [] q l e h = cc
+link_found (r ∷ rest) q l e h = go (eq_by_cmp pid_cmp q r.0) refl (link_found rest q l.1 e)
+  where
+    go : (b : Bool) → eq_by_cmp pid_cmp q r.0 ≡ b → (find pid_cmp q rest ≡ Some e → IsLink e) → IsLink e
+    go true t k = subst (λ o. IsLink (unwrap_or o r.1)) (sym (ap (λ b. cond b (Some r.1) (find pid_cmp q rest)) t) ∙ h) l.0
+    go false t k = k (sym (ap (λ b. cond b (Some r.1) (find pid_cmp q rest)) t) ∙ h)
 
-pub end_found : (rs : Records) (q : Pid) (at : ℕ) (d : Pid × End) → AreRecords rs → IsFoundAt rs q at → end_of (map_of rs) q ≡ (get_or rs at d).1
-end_found rs q at d k h = ap (λ o. unwrap_or o End.None) (get_found rs q at d k h)
+own_end : (m : EndMap) (q : Pid) (o : Option End) → map.get m q ≡ o → ((e : End) → o ≡ Some e → IsLink e) → with_end m q (unwrap_or o End.None) ≡ m
+own_end m q None h l = remove_same m q h
+own_end m q (Some e) h l = with_link m q e (l e refl) ∙ insert_same m q e h
 
-pub end_gap : (rs : Records) (q : Pid) (at : ℕ) → AreRecords rs → IsGapAt rs q at → end_of (map_of rs) q ≡ End.None
-end_gap rs q at k h = ap (λ o. unwrap_or o End.None) (get_gap rs q at k h)
+-- the end that a partner has, put again, changes nothing
+pub put_again : (rs : Records) (q : Pid) → AreRecords rs → with_end (map_of rs) q (unwrap_or (find pid_cmp q rs) End.None) ≡ map_of rs
+put_again rs q k = own_end (map_of rs) q (find pid_cmp q rs) (map.get-from_sorted pid_cmp rs q k.sorted) (link_found rs q k.links)
 
-pub own_found : (rs : Records) (q : Pid) (at : ℕ) (d : Pid × End) → AreRecords rs → IsFoundAt rs q at → with_end (map_of rs) q (get_or rs at d).1 ≡ map_of rs
-own_found rs q at d k h = with_link (map_of rs) q _ (link_at rs q at d k.links h) ∙ insert_same (map_of rs) q _ (get_found rs q at d k h)
+pub none_where_not_found : (rs : Records) (q : Pid) → AreRecords rs → (IsSome (find pid_cmp q rs) → ⊥) → end_of (map_of rs) q ≡ End.None
+none_where_not_found rs q k n = end_here rs q k ∙ go (find pid_cmp q rs) n
+  where
+    go : (o : Option End) → (IsSome o → ⊥) → unwrap_or o End.None ≡ End.None
+    go None n = refl
+    go (Some e) n = absurd (n refl)
 
-pub own_gap : (rs : Records) (q : Pid) (at : ℕ) → AreRecords rs → IsGapAt rs q at → with_end (map_of rs) q End.None ≡ map_of rs
-own_gap rs q at k h = remove_same (map_of rs) q (get_gap rs q at k h)
+pub on_err : {A E : Type 0} (P : Type 0) (r : Result A E) → P → OnErr r P
+on_err P (Ok x) h = tt
+on_err P (Err e) h = h
 
-pub has_link_where_found : (rs : Records) (q : Pid) (at : ℕ) → AreRecords rs → IsFoundAt rs q at → end_of (map_of rs) q ≢ End.None
-has_link_where_found rs q at k h none =
-    let d : Pid × End = (q, End.None) in
-    subst (λ e. IsLink e) (sym (end_found rs q at d k h) ∙ none) (link_at rs q at d k.links h)
+-- a record is put
+links_put : (rs : Records) (p : Pid) (e : End) → AreLinks rs → IsLink e → AreLinks (put pid_cmp p e rs)
+links_put [] p e l h = (h, tt)
+links_put (r ∷ rest) p e l h = go (pid_cmp p r.0) (links_put rest p e l.1 h)
+  where
+    go : (o : Ordering) → AreLinks (put pid_cmp p e rest) → AreLinks (by_order o ((p, e) ∷ r ∷ rest) ((r.0, e) ∷ rest) (r ∷ put pid_cmp p e rest))
+    go Less k = (h, l)
+    go Equal k = (h, l.1)
+    go Greater k = (l.0, k)
 
--- a record is changed
-links_set : (rs : Records) (q : Pid) (at : ℕ) (p : Pid) (e : End) → AreLinks rs → IsLink e → AreLinks (set rs at (p, e))
-links_set [] q at p e l h = tt
-links_set (r ∷ rest) q zero p e l h = (h, l.1)
-links_set (r ∷ rest) q (suc at) p e l h = (l.0, links_set rest q at p e l.1 h)
+pub records_put : (rs : Records) (p : Pid) (e : End) → AreRecords rs → IsLink e → AreRecords (put pid_cmp p e rs)
+records_put rs p e k h = record { sorted = sorted_put pid_cmp_total p e rs k.sorted; links = links_put rs p e k.links h }
 
-pub records_set : (rs : Records) (q : Pid) (at : ℕ) (e : End) (d : Pid × End) → AreRecords rs → IsFoundAt rs q at → IsLink e → AreRecords (set rs at ((get_or rs at d).0, e))
-records_set rs q at e d k h l = record { sorted = sorted_put rs _ q e k.sorted (put_found rs q e at d h); links = links_set rs q at _ e k.links l }
+pub ends_put : (rs : Records) (p : Pid) (e : End) → AreRecords rs → IsLink e → map_of (put pid_cmp p e rs) ≡ with_end (map_of rs) p e
+ends_put rs p e k h = map_put pid_cmp_total p e rs k.sorted ∙ sym (with_link (map_of rs) p e h)
 
-pub map_set : (rs : Records) (q : Pid) (at : ℕ) (e : End) (d : Pid × End) → AreRecords rs → IsFoundAt rs q at → IsLink e → map_of (set rs at ((get_or rs at d).0, e)) ≡ with_end (map_of rs) q e
-map_set rs q at e d k h l = map_put rs _ q e k.sorted (put_found rs q e at d h) ∙ sym (with_link (map_of rs) q e l)
+-- it is changed
+links_changed : (rs : Records) (p : Pid) (e : End) → AreLinks rs → IsLink e → AreLinks (changed pid_cmp p e rs)
+links_changed rs p e l h = go (is_some (find pid_cmp p rs))
+  where
+    go : (b : Bool) → AreLinks (cond b (put pid_cmp p e rs) rs)
+    go true = links_put rs p e l h
+    go false = l
 
--- a record is added
-links_insert : (rs : Records) (at : ℕ) (p : Pid) (e : End) → AreLinks rs → IsLink e → AreLinks (insert rs at (p, e))
-links_insert [] zero p e l h = (h, tt)
-links_insert [] (suc at) p e l h = (h, tt)
-links_insert (r ∷ rest) zero p e l h = (h, l)
-links_insert (r ∷ rest) (suc at) p e l h = (l.0, links_insert rest at p e l.1 h)
+pub records_changed : (rs : Records) (p : Pid) (e : End) → AreRecords rs → IsLink e → AreRecords (changed pid_cmp p e rs)
+records_changed rs p e k h = record { sorted = sorted_changed pid_cmp_total p e rs k.sorted; links = links_changed rs p e k.links h }
 
-pub records_insert : (rs : Records) (q : Pid) (at : ℕ) (e : End) → AreRecords rs → IsGapAt rs q at → IsLink e → AreRecords (insert rs at (q, e))
-records_insert rs q at e k h l = record { sorted = sorted_put rs _ q e k.sorted (put_gap rs q e at h); links = links_insert rs at q e k.links l }
+pub ends_changed : (rs : Records) (p : Pid) (e : End) → AreRecords rs → IsLink e → end_of (map_of rs) p ≢ End.None → map_of (changed pid_cmp p e rs) ≡ with_end (map_of rs) p e
+ends_changed rs p e k h some = map_changed pid_cmp_total p e rs k.sorted ∙ go (map.get (map_of rs) p) some ∙ sym (with_link (map_of rs) p e h)
+  where
+    go : (o : Option End) → unwrap_or o End.None ≢ End.None → cond (is_some o) (map.insert (map_of rs) p e) (map_of rs) ≡ map.insert (map_of rs) p e
+    go None n = absurd (n refl)
+    go (Some x) n = refl
 
-pub map_insert : (rs : Records) (q : Pid) (at : ℕ) (e : End) → AreRecords rs → IsGapAt rs q at → IsLink e → map_of (insert rs at (q, e)) ≡ with_end (map_of rs) q e
-map_insert rs q at e k h l = map_put rs _ q e k.sorted (put_gap rs q e at h) ∙ sym (with_link (map_of rs) q e l)
+-- it is dropped
+links_without : (rs : Records) (p : Pid) → AreLinks rs → AreLinks (without pid_cmp p rs)
+links_without [] p l = tt
+links_without (r ∷ rest) p l = go (not (eq_by_cmp pid_cmp p r.0)) (links_without rest p l.1)
+  where
+    go : (b : Bool) → AreLinks (without pid_cmp p rest) → AreLinks (cond b (r ∷ without pid_cmp p rest) (without pid_cmp p rest))
+    go true k = (l.0, k)
+    go false k = k
 
--- a record is dropped
-links_remove : (rs : Records) (at : ℕ) → AreLinks rs → AreLinks (remove rs at)
-links_remove [] zero l = tt
-links_remove [] (suc at) l = tt
-links_remove (r ∷ rest) zero l = l.1
-links_remove (r ∷ rest) (suc at) l = (l.0, links_remove rest at l.1)
+pub records_without : (rs : Records) (p : Pid) → AreRecords rs → AreRecords (without pid_cmp p rs)
+records_without rs p k = record { sorted = sorted_without pid_cmp_total pid_cmp_exact p rs k.sorted; links = links_without rs p k.links }
 
-pub records_remove : (rs : Records) (q : Pid) (at : ℕ) → AreRecords rs → IsFoundAt rs q at → AreRecords (remove rs at)
-records_remove rs q at k h = record { sorted = sorted_others rs q at k.sorted h; links = links_remove rs at k.links }
-
-pub map_remove : (rs : Records) (q : Pid) (at : ℕ) → AreRecords rs → IsFoundAt rs q at → map_of (remove rs at) ≡ with_end (map_of rs) q End.None
-map_remove rs q at k h = map_others rs q at k.sorted h
+pub ends_without : (rs : Records) (p : Pid) → AreRecords rs → map_of (without pid_cmp p rs) ≡ with_end (map_of rs) p End.None
+ends_without rs p k = map_without pid_cmp_total pid_cmp_exact p rs k.sorted

@@ -1,6 +1,5 @@
 -- How the ends of a process are kept: a list of records in the order of the partners.
-use Rattle.std.specs.Prelude.{◌≡◌, T, ℕ, zero, suc, List, [], ◌∷◌}
-use Rattle.std.specs.declared.cmp.Ordering.TheVariants.{Less, Greater}
+use Rattle.std.specs.Prelude.{T, List, [], ◌∷◌}
 use Rattle.std.specs.FinMap as map
 use Rattle.erl_term.specs.declared.term.Pid.{Pid}
 use Rattle.link_core.specs.declared.end.End.{End}
@@ -26,16 +25,3 @@ AreSorted records = T (map.is_sorted pid_cmp records)
 pub record AreRecords (records : Records) : Type 0 where
   pub sorted : AreSorted records
   pub links : AreLinks records
-
--- the partner's record stands at this place, behind those of smaller partners
-abbrev pub IsFoundAt : Records → Pid → ℕ → Type 0
-IsFoundAt [] partner at = ⊥
-IsFoundAt (first ∷ rest) partner zero = first.0 ≡ partner
-IsFoundAt (first ∷ rest) partner (suc at) = (pid_cmp first.0 partner ≡ Less) × IsFoundAt rest partner at
-
--- the partner has no record, and its own would go to this place
-abbrev pub IsGapAt : Records → Pid → ℕ → Type 0
-IsGapAt [] partner zero = Unit {0}
-IsGapAt [] partner (suc at) = ⊥
-IsGapAt (first ∷ rest) partner zero = pid_cmp first.0 partner ≡ Greater
-IsGapAt (first ∷ rest) partner (suc at) = (pid_cmp first.0 partner ≡ Less) × IsGapAt rest partner at

@@ -1,98 +1,109 @@
 //! The link records of one process.
 
-ghost use Rattle.std.specs.Prelude.{◌≡◌, IfOk, IfErr, OnOk, OnErr, IsOkUnless, Some};
+ghost use Rattle.std.specs.Prelude.{◌≡◌, ◌≢◌, ◌≤◌, ◌+◌, IfOk, OnOk, OnErr, IsOk, IsOkUnless, Some};
 ghost use Rattle.std.specs.FinMap as map;
 ghost use Rattle.link_core.specs.Table.{linked, link_sent, unlinked, unlink_sent, received, exited, is_active, answered};
 ghost use Rattle.link_core.specs.Ends.{end_of, with_end};
-ghost use Rattle.link_core.specs.Records.{IsLink, AreSorted, IsFoundAt, IsGapAt};
+ghost use Rattle.link_core.specs.Records.{IsLink};
 
 use crate::end::{End, LinkSignal};
 use erl_term::{Pid, Refusal};
+use sorted_map::SortedMap;
 use std::alloc::Global;
 use std::marker::Model;
 
 /// The ends of the links of one process, by partner. Contracts see the finite map from pids to
-/// ends, in the order of pids; a partner that isn't there has the end [`End::None`].
-#[derive(Debug, Drop)]
+/// ends, in the order of pids, and the room: how many more partners may come without memory. A
+/// partner that isn't there has the end [`End::None`].
+#[derive(Drop)]
 pub struct Ends {
-    records: Vec<(Pid, End)>,
+    records: SortedMap<Pid, End>,
 }
 
 impl Model for Ends {
     ghost use Rattle.std.specs.FinMap as map;
-    ghost use Rattle.erl_term.specs.Order.{pid_cmp};
-    ghost use Rattle.link_core.specs.declared.end.End.{End};
+    ghost use Rattle.link_core.specs.Ends.{Held, held_code};
     ghost use Rattle.link_core.specs.Records.{AreRecords};
     ghost use Rattle.erl_term.specs.contracts.term.Pid as pid;
     ghost use Rattle.link_core.specs.contracts.end.End as end;
 
-    ghost Value = { map.FinMap pid_cmp End };
+    ghost Value = { Held };
 
-    ghost coded = { map.code pid.the_row.coded end.the_row.coded };
+    ghost coded = { held_code pid.the_row.coded end.the_row.coded };
 
-    ghost view = { λ a. map.from_sorted a.records.items };
+    ghost view = { λ a. record { ends = map.from_sorted a.records.entries; room = a.records.room } };
 
-    ghost invariant = { λ a. AreRecords a.records.items };
+    ghost invariant = { λ a. AreRecords a.records.entries };
 }
 
 impl Ends {
     /// No links. Takes no memory.
     pub fn new(alloc: Global) -> Ends
-        ensures { result ≡ map.empty }
+        ensures { result.ends ≡ map.empty }
     {
         Ends {
-            records: Vec::new(alloc),
+            records: SortedMap::new(alloc),
         }
     }
 
     /// The end towards a partner.
     pub fn end(&self, partner: &Pid) -> End
-        ensures end { result ≡ end_of self.now partner.now }
+        ensures end { result ≡ end_of self.now.ends partner.now }
         // the end that a partner has, set again, changes nothing
-        ensures set_again { with_end self.now partner.now result ≡ self.now }
+        ensures set_again { with_end self.now.ends partner.now result ≡ self.now.ends }
     {
-        match place(&self.records, partner) {
-            Ok(at) => self.records[at].1,
-            Err(_) => End::None,
-        }
+        self.records.get(partner).copied().unwrap_or(End::None)
+    }
+
+    /// Makes room for so many more partners: as many LINKs, made or taken, can't be refused
+    /// afterwards.
+    ///
+    /// The only refusal is [`Refusal::OutOfMemory`], and it changes nothing.
+    pub fn reserve(&mut self, additional: usize) -> Result<(), Refusal>
+        ensures ends { self.new.ends ≡ self.old.ends }
+        ensures room { OnOk result (additional ≤ self.new.room) }
+        ensures kept { self.old.room ≤ self.new.room }
+        ensures err { OnErr result (self.new ≡ self.old) }
+        ensures only_memory { IsOkUnless result Refusal.OutOfMemory }
+        ensures succeeds { additional ≤ self.old.room → IsOk result }
+    {
+        self.records.reserve(additional)?;
+        Ok(())
     }
 
     /// The process links itself to a partner. Answers the signal to be sent to it, if any.
     ///
-    /// The only refusal is [`Refusal::OutOfMemory`], and only where there was no link. (ERTS
-    /// User's Guide, Distribution Protocol, New Link Protocol.)
-    pub fn link(&mut self, partner: &Pid) -> Result<Option<LinkSignal>, Refusal>
-        ensures end { let was = end_of self.old partner.now in
-            OnOk result (self.new ≡ with_end self.old partner.now (linked was)) }
-        ensures unchanged { let was = end_of self.old partner.now in
-            linked was ≡ was → self.new ≡ self.old }
-        ensures sent { IfOk result (λ sent. sent ≡ link_sent (end_of self.old partner.now)) }
+    /// The only refusal is [`Refusal::OutOfMemory`], and only where there was no link and no room.
+    /// (ERTS User's Guide, Distribution Protocol, New Link Protocol.)
+    pub fn link(&mut self, partner: Pid) -> Result<Option<LinkSignal>, Refusal>
+        ensures end { let was = end_of self.old.ends partner in
+            OnOk result (self.new.ends ≡ with_end self.old.ends partner (linked was)) }
+        ensures unchanged { let was = end_of self.old.ends partner in
+            linked was ≡ was → self.new.ends ≡ self.old.ends }
+        ensures sent { IfOk result (λ sent. sent ≡ link_sent (end_of self.old.ends partner)) }
+        ensures room { self.old.room ≤ self.new.room + 1 }
         ensures err { OnErr result (self.new ≡ self.old) }
         ensures only_memory { IsOkUnless result Refusal.OutOfMemory }
-        ensures only_new { OnErr result (end_of self.old partner.now ≡ End.None) }
+        ensures only_new { OnErr result (end_of self.old.ends partner ≡ End.None) }
+        ensures succeeds { 1 ≤ self.old.room → IsOk result }
     {
-        match self.end(partner) {
-            End::None => {
-                self.add(partner)?;
-                Ok(Some(LinkSignal::Link))
-            }
-            End::Active => Ok(None),
-            End::Pending(_) => {
-                self.set(partner, End::Active);
-                Ok(Some(LinkSignal::Link))
-            }
+        if self.end(&partner) == End::Active {
+            return Ok(None);
         }
+        self.put(partner, End::Active)?;
+        Ok(Some(LinkSignal::Link))
     }
 
     /// The process takes its link to a partner back, under a new unlink id. Answers the signal to
     /// be sent to the partner, if any. Takes no memory. (ERTS User's Guide, Distribution Protocol,
     /// New Link Protocol.)
     pub fn unlink(&mut self, partner: &Pid, id: u64) -> Option<LinkSignal>
-        ensures end { let was = end_of self.old partner.now in
-            self.new ≡ with_end self.old partner.now (unlinked was id) }
-        ensures unchanged { let was = end_of self.old partner.now in
-            unlinked was id ≡ was → self.new ≡ self.old }
-        ensures sent { result ≡ unlink_sent (end_of self.old partner.now) id }
+        ensures end { let was = end_of self.old.ends partner.now in
+            self.new.ends ≡ with_end self.old.ends partner.now (unlinked was id) }
+        ensures unchanged { let was = end_of self.old.ends partner.now in
+            unlinked was id ≡ was → self.new.ends ≡ self.old.ends }
+        ensures room { self.old.room ≤ self.new.room }
+        ensures sent { result ≡ unlink_sent (end_of self.old.ends partner.now) id }
     {
         match self.end(partner) {
             End::Active => {
@@ -105,31 +116,34 @@ impl Ends {
 
     /// LINK came from a partner.
     ///
-    /// The only refusal is [`Refusal::OutOfMemory`], and only where there was no link. (ERTS
-    /// User's Guide, Distribution Protocol, New Link Protocol.)
-    pub fn on_link(&mut self, partner: &Pid) -> Result<(), Refusal>
-        ensures end { let was = end_of self.old partner.now in
-            OnOk result (self.new ≡ with_end self.old partner.now (received was LinkSignal.Link)) }
-        ensures unchanged { let was = end_of self.old partner.now in
-            received was LinkSignal.Link ≡ was → self.new ≡ self.old }
+    /// The only refusal is [`Refusal::OutOfMemory`], and only where there was no link and no room.
+    /// (ERTS User's Guide, Distribution Protocol, New Link Protocol.)
+    pub fn on_link(&mut self, partner: Pid) -> Result<(), Refusal>
+        ensures end { let was = end_of self.old.ends partner in
+            OnOk result (self.new.ends ≡ with_end self.old.ends partner (received was LinkSignal.Link)) }
+        ensures unchanged { let was = end_of self.old.ends partner in
+            received was LinkSignal.Link ≡ was → self.new.ends ≡ self.old.ends }
+        ensures room { self.old.room ≤ self.new.room + 1 }
         ensures err { OnErr result (self.new ≡ self.old) }
         ensures only_memory { IsOkUnless result Refusal.OutOfMemory }
-        ensures only_new { OnErr result (end_of self.old partner.now ≡ End.None) }
+        ensures only_new { OnErr result (end_of self.old.ends partner ≡ End.None) }
+        ensures succeeds { 1 ≤ self.old.room → IsOk result }
     {
-        match self.end(partner) {
-            End::None => self.add(partner),
-            End::Active | End::Pending(_) => Ok(()),
+        if self.end(&partner) == End::None {
+            self.put(partner, End::Active)?;
         }
+        Ok(())
     }
 
     /// UNLINK_ID came from a partner, under this id. Answers the acknowledgement to be sent to it
     /// before any other signal. Takes no memory. (ERTS User's Guide, Distribution Protocol, New
     /// Link Protocol.)
     pub fn on_unlink(&mut self, partner: &Pid, id: u64) -> LinkSignal
-        ensures end { let was = end_of self.old partner.now in
-            self.new ≡ with_end self.old partner.now (received was (LinkSignal.Unlink id)) }
-        ensures unchanged { let was = end_of self.old partner.now in
-            received was (LinkSignal.Unlink id) ≡ was → self.new ≡ self.old }
+        ensures end { let was = end_of self.old.ends partner.now in
+            self.new.ends ≡ with_end self.old.ends partner.now (received was (LinkSignal.Unlink id)) }
+        ensures unchanged { let was = end_of self.old.ends partner.now in
+            received was (LinkSignal.Unlink id) ≡ was → self.new.ends ≡ self.old.ends }
+        ensures room { self.old.room ≤ self.new.room }
         ensures answer { Some result ≡ answered (LinkSignal.Unlink id) }
     {
         if self.end(partner) == End::Active {
@@ -141,10 +155,11 @@ impl Ends {
     /// UNLINK_ID_ACK came from a partner, for this id. Takes no memory. (ERTS User's Guide,
     /// Distribution Protocol, New Link Protocol.)
     pub fn on_ack(&mut self, partner: &Pid, id: u64)
-        ensures end { let was = end_of self.old partner.now in
-            self.new ≡ with_end self.old partner.now (received was (LinkSignal.Ack id)) }
-        ensures unchanged { let was = end_of self.old partner.now in
-            received was (LinkSignal.Ack id) ≡ was → self.new ≡ self.old }
+        ensures end { let was = end_of self.old.ends partner.now in
+            self.new.ends ≡ with_end self.old.ends partner.now (received was (LinkSignal.Ack id)) }
+        ensures unchanged { let was = end_of self.old.ends partner.now in
+            received was (LinkSignal.Ack id) ≡ was → self.new.ends ≡ self.old.ends }
+        ensures room { self.old.room ≤ self.new.room }
     {
         if self.end(partner) == End::Pending(id) {
             self.remove(partner);
@@ -155,11 +170,12 @@ impl Ends {
     /// the end was active: only then does the process react. Takes no memory. (ERTS User's Guide,
     /// Distribution Protocol, New Link Protocol; Reference Manual, Processes, Links.)
     pub fn on_exit(&mut self, partner: &Pid) -> bool
-        ensures end { let was = end_of self.old partner.now in
-            self.new ≡ with_end self.old partner.now (exited was) }
-        ensures unchanged { let was = end_of self.old partner.now in
-            exited was ≡ was → self.new ≡ self.old }
-        ensures active { result ≡ is_active (end_of self.old partner.now) }
+        ensures end { let was = end_of self.old.ends partner.now in
+            self.new.ends ≡ with_end self.old.ends partner.now (exited was) }
+        ensures unchanged { let was = end_of self.old.ends partner.now in
+            exited was ≡ was → self.new.ends ≡ self.old.ends }
+        ensures room { self.old.room ≤ self.new.room }
+        ensures active { result ≡ is_active (end_of self.old.ends partner.now) }
     {
         let was_active = self.end(partner) == End::Active;
         self.remove(partner);
@@ -169,50 +185,40 @@ impl Ends {
     /// The partners to which there is a link, active or pending, in the order of pids, and the end
     /// towards each. Takes no memory.
     pub fn partners(&self) -> &[(Pid, End)]
-        ensures { result.now ≡ map.entries self.now }
+        ensures { result.now ≡ map.entries self.now.ends }
     {
-        &self.records
+        self.records.entries()
     }
 
-    // Adds the record of an active end.
-    fn add(&mut self, partner: &Pid) -> Result<(), Refusal>
-        requires { end_of self.old partner.now ≡ End.None }
-        ensures ok { OnOk result (self.new ≡ with_end self.old partner.now End.Active) }
+    // Puts the record of a link, at a partner that has one or as a new one.
+    fn put(&mut self, partner: Pid, end: End) -> Result<(), Refusal>
+        requires { IsLink end }
+        ensures ok { OnOk result (self.new.ends ≡ with_end self.old.ends partner end) }
+        ensures room { self.old.room ≤ self.new.room + 1 }
         ensures err { OnErr result (self.new ≡ self.old) }
         ensures only_memory { IsOkUnless result Refusal.OutOfMemory }
+        ensures only_new { OnErr result (end_of self.old.ends partner ≡ End.None) }
+        ensures succeeds { 1 ≤ self.old.room → IsOk result }
     {
-        if let Err(at) = place(&self.records, partner) {
-            self.records.insert(at, (partner.clone()?, End::Active))?;
-        }
+        self.records.insert(partner, end)?;
         Ok(())
     }
 
-    // Changes a record.
+    // Changes the record of a partner that has one.
     fn set(&mut self, partner: &Pid, end: End)
-        requires was { IsLink (end_of self.old partner.now) }
+        requires was { end_of self.old.ends partner.now ≢ End.None }
         requires is { IsLink end }
-        ensures { self.new ≡ with_end self.old partner.now end }
+        ensures ends { self.new.ends ≡ with_end self.old.ends partner.now end }
+        ensures room { self.new.room ≡ self.old.room }
     {
-        if let Ok(at) = place(&self.records, partner) {
-            self.records[at].1 = end;
-        }
+        self.records.change(partner, end);
     }
 
     // Drops the record, if there is one.
     fn remove(&mut self, partner: &Pid)
-        ensures { self.new ≡ with_end self.old partner.now End.None }
+        ensures ends { self.new.ends ≡ with_end self.old.ends partner.now End.None }
+        ensures room { self.old.room ≤ self.new.room }
     {
-        if let Ok(at) = place(&self.records, partner) {
-            self.records.remove(at);
-        }
+        self.records.remove(partner);
     }
-}
-
-// Where the record of a partner is, or where it would go.
-fn place(records: &[(Pid, End)], partner: &Pid) -> Result<usize, usize>
-    requires { AreSorted records.now }
-    ensures found { IfOk result (IsFoundAt records.now partner.now) }
-    ensures gap { IfErr result (IsGapAt records.now partner.now) }
-{
-    records.binary_search_by(|(pid, _)| pid.cmp(partner))
 }

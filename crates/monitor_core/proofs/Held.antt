@@ -4,6 +4,8 @@ use Rattle.std.specs.Ordering.{is_eq, eq_by_cmp}
 use Rattle.std.specs.declared.cmp.Ordering.{Ordering}
 use Rattle.std.specs.declared.cmp.Ordering.TheVariants.{Less, Equal, Greater}
 use Rattle.std.proofs.lemmas.Cmp.{tied_itself}
+use Rattle.std.specs.Cmp.{IsTotalOrder}
+use Rattle.std.specs.FinMap.{IsAntisymmetric}
 use Rattle.erl_term.specs.declared.term.Pid.{Pid}
 use Rattle.erl_term.specs.Order.{pid_cmp}
 use Rattle.monitor_core.specs.declared.monitor.Monitor.{Monitor}
@@ -18,14 +20,18 @@ tied_same p q Less e t = cc
 tied_same p q Equal e t = pid_cmp_exact p q e
 tied_same p q Greater e t = cc
 
--- a test that is true where two pids are one is the test of their order
-decided : (b : Bool) (p q : Pid) → (IsTrue b ↔ (p ≡ q)) → b ≡ eq_by_cmp pid_cmp p q
-decided true p q h = sym (same_tied p q (h.0 refl))
-decided false p q h = go (eq_by_cmp pid_cmp p q) refl
+-- a test that is true where two are one is the test of their order
+pub decided_by : {K : Type 0} {cmp : K → K → Ordering} → IsTotalOrder cmp → IsAntisymmetric cmp → (b : Bool) (p q : K) → (IsTrue b ↔ (p ≡ q)) → b ≡ eq_by_cmp cmp p q
+decided_by {K} {cmp} order exact true p q h = sym (subst (λ x. eq_by_cmp cmp p x ≡ true) (h.0 refl) (ap is_eq (tied_itself order p)))
+decided_by {K} {cmp} order exact false p q h = go (cmp p q) refl
   where
-    go : (t : Bool) → eq_by_cmp pid_cmp p q ≡ t → false ≡ t
-    go true e = h.1 (tied_same p q (pid_cmp p q) refl e)
-    go false e = refl
+    go : (o : Ordering) → cmp p q ≡ o → false ≡ is_eq o
+    go Less e = refl
+    go Equal e = h.1 (exact p q e)
+    go Greater e = refl
+
+decided : (b : Bool) (p q : Pid) → (IsTrue b ↔ (p ≡ q)) → b ≡ eq_by_cmp pid_cmp p q
+decided = decided_by pid_cmp_total pid_cmp_exact
 
 pub both_named : (o : Option Monitor) (held : Monitor) (owner target : Pid) (a b : Bool) → Some held ≡ o → a ≡ true → (IsTrue a ↔ (held.owner ≡ owner)) → (IsTrue b ↔ (held.target ≡ target)) → b ≡ is_this o (monitor_of owner target)
 both_named o held owner target a b e t f g =

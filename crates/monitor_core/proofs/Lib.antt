@@ -1,5 +1,4 @@
 pub mod Order
-pub mod Places
 pub mod Maps
 pub mod Held
 pub mod First

@@ -3,3 +3,4 @@ pub mod Monitors
 pub mod Records
 pub mod Runs
 pub mod Sought
+pub mod Left

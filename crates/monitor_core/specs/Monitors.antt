@@ -1,5 +1,6 @@
 -- Monitors by reference.
-use Rattle.std.specs.Prelude.{◌≡◌, ◌≢◌, ◌&&◌, if◌then◌else◌, Bool, false, Option, None, Some}
+use Rattle.std.specs.Prelude.{◌≡◌, ◌≢◌, ◌&&◌, if◌then◌else◌, ℕ, Bool, true, false, Option, None, Some, refl}
+use Rattle.std.specs.Coded.{Coded, code_by, coded×, coded_ℕ}
 use Rattle.std.specs.declared.cmp.Ordering.TheVariants.{Less}
 use Rattle.std.specs.Ordering.{eq_by_cmp}
 use Rattle.std.specs.FinMap as map
@@ -11,6 +12,14 @@ use Rattle.monitor_core.specs.Order.{reference_cmp}
 
 abbrev pub MonitorMap : Type 0
 MonitorMap = map.FinMap reference_cmp Monitor
+
+-- the monitors, and how many more references may come without memory
+pub record Held : Type 0 where
+  pub monitors : MonitorMap
+  pub room : ℕ
+
+abbrev pub held_code : Coded Reference → Coded Monitor → Coded Held
+held_code reference monitor = code_by (MonitorMap × ℕ) (coded× (map.code reference monitor) coded_ℕ) (λ k. (k.monitors, k.room)) (λ p. record { monitors = p.0; room = p.1 }) (λ _. refl)
 
 abbrev pub monitor_of : Pid → Pid → Monitor
 monitor_of owner target = record { owner = owner; target = target }
@@ -30,12 +39,12 @@ abbrev pub is_held : MonitorMap → Reference → Monitor → Bool
 is_held monitors reference monitor = is_this (map.get monitors reference) monitor
 
 -- of the monitors that pass, the one of the least reference
-pub record IsLeast (monitors : MonitorMap) (Passes : Monitor → Type 0) (reference : Reference) (monitor : Monitor) : Type 0 where
+pub record IsLeast (monitors : MonitorMap) (passes : Monitor → Bool) (reference : Reference) (monitor : Monitor) : Type 0 where
   pub held : map.get monitors reference ≡ Some monitor
-  pub passes : Passes monitor
-  pub least : (other : Reference) (its : Monitor) → map.get monitors other ≡ Some its → Passes its → reference_cmp other reference ≢ Less
+  pub passing : passes monitor ≡ true
+  pub least : (other : Reference) (its : Monitor) → map.get monitors other ≡ Some its → passes its ≡ true → reference_cmp other reference ≢ Less
 
 -- that one, or none where none passes
-abbrev pub IsFirst : MonitorMap → (Monitor → Type 0) → Option (Reference × Monitor) → Type 0
-IsFirst monitors Passes None = (other : Reference) (its : Monitor) → map.get monitors other ≡ Some its → ¬ Passes its
-IsFirst monitors Passes (Some entry) = IsLeast monitors Passes entry.0 entry.1
+abbrev pub IsFirst : MonitorMap → (Monitor → Bool) → Option (Reference × Monitor) → Type 0
+IsFirst monitors passes None = (other : Reference) (its : Monitor) → map.get monitors other ≡ Some its → passes its ≡ false
+IsFirst monitors passes (Some entry) = IsLeast monitors passes entry.0 entry.1

@@ -1,9 +1,10 @@
 //! Laws of the definitions.
-ghost use Rattle.std.specs.Prelude.{◌≡◌, ◌≢◌, ◌≤◌, ◌↔◌, IsTrue, List, None, Some};
+ghost use Rattle.std.specs.Prelude.{◌≡◌, ◌≢◌, ◌≤◌, ◌↔◌, IsTrue, Bool, List, None, Some};
 ghost use Rattle.std.specs.FinMap as map;
 ghost use Rattle.erl_term.specs.declared.term.Reference.{Reference};
 ghost use Rattle.monitor_core.specs.declared.monitor.Monitor.{Monitor};
-ghost use Rattle.monitor_core.specs.Monitors.{MonitorMap};
+ghost use Rattle.sorted_map.specs.Entries.{first_where};
+ghost use Rattle.monitor_core.specs.Monitors.{MonitorMap, IsFirst};
 ghost use Rattle.monitor_core.specs.Runs.{Call, Adds, Removes, Ends, takes, called, reference_of, additions, departures};
 
 /// A call puts one monitor in or takes one out, and all others stay.
@@ -37,4 +38,10 @@ pub fn leaves_once()
     ensures ended { (monitors : MonitorMap) (reference : Reference) (monitor : Monitor) (calls : List Call) →
         IsTrue (takes monitors (Ends reference monitor)) → additions reference calls ≡ 0 →
         departures reference calls (called monitors (Ends reference monitor)) ≡ 0 }
+{}
+
+/// Of the entries in their order, the first monitor that passes is that of the least reference.
+pub fn first_is_least()
+    ensures { (monitors : MonitorMap) (passes : Monitor → Bool) →
+        IsFirst monitors passes (first_where (λ reference monitor. passes monitor) (map.entries monitors)) }
 {}

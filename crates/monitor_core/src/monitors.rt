@@ -1,41 +1,43 @@
 //! Monitors in the order of their references.
 
-ghost use Rattle.std.specs.Prelude.{◌≡◌, ◌↔◌, IsTrue, IfOk, IfErr, OnOk, OnErr, IsOkUnless, IfSome, IfNone, None, Some};
+ghost use Rattle.std.specs.Prelude.{◌≡◌, ◌↔◌, ◌≤◌, ◌+◌, IsTrue, OnOk, OnErr, IsOk, IsOkUnless, IfSome, IfNone, None, Some};
 ghost use Rattle.std.specs.Bool.{OnFalse};
 ghost use Rattle.std.specs.Option.{option_copied};
 ghost use Rattle.std.specs.FinMap as map;
-ghost use Rattle.monitor_core.specs.Monitors.{monitor_of, is_held, IsFirst};
-ghost use Rattle.monitor_core.specs.Sought.{Meets};
+ghost use Rattle.sorted_map.specs.Entries.{first_where};
+ghost use Rattle.monitor_core.specs.Left.{without_owner, without_target};
+ghost use Rattle.monitor_core.specs.Monitors.{is_held};
+ghost use Rattle.monitor_core.specs.Sought.{meets};
 ghost use Rattle.monitor_core.specs.Runs.{Adds, Removes, Ends, takes, called};
-ghost use Rattle.monitor_core.specs.Records.{AreSorted, IsFoundAt, IsGapAt, PassesFirstAt, NonePasses};
+ghost use Rattle.monitor_core.specs.Records.{PassesFirstAt, NonePasses};
 
 use crate::monitor::Monitor;
 use erl_term::{Atom, Pid, Reference, Refusal};
+use sorted_map::SortedMap;
 use std::alloc::Global;
 use std::marker::Model;
 
 /// Monitors by reference. Contracts see the finite map from references to monitors, in the order of
-/// references.
-#[derive(Debug, Drop)]
+/// references, and the room: how many more references may come without memory.
+#[derive(Drop)]
 pub(crate) struct Monitors {
-    records: Vec<(Reference, Monitor)>,
+    records: SortedMap<Reference, Monitor>,
 }
 
 impl Model for Monitors {
     ghost use Rattle.std.specs.FinMap as map;
-    ghost use Rattle.monitor_core.specs.Order.{reference_cmp};
-    ghost use Rattle.monitor_core.specs.declared.monitor.Monitor.{Monitor};
+    ghost use Rattle.monitor_core.specs.Monitors.{Held, held_code};
     ghost use Rattle.monitor_core.specs.Records.{AreSorted};
     ghost use Rattle.erl_term.specs.contracts.term.Reference as reference;
     ghost use Rattle.monitor_core.specs.contracts.monitor.Monitor as monitor;
 
-    ghost Value = { map.FinMap reference_cmp Monitor };
+    ghost Value = { Held };
 
-    ghost coded = { map.code reference.the_row.coded monitor.the_row.coded };
+    ghost coded = { held_code reference.the_row.coded monitor.the_row.coded };
 
-    ghost view = { λ a. map.from_sorted a.records.items };
+    ghost view = { λ a. record { monitors = map.from_sorted a.records.entries; room = a.records.room } };
 
-    ghost invariant = { λ a. AreSorted a.records.items };
+    ghost invariant = { λ a. AreSorted a.records.entries };
 }
 
 /// Which monitors are sought.
@@ -52,81 +54,94 @@ pub(crate) enum Sought<'a> {
 }
 
 impl Sought<'_> {
-    // Whether the monitor is one of them.
+    // Whether the monitor is one of them, by the orders of pids and of names, in which only equals tie.
     fn is_met_by(&self, monitor: &Monitor) -> bool
-        ensures { IsTrue result ↔ Meets self.now monitor.now }
+        ensures { result ≡ meets self.now monitor.now }
     {
-        match self {
-            Sought::OwnedBy(owner) => monitor.owner.is_same(owner),
-            Sought::Targeting(target) => monitor.target.is_same(target),
-            Sought::OwnedOn(node) => monitor.owner.node == **node,
-            Sought::TargetingOn(node) => monitor.target.node == **node,
-        }
+        let order = match self {
+            Sought::OwnedBy(owner) => monitor.owner.cmp(owner),
+            Sought::Targeting(target) => monitor.target.cmp(target),
+            Sought::OwnedOn(node) => monitor.owner.node.cmp(node),
+            Sought::TargetingOn(node) => monitor.target.node.cmp(node),
+        };
+        order.is_eq()
     }
 }
 
 impl Monitors {
     /// No monitors. Takes no memory.
     pub(crate) fn new(alloc: Global) -> Monitors
-        ensures { result ≡ map.empty }
+        ensures { result.monitors ≡ map.empty }
     {
         Monitors {
-            records: Vec::new(alloc),
+            records: SortedMap::new(alloc),
         }
     }
 
     /// The monitor of a reference.
     pub(crate) fn get(&self, reference: &Reference) -> Option<&Monitor>
-        ensures { option_copied result ≡ map.get self.now reference.now }
+        ensures { option_copied result ≡ map.get self.now.monitors reference.now }
     {
-        match place(&self.records, reference) {
-            Ok(at) => Some(&self.records[at].1),
-            Err(_) => None,
-        }
+        self.records.get(reference)
+    }
+
+    /// The references and their monitors, in the order of references.
+    pub(crate) fn entries(&self) -> &[(Reference, Monitor)]
+        ensures { result.now ≡ map.entries self.now.monitors }
+    {
+        self.records.entries()
+    }
+
+    /// Makes room for so many more references.
+    pub(crate) fn reserve(&mut self, additional: usize) -> Result<(), Refusal>
+        ensures monitors { self.new.monitors ≡ self.old.monitors }
+        ensures room { OnOk result (additional ≤ self.new.room) }
+        ensures kept { self.old.room ≤ self.new.room }
+        ensures err { OnErr result (self.new ≡ self.old) }
+        ensures only_memory { IsOkUnless result Refusal.OutOfMemory }
+        ensures succeeds { additional ≤ self.old.room → IsOk result }
+    {
+        self.records.reserve(additional)?;
+        Ok(())
     }
 
     /// Puts a monitor in. A reference that has one keeps it.
-    pub(crate) fn add(
-        &mut self,
-        reference: &Reference,
-        owner: &Pid,
-        target: &Pid,
-    ) -> Result<(), Refusal>
-        ensures monitors { OnOk result (self.new ≡ called self.old (Adds reference.now (monitor_of owner.now target.now))) }
+    pub(crate) fn add(&mut self, reference: Reference, monitor: Monitor) -> Result<(), Refusal>
+        ensures monitors { OnOk result (self.new.monitors ≡ called self.old.monitors (Adds reference monitor)) }
+        ensures room { self.old.room ≤ self.new.room + 1 }
         ensures err { OnErr result (self.new ≡ self.old) }
         ensures only_memory { IsOkUnless result Refusal.OutOfMemory }
-        ensures only_new { OnErr result (map.get self.old reference.now ≡ None) }
+        ensures only_new { OnErr result (map.get self.old.monitors reference ≡ None) }
+        ensures succeeds { 1 ≤ self.old.room → IsOk result }
     {
-        if let Err(at) = place(&self.records, reference) {
-            self.records.insert(at, record(reference, owner, target)?)?;
+        if self.records.get(&reference).is_some() {
+            return Ok(());
         }
+        let none_before = self.records.insert(reference, monitor)?;
+        drop(none_before);
         Ok(())
     }
 
     /// Takes a monitor out, if there is one, and answers whether. Takes no memory.
     pub(crate) fn remove(&mut self, reference: &Reference) -> bool
-        ensures answer { result ≡ takes self.old (Removes reference.now) }
-        ensures monitors { self.new ≡ called self.old (Removes reference.now) }
-        ensures unchanged { OnFalse result (self.new ≡ self.old) }
+        ensures answer { result ≡ takes self.old.monitors (Removes reference.now) }
+        ensures monitors { self.new.monitors ≡ called self.old.monitors (Removes reference.now) }
+        ensures room { self.old.room ≤ self.new.room }
+        ensures unchanged { OnFalse result (self.new.monitors ≡ self.old.monitors) }
     {
-        match place(&self.records, reference) {
-            Ok(at) => {
-                self.records.remove(at);
-                true
-            }
-            Err(_) => false,
-        }
+        self.records.remove(reference).is_some()
     }
 
     /// Takes a monitor out where its owner and its target are these, and answers whether. Takes no
     /// memory.
-    pub(crate) fn end(&mut self, reference: &Reference, owner: &Pid, target: &Pid) -> bool
-        ensures answer { result ≡ takes self.old (Ends reference.now (monitor_of owner.now target.now)) }
-        ensures together { IsTrue result ↔ (map.get self.old reference.now ≡ Some (monitor_of owner.now target.now)) }
-        ensures monitors { self.new ≡ called self.old (Ends reference.now (monitor_of owner.now target.now)) }
-        ensures unchanged { OnFalse result (self.new ≡ self.old) }
+    pub(crate) fn end(&mut self, reference: &Reference, monitor: &Monitor) -> bool
+        ensures answer { result ≡ takes self.old.monitors (Ends reference.now monitor.now) }
+        ensures together { IsTrue result ↔ (map.get self.old.monitors reference.now ≡ Some monitor.now) }
+        ensures monitors { self.new.monitors ≡ called self.old.monitors (Ends reference.now monitor.now) }
+        ensures room { self.old.room ≤ self.new.room }
+        ensures unchanged { OnFalse result (self.new.monitors ≡ self.old.monitors) }
     {
-        let ends = self.holds(reference, owner, target);
+        let ends = self.holds(reference, monitor);
         if ends {
             self.remove(reference);
         }
@@ -135,63 +150,49 @@ impl Monitors {
 
     /// Of the monitors that are sought, the one of the least reference.
     pub(crate) fn first(&self, sought: &Sought<'_>) -> Option<&(Reference, Monitor)>
-        ensures { IsFirst self.now (Meets sought.now) (option_copied result) }
+        ensures { option_copied result ≡ first_where (λ reference monitor. meets sought.now monitor) (map.entries self.now.monitors) }
     {
-        match first_place(&self.records, sought) {
-            Some(at) => Some(&self.records[at]),
-            None => None,
-        }
+        let records = self.records.entries();
+        let at = first_place(records, sought)?;
+        records.get(at)
     }
 
-    /// Takes that one out, and gives it. Takes no memory.
-    pub(crate) fn take_first(&mut self, sought: &Sought<'_>) -> Option<(Reference, Monitor)>
-        ensures first { IsFirst self.old (Meets sought.now) result }
-        ensures gone { IfSome result (λ entry. self.new ≡ map.remove self.old entry.0) }
-        ensures unchanged { IfNone result (self.new ≡ self.old) }
+    /// Takes those out that a process owns. Takes no memory.
+    pub(crate) fn remove_owned_by(&mut self, owner: &Pid)
+        ensures monitors { self.new.monitors ≡ without_owner self.old.monitors owner.now }
+        ensures room { self.old.room ≤ self.new.room }
     {
-        match first_place(&self.records, sought) {
-            Some(at) => Some(self.records.remove(at)),
-            None => None,
-        }
+        self.records
+            .retain(|(_, monitor)| monitor.owner.cmp(owner).is_ne());
+    }
+
+    /// Takes those out that watch a process. Takes no memory.
+    pub(crate) fn remove_targeting(&mut self, target: &Pid)
+        ensures monitors { self.new.monitors ≡ without_target self.old.monitors target.now }
+        ensures room { self.old.room ≤ self.new.room }
+    {
+        self.records
+            .retain(|(_, monitor)| monitor.target.cmp(target).is_ne());
     }
 
     // Whether reference, owner and target stand together.
-    fn holds(&self, reference: &Reference, owner: &Pid, target: &Pid) -> bool
-        ensures answer { result ≡ is_held self.now reference.now (monitor_of owner.now target.now) }
-        ensures together { IsTrue result ↔ (map.get self.now reference.now ≡ Some (monitor_of owner.now target.now)) }
+    fn holds(&self, reference: &Reference, monitor: &Monitor) -> bool
+        ensures answer { result ≡ is_held self.now.monitors reference.now monitor.now }
+        ensures together { IsTrue result ↔ (map.get self.now.monitors reference.now ≡ Some monitor.now) }
     {
         match self.get(reference) {
-            Some(monitor) => monitor.owner.is_same(owner) && monitor.target.is_same(target),
+            Some(held) => {
+                held.owner.is_same(&monitor.owner) && held.target.is_same(&monitor.target)
+            }
             None => false,
         }
     }
 }
 
-// The record of a monitor.
-fn record(reference: &Reference, owner: &Pid, target: &Pid) -> Result<(Reference, Monitor), Refusal>
-    ensures ok { IfOk result (λ made. made ≡ (reference.now, monitor_of owner.now target.now)) }
-    ensures only_memory { IsOkUnless result Refusal.OutOfMemory }
-{
-    let monitor = Monitor {
-        owner: owner.clone()?,
-        target: target.clone()?,
-    };
-    Ok((reference.clone()?, monitor))
-}
-
-// Where the record of a reference is, or where it would go.
-fn place(records: &[(Reference, Monitor)], reference: &Reference) -> Result<usize, usize>
-    requires { AreSorted records.now }
-    ensures found { IfOk result (IsFoundAt records.now reference.now) }
-    ensures gap { IfErr result (IsGapAt records.now reference.now) }
-{
-    records.binary_search_by(|(held, _)| held.cmp(reference))
-}
-
 // The first place of a record that is sought.
 fn first_place(records: &[(Reference, Monitor)], sought: &Sought<'_>) -> Option<usize>
-    ensures at { IfSome result (PassesFirstAt (Meets sought.now) records.now) }
-    ensures none { IfNone result (NonePasses (Meets sought.now) records.now) }
+    ensures at { IfSome result (PassesFirstAt (meets sought.now) records.now) }
+    ensures none { IfNone result (NonePasses (meets sought.now) records.now) }
 {
     records
         .iter()

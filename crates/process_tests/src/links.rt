@@ -67,12 +67,12 @@ fn two_processes(alloc: Global) -> Result<Pair, Refusal> {
 /// Makes the call with the ends of one process.
 fn answer_of(ends: &mut Ends, partner: &Pid, call: Call) -> Result<Answer, Refusal> {
     Ok(match call {
-        Call::Link => sends(ends.link(partner)?),
+        Call::Link => sends(ends.link(partner.clone()?)?),
         Call::Unlink(id) => sends(ends.unlink(partner, id)),
         Call::Unlinked(id) => Answer::Sends(ends.on_unlink(partner, id)),
         Call::Exited => Answer::WasActive(ends.on_exit(partner)),
         Call::Linked => {
-            ends.on_link(partner)?;
+            ends.on_link(partner.clone()?)?;
             Answer::Nothing
         }
         Call::Acknowledged(id) => {
@@ -309,7 +309,7 @@ fn schedules(rt: HostRuntime) -> Result<(), Fail> {
 }
 
 fn link(alloc: Global, ends: &mut Ends, partner: Process) -> Result<(), Refusal> {
-    ends.link(&pid(alloc, partner)?)?;
+    ends.link(pid(alloc, partner)?)?;
     Ok(())
 }
 
@@ -360,9 +360,9 @@ fn several_partners(rt: HostRuntime) -> Result<(), Fail> {
 fn is_linked_or_not(alloc: Global, ends: &mut Ends, id: u32) -> Result<bool, Refusal> {
     let partner = pid(alloc, ("b@h", 1, id))?;
     let linked = if id % 2 == 0 {
-        ends.link(&partner).map(|_| ())
+        ends.link(partner.clone()?).map(|_| ())
     } else {
-        ends.on_link(&partner)
+        ends.on_link(partner.clone()?)
     };
     let wanted = if linked.is_ok() {
         End::Active

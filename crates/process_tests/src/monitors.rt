@@ -24,18 +24,21 @@ enum Call {
     Ends(u32, Process, Process),
     Has(u32),
     Remove(u32),
+    /// Takes those of a process out: of its own monitors, or of those that target it.
+    RemoveAll(Process),
     /// The first of a process: of its own monitors, or of those that target it.
     First(Process),
-    TakeFirst(Process),
     /// The first whose other end is on the node of this process.
     FirstTowards(Process),
-    TakeFirstTowards(Process),
+    /// How many there are.
+    Count,
 }
 
 /// What the call answers.
 #[derive(Clone, Copy, Debug, PartialEq, Eq)]
 enum Answer {
     Done,
+    Count(usize),
     Yes,
     No,
     /// The word of the reference that was found.
@@ -57,16 +60,20 @@ fn found(entry: Option<&(Reference, Monitor)>) -> Answer {
     }
 }
 
+fn monitor(alloc: Global, owner: Process, target: Process) -> Result<Monitor, Refusal> {
+    Ok(Monitor {
+        owner: pid(alloc, owner)?,
+        target: pid(alloc, target)?,
+    })
+}
+
 fn puts_own(
     alloc: Global,
     watches: &mut Watches,
     call: (u32, Process, Process),
 ) -> Result<Answer, Refusal> {
     let (word, owner, target) = call;
-    let reference = reference(alloc, word)?;
-    let owner = pid(alloc, owner)?;
-    let target = pid(alloc, target)?;
-    watches.add(&reference, &owner, &target)?;
+    watches.add(reference(alloc, word)?, monitor(alloc, owner, target)?)?;
     Ok(Answer::Done)
 }
 
@@ -77,9 +84,13 @@ fn ends_own(
 ) -> Result<Answer, Refusal> {
     let (word, owner, target) = call;
     let reference = reference(alloc, word)?;
-    let owner = pid(alloc, owner)?;
-    let target = pid(alloc, target)?;
-    Ok(yes_or_no(watches.on_down(&owner, &reference, &target)))
+    let monitor = monitor(alloc, owner, target)?;
+    Ok(yes_or_no(watches.on_down(&reference, &monitor)))
+}
+
+fn removes_own(alloc: Global, watches: &mut Watches, process: Process) -> Result<Answer, Refusal> {
+    watches.remove_owned_by(&pid(alloc, process)?);
+    Ok(Answer::Done)
 }
 
 /// Makes the call with the monitors that processes of the node own.
@@ -90,11 +101,9 @@ fn call_own(alloc: Global, watches: &mut Watches, call: Call) -> Result<Answer, 
         Call::Has(word) => yes_or_no(watches.get(&reference(alloc, word)?).is_some()),
         Call::Remove(word) => yes_or_no(watches.remove(&reference(alloc, word)?)),
         Call::First(process) => found(watches.first_owned_by(&pid(alloc, process)?)),
-        Call::TakeFirst(process) => found(watches.take_owned_by(&pid(alloc, process)?).as_ref()),
+        Call::RemoveAll(process) => removes_own(alloc, watches, process)?,
         Call::FirstTowards(process) => found(watches.first_towards(&pid(alloc, process)?.node)),
-        Call::TakeFirstTowards(process) => found(
-            watches.take_towards(&pid(alloc, process)?.node).as_ref(),
-        ),
+        Call::Count => Answer::Count(watches.entries().len()),
     })
 }
 
@@ -104,10 +113,7 @@ fn puts(
     call: (u32, Process, Process),
 ) -> Result<Answer, Refusal> {
     let (word, owner, target) = call;
-    let reference = reference(alloc, word)?;
-    let owner = pid(alloc, owner)?;
-    let target = pid(alloc, target)?;
-    watchers.on_monitor(&reference, &owner, &target)?;
+    watchers.on_monitor(reference(alloc, word)?, monitor(alloc, owner, target)?)?;
     Ok(Answer::Done)
 }
 
@@ -118,9 +124,13 @@ fn ends(
 ) -> Result<Answer, Refusal> {
     let (word, owner, target) = call;
     let reference = reference(alloc, word)?;
-    let owner = pid(alloc, owner)?;
-    let target = pid(alloc, target)?;
-    Ok(yes_or_no(watchers.on_demonitor(&reference, &owner, &target)))
+    let monitor = monitor(alloc, owner, target)?;
+    Ok(yes_or_no(watchers.on_demonitor(&reference, &monitor)))
+}
+
+fn removes(alloc: Global, watchers: &mut Watchers, process: Process) -> Result<Answer, Refusal> {
+    watchers.remove_targeting(&pid(alloc, process)?);
+    Ok(Answer::Done)
 }
 
 /// Makes the call with the monitors that others have of processes of the node.
@@ -131,11 +141,9 @@ fn call_of_others(alloc: Global, watchers: &mut Watchers, call: Call) -> Result<
         Call::Has(word) => yes_or_no(watchers.get(&reference(alloc, word)?).is_some()),
         Call::Remove(word) => yes_or_no(watchers.remove(&reference(alloc, word)?)),
         Call::First(process) => found(watchers.first_targeting(&pid(alloc, process)?)),
-        Call::TakeFirst(process) => found(watchers.take_targeting(&pid(alloc, process)?).as_ref()),
+        Call::RemoveAll(process) => removes(alloc, watchers, process)?,
         Call::FirstTowards(process) => found(watchers.first_towards(&pid(alloc, process)?.node)),
-        Call::TakeFirstTowards(process) => found(
-            watchers.take_towards(&pid(alloc, process)?.node).as_ref(),
-        ),
+        Call::Count => Answer::Count(watchers.entries().len()),
     })
 }
 
@@ -154,36 +162,41 @@ const OWN: [(Call, Answer); 11] = [
     (Call::Ends(2, OWNER, TARGET), Answer::No),
 ];
 
-/// The least reference comes first.
-const OWN_IN_ORDER: [(Call, Answer); 11] = [
+/// The least reference comes first. A process that ends takes all its own with it.
+const OWN_IN_ORDER: [(Call, Answer); 14] = [
     (Call::Put(3, OWNER, TARGET), Answer::Done),
     (Call::Put(1, OTHER, OWNER), Answer::Done),
     (Call::Put(2, OWNER, TARGET), Answer::Done),
+    (Call::Put(4, OWNER, OTHER), Answer::Done),
     (Call::First(OWNER), Answer::Found(2)),
     (Call::First(OTHER), Answer::Found(1)),
     (Call::FirstTowards(TARGET), Answer::Found(2)),
-    (Call::TakeFirst(OWNER), Answer::Found(2)),
+    (Call::Remove(2), Answer::Yes),
     (Call::FirstTowards(TARGET), Answer::Found(3)),
-    (Call::TakeFirstTowards(TARGET), Answer::Found(3)),
-    (Call::TakeFirstTowards(TARGET), Answer::NotFound),
+    (Call::RemoveAll(OWNER), Answer::Done),
+    (Call::First(OWNER), Answer::NotFound),
+    (Call::FirstTowards(TARGET), Answer::NotFound),
     (Call::FirstTowards(OWNER), Answer::Found(1)),
+    (Call::Count, Answer::Count(1)),
 ];
 
-const OF_OTHERS: [(Call, Answer); 14] = [
+const OF_OTHERS: [(Call, Answer); 16] = [
     (Call::Put(3, OWNER, TARGET), Answer::Done),
     (Call::Put(1, OWNER, TARGET), Answer::Done),
     (Call::Put(2, OWNER, TARGET), Answer::Done),
     (Call::Put(1, TARGET, OWNER), Answer::Done),
+    (Call::Put(4, TARGET, OTHER), Answer::Done),
     (Call::Ends(1, OWNER_OF_THE_NEXT, TARGET), Answer::No),
     (Call::Has(1), Answer::Yes),
     (Call::First(TARGET), Answer::Found(1)),
     (Call::FirstTowards(OWNER), Answer::Found(1)),
     (Call::Ends(1, OWNER, TARGET), Answer::Yes),
     (Call::Remove(1), Answer::No),
-    (Call::TakeFirst(TARGET), Answer::Found(2)),
-    (Call::FirstTowards(OWNER), Answer::Found(3)),
-    (Call::TakeFirstTowards(OWNER), Answer::Found(3)),
-    (Call::TakeFirst(TARGET), Answer::NotFound),
+    (Call::FirstTowards(OWNER), Answer::Found(2)),
+    (Call::RemoveAll(TARGET), Answer::Done),
+    (Call::First(TARGET), Answer::NotFound),
+    (Call::FirstTowards(OWNER), Answer::NotFound),
+    (Call::Count, Answer::Count(1)),
 ];
 
 /// The place of the first row that doesn't hold.
@@ -200,9 +213,8 @@ fn first_wrong(alloc: Global, rows: &[(Call, Answer)]) -> Option<usize> {
 
 #[test]
 fn own_monitors(rt: HostRuntime) {
-    for rows in [&OWN, &OWN_IN_ORDER] {
-        assert_eq!(rt; first_wrong_own(rt.alloc(), rows), None);
-    }
+    assert_eq!(rt; first_wrong_own(rt.alloc(), &OWN), None);
+    assert_eq!(rt; first_wrong_own(rt.alloc(), &OWN_IN_ORDER), None);
 }
 
 #[test]

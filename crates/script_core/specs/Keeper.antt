@@ -21,7 +21,7 @@ use Rattle.script_core.specs.Wire.{frames, IsSent}
 pub record Stands (site : Site) (node : Node) (side : Side) : Type 0 where
   pub process : site.process ≡ process_of node
   pub partner : site.partner ≡ process_of (peer node)
-  pub end : end_of site.ends (process_of (peer node)) ≡ side.end
+  pub end : end_of site.ends.ends (process_of (peer node)) ≡ side.end
   pub drawn : site.unlink_ids ≡ side.drawn
   pub sent : site.sent ≡ frames node side.sent
   pub valid : AllByRecursion IsSent side.sent

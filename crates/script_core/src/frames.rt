@@ -57,11 +57,4 @@ impl Frames {
     {
         self.queue.pop_front();
     }
-
-    /// Takes the last frame away.
-    pub fn remove_last(&mut self)
-        ensures { self.new ≡ take (length self.old - 1) self.old }
-    {
-        self.queue.pop_back();
-    }
 }

@@ -47,7 +47,7 @@ impl Site {
     pub fn new(alloc: Global, node: Node) -> Result<Site, AllocError>
         ensures process { IfOk result (λ site. site.process ≡ process_of node) }
         ensures partner { IfOk result (λ site. site.partner ≡ process_of (peer node)) }
-        ensures ends { IfOk result (λ site. site.ends ≡ map.empty) }
+        ensures ends { IfOk result (λ site. site.ends.ends ≡ map.empty) }
         ensures unlink_ids { IfOk result (λ site. site.unlink_ids ≡ 0) }
         ensures sent { IfOk result (λ site. site.sent ≡ []) }
     {
@@ -77,12 +77,10 @@ impl Site {
         if self.end() == End::Active {
             return Ok(None);
         }
+        let partner = self.partner.clone()?;
+        self.ends.reserve(1)?;
         self.send(alloc, LinkSignal::Link)?;
-        let sent = self.ends.link(&self.partner);
-        if sent.is_err() {
-            self.sent.remove_last();
-        }
-        sent
+        self.ends.link(partner)
     }
 
     /// The process unlinks from its partner, under a new id. The answer is the signal that was sent.
@@ -124,7 +122,7 @@ impl Site {
     {
         end_by_partner();
         match signal {
-            LinkSignal::Link => self.ends.on_link(&self.partner)?,
+            LinkSignal::Link => self.ends.on_link(self.partner.clone()?)?,
             LinkSignal::Unlink(id) => {
                 self.send(alloc, LinkSignal::Ack(id))?;
                 self.ends.on_unlink(&self.partner, id);

@@ -1,21 +1,18 @@
-use Rattle.std.proofs.Common.{None, Some, subst, arith}
-use Rattle.monitor_core.specs.Monitors.{IsFirst}
-use Rattle.monitor_core.specs.Records.{PassesFirstAt, NonePasses}
-use Rattle.monitor_core.specs.Sought.{Meets}
-use Rattle.monitor_core.proofs.First.{passes_in_range, first_read, none_found}
+use Rattle.std.proofs.Common.{sym, ap, ◌∙◌}
+use Rattle.std.specs.FinMap as map
+use Rattle.std.specs.Option.{option_copied}
+use Rattle.monitor_core.specs.Order.{reference_cmp}
+use Rattle.monitor_core.specs.Monitors.{Held}
+use Rattle.monitor_core.specs.Sought.{meets}
+use Rattle.monitor_core.proofs.First.{found, read_at, found_none}
 use Rattle.monitor_core.proofs.monitors.Monitors.first.Goals as goal
 
-pub index-requires : goal.index-requires
-index-requires c = omega (arith, passes_in_range (Meets c.args.sought.now) _ _ c.in-Some.ensures.at, c.deref.ensures.len)
+pub returns-in_err-at : goal.returns-in_err-at
+returns-in_err-at c =
+    let here = c.entries-records.ensures.entries ∙ sym (map.entries-from_sorted reference_cmp _ c.self.invariant) ∙ ap (λ (k : Held). map.entries k.monitors) c.self.view_is in
+    ap option_copied c.from_residual.ensures ∙ found_none (meets c.args.sought.now) _ c.in_err-at.ensures.none ∙ ap (found (meets c.args.sought.now)) here
 
-pub returns-in-Some : goal.returns-in-Some
-returns-in-Some c =
-    let P = Meets c.args.sought.now in
-    let passes = subst (λ l. PassesFirstAt P l c.in-Some.at) c.deref.ensures.value c.in-Some.ensures.at in
-    subst (λ m. IsFirst m P (Some c.index.result.now)) c.self.view_is (first_read P _ _ c.index.result.now c.index.ensures c.self.invariant passes)
-
-pub returns-in-None : goal.returns-in-None
-returns-in-None c =
-    let P = Meets c.args.sought.now in
-    let none = subst (NonePasses P) c.deref.ensures.value c.in-None.ensures.none in
-    subst (λ m. IsFirst m P None) c.self.view_is (none_found P _ c.self.invariant none)
+pub returns : goal.returns
+returns c =
+    let here = c.entries-records.ensures.entries ∙ sym (map.entries-from_sorted reference_cmp _ c.self.invariant) ∙ ap (λ (k : Held). map.entries k.monitors) c.self.view_is in
+    read_at (meets c.args.sought.now) _ _ c.get.result c.in_ok-at.ensures.at c.get.ensures.lookup ∙ ap (found (meets c.args.sought.now)) here

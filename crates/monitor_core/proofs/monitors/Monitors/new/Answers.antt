@@ -4,4 +4,4 @@ use Rattle.monitor_core.specs.Order.{reference_cmp}
 use Rattle.monitor_core.proofs.monitors.Monitors.new.Goals as goal
 
 pub returns : goal.returns
-returns c = rw c.new.ensures.items (map.empty_of_len _ (map.len-entries _ ∙ ap length (map.entries-from_sorted reference_cmp [] tt)))
+returns c = rw c.new.ensures (map.empty_of_len _ (map.len-entries _ ∙ ap length (map.entries-from_sorted reference_cmp [] tt)))

@@ -1,0 +1,22 @@
+-- The monitors that are left once those of a process go. (Reference Manual, Processes, Monitors.)
+use Rattle.std.specs.Prelude.{Bool, false, not, Option, None, Some}
+use Rattle.std.specs.Ordering.{eq_by_cmp}
+use Rattle.std.specs.FinMap as map
+use Rattle.erl_term.specs.Order.{pid_cmp}
+use Rattle.erl_term.specs.declared.term.Pid.{Pid}
+use Rattle.monitor_core.specs.Monitors.{MonitorMap}
+use Rattle.monitor_core.specs.declared.monitor.Monitor.{Monitor}
+
+abbrev pub is_owned : Pid → Option Monitor → Bool
+is_owned process None = false
+is_owned process (Some monitor) = eq_by_cmp pid_cmp monitor.owner process
+
+abbrev pub is_target : Pid → Option Monitor → Bool
+is_target process None = false
+is_target process (Some monitor) = eq_by_cmp pid_cmp monitor.target process
+
+abbrev pub without_owner : MonitorMap → Pid → MonitorMap
+without_owner monitors process = map.retain_keys monitors (λ reference. not (is_owned process (map.get monitors reference)))
+
+abbrev pub without_target : MonitorMap → Pid → MonitorMap
+without_target monitors process = map.retain_keys monitors (λ reference. not (is_target process (map.get monitors reference)))
