@@ -1,9 +1,11 @@
 -- A search from the front finds the first record that passes.
-use Rattle.std.proofs.Common.{◌≡◌, nat_lt, Bor, ℕ, zero, suc, ◌<◌, Bool, true, false, cond, [], ◌∷◌, length, Option, None, Some, IfSome, IfNone, refl, sym, ap, ◌∙◌, arith}
+use Rattle.std.proofs.Common.{◌≡◌, nat_lt, Bor, ℕ, zero, suc, ◌<◌, Bool, true, false, cond, [], ◌∷◌, ◌+◌, ◌⊎◌, inl, inr, List, length, take, drop, subst, Option, None, Some, IfSome, IfNone, refl, sym, ap, ◌∙◌, arith}
 use Rattle.std.specs.Option.{MatchOption, option_copied}
 use Rattle.std.specs.Slice.{IsItemAt}
 use Rattle.std.proofs.lemmas.Option.{slice_get-get_or}
-use Rattle.std.specs.List.{AllWithin, HoldsAt, slice_get}
+use Rattle.std.specs.List.{AllWithin, HoldsAt, slice_get, slice_range}
+use Rattle.std.proofs.Math.Seq.{take-length}
+use Rattle.std.proofs.lemmas.List.{length-drop}
 use Rattle.sorted_map.specs.Entries.{first_where}
 use Rattle.erl_term.specs.declared.term.Reference.{Reference}
 use Rattle.monitor_core.specs.declared.monitor.Monitor.{Monitor}
@@ -52,3 +54,39 @@ read_at p rs at (Some x) h item = ap Some item.1 ∙ sym (slice_get-get_or rs at
 pub found_none : (p : Test) (rs : Records) → NonePasses p rs → None ≡ found p rs
 found_none p [] h = refl
 found_none p (e ∷ rest) h = found_none p rest h.1 ∙ sym (ap (λ b. cond b (Some e) (found p rest)) h.0)
+
+-- a search from a place on
+slice_get_behind : {A : Type 0} (n : ℕ) (xs : List A) (i : ℕ) → slice_get (drop n xs) i ≡ slice_get xs (n + i)
+slice_get_behind zero xs i = let e : i ≡ 0 + i = omega arith in ap (slice_get xs) e
+slice_get_behind (suc n) [] i = refl
+slice_get_behind (suc n) (x ∷ xs) i = let e : suc (n + i) ≡ suc n + i = omega arith in slice_get_behind n xs i ∙ ap (slice_get (x ∷ xs)) e
+
+behind_in_range : {A : Type 0} (n : ℕ) (xs : List A) (i : ℕ) → i < length (drop n xs) → n + i < length xs
+behind_in_range zero xs i l = omega (arith, l)
+behind_in_range (suc n) [] i l = absurd (omega arith)
+behind_in_range (suc n) (x ∷ xs) i l = omega (arith, behind_in_range n xs i l)
+
+all_passed : {A : Type 0} (n : ℕ) (xs : List A) → length xs < n → drop n xs ≡ []
+all_passed zero xs l = absurd (omega arith)
+all_passed (suc n) [] l = refl
+all_passed (suc n) (x ∷ xs) l = all_passed n xs (omega arith)
+
+pub found_behind : (p : Test) (rs rest : Records) (from at : ℕ) → rest ≡ drop from rs → PassesFirstAt p rest at → slice_get rs (from + at) ≡ found p (drop from rs)
+found_behind p rs rest from at is h = sym (slice_get_behind from rs at) ∙ ap (λ l. slice_get l at) (sym is) ∙ found_at p rest at h ∙ ap (found p) is
+
+pub place_behind : (p : Test) (rs rest : Records) (from at : ℕ) → rest ≡ drop from rs → PassesFirstAt p rest at → from + at < length rs
+place_behind p rs rest from at is h = behind_in_range from rs at (subst (λ l. at < length l) is (passes_in_range p rest at h))
+
+pub none_behind : (p : Test) (rs rest : Records) (from : ℕ) → rest ≡ drop from rs → NonePasses p rest → None ≡ found p (drop from rs)
+none_behind p rs rest from is h = found_none p rest h ∙ ap (found p) is
+
+pub none_past : (p : Test) (rs : Records) (from : ℕ) → length rs < from → None ≡ found p (drop from rs)
+none_past p rs from l = sym (ap (found p) (all_passed from rs l))
+
+-- what a part up to the end is, and where there is none
+pub is_rest : (from : ℕ) (rs rest : Records) → rest ≡ slice_range rs from (length rs) → rest ≡ drop from rs
+is_rest from rs rest h = h ∙ ap (λ n. take n (drop from rs)) (sym (length-drop from rs)) ∙ take-length (drop from rs)
+
+pub is_past : (from : ℕ) (rs : Records) → ((length rs < from) ⊎ (length rs < length rs)) → length rs < from
+is_past from rs (inl l) = l
+is_past from rs (inr l) = absurd (omega arith)

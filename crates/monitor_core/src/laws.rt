@@ -1,5 +1,5 @@
 //! Laws of the definitions.
-ghost use Rattle.std.specs.Prelude.{◌≡◌, ◌≢◌, ◌≤◌, ◌↔◌, IsTrue, Bool, List, None, Some};
+ghost use Rattle.std.specs.Prelude.{◌≡◌, ◌≢◌, ◌≤◌, ◌↔◌, IsTrue, Bool, ℕ, List, None, Some, take, drop};
 ghost use Rattle.std.specs.FinMap as map;
 ghost use Rattle.erl_term.specs.declared.term.Reference.{Reference};
 ghost use Rattle.monitor_core.specs.declared.monitor.Monitor.{Monitor};
@@ -38,6 +38,13 @@ pub fn leaves_once()
     ensures ended { (monitors : MonitorMap) (reference : Reference) (monitor : Monitor) (calls : List Call) →
         IsTrue (takes monitors (Ends reference monitor)) → additions reference calls ≡ 0 →
         departures reference calls (called monitors (Ends reference monitor)) ≡ 0 }
+{}
+
+/// Where none of the first entries passes, the first that passes is that of the others.
+pub fn search_goes_on()
+    ensures { (monitors : MonitorMap) (passes : Monitor → Bool) (from : ℕ) → let entries = map.entries monitors in
+        first_where (λ reference monitor. passes monitor) (take from entries) ≡ None →
+        first_where (λ reference monitor. passes monitor) entries ≡ first_where (λ reference monitor. passes monitor) (drop from entries) }
 {}
 
 /// Of the entries in their order, the first monitor that passes is that of the least reference.

@@ -12,7 +12,7 @@ mod monitors;
 mod watchers;
 mod watches;
 
-pub use laws::{first_is_least, leaves_once, one_entry};
+pub use laws::{first_is_least, leaves_once, one_entry, search_goes_on};
 pub use monitor::Monitor;
 pub use watchers::Watchers;
 pub use watches::Watches;

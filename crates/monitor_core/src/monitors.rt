@@ -1,10 +1,10 @@
 //! Monitors in the order of their references.
 
-ghost use Rattle.std.specs.Prelude.{◌≡◌, ◌↔◌, ◌≤◌, ◌+◌, IsTrue, OnOk, OnErr, IsOk, IsOkUnless, IfSome, IfNone, None, Some};
+ghost use Rattle.std.specs.Prelude.{◌≡◌, ◌↔◌, ◌≤◌, ◌+◌, IsTrue, OnOk, OnErr, IsOk, IsOkUnless, IfSome, IfNone, None, Some, ◌<◌, length, drop};
 ghost use Rattle.std.specs.Bool.{OnFalse};
 ghost use Rattle.std.specs.Option.{option_copied};
 ghost use Rattle.std.specs.FinMap as map;
-ghost use Rattle.sorted_map.specs.Entries.{first_where};
+ghost use Rattle.sorted_map.specs.Entries.{first_where, at_place};
 ghost use Rattle.monitor_core.specs.Left.{without_owner, without_target};
 ghost use Rattle.monitor_core.specs.Monitors.{is_held};
 ghost use Rattle.monitor_core.specs.Sought.{meets};
@@ -155,6 +155,17 @@ impl Monitors {
         let records = self.records.entries();
         let at = first_place(records, sought)?;
         records.get(at)
+    }
+
+    /// The place of the first of the monitors that are sought, of the places from this one on.
+    pub(crate) fn place_from(&self, sought: &Sought<'_>, from: usize) -> Option<usize>
+        ensures found { let entries = map.entries self.now.monitors in
+            at_place entries result ≡ first_where (λ reference monitor. meets sought.now monitor) (drop from entries) }
+        ensures place { IfSome result (λ at. (from ≤ at) × (at < length (map.entries self.now.monitors))) }
+    {
+        let rest = self.records.entries().get(from..)?;
+        let at = first_place(rest, sought)?;
+        Some(from + at)
     }
 
     /// Takes those out that a process owns. Takes no memory.

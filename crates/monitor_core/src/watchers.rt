@@ -1,13 +1,13 @@
 //! The monitors that others own, of the processes of a node.
 
-ghost use Rattle.std.specs.Prelude.{◌≡◌, ◌↔◌, ◌≤◌, ◌+◌, IsTrue, OnOk, OnErr, IsOk, IsOkUnless, None, Some};
+ghost use Rattle.std.specs.Prelude.{◌≡◌, ◌↔◌, ◌≤◌, ◌+◌, IsTrue, OnOk, OnErr, IsOk, IsOkUnless, IfSome, None, Some, ◌<◌, length, drop};
 ghost use Rattle.std.specs.Bool.{OnFalse};
 ghost use Rattle.std.specs.Option.{option_copied};
 ghost use Rattle.std.specs.Ordering.{nat_cmp, eq_by_cmp};
 ghost use Rattle.std.specs.Cmp.Lexicographic.{slice_cmp};
 ghost use Rattle.std.specs.FinMap as map;
 ghost use Rattle.erl_term.specs.Order.{pid_cmp};
-ghost use Rattle.sorted_map.specs.Entries.{first_where};
+ghost use Rattle.sorted_map.specs.Entries.{first_where, at_place};
 ghost use Rattle.monitor_core.specs.Left.{without_target};
 ghost use Rattle.monitor_core.specs.Runs.{Adds, Removes, Ends, takes, called};
 
@@ -138,5 +138,19 @@ impl Watchers {
         ensures { option_copied result ≡ first_where (λ reference monitor. eq_by_cmp (slice_cmp nat_cmp) monitor.owner.node node.now) (map.entries self.now.monitors) }
     {
         self.monitors.first(&Sought::OwnedOn(node))
+    }
+
+    /// The place among [`Watchers::entries`] of the first monitor whose owner is on the node of this name,
+    /// of the places from this one on. Takes no memory.
+    ///
+    /// A sweep of a lost connection goes on from the place where it took the last one out: so it
+    /// passes each monitor of the table once, and not once for each that it takes out. (Reference
+    /// Manual, Processes, Monitors.)
+    pub fn place_towards(&self, node: &Atom, from: usize) -> Option<usize>
+        ensures found { let entries = map.entries self.now.monitors in
+            at_place entries result ≡ first_where (λ reference monitor. eq_by_cmp (slice_cmp nat_cmp) monitor.owner.node node.now) (drop from entries) }
+        ensures place { IfSome result (λ at. (from ≤ at) × (at < length (map.entries self.now.monitors))) }
+    {
+        self.monitors.place_from(&Sought::OwnedOn(node), from)
     }
 }

@@ -4,6 +4,7 @@ use Rattle.std.specs.Coded.{Coded, code_by, coded×, coded_list, coded_ℕ}
 use Rattle.std.specs.declared.cmp.Ordering.{Ordering}
 use Rattle.std.specs.declared.cmp.Ordering.TheVariants.{Less, Equal, Greater}
 use Rattle.std.specs.Ordering.{eq_by_cmp}
+use Rattle.std.specs.List.{slice_get}
 use Rattle.std.specs.FinMap.{find, put}
 use Rattle.std.specs.FinMap.Entries.{where_key}
 
@@ -19,6 +20,11 @@ held_code {K} {V} k v = code_by (List (K × V) × ℕ) (coded× (coded_list (cod
 abbrev pub first_where : {K V : Type 0} → (K → V → Bool) → List (K × V) → Option (K × V)
 first_where passes [] = None
 first_where passes (entry ∷ rest) = if passes entry.0 entry.1 then Some entry else first_where passes rest
+
+-- the entry at a place, if one is given
+abbrev pub at_place : {K V : Type 0} → List (K × V) → Option ℕ → Option (K × V)
+at_place entries None = None
+at_place entries (Some at) = slice_get entries at
 
 module _ {K V : Type 0} (cmp : K → K → Ordering) where
   -- the entries but for that of the key

@@ -1,5 +1,5 @@
 -- The first entry that passes is that of the least key that passes.
-use Rattle.std.proofs.Common.{◌≡◌, ◌≢◌, Bool, true, false, cond, ◌&&◌, T, List, [], ◌∷◌, Option, None, Some, unwrap_or, refl, sym, ap, subst, ◌∙◌}
+use Rattle.std.proofs.Common.{◌≡◌, ◌≢◌, ℕ, zero, suc, take, drop, Bool, true, false, cond, ◌&&◌, T, List, [], ◌∷◌, Option, None, Some, unwrap_or, refl, sym, ap, subst, ◌∙◌}
 use Rattle.std.specs.declared.cmp.Ordering.{Ordering}
 use Rattle.std.specs.declared.cmp.Ordering.TheVariants.{Less, Equal, Greater}
 use Rattle.std.specs.Ordering.{is_lt, is_eq, ordering_reverse, eq_by_cmp}
@@ -30,6 +30,16 @@ none_or_some x o h k = cc
 
 true_or_false : (b : Bool) → b ≡ true → b ≡ false → ⊥
 true_or_false b h k = cc
+
+-- where none of the first entries passes, the search goes on behind them
+pub goes_on : {K V : Type 0} (passes : K → V → Bool) (from : ℕ) (entries : List (K × V)) → first_where passes (take from entries) ≡ None → first_where passes entries ≡ first_where passes (drop from entries)
+goes_on passes zero entries h = refl
+goes_on passes (suc from) [] h = refl
+goes_on passes (suc from) (e ∷ rest) h = go (passes e.0 e.1) refl (goes_on passes from rest)
+  where
+    go : (b : Bool) → passes e.0 e.1 ≡ b → (first_where passes (take from rest) ≡ None → first_where passes rest ≡ first_where passes (drop from rest)) → first_where passes (e ∷ rest) ≡ first_where passes (drop from rest)
+    go true t k = absurd (none_or_some e _ h (ap (λ b. cond b (Some e) (first_where passes (take from rest))) t))
+    go false t k = ap (λ b. cond b (Some e) (first_where passes rest)) t ∙ k (sym (ap (λ b. cond b (Some e) (first_where passes (take from rest))) t) ∙ h)
 
 module _ {K V : Type 0} {cmp : K → K → Ordering} (order : IsTotalOrder cmp) (exact : IsAntisymmetric cmp) (passes : K → V → Bool) where
   abbrev behind_first : K × V → List (K × V) → Bool → Option (K × V)
