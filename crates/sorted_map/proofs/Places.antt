@@ -8,26 +8,13 @@ use Rattle.std.specs.Cmp.{IsTotalOrder, alike_right}
 use Rattle.std.specs.List.Sorted.{IsSearchInRange, IsBinarySearchResult, IsNonDecreasingBy}
 use Rattle.std.specs.FinMap.{find, put, is_sorted}
 use Rattle.std.specs.FinMap.Entries.{by_order, below_all, is_sorted-where_key, is_sorted-put}
+use Rattle.sorted_map.specs.Facts.{both_pass, joined, less, find_below_all}
 use Rattle.sorted_map.specs.Entries.{IsFoundAt, IsGapAt, without, changed}
-
--- the two halves of a test by &&
-pub both_pass : (a b : Bool) → T (a && b) → T a × T b
-both_pass true b h = (tt, h)
-both_pass false b h = absurd h
-
-less : (o : Ordering) → T (is_lt o) → o ≡ Less
-less Less h = refl
-less Equal h = absurd h
-less Greater h = absurd h
 
 -- there is none
 pub is_not_some : {A : Type 0} (o : Option A) → o ≡ None → IsSome o → ⊥
 is_not_some None e h = cc
 is_not_some (Some x) e h = cc
-
-joined : (a b : Bool) → T a → T b → T (a && b)
-joined true b p q = q
-joined false b p q = absurd p
 
 abbrev is_other : {K : Type 0} → (K → K → Ordering) → K → K → Bool
 is_other cmp q x = not (eq_by_cmp cmp q x)
@@ -127,17 +114,11 @@ module _ {K V : Type 0} {cmp : K → K → Ordering} (order : IsTotalOrder cmp) 
       let r : T (below_all cmp q rest) = all_above_tied q x rest t s.1 in
       joined _ _ (subst (λ o. T (is_lt o)) (order.congr x q e.0 t) s.0) r
 
-  find_below_all : (q : K) (es : List (K × V)) → T (below_all cmp q es) → find cmp q es ≡ None
-  find_below_all q [] h = refl
-  find_below_all q (e ∷ rest) h =
-      let t = both_pass _ _ h in
-      ap (λ o. cond (is_eq o) (Some e.1) (find cmp q rest)) (less _ t.0) ∙ find_below_all q rest t.1
-
   pub finds_none : (es : List (K × V)) (q : K) (at : ℕ) → T (is_sorted cmp es) → IsGapAt cmp es q at → find cmp q es ≡ None
   finds_none [] q at s h = refl
   finds_none (e ∷ rest) q zero s h =
       let l = less_of_greater order e.0 q h in
-      ap (λ o. cond (is_eq o) (Some e.1) (find cmp q rest)) l ∙ find_below_all q rest (all_greater q e.0 rest l (both_pass _ _ s).0)
+      ap (λ o. cond (is_eq o) (Some e.1) (find cmp q rest)) l ∙ find_below_all cmp q rest (all_greater q e.0 rest l (both_pass _ _ s).0)
   finds_none (e ∷ rest) q (suc at) s h =
       ap (λ o. cond (is_eq o) (Some e.1) (find cmp q rest)) (greater_of_less order e.0 q h.0) ∙ finds_none rest q at (both_pass _ _ s).1 h.1
 

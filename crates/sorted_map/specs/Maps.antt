@@ -1,5 +1,5 @@
 -- What is done to the entries, said of the finite map that they make.
-use Rattle.std.proofs.Common.{◌≡◌, Bool, true, false, cond, not, ◌&&◌, T, List, [], ◌∷◌, Option, None, Some, is_some, refl, sym, ap, subst, ◌∙◌}
+use Rattle.std.proofs.Common.{◌≡◌, Bool, true, false, cond, not, T, List, [], ◌∷◌, Option, None, Some, is_some, refl, sym, ap, subst, ◌∙◌}
 use Rattle.std.specs.declared.cmp.Ordering.{Ordering}
 use Rattle.std.specs.declared.cmp.Ordering.TheVariants.{Less, Equal, Greater}
 use Rattle.std.specs.Ordering.{is_lt, is_eq, eq_by_cmp}
@@ -8,20 +8,8 @@ use Rattle.std.specs.Cmp.{IsTotalOrder, eq_by_cmp_equiv}
 use Rattle.std.specs.FinMap as map
 use Rattle.std.specs.FinMap.{IsAntisymmetric, find, put, is_sorted}
 use Rattle.std.specs.FinMap.Entries.{below_all, is_sorted-put, is_sorted-where_key, find-where_key}
+use Rattle.sorted_map.specs.Facts.{both_pass, joined, find_below_all}
 use Rattle.sorted_map.specs.Entries.{without, changed}
-
-both_pass : (a b : Bool) → T (a && b) → T a × T b
-both_pass true b h = (tt, h)
-both_pass false b h = absurd h
-
-joined : (a b : Bool) → T a → T b → T (a && b)
-joined true b p q = q
-joined false b p q = absurd p
-
-less : (o : Ordering) → T (is_lt o) → o ≡ Less
-less Less h = refl
-less Equal h = absurd h
-less Greater h = absurd h
 
 turned : {A : Type 0} (b : Bool) (x y : A) → cond (not b) x y ≡ cond b y x
 turned true x y = refl
@@ -92,12 +80,6 @@ module _ {K V : Type 0} {cmp : K → K → Ordering} (order : IsTotalOrder cmp) 
           go true k = joined _ _ (below_kept e.0 rest (both_pass _ (is_sorted cmp rest) h).0) k
           go false k = k
 
-      find_below_all : (key : K) (entries : List (K × V)) → T (below_all cmp key entries) → find cmp key entries ≡ None
-      find_below_all key [] h = refl
-      find_below_all key (e ∷ rest) h =
-          let t = both_pass _ _ h in
-          ap (λ o. cond (is_eq o) (Some e.1) (find cmp key rest)) (less _ t.0) ∙ find_below_all key rest t.1
-
       same_key : (a b : K) → eq_by_cmp cmp a b ≡ true → a ≡ b
       same_key a b h = go (cmp a b) refl h
         where
@@ -111,7 +93,7 @@ module _ {K V : Type 0} {cmp : K → K → Ordering} (order : IsTotalOrder cmp) 
       kept_find key (e ∷ rest) h = let t = both_pass _ _ h in go (eq_by_cmp cmp key e.0) refl (goes e.1) refl (kept_find key rest t.1)
         where
           none : eq_by_cmp cmp key e.0 ≡ true → find cmp key (filter stays rest) ≡ None
-          none i = find_below_all key (filter stays rest) (subst (λ x. T (below_all cmp x (filter stays rest))) (sym (same_key key e.0 i)) (below_kept e.0 rest (both_pass _ (is_sorted cmp rest) h).0))
+          none i = find_below_all cmp key (filter stays rest) (subst (λ x. T (below_all cmp x (filter stays rest))) (sym (same_key key e.0 i)) (below_kept e.0 rest (both_pass _ (is_sorted cmp rest) h).0))
 
           go : (b : Bool) → eq_by_cmp cmp key e.0 ≡ b → (g : Bool) → goes e.1 ≡ g → find cmp key (filter stays rest) ≡ cond (not (has_one (find cmp key rest))) (find cmp key rest) None
               → find cmp key (cond (not g) (e ∷ filter stays rest) (filter stays rest)) ≡ cond (not (has_one (cond b (Some e.1) (find cmp key rest)))) (cond b (Some e.1) (find cmp key rest)) None
