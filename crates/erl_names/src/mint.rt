@@ -7,7 +7,8 @@ ghost use Rattle.erl_names.specs.Ids.{pid_of, reference_of};
 
 use crate::creation::Creation;
 use crate::name::NodeName;
-use erl_term::{Pid, Reference, Refusal, Words};
+use erl_term::{Pid, Reference, ReferenceWords, Refusal};
+use std::alloc::AllocError;
 use std::marker::Model;
 
 /// The highest count of a reference.
@@ -160,11 +161,12 @@ impl Mint {
         Ok(self.unlink_ids)
     }
 
-    /// The pid of this id, with serial 0. The only refusal is [`Refusal::OutOfMemory`]. (ERTS User's
-    /// Guide, External Term Format, NEW_PID_EXT.)
-    pub fn pid(&self, id: u32) -> Result<Pid, Refusal>
+    /// The pid of this id, with serial 0. (ERTS User's Guide, External Term Format, NEW_PID_EXT.)
+    ///
+    /// # Errors
+    /// Where there is no memory for the node's name.
+    pub fn pid(&self, id: u32) -> Result<Pid, AllocError>
         ensures pid { IfOk result (λ pid. pid ≡ pid_of self.now id) }
-        ensures only_memory { IsOkUnless result Refusal.OutOfMemory }
     {
         Ok(Pid {
             node: self.name.atom().clone()?,
@@ -174,16 +176,18 @@ impl Mint {
         })
     }
 
-    /// The reference of this count, whose words are the count, 0 and 0. The only refusal is
-    /// [`Refusal::OutOfMemory`]. (ERTS User's Guide, External Term Format, NEWER_REFERENCE_EXT.)
-    pub fn reference(&self, count: u32) -> Result<Reference, Refusal>
+    /// The reference of this count, whose words are the count, 0 and 0. (ERTS User's Guide, External
+    /// Term Format, NEWER_REFERENCE_EXT.)
+    ///
+    /// # Errors
+    /// Where there is no memory for the node's name.
+    pub fn reference(&self, count: u32) -> Result<Reference, AllocError>
         ensures reference { IfOk result (λ reference. reference ≡ reference_of self.now count) }
-        ensures only_memory { IsOkUnless result Refusal.OutOfMemory }
     {
         Ok(Reference {
             node: self.name.atom().clone()?,
             creation: self.creation.number(),
-            words: Words::new(&[count, 0, 0]).unwrap(),
+            words: ReferenceWords::new(&[count, 0, 0]).unwrap(),
         })
     }
 }

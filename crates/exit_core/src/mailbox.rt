@@ -1,11 +1,10 @@
 //! The messages that wait for a process.
-ghost use Rattle.std.specs.Prelude.{◌≡◌, ◌↔◌, ◌≤◌, ◌+◌, ◌++◌, ◌∷◌, [], length, IsTrue, OnOk, OnErr, IsOk, IsOkUnless, MatchOption};
-ghost use Rattle.erl_term.specs.declared.refusal.Refusal.TheVariants as Refusal;
+ghost use Rattle.std.specs.Prelude.{◌≡◌, ◌↔◌, ◌≤◌, ◌+◌, ◌++◌, ◌∷◌, [], length, IsTrue, OnOk, OnErr, IsOk, MatchOption};
 ghost use Rattle.std.specs.List.{slice_get};
 ghost use Rattle.std.specs.Option.{option_copied};
 
-use erl_term::{Payload, Refusal};
-use std::alloc::Global;
+use erl_term::Payload;
+use std::alloc::{AllocError, Global};
 use std::collections::VecDeque;
 use std::marker::Model;
 
@@ -40,25 +39,25 @@ impl Mailbox {
 
     /// Makes room for so many more messages: that many can be put without a refusal afterwards.
     ///
-    /// The only refusal is [`Refusal::OutOfMemory`], and it changes nothing.
-    pub fn reserve(&mut self, additional: usize) -> Result<(), Refusal>
+    /// # Errors
+    /// Where there is no memory for it. Then nothing has changed.
+    pub fn reserve(&mut self, additional: usize) -> Result<(), AllocError>
         ensures messages { self.new.messages ≡ self.old.messages }
         ensures room { OnOk result (additional ≤ self.new.room) }
         ensures kept { self.old.room ≤ self.new.room }
-        ensures only_memory { IsOkUnless result Refusal.OutOfMemory }
         ensures succeeds { additional ≤ self.old.room → IsOk result }
     {
-        self.messages.reserve(additional)?;
-        Ok(())
+        self.messages.reserve(additional)
     }
 
-    /// Puts a message behind the others. The only refusal is [`Refusal::OutOfMemory`], and only where
-    /// there is no room.
-    pub fn put(&mut self, message: Payload) -> Result<(), Refusal>
+    /// Puts a message behind the others.
+    ///
+    /// # Errors
+    /// Where there is neither room nor memory. Then nothing has changed.
+    pub fn put(&mut self, message: Payload) -> Result<(), AllocError>
         ensures ok { OnOk result (self.new.messages ≡ self.old.messages ++ message ∷ []) }
         ensures room { self.old.room ≤ self.new.room + 1 }
         ensures err { OnErr result (self.new.messages ≡ self.old.messages) }
-        ensures only_memory { IsOkUnless result Refusal.OutOfMemory }
         ensures succeeds { 1 ≤ self.old.room → IsOk result }
     {
         self.messages.push_back(message)?;

@@ -1,13 +1,12 @@
 //! What an exit signal does to a process.
-ghost use Rattle.std.specs.Prelude.{◌≡◌, IfOk, IsOkUnless, codes};
-ghost use Rattle.erl_term.specs.declared.refusal.Refusal.TheVariants as Refusal;
+ghost use Rattle.std.specs.Prelude.{◌≡◌, IfOk, codes};
 ghost use Rattle.erl_term.specs.View.{view};
 ghost use Rattle.exit_core.specs.Reaction as table;
 
 use crate::messages::{exit_message, named};
 use crate::process::Proc;
-use erl_term::{Payload, Pid, Refusal, Term};
-use std::alloc::Global;
+use erl_term::{Payload, Pid, Term};
+use std::alloc::{AllocError, Global};
 
 /// An exit signal as it comes to a process.
 #[derive(Debug, Drop)]
@@ -36,16 +35,17 @@ pub enum Reaction {
 }
 
 impl Proc {
-    /// What the exit signal does to the process, which it doesn't change. The only refusal is
-    /// [`Refusal::OutOfMemory`].
+    /// What the exit signal does to the process, which it doesn't change.
     ///
     /// The first that holds: a signal of a link that isn't active is ignored; the reason kill, not
     /// of a link, ends the process with killed; a process that traps exits gets
     /// {'EXIT',Sender,Reason}; normal from another process is ignored; else the process ends with
     /// the reason. (Reference Manual, Processes, Receiving Exit Signals.)
-    pub fn react(&self, alloc: Global, signal: ExitSignal) -> Result<Reaction, Refusal>
-        ensures ok { IfOk result (λ r. r ≡ table.reaction self.now.trap signal) }
-        ensures only_memory { IsOkUnless result Refusal.OutOfMemory }
+    ///
+    /// # Errors
+    /// Where there is no memory for a message, or for the reason killed.
+    pub fn react(&self, alloc: Global, signal: ExitSignal) -> Result<Reaction, AllocError>
+        ensures { IfOk result (λ r. r ≡ table.reaction self.now.trap signal) }
     {
         let ExitSignal {
             sender,

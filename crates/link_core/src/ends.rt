@@ -1,15 +1,15 @@
 //! The link records of one process.
 
-ghost use Rattle.std.specs.Prelude.{◌≡◌, ◌≢◌, ◌≤◌, ◌+◌, IfOk, OnOk, OnErr, IsOk, IsOkUnless, Some};
+ghost use Rattle.std.specs.Prelude.{◌≡◌, ◌≢◌, ◌≤◌, ◌+◌, IfOk, OnOk, OnErr, IsOk, Some};
 ghost use Rattle.std.specs.FinMap as map;
 ghost use Rattle.link_core.specs.Table.{linked, link_sent, unlinked, unlink_sent, received, exited, is_active, answered};
 ghost use Rattle.link_core.specs.Ends.{end_of, with_end};
 ghost use Rattle.link_core.specs.Records.{IsLink};
 
 use crate::end::{End, LinkSignal};
-use erl_term::{Pid, Refusal};
+use erl_term::Pid;
 use sorted_map::SortedMap;
-use std::alloc::Global;
+use std::alloc::{AllocError, Global};
 use std::marker::Model;
 
 /// The ends of the links of one process, by partner. Contracts see the finite map from pids to
@@ -58,24 +58,24 @@ impl Ends {
     /// Makes room for so many more partners: as many LINKs, made or taken, can't be refused
     /// afterwards.
     ///
-    /// The only refusal is [`Refusal::OutOfMemory`], and it changes nothing.
-    pub fn reserve(&mut self, additional: usize) -> Result<(), Refusal>
+    /// # Errors
+    /// Where there is no memory for it. Then nothing has changed.
+    pub fn reserve(&mut self, additional: usize) -> Result<(), AllocError>
         ensures ends { self.new.ends ≡ self.old.ends }
         ensures room { OnOk result (additional ≤ self.new.room) }
         ensures kept { self.old.room ≤ self.new.room }
         ensures err { OnErr result (self.new ≡ self.old) }
-        ensures only_memory { IsOkUnless result Refusal.OutOfMemory }
         ensures succeeds { additional ≤ self.old.room → IsOk result }
     {
-        self.records.reserve(additional)?;
-        Ok(())
+        self.records.reserve(additional)
     }
 
-    /// The process links itself to a partner. Answers the signal to be sent to it, if any.
+    /// The process links itself to a partner. Answers the signal to be sent to it, if any. (ERTS
+    /// User's Guide, Distribution Protocol, New Link Protocol.)
     ///
-    /// The only refusal is [`Refusal::OutOfMemory`], and only where there was no link and no room.
-    /// (ERTS User's Guide, Distribution Protocol, New Link Protocol.)
-    pub fn link(&mut self, partner: Pid) -> Result<Option<LinkSignal>, Refusal>
+    /// # Errors
+    /// Where there was no link, and neither room nor memory. Then nothing has changed.
+    pub fn link(&mut self, partner: Pid) -> Result<Option<LinkSignal>, AllocError>
         ensures end { let was = end_of self.old.ends partner in
             OnOk result (self.new.ends ≡ with_end self.old.ends partner (linked was)) }
         ensures unchanged { let was = end_of self.old.ends partner in
@@ -83,7 +83,6 @@ impl Ends {
         ensures sent { IfOk result (λ sent. sent ≡ link_sent (end_of self.old.ends partner)) }
         ensures room { self.old.room ≤ self.new.room + 1 }
         ensures err { OnErr result (self.new ≡ self.old) }
-        ensures only_memory { IsOkUnless result Refusal.OutOfMemory }
         ensures only_new { OnErr result (end_of self.old.ends partner ≡ End.None) }
         ensures succeeds { 1 ≤ self.old.room → IsOk result }
     {
@@ -114,18 +113,17 @@ impl Ends {
         }
     }
 
-    /// LINK came from a partner.
+    /// LINK came from a partner. (ERTS User's Guide, Distribution Protocol, New Link Protocol.)
     ///
-    /// The only refusal is [`Refusal::OutOfMemory`], and only where there was no link and no room.
-    /// (ERTS User's Guide, Distribution Protocol, New Link Protocol.)
-    pub fn on_link(&mut self, partner: Pid) -> Result<(), Refusal>
+    /// # Errors
+    /// Where there was no link, and neither room nor memory. Then nothing has changed.
+    pub fn on_link(&mut self, partner: Pid) -> Result<(), AllocError>
         ensures end { let was = end_of self.old.ends partner in
             OnOk result (self.new.ends ≡ with_end self.old.ends partner (received was LinkSignal.Link)) }
         ensures unchanged { let was = end_of self.old.ends partner in
             received was LinkSignal.Link ≡ was → self.new.ends ≡ self.old.ends }
         ensures room { self.old.room ≤ self.new.room + 1 }
         ensures err { OnErr result (self.new ≡ self.old) }
-        ensures only_memory { IsOkUnless result Refusal.OutOfMemory }
         ensures only_new { OnErr result (end_of self.old.ends partner ≡ End.None) }
         ensures succeeds { 1 ≤ self.old.room → IsOk result }
     {
@@ -191,12 +189,11 @@ impl Ends {
     }
 
     // Puts the record of a link, at a partner that has one or as a new one.
-    fn put(&mut self, partner: Pid, end: End) -> Result<(), Refusal>
+    fn put(&mut self, partner: Pid, end: End) -> Result<(), AllocError>
         requires { IsLink end }
         ensures ok { OnOk result (self.new.ends ≡ with_end self.old.ends partner end) }
         ensures room { self.old.room ≤ self.new.room + 1 }
         ensures err { OnErr result (self.new ≡ self.old) }
-        ensures only_memory { IsOkUnless result Refusal.OutOfMemory }
         ensures only_new { OnErr result (end_of self.old.ends partner ≡ End.None) }
         ensures succeeds { 1 ≤ self.old.room → IsOk result }
     {

@@ -1,6 +1,6 @@
 //! Monitors in the order of their references.
 
-ghost use Rattle.std.specs.Prelude.{◌≡◌, ◌↔◌, ◌≤◌, ◌+◌, IsTrue, OnOk, OnErr, IsOk, IsOkUnless, IfSome, IfNone, None, Some, ◌<◌, length, drop};
+ghost use Rattle.std.specs.Prelude.{◌≡◌, ◌↔◌, ◌≤◌, ◌+◌, IsTrue, OnOk, OnErr, IsOk, IfSome, IfNone, None, Some, ◌<◌, length, drop};
 ghost use Rattle.std.specs.Bool.{OnFalse};
 ghost use Rattle.std.specs.Option.{option_copied};
 ghost use Rattle.std.specs.FinMap as map;
@@ -12,9 +12,9 @@ ghost use Rattle.monitor_core.specs.Runs.{Adds, Removes, Ends, takes, called};
 ghost use Rattle.monitor_core.specs.Records.{PassesFirstAt, NonePasses};
 
 use crate::monitor::Monitor;
-use erl_term::{Atom, Pid, Reference, Refusal};
+use erl_term::{Atom, Pid, Reference};
 use sorted_map::SortedMap;
-use std::alloc::Global;
+use std::alloc::{AllocError, Global};
 use std::marker::Model;
 
 /// Monitors by reference. Contracts see the finite map from references to monitors, in the order of
@@ -93,24 +93,21 @@ impl Monitors {
     }
 
     /// Makes room for so many more references.
-    pub(crate) fn reserve(&mut self, additional: usize) -> Result<(), Refusal>
+    pub(crate) fn reserve(&mut self, additional: usize) -> Result<(), AllocError>
         ensures monitors { self.new.monitors ≡ self.old.monitors }
         ensures room { OnOk result (additional ≤ self.new.room) }
         ensures kept { self.old.room ≤ self.new.room }
         ensures err { OnErr result (self.new ≡ self.old) }
-        ensures only_memory { IsOkUnless result Refusal.OutOfMemory }
         ensures succeeds { additional ≤ self.old.room → IsOk result }
     {
-        self.records.reserve(additional)?;
-        Ok(())
+        self.records.reserve(additional)
     }
 
     /// Puts a monitor in. A reference that has one keeps it.
-    pub(crate) fn add(&mut self, reference: Reference, monitor: Monitor) -> Result<(), Refusal>
+    pub(crate) fn add(&mut self, reference: Reference, monitor: Monitor) -> Result<(), AllocError>
         ensures monitors { OnOk result (self.new.monitors ≡ called self.old.monitors (Adds reference monitor)) }
         ensures room { self.old.room ≤ self.new.room + 1 }
         ensures err { OnErr result (self.new ≡ self.old) }
-        ensures only_memory { IsOkUnless result Refusal.OutOfMemory }
         ensures only_new { OnErr result (map.get self.old.monitors reference ≡ None) }
         ensures succeeds { 1 ≤ self.old.room → IsOk result }
     {

@@ -1,6 +1,6 @@
 //! The monitors that the processes of a node own.
 
-ghost use Rattle.std.specs.Prelude.{◌≡◌, ◌↔◌, ◌≤◌, ◌+◌, IsTrue, OnOk, OnErr, IsOk, IsOkUnless, IfSome, None, Some, ◌<◌, length, drop};
+ghost use Rattle.std.specs.Prelude.{◌≡◌, ◌↔◌, ◌≤◌, ◌+◌, IsTrue, OnOk, OnErr, IsOk, IfSome, None, Some, ◌<◌, length, drop};
 ghost use Rattle.std.specs.Bool.{OnFalse};
 ghost use Rattle.std.specs.Option.{option_copied};
 ghost use Rattle.std.specs.Ordering.{nat_cmp, eq_by_cmp};
@@ -13,8 +13,8 @@ ghost use Rattle.monitor_core.specs.Runs.{Adds, Removes, Ends, takes, called};
 
 use crate::monitor::Monitor;
 use crate::monitors::{Monitors, Sought};
-use erl_term::{Atom, Pid, Reference, Refusal};
-use std::alloc::Global;
+use erl_term::{Atom, Pid, Reference};
+use std::alloc::{AllocError, Global};
 use std::marker::Model;
 
 /// The monitors that the processes of this node own, by reference. Contracts see the finite map from
@@ -63,13 +63,13 @@ impl Watches {
 
     /// Makes room for so many more monitors: as many can't be refused afterwards.
     ///
-    /// The only refusal is [`Refusal::OutOfMemory`], and it changes nothing.
-    pub fn reserve(&mut self, additional: usize) -> Result<(), Refusal>
+    /// # Errors
+    /// Where there is no memory for it. Then nothing has changed.
+    pub fn reserve(&mut self, additional: usize) -> Result<(), AllocError>
         ensures monitors { self.new.monitors ≡ self.old.monitors }
         ensures room { OnOk result (additional ≤ self.new.room) }
         ensures kept { self.old.room ≤ self.new.room }
         ensures err { OnErr result (self.new ≡ self.old) }
-        ensures only_memory { IsOkUnless result Refusal.OutOfMemory }
         ensures succeeds { additional ≤ self.old.room → IsOk result }
     {
         self.monitors.reserve(additional)
@@ -77,15 +77,14 @@ impl Watches {
 
     /// A process of this node monitors another one, under a reference that its node has drawn for
     /// this. A reference that has a monitor keeps it: since references are drawn once, none has.
+    /// (Reference Manual, Processes, Monitors; ERTS User's Guide, Distribution Protocol, MONITOR_P.)
     ///
-    /// The only refusal is [`Refusal::OutOfMemory`], and only where the reference is new and there is
-    /// no room. (Reference Manual, Processes, Monitors; ERTS User's Guide, Distribution Protocol,
-    /// MONITOR_P.)
-    pub fn add(&mut self, reference: Reference, monitor: Monitor) -> Result<(), Refusal>
+    /// # Errors
+    /// Where the reference is new, and there is neither room nor memory. Then nothing has changed.
+    pub fn add(&mut self, reference: Reference, monitor: Monitor) -> Result<(), AllocError>
         ensures monitors { OnOk result (self.new.monitors ≡ called self.old.monitors (Adds reference monitor)) }
         ensures room { self.old.room ≤ self.new.room + 1 }
         ensures err { OnErr result (self.new ≡ self.old) }
-        ensures only_memory { IsOkUnless result Refusal.OutOfMemory }
         ensures only_new { OnErr result (map.get self.old.monitors reference ≡ None) }
         ensures succeeds { 1 ≤ self.old.room → IsOk result }
     {

@@ -128,13 +128,14 @@ const DOWN: &str =
 
 fn exit(alloc: Global) -> Result<Payload, Refusal> {
     let sender = pid(alloc, SENDER)?;
-    exit_message(alloc, sender, atom(alloc, "noproc")?)
+    Ok(exit_message(alloc, sender, atom(alloc, "noproc")?)?)
 }
 
 fn down(alloc: Global) -> Result<Payload, Refusal> {
     let target = pid(alloc, TARGET)?;
     let reference = reference(alloc, 1)?;
-    down_message(alloc, reference, target, atom(alloc, "noconnection")?)
+    let info = atom(alloc, "noconnection")?;
+    Ok(down_message(alloc, reference, target, info)?)
 }
 
 fn is_written(alloc: Global, message: &Payload, hex: &str) -> Result<bool, Fail> {
@@ -151,7 +152,7 @@ fn messages(rt: HostRuntime) -> Result<(), Fail> {
 }
 
 fn puts(alloc: Global, mailbox: &mut Mailbox, name: &str) -> Result<(), Refusal> {
-    mailbox.put(atom(alloc, name)?)
+    Ok(mailbox.put(atom(alloc, name)?)?)
 }
 
 /// The name of the message at a place, if one is there.

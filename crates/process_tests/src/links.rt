@@ -370,7 +370,8 @@ fn is_linked_or_not(alloc: Global, ends: &mut Ends, id: u32) -> Result<bool, Ref
         End::None
     };
     let is_right = ends.end(&partner) == wanted;
-    linked.map(|()| is_right)
+    linked?;
+    Ok(is_right)
 }
 
 /// Run by the script fail-allocations too, with each allocation refused in turn: where a link is

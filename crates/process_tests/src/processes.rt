@@ -1,5 +1,5 @@
 //! Processes and references for the rows of a table.
-use erl_term::{Atom, Pid, Reference, Refusal, Words};
+use erl_term::{Atom, Pid, Reference, ReferenceWords, Refusal};
 use std::alloc::Global;
 
 /// A process by its node, its incarnation and its id.
@@ -25,7 +25,7 @@ pub fn pid(alloc: Global, process: Process) -> Result<Pid, Refusal> {
 
 /// The reference of a@h in its first incarnation that has this word, 0 and 0.
 pub fn reference(alloc: Global, word: u32) -> Result<Reference, Refusal> {
-    let words = Words::new(&[word, 0, 0]).ok_or(Refusal::BadName)?;
+    let words = ReferenceWords::new(&[word, 0, 0]).ok_or(Refusal::BadName)?;
     Ok(Reference {
         node: atom(alloc, "a@h")?,
         creation: 1,
