@@ -2,8 +2,8 @@
 
 use crate::bytes::joined;
 use erl_control::{
-    FrameError, Item, Signal, canonical_is_framed, fits, frame, one_answer, one_frame, read_again,
-    unframe,
+    FrameError, Item, Signal, canonical_is_framed, fits, frame, one_answer, one_frame, put_frame,
+    read_again, unframe,
 };
 use erl_term::{Payload, Pid, Reference, Term, TermError, decode, pid_at};
 use std::alloc::{AllocError, Global};
@@ -407,9 +407,12 @@ fn said(signal: &Signal) -> Told<'_> {
     }
 }
 
+/// Whether these bytes are the frame of the signal, by itself and behind another byte.
 fn is_written(alloc: Global, signal: &Signal, wanted: &[u8]) -> Result<bool, Fail> {
-    let written = frame(alloc, signal)?;
-    Ok(written.as_slice() == wanted)
+    let mut written = vec![in alloc; 9]?;
+    put_frame(&mut written, signal.parts())?;
+    let alone = frame(alloc, signal)?;
+    Ok(alone.as_slice() == wanted && written.strip_prefix(&[9]) == Some(wanted))
 }
 
 /// How a signal of these bytes is to the one that is wanted.
@@ -642,10 +645,20 @@ fn is_error(alloc: Global, error: FrameError, number: u8, text: &str) -> Result<
     Ok((printed.as_str(), error.number()) == (text, number))
 }
 
+/// Whether the error is a fault of that number and text. Want of memory is none.
+fn is_fault(alloc: Global, error: FrameError, number: u8, text: &str) -> Result<bool, AllocError> {
+    let Some(fault) = error.fault() else {
+        return Ok(error == FrameError::OutOfMemory);
+    };
+    let printed = format!(in alloc; "{fault}")?;
+    Ok((printed.as_str(), fault.number()) == (text, number))
+}
+
 #[test]
 fn errors_have_numbers_and_texts(rt: HostRuntime) -> Result<(), Fail> {
     for &(error, number, text) in ERRORS {
         assert!(rt; is_error(rt.alloc(), error, number, text)?, "{text}");
+        assert!(rt; is_fault(rt.alloc(), error, number, text)?, "{text}");
     }
     Ok(())
 }

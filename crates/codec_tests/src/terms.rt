@@ -2,9 +2,9 @@
 
 use crate::bytes::joined;
 use erl_term::{
-    Atom, LIMIT, Pid, Reference, Refusal, Term, TermError, TermRef, Words, decode, encode,
-    integer_at, integer_len, pid_at, pid_len, put_integer, put_pid, put_reference, put_tuple_head,
-    reference_at, reference_len, term_at, term_len, tuple_head_at, tuple_head_len,
+    Atom, Pid, Reference, ReferenceWords, Refusal, TERM_LIMIT, Term, TermError, TermRef, decode,
+    encode, integer_at, integer_len, pid_at, pid_len, put_integer, put_pid, put_reference,
+    put_tuple_head, reference_at, reference_len, term_at, term_len, tuple_head_at, tuple_head_len,
 };
 use std::alloc::{AllocError, Global};
 use std::cmp::Ordering;
@@ -13,7 +13,7 @@ use std::test::*;
 /// 6 bytes, and 2 for each element: the most.
 const LONGEST: &str = "83 690007FFFD 524285*6100";
 
-const _: () = prove!(LIMIT == 6 + 2 * 524_285);
+const _: () = prove!(TERM_LIMIT == 6 + 2 * 524_285);
 
 /// Spellings, each with the canonical one where it is another, and how many levels that has.
 const SPELLINGS: &[(&str, Option<&str>, u32)] = &[
@@ -335,7 +335,7 @@ fn pid(alloc: Global, (node, creation, id, serial): PidFields) -> Result<Pid, Fa
 }
 
 fn reference(alloc: Global, words: &[u32]) -> Result<Reference, Fail> {
-    let words = Words::new(words).ok_or("no words of a reference")?;
+    let words = ReferenceWords::new(words).ok_or("no words of a reference")?;
     let node = atom(alloc, "a@h")?;
     Ok(Reference {
         node,
@@ -460,7 +460,7 @@ fn behind_integer(n: i128, levels: u32, bytes: &[u8]) -> Result<Option<usize>, F
 
 fn behind_head(head: (u32, u32), levels: u32, bytes: &[u8]) -> Result<Option<usize>, Fail> {
     match tuple_head_at(levels, bytes) {
-        Some((read, rest)) => behind(read == head, rest),
+        Some((read, rest)) => behind((read.arity, read.levels) == head, rest),
         None => Ok(None),
     }
 }
@@ -480,7 +480,7 @@ fn behind_pid(
         return Ok(None);
     };
     let pid = read.to_pid(alloc)?;
-    behind(is_pid(&pid, fields), rest)
+    behind(is_pid(&pid, fields) && read.is_same(&pid), rest)
 }
 
 fn is_reference(reference: &Reference, words: &[u32]) -> bool {
@@ -498,7 +498,10 @@ fn behind_reference(
         return Ok(None);
     };
     let reference = read.to_reference(alloc)?;
-    behind(is_reference(&reference, words), rest)
+    behind(
+        is_reference(&reference, words) && read.is_same(&reference),
+        rest,
+    )
 }
 
 fn behind_term(levels: u32, bytes: &[u8]) -> Option<usize> {
@@ -573,7 +576,7 @@ fn references_are(
 }
 
 fn are_words(words: &[u32]) -> bool {
-    Words::new(words).is_some()
+    ReferenceWords::new(words).is_some()
 }
 
 #[test]
@@ -586,13 +589,18 @@ fn orders(rt: HostRuntime) -> Result<(), Fail> {
     Ok(())
 }
 
-const ERRORS: &[(TermError, u8, &str)] = &[
-    (TermError::Cut, 1, "1 Cut"),
-    (TermError::Malformed, 2, "2 Malformed"),
-    (TermError::OutOfProfile(70), 3, "3 OutOfProfile(70)"),
-    (TermError::TooDeep, 4, "4 TooDeep"),
-    (TermError::TooLong, 5, "5 TooLong"),
-    (TermError::OutOfMemory, 12, "12 OutOfMemory"),
+const ERRORS: &[(TermError, u8, &str, &str)] = &[
+    (TermError::Cut, 1, "Cut", "1 Cut"),
+    (TermError::Malformed, 2, "Malformed", "2 Malformed"),
+    (
+        TermError::OutOfProfile(70),
+        3,
+        "OutOfProfile",
+        "3 OutOfProfile(70)",
+    ),
+    (TermError::TooDeep, 4, "TooDeep", "4 TooDeep"),
+    (TermError::TooLong, 5, "TooLong", "5 TooLong"),
+    (TermError::OutOfMemory, 12, "OutOfMemory", "12 OutOfMemory"),
 ];
 
 const REFUSALS: &[(Refusal, u8, &str)] = &[
@@ -618,10 +626,16 @@ const REFUSALS: &[(Refusal, u8, &str)] = &[
     (Refusal::NoThread, 30, "30 NoThread"),
 ];
 
-fn is_error(alloc: Global, error: TermError, number: u8, text: &str) -> Result<bool, AllocError> {
+fn is_error(
+    alloc: Global,
+    error: TermError,
+    number: u8,
+    name: &str,
+    text: &str,
+) -> Result<bool, AllocError> {
     let printed = format!(in alloc; "{error}")?;
-    let wanted = (text, number, number == 12);
-    Ok((printed.as_str(), error.number(), error.is_out_of_memory()) == wanted)
+    let parts = (error.number(), error.name(), error.is_out_of_memory());
+    Ok(printed.as_str() == text && parts == (number, name, number == 12))
 }
 
 fn is_refusal(alloc: Global, refusal: Refusal, number: u8, text: &str) -> Result<bool, AllocError> {
@@ -631,8 +645,8 @@ fn is_refusal(alloc: Global, refusal: Refusal, number: u8, text: &str) -> Result
 
 #[test]
 fn errors_have_numbers_and_texts(rt: HostRuntime) -> Result<(), Fail> {
-    for &(error, number, text) in ERRORS {
-        assert!(rt; is_error(rt.alloc(), error, number, text)?, "{text}");
+    for &(error, number, name, text) in ERRORS {
+        assert!(rt; is_error(rt.alloc(), error, number, name, text)?, "{text}");
     }
     for &(refusal, number, text) in REFUSALS {
         assert!(rt; is_refusal(rt.alloc(), refusal, number, text)?, "{text}");

@@ -1,6 +1,8 @@
 -- What the readers of a signal's text answer.
 use Rattle.std.proofs.Common.{◌≡◌, ℕ, ◌<◌, List, [], ◌++◌, length, take, drop, Option, Some, None, Ok, Err, Bor, refl, sym, ap, subst, ◌∙◌, append_assoc, arith, inl, inr}
 use Rattle.std.proofs.lemmas.List.{take-append-drop, append-nil}
+use Rattle.erl_term.specs.declared.parts.TupleHead.{TupleHead}
+use Rattle.erl_term.proofs.Behind.{head_of}
 use Rattle.erl_term.specs.declared.error.TermError.{TermError}
 use Rattle.erl_term.specs.declared.term.Pid.{Pid}
 use Rattle.erl_term.specs.Data.{Data}
@@ -13,7 +15,8 @@ use Rattle.erl_control.specs.declared.signal_ref.SignalRef.{SignalRef}
 use Rattle.erl_control.specs.Control.{control_term, HasId}
 use Rattle.erl_control.specs.Frame.{IsSignalText}
 use Rattle.erl_control.specs.Answer.{IsTermFault, IsBadControl}
-use Rattle.erl_control.specs.Reading.{signal_in, IsRowHead, AreSend, IsSendText, tag_of, arity_of, AreFields, HasFields, IsText, HasNoText}
+use Rattle.erl_control.specs.Parts.{signal_in}
+use Rattle.erl_control.specs.Reading.{IsRowHead, AreSend, IsSendText, tag_of, arity_of, AreFields, HasFields, IsText, HasNoText}
 use Rattle.erl_control.proofs.Sequence.{split_pair}
 use Rattle.erl_control.proofs.Table.{shape, unshape, send_row, send_unrow, send_from, send_to}
 use Rattle.erl_control.proofs.Arms.{lying}
@@ -25,7 +28,7 @@ no_head text r = record {
   takes = tt;
   again = λ y front rest i p.
       let h = shape (signal_in y) front i in
-      r.again ((arity_of (signal_in y), h.levels), tag_of (signal_in y)) h.front (h.fields ++ rest) h.is_front (split_pair text front h.front h.fields rest h.parts p);
+      r.again (head_of (arity_of (signal_in y)) h.levels, tag_of (signal_in y)) h.front (h.fields ++ rest) h.is_front (split_pair text front h.front h.fields rest h.parts p);
 }
 
 -- the head that was read is that of any signal's text at the front
@@ -36,26 +39,26 @@ record Headed (n levels tag : ℕ) (fields rest : List ℕ) (s : Signal) : Type 
   are_fields : AreFields levels s part
   parts : fields ≡ part ++ rest
 
-headed : (text : List ℕ) (n levels tag : ℕ) (fields : Bor (List ℕ)) (s : Signal) (front rest : List ℕ) → ReadsFront IsRowHead text (Some (((n, levels), tag), fields)) → IsSignalText s front → text ≡ front ++ rest → Headed n levels tag fields.now rest s
+headed : (text : List ℕ) (n levels tag : ℕ) (fields : Bor (List ℕ)) (s : Signal) (front rest : List ℕ) → ReadsFront IsRowHead text (Some ((head_of n levels, tag), fields)) → IsSignalText s front → text ≡ front ++ rest → Headed n levels tag fields.now rest s
 headed text n levels tag fields s front rest r i p =
     let h = shape s front i in
-    let k = r.again ((arity_of s, h.levels), tag_of s) h.front (h.fields ++ rest) h.is_front (split_pair text front h.front h.fields rest h.parts p) in
-    let same : levels ≡ h.levels = ap (λ (x : (ℕ × ℕ) × ℕ). x.0.1) k.0 in
+    let k = r.again (head_of (arity_of s) h.levels, tag_of s) h.front (h.fields ++ rest) h.is_front (split_pair text front h.front h.fields rest h.parts p) in
+    let same : levels ≡ h.levels = ap (λ (x : TupleHead × ℕ). x.0.levels) k.0 in
     record {
       part = h.fields;
-      arity = sym (ap (λ (x : (ℕ × ℕ) × ℕ). x.0.0) k.0);
-      tagged = sym (ap (λ (x : (ℕ × ℕ) × ℕ). x.1) k.0);
+      arity = sym (ap (λ (x : TupleHead × ℕ). x.0.arity) k.0);
+      tagged = sym (ap (λ (x : TupleHead × ℕ). x.1) k.0);
       are_fields = subst (λ (m : ℕ). AreFields m s h.fields) (sym same) h.are_fields;
       parts = k.1;
     }
 
-pub no_fields : (text : List ℕ) (n levels tag : ℕ) (fields : Bor (List ℕ)) → ReadsFront IsRowHead text (Some (((n, levels), tag), fields)) → ReadsFront (HasFields levels tag) fields.now None → ReadsFront IsText text None
+pub no_fields : (text : List ℕ) (n levels tag : ℕ) (fields : Bor (List ℕ)) → ReadsFront IsRowHead text (Some ((head_of n levels, tag), fields)) → ReadsFront (HasFields levels tag) fields.now None → ReadsFront IsText text None
 no_fields text n levels tag fields r f = record {
   takes = tt;
   again = λ y front rest i p. let h = headed text n levels tag fields (signal_in y) front rest r i p in f.again y h.part rest (h.tagged, h.are_fields) h.parts;
 }
 
-pub other_arity : (text : List ℕ) (n levels tag : ℕ) (fields : Bor (List ℕ)) (x : SignalRef × Bor (List ℕ)) → ReadsFront IsRowHead text (Some (((n, levels), tag), fields)) → ReadsFront (HasFields levels tag) fields.now (Some x) → (¬ (arity_of (signal_in x.0) ≡ n)) → ReadsFront IsText text None
+pub other_arity : (text : List ℕ) (n levels tag : ℕ) (fields : Bor (List ℕ)) (x : SignalRef × Bor (List ℕ)) → ReadsFront IsRowHead text (Some ((head_of n levels, tag), fields)) → ReadsFront (HasFields levels tag) fields.now (Some x) → (¬ (arity_of (signal_in x.0) ≡ n)) → ReadsFront IsText text None
 other_arity text n levels tag fields x r f never = record {
   takes = tt;
   again = λ y front rest i p.
@@ -64,7 +67,7 @@ other_arity text n levels tag fields x r f never = record {
       never (ap (λ (z : SignalRef). arity_of (signal_in z)) k.0 ∙ h.arity);
 }
 
-pub some_text : (text : List ℕ) (n levels tag : ℕ) (fields : Bor (List ℕ)) (x : SignalRef × Bor (List ℕ)) → ReadsFront IsRowHead text (Some (((n, levels), tag), fields)) → ReadsFront (HasFields levels tag) fields.now (Some x) → arity_of (signal_in x.0) ≡ n → ReadsFront IsText text (Some x)
+pub some_text : (text : List ℕ) (n levels tag : ℕ) (fields : Bor (List ℕ)) (x : SignalRef × Bor (List ℕ)) → ReadsFront IsRowHead text (Some ((head_of n levels, tag), fields)) → ReadsFront (HasFields levels tag) fields.now (Some x) → arity_of (signal_in x.0) ≡ n → ReadsFront IsText text (Some x)
 some_text text n levels tag fields x r f e = record {
   takes = record {
     text = r.takes.text ++ f.takes.text;
@@ -92,15 +95,15 @@ record Sending (n levels tag : ℕ) (fields rest : List ℕ) (x : Data × Pid) :
   are_fields : AreSend levels x part
   parts : fields ≡ part ++ rest
 
-sending : (text : List ℕ) (n levels tag : ℕ) (fields : Bor (List ℕ)) (x : Data × Pid) (front rest : List ℕ) → ReadsFront IsRowHead text (Some (((n, levels), tag), fields)) → IsSendText x front → text ≡ front ++ rest → Sending n levels tag fields.now rest x
+sending : (text : List ℕ) (n levels tag : ℕ) (fields : Bor (List ℕ)) (x : Data × Pid) (front rest : List ℕ) → ReadsFront IsRowHead text (Some ((head_of n levels, tag), fields)) → IsSendText x front → text ≡ front ++ rest → Sending n levels tag fields.now rest x
 sending text n levels tag fields x front rest r i p =
     let h = send_row x front i in
-    let k = r.again ((3, h.levels), 2) h.front (h.fields ++ rest) h.is_front (split_pair text front h.front h.fields rest h.parts p) in
-    let same : levels ≡ h.levels = ap (λ (z : (ℕ × ℕ) × ℕ). z.0.1) k.0 in
+    let k = r.again (head_of 3 h.levels, 2) h.front (h.fields ++ rest) h.is_front (split_pair text front h.front h.fields rest h.parts p) in
+    let same : levels ≡ h.levels = ap (λ (z : TupleHead × ℕ). z.0.levels) k.0 in
     record {
       part = h.fields;
-      arity = ap (λ (z : (ℕ × ℕ) × ℕ). z.0.0) k.0;
-      tagged = ap (λ (z : (ℕ × ℕ) × ℕ). z.1) k.0;
+      arity = ap (λ (z : TupleHead × ℕ). z.0.arity) k.0;
+      tagged = ap (λ (z : TupleHead × ℕ). z.1) k.0;
       are_fields = subst (λ (m : ℕ). AreSend m x h.fields) (sym same) (send_from h.levels x.0 x.1 h.fields h.are_fields);
       parts = k.1;
     }
@@ -110,16 +113,16 @@ no_send_head text r = record {
   takes = tt;
   again = λ x front rest i p.
       let h = send_row x front i in
-      r.again ((3, h.levels), 2) h.front (h.fields ++ rest) h.is_front (split_pair text front h.front h.fields rest h.parts p);
+      r.again (head_of 3 h.levels, 2) h.front (h.fields ++ rest) h.is_front (split_pair text front h.front h.fields rest h.parts p);
 }
 
-pub no_send : (text : List ℕ) (n levels tag : ℕ) (fields : Bor (List ℕ)) → ReadsFront IsRowHead text (Some (((n, levels), tag), fields)) → (n ≡ 3 → tag ≡ 2 → ⊥) → ReadsFront IsSendText text None
+pub no_send : (text : List ℕ) (n levels tag : ℕ) (fields : Bor (List ℕ)) → ReadsFront IsRowHead text (Some ((head_of n levels, tag), fields)) → (n ≡ 3 → tag ≡ 2 → ⊥) → ReadsFront IsSendText text None
 no_send text n levels tag fields r never = record {
   takes = tt;
   again = λ x front rest i p. let h = sending text n levels tag fields x front rest r i p in never h.arity h.tagged;
 }
 
-pub send_read : (text : List ℕ) (n levels tag : ℕ) (fields : Bor (List ℕ)) (o : Option ((Data × Pid) × Bor (List ℕ))) → n ≡ 3 → tag ≡ 2 → ReadsFront IsRowHead text (Some (((n, levels), tag), fields)) → ReadsFront (AreSend levels) fields.now o → ReadsFront IsSendText text o
+pub send_read : (text : List ℕ) (n levels tag : ℕ) (fields : Bor (List ℕ)) (o : Option ((Data × Pid) × Bor (List ℕ))) → n ≡ 3 → tag ≡ 2 → ReadsFront IsRowHead text (Some ((head_of n levels, tag), fields)) → ReadsFront (AreSend levels) fields.now o → ReadsFront IsSendText text o
 send_read text n levels tag fields None e t r f = record {
   takes = tt;
   again = λ x front rest i p. let h = sending text n levels tag fields x front rest r i p in f.again x h.part rest h.are_fields h.parts;

@@ -8,7 +8,8 @@ use Rattle.erl_control.specs.declared.signal.Signal.{Signal}
 use Rattle.erl_control.specs.declared.signal.Signal.TheVariants as signal
 use Rattle.erl_control.specs.declared.signal_ref.SignalRef.{SignalRef}
 use Rattle.erl_control.specs.declared.signal_ref.SignalRef.TheVariants.{Link, Send, Exit, Exit2, Monitor, Demonitor, MonitorExit, UnlinkId, UnlinkIdAck}
-use Rattle.erl_control.specs.Reading.{signal_in, ArePids, AreIdAndPids, ArePidsAndReason, ArePidsAndReference, AreMonitorExit, AreSendAndMessage, tag_of, HasFields}
+use Rattle.erl_control.specs.Parts.{signal_in}
+use Rattle.erl_control.specs.Reading.{ArePids, AreIdAndPids, ArePidsAndReason, ArePidsAndReference, AreMonitorExit, AreSendAndMessage, tag_of, HasFields}
 use Rattle.erl_control.proofs.Sequence.{mapped, read_as}
 
 -- each signal lies somewhere

@@ -7,6 +7,7 @@ use Rattle.std.proofs.lemmas.Int.{ints}
 use Rattle.std.specs.Int.{w64, FitsUnsigned}
 use Rattle.erl_term.specs.Data.{Data, int}
 use Rattle.erl_term.specs.Spelling.{Spells, IsSpelling}
+use Rattle.erl_term.specs.declared.parts.TupleHead.{TupleHead}
 use Rattle.erl_term.specs.Parts.{ReadsFront, IsTupleHead}
 use Rattle.erl_control.specs.Reading.{IsPair, IsOpening, IsNaturalText, IsRowHead, IsIdText}
 
@@ -49,7 +50,7 @@ front_is (x ∷ xs) b le e = let tail : take (length (x ∷ xs) - 1) xs ≡ xs =
 unversioned : (bytes text head rest more : List ℕ) → text ≡ 131 ∷ head → bytes ≡ text ++ more → bytes ≡ 131 ∷ rest → rest ≡ head ++ more
 unversioned bytes text head rest more t p e = let q : 131 ∷ rest ≡ 131 ∷ (head ++ more) = sym e ∙ p ∙ ap (λ (w : List ℕ). w ++ more) t in cc
 
-pub opening : (bytes rest : List ℕ) (o : Option ((ℕ × ℕ) × Bor (List ℕ))) → bytes ≡ 131 ∷ rest → ReadsFront (IsTupleHead 64) rest o → ReadsFront IsOpening bytes o
+pub opening : (bytes rest : List ℕ) (o : Option (TupleHead × Bor (List ℕ))) → bytes ≡ 131 ∷ rest → ReadsFront (IsTupleHead 64) rest o → ReadsFront IsOpening bytes o
 opening bytes rest None e r = record { takes = tt; again = λ n text more s p. r.again n s.head more s.is_head (unversioned bytes text s.head rest more s.bytes p e) }
 opening bytes rest (Some x) e r = record {
   takes = record { text = 131 ∷ r.takes.text; is_text = record { head = r.takes.text; is_head = r.takes.is_text; bytes = refl }; parts = e ∙ ap (λ (w : List ℕ). 131 ∷ w) r.takes.parts };
@@ -72,10 +73,10 @@ pub no_opening : (bytes : List ℕ) → ReadsFront IsOpening bytes None → Read
 no_opening bytes r = record { takes = tt; again = λ x text rest s p. r.again x.0 s.front (s.back ++ rest) s.is_front (split_pair bytes text s.front s.back rest s.parts p) }
 
 -- the levels of the first element are those of the opening
-natural_moved : (x y : ℕ × ℕ) (n : ℕ) (text : List ℕ) → x ≡ y → IsNaturalText y.1 n text → IsNaturalText x.1 n text
-natural_moved x y n text e s = subst (λ (z : ℕ × ℕ). IsNaturalText z.1 n text) (sym e) s
+natural_moved : (x y : TupleHead) (n : ℕ) (text : List ℕ) → x ≡ y → IsNaturalText y.levels n text → IsNaturalText x.levels n text
+natural_moved x y n text e s = subst (λ (z : TupleHead). IsNaturalText z.levels n text) (sym e) s
 
-pub no_first : (bytes : List ℕ) (a : (ℕ × ℕ) × Bor (List ℕ)) → ReadsFront IsOpening bytes (Some a) → ReadsFront (IsNaturalText a.0.1) a.1.now None → ReadsFront IsRowHead bytes None
+pub no_first : (bytes : List ℕ) (a : TupleHead × Bor (List ℕ)) → ReadsFront IsOpening bytes (Some a) → ReadsFront (IsNaturalText a.0.levels) a.1.now None → ReadsFront IsRowHead bytes None
 no_first bytes a r q = record {
   takes = tt;
   again = λ x text rest s p.
@@ -83,7 +84,7 @@ no_first bytes a r q = record {
       q.again x.1 s.back rest (natural_moved a.0 x.0 x.1 s.back k.0 s.is_back) k.1;
 }
 
-pub row_head : (bytes : List ℕ) (a : (ℕ × ℕ) × Bor (List ℕ)) (b : ℕ × Bor (List ℕ)) → ReadsFront IsOpening bytes (Some a) → ReadsFront (IsNaturalText a.0.1) a.1.now (Some b) → ReadsFront IsRowHead bytes (Some ((a.0, b.0), b.1))
+pub row_head : (bytes : List ℕ) (a : TupleHead × Bor (List ℕ)) (b : ℕ × Bor (List ℕ)) → ReadsFront IsOpening bytes (Some a) → ReadsFront (IsNaturalText a.0.levels) a.1.now (Some b) → ReadsFront IsRowHead bytes (Some ((a.0, b.0), b.1))
 row_head bytes a b r q = record {
   takes = record {
     text = r.takes.text ++ q.takes.text;

@@ -6,7 +6,7 @@ use Rattle.erl_term.specs.declared.term.Pid.{Pid}
 use Rattle.erl_term.specs.declared.term.Reference.{Reference}
 use Rattle.erl_term.specs.Data.{Data, int, tuple, pid, reference, Items, no_items, item, count}
 use Rattle.erl_term.specs.Spelling.{SpellAll, Spells, IsSpelling}
-use Rattle.erl_term.proofs.Behind.{tuple_opened, tuple_closed}
+use Rattle.erl_term.proofs.Behind.{head_of, tuple_opened, tuple_closed}
 use Rattle.erl_control.specs.declared.signal.Signal.{Signal}
 use Rattle.erl_control.specs.declared.signal.Signal.TheVariants.{Link, Send, Exit, Exit2, Monitor, Demonitor, MonitorExit, UnlinkId, UnlinkIdAck}
 use Rattle.erl_control.specs.Control.{control_term, message_of, IsUnlinkId, HasId}
@@ -222,7 +222,7 @@ pub record Row (tag : ℕ) (ts : Items) (b : List ℕ) : Type 0 where
   pub levels : ℕ
   pub front : List ℕ
   pub fields : List ℕ
-  pub is_front : IsRowHead ((suc (count ts), levels), tag) front
+  pub is_front : IsRowHead (head_of (suc (count ts)) levels, tag) front
   pub are_fields : SpellAll (Spells levels) ts fields
   pub parts : b ≡ front ++ fields
 
@@ -262,7 +262,7 @@ pub record Shape (s : Signal) (b : List ℕ) : Type 0 where
   pub levels : ℕ
   pub front : List ℕ
   pub fields : List ℕ
-  pub is_front : IsRowHead ((arity_of s, levels), tag_of s) front
+  pub is_front : IsRowHead (head_of (arity_of s) levels, tag_of s) front
   pub are_fields : AreFields levels s fields
   pub parts : b ≡ front ++ fields
 
@@ -273,7 +273,7 @@ shape s b i =
       levels = w.levels;
       front = w.front;
       fields = w.fields ++ i.message;
-      is_front = subst (λ (n : ℕ). IsRowHead ((n, w.levels), tag_of s) w.front) (row_arity i.unused s) w.is_front;
+      is_front = subst (λ (n : ℕ). IsRowHead (head_of n w.levels, tag_of s) w.front) (row_arity i.unused s) w.is_front;
       are_fields = fields_from w.levels i.unused s w.fields i.message i.has_id w.are_fields i.told;
       parts = i.bytes ∙ ap (λ (v : List ℕ). v ++ i.message) w.parts ∙ append_assoc w.front w.fields i.message;
     }
@@ -285,7 +285,7 @@ unshape s b h =
       levels = h.levels;
       front = h.front;
       fields = f.elements;
-      is_front = subst (λ (n : ℕ). IsRowHead ((n, h.levels), tag_of s) h.front) (sym (row_arity f.unused s)) h.is_front;
+      is_front = subst (λ (n : ℕ). IsRowHead (head_of n h.levels, tag_of s) h.front) (sym (row_arity f.unused s)) h.is_front;
       are_fields = f.spelled;
       parts = refl;
     } in

@@ -1,5 +1,6 @@
 -- The parts of a signal's text, as they are read one after the other.
 use Rattle.std.specs.Prelude.{◌≡◌, ◌≢◌, ℕ, ◌<◌, ◌^◌, pos, List, [], ◌∷◌, ◌++◌}
+use Rattle.erl_term.specs.declared.parts.TupleHead.{TupleHead}
 use Rattle.erl_term.specs.declared.term.Pid.{Pid}
 use Rattle.erl_term.specs.declared.term.Reference.{Reference}
 use Rattle.erl_term.specs.Data.{Data, int, pid, reference}
@@ -8,26 +9,14 @@ use Rattle.erl_term.specs.Parts.{IsTupleHead}
 use Rattle.erl_control.specs.declared.signal.Signal.{Signal}
 use Rattle.erl_control.specs.declared.signal.Signal.TheVariants as signal
 use Rattle.erl_control.specs.declared.signal_ref.SignalRef.{SignalRef}
-use Rattle.erl_control.specs.declared.signal_ref.SignalRef.TheVariants as lying
 use Rattle.erl_control.specs.declared.signal.Item.{Item}
 use Rattle.erl_control.specs.declared.signal.Item.TheVariants.{Tick, Signal as SignalItem}
 use Rattle.erl_control.specs.declared.error.FrameError.{FrameError}
 use Rattle.erl_control.specs.declared.error.FrameError.TheVariants.{NotPassThrough, BadControl, TooLong, Term, OutOfMemory}
 use Rattle.erl_control.specs.Control.{send_term, IsUnlinkId, Carries, IsFit}
+use Rattle.erl_control.specs.Parts.{signal_in}
 use Rattle.erl_control.specs.Frame.{IsSignalText}
 use Rattle.erl_control.specs.Answer.{IsTermFault, IsBadControl, IsUnfit}
-
--- the signal whose parts lie in the bytes
-abbrev pub signal_in : SignalRef → Signal
-signal_in (lying.Link from to) = signal.Link from to
-signal_in (lying.Send to message) = signal.Send to message
-signal_in (lying.Exit from to reason) = signal.Exit from to reason
-signal_in (lying.Exit2 from to reason) = signal.Exit2 from to reason
-signal_in (lying.Monitor from to r) = signal.Monitor from to r
-signal_in (lying.Demonitor from to r) = signal.Demonitor from to r
-signal_in (lying.MonitorExit from to r reason) = signal.MonitorExit from to r reason
-signal_in (lying.UnlinkId id from to) = signal.UnlinkId id from to
-signal_in (lying.UnlinkIdAck id from to) = signal.UnlinkIdAck id from to
 
 -- a text of S, and then one of T
 pub record IsPair {A B : Type 0} (S : A → List ℕ → Type 0) (T : B → List ℕ → Type 0) (x : A × B) (text : List ℕ) : Type 0 where
@@ -37,8 +26,8 @@ pub record IsPair {A B : Type 0} (S : A → List ℕ → Type 0) (T : B → List
   pub is_back : T x.1 back
   pub parts : text ≡ front ++ back
 
--- the version byte, and the head of a tuple: how many elements it has, and how many levels each may have
-pub record IsOpening (x : ℕ × ℕ) (text : List ℕ) : Type 0 where
+-- the version byte, and the head of a tuple
+pub record IsOpening (x : TupleHead) (text : List ℕ) : Type 0 where
   pub head : List ℕ
   pub is_head : IsTupleHead 64 x head
   pub bytes : text ≡ 131 ∷ head
@@ -48,11 +37,11 @@ abbrev pub IsNaturalText : ℕ → ℕ → List ℕ → Type 0
 IsNaturalText levels n text = (n < 2 ^ 64) × Spells levels (int (pos n)) text
 
 -- the opening of a row, and its first element
-pub record IsRowHead (x : (ℕ × ℕ) × ℕ) (text : List ℕ) : Type 0 where
+pub record IsRowHead (x : TupleHead × ℕ) (text : List ℕ) : Type 0 where
   pub front : List ℕ
   pub back : List ℕ
   pub is_front : IsOpening x.0 front
-  pub is_back : IsNaturalText x.0.1 x.1 back
+  pub is_back : IsNaturalText x.0.levels x.1 back
   pub parts : text ≡ front ++ back
 
 -- ---- fields, each of so many levels at most

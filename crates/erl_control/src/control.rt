@@ -1,20 +1,17 @@
-//! The text of a signal, read row by row where it lies. No memory is asked for before the whole text
-//! stands there.
-ghost use Rattle.std.specs.Prelude.{◌≡◌, ◌≢◌, List, ℕ, IfOk, IfErr, IsErrOf};
+//! The text of a signal, read row by row where it lies. It takes no memory.
+ghost use Rattle.std.specs.Prelude.{IfOk, IfErr};
 ghost use Rattle.erl_term.specs.Parts.{ReadsFront};
-ghost use Rattle.erl_control.specs.declared.signal.Signal.{Signal};
-ghost use Rattle.erl_control.specs.declared.error.FrameError.{FrameError};
+ghost use Rattle.erl_control.specs.Numbers.{error_of};
+ghost use Rattle.erl_control.specs.Parts.{signal_in};
 ghost use Rattle.erl_control.specs.Reading.{IsRowHead, HasFields, IsSendText, IsText, HasNoText, IsTextFault, IsFitText};
 
-use crate::error::FrameError;
+use crate::error::FrameFault;
 use crate::fields::{
     id_and_pids_at, pids_and_reason_at, pids_and_reference_at, pids_at,
     pids_reference_and_reason_at, row_head_at, send_and_message_at, send_at,
 };
-use crate::signal::Signal;
 use crate::signal_ref::SignalRef;
 use erl_term::{PidRef, TermRef, term_len};
-use std::alloc::Global;
 
 fn link_at(levels: u32, fields: &[u8]) -> Option<(SignalRef<'_>, &[u8])>
     ensures { ReadsFront (HasFields levels 1) fields.now result }
@@ -117,9 +114,9 @@ fn fields_at(tag: u64, levels: u32, fields: &[u8]) -> Option<(SignalRef<'_>, &[u
 fn text_at(text: &[u8]) -> Option<(SignalRef<'_>, &[u8])>
     ensures { ReadsFront IsText text.now result }
 {
-    let (((arity, levels), tag), fields) = row_head_at(text)?;
-    let (signal, rest) = fields_at(tag, levels, fields)?;
-    if signal.arity() != arity {
+    let ((head, tag), fields) = row_head_at(text)?;
+    let (signal, rest) = fields_at(tag, head.levels, fields)?;
+    if signal.arity() != head.arity {
         return None;
     }
     Some((signal, rest))
@@ -129,44 +126,43 @@ fn text_at(text: &[u8]) -> Option<(SignalRef<'_>, &[u8])>
 fn send_term_at(text: &[u8]) -> Option<((TermRef<'_>, PidRef<'_>), &[u8])>
     ensures { ReadsFront IsSendText text.now result }
 {
-    let (((arity, levels), tag), fields) = row_head_at(text)?;
-    if arity != 3 || tag != 2 {
+    let ((head, tag), fields) = row_head_at(text)?;
+    if head.arity != 3 || tag != 2 {
         return None;
     }
-    send_at(levels, fields)
+    send_at(head.levels, fields)
 }
 
 /// What is wrong with a text at whose front no signal's text stands.
-fn fault_of(text: &[u8]) -> FrameError
+fn fault_of(text: &[u8]) -> FrameFault
     requires { HasNoText text.now }
-    ensures { IsTextFault text.now result }
+    ensures { IsTextFault text.now (error_of result) }
 {
     if let Err(e) = term_len(text) {
-        return FrameError::Term(e);
+        return FrameFault::Term(e);
     }
     let Some((_, message)) = send_term_at(text) else {
-        return FrameError::BadControl;
+        return FrameFault::BadControl;
     };
     match term_len(message) {
-        Err(e) => FrameError::Term(e),
-        Ok(_) => FrameError::BadControl,
+        Err(e) => FrameFault::Term(e),
+        Ok(_) => FrameFault::BadControl,
     }
 }
 
 /// The signal of which the bytes are the whole text, or what is wrong with them.
-pub fn signal_of(alloc: Global, text: &[u8]) -> Result<Signal, FrameError>
-    ensures ok { IfOk result (λ signal. IsFitText signal text.now) }
-    ensures err { IfErr result (λ e. e ≢ FrameError.OutOfMemory → IsTextFault text.now e) }
-    ensures memory { IsErrOf result FrameError.OutOfMemory → (signal : Signal) × IsFitText signal text.now }
+pub fn signal_at(text: &[u8]) -> Result<SignalRef<'_>, FrameFault>
+    ensures ok { IfOk result (λ signal. IsFitText (signal_in signal) text.now) }
+    ensures err { IfErr result (λ e. IsTextFault text.now (error_of e)) }
 {
     let Some((signal, rest)) = text_at(text) else {
         return Err(fault_of(text));
     };
     if !rest.is_empty() {
-        return Err(FrameError::BadControl);
+        return Err(FrameFault::BadControl);
     }
     if !signal.is_fit() {
-        return Err(FrameError::TooLong);
+        return Err(FrameFault::TooLong);
     }
-    Ok(signal.to_signal(alloc)?)
+    Ok(signal)
 }

@@ -5,11 +5,12 @@ ghost use Rattle.erl_term.specs.Spelling.{IsSpelling};
 ghost use Rattle.erl_control.specs.Reading.{IsOpening, IsNaturalText, IsRowHead, IsIdText, ArePids, AreIdAndPids, ArePidsAndReason, ArePidsAndReference, AreMonitorExit, AreSend, AreSendAndMessage};
 
 use erl_term::{
-    PidRef, ReferenceRef, TermRef, integer_at, pid_at, reference_at, term_at, tuple_head_at,
+    PidRef, ReferenceRef, TermRef, TupleHead, integer_at, pid_at, reference_at, term_at,
+    tuple_head_at,
 };
 
-/// How many elements the tuple behind the version byte has, and how many levels each may have.
-fn opening_at(bytes: &[u8]) -> Option<((u32, u32), &[u8])>
+/// The head of the tuple behind the version byte.
+fn opening_at(bytes: &[u8]) -> Option<(TupleHead, &[u8])>
     ensures { ReadsFront IsOpening bytes.now result }
 {
     match bytes {
@@ -39,13 +40,13 @@ fn natural_at(levels: u32, bytes: &[u8]) -> Option<(u64, &[u8])>
     }
 }
 
-/// The opening of the control term, its first element, and the bytes of the others.
-pub fn row_head_at(bytes: &[u8]) -> Option<(((u32, u32), u64), &[u8])>
+/// The head of the control term, its first element, and the bytes of the others.
+pub fn row_head_at(bytes: &[u8]) -> Option<((TupleHead, u64), &[u8])>
     ensures { ReadsFront IsRowHead bytes.now result }
 {
-    let ((arity, levels), elements) = opening_at(bytes)?;
-    let (tag, fields) = natural_at(levels, elements)?;
-    Some((((arity, levels), tag), fields))
+    let (head, elements) = opening_at(bytes)?;
+    let (tag, fields) = natural_at(head.levels, elements)?;
+    Some(((head, tag), fields))
 }
 
 fn id_at(levels: u32, bytes: &[u8]) -> Option<(u64, &[u8])>

@@ -7,20 +7,20 @@ ghost use Rattle.erl_control.specs.Control as control;
 use erl_term::{Payload, Term, size_within};
 
 /// The most levels of a message or a reason.
-pub const MOST_LEVELS: u32 = 60;
+pub const MOST_PAYLOAD_LEVELS: u32 = 60;
 
 /// The most bytes of the canonical spelling of a message or a reason, its version byte included.
-pub const MOST_BYTES: usize = 60_000;
+pub const MOST_PAYLOAD_BYTES: usize = 60_000;
 
 /// Whether a signal can carry the term as its message or its reason: a value of the profile whose
-/// canonical spelling has at most [`MOST_LEVELS`] levels and [`MOST_BYTES`] bytes. It takes no
+/// canonical spelling has at most [`MOST_PAYLOAD_LEVELS`] levels and [`MOST_PAYLOAD_BYTES`] bytes. It takes no
 /// memory.
 ///
 /// (ERTS User's Guide, External Term Format.)
 pub fn fits(term: &Term) -> bool
     ensures { IsTrue result ↔ control.Fits (view term.now) }
 {
-    size_within(term, MOST_LEVELS, MOST_BYTES).is_some()
+    size_within(term, MOST_PAYLOAD_LEVELS, MOST_PAYLOAD_BYTES).is_some()
 }
 
 /// How many bytes the payload is written in, without a version byte, where it fits.
@@ -30,6 +30,6 @@ pub fn payload_len(payload: &Payload) -> Option<usize>
     ensures len { IfSome result (λ n. n ≡ length (canonical_term payload.now)) }
     ensures bound { IfSome result (λ n. n < 60000) }
 {
-    let len = size_within(payload.term(), MOST_LEVELS, MOST_BYTES)?;
+    let len = size_within(payload.term(), MOST_PAYLOAD_LEVELS, MOST_PAYLOAD_BYTES)?;
     Some(len - 1)
 }

@@ -1,66 +1,127 @@
 //! Signals where they lie in the bytes that were read.
-ghost use Rattle.std.specs.Prelude.{◌≡◌, ◌↔◌, IfOk, IsTrue};
+ghost use Rattle.std.specs.Prelude.{◌≡◌, ◌↔◌, IfOk, OnErr, IsTrue};
+ghost use Rattle.erl_control.specs.declared.signal.Signal.{Signal as TheSignal};
+ghost use Rattle.erl_control.specs.declared.signal.Item.{Item};
 ghost use Rattle.erl_control.specs.declared.signal.Signal.TheVariants as variant;
 ghost use Rattle.erl_control.specs.Control.{Carries, IsFit};
-ghost use Rattle.erl_control.specs.Reading.{arity_of, signal_in};
+ghost use Rattle.erl_control.specs.Parts.{signal_in, item_in};
+ghost use Rattle.erl_control.specs.Reading.{arity_of};
 
-use crate::fit::{MOST_BYTES, MOST_LEVELS};
-use crate::signal::Signal;
+use crate::fit::{MOST_PAYLOAD_BYTES, MOST_PAYLOAD_LEVELS};
+use crate::signal::{Item, Signal};
 use erl_term::{Payload, Pid, PidRef, ReferenceRef, TermRef};
 use std::alloc::{AllocError, Global};
 
-/// A signal whose parts still lie in the bytes that were read.
+/// A signal whose parts still lie in the bytes that were read. (ERTS User's Guide, Distribution
+/// Protocol, Protocol between Connected Nodes and New Link Protocol.)
 #[derive(Debug, Drop)]
 pub enum SignalRef<'a> {
+    /// LINK.
     Link {
+        /// The process that links.
         from: PidRef<'a>,
+        /// Its partner.
         to: PidRef<'a>,
     },
+    /// SEND.
     Send {
+        /// The process that gets the message.
         to: PidRef<'a>,
+        /// What is sent.
         message: TermRef<'a>,
     },
+    /// EXIT.
     Exit {
+        /// The process that has ended.
         from: PidRef<'a>,
+        /// Its partner.
         to: PidRef<'a>,
+        /// Why it ended.
         reason: TermRef<'a>,
     },
+    /// EXIT2.
     Exit2 {
+        /// The process that asks.
         from: PidRef<'a>,
+        /// The process that is to end.
         to: PidRef<'a>,
+        /// The reason that it is given.
         reason: TermRef<'a>,
     },
+    /// MONITOR_P.
     Monitor {
+        /// The process that monitors, which owns the reference.
         from: PidRef<'a>,
+        /// The process that is monitored.
         to: PidRef<'a>,
+        /// Tells this monitor from others.
         reference: ReferenceRef<'a>,
     },
+    /// DEMONITOR_P.
     Demonitor {
+        /// The process that monitored, which owns the reference.
         from: PidRef<'a>,
+        /// The process that was monitored.
         to: PidRef<'a>,
+        /// The reference of the MONITOR_P that is taken back.
         reference: ReferenceRef<'a>,
     },
+    /// MONITOR_P_EXIT.
     MonitorExit {
+        /// The process that was monitored.
         from: PidRef<'a>,
+        /// The process that monitored it, which owns the reference.
         to: PidRef<'a>,
+        /// The reference of the MONITOR_P.
         reference: ReferenceRef<'a>,
+        /// Why it ended.
         reason: TermRef<'a>,
     },
+    /// UNLINK_ID.
     UnlinkId {
+        /// Tells this removal from others of `from`: 1 to 2^64 - 1.
         id: u64,
+        /// The process that unlinks.
         from: PidRef<'a>,
+        /// Its partner.
         to: PidRef<'a>,
     },
+    /// UNLINK_ID_ACK.
     UnlinkIdAck {
+        /// The id of the UNLINK_ID that is answered: 1 to 2^64 - 1.
         id: u64,
+        /// The process that got UNLINK_ID.
         from: PidRef<'a>,
+        /// The process that sent it.
         to: PidRef<'a>,
     },
 }
 
+/// What a frame carries, where it lies in the bytes that were read.
+#[derive(Debug, Drop)]
+pub enum ItemRef<'a> {
+    /// Nothing: the peer is there.
+    Tick,
+    /// A signal.
+    Signal(SignalRef<'a>),
+}
+
+impl<'a> ItemRef<'a> {
+    /// The item, with memory of its own. Fails for want of memory alone, and a tick takes none.
+    pub fn to_item(&self, alloc: Global) -> Result<Item, AllocError>
+        ensures ok { IfOk result (λ item. item ≡ item_in self.now) }
+        ensures memory { OnErr result ((signal : TheSignal) × (item_in self.now ≡ Item.Signal signal)) }
+    {
+        match self {
+            ItemRef::Tick => Ok(Item::Tick),
+            ItemRef::Signal(signal) => Ok(Item::Signal(signal.to_signal(alloc)?)),
+        }
+    }
+}
+
 impl<'a> SignalRef<'a> {
     /// How many elements the control term has.
-    pub fn arity(&self) -> u32
+    pub(crate) fn arity(&self) -> u32
         ensures { result ≡ arity_of (signal_in self.now) }
     {
         match self {
@@ -76,14 +137,20 @@ impl<'a> SignalRef<'a> {
     }
 
     /// Whether the message or the reason fits. It takes no memory.
-    pub fn is_fit(&self) -> bool
+    pub(crate) fn is_fit(&self) -> bool
         ensures { IsTrue result ↔ Carries IsFit (signal_in self.now) }
     {
         match self {
-            SignalRef::Send { message, .. } => message.is_within(MOST_LEVELS, MOST_BYTES),
+            SignalRef::Send { message, .. } => message.is_within(
+                MOST_PAYLOAD_LEVELS,
+                MOST_PAYLOAD_BYTES,
+            ),
             SignalRef::Exit { reason, .. }
             | SignalRef::Exit2 { reason, .. }
-            | SignalRef::MonitorExit { reason, .. } => reason.is_within(MOST_LEVELS, MOST_BYTES),
+            | SignalRef::MonitorExit { reason, .. } => reason.is_within(
+                MOST_PAYLOAD_LEVELS,
+                MOST_PAYLOAD_BYTES,
+            ),
             SignalRef::Link { .. }
             | SignalRef::Monitor { .. }
             | SignalRef::Demonitor { .. }
@@ -92,7 +159,7 @@ impl<'a> SignalRef<'a> {
         }
     }
 
-    /// The signal, with memory of its own.
+    /// The signal, with memory of its own. Fails for want of memory alone.
     pub fn to_signal(&self, alloc: Global) -> Result<Signal, AllocError>
         ensures { IfOk result (λ s. s ≡ signal_in self.now) }
     {

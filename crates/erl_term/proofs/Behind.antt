@@ -9,6 +9,7 @@ use Rattle.erl_term.specs.declared.term.Reference.{Reference}
 use Rattle.erl_term.specs.Data.{Data, int, atom, tuple, list, improper, binary, pid, reference, Items, no_items, item, count, joined}
 use Rattle.erl_term.specs.Canonical.{is_list}
 use Rattle.erl_term.specs.Spelling.{IsNumber, SpellAll, SpellsBy, Spells, IsPid, IsReference}
+use Rattle.erl_term.specs.declared.parts.TupleHead.{TupleHead}
 use Rattle.erl_term.specs.Parts.{lists, Behind, PassesOver, IsHead, IsTupleHead, IsIntegerText, Takes, ReadsFront}
 use Rattle.erl_term.proofs.Readers.{AreBytes-nil}
 
@@ -178,7 +179,7 @@ pid_stands p below text rest s = other_tag 88 (s.node ++ (s.id ++ (s.serial ++ s
 reference_stands : (r : Reference) (below : ℕ) (text rest : List ℕ) → IsReference r text → Stands (text ++ rest)
 reference_stands r below text rest s = other_tag 90 (s.len ++ (s.node ++ (s.creation ++ s.words))) text rest refl s.bytes
 
-head_stands : (x : ℕ × ℕ) (below : ℕ) (text rest : List ℕ) → (x.1 ≡ below) × IsHead x.0 text → Stands (text ++ rest)
+head_stands : (x : TupleHead) (below : ℕ) (text rest : List ℕ) → (x.levels ≡ below) × IsHead x.arity text → Stands (text ++ rest)
 head_stands x below text rest (s, inl h) = other_tag 104 h.arity text rest refl h.bytes
 head_stands x below text rest (s, inr h) = other_tag 105 h.arity text rest refl h.bytes
 
@@ -217,20 +218,27 @@ no_reference levels bytes rest e =
 
 -- ---- the head of a tuple
 
-abbrev AtHead : ℕ × ℕ → ℕ → List ℕ → Type 0
-AtHead x below b = (x.1 ≡ below) × IsHead x.0 b
+abbrev AtHead : TupleHead → ℕ → List ℕ → Type 0
+AtHead x below b = (x.levels ≡ below) × IsHead x.arity b
 
-headed : (below : ℕ) (inner : List ℕ) (n : ℕ) (rest : Bor (List ℕ)) → ReadsFront IsHead inner (Some (n, rest)) → ReadsFront (λ x b. AtHead x below b) inner (Some ((n, below), rest))
+-- a head of so many elements, each of so many levels
+abbrev pub head_of : ℕ → ℕ → TupleHead
+head_of arity levels = record { arity = arity; levels = levels }
+
+same_head : (x : TupleHead) (arity levels : ℕ) → arity ≡ x.arity → levels ≡ x.levels → head_of arity levels ≡ x
+same_head x arity levels e f = ap (λ (n : ℕ). head_of n levels) e ∙ ap (head_of x.arity) f
+
+headed : (below : ℕ) (inner : List ℕ) (n : ℕ) (rest : Bor (List ℕ)) → ReadsFront IsHead inner (Some (n, rest)) → ReadsFront (λ x b. AtHead x below b) inner (Some (head_of n below, rest))
 headed below inner n rest r = record {
   takes = record { text = r.takes.text; is_text = (refl, r.takes.is_text); parts = r.takes.parts };
-  again = λ x text more s p. let k = r.again x.0 text more s.1 p in (rw (k.0, sym s.0) refl, k.1);
+  again = λ x text more s p. let k = r.again x.arity text more s.1 p in (same_head x n below k.0 (sym s.0), k.1);
 }
 
 unheaded : (below : ℕ) (inner : List ℕ) → ReadsFront IsHead inner None → ReadsFront (λ x b. AtHead x below b) inner None
-unheaded below inner r = record { takes = tt; again = λ x text more s p. r.again x.0 text more s.1 p }
+unheaded below inner r = record { takes = tt; again = λ x text more s p. r.again x.arity text more s.1 p }
 
-pub head_behind : (levels below : ℕ) (bytes inner : List ℕ) (n : ℕ) (rest : Bor (List ℕ)) → Passed levels bytes below inner → ReadsFront IsHead inner (Some (n, rest)) → ReadsFront (IsTupleHead levels) bytes (Some ((n, below), rest))
-head_behind levels below bytes inner n rest p r = reads_behind AtHead head_stands levels below p.0 bytes inner (Some ((n, below), rest)) p.1 p.2 p.3 (headed below inner n rest r)
+pub head_behind : (levels below : ℕ) (bytes inner : List ℕ) (n : ℕ) (rest : Bor (List ℕ)) → Passed levels bytes below inner → ReadsFront IsHead inner (Some (n, rest)) → ReadsFront (IsTupleHead levels) bytes (Some (head_of n below, rest))
+head_behind levels below bytes inner n rest p r = reads_behind AtHead head_stands levels below p.0 bytes inner (Some (head_of n below, rest)) p.1 p.2 p.3 (headed below inner n rest r)
 
 pub head_missing : (levels below : ℕ) (bytes inner : List ℕ) → Passed levels bytes below inner → ReadsFront IsHead inner None → ReadsFront (IsTupleHead levels) bytes None
 head_missing levels below bytes inner p r = reads_behind AtHead head_stands levels below p.0 bytes inner None p.1 p.2 p.3 (unheaded below inner r)
@@ -243,7 +251,7 @@ pub record TupleParts (levels : ℕ) (ts : Items) (b : List ℕ) : Type 0 where
   pub below : ℕ
   pub head : List ℕ
   pub elements : List ℕ
-  pub is_head : IsTupleHead levels (count ts, below) head
+  pub is_head : IsTupleHead levels (head_of (count ts) below) head
   pub spelled : SpellAll (Spells below) ts elements
   pub parts : b ≡ head ++ elements
 

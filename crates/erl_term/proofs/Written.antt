@@ -1,6 +1,6 @@
 -- What stands behind what was there, after several writes.
 use Rattle.std.proofs.Common.{append_assoc, get_or, take, ◌≡◌, ℕ, zero, suc, ◌+◌, ◌<◌, List, [], ◌∷◌, ◌++◌, length, sym, ap, ◌∙◌, arith}
-use Rattle.std.specs.Prelude.{true, Option, Some, None, IfSome, is_some, Result, Ok, Err, OnOk, is_ok, if◌then◌else◌}
+use Rattle.std.specs.Prelude.{true, Option, Some, None, IfSome, is_some}
 use Rattle.std.specs.Option.{unwrap_or}
 use Rattle.std.proofs.lemmas.Bool.{false≢true}
 use Rattle.erl_term.specs.declared.term.Term.{Term}
@@ -8,24 +8,11 @@ use Rattle.erl_term.specs.Data.{Data}
 use Rattle.erl_term.specs.View.{view, items_view}
 use Rattle.erl_term.specs.Canonical.{is_byte, byte_of, bytes_of}
 
-pub put_two : {R E : Type 0} (r : Result R E) (new old mid head body whole : List ℕ) → mid ≡ old ++ head → whole ≡ head ++ body → OnOk r (new ≡ mid ++ body) → OnOk r (new ≡ old ++ whole)
-put_two (Ok x) new old mid head body whole m w p = p ∙ ap (λ (l : List ℕ). l ++ body) m ∙ append_assoc old head body ∙ ap (λ (l : List ℕ). old ++ l) (sym w)
-put_two (Err e) new old mid head body whole m w p = tt
+pub two : (old mid new head body whole : List ℕ) → mid ≡ old ++ head → whole ≡ head ++ body → new ≡ mid ++ body → new ≡ old ++ whole
+two old mid new head body whole m w p = p ∙ ap (λ (l : List ℕ). l ++ body) m ∙ append_assoc old head body ∙ ap (λ (l : List ℕ). old ++ l) (sym w)
 
-pub three : (old one two new a b d : List ℕ) → one ≡ old ++ a → two ≡ one ++ b → new ≡ two ++ d → new ≡ old ++ (a ++ (b ++ d))
-three old one two new a b d p q r = rw (r, q, p) (simp append_assoc)
-
-pub put_three : {R E : Type 0} (r : Result R E) (old one two new a b d : List ℕ) → one ≡ old ++ a → two ≡ one ++ b → OnOk r (new ≡ two ++ d) → OnOk r (new ≡ old ++ (a ++ (b ++ d)))
-put_three (Ok x) old one two new a b d p q s = three old one two new a b d p q s
-put_three (Err e) old one two new a b d p q s = tt
-
--- what was written, where it is known that there was room
-pub appended : {U E : Type 0} (r : Result U E) (u : U) (new old more : List ℕ) → new ≡ (if is_ok r then old ++ more else old) → r ≡ Ok u → new ≡ old ++ more
-appended (Ok v) u new old more e k = e
-appended (Err v) u new old more e k = absurd cc
-
-pub five : (o a b c d e y z w v : List ℕ) (x : ℕ) → a ≡ o ++ x ∷ [] → b ≡ a ++ y → c ≡ b ++ z → d ≡ c ++ w → e ≡ d ++ v → e ≡ o ++ x ∷ (y ++ (z ++ (w ++ v)))
-five o a b c d e y z w v x p q r s t = rw (t, s, r, q, p) (simp append_assoc)
+pub behind_cells : (old mid new head body tail : List ℕ) → mid ≡ (old ++ head) ++ body → new ≡ mid ++ tail → new ≡ old ++ (head ++ (body ++ tail))
+behind_cells old mid new head body tail p q = rw (q, p) (simp append_assoc)
 
 -- ---- the bytes of a STRING
 

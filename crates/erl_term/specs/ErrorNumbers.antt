@@ -1,4 +1,4 @@
--- The number of each error, and the number and the name of each refusal, as scripts print them.
+-- The number and the name of each error and of each refusal, as scripts print them.
 use Rattle.std.specs.Prelude.{ℕ, List, codes}
 use Rattle.erl_term.specs.declared.error.TermError.{TermError}
 use Rattle.erl_term.specs.declared.error.TermError.TheVariants as error
@@ -13,6 +13,14 @@ error_number (error.OutOfProfile tag) = 3
 error_number error.TooDeep = 4
 error_number error.TooLong = 5
 error_number error.OutOfMemory = 12
+
+abbrev pub error_name : TermError → List ℕ
+error_name error.Cut = codes "Cut"
+error_name error.Malformed = codes "Malformed"
+error_name (error.OutOfProfile tag) = codes "OutOfProfile"
+error_name error.TooDeep = codes "TooDeep"
+error_name error.TooLong = codes "TooLong"
+error_name error.OutOfMemory = codes "OutOfMemory"
 
 -- why a call was refused
 abbrev pub refusal_number : Refusal → ℕ

@@ -3,6 +3,7 @@ use Rattle.std.specs.Prelude.{◌≡◌, ℕ, ℤ, zero, suc, ◌+◌, ◌⊎◌
 use Rattle.std.specs.Borrow.{Bor}
 pub use Rattle.readers.specs.Laws.{Takes}
 use Rattle.erl_term.specs.declared.error.TermError.TheVariants.{Malformed}
+use Rattle.erl_term.specs.declared.parts.TupleHead.{TupleHead}
 use Rattle.erl_term.specs.declared.term.Pid.{Pid}
 use Rattle.erl_term.specs.declared.term.Reference.{Reference}
 use Rattle.erl_term.specs.Data.{Data}
@@ -38,9 +39,9 @@ pub record IsHeadBy (tag width n : ℕ) (b : List ℕ) : Type 0 where
 abbrev pub IsHead : ℕ → List ℕ → Type 0
 IsHead n b = IsHeadBy 104 1 n b ⊎ IsHeadBy 105 4 n b
 
--- the same of a tuple of so many levels: how many elements it has, and how many levels each may have
-abbrev pub IsTupleHead : ℕ → ℕ × ℕ → List ℕ → Type 0
-IsTupleHead levels x b = Behind (λ below head. (x.1 ≡ below) × IsHead x.0 head) levels b
+-- the same of a tuple of so many levels, with the levels that are left for each element
+abbrev pub IsTupleHead : ℕ → TupleHead → List ℕ → Type 0
+IsTupleHead levels head b = Behind (λ below text. (head.levels ≡ below) × IsHead head.arity text) levels b
 
 -- an integer, by any of its own rows
 abbrev pub IsIntegerText : ℤ → List ℕ → Type 0

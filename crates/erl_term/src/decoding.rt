@@ -15,7 +15,7 @@ use crate::term::Term;
 use std::alloc::Global;
 
 /// The most bytes of a term, its version byte included.
-pub const LIMIT: usize = 1_048_576;
+pub const TERM_LIMIT: usize = 1_048_576;
 
 /// The same as `decode`, but that it may run out of memory before it comes to a fault.
 #[tactic(auto, unfolding(crate::specs::Limited::answer_at))]
@@ -25,13 +25,13 @@ fn answer_of(alloc: Global, bytes: &[u8]) -> Result<(Term, usize), TermError>
     match spelling_of(alloc, bytes) {
         Ok((term, rest)) => {
             let taken = bytes.len() - rest.len();
-            if taken > LIMIT {
+            if taken > TERM_LIMIT {
                 return Err(TermError::TooLong);
             }
             Ok((term, taken))
         }
         Err(TermError::Cut) => {
-            if bytes.len() > LIMIT {
+            if bytes.len() > TERM_LIMIT {
                 return Err(TermError::TooLong);
             }
             Err(TermError::Cut)
@@ -48,13 +48,13 @@ fn scanned(bytes: &[u8]) -> Result<usize, TermError>
     match skip_spelling(bytes) {
         Ok(rest) => {
             let taken = bytes.len() - rest.len();
-            if taken > LIMIT {
+            if taken > TERM_LIMIT {
                 return Err(TermError::TooLong);
             }
             Ok(taken)
         }
         Err(TermError::Cut) => {
-            if bytes.len() > LIMIT {
+            if bytes.len() > TERM_LIMIT {
                 return Err(TermError::TooLong);
             }
             Err(TermError::Cut)
@@ -67,7 +67,7 @@ fn scanned(bytes: &[u8]) -> Result<usize, TermError>
 ///
 /// Each spelling of a term is read. `Malformed`, `OutOfProfile` and `TooDeep` say what the first
 /// fault from the left is. Where there is none, `Cut` says that the bytes end within a term, and
-/// `TooLong` that the term has more than [`LIMIT`] bytes, or that they end within it and are more
+/// `TooLong` that the term has more than [`TERM_LIMIT`] bytes, or that they end within it and are more
 /// than those. `OutOfMemory` comes only where there is a term.
 /// (ERTS User's Guide, External Term Format.)
 pub fn decode(alloc: Global, bytes: &[u8]) -> Result<(Term, usize), TermError>

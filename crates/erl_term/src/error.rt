@@ -2,7 +2,7 @@
 
 ghost use Rattle.std.specs.Prelude.{◌≡◌, ◌↔◌, IsTrue};
 ghost use Rattle.erl_term.specs.declared.error.TermError.TheVariants.{OutOfMemory};
-ghost use Rattle.erl_term.specs.ErrorNumbers.{error_number};
+ghost use Rattle.erl_term.specs.ErrorNumbers.{error_number, error_name};
 
 use std::alloc::{AllocError, AllocFailed};
 use thiserror::Error;
@@ -10,29 +10,25 @@ use thiserror::Error;
 /// Why a term can't be read or written.
 ///
 /// Of bytes the first fault from the left decides, and each kind of fault has its variant. The text
-/// of an error is its number and its name, as a script prints them. (ERTS User's Guide, External
-/// Term Format.)
+/// of an error is its number and its name, and of [`OutOfProfile`](TermError::OutOfProfile) the tag
+/// in parentheses behind them. (ERTS User's Guide, External Term Format.)
 #[derive(Clone, Copy, Debug, PartialEq, Eq, Error)]
+#[error("{number} {name}", number = self.number(), name = self.name())]
 pub enum TermError {
     /// The bytes end inside a term, and more bytes can make it whole.
-    #[error("1 Cut")]
     Cut,
     /// A byte with which no term of the profile goes on; of a term to be written, a value that is
     /// none of the profile.
-    #[error("2 Malformed")]
     Malformed,
     /// A term of the External Term Format that isn't of the profile: its tag, of which 110 is an
     /// integer outside of -2^127 to 2^127 - 1.
-    #[error("3 OutOfProfile({0})")]
+    #[error("{number} {name}({0})", number = self.number(), name = self.name())]
     OutOfProfile(u8),
     /// More than 64 levels of terms, one in another.
-    #[error("4 TooDeep")]
     TooDeep,
     /// More than 1,048,576 bytes.
-    #[error("5 TooLong")]
     TooLong,
     /// Memory is wanting.
-    #[error("12 OutOfMemory")]
     OutOfMemory,
 }
 
@@ -48,6 +44,20 @@ impl TermError {
             TermError::TooDeep => 4,
             TermError::TooLong => 5,
             TermError::OutOfMemory => 12,
+        }
+    }
+
+    /// The name of the error, which follows the number in its text.
+    pub fn name(self) -> &'static str
+        ensures { result.now ≡ error_name self }
+    {
+        match self {
+            TermError::Cut => "Cut",
+            TermError::Malformed => "Malformed",
+            TermError::OutOfProfile(_) => "OutOfProfile",
+            TermError::TooDeep => "TooDeep",
+            TermError::TooLong => "TooLong",
+            TermError::OutOfMemory => "OutOfMemory",
         }
     }
 

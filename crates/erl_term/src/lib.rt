@@ -36,20 +36,24 @@ mod term;
 mod term_ref;
 mod text;
 mod words;
+mod writing;
 
 pub use atom::Atom;
 pub use copying::copy_of;
-pub use decoding::{LIMIT, decode, term_len};
+pub use decoding::{TERM_LIMIT, decode, term_len};
 pub use encoding::{encode, put_integer, put_pid, put_reference, put_term, put_tuple_head};
 pub use error::TermError;
 pub use laws::{
     canonical_is_spelling, one_answer, one_spelling, order_of_pids, read_again, short_parts,
 };
 pub use measuring::{integer_len, pid_len, reference_len, tuple_head_len};
-pub use parts::{AtomRef, PidRef, ReferenceRef, integer_at, pid_at, reference_at, tuple_head_at};
+pub use parts::{
+    AtomRef, PidRef, ReferenceRef, TupleHead, integer_at, pid_at, reference_at, tuple_head_at,
+};
 pub use payload::Payload;
 pub use refusal::Refusal;
 pub use room::size_within;
 pub use term::{Pid, Reference, Term};
 pub use term_ref::{TermRef, term_at};
-pub use words::Words;
+pub use words::ReferenceWords;
+pub use writing::{write_integer, write_pid, write_reference, write_term, write_tuple_head};

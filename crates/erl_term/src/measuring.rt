@@ -12,7 +12,7 @@ use crate::atom::Atom;
 use crate::lists::{is_list, is_string};
 use crate::magnitude::digits_of;
 use crate::term::{Pid, Reference, Term};
-use crate::words::Words;
+use crate::words::ReferenceWords;
 
 // The types keep the ranges of what holds no other term, but for the length of a binary.
 
@@ -44,7 +44,7 @@ fn is_reference(reference: &Reference) -> bool
     is_text(&reference.node)
 }
 
-fn have_words(words: &Words)
+fn have_words(words: &ReferenceWords)
     ensures some { 1 ≤ length words.now }
     ensures few { length words.now ≤ 5 }
     ensures words { All (λ w. w < 2 ^ 32) words.now }

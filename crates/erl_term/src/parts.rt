@@ -2,7 +2,7 @@
 //!
 //! What stands at the front of the bytes is read by itself, so that a caller can tell a message
 //! by its shape before it copies anything.
-ghost use Rattle.std.specs.Prelude.{◌≡◌, ◌≤◌, List, ℕ, length, OnOk};
+ghost use Rattle.std.specs.Prelude.{◌≡◌, ◌≤◌, ◌↔◌, List, ℕ, length, IsTrue, OnOk};
 ghost use Rattle.erl_term.specs.Data.{int, pid, reference};
 ghost use Rattle.erl_term.specs.Spelling.{IsPid, IsReference, Spells};
 ghost use Rattle.erl_term.specs.Reading.{Answers, small_at, integer_at, text_at, atom_at, letters_at, latin_at, node_at, pid_at, word_count_at, words_at, reference_at};
@@ -14,8 +14,8 @@ use crate::field::{byte_of, number_of, part_of, word_of};
 use crate::reading::big_value_of;
 use crate::tag;
 use crate::term::{Pid, Reference};
-use crate::text::{atom_text, latin_len, latin_text, may_become_text, utf8_len};
-use crate::words::{MOST, Words};
+use crate::text::{atom_text, is_latin_text, latin_len, latin_text, may_become_text, utf8_len};
+use crate::words::{MOST, ReferenceWords};
 use std::alloc::{AllocError, Global};
 use std::marker::Model;
 
@@ -53,6 +53,16 @@ impl<'a> AtomRef<'a> {
         match self.text {
             Text::Utf8(text) => Ok(Atom::new(String::from_str(alloc, text)?)),
             Text::Latin(letters) => Ok(Atom::new(latin_text(alloc, letters)?)),
+        }
+    }
+
+    /// Whether it is this atom. It takes no memory.
+    pub fn is_same(&self, atom: &Atom) -> bool
+        ensures { IsTrue result ↔ (self.now ≡ atom.now) }
+    {
+        match self.text {
+            Text::Utf8(text) => text == atom.text(),
+            Text::Latin(letters) => is_latin_text(letters, atom.text()),
         }
     }
 
@@ -112,6 +122,16 @@ impl<'a> PidRef<'a> {
         })
     }
 
+    /// Whether it names this process. It takes no memory.
+    pub fn is_same(&self, pid: &Pid) -> bool
+        ensures { IsTrue result ↔ (self.now ≡ pid.now) }
+    {
+        self.id == pid.id
+            && self.serial == pid.serial
+            && self.creation == pid.creation
+            && self.node.is_same(&pid.node)
+    }
+
     /// How many bytes the process identifier is written in.
     #[tactic(auto, unfolding(crate::specs::Canonical::canonical_pid))]
     pub(crate) fn written_len(&self) -> usize
@@ -128,7 +148,7 @@ impl<'a> PidRef<'a> {
 pub struct ReferenceRef<'a> {
     node: AtomRef<'a>,
     creation: u32,
-    words: Words,
+    words: ReferenceWords,
 }
 
 impl<'a> Model for ReferenceRef<'a> {
@@ -149,6 +169,15 @@ impl<'a> ReferenceRef<'a> {
             creation: self.creation,
             words: self.words.clone()?,
         })
+    }
+
+    /// Whether it is this reference. It takes no memory.
+    pub fn is_same(&self, reference: &Reference) -> bool
+        ensures { IsTrue result ↔ (self.now ≡ reference.now) }
+    {
+        self.words == reference.words
+            && self.creation == reference.creation
+            && self.node.is_same(&reference.node)
     }
 
     /// How many bytes the reference is written in.
@@ -195,15 +224,24 @@ fn pass_over(levels: u32, bytes: &[u8]) -> Option<(u32, &[u8])>
     }
 }
 
-/// How many elements the tuple at the front has, where it has at most so many levels, and how many
-/// levels each of them may have. Then come the bytes of its elements. None where no such tuple
-/// begins there. (ERTS User's Guide, External Term Format, SMALL_TUPLE_EXT and LARGE_TUPLE_EXT.)
-pub fn tuple_head_at(levels: u32, bytes: &[u8]) -> Option<((u32, u32), &[u8])>
+/// What comes before the elements of a tuple of at most so many levels.
+#[derive(Clone, Copy, Debug, PartialEq, Eq)]
+pub struct TupleHead {
+    /// How many elements the tuple has.
+    pub arity: u32,
+    /// How many levels each element may have.
+    pub levels: u32,
+}
+
+/// The head of the tuple at the front, where it has at most so many levels, and the bytes after the
+/// head, with which its elements begin. None where no such tuple begins there. (ERTS User's Guide,
+/// External Term Format, SMALL_TUPLE_EXT and LARGE_TUPLE_EXT.)
+pub fn tuple_head_at(levels: u32, bytes: &[u8]) -> Option<(TupleHead, &[u8])>
     ensures { ReadsFront (IsTupleHead levels) bytes.now result }
 {
-    let (below, bytes) = pass_over(levels, bytes)?;
-    let (count, elements) = own_head_at(bytes)?;
-    Some(((count, below), elements))
+    let (levels, bytes) = pass_over(levels, bytes)?;
+    let (arity, elements) = own_head_at(bytes)?;
+    Some((TupleHead { arity, levels }, elements))
 }
 
 fn own_head_at(bytes: &[u8]) -> Option<(u32, &[u8])>
@@ -401,7 +439,7 @@ fn word_count_of(bytes: &[u8]) -> Result<(usize, &[u8]), TermError>
 }
 
 /// So many words.
-fn words_of(count: usize, bytes: &[u8]) -> Result<(Words, &[u8]), TermError>
+fn words_of(count: usize, bytes: &[u8]) -> Result<(ReferenceWords, &[u8]), TermError>
     requires some { 1 ≤ count }
     requires few { count ≤ 5 }
     ensures { Answers (λ x. (x.0, x.1.now)) result (words_at count bytes.now) }
@@ -413,7 +451,7 @@ fn words_of(count: usize, bytes: &[u8]) -> Result<(Words, &[u8]), TermError>
         words[i] = word;
         rest = after;
     }
-    Ok((Words::of(words, count), rest))
+    Ok((ReferenceWords::of(words, count), rest))
 }
 
 /// The reference whose fields come next, behind its tag.

@@ -21,7 +21,7 @@ pub fn size_within(term: &Term, levels: u32, most: usize) -> Option<usize>
     ensures { MatchOption result (¬ IsWithin levels most (view term.now)) (λ n. (n ≡ length (spelling (view term.now))) × IsWithin levels most (view term.now)) }
 {
     let room = most.checked_sub(1)?;
-    let left = room_after(term, levels, room)?;
+    let left = room_after(term, levels as usize, room)?;
     Some(most - left)
 }
 
@@ -29,7 +29,7 @@ pub fn size_within(term: &Term, levels: u32, most: usize) -> Option<usize>
 /// version byte. None where the term is no value of the profile, or where the spelling has more
 /// levels or bytes than these.
 #[cycle(room)]
-fn room_after(term: &Term, levels: u32, room: usize) -> Option<usize>
+pub(crate) fn room_after(term: &Term, levels: usize, room: usize) -> Option<usize>
     ensures { Leaves levels room (view term.now) result }
 {
     let below = levels.checked_sub(1)?;
@@ -64,7 +64,7 @@ fn room_after(term: &Term, levels: u32, room: usize) -> Option<usize>
 
 #[cycle(room)]
 #[inline(never)]
-fn room_after_tuple(items: &[Term], below: u32, room: usize) -> Option<usize>
+fn room_after_tuple(items: &[Term], below: usize, room: usize) -> Option<usize>
     ensures { Leaves (below + 1) room (tuple (items_view items.now)) result }
 {
     let left = room.checked_sub(tuple_head_len(items.len()))?;
@@ -73,7 +73,7 @@ fn room_after_tuple(items: &[Term], below: u32, room: usize) -> Option<usize>
 
 #[cycle(room)]
 #[inline(never)]
-fn room_after_list(items: &[Term], below: u32, room: usize) -> Option<usize>
+fn room_after_list(items: &[Term], below: usize, room: usize) -> Option<usize>
     ensures { Leaves (below + 1) room (list (items_view items.now)) result }
 {
     if items.is_empty() {
@@ -88,7 +88,7 @@ fn room_after_list(items: &[Term], below: u32, room: usize) -> Option<usize>
 
 /// The same of the items of a tuple or a list.
 #[cycle(room)]
-fn room_after_items(items: &[Term], levels: u32, room: usize) -> Option<usize>
+fn room_after_items(items: &[Term], levels: usize, room: usize) -> Option<usize>
     ensures { LeavesOfItems levels room (items_view items.now) result }
 {
     if !has_count(items) {

@@ -2,7 +2,7 @@
 ghost use Rattle.std.specs.Prelude.{IsTrue, ◌↔◌, ◌≡◌};
 
 use crate::atom::Atom;
-use crate::words::Words;
+use crate::words::ReferenceWords;
 
 /// A process identifier.
 ///
@@ -31,7 +31,7 @@ pub struct Reference {
     /// The incarnation of that node.
     pub creation: u32,
     /// The numbers that tell the references of the incarnation apart.
-    pub words: Words,
+    pub words: ReferenceWords,
 }
 
 /// An Erlang term. (ERTS User's Guide, External Term Format.)

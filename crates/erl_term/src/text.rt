@@ -1,5 +1,5 @@
 //! The text of an atom in UTF-8, whole or begun.
-ghost use Rattle.std.specs.Prelude.{◌≡◌, ◌≤◌, ◌<◌, length, IfSome, IfOk, is_some, is_none, take, drop, IsUtf8};
+ghost use Rattle.std.specs.Prelude.{◌≡◌, ◌≤◌, ◌<◌, ◌↔◌, length, IsTrue, IfSome, IfOk, is_some, is_none, take, drop, IsUtf8};
 ghost use Rattle.std.specs.Str.{chars};
 ghost use Rattle.std.specs.String.{string_bytes};
 ghost use Rattle.std.specs.Str.Lossy.{utf8_valid_len, utf8_error_len};
@@ -33,6 +33,17 @@ pub(crate) fn latin_text(alloc: Global, letters: &[u8]) -> Result<String, AllocE
         text.push(char::from(*letter))?;
     }
     Ok(text)
+}
+
+/// Whether the text, in UTF-8, is that of letters of Latin-1.
+pub(crate) fn is_latin_text(letters: &[u8], utf8: &str) -> bool
+    ensures { IsTrue result ↔ (text.latin_text letters.now ≡ utf8.now) }
+{
+    utf8.chars().count() == letters.len()
+        && letters
+            .iter()
+            .zip(utf8.chars())
+            .all(|(letter, c)| char::from(*letter) == c)
 }
 
 /// How many bytes the text of an atom has.

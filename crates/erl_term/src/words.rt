@@ -16,12 +16,12 @@ pub const MOST: usize = 5;
 ///
 /// They are ordered as lists are. (ERTS User's Guide, External Term Format, NEWER_REFERENCE_EXT.)
 #[derive(Debug, Drop)]
-pub struct Words {
+pub struct ReferenceWords {
     words: [u32; 5],
     count: u8,
 }
 
-impl Model for Words {
+impl Model for ReferenceWords {
     ghost use Rattle.std.specs.Prelude.{List, ℕ, length, take, ◌≤◌, ◌≡◌};
 
     ghost Value = { List ℕ };
@@ -31,9 +31,9 @@ impl Model for Words {
     ghost invariant = { λ w. (1 ≤ w.count) × (w.count ≤ 5) × (length w.words ≡ 5) };
 }
 
-impl Words {
+impl ReferenceWords {
     /// The words, if they are 1 to 5.
-    pub fn new(words: &[u32]) -> Option<Words>
+    pub fn new(words: &[u32]) -> Option<ReferenceWords>
         ensures words { IfSome result (λ w. w ≡ words.now) }
         ensures some { is_some result ≡ (nat_le 1 (length words.now) && nat_le (length words.now) 5) }
     {
@@ -42,19 +42,19 @@ impl Words {
         }
         let mut array = [0; MOST];
         array[..words.len()].copy_from_slice(words);
-        Some(Words {
+        Some(ReferenceWords {
             words: array,
             count: words.len() as u8,
         })
     }
 
     /// The first so many of the words.
-    pub(crate) fn of(words: [u32; MOST], count: usize) -> Words
+    pub(crate) fn of(words: [u32; MOST], count: usize) -> ReferenceWords
         requires some { 1 ≤ count }
         requires few { count ≤ 5 }
         ensures { result ≡ take count words }
     {
-        Words {
+        ReferenceWords {
             words,
             count: count as u8,
         }
@@ -70,42 +70,42 @@ impl Words {
     }
 }
 
-impl Clone for Words {
+impl Clone for ReferenceWords {
     ghost is_clone = { λ words copy. copy ≡ words };
 
-    fn clone(&self) -> Result<Words, AllocError> {
-        Ok(Words {
+    fn clone(&self) -> Result<ReferenceWords, AllocError> {
+        Ok(ReferenceWords {
             words: self.words,
             count: self.count,
         })
     }
 }
 
-impl PartialEq for Words {
+impl PartialEq for ReferenceWords {
     ghost eq = { pointwise nat_eq };
 
     ghost laws = { partial_equiv_from_equiv nat_list_eq_equiv };
 
-    fn eq(&self, other: &Words) -> bool {
+    fn eq(&self, other: &ReferenceWords) -> bool {
         self.as_slice() == other.as_slice()
     }
 }
 
-impl Eq for Words {
+impl Eq for ReferenceWords {
     ghost laws = { nat_list_eq_equiv };
 }
 
-impl PartialOrd for Words {
+impl PartialOrd for ReferenceWords {
     ghost partial_cmp = { λ a b. Some (slice_cmp nat_cmp a b) };
 
     ghost laws = { texts_po };
 
-    fn partial_cmp(&self, other: &Words) -> Option<Ordering> {
+    fn partial_cmp(&self, other: &ReferenceWords) -> Option<Ordering> {
         Some(self.cmp(other))
     }
 }
 
-impl Ord for Words {
+impl Ord for ReferenceWords {
     ghost cmp = { slice_cmp nat_cmp };
 
     ghost total = { nat_list_cmp_total };
@@ -114,7 +114,7 @@ impl Ord for Words {
 
     ghost matches_eq = { texts_ties };
 
-    fn cmp(&self, other: &Words) -> Ordering {
+    fn cmp(&self, other: &ReferenceWords) -> Ordering {
         self.as_slice().cmp(other.as_slice())
     }
 }

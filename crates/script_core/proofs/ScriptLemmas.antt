@@ -1,7 +1,7 @@
 -- How the run of a script goes on as its bytes come.
-use Rattle.std.proofs.Common.{◌≡◌, ◌≤◌, ◌<◌, ℕ, zero, suc, ◌+◌, eqb, ltb, Bool, true, false, cond, List, [], ◌∷◌, ◌++◌, length, take, All, Option, None, Some, Result, Ok, Err, refl, sym, ap, subst, ◌∙◌, append_assoc, arith}
+use Rattle.std.proofs.Common.{◌≡◌, ◌≤◌, ◌<◌, ℕ, zero, suc, ◌+◌, eqb, ltb, Bool, true, false, cond, List, [], ◌∷◌, ◌++◌, length, take, drop, All, Option, None, Some, Result, Ok, Err, refl, sym, ap, subst, ◌∙◌, append_assoc, arith}
 use Rattle.std.proofs.lemmas.Bool.{lt-ltb, le-ltb, eqb-true}
-use Rattle.std.proofs.lemmas.List.{append-nil, length-append}
+use Rattle.std.proofs.lemmas.List.{append-nil, length-append, take-append-drop}
 use Rattle.std.proofs.lemmas.List.Elements.{All-head, All-tail, All-push}
 use Rattle.std.proofs.lemmas.List.Splits.{slice_split_at, slice_split_none, slice_split-cons_no}
 use Rattle.std.specs.List.{slice_split, onto_first}
@@ -11,13 +11,13 @@ use Rattle.script_core.specs.declared.command.Reason.TheVariants.{TooLong}
 use Rattle.script_core.specs.declared.script.Outcome.{Outcome}
 use Rattle.script_core.specs.declared.script.Outcome.TheVariants as outcome
 use Rattle.script_core.specs.declared.script.Script.{Script}
-use Rattle.std.specs.Prelude.{OnOk, is_err, IfSome}
-use Rattle.script_core.specs.declared.line.Stop.{Stop}
-use Rattle.script_core.specs.declared.line.Stop.TheVariants.{Bad}
+use Rattle.std.specs.Prelude.{IfSome}
+use Rattle.script_core.specs.declared.session.Stop.{Stop}
+use Rattle.script_core.specs.declared.session.Stop.TheVariants.{Bad}
 use Rattle.script_core.specs.declared.session.Session.{Session}
 use Rattle.script_core.specs.Sessions.{Obeys, Stepped}
 use Rattle.script_core.specs.Script.{State, Step, Run, TooManyLines, stops, prints, runs_step, runs_lines, script, line_does, lines_of, without_empty_last}
-use Rattle.script_core.specs.Outcomes.{Answers, Position, opening, rest_of, IsAt, Reaches, Took, Progress, fault_at}
+use Rattle.script_core.specs.Outcomes.{AppendsFront, Answers, Position, opening, rest_of, IsAt, Reaches, Took, Progress, fault_at}
 
 abbrev is_break : ℕ → Bool
 is_break c = eqb c 10
@@ -34,21 +34,86 @@ appends_both (Some h) None new xs ys a b = absurd a
 appends_both (Some h) (Some i) None xs ys a b = absurd b
 appends_both (Some h) (Some i) (Some j) xs ys a b = b ∙ ap (λ (w : List ℕ). w ++ ys) a ∙ append_assoc h xs ys
 
--- an answer to what is left, behind what was written before
-pub answers_after : (text : List ℕ) (r : Run) (old mid new : Option (List ℕ)) (o : Outcome) → Appends old mid text → Answers r mid new o → Answers (prints text r) old new o
-answers_after text r old mid new outcome.Ran a h = (h.0, appends_both old mid new text r.text a h.1)
-answers_after text r old mid new (outcome.BadLine number reason) a h = (h.0, appends_both old mid new text r.text a h.1)
-answers_after text r old mid new outcome.OutOfMemory a h = record {
+-- a beginning of what is left, behind what was written before
+front_after : (text more : List ℕ) (old mid new : Option (List ℕ)) → Appends old mid text → AppendsFront more mid new → AppendsFront (text ++ more) old new
+front_after text more old mid new a h = record {
   front = text ++ h.front;
   rest = h.rest;
   parts = ap (λ (w : List ℕ). text ++ w) h.parts ∙ sym (append_assoc text h.front h.rest);
   appended = appends_both old mid new text h.front a h.appended;
 }
-answers_after text r old mid new outcome.Failed a h = tt
+
+-- an answer to what is left, behind what was written before
+pub answers_after : (text : List ℕ) (r : Run) (old mid new : Option (List ℕ)) (o : Outcome) → Appends old mid text → Answers r mid new o → Answers (prints text r) old new o
+answers_after text r old mid new outcome.Ran a h = (h.0, appends_both old mid new text r.text a h.1)
+answers_after text r old mid new (outcome.BadLine number reason) a h = (h.0, appends_both old mid new text r.text a h.1)
+answers_after text r old mid new outcome.OutOfMemory a h = front_after text r.text old mid new a h
+answers_after text r old mid new outcome.Failed a h = front_after text r.text old mid new a h
 
 -- nothing was written
-pub answers_memory : (r : Run) (held : Option (List ℕ)) → Answers r held held outcome.OutOfMemory
-answers_memory r held = record { front = []; rest = r.text; parts = refl; appended = appends_nothing held }
+pub front_none : (text : List ℕ) (held : Option (List ℕ)) → AppendsFront text held held
+front_none text held = record { front = []; rest = text; parts = refl; appended = appends_nothing held }
+
+-- a beginning of the text, and more may follow the text
+pub front_more : (text more : List ℕ) (old new : Option (List ℕ)) → AppendsFront text old new → AppendsFront (text ++ more) old new
+front_more text more old new h = record {
+  front = h.front;
+  rest = h.rest ++ more;
+  parts = ap (λ (w : List ℕ). w ++ more) h.parts ∙ append_assoc h.front h.rest more;
+  appended = h.appended;
+}
+
+-- all of the text
+pub front_whole : (text : List ℕ) (old new : Option (List ℕ)) → Appends old new text → AppendsFront text old new
+front_whole text old new a = record { front = text; rest = []; parts = sym (append-nil text); appended = a }
+
+-- whatever was answered, a beginning was written
+pub answers_front : (r : Run) (old new : Option (List ℕ)) (o : Outcome) → Answers r old new o → AppendsFront r.text old new
+answers_front r old new outcome.Ran h = front_whole r.text old new h.1
+answers_front r old new (outcome.BadLine number reason) h = front_whole r.text old new h.1
+answers_front r old new outcome.OutOfMemory h = h
+answers_front r old new outcome.Failed h = h
+
+pub keeps_appended : (old mid new : Option (List ℕ)) (text : List ℕ) → Keeps mid new → Appends old mid text → Appends old new text
+keeps_appended None mid new text k a = tt
+keeps_appended (Some xs) None new text k a = absurd a
+keeps_appended (Some xs) (Some ys) None text k a = absurd k
+keeps_appended (Some xs) (Some ys) (Some zs) text k a = k ∙ a
+
+pub keeps_front : (text : List ℕ) (old mid new : Option (List ℕ)) → Keeps mid new → AppendsFront text old mid → AppendsFront text old new
+keeps_front text old mid new k h = record { front = h.front; rest = h.rest; parts = h.parts; appended = keeps_appended old mid new h.front k h.appended }
+
+pub keeps_nothing : (old new : Option (List ℕ)) → Keeps old new → Appends old new []
+keeps_nothing None new k = tt
+keeps_nothing (Some xs) None k = absurd k
+keeps_nothing (Some xs) (Some ys) k = k ∙ sym (append-nil xs)
+
+-- of the bytes all but the rest were written
+pub record Wrote (bytes rest : List ℕ) (old new : Option (List ℕ)) : Type 0 where
+  pub front : List ℕ
+  pub parts : bytes ≡ front ++ rest
+  pub appended : Appends old new front
+
+pub wrote_none : (bytes : List ℕ) (held : Option (List ℕ)) → Wrote bytes bytes held held
+wrote_none bytes held = record { front = []; parts = refl; appended = appends_nothing held }
+
+pub wrote_more : (bytes rest : List ℕ) (n : ℕ) (old mid new : Option (List ℕ)) → Wrote bytes rest old mid → Appends mid new (take n rest) → Wrote bytes (drop n rest) old new
+wrote_more bytes rest n old mid new w a = record {
+  front = w.front ++ take n rest;
+  parts = w.parts ∙ ap (λ (r : List ℕ). w.front ++ r) (sym (take-append-drop n rest)) ∙ sym (append_assoc w.front (take n rest) (drop n rest));
+  appended = appends_both old mid new w.front (take n rest) w.appended a;
+}
+
+pub wrote_whole : (bytes rest : List ℕ) (old new : Option (List ℕ)) → rest ≡ [] → Wrote bytes rest old new → Appends old new bytes
+wrote_whole bytes rest old new e w = subst (Appends old new) (sym (w.parts ∙ ap (λ (r : List ℕ). w.front ++ r) e ∙ append-nil w.front)) w.appended
+
+pub wrote_front : (bytes rest : List ℕ) (old mid new : Option (List ℕ)) → Wrote bytes rest old mid → Appends mid new [] → AppendsFront bytes old new
+wrote_front bytes rest old mid new w a = record {
+  front = w.front ++ [];
+  rest = rest;
+  parts = w.parts ∙ ap (λ (r : List ℕ). r ++ rest) (sym (append-nil w.front));
+  appended = appends_both old mid new w.front [] w.appended a;
+}
 
 prints_twice : (a b : List ℕ) (r : Run) → prints a (prints b r) ≡ prints (a ++ b) r
 prints_twice a b r = ap (λ (w : List ℕ). record { state = r.state; text = w; verdict = r.verdict }) (sym (append_assoc a b r.text))
@@ -132,7 +197,7 @@ bad_lines : (number : ℕ) (state : State) (line : List ℕ) (more : List (List 
 bad_lines number state line more reason held does = by (ltb 1048576 number)
   where
     by : (b : Bool) → Answers (cond b (stops TooManyLines state) (runs_step number state (line_does state line) (λ (after : State). runs_lines (number + 1) after more))) held held (cond b outcome.Failed (outcome.BadLine number reason))
-    by true = tt
+    by true = front_none [] held
     by false = subst (λ (r : Result Step Reason). Answers (runs_step number state r (λ (after : State). runs_lines (number + 1) after more)) held held (outcome.BadLine number reason)) (sym does) (refl, appends_nothing held)
 
 pub bad_line : (p : Position) (reason : Reason) (rest : List ℕ) (held : Option (List ℕ)) → All (λ c. is_break c ≡ false) p.pending → line_does p.state p.pending ≡ Err reason → Answers (rest_of p (10 ∷ rest)) held held (fault_at p.number reason)
@@ -194,10 +259,6 @@ pub some_pending : (n : ℕ) → false ≡ eqb n 0 → 0 < n
 some_pending zero e = absurd cc
 some_pending (suc n) e = omega arith
 
-pub wrote : {E P : Type 0} (r : Result (Unit {0}) E) → false ≡ is_err r → OnOk r P → P
-wrote (Ok x) e h = h
-wrote (Err d) e h = absurd cc
-
 pub took_front : (p : Position) (xs ys : List ℕ) (s : Script) (old new : Option (List ℕ)) (o : Outcome) → Took p xs s old new (Err o) → Took p (xs ++ ys) s old new (Err o)
 took_front p xs ys s old new o h = λ rest. subst (λ (bytes : List ℕ). Answers (rest_of p bytes) old new o) (sym (append_assoc xs ys rest)) (h (ys ++ rest))
 
@@ -205,6 +266,13 @@ took_front p xs ys s old new o h = λ rest. subst (λ (bytes : List ℕ). Answer
 
 pub begins : (input : List ℕ) (remaining : Option (List ℕ)) (s : Script) (held : Option (List ℕ)) → remaining ≡ Some input → IsAt s opening → Progress input remaining s held held
 begins input remaining s held e at = record { bytes = []; left = input; remains = e; parts = refl; reached = reaches_none opening s held at }
+
+-- what was written so far is a beginning
+pub progress_front : (input : List ℕ) (remaining : Option (List ℕ)) (s : Script) (old new : Option (List ℕ)) → Progress input remaining s old new → AppendsFront (script input).text old new
+progress_front input remaining s old new q =
+    let r = q.reached in
+    subst (λ (run : Run). AppendsFront run.text old new) (sym (ap (rest_of opening) q.parts ∙ r.goes q.left))
+    (front_more r.text (rest_of r.to q.left).text old new (front_whole r.text old new r.appended))
 
 consumed : (old new : Option (List ℕ)) (bs left : List ℕ) → old ≡ Some left → Consumes old new bs → (more : List ℕ) × (new ≡ Some more) × (left ≡ bs ++ more)
 consumed None new bs left e h = absurd cc

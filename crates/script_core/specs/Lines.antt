@@ -11,8 +11,6 @@ use Rattle.script_core.specs.declared.command.Verb.{Verb}
 use Rattle.script_core.specs.declared.command.Verb.TheVariants as verb
 use Rattle.script_core.specs.declared.command.Reason.{Reason}
 use Rattle.script_core.specs.declared.command.Reason.TheVariants.{TooLong, NotText, UnknownCommand, WrongWords, BadName, UnknownName}
-use Rattle.script_core.specs.declared.line.Stop.{Stop}
-use Rattle.script_core.specs.declared.line.Stop.TheVariants as stop
 use Rattle.script_core.specs.Nodes.{node_named}
 
 -- what stands between spaces, byte 32
@@ -96,12 +94,6 @@ line_says started paired line =
     if nat_lt 65536 (length line) then Err TooLong
     else if is_utf8 line then words_say started paired (words_of line)
     else Err NotText
-
--- the answer is what the line says, unless memory runs out
-abbrev pub Says : {X : Type 0} → Result X Reason → Result X Stop → Type 0
-Says says (Ok x) = says ≡ Ok x
-Says says (Err (stop.Bad reason)) = says ≡ Err reason
-Says says (Err stop.OutOfMemory) = Unit {0}
 
 -- the names are those of the processes
 pub record NamesProcesses {A S : Type 0} (names : HashMap (String A) Node S) (paired : Bool) : Type 0 where

@@ -22,12 +22,12 @@ pub record AppendsFront (text : List ℕ) (old new : Option (List ℕ)) : Type 0
   pub parts : text ≡ front ++ rest
   pub appended : Appends old new front
 
--- The answer to a script whose run this is, and what was written. Reading, writing and memory may fail at any place.
+-- The answer to a script whose run this is, and what was written. Reading, writing and memory may fail at any place, and then a beginning of the text was written.
 abbrev pub Answers : Run → Option (List ℕ) → Option (List ℕ) → Outcome → Type 0
 Answers r old new Ran = (r.verdict ≡ Whole) × Appends old new r.text
 Answers r old new (BadLine number reason) = (r.verdict ≡ AtBadLine number reason) × Appends old new r.text
 Answers r old new OutOfMemory = AppendsFront r.text old new
-Answers r old new Failed = Unit {0}
+Answers r old new Failed = AppendsFront r.text old new
 
 -- ---- a script that has come in part
 

@@ -3,8 +3,8 @@ use Rattle.std.specs.Prelude.{◌≡◌, ℕ, List, ◌++◌, Option, None, Some
 use Rattle.link_core.specs.Pair.{Pair}
 use Rattle.script_core.specs.declared.command.Reason.{Reason}
 use Rattle.script_core.specs.declared.keeper.Keeper.{Keeper}
-use Rattle.script_core.specs.declared.line.Stop.{Stop}
-use Rattle.script_core.specs.declared.line.Stop.TheVariants as stop
+use Rattle.script_core.specs.declared.session.Stop.{Stop}
+use Rattle.script_core.specs.declared.session.Stop.TheVariants as stop
 use Rattle.script_core.specs.declared.session.Session.{Session}
 use Rattle.script_core.specs.Lines.{NamesProcesses}
 use Rattle.script_core.specs.Keeper.{StandFor}
@@ -28,8 +28,8 @@ pub record Stepped (does : Result Step Reason) (session : Session) (old new : Li
   pub session_is : StandsFor session step.state
   pub text : new ≡ old ++ step.text
 
--- a line was run, or is a bad line, unless memory ran out
+-- a line was run, or is a bad line; memory may run out only where it is none
 abbrev pub Obeys : Result Step Reason → Session → List ℕ → List ℕ → Result (Unit {0}) Stop → Type 0
 Obeys does session old new (Ok x) = Stepped does session old new
 Obeys does session old new (Err (stop.Bad reason)) = (does ≡ Err reason) × (new ≡ old)
-Obeys does session old new (Err stop.OutOfMemory) = Unit {0}
+Obeys does session old new (Err stop.OutOfMemory) = (step : Step) × (does ≡ Ok step)

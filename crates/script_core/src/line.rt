@@ -1,73 +1,51 @@
 //! What a line of a script says.
 
-ghost use Rattle.std.specs.Prelude.{◌≡◌, ◌≤◌, IfOk, length, map};
-ghost use Rattle.script_core.specs.Lines.{Says, NamesProcesses, line_says, words_of, words_say, verb_says, pair_says, processes_of, nodes_of, is_name, is_name_byte};
+ghost use Rattle.std.specs.Prelude.{◌≡◌, ◌≤◌, length, map, take};
+ghost use Rattle.script_core.specs.Lines.{NamesProcesses, line_says, words_of, words_say, verb_says, pair_says, processes_of, nodes_of, is_name, is_name_byte};
 
 use crate::command::{Command, Reason, Verb};
 use crate::node::Node;
 use indexmap::IndexMap;
-use std::alloc::{AllocError, Global};
 
 /// The most bytes of a line, without its line break.
 pub const LINE_LIMIT: usize = 65_536;
 
+/// The most words of a line that are looked at: one more than a command has.
+const MOST_WORDS: usize = 4;
+
 /// The processes that a script has given names to, in the order in which it did.
 pub type Names = IndexMap<String, Node>;
 
-/// Why a line isn't run.
-#[derive(Clone, Copy, Debug, PartialEq, Eq)]
-pub enum Stop {
-    /// The line is no command.
-    Bad(Reason),
-    /// Memory is wanting.
-    OutOfMemory,
-}
-
-impl From<AllocError> for Stop {
-    ghost use Rattle.script_core.specs.declared.line.Stop.TheVariants.{OutOfMemory};
-
-    ghost from_gives = { λ _ e. e ≡ OutOfMemory };
-
-    fn from(_error: AllocError) -> Stop {
-        Stop::OutOfMemory
-    }
-}
-
-impl From<Reason> for Stop {
-    ghost use Rattle.script_core.specs.declared.line.Stop.TheVariants.{Bad};
-
-    ghost from_gives = { λ reason e. e ≡ Bad reason };
-
-    fn from(reason: Reason) -> Stop {
-        Stop::Bad(reason)
-    }
-}
-
-/// The command of a line, or none where the line is to be passed over.
-pub fn read_line(
-    alloc: Global,
-    started: bool,
-    names: &Names,
-    line: &[u8],
-) -> Result<Option<Command>, Stop>
-    ensures { (paired : _) → NamesProcesses names.now paired → Says (line_says started paired line.now) result }
+/// The command of a line, or none where the line is to be passed over. It takes no memory.
+pub fn read_line(started: bool, names: &Names, line: &[u8]) -> Result<Option<Command>, Reason>
+    ensures { (paired : _) → NamesProcesses names.now paired → result ≡ line_says started paired line.now }
 {
     if line.len() > LINE_LIMIT {
-        return Err(Stop::Bad(Reason::TooLong));
+        return Err(Reason::TooLong);
     }
     let Ok(text) = str::from_utf8(line) else {
-        return Err(Stop::Bad(Reason::NotText));
+        return Err(Reason::NotText);
     };
-    let words = words_of(alloc, text)?;
-    command_of(started, names, &words).map_err(Stop::Bad)
+    let (words, count) = first_words(text);
+    command_of(started, names, &words[..count])
 }
 
-fn words_of(alloc: Global, text: &str) -> Result<Vec<&str>, AllocError>
-    ensures { IfOk result (λ words. map (λ w. w.now) words.items ≡ words_of text.now) }
+/// The first words of a line, and how many they are: one more than any command has, if there are as
+/// many.
+fn first_words(text: &str) -> ([&str; MOST_WORDS], usize)
+    ensures words { map (λ w. w.now) (take result.1 result.0) ≡ take 4 (words_of text.now) }
+    ensures count { result.1 ≤ 4 }
 {
-    text.split(' ')
-        .filter(|word| !word.is_empty())
-        .collect(alloc)
+    let mut words = [""; MOST_WORDS];
+    let mut count = 0;
+    for word in text.split(' ').filter(|word| !word.is_empty()) {
+        if count == MOST_WORDS {
+            break;
+        }
+        words[count] = word;
+        count += 1;
+    }
+    (words, count)
 }
 
 fn command_of(started: bool, names: &Names, words: &[&str]) -> Result<Option<Command>, Reason>

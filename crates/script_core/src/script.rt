@@ -1,13 +1,15 @@
 //! A script, read from any reader and answered on any writer.
 
-ghost use Rattle.std.specs.Prelude.{◌≡◌, [], ◌∷◌, IfSome, OnOk, Option, List, ℕ};
+ghost use Rattle.std.specs.Prelude.{◌≡◌, ◌≤◌, [], ◌∷◌, length, take, IfSome, IfOk, IfErr, OnOk, Option, List, ℕ};
+ghost use Rattle.std.specs.Io.KnownBytes.{Appends};
+ghost use Rattle.script_core.specs.declared.script.Outcome.{Outcome};
 ghost use Rattle.script_core.specs.Script.{script};
-ghost use Rattle.script_core.specs.Outcomes.{status_of, fault_at, Answers, Position, opening, rest_of, IsAt, Took, Progress, GoesOn};
+ghost use Rattle.script_core.specs.Outcomes.{status_of, fault_at, Answers, Position, opening, rest_of, IsAt, Took, Progress, GoesOn, AppendsFront};
 
 use crate::command::Reason;
-use crate::line::{LINE_LIMIT, Stop};
+use crate::line::LINE_LIMIT;
 use crate::options::Options;
-use crate::session::Session;
+use crate::session::{Session, Stop};
 use std::alloc::Global;
 use std::io::{ErrorKind, Read, Write};
 
@@ -44,7 +46,8 @@ impl Outcome {
 /// Runs the script that the reader gives, and writes what it prints.
 ///
 /// What is written is flushed whenever the reader has given all that it has at hand. After a bad
-/// line, and where memory, reading or writing fails, nothing more is read or written.
+/// line, and where memory, reading or writing fails, nothing more is read or written: what was
+/// written is the beginning of what the script prints.
 pub fn run_script<R: Read, W: Write>(
     alloc: Global,
     reader: &mut R,
@@ -172,9 +175,7 @@ impl Script {
             Err(Stop::Bad(reason)) => return Err(Outcome::BadLine(self.number, reason)),
             Err(Stop::OutOfMemory) => return Err(Outcome::OutOfMemory),
         }
-        if writer.write_all(out.as_bytes()).is_err() {
-            return Err(Outcome::Failed);
-        }
+        write_bytes(writer, out.as_bytes())?;
         self.pending.clear();
         self.number += 1;
         Ok(())
@@ -191,5 +192,35 @@ impl Script {
             Ok(()) => Outcome::Ran,
             Err(outcome) => outcome,
         }
+    }
+}
+
+/// Writes the bytes, or where writing fails a beginning of them.
+fn write_bytes<W: Write>(writer: &mut W, bytes: &[u8]) -> Result<(), Outcome>
+    ensures ok { OnOk result (Appends (W.contents writer.old) (W.contents writer.new) bytes.now) }
+    ensures err { IfErr result (λ outcome. (outcome ≡ Outcome.Failed) × AppendsFront bytes.now (W.contents writer.old) (W.contents writer.new)) }
+{
+    let mut rest = bytes;
+    for _ in 0..u64::MAX {
+        if rest.is_empty() {
+            return Ok(());
+        }
+        let len = write_some(writer, rest)?;
+        rest = &rest[len..];
+    }
+    Err(Outcome::Failed)
+}
+
+/// Writes a beginning of the bytes, and answers how many: none where the writer was interrupted.
+fn write_some<W: Write>(writer: &mut W, bytes: &[u8]) -> Result<usize, Outcome>
+    ensures bound { IfOk result (λ len. len ≤ length bytes.now) }
+    ensures ok { IfOk result (λ len. Appends (W.contents writer.old) (W.contents writer.new) (take len bytes.now)) }
+    ensures err { IfErr result (λ outcome. (outcome ≡ Outcome.Failed) × Appends (W.contents writer.old) (W.contents writer.new) []) }
+{
+    match writer.write(bytes) {
+        Ok(0) => Err(Outcome::Failed),
+        Ok(len) => Ok(len),
+        Err(error) if error.kind() == ErrorKind::Interrupted => Ok(0),
+        Err(_) => Err(Outcome::Failed),
     }
 }

@@ -3,15 +3,24 @@ ghost use Rattle.script_core.specs.Lines.{NamesProcesses};
 ghost use Rattle.script_core.specs.Script.{State, fresh_state, line_does, command_does};
 ghost use Rattle.script_core.specs.Sessions.{StandsFor, Obeys};
 
-use crate::command::Command;
+use crate::command::{Command, Reason};
 use crate::keeper::Keeper;
-use crate::line::{Names, Stop, read_line};
+use crate::line::{Names, read_line};
 use crate::node::Node;
 use crate::replies;
 use crate::text::put_refused;
 use erl_term::Refusal;
 use indexmap::IndexMap;
 use std::alloc::{AllocError, Global};
+
+/// Why a line isn't run.
+#[derive(Clone, Copy, Debug, PartialEq, Eq)]
+pub enum Stop {
+    /// The line is no command.
+    Bad(Reason),
+    /// Memory is wanting, for a line that is a command.
+    OutOfMemory,
+}
 
 /// What a script has made so far: the names that it bound, and the pair, if it made one.
 #[derive(Drop)]
@@ -37,13 +46,13 @@ impl Session {
     pub fn line(&mut self, alloc: Global, line: &[u8], out: &mut String) -> Result<(), Stop>
         ensures { (state : State) → StandsFor self.old state → Obeys (line_does state line.now) self.new (string_bytes out.old) (string_bytes out.new) result }
     {
-        match read_line(alloc, self.started, &self.names, line) {
+        match read_line(self.started, &self.names, line) {
             Ok(None) => Ok(()),
             Ok(Some(command)) => match self.run(alloc, command, out) {
                 Ok(()) => Ok(()),
                 Err(_) => Err(Stop::OutOfMemory),
             },
-            Err(stop) => Err(stop),
+            Err(reason) => Err(Stop::Bad(reason)),
         }
     }
 

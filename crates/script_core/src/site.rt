@@ -80,7 +80,7 @@ impl Site {
         let partner = self.partner.clone()?;
         self.ends.reserve(1)?;
         self.send(alloc, LinkSignal::Link)?;
-        self.ends.link(partner)
+        Ok(self.ends.link(partner)?)
     }
 
     /// The process unlinks from its partner, under a new id. The answer is the signal that was sent.

@@ -1,7 +1,8 @@
 use Rattle.std.proofs.Common.{subst}
+use Rattle.script_core.specs.declared.script.Outcome.TheVariants.{Failed}
 use Rattle.script_core.specs.Script.{script}
 use Rattle.script_core.specs.Outcomes.{Answers, GoesOn}
-use Rattle.script_core.proofs.ScriptLemmas.{for_known}
+use Rattle.script_core.proofs.ScriptLemmas.{for_known, progress_front}
 use Rattle.script_core.proofs.script.run_to_end.Goals as goal
 
 pub returns-in-Some : goal.returns-in-Some
@@ -10,3 +11,9 @@ returns-in-Some g c =
     let new = g.W.Write.contents c.read_on.new.writer in
     for_known (g.R.Read.remaining c.args.reader.now) (λ input. Answers (script input) held new c.in-Some.outcome) (λ input e.
     subst (GoesOn input (g.R.Read.remaining c.read_on.new.reader) c.read_on.new.self held new) c.in-Some.is (c.read_on.ensures input held (c.loop.invariant input e)))
+
+pub returns : goal.returns
+returns g c =
+    let held = g.W.Write.contents c.args.writer.now in
+    let new = g.W.Write.contents c.loop.writer in
+    for_known (g.R.Read.remaining c.args.reader.now) (λ input. Answers (script input) held new Failed) (λ input e. progress_front input (g.R.Read.remaining c.loop.reader) c.loop.script held new (c.loop.invariant input e))

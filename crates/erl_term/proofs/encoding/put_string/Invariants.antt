@@ -1,8 +1,0 @@
-use Rattle.std.proofs.Common.{◌≡◌, ◌++◌, ◌∷◌, length, take}
-use Rattle.byteorder.specs.Endian.{big_bytes}
-use Rattle.erl_term.specs.Canonical.{bytes_of}
-use Rattle.erl_term.specs.View.{items_view}
-use Rattle.erl_term.proofs.encoding.put_string.Given as goal
-
-abbrev pub invariant-loop-item : goal.invariant-loop-item
-invariant-loop-item l = l.out.items ≡ l.fn.out.items ++ 107 ∷ (big_bytes 2 (length l.items) ++ bytes_of (items_view (take l.item-index l.items)))

@@ -1,9 +1,0 @@
-use Rattle.std.proofs.Common.{length, rules, tests, lit<, nat_lt}
-use Rattle.std.proofs.lemmas.Iterator.Consumers.{map_from_collect, YieldsList-from_filter, YieldsList-at}
-use Rattle.std.proofs.lemmas.Iterator.Splits.{YieldsList-from_str_split}
-use Rattle.script_core.proofs.line.words_of.Goals as goal
-
-pub returns : goal.returns
-returns c =
-    map_from_collect _ c.collect.ensures.ran
-    (YieldsList-from_filter _ (λ w. nat_lt 0 (length w)) (YieldsList-at c.filter.ensures.source (YieldsList-from_str_split 32 c.args.text.now (lit< tt) c.split.ensures.text c.split.ensures.has_more c.split.ensures.pattern)) c.filter.ensures.closure (λ x b q k. search (rules, tests)))
