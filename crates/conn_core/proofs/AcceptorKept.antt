@@ -2,19 +2,22 @@
 -- acceptor chose then: what each happening keeps.
 use Rattle.std.proofs.Common.{◌≡◌, ℕ, Bool, true, false, if◌then◌else◌, List, [], ◌∷◌, Option, Some, None, Contains, refl, sym, subst, ◌∙◌}
 use Rattle.std.specs.Cmp.Lexicographic.{bytes_decides}
-use Rattle.erl_term.specs.declared.refusal.Refusal.{Refusal}
-use Rattle.erl_term.specs.declared.refusal.Refusal.TheVariants.{Forged}
+use Rattle.erl_handshake.specs.declared.fault.ShakeFault.{ShakeFault}
+use Rattle.erl_handshake.specs.declared.fault.ShakeFault.TheVariants.{Forged}
 use Rattle.erl_names.specs.declared.trunk.TrunkId.{TrunkId}
 use Rattle.erl_handshake.specs.declared.status.Status.{Status as TheStatus}
 use Rattle.erl_handshake.specs.declared.status.Status.TheVariants as status
 use Rattle.erl_handshake.specs.declared.message.ShakeMsg.{ShakeMsg}
 use Rattle.erl_handshake.specs.declared.message.ShakeMsg.TheVariants.{SendName, Status, Challenge, ChallengeReply, ChallengeAck}
 use Rattle.erl_handshake.specs.declared.identity.Identity.{Identity}
-use Rattle.erl_handshake.specs.declared.admission.Others.{Others}
+use Rattle.erl_handshake.specs.declared.admission.OtherConnections.{OtherConnections}
 use Rattle.erl_handshake.specs.declared.acceptor.AcceptorState.TheVariants as acceptor
 use Rattle.erl_handshake.specs.Admission.{status_due}
 use Rattle.erl_handshake.specs.Roles.{is_same, is_answered, introduction_fault, on_name, on_answer, awaits_reply, after_status}
-use Rattle.conn_core.specs.Side.{Side, Standing, Dialing, Accepting, Up, Losing, Gone, of_acceptor, on_message, admitted_at, gone_on, lost, is_live, state_of}
+use Rattle.conn_core.specs.declared.standing.Standing.{Standing}
+use Rattle.conn_core.specs.declared.standing.Standing.TheVariants.{Dialing, Accepting, Up, Losing, Gone}
+use Rattle.conn_core.specs.declared.side.Side.{Side}
+use Rattle.conn_core.specs.Side.{of_acceptor, on_message, admitted_at, gone_on, lost, is_live, state_of}
 use Rattle.conn_core.proofs.Within.{Within, within_rest, first_within, within_itself, right_digest, either}
 use Rattle.conn_core.specs.Happenings.{Happening, Message, NoMessage, Frame, NoFrame, Admit, GoOn, Lose, Close, standing_after, after, unheard, IsNamed, IsReplied}
 
@@ -39,7 +42,7 @@ name_is peer name flags false is none =
     let wrong : Some Forged ≡ None = sym forged ∙ none in
     cc
 
-named : (own : Identity) (peer : List ℕ) (all : List Happening) (fault : Option Refusal) (flags creation word : ℕ) (name : List ℕ) →
+named : (own : Identity) (peer : List ℕ) (all : List Happening) (fault : Option ShakeFault) (flags creation word : ℕ) (name : List ℕ) →
     introduction_fault peer name flags ≡ fault → Contains all (Message (SendName flags creation name) word) →
     Kept own peer all (of_acceptor (on_name fault creation word).state)
 named own peer all (Some why) flags creation word name e came = tt
@@ -73,7 +76,7 @@ replied own peer all c creation theirs word digest true is n came =
 replied own peer all c creation theirs word digest false is n came = tt
 
 message_keeps : (own : Identity) (peer : List ℕ) (all : List Happening) (st : Standing) (message : ShakeMsg) (word : ℕ) →
-    Contains all (Message message word) → Kept own peer all st → Kept own peer all (on_message own peer st message word).standing
+    Contains all (Message message word) → Kept own peer all st → Kept own peer all (on_message own peer st message word 0).standing
 message_keeps own peer all (Accepting acceptor.AwaitsName) (SendName f k n) word came e = named own peer all (introduction_fault peer n f) f k word n refl came
 message_keeps own peer all (Accepting acceptor.AwaitsName) (Status s) word came e = tt
 message_keeps own peer all (Accepting acceptor.AwaitsName) (Challenge f t k n) word came e = tt
@@ -115,7 +118,7 @@ decided own peer all status.Alive c creation n = n
 decided own peer all status.True c creation n = tt
 decided own peer all status.False c creation n = tt
 
-admitted_keeps : (own : Identity) (trunk : TrunkId) (peer : List ℕ) (all : List Happening) (st : Standing) (others : Others) → Kept own peer all st → Kept own peer all (admitted_at own trunk st others)
+admitted_keeps : (own : Identity) (trunk : TrunkId) (peer : List ℕ) (all : List Happening) (st : Standing) (others : OtherConnections) → Kept own peer all st → Kept own peer all (admitted_at own.name trunk st others)
 admitted_keeps own trunk peer all (Accepting acceptor.AwaitsName) others e = e
 admitted_keeps own trunk peer all (Accepting (acceptor.AwaitsAdmission c k)) others e = decided own peer all (status_due trunk.dialer own.name trunk.count others) c k e
 admitted_keeps own trunk peer all (Accepting (acceptor.AwaitsAnswer c k)) others e = e
@@ -128,7 +131,7 @@ admitted_keeps own trunk peer all (Up k) others e = e
 admitted_keeps own trunk peer all (Losing k) others e = e
 admitted_keeps own trunk peer all Gone others e = e
 
-gone_on_keeps : (own : Identity) (peer : List ℕ) (all : List Happening) (st : Standing) → Kept own peer all st → Kept own peer all (gone_on own st)
+gone_on_keeps : (own : Identity) (peer : List ℕ) (all : List Happening) (st : Standing) → Kept own peer all st → Kept own peer all (gone_on st)
 gone_on_keeps own peer all (Accepting acceptor.AwaitsName) e = e
 gone_on_keeps own peer all (Accepting (acceptor.AwaitsAdmission c k)) e = e
 gone_on_keeps own peer all (Accepting (acceptor.AwaitsAnswer c k)) e = e
@@ -141,23 +144,23 @@ gone_on_keeps own peer all (Up k) e = e
 gone_on_keeps own peer all (Losing k) e = e
 gone_on_keeps own peer all Gone e = e
 
-step_keeps : (s : Side) (all : List Happening) (h : Happening) → Contains all h → Kept s.own s.peer all s.standing → Kept s.own s.peer all (standing_after s h)
-step_keeps s all (Message m w) came e = message_keeps s.own s.peer all s.standing m w came e
-step_keeps s all NoMessage came e = lost_keeps s.own s.peer all s.standing e
-step_keeps s all (Frame item) came e = e
-step_keeps s all (NoFrame why) came e = lost_keeps s.own s.peer all s.standing e
-step_keeps s all (Admit others) came e = admitted_keeps s.own s.trunk s.peer all s.standing others e
-step_keeps s all GoOn came e = gone_on_keeps s.own s.peer all s.standing e
-step_keeps s all Lose came e = either (Kept s.own s.peer all) (is_live (state_of s.standing)) (lost s.standing) s.standing (lost_keeps s.own s.peer all s.standing e) e
-step_keeps s all Close came e = tt
+step_keeps : (own : Identity) (s : Side) (all : List Happening) (h : Happening) → Contains all h → Kept own s.peer all s.standing → Kept own s.peer all (standing_after own s h)
+step_keeps own s all (Message m w) came e = message_keeps own s.peer all s.standing m w came e
+step_keeps own s all NoMessage came e = lost_keeps own s.peer all s.standing e
+step_keeps own s all (Frame item) came e = e
+step_keeps own s all (NoFrame why) came e = lost_keeps own s.peer all s.standing e
+step_keeps own s all (Admit others) came e = admitted_keeps own s.trunk s.peer all s.standing others e
+step_keeps own s all GoOn came e = gone_on_keeps own s.peer all s.standing e
+step_keeps own s all Lose came e = either (Kept own s.peer all) (is_live (state_of s.standing)) (lost s.standing) s.standing (lost_keeps own s.peer all s.standing e) e
+step_keeps own s all Close came e = tt
 
-run_keeps : (hs : List Happening) (s : Side) (all : List Happening) → Within hs all → Kept s.own s.peer all s.standing → Kept s.own s.peer all (after hs s).standing
-run_keeps [] s all w e = e
-run_keeps (h ∷ hs) s all w e =
-    run_keeps hs (record s { standing = standing_after s h }) all (within_rest h hs all w) (step_keeps s all h (first_within h hs all w) e)
+run_keeps : (own : Identity) (hs : List Happening) (s : Side) (all : List Happening) → Within hs all → Kept own s.peer all s.standing → Kept own s.peer all (after own hs s).standing
+run_keeps own [] s all w e = e
+run_keeps own (h ∷ hs) s all w e =
+    run_keeps own hs (record s { standing = standing_after own s h }) all (within_rest h hs all w) (step_keeps own s all h (first_within h hs all w) e)
 
 up_replied : (own : Identity) (peer : List ℕ) (creation : ℕ) (all : List Happening) (st : Standing) → st ≡ Up creation → Kept own peer all st → IsReplied own peer all
 up_replied own peer creation all st e k = subst (Kept own peer all) e k
 
-pub acceptor_up : (own : Identity) (trunk : TrunkId) (creation : ℕ) (hs : List Happening) → (after hs (unheard own trunk)).standing ≡ Up creation → IsReplied own trunk.dialer hs
-acceptor_up own trunk creation hs e = up_replied own trunk.dialer creation hs _ e (run_keeps hs (unheard own trunk) hs (within_itself hs) tt)
+pub acceptor_up : (own : Identity) (trunk : TrunkId) (creation : ℕ) (hs : List Happening) → (after own hs (unheard trunk)).standing ≡ Up creation → IsReplied own trunk.dialer hs
+acceptor_up own trunk creation hs e = up_replied own trunk.dialer creation hs _ e (run_keeps own hs (unheard trunk) hs (within_itself hs) tt)

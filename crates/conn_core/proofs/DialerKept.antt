@@ -1,16 +1,19 @@
 -- The side of a dialer is up only after the acceptor has acknowledged its challenge: what each happening keeps.
 use Rattle.std.proofs.Common.{◌≡◌, ℕ, Bool, true, false, if◌then◌else◌, List, [], ◌∷◌, Option, Some, None, Contains, refl, sym, subst}
-use Rattle.erl_term.specs.declared.refusal.Refusal.{Refusal}
+use Rattle.erl_handshake.specs.declared.fault.ShakeFault.{ShakeFault}
 use Rattle.erl_names.specs.declared.trunk.TrunkId.{TrunkId}
 use Rattle.erl_handshake.specs.declared.status.Status.{Status as TheStatus}
 use Rattle.erl_handshake.specs.declared.status.Status.TheVariants as status
 use Rattle.erl_handshake.specs.declared.message.ShakeMsg.{ShakeMsg}
 use Rattle.erl_handshake.specs.declared.message.ShakeMsg.TheVariants.{SendName, Status, Challenge, ChallengeReply, ChallengeAck}
 use Rattle.erl_handshake.specs.declared.identity.Identity.{Identity}
-use Rattle.erl_handshake.specs.declared.admission.Others.{Others}
+use Rattle.erl_handshake.specs.declared.admission.OtherConnections.{OtherConnections}
 use Rattle.erl_handshake.specs.declared.dialer.DialerState.TheVariants as dialer
 use Rattle.erl_handshake.specs.Roles.{is_answered, introduction_fault, on_status, on_challenge, awaits_ack}
-use Rattle.conn_core.specs.Side.{Side, Standing, Dialing, Accepting, Up, Losing, Gone, of_dialer, on_message, admitted_at, gone_on, lost, is_live, state_of}
+use Rattle.conn_core.specs.declared.standing.Standing.{Standing}
+use Rattle.conn_core.specs.declared.standing.Standing.TheVariants.{Dialing, Accepting, Up, Losing, Gone}
+use Rattle.conn_core.specs.declared.side.Side.{Side}
+use Rattle.conn_core.specs.Side.{of_dialer, on_message, admitted_at, gone_on, lost, is_live, state_of}
 use Rattle.conn_core.proofs.Within.{Within, within_rest, first_within, within_itself, right_digest, either}
 use Rattle.conn_core.specs.Happenings.{Happening, Message, NoMessage, Frame, NoFrame, Admit, GoOn, Lose, Close, standing_after, after, dialed, IsAcknowledged}
 
@@ -36,7 +39,7 @@ dialer_status own challenge all c status.Alive e = e
 dialer_status own challenge all c status.True e = tt
 dialer_status own challenge all c status.False e = tt
 
-dialer_challenged : (own : Identity) (challenge : ℕ) (all : List Happening) (fault : Option Refusal) (c theirs creation : ℕ) → c ≡ challenge →
+dialer_challenged : (own : Identity) (challenge : ℕ) (all : List Happening) (fault : Option ShakeFault) (c theirs creation : ℕ) → c ≡ challenge →
     DialerKept own challenge all (of_dialer (on_challenge fault own c theirs creation).state)
 dialer_challenged own challenge all None c theirs creation e = e
 dialer_challenged own challenge all (Some why) c theirs creation e = tt
@@ -58,7 +61,7 @@ chosen_ack own c creation digest true is = rw is refl
 chosen_ack own c creation digest false is = rw is refl
 
 dialer_message : (own : Identity) (peer : List ℕ) (challenge : ℕ) (all : List Happening) (st : Standing) (message : ShakeMsg) (word : ℕ) →
-    Contains all (Message message word) → DialerKept own challenge all st → DialerKept own challenge all (on_message own peer st message word).standing
+    Contains all (Message message word) → DialerKept own challenge all st → DialerKept own challenge all (on_message own peer st message word 0).standing
 dialer_message own peer challenge all (Dialing (dialer.AwaitsStatus c)) (Status s) word came e = dialer_status own challenge all c s e
 dialer_message own peer challenge all (Dialing (dialer.AwaitsStatus c)) (SendName f k n) word came e = tt
 dialer_message own peer challenge all (Dialing (dialer.AwaitsStatus c)) (Challenge f t k n) word came e = tt
@@ -90,37 +93,41 @@ dialer_lost own challenge all (Losing k) e = tt
 dialer_lost own challenge all Gone e = tt
 
 -- an acceptor's calls change nothing at a dialer
-dialer_admitted : (own o : Identity) (trunk : TrunkId) (challenge : ℕ) (all : List Happening) (st : Standing) (others : Others) → DialerKept own challenge all st → DialerKept own challenge all (admitted_at o trunk st others)
+dialer_admitted : (own : Identity) (o : List ℕ) (trunk : TrunkId) (challenge : ℕ) (all : List Happening) (st : Standing) (others : OtherConnections) → DialerKept own challenge all st → DialerKept own challenge all (admitted_at o trunk st others)
 dialer_admitted own o trunk challenge all (Dialing d) others e = e
 dialer_admitted own o trunk challenge all (Accepting a) others e = absurd e
 dialer_admitted own o trunk challenge all (Up k) others e = e
 dialer_admitted own o trunk challenge all (Losing k) others e = e
 dialer_admitted own o trunk challenge all Gone others e = e
 
-dialer_gone_on : (own o : Identity) (challenge : ℕ) (all : List Happening) (st : Standing) → DialerKept own challenge all st → DialerKept own challenge all (gone_on o st)
-dialer_gone_on own o challenge all (Dialing d) e = e
-dialer_gone_on own o challenge all (Accepting a) e = absurd e
-dialer_gone_on own o challenge all (Up k) e = e
-dialer_gone_on own o challenge all (Losing k) e = e
-dialer_gone_on own o challenge all Gone e = e
+dialer_gone_on : (own : Identity) (challenge : ℕ) (all : List Happening) (st : Standing) → DialerKept own challenge all st → DialerKept own challenge all (gone_on st)
+dialer_gone_on own challenge all (Dialing d) e = e
+dialer_gone_on own challenge all (Accepting a) e = absurd e
+dialer_gone_on own challenge all (Up k) e = e
+dialer_gone_on own challenge all (Losing k) e = e
+dialer_gone_on own challenge all Gone e = e
 
-dialer_step : (s : Side) (challenge : ℕ) (all : List Happening) (h : Happening) → Contains all h → DialerKept s.own challenge all s.standing → DialerKept s.own challenge all (standing_after s h)
-dialer_step s challenge all (Message m w) came e = dialer_message s.own s.peer challenge all s.standing m w came e
-dialer_step s challenge all NoMessage came e = dialer_lost s.own challenge all s.standing e
-dialer_step s challenge all (Frame item) came e = e
-dialer_step s challenge all (NoFrame why) came e = dialer_lost s.own challenge all s.standing e
-dialer_step s challenge all (Admit others) came e = dialer_admitted s.own s.own s.trunk challenge all s.standing others e
-dialer_step s challenge all GoOn came e = dialer_gone_on s.own s.own challenge all s.standing e
-dialer_step s challenge all Lose came e = either (DialerKept s.own challenge all) (is_live (state_of s.standing)) (lost s.standing) s.standing (dialer_lost s.own challenge all s.standing e) e
-dialer_step s challenge all Close came e = tt
+dialer_step : (own : Identity) (s : Side) (challenge : ℕ) (all : List Happening) (h : Happening) → Contains all h → DialerKept own challenge all s.standing →
+    DialerKept own challenge all (standing_after own s h)
+dialer_step own s challenge all (Message m w) came e = dialer_message own s.peer challenge all s.standing m w came e
+dialer_step own s challenge all NoMessage came e = dialer_lost own challenge all s.standing e
+dialer_step own s challenge all (Frame item) came e = e
+dialer_step own s challenge all (NoFrame why) came e = dialer_lost own challenge all s.standing e
+dialer_step own s challenge all (Admit others) came e = dialer_admitted own own.name s.trunk challenge all s.standing others e
+dialer_step own s challenge all GoOn came e = dialer_gone_on own challenge all s.standing e
+dialer_step own s challenge all Lose came e =
+    either (DialerKept own challenge all) (is_live (state_of s.standing)) (lost s.standing) s.standing (dialer_lost own challenge all s.standing e) e
+dialer_step own s challenge all Close came e = tt
 
-dialer_run : (hs : List Happening) (s : Side) (challenge : ℕ) (all : List Happening) → Within hs all → DialerKept s.own challenge all s.standing → DialerKept s.own challenge all (after hs s).standing
-dialer_run [] s challenge all w e = e
-dialer_run (h ∷ hs) s challenge all w e =
-    dialer_run hs (record s { standing = standing_after s h }) challenge all (within_rest h hs all w) (dialer_step s challenge all h (first_within h hs all w) e)
+dialer_run : (own : Identity) (hs : List Happening) (s : Side) (challenge : ℕ) (all : List Happening) → Within hs all → DialerKept own challenge all s.standing →
+    DialerKept own challenge all (after own hs s).standing
+dialer_run own [] s challenge all w e = e
+dialer_run own (h ∷ hs) s challenge all w e =
+    dialer_run own hs (record s { standing = standing_after own s h }) challenge all (within_rest h hs all w) (dialer_step own s challenge all h (first_within h hs all w) e)
 
 up_acked : (own : Identity) (challenge creation : ℕ) (all : List Happening) (st : Standing) → st ≡ Up creation → DialerKept own challenge all st → IsAcknowledged own challenge all
 up_acked own challenge creation all st e k = subst (DialerKept own challenge all) e k
 
-pub dialer_up : (own : Identity) (trunk : TrunkId) (peer : List ℕ) (challenge creation : ℕ) (hs : List Happening) → (after hs (dialed own trunk peer challenge)).standing ≡ Up creation → IsAcknowledged own challenge hs
-dialer_up own trunk peer challenge creation hs e = up_acked own challenge creation hs _ e (dialer_run hs (dialed own trunk peer challenge) challenge hs (within_itself hs) refl)
+pub dialer_up : (own : Identity) (trunk : TrunkId) (peer : List ℕ) (challenge creation : ℕ) (hs : List Happening) → (after own hs (dialed trunk peer challenge)).standing ≡ Up creation →
+    IsAcknowledged own challenge hs
+dialer_up own trunk peer challenge creation hs e = up_acked own challenge creation hs _ e (dialer_run own hs (dialed trunk peer challenge) challenge hs (within_itself hs) refl)

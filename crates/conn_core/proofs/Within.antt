@@ -5,7 +5,7 @@ use Rattle.std.specs.Cmp.Lexicographic.{bytes_decides}
 use Rattle.erl_handshake.specs.declared.identity.Identity.{Identity}
 use Rattle.erl_handshake.specs.Digest.{digest_of}
 use Rattle.erl_handshake.specs.Roles.{is_answered}
-use Rattle.conn_core.specs.Side.{Standing}
+use Rattle.conn_core.specs.declared.standing.Standing.{Standing}
 use Rattle.conn_core.specs.Happenings.{Happening}
 
 -- a list that has all that another has

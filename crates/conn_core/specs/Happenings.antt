@@ -3,15 +3,18 @@
 use Rattle.std.specs.Prelude.{ℕ, if◌then◌else◌, List, [], ◌∷◌, Contains}
 use Rattle.erl_names.specs.declared.trunk.TrunkId.{TrunkId}
 use Rattle.erl_control.specs.declared.signal.Item.{Item}
-use Rattle.erl_control.specs.declared.error.FrameError.{FrameError}
+use Rattle.erl_control.specs.declared.error.FrameFault.{FrameFault}
 use Rattle.erl_handshake.specs.declared.message.ShakeMsg.{ShakeMsg}
 use Rattle.erl_handshake.specs.declared.message.ShakeMsg.TheVariants.{SendName, ChallengeReply, ChallengeAck}
 use Rattle.erl_handshake.specs.declared.identity.Identity.{Identity}
-use Rattle.erl_handshake.specs.declared.admission.Others.{Others}
+use Rattle.erl_handshake.specs.declared.admission.OtherConnections.{OtherConnections}
 use Rattle.erl_handshake.specs.declared.dialer.DialerState.TheVariants as dialer
 use Rattle.erl_handshake.specs.declared.acceptor.AcceptorState.TheVariants as acceptor
 use Rattle.erl_handshake.specs.Digest.{digest_of}
-use Rattle.conn_core.specs.Side.{Side, Standing, Dialing, Accepting, Gone, on_message, on_no_message, on_item, on_no_frame, admitted_at, gone_on, lost, is_live, state_of}
+use Rattle.conn_core.specs.declared.standing.Standing.{Standing}
+use Rattle.conn_core.specs.declared.standing.Standing.TheVariants.{Dialing, Accepting, Gone}
+use Rattle.conn_core.specs.declared.side.Side.{Side}
+use Rattle.conn_core.specs.Side.{on_message, on_no_message, on_item, on_no_frame, admitted_at, gone_on, lost, is_live, state_of}
 
 pub data Happening : Type 0 where
   -- a message of the handshake comes, with the event's word, or bytes that are none
@@ -19,34 +22,35 @@ pub data Happening : Type 0 where
   NoMessage : Happening
   -- a frame comes, or bytes that are none
   Frame : Item → Happening
-  NoFrame : FrameError → Happening
+  NoFrame : FrameFault → Happening
   -- the node decides on the attempt, lets the challenge be sent, loses the connection, clears it away
-  Admit : Others → Happening
+  Admit : OtherConnections → Happening
   GoOn : Happening
   Lose : Happening
   Close : Happening
 
-abbrev pub standing_after : Side → Happening → Standing
-standing_after side (Message message word) = (on_message side.own side.peer side.standing message word).standing
-standing_after side NoMessage = (on_no_message side.standing).standing
-standing_after side (Frame item) = (on_item side.standing item).standing
-standing_after side (NoFrame why) = (on_no_frame side.standing why).standing
-standing_after side (Admit others) = admitted_at side.own side.trunk side.standing others
-standing_after side GoOn = gone_on side.own side.standing
-standing_after side Lose = if is_live (state_of side.standing) then lost side.standing else side.standing
-standing_after side Close = Gone
+-- at a node that says this of itself
+abbrev pub standing_after : Identity → Side → Happening → Standing
+standing_after own side (Message message word) = (on_message own side.peer side.standing message word 0).standing
+standing_after own side NoMessage = (on_no_message side.standing).standing
+standing_after own side (Frame item) = (on_item side.standing item 0).standing
+standing_after own side (NoFrame why) = (on_no_frame side.standing why).standing
+standing_after own side (Admit others) = admitted_at own.name side.trunk side.standing others
+standing_after own side GoOn = gone_on side.standing
+standing_after own side Lose = if is_live (state_of side.standing) then lost side.standing else side.standing
+standing_after own side Close = Gone
 
-abbrev pub after : List Happening → Side → Side
-after [] side = side
-after (happening ∷ more) side = after more (record side { standing = standing_after side happening })
+abbrev pub after : Identity → List Happening → Side → Side
+after own [] side = side
+after own (happening ∷ more) side = after own more (record side { standing = standing_after own side happening })
 
 -- ---- where a side begins
 
-abbrev pub dialed : Identity → TrunkId → (peer : List ℕ) → (challenge : ℕ) → Side
-dialed own trunk peer challenge = record { own = own; trunk = trunk; peer = peer; standing = Dialing (dialer.AwaitsStatus challenge) }
+abbrev pub dialed : TrunkId → (peer : List ℕ) → (challenge : ℕ) → Side
+dialed trunk peer challenge = record { trunk = trunk; peer = peer; standing = Dialing (dialer.AwaitsStatus challenge) }
 
-abbrev pub unheard : Identity → TrunkId → Side
-unheard own trunk = record { own = own; trunk = trunk; peer = trunk.dialer; standing = Accepting acceptor.AwaitsName }
+abbrev pub unheard : TrunkId → Side
+unheard trunk = record { trunk = trunk; peer = trunk.dialer; standing = Accepting acceptor.AwaitsName }
 
 -- ---- what shows that the peer knows the cookie
 

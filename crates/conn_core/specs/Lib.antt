@@ -1,5 +1,5 @@
 pub mod Side
 pub mod Arrivals
-pub mod Halves
 pub mod FaultNumbers
 pub mod Happenings
+pub mod Meeting

@@ -1,42 +1,31 @@
 -- One side of a connection between two nodes: how it stands, and what comes of what arrives.
 -- (ERTS User's Guide, Distribution Protocol, Distribution Handshake.)
 use Rattle.std.specs.Prelude.{ℕ, Bool, true, false, List, Option, Some, None}
-use Rattle.erl_term.specs.declared.refusal.Refusal.TheVariants.{BadMessage}
 use Rattle.erl_names.specs.declared.trunk.TrunkId.{TrunkId}
 use Rattle.erl_control.specs.declared.signal.Item.{Item}
-use Rattle.erl_control.specs.declared.error.FrameError.{FrameError}
+use Rattle.erl_control.specs.declared.error.FrameFault.{FrameFault}
+use Rattle.erl_handshake.specs.declared.fault.ShakeFault.TheVariants.{BadMessage}
 use Rattle.erl_handshake.specs.declared.message.ShakeMsg.{ShakeMsg}
 use Rattle.erl_handshake.specs.declared.identity.Identity.{Identity}
 use Rattle.erl_handshake.specs.declared.turn.Next.{Next}
-use Rattle.erl_handshake.specs.declared.turn.Outcome.{Outcome}
-use Rattle.erl_handshake.specs.declared.turn.Outcome.TheVariants.{Go, Done, Ended}
+use Rattle.erl_handshake.specs.declared.turn.Progress.{Progress}
+use Rattle.erl_handshake.specs.declared.turn.Progress.TheVariants.{Go, Done, Ended}
 use Rattle.erl_handshake.specs.declared.dialer.DialerState.{DialerState}
 use Rattle.erl_handshake.specs.declared.dialer.DialerState.TheVariants as dialer
 use Rattle.erl_handshake.specs.declared.acceptor.AcceptorState.{AcceptorState}
 use Rattle.erl_handshake.specs.declared.acceptor.AcceptorState.TheVariants as acceptor
-use Rattle.erl_handshake.specs.declared.admission.Others.{Others}
+use Rattle.erl_handshake.specs.declared.admission.OtherConnections.{OtherConnections}
 use Rattle.erl_handshake.specs.Admission.{status_due}
-use Rattle.erl_handshake.specs.Roles.{waits, dialer_turn, acceptor_turn, admitted, awaits_admission, goes_on, awaits_turn}
-use Rattle.conn_core.specs.declared.state.State.{State}
-use Rattle.conn_core.specs.declared.state.State.TheVariants as state
-use Rattle.conn_core.specs.declared.taken.Fault.TheVariants.{Shake, Frame}
-use Rattle.conn_core.specs.declared.taken.Taken.{Taken}
-use Rattle.conn_core.specs.declared.taken.Taken.TheVariants as taken
-
--- in a handshake, as the one or the other role; connected, to this incarnation of the peer; lost, and not
--- yet cleared away; or gone
-pub data Standing : Type 0 where
-  Dialing : DialerState → Standing
-  Accepting : AcceptorState → Standing
-  Up : (creation : ℕ) → Standing
-  Losing : (creation : ℕ) → Standing
-  Gone : Standing
-
-pub record Side : Type 0 where
-  pub own : Identity
-  pub trunk : TrunkId
-  pub peer : List ℕ
-  pub standing : Standing
+use Rattle.erl_handshake.specs.Roles.{dialer_turn, acceptor_turn, admitted, awaits_admission, goes_on, turn_challenge, awaits_turn}
+use Rattle.conn_core.specs.declared.standing.Standing.{Standing}
+use Rattle.conn_core.specs.declared.standing.Standing.TheVariants.{Dialing, Accepting, Up, Losing, Gone}
+use Rattle.conn_core.specs.declared.state.SideState.{SideState}
+use Rattle.conn_core.specs.declared.state.SideState.TheVariants as state
+use Rattle.conn_core.specs.declared.arrival.Fault.{Fault}
+use Rattle.conn_core.specs.declared.arrival.Fault.TheVariants.{Shake, Frame}
+use Rattle.conn_core.specs.declared.arrival.Taken.{Taken}
+use Rattle.conn_core.specs.declared.arrival.Taken.TheVariants as taken
+use Rattle.conn_core.specs.declared.arrival.Arrival.{Arrival}
 
 -- a handshake goes on, or is done, or over
 abbrev pub of_dialer : DialerState → Standing
@@ -57,25 +46,16 @@ of_acceptor acceptor.Over = Gone
 
 -- ---- the eight states by name
 
-abbrev pub dialer_state : DialerState → State
-dialer_state (dialer.AwaitsStatus challenge) = state.Dialing
-dialer_state (dialer.AwaitsChallenge challenge) = state.Dialing
-dialer_state (dialer.AwaitsAck challenge creation) = state.Dialing
-dialer_state (dialer.Done creation) = state.Gone
-dialer_state dialer.Over = state.Gone
-
 -- a side is Fresh until the attempt is decided on
-abbrev pub acceptor_state : AcceptorState → State
+abbrev pub acceptor_state : AcceptorState → SideState
 acceptor_state acceptor.AwaitsName = state.Fresh
 acceptor_state (acceptor.AwaitsAdmission challenge creation) = state.Fresh
 acceptor_state (acceptor.AwaitsAnswer challenge creation) = state.Asked
 acceptor_state (acceptor.AwaitsTurn challenge creation) = state.Parked
-acceptor_state (acceptor.AwaitsReply challenge creation) = state.Accepting
-acceptor_state (acceptor.Done creation) = state.Gone
-acceptor_state acceptor.Over = state.Gone
+acceptor_state _ = state.Accepting
 
-abbrev pub state_of : Standing → State
-state_of (Dialing d) = dialer_state d
+abbrev pub state_of : Standing → SideState
+state_of (Dialing d) = state.Dialing
 state_of (Accepting a) = acceptor_state a
 state_of (Up creation) = state.Up
 state_of (Losing creation) = state.Losing
@@ -111,7 +91,7 @@ lost (Losing creation) = Losing creation
 lost Gone = Gone
 
 -- whether there is something to lose
-abbrev pub is_live : State → Bool
+abbrev pub is_live : SideState → Bool
 is_live state.Fresh = false
 is_live state.Dialing = true
 is_live state.Asked = true
@@ -122,7 +102,7 @@ is_live state.Losing = false
 is_live state.Gone = false
 
 -- whether anything may arrive
-abbrev pub listens : State → Bool
+abbrev pub listens : SideState → Bool
 listens state.Fresh = true
 listens state.Dialing = true
 listens state.Asked = true
@@ -134,40 +114,36 @@ listens state.Gone = false
 
 -- ---- what arrives
 
--- how the side stands behind it, and what it was
-pub record Arrival : Type 0 where
-  pub standing : Standing
-  pub was : Taken
-
 -- a message that ends the handshake breaks the side
-abbrev pub taken_by : Outcome → ShakeMsg → (send : Option ShakeMsg) → Taken
+abbrev pub taken_by : Progress → ShakeMsg → (send : Option ShakeMsg) → Taken
 taken_by Go message send = taken.Message message send
 taken_by Done message send = taken.Message message send
 taken_by (Ended why) message send = taken.Broken (Shake why)
 
 abbrev pub taken_as : ShakeMsg → Next → Taken
-taken_as message next = taken_by next.outcome message next.send
+taken_as message next = taken_by next.progress message next.send
 
--- a message of the handshake, with the event's word
-abbrev pub on_message : (own : Identity) → (peer : List ℕ) → Standing → ShakeMsg → (word : ℕ) → Arrival
-on_message own peer (Dialing d) message word =
-    let turn = dialer_turn own peer d message in record { standing = of_dialer turn.state; was = taken_as message turn.next }
-on_message own peer (Accepting a) message word =
-    let turn = acceptor_turn own peer a message word in record { standing = of_acceptor turn.state; was = taken_as message turn.next }
-on_message own peer (Up creation) message word = record { standing = Losing creation; was = taken.Broken (Shake BadMessage) }
-on_message own peer (Losing creation) message word = record { standing = Losing creation; was = taken.Broken (Shake BadMessage) }
-on_message own peer Gone message word = record { standing = Gone; was = taken.Broken (Shake BadMessage) }
+-- bytes that can't be read, or aren't due
+abbrev pub breaks : Standing → Fault → Arrival
+breaks standing fault = record { standing = lost standing; was = taken.Broken fault; len = 0 }
 
--- bytes that are no message of the handshake
 abbrev pub on_no_message : Standing → Arrival
-on_no_message standing = record { standing = lost standing; was = taken.Broken (Shake BadMessage) }
+on_no_message standing = breaks standing (Shake BadMessage)
 
--- what a frame carries, and bytes that are no frame
-abbrev pub on_item : Standing → Item → Arrival
-on_item standing item = record { standing = standing; was = taken.Item item }
+abbrev pub on_no_frame : Standing → FrameFault → Arrival
+on_no_frame standing why = breaks standing (Frame why)
 
-abbrev pub on_no_frame : Standing → FrameError → Arrival
-on_no_frame standing why = record { standing = lost standing; was = taken.Broken (Frame why) }
+-- a message of the handshake of so many bytes, with the event's word
+abbrev pub on_message : (own : Identity) → (peer : List ℕ) → Standing → ShakeMsg → (word len : ℕ) → Arrival
+on_message own peer (Dialing d) message word len =
+    let turn = dialer_turn own peer d message in record { standing = of_dialer turn.state; was = taken_as message turn.next; len = len }
+on_message own peer (Accepting a) message word len =
+    let turn = acceptor_turn own peer a message word in record { standing = of_acceptor turn.state; was = taken_as message turn.next; len = len }
+on_message own peer standing message word len = on_no_message standing
+
+-- what a frame of so many bytes carries
+abbrev pub on_item : Standing → Item → (len : ℕ) → Arrival
+on_item standing item len = record { standing = standing; was = taken.Item item; len = len }
 
 -- ---- the node's word on an attempt
 
@@ -175,9 +151,9 @@ abbrev pub awaits_admission_of : Standing → Bool
 awaits_admission_of (Accepting a) = awaits_admission a
 awaits_admission_of _ = false
 
--- the attempt goes on, or not, beside these others
-abbrev pub admitted_at : (own : Identity) → TrunkId → Standing → Others → Standing
-admitted_at own trunk (Accepting a) others = of_acceptor (admitted (status_due trunk.dialer own.name trunk.count others) a)
+-- the attempt goes on at the node of this name, or not, beside these others
+abbrev pub admitted_at : (own : List ℕ) → TrunkId → Standing → OtherConnections → Standing
+admitted_at own trunk (Accepting a) others = of_acceptor (admitted (status_due trunk.dialer own trunk.count others) a)
 admitted_at own trunk standing others = standing
 
 abbrev pub awaits_turn_of : Standing → Bool
@@ -185,10 +161,10 @@ awaits_turn_of (Accepting a) = awaits_turn a
 awaits_turn_of _ = false
 
 -- the challenge is sent
-abbrev pub gone_on : (own : Identity) → Standing → Standing
-gone_on own (Accepting a) = of_acceptor (goes_on own a).state
-gone_on own standing = standing
+abbrev pub gone_on : Standing → Standing
+gone_on (Accepting a) = of_acceptor (goes_on a)
+gone_on standing = standing
 
-abbrev pub goes_on_with : (own : Identity) → Standing → Next
-goes_on_with own (Accepting a) = (goes_on own a).next
-goes_on_with own standing = (waits standing).next
+abbrev pub challenge_at : Standing → ℕ
+challenge_at (Accepting a) = turn_challenge a
+challenge_at _ = 0

@@ -1,238 +1,203 @@
 //! One side of a connection.
-ghost use Rattle.std.specs.Prelude.{◌≡◌, ◌↔◌, ◌⊎◌, true, false, IsTrue, IsOk, IfOk, OnOk, OnErr, IfErr, IsErrOf, IsOkUnless};
-ghost use Rattle.erl_handshake.specs.declared.dialer.DialerState.TheVariants as dialer;
-ghost use Rattle.erl_handshake.specs.declared.acceptor.AcceptorState.TheVariants as acceptor;
-ghost use Rattle.erl_handshake.specs.Roles.{send_name};
+ghost use Rattle.std.specs.Prelude.{◌≡◌, ◌↔◌, ◌⊎◌, true, false, IfOk, IfSome, IfErr, IsErrOf, MatchOption, MatchResult, Some};
+ghost use Rattle.erl_handshake.specs.Roles.{challenge_of};
 ghost use Rattle.erl_handshake.specs.Admission.{admission};
+ghost use Rattle.conn_core.specs.declared.standing.Standing.TheVariants as standing;
 ghost use Rattle.conn_core.specs.Side as table;
-ghost use Rattle.conn_core.specs.Halves.{phase_of};
-ghost use Rattle.conn_core.specs.Arrivals.{IsOneItem, Arrives, TakesMemory};
+ghost use Rattle.conn_core.specs.Arrivals.{ArrivalDue, FrameDue, FrameTakesMemory, TakesMemory};
+ghost use Rattle.conn_core.specs.Happenings.{dialed, unheard};
 
-use crate::arriving::{frame_arrives, message_arrives};
-use crate::half::{Fate, Half, Phase};
-use crate::one_item::{is_one_frame, is_one_message};
-use crate::state::State;
-use crate::taken::Taken;
-use erl_handshake::{Acceptor, Admission, Dialer, Identity, Next, Others, ShakeMsg};
+use crate::arrival::{Arrival, Fault};
+use crate::standing::Standing;
+use erl_control::frame_at;
+use erl_handshake::{
+    AcceptorState, Admission, DialerState, Identity, OtherConnections, Role, ShakeFault, ShakeMsg,
+    read,
+};
 use erl_names::{NodeName, TrunkId};
 use erl_term::Refusal;
-use std::alloc::Global;
-use std::marker::Model;
+use std::alloc::{AllocError, Global};
 
-/// What one node keeps of a connection, or of an attempt at one. Contracts see who the node is, the
-/// connection, the other node, and how the side stands.
+/// What one node keeps of a connection, or of an attempt at one.
 ///
-/// (ERTS User's Guide, Distribution Protocol, Distribution Handshake and Protocol between Connected
-/// Nodes.)
-#[derive(Drop)]
+/// What happens to a side is first judged, by calls that leave it as it is, and then taken by setting
+/// `standing`, which can't be refused. Who the node is, is lent to each call. (ERTS User's Guide,
+/// Distribution Protocol, Distribution Handshake and Protocol between Connected Nodes.)
+#[derive(Debug, Drop)]
 pub struct Side {
-    half: Half,
-    fate: Fate,
-}
-
-impl Model for Side {
-    ghost use Rattle.conn_core.specs.Side.{Side as SideValue};
-    ghost use Rattle.conn_core.specs.Halves.{side_of};
-
-    ghost Value = { SideValue };
-
-    ghost view = { λ s. side_of s.half s.fate };
+    /// The connection.
+    pub trunk: TrunkId,
+    /// The other node.
+    pub peer: NodeName,
+    /// How the side stands.
+    pub standing: Standing,
 }
 
 impl Side {
-    /// The side of a node that dials this peer, under its count and a challenge of its own, and the
-    /// message that it sends. The only refusal is [`Refusal::OutOfMemory`]. (ERTS User's Guide,
-    /// Distribution Protocol, Distribution Handshake.)
-    pub fn dial(
-        own: Identity,
-        count: u64,
-        peer: NodeName,
-        challenge: u32,
-    ) -> Result<(Side, ShakeMsg), Refusal>
-        ensures side { IfOk result (λ x. x.0 ≡ record {
-          own = own;
-          trunk = record { dialer = own.name; count = count };
-          peer = peer;
-          standing = table.Dialing (dialer.AwaitsStatus challenge);
-        }) }
-        ensures sent { IfOk result (λ x. x.1 ≡ send_name own) }
-        ensures only_memory { IsOkUnless result Refusal.OutOfMemory }
-    {
-        let trunk = TrunkId {
-            dialer: own.name.clone()?,
-            count,
-        };
-        let dialer = Dialer::new(own, peer, challenge);
-        let message = dialer.send_name()?;
-        let side = Side {
-            half: Half::Dialer { trunk, dialer },
-            fate: Fate::Handshake,
-        };
-        Ok((side, message))
-    }
-
-    /// The side of a node that another dials, of which nothing has come yet. Takes no memory.
-    pub fn fresh(own: Identity, trunk: TrunkId) -> Side
-        ensures { result ≡ record {
-          own = own;
-          trunk = trunk;
-          peer = trunk.dialer;
-          standing = table.Accepting acceptor.AwaitsName;
-        } }
+    /// The side of a node that dials this peer, under a challenge of its own. What it sends is
+    /// [`Identity::send_name`]. Takes no memory. (ERTS User's Guide, Distribution Protocol,
+    /// Distribution Handshake.)
+    pub fn dial(trunk: TrunkId, peer: NodeName, challenge: u32) -> Side
+        ensures { result ≡ dialed trunk peer challenge }
     {
         Side {
-            half: Half::Acceptor(Acceptor::new(own, trunk)),
-            fate: Fate::Handshake,
+            trunk,
+            peer,
+            standing: Standing::Dialing(DialerState::AwaitsStatus { challenge }),
         }
     }
 
-    /// The connection.
-    pub fn trunk(&self) -> &TrunkId
-        ensures { result.now ≡ self.now.trunk }
-    {
-        self.half.trunk()
-    }
-
-    /// The other node.
-    pub fn peer(&self) -> &NodeName
-        ensures { result.now ≡ self.now.peer }
-    {
-        self.half.peer()
-    }
-
-    /// How the side stands.
-    pub fn state(&self) -> State
-        ensures { result ≡ table.state_of self.now.standing }
-    {
-        match self.fate {
-            Fate::Handshake => self.half.state(),
-            Fate::Losing { .. } => State::Losing,
-            Fate::Gone => State::Gone,
-        }
-    }
-
-    /// The peer's creation, from when the peer has said it until the side is gone.
-    pub fn peer_creation(&self) -> Option<u32>
-        ensures { result ≡ table.peer_creation self.now.standing }
-    {
-        match self.fate {
-            Fate::Handshake => self.half.peer_creation(),
-            Fate::Losing { creation } => Some(creation),
-            Fate::Gone => None,
-        }
-    }
-
-    /// Whether the bytes are one whole item for this side, which may be faulty: the length at the
-    /// front counts all that follows it, or is too long by itself. Takes no memory.
-    pub fn is_one_item(&self, bytes: &[u8]) -> bool
-        ensures { IsTrue result ↔ IsOneItem self.now.standing bytes.now }
-    {
-        match self.phase() {
-            Phase::Shaking => is_one_message(bytes),
-            Phase::Up { .. } => is_one_frame(bytes),
-            Phase::Losing { .. } | Phase::Gone => true,
-        }
-    }
-
-    /// An item arrives from the peer: a message of the handshake, or a frame at a side that is up.
+    /// The side of a node that another dials, of which nothing has come yet.
     ///
-    /// The bytes have to be one whole item, or faulty ([`Side::is_one_item`]). The word becomes the
-    /// challenge of a side that is fresh, and is not used elsewhere. A fault leaves a side that was
-    /// up Losing, and any other Gone. Refused with [`Refusal::NotLive`] on a side that is Losing or
-    /// Gone, and with [`Refusal::OutOfMemory`] only where a message or a signal has come; nothing
-    /// changes then. (ERTS User's Guide, Distribution Protocol, Distribution Handshake and Protocol
-    /// between Connected Nodes.)
-    pub fn arrive(&mut self, alloc: Global, bytes: &[u8], word: u32) -> Result<Taken, Refusal>
-        requires { IsOneItem self.old.standing bytes.now }
-        ensures ok { IfOk result (λ was. Arrives self.old bytes.now word (record { standing = self.new.standing; was = was })) }
-        ensures rest { self.new ≡ record self.old { standing = self.new.standing } }
-        ensures err { OnErr result (self.new ≡ self.old) }
-        ensures not_live { IsErrOf result Refusal.NotLive ↔ (table.listens (table.state_of self.old.standing) ≡ false) }
-        ensures memory { IsErrOf result Refusal.OutOfMemory → TakesMemory self.old.standing bytes.now }
+    /// # Errors
+    /// Where there is no memory for the peer's name.
+    pub fn fresh(trunk: TrunkId) -> Result<Side, AllocError>
+        ensures { IfOk result (λ side. side ≡ unheard trunk) }
+    {
+        Ok(Side {
+            peer: trunk.dialer.clone()?,
+            trunk,
+            standing: Standing::Accepting(AcceptorState::AwaitsName),
+        })
+    }
+
+    /// What bytes from the peer come to: the message of the handshake at their front, or at a side
+    /// that is up the frame. None asks for more bytes. Changes nothing.
+    ///
+    /// The word becomes the challenge of a side that is fresh, and is not used elsewhere. A fault
+    /// leaves a side that was up Losing, and any other Gone. (ERTS User's Guide, Distribution
+    /// Protocol, Distribution Handshake and Protocol between Connected Nodes.)
+    ///
+    /// # Errors
+    /// [`Refusal::NotLive`] on a side that is Losing or Gone, and [`Refusal::OutOfMemory`], only where
+    /// a message or a signal has come.
+    pub fn judge(
+        &self,
+        alloc: Global,
+        own: &Identity,
+        bytes: &[u8],
+        word: u32,
+    ) -> Result<Option<Arrival>, Refusal>
+        ensures ok { IfOk result (λ due. ArrivalDue own.now self.now bytes.now word due) }
+        ensures not_live { IsErrOf result Refusal.NotLive ↔ (table.listens (table.state_of self.now.standing) ≡ false) }
+        ensures memory { IsErrOf result Refusal.OutOfMemory → TakesMemory self.now.standing bytes.now }
         ensures only { IfErr result (λ e. (e ≡ Refusal.NotLive) ⊎ (e ≡ Refusal.OutOfMemory)) }
     {
-        let (fate, taken) = match self.phase() {
-            Phase::Shaking => message_arrives(alloc, &mut self.half, bytes, word)?,
-            Phase::Up { creation } => frame_arrives(alloc, creation, bytes)?,
-            Phase::Losing { .. } | Phase::Gone => return Err(Refusal::NotLive),
-        };
-        self.fate = fate;
-        Ok(taken)
-    }
-
-    /// Decides whether the attempt of the peer goes on, beside the others that this node has with it
-    /// ([`Acceptor::admit`]). Refused with [`Refusal::NothingThere`] where the side doesn't await
-    /// this. Takes no memory. (ERTS User's Guide, Distribution Protocol, Distribution Handshake.)
-    pub fn admit(&mut self, others: Others) -> Result<Admission, Refusal>
-        ensures due { IsOk result ↔ (table.awaits_admission_of self.old.standing ≡ true) }
-        ensures only { IsOkUnless result Refusal.NothingThere }
-        ensures ok { let was = self.old in
-            IfOk result (λ a. a ≡ admission was.trunk.dialer was.own.name was.trunk.count others) }
-        ensures side { let was = self.old in
-            OnOk result (self.new ≡ record was { standing = table.admitted_at was.own was.trunk was.standing others }) }
-        ensures err { OnErr result (self.new ≡ self.old) }
-    {
-        match self.fate {
-            Fate::Handshake => self.half.admit(others),
-            Fate::Losing { .. } | Fate::Gone => Err(Refusal::NothingThere),
+        match self.standing {
+            Standing::Dialing(state) => self.judge_dialing(alloc, own, state, bytes),
+            Standing::Accepting(state) => self.judge_accepting(alloc, own, state, bytes, word),
+            Standing::Up { .. } => judge_frame(alloc, self.standing, bytes),
+            Standing::Losing { .. } | Standing::Gone => Err(Refusal::NotLive),
         }
     }
 
-    /// Sends the challenge, now that no older connection stands in the way ([`Acceptor::go_on`]).
-    /// Refused with [`Refusal::NothingThere`] where the side doesn't await this, and with
-    /// [`Refusal::OutOfMemory`] only where it does; nothing changes then. (ERTS User's Guide,
-    /// Distribution Protocol, Distribution Handshake.)
-    pub fn go_on(&mut self) -> Result<Next, Refusal>
-        ensures due { IsErrOf result Refusal.NothingThere ↔ (table.awaits_turn_of self.old.standing ≡ false) }
-        ensures only { IfErr result (λ e. (e ≡ Refusal.NothingThere) ⊎ (e ≡ Refusal.OutOfMemory)) }
-        ensures ok { IfOk result (λ next. next ≡ table.goes_on_with self.old.own self.old.standing) }
-        ensures side { let was = self.old in
-            OnOk result (self.new ≡ record was { standing = table.gone_on was.own was.standing }) }
-        ensures err { OnErr result (self.new ≡ self.old) }
-    {
-        match self.fate {
-            Fate::Handshake => self.half.go_on(),
-            Fate::Losing { .. } | Fate::Gone => Err(Refusal::NothingThere),
-        }
-    }
-
-    /// The connection is lost, or the attempt given up: a side that was up is Losing, any other is
-    /// Gone. Refused with [`Refusal::NotLive`] on a side that is Fresh, Losing or Gone, and nothing
-    /// changes then. Takes no memory. (ERTS User's Guide, Distribution Protocol, Distribution
+    /// Decides whether the attempt of the peer goes on at the node of this name, beside the other
+    /// connections that the node has with the peer ([`AcceptorState::admit`]). Answers how the side
+    /// stands then, and what is said to the peer; None where the side doesn't await this. Changes
+    /// nothing, and takes no memory. (ERTS User's Guide, Distribution Protocol, Distribution
     /// Handshake.)
-    pub fn lose(&mut self) -> Result<(), Refusal>
-        ensures live { IsOk result ↔ (table.is_live (table.state_of self.old.standing) ≡ true) }
-        ensures only { IsOkUnless result Refusal.NotLive }
-        ensures ok { OnOk result (self.new ≡ record self.old { standing = table.lost self.old.standing }) }
-        ensures err { OnErr result (self.new ≡ self.old) }
+    pub fn admit(&self, own: &NodeName, others: OtherConnections) -> Option<(Standing, Admission)>
+        ensures due { let awaits = table.awaits_admission_of self.now.standing in
+            MatchOption result (awaits ≡ false) (λ _. awaits ≡ true) }
+        ensures standing { IfSome result (λ x. x.0 ≡ table.admitted_at own.now self.now.trunk self.now.standing others) }
+        ensures admission { let trunk = self.now.trunk in
+            IfSome result (λ x. x.1 ≡ admission trunk.dialer own.now trunk.count others) }
     {
-        match self.state() {
-            State::Fresh | State::Losing | State::Gone => return Err(Refusal::NotLive),
-            State::Dialing | State::Asked | State::Parked | State::Accepting | State::Up => {}
+        match self.standing {
+            Standing::Accepting(state) => {
+                let (state, admission) = state.admit(own, &self.trunk, others)?;
+                Some((state.into(), admission))
+            }
+            _ => None,
         }
-        self.fate = match self.phase() {
-            Phase::Up { creation } => Fate::Losing { creation },
-            _ => Fate::Gone,
+    }
+
+    /// Sends the challenge, now that no older connection stands in the way
+    /// ([`AcceptorState::send_challenge`]): answers how the side stands then, and the message
+    /// send_challenge. None where the side doesn't await this. Changes nothing. (ERTS User's Guide,
+    /// Distribution Protocol, Distribution Handshake.)
+    ///
+    /// # Errors
+    /// Where the side awaits this, and there is no memory for the name in the challenge.
+    pub fn send_challenge(&self, own: &Identity) -> Result<Option<(Standing, ShakeMsg)>, AllocError>
+        ensures due { let awaits = table.awaits_turn_of self.now.standing in
+            MatchResult result (λ x. MatchOption x (awaits ≡ false) (λ _. awaits ≡ true)) (λ _. awaits ≡ true) }
+        ensures standing { IfOk result (λ x. IfSome x (λ c. c.0 ≡ table.gone_on self.now.standing)) }
+        ensures message { IfOk result (λ x. IfSome x (λ c. c.1 ≡ challenge_of own.now (table.challenge_at self.now.standing))) }
+    {
+        let Standing::Accepting(state) = self.standing else {
+            return Ok(None);
         };
-        Ok(())
-    }
-
-    /// What the node kept of the connection is cleared away, or the node has stopped: the side is
-    /// Gone. Takes no memory.
-    pub fn close(&mut self)
-        ensures { self.new ≡ record self.old { standing = table.Gone } }
-    {
-        self.fate = Fate::Gone;
-    }
-
-    // What the side takes.
-    fn phase(&self) -> Phase
-        ensures { result ≡ phase_of self.now.standing }
-    {
-        match self.fate {
-            Fate::Handshake => self.half.phase(),
-            Fate::Losing { creation } => Phase::Losing { creation },
-            Fate::Gone => Phase::Gone,
+        match state.send_challenge(own)? {
+            Some((state, message)) => Ok(Some((state.into(), message))),
+            None => Ok(None),
         }
+    }
+
+    // What comes to a side that dials.
+    fn judge_dialing(
+        &self,
+        alloc: Global,
+        own: &Identity,
+        state: DialerState,
+        bytes: &[u8],
+    ) -> Result<Option<Arrival>, Refusal>
+        ensures ok { IfOk result (λ due. ArrivalDue own.now (record self.now { standing = standing.Dialing state }) bytes.now 0 due) }
+        ensures memory { IfErr result (λ e. (e ≡ Refusal.OutOfMemory) × TakesMemory (standing.Dialing state) bytes.now) }
+    {
+        match read(alloc, Role::Dialer, bytes) {
+            Ok(Some((message, len))) => {
+                let turn = state.step(own, &self.peer, &message);
+                Ok(Some(Arrival::of_message(turn.state.into(), message, turn.next, len)))
+            }
+            Ok(None) => Ok(None),
+            Err(Refusal::OutOfMemory) => Err(Refusal::OutOfMemory),
+            Err(_) => Ok(Some(unread(Standing::Dialing(state)))),
+        }
+    }
+
+    // What comes to a side that another node dials.
+    fn judge_accepting(
+        &self,
+        alloc: Global,
+        own: &Identity,
+        state: AcceptorState,
+        bytes: &[u8],
+        word: u32,
+    ) -> Result<Option<Arrival>, Refusal>
+        ensures ok { IfOk result (λ due. ArrivalDue own.now (record self.now { standing = standing.Accepting state }) bytes.now word due) }
+        ensures memory { IfErr result (λ e. (e ≡ Refusal.OutOfMemory) × TakesMemory (standing.Accepting state) bytes.now) }
+    {
+        match read(alloc, Role::Acceptor, bytes) {
+            Ok(Some((message, len))) => {
+                let turn = state.step(own, &self.peer, &message, word);
+                Ok(Some(Arrival::of_message(turn.state.into(), message, turn.next, len)))
+            }
+            Ok(None) => Ok(None),
+            Err(Refusal::OutOfMemory) => Err(Refusal::OutOfMemory),
+            Err(_) => Ok(Some(unread(Standing::Accepting(state)))),
+        }
+    }
+}
+
+// Bytes come that are no message of the handshake.
+fn unread(standing: Standing) -> Arrival
+    ensures { result ≡ table.on_no_message standing }
+{
+    Arrival::broken(standing, Fault::Shake(ShakeFault::BadMessage))
+}
+
+// What comes to a side that is up.
+fn judge_frame(alloc: Global, standing: Standing, bytes: &[u8]) -> Result<Option<Arrival>, Refusal>
+    ensures ok { IfOk result (λ due. FrameDue standing bytes.now due) }
+    ensures memory { IfErr result (λ e. (e ≡ Refusal.OutOfMemory) × FrameTakesMemory bytes.now) }
+{
+    match frame_at(bytes) {
+        Ok(Some((item, len))) => {
+            let item = item.to_item(alloc)?;
+            Ok(Some(Arrival::of_item(standing, item, len)))
+        }
+        Ok(None) => Ok(None),
+        Err(why) => Ok(Some(Arrival::broken(standing, Fault::Frame(why)))),
     }
 }

@@ -1,9 +1,11 @@
-//! How a side of a connection stands.
+//! The states of a side of a connection, by name.
+ghost use Rattle.std.specs.Prelude.{◌≡◌};
+ghost use Rattle.conn_core.specs.Side as table;
 
-/// How a side of a connection stands. (ERTS User's Guide, Distribution Protocol, Distribution
-/// Handshake.)
+/// How a side of a connection stands, by name. (ERTS User's Guide, Distribution Protocol,
+/// Distribution Handshake.)
 #[derive(Clone, Copy, Debug, PartialEq, Eq)]
-pub enum State {
+pub enum SideState {
     /// The peer dials, and nothing was answered yet.
     Fresh,
     /// This node dials: it awaits the peer's status, challenge or acknowledgement.
@@ -20,4 +22,27 @@ pub enum State {
     Losing,
     /// There is no connection.
     Gone,
+}
+
+impl SideState {
+    /// Whether there is a connection, or an attempt at one, that can be lost.
+    pub fn is_live(self) -> bool
+        ensures { result ≡ table.is_live self }
+    {
+        match self {
+            SideState::Dialing
+            | SideState::Asked
+            | SideState::Parked
+            | SideState::Accepting
+            | SideState::Up => true,
+            SideState::Fresh | SideState::Losing | SideState::Gone => false,
+        }
+    }
+
+    /// Whether anything may arrive.
+    pub fn listens(self) -> bool
+        ensures { result ≡ table.listens self }
+    {
+        self == SideState::Fresh || self.is_live()
+    }
 }

@@ -1,7 +1,7 @@
 //! Messages of the handshake as the distribution protocol has them, written by hand.
 use erl_handshake::{
     Flag, Flags, Role, ShakeMsg, Status, digest, digests, flags_by_bits, one_answer, one_message,
-    read, read_again, write, written_is_shake,
+    read, read_again, short_messages, write, written_is_shake,
 };
 use erl_names::NodeName;
 use erl_term::Refusal;
@@ -539,6 +539,7 @@ fn laws() {
     one_answer();
     one_message();
     read_again();
+    short_messages();
     written_is_shake();
     flags_by_bits();
     digests();

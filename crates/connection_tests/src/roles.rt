@@ -2,9 +2,9 @@
 use crate::handshakes::Message::*;
 use crate::handshakes::{CHALLENGE, DIGEST, MANDATORY, Message, made};
 use erl_handshake::{
-    Acceptor, AcceptorState, Admission, Cookie, Dialer, DialerState, Flags, Identity, Next, Others,
-    Outcome, ShakeMsg, Status, done_only_by_digest, handshake_comes_about, later_attempt_goes_on,
-    one_of_two_dials,
+    AcceptorState, Admission, Cookie, DialerState, Flags, Identity, Next, OtherConnections,
+    Progress, ShakeFault, ShakeMsg, Status, done_only_by_digest, handshake_comes_about,
+    later_attempt_goes_on, one_of_two_dials, right_peers_pass,
 };
 use erl_names::{Creation, NodeName, TrunkId};
 use erl_term::Refusal;
@@ -36,13 +36,13 @@ const REPLY: Message = SendReply(CHALLENGE, DIGEST);
 
 const ACK: Message = SendAck(DIGEST);
 
-const ALONE: Others = Others {
+const ALONE: OtherConnections = OtherConnections {
     waiting: None,
     connected: false,
     dialing: false,
 };
 
-const CONNECTED: Others = Others {
+const CONNECTED: OtherConnections = OtherConnections {
     waiting: None,
     connected: true,
     dialing: false,
@@ -58,16 +58,16 @@ enum Answer {
     /// The nodes are connected, and this is sent.
     Done(Option<Message>),
     /// The handshake ends.
-    Ends(Refusal),
+    Ends(ShakeFault),
 }
 
 use Answer::*;
 
-const UNDUE: Answer = Ends(Refusal::BadMessage);
+const UNDUE: Answer = Ends(ShakeFault::BadMessage);
 
-const MISSING: Answer = Ends(Refusal::FlagsMissing);
+const MISSING: Answer = Ends(ShakeFault::FlagsMissing);
 
-const FORGED: Answer = Ends(Refusal::Forged);
+const FORGED: Answer = Ends(ShakeFault::Forged);
 
 /// Messages that come to a dialer of b@h, and what they do.
 type Turns = &'static [(Message, Answer)];
@@ -90,8 +90,8 @@ const DIALERS: &[(Turns, Message, Answer)] = &[
         SendStatus(Status::Alive),
         Says(SendStatus(Status::True)),
     ),
-    (&[], SendStatus(Status::Nok), Ends(Refusal::Nok)),
-    (&[], SendStatus(Status::NotAllowed), Ends(Refusal::Nok)),
+    (&[], SendStatus(Status::Nok), Ends(ShakeFault::Nok)),
+    (&[], SendStatus(Status::NotAllowed), Ends(ShakeFault::Nok)),
     (&[], SendStatus(Status::True), UNDUE),
     (&[], SendStatus(Status::False), UNDUE),
     // Missing flags, and before that another name.
@@ -115,7 +115,7 @@ const DIALERS: &[(Turns, Message, Answer)] = &[
         SendChallenge(NO_UNLINK, CHALLENGE, 7, "c@h"),
         FORGED,
     ),
-    (REPLIED, SendAck(WRONG), Ends(Refusal::BadDigest)),
+    (REPLIED, SendAck(WRONG), Ends(ShakeFault::BadDigest)),
     // Messages that aren't due.
     (CHALLENGED, OK, UNDUE),
     (CHALLENGED, ACK, UNDUE),
@@ -131,7 +131,7 @@ enum Step {
     /// A message comes.
     Comes(Message, Answer),
     /// The attempt is decided on beside these others: it goes on, and this status is sent.
-    Admits(Others, Status),
+    Admits(OtherConnections, Status),
     /// The challenge may be sent.
     GoesOn,
     /// Neither is awaited: each is refused, and changes nothing.
@@ -163,7 +163,10 @@ const ACCEPTORS: &[(&[Step], Step)] = &[
     (ASKED, Comes(SendStatus(Status::NotAllowed), UNDUE)),
     (ASKED, Comes(SendStatus(Status::Alive), UNDUE)),
     (ASKED, Comes(SendStatus(Status::True), Waits)),
-    (ASKED, Comes(SendStatus(Status::False), Ends(Refusal::Nok))),
+    (
+        ASKED,
+        Comes(SendStatus(Status::False), Ends(ShakeFault::Nok)),
+    ),
     // Missing flags, before that another name, and more flags.
     (&[], Comes(SendName(NO_UNLINK, 7, "a@h"), MISSING)),
     (&[], Comes(SendName(NO_WORDS, 7, "a@h"), MISSING)),
@@ -172,7 +175,7 @@ const ACCEPTORS: &[(&[Step], Step)] = &[
     (&[], Comes(SendName(MORE_FLAGS, 7, "a@h"), Waits)),
     (
         CHALLENGING,
-        Comes(SendReply(CHALLENGE, WRONG), Ends(Refusal::BadDigest)),
+        Comes(SendReply(CHALLENGE, WRONG), Ends(ShakeFault::BadDigest)),
     ),
     // Messages that aren't due.
     (&[], Comes(REPLY, UNDUE)),
@@ -195,17 +198,42 @@ fn identity(alloc: Global, name: &str) -> Result<Identity, Refusal> {
     })
 }
 
+/// A dialer: who it is, its peer, and what it awaits.
+#[derive(Drop)]
+struct Dialing {
+    own: Identity,
+    peer: NodeName,
+    state: DialerState,
+}
+
 /// The dialer of a@h, whose peer is b@h.
-fn dialer(alloc: Global) -> Result<Dialer, Refusal> {
-    let own = identity(alloc, "a@h")?;
-    Ok(Dialer::new(own, NodeName::read(alloc, "b@h")?, CHALLENGE))
+fn dialer(alloc: Global) -> Result<Dialing, Refusal> {
+    Ok(Dialing {
+        own: identity(alloc, "a@h")?,
+        peer: NodeName::read(alloc, "b@h")?,
+        state: DialerState::AwaitsStatus {
+            challenge: CHALLENGE,
+        },
+    })
+}
+
+/// An acceptor: who it is, whose attempt it takes, and what it awaits.
+#[derive(Drop)]
+struct Accepting {
+    own: Identity,
+    trunk: TrunkId,
+    state: AcceptorState,
 }
 
 /// The acceptor of the attempt that a@h counts as this one.
-fn acceptor(alloc: Global, own: &str, count: u64) -> Result<Acceptor, Refusal> {
+fn acceptor(alloc: Global, own: &str, count: u64) -> Result<Accepting, Refusal> {
     let own = identity(alloc, own)?;
     let dialer = NodeName::read(alloc, "a@h")?;
-    Ok(Acceptor::new(own, TrunkId { dialer, count }))
+    Ok(Accepting {
+        own,
+        trunk: TrunkId { dialer, count },
+        state: AcceptorState::AwaitsName,
+    })
 }
 
 /// Whether this is the message.
@@ -227,13 +255,13 @@ fn is_sent(alloc: Global, next: &Next, wanted: Option<Message>) -> Result<bool, 
 
 /// Whether a step has this answer.
 fn is_answer(alloc: Global, next: &Next, answer: Answer) -> Result<bool, Refusal> {
-    let (outcome, send) = match answer {
-        Waits => (Outcome::Go, None),
-        Says(message) => (Outcome::Go, Some(message)),
-        Done(message) => (Outcome::Done, message),
-        Ends(why) => (Outcome::Ended(why), None),
+    let (progress, send) = match answer {
+        Waits => (Progress::Go, None),
+        Says(message) => (Progress::Go, Some(message)),
+        Done(message) => (Progress::Done, message),
+        Ends(why) => (Progress::Ended(why), None),
     };
-    Ok(next.outcome == outcome && is_sent(alloc, next, send)?)
+    Ok(next.progress == progress && is_sent(alloc, next, send)?)
 }
 
 /// Whether the dialer is connected, or has ended, where the answer says so.
@@ -248,22 +276,23 @@ fn is_dialer_at(state: DialerState, answer: Answer) -> bool {
 /// Whether the message does this to the dialer.
 fn dialer_answers(
     alloc: Global,
-    dialer: &mut Dialer,
+    dialer: &mut Dialing,
     message: Message,
     answer: Answer,
 ) -> Result<bool, Refusal> {
     let message = made(alloc, message)?;
-    let next = dialer.step(&message, 0);
+    let turn = dialer.state.step(&dialer.own, &dialer.peer, &message);
     drop(message);
-    let is_so = is_answer(alloc, &next, answer);
-    drop(next);
-    Ok(is_so? && is_dialer_at(dialer.state(), answer))
+    dialer.state = turn.state;
+    let is_so = is_answer(alloc, &turn.next, answer);
+    drop(turn);
+    Ok(is_so? && is_dialer_at(dialer.state, answer))
 }
 
 /// Whether each message does to the dialer what it has to.
 fn dialer_turns(
     alloc: Global,
-    dialer: &mut Dialer,
+    dialer: &mut Dialing,
     turns: &[(Message, Answer)],
 ) -> Result<bool, Refusal> {
     for (message, answer) in turns {
@@ -312,7 +341,7 @@ fn is_acceptor_at(state: AcceptorState, answer: Answer) -> bool {
 /// dialer's name comes.
 fn acceptor_answers(
     alloc: Global,
-    acceptor: &mut Acceptor,
+    acceptor: &mut Accepting,
     message: Message,
     answer: Answer,
 ) -> Result<bool, Refusal> {
@@ -321,85 +350,73 @@ fn acceptor_answers(
         _ => 0,
     };
     let message = made(alloc, message)?;
-    let next = acceptor.step(&message, word);
+    let trunk = &acceptor.trunk;
+    let turn = acceptor
+        .state
+        .step(&acceptor.own, &trunk.dialer, &message, word);
     drop(message);
-    let is_so = is_answer(alloc, &next, answer);
-    drop(next);
-    Ok(is_so? && is_acceptor_at(acceptor.state(), answer))
-}
-
-/// What becomes of an attempt.
-#[derive(Clone, Copy, PartialEq, Eq)]
-struct Decision {
-    /// The status that is sent.
-    said: Option<Status>,
-    outcome: Outcome,
-    ends_waiting: bool,
-    ends_dialing: bool,
-}
-
-fn decision_of(admission: &Result<Admission, Refusal>) -> Result<Decision, Refusal> {
-    match admission {
-        Ok(admission) => Ok(Decision {
-            said: status_of(&admission.next),
-            outcome: admission.next.outcome,
-            ends_waiting: admission.ends_waiting,
-            ends_dialing: admission.ends_dialing,
-        }),
-        Err(why) => Err(*why),
-    }
-}
-
-/// The status that is sent.
-fn status_of(next: &Next) -> Option<Status> {
-    match &next.send {
-        Some(ShakeMsg::Status(status)) => Some(*status),
-        _ => None,
-    }
+    acceptor.state = turn.state;
+    let is_so = is_answer(alloc, &turn.next, answer);
+    drop(turn);
+    Ok(is_so? && is_acceptor_at(acceptor.state, answer))
 }
 
 /// What is decided on the attempt.
-fn decided(acceptor: &mut Acceptor, others: Others) -> Result<Decision, Refusal> {
-    let admission = acceptor.admit(others);
-    let decision = decision_of(&admission);
-    drop(admission);
-    decision
+fn decided(acceptor: &mut Accepting, others: OtherConnections) -> Result<Admission, Refusal> {
+    let own = &acceptor.own.name;
+    let Some((state, admission)) = acceptor.state.admit(own, &acceptor.trunk, others) else {
+        return Err(Refusal::NothingThere);
+    };
+    acceptor.state = state;
+    Ok(admission)
 }
 
 /// Whether the attempt goes on, and is told so.
-fn admits(acceptor: &mut Acceptor, others: Others, status: Status) -> Result<bool, Refusal> {
-    let decision = decided(acceptor, others)?;
-    Ok(decision.said == Some(status) && decision.outcome == Outcome::Go)
+fn admits(
+    acceptor: &mut Accepting,
+    others: OtherConnections,
+    status: Status,
+) -> Result<bool, Refusal> {
+    let admission = decided(acceptor, others)?;
+    Ok(admission.status == status && admission.progress == Progress::Go)
 }
 
 /// Whether the challenge of b@h is sent.
-fn goes_on(alloc: Global, acceptor: &mut Acceptor) -> Result<bool, Refusal> {
-    let next = acceptor.go_on()?;
-    let challenge = SendChallenge(MANDATORY, CHALLENGE, 1, "b@h");
-    let is_so = is_answer(alloc, &next, Says(challenge));
-    drop(next);
+fn goes_on(alloc: Global, acceptor: &mut Accepting) -> Result<bool, Refusal> {
+    let Some((state, message)) = acceptor.state.send_challenge(&acceptor.own)? else {
+        return Ok(false);
+    };
+    acceptor.state = state;
+    let is_so = is_message(
+        alloc,
+        &message,
+        SendChallenge(MANDATORY, CHALLENGE, 1, "b@h"),
+    );
+    drop(message);
     is_so
 }
 
-fn refuses_calls(acceptor: &mut Acceptor) -> bool {
-    let before = acceptor.state();
-    acceptor.admit(ALONE).err() == Some(Refusal::NothingThere)
-        && acceptor.go_on().err() == Some(Refusal::NothingThere)
-        && acceptor.state() == before
+/// Whether the acceptor awaits neither call of its node.
+fn refuses_calls(acceptor: &Accepting) -> Result<bool, Refusal> {
+    let own = &acceptor.own.name;
+    let goes_on = acceptor.state.send_challenge(&acceptor.own)?;
+    let is_quiet = goes_on.is_none();
+    drop(goes_on);
+    Ok(is_quiet && acceptor.state.admit(own, &acceptor.trunk, ALONE).is_none())
 }
 
 /// Whether the step comes out as it has to.
-fn goes(alloc: Global, acceptor: &mut Acceptor, step: Step) -> Result<bool, Refusal> {
+fn goes(alloc: Global, acceptor: &mut Accepting, step: Step) -> Result<bool, Refusal> {
     match step {
         Comes(message, answer) => acceptor_answers(alloc, acceptor, message, answer),
         Admits(others, status) => admits(acceptor, others, status),
         GoesOn => goes_on(alloc, acceptor),
-        RefusesCalls => Ok(refuses_calls(acceptor)),
+        RefusesCalls => refuses_calls(acceptor),
     }
 }
 
 /// Whether each step comes out as it has to.
-fn acceptor_goes(alloc: Global, acceptor: &mut Acceptor, steps: &[Step]) -> Result<bool, Refusal> {
+fn acceptor_goes(alloc: Global, acceptor: &mut Accepting, steps: &[Step]) -> Result<bool, Refusal> {
     for step in steps {
         if !goes(alloc, acceptor, *step)? {
             return Ok(false);
@@ -426,17 +443,17 @@ fn acceptors(rt: HostRuntime) -> Result<(), Fail> {
 }
 
 /// What is said to a dialer, and whether the attempt goes on.
-type Said = (Status, Outcome);
+type Said = (Status, Progress);
 
-const TOLD: Said = (Status::Ok, Outcome::Go);
+const TOLD: Said = (Status::Ok, Progress::Go);
 
-const TOLD_OF_BOTH: Said = (Status::OkSimultaneous, Outcome::Go);
+const TOLD_OF_BOTH: Said = (Status::OkSimultaneous, Progress::Go);
 
-const QUESTIONED: Said = (Status::Alive, Outcome::Go);
+const QUESTIONED: Said = (Status::Alive, Progress::Go);
 
-const REFUSED: Said = (Status::Nok, Outcome::Ended(Refusal::Nok));
+const REFUSED: Said = (Status::Nok, Progress::Ended(ShakeFault::Nok));
 
-const TOO_LATE: Said = (Status::Nok, Outcome::Ended(Refusal::Superseded));
+const TOO_LATE: Said = (Status::Nok, Progress::Ended(ShakeFault::Superseded));
 
 /// The second attempt of a@h. The acceptor's name, which is greater than a@h or isn't; the count of
 /// a waiting attempt; whether there is a connection, and whether the acceptor dials; what is said;
@@ -461,7 +478,7 @@ const DECISIONS: &[Line] = &[
 ];
 
 /// What is decided on the second attempt of a@h at this node.
-fn decision_at(alloc: Global, own: &str, others: Others) -> Result<Decision, Refusal> {
+fn decision_at(alloc: Global, own: &str, others: OtherConnections) -> Result<Admission, Refusal> {
     let mut acceptor = acceptor(alloc, own, 2)?;
     let greeted = acceptor_goes(alloc, &mut acceptor, GREETED);
     let decision = decided(&mut acceptor, others);
@@ -474,15 +491,15 @@ fn decision_at(alloc: Global, own: &str, others: Others) -> Result<Decision, Ref
 
 /// Whether the attempt is decided on so.
 fn is_decided(alloc: Global, line: Line) -> Result<bool, Refusal> {
-    let (own, waiting, connected, dialing, (said, outcome), ends_waiting, ends_dialing) = line;
-    let others = Others {
+    let (own, waiting, connected, dialing, (status, progress), ends_waiting, ends_dialing) = line;
+    let others = OtherConnections {
         waiting,
         connected,
         dialing,
     };
-    let wanted = Decision {
-        said: Some(said),
-        outcome,
+    let wanted = Admission {
+        status,
+        progress,
         ends_waiting,
         ends_dialing,
     };
@@ -498,35 +515,25 @@ fn decisions(rt: HostRuntime) -> Result<(), Fail> {
 }
 
 /// Whether the first message is the name of a@h.
-fn gives_its_name(alloc: Global, dialer: &Dialer) -> Result<bool, Refusal> {
-    let message = dialer.send_name()?;
+fn gives_its_name(alloc: Global, dialer: &Dialing) -> Result<bool, Refusal> {
+    let message = dialer.own.send_name()?;
     let is_so = is_message(alloc, &message, SendName(MANDATORY, 1, "a@h"));
     drop(message);
     is_so
 }
 
-/// Whether the dialer has its peer, and gives its name.
+/// Whether a dialer gives its name.
 fn is_dialer(alloc: Global) -> Result<bool, Refusal> {
     let dialer = dialer(alloc)?;
-    let is_of_peer = dialer.peer().text() == "b@h";
     let is_named = gives_its_name(alloc, &dialer);
     drop(dialer);
-    Ok(is_of_peer && is_named?)
+    is_named
 }
 
-/// Whether the acceptor has its attempt.
-fn is_acceptor(alloc: Global) -> Result<bool, Refusal> {
-    let acceptor = acceptor(alloc, "b@h", 3)?;
-    let is_so = acceptor.trunk().dialer.text() == "a@h" && acceptor.trunk().count == 3;
-    drop(acceptor);
-    Ok(is_so)
-}
-
-/// Who takes part, and a cookie of which there are two.
+/// The name of a dialer, and a cookie of which there are two.
 #[test]
 fn parties(rt: HostRuntime) -> Result<(), Fail> {
     assert!(rt; is_dialer(rt.alloc())?);
-    assert!(rt; is_acceptor(rt.alloc())?);
     let cookie = Cookie::new(Vec::from_slice(rt.alloc(), b"secret")?);
     assert!(rt; cookie.clone()?.as_slice() == b"secret".as_slice());
     Ok(())
@@ -549,4 +556,5 @@ fn laws() {
     handshake_comes_about();
     later_attempt_goes_on();
     one_of_two_dials();
+    right_peers_pass();
 }

@@ -1,8 +1,12 @@
 //! Sides driven by hand, message by message, over the bytes that travel.
-use conn_core::{Fault, Side, State, Taken, one_arrival, up_only_by_digest};
-use erl_control::{FrameError, Item};
+use conn_core::{
+    Arrival, Fault, Side, SideState, Standing, Taken, one_arrival, two_sides_come_up,
+    up_only_by_digest,
+};
+use erl_control::{FrameFault, Item};
 use erl_handshake::{
-    Admission, Cookie, Flags, Identity, Next, Others, Outcome, ShakeMsg, Status, write,
+    Admission, Cookie, Flags, Identity, OtherConnections, Progress, ShakeFault, ShakeMsg, Status,
+    put, write,
 };
 use erl_names::{Creation, NodeName, TrunkId};
 use erl_term::{Refusal, TermError};
@@ -58,20 +62,20 @@ const LONG_NAME: &[u8] = b"\0\x14N\0\0\0\x04\x03\x05\x01\x0C\0\0\0\x01\0\x03a@h\
 const OTHER_DIGEST: &[u8] =
     b"\0\x11a\x57\xED\xF4\xA2\x2B\xE3\xC9\x55\xAC\x49\xDA\x2E\x21\x07\xB6\0";
 
-const ALONE: Others = Others {
+const ALONE: OtherConnections = OtherConnections {
     waiting: None,
     connected: false,
     dialing: false,
 };
 
-const CONNECTED: Others = Others {
+const CONNECTED: OtherConnections = OtherConnections {
     waiting: None,
     connected: true,
     dialing: false,
 };
 
 /// A later attempt of the same dialer goes on.
-const LATER: Others = Others {
+const LATER: OtherConnections = OtherConnections {
     waiting: Some(2),
     connected: false,
     dialing: false,
@@ -90,12 +94,14 @@ enum Step {
     Signals(&'static [u8]),
     /// What comes breaks the side, by a fault of this number.
     Breaks(&'static [u8], u8),
-    /// No beginning of the bytes is one item.
-    TakesNoFront(&'static [u8]),
+    /// Each beginning of the bytes asks for more.
+    AsksForMore(&'static [u8]),
+    /// The bytes behind the message at the front stay, so many.
+    Leaves(&'static [u8], usize),
     /// Nothing is taken.
     IsDeaf,
     /// The node decides on the attempt beside these others, and this status is sent.
-    Admits(Others, Status),
+    Admits(OtherConnections, Status),
     /// The attempt gives way to a later one.
     GivesWay,
     /// The node decides in vain.
@@ -111,14 +117,14 @@ enum Step {
     /// The side is cleared away.
     Closes,
     /// How the side stands, and the peer's creation.
-    Stands(State, Option<u32>),
+    Stands(SideState, Option<u32>),
 }
 
 use Step::*;
 
-const GONE: Step = Stands(State::Gone, None);
+const GONE: Step = Stands(SideState::Gone, None);
 
-const LOSING: Step = Stands(State::Losing, Some(1));
+const LOSING: Step = Stands(SideState::Losing, Some(1));
 
 /// A side, and what is done to it first.
 #[derive(Clone, Copy)]
@@ -168,24 +174,24 @@ const SCENARIOS: &[(Start, &[Step])] = &[
         DIALING,
         &[
             Takes(OK),
-            Stands(State::Dialing, None),
+            Stands(SideState::Dialing, None),
             Answers(CHALLENGES, REPLIES),
-            Stands(State::Dialing, Some(1)),
+            Stands(SideState::Dialing, Some(1)),
             Takes(ACKNOWLEDGES),
-            Stands(State::Up, Some(1)),
+            Stands(SideState::Up, Some(1)),
         ],
     ),
     // The handshake of the acceptor.
     (
         FRESH,
         &[
-            Stands(State::Fresh, None),
+            Stands(SideState::Fresh, None),
             Takes(SEND_NAME),
             Admits(ALONE, Status::Ok),
             GoesOn(CHALLENGES),
-            Stands(State::Accepting, Some(1)),
+            Stands(SideState::Accepting, Some(1)),
             Answers(REPLIES, ACKNOWLEDGES),
-            Stands(State::Up, Some(1)),
+            Stands(SideState::Up, Some(1)),
             Ticks,
         ],
     ),
@@ -193,12 +199,12 @@ const SCENARIOS: &[(Start, &[Step])] = &[
     (
         ASKED,
         &[
-            Stands(State::Asked, Some(1)),
+            Stands(SideState::Asked, Some(1)),
             RefusesToGoOn,
             Takes(TRUE),
-            Stands(State::Parked, Some(1)),
+            Stands(SideState::Parked, Some(1)),
             GoesOn(CHALLENGES),
-            Stands(State::Accepting, Some(1)),
+            Stands(SideState::Accepting, Some(1)),
         ],
     ),
     // The other side of that.
@@ -260,13 +266,25 @@ const SCENARIOS: &[(Start, &[Step])] = &[
     // An attempt is lost, if it was decided on.
     (ASKED, &[Loses, GONE]),
     (DIALING, &[Loses, GONE]),
-    (FRESH, &[RefusesToLose, Stands(State::Fresh, None)]),
+    (FRESH, &[RefusesToLose, Stands(SideState::Fresh, None)]),
     // A signal.
-    (UP, &[Signals(LINK), Stands(State::Up, Some(1))]),
-    // An item that is cut at any byte is no item.
-    (FRESH, &[TakesNoFront(SEND_NAME)]),
-    (DIALING, &[TakesNoFront(CHALLENGES)]),
-    (UP, &[TakesNoFront(&[0, 0, 0, 2, 112, 131])]),
+    (UP, &[Signals(LINK), Stands(SideState::Up, Some(1))]),
+    // What follows a message is left. A whole message that is none breaks a side, whatever follows.
+    (
+        FRESH,
+        &[Leaves(
+            b"\0\x12N\0\0\0\x04\x03\x05\x01\x0C\0\0\0\x01\0\x03a@h\0\x03s",
+            3,
+        )],
+    ),
+    (UP, &[Leaves(&[0, 0, 0, 0, 0, 0], 2)]),
+    (FRESH, &[Breaks(&[0, 0, 0xFF], 10), GONE]),
+    (DIALING, &[Breaks(&[0, 1, 0, 0, 0, 0, 0], 10), GONE]),
+    (UP, &[Breaks(&[0, 0, 0, 1, 111, 0], 6), LOSING]),
+    // An item that is cut at any byte asks for more.
+    (FRESH, &[AsksForMore(SEND_NAME)]),
+    (DIALING, &[AsksForMore(CHALLENGES)]),
+    (UP, &[AsksForMore(&[0, 0, 0, 2, 112, 131])]),
 ];
 
 fn identity(alloc: Global, name: &str, secret: &[u8]) -> Result<Identity, Refusal> {
@@ -279,189 +297,220 @@ fn identity(alloc: Global, name: &str, secret: &[u8]) -> Result<Identity, Refusa
     })
 }
 
-/// The side of a@h, which dials b@h, and its first message.
-fn dialing(alloc: Global, count: u64, secret: &[u8]) -> Result<(Side, ShakeMsg), Refusal> {
-    let own = identity(alloc, "a@h", secret)?;
-    Side::dial(own, count, NodeName::read(alloc, "b@h")?, CHALLENGE)
+/// A side, and who its node is.
+#[derive(Drop)]
+struct Held {
+    own: Identity,
+    side: Side,
+}
+
+/// The side of a@h, which dials b@h.
+fn dialing(alloc: Global, count: u64, secret: &[u8]) -> Result<Held, Refusal> {
+    let dialer = NodeName::read(alloc, "a@h")?;
+    let peer = NodeName::read(alloc, "b@h")?;
+    Ok(Held {
+        own: identity(alloc, "a@h", secret)?,
+        side: Side::dial(TrunkId { dialer, count }, peer, CHALLENGE),
+    })
 }
 
 /// The side of b@h, which a@h dials.
-fn fresh(alloc: Global, secret: &[u8]) -> Result<Side, Refusal> {
-    let own = identity(alloc, "b@h", secret)?;
+fn fresh(alloc: Global, secret: &[u8]) -> Result<Held, Refusal> {
     let dialer = NodeName::read(alloc, "a@h")?;
-    Ok(Side::fresh(own, TrunkId { dialer, count: 1 }))
+    Ok(Held {
+        own: identity(alloc, "b@h", secret)?,
+        side: Side::fresh(TrunkId { dialer, count: 1 })?,
+    })
 }
 
 /// The side that a scenario begins with.
-fn begun(alloc: Global, start: Start) -> Result<Side, Refusal> {
+fn begun(alloc: Global, start: Start) -> Result<Held, Refusal> {
     if start.dials {
-        let (side, _) = dialing(alloc, 1, start.secret)?;
-        Ok(side)
+        dialing(alloc, 1, start.secret)
     } else {
         fresh(alloc, start.secret)
     }
 }
 
-/// Puts the bytes of what is sent behind the others, if anything is sent.
-fn put(alloc: Global, message: Option<&ShakeMsg>, sent: &mut Vec<u8>) -> Result<(), Refusal> {
-    if let Some(message) = message {
-        sent.extend_from_slice(&write(alloc, message)?)?;
-    }
-    Ok(())
-}
-
-/// What an item was.
+/// What bytes were.
 #[derive(Clone, Copy, PartialEq, Eq)]
 enum Kind {
     Message,
     Tick,
     Signal,
     Fault(u8),
-    /// It came to a side that takes nothing.
+    /// They ask for more.
+    Begun,
+    /// They came to a side that takes nothing.
     NotLive,
 }
 
 /// What an answer is, of which the bytes that are sent back are put behind the others.
-fn kind_of(
-    alloc: Global,
-    answer: &Result<Taken, Refusal>,
-    sent: &mut Vec<u8>,
-) -> Result<Kind, Refusal> {
-    match answer {
-        Ok(Taken::Message { send, .. }) => {
-            put(alloc, send.as_ref(), sent)?;
+fn kind_of(answer: &Result<Option<Arrival>, Refusal>, sent: &mut Vec<u8>) -> Result<Kind, Refusal> {
+    let arrival = match answer {
+        Ok(Some(arrival)) => arrival,
+        Ok(None) => return Ok(Kind::Begun),
+        Err(Refusal::NotLive) => return Ok(Kind::NotLive),
+        Err(why) => return Err(*why),
+    };
+    match &arrival.was {
+        Taken::Message { send: None, .. } => Ok(Kind::Message),
+        Taken::Message {
+            send: Some(message),
+            ..
+        } => {
+            put(sent, message)?;
             Ok(Kind::Message)
         }
-        Ok(Taken::Item(Item::Tick)) => Ok(Kind::Tick),
-        Ok(Taken::Item(Item::Signal(_))) => Ok(Kind::Signal),
-        Ok(Taken::Broken(fault)) => Ok(Kind::Fault(fault.number())),
-        Err(Refusal::NotLive) => Ok(Kind::NotLive),
-        Err(why) => Err(*why),
+        Taken::Item(Item::Tick) => Ok(Kind::Tick),
+        Taken::Item(Item::Signal(_)) => Ok(Kind::Signal),
+        Taken::Broken(fault) => Ok(Kind::Fault(fault.number())),
     }
 }
 
-/// What these bytes are at a side.
+/// How the side stands after the answer, and how many bytes it took.
+fn after(held: &Held, answer: &Result<Option<Arrival>, Refusal>) -> (Standing, usize) {
+    match answer {
+        Ok(Some(arrival)) => (arrival.standing, arrival.len),
+        _ => (held.side.standing, 0),
+    }
+}
+
+/// What these bytes are at a side, and how many it takes.
 fn kind_at(
     alloc: Global,
-    side: &mut Side,
+    held: &mut Held,
     bytes: &[u8],
     sent: &mut Vec<u8>,
-) -> Result<Kind, Refusal> {
-    if !side.is_one_item(bytes) {
-        return Err(Refusal::NothingThere);
-    }
-    let answer = side.arrive(alloc, bytes, CHALLENGE);
-    let kind = kind_of(alloc, &answer, sent);
+) -> Result<(Kind, usize), Refusal> {
+    let answer = held.side.judge(alloc, &held.own, bytes, CHALLENGE);
+    let kind = kind_of(&answer, sent);
+    let (standing, len) = after(held, &answer);
     drop(answer);
-    kind
+    held.side.standing = standing;
+    Ok((kind?, len))
+}
+
+/// Whether so many bytes were taken of these: all of what could be read, and else none.
+fn is_taken(kind: Kind, bytes: &[u8], len: usize) -> bool {
+    match kind {
+        Kind::Message | Kind::Tick | Kind::Signal => len == bytes.len(),
+        Kind::Fault(_) => len == bytes.len() || len == 0,
+        Kind::Begun | Kind::NotLive => len == 0,
+    }
 }
 
 /// Whether the first bytes are of this kind at a side, and the second are sent back.
 fn arrives(
     alloc: Global,
-    side: &mut Side,
+    held: &mut Held,
     bytes: &[u8],
     kind: Kind,
     answer: &[u8],
 ) -> Result<bool, Refusal> {
     let mut sent = Vec::new(alloc);
-    Ok(kind_at(alloc, side, bytes, &mut sent)? == kind && sent.as_slice() == answer)
+    let (found, len) = kind_at(alloc, held, bytes, &mut sent)?;
+    Ok(found == kind && is_taken(kind, bytes, len) && sent.as_slice() == answer)
 }
 
-fn takes_no_front(side: &Side, bytes: &[u8]) -> bool {
+/// Whether the item at the front leaves so many bytes.
+fn leaves(alloc: Global, held: &mut Held, bytes: &[u8], rest: usize) -> Result<bool, Refusal> {
+    let mut sent = Vec::new(alloc);
+    let (_, len) = kind_at(alloc, held, bytes, &mut sent)?;
+    Ok(bytes.len().checked_sub(len) == Some(rest))
+}
+
+fn asks_for_more(alloc: Global, held: &mut Held, bytes: &[u8]) -> Result<bool, Refusal> {
     for end in 0..bytes.len() {
-        if side.is_one_item(&bytes[..end]) {
-            return false;
+        if !arrives(alloc, held, &bytes[..end], Kind::Begun, &[])? {
+            return Ok(false);
         }
     }
+    Ok(true)
+}
+
+/// What the node decides on the attempt. The side stands so then.
+fn decided(held: &mut Held, others: OtherConnections) -> Option<Admission> {
+    let (standing, admission) = held.side.admit(&held.own.name, others)?;
+    held.side.standing = standing;
+    Some(admission)
+}
+
+fn admits(held: &mut Held, others: OtherConnections, status: Status) -> bool {
+    match decided(held, others) {
+        Some(admission) => admission.status == status,
+        None => false,
+    }
+}
+
+fn gives_way(held: &mut Held) -> bool {
+    match decided(held, LATER) {
+        Some(admission) => admission.progress == Progress::Ended(ShakeFault::Superseded),
+        None => false,
+    }
+}
+
+/// The bytes of the challenge, or none where the side doesn't await it. The side stands so then.
+fn challenge(alloc: Global, held: &mut Held) -> Result<Vec<u8>, Refusal> {
+    let Some((standing, message)) = held.side.send_challenge(&held.own)? else {
+        return Ok(Vec::new(alloc));
+    };
+    held.side.standing = standing;
+    let sent = write(alloc, &message);
+    drop(message);
+    Ok(sent?)
+}
+
+fn goes_on(alloc: Global, held: &mut Held, bytes: &[u8]) -> Result<bool, Refusal> {
+    Ok(challenge(alloc, held)?.as_slice() == bytes)
+}
+
+/// Whether there is a connection to lose, which is lost then.
+fn loses(held: &mut Held) -> bool {
+    let is_live = held.side.standing.state().is_live();
+    if is_live {
+        held.side.standing = held.side.standing.lost();
+    }
+    is_live
+}
+
+fn closes(held: &mut Held) -> bool {
+    held.side.standing = Standing::Gone;
     true
 }
 
-/// Whether this status is sent.
-fn is_said(admission: &Result<Admission, Refusal>, status: Status) -> bool {
-    match admission {
-        Ok(admission) => admission.next.send == Some(ShakeMsg::Status(status)),
-        Err(_) => false,
-    }
-}
-
-fn admits(side: &mut Side, others: Others, status: Status) -> bool {
-    let admission = side.admit(others);
-    let is_so = is_said(&admission, status);
-    drop(admission);
-    is_so
-}
-
-/// How the attempt goes on.
-fn outcome_of(admission: &Result<Admission, Refusal>) -> Result<Outcome, Refusal> {
-    match admission {
-        Ok(admission) => Ok(admission.next.outcome),
-        Err(why) => Err(*why),
-    }
-}
-
-fn gives_way(side: &mut Side) -> bool {
-    let admission = side.admit(LATER);
-    let outcome = outcome_of(&admission);
-    drop(admission);
-    outcome == Ok(Outcome::Ended(Refusal::Superseded))
-}
-
-/// The bytes of what is sent.
-fn sent_by(alloc: Global, next: &Next) -> Result<Vec<u8>, Refusal> {
-    match &next.send {
-        Some(message) => write(alloc, message),
-        None => Ok(Vec::new(alloc)),
-    }
-}
-
-/// The bytes of the challenge.
-fn challenge(alloc: Global, side: &mut Side) -> Result<Vec<u8>, Refusal> {
-    let next = side.go_on()?;
-    let sent = sent_by(alloc, &next);
-    drop(next);
-    sent
-}
-
-fn goes_on(alloc: Global, side: &mut Side, bytes: &[u8]) -> Result<bool, Refusal> {
-    Ok(challenge(alloc, side)?.as_slice() == bytes)
-}
-
-fn closes(side: &mut Side) -> bool {
-    side.close();
-    true
-}
-
-fn stands(side: &Side, state: State, peer_creation: Option<u32>) -> bool {
-    side.state() == state && side.peer_creation() == peer_creation
+fn stands(held: &Held, state: SideState, peer_creation: Option<u32>) -> bool {
+    let standing = held.side.standing;
+    standing.state() == state && standing.peer_creation() == peer_creation
 }
 
 /// Whether the step comes out as it has to.
-fn goes(alloc: Global, side: &mut Side, step: Step) -> Result<bool, Refusal> {
+fn goes(alloc: Global, held: &mut Held, step: Step) -> Result<bool, Refusal> {
     match step {
-        Takes(bytes) => arrives(alloc, side, bytes, Kind::Message, &[]),
-        Answers(bytes, answer) => arrives(alloc, side, bytes, Kind::Message, answer),
-        Ticks => arrives(alloc, side, TICK, Kind::Tick, &[]),
-        Signals(bytes) => arrives(alloc, side, bytes, Kind::Signal, &[]),
-        Breaks(bytes, number) => arrives(alloc, side, bytes, Kind::Fault(number), &[]),
-        IsDeaf => arrives(alloc, side, TICK, Kind::NotLive, &[]),
-        TakesNoFront(bytes) => Ok(takes_no_front(side, bytes)),
-        Admits(others, status) => Ok(admits(side, others, status)),
-        GivesWay => Ok(gives_way(side)),
-        RefusesToAdmit => Ok(side.admit(LATER).err() == Some(Refusal::NothingThere)),
-        GoesOn(bytes) => goes_on(alloc, side, bytes),
-        RefusesToGoOn => Ok(side.go_on().err() == Some(Refusal::NothingThere)),
-        Loses => Ok(side.lose().is_ok()),
-        RefusesToLose => Ok(side.lose() == Err(Refusal::NotLive)),
-        Closes => Ok(closes(side)),
-        Stands(state, peer_creation) => Ok(stands(side, state, peer_creation)),
+        Takes(bytes) => arrives(alloc, held, bytes, Kind::Message, &[]),
+        Answers(bytes, answer) => arrives(alloc, held, bytes, Kind::Message, answer),
+        Ticks => arrives(alloc, held, TICK, Kind::Tick, &[]),
+        Signals(bytes) => arrives(alloc, held, bytes, Kind::Signal, &[]),
+        Breaks(bytes, number) => arrives(alloc, held, bytes, Kind::Fault(number), &[]),
+        IsDeaf => arrives(alloc, held, TICK, Kind::NotLive, &[]),
+        AsksForMore(bytes) => asks_for_more(alloc, held, bytes),
+        Leaves(bytes, rest) => leaves(alloc, held, bytes, rest),
+        Admits(others, status) => Ok(admits(held, others, status)),
+        GivesWay => Ok(gives_way(held)),
+        RefusesToAdmit => Ok(decided(held, LATER).is_none()),
+        GoesOn(bytes) => goes_on(alloc, held, bytes),
+        RefusesToGoOn => goes_on(alloc, held, &[]),
+        Loses => Ok(loses(held)),
+        RefusesToLose => Ok(!loses(held)),
+        Closes => Ok(closes(held)),
+        Stands(state, peer_creation) => Ok(stands(held, state, peer_creation)),
     }
 }
 
 /// The first of the steps that comes out otherwise.
-fn first_wrong(alloc: Global, side: &mut Side, steps: &[Step]) -> Result<Option<usize>, Refusal> {
+fn first_wrong(alloc: Global, held: &mut Held, steps: &[Step]) -> Result<Option<usize>, Refusal> {
     for (number, step) in steps.iter().enumerate() {
-        if !goes(alloc, side, *step)? {
+        if !goes(alloc, held, *step)? {
             return Ok(Some(number));
         }
     }
@@ -471,21 +520,21 @@ fn first_wrong(alloc: Global, side: &mut Side, steps: &[Step]) -> Result<Option<
 /// The same of the steps behind those of a start, which all come out as they have to.
 fn first_wrong_behind(
     alloc: Global,
-    side: &mut Side,
+    held: &mut Held,
     start: &[Step],
     steps: &[Step],
 ) -> Result<Option<usize>, Refusal> {
-    if first_wrong(alloc, side, start)?.is_some() {
+    if first_wrong(alloc, held, start)?.is_some() {
         return Err(Refusal::NothingThere);
     }
-    first_wrong(alloc, side, steps)
+    first_wrong(alloc, held, steps)
 }
 
 /// The first step of a scenario that comes out otherwise.
 fn wrong_step(alloc: Global, start: Start, steps: &[Step]) -> Result<Option<usize>, Refusal> {
-    let mut side = begun(alloc, start)?;
-    let wrong = first_wrong_behind(alloc, &mut side, start.steps, steps);
-    drop(side);
+    let mut held = begun(alloc, start)?;
+    let wrong = first_wrong_behind(alloc, &mut held, start.steps, steps);
+    drop(held);
     wrong
 }
 
@@ -499,28 +548,22 @@ fn scenarios(rt: HostRuntime) -> Result<(), Fail> {
 }
 
 fn is_between(side: &Side, dialer: &str, count: u64, peer: &str) -> bool {
-    let trunk = side.trunk();
-    trunk.dialer.text() == dialer && trunk.count == count && side.peer().text() == peer
+    let trunk = &side.trunk;
+    trunk.dialer.text() == dialer && trunk.count == count && side.peer.text() == peer
 }
 
-/// Whether this is the side of a@h that has just dialed b@h, and its first message.
-fn is_dialed(alloc: Global, side: &Side, message: &ShakeMsg) -> Result<bool, Refusal> {
-    let is_right = stands(side, State::Dialing, None) && is_between(side, "a@h", 7, "b@h");
-    Ok(write(alloc, message)?.as_slice() == SEND_NAME && is_right)
-}
-
+/// Whether this is the side of a@h that has just dialed b@h.
 fn dials(alloc: Global) -> Result<bool, Refusal> {
-    let (side, message) = dialing(alloc, 7, SECRET)?;
-    let is_so = is_dialed(alloc, &side, &message);
-    drop(side);
-    drop(message);
-    is_so
+    let held = dialing(alloc, 7, SECRET)?;
+    let is_so = stands(&held, SideState::Dialing, None) && is_between(&held.side, "a@h", 7, "b@h");
+    drop(held);
+    Ok(is_so)
 }
 
 fn is_dialed_by_a(alloc: Global) -> Result<bool, Refusal> {
-    let side = fresh(alloc, SECRET)?;
-    let is_so = is_between(&side, "a@h", 1, "a@h");
-    drop(side);
+    let held = fresh(alloc, SECRET)?;
+    let is_so = is_between(&held.side, "a@h", 1, "a@h");
+    drop(held);
     Ok(is_so)
 }
 
@@ -533,30 +576,33 @@ fn connections(rt: HostRuntime) -> Result<(), Fail> {
 }
 
 /// The bytes that a side sends arrive at the other side. Answers what that sends back.
-fn passed(alloc: Global, bytes: &[u8], side: &mut Side) -> Result<Vec<u8>, Refusal> {
+fn passed(alloc: Global, bytes: &[u8], held: &mut Held) -> Result<Vec<u8>, Refusal> {
     let mut sent = Vec::new(alloc);
-    if kind_at(alloc, side, bytes, &mut sent)? != Kind::Message {
+    if kind_at(alloc, held, bytes, &mut sent)?.0 != Kind::Message {
         return Err(Refusal::BadMessage);
     }
     Ok(sent)
 }
 
+/// The bytes of a dialer's first message.
+fn name(alloc: Global, held: &Held) -> Result<Vec<u8>, Refusal> {
+    let message = held.own.send_name()?;
+    let sent = write(alloc, &message);
+    drop(message);
+    Ok(sent?)
+}
+
 /// The bytes of the status that is sent, where the node decides on the attempt.
-fn status(alloc: Global, side: &mut Side) -> Result<Vec<u8>, Refusal> {
-    let admission = side.admit(ALONE)?;
-    let sent = sent_by(alloc, &admission.next);
-    drop(admission);
-    sent
+fn status(alloc: Global, held: &mut Held) -> Result<Vec<u8>, Refusal> {
+    match decided(held, ALONE) {
+        Some(admission) => Ok(write(alloc, &ShakeMsg::Status(admission.status))?),
+        None => Err(Refusal::NothingThere),
+    }
 }
 
 /// The sides shake hands, of which each takes what the other sends, to the end.
-fn shake_hands(
-    alloc: Global,
-    a: &mut Side,
-    name: &ShakeMsg,
-    b: &mut Side,
-) -> Result<bool, Refusal> {
-    passed(alloc, &write(alloc, name)?, b)?;
+fn shake_hands(alloc: Global, a: &mut Held, b: &mut Held) -> Result<bool, Refusal> {
+    passed(alloc, &name(alloc, a)?, b)?;
     passed(alloc, &status(alloc, b)?, a)?;
     let reply = passed(alloc, &challenge(alloc, b)?, a)?;
     let acknowledgement = passed(alloc, &reply, b)?;
@@ -564,29 +610,28 @@ fn shake_hands(
 }
 
 /// Whether the side is up, and takes frames.
-fn is_up(alloc: Global, side: &mut Side) -> Result<bool, Refusal> {
-    Ok(stands(side, State::Up, Some(1)) && goes(alloc, side, Ticks)?)
+fn is_up(alloc: Global, held: &mut Held) -> Result<bool, Refusal> {
+    Ok(stands(held, SideState::Up, Some(1)) && goes(alloc, held, Ticks)?)
 }
 
 /// Whether the sides shake hands, and both come up.
-fn come_up(alloc: Global, a: &mut Side, name: &ShakeMsg, b: &mut Side) -> Result<bool, Refusal> {
-    Ok(shake_hands(alloc, a, name, b)? && is_up(alloc, a)? && is_up(alloc, b)?)
+fn come_up(alloc: Global, a: &mut Held, b: &mut Held) -> Result<bool, Refusal> {
+    Ok(shake_hands(alloc, a, b)? && is_up(alloc, a)? && is_up(alloc, b)?)
 }
 
 /// Whether the side of a@h comes up with one of b@h.
-fn meets(alloc: Global, a: &mut Side, name: &ShakeMsg) -> Result<bool, Refusal> {
+fn meets(alloc: Global, a: &mut Held) -> Result<bool, Refusal> {
     let mut b = fresh(alloc, SECRET)?;
-    let is_so = come_up(alloc, a, name, &mut b);
+    let is_so = come_up(alloc, a, &mut b);
     drop(b);
     is_so
 }
 
 #[test]
 fn two_sides(rt: HostRuntime) -> Result<(), Fail> {
-    let (mut a, name) = dialing(rt.alloc(), 1, SECRET)?;
-    let is_so = meets(rt.alloc(), &mut a, &name);
+    let mut a = dialing(rt.alloc(), 1, SECRET)?;
+    let is_so = meets(rt.alloc(), &mut a);
     drop(a);
-    drop(name);
     assert!(rt; is_so?);
     Ok(())
 }
@@ -606,7 +651,8 @@ fn sides_allocations(rt: HostRuntime) -> Result<(), Fail> {
 /// The number of a fault of a frame, and the laws of sides.
 #[test]
 fn laws(rt: HostRuntime) {
-    assert_eq!(rt; Fault::Frame(FrameError::Term(TermError::Cut)).number(), 9);
+    assert_eq!(rt; Fault::Frame(FrameFault::Term(TermError::Cut)).number(), 9);
     one_arrival();
+    two_sides_come_up();
     up_only_by_digest();
 }

@@ -1,6 +1,7 @@
 -- The rules of the handshake once more, written out for each state and message: the form that the proofs go by.
 use Rattle.std.specs.FinMap as fm
-use Rattle.erl_handshake.specs.declared.turn.Outcome.TheVariants as verdict
+use Rattle.erl_handshake.specs.declared.turn.Progress.TheVariants as verdict
+use Rattle.erl_handshake.specs.declared.fault.ShakeFault.{ShakeFault}
 use Rattle.std.proofs.Common.{◌≡◌, ℕ, Bool, true, false, cond, not, refl, ap, nat_lt, ◌||◌, Option, Some, None}
 use Rattle.std.specs.Option.{is_some}
 use Rattle.std.specs.Ordering.{is_gt}
@@ -84,9 +85,9 @@ status_as t s v (ShakeMsg.ChallengeAck d) o = refl
 
 challenge_as : (t : TrunkId) (s : TrunkSide) (v : ℕ) (m : ShakeMsg) (o : Work) → handshake_at (AwaitsChallenge v) t s m o ≡ awaits_challenge t s v m o
 challenge_as t s v (ShakeMsg.Challenge f w c n) o =
-    elim (is_same n s.peer) as (λ a. handshake_on t s (ShakeMsg.Challenge f w c n) (dialer_side s ((on_challenge (cond a (cond (has_all_of f mandatory) None (Some Refusal.FlagsMissing)) (Some Refusal.Forged)) (identity o.node) v w c).state)) ((on_challenge (cond a (cond (has_all_of f mandatory) None (Some Refusal.FlagsMissing)) (Some Refusal.Forged)) (identity o.node) v w c).next) o
+    elim (is_same n s.peer) as (λ a. handshake_on t s (ShakeMsg.Challenge f w c n) (dialer_side s ((on_challenge (cond a (cond (has_all_of f mandatory) None (Some ShakeFault.FlagsMissing)) (Some ShakeFault.Forged)) (identity o.node) v w c).state)) ((on_challenge (cond a (cond (has_all_of f mandatory) None (Some ShakeFault.FlagsMissing)) (Some ShakeFault.Forged)) (identity o.node) v w c).next) o
     ≡ cond a (cond (has_all_of f mandatory) (Goes (Took (Handshake (ShakeMsg.Challenge f w c n))) (write t s.peer (ShakeMsg.ChallengeReply v (digest_of o.node.cookie w)) (set_state t (record { peer = s.peer; peer_creation = c; state = s.state }) (AwaitsAck v) o))) (fault Refusal.FlagsMissing t s o)) (fault Refusal.Forged t s o)) [
-      | true ↦ elim (has_all_of f mandatory) as (λ b. handshake_on t s (ShakeMsg.Challenge f w c n) (dialer_side s ((on_challenge (cond b None (Some Refusal.FlagsMissing)) (identity o.node) v w c).state)) ((on_challenge (cond b None (Some Refusal.FlagsMissing)) (identity o.node) v w c).next) o
+      | true ↦ elim (has_all_of f mandatory) as (λ b. handshake_on t s (ShakeMsg.Challenge f w c n) (dialer_side s ((on_challenge (cond b None (Some ShakeFault.FlagsMissing)) (identity o.node) v w c).state)) ((on_challenge (cond b None (Some ShakeFault.FlagsMissing)) (identity o.node) v w c).next) o
           ≡ cond b (Goes (Took (Handshake (ShakeMsg.Challenge f w c n))) (write t s.peer (ShakeMsg.ChallengeReply v (digest_of o.node.cookie w)) (set_state t (record { peer = s.peer; peer_creation = c; state = s.state }) (AwaitsAck v) o))) (fault Refusal.FlagsMissing t s o)) [ true ↦ refl | false ↦ refl ]
       | false ↦ refl
     ]
@@ -97,7 +98,7 @@ challenge_as t s v (ShakeMsg.ChallengeAck d) o = refl
 
 ack_as : (t : TrunkId) (s : TrunkSide) (v : ℕ) (m : ShakeMsg) (o : Work) → handshake_at (AwaitsAck v) t s m o ≡ awaits_ack t s v m o
 ack_as t s v (ShakeMsg.ChallengeAck d) o =
-    elim (is_answered o.node.cookie v d) as (λ a. handshake_on t s (ShakeMsg.ChallengeAck d) (dialer_side s ((cond a (record { state = DialerState.Done s.peer_creation; next = record { send = None; outcome = verdict.Done } }) (dialer_ends Refusal.BadDigest)).state)) ((cond a (record { state = DialerState.Done s.peer_creation; next = record { send = None; outcome = verdict.Done } }) (dialer_ends Refusal.BadDigest)).next) o
+    elim (is_answered o.node.cookie v d) as (λ a. handshake_on t s (ShakeMsg.ChallengeAck d) (dialer_side s ((cond a (record { state = DialerState.Done s.peer_creation; next = record { send = None; progress = verdict.Done } }) (dialer_ends ShakeFault.BadDigest)).state)) ((cond a (record { state = DialerState.Done s.peer_creation; next = record { send = None; progress = verdict.Done } }) (dialer_ends ShakeFault.BadDigest)).next) o
     ≡ cond a (Goes (Took (Handshake (ShakeMsg.ChallengeAck d))) (set_state t s Up o)) (fault Refusal.BadDigest t s o)) [ true ↦ refl | false ↦ refl ]
 ack_as t s v (ShakeMsg.Status u) o = refl
 ack_as t s v (ShakeMsg.SendName f c n) o = refl
@@ -119,7 +120,7 @@ true_as t s v (ShakeMsg.ChallengeAck d) o = refl
 
 reply_as : (t : TrunkId) (s : TrunkSide) (v : ℕ) (m : ShakeMsg) (o : Work) → handshake_at (Accepting v) t s m o ≡ awaits_reply t s v m o
 reply_as t s v (ShakeMsg.ChallengeReply w d) o =
-    elim (is_answered o.node.cookie v d) as (λ a. handshake_on t s (ShakeMsg.ChallengeReply w d) (acceptor_side s ((cond a (record { state = AcceptorState.Done s.peer_creation; next = record { send = Some (ShakeMsg.ChallengeAck (digest_of o.node.cookie w)); outcome = verdict.Done } }) (acceptor_ends Refusal.BadDigest)).state)) ((cond a (record { state = AcceptorState.Done s.peer_creation; next = record { send = Some (ShakeMsg.ChallengeAck (digest_of o.node.cookie w)); outcome = verdict.Done } }) (acceptor_ends Refusal.BadDigest)).next) o
+    elim (is_answered o.node.cookie v d) as (λ a. handshake_on t s (ShakeMsg.ChallengeReply w d) (acceptor_side s ((cond a (record { state = AcceptorState.Done s.peer_creation; next = record { send = Some (ShakeMsg.ChallengeAck (digest_of o.node.cookie w)); progress = verdict.Done } }) (acceptor_ends ShakeFault.BadDigest)).state)) ((cond a (record { state = AcceptorState.Done s.peer_creation; next = record { send = Some (ShakeMsg.ChallengeAck (digest_of o.node.cookie w)); progress = verdict.Done } }) (acceptor_ends ShakeFault.BadDigest)).next) o
     ≡ cond a (Goes (Took (Handshake (ShakeMsg.ChallengeReply w d))) (write t s.peer (ShakeMsg.ChallengeAck (digest_of o.node.cookie w)) (set_state t s Up o))) (fault Refusal.BadDigest t s o)) [ true ↦ refl | false ↦ refl ]
 reply_as t s v (ShakeMsg.Status u) o = refl
 reply_as t s v (ShakeMsg.SendName f c n) o = refl
@@ -197,7 +198,7 @@ later_as (Some e) t s w x o = go (nat_lt e.0.count t.count)
 pub name_as : (t : TrunkId) (m : ShakeMsg) (w : ℕ) (o : Work) → hears_name t m w o ≡ awaits_name t m w o
 name_as t (ShakeMsg.SendName f c n) w o = go (is_same n t.dialer) (has_all_of f mandatory)
   where
-    go : (a b : Bool) → after_name ((on_name (cond a (cond b None (Some Refusal.FlagsMissing)) (Some Refusal.Forged)) c w).next.outcome) t (record { peer = t.dialer; peer_creation = c; state = Gone }) w (Handshake (ShakeMsg.SendName f c n)) o
+    go : (a b : Bool) → after_name ((on_name (cond a (cond b None (Some ShakeFault.FlagsMissing)) (Some ShakeFault.Forged)) c w).next.progress) t (record { peer = t.dialer; peer_creation = c; state = Gone }) w (Handshake (ShakeMsg.SendName f c n)) o
         ≡ cond a (cond b (greet_waiting (side_where is_waiting t.dialer (fm.entries o.node.sides)) t (record { peer = t.dialer; peer_creation = c; state = Gone }) w (Handshake (ShakeMsg.SendName f c n)) o) (fault Refusal.FlagsMissing t (record { peer = t.dialer; peer_creation = c; state = Gone }) o)) (fault Refusal.Forged t (record { peer = t.dialer; peer_creation = c; state = Gone }) o)
     go true true = later_as (side_where is_waiting t.dialer (fm.entries o.node.sides)) t (record { peer = t.dialer; peer_creation = c; state = Gone }) w (Handshake (ShakeMsg.SendName f c n)) o
     go true false = refl

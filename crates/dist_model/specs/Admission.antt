@@ -3,8 +3,8 @@
 -- dialer is the standard's; which of several attempts goes on is own.)
 use Rattle.std.specs.Prelude.{Option, None, Some, is_some, ℕ, if◌then◌else◌, ◌||◌}
 use Rattle.std.specs.FinMap as fm
-use Rattle.erl_handshake.specs.declared.turn.Outcome.{Outcome as Verdict}
-use Rattle.erl_handshake.specs.declared.turn.Outcome.TheVariants as verdict
+use Rattle.erl_handshake.specs.declared.turn.Progress.{Progress as Verdict}
+use Rattle.erl_handshake.specs.declared.turn.Progress.TheVariants as verdict
 use Rattle.dist_model.specs.Commands.{Broke, Goes, Outcome, Took}
 use Rattle.dist_model.specs.Handshake.{challenge, fault, identity, set_state, write}
 use Rattle.dist_model.specs.Items.{Handshake, Item}
@@ -13,9 +13,10 @@ use Rattle.dist_model.specs.Node.{Node, side_where}
 use Rattle.dist_model.specs.Sides.{Accepting, Asked, Gone, TrunkSide, is_dialing, is_losing, is_up, is_waiting}
 use Rattle.dist_model.specs.Work.{Work}
 use Rattle.erl_handshake.specs.Admission.{is_superseded, status_due}
+use Rattle.erl_handshake.specs.Faults.{refusal_of}
 use Rattle.erl_handshake.specs.Roles.{acceptor_turn}
 use Rattle.erl_handshake.specs.declared.acceptor.AcceptorState.{AcceptorState}
-use Rattle.erl_handshake.specs.declared.admission.Others.{Others}
+use Rattle.erl_handshake.specs.declared.admission.OtherConnections.{OtherConnections}
 use Rattle.erl_handshake.specs.declared.message.ShakeMsg.{ShakeMsg}
 use Rattle.erl_handshake.specs.declared.status.Status.{Status}
 use Rattle.erl_names.specs.declared.trunk.TrunkId.{TrunkId}
@@ -32,7 +33,7 @@ accepts trunk side word status item work =
     Goes (Took item) (write trunk side.peer (challenge work.node word) (write trunk side.peer status (set_state trunk side (Accepting word) work)))
 
 -- the other sides that the node has towards the dialer, but for an attempt of the dialer itself
-abbrev pub others : Node → Name → Others
+abbrev pub others : Node → Name → OtherConnections
 others node dialer = record {
   waiting = None;
   connected = is_some (side_where (λ state. is_up state || is_losing state) dialer (fm.entries node.sides));
@@ -67,10 +68,10 @@ abbrev pub new_side : TrunkId → ShakeMsg → TrunkSide
 new_side trunk message = record { peer = trunk.dialer; peer_creation = named_creation message; state = Gone }
 
 abbrev pub after_name : Verdict → TrunkId → TrunkSide → ℕ → Item → Work → Outcome
-after_name (verdict.Ended why) trunk side word item work = fault why trunk side work
+after_name (verdict.Ended why) trunk side word item work = fault (refusal_of why) trunk side work
 after_name _ trunk side word item work = admit_later (side_where is_waiting trunk.dialer (fm.entries work.node.sides)) trunk side word item work
 
 -- the acceptor's turn says whether it is the dialer's name, with the flags. The word becomes the side's challenge
 abbrev pub hears_name : TrunkId → ShakeMsg → ℕ → Work → Outcome
 hears_name trunk message word work =
-    after_name (acceptor_turn (identity work.node) trunk.dialer AcceptorState.AwaitsName message word).next.outcome trunk (new_side trunk message) word (Handshake message) work
+    after_name (acceptor_turn (identity work.node) trunk.dialer AcceptorState.AwaitsName message word).next.progress trunk (new_side trunk message) word (Handshake message) work

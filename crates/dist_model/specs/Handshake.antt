@@ -1,8 +1,8 @@
 -- How two nodes connect: what the messages of the handshake do to a node's sides.
 -- (ERTS User's Guide, Distribution Protocol, Distribution Handshake. The messages, the statuses and what each tells
 -- the dialer are the standard's; which of several sides ends or waits, and when, is own.)
-use Rattle.erl_handshake.specs.declared.turn.Outcome.{Outcome as Verdict}
-use Rattle.erl_handshake.specs.declared.turn.Outcome.TheVariants as verdict
+use Rattle.erl_handshake.specs.declared.turn.Progress.{Progress as Verdict}
+use Rattle.erl_handshake.specs.declared.turn.Progress.TheVariants as verdict
 use Rattle.std.specs.Prelude.{Option, None, Some, ℕ}
 use Rattle.std.specs.FinMap as fm
 use Rattle.dist_model.specs.Commands.{Broke, Goes, Outcome, Refuses, Took}
@@ -12,6 +12,7 @@ use Rattle.dist_model.specs.Node.{Node, side_where}
 use Rattle.dist_model.specs.Sides.{Accepting, Asked, AwaitsAck, AwaitsChallenge, AwaitsStatus, Gone, Losing, Parked, State, TrunkSide, Up, is_losing, is_up, lost}
 use Rattle.dist_model.specs.Work.{Work, send_on}
 use Rattle.erl_handshake.specs.Flags.{mandatory}
+use Rattle.erl_handshake.specs.Faults.{refusal_of}
 use Rattle.erl_handshake.specs.Roles.{acceptor_turn, challenge_of, dialer_turn}
 use Rattle.erl_handshake.specs.declared.acceptor.AcceptorState.{AcceptorState}
 use Rattle.erl_handshake.specs.declared.dialer.DialerState.{DialerState}
@@ -66,11 +67,11 @@ acceptor_side side AcceptorState.Over = record side { state = Gone }
 
 -- the role's turn says what is sent, and whether the handshake goes on
 abbrev pub after : Verdict → TrunkId → (old new : TrunkSide) → ShakeMsg → Option ShakeMsg → Work → Outcome
-after (verdict.Ended why) trunk old new message send work = fault why trunk old work
+after (verdict.Ended why) trunk old new message send work = fault (refusal_of why) trunk old work
 after _ trunk old new message send work = Goes (Took (Handshake message)) (write_if trunk old.peer send (with_side trunk new work))
 
 abbrev pub handshake_on : TrunkId → TrunkSide → ShakeMsg → TrunkSide → Next → Work → Outcome
-handshake_on trunk old message new next work = after next.outcome trunk old new message next.send work
+handshake_on trunk old message new next work = after next.progress trunk old new message next.send work
 
 abbrev pub dialer_hears : TrunkId → TrunkSide → DialerState → ShakeMsg → Work → Outcome
 dialer_hears trunk side state message work =
@@ -97,13 +98,13 @@ abbrev pub goes_on : TrunkId → TrunkSide → ℕ → Work → Work
 goes_on trunk side word work = go_on (side_where is_losing side.peer (fm.entries work.node.sides)) trunk side word work
 
 abbrev pub after_answer : Verdict → TrunkId → TrunkSide → ℕ → ShakeMsg → Work → Outcome
-after_answer (verdict.Ended why) trunk side word message work = fault why trunk side work
+after_answer (verdict.Ended why) trunk side word message work = fault (refusal_of why) trunk side work
 after_answer _ trunk side word message work = Goes (Took (Handshake message)) (goes_on trunk side word (end_up (side_where is_up side.peer (fm.entries work.node.sides)) work))
 
 abbrev pub hears_answer : TrunkId → TrunkSide → ℕ → ShakeMsg → Work → Outcome
 hears_answer trunk side word message work =
     let turn = acceptor_turn (identity work.node) side.peer (AcceptorState.AwaitsAnswer word side.peer_creation) message 0 in
-    after_answer turn.next.outcome trunk side word message work
+    after_answer turn.next.progress trunk side word message work
 
 -- ---- a message of the handshake comes to a side. Each state awaits one
 

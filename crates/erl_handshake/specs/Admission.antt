@@ -3,14 +3,13 @@
 -- (ERTS User's Guide, Distribution Protocol, Distribution Handshake, the status message.)
 use Rattle.std.specs.Prelude.{ℕ, Bool, true, false, not, ◌&&◌, nat_lt, if◌then◌else◌, List, Option, Some, None, is_some}
 use Rattle.std.specs.Ordering.{is_gt}
-use Rattle.erl_term.specs.declared.refusal.Refusal.TheVariants.{Nok, Superseded}
+use Rattle.erl_handshake.specs.declared.fault.ShakeFault.TheVariants.{Nok, Superseded}
 use Rattle.erl_names.specs.Order.{name_cmp}
 use Rattle.erl_handshake.specs.declared.status.Status.{Status as TheStatus}
 use Rattle.erl_handshake.specs.declared.status.Status.TheVariants as status
-use Rattle.erl_handshake.specs.declared.message.ShakeMsg.TheVariants.{Status}
-use Rattle.erl_handshake.specs.declared.turn.Outcome.{Outcome}
-use Rattle.erl_handshake.specs.declared.turn.Outcome.TheVariants.{Go, Ended}
-use Rattle.erl_handshake.specs.declared.admission.Others.{Others}
+use Rattle.erl_handshake.specs.declared.turn.Progress.{Progress}
+use Rattle.erl_handshake.specs.declared.turn.Progress.TheVariants.{Go, Ended}
+use Rattle.erl_handshake.specs.declared.admission.OtherConnections.{OtherConnections}
 use Rattle.erl_handshake.specs.declared.admission.Admission.{Admission}
 
 -- of two nodes that dial each other, the one with the greater name, by bytes, keeps its attempt
@@ -23,7 +22,7 @@ is_superseded count None = false
 is_superseded count (Some other) = not (nat_lt other count)
 
 -- the status that is sent to this dialer: the first line that fits
-abbrev pub status_due : (dialer own : List ℕ) → (count : ℕ) → Others → TheStatus
+abbrev pub status_due : (dialer own : List ℕ) → (count : ℕ) → OtherConnections → TheStatus
 status_due dialer own count others =
     -- a later attempt of the dialer goes on here
     if is_superseded count others.waiting then status.Nok else
@@ -34,14 +33,14 @@ status_due dialer own count others =
     status.Ok))
 
 -- whether an attempt to which this was said goes on
-abbrev pub outcome_of : TheStatus → Outcome
-outcome_of status.Ok = Go
-outcome_of status.OkSimultaneous = Go
-outcome_of status.Nok = Ended Nok
-outcome_of status.NotAllowed = Ended Nok
-outcome_of status.Alive = Go
-outcome_of status.True = Go
-outcome_of status.False = Go
+abbrev pub progress_of : TheStatus → Progress
+progress_of status.Ok = Go
+progress_of status.OkSimultaneous = Go
+progress_of status.Nok = Ended Nok
+progress_of status.NotAllowed = Ended Nok
+progress_of status.Alive = Go
+progress_of status.True = Go
+progress_of status.False = Go
 
 abbrev pub is_simultaneous : TheStatus → Bool
 is_simultaneous status.Ok = false
@@ -53,14 +52,15 @@ is_simultaneous status.True = false
 is_simultaneous status.False = false
 
 -- what becomes of an attempt of this count to which this was said, and which others it ends
-abbrev pub admission_with : (said : TheStatus) → (count : ℕ) → Others → Admission
+abbrev pub admission_with : (said : TheStatus) → (count : ℕ) → OtherConnections → Admission
 admission_with said count others =
     let is_late = is_superseded count others.waiting in
     record {
-      next = record { send = Some (Status said); outcome = if is_late then Ended Superseded else outcome_of said };
+      status = said;
+      progress = if is_late then Ended Superseded else progress_of said;
       ends_waiting = is_some others.waiting && not is_late;
       ends_dialing = is_simultaneous said;
     }
 
-abbrev pub admission : (dialer own : List ℕ) → (count : ℕ) → Others → Admission
+abbrev pub admission : (dialer own : List ℕ) → (count : ℕ) → OtherConnections → Admission
 admission dialer own count others = admission_with (status_due dialer own count others) count others

@@ -4,6 +4,6 @@ pub mod Answer
 pub mod Digest
 pub mod Reading
 pub mod Admission
+pub mod Faults
 pub mod Roles
-pub mod Parties
 pub mod Exchange

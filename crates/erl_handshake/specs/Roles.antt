@@ -3,15 +3,15 @@
 -- (ERTS User's Guide, Distribution Protocol, Distribution Handshake.)
 use Rattle.std.specs.Prelude.{ℕ, Bool, true, false, nat_eq, if◌then◌else◌, List, Option, Some, None}
 use Rattle.std.specs.Cmp.Lexicographic.{pointwise}
-use Rattle.erl_term.specs.declared.refusal.Refusal.{Refusal}
-use Rattle.erl_term.specs.declared.refusal.Refusal.TheVariants.{BadMessage, FlagsMissing, BadDigest, Nok, Forged}
+use Rattle.erl_handshake.specs.declared.fault.ShakeFault.{ShakeFault}
+use Rattle.erl_handshake.specs.declared.fault.ShakeFault.TheVariants.{BadMessage, FlagsMissing, BadDigest, Nok, Forged}
 use Rattle.erl_handshake.specs.declared.status.Status.{Status as TheStatus}
 use Rattle.erl_handshake.specs.declared.status.Status.TheVariants as status
 use Rattle.erl_handshake.specs.declared.message.ShakeMsg.{ShakeMsg}
 use Rattle.erl_handshake.specs.declared.message.ShakeMsg.TheVariants.{SendName, Status, Challenge, ChallengeReply, ChallengeAck}
 use Rattle.erl_handshake.specs.declared.identity.Identity.{Identity}
-use Rattle.erl_handshake.specs.declared.turn.Next.{Next}
-use Rattle.erl_handshake.specs.declared.turn.Outcome.TheVariants as outcome
+use Rattle.erl_handshake.specs.declared.turn.Turn.{Turn}
+use Rattle.erl_handshake.specs.declared.turn.Progress.TheVariants as progress
 use Rattle.erl_handshake.specs.declared.dialer.DialerState.{DialerState}
 use Rattle.erl_handshake.specs.declared.dialer.DialerState.TheVariants as dialer
 use Rattle.erl_handshake.specs.declared.acceptor.AcceptorState.{AcceptorState}
@@ -19,23 +19,18 @@ use Rattle.erl_handshake.specs.declared.acceptor.AcceptorState.TheVariants as ac
 use Rattle.erl_handshake.specs.Flags.{has_all_of, mandatory}
 use Rattle.erl_handshake.specs.Digest.{digest_of}
 
--- the state behind a step, and what the step answers
-pub record Turn (State : Type 0) : Type 0 where
-  pub state : State
-  pub next : Next
-
 -- nothing is sent
 abbrev pub waits : {State : Type 0} → State → Turn State
-waits state = record { state = state; next = record { send = None; outcome = outcome.Go } }
+waits state = record { state = state; next = record { send = None; progress = progress.Go } }
 
 abbrev pub says : {State : Type 0} → ShakeMsg → State → Turn State
-says message state = record { state = state; next = record { send = Some message; outcome = outcome.Go } }
+says message state = record { state = state; next = record { send = Some message; progress = progress.Go } }
 
-abbrev pub dialer_ends : Refusal → Turn DialerState
-dialer_ends why = record { state = dialer.Over; next = record { send = None; outcome = outcome.Ended why } }
+abbrev pub dialer_ends : ShakeFault → Turn DialerState
+dialer_ends why = record { state = dialer.Over; next = record { send = None; progress = progress.Ended why } }
 
-abbrev pub acceptor_ends : Refusal → Turn AcceptorState
-acceptor_ends why = record { state = acceptor.Over; next = record { send = None; outcome = outcome.Ended why } }
+abbrev pub acceptor_ends : ShakeFault → Turn AcceptorState
+acceptor_ends why = record { state = acceptor.Over; next = record { send = None; progress = progress.Ended why } }
 
 -- ---- what both roles test
 
@@ -43,7 +38,7 @@ abbrev pub is_same : List ℕ → List ℕ → Bool
 is_same = pointwise nat_eq
 
 -- a peer that introduces itself: it has to be the node of the connection, and offer each mandatory flag
-abbrev pub introduction_fault : (expected name : List ℕ) → (flags : ℕ) → Option Refusal
+abbrev pub introduction_fault : (expected name : List ℕ) → (flags : ℕ) → Option ShakeFault
 introduction_fault expected name flags =
     if is_same name expected then (if has_all_of flags mandatory then None else Some FlagsMissing) else Some Forged
 
@@ -70,7 +65,7 @@ awaits_status challenge (Status s) = on_status challenge s
 awaits_status challenge _ = dialer_ends BadMessage
 
 -- the reply shows the digest over the acceptor's challenge, and carries the dialer's
-abbrev pub on_challenge : Option Refusal → Identity → (challenge theirs creation : ℕ) → Turn DialerState
+abbrev pub on_challenge : Option ShakeFault → Identity → (challenge theirs creation : ℕ) → Turn DialerState
 on_challenge (Some why) own challenge theirs creation = dialer_ends why
 on_challenge None own challenge theirs creation =
     says (ChallengeReply challenge (digest_of own.cookie theirs)) (dialer.AwaitsAck challenge creation)
@@ -83,7 +78,7 @@ awaits_challenge own peer challenge _ = dialer_ends BadMessage
 abbrev pub awaits_ack : Identity → (challenge creation : ℕ) → ShakeMsg → Turn DialerState
 awaits_ack own challenge creation (ChallengeAck digest) =
     if is_answered own.cookie challenge digest
-    then record { state = dialer.Done creation; next = record { send = None; outcome = outcome.Done } }
+    then record { state = dialer.Done creation; next = record { send = None; progress = progress.Done } }
     else dialer_ends BadDigest
 awaits_ack own challenge creation _ = dialer_ends BadMessage
 
@@ -101,7 +96,7 @@ abbrev pub challenge_of : Identity → (challenge : ℕ) → ShakeMsg
 challenge_of own challenge = Challenge own.flags challenge own.creation own.name
 
 -- the word becomes the acceptor's challenge
-abbrev pub on_name : Option Refusal → (creation word : ℕ) → Turn AcceptorState
+abbrev pub on_name : Option ShakeFault → (creation word : ℕ) → Turn AcceptorState
 on_name (Some why) creation word = acceptor_ends why
 on_name None creation word = waits (acceptor.AwaitsAdmission word creation)
 
@@ -123,7 +118,7 @@ awaits_answer challenge creation _ = acceptor_ends BadMessage
 abbrev pub awaits_reply : Identity → (challenge creation : ℕ) → ShakeMsg → Turn AcceptorState
 awaits_reply own challenge creation (ChallengeReply theirs digest) =
     if is_answered own.cookie challenge digest
-    then record { state = acceptor.Done creation; next = record { send = Some (ChallengeAck (digest_of own.cookie theirs)); outcome = outcome.Done } }
+    then record { state = acceptor.Done creation; next = record { send = Some (ChallengeAck (digest_of own.cookie theirs)); progress = progress.Done } }
     else acceptor_ends BadDigest
 awaits_reply own challenge creation _ = acceptor_ends BadMessage
 
@@ -153,9 +148,13 @@ awaits_admission (acceptor.AwaitsAdmission challenge creation) = true
 awaits_admission _ = false
 
 -- the node lets the challenge be sent
-abbrev pub goes_on : Identity → AcceptorState → Turn AcceptorState
-goes_on own (acceptor.AwaitsTurn challenge creation) = says (challenge_of own challenge) (acceptor.AwaitsReply challenge creation)
-goes_on own state = waits state
+abbrev pub goes_on : AcceptorState → AcceptorState
+goes_on (acceptor.AwaitsTurn challenge creation) = acceptor.AwaitsReply challenge creation
+goes_on state = state
+
+abbrev pub turn_challenge : AcceptorState → ℕ
+turn_challenge (acceptor.AwaitsTurn challenge creation) = challenge
+turn_challenge _ = 0
 
 abbrev pub awaits_turn : AcceptorState → Bool
 awaits_turn (acceptor.AwaitsTurn challenge creation) = true

@@ -2,17 +2,16 @@
 ghost use Rattle.std.specs.Prelude.{◌≡◌, not};
 ghost use Rattle.erl_handshake.specs.Admission as rule;
 
-use crate::message::ShakeMsg;
+use crate::fault::ShakeFault;
 use crate::status::Status;
-use crate::turn::{Next, Outcome};
+use crate::turn::Progress;
 use erl_names::{NodeName, TrunkId};
-use erl_term::Refusal;
 use std::cmp::Ordering;
 
 /// The other connections, and attempts at one, that an acceptor's node has with the dialer. (ERTS
 /// User's Guide, Distribution Protocol, Distribution Handshake.)
 #[derive(Clone, Copy, Debug, PartialEq, Eq)]
-pub struct Others {
+pub struct OtherConnections {
     /// The count of an older attempt of the same dialer that goes on here, if there is one.
     pub waiting: Option<u64>,
     /// Whether a connection is up, or is lost and not yet cleared away.
@@ -22,11 +21,13 @@ pub struct Others {
 }
 
 /// What becomes of an attempt, and which others it ends. Each that it ends has the reason
-/// [`Refusal::Superseded`](erl_term::Refusal::Superseded).
-#[derive(Debug, Drop)]
+/// [`ShakeFault::Superseded`].
+#[derive(Clone, Copy, Debug, PartialEq, Eq)]
 pub struct Admission {
-    /// The status that is sent, and whether the attempt goes on.
-    pub next: Next,
+    /// What is said to the dialer.
+    pub status: Status,
+    /// Whether the attempt goes on.
+    pub progress: Progress,
     /// Whether the older attempt of the same dialer ends.
     pub ends_waiting: bool,
     /// Whether the attempt of the acceptor's own node ends.
@@ -34,7 +35,7 @@ pub struct Admission {
 }
 
 /// The status that is sent to the dialer of an attempt: the first line that fits.
-pub(crate) fn status_due(trunk: &TrunkId, own: &NodeName, others: Others) -> Status
+pub(crate) fn status_due(trunk: &TrunkId, own: &NodeName, others: OtherConnections) -> Status
     ensures { result ≡ rule.status_due trunk.now.dialer own.now trunk.now.count others }
 {
     if is_superseded(trunk.count, others) {
@@ -51,29 +52,27 @@ pub(crate) fn status_due(trunk: &TrunkId, own: &NodeName, others: Others) -> Sta
 }
 
 /// What becomes of the attempt of this count, to which this status is said.
-pub(crate) fn admission_of(count: u64, said: Status, others: Others) -> Admission
+pub(crate) fn admission_of(count: u64, said: Status, others: OtherConnections) -> Admission
     ensures { result ≡ rule.admission_with said count others }
 {
     let is_late = is_superseded(count, others);
-    let outcome = if is_late {
-        Outcome::Ended(Refusal::Superseded)
+    let progress = if is_late {
+        Progress::Ended(ShakeFault::Superseded)
     } else if matches!(said, Status::Nok | Status::NotAllowed) {
-        Outcome::Ended(Refusal::Nok)
+        Progress::Ended(ShakeFault::Nok)
     } else {
-        Outcome::Go
+        Progress::Go
     };
     Admission {
-        next: Next {
-            send: Some(ShakeMsg::Status(said)),
-            outcome,
-        },
+        status: said,
+        progress,
         ends_waiting: others.waiting.is_some() && !is_late,
         ends_dialing: said == Status::OkSimultaneous,
     }
 }
 
 // Whether a later attempt of the same dialer goes on.
-fn is_superseded(count: u64, others: Others) -> bool
+fn is_superseded(count: u64, others: OtherConnections) -> bool
     ensures { result ≡ rule.is_superseded count others.waiting }
 {
     match others.waiting {

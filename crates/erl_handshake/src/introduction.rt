@@ -4,9 +4,9 @@ ghost use Rattle.erl_handshake.specs.Roles as table;
 
 use crate::cookie::Cookie;
 use crate::digesting::digest;
+use crate::fault::ShakeFault;
 use crate::flags::Flags;
 use erl_names::NodeName;
-use erl_term::Refusal;
 
 /// What is wrong with a peer that introduces itself: another name than that of the connection, then
 /// a mandatory flag that it doesn't offer.
@@ -14,14 +14,14 @@ pub(crate) fn introduction_fault(
     expected: &NodeName,
     name: &NodeName,
     flags: Flags,
-) -> Option<Refusal>
+) -> Option<ShakeFault>
     ensures { result ≡ table.introduction_fault expected.now name.now flags }
 {
     if name.text() != expected.text() {
-        return Some(Refusal::Forged);
+        return Some(ShakeFault::Forged);
     }
     if !flags.has_all_of(Flags::mandatory()) {
-        return Some(Refusal::FlagsMissing);
+        return Some(ShakeFault::FlagsMissing);
     }
     None
 }

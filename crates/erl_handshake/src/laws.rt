@@ -1,5 +1,5 @@
 //! Laws of the definitions. Each function does nothing: its contract is the law.
-ghost use Rattle.std.specs.Prelude.{◌≡◌, ◌↔◌, ◌<◌, ◌^◌, ◌++◌, List, ℕ, length, Option, Some, Result, Ok, IsTrue, codes, decimal, get_or};
+ghost use Rattle.std.specs.Prelude.{◌≡◌, ◌↔◌, ◌<◌, ◌≤◌, ◌^◌, ◌++◌, List, ℕ, length, Option, Some, Result, Ok, IsTrue, codes, decimal, get_or};
 ghost use Rattle.std.specs.List.{AllPass};
 ghost use Rattle.std.specs.Int.{IsBitSet};
 ghost use Rattle.readers.specs.Reading.{AreBytes};
@@ -12,9 +12,10 @@ ghost use Rattle.erl_handshake.specs.Digest.{digest_of};
 ghost use Rattle.erl_handshake.specs.Flags.{flag_value, offers, has_all_of, mandatory, mandatory_flags};
 ghost use Rattle.erl_handshake.specs.Messages.{HasFields, IsFor, IsShake, written};
 
-/// To any bytes, and a reader of either role, one answer is due.
+/// To any bytes, and a reader of either role, one answer is due, and no second.
 pub fn one_answer()
-    ensures { (role : Role) (bytes : List ℕ) → AreBytes bytes → (due : Result (Option (ShakeMsg × ℕ)) Refusal) × IsShakeDue role bytes due × ((other : Result (Option (ShakeMsg × ℕ)) Refusal) → IsShakeDue role bytes other → other ≡ due) }
+    ensures due { (role : Role) (bytes : List ℕ) → AreBytes bytes → (due : Result (Option (ShakeMsg × ℕ)) Refusal) × IsShakeDue role bytes due }
+    ensures once { (role : Role) (bytes : List ℕ) (one other : Result (Option (ShakeMsg × ℕ)) Refusal) → IsShakeDue role bytes one → IsShakeDue role bytes other → one ≡ other }
 {}
 
 /// To a reader of either role no message begins another.
@@ -30,6 +31,11 @@ pub fn read_again()
 /// What is written is a message of the table, to a reader that the message is for.
 pub fn written_is_shake()
     ensures { (role : Role) (message : ShakeMsg) → IsFor role message → HasFields message → IsShake role message (written message) }
+{}
+
+/// What is written takes at most 85 bytes.
+pub fn short_messages()
+    ensures { (message : ShakeMsg) → HasFields message → length (written message) ≤ 85 }
 {}
 
 /// Flags by their bits: a flag is one bit, and is offered where that bit is set; and a word has all

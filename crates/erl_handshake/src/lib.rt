@@ -5,9 +5,9 @@
 //! [`Role`]. [`Flags`] are what a node says that it can do, and [`digest`] is how it shows that it
 //! knows the cookie.
 //!
-//! A [`Dialer`] and an [`Acceptor`] are the two roles: each of their steps takes a message and
-//! answers what is to be sent, and whether the handshake goes on. Whether an attempt goes on beside
-//! [`Others`] is decided by [`Acceptor::admit`].
+//! A [`DialerState`] and an [`AcceptorState`] are what the two roles await: each of their steps takes
+//! a message and answers what is awaited then, what is to be sent, and whether the handshake goes on.
+//! Whether an attempt goes on beside [`OtherConnections`] is decided by [`AcceptorState::admit`].
 //!
 //! (ERTS User's Guide, Distribution Protocol, Distribution Handshake and Distribution Flags.)
 #![tactic(auto)]
@@ -17,6 +17,7 @@ mod admission;
 mod cookie;
 mod dialer;
 mod digesting;
+mod fault;
 mod fields;
 mod flags;
 mod identity;
@@ -29,19 +30,23 @@ mod status;
 mod turn;
 mod writing;
 
-pub use acceptor::{Acceptor, AcceptorState};
-pub use admission::{Admission, Others};
+pub use acceptor::AcceptorState;
+pub use admission::{Admission, OtherConnections};
 pub use cookie::Cookie;
-pub use dialer::{Dialer, DialerState};
+pub use dialer::DialerState;
 pub use digesting::digest;
+pub use fault::ShakeFault;
 pub use flags::{Flag, Flags};
 pub use identity::Identity;
-pub use laws::{digests, flags_by_bits, one_answer, one_message, read_again, written_is_shake};
+pub use laws::{
+    digests, flags_by_bits, one_answer, one_message, read_again, short_messages, written_is_shake,
+};
 pub use message::{Role, ShakeMsg};
 pub use reading::read;
 pub use role_laws::{
     done_only_by_digest, handshake_comes_about, later_attempt_goes_on, one_of_two_dials,
+    right_peers_pass,
 };
 pub use status::Status;
-pub use turn::{Next, Outcome};
-pub use writing::write;
+pub use turn::{Next, Progress, Turn};
+pub use writing::{put, write};

@@ -1,17 +1,17 @@
 //! Laws of the two roles. Each function does nothing: its contract is the law.
-ghost use Rattle.std.specs.Prelude.{◌≡◌, ◌≢◌, ◌⊎◌, ℕ, List, Some, not, true, false};
-ghost use Rattle.erl_handshake.specs.declared.admission.Others.{Others};
+ghost use Rattle.std.specs.Prelude.{◌≡◌, ◌≢◌, ◌⊎◌, ℕ, List, Some, None, not, true, false};
+ghost use Rattle.erl_handshake.specs.declared.admission.OtherConnections.{OtherConnections};
 ghost use Rattle.erl_handshake.specs.declared.status.Status.TheVariants as Status;
 ghost use Rattle.erl_handshake.specs.declared.message.ShakeMsg.{ShakeMsg};
 ghost use Rattle.erl_handshake.specs.declared.message.ShakeMsg.TheVariants.{SendName, ChallengeReply, ChallengeAck};
 ghost use Rattle.erl_handshake.specs.declared.identity.Identity.{Identity};
-ghost use Rattle.erl_handshake.specs.declared.turn.Outcome.TheVariants as Outcome;
+ghost use Rattle.erl_handshake.specs.declared.turn.Progress.TheVariants as Progress;
 ghost use Rattle.erl_handshake.specs.declared.dialer.DialerState.{DialerState};
 ghost use Rattle.erl_handshake.specs.declared.dialer.DialerState.TheVariants as dialer;
 ghost use Rattle.erl_handshake.specs.declared.acceptor.AcceptorState.{AcceptorState};
 ghost use Rattle.erl_handshake.specs.declared.acceptor.AcceptorState.TheVariants as acceptor;
 ghost use Rattle.erl_handshake.specs.Digest.{digest_of};
-ghost use Rattle.erl_handshake.specs.Roles.{dialer_turn, acceptor_turn};
+ghost use Rattle.erl_handshake.specs.Roles.{dialer_turn, acceptor_turn, introduction_fault, is_answered};
 ghost use Rattle.erl_handshake.specs.Admission.{is_superseded, status_due};
 ghost use Rattle.erl_handshake.specs.Flags.{has_all_of, mandatory};
 ghost use Rattle.erl_handshake.specs.Exchange.{met};
@@ -20,10 +20,10 @@ ghost use Rattle.erl_handshake.specs.Exchange.{met};
 /// dialer as an acknowledgement, at the acceptor as a reply.
 pub fn done_only_by_digest()
     ensures dialer { (own : Identity) (peer : List ℕ) (was : DialerState) (message : ShakeMsg) →
-        (dialer_turn own peer was message).next.outcome ≡ Outcome.Done →
+        (dialer_turn own peer was message).next.progress ≡ Progress.Done →
         (challenge creation : ℕ) × (was ≡ dialer.AwaitsAck challenge creation) × (message ≡ ChallengeAck (digest_of own.cookie challenge)) }
     ensures acceptor { (own : Identity) (peer : List ℕ) (was : AcceptorState) (message : ShakeMsg) (word : ℕ) →
-        (acceptor_turn own peer was message word).next.outcome ≡ Outcome.Done →
+        (acceptor_turn own peer was message word).next.progress ≡ Progress.Done →
         (challenge creation theirs : ℕ) × (was ≡ acceptor.AwaitsReply challenge creation) × (message ≡ ChallengeReply theirs (digest_of own.cookie challenge)) }
 {}
 
@@ -35,9 +35,16 @@ pub fn later_attempt_goes_on()
 /// Where two nodes dial each other, and nothing else is between them, one of them keeps its attempt
 /// and the other's is refused.
 pub fn one_of_two_dials()
-    ensures { (a b : List ℕ) (m n : ℕ) (others : Others) → a ≢ b → others.waiting ≡ None → others.connected ≡ false → others.dialing ≡ true →
+    ensures { (a b : List ℕ) (m n : ℕ) (others : OtherConnections) → a ≢ b → others.waiting ≡ None → others.connected ≡ false → others.dialing ≡ true →
         ((status_due a b m others ≡ Status.OkSimultaneous) × (status_due b a n others ≡ Status.Nok))
         ⊎ ((status_due a b m others ≡ Status.Nok) × (status_due b a n others ≡ Status.OkSimultaneous)) }
+{}
+
+/// A peer that gives its name and offers the mandatory flags has no fault, and the digest of the
+/// cookie and the challenge is an answer.
+pub fn right_peers_pass()
+    ensures introduced { (name : List ℕ) (flags : ℕ) → has_all_of flags mandatory ≡ true → introduction_fault name name flags ≡ None }
+    ensures answered { (cookie : List ℕ) (challenge : ℕ) → is_answered cookie challenge (digest_of cookie challenge) ≡ true }
 {}
 
 /// Two nodes that have nothing else between them, offer the mandatory flags and share a cookie, are
@@ -47,4 +54,6 @@ pub fn handshake_comes_about()
         (met own peer count challenge theirs).dialer ≡ dialer.Done peer.creation }
     ensures acceptor { (own peer : Identity) (count challenge theirs : ℕ) → has_all_of own.flags mandatory ≡ true → has_all_of peer.flags mandatory ≡ true → own.cookie ≡ peer.cookie →
         (met own peer count challenge theirs).acceptor ≡ acceptor.Done own.creation }
-{}
+{
+    right_peers_pass();
+}

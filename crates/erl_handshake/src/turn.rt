@@ -1,18 +1,18 @@
 //! What a step of a handshake answers.
 ghost use Rattle.std.specs.Prelude.{◌≡◌, Some, None};
 
+use crate::fault::ShakeFault;
 use crate::message::ShakeMsg;
-use erl_term::Refusal;
 
 /// Whether a handshake goes on.
 #[derive(Clone, Copy, Debug, PartialEq, Eq)]
-pub enum Outcome {
+pub enum Progress {
     /// It goes on.
     Go,
     /// The nodes are connected.
     Done,
     /// It has ended without a connection, for this reason.
-    Ended(Refusal),
+    Ended(ShakeFault),
 }
 
 /// What a step of a handshake answers. (ERTS User's Guide, Distribution Protocol, Distribution
@@ -22,47 +22,69 @@ pub struct Next {
     /// What is sent to the peer.
     pub send: Option<ShakeMsg>,
     /// Whether the handshake goes on.
-    pub outcome: Outcome,
+    pub progress: Progress,
 }
 
-impl Next {
+/// What a message does to a role of the handshake: what the role awaits after it, and what the step
+/// answers. (ERTS User's Guide, Distribution Protocol, Distribution Handshake.)
+#[derive(Debug, Drop)]
+pub struct Turn<S> {
+    /// What the role awaits.
+    pub state: S,
+    /// What the step answers.
+    pub next: Next,
+}
+
+impl<S> Turn<S> {
     // It goes on, and nothing is sent.
-    pub(crate) fn waits() -> Next
-        ensures { result ≡ record { send = None; outcome = Outcome.Go } }
+    pub(crate) fn waits(state: S) -> Turn<S>
+        ensures { result ≡ record { state = state; next = record { send = None; progress = Progress.Go } } }
     {
-        Next {
-            send: None,
-            outcome: Outcome::Go,
+        Turn {
+            state,
+            next: Next {
+                send: None,
+                progress: Progress::Go,
+            },
         }
     }
 
     // It goes on, and this is sent.
-    pub(crate) fn says(message: ShakeMsg) -> Next
-        ensures { result ≡ record { send = Some message; outcome = Outcome.Go } }
+    pub(crate) fn says(message: ShakeMsg, state: S) -> Turn<S>
+        ensures { result ≡ record { state = state; next = record { send = Some message; progress = Progress.Go } } }
     {
-        Next {
-            send: Some(message),
-            outcome: Outcome::Go,
+        Turn {
+            state,
+            next: Next {
+                send: Some(message),
+                progress: Progress::Go,
+            },
         }
     }
 
     // The nodes are connected.
-    pub(crate) fn done(send: Option<ShakeMsg>) -> Next
-        ensures { result ≡ record { send = send; outcome = Outcome.Done } }
+    pub(crate) fn done(send: Option<ShakeMsg>, state: S) -> Turn<S>
+        ensures { result ≡ record { state = state; next = record { send = send; progress = Progress.Done } } }
     {
-        Next {
-            send,
-            outcome: Outcome::Done,
+        Turn {
+            state,
+            next: Next {
+                send,
+                progress: Progress::Done,
+            },
         }
     }
 
     // It has ended.
-    pub(crate) fn ended(why: Refusal) -> Next
-        ensures { result ≡ record { send = None; outcome = Outcome.Ended why } }
+    pub(crate) fn ended(why: ShakeFault, state: S) -> Turn<S>
+        ensures { result ≡ record { state = state; next = record { send = None; progress = Progress.Ended why } } }
     {
-        Next {
-            send: None,
-            outcome: Outcome::Ended(why),
+        Turn {
+            state,
+            next: Next {
+                send: None,
+                progress: Progress::Ended(why),
+            },
         }
     }
 }

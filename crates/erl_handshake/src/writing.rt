@@ -1,14 +1,13 @@
 //! Writing messages.
-ghost use Rattle.std.specs.Prelude.{◌≡◌, ◌∷◌, ◌++◌, ◌<◌, ◌^◌, length, IfOk, OnOk, IsOkUnless};
+ghost use Rattle.std.specs.Prelude.{◌≡◌, ◌∷◌, ◌++◌, ◌<◌, ◌≤◌, ◌+◌, ◌^◌, length, IfOk, IsOk, OnOk, OnErr};
 ghost use Rattle.std.specs.Int.{to_be_bytes, w32, w64};
-ghost use Rattle.erl_term.specs.declared.refusal.Refusal.TheVariants as Refusal;
+ghost use Rattle.std.specs.Vec.{vec_len, vec_capacity};
 ghost use Rattle.erl_handshake.specs.declared.message.ShakeMsg.TheVariants as variant;
 ghost use Rattle.erl_handshake.specs.Messages.{counted, content, written};
 
 use crate::flags::Flags;
 use crate::message::ShakeMsg;
 use erl_names::NodeName;
-use erl_term::Refusal;
 use std::alloc::{AllocError, Global};
 
 /// How many bytes a digest has. The array is read, since its length is known of what was read.
@@ -36,7 +35,8 @@ fn content_len(message: &ShakeMsg) -> usize
 
 /// Writes a creation, and a name behind its length.
 fn put_node(out: &mut Vec<u8>, creation: u32, name: &NodeName) -> Result<(), AllocError>
-    ensures { OnOk result (out.new.items ≡ out.old.items ++ (to_be_bytes w32 creation ++ counted name.now)) }
+    ensures items { OnOk result (out.new.items ≡ out.old.items ++ (to_be_bytes w32 creation ++ counted name.now)) }
+    ensures room { vec_len out.old + length (to_be_bytes w32 creation ++ counted name.now) ≤ vec_capacity out.old → IsOk result }
 {
     let text = name.text().as_bytes();
     out.extend_from_slice(&creation.to_be_bytes())?;
@@ -51,7 +51,8 @@ fn put_send_name(
     creation: u32,
     name: &NodeName,
 ) -> Result<(), AllocError>
-    ensures { OnOk result (out.new.items ≡ out.old.items ++ content (variant.SendName flags creation name.now)) }
+    ensures items { OnOk result (out.new.items ≡ out.old.items ++ content (variant.SendName flags creation name.now)) }
+    ensures room { vec_len out.old + length (content (variant.SendName flags creation name.now)) ≤ vec_capacity out.old → IsOk result }
 {
     out.push(b'N')?;
     out.extend_from_slice(&flags.bits().to_be_bytes())?;
@@ -66,7 +67,8 @@ fn put_challenge(
     creation: u32,
     name: &NodeName,
 ) -> Result<(), AllocError>
-    ensures { OnOk result (out.new.items ≡ out.old.items ++ content (variant.Challenge flags challenge creation name.now)) }
+    ensures items { OnOk result (out.new.items ≡ out.old.items ++ content (variant.Challenge flags challenge creation name.now)) }
+    ensures room { vec_len out.old + length (content (variant.Challenge flags challenge creation name.now)) ≤ vec_capacity out.old → IsOk result }
 {
     out.push(b'N')?;
     out.extend_from_slice(&flags.bits().to_be_bytes())?;
@@ -76,7 +78,8 @@ fn put_challenge(
 
 /// Writes the message without its length.
 fn put_content(out: &mut Vec<u8>, message: &ShakeMsg) -> Result<(), AllocError>
-    ensures { OnOk result (out.new.items ≡ out.old.items ++ content message.now) }
+    ensures items { OnOk result (out.new.items ≡ out.old.items ++ content message.now) }
+    ensures room { vec_len out.old + length (content message.now) ≤ vec_capacity out.old → IsOk result }
 {
     match message {
         ShakeMsg::SendName {
@@ -106,15 +109,32 @@ fn put_content(out: &mut Vec<u8>, message: &ShakeMsg) -> Result<(), AllocError>
     }
 }
 
-/// The bytes of the message, with nothing behind a name. The only refusal is
-/// [`Refusal::OutOfMemory`]. (ERTS User's Guide, Distribution Protocol, Distribution Handshake.)
-pub fn write(alloc: Global, message: &ShakeMsg) -> Result<Vec<u8>, Refusal>
-    ensures ok { IfOk result (λ bytes. bytes.items ≡ written message.now) }
-    ensures only_memory { IsOkUnless result Refusal.OutOfMemory }
+/// Writes the message behind what is there, with nothing behind a name: two bytes for its length, and
+/// at most 83 more. Takes memory only where there is no room. (ERTS User's Guide, Distribution
+/// Protocol, Distribution Handshake.)
+///
+/// # Errors
+/// Where memory is wanting. Then nothing was written.
+pub fn put(out: &mut Vec<u8>, message: &ShakeMsg) -> Result<(), AllocError>
+    ensures ok { OnOk result (out.new.items ≡ out.old.items ++ written message.now) }
+    ensures err { OnErr result (out.new.items ≡ out.old.items) }
+    ensures room { vec_len out.old + length (written message.now) ≤ vec_capacity out.old → IsOk result }
 {
     let len = content_len(message);
-    let mut out = Vec::with_capacity(alloc, len + 2)?;
+    out.reserve(len + 2)?;
     out.extend_from_slice(&(len as u16).to_be_bytes())?;
-    put_content(&mut out, message)?;
+    put_content(out, message)
+}
+
+/// The bytes of the message, with nothing behind a name. (ERTS User's Guide, Distribution Protocol,
+/// Distribution Handshake.)
+///
+/// # Errors
+/// Where memory is wanting.
+pub fn write(alloc: Global, message: &ShakeMsg) -> Result<Vec<u8>, AllocError>
+    ensures { IfOk result (λ bytes. bytes.items ≡ written message.now) }
+{
+    let mut out = Vec::new(alloc);
+    put(&mut out, message)?;
     Ok(out)
 }

@@ -1,7 +1,8 @@
 use Rattle.erl_handshake.proofs.Dues.{some_due, due_once}
 use Rattle.erl_handshake.proofs.laws.one_answer.Goals as goal
 
-pub returns : goal.returns
-returns c = λ role bytes h.
-    let d = some_due role bytes h in
-    (d.0, d.1, λ other p. due_once role bytes other d.0 p d.1)
+pub returns-clause-due : goal.returns-clause-due
+returns-clause-due c = some_due
+
+pub returns-clause-once : goal.returns-clause-once
+returns-clause-once c = due_once

@@ -5,7 +5,7 @@ use Rattle.std.specs.Ordering.{is_gt, ordering_reverse}
 use Rattle.std.specs.Cmp.Lexicographic.{nat_list_cmp_total}
 use Rattle.std.specs.FinMap.{nat_cmp-IsAntisymmetric, slice_cmp-IsAntisymmetric}
 use Rattle.erl_names.specs.Order.{name_cmp}
-use Rattle.erl_handshake.specs.declared.admission.Others.{Others}
+use Rattle.erl_handshake.specs.declared.admission.OtherConnections.{OtherConnections}
 use Rattle.erl_handshake.specs.declared.status.Status.{Status}
 use Rattle.erl_handshake.specs.declared.status.Status.TheVariants as status
 use Rattle.erl_handshake.specs.Admission.{is_greater, status_due}
@@ -15,7 +15,7 @@ abbrev chosen : Bool → Status
 chosen greater = if greater then status.OkSimultaneous else status.Nok
 
 -- what is said where both nodes dial, and nothing else is between them
-both_dial : (a b : List ℕ) (m : ℕ) (others : Others) → others.waiting ≡ None → others.connected ≡ false → others.dialing ≡ true →
+both_dial : (a b : List ℕ) (m : ℕ) (others : OtherConnections) → others.waiting ≡ None → others.connected ≡ false → others.dialing ≡ true →
     status_due a b m others ≡ chosen (is_greater a b)
 both_dial a b m others w c d = rw (w, c, d) refl
 
