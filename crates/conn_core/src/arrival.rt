@@ -6,6 +6,7 @@ ghost use Rattle.conn_core.specs.Side as table;
 use crate::standing::Standing;
 use erl_control::{FrameFault, Item};
 use erl_handshake::{Next, Progress, ShakeFault, ShakeMsg};
+use erl_term::Refusal;
 
 /// What breaks a side of a connection.
 #[derive(Clone, Copy, Debug, PartialEq, Eq)]
@@ -14,16 +15,21 @@ pub enum Fault {
     Shake(ShakeFault),
     /// A frame can't be read.
     Frame(FrameFault),
+    /// A signal names a process that isn't one of the peer's, or none that was ever spawned here. The
+    /// node that takes the signal finds this; no call of a side answers it.
+    Forged,
 }
 
 impl Fault {
-    /// The number of the fault: of frames 6 to 9, of the handshake 10, 11, 13, 14, 15 or 20.
+    /// The number of the fault: of frames 6 to 9, of the handshake 10, 11, 13, 14, 15 or 20, of a forged
+    /// signal 20.
     pub fn number(self) -> u8
         ensures { result ≡ fault_number self }
     {
         match self {
             Fault::Shake(why) => why.number(),
             Fault::Frame(why) => why.number(),
+            Fault::Forged => Refusal::Forged.number(),
         }
     }
 }

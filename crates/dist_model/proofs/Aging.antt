@@ -12,12 +12,12 @@ use Rattle.dist_model.proofs.Routes.{none_some, some_same}
 use Rattle.dist_model.proofs.Sides.{holds, side_at}
 use Rattle.dist_model.specs.Downs.{same_reference}
 use Rattle.dist_model.specs.Handshake.{with_side, write}
-use Rattle.dist_model.specs.Losses.{has_records, link_to, registered_by, watch_to}
+use Rattle.dist_model.proofs.Records.{has_records, no_records}
+use Rattle.dist_model.specs.Losses.{link_to, registered_by, watch_to}
 use Rattle.dist_model.specs.Names.{Name, same_name}
 use Rattle.dist_model.specs.Node.{Node}
-use Rattle.dist_model.specs.Sides.{Gone, TrunkSide}
+use Rattle.dist_model.specs.Sides.{Gone, TrunkSide, is_over}
 use Rattle.dist_model.specs.Work.{Work}
-use Rattle.dist_model.specs.World.{is_over}
 use Rattle.erl_names.specs.declared.trunk.TrunkId.{TrunkId}
 use Rattle.erl_term.specs.declared.term.Reference.{Reference}
 use Rattle.monitor_core.specs.Order.{reference_cmp}
@@ -38,9 +38,7 @@ none_watched y (d ∷ es) h k u f e = go (same_name d.1.target.node y) refl h (s
 
 unwatched : (n : Node) (y : Name) → has_records y n ≡ false → Unwatched n y
 unwatched n y h k u f e =
-    let v = none_of_or (is_some (link_to y (fm.entries n.ends)) || is_some (watch_to y (fm.entries n.watches))) (is_some (registered_by y (fm.entries n.registered))) h in
-    let m = none_of_or (is_some (link_to y (fm.entries n.ends))) (is_some (watch_to y (fm.entries n.watches))) v.0 in
-    none_watched y (fm.entries n.watches) m.1 k u (sym (fm.get-entries n.watches k) ∙ f) e
+    none_watched y (fm.entries n.watches) (no_records y n h).1 k u (sym (fm.get-entries n.watches k) ∙ f) e
 
 -- a side, later: what holds records goes on to, or nobody watches and it is over; what is over stays so
 pub record Later (m : Node) (t : TrunkId) (a : TrunkSide) : Type 0 where

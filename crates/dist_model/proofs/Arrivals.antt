@@ -1,6 +1,8 @@
 -- What comes on a side that is known.
 use Rattle.std.proofs.Common.{◌≡◌, ℕ, Bool, true, false, cond, List, [], ◌∷◌, refl, sym, ap, ◌∙◌, subst, ◌||◌, Some, ◌⊎◌, inl, inr}
 use Rattle.std.specs.FinMap as fm
+use Rattle.conn_core.specs.declared.arrival.Fault.{Fault}
+use Rattle.erl_handshake.specs.declared.fault.ShakeFault.{ShakeFault}
 use Rattle.dist_model.proofs.Calls.{IfGoes, by_test}
 use Rattle.dist_model.proofs.Handshake.{as_state, good_acceptor_up, good_awaits_ack, good_awaits_challenge, good_dialer_up, good_lost, in_state}
 use Rattle.dist_model.proofs.Keys.{same_name_is, same_name_true}
@@ -11,17 +13,19 @@ use Rattle.dist_model.proofs.Rules.{awaits_reply, awaits_status}
 use Rattle.dist_model.proofs.Sides.{asks, joined, side_at}
 use Rattle.dist_model.proofs.Signals.{good_arrive}
 use Rattle.dist_model.proofs.Table.{Good, Posted, Row, begun, has, holds_side, is_accept, is_challenge, is_early, is_reply, partners, role_state, went_up}
+use Rattle.dist_model.specs.declared.report.Effect.{Effect}
 use Rattle.dist_model.specs.Arrivals.{is_good, on_up}
-use Rattle.dist_model.specs.Commands.{Goes, Outcome, Took}
+use Rattle.dist_model.specs.Commands.{Accepts, Outcome}
+use Rattle.dist_model.specs.declared.report.Answer.{Answer}
 use Rattle.dist_model.specs.Handshake.{fault, set_state, write}
-use Rattle.dist_model.specs.Items.{Handshake, Item, news_in}
+use Rattle.dist_model.specs.Items.{Handshake, Item, news_in, kind_of}
 use Rattle.dist_model.specs.Losses.{lose_at}
 use Rattle.dist_model.specs.Names.{Name, same_name}
 use Rattle.dist_model.specs.Node.{Node}
 use Rattle.dist_model.specs.Sides.{Accepting, Asked, AwaitsAck, AwaitsChallenge, AwaitsStatus, Gone, Losing, Parked, State, TrunkSide, Up, is_gone, is_up, lost}
 use Rattle.dist_model.specs.Taking.{take_item}
 use Rattle.dist_model.specs.Work.{Work, at_work}
-use Rattle.dist_model.specs.World.{World, carried, ends_in, list_to, node_of, set_node}
+use Rattle.dist_model.specs.World.{World, carried, came_of, list_to, node_of, set_node}
 use Rattle.erl_handshake.specs.Digest.{digest_of}
 use Rattle.erl_handshake.specs.Roles.{is_answered}
 use Rattle.erl_handshake.specs.declared.message.ShakeMsg.{ShakeMsg}
@@ -34,7 +38,7 @@ module _ (w : World) (x : Name) (n : Node) (t : TrunkId) (v : TrunkSide) (i : It
     (h : side_at n t ≡ Some v) (g : Good w) (first : list_to w.lists t x ≡ i ∷ rest) where
   -- the world after the event
   abbrev Fin : Work → Type 0
-  Fin o = Good (record { names = w.names; nodes = set_node w.nodes x o.node; lists = carried (fm.insert w.lists (t, x) rest) o.sent })
+  Fin o = Good (record { names = w.names; nodes = set_node w.nodes x o.node; lists = carried (fm.insert w.lists (t, x) rest) o.effects })
 
   nx : n.mint.name ≡ x
   nx = node_of_name w.nodes x n hx
@@ -59,7 +63,7 @@ module _ (w : World) (x : Name) (n : Node) (t : TrunkId) (v : TrunkSide) (i : It
       → (is_accept (Handshake m) ≡ true → (went_up (side_at a t) ≡ true) × (is_early u.state ≡ false)) × (is_reply (Handshake m) ≡ true → is_early u.state ≡ false)
       × (is_challenge (Handshake m) ≡ true → begun (side_at a t) ≡ true) × (is_reply (Handshake m) ≡ true → begun (side_at a t) ≡ true))
       → ((is_accept (Handshake m) ≡ true) ⊎ (is_reply (Handshake m) ≡ true) → (is_gone s.state ≡ false) × (asks s.state ≡ false))
-      → Good (record { names = w.names; nodes = set_node w.nodes x (with_side_at n t s); lists = carried (fm.insert w.lists (t, x) rest) ((record { trunk = t; target = s.peer; item = Handshake m }) ∷ []) })
+      → Good (record { names = w.names; nodes = set_node w.nodes x (with_side_at n t s); lists = carried (fm.insert w.lists (t, x) rest) (Effect.Sent (Some t) s.peer (Handshake m) ∷ []) })
   sent_after s m e gs fit lone = good_pushed (record { names = w.names; nodes = set_node w.nodes x (with_side_at n t s); lists = fm.insert w.lists (t, x) rest }) t s.peer m gs known fit
       (λ j z l.
       let p = partners (record { names = w.names; nodes = set_node w.nodes x (with_side_at n t s); lists = fm.insert w.lists (t, x) rest }) gs.core x s.peer (with_side_at n t s) l.node t s l.side here l.at (side_after_same n t s) l.there
@@ -93,10 +97,10 @@ module _ (w : World) (x : Name) (n : Node) (t : TrunkId) (v : TrunkSide) (i : It
   lost_not_joined Losing = refl
   lost_not_joined Gone = refl
 
-  pub good_fault : (k : Refusal) → IfGoes (fault k t v (at_work n)) Fin
+  pub good_fault : (k : Fault) → IfGoes (fault k t v (at_work n)) Fin
   good_fault k = popped_after (as_state v (lost v.state)) (good_lost w x n t v hx h g) (inl (lost_not_joined v.state))
 
-  fault_cond : (b : Bool) (o : Outcome) (k : Refusal) → (b ≡ true → IfGoes o Fin) → IfGoes (cond b o (fault k t v (at_work n))) Fin
+  fault_cond : (b : Bool) (o : Outcome) (k : Fault) → (b ≡ true → IfGoes o Fin) → IfGoes (cond b o (fault k t v (at_work n))) Fin
   fault_cond true o k f = f refl
   fault_cond false o k f = good_fault k
 
@@ -104,9 +108,9 @@ module _ (w : World) (x : Name) (n : Node) (t : TrunkId) (v : TrunkSide) (i : It
   pub good_on_up : is_up v.state ≡ true → IfGoes (on_up t v i (at_work n)) Fin
   good_on_up u = go (is_good n v i) refl
     where
-      go : (b : Bool) → is_good n v i ≡ b → IfGoes (cond b (Goes (Took i) (take_item i (at_work n))) (fault Refusal.Forged t v (at_work n))) Fin
+      go : (b : Bool) → is_good n v i ≡ b → IfGoes (cond b (Accepts (Answer.Took (kind_of i)) (take_item i (at_work n))) (fault Fault.Forged t v (at_work n))) Fin
       go true e = good_arrive w x n t v i rest hx h u g first e
-      go false e = good_fault Refusal.Forged
+      go false e = good_fault Fault.Forged
 
   -- the handshake, where the item is the one that is due
   pub status_comes : (u : ℕ) → v.state ≡ AwaitsStatus u → ((p q : Pid) → news_in p q i ≡ []) → Fin (set_state t v (AwaitsChallenge u) (at_work n))
@@ -177,12 +181,12 @@ module _ (w : World) (x : Name) (n : Node) (t : TrunkId) (v : TrunkSide) (i : It
 
 module _ (w : World) (x : Name) (n : Node) (t : TrunkId) (v : TrunkSide) (rest : List Item) (hx : node_of w.nodes x ≡ Some n) (h : side_at n t ≡ Some v) (g : Good w) where
   abbrev Ends : Item → Outcome → Type 0
-  Ends i o = list_to w.lists t x ≡ i ∷ rest → IfGoes o (λ p. Good (record { names = w.names; nodes = set_node w.nodes x p.node; lists = carried (fm.insert w.lists (t, x) rest) p.sent }))
+  Ends i o = list_to w.lists t x ≡ i ∷ rest → IfGoes o (λ p. Good (record { names = w.names; nodes = set_node w.nodes x p.node; lists = carried (fm.insert w.lists (t, x) rest) p.effects }))
 
-  pub broken : (k : Refusal) (i : Item) → Ends i (fault k t v (at_work n))
+  pub broken : (k : Fault) (i : Item) → Ends i (fault k t v (at_work n))
   broken k i e = good_fault w x n t v i rest hx h g e k
 
-  pub unless : (b : Bool) (i : Item) (o : Outcome) (k : Refusal) → (b ≡ true → Ends i o) → Ends i (cond b o (fault k t v (at_work n)))
+  pub unless : (b : Bool) (i : Item) (o : Outcome) (k : Fault) → (b ≡ true → Ends i o) → Ends i (cond b o (fault k t v (at_work n)))
   unless true i o k f e = f refl e
   unless false i o k f e = broken k i e
 
@@ -190,37 +194,37 @@ module _ (w : World) (x : Name) (n : Node) (t : TrunkId) (v : TrunkSide) (rest :
   good_awaits_status u s (ShakeMsg.Status Status.Ok) e = status_comes w x n t v (Handshake (ShakeMsg.Status Status.Ok)) rest hx h g e u s (λ p q. refl)
   good_awaits_status u s (ShakeMsg.Status Status.OkSimultaneous) e = status_comes w x n t v (Handshake (ShakeMsg.Status Status.OkSimultaneous)) rest hx h g e u s (λ p q. refl)
   good_awaits_status u s (ShakeMsg.Status Status.Alive) e = alive_comes w x n t v (Handshake (ShakeMsg.Status Status.Alive)) rest hx h g e u s (λ p q. refl)
-  good_awaits_status u s (ShakeMsg.Status Status.Nok) e = broken Refusal.Nok (Handshake (ShakeMsg.Status Status.Nok)) e
-  good_awaits_status u s (ShakeMsg.Status Status.NotAllowed) e = broken Refusal.Nok (Handshake (ShakeMsg.Status Status.NotAllowed)) e
-  good_awaits_status u s (ShakeMsg.SendName c b a) e = broken Refusal.BadMessage (Handshake (ShakeMsg.SendName c b a)) e
-  good_awaits_status u s (ShakeMsg.Status Status.True) e = broken Refusal.BadMessage (Handshake (ShakeMsg.Status Status.True)) e
-  good_awaits_status u s (ShakeMsg.Status Status.False) e = broken Refusal.BadMessage (Handshake (ShakeMsg.Status Status.False)) e
-  good_awaits_status u s (ShakeMsg.Challenge c d b a) e = broken Refusal.BadMessage (Handshake (ShakeMsg.Challenge c d b a)) e
-  good_awaits_status u s (ShakeMsg.ChallengeReply a b) e = broken Refusal.BadMessage (Handshake (ShakeMsg.ChallengeReply a b)) e
-  good_awaits_status u s (ShakeMsg.ChallengeAck a) e = broken Refusal.BadMessage (Handshake (ShakeMsg.ChallengeAck a)) e
+  good_awaits_status u s (ShakeMsg.Status Status.Nok) e = broken (Fault.Shake ShakeFault.Nok) (Handshake (ShakeMsg.Status Status.Nok)) e
+  good_awaits_status u s (ShakeMsg.Status Status.NotAllowed) e = broken (Fault.Shake ShakeFault.Nok) (Handshake (ShakeMsg.Status Status.NotAllowed)) e
+  good_awaits_status u s (ShakeMsg.SendName c b a) e = broken (Fault.Shake ShakeFault.BadMessage) (Handshake (ShakeMsg.SendName c b a)) e
+  good_awaits_status u s (ShakeMsg.Status Status.True) e = broken (Fault.Shake ShakeFault.BadMessage) (Handshake (ShakeMsg.Status Status.True)) e
+  good_awaits_status u s (ShakeMsg.Status Status.False) e = broken (Fault.Shake ShakeFault.BadMessage) (Handshake (ShakeMsg.Status Status.False)) e
+  good_awaits_status u s (ShakeMsg.Challenge c d b a) e = broken (Fault.Shake ShakeFault.BadMessage) (Handshake (ShakeMsg.Challenge c d b a)) e
+  good_awaits_status u s (ShakeMsg.ChallengeReply a b) e = broken (Fault.Shake ShakeFault.BadMessage) (Handshake (ShakeMsg.ChallengeReply a b)) e
+  good_awaits_status u s (ShakeMsg.ChallengeAck a) e = broken (Fault.Shake ShakeFault.BadMessage) (Handshake (ShakeMsg.ChallengeAck a)) e
 
   pub good_awaits_reply : (u : ℕ) → v.state ≡ Accepting u → (m : ShakeMsg) → Ends (Handshake m) (awaits_reply t v u m (at_work n))
-  good_awaits_reply u s (ShakeMsg.ChallengeReply k d) e = unless (is_answered n.cookie u d) (Handshake (ShakeMsg.ChallengeReply k d)) _ Refusal.BadDigest
+  good_awaits_reply u s (ShakeMsg.ChallengeReply k d) e = unless (is_answered n.cookie u d) (Handshake (ShakeMsg.ChallengeReply k d)) _ (Fault.Shake ShakeFault.BadDigest)
       (λ c f. reply_comes w x n t v (Handshake (ShakeMsg.ChallengeReply k d)) rest hx h g f u (digest_of n.cookie k) s refl (λ p q. refl)) e
-  good_awaits_reply u s (ShakeMsg.ChallengeAck a) e = broken Refusal.BadMessage (Handshake (ShakeMsg.ChallengeAck a)) e
-  good_awaits_reply u s (ShakeMsg.Status Status.Ok) e = broken Refusal.BadMessage (Handshake (ShakeMsg.Status Status.Ok)) e
-  good_awaits_reply u s (ShakeMsg.Status Status.OkSimultaneous) e = broken Refusal.BadMessage (Handshake (ShakeMsg.Status Status.OkSimultaneous)) e
-  good_awaits_reply u s (ShakeMsg.Status Status.Alive) e = broken Refusal.BadMessage (Handshake (ShakeMsg.Status Status.Alive)) e
-  good_awaits_reply u s (ShakeMsg.Status Status.Nok) e = broken Refusal.BadMessage (Handshake (ShakeMsg.Status Status.Nok)) e
-  good_awaits_reply u s (ShakeMsg.Status Status.NotAllowed) e = broken Refusal.BadMessage (Handshake (ShakeMsg.Status Status.NotAllowed)) e
-  good_awaits_reply u s (ShakeMsg.SendName c b a) e = broken Refusal.BadMessage (Handshake (ShakeMsg.SendName c b a)) e
-  good_awaits_reply u s (ShakeMsg.Status Status.True) e = broken Refusal.BadMessage (Handshake (ShakeMsg.Status Status.True)) e
-  good_awaits_reply u s (ShakeMsg.Status Status.False) e = broken Refusal.BadMessage (Handshake (ShakeMsg.Status Status.False)) e
-  good_awaits_reply u s (ShakeMsg.Challenge c d b a) e = broken Refusal.BadMessage (Handshake (ShakeMsg.Challenge c d b a)) e
+  good_awaits_reply u s (ShakeMsg.ChallengeAck a) e = broken (Fault.Shake ShakeFault.BadMessage) (Handshake (ShakeMsg.ChallengeAck a)) e
+  good_awaits_reply u s (ShakeMsg.Status Status.Ok) e = broken (Fault.Shake ShakeFault.BadMessage) (Handshake (ShakeMsg.Status Status.Ok)) e
+  good_awaits_reply u s (ShakeMsg.Status Status.OkSimultaneous) e = broken (Fault.Shake ShakeFault.BadMessage) (Handshake (ShakeMsg.Status Status.OkSimultaneous)) e
+  good_awaits_reply u s (ShakeMsg.Status Status.Alive) e = broken (Fault.Shake ShakeFault.BadMessage) (Handshake (ShakeMsg.Status Status.Alive)) e
+  good_awaits_reply u s (ShakeMsg.Status Status.Nok) e = broken (Fault.Shake ShakeFault.BadMessage) (Handshake (ShakeMsg.Status Status.Nok)) e
+  good_awaits_reply u s (ShakeMsg.Status Status.NotAllowed) e = broken (Fault.Shake ShakeFault.BadMessage) (Handshake (ShakeMsg.Status Status.NotAllowed)) e
+  good_awaits_reply u s (ShakeMsg.SendName c b a) e = broken (Fault.Shake ShakeFault.BadMessage) (Handshake (ShakeMsg.SendName c b a)) e
+  good_awaits_reply u s (ShakeMsg.Status Status.True) e = broken (Fault.Shake ShakeFault.BadMessage) (Handshake (ShakeMsg.Status Status.True)) e
+  good_awaits_reply u s (ShakeMsg.Status Status.False) e = broken (Fault.Shake ShakeFault.BadMessage) (Handshake (ShakeMsg.Status Status.False)) e
+  good_awaits_reply u s (ShakeMsg.Challenge c d b a) e = broken (Fault.Shake ShakeFault.BadMessage) (Handshake (ShakeMsg.Challenge c d b a)) e
 
 -- a side is lost by a call
-pub good_lose : (w : World) (x : Name) (n : Node) (t : TrunkId) (v : TrunkSide) → node_of w.nodes x ≡ Some n → side_at n t ≡ Some v → Good w → Good ((ends_in w x w.lists (lose_at v.state t v (at_work n))).world)
+pub good_lose : (w : World) (x : Name) (n : Node) (t : TrunkId) (v : TrunkSide) → node_of w.nodes x ≡ Some n → side_at n t ≡ Some v → Good w → Good ((came_of w x w.lists (lose_at v.state t v (at_work n))).world)
 good_lose w x n t v hx h g = go v.state refl
   where
     one : (a : State) → v.state ≡ a → Good (record { names = w.names; nodes = set_node w.nodes x (with_side_at n t (as_state v (lost a))); lists = w.lists })
     one a e = subst (λ z. Good (record { names = w.names; nodes = set_node w.nodes x (with_side_at n t (as_state v (lost z))); lists = w.lists })) e (good_lost w x n t v hx h g)
 
-    go : (a : State) → v.state ≡ a → Good ((ends_in w x w.lists (lose_at a t v (at_work n))).world)
+    go : (a : State) → v.state ≡ a → Good ((came_of w x w.lists (lose_at a t v (at_work n))).world)
     go Losing e = g
     go Gone e = g
     go (AwaitsStatus u) e = one (AwaitsStatus u) e

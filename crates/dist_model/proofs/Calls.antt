@@ -8,7 +8,8 @@ use Rattle.dist_model.proofs.Keys.{pid_total, same_name_refl, same_name_true, sa
 use Rattle.dist_model.proofs.Moves.{Homely, Moves, carries_out, finishes, links, posts_other, puts, set_life_living, stays, then, unlinks_as}
 use Rattle.dist_model.proofs.Views.{over, side_path, telling_news, view}
 use Rattle.dist_model.specs.Calls.{acting, call, spawn_life, toward, trapping, with_life, without_first}
-use Rattle.dist_model.specs.Commands.{Command, EndLink, EndMonitor, ExitSelf, ExitTo, Goes, IsAlive, LinksOf, MakeLink, MakeMonitor, Outcome, Receive, Refuses, Send, Spawn, Trap, with_id}
+use Rattle.dist_model.specs.Commands.{Accepts, Outcome, Refuses, with_id}
+use Rattle.dist_model.specs.declared.command.Command.{Command}
 use Rattle.dist_model.specs.Exits.{sent_exit}
 use Rattle.dist_model.specs.Fits.{fits}
 use Rattle.dist_model.specs.Items.{Handshake, Item, Signalled, Tick, news_in, telling}
@@ -37,7 +38,7 @@ use Rattle.std.specs.FinMap.{FinMap}
 -- what holds of the work where the event goes through
 abbrev pub IfGoes : Outcome → (Work → Type 0) → Type 0
 IfGoes (Refuses k) P = Unit {0}
-IfGoes (Goes a o) P = P o
+IfGoes (Accepts a o) P = P o
 
 pub if_cond : (b : Bool) (k : Outcome) (j : Refusal) (P : Work → Type 0) → (b ≡ true → IfGoes k P) → IfGoes (cond b k (Refuses j)) P
 if_cond true k j P h = h refl
@@ -305,23 +306,23 @@ acts n p q k h = if_cond (living n p) (toward n q k) Refusal.NoSuchProcess (Move
 
 -- whatever a call does, no pair is hurt
 pub calls : (n : Node) (c : Command) → IfGoes (call n c) (Moves (at_work n))
-calls n Spawn = if_drawn (id_of n.mint kind.Pid) _ (Moves (at_work n)) (λ id h.
+calls n Command.Spawn = if_drawn (id_of n.mint kind.Pid) _ (Moves (at_work n)) (λ id h.
     let d = pid_drawn n.mint id h in
     subst (λ j. Moves (at_work n) (spawn_life n (pid_of n.mint j))) (sym d.1)
     (subst (λ m. Moves (at_work n) (at_work (record n { mint = m; lives = fm.insert n.lives (next_pid n) (Living false []) }))) (sym d.0) (spawns n)))
-calls n (Send p q t) = acts n p q _ (λ l. if_cond (fits t) _ Refusal.TooLong (Moves (at_work n)) (λ f. posts_other q.node (Signalled (Signal.Send q t)) (at_work n) (λ a b. refl)))
-calls n (MakeLink p q) = acts_known n p q _ (λ l v. links p q (at_work n) v l)
-calls n (EndLink p q) = acts n p q _ (λ l. unlinks_by (end_of n p q) p q (at_work n) refl l)
-calls n (MakeMonitor p q) = acts n p q _ (λ l. if_drawn (id_of n.mint kind.Reference) _ (Moves (at_work n)) (λ count h.
+calls n (Command.Send p q t) = acts n p q _ (λ l. if_cond (fits t) _ Refusal.TooLong (Moves (at_work n)) (λ f. posts_other q.node (Signalled (Signal.Send q t)) (at_work n) (λ a b. refl)))
+calls n (Command.Link p q) = acts_known n p q _ (λ l v. links p q (at_work n) v l)
+calls n (Command.Unlink p q) = acts n p q _ (λ l. unlinks_by (end_of n p q) p q (at_work n) refl l)
+calls n (Command.Monitor p q) = acts n p q _ (λ l. if_drawn (id_of n.mint kind.Reference) _ (Moves (at_work n)) (λ count h.
     let o = draw kind.Reference (at_work n) in
     let k = reference_of n.mint count in
     then (at_work n) o (monitor k p q o) (draws_reference (at_work n)) (moves_cond (reaches o.node q.node) o _ _
     (λ r. then o (watch k (monitor_of p q) o) _ (watches_one k (monitor_of p q) o) (posts_other q.node (Signalled (Signal.Monitor p q k)) (watch k (monitor_of p q) o) (λ a b. refl)))
     (λ r. puts p (down_term k q noconnection) o))))
-calls n (EndMonitor p k) = if_cond (living n p) _ Refusal.NoSuchProcess (Moves (at_work n)) (λ l. demonitors (fm.get n.watches k) p k (at_work n))
-calls n (Trap p b) = if_cond (living n p) _ Refusal.NoSuchProcess (Moves (at_work n)) (λ l. sets_life n p (trapping (fm.get n.lives p) b) (living_trapping (fm.get n.lives p) b))
-calls n (ExitTo p q r) = acts n p q _ (λ l. if_cond (fits r) _ Refusal.TooLong (Moves (at_work n)) (λ f. posts_other q.node (Signalled (Signal.Exit2 p q r)) (at_work n) (λ a b. refl)))
-calls n (ExitSelf p r) = if_cond (living n p) _ Refusal.NoSuchProcess (Moves (at_work n)) (λ l. if_cond (fits r) _ Refusal.TooLong (Moves (at_work n)) (λ f. finishes p r (at_work n) l))
-calls n (Receive p) = if_cond (living n p) _ Refusal.NoSuchProcess (Moves (at_work n)) (λ l. sets_life n p (without_first (fm.get n.lives p)) (living_without (fm.get n.lives p)))
-calls n (LinksOf p) = if_cond (living n p) _ Refusal.NoSuchProcess (Moves (at_work n)) (λ l. stays (at_work n))
-calls n (IsAlive p) = stays (at_work n)
+calls n (Command.Demonitor p k) = if_cond (living n p) _ Refusal.NoSuchProcess (Moves (at_work n)) (λ l. demonitors (fm.get n.watches k) p k (at_work n))
+calls n (Command.Trap p b) = if_cond (living n p) _ Refusal.NoSuchProcess (Moves (at_work n)) (λ l. sets_life n p (trapping (fm.get n.lives p) b) (living_trapping (fm.get n.lives p) b))
+calls n (Command.ExitTo p q r) = acts n p q _ (λ l. if_cond (fits r) _ Refusal.TooLong (Moves (at_work n)) (λ f. posts_other q.node (Signalled (Signal.Exit2 p q r)) (at_work n) (λ a b. refl)))
+calls n (Command.ExitSelf p r) = if_cond (living n p) _ Refusal.NoSuchProcess (Moves (at_work n)) (λ l. if_cond (fits r) _ Refusal.TooLong (Moves (at_work n)) (λ f. finishes p r (at_work n) l))
+calls n (Command.Receive p) = if_cond (living n p) _ Refusal.NoSuchProcess (Moves (at_work n)) (λ l. sets_life n p (without_first (fm.get n.lives p)) (living_without (fm.get n.lives p)))
+calls n (Command.LinksOf p) = if_cond (living n p) _ Refusal.NoSuchProcess (Moves (at_work n)) (λ l. stays (at_work n))
+calls n (Command.IsAlive p) = stays (at_work n)

@@ -5,6 +5,7 @@ use Rattle.std.specs.FinMap as fm
 use Rattle.std.specs.Ordering.{eq_by_cmp, is_eq}
 use Rattle.std.specs.FinMap.Entries.{find, is_sorted, below_all}
 use Rattle.std.specs.Cmp.{tied_itself}
+use Rattle.dist_model.specs.declared.report.Effect.{Effect}
 use Rattle.dist_model.proofs.Routes
 use Rattle.dist_model.proofs.Calls.{by_test}
 use Rattle.dist_model.proofs.Handshake.{as_state, hold_kind, in_state}
@@ -27,12 +28,13 @@ use Rattle.dist_model.specs.Handshake.{challenge, set_state, with_side, write}
 use Rattle.dist_model.specs.Incarnations.{all_gone, started, stopped}
 use Rattle.dist_model.specs.Items.{Handshake, Item, Signalled, news, news_in, telling}
 use Rattle.dist_model.specs.Links.{LinkNews}
-use Rattle.dist_model.specs.Losses.{any_side, close, has_records, link_to, parked_by, parked_goes, sweep, sweep_by, sweep_link, swept}
+use Rattle.dist_model.proofs.Records.{has_records, least_as, sweep_link}
+use Rattle.dist_model.specs.Losses.{least_record, sweep_record, any_side, close, link_to, parked_by, parked_goes, sweep, sweep_by, swept}
 use Rattle.dist_model.specs.Names.{Name, pair_cmp, place_cmp, same_name, same_pid}
 use Rattle.dist_model.specs.Node.{Node, end_of, is_living_life, never, side_where}
 use Rattle.dist_model.specs.Sides.{Accepting, Asked, AwaitsAck, AwaitsChallenge, AwaitsStatus, Gone, Losing, Parked, State, TrunkSide, Up, is_gone, is_losing, is_parked, is_up}
-use Rattle.dist_model.specs.Work.{Envelope, Work, at_work}
-use Rattle.dist_model.specs.World.{World, carried, ends_in, list_to, node_of, set_node}
+use Rattle.dist_model.specs.Work.{Work, at_work}
+use Rattle.dist_model.specs.World.{World, carried, came_of, list_to, node_of, set_node}
 use Rattle.erl_handshake.specs.declared.message.ShakeMsg.{ShakeMsg}
 use Rattle.erl_names.specs.Order.{trunk_cmp}
 use Rattle.erl_names.specs.declared.trunk.TrunkId.{TrunkId}
@@ -136,19 +138,23 @@ good_written w x n t v m hx h na nr ch g = good_pushed w t v.peer m g known
         let k = g.core.met x n t v hx h d in
         (k.side, k.dialer, k.at, k.there, inl (dialer_is ((g.core.sides x n hx).mine t v h) d)))
 
-carried-push : (m : FinMap place_cmp (List Item)) (es : List Envelope) (e : Envelope) → carried m (es ++ e ∷ []) ≡ fm.insert (carried m es) (e.trunk, e.target) (list_to (carried m es) e.trunk e.target ++ e.item ∷ [])
-carried-push m [] e = refl
-carried-push m (d ∷ es) e = carried-push (fm.insert m (d.trunk, d.target) (list_to m d.trunk d.target ++ d.item ∷ [])) es e
+carried-push : (m : FinMap place_cmp (List Item)) (fs : List (Effect Item)) (t : TrunkId) (y : Name) (x : Item) → carried m (fs ++ Effect.Sent (Some t) y x ∷ []) ≡ fm.insert (carried m fs) (t, y) (list_to (carried m fs) t y ++ x ∷ [])
+carried-push m [] t y x = refl
+carried-push m (Effect.Sent (Some u) z i ∷ fs) t y x = carried-push (fm.insert m (u, z) (list_to m u z ++ i ∷ [])) fs t y x
+carried-push m (Effect.Sent None z i ∷ fs) t y x = carried-push m fs t y x
+carried-push m (Effect.Put p r ∷ fs) t y x = carried-push m fs t y x
+carried-push m (Effect.Ended p r ∷ fs) t y x = carried-push m fs t y x
+carried-push m (Effect.LinkExit p q r ∷ fs) t y x = carried-push m fs t y x
 
 abbrev pub placed : World → Name → Work → World
-placed w x o = record { names = w.names; nodes = set_node w.nodes x o.node; lists = carried w.lists o.sent }
+placed w x o = record { names = w.names; nodes = set_node w.nodes x o.node; lists = carried w.lists o.effects }
 
 -- with a side in a new state
 pub placed_state : (w : World) (x : Name) (o : Work) (t : TrunkId) (s : TrunkSide) → o.node.mint.name ≡ x → Good (in_state (placed w x o) x o.node t s) → Good (placed w x (with_side t s o))
-placed_state w x o t s e g = subst (λ ns. Good (record { names = w.names; nodes = ns; lists = carried w.lists o.sent })) (set_twice w.nodes x o.node (with_side_at o.node t s) e) g
+placed_state w x o t s e g = subst (λ ns. Good (record { names = w.names; nodes = ns; lists = carried w.lists o.effects })) (set_twice w.nodes x o.node (with_side_at o.node t s) e) g
 
-pub placed_write : (w : World) (x : Name) (o : Work) (t : TrunkId) (y : Name) (m : ShakeMsg) → Good (record { names = w.names; nodes = set_node w.nodes x o.node; lists = fm.insert (carried w.lists o.sent) (t, y) (list_to (carried w.lists o.sent) t y ++ Handshake m ∷ []) }) → Good (placed w x (write t y m o))
-placed_write w x o t y m g = subst (λ l. Good (record { names = w.names; nodes = set_node w.nodes x o.node; lists = l })) (sym (carried-push w.lists o.sent (record { trunk = t; target = y; item = Handshake m }))) g
+pub placed_write : (w : World) (x : Name) (o : Work) (t : TrunkId) (y : Name) (m : ShakeMsg) → Good (record { names = w.names; nodes = set_node w.nodes x o.node; lists = fm.insert (carried w.lists o.effects) (t, y) (list_to (carried w.lists o.effects) t y ++ Handshake m ∷ []) }) → Good (placed w x (write t y m o))
+placed_write w x o t y m g = subst (λ l. Good (record { names = w.names; nodes = set_node w.nodes x o.node; lists = l })) (sym (carried-push w.lists o.effects t y (Handshake m))) g
 
 -- a sweep
 module _ (w : World) (x : Name) (n : Node) (hx : node_of w.nodes x ≡ Some n) where
@@ -184,10 +190,10 @@ module _ (w : World) (x : Name) (n : Node) (hx : node_of w.nodes x ≡ Some n) w
       go true i = g
       go false i = closes o t v e h los i g
 
-  pub good_sweep : Good w → Good ((ends_in w x w.lists (sweep n)).world)
+  pub good_sweep : Good w → Good ((came_of w x w.lists (sweep n)).world)
   good_sweep g = go (any_side is_losing (fm.entries n.sides)) refl
     where
-      go : (d : Option (TrunkId × TrunkSide)) → any_side is_losing (fm.entries n.sides) ≡ d → Good ((ends_in w x w.lists (sweep_by d (at_work n))).world)
+      go : (d : Option (TrunkId × TrunkSide)) → any_side is_losing (fm.entries n.sides) ≡ d → Good ((came_of w x w.lists (sweep_by d (at_work n))).world)
       go None i = g
       go (Some d) i =
           let r = any_found is_losing (fm.entries n.sides) d (fm.entries_sorted n.sides) i in
@@ -195,7 +201,8 @@ module _ (w : World) (x : Name) (n : Node) (hx : node_of w.nodes x ≡ Some n) w
           let h : side_at n d.0 ≡ Some d.1 = fm.get-entries n.sides d.0 ∙ r.0 in
           let f = sweep_moves n d.0 d.1 (g.core.nodes x n hx) (g.core.sides x n hx) h los in
           let o = sweep_link (link_to d.1.peer (fm.entries n.ends)) d.1.peer (at_work n) in
-          swept_by o d.0 d.1 (f.name ∙ node_of_name w.nodes x n hx) (ap (λ l. fm.get l d.0) f.sides ∙ h) los (good_moved w x n o hx f g)
+          let same : (sweep_record (least_record d.1.peer n) (at_work n)) ≡ o = least_as d.1.peer (at_work n) in
+          subst (λ z. Good (placed w x (swept d.0 d.1 z))) (sym same) (swept_by o d.0 d.1 (f.name ∙ node_of_name w.nodes x n hx) (ap (λ l. fm.get l d.0) f.sides ∙ h) los (good_moved w x n o hx f g))
 
 -- a node stops or starts
 abbrev pub gone_side : Option TrunkSide → Option TrunkSide

@@ -1,4 +1,7 @@
 -- What comes to a node, and its other events, in the words of what is known.
+use Rattle.conn_core.specs.declared.arrival.Fault.{Fault}
+use Rattle.erl_handshake.specs.declared.fault.ShakeFault.{ShakeFault}
+use Rattle.dist_model.proofs.Envelopes.{outgoing, mere, sent_merely}
 use Rattle.dist_model.proofs.Seeing.{end_in}
 use Rattle.erl_handshake.specs.declared.message.ShakeMsg.{ShakeMsg}
 use Rattle.std.proofs.Common.{◌==◌, nat_lt, ◌^◌, ◌≡◌, ℕ, ◌+◌, Bool, true, false, cond, not, List, [], ◌∷◌, refl, sym, ap, ◌∙◌, subst, arith, ◌&&◌, ◌||◌, Option, Some, None, ◌⊎◌, inl, inr, Contains}
@@ -9,7 +12,7 @@ use Rattle.std.specs.FinMap as fm
 use Rattle.dist_model.proofs.Aging.{ageless}
 use Rattle.dist_model.proofs.Calls.{IfGoes}
 use Rattle.dist_model.proofs.Closing.{any_found, gone_side, gone_sides, losing_is}
-use Rattle.dist_model.proofs.Deeds.{Right, Shaken, U, Whole, at_pid, begins, counted, dead_now, held_active, kn, nm, no_connection, old_cause, over_of, over_parts, rules, shaken, shaken_side, shaken_wrote, were, whole_closed}
+use Rattle.dist_model.proofs.Deeds.{downs_mere, Right, Shaken, U, Whole, at_pid, begins, counted, dead_now, held_active, kn, nm, no_connection, old_cause, over_of, over_parts, rules, shaken, shaken_side, shaken_wrote, were, whole_closed}
 use Rattle.dist_model.proofs.Entries.{registered_found, watch_found}
 use Rattle.dist_model.proofs.Events.{AllGo, Done, all_go, done, done_shaken, done_whole, go_cond, go_not}
 use Rattle.dist_model.proofs.Founding.{Founded, founded_by, true_put}
@@ -23,27 +26,30 @@ use Rattle.dist_model.proofs.Routes.{none_some, some_same}
 use Rattle.dist_model.proofs.Sides.{side_at}
 use Rattle.dist_model.proofs.Steps.{not_never}
 use Rattle.dist_model.proofs.Sweeping.{link_found, losing_unreached}
-use Rattle.dist_model.proofs.Table.{Good}
+use Rattle.dist_model.proofs.Table.{Good, has}
 use Rattle.dist_model.proofs.Told.{Called, Course, Drawn, IsFounded, Leaves, Off, Old, Sound, Stays}
 use Rattle.dist_model.proofs.Turning.{lives_same, living_delivered, no_more, node_aside, turns_aside}
 use Rattle.dist_model.specs.Arrivals.{arrive, arrive_at, arrive_fresh, from_peer, handshake_in, is_good, is_to, on_up, signal_at, take_local}
 use Rattle.dist_model.specs.Causes.{TrueCause}
-use Rattle.dist_model.specs.Commands.{Answer, Goes, Outcome, Refuses, Took}
+use Rattle.dist_model.specs.Commands.{Accepts, Outcome, Refuses}
+use Rattle.dist_model.specs.declared.report.Answer.{Answer}
 use Rattle.dist_model.specs.Dialing.{dial, draw_trunk, has_name, next_trunk}
 use Rattle.dist_model.specs.Downs.{Monitored, downs_in, is_answered, is_demonitored, is_sent_message, takes_message}
 use Rattle.erl_handshake.specs.Roles.{send_name}
 use Rattle.dist_model.specs.Handshake.{identity, fault, with_side, write}
 use Rattle.dist_model.specs.Histories.{History}
 use Rattle.dist_model.specs.Incarnations.{start, started, stop, stopped}
-use Rattle.dist_model.specs.Items.{Handshake, Item, Signalled, Tick, receiver_of, sender_of}
+use Rattle.dist_model.specs.Items.{Handshake, Item, Signalled, Tick, receiver_of, sender_of, kind_of}
 use Rattle.dist_model.specs.Links.{Says, noconnection}
-use Rattle.dist_model.specs.Losses.{any_side, link_to, lose, sweep_by, sweep_link, swept}
+use Rattle.dist_model.proofs.Records.{least_as, sweep_link}
+use Rattle.dist_model.specs.Losses.{least_record, swept_kind, any_side, link_to, lose, sweep_by, swept}
 use Rattle.dist_model.specs.Names.{Name, same_name}
 use Rattle.dist_model.specs.Node.{Node, end_of, is_living_life, living, never, reaches, side_where}
-use Rattle.dist_model.specs.Sides.{Accepting, Asked, AwaitsAck, AwaitsChallenge, AwaitsStatus, Gone, Losing, Parked, State, TrunkSide, Up, is_gone, is_losing}
+use Rattle.dist_model.specs.Sides.{Accepting, Asked, AwaitsAck, AwaitsChallenge, AwaitsStatus, Gone, Losing, Parked, State, TrunkSide, Up, is_gone, is_losing, is_over}
 use Rattle.dist_model.specs.Taking.{take_item}
-use Rattle.dist_model.specs.Work.{Effect, LinkExit, Sent, Work, at_work, delivered, put}
-use Rattle.dist_model.specs.World.{Arrive, Dial, Event, Local, Lose, Report, Reported, Start, Stop, Sweep, World, is_over, list_to, node_of}
+use Rattle.dist_model.specs.Work.{Work, at_work, delivered, put}
+use Rattle.dist_model.specs.declared.report.Effect.{Effect}
+use Rattle.dist_model.specs.World.{Arrive, Dial, Event, Local, Lose, Report, Reported, Start, Stop, Sweep, World, list_to, node_of}
 use Rattle.erl_control.specs.declared.signal.Signal.{Signal}
 use Rattle.erl_names.specs.declared.trunk.TrunkId.{TrunkId}
 use Rattle.erl_term.specs.Data.{Data}
@@ -57,7 +63,7 @@ use Rattle.monitor_core.specs.Order.{reference_cmp}
 use Rattle.monitor_core.specs.declared.monitor.Monitor.{Monitor}
 
 -- a message that was sent, or not
-pub sent_or_not : (i : Item) → ((p : Pid) × (m : Data) × (i ≡ Signalled (Signal.Send p m))) ⊎ (((p : Pid) (m : Data) → i ≡ Signalled (Signal.Send p m) → ⊥) × (is_sent_message (Took i) ≡ false))
+pub sent_or_not : (i : Item) → ((p : Pid) × (m : Data) × (i ≡ Signalled (Signal.Send p m))) ⊎ (((p : Pid) (m : Data) → i ≡ Signalled (Signal.Send p m) → ⊥) × (is_sent_message (Answer.Took (kind_of i)) ≡ false))
 sent_or_not (Signalled (Signal.Send p m)) = inl (p, m, refl)
 sent_or_not (Signalled (Signal.Link p q)) = inr (λ a b i. cc, refl)
 sent_or_not (Signalled (Signal.Exit p q z)) = inr (λ a b i. cc, refl)
@@ -67,7 +73,11 @@ sent_or_not (Signalled (Signal.Demonitor p q r)) = inr (λ a b i. cc, refl)
 sent_or_not (Signalled (Signal.MonitorExit p q r z)) = inr (λ a b i. cc, refl)
 sent_or_not (Signalled (Signal.UnlinkId j p q)) = inr (λ a b i. cc, refl)
 sent_or_not (Signalled (Signal.UnlinkIdAck j p q)) = inr (λ a b i. cc, refl)
-sent_or_not (Handshake m) = inr (λ a b i. cc, refl)
+sent_or_not (Handshake (ShakeMsg.SendName c f n)) = inr (λ a b i. cc, refl)
+sent_or_not (Handshake (ShakeMsg.Status s)) = inr (λ a b i. cc, refl)
+sent_or_not (Handshake (ShakeMsg.Challenge f c z n)) = inr (λ a b i. cc, refl)
+sent_or_not (Handshake (ShakeMsg.ChallengeReply c d)) = inr (λ a b i. cc, refl)
+sent_or_not (Handshake (ShakeMsg.ChallengeAck d)) = inr (λ a b i. cc, refl)
 sent_or_not Tick = inr (λ a b i. cc, refl)
 
 five : (a b c d e : Bool) → (a || b || c || d || e) ≡ false → (a ≡ false) × (b ≡ false) × (c ≡ false) × (d ≡ false) × (e ≡ false)
@@ -113,10 +123,10 @@ module _ (w : World) (h : History) (x : Name) (n : Node) (hx : node_of w.nodes x
     calm_side t s o c k = record { shaken = shaken_side w h x n hx gw g e xs t s o c k.shaken; none = k.none }
 
     calm_wrote : (t : TrunkId) (y : Name) (m : ShakeMsg) (o : Work) → Calm o → Calm (write t y m o)
-    calm_wrote t y m o k = record { shaken = shaken_wrote w h x n hx gw g e xs t y m o k.shaken; none = λ r. no_more r o.effects (Sent y (Handshake m) ∷ []) refl ∙ k.none r }
+    calm_wrote t y m o k = record { shaken = shaken_wrote w h x n hx gw g e xs t y m o k.shaken; none = λ r. no_more r o.effects (Effect.Sent (Some t) y (Handshake m) ∷ []) refl ∙ k.none r }
 
-    none_counted : (k : Reference) (b : Bool) (fs : List Effect) → downs_in k fs ≡ [] → downs_in k (cond b [] fs) ≡ downs_in k fs
-    none_counted k true fs i = sym i
+    none_counted : (k : Reference) (b : Bool) (fs : List (Effect Item)) → downs_in k fs ≡ [] → downs_in k (cond b (mere fs) fs) ≡ downs_in k fs
+    none_counted k true fs i = downs_mere k fs ∙ sym i
     none_counted k false fs i = refl
 
     calm_done : (a : Answer) (o : Work) → Calm o → D e xs a o
@@ -127,7 +137,7 @@ module _ (w : World) (h : History) (x : Name) (n : Node) (hx : node_of w.nodes x
           lives = λ p. refl;
           registered = λ r. refl;
           local = λ f j. j;
-          sent = λ f t y j. j;
+          sent = λ f t y j. ap (λ z. has f (Rattle.dist_model.proofs.Routes.at_place t y z)) (sent_merely (takes_message e (Reported a o.effects)) o.effects) ∙ j;
           name = refl;
           creation = refl;
           references = refl;
@@ -144,7 +154,7 @@ module _ (w : World) (h : History) (x : Name) (n : Node) (hx : node_of w.nodes x
       -- ---- an item is taken
 
       module _ (i : Item) (fi : IsFounded w h i) (link_known : (p q : Pid) → i ≡ Signalled (Signal.Link q p) → never n p ≡ false) (monitor_known : (p q : Pid) (r : Reference) → i ≡ Signalled (Signal.Monitor p q r) → never n q ≡ false)
-          (counts : (fs : List Effect) → takes_message e (Reported (Took i) fs) ≡ is_sent_message (Took i)) where
+          (counts : (fs : List (Effect Item)) → takes_message e (Reported (Answer.Took (kind_of i)) fs) ≡ is_sent_message (Answer.Took (kind_of i))) where
         reasons : ((p : Pid) (m : Data) → i ≡ Signalled (Signal.Send p m) → ⊥) → Reasons (rules w h x n hx gw g e xs) (Whole w h x n hx gw g e xs) i (at_work (record n { local = xs }))
         reasons ns = record {
           gone = λ p q j l. (dead_now w h x n hx gw g p l (link_known p q j), λ s. tt);
@@ -156,38 +166,38 @@ module _ (w : World) (h : History) (x : Name) (n : Node) (hx : node_of w.nodes x
           tells = λ p q r z j c. old_cause w h p q z (subst (λ v. IsFounded w h v) j fi).0;
         }
 
-        item_done : ((p : Pid) (m : Data) → i ≡ Signalled (Signal.Send p m) → ⊥) → is_sent_message (Took i) ≡ false → D e xs (Took i) (take_item i (at_work (record n { local = xs })))
+        item_done : ((p : Pid) (m : Data) → i ≡ Signalled (Signal.Send p m) → ⊥) → is_sent_message (Answer.Took (kind_of i)) ≡ false → D e xs (Answer.Took (kind_of i)) (take_item i (at_work (record n { local = xs })))
         item_done ns unsent =
             let o = take_item i (at_work (record n { local = xs })) in
-            done_whole w h x n hx gw g e xs (Took i) o (λ r. na r (Reported (Took i) o.effects)) (λ r. nd r (Reported (Took i) o.effects)) (counts o.effects ∙ unsent)
+            done_whole w h x n hx gw g e xs (Answer.Took (kind_of i)) o (λ r. na r (Reported (Answer.Took (kind_of i)) o.effects)) (λ r. nd r (Reported (Answer.Took (kind_of i)) o.effects)) (counts o.effects ∙ unsent)
             (item_kept (rules w h x n hx gw g e xs) (Whole w h x n hx gw g e xs) (whole_closed w h x n hx gw g e xs) i (at_work (record n { local = xs })) (reasons ns) whole)
 
         -- a message that a process sent
-        put_done : (p : Pid) (m : Data) → is_sent_message (Took i) ≡ true → D e xs (Took i) (put p m (at_work (record n { local = xs })))
+        put_done : (p : Pid) (m : Data) → is_sent_message (Answer.Took (kind_of i)) ≡ true → D e xs (Answer.Took (kind_of i)) (put p m (at_work (record n { local = xs })))
         put_done p m is_sent =
             let o0 = at_work (record n { local = xs }) in
             let o = put p m o0 in
             let lv = lives_same (record n { local = xs }) (λ r u z. TrueCause h w u.owner u.target z) (λ r u. Monitored r u.owner u.target h) (λ r u. Off w h r ⊎ (reaches n u.owner.node ≡ false)) (were w h x n hx gw g) p (delivered (fm.get n.lives p) m) o0 (living_delivered (fm.get n.lives p) m) in
-            done w h x n hx gw g e xs (Took i) o (λ r. na r (Reported (Took i) o.effects)) (λ r. nd r (Reported (Took i) o.effects))
+            done w h x n hx gw g e xs (Answer.Took (kind_of i)) o (λ r. na r (Reported (Answer.Took (kind_of i)) o.effects)) (λ r. nd r (Reported (Answer.Took (kind_of i)) o.effects))
             (true_put (record n { local = xs }) (Old w h) (Right w h e) (Called h) (Off w h) p m o0 whole.truth)
-            (subst (λ b. U w h x n hx gw g e xs (record { node = o.node; sent = o.sent; effects = cond b [] o.effects })) (sym (counts o.effects ∙ is_sent))
+            (subst (λ b. U w h x n hx gw g e xs (record { node = o.node; effects = cond b (mere o.effects) o.effects })) (sym (counts o.effects ∙ is_sent))
             (turns_aside (record n { local = xs }) (λ r u z. TrueCause h w u.owner u.target z) (λ r u. Monitored r u.owner u.target h) (λ r u. Off w h r ⊎ (reaches n u.owner.node ≡ false)) (were w h x n hx gw g) o0 (record o0 { node = o.node })
             (node_aside (record n { local = xs }) (λ r u z. TrueCause h w u.owner u.target z) (λ r u. Monitored r u.owner u.target h) (λ r u. Off w h r ⊎ (reaches n u.owner.node ≡ false)) (were w h x n hx gw g) o0 o.node refl refl refl lv refl refl refl refl) whole.core.turns))
             (record { local = whole.home.local; name = whole.home.name }) (ageless n o.node refl)
 
-        send_done : (p : Pid) (m : Data) → i ≡ Signalled (Signal.Send p m) → D e xs (Took i) (take_item i (at_work (record n { local = xs })))
+        send_done : (p : Pid) (m : Data) → i ≡ Signalled (Signal.Send p m) → D e xs (Answer.Took (kind_of i)) (take_item i (at_work (record n { local = xs })))
         send_done p m j =
-            let is_sent : is_sent_message (Took i) ≡ true = ap (λ v. is_sent_message (Took v)) j in
-            subst (λ v. D e xs (Took i) (take_item v (at_work (record n { local = xs })))) (sym j) (go (living n p) is_sent)
+            let is_sent : is_sent_message (Answer.Took (kind_of i)) ≡ true = ap (λ v. is_sent_message (Answer.Took (kind_of v))) j in
+            subst (λ v. D e xs (Answer.Took (kind_of i)) (take_item v (at_work (record n { local = xs })))) (sym j) (go (living n p) is_sent)
           where
-            go : (b : Bool) → is_sent_message (Took i) ≡ true → D e xs (Took i) (cond b (put p m (at_work (record n { local = xs }))) (at_work (record n { local = xs })))
+            go : (b : Bool) → is_sent_message (Answer.Took (kind_of i)) ≡ true → D e xs (Answer.Took (kind_of i)) (cond b (put p m (at_work (record n { local = xs }))) (at_work (record n { local = xs })))
             go true is_sent = put_done p m is_sent
-            go false is_sent = calm_done (Took i) (at_work (record n { local = xs })) calm
+            go false is_sent = calm_done (Answer.Took (kind_of i)) (at_work (record n { local = xs })) calm
 
-        pub taken_done : D e xs (Took i) (take_item i (at_work (record n { local = xs })))
+        pub taken_done : D e xs (Answer.Took (kind_of i)) (take_item i (at_work (record n { local = xs })))
         taken_done = go (sent_or_not i)
           where
-            go : ((p : Pid) × (m : Data) × (i ≡ Signalled (Signal.Send p m))) ⊎ (((p : Pid) (m : Data) → i ≡ Signalled (Signal.Send p m) → ⊥) × (is_sent_message (Took i) ≡ false)) → D e xs (Took i) (take_item i (at_work (record n { local = xs })))
+            go : ((p : Pid) × (m : Data) × (i ≡ Signalled (Signal.Send p m))) ⊎ (((p : Pid) (m : Data) → i ≡ Signalled (Signal.Send p m) → ⊥) × (is_sent_message (Answer.Took (kind_of i)) ≡ false)) → D e xs (Answer.Took (kind_of i)) (take_item i (at_work (record n { local = xs })))
             go (inl s) = send_done s.0 s.1 s.2
             go (inr s) = item_done s.0 s.1
 
@@ -206,12 +216,12 @@ module _ (w : World) (h : History) (x : Name) (n : Node) (hx : node_of w.nodes x
     calms : (o : Outcome) → IfGoes o (Calm (Arrive t x k) n.local (λ r v. refl) (λ r v. refl)) → A o
     calms o j = all_go (Calm (Arrive t x k) n.local (λ r v. refl) (λ r v. refl)) (D (Arrive t x k) n.local) o (λ a p c. calm_done (Arrive t x k) n.local (λ r v. refl) (λ r v. refl) a p c) j
 
-    fresh_comes : side_at n t ≡ None → A (arrive_fresh (handshake_in i) t k (at_work n))
+    pub fresh_comes : side_at n t ≡ None → A (arrive_fresh (handshake_in i) t k (at_work n))
     fresh_comes at = calms (arrive_fresh (handshake_in i) t k (at_work n))
         (fresh_kept (Calm (Arrive t x k) n.local (λ r v. refl) (λ r v. refl)) (calm_side (Arrive t x k) n.local (λ r v. refl) (λ r v. refl)) (calm_wrote (Arrive t x k) n.local (λ r v. refl) (λ r v. refl)) (handshake_in i) t k (at_work n) at calm0)
 
     module _ (v : TrunkSide) (at : side_at n t ≡ Some v) where
-      fails : (j : Refusal) → A (fault j t v (at_work n))
+      fails : (j : Fault) → A (fault j t v (at_work n))
       fails j = calms (fault j t v (at_work n)) (known_fault (Calm (Arrive t x k) n.local (λ r z. refl) (λ r z. refl)) (calm_side (Arrive t x k) n.local (λ r z. refl) (λ r z. refl)) (calm_wrote (Arrive t x k) n.local (λ r z. refl) (λ r z. refl)) j t v (at_work n) at calm0)
 
       received : is_good n v i ≡ true → (s : Signal) → i ≡ Signalled s → never n (receiver_of s) ≡ false
@@ -220,35 +230,32 @@ module _ (w : World) (h : History) (x : Name) (n : Node) (hx : node_of w.nodes x
       up_comes : A (on_up t v i (at_work n))
       up_comes = go (is_good n v i) refl
         where
-          go : (b : Bool) → is_good n v i ≡ b → A (cond b (Goes (Took i) (take_item i (at_work n))) (fault Refusal.Forged t v (at_work n)))
+          go : (b : Bool) → is_good n v i ≡ b → A (cond b (Accepts (Answer.Took (kind_of i)) (take_item i (at_work n))) (fault Fault.Forged t v (at_work n)))
           go true good = taken_done (Arrive t x k) n.local (λ r z. refl) (λ r z. refl) (g.locals x n hx) (g.homes x n hx) i came (λ p q j. received good (Signal.Link q p) j) (λ p q r j. received good (Signal.Monitor p q r) j) (λ fs. refl)
-          go false good = fails Refusal.Forged
+          go false good = fails Fault.Forged
 
       signal_comes : (a : State) → A (signal_at a t v i (at_work n))
-      signal_comes (AwaitsStatus u) = fails Refusal.BadMessage
-      signal_comes (AwaitsChallenge u) = fails Refusal.BadMessage
-      signal_comes (AwaitsAck u) = fails Refusal.BadMessage
-      signal_comes (Asked u) = fails Refusal.BadMessage
-      signal_comes (Parked u) = fails Refusal.BadMessage
-      signal_comes (Accepting u) = fails Refusal.BadMessage
+      signal_comes (AwaitsStatus u) = fails (Fault.Shake ShakeFault.BadMessage)
+      signal_comes (AwaitsChallenge u) = fails (Fault.Shake ShakeFault.BadMessage)
+      signal_comes (AwaitsAck u) = fails (Fault.Shake ShakeFault.BadMessage)
+      signal_comes (Asked u) = fails (Fault.Shake ShakeFault.BadMessage)
+      signal_comes (Parked u) = fails (Fault.Shake ShakeFault.BadMessage)
+      signal_comes (Accepting u) = fails (Fault.Shake ShakeFault.BadMessage)
       signal_comes Up = up_comes
-      signal_comes Losing = tt
-      signal_comes Gone = tt
+      signal_comes Losing = fails (Fault.Shake ShakeFault.BadMessage)
+      signal_comes Gone = fails (Fault.Shake ShakeFault.BadMessage)
 
-      known_comes : (m : Option ShakeMsg) → A (arrive_at m t v i (at_work n))
+      pub known_comes : (m : Option ShakeMsg) → A (arrive_at m t v i (at_work n))
       known_comes None = signal_comes v.state
       known_comes (Some m) = calms (arrive_at (Some m) t v i (at_work n))
           (Handshaking.shaken (Calm (Arrive t x k) n.local (λ r z. refl) (λ r z. refl)) (calm_side (Arrive t x k) n.local (λ r z. refl) (λ r z. refl)) (calm_wrote (Arrive t x k) n.local (λ r z. refl) (λ r z. refl)) t v (at_work n) at calm0 v.state refl m)
 
-    pub arrive_done : (o : Option TrunkSide) → side_at n t ≡ o → A (arrive n t o i k)
-    arrive_done None at = fresh_comes at
-    arrive_done (Some v) at = known_comes v at (handshake_in i)
 
   -- ---- from itself
 
   pub local_done : (l : List Item) → n.local ≡ l → AllGo (take_local n l) (λ a o. (i : Item) (xs : List Item) → l ≡ i ∷ xs → D (Local x) xs a o)
   local_done [] j = tt
-  local_done (i ∷ xs) j = λ i2 xs2 s. subst (λ z. D (Local x) z (Took i) (take_item i (at_work (record n { local = xs })))) (tail_same s)
+  local_done (i ∷ xs) j = λ i2 xs2 s. subst (λ z. D (Local x) z (Answer.Took (kind_of i)) (take_item i (at_work (record n { local = xs })))) (tail_same s)
       (taken_done (Local x) xs (λ r v. refl) (λ r v. refl) (All-tail (IsFounded w h) i xs fs) (All-tail (TargetsIn (λ q. never n q ≡ false)) i xs ts) i (All-head (IsFounded w h) i xs fs)
       (λ p q s. (home_saying (λ a. never n a) q p (Says LinkSignal.Link) (subst (λ z. HomeItem (λ a. never n a) z) s hl.0)).1)
       (λ p q r s. subst (λ z. TargetsIn (λ a. never n a ≡ false) z) s (All-head (TargetsIn (λ q. never n q ≡ false)) i xs ts)) (λ fs. refl))
@@ -311,7 +318,8 @@ module _ (w : World) (h : History) (x : Name) (n : Node) (hx : node_of w.nodes x
       (begins w h x n hx gw g (Sweep x) n.local (g.locals x n hx) (g.homes x n hx)) in
       let o1 = sweep_link (link_to d.1.peer (fm.entries n.ends)) d.1.peer (at_work n) in
       let s = swept_kept (Shaken w h x n hx gw g (Sweep x) n.local) (shaken_side w h x n hx gw g (Sweep x) n.local) (shaken_wrote w h x n hx gw g (Sweep x) n.local) d.0 d.1 o1 (ap (λ z. fm.get z d.0) k.core.sides ∙ at) (shaken w h x n hx gw g (Sweep x) n.local o1 k) in
-      done_shaken w h x n hx gw g (Sweep x) n.local _ (swept d.0 d.1 o1) (λ q. refl) (λ q. refl) refl s
+      subst (λ z. D (Sweep x) n.local (Answer.Swept (swept_kind (least_record d.1.peer n))) (swept d.0 d.1 z)) (sym (least_as d.1.peer (at_work n)))
+      (done_shaken w h x n hx gw g (Sweep x) n.local _ (swept d.0 d.1 o1) (λ q. refl) (λ q. refl) refl s)
     where
       right : (y : Name) → reaches n y ≡ false → (e : (Pid × Pid) × End) → link_to y (fm.entries n.ends) ≡ Some e → e.1 ≡ End.Active → Right w h (Sweep x) e.0.0 e.0.1 noconnection
       right y far e l a =
@@ -343,7 +351,7 @@ module _ (w : World) (h : History) (x : Name) (n : Node) (hx : node_of w.nodes x
       where
         go : (v : Option TrunkSide) → gone_side v ≡ Some s → is_over s.state ≡ true
         go None i = absurd (none_some s i)
-        go (Some a) i = ap (λ (z : TrunkSide). is_over z.state) (sym (some_same (record { peer = a.peer; peer_creation = a.peer_creation; state = Gone }) s i))
+        go (Some a) i = ap (λ (z : TrunkSide). is_over z.state) (sym (some_same (record { peer = a.peer; peer_creation = 0; state = Gone }) s i))
 
     pub cleared_done : (a : Answer) → D e n.local a (at_work m)
     cleared_done a = record {
@@ -358,9 +366,9 @@ module _ (w : World) (h : History) (x : Name) (n : Node) (hx : node_of w.nodes x
         drawn = dr;
         course = λ k. course k (fm.get n.watches k) refl;
       };
-      acts = λ p q z c. absurd (nothing (LinkExit p q z) c);
+      acts = λ p q z c. absurd (nothing (Effect.LinkExit p q z) c);
       aging = λ t s j. record {
-        side = record { peer = s.peer; peer_creation = s.peer_creation; state = Gone };
+        side = record { peer = s.peer; peer_creation = 0; state = Gone };
         there = side_gone t ∙ ap gone_side j;
         peer = refl;
         holding = inr (λ k u i d. none_some u (sym (unwatched k) ∙ i), refl);
@@ -370,7 +378,7 @@ module _ (w : World) (h : History) (x : Name) (n : Node) (hx : node_of w.nodes x
       leaving = λ k u j. inr (inr (over_side, unwatched));
     }
       where
-        nothing : (f : Effect) → Contains [] f → ⊥
+        nothing : (f : Effect Item) → Contains [] f → ⊥
         nothing f c = let lt = c.1 in omega arith
 
         silent : (k : Reference) → Rattle.dist_model.specs.Downs.downs_by k e (Reported a []) ≡ []
@@ -383,11 +391,11 @@ module _ (w : World) (h : History) (x : Name) (n : Node) (hx : node_of w.nodes x
             Leaves u j (unwatched k) (over_of m u.owner (dead u.owner) (nv u.owner v)) (at_pid w h x n hx gw g u.owner v) (silent k) (na k (Reported a [])) (nd k (Reported a []))
 
   pub stop_done : AllGo (stop n) (D (Stop x) n.local)
-  stop_done = cleared_done (Stop x) (stopped n) (λ k r. refl) (λ k r. refl) (λ r. refl) refl refl refl refl refl (λ p v. v) (λ k v. v) (g.locals x n hx) (g.homes x n hx) Rattle.dist_model.specs.Commands.Done
+  stop_done = cleared_done (Stop x) (stopped n) (λ k r. refl) (λ k r. refl) (λ r. refl) refl refl refl refl refl (λ p v. v) (λ k v. v) (g.locals x n hx) (g.homes x n hx) Answer.Stopped
 
   pub start_done : AllGo (start n) (D (Start x) n.local)
   start_done = go_not n.up _ Refusal.NodeUp (D (Start x) n.local) (λ a. go_cond (nat_lt (n.mint.creation + 1) (2 ^ 32)) _ Refusal.IdsUsedUp (D (Start x) n.local) (λ b.
-      cleared_done (Start x) (started n) (λ k r. refl) (λ k r. refl) (λ r. refl) refl refl refl refl refl (started_born n) again (All-nil (IsFounded w h)) (All-nil (TargetsIn (λ q. never (started n) q ≡ false))) Rattle.dist_model.specs.Commands.Done))
+      cleared_done (Start x) (started n) (λ k r. refl) (λ k r. refl) (λ r. refl) refl refl refl refl refl (started_born n) again (All-nil (IsFounded w h)) (All-nil (TargetsIn (λ q. never (started n) q ≡ false))) (Answer.Started (n.mint.creation + 1))))
     where
       again : (k : Reference) → Drawn n k → Drawn (started n) k
       again k (inl d) = inl (omega arith)

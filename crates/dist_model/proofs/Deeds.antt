@@ -1,7 +1,8 @@
 -- What each event does, in the words of what is known.
+use Rattle.dist_model.proofs.Envelopes.{outgoing, mere}
 use Rattle.dist_model.proofs.Seeing.{end_at, living_at, reached_at}
 use Rattle.erl_handshake.specs.declared.message.ShakeMsg.{ShakeMsg}
-use Rattle.std.proofs.Common.{◌==◌, nat_lt, ◌≡◌, ◌≤◌, Bool, true, false, cond, not, List, [], refl, sym, ap, ◌∙◌, subst, arith, ◌&&◌, ◌||◌, Some, ◌⊎◌, inl, inr, Contains}
+use Rattle.std.proofs.Common.{◌==◌, nat_lt, ◌≡◌, ◌≤◌, Bool, true, false, cond, not, List, [], ◌∷◌, refl, sym, ap, ◌∙◌, subst, arith, ◌&&◌, ◌||◌, Some, ◌⊎◌, inl, inr, Contains}
 use Rattle.std.proofs.lemmas.List.Elements.{All-nil, All-weaker}
 use Rattle.std.specs.List.{All}
 use Rattle.std.specs.Option.{is_some}
@@ -20,7 +21,8 @@ use Rattle.dist_model.proofs.Told.{Called, Course, Deed, Downs, Drawn, IsFounded
 use Rattle.dist_model.proofs.Turning.{Core, Fate, Left, Same, Spent, Turns, core_closed, turns_side, turns_wrote}
 use Rattle.dist_model.proofs.Views.{over}
 use Rattle.dist_model.specs.Causes.{HadEnded, NoConnection, NoProcess, TrueCause}
-use Rattle.dist_model.specs.Commands.{Answer, MakeLink}
+use Rattle.dist_model.specs.declared.report.Answer.{Answer}
+use Rattle.dist_model.specs.declared.command.Command.{Command}
 use Rattle.dist_model.specs.Downs.{Monitored, downs_by, downs_in, is_answered, is_demonitored, takes_message}
 use Rattle.dist_model.specs.Handshake.{with_side, write}
 use Rattle.dist_model.specs.Histories.{History}
@@ -30,7 +32,8 @@ use Rattle.dist_model.specs.Names.{Name, same_name}
 use Rattle.dist_model.specs.Node.{Node, end_of, living, never, reaches, route}
 use Rattle.dist_model.specs.Seen.{end_between, is_reached}
 use Rattle.dist_model.specs.Sides.{TrunkSide}
-use Rattle.dist_model.specs.Work.{Effect, LinkExit, Work, at_work}
+use Rattle.dist_model.specs.Work.{Work, at_work}
+use Rattle.dist_model.specs.declared.report.Effect.{Effect}
 use Rattle.dist_model.specs.World.{Call, Event, Reported, World, node_of}
 use Rattle.erl_names.specs.declared.trunk.TrunkId.{TrunkId}
 use Rattle.erl_term.specs.Data.{Data}
@@ -60,13 +63,21 @@ pub drawn_along : (m n : Node) (k : Reference) → n.mint.creation ≡ m.mint.cr
 drawn_along m n k c r (inl h) = inl (omega (arith, c))
 drawn_along m n k c r (inr h) = let d = h.1 in let l : d.0 ≤ m.mint.references = d.2 in inr (h.0 ∙ sym c, (d.0, d.1, omega (arith, r, l)))
 
-downs_cond : (k : Reference) (b : Bool) (fs : List Effect) → downs_in k (cond b [] fs) ≡ cond b [] (downs_in k fs)
-downs_cond k true fs = refl
+-- nothing that was sent is a DOWN
+pub downs_mere : (k : Reference) (fs : List (Effect Item)) → downs_in k (mere fs) ≡ []
+downs_mere k [] = refl
+downs_mere k (Effect.Sent t y x ∷ fs) = downs_mere k fs
+downs_mere k (Effect.Put p m ∷ fs) = downs_mere k fs
+downs_mere k (Effect.Ended p r ∷ fs) = downs_mere k fs
+downs_mere k (Effect.LinkExit p q r ∷ fs) = downs_mere k fs
+
+downs_cond : (k : Reference) (b : Bool) (fs : List (Effect Item)) → downs_in k (cond b (mere fs) fs) ≡ cond b [] (downs_in k fs)
+downs_cond k true fs = downs_mere k fs
 downs_cond k false fs = refl
 
 -- what is true of p and q, told to p
 abbrev pub Right : World → History → Event → Pid → Pid → Data → Type 0
-Right w h e p q z = ((end_between w p q ≡ End.Active) ⊎ ((e ≡ Call p.node (MakeLink p q)) × (is_reached w p q.node ≡ false))) × TrueCause h w p q z
+Right w h e p q z = ((end_between w p q ≡ End.Active) ⊎ ((e ≡ Call p.node (Command.Link p q)) × (is_reached w p q.node ≡ false))) × TrueCause h w p q z
 
 pub old_cause : (w : World) (h : History) (p q : Pid) (z : Data) → Old w h q z → TrueCause h w p q z
 old_cause w h p q z (inl i) = HadEnded i
@@ -192,7 +203,7 @@ module _ (w : World) (h : History) (x : Name) (n : Node) (hx : node_of w.nodes x
     begins fs ts = record {
       truth = record {
         carried = record { local = All-weaker (IsFounded w h) _ (old_now (record n { local = xs }) (Old w h) (Right w h e) (Called h) (Off w h) (at_work (record n { local = xs }))) xs fs; sent = All-nil _ };
-        acts = λ p q z c. absurd (nothing (LinkExit p q z) c);
+        acts = λ p q z c. absurd (nothing (Effect.LinkExit p q z) c);
         watched = λ k u j. j;
         enrolled = λ k u j. (g.enrolled x n k u hx j).1;
       };
@@ -214,12 +225,12 @@ module _ (w : World) (h : History) (x : Name) (n : Node) (hx : node_of w.nodes x
       home = record { local = ts; name = refl };
     }
       where
-        nothing : (f : Effect) → Contains [] f → ⊥
+        nothing : (f : Effect Item) → Contains [] f → ⊥
         nothing f c = let lt = c.1 in omega arith
 
-    -- what counts of a work: where a sent message is taken no effect is a DOWN
+    -- what counts of a work: where a sent message is taken, what was sent alone
     abbrev pub counted : Answer → Work → Work
-    counted a o = record { node = o.node; sent = o.sent; effects = cond (takes_message e (Reported a o.effects)) [] o.effects }
+    counted a o = record { node = o.node; effects = cond (takes_message e (Reported a o.effects)) (mere o.effects) o.effects }
 
     downs_counted : (a : Answer) (o : Work) (k : Reference) → downs_by k e (Reported a o.effects) ≡ downs_in k ((counted a o).effects)
     downs_counted a o k = sym (downs_cond k (takes_message e (Reported a o.effects)) o.effects)

@@ -5,10 +5,12 @@ use Rattle.std.specs.declared.cmp.Ordering.TheVariants.{Less, Equal, Greater}
 use Rattle.std.specs.Ordering.{is_eq, is_lt, eq_by_cmp}
 use Rattle.std.specs.FinMap as fm
 use Rattle.std.specs.FinMap.Entries.{find, is_sorted, below_all}
+use Rattle.dist_model.proofs.Envelopes.{sent_in-silent}
+use Rattle.dist_model.specs.declared.report.Effect.{Effect}
 use Rattle.dist_model.proofs.Keys.{and_both, pair_exact, pid_total, same_pair, same_pid_is, same_pid_refl, same_pid_true}
 use Rattle.dist_model.proofs.Pair.{Side, farewell, finished}
 use Rattle.dist_model.proofs.Seeing.{end_in}
-use Rattle.dist_model.proofs.Views.{AllSuit, AllSuit-append, line, linking_suits, over, post_all_keeps, post_all_view, posted, posted-append, side_path, signal_other, view}
+use Rattle.dist_model.proofs.Views.{silent_lines, AllSuit, AllSuit-append, line, linking_suits, over, post_all_keeps, post_all_view, posted, posted-append, side_path, signal_other, view}
 use Rattle.dist_model.specs.Exits.{buried, demonitors, exit_for, exits, finish, monitor_exits}
 use Rattle.dist_model.specs.Items.{news}
 use Rattle.dist_model.specs.Links.{Exits, LinkNews}
@@ -200,7 +202,8 @@ finish_view b p r o q reach born =
     let o1 = post_all (last_posts p r o) o in
     let s = post_all_view b (last_posts p r o) o p q reach (suits_last p q p r o) in
     let sent : (view b (finish p r o) p q).sent ≡ (finished false r (view b o p q)).sent =
-    ap (λ (a : Side). a.sent) s
+    ap (λ (a : Side). a.sent) (silent_lines b (finish p r o) o1.effects (o1.effects ++ Effect.Ended p r ∷ []) p q (sent_in-silent o1.effects (Effect.Ended p r) refl))
+    ∙ ap (λ (a : Side). a.sent) s
     ∙ ap (λ l. (b ++ news p q (line o q.node)) ++ l) (posted_last p q p r o ∙ exits_here p q r (fm.entries o.node.ends) (fm.entries_sorted o.node.ends) ∙ ap (λ e. farewell (end_in e) r) (sym (fm.get-entries o.node.ends (p, q)))) in
     side_path (view b (finish p r o) p q) (finished false r (view b o p q))
     (buried_end p r o1 p q ∙ end_cond _ _ (ap not (same_pid_refl p)))
@@ -214,7 +217,8 @@ finish_view_other b x r o p q reach other =
     let o1 = post_all (last_posts x r o) o in
     let s = post_all_view b (last_posts x r o) o p q reach (suits_last p q x r o) in
     let sent : (view b (finish x r o) p q).sent ≡ (view b o p q).sent =
-    ap (λ (a : Side). a.sent) s
+    ap (λ (a : Side). a.sent) (silent_lines b (finish x r o) o1.effects (o1.effects ++ Effect.Ended x r ∷ []) p q (sent_in-silent o1.effects (Effect.Ended x r) refl))
+    ∙ ap (λ (a : Side). a.sent) s
     ∙ ap (λ l. (b ++ news p q (line o q.node)) ++ l) (posted_last p q x r o ∙ exits_other p q x r (fm.entries o.node.ends) (same_pid_sym p x other))
     ∙ append-nil _ in
     side_path (view b (finish x r o) p q) (view b o p q)

@@ -3,6 +3,7 @@ use Rattle.erl_names.specs.Draw as kind
 use Rattle.std.proofs.Common.{nat_lt, ◌≡◌, ℕ, ◌+◌, ◌≤◌, Bool, true, false, cond, List, [], ◌∷◌, refl, sym, ap, ◌∙◌, subst, arith, ◌&&◌, Option, Some, None, ◌⊎◌, inl, inr, Contains, append-nil}
 use Rattle.std.proofs.lemmas.List.Elements.{All-nil, All-weaker, Contains-push_cases}
 use Rattle.std.specs.FinMap as fm
+use Rattle.dist_model.proofs.Envelopes.{outgoing, mere, sent_mere}
 use Rattle.dist_model.proofs.Aging.{Aging, ageless}
 use Rattle.dist_model.proofs.Calls.{IfGoes, by_test, next_pid, none_number, pid_drawn, some_number, spawned_at, spawned_stays_born, spawned_stays_living, spawns}
 use Rattle.dist_model.proofs.Deeds.{T, U, H, Right, Shaken, Whole, at_pid, begins, counted, deed, drawn_along, kn, nm, no_connection, over_of, over_parts, rules, shaken, unreached, whole_closed}
@@ -18,7 +19,9 @@ use Rattle.dist_model.proofs.Table.{Good, has}
 use Rattle.dist_model.proofs.Told.{Begins, Called, Deed, Drawn, IsFounded, Off, Old, Revoked, Sound, Stays}
 use Rattle.dist_model.proofs.Turning.{Lands, down, down_said, is_end, local_grows, quietly_downs}
 use Rattle.dist_model.specs.Calls.{call, spawn_life}
-use Rattle.dist_model.specs.Commands.{Answer, Command, EndLink, EndMonitor, ExitSelf, ExitTo, Goes, IsAlive, LinksOf, MakeLink, MakeMonitor, Outcome, Receive, Refuses, Send, Spawn, Spawned, Trap, Watching, with_id}
+use Rattle.dist_model.specs.Commands.{Accepts, Outcome, Refuses, with_id}
+use Rattle.dist_model.specs.declared.report.Answer.{Answer}
+use Rattle.dist_model.specs.declared.command.Command.{Command}
 use Rattle.dist_model.specs.Downs.{Monitored, down_in, downs_in, is_answered, is_demonitored, same_reference, takes_message}
 use Rattle.dist_model.specs.Histories.{History}
 use Rattle.dist_model.specs.Items.{Item, Signalled}
@@ -26,9 +29,10 @@ use Rattle.dist_model.specs.Links.{noconnection}
 use Rattle.dist_model.specs.Monitoring.{demonitor_by, monitor, unwatch, watch}
 use Rattle.dist_model.specs.Names.{Name, same_name, same_pid}
 use Rattle.dist_model.specs.Node.{Node, is_living_life, living, never, reaches}
-use Rattle.dist_model.specs.Sides.{TrunkSide}
-use Rattle.dist_model.specs.Work.{Effect, LinkExit, Put, Work, at_work, draw, post, put, delivered}
-use Rattle.dist_model.specs.World.{Call, Event, Reported, World, is_over, node_of}
+use Rattle.dist_model.specs.Sides.{TrunkSide, is_over}
+use Rattle.dist_model.specs.Work.{Work, at_work, draw, post, put, delivered}
+use Rattle.dist_model.specs.declared.report.Effect.{Effect}
+use Rattle.dist_model.specs.World.{Call, Event, Reported, World, node_of}
 use Rattle.erl_control.specs.declared.signal.Signal.{Signal}
 use Rattle.erl_names.specs.Ids.{pid_of, reference_of}
 use Rattle.erl_names.specs.Minted.{Minted, id_of, last, risen}
@@ -45,7 +49,7 @@ use Rattle.monitor_core.specs.declared.monitor.Monitor.{Monitor}
 -- an outcome that goes through, with its answer
 abbrev pub AllGo : Outcome → (Answer → Work → Type 0) → Type 0
 AllGo (Refuses k) P = Unit {0}
-AllGo (Goes a o) P = P a o
+AllGo (Accepts a o) P = P a o
 
 pub go_cond : (b : Bool) (k : Outcome) (j : Refusal) (P : Answer → Work → Type 0) → (b ≡ true → AllGo k P) → AllGo (cond b k (Refuses j)) P
 go_cond true k j P h = h refl
@@ -61,7 +65,7 @@ go_drawn (Some id) k P f = f id refl
 
 pub all_go : (P : Work → Type 0) (Q : Answer → Work → Type 0) (k : Outcome) → ((a : Answer) (o : Work) → P o → Q a o) → IfGoes k P → AllGo k Q
 all_go P Q (Refuses j) f h = tt
-all_go P Q (Goes a o) f h = f a o h
+all_go P Q (Accepts a o) f h = f a o h
 
 -- all sides are over, and nobody watches
 abbrev pub AllOver : Node → Type 0
@@ -78,7 +82,7 @@ module _ (w : World) (h : History) (x : Name) (n : Node) (hx : node_of w.nodes x
   -- an event, with what is needed for what follows
   pub record Done (e : Event) (xs : List Item) (a : Answer) (o : Work) : Type 0 where
     pub deed : Deed w h x n e a o
-    pub acts : (p q : Pid) (z : Data) → Contains o.effects (LinkExit p q z) → Right w h e p q z
+    pub acts : (p q : Pid) (z : Data) → Contains o.effects (Effect.LinkExit p q z) → Right w h e p q z
     pub aging : Aging n o.node
     pub local : (f : Item → Bool) → has f xs ≡ true → (has f o.node.local ≡ true) ⊎ ((k : Reference) → fm.get o.node.watches k ≡ None)
     pub leaving : (k : Reference) (u : Monitor) → fm.get n.registered k ≡ Some u
@@ -95,15 +99,20 @@ module _ (w : World) (h : History) (x : Name) (n : Node) (hx : node_of w.nodes x
       leaving = λ r m j. leave r m (u.leaving r m j);
     }
       where
-        leave : (r : Reference) (m : Monitor) → (fm.get o.node.registered r ≡ Some m) ⊎ (Lands (is_end r) n m.owner.node o ⊎ (Off w h r ⊎ (reaches n m.owner.node ≡ false)))
+        lands : (b : Bool) (f : Item → Bool) (y : Name) → Lands f n y (record { node = o.node; effects = cond b (mere o.effects) o.effects }) → Lands f n y o
+        lands true f y l = (l.0, λ t i c. ap (λ z. has f (Rattle.dist_model.proofs.Routes.at_place t y z)) (sym (sent_mere o.effects)) ∙ l.1 t i c)
+        lands false f y l = l
+
+        leave : (r : Reference) (m : Monitor) → (fm.get o.node.registered r ≡ Some m) ⊎ (Lands (is_end r) n m.owner.node (counted w h x n hx gw g e xs a o) ⊎ (Off w h r ⊎ (reaches n m.owner.node ≡ false)))
             → (fm.get o.node.registered r ≡ Some m) ⊎ ((Lands (is_end r) n m.owner.node o ⊎ (Off w h r ⊎ (reaches n m.owner.node ≡ false))) ⊎ AllOver o.node)
         leave r m (inl j) = inl j
-        leave r m (inr j) = inr (inl j)
+        leave r m (inr (inl j)) = inr (inl (inl (lands (takes_message e (Reported a o.effects)) (is_end r) m.owner.node j)))
+        leave r m (inr (inr j)) = inr (inl (inr j))
 
     -- where no sent message is taken
     pub done_shaken : (a : Answer) (o : Work) → ((k : Reference) → is_answered k e (Reported a o.effects) ≡ false) → ((k : Reference) → is_demonitored k e (Reported a o.effects) ≡ false)
         → takes_message e (Reported a o.effects) ≡ false → Shaken w h x n hx gw g e xs o → Done e xs a o
-    done_shaken a o na nd tm k = done a o na nd k.truth (subst (λ b. U w h x n hx gw g e xs (record { node = o.node; sent = o.sent; effects = cond b [] o.effects })) (sym tm) k.turns) k.home k.aging
+    done_shaken a o na nd tm k = done a o na nd k.truth (subst (λ b. U w h x n hx gw g e xs (record { node = o.node; effects = cond b (mere o.effects) o.effects })) (sym tm) k.turns) k.home k.aging
 
     pub done_whole : (a : Answer) (o : Work) → ((k : Reference) → is_answered k e (Reported a o.effects) ≡ false) → ((k : Reference) → is_demonitored k e (Reported a o.effects) ≡ false)
         → takes_message e (Reported a o.effects) ≡ false → Whole w h x n hx gw g e xs o → Done e xs a o
@@ -114,54 +123,54 @@ module _ (w : World) (h : History) (x : Name) (n : Node) (hx : node_of w.nodes x
   start : (e : Event) → Whole w h x n hx gw g e n.local (at_work n)
   start e = begins w h x n hx gw g e n.local (g.locals x n hx) (g.homes x n hx)
 
-  apart_answers : (c : Command) → ((p q : Pid) → c ≡ MakeMonitor p q → ⊥) → (k : Reference) (a : Answer) (fs : List Effect) → is_answered k (Call x c) (Reported a fs) ≡ false
-  apart_answers Spawn f k a fs = refl
-  apart_answers (Send p q m) f k a fs = refl
-  apart_answers (MakeLink p q) f k a fs = refl
-  apart_answers (EndLink p q) f k a fs = refl
-  apart_answers (MakeMonitor p q) f k a fs = absurd (f p q refl)
-  apart_answers (EndMonitor p r) f k a fs = refl
-  apart_answers (Trap p b) f k a fs = refl
-  apart_answers (ExitTo p q z) f k a fs = refl
-  apart_answers (ExitSelf p z) f k a fs = refl
-  apart_answers (Receive p) f k a fs = refl
-  apart_answers (LinksOf p) f k a fs = refl
-  apart_answers (IsAlive p) f k a fs = refl
+  apart_answers : (c : Command) → ((p q : Pid) → c ≡ Command.Monitor p q → ⊥) → (k : Reference) (a : Answer) (fs : List (Effect Item)) → is_answered k (Call x c) (Reported a fs) ≡ false
+  apart_answers Command.Spawn f k a fs = refl
+  apart_answers (Command.Send p q m) f k a fs = refl
+  apart_answers (Command.Link p q) f k a fs = refl
+  apart_answers (Command.Unlink p q) f k a fs = refl
+  apart_answers (Command.Monitor p q) f k a fs = absurd (f p q refl)
+  apart_answers (Command.Demonitor p r) f k a fs = refl
+  apart_answers (Command.Trap p b) f k a fs = refl
+  apart_answers (Command.ExitTo p q z) f k a fs = refl
+  apart_answers (Command.ExitSelf p z) f k a fs = refl
+  apart_answers (Command.Receive p) f k a fs = refl
+  apart_answers (Command.LinksOf p) f k a fs = refl
+  apart_answers (Command.IsAlive p) f k a fs = refl
 
-  apart_demonitors : (c : Command) → ((p : Pid) (r : Reference) → c ≡ EndMonitor p r → ⊥) → (k : Reference) (a : Answer) (fs : List Effect) → is_demonitored k (Call x c) (Reported a fs) ≡ false
-  apart_demonitors Spawn f k a fs = refl
-  apart_demonitors (Send p q m) f k a fs = refl
-  apart_demonitors (MakeLink p q) f k a fs = refl
-  apart_demonitors (EndLink p q) f k a fs = refl
-  apart_demonitors (MakeMonitor p q) f k a fs = refl
-  apart_demonitors (EndMonitor p r) f k a fs = absurd (f p r refl)
-  apart_demonitors (Trap p b) f k a fs = refl
-  apart_demonitors (ExitTo p q z) f k a fs = refl
-  apart_demonitors (ExitSelf p z) f k a fs = refl
-  apart_demonitors (Receive p) f k a fs = refl
-  apart_demonitors (LinksOf p) f k a fs = refl
-  apart_demonitors (IsAlive p) f k a fs = refl
+  apart_demonitors : (c : Command) → ((p : Pid) (r : Reference) → c ≡ Command.Demonitor p r → ⊥) → (k : Reference) (a : Answer) (fs : List (Effect Item)) → is_demonitored k (Call x c) (Reported a fs) ≡ false
+  apart_demonitors Command.Spawn f k a fs = refl
+  apart_demonitors (Command.Send p q m) f k a fs = refl
+  apart_demonitors (Command.Link p q) f k a fs = refl
+  apart_demonitors (Command.Unlink p q) f k a fs = refl
+  apart_demonitors (Command.Monitor p q) f k a fs = refl
+  apart_demonitors (Command.Demonitor p r) f k a fs = absurd (f p r refl)
+  apart_demonitors (Command.Trap p b) f k a fs = refl
+  apart_demonitors (Command.ExitTo p q z) f k a fs = refl
+  apart_demonitors (Command.ExitSelf p z) f k a fs = refl
+  apart_demonitors (Command.Receive p) f k a fs = refl
+  apart_demonitors (Command.LinksOf p) f k a fs = refl
+  apart_demonitors (Command.IsAlive p) f k a fs = refl
 
-  plain_call : (c : Command) → (c ≡ Spawn → ⊥) → ((p q : Pid) → c ≡ MakeMonitor p q → ⊥) → ((p : Pid) (r : Reference) → c ≡ EndMonitor p r → ⊥) → AllGo (call n c) (Done (Call x c) n.local)
+  plain_call : (c : Command) → (c ≡ Command.Spawn → ⊥) → ((p q : Pid) → c ≡ Command.Monitor p q → ⊥) → ((p : Pid) (r : Reference) → c ≡ Command.Demonitor p r → ⊥) → AllGo (call n c) (Done (Call x c) n.local)
   plain_call c ns nm1 ne = all_go (Whole w h x n hx gw g (Call x c) n.local) (Done (Call x c) n.local) (call n c)
       (λ a o k. done_whole (Call x c) n.local a o (λ r. apart_answers c nm1 r a o.effects) (λ r. apart_demonitors c ne r a o.effects) refl k)
       (call_kept (rules w h x n hx gw g (Call x c) n.local) (Whole w h x n hx gw g (Call x c) n.local) (whole_closed w h x n hx gw g (Call x c) n.local) n (start (Call x c)) c (nm1, ne) (λ id s. absurd (ns s))
       (λ p q i l r. own p q i l r))
     where
-      own : (p q : Pid) → c ≡ MakeLink p q → living n p ≡ true → reaches n q.node ≡ false → Right w h (Call x c) p q noconnection
+      own : (p q : Pid) → c ≡ Command.Link p q → living n p ≡ true → reaches n q.node ≡ false → Right w h (Call x c) p q noconnection
       own p q i l r =
           let b = (kn w h x n hx gw g).born p l in
           (inr ((λ j. Call (sym (at_pid w h x n hx gw g p b) j) (i j)), (unreached w h x n hx gw g p q.node b r).1), no_connection w h x n hx gw g p q b r)
 
   -- ---- a new process
 
-  quiet : (fs : List Effect) (p q : Pid) (z : Data) → fs ≡ [] → Contains fs (LinkExit p q z) → ⊥
-  quiet fs p q z i c = let d : Contains [] (LinkExit p q z) = subst (λ l. Contains l (LinkExit p q z)) i c in let lt = d.1 in omega arith
+  quiet : (fs : List (Effect Item)) (p q : Pid) (z : Data) → fs ≡ [] → Contains fs (Effect.LinkExit p q z) → ⊥
+  quiet fs p q z i c = let d : Contains [] (Effect.LinkExit p q z) = subst (λ l. Contains l (Effect.LinkExit p q z)) i c in let lt = d.1 in omega arith
 
-  spawned_done : (a : Answer) → Done (Call x Spawn) n.local a (spawned_at n (next_pid n))
+  spawned_done : (a : Answer) → Done (Call x Command.Spawn) n.local a (spawned_at n (next_pid n))
   spawned_done a =
       let o = spawned_at n (next_pid n) in
-      let s = start (Call x Spawn) in
+      let s = start (Call x Command.Spawn) in
       let mv = spawns n in
       record {
         deed = record {
@@ -184,11 +193,11 @@ module _ (w : World) (h : History) (x : Name) (n : Node) (hx : node_of w.nodes x
         leaving = λ k u j. inl j;
       }
 
-  spawn_done : AllGo (call n Spawn) (Done (Call x Spawn) n.local)
-  spawn_done = go_drawn (id_of n.mint kind.Pid) _ (Done (Call x Spawn) n.local) (λ id i.
+  spawn_done : AllGo (call n Command.Spawn) (Done (Call x Command.Spawn) n.local)
+  spawn_done = go_drawn (id_of n.mint kind.Pid) _ (Done (Call x Command.Spawn) n.local) (λ id i.
       let d = pid_drawn n.mint id i in
-      subst (λ j. Done (Call x Spawn) n.local (Spawned (pid_of n.mint j)) (spawn_life n (pid_of n.mint j))) (sym d.1)
-      (subst (λ m. Done (Call x Spawn) n.local (Spawned (next_pid n)) (at_work (record n { mint = m; lives = fm.insert n.lives (next_pid n) (Rattle.dist_model.specs.Node.Living false []) }))) (sym d.0) (spawned_done (Spawned (next_pid n)))))
+      subst (λ j. Done (Call x Command.Spawn) n.local (Answer.Pid (pid_of n.mint j)) (spawn_life n (pid_of n.mint j))) (sym d.1)
+      (subst (λ m. Done (Call x Command.Spawn) n.local (Answer.Pid (next_pid n)) (at_work (record n { mint = m; lives = fm.insert n.lives (next_pid n) (Rattle.dist_model.specs.Node.Living false []) }))) (sym d.0) (spawned_done (Answer.Pid (next_pid n)))))
 
   -- ---- a process monitors another
 
@@ -197,7 +206,7 @@ module _ (w : World) (h : History) (x : Name) (n : Node) (hx : node_of w.nodes x
     r0 = reference_of n.mint id
 
     abbrev e0 : Event
-    e0 = Call x (MakeMonitor p q)
+    e0 = Call x (Command.Monitor p q)
 
     abbrev o0 : Work
     o0 = draw kind.Reference (at_work n)
@@ -205,8 +214,8 @@ module _ (w : World) (h : History) (x : Name) (n : Node) (hx : node_of w.nodes x
     born : never n p ≡ false
     born = (kn w h x n hx gw g).born p l
 
-    asked : Call x (MakeMonitor p q) ≡ Call p.node (MakeMonitor p q)
-    asked = ap (λ y. Call y (MakeMonitor p q)) (sym (at_pid w h x n hx gw g p born))
+    asked : Call x (Command.Monitor p q) ≡ Call p.node (Command.Monitor p q)
+    asked = ap (λ y. Call y (Command.Monitor p q)) (sym (at_pid w h x n hx gw g p born))
 
     undrawn : (k : Reference) → same_reference k (reference_of n.mint id) ≡ true → Drawn n k → ⊥
     undrawn k i (inl d) = let c : k.creation ≡ n.mint.creation = ap (λ (z : Reference). z.creation) (same_reference_true k (reference_of n.mint id) i) in absurd (omega (arith, c, d))
@@ -227,14 +236,14 @@ module _ (w : World) (h : History) (x : Name) (n : Node) (hx : node_of w.nodes x
     stays_drawn : (k : Reference) → Drawn n k → Drawn (draw kind.Reference (at_work n)).node k
     stays_drawn k = drawn_along n ((draw kind.Reference (at_work n)).node) k refl (omega (arith, (reference_drawn n.mint id hid).1))
 
-    answered : (k : Reference) (b : Bool) (fs : List Effect) → same_reference k (reference_of n.mint id) ≡ b → is_answered k (Call x (MakeMonitor p q)) (Reported (Watching (reference_of n.mint id)) fs) ≡ b
+    answered : (k : Reference) (b : Bool) (fs : List (Effect Item)) → same_reference k (reference_of n.mint id) ≡ b → is_answered k (Call x (Command.Monitor p q)) (Reported (Answer.Reference (reference_of n.mint id)) fs) ≡ b
     answered k b fs i = i
 
     -- what is told of both ways
     abbrev Asks : Work → Type 0
-    Asks o = Done (Call x (MakeMonitor p q)) n.local (Watching (reference_of n.mint id)) o
+    Asks o = Done (Call x (Command.Monitor p q)) n.local (Answer.Reference (reference_of n.mint id)) o
 
-    old_items : (o : Work) (i : Item) → IsFounded w h i → Founded (EndedBefore n (Old w h) (λ a b z. Unit {0}) (Called h) (Off w h) o) (λ a b k. Monitored k a b ((record { event = Call x (MakeMonitor p q); report = Reported (Watching (reference_of n.mint id)) o.effects }) ∷ h)) (OffNow n (Old w h) (λ a b z. Unit {0}) (Called h) (Off w h) o) i
+    old_items : (o : Work) (i : Item) → IsFounded w h i → Founded (EndedBefore n (Old w h) (λ a b z. Unit {0}) (Called h) (Off w h) o) (λ a b k. Monitored k a b ((record { event = Call x (Command.Monitor p q); report = Reported (Answer.Reference (reference_of n.mint id)) o.effects }) ∷ h)) (OffNow n (Old w h) (λ a b z. Unit {0}) (Called h) (Off w h) o) i
     old_items o = founded_by _ _ _ _ _ _ (λ a z c. inl c) (λ a b k m. inr m) (λ k c. inl c)
 
     reaching : Asks (post (Signal.Monitor p q (reference_of n.mint id)) (watch (reference_of n.mint id) (monitor_of p q) (draw kind.Reference (at_work n))))
@@ -252,7 +261,7 @@ module _ (w : World) (h : History) (x : Name) (n : Node) (hx : node_of w.nodes x
         let got : (k : Reference) → fm.get o.node.watches k ≡ cond (same_reference k (reference_of n.mint id)) (Some (monitor_of p q)) (fm.get n.watches k) = λ k. ap (λ z. fm.get z k) ws ∙ fm.get-insert reference_cmp_total n.watches (reference_of n.mint id) (monitor_of p q) k in
         let hp : Homed n (λ a. never n a ≡ false) o = homed_post n (λ a. never n a ≡ false) s o1 (λ i. forged (same_name q.node n.mint.name) (never n q) known i) (record { local = g.homes x n hx; name = refl }) in
         let dn : (k : Reference) → downs_in k o.effects ≡ [] = λ k. quietly_downs k [] o.effects quietly in
-        let cp = carried_post (Founded (EndedBefore n (Old w h) (λ a b z. Unit {0}) (Called h) (Off w h) o) (λ a b k. Monitored k a b ((record { event = Call x (MakeMonitor p q); report = Reported (Watching (reference_of n.mint id)) o.effects }) ∷ h)) (OffNow n (Old w h) (λ a b z. Unit {0}) (Called h) (Off w h) o))
+        let cp = carried_post (Founded (EndedBefore n (Old w h) (λ a b z. Unit {0}) (Called h) (Off w h) o) (λ a b k. Monitored k a b ((record { event = Call x (Command.Monitor p q); report = Reported (Answer.Reference (reference_of n.mint id)) o.effects }) ∷ h)) (OffNow n (Old w h) (λ a b z. Unit {0}) (Called h) (Off w h) o))
         q.node (Signalled s) o1 (inl (asked, same_reference_refl (reference_of n.mint id))) (record { local = All-weaker (IsFounded w h) _ (old_items o) n.local (g.locals x n hx); sent = All-nil _ }) in
         record {
           deed = record {
@@ -304,7 +313,7 @@ module _ (w : World) (h : History) (x : Name) (n : Node) (hx : node_of w.nodes x
                 (inr (refl, noconnection, no_connection w h x n hx gw g p q born far, dn k ∙ ap (λ b. cond b (down (monitor_of p q) noconnection ∷ []) []) i)))
                 (λ i. Stays refl (dn k ∙ ap (λ b. cond b (down (monitor_of p q) noconnection ∷ []) []) i) (answered k false o.effects i) refl);
           };
-          acts = λ a b z c. absurd (no_act a b z (Contains-push_cases [] (Put p (down_term (reference_of n.mint id) q noconnection)) (LinkExit a b z) c));
+          acts = λ a b z c. absurd (no_act a b z (Contains-push_cases [] (Effect.Put p (down_term (reference_of n.mint id) q noconnection)) (Effect.LinkExit a b z) c));
           aging = ageless n o.node refl;
           local = λ f j. inl j;
           leaving = λ k u j. inl j;
@@ -315,7 +324,7 @@ module _ (w : World) (h : History) (x : Name) (n : Node) (hx : node_of w.nodes x
         delivered_living (Some (Rattle.dist_model.specs.Node.Living t b)) = refl
         delivered_living (Some (Rattle.dist_model.specs.Node.Ended z)) = refl
 
-        no_act : (a b : Pid) (z : Data) → Contains [] (LinkExit a b z) ⊎ (Put p (down_term (reference_of n.mint id) q noconnection) ≡ LinkExit a b z) → ⊥
+        no_act : (a b : Pid) (z : Data) → Contains {X = Effect Item} [] (Effect.LinkExit a b z) ⊎ (◌≡◌ {A = Effect Item} (Effect.Put p (down_term (reference_of n.mint id) q noconnection)) (Effect.LinkExit a b z)) → ⊥
         no_act a b z (inl c) = quiet [] a b z refl c
         no_act a b z (inr c) = cc
 
@@ -328,13 +337,13 @@ module _ (w : World) (h : History) (x : Name) (n : Node) (hx : node_of w.nodes x
 
   -- ---- a process takes a monitor back
 
-  demonitor_done : (p : Pid) (r : Reference) (v : Option Monitor) → fm.get n.watches r ≡ v → AllGo (demonitor_by v p r (at_work n)) (Done (Call x (EndMonitor p r)) n.local)
+  demonitor_done : (p : Pid) (r : Reference) (v : Option Monitor) → fm.get n.watches r ≡ v → AllGo (demonitor_by v p r (at_work n)) (Done (Call x (Command.Demonitor p r)) n.local)
   demonitor_done p r None i = tt
-  demonitor_done p r (Some m) i = go_cond (same_pid m.owner p) _ Refusal.NotTheOwner (Done (Call x (EndMonitor p r)) n.local) (λ own.
+  demonitor_done p r (Some m) i = go_cond (same_pid m.owner p) _ Refusal.NotTheOwner (Done (Call x (Command.Demonitor p r)) n.local) (λ own.
       let o1 = unwatch r (at_work n) in
       let s = Signal.Demonitor p m.target r in
       let o = post s o1 in
-      let e = Call x (EndMonitor p r) in
+      let e = Call x (Command.Demonitor p r) in
       let quietly = quietly_post [] m.target.node (Signalled s) o1 Nothing in
       let ws : o.node.watches ≡ o1.node.watches = posts_keep (λ z. z.watches) (λ z y. refl) m.target.node (Signalled s) o1 in
       let mt : o.node.mint ≡ n.mint = posts_keep (λ z. z.mint) (λ z y. refl) m.target.node (Signalled s) o1 in
@@ -345,7 +354,7 @@ module _ (w : World) (h : History) (x : Name) (n : Node) (hx : node_of w.nodes x
       let got : (k : Reference) → fm.get o.node.watches k ≡ cond (same_reference k r) None (fm.get n.watches k) = λ k. ap (λ z. fm.get z k) ws ∙ fm.get-remove reference_cmp_total n.watches r k in
       let hp : Homed n (λ a. never n a ≡ false) o = homed_post n (λ a. never n a ≡ false) s o1 (λ j. tt) (record { local = g.homes x n hx; name = refl }) in
       let dn : (k : Reference) → downs_in k o.effects ≡ [] = λ k. quietly_downs k [] o.effects quietly in
-      let cp = carried_post (Founded (EndedBefore n (Old w h) (λ a b z. Unit {0}) (Called h) (Off w h) o) (λ a b k. Monitored k a b ((record { event = Call x (EndMonitor p r); report = Reported Rattle.dist_model.specs.Commands.Done o.effects }) ∷ h)) (OffNow n (Old w h) (λ a b z. Unit {0}) (Called h) (Off w h) o))
+      let cp = carried_post (Founded (EndedBefore n (Old w h) (λ a b z. Unit {0}) (Called h) (Off w h) o) (λ a b k. Monitored k a b ((record { event = Call x (Command.Demonitor p r); report = Reported Rattle.dist_model.specs.declared.report.Answer.TheVariants.Done o.effects }) ∷ h)) (OffNow n (Old w h) (λ a b z. Unit {0}) (Called h) (Off w h) o))
       m.target.node (Signalled s) o1 (inr ((m, i), got r ∙ ap (λ b. cond b None (fm.get n.watches r)) (same_reference_refl r)))
       (record { local = All-weaker (IsFounded w h) _ (founded_by _ _ _ _ _ _ (λ a z c. inl c) (λ a b k c. inr c) (λ k c. inl c)) n.local (g.locals x n hx); sent = All-nil _ }) in
       record {
@@ -375,17 +384,17 @@ module _ (w : World) (h : History) (x : Name) (n : Node) (hx : node_of w.nodes x
   -- ---- any call
 
   pub call_done : (c : Command) → AllGo (call n c) (Done (Call x c) n.local)
-  call_done Spawn = spawn_done
-  call_done (Send p q m) = plain_call (Send p q m) (λ i. cc) (λ a b i. cc) (λ a b i. cc)
-  call_done (MakeLink p q) = plain_call (MakeLink p q) (λ i. cc) (λ a b i. cc) (λ a b i. cc)
-  call_done (EndLink p q) = plain_call (EndLink p q) (λ i. cc) (λ a b i. cc) (λ a b i. cc)
-  call_done (MakeMonitor p q) = go_cond (living n p) _ Refusal.NoSuchProcess (Done (Call x (MakeMonitor p q)) n.local) (λ l.
-      go_not (same_name q.node n.mint.name && never n q) _ Refusal.Forged (Done (Call x (MakeMonitor p q)) n.local) (λ f.
-      go_drawn (id_of n.mint kind.Reference) _ (Done (Call x (MakeMonitor p q)) n.local) (λ id i. monitor_done p q l f id i)))
-  call_done (EndMonitor p r) = go_cond (living n p) _ Refusal.NoSuchProcess (Done (Call x (EndMonitor p r)) n.local) (λ l. demonitor_done p r (fm.get n.watches r) refl)
-  call_done (Trap p b) = plain_call (Trap p b) (λ i. cc) (λ a c i. cc) (λ a c i. cc)
-  call_done (ExitTo p q z) = plain_call (ExitTo p q z) (λ i. cc) (λ a b i. cc) (λ a b i. cc)
-  call_done (ExitSelf p z) = plain_call (ExitSelf p z) (λ i. cc) (λ a b i. cc) (λ a b i. cc)
-  call_done (Receive p) = plain_call (Receive p) (λ i. cc) (λ a b i. cc) (λ a b i. cc)
-  call_done (LinksOf p) = plain_call (LinksOf p) (λ i. cc) (λ a b i. cc) (λ a b i. cc)
-  call_done (IsAlive p) = plain_call (IsAlive p) (λ i. cc) (λ a b i. cc) (λ a b i. cc)
+  call_done Command.Spawn = spawn_done
+  call_done (Command.Send p q m) = plain_call (Command.Send p q m) (λ i. cc) (λ a b i. cc) (λ a b i. cc)
+  call_done (Command.Link p q) = plain_call (Command.Link p q) (λ i. cc) (λ a b i. cc) (λ a b i. cc)
+  call_done (Command.Unlink p q) = plain_call (Command.Unlink p q) (λ i. cc) (λ a b i. cc) (λ a b i. cc)
+  call_done (Command.Monitor p q) = go_cond (living n p) _ Refusal.NoSuchProcess (Done (Call x (Command.Monitor p q)) n.local) (λ l.
+      go_not (same_name q.node n.mint.name && never n q) _ Refusal.Forged (Done (Call x (Command.Monitor p q)) n.local) (λ f.
+      go_drawn (id_of n.mint kind.Reference) _ (Done (Call x (Command.Monitor p q)) n.local) (λ id i. monitor_done p q l f id i)))
+  call_done (Command.Demonitor p r) = go_cond (living n p) _ Refusal.NoSuchProcess (Done (Call x (Command.Demonitor p r)) n.local) (λ l. demonitor_done p r (fm.get n.watches r) refl)
+  call_done (Command.Trap p b) = plain_call (Command.Trap p b) (λ i. cc) (λ a c i. cc) (λ a c i. cc)
+  call_done (Command.ExitTo p q z) = plain_call (Command.ExitTo p q z) (λ i. cc) (λ a b i. cc) (λ a b i. cc)
+  call_done (Command.ExitSelf p z) = plain_call (Command.ExitSelf p z) (λ i. cc) (λ a b i. cc) (λ a b i. cc)
+  call_done (Command.Receive p) = plain_call (Command.Receive p) (λ i. cc) (λ a b i. cc) (λ a b i. cc)
+  call_done (Command.LinksOf p) = plain_call (Command.LinksOf p) (λ i. cc) (λ a b i. cc) (λ a b i. cc)
+  call_done (Command.IsAlive p) = plain_call (Command.IsAlive p) (λ i. cc) (λ a b i. cc) (λ a b i. cc)

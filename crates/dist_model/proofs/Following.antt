@@ -6,8 +6,13 @@ use Rattle.std.proofs.lemmas.List.Elements.{All-head}
 use Rattle.std.specs.List.{All}
 use Rattle.std.specs.Option.{is_some}
 use Rattle.std.specs.FinMap as fm
+use Rattle.conn_core.specs.declared.arrival.Fault.{Fault}
+use Rattle.erl_handshake.specs.declared.fault.ShakeFault.{ShakeFault}
+use Rattle.dist_model.specs.NodeEvents.{if_up}
+use Rattle.dist_model.proofs.Stepping.{arrives, while_up}
+use Rattle.dist_model.proofs.Envelopes.{outgoing}
 use Rattle.dist_model.proofs.Calls.{by_test}
-use Rattle.dist_model.proofs.Comings.{arrive_done, dial_done, local_done, lose_done, start_done, stop_done, sweep_done}
+use Rattle.dist_model.proofs.Comings.{dial_done, fresh_comes, known_comes, local_done, lose_done, start_done, stop_done, sweep_done}
 use Rattle.dist_model.proofs.Entries.{same_reference_refl, same_reference_true}
 use Rattle.dist_model.proofs.Events.{AllGo, Done, call_done, go_cond, go_drawn, go_not}
 use Rattle.dist_model.proofs.Founding.{posts_keep}
@@ -21,24 +26,26 @@ use Rattle.dist_model.proofs.Steps.{is_from_peer}
 use Rattle.dist_model.proofs.Table.{Good, has}
 use Rattle.dist_model.proofs.Told.{Begins, Course, Downs, IsFounded, Leaves, Revoked, Sound, Stays, monitored_one}
 use Rattle.dist_model.proofs.Turning.{Lands, is_call, is_end, lands_one}
-use Rattle.dist_model.specs.Arrivals.{arrive, arrive_at, arrive_fresh, handshake_in, is_from, is_good, is_to, on_up, signal_at, take_local}
+use Rattle.dist_model.specs.Arrivals.{arrive_at, arrive_fresh, handshake_in, is_from, is_good, is_to, on_up, signal_at, take_local}
 use Rattle.dist_model.specs.Calls.{call}
-use Rattle.dist_model.specs.Commands.{Answer, Command, EndLink, EndMonitor, ExitSelf, ExitTo, Goes, IsAlive, LinksOf, MakeLink, MakeMonitor, Outcome, Receive, Refuses, Send, Spawn, Took, Trap, Watching}
+use Rattle.dist_model.specs.Commands.{Accepts, Outcome, Refuses}
+use Rattle.dist_model.specs.declared.report.Answer.{Answer}
+use Rattle.dist_model.specs.declared.command.Command.{Command}
 use Rattle.dist_model.specs.Dialing.{dial}
 use Rattle.dist_model.specs.Downs.{is_answered, same_reference}
 use Rattle.dist_model.specs.Handshake.{fault, set_state}
 use Rattle.dist_model.specs.Histories.{History}
 use Rattle.dist_model.specs.Incarnations.{start, stop}
-use Rattle.dist_model.specs.Items.{Handshake, Item, Signalled, Tick}
+use Rattle.dist_model.specs.Items.{Handshake, Item, Signalled, Tick, kind_of}
 use Rattle.dist_model.specs.Links.{noconnection, noproc}
 use Rattle.dist_model.specs.Losses.{any_side, lose, sweep}
 use Rattle.dist_model.specs.Monitoring.{monitor, register, unwatch, watch}
 use Rattle.dist_model.specs.Names.{Name, same_name, same_pid}
 use Rattle.dist_model.specs.Node.{Node, living, never, reaches, route}
-use Rattle.dist_model.specs.Sides.{Accepting, Asked, AwaitsAck, AwaitsChallenge, AwaitsStatus, Gone, Losing, Parked, State, TrunkSide, Up, is_losing, is_up}
+use Rattle.dist_model.specs.Sides.{Accepting, Asked, AwaitsAck, AwaitsChallenge, AwaitsStatus, Gone, Losing, Parked, State, TrunkSide, Up, is_losing, is_up, is_over}
 use Rattle.dist_model.specs.Taking.{take_item}
 use Rattle.dist_model.specs.Work.{Work, at_work, draw, post, put}
-use Rattle.dist_model.specs.World.{Arrive, Call, Dial, Event, Local, Lose, Report, Reported, Start, Stepped, Stop, Sweep, World, arrives, arrives_first, ends_in, is_over, list_to, node_name, node_of, refused, running, step_at}
+use Rattle.dist_model.specs.World.{Arrive, Call, Dial, Event, Local, Lose, Report, Reported, Start, Stepped, Stop, Sweep, World, came_of, list_to, node_name, node_of, step_at}
 use Rattle.erl_control.specs.declared.signal.Signal.{Signal}
 use Rattle.erl_names.specs.Ids.{reference_of}
 use Rattle.erl_names.specs.Minted.{id_of}
@@ -53,7 +60,7 @@ use Rattle.monitor_core.specs.declared.monitor.Monitor.{Monitor}
 
 pub any_go : (P : Answer → Work → Type 0) (k : Outcome) → ((a : Answer) (o : Work) → P a o) → AllGo k P
 any_go P (Refuses j) f = tt
-any_go P (Goes a o) f = f a o
+any_go P (Accepts a o) f = f a o
 
 no_signal : (i : Item) (m : ShakeMsg) (k : Reference) → handshake_in i ≡ Some m → (is_end k i ≡ false) × (is_call k i ≡ false)
 no_signal (Handshake l) m k h = (refl, refl)
@@ -174,7 +181,7 @@ module _ (w : World) (h : History) (x : Name) (n : Node) (hx : node_of w.nodes x
     at_fault : (s : TrunkSide) → side_at ((set_state t s (Rattle.dist_model.specs.Sides.lost s.state) (at_work n)).node) t ≡ Some (as_state s (Rattle.dist_model.specs.Sides.lost s.state))
     at_fault s = set_at (at_work n) t (as_state s (Rattle.dist_model.specs.Sides.lost s.state)) t ∙ ap (λ b. cond b (Some (as_state s (Rattle.dist_model.specs.Sides.lost s.state))) (side_at n t)) (same_trunk_refl t)
 
-    fault_facts : (j : Refusal) (s : TrunkSide) → AllGo (fault j t s (at_work n)) Facts
+    fault_facts : (j : Fault) (s : TrunkSide) → AllGo (fault j t s (at_work n)) Facts
     fault_facts j s = record {
       ends = λ k u e b c z q. ap (λ (v : TrunkSide). is_over v.state) (sym (some_same (as_state s (Rattle.dist_model.specs.Sides.lost s.state)) z (sym (at_fault s) ∙ q))) ∙ lost_over s.state;
       calls = λ k y v u e dy hv c. inl (as_state s (Rattle.dist_model.specs.Sides.lost s.state), at_fault s, lost_over s.state);
@@ -188,11 +195,11 @@ module _ (w : World) (h : History) (x : Name) (n : Node) (hx : node_of w.nodes x
     })
 
     fresh_facts : (c : Option ShakeMsg) → handshake_in i ≡ c → AllGo (arrive_fresh c t k0 (at_work n)) Facts
-    fresh_facts None e = fault_facts Refusal.BadMessage (record { peer = t.dialer; peer_creation = 0; state = Gone })
+    fresh_facts None e = fault_facts (Fault.Shake ShakeFault.BadMessage) (record { peer = t.dialer; peer_creation = 0; state = Gone })
     fresh_facts (Some m) e = other_facts m e (arrive_fresh (Some m) t k0 (at_work n))
 
     module _ (v : TrunkSide) (at : side_at n t ≡ Some v) where
-      taken_facts : is_up v.state ≡ true → is_good n v i ≡ true → Facts (Took i) (take_item i (at_work n))
+      taken_facts : is_up v.state ≡ true → is_good n v i ≡ true → Facts (Answer.Took (kind_of i)) (take_item i (at_work n))
       taken_facts up good = record {
         ends = λ k u e b c z q. absurd (end_taken n.local i fi k u e b c);
         calls = λ k y m u e dy hm c. calls k y m u e dy hm c (call_taken n.local i fi y m k u hm c e);
@@ -205,43 +212,39 @@ module _ (w : World) (h : History) (x : Name) (n : Node) (hx : node_of w.nodes x
               let from : u.owner.node ≡ v.peer = call_from v i good fi y m k u hm c e in
               let own : same_name u.owner.node n.mint.name ≡ false = ap (λ b. same_name b n.mint.name) from ∙ not_own n t v (gw.core.sides x n hx) at in
               let way : route n u.owner.node ≡ Some t = ap (route n) from ∙ route_up n t v (gw.core.sides x n hx) at up in
-              inr (inr (subst (λ b. has (is_end k) (Rattle.dist_model.proofs.Routes.at_place t b ((take_item i (at_work n)).sent)) ≡ true) (owner_at y m k u hm c) (z.1 t own way)))
+              inr (inr (subst (λ b. has (is_end k) (Rattle.dist_model.proofs.Routes.at_place t b (outgoing (take_item i (at_work n)))) ≡ true) (owner_at y m k u hm c) (z.1 t own way)))
 
       up_facts : is_up v.state ≡ true → AllGo (on_up t v i (at_work n)) Facts
       up_facts up = go (is_good n v i) refl
         where
-          go : (b : Bool) → is_good n v i ≡ b → AllGo (cond b (Goes (Took i) (take_item i (at_work n))) (fault Refusal.Forged t v (at_work n))) Facts
+          go : (b : Bool) → is_good n v i ≡ b → AllGo (cond b (Accepts (Answer.Took (kind_of i)) (take_item i (at_work n))) (fault Fault.Forged t v (at_work n))) Facts
           go true good = taken_facts up good
-          go false good = fault_facts Refusal.Forged v
+          go false good = fault_facts Fault.Forged v
 
       signal_facts : (a : State) → v.state ≡ a → AllGo (signal_at a t v i (at_work n)) Facts
-      signal_facts (AwaitsStatus u) s = fault_facts Refusal.BadMessage v
-      signal_facts (AwaitsChallenge u) s = fault_facts Refusal.BadMessage v
-      signal_facts (AwaitsAck u) s = fault_facts Refusal.BadMessage v
-      signal_facts (Asked u) s = fault_facts Refusal.BadMessage v
-      signal_facts (Parked u) s = fault_facts Refusal.BadMessage v
-      signal_facts (Accepting u) s = fault_facts Refusal.BadMessage v
+      signal_facts (AwaitsStatus u) s = fault_facts (Fault.Shake ShakeFault.BadMessage) v
+      signal_facts (AwaitsChallenge u) s = fault_facts (Fault.Shake ShakeFault.BadMessage) v
+      signal_facts (AwaitsAck u) s = fault_facts (Fault.Shake ShakeFault.BadMessage) v
+      signal_facts (Asked u) s = fault_facts (Fault.Shake ShakeFault.BadMessage) v
+      signal_facts (Parked u) s = fault_facts (Fault.Shake ShakeFault.BadMessage) v
+      signal_facts (Accepting u) s = fault_facts (Fault.Shake ShakeFault.BadMessage) v
       signal_facts Up s = up_facts (ap is_up s)
-      signal_facts Losing s = tt
-      signal_facts Gone s = tt
+      signal_facts Losing s = fault_facts (Fault.Shake ShakeFault.BadMessage) v
+      signal_facts Gone s = fault_facts (Fault.Shake ShakeFault.BadMessage) v
 
       known_facts : (c : Option ShakeMsg) → handshake_in i ≡ c → AllGo (arrive_at c t v i (at_work n)) Facts
       known_facts None e = signal_facts v.state refl
       known_facts (Some m) e = other_facts m e (arrive_at (Some m) t v i (at_work n))
-
-    pub arrive_facts : (c : Option TrunkSide) → side_at n t ≡ c → AllGo (arrive n t c i k0) Facts
-    arrive_facts None at = fresh_facts (handshake_in i) refl
-    arrive_facts (Some v) at = known_facts v at (handshake_in i) refl
 
   -- ---- a call of Monitor
 
   abbrev pub Fresh : Answer → Work → Type 0
   Fresh a o = (k : Reference) (u : Monitor) → fm.get n.watches k ≡ None → fm.get o.node.watches k ≡ Some u → NewWatch n o k u
 
-  monitor_fresh : (p q : Pid) (id : ℕ) → Fresh (Watching (reference_of n.mint id)) (monitor (reference_of n.mint id) p q (draw kind.Reference (at_work n)))
+  monitor_fresh : (p q : Pid) (id : ℕ) → Fresh (Answer.Reference (reference_of n.mint id)) (monitor (reference_of n.mint id) p q (draw kind.Reference (at_work n)))
   monitor_fresh p q id = go (reaches n q.node) refl
     where
-      reached : reaches n q.node ≡ true → Fresh (Watching (reference_of n.mint id)) (post (Signal.Monitor p q (reference_of n.mint id)) (watch (reference_of n.mint id) (monitor_of p q) (draw kind.Reference (at_work n))))
+      reached : reaches n q.node ≡ true → Fresh (Answer.Reference (reference_of n.mint id)) (post (Signal.Monitor p q (reference_of n.mint id)) (watch (reference_of n.mint id) (monitor_of p q) (draw kind.Reference (at_work n))))
       reached far k u i j = pick (same_reference k (reference_of n.mint id)) refl (sym (ap (λ z. fm.get z k) ws ∙ fm.get-insert reference_cmp_total n.watches (reference_of n.mint id) (monitor_of p q) k) ∙ j)
         where
           o1 : Work
@@ -269,11 +272,11 @@ module _ (w : World) (h : History) (x : Name) (n : Node) (hx : node_of w.nodes x
               up_holding : (s : TrunkSide) → is_up s.state ≡ true → Rattle.dist_model.proofs.Sides.holds s.state ≡ true
               up_holding s up = (up_holds s.state up).0
 
-      go : (b : Bool) → reaches n q.node ≡ b → Fresh (Watching (reference_of n.mint id)) (cond b (post (Signal.Monitor p q (reference_of n.mint id)) (watch (reference_of n.mint id) (monitor_of p q) (draw kind.Reference (at_work n)))) (put p (down_term (reference_of n.mint id) q noconnection) (draw kind.Reference (at_work n))))
+      go : (b : Bool) → reaches n q.node ≡ b → Fresh (Answer.Reference (reference_of n.mint id)) (cond b (post (Signal.Monitor p q (reference_of n.mint id)) (watch (reference_of n.mint id) (monitor_of p q) (draw kind.Reference (at_work n)))) (put p (down_term (reference_of n.mint id) q noconnection) (draw kind.Reference (at_work n))))
       go true far = reached far
       go false far = λ k u i j. absurd (none_some u (sym i ∙ j))
 
-  make_fresh : (p q : Pid) → AllGo (call n (MakeMonitor p q)) Fresh
+  make_fresh : (p q : Pid) → AllGo (call n (Command.Monitor p q)) Fresh
   make_fresh p q = go_cond (living n p) _ Refusal.NoSuchProcess Fresh (λ l. go_not (same_name q.node n.mint.name && never n q) _ Refusal.Forged Fresh (λ f. go_drawn (id_of n.mint kind.Reference) _ Fresh (λ id i. monitor_fresh p q id)))
 
   -- every other event begins no monitor
@@ -291,33 +294,33 @@ module _ (w : World) (h : History) (x : Name) (n : Node) (hx : node_of w.nodes x
   other_fresh c na = any_go (λ a o. Done w h x n hx gw g (Call x c) n.local a o → Fresh a o) (call n c) (λ a o d. none_begun (Call x c) n.local a o (λ k. na k (Reported a o.effects)) d)
 
   call_fresh : (c : Command) → AllGo (call n c) (λ a o. Done w h x n hx gw g (Call x c) n.local a o → Fresh a o)
-  call_fresh (MakeMonitor p q) = weaker (call n (MakeMonitor p q)) (make_fresh p q)
+  call_fresh (Command.Monitor p q) = weaker (call n (Command.Monitor p q)) (make_fresh p q)
     where
-      weaker : (k : Outcome) → AllGo k Fresh → AllGo k (λ a o. Done w h x n hx gw g (Call x (MakeMonitor p q)) n.local a o → Fresh a o)
+      weaker : (k : Outcome) → AllGo k Fresh → AllGo k (λ a o. Done w h x n hx gw g (Call x (Command.Monitor p q)) n.local a o → Fresh a o)
       weaker (Refuses j) f = tt
-      weaker (Goes a o) f = λ d. f
-  call_fresh Spawn = other_fresh Spawn (λ k r. refl)
-  call_fresh (Send p q m) = other_fresh (Send p q m) (λ k r. refl)
-  call_fresh (MakeLink p q) = other_fresh (MakeLink p q) (λ k r. refl)
-  call_fresh (EndLink p q) = other_fresh (EndLink p q) (λ k r. refl)
-  call_fresh (EndMonitor p r) = other_fresh (EndMonitor p r) (λ k r. refl)
-  call_fresh (Trap p b) = other_fresh (Trap p b) (λ k r. refl)
-  call_fresh (ExitTo p q z) = other_fresh (ExitTo p q z) (λ k r. refl)
-  call_fresh (ExitSelf p z) = other_fresh (ExitSelf p z) (λ k r. refl)
-  call_fresh (Receive p) = other_fresh (Receive p) (λ k r. refl)
-  call_fresh (LinksOf p) = other_fresh (LinksOf p) (λ k r. refl)
-  call_fresh (IsAlive p) = other_fresh (IsAlive p) (λ k r. refl)
+      weaker (Accepts a o) f = λ d. f
+  call_fresh Command.Spawn = other_fresh Command.Spawn (λ k r. refl)
+  call_fresh (Command.Send p q m) = other_fresh (Command.Send p q m) (λ k r. refl)
+  call_fresh (Command.Link p q) = other_fresh (Command.Link p q) (λ k r. refl)
+  call_fresh (Command.Unlink p q) = other_fresh (Command.Unlink p q) (λ k r. refl)
+  call_fresh (Command.Demonitor p r) = other_fresh (Command.Demonitor p r) (λ k r. refl)
+  call_fresh (Command.Trap p b) = other_fresh (Command.Trap p b) (λ k r. refl)
+  call_fresh (Command.ExitTo p q z) = other_fresh (Command.ExitTo p q z) (λ k r. refl)
+  call_fresh (Command.ExitSelf p z) = other_fresh (Command.ExitSelf p z) (λ k r. refl)
+  call_fresh (Command.Receive p) = other_fresh (Command.Receive p) (λ k r. refl)
+  call_fresh (Command.LinksOf p) = other_fresh (Command.LinksOf p) (λ k r. refl)
+  call_fresh (Command.IsAlive p) = other_fresh (Command.IsAlive p) (λ k r. refl)
 
   -- ---- the world after
 
   module _ (l : Linked w) where
     -- nothing is taken off a list
-    ends_linked : (e : Event) (k : Outcome) → AllGo k (Done w h x n hx gw g e n.local) → AllGo k (λ a o. Done w h x n hx gw g e n.local a o → Fresh a o) → Linked ((ends_in w x w.lists k).world)
+    ends_linked : (e : Event) (k : Outcome) → AllGo k (Done w h x n hx gw g e n.local) → AllGo k (λ a o. Done w h x n hx gw g e n.local a o → Fresh a o) → Linked ((came_of w x w.lists k).world)
     ends_linked e (Refuses j) d f = l
-    ends_linked e (Goes a o) d f = linked_after w h x n hx gw g l e n.local a o d w.lists (λ t q. ⊥) (λ q t y i. inl i) (λ t k u b. absurd b) (λ t k y v u b. absurd b)
+    ends_linked e (Accepts a o) d f = linked_after w h x n hx gw g l e n.local a o d w.lists (λ t q. ⊥) (λ q t y i. inl i) (λ t k u b. absurd b) (λ t k y v u b. absurd b)
         (λ q. ⊥) (λ q i. inl i) (λ k u b. absurd b) (λ k u b. absurd b) (f d)
 
-    plain_linked : (e : Event) (k : Outcome) → ((r : Reference) (z : Report) → is_answered r e z ≡ false) → AllGo k (Done w h x n hx gw g e n.local) → Linked ((ends_in w x w.lists k).world)
+    plain_linked : (e : Event) (k : Outcome) → ((r : Reference) (z : Report) → is_answered r e z ≡ false) → AllGo k (Done w h x n hx gw g e n.local) → Linked ((came_of w x w.lists k).world)
     plain_linked e k na d = ends_linked e k d (any_go _ k (λ a o v. none_begun e n.local a o (λ r. na r (Reported a o.effects)) v))
 
     -- the first item of a trunk
@@ -337,39 +340,29 @@ module _ (w : World) (h : History) (x : Name) (n : Node) (hx : node_of w.nodes x
           hit e ut yx true q z = inr (yx, (ut, q))
           hit e ut yx false q z = inl (ap (has f) (list_to_insert w.lists t x rest u y ∙ ap (λ b. cond b rest (list_to w.lists u y)) e) ∙ z)
 
-      comes_linked : (k : Outcome) → AllGo k (Done w h x n hx gw g (Arrive t x k0) n.local) → AllGo k (Facts t k0 i came) → Linked ((ends_in w x (fm.insert w.lists (t, x) rest) k).world)
+      comes_linked : (k : Outcome) → AllGo k (Done w h x n hx gw g (Arrive t x k0) n.local) → AllGo k (Facts t k0 i came) → Linked ((came_of w x (fm.insert w.lists (t, x) rest) k).world)
       comes_linked (Refuses j) d f = l
-      comes_linked (Goes a o) d f = linked_after w h x n hx gw g l (Arrive t x k0) n.local a o d (fm.insert w.lists (t, x) rest) (λ u q. (u ≡ t) × (q i ≡ true)) pop
+      comes_linked (Accepts a o) d f = linked_after w h x n hx gw g l (Arrive t x k0) n.local a o d (fm.insert w.lists (t, x) rest) (λ u q. (u ≡ t) × (q i ≡ true)) pop
           (λ u k m b c z s q. f.ends k m b.1 c z s (ap (side_at o.node) (sym b.0) ∙ q))
           (λ u k y v m b dy hv c ex. subst (λ z. TakenCall o z y k) (sym b.0) (f.calls k y v m b.1 dy hv c))
           (λ q. ⊥) (λ q j. inl j) (λ k u b. absurd b) (λ k u b. absurd b) (none_begun (Arrive t x k0) n.local a o (λ k. refl) d)
 
-      first_linked : (c : Option TrunkSide) → side_at n t ≡ c → Linked ((ends_in w x (fm.insert w.lists (t, x) rest) (arrive n t c i k0)).world)
-      first_linked c at = comes_linked (arrive n t c i k0) (arrive_done w h x n hx gw g t k0 i rest first c at) (arrive_facts t k0 i came c at)
+      fresh_linked : side_at n t ≡ None → Linked ((came_of w x (fm.insert w.lists (t, x) rest) (arrive_fresh (handshake_in i) t k0 (at_work n))).world)
+      fresh_linked at = comes_linked (arrive_fresh (handshake_in i) t k0 (at_work n)) (fresh_comes w h x n hx gw g t k0 i rest first at) (fresh_facts t k0 i came (handshake_in i) refl)
 
-    arrives_linked : (t : TrunkId) (k : ℕ) (c : Option TrunkSide) (is : List Item) → side_at n t ≡ c → list_to w.lists t x ≡ is → Linked ((arrives_first w n t x k c is).world)
-    arrives_linked t k c [] at first = l
-    arrives_linked t k c (i ∷ rest) at first = first_linked t k i rest first c at
+      known_linked : (v : TrunkSide) → side_at n t ≡ Some v → Linked ((came_of w x (fm.insert w.lists (t, x) rest) (arrive_at (handshake_in i) t v i (at_work n))).world)
+      known_linked v at = comes_linked (arrive_at (handshake_in i) t v i (at_work n)) (known_comes w h x n hx gw g t k0 i rest first v at (handshake_in i)) (known_facts t k0 i came v at (handshake_in i) refl)
 
-    arrive_linked : (t : TrunkId) (k : ℕ) (c : Option TrunkSide) → side_at n t ≡ c → Linked ((arrives w n t x k c).world)
-    arrive_linked t k None at = go (is_some (fm.get w.lists (t, x)) && not (same_name t.dialer x))
-      where
-        go : (b : Bool) → Linked ((cond b (arrives_first w n t x k None (list_to w.lists t x)) (refused w Refusal.NotLive)).world)
-        go true = arrives_linked t k None (list_to w.lists t x) at refl
-        go false = l
-    arrive_linked t k (Some v) at = go (is_over v.state)
-      where
-        go : (b : Bool) → Linked ((cond b (refused w Refusal.NotLive) (arrives_first w n t x k (Some v) (list_to w.lists t x))).world)
-        go true = l
-        go false = arrives_linked t k (Some v) (list_to w.lists t x) at refl
+    arrive_linked : (t : TrunkId) (k : ℕ) → Linked ((step_at w (Some n) (Arrive t x k)).world)
+    arrive_linked t k = arrives w x n (λ s. Linked s.world) (λ r. l) t k (λ i is first at. fresh_linked t k i is first at) (λ i is v first at over. known_linked t k i is first v at)
 
     -- the first item of the own list
-    local_linked : (is : List Item) → n.local ≡ is → Linked ((ends_in w x w.lists (take_local n is)).world)
+    local_linked : (is : List Item) → n.local ≡ is → Linked ((came_of w x w.lists (take_local n is)).world)
     local_linked [] j = l
-    local_linked (i ∷ xs) j = linked_after w h x n hx gw g l (Local x) xs (Took i) (take_item i (at_work (record n { local = xs }))) d w.lists (λ t q. ⊥) (λ q t y z. inl z) (λ t k u b. absurd b) (λ t k y v u b. absurd b)
-        (λ q. q i ≡ true) pop_home (λ k u b c z. end_taken xs i fi k u b c z) home_call (none_begun (Local x) xs (Took i) (take_item i (at_work (record n { local = xs }))) (λ k. refl) d)
+    local_linked (i ∷ xs) j = linked_after w h x n hx gw g l (Local x) xs (Answer.Took (kind_of i)) (take_item i (at_work (record n { local = xs }))) d w.lists (λ t q. ⊥) (λ q t y z. inl z) (λ t k u b. absurd b) (λ t k y v u b. absurd b)
+        (λ q. q i ≡ true) pop_home (λ k u b c z. end_taken xs i fi k u b c z) home_call (none_begun (Local x) xs (Answer.Took (kind_of i)) (take_item i (at_work (record n { local = xs }))) (λ k. refl) d)
       where
-        d : Done w h x n hx gw g (Local x) xs (Took i) (take_item i (at_work (record n { local = xs })))
+        d : Done w h x n hx gw g (Local x) xs (Answer.Took (kind_of i)) (take_item i (at_work (record n { local = xs })))
         d = local_done w h x n hx gw g (i ∷ xs) j i xs refl
 
         fi : IsFounded w h i
@@ -390,20 +383,16 @@ module _ (w : World) (h : History) (x : Name) (n : Node) (hx : node_of w.nodes x
             go (inl b) = inl b
             go (inr z) = inr (z.0 (same_name_is u.owner.node n.mint.name (owner_at x n k u hx c ∙ sym (node_of_name w.nodes x n hx))))
 
-while_up : (w : World) (n : Node) (s : Stepped) → Linked w → Linked s.world → Linked ((running w n s).world)
-while_up w n s l k = go n.up
-  where
-    go : (b : Bool) → Linked ((cond b s (refused w Refusal.NodeDown)).world)
-    go true = k
-    go false = l
+up_linked : (w : World) (x : Name) (n : Node) (o : Outcome) → Linked w → Linked ((came_of w x w.lists o).world) → Linked ((came_of w x w.lists (if_up n o)).world)
+up_linked w x n o l k = while_up w x n (λ s. Linked s.world) (λ r. l) w.lists o k
 
 pub linked_step : (w : World) (h : History) (gw : Good w) (g : Sound w h) (l : Linked w) (o : Option Node) (e : Event) → node_of w.nodes (node_name e) ≡ o → Linked ((step_at w o e).world)
 linked_step w h gw g l None e i = l
-linked_step w h gw g l (Some n) (Call x c) i = while_up w n _ l (ends_linked w h x n i gw g l (Call x c) (call n c) (call_done w h x n i gw g c) (call_fresh w h x n i gw g c))
-linked_step w h gw g l (Some n) (Arrive t x k) i = while_up w n _ l (arrive_linked w h x n i gw g l t k (fm.get n.sides t) refl)
-linked_step w h gw g l (Some n) (Local x) i = while_up w n _ l (local_linked w h x n i gw g l n.local refl)
-linked_step w h gw g l (Some n) (Lose t x) i = while_up w n _ l (plain_linked w h x n i gw g l (Lose t x) (lose n t (fm.get n.sides t)) (λ r z. refl) (lose_done w h x n i gw g t (fm.get n.sides t) refl))
-linked_step w h gw g l (Some n) (Sweep x) i = while_up w n _ l (plain_linked w h x n i gw g l (Sweep x) (sweep n) (λ r z. refl) (sweep_done w h x n i gw g (any_side is_losing (fm.entries n.sides)) refl))
-linked_step w h gw g l (Some n) (Dial x y k) i = while_up w n _ l (plain_linked w h x n i gw g l (Dial x y k) (dial w.names n y k) (λ r z. refl) (dial_done w h x n i gw g w.names y k))
-linked_step w h gw g l (Some n) (Stop x) i = while_up w n _ l (plain_linked w h x n i gw g l (Stop x) (stop n) (λ r z. refl) (stop_done w h x n i gw g))
+linked_step w h gw g l (Some n) (Call x c) i = up_linked w x n _ l (ends_linked w h x n i gw g l (Call x c) (call n c) (call_done w h x n i gw g c) (call_fresh w h x n i gw g c))
+linked_step w h gw g l (Some n) (Arrive t x k) i = arrive_linked w h x n i gw g l t k
+linked_step w h gw g l (Some n) (Local x) i = up_linked w x n _ l (local_linked w h x n i gw g l n.local refl)
+linked_step w h gw g l (Some n) (Lose t x) i = up_linked w x n _ l (plain_linked w h x n i gw g l (Lose t x) (lose n t (fm.get n.sides t)) (λ r z. refl) (lose_done w h x n i gw g t (fm.get n.sides t) refl))
+linked_step w h gw g l (Some n) (Sweep x) i = up_linked w x n _ l (plain_linked w h x n i gw g l (Sweep x) (sweep n) (λ r z. refl) (sweep_done w h x n i gw g (any_side is_losing (fm.entries n.sides)) refl))
+linked_step w h gw g l (Some n) (Dial x y k) i = up_linked w x n _ l (plain_linked w h x n i gw g l (Dial x y k) (dial w.names n y k) (λ r z. refl) (dial_done w h x n i gw g w.names y k))
+linked_step w h gw g l (Some n) (Stop x) i = up_linked w x n _ l (plain_linked w h x n i gw g l (Stop x) (stop n) (λ r z. refl) (stop_done w h x n i gw g))
 linked_step w h gw g l (Some n) (Start x) i = plain_linked w h x n i gw g l (Start x) (start n) (λ r z. refl) (start_done w h x n i gw g)

@@ -5,6 +5,7 @@ use Rattle.std.proofs.Common.{◌≡◌, Bool, true, false, cond, not, List, [],
 use Rattle.std.proofs.lemmas.List.Elements.{All-append, All-cons, All-nil, All-push, All-weaker, All-head, All-tail, Contains-append_left, Contains-push, Contains-push_cases}
 use Rattle.std.specs.List.{All}
 use Rattle.std.specs.FinMap as fm
+use Rattle.dist_model.proofs.Envelopes.{Envelope, outgoing, sent_in-push, sent_in-silent}
 use Rattle.dist_model.proofs.Entries.{each_entry, none_by, same_reference_true}
 use Rattle.dist_model.proofs.Handshaking.{Turned}
 use Rattle.dist_model.proofs.Keys.{same_pid_true}
@@ -18,7 +19,8 @@ use Rattle.dist_model.specs.Monitoring.{register, unregister, unwatch}
 use Rattle.dist_model.specs.Names.{Name, same_name, same_pid}
 use Rattle.dist_model.specs.Node.{Node, route}
 use Rattle.dist_model.specs.Sides.{TrunkSide}
-use Rattle.dist_model.specs.Work.{Effect, EndedBy, Envelope, LinkExit, Put, Sent, Work, draw, keep_local, post, post_all, post_to, put, report, send_on, set_end, set_life}
+use Rattle.dist_model.specs.Work.{Work, draw, keep_local, post, post_all, post_to, put, report, send_on, set_end, set_life}
+use Rattle.dist_model.specs.declared.report.Effect.{Effect}
 use Rattle.erl_control.specs.declared.signal.Signal.{Signal}
 use Rattle.erl_names.specs.declared.trunk.TrunkId.{TrunkId}
 use Rattle.erl_term.specs.Data.{Data}
@@ -75,17 +77,17 @@ plain_founded E C O (Signal.UnlinkIdAck i p q) h = tt
 -- what is posted
 pub record Carried (P : Item → Type 0) (o : Work) : Type 0 where
   pub local : All P o.node.local
-  pub sent : All (λ e. P e.item) o.sent
+  pub sent : All (λ e. P e.item) (outgoing o)
 
 pub carried_post : (P : Item → Type 0) (y : Name) (x : Item) (o : Work) → P x → Carried P o → Carried P (post_to y x o)
 carried_post P y x o h k = go (same_name y o.node.mint.name)
   where
     on : (r : Option TrunkId) → Carried P (send_on r y x o)
     on None = k
-    on (Some t) = record { local = k.local; sent = All-push (λ e. P e.item) o.sent (record { trunk = t; target = y; item = x }) k.sent h }
+    on (Some t) = record { local = k.local; sent = subst (All (λ e. P e.item)) (sym (sent_in-push o.effects (Effect.Sent (Some t) y x))) (All-push (λ e. P e.item) (outgoing o) (record { trunk = t; target = y; item = x }) k.sent h) }
 
     go : (b : Bool) → Carried P (cond b (keep_local x o) (send_on (route o.node y) y x o))
-    go true = record { local = All-push P o.node.local x k.local h; sent = k.sent }
+    go true = record { local = All-push P o.node.local x k.local h; sent = subst (All (λ e. P e.item)) (sym (sent_in-silent o.effects (Effect.Sent None o.node.mint.name x) refl)) k.sent }
     go false = on (route o.node y)
 
 pub carried_all : (P : Item → Type 0) (ss : List Signal) (o : Work) → All (λ s. P (Signalled s)) ss → Carried P o → Carried P (post_all ss o)
@@ -93,37 +95,37 @@ carried_all P [] o h k = k
 carried_all P (s ∷ ss) o h k = carried_all P ss (post s o) (All-tail (λ z. P (Signalled z)) s ss h) (carried_post P (receiver_of s).node (Signalled s) o (All-head (λ z. P (Signalled z)) s ss h) k)
 
 pub carried_by : (P Q : Item → Type 0) (o : Work) → ((i : Item) → P i → Q i) → Carried P o → Carried Q o
-carried_by P Q o f k = record { local = All-weaker P Q f o.node.local k.local; sent = All-weaker (λ e. P e.item) (λ e. Q e.item) (λ e. f e.item) o.sent k.sent }
+carried_by P Q o f k = record { local = All-weaker P Q f o.node.local k.local; sent = All-weaker (λ e. P e.item) (λ e. Q e.item) (λ e. f e.item) (outgoing o) k.sent }
 
 -- effects that only report what is sent
-pub data Quietly (fs : List Effect) : List Effect → Type 0 where
+pub data Quietly (fs : List (Effect Item)) : List (Effect Item) → Type 0 where
   Nothing : Quietly fs fs
-  Sends : (gs : List Effect) (y : Name) (i : Item) → Quietly fs gs → Quietly fs (gs ++ Sent y i ∷ [])
+  Sends : (gs : List (Effect Item)) (t : Option TrunkId) (y : Name) (i : Item) → Quietly fs gs → Quietly fs (gs ++ Effect.Sent t y i ∷ [])
 
-pub quietly_post : (fs : List Effect) (y : Name) (x : Item) (o : Work) → Quietly fs o.effects → Quietly fs ((post_to y x o).effects)
+pub quietly_post : (fs : List (Effect Item)) (y : Name) (x : Item) (o : Work) → Quietly fs o.effects → Quietly fs ((post_to y x o).effects)
 quietly_post fs y x o k = go (same_name y o.node.mint.name)
   where
     on : (r : Option TrunkId) → Quietly fs ((send_on r y x o).effects)
     on None = k
-    on (Some t) = Sends o.effects y x k
+    on (Some t) = Sends o.effects (Some t) y x k
 
     go : (b : Bool) → Quietly fs ((cond b (keep_local x o) (send_on (route o.node y) y x o)).effects)
-    go true = Sends o.effects o.node.mint.name x k
+    go true = Sends o.effects None o.node.mint.name x k
     go false = on (route o.node y)
 
-pub quietly_all : (fs : List Effect) (ss : List Signal) (o : Work) → Quietly fs o.effects → Quietly fs ((post_all ss o).effects)
+pub quietly_all : (fs : List (Effect Item)) (ss : List Signal) (o : Work) → Quietly fs o.effects → Quietly fs ((post_all ss o).effects)
 quietly_all fs [] o k = k
 quietly_all fs (s ∷ ss) o k = quietly_all fs ss (post s o) (quietly_post fs (receiver_of s).node (Signalled s) o k)
 
-pub quietly_more : (fs gs : List Effect) → Quietly fs gs → (f : Effect) → Contains fs f → Contains gs f
+pub quietly_more : (fs gs : List (Effect Item)) → Quietly fs gs → (f : Effect Item) → Contains fs f → Contains gs f
 quietly_more fs gs Nothing f h = h
-quietly_more fs gs (Sends hs y i k) f h = Contains-append_left hs (Sent y i ∷ []) f (quietly_more fs hs k f h)
+quietly_more fs gs (Sends hs t y i k) f h = Contains-append_left hs (Effect.Sent t y i ∷ []) f (quietly_more fs hs k f h)
 
-pub quietly_acts : (fs gs : List Effect) → Quietly fs gs → (p q : Pid) (x : Data) → Contains gs (LinkExit p q x) → Contains fs (LinkExit p q x)
+pub quietly_acts : (fs gs : List (Effect Item)) → Quietly fs gs → (p q : Pid) (x : Data) → Contains gs (Effect.LinkExit p q x) → Contains fs (Effect.LinkExit p q x)
 quietly_acts fs gs Nothing p q x h = h
-quietly_acts fs gs (Sends hs y i k) p q x h = pick (quietly_acts fs hs k p q x) (Contains-push_cases hs (Sent y i) (LinkExit p q x) h)
+quietly_acts fs gs (Sends hs t y i k) p q x h = pick (quietly_acts fs hs k p q x) (Contains-push_cases hs (Effect.Sent t y i) (Effect.LinkExit p q x) h)
   where
-    pick : (Contains hs (LinkExit p q x) → Contains fs (LinkExit p q x)) → Contains hs (LinkExit p q x) ⊎ (Sent y i ≡ LinkExit p q x) → Contains fs (LinkExit p q x)
+    pick : (Contains hs (Effect.LinkExit p q x) → Contains fs (Effect.LinkExit p q x)) → Contains hs (Effect.LinkExit p q x) ⊎ (◌≡◌ {A = Effect Item} (Effect.Sent t y i) (Effect.LinkExit p q x)) → Contains fs (Effect.LinkExit p q x)
     pick f (inl e) = f e
     pick f (inr e) = cc
 
@@ -174,7 +176,7 @@ added_some w k v r m h = go (fm.contains_key w k) h
 module _ (n : Node) (Old : Pid → Data → Type 0) (Ok : Pid → Pid → Data → Type 0) (Call : Pid → Pid → Reference → Type 0) (Off : Reference → Type 0) where
   -- it had ended before, or ended in this event
   abbrev pub EndedBefore : Work → Pid → Data → Type 0
-  EndedBefore o q x = Old q x ⊎ Contains o.effects (EndedBy q x)
+  EndedBefore o q x = Old q x ⊎ Contains o.effects (Effect.Ended q x)
 
   -- a monitor that is over, or ended in this event
   abbrev pub OffNow : Work → Reference → Type 0
@@ -185,24 +187,24 @@ module _ (n : Node) (Old : Pid → Data → Type 0) (Ok : Pid → Pid → Data �
 
   pub record True (o : Work) : Type 0 where
     pub carried : Carried (FoundedIn o) o
-    pub acts : (p q : Pid) (x : Data) → Contains o.effects (LinkExit p q x) → Ok p q x
+    pub acts : (p q : Pid) (x : Data) → Contains o.effects (Effect.LinkExit p q x) → Ok p q x
     pub watched : (r : Reference) (m : Monitor) → fm.get o.node.watches r ≡ Some m → fm.get n.watches r ≡ Some m
     pub enrolled : (r : Reference) (m : Monitor) → fm.get o.node.registered r ≡ Some m → Call m.owner m.target r
 
-  widen : (o o' : Work) → ((f : Effect) → Contains o.effects f → Contains o'.effects f) → ((r : Reference) (m : Monitor) → fm.get o'.node.watches r ≡ Some m → fm.get o.node.watches r ≡ Some m) → (i : Item) → FoundedIn o i → FoundedIn o' i
+  widen : (o o' : Work) → ((f : Effect Item) → Contains o.effects f → Contains o'.effects f) → ((r : Reference) (m : Monitor) → fm.get o'.node.watches r ≡ Some m → fm.get o.node.watches r ≡ Some m) → (i : Item) → FoundedIn o i → FoundedIn o' i
   widen o o' f w = founded_by (EndedBefore o) (EndedBefore o') Call Call (OffNow o) (OffNow o') ends (λ p q r c. c) offs
     where
       ends : (q : Pid) (x : Data) → EndedBefore o q x → EndedBefore o' q x
       ends q x (inl h) = inl h
-      ends q x (inr h) = inr (f (EndedBy q x) h)
+      ends q x (inr h) = inr (f (Effect.Ended q x) h)
 
       offs : (r : Reference) → OffNow o r → OffNow o' r
       offs r (inl h) = inl h
       offs r (inr h) = inr (h.0, none_by (fm.get o.node.watches r) (fm.get o'.node.watches r) (w r) h.1)
 
   -- the same items, and more effects
-  pub true_more : (o o' : Work) → o'.node.local ≡ o.node.local → o'.sent ≡ o.sent → ((f : Effect) → Contains o.effects f → Contains o'.effects f)
-      → ((p q : Pid) (x : Data) → Contains o'.effects (LinkExit p q x) → Ok p q x) → ((r : Reference) (m : Monitor) → fm.get o'.node.watches r ≡ Some m → fm.get o.node.watches r ≡ Some m)
+  pub true_more : (o o' : Work) → o'.node.local ≡ o.node.local → (outgoing o') ≡ (outgoing o) → ((f : Effect Item) → Contains o.effects f → Contains o'.effects f)
+      → ((p q : Pid) (x : Data) → Contains o'.effects (Effect.LinkExit p q x) → Ok p q x) → ((r : Reference) (m : Monitor) → fm.get o'.node.watches r ≡ Some m → fm.get o.node.watches r ≡ Some m)
       → ((r : Reference) (m : Monitor) → fm.get o'.node.registered r ≡ Some m → Call m.owner m.target r) → True o → True o'
   true_more o o' l s f a w e k = let c = carried_by (FoundedIn o) (FoundedIn o') o (widen o o' f w) k.carried in record {
     carried = record { local = subst (λ z. All (FoundedIn o') z) (sym l) c.local; sent = subst (λ z. All (λ (v : Envelope). FoundedIn o' v.item) z) (sym s) c.sent };
@@ -215,16 +217,16 @@ module _ (n : Node) (Old : Pid → Data → Type 0) (Ok : Pid → Pid → Data �
   true_node o m l w e k = true_more o (record o { node = m }) l refl (λ f h. h) k.acts (λ r v h. ap (λ z. fm.get z r) (sym w) ∙ h) (λ r v h. k.enrolled r v (ap (λ z. fm.get z r) (sym e) ∙ h)) k
 
   pub true_put : (p : Pid) (m : Data) (o : Work) → True o → True (put p m o)
-  true_put p m o k = true_more o (put p m o) refl refl (λ f h. Contains-append_left o.effects (Put p m ∷ []) f h) (λ a b x h. pick a b x (Contains-push_cases o.effects (Put p m) (LinkExit a b x) h)) (λ r v h. h) k.enrolled k
+  true_put p m o k = true_more o (put p m o) refl (sent_in-silent o.effects (Effect.Put p m) refl) (λ f h. Contains-append_left o.effects (Effect.Put p m ∷ []) f h) (λ a b x h. pick a b x (Contains-push_cases o.effects (Effect.Put p m) (Effect.LinkExit a b x) h)) (λ r v h. h) k.enrolled k
     where
-      pick : (a b : Pid) (x : Data) → Contains o.effects (LinkExit a b x) ⊎ (Put p m ≡ LinkExit a b x) → Ok a b x
+      pick : (a b : Pid) (x : Data) → Contains o.effects (Effect.LinkExit a b x) ⊎ (◌≡◌ {A = Effect Item} (Effect.Put p m) (Effect.LinkExit a b x)) → Ok a b x
       pick a b x (inl h) = k.acts a b x h
       pick a b x (inr h) = cc
 
-  true_reported : (p q : Pid) (x : Data) (o : Work) → Ok p q x → True o → True (report (LinkExit p q x) o)
-  true_reported p q x o ok k = true_more o (report (LinkExit p q x) o) refl refl (λ f h. Contains-append_left o.effects (LinkExit p q x ∷ []) f h) (λ a b z h. pick a b z (Contains-push_cases o.effects (LinkExit p q x) (LinkExit a b z) h)) (λ r v h. h) k.enrolled k
+  true_reported : (p q : Pid) (x : Data) (o : Work) → Ok p q x → True o → True (report (Effect.LinkExit p q x) o)
+  true_reported p q x o ok k = true_more o (report (Effect.LinkExit p q x) o) refl (sent_in-silent o.effects (Effect.LinkExit p q x) refl) (λ f h. Contains-append_left o.effects (Effect.LinkExit p q x ∷ []) f h) (λ a b z h. pick a b z (Contains-push_cases o.effects (Effect.LinkExit p q x) (Effect.LinkExit a b z) h)) (λ r v h. h) k.enrolled k
     where
-      pick : (a b : Pid) (z : Data) → Contains o.effects (LinkExit a b z) ⊎ (LinkExit p q x ≡ LinkExit a b z) → Ok a b z
+      pick : (a b : Pid) (z : Data) → Contains o.effects (Effect.LinkExit a b z) ⊎ (◌≡◌ {A = Effect Item} (Effect.LinkExit p q x) (Effect.LinkExit a b z)) → Ok a b z
       pick a b z (inl h) = k.acts a b z h
       pick a b z (inr h) = let pa : p ≡ a = cc in let qb : q ≡ b = cc in let xz : x ≡ z = cc in subst (λ v. Ok v b z) pa (subst (λ v. Ok p v z) qb (subst (λ v. Ok p q v) xz ok))
 
@@ -256,7 +258,7 @@ module _ (n : Node) (Old : Pid → Data → Type 0) (Ok : Pid → Pid → Data �
     Good s = FoundedIn (finish p x o) (Signalled s)
 
     why : EndedBefore (finish p x o) p x
-    why = inr (Contains-push ((post_all (exits p x (fm.entries o.node.ends) ++ monitor_exits p x (fm.entries o.node.registered) ++ demonitors p (fm.entries o.node.watches)) o).effects) (EndedBy p x))
+    why = inr (Contains-push ((post_all (exits p x (fm.entries o.node.ends) ++ monitor_exits p x (fm.entries o.node.registered) ++ demonitors p (fm.entries o.node.watches)) o).effects) (Effect.Ended p x))
 
     none : All Good []
     none = All-nil Good
@@ -304,7 +306,7 @@ module _ (n : Node) (Old : Pid → Data → Type 0) (Ok : Pid → Pid → Data �
         let q = quietly_all o.effects ss o Nothing in
         let ws = all_posts_keep (λ m. m.watches) (λ m l. refl) ss o in
         let rs = all_posts_keep (λ m. m.registered) (λ m l. refl) ss o in
-        let more : (f : Effect) → Contains o.effects f → Contains (finish p x o).effects f = λ f h. Contains-append_left o1.effects (EndedBy p x ∷ []) f (quietly_more o.effects o1.effects q f h) in
+        let more : (f : Effect Item) → Contains o.effects f → Contains (finish p x o).effects f = λ f h. Contains-append_left o1.effects (Effect.Ended p x ∷ []) f (quietly_more o.effects o1.effects q f h) in
         let less : (r : Reference) (m : Monitor) → fm.get (finish p x o).node.watches r ≡ Some m → fm.get o.node.watches r ≡ Some m = λ r m h. (retained (not (is_owned p (fm.get o.node.watches r))) (fm.get o.node.watches r) m (sym (left r) ∙ h)).1 in
         let c : Carried (FoundedIn (finish p x o)) o1 = carried_all (FoundedIn (finish p x o)) ss o
         (All-append Good (exits p x (fm.entries o.node.ends) ++ monitor_exits p x (fm.entries o.node.registered)) (demonitors p (fm.entries o.node.watches))
@@ -312,13 +314,13 @@ module _ (n : Node) (Old : Pid → Data → Type 0) (Ok : Pid → Pid → Data �
         (demonitors_good (fm.entries o.node.watches) (each_entry o.node.watches)))
         (carried_by (FoundedIn o) (FoundedIn (finish p x o)) o (widen o (finish p x o) more less) k.carried) in
         record {
-          carried = record { local = c.local; sent = c.sent };
-          acts = λ a b z h. pick a b z (Contains-push_cases o1.effects (EndedBy p x) (LinkExit a b z) h);
+          carried = record { local = c.local; sent = subst (All (λ (v : Envelope). FoundedIn (finish p x o) v.item)) (sym (sent_in-silent o1.effects (Effect.Ended p x) refl)) c.sent };
+          acts = λ a b z h. pick a b z (Contains-push_cases o1.effects (Effect.Ended p x) (Effect.LinkExit a b z) h);
           watched = λ r m h. k.watched r m (less r m h);
           enrolled = λ r m h. k.enrolled r m (ap (λ z. fm.get z r) (sym rs) ∙ (retained (not (is_target p (fm.get o1.node.registered r))) (fm.get o1.node.registered r) m (sym (registered_left p o1.node.registered r) ∙ h)).1);
         }
       where
-        pick : (a b : Pid) (z : Data) → Contains ((post_all (exits p x (fm.entries o.node.ends) ++ monitor_exits p x (fm.entries o.node.registered) ++ demonitors p (fm.entries o.node.watches)) o).effects) (LinkExit a b z) ⊎ (EndedBy p x ≡ LinkExit a b z) → Ok a b z
+        pick : (a b : Pid) (z : Data) → Contains ((post_all (exits p x (fm.entries o.node.ends) ++ monitor_exits p x (fm.entries o.node.registered) ++ demonitors p (fm.entries o.node.watches)) o).effects) (Effect.LinkExit a b z) ⊎ (◌≡◌ {A = Effect Item} (Effect.Ended p x) (Effect.LinkExit a b z)) → Ok a b z
         pick a b z (inl h) = k.acts a b z (quietly_acts o.effects _ (quietly_all o.effects (exits p x (fm.entries o.node.ends) ++ monitor_exits p x (fm.entries o.node.registered) ++ demonitors p (fm.entries o.node.watches)) o Nothing) a b z h)
         pick a b z (inr h) = cc
 
@@ -351,10 +353,10 @@ module _ (n : Node) (Old : Pid → Data → Type 0) (Ok : Pid → Pid → Data �
   pub true_wrote : (t : TrunkId) (y : Name) (m : ShakeMsg) (o : Work) → True o → True (write t y m o)
   true_wrote t y m o k =
       let o' = write t y m o in
-      let c = carried_by (FoundedIn o) (FoundedIn o') o (widen o o' (λ f h. Contains-append_left o.effects (Sent y (Handshake m) ∷ []) f h) (λ r v h. h)) k.carried in
+      let c = carried_by (FoundedIn o) (FoundedIn o') o (widen o o' (λ f h. Contains-append_left o.effects (Effect.Sent (Some t) y (Handshake m) ∷ []) f h) (λ r v h. h)) k.carried in
       record {
-        carried = record { local = c.local; sent = All-push (λ (e : Envelope). FoundedIn o' e.item) o.sent (record { trunk = t; target = y; item = Handshake m }) c.sent tt };
-        acts = λ p q x h. k.acts p q x (quietly_acts o.effects (o.effects ++ Sent y (Handshake m) ∷ []) (Sends o.effects y (Handshake m) Nothing) p q x h);
+        carried = record { local = c.local; sent = subst (All (λ (e : Envelope). FoundedIn o' e.item)) (sym (sent_in-push o.effects (Effect.Sent (Some t) y (Handshake m)))) (All-push (λ (e : Envelope). FoundedIn o' e.item) (outgoing o) (record { trunk = t; target = y; item = Handshake m }) c.sent tt) };
+        acts = λ p q x h. k.acts p q x (quietly_acts o.effects (o.effects ++ Effect.Sent (Some t) y (Handshake m) ∷ []) (Sends o.effects (Some t) y (Handshake m) Nothing) p q x h);
         watched = k.watched;
         enrolled = k.enrolled;
       }

@@ -2,6 +2,8 @@
 use Rattle.std.proofs.Common.{◌≡◌, ℕ, Bool, true, false, cond, List, refl, sym, ap, ◌∙◌, subst, ◌||◌, Option, Some, None, ◌⊎◌, inl, inr, nat_lt}
 use Rattle.std.specs.Option.{is_some}
 use Rattle.std.specs.FinMap as fm
+use Rattle.conn_core.specs.declared.arrival.Fault.{Fault}
+use Rattle.erl_handshake.specs.declared.fault.ShakeFault.{ShakeFault}
 use Rattle.dist_model.proofs.Reside
 use Rattle.std.specs.Ordering.{is_gt}
 use Rattle.dist_model.proofs.Calls.{IfGoes, by_test}
@@ -13,14 +15,15 @@ use Rattle.dist_model.proofs.Moves.{held}
 use Rattle.dist_model.proofs.Pairs.{Met}
 use Rattle.dist_model.proofs.Reside.{Holder, held_by, side_after_other, side_after_same, with_side_at}
 use Rattle.dist_model.proofs.Routes.{Found, node_of_name, side_where_found, some_same}
-use Rattle.dist_model.proofs.Rules.{awaits_name, greet, greet_dialing, greet_up, greet_waiting}
+use Rattle.dist_model.proofs.Rules.{accepts, awaits_name, greet, greet_dialing, greet_up, greet_waiting}
 use Rattle.dist_model.proofs.Sides.{SidesKept, asks, beside, holds, side_at}
 use Rattle.dist_model.proofs.Sweeping.{good_unparked}
 use Rattle.dist_model.proofs.Table.{Good, Posted, begun_state, role_state, up_once}
-use Rattle.dist_model.specs.Admission.{accepts, give_up}
-use Rattle.dist_model.specs.Commands.{Broke, Goes, Took}
+use Rattle.dist_model.specs.Admission.{give_up}
+use Rattle.dist_model.specs.Commands.{Accepts}
+use Rattle.dist_model.specs.declared.report.Answer.{Answer}
 use Rattle.dist_model.specs.Handshake.{challenge, end_up, fault, go_on, goes_on, set_state, write}
-use Rattle.dist_model.specs.Items.{Handshake, Item}
+use Rattle.dist_model.specs.Items.{Handshake, Item, kind_of}
 use Rattle.dist_model.specs.Names.{Name, same_name}
 use Rattle.dist_model.specs.Node.{Node, side_where}
 use Rattle.dist_model.specs.Sides.{Accepting, Asked, AwaitsAck, AwaitsChallenge, AwaitsStatus, Gone, Losing, Parked, State, TrunkSide, Up, is_dialing, is_gone, is_losing, is_up, is_waiting, lost}
@@ -87,7 +90,7 @@ module _ (w : World) (x : Name) (n : Node) (hx : node_of w.nodes x ≡ Some n) (
         td : t ≡ d.0 → ⊥
         td j = let z : false ≡ true = sym (ap is_some nm) ∙ ap is_some (ap (side_at m) j ∙ hd) in cc
 
-        go : (b : Bool) → IfGoes (cond b (accepts t s k (ShakeMsg.Status Status.OkSimultaneous) i (give_up (Some d) (at_work m))) (Goes (Took i) (write t t.dialer (ShakeMsg.Status Status.Nok) (set_state t s Gone (at_work m))))) Pl
+        go : (b : Bool) → IfGoes (cond b (accepts t s k (ShakeMsg.Status Status.OkSimultaneous) i (give_up (Some d) (at_work m))) (Accepts (Answer.Took (kind_of i)) (write t t.dialer (ShakeMsg.Status Status.Nok) (set_state t s Gone (at_work m))))) Pl
         go true = accepted w x n hx t c far m0 (give_up (Some d) (at_work m)) k (ShakeMsg.Status Status.OkSimultaneous) e (side_after_other m d.0 (as_state d.1 Gone) t td ∙ nm) refl refl
             (still_none w x n hx is_waiting t.dialer m d refl nw) (none_left w x n hx is_dialing t.dialer m d sk hd f.peer f.passes refl kind2) (still_none w x n hx holds t.dialer m d refl nh)
             (met_in _ (g1.posted t x key)) g1
@@ -118,7 +121,7 @@ module _ (w : World) (x : Name) (n : Node) (hx : node_of w.nodes x ≡ Some n) (
         g1 : Good (placed w x (give_up (Some d) (at_work n)))
         g1 = given w x n hx (at_work n) d nx hd (waits_kind d.1.state f.passes).0 g0
 
-        go : (b : Bool) → IfGoes (cond b (greet t s k i (give_up (Some d) (at_work n))) (Goes (Broke Refusal.Superseded) (write t t.dialer (ShakeMsg.Status Status.Nok) (set_state t s Gone (at_work n))))) Pl
+        go : (b : Bool) → IfGoes (cond b (greet t s k i (give_up (Some d) (at_work n))) (Accepts (Answer.Broken (Fault.Shake ShakeFault.Superseded)) (write t t.dialer (ShakeMsg.Status Status.Nok) (set_state t s Gone (at_work n))))) Pl
         go true = greets (with_side_at n d.0 (as_state d.1 Gone)) nx (side_after_other n d.0 (as_state d.1 Gone) t td ∙ none)
             (none_left w x n hx is_waiting t.dialer n d (g.core.sides x n hx) hd f.peer f.passes refl waits_kind) g1
         go false = refused_one w x n hx t c far m0 (at_work n) nx none m0s g0
@@ -127,16 +130,16 @@ module _ (w : World) (x : Name) (n : Node) (hx : node_of w.nodes x ≡ Some n) (
             m0s = met_in _ (g0.posted t x key)
 
   -- a first message that is no good
-  pub fresh_fault : (k : Refusal) → IfGoes (fault k t s (at_work n)) Pl
+  pub fresh_fault : (k : Fault) → IfGoes (fault k t s (at_work n)) Pl
   fresh_fault k = first_state w x n hx t c far m0 (at_work n) Gone nx none refl refl (inr refl) refl (λ u b hb eb gs gb. let z : true ≡ false = gs in cc) (met_in _ (g0.posted t x key)) g0
 
   pub fresh_hello : (name : Name) (flags k : ℕ) → IfGoes (awaits_name t (ShakeMsg.SendName flags c name) k (at_work n)) Pl
   fresh_hello name flags k = go (is_same name t.dialer) (has_all_of flags mandatory)
     where
-      go : (a b : Bool) → IfGoes (cond a (cond b (greet_waiting (side_where is_waiting t.dialer (fm.entries n.sides)) t s k (Handshake (ShakeMsg.SendName flags c name)) (at_work n)) (fault Refusal.FlagsMissing t s (at_work n))) (fault Refusal.Forged t s (at_work n))) Pl
+      go : (a b : Bool) → IfGoes (cond a (cond b (greet_waiting (side_where is_waiting t.dialer (fm.entries n.sides)) t s k (Handshake (ShakeMsg.SendName flags c name)) (at_work n)) (fault (Fault.Shake ShakeFault.FlagsMissing) t s (at_work n))) (fault (Fault.Shake ShakeFault.Forged) t s (at_work n))) Pl
       go true true = waits k (Handshake (ShakeMsg.SendName flags c name)) (side_where is_waiting t.dialer (fm.entries n.sides)) refl
-      go true false = fresh_fault Refusal.FlagsMissing
-      go false b = fresh_fault Refusal.Forged
+      go true false = fresh_fault (Fault.Shake ShakeFault.FlagsMissing)
+      go false b = fresh_fault (Fault.Shake ShakeFault.Forged)
 
 -- Asked: the dialer goes on
 module _ (w : World) (x : Name) (n : Node) (hx : node_of w.nodes x ≡ Some n) (g : Good w) (t : TrunkId) (v : TrunkSide) (k : ℕ) (h : side_at n t ≡ Some v) (e : v.state ≡ Asked k) where

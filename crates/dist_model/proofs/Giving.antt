@@ -1,5 +1,5 @@
 -- An attempt that gives way is none of the other sides that a dialer is told of.
-use Rattle.std.proofs.Common.{◌≡◌, Bool, true, false, refl, sym, ap, ◌∙◌, ◌&&◌, ◌||◌, Some, None}
+use Rattle.std.proofs.Common.{◌≡◌, Bool, true, false, refl, sym, ap, ◌∙◌, ◌&&◌, ◌||◌, Some}
 use Rattle.std.specs.Option.{is_some}
 use Rattle.std.specs.FinMap as fm
 use Rattle.dist_model.proofs.Handshake.{as_state}
@@ -8,7 +8,7 @@ use Rattle.dist_model.proofs.Reside.{side_after_other, side_after_same, with_sid
 use Rattle.dist_model.proofs.Routes.{side_where_found, some_same}
 use Rattle.dist_model.proofs.Sides.{side_at}
 use Rattle.dist_model.proofs.Silence.{Passing, passed, passing}
-use Rattle.dist_model.specs.Admission.{give_up, others}
+use Rattle.dist_model.specs.Admission.{give_up}
 use Rattle.dist_model.specs.Names.{Name, same_name}
 use Rattle.dist_model.specs.Node.{Node, side_where}
 use Rattle.dist_model.specs.Sides.{Accepting, Asked, AwaitsAck, AwaitsChallenge, AwaitsStatus, Gone, Losing, Parked, State, TrunkSide, Up, is_dialing, is_losing, is_up, is_waiting}
@@ -59,13 +59,12 @@ waits_not_up Up h = cc
 waits_not_up Losing h = cc
 waits_not_up Gone h = cc
 
-pub others_stay : (n : Node) (y : Name) (e : TrunkId × TrunkSide) → side_where is_waiting y (fm.entries n.sides) ≡ Some e → others ((give_up (Some e) (at_work n)).node) y ≡ others n y
-others_stay n y e h =
+-- whether the node is connected to the dialer, and whether it dials it, stays
+pub given_stay : (n : Node) (y : Name) (e : TrunkId × TrunkSide) → side_where is_waiting y (fm.entries n.sides) ≡ Some e
+    → (is_some (side_where (λ s. is_up s || is_losing s) y (fm.entries ((give_up (Some e) (at_work n)).node.sides))) ≡ is_some (side_where (λ s. is_up s || is_losing s) y (fm.entries n.sides)))
+    × (is_some (side_where is_dialing y (fm.entries ((give_up (Some e) (at_work n)).node.sides))) ≡ is_some (side_where is_dialing y (fm.entries n.sides)))
+given_stay n y e h =
     let f = side_where_found is_waiting y (fm.entries n.sides) e (fm.entries_sorted n.sides) h in
     let at : side_at n e.0 ≡ Some e.1 = fm.get-entries n.sides e.0 ∙ f.there in
     let nt = waits_not_up e.1.state f.passes in
-    λ i. record {
-      waiting = None;
-      connected = stays n y e.0 e.1 at (λ s. is_up s || is_losing s) nt.0 refl i;
-      dialing = stays n y e.0 e.1 at is_dialing nt.1 refl i;
-    }
+    (stays n y e.0 e.1 at (λ s. is_up s || is_losing s) nt.0 refl, stays n y e.0 e.1 at is_dialing nt.1 refl)

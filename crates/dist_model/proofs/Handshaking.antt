@@ -1,7 +1,9 @@
 -- What a new side and a written message keep is kept by the whole handshake, and by a lost connection.
 use Rattle.erl_handshake.specs.declared.message.ShakeMsg.{ShakeMsg}
-use Rattle.dist_model.proofs.Rules.{awaits_ack, awaits_challenge, awaits_name, awaits_reply, awaits_status, awaits_true, greet, greet_dialing, greet_up, greet_waiting, handshake_as, handshake_by, name_as}
-use Rattle.dist_model.specs.Admission.{accepts, give_up}
+use Rattle.conn_core.specs.declared.arrival.Fault.{Fault}
+use Rattle.erl_handshake.specs.declared.fault.ShakeFault.{ShakeFault}
+use Rattle.dist_model.proofs.Rules.{accepts, awaits_ack, awaits_challenge, awaits_name, awaits_reply, awaits_status, awaits_true, greet, greet_dialing, greet_up, greet_waiting, handshake_as, handshake_by, name_as}
+use Rattle.dist_model.specs.Admission.{give_up}
 use Rattle.dist_model.specs.Handshake.{handshake_at}
 use Rattle.erl_handshake.specs.Digest.{digest_of}
 use Rattle.erl_handshake.specs.Flags.{has_all_of, mandatory}
@@ -16,16 +18,17 @@ use Rattle.dist_model.proofs.Routes.{none_some, side_where_found, some_same}
 use Rattle.dist_model.proofs.Sides.{holds, side_at}
 use Rattle.dist_model.specs.Arrivals.{arrive_at, arrive_fresh, on_up, signal_at}
 use Rattle.dist_model.specs.Arrivals
-use Rattle.dist_model.specs.Commands.{Goes, Outcome, Took}
+use Rattle.dist_model.specs.Commands.{Accepts, Outcome}
+use Rattle.dist_model.specs.declared.report.Answer.{Answer}
 use Rattle.dist_model.specs.Handshake.{challenge, end_up, fault, go_on, set_state, with_side, write}
-use Rattle.dist_model.specs.Items.{Handshake, Item}
-use Rattle.dist_model.specs.Losses.{close, has_records, lose, lose_at, parked_by, parked_goes, swept}
+use Rattle.dist_model.specs.Items.{Handshake, Item, kind_of}
+use Rattle.dist_model.proofs.Records.{has_records}
+use Rattle.dist_model.specs.Losses.{close, lose, lose_at, parked_by, parked_goes, swept}
 use Rattle.dist_model.specs.Names.{Name}
 use Rattle.dist_model.specs.Node.{Node, side_where}
-use Rattle.dist_model.specs.Sides.{Accepting, Asked, AwaitsAck, AwaitsChallenge, AwaitsStatus, Gone, Losing, Parked, State, TrunkSide, Up, is_dialing, is_losing, is_parked, is_up, is_waiting, lost}
+use Rattle.dist_model.specs.Sides.{Accepting, Asked, AwaitsAck, AwaitsChallenge, AwaitsStatus, Gone, Losing, Parked, State, TrunkSide, Up, is_dialing, is_losing, is_parked, is_up, is_waiting, lost, is_over, creation_in}
 use Rattle.dist_model.specs.Taking.{take_item}
 use Rattle.dist_model.specs.Work.{Work, at_work}
-use Rattle.dist_model.specs.World.{is_over}
 use Rattle.erl_names.specs.Order.{name_cmp}
 use Rattle.erl_names.specs.declared.trunk.TrunkId.{TrunkId}
 use Rattle.erl_term.specs.declared.refusal.Refusal.{Refusal}
@@ -43,7 +46,7 @@ pub data Turned (o : Node) (t : TrunkId) (s : TrunkSide) : Type 0 where
   Shut : (a : TrunkSide) → side_at o t ≡ Some a → s.peer ≡ a.peer → s.state ≡ Gone → has_records a.peer o ≡ false → Turned o t s
 
 abbrev pub as_state : TrunkSide → State → TrunkSide
-as_state s x = record { peer = s.peer; peer_creation = s.peer_creation; state = x }
+as_state s x = record { peer = s.peer; peer_creation = creation_in x s.peer_creation; state = x }
 
 -- states that hold nothing and are not over
 abbrev pub is_open : State → Bool
@@ -157,10 +160,10 @@ module _ (X : Work → Type 0) (side : (t : TrunkId) (s : TrunkSide) (o : Work) 
   if_either true x y h k = h
   if_either false x y h k = k
 
-  fresh_fault : (j : Refusal) (t : TrunkId) (s : TrunkSide) (o : Work) → side_at o.node t ≡ None → X o → IfGoes (fault j t s o) X
+  fresh_fault : (j : Fault) (t : TrunkId) (s : TrunkSide) (o : Work) → side_at o.node t ≡ None → X o → IfGoes (fault j t s o) X
   fresh_fault j t s o h k = fresh_state t s (lost s.state) o h k
 
-  pub known_fault : (j : Refusal) (t : TrunkId) (s : TrunkSide) (o : Work) → side_at o.node t ≡ Some s → X o → IfGoes (fault j t s o) X
+  pub known_fault : (j : Fault) (t : TrunkId) (s : TrunkSide) (o : Work) → side_at o.node t ≡ Some s → X o → IfGoes (fault j t s o) X
   known_fault j t s o h k = aged_state t s (lost s.state) o h (lost_holds s.state) (λ i. lost_over s.state) k
 
   -- an attempt that the arriving one ends
@@ -197,32 +200,32 @@ module _ (X : Work → Type 0) (side : (t : TrunkId) (s : TrunkSide) (o : Work) 
   named : (t : TrunkId) (m : ShakeMsg) (w : ℕ) (o : Work) → side_at o.node t ≡ None → X o → IfGoes (awaits_name t m w o) X
   named t (ShakeMsg.SendName flags creation name) w o h k =
       let s : TrunkSide = record { peer = t.dialer; peer_creation = creation; state = Gone } in
-      if_either (is_same name t.dialer) _ _ (if_either (has_all_of flags mandatory) _ _ (greeted_waiting (side_where is_waiting t.dialer (fm.entries o.node.sides)) t s w (Handshake (ShakeMsg.SendName flags creation name)) o (found is_waiting t.dialer o.node _ refl) h k) (fresh_fault Refusal.FlagsMissing t s o h k)) (fresh_fault Refusal.Forged t s o h k)
-  named t (ShakeMsg.Status Status.Ok) w o h k = fresh_fault Refusal.BadMessage t (record { peer = t.dialer; peer_creation = 0; state = Gone }) o h k
-  named t (ShakeMsg.Status Status.OkSimultaneous) w o h k = fresh_fault Refusal.BadMessage t (record { peer = t.dialer; peer_creation = 0; state = Gone }) o h k
-  named t (ShakeMsg.Status Status.Nok) w o h k = fresh_fault Refusal.BadMessage t (record { peer = t.dialer; peer_creation = 0; state = Gone }) o h k
-  named t (ShakeMsg.Status Status.NotAllowed) w o h k = fresh_fault Refusal.BadMessage t (record { peer = t.dialer; peer_creation = 0; state = Gone }) o h k
-  named t (ShakeMsg.Status Status.Alive) w o h k = fresh_fault Refusal.BadMessage t (record { peer = t.dialer; peer_creation = 0; state = Gone }) o h k
-  named t (ShakeMsg.Status Status.True) w o h k = fresh_fault Refusal.BadMessage t (record { peer = t.dialer; peer_creation = 0; state = Gone }) o h k
-  named t (ShakeMsg.Status Status.False) w o h k = fresh_fault Refusal.BadMessage t (record { peer = t.dialer; peer_creation = 0; state = Gone }) o h k
-  named t (ShakeMsg.Challenge a b c d) w o h k = fresh_fault Refusal.BadMessage t (record { peer = t.dialer; peer_creation = 0; state = Gone }) o h k
-  named t (ShakeMsg.ChallengeReply a b) w o h k = fresh_fault Refusal.BadMessage t (record { peer = t.dialer; peer_creation = 0; state = Gone }) o h k
-  named t (ShakeMsg.ChallengeAck a) w o h k = fresh_fault Refusal.BadMessage t (record { peer = t.dialer; peer_creation = 0; state = Gone }) o h k
+      if_either (is_same name t.dialer) _ _ (if_either (has_all_of flags mandatory) _ _ (greeted_waiting (side_where is_waiting t.dialer (fm.entries o.node.sides)) t s w (Handshake (ShakeMsg.SendName flags creation name)) o (found is_waiting t.dialer o.node _ refl) h k) (fresh_fault (Fault.Shake ShakeFault.FlagsMissing) t s o h k)) (fresh_fault (Fault.Shake ShakeFault.Forged) t s o h k)
+  named t (ShakeMsg.Status Status.Ok) w o h k = fresh_fault (Fault.Shake ShakeFault.BadMessage) t (record { peer = t.dialer; peer_creation = 0; state = Gone }) o h k
+  named t (ShakeMsg.Status Status.OkSimultaneous) w o h k = fresh_fault (Fault.Shake ShakeFault.BadMessage) t (record { peer = t.dialer; peer_creation = 0; state = Gone }) o h k
+  named t (ShakeMsg.Status Status.Nok) w o h k = fresh_fault (Fault.Shake ShakeFault.BadMessage) t (record { peer = t.dialer; peer_creation = 0; state = Gone }) o h k
+  named t (ShakeMsg.Status Status.NotAllowed) w o h k = fresh_fault (Fault.Shake ShakeFault.BadMessage) t (record { peer = t.dialer; peer_creation = 0; state = Gone }) o h k
+  named t (ShakeMsg.Status Status.Alive) w o h k = fresh_fault (Fault.Shake ShakeFault.BadMessage) t (record { peer = t.dialer; peer_creation = 0; state = Gone }) o h k
+  named t (ShakeMsg.Status Status.True) w o h k = fresh_fault (Fault.Shake ShakeFault.BadMessage) t (record { peer = t.dialer; peer_creation = 0; state = Gone }) o h k
+  named t (ShakeMsg.Status Status.False) w o h k = fresh_fault (Fault.Shake ShakeFault.BadMessage) t (record { peer = t.dialer; peer_creation = 0; state = Gone }) o h k
+  named t (ShakeMsg.Challenge a b c d) w o h k = fresh_fault (Fault.Shake ShakeFault.BadMessage) t (record { peer = t.dialer; peer_creation = 0; state = Gone }) o h k
+  named t (ShakeMsg.ChallengeReply a b) w o h k = fresh_fault (Fault.Shake ShakeFault.BadMessage) t (record { peer = t.dialer; peer_creation = 0; state = Gone }) o h k
+  named t (ShakeMsg.ChallengeAck a) w o h k = fresh_fault (Fault.Shake ShakeFault.BadMessage) t (record { peer = t.dialer; peer_creation = 0; state = Gone }) o h k
 
   pub fresh_kept : (m : Option ShakeMsg) (t : TrunkId) (w : ℕ) (o : Work) → side_at o.node t ≡ None → X o → IfGoes (arrive_fresh m t w o) X
-  fresh_kept None t w o h k = fresh_fault Refusal.BadMessage t (record { peer = t.dialer; peer_creation = 0; state = Gone }) o h k
+  fresh_kept None t w o h k = fresh_fault (Fault.Shake ShakeFault.BadMessage) t (record { peer = t.dialer; peer_creation = 0; state = Gone }) o h k
   fresh_kept (Some m) t w o h k = subst (λ z. IfGoes z X) (sym (name_as t m w o)) (named t m w o h k)
 
   module _ (t : TrunkId) (s : TrunkSide) (o : Work) (at : side_at o.node t ≡ Some s) (k : X o) where
-    bad : IfGoes (fault Refusal.BadMessage t s o) X
-    bad = known_fault Refusal.BadMessage t s o at k
+    bad : IfGoes (fault (Fault.Shake ShakeFault.BadMessage) t s o) X
+    bad = known_fault (Fault.Shake ShakeFault.BadMessage) t s o at k
 
     status : (v : ℕ) → is_open s.state ≡ true → (m : ShakeMsg) → IfGoes (awaits_status t s v m o) X
     status v h (ShakeMsg.Status Status.Ok) = open_state t s (AwaitsChallenge v) o at h k
     status v h (ShakeMsg.Status Status.OkSimultaneous) = open_state t s (AwaitsChallenge v) o at h k
     status v h (ShakeMsg.Status Status.Alive) = told t s (AwaitsChallenge v) (ShakeMsg.Status Status.True) o (open_state t s (AwaitsChallenge v) o at h k)
-    status v h (ShakeMsg.Status Status.Nok) = known_fault Refusal.Nok t s o at k
-    status v h (ShakeMsg.Status Status.NotAllowed) = known_fault Refusal.Nok t s o at k
+    status v h (ShakeMsg.Status Status.Nok) = known_fault (Fault.Shake ShakeFault.Nok) t s o at k
+    status v h (ShakeMsg.Status Status.NotAllowed) = known_fault (Fault.Shake ShakeFault.Nok) t s o at k
     status v h (ShakeMsg.Status Status.True) = bad
     status v h (ShakeMsg.Status Status.False) = bad
     status v h (ShakeMsg.SendName a b c) = bad
@@ -236,7 +239,7 @@ module _ (X : Work → Type 0) (side : (t : TrunkId) (s : TrunkSide) (o : Work) 
         if_either (is_same name s.peer) _ _ (if_either (has_all_of flags mandatory) _ _
         (told t s1 (AwaitsAck v) (ShakeMsg.ChallengeReply v (digest_of o.node.cookie word)) o
         (side t (as_state s1 (AwaitsAck v)) o (Aged s at (record { peer = refl; holding = open_ages s.state (AwaitsAck v) h; over = open_starts s.state (AwaitsAck v) h })) k))
-        (known_fault Refusal.FlagsMissing t s o at k)) (known_fault Refusal.Forged t s o at k)
+        (known_fault (Fault.Shake ShakeFault.FlagsMissing) t s o at k)) (known_fault (Fault.Shake ShakeFault.Forged) t s o at k)
     challenged v h (ShakeMsg.Status Status.Ok) = bad
     challenged v h (ShakeMsg.Status Status.OkSimultaneous) = bad
     challenged v h (ShakeMsg.Status Status.Alive) = bad
@@ -249,7 +252,7 @@ module _ (X : Work → Type 0) (side : (t : TrunkId) (s : TrunkSide) (o : Work) 
     challenged v h (ShakeMsg.ChallengeAck a) = bad
 
     acknowledged : (v : ℕ) → is_open s.state ≡ true → (m : ShakeMsg) → IfGoes (awaits_ack t s v m o) X
-    acknowledged v h (ShakeMsg.ChallengeAck digest) = if_either (is_answered o.node.cookie v digest) _ _ (open_state t s Up o at h k) (known_fault Refusal.BadDigest t s o at k)
+    acknowledged v h (ShakeMsg.ChallengeAck digest) = if_either (is_answered o.node.cookie v digest) _ _ (open_state t s Up o at h k) (known_fault (Fault.Shake ShakeFault.BadDigest) t s o at k)
     acknowledged v h (ShakeMsg.Status Status.Ok) = bad
     acknowledged v h (ShakeMsg.Status Status.OkSimultaneous) = bad
     acknowledged v h (ShakeMsg.Status Status.Alive) = bad
@@ -292,7 +295,7 @@ module _ (X : Work → Type 0) (side : (t : TrunkId) (s : TrunkSide) (o : Work) 
         let d = side_where is_up s.peer (fm.entries o.node.sides) in
         let p = found is_up s.peer o.node d refl in
         gone_on (side_where is_losing s.peer (fm.entries ((end_up d o).node.sides))) v (end_up d o) (still_at d p h) h (ended_up d p)
-    asked v h (ShakeMsg.Status Status.False) = known_fault Refusal.Nok t s o at k
+    asked v h (ShakeMsg.Status Status.False) = known_fault (Fault.Shake ShakeFault.Nok) t s o at k
     asked v h (ShakeMsg.Status Status.Ok) = bad
     asked v h (ShakeMsg.Status Status.OkSimultaneous) = bad
     asked v h (ShakeMsg.Status Status.Alive) = bad
@@ -304,7 +307,7 @@ module _ (X : Work → Type 0) (side : (t : TrunkId) (s : TrunkSide) (o : Work) 
     asked v h (ShakeMsg.ChallengeAck a) = bad
 
     replied : (v : ℕ) → is_open s.state ≡ true → (m : ShakeMsg) → IfGoes (awaits_reply t s v m o) X
-    replied v h (ShakeMsg.ChallengeReply word digest) = if_either (is_answered o.node.cookie v digest) _ _ (told t s Up (ShakeMsg.ChallengeAck (digest_of o.node.cookie word)) o (open_state t s Up o at h k)) (known_fault Refusal.BadDigest t s o at k)
+    replied v h (ShakeMsg.ChallengeReply word digest) = if_either (is_answered o.node.cookie v digest) _ _ (told t s Up (ShakeMsg.ChallengeAck (digest_of o.node.cookie word)) o (open_state t s Up o at h k)) (known_fault (Fault.Shake ShakeFault.BadDigest) t s o at k)
     replied v h (ShakeMsg.Status Status.Ok) = bad
     replied v h (ShakeMsg.Status Status.OkSimultaneous) = bad
     replied v h (ShakeMsg.Status Status.Alive) = bad
@@ -324,8 +327,8 @@ module _ (X : Work → Type 0) (side : (t : TrunkId) (s : TrunkSide) (o : Work) 
     by_rule (Parked v) h m = bad
     by_rule (Accepting v) h m = replied v (ap is_open h) m
     by_rule Up h m = bad
-    by_rule Losing h m = tt
-    by_rule Gone h m = tt
+    by_rule Losing h m = bad
+    by_rule Gone h m = bad
 
     pub shaken : (v : State) → s.state ≡ v → (m : ShakeMsg) → IfGoes (handshake_at v t s m o) X
     shaken v h m = subst (λ z. IfGoes z X) (sym (handshake_as v t s m o)) (by_rule v h m)
@@ -334,9 +337,9 @@ module _ (X : Work → Type 0) (side : (t : TrunkId) (s : TrunkSide) (o : Work) 
       on_up_kept : s.state ≡ Up → IfGoes (on_up t s x o) X
       on_up_kept u = go (Arrivals.is_good o.node s x) refl
         where
-          go : (b : Bool) → Arrivals.is_good o.node s x ≡ b → IfGoes (cond b (Goes (Took x) (take_item x o)) (fault Refusal.Forged t s o)) X
+          go : (b : Bool) → Arrivals.is_good o.node s x ≡ b → IfGoes (cond b (Accepts (Answer.Took (kind_of x)) (take_item x o)) (fault Fault.Forged t s o)) X
           go true e = taken u e
-          go false e = known_fault Refusal.Forged t s o at k
+          go false e = known_fault Fault.Forged t s o at k
 
       signalled : (v : State) → s.state ≡ v → IfGoes (signal_at v t s x o) X
       signalled (AwaitsStatus v) h = bad
@@ -346,8 +349,8 @@ module _ (X : Work → Type 0) (side : (t : TrunkId) (s : TrunkSide) (o : Work) 
       signalled (Parked v) h = bad
       signalled (Accepting v) h = bad
       signalled Up h = on_up_kept h
-      signalled Losing h = tt
-      signalled Gone h = tt
+      signalled Losing h = bad
+      signalled Gone h = bad
 
       pub known_kept : (m : Option ShakeMsg) → IfGoes (arrive_at m t s x o) X
       known_kept None = signalled s.state refl

@@ -27,7 +27,7 @@ use Rattle.dist_model.specs.Links.{noconnection}
 use Rattle.dist_model.specs.Items.{Item, Signalled, Handshake}
 use Rattle.dist_model.specs.Sides.{TrunkSide, AwaitsStatus, AwaitsChallenge, AwaitsAck, Accepting, Up, Losing, Gone, is_up}
 use Rattle.dist_model.specs.Node.{Node, Life, Living}
-use Rattle.dist_model.specs.Commands.{MakeLink, Spawn, EndLink, Trap}
+use Rattle.dist_model.specs.declared.command.Command.{Command}
 use Rattle.dist_model.specs.World.{World, Event, Call, Arrive, Lose, Sweep, Dial, step, node_of}
 use Rattle.dist_model.specs.Runs.{run}
 use Rattle.dist_model.specs.Seen.{HasSide, end_between}
@@ -253,13 +253,13 @@ module _ (cookie : List ℕ) (own other : ℕ) where
   lives_of_first_2 = fm.insert lives_of_first_1 here (Living true (exit_term there noconnection ∷ []))
 
   abbrev sides_of_first_5 : FinMap trunk_cmp TrunkSide
-  sides_of_first_5 = fm.insert sides_of_first_4 (trunk 1) (record { peer = second; peer_creation = 1; state = Gone })
+  sides_of_first_5 = fm.insert sides_of_first_4 (trunk 1) (record { peer = second; peer_creation = 0; state = Gone })
 
   abbrev lives_of_second_2 : FinMap pid_cmp Life
   lives_of_second_2 = fm.insert lives_of_second_1 there (Living true (exit_term here noconnection ∷ []))
 
   abbrev sides_of_second_3 : FinMap trunk_cmp TrunkSide
-  sides_of_second_3 = fm.insert sides_of_second_2 (trunk 1) (record { peer = first; peer_creation = 1; state = Gone })
+  sides_of_second_3 = fm.insert sides_of_second_2 (trunk 1) (record { peer = first; peer_creation = 0; state = Gone })
 
   abbrev sides_of_first_6 : FinMap trunk_cmp TrunkSide
   sides_of_first_6 = fm.insert sides_of_first_5 (trunk 2) (record { peer = second; peer_creation = 0; state = AwaitsStatus own })
@@ -348,16 +348,16 @@ module _ (cookie : List ℕ) (own other : ℕ) where
   abbrev w12 : World
   w12 = world (node first 1 0 1 (lives_of_first_1) (ends_of_first_0) (sides_of_first_3)) (node second 1 0 0 (lives_of_second_1) (ends_of_second_0) (sides_of_second_1)) lists11
 
-  wstep0 : (step w0 (Call first Spawn)).world ≡ w1
+  wstep0 : (step w0 (Call first Command.Spawn)).world ≡ w1
   wstep0 = refl
 
-  wstep1 : (step w1 (Call second Spawn)).world ≡ w2
+  wstep1 : (step w1 (Call second Command.Spawn)).world ≡ w2
   wstep1 = refl
 
-  wstep2 : (step w2 (Call first (Trap here true))).world ≡ w3
+  wstep2 : (step w2 (Call first (Command.Trap here true))).world ≡ w3
   wstep2 = simp (of_maps, knows) refl
 
-  wstep3 : (step w3 (Call second (Trap there true))).world ≡ w4
+  wstep3 : (step w3 (Call second (Command.Trap there true))).world ≡ w4
   wstep3 = simp (of_maps, knows) refl
 
   wstep4 : (step w4 (Dial first second own)).world ≡ w5
@@ -378,24 +378,24 @@ module _ (cookie : List ℕ) (own other : ℕ) where
   wstep9 : (step w9 (Arrive (trunk 1) first 0)).world ≡ w10
   wstep9 = simp (of_maps, knows) refl
 
-  wstep10 : (step w10 (Call first (MakeLink here there))).world ≡ w11
+  wstep10 : (step w10 (Call first (Command.Link here there))).world ≡ w11
   wstep10 = simp (of_maps, knows) refl
 
   wstep11 : (step w11 (Arrive (trunk 1) second 0)).world ≡ w12
   wstep11 = simp (of_maps, knows) refl
 
-  wrun : run (Call first Spawn ∷ Call second Spawn ∷ Call first (Trap here true) ∷ Call second (Trap there true) ∷ Dial first second own ∷ Arrive (trunk 1) second other ∷ Arrive (trunk 1) first 0 ∷ Arrive (trunk 1) first 0 ∷ Arrive (trunk 1) second 0 ∷ Arrive (trunk 1) first 0 ∷ Call first (MakeLink here there) ∷ Arrive (trunk 1) second 0 ∷ []) w0 ≡ w12
+  wrun : run (Call first Command.Spawn ∷ Call second Command.Spawn ∷ Call first (Command.Trap here true) ∷ Call second (Command.Trap there true) ∷ Dial first second own ∷ Arrive (trunk 1) second other ∷ Arrive (trunk 1) first 0 ∷ Arrive (trunk 1) first 0 ∷ Arrive (trunk 1) second 0 ∷ Arrive (trunk 1) first 0 ∷ Call first (Command.Link here there) ∷ Arrive (trunk 1) second 0 ∷ []) w0 ≡ w12
   wrun =
-      ap (run (Call second Spawn ∷ Call first (Trap here true) ∷ Call second (Trap there true) ∷ Dial first second own ∷ Arrive (trunk 1) second other ∷ Arrive (trunk 1) first 0 ∷ Arrive (trunk 1) first 0 ∷ Arrive (trunk 1) second 0 ∷ Arrive (trunk 1) first 0 ∷ Call first (MakeLink here there) ∷ Arrive (trunk 1) second 0 ∷ [])) wstep0
-      ∙ ap (run (Call first (Trap here true) ∷ Call second (Trap there true) ∷ Dial first second own ∷ Arrive (trunk 1) second other ∷ Arrive (trunk 1) first 0 ∷ Arrive (trunk 1) first 0 ∷ Arrive (trunk 1) second 0 ∷ Arrive (trunk 1) first 0 ∷ Call first (MakeLink here there) ∷ Arrive (trunk 1) second 0 ∷ [])) wstep1
-      ∙ ap (run (Call second (Trap there true) ∷ Dial first second own ∷ Arrive (trunk 1) second other ∷ Arrive (trunk 1) first 0 ∷ Arrive (trunk 1) first 0 ∷ Arrive (trunk 1) second 0 ∷ Arrive (trunk 1) first 0 ∷ Call first (MakeLink here there) ∷ Arrive (trunk 1) second 0 ∷ [])) wstep2
-      ∙ ap (run (Dial first second own ∷ Arrive (trunk 1) second other ∷ Arrive (trunk 1) first 0 ∷ Arrive (trunk 1) first 0 ∷ Arrive (trunk 1) second 0 ∷ Arrive (trunk 1) first 0 ∷ Call first (MakeLink here there) ∷ Arrive (trunk 1) second 0 ∷ [])) wstep3
-      ∙ ap (run (Arrive (trunk 1) second other ∷ Arrive (trunk 1) first 0 ∷ Arrive (trunk 1) first 0 ∷ Arrive (trunk 1) second 0 ∷ Arrive (trunk 1) first 0 ∷ Call first (MakeLink here there) ∷ Arrive (trunk 1) second 0 ∷ [])) wstep4
-      ∙ ap (run (Arrive (trunk 1) first 0 ∷ Arrive (trunk 1) first 0 ∷ Arrive (trunk 1) second 0 ∷ Arrive (trunk 1) first 0 ∷ Call first (MakeLink here there) ∷ Arrive (trunk 1) second 0 ∷ [])) wstep5
-      ∙ ap (run (Arrive (trunk 1) first 0 ∷ Arrive (trunk 1) second 0 ∷ Arrive (trunk 1) first 0 ∷ Call first (MakeLink here there) ∷ Arrive (trunk 1) second 0 ∷ [])) wstep6
-      ∙ ap (run (Arrive (trunk 1) second 0 ∷ Arrive (trunk 1) first 0 ∷ Call first (MakeLink here there) ∷ Arrive (trunk 1) second 0 ∷ [])) wstep7
-      ∙ ap (run (Arrive (trunk 1) first 0 ∷ Call first (MakeLink here there) ∷ Arrive (trunk 1) second 0 ∷ [])) wstep8
-      ∙ ap (run (Call first (MakeLink here there) ∷ Arrive (trunk 1) second 0 ∷ [])) wstep9
+      ap (run (Call second Command.Spawn ∷ Call first (Command.Trap here true) ∷ Call second (Command.Trap there true) ∷ Dial first second own ∷ Arrive (trunk 1) second other ∷ Arrive (trunk 1) first 0 ∷ Arrive (trunk 1) first 0 ∷ Arrive (trunk 1) second 0 ∷ Arrive (trunk 1) first 0 ∷ Call first (Command.Link here there) ∷ Arrive (trunk 1) second 0 ∷ [])) wstep0
+      ∙ ap (run (Call first (Command.Trap here true) ∷ Call second (Command.Trap there true) ∷ Dial first second own ∷ Arrive (trunk 1) second other ∷ Arrive (trunk 1) first 0 ∷ Arrive (trunk 1) first 0 ∷ Arrive (trunk 1) second 0 ∷ Arrive (trunk 1) first 0 ∷ Call first (Command.Link here there) ∷ Arrive (trunk 1) second 0 ∷ [])) wstep1
+      ∙ ap (run (Call second (Command.Trap there true) ∷ Dial first second own ∷ Arrive (trunk 1) second other ∷ Arrive (trunk 1) first 0 ∷ Arrive (trunk 1) first 0 ∷ Arrive (trunk 1) second 0 ∷ Arrive (trunk 1) first 0 ∷ Call first (Command.Link here there) ∷ Arrive (trunk 1) second 0 ∷ [])) wstep2
+      ∙ ap (run (Dial first second own ∷ Arrive (trunk 1) second other ∷ Arrive (trunk 1) first 0 ∷ Arrive (trunk 1) first 0 ∷ Arrive (trunk 1) second 0 ∷ Arrive (trunk 1) first 0 ∷ Call first (Command.Link here there) ∷ Arrive (trunk 1) second 0 ∷ [])) wstep3
+      ∙ ap (run (Arrive (trunk 1) second other ∷ Arrive (trunk 1) first 0 ∷ Arrive (trunk 1) first 0 ∷ Arrive (trunk 1) second 0 ∷ Arrive (trunk 1) first 0 ∷ Call first (Command.Link here there) ∷ Arrive (trunk 1) second 0 ∷ [])) wstep4
+      ∙ ap (run (Arrive (trunk 1) first 0 ∷ Arrive (trunk 1) first 0 ∷ Arrive (trunk 1) second 0 ∷ Arrive (trunk 1) first 0 ∷ Call first (Command.Link here there) ∷ Arrive (trunk 1) second 0 ∷ [])) wstep5
+      ∙ ap (run (Arrive (trunk 1) first 0 ∷ Arrive (trunk 1) second 0 ∷ Arrive (trunk 1) first 0 ∷ Call first (Command.Link here there) ∷ Arrive (trunk 1) second 0 ∷ [])) wstep6
+      ∙ ap (run (Arrive (trunk 1) second 0 ∷ Arrive (trunk 1) first 0 ∷ Call first (Command.Link here there) ∷ Arrive (trunk 1) second 0 ∷ [])) wstep7
+      ∙ ap (run (Arrive (trunk 1) first 0 ∷ Call first (Command.Link here there) ∷ Arrive (trunk 1) second 0 ∷ [])) wstep8
+      ∙ ap (run (Call first (Command.Link here there) ∷ Arrive (trunk 1) second 0 ∷ [])) wstep9
       ∙ ap (run (Arrive (trunk 1) second 0 ∷ [])) wstep10
       ∙ ap (run ([])) wstep11
 
@@ -408,7 +408,7 @@ module _ (cookie : List ℕ) (own other : ℕ) where
   abbrev u3 : World
   u3 = world (node first 1 1 1 (lives_of_first_1) (ends_of_first_2) (sides_of_first_3)) (node second 1 0 0 (lives_of_second_1) (ends_of_second_1) (sides_of_second_1)) lists15
 
-  ustep0 : (step w12 (Call first (EndLink here there))).world ≡ u1
+  ustep0 : (step w12 (Call first (Command.Unlink here there))).world ≡ u1
   ustep0 = simp (of_maps, knows) refl
 
   ustep1 : (step u1 (Arrive (trunk 1) second 0)).world ≡ u2
@@ -417,7 +417,7 @@ module _ (cookie : List ℕ) (own other : ℕ) where
   ustep2 : (step u2 (Arrive (trunk 1) first 0)).world ≡ u3
   ustep2 = simp (of_maps, knows) refl
 
-  urun : run (Call first (EndLink here there) ∷ Arrive (trunk 1) second 0 ∷ Arrive (trunk 1) first 0 ∷ []) w12 ≡ u3
+  urun : run (Call first (Command.Unlink here there) ∷ Arrive (trunk 1) second 0 ∷ Arrive (trunk 1) first 0 ∷ []) w12 ≡ u3
   urun =
       ap (run (Arrive (trunk 1) second 0 ∷ Arrive (trunk 1) first 0 ∷ [])) ustep0
       ∙ ap (run (Arrive (trunk 1) first 0 ∷ [])) ustep1

@@ -1,4 +1,6 @@
 -- Every step keeps what is known of a world and its history, and so does every run.
+use Rattle.dist_model.specs.NodeEvents.{if_up}
+use Rattle.dist_model.proofs.Stepping.{arrives, while_up}
 use Rattle.dist_model.proofs.Seeing.{list_in, local_at}
 use Rattle.std.proofs.Common.{◌≡◌, ◌⊎◌, inl, inr, ℕ, ◌+◌, Bool, true, false, cond, not, List, [], ◌∷◌, refl, sym, ap, ◌∙◌, subst, arith, ◌&&◌, Option, Some, None, Contains}
 use Rattle.std.proofs.lemmas.List.Elements.{All-contains, All-nil, All-tail, All-weaker, Contains-push_cases}
@@ -6,7 +8,7 @@ use Rattle.std.specs.List.{All}
 use Rattle.std.specs.Option.{is_some}
 use Rattle.std.specs.FinMap as fm
 use Rattle.std.specs.FinMap.{FinMap}
-use Rattle.dist_model.proofs.Comings.{arrive_done, dial_done, local_done, lose_done, start_done, stop_done, sweep_done}
+use Rattle.dist_model.proofs.Comings.{dial_done, fresh_comes, known_comes, local_done, lose_done, start_done, stop_done, sweep_done}
 use Rattle.dist_model.proofs.Deeds.{Right, old_cause}
 use Rattle.dist_model.proofs.Events.{AllGo, Done, call_done}
 use Rattle.dist_model.proofs.Following.{linked_step}
@@ -19,10 +21,12 @@ use Rattle.dist_model.proofs.Sides.{side_at}
 use Rattle.dist_model.proofs.Table.{Good}
 use Rattle.dist_model.proofs.Told.{Begins, Course, Downs, IsFounded, IsNamed, Leaves, Revoked, Sound, Stays, sound_after}
 use Rattle.dist_model.proofs.Turning.{down}
-use Rattle.dist_model.specs.Arrivals.{arrive, take_local}
+use Rattle.dist_model.specs.Arrivals.{arrive_at, arrive_fresh, handshake_in, take_local}
 use Rattle.dist_model.specs.Calls.{call}
 use Rattle.dist_model.specs.Causes.{Reacts, TrueCause}
-use Rattle.dist_model.specs.Commands.{Answer, EndLink, EndMonitor, ExitSelf, ExitTo, Goes, IsAlive, LinksOf, MakeLink, MakeMonitor, Outcome, Receive, Refuses, Send, Spawn, Trap}
+use Rattle.dist_model.specs.Commands.{Accepts, Outcome, Refuses}
+use Rattle.dist_model.specs.declared.report.Answer.{Answer}
+use Rattle.dist_model.specs.declared.command.Command.{Command}
 use Rattle.dist_model.specs.Dialing.{dial}
 use Rattle.dist_model.specs.Downs.{Demonitored, Down, Monitored, answers, downs, downs_by, is_answered, is_demonitored}
 use Rattle.dist_model.specs.Fates.{AnsweredOnce, DownOnce, DownToTheOwner, DownsTellTrueCause, ExitsTellTrueCause, ExitsTellTrueCauseWithin, NoDownWhereDemonitored, ReactsForTrueCause}
@@ -32,10 +36,10 @@ use Rattle.dist_model.specs.Items.{Item, Signalled}
 use Rattle.dist_model.specs.Losses.{any_side, lose, sweep}
 use Rattle.dist_model.specs.Names.{Name, place_cmp, same_name}
 use Rattle.dist_model.specs.Node.{Node}
-use Rattle.dist_model.specs.Runs.{Comes, Runs, opening}
-use Rattle.dist_model.specs.Sides.{TrunkSide, is_losing}
-use Rattle.dist_model.specs.Work.{Work}
-use Rattle.dist_model.specs.World.{Arrive, Call, Dial, Event, Local, Lose, Refused, Report, Reported, Start, Stepped, Stop, Sweep, World, arrives, arrives_first, ends_in, is_over, list_to, node_name, node_of, refused, running, step, step_at}
+use Rattle.dist_model.specs.Runs.{Goes, Runs, opening}
+use Rattle.dist_model.specs.Sides.{TrunkSide, is_losing, is_over}
+use Rattle.dist_model.specs.Work.{Work, at_work}
+use Rattle.dist_model.specs.World.{Arrive, Call, Dial, Event, Local, Lose, Refused, Report, Reported, Start, Stepped, Stop, Sweep, World, came_of, list_to, node_name, node_of, refused, step, step_at}
 use Rattle.erl_control.specs.declared.signal.Signal.{Signal}
 use Rattle.erl_names.specs.declared.trunk.TrunkId.{TrunkId}
 use Rattle.erl_term.specs.Data.{Data}
@@ -47,18 +51,18 @@ use Rattle.monitor_core.specs.Order.{reference_cmp}
 
 -- a refused event is no call that went through
 refused_unanswered : (k : Reference) (e : Event) (j : Refusal) → is_answered k e (Refused j) ≡ false
-refused_unanswered k (Call x Spawn) j = refl
-refused_unanswered k (Call x (Send a b c)) j = refl
-refused_unanswered k (Call x (MakeLink a b)) j = refl
-refused_unanswered k (Call x (EndLink a b)) j = refl
-refused_unanswered k (Call x (MakeMonitor a b)) j = refl
-refused_unanswered k (Call x (EndMonitor a b)) j = refl
-refused_unanswered k (Call x (Trap a b)) j = refl
-refused_unanswered k (Call x (ExitTo a b c)) j = refl
-refused_unanswered k (Call x (ExitSelf a b)) j = refl
-refused_unanswered k (Call x (Receive a)) j = refl
-refused_unanswered k (Call x (LinksOf a)) j = refl
-refused_unanswered k (Call x (IsAlive a)) j = refl
+refused_unanswered k (Call x Command.Spawn) j = refl
+refused_unanswered k (Call x (Command.Send a b c)) j = refl
+refused_unanswered k (Call x (Command.Link a b)) j = refl
+refused_unanswered k (Call x (Command.Unlink a b)) j = refl
+refused_unanswered k (Call x (Command.Monitor a b)) j = refl
+refused_unanswered k (Call x (Command.Demonitor a b)) j = refl
+refused_unanswered k (Call x (Command.Trap a b)) j = refl
+refused_unanswered k (Call x (Command.ExitTo a b c)) j = refl
+refused_unanswered k (Call x (Command.ExitSelf a b)) j = refl
+refused_unanswered k (Call x (Command.Receive a)) j = refl
+refused_unanswered k (Call x (Command.LinksOf a)) j = refl
+refused_unanswered k (Call x (Command.IsAlive a)) j = refl
 refused_unanswered k (Arrive t x v) j = refl
 refused_unanswered k (Local x) j = refl
 refused_unanswered k (Lose t x) j = refl
@@ -68,18 +72,18 @@ refused_unanswered k (Stop x) j = refl
 refused_unanswered k (Start x) j = refl
 
 refused_unrevoked : (k : Reference) (e : Event) (j : Refusal) → is_demonitored k e (Refused j) ≡ false
-refused_unrevoked k (Call x Spawn) j = refl
-refused_unrevoked k (Call x (Send a b c)) j = refl
-refused_unrevoked k (Call x (MakeLink a b)) j = refl
-refused_unrevoked k (Call x (EndLink a b)) j = refl
-refused_unrevoked k (Call x (MakeMonitor a b)) j = refl
-refused_unrevoked k (Call x (EndMonitor a b)) j = refl
-refused_unrevoked k (Call x (Trap a b)) j = refl
-refused_unrevoked k (Call x (ExitTo a b c)) j = refl
-refused_unrevoked k (Call x (ExitSelf a b)) j = refl
-refused_unrevoked k (Call x (Receive a)) j = refl
-refused_unrevoked k (Call x (LinksOf a)) j = refl
-refused_unrevoked k (Call x (IsAlive a)) j = refl
+refused_unrevoked k (Call x Command.Spawn) j = refl
+refused_unrevoked k (Call x (Command.Send a b c)) j = refl
+refused_unrevoked k (Call x (Command.Link a b)) j = refl
+refused_unrevoked k (Call x (Command.Unlink a b)) j = refl
+refused_unrevoked k (Call x (Command.Monitor a b)) j = refl
+refused_unrevoked k (Call x (Command.Demonitor a b)) j = refl
+refused_unrevoked k (Call x (Command.Trap a b)) j = refl
+refused_unrevoked k (Call x (Command.ExitTo a b c)) j = refl
+refused_unrevoked k (Call x (Command.ExitSelf a b)) j = refl
+refused_unrevoked k (Call x (Command.Receive a)) j = refl
+refused_unrevoked k (Call x (Command.LinksOf a)) j = refl
+refused_unrevoked k (Call x (Command.IsAlive a)) j = refl
 refused_unrevoked k (Arrive t x v) j = refl
 refused_unrevoked k (Local x) j = refl
 refused_unrevoked k (Lose t x) j = refl
@@ -155,20 +159,13 @@ module _ (w : World) (h : History) (gw : Good w) (g : Sound w h) where
     told_down a o k d (Begins p q ev i r kx nd dr l (inr c)) m = subst (λ (v : Down). TrueCause h w v.owner v.target v.info) (one_down (down (monitor_of p q) c.1) d (subst (λ l. Contains l d) c.3 m)) c.2
     told_down a o k d (Revoked u b c dn i r) m = absurd (no_down d (subst (λ l. Contains l d) dn m))
 
-    ends_after : (m : FinMap place_cmp (List Item)) (o : Outcome) → ((t : TrunkId) (y : Name) → All (IsFounded w h) (list_to m t y)) → AllGo o (Done w h x n hx gw g e xs) → After w h e (ends_in w x m o)
+    ends_after : (m : FinMap place_cmp (List Item)) (o : Outcome) → ((t : TrunkId) (y : Name) → All (IsFounded w h) (list_to m t y)) → AllGo o (Done w h x n hx gw g e xs) → After w h e (came_of w x m o)
     ends_after m (Refuses j) ml d = refuses e j
-    ends_after m (Goes a o) ml d = record {
+    ends_after m (Accepts a o) ml d = record {
       sound = sound_after w h x n hx g e a o d.deed m ml;
       acts = d.acts;
       ends = λ k v c. told_down a o k v (d.deed.course k) c;
     }
-
-  while_up : (n : Node) (e : Event) (s : Stepped) → After w h e s → After w h e (running w n s)
-  while_up n e s a = go n.up
-    where
-      go : (b : Bool) → After w h e (cond b s (refused w Refusal.NodeDown))
-      go true = a
-      go false = refuses e Refusal.NodeDown
 
   pub popped_lists : (t : TrunkId) (x : Name) (i : Item) (rest : List Item) → list_to w.lists t x ≡ i ∷ rest → (u : TrunkId) (y : Name) → All (IsFounded w h) (list_to (fm.insert w.lists (t, x) rest) u y)
   popped_lists t x i rest first u y = subst (λ l. All (IsFounded w h) l) (sym (list_to_insert w.lists t x rest u y)) (go (same_trunk u t && same_name y x))
@@ -178,35 +175,27 @@ module _ (w : World) (h : History) (gw : Good w) (g : Sound w h) where
       go false = g.lists u y
 
   module _ (x : Name) (n : Node) (hx : node_of w.nodes x ≡ Some n) where
-    first_comes : (t : TrunkId) (k : ℕ) (s : Option TrunkSide) (l : List Item) → side_at n t ≡ s → list_to w.lists t x ≡ l → After w h (Arrive t x k) (arrives_first w n t x k s l)
-    first_comes t k s [] at first = refuses (Arrive t x k) Refusal.NothingThere
-    first_comes t k s (i ∷ rest) at first = ends_after x n hx (Arrive t x k) n.local (fm.insert w.lists (t, x) rest) (arrive n t s i k) (popped_lists t x i rest first) (arrive_done w h x n hx gw g t k i rest first s at)
+    comes : (t : TrunkId) (k : ℕ) → After w h (Arrive t x k) (step_at w (Some n) (Arrive t x k))
+    comes t k = arrives w x n (After w h (Arrive t x k)) (refuses (Arrive t x k)) t k
+        (λ i is first at. ends_after x n hx (Arrive t x k) n.local (fm.insert w.lists (t, x) is) (arrive_fresh (handshake_in i) t k (at_work n)) (popped_lists t x i is first) (fresh_comes w h x n hx gw g t k i is first at))
+        (λ i is v first at over. ends_after x n hx (Arrive t x k) n.local (fm.insert w.lists (t, x) is) (arrive_at (handshake_in i) t v i (at_work n)) (popped_lists t x i is first) (known_comes w h x n hx gw g t k i is first v at (handshake_in i)))
 
-    comes : (t : TrunkId) (k : ℕ) (s : Option TrunkSide) → side_at n t ≡ s → After w h (Arrive t x k) (arrives w n t x k s)
-    comes t k None at = go (is_some (fm.get w.lists (t, x)) && not (same_name t.dialer x))
-      where
-        go : (b : Bool) → After w h (Arrive t x k) (cond b (arrives_first w n t x k None (list_to w.lists t x)) (refused w Refusal.NotLive))
-        go true = first_comes t k None (list_to w.lists t x) at refl
-        go false = refuses (Arrive t x k) Refusal.NotLive
-    comes t k (Some v) at = go (is_over v.state)
-      where
-        go : (b : Bool) → After w h (Arrive t x k) (cond b (refused w Refusal.NotLive) (arrives_first w n t x k (Some v) (list_to w.lists t x)))
-        go true = refuses (Arrive t x k) Refusal.NotLive
-        go false = first_comes t k (Some v) (list_to w.lists t x) at refl
+    up_after : (e : Event) (m : FinMap place_cmp (List Item)) (o : Outcome) → After w h e (came_of w x m o) → After w h e (came_of w x m (if_up n o))
+    up_after e = while_up w x n (After w h e) (refuses e)
 
-    local_comes : (l : List Item) → n.local ≡ l → After w h (Local x) (ends_in w x w.lists (take_local n l))
+    local_comes : (l : List Item) → n.local ≡ l → After w h (Local x) (came_of w x w.lists (take_local n l))
     local_comes [] j = refuses (Local x) Refusal.NothingThere
     local_comes (i ∷ xs) j = ends_after x n hx (Local x) xs w.lists (take_local n (i ∷ xs)) g.lists (local_done w h x n hx gw g (i ∷ xs) j i xs refl)
 
   pub after_step : (o : Option Node) (e : Event) → node_of w.nodes (node_name e) ≡ o → After w h e (step_at w o e)
   after_step None e i = refuses e Refusal.NothingThere
-  after_step (Some n) (Call x c) i = while_up n (Call x c) _ (ends_after x n i (Call x c) n.local w.lists (call n c) g.lists (call_done w h x n i gw g c))
-  after_step (Some n) (Arrive t x k) i = while_up n (Arrive t x k) _ (comes x n i t k (fm.get n.sides t) refl)
-  after_step (Some n) (Local x) i = while_up n (Local x) _ (local_comes x n i n.local refl)
-  after_step (Some n) (Lose t x) i = while_up n (Lose t x) _ (ends_after x n i (Lose t x) n.local w.lists (lose n t (fm.get n.sides t)) g.lists (lose_done w h x n i gw g t (fm.get n.sides t) refl))
-  after_step (Some n) (Sweep x) i = while_up n (Sweep x) _ (ends_after x n i (Sweep x) n.local w.lists (sweep n) g.lists (sweep_done w h x n i gw g (any_side is_losing (fm.entries n.sides)) refl))
-  after_step (Some n) (Dial x y k) i = while_up n (Dial x y k) _ (ends_after x n i (Dial x y k) n.local w.lists (dial w.names n y k) g.lists (dial_done w h x n i gw g w.names y k))
-  after_step (Some n) (Stop x) i = while_up n (Stop x) _ (ends_after x n i (Stop x) n.local w.lists (stop n) g.lists (stop_done w h x n i gw g))
+  after_step (Some n) (Call x c) i = up_after x n i (Call x c) w.lists _ (ends_after x n i (Call x c) n.local w.lists (call n c) g.lists (call_done w h x n i gw g c))
+  after_step (Some n) (Arrive t x k) i = comes x n i t k
+  after_step (Some n) (Local x) i = up_after x n i (Local x) w.lists _ (local_comes x n i n.local refl)
+  after_step (Some n) (Lose t x) i = up_after x n i (Lose t x) w.lists _ (ends_after x n i (Lose t x) n.local w.lists (lose n t (fm.get n.sides t)) g.lists (lose_done w h x n i gw g t (fm.get n.sides t) refl))
+  after_step (Some n) (Sweep x) i = up_after x n i (Sweep x) w.lists _ (ends_after x n i (Sweep x) n.local w.lists (sweep n) g.lists (sweep_done w h x n i gw g (any_side is_losing (fm.entries n.sides)) refl))
+  after_step (Some n) (Dial x y k) i = up_after x n i (Dial x y k) w.lists _ (ends_after x n i (Dial x y k) n.local w.lists (dial w.names n y k) g.lists (dial_done w h x n i gw g w.names y k))
+  after_step (Some n) (Stop x) i = up_after x n i (Stop x) w.lists _ (ends_after x n i (Stop x) n.local w.lists (stop n) g.lists (stop_done w h x n i gw g))
   after_step (Some n) (Start x) i = ends_after x n i (Start x) n.local w.lists (start n) g.lists (start_done w h x n i gw g)
 
   pub next : (e : Event) → After w h e (step w e)
@@ -219,7 +208,7 @@ pub record Tale (w : World) (h : History) : Type 0 where
   pub sound : Sound w h
   pub linked : Linked w
 
-one_event : (w : World) (h : History) (e : Event) (r : Report) (v : World) → Tale w h → Comes w e r v → Tale v ((record { event = e; report = r }) ∷ h)
+one_event : (w : World) (h : History) (e : Event) (r : Report) (v : World) → Tale w h → Goes w e r v → Tale v ((record { event = e; report = r }) ∷ h)
 one_event w h e r v t (inl c) = record {
   good = subst Good (sym c.1) (good_step_at w (node_of w.nodes (node_name e)) e refl t.good);
   sound = subst (λ z. Sound z ((record { event = e; report = r }) ∷ h)) (sym c.1) (subst (λ z. Sound ((step w e).world) ((record { event = e; report = z }) ∷ h)) (sym c.0) (next w h t.good t.sound e).sound);

@@ -1,6 +1,7 @@
 -- The pairs of one node.
 use Rattle.std.proofs.Common.{◌==◌, ◌≡◌, Bool, true, false, cond, not, List, [], ◌∷◌, ◌++◌, refl, sym, ap, ◌∙◌, subst, ◌&&◌, ◌||◌, ◌⊎◌, inl, inr, nat_lt}
 use Rattle.std.specs.Option.{is_some}
+use Rattle.dist_model.proofs.Envelopes.{outgoing}
 use Rattle.dist_model.proofs.Calls.{by_test, takes_other}
 use Rattle.dist_model.proofs.Kept.{Kept, kept_swap}
 use Rattle.dist_model.proofs.Keys.{and_both, same_pid_is, same_pid_true}
@@ -25,7 +26,7 @@ pub own_reached : (n : Node) (y : Name) → same_name y n.mint.name ≡ true →
 own_reached n y h = ap (λ b. b || is_some (route n y)) h
 
 pub own_view : (o : Work) (p q : Pid) → same_name q.node o.node.mint.name ≡ true → view [] o p q ≡ side_of o.node p q (news p q o.node.local)
-own_view o p q h = side_path (view [] o p q) (side_of o.node p q (news p q o.node.local)) refl refl refl (ap (λ b. news p q (cond b o.node.local (to_name q.node o.sent))) h)
+own_view o p q h = side_path (view [] o p q) (side_of o.node p q (news p q o.node.local)) refl refl refl (ap (λ b. news p q (cond b o.node.local (to_name q.node (outgoing o)))) h)
 
 pub pid_turned : (p q : Pid) → same_pid p q ≡ false → same_pid q p ≡ false
 pid_turned p q h = by_test _ (same_pid q p) (λ e. let c : true ≡ false = sym (same_pid_is p q (sym (same_pid_true q p e))) ∙ h in cc) (λ e. e)

@@ -1,3 +1,6 @@
+pub mod Envelopes
+pub mod Records
+pub mod Stepping
 pub mod Seeing
 pub mod Rules
 pub mod Pair

@@ -3,6 +3,7 @@ use Rattle.std.proofs.Common.{◌≡◌, Bool, true, false, List, refl, sym, ap,
 use Rattle.std.specs.Option.{is_some}
 use Rattle.std.specs.FinMap as fm
 use Rattle.std.specs.FinMap.{FinMap}
+use Rattle.dist_model.proofs.Envelopes.{outgoing}
 use Rattle.dist_model.proofs.Aging.{Later, Unwatched}
 use Rattle.dist_model.proofs.Calls.{by_test}
 use Rattle.dist_model.proofs.Events.{AllOver, Done}
@@ -12,14 +13,14 @@ use Rattle.dist_model.proofs.Sides.{holds, route_up, side_at, up_holds}
 use Rattle.dist_model.proofs.Table.{Good, has, partners}
 use Rattle.dist_model.proofs.Told.{Begins, Course, Downs, Leaves, Off, Revoked, Sound, Stays, after, at_x, by_name, elsewhere, happened, monitored_one}
 use Rattle.dist_model.proofs.Turning.{Lands, has_first, has_last, is_call, is_end}
-use Rattle.dist_model.specs.Commands.{Answer}
+use Rattle.dist_model.specs.declared.report.Answer.{Answer}
 use Rattle.dist_model.specs.Histories.{History}
 use Rattle.dist_model.specs.Items.{Item}
 use Rattle.dist_model.specs.Names.{Name, place_cmp, same_name}
 use Rattle.dist_model.specs.Node.{Node, reaches, route}
-use Rattle.dist_model.specs.Sides.{TrunkSide, is_losing, is_up}
+use Rattle.dist_model.specs.Sides.{TrunkSide, is_losing, is_up, is_over}
 use Rattle.dist_model.specs.Work.{Work}
-use Rattle.dist_model.specs.World.{Event, Reported, World, carried, is_over, list_to, node_of, set_node}
+use Rattle.dist_model.specs.World.{Event, Reported, World, carried, list_to, node_of, set_node}
 use Rattle.erl_names.specs.declared.trunk.TrunkId.{TrunkId}
 use Rattle.erl_term.specs.declared.term.Pid.{Pid}
 use Rattle.erl_term.specs.declared.term.Reference.{Reference}
@@ -54,11 +55,11 @@ Linked w = (y : Name) (v : Node) (k : Reference) (u : Monitor) → node_of w.nod
 -- a call of Monitor went out
 abbrev pub NewWatch : Node → Work → Reference → Monitor → Type 0
 NewWatch n o k u = (same_name u.target.node n.mint.name ≡ true → has (is_call k) o.node.local ≡ true)
-    × (same_name u.target.node n.mint.name ≡ false → (t : TrunkId) × (s : TrunkSide) × (side_at o.node t ≡ Some s) × (s.peer ≡ u.target.node) × (holds s.state ≡ true) × (has (is_call k) (at_place t u.target.node o.sent) ≡ true))
+    × (same_name u.target.node n.mint.name ≡ false → (t : TrunkId) × (s : TrunkSide) × (side_at o.node t ≡ Some s) × (s.peer ≡ u.target.node) × (holds s.state ≡ true) × (has (is_call k) (at_place t u.target.node (outgoing o)) ≡ true))
 
 -- what becomes of a MONITOR_P that is taken from a trunk
 abbrev pub TakenCall : Work → TrunkId → Name → Reference → Type 0
-TakenCall o t y k = ((v : TrunkSide) × (side_at o.node t ≡ Some v) × (is_over v.state ≡ true)) ⊎ (((v : TrunkSide) × (b : Monitor) × (side_at o.node t ≡ Some v) × (is_up v.state ≡ true) × (fm.get o.node.registered k ≡ Some b)) ⊎ (has (is_end k) (at_place t y o.sent) ≡ true))
+TakenCall o t y k = ((v : TrunkSide) × (side_at o.node t ≡ Some v) × (is_over v.state ≡ true)) ⊎ (((v : TrunkSide) × (b : Monitor) × (side_at o.node t ≡ Some v) × (is_up v.state ≡ true) × (fm.get o.node.registered k ≡ Some b)) ⊎ (has (is_end k) (at_place t y (outgoing o)) ≡ true))
 
 up_or_over : (s : TrunkSide) → holds s.state ≡ true → (is_up s.state ≡ true) ⊎ (is_over s.state ≡ true)
 up_or_over s h = go (is_up s.state) (is_losing s.state) refl refl h
@@ -83,11 +84,11 @@ module _ (w : World) (h : History) (x : Name) (n : Node) (hx : node_of w.nodes x
   on : o.node.mint.name ≡ n.mint.name
   on = d.deed.name ∙ sym nx
 
-  lasts : (f : Item → Bool) (t : TrunkId) (y : Name) → has f (list_to m t y) ≡ true → has f (list_to (carried m o.sent) t y) ≡ true
-  lasts f t y i = ap (has f) (list_to_carried m o.sent t y) ∙ has_first f (list_to m t y) (at_place t y o.sent) i
+  lasts : (f : Item → Bool) (t : TrunkId) (y : Name) → has f (list_to m t y) ≡ true → has f (list_to (carried m o.effects) t y) ≡ true
+  lasts f t y i = ap (has f) (list_to_carried m o.effects t y) ∙ has_first f (list_to m t y) (at_place t y (outgoing o)) i
 
-  sends : (f : Item → Bool) (t : TrunkId) (y : Name) → has f (at_place t y o.sent) ≡ true → has f (list_to (carried m o.sent) t y) ≡ true
-  sends f t y i = ap (has f) (list_to_carried m o.sent t y) ∙ has_last f (list_to m t y) (at_place t y o.sent) i
+  sends : (f : Item → Bool) (t : TrunkId) (y : Name) → has f (at_place t y (outgoing o)) ≡ true → has f (list_to (carried m o.effects) t y) ≡ true
+  sends f t y i = ap (has f) (list_to_carried m o.effects t y) ∙ has_last f (list_to m t y) (at_place t y (outgoing o)) i
 
   -- a watch of before names one owner and one target
   the_one : (y : Name) (v : Node) (k : Reference) (u b : Monitor) → node_of w.nodes y ≡ Some v → fm.get v.watches k ≡ Some u → fm.get n.registered k ≡ Some b → (b.owner ≡ u.owner) × (b.target ≡ u.target)
@@ -100,7 +101,7 @@ module _ (w : World) (h : History) (x : Name) (n : Node) (hx : node_of w.nodes x
   not_off y v k u hv i f = none_some u (sym (f.1 v (subst (λ z. node_of w.nodes z ≡ Some v) (sym (g.watching y v k u hv i).0) hv)) ∙ i)
 
   abbrev W : World
-  W = record { names = w.names; nodes = set_node w.nodes x o.node; lists = carried m o.sent }
+  W = record { names = w.names; nodes = set_node w.nodes x o.node; lists = carried m o.effects }
 
   -- ---- a watch of the node itself
 
@@ -206,7 +207,7 @@ module _ (w : World) (h : History) (x : Name) (n : Node) (hx : node_of w.nodes x
       at_target : node_of (set_node w.nodes x o.node) u.target.node ≡ Some o.node
       at_target = at_x w h x n hx g e a o d.deed u.target.node ex
 
-      sent_back : has (is_end k) (at_place c.trunk y o.sent) ≡ true → Known W c.trunk y u.target.node k
+      sent_back : has (is_end k) (at_place c.trunk y (outgoing o)) ≡ true → Known W c.trunk y u.target.node k
       sent_back z = Returns (sends (is_end k) c.trunk y z)
 
       is_taken : TakenCall o c.trunk y k → Known W c.trunk y u.target.node k
@@ -244,7 +245,7 @@ module _ (w : World) (h : History) (x : Name) (n : Node) (hx : node_of w.nodes x
 
         enrolled_still : (fm.get o.node.registered k ≡ Some b) ⊎ ((Lands (is_end k) n b.owner.node o ⊎ (Off w h k ⊎ (reaches n b.owner.node ≡ false))) ⊎ AllOver o.node) → Known W c.trunk y u.target.node k
         enrolled_still (inl z) = still z aged.holding
-        enrolled_still (inr (inl (inl z))) = sent_back (subst (λ q. has (is_end k) (at_place c.trunk q o.sent) ≡ true) owner_node (z.1 c.trunk not_own routed))
+        enrolled_still (inr (inl (inl z))) = sent_back (subst (λ q. has (is_end k) (at_place c.trunk q (outgoing o)) ≡ true) owner_node (z.1 c.trunk not_own routed))
         enrolled_still (inr (inl (inr (inl z)))) = absurd (not_off y v k u hv i z)
         enrolled_still (inr (inl (inr (inr z)))) = let q : false ≡ true = sym z ∙ ap (λ b2. b2 || is_some (route n b.owner.node)) not_own ∙ ap is_some routed in cc
         enrolled_still (inr (inr z)) = PeerOver o.node aged.side at_target aged.there (z.0 c.trunk aged.side aged.there)
@@ -282,7 +283,7 @@ module _ (w : World) (h : History) (x : Name) (n : Node) (hx : node_of w.nodes x
   there : (y : Name) (v : Node) (k : Reference) (u : Monitor) → (x ≡ y → ⊥) → node_of w.nodes y ≡ Some v → fm.get v.watches k ≡ Some u → Followed W y v k u
   there y v k u dy hv i = let f = l y v k u hv i in (f.0, λ far. away_there y v k u dy hv i (f.1 far))
 
-  pub linked_after : Linked (record { names = w.names; nodes = set_node w.nodes x o.node; lists = carried m o.sent })
+  pub linked_after : Linked (record { names = w.names; nodes = set_node w.nodes x o.node; lists = carried m o.effects })
   linked_after y v k u hv i = by_name w h x n hx g e a o d.deed (Followed W y v k u) y
       (λ xy.
       let on2 : o.node ≡ v = some_same o.node v (sym (at_x w h x n hx g e a o d.deed y xy) ∙ hv) in

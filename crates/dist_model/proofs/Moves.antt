@@ -7,12 +7,13 @@ use Rattle.std.specs.Ordering.{is_eq, is_lt, eq_by_cmp}
 use Rattle.std.specs.Cmp.{tied_itself}
 use Rattle.std.specs.FinMap as fm
 use Rattle.std.specs.FinMap.Entries.{find, is_sorted, below_all}
+use Rattle.dist_model.proofs.Envelopes.{Envelope, outgoing, sent_by, sent_in, sent_in-push, sent_in-silent}
 use Rattle.dist_model.proofs.Ending.{buried_end, buried_living, finish_view, finish_view_other, last_posts}
 use Rattle.dist_model.proofs.Kept.{Kept, keeps_draw, keeps_finish, keeps_link, keeps_take, keeps_unlink}
 use Rattle.dist_model.proofs.Keys.{and_both, pair_exact, pair_total, pid_total, same_pair, same_pid_is, same_pid_refl, same_pid_true, set_in-get}
 use Rattle.dist_model.proofs.Pair.{Side, finished}
 use Rattle.dist_model.proofs.Seeing.{end_in, replies}
-use Rattle.dist_model.proofs.Views.{AllSuit, Suits, linking_suits, more, over, post_all_keeps, post_all_view, post_keeps, post_view, posted, side_path, telling_news, telling_receiver, view}
+use Rattle.dist_model.proofs.Views.{silent_lines, silent_view, AllSuit, Suits, linking_suits, more, over, post_all_keeps, post_all_view, post_keeps, post_view, posted, side_path, telling_news, telling_receiver, view}
 use Rattle.dist_model.specs.Exits.{carry_out, demonitors, exit_for, exits, finish, link_exit, linked_exit, monitor_exits}
 use Rattle.dist_model.specs.Items.{Item, Signalled, news_in, receiver_of, telling}
 use Rattle.dist_model.specs.Linking.{exit_follows, link, link_by, link_new, take_link, take_link_by}
@@ -20,7 +21,8 @@ use Rattle.dist_model.specs.Links.{Exits, LinkNews, Says, heard, noconnection, r
 use Rattle.dist_model.specs.Names.{Name, pair_cmp, same_name, same_pid}
 use Rattle.dist_model.specs.Node.{Ended, Life, Living, Node, end_of, is_living_life, living, never, reaches, route, route_in, side_where, traps_life}
 use Rattle.dist_model.specs.Sides.{TrunkSide, is_losing, is_up}
-use Rattle.dist_model.specs.Work.{Effect, Envelope, LinkExit, Work, delivered, keep_local, post, post_all, post_to, put, report, send_on, set_end, set_life}
+use Rattle.dist_model.specs.Work.{Work, delivered, keep_local, post, post_all, post_to, put, report, send_on, set_end, set_life}
+use Rattle.dist_model.specs.declared.report.Effect.{Effect}
 use Rattle.erl_control.specs.declared.signal.Signal.{Signal}
 use Rattle.erl_names.specs.Order.{trunk_cmp}
 use Rattle.erl_names.specs.declared.trunk.TrunkId.{TrunkId}
@@ -165,18 +167,22 @@ routed-push : (m : FinMap trunk_cmp TrunkSide) (es : List Envelope) (e : Envelop
 routed-push m [] e a r = (r, tt)
 routed-push m (d ∷ es) e a r = (a.0, routed-push m es e a.1 r)
 
-send_routed : (r : Option TrunkId) (y : Name) (x : Item) (o : Work) → route o.node y ≡ r → AllRouted o.node.sides o.sent → AllRouted ((send_on r y x o).node.sides) ((send_on r y x o).sent)
+send_routed : (r : Option TrunkId) (y : Name) (x : Item) (o : Work) → route o.node y ≡ r → AllRouted o.node.sides (outgoing o) → AllRouted ((send_on r y x o).node.sides) (outgoing (send_on r y x o))
 send_routed None y x o h a = a
-send_routed (Some t) y x o h a = routed-push o.node.sides o.sent (record { trunk = t; target = y; item = x }) a h
+send_routed (Some t) y x o h a = subst (AllRouted o.node.sides) (sym (sent_in-push o.effects (Effect.Sent (Some t) y x))) (routed-push o.node.sides (outgoing o) (record { trunk = t; target = y; item = x }) a h)
 
-pub post_routed : (y : Name) (x : Item) (o : Work) → AllRouted o.node.sides o.sent → AllRouted ((post_to y x o).node.sides) ((post_to y x o).sent)
+-- an effect that sends nothing on a trunk
+pub silent_routed : (m : FinMap trunk_cmp TrunkSide) (fs : List (Effect Item)) (f : Effect Item) → sent_by f ≡ [] → AllRouted m (sent_in fs) → AllRouted m (sent_in (fs ++ f ∷ []))
+silent_routed m fs f h a = subst (AllRouted m) (sym (sent_in-silent fs f h)) a
+
+pub post_routed : (y : Name) (x : Item) (o : Work) → AllRouted o.node.sides (outgoing o) → AllRouted ((post_to y x o).node.sides) (outgoing (post_to y x o))
 post_routed y x o a = go (same_name y o.node.mint.name)
   where
-    go : (b : Bool) → AllRouted ((cond b (keep_local x o) (send_on (route o.node y) y x o)).node.sides) ((cond b (keep_local x o) (send_on (route o.node y) y x o)).sent)
-    go true = a
+    go : (b : Bool) → AllRouted ((cond b (keep_local x o) (send_on (route o.node y) y x o)).node.sides) (outgoing (cond b (keep_local x o) (send_on (route o.node y) y x o)))
+    go true = silent_routed o.node.sides o.effects (Effect.Sent None o.node.mint.name x) refl a
     go false = send_routed (route o.node y) y x o refl a
 
-pub post_all_routed : (es : List Signal) (o : Work) → AllRouted o.node.sides o.sent → AllRouted ((post_all es o).node.sides) ((post_all es o).sent)
+pub post_all_routed : (es : List Signal) (o : Work) → AllRouted o.node.sides (outgoing o) → AllRouted ((post_all es o).node.sides) (outgoing (post_all es o))
 post_all_routed [] o a = a
 post_all_routed (e ∷ es) o a = post_all_routed es (post e o) (post_routed (receiver_of e).node (Signalled e) o a)
 
@@ -188,7 +194,7 @@ pub record Moves (o o' : Work) : Type 0 where
   pub keeps : NodeKept o.node → NodeKept o'.node
   pub grows : (p : Pid) → over o.node p ≡ true → over o'.node p ≡ true
   pub draws : o.node.mint.unlink_ids ≤ o'.node.mint.unlink_ids
-  pub routed : AllRouted o.node.sides o.sent → AllRouted o'.node.sides o'.sent
+  pub routed : AllRouted o.node.sides (outgoing o) → AllRouted o'.node.sides (outgoing o')
   pub nevers : (p : Pid) → never o.node p ≡ false → never o'.node p ≡ false
   pub home : NodeKept o.node → home_of o.node → home_of o'.node
   pub views : NodeKept o.node → (b : List LinkNews) (p q : Pid) (c : Side) → reaches o.node q.node ≡ true → Kept (view b o p q) c → Kept (view b o' p q) c
@@ -217,8 +223,19 @@ then a b c f g = record {
 }
 
 -- what changes neither an end, nor who lives, nor a side, nor what is sent
-pub reported : (f : Effect) (o : Work) → Moves o (report f o)
-reported f o = record { sides = refl; dialed = refl; name = refl; keeps = λ k. record { born = k.born; rooted = k.rooted }; grows = λ p h. h; draws = omega arith; routed = λ a. a; nevers = λ p h. h; home = λ k h. h; views = λ n b p q c r k. k }
+pub reported : (f : Effect Item) (o : Work) → sent_by f ≡ [] → Moves o (report f o)
+reported f o s = record {
+  sides = refl;
+  dialed = refl;
+  name = refl;
+  keeps = λ k. record { born = k.born; rooted = k.rooted };
+  grows = λ p h. h;
+  draws = omega arith;
+  routed = silent_routed o.node.sides o.effects f s;
+  nevers = λ p h. h;
+  home = λ k h. h;
+  views = λ n b p q c r k. subst (λ a. Kept a c) (sym (silent_view b f o p q s)) k;
+}
 
 living_received : (l : Option Life) (t : Data) → is_living_life (delivered l t) ≡ is_living_life l
 living_received None t = refl
@@ -237,7 +254,9 @@ put_living : (p : Pid) (t : Data) (o : Work) (x : Pid) → living ((put p t o).n
 put_living p t o x = set_life_living o.node.lives p (delivered (fm.get o.node.lives p) t) x (λ h. living_received (fm.get o.node.lives p) t ∙ ap (λ v. is_living_life (fm.get o.node.lives v)) (sym (same_pid_true x p h)))
 
 put_view : (b : List LinkNews) (x : Pid) (t : Data) (o : Work) (p q : Pid) → view b (put x t o) p q ≡ view b o p q
-put_view b x t o p q = side_path (view b (put x t o) p q) (view b o p q) refl (ap (λ v. not v && not (never o.node p)) (put_living x t o p)) refl refl
+put_view b x t o p q =
+    silent_lines b (put x t o) o.effects (o.effects ++ Effect.Put x t ∷ []) p q (sent_in-silent o.effects (Effect.Put x t) refl)
+    ∙ side_path (view b (record (put x t o) { effects = o.effects }) p q) (view b o p q) refl (ap (λ v. not v && not (never o.node p)) (put_living x t o p)) refl refl
 
 pub puts : (x : Pid) (t : Data) (o : Work) → Moves o (put x t o)
 puts x t o = record {
@@ -247,7 +266,7 @@ puts x t o = record {
   keeps = λ k. record { born = λ p l. k.born p (sym (put_living x t o p) ∙ l); rooted = λ p q e. let r = k.rooted p q e in (put_living x t o p ∙ r.0, r.1, r.2) };
   grows = λ p h. ap (λ v. not v && not (never o.node p)) (put_living x t o p) ∙ h;
   draws = omega arith;
-  routed = λ a. a;
+  routed = silent_routed o.node.sides o.effects (Effect.Put x t) refl;
   nevers = λ p h. h;
   home = λ k h. h;
   views = λ n b p q c r k. subst (λ a. Kept a c) (sym (put_view b x t o p q)) k;
@@ -319,7 +338,7 @@ finishes x r o l =
       };
       grows = λ p h. ap (λ v. not v && not (never o1.node p)) (finish_living x r o p) ∙ over_grows (same_pid p x) r (fm.get o1.node.lives p) (never o1.node p) (post_all_keeps (λ n. over n p) (λ n m. refl) posts o ∙ h);
       draws = omega (arith, post_all_keeps (λ n. n.mint.unlink_ids) (λ n m. refl) posts o);
-      routed = λ a. post_all_routed posts o a;
+      routed = λ a. silent_routed o1.node.sides o1.effects (Effect.Ended x r) refl (post_all_routed posts o a);
       nevers = λ p h. post_all_keeps (λ n. never n p) (λ n m. refl) posts o ∙ h;
       home = λ k h. post_all_home posts o
           (PostsHome-append o.node.mint.name (λ p. never o.node p) (exits x r (fm.entries o.node.ends) ++ monitor_exits x r (fm.entries o.node.registered)) (demonitors x (fm.entries o.node.watches))
@@ -338,8 +357,8 @@ carries_out (Reaction.End r) x o l = finishes x r o l
 
 pub link_exits : (p q : Pid) (r : Data) (o : Work) → living o.node p ≡ true → Moves o (link_exit p q r o)
 link_exits p q r o l =
-    let o1 = report (LinkExit p q r) o in
-    then o o1 (link_exit p q r o) (reported (LinkExit p q r) o) (carries_out (reaction (traps_life (fm.get o1.node.lives p)) (linked_exit p q r)) p o1 l)
+    let o1 = report (Effect.LinkExit p q r) o in
+    then o o1 (link_exit p q r o) (reported (Effect.LinkExit p q r) o refl) (carries_out (reaction (traps_life (fm.get o1.node.lives p)) (linked_exit p q r)) p o1 l)
 
 -- one end is set
 abbrev pub ended_at : Bool → End → Side → Side
@@ -565,7 +584,7 @@ pub record Takes (x y : Pid) (s : LinkNews) (o o' : Work) : Type 0 where
   pub keeps : NodeKept o.node → held o.node y.node ≡ true → NodeKept o'.node
   pub grows : (p : Pid) → over o.node p ≡ true → over o'.node p ≡ true
   pub draws : o.node.mint.unlink_ids ≤ o'.node.mint.unlink_ids
-  pub routed : AllRouted o.node.sides o.sent → AllRouted o'.node.sides o'.sent
+  pub routed : AllRouted o.node.sides (outgoing o) → AllRouted o'.node.sides (outgoing o')
   pub nevers : (p : Pid) → never o.node p ≡ false → never o'.node p ≡ false
   pub home : NodeKept o.node → held o.node y.node ≡ true → home_of o.node → home_of o'.node
   pub here : NodeKept o.node → held o.node y.node ≡ true → (b : List LinkNews) (c : Side) (L : List LinkNews) → reaches o.node y.node ≡ true → Kept (view b o x y) (with_sent c (s ∷ L)) → Kept (view b o' x y) (with_sent c L)

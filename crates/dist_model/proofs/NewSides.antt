@@ -13,7 +13,9 @@ use Rattle.dist_model.proofs.Seeing.{list_in}
 use Rattle.dist_model.proofs.Sides.{holds, joined, side_at}
 use Rattle.dist_model.proofs.Steps.{kind}
 use Rattle.dist_model.proofs.Table.{Good, Row, begun, good_changed, has, holds_side, is_accept, is_challenge, is_reply, may_be_up, role_state, up_once}
-use Rattle.dist_model.specs.Commands.{Dialed, Goes, Refuses}
+use Rattle.dist_model.specs.declared.report.Effect.{Effect}
+use Rattle.dist_model.specs.Commands.{Accepts, Refuses}
+use Rattle.dist_model.specs.declared.report.Answer.{Answer}
 use Rattle.dist_model.specs.Dialing.{dial, draw_trunk, has_name, next_trunk}
 use Rattle.dist_model.specs.Handshake.{with_side, write}
 use Rattle.dist_model.specs.Items.{Handshake, Item, news}
@@ -21,7 +23,7 @@ use Rattle.dist_model.specs.Names.{Name, same_name}
 use Rattle.dist_model.specs.Node.{Node, side_where}
 use Rattle.dist_model.specs.Sides.{Accepting, Asked, AwaitsAck, AwaitsChallenge, AwaitsStatus, Gone, Losing, Parked, State, TrunkSide, Up, is_gone, is_up}
 use Rattle.dist_model.specs.Work.{at_work}
-use Rattle.dist_model.specs.World.{World, carried, ends_in, list_to, node_of, set_node}
+use Rattle.dist_model.specs.World.{World, carried, came_of, list_to, node_of, set_node}
 use Rattle.erl_handshake.specs.Flags.{mandatory}
 use Rattle.erl_handshake.specs.declared.message.ShakeMsg.{ShakeMsg}
 use Rattle.erl_names.specs.declared.trunk.TrunkId.{TrunkId}
@@ -132,7 +134,7 @@ not_not false h = cc
 
 -- a new attempt
 dialed : (w : World) (x : Name) (n : Node) (y : Name) (k : ℕ) → node_of w.nodes x ≡ Some n → Good w → same_name y n.mint.name ≡ false → is_some (side_where (λ v. not (is_gone v)) y (fm.entries n.sides)) ≡ false
-    → Good (record { names = w.names; nodes = set_node w.nodes x (with_side_at (draw_trunk n) (next_trunk n) (record { peer = y; peer_creation = 0; state = AwaitsStatus k })); lists = carried w.lists ((record { trunk = next_trunk n; target = y; item = Handshake (ShakeMsg.SendName mandatory n.mint.creation n.mint.name) }) ∷ []) })
+    → Good (record { names = w.names; nodes = set_node w.nodes x (with_side_at (draw_trunk n) (next_trunk n) (record { peer = y; peer_creation = 0; state = AwaitsStatus k })); lists = carried w.lists (Effect.Sent (Some (next_trunk n)) y (Handshake (ShakeMsg.SendName mandatory n.mint.creation n.mint.name)) ∷ []) })
 dialed w x n y k hx g ny busy =
     let s : TrunkSide = record { peer = y; peer_creation = 0; state = AwaitsStatus k } in
     let t = next_trunk n in
@@ -161,11 +163,11 @@ dialed w x n y k hx g ny busy =
     neither (inl j) = cc
     neither (inr j) = cc
 
-pub good_dial : (w : World) (x : Name) (n : Node) (y : Name) (k : ℕ) → node_of w.nodes x ≡ Some n → Good w → Good ((ends_in w x w.lists (dial w.names n y k)).world)
+pub good_dial : (w : World) (x : Name) (n : Node) (y : Name) (k : ℕ) → node_of w.nodes x ≡ Some n → Good w → Good ((came_of w x w.lists (dial w.names n y k)).world)
 good_dial w x n y k hx g = go (same_name y n.mint.name) refl (not (has_name y w.names)) (is_some (side_where (λ v. not (is_gone v)) y (fm.entries n.sides))) refl (not (nat_lt (n.dialed + 1) (2 ^ 64)))
   where
     go : (a : Bool) → same_name y n.mint.name ≡ a → (b : Bool) (c : Bool) → is_some (side_where (λ v. not (is_gone v)) y (fm.entries n.sides)) ≡ c → (d : Bool)
-        → Good ((ends_in w x w.lists (cond a (Refuses Refusal.SelfDial) (cond b (Refuses Refusal.NothingThere) (cond c (Refuses Refusal.Busy) (cond d (Refuses Refusal.IdsUsedUp) (Goes (Dialed (next_trunk n)) (write (next_trunk n) y (ShakeMsg.SendName mandatory n.mint.creation n.mint.name) (with_side (next_trunk n) (record { peer = y; peer_creation = 0; state = AwaitsStatus k }) (at_work (draw_trunk n)))))))))).world)
+        → Good ((came_of w x w.lists (cond a (Refuses Refusal.SelfDial) (cond b (Refuses Refusal.NothingThere) (cond c (Refuses Refusal.Busy) (cond d (Refuses Refusal.IdsUsedUp) (Accepts (Answer.Trunk (next_trunk n)) (write (next_trunk n) y (ShakeMsg.SendName mandatory n.mint.creation n.mint.name) (with_side (next_trunk n) (record { peer = y; peer_creation = 0; state = AwaitsStatus k }) (at_work (draw_trunk n)))))))))).world)
     go true ea b c ec d = g
     go false ea true c ec d = g
     go false ea false true ec d = g

@@ -1,6 +1,7 @@
 -- What all nodes keep together.
 use Rattle.std.proofs.Common.{◌≡◌, true, false, List, [], ◌++◌, refl, sym, ap, ◌∙◌, subst, Some, ◌⊎◌, inl, inr, append-nil}
 use Rattle.std.specs.FinMap as fm
+use Rattle.dist_model.proofs.Envelopes.{outgoing}
 use Rattle.dist_model.proofs.Calls.{by_test}
 use Rattle.dist_model.proofs.Kept.{Kept, kept_swap}
 use Rattle.dist_model.proofs.Keys.{same_name_is, same_name_true}
@@ -50,8 +51,8 @@ up_joined Losing h = cc
 up_joined Gone h = cc
 
 module _ (w : World) (x : Name) (n : Node) (o : Work) (m' : FinMap place_cmp (List Item)) (hx : node_of w.nodes x ≡ Some n)
-    (sd : o.node.sides ≡ n.sides) (nm : o.node.mint.name ≡ n.mint.name) (ko : NodeKept o.node) (ro : AllRouted o.node.sides o.sent)
-    (lists : (t : TrunkId) (y : Name) → (y ≡ x → ⊥) → list_to m' t y ≡ list_to w.lists t y ++ at_place t y o.sent)
+    (sd : o.node.sides ≡ n.sides) (nm : o.node.mint.name ≡ n.mint.name) (ko : NodeKept o.node) (ro : AllRouted o.node.sides (outgoing o))
+    (lists : (t : TrunkId) (y : Name) → (y ≡ x → ⊥) → list_to m' t y ≡ list_to w.lists t y ++ at_place t y (outgoing o))
     (mover : (t : TrunkId) (s : TrunkSide) → side_at n t ≡ Some s → joined s.state ≡ true → (b : Node) (p q : Pid) → p.node ≡ x → q.node ≡ s.peer
     → Kept (side_of n p q (news p q (list_to w.lists t s.peer))) (side_of b q p (news q p (list_to w.lists t x)))
     → Kept (side_of o.node p q (news p q (list_to m' t s.peer))) (side_of b q p (news q p (list_to m' t x))))
@@ -97,8 +98,8 @@ module _ (w : World) (x : Name) (n : Node) (o : Work) (m' : FinMap place_cmp (Li
       (λ e. met_still t y (k.met y a t s (sym (there y e) ∙ h) f d))
 
   -- x sends nothing on a trunk of two others
-  not_between : (y z : Name) (b : Node) (t : TrunkId) (v : TrunkSide) → node_of w.nodes y ≡ Some b → side_at b t ≡ Some v → v.peer ≡ z → (x ≡ y → ⊥) → (x ≡ z → ⊥) → at_place t y o.sent ≡ []
-  not_between y z b t v hb f vz dy dz = at_place_none o.node.sides o.sent t y ro (λ r.
+  not_between : (y z : Name) (b : Node) (t : TrunkId) (v : TrunkSide) → node_of w.nodes y ≡ Some b → side_at b t ≡ Some v → v.peer ≡ z → (x ≡ y → ⊥) → (x ≡ z → ⊥) → at_place t y (outgoing o) ≡ []
+  not_between y z b t v hb f vz dy dz = at_place_none o.node.sides (outgoing o) t y ro (λ r.
       let u = route_from n y t (ap (λ l. route_in (fm.entries l) y) (sym sd) ∙ r) in
       by_test ⊥ (same_name t.dialer y)
       (λ e.

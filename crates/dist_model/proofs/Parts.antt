@@ -7,19 +7,22 @@ use Rattle.std.specs.FinMap as fm
 use Rattle.dist_model.proofs.Calls.{IfGoes, if_cond, if_drawn, if_not}
 use Rattle.dist_model.proofs.Keys.{and_both, same_pid_true}
 use Rattle.dist_model.specs.Calls.{acting, call, spawn_life, toward, trapping, without_first}
-use Rattle.dist_model.specs.Commands.{Command, EndLink, EndMonitor, ExitSelf, ExitTo, IsAlive, LinksOf, MakeLink, MakeMonitor, Outcome, Receive, Send, Spawn, Trap}
+use Rattle.dist_model.specs.Commands.{Outcome}
+use Rattle.dist_model.specs.declared.command.Command.{Command}
 use Rattle.dist_model.specs.Downs.{down_in}
 use Rattle.dist_model.specs.Exits.{carry_out, finish, link_exit, linked_exit, sent_exit}
 use Rattle.dist_model.specs.Fits.{fits}
 use Rattle.dist_model.specs.Items.{Handshake, Item, Signalled, Tick}
 use Rattle.dist_model.specs.Linking.{exit_follows, link_by, link_new, take_link, take_link_by, unlink_by}
 use Rattle.dist_model.specs.Links.{Exits, LinkNews, Says, heard, noconnection, noproc, reply}
-use Rattle.dist_model.specs.Losses.{registered_by, sweep_end, sweep_link, sweep_registered, sweep_watch, watch_to}
+use Rattle.dist_model.proofs.Records.{sweep_link, sweep_registered, sweep_watch}
+use Rattle.dist_model.specs.Losses.{registered_by, sweep_end, watch_to}
 use Rattle.dist_model.specs.Monitoring.{register, unregister, unwatch}
 use Rattle.dist_model.specs.Names.{Name, same_name, same_pid}
 use Rattle.dist_model.specs.Node.{Life, Living, Node, end_of, is_living_life, living, never, reaches, traps_life}
 use Rattle.dist_model.specs.Taking.{take_item}
-use Rattle.dist_model.specs.Work.{LinkExit, Work, at_work, draw, post, post_all, put, report, set_end, set_life}
+use Rattle.dist_model.specs.Work.{Work, at_work, draw, post, post_all, put, report, set_end, set_life}
+use Rattle.dist_model.specs.declared.report.Effect.{Effect}
 use Rattle.erl_control.specs.declared.signal.Signal.{Signal}
 use Rattle.erl_names.specs.Ids.{pid_of}
 use Rattle.erl_names.specs.Minted.{id_of}
@@ -63,7 +66,7 @@ pub record Closed (rules : Rules) (X : Work → Type 0) : Type 0 where
   pub drew : (o : Work) → X o → X (draw kind.UnlinkId o)
   pub life_set : (p : Pid) (l : Option Life) (o : Work) → is_living_life l ≡ living o.node p → X o → X (record o { node = record (o.node) { lives = set_life o.node.lives p l } })
   pub message : (p : Pid) (m : Data) (o : Work) → ((r : Reference) → down_in r p m ≡ []) → X o → X (put p m o)
-  pub reacted : (p q : Pid) (x : Data) (o : Work) → rules.Reacts p q x → X o → X (report (LinkExit p q x) o)
+  pub reacted : (p q : Pid) (x : Data) (o : Work) → rules.Reacts p q x → X o → X (report (Effect.LinkExit p q x) o)
   pub finished : (p : Pid) (x : Data) (o : Work) → X o → X (finish p x o)
   pub registers : (r : Reference) (m : Monitor) (o : Work) → living o.node m.target ≡ true → rules.Joins r m → X o → X (register r m o)
   pub unregisters : (r : Reference) (m : Monitor) (o : Work) → fm.get o.node.registered r ≡ Some m → rules.Drops r m → X o → X (unregister r o)
@@ -108,7 +111,7 @@ module _ (rules : Rules) (X : Work → Type 0) (c : Closed rules X) where
   exit_kept trap s p o k = reaction_kept (s.link && not s.is_active) (not s.link && is_atom (codes "kill") s.reason) trap (is_atom (codes "normal") s.reason && not s.is_own) s.sender s.reason p o k
 
   link_exit_kept : (p q : Pid) (x : Data) (o : Work) → rules.Reacts p q x → X o → X (link_exit p q x o)
-  link_exit_kept p q x o h k = exit_kept (traps_life (fm.get o.node.lives p)) (linked_exit p q x) p (report (LinkExit p q x) o) (c.reacted p q x o h k)
+  link_exit_kept p q x o h k = exit_kept (traps_life (fm.get o.node.lives p)) (linked_exit p q x) p (report (Effect.LinkExit p q x) o) (c.reacted p q x o h k)
 
   -- a word of a link is heard
   follows_kept : (e : End) (s : LinkNews) (p q : Pid) (o : Work) → ((x : Data) → s ≡ Exits x → e ≡ End.Active → rules.Reacts p q x) → X o → X (exit_follows e s p q o)
@@ -175,7 +178,7 @@ module _ (rules : Rules) (X : Work → Type 0) (c : Closed rules X) where
   unlink_by_kept (End.Pending i) p q o k = k
 
   abbrev pub Apart : Command → Type 0
-  Apart d = ((p q : Pid) → d ≡ MakeMonitor p q → ⊥) × ((p : Pid) (r : Reference) → d ≡ EndMonitor p r → ⊥)
+  Apart d = ((p q : Pid) → d ≡ Command.Monitor p q → ⊥) × ((p : Pid) (r : Reference) → d ≡ Command.Demonitor p r → ⊥)
 
   module _ (n : Node) (k : X (at_work n)) where
     acts_kept : (p q : Pid) (o : Outcome) → (living n p ≡ true → IfGoes o X) → IfGoes (acting n p (toward n q o)) X
@@ -192,20 +195,20 @@ module _ (rules : Rules) (X : Work → Type 0) (c : Closed rules X) where
     living_received (Some (Living t (m ∷ ms))) = refl
     living_received (Some (Rattle.dist_model.specs.Node.Ended r)) = refl
 
-    pub call_kept : (d : Command) → Apart d → ((id : ℕ) → d ≡ Spawn → id_of n.mint kind.Pid ≡ Some id → X (spawn_life n (pid_of n.mint id)))
-        → ((p q : Pid) → d ≡ MakeLink p q → living n p ≡ true → reaches n q.node ≡ false → rules.Reacts p q noconnection) → IfGoes (call n d) X
-    call_kept Spawn a s own = if_drawn (id_of n.mint kind.Pid) _ X (λ id h. s id refl h)
-    call_kept (Send p q m) a s own = acts_kept p q _ (λ l. if_cond (fits m) _ Refusal.TooLong X (λ f. c.posted (Signal.Send q m) (at_work n) (c.plain (Signal.Send q m) refl) k))
-    call_kept (MakeLink p q) a s own = acts_kept p q _ (λ l. cond_kept (same_pid p q) (at_work n) _ (λ e. k) (λ e. link_by_kept (end_of n p q) p q (at_work n) (own p q refl l) k))
-    call_kept (EndLink p q) a s own = acts_kept p q _ (λ l. unlink_by_kept (end_of n p q) p q (at_work n) k)
-    call_kept (MakeMonitor p q) a s own = absurd (a.0 p q refl)
-    call_kept (EndMonitor p r) a s own = absurd (a.1 p r refl)
-    call_kept (Trap p b) a s own = if_cond (living n p) _ Refusal.NoSuchProcess X (λ l. c.life_set p (trapping (fm.get n.lives p) b) (at_work n) (living_trapped (fm.get n.lives p) b) k)
-    call_kept (ExitTo p q x) a s own = acts_kept p q _ (λ l. if_cond (fits x) _ Refusal.TooLong X (λ f. c.posted (Signal.Exit2 p q x) (at_work n) (c.plain (Signal.Exit2 p q x) refl) k))
-    call_kept (ExitSelf p x) a s own = if_cond (living n p) _ Refusal.NoSuchProcess X (λ l. if_cond (fits x) _ Refusal.TooLong X (λ f. c.finished p x (at_work n) k))
-    call_kept (Receive p) a s own = if_cond (living n p) _ Refusal.NoSuchProcess X (λ l. c.life_set p (without_first (fm.get n.lives p)) (at_work n) (living_received (fm.get n.lives p)) k)
-    call_kept (LinksOf p) a s own = if_cond (living n p) _ Refusal.NoSuchProcess X (λ l. k)
-    call_kept (IsAlive p) a s own = k
+    pub call_kept : (d : Command) → Apart d → ((id : ℕ) → d ≡ Command.Spawn → id_of n.mint kind.Pid ≡ Some id → X (spawn_life n (pid_of n.mint id)))
+        → ((p q : Pid) → d ≡ Command.Link p q → living n p ≡ true → reaches n q.node ≡ false → rules.Reacts p q noconnection) → IfGoes (call n d) X
+    call_kept Command.Spawn a s own = if_drawn (id_of n.mint kind.Pid) _ X (λ id h. s id refl h)
+    call_kept (Command.Send p q m) a s own = acts_kept p q _ (λ l. if_cond (fits m) _ Refusal.TooLong X (λ f. c.posted (Signal.Send q m) (at_work n) (c.plain (Signal.Send q m) refl) k))
+    call_kept (Command.Link p q) a s own = acts_kept p q _ (λ l. cond_kept (same_pid p q) (at_work n) _ (λ e. k) (λ e. link_by_kept (end_of n p q) p q (at_work n) (own p q refl l) k))
+    call_kept (Command.Unlink p q) a s own = acts_kept p q _ (λ l. unlink_by_kept (end_of n p q) p q (at_work n) k)
+    call_kept (Command.Monitor p q) a s own = absurd (a.0 p q refl)
+    call_kept (Command.Demonitor p r) a s own = absurd (a.1 p r refl)
+    call_kept (Command.Trap p b) a s own = if_cond (living n p) _ Refusal.NoSuchProcess X (λ l. c.life_set p (trapping (fm.get n.lives p) b) (at_work n) (living_trapped (fm.get n.lives p) b) k)
+    call_kept (Command.ExitTo p q x) a s own = acts_kept p q _ (λ l. if_cond (fits x) _ Refusal.TooLong X (λ f. c.posted (Signal.Exit2 p q x) (at_work n) (c.plain (Signal.Exit2 p q x) refl) k))
+    call_kept (Command.ExitSelf p x) a s own = if_cond (living n p) _ Refusal.NoSuchProcess X (λ l. if_cond (fits x) _ Refusal.TooLong X (λ f. c.finished p x (at_work n) k))
+    call_kept (Command.Receive p) a s own = if_cond (living n p) _ Refusal.NoSuchProcess X (λ l. c.life_set p (without_first (fm.get n.lives p)) (at_work n) (living_received (fm.get n.lives p)) k)
+    call_kept (Command.LinksOf p) a s own = if_cond (living n p) _ Refusal.NoSuchProcess X (λ l. k)
+    call_kept (Command.IsAlive p) a s own = k
 
   -- a sweep of records towards y
   end_swept : (e : End) (p q : Pid) (o : Work) → (e ≡ End.Active → rules.Reacts p q noconnection) → X o → X (sweep_end e p q o)

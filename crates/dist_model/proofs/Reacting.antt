@@ -7,22 +7,25 @@ use Rattle.std.proofs.Common.{nat_lt, ◌+◌, ◌≡◌, ℕ, Bool, true, false
 use Rattle.std.specs.Prelude.{◌^◌}
 use Rattle.std.specs.Option.{is_some}
 use Rattle.std.specs.FinMap as fm
+use Rattle.dist_model.specs.NodeEvents.{if_up}
+use Rattle.dist_model.proofs.Stepping.{arrives, while_up}
 use Rattle.dist_model.proofs.Calls.{IfGoes}
 use Rattle.dist_model.proofs.Home.{never_own}
 use Rattle.dist_model.proofs.Keys.{and_both, same_name_true, same_pid_refl, same_pid_true}
 use Rattle.dist_model.proofs.Moves.{NodeKept}
 use Rattle.dist_model.proofs.Pair.{later}
 use Rattle.dist_model.proofs.Routes.{node_of_name}
-use Rattle.dist_model.proofs.Rules.{awaits_ack, awaits_challenge, awaits_name, awaits_reply, awaits_status, awaits_true, greet, greet_dialing, greet_up, greet_waiting, handshake_as, handshake_by, name_as}
+use Rattle.dist_model.proofs.Rules.{accepts, awaits_ack, awaits_challenge, awaits_name, awaits_reply, awaits_status, awaits_true, greet, greet_dialing, greet_up, greet_waiting, handshake_as, handshake_by, name_as}
 use Rattle.dist_model.proofs.Seeing.{close_if, end_at, end_in, reached_at, replies}
 use Rattle.dist_model.proofs.Sweeping.{link_found}
 use Rattle.dist_model.proofs.Table.{Good}
 use Rattle.dist_model.specs.Admission.{give_up, hears_name}
-use Rattle.dist_model.specs.Arrivals.{arrive, arrive_at, arrive_fresh, handshake_in, is_good, signal_at, take_local}
+use Rattle.dist_model.specs.Arrivals.{arrive_at, arrive_fresh, handshake_in, is_good, signal_at, take_local}
 use Rattle.dist_model.specs.Calls.{acting, call, toward}
 use Rattle.dist_model.specs.Causes.{Reacts}
 use Rattle.dist_model.specs.Claims.{ReactsOnlyWhereLinked}
-use Rattle.dist_model.specs.Commands.{Command, EndLink, EndMonitor, ExitSelf, ExitTo, Goes, IsAlive, LinksOf, MakeLink, MakeMonitor, Outcome, Receive, Refuses, Send, Spawn, Trap, with_id}
+use Rattle.dist_model.specs.Commands.{Accepts, Outcome, Refuses, with_id}
+use Rattle.dist_model.specs.declared.command.Command.{Command}
 use Rattle.dist_model.specs.Dialing.{dial, has_name}
 use Rattle.dist_model.specs.Exits.{carry_out, demonitors, exits, finish, link_exit, linked_exit, monitor_exits, sent_exit}
 use Rattle.dist_model.specs.Fits.{fits}
@@ -31,15 +34,17 @@ use Rattle.dist_model.specs.Incarnations.{start, stop}
 use Rattle.dist_model.specs.Items.{Handshake, Item, Signalled, Tick, receiver_of, telling}
 use Rattle.dist_model.specs.Linking.{exit_follows, link_by, link_new, take_link, take_link_by, unlink_by}
 use Rattle.dist_model.specs.Links.{Exits, LinkNews, Says, heard, noconnection, noproc, reply}
-use Rattle.dist_model.specs.Losses.{any_side, has_records, link_to, lose, lose_at, parked_by, parked_goes, registered_by, sweep, sweep_by, sweep_end, sweep_link, sweep_registered, sweep_watch, swept, watch_to}
+use Rattle.dist_model.proofs.Records.{has_records, least_as, sweep_link, sweep_registered, sweep_watch}
+use Rattle.dist_model.specs.Losses.{any_side, link_to, lose, lose_at, parked_by, parked_goes, registered_by, sweep, sweep_by, sweep_end, swept, watch_to}
 use Rattle.dist_model.specs.Monitoring.{demonitor_by, register, unregister, unwatch, watch}
 use Rattle.dist_model.specs.Names.{Name, place_cmp, same_name, same_pid}
 use Rattle.dist_model.specs.Node.{Node, end_of, living, never, reaches, route, side_where, traps_life}
 use Rattle.dist_model.specs.Seen.{end_between}
-use Rattle.dist_model.specs.Sides.{Accepting, Asked, AwaitsAck, AwaitsChallenge, AwaitsStatus, Gone, Losing, Parked, State, TrunkSide, Up, is_dialing, is_gone, is_losing, is_parked, is_up, is_waiting}
+use Rattle.dist_model.specs.Sides.{Accepting, Asked, AwaitsAck, AwaitsChallenge, AwaitsStatus, Gone, Losing, Parked, State, TrunkSide, Up, is_dialing, is_gone, is_losing, is_parked, is_up, is_waiting, is_over}
 use Rattle.dist_model.specs.Taking.{take_item}
-use Rattle.dist_model.specs.Work.{Effect, EndedBy, LinkExit, Put, Sent, Work, at_work, draw, keep_local, post, post_all, post_to, put, report, send_on, set_end}
-use Rattle.dist_model.specs.World.{Arrive, Call, Dial, Event, Local, Lose, Refused, Report, Reported, Start, Stepped, Stop, Sweep, World, arrives, arrives_first, ends_in, is_over, list_to, node_name, node_of, refused, running, step, step_at}
+use Rattle.dist_model.specs.Work.{Work, at_work, draw, keep_local, post, post_all, post_to, put, report, send_on, set_end}
+use Rattle.dist_model.specs.declared.report.Effect.{Effect}
+use Rattle.dist_model.specs.World.{Arrive, Call, Dial, Event, Local, Lose, Refused, Report, Reported, Start, Stepped, Stop, Sweep, World, came_of, list_to, node_name, node_of, step, step_at}
 use Rattle.erl_control.specs.declared.signal.Signal.{Signal}
 use Rattle.erl_handshake.specs.Flags.{has_all_of, mandatory}
 use Rattle.erl_handshake.specs.Roles.{is_answered, is_same}
@@ -63,13 +68,13 @@ use Rattle.monitor_core.specs.declared.monitor.Monitor.{Monitor}
 use Rattle.std.specs.FinMap.{FinMap}
 
 -- p reacted to the exit of its link with q
-abbrev pub is_reaction : Pid → Pid → Effect → Bool
-is_reaction p q (Put a m) = false
-is_reaction p q (EndedBy a r) = false
-is_reaction p q (LinkExit a b r) = same_pid a p && same_pid b q
-is_reaction p q (Sent y x) = false
+abbrev pub is_reaction : Pid → Pid → Effect Item → Bool
+is_reaction p q (Effect.Put a m) = false
+is_reaction p q (Effect.Ended a r) = false
+is_reaction p q (Effect.LinkExit a b r) = same_pid a p && same_pid b q
+is_reaction p q (Effect.Sent t y x) = false
 
-abbrev pub reacts_in : Pid → Pid → List Effect → Bool
+abbrev pub reacts_in : Pid → Pid → List (Effect Item) → Bool
 reacts_in p q [] = false
 reacts_in p q (f ∷ fs) = is_reaction p q f || reacts_in p q fs
 
@@ -85,19 +90,19 @@ or_second : (a b : Bool) → b ≡ true → (a || b) ≡ true
 or_second true b h = refl
 or_second false b h = h
 
-is_this : (p q : Pid) (r : Data) (f : Effect) → f ≡ LinkExit p q r → is_reaction p q f ≡ true
+is_this : (p q : Pid) (r : Data) (f : Effect Item) → f ≡ Effect.LinkExit p q r → is_reaction p q f ≡ true
 is_this p q r f h = ap (is_reaction p q) h ∙ ap (λ b. b && same_pid q q) (same_pid_refl p) ∙ same_pid_refl q
 
-told_in : (p q : Pid) (r : Data) (fs : List Effect) → Contains fs (LinkExit p q r) → reacts_in p q fs ≡ true
+told_in : (p q : Pid) (r : Data) (fs : List (Effect Item)) → Contains fs (Effect.LinkExit p q r) → reacts_in p q fs ≡ true
 told_in p q r [] h = let lt = h.1 in absurd (omega arith)
-told_in p q r (f ∷ fs) h = pick (told_in p q r fs) (Contains-append_cases (f ∷ []) fs (LinkExit p q r) h)
+told_in p q r (f ∷ fs) h = pick (told_in p q r fs) (Contains-append_cases (f ∷ []) fs (Effect.LinkExit p q r) h)
   where
-    one : Contains [] (LinkExit p q r) ⊎ (f ≡ LinkExit p q r) → reacts_in p q (f ∷ fs) ≡ true
+    one : Contains {X = Effect Item} [] (Effect.LinkExit p q r) ⊎ (◌≡◌ {A = Effect Item} f (Effect.LinkExit p q r)) → reacts_in p q (f ∷ fs) ≡ true
     one (inl e) = let lt = e.1 in absurd (omega arith)
     one (inr e) = or_first (is_reaction p q f) (reacts_in p q fs) (is_this p q r f e)
 
-    pick : (Contains fs (LinkExit p q r) → reacts_in p q fs ≡ true) → Contains (f ∷ []) (LinkExit p q r) ⊎ Contains fs (LinkExit p q r) → reacts_in p q (f ∷ fs) ≡ true
-    pick later (inl e) = one (Contains-push_cases [] f (LinkExit p q r) e)
+    pick : (Contains fs (Effect.LinkExit p q r) → reacts_in p q fs ≡ true) → Contains {X = Effect Item} (f ∷ []) (Effect.LinkExit p q r) ⊎ Contains fs (Effect.LinkExit p q r) → reacts_in p q (f ∷ fs) ≡ true
+    pick later (inl e) = one (Contains-push_cases [] f (Effect.LinkExit p q r) e)
     pick later (inr e) = or_second (is_reaction p q f) (reacts_in p q fs) (later e)
 
 told : (p q : Pid) (r : Data) (a : Report) → Reacts p q r a → reacts p q a ≡ true
@@ -105,7 +110,7 @@ told p q r (Refused k) h = absurd h
 told p q r (Reported a fs) h = told_in p q r fs h
 
 -- what is added last
-added : (p q : Pid) (fs : List Effect) (f : Effect) → reacts_in p q (fs ++ f ∷ []) ≡ true → (reacts_in p q fs ≡ true) ⊎ (is_reaction p q f ≡ true)
+added : (p q : Pid) (fs : List (Effect Item)) (f : Effect Item) → reacts_in p q (fs ++ f ∷ []) ≡ true → (reacts_in p q fs ≡ true) ⊎ (is_reaction p q f ≡ true)
 added p q [] f h = inr (last (is_reaction p q f) h)
   where
     last : (b : Bool) → (b || false) ≡ true → b ≡ true
@@ -120,7 +125,7 @@ added p q (g ∷ fs) f h = go (is_reaction p q g) h (added p q fs f)
 abbrev pub Calm : Work → Work → Type 0
 Calm o o' = (p q : Pid) → reacts_in p q o'.effects ≡ true → reacts_in p q o.effects ≡ true
 
-calm_last : (fs : List Effect) (f : Effect) → ((p q : Pid) → is_reaction p q f ≡ false) → (p q : Pid) → reacts_in p q (fs ++ f ∷ []) ≡ true → reacts_in p q fs ≡ true
+calm_last : (fs : List (Effect Item)) (f : Effect Item) → ((p q : Pid) → is_reaction p q f ≡ false) → (p q : Pid) → reacts_in p q (fs ++ f ∷ []) ≡ true → reacts_in p q fs ≡ true
 calm_last fs f n p q h = pick (added p q fs f h)
   where
     pick : (reacts_in p q fs ≡ true) ⊎ (is_reaction p q f ≡ true) → reacts_in p q fs ≡ true
@@ -129,13 +134,13 @@ calm_last fs f n p q h = pick (added p q fs f h)
 
 calm_send : (r : Option TrunkId) (y : Name) (x : Item) (o : Work) → Calm o (send_on r y x o)
 calm_send None y x o p q h = h
-calm_send (Some t) y x o p q h = calm_last o.effects (Sent y x) (λ a b. refl) p q h
+calm_send (Some t) y x o p q h = calm_last o.effects (Effect.Sent (Some t) y x) (λ a b. refl) p q h
 
 pub calm_post : (y : Name) (x : Item) (o : Work) → Calm o (post_to y x o)
 calm_post y x o p q h = go (same_name y o.node.mint.name) h
   where
     go : (b : Bool) → reacts_in p q ((cond b (keep_local x o) (send_on (route o.node y) y x o)).effects) ≡ true → reacts_in p q o.effects ≡ true
-    go true h = calm_last o.effects (Sent o.node.mint.name x) (λ a b. refl) p q h
+    go true h = calm_last o.effects (Effect.Sent None o.node.mint.name x) (λ a b. refl) p q h
     go false h = calm_send (route o.node y) y x o p q h
 
 calm_post_all : (es : List Signal) (o : Work) → Calm o (post_all es o)
@@ -143,12 +148,12 @@ calm_post_all [] o p q h = h
 calm_post_all (e ∷ es) o p q h = calm_post (receiver_of e).node (Signalled e) o p q (calm_post_all es (post e o) p q h)
 
 pub calm_put : (x : Pid) (t : Data) (o : Work) → Calm o (put x t o)
-calm_put x t o p q h = calm_last o.effects (Put x t) (λ a b. refl) p q h
+calm_put x t o p q h = calm_last o.effects (Effect.Put x t) (λ a b. refl) p q h
 
 pub calm_finish : (x : Pid) (r : Data) (o : Work) → Calm o (finish x r o)
 calm_finish x r o p q h =
     let es = exits x r (fm.entries o.node.ends) ++ monitor_exits x r (fm.entries o.node.registered) ++ demonitors x (fm.entries o.node.watches) in
-    calm_post_all es o p q (calm_last ((post_all es o).effects) (EndedBy x r) (λ a b. refl) p q h)
+    calm_post_all es o p q (calm_last ((post_all es o).effects) (Effect.Ended x r) (λ a b. refl) p q h)
 
 calm_carry : (f : Reaction) (x : Pid) (o : Work) → Calm o (carry_out f x o)
 calm_carry Reaction.Ignore x o p q h = h
@@ -157,7 +162,7 @@ calm_carry (Reaction.End r) x o p q h = calm_finish x r o p q h
 
 -- a link's exit is of the two that it names
 pub exit_of : (a b : Pid) (r : Data) (o : Work) (p q : Pid) → reacts_in p q ((link_exit a b r o).effects) ≡ true → (reacts_in p q o.effects ≡ true) ⊎ ((a ≡ p) × (b ≡ q))
-exit_of a b r o p q h = pick (added p q o.effects (LinkExit a b r) (calm_carry (reaction (traps_life (fm.get o.node.lives a)) (linked_exit a b r)) a (report (LinkExit a b r) o) p q h))
+exit_of a b r o p q h = pick (added p q o.effects (Effect.LinkExit a b r) (calm_carry (reaction (traps_life (fm.get o.node.lives a)) (linked_exit a b r)) a (report (Effect.LinkExit a b r) o) p q h))
   where
     pick : (reacts_in p q o.effects ≡ true) ⊎ ((same_pid a p && same_pid b q) ≡ true) → (reacts_in p q o.effects ≡ true) ⊎ ((a ≡ p) × (b ≡ q))
     pick (inl e) = inl e
@@ -230,54 +235,54 @@ on_not true k j P h = tt
 on_not false k j P h = h
 
 abbrev pub OwnLink : Node → Command → Work → Type 0
-OwnLink n c o = (p q : Pid) → reacts_in p q o.effects ≡ true → (c ≡ MakeLink p q) × (living n p ≡ true) × (reaches n q.node ≡ false)
+OwnLink n c o = (p q : Pid) → reacts_in p q o.effects ≡ true → (c ≡ Command.Link p q) × (living n p ≡ true) × (reaches n q.node ≡ false)
 
 module _ (n : Node) where
   acts_on : (c : Command) (p q : Pid) (k : Outcome) → (living n p ≡ true → IfGoes k (OwnLink n c)) → IfGoes (acting n p (toward n q k)) (OwnLink n c)
   acts_on c p q k h = on_cond (living n p) (toward n q k) Refusal.NoSuchProcess (OwnLink n c) (λ l. on_not (same_name q.node n.mint.name && never n q) k Refusal.Forged (OwnLink n c) (h l))
 
-  links_new : (a b : Pid) (o : Work) → o.effects ≡ [] → (t : Bool) → reaches n b.node ≡ t → living n a ≡ true → OwnLink n (MakeLink a b) (link_new t a b o)
+  links_new : (a b : Pid) (o : Work) → o.effects ≡ [] → (t : Bool) → reaches n b.node ≡ t → living n a ≡ true → OwnLink n (Command.Link a b) (link_new t a b o)
   links_new a b o e true r l p q h = nothing (sym (ap (reacts_in p q) e) ∙ calm_post b.node (Signalled (telling a b (Says LinkSignal.Link))) (set_end a b End.Active o) p q h)
   links_new a b o e false r l p q h = pick (exit_of a b noconnection (set_end a b End.None o) p q h)
     where
-      pick : (reacts_in p q o.effects ≡ true) ⊎ ((a ≡ p) × (b ≡ q)) → (MakeLink a b ≡ MakeLink p q) × (living n p ≡ true) × (reaches n q.node ≡ false)
+      pick : (reacts_in p q o.effects ≡ true) ⊎ ((a ≡ p) × (b ≡ q)) → (Command.Link a b ≡ Command.Link p q) × (living n p ≡ true) × (reaches n q.node ≡ false)
       pick (inl i) = nothing (sym (ap (reacts_in p q) e) ∙ i)
-      pick (inr i) = ((λ j. MakeLink (i.0 j) (i.1 j)), subst (λ z. living n z ≡ true) i.0 l, subst (λ (z : Pid). reaches n z.node ≡ false) i.1 r)
+      pick (inr i) = ((λ j. Command.Link (i.0 j) (i.1 j)), subst (λ z. living n z ≡ true) i.0 l, subst (λ (z : Pid). reaches n z.node ≡ false) i.1 r)
 
-  links_on : (e : End) (a b : Pid) → living n a ≡ true → OwnLink n (MakeLink a b) (link_by e a b (at_work n))
+  links_on : (e : End) (a b : Pid) → living n a ≡ true → OwnLink n (Command.Link a b) (link_by e a b (at_work n))
   links_on End.None a b l = links_new a b (at_work n) refl (reaches n b.node) refl l
   links_on End.Active a b l = λ p q h. nothing h
   links_on (End.Pending i) a b l = links_new a b (at_work n) refl (reaches n b.node) refl l
 
-  link_cond : (t : Bool) (a b : Pid) → living n a ≡ true → OwnLink n (MakeLink a b) (cond t (at_work n) (link_by (end_of n a b) a b (at_work n)))
+  link_cond : (t : Bool) (a b : Pid) → living n a ≡ true → OwnLink n (Command.Link a b) (cond t (at_work n) (link_by (end_of n a b) a b (at_work n)))
   link_cond true a b l = λ p q h. nothing h
   link_cond false a b l = links_on (end_of n a b) a b l
 
-  unlinks_on : (e : End) (a b : Pid) → IfGoes (unlink_by e a b (at_work n)) (OwnLink n (EndLink a b))
+  unlinks_on : (e : End) (a b : Pid) → IfGoes (unlink_by e a b (at_work n)) (OwnLink n (Command.Unlink a b))
   unlinks_on End.None a b = λ p q h. nothing h
-  unlinks_on End.Active a b = on_drawn (id_of n.mint kind.UnlinkId) _ (OwnLink n (EndLink a b)) (λ id p q h. nothing (calm_post b.node (Signalled (Signal.UnlinkId id a b)) (set_end a b (End.Pending id) (draw kind.UnlinkId (at_work n))) p q h))
+  unlinks_on End.Active a b = on_drawn (id_of n.mint kind.UnlinkId) _ (OwnLink n (Command.Unlink a b)) (λ id p q h. nothing (calm_post b.node (Signalled (Signal.UnlinkId id a b)) (set_end a b (End.Pending id) (draw kind.UnlinkId (at_work n))) p q h))
   unlinks_on (End.Pending i) a b = λ p q h. nothing h
 
-  demonitors_on : (v : Option Monitor) (a : Pid) (k : Reference) → IfGoes (demonitor_by v a k (at_work n)) (OwnLink n (EndMonitor a k))
+  demonitors_on : (v : Option Monitor) (a : Pid) (k : Reference) → IfGoes (demonitor_by v a k (at_work n)) (OwnLink n (Command.Demonitor a k))
   demonitors_on None a k = tt
-  demonitors_on (Some v) a k = on_cond (same_pid v.owner a) _ Refusal.NotTheOwner (OwnLink n (EndMonitor a k)) (λ i p q h. nothing (calm_post v.target.node (Signalled (Signal.Demonitor a v.target k)) (unwatch k (at_work n)) p q h))
+  demonitors_on (Some v) a k = on_cond (same_pid v.owner a) _ Refusal.NotTheOwner (OwnLink n (Command.Demonitor a k)) (λ i p q h. nothing (calm_post v.target.node (Signalled (Signal.Demonitor a v.target k)) (unwatch k (at_work n)) p q h))
 
   pub called : (c : Command) → IfGoes (call n c) (OwnLink n c)
-  called Spawn = on_drawn (id_of n.mint kind.Pid) _ (OwnLink n Spawn) (λ id p q h. nothing h)
-  called (Send a b t) = acts_on (Send a b t) a b _ (λ l. on_cond (fits t) _ Refusal.TooLong (OwnLink n (Send a b t)) (λ i p q h. nothing (calm_post b.node (Signalled (Signal.Send b t)) (at_work n) p q h)))
-  called (MakeLink a b) = acts_on (MakeLink a b) a b _ (λ l. link_cond (same_pid a b) a b l)
-  called (EndLink a b) = acts_on (EndLink a b) a b _ (λ l. unlinks_on (end_of n a b) a b)
-  called (MakeMonitor a b) = acts_on (MakeMonitor a b) a b _ (λ l. on_drawn (id_of n.mint kind.Reference) _ (OwnLink n (MakeMonitor a b))
+  called Command.Spawn = on_drawn (id_of n.mint kind.Pid) _ (OwnLink n Command.Spawn) (λ id p q h. nothing h)
+  called (Command.Send a b t) = acts_on (Command.Send a b t) a b _ (λ l. on_cond (fits t) _ Refusal.TooLong (OwnLink n (Command.Send a b t)) (λ i p q h. nothing (calm_post b.node (Signalled (Signal.Send b t)) (at_work n) p q h)))
+  called (Command.Link a b) = acts_on (Command.Link a b) a b _ (λ l. link_cond (same_pid a b) a b l)
+  called (Command.Unlink a b) = acts_on (Command.Unlink a b) a b _ (λ l. unlinks_on (end_of n a b) a b)
+  called (Command.Monitor a b) = acts_on (Command.Monitor a b) a b _ (λ l. on_drawn (id_of n.mint kind.Reference) _ (OwnLink n (Command.Monitor a b))
       (λ count p q h. nothing (calm_cond (reaches n b.node) (at_work n) _ _
       (calm_post b.node (Signalled (Signal.Monitor a b (reference_of n.mint count))) (watch (reference_of n.mint count) (monitor_of a b) (draw kind.Reference (at_work n))))
       (calm_put a (down_term (reference_of n.mint count) b noconnection) (draw kind.Reference (at_work n))) p q h)))
-  called (EndMonitor a k) = on_cond (living n a) _ Refusal.NoSuchProcess (OwnLink n (EndMonitor a k)) (λ l. demonitors_on (fm.get n.watches k) a k)
-  called (Trap a b) = on_cond (living n a) _ Refusal.NoSuchProcess (OwnLink n (Trap a b)) (λ l p q h. nothing h)
-  called (ExitTo a b r) = acts_on (ExitTo a b r) a b _ (λ l. on_cond (fits r) _ Refusal.TooLong (OwnLink n (ExitTo a b r)) (λ i p q h. nothing (calm_post b.node (Signalled (Signal.Exit2 a b r)) (at_work n) p q h)))
-  called (ExitSelf a r) = on_cond (living n a) _ Refusal.NoSuchProcess (OwnLink n (ExitSelf a r)) (λ l. on_cond (fits r) _ Refusal.TooLong (OwnLink n (ExitSelf a r)) (λ i p q h. nothing (calm_finish a r (at_work n) p q h)))
-  called (Receive a) = on_cond (living n a) _ Refusal.NoSuchProcess (OwnLink n (Receive a)) (λ l p q h. nothing h)
-  called (LinksOf a) = on_cond (living n a) _ Refusal.NoSuchProcess (OwnLink n (LinksOf a)) (λ l p q h. nothing h)
-  called (IsAlive a) = λ p q h. nothing h
+  called (Command.Demonitor a k) = on_cond (living n a) _ Refusal.NoSuchProcess (OwnLink n (Command.Demonitor a k)) (λ l. demonitors_on (fm.get n.watches k) a k)
+  called (Command.Trap a b) = on_cond (living n a) _ Refusal.NoSuchProcess (OwnLink n (Command.Trap a b)) (λ l p q h. nothing h)
+  called (Command.ExitTo a b r) = acts_on (Command.ExitTo a b r) a b _ (λ l. on_cond (fits r) _ Refusal.TooLong (OwnLink n (Command.ExitTo a b r)) (λ i p q h. nothing (calm_post b.node (Signalled (Signal.Exit2 a b r)) (at_work n) p q h)))
+  called (Command.ExitSelf a r) = on_cond (living n a) _ Refusal.NoSuchProcess (OwnLink n (Command.ExitSelf a r)) (λ l. on_cond (fits r) _ Refusal.TooLong (OwnLink n (Command.ExitSelf a r)) (λ i p q h. nothing (calm_finish a r (at_work n) p q h)))
+  called (Command.Receive a) = on_cond (living n a) _ Refusal.NoSuchProcess (OwnLink n (Command.Receive a)) (λ l p q h. nothing h)
+  called (Command.LinksOf a) = on_cond (living n a) _ Refusal.NoSuchProcess (OwnLink n (Command.LinksOf a)) (λ l p q h. nothing h)
+  called (Command.IsAlive a) = λ p q h. nothing h
 
 -- sweeps
 calm_parked : (v : State) (t : TrunkId) (s : TrunkSide) (o : Work) → Calm o (parked_by v t s o)
@@ -337,7 +342,8 @@ module _ (n : Node) (kn : NodeKept n) where
     where
       go : (d : Option (TrunkId × TrunkSide)) → IfGoes (sweep_by d (at_work n)) (HeldBefore n)
       go None = tt
-      go (Some d) = λ p q h. link_swept d.1.peer (link_to d.1.peer (fm.entries n.ends)) refl p q (calm_swept d.0 d.1 (sweep_link (link_to d.1.peer (fm.entries n.ends)) d.1.peer (at_work n)) p q h)
+      go (Some d) = subst (λ z. HeldBefore n (swept d.0 d.1 z)) (sym (least_as d.1.peer (at_work n)))
+          (λ p q h. link_swept d.1.peer (link_to d.1.peer (fm.entries n.ends)) refl p q (calm_swept d.0 d.1 (sweep_link (link_to d.1.peer (fm.entries n.ends)) d.1.peer (at_work n)) p q h))
 
 -- the handshake
 either : (b : Bool) (x y : Outcome) (P : Work → Type 0) → IfGoes x P → IfGoes y P → IfGoes (cond b x y) P
@@ -468,8 +474,8 @@ module _ (n : Node) (t : TrunkId) where
     still_rule (Parked u) m = λ p q h. h
     still_rule (Accepting u) m = still_reply u m
     still_rule Up m = λ p q h. h
-    still_rule Losing m = tt
-    still_rule Gone m = tt
+    still_rule Losing m = λ p q h. h
+    still_rule Gone m = λ p q h. h
 
     still_handshake : (a : State) (m : ShakeMsg) → IfGoes (handshake_at a t v m (at_work n)) Still
     still_handshake a m = subst (λ z. IfGoes z Still) (sym (handshake_as a t v m (at_work n))) (still_rule a m)
@@ -497,12 +503,12 @@ module _ (n : Node) (t : TrunkId) where
         old : (p q : Pid) → (false ≡ true) ⊎ Held n p q → Held n p q
         old p q (inl z) = nothing z
         old p q (inr z) = z
-    signal_comes Losing x = tt
-    signal_comes Gone x = tt
+    signal_comes Losing x = λ p q h. nothing h
+    signal_comes Gone x = λ p q h. nothing h
 
 still_holds : (n : Node) (o : Outcome) → IfGoes o (λ z. (p q : Pid) → reacts_in p q z.effects ≡ true → false ≡ true) → IfGoes o (HeldBefore n)
 still_holds n (Refuses k) h = tt
-still_holds n (Goes a o) h = λ p q r. nothing (h p q r)
+still_holds n (Accepts a o) h = λ p q r. nothing (h p q r)
 
 known_comes : (n : Node) (t : TrunkId) (v : TrunkSide) (x : Item) (m : Option ShakeMsg) → IfGoes (arrive_at m t v x (at_work n)) (HeldBefore n)
 known_comes n t v x None = signal_comes n t v v.state x
@@ -511,10 +517,6 @@ known_comes n t v x (Some m) = still_holds n (handshake_at v.state t v m (at_wor
 fresh_comes : (n : Node) (t : TrunkId) (k : ℕ) (m : Option ShakeMsg) → IfGoes (arrive_fresh m t k (at_work n)) (HeldBefore n)
 fresh_comes n t k None = λ p q h. nothing h
 fresh_comes n t k (Some m) = still_holds n (hears_name t m k (at_work n)) (subst (λ z. IfGoes z (Still n t)) (sym (name_as t m k (at_work n))) (still_fresh n t m k))
-
-pub arriving : (n : Node) (t : TrunkId) (o : Option TrunkSide) (x : Item) (k : ℕ) → IfGoes (arrive n t o x k) (HeldBefore n)
-arriving n t None x k = fresh_comes n t k (handshake_in x)
-arriving n t (Some v) x k = known_comes n t v x (handshake_in x)
 
 pub loses : (n : Node) (t : TrunkId) (o : Option TrunkSide) → IfGoes (lose n t o) (HeldBefore n)
 loses n t None = tt
@@ -537,44 +539,29 @@ module _ (w : World) (g : Good w) where
       ap (λ o. end_at o p q) (ap (node_of w.nodes) e ∙ hx) ∙ h.1
 
   abbrev pub Tells : Event → Report → Type 0
-  Tells e r = (p q : Pid) → reacts p q r ≡ true → (end_between w p q ≡ End.Active) ⊎ ((e ≡ Call p.node (MakeLink p q)) × (reached_at (node_of w.nodes p.node) q.node ≡ false))
+  Tells e r = (p q : Pid) → reacts p q r ≡ true → (end_between w p q ≡ End.Active) ⊎ ((e ≡ Call p.node (Command.Link p q)) × (reached_at (node_of w.nodes p.node) q.node ≡ false))
 
   refusal : (e : Event) (k : Refusal) → Tells e (Refused k)
   refusal e k p q h = nothing h
 
-  outcome : (e : Event) (x : Name) (n : Node) (m : FinMap place_cmp (List Item)) → node_of w.nodes x ≡ Some n → (o : Outcome) → IfGoes o (HeldBefore n) → Tells e ((ends_in w x m o).report)
+  outcome : (e : Event) (x : Name) (n : Node) (m : FinMap place_cmp (List Item)) → node_of w.nodes x ≡ Some n → (o : Outcome) → IfGoes o (HeldBefore n) → Tells e ((came_of w x m o).report)
   outcome e x n m hx (Refuses k) h = refusal e k
-  outcome e x n m hx (Goes a o) h = λ p q r. inl (in_world x n hx p q (h p q r))
+  outcome e x n m hx (Accepts a o) h = λ p q r. inl (in_world x n hx p q (h p q r))
 
-  call_outcome : (x : Name) (n : Node) (c : Command) → node_of w.nodes x ≡ Some n → (o : Outcome) → IfGoes o (OwnLink n c) → Tells (Call x c) ((ends_in w x w.lists o).report)
+  call_outcome : (x : Name) (n : Node) (c : Command) → node_of w.nodes x ≡ Some n → (o : Outcome) → IfGoes o (OwnLink n c) → Tells (Call x c) ((came_of w x w.lists o).report)
   call_outcome x n c hx (Refuses k) h = refusal (Call x c) k
-  call_outcome x n c hx (Goes a o) h = λ p q r.
+  call_outcome x n c hx (Accepts a o) h = λ p q r.
       let v = h p q r in
       let e : p.node ≡ x = same_name_true p.node n.mint.name (never_own n p ((g.core.nodes x n hx).born p v.1)) ∙ node_of_name w.nodes x n hx in
       inr ((λ i. Call (sym e i) (v.0 i)), ap (λ o. reached_at o q.node) (ap (node_of w.nodes) e ∙ hx) ∙ v.2)
 
-  while_up : (e : Event) (n : Node) (s : Stepped) → Tells e s.report → Tells e ((running w n s).report)
-  while_up e n s h = go n.up
-    where
-      go : (b : Bool) → Tells e ((cond b s (refused w Refusal.NodeDown)).report)
-      go true = h
-      go false = refusal e Refusal.NodeDown
+  up_tells : (e : Event) (x : Name) (n : Node) (o : Outcome) → Tells e ((came_of w x w.lists o).report) → Tells e ((came_of w x w.lists (if_up n o)).report)
+  up_tells e x n o = while_up w x n (λ s. Tells e s.report) (refusal e) w.lists o
 
-  first_comes : (t : TrunkId) (x : Name) (n : Node) (k : ℕ) (o : Option TrunkSide) (l : List Item) → node_of w.nodes x ≡ Some n → Tells (Arrive t x k) ((arrives_first w n t x k o l).report)
-  first_comes t x n k o [] hx = refusal (Arrive t x k) Refusal.NothingThere
-  first_comes t x n k o (i ∷ is) hx = outcome (Arrive t x k) x n (fm.insert w.lists (t, x) is) hx (arrive n t o i k) (arriving n t o i k)
-
-  comes : (t : TrunkId) (x : Name) (n : Node) (k : ℕ) (o : Option TrunkSide) → node_of w.nodes x ≡ Some n → Tells (Arrive t x k) ((arrives w n t x k o).report)
-  comes t x n k None hx = go (is_some (fm.get w.lists (t, x)) && not (same_name t.dialer x))
-    where
-      go : (b : Bool) → Tells (Arrive t x k) ((cond b (arrives_first w n t x k None (list_to w.lists t x)) (refused w Refusal.NotLive)).report)
-      go true = first_comes t x n k None (list_to w.lists t x) hx
-      go false = refusal (Arrive t x k) Refusal.NotLive
-  comes t x n k (Some v) hx = go (is_over v.state)
-    where
-      go : (b : Bool) → Tells (Arrive t x k) ((cond b (refused w Refusal.NotLive) (arrives_first w n t x k (Some v) (list_to w.lists t x))).report)
-      go true = refusal (Arrive t x k) Refusal.NotLive
-      go false = first_comes t x n k (Some v) (list_to w.lists t x) hx
+  comes : (t : TrunkId) (x : Name) (n : Node) (k : ℕ) → node_of w.nodes x ≡ Some n → Tells (Arrive t x k) ((step_at w (Some n) (Arrive t x k)).report)
+  comes t x n k hx = arrives w x n (λ s. Tells (Arrive t x k) s.report) (refusal (Arrive t x k)) t k
+      (λ i is first at. outcome (Arrive t x k) x n (fm.insert w.lists (t, x) is) hx (arrive_fresh (handshake_in i) t k (at_work n)) (fresh_comes n t k (handshake_in i)))
+      (λ i is v first at over. outcome (Arrive t x k) x n (fm.insert w.lists (t, x) is) hx (arrive_at (handshake_in i) t v i (at_work n)) (known_comes n t v i (handshake_in i)))
 
   dials : (n : Node) (y : Name) (k : ℕ) → IfGoes (dial w.names n y k) (HeldBefore n)
   dials n y k = on_not (same_name y n.mint.name) _ Refusal.SelfDial (HeldBefore n) (on_not (not (has_name y w.names)) _ Refusal.NothingThere (HeldBefore n) (on_not (is_some (side_where (λ v. not (is_gone v)) y (fm.entries n.sides))) _ Refusal.Busy (HeldBefore n)
@@ -583,16 +570,16 @@ module _ (w : World) (g : Good w) where
   starts : (n : Node) → IfGoes (start n) (HeldBefore n)
   starts n = on_not n.up _ Refusal.NodeUp (HeldBefore n) (on_cond (nat_lt (n.mint.creation + 1) (2 ^ 32)) _ Refusal.IdsUsedUp (HeldBefore n) (λ i p q h. nothing h))
 
-  at_node : (o : Option Node) (e : Event) → node_of w.nodes (node_name e) ≡ o → Tells e ((step_at w o e).report)
-  at_node None e h = refusal e Refusal.NothingThere
-  at_node (Some n) (Call x c) h = while_up (Call x c) n _ (call_outcome x n c h (call n c) (called n c))
-  at_node (Some n) (Arrive t x k) h = while_up (Arrive t x k) n _ (comes t x n k (fm.get n.sides t) h)
-  at_node (Some n) (Local x) h = while_up (Local x) n _ (outcome (Local x) x n w.lists h (take_local n n.local) (takes_local n n.local))
-  at_node (Some n) (Lose t x) h = while_up (Lose t x) n _ (outcome (Lose t x) x n w.lists h (lose n t (fm.get n.sides t)) (loses n t (fm.get n.sides t)))
-  at_node (Some n) (Sweep x) h = while_up (Sweep x) n _ (outcome (Sweep x) x n w.lists h (sweep n) (sweeps n (g.core.nodes x n h)))
-  at_node (Some n) (Dial x y k) h = while_up (Dial x y k) n _ (outcome (Dial x y k) x n w.lists h (dial w.names n y k) (dials n y k))
-  at_node (Some n) (Stop x) h = while_up (Stop x) n _ (outcome (Stop x) x n w.lists h (stop n) (λ p q r. nothing r))
-  at_node (Some n) (Start x) h = outcome (Start x) x n w.lists h (start n) (starts n)
+  at_its_node : (o : Option Node) (e : Event) → node_of w.nodes (node_name e) ≡ o → Tells e ((step_at w o e).report)
+  at_its_node None e h = refusal e Refusal.NothingThere
+  at_its_node (Some n) (Call x c) h = up_tells (Call x c) x n _ (call_outcome x n c h (call n c) (called n c))
+  at_its_node (Some n) (Arrive t x k) h = comes t x n k h
+  at_its_node (Some n) (Local x) h = up_tells (Local x) x n _ (outcome (Local x) x n w.lists h (take_local n n.local) (takes_local n n.local))
+  at_its_node (Some n) (Lose t x) h = up_tells (Lose t x) x n _ (outcome (Lose t x) x n w.lists h (lose n t (fm.get n.sides t)) (loses n t (fm.get n.sides t)))
+  at_its_node (Some n) (Sweep x) h = up_tells (Sweep x) x n _ (outcome (Sweep x) x n w.lists h (sweep n) (sweeps n (g.core.nodes x n h)))
+  at_its_node (Some n) (Dial x y k) h = up_tells (Dial x y k) x n _ (outcome (Dial x y k) x n w.lists h (dial w.names n y k) (dials n y k))
+  at_its_node (Some n) (Stop x) h = up_tells (Stop x) x n _ (outcome (Stop x) x n w.lists h (stop n) (λ p q r. nothing r))
+  at_its_node (Some n) (Start x) h = outcome (Start x) x n w.lists h (start n) (starts n)
 
   pub reactions : ReactsOnlyWhereLinked w
-  reactions e p q r h = at_node (node_of w.nodes (node_name e)) e refl p q (told p q r ((step w e).report) h)
+  reactions e p q r h = at_its_node (node_of w.nodes (node_name e)) e refl p q (told p q r ((step w e).report) h)

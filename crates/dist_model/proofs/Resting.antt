@@ -26,8 +26,8 @@ use Rattle.dist_model.specs.Names.{Name, same_name, same_pid}
 use Rattle.dist_model.specs.Node.{Node, living, side_where}
 use Rattle.dist_model.specs.Quiet.{Over, Quiet, Unconnected, Within, is_of, is_silent}
 use Rattle.dist_model.specs.Seen.{HasSide, is_connected, local_list}
-use Rattle.dist_model.specs.Sides.{State, TrunkSide, is_losing, is_up}
-use Rattle.dist_model.specs.World.{World, is_over, list_to, node_of}
+use Rattle.dist_model.specs.Sides.{State, TrunkSide, is_losing, is_up, is_over}
+use Rattle.dist_model.specs.World.{World, list_to, node_of}
 use Rattle.erl_control.specs.declared.signal.Signal.{Signal}
 use Rattle.erl_names.specs.declared.trunk.TrunkId.{TrunkId}
 use Rattle.erl_term.specs.declared.term.Pid.{Pid}

@@ -7,13 +7,14 @@ use Rattle.std.specs.Ordering.{is_eq, is_lt, eq_by_cmp}
 use Rattle.std.specs.Cmp.{tied_itself}
 use Rattle.std.specs.FinMap as fm
 use Rattle.std.specs.FinMap.Entries.{find, is_sorted, below_all}
+use Rattle.dist_model.proofs.Envelopes.{Envelope, sent_in}
 use Rattle.dist_model.proofs.Keys.{and_both, place_total, same_name_is, same_name_true, same_place, same_trunk, same_trunk_is, same_trunk_true, trunk_total}
 use Rattle.dist_model.proofs.Seeing.{list_in}
+use Rattle.dist_model.specs.declared.report.Effect.{Effect}
 use Rattle.dist_model.specs.Items.{Item}
 use Rattle.dist_model.specs.Names.{Name, place_cmp, same_name}
 use Rattle.dist_model.specs.Node.{Node, route_in, side_where}
 use Rattle.dist_model.specs.Sides.{State, TrunkSide, is_up}
-use Rattle.dist_model.specs.Work.{Envelope}
 use Rattle.dist_model.specs.World.{carried, list_to, node_of, set_node}
 use Rattle.erl_names.specs.Order.{trunk_cmp}
 use Rattle.erl_names.specs.declared.trunk.TrunkId.{TrunkId}
@@ -73,20 +74,24 @@ list_to_insert m u z l t y = ap list_in (fm.get-insert place_total m (u, z) l (t
     go true = refl
     go false = refl
 
-pub list_to_carried : (m : FinMap place_cmp (List Item)) (es : List Envelope) (t : TrunkId) (y : Name) → list_to (carried m es) t y ≡ list_to m t y ++ at_place t y es
+pub list_to_carried : (m : FinMap place_cmp (List Item)) (fs : List (Effect Item)) (t : TrunkId) (y : Name) → list_to (carried m fs) t y ≡ list_to m t y ++ at_place t y (sent_in fs)
 list_to_carried m [] t y = sym (append-nil (list_to m t y))
-list_to_carried m (e ∷ es) t y =
-    list_to_carried (fm.insert m (e.trunk, e.target) (list_to m e.trunk e.target ++ e.item ∷ [])) es t y
-    ∙ ap (λ l. l ++ at_place t y es) (list_to_insert m e.trunk e.target (list_to m e.trunk e.target ++ e.item ∷ []) t y ∙ go (same_trunk t e.trunk && same_name y e.target) refl)
-    ∙ append_assoc (list_to m t y) (cond (same_trunk t e.trunk && same_name y e.target) (e.item ∷ []) []) (at_place t y es)
+list_to_carried m (Effect.Sent (Some u) z x ∷ fs) t y =
+    list_to_carried (fm.insert m (u, z) (list_to m u z ++ x ∷ [])) fs t y
+    ∙ ap (λ l. l ++ at_place t y (sent_in fs)) (list_to_insert m u z (list_to m u z ++ x ∷ []) t y ∙ go (same_trunk t u && same_name y z) refl)
+    ∙ append_assoc (list_to m t y) (cond (same_trunk t u && same_name y z) (x ∷ []) []) (at_place t y (sent_in fs))
   where
-    go : (b : Bool) → (same_trunk t e.trunk && same_name y e.target) ≡ b → cond b (list_to m e.trunk e.target ++ e.item ∷ []) (list_to m t y) ≡ list_to m t y ++ cond b (e.item ∷ []) []
+    go : (b : Bool) → (same_trunk t u && same_name y z) ≡ b → cond b (list_to m u z ++ x ∷ []) (list_to m t y) ≡ list_to m t y ++ cond b (x ∷ []) []
     go true h =
-        let v = and_both (same_trunk t e.trunk) (same_name y e.target) h in
-        let a : t ≡ e.trunk = same_trunk_true t e.trunk v.0 in
-        let c : y ≡ e.target = same_name_true y e.target v.1 in
-        ap (λ l. l ++ e.item ∷ []) (λ i. list_to m (sym a i) (sym c i))
+        let v = and_both (same_trunk t u) (same_name y z) h in
+        let a : t ≡ u = same_trunk_true t u v.0 in
+        let c : y ≡ z = same_name_true y z v.1 in
+        ap (λ l. l ++ x ∷ []) (λ i. list_to m (sym a i) (sym c i))
     go false h = sym (append-nil (list_to m t y))
+list_to_carried m (Effect.Sent None z x ∷ fs) t y = list_to_carried m fs t y
+list_to_carried m (Effect.Put p r ∷ fs) t y = list_to_carried m fs t y
+list_to_carried m (Effect.Ended p r ∷ fs) t y = list_to_carried m fs t y
+list_to_carried m (Effect.LinkExit p q r ∷ fs) t y = list_to_carried m fs t y
 
 -- sides: the first that passes a test is a side, and a side that passes is found
 T_and : (a b : Bool) → T (a && b) → T a × T b

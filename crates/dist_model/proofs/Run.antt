@@ -1,16 +1,20 @@
 -- Every step keeps the world good.
-use Rattle.std.proofs.Common.{◌++◌}
+use Rattle.std.proofs.Common.{◌++◌, unwrap_or}
 use Rattle.std.proofs.Common.{inr}
 use Rattle.std.proofs.Common.{subst}
 use Rattle.std.proofs.Common.{inl}
 use Rattle.std.proofs.Common.{◌≡◌, ℕ, ◌+◌, Bool, true, false, cond, not, List, [], ◌∷◌, refl, sym, ap, ◌∙◌, ◌&&◌, Option, Some, None, nat_lt, ◌^◌}
 use Rattle.std.specs.Option.{is_some}
 use Rattle.std.specs.FinMap as fm
+use Rattle.conn_core.specs.declared.arrival.Fault.{Fault}
+use Rattle.erl_handshake.specs.declared.fault.ShakeFault.{ShakeFault}
+use Rattle.dist_model.specs.NodeEvents.{at_node, if_up}
+use Rattle.dist_model.proofs.Stepping.{arrives, while_up}
 use Rattle.dist_model.proofs.Arrivals.{acceptance_comes, broken, challenge_comes, good_awaits_reply, good_awaits_status, good_lose, good_on_up, unless}
-use Rattle.dist_model.proofs.Calls.{IfGoes}
+use Rattle.dist_model.proofs.Calls.{IfGoes, by_test}
 use Rattle.dist_model.proofs.Closing.{good_started, good_stopped, good_sweep}
 use Rattle.dist_model.proofs.Fresh.{asked_on, fresh_fault, fresh_hello}
-use Rattle.dist_model.proofs.Keys.{and_both, place_total, same_name_refl, same_place, same_trunk_refl}
+use Rattle.dist_model.proofs.Keys.{and_both, place_total, same_name_refl, same_place, same_trunk_refl, same_name_true}
 use Rattle.dist_model.proofs.NewSides.{good_dial}
 use Rattle.dist_model.proofs.Primitives.{good_popped}
 use Rattle.dist_model.proofs.Routes.{node_of_name, none_some, some_same}
@@ -20,7 +24,8 @@ use Rattle.dist_model.proofs.Signals.{good_local}
 use Rattle.dist_model.proofs.Table.{Good, good_call}
 use Rattle.dist_model.specs.Arrivals.{arrive, arrive_at, arrive_fresh, handshake_in, signal_at, take_local}
 use Rattle.dist_model.specs.Calls.{call}
-use Rattle.dist_model.specs.Commands.{Done, Goes, Outcome, Refuses}
+use Rattle.dist_model.specs.Commands.{Accepts, Outcome, Refuses}
+use Rattle.dist_model.specs.declared.report.Answer.{Answer}
 use Rattle.dist_model.specs.Dialing.{dial}
 use Rattle.dist_model.specs.Handshake.{fault, handshake_at}
 use Rattle.dist_model.specs.Incarnations.{start, started, stop}
@@ -28,10 +33,10 @@ use Rattle.dist_model.specs.Items.{Handshake, Item, Signalled, Tick}
 use Rattle.dist_model.specs.Losses.{lose, sweep}
 use Rattle.dist_model.specs.Names.{Name, place_cmp, same_name}
 use Rattle.dist_model.specs.Node.{Node}
-use Rattle.dist_model.specs.Runs.{Always, Comes, Runs, opening, run}
-use Rattle.dist_model.specs.Sides.{Accepting, Asked, AwaitsAck, AwaitsChallenge, AwaitsStatus, Gone, Losing, Parked, State, TrunkSide, Up, is_up}
+use Rattle.dist_model.specs.Runs.{Always, Goes, Runs, opening, run}
+use Rattle.dist_model.specs.Sides.{Accepting, Asked, AwaitsAck, AwaitsChallenge, AwaitsStatus, Gone, Losing, Parked, State, TrunkSide, Up, is_up, is_over}
 use Rattle.dist_model.specs.Work.{at_work}
-use Rattle.dist_model.specs.World.{Arrive, Call, Dial, Event, Local, Lose, Refused, Report, Start, Stepped, Stop, Sweep, World, arrives, arrives_first, carried, ends_in, is_over, list_to, node_name, node_of, refused, running, set_node, step, step_at}
+use Rattle.dist_model.specs.World.{Arrive, Call, Dial, Event, Local, Lose, Refused, Report, Start, Stepped, Stop, Sweep, World, carried, came_of, left, list_to, met, node_name, node_of, set_node, step, step_at}
 use Rattle.erl_handshake.specs.Digest.{digest_of}
 use Rattle.erl_handshake.specs.Flags.{has_all_of, mandatory}
 use Rattle.erl_handshake.specs.Roles.{is_answered, is_same}
@@ -51,95 +56,95 @@ handshake_is Tick m h = absurd (none_some m h)
 
 module _ (w : World) (x : Name) (n : Node) (t : TrunkId) (v : TrunkSide) (rest : List Item) (hx : node_of w.nodes x ≡ Some n) (h : side_at n t ≡ Some v) (g : Good w) where
   abbrev To : Item → Outcome → Type 0
-  To i o = list_to w.lists t x ≡ i ∷ rest → IfGoes o (λ p. Good (record { names = w.names; nodes = set_node w.nodes x p.node; lists = carried (fm.insert w.lists (t, x) rest) p.sent }))
+  To i o = list_to w.lists t x ≡ i ∷ rest → IfGoes o (λ p. Good (record { names = w.names; nodes = set_node w.nodes x p.node; lists = carried (fm.insert w.lists (t, x) rest) p.effects }))
 
   good_awaits_challenge_item : (u : ℕ) → v.state ≡ AwaitsChallenge u → (m : ShakeMsg) → To (Handshake m) (awaits_challenge t v u m (at_work n))
-  good_awaits_challenge_item u s (ShakeMsg.Challenge c d b a) e = unless w x n t v rest hx h g (is_same a v.peer) (Handshake (ShakeMsg.Challenge c d b a)) _ Refusal.Forged
-      (λ _ f. unless w x n t v rest hx h g (has_all_of c mandatory) (Handshake (ShakeMsg.Challenge c d b a)) _ Refusal.FlagsMissing
+  good_awaits_challenge_item u s (ShakeMsg.Challenge c d b a) e = unless w x n t v rest hx h g (is_same a v.peer) (Handshake (ShakeMsg.Challenge c d b a)) _ (Fault.Shake ShakeFault.Forged)
+      (λ _ f. unless w x n t v rest hx h g (has_all_of c mandatory) (Handshake (ShakeMsg.Challenge c d b a)) _ (Fault.Shake ShakeFault.FlagsMissing)
       (λ _ k. challenge_comes w x n t v (Handshake (ShakeMsg.Challenge c d b a)) rest hx h g k u b (digest_of n.cookie d) s refl (λ p q. refl)) f) e
-  good_awaits_challenge_item u s (ShakeMsg.Status Status.Ok) e = broken w x n t v rest hx h g Refusal.BadMessage (Handshake (ShakeMsg.Status Status.Ok)) e
-  good_awaits_challenge_item u s (ShakeMsg.Status Status.OkSimultaneous) e = broken w x n t v rest hx h g Refusal.BadMessage (Handshake (ShakeMsg.Status Status.OkSimultaneous)) e
-  good_awaits_challenge_item u s (ShakeMsg.Status Status.Alive) e = broken w x n t v rest hx h g Refusal.BadMessage (Handshake (ShakeMsg.Status Status.Alive)) e
-  good_awaits_challenge_item u s (ShakeMsg.Status Status.Nok) e = broken w x n t v rest hx h g Refusal.BadMessage (Handshake (ShakeMsg.Status Status.Nok)) e
-  good_awaits_challenge_item u s (ShakeMsg.Status Status.NotAllowed) e = broken w x n t v rest hx h g Refusal.BadMessage (Handshake (ShakeMsg.Status Status.NotAllowed)) e
-  good_awaits_challenge_item u s (ShakeMsg.SendName c b a) e = broken w x n t v rest hx h g Refusal.BadMessage (Handshake (ShakeMsg.SendName c b a)) e
-  good_awaits_challenge_item u s (ShakeMsg.Status Status.True) e = broken w x n t v rest hx h g Refusal.BadMessage (Handshake (ShakeMsg.Status Status.True)) e
-  good_awaits_challenge_item u s (ShakeMsg.Status Status.False) e = broken w x n t v rest hx h g Refusal.BadMessage (Handshake (ShakeMsg.Status Status.False)) e
-  good_awaits_challenge_item u s (ShakeMsg.ChallengeReply a b) e = broken w x n t v rest hx h g Refusal.BadMessage (Handshake (ShakeMsg.ChallengeReply a b)) e
-  good_awaits_challenge_item u s (ShakeMsg.ChallengeAck a) e = broken w x n t v rest hx h g Refusal.BadMessage (Handshake (ShakeMsg.ChallengeAck a)) e
+  good_awaits_challenge_item u s (ShakeMsg.Status Status.Ok) e = broken w x n t v rest hx h g (Fault.Shake ShakeFault.BadMessage) (Handshake (ShakeMsg.Status Status.Ok)) e
+  good_awaits_challenge_item u s (ShakeMsg.Status Status.OkSimultaneous) e = broken w x n t v rest hx h g (Fault.Shake ShakeFault.BadMessage) (Handshake (ShakeMsg.Status Status.OkSimultaneous)) e
+  good_awaits_challenge_item u s (ShakeMsg.Status Status.Alive) e = broken w x n t v rest hx h g (Fault.Shake ShakeFault.BadMessage) (Handshake (ShakeMsg.Status Status.Alive)) e
+  good_awaits_challenge_item u s (ShakeMsg.Status Status.Nok) e = broken w x n t v rest hx h g (Fault.Shake ShakeFault.BadMessage) (Handshake (ShakeMsg.Status Status.Nok)) e
+  good_awaits_challenge_item u s (ShakeMsg.Status Status.NotAllowed) e = broken w x n t v rest hx h g (Fault.Shake ShakeFault.BadMessage) (Handshake (ShakeMsg.Status Status.NotAllowed)) e
+  good_awaits_challenge_item u s (ShakeMsg.SendName c b a) e = broken w x n t v rest hx h g (Fault.Shake ShakeFault.BadMessage) (Handshake (ShakeMsg.SendName c b a)) e
+  good_awaits_challenge_item u s (ShakeMsg.Status Status.True) e = broken w x n t v rest hx h g (Fault.Shake ShakeFault.BadMessage) (Handshake (ShakeMsg.Status Status.True)) e
+  good_awaits_challenge_item u s (ShakeMsg.Status Status.False) e = broken w x n t v rest hx h g (Fault.Shake ShakeFault.BadMessage) (Handshake (ShakeMsg.Status Status.False)) e
+  good_awaits_challenge_item u s (ShakeMsg.ChallengeReply a b) e = broken w x n t v rest hx h g (Fault.Shake ShakeFault.BadMessage) (Handshake (ShakeMsg.ChallengeReply a b)) e
+  good_awaits_challenge_item u s (ShakeMsg.ChallengeAck a) e = broken w x n t v rest hx h g (Fault.Shake ShakeFault.BadMessage) (Handshake (ShakeMsg.ChallengeAck a)) e
 
   good_awaits_ack_item : (u : ℕ) → v.state ≡ AwaitsAck u → (m : ShakeMsg) → To (Handshake m) (awaits_ack t v u m (at_work n))
-  good_awaits_ack_item u s (ShakeMsg.ChallengeAck a) e = unless w x n t v rest hx h g (is_answered n.cookie u a) (Handshake (ShakeMsg.ChallengeAck a)) _ Refusal.BadDigest
+  good_awaits_ack_item u s (ShakeMsg.ChallengeAck a) e = unless w x n t v rest hx h g (is_answered n.cookie u a) (Handshake (ShakeMsg.ChallengeAck a)) _ (Fault.Shake ShakeFault.BadDigest)
       (λ _ k. acceptance_comes w x n t v (Handshake (ShakeMsg.ChallengeAck a)) rest hx h g k u s refl (λ p q. refl)) e
-  good_awaits_ack_item u s (ShakeMsg.Status Status.Ok) e = broken w x n t v rest hx h g Refusal.BadMessage (Handshake (ShakeMsg.Status Status.Ok)) e
-  good_awaits_ack_item u s (ShakeMsg.Status Status.OkSimultaneous) e = broken w x n t v rest hx h g Refusal.BadMessage (Handshake (ShakeMsg.Status Status.OkSimultaneous)) e
-  good_awaits_ack_item u s (ShakeMsg.Status Status.Alive) e = broken w x n t v rest hx h g Refusal.BadMessage (Handshake (ShakeMsg.Status Status.Alive)) e
-  good_awaits_ack_item u s (ShakeMsg.Status Status.Nok) e = broken w x n t v rest hx h g Refusal.BadMessage (Handshake (ShakeMsg.Status Status.Nok)) e
-  good_awaits_ack_item u s (ShakeMsg.Status Status.NotAllowed) e = broken w x n t v rest hx h g Refusal.BadMessage (Handshake (ShakeMsg.Status Status.NotAllowed)) e
-  good_awaits_ack_item u s (ShakeMsg.SendName c b a) e = broken w x n t v rest hx h g Refusal.BadMessage (Handshake (ShakeMsg.SendName c b a)) e
-  good_awaits_ack_item u s (ShakeMsg.Status Status.True) e = broken w x n t v rest hx h g Refusal.BadMessage (Handshake (ShakeMsg.Status Status.True)) e
-  good_awaits_ack_item u s (ShakeMsg.Status Status.False) e = broken w x n t v rest hx h g Refusal.BadMessage (Handshake (ShakeMsg.Status Status.False)) e
-  good_awaits_ack_item u s (ShakeMsg.Challenge c d b a) e = broken w x n t v rest hx h g Refusal.BadMessage (Handshake (ShakeMsg.Challenge c d b a)) e
-  good_awaits_ack_item u s (ShakeMsg.ChallengeReply a b) e = broken w x n t v rest hx h g Refusal.BadMessage (Handshake (ShakeMsg.ChallengeReply a b)) e
+  good_awaits_ack_item u s (ShakeMsg.Status Status.Ok) e = broken w x n t v rest hx h g (Fault.Shake ShakeFault.BadMessage) (Handshake (ShakeMsg.Status Status.Ok)) e
+  good_awaits_ack_item u s (ShakeMsg.Status Status.OkSimultaneous) e = broken w x n t v rest hx h g (Fault.Shake ShakeFault.BadMessage) (Handshake (ShakeMsg.Status Status.OkSimultaneous)) e
+  good_awaits_ack_item u s (ShakeMsg.Status Status.Alive) e = broken w x n t v rest hx h g (Fault.Shake ShakeFault.BadMessage) (Handshake (ShakeMsg.Status Status.Alive)) e
+  good_awaits_ack_item u s (ShakeMsg.Status Status.Nok) e = broken w x n t v rest hx h g (Fault.Shake ShakeFault.BadMessage) (Handshake (ShakeMsg.Status Status.Nok)) e
+  good_awaits_ack_item u s (ShakeMsg.Status Status.NotAllowed) e = broken w x n t v rest hx h g (Fault.Shake ShakeFault.BadMessage) (Handshake (ShakeMsg.Status Status.NotAllowed)) e
+  good_awaits_ack_item u s (ShakeMsg.SendName c b a) e = broken w x n t v rest hx h g (Fault.Shake ShakeFault.BadMessage) (Handshake (ShakeMsg.SendName c b a)) e
+  good_awaits_ack_item u s (ShakeMsg.Status Status.True) e = broken w x n t v rest hx h g (Fault.Shake ShakeFault.BadMessage) (Handshake (ShakeMsg.Status Status.True)) e
+  good_awaits_ack_item u s (ShakeMsg.Status Status.False) e = broken w x n t v rest hx h g (Fault.Shake ShakeFault.BadMessage) (Handshake (ShakeMsg.Status Status.False)) e
+  good_awaits_ack_item u s (ShakeMsg.Challenge c d b a) e = broken w x n t v rest hx h g (Fault.Shake ShakeFault.BadMessage) (Handshake (ShakeMsg.Challenge c d b a)) e
+  good_awaits_ack_item u s (ShakeMsg.ChallengeReply a b) e = broken w x n t v rest hx h g (Fault.Shake ShakeFault.BadMessage) (Handshake (ShakeMsg.ChallengeReply a b)) e
 
   good_awaits_true_item : (u : ℕ) → v.state ≡ Asked u → (m : ShakeMsg) → To (Handshake m) (awaits_true t v u m (at_work n))
   good_awaits_true_item u s (ShakeMsg.Status Status.True) e = asked_on (record { names = w.names; nodes = w.nodes; lists = fm.insert w.lists (t, x) rest }) x n hx (good_popped w t x (Handshake (ShakeMsg.Status Status.True)) rest g e (λ m b hm hb j p q. refl)) t v u h s
-  good_awaits_true_item u s (ShakeMsg.Status Status.Ok) e = broken w x n t v rest hx h g Refusal.BadMessage (Handshake (ShakeMsg.Status Status.Ok)) e
-  good_awaits_true_item u s (ShakeMsg.Status Status.OkSimultaneous) e = broken w x n t v rest hx h g Refusal.BadMessage (Handshake (ShakeMsg.Status Status.OkSimultaneous)) e
-  good_awaits_true_item u s (ShakeMsg.Status Status.Alive) e = broken w x n t v rest hx h g Refusal.BadMessage (Handshake (ShakeMsg.Status Status.Alive)) e
-  good_awaits_true_item u s (ShakeMsg.Status Status.Nok) e = broken w x n t v rest hx h g Refusal.BadMessage (Handshake (ShakeMsg.Status Status.Nok)) e
-  good_awaits_true_item u s (ShakeMsg.Status Status.NotAllowed) e = broken w x n t v rest hx h g Refusal.BadMessage (Handshake (ShakeMsg.Status Status.NotAllowed)) e
-  good_awaits_true_item u s (ShakeMsg.SendName c b a) e = broken w x n t v rest hx h g Refusal.BadMessage (Handshake (ShakeMsg.SendName c b a)) e
-  good_awaits_true_item u s (ShakeMsg.Status Status.False) e = broken w x n t v rest hx h g Refusal.Nok (Handshake (ShakeMsg.Status Status.False)) e
-  good_awaits_true_item u s (ShakeMsg.Challenge c d b a) e = broken w x n t v rest hx h g Refusal.BadMessage (Handshake (ShakeMsg.Challenge c d b a)) e
-  good_awaits_true_item u s (ShakeMsg.ChallengeReply a b) e = broken w x n t v rest hx h g Refusal.BadMessage (Handshake (ShakeMsg.ChallengeReply a b)) e
-  good_awaits_true_item u s (ShakeMsg.ChallengeAck a) e = broken w x n t v rest hx h g Refusal.BadMessage (Handshake (ShakeMsg.ChallengeAck a)) e
+  good_awaits_true_item u s (ShakeMsg.Status Status.Ok) e = broken w x n t v rest hx h g (Fault.Shake ShakeFault.BadMessage) (Handshake (ShakeMsg.Status Status.Ok)) e
+  good_awaits_true_item u s (ShakeMsg.Status Status.OkSimultaneous) e = broken w x n t v rest hx h g (Fault.Shake ShakeFault.BadMessage) (Handshake (ShakeMsg.Status Status.OkSimultaneous)) e
+  good_awaits_true_item u s (ShakeMsg.Status Status.Alive) e = broken w x n t v rest hx h g (Fault.Shake ShakeFault.BadMessage) (Handshake (ShakeMsg.Status Status.Alive)) e
+  good_awaits_true_item u s (ShakeMsg.Status Status.Nok) e = broken w x n t v rest hx h g (Fault.Shake ShakeFault.BadMessage) (Handshake (ShakeMsg.Status Status.Nok)) e
+  good_awaits_true_item u s (ShakeMsg.Status Status.NotAllowed) e = broken w x n t v rest hx h g (Fault.Shake ShakeFault.BadMessage) (Handshake (ShakeMsg.Status Status.NotAllowed)) e
+  good_awaits_true_item u s (ShakeMsg.SendName c b a) e = broken w x n t v rest hx h g (Fault.Shake ShakeFault.BadMessage) (Handshake (ShakeMsg.SendName c b a)) e
+  good_awaits_true_item u s (ShakeMsg.Status Status.False) e = broken w x n t v rest hx h g (Fault.Shake ShakeFault.Nok) (Handshake (ShakeMsg.Status Status.False)) e
+  good_awaits_true_item u s (ShakeMsg.Challenge c d b a) e = broken w x n t v rest hx h g (Fault.Shake ShakeFault.BadMessage) (Handshake (ShakeMsg.Challenge c d b a)) e
+  good_awaits_true_item u s (ShakeMsg.ChallengeReply a b) e = broken w x n t v rest hx h g (Fault.Shake ShakeFault.BadMessage) (Handshake (ShakeMsg.ChallengeReply a b)) e
+  good_awaits_true_item u s (ShakeMsg.ChallengeAck a) e = broken w x n t v rest hx h g (Fault.Shake ShakeFault.BadMessage) (Handshake (ShakeMsg.ChallengeAck a)) e
 
   by_rule : (a : State) → v.state ≡ a → (m : ShakeMsg) → To (Handshake m) (handshake_by a t v m (at_work n))
   by_rule (AwaitsStatus u) s m = good_awaits_status w x n t v rest hx h g u s m
   by_rule (AwaitsChallenge u) s m = good_awaits_challenge_item u s m
   by_rule (AwaitsAck u) s m = good_awaits_ack_item u s m
   by_rule (Asked u) s m = good_awaits_true_item u s m
-  by_rule (Parked u) s m = broken w x n t v rest hx h g Refusal.BadMessage (Handshake m)
+  by_rule (Parked u) s m = broken w x n t v rest hx h g (Fault.Shake ShakeFault.BadMessage) (Handshake m)
   by_rule (Accepting u) s m = good_awaits_reply w x n t v rest hx h g u s m
-  by_rule Up s m = broken w x n t v rest hx h g Refusal.BadMessage (Handshake m)
-  by_rule Losing s m = λ e. tt
-  by_rule Gone s m = λ e. tt
+  by_rule Up s m = broken w x n t v rest hx h g (Fault.Shake ShakeFault.BadMessage) (Handshake m)
+  by_rule Losing s m = broken w x n t v rest hx h g (Fault.Shake ShakeFault.BadMessage) (Handshake m)
+  by_rule Gone s m = broken w x n t v rest hx h g (Fault.Shake ShakeFault.BadMessage) (Handshake m)
 
   by_handshake : (a : State) → v.state ≡ a → (m : ShakeMsg) → To (Handshake m) (handshake_at a t v m (at_work n))
   by_handshake a s m = subst (λ z. To (Handshake m) z) (sym (handshake_as a t v m (at_work n))) (by_rule a s m)
 
   by_signal : (a : State) → v.state ≡ a → (i : Item) → To i (signal_at a t v i (at_work n))
-  by_signal (AwaitsStatus u) s i = broken w x n t v rest hx h g Refusal.BadMessage i
-  by_signal (AwaitsChallenge u) s i = broken w x n t v rest hx h g Refusal.BadMessage i
-  by_signal (AwaitsAck u) s i = broken w x n t v rest hx h g Refusal.BadMessage i
-  by_signal (Asked u) s i = broken w x n t v rest hx h g Refusal.BadMessage i
-  by_signal (Parked u) s i = broken w x n t v rest hx h g Refusal.BadMessage i
-  by_signal (Accepting u) s i = broken w x n t v rest hx h g Refusal.BadMessage i
+  by_signal (AwaitsStatus u) s i = broken w x n t v rest hx h g (Fault.Shake ShakeFault.BadMessage) i
+  by_signal (AwaitsChallenge u) s i = broken w x n t v rest hx h g (Fault.Shake ShakeFault.BadMessage) i
+  by_signal (AwaitsAck u) s i = broken w x n t v rest hx h g (Fault.Shake ShakeFault.BadMessage) i
+  by_signal (Asked u) s i = broken w x n t v rest hx h g (Fault.Shake ShakeFault.BadMessage) i
+  by_signal (Parked u) s i = broken w x n t v rest hx h g (Fault.Shake ShakeFault.BadMessage) i
+  by_signal (Accepting u) s i = broken w x n t v rest hx h g (Fault.Shake ShakeFault.BadMessage) i
   by_signal Up s i = λ e. good_on_up w x n t v i rest hx h g e (ap is_up s)
-  by_signal Losing s i = λ e. tt
-  by_signal Gone s i = λ e. tt
+  by_signal Losing s i = broken w x n t v rest hx h g (Fault.Shake ShakeFault.BadMessage) i
+  by_signal Gone s i = broken w x n t v rest hx h g (Fault.Shake ShakeFault.BadMessage) i
 
   by_kind : (o : Option ShakeMsg) (i : Item) → handshake_in i ≡ o → To i (arrive_at o t v i (at_work n))
   by_kind None i k = by_signal v.state refl i
   by_kind (Some m) i k = λ e. by_handshake v.state refl m (e ∙ ap (λ z. z ∷ rest) (handshake_is i m k))
 
 -- what goes through leads to a good world
-ends_well : (w : World) (x : Name) (m : FinMap place_cmp (List Item)) (o : Outcome) → Good w → IfGoes o (λ p. Good (record { names = w.names; nodes = set_node w.nodes x p.node; lists = carried m p.sent })) → Good ((ends_in w x m o).world)
+ends_well : (w : World) (x : Name) (m : FinMap place_cmp (List Item)) (o : Outcome) → Good w → IfGoes o (λ p. Good (record { names = w.names; nodes = set_node w.nodes x p.node; lists = carried m p.effects })) → Good ((came_of w x m o).world)
 ends_well w x m (Refuses k) g h = g
-ends_well w x m (Goes a o) g h = h
+ends_well w x m (Accepts a o) g h = h
 
-first_known : (w : World) (x : Name) (n : Node) (t : TrunkId) (v : TrunkSide) (k : ℕ) (l : List Item) → node_of w.nodes x ≡ Some n → side_at n t ≡ Some v → Good w → list_to w.lists t x ≡ l → Good ((arrives_first w n t x k (Some v) l).world)
-first_known w x n t v k [] hx h g e = g
-first_known w x n t v k (i ∷ rest) hx h g e = ends_well w x (fm.insert w.lists (t, x) rest) (arrive_at (handshake_in i) t v i (at_work n)) g (by_kind w x n t v rest hx h g (handshake_in i) i refl e)
+first_known : (w : World) (x : Name) (n : Node) (t : TrunkId) (v : TrunkSide) (k : ℕ) (i : Item) (rest : List Item) → node_of w.nodes x ≡ Some n → side_at n t ≡ Some v → Good w → list_to w.lists t x ≡ i ∷ rest
+    → Good ((came_of w x (fm.insert w.lists (t, x) rest) (arrive_at (handshake_in i) t v i (at_work n))).world)
+first_known w x n t v k i rest hx h g e = ends_well w x (fm.insert w.lists (t, x) rest) (arrive_at (handshake_in i) t v i (at_work n)) g (by_kind w x n t v rest hx h g (handshake_in i) i refl e)
 
 -- a fresh side, any item
 module _ (w : World) (x : Name) (n : Node) (hx : node_of w.nodes x ≡ Some n) (g : Good w) (t : TrunkId) (far : same_name t.dialer n.mint.name ≡ false) (key : is_some (fm.get w.lists (t, x)) ≡ true) (none : side_at n t ≡ None) where
   abbrev Well : Outcome → Type 0
-  Well o = IfGoes o (λ p. Good (record { names = w.names; nodes = set_node w.nodes x p.node; lists = carried w.lists p.sent }))
+  Well o = IfGoes o (λ p. Good (record { names = w.names; nodes = set_node w.nodes x p.node; lists = carried w.lists p.effects }))
 
-  bad : Well (fault Refusal.BadMessage t (record { peer = t.dialer; peer_creation = 0; state = Gone }) (at_work n))
-  bad = fresh_fault w x n hx g t 0 far key none Refusal.BadMessage
+  bad : Well (fault (Fault.Shake ShakeFault.BadMessage) t (record { peer = t.dialer; peer_creation = 0; state = Gone }) (at_work n))
+  bad = fresh_fault w x n hx g t 0 far key none (Fault.Shake ShakeFault.BadMessage)
 
   fresh_item : (o : Option ShakeMsg) (k : ℕ) → Well (arrive_fresh o t k (at_work n))
   fresh_item None z = bad
@@ -155,9 +160,10 @@ module _ (w : World) (x : Name) (n : Node) (hx : node_of w.nodes x ≡ Some n) (
   fresh_item (Some (ShakeMsg.ChallengeReply a b)) z = bad
   fresh_item (Some (ShakeMsg.ChallengeAck a)) z = bad
 
-first_fresh : (w : World) (x : Name) (n : Node) (t : TrunkId) (k : ℕ) (l : List Item) → node_of w.nodes x ≡ Some n → side_at n t ≡ None → Good w → is_some (fm.get w.lists (t, x)) ≡ true → same_name t.dialer x ≡ false → list_to w.lists t x ≡ l → Good ((arrives_first w n t x k None l).world)
-first_fresh w x n t k [] hx none g key far e = g
-first_fresh w x n t k (i ∷ rest) hx none g key far e =
+-- what travels is on a trunk that its dialer has: so one whose side isn't there was dialed by another
+first_fresh : (w : World) (x : Name) (n : Node) (t : TrunkId) (k : ℕ) (i : Item) (rest : List Item) → node_of w.nodes x ≡ Some n → side_at n t ≡ None → Good w → same_name t.dialer x ≡ false → list_to w.lists t x ≡ i ∷ rest
+    → Good ((came_of w x (fm.insert w.lists (t, x) rest) (arrive_fresh (handshake_in i) t k (at_work n))).world)
+first_fresh w x n t k i rest hx none g far e =
     ends_well w x (fm.insert w.lists (t, x) rest) (arrive_fresh (handshake_in i) t k (at_work n)) g
     (fresh_item (record { names = w.names; nodes = w.nodes; lists = fm.insert w.lists (t, x) rest }) x n hx
     (good_popped w t x i rest g e (λ m b hm hb j p q.
@@ -167,54 +173,54 @@ first_fresh w x n t k (i ∷ rest) hx none g key far e =
     (ap is_some (fm.get-insert place_total w.lists (t, x) rest (t, x)) ∙ ap (λ b. is_some (cond b (Some rest) (fm.get w.lists (t, x)))) (same_place t t x x ∙ ap (λ b. b && same_name x x) (same_trunk_refl t) ∙ same_name_refl x))
     none (handshake_in i) k)
 
-not_is_false : (b : Bool) → not b ≡ true → b ≡ false
-not_is_false true h = cc
-not_is_false false h = refl
-
-good_arrives : (w : World) (x : Name) (n : Node) (t : TrunkId) (k : ℕ) (o : Option TrunkSide) → node_of w.nodes x ≡ Some n → side_at n t ≡ o → Good w → Good ((arrives w n t x k o).world)
-good_arrives w x n t k None hx h g = go (is_some (fm.get w.lists (t, x)) && not (same_name t.dialer x)) refl
+some_listed : (m : FinMap place_cmp (List Item)) (t : TrunkId) (x : Name) (i : Item) (rest : List Item) → list_to m t x ≡ i ∷ rest → is_some (fm.get m (t, x)) ≡ true
+some_listed m t x i rest h = go (fm.get m (t, x)) h
   where
-    go : (b : Bool) → (is_some (fm.get w.lists (t, x)) && not (same_name t.dialer x)) ≡ b → Good ((cond b (arrives_first w n t x k None (list_to w.lists t x)) (refused w Refusal.NotLive)).world)
-    go true e = let v = and_both (is_some (fm.get w.lists (t, x))) (not (same_name t.dialer x)) e in first_fresh w x n t k (list_to w.lists t x) hx h g v.0 (not_is_false (same_name t.dialer x) v.1) refl
-    go false e = g
-good_arrives w x n t k (Some v) hx h g = go (is_over v.state)
-  where
-    go : (b : Bool) → Good ((cond b (refused w Refusal.NotLive) (arrives_first w n t x k (Some v) (list_to w.lists t x))).world)
-    go true = g
-    go false = first_known w x n t v k (list_to w.lists t x) hx h g refl
+    go : (o : Option (List Item)) → unwrap_or o [] ≡ i ∷ rest → is_some o ≡ true
+    go None h = cc
+    go (Some l) h = refl
 
-good_local_list : (w : World) (x : Name) (n : Node) (l : List Item) → node_of w.nodes x ≡ Some n → n.local ≡ l → Good w → Good ((ends_in w x w.lists (take_local n l)).world)
+not_own : (w : World) (x : Name) (n : Node) (t : TrunkId) (i : Item) (rest : List Item) → node_of w.nodes x ≡ Some n → side_at n t ≡ None → Good w → list_to w.lists t x ≡ i ∷ rest → same_name t.dialer x ≡ false
+not_own w x n t i rest hx none g e = by_test _ (same_name t.dialer x)
+    (λ c.
+    let p = g.posted t x (some_listed w.lists t x i rest e) in
+    let same : p.1 ≡ n = some_same p.1 n (sym p.2 ∙ ap (node_of w.nodes) (same_name_true t.dialer x c) ∙ hx) in
+    absurd (none_some p.0 (sym none ∙ ap (λ m. side_at m t) (sym same) ∙ p.3)))
+    (λ c. c)
+
+good_arrives : (w : World) (x : Name) (n : Node) (t : TrunkId) (k : ℕ) → node_of w.nodes x ≡ Some n → Good w → Good ((step_at w (Some n) (Arrive t x k)).world)
+good_arrives w x n t k hx g = arrives w x n (λ s. Good s.world) (λ r. g) t k
+    (λ i is h j. first_fresh w x n t k i is hx j g (not_own w x n t i is hx j g h) h)
+    (λ i is s h j v. first_known w x n t s k i is hx j g h)
+
+good_local_list : (w : World) (x : Name) (n : Node) (l : List Item) → node_of w.nodes x ≡ Some n → n.local ≡ l → Good w → Good ((came_of w x w.lists (take_local n l)).world)
 good_local_list w x n [] hx e g = g
 good_local_list w x n (i ∷ xs) hx e g = good_local w x n i xs hx g e
 
-good_lose_any : (w : World) (x : Name) (n : Node) (t : TrunkId) (o : Option TrunkSide) → node_of w.nodes x ≡ Some n → side_at n t ≡ o → Good w → Good ((ends_in w x w.lists (lose n t o)).world)
+good_lose_any : (w : World) (x : Name) (n : Node) (t : TrunkId) (o : Option TrunkSide) → node_of w.nodes x ≡ Some n → side_at n t ≡ o → Good w → Good ((came_of w x w.lists (lose n t o)).world)
 good_lose_any w x n t None hx h g = g
 good_lose_any w x n t (Some v) hx h g = good_lose w x n t v hx h g
 
-runs_well : (w : World) (n : Node) (s : Stepped) → Good w → Good (s.world) → Good ((running w n s).world)
-runs_well w n s g h = go n.up
-  where
-    go : (b : Bool) → Good ((cond b s (refused w Refusal.NodeDown)).world)
-    go true = h
-    go false = g
+runs_well : (w : World) (x : Name) (n : Node) (o : Outcome) → Good w → Good ((came_of w x w.lists o).world) → Good ((came_of w x w.lists (if_up n o)).world)
+runs_well w x n o g h = while_up w x n (λ s. Good s.world) (λ r. g) w.lists o h
 
-good_start : (w : World) (x : Name) (n : Node) → node_of w.nodes x ≡ Some n → Good w → Good ((ends_in w x w.lists (start n)).world)
+good_start : (w : World) (x : Name) (n : Node) → node_of w.nodes x ≡ Some n → Good w → Good ((came_of w x w.lists (start n)).world)
 good_start w x n hx g = go n.up (nat_lt (n.mint.creation + 1) (2 ^ 32))
   where
-    go : (a b : Bool) → Good ((ends_in w x w.lists (cond a (Refuses Refusal.NodeUp) (cond b (Goes Done (at_work (started n))) (Refuses Refusal.IdsUsedUp)))).world)
+    go : (a b : Bool) → Good ((came_of w x w.lists (cond a (Refuses Refusal.NodeUp) (cond b (Accepts (Answer.Started (n.mint.creation + 1)) (at_work (started n))) (Refuses Refusal.IdsUsedUp)))).world)
     go true b = g
     go false true = good_started w x n hx g
     go false false = g
 
 pub good_step_at : (w : World) (o : Option Node) (e : Event) → node_of w.nodes (node_name e) ≡ o → Good w → Good ((step_at w o e).world)
 good_step_at w None e h g = g
-good_step_at w (Some n) (Call x c) h g = runs_well w n _ g (good_call w x n c h g)
-good_step_at w (Some n) (Arrive t x k) h g = runs_well w n _ g (good_arrives w x n t k (fm.get n.sides t) h refl g)
-good_step_at w (Some n) (Local x) h g = runs_well w n _ g (good_local_list w x n n.local h refl g)
-good_step_at w (Some n) (Lose t x) h g = runs_well w n _ g (good_lose_any w x n t (fm.get n.sides t) h refl g)
-good_step_at w (Some n) (Sweep x) h g = runs_well w n _ g (good_sweep w x n h g)
-good_step_at w (Some n) (Dial x y k) h g = runs_well w n _ g (good_dial w x n y k h g)
-good_step_at w (Some n) (Stop x) h g = runs_well w n _ g (good_stopped w x n h g)
+good_step_at w (Some n) (Call x c) h g = runs_well w x n _ g (good_call w x n c h g)
+good_step_at w (Some n) (Arrive t x k) h g = good_arrives w x n t k h g
+good_step_at w (Some n) (Local x) h g = runs_well w x n _ g (good_local_list w x n n.local h refl g)
+good_step_at w (Some n) (Lose t x) h g = runs_well w x n _ g (good_lose_any w x n t (fm.get n.sides t) h refl g)
+good_step_at w (Some n) (Sweep x) h g = runs_well w x n _ g (good_sweep w x n h g)
+good_step_at w (Some n) (Dial x y k) h g = runs_well w x n _ g (good_dial w x n y k h g)
+good_step_at w (Some n) (Stop x) h g = runs_well w x n _ g (good_stopped w x n h g)
 good_step_at w (Some n) (Start x) h g = good_start w x n h g
 
 pub good_run : (es : List Event) (w : World) → Good w → Good (run es w)
@@ -222,7 +228,7 @@ good_run [] w g = g
 good_run (e ∷ es) w g = good_run es ((step w e).world) (good_step_at w (node_of w.nodes (node_name e)) e refl g)
 
 -- whatever memory does
-comes : (w : World) (e : Event) (r : Report) (v : World) → Good w → Comes w e r v → Good v
+comes : (w : World) (e : Event) (r : Report) (v : World) → Good w → Goes w e r v → Good v
 comes w e r v g (inl h) = subst Good (sym h.1) (good_step_at w (node_of w.nodes (node_name e)) e refl g)
 comes w e r v g (inr h) = subst Good (sym h.1) g
 
@@ -252,36 +258,14 @@ moments (e ∷ es) fs (r ∷ rs) w v h =
 abbrev Unchanged : World → Stepped → Type 0
 Unchanged w s = (r : Refusal) → s.report ≡ Refused r → s.world ≡ w
 
-unchanged_ends : (w : World) (x : Name) (m : FinMap place_cmp (List Item)) (o : Outcome) → Unchanged w (ends_in w x m o)
+unchanged_ends : (w : World) (x : Name) (m : FinMap place_cmp (List Item)) (o : Outcome) → Unchanged w (came_of w x m o)
 unchanged_ends w x m (Refuses k) r h = refl
-unchanged_ends w x m (Goes a o) r h = cc
-
-unchanged_cond : (w : World) (b : Bool) (s u : Stepped) → Unchanged w s → Unchanged w u → Unchanged w (cond b s u)
-unchanged_cond w true s u f g = f
-unchanged_cond w false s u f g = g
-
-unchanged_first : (w : World) (n : Node) (t : TrunkId) (x : Name) (k : ℕ) (o : Option TrunkSide) (l : List Item) → Unchanged w (arrives_first w n t x k o l)
-unchanged_first w n t x k o [] = λ r h. refl
-unchanged_first w n t x k o (i ∷ is) = unchanged_ends w x (fm.insert w.lists (t, x) is) (arrive n t o i k)
-
-unchanged_arrives : (w : World) (n : Node) (t : TrunkId) (x : Name) (k : ℕ) (o : Option TrunkSide) → Unchanged w (arrives w n t x k o)
-unchanged_arrives w n t x k None = unchanged_cond w _ _ _ (unchanged_first w n t x k None (list_to w.lists t x)) (λ r h. refl)
-unchanged_arrives w n t x k (Some s) = unchanged_cond w _ _ _ (λ r h. refl) (unchanged_first w n t x k (Some s) (list_to w.lists t x))
-
-unchanged_running : (w : World) (n : Node) (s : Stepped) → Unchanged w s → Unchanged w (running w n s)
-unchanged_running w n s f = unchanged_cond w n.up s (refused w Refusal.NodeDown) f (λ r h. refl)
+unchanged_ends w x m (Accepts a o) r h = cc
 
 unchanged_at : (w : World) (o : Option Node) (e : Event) → Unchanged w (step_at w o e)
 unchanged_at w None e = λ r h. refl
-unchanged_at w (Some n) (Call x c) = unchanged_running w n _ (unchanged_ends w x w.lists (call n c))
-unchanged_at w (Some n) (Arrive t x k) = unchanged_running w n _ (unchanged_arrives w n t x k (fm.get n.sides t))
-unchanged_at w (Some n) (Local x) = unchanged_running w n _ (unchanged_ends w x w.lists (take_local n n.local))
-unchanged_at w (Some n) (Lose t x) = unchanged_running w n _ (unchanged_ends w x w.lists (lose n t (fm.get n.sides t)))
-unchanged_at w (Some n) (Sweep x) = unchanged_running w n _ (unchanged_ends w x w.lists (sweep n))
-unchanged_at w (Some n) (Dial x y k) = unchanged_running w n _ (unchanged_ends w x w.lists (dial w.names n y k))
-unchanged_at w (Some n) (Stop x) = unchanged_running w n _ (unchanged_ends w x w.lists (stop n))
-unchanged_at w (Some n) (Start x) = unchanged_ends w x w.lists (start n)
+unchanged_at w (Some n) e = unchanged_ends w (node_name e) (left w e) (at_node w.names n (met w e))
 
-pub refused_unchanged : (w v : World) (e : Event) (r : Refusal) → Comes w e (Refused r) v → v ≡ w
+pub refused_unchanged : (w v : World) (e : Event) (r : Refusal) → Goes w e (Refused r) v → v ≡ w
 refused_unchanged w v e r (inl h) = h.1 ∙ unchanged_at w (node_of w.nodes (node_name e)) e r (sym h.0)
 refused_unchanged w v e r (inr h) = h.1

@@ -2,6 +2,7 @@
 use Rattle.std.proofs.Common.{◌≡◌, ℕ, ◌<◌, ◌≤◌, Bool, true, false, cond, List, [], ◌∷◌, ◌++◌, refl, sym, ap, ◌∙◌, subst, arith, ◌&&◌, ◌||◌, Option, Some, None, ◌⊎◌, inl, inr, append-nil, nat_lt}
 use Rattle.std.specs.Option.{is_some}
 use Rattle.std.specs.FinMap as fm
+use Rattle.dist_model.proofs.Envelopes.{Envelope, outgoing}
 use Rattle.dist_model.proofs.Calls.{by_test}
 use Rattle.dist_model.proofs.Kept.{Kept, keeps_draw, keeps_finish}
 use Rattle.dist_model.proofs.Keys.{and_both, same_name_is, same_name_true, same_trunk, same_trunk_is, same_trunk_true}
@@ -14,7 +15,7 @@ use Rattle.dist_model.specs.Links.{LinkNews, noproc}
 use Rattle.dist_model.specs.Names.{Name, same_name}
 use Rattle.dist_model.specs.Node.{Node, end_of, reaches, route, route_in, side_where}
 use Rattle.dist_model.specs.Sides.{Accepting, Asked, AwaitsAck, AwaitsChallenge, AwaitsStatus, Gone, Losing, Parked, State, TrunkSide, Up, is_gone, is_losing, is_up}
-use Rattle.dist_model.specs.Work.{Envelope, Work, at_work}
+use Rattle.dist_model.specs.Work.{Work, at_work}
 use Rattle.erl_names.specs.Order.{trunk_cmp}
 use Rattle.erl_names.specs.declared.trunk.TrunkId.{TrunkId}
 use Rattle.erl_term.specs.declared.term.Pid.{Pid}
@@ -262,37 +263,37 @@ reach_up n t s k h u = or_true (same_name s.peer n.mint.name) (is_some (route n 
 
 -- what one part of an event does to the own half of a pair on a trunk
 module _ (n : Node) (o : Work) (sd : o.node.sides ≡ n.sides) (nm : o.node.mint.name ≡ n.mint.name) (kn : NodeKept n) (ko : NodeKept o.node)
-    (gr : (p : Pid) → over n p ≡ true → over o.node p ≡ true) (dr : n.mint.unlink_ids ≤ o.node.mint.unlink_ids) (ro : AllRouted o.node.sides o.sent) (sk : SidesKept n) where
+    (gr : (p : Pid) → over n p ≡ true → over o.node p ≡ true) (dr : n.mint.unlink_ids ≤ o.node.mint.unlink_ids) (ro : AllRouted o.node.sides (outgoing o)) (sk : SidesKept n) where
   pub up_half : (t : TrunkId) (s : TrunkSide) → side_at n t ≡ Some s → is_up s.state ≡ true → (p q : Pid) → q.node ≡ s.peer → (L : List Item) (c d : Side)
       → ((b : List LinkNews) → reaches n q.node ≡ true → Kept (view b (at_work n) p q) c → Kept (view b o p q) d)
-      → Kept (side_of n p q (news p q L)) c → Kept (side_of o.node p q (news p q L ++ news p q (at_place t s.peer o.sent))) d
+      → Kept (side_of n p q (news p q L)) c → Kept (side_of o.node p q (news p q L ++ news p q (at_place t s.peer (outgoing o)))) d
   up_half t s h u p q e L c d vs k =
       let own : same_name q.node n.mint.name ≡ false = ap (λ y. same_name y n.mint.name) e ∙ not_own n t s sk h in
       let own2 : same_name q.node o.node.mint.name ≡ false = ap (same_name q.node) nm ∙ own in
       let r : reaches n q.node ≡ true = ap (reaches n) e ∙ reach_up n t s sk h u in
       let before : (view (news p q L) (at_work n) p q).sent ≡ news p q L = ap (λ b. news p q L ++ news p q (cond b n.local [])) own ∙ append-nil (news p q L) in
       let route2 : route_in (fm.entries o.node.sides) s.peer ≡ Some t = ap (λ m. route_in (fm.entries m) s.peer) sd ∙ route_up n t s sk h u in
-      let after : (view (news p q L) o p q).sent ≡ news p q L ++ news p q (at_place t s.peer o.sent) =
-      ap (λ b. news p q L ++ news p q (cond b o.node.local (to_name q.node o.sent))) own2
-      ∙ ap (λ y. news p q L ++ news p q (to_name y o.sent)) e
-      ∙ ap (λ l. news p q L ++ news p q l) (sym (at_place_all o.node.sides o.sent t s.peer ro route2)) in
-      subst (λ a. Kept a d) (side_path (view (news p q L) o p q) (side_of o.node p q (news p q L ++ news p q (at_place t s.peer o.sent))) refl refl refl after)
+      let after : (view (news p q L) o p q).sent ≡ news p q L ++ news p q (at_place t s.peer (outgoing o)) =
+      ap (λ b. news p q L ++ news p q (cond b o.node.local (to_name q.node (outgoing o)))) own2
+      ∙ ap (λ y. news p q L ++ news p q (to_name y (outgoing o))) e
+      ∙ ap (λ l. news p q L ++ news p q l) (sym (at_place_all o.node.sides (outgoing o) t s.peer ro route2)) in
+      subst (λ a. Kept a d) (side_path (view (news p q L) o p q) (side_of o.node p q (news p q L ++ news p q (at_place t s.peer (outgoing o)))) refl refl refl after)
       (vs (news p q L) r (subst (λ a. Kept a c) (side_path (side_of n p q (news p q L)) (view (news p q L) (at_work n) p q) refl refl refl (sym before)) k))
 
   far_half : (t : TrunkId) (s : TrunkSide) → side_at n t ≡ Some s → joined s.state ≡ true → is_up s.state ≡ false → (p q : Pid) → q.node ≡ s.peer → (L : List Item) (c : Side)
-      → Kept (side_of n p q (news p q L)) c → Kept (side_of o.node p q (news p q L ++ news p q (at_place t s.peer o.sent))) c
+      → Kept (side_of n p q (news p q L)) c → Kept (side_of o.node p q (news p q L ++ news p q (at_place t s.peer (outgoing o)))) c
   far_half t s h j u p q e L c k =
       let f : held n q.node ≡ false = ap (held n) e ∙ not_held n t s sk h j u in
       let g : held o.node q.node ≡ false = held_along n o.node sd nm q.node ∙ f in
-      let none : at_place t s.peer o.sent ≡ [] = at_place_none o.node.sides o.sent t s.peer ro (λ r.
+      let none : at_place t s.peer (outgoing o) ≡ [] = at_place_none o.node.sides (outgoing o) t s.peer ro (λ r.
       let r2 : reaches n s.peer ≡ true = or_true (same_name s.peer n.mint.name) (is_some (route n s.peer)) (some_true (route n s.peer) t (ap (λ m. route_in (fm.entries m) s.peer) (sym sd) ∙ r)) in
       let c : true ≡ false = sym (reach_held n s.peer r2) ∙ not_held n t s sk h j u in cc) in
-      quiet_half (side_of n p q (news p q L)) (side_of o.node p q (news p q L ++ news p q (at_place t s.peer o.sent))) c
+      quiet_half (side_of n p q (news p q L)) (side_of o.node p q (news p q L ++ news p q (at_place t s.peer (outgoing o)))) c
       (unheld_absent n p q kn f) (unheld_absent o.node p q ko g) dr (gr p) (ap (λ l. news p q L ++ news p q l) none ∙ append-nil (news p q L)) k
 
   pub half : (t : TrunkId) (s : TrunkSide) → side_at n t ≡ Some s → joined s.state ≡ true → (p q : Pid) → q.node ≡ s.peer → (L : List Item) (c : Side)
       → ((b : List LinkNews) → reaches n q.node ≡ true → Kept (view b (at_work n) p q) c → Kept (view b o p q) c)
-      → Kept (side_of n p q (news p q L)) c → Kept (side_of o.node p q (news p q L ++ news p q (at_place t s.peer o.sent))) c
+      → Kept (side_of n p q (news p q L)) c → Kept (side_of o.node p q (news p q L ++ news p q (at_place t s.peer (outgoing o)))) c
   half t s h j p q e L c vs k = by_test _ (is_up s.state) (λ u. up_half t s h u p q e L c c vs k) (λ u. far_half t s h j u p q e L c k)
 
 pub sides_kept : (n m : Node) → m.sides ≡ n.sides → m.mint.name ≡ n.mint.name → SidesKept n → SidesKept m

@@ -2,6 +2,7 @@
 use Rattle.std.proofs.Common.{◌≡◌, ◌≤◌, Bool, true, false, cond, List, [], ◌∷◌, ◌++◌, refl, sym, ap, ◌∙◌, subst, arith, ◌&&◌, Option, Some, None, ◌⊎◌, inl, inr, append-nil}
 use Rattle.std.specs.Option.{is_some}
 use Rattle.std.specs.FinMap as fm
+use Rattle.dist_model.proofs.Envelopes.{outgoing}
 use Rattle.dist_model.proofs.Calls.{by_test, takes_other}
 use Rattle.dist_model.proofs.Home.{HomePairs, home_moves, home_pair, local_home, never_own, own_reached, pid_turned, without_local}
 use Rattle.dist_model.proofs.Kept.{Kept}
@@ -33,7 +34,7 @@ record After (n : Node) (o : Work) : Type 0 where
   sides : o.node.sides ≡ n.sides
   dialed : o.node.dialed ≡ n.dialed
   name : o.node.mint.name ≡ n.mint.name
-  routed : AllRouted o.node.sides o.sent
+  routed : AllRouted o.node.sides (outgoing o)
   local : home_of o.node
   pairs : HomePairs o.node
 
@@ -97,20 +98,20 @@ module _ (w : World) (x : Name) (n : Node) (t0 : TrunkId) (s0 : TrunkSide) (i : 
   some_first (Some l) h = refl
 
   -- Arrive on a side that is up
-  pub good_arrive : Good (record { names = w.names; nodes = set_node w.nodes x ((take_item i (at_work n)).node); lists = carried (fm.insert w.lists (t0, x) rest) ((take_item i (at_work n)).sent) })
+  pub good_arrive : Good (record { names = w.names; nodes = set_node w.nodes x ((take_item i (at_work n)).node); lists = carried (fm.insert w.lists (t0, x) rest) ((take_item i (at_work n)).effects) })
   good_arrive =
       let o = take_item i (at_work n) in
       let m1 = fm.insert w.lists (t0, x) rest in
-      good_changed w x n o.node (carried m1 o.sent) hx g after.sides (omega (arith, after.dialed)) after.name
+      good_changed w x n o.node (carried m1 o.effects) hx g after.sides (omega (arith, after.dialed)) after.name
       (good_item w x n t0 s0 rest hx h0 u0 g.core i first good) after.local after.pairs
-      (λ t nu z. list_to_carried m1 o.sent t z ∙ ap (λ l. list_to m1 t z ++ l) (unsent n o t z after.sides after.routed nu) ∙ append-nil (list_to m1 t z)
+      (λ t nu z. list_to_carried m1 o.effects t z ∙ ap (λ l. list_to m1 t z ++ l) (unsent n o t z after.sides after.routed nu) ∙ append-nil (list_to m1 t z)
       ∙ list_to_insert w.lists t0 x rest t z
       ∙ by_test _ (same_trunk t t0 && same_name z x)
       (λ e.
       let te : t ≡ t0 = same_trunk_true t t0 (and_both (same_trunk t t0) (same_name z x) e).0 in
       let c : true ≡ false = sym u0 ∙ nu s0 (ap (side_at n) te ∙ h0) in cc)
       (λ e. ap (λ b. cond b rest (list_to w.lists t z)) e))
-      (λ t z h. key_of n o t z after.sides _ (old_key t z (carried_key o.node.sides m1 o.sent t z after.routed h)))
+      (λ t z h. key_of n o t z after.sides _ (old_key t z (carried_key o.node.sides m1 o.effects t z after.routed h)))
     where
       old_key : (t : TrunkId) (z : Name) → {P : Type 0} → (is_some (fm.get (fm.insert w.lists (t0, x) rest) (t, z)) ≡ true) ⊎ P → (is_some (fm.get w.lists (t, z)) ≡ true) ⊎ P
       old_key t z (inr h) = inr h
@@ -137,33 +138,33 @@ module _ (w : World) (x : Name) (n : Node) (i : Item) (xs : List Item) (hx : nod
   nx1 : n.mint.name ≡ x
   nx1 = node_of_name w.nodes x n hx
 
-  local_core : (sd : o1.node.sides ≡ n.sides) (nm : o1.node.mint.name ≡ n.mint.name) (ko : NodeKept o1.node) (gr : (p : Pid) → over n p ≡ true → over o1.node p ≡ true) (dr : n.mint.unlink_ids ≤ o1.node.mint.unlink_ids) (ro : AllRouted o1.node.sides o1.sent)
+  local_core : (sd : o1.node.sides ≡ n.sides) (nm : o1.node.mint.name ≡ n.mint.name) (ko : NodeKept o1.node) (gr : (p : Pid) → over n p ≡ true → over o1.node p ≡ true) (dr : n.mint.unlink_ids ≤ o1.node.mint.unlink_ids) (ro : AllRouted o1.node.sides (outgoing o1))
       → ((p q : Pid) (b : List LinkNews) (c : Side) → same_name q.node n.mint.name ≡ false → reaches n q.node ≡ true → Kept (view b (at_work n1) p q) c → Kept (view b o1 p q) c)
-      → WorldKept (record { names = w.names; nodes = set_node w.nodes x o1.node; lists = carried w.lists o1.sent })
-  local_core sd nm ko gr dr ro vs = changed w x n o1 (carried w.lists o1.sent) hx sd nm ko ro (λ t y d. list_to_carried w.lists o1.sent t y)
+      → WorldKept (record { names = w.names; nodes = set_node w.nodes x o1.node; lists = carried w.lists o1.effects })
+  local_core sd nm ko gr dr ro vs = changed w x n o1 (carried w.lists o1.effects) hx sd nm ko ro (λ t y d. list_to_carried w.lists o1.effects t y)
       (λ t s fs j b p q pn qn old.
-      let same : list_to (carried w.lists o1.sent) t x ≡ list_to w.lists t x = list_to_carried w.lists o1.sent t x ∙ ap (λ l. list_to w.lists t x ++ l) (own_none n o1 x t (g.core.sides x n hx) nx1 sd ro) ∙ append-nil (list_to w.lists t x) in
-      let grown : news p q (list_to (carried w.lists o1.sent) t s.peer) ≡ news p q (list_to w.lists t s.peer) ++ news p q (at_place t s.peer o1.sent) =
-      two_parts p q (list_to w.lists t s.peer) (at_place t s.peer o1.sent) _ (list_to_carried w.lists o1.sent t s.peer) in
+      let same : list_to (carried w.lists o1.effects) t x ≡ list_to w.lists t x = list_to_carried w.lists o1.effects t x ∙ ap (λ l. list_to w.lists t x ++ l) (own_none n o1 x t (g.core.sides x n hx) nx1 sd ro) ∙ append-nil (list_to w.lists t x) in
+      let grown : news p q (list_to (carried w.lists o1.effects) t s.peer) ≡ news p q (list_to w.lists t s.peer) ++ news p q (at_place t s.peer (outgoing o1)) =
+      two_parts p q (list_to w.lists t s.peer) (at_place t s.peer (outgoing o1)) _ (list_to_carried w.lists o1.effects t s.peer) in
       let far : same_name q.node n.mint.name ≡ false = ap (λ v. same_name v n.mint.name) qn ∙ not_own n t s (g.core.sides x n hx) fs in
-      subst (λ l. Kept (side_of o1.node p q (news p q (list_to (carried w.lists o1.sent) t s.peer))) (side_of b q p (news q p l))) (sym same)
+      subst (λ l. Kept (side_of o1.node p q (news p q (list_to (carried w.lists o1.effects) t s.peer))) (side_of b q p (news q p l))) (sym same)
       (subst (λ l. Kept (side_of o1.node p q l) (side_of b q p (news q p (list_to w.lists t x)))) (sym grown)
       (half n1 o1 sd nm kl ko gr dr ro sl t s fs j p q qn (list_to w.lists t s.peer) (side_of b q p (news q p (list_to w.lists t x)))
       (λ l r k. vs p q l (side_of b q p (news q p (list_to w.lists t x))) far r k) old)))
       g.core
 
-  good_local_by : (core : WorldKept (record { names = w.names; nodes = set_node w.nodes x o1.node; lists = carried w.lists o1.sent })) (sd : o1.node.sides ≡ n.sides) (dl : o1.node.dialed ≡ n.dialed) (nm : o1.node.mint.name ≡ n.mint.name) (ro : AllRouted o1.node.sides o1.sent) → home_of o1.node
-      → Good (record { names = w.names; nodes = set_node w.nodes x o1.node; lists = carried w.lists o1.sent })
-  good_local_by core sd dl nm ro hm = good_changed w x n o1.node (carried w.lists o1.sent) hx g sd (omega (arith, dl)) nm core hm
+  good_local_by : (core : WorldKept (record { names = w.names; nodes = set_node w.nodes x o1.node; lists = carried w.lists o1.effects })) (sd : o1.node.sides ≡ n.sides) (dl : o1.node.dialed ≡ n.dialed) (nm : o1.node.mint.name ≡ n.mint.name) (ro : AllRouted o1.node.sides (outgoing o1)) → home_of o1.node
+      → Good (record { names = w.names; nodes = set_node w.nodes x o1.node; lists = carried w.lists o1.effects })
+  good_local_by core sd dl nm ro hm = good_changed w x n o1.node (carried w.lists o1.effects) hx g sd (omega (arith, dl)) nm core hm
       (local_home n i xs first (g.core.nodes x n hx) ((g.home x n hx).local) ((g.home x n hx).pairs))
-      (λ t nu z. list_to_carried w.lists o1.sent t z ∙ ap (λ l. list_to w.lists t z ++ l) (unsent n o1 t z sd ro nu) ∙ append-nil (list_to w.lists t z))
-      (λ t z h. key_of n o1 t z sd _ (carried_key o1.node.sides w.lists o1.sent t z ro h))
+      (λ t nu z. list_to_carried w.lists o1.effects t z ∙ ap (λ l. list_to w.lists t z ++ l) (unsent n o1 t z sd ro nu) ∙ append-nil (list_to w.lists t z))
+      (λ t z h. key_of n o1 t z sd _ (carried_key o1.node.sides w.lists o1.effects t z ro h))
 
   rest_home : home_of n1
   rest_home = (subst (λ l. Homely (λ p. never n p) l) first ((g.home x n hx).local)).1
 
 abbrev after_local : (w : World) (x : Name) (n : Node) (xs : List Item) → Item → World
-after_local w x n xs i = record { names = w.names; nodes = set_node w.nodes x ((take_item i (at_work (record n { local = xs }))).node); lists = carried w.lists ((take_item i (at_work (record n { local = xs }))).sent) }
+after_local w x n xs i = record { names = w.names; nodes = set_node w.nodes x ((take_item i (at_work (record n { local = xs }))).node); lists = carried w.lists ((take_item i (at_work (record n { local = xs }))).effects) }
 
 pub good_local : (w : World) (x : Name) (n : Node) (i : Item) (xs : List Item) → node_of w.nodes x ≡ Some n → Good w → n.local ≡ i ∷ xs → Good (after_local w x n xs i)
 good_local w x n i xs hx g first = go (kind i) (subst (λ l. Homely (λ p. never n p) l) first ((g.home x n hx).local)).0

@@ -1,6 +1,7 @@
 -- What the steps keep.
 use Rattle.std.proofs.Common.{◌≡◌, ◌≤◌, Bool, true, false, cond, not, List, [], ◌∷◌, ◌++◌, refl, sym, ap, ◌∙◌, subst, ◌&&◌, ◌||◌, Some, ◌⊎◌, inl, inr, append-nil}
 use Rattle.std.specs.FinMap as fm
+use Rattle.dist_model.proofs.Envelopes.{outgoing}
 use Rattle.dist_model.proofs.Calls.{IfGoes, by_test, calls, takes_other}
 use Rattle.dist_model.proofs.Kept.{Kept}
 use Rattle.dist_model.proofs.Keys.{and_both, same_name_refl, same_name_true, same_pid_is, same_pid_true, same_trunk, same_trunk_is, same_trunk_true}
@@ -12,7 +13,8 @@ use Rattle.dist_model.proofs.Sides.{SidesKept, asks, at_place_none, beside, half
 use Rattle.dist_model.proofs.Views.{news-append, over, side_of, telling_news, view}
 use Rattle.dist_model.specs.Arrivals.{is_from, is_good, is_to}
 use Rattle.dist_model.specs.Calls.{call}
-use Rattle.dist_model.specs.Commands.{Command, Goes, Outcome, Refuses}
+use Rattle.dist_model.specs.Commands.{Accepts, Outcome, Refuses}
+use Rattle.dist_model.specs.declared.command.Command.{Command}
 use Rattle.dist_model.specs.Items.{Handshake, Item, Signalled, Tick, news, news_in, telling}
 use Rattle.dist_model.specs.Linking.{take_link}
 use Rattle.dist_model.specs.Links.{Exits, LinkNews, Says}
@@ -21,7 +23,7 @@ use Rattle.dist_model.specs.Node.{Node, never, reaches, route_in}
 use Rattle.dist_model.specs.Sides.{Accepting, Asked, AwaitsAck, AwaitsChallenge, AwaitsStatus, Gone, Losing, Parked, State, TrunkSide, Up, is_up}
 use Rattle.dist_model.specs.Taking.{take, take_item}
 use Rattle.dist_model.specs.Work.{Work, at_work}
-use Rattle.dist_model.specs.World.{World, carried, ends_in, list_to, node_of, set_node}
+use Rattle.dist_model.specs.World.{World, carried, came_of, list_to, node_of, set_node}
 use Rattle.erl_control.specs.declared.signal.Signal.{Signal}
 use Rattle.erl_names.specs.declared.trunk.TrunkId.{TrunkId}
 use Rattle.erl_term.specs.declared.term.Pid.{Pid}
@@ -29,8 +31,8 @@ use Rattle.link_core.specs.declared.end.LinkSignal.{LinkSignal}
 use Rattle.std.specs.FinMap.{FinMap}
 
 -- nothing is sent to the own node on a trunk
-pub own_none : (n : Node) (o : Work) (x : Name) (t : TrunkId) → SidesKept n → n.mint.name ≡ x → o.node.sides ≡ n.sides → AllRouted o.node.sides o.sent → at_place t x o.sent ≡ []
-own_none n o x t k e sd ro = at_place_none o.node.sides o.sent t x ro (λ r.
+pub own_none : (n : Node) (o : Work) (x : Name) (t : TrunkId) → SidesKept n → n.mint.name ≡ x → o.node.sides ≡ n.sides → AllRouted o.node.sides (outgoing o) → at_place t x (outgoing o) ≡ []
+own_none n o x t k e sd ro = at_place_none o.node.sides (outgoing o) t x ro (λ r.
     let u = route_from n x t (ap (λ l. route_in (fm.entries l) x) (sym sd) ∙ r) in
     k.other t u.found u.there (u.peer ∙ sym e))
 
@@ -39,30 +41,30 @@ two_parts p q xs ys zs h = ap (news p q) h ∙ news-append p q xs ys
 
 -- a part of an event in which no pair takes a signal
 pub moved : (w : World) (x : Name) (n : Node) (o : Work) → node_of w.nodes x ≡ Some n → Moves (at_work n) o → WorldKept w
-    → WorldKept (record { names = w.names; nodes = set_node w.nodes x o.node; lists = carried w.lists o.sent })
+    → WorldKept (record { names = w.names; nodes = set_node w.nodes x o.node; lists = carried w.lists o.effects })
 moved w x n o hx f k =
     let kn = k.nodes x n hx in
     let sk = k.sides x n hx in
-    let ro : AllRouted o.node.sides o.sent = f.routed tt in
+    let ro : AllRouted o.node.sides (outgoing o) = f.routed tt in
     let nm : n.mint.name ≡ x = node_of_name w.nodes x n hx in
-    changed w x n o (carried w.lists o.sent) hx f.sides f.name (f.keeps kn) ro (λ t y d. list_to_carried w.lists o.sent t y)
+    changed w x n o (carried w.lists o.effects) hx f.sides f.name (f.keeps kn) ro (λ t y d. list_to_carried w.lists o.effects t y)
     (λ t s fs j b p q pn qn old.
-    let same : list_to (carried w.lists o.sent) t x ≡ list_to w.lists t x = list_to_carried w.lists o.sent t x ∙ ap (λ l. list_to w.lists t x ++ l) (own_none n o x t sk nm f.sides ro) ∙ append-nil (list_to w.lists t x) in
-    let more : news p q (list_to (carried w.lists o.sent) t s.peer) ≡ news p q (list_to w.lists t s.peer) ++ news p q (at_place t s.peer o.sent) =
-    two_parts p q (list_to w.lists t s.peer) (at_place t s.peer o.sent) _ (list_to_carried w.lists o.sent t s.peer) in
-    subst (λ l. Kept (side_of o.node p q (news p q (list_to (carried w.lists o.sent) t s.peer))) (side_of b q p (news q p l))) (sym same)
+    let same : list_to (carried w.lists o.effects) t x ≡ list_to w.lists t x = list_to_carried w.lists o.effects t x ∙ ap (λ l. list_to w.lists t x ++ l) (own_none n o x t sk nm f.sides ro) ∙ append-nil (list_to w.lists t x) in
+    let more : news p q (list_to (carried w.lists o.effects) t s.peer) ≡ news p q (list_to w.lists t s.peer) ++ news p q (at_place t s.peer (outgoing o)) =
+    two_parts p q (list_to w.lists t s.peer) (at_place t s.peer (outgoing o)) _ (list_to_carried w.lists o.effects t s.peer) in
+    subst (λ l. Kept (side_of o.node p q (news p q (list_to (carried w.lists o.effects) t s.peer))) (side_of b q p (news q p l))) (sym same)
     (subst (λ l. Kept (side_of o.node p q l) (side_of b q p (news q p (list_to w.lists t x)))) (sym more)
     (half n o f.sides f.name kn (f.keeps kn) f.grows f.draws ro sk t s fs j p q qn (list_to w.lists t s.peer) (side_of b q p (news q p (list_to w.lists t x)))
     (λ l r. f.views kn l p q (side_of b q p (news q p (list_to w.lists t x))) r) old)))
     k
 
 -- any call
-pub call_kept : (w : World) (x : Name) (n : Node) (c : Command) → node_of w.nodes x ≡ Some n → WorldKept w → WorldKept ((ends_in w x w.lists (call n c)).world)
+pub call_kept : (w : World) (x : Name) (n : Node) (c : Command) → node_of w.nodes x ≡ Some n → WorldKept w → WorldKept ((came_of w x w.lists (call n c)).world)
 call_kept w x n c hx k = go (call n c) (calls n c)
   where
-    go : (o : Outcome) → IfGoes o (Moves (at_work n)) → WorldKept ((ends_in w x w.lists o).world)
+    go : (o : Outcome) → IfGoes o (Moves (at_work n)) → WorldKept ((came_of w x w.lists o).world)
     go (Refuses j) h = k
-    go (Goes a o) h = moved w x n o hx h k
+    go (Accepts a o) h = moved w x n o hx h k
 
 -- a signal comes on a trunk that is up
 not_same : (x y : Name) → (y ≡ x → ⊥) → same_name y x ≡ false
@@ -100,7 +102,7 @@ signal_hit a b q p s h = telling_news a b q p s ∙ ap (λ t. cond t (s ∷ []) 
 module _ (w : World) (x : Name) (n : Node) (t0 : TrunkId) (s0 : TrunkSide) (i : Item) (rest : List Item) (o : Work) (hx : node_of w.nodes x ≡ Some n)
     (h0 : side_at n t0 ≡ Some s0) (u0 : is_up s0.state ≡ true) (first : list_to w.lists t0 x ≡ i ∷ rest) (k : WorldKept w)
     (sd : o.node.sides ≡ n.sides) (nm : o.node.mint.name ≡ n.mint.name) (ko : NodeKept o.node)
-    (gr : (p : Pid) → over n p ≡ true → over o.node p ≡ true) (dr : n.mint.unlink_ids ≤ o.node.mint.unlink_ids) (ro : AllRouted o.node.sides o.sent)
+    (gr : (p : Pid) → over n p ≡ true → over o.node p ≡ true) (dr : n.mint.unlink_ids ≤ o.node.mint.unlink_ids) (ro : AllRouted o.node.sides (outgoing o))
     -- what it does to each pair: at a pair that it is about, the signal is taken
     (views : (p q : Pid) (b : List LinkNews) (c : Side) → news_in q p i ≡ [] → reaches n q.node ≡ true → Kept (view b (at_work n) p q) c → Kept (view b o p q) c)
     (taking : (p q : Pid) (b : List LinkNews) (c : Side) (s : LinkNews) (L : List LinkNews) → news_in q p i ≡ s ∷ [] → reaches n q.node ≡ true → Kept (view b (at_work n) p q) (with_sent c (s ∷ L)) → Kept (view b o p q) (with_sent c L))
@@ -117,14 +119,14 @@ module _ (w : World) (x : Name) (n : Node) (t0 : TrunkId) (s0 : TrunkSide) (i : 
   sk : SidesKept n
   sk = k.sides x n hx
 
-  others_stay : (t : TrunkId) (y : Name) → (y ≡ x → ⊥) → list_to (carried m1 o.sent) t y ≡ list_to w.lists t y ++ at_place t y o.sent
+  others_stay : (t : TrunkId) (y : Name) → (y ≡ x → ⊥) → list_to (carried m1 o.effects) t y ≡ list_to w.lists t y ++ at_place t y (outgoing o)
   unfolding m1
-  others_stay t y d = list_to_carried m1 o.sent t y ∙ ap (λ l. l ++ at_place t y o.sent)
+  others_stay t y d = list_to_carried m1 o.effects t y ∙ ap (λ l. l ++ at_place t y (outgoing o))
       (list_to_insert w.lists t0 x rest t y ∙ ap (λ b. cond b rest (list_to w.lists t y)) (and_no (same_trunk t t0) (same_name y x) (not_same x y d)))
 
-  own_list : (t : TrunkId) → list_to (carried m1 o.sent) t x ≡ cond (same_trunk t t0 && same_name x x) rest (list_to w.lists t x)
+  own_list : (t : TrunkId) → list_to (carried m1 o.effects) t x ≡ cond (same_trunk t t0 && same_name x x) rest (list_to w.lists t x)
   unfolding m1
-  own_list t = list_to_carried m1 o.sent t x ∙ ap (λ l. list_to m1 t x ++ l) (own_none n o x t sk nx sd ro) ∙ append-nil (list_to m1 t x) ∙ list_to_insert w.lists t0 x rest t x
+  own_list t = list_to_carried m1 o.effects t x ∙ ap (λ l. list_to m1 t x ++ l) (own_none n o x t sk nx sd ro) ∙ append-nil (list_to m1 t x) ∙ list_to_insert w.lists t0 x rest t x
 
   -- only the trunk itself leads to the sender's node
   same_one : (t : TrunkId) (s : TrunkSide) → side_at n t ≡ Some s → joined s.state ≡ true → s.peer ≡ s0.peer → t ≡ t0
@@ -136,29 +138,29 @@ module _ (w : World) (x : Name) (n : Node) (t0 : TrunkId) (s0 : TrunkSide) (i : 
 
   halves : (t : TrunkId) (s : TrunkSide) → side_at n t ≡ Some s → joined s.state ≡ true → (p q : Pid) → q.node ≡ s.peer → (c : Side)
       → ((b : List LinkNews) → reaches n q.node ≡ true → Kept (view b (at_work n) p q) c → Kept (view b o p q) c)
-      → Kept (side_of n p q (news p q (list_to w.lists t s.peer))) c → Kept (side_of o.node p q (news p q (list_to (carried m1 o.sent) t s.peer))) c
+      → Kept (side_of n p q (news p q (list_to w.lists t s.peer))) c → Kept (side_of o.node p q (news p q (list_to (carried m1 o.effects) t s.peer))) c
   halves t s fs j p q qn c vs old =
       let d : s.peer ≡ x → ⊥ = λ e. sk.other t s fs (e ∙ sym nx) in
-      subst (λ l. Kept (side_of o.node p q l) c) (sym (two_parts p q (list_to w.lists t s.peer) (at_place t s.peer o.sent) _ (others_stay t s.peer d)))
+      subst (λ l. Kept (side_of o.node p q l) c) (sym (two_parts p q (list_to w.lists t s.peer) (at_place t s.peer (outgoing o)) _ (others_stay t s.peer d)))
       (half n o sd nm kn ko gr dr ro sk t s fs j p q qn (list_to w.lists t s.peer) c vs old)
 
   mover : (t : TrunkId) (s : TrunkSide) → side_at n t ≡ Some s → joined s.state ≡ true → (b : Node) (p q : Pid) → p.node ≡ x → q.node ≡ s.peer
       → Kept (side_of n p q (news p q (list_to w.lists t s.peer))) (side_of b q p (news q p (list_to w.lists t x)))
-      → Kept (side_of o.node p q (news p q (list_to (carried m1 o.sent) t s.peer))) (side_of b q p (news q p (list_to (carried m1 o.sent) t x)))
+      → Kept (side_of o.node p q (news p q (list_to (carried m1 o.effects) t s.peer))) (side_of b q p (news q p (list_to (carried m1 o.effects) t x)))
   mover t s fs j b p q pn qn old = by_test _ (same_trunk t t0)
       (λ e.
       let te : t ≡ t0 = same_trunk_true t t0 e in
       let se : s ≡ s0 = some_same s s0 (sym fs ∙ ap (side_at n) te ∙ h0) in
       let us : is_up s.state ≡ true = ap (λ (v : TrunkSide). is_up v.state) se ∙ u0 in
-      let l1 : list_to (carried m1 o.sent) t x ≡ rest = own_list t ∙ ap (λ v. cond (v && same_name x x) rest (list_to w.lists t x)) e ∙ ap (λ v. cond v rest (list_to w.lists t x)) (same_name_refl x) in
+      let l1 : list_to (carried m1 o.effects) t x ≡ rest = own_list t ∙ ap (λ v. cond (v && same_name x x) rest (list_to w.lists t x)) e ∙ ap (λ v. cond v rest (list_to w.lists t x)) (same_name_refl x) in
       let l0 : list_to w.lists t x ≡ i ∷ rest = ap (λ v. list_to w.lists v x) te ∙ first in
       let old2 : Kept (side_of n p q (news p q (list_to w.lists t s.peer))) (side_of b q p (news_in q p i ++ news q p rest)) =
       subst (λ l. Kept (side_of n p q (news p q (list_to w.lists t s.peer))) (side_of b q p (news q p l))) l0 old in
-      subst (λ l. Kept (side_of o.node p q (news p q (list_to (carried m1 o.sent) t s.peer))) (side_of b q p (news q p l))) (sym l1)
+      subst (λ l. Kept (side_of o.node p q (news p q (list_to (carried m1 o.effects) t s.peer))) (side_of b q p (news q p l))) (sym l1)
       (on_it t s fs j us b p q qn old2 (about p q)))
       (λ e.
-      let l1 : list_to (carried m1 o.sent) t x ≡ list_to w.lists t x = own_list t ∙ ap (λ v. cond (v && same_name x x) rest (list_to w.lists t x)) e in
-      subst (λ l. Kept (side_of o.node p q (news p q (list_to (carried m1 o.sent) t s.peer))) (side_of b q p (news q p l))) (sym l1)
+      let l1 : list_to (carried m1 o.effects) t x ≡ list_to w.lists t x = own_list t ∙ ap (λ v. cond (v && same_name x x) rest (list_to w.lists t x)) e in
+      subst (λ l. Kept (side_of o.node p q (news p q (list_to (carried m1 o.effects) t s.peer))) (side_of b q p (news q p l))) (sym l1)
       (halves t s fs j p q qn (side_of b q p (news q p (list_to w.lists t x))) (λ l r. views p q l _ (not_about t s fs j p q qn e (about p q)) r) old))
     where
       not_about : (t : TrunkId) (s : TrunkSide) → side_at n t ≡ Some s → joined s.state ≡ true → (p q : Pid) → q.node ≡ s.peer → same_trunk t t0 ≡ false → (news_in q p i ≡ []) ⊎ ((s : LinkNews) × (news_in q p i ≡ s ∷ []) × (q.node ≡ s0.peer)) → news_in q p i ≡ []
@@ -168,19 +170,19 @@ module _ (w : World) (x : Name) (n : Node) (t0 : TrunkId) (s0 : TrunkSide) (i : 
       on_it : (t : TrunkId) (s : TrunkSide) → side_at n t ≡ Some s → joined s.state ≡ true → is_up s.state ≡ true → (b : Node) (p q : Pid) → q.node ≡ s.peer
           → Kept (side_of n p q (news p q (list_to w.lists t s.peer))) (side_of b q p (news_in q p i ++ news q p rest))
           → (news_in q p i ≡ []) ⊎ ((s : LinkNews) × (news_in q p i ≡ s ∷ []) × (q.node ≡ s0.peer))
-          → Kept (side_of o.node p q (news p q (list_to (carried m1 o.sent) t s.peer))) (side_of b q p (news q p rest))
+          → Kept (side_of o.node p q (news p q (list_to (carried m1 o.effects) t s.peer))) (side_of b q p (news q p rest))
       on_it t s fs j us b p q qn old (inl h) = halves t s fs j p q qn (side_of b q p (news q p rest)) (λ l r. views p q l _ h r)
           (subst (λ l. Kept (side_of n p q (news p q (list_to w.lists t s.peer))) (side_of b q p (l ++ news q p rest))) h old)
       on_it t s fs j us b p q qn old (inr h) =
           let d : s.peer ≡ x → ⊥ = λ e. sk.other t s fs (e ∙ sym nx) in
-          subst (λ l. Kept (side_of o.node p q l) (side_of b q p (news q p rest))) (sym (two_parts p q (list_to w.lists t s.peer) (at_place t s.peer o.sent) _ (others_stay t s.peer d)))
+          subst (λ l. Kept (side_of o.node p q l) (side_of b q p (news q p rest))) (sym (two_parts p q (list_to w.lists t s.peer) (at_place t s.peer (outgoing o)) _ (others_stay t s.peer d)))
           (up_half n o sd nm kn ko gr dr ro sk t s fs us p q qn (list_to w.lists t s.peer) (side_of b q p (h.0 ∷ news q p rest)) (side_of b q p (news q p rest))
           (λ l r. taking p q l (side_of b q p (news q p rest)) h.0 (news q p rest) h.1 r)
           (subst (λ l. Kept (side_of n p q (news p q (list_to w.lists t s.peer))) (side_of b q p (l ++ news q p rest))) h.1 old))
 
-  pub arrived : WorldKept (record { names = w.names; nodes = set_node w.nodes x o.node; lists = carried (fm.insert w.lists (t0, x) rest) o.sent })
+  pub arrived : WorldKept (record { names = w.names; nodes = set_node w.nodes x o.node; lists = carried (fm.insert w.lists (t0, x) rest) o.effects })
   unfolding m1
-  arrived = changed w x n o (carried m1 o.sent) hx sd nm ko ro others_stay mover k
+  arrived = changed w x n o (carried m1 o.effects) hx sd nm ko ro others_stay mover k
 
 -- any signal on a trunk that is up
 pub is_from_peer : (s : TrunkSide) (q : Pid) → is_from s q ≡ true → q.node ≡ s.peer
@@ -223,7 +225,7 @@ kind Tick = inl (λ a b. refl)
 module _ (w : World) (x : Name) (n : Node) (t0 : TrunkId) (s0 : TrunkSide) (rest : List Item) (hx : node_of w.nodes x ≡ Some n)
     (h0 : side_at n t0 ≡ Some s0) (u0 : is_up s0.state ≡ true) (k : WorldKept w) where
   plain : (i : Item) → list_to w.lists t0 x ≡ i ∷ rest → ((p q : Pid) → news_in p q i ≡ [])
-      → WorldKept (record { names = w.names; nodes = set_node w.nodes x ((take_item i (at_work n)).node); lists = carried (fm.insert w.lists (t0, x) rest) ((take_item i (at_work n)).sent) })
+      → WorldKept (record { names = w.names; nodes = set_node w.nodes x ((take_item i (at_work n)).node); lists = carried (fm.insert w.lists (t0, x) rest) ((take_item i (at_work n)).effects) })
   plain i first none =
       let f = takes_other i (at_work n) none in
       let kn = k.nodes x n hx in
@@ -233,7 +235,7 @@ module _ (w : World) (x : Name) (n : Node) (t0 : TrunkId) (s0 : TrunkSide) (rest
       (λ p q. inl (none q p))
 
   linking : (q0 p0 : Pid) (s : LinkNews) → list_to w.lists t0 x ≡ Signalled (telling q0 p0 s) ∷ rest → (is_from s0 q0 && is_to n p0) ≡ true
-      → WorldKept (record { names = w.names; nodes = set_node w.nodes x ((take_link p0 q0 s (at_work n)).node); lists = carried (fm.insert w.lists (t0, x) rest) ((take_link p0 q0 s (at_work n)).sent) })
+      → WorldKept (record { names = w.names; nodes = set_node w.nodes x ((take_link p0 q0 s (at_work n)).node); lists = carried (fm.insert w.lists (t0, x) rest) ((take_link p0 q0 s (at_work n)).effects) })
   linking q0 p0 s first good =
       let g = and_both (is_from s0 q0) (is_to n p0) good in
       let from : q0.node ≡ s0.peer = is_from_peer s0 q0 g.0 in
@@ -271,7 +273,7 @@ module _ (w : World) (x : Name) (n : Node) (t0 : TrunkId) (s0 : TrunkSide) (rest
           (λ h. let z : u ∷ [] ≡ [] = sym e ∙ signal_miss q0 p0 q p s h in cc)
 
   abbrev taken : Item → Type 0
-  taken i = WorldKept (record { names = w.names; nodes = set_node w.nodes x ((take_item i (at_work n)).node); lists = carried (fm.insert w.lists (t0, x) rest) ((take_item i (at_work n)).sent) })
+  taken i = WorldKept (record { names = w.names; nodes = set_node w.nodes x ((take_item i (at_work n)).node); lists = carried (fm.insert w.lists (t0, x) rest) ((take_item i (at_work n)).effects) })
 
   -- an item that passes the checks
   pub good_item : (i : Item) → list_to w.lists t0 x ≡ i ∷ rest → is_good n s0 i ≡ true → taken i
@@ -280,5 +282,5 @@ module _ (w : World) (x : Name) (n : Node) (t0 : TrunkId) (s0 : TrunkSide) (rest
       go : ((p q : Pid) → news_in p q i ≡ []) ⊎ ((q : Pid) × (p : Pid) × (s : LinkNews) × (i ≡ Signalled (telling q p s))) → taken i
       go (inl h) = plain i first h
       go (inr h) = subst (λ z. taken z) (sym h.3)
-          (subst (λ (z : Work). WorldKept (record { names = w.names; nodes = set_node w.nodes x z.node; lists = carried (fm.insert w.lists (t0, x) rest) z.sent })) (sym (taken_link h.0 h.1 h.2 (at_work n)))
+          (subst (λ (z : Work). WorldKept (record { names = w.names; nodes = set_node w.nodes x z.node; lists = carried (fm.insert w.lists (t0, x) rest) z.effects })) (sym (taken_link h.0 h.1 h.2 (at_work n)))
           (linking h.0 h.1 h.2 (first ∙ ap (λ z. z ∷ rest) h.3) (sym (good_link n s0 h.0 h.1 h.2) ∙ sym (ap (is_good n s0) h.3) ∙ good)))

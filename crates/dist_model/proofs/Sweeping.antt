@@ -20,7 +20,8 @@ use Rattle.dist_model.proofs.Steps.{not_beside}
 use Rattle.dist_model.proofs.Table.{Good, Row, begun, begun_state, has, is_reply, role_state, up_once}
 use Rattle.dist_model.specs.Exits.{link_exit}
 use Rattle.dist_model.specs.Links.{noconnection}
-use Rattle.dist_model.specs.Losses.{has_records, link_to, registered_by, sweep_end, sweep_link, sweep_registered, sweep_watch, watch_to}
+use Rattle.dist_model.proofs.Records.{has_records, no_records, sweep_link, sweep_registered, sweep_watch}
+use Rattle.dist_model.specs.Losses.{link_to, registered_by, sweep_end, watch_to}
 use Rattle.dist_model.specs.Monitoring.{unwatch}
 use Rattle.dist_model.specs.Names.{Name, pair_cmp, same_name}
 use Rattle.dist_model.specs.Node.{Node, living, reaches, route}
@@ -138,17 +139,13 @@ sweep_moves n t v kn sk h e = links_swept (link_to v.peer (fm.entries n.ends)) v
 -- with no records left the side is gone
 pub good_closed : (w : World) (x : Name) (n : Node) (t : TrunkId) (v : TrunkSide) → node_of w.nodes x ≡ Some n → side_at n t ≡ Some v → has_records v.peer n ≡ false → Good w → Good (in_state w x n t (as_state v Gone))
 good_closed w x n t v hx h clean g =
-    let none : link_to v.peer (fm.entries n.ends) ≡ None = none_of (link_to v.peer (fm.entries n.ends)) (is_some (watch_to v.peer (fm.entries n.watches))) (is_some (registered_by v.peer (fm.entries n.registered))) clean in
+    let none : link_to v.peer (fm.entries n.ends) ≡ None = (no_records v.peer n clean).0 in
     let f = fits_gone n t v (as_state v Gone) (g.core.sides x n hx) h refl refl (λ i p q e. ap end_in (fm.get-entries n.ends (p, q) ∙ link_none v.peer (fm.entries n.ends) none p q e)) in
     good_state w x n t v (as_state v Gone) hx h refl f g (Rattle.dist_model.proofs.Reside.drops w x n t v (as_state v Gone) hx h refl refl f g.core) (role_gone (same_name t.dialer n.mint.name)) (rows_gone w x t v (as_state v Gone) refl)
   where
     role_gone : (b : Bool) → role_state b Gone ≡ true
     role_gone true = refl
     role_gone false = refl
-
-    none_of : (o : Option ((Pid × Pid) × End)) (a b : Bool) → ((is_some o || a) || b) ≡ false → o ≡ None
-    none_of None a b h = refl
-    none_of (Some e) a b h = cc
 
 -- a side that waited goes on, where nobody holds the peer's records any more
 pub good_unparked : (w : World) (x : Name) (n : Node) (t : TrunkId) (v : TrunkSide) (k : ℕ) → node_of w.nodes x ≡ Some n → side_at n t ≡ Some v → asks v.state ≡ true → held n v.peer ≡ false → Good w → Good (in_state w x n t (as_state v (Accepting k)))

@@ -2,6 +2,8 @@
 use Rattle.std.proofs.Common.{◌≡◌, ◌≤◌, Bool, true, false, cond, List, [], ◌∷◌, ◌++◌, refl, sym, ap, ◌∙◌, subst, arith, ◌&&◌, ◌||◌, Option, Some, None, ◌⊎◌, inl, inr, append-nil}
 use Rattle.std.specs.Option.{is_some}
 use Rattle.std.specs.FinMap as fm
+use Rattle.dist_model.specs.declared.report.Effect.{Effect}
+use Rattle.dist_model.proofs.Envelopes.{outgoing, sent_in}
 use Rattle.dist_model.proofs.Calls.{IfGoes, by_test, calls}
 use Rattle.dist_model.proofs.Home.{HomePairs, home_moves}
 use Rattle.dist_model.proofs.Keys.{and_both, place_total, same_name_is, same_name_true, same_place, same_trunk, same_trunk_true}
@@ -11,13 +13,14 @@ use Rattle.dist_model.proofs.Routes.{at_place, list_to_carried, node_of_name, no
 use Rattle.dist_model.proofs.Sides.{Routed, SidesKept, asks, at_place_none, beside, holds, route_from, side_at, up_holds, up_not_gone}
 use Rattle.dist_model.proofs.Steps.{moved}
 use Rattle.dist_model.specs.Calls.{call}
-use Rattle.dist_model.specs.Commands.{Command, Goes, Outcome, Refuses}
+use Rattle.dist_model.specs.Commands.{Accepts, Outcome, Refuses}
+use Rattle.dist_model.specs.declared.command.Command.{Command}
 use Rattle.dist_model.specs.Items.{Handshake, Item, news}
 use Rattle.dist_model.specs.Names.{Name, place_cmp, same_name}
 use Rattle.dist_model.specs.Node.{Node, route_in}
 use Rattle.dist_model.specs.Sides.{Accepting, Asked, AwaitsAck, AwaitsChallenge, AwaitsStatus, Gone, Losing, Parked, State, TrunkSide, Up, is_gone, is_up}
-use Rattle.dist_model.specs.Work.{Envelope, Work, at_work}
-use Rattle.dist_model.specs.World.{World, carried, ends_in, list_to, node_of, set_node}
+use Rattle.dist_model.specs.Work.{Work, at_work}
+use Rattle.dist_model.specs.World.{World, carried, came_of, list_to, node_of, set_node}
 use Rattle.erl_handshake.specs.declared.message.ShakeMsg.{ShakeMsg}
 use Rattle.erl_names.specs.Order.{trunk_cmp}
 use Rattle.erl_names.specs.declared.trunk.TrunkId.{TrunkId}
@@ -472,20 +475,24 @@ insert_key m u y l t z h = go (same_trunk t u && same_name z y) refl
     go true e h = let v = and_both (same_trunk t u) (same_name z y) e in inr (same_trunk_true t u v.0, same_name_true z y v.1)
     go false e h = inl h
 
-pub carried_key : (sd : FinMap trunk_cmp TrunkSide) (m : FinMap place_cmp (List Item)) (es : List Envelope) (t : TrunkId) (z : Name) → AllRouted sd es → is_some (fm.get (carried m es) (t, z)) ≡ true → (is_some (fm.get m (t, z)) ≡ true) ⊎ (route_in (fm.entries sd) z ≡ Some t)
+pub carried_key : (sd : FinMap trunk_cmp TrunkSide) (m : FinMap place_cmp (List Item)) (fs : List (Effect Item)) (t : TrunkId) (z : Name) → AllRouted sd (sent_in fs) → is_some (fm.get (carried m fs) (t, z)) ≡ true → (is_some (fm.get m (t, z)) ≡ true) ⊎ (route_in (fm.entries sd) z ≡ Some t)
 carried_key sd m [] t z a h = inl h
-carried_key sd m (e ∷ es) t z a h = go (carried_key sd (fm.insert m (e.trunk, e.target) (list_to m e.trunk e.target ++ e.item ∷ [])) es t z a.1 h)
+carried_key sd m (Effect.Sent (Some u) y x ∷ fs) t z a h = go (carried_key sd (fm.insert m (u, y) (list_to m u y ++ x ∷ [])) fs t z a.1 h)
   where
-    last : (is_some (fm.get m (t, z)) ≡ true) ⊎ ((t ≡ e.trunk) × (z ≡ e.target)) → (is_some (fm.get m (t, z)) ≡ true) ⊎ (route_in (fm.entries sd) z ≡ Some t)
+    last : (is_some (fm.get m (t, z)) ≡ true) ⊎ ((t ≡ u) × (z ≡ y)) → (is_some (fm.get m (t, z)) ≡ true) ⊎ (route_in (fm.entries sd) z ≡ Some t)
     last (inl i) = inl i
     last (inr i) = inr (ap (route_in (fm.entries sd)) i.1 ∙ a.0 ∙ ap Some (sym i.0))
 
-    go : (is_some (fm.get (fm.insert m (e.trunk, e.target) (list_to m e.trunk e.target ++ e.item ∷ [])) (t, z)) ≡ true) ⊎ (route_in (fm.entries sd) z ≡ Some t) → (is_some (fm.get m (t, z)) ≡ true) ⊎ (route_in (fm.entries sd) z ≡ Some t)
-    go (inl i) = last (insert_key m e.trunk e.target _ t z i)
+    go : (is_some (fm.get (fm.insert m (u, y) (list_to m u y ++ x ∷ [])) (t, z)) ≡ true) ⊎ (route_in (fm.entries sd) z ≡ Some t) → (is_some (fm.get m (t, z)) ≡ true) ⊎ (route_in (fm.entries sd) z ≡ Some t)
+    go (inl i) = last (insert_key m u y _ t z i)
     go (inr i) = inr i
+carried_key sd m (Effect.Sent None y x ∷ fs) t z a h = carried_key sd m fs t z a h
+carried_key sd m (Effect.Put p r ∷ fs) t z a h = carried_key sd m fs t z a h
+carried_key sd m (Effect.Ended p r ∷ fs) t z a h = carried_key sd m fs t z a h
+carried_key sd m (Effect.LinkExit p q r ∷ fs) t z a h = carried_key sd m fs t z a h
 
-pub unsent : (n : Node) (o : Work) (t : TrunkId) (z : Name) → o.node.sides ≡ n.sides → AllRouted o.node.sides o.sent → ((s : TrunkSide) → side_at n t ≡ Some s → is_up s.state ≡ false) → at_place t z o.sent ≡ []
-unsent n o t z sd ro nu = at_place_none o.node.sides o.sent t z ro (λ r.
+pub unsent : (n : Node) (o : Work) (t : TrunkId) (z : Name) → o.node.sides ≡ n.sides → AllRouted o.node.sides (outgoing o) → ((s : TrunkSide) → side_at n t ≡ Some s → is_up s.state ≡ false) → at_place t z (outgoing o) ≡ []
+unsent n o t z sd ro nu = at_place_none o.node.sides (outgoing o) t z ro (λ r.
     let u = route_from n z t (ap (λ l. route_in (fm.entries l) z) (sym sd) ∙ r) in
     let c : true ≡ false = sym u.up ∙ nu u.found u.there in cc)
 
@@ -495,18 +502,18 @@ key_of n o t z sd P (inr h) = inr (route_from n z t (ap (λ l. route_in (fm.entr
 
 -- a part of an event in which no pair takes a signal
 pub good_moved : (w : World) (x : Name) (n : Node) (o : Work) → node_of w.nodes x ≡ Some n → Moves (at_work n) o → Good w
-    → Good (record { names = w.names; nodes = set_node w.nodes x o.node; lists = carried w.lists o.sent })
+    → Good (record { names = w.names; nodes = set_node w.nodes x o.node; lists = carried w.lists o.effects })
 good_moved w x n o hx f g =
     let kn = g.core.nodes x n hx in
     let hk = g.home x n hx in
-    let ro : AllRouted o.node.sides o.sent = f.routed tt in
-    good_changed w x n o.node (carried w.lists o.sent) hx g f.sides (omega (arith, f.dialed)) f.name (moved w x n o hx f g.core) (f.home kn hk.local) (home_moves (at_work n) o f kn hk.pairs)
-    (λ t nu z. list_to_carried w.lists o.sent t z ∙ ap (λ l. list_to w.lists t z ++ l) (unsent n o t z f.sides ro nu) ∙ append-nil (list_to w.lists t z))
-    (λ t z h. key_of n o t z f.sides _ (carried_key o.node.sides w.lists o.sent t z ro h))
+    let ro : AllRouted o.node.sides (outgoing o) = f.routed tt in
+    good_changed w x n o.node (carried w.lists o.effects) hx g f.sides (omega (arith, f.dialed)) f.name (moved w x n o hx f g.core) (f.home kn hk.local) (home_moves (at_work n) o f kn hk.pairs)
+    (λ t nu z. list_to_carried w.lists o.effects t z ∙ ap (λ l. list_to w.lists t z ++ l) (unsent n o t z f.sides ro nu) ∙ append-nil (list_to w.lists t z))
+    (λ t z h. key_of n o t z f.sides _ (carried_key o.node.sides w.lists o.effects t z ro h))
 
-pub good_call : (w : World) (x : Name) (n : Node) (c : Command) → node_of w.nodes x ≡ Some n → Good w → Good ((ends_in w x w.lists (call n c)).world)
+pub good_call : (w : World) (x : Name) (n : Node) (c : Command) → node_of w.nodes x ≡ Some n → Good w → Good ((came_of w x w.lists (call n c)).world)
 good_call w x n c hx g = go (call n c) (calls n c)
   where
-    go : (o : Outcome) → IfGoes o (Moves (at_work n)) → Good ((ends_in w x w.lists o).world)
+    go : (o : Outcome) → IfGoes o (Moves (at_work n)) → Good ((came_of w x w.lists o).world)
     go (Refuses j) h = g
-    go (Goes a o) h = good_moved w x n o hx h g
+    go (Accepts a o) h = good_moved w x n o hx h g

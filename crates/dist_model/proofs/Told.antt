@@ -4,6 +4,7 @@ use Rattle.std.proofs.lemmas.List.Elements.{All-append, All-cons, All-nil, All-p
 use Rattle.std.specs.List.{All}
 use Rattle.std.specs.FinMap as fm
 use Rattle.std.specs.FinMap.{FinMap}
+use Rattle.dist_model.proofs.Envelopes.{Envelope, outgoing}
 use Rattle.dist_model.proofs.Calls.{by_test}
 use Rattle.dist_model.proofs.Founding.{Carried, EndedBefore, Founded, OffNow, founded_by}
 use Rattle.dist_model.proofs.Homing.{TargetsIn}
@@ -12,14 +13,16 @@ use Rattle.dist_model.proofs.Routes.{at_place, list_to_carried, node_of_set_othe
 use Rattle.dist_model.proofs.Turning.{down}
 use Rattle.dist_model.proofs.Views.{over}
 use Rattle.dist_model.specs.Causes.{HasEnded, TrueCause}
-use Rattle.dist_model.specs.Commands.{Answer, MakeMonitor}
+use Rattle.dist_model.specs.declared.report.Answer.{Answer}
+use Rattle.dist_model.specs.declared.command.Command.{Command}
 use Rattle.dist_model.specs.Downs.{Demonitored, Down, Monitored, answers, downs, downs_by, is_answered, is_demonitored}
 use Rattle.dist_model.specs.Histories.{Happening, History}
 use Rattle.dist_model.specs.Items.{Item}
 use Rattle.dist_model.specs.Links.{noproc}
 use Rattle.dist_model.specs.Names.{Name, place_cmp, same_name}
 use Rattle.dist_model.specs.Node.{Node, living, never}
-use Rattle.dist_model.specs.Work.{EndedBy, Envelope, Work}
+use Rattle.dist_model.specs.Work.{Work}
+use Rattle.dist_model.specs.declared.report.Effect.{Effect}
 use Rattle.dist_model.specs.World.{Call, Event, Report, Reported, World, carried, list_to, node_of, set_node}
 use Rattle.erl_names.specs.declared.trunk.TrunkId.{TrunkId}
 use Rattle.erl_term.specs.Data.{Data}
@@ -78,7 +81,7 @@ monitored_answered k p q (e ∷ h) (inr m) = omega (arith, monitored_answered k 
 pub monitored_one : (k : Reference) (p q a b : Pid) (h : History) → answers k h ≤ 1 → Monitored k p q h → Monitored k a b h → (p ≡ a) × (q ≡ b)
 monitored_one k p q a b [] o m n = absurd m
 monitored_one k p q a b (e ∷ h) o (inl m) (inl n) =
-    let same : Call p.node (MakeMonitor p q) ≡ Call a.node (MakeMonitor a b) = sym m.0 ∙ n.0 in
+    let same : Call p.node (Command.Monitor p q) ≡ Call a.node (Command.Monitor a b) = sym m.0 ∙ n.0 in
     let x : p ≡ a = cc in let y : q ≡ b = cc in (x, y)
 monitored_one k p q a b (e ∷ h) o (inl m) (inr n) = let c : ◌≡◌ {A = ℕ} (cond (is_answered k e.event e.report) 1 0) 1 = ap (λ b. cond b 1 0) m.1 in absurd (omega (arith, monitored_answered k a b h n))
 monitored_one k p q a b (e ∷ h) o (inr m) (inl n) = let c : ◌≡◌ {A = ℕ} (cond (is_answered k e.event e.report) 1 0) 1 = ap (λ b. cond b 1 0) n.1 in absurd (omega (arith, monitored_answered k p q h m))
@@ -89,7 +92,7 @@ pub data Course (w : World) (h : History) (n : Node) (x : Name) (e : Event) (r :
   Stays : fm.get o.node.watches k ≡ fm.get n.watches k → downs_by k e r ≡ [] → is_answered k e r ≡ false → is_demonitored k e r ≡ false → Course w h n x e r o k
   Leaves : (u : Monitor) → fm.get n.watches k ≡ Some u → fm.get o.node.watches k ≡ None → over o.node u.owner ≡ true → u.owner.node ≡ x → downs_by k e r ≡ [] → is_answered k e r ≡ false → is_demonitored k e r ≡ false → Course w h n x e r o k
   Downs : (u : Monitor) (z : Data) → fm.get n.watches k ≡ Some u → fm.get o.node.watches k ≡ None → TrueCause h w u.owner u.target z → downs_by k e r ≡ down u z ∷ [] → is_answered k e r ≡ false → is_demonitored k e r ≡ false → Course w h n x e r o k
-  Begins : (p q : Pid) → e ≡ Call p.node (MakeMonitor p q) → is_answered k e r ≡ true → is_demonitored k e r ≡ false → k.node ≡ x → (Drawn n k → ⊥) → Drawn o.node k → living o.node p ≡ true
+  Begins : (p q : Pid) → e ≡ Call p.node (Command.Monitor p q) → is_answered k e r ≡ true → is_demonitored k e r ≡ false → k.node ≡ x → (Drawn n k → ⊥) → Drawn o.node k → living o.node p ≡ true
       → ((fm.get o.node.watches k ≡ Some (monitor_of p q)) × (downs_by k e r ≡ [])) ⊎ ((fm.get o.node.watches k ≡ fm.get n.watches k) × (z : Data) × TrueCause h w p q z × (downs_by k e r ≡ down (monitor_of p q) z ∷ [])) → Course w h n x e r o k
   Revoked : (u : Monitor) → fm.get n.watches k ≡ Some u → fm.get o.node.watches k ≡ None → downs_by k e r ≡ [] → is_answered k e r ≡ false → is_demonitored k e r ≡ true → Course w h n x e r o k
 
@@ -113,7 +116,7 @@ module _ (w : World) (h : History) (x : Name) (n : Node) (hx : node_of w.nodes x
   happened = (record { event = e; report = Reported a o.effects }) ∷ h
 
   abbrev pub after : FinMap place_cmp (List Item) → World
-  after m = record { names = w.names; nodes = set_node w.nodes x o.node; lists = carried m o.sent }
+  after m = record { names = w.names; nodes = set_node w.nodes x o.node; lists = carried m o.effects }
 
   pub at_x : (y : Name) → x ≡ y → node_of (set_node w.nodes x o.node) y ≡ Some o.node
   at_x y i = subst (λ z. node_of (set_node w.nodes x o.node) z ≡ Some o.node) i (node_of_set_same w.nodes x n o.node hx d.name)
@@ -323,7 +326,7 @@ module _ (w : World) (h : History) (x : Name) (n : Node) (hx : node_of w.nodes x
   comes_founded : (i : Item) → Founded (EndedBefore n (Old w h) (λ p q z. Unit {0}) (Called h) (Off w h) o) (Called happened) (OffNow n (Old w h) (λ p q z. Unit {0}) (Called h) (Off w h) o) i → Founded OldNow (Called happened) OffThen i
   comes_founded = founded_by (EndedBefore n (Old w h) (λ p q z. Unit {0}) (Called h) (Off w h) o) OldNow (Called happened) (Called happened) (OffNow n (Old w h) (λ p q z. Unit {0}) (Called h) (Off w h) o) OffThen ends (λ p q k m. m) offs
     where
-      ends : (q : Pid) (z : Data) → Old w h q z ⊎ Contains o.effects (EndedBy q z) → OldNow q z
+      ends : (q : Pid) (z : Data) → Old w h q z ⊎ Contains o.effects (Effect.Ended q z) → OldNow q z
       ends q z (inl i) = was_old q z i
       ends q z (inr i) = inl (inl i)
 
@@ -344,10 +347,10 @@ module _ (w : World) (h : History) (x : Name) (n : Node) (hx : node_of w.nodes x
 
   pub sound_after : (m : FinMap place_cmp (List Item)) → ((t : TrunkId) (y : Name) → All (IsFounded w h) (list_to m t y)) → Sound (after m) happened
   sound_after m ml = record {
-    lists = λ t y. subst (λ l. All (IsFounded (after m) happened) l) (sym (list_to_carried m o.sent t y))
-        (All-append (IsFounded (after m) happened) (list_to m t y) (at_place t y o.sent)
+    lists = λ t y. subst (λ l. All (IsFounded (after m) happened) l) (sym (list_to_carried m o.effects t y))
+        (All-append (IsFounded (after m) happened) (list_to m t y) (at_place t y (outgoing o))
         (All-weaker (IsFounded w h) (IsFounded (after m) happened) stays_founded (list_to m t y) (ml t y))
-        (placed (IsFounded (after m) happened) t y o.sent (All-weaker _ (λ (v : Envelope). IsFounded (after m) happened v.item) (λ v. comes_founded v.item) o.sent d.carries.sent)));
+        (placed (IsFounded (after m) happened) t y (outgoing o) (All-weaker _ (λ (v : Envelope). IsFounded (after m) happened v.item) (λ v. comes_founded v.item) (outgoing o) d.carries.sent)));
     locals = λ y v hv. by_name _ y
         (λ i. subst (λ (z : Node). All (IsFounded (after m) happened) z.local) (here_after y v i hv) (All-weaker _ (IsFounded (after m) happened) comes_founded o.node.local d.carries.local))
         (λ i. All-weaker (IsFounded w h) (IsFounded (after m) happened) stays_founded v.local (g.locals y v (sym (elsewhere y i) ∙ hv)));

@@ -4,6 +4,7 @@ use Rattle.erl_names.specs.Draw as kind
 use Rattle.std.proofs.Common.{◌≡◌, Bool, true, false, cond, not, List, [], ◌∷◌, ◌++◌, refl, sym, ap, ◌∙◌, subst, ◌&&◌, ◌||◌, Option, Some, None, ◌⊎◌, inl, inr, append_assoc, append-nil}
 use Rattle.std.specs.FinMap as fm
 use Rattle.std.specs.FinMap.Entries.{find}
+use Rattle.dist_model.proofs.Envelopes.{Envelope, outgoing, sent_in-push, sent_in-silent, sent_by, sent_in, sent_in-append}
 use Rattle.dist_model.proofs.Calls.{by_test}
 use Rattle.dist_model.proofs.Entries.{same_reference_true}
 use Rattle.dist_model.proofs.Founding.{Nothing, Quietly, Sends, added_some, all_posts_keep, posts_keep, quietly_all, registered_left, removed_some, watches_left}
@@ -22,7 +23,8 @@ use Rattle.dist_model.specs.Monitoring.{register, unregister, unwatch}
 use Rattle.dist_model.specs.Names.{Name, same_name, same_pid}
 use Rattle.dist_model.specs.Node.{Ended, Life, Living, Node, is_living_life, living, route, route_in}
 use Rattle.dist_model.specs.Sides.{TrunkSide}
-use Rattle.dist_model.specs.Work.{Effect, EndedBy, Envelope, LinkExit, Put, Sent, Work, delivered, draw, keep_local, post, post_all, post_to, put, report, send_on, set_end, set_life}
+use Rattle.dist_model.specs.Work.{Work, delivered, draw, keep_local, post, post_all, post_to, put, report, send_on, set_end, set_life}
+use Rattle.dist_model.specs.declared.report.Effect.{Effect}
 use Rattle.erl_control.specs.declared.signal.Signal.{Signal}
 use Rattle.erl_names.specs.declared.trunk.TrunkId.{TrunkId}
 use Rattle.erl_term.specs.Data.{Data}
@@ -73,19 +75,19 @@ at_place_append t y [] fs = refl
 at_place_append t y (e ∷ es) fs = ap (λ l. cond (same_trunk t e.trunk && same_name y e.target) (e.item ∷ []) [] ++ l) (at_place_append t y es fs)
     ∙ sym (append_assoc (cond (same_trunk t e.trunk && same_name y e.target) (e.item ∷ []) []) (at_place t y es) (at_place t y fs))
 
-downs_append : (k : Reference) (fs gs : List Effect) → downs_in k (fs ++ gs) ≡ downs_in k fs ++ downs_in k gs
+downs_append : (k : Reference) (fs gs : List (Effect Item)) → downs_in k (fs ++ gs) ≡ downs_in k fs ++ downs_in k gs
 downs_append k [] gs = refl
-downs_append k (Put p m ∷ fs) gs = ap (λ l. down_in k p m ++ l) (downs_append k fs gs) ∙ sym (append_assoc (down_in k p m) (downs_in k fs) (downs_in k gs))
-downs_append k (EndedBy p x ∷ fs) gs = downs_append k fs gs
-downs_append k (LinkExit p q x ∷ fs) gs = downs_append k fs gs
-downs_append k (Sent y i ∷ fs) gs = downs_append k fs gs
+downs_append k (Effect.Put p m ∷ fs) gs = ap (λ l. down_in k p m ++ l) (downs_append k fs gs) ∙ sym (append_assoc (down_in k p m) (downs_in k fs) (downs_in k gs))
+downs_append k (Effect.Ended p x ∷ fs) gs = downs_append k fs gs
+downs_append k (Effect.LinkExit p q x ∷ fs) gs = downs_append k fs gs
+downs_append k (Effect.Sent t y i ∷ fs) gs = downs_append k fs gs
 
-pub no_more : (k : Reference) (fs gs : List Effect) → downs_in k gs ≡ [] → downs_in k (fs ++ gs) ≡ downs_in k fs
+pub no_more : (k : Reference) (fs gs : List (Effect Item)) → downs_in k gs ≡ [] → downs_in k (fs ++ gs) ≡ downs_in k fs
 no_more k fs gs h = downs_append k fs gs ∙ ap (λ l. downs_in k fs ++ l) h ∙ append-nil (downs_in k fs)
 
-pub quietly_downs : (k : Reference) (fs gs : List Effect) → Quietly fs gs → downs_in k gs ≡ downs_in k fs
+pub quietly_downs : (k : Reference) (fs gs : List (Effect Item)) → Quietly fs gs → downs_in k gs ≡ downs_in k fs
 quietly_downs k fs gs Nothing = refl
-quietly_downs k fs gs (Sends hs y i q) = no_more k hs (Sent y i ∷ []) refl ∙ quietly_downs k fs hs q
+quietly_downs k fs gs (Sends hs t y i q) = no_more k hs (Effect.Sent t y i ∷ []) refl ∙ quietly_downs k fs hs q
 
 -- what a DOWN says
 pub down_said : (k : Reference) (r : Reference) (p q : Pid) (x : Data) → down_in k p (down_term r q x) ≡ cond (same_reference k r) ((record { owner = p; target = q; info = x }) ∷ []) []
@@ -116,22 +118,22 @@ local_grows f z x o h = go (same_name z o.node.mint.name)
     go true = has_first f o.node.local (x ∷ []) h
     go false = on (route o.node z)
 
-pub sent_grows : (f : Item → Bool) (t : TrunkId) (y : Name) (z : Name) (x : Item) (o : Work) → has f (at_place t y o.sent) ≡ true → has f (at_place t y ((post_to z x o).sent)) ≡ true
+pub sent_grows : (f : Item → Bool) (t : TrunkId) (y : Name) (z : Name) (x : Item) (o : Work) → has f (at_place t y (outgoing o)) ≡ true → has f (at_place t y (outgoing (post_to z x o))) ≡ true
 sent_grows f t y z x o h = go (same_name z o.node.mint.name)
   where
-    on : (r : Option TrunkId) → has f (at_place t y ((send_on r z x o).sent)) ≡ true
+    on : (r : Option TrunkId) → has f (at_place t y (outgoing (send_on r z x o))) ≡ true
     on None = h
-    on (Some u) = ap (has f) (at_place_append t y o.sent ((record { trunk = u; target = z; item = x }) ∷ [])) ∙ has_first f (at_place t y o.sent) _ h
+    on (Some u) = ap (λ l. has f (at_place t y l)) (sent_in-push o.effects (Effect.Sent (Some u) z x)) ∙ ap (has f) (at_place_append t y (outgoing o) ((record { trunk = u; target = z; item = x }) ∷ [])) ∙ has_first f (at_place t y (outgoing o)) _ h
 
-    go : (b : Bool) → has f (at_place t y ((cond b (keep_local x o) (send_on (route o.node z) z x o)).sent)) ≡ true
-    go true = h
+    go : (b : Bool) → has f (at_place t y (outgoing (cond b (keep_local x o) (send_on (route o.node z) z x o)))) ≡ true
+    go true = ap (λ l. has f (at_place t y l)) (sent_in-silent o.effects (Effect.Sent None o.node.mint.name x) refl) ∙ h
     go false = on (route o.node z)
 
 all_local_grows : (f : Item → Bool) (ss : List Signal) (o : Work) → has f o.node.local ≡ true → has f ((post_all ss o).node.local) ≡ true
 all_local_grows f [] o h = h
 all_local_grows f (s ∷ ss) o h = all_local_grows f ss (post s o) (local_grows f (receiver_of s).node (Signalled s) o h)
 
-all_sent_grows : (f : Item → Bool) (t : TrunkId) (y : Name) (ss : List Signal) (o : Work) → has f (at_place t y o.sent) ≡ true → has f (at_place t y ((post_all ss o).sent)) ≡ true
+all_sent_grows : (f : Item → Bool) (t : TrunkId) (y : Name) (ss : List Signal) (o : Work) → has f (at_place t y (outgoing o)) ≡ true → has f (at_place t y (outgoing (post_all ss o))) ≡ true
 all_sent_grows f t y [] o h = h
 all_sent_grows f t y (s ∷ ss) o h = all_sent_grows f t y ss (post s o) (sent_grows f t y (receiver_of s).node (Signalled s) o h)
 
@@ -139,17 +141,18 @@ all_sent_grows f t y (s ∷ ss) o h = all_sent_grows f t y ss (post s o) (sent_g
 one_local : (f : Item → Bool) (z : Name) (x : Item) (o : Work) → f x ≡ true → same_name z o.node.mint.name ≡ true → has f ((post_to z x o).node.local) ≡ true
 one_local f z x o h e = ap (λ b. has f ((cond b (keep_local x o) (send_on (route o.node z) z x o)).node.local)) e ∙ has_last f o.node.local (x ∷ []) (has_one f x h)
 
-one_sent : (f : Item → Bool) (t : TrunkId) (z : Name) (x : Item) (o : Work) → f x ≡ true → same_name z o.node.mint.name ≡ false → route o.node z ≡ Some t → has f (at_place t z ((post_to z x o).sent)) ≡ true
+one_sent : (f : Item → Bool) (t : TrunkId) (z : Name) (x : Item) (o : Work) → f x ≡ true → same_name z o.node.mint.name ≡ false → route o.node z ≡ Some t → has f (at_place t z (outgoing (post_to z x o))) ≡ true
 one_sent f t z x o h e r =
-    ap (λ b. has f (at_place t z ((cond b (keep_local x o) (send_on (route o.node z) z x o)).sent))) e
-    ∙ ap (λ v. has f (at_place t z ((send_on v z x o).sent))) r
-    ∙ ap (has f) (at_place_append t z o.sent ((record { trunk = t; target = z; item = x }) ∷ []))
-    ∙ has_last f (at_place t z o.sent) (at_place t z ((record { trunk = t; target = z; item = x }) ∷ []))
+    ap (λ b. has f (at_place t z (outgoing (cond b (keep_local x o) (send_on (route o.node z) z x o))))) e
+    ∙ ap (λ v. has f (at_place t z (outgoing (send_on v z x o)))) r
+    ∙ ap (λ l. has f (at_place t z l)) (sent_in-push o.effects (Effect.Sent (Some t) z x))
+    ∙ ap (has f) (at_place_append t z (outgoing o) ((record { trunk = t; target = z; item = x }) ∷ []))
+    ∙ has_last f (at_place t z (outgoing o)) (at_place t z ((record { trunk = t; target = z; item = x }) ∷ []))
     (ap (λ b. has f (cond b (x ∷ []) [] ++ [])) (ap (λ b. b && same_name z z) (same_trunk_refl t) ∙ same_name_is z z refl) ∙ has_one f x h)
 
 -- a signal of reference k goes to y's node
 abbrev pub Lands : (Item → Bool) → Node → Name → Work → Type 0
-Lands f n y o = (same_name y n.mint.name ≡ true → has f o.node.local ≡ true) × ((t : TrunkId) → same_name y n.mint.name ≡ false → route n y ≡ Some t → has f (at_place t y o.sent) ≡ true)
+Lands f n y o = (same_name y n.mint.name ≡ true → has f o.node.local ≡ true) × ((t : TrunkId) → same_name y n.mint.name ≡ false → route n y ≡ Some t → has f (at_place t y (outgoing o)) ≡ true)
 
 pub lands_one : (f : Item → Bool) (n : Node) (s : Signal) (o : Work) → o.node.sides ≡ n.sides → o.node.mint.name ≡ n.mint.name → f (Signalled s) ≡ true → Lands f n (receiver_of s).node (post s o)
 lands_one f n s o sd nm h = (
@@ -233,18 +236,22 @@ module _ (n : Node) (Tells : Reference → Monitor → Data → Type 0) (Joins :
     pub lives : (p : Pid) → living o'.node p ≡ living o.node p
     pub registered : (k : Reference) → fm.get o'.node.registered k ≡ fm.get o.node.registered k
     pub local : (f : Item → Bool) → has f o.node.local ≡ true → has f o'.node.local ≡ true
-    pub sent : (f : Item → Bool) (t : TrunkId) (y : Name) → has f (at_place t y o.sent) ≡ true → has f (at_place t y o'.sent) ≡ true
+    pub sent : (f : Item → Bool) (t : TrunkId) (y : Name) → has f (at_place t y (outgoing o)) ≡ true → has f (at_place t y (outgoing o')) ≡ true
     pub name : o'.node.mint.name ≡ o.node.mint.name
     pub creation : o'.node.mint.creation ≡ o.node.mint.creation
     pub references : o'.node.mint.references ≡ o.node.mint.references
     pub pids : o'.node.mint.pids ≡ o.node.mint.pids
+
+  -- an effect that sends nothing on a trunk
+  lands_silent : (f : Item → Bool) (y : Name) (e : Effect Item) (o : Work) (m : Node) → sent_by e ≡ [] → m.local ≡ o.node.local → Lands f n y o → Lands f n y (record { node = m; effects = o.effects ++ e ∷ [] })
+  lands_silent f y e o m s l h = (λ i. ap (has f) l ∙ h.0 i, λ t i r. ap (λ z. has f (at_place t y z)) (sent_in-silent o.effects e s) ∙ h.1 t i r)
 
   fate_aside : (o o' : Work) (k : Reference) → fm.get o'.node.watches k ≡ fm.get o.node.watches k → downs_in k o'.effects ≡ downs_in k o.effects → ((p : Pid) → living o.node p ≡ false → living o'.node p ≡ false) → Fate o k → Fate o' k
   fate_aside o o' k w d l (Same a b) = Same (w ∙ a) (d ∙ b)
   fate_aside o o' k w d l (Left u a b c e) = Left u a (w ∙ b) (l u.owner c) (d ∙ e)
   fate_aside o o' k w d l (Spent u x a b t e) = Spent u x a (w ∙ b) t (d ∙ e)
 
-  lands_more : (f : Item → Bool) (y : Name) (o o' : Work) → (has f o.node.local ≡ true → has f o'.node.local ≡ true) → ((t : TrunkId) → has f (at_place t y o.sent) ≡ true → has f (at_place t y o'.sent) ≡ true) → Lands f n y o → Lands f n y o'
+  pub lands_more : (f : Item → Bool) (y : Name) (o o' : Work) → (has f o.node.local ≡ true → has f o'.node.local ≡ true) → ((t : TrunkId) → has f (at_place t y (outgoing o)) ≡ true → has f (at_place t y (outgoing o')) ≡ true) → Lands f n y o → Lands f n y o'
   lands_more f y o o' l s h = (λ e. l (h.0 e), λ t e r. s t (h.1 t e r))
 
   pub turns_aside : (o o' : Work) → Aside o o' → Turns o → Turns o'
@@ -281,15 +288,15 @@ module _ (n : Node) (Tells : Reference → Monitor → Data → Type 0) (Joins :
   }
 
   -- effects and lives alone change
-  effects_aside : (o : Work) (m : Node) (gs : List Effect) → ((k : Reference) → downs_in k gs ≡ []) → m.watches ≡ o.node.watches → m.registered ≡ o.node.registered → m.local ≡ o.node.local → ((p : Pid) → living m p ≡ living o.node p)
-      → m.mint.name ≡ o.node.mint.name → m.mint.creation ≡ o.node.mint.creation → m.mint.references ≡ o.node.mint.references → m.mint.pids ≡ o.node.mint.pids → Aside o (record o { node = m; effects = o.effects ++ gs })
-  effects_aside o m gs d w r l v a b c e = record {
+  effects_aside : (o : Work) (m : Node) (gs : List (Effect Item)) → ((k : Reference) → downs_in k gs ≡ []) → m.watches ≡ o.node.watches → m.registered ≡ o.node.registered → m.local ≡ o.node.local → ((p : Pid) → living m p ≡ living o.node p)
+      → m.mint.name ≡ o.node.mint.name → m.mint.creation ≡ o.node.mint.creation → m.mint.references ≡ o.node.mint.references → m.mint.pids ≡ o.node.mint.pids → sent_in gs ≡ [] → Aside o (record o { node = m; effects = o.effects ++ gs })
+  effects_aside o m gs d w r l v a b c e q = record {
     watches = λ k. ap (λ z. fm.get z k) w;
     downs = λ k. no_more k o.effects gs (d k);
     lives = v;
     registered = λ k. ap (λ z. fm.get z k) r;
     local = λ f h. ap (has f) l ∙ h;
-    sent = λ f t y h. h;
+    sent = λ f t y h. ap (λ z. has f (at_place t y z)) (sent_in-append o.effects gs ∙ ap (λ z. sent_in o.effects ++ z) q ∙ append-nil (sent_in o.effects)) ∙ h;
     name = a;
     creation = b;
     references = c;
@@ -315,7 +322,7 @@ module _ (n : Node) (Tells : Reference → Monitor → Data → Type 0) (Joins :
   lives_same p l o h q = set_life_living o.node.lives p l q (λ e. h ∙ ap (living o.node) (sym (same_pid_true q p e)))
 
   put_aside : (p : Pid) (m : Data) (o : Work) → ((r : Reference) → down_in r p m ≡ []) → Aside o (put p m o)
-  put_aside p m o h = effects_aside o ((put p m o).node) (Put p m ∷ []) (λ k. ap (λ v. v ++ []) (h k)) refl refl refl (lives_same p (delivered (fm.get o.node.lives p) m) o (living_delivered (fm.get o.node.lives p) m)) refl refl refl refl
+  put_aside p m o h = effects_aside o ((put p m o).node) (Effect.Put p m ∷ []) (λ k. ap (λ v. v ++ []) (h k)) refl refl refl (lives_same p (delivered (fm.get o.node.lives p) m) o (living_delivered (fm.get o.node.lives p) m)) refl refl refl refl refl
 
   -- a process ends: posts, then its records go
   buried_turns : (p : Pid) (x : Data) (o : Work) → ((k : Reference) (m : Monitor) → fm.get o.node.registered k ≡ Some m → same_pid m.target p ≡ true → Lands (is_end k) n m.owner.node o) → Turns o → Turns (buried p x o)
@@ -347,7 +354,7 @@ module _ (n : Node) (Tells : Reference → Monitor → Data → Type 0) (Joins :
           lived u.owner ∙ cond_other (same_pid u.owner p) x (fm.get o.node.lives u.owner) (not_true (same_pid u.owner p) (ap (λ z. not (is_owned p z)) (sym b.1) ∙ b.0)) ∙ k.owners j u b.1
 
       quiet : (j : Reference) → downs_in j ((buried p x o).effects) ≡ downs_in j o.effects
-      quiet j = no_more j o.effects (EndedBy p x ∷ []) refl
+      quiet j = no_more j o.effects (Effect.Ended p x ∷ []) refl
 
       -- the watch of one who doesn't own it stays, and with its owner it goes
       split : (j : Reference) (v : Option Monitor) → fm.get o.node.watches j ≡ v → (fm.get ((buried p x o).node.watches) j ≡ fm.get o.node.watches j) ⊎ ((u : Monitor) × (fm.get o.node.watches j ≡ Some u) × (same_pid u.owner p ≡ true) × (fm.get ((buried p x o).node.watches) j ≡ None))
@@ -373,9 +380,9 @@ module _ (n : Node) (Tells : Reference → Monitor → Data → Type 0) (Joins :
 
       go : (j : Reference) (m : Monitor) → (fm.get o.node.registered j ≡ Some m) ⊎ (Lands (is_end j) n m.owner.node o ⊎ Drops j m) → (fm.get ((buried p x o).node.registered) j ≡ Some m) ⊎ (Lands (is_end j) n m.owner.node (buried p x o) ⊎ Drops j m)
       go j m (inl h) = by_test _ (same_pid m.target p)
-          (λ e. inr (inl (tell j m h e)))
+          (λ e. inr (inl (lands_silent (is_end j) m.owner.node (Effect.Ended p x) o ((buried p x o).node) refl refl (tell j m h e))))
           (λ e. inl (registered_left p o.node.registered j ∙ ap (λ v. cond (not (is_target p v)) v None) h ∙ ap (λ b. cond (not b) (Some m) None) e))
-      go j m (inr (inl h)) = inr (inl h)
+      go j m (inr (inl h)) = inr (inl (lands_silent (is_end j) m.owner.node (Effect.Ended p x) o ((buried p x o).node) refl refl h))
       go j m (inr (inr h)) = inr (inr h)
 
   -- a part of an event that sets no side
@@ -402,12 +409,18 @@ module _ (n : Node) (Tells : Reference → Monitor → Data → Type 0) (Joins :
   }
 
   -- a DOWN is put, and the watch goes
+  told_still : (j r : Reference) (m : Monitor) (x : Data) (o : Work) (u : Monitor) → (fm.get o.node.registered j ≡ Some u) ⊎ (Lands (is_end j) n u.owner.node o ⊎ Drops j u)
+      → (fm.get o.node.registered j ≡ Some u) ⊎ (Lands (is_end j) n u.owner.node (put m.owner (down_term r m.target x) (unwatch r o)) ⊎ Drops j u)
+  told_still j r m x o u (inl h) = inl h
+  told_still j r m x o u (inr (inl h)) = inr (inl (lands_silent (is_end j) u.owner.node (Effect.Put m.owner (down_term r m.target x)) o ((put m.owner (down_term r m.target x) (unwatch r o)).node) refl refl h))
+  told_still j r m x o u (inr (inr h)) = inr (inr h)
+
   ended_turns : (r : Reference) (m : Monitor) (x : Data) (o : Work) → fm.get o.node.watches r ≡ Some m → Tells r m x → Turns o → Turns (put m.owner (down_term r m.target x) (unwatch r o))
   ended_turns r m x o h t k = record {
     fates = λ j. fate j (k.fates j);
     dead = λ q d. lived q ∙ k.dead q d;
     enrolled = λ j v e. let w = k.enrolled j v e in (lived v.target ∙ w.0, w.1);
-    leaving = λ j v e. k.leaving j v e;
+    leaving = λ j v e. told_still j r m x o v (k.leaving j v e);
     local = k.local;
     name = k.name;
     creation = k.creation;
@@ -420,7 +433,7 @@ module _ (n : Node) (Tells : Reference → Monitor → Data → Type 0) (Joins :
       lived q = lives_same m.owner (delivered (fm.get o.node.lives m.owner) (down_term r m.target x)) o (living_delivered (fm.get o.node.lives m.owner) (down_term r m.target x)) q
 
       said : (j : Reference) → downs_in j ((put m.owner (down_term r m.target x) (unwatch r o)).effects) ≡ downs_in j o.effects ++ cond (same_reference j r) (down m x ∷ []) []
-      said j = downs_append j o.effects (Put m.owner (down_term r m.target x) ∷ []) ∙ ap (λ l. downs_in j o.effects ++ l) (append-nil (down_in j m.owner (down_term r m.target x)) ∙ down_said j r m.owner m.target x)
+      said j = downs_append j o.effects (Effect.Put m.owner (down_term r m.target x) ∷ []) ∙ ap (λ l. downs_in j o.effects ++ l) (append-nil (down_in j m.owner (down_term r m.target x)) ∙ down_said j r m.owner m.target x)
 
       left : (j : Reference) → fm.get ((put m.owner (down_term r m.target x) (unwatch r o)).node.watches) j ≡ cond (same_reference j r) None (fm.get o.node.watches j)
       left j = fm.get-remove reference_cmp_total o.node.watches r j
@@ -506,7 +519,7 @@ module _ (n : Node) (Tells : Reference → Monitor → Data → Type 0) (Joins :
     drew = λ o k. core_aside o (draw kind.UnlinkId o) (node_aside o ((draw kind.UnlinkId o).node) refl refl refl (λ z. refl) refl refl refl refl) refl k;
     life_set = λ p l o h k. core_aside o (record o { node = record (o.node) { lives = set_life o.node.lives p l } }) (node_aside o (record (o.node) { lives = set_life o.node.lives p l }) refl refl refl (lives_same p l o h) refl refl refl refl) refl k;
     message = λ p m o h k. core_aside o (put p m o) (put_aside p m o h) refl k;
-    reacted = λ p q x o h k. core_aside o (report (LinkExit p q x) o) (effects_aside o o.node (LinkExit p q x ∷ []) (λ r. refl) refl refl refl (λ z. refl) refl refl refl refl) refl k;
+    reacted = λ p q x o h k. core_aside o (report (Effect.LinkExit p q x) o) (effects_aside o o.node (Effect.LinkExit p q x ∷ []) (λ r. refl) refl refl refl (λ z. refl) refl refl refl refl refl) refl k;
     finished = λ p x o k. finish_turns p x o k;
     registers = λ r m o l h k. record { turns = registers_turns r m o l h k.turns; sides = k.sides };
     unregisters = λ r m o e h k. record { turns = unregisters_turns r m o e h k.turns; sides = k.sides };
@@ -520,11 +533,11 @@ module _ (n : Node) (Tells : Reference → Monitor → Data → Type 0) (Joins :
   pub turns_wrote : (t : TrunkId) (y : Name) (m : ShakeMsg) (o : Work) → Turns o → Turns (write t y m o)
   turns_wrote t y m o k = turns_aside o (write t y m o) (record {
     watches = λ j. refl;
-    downs = λ j. no_more j o.effects (Sent y (Handshake m) ∷ []) refl;
+    downs = λ j. no_more j o.effects (Effect.Sent (Some t) y (Handshake m) ∷ []) refl;
     lives = λ p. refl;
     registered = λ j. refl;
     local = λ f h. h;
-    sent = λ f u z h. ap (has f) (at_place_append u z o.sent ((record { trunk = t; target = y; item = Handshake m }) ∷ [])) ∙ has_first f (at_place u z o.sent) _ h;
+    sent = λ f u z h. ap (λ l. has f (at_place u z l)) (sent_in-push o.effects (Effect.Sent (Some t) y (Handshake m))) ∙ ap (has f) (at_place_append u z (outgoing o) ((record { trunk = t; target = y; item = Handshake m }) ∷ [])) ∙ has_first f (at_place u z (outgoing o)) _ h;
     name = refl;
     creation = refl;
     references = refl;

@@ -1,13 +1,15 @@
 -- What a node in the midst of an event is to one pair of processes.
 use Rattle.std.proofs.Common.{◌≡◌, Bool, true, false, cond, not, List, [], ◌∷◌, ◌++◌, refl, sym, ap, ◌∙◌, subst, ◌&&◌, ◌||◌, Option, Some, None, ◌⊎◌, inl, inr, append_assoc, append-nil}
 use Rattle.std.specs.Option.{is_some}
+use Rattle.dist_model.proofs.Envelopes.{Envelope, outgoing, sent_by, sent_in, sent_in-push, sent_in-silent}
 use Rattle.dist_model.proofs.Keys.{and_both, same_name_is, same_pid_refl, same_pid_true}
 use Rattle.dist_model.proofs.Pair.{Side}
 use Rattle.dist_model.specs.Items.{Item, Signalled, news, news_in, receiver_of, sender_of, telling}
 use Rattle.dist_model.specs.Links.{Exits, LinkNews, Says}
 use Rattle.dist_model.specs.Names.{Name, same_name, same_pid}
 use Rattle.dist_model.specs.Node.{Node, end_of, living, never, reaches, route}
-use Rattle.dist_model.specs.Work.{Envelope, Work, keep_local, post, post_all, post_to, send_on}
+use Rattle.dist_model.specs.declared.report.Effect.{Effect}
+use Rattle.dist_model.specs.Work.{Work, keep_local, post, post_all, post_to, report, send_on}
 use Rattle.erl_control.specs.declared.signal.Signal.{Signal}
 use Rattle.erl_names.specs.declared.trunk.TrunkId.{TrunkId}
 use Rattle.erl_term.specs.declared.term.Pid.{Pid}
@@ -19,7 +21,7 @@ to_name y (e ∷ es) = cond (same_name e.target y) (e.item ∷ []) [] ++ to_name
 
 -- what the node has waiting for processes of y: its local list, or what this event sent
 abbrev pub line : Work → Name → List Item
-line o y = cond (same_name y o.node.mint.name) o.node.local (to_name y o.sent)
+line o y = cond (same_name y o.node.mint.name) o.node.local (to_name y (outgoing o))
 
 -- once spawned, and not living
 abbrev pub over : Node → Pid → Bool
@@ -58,25 +60,33 @@ nothing_more L R h = sym (append-nil L) ∙ ap (λ l. L ++ l) (sym h)
 
 module _ (y : Name) (x : Item) (o : Work) (p q : Pid) where
   local_line : (b : Bool) → same_name q.node o.node.mint.name ≡ b → same_name y o.node.mint.name ≡ true → Suits y x p q
-      → news p q (cond b (o.node.local ++ x ∷ []) (to_name q.node o.sent)) ≡ news p q (cond b o.node.local (to_name q.node o.sent)) ++ news_in p q x
+      → news p q (cond b (o.node.local ++ x ∷ []) (to_name q.node (outgoing o))) ≡ news p q (cond b o.node.local (to_name q.node (outgoing o))) ++ news_in p q x
   local_line true e h s = news-push p q o.node.local x
   local_line false e h (inl d) = let c : same_name q.node o.node.mint.name ≡ true = subst (λ z. same_name z o.node.mint.name ≡ true) d h in absurd (let n : true ≡ false = sym c ∙ e in cc)
-  local_line false e h (inr n) = nothing_more (news p q (to_name q.node o.sent)) (news_in p q x) n
+  local_line false e h (inr n) = nothing_more (news p q (to_name q.node (outgoing o))) (news_in p q x) n
+
+  -- what is kept for the node itself goes on no trunk
+  kept_line : same_name y o.node.mint.name ≡ true → Suits y x p q → news p q (line (keep_local x o) q.node) ≡ news p q (line o q.node) ++ news_in p q x
+  kept_line h s =
+      ap (λ l. news p q (cond (same_name q.node o.node.mint.name) (o.node.local ++ x ∷ []) (to_name q.node l))) (sent_in-silent o.effects (Effect.Sent None o.node.mint.name x) refl)
+      ∙ local_line (same_name q.node o.node.mint.name) refl h s
 
   sent_on_line : (t : TrunkId) (c : Bool) → same_name y q.node ≡ c → Suits y x p q
-      → news p q (to_name q.node o.sent ++ cond c (x ∷ []) []) ≡ news p q (to_name q.node o.sent) ++ news_in p q x
-  sent_on_line t true e s = news-push p q (to_name q.node o.sent) x
+      → news p q (to_name q.node (outgoing o) ++ cond c (x ∷ []) []) ≡ news p q (to_name q.node (outgoing o)) ++ news_in p q x
+  sent_on_line t true e s = news-push p q (to_name q.node (outgoing o)) x
   sent_on_line t false e (inl d) = absurd (let n : true ≡ false = sym (same_name_is y q.node d) ∙ e in cc)
-  sent_on_line t false e (inr n) = ap (news p q) (append-nil (to_name q.node o.sent)) ∙ nothing_more (news p q (to_name q.node o.sent)) (news_in p q x) n
+  sent_on_line t false e (inr n) = ap (news p q) (append-nil (to_name q.node (outgoing o))) ∙ nothing_more (news p q (to_name q.node (outgoing o))) (news_in p q x) n
 
   sent_line : (r : Option TrunkId) (b : Bool) → route o.node y ≡ r → same_name q.node o.node.mint.name ≡ b → same_name y o.node.mint.name ≡ false → (b || is_some (route o.node q.node)) ≡ true → Suits y x p q
-      → news p q (cond b (send_on r y x o).node.local (to_name q.node (send_on r y x o).sent)) ≡ news p q (cond b o.node.local (to_name q.node o.sent)) ++ news_in p q x
+      → news p q (cond b (send_on r y x o).node.local (to_name q.node (outgoing (send_on r y x o)))) ≡ news p q (cond b o.node.local (to_name q.node (outgoing o))) ++ news_in p q x
   sent_line r true e f h reach (inl d) = absurd (let c : same_name y o.node.mint.name ≡ true = subst (λ z. same_name z o.node.mint.name ≡ true) (sym d) f in let n : true ≡ false = sym c ∙ h in cc)
   sent_line None true e f h reach (inr n) = nothing_more (news p q o.node.local) (news_in p q x) n
   sent_line (Some t) true e f h reach (inr n) = nothing_more (news p q o.node.local) (news_in p q x) n
   sent_line None false e f h reach (inl d) = absurd (let c : route o.node q.node ≡ None = subst (λ z. route o.node z ≡ None) d e in let n : false ≡ true = sym (ap is_some c) ∙ reach in cc)
-  sent_line None false e f h reach (inr n) = nothing_more (news p q (to_name q.node o.sent)) (news_in p q x) n
-  sent_line (Some t) false e f h reach s = ap (news p q) (to_name-push q.node o.sent (record { trunk = t; target = y; item = x })) ∙ sent_on_line t (same_name y q.node) refl s
+  sent_line None false e f h reach (inr n) = nothing_more (news p q (to_name q.node (outgoing o))) (news_in p q x) n
+  sent_line (Some t) false e f h reach s =
+      ap (λ l. news p q (to_name q.node l)) (sent_in-push o.effects (Effect.Sent (Some t) y x))
+      ∙ ap (news p q) (to_name-push q.node (outgoing o) (record { trunk = t; target = y; item = x })) ∙ sent_on_line t (same_name y q.node) refl s
 
   sent_all : (r : Option TrunkId) → route o.node y ≡ r → same_name y o.node.mint.name ≡ false → reaches o.node q.node ≡ true → Suits y x p q
       → news p q (line (send_on r y x o) q.node) ≡ news p q (line o q.node) ++ news_in p q x
@@ -84,13 +94,20 @@ module _ (y : Name) (x : Item) (o : Work) (p q : Pid) where
   sent_all (Some t) e h reach s = sent_line (Some t) (same_name q.node o.node.mint.name) e refl h reach s
 
   post_line_by : (b : Bool) → same_name y o.node.mint.name ≡ b → reaches o.node q.node ≡ true → Suits y x p q
-      → news p q (cond (same_name q.node (cond b (keep_local x o) (send_on (route o.node y) y x o)).node.mint.name) (cond b (keep_local x o) (send_on (route o.node y) y x o)).node.local (to_name q.node (cond b (keep_local x o) (send_on (route o.node y) y x o)).sent))
+      → news p q (cond (same_name q.node (cond b (keep_local x o) (send_on (route o.node y) y x o)).node.mint.name) (cond b (keep_local x o) (send_on (route o.node y) y x o)).node.local (to_name q.node (outgoing (cond b (keep_local x o) (send_on (route o.node y) y x o)))))
       ≡ news p q (line o q.node) ++ news_in p q x
-  post_line_by true e reach s = local_line (same_name q.node o.node.mint.name) refl e s
+  post_line_by true e reach s = kept_line e s
   post_line_by false e reach s = sent_all (route o.node y) refl e reach s
 
   pub post_line : reaches o.node q.node ≡ true → Suits y x p q → news p q (line (post_to y x o) q.node) ≡ news p q (line o q.node) ++ news_in p q x
   post_line reach s = post_line_by (same_name y o.node.mint.name) refl reach s
+
+-- an effect that sends nothing on a trunk changes no view
+pub silent_lines : (b : List LinkNews) (o : Work) (fs gs : List (Effect Item)) (p q : Pid) → sent_in gs ≡ sent_in fs → view b (record o { effects = gs }) p q ≡ view b (record o { effects = fs }) p q
+silent_lines b o fs gs p q h = ap (λ l. side_of o.node p q (b ++ news p q (cond (same_name q.node o.node.mint.name) o.node.local (to_name q.node l)))) h
+
+pub silent_view : (b : List LinkNews) (f : Effect Item) (o : Work) (p q : Pid) → sent_by f ≡ [] → view b (report f o) p q ≡ view b o p q
+silent_view b f o p q h = silent_lines b o o.effects (o.effects ++ f ∷ []) p q (sent_in-silent o.effects f h)
 
 -- what no post changes
 module _ {A : Type 0} (f : Node → A) (free : (n : Node) (l : List Item) → f (record n { local = l }) ≡ f n) where

@@ -2,14 +2,17 @@
 -- (ERTS User's Guide, Distribution Protocol; Reference Manual, Processes, Delivery of Signals.)
 use Rattle.std.specs.Prelude.{Option, None, Some, ℕ, Bool, true, not, if◌then◌else◌, List, [], ◌∷◌, nat_le, ◌&&◌}
 use Rattle.dist_model.specs.Admission.{hears_name}
-use Rattle.dist_model.specs.Commands.{Goes, Outcome, Refuses, Took}
+use Rattle.dist_model.specs.Commands.{Accepts, Outcome, Refuses}
+use Rattle.dist_model.specs.declared.report.Answer.{Answer}
 use Rattle.dist_model.specs.Handshake.{fault, handshake_at}
-use Rattle.dist_model.specs.Items.{Handshake, Item, Signalled, Tick, receiver_of, sender_of}
+use Rattle.dist_model.specs.Items.{Handshake, Item, Signalled, Tick, kind_of, receiver_of, sender_of}
 use Rattle.dist_model.specs.Names.{same_name}
 use Rattle.dist_model.specs.Node.{Node, never}
-use Rattle.dist_model.specs.Sides.{Gone, Losing, State, TrunkSide, Up}
+use Rattle.dist_model.specs.Sides.{State, TrunkSide, Up, is_over, unheard}
 use Rattle.dist_model.specs.Taking.{take_item}
 use Rattle.dist_model.specs.Work.{Work, at_work}
+use Rattle.conn_core.specs.declared.arrival.Fault.{Fault}
+use Rattle.erl_handshake.specs.declared.fault.ShakeFault.{ShakeFault}
 use Rattle.erl_handshake.specs.declared.message.ShakeMsg.{ShakeMsg}
 use Rattle.erl_names.specs.declared.trunk.TrunkId.{TrunkId}
 use Rattle.erl_term.specs.declared.refusal.Refusal.{Refusal}
@@ -34,17 +37,14 @@ is_good node side (Handshake message) = true
 is_good node side Tick = true
 
 abbrev pub on_up : TrunkId → TrunkSide → Item → Work → Outcome
-on_up trunk side item work = if is_good work.node side item then Goes (Took item) (take_item item work) else fault Refusal.Forged trunk side work
-
--- ---- a signal or a tick comes before the connection is up: it is not due
-
-abbrev pub signal_at : State → TrunkId → TrunkSide → Item → Work → Outcome
-signal_at Up trunk side item work = on_up trunk side item work
-signal_at Losing trunk side item work = Refuses Refusal.NotLive
-signal_at Gone trunk side item work = Refuses Refusal.NotLive
-signal_at _ trunk side item work = fault Refusal.BadMessage trunk side work
+on_up trunk side item work = if is_good work.node side item then Accepts (Answer.Took (kind_of item)) (take_item item work) else fault Fault.Forged trunk side work
 
 -- ---- the first item of a trunk comes
+
+-- a signal or a tick isn't due before the connection is up
+abbrev pub signal_at : State → TrunkId → TrunkSide → Item → Work → Outcome
+signal_at Up trunk side item work = on_up trunk side item work
+signal_at _ trunk side item work = fault (Fault.Shake ShakeFault.BadMessage) trunk side work
 
 abbrev pub handshake_in : Item → Option ShakeMsg
 handshake_in (Handshake message) = Some message
@@ -54,17 +54,23 @@ abbrev pub arrive_at : Option ShakeMsg → TrunkId → TrunkSide → Item → Wo
 arrive_at None trunk side item work = signal_at side.state trunk side item work
 arrive_at (Some message) trunk side item work = handshake_at side.state trunk side message work
 
--- to a new side
+-- to a side that the node doesn't have yet
 abbrev pub arrive_fresh : Option ShakeMsg → TrunkId → ℕ → Work → Outcome
-arrive_fresh None trunk word work = fault Refusal.BadMessage trunk (record { peer = trunk.dialer; peer_creation = 0; state = Gone }) work
+arrive_fresh None trunk word work = fault (Fault.Shake ShakeFault.BadMessage) trunk (unheard trunk) work
 arrive_fresh (Some message) trunk word work = hears_name trunk message word work
 
-abbrev pub arrive : Node → TrunkId → Option TrunkSide → Item → ℕ → Outcome
-arrive node trunk None item word = arrive_fresh (handshake_in item) trunk word (at_work node)
-arrive node trunk (Some side) item word = arrive_at (handshake_in item) trunk side item (at_work node)
+abbrev pub arrive_first : Option Item → TrunkId → TrunkSide → Work → Outcome
+arrive_first None trunk side work = Refuses Refusal.NothingThere
+arrive_first (Some item) trunk side work = arrive_at (handshake_in item) trunk side item work
+
+-- nothing comes to a side that is over, and a node without a side takes only what its peer has sent
+abbrev pub arrive : Node → TrunkId → Option TrunkSide → (first : Option Item) → ℕ → Outcome
+arrive node trunk None None word = Refuses Refusal.NotLive
+arrive node trunk None (Some item) word = arrive_fresh (handshake_in item) trunk word (at_work node)
+arrive node trunk (Some side) first word = if is_over side.state then Refuses Refusal.NotLive else arrive_first first trunk side (at_work node)
 
 -- ---- the first item of the own list comes
 
 abbrev pub take_local : Node → List Item → Outcome
 take_local node [] = Refuses Refusal.NothingThere
-take_local node (item ∷ rest) = Goes (Took item) (take_item item (at_work (record node { local = rest })))
+take_local node (item ∷ rest) = Accepts (Answer.Took (kind_of item)) (take_item item (at_work (record node { local = rest })))

@@ -4,7 +4,9 @@ use Rattle.std.specs.List.{flat_map}
 use Rattle.std.specs.Prelude.{Option, None, Some, Bool, false, if◌then◌else◌, List, [], ◌∷◌, ◌&&◌}
 use Rattle.std.specs.FinMap as fm
 use Rattle.erl_names.specs.Draw as kind
-use Rattle.dist_model.specs.Commands.{Command, Done, EndLink, EndMonitor, ExitSelf, ExitTo, Goes, IsAlive, IsLiving, Links, LinksOf, MakeLink, MakeMonitor, Outcome, Receive, Received, Refuses, Send, Spawn, Spawned, Trap, Watching, with_id}
+use Rattle.dist_model.specs.Commands.{Accepts, Outcome, Refuses, with_id}
+use Rattle.dist_model.specs.declared.report.Answer.{Answer}
+use Rattle.dist_model.specs.declared.command.Command.{Command}
 use Rattle.dist_model.specs.Exits.{finish}
 use Rattle.dist_model.specs.Fits.{fits}
 use Rattle.dist_model.specs.Linking.{link, unlink_by}
@@ -54,16 +56,16 @@ abbrev pub links_in : List ((Pid × Pid) × End) → Pid → List (Pid × End)
 links_in entries p = flat_map (λ entry. if same_pid entry.0.0 p then (entry.0.1, entry.1) ∷ [] else []) entries
 
 abbrev pub call : Node → Command → Outcome
-call node Spawn = with_id (id_of node.mint kind.Pid) (λ id. Goes (Spawned (pid_of node.mint id)) (spawn_life node (pid_of node.mint id)))
-call node (Send p q message) = acting node p (toward node q (fitting message (Goes Done (post (Signal.Send q message) (at_work node)))))
-call node (MakeLink p q) = acting node p (toward node q (Goes Done (link p q (at_work node))))
-call node (EndLink p q) = acting node p (toward node q (unlink_by (end_of node p q) p q (at_work node)))
-call node (MakeMonitor p q) = acting node p (toward node q (with_id (id_of node.mint kind.Reference) (λ count.
-    let r = reference_of node.mint count in Goes (Watching r) (monitor r p q (draw kind.Reference (at_work node))))))
-call node (EndMonitor p r) = acting node p (demonitor_by (fm.get node.watches r) p r (at_work node))
-call node (Trap p on) = acting node p (Goes Done (with_life node p (trapping (fm.get node.lives p) on)))
-call node (ExitTo p q reason) = acting node p (toward node q (fitting reason (Goes Done (post (Signal.Exit2 p q reason) (at_work node)))))
-call node (ExitSelf p reason) = acting node p (fitting reason (Goes Done (finish p reason (at_work node))))
-call node (Receive p) = acting node p (Goes (Received (first_message (fm.get node.lives p))) (with_life node p (without_first (fm.get node.lives p))))
-call node (LinksOf p) = acting node p (Goes (Links (links_in (fm.entries node.ends) p)) (at_work node))
-call node (IsAlive p) = Goes (IsLiving (living node p)) (at_work node)
+call node Command.Spawn = with_id (id_of node.mint kind.Pid) (λ id. Accepts (Answer.Pid (pid_of node.mint id)) (spawn_life node (pid_of node.mint id)))
+call node (Command.Send p q message) = acting node p (toward node q (fitting message (Accepts Answer.Done (post (Signal.Send q message) (at_work node)))))
+call node (Command.Link p q) = acting node p (toward node q (Accepts Answer.Done (link p q (at_work node))))
+call node (Command.Unlink p q) = acting node p (toward node q (unlink_by (end_of node p q) p q (at_work node)))
+call node (Command.Monitor p q) = acting node p (toward node q (with_id (id_of node.mint kind.Reference) (λ count.
+    let r = reference_of node.mint count in Accepts (Answer.Reference r) (monitor r p q (draw kind.Reference (at_work node))))))
+call node (Command.Demonitor p r) = acting node p (demonitor_by (fm.get node.watches r) p r (at_work node))
+call node (Command.Trap p on) = acting node p (Accepts Answer.Done (with_life node p (trapping (fm.get node.lives p) on)))
+call node (Command.ExitTo p q reason) = acting node p (toward node q (fitting reason (Accepts Answer.Done (post (Signal.Exit2 p q reason) (at_work node)))))
+call node (Command.ExitSelf p reason) = acting node p (fitting reason (Accepts Answer.Done (finish p reason (at_work node))))
+call node (Command.Receive p) = acting node p (Accepts (Answer.Message (first_message (fm.get node.lives p))) (with_life node p (without_first (fm.get node.lives p))))
+call node (Command.LinksOf p) = acting node p (Accepts (Answer.Links (links_in (fm.entries node.ends) p)) (at_work node))
+call node (Command.IsAlive p) = Accepts (Answer.Alive (living node p)) (at_work node)

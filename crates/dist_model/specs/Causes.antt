@@ -5,7 +5,7 @@ use Rattle.dist_model.specs.Histories.{History}
 use Rattle.dist_model.specs.Links.{noconnection, noproc}
 use Rattle.dist_model.specs.Names.{same_name}
 use Rattle.dist_model.specs.Seen.{is_living, is_reached}
-use Rattle.dist_model.specs.Work.{EndedBy, LinkExit}
+use Rattle.dist_model.specs.declared.report.Effect.{Effect}
 use Rattle.dist_model.specs.World.{Refused, Report, Reported, World}
 use Rattle.erl_term.specs.Data.{Data}
 use Rattle.erl_term.specs.declared.term.Pid.{Pid}
@@ -13,12 +13,12 @@ use Rattle.erl_term.specs.declared.term.Pid.{Pid}
 -- p reacted to the exit of its link with q, for this reason
 abbrev pub Reacts : Pid → Pid → Data → Report → Type 0
 Reacts p q reason (Refused refusal) = ⊥
-Reacts p q reason (Reported answer effects) = Contains effects (LinkExit p q reason)
+Reacts p q reason (Reported answer effects) = Contains effects (Effect.LinkExit p q reason)
 
 -- q ended with this reason
 abbrev pub Ends : Pid → Data → Report → Type 0
 Ends q reason (Refused refusal) = ⊥
-Ends q reason (Reported answer effects) = Contains effects (EndedBy q reason)
+Ends q reason (Reported answer effects) = Contains effects (Effect.Ended q reason)
 
 abbrev pub HasEnded : Pid → Data → History → Type 0
 HasEnded q reason [] = ⊥

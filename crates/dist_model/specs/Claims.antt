@@ -1,7 +1,7 @@
 -- What holds of every world that events lead to.
 use Rattle.std.specs.Prelude.{List, ◌∷◌, ◌++◌, ◌≡◌, ◌⊎◌, ◌↔◌, Some, ℕ, true, false, Contains}
 use Rattle.dist_model.specs.Causes.{Reacts}
-use Rattle.dist_model.specs.Commands.{MakeLink}
+use Rattle.dist_model.specs.declared.command.Command.{Command}
 use Rattle.dist_model.specs.Items.{Item, news}
 use Rattle.dist_model.specs.Links.{Says, drained, last_said}
 use Rattle.dist_model.specs.Names.{Name}
@@ -76,7 +76,7 @@ NoUpBesideLosing w = (x y : Name) (t u : TrunkId) → HasSide w x t y is_up → 
 -- whatever comes next, a process reacts to the exit of a link only where it held it active, or where it links in this very event towards a node that isn't reached
 abbrev pub ReactsOnlyWhereLinked : World → Type 0
 ReactsOnlyWhereLinked w = (e : Event) (p q : Pid) (reason : Data) → Reacts p q reason ((step w e).report)
-    → (end_between w p q ≡ End.Active) ⊎ ((e ≡ Call p.node (MakeLink p q)) × (is_reached w p q.node ≡ false))
+    → (end_between w p q ≡ End.Active) ⊎ ((e ≡ Call p.node (Command.Link p q)) × (is_reached w p q.node ≡ false))
 
 -- ---- Order. (Reference Manual, Processes, Delivery of Signals)
 

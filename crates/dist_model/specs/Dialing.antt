@@ -3,7 +3,8 @@
 use Rattle.std.specs.List.{list_any}
 use Rattle.std.specs.Prelude.{is_some, ℕ, ◌+◌, ◌^◌, Bool, not, if◌then◌else◌, List, nat_lt}
 use Rattle.std.specs.FinMap as fm
-use Rattle.dist_model.specs.Commands.{Dialed, Goes, Outcome, Refuses}
+use Rattle.dist_model.specs.Commands.{Accepts, Outcome, Refuses}
+use Rattle.dist_model.specs.declared.report.Answer.{Answer}
 use Rattle.dist_model.specs.Handshake.{identity, with_side, write}
 use Rattle.dist_model.specs.Names.{Name, same_name}
 use Rattle.dist_model.specs.Node.{Node, side_where}
@@ -29,6 +30,6 @@ dial names node peer word =
     (if not (has_name peer names) then Refuses Refusal.NothingThere else
     (if is_some (side_where (λ state. not (is_gone state)) peer (fm.entries node.sides)) then Refuses Refusal.Busy else
     (if not (nat_lt (node.dialed + 1) (2 ^ 64)) then Refuses Refusal.IdsUsedUp else
-    Goes (Dialed (next_trunk node))
+    Accepts (Answer.Trunk (next_trunk node))
     (write (next_trunk node) peer (send_name (identity node))
     (with_side (next_trunk node) (record { peer = peer; peer_creation = 0; state = AwaitsStatus word }) (at_work (draw_trunk node)))))))

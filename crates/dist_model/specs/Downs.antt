@@ -3,12 +3,13 @@
 use Rattle.std.specs.Prelude.{◌≡◌, ◌⊎◌, ℕ, ◌+◌, Bool, true, false, if◌then◌else◌, List, [], ◌∷◌, ◌++◌, ◌&&◌, codes, nat_eq}
 use Rattle.std.specs.Cmp.Lexicographic.{pointwise}
 use Rattle.std.specs.Ordering.{eq_by_cmp}
-use Rattle.dist_model.specs.Commands.{Answer, EndMonitor, MakeMonitor, Took, Watching}
+use Rattle.dist_model.specs.declared.report.Answer.{Answer}
+use Rattle.dist_model.specs.declared.command.Command.{Command}
+use Rattle.dist_model.specs.Items.{Item}
 use Rattle.dist_model.specs.Histories.{History}
-use Rattle.dist_model.specs.Items.{Signalled}
-use Rattle.dist_model.specs.Work.{Effect, Put}
+use Rattle.dist_model.specs.declared.report.Kind.{Kind}
+use Rattle.dist_model.specs.declared.report.Effect.{Effect}
 use Rattle.dist_model.specs.World.{Arrive, Call, Event, Local, Refused, Report, Reported}
-use Rattle.erl_control.specs.declared.signal.Signal.{Signal}
 use Rattle.erl_term.specs.Data.{Data, atom, item, no_items, pid, reference, tuple}
 use Rattle.erl_term.specs.declared.term.Pid.{Pid}
 use Rattle.erl_term.specs.declared.term.Reference.{Reference}
@@ -21,7 +22,7 @@ same_reference r s = eq_by_cmp reference_cmp r s
 
 -- a Monitor call was answered with this reference
 abbrev pub is_answered : Reference → Event → Report → Bool
-is_answered r (Call node (MakeMonitor p q)) (Reported (Watching s) effects) = same_reference r s
+is_answered r (Call node (Command.Monitor p q)) (Reported (Answer.Reference s) effects) = same_reference r s
 is_answered r _ _ = false
 
 -- how often
@@ -33,11 +34,11 @@ answers r (last ∷ before) = (if is_answered r last.event last.report then 1 el
 abbrev pub Monitored : Reference → Pid → Pid → History → Type 0
 Monitored r p q [] = ⊥
 Monitored r p q (last ∷ before) =
-    ((last.event ≡ Call p.node (MakeMonitor p q)) × (is_answered r last.event last.report ≡ true)) ⊎ Monitored r p q before
+    ((last.event ≡ Call p.node (Command.Monitor p q)) × (is_answered r last.event last.report ≡ true)) ⊎ Monitored r p q before
 
 -- a Demonitor call for it went through
 abbrev pub is_demonitored : Reference → Event → Report → Bool
-is_demonitored r (Call node (EndMonitor p s)) (Reported answer effects) = same_reference r s
+is_demonitored r (Call node (Command.Demonitor p s)) (Reported answer effects) = same_reference r s
 is_demonitored r _ _ = false
 
 abbrev pub Demonitored : Reference → History → Type 0
@@ -60,14 +61,14 @@ down_in r owner (tuple (item (atom name) (item (reference of) (item (atom kind) 
     else []
 down_in r owner _ = []
 
-abbrev pub downs_in : Reference → List Effect → List Down
+abbrev pub downs_in : Reference → List (Effect Item) → List Down
 downs_in r [] = []
-downs_in r (Put owner message ∷ rest) = down_in r owner message ++ downs_in r rest
+downs_in r (Effect.Put owner message ∷ rest) = down_in r owner message ++ downs_in r rest
 downs_in r (effect ∷ rest) = downs_in r rest
 
 -- a term that was sent may have that form too. It is a message and no DOWN
 abbrev pub is_sent_message : Answer → Bool
-is_sent_message (Took (Signalled (Signal.Send to message))) = true
+is_sent_message (Answer.Took Kind.Send) = true
 is_sent_message _ = false
 
 -- what a process sent may have that form too. It is a message and no DOWN

@@ -5,7 +5,8 @@ use Rattle.std.specs.Prelude.{true, false, not, if◌then◌else◌, List, [], �
 use Rattle.std.specs.FinMap as fm
 use Rattle.dist_model.specs.Names.{same_pid}
 use Rattle.dist_model.specs.Node.{Ended, traps}
-use Rattle.dist_model.specs.Work.{EndedBy, LinkExit, Work, post_all, put, report}
+use Rattle.dist_model.specs.Work.{Work, post_all, put, report}
+use Rattle.dist_model.specs.declared.report.Effect.{Effect}
 use Rattle.erl_control.specs.declared.signal.Signal.{Signal}
 use Rattle.erl_term.specs.Data.{Data}
 use Rattle.erl_term.specs.declared.term.Pid.{Pid}
@@ -44,7 +45,7 @@ buried p reason work = record work {
     watches = without_owner work.node.watches p;
     registered = without_target work.node.registered p;
   };
-  effects = work.effects ++ EndedBy p reason ∷ [];
+  effects = work.effects ++ Effect.Ended p reason ∷ [];
 }
 
 -- each group in the order of its keys
@@ -69,7 +70,7 @@ carry_out (Reaction.End reason) p work = finish p reason work
 
 -- the link's record is gone by now, so no EXIT goes back to q
 abbrev pub link_exit : Pid → Pid → Data → Work → Work
-link_exit p q reason work = carry_out (reaction (traps work.node p) (linked_exit p q reason)) p (report (LinkExit p q reason) work)
+link_exit p q reason work = carry_out (reaction (traps work.node p) (linked_exit p q reason)) p (report (Effect.LinkExit p q reason) work)
 
 abbrev pub other_exit : Pid → Pid → Data → Work → Work
 other_exit p q reason work = carry_out (reaction (traps work.node p) (sent_exit p q reason)) p work

@@ -2,7 +2,7 @@
 use Rattle.std.specs.Prelude.{◌≡◌, ◌⊎◌, ◌≤◌, true, false, Option, None, Some, [], Contains, length}
 use Rattle.std.specs.FinMap as fm
 use Rattle.dist_model.specs.Causes.{Reacts, TrueCause}
-use Rattle.dist_model.specs.Commands.{MakeLink}
+use Rattle.dist_model.specs.declared.command.Command.{Command}
 use Rattle.dist_model.specs.Downs.{Demonitored, Down, Monitored, answers, downs, downs_by}
 use Rattle.dist_model.specs.Histories.{History}
 use Rattle.dist_model.specs.Items.{Signalled}
@@ -26,7 +26,7 @@ use Rattle.monitor_core.specs.declared.monitor.Monitor.{Monitor}
 -- event towards a node that isn't reached; and the reason is true
 abbrev pub ReactsForTrueCause : History → World → Type 0
 ReactsForTrueCause history world = (event : Event) (p q : Pid) (reason : Data) → Reacts p q reason ((step world event).report)
-    → ((end_between world p q ≡ End.Active) ⊎ ((event ≡ Call p.node (MakeLink p q)) × (is_reached world p q.node ≡ false))) × TrueCause history world p q reason
+    → ((end_between world p q ≡ End.Active) ⊎ ((event ≡ Call p.node (Command.Link p q)) × (is_reached world p q.node ≡ false))) × TrueCause history world p q reason
 
 -- an EXIT that travels tells a true reason
 abbrev pub ExitsTellTrueCause : History → World → Type 0

@@ -5,14 +5,16 @@ use Rattle.erl_handshake.specs.declared.turn.Progress.{Progress as Verdict}
 use Rattle.erl_handshake.specs.declared.turn.Progress.TheVariants as verdict
 use Rattle.std.specs.Prelude.{Option, None, Some, ℕ}
 use Rattle.std.specs.FinMap as fm
-use Rattle.dist_model.specs.Commands.{Broke, Goes, Outcome, Refuses, Took}
-use Rattle.dist_model.specs.Items.{Handshake}
+use Rattle.dist_model.specs.Commands.{Accepts, Outcome}
+use Rattle.dist_model.specs.declared.report.Answer.{Answer}
+use Rattle.dist_model.specs.Items.{Handshake, kind_of}
 use Rattle.dist_model.specs.Names.{Name}
 use Rattle.dist_model.specs.Node.{Node, side_where}
-use Rattle.dist_model.specs.Sides.{Accepting, Asked, AwaitsAck, AwaitsChallenge, AwaitsStatus, Gone, Losing, Parked, State, TrunkSide, Up, is_losing, is_up, lost}
+use Rattle.dist_model.specs.Sides.{Accepting, Asked, AwaitsAck, AwaitsChallenge, AwaitsStatus, Gone, Losing, Parked, State, TrunkSide, Up, in_state, is_losing, is_up, lost}
 use Rattle.dist_model.specs.Work.{Work, send_on}
+use Rattle.conn_core.specs.declared.arrival.Fault.{Fault}
+use Rattle.erl_handshake.specs.declared.fault.ShakeFault.{ShakeFault}
 use Rattle.erl_handshake.specs.Flags.{mandatory}
-use Rattle.erl_handshake.specs.Faults.{refusal_of}
 use Rattle.erl_handshake.specs.Roles.{acceptor_turn, challenge_of, dialer_turn}
 use Rattle.erl_handshake.specs.declared.acceptor.AcceptorState.{AcceptorState}
 use Rattle.erl_handshake.specs.declared.dialer.DialerState.{DialerState}
@@ -20,13 +22,12 @@ use Rattle.erl_handshake.specs.declared.identity.Identity.{Identity}
 use Rattle.erl_handshake.specs.declared.message.ShakeMsg.{ShakeMsg}
 use Rattle.erl_handshake.specs.declared.turn.Next.{Next}
 use Rattle.erl_names.specs.declared.trunk.TrunkId.{TrunkId}
-use Rattle.erl_term.specs.declared.refusal.Refusal.{Refusal}
 
 abbrev pub with_side : TrunkId → TrunkSide → Work → Work
 with_side trunk side work = record work { node = record (work.node) { sides = fm.insert work.node.sides trunk side } }
 
 abbrev pub set_state : TrunkId → TrunkSide → State → Work → Work
-set_state trunk side state = with_side trunk (record side { state = state })
+set_state trunk side state = with_side trunk (in_state state side)
 
 abbrev pub write : TrunkId → Name → ShakeMsg → Work → Work
 write trunk peer message = send_on (Some trunk) peer (Handshake message)
@@ -36,8 +37,8 @@ write_if trunk peer None work = work
 write_if trunk peer (Some message) work = write trunk peer message work
 
 -- what comes breaks the side
-abbrev pub fault : Refusal → TrunkId → TrunkSide → Work → Outcome
-fault why trunk side work = Goes (Broke why) (set_state trunk side (lost side.state) work)
+abbrev pub fault : Fault → TrunkId → TrunkSide → Work → Outcome
+fault why trunk side work = Accepts (Answer.Broken why) (set_state trunk side (lost side.state) work)
 
 -- the node as it introduces itself
 abbrev pub identity : Node → Identity
@@ -45,6 +46,10 @@ identity node = record { name = node.mint.name; creation = node.mint.creation; f
 
 abbrev pub challenge : Node → ℕ → ShakeMsg
 challenge node word = challenge_of (identity node) word
+
+-- it sends its challenge, and awaits the reply
+abbrev pub send_challenge : TrunkId → TrunkSide → ℕ → Work → Work
+send_challenge trunk side word work = write trunk side.peer (challenge work.node word) (set_state trunk side (Accepting word) work)
 
 -- ---- a message that a side awaits
 
@@ -54,7 +59,7 @@ dialer_side side (DialerState.AwaitsStatus word) = record side { state = AwaitsS
 dialer_side side (DialerState.AwaitsChallenge word) = record side { state = AwaitsChallenge word }
 dialer_side side (DialerState.AwaitsAck word creation) = record side { peer_creation = creation; state = AwaitsAck word }
 dialer_side side (DialerState.Done creation) = record side { peer_creation = creation; state = Up }
-dialer_side side DialerState.Over = record side { state = Gone }
+dialer_side side DialerState.Over = in_state Gone side
 
 abbrev pub acceptor_side : TrunkSide → AcceptorState → TrunkSide
 acceptor_side side AcceptorState.AwaitsName = side
@@ -63,12 +68,12 @@ acceptor_side side (AcceptorState.AwaitsAnswer word creation) = record side { pe
 acceptor_side side (AcceptorState.AwaitsTurn word creation) = record side { peer_creation = creation; state = Parked word }
 acceptor_side side (AcceptorState.AwaitsReply word creation) = record side { peer_creation = creation; state = Accepting word }
 acceptor_side side (AcceptorState.Done creation) = record side { peer_creation = creation; state = Up }
-acceptor_side side AcceptorState.Over = record side { state = Gone }
+acceptor_side side AcceptorState.Over = in_state Gone side
 
 -- the role's turn says what is sent, and whether the handshake goes on
 abbrev pub after : Verdict → TrunkId → (old new : TrunkSide) → ShakeMsg → Option ShakeMsg → Work → Outcome
-after (verdict.Ended why) trunk old new message send work = fault (refusal_of why) trunk old work
-after _ trunk old new message send work = Goes (Took (Handshake message)) (write_if trunk old.peer send (with_side trunk new work))
+after (verdict.Ended why) trunk old new message send work = fault (Fault.Shake why) trunk old work
+after _ trunk old new message send work = Accepts (Answer.Took (kind_of (Handshake message))) (write_if trunk old.peer send (with_side trunk new work))
 
 abbrev pub handshake_on : TrunkId → TrunkSide → ShakeMsg → TrunkSide → Next → Work → Outcome
 handshake_on trunk old message new next work = after next.progress trunk old new message next.send work
@@ -91,15 +96,15 @@ end_up None work = work
 end_up (Some entry) work = set_state entry.0 entry.1 Losing work
 
 abbrev pub go_on : Option (TrunkId × TrunkSide) → TrunkId → TrunkSide → ℕ → Work → Work
-go_on None trunk side word work = write trunk side.peer (challenge work.node word) (set_state trunk side (Accepting word) work)
+go_on None trunk side word work = send_challenge trunk side word work
 go_on (Some losing) trunk side word work = set_state trunk side (Parked word) work
 
 abbrev pub goes_on : TrunkId → TrunkSide → ℕ → Work → Work
 goes_on trunk side word work = go_on (side_where is_losing side.peer (fm.entries work.node.sides)) trunk side word work
 
 abbrev pub after_answer : Verdict → TrunkId → TrunkSide → ℕ → ShakeMsg → Work → Outcome
-after_answer (verdict.Ended why) trunk side word message work = fault (refusal_of why) trunk side work
-after_answer _ trunk side word message work = Goes (Took (Handshake message)) (goes_on trunk side word (end_up (side_where is_up side.peer (fm.entries work.node.sides)) work))
+after_answer (verdict.Ended why) trunk side word message work = fault (Fault.Shake why) trunk side work
+after_answer _ trunk side word message work = Accepts (Answer.Took (kind_of (Handshake message))) (goes_on trunk side word (end_up (side_where is_up side.peer (fm.entries work.node.sides)) work))
 
 abbrev pub hears_answer : TrunkId → TrunkSide → ℕ → ShakeMsg → Work → Outcome
 hears_answer trunk side word message work =
@@ -113,8 +118,5 @@ handshake_at (AwaitsStatus word) trunk side message work = dialer_hears trunk si
 handshake_at (AwaitsChallenge word) trunk side message work = dialer_hears trunk side (DialerState.AwaitsChallenge word) message work
 handshake_at (AwaitsAck word) trunk side message work = dialer_hears trunk side (DialerState.AwaitsAck word side.peer_creation) message work
 handshake_at (Asked word) trunk side message work = hears_answer trunk side word message work
-handshake_at (Parked word) trunk side message work = fault Refusal.BadMessage trunk side work
 handshake_at (Accepting word) trunk side message work = acceptor_hears trunk side (AcceptorState.AwaitsReply word side.peer_creation) message work
-handshake_at Up trunk side message work = fault Refusal.BadMessage trunk side work
-handshake_at Losing trunk side message work = Refuses Refusal.NotLive
-handshake_at Gone trunk side message work = Refuses Refusal.NotLive
+handshake_at _ trunk side message work = fault (Fault.Shake ShakeFault.BadMessage) trunk side work

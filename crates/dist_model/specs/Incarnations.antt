@@ -3,9 +3,10 @@
 use Rattle.std.specs.Prelude.{map}
 use Rattle.std.specs.Prelude.{◌+◌, ◌^◌, true, false, if◌then◌else◌, List, [], nat_lt}
 use Rattle.std.specs.FinMap as fm
-use Rattle.dist_model.specs.Commands.{Done, Goes, Outcome, Refuses}
+use Rattle.dist_model.specs.Commands.{Accepts, Outcome, Refuses}
+use Rattle.dist_model.specs.declared.report.Answer.{Answer}
 use Rattle.dist_model.specs.Node.{Node}
-use Rattle.dist_model.specs.Sides.{Gone, TrunkSide}
+use Rattle.dist_model.specs.Sides.{Gone, TrunkSide, in_state}
 use Rattle.dist_model.specs.Work.{at_work}
 use Rattle.erl_names.specs.Minted.{nothing_drawn}
 use Rattle.erl_names.specs.Order.{trunk_cmp}
@@ -14,7 +15,7 @@ use Rattle.erl_term.specs.declared.refusal.Refusal.{Refusal}
 use Rattle.std.specs.FinMap.{FinMap}
 
 abbrev pub all_gone : List (TrunkId × TrunkSide) → List (TrunkId × TrunkSide)
-all_gone = map (λ entry. (entry.0, record (entry.1) { state = Gone }))
+all_gone = map (λ entry. (entry.0, in_state Gone (entry.1)))
 
 abbrev pub without_sides : Node → FinMap trunk_cmp TrunkSide
 without_sides node = fm.from_entries (all_gone (fm.entries node.sides))
@@ -28,9 +29,9 @@ abbrev pub started : Node → Node
 started node = record (stopped node) { mint = nothing_drawn node.mint.name (node.mint.creation + 1); up = true; local = [] }
 
 abbrev pub stop : Node → Outcome
-stop node = Goes Done (at_work (stopped node))
+stop node = Accepts Answer.Stopped (at_work (stopped node))
 
 abbrev pub start : Node → Outcome
 start node =
     if node.up then Refuses Refusal.NodeUp else
-    (if nat_lt (node.mint.creation + 1) (2 ^ 32) then Goes Done (at_work (started node)) else Refuses Refusal.IdsUsedUp)
+    (if nat_lt (node.mint.creation + 1) (2 ^ 32) then Accepts (Answer.Started (node.mint.creation + 1)) (at_work (started node)) else Refuses Refusal.IdsUsedUp)

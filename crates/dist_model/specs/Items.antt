@@ -4,6 +4,7 @@ use Rattle.std.specs.List.{flat_map}
 use Rattle.std.specs.Prelude.{Option, None, Some, if◌then◌else◌, ◌&&◌, List, [], ◌∷◌}
 use Rattle.dist_model.specs.Links.{Exits, LinkNews, Says}
 use Rattle.dist_model.specs.Names.{same_pid}
+use Rattle.dist_model.specs.declared.report.Kind.{Kind}
 use Rattle.erl_control.specs.declared.signal.Signal.{Signal}
 use Rattle.erl_handshake.specs.declared.message.ShakeMsg.{ShakeMsg}
 use Rattle.erl_term.specs.declared.term.Pid.{Pid}
@@ -58,3 +59,21 @@ news_in p q _ = []
 
 abbrev pub news : Pid → Pid → List Item → List LinkNews
 news p q = flat_map (news_in p q)
+
+-- what an item is
+abbrev pub kind_of : Item → Kind
+kind_of (Signalled (Signal.Link from to)) = Kind.Link
+kind_of (Signalled (Signal.Send to message)) = Kind.Send
+kind_of (Signalled (Signal.Exit from to reason)) = Kind.Exit
+kind_of (Signalled (Signal.Exit2 from to reason)) = Kind.Exit2
+kind_of (Signalled (Signal.Monitor from to r)) = Kind.Monitor
+kind_of (Signalled (Signal.Demonitor from to r)) = Kind.Demonitor
+kind_of (Signalled (Signal.MonitorExit from to r reason)) = Kind.MonitorExit
+kind_of (Signalled (Signal.UnlinkId id from to)) = Kind.Unlink
+kind_of (Signalled (Signal.UnlinkIdAck id from to)) = Kind.UnlinkAck
+kind_of (Handshake (ShakeMsg.SendName flags creation name)) = Kind.SendName
+kind_of (Handshake (ShakeMsg.Status status)) = Kind.Status
+kind_of (Handshake (ShakeMsg.Challenge flags challenge creation name)) = Kind.Challenge
+kind_of (Handshake (ShakeMsg.ChallengeReply challenge digest)) = Kind.ChallengeReply
+kind_of (Handshake (ShakeMsg.ChallengeAck digest)) = Kind.ChallengeAck
+kind_of Tick = Kind.Tick

@@ -17,6 +17,7 @@ pub mod Arrivals
 pub mod Losses
 pub mod Dialing
 pub mod Incarnations
+pub mod NodeEvents
 pub mod World
 pub mod Runs
 pub mod Seen

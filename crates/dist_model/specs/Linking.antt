@@ -2,7 +2,8 @@
 -- (Reference Manual, Processes, Links; ERTS User's Guide, Distribution Protocol, New Link Protocol.)
 use Rattle.erl_names.specs.Draw as kind
 use Rattle.std.specs.Prelude.{map, ℕ, Bool, true, false, if◌then◌else◌}
-use Rattle.dist_model.specs.Commands.{Done, Goes, Outcome, with_id}
+use Rattle.dist_model.specs.Commands.{Accepts, Outcome, with_id}
+use Rattle.dist_model.specs.declared.report.Answer.{Answer}
 use Rattle.dist_model.specs.Exits.{link_exit}
 use Rattle.dist_model.specs.Items.{telling}
 use Rattle.dist_model.specs.Links.{Exits, LinkNews, Says, heard, noconnection, reply}
@@ -34,7 +35,7 @@ abbrev pub unlink_as : ℕ → Pid → Pid → Work → Work
 unlink_as id p q work = post (Signal.UnlinkId id p q) (set_end p q (End.Pending id) (draw kind.UnlinkId work))
 
 abbrev pub unlink_by : End → Pid → Pid → Work → Outcome
-unlink_by end p q work = if is_active end then with_id (id_of work.node.mint kind.UnlinkId) (λ id. Goes Done (unlink_as id p q work)) else Goes Done work
+unlink_by end p q work = if is_active end then with_id (id_of work.node.mint kind.UnlinkId) (λ id. Accepts Answer.Done (unlink_as id p q work)) else Accepts Answer.Done work
 
 -- ---- p hears news of q about their link
 

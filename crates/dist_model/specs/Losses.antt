@@ -1,15 +1,18 @@
 -- A connection is lost, and the records of processes beyond it are swept, one at a time.
 -- (Reference Manual, Processes, Links and Monitors; Distributed Erlang. That records go one at a time is own.)
-use Rattle.std.specs.Prelude.{Option, None, Some, is_some, Bool, if◌then◌else◌, List, ◌||◌}
+use Rattle.std.specs.Prelude.{Option, None, Some, is_some, Bool, if◌then◌else◌, List}
+use Rattle.std.specs.Option.{option_map, option_or}
 use Rattle.std.specs.FinMap as fm
-use Rattle.dist_model.specs.Commands.{Done, Goes, Outcome, Refuses, Sweeps, Swept, SweptLink, SweptRegistration, SweptSide, SweptWatch}
+use Rattle.dist_model.specs.Commands.{Accepts, Outcome, Refuses}
+use Rattle.dist_model.specs.declared.report.Answer.{Answer}
+use Rattle.dist_model.specs.declared.report.Swept.{Swept}
 use Rattle.dist_model.specs.Exits.{link_exit}
-use Rattle.dist_model.specs.Handshake.{challenge, set_state, write}
+use Rattle.dist_model.specs.Handshake.{send_challenge, set_state}
 use Rattle.dist_model.specs.Links.{noconnection}
 use Rattle.dist_model.specs.Monitoring.{unregister, unwatch}
 use Rattle.dist_model.specs.Names.{Name, same_name}
 use Rattle.dist_model.specs.Node.{Node, first_where, side_where}
-use Rattle.dist_model.specs.Sides.{Accepting, Gone, Losing, Parked, State, TrunkSide, is_losing, is_parked, lost}
+use Rattle.dist_model.specs.Sides.{Gone, Losing, Parked, State, TrunkSide, is_losing, is_parked, lost}
 use Rattle.dist_model.specs.Work.{Work, at_work, put, set_end}
 use Rattle.erl_names.specs.declared.trunk.TrunkId.{TrunkId}
 use Rattle.erl_term.specs.declared.refusal.Refusal.{Refusal}
@@ -25,7 +28,7 @@ use Rattle.monitor_core.specs.declared.monitor.Monitor.{Monitor}
 abbrev pub lose_at : State → TrunkId → TrunkSide → Work → Outcome
 lose_at Losing trunk side work = Refuses Refusal.NotLive
 lose_at Gone trunk side work = Refuses Refusal.NotLive
-lose_at state trunk side work = Goes Done (set_state trunk side (lost state) work)
+lose_at state trunk side work = Accepts Answer.Done (set_state trunk side (lost state) work)
 
 abbrev pub lose : Node → TrunkId → Option TrunkSide → Outcome
 lose node trunk None = Refuses Refusal.NotLive
@@ -42,33 +45,38 @@ watch_to peer = first_where (λ r monitor. same_name monitor.target.node peer)
 abbrev pub registered_by : Name → List (Reference × Monitor) → Option (Reference × Monitor)
 registered_by peer = first_where (λ r monitor. same_name monitor.owner.node peer)
 
+pub data Record : Type 0 where
+  OfLink : (process partner : Pid) → End → Record
+  OfWatch : Reference → Monitor → Record
+  OfRegistration : Reference → Record
+
+abbrev pub least_record : Name → Node → Option Record
+least_record peer node =
+    option_or (option_map (λ entry. OfLink entry.0.0 entry.0.1 entry.1) (link_to peer (fm.entries node.ends)))
+    (option_or (option_map (λ entry. OfWatch entry.0 entry.1) (watch_to peer (fm.entries node.watches)))
+    (option_map (λ entry. OfRegistration entry.0) (registered_by peer (fm.entries node.registered))))
+
+abbrev pub swept_kind : Option Record → Swept
+swept_kind None = Swept.Side
+swept_kind (Some (OfLink p q end)) = Swept.Link
+swept_kind (Some (OfWatch r monitor)) = Swept.Watch
+swept_kind (Some (OfRegistration r)) = Swept.Registration
+
 -- a process that is linked gets the exit signal noconnection
 abbrev pub sweep_end : End → Pid → Pid → Work → Work
 sweep_end end p q work = if is_active end then link_exit p q noconnection (set_end p q End.None work) else set_end p q End.None work
 
-abbrev pub sweep_registered : Option (Reference × Monitor) → Work → Work
-sweep_registered None work = work
-sweep_registered (Some entry) work = unregister entry.0 work
-
 -- the owner of a monitor gets DOWN with noconnection
-abbrev pub sweep_watch : Option (Reference × Monitor) → Name → Work → Work
-sweep_watch None peer work = sweep_registered (registered_by peer (fm.entries work.node.registered)) work
-sweep_watch (Some entry) peer work = put entry.1.owner (down_term entry.0 entry.1.target noconnection) (unwatch entry.0 work)
-
-abbrev pub sweep_link : Option ((Pid × Pid) × End) → Name → Work → Work
-sweep_link None peer work = sweep_watch (watch_to peer (fm.entries work.node.watches)) peer work
-sweep_link (Some entry) peer work = sweep_end entry.1 entry.0.0 entry.0.1 work
-
-abbrev pub has_records : Name → Node → Bool
-has_records peer node =
-    is_some (link_to peer (fm.entries node.ends))
-    || is_some (watch_to peer (fm.entries node.watches))
-    || is_some (registered_by peer (fm.entries node.registered))
+abbrev pub sweep_record : Option Record → Work → Work
+sweep_record None work = work
+sweep_record (Some (OfLink p q end)) work = sweep_end end p q work
+sweep_record (Some (OfWatch r monitor)) work = put monitor.owner (down_term r monitor.target noconnection) (unwatch r work)
+sweep_record (Some (OfRegistration r)) work = unregister r work
 
 -- ---- once no record is left the side is gone, and an attempt that waited for it goes on
 
 abbrev pub parked_by : State → TrunkId → TrunkSide → Work → Work
-parked_by (Parked word) trunk side work = write trunk side.peer (challenge work.node word) (set_state trunk side (Accepting word) work)
+parked_by (Parked word) trunk side work = send_challenge trunk side word work
 parked_by _ trunk side work = work
 
 abbrev pub parked_goes : Option (TrunkId × TrunkSide) → Work → Work
@@ -81,24 +89,18 @@ close trunk side work =
     parked_goes (side_where is_parked side.peer (fm.entries closed.node.sides)) closed
 
 abbrev pub swept : TrunkId → TrunkSide → Work → Work
-swept trunk side work = if has_records side.peer work.node then work else close trunk side work
+swept trunk side work = if is_some (least_record side.peer work.node) then work else close trunk side work
 
 -- ---- a sweep takes the least record of the least trunk that is lost
 
 abbrev pub any_side : (State → Bool) → List (TrunkId × TrunkSide) → Option (TrunkId × TrunkSide)
 any_side test = first_where (λ trunk side. test side.state)
 
-abbrev pub first_of : Name → Node → Swept
-first_of peer node =
-    if is_some (link_to peer (fm.entries node.ends)) then SweptLink else
-    (if is_some (watch_to peer (fm.entries node.watches)) then SweptWatch else
-    (if is_some (registered_by peer (fm.entries node.registered)) then SweptRegistration else SweptSide))
-
 abbrev pub sweep_by : Option (TrunkId × TrunkSide) → Work → Outcome
 sweep_by None work = Refuses Refusal.NothingThere
 sweep_by (Some entry) work =
-    let peer = entry.1.peer in
-    Goes (Sweeps (first_of peer work.node)) (swept entry.0 entry.1 (sweep_link (link_to peer (fm.entries work.node.ends)) peer work))
+    let least = least_record entry.1.peer work.node in
+    Accepts (Answer.Swept (swept_kind least)) (swept entry.0 entry.1 (sweep_record least work))
 
 abbrev pub sweep : Node → Outcome
 sweep node = sweep_by (any_side is_losing (fm.entries node.sides)) (at_work node)

@@ -2,7 +2,8 @@
 -- (Reference Manual, Processes, Monitors; ERTS User's Guide, Distribution Protocol, Protocol between Connected Nodes.)
 use Rattle.std.specs.Prelude.{Option, None, Some, if◌then◌else◌, ◌&&◌}
 use Rattle.std.specs.FinMap as fm
-use Rattle.dist_model.specs.Commands.{Done, Goes, Outcome, Refuses}
+use Rattle.dist_model.specs.Commands.{Accepts, Outcome, Refuses}
+use Rattle.dist_model.specs.declared.report.Answer.{Answer}
 use Rattle.dist_model.specs.Links.{noconnection, noproc}
 use Rattle.dist_model.specs.Names.{same_pid}
 use Rattle.dist_model.specs.Node.{living, reaches}
@@ -36,7 +37,7 @@ monitor r p q work = if reaches work.node q.node then post (Signal.Monitor p q r
 -- p takes a monitor back: it has to be its own
 abbrev pub demonitor_by : Option Monitor → Pid → Reference → Work → Outcome
 demonitor_by None p r work = Refuses Refusal.NotTheOwner
-demonitor_by (Some monitor) p r work = if same_pid monitor.owner p then Goes Done (post (Signal.Demonitor p monitor.target r) (unwatch r work)) else Refuses Refusal.NotTheOwner
+demonitor_by (Some monitor) p r work = if same_pid monitor.owner p then Accepts Answer.Done (post (Signal.Demonitor p monitor.target r) (unwatch r work)) else Refuses Refusal.NotTheOwner
 
 -- MONITOR_P comes to q
 abbrev pub take_monitor : Pid → Pid → Reference → Work → Work

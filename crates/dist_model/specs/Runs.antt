@@ -28,8 +28,8 @@ abbrev pub opening : List (Name × List ℕ) → World
 opening nodes = record { names = map (λ node. node.0) nodes; nodes = map (λ node. new_node node.0 node.1) nodes; lists = fm.empty }
 
 -- what an event may come to: its step, or memory was wanting and nothing has changed
-abbrev pub Comes : World → Event → Report → World → Type 0
-Comes world event report new =
+abbrev pub Goes : World → Event → Report → World → Type 0
+Goes world event report new =
     ((report ≡ (step world event).report) × (new ≡ (step world event).world))
     ⊎ ((report ≡ Refused Refusal.OutOfMemory) × (new ≡ world))
 
@@ -38,7 +38,7 @@ abbrev pub Runs : World → List Event → List Report → World → Type 0
 Runs world [] [] new = new ≡ world
 Runs world [] (report ∷ reports) new = ⊥
 Runs world (event ∷ events) [] new = ⊥
-Runs world (event ∷ events) (report ∷ reports) new = (next : World) × Comes world event report next × Runs next events reports new
+Runs world (event ∷ events) (report ∷ reports) new = (next : World) × Goes world event report next × Runs next events reports new
 
 -- the same where memory never wants
 abbrev pub run : List Event → World → World

@@ -1,7 +1,7 @@
 -- Runs that are told by name: two nodes connect, a process of each is linked, the link is taken back, the connection
 -- is lost and another comes up.
 use Rattle.std.specs.Prelude.{ℕ, true, List, [], ◌∷◌, ◌++◌, codes}
-use Rattle.dist_model.specs.Commands.{EndLink, MakeLink, Spawn, Trap}
+use Rattle.dist_model.specs.declared.command.Command.{Command}
 use Rattle.dist_model.specs.Names.{Name}
 use Rattle.dist_model.specs.Runs.{opening}
 use Rattle.dist_model.specs.World.{Arrive, Call, Dial, Event, Lose, Sweep, World}
@@ -30,7 +30,7 @@ two_nodes cookie = opening ((first, cookie) ∷ (second, cookie) ∷ [])
 
 -- each spawns a process, which traps exits
 abbrev pub spawning : List Event
-spawning = Call first Spawn ∷ Call second Spawn ∷ Call first (Trap here true) ∷ Call second (Trap there true) ∷ []
+spawning = Call first Command.Spawn ∷ Call second Command.Spawn ∷ Call first (Command.Trap here true) ∷ Call second (Command.Trap there true) ∷ []
 
 -- send_name comes, then the status, the challenge, the reply and the acknowledgement. The words are the challenges
 abbrev pub connecting : ℕ → (own other : ℕ) → List Event
@@ -39,10 +39,10 @@ connecting count own other =
     ∷ Arrive (trunk count) second 0 ∷ Arrive (trunk count) first 0 ∷ []
 
 abbrev pub linking : List Event
-linking = Call first (MakeLink here there) ∷ Arrive (trunk 1) second 0 ∷ []
+linking = Call first (Command.Link here there) ∷ Arrive (trunk 1) second 0 ∷ []
 
 abbrev pub unlinking : List Event
-unlinking = Call first (EndLink here there) ∷ Arrive (trunk 1) second 0 ∷ Arrive (trunk 1) first 0 ∷ []
+unlinking = Call first (Command.Unlink here there) ∷ Arrive (trunk 1) second 0 ∷ Arrive (trunk 1) first 0 ∷ []
 
 -- both notice that the connection is lost, and sweep its records
 abbrev pub losing : List Event

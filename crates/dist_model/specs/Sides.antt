@@ -1,7 +1,8 @@
 -- The sides of a trunk: what each of two nodes holds of their connection, or of an attempt at one.
 -- (ERTS User's Guide, Distribution Protocol, Distribution Handshake.)
-use Rattle.std.specs.Prelude.{ℕ, Bool, true, false}
+use Rattle.std.specs.Prelude.{ℕ, Bool, true, false, ◌||◌}
 use Rattle.dist_model.specs.Names.{Name}
+use Rattle.erl_names.specs.declared.trunk.TrunkId.{TrunkId}
 
 -- the dialer's side awaits the status, the challenge and the acknowledgement. The acceptor's has asked for a
 -- status, waits for an older connection's end, or has sent its challenge. A side keeps its own challenge
@@ -51,8 +52,24 @@ abbrev pub is_gone : State → Bool
 is_gone Gone = true
 is_gone _ = false
 
+-- what comes to it isn't taken any more
+abbrev pub is_over : State → Bool
+is_over state = is_losing state || is_gone state
+
 -- a side that is up waits for its records to be swept, and any other is gone at once
 abbrev pub lost : State → State
 lost Up = Losing
 lost Losing = Losing
 lost _ = Gone
+
+-- a side that is gone has forgotten the peer's creation
+abbrev pub creation_in : State → ℕ → ℕ
+creation_in Gone creation = 0
+creation_in _ creation = creation
+
+abbrev pub in_state : State → TrunkSide → TrunkSide
+in_state state side = record side { peer_creation = creation_in state side.peer_creation; state = state }
+
+-- before anything has come from its dialer. A node keeps no such side
+abbrev pub unheard : TrunkId → TrunkSide
+unheard trunk = record { peer = trunk.dialer; peer_creation = 0; state = Gone }

@@ -4,6 +4,7 @@ use Rattle.std.specs.FinMap as fm
 use Rattle.dist_model.specs.Items.{Item, Signalled, receiver_of}
 use Rattle.dist_model.specs.Names.{Name, pair_cmp, same_name}
 use Rattle.dist_model.specs.Node.{Life, Living, Node, route}
+use Rattle.dist_model.specs.declared.report.Effect.{Effect}
 use Rattle.erl_control.specs.declared.signal.Signal.{Signal}
 use Rattle.erl_names.specs.Draw.{Draw}
 use Rattle.erl_names.specs.Minted.{drawn}
@@ -14,41 +15,28 @@ use Rattle.erl_term.specs.declared.term.Pid.{Pid}
 use Rattle.link_core.specs.declared.end.End.{End}
 use Rattle.std.specs.FinMap.{FinMap}
 
-pub data Effect : Type 0 where
-  -- a message was put into a mailbox
-  Put : (receiver : Pid) → (message : Data) → Effect
-  -- the process ended
-  EndedBy : (process : Pid) → (reason : Data) → Effect
-  -- the process reacted to the exit of its link
-  LinkExit : (process : Pid) → (partner : Pid) → (reason : Data) → Effect
-  -- the item was sent to a node, maybe the own one
-  Sent : (target : Name) → (item : Item) → Effect
-
-pub record Envelope : Type 0 where
-  pub trunk : TrunkId
-  pub target : Name
-  pub item : Item
-
 pub record Work : Type 0 where
   pub node : Node
-  pub sent : List Envelope
   -- in the order in which they happened
-  pub effects : List Effect
+  pub effects : List (Effect Item)
 
 abbrev pub at_work : Node → Work
-at_work node = record { node = node; sent = []; effects = [] }
+at_work node = record { node = node; effects = [] }
 
-abbrev pub report : Effect → Work → Work
+abbrev pub report : Effect Item → Work → Work
 report effect work = record work { effects = work.effects ++ effect ∷ [] }
 
 -- ---- what is sent
 
 abbrev pub keep_local : Item → Work → Work
-keep_local item work = record work { node = record (work.node) { local = work.node.local ++ item ∷ [] }; effects = work.effects ++ Sent work.node.mint.name item ∷ [] }
+keep_local item work = record {
+  node = record (work.node) { local = work.node.local ++ item ∷ [] };
+  effects = work.effects ++ Effect.Sent None work.node.mint.name item ∷ [];
+}
 
 abbrev pub send_on : Option TrunkId → Name → Item → Work → Work
-send_on None target item work = work
-send_on (Some trunk) target item work = record work { sent = work.sent ++ (record { trunk = trunk; target = target; item = item }) ∷ []; effects = work.effects ++ Sent target item ∷ [] }
+send_on None peer item work = work
+send_on (Some trunk) peer item work = report (Effect.Sent (Some trunk) peer item) work
 
 -- into the own list, onto the trunk that is up, or nowhere
 abbrev pub post_to : Name → Item → Work → Work
@@ -76,7 +64,7 @@ set_life lives p (Some life) = fm.insert lives p life
 abbrev pub put : Pid → Data → Work → Work
 put p message work = record work {
   node = record (work.node) { lives = set_life work.node.lives p (delivered (fm.get work.node.lives p) message) };
-  effects = work.effects ++ Put p message ∷ [];
+  effects = work.effects ++ Effect.Put p message ∷ [];
 }
 
 abbrev pub set_in : FinMap pair_cmp End → Pid × Pid → End → FinMap pair_cmp End

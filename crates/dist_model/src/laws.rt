@@ -19,14 +19,11 @@ ghost use Rattle.link_core.specs.Table.{linked, unlinked};
 ghost use Rattle.dist_model.specs.Linking.{link, unlink_as};
 ghost use Rattle.dist_model.specs.World.{World, Event, Report, Refused};
 ghost use Rattle.dist_model.specs.Quiet.{Quiet, is_quiet};
-ghost use Rattle.dist_model.specs.Runs.{Comes, Runs, run, Always};
-ghost use Rattle.std.specs.FinMap as map;
+ghost use Rattle.dist_model.specs.Runs.{Goes, Runs, run, Always};
 ghost use Rattle.erl_names.specs.declared.trunk.TrunkId.{TrunkId};
 ghost use Rattle.dist_model.specs.Names.{Name, same_pid};
-ghost use Rattle.dist_model.specs.Sides.{TrunkSide, is_waiting};
-ghost use Rattle.dist_model.specs.Node.{Node, side_where, end_of, reaches};
+ghost use Rattle.dist_model.specs.Node.{Node, end_of, reaches};
 ghost use Rattle.dist_model.specs.Work.{at_work};
-ghost use Rattle.dist_model.specs.Admission.{give_up, others};
 ghost use Rattle.dist_model.specs.Seen.{end_between, AreConnected};
 ghost use Rattle.dist_model.specs.Schedules as schedule;
 ghost use Rattle.dist_model.specs.Claims.{Agreement, AgreementWithin, AgreementInQuiet, PendingOnItsWay, PendingWithin, NoLinkToTheDead, NoLinkToItself, LinkNeedsConnection, LivingWasSpawned, OneTrunk, NoUpBesideLosing, KeepsOrder, ReactsOnlyWhereLinked};
@@ -116,13 +113,6 @@ pub fn every_run_is_safe()
     ensures safe { Throughout Safe }
 {}
 
-/// What a node tells a dialer of its other sides is the same before and after an older attempt of
-/// that dialer has given way. (ERTS User's Guide, Distribution Protocol, Distribution Handshake.)
-pub fn others_stay()
-    ensures stay { (node : Node) (dialer : Name) (older : TrunkId × TrunkSide) → side_where is_waiting dialer (map.entries node.sides) ≡ Some older →
-        others ((give_up (Some older) (at_work node)).node) dialer ≡ others node dialer }
-{}
-
 /// Whether nothing travels between two processes can be tested.
 pub fn quiet_test()
     ensures test { (world : World) (p q : Pid) → (is_quiet world p q ≡ true) ↔ Quiet world p q }
@@ -154,7 +144,7 @@ pub fn order_is_kept()
 
 /// An event that is refused changes nothing.
 pub fn refused_changes_nothing()
-    ensures unchanged { (world new : World) (event : Event) (refusal : Refusal) → Comes world event (Refused refusal) new → new ≡ world }
+    ensures unchanged { (world new : World) (event : Event) (refusal : Refusal) → Goes world event (Refused refusal) new → new ≡ world }
 {}
 
 /// Two nodes of one cookie connect, and a process of each comes to hold a link to the other active.

@@ -7,11 +7,17 @@
 //! tells it in prose.
 #![tactic(auto)]
 
+mod command;
 mod laws;
+mod links;
+mod report;
 
+pub use command::Command;
 pub use laws::{
     agreement, calls_follow_the_table, connection_comes_again, downs_are_told, events_run,
     every_run_is_safe, fits_test, link_comes_about, link_is_taken_back, links_need_a_connection,
     moments, monitors, news_is_told, no_link_to_the_dead, one_monitor, one_trunk, order_is_kept,
-    others_stay, pending, quiet_test, reactions, refused_changes_nothing,
+    pending, quiet_test, reactions, refused_changes_nothing,
 };
+pub use links::Links;
+pub use report::{Answer, Effect, Kind, Report, Swept};
