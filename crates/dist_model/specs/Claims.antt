@@ -1,15 +1,22 @@
 -- What holds of every world that events lead to.
-use Rattle.std.specs.Prelude.{List, ◌∷◌, ◌++◌, ◌≡◌, ◌⊎◌, ◌↔◌, Some, ℕ, true, false, Contains}
+use Rattle.std.specs.Prelude.{if◌then◌else◌, List, [], ◌∷◌, ◌++◌, ◌≡◌, ◌⊎◌, ◌↔◌, None, Some, ℕ, true, false, Contains}
+use Rattle.std.specs.Ordering.{eq_by_cmp}
 use Rattle.dist_model.specs.Causes.{Reacts}
 use Rattle.dist_model.specs.declared.command.Command.{Command}
 use Rattle.dist_model.specs.Items.{Item, news}
 use Rattle.dist_model.specs.Links.{Says, drained, last_said}
-use Rattle.dist_model.specs.Names.{Name}
+use Rattle.dist_model.specs.Names.{Name, place_cmp}
+use Rattle.dist_model.specs.NodeEvents.{at_node}
+use Rattle.dist_model.specs.Commands.{Accepts, Refuses}
+use Rattle.dist_model.specs.Work.{Work}
+use Rattle.dist_model.specs.declared.report.Answer.{Answer}
+use Rattle.dist_model.specs.declared.report.Effect.{Effect}
+use Rattle.erl_term.specs.declared.refusal.Refusal.{Refusal}
 use Rattle.dist_model.specs.Node.{Node, living, never}
 use Rattle.dist_model.specs.Quiet.{Quiet}
 use Rattle.dist_model.specs.Seen.{AreConnected, HasSide, end_between, is_connected, is_living, is_reached, local_list}
 use Rattle.dist_model.specs.Sides.{is_losing, is_up}
-use Rattle.dist_model.specs.World.{Arrive, Call, Event, World, list_to, node_of, step}
+use Rattle.dist_model.specs.World.{Arrive, Call, Event, Refused, Report, Reported, Stepped, World, list_to, met, node_name, node_of, refused, step}
 use Rattle.erl_names.specs.declared.trunk.TrunkId.{TrunkId}
 use Rattle.erl_term.specs.Data.{Data}
 use Rattle.erl_term.specs.declared.term.Pid.{Pid}
@@ -78,17 +85,35 @@ abbrev pub ReactsOnlyWhereLinked : World → Type 0
 ReactsOnlyWhereLinked w = (e : Event) (p q : Pid) (reason : Data) → Reacts p q reason ((step w e).report)
     → (end_between w p q ≡ End.Active) ⊎ ((e ≡ Call p.node (Command.Link p q)) × (is_reached w p q.node ≡ false))
 
+-- ---- An event is of one node. (own: the threads of nodes rest on it)
+
+-- the other nodes stay as they are, and the node becomes what its event makes of it
+pub record IsOf (w : World) (e : Event) (s : Stepped) : Type 0 where
+  pub names : s.world.names ≡ w.names
+  pub others : (x : Name) → (x ≡ node_name e → ⊥) → node_of s.world.nodes x ≡ node_of w.nodes x
+  pub nobody : node_of w.nodes (node_name e) ≡ None → s ≡ refused w Refusal.NothingThere
+  pub refuses : (node : Node) (why : Refusal) → node_of w.nodes (node_name e) ≡ Some node → at_node w.names node (met w e) ≡ Refuses why → s ≡ refused w why
+  pub accepts : (node : Node) (answer : Answer) (work : Work) → node_of w.nodes (node_name e) ≡ Some node → at_node w.names node (met w e) ≡ Accepts answer work
+      → (s.report ≡ Reported answer work.effects) × (node_of s.world.nodes work.node.mint.name ≡ Some work.node)
+
+abbrev pub EventIsLocal : World → Type 0
+EventIsLocal w = (e : Event) → IsOf w e (step w e)
+
 -- ---- Order. (Reference Manual, Processes, Delivery of Signals)
 
--- items come behind those that are on their way
-abbrev pub Grows : List Item → List Item → Type 0
-Grows old new = (more : List Item) × (new ≡ old ++ more)
+abbrev pub effects_of : Report → List (Effect Item)
+effects_of (Refused why) = []
+effects_of (Reported answer effects) = effects
 
--- the first one is taken
-abbrev pub LosesFirst : List Item → List Item → Type 0
-LosesFirst old new = (first : Item) × (rest : List Item) × (old ≡ first ∷ rest) × Grows rest new
+-- what was sent on a trunk to a node
+abbrev pub sent_to : TrunkId → Name → List (Effect Item) → List Item
+sent_to t x [] = []
+sent_to t x (Effect.Sent (Some u) y item ∷ rest) = (if eq_by_cmp place_cmp (t, x) (u, y) then item ∷ [] else []) ++ sent_to t x rest
+sent_to t x (effect ∷ rest) = sent_to t x rest
 
--- whatever comes next, what travels on a trunk to a node keeps its order, and is taken only as it comes to that node
+-- whatever comes next, what travels on a trunk to a node keeps its order: what the report says was sent, and nothing else, comes behind it, and
+-- the first item is taken only as it comes to that node
 abbrev pub KeepsOrder : World → Type 0
-KeepsOrder w = (e : Event) (t : TrunkId) (x : Name) → let new = list_to ((step w e).world).lists t x in
-    Grows (list_to w.lists t x) new ⊎ (((word : ℕ) × (e ≡ Arrive t x word)) × LosesFirst (list_to w.lists t x) new)
+KeepsOrder w = (e : Event) (t : TrunkId) (x : Name) → let s = step w e in let sent = sent_to t x (effects_of s.report) in
+    (list_to s.world.lists t x ≡ list_to w.lists t x ++ sent)
+    ⊎ (((word : ℕ) × (e ≡ Arrive t x word)) × (first : Item) × (rest : List Item) × (list_to w.lists t x ≡ first ∷ rest) × (list_to s.world.lists t x ≡ rest ++ sent))
