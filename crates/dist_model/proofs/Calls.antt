@@ -162,7 +162,7 @@ never_by n p new true false true true false false true ha hc hd he hg =
     let eq : p ≡ next_pid n = λ i. record { node = nm i; creation = cr i; id = id i; serial = se i } in
     let k : true ≡ false = sym (same_pid_is p (next_pid n) eq) ∙ new in cc
 
-spawned_never : (n : Node) (p : Pid) → same_pid p (next_pid n) ≡ false → never ((spawned_at n (next_pid n)).node) p ≡ never n p
+pub spawned_never : (n : Node) (p : Pid) → same_pid p (next_pid n) ≡ false → never ((spawned_at n (next_pid n)).node) p ≡ never n p
 spawned_never n p new = never_by n p new (same_name p.node n.mint.name) (nat_lt n.mint.creation p.creation) (p.creation == n.mint.creation) (nat_lt n.mint.pids p.id) (nat_lt (n.mint.pids + 1) p.id) (p.id == 0) (p.serial == 0) refl refl refl refl refl
 
 not_less : (x : ℕ) → nat_lt x x ≡ false
@@ -210,7 +210,7 @@ pub by_test : (P : Type 0) (b : Bool) → (b ≡ true → P) → (b ≡ false �
 by_test P true f g = f refl
 by_test P false f g = g refl
 
-spawned_living : (n : Node) (p : Pid) → living ((spawned_at n (next_pid n)).node) p ≡ is_living_life (cond (same_pid p (next_pid n)) (Some (Living false [])) (fm.get n.lives p))
+pub spawned_living : (n : Node) (p : Pid) → living ((spawned_at n (next_pid n)).node) p ≡ is_living_life (cond (same_pid p (next_pid n)) (Some (Living false [])) (fm.get n.lives p))
 spawned_living n p = ap is_living_life (fm.get-insert pid_total n.lives (next_pid n) (Living false []) p)
 
 born_cond_true : (b : Bool) (l : Option Life) → b ≡ true → is_living_life (cond b (Some (Living false [])) l) ≡ true

@@ -80,7 +80,7 @@ sent_or_not (Handshake (ShakeMsg.ChallengeReply c d)) = inr (λ a b i. cc, refl)
 sent_or_not (Handshake (ShakeMsg.ChallengeAck d)) = inr (λ a b i. cc, refl)
 sent_or_not Tick = inr (λ a b i. cc, refl)
 
-five : (a b c d e : Bool) → (a || b || c || d || e) ≡ false → (a ≡ false) × (b ≡ false) × (c ≡ false) × (d ≡ false) × (e ≡ false)
+pub five : (a b c d e : Bool) → (a || b || c || d || e) ≡ false → (a ≡ false) × (b ≡ false) × (c ≡ false) × (d ≡ false) × (e ≡ false)
 five true b c d e h = cc
 five false true c d e h = cc
 five false false true d e h = cc

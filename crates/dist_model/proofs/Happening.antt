@@ -1,7 +1,7 @@
 -- Runs in which something happens, step by step. Finite maps don't compute by themselves, so each world is written out,
 -- and each step is shown by what maps of known entries hold.
 use Rattle.dist_model.proofs.Seeing.{side_in}
-use Rattle.std.proofs.Common.{◌≡◌, ℕ, Bool, true, false, cond, List, [], ◌∷◌, ◌++◌, refl, sym, ap, ◌∙◌, arith, ◌&&◌, Some, None}
+use Rattle.std.proofs.Common.{◌≡◌, ℕ, Bool, true, false, cond, List, [], ◌∷◌, ◌++◌, refl, sym, ap, ◌∙◌, arith, subst, ◌&&◌, Some, None}
 use Rattle.std.specs.Prelude.{length, nat_eq}
 use Rattle.std.specs.Cmp.Lexicographic.{pointwise}
 use Rattle.std.specs.FinMap as fm
@@ -28,10 +28,12 @@ use Rattle.dist_model.specs.Items.{Item, Signalled, Handshake}
 use Rattle.dist_model.specs.Sides.{TrunkSide, AwaitsStatus, AwaitsChallenge, AwaitsAck, Accepting, Up, Losing, Gone, is_up}
 use Rattle.dist_model.specs.Node.{Node, Life, Living}
 use Rattle.dist_model.specs.declared.command.Command.{Command}
-use Rattle.dist_model.specs.World.{World, Event, Call, Arrive, Lose, Sweep, Dial, step, node_of}
+use Rattle.dist_model.specs.World.{World, Event, Call, Arrive, Lose, Sweep, Dial, step, node_of, list_to}
+use Rattle.dist_model.specs.Quiet.{Over, Quiet, is_silent}
 use Rattle.dist_model.specs.Runs.{run}
 use Rattle.dist_model.specs.Seen.{HasSide, end_between}
-use Rattle.dist_model.specs.Schedules.{first, second, here, there, trunk, two_nodes, unlinking, losing, connecting, linked_over_a_trunk, unlinked_over_a_trunk, connected_again}
+use Rattle.dist_model.specs.Schedules.{connected_over_a_trunk, first, second, here, there, trunk, two_nodes, unlinking, losing, connecting, linked_over_a_trunk, unlinked_over_a_trunk, connected_again}
+use Rattle.dist_model.proofs.Passing.{passed, run_on}
 use Rattle.dist_model.proofs.Keys.{pid_total, pair_total, pair_exact, trunk_total, place_total}
 
 -- what a map of known entries holds
@@ -39,72 +41,72 @@ no_entries : {A : Type 0} (es : List A) → length es ≡ 0 → es ≡ []
 no_entries [] h = refl
 no_entries (e ∷ es) h = absurd (omega arith)
 
-entries-empty : {K X : Type 0} (R : K → K → Ordering) → fm.entries (fm.empty {X = X} {R = R}) ≡ []
+pub entries-empty : {K X : Type 0} (R : K → K → Ordering) → fm.entries (fm.empty {X = X} {R = R}) ≡ []
 entries-empty {X = X} R = no_entries _ (sym (fm.len-entries (fm.empty {X = X} {R = R})) ∙ fm.len-empty R X)
 
-get_life : (m : FinMap pid_cmp (Life)) (k : Pid) (v : Life) (q : Pid) → fm.get (fm.insert m k v) q ≡ cond (eq_by_cmp pid_cmp q k) (Some v) (fm.get m q)
+pub get_life : (m : FinMap pid_cmp (Life)) (k : Pid) (v : Life) (q : Pid) → fm.get (fm.insert m k v) q ≡ cond (eq_by_cmp pid_cmp q k) (Some v) (fm.get m q)
 get_life m k v q = fm.get-insert pid_total m k v q
 
-no_life : (q : Pid) → fm.get (fm.empty {X = Life} {R = pid_cmp}) q ≡ None
+pub no_life : (q : Pid) → fm.get (fm.empty {X = Life} {R = pid_cmp}) q ≡ None
 no_life q = fm.get-empty pid_cmp q
 
-entries_life : (m : FinMap pid_cmp (Life)) (k : Pid) (v : Life) → fm.entries (fm.insert m k v) ≡ put pid_cmp k v (fm.entries m)
+pub entries_life : (m : FinMap pid_cmp (Life)) (k : Pid) (v : Life) → fm.entries (fm.insert m k v) ≡ put pid_cmp k v (fm.entries m)
 entries_life m k v = fm.entries-insert pid_total m k v
 
-none_life : fm.entries (fm.empty {X = Life} {R = pid_cmp}) ≡ []
+pub none_life : fm.entries (fm.empty {X = Life} {R = pid_cmp}) ≡ []
 none_life = entries-empty pid_cmp
 
-get_end : (m : FinMap pair_cmp (End)) (k : Pid × Pid) (v : End) (q : Pid × Pid) → fm.get (fm.insert m k v) q ≡ cond (eq_by_cmp pair_cmp q k) (Some v) (fm.get m q)
+pub get_end : (m : FinMap pair_cmp (End)) (k : Pid × Pid) (v : End) (q : Pid × Pid) → fm.get (fm.insert m k v) q ≡ cond (eq_by_cmp pair_cmp q k) (Some v) (fm.get m q)
 get_end m k v q = fm.get-insert pair_total m k v q
 
-no_end : (q : Pid × Pid) → fm.get (fm.empty {X = End} {R = pair_cmp}) q ≡ None
+pub no_end : (q : Pid × Pid) → fm.get (fm.empty {X = End} {R = pair_cmp}) q ≡ None
 no_end q = fm.get-empty pair_cmp q
 
-entries_end : (m : FinMap pair_cmp (End)) (k : Pid × Pid) (v : End) → fm.entries (fm.insert m k v) ≡ put pair_cmp k v (fm.entries m)
+pub entries_end : (m : FinMap pair_cmp (End)) (k : Pid × Pid) (v : End) → fm.entries (fm.insert m k v) ≡ put pair_cmp k v (fm.entries m)
 entries_end m k v = fm.entries-insert pair_total m k v
 
-none_end : fm.entries (fm.empty {X = End} {R = pair_cmp}) ≡ []
+pub none_end : fm.entries (fm.empty {X = End} {R = pair_cmp}) ≡ []
 none_end = entries-empty pair_cmp
 
-get_side : (m : FinMap trunk_cmp (TrunkSide)) (k : TrunkId) (v : TrunkSide) (q : TrunkId) → fm.get (fm.insert m k v) q ≡ cond (eq_by_cmp trunk_cmp q k) (Some v) (fm.get m q)
+pub get_side : (m : FinMap trunk_cmp (TrunkSide)) (k : TrunkId) (v : TrunkSide) (q : TrunkId) → fm.get (fm.insert m k v) q ≡ cond (eq_by_cmp trunk_cmp q k) (Some v) (fm.get m q)
 get_side m k v q = fm.get-insert trunk_total m k v q
 
-no_side : (q : TrunkId) → fm.get (fm.empty {X = TrunkSide} {R = trunk_cmp}) q ≡ None
+pub no_side : (q : TrunkId) → fm.get (fm.empty {X = TrunkSide} {R = trunk_cmp}) q ≡ None
 no_side q = fm.get-empty trunk_cmp q
 
-entries_side : (m : FinMap trunk_cmp (TrunkSide)) (k : TrunkId) (v : TrunkSide) → fm.entries (fm.insert m k v) ≡ put trunk_cmp k v (fm.entries m)
+pub entries_side : (m : FinMap trunk_cmp (TrunkSide)) (k : TrunkId) (v : TrunkSide) → fm.entries (fm.insert m k v) ≡ put trunk_cmp k v (fm.entries m)
 entries_side m k v = fm.entries-insert trunk_total m k v
 
-none_side : fm.entries (fm.empty {X = TrunkSide} {R = trunk_cmp}) ≡ []
+pub none_side : fm.entries (fm.empty {X = TrunkSide} {R = trunk_cmp}) ≡ []
 none_side = entries-empty trunk_cmp
 
-get_list : (m : FinMap place_cmp (List Item)) (k : TrunkId × Name) (v : List Item) (q : TrunkId × Name) → fm.get (fm.insert m k v) q ≡ cond (eq_by_cmp place_cmp q k) (Some v) (fm.get m q)
+pub get_list : (m : FinMap place_cmp (List Item)) (k : TrunkId × Name) (v : List Item) (q : TrunkId × Name) → fm.get (fm.insert m k v) q ≡ cond (eq_by_cmp place_cmp q k) (Some v) (fm.get m q)
 get_list m k v q = fm.get-insert place_total m k v q
 
-no_list : (q : TrunkId × Name) → fm.get (fm.empty {X = List Item} {R = place_cmp}) q ≡ None
+pub no_list : (q : TrunkId × Name) → fm.get (fm.empty {X = List Item} {R = place_cmp}) q ≡ None
 no_list q = fm.get-empty place_cmp q
 
-entries_list : (m : FinMap place_cmp (List Item)) (k : TrunkId × Name) (v : List Item) → fm.entries (fm.insert m k v) ≡ put place_cmp k v (fm.entries m)
+pub entries_list : (m : FinMap place_cmp (List Item)) (k : TrunkId × Name) (v : List Item) → fm.entries (fm.insert m k v) ≡ put place_cmp k v (fm.entries m)
 entries_list m k v = fm.entries-insert place_total m k v
 
-none_list : fm.entries (fm.empty {X = List Item} {R = place_cmp}) ≡ []
+pub none_list : fm.entries (fm.empty {X = List Item} {R = place_cmp}) ≡ []
 none_list = entries-empty place_cmp
 
-gone_end : (m : FinMap pair_cmp End) (k q : Pid × Pid) → fm.get (fm.remove m k) q ≡ cond (eq_by_cmp pair_cmp q k) None (fm.get m q)
+pub gone_end : (m : FinMap pair_cmp End) (k q : Pid × Pid) → fm.get (fm.remove m k) q ≡ cond (eq_by_cmp pair_cmp q k) None (fm.get m q)
 gone_end m k q = fm.get-remove pair_total m k q
 
-alone : (k : Pid × Pid) (e : End) → fm.remove (fm.insert (fm.empty {X = End} {R = pair_cmp}) k e) k ≡ fm.empty
+pub alone : (k : Pid × Pid) (e : End) → fm.remove (fm.insert (fm.empty {X = End} {R = pair_cmp}) k e) k ≡ fm.empty
 alone k e = fm.same_map pair_total pair_exact _ _ (λ q. fm.get-remove pair_total _ k q ∙ ap (λ o. cond (eq_by_cmp pair_cmp q k) None o) (fm.get-insert pair_total fm.empty k e q) ∙ twice (eq_by_cmp pair_cmp q k) q)
   where
     twice : (b : Bool) (q : Pid × Pid) → cond b None (cond b (Some e) (fm.get (fm.empty {X = End} {R = pair_cmp}) q)) ≡ fm.get (fm.empty {X = End} {R = pair_cmp}) q
     twice true q = sym (fm.get-empty pair_cmp q)
     twice false q = refl
 
-no_monitors : fm.entries (fm.empty {X = Monitor} {R = reference_cmp}) ≡ []
+pub no_monitors : fm.entries (fm.empty {X = Monitor} {R = reference_cmp}) ≡ []
 no_monitors = entries-empty reference_cmp
 
 -- a node knows its own digest
-knows : (d : List ℕ) → pointwise nat_eq d d ≡ true
+pub knows : (d : List ℕ) → pointwise nat_eq d d ≡ true
 knows [] = refl
 knows (n ∷ d) = go (nat_eq n n) (itself n) (knows d)
   where
@@ -115,7 +117,7 @@ knows (n ∷ d) = go (nat_eq n n) (itself n) (knows d)
     go true h k = k
     go false h k = cc
 
-ruleset of_maps = (alone, gone_end, no_monitors, get_life, no_life, entries_life, none_life, get_end, no_end, entries_end, none_end, get_side, no_side, entries_side, none_side, get_list, no_list, entries_list, none_list)
+pub ruleset of_maps = (alone, gone_end, no_monitors, get_life, no_life, entries_life, none_life, get_end, no_end, entries_end, none_end, get_side, no_side, entries_side, none_side, get_list, no_list, entries_list, none_list)
 
 module _ (cookie : List ℕ) (own other : ℕ) where
   abbrev node : Name → (pids unlinks dialed : ℕ) → FinMap pid_cmp Life → FinMap pair_cmp End → FinMap trunk_cmp TrunkSide → Node
@@ -156,10 +158,10 @@ module _ (cookie : List ℕ) (own other : ℕ) where
   abbrev lives_of_second_0 : FinMap pid_cmp Life
   lives_of_second_0 = fm.insert fm.empty there (Living false [])
 
-  abbrev lives_of_first_1 : FinMap pid_cmp Life
+  abbrev pub lives_of_first_1 : FinMap pid_cmp Life
   lives_of_first_1 = fm.insert lives_of_first_0 here (Living true [])
 
-  abbrev lives_of_second_1 : FinMap pid_cmp Life
+  abbrev pub lives_of_second_1 : FinMap pid_cmp Life
   lives_of_second_1 = fm.insert lives_of_second_0 there (Living true [])
 
   abbrev sides_of_first_0 : FinMap trunk_cmp TrunkSide
@@ -198,28 +200,28 @@ module _ (cookie : List ℕ) (own other : ℕ) where
   abbrev lists7 : FinMap place_cmp (List Item)
   lists7 = fm.insert lists6 (trunk 1, second) ([])
 
-  abbrev sides_of_second_1 : FinMap trunk_cmp TrunkSide
+  abbrev pub sides_of_second_1 : FinMap trunk_cmp TrunkSide
   sides_of_second_1 = fm.insert sides_of_second_0 (trunk 1) (record { peer = first; peer_creation = 1; state = Up })
 
   abbrev lists8 : FinMap place_cmp (List Item)
   lists8 = fm.insert lists7 (trunk 1, first) (acknowledged own ∷ [])
 
-  abbrev lists9 : FinMap place_cmp (List Item)
+  abbrev pub lists9 : FinMap place_cmp (List Item)
   lists9 = fm.insert lists8 (trunk 1, first) ([])
 
-  abbrev sides_of_first_3 : FinMap trunk_cmp TrunkSide
+  abbrev pub sides_of_first_3 : FinMap trunk_cmp TrunkSide
   sides_of_first_3 = fm.insert sides_of_first_2 (trunk 1) (record { peer = second; peer_creation = 1; state = Up })
 
-  abbrev ends_of_first_0 : FinMap pair_cmp End
+  abbrev pub ends_of_first_0 : FinMap pair_cmp End
   ends_of_first_0 = fm.insert fm.empty (here, there) (End.Active)
 
   abbrev lists10 : FinMap place_cmp (List Item)
   lists10 = fm.insert lists9 (trunk 1, second) (Signalled (Signal.Link here there) ∷ [])
 
-  abbrev lists11 : FinMap place_cmp (List Item)
+  abbrev pub lists11 : FinMap place_cmp (List Item)
   lists11 = fm.insert lists10 (trunk 1, second) ([])
 
-  abbrev ends_of_second_0 : FinMap pair_cmp End
+  abbrev pub ends_of_second_0 : FinMap pair_cmp End
   ends_of_second_0 = fm.insert fm.empty (there, here) (End.Active)
 
   abbrev ends_of_first_1 : FinMap pair_cmp End
@@ -303,13 +305,13 @@ module _ (cookie : List ℕ) (own other : ℕ) where
   abbrev lists24 : FinMap place_cmp (List Item)
   lists24 = fm.insert lists23 (trunk 2, first) (acknowledged own ∷ [])
 
-  abbrev lists25 : FinMap place_cmp (List Item)
+  abbrev pub lists25 : FinMap place_cmp (List Item)
   lists25 = fm.insert lists24 (trunk 2, first) ([])
 
   abbrev sides_of_first_9 : FinMap trunk_cmp TrunkSide
   sides_of_first_9 = fm.insert sides_of_first_8 (trunk 2) (record { peer = second; peer_creation = 1; state = Up })
 
-  abbrev w0 : World
+  abbrev pub w0 : World
   w0 = world (node first 0 0 0 (fm.empty) (fm.empty) (fm.empty)) (node second 0 0 0 (fm.empty) (fm.empty) (fm.empty)) fm.empty
 
   abbrev w1 : World
@@ -339,13 +341,13 @@ module _ (cookie : List ℕ) (own other : ℕ) where
   abbrev w9 : World
   w9 = world (node first 1 0 1 (lives_of_first_1) (fm.empty) (sides_of_first_2)) (node second 1 0 0 (lives_of_second_1) (fm.empty) (sides_of_second_1)) lists8
 
-  abbrev w10 : World
+  abbrev pub w10 : World
   w10 = world (node first 1 0 1 (lives_of_first_1) (fm.empty) (sides_of_first_3)) (node second 1 0 0 (lives_of_second_1) (fm.empty) (sides_of_second_1)) lists9
 
   abbrev w11 : World
   w11 = world (node first 1 0 1 (lives_of_first_1) (ends_of_first_0) (sides_of_first_3)) (node second 1 0 0 (lives_of_second_1) (fm.empty) (sides_of_second_1)) lists10
 
-  abbrev w12 : World
+  abbrev pub w12 : World
   w12 = world (node first 1 0 1 (lives_of_first_1) (ends_of_first_0) (sides_of_first_3)) (node second 1 0 0 (lives_of_second_1) (ends_of_second_0) (sides_of_second_1)) lists11
 
   wstep0 : (step w0 (Call first Command.Spawn)).world ≡ w1
@@ -385,19 +387,13 @@ module _ (cookie : List ℕ) (own other : ℕ) where
   wstep11 = simp (of_maps, knows) refl
 
   wrun : run (Call first Command.Spawn ∷ Call second Command.Spawn ∷ Call first (Command.Trap here true) ∷ Call second (Command.Trap there true) ∷ Dial first second own ∷ Arrive (trunk 1) second other ∷ Arrive (trunk 1) first 0 ∷ Arrive (trunk 1) first 0 ∷ Arrive (trunk 1) second 0 ∷ Arrive (trunk 1) first 0 ∷ Call first (Command.Link here there) ∷ Arrive (trunk 1) second 0 ∷ []) w0 ≡ w12
-  wrun =
-      ap (run (Call second Command.Spawn ∷ Call first (Command.Trap here true) ∷ Call second (Command.Trap there true) ∷ Dial first second own ∷ Arrive (trunk 1) second other ∷ Arrive (trunk 1) first 0 ∷ Arrive (trunk 1) first 0 ∷ Arrive (trunk 1) second 0 ∷ Arrive (trunk 1) first 0 ∷ Call first (Command.Link here there) ∷ Arrive (trunk 1) second 0 ∷ [])) wstep0
-      ∙ ap (run (Call first (Command.Trap here true) ∷ Call second (Command.Trap there true) ∷ Dial first second own ∷ Arrive (trunk 1) second other ∷ Arrive (trunk 1) first 0 ∷ Arrive (trunk 1) first 0 ∷ Arrive (trunk 1) second 0 ∷ Arrive (trunk 1) first 0 ∷ Call first (Command.Link here there) ∷ Arrive (trunk 1) second 0 ∷ [])) wstep1
-      ∙ ap (run (Call second (Command.Trap there true) ∷ Dial first second own ∷ Arrive (trunk 1) second other ∷ Arrive (trunk 1) first 0 ∷ Arrive (trunk 1) first 0 ∷ Arrive (trunk 1) second 0 ∷ Arrive (trunk 1) first 0 ∷ Call first (Command.Link here there) ∷ Arrive (trunk 1) second 0 ∷ [])) wstep2
-      ∙ ap (run (Dial first second own ∷ Arrive (trunk 1) second other ∷ Arrive (trunk 1) first 0 ∷ Arrive (trunk 1) first 0 ∷ Arrive (trunk 1) second 0 ∷ Arrive (trunk 1) first 0 ∷ Call first (Command.Link here there) ∷ Arrive (trunk 1) second 0 ∷ [])) wstep3
-      ∙ ap (run (Arrive (trunk 1) second other ∷ Arrive (trunk 1) first 0 ∷ Arrive (trunk 1) first 0 ∷ Arrive (trunk 1) second 0 ∷ Arrive (trunk 1) first 0 ∷ Call first (Command.Link here there) ∷ Arrive (trunk 1) second 0 ∷ [])) wstep4
-      ∙ ap (run (Arrive (trunk 1) first 0 ∷ Arrive (trunk 1) first 0 ∷ Arrive (trunk 1) second 0 ∷ Arrive (trunk 1) first 0 ∷ Call first (Command.Link here there) ∷ Arrive (trunk 1) second 0 ∷ [])) wstep5
-      ∙ ap (run (Arrive (trunk 1) first 0 ∷ Arrive (trunk 1) second 0 ∷ Arrive (trunk 1) first 0 ∷ Call first (Command.Link here there) ∷ Arrive (trunk 1) second 0 ∷ [])) wstep6
-      ∙ ap (run (Arrive (trunk 1) second 0 ∷ Arrive (trunk 1) first 0 ∷ Call first (Command.Link here there) ∷ Arrive (trunk 1) second 0 ∷ [])) wstep7
-      ∙ ap (run (Arrive (trunk 1) first 0 ∷ Call first (Command.Link here there) ∷ Arrive (trunk 1) second 0 ∷ [])) wstep8
-      ∙ ap (run (Call first (Command.Link here there) ∷ Arrive (trunk 1) second 0 ∷ [])) wstep9
-      ∙ ap (run (Arrive (trunk 1) second 0 ∷ [])) wstep10
-      ∙ ap (run ([])) wstep11
+  wrun = passed w0 (Call first Command.Spawn ∷ Call second Command.Spawn ∷ Call first (Command.Trap here true) ∷ Call second (Command.Trap there true) ∷ Dial first second own ∷ Arrive (trunk 1) second other ∷ Arrive (trunk 1) first 0 ∷ Arrive (trunk 1) first 0 ∷ Arrive (trunk 1) second 0 ∷ Arrive (trunk 1) first 0 ∷ Call first (Command.Link here there) ∷ Arrive (trunk 1) second 0 ∷ [])
+      (w1 ∷ w2 ∷ w3 ∷ w4 ∷ w5 ∷ w6 ∷ w7 ∷ w8 ∷ w9 ∷ w10 ∷ w11 ∷ w12 ∷ [])
+      (wstep0, (wstep1, (wstep2, (wstep3, (wstep4, (wstep5, (wstep6, (wstep7, (wstep8, (wstep9, (wstep10, (wstep11, tt))))))))))))
+
+  pub connected_is : run (connected_over_a_trunk own other) (two_nodes cookie) ≡ w10
+  connected_is = passed w0 (connected_over_a_trunk own other) (w1 ∷ w2 ∷ w3 ∷ w4 ∷ w5 ∷ w6 ∷ w7 ∷ w8 ∷ w9 ∷ w10 ∷ [])
+      (wstep0, (wstep1, (wstep2, (wstep3, (wstep4, (wstep5, (wstep6, (wstep7, (wstep8, (wstep9, tt))))))))))
 
   abbrev u1 : World
   u1 = world (node first 1 1 1 (lives_of_first_1) (ends_of_first_1) (sides_of_first_3)) (node second 1 0 0 (lives_of_second_1) (ends_of_second_0) (sides_of_second_1)) lists12
@@ -418,10 +414,9 @@ module _ (cookie : List ℕ) (own other : ℕ) where
   ustep2 = simp (of_maps, knows) refl
 
   urun : run (Call first (Command.Unlink here there) ∷ Arrive (trunk 1) second 0 ∷ Arrive (trunk 1) first 0 ∷ []) w12 ≡ u3
-  urun =
-      ap (run (Arrive (trunk 1) second 0 ∷ Arrive (trunk 1) first 0 ∷ [])) ustep0
-      ∙ ap (run (Arrive (trunk 1) first 0 ∷ [])) ustep1
-      ∙ ap (run ([])) ustep2
+  urun = passed w12 (Call first (Command.Unlink here there) ∷ Arrive (trunk 1) second 0 ∷ Arrive (trunk 1) first 0 ∷ [])
+      (u1 ∷ u2 ∷ u3 ∷ [])
+      (ustep0, (ustep1, (ustep2, tt)))
 
   abbrev l1 : World
   l1 = world (node first 1 0 1 (lives_of_first_1) (ends_of_first_0) (sides_of_first_4)) (node second 1 0 0 (lives_of_second_1) (ends_of_second_0) (sides_of_second_1)) lists11
@@ -450,7 +445,7 @@ module _ (cookie : List ℕ) (own other : ℕ) where
   abbrev l9 : World
   l9 = world (node first 1 0 2 (lives_of_first_2) (fm.empty) (sides_of_first_8)) (node second 1 0 0 (lives_of_second_2) (fm.empty) (sides_of_second_5)) lists24
 
-  abbrev l10 : World
+  abbrev pub l10 : World
   l10 = world (node first 1 0 2 (lives_of_first_2) (fm.empty) (sides_of_first_9)) (node second 1 0 0 (lives_of_second_2) (fm.empty) (sides_of_second_5)) lists25
 
   lstep0 : (step w12 (Lose (trunk 1) first)).world ≡ l1
@@ -484,30 +479,18 @@ module _ (cookie : List ℕ) (own other : ℕ) where
   lstep9 = simp (of_maps, knows) refl
 
   lrun : run (Lose (trunk 1) first ∷ Lose (trunk 1) second ∷ Sweep first ∷ Sweep second ∷ Dial first second own ∷ Arrive (trunk 2) second other ∷ Arrive (trunk 2) first 0 ∷ Arrive (trunk 2) first 0 ∷ Arrive (trunk 2) second 0 ∷ Arrive (trunk 2) first 0 ∷ []) w12 ≡ l10
-  lrun =
-      ap (run (Lose (trunk 1) second ∷ Sweep first ∷ Sweep second ∷ Dial first second own ∷ Arrive (trunk 2) second other ∷ Arrive (trunk 2) first 0 ∷ Arrive (trunk 2) first 0 ∷ Arrive (trunk 2) second 0 ∷ Arrive (trunk 2) first 0 ∷ [])) lstep0
-      ∙ ap (run (Sweep first ∷ Sweep second ∷ Dial first second own ∷ Arrive (trunk 2) second other ∷ Arrive (trunk 2) first 0 ∷ Arrive (trunk 2) first 0 ∷ Arrive (trunk 2) second 0 ∷ Arrive (trunk 2) first 0 ∷ [])) lstep1
-      ∙ ap (run (Sweep second ∷ Dial first second own ∷ Arrive (trunk 2) second other ∷ Arrive (trunk 2) first 0 ∷ Arrive (trunk 2) first 0 ∷ Arrive (trunk 2) second 0 ∷ Arrive (trunk 2) first 0 ∷ [])) lstep2
-      ∙ ap (run (Dial first second own ∷ Arrive (trunk 2) second other ∷ Arrive (trunk 2) first 0 ∷ Arrive (trunk 2) first 0 ∷ Arrive (trunk 2) second 0 ∷ Arrive (trunk 2) first 0 ∷ [])) lstep3
-      ∙ ap (run (Arrive (trunk 2) second other ∷ Arrive (trunk 2) first 0 ∷ Arrive (trunk 2) first 0 ∷ Arrive (trunk 2) second 0 ∷ Arrive (trunk 2) first 0 ∷ [])) lstep4
-      ∙ ap (run (Arrive (trunk 2) first 0 ∷ Arrive (trunk 2) first 0 ∷ Arrive (trunk 2) second 0 ∷ Arrive (trunk 2) first 0 ∷ [])) lstep5
-      ∙ ap (run (Arrive (trunk 2) first 0 ∷ Arrive (trunk 2) second 0 ∷ Arrive (trunk 2) first 0 ∷ [])) lstep6
-      ∙ ap (run (Arrive (trunk 2) second 0 ∷ Arrive (trunk 2) first 0 ∷ [])) lstep7
-      ∙ ap (run (Arrive (trunk 2) first 0 ∷ [])) lstep8
-      ∙ ap (run ([])) lstep9
+  lrun = passed w12 (Lose (trunk 1) first ∷ Lose (trunk 1) second ∷ Sweep first ∷ Sweep second ∷ Dial first second own ∷ Arrive (trunk 2) second other ∷ Arrive (trunk 2) first 0 ∷ Arrive (trunk 2) first 0 ∷ Arrive (trunk 2) second 0 ∷ Arrive (trunk 2) first 0 ∷ [])
+      (l1 ∷ l2 ∷ l3 ∷ l4 ∷ l5 ∷ l6 ∷ l7 ∷ l8 ∷ l9 ∷ l10 ∷ [])
+      (lstep0, (lstep1, (lstep2, (lstep3, (lstep4, (lstep5, (lstep6, (lstep7, (lstep8, (lstep9, tt))))))))))
 
-  goes_on : (es fs : List Event) (w : World) → run (es ++ fs) w ≡ run fs (run es w)
-  goes_on [] fs w = refl
-  goes_on (e ∷ es) fs w = goes_on es fs ((step w e).world)
-
-  linked_is : run (linked_over_a_trunk own other) (two_nodes cookie) ≡ w12
+  pub linked_is : run (linked_over_a_trunk own other) (two_nodes cookie) ≡ w12
   linked_is = wrun
 
   unlinked_is : run (unlinked_over_a_trunk own other) (two_nodes cookie) ≡ u3
-  unlinked_is = goes_on (linked_over_a_trunk own other) unlinking (two_nodes cookie) ∙ ap (run unlinking) linked_is ∙ urun
+  unlinked_is = run_on (linked_over_a_trunk own other) unlinking (two_nodes cookie) ∙ ap (run unlinking) linked_is ∙ urun
 
-  again_is : run (connected_again own other) (two_nodes cookie) ≡ l10
-  again_is = goes_on (linked_over_a_trunk own other) (losing ++ connecting 2 own other) (two_nodes cookie) ∙ ap (run (losing ++ connecting 2 own other)) linked_is ∙ lrun
+  pub again_is : run (connected_again own other) (two_nodes cookie) ≡ l10
+  again_is = run_on (linked_over_a_trunk own other) (losing ++ connecting 2 own other) (two_nodes cookie) ∙ ap (run (losing ++ connecting 2 own other)) linked_is ∙ lrun
 
   pub linked_here : end_between (run (linked_over_a_trunk own other) (two_nodes cookie)) here there ≡ End.Active
   linked_here = ap (λ w. end_between w here there) linked_is ∙ simp of_maps refl
@@ -532,3 +515,19 @@ module _ (cookie : List ℕ) (own other : ℕ) where
 
   pub swept_there : end_between (run (connected_again own other) (two_nodes cookie)) there here ≡ End.None
   swept_there = ap (λ w. end_between w there here) again_is ∙ simp of_maps refl
+
+  quiet_over : (w : World) (t : TrunkId) → HasSide w first t second is_up → HasSide w second t first is_up
+      → is_silent here there (list_to w.lists t first) ≡ true → is_silent here there (list_to w.lists t second) ≡ true → Quiet w here there
+  quiet_over w t a b c d = Over refl t (a, b) c d
+
+  pub linked_quiet : Quiet (run (linked_over_a_trunk own other) (two_nodes cookie)) here there
+  linked_quiet = subst (λ w. Quiet w here there) (sym linked_is) (quiet_over w12 (trunk 1)
+      (record { side = record { peer = second; peer_creation = 1; state = Up }; there = simp of_maps refl; peer = refl; state = refl })
+      (record { side = record { peer = first; peer_creation = 1; state = Up }; there = simp of_maps refl; peer = refl; state = refl })
+      (simp of_maps refl) (simp of_maps refl))
+
+  pub connected_quiet : Quiet (run (connected_again own other) (two_nodes cookie)) here there
+  connected_quiet = subst (λ w. Quiet w here there) (sym again_is) (quiet_over l10 (trunk 2)
+      (record { side = record { peer = second; peer_creation = 1; state = Up }; there = simp of_maps refl; peer = refl; state = refl })
+      (record { side = record { peer = first; peer_creation = 1; state = Up }; there = simp of_maps refl; peer = refl; state = refl })
+      (simp of_maps refl) (simp of_maps refl))

@@ -32,6 +32,7 @@ pub mod Run
 pub mod Reacting
 pub mod Silence
 pub mod Fitting
+pub mod Passing
 pub mod Happening
 pub mod Downing
 pub mod Giving
@@ -51,6 +52,7 @@ pub mod Comings
 pub mod Linked
 pub mod Following
 pub mod Histories
+pub mod Witnesses
+pub mod Peopling
 pub mod Resting
 pub mod Forms
-pub mod Watching

@@ -15,7 +15,7 @@ use Rattle.dist_model.proofs.Seeing.{connected_at, end_at, end_in, living_at, lo
 use Rattle.dist_model.proofs.Sides.{beside, holds_kinds, or_false, or_true, side_at, unheld_absent, up_holds, up_not_gone}
 use Rattle.dist_model.proofs.Table.{Good, HomeKept, Likely, no_asks_beside, up_likely}
 use Rattle.dist_model.proofs.Views.{over, side_of}
-use Rattle.dist_model.specs.Claims.{Agreement, AgreementInQuiet, AgreementWithin, LinkNeedsConnection, LivingWasSpawned, NoLinkToItself, NoLinkToTheDead, NoUpBesideLosing, OneTrunk, PendingOnItsWay, PendingWithin}
+use Rattle.dist_model.specs.Claims.{Agreement, AgreementInQuiet, AgreementWithin, LinkNeedsConnection, NoLinkToItself, NoLinkToTheDead, NoUpBesideLosing, OneTrunk, PendingOnItsWay, PendingWithin}
 use Rattle.dist_model.specs.Items.{Handshake, Item, Signalled, Tick, news, news_in}
 use Rattle.dist_model.specs.Links.{Exits, LinkNews, Says, drained, last_said}
 use Rattle.dist_model.specs.Names.{Name, pair_cmp, place_cmp, same_name, same_pid}
@@ -177,9 +177,6 @@ module _ (w : World) (g : Good w) where
       go (Some a) h e =
           let r = (g.core.nodes p.node a h).rooted p q e in
           (r.0, either (same_name q.node a.mint.name) (connected_at (Some a) q.node) _ r.1 (λ i. inl (same_name_true q.node a.mint.name i ∙ node_of_name w.nodes p.node a h)) (λ i. inr i))
-
-  pub living_was_spawned : LivingWasSpawned w
-  living_was_spawned x n p h l = (g.core.nodes x n h).born p l
 
   pub pending : PendingOnItsWay w
   pending p q t i u lp lq e = go (node_of w.nodes p.node) (node_of w.nodes q.node) refl refl lp lq e

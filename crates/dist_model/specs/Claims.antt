@@ -1,6 +1,7 @@
 -- What holds of every world that events lead to.
 use Rattle.std.specs.Prelude.{if◌then◌else◌, List, [], ◌∷◌, ◌++◌, ◌≡◌, ◌⊎◌, ◌↔◌, None, Some, ℕ, true, false, Contains}
 use Rattle.std.specs.Ordering.{eq_by_cmp}
+use Rattle.std.specs.FinMap as fm
 use Rattle.dist_model.specs.Causes.{Reacts}
 use Rattle.dist_model.specs.declared.command.Command.{Command}
 use Rattle.dist_model.specs.Items.{Item, news}
@@ -12,7 +13,7 @@ use Rattle.dist_model.specs.Work.{Work}
 use Rattle.dist_model.specs.declared.report.Answer.{Answer}
 use Rattle.dist_model.specs.declared.report.Effect.{Effect}
 use Rattle.erl_term.specs.declared.refusal.Refusal.{Refusal}
-use Rattle.dist_model.specs.Node.{Node, living, never}
+use Rattle.dist_model.specs.Node.{Node, living, never, Ended}
 use Rattle.dist_model.specs.Quiet.{Quiet}
 use Rattle.dist_model.specs.Seen.{AreConnected, HasSide, end_between, is_connected, is_living, is_reached, local_list}
 use Rattle.dist_model.specs.Sides.{is_losing, is_up}
@@ -64,9 +65,23 @@ NoLinkToItself w = (p : Pid) → end_between w p p ≡ End.None
 abbrev pub LinkNeedsConnection : World → Type 0
 LinkNeedsConnection w = (p q : Pid) → (end_between w p q ≡ End.None → ⊥) → (is_living w p ≡ true) × ((q.node ≡ p.node) ⊎ (is_connected w p.node q.node ≡ true))
 
--- a process that is living was spawned
-abbrev pub LivingWasSpawned : World → Type 0
-LivingWasSpawned w = (name : Name) (node : Node) (p : Pid) → node_of w.nodes name ≡ Some node → living node p ≡ true → never node p ≡ false
+-- ---- Who is living. (Reference Manual, Processes, Process Creation and Termination; ERTS User's Guide, External Term Format, NEW_PID_EXT)
+
+-- a process that is living was spawned by the running incarnation
+abbrev pub LivingMeans : World → Type 0
+LivingMeans w = (name : Name) (node : Node) (p : Pid) → node_of w.nodes name ≡ Some node → living node p ≡ true
+    → (node.up ≡ true) × (p.creation ≡ node.mint.creation) × (never node p ≡ false)
+
+-- and each that it has spawned is living, or the node keeps why it ended
+abbrev pub SpawnedLivesOrEnded : World → Type 0
+SpawnedLivesOrEnded w = (name : Name) (node : Node) (p : Pid) → node_of w.nodes name ≡ Some node
+    → node.up ≡ true → p.creation ≡ node.mint.creation → never node p ≡ false
+    → (living node p ≡ true) ⊎ ((reason : Data) × (fm.get node.lives p ≡ Some (Ended reason)))
+
+-- a node that is down keeps no processes, no links and no monitors
+abbrev pub DownHoldsNothing : World → Type 0
+DownHoldsNothing w = (name : Name) (node : Node) → node_of w.nodes name ≡ Some node → node.up ≡ false
+    → (node.lives ≡ fm.empty) × (node.ends ≡ fm.empty) × (node.watches ≡ fm.empty) × (node.registered ≡ fm.empty)
 
 -- ---- One trunk. (ERTS User's Guide, Distribution Protocol, Distribution Handshake: at most one connection between two nodes)
 

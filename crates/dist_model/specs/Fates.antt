@@ -10,7 +10,7 @@ use Rattle.dist_model.specs.Names.{Name}
 use Rattle.dist_model.specs.Node.{Node}
 use Rattle.dist_model.specs.Quiet.{Quiet}
 use Rattle.dist_model.specs.Seen.{end_between, is_living, is_reached, local_list}
-use Rattle.dist_model.specs.World.{Call, Event, World, list_to, node_of, step}
+use Rattle.dist_model.specs.World.{Call, Event, Report, World, list_to, node_of, step}
 use Rattle.erl_control.specs.declared.signal.Signal.{Signal}
 use Rattle.erl_names.specs.declared.trunk.TrunkId.{TrunkId}
 use Rattle.erl_term.specs.Data.{Data}
@@ -22,11 +22,16 @@ use Rattle.monitor_core.specs.declared.monitor.Monitor.{Monitor}
 
 -- ---- Reactions. (Reference Manual, Processes, Links and Receiving Exit Signals)
 
--- whatever comes next, a process reacts to the exit of a link only where it held it active, or where it links in this very
+-- where a report says that a process reacts to the exit of a link, it held it active before the event, or it links in this very
 -- event towards a node that isn't reached; and the reason is true
+abbrev pub ReactsRightly : History → World → Event → Report → Type 0
+ReactsRightly history world event report = (p q : Pid) (reason : Data) → Reacts p q reason report
+    → ((end_between world p q ≡ End.Active) ⊎ ((event ≡ Call p.node (Command.Link p q)) × (is_reached world p q.node ≡ false)))
+    × TrueCause history world p q reason
+
+-- so with whatever comes next
 abbrev pub ReactsForTrueCause : History → World → Type 0
-ReactsForTrueCause history world = (event : Event) (p q : Pid) (reason : Data) → Reacts p q reason ((step world event).report)
-    → ((end_between world p q ≡ End.Active) ⊎ ((event ≡ Call p.node (Command.Link p q)) × (is_reached world p q.node ≡ false))) × TrueCause history world p q reason
+ReactsForTrueCause history world = (event : Event) → ReactsRightly history world event ((step world event).report)
 
 -- an EXIT that travels tells a true reason
 abbrev pub ExitsTellTrueCause : History → World → Type 0
@@ -55,10 +60,14 @@ DownToTheOwner history world = (r : Reference) (down : Down) → Contains (downs
 abbrev pub NoDownWhereDemonitored : History → World → Type 0
 NoDownWhereDemonitored history world = (r : Reference) → Demonitored r history → downs r history ≡ []
 
--- whatever comes next, the info of a DOWN is true
-abbrev pub DownsTellTrueCause : History → World → Type 0
-DownsTellTrueCause history world = (event : Event) (r : Reference) (down : Down) → Contains (downs_by r event ((step world event).report)) down
+-- the info of each DOWN that a report tells is true
+abbrev pub DownsRightly : History → World → Event → Report → Type 0
+DownsRightly history world event report = (r : Reference) (down : Down) → Contains (downs_by r event report) down
     → TrueCause history world down.owner down.target down.info
+
+-- so with whatever comes next
+abbrev pub DownsTellTrueCause : History → World → Type 0
+DownsTellTrueCause history world = (event : Event) → DownsRightly history world event ((step world event).report)
 
 abbrev pub registered_at : Option Node → Reference → Option Monitor
 registered_at None r = None

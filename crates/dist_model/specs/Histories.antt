@@ -1,7 +1,7 @@
 -- All that has happened in a run: its events, each with what was reported of it.
 use Rattle.std.specs.Prelude.{List, [], ◌∷◌, ℕ}
 use Rattle.dist_model.specs.Names.{Name}
-use Rattle.dist_model.specs.Runs.{Runs, opening}
+use Rattle.dist_model.specs.Runs.{Runs, opening, reports_of}
 use Rattle.dist_model.specs.World.{Event, Report, World}
 
 pub record Happening : Type 0 where
@@ -17,6 +17,10 @@ abbrev pub told : List Event → List Report → History → History
 told [] reports before = before
 told (event ∷ events) [] before = before
 told (event ∷ events) (report ∷ reports) before = told events reports (record { event = event; report = report } ∷ before)
+
+-- what has happened once these events have, where memory never wants
+abbrev pub history : List Event → World → History
+history events world = told events (reports_of events world) []
 
 -- whatever happens, and so at each moment of whatever happens
 abbrev pub Throughout : (History → World → Type 0) → Type 0

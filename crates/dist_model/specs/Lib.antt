@@ -7,6 +7,7 @@ pub mod Work
 pub mod Exits
 pub mod Commands
 pub mod Linking
+pub mod Tabled
 pub mod Monitoring
 pub mod Taking
 pub mod Fits
@@ -29,4 +30,3 @@ pub mod Claims
 pub mod Fates
 pub mod Safety
 pub mod Schedules
-pub mod OneMonitor

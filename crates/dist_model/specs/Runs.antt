@@ -45,6 +45,11 @@ abbrev pub run : List Event → World → World
 run [] world = world
 run (event ∷ events) world = run events ((step world event).world)
 
+-- and what is reported then
+abbrev pub reports_of : List Event → World → List Report
+reports_of [] world = []
+reports_of (event ∷ events) world = (step world event).report ∷ reports_of events ((step world event).world)
+
 -- whatever happens, and so at each moment of whatever happens
 abbrev pub Always : (World → Type 0) → Type 0
 Always Holds = (nodes : List (Name × List ℕ)) (events : List Event) (reports : List Report) (world : World) → Runs (opening nodes) events reports world → Holds world

@@ -1,6 +1,6 @@
 -- What holds of every run, at every moment of it: the six claims together.
 use Rattle.dist_model.specs.Claims.{Agreement, AgreementInQuiet, AgreementWithin, NoLinkToItself, NoLinkToTheDead, NoUpBesideLosing, OneTrunk, PendingOnItsWay, PendingWithin}
-use Rattle.dist_model.specs.Fates.{AnsweredOnce, DownOnce, DownOrRegistered, DownToTheOwner, DownsTellTrueCause, NoDownWhereDemonitored, ReactsForTrueCause}
+use Rattle.dist_model.specs.Fates.{AnsweredOnce, DownOnce, DownOrRegistered, DownToTheOwner, DownsTellTrueCause, ExitsTellTrueCause, ExitsTellTrueCauseWithin, NoDownWhereDemonitored, ReactsForTrueCause}
 use Rattle.dist_model.specs.Histories.{History}
 use Rattle.dist_model.specs.World.{World}
 
@@ -15,8 +15,10 @@ pub record Safe (history : History) (world : World) : Type 0 where
   -- no link to the dead
   pub no_link_to_the_dead : NoLinkToTheDead world
   pub no_link_to_itself : NoLinkToItself world
-  -- reactions: only where it held the link active, and for a true cause
+  -- reactions: only where it held the link active, and for a true cause, which each EXIT that travels tells
   pub reactions : ReactsForTrueCause history world
+  pub exits_on_trunks : ExitsTellTrueCause history world
+  pub exits_within : ExitsTellTrueCauseWithin history world
   -- monitors: one answer and one DOWN a reference, to the owner, for the incarnation that it named, with a true cause, and no DOWN
   -- where the monitor was taken back; and no monitor is forgotten
   pub answered_once : AnsweredOnce history world

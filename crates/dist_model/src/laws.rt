@@ -3,33 +3,40 @@
 //! A law of `Always` is of every world to which any list of events leads, from any opening world,
 //! with or without memory; and so of each moment of every run. The others are of all worlds, or of
 //! the definitions.
-ghost use Rattle.std.specs.Prelude.{◌≡◌, ◌↔◌, ℕ, List, [], ◌∷◌, ◌++◌, true, false, Some};
+ghost use Rattle.std.specs.Prelude.{◌≡◌, ◌↔◌, ℕ, List, [], ◌∷◌, ◌++◌, length, true, false, Some};
 ghost use Rattle.erl_term.specs.declared.term.Pid.{Pid};
 ghost use Rattle.erl_term.specs.declared.term.Reference.{Reference};
 ghost use Rattle.exit_core.specs.Messages.{down_term};
-ghost use Rattle.dist_model.specs.Downs.{Down, down_in};
+ghost use Rattle.dist_model.specs.Downs.{Down, down_in, downs};
 ghost use Rattle.erl_term.specs.Data.{Data};
 ghost use Rattle.erl_term.specs.declared.refusal.Refusal.{Refusal};
 ghost use Rattle.erl_control.specs.Control.{Fits};
 ghost use Rattle.dist_model.specs.Fits.{fits};
-ghost use Rattle.dist_model.specs.Links.{LinkNews};
+ghost use Rattle.dist_model.specs.Links.{LinkNews, noproc};
 ghost use Rattle.dist_model.specs.Items.{Signalled, telling, news_in};
 ghost use Rattle.link_core.specs.declared.end.End.{End};
-ghost use Rattle.link_core.specs.Table.{linked, unlinked};
-ghost use Rattle.dist_model.specs.Linking.{link, unlink_as};
-ghost use Rattle.dist_model.specs.World.{World, Event, Report, Refused};
+ghost use Rattle.link_core.specs.Table.{is_active, linked, unlinked};
+ghost use Rattle.dist_model.specs.Commands.{Accepts};
+ghost use Rattle.dist_model.specs.declared.report.Answer.{Answer};
+ghost use Rattle.dist_model.specs.Linking.{link_by, unlink_by};
+ghost use Rattle.dist_model.specs.Tabled.{links_by_table, unlinks_by_table};
+ghost use Rattle.erl_names.specs.Draw as draw;
+ghost use Rattle.erl_names.specs.Minted.{id_of};
+ghost use Rattle.dist_model.specs.World.{World, Event, Report, Refused, Arrive, step};
 ghost use Rattle.dist_model.specs.Quiet.{Quiet, is_quiet};
-ghost use Rattle.dist_model.specs.Runs.{Goes, Runs, run, Always};
+ghost use Rattle.dist_model.specs.Runs.{Goes, Runs, run, Always, opening};
+ghost use Rattle.std.specs.FinMap as map;
 ghost use Rattle.erl_names.specs.declared.trunk.TrunkId.{TrunkId};
 ghost use Rattle.dist_model.specs.Names.{Name, same_pid};
 ghost use Rattle.dist_model.specs.Node.{Node, end_of, reaches};
+ghost use Rattle.dist_model.specs.Sides.{is_gone, is_parked};
 ghost use Rattle.dist_model.specs.Work.{at_work};
-ghost use Rattle.dist_model.specs.Seen.{end_between, AreConnected};
+ghost use Rattle.dist_model.specs.Seen.{end_between, AreConnected, HasSide};
 ghost use Rattle.dist_model.specs.Schedules as schedule;
-ghost use Rattle.dist_model.specs.Claims.{Agreement, AgreementWithin, AgreementInQuiet, PendingOnItsWay, PendingWithin, NoLinkToTheDead, NoLinkToItself, LinkNeedsConnection, LivingWasSpawned, OneTrunk, NoUpBesideLosing, KeepsOrder, ReactsOnlyWhereLinked};
-ghost use Rattle.dist_model.specs.OneMonitor as monitor;
-ghost use Rattle.dist_model.specs.Histories.{Throughout};
-ghost use Rattle.dist_model.specs.Fates.{ReactsForTrueCause, ExitsTellTrueCause, ExitsTellTrueCauseWithin, AnsweredOnce, DownOnce, DownToTheOwner, NoDownWhereDemonitored, DownsTellTrueCause, DownOrRegistered};
+ghost use Rattle.dist_model.specs.Claims.{Agreement, AgreementWithin, AgreementInQuiet, PendingOnItsWay, PendingWithin, NoLinkToTheDead, NoLinkToItself, LinkNeedsConnection, LivingMeans, SpawnedLivesOrEnded, DownHoldsNothing, OneTrunk, NoUpBesideLosing, KeepsOrder, ReactsOnlyWhereLinked};
+ghost use Rattle.dist_model.specs.Histories.{Throughout, told, history};
+ghost use Rattle.dist_model.specs.Causes.{Reacts};
+ghost use Rattle.dist_model.specs.Fates.{ReactsRightly, DownsRightly, ReactsForTrueCause, ExitsTellTrueCause, ExitsTellTrueCauseWithin, AnsweredOnce, DownOnce, DownToTheOwner, NoDownWhereDemonitored, DownsTellTrueCause, DownOrRegistered};
 ghost use Rattle.dist_model.specs.Safety.{Safe};
 
 /// Of two living processes both hold their link active, or neither does, once all that travels
@@ -57,11 +64,20 @@ pub fn no_link_to_the_dead()
 {}
 
 /// A link, be it one that waits for its acknowledgement, is of a living process, and to a process of
-/// its own node or of one that its node is connected to, or whose records it hasn't swept yet; and
-/// a process that is living was spawned. (Reference Manual, Processes, Links; Distributed Erlang.)
+/// its own node or of one that its node is connected to, or whose records it hasn't swept yet.
+/// (Reference Manual, Processes, Links; Distributed Erlang.)
 pub fn links_need_a_connection()
     ensures connected { Always LinkNeedsConnection }
-    ensures spawned { Always LivingWasSpawned }
+{}
+
+/// A process is living only on a node that is up, whose running incarnation has spawned it; and
+/// whoever that has spawned is living, or the node keeps why it ended. A node that is down keeps no
+/// processes, no links and no monitors. (Reference Manual, Processes, Process Creation and
+/// Termination; ERTS User's Guide, External Term Format, NEW_PID_EXT.)
+pub fn living_means()
+    ensures living { Always LivingMeans }
+    ensures spawned { Always SpawnedLivesOrEnded }
+    ensures down { Always DownHoldsNothing }
 {}
 
 /// Two nodes are connected by one trunk, and by none while records of a lost connection between
@@ -95,22 +111,20 @@ pub fn monitors()
     ensures quiet { Throughout DownOrRegistered }
 {}
 
-/// One monitor by itself, over every list of calls, ends, signals taken, lost connections, sweeps,
-/// stops and new connections: at most one DOWN, which names the target, for a true reason or for a
-/// lost connection; none where the monitor was taken back; and whenever nothing travels, the DOWN
-/// has come to a living owner, or the target is living and registered. (Reference Manual, Processes,
-/// Monitors.)
-pub fn one_monitor()
-    ensures once { (target : Pid) (events : List monitor.Event) → monitor.AtMostOne (monitor.run events (monitor.start target)) }
-    ensures names { (target : Pid) (events : List monitor.Event) → monitor.NamesTheTarget (monitor.run events (monitor.start target)) }
-    ensures demonitored { (target : Pid) (events : List monitor.Event) → monitor.NoneAfterDemonitor (monitor.run events (monitor.start target)) }
-    ensures quiet { (target : Pid) (events : List monitor.Event) → monitor.DownOrRegistered (monitor.run events (monitor.start target)) }
-{}
-
 /// The safety of every run: agreement, pending, no link to the dead, reactions, monitors and one
 /// trunk, at each moment of whatever happens, from any opening world, with or without memory.
 pub fn every_run_is_safe()
     ensures safe { Throughout Safe }
+{}
+
+/// Each report of a run is told rightly: the events before it lead to a world, and whatever exit of
+/// a link or DOWN the report tells has a true cause in that world and what had happened by then. A
+/// want of memory tells none. (Reference Manual, Processes, Links and Monitors.)
+pub fn every_report_is_safe()
+    ensures told { (nodes : List (Name × List ℕ)) (before behind : List Event) (event : Event) (earlier later : List Report) (report : Report) (world : World) →
+        length before ≡ length earlier → Runs (opening nodes) (before ++ event ∷ behind) (earlier ++ report ∷ later) world →
+        (now : World) × Runs (opening nodes) before earlier now ×
+        ReactsRightly (told before earlier []) now event report × DownsRightly (told before earlier []) now event report }
 {}
 
 /// Whether nothing travels between two processes can be tested.
@@ -128,13 +142,20 @@ pub fn events_run()
     ensures runs { (events : List Event) (world : World) → (reports : List Report) × Runs world events reports (run events world) }
 {}
 
-/// What a process makes of its end by linking and unlinking is what link_core's table says. (ERTS
-/// User's Guide, Distribution Protocol, New Link Protocol.)
+/// A process that links itself or takes its link back makes of its end what link_core's table says,
+/// whatever the end was, and sends what the table sends. Where its link isn't active, taking it back
+/// sends nothing and draws no id. (ERTS User's Guide, Distribution Protocol, New Link Protocol.)
 pub fn calls_follow_the_table()
-    ensures link { (node : Node) (p q : Pid) → same_pid p q ≡ false → reaches node q.node ≡ true →
-        end_of ((link p q (at_work node)).node) p q ≡ linked (end_of node p q) }
-    ensures unlink { (node : Node) (p q : Pid) (id : ℕ) → end_of node p q ≡ End.Active →
-        end_of ((unlink_as id p q (at_work node)).node) p q ≡ unlinked (end_of node p q) id }
+    ensures link { (node : Node) (p q : Pid) → reaches node q.node ≡ true →
+        link_by (end_of node p q) p q (at_work node) ≡ links_by_table (end_of node p q) p q (at_work node) }
+    ensures linked { (node : Node) (p q : Pid) →
+        end_of ((links_by_table (end_of node p q) p q (at_work node)).node) p q ≡ linked (end_of node p q) }
+    ensures unlink { (node : Node) (p q : Pid) (id : ℕ) → id_of node.mint draw.UnlinkId ≡ Some id →
+        unlink_by (end_of node p q) p q (at_work node) ≡ Accepts Answer.Done (unlinks_by_table (end_of node p q) id p q (at_work node)) }
+    ensures unlinked { (node : Node) (p q : Pid) (id : ℕ) →
+        end_of ((unlinks_by_table (end_of node p q) id p q (at_work node)).node) p q ≡ unlinked (end_of node p q) id }
+    ensures inactive { (node : Node) (p q : Pid) → is_active (end_of node p q) ≡ false →
+        unlink_by (end_of node p q) p q (at_work node) ≡ Accepts Answer.Done (at_work node) }
 {}
 
 /// What travels to a node keeps its order. (Reference Manual, Processes, Delivery of Signals.)
@@ -148,11 +169,14 @@ pub fn refused_changes_nothing()
 {}
 
 /// Two nodes of one cookie connect, and a process of each comes to hold a link to the other active.
+/// Then nothing travels between them.
 pub fn link_comes_about()
     ensures here { (cookie : List ℕ) (own other : ℕ) → let w = run (schedule.linked_over_a_trunk own other) (schedule.two_nodes cookie) in
         end_between w schedule.here schedule.there ≡ End.Active }
     ensures there { (cookie : List ℕ) (own other : ℕ) → let w = run (schedule.linked_over_a_trunk own other) (schedule.two_nodes cookie) in
         end_between w schedule.there schedule.here ≡ End.Active }
+    ensures quiet { (cookie : List ℕ) (own other : ℕ) → let w = run (schedule.linked_over_a_trunk own other) (schedule.two_nodes cookie) in
+        Quiet w schedule.here schedule.there }
 {}
 
 /// One of them takes the link back, and neither holds it.
@@ -163,7 +187,8 @@ pub fn link_is_taken_back()
         end_between w schedule.there schedule.here ≡ End.None }
 {}
 
-/// Their connection is lost and swept, and with it the link; and another connection comes up.
+/// Their connection is lost and swept, and with it the link; and another connection comes up, on
+/// which nothing travels between them.
 pub fn connection_comes_again()
     ensures connected { (cookie : List ℕ) (own other : ℕ) → let w = run (schedule.connected_again own other) (schedule.two_nodes cookie) in
         AreConnected w schedule.first (schedule.trunk 2) schedule.second }
@@ -171,6 +196,54 @@ pub fn connection_comes_again()
         end_between w schedule.here schedule.there ≡ End.None }
     ensures there { (cookie : List ℕ) (own other : ℕ) → let w = run (schedule.connected_again own other) (schedule.two_nodes cookie) in
         end_between w schedule.there schedule.here ≡ End.None }
+    ensures quiet { (cookie : List ℕ) (own other : ℕ) → let w = run (schedule.connected_again own other) (schedule.two_nodes cookie) in
+        Quiet w schedule.here schedule.there }
+{}
+
+/// Of two processes that are linked one ends with any reason, and the other reacts to the exit of
+/// its link, with that reason.
+pub fn exit_comes()
+    ensures reacts { (cookie : List ℕ) (own other : ℕ) (reason : Data) → fits reason ≡ true →
+        let w = run (schedule.linked_to_the_end own other reason) (schedule.two_nodes cookie) in
+        Reacts schedule.here schedule.there reason ((step w (Arrive (schedule.trunk 1) schedule.first 0)).report) }
+{}
+
+/// A process monitors one of another node, which ends with any reason, and one DOWN with that reason
+/// comes to it.
+pub fn monitor_tells()
+    ensures down { (cookie : List ℕ) (own other : ℕ) (reason : Data) → fits reason ≡ true →
+        downs schedule.reference (history (schedule.monitored_to_the_end own other reason) (schedule.two_nodes cookie)) ≡
+        (record { owner = schedule.here; target = schedule.there; info = reason }) ∷ [] }
+{}
+
+/// A node stops and starts, and is dialed again. Who then monitors a process of its earlier
+/// incarnation gets one DOWN, with noproc.
+pub fn restart_tells()
+    ensures down { (cookie : List ℕ) (own other : ℕ) →
+        downs schedule.reference (history (schedule.monitored_after_a_restart own other) (schedule.two_nodes cookie)) ≡
+        (record { owner = schedule.here; target = schedule.there; info = noproc }) ∷ [] }
+{}
+
+/// Two nodes dial each other before either hears of it. The attempt of the node with the greater name
+/// comes up, and the other is gone at both.
+pub fn dials_cross()
+    ensures connected { (cookie : List ℕ) (own other word : ℕ) → let w = run (schedule.crossing own other word) (schedule.two_nodes cookie) in
+        AreConnected w schedule.first (schedule.other_trunk 1) schedule.second }
+    ensures here { (cookie : List ℕ) (own other word : ℕ) → let w = run (schedule.crossing own other word) (schedule.two_nodes cookie) in
+        HasSide w schedule.first (schedule.trunk 1) schedule.second is_gone }
+    ensures there { (cookie : List ℕ) (own other word : ℕ) → let w = run (schedule.crossing own other word) (schedule.two_nodes cookie) in
+        HasSide w schedule.second (schedule.trunk 1) schedule.first is_gone }
+{}
+
+/// A node that alone has noticed a loss dials again. The other's side waits while the old connection's
+/// link is still held, and once that is swept the connection comes up.
+pub fn dial_waits()
+    ensures parked { (cookie : List ℕ) (own other : ℕ) → let w = run (schedule.waiting_over_a_trunk own other) (schedule.two_nodes cookie) in
+        HasSide w schedule.second (schedule.trunk 2) schedule.first is_parked }
+    ensures held { (cookie : List ℕ) (own other : ℕ) → let w = run (schedule.waiting_over_a_trunk own other) (schedule.two_nodes cookie) in
+        end_between w schedule.there schedule.here ≡ End.Active }
+    ensures connected { (cookie : List ℕ) (own other : ℕ) → let w = run (schedule.gone_on_over_a_trunk own other) (schedule.two_nodes cookie) in
+        AreConnected w schedule.first (schedule.trunk 2) schedule.second }
 {}
 
 /// The DOWN of a reference is told apart: its owner, its target and its reason; and what is told

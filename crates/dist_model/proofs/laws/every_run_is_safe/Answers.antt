@@ -1,5 +1,5 @@
 use Rattle.dist_model.proofs.laws.every_run_is_safe.Goals as goal
-use Rattle.dist_model.proofs.Histories.{Tale, answered_once, down_once, down_to_the_owner, downs_tell_true_cause, no_down_where_demonitored, reacts_for_true_cause, throughout}
+use Rattle.dist_model.proofs.Histories.{Tale, answered_once, down_once, down_to_the_owner, downs_tell_true_cause, exits_tell_true_cause, exits_tell_true_cause_within, no_down_where_demonitored, reacts_for_true_cause, throughout}
 use Rattle.dist_model.proofs.Resting.{down_or_registered}
 use Rattle.dist_model.proofs.Safety.{agreement, agreement_in_quiet, agreement_within, no_link_to_itself, no_link_to_the_dead, no_up_beside_losing, one_trunk, pending, pending_within}
 use Rattle.dist_model.specs.Histories.{History}
@@ -16,6 +16,8 @@ safe h w t = record {
   no_link_to_the_dead = no_link_to_the_dead w t.good;
   no_link_to_itself = no_link_to_itself w t.good;
   reactions = reacts_for_true_cause h w t;
+  exits_on_trunks = exits_tell_true_cause h w t;
+  exits_within = exits_tell_true_cause_within h w t;
   answered_once = answered_once h w t;
   down_once = down_once h w t;
   down_to_the_owner = down_to_the_owner h w t;
