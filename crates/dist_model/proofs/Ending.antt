@@ -11,7 +11,8 @@ use Rattle.dist_model.proofs.Keys.{and_both, pair_exact, pid_total, same_pair, s
 use Rattle.dist_model.proofs.Pair.{Side, farewell, finished}
 use Rattle.dist_model.proofs.Seeing.{end_in}
 use Rattle.dist_model.proofs.Views.{silent_lines, AllSuit, AllSuit-append, line, linking_suits, over, post_all_keeps, post_all_view, posted, posted-append, side_path, signal_other, view}
-use Rattle.dist_model.specs.Exits.{buried, demonitors, exit_for, exits, finish, monitor_exits}
+use Rattle.dist_model.proofs.Leaving.{exits_in, exits_cons}
+use Rattle.dist_model.specs.Exits.{buried, demonitors, exit_for, finish, monitor_exits}
 use Rattle.dist_model.specs.Items.{news}
 use Rattle.dist_model.specs.Links.{Exits, LinkNews}
 use Rattle.dist_model.specs.Names.{pair_cmp, same_pid}
@@ -83,10 +84,10 @@ apart p q k h = go (same_pid k.0 p && same_pid k.1 q) refl
         let n : true ≡ false = sym (same_pair p q k.0 k.1 ∙ d) ∙ h in cc
     go false e = e
 
-head_step : (p q : Pid) (r : Data) (e : (Pid × Pid) × End) (es : List ((Pid × Pid) × End)) (L : List LinkNews) → posted p q (head p r e.0.0 e.0.1 e.1) ≡ L → posted p q (exits p r (e ∷ es)) ≡ L ++ posted p q (exits p r es)
-head_step p q r e es L h = posted-append p q (head p r e.0.0 e.0.1 e.1) (exits p r es) ∙ ap (λ l. l ++ posted p q (exits p r es)) h
+head_step : (p q : Pid) (r : Data) (e : (Pid × Pid) × End) (es : List ((Pid × Pid) × End)) (L : List LinkNews) → posted p q (head p r e.0.0 e.0.1 e.1) ≡ L → posted p q (exits_in p r (e ∷ es)) ≡ L ++ posted p q (exits_in p r es)
+head_step p q r e es L h = ap (posted p q) (exits_cons p r e es) ∙ posted-append p q (head p r e.0.0 e.0.1 e.1) (exits_in p r es) ∙ ap (λ l. l ++ posted p q (exits_in p r es)) h
 
-exits_below : (p q : Pid) (r : Data) (es : List ((Pid × Pid) × End)) → T (below_all pair_cmp (p, q) es) → posted p q (exits p r es) ≡ []
+exits_below : (p q : Pid) (r : Data) (es : List ((Pid × Pid) × End)) → T (below_all pair_cmp (p, q) es) → posted p q (exits_in p r es) ≡ []
 exits_below p q r [] h = refl
 exits_below p q r (e ∷ es) h =
     let t = T_and (is_lt (pair_cmp (p, q) e.0)) (below_all pair_cmp (p, q) es) h in
@@ -98,22 +99,22 @@ is_equal Equal h = refl
 is_equal Greater h = cc
 
 -- what a process that ends sends to q
-exits_by : (b : Bool) (p q : Pid) (r : Data) (e : (Pid × Pid) × End) (es : List ((Pid × Pid) × End)) → eq_by_cmp pair_cmp (p, q) e.0 ≡ b → T (below_all pair_cmp e.0 es) → posted p q (exits p r es) ≡ farewell (end_in (find pair_cmp (p, q) es)) r
-    → posted p q (exits p r (e ∷ es)) ≡ farewell (end_in (cond b (Some e.1) (find pair_cmp (p, q) es))) r
+exits_by : (b : Bool) (p q : Pid) (r : Data) (e : (Pid × Pid) × End) (es : List ((Pid × Pid) × End)) → eq_by_cmp pair_cmp (p, q) e.0 ≡ b → T (below_all pair_cmp e.0 es) → posted p q (exits_in p r es) ≡ farewell (end_in (find pair_cmp (p, q) es)) r
+    → posted p q (exits_in p r (e ∷ es)) ≡ farewell (end_in (cond b (Some e.1) (find pair_cmp (p, q) es))) r
 exits_by true p q r e es h s ih =
     let k : e.0 ≡ (p, q) = sym (pair_exact (p, q) e.0 (is_equal (pair_cmp (p, q) e.0) h)) in
     head_step p q r e es (farewell e.1 r) (head_hit p q r e.0 e.1 k) ∙ ap (λ l. farewell e.1 r ++ l) (exits_below p q r es (subst (λ v. T (below_all pair_cmp v es)) k s)) ∙ append-nil _
 exits_by false p q r e es h s ih = head_step p q r e es [] (head_miss_by (same_pid e.0.0 p) p q e.0.0 e.0.1 r e.1 refl (apart p q e.0 h)) ∙ ih
 
-pub exits_here : (p q : Pid) (r : Data) (es : List ((Pid × Pid) × End)) → T (is_sorted pair_cmp es) → posted p q (exits p r es) ≡ farewell (end_in (find pair_cmp (p, q) es)) r
+pub exits_here : (p q : Pid) (r : Data) (es : List ((Pid × Pid) × End)) → T (is_sorted pair_cmp es) → posted p q (exits_in p r es) ≡ farewell (end_in (find pair_cmp (p, q) es)) r
 exits_here p q r [] h = refl
 exits_here p q r (e ∷ es) h =
     let t = T_and (below_all pair_cmp e.0 es) (is_sorted pair_cmp es) h in
     exits_by (eq_by_cmp pair_cmp (p, q) e.0) p q r e es refl t.0 (exits_here p q r es t.1)
 
-exits_other : (p q x : Pid) (r : Data) (es : List ((Pid × Pid) × End)) → same_pid x p ≡ false → posted p q (exits x r es) ≡ []
+exits_other : (p q x : Pid) (r : Data) (es : List ((Pid × Pid) × End)) → same_pid x p ≡ false → posted p q (exits_in x r es) ≡ []
 exits_other p q x r [] h = refl
-exits_other p q x r (e ∷ es) h = posted-append p q (head x r e.0.0 e.0.1 e.1) (exits x r es) ∙ ap (λ l. l ++ posted p q (exits x r es)) (go (same_pid e.0.0 x)) ∙ exits_other p q x r es h
+exits_other p q x r (e ∷ es) h = ap (posted p q) (exits_cons x r e es) ∙ posted-append p q (head x r e.0.0 e.0.1 e.1) (exits_in x r es) ∙ ap (λ l. l ++ posted p q (exits_in x r es)) (go (same_pid e.0.0 x)) ∙ exits_other p q x r es h
   where
     go : (b : Bool) → posted p q (cond b (exit_for x r e.0.1 e.1) []) ≡ []
     go true = exit_miss p q x e.0.1 r e.1 (ap (λ b. b && same_pid e.0.1 q) h)
@@ -144,28 +145,28 @@ suits_exit p q x y r End.None = tt
 suits_exit p q x y r End.Active = (linking_suits x y p q (Exits r), tt)
 suits_exit p q x y r (End.Pending i) = tt
 
-suits_exits : (p q x : Pid) (r : Data) (es : List ((Pid × Pid) × End)) → AllSuit p q (exits x r es)
+suits_exits : (p q x : Pid) (r : Data) (es : List ((Pid × Pid) × End)) → AllSuit p q (exits_in x r es)
 suits_exits p q x r [] = tt
-suits_exits p q x r (e ∷ es) = AllSuit-append p q (head x r e.0.0 e.0.1 e.1) (exits x r es) (go (same_pid e.0.0 x)) (suits_exits p q x r es)
+suits_exits p q x r (e ∷ es) = subst (AllSuit p q) (sym (exits_cons x r e es)) (AllSuit-append p q (head x r e.0.0 e.0.1 e.1) (exits_in x r es) (go (same_pid e.0.0 x)) (suits_exits p q x r es))
   where
     go : (b : Bool) → AllSuit p q (cond b (exit_for x r e.0.1 e.1) [])
     go true = suits_exit p q x e.0.1 r e.1
     go false = tt
 
 abbrev pub last_posts : Pid → Data → Work → List Signal
-last_posts p r o = exits p r (fm.entries o.node.ends) ++ monitor_exits p r (fm.entries o.node.registered) ++ demonitors p (fm.entries o.node.watches)
+last_posts p r o = exits_in p r (fm.entries o.node.ends) ++ monitor_exits p r (fm.entries o.node.registered) ++ demonitors p (fm.entries o.node.watches)
 
 suits_last : (p q x : Pid) (r : Data) (o : Work) → AllSuit p q (last_posts x r o)
-suits_last p q x r o = AllSuit-append p q (exits x r (fm.entries o.node.ends) ++ monitor_exits x r (fm.entries o.node.registered)) (demonitors x (fm.entries o.node.watches))
-    (AllSuit-append p q (exits x r (fm.entries o.node.ends)) (monitor_exits x r (fm.entries o.node.registered)) (suits_exits p q x r _) (suits_downs p q x r _)) (suits_unwatches p q x _)
+suits_last p q x r o = AllSuit-append p q (exits_in x r (fm.entries o.node.ends) ++ monitor_exits x r (fm.entries o.node.registered)) (demonitors x (fm.entries o.node.watches))
+    (AllSuit-append p q (exits_in x r (fm.entries o.node.ends)) (monitor_exits x r (fm.entries o.node.registered)) (suits_exits p q x r _) (suits_downs p q x r _)) (suits_unwatches p q x _)
 
-posted_last : (p q x : Pid) (r : Data) (o : Work) → posted p q (last_posts x r o) ≡ posted p q (exits x r (fm.entries o.node.ends))
+posted_last : (p q x : Pid) (r : Data) (o : Work) → posted p q (last_posts x r o) ≡ posted p q (exits_in x r (fm.entries o.node.ends))
 posted_last p q x r o =
-    posted-append p q (exits x r (fm.entries o.node.ends) ++ monitor_exits x r (fm.entries o.node.registered)) (demonitors x (fm.entries o.node.watches))
-    ∙ ap (λ l. posted p q (exits x r (fm.entries o.node.ends) ++ monitor_exits x r (fm.entries o.node.registered)) ++ l) (posted_unwatches p q x _)
+    posted-append p q (exits_in x r (fm.entries o.node.ends) ++ monitor_exits x r (fm.entries o.node.registered)) (demonitors x (fm.entries o.node.watches))
+    ∙ ap (λ l. posted p q (exits_in x r (fm.entries o.node.ends) ++ monitor_exits x r (fm.entries o.node.registered)) ++ l) (posted_unwatches p q x _)
     ∙ append-nil _
-    ∙ posted-append p q (exits x r (fm.entries o.node.ends)) (monitor_exits x r (fm.entries o.node.registered))
-    ∙ ap (λ l. posted p q (exits x r (fm.entries o.node.ends)) ++ l) (posted_downs p q x r _)
+    ∙ posted-append p q (exits_in x r (fm.entries o.node.ends)) (monitor_exits x r (fm.entries o.node.registered))
+    ∙ ap (λ l. posted p q (exits_in x r (fm.entries o.node.ends)) ++ l) (posted_downs p q x r _)
     ∙ append-nil _
 
 end_cond : (b : Bool) (o : Option End) → b ≡ false → end_in (cond b o None) ≡ End.None

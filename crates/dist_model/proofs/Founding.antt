@@ -12,7 +12,8 @@ use Rattle.dist_model.proofs.Keys.{same_pid_true}
 use Rattle.dist_model.proofs.Parts.{Closed, Rules, is_plain}
 use Rattle.dist_model.proofs.Routes.{none_some, some_same}
 use Rattle.dist_model.specs.Downs.{same_reference}
-use Rattle.dist_model.specs.Exits.{demonitors, exit_for, exits, finish, is_owned, is_target, monitor_exits}
+use Rattle.dist_model.proofs.Leaving.{exits_in, exits_cons}
+use Rattle.dist_model.specs.Exits.{demonitors, exit_for, finish, is_owned, is_target, monitor_exits}
 use Rattle.dist_model.specs.Handshake.{with_side, write}
 use Rattle.dist_model.specs.Items.{Handshake, Item, Signalled, Tick, receiver_of}
 use Rattle.dist_model.specs.Monitoring.{register, unregister, unwatch}
@@ -258,14 +259,14 @@ module _ (n : Node) (Old : Pid → Data → Type 0) (Ok : Pid → Pid → Data �
     Good s = FoundedIn (finish p x o) (Signalled s)
 
     why : EndedBefore (finish p x o) p x
-    why = inr (Contains-push ((post_all (exits p x (fm.entries o.node.ends) ++ monitor_exits p x (fm.entries o.node.registered) ++ demonitors p (fm.entries o.node.watches)) o).effects) (Effect.Ended p x))
+    why = inr (Contains-push ((post_all (exits_in p x (fm.entries o.node.ends) ++ monitor_exits p x (fm.entries o.node.registered) ++ demonitors p (fm.entries o.node.watches)) o).effects) (Effect.Ended p x))
 
     none : All Good []
     none = All-nil Good
 
-    exits_good : (es : List ((Pid × Pid) × End)) → All Good (exits p x es)
+    exits_good : (es : List ((Pid × Pid) × End)) → All Good (exits_in p x es)
     exits_good [] = none
-    exits_good (e ∷ es) = All-append Good (cond (same_pid e.0.0 p) (exit_for p x e.0.1 e.1) []) (exits p x es) (go (same_pid e.0.0 p) e.1) (exits_good es)
+    exits_good (e ∷ es) = subst (All Good) (sym (exits_cons p x e es)) (All-append Good (cond (same_pid e.0.0 p) (exit_for p x e.0.1 e.1) []) (exits_in p x es) (go (same_pid e.0.0 p) e.1) (exits_good es))
       where
         go : (b : Bool) (v : End) → All Good (cond b (exit_for p x e.0.1 v) [])
         go true End.None = none
@@ -284,7 +285,7 @@ module _ (n : Node) (Old : Pid → Data → Type 0) (Ok : Pid → Pid → Data �
 
     left : (r : Reference) → fm.get (finish p x o).node.watches r ≡ cond (not (is_owned p (fm.get o.node.watches r))) (fm.get o.node.watches r) None
     left r =
-        let ss = exits p x (fm.entries o.node.ends) ++ monitor_exits p x (fm.entries o.node.registered) ++ demonitors p (fm.entries o.node.watches) in
+        let ss = exits_in p x (fm.entries o.node.ends) ++ monitor_exits p x (fm.entries o.node.registered) ++ demonitors p (fm.entries o.node.watches) in
         watches_left p ((post_all ss o).node.watches) r ∙ ap (λ (z : MonitorMap). cond (not (is_owned p (fm.get z r))) (fm.get z r) None) (all_posts_keep (λ m. m.watches) (λ m l. refl) ss o)
 
     demonitors_good : (es : List (Reference × Monitor)) → All (λ e. fm.get o.node.watches e.0 ≡ Some e.1) es → All Good (demonitors p es)
@@ -301,7 +302,7 @@ module _ (n : Node) (Old : Pid → Data → Type 0) (Ok : Pid → Pid → Data �
 
     true_finish : True (finish p x o)
     true_finish =
-        let ss = exits p x (fm.entries o.node.ends) ++ monitor_exits p x (fm.entries o.node.registered) ++ demonitors p (fm.entries o.node.watches) in
+        let ss = exits_in p x (fm.entries o.node.ends) ++ monitor_exits p x (fm.entries o.node.registered) ++ demonitors p (fm.entries o.node.watches) in
         let o1 = post_all ss o in
         let q = quietly_all o.effects ss o Nothing in
         let ws = all_posts_keep (λ m. m.watches) (λ m l. refl) ss o in
@@ -309,8 +310,8 @@ module _ (n : Node) (Old : Pid → Data → Type 0) (Ok : Pid → Pid → Data �
         let more : (f : Effect Item) → Contains o.effects f → Contains (finish p x o).effects f = λ f h. Contains-append_left o1.effects (Effect.Ended p x ∷ []) f (quietly_more o.effects o1.effects q f h) in
         let less : (r : Reference) (m : Monitor) → fm.get (finish p x o).node.watches r ≡ Some m → fm.get o.node.watches r ≡ Some m = λ r m h. (retained (not (is_owned p (fm.get o.node.watches r))) (fm.get o.node.watches r) m (sym (left r) ∙ h)).1 in
         let c : Carried (FoundedIn (finish p x o)) o1 = carried_all (FoundedIn (finish p x o)) ss o
-        (All-append Good (exits p x (fm.entries o.node.ends) ++ monitor_exits p x (fm.entries o.node.registered)) (demonitors p (fm.entries o.node.watches))
-        (All-append Good (exits p x (fm.entries o.node.ends)) (monitor_exits p x (fm.entries o.node.registered)) (exits_good (fm.entries o.node.ends)) (monitor_exits_good (fm.entries o.node.registered) (each_entry o.node.registered)))
+        (All-append Good (exits_in p x (fm.entries o.node.ends) ++ monitor_exits p x (fm.entries o.node.registered)) (demonitors p (fm.entries o.node.watches))
+        (All-append Good (exits_in p x (fm.entries o.node.ends)) (monitor_exits p x (fm.entries o.node.registered)) (exits_good (fm.entries o.node.ends)) (monitor_exits_good (fm.entries o.node.registered) (each_entry o.node.registered)))
         (demonitors_good (fm.entries o.node.watches) (each_entry o.node.watches)))
         (carried_by (FoundedIn o) (FoundedIn (finish p x o)) o (widen o (finish p x o) more less) k.carried) in
         record {
@@ -320,8 +321,8 @@ module _ (n : Node) (Old : Pid → Data → Type 0) (Ok : Pid → Pid → Data �
           enrolled = λ r m h. k.enrolled r m (ap (λ z. fm.get z r) (sym rs) ∙ (retained (not (is_target p (fm.get o1.node.registered r))) (fm.get o1.node.registered r) m (sym (registered_left p o1.node.registered r) ∙ h)).1);
         }
       where
-        pick : (a b : Pid) (z : Data) → Contains ((post_all (exits p x (fm.entries o.node.ends) ++ monitor_exits p x (fm.entries o.node.registered) ++ demonitors p (fm.entries o.node.watches)) o).effects) (Effect.LinkExit a b z) ⊎ (◌≡◌ {A = Effect Item} (Effect.Ended p x) (Effect.LinkExit a b z)) → Ok a b z
-        pick a b z (inl h) = k.acts a b z (quietly_acts o.effects _ (quietly_all o.effects (exits p x (fm.entries o.node.ends) ++ monitor_exits p x (fm.entries o.node.registered) ++ demonitors p (fm.entries o.node.watches)) o Nothing) a b z h)
+        pick : (a b : Pid) (z : Data) → Contains ((post_all (exits_in p x (fm.entries o.node.ends) ++ monitor_exits p x (fm.entries o.node.registered) ++ demonitors p (fm.entries o.node.watches)) o).effects) (Effect.LinkExit a b z) ⊎ (◌≡◌ {A = Effect Item} (Effect.Ended p x) (Effect.LinkExit a b z)) → Ok a b z
+        pick a b z (inl h) = k.acts a b z (quietly_acts o.effects _ (quietly_all o.effects (exits_in p x (fm.entries o.node.ends) ++ monitor_exits p x (fm.entries o.node.registered) ++ demonitors p (fm.entries o.node.watches)) o Nothing) a b z h)
         pick a b z (inr h) = cc
 
   abbrev pub true_rules : Rules

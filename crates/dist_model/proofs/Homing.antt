@@ -1,13 +1,14 @@
 -- A node never asks itself to monitor a process that it never spawned.
 use Rattle.erl_handshake.specs.declared.message.ShakeMsg.{ShakeMsg}
-use Rattle.std.proofs.Common.{◌≡◌, Bool, true, false, cond, List, [], ◌∷◌, ◌++◌, refl, sym, ap, ◌∙◌, Option, Some, None}
+use Rattle.std.proofs.Common.{◌≡◌, Bool, true, false, cond, List, [], ◌∷◌, ◌++◌, refl, sym, ap, ◌∙◌, subst, Option, Some, None}
 use Rattle.std.proofs.lemmas.List.Elements.{All-append, All-cons, All-head, All-nil, All-push, All-tail}
 use Rattle.std.specs.List.{All}
 use Rattle.std.specs.FinMap as fm
 use Rattle.dist_model.proofs.Founding.{posts_keep}
 use Rattle.dist_model.proofs.Handshaking.{Turned}
 use Rattle.dist_model.proofs.Parts.{Closed, Rules, is_plain}
-use Rattle.dist_model.specs.Exits.{demonitors, exit_for, exits, finish, monitor_exits}
+use Rattle.dist_model.proofs.Leaving.{exits_in, exits_cons}
+use Rattle.dist_model.specs.Exits.{demonitors, exit_for, finish, monitor_exits}
 use Rattle.dist_model.specs.Handshake.{with_side, write}
 use Rattle.dist_model.specs.Items.{Handshake, Item, Signalled, Tick, receiver_of}
 use Rattle.dist_model.specs.Names.{Name, same_name, same_pid}
@@ -86,9 +87,9 @@ module _ (n : Node) (P : Pid → Type 0) where
   homed_all [] o h k = k
   homed_all (s ∷ ss) o h k = homed_all ss (post s o) (All-tail (Targets P) s ss h) (homed_post s o (λ e. All-head (Targets P) s ss h) k)
 
-  exits_home : (p : Pid) (x : Data) (es : List ((Pid × Pid) × End)) → All (Targets P) (exits p x es)
+  exits_home : (p : Pid) (x : Data) (es : List ((Pid × Pid) × End)) → All (Targets P) (exits_in p x es)
   exits_home p x [] = All-nil (Targets P)
-  exits_home p x (e ∷ es) = All-append (Targets P) (cond (same_pid e.0.0 p) (exit_for p x e.0.1 e.1) []) (exits p x es) (go (same_pid e.0.0 p) e.1) (exits_home p x es)
+  exits_home p x (e ∷ es) = subst (All (Targets P)) (sym (exits_cons p x e es)) (All-append (Targets P) (cond (same_pid e.0.0 p) (exit_for p x e.0.1 e.1) []) (exits_in p x es) (go (same_pid e.0.0 p) e.1) (exits_home p x es))
     where
       go : (b : Bool) (v : End) → All (Targets P) (cond b (exit_for p x e.0.1 v) [])
       go true End.None = All-nil (Targets P)
@@ -114,7 +115,7 @@ module _ (n : Node) (P : Pid → Type 0) where
 
   homed_finish : (p : Pid) (x : Data) (o : Work) → Homed o → Homed (finish p x o)
   homed_finish p x o k =
-      let es = exits p x (fm.entries o.node.ends) in
+      let es = exits_in p x (fm.entries o.node.ends) in
       let ms = monitor_exits p x (fm.entries o.node.registered) in
       let ds = demonitors p (fm.entries o.node.watches) in
       let v = homed_all (es ++ ms ++ ds) o (All-append (Targets P) (es ++ ms) ds (All-append (Targets P) es ms (exits_home p x (fm.entries o.node.ends)) (monitor_exits_home p x (fm.entries o.node.registered))) (demonitors_home p (fm.entries o.node.watches))) k in

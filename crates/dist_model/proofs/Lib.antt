@@ -1,6 +1,7 @@
 pub mod Envelopes
 pub mod Records
 pub mod Stepping
+pub mod Leaving
 pub mod Seeing
 pub mod Rules
 pub mod Pair

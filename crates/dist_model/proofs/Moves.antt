@@ -1,6 +1,6 @@
 -- What an event does to each pair of processes of its node.
 use Rattle.std.proofs.Common.{◌≡◌, ℕ, ◌<◌, ◌≤◌, Bool, true, false, cond, not, List, [], ◌∷◌, ◌++◌, refl, sym, ap, ◌∙◌, subst, arith, ◌&&◌, ◌||◌, Option, Some, None, inr, append-nil, T}
-use Rattle.std.specs.Option.{is_some}
+use Rattle.std.specs.Option.{is_some, option_map}
 use Rattle.std.specs.declared.cmp.Ordering.{Ordering}
 use Rattle.std.specs.declared.cmp.Ordering.TheVariants.{Less, Equal, Greater}
 use Rattle.std.specs.Ordering.{is_eq, is_lt, eq_by_cmp}
@@ -14,7 +14,8 @@ use Rattle.dist_model.proofs.Keys.{and_both, pair_exact, pair_total, pid_total, 
 use Rattle.dist_model.proofs.Pair.{Side, finished}
 use Rattle.dist_model.proofs.Seeing.{end_in, replies}
 use Rattle.dist_model.proofs.Views.{silent_lines, silent_view, AllSuit, Suits, linking_suits, more, over, post_all_keeps, post_all_view, post_keeps, post_view, posted, side_path, telling_news, telling_receiver, view}
-use Rattle.dist_model.specs.Exits.{carry_out, demonitors, exit_for, exits, finish, link_exit, linked_exit, monitor_exits}
+use Rattle.dist_model.proofs.Leaving.{exits_in, exits_cons}
+use Rattle.dist_model.specs.Exits.{carry_out, demonitors, exit_for, finish, link_exit, linked_exit, monitor_exits}
 use Rattle.dist_model.specs.Items.{Item, Signalled, news_in, receiver_of, telling}
 use Rattle.dist_model.specs.Linking.{exit_follows, link, link_by, link_new, take_link, take_link_by}
 use Rattle.dist_model.specs.Links.{Exits, LinkNews, Says, heard, noconnection, reply}
@@ -134,12 +135,12 @@ PostsHome-append z f [] ys a b = b
 PostsHome-append z f (x ∷ xs) ys a b = (a.0, PostsHome-append z f xs ys a.1 b)
 
 -- what a process that ends posts
-exits_home : (z : Name) (f : Pid → Bool) (p : Pid) (r : Data) (es : List ((Pid × Pid) × End)) → f p ≡ false → ((e : (Pid × Pid) × End) → find pair_cmp e.0 es ≡ Some e.1 → (e.1 ≡ End.None → ⊥) → same_name e.0.1.node z ≡ true → (f e.0.1 ≡ false) × (same_pid e.0.0 e.0.1 ≡ false)) → T (is_sorted pair_cmp es) → PostsHome z f (exits p r es)
+exits_home : (z : Name) (f : Pid → Bool) (p : Pid) (r : Data) (es : List ((Pid × Pid) × End)) → f p ≡ false → ((e : (Pid × Pid) × End) → find pair_cmp e.0 es ≡ Some e.1 → (e.1 ≡ End.None → ⊥) → same_name e.0.1.node z ≡ true → (f e.0.1 ≡ false) × (same_pid e.0.0 e.0.1 ≡ false)) → T (is_sorted pair_cmp es) → PostsHome z f (exits_in p r es)
 exits_home z f p r [] hp h s = tt
 exits_home z f p r (e ∷ es) hp h s =
     let t = T_and (below_all pair_cmp e.0 es) (is_sorted pair_cmp es) s in
-    PostsHome-append z f (cond (same_pid e.0.0 p) (exit_for p r e.0.1 e.1) []) (exits p r es) (own (same_pid e.0.0 p) refl e.1 refl)
-    (exits_home z f p r es hp (λ d fd nd. h d (rest d fd (below_pair d.0 e.0 d.1 es t.0 fd)) nd) t.1)
+    subst (PostsHome z f) (sym (exits_cons p r e es)) (PostsHome-append z f (cond (same_pid e.0.0 p) (exit_for p r e.0.1 e.1) []) (exits_in p r es) (own (same_pid e.0.0 p) refl e.1 refl)
+    (exits_home z f p r es hp (λ d fd nd. h d (rest d fd (below_pair d.0 e.0 d.1 es t.0 fd)) nd) t.1))
   where
     rest : (d : (Pid × Pid) × End) → find pair_cmp d.0 es ≡ Some d.1 → eq_by_cmp pair_cmp d.0 e.0 ≡ false → find pair_cmp d.0 (e ∷ es) ≡ Some d.1
     rest d fd n = ap (λ b. cond b (Some e.1) (find pair_cmp d.0 es)) n ∙ fd
@@ -341,8 +342,8 @@ finishes x r o l =
       routed = λ a. silent_routed o1.node.sides o1.effects (Effect.Ended x r) refl (post_all_routed posts o a);
       nevers = λ p h. post_all_keeps (λ n. never n p) (λ n m. refl) posts o ∙ h;
       home = λ k h. post_all_home posts o
-          (PostsHome-append o.node.mint.name (λ p. never o.node p) (exits x r (fm.entries o.node.ends) ++ monitor_exits x r (fm.entries o.node.registered)) (demonitors x (fm.entries o.node.watches))
-          (PostsHome-append o.node.mint.name (λ p. never o.node p) (exits x r (fm.entries o.node.ends)) (monitor_exits x r (fm.entries o.node.registered))
+          (PostsHome-append o.node.mint.name (λ p. never o.node p) (exits_in x r (fm.entries o.node.ends) ++ monitor_exits x r (fm.entries o.node.registered)) (demonitors x (fm.entries o.node.watches))
+          (PostsHome-append o.node.mint.name (λ p. never o.node p) (exits_in x r (fm.entries o.node.ends)) (monitor_exits x r (fm.entries o.node.registered))
           (exits_home o.node.mint.name (λ p. never o.node p) x r (fm.entries o.node.ends) (k.born x l)
           (λ e fe ne nn. (k.rooted e.0.0 e.0.1 (λ a. ne (sym (ap end_in (fm.get-entries o.node.ends e.0 ∙ fe)) ∙ a))).2 nn) (fm.entries_sorted o.node.ends))
           (downs_home o.node.mint.name (λ p. never o.node p) x r (fm.entries o.node.registered)))
@@ -389,15 +390,22 @@ set_rooted x y e o k h = record {
     go p q false i n = k.rooted p q (λ m. n (ap (λ t. cond t e (end_of o.node p q)) i ∙ m))
 
 -- a route is a side that is up
-reach_held_in : (es : List (TrunkId × TrunkSide)) (y : Name) → is_some (route_in es y) ≡ true → is_some (side_where (λ v. is_up v || is_losing v) y es) ≡ true
-reach_held_in [] y h = h
-reach_held_in (e ∷ es) y h = go (same_name e.1.peer y) (is_up e.1.state) refl (is_losing e.1.state) h (reach_held_in es y)
+held_if_up : (es : List (TrunkId × TrunkSide)) (y : Name) → is_some (side_where is_up y es) ≡ true → is_some (side_where (λ v. is_up v || is_losing v) y es) ≡ true
+held_if_up [] y h = h
+held_if_up (e ∷ es) y h = go (same_name e.1.peer y) (is_up e.1.state) refl (is_losing e.1.state) h (held_if_up es y)
   where
-    go : (a b : Bool) → is_up e.1.state ≡ b → (c : Bool) → is_some (cond (a && b) (Some e.0) (route_in es y)) ≡ true → (is_some (route_in es y) ≡ true → is_some (side_where (λ v. is_up v || is_losing v) y es) ≡ true) → is_some (cond (a && (b || c)) (Some e) (side_where (λ v. is_up v || is_losing v) y es)) ≡ true
+    go : (a b : Bool) → is_up e.1.state ≡ b → (c : Bool) → is_some (cond (a && b) (Some e) (side_where is_up y es)) ≡ true → (is_some (side_where is_up y es) ≡ true → is_some (side_where (λ v. is_up v || is_losing v) y es) ≡ true) → is_some (cond (a && (b || c)) (Some e) (side_where (λ v. is_up v || is_losing v) y es)) ≡ true
     go true true i c h f = refl
     go true false i true h f = refl
     go true false i false h f = f h
     go false b i c h f = f h
+
+reach_held_in : (es : List (TrunkId × TrunkSide)) (y : Name) → is_some (route_in es y) ≡ true → is_some (side_where (λ v. is_up v || is_losing v) y es) ≡ true
+reach_held_in es y h = held_if_up es y (found (side_where is_up y es) h)
+  where
+    found : (o : Option (TrunkId × TrunkSide)) → is_some (option_map (λ (e : TrunkId × TrunkSide). e.0) o) ≡ true → is_some o ≡ true
+    found None h = h
+    found (Some e) h = refl
 
 or_either : (a b c : Bool) → (a || b) ≡ true → (b ≡ true → c ≡ true) → (a || c) ≡ true
 or_either true b c h f = refl

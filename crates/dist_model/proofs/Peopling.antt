@@ -27,7 +27,8 @@ use Rattle.dist_model.specs.Claims.{DownHoldsNothing, LivingMeans, SpawnedLivesO
 use Rattle.dist_model.specs.Commands.{Accepts, Outcome, Refuses}
 use Rattle.dist_model.specs.declared.command.Command.{Command}
 use Rattle.dist_model.specs.Dialing.{dial, has_name}
-use Rattle.dist_model.specs.Exits.{demonitors, exits, finish, monitor_exits}
+use Rattle.dist_model.proofs.Leaving.{exits_in, exits_cons}
+use Rattle.dist_model.specs.Exits.{demonitors, finish, monitor_exits}
 use Rattle.dist_model.specs.Handshake.{set_state, with_side, write}
 use Rattle.dist_model.specs.Incarnations.{start, started, stop, stopped}
 use Rattle.dist_model.specs.Items.{Item, Signalled, receiver_of}
@@ -127,7 +128,7 @@ module _ (n : Node) where
 
   finished : (p : Pid) (x : Data) (o : Work) → X o → X (finish p x o)
   finished p x o k =
-      let ss = exits p x (fm.entries o.node.ends) ++ monitor_exits p x (fm.entries o.node.registered) ++ demonitors p
+      let ss = exits_in p x (fm.entries o.node.ends) ++ monitor_exits p x (fm.entries o.node.registered) ++ demonitors p
       (fm.entries o.node.watches) in
       let v = posted_all ss o k in
       let a = post_all ss o in

@@ -27,7 +27,8 @@ use Rattle.dist_model.specs.Claims.{ReactsOnlyWhereLinked}
 use Rattle.dist_model.specs.Commands.{Accepts, Outcome, Refuses, with_id}
 use Rattle.dist_model.specs.declared.command.Command.{Command}
 use Rattle.dist_model.specs.Dialing.{dial, has_name}
-use Rattle.dist_model.specs.Exits.{carry_out, demonitors, exits, finish, link_exit, linked_exit, monitor_exits, sent_exit}
+use Rattle.dist_model.proofs.Leaving.{exits_in, exits_cons}
+use Rattle.dist_model.specs.Exits.{carry_out, demonitors, finish, link_exit, linked_exit, monitor_exits, sent_exit}
 use Rattle.dist_model.specs.Fits.{fits}
 use Rattle.dist_model.specs.Handshake.{challenge, end_up, go_on, handshake_at, set_state, write}
 use Rattle.dist_model.specs.Incarnations.{start, stop}
@@ -152,7 +153,7 @@ calm_put x t o p q h = calm_last o.effects (Effect.Put x t) (λ a b. refl) p q h
 
 pub calm_finish : (x : Pid) (r : Data) (o : Work) → Calm o (finish x r o)
 calm_finish x r o p q h =
-    let es = exits x r (fm.entries o.node.ends) ++ monitor_exits x r (fm.entries o.node.registered) ++ demonitors x (fm.entries o.node.watches) in
+    let es = exits_in x r (fm.entries o.node.ends) ++ monitor_exits x r (fm.entries o.node.registered) ++ demonitors x (fm.entries o.node.watches) in
     calm_post_all es o p q (calm_last ((post_all es o).effects) (Effect.Ended x r) (λ a b. refl) p q h)
 
 calm_carry : (f : Reaction) (x : Pid) (o : Work) → Calm o (carry_out f x o)

@@ -6,6 +6,7 @@ use Rattle.std.specs.declared.cmp.Ordering.TheVariants.{Less, Equal, Greater}
 use Rattle.std.specs.Ordering.{is_eq, is_lt, eq_by_cmp}
 use Rattle.std.specs.Cmp.{tied_itself}
 use Rattle.std.specs.FinMap as fm
+use Rattle.std.specs.Option.{option_map}
 use Rattle.std.specs.FinMap.Entries.{find, is_sorted, below_all}
 use Rattle.dist_model.proofs.Envelopes.{Envelope, sent_in}
 use Rattle.dist_model.proofs.Keys.{and_both, place_total, same_name_is, same_name_true, same_place, same_trunk, same_trunk_is, same_trunk_true, trunk_total}
@@ -159,13 +160,7 @@ side_where_none test y (d ∷ es) t s h f p = go (same_name d.1.peer y && test d
 
 -- the route is the first side that is up
 abbrev pub fst_of : Option (TrunkId × TrunkSide) → Option TrunkId
-fst_of None = None
-fst_of (Some e) = Some e.0
+fst_of = option_map (λ (e : TrunkId × TrunkSide). e.0)
 
 pub route_is : (es : List (TrunkId × TrunkSide)) (y : Name) → route_in es y ≡ fst_of (side_where is_up y es)
-route_is [] y = refl
-route_is (e ∷ es) y = go (same_name e.1.peer y && is_up e.1.state) (route_is es y)
-  where
-    go : (b : Bool) → route_in es y ≡ fst_of (side_where is_up y es) → cond b (Some e.0) (route_in es y) ≡ fst_of (cond b (Some e) (side_where is_up y es))
-    go true h = refl
-    go false h = h
+route_is es y = refl

@@ -16,7 +16,8 @@ use Rattle.dist_model.proofs.Parts.{Closed, Rules}
 use Rattle.dist_model.proofs.Routes.{at_place, none_some, some_same}
 use Rattle.dist_model.proofs.Table.{has}
 use Rattle.dist_model.specs.Downs.{Down, down_in, downs_in, same_reference}
-use Rattle.dist_model.specs.Exits.{buried, demonitors, exits, finish, is_owned, is_target, monitor_exits}
+use Rattle.dist_model.proofs.Leaving.{exits_in, exits_cons}
+use Rattle.dist_model.specs.Exits.{buried, demonitors, finish, is_owned, is_target, monitor_exits}
 use Rattle.dist_model.specs.Handshake.{with_side, write}
 use Rattle.dist_model.specs.Items.{Handshake, Item, Signalled, receiver_of}
 use Rattle.dist_model.specs.Monitoring.{register, unregister, unwatch}
@@ -391,14 +392,14 @@ module _ (n : Node) (Tells : Reference → Monitor → Data → Type 0) (Joins :
     pub sides : o.node.sides ≡ n.sides
 
   abbrev last_words : Pid → Data → Work → List Signal
-  last_words p x o = exits p x (fm.entries o.node.ends) ++ monitor_exits p x (fm.entries o.node.registered) ++ demonitors p (fm.entries o.node.watches)
+  last_words p x o = exits_in p x (fm.entries o.node.ends) ++ monitor_exits p x (fm.entries o.node.registered) ++ demonitors p (fm.entries o.node.watches)
 
   owner_hears : (p : Pid) (x : Data) (o : Work) (j : Reference) (m : Monitor) → fm.get o.node.registered j ≡ Some m → same_pid m.target p ≡ true → any_to (is_end j) m.owner.node (last_words p x o) ≡ true
   owner_hears p x o j m h e =
-      any_to_append (is_end j) m.owner.node (exits p x (fm.entries o.node.ends) ++ monitor_exits p x (fm.entries o.node.registered)) (demonitors p (fm.entries o.node.watches))
+      any_to_append (is_end j) m.owner.node (exits_in p x (fm.entries o.node.ends) ++ monitor_exits p x (fm.entries o.node.registered)) (demonitors p (fm.entries o.node.watches))
       ∙ or_left _ (any_to (is_end j) m.owner.node (demonitors p (fm.entries o.node.watches)))
-      (any_to_append (is_end j) m.owner.node (exits p x (fm.entries o.node.ends)) (monitor_exits p x (fm.entries o.node.registered))
-      ∙ or_second (any_to (is_end j) m.owner.node (exits p x (fm.entries o.node.ends))) _ (told_owner p x j m (fm.entries o.node.registered) (sym (fm.get-entries o.node.registered j) ∙ h) e))
+      (any_to_append (is_end j) m.owner.node (exits_in p x (fm.entries o.node.ends)) (monitor_exits p x (fm.entries o.node.registered))
+      ∙ or_second (any_to (is_end j) m.owner.node (exits_in p x (fm.entries o.node.ends))) _ (told_owner p x j m (fm.entries o.node.registered) (sym (fm.get-entries o.node.registered j) ∙ h) e))
 
   finish_turns : (p : Pid) (x : Data) (o : Work) → Core o → Core (finish p x o)
   finish_turns p x o k = record {

@@ -1,7 +1,7 @@
 -- A dialer's name comes to a new side: whether the attempt goes on, and which others it ends.
 -- (ERTS User's Guide, Distribution Protocol, Distribution Handshake, the status message. What each status tells the
 -- dialer is the standard's; which of several attempts goes on is own.)
-use Rattle.std.specs.Prelude.{Option, None, Some, is_some, ℕ, Bool, if◌then◌else◌, ◌||◌}
+use Rattle.std.specs.Prelude.{Option, None, Some, is_some, ℕ, Bool, if◌then◌else◌}
 use Rattle.std.specs.Option.{option_map}
 use Rattle.std.specs.FinMap as fm
 use Rattle.erl_handshake.specs.declared.turn.Progress.{Progress}
@@ -12,7 +12,7 @@ use Rattle.dist_model.specs.Handshake.{fault, identity, send_challenge, set_stat
 use Rattle.dist_model.specs.declared.report.Kind.{Kind}
 use Rattle.dist_model.specs.Names.{Name}
 use Rattle.dist_model.specs.Node.{Node, side_where}
-use Rattle.dist_model.specs.Sides.{Asked, Gone, State, TrunkSide, is_dialing, is_losing, is_up, is_waiting, unheard}
+use Rattle.dist_model.specs.Sides.{Asked, Gone, State, TrunkSide, holds, is_dialing, is_waiting, unheard}
 use Rattle.dist_model.specs.Work.{Work}
 use Rattle.conn_core.specs.declared.arrival.Fault.{Fault}
 use Rattle.erl_handshake.specs.declared.fault.ShakeFault.{ShakeFault}
@@ -36,7 +36,7 @@ give_up_if ends test dialer work = if ends then give_up (side_where test dialer 
 abbrev pub others : Node → Name → OtherConnections
 others node dialer = let sides = fm.entries node.sides in record {
   waiting = option_map (λ entry. entry.0.count) (side_where is_waiting dialer sides);
-  connected = is_some (side_where (λ state. is_up state || is_losing state) dialer sides);
+  connected = is_some (side_where holds dialer sides);
   dialing = is_some (side_where is_dialing dialer sides);
 }
 

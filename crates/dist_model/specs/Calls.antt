@@ -1,6 +1,5 @@
 -- What a caller may ask of a node.
 -- (Reference Manual, Processes: Process Creation, Links, Monitors, Error Handling.)
-use Rattle.std.specs.List.{flat_map}
 use Rattle.std.specs.Prelude.{Option, None, Some, Bool, false, if◌then◌else◌, List, [], ◌∷◌, ◌&&◌}
 use Rattle.std.specs.FinMap as fm
 use Rattle.erl_names.specs.Draw as kind
@@ -12,7 +11,7 @@ use Rattle.dist_model.specs.Fits.{fits}
 use Rattle.dist_model.specs.Linking.{link, unlink_by}
 use Rattle.dist_model.specs.Monitoring.{demonitor_by, monitor}
 use Rattle.dist_model.specs.Names.{same_name, same_pid}
-use Rattle.dist_model.specs.Node.{Life, Living, Node, end_of, living, never}
+use Rattle.dist_model.specs.Node.{Life, Living, Node, end_of, ends_of, living, never}
 use Rattle.dist_model.specs.Work.{Work, at_work, draw, post, set_life}
 use Rattle.erl_control.specs.declared.signal.Signal.{Signal}
 use Rattle.erl_names.specs.Ids.{pid_of, reference_of}
@@ -51,10 +50,6 @@ abbrev pub without_first : Option Life → Option Life
 without_first (Some (Living trap (message ∷ rest))) = Some (Living trap rest)
 without_first life = life
 
--- the ends of p, active and pending
-abbrev pub links_in : List ((Pid × Pid) × End) → Pid → List (Pid × End)
-links_in entries p = flat_map (λ entry. if same_pid entry.0.0 p then (entry.0.1, entry.1) ∷ [] else []) entries
-
 abbrev pub call : Node → Command → Outcome
 call node Command.Spawn = with_id (id_of node.mint kind.Pid) (λ id. Accepts (Answer.Pid (pid_of node.mint id)) (spawn_life node (pid_of node.mint id)))
 call node (Command.Send p q message) = acting node p (toward node q (fitting message (Accepts Answer.Done (post (Signal.Send q message) (at_work node)))))
@@ -67,5 +62,5 @@ call node (Command.Trap p on) = acting node p (Accepts Answer.Done (with_life no
 call node (Command.ExitTo p q reason) = acting node p (toward node q (fitting reason (Accepts Answer.Done (post (Signal.Exit2 p q reason) (at_work node)))))
 call node (Command.ExitSelf p reason) = acting node p (fitting reason (Accepts Answer.Done (finish p reason (at_work node))))
 call node (Command.Receive p) = acting node p (Accepts (Answer.Message (first_message (fm.get node.lives p))) (with_life node p (without_first (fm.get node.lives p))))
-call node (Command.LinksOf p) = acting node p (Accepts (Answer.Links (links_in (fm.entries node.ends) p)) (at_work node))
+call node (Command.LinksOf p) = acting node p (Accepts (Answer.Links (ends_of node p)) (at_work node))
 call node (Command.IsAlive p) = Accepts (Answer.Alive (living node p)) (at_work node)

@@ -56,7 +56,7 @@ pub record Down : Type 0 where
 -- {'DOWN', Ref, process, Pid, Info}
 abbrev pub down_in : Reference → Pid → Data → List Down
 down_in r owner (tuple (item (atom name) (item (reference of) (item (atom kind) (item (pid target) (item info no_items)))))) =
-    if pointwise nat_eq name (codes "DOWN") && eq_by_cmp reference_cmp r of && pointwise nat_eq kind (codes "process")
+    if pointwise nat_eq name (codes "DOWN") && same_reference r of && pointwise nat_eq kind (codes "process")
     then (record { owner = owner; target = target; info = info }) ∷ []
     else []
 down_in r owner _ = []
@@ -66,12 +66,11 @@ downs_in r [] = []
 downs_in r (Effect.Put owner message ∷ rest) = down_in r owner message ++ downs_in r rest
 downs_in r (effect ∷ rest) = downs_in r rest
 
--- a term that was sent may have that form too. It is a message and no DOWN
+-- what a process sent may have that form too. It is a message and no DOWN
 abbrev pub is_sent_message : Answer → Bool
 is_sent_message (Answer.Took Kind.Send) = true
 is_sent_message _ = false
 
--- what a process sent may have that form too. It is a message and no DOWN
 abbrev pub takes_message : Event → Report → Bool
 takes_message (Arrive trunk node word) (Reported answer effects) = is_sent_message answer
 takes_message (Local node) (Reported answer effects) = is_sent_message answer

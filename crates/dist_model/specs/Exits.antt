@@ -4,7 +4,7 @@ use Rattle.std.specs.List.{flat_map}
 use Rattle.std.specs.Prelude.{true, false, not, if◌then◌else◌, List, [], ◌∷◌, ◌++◌}
 use Rattle.std.specs.FinMap as fm
 use Rattle.dist_model.specs.Names.{same_pid}
-use Rattle.dist_model.specs.Node.{Ended, traps}
+use Rattle.dist_model.specs.Node.{Ended, ends_of, traps}
 use Rattle.dist_model.specs.Work.{Work, post_all, put, report}
 use Rattle.dist_model.specs.declared.report.Effect.{Effect}
 use Rattle.erl_control.specs.declared.signal.Signal.{Signal}
@@ -25,8 +25,8 @@ use Rattle.monitor_core.specs.declared.monitor.Monitor.{Monitor}
 abbrev pub exit_for : Pid → Data → Pid → End → List Signal
 exit_for p reason q end = if is_active end then Signal.Exit p q reason ∷ [] else []
 
-abbrev pub exits : Pid → Data → List ((Pid × Pid) × End) → List Signal
-exits p reason = flat_map (λ entry. if same_pid entry.0.0 p then exit_for p reason entry.0.1 entry.1 else [])
+abbrev pub exits : Pid → Data → List (Pid × End) → List Signal
+exits p reason = flat_map (λ link. exit_for p reason link.0 link.1)
 
 -- MONITOR_P_EXIT to the owner of each monitor that others have of it
 abbrev pub monitor_exits : Pid → Data → List (Reference × Monitor) → List Signal
@@ -51,7 +51,7 @@ buried p reason work = record work {
 -- each group in the order of its keys
 abbrev pub finish : Pid → Data → Work → Work
 finish p reason work = buried p reason
-    (post_all (exits p reason (fm.entries work.node.ends) ++ monitor_exits p reason (fm.entries work.node.registered) ++ demonitors p (fm.entries work.node.watches)) work)
+    (post_all (exits p reason (ends_of work.node p) ++ monitor_exits p reason (fm.entries work.node.registered) ++ demonitors p (fm.entries work.node.watches)) work)
 
 -- ---- an exit signal comes to p
 

@@ -1,8 +1,10 @@
 -- One node: what it keeps of its processes, their links and monitors, and its connections.
 use Rattle.std.specs.Prelude.{unwrap_or, Option, None, Some, is_some, ℕ, Bool, true, false, not, if◌then◌else◌, List, [], ◌∷◌, ◌==◌, nat_lt, ◌&&◌, ◌||◌}
 use Rattle.std.specs.FinMap as fm
+use Rattle.std.specs.List.{flat_map}
+use Rattle.std.specs.Option.{option_map}
 use Rattle.dist_model.specs.Items.{Item}
-use Rattle.dist_model.specs.Names.{Name, pair_cmp, same_name}
+use Rattle.dist_model.specs.Names.{Name, pair_cmp, same_name, same_pid}
 use Rattle.dist_model.specs.Sides.{State, TrunkSide, is_up}
 pub use Rattle.sorted_map.specs.Entries.{first_where}
 use Rattle.erl_names.specs.Minted.{Minted}
@@ -64,13 +66,19 @@ never node p =
 abbrev pub end_of : Node → Pid → Pid → End
 end_of node p q = unwrap_or (fm.get node.ends (p, q)) End.None
 
+-- the links of a process, active and pending: its partners with the ends that it holds, in the order of the partners
+abbrev pub links_in : List ((Pid × Pid) × End) → Pid → List (Pid × End)
+links_in entries p = flat_map (λ entry. if same_pid entry.0.0 p then (entry.0.1, entry.1) ∷ [] else []) entries
+
+abbrev pub ends_of : Node → Pid → List (Pid × End)
+ends_of node p = links_in (fm.entries node.ends) p
+
 -- the first side towards a peer whose state passes
 abbrev pub side_where : (State → Bool) → Name → List (TrunkId × TrunkSide) → Option (TrunkId × TrunkSide)
 side_where test peer = first_where (λ trunk side. same_name side.peer peer && test side.state)
 
 abbrev pub route_in : List (TrunkId × TrunkSide) → Name → Option TrunkId
-route_in [] peer = None
-route_in (entry ∷ rest) peer = if same_name entry.1.peer peer && is_up entry.1.state then Some entry.0 else route_in rest peer
+route_in entries peer = option_map (λ entry. entry.0) (side_where is_up peer entries)
 
 -- the trunk that is up towards a peer
 abbrev pub route : Node → Name → Option TrunkId

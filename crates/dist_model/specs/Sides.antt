@@ -52,6 +52,10 @@ abbrev pub is_gone : State → Bool
 is_gone Gone = true
 is_gone _ = false
 
+-- towards its peer there may be records
+abbrev pub holds : State → Bool
+holds state = is_up state || is_losing state
+
 -- what comes to it isn't taken any more
 abbrev pub is_over : State → Bool
 is_over state = is_losing state || is_gone state
