@@ -1,6 +1,6 @@
 -- Which processes a node keeps: while it is up those of its creation that it has spawned, living or ended, and none while it is down.
 use Rattle.erl_names.specs.Draw as kind
-use Rattle.std.proofs.Common.{◌≡◌, ℕ, ◌+◌, Bool, true, false, cond, not, List, [], ◌∷◌, ◌++◌, ◌⊎◌, inl, inr, refl, sym, ap, ◌∙◌, subst, arith, ◌==◌, nat_lt, ◌^◌, ◌&&◌, ◌||◌, Option, Some, None}
+use Rattle.std.proofs.Common.{◌≡◌, ℕ, ◌+◌, Bool, true, false, cond, not, List, [], ◌∷◌, ◌++◌, ◌⊎◌, inl, inr, refl, sym, ap, append-nil, append_assoc, ◌∙◌, subst, arith, ◌==◌, nat_lt, ◌^◌, ◌&&◌, ◌||◌, Option, Some, None}
 use Rattle.std.specs.Option.{is_some}
 use Rattle.std.specs.FinMap as fm
 use Rattle.std.specs.FinMap.{FinMap}
@@ -23,11 +23,11 @@ use Rattle.dist_model.proofs.Stepping.{arrives_then, while_up_then}
 use Rattle.dist_model.specs.NodeEvents.{if_up}
 use Rattle.dist_model.specs.Arrivals.{take_local, arrive_at, arrive_fresh, handshake_in}
 use Rattle.dist_model.specs.Calls.{call, spawn_life}
-use Rattle.dist_model.specs.Claims.{DownHoldsNothing, LivingMeans, SpawnedLivesOrEnded}
+use Rattle.dist_model.specs.Claims.{DownHoldsNothing, Grows, LivingMeans, SpawnedLivesOrEnded}
 use Rattle.dist_model.specs.Commands.{Accepts, Outcome, Refuses}
 use Rattle.dist_model.specs.declared.command.Command.{Command}
 use Rattle.dist_model.specs.Dialing.{dial, has_name}
-use Rattle.dist_model.proofs.Leaving.{exits_in, exits_cons}
+use Rattle.dist_model.proofs.Leaving.{exits_in}
 use Rattle.dist_model.specs.Exits.{demonitors, finish, monitor_exits}
 use Rattle.dist_model.specs.Handshake.{set_state, with_side, write}
 use Rattle.dist_model.specs.Incarnations.{start, started, stop, stopped}
@@ -37,10 +37,10 @@ use Rattle.dist_model.proofs.Records.{has_records, least_as, sweep_link}
 use Rattle.dist_model.specs.Losses.{any_side, close, link_to, lose, parked_by, parked_goes, sweep, sweep_by, swept}
 use Rattle.dist_model.specs.Monitoring.{demonitor_by, monitor, unwatch, watch}
 use Rattle.dist_model.specs.Names.{Name, same_name, same_pid}
-use Rattle.dist_model.specs.Node.{Ended, Life, Living, Node, is_living_life, living, never, reaches, side_where}
+use Rattle.dist_model.specs.Node.{Ended, Life, Living, Node, is_living_life, living, never, reaches, route, side_where}
 use Rattle.dist_model.specs.Runs.{Always, Goes, Runs, new_node, opening}
 use Rattle.dist_model.specs.Sides.{in_state, Accepting, Asked, AwaitsAck, AwaitsChallenge, AwaitsStatus, Gone, Losing, Parked, State, TrunkSide, Up, is_gone, is_losing, is_parked}
-use Rattle.dist_model.specs.Work.{Work, at_work, delivered, draw, post, post_all, put, set_life}
+use Rattle.dist_model.specs.Work.{Work, at_work, delivered, draw, keep_local, post, post_all, post_to, put, send_on, set_life}
 use Rattle.dist_model.specs.World.{Arrive, Call, Dial, Event, Local, Lose, Report, Start, Stepped, Stop, Sweep, World, came_of, list_to, node_name, node_of, refused, set_node, step_at}
 use Rattle.erl_control.specs.declared.signal.Signal.{Signal}
 use Rattle.erl_handshake.specs.declared.message.ShakeMsg.{ShakeMsg}
@@ -61,14 +61,16 @@ pub record Peopled (n : Node) : Type 0 where
   pub kept : (p : Pid) → n.up ≡ true → p.creation ≡ n.mint.creation → never n p ≡ false → is_some (fm.get n.lives p) ≡ true
   pub down : n.up ≡ false → (n.lives ≡ fm.empty) × (n.ends ≡ fm.empty) × (n.watches ≡ fm.empty) × (n.registered ≡ fm.empty)
 
--- what becomes of a node's processes where none is spawned: those that it keeps it goes on to keep, and none comes to life
-pub record Lasts (n m : Node) : Type 0 where
+-- what becomes of a node's processes where none is spawned: those that it keeps it goes on to keep, and none comes to life;
+-- and its own list goes on from l
+pub record Lasts (n : Node) (l : List Item) (m : Node) : Type 0 where
   pub up : m.up ≡ n.up
   pub name : m.mint.name ≡ n.mint.name
   pub creation : m.mint.creation ≡ n.mint.creation
   pub pids : m.mint.pids ≡ n.mint.pids
   pub keeps : (p : Pid) → is_some (fm.get n.lives p) ≡ true → is_some (fm.get m.lives p) ≡ true
   pub dies : (p : Pid) → living m p ≡ true → living n p ≡ true
+  pub grows : Grows l m.local
 
 some_cond : (b : Bool) (l : Life) (o : Option Life) → is_some o ≡ true → is_some (cond b (Some l) o) ≡ true
 some_cond true l o h = refl
@@ -83,20 +85,39 @@ ended_dies : (b : Bool) (r : Data) (l : Option Life) → is_living_life (cond b 
 ended_dies true r l h = cc
 ended_dies false r l h = h
 
-module _ (n : Node) where
-  abbrev X : Work → Type 0
-  X o = Lasts n o.node
+-- what is posted goes to the end of the own list, or elsewhere
+grows_on : (l m k : List Item) → Grows l m → Grows m k → Grows l k
+grows_on l m k a b = (a.0 ++ b.0, b.1 ∙ ap (λ z. z ++ b.0) a.1 ∙ append_assoc l a.0 b.0)
+
+pub no_more : (l : List Item) → Grows l l
+no_more l = ([], sym (append-nil l))
+
+posted_local : (y : Name) (i : Item) (o : Work) → Grows o.node.local ((post_to y i o).node.local)
+posted_local y i o = go (same_name y o.node.mint.name)
+  where
+    elsewhere : (t : Option TrunkId) → Grows o.node.local ((send_on t y i o).node.local)
+    elsewhere None = no_more o.node.local
+    elsewhere (Some t) = no_more o.node.local
+
+    go : (b : Bool) → Grows o.node.local ((cond b (keep_local i o) (send_on (route o.node y) y i o)).node.local)
+    go true = (i ∷ [], refl)
+    go false = elsewhere (route o.node y)
+
+module _ (n : Node) (l : List Item) where
+  abbrev pub X : Work → Type 0
+  X o = Lasts n l o.node
 
   -- what a part of an event changes beside the processes
   aside : (a b : Node) → b.up ≡ a.up → b.mint.name ≡ a.mint.name → b.mint.creation ≡ a.mint.creation → b.mint.pids ≡ a.mint.pids
-      → b.lives ≡ a.lives → Lasts n a → Lasts n b
-  aside a b u m c i l k = record {
+      → b.lives ≡ a.lives → Grows a.local b.local → Lasts n l a → Lasts n l b
+  aside a b u m c i e g k = record {
     up = u ∙ k.up;
     name = m ∙ k.name;
     creation = c ∙ k.creation;
     pids = i ∙ k.pids;
-    keeps = λ p h. ap (λ z. is_some (fm.get z p)) l ∙ k.keeps p h;
-    dies = λ p h. k.dies p (sym (ap (λ z. is_living_life (fm.get z p)) l) ∙ h);
+    keeps = λ p h. ap (λ z. is_some (fm.get z p)) e ∙ k.keeps p h;
+    dies = λ p h. k.dies p (sym (ap (λ z. is_living_life (fm.get z p)) e) ∙ h);
+    grows = grows_on l a.local b.local k.grows g;
   }
 
   posted : (s : Signal) (o : Work) → X o → X (post s o)
@@ -106,25 +127,27 @@ module _ (n : Node) where
       (post_keeps (λ m. m.mint.creation) (λ m l. refl) (receiver_of s).node (Signalled s) o)
       (post_keeps (λ m. m.mint.pids) (λ m l. refl) (receiver_of s).node (Signalled s) o)
       (post_keeps (λ m. m.lives) (λ m l. refl) (receiver_of s).node (Signalled s) o)
+      (posted_local (receiver_of s).node (Signalled s) o)
 
   posted_all : (ss : List Signal) (o : Work) → X o → X (post_all ss o)
   posted_all [] o k = k
   posted_all (s ∷ ss) o k = posted_all ss (post s o) (posted s o k)
 
-  lived : (p : Pid) (l : Option Life) (o : Work) → is_living_life l ≡ living o.node p → X o
-      → X (record o { node = record (o.node) { lives = set_life o.node.lives p l } })
-  lived p l o h k = record {
+  lived : (p : Pid) (v : Option Life) (o : Work) → is_living_life v ≡ living o.node p → X o
+      → X (record o { node = record (o.node) { lives = set_life o.node.lives p v } })
+  lived p v o h k = record {
     up = k.up;
     name = k.name;
     creation = k.creation;
     pids = k.pids;
-    keeps = λ x i. keeps_set o.node.lives p l x (k.keeps x i);
-    dies = λ x i. k.dies x (sym (set_life_living o.node.lives p l x (λ e. h ∙ ap (living o.node) (sym (same_pid_true x p e)))) ∙ i);
+    keeps = λ x i. keeps_set o.node.lives p v x (k.keeps x i);
+    dies = λ x i. k.dies x (sym (set_life_living o.node.lives p v x (λ e. h ∙ ap (living o.node) (sym (same_pid_true x p e)))) ∙ i);
+    grows = k.grows;
   }
 
   putted : (p : Pid) (m : Data) (o : Work) → X o → X (put p m o)
   putted p m o k = let v = lived p (delivered (fm.get o.node.lives p) m) o (living_delivered (fm.get o.node.lives p) m) k in
-      record { up = v.up; name = v.name; creation = v.creation; pids = v.pids; keeps = v.keeps; dies = v.dies }
+      record { up = v.up; name = v.name; creation = v.creation; pids = v.pids; keeps = v.keeps; dies = v.dies; grows = v.grows }
 
   finished : (p : Pid) (x : Data) (o : Work) → X o → X (finish p x o)
   finished p x o k =
@@ -140,6 +163,7 @@ module _ (n : Node) where
         keeps = λ q i. ap is_some (fm.get-insert pid_total a.node.lives p (Ended x) q)
             ∙ some_cond (same_pid q p) (Ended x) (fm.get a.node.lives q) (v.keeps q i);
         dies = λ q i. v.dies q (ended_dies (same_pid q p) x (fm.get a.node.lives q) (sym (buried_living p x a q) ∙ i));
+        grows = v.grows;
       }
 
   abbrev free : Rules
@@ -149,15 +173,16 @@ module _ (n : Node) where
   closed = record {
     plain = λ s h. tt;
     posted = λ s o h k. posted s o k;
-    end_set = λ p q e o k. aside o.node _ refl refl refl refl refl k;
-    drew = λ o k. aside o.node _ refl refl refl refl refl k;
+    end_set = λ p q e o k. aside o.node _ refl refl refl refl refl (no_more o.node.local) k;
+    drew = λ o k. aside o.node _ refl refl refl refl refl (no_more o.node.local) k;
     life_set = λ p l o h k. lived p l o h k;
     message = λ p m o h k. putted p m o k;
     reacted = λ p q x o h k. k;
     finished = finished;
-    registers = λ r m o l h k. aside o.node _ refl refl refl refl refl k;
-    unregisters = λ r m o e h k. aside o.node _ refl refl refl refl refl k;
-    ended = λ r m x o e h k. putted m.owner (down_term r m.target x) (unwatch r o) (aside o.node _ refl refl refl refl refl k);
+    registers = λ r m o l h k. aside o.node _ refl refl refl refl refl (no_more o.node.local) k;
+    unregisters = λ r m o e h k. aside o.node _ refl refl refl refl refl (no_more o.node.local) k;
+    ended = λ r m x o e h k. putted m.owner (down_term r m.target x) (unwatch r o)
+        (aside o.node _ refl refl refl refl refl (no_more o.node.local) k);
   }
 
   reasons : (i : Item) (o : Work) → X o → Reasons free X i o
@@ -175,116 +200,113 @@ module _ (n : Node) where
   item i o k = item_kept free X closed i o (reasons i o k) k
 
   sided : (t : TrunkId) (s : TrunkSide) (o : Work) → X o → X (with_side t s o)
-  sided t s o k = aside o.node _ refl refl refl refl refl k
+  sided t s o k = aside o.node _ refl refl refl refl refl (no_more o.node.local) k
 
-  turned : (t : TrunkId) (s : TrunkSide) (o : Work) → Turned o.node t s → X o → X (with_side t s o)
+  pub turned : (t : TrunkId) (s : TrunkSide) (o : Work) → Turned o.node t s → X o → X (with_side t s o)
   turned t s o h k = sided t s o k
 
-  wrote : (t : TrunkId) (y : Name) (m : ShakeMsg) (o : Work) → X o → X (write t y m o)
+  pub wrote : (t : TrunkId) (y : Name) (m : ShakeMsg) (o : Work) → X o → X (write t y m o)
   wrote t y m o k = k
 
-  -- no event yet
-  still : X (at_work n)
-  still = record { up = refl; name = refl; creation = refl; pids = refl; keeps = λ p h. h; dies = λ p h. h }
+  module _ (start : Lasts n l n) where
+    -- ---- calls, but for Spawn
 
-  -- ---- calls, but for Spawn
+    monitors : (p q : Pid) (id : ℕ) → X (monitor (reference_of n.mint id) p q (draw kind.Reference (at_work n)))
+    monitors p q id = go (reaches n q.node)
+      where
+        go : (b : Bool) → X (cond b
+            (post (Signal.Monitor p q (reference_of n.mint id))
+            (watch (reference_of n.mint id) (monitor_of p q) (draw kind.Reference (at_work n))))
+            (put p (down_term (reference_of n.mint id) q noconnection) (draw kind.Reference (at_work n))))
+        go true = posted (Signal.Monitor p q (reference_of n.mint id))
+            (watch (reference_of n.mint id) (monitor_of p q) (draw kind.Reference (at_work n)))
+            (aside n _ refl refl refl refl refl (no_more n.local) start)
+        go false = putted p (down_term (reference_of n.mint id) q noconnection) (draw kind.Reference (at_work n))
+            (aside n _ refl refl refl refl refl (no_more n.local) start)
 
-  monitors : (p q : Pid) (id : ℕ) → X (monitor (reference_of n.mint id) p q (draw kind.Reference (at_work n)))
-  monitors p q id = go (reaches n q.node)
-    where
-      r0 : Reference
-      r0 = reference_of n.mint id
+    demonitored : (p : Pid) (r : Reference) (v : Option Monitor) → IfGoes (demonitor_by v p r (at_work n)) X
+    demonitored p r None = tt
+    demonitored p r (Some m) = if_cond (same_pid m.owner p) _ Refusal.NotTheOwner X
+        (λ h. posted (Signal.Demonitor p m.target r) (unwatch r (at_work n)) (aside n _ refl refl refl refl refl (no_more n.local) start))
 
-      o0 : Work
-      o0 = draw kind.Reference (at_work n)
+    plain : (c : Command) → (c ≡ Command.Spawn → ⊥) → ((p q : Pid) → c ≡ Command.Monitor p q → ⊥) → ((p : Pid) (r : Reference) → c ≡ Command.Demonitor p r → ⊥)
+        → IfGoes (call n c) X
+    plain c ns nm ne = call_kept free X closed n start c (nm, ne) (λ id s. absurd (ns s)) (λ p q i l r. tt)
 
-      go : (b : Bool) → X (cond b
-          (post (Signal.Monitor p q (reference_of n.mint id))
-          (watch (reference_of n.mint id) (monitor_of p q) (draw kind.Reference (at_work n))))
-          (put p (down_term (reference_of n.mint id) q noconnection) (draw kind.Reference (at_work n))))
-      go true = posted (Signal.Monitor p q (reference_of n.mint id))
-          (watch (reference_of n.mint id) (monitor_of p q) (draw kind.Reference (at_work n))) (aside n _ refl refl refl refl refl still)
-      go false = putted p (down_term (reference_of n.mint id) q noconnection) (draw kind.Reference (at_work n))
-          (aside n _ refl refl refl refl refl still)
+    pub called : (c : Command) → (c ≡ Command.Spawn → ⊥) → IfGoes (call n c) X
+    called Command.Spawn ns = absurd (ns refl)
+    called (Command.Send p q m) ns = plain (Command.Send p q m) ns (λ a b i. cc) (λ a b i. cc)
+    called (Command.Link p q) ns = plain (Command.Link p q) ns (λ a b i. cc) (λ a b i. cc)
+    called (Command.Unlink p q) ns = plain (Command.Unlink p q) ns (λ a b i. cc) (λ a b i. cc)
+    called (Command.Monitor p q) ns = if_cond (living n p) _ Refusal.NoSuchProcess X
+        (λ l. if_not (same_name q.node n.mint.name && never n q) _ Refusal.Forged X
+        (if_drawn (id_of n.mint kind.Reference) _ X (λ id i. monitors p q id)))
+    called (Command.Demonitor p r) ns = if_cond (living n p) _ Refusal.NoSuchProcess X (λ l. demonitored p r (fm.get n.watches r))
+    called (Command.Trap p b) ns = plain (Command.Trap p b) ns (λ a c i. cc) (λ a c i. cc)
+    called (Command.ExitTo p q z) ns = plain (Command.ExitTo p q z) ns (λ a b i. cc) (λ a b i. cc)
+    called (Command.ExitSelf p z) ns = plain (Command.ExitSelf p z) ns (λ a b i. cc) (λ a b i. cc)
+    called (Command.Receive p) ns = plain (Command.Receive p) ns (λ a b i. cc) (λ a b i. cc)
+    called (Command.LinksOf p) ns = plain (Command.LinksOf p) ns (λ a b i. cc) (λ a b i. cc)
+    called (Command.IsAlive p) ns = plain (Command.IsAlive p) ns (λ a b i. cc) (λ a b i. cc)
 
-  demonitored : (p : Pid) (r : Reference) (v : Option Monitor) → IfGoes (demonitor_by v p r (at_work n)) X
-  demonitored p r None = tt
-  demonitored p r (Some m) = if_cond (same_pid m.owner p) _ Refusal.NotTheOwner X
-      (λ h. posted (Signal.Demonitor p m.target r) (unwatch r (at_work n)) (aside n _ refl refl refl refl refl still))
+    -- ---- what comes
 
-  plain : (c : Command) → (c ≡ Command.Spawn → ⊥) → ((p q : Pid) → c ≡ Command.Monitor p q → ⊥) → ((p : Pid) (r : Reference) → c ≡ Command.Demonitor p r → ⊥)
-      → IfGoes (call n c) X
-  plain c ns nm ne = call_kept free X closed n still c (nm, ne) (λ id s. absurd (ns s)) (λ p q i l r. tt)
+    pub fresh_arrived : (t : TrunkId) (i : Item) (k : ℕ) → side_at n t ≡ None → IfGoes (arrive_fresh (handshake_in i) t k (at_work n)) X
+    fresh_arrived t i k h = fresh_kept X turned wrote (handshake_in i) t k (at_work n) h start
 
-  called : (c : Command) → (c ≡ Command.Spawn → ⊥) → IfGoes (call n c) X
-  called Command.Spawn ns = absurd (ns refl)
-  called (Command.Send p q m) ns = plain (Command.Send p q m) ns (λ a b i. cc) (λ a b i. cc)
-  called (Command.Link p q) ns = plain (Command.Link p q) ns (λ a b i. cc) (λ a b i. cc)
-  called (Command.Unlink p q) ns = plain (Command.Unlink p q) ns (λ a b i. cc) (λ a b i. cc)
-  called (Command.Monitor p q) ns = if_cond (living n p) _ Refusal.NoSuchProcess X
-      (λ l. if_not (same_name q.node n.mint.name && never n q) _ Refusal.Forged X
-      (if_drawn (id_of n.mint kind.Reference) _ X (λ id i. monitors p q id)))
-  called (Command.Demonitor p r) ns = if_cond (living n p) _ Refusal.NoSuchProcess X (λ l. demonitored p r (fm.get n.watches r))
-  called (Command.Trap p b) ns = plain (Command.Trap p b) ns (λ a c i. cc) (λ a c i. cc)
-  called (Command.ExitTo p q z) ns = plain (Command.ExitTo p q z) ns (λ a b i. cc) (λ a b i. cc)
-  called (Command.ExitSelf p z) ns = plain (Command.ExitSelf p z) ns (λ a b i. cc) (λ a b i. cc)
-  called (Command.Receive p) ns = plain (Command.Receive p) ns (λ a b i. cc) (λ a b i. cc)
-  called (Command.LinksOf p) ns = plain (Command.LinksOf p) ns (λ a b i. cc) (λ a b i. cc)
-  called (Command.IsAlive p) ns = plain (Command.IsAlive p) ns (λ a b i. cc) (λ a b i. cc)
+    pub known_arrived : (t : TrunkId) (v : TrunkSide) (i : Item) → side_at n t ≡ Some v → IfGoes (arrive_at (handshake_in i) t v i (at_work n)) X
+    known_arrived t v i h = known_kept X turned wrote t v (at_work n) h start i (λ u g. item i (at_work n) start) (handshake_in i)
 
-  -- ---- what comes
+    -- ---- connections
 
-  fresh_arrived : (t : TrunkId) (i : Item) (k : ℕ) → side_at n t ≡ None → IfGoes (arrive_fresh (handshake_in i) t k (at_work n)) X
-  fresh_arrived t i k h = fresh_kept X turned wrote (handshake_in i) t k (at_work n) h still
+    pub dialed : (names : List Name) (y : Name) (k : ℕ) → IfGoes (dial names n y k) X
+    dialed names y k = if_not (same_name y n.mint.name) _ Refusal.SelfDial X (if_not (not (has_name y names)) _ Refusal.NothingThere X
+        (if_not (is_some (side_where (λ v. not (is_gone v)) y (fm.entries n.sides))) _ Refusal.Busy X
+        (if_not (not (nat_lt (n.dialed + 1) (2 ^ 64))) _ Refusal.IdsUsedUp X
+        (aside n _ refl refl refl refl refl (no_more n.local) start))))
 
-  known_arrived : (t : TrunkId) (v : TrunkSide) (i : Item) → side_at n t ≡ Some v → IfGoes (arrive_at (handshake_in i) t v i (at_work n)) X
-  known_arrived t v i h = known_kept X turned wrote t v (at_work n) h still i (λ u g. item i (at_work n) still) (handshake_in i)
+    unparked_by : (v : State) (t : TrunkId) (s : TrunkSide) (o : Work) → X o → X (parked_by v t s o)
+    unparked_by (Parked w) t s o k = sided t (in_state (Accepting w) s) o k
+    unparked_by (AwaitsStatus w) t s o k = k
+    unparked_by (AwaitsChallenge w) t s o k = k
+    unparked_by (AwaitsAck w) t s o k = k
+    unparked_by (Asked w) t s o k = k
+    unparked_by (Accepting w) t s o k = k
+    unparked_by Up t s o k = k
+    unparked_by Losing t s o k = k
+    unparked_by Gone t s o k = k
 
-  local_taken : (l : List Item) → IfGoes (take_local n l) X
-  local_taken [] = tt
-  local_taken (i ∷ rest) = item i (at_work (record n { local = rest })) (aside n _ refl refl refl refl refl still)
+    unparked : (d : Option (TrunkId × TrunkSide)) (o : Work) → X o → X (parked_goes d o)
+    unparked None o k = k
+    unparked (Some e) o k = unparked_by e.1.state e.0 e.1 o k
 
-  -- ---- connections
+    closes : (b : Bool) (t : TrunkId) (s : TrunkSide) (o : Work) → X o → X (cond b o (close t s o))
+    closes true t s o k = k
+    closes false t s o k = let o1 = set_state t s Gone o in unparked (side_where is_parked s.peer (fm.entries o1.node.sides)) o1
+        (sided t (in_state Gone s) o k)
 
-  dialed : (names : List Name) (y : Name) (k : ℕ) → IfGoes (dial names n y k) X
-  dialed names y k = if_not (same_name y n.mint.name) _ Refusal.SelfDial X (if_not (not (has_name y names)) _ Refusal.NothingThere X
-      (if_not (is_some (side_where (λ v. not (is_gone v)) y (fm.entries n.sides))) _ Refusal.Busy X
-      (if_not (not (nat_lt (n.dialed + 1) (2 ^ 64))) _ Refusal.IdsUsedUp X
-      (aside n _ refl refl refl refl refl still))))
+    pub sweeps : (d : Option (TrunkId × TrunkSide)) → IfGoes (sweep_by d (at_work n)) X
+    sweeps None = tt
+    sweeps (Some d) =
+        let y = d.1.peer in
+        let o1 = sweep_link (link_to y (fm.entries n.ends)) y (at_work n) in
+        subst (λ z. X (swept d.0 d.1 z)) (sym (least_as y (at_work n))) (closes (has_records y o1.node) d.0 d.1 o1
+        (link_swept free X closed (link_to y (fm.entries n.ends)) y (at_work n) (λ e i a. tt)
+        (λ v l. ((watch_found y n.watches v l).0, tt)) (λ v l. ((registered_found y n.registered v l).0, tt)) start))
 
-  unparked_by : (v : State) (t : TrunkId) (s : TrunkSide) (o : Work) → X o → X (parked_by v t s o)
-  unparked_by (Parked w) t s o k = sided t (in_state (Accepting w) s) o k
-  unparked_by (AwaitsStatus w) t s o k = k
-  unparked_by (AwaitsChallenge w) t s o k = k
-  unparked_by (AwaitsAck w) t s o k = k
-  unparked_by (Asked w) t s o k = k
-  unparked_by (Accepting w) t s o k = k
-  unparked_by Up t s o k = k
-  unparked_by Losing t s o k = k
-  unparked_by Gone t s o k = k
+  -- the first item of the own list is taken, and l is the rest
+  pub own_taken : (i : Item) → IfGoes (take_local n (i ∷ l)) X
+  own_taken i = item i (at_work (record n { local = l }))
+      (record { up = refl; name = refl; creation = refl; pids = refl; keeps = λ p h. h; dies = λ p h. h; grows = no_more l })
 
-  unparked : (d : Option (TrunkId × TrunkSide)) (o : Work) → X o → X (parked_goes d o)
-  unparked None o k = k
-  unparked (Some e) o k = unparked_by e.1.state e.0 e.1 o k
-
-  closes : (b : Bool) (t : TrunkId) (s : TrunkSide) (o : Work) → X o → X (cond b o (close t s o))
-  closes true t s o k = k
-  closes false t s o k = let o1 = set_state t s Gone o in unparked (side_where is_parked s.peer (fm.entries o1.node.sides)) o1
-      (sided t (in_state Gone s) o k)
-
-  sweeps : (d : Option (TrunkId × TrunkSide)) → IfGoes (sweep_by d (at_work n)) X
-  sweeps None = tt
-  sweeps (Some d) =
-      let y = d.1.peer in
-      let o1 = sweep_link (link_to y (fm.entries n.ends)) y (at_work n) in
-      subst (λ z. X (swept d.0 d.1 z)) (sym (least_as y (at_work n))) (closes (has_records y o1.node) d.0 d.1 o1
-      (link_swept free X closed (link_to y (fm.entries n.ends)) y (at_work n) (λ e i a. tt)
-      (λ v l. ((watch_found y n.watches v l).0, tt)) (λ v l. ((registered_found y n.registered v l).0, tt)) still))
+-- no event yet
+pub begin : (n : Node) → Lasts n n.local n
+begin n = record { up = refl; name = refl; creation = refl; pids = refl; keeps = λ p h. h; dies = λ p h. h; grows = no_more n.local }
 
 -- ---- each event keeps it
 
-never_as : (n m : Node) → Lasts n m → (p : Pid) → never m p ≡ never n p
-never_as n m k p = λ i. not (same_name p.node (k.name i)) || nat_lt (k.creation i) p.creation
+never_as : (n m : Node) (l : List Item) → Lasts n l m → (p : Pid) → never m p ≡ never n p
+never_as n m l k p = λ i. not (same_name p.node (k.name i)) || nat_lt (k.creation i) p.creation
     || (p.creation == k.creation i && nat_lt (k.pids i) p.id) || p.id == 0 || not (p.serial == 0)
 
 up_down : {P : Type 0} (b : Bool) → b ≡ true → b ≡ false → P
@@ -292,11 +314,11 @@ up_down b h i = let c : true ≡ false = sym h ∙ i in cc
 
 -- a node that is up
 module _ (n : Node) (u : n.up ≡ true) (g : Peopled n) where
-  lasting : (o : Work) → Lasts n o.node → Peopled o.node × (o.node.mint.name ≡ n.mint.name)
-  lasting o k = (
+  lasting : (l : List Item) (o : Work) → Lasts n l o.node → Peopled o.node × (o.node.mint.name ≡ n.mint.name)
+  lasting l o k = (
     record {
       alive = λ p l. let v = g.alive p (k.dies p l) in (k.up ∙ v.0, v.1 ∙ sym k.creation);
-      kept = λ p h c b. k.keeps p (g.kept p u (c ∙ k.creation) (sym (never_as n o.node k p) ∙ b));
+      kept = λ p h c b. k.keeps p (g.kept p u (c ∙ k.creation) (sym (never_as n o.node l k p) ∙ b));
       down = λ h. up_down o.node.up (k.up ∙ u) h;
     },
     k.name,
@@ -305,9 +327,9 @@ module _ (n : Node) (u : n.up ≡ true) (g : Peopled n) where
   abbrev Well : Outcome → Type 0
   Well o = IfGoes o (λ a. Peopled a.node × (a.node.mint.name ≡ n.mint.name))
 
-  lasts_well : (o : Outcome) → IfGoes o (λ a. Lasts n a.node) → Well o
-  lasts_well (Refuses j) k = tt
-  lasts_well (Accepts a o) k = lasting o k
+  lasts_well : (l : List Item) (o : Outcome) → IfGoes o (λ a. Lasts n l a.node) → Well o
+  lasts_well l (Refuses j) k = tt
+  lasts_well l (Accepts a o) k = lasting l o k
 
   spawned : Well (call n Command.Spawn)
   spawned = if_drawn (id_of n.mint kind.Pid) _ (λ a. Peopled a.node × (a.node.mint.name ≡ n.mint.name)) (λ id h.
@@ -334,7 +356,7 @@ module _ (n : Node) (u : n.up ≡ true) (g : Peopled n) where
       other_living p i = spawned_living n p ∙ ap (λ z. is_living_life (cond z (Some (Living false [])) (fm.get n.lives p))) i
 
   other_call : (c : Command) → (c ≡ Command.Spawn → ⊥) → Well (call n c)
-  other_call c ns = lasts_well (call n c) (called n c ns)
+  other_call c ns = lasts_well n.local (call n c) (called n n.local (begin n) c ns)
 
   any_call : (c : Command) → Well (call n c)
   any_call Command.Spawn = spawned
@@ -407,22 +429,29 @@ module _ (w : World) (g : AllPeopled w.nodes) where
 
     comes : (t : TrunkId) (k : ℕ) → After (step_at w (Some n) (Arrive t x k))
     comes t k = arrives_then w x n After (λ r. g) t k
-        (λ i is u first at. ends x n (fm.insert w.lists (t, x) is) (arrive_fresh (handshake_in i) t k (at_work n)) h (lasts_well n u (g x n h) _ (fresh_arrived n t i k at)))
-        (λ i is v u first at over. ends x n (fm.insert w.lists (t, x) is) (arrive_at (handshake_in i) t v i (at_work n)) h (lasts_well n u (g x n h) _ (known_arrived n t v i at)))
+        (λ i is u first at. ends x n (fm.insert w.lists (t, x) is) (arrive_fresh (handshake_in i) t k (at_work n)) h (lasts_well n u (g x n h) n.local _ (fresh_arrived n n.local (begin n) t i k at)))
+        (λ i is v u first at over. ends x n (fm.insert w.lists (t, x) is) (arrive_at (handshake_in i) t v i (at_work n)) h (lasts_well n u (g x n h) n.local _ (known_arrived n n.local (begin n) t v i at)))
+
+    own : n.up ≡ true → (l : List Item) → After (came_of w x w.lists (take_local n l))
+    own u [] = g
+    own u (i ∷ rest) = ends x n w.lists (take_local n (i ∷ rest)) h
+        (lasts_well n u (g x n h) rest (take_local n (i ∷ rest)) (own_taken n rest i))
 
   after : (o : Option Node) (e : Event) → node_of w.nodes (node_name e) ≡ o → After (step_at w o e)
   after None e h = g
   after (Some n) (Call x c) h = up_well x n h _ (λ u. ends x n w.lists (call n c) h (any_call n u (g x n h) c))
   after (Some n) (Arrive t x k) h = comes x n h t k
-  after (Some n) (Local x) h = up_well x n h _
-      (λ u. ends x n w.lists (take_local n n.local) h (lasts_well n u (g x n h) (take_local n n.local) (local_taken n n.local)))
+  after (Some n) (Local x) h = up_well x n h _ (λ u. own x n h u n.local)
   after (Some n) (Lose t x) h = up_well x n h _
       (λ u. ends x n w.lists (lose n t (fm.get n.sides t)) h
-      (lasts_well n u (g x n h) (lose n t (fm.get n.sides t)) (lose_kept (X n) (turned n) (wrote n) n t (fm.get n.sides t) refl (still n))))
+      (lasts_well n u (g x n h) n.local (lose n t (fm.get n.sides t))
+      (lose_kept (X n n.local) (turned n n.local) (wrote n n.local) n t (fm.get n.sides t) refl (begin n))))
   after (Some n) (Sweep x) h = up_well x n h _
-      (λ u. ends x n w.lists (sweep n) h (lasts_well n u (g x n h) (sweep n) (sweeps n (any_side is_losing (fm.entries n.sides)))))
+      (λ u. ends x n w.lists (sweep n) h
+      (lasts_well n u (g x n h) n.local (sweep n) (sweeps n n.local (begin n) (any_side is_losing (fm.entries n.sides)))))
   after (Some n) (Dial x y k) h = up_well x n h _
-      (λ u. ends x n w.lists (dial w.names n y k) h (lasts_well n u (g x n h) (dial w.names n y k) (dialed n w.names y k)))
+      (λ u. ends x n w.lists (dial w.names n y k) h
+      (lasts_well n u (g x n h) n.local (dial w.names n y k) (dialed n n.local (begin n) w.names y k)))
   after (Some n) (Stop x) h = up_well x n h _ (λ u. ends x n w.lists (stop n) h (stopped_peopled n, refl))
   after (Some n) (Start x) h = ends x n w.lists (start n) h
       (if_not n.up _ Refusal.NodeUp (λ a. Peopled a.node × (a.node.mint.name ≡ n.mint.name))

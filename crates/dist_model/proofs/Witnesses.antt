@@ -400,7 +400,26 @@ module _ (cookie : List ℕ) (own other : ℕ) where
   restart_is = run_on (connected_over_a_trunk own other) (monitoring_the_former own other) (two_nodes cookie)
       ∙ ap (run (monitoring_the_former own other)) (connected_is cookie own other)
       ∙ passed restart_world_0 (monitoring_the_former own other)
-      (restart_world_1 ∷ restart_world_2 ∷ restart_world_3 ∷ restart_world_4 ∷ restart_world_5 ∷ restart_world_6 ∷ restart_world_7 ∷ restart_world_8 ∷ restart_world_9 ∷ restart_world_10 ∷ restart_world_11 ∷ restart_world_12 ∷ []) (restart_step_0, (restart_step_1, (restart_step_2, (restart_step_3, (restart_step_4, (restart_step_5, (restart_step_6, (restart_step_7, (restart_step_8, (restart_step_9, (restart_step_10, (restart_step_11, tt))))))))))))
+      (restart_world_1 ∷ restart_world_2 ∷ restart_world_3 ∷ restart_world_4 ∷ restart_world_5 ∷ restart_world_6 ∷ restart_world_7
+      ∷ restart_world_8 ∷ restart_world_9 ∷ restart_world_10 ∷ restart_world_11 ∷ restart_world_12 ∷ []) (
+        restart_step_0,
+        (
+          restart_step_1,
+          (
+            restart_step_2,
+            (
+              restart_step_3,
+              (
+                restart_step_4,
+                (
+                  restart_step_5,
+                  (restart_step_6, (restart_step_7, (restart_step_8, (restart_step_9, (restart_step_10, (restart_step_11, tt)))))),
+                ),
+              ),
+            ),
+          ),
+        ),
+      )
 
   pub restart_tells : downs reference (history (monitored_after_a_restart own other) (two_nodes cookie)) ≡
       (record { owner = here; target = there; info = noproc }) ∷ []
@@ -800,7 +819,14 @@ module _ (cookie : List ℕ) (own other : ℕ) where
 
     crossing_is : run (crossing own other word) (two_nodes cookie) ≡ crossing_world_8
     crossing_is = passed crossing_world_0 (crossing own other word)
-        (crossing_world_1 ∷ crossing_world_2 ∷ crossing_world_3 ∷ crossing_world_4 ∷ crossing_world_5 ∷ crossing_world_6 ∷ crossing_world_7 ∷ crossing_world_8 ∷ []) (crossing_step_0, (crossing_step_1, (crossing_step_2, (crossing_step_3, (crossing_step_4, (crossing_step_5, (crossing_step_6, (crossing_step_7, tt))))))))
+        (crossing_world_1 ∷ crossing_world_2 ∷ crossing_world_3 ∷ crossing_world_4 ∷ crossing_world_5 ∷ crossing_world_6 ∷ crossing_world_7
+        ∷ crossing_world_8 ∷ []) (
+          crossing_step_0,
+          (
+            crossing_step_1,
+            (crossing_step_2, (crossing_step_3, (crossing_step_4, (crossing_step_5, (crossing_step_6, (crossing_step_7, tt)))))),
+          ),
+        )
 
     pub stays_here : HasSide (run (crossing own other word) (two_nodes cookie)) first (other_trunk 1) second is_up
     stays_here = record {

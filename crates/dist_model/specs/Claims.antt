@@ -17,7 +17,7 @@ use Rattle.dist_model.specs.Node.{Node, living, never, Ended}
 use Rattle.dist_model.specs.Quiet.{Quiet}
 use Rattle.dist_model.specs.Seen.{AreConnected, HasSide, end_between, is_connected, is_living, is_reached, local_list}
 use Rattle.dist_model.specs.Sides.{is_losing, is_up}
-use Rattle.dist_model.specs.World.{Arrive, Call, Event, Refused, Report, Reported, Stepped, World, list_to, met, node_name, node_of, refused, step}
+use Rattle.dist_model.specs.World.{Arrive, Call, Event, Refused, Report, Reported, Stepped, World, list_to, met, node_name, node_of, refused, step, Local, Start}
 use Rattle.erl_names.specs.declared.trunk.TrunkId.{TrunkId}
 use Rattle.erl_term.specs.Data.{Data}
 use Rattle.erl_term.specs.declared.term.Pid.{Pid}
@@ -132,3 +132,19 @@ abbrev pub KeepsOrder : World → Type 0
 KeepsOrder w = (e : Event) (t : TrunkId) (x : Name) → let s = step w e in let sent = sent_to t x (effects_of s.report) in
     (list_to s.world.lists t x ≡ list_to w.lists t x ++ sent)
     ⊎ (((word : ℕ) × (e ≡ Arrive t x word)) × (first : Item) × (rest : List Item) × (list_to w.lists t x ≡ first ∷ rest) × (list_to s.world.lists t x ≡ rest ++ sent))
+
+-- items come behind those that are on their way
+abbrev pub Grows : List Item → List Item → Type 0
+Grows old new = (more : List Item) × (new ≡ old ++ more)
+
+-- the first one is taken
+abbrev pub LosesFirst : List Item → List Item → Type 0
+LosesFirst old new = (first : Item) × (rest : List Item) × (old ≡ first ∷ rest) × Grows rest new
+
+-- of the own list of x, before and after an event
+abbrev pub OwnListKept : Event → Name → (old new : List Item) → Type 0
+OwnListKept e x old new = Grows old new ⊎ (((e ≡ Local x) × LosesFirst old new) ⊎ ((e ≡ Start x) × (new ≡ [])))
+
+-- so does what travels from a node to itself; a node that starts again begins with none
+abbrev pub KeepsOwnOrder : World → Type 0
+KeepsOwnOrder w = (e : Event) (x : Name) → OwnListKept e x (local_list w x) (local_list ((step w e).world) x)

@@ -33,7 +33,7 @@ ghost use Rattle.dist_model.specs.Sides.{is_gone, is_parked};
 ghost use Rattle.dist_model.specs.Work.{at_work};
 ghost use Rattle.dist_model.specs.Seen.{end_between, AreConnected, HasSide};
 ghost use Rattle.dist_model.specs.Schedules as schedule;
-ghost use Rattle.dist_model.specs.Claims.{Agreement, AgreementWithin, AgreementInQuiet, PendingOnItsWay, PendingWithin, NoLinkToTheDead, NoLinkToItself, LinkNeedsConnection, LivingMeans, SpawnedLivesOrEnded, DownHoldsNothing, OneTrunk, NoUpBesideLosing, KeepsOrder, ReactsOnlyWhereLinked};
+ghost use Rattle.dist_model.specs.Claims.{Agreement, AgreementWithin, AgreementInQuiet, PendingOnItsWay, PendingWithin, NoLinkToTheDead, NoLinkToItself, LinkNeedsConnection, LivingMeans, SpawnedLivesOrEnded, DownHoldsNothing, OneTrunk, NoUpBesideLosing, KeepsOrder, KeepsOwnOrder, ReactsOnlyWhereLinked};
 ghost use Rattle.dist_model.specs.Histories.{Throughout, told, history};
 ghost use Rattle.dist_model.specs.Causes.{Reacts};
 ghost use Rattle.dist_model.specs.Fates.{ReactsRightly, DownsRightly, ReactsForTrueCause, ExitsTellTrueCause, ExitsTellTrueCauseWithin, AnsweredOnce, DownOnce, DownToTheOwner, NoDownWhereDemonitored, DownsTellTrueCause, DownOrRegistered};
@@ -158,9 +158,10 @@ pub fn calls_follow_the_table()
         unlink_by (end_of node p q) p q (at_work node) ≡ Accepts Answer.Done (at_work node) }
 {}
 
-/// What travels to a node keeps its order. (Reference Manual, Processes, Delivery of Signals.)
+/// What travels to a node keeps its order, on a trunk and from itself. (Reference Manual, Processes, Delivery of Signals.)
 pub fn order_is_kept()
     ensures kept { (world : World) → KeepsOrder world }
+    ensures own { (world : World) → KeepsOwnOrder world }
 {}
 
 /// An event that is refused changes nothing.

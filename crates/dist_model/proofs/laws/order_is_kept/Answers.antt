@@ -1,5 +1,8 @@
 use Rattle.dist_model.proofs.laws.order_is_kept.Goals as goal
-use Rattle.dist_model.proofs.Ordering.{keeps_order}
+use Rattle.dist_model.proofs.Ordering.{keeps_order, keeps_own_order}
 
-pub returns : goal.returns
-returns c = record { kept = keeps_order }
+pub returns-clause-kept : goal.returns-clause-kept
+returns-clause-kept c = keeps_order
+
+pub returns-clause-own : goal.returns-clause-own
+returns-clause-own c = keeps_own_order
