@@ -55,5 +55,6 @@ pub mod Following
 pub mod Histories
 pub mod Witnesses
 pub mod Peopling
+pub mod Locality
 pub mod Resting
 pub mod Forms

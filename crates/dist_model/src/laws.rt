@@ -33,7 +33,7 @@ ghost use Rattle.dist_model.specs.Sides.{is_gone, is_parked};
 ghost use Rattle.dist_model.specs.Work.{at_work};
 ghost use Rattle.dist_model.specs.Seen.{end_between, AreConnected, HasSide};
 ghost use Rattle.dist_model.specs.Schedules as schedule;
-ghost use Rattle.dist_model.specs.Claims.{Agreement, AgreementWithin, AgreementInQuiet, PendingOnItsWay, PendingWithin, NoLinkToTheDead, NoLinkToItself, LinkNeedsConnection, LivingMeans, SpawnedLivesOrEnded, DownHoldsNothing, OneTrunk, NoUpBesideLosing, KeepsOrder, KeepsOwnOrder, ReactsOnlyWhereLinked};
+ghost use Rattle.dist_model.specs.Claims.{Agreement, AgreementWithin, AgreementInQuiet, PendingOnItsWay, PendingWithin, NoLinkToTheDead, NoLinkToItself, LinkNeedsConnection, LivingMeans, SpawnedLivesOrEnded, DownHoldsNothing, OneTrunk, NoUpBesideLosing, EventIsLocal, KeepsOrder, KeepsOwnOrder, ReactsOnlyWhereLinked};
 ghost use Rattle.dist_model.specs.Histories.{Throughout, told, history};
 ghost use Rattle.dist_model.specs.Causes.{Reacts};
 ghost use Rattle.dist_model.specs.Fates.{ReactsRightly, DownsRightly, ReactsForTrueCause, ExitsTellTrueCause, ExitsTellTrueCauseWithin, AnsweredOnce, DownOnce, DownToTheOwner, NoDownWhereDemonitored, DownsTellTrueCause, DownOrRegistered};
@@ -156,6 +156,12 @@ pub fn calls_follow_the_table()
         end_of ((unlinks_by_table (end_of node p q) id p q (at_work node)).node) p q ≡ unlinked (end_of node p q) id }
     ensures inactive { (node : Node) (p q : Pid) → is_active (end_of node p q) ≡ false →
         unlink_by (end_of node p q) p q (at_work node) ≡ Accepts Answer.Done (at_work node) }
+{}
+
+/// An event is of one node: the others stay as they are, and it becomes what its own event makes of
+/// it, which depends on it, on the names and on the first item of the list alone. (own)
+pub fn event_is_local()
+    ensures local { (world : World) → EventIsLocal world }
 {}
 
 /// What travels to a node keeps its order, on a trunk and from itself. (Reference Manual, Processes, Delivery of Signals.)
