@@ -4,7 +4,7 @@ use Rattle.erl_names.specs.Draw as kind
 use Rattle.std.proofs.Common.{◌==◌, nat_lt, ◌≡◌, ℕ, ◌+◌, Bool, true, false, cond, not, List, [], ◌∷◌, refl, sym, ap, ◌∙◌, subst, arith, ◌&&◌, ◌||◌, Option, Some, None}
 use Rattle.std.specs.FinMap as fm
 use Rattle.dist_model.proofs.Kept.{Kept}
-use Rattle.dist_model.proofs.Keys.{pid_total, same_name_refl, same_name_true, same_pid_is, same_pid_refl, same_pid_true}
+use Rattle.dist_model.proofs.Keys.{pid_total, same_name_is, same_name_refl, same_name_true, same_pid_is, same_pid_refl, same_pid_true, same_trunk, same_trunk_is, same_trunk_true}
 use Rattle.dist_model.proofs.Moves.{Homely, Moves, carries_out, finishes, links, posts_other, puts, set_life_living, stays, then, unlinks_as}
 use Rattle.dist_model.proofs.Views.{over, side_path, telling_news, view}
 use Rattle.dist_model.specs.Calls.{acting, call, spawn_life, toward, trapping, with_life, without_first}
@@ -16,7 +16,7 @@ use Rattle.dist_model.specs.Items.{Handshake, Item, Signalled, Tick, news_in, te
 use Rattle.dist_model.specs.Linking.{unlink_by}
 use Rattle.dist_model.specs.Links.{Exits, LinkNews, Says, noconnection, noproc}
 use Rattle.dist_model.specs.Monitoring.{demonitor_by, monitor, register, unregister, unwatch, watch}
-use Rattle.dist_model.specs.Names.{same_name, same_pid}
+use Rattle.dist_model.specs.Names.{Name, same_name, same_pid}
 use Rattle.dist_model.specs.Node.{Ended, Life, Living, Node, end_of, is_living_life, living, never, reaches, traps_life}
 use Rattle.dist_model.specs.Taking.{take_item}
 use Rattle.dist_model.specs.Work.{Work, at_work, draw, post, put, set_end, set_life}
@@ -34,6 +34,7 @@ use Rattle.link_core.specs.declared.end.LinkSignal.{LinkSignal}
 use Rattle.monitor_core.specs.Monitors.{is_held, monitor_of}
 use Rattle.monitor_core.specs.declared.monitor.Monitor.{Monitor}
 use Rattle.std.specs.FinMap.{FinMap}
+use Rattle.erl_names.specs.declared.trunk.TrunkId.{TrunkId}
 
 -- what holds of the work where the event goes through
 abbrev pub IfGoes : Outcome → (Work → Type 0) → Type 0
@@ -209,6 +210,15 @@ next_was_never n =
 pub by_test : (P : Type 0) (b : Bool) → (b ≡ true → P) → (b ≡ false → P) → P
 by_test P true f g = f refl
 by_test P false f g = g refl
+
+-- one name or another
+pub by_name : (P : Type 0) (x y : Name) → (x ≡ y → P) → ((x ≡ y → ⊥) → P) → P
+by_name P x y a b = by_test P (same_name x y) (λ h. a (same_name_true x y h))
+    (λ h. b (λ e. let c : true ≡ false = sym (same_name_is x y e) ∙ h in cc))
+
+pub by_trunk : (P : Type 0) (t u : TrunkId) → (t ≡ u → P) → ((t ≡ u → ⊥) → P) → P
+by_trunk P t u a b = by_test P (same_trunk t u) (λ h. a (same_trunk_true t u h))
+    (λ h. b (λ e. let c : true ≡ false = sym (same_trunk_is t u e) ∙ h in cc))
 
 pub spawned_living : (n : Node) (p : Pid) → living ((spawned_at n (next_pid n)).node) p ≡ is_living_life (cond (same_pid p (next_pid n)) (Some (Living false [])) (fm.get n.lives p))
 spawned_living n p = ap is_living_life (fm.get-insert pid_total n.lives (next_pid n) (Living false []) p)

@@ -7,7 +7,7 @@ use Rattle.std.specs.FinMap.Entries.{find, is_sorted, below_all}
 use Rattle.std.specs.Cmp.{tied_itself}
 use Rattle.dist_model.specs.declared.report.Effect.{Effect}
 use Rattle.dist_model.proofs.Routes
-use Rattle.dist_model.proofs.Calls.{by_test}
+use Rattle.dist_model.proofs.Calls.{by_name, by_test}
 use Rattle.dist_model.proofs.Handshake.{as_state, hold_kind, in_state}
 use Rattle.dist_model.proofs.Home.{HomePairs}
 use Rattle.dist_model.proofs.Kept.{Kept, keeps_stop}
@@ -22,7 +22,7 @@ use Rattle.dist_model.proofs.Seeing.{close_if, end_in}
 use Rattle.dist_model.proofs.Sides.{SidesKept, asks, beside, holds, joined, side_at}
 use Rattle.dist_model.proofs.Steps.{kind, not_beside}
 use Rattle.dist_model.proofs.Sweeping.{good_closed, good_unparked, sweep_moves}
-use Rattle.dist_model.proofs.Table.{Good, HomeKept, Likely, Posted, Row, begun, begun_state, good_moved, is_accept, is_challenge, is_reply, may_be_up, role_state, single_kept}
+use Rattle.dist_model.proofs.Table.{begun, begun_state, Good, good_moved, HomeKept, is_accept, is_challenge, is_reply, Likely, may_be_up, Posted, role_gone, role_state, Row, single_kept}
 use Rattle.dist_model.proofs.Views.{over, side_of, side_path, telling_news}
 use Rattle.dist_model.specs.Handshake.{challenge, set_state, with_side, write}
 use Rattle.dist_model.specs.Incarnations.{all_gone, started, stopped}
@@ -138,7 +138,8 @@ good_written w x n t v m hx h na nr ch g = good_pushed w t v.peer m g known
         let k = g.core.met x n t v hx h d in
         (k.side, k.dialer, k.at, k.there, inl (dialer_is ((g.core.sides x n hx).mine t v h) d)))
 
-carried-push : (m : FinMap place_cmp (List Item)) (fs : List (Effect Item)) (t : TrunkId) (y : Name) (x : Item) → carried m (fs ++ Effect.Sent (Some t) y x ∷ []) ≡ fm.insert (carried m fs) (t, y) (list_to (carried m fs) t y ++ x ∷ [])
+pub carried-push : (m : FinMap place_cmp (List Item)) (fs : List (Effect Item)) (t : TrunkId) (y : Name) (x : Item)
+    → carried m (fs ++ Effect.Sent (Some t) y x ∷ []) ≡ fm.insert (carried m fs) (t, y) (list_to (carried m fs) t y ++ x ∷ [])
 carried-push m [] t y x = refl
 carried-push m (Effect.Sent (Some u) z i ∷ fs) t y x = carried-push (fm.insert m (u, z) (list_to m u z ++ i ∷ [])) fs t y x
 carried-push m (Effect.Sent None z i ∷ fs) t y x = carried-push m fs t y x
@@ -246,9 +247,6 @@ module _ (w : World) (x : Name) (n : Node) (hx : node_of w.nodes x ≡ Some n) (
   there3 : (y : Name) → (x ≡ y → ⊥) → node_of (set_node w.nodes x nc) y ≡ node_of w.nodes y
   there3 y d = node_of_set_other w.nodes x y nc nz d
 
-  by_x3 : (P : Type 0) (y : Name) → (x ≡ y → P) → ((x ≡ y → ⊥) → P) → P
-  by_x3 P y a d = by_test P (same_name x y) (λ h. a (same_name_true x y h)) (λ h. d (λ e. let z : true ≡ false = sym (same_name_is x y e) ∙ h in cc))
-
   is_nc : (y : Name) (a : Node) → x ≡ y → node_of (set_node w.nodes x nc) y ≡ Some a → nc ≡ a
   is_nc y a e h = some_same nc a (sym here3 ∙ ap (node_of (set_node w.nodes x nc)) e ∙ h)
 
@@ -273,7 +271,7 @@ module _ (w : World) (x : Name) (n : Node) (hx : node_of w.nodes x ≡ Some n) (
       again t s k (inr e) = inr (e ∙ ap (λ (y : TrunkSide). y.peer) (sym k.now))
 
   still3 : (t : TrunkId) (y : Name) → Met w.nodes t y → Met (set_node w.nodes x nc) t y
-  still3 t y u = by_x3 _ t.dialer
+  still3 t y u = by_name _ x t.dialer
       (λ e.
       let same : n ≡ u.dialer = some_same n u.dialer (sym hx ∙ ap (node_of w.nodes) e ∙ u.at) in
       record { dialer = nc; at = ap (node_of (set_node w.nodes x nc)) (sym e) ∙ here3; side = as_state u.side Gone; there = gone_sides n t ∙ ap gone_side (ap (λ v. side_at v t) same ∙ u.there); peer = u.peer })
@@ -284,14 +282,14 @@ module _ (w : World) (x : Name) (n : Node) (hx : node_of w.nodes x ≡ Some n) (
 
   core3 : WorldKept (record { names = w.names; nodes = set_node w.nodes x nc; lists = w.lists })
   core3 = record {
-    nodes = λ y a h. by_x3 _ y (λ e. subst (λ v. NodeKept v) (is_nc y a e h) nc_kept) (λ d. g.core.nodes y a (sym (there3 y d) ∙ h));
-    sides = λ y a h. by_x3 _ y (λ e. subst (λ v. SidesKept v) (is_nc y a e h) nc_sides) (λ d. g.core.sides y a (sym (there3 y d) ∙ h));
-    met = λ y a t s h f d. by_x3 _ y
+    nodes = λ y a h. by_name _ x y (λ e. subst (λ v. NodeKept v) (is_nc y a e h) nc_kept) (λ d. g.core.nodes y a (sym (there3 y d) ∙ h));
+    sides = λ y a h. by_name _ x y (λ e. subst (λ v. SidesKept v) (is_nc y a e h) nc_sides) (λ d. g.core.sides y a (sym (there3 y d) ∙ h));
+    met = λ y a t s h f d. by_name _ x y
         (λ e. let k = was_side n t s (ap (λ v. side_at v t) (is_nc y a e h) ∙ f) in still3 t y (subst (λ z. Met w.nodes t z) e (g.core.met x n t k.old hx k.was (λ i. d (i ∙ e)))))
         (λ e. still3 t y (g.core.met y a t s (sym (there3 y e) ∙ h) f d));
-    trunks = λ y z a d t s v ha hd fa fd sz vy us jv p q py qz. by_x3 _ y
+    trunks = λ y z a d t s v ha hd fa fd sz vy us jv p q py qz. by_name _ x y
         (λ e. let k = not_joined3 t s (ap (λ m. side_at m t) (is_nc y a e ha) ∙ fa) in let i : true ≡ false = sym us ∙ k.1 in cc_kept i)
-        (λ dy. by_x3 _ z
+        (λ dy. by_name _ x z
         (λ e. let k = not_joined3 t v (ap (λ m. side_at m t) (is_nc z d e hd) ∙ fd) in let i : true ≡ false = sym jv ∙ k.0 in cc_kept i)
         (λ dz. g.core.trunks y z a d t s v (sym (there3 y dy) ∙ ha) (sym (there3 z dz) ∙ hd) fa fd sz vy us jv p q py qz));
   }
@@ -309,7 +307,7 @@ module _ (w : World) (x : Name) (n : Node) (hx : node_of w.nodes x ≡ Some n) (
   good_cleared : Good (record { names = w.names; nodes = set_node w.nodes x (cleared n c b sp rf ul lc); lists = w.lists })
   good_cleared = record {
     core = core3;
-    home = λ y a h. by_x3 _ y
+    home = λ y a h. by_name _ x y
         (λ e. subst (λ v. HomeKept v) (is_nc y a e h) (record {
           local = lo;
           pairs = pr;
@@ -317,14 +315,14 @@ module _ (w : World) (x : Name) (n : Node) (hx : node_of w.nodes x ≡ Some n) (
           counts = λ t s f i. let k = was_side n t s f in (g.home x n hx).counts t k.old k.was i;
         }))
         (λ d. g.home y a (sym (there3 y d) ∙ h));
-    table = λ t d a s hd fs ha. by_x3 _ t.dialer
+    table = λ t d a s hd fs ha. by_name _ x t.dialer
         (λ e.
         let k = was_side n t s (ap (λ m. side_at m t) (is_nc t.dialer d e hd) ∙ fs) in
         let ax : x ≡ s.peer → ⊥ = λ i. (g.core.sides x n hx).other t k.old k.was (ap (λ (z : TrunkSide). z.peer) (sym k.now) ∙ sym i ∙ sym nz) in
         subst (λ (z : TrunkSide). Row z.state (side_at a t) (list_to w.lists t t.dialer) (list_to w.lists t z.peer)) (sym k.now)
         (row_d k.old.state (side_at a t) (list_to w.lists t t.dialer) (list_to w.lists t k.old.peer)
         (g.table t n a k.old (ap (node_of w.nodes) (sym e) ∙ hx) k.was (ap (λ (z : TrunkSide). node_of w.nodes z.peer) (sym k.now) ∙ sym (there3 s.peer ax) ∙ ha))))
-        (λ dd. by_x3 _ s.peer
+        (λ dd. by_name _ x s.peer
         (λ e. subst (λ m. Row s.state (side_at m t) (list_to w.lists t t.dialer) (list_to w.lists t s.peer)) (is_nc s.peer a e ha)
         (subst (λ o. Row s.state o (list_to w.lists t t.dialer) (list_to w.lists t s.peer)) (sym (gone_sides n t))
         (row_a s.state (side_at n t) (list_to w.lists t t.dialer) (list_to w.lists t s.peer) (g.table t d n s (sym (there3 t.dialer dd) ∙ hd) fs (ap (node_of w.nodes) (sym e) ∙ hx)))))
@@ -334,18 +332,14 @@ module _ (w : World) (x : Name) (n : Node) (hx : node_of w.nodes x ≡ Some n) (
   }
     where
       likely3 : (y z : Name) (t : TrunkId) → Likely (set_node w.nodes x nc) w.lists y t z → Likely w.nodes w.lists y t z
-      likely3 y z t l = by_x3 _ y
+      likely3 y z t l = by_name _ x y
           (λ e.
           let k = was_side n t l.side (ap (λ m. side_at m t) (is_nc y l.node e l.at) ∙ l.there) in
           let z : false ≡ true = ap (λ (v : TrunkSide). may_be_up v.state (list_to w.lists t y)) (sym k.now) ∙ l.may in absurd (let f : true ≡ false = sym z in cc))
           (λ d. record { node = l.node; at = sym (there3 y d) ∙ l.at; side = l.side; there = l.there; peer = l.peer; may = l.may })
 
-      role_gone : (b : Bool) → role_state b Gone ≡ true
-      role_gone true = refl
-      role_gone false = refl
-
       still_p : (t : TrunkId) (z : Name) → Posted w.nodes t z → Posted (set_node w.nodes x nc) t z
-      still_p t z k = by_x3 _ t.dialer
+      still_p t z k = by_name _ x t.dialer
           (λ e.
           let same : k.1 ≡ n = some_same k.1 n (sym k.2 ∙ ap (node_of w.nodes) (sym e) ∙ hx) in
           (as_state k.0 Gone, nc, ap (node_of (set_node w.nodes x nc)) (sym e) ∙ here3, gone_sides n t ∙ ap gone_side (ap (λ v. side_at v t) (sym same) ∙ k.3), k.4))

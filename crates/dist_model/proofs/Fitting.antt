@@ -18,7 +18,7 @@ both : (a b : Bool) → (a && b) ≡ true → (a ≡ true) × (b ≡ true)
 both true b h = (refl, h)
 both false b h = cc
 
-and : (a b : Bool) → a ≡ true → b ≡ true → (a && b) ≡ true
+pub and : (a b : Bool) → a ≡ true → b ≡ true → (a && b) ≡ true
 and true b h k = k
 and false b h k = cc
 
@@ -34,7 +34,7 @@ at_most n m h = grind arith
 is_at_most : (n m : ℕ) → n ≤ m → nat_le n m ≡ true
 is_at_most n m h = grind arith
 
-not_false : (b : Bool) → not b ≡ true → b ≡ false
+pub not_false : (b : Bool) → not b ≡ true → b ≡ false
 not_false true h = cc
 not_false false h = refl
 
@@ -46,7 +46,7 @@ int_is : (z : ℤ) → FitsSigned w128 z → is_machine_int z ≡ true
 int_is (pos n) h = is_below n (2 ^ 127) h.sfits
 int_is (negsuc n) h = is_below n (2 ^ 127) h.sfits
 
-all_from : (bound : ℕ) (ns : List ℕ) → are_below bound ns ≡ true → All (λ n. n < bound) ns
+pub all_from : (bound : ℕ) (ns : List ℕ) → are_below bound ns ≡ true → All (λ n. n < bound) ns
 all_from bound [] h = All-nil (λ n. n < bound)
 all_from bound (n ∷ ns) h = let v = both (nat_lt n bound) (are_below bound ns) h in All-cons (λ n. n < bound) n ns (below n bound v.0) (all_from bound ns v.1)
 

@@ -1,23 +1,23 @@
 -- What travels, and what is reported, is founded: on what was so before the event, or on what it reports.
 use Rattle.erl_handshake.specs.declared.message.ShakeMsg.{ShakeMsg}
 use Rattle.erl_names.specs.Draw as kind
-use Rattle.std.proofs.Common.{◌≡◌, Bool, true, false, cond, not, List, [], ◌∷◌, ◌++◌, refl, sym, ap, ◌∙◌, subst, Option, Some, None, ◌⊎◌, inl, inr, Contains}
+use Rattle.std.proofs.Common.{◌≡◌, Bool, true, false, cond, not, List, [], ◌∷◌, ◌++◌, refl, sym, ap, ◌∙◌, subst, Option, Some, None, ◌⊎◌, inl, inr, Contains, ◌&&◌}
 use Rattle.std.proofs.lemmas.List.Elements.{All-append, All-cons, All-nil, All-push, All-weaker, All-head, All-tail, Contains-append_left, Contains-push, Contains-push_cases}
 use Rattle.std.specs.List.{All}
 use Rattle.std.specs.FinMap as fm
 use Rattle.dist_model.proofs.Envelopes.{Envelope, outgoing, sent_in-push, sent_in-silent}
 use Rattle.dist_model.proofs.Entries.{each_entry, none_by, same_reference_true}
 use Rattle.dist_model.proofs.Handshaking.{Turned}
-use Rattle.dist_model.proofs.Keys.{same_pid_true}
+use Rattle.dist_model.proofs.Keys.{same_pid_true, same_trunk}
 use Rattle.dist_model.proofs.Parts.{Closed, Rules, is_plain}
-use Rattle.dist_model.proofs.Routes.{none_some, some_same}
+use Rattle.dist_model.proofs.Routes.{at_place, list_to_carried, list_to_insert, none_some, some_same}
 use Rattle.dist_model.specs.Downs.{same_reference}
 use Rattle.dist_model.proofs.Leaving.{exits_in, exits_cons}
 use Rattle.dist_model.specs.Exits.{demonitors, exit_for, finish, is_owned, is_target, monitor_exits}
 use Rattle.dist_model.specs.Handshake.{with_side, write}
 use Rattle.dist_model.specs.Items.{Handshake, Item, Signalled, Tick, receiver_of}
 use Rattle.dist_model.specs.Monitoring.{register, unregister, unwatch}
-use Rattle.dist_model.specs.Names.{Name, same_name, same_pid}
+use Rattle.dist_model.specs.Names.{Name, place_cmp, same_name, same_pid}
 use Rattle.dist_model.specs.Node.{Node, route}
 use Rattle.dist_model.specs.Sides.{TrunkSide}
 use Rattle.dist_model.specs.Work.{Work, draw, keep_local, post, post_all, post_to, put, report, send_on, set_end, set_life}
@@ -32,6 +32,8 @@ use Rattle.link_core.specs.declared.end.End.{End}
 use Rattle.monitor_core.proofs.Order.{reference_cmp_exact, reference_cmp_total}
 use Rattle.monitor_core.specs.Monitors.{MonitorMap, added}
 use Rattle.monitor_core.specs.declared.monitor.Monitor.{Monitor}
+use Rattle.dist_model.specs.World.{carried, list_to}
+use Rattle.std.specs.FinMap.{FinMap}
 
 -- by whose ends, by which calls of Monitor, and by which monitors that ended
 abbrev pub FoundedSignal : (Pid → Data → Type 0) → (Pid → Pid → Reference → Type 0) → (Reference → Type 0) → Signal → Type 0
@@ -97,6 +99,40 @@ carried_all P (s ∷ ss) o h k = carried_all P ss (post s o) (All-tail (λ z. P 
 
 pub carried_by : (P Q : Item → Type 0) (o : Work) → ((i : Item) → P i → Q i) → Carried P o → Carried Q o
 carried_by P Q o f k = record { local = All-weaker P Q f o.node.local k.local; sent = All-weaker (λ e. P e.item) (λ e. Q e.item) (λ e. f e.item) (outgoing o) k.sent }
+
+pub carried_write : (P : Item → Type 0) (t : TrunkId) (y : Name) (m : ShakeMsg) (o : Work) → P (Handshake m) → Carried P o
+    → Carried P (write t y m o)
+carried_write P t y m o h k = record {
+  local = k.local;
+  sent = subst (All (λ (e : Envelope). P e.item)) (sym (sent_in-push o.effects (Effect.Sent (Some t) y (Handshake m))))
+      (All-push (λ (e : Envelope). P e.item) (outgoing o) (record { trunk = t; target = y; item = Handshake m }) k.sent h);
+}
+
+-- and what is on its way then
+placed : (P : Item → Type 0) (t : TrunkId) (y : Name) (es : List Envelope) → All (λ v. P v.item) es → All P (at_place t y es)
+placed P t y [] j = All-nil P
+placed P t y (v ∷ es) j = All-append P (cond (same_trunk t v.trunk && same_name y v.target) (v.item ∷ []) []) (at_place t y es)
+    (go (same_trunk t v.trunk && same_name y v.target))
+    (placed P t y es (All-tail (λ (u : Envelope). P u.item) v es j))
+  where
+    go : (b : Bool) → All P (cond b (v.item ∷ []) [])
+    go true = All-cons P v.item [] (All-head (λ (u : Envelope). P u.item) v es j) (All-nil P)
+    go false = All-nil P
+
+pub carried_lists : (P : Item → Type 0) (m : FinMap place_cmp (List Item)) (o : Work)
+    → ((t : TrunkId) (y : Name) → All P (list_to m t y)) → All (λ v. P v.item) (outgoing o)
+    → (t : TrunkId) (y : Name) → All P (list_to (carried m o.effects) t y)
+carried_lists P m o l k t y = subst (λ z. All P z) (sym (list_to_carried m o.effects t y))
+    (All-append P (list_to m t y) (at_place t y (outgoing o)) (l t y) (placed P t y (outgoing o) k))
+
+pub popped_lists : (P : Item → Type 0) (m : FinMap place_cmp (List Item)) (t : TrunkId) (x : Name) (i : Item) (rest : List Item)
+    → list_to m t x ≡ i ∷ rest → ((u : TrunkId) (y : Name) → All P (list_to m u y))
+    → (u : TrunkId) (y : Name) → All P (list_to (fm.insert m (t, x) rest) u y)
+popped_lists P m t x i rest first l u y = subst (λ z. All P z) (sym (list_to_insert m t x rest u y)) (go (same_trunk u t && same_name y x))
+  where
+    go : (b : Bool) → All P (cond b rest (list_to m u y))
+    go true = All-tail P i rest (subst (λ z. All P z) first (l t x))
+    go false = l u y
 
 -- effects that only report what is sent
 pub data Quietly (fs : List (Effect Item)) : List (Effect Item) → Type 0 where
@@ -356,7 +392,7 @@ module _ (n : Node) (Old : Pid → Data → Type 0) (Ok : Pid → Pid → Data �
       let o' = write t y m o in
       let c = carried_by (FoundedIn o) (FoundedIn o') o (widen o o' (λ f h. Contains-append_left o.effects (Effect.Sent (Some t) y (Handshake m) ∷ []) f h) (λ r v h. h)) k.carried in
       record {
-        carried = record { local = c.local; sent = subst (All (λ (e : Envelope). FoundedIn o' e.item)) (sym (sent_in-push o.effects (Effect.Sent (Some t) y (Handshake m)))) (All-push (λ (e : Envelope). FoundedIn o' e.item) (outgoing o) (record { trunk = t; target = y; item = Handshake m }) c.sent tt) };
+        carried = carried_write (FoundedIn o') t y m o tt c;
         acts = λ p q x h. k.acts p q x (quietly_acts o.effects (o.effects ++ Effect.Sent (Some t) y (Handshake m) ∷ []) (Sends o.effects (Some t) y (Handshake m) Nothing) p q x h);
         watched = k.watched;
         enrolled = k.enrolled;

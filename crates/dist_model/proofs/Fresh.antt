@@ -16,7 +16,7 @@ use Rattle.dist_model.proofs.Pairs.{Met}
 use Rattle.dist_model.proofs.Reside.{Holder, held_by, side_after_other, side_after_same, with_side_at}
 use Rattle.dist_model.proofs.Routes.{Found, node_of_name, side_where_found, some_same}
 use Rattle.dist_model.proofs.Rules.{accepts, awaits_name, greet, greet_dialing, greet_up, greet_waiting}
-use Rattle.dist_model.proofs.Sides.{SidesKept, asks, beside, holds, side_at}
+use Rattle.dist_model.proofs.Sides.{SidesKept, asks, beside, holds, side_at, up_is}
 use Rattle.dist_model.proofs.Sweeping.{good_unparked}
 use Rattle.dist_model.proofs.Table.{Good, Posted, begun_state, role_state, up_once}
 use Rattle.dist_model.specs.Admission.{give_up}
@@ -26,7 +26,7 @@ use Rattle.dist_model.specs.Handshake.{challenge, end_up, fault, go_on, goes_on,
 use Rattle.dist_model.specs.Items.{Handshake, Item, kind_of}
 use Rattle.dist_model.specs.Names.{Name, same_name}
 use Rattle.dist_model.specs.Node.{Node, side_where}
-use Rattle.dist_model.specs.Sides.{Accepting, Asked, AwaitsAck, AwaitsChallenge, AwaitsStatus, Gone, Losing, Parked, State, TrunkSide, Up, is_dialing, is_gone, is_losing, is_up, is_waiting, lost}
+use Rattle.dist_model.specs.Sides.{Accepting, Asked, Gone, Losing, Parked, State, TrunkSide, Up, is_dialing, is_gone, is_losing, is_up, is_waiting, lost}
 use Rattle.dist_model.specs.Work.{Work, at_work}
 use Rattle.dist_model.specs.World.{World, node_of}
 use Rattle.erl_handshake.specs.Flags.{has_all_of, mandatory}
@@ -35,7 +35,6 @@ use Rattle.erl_handshake.specs.declared.message.ShakeMsg.{ShakeMsg}
 use Rattle.erl_handshake.specs.declared.status.Status.{Status}
 use Rattle.erl_names.specs.Order.{name_cmp}
 use Rattle.erl_names.specs.declared.trunk.TrunkId.{TrunkId}
-use Rattle.erl_term.specs.declared.refusal.Refusal.{Refusal}
 
 or_no : (p q : Bool) → p ≡ false → q ≡ false → (p || q) ≡ false
 or_no true q a b = cc
@@ -189,17 +188,6 @@ module _ (w : World) (x : Name) (n : Node) (hx : node_of w.nodes x ≡ Some n) (
     where
       nn : n.mint.name ≡ x
       nn = node_of_name w.nodes x n hx
-
-      up_is : (s : State) → is_up s ≡ true → s ≡ Up
-      up_is Up i = refl
-      up_is (AwaitsStatus u) i = cc
-      up_is (AwaitsChallenge u) i = cc
-      up_is (AwaitsAck u) i = cc
-      up_is (Asked u) i = cc
-      up_is (Parked u) i = cc
-      up_is (Accepting u) i = cc
-      up_is Losing i = cc
-      up_is Gone i = cc
 
       go : (d : Option (TrunkId × TrunkSide)) → side_where is_up v.peer (fm.entries n.sides) ≡ d → Good (placed w x (goes_on t v k (end_up d (at_work n))))
       go None i = on (at_work n) nn h (inl (none_is is_up v.peer n i)) gz

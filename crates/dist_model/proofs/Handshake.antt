@@ -143,7 +143,7 @@ rows_hold w x t v s hv hs lo =
       λ m a ha. let c : false ≡ true = ap (λ z. may_be_up z (list_to w.lists t x)) (sym lo) ∙ m in cc,
     )
 
-role_lost : (b : Bool) (v : State) → role_state b (lost v) ≡ true
+pub role_lost : (b : Bool) (v : State) → role_state b (lost v) ≡ true
 role_lost true (AwaitsStatus w) = refl
 role_lost true (AwaitsChallenge w) = refl
 role_lost true (AwaitsAck w) = refl

@@ -2,22 +2,19 @@
 use Rattle.dist_model.specs.NodeEvents.{if_up}
 use Rattle.dist_model.proofs.Stepping.{arrives, while_up}
 use Rattle.dist_model.proofs.Seeing.{list_in, local_at}
-use Rattle.std.proofs.Common.{◌≡◌, ◌⊎◌, inl, inr, ℕ, ◌+◌, Bool, true, false, cond, not, List, [], ◌∷◌, refl, sym, ap, ◌∙◌, subst, arith, ◌&&◌, Option, Some, None, Contains}
-use Rattle.std.proofs.lemmas.List.Elements.{All-contains, All-nil, All-tail, All-weaker, Contains-push_cases}
+use Rattle.std.proofs.Common.{◌≡◌, ◌⊎◌, inl, inr, ℕ, ◌+◌, true, false, cond, List, [], ◌∷◌, refl, sym, ap, ◌∙◌, subst, arith, Option, Some, None, Contains}
+use Rattle.std.proofs.lemmas.List.Elements.{All-contains, All-nil, All-weaker, Contains-push_cases}
 use Rattle.std.specs.List.{All}
-use Rattle.std.specs.Option.{is_some}
 use Rattle.std.specs.FinMap as fm
 use Rattle.std.specs.FinMap.{FinMap}
 use Rattle.dist_model.proofs.Comings.{dial_done, fresh_comes, known_comes, local_done, lose_done, start_done, stop_done, sweep_done}
 use Rattle.dist_model.proofs.Deeds.{Right, old_cause}
 use Rattle.dist_model.proofs.Events.{AllGo, Done, call_done}
 use Rattle.dist_model.proofs.Following.{linked_step}
-use Rattle.dist_model.proofs.Keys.{same_trunk}
 use Rattle.dist_model.proofs.Linked.{Linked}
-use Rattle.dist_model.proofs.Routes.{list_to_insert, none_some}
+use Rattle.dist_model.proofs.Routes.{none_some}
 use Rattle.dist_model.proofs.Run.{good_step_at}
 use Rattle.dist_model.proofs.Safety.{good_opening, new_is}
-use Rattle.dist_model.proofs.Sides.{side_at}
 use Rattle.dist_model.proofs.Table.{Good}
 use Rattle.dist_model.proofs.Told.{Begins, Course, Downs, IsFounded, IsNamed, Leaves, Revoked, Sound, Stays, sound_after}
 use Rattle.dist_model.proofs.Turning.{down}
@@ -34,10 +31,10 @@ use Rattle.dist_model.specs.Histories.{Happening, History, Throughout, told}
 use Rattle.dist_model.specs.Incarnations.{start, stop}
 use Rattle.dist_model.specs.Items.{Item, Signalled}
 use Rattle.dist_model.specs.Losses.{any_side, lose, sweep}
-use Rattle.dist_model.specs.Names.{Name, place_cmp, same_name}
+use Rattle.dist_model.specs.Names.{Name, place_cmp}
 use Rattle.dist_model.specs.Node.{Node}
 use Rattle.dist_model.specs.Runs.{Goes, Runs, opening}
-use Rattle.dist_model.specs.Sides.{TrunkSide, is_losing, is_over}
+use Rattle.dist_model.specs.Sides.{is_losing}
 use Rattle.dist_model.specs.Work.{Work, at_work}
 use Rattle.dist_model.specs.World.{Arrive, Call, Dial, Event, Local, Lose, Refused, Report, Reported, Start, Stepped, Stop, Sweep, World, came_of, list_to, node_name, node_of, refused, step, step_at}
 use Rattle.erl_control.specs.declared.signal.Signal.{Signal}
@@ -48,6 +45,7 @@ use Rattle.erl_term.specs.declared.term.Pid.{Pid}
 use Rattle.erl_term.specs.declared.term.Reference.{Reference}
 use Rattle.monitor_core.specs.Monitors.{monitor_of}
 use Rattle.monitor_core.specs.Order.{reference_cmp}
+use Rattle.dist_model.proofs.Founding.{popped_lists}
 
 -- a refused event is no call that went through
 refused_unanswered : (k : Reference) (e : Event) (j : Refusal) → is_answered k e (Refused j) ≡ false
@@ -167,18 +165,13 @@ module _ (w : World) (h : History) (gw : Good w) (g : Sound w h) where
       ends = λ k v c. told_down a o k v (d.deed.course k) c;
     }
 
-  pub popped_lists : (t : TrunkId) (x : Name) (i : Item) (rest : List Item) → list_to w.lists t x ≡ i ∷ rest → (u : TrunkId) (y : Name) → All (IsFounded w h) (list_to (fm.insert w.lists (t, x) rest) u y)
-  popped_lists t x i rest first u y = subst (λ l. All (IsFounded w h) l) (sym (list_to_insert w.lists t x rest u y)) (go (same_trunk u t && same_name y x))
-    where
-      go : (b : Bool) → All (IsFounded w h) (cond b rest (list_to w.lists u y))
-      go true = All-tail (IsFounded w h) i rest (subst (λ l. All (IsFounded w h) l) first (g.lists t x))
-      go false = g.lists u y
-
   module _ (x : Name) (n : Node) (hx : node_of w.nodes x ≡ Some n) where
     comes : (t : TrunkId) (k : ℕ) → After w h (Arrive t x k) (step_at w (Some n) (Arrive t x k))
     comes t k = arrives w x n (After w h (Arrive t x k)) (refuses (Arrive t x k)) t k
-        (λ i is first at. ends_after x n hx (Arrive t x k) n.local (fm.insert w.lists (t, x) is) (arrive_fresh (handshake_in i) t k (at_work n)) (popped_lists t x i is first) (fresh_comes w h x n hx gw g t k i is first at))
-        (λ i is v first at over. ends_after x n hx (Arrive t x k) n.local (fm.insert w.lists (t, x) is) (arrive_at (handshake_in i) t v i (at_work n)) (popped_lists t x i is first) (known_comes w h x n hx gw g t k i is first v at (handshake_in i)))
+        (λ i is first at. ends_after x n hx (Arrive t x k) n.local (fm.insert w.lists (t, x) is) (arrive_fresh (handshake_in i) t k (at_work n))
+        (popped_lists (IsFounded w h) w.lists t x i is first g.lists) (fresh_comes w h x n hx gw g t k i is first at))
+        (λ i is v first at over. ends_after x n hx (Arrive t x k) n.local (fm.insert w.lists (t, x) is) (arrive_at (handshake_in i) t v i (at_work n))
+        (popped_lists (IsFounded w h) w.lists t x i is first g.lists) (known_comes w h x n hx gw g t k i is first v at (handshake_in i)))
 
     up_after : (e : Event) (m : FinMap place_cmp (List Item)) (o : Outcome) → After w h e (came_of w x m o) → After w h e (came_of w x m (if_up n o))
     up_after e = while_up w x n (After w h e) (refuses e)

@@ -5,13 +5,13 @@ use Rattle.std.specs.FinMap as fm
 use Rattle.std.specs.FinMap.{FinMap}
 use Rattle.dist_model.proofs.Envelopes.{outgoing}
 use Rattle.dist_model.proofs.Aging.{Later, Unwatched}
-use Rattle.dist_model.proofs.Calls.{by_test}
+use Rattle.dist_model.proofs.Calls.{by_name, by_test}
 use Rattle.dist_model.proofs.Events.{AllOver, Done}
 use Rattle.dist_model.proofs.Keys.{same_name_is, same_name_true}
 use Rattle.dist_model.proofs.Routes.{at_place, list_to_carried, node_of_name, none_some, some_same}
 use Rattle.dist_model.proofs.Sides.{holds, route_up, side_at, up_holds}
 use Rattle.dist_model.proofs.Table.{Good, has, partners}
-use Rattle.dist_model.proofs.Told.{Begins, Course, Downs, Leaves, Off, Revoked, Sound, Stays, after, at_x, by_name, elsewhere, happened, monitored_one}
+use Rattle.dist_model.proofs.Told.{Begins, Course, Downs, Leaves, Off, Revoked, Sound, Stays, after, at_x, elsewhere, happened, monitored_one}
 use Rattle.dist_model.proofs.Turning.{Lands, has_first, has_last, is_call, is_end}
 use Rattle.dist_model.specs.declared.report.Answer.{Answer}
 use Rattle.dist_model.specs.Histories.{History}
@@ -278,13 +278,13 @@ module _ (w : World) (h : History) (x : Name) (n : Node) (hx : node_of w.nodes x
       where
         go : (is_over c.side.state ≡ true) ⊎ Known w c.trunk y u.target.node k → (is_over c.side.state ≡ true) ⊎ Known W c.trunk y u.target.node k
         go (inl z) = inl z
-        go (inr z) = inr (by_name w h x n hx g e a o d.deed (Known W c.trunk y u.target.node k) u.target.node (λ ex. target_known ex z) (λ dx. other_known dx z))
+        go (inr z) = inr (by_name (Known W c.trunk y u.target.node k) x u.target.node (λ ex. target_known ex z) (λ dx. other_known dx z))
 
   there : (y : Name) (v : Node) (k : Reference) (u : Monitor) → (x ≡ y → ⊥) → node_of w.nodes y ≡ Some v → fm.get v.watches k ≡ Some u → Followed W y v k u
   there y v k u dy hv i = let f = l y v k u hv i in (f.0, λ far. away_there y v k u dy hv i (f.1 far))
 
   pub linked_after : Linked (record { names = w.names; nodes = set_node w.nodes x o.node; lists = carried m o.effects })
-  linked_after y v k u hv i = by_name w h x n hx g e a o d.deed (Followed W y v k u) y
+  linked_after y v k u hv i = by_name (Followed W y v k u) x y
       (λ xy.
       let on2 : o.node ≡ v = some_same o.node v (sym (at_x w h x n hx g e a o d.deed y xy) ∙ hv) in
       subst (λ z. Followed W z v k u) xy (subst (λ z. Followed W x z k u) on2 (here k u (ap (λ (z : Node). fm.get z.watches k) on2 ∙ i))))

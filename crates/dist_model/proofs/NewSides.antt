@@ -38,11 +38,11 @@ set_twice (m ∷ ns) x a b e = go (same_name m.mint.name x) refl (set_twice ns x
     go true i h = ap (λ c. cond c (b ∷ ns) (a ∷ set_node ns x b)) (same_name_is a.mint.name x e)
     go false i h = ap (λ c. cond c (b ∷ set_node ns x a) (m ∷ set_node (set_node ns x a) x b)) i ∙ ap (λ l. m ∷ l) h
 
-list_none : (o : Option (List Item)) → (is_some o ≡ true → ⊥) → list_in o ≡ []
+pub list_none : (o : Option (List Item)) → (is_some o ≡ true → ⊥) → list_in o ≡ []
 list_none None h = refl
 list_none (Some l) h = absurd (h refl)
 
-option_none : {A : Type 0} (o : Option A) → ((a : A) → o ≡ Some a → ⊥) → o ≡ None
+pub option_none : {A : Type 0} (o : Option A) → ((a : A) → o ≡ Some a → ⊥) → o ≡ None
 option_none None h = refl
 option_none (Some a) h = absurd (h a refl)
 
@@ -128,7 +128,7 @@ none_case : (o : Option (TrunkId × TrunkSide)) → is_some o ≡ false → o �
 none_case None h = refl
 none_case (Some e) h = cc
 
-not_not : (b : Bool) → not b ≡ false → b ≡ true
+pub not_not : (b : Bool) → not b ≡ false → b ≡ true
 not_not true h = refl
 not_not false h = cc
 

@@ -2,7 +2,7 @@
 use Rattle.std.proofs.Common.{◌≡◌, true, false, List, [], ◌++◌, refl, sym, ap, ◌∙◌, subst, Some, ◌⊎◌, inl, inr, append-nil}
 use Rattle.std.specs.FinMap as fm
 use Rattle.dist_model.proofs.Envelopes.{outgoing}
-use Rattle.dist_model.proofs.Calls.{by_test}
+use Rattle.dist_model.proofs.Calls.{by_name, by_test}
 use Rattle.dist_model.proofs.Kept.{Kept, kept_swap}
 use Rattle.dist_model.proofs.Keys.{same_name_is, same_name_true}
 use Rattle.dist_model.proofs.Moves.{AllRouted, NodeKept}
@@ -70,28 +70,25 @@ module _ (w : World) (x : Name) (n : Node) (o : Work) (m' : FinMap place_cmp (Li
   at_x t = ap (λ l. fm.get l t) sd
 
   -- each node is x's, or one of before
-  by_name : (P : Type 0) (y : Name) → (x ≡ y → P) → ((x ≡ y → ⊥) → P) → P
-  by_name P y f g = by_test P (same_name x y) (λ h. f (same_name_true x y h)) (λ h. g (λ e. let c : true ≡ false = sym (same_name_is x y e) ∙ h in cc))
-
   new_nodes : (y : Name) (a : Node) → node_of (set_node w.nodes x o.node) y ≡ Some a → NodeKept a
-  new_nodes y a h = by_name (NodeKept a) y
+  new_nodes y a h = by_name (NodeKept a) x y
       (λ e. subst (λ v. NodeKept v) (some_same o.node a (sym here ∙ ap (node_of (set_node w.nodes x o.node)) e ∙ h)) ko)
       (λ d. k.nodes y a (sym (there y d) ∙ h))
 
   new_sides : (y : Name) (a : Node) → node_of (set_node w.nodes x o.node) y ≡ Some a → SidesKept a
-  new_sides y a h = by_name (SidesKept a) y
+  new_sides y a h = by_name (SidesKept a) x y
       (λ e. subst (λ v. SidesKept v) (some_same o.node a (sym here ∙ ap (node_of (set_node w.nodes x o.node)) e ∙ h)) (sides_kept n o.node sd nm (k.sides x n hx)))
       (λ d. k.sides y a (sym (there y d) ∙ h))
 
   met_still : (t : TrunkId) (y : Name) → Met w.nodes t y → Met (set_node w.nodes x o.node) t y
-  met_still t y u = by_name (Met (set_node w.nodes x o.node) t y) t.dialer
+  met_still t y u = by_name (Met (set_node w.nodes x o.node) t y) x t.dialer
       (λ e.
       let same : n ≡ u.dialer = some_same n u.dialer (sym hx ∙ ap (node_of w.nodes) e ∙ u.at) in
       record { dialer = o.node; at = ap (node_of (set_node w.nodes x o.node)) (sym e) ∙ here; side = u.side; there = at_x t ∙ ap (λ v. side_at v t) same ∙ u.there; peer = u.peer })
       (λ d. record { dialer = u.dialer; at = there t.dialer d ∙ u.at; side = u.side; there = u.there; peer = u.peer })
 
   new_met : (y : Name) (a : Node) (t : TrunkId) (s : TrunkSide) → node_of (set_node w.nodes x o.node) y ≡ Some a → side_at a t ≡ Some s → (t.dialer ≡ y → ⊥) → Met (set_node w.nodes x o.node) t y
-  new_met y a t s h f d = by_name (Met (set_node w.nodes x o.node) t y) y
+  new_met y a t s h f d = by_name (Met (set_node w.nodes x o.node) t y) x y
       (λ e.
       let same : o.node ≡ a = some_same o.node a (sym here ∙ ap (node_of (set_node w.nodes x o.node)) e ∙ h) in
       met_still t y (subst (λ z. Met w.nodes t z) e (k.met x n t s hx (sym (at_x t) ∙ ap (λ v. side_at v t) same ∙ f) (λ i. d (i ∙ e)))))
@@ -118,7 +115,7 @@ module _ (w : World) (x : Name) (n : Node) (o : Work) (m' : FinMap place_cmp (Li
       pick u (inr i) (inr j) ny = ny (j ∙ u.peer)
 
   new_trunks : TrunkPairs (set_node w.nodes x o.node) m'
-  new_trunks y z a b t s v ha hb fa fb sz vy us jv p q py qz = by_name _ y
+  new_trunks y z a b t s v ha hb fa fb sz vy us jv p q py qz = by_name _ x y
       (λ e.
       let na : o.node ≡ a = some_same o.node a (sym here ∙ ap (node_of (set_node w.nodes x o.node)) e ∙ ha) in
       let fn : side_at n t ≡ Some s = sym (at_x t) ∙ ap (λ m. side_at m t) na ∙ fa in
@@ -130,7 +127,7 @@ module _ (w : World) (x : Name) (n : Node) (o : Work) (m' : FinMap place_cmp (Li
       (mover t s fn (up_joined s.state us) b p q (py ∙ sym e) (qz ∙ sym sz)
       (subst (λ c. Kept (side_of n p q (news p q (list_to w.lists t c))) (side_of b q p (news q p (list_to w.lists t x)))) (sym sz)
       (subst (λ c. Kept (side_of n p q (news p q (list_to w.lists t z))) (side_of b q p (news q p (list_to w.lists t c)))) (sym e) old))))))
-      (λ dy. by_name _ z
+      (λ dy. by_name _ x z
       (λ e.
       let nb : o.node ≡ b = some_same o.node b (sym here ∙ ap (node_of (set_node w.nodes x o.node)) e ∙ hb) in
       let fn : side_at n t ≡ Some v = sym (at_x t) ∙ ap (λ m. side_at m t) nb ∙ fb in

@@ -2,9 +2,9 @@
 use Rattle.std.proofs.Common.{◌≡◌, ◌≤◌, Bool, true, false, cond, List, [], ◌∷◌, ◌++◌, refl, sym, ap, ◌∙◌, subst, ◌&&◌, ◌||◌, Option, Some, None, ◌⊎◌, inl, inr, append-nil}
 use Rattle.std.specs.Option.{is_some}
 use Rattle.std.specs.FinMap as fm
-use Rattle.dist_model.proofs.Calls.{by_test}
+use Rattle.dist_model.proofs.Calls.{by_name, by_test, by_trunk}
 use Rattle.dist_model.proofs.Kept.{Kept}
-use Rattle.dist_model.proofs.Keys.{and_both, same_name_is, same_name_true, same_trunk, same_trunk_is, same_trunk_true}
+use Rattle.dist_model.proofs.Keys.{and_both, same_name_true, same_trunk, same_trunk_true}
 use Rattle.dist_model.proofs.Pairs.{WorldKept, up_joined}
 use Rattle.dist_model.proofs.Reside.{Fits, side_after_other, side_after_same, with_side_at}
 use Rattle.dist_model.proofs.Routes.{list_to_insert, node_of_name, node_of_set_other, node_of_set_same, some_same}
@@ -42,7 +42,7 @@ or_both : (a b : Bool) → a ≡ false → b ≡ false → (a || b) ≡ false
 or_both true b h k = cc
 or_both false b h k = k
 
-has-push : (f : Item → Bool) (l : List Item) (i : Item) → has f l ≡ false → f i ≡ false → has f (l ++ i ∷ []) ≡ false
+pub has-push : (f : Item → Bool) (l : List Item) (i : Item) → has f l ≡ false → f i ≡ false → has f (l ++ i ∷ []) ≡ false
 has-push f [] i h k = or_both (f i) false k refl
 has-push f (x ∷ xs) i h k = let v = none_or (f x) (has f xs) h in or_both (f x) (has f (xs ++ i ∷ [])) v.0 (has-push f xs i v.1 k)
   where
@@ -156,6 +156,10 @@ nil_of : (xs ys : List LinkNews) → xs ++ ys ≡ [] → ys ≡ []
 nil_of [] ys h = h
 nil_of (x ∷ xs) ys h = cc
 
+pub some_listed : (o : Option (List Item)) (i : Item) (rest : List Item) → list_in o ≡ i ∷ rest → is_some o ≡ true
+some_listed None i rest h = cc
+some_listed (Some l) i rest h = refl
+
 module _ (w : World) (t : TrunkId) (x : Name) (i : Item) (rest : List Item) (g : Good w) (first : list_to w.lists t x ≡ i ∷ rest)
     -- it is no signal about a link, or the side takes no part any more
     (free : (n : Node) (s : TrunkSide) → node_of w.nodes x ≡ Some n → side_at n t ≡ Some s → joined s.state ≡ true → (p q : Pid) → news_in p q i ≡ []) where
@@ -199,16 +203,12 @@ module _ (w : World) (t : TrunkId) (x : Name) (i : Item) (rest : List Item) (g :
       go (inl e) = ap (news p q) e
       go (inr e) = ap (news p q) e.0 ∙ sym (ap (news p q) e.1 ∙ ap (λ l. l ++ news p q rest) (free n s (ap (node_of w.nodes) (sym e.3) ∙ hy) (ap (side_at n) (sym e.2) ∙ fs) j p q))
 
-  some_list : (o : Option (List Item)) → list_in o ≡ i ∷ rest → is_some o ≡ true
-  some_list None h = cc
-  some_list (Some l) h = refl
-
   pop_key : (u : TrunkId) (z : Name) → is_some (fm.get popped (u, z)) ≡ true → Posted w.nodes u z
   pop_key u z h = go (insert_key w.lists t x rest u z h)
     where
       go : (is_some (fm.get w.lists (u, z)) ≡ true) ⊎ ((u ≡ t) × (z ≡ x)) → Posted w.nodes u z
       go (inl k) = g.posted u z k
-      go (inr k) = g.posted u z (some_list (fm.get w.lists (u, z)) ((λ j. list_to w.lists (k.0 j) (k.1 j)) ∙ first))
+      go (inr k) = g.posted u z (some_listed (fm.get w.lists (u, z)) i rest ((λ j. list_to w.lists (k.0 j) (k.1 j)) ∙ first))
 
   pub good_popped : Good (record { names = w.names; nodes = w.nodes; lists = popped })
   good_popped = record {
@@ -245,27 +245,21 @@ module _ (w : World) (x : Name) (n : Node) (t0 : TrunkId) (s0 : TrunkSide) (hx :
   there2 : (y : Name) → (x ≡ y → ⊥) → node_of (set_node w.nodes x n2) y ≡ node_of w.nodes y
   there2 y d = node_of_set_other w.nodes x y n2 private_nx d
 
-  by_x : (P : Type 0) (y : Name) → (x ≡ y → P) → ((x ≡ y → ⊥) → P) → P
-  by_x P y a b = by_test P (same_name x y) (λ h. a (same_name_true x y h)) (λ h. b (λ e. let c : true ≡ false = sym (same_name_is x y e) ∙ h in cc))
-
-  by_t : (P : Type 0) (t : TrunkId) → (t ≡ t0 → P) → ((t ≡ t0 → ⊥) → P) → P
-  by_t P t a b = by_test P (same_trunk t t0) (λ h. a (same_trunk_true t t0 h)) (λ h. b (λ e. let c : true ≡ false = sym (same_trunk_is t t0 e) ∙ h in cc))
-
   is_n2 : (y : Name) (a : Node) → x ≡ y → node_of (set_node w.nodes x n2) y ≡ Some a → n2 ≡ a
   is_n2 y a e h = some_same n2 a (sym here2 ∙ ap (node_of (set_node w.nodes x n2)) e ∙ h)
 
   new_home2 : (y : Name) (a : Node) → node_of (set_node w.nodes x n2) y ≡ Some a → HomeKept a
-  new_home2 y a h = by_x _ y
+  new_home2 y a h = by_name _ x y
       (λ e.
       let k = g.home x n hx in
       subst (λ v. HomeKept v) (is_n2 y a e h) (record {
         local = k.local;
         pairs = k.pairs;
-        roles = λ t s fs. by_t _ t
+        roles = λ t s fs. by_trunk _ t t0
             (λ te. let se : s0 ≡ s = some_same s0 s (sym (side_after_same n t0 s0) ∙ ap (side_at n2) (sym te) ∙ fs) in
             (λ i. role_state (same_name ((te i).dialer) n.mint.name) ((sym se i).state)) ∙ role)
             (λ td. k.roles t s (sym (side_after_other n t0 s0 t td) ∙ fs));
-        counts = λ t s fs i. by_t _ t
+        counts = λ t s fs i. by_trunk _ t t0
             (λ te. subst (λ (v : TrunkId). v.count ≤ n.dialed) (sym te) (count (ap (λ (v : TrunkId). v.dialer) (sym te) ∙ i)))
             (λ td. k.counts t s (sym (side_after_other n t0 s0 t td) ∙ fs) i);
       }))
@@ -273,13 +267,13 @@ module _ (w : World) (x : Name) (n : Node) (t0 : TrunkId) (s0 : TrunkSide) (hx :
 
   -- the row of another trunk, or of two other nodes, is as it was
   new_table2 : Table (set_node w.nodes x n2) w.lists
-  new_table2 t d a s hd fs ha = by_x _ t.dialer
+  new_table2 t d a s hd fs ha = by_name _ x t.dialer
       (λ e.
       let nd : n2 ≡ d = is_n2 t.dialer d e hd in
       let fs2 : side_at n2 t ≡ Some s = ap (λ v. side_at v t) nd ∙ fs in
       let da : x ≡ s.peer → ⊥ = λ i. (core.sides x n2 here2).other t s fs2 (sym i ∙ sym private_nx) in
       let ha2 : node_of w.nodes s.peer ≡ Some a = sym (there2 s.peer da) ∙ ha in
-      by_t _ t
+      by_trunk _ t t0
       (λ te.
       let se : s0 ≡ s = some_same s0 s (sym (side_after_same n t0 s0) ∙ ap (side_at n2) (sym te) ∙ fs2) in
       subst (λ (v : TrunkId). Row s.state (side_at a v) (list_to w.lists v v.dialer) (list_to w.lists v s.peer)) (sym te)
@@ -288,10 +282,10 @@ module _ (w : World) (x : Name) (n : Node) (t0 : TrunkId) (s0 : TrunkSide) (hx :
       (λ td. g.table t n a s (ap (node_of w.nodes) (sym e) ∙ hx) (sym (side_after_other n t0 s0 t td) ∙ fs2) ha2))
       (λ dd.
       let hd2 : node_of w.nodes t.dialer ≡ Some d = sym (there2 t.dialer dd) ∙ hd in
-      by_x _ s.peer
+      by_name _ x s.peer
       (λ e.
       let na : n2 ≡ a = is_n2 s.peer a e ha in
-      by_t _ t
+      by_trunk _ t t0
       (λ te.
       subst (λ v. Row s.state (side_at v t) (list_to w.lists t t.dialer) (list_to w.lists t s.peer)) na
       (subst (λ (v : TrunkId). Row s.state (side_at n2 v) (list_to w.lists v v.dialer) (list_to w.lists v s.peer)) (sym te)
@@ -307,12 +301,12 @@ module _ (w : World) (x : Name) (n : Node) (t0 : TrunkId) (s0 : TrunkSide) (hx :
   new_posted2 t z h = go (g.posted t z h)
     where
       go : Posted w.nodes t z → Posted (set_node w.nodes x n2) t z
-      go k = by_x _ t.dialer
+      go k = by_name _ x t.dialer
           (λ e.
           let same : k.1 ≡ n = some_same k.1 n (sym k.2 ∙ ap (node_of w.nodes) (sym e) ∙ hx) in
           let old : side_at n t ≡ Some k.0 = ap (λ v. side_at v t) (sym same) ∙ k.3 in
           let at : node_of (set_node w.nodes x n2) t.dialer ≡ Some n2 = ap (node_of (set_node w.nodes x n2)) (sym e) ∙ here2 in
-          by_t (Posted (set_node w.nodes x n2) t z) t
+          by_trunk (Posted (set_node w.nodes x n2) t z) t t0
           (λ te. (s0, n2, at, ap (side_at n2) te ∙ side_after_same n t0 s0, peer_kept k.0 (f.peer_stays k.0 (ap (side_at n) (sym te) ∙ old)) k.4))
           (λ td. (k.0, n2, at, side_after_other n t0 s0 t td ∙ old, k.4)))
           (λ d. (k.0, k.1, there2 t.dialer d ∙ k.2, k.3, k.4))
@@ -322,11 +316,11 @@ module _ (w : World) (x : Name) (n : Node) (t0 : TrunkId) (s0 : TrunkSide) (hx :
           peer_kept v e (inr h) = inr (sym e ∙ h)
 
   each2 : (a z : Name) (t : TrunkId) (b : Node) → node_of (set_node w.nodes x n2) z ≡ Some b → Likely (set_node w.nodes x n2) w.lists a t z → Likely w.nodes w.lists a t z
-  each2 a z t b hb l = by_x _ a
+  each2 a z t b hb l = by_name _ x a
       (λ e.
       let nd : n2 ≡ l.node = is_n2 a l.node e l.at in
       let hs : side_at n2 t ≡ Some l.side = ap (λ v. side_at v t) nd ∙ l.there in
-      by_t _ t
+      by_trunk _ t t0
       (λ te.
       let se : s0 ≡ l.side = some_same s0 l.side (sym (side_after_same n t0 s0) ∙ ap (side_at n2) (sym te) ∙ hs) in
       let zp : s0.peer ≡ z = ap (λ (v : TrunkSide). v.peer) se ∙ l.peer in

@@ -2,9 +2,9 @@
 use Rattle.std.proofs.Common.{◌≡◌, ℕ, Bool, true, false, cond, [], refl, sym, ap, ◌∙◌, subst, arith, ◌&&◌, ◌||◌, Option, Some, None, ◌⊎◌, inl, inr}
 use Rattle.std.specs.Option.{is_some}
 use Rattle.std.specs.FinMap as fm
-use Rattle.dist_model.proofs.Calls.{by_test}
+use Rattle.dist_model.proofs.Calls.{by_name, by_test, by_trunk}
 use Rattle.dist_model.proofs.Kept.{Half, Kept, kept_swap}
-use Rattle.dist_model.proofs.Keys.{same_name_is, same_name_true, same_trunk, same_trunk_is, same_trunk_refl, same_trunk_true, trunk_total}
+use Rattle.dist_model.proofs.Keys.{same_name_true, same_trunk, same_trunk_is, same_trunk_refl, same_trunk_true, trunk_total}
 use Rattle.dist_model.proofs.Moves.{NodeKept, held}
 use Rattle.dist_model.proofs.Pair.{Side}
 use Rattle.dist_model.proofs.Pairs.{Met, TrunkPairs, WorldKept, up_joined}
@@ -67,33 +67,30 @@ beside_turned a b h = go (holds a) (asks b) (asks a) (holds b) h
 pub sides_after : (n : Node) (t0 : TrunkId) (s : TrunkSide) → SidesKept n → Fits n t0 s → SidesKept (with_side_at n t0 s)
 sides_after n t0 s k f = record { one = one; other = other; mine = mine }
   where
-    by_trunk : (P : Type 0) (t : TrunkId) → (t ≡ t0 → P) → ((t ≡ t0 → ⊥) → P) → P
-    by_trunk P t a b = by_test P (same_trunk t t0) (λ h. a (same_trunk_true t t0 h)) (λ h. b (λ e. let c : true ≡ false = sym (same_trunk_is t t0 e) ∙ h in cc))
-
     at_same : (t : TrunkId) (v : TrunkSide) → t ≡ t0 → side_at (with_side_at n t0 s) t ≡ Some v → s ≡ v
     at_same t v e h = some_same s v (sym (side_after_same n t0 s) ∙ ap (side_at (with_side_at n t0 s)) (sym e) ∙ h)
 
     one : (t u : TrunkId) (a b : TrunkSide) → side_at (with_side_at n t0 s) t ≡ Some a → side_at (with_side_at n t0 s) u ≡ Some b → a.peer ≡ b.peer → is_gone a.state ≡ false → is_gone b.state ≡ false → (t ≡ u) ⊎ (beside a.state b.state ≡ true)
-    one t u a b ha hb e ga gb = by_trunk _ t
-        (λ te. by_trunk _ u (λ ue. inl (te ∙ sym ue))
+    one t u a b ha hb e ga gb = by_trunk _ t t0
+        (λ te. by_trunk _ u t0 (λ ue. inl (te ∙ sym ue))
         (λ ud.
         let sa : s ≡ a = at_same t a te ha in
         inr (subst (λ (z : TrunkSide). beside z.state b.state ≡ true) sa (f.room u b (sym (side_after_other n t0 s u ud) ∙ hb) (sym e ∙ ap (λ (z : TrunkSide). z.peer) (sym sa)) ud (ap (λ (z : TrunkSide). is_gone z.state) sa ∙ ga) gb))))
-        (λ td. by_trunk _ u
+        (λ td. by_trunk _ u t0
         (λ ue.
         let sb : s ≡ b = at_same u b ue hb in
         inr (beside_turned b.state a.state (subst (λ (z : TrunkSide). beside z.state a.state ≡ true) sb (f.room t a (sym (side_after_other n t0 s t td) ∙ ha) (e ∙ ap (λ (z : TrunkSide). z.peer) (sym sb)) td (ap (λ (z : TrunkSide). is_gone z.state) sb ∙ gb) ga))))
         (λ ud. k.one t u a b (sym (side_after_other n t0 s t td) ∙ ha) (sym (side_after_other n t0 s u ud) ∙ hb) e ga gb))
 
     other : (t : TrunkId) (a : TrunkSide) → side_at (with_side_at n t0 s) t ≡ Some a → a.peer ≡ n.mint.name → ⊥
-    other t a ha e = by_trunk _ t (λ te. f.stranger (ap (λ (z : TrunkSide). z.peer) (at_same t a te ha) ∙ e)) (λ td. k.other t a (sym (side_after_other n t0 s t td) ∙ ha) e)
+    other t a ha e = by_trunk _ t t0 (λ te. f.stranger (ap (λ (z : TrunkSide). z.peer) (at_same t a te ha) ∙ e)) (λ td. k.other t a (sym (side_after_other n t0 s t td) ∙ ha) e)
 
     role_of : (a : TrunkSide) → s ≡ a → (t0.dialer ≡ n.mint.name) ⊎ (t0.dialer ≡ s.peer) → (t0.dialer ≡ n.mint.name) ⊎ (t0.dialer ≡ a.peer)
     role_of a e (inl h) = inl h
     role_of a e (inr h) = inr (h ∙ ap (λ (z : TrunkSide). z.peer) e)
 
     mine : (t : TrunkId) (a : TrunkSide) → side_at (with_side_at n t0 s) t ≡ Some a → (t.dialer ≡ n.mint.name) ⊎ (t.dialer ≡ a.peer)
-    mine t a ha = by_trunk _ t
+    mine t a ha = by_trunk _ t t0
         (λ te. subst (λ (z : TrunkId). (z.dialer ≡ n.mint.name) ⊎ (z.dialer ≡ a.peer)) (sym te) (role_of a (at_same t a te ha) f.role))
         (λ td. k.mine t a (sym (side_after_other n t0 s t td) ∙ ha))
 
@@ -177,22 +174,16 @@ module _ (w : World) (x : Name) (n : Node) (t0 : TrunkId) (s0 : TrunkSide) (hx :
   unfolding n1
   there y d = node_of_set_other w.nodes x y (with_side_at n t0 s0) nx d
 
-  by_name : (P : Type 0) (y : Name) → (x ≡ y → P) → ((x ≡ y → ⊥) → P) → P
-  by_name P y g h = by_test P (same_name x y) (λ e. g (same_name_true x y e)) (λ e. h (λ i. let c : true ≡ false = sym (same_name_is x y i) ∙ e in cc))
-
-  by_trunk : (P : Type 0) (t : TrunkId) → (t ≡ t0 → P) → ((t ≡ t0 → ⊥) → P) → P
-  by_trunk P t a b = by_test P (same_trunk t t0) (λ h. a (same_trunk_true t t0 h)) (λ h. b (λ e. let c : true ≡ false = sym (same_trunk_is t t0 e) ∙ h in cc))
-
   own : (y : Name) (a : Node) → x ≡ y → node_of (set_node w.nodes x n1) y ≡ Some a → n1 ≡ a
   own y a e h = some_same n1 a (sym here ∙ ap (node_of (set_node w.nodes x n1)) e ∙ h)
 
   new_nodes : (y : Name) (a : Node) → node_of (set_node w.nodes x n1) y ≡ Some a → NodeKept a
   unfolding n1
-  new_nodes y a h = by_name (NodeKept a) y (λ e. subst (λ v. NodeKept v) (own y a e h) (nodes_after n t0 s0 (k.nodes x n hx) f)) (λ d. k.nodes y a (sym (there y d) ∙ h))
+  new_nodes y a h = by_name (NodeKept a) x y (λ e. subst (λ v. NodeKept v) (own y a e h) (nodes_after n t0 s0 (k.nodes x n hx) f)) (λ d. k.nodes y a (sym (there y d) ∙ h))
 
   new_sides : (y : Name) (a : Node) → node_of (set_node w.nodes x n1) y ≡ Some a → SidesKept a
   unfolding n1
-  new_sides y a h = by_name (SidesKept a) y (λ e. subst (λ v. SidesKept v) (own y a e h) (sides_after n t0 s0 (k.sides x n hx) f)) (λ d. k.sides y a (sym (there y d) ∙ h))
+  new_sides y a h = by_name (SidesKept a) x y (λ e. subst (λ v. SidesKept v) (own y a e h) (sides_after n t0 s0 (k.sides x n hx) f)) (λ d. k.sides y a (sym (there y d) ∙ h))
 
   at_same : side_at n1 t0 ≡ Some s0
   unfolding n1
@@ -203,19 +194,19 @@ module _ (w : World) (x : Name) (n : Node) (t0 : TrunkId) (s0 : TrunkSide) (hx :
   at_other t d = side_after_other n t0 s0 t d
 
   met_still : (t : TrunkId) (y : Name) → Met w.nodes t y → Met (set_node w.nodes x n1) t y
-  met_still t y u = by_name (Met (set_node w.nodes x n1) t y) t.dialer
+  met_still t y u = by_name (Met (set_node w.nodes x n1) t y) x t.dialer
       (λ e.
       let same : n ≡ u.dialer = some_same n u.dialer (sym hx ∙ ap (node_of w.nodes) e ∙ u.at) in
       let old : side_at n t ≡ Some u.side = ap (λ v. side_at v t) same ∙ u.there in
       let at : node_of (set_node w.nodes x n1) t.dialer ≡ Some n1 = ap (node_of (set_node w.nodes x n1)) (sym e) ∙ here in
-      by_trunk (Met (set_node w.nodes x n1) t y) t
+      by_trunk (Met (set_node w.nodes x n1) t y) t t0
       (λ te. record { dialer = n1; at = at; side = s0; there = ap (side_at n1) te ∙ at_same; peer = sym (f.peer_stays u.side (ap (side_at n) (sym te) ∙ old)) ∙ u.peer })
       (λ td. record { dialer = n1; at = at; side = u.side; there = at_other t td ∙ old; peer = u.peer }))
       (λ d. record { dialer = u.dialer; at = there t.dialer d ∙ u.at; side = u.side; there = u.there; peer = u.peer })
 
   new_met : (y : Name) (a : Node) (t : TrunkId) (s : TrunkSide) → node_of (set_node w.nodes x n1) y ≡ Some a → side_at a t ≡ Some s → (t.dialer ≡ y → ⊥) → Met (set_node w.nodes x n1) t y
-  new_met y a t s h g d = by_name (Met (set_node w.nodes x n1) t y) y
-      (λ e. by_trunk (Met (set_node w.nodes x n1) t y) t
+  new_met y a t s h g d = by_name (Met (set_node w.nodes x n1) t y) x y
+      (λ e. by_trunk (Met (set_node w.nodes x n1) t y) t t0
       (λ te. met_still t y (subst (λ z. Met w.nodes t z) e (subst (λ z. Met w.nodes z x) (sym te) (met0 (λ i. d (ap (λ (z : TrunkId). z.dialer) te ∙ i ∙ e))))))
       (λ td. met_still t y (subst (λ z. Met w.nodes t z) e (k.met x n t s hx (sym (at_other t td) ∙ ap (λ v. side_at v t) (own y a e h) ∙ g) (λ i. d (i ∙ e))))))
       (λ e. met_still t y (k.met y a t s (sym (there y e) ∙ h) g d))
@@ -224,7 +215,7 @@ module _ (w : World) (x : Name) (n : Node) (t0 : TrunkId) (s0 : TrunkSide) (hx :
   new_at_x : (z : Name) (b : Node) (t : TrunkId) (s v : TrunkSide) → node_of w.nodes z ≡ Some b → side_at n1 t ≡ Some s → side_at b t ≡ Some v → s.peer ≡ z → v.peer ≡ x
       → ((is_up s.state ≡ true) × (joined v.state ≡ true)) ⊎ ((joined s.state ≡ true) × (is_up v.state ≡ true)) → (p q : Pid) → p.node ≡ x → q.node ≡ z
       → Kept (side_of n p q (news p q (list_to w.lists t z))) (side_of b q p (news q p (list_to w.lists t x)))
-  new_at_x z b t s v hb fs fv sz vx j p q pn qn = by_trunk _ t
+  new_at_x z b t s v hb fs fv sz vx j p q pn qn = by_trunk _ t t0
       (λ te.
       let se : s0 ≡ s = some_same s0 s (sym at_same ∙ ap (side_at n1) (sym te) ∙ fs) in
       subst (λ u. Kept (side_of n p q (news p q (list_to w.lists u z))) (side_of b q p (news q p (list_to w.lists u x)))) (sym te)
@@ -243,7 +234,7 @@ module _ (w : World) (x : Name) (n : Node) (t0 : TrunkId) (s0 : TrunkSide) (hx :
 
   new_trunks : TrunkPairs (set_node w.nodes x n1) w.lists
   unfolding n1
-  new_trunks y z a b t s v ha hb fa fb sz vy us jv p q py qz = by_name _ y
+  new_trunks y z a b t s v ha hb fa fb sz vy us jv p q py qz = by_name _ x y
       (λ e.
       let na : n1 ≡ a = own y a e ha in
       let fs : side_at n1 t ≡ Some s = ap (λ m. side_at m t) na ∙ fa in
@@ -251,7 +242,7 @@ module _ (w : World) (x : Name) (n : Node) (t0 : TrunkId) (s0 : TrunkSide) (hx :
       subst (λ m. Kept (side_of m p q (news p q (list_to w.lists t z))) (side_of b q p (news q p (list_to w.lists t y)))) na
       (subst (λ c. Kept (side_of n p q (news p q (list_to w.lists t z))) (side_of b q p (news q p (list_to w.lists t c)))) e
       (new_at_x z b t s v (sym (there z dz) ∙ hb) fs fb sz (vy ∙ sym e) (inl (us, jv)) p q (py ∙ sym e) qz)))
-      (λ dy. by_name _ z
+      (λ dy. by_name _ x z
       (λ e.
       let nb : n1 ≡ b = own z b e hb in
       let fs : side_at n1 t ≡ Some v = ap (λ m. side_at m t) nb ∙ fb in

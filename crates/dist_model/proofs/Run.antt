@@ -1,9 +1,9 @@
 -- Every step keeps the world good.
-use Rattle.std.proofs.Common.{◌++◌, unwrap_or}
+use Rattle.std.proofs.Common.{◌++◌}
 use Rattle.std.proofs.Common.{inr}
 use Rattle.std.proofs.Common.{subst}
 use Rattle.std.proofs.Common.{inl}
-use Rattle.std.proofs.Common.{◌≡◌, ℕ, ◌+◌, Bool, true, false, cond, not, List, [], ◌∷◌, refl, sym, ap, ◌∙◌, ◌&&◌, Option, Some, None, nat_lt, ◌^◌}
+use Rattle.std.proofs.Common.{◌≡◌, ℕ, ◌+◌, Bool, true, false, cond, List, [], ◌∷◌, refl, sym, ap, ◌∙◌, ◌&&◌, Option, Some, None, nat_lt, ◌^◌}
 use Rattle.std.specs.Option.{is_some}
 use Rattle.std.specs.FinMap as fm
 use Rattle.conn_core.specs.declared.arrival.Fault.{Fault}
@@ -14,27 +14,25 @@ use Rattle.dist_model.proofs.Arrivals.{acceptance_comes, broken, challenge_comes
 use Rattle.dist_model.proofs.Calls.{IfGoes, by_test}
 use Rattle.dist_model.proofs.Closing.{good_started, good_stopped, good_sweep}
 use Rattle.dist_model.proofs.Fresh.{asked_on, fresh_fault, fresh_hello}
-use Rattle.dist_model.proofs.Keys.{and_both, place_total, same_name_refl, same_place, same_trunk_refl, same_name_true}
+use Rattle.dist_model.proofs.Keys.{place_total, same_name_refl, same_place, same_trunk_refl, same_name_true}
 use Rattle.dist_model.proofs.NewSides.{good_dial}
-use Rattle.dist_model.proofs.Primitives.{good_popped}
+use Rattle.dist_model.proofs.Primitives.{good_popped, some_listed}
 use Rattle.dist_model.proofs.Routes.{node_of_name, none_some, some_same}
 use Rattle.dist_model.proofs.Rules.{awaits_ack, awaits_challenge, awaits_true, handshake_as, handshake_by, name_as}
 use Rattle.dist_model.proofs.Sides.{side_at}
 use Rattle.dist_model.proofs.Signals.{good_local}
 use Rattle.dist_model.proofs.Table.{Good, good_call}
-use Rattle.dist_model.specs.Arrivals.{arrive, arrive_at, arrive_fresh, handshake_in, signal_at, take_local}
-use Rattle.dist_model.specs.Calls.{call}
+use Rattle.dist_model.specs.Arrivals.{arrive_at, arrive_fresh, handshake_in, signal_at, take_local}
 use Rattle.dist_model.specs.Commands.{Accepts, Outcome, Refuses}
 use Rattle.dist_model.specs.declared.report.Answer.{Answer}
-use Rattle.dist_model.specs.Dialing.{dial}
 use Rattle.dist_model.specs.Handshake.{fault, handshake_at}
-use Rattle.dist_model.specs.Incarnations.{start, started, stop}
+use Rattle.dist_model.specs.Incarnations.{start, started}
 use Rattle.dist_model.specs.Items.{Handshake, Item, Signalled, Tick}
-use Rattle.dist_model.specs.Losses.{lose, sweep}
+use Rattle.dist_model.specs.Losses.{lose}
 use Rattle.dist_model.specs.Names.{Name, place_cmp, same_name}
 use Rattle.dist_model.specs.Node.{Node}
 use Rattle.dist_model.specs.Runs.{Always, Goes, Runs, opening, run}
-use Rattle.dist_model.specs.Sides.{Accepting, Asked, AwaitsAck, AwaitsChallenge, AwaitsStatus, Gone, Losing, Parked, State, TrunkSide, Up, is_up, is_over}
+use Rattle.dist_model.specs.Sides.{Accepting, Asked, AwaitsAck, AwaitsChallenge, AwaitsStatus, Gone, Losing, Parked, State, TrunkSide, Up, is_up}
 use Rattle.dist_model.specs.Work.{at_work}
 use Rattle.dist_model.specs.World.{Arrive, Call, Dial, Event, Local, Lose, Refused, Report, Start, Stepped, Stop, Sweep, World, carried, came_of, left, list_to, met, node_name, node_of, set_node, step, step_at}
 use Rattle.erl_handshake.specs.Digest.{digest_of}
@@ -49,7 +47,7 @@ use Rattle.std.specs.FinMap.{FinMap}
 popped_world : World → TrunkId → Name → List Item → World
 popped_world w t x rest = record { names = w.names; nodes = w.nodes; lists = fm.insert w.lists (t, x) rest }
 
-handshake_is : (i : Item) (m : ShakeMsg) → handshake_in i ≡ Some m → i ≡ Handshake m
+pub handshake_is : (i : Item) (m : ShakeMsg) → handshake_in i ≡ Some m → i ≡ Handshake m
 handshake_is (Handshake l) m h = ap Handshake (some_same l m h)
 handshake_is (Signalled s) m h = absurd (none_some m h)
 handshake_is Tick m h = absurd (none_some m h)
@@ -173,17 +171,10 @@ first_fresh w x n t k i rest hx none g far e =
     (ap is_some (fm.get-insert place_total w.lists (t, x) rest (t, x)) ∙ ap (λ b. is_some (cond b (Some rest) (fm.get w.lists (t, x)))) (same_place t t x x ∙ ap (λ b. b && same_name x x) (same_trunk_refl t) ∙ same_name_refl x))
     none (handshake_in i) k)
 
-some_listed : (m : FinMap place_cmp (List Item)) (t : TrunkId) (x : Name) (i : Item) (rest : List Item) → list_to m t x ≡ i ∷ rest → is_some (fm.get m (t, x)) ≡ true
-some_listed m t x i rest h = go (fm.get m (t, x)) h
-  where
-    go : (o : Option (List Item)) → unwrap_or o [] ≡ i ∷ rest → is_some o ≡ true
-    go None h = cc
-    go (Some l) h = refl
-
 not_own : (w : World) (x : Name) (n : Node) (t : TrunkId) (i : Item) (rest : List Item) → node_of w.nodes x ≡ Some n → side_at n t ≡ None → Good w → list_to w.lists t x ≡ i ∷ rest → same_name t.dialer x ≡ false
 not_own w x n t i rest hx none g e = by_test _ (same_name t.dialer x)
     (λ c.
-    let p = g.posted t x (some_listed w.lists t x i rest e) in
+    let p = g.posted t x (some_listed (fm.get w.lists (t, x)) i rest e) in
     let same : p.1 ≡ n = some_same p.1 n (sym p.2 ∙ ap (node_of w.nodes) (same_name_true t.dialer x c) ∙ hx) in
     absurd (none_some p.0 (sym none ∙ ap (λ m. side_at m t) (sym same) ∙ p.3)))
     (λ c. c)
@@ -227,19 +218,23 @@ pub good_run : (es : List Event) (w : World) → Good w → Good (run es w)
 good_run [] w g = g
 good_run (e ∷ es) w g = good_run es ((step w e).world) (good_step_at w (node_of w.nodes (node_name e)) e refl g)
 
--- whatever memory does
-comes : (w : World) (e : Event) (r : Report) (v : World) → Good w → Goes w e r v → Good v
-comes w e r v g (inl h) = subst Good (sym h.1) (good_step_at w (node_of w.nodes (node_name e)) e refl g)
-comes w e r v g (inr h) = subst Good (sym h.1) g
+-- what each step keeps holds throughout a run, whatever memory does
+module _ (P : World → Type 0) (steps : (w : World) (e : Event) → P w → P ((step w e).world)) where
+  comes : (w : World) (e : Event) (r : Report) (v : World) → P w → Goes w e r v → P v
+  comes w e r v g (inl h) = subst P (sym h.1) (steps w e g)
+  comes w e r v g (inr h) = subst P (sym h.1) g
 
-good_runs : (w : World) (es : List Event) (rs : List Report) (v : World) → Good w → Runs w es rs v → Good v
-good_runs w [] [] v g h = subst Good (sym h) g
-good_runs w [] (r ∷ rs) v g h = absurd h
-good_runs w (e ∷ es) [] v g h = absurd h
-good_runs w (e ∷ es) (r ∷ rs) v g h = good_runs h.0 es rs v (comes w e r h.0 g h.1) h.2
+  runs : (w : World) (es : List Event) (rs : List Report) (v : World) → P w → Runs w es rs v → P v
+  runs w [] [] v g h = subst P (sym h) g
+  runs w [] (r ∷ rs) v g h = absurd h
+  runs w (e ∷ es) [] v g h = absurd h
+  runs w (e ∷ es) (r ∷ rs) v g h = runs h.0 es rs v (comes w e r h.0 g h.1) h.2
+
+  pub always_kept : (Holds : World → Type 0) → ((cs : List (Name × List ℕ)) → P (opening cs)) → ((w : World) → P w → Holds w) → Always Holds
+  always_kept Holds opens f cs es rs w h = f w (runs (opening cs) es rs w (opens cs) h)
 
 pub always : (Holds : World → Type 0) → ((cs : List (Name × List ℕ)) → Good (opening cs)) → ((w : World) → Good w → Holds w) → Always Holds
-always Holds opens f cs es rs w h = f w (good_runs (opening cs) es rs w (opens cs) h)
+always = always_kept Good (λ w e g. good_step_at w (node_of w.nodes (node_name e)) e refl g)
 
 pub events_run : (es : List Event) (w : World) → (rs : List Report) × Runs w es rs (run es w)
 events_run [] w = ([], refl)

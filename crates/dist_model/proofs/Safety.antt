@@ -269,7 +269,7 @@ module _ (cs : List (Name × List ℕ)) where
   no_side : (y : Name) (c : List ℕ) (t : TrunkId) → side_at (new_node y c) t ≡ None
   no_side y c t = fm.get-empty trunk_cmp t
 
-  none_at : (x : Name) (n : Node) (t : TrunkId) (s : TrunkSide) → node_of (new_nodes cs) x ≡ Some n → side_at n t ≡ Some s → ⊥
+  pub none_at : (x : Name) (n : Node) (t : TrunkId) (s : TrunkSide) → node_of (new_nodes cs) x ≡ Some n → side_at n t ≡ Some s → ⊥
   none_at x n t s h f =
       let k = new_is cs x n h in
       let e : false ≡ true = sym (ap is_some (no_side k.0 k.1 t)) ∙ ap is_some (ap (λ v. side_at v t) (sym k.2) ∙ f) in cc

@@ -70,6 +70,17 @@ up_not_gone (Accepting w) h = cc
 up_not_gone Losing h = cc
 up_not_gone Gone h = cc
 
+pub up_is : (v : State) → is_up v ≡ true → v ≡ Up
+up_is Up h = refl
+up_is (AwaitsStatus w) h = cc
+up_is (AwaitsChallenge w) h = cc
+up_is (AwaitsAck w) h = cc
+up_is (Asked w) h = cc
+up_is (Parked w) h = cc
+up_is (Accepting w) h = cc
+up_is Losing h = cc
+up_is Gone h = cc
+
 pub up_holds : (v : State) → is_up v ≡ true → (holds v ≡ true) × (asks v ≡ false)
 up_holds Up h = (refl, refl)
 up_holds (AwaitsStatus w) h = cc

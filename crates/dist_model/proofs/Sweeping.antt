@@ -17,7 +17,7 @@ use Rattle.dist_model.proofs.Routes.{node_of_name, some_same}
 use Rattle.dist_model.proofs.Seeing.{end_in}
 use Rattle.dist_model.proofs.Sides.{Routed, SidesKept, asks, beside, holds, not_own, route_from, side_at, up_holds, up_not_gone}
 use Rattle.dist_model.proofs.Steps.{not_beside}
-use Rattle.dist_model.proofs.Table.{Good, Row, begun, begun_state, has, is_reply, role_state, up_once}
+use Rattle.dist_model.proofs.Table.{begun, begun_state, Good, has, is_reply, role_gone, role_state, Row, up_once}
 use Rattle.dist_model.specs.Exits.{link_exit}
 use Rattle.dist_model.specs.Links.{noconnection}
 use Rattle.dist_model.proofs.Records.{has_records, no_records, sweep_link, sweep_registered, sweep_watch}
@@ -142,10 +142,6 @@ good_closed w x n t v hx h clean g =
     let none : link_to v.peer (fm.entries n.ends) ≡ None = (no_records v.peer n clean).0 in
     let f = fits_gone n t v (as_state v Gone) (g.core.sides x n hx) h refl refl (λ i p q e. ap end_in (fm.get-entries n.ends (p, q) ∙ link_none v.peer (fm.entries n.ends) none p q e)) in
     good_state w x n t v (as_state v Gone) hx h refl f g (Rattle.dist_model.proofs.Reside.drops w x n t v (as_state v Gone) hx h refl refl f g.core) (role_gone (same_name t.dialer n.mint.name)) (rows_gone w x t v (as_state v Gone) refl)
-  where
-    role_gone : (b : Bool) → role_state b Gone ≡ true
-    role_gone true = refl
-    role_gone false = refl
 
 -- a side that waited goes on, where nobody holds the peer's records any more
 pub good_unparked : (w : World) (x : Name) (n : Node) (t : TrunkId) (v : TrunkSide) (k : ℕ) → node_of w.nodes x ≡ Some n → side_at n t ≡ Some v → asks v.state ≡ true → held n v.peer ≡ false → Good w → Good (in_state w x n t (as_state v (Accepting k)))

@@ -4,7 +4,7 @@ use Rattle.std.specs.Option.{is_some}
 use Rattle.std.specs.FinMap as fm
 use Rattle.dist_model.specs.declared.report.Effect.{Effect}
 use Rattle.dist_model.proofs.Envelopes.{outgoing, sent_in}
-use Rattle.dist_model.proofs.Calls.{IfGoes, by_test, calls}
+use Rattle.dist_model.proofs.Calls.{IfGoes, by_name, by_test, calls}
 use Rattle.dist_model.proofs.Home.{HomePairs, home_moves}
 use Rattle.dist_model.proofs.Keys.{and_both, place_total, same_name_is, same_name_true, same_place, same_trunk, same_trunk_true}
 use Rattle.dist_model.proofs.Moves.{AllRouted, Moves, home_of}
@@ -126,6 +126,10 @@ role_state false (Accepting w) = true
 role_state false Up = true
 role_state false Losing = true
 role_state false Gone = true
+
+pub role_gone : (b : Bool) → role_state b Gone ≡ true
+role_gone true = refl
+role_gone false = refl
 
 pub record HomeKept (n : Node) : Type 0 where
   pub local : home_of n
@@ -336,9 +340,6 @@ module _ (w : World) (x : Name) (n : Node) (o : Node) (m' : FinMap place_cmp (Li
     (local : home_of o) (pairs : HomePairs o)
     (lists_same : (t : TrunkId) → ((s : TrunkSide) → side_at n t ≡ Some s → is_up s.state ≡ false) → (z : Name) → list_to m' t z ≡ list_to w.lists t z)
     (keys : (t : TrunkId) (z : Name) → is_some (fm.get m' (t, z)) ≡ true → (is_some (fm.get w.lists (t, z)) ≡ true) ⊎ Routed n z t) where
-  by_x : (P : Type 0) (y : Name) → (x ≡ y → P) → ((x ≡ y → ⊥) → P) → P
-  by_x P y a b = by_test P (same_name x y) (λ h. a (same_name_true x y h)) (λ h. b (λ e. let c : true ≡ false = sym (same_name_is x y e) ∙ h in cc))
-
   nx : n.mint.name ≡ x
   nx = node_of_name w.nodes x n hx
 
@@ -349,7 +350,7 @@ module _ (w : World) (x : Name) (n : Node) (o : Node) (m' : FinMap place_cmp (Li
   there y d = node_of_set_other w.nodes x y o (nm ∙ nx) d
 
   was : (y : Name) (a : Node) → node_of (set_node w.nodes x o) y ≡ Some a → Was w.nodes y a
-  was y a h = by_x _ y
+  was y a h = by_name _ x y
       (λ e.
       let same : o ≡ a = some_same o a (sym here ∙ ap (node_of (set_node w.nodes x o)) e ∙ h) in
       record { old = n; at = ap (node_of w.nodes) (sym e) ∙ hx; sides = λ t. ap (λ v. side_at v t) (sym same) ∙ ap (λ l. fm.get l t) sd })
@@ -358,7 +359,7 @@ module _ (w : World) (x : Name) (n : Node) (o : Node) (m' : FinMap place_cmp (Li
   -- x isn't up on a trunk of which neither side holds
   not_up : (t : TrunkId) (d a : Node) (s : TrunkSide) → node_of w.nodes t.dialer ≡ Some d → side_at d t ≡ Some s → node_of w.nodes s.peer ≡ Some a → holds s.state ≡ false → holds_side (side_at a t) ≡ false
       → (v : TrunkSide) → side_at n t ≡ Some v → is_up v.state ≡ false
-  not_up t d a s hd fs ha ns na v fv = by_x _ t.dialer
+  not_up t d a s hd fs ha ns na v fv = by_name _ x t.dialer
       (λ e.
       let same : d ≡ n = some_same d n (sym hd ∙ ap (node_of w.nodes) (sym e) ∙ hx) in
       let sv : s ≡ v = some_same s v (sym fs ∙ ap (λ z. side_at z t) same ∙ fv) in
@@ -398,7 +399,7 @@ module _ (w : World) (x : Name) (n : Node) (o : Node) (m' : FinMap place_cmp (Li
       }
 
   new_home : (y : Name) (a : Node) → node_of (set_node w.nodes x o) y ≡ Some a → HomeKept a
-  new_home y a h = by_x _ y
+  new_home y a h = by_name _ x y
       (λ e.
       let same : o ≡ a = some_same o a (sym here ∙ ap (node_of (set_node w.nodes x o)) e ∙ h) in
       let k = g.home x n hx in
@@ -411,7 +412,7 @@ module _ (w : World) (x : Name) (n : Node) (o : Node) (m' : FinMap place_cmp (Li
       (λ d. g.home y a (sym (there y d) ∙ h))
 
   still_posted : (t : TrunkId) (z : Name) → Posted w.nodes t z → Posted (set_node w.nodes x o) t z
-  still_posted t z h = by_x _ t.dialer
+  still_posted t z h = by_name _ x t.dialer
       (λ e.
       let same : h.1 ≡ n = some_same h.1 n (sym h.2 ∙ ap (node_of w.nodes) (sym e) ∙ hx) in
       (h.0, o, ap (node_of (set_node w.nodes x o)) (sym e) ∙ here, ap (λ l. fm.get l t) sd ∙ ap (λ v. side_at v t) (sym same) ∙ h.3, h.4))
@@ -450,7 +451,7 @@ module _ (w : World) (x : Name) (n : Node) (o : Node) (m' : FinMap place_cmp (Li
       same_list e = record { node = wl.old; at = wl.at; side = l.side; there = old_side; peer = l.peer; may = ap (may_be_up l.side.state) (sym e) ∙ l.may }
 
       up_at : (s : TrunkSide) → side_at n t ≡ Some s → is_up s.state ≡ true → Likely w.nodes w.lists y t z ⊎ Anchor (set_node w.nodes x o) z t y
-      up_at s hs u = by_x _ y
+      up_at s hs u = by_name _ x y
           (λ e.
           let nw : n ≡ wl.old = some_same n wl.old (sym hx ∙ ap (node_of w.nodes) e ∙ wl.at) in
           let ss : s ≡ l.side = some_same s l.side (sym hs ∙ ap (λ v. side_at v t) nw ∙ old_side) in

@@ -1,15 +1,14 @@
 -- What is known of a world and its history, and that an event keeps it.
-use Rattle.std.proofs.Common.{◌≡◌, ℕ, ◌+◌, ◌<◌, ◌≤◌, zero, suc, Bool, true, false, cond, List, [], ◌∷◌, ◌++◌, length, refl, sym, ap, ◌∙◌, subst, arith, ◌&&◌, Option, Some, None, ◌⊎◌, inl, inr, Contains}
-use Rattle.std.proofs.lemmas.List.Elements.{All-append, All-cons, All-nil, All-push, All-weaker}
+use Rattle.std.proofs.Common.{◌≡◌, ℕ, ◌+◌, ◌<◌, ◌≤◌, zero, suc, Bool, true, false, cond, List, [], ◌∷◌, ◌++◌, length, refl, sym, ap, ◌∙◌, subst, arith, Option, Some, None, ◌⊎◌, inl, inr, Contains}
+use Rattle.std.proofs.lemmas.List.Elements.{All-cons, All-nil, All-weaker}
 use Rattle.std.specs.List.{All}
 use Rattle.std.specs.FinMap as fm
 use Rattle.std.specs.FinMap.{FinMap}
 use Rattle.dist_model.proofs.Envelopes.{Envelope, outgoing}
-use Rattle.dist_model.proofs.Calls.{by_test}
-use Rattle.dist_model.proofs.Founding.{Carried, EndedBefore, Founded, OffNow, founded_by}
+use Rattle.dist_model.proofs.Calls.{by_name}
+use Rattle.dist_model.proofs.Founding.{Carried, EndedBefore, Founded, OffNow, carried_lists, founded_by}
 use Rattle.dist_model.proofs.Homing.{TargetsIn}
-use Rattle.dist_model.proofs.Keys.{same_name_is, same_name_true, same_trunk}
-use Rattle.dist_model.proofs.Routes.{at_place, list_to_carried, node_of_set_other, node_of_set_same, none_some, some_same}
+use Rattle.dist_model.proofs.Routes.{node_of_set_other, node_of_set_same, none_some, some_same}
 use Rattle.dist_model.proofs.Turning.{down}
 use Rattle.dist_model.proofs.Views.{over}
 use Rattle.dist_model.specs.Causes.{HasEnded, TrueCause}
@@ -19,7 +18,7 @@ use Rattle.dist_model.specs.Downs.{Demonitored, Down, Monitored, answers, downs,
 use Rattle.dist_model.specs.Histories.{Happening, History}
 use Rattle.dist_model.specs.Items.{Item}
 use Rattle.dist_model.specs.Links.{noproc}
-use Rattle.dist_model.specs.Names.{Name, place_cmp, same_name}
+use Rattle.dist_model.specs.Names.{Name, place_cmp}
 use Rattle.dist_model.specs.Node.{Node, living, never}
 use Rattle.dist_model.specs.Work.{Work}
 use Rattle.dist_model.specs.declared.report.Effect.{Effect}
@@ -124,9 +123,6 @@ module _ (w : World) (h : History) (x : Name) (n : Node) (hx : node_of w.nodes x
   pub elsewhere : (y : Name) → (x ≡ y → ⊥) → node_of (set_node w.nodes x o.node) y ≡ node_of w.nodes y
   elsewhere y i = node_of_set_other w.nodes x y o.node d.name i
 
-  pub by_name : (P : Type 0) (y : Name) → (x ≡ y → P) → ((x ≡ y → ⊥) → P) → P
-  by_name P y f j = by_test P (same_name x y) (λ s. f (same_name_true x y s)) (λ s. j (λ i. let z : true ≡ false = sym (same_name_is x y i) ∙ s in cc))
-
   -- the node of that name, before and after
   here_before : (y : Name) (v : Node) → x ≡ y → node_of w.nodes y ≡ Some v → v ≡ n
   here_before y v i hv = some_same v n (sym hv ∙ subst (λ z. node_of w.nodes z ≡ Some n) i hx)
@@ -135,12 +131,12 @@ module _ (w : World) (h : History) (x : Name) (n : Node) (hx : node_of w.nodes x
   here_after y v i hv = some_same o.node v (sym (at_x y i) ∙ hv)
 
   still_dead : (q : Pid) → Dead w q → (v : Node) × (node_of (set_node w.nodes x o.node) q.node ≡ Some v) × (over v q ≡ true)
-  still_dead q k = by_name _ q.node
+  still_dead q k = by_name _ x q.node
       (λ i. (o.node, at_x q.node i, d.grows q (subst (λ (v : Node). over v q ≡ true) (here_before q.node k.0 i k.1) k.2)))
       (λ i. (k.0, elsewhere q.node i ∙ k.1, k.2))
 
   still_drawn : (k : Reference) → (v : Node) × (node_of w.nodes k.node ≡ Some v) × Drawn v k → (v : Node) × (node_of (set_node w.nodes x o.node) k.node ≡ Some v) × Drawn v k
-  still_drawn k v = by_name _ k.node
+  still_drawn k v = by_name _ x k.node
       (λ i. (o.node, at_x k.node i, d.drawn k (subst (λ (z : Node). Drawn z k) (here_before k.node v.0 i v.1) v.2)))
       (λ i. (v.0, elsewhere k.node i ∙ v.1, v.2))
 
@@ -266,7 +262,7 @@ module _ (w : World) (h : History) (x : Name) (n : Node) (hx : node_of w.nodes x
 
   kept_watch : (k : Reference) (p q : Pid) → (k.node ≡ x → fm.get o.node.watches k ≡ fm.get n.watches k) → ((v : Node) × (node_of w.nodes k.node ≡ Some v) × (fm.get v.watches k ≡ Some (monitor_of p q))) ⊎ Dead w p → Waits k p q
   kept_watch k p q f (inr c) = inr (still_dead p c)
-  kept_watch k p q f (inl c) = by_name _ k.node
+  kept_watch k p q f (inl c) = by_name _ x k.node
       (λ i. inl (o.node, at_x k.node i, f (sym i) ∙ subst (λ (z : Node). fm.get z.watches k ≡ Some (monitor_of p q)) (here_before k.node c.0 i c.1) c.2))
       (λ i. inl (c.0, elsewhere k.node i ∙ c.1, c.2))
 
@@ -287,7 +283,7 @@ module _ (w : World) (h : History) (x : Name) (n : Node) (hx : node_of w.nodes x
   still_off : (k : Reference) → C k → Off w h k → (1 ≤ answers k happened) × ((v : Node) → node_of (set_node w.nodes x o.node) k.node ≡ Some v → fm.get v.watches k ≡ None)
   still_off k c f = (
     omega (arith, f.0, le),
-    λ v hv. by_name _ k.node
+    λ v hv. by_name _ x k.node
         (λ i. subst (λ (z : Node). fm.get z.watches k ≡ None) (here_after k.node v i hv) (go c i))
         (λ i. f.1 v (sym (elsewhere k.node i) ∙ hv)),
   )
@@ -334,36 +330,26 @@ module _ (w : World) (h : History) (x : Name) (n : Node) (hx : node_of w.nodes x
       offs k (inl f) = still_off k (d.course k) f
       offs k (inr f) = now_off k f.0.0 f.0.1 f.1
 
-  placed : (P : Item → Type 0) (t : TrunkId) (y : Name) (es : List Envelope) → All (λ v. P v.item) es → All P (at_place t y es)
-  placed P t y [] j = All-nil P
-  placed P t y (v ∷ es) j = All-append P (cond (same_trunk t v.trunk && same_name y v.target) (v.item ∷ []) []) (at_place t y es) (go (same_trunk t v.trunk && same_name y v.target))
-      (placed P t y es (Rattle.std.proofs.lemmas.List.Elements.All-tail (λ (u : Envelope). P u.item) v es j))
-    where
-      go : (b : Bool) → All P (cond b (v.item ∷ []) [])
-      go true = All-cons P v.item [] (Rattle.std.proofs.lemmas.List.Elements.All-head (λ (u : Envelope). P u.item) v es j) (All-nil P)
-      go false = All-nil P
-
   -- ---- and so in the world after
 
   pub sound_after : (m : FinMap place_cmp (List Item)) → ((t : TrunkId) (y : Name) → All (IsFounded w h) (list_to m t y)) → Sound (after m) happened
   sound_after m ml = record {
-    lists = λ t y. subst (λ l. All (IsFounded (after m) happened) l) (sym (list_to_carried m o.effects t y))
-        (All-append (IsFounded (after m) happened) (list_to m t y) (at_place t y (outgoing o))
-        (All-weaker (IsFounded w h) (IsFounded (after m) happened) stays_founded (list_to m t y) (ml t y))
-        (placed (IsFounded (after m) happened) t y (outgoing o) (All-weaker _ (λ (v : Envelope). IsFounded (after m) happened v.item) (λ v. comes_founded v.item) (outgoing o) d.carries.sent)));
-    locals = λ y v hv. by_name _ y
+    lists = carried_lists (IsFounded (after m) happened) m o
+        (λ t y. All-weaker (IsFounded w h) (IsFounded (after m) happened) stays_founded (list_to m t y) (ml t y))
+        (All-weaker _ (λ (v : Envelope). IsFounded (after m) happened v.item) (λ v. comes_founded v.item) (outgoing o) d.carries.sent);
+    locals = λ y v hv. by_name _ x y
         (λ i. subst (λ (z : Node). All (IsFounded (after m) happened) z.local) (here_after y v i hv) (All-weaker _ (IsFounded (after m) happened) comes_founded o.node.local d.carries.local))
         (λ i. All-weaker (IsFounded w h) (IsFounded (after m) happened) stays_founded v.local (g.locals y v (sym (elsewhere y i) ∙ hv)));
-    homes = λ y v hv. by_name _ y
+    homes = λ y v hv. by_name _ x y
         (λ i. subst (λ (z : Node). All (TargetsIn (λ q. never z q ≡ false)) z.local) (here_after y v i hv) d.homes)
         (λ i. g.homes y v (sym (elsewhere y i) ∙ hv));
-    enrolled = λ y v k u hv j. by_name _ y
+    enrolled = λ y v k u hv j. by_name _ x y
         (λ i. let r = d.enrolled k u (ap (λ (z : Node). fm.get z.registered k) (here_after y v i hv) ∙ j) in (ap (λ (z : Node). living z u.target) (sym (here_after y v i hv)) ∙ r.0, inr r.1))
         (λ i. let r = g.enrolled y v k u (sym (elsewhere y i) ∙ hv) j in (r.0, inr r.1));
     one = λ k. c_one k (d.course k);
     drawn = λ k. c_drawn k (d.course k);
     unanswered = λ k. c_unanswered k (d.course k);
-    watching = λ y v k u hv j. by_name _ y
+    watching = λ y v k u hv j. by_name _ x y
         (λ i. subst (λ z. Watch z v k u) i (subst (λ z. Watch x z k u) (here_after y v i hv) (c_here k u (d.course k) (ap (λ (z : Node). fm.get z.watches k) (here_after y v i hv) ∙ j))))
         (λ i. c_there y v k u i (sym (elsewhere y i) ∙ hv) j (d.course k));
     most = λ k. c_most k (d.course k);
