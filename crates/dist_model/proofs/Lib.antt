@@ -36,6 +36,16 @@ pub mod Fitting
 pub mod Passing
 pub mod Happening
 pub mod Downing
+pub mod Due
+pub mod DueWorld
+pub mod DueWork
+pub mod DueSteps
+pub mod DueMoves
+pub mod DueArrivals
+pub mod DueParts
+pub mod DueRun
+pub mod DueLaw
+pub mod DueFirst
 pub mod Giving
 pub mod Ordering
 pub mod Tabled

@@ -171,7 +171,7 @@ first_fresh w x n t k i rest hx none g far e =
     (ap is_some (fm.get-insert place_total w.lists (t, x) rest (t, x)) ∙ ap (λ b. is_some (cond b (Some rest) (fm.get w.lists (t, x)))) (same_place t t x x ∙ ap (λ b. b && same_name x x) (same_trunk_refl t) ∙ same_name_refl x))
     none (handshake_in i) k)
 
-not_own : (w : World) (x : Name) (n : Node) (t : TrunkId) (i : Item) (rest : List Item) → node_of w.nodes x ≡ Some n → side_at n t ≡ None → Good w → list_to w.lists t x ≡ i ∷ rest → same_name t.dialer x ≡ false
+pub not_own : (w : World) (x : Name) (n : Node) (t : TrunkId) (i : Item) (rest : List Item) → node_of w.nodes x ≡ Some n → side_at n t ≡ None → Good w → list_to w.lists t x ≡ i ∷ rest → same_name t.dialer x ≡ false
 not_own w x n t i rest hx none g e = by_test _ (same_name t.dialer x)
     (λ c.
     let p = g.posted t x (some_listed (fm.get w.lists (t, x)) i rest e) in

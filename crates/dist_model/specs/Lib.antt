@@ -17,6 +17,7 @@ pub mod Admission
 pub mod Arrivals
 pub mod Losses
 pub mod Dialing
+pub mod Due
 pub mod Incarnations
 pub mod NodeEvents
 pub mod World

@@ -33,10 +33,12 @@ ghost use Rattle.dist_model.specs.Sides.{is_gone, is_parked};
 ghost use Rattle.dist_model.specs.Work.{at_work};
 ghost use Rattle.dist_model.specs.Seen.{end_between, AreConnected, HasSide};
 ghost use Rattle.dist_model.specs.Schedules as schedule;
-ghost use Rattle.dist_model.specs.Claims.{Agreement, AgreementWithin, AgreementInQuiet, PendingOnItsWay, PendingWithin, NoLinkToTheDead, NoLinkToItself, LinkNeedsConnection, LivingMeans, SpawnedLivesOrEnded, DownHoldsNothing, OneTrunk, NoUpBesideLosing, EventIsLocal, KeepsOrder, KeepsOwnOrder, ReactsOnlyWhereLinked};
+ghost use Rattle.dist_model.specs.Claims.{Agreement, AgreementWithin, AgreementInQuiet, PendingOnItsWay, PendingWithin, NoLinkToTheDead, NoLinkToItself, LinkNeedsConnection, LivingMeans, SpawnedLivesOrEnded, DownHoldsNothing, OneTrunk, NoUpBesideLosing, EventIsLocal, KeepsOrder, KeepsOwnOrder, ReactsOnlyWhereLinked, LivingWasSpawned};
 ghost use Rattle.dist_model.specs.Histories.{Throughout, told, history};
 ghost use Rattle.dist_model.specs.Causes.{Reacts};
 ghost use Rattle.dist_model.specs.Fates.{ReactsRightly, DownsRightly, ReactsForTrueCause, ExitsTellTrueCause, ExitsTellTrueCauseWithin, AnsweredOnce, DownOnce, DownToTheOwner, NoDownWhereDemonitored, DownsTellTrueCause, DownOrRegistered};
+ghost use Rattle.dist_model.specs.Due.{DueFirst};
+ghost use Rattle.dist_model.specs.OneMonitor as monitor;
 ghost use Rattle.dist_model.specs.Safety.{Safe};
 
 /// Of two living processes both hold their link active, or neither does, once all that travels
@@ -85,6 +87,13 @@ pub fn living_means()
 pub fn one_trunk()
     ensures one { Always OneTrunk }
     ensures swept { Always NoUpBesideLosing }
+{}
+
+/// What stands first on a trunk's list to a node is due at its side: signals and ticks at a side that
+/// is up, messages of the handshake for its role at one that isn't up yet. (ERTS User's Guide,
+/// Distribution Protocol, Distribution Handshake.)
+pub fn due_first()
+    ensures first { Always DueFirst }
 {}
 
 /// A process reacts to the exit of a link only where it held it active, or where it links in that
