@@ -21,7 +21,7 @@ use Rattle.dist_model.specs.Exits.{demonitors, exits, finish, monitor_exits}
 use Rattle.dist_model.specs.Items.{Item, Signalled, receiver_of}
 use Rattle.dist_model.specs.Monitoring.{demonitor_by, unwatch, watch}
 use Rattle.dist_model.specs.Names.{Name, same_name, same_pid}
-use Rattle.dist_model.specs.Node.{Node, living, never, reaches, route}
+use Rattle.dist_model.specs.Node.{Node, living, never, reaches, route, ends_of}
 use Rattle.dist_model.specs.Taking.{take_item}
 use Rattle.dist_model.specs.Work.{Work, at_work, draw, keep_local, post, post_all, put, report, send_on}
 use Rattle.erl_control.specs.declared.signal.Signal.{Signal}
@@ -72,7 +72,7 @@ module _ (n : Node) where
 
   sent_finish : (p : Pid) (x : Data) (o : Work) → Sent n o → Sent n (finish p x o)
   sent_finish p x o k =
-      let ss = exits p x (fm.entries o.node.ends) ++ monitor_exits p x (fm.entries o.node.registered) ++ demonitors p
+      let ss = exits p x (ends_of o.node p) ++ monitor_exits p x (fm.entries o.node.registered) ++ demonitors p
       (fm.entries o.node.watches) in
       silent (post_all ss o) (finish p x o) (Effect.Ended p x) refl refl refl refl (sent_all ss o k)
 

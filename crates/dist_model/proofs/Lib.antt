@@ -46,6 +46,7 @@ pub mod DueParts
 pub mod DueRun
 pub mod DueLaw
 pub mod DueFirst
+pub mod Sendable
 pub mod Giving
 pub mod Ordering
 pub mod Tabled

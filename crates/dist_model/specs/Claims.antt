@@ -4,7 +4,7 @@ use Rattle.std.specs.Ordering.{eq_by_cmp}
 use Rattle.std.specs.FinMap as fm
 use Rattle.dist_model.specs.Causes.{Reacts}
 use Rattle.dist_model.specs.declared.command.Command.{Command}
-use Rattle.dist_model.specs.Items.{Item, news}
+use Rattle.dist_model.specs.Items.{Item, Signalled, news}
 use Rattle.dist_model.specs.Links.{Says, drained, last_said}
 use Rattle.dist_model.specs.Names.{Name, place_cmp}
 use Rattle.dist_model.specs.NodeEvents.{at_node}
@@ -18,6 +18,8 @@ use Rattle.dist_model.specs.Quiet.{Quiet}
 use Rattle.dist_model.specs.Seen.{AreConnected, HasSide, end_between, is_connected, is_living, is_reached, local_list}
 use Rattle.dist_model.specs.Sides.{is_losing, is_up}
 use Rattle.dist_model.specs.World.{Arrive, Call, Event, Refused, Report, Reported, Stepped, World, list_to, met, node_name, node_of, refused, step, Local, Start}
+use Rattle.erl_control.specs.Control.{IsSendable}
+use Rattle.erl_control.specs.declared.signal.Signal.{Signal}
 use Rattle.erl_names.specs.declared.trunk.TrunkId.{TrunkId}
 use Rattle.erl_term.specs.Data.{Data}
 use Rattle.erl_term.specs.declared.term.Pid.{Pid}
@@ -148,3 +150,12 @@ OwnListKept e x old new = Grows old new ⊎ (((e ≡ Local x) × LosesFirst old 
 -- so does what travels from a node to itself; a node that starts again begins with none
 abbrev pub KeepsOwnOrder : World → Type 0
 KeepsOwnOrder w = (e : Event) (x : Name) → OwnListKept e x (local_list w x) (local_list ((step w e).world) x)
+
+-- ---- Frames. (ERTS User's Guide, Distribution Protocol, Protocol between Connected Nodes)
+
+-- each signal that travels is one that erl_control writes a frame of
+abbrev pub EverySignalFits : World → Type 0
+EverySignalFits w = (t : TrunkId) (x : Name) (signal : Signal) → Contains (list_to w.lists t x) (Signalled signal) → IsSendable signal
+
+abbrev pub EverySignalFitsWithin : World → Type 0
+EverySignalFitsWithin w = (x : Name) (signal : Signal) → Contains (local_list w x) (Signalled signal) → IsSendable signal

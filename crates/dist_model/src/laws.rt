@@ -33,12 +33,11 @@ ghost use Rattle.dist_model.specs.Sides.{is_gone, is_parked};
 ghost use Rattle.dist_model.specs.Work.{at_work};
 ghost use Rattle.dist_model.specs.Seen.{end_between, AreConnected, HasSide};
 ghost use Rattle.dist_model.specs.Schedules as schedule;
-ghost use Rattle.dist_model.specs.Claims.{Agreement, AgreementWithin, AgreementInQuiet, PendingOnItsWay, PendingWithin, NoLinkToTheDead, NoLinkToItself, LinkNeedsConnection, LivingMeans, SpawnedLivesOrEnded, DownHoldsNothing, OneTrunk, NoUpBesideLosing, EventIsLocal, KeepsOrder, KeepsOwnOrder, ReactsOnlyWhereLinked, LivingWasSpawned};
+ghost use Rattle.dist_model.specs.Claims.{Agreement, AgreementWithin, AgreementInQuiet, PendingOnItsWay, PendingWithin, NoLinkToTheDead, NoLinkToItself, LinkNeedsConnection, LivingMeans, SpawnedLivesOrEnded, DownHoldsNothing, OneTrunk, NoUpBesideLosing, EventIsLocal, KeepsOrder, KeepsOwnOrder, ReactsOnlyWhereLinked, EverySignalFits, EverySignalFitsWithin};
 ghost use Rattle.dist_model.specs.Histories.{Throughout, told, history};
 ghost use Rattle.dist_model.specs.Causes.{Reacts};
 ghost use Rattle.dist_model.specs.Fates.{ReactsRightly, DownsRightly, ReactsForTrueCause, ExitsTellTrueCause, ExitsTellTrueCauseWithin, AnsweredOnce, DownOnce, DownToTheOwner, NoDownWhereDemonitored, DownsTellTrueCause, DownOrRegistered};
 ghost use Rattle.dist_model.specs.Due.{DueFirst};
-ghost use Rattle.dist_model.specs.OneMonitor as monitor;
 ghost use Rattle.dist_model.specs.Safety.{Safe};
 
 /// Of two living processes both hold their link active, or neither does, once all that travels
@@ -94,6 +93,14 @@ pub fn one_trunk()
 /// Distribution Protocol, Distribution Handshake.)
 pub fn due_first()
     ensures first { Always DueFirst }
+{}
+
+/// Each signal that travels, on a trunk or from a node to itself, is one that erl_control writes a
+/// frame of: what it carries fits, and an id is 1 to 2^64 - 1. (ERTS User's Guide, Distribution
+/// Protocol, Protocol between Connected Nodes; New Link Protocol.)
+pub fn travelling_signals_fit()
+    ensures travelling { Always EverySignalFits }
+    ensures within { Always EverySignalFitsWithin }
 {}
 
 /// A process reacts to the exit of a link only where it held it active, or where it links in that

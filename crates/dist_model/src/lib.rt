@@ -19,6 +19,7 @@ pub use laws::{
     exit_comes, fits_test, link_comes_about, link_is_taken_back, links_need_a_connection,
     living_means, moments, monitor_tells, monitors, news_is_told, no_link_to_the_dead, one_trunk,
     order_is_kept, pending, quiet_test, reactions, refused_changes_nothing, restart_tells,
+    travelling_signals_fit,
 };
 pub use links::Links;
 pub use report::{Answer, Effect, Kind, Report, Swept};
