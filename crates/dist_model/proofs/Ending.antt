@@ -180,7 +180,7 @@ end_cond_kept false o h = cc
 not_is : (a b : Bool) → a ≡ b → not a ≡ not b
 not_is a b h = ap not h
 
-alike : (x : Pid) (k v : Pid × Pid) → pair_cmp v k ≡ Equal → not (same_pid k.0 x) ≡ not (same_pid v.0 x)
+pub alike : (x : Pid) (k v : Pid × Pid) → pair_cmp v k ≡ Equal → not (same_pid k.0 x) ≡ not (same_pid v.0 x)
 alike x k v h = ap (λ (w : Pid × Pid). not (same_pid w.0 x)) (sym (pair_exact v k h))
 
 pub buried_end : (x : Pid) (r : Data) (o : Work) (p q : Pid) → end_of ((buried x r o).node) p q ≡ end_in (cond (not (same_pid p x)) (fm.get o.node.ends (p, q)) None)

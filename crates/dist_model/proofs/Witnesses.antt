@@ -6,7 +6,8 @@ use Rattle.std.specs.FinMap as fm
 use Rattle.std.specs.FinMap.{FinMap}
 use Rattle.std.specs.FinMap.Entries.{put}
 use Rattle.std.specs.Ordering.{eq_by_cmp}
-use Rattle.monitor_core.proofs.Order.{reference_cmp_total}
+use Rattle.monitor_core.proofs.Order.{reference_cmp_exact, reference_cmp_total}
+use Rattle.dist_model.proofs.Ending.{alike}
 use Rattle.dist_model.proofs.Happening.{connected_is, ends_of_first_0, ends_of_second_0, knows, linked_is, lists11, lists9, lives_of_first_1, lives_of_second_1, of_maps, sides_of_first_3, sides_of_second_1}
 use Rattle.dist_model.proofs.Histories.{down_once, throughout}
 use Rattle.dist_model.proofs.Passing.{passed, run_on, runs_so, told_last}
@@ -15,7 +16,7 @@ use Rattle.dist_model.specs.Causes.{Reacts}
 use Rattle.dist_model.specs.declared.report.Answer.{Answer}
 use Rattle.dist_model.specs.declared.command.Command.{Command}
 use Rattle.dist_model.specs.Downs.{Down, downs, downs_by}
-use Rattle.dist_model.specs.Exits.{without_owner, without_target}
+use Rattle.dist_model.specs.Exits.{is_owned, without_owner, without_target}
 use Rattle.dist_model.specs.Fates.{DownOnce}
 use Rattle.dist_model.specs.Fits.{fits}
 use Rattle.dist_model.specs.Histories.{history, told}
@@ -24,11 +25,11 @@ use Rattle.dist_model.specs.Links.{noconnection, noproc}
 use Rattle.dist_model.specs.Names.{Name, pair_cmp, place_cmp, same_pid}
 use Rattle.dist_model.specs.Node.{Ended, Life, Living, Node}
 use Rattle.dist_model.specs.Runs.{opening, reports_of, run}
-use Rattle.dist_model.specs.Schedules.{connected_over_a_trunk, crossing, dialing_again, first, going_on, gone_on_over_a_trunk, here, linked_over_a_trunk, linked_to_the_end, monitored_after_a_restart, monitored_to_the_end, monitoring, monitoring_the_former, other_trunk, reference, second, there, trunk, two_nodes, waiting_over_a_trunk}
+use Rattle.dist_model.specs.Schedules.{beside, connected_over_a_trunk, crossing, demonitored_after_the_end, dialing_again, first, going_on, gone_on_over_a_trunk, here, linked_over_a_trunk, linked_to_the_dead, linked_to_the_end, monitored_after_a_restart, monitored_to_the_end, monitoring, monitoring_the_former, other_trunk, reference, second, there, trunk, two_nodes, unlinked_before_the_end, waiting_over_a_trunk}
 use Rattle.dist_model.specs.Seen.{HasSide, end_between}
 use Rattle.dist_model.specs.Sides.{Accepting, Asked, AwaitsAck, AwaitsChallenge, AwaitsStatus, Gone, Losing, Parked, TrunkSide, Up, is_gone, is_parked, is_up}
 use Rattle.dist_model.specs.declared.report.Effect.{Effect}
-use Rattle.dist_model.specs.World.{Arrive, Call, Dial, Event, Lose, Reported, Start, Stop, Sweep, World, node_of, step}
+use Rattle.dist_model.specs.World.{Arrive, Call, Dial, Event, Local, Lose, Reported, Start, Stop, Sweep, World, node_of, step}
 use Rattle.erl_control.specs.declared.signal.Signal.{Signal}
 use Rattle.erl_handshake.specs.Digest.{digest_of}
 use Rattle.erl_handshake.specs.Flags.{mandatory}
@@ -37,6 +38,7 @@ use Rattle.erl_handshake.specs.declared.status.Status.{Status}
 use Rattle.erl_names.specs.Order.{trunk_cmp}
 use Rattle.erl_term.specs.Data.{Data}
 use Rattle.erl_term.specs.Order.{pid_cmp}
+use Rattle.erl_term.specs.declared.term.Pid.{Pid}
 use Rattle.erl_term.specs.declared.term.Reference.{Reference}
 use Rattle.exit_core.specs.Messages.{exit_term}
 use Rattle.link_core.specs.declared.end.End.{End}
@@ -54,7 +56,23 @@ no_monitor q = fm.get-empty reference_cmp q
 entries_monitor : (m : MonitorMap) (k : Reference) (v : Monitor) → fm.entries (fm.insert m k v) ≡ put reference_cmp k v (fm.entries m)
 entries_monitor m k v = fm.entries-insert reference_cmp_total m k v
 
-ruleset of_worlds = (of_maps, get_monitor, no_monitor, entries_monitor)
+gone_monitor : (m : MonitorMap) (k q : Reference) → fm.get (fm.remove m k) q ≡ cond (eq_by_cmp reference_cmp q k) None (fm.get m q)
+gone_monitor m k q = fm.get-remove reference_cmp_total m k q
+
+left_end : (m : FinMap pair_cmp End) (x : Pid) (q : Pid × Pid)
+    → fm.get (fm.retain_keys m (λ pair. not (same_pid pair.0 x))) q ≡ cond (not (same_pid q.0 x)) (fm.get m q) None
+left_end m x q = fm.get-retain_keys m (λ pair. not (same_pid pair.0 x)) q (λ k h. alike x k q h)
+
+abbrev one : Reference → Monitor → MonitorMap
+one k v = fm.insert fm.empty k v
+
+left_watch : (k : Reference) (v : Monitor) (x : Pid) (q : Reference)
+    → fm.get (fm.retain_keys (one k v) (λ r. not (is_owned x (cond (eq_by_cmp reference_cmp r k) (Some v) None)))) q
+    ≡ cond (not (is_owned x (cond (eq_by_cmp reference_cmp q k) (Some v) None))) (fm.get (one k v) q) None
+left_watch k v x q = fm.get-retain_keys (one k v) (λ r. not (is_owned x (cond (eq_by_cmp reference_cmp r k) (Some v) None))) q
+    (λ r h. ap (λ z. not (is_owned x (cond (eq_by_cmp reference_cmp z k) (Some v) None))) (sym (reference_cmp_exact q r h)))
+
+ruleset of_worlds = (of_maps, get_monitor, no_monitor, entries_monitor, gone_monitor, left_end, left_watch)
 
 -- a DOWN that the last event tells is the only one
 told_once : (nodes : List (Name × List ℕ)) (es : List Event) (e : Event) (r : Reference) (d : Down)
@@ -72,32 +90,350 @@ told_once nodes es e r d h =
     none [] h = refl
     none (x ∷ l) h = absurd (omega (arith, h))
 
+abbrev node : (cookie : List ℕ) → Name → ℕ → Bool → (pids references unlinks dialed : ℕ) → FinMap pid_cmp Life → FinMap pair_cmp End
+    → (watches registered : MonitorMap) → FinMap trunk_cmp TrunkSide → List Item → Node
+node cookie name creation up pids references unlinks dialed lives ends watches registered sides local = record {
+  mint = record { name = name; creation = creation; pids = pids; references = references; unlink_ids = unlinks };
+  cookie = cookie;
+  up = up;
+  dialed = dialed;
+  lives = lives;
+  ends = ends;
+  watches = watches;
+  registered = registered;
+  sides = sides;
+  local = local;
+}
+
+abbrev world : Node → Node → FinMap place_cmp (List Item) → World
+world a b lists = record { names = first ∷ second ∷ []; nodes = a ∷ b ∷ []; lists = lists }
+
+-- ---- within one node
+
+module _ (cookie : List ℕ) where
+  module _ (reason : Data) (fitting : fits reason ≡ true) where
+    abbrev late_exit_world_0 : World
+    late_exit_world_0 = world
+        (node cookie first 1 true 0 0 0 0 fm.empty fm.empty fm.empty fm.empty fm.empty [])
+        (node cookie second 1 true 0 0 0 0 fm.empty fm.empty fm.empty fm.empty fm.empty [])
+        fm.empty
+
+    abbrev late_exit_lives_of_first_1 : FinMap pid_cmp Life
+    late_exit_lives_of_first_1 = fm.insert fm.empty here (Living false [])
+
+    abbrev late_exit_world_1 : World
+    late_exit_world_1 = world
+        (node cookie first 1 true 1 0 0 0 late_exit_lives_of_first_1 fm.empty fm.empty fm.empty fm.empty [])
+        (node cookie second 1 true 0 0 0 0 fm.empty fm.empty fm.empty fm.empty fm.empty [])
+        fm.empty
+
+    late_exit_step_0 : (step late_exit_world_0 (Call first Command.Spawn)).world ≡ late_exit_world_1
+    late_exit_step_0 = refl
+
+    abbrev late_exit_lives_of_first_2 : FinMap pid_cmp Life
+    late_exit_lives_of_first_2 = fm.insert late_exit_lives_of_first_1 beside (Living false [])
+
+    abbrev late_exit_world_2 : World
+    late_exit_world_2 = world
+        (node cookie first 1 true 2 0 0 0 late_exit_lives_of_first_2 fm.empty fm.empty fm.empty fm.empty [])
+        (node cookie second 1 true 0 0 0 0 fm.empty fm.empty fm.empty fm.empty fm.empty [])
+        fm.empty
+
+    late_exit_step_1 : (step late_exit_world_1 (Call first Command.Spawn)).world ≡ late_exit_world_2
+    late_exit_step_1 = refl
+
+    abbrev late_exit_ends_of_first_1 : FinMap pair_cmp End
+    late_exit_ends_of_first_1 = fm.insert fm.empty (here, beside) End.Active
+
+    abbrev late_exit_world_3 : World
+    late_exit_world_3 = world
+        (node cookie first 1 true 2 0 0 0 late_exit_lives_of_first_2 late_exit_ends_of_first_1 fm.empty fm.empty fm.empty
+        (Signalled (Signal.Link here beside) ∷ []))
+        (node cookie second 1 true 0 0 0 0 fm.empty fm.empty fm.empty fm.empty fm.empty [])
+        fm.empty
+
+    late_exit_step_2 : (step late_exit_world_2 (Call first (Command.Link here beside))).world ≡ late_exit_world_3
+    late_exit_step_2 = simp of_worlds refl
+
+    abbrev late_exit_ends_of_first_2 : FinMap pair_cmp End
+    late_exit_ends_of_first_2 = fm.insert late_exit_ends_of_first_1 (beside, here) End.Active
+
+    abbrev late_exit_world_4 : World
+    late_exit_world_4 = world
+        (node cookie first 1 true 2 0 0 0 late_exit_lives_of_first_2 late_exit_ends_of_first_2 fm.empty fm.empty fm.empty [])
+        (node cookie second 1 true 0 0 0 0 fm.empty fm.empty fm.empty fm.empty fm.empty [])
+        fm.empty
+
+    late_exit_step_3 : (step late_exit_world_3 (Local first)).world ≡ late_exit_world_4
+    late_exit_step_3 = simp of_worlds refl
+
+    abbrev late_exit_ends_of_first_3 : FinMap pair_cmp End
+    late_exit_ends_of_first_3 = fm.insert late_exit_ends_of_first_2 (here, beside) (End.Pending 1)
+
+    abbrev late_exit_world_5 : World
+    late_exit_world_5 = world
+        (node cookie first 1 true 2 0 1 0 late_exit_lives_of_first_2 late_exit_ends_of_first_3 fm.empty fm.empty fm.empty
+        (Signalled (Signal.UnlinkId 1 here beside) ∷ []))
+        (node cookie second 1 true 0 0 0 0 fm.empty fm.empty fm.empty fm.empty fm.empty [])
+        fm.empty
+
+    late_exit_step_4 : (step late_exit_world_4 (Call first (Command.Unlink here beside))).world ≡ late_exit_world_5
+    late_exit_step_4 = simp of_worlds refl
+
+    abbrev late_exit_lives_of_first_3 : FinMap pid_cmp Life
+    late_exit_lives_of_first_3 = fm.insert late_exit_lives_of_first_2 beside (Ended reason)
+
+    abbrev late_exit_ends_of_first_4 : FinMap pair_cmp End
+    late_exit_ends_of_first_4 = fm.retain_keys late_exit_ends_of_first_3 (λ pair. not (same_pid pair.0 beside))
+
+    abbrev late_exit_watches_of_first_1 : MonitorMap
+    late_exit_watches_of_first_1 = without_owner fm.empty beside
+
+    abbrev late_exit_registered_of_first_1 : MonitorMap
+    late_exit_registered_of_first_1 = without_target fm.empty beside
+
+    abbrev late_exit_world_6 : World
+    late_exit_world_6 = world
+        (node cookie first 1 true 2 0 1 0 late_exit_lives_of_first_3 late_exit_ends_of_first_4 late_exit_watches_of_first_1 late_exit_registered_of_first_1 fm.empty (Signalled (Signal.UnlinkId 1 here beside) ∷ Signalled (Signal.Exit beside here reason) ∷ []))
+        (node cookie second 1 true 0 0 0 0 fm.empty fm.empty fm.empty fm.empty fm.empty [])
+        fm.empty
+
+    late_exit_step_5 : (step late_exit_world_5 (Call first (Command.ExitSelf beside reason))).world ≡ late_exit_world_6
+    late_exit_step_5 = simp (of_worlds, fitting) refl
+
+    abbrev late_exit_world_7 : World
+    late_exit_world_7 = world
+        (node cookie first 1 true 2 0 1 0 late_exit_lives_of_first_3 late_exit_ends_of_first_4 late_exit_watches_of_first_1 late_exit_registered_of_first_1 fm.empty (Signalled (Signal.Exit beside here reason) ∷ Signalled (Signal.UnlinkIdAck 1 beside here) ∷ []))
+        (node cookie second 1 true 0 0 0 0 fm.empty fm.empty fm.empty fm.empty fm.empty [])
+        fm.empty
+
+    late_exit_step_6 : (step late_exit_world_6 (Local first)).world ≡ late_exit_world_7
+    late_exit_step_6 = simp of_worlds refl
+
+    late_exit_is : run (unlinked_before_the_end reason) (two_nodes cookie) ≡ late_exit_world_7
+    late_exit_is = passed late_exit_world_0 (unlinked_before_the_end reason)
+        (late_exit_world_1 ∷ late_exit_world_2 ∷ late_exit_world_3 ∷ late_exit_world_4 ∷ late_exit_world_5 ∷ late_exit_world_6
+        ∷ late_exit_world_7 ∷ []) (
+          late_exit_step_0,
+          (
+            late_exit_step_1,
+            (late_exit_step_2, (late_exit_step_3, (late_exit_step_4, (late_exit_step_5, (late_exit_step_6, tt))))),
+          ),
+        )
+
+    pub late_exit_reported : (step (run (unlinked_before_the_end reason) (two_nodes cookie)) (Local first)).report ≡ Reported
+        (Answer.Took Kind.Exit) []
+    late_exit_reported = ap (λ w. (step w (Local first)).report) late_exit_is ∙ simp of_worlds refl
+
+    pub late_exit_waits : end_between (run (unlinked_before_the_end reason) (two_nodes cookie)) here beside ≡ End.Pending 1
+    late_exit_waits = ap (λ w. end_between w here beside) late_exit_is ∙ simp of_worlds refl
+
+    abbrev dead_partner_world_0 : World
+    dead_partner_world_0 = world
+        (node cookie first 1 true 0 0 0 0 fm.empty fm.empty fm.empty fm.empty fm.empty [])
+        (node cookie second 1 true 0 0 0 0 fm.empty fm.empty fm.empty fm.empty fm.empty [])
+        fm.empty
+
+    abbrev dead_partner_lives_of_first_1 : FinMap pid_cmp Life
+    dead_partner_lives_of_first_1 = fm.insert fm.empty here (Living false [])
+
+    abbrev dead_partner_world_1 : World
+    dead_partner_world_1 = world
+        (node cookie first 1 true 1 0 0 0 dead_partner_lives_of_first_1 fm.empty fm.empty fm.empty fm.empty [])
+        (node cookie second 1 true 0 0 0 0 fm.empty fm.empty fm.empty fm.empty fm.empty [])
+        fm.empty
+
+    dead_partner_step_0 : (step dead_partner_world_0 (Call first Command.Spawn)).world ≡ dead_partner_world_1
+    dead_partner_step_0 = refl
+
+    abbrev dead_partner_lives_of_first_2 : FinMap pid_cmp Life
+    dead_partner_lives_of_first_2 = fm.insert dead_partner_lives_of_first_1 beside (Living false [])
+
+    abbrev dead_partner_world_2 : World
+    dead_partner_world_2 = world
+        (node cookie first 1 true 2 0 0 0 dead_partner_lives_of_first_2 fm.empty fm.empty fm.empty fm.empty [])
+        (node cookie second 1 true 0 0 0 0 fm.empty fm.empty fm.empty fm.empty fm.empty [])
+        fm.empty
+
+    dead_partner_step_1 : (step dead_partner_world_1 (Call first Command.Spawn)).world ≡ dead_partner_world_2
+    dead_partner_step_1 = refl
+
+    abbrev dead_partner_lives_of_first_3 : FinMap pid_cmp Life
+    dead_partner_lives_of_first_3 = fm.insert dead_partner_lives_of_first_2 here (Living true [])
+
+    abbrev dead_partner_world_3 : World
+    dead_partner_world_3 = world
+        (node cookie first 1 true 2 0 0 0 dead_partner_lives_of_first_3 fm.empty fm.empty fm.empty fm.empty [])
+        (node cookie second 1 true 0 0 0 0 fm.empty fm.empty fm.empty fm.empty fm.empty [])
+        fm.empty
+
+    dead_partner_step_2 : (step dead_partner_world_2 (Call first (Command.Trap here true))).world ≡ dead_partner_world_3
+    dead_partner_step_2 = simp of_worlds refl
+
+    abbrev dead_partner_lives_of_first_4 : FinMap pid_cmp Life
+    dead_partner_lives_of_first_4 = fm.insert dead_partner_lives_of_first_3 beside (Ended reason)
+
+    abbrev dead_partner_ends_of_first_1 : FinMap pair_cmp End
+    dead_partner_ends_of_first_1 = fm.retain_keys fm.empty (λ pair. not (same_pid pair.0 beside))
+
+    abbrev dead_partner_watches_of_first_1 : MonitorMap
+    dead_partner_watches_of_first_1 = without_owner fm.empty beside
+
+    abbrev dead_partner_registered_of_first_1 : MonitorMap
+    dead_partner_registered_of_first_1 = without_target fm.empty beside
+
+    abbrev dead_partner_world_4 : World
+    dead_partner_world_4 = world
+        (node cookie first 1 true 2 0 0 0 dead_partner_lives_of_first_4 dead_partner_ends_of_first_1 dead_partner_watches_of_first_1 dead_partner_registered_of_first_1 fm.empty [])
+        (node cookie second 1 true 0 0 0 0 fm.empty fm.empty fm.empty fm.empty fm.empty [])
+        fm.empty
+
+    dead_partner_step_3 : (step dead_partner_world_3 (Call first (Command.ExitSelf beside reason))).world ≡ dead_partner_world_4
+    dead_partner_step_3 = simp (of_worlds, fitting) refl
+
+    abbrev dead_partner_ends_of_first_2 : FinMap pair_cmp End
+    dead_partner_ends_of_first_2 = fm.insert dead_partner_ends_of_first_1 (here, beside) End.Active
+
+    abbrev dead_partner_world_5 : World
+    dead_partner_world_5 = world
+        (node cookie first 1 true 2 0 0 0 dead_partner_lives_of_first_4 dead_partner_ends_of_first_2 dead_partner_watches_of_first_1 dead_partner_registered_of_first_1 fm.empty (Signalled (Signal.Link here beside) ∷ []))
+        (node cookie second 1 true 0 0 0 0 fm.empty fm.empty fm.empty fm.empty fm.empty [])
+        fm.empty
+
+    dead_partner_step_4 : (step dead_partner_world_4 (Call first (Command.Link here beside))).world ≡ dead_partner_world_5
+    dead_partner_step_4 = simp of_worlds refl
+
+    abbrev dead_partner_world_6 : World
+    dead_partner_world_6 = world
+        (node cookie first 1 true 2 0 0 0 dead_partner_lives_of_first_4 dead_partner_ends_of_first_2 dead_partner_watches_of_first_1 dead_partner_registered_of_first_1 fm.empty (Signalled (Signal.Exit beside here noproc) ∷ []))
+        (node cookie second 1 true 0 0 0 0 fm.empty fm.empty fm.empty fm.empty fm.empty [])
+        fm.empty
+
+    dead_partner_step_5 : (step dead_partner_world_5 (Local first)).world ≡ dead_partner_world_6
+    dead_partner_step_5 = simp of_worlds refl
+
+    dead_partner_is : run (linked_to_the_dead reason) (two_nodes cookie) ≡ dead_partner_world_6
+    dead_partner_is = passed dead_partner_world_0 (linked_to_the_dead reason)
+        (dead_partner_world_1 ∷ dead_partner_world_2 ∷ dead_partner_world_3 ∷ dead_partner_world_4 ∷ dead_partner_world_5
+        ∷ dead_partner_world_6 ∷ []) (
+          dead_partner_step_0,
+          (dead_partner_step_1, (dead_partner_step_2, (dead_partner_step_3, (dead_partner_step_4, (dead_partner_step_5, tt))))),
+        )
+
+    dead_partner_reported : (step (run (linked_to_the_dead reason) (two_nodes cookie)) (Local first)).report ≡ Reported
+        (Answer.Took Kind.Exit) (Effect.LinkExit here beside noproc ∷ Effect.Put here (exit_term beside noproc) ∷ [])
+    dead_partner_reported = ap (λ w. (step w (Local first)).report) dead_partner_is ∙ simp of_worlds refl
+
+    pub dead_partner_tells : Reacts here beside noproc ((step (run (linked_to_the_dead reason) (two_nodes cookie)) (Local first)).report)
+    dead_partner_tells = subst (λ r. Reacts here beside noproc r) (sym dead_partner_reported) (0, omega arith, refl)
+
+    abbrev late_down_world_0 : World
+    late_down_world_0 = world
+        (node cookie first 1 true 0 0 0 0 fm.empty fm.empty fm.empty fm.empty fm.empty [])
+        (node cookie second 1 true 0 0 0 0 fm.empty fm.empty fm.empty fm.empty fm.empty [])
+        fm.empty
+
+    abbrev late_down_lives_of_first_1 : FinMap pid_cmp Life
+    late_down_lives_of_first_1 = fm.insert fm.empty here (Living false [])
+
+    abbrev late_down_world_1 : World
+    late_down_world_1 = world
+        (node cookie first 1 true 1 0 0 0 late_down_lives_of_first_1 fm.empty fm.empty fm.empty fm.empty [])
+        (node cookie second 1 true 0 0 0 0 fm.empty fm.empty fm.empty fm.empty fm.empty [])
+        fm.empty
+
+    late_down_step_0 : (step late_down_world_0 (Call first Command.Spawn)).world ≡ late_down_world_1
+    late_down_step_0 = refl
+
+    abbrev late_down_lives_of_first_2 : FinMap pid_cmp Life
+    late_down_lives_of_first_2 = fm.insert late_down_lives_of_first_1 beside (Living false [])
+
+    abbrev late_down_world_2 : World
+    late_down_world_2 = world
+        (node cookie first 1 true 2 0 0 0 late_down_lives_of_first_2 fm.empty fm.empty fm.empty fm.empty [])
+        (node cookie second 1 true 0 0 0 0 fm.empty fm.empty fm.empty fm.empty fm.empty [])
+        fm.empty
+
+    late_down_step_1 : (step late_down_world_1 (Call first Command.Spawn)).world ≡ late_down_world_2
+    late_down_step_1 = refl
+
+    abbrev late_down_watches_of_first_1 : MonitorMap
+    late_down_watches_of_first_1 = fm.insert fm.empty reference (monitor_of here beside)
+
+    abbrev late_down_world_3 : World
+    late_down_world_3 = world
+        (node cookie first 1 true 2 1 0 0 late_down_lives_of_first_2 fm.empty late_down_watches_of_first_1 fm.empty fm.empty
+        (Signalled (Signal.Monitor here beside reference) ∷ []))
+        (node cookie second 1 true 0 0 0 0 fm.empty fm.empty fm.empty fm.empty fm.empty [])
+        fm.empty
+
+    late_down_step_2 : (step late_down_world_2 (Call first (Command.Monitor here beside))).world ≡ late_down_world_3
+    late_down_step_2 = simp of_worlds refl
+
+    abbrev late_down_registered_of_first_1 : MonitorMap
+    late_down_registered_of_first_1 = fm.insert fm.empty reference (monitor_of here beside)
+
+    abbrev late_down_world_4 : World
+    late_down_world_4 = world
+        (node cookie first 1 true 2 1 0 0 late_down_lives_of_first_2 fm.empty late_down_watches_of_first_1 late_down_registered_of_first_1 fm.empty [])
+        (node cookie second 1 true 0 0 0 0 fm.empty fm.empty fm.empty fm.empty fm.empty [])
+        fm.empty
+
+    late_down_step_3 : (step late_down_world_3 (Local first)).world ≡ late_down_world_4
+    late_down_step_3 = simp of_worlds refl
+
+    abbrev late_down_lives_of_first_3 : FinMap pid_cmp Life
+    late_down_lives_of_first_3 = fm.insert late_down_lives_of_first_2 beside (Ended reason)
+
+    abbrev late_down_ends_of_first_1 : FinMap pair_cmp End
+    late_down_ends_of_first_1 = fm.retain_keys fm.empty (λ pair. not (same_pid pair.0 beside))
+
+    abbrev late_down_watches_of_first_2 : MonitorMap
+    late_down_watches_of_first_2 = without_owner late_down_watches_of_first_1 beside
+
+    abbrev late_down_registered_of_first_2 : MonitorMap
+    late_down_registered_of_first_2 = without_target late_down_registered_of_first_1 beside
+
+    abbrev late_down_world_5 : World
+    late_down_world_5 = world
+        (node cookie first 1 true 2 1 0 0 late_down_lives_of_first_3 late_down_ends_of_first_1 late_down_watches_of_first_2 late_down_registered_of_first_2 fm.empty (Signalled (Signal.MonitorExit beside here reference reason) ∷ []))
+        (node cookie second 1 true 0 0 0 0 fm.empty fm.empty fm.empty fm.empty fm.empty [])
+        fm.empty
+
+    late_down_step_4 : (step late_down_world_4 (Call first (Command.ExitSelf beside reason))).world ≡ late_down_world_5
+    late_down_step_4 = simp (of_worlds, fitting) refl
+
+    abbrev late_down_watches_of_first_3 : MonitorMap
+    late_down_watches_of_first_3 = fm.remove late_down_watches_of_first_2 reference
+
+    abbrev late_down_world_6 : World
+    late_down_world_6 = world
+        (node cookie first 1 true 2 1 0 0 late_down_lives_of_first_3 late_down_ends_of_first_1 late_down_watches_of_first_3 late_down_registered_of_first_2 fm.empty (Signalled (Signal.MonitorExit beside here reference reason) ∷ Signalled (Signal.Demonitor here beside reference) ∷ []))
+        (node cookie second 1 true 0 0 0 0 fm.empty fm.empty fm.empty fm.empty fm.empty [])
+        fm.empty
+
+    late_down_step_5 : (step late_down_world_5 (Call first (Command.Demonitor here reference))).world ≡ late_down_world_6
+    late_down_step_5 = simp of_worlds refl
+
+    late_down_is : run (demonitored_after_the_end reason) (two_nodes cookie) ≡ late_down_world_6
+    late_down_is = passed late_down_world_0 (demonitored_after_the_end reason)
+        (late_down_world_1 ∷ late_down_world_2 ∷ late_down_world_3 ∷ late_down_world_4 ∷ late_down_world_5 ∷ late_down_world_6 ∷ [])
+        (late_down_step_0, (late_down_step_1, (late_down_step_2, (late_down_step_3, (late_down_step_4, (late_down_step_5, tt))))))
+
+    pub late_down_reported : (step (run (demonitored_after_the_end reason) (two_nodes cookie)) (Local first)).report ≡ Reported
+        (Answer.Took Kind.MonitorExit) []
+    late_down_reported = ap (λ w. (step w (Local first)).report) late_down_is ∙ simp of_worlds refl
+
 module _ (cookie : List ℕ) (own other : ℕ) where
-  abbrev node : Name → ℕ → Bool → (pids references unlinks dialed : ℕ) → FinMap pid_cmp Life → FinMap pair_cmp End
-      → (watches registered : MonitorMap) → FinMap trunk_cmp TrunkSide → List Item → Node
-  node name creation up pids references unlinks dialed lives ends watches registered sides local = record {
-    mint = record { name = name; creation = creation; pids = pids; references = references; unlink_ids = unlinks };
-    cookie = cookie;
-    up = up;
-    dialed = dialed;
-    lives = lives;
-    ends = ends;
-    watches = watches;
-    registered = registered;
-    sides = sides;
-    local = local;
-  }
-
-  abbrev world : Node → Node → FinMap place_cmp (List Item) → World
-  world a b lists = record { names = first ∷ second ∷ []; nodes = a ∷ b ∷ []; lists = lists }
-
   -- ---- a process is monitored and ends, or is linked and ends
 
   module _ (reason : Data) (fitting : fits reason ≡ true) where
     abbrev monitor_world_0 : World
     monitor_world_0 = world
-        (node first 1 true 1 0 0 1 (lives_of_first_1 cookie own other) fm.empty fm.empty fm.empty (sides_of_first_3 cookie own other) [])
-        (node second 1 true 1 0 0 0 (lives_of_second_1 cookie own other) fm.empty fm.empty fm.empty (sides_of_second_1 cookie own other) [])
+        (node cookie first 1 true 1 0 0 1 (lives_of_first_1 cookie own other) fm.empty fm.empty fm.empty
+        (sides_of_first_3 cookie own other) [])
+        (node cookie second 1 true 1 0 0 0 (lives_of_second_1 cookie own other) fm.empty fm.empty fm.empty
+        (sides_of_second_1 cookie own other) [])
         (lists9 cookie own other)
 
     abbrev monitor_watches_of_first_1 : MonitorMap
@@ -108,9 +444,10 @@ module _ (cookie : List ℕ) (own other : ℕ) where
 
     abbrev monitor_world_1 : World
     monitor_world_1 = world
-        (node first 1 true 1 1 0 1 (lives_of_first_1 cookie own other) fm.empty monitor_watches_of_first_1 fm.empty
+        (node cookie first 1 true 1 1 0 1 (lives_of_first_1 cookie own other) fm.empty monitor_watches_of_first_1 fm.empty
         (sides_of_first_3 cookie own other) [])
-        (node second 1 true 1 0 0 0 (lives_of_second_1 cookie own other) fm.empty fm.empty fm.empty (sides_of_second_1 cookie own other) [])
+        (node cookie second 1 true 1 0 0 0 (lives_of_second_1 cookie own other) fm.empty fm.empty fm.empty
+        (sides_of_second_1 cookie own other) [])
         monitor_lists_1
 
     monitor_step_0 : (step monitor_world_0 (Call first (Command.Monitor here there))).world ≡ monitor_world_1
@@ -124,9 +461,9 @@ module _ (cookie : List ℕ) (own other : ℕ) where
 
     abbrev monitor_world_2 : World
     monitor_world_2 = world
-        (node first 1 true 1 1 0 1 (lives_of_first_1 cookie own other) fm.empty monitor_watches_of_first_1 fm.empty
+        (node cookie first 1 true 1 1 0 1 (lives_of_first_1 cookie own other) fm.empty monitor_watches_of_first_1 fm.empty
         (sides_of_first_3 cookie own other) [])
-        (node second 1 true 1 0 0 0 (lives_of_second_1 cookie own other) fm.empty fm.empty monitor_registered_of_second_1
+        (node cookie second 1 true 1 0 0 0 (lives_of_second_1 cookie own other) fm.empty fm.empty monitor_registered_of_second_1
         (sides_of_second_1 cookie own other) [])
         monitor_lists_2
 
@@ -141,9 +478,9 @@ module _ (cookie : List ℕ) (own other : ℕ) where
 
     abbrev monitor_world_3 : World
     monitor_world_3 = world
-        (node first 1 true 1 1 0 1 (lives_of_first_1 cookie own other) fm.empty monitor_watches_of_first_1 fm.empty
+        (node cookie first 1 true 1 1 0 1 (lives_of_first_1 cookie own other) fm.empty monitor_watches_of_first_1 fm.empty
         (sides_of_first_3 cookie own other) [])
-        (node second 1 true 1 0 0 0 monitor_lives_of_second_1 (fm.retain_keys fm.empty (λ pair. not (same_pid pair.0 there)))
+        (node cookie second 1 true 1 0 0 0 monitor_lives_of_second_1 (fm.retain_keys fm.empty (λ pair. not (same_pid pair.0 there)))
         (without_owner fm.empty there) (without_target monitor_registered_of_second_1 there) (sides_of_second_1 cookie own other) [])
         monitor_lists_3
 
@@ -156,18 +493,22 @@ module _ (cookie : List ℕ) (own other : ℕ) where
         ∙ passed monitor_world_0 (monitoring reason) (monitor_world_1 ∷ monitor_world_2 ∷ monitor_world_3 ∷ [])
         (monitor_step_0, (monitor_step_1, (monitor_step_2, tt)))
 
+    monitor_down : downs_by reference (Arrive (trunk 1) first 0)
+        ((step (run (connected_over_a_trunk own other ++ monitoring reason) (two_nodes cookie)) (Arrive (trunk 1) first 0)).report) ≡
+        (record { owner = here; target = there; info = reason }) ∷ []
+    monitor_down = ap (λ w. downs_by reference (Arrive (trunk 1) first 0) ((step w (Arrive (trunk 1) first 0)).report)) monitor_is
+        ∙ simp of_worlds refl
+
     pub monitor_tells : downs reference (history (monitored_to_the_end own other reason) (two_nodes cookie)) ≡
         (record { owner = here; target = there; info = reason }) ∷ []
     monitor_tells = told_once ((first, cookie) ∷ (second, cookie) ∷ []) (connected_over_a_trunk own other ++ monitoring reason)
-        (Arrive (trunk 1) first 0) reference _
-        (ap (λ w. downs_by reference (Arrive (trunk 1) first 0) ((step w (Arrive (trunk 1) first 0)).report)) monitor_is
-        ∙ simp of_worlds refl)
+        (Arrive (trunk 1) first 0) reference _ monitor_down
 
     abbrev exit_world_0 : World
     exit_world_0 = world
-        (node first 1 true 1 0 0 1 (lives_of_first_1 cookie own other) (ends_of_first_0 cookie own other) fm.empty fm.empty
+        (node cookie first 1 true 1 0 0 1 (lives_of_first_1 cookie own other) (ends_of_first_0 cookie own other) fm.empty fm.empty
         (sides_of_first_3 cookie own other) [])
-        (node second 1 true 1 0 0 0 (lives_of_second_1 cookie own other) (ends_of_second_0 cookie own other) fm.empty fm.empty
+        (node cookie second 1 true 1 0 0 0 (lives_of_second_1 cookie own other) (ends_of_second_0 cookie own other) fm.empty fm.empty
         (sides_of_second_1 cookie own other) [])
         (lists11 cookie own other)
 
@@ -179,9 +520,9 @@ module _ (cookie : List ℕ) (own other : ℕ) where
 
     abbrev exit_world_1 : World
     exit_world_1 = world
-        (node first 1 true 1 0 0 1 (lives_of_first_1 cookie own other) (ends_of_first_0 cookie own other) fm.empty fm.empty
+        (node cookie first 1 true 1 0 0 1 (lives_of_first_1 cookie own other) (ends_of_first_0 cookie own other) fm.empty fm.empty
         (sides_of_first_3 cookie own other) [])
-        (node second 1 true 1 0 0 0 exit_lives_of_second_1
+        (node cookie second 1 true 1 0 0 0 exit_lives_of_second_1
         (fm.retain_keys (ends_of_second_0 cookie own other) (λ pair. not (same_pid pair.0 there))) (without_owner fm.empty there)
         (without_target fm.empty there) (sides_of_second_1 cookie own other) [])
         exit_lists_1
@@ -207,8 +548,10 @@ module _ (cookie : List ℕ) (own other : ℕ) where
 
   abbrev restart_world_0 : World
   restart_world_0 = world
-      (node first 1 true 1 0 0 1 (lives_of_first_1 cookie own other) fm.empty fm.empty fm.empty (sides_of_first_3 cookie own other) [])
-      (node second 1 true 1 0 0 0 (lives_of_second_1 cookie own other) fm.empty fm.empty fm.empty (sides_of_second_1 cookie own other) [])
+      (node cookie first 1 true 1 0 0 1 (lives_of_first_1 cookie own other) fm.empty fm.empty fm.empty
+      (sides_of_first_3 cookie own other) [])
+      (node cookie second 1 true 1 0 0 0 (lives_of_second_1 cookie own other) fm.empty fm.empty fm.empty
+      (sides_of_second_1 cookie own other) [])
       (lists9 cookie own other)
 
   abbrev restart_sides_of_second_1 : FinMap trunk_cmp TrunkSide
@@ -216,8 +559,9 @@ module _ (cookie : List ℕ) (own other : ℕ) where
 
   abbrev restart_world_1 : World
   restart_world_1 = world
-      (node first 1 true 1 0 0 1 (lives_of_first_1 cookie own other) fm.empty fm.empty fm.empty (sides_of_first_3 cookie own other) [])
-      (node second 1 false 1 0 0 0 fm.empty fm.empty fm.empty fm.empty restart_sides_of_second_1 [])
+      (node cookie first 1 true 1 0 0 1 (lives_of_first_1 cookie own other) fm.empty fm.empty fm.empty
+      (sides_of_first_3 cookie own other) [])
+      (node cookie second 1 false 1 0 0 0 fm.empty fm.empty fm.empty fm.empty restart_sides_of_second_1 [])
       (lists9 cookie own other)
 
   restart_step_0 : (step restart_world_0 (Stop second)).world ≡ restart_world_1
@@ -225,37 +569,51 @@ module _ (cookie : List ℕ) (own other : ℕ) where
 
   abbrev restart_world_2 : World
   restart_world_2 = world
-      (node first 1 true 1 0 0 1 (lives_of_first_1 cookie own other) fm.empty fm.empty fm.empty (sides_of_first_3 cookie own other) [])
-      (node second 2 true 0 0 0 0 fm.empty fm.empty fm.empty fm.empty restart_sides_of_second_1 [])
+      (node cookie first 1 true 1 0 0 1 (lives_of_first_1 cookie own other) fm.empty fm.empty fm.empty
+      (sides_of_first_3 cookie own other) [])
+      (node cookie second 2 true 0 0 0 0 fm.empty fm.empty fm.empty fm.empty restart_sides_of_second_1 [])
       (lists9 cookie own other)
 
   restart_step_1 : (step restart_world_1 (Start second)).world ≡ restart_world_2
   restart_step_1 = simp of_worlds refl
 
+  abbrev restart_lives_of_second_1 : FinMap pid_cmp Life
+  restart_lives_of_second_1 = fm.insert fm.empty (record { node = second; creation = 2; id = 1; serial = 0 }) (Living false [])
+
+  abbrev restart_world_3 : World
+  restart_world_3 = world
+      (node cookie first 1 true 1 0 0 1 (lives_of_first_1 cookie own other) fm.empty fm.empty fm.empty
+      (sides_of_first_3 cookie own other) [])
+      (node cookie second 2 true 1 0 0 0 restart_lives_of_second_1 fm.empty fm.empty fm.empty restart_sides_of_second_1 [])
+      (lists9 cookie own other)
+
+  restart_step_2 : (step restart_world_2 (Call second Command.Spawn)).world ≡ restart_world_3
+  restart_step_2 = refl
+
   abbrev restart_sides_of_first_1 : FinMap trunk_cmp TrunkSide
   restart_sides_of_first_1 = fm.insert (sides_of_first_3 cookie own other) (trunk 1)
       (record { peer = second; peer_creation = 1; state = Losing })
 
-  abbrev restart_world_3 : World
-  restart_world_3 = world
-      (node first 1 true 1 0 0 1 (lives_of_first_1 cookie own other) fm.empty fm.empty fm.empty restart_sides_of_first_1 [])
-      (node second 2 true 0 0 0 0 fm.empty fm.empty fm.empty fm.empty restart_sides_of_second_1 [])
+  abbrev restart_world_4 : World
+  restart_world_4 = world
+      (node cookie first 1 true 1 0 0 1 (lives_of_first_1 cookie own other) fm.empty fm.empty fm.empty restart_sides_of_first_1 [])
+      (node cookie second 2 true 1 0 0 0 restart_lives_of_second_1 fm.empty fm.empty fm.empty restart_sides_of_second_1 [])
       (lists9 cookie own other)
 
-  restart_step_2 : (step restart_world_2 (Lose (trunk 1) first)).world ≡ restart_world_3
-  restart_step_2 = simp of_worlds refl
+  restart_step_3 : (step restart_world_3 (Lose (trunk 1) first)).world ≡ restart_world_4
+  restart_step_3 = simp of_worlds refl
 
   abbrev restart_sides_of_first_2 : FinMap trunk_cmp TrunkSide
   restart_sides_of_first_2 = fm.insert restart_sides_of_first_1 (trunk 1) (record { peer = second; peer_creation = 0; state = Gone })
 
-  abbrev restart_world_4 : World
-  restart_world_4 = world
-      (node first 1 true 1 0 0 1 (lives_of_first_1 cookie own other) fm.empty fm.empty fm.empty restart_sides_of_first_2 [])
-      (node second 2 true 0 0 0 0 fm.empty fm.empty fm.empty fm.empty restart_sides_of_second_1 [])
+  abbrev restart_world_5 : World
+  restart_world_5 = world
+      (node cookie first 1 true 1 0 0 1 (lives_of_first_1 cookie own other) fm.empty fm.empty fm.empty restart_sides_of_first_2 [])
+      (node cookie second 2 true 1 0 0 0 restart_lives_of_second_1 fm.empty fm.empty fm.empty restart_sides_of_second_1 [])
       (lists9 cookie own other)
 
-  restart_step_3 : (step restart_world_3 (Sweep first)).world ≡ restart_world_4
-  restart_step_3 = simp of_worlds refl
+  restart_step_4 : (step restart_world_4 (Sweep first)).world ≡ restart_world_5
+  restart_step_4 = simp of_worlds refl
 
   abbrev restart_sides_of_first_3 : FinMap trunk_cmp TrunkSide
   restart_sides_of_first_3 = fm.insert restart_sides_of_first_2 (trunk 2)
@@ -264,14 +622,14 @@ module _ (cookie : List ℕ) (own other : ℕ) where
   abbrev restart_lists_1 : FinMap place_cmp (List Item)
   restart_lists_1 = fm.insert (lists9 cookie own other) (trunk 2, second) (Handshake (ShakeMsg.SendName mandatory 1 first) ∷ [])
 
-  abbrev restart_world_5 : World
-  restart_world_5 = world
-      (node first 1 true 1 0 0 2 (lives_of_first_1 cookie own other) fm.empty fm.empty fm.empty restart_sides_of_first_3 [])
-      (node second 2 true 0 0 0 0 fm.empty fm.empty fm.empty fm.empty restart_sides_of_second_1 [])
+  abbrev restart_world_6 : World
+  restart_world_6 = world
+      (node cookie first 1 true 1 0 0 2 (lives_of_first_1 cookie own other) fm.empty fm.empty fm.empty restart_sides_of_first_3 [])
+      (node cookie second 2 true 1 0 0 0 restart_lives_of_second_1 fm.empty fm.empty fm.empty restart_sides_of_second_1 [])
       restart_lists_1
 
-  restart_step_4 : (step restart_world_4 (Dial first second own)).world ≡ restart_world_5
-  restart_step_4 = simp of_worlds refl
+  restart_step_5 : (step restart_world_5 (Dial first second own)).world ≡ restart_world_6
+  restart_step_5 = simp of_worlds refl
 
   abbrev restart_lists_2 : FinMap place_cmp (List Item)
   restart_lists_2 = fm.insert restart_lists_1 (trunk 2, second) []
@@ -287,14 +645,14 @@ module _ (cookie : List ℕ) (own other : ℕ) where
   restart_lists_4 = fm.insert restart_lists_3 (trunk 2, first)
       (Handshake (ShakeMsg.Status Status.Ok) ∷ Handshake (ShakeMsg.Challenge mandatory other 2 second) ∷ [])
 
-  abbrev restart_world_6 : World
-  restart_world_6 = world
-      (node first 1 true 1 0 0 2 (lives_of_first_1 cookie own other) fm.empty fm.empty fm.empty restart_sides_of_first_3 [])
-      (node second 2 true 0 0 0 0 fm.empty fm.empty fm.empty fm.empty restart_sides_of_second_2 [])
+  abbrev restart_world_7 : World
+  restart_world_7 = world
+      (node cookie first 1 true 1 0 0 2 (lives_of_first_1 cookie own other) fm.empty fm.empty fm.empty restart_sides_of_first_3 [])
+      (node cookie second 2 true 1 0 0 0 restart_lives_of_second_1 fm.empty fm.empty fm.empty restart_sides_of_second_2 [])
       restart_lists_4
 
-  restart_step_5 : (step restart_world_5 (Arrive (trunk 2) second other)).world ≡ restart_world_6
-  restart_step_5 = simp of_worlds refl
+  restart_step_6 : (step restart_world_6 (Arrive (trunk 2) second other)).world ≡ restart_world_7
+  restart_step_6 = simp of_worlds refl
 
   abbrev restart_lists_5 : FinMap place_cmp (List Item)
   restart_lists_5 = fm.insert restart_lists_4 (trunk 2, first) (Handshake (ShakeMsg.Challenge mandatory other 2 second) ∷ [])
@@ -303,14 +661,14 @@ module _ (cookie : List ℕ) (own other : ℕ) where
   restart_sides_of_first_4 = fm.insert restart_sides_of_first_3 (trunk 2)
       (record { peer = second; peer_creation = 0; state = AwaitsChallenge own })
 
-  abbrev restart_world_7 : World
-  restart_world_7 = world
-      (node first 1 true 1 0 0 2 (lives_of_first_1 cookie own other) fm.empty fm.empty fm.empty restart_sides_of_first_4 [])
-      (node second 2 true 0 0 0 0 fm.empty fm.empty fm.empty fm.empty restart_sides_of_second_2 [])
+  abbrev restart_world_8 : World
+  restart_world_8 = world
+      (node cookie first 1 true 1 0 0 2 (lives_of_first_1 cookie own other) fm.empty fm.empty fm.empty restart_sides_of_first_4 [])
+      (node cookie second 2 true 1 0 0 0 restart_lives_of_second_1 fm.empty fm.empty fm.empty restart_sides_of_second_2 [])
       restart_lists_5
 
-  restart_step_6 : (step restart_world_6 (Arrive (trunk 2) first 0)).world ≡ restart_world_7
-  restart_step_6 = simp of_worlds refl
+  restart_step_7 : (step restart_world_7 (Arrive (trunk 2) first 0)).world ≡ restart_world_8
+  restart_step_7 = simp of_worlds refl
 
   abbrev restart_lists_6 : FinMap place_cmp (List Item)
   restart_lists_6 = fm.insert restart_lists_5 (trunk 2, first) []
@@ -322,14 +680,14 @@ module _ (cookie : List ℕ) (own other : ℕ) where
   abbrev restart_lists_7 : FinMap place_cmp (List Item)
   restart_lists_7 = fm.insert restart_lists_6 (trunk 2, second) (Handshake (ShakeMsg.ChallengeReply own (digest_of cookie other)) ∷ [])
 
-  abbrev restart_world_8 : World
-  restart_world_8 = world
-      (node first 1 true 1 0 0 2 (lives_of_first_1 cookie own other) fm.empty fm.empty fm.empty restart_sides_of_first_5 [])
-      (node second 2 true 0 0 0 0 fm.empty fm.empty fm.empty fm.empty restart_sides_of_second_2 [])
+  abbrev restart_world_9 : World
+  restart_world_9 = world
+      (node cookie first 1 true 1 0 0 2 (lives_of_first_1 cookie own other) fm.empty fm.empty fm.empty restart_sides_of_first_5 [])
+      (node cookie second 2 true 1 0 0 0 restart_lives_of_second_1 fm.empty fm.empty fm.empty restart_sides_of_second_2 [])
       restart_lists_7
 
-  restart_step_7 : (step restart_world_7 (Arrive (trunk 2) first 0)).world ≡ restart_world_8
-  restart_step_7 = simp of_worlds refl
+  restart_step_8 : (step restart_world_8 (Arrive (trunk 2) first 0)).world ≡ restart_world_9
+  restart_step_8 = simp of_worlds refl
 
   abbrev restart_lists_8 : FinMap place_cmp (List Item)
   restart_lists_8 = fm.insert restart_lists_7 (trunk 2, second) []
@@ -340,14 +698,14 @@ module _ (cookie : List ℕ) (own other : ℕ) where
   abbrev restart_lists_9 : FinMap place_cmp (List Item)
   restart_lists_9 = fm.insert restart_lists_8 (trunk 2, first) (Handshake (ShakeMsg.ChallengeAck (digest_of cookie own)) ∷ [])
 
-  abbrev restart_world_9 : World
-  restart_world_9 = world
-      (node first 1 true 1 0 0 2 (lives_of_first_1 cookie own other) fm.empty fm.empty fm.empty restart_sides_of_first_5 [])
-      (node second 2 true 0 0 0 0 fm.empty fm.empty fm.empty fm.empty restart_sides_of_second_3 [])
+  abbrev restart_world_10 : World
+  restart_world_10 = world
+      (node cookie first 1 true 1 0 0 2 (lives_of_first_1 cookie own other) fm.empty fm.empty fm.empty restart_sides_of_first_5 [])
+      (node cookie second 2 true 1 0 0 0 restart_lives_of_second_1 fm.empty fm.empty fm.empty restart_sides_of_second_3 [])
       restart_lists_9
 
-  restart_step_8 : (step restart_world_8 (Arrive (trunk 2) second 0)).world ≡ restart_world_9
-  restart_step_8 = simp (of_worlds, knows) refl
+  restart_step_9 : (step restart_world_9 (Arrive (trunk 2) second 0)).world ≡ restart_world_10
+  restart_step_9 = simp (of_worlds, knows) refl
 
   abbrev restart_lists_10 : FinMap place_cmp (List Item)
   restart_lists_10 = fm.insert restart_lists_9 (trunk 2, first) []
@@ -355,14 +713,14 @@ module _ (cookie : List ℕ) (own other : ℕ) where
   abbrev restart_sides_of_first_6 : FinMap trunk_cmp TrunkSide
   restart_sides_of_first_6 = fm.insert restart_sides_of_first_5 (trunk 2) (record { peer = second; peer_creation = 2; state = Up })
 
-  abbrev restart_world_10 : World
-  restart_world_10 = world
-      (node first 1 true 1 0 0 2 (lives_of_first_1 cookie own other) fm.empty fm.empty fm.empty restart_sides_of_first_6 [])
-      (node second 2 true 0 0 0 0 fm.empty fm.empty fm.empty fm.empty restart_sides_of_second_3 [])
+  abbrev restart_world_11 : World
+  restart_world_11 = world
+      (node cookie first 1 true 1 0 0 2 (lives_of_first_1 cookie own other) fm.empty fm.empty fm.empty restart_sides_of_first_6 [])
+      (node cookie second 2 true 1 0 0 0 restart_lives_of_second_1 fm.empty fm.empty fm.empty restart_sides_of_second_3 [])
       restart_lists_10
 
-  restart_step_9 : (step restart_world_9 (Arrive (trunk 2) first 0)).world ≡ restart_world_10
-  restart_step_9 = simp (of_worlds, knows) refl
+  restart_step_10 : (step restart_world_10 (Arrive (trunk 2) first 0)).world ≡ restart_world_11
+  restart_step_10 = simp (of_worlds, knows) refl
 
   abbrev restart_watches_of_first_1 : MonitorMap
   restart_watches_of_first_1 = fm.insert fm.empty reference (monitor_of here there)
@@ -370,15 +728,15 @@ module _ (cookie : List ℕ) (own other : ℕ) where
   abbrev restart_lists_11 : FinMap place_cmp (List Item)
   restart_lists_11 = fm.insert restart_lists_10 (trunk 2, second) (Signalled (Signal.Monitor here there reference) ∷ [])
 
-  abbrev restart_world_11 : World
-  restart_world_11 = world
-      (node first 1 true 1 1 0 2
+  abbrev restart_world_12 : World
+  restart_world_12 = world
+      (node cookie first 1 true 1 1 0 2
       (lives_of_first_1 cookie own other) fm.empty restart_watches_of_first_1 fm.empty restart_sides_of_first_6 [])
-      (node second 2 true 0 0 0 0 fm.empty fm.empty fm.empty fm.empty restart_sides_of_second_3 [])
+      (node cookie second 2 true 1 0 0 0 restart_lives_of_second_1 fm.empty fm.empty fm.empty restart_sides_of_second_3 [])
       restart_lists_11
 
-  restart_step_10 : (step restart_world_10 (Call first (Command.Monitor here there))).world ≡ restart_world_11
-  restart_step_10 = simp of_worlds refl
+  restart_step_11 : (step restart_world_11 (Call first (Command.Monitor here there))).world ≡ restart_world_12
+  restart_step_11 = simp of_worlds refl
 
   abbrev restart_lists_12 : FinMap place_cmp (List Item)
   restart_lists_12 = fm.insert restart_lists_11 (trunk 2, second) []
@@ -386,22 +744,22 @@ module _ (cookie : List ℕ) (own other : ℕ) where
   abbrev restart_lists_13 : FinMap place_cmp (List Item)
   restart_lists_13 = fm.insert restart_lists_12 (trunk 2, first) (Signalled (Signal.MonitorExit there here reference noproc) ∷ [])
 
-  abbrev restart_world_12 : World
-  restart_world_12 = world
-      (node first 1 true 1 1 0 2
+  abbrev restart_world_13 : World
+  restart_world_13 = world
+      (node cookie first 1 true 1 1 0 2
       (lives_of_first_1 cookie own other) fm.empty restart_watches_of_first_1 fm.empty restart_sides_of_first_6 [])
-      (node second 2 true 0 0 0 0 fm.empty fm.empty fm.empty fm.empty restart_sides_of_second_3 [])
+      (node cookie second 2 true 1 0 0 0 restart_lives_of_second_1 fm.empty fm.empty fm.empty restart_sides_of_second_3 [])
       restart_lists_13
 
-  restart_step_11 : (step restart_world_11 (Arrive (trunk 2) second 0)).world ≡ restart_world_12
-  restart_step_11 = simp of_worlds refl
+  restart_step_12 : (step restart_world_12 (Arrive (trunk 2) second 0)).world ≡ restart_world_13
+  restart_step_12 = simp of_worlds refl
 
-  restart_is : run (connected_over_a_trunk own other ++ monitoring_the_former own other) (two_nodes cookie) ≡ restart_world_12
+  restart_is : run (connected_over_a_trunk own other ++ monitoring_the_former own other) (two_nodes cookie) ≡ restart_world_13
   restart_is = run_on (connected_over_a_trunk own other) (monitoring_the_former own other) (two_nodes cookie)
       ∙ ap (run (monitoring_the_former own other)) (connected_is cookie own other)
       ∙ passed restart_world_0 (monitoring_the_former own other)
       (restart_world_1 ∷ restart_world_2 ∷ restart_world_3 ∷ restart_world_4 ∷ restart_world_5 ∷ restart_world_6 ∷ restart_world_7
-      ∷ restart_world_8 ∷ restart_world_9 ∷ restart_world_10 ∷ restart_world_11 ∷ restart_world_12 ∷ []) (
+      ∷ restart_world_8 ∷ restart_world_9 ∷ restart_world_10 ∷ restart_world_11 ∷ restart_world_12 ∷ restart_world_13 ∷ []) (
         restart_step_0,
         (
           restart_step_1,
@@ -413,7 +771,13 @@ module _ (cookie : List ℕ) (own other : ℕ) where
                 restart_step_4,
                 (
                   restart_step_5,
-                  (restart_step_6, (restart_step_7, (restart_step_8, (restart_step_9, (restart_step_10, (restart_step_11, tt)))))),
+                  (
+                    restart_step_6,
+                    (
+                      restart_step_7,
+                      (restart_step_8, (restart_step_9, (restart_step_10, (restart_step_11, (restart_step_12, tt))))),
+                    ),
+                  ),
                 ),
               ),
             ),
@@ -421,20 +785,24 @@ module _ (cookie : List ℕ) (own other : ℕ) where
         ),
       )
 
+  restart_down : downs_by reference (Arrive (trunk 2) first 0)
+      ((step (run (connected_over_a_trunk own other ++ monitoring_the_former own other) (two_nodes cookie))
+      (Arrive (trunk 2) first 0)).report) ≡ (record { owner = here; target = there; info = noproc }) ∷ []
+  restart_down = ap (λ w. downs_by reference (Arrive (trunk 2) first 0) ((step w (Arrive (trunk 2) first 0)).report)) restart_is
+      ∙ simp of_worlds refl
+
   pub restart_tells : downs reference (history (monitored_after_a_restart own other) (two_nodes cookie)) ≡
       (record { owner = here; target = there; info = noproc }) ∷ []
   restart_tells = told_once ((first, cookie) ∷ (second, cookie) ∷ []) (connected_over_a_trunk own other ++ monitoring_the_former own other)
-      (Arrive (trunk 2) first 0) reference _
-      (ap (λ w. downs_by reference (Arrive (trunk 2) first 0) ((step w (Arrive (trunk 2) first 0)).report)) restart_is
-      ∙ simp of_worlds refl)
+      (Arrive (trunk 2) first 0) reference _ restart_down
 
   -- ---- a dial waits for the sweep of an older connection
 
   abbrev waiting_world_0 : World
   waiting_world_0 = world
-      (node first 1 true 1 0 0 1 (lives_of_first_1 cookie own other) (ends_of_first_0 cookie own other) fm.empty fm.empty
+      (node cookie first 1 true 1 0 0 1 (lives_of_first_1 cookie own other) (ends_of_first_0 cookie own other) fm.empty fm.empty
       (sides_of_first_3 cookie own other) [])
-      (node second 1 true 1 0 0 0 (lives_of_second_1 cookie own other) (ends_of_second_0 cookie own other) fm.empty fm.empty
+      (node cookie second 1 true 1 0 0 0 (lives_of_second_1 cookie own other) (ends_of_second_0 cookie own other) fm.empty fm.empty
       (sides_of_second_1 cookie own other) [])
       (lists11 cookie own other)
 
@@ -444,9 +812,9 @@ module _ (cookie : List ℕ) (own other : ℕ) where
 
   abbrev waiting_world_1 : World
   waiting_world_1 = world
-      (node first 1 true 1 0 0 1 (lives_of_first_1 cookie own other)
+      (node cookie first 1 true 1 0 0 1 (lives_of_first_1 cookie own other)
       (ends_of_first_0 cookie own other) fm.empty fm.empty waiting_sides_of_first_1 [])
-      (node second 1 true 1 0 0 0 (lives_of_second_1 cookie own other) (ends_of_second_0 cookie own other) fm.empty fm.empty
+      (node cookie second 1 true 1 0 0 0 (lives_of_second_1 cookie own other) (ends_of_second_0 cookie own other) fm.empty fm.empty
       (sides_of_second_1 cookie own other) [])
       (lists11 cookie own other)
 
@@ -461,8 +829,8 @@ module _ (cookie : List ℕ) (own other : ℕ) where
 
   abbrev waiting_world_2 : World
   waiting_world_2 = world
-      (node first 1 true 1 0 0 1 waiting_lives_of_first_1 fm.empty fm.empty fm.empty waiting_sides_of_first_2 [])
-      (node second 1 true 1 0 0 0 (lives_of_second_1 cookie own other) (ends_of_second_0 cookie own other) fm.empty fm.empty
+      (node cookie first 1 true 1 0 0 1 waiting_lives_of_first_1 fm.empty fm.empty fm.empty waiting_sides_of_first_2 [])
+      (node cookie second 1 true 1 0 0 0 (lives_of_second_1 cookie own other) (ends_of_second_0 cookie own other) fm.empty fm.empty
       (sides_of_second_1 cookie own other) [])
       (lists11 cookie own other)
 
@@ -478,8 +846,8 @@ module _ (cookie : List ℕ) (own other : ℕ) where
 
   abbrev waiting_world_3 : World
   waiting_world_3 = world
-      (node first 1 true 1 0 0 2 waiting_lives_of_first_1 fm.empty fm.empty fm.empty waiting_sides_of_first_3 [])
-      (node second 1 true 1 0 0 0 (lives_of_second_1 cookie own other) (ends_of_second_0 cookie own other) fm.empty fm.empty
+      (node cookie first 1 true 1 0 0 2 waiting_lives_of_first_1 fm.empty fm.empty fm.empty waiting_sides_of_first_3 [])
+      (node cookie second 1 true 1 0 0 0 (lives_of_second_1 cookie own other) (ends_of_second_0 cookie own other) fm.empty fm.empty
       (sides_of_second_1 cookie own other) [])
       waiting_lists_1
 
@@ -498,8 +866,8 @@ module _ (cookie : List ℕ) (own other : ℕ) where
 
   abbrev waiting_world_4 : World
   waiting_world_4 = world
-      (node first 1 true 1 0 0 2 waiting_lives_of_first_1 fm.empty fm.empty fm.empty waiting_sides_of_first_3 [])
-      (node second 1 true 1 0 0 0 (lives_of_second_1 cookie own other)
+      (node cookie first 1 true 1 0 0 2 waiting_lives_of_first_1 fm.empty fm.empty fm.empty waiting_sides_of_first_3 [])
+      (node cookie second 1 true 1 0 0 0 (lives_of_second_1 cookie own other)
       (ends_of_second_0 cookie own other) fm.empty fm.empty waiting_sides_of_second_1 [])
       waiting_lists_3
 
@@ -518,8 +886,8 @@ module _ (cookie : List ℕ) (own other : ℕ) where
 
   abbrev waiting_world_5 : World
   waiting_world_5 = world
-      (node first 1 true 1 0 0 2 waiting_lives_of_first_1 fm.empty fm.empty fm.empty waiting_sides_of_first_4 [])
-      (node second 1 true 1 0 0 0 (lives_of_second_1 cookie own other)
+      (node cookie first 1 true 1 0 0 2 waiting_lives_of_first_1 fm.empty fm.empty fm.empty waiting_sides_of_first_4 [])
+      (node cookie second 1 true 1 0 0 0 (lives_of_second_1 cookie own other)
       (ends_of_second_0 cookie own other) fm.empty fm.empty waiting_sides_of_second_1 [])
       waiting_lists_5
 
@@ -538,8 +906,8 @@ module _ (cookie : List ℕ) (own other : ℕ) where
 
   abbrev waiting_world_6 : World
   waiting_world_6 = world
-      (node first 1 true 1 0 0 2 waiting_lives_of_first_1 fm.empty fm.empty fm.empty waiting_sides_of_first_4 [])
-      (node second 1 true 1 0 0 0 (lives_of_second_1 cookie own other)
+      (node cookie first 1 true 1 0 0 2 waiting_lives_of_first_1 fm.empty fm.empty fm.empty waiting_sides_of_first_4 [])
+      (node cookie second 1 true 1 0 0 0 (lives_of_second_1 cookie own other)
       (ends_of_second_0 cookie own other) fm.empty fm.empty waiting_sides_of_second_3 [])
       waiting_lists_6
 
@@ -561,8 +929,8 @@ module _ (cookie : List ℕ) (own other : ℕ) where
 
   abbrev waiting_world_7 : World
   waiting_world_7 = world
-      (node first 1 true 1 0 0 2 waiting_lives_of_first_1 fm.empty fm.empty fm.empty waiting_sides_of_first_4 [])
-      (node second 1 true 1 0 0 0 waiting_lives_of_second_1 fm.empty fm.empty fm.empty waiting_sides_of_second_5 [])
+      (node cookie first 1 true 1 0 0 2 waiting_lives_of_first_1 fm.empty fm.empty fm.empty waiting_sides_of_first_4 [])
+      (node cookie second 1 true 1 0 0 0 waiting_lives_of_second_1 fm.empty fm.empty fm.empty waiting_sides_of_second_5 [])
       waiting_lists_7
 
   waiting_step_6 : (step waiting_world_6 (Sweep second)).world ≡ waiting_world_7
@@ -580,8 +948,8 @@ module _ (cookie : List ℕ) (own other : ℕ) where
 
   abbrev waiting_world_8 : World
   waiting_world_8 = world
-      (node first 1 true 1 0 0 2 waiting_lives_of_first_1 fm.empty fm.empty fm.empty waiting_sides_of_first_5 [])
-      (node second 1 true 1 0 0 0 waiting_lives_of_second_1 fm.empty fm.empty fm.empty waiting_sides_of_second_5 [])
+      (node cookie first 1 true 1 0 0 2 waiting_lives_of_first_1 fm.empty fm.empty fm.empty waiting_sides_of_first_5 [])
+      (node cookie second 1 true 1 0 0 0 waiting_lives_of_second_1 fm.empty fm.empty fm.empty waiting_sides_of_second_5 [])
       waiting_lists_9
 
   waiting_step_7 : (step waiting_world_7 (Arrive (trunk 2) first 0)).world ≡ waiting_world_8
@@ -598,8 +966,8 @@ module _ (cookie : List ℕ) (own other : ℕ) where
 
   abbrev waiting_world_9 : World
   waiting_world_9 = world
-      (node first 1 true 1 0 0 2 waiting_lives_of_first_1 fm.empty fm.empty fm.empty waiting_sides_of_first_5 [])
-      (node second 1 true 1 0 0 0 waiting_lives_of_second_1 fm.empty fm.empty fm.empty waiting_sides_of_second_6 [])
+      (node cookie first 1 true 1 0 0 2 waiting_lives_of_first_1 fm.empty fm.empty fm.empty waiting_sides_of_first_5 [])
+      (node cookie second 1 true 1 0 0 0 waiting_lives_of_second_1 fm.empty fm.empty fm.empty waiting_sides_of_second_6 [])
       waiting_lists_11
 
   waiting_step_8 : (step waiting_world_8 (Arrive (trunk 2) second 0)).world ≡ waiting_world_9
@@ -613,8 +981,8 @@ module _ (cookie : List ℕ) (own other : ℕ) where
 
   abbrev waiting_world_10 : World
   waiting_world_10 = world
-      (node first 1 true 1 0 0 2 waiting_lives_of_first_1 fm.empty fm.empty fm.empty waiting_sides_of_first_6 [])
-      (node second 1 true 1 0 0 0 waiting_lives_of_second_1 fm.empty fm.empty fm.empty waiting_sides_of_second_6 [])
+      (node cookie first 1 true 1 0 0 2 waiting_lives_of_first_1 fm.empty fm.empty fm.empty waiting_sides_of_first_6 [])
+      (node cookie second 1 true 1 0 0 0 waiting_lives_of_second_1 fm.empty fm.empty fm.empty waiting_sides_of_second_6 [])
       waiting_lists_12
 
   waiting_step_9 : (step waiting_world_9 (Arrive (trunk 2) first 0)).world ≡ waiting_world_10
@@ -667,8 +1035,8 @@ module _ (cookie : List ℕ) (own other : ℕ) where
   module _ (word : ℕ) where
     abbrev crossing_world_0 : World
     crossing_world_0 = world
-        (node first 1 true 0 0 0 0 fm.empty fm.empty fm.empty fm.empty fm.empty [])
-        (node second 1 true 0 0 0 0 fm.empty fm.empty fm.empty fm.empty fm.empty [])
+        (node cookie first 1 true 0 0 0 0 fm.empty fm.empty fm.empty fm.empty fm.empty [])
+        (node cookie second 1 true 0 0 0 0 fm.empty fm.empty fm.empty fm.empty fm.empty [])
         fm.empty
 
     abbrev crossing_sides_of_first_1 : FinMap trunk_cmp TrunkSide
@@ -679,8 +1047,8 @@ module _ (cookie : List ℕ) (own other : ℕ) where
 
     abbrev crossing_world_1 : World
     crossing_world_1 = world
-        (node first 1 true 0 0 0 1 fm.empty fm.empty fm.empty fm.empty crossing_sides_of_first_1 [])
-        (node second 1 true 0 0 0 0 fm.empty fm.empty fm.empty fm.empty fm.empty [])
+        (node cookie first 1 true 0 0 0 1 fm.empty fm.empty fm.empty fm.empty crossing_sides_of_first_1 [])
+        (node cookie second 1 true 0 0 0 0 fm.empty fm.empty fm.empty fm.empty fm.empty [])
         crossing_lists_1
 
     crossing_step_0 : (step crossing_world_0 (Dial first second own)).world ≡ crossing_world_1
@@ -694,8 +1062,8 @@ module _ (cookie : List ℕ) (own other : ℕ) where
 
     abbrev crossing_world_2 : World
     crossing_world_2 = world
-        (node first 1 true 0 0 0 1 fm.empty fm.empty fm.empty fm.empty crossing_sides_of_first_1 [])
-        (node second 1 true 0 0 0 1 fm.empty fm.empty fm.empty fm.empty crossing_sides_of_second_1 [])
+        (node cookie first 1 true 0 0 0 1 fm.empty fm.empty fm.empty fm.empty crossing_sides_of_first_1 [])
+        (node cookie second 1 true 0 0 0 1 fm.empty fm.empty fm.empty fm.empty crossing_sides_of_second_1 [])
         crossing_lists_2
 
     crossing_step_1 : (step crossing_world_1 (Dial second first other)).world ≡ crossing_world_2
@@ -712,8 +1080,8 @@ module _ (cookie : List ℕ) (own other : ℕ) where
 
     abbrev crossing_world_3 : World
     crossing_world_3 = world
-        (node first 1 true 0 0 0 1 fm.empty fm.empty fm.empty fm.empty crossing_sides_of_first_1 [])
-        (node second 1 true 0 0 0 1 fm.empty fm.empty fm.empty fm.empty crossing_sides_of_second_2 [])
+        (node cookie first 1 true 0 0 0 1 fm.empty fm.empty fm.empty fm.empty crossing_sides_of_first_1 [])
+        (node cookie second 1 true 0 0 0 1 fm.empty fm.empty fm.empty fm.empty crossing_sides_of_second_2 [])
         crossing_lists_4
 
     crossing_step_2 : (step crossing_world_2 (Arrive (trunk 1) second 0)).world ≡ crossing_world_3
@@ -738,8 +1106,8 @@ module _ (cookie : List ℕ) (own other : ℕ) where
 
     abbrev crossing_world_4 : World
     crossing_world_4 = world
-        (node first 1 true 0 0 0 1 fm.empty fm.empty fm.empty fm.empty crossing_sides_of_first_3 [])
-        (node second 1 true 0 0 0 1 fm.empty fm.empty fm.empty fm.empty crossing_sides_of_second_2 [])
+        (node cookie first 1 true 0 0 0 1 fm.empty fm.empty fm.empty fm.empty crossing_sides_of_first_3 [])
+        (node cookie second 1 true 0 0 0 1 fm.empty fm.empty fm.empty fm.empty crossing_sides_of_second_2 [])
         crossing_lists_7
 
     crossing_step_3 : (step crossing_world_3 (Arrive (other_trunk 1) first word)).world ≡ crossing_world_4
@@ -754,8 +1122,8 @@ module _ (cookie : List ℕ) (own other : ℕ) where
 
     abbrev crossing_world_5 : World
     crossing_world_5 = world
-        (node first 1 true 0 0 0 1 fm.empty fm.empty fm.empty fm.empty crossing_sides_of_first_3 [])
-        (node second 1 true 0 0 0 1 fm.empty fm.empty fm.empty fm.empty crossing_sides_of_second_3 [])
+        (node cookie first 1 true 0 0 0 1 fm.empty fm.empty fm.empty fm.empty crossing_sides_of_first_3 [])
+        (node cookie second 1 true 0 0 0 1 fm.empty fm.empty fm.empty fm.empty crossing_sides_of_second_3 [])
         crossing_lists_8
 
     crossing_step_4 : (step crossing_world_4 (Arrive (other_trunk 1) second 0)).world ≡ crossing_world_5
@@ -774,8 +1142,8 @@ module _ (cookie : List ℕ) (own other : ℕ) where
 
     abbrev crossing_world_6 : World
     crossing_world_6 = world
-        (node first 1 true 0 0 0 1 fm.empty fm.empty fm.empty fm.empty crossing_sides_of_first_3 [])
-        (node second 1 true 0 0 0 1 fm.empty fm.empty fm.empty fm.empty crossing_sides_of_second_4 [])
+        (node cookie first 1 true 0 0 0 1 fm.empty fm.empty fm.empty fm.empty crossing_sides_of_first_3 [])
+        (node cookie second 1 true 0 0 0 1 fm.empty fm.empty fm.empty fm.empty crossing_sides_of_second_4 [])
         crossing_lists_10
 
     crossing_step_5 : (step crossing_world_5 (Arrive (other_trunk 1) second 0)).world ≡ crossing_world_6
@@ -794,8 +1162,8 @@ module _ (cookie : List ℕ) (own other : ℕ) where
 
     abbrev crossing_world_7 : World
     crossing_world_7 = world
-        (node first 1 true 0 0 0 1 fm.empty fm.empty fm.empty fm.empty crossing_sides_of_first_4 [])
-        (node second 1 true 0 0 0 1 fm.empty fm.empty fm.empty fm.empty crossing_sides_of_second_4 [])
+        (node cookie first 1 true 0 0 0 1 fm.empty fm.empty fm.empty fm.empty crossing_sides_of_first_4 [])
+        (node cookie second 1 true 0 0 0 1 fm.empty fm.empty fm.empty fm.empty crossing_sides_of_second_4 [])
         crossing_lists_12
 
     crossing_step_6 : (step crossing_world_6 (Arrive (other_trunk 1) first 0)).world ≡ crossing_world_7
@@ -810,8 +1178,8 @@ module _ (cookie : List ℕ) (own other : ℕ) where
 
     abbrev crossing_world_8 : World
     crossing_world_8 = world
-        (node first 1 true 0 0 0 1 fm.empty fm.empty fm.empty fm.empty crossing_sides_of_first_4 [])
-        (node second 1 true 0 0 0 1 fm.empty fm.empty fm.empty fm.empty crossing_sides_of_second_5 [])
+        (node cookie first 1 true 0 0 0 1 fm.empty fm.empty fm.empty fm.empty crossing_sides_of_first_4 [])
+        (node cookie second 1 true 0 0 0 1 fm.empty fm.empty fm.empty fm.empty crossing_sides_of_second_5 [])
         crossing_lists_13
 
     crossing_step_7 : (step crossing_world_7 (Arrive (other_trunk 1) second 0)).world ≡ crossing_world_8

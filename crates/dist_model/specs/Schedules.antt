@@ -5,7 +5,7 @@ use Rattle.std.specs.Prelude.{ℕ, true, List, [], ◌∷◌, ◌++◌, codes}
 use Rattle.dist_model.specs.declared.command.Command.{Command}
 use Rattle.dist_model.specs.Names.{Name}
 use Rattle.dist_model.specs.Runs.{opening}
-use Rattle.dist_model.specs.World.{Arrive, Call, Dial, Event, Lose, Start, Stop, Sweep, World}
+use Rattle.dist_model.specs.World.{Arrive, Call, Dial, Event, Local, Lose, Start, Stop, Sweep, World}
 use Rattle.erl_names.specs.declared.trunk.TrunkId.{TrunkId}
 use Rattle.erl_term.specs.Data.{Data}
 use Rattle.erl_term.specs.declared.term.Pid.{Pid}
@@ -22,6 +22,10 @@ here = record { node = first; creation = 1; id = 1; serial = 0 }
 
 abbrev pub there : Pid
 there = record { node = second; creation = 1; id = 1; serial = 0 }
+
+-- another process of the first node
+abbrev pub beside : Pid
+beside = record { node = first; creation = 1; id = 2; serial = 0 }
 
 -- of the first node's trunks this one
 abbrev pub trunk : ℕ → TrunkId
@@ -81,9 +85,9 @@ monitoring reason = Call first (Command.Monitor here there) ∷ Arrive (trunk 1)
 abbrev pub monitored_to_the_end : (own other : ℕ) → (reason : Data) → List Event
 monitored_to_the_end own other reason = (connected_over_a_trunk own other ++ monitoring reason) ++ Arrive (trunk 1) first 0 ∷ []
 
--- the second node stops and starts, and the first loses the connection and sweeps its records
+-- the second node stops, starts and spawns a process, and the first loses the connection and sweeps its records
 abbrev pub restarting : List Event
-restarting = Stop second ∷ Start second ∷ Lose (trunk 1) first ∷ Sweep first ∷ []
+restarting = Stop second ∷ Start second ∷ Call second Command.Spawn ∷ Lose (trunk 1) first ∷ Sweep first ∷ []
 
 -- the nodes connect again, and the first node's process monitors the one that was
 abbrev pub monitoring_the_former : (own other : ℕ) → List Event
@@ -95,6 +99,25 @@ monitored_after_a_restart own other = (connected_over_a_trunk own other ++ monit
 -- of two that are linked one ends
 abbrev pub linked_to_the_end : (own other : ℕ) → (reason : Data) → List Event
 linked_to_the_end own other reason = linked_over_a_trunk own other ++ Call second (Command.ExitSelf there reason) ∷ []
+
+-- ---- two processes of one node
+
+-- one takes its link back, and before the other hears of that it ends: what comes next is its EXIT
+abbrev pub unlinked_before_the_end : (reason : Data) → List Event
+unlinked_before_the_end reason =
+    Call first Command.Spawn ∷ Call first Command.Spawn ∷ Call first (Command.Link here beside) ∷ Local first ∷ Call first (Command.Unlink here beside)
+    ∷ Call first (Command.ExitSelf beside reason) ∷ Local first ∷ []
+
+-- one has ended when the other, which traps exits, links itself to it: what comes next is the answer
+abbrev pub linked_to_the_dead : (reason : Data) → List Event
+linked_to_the_dead reason =
+    Call first Command.Spawn ∷ Call first Command.Spawn ∷ Call first (Command.Trap here true) ∷ Call first (Command.ExitSelf beside reason) ∷ Call first (Command.Link here beside) ∷ Local first ∷ []
+
+-- one ends, and the other takes its monitor back: what comes next is the news of that end
+abbrev pub demonitored_after_the_end : (reason : Data) → List Event
+demonitored_after_the_end reason =
+    Call first Command.Spawn ∷ Call first Command.Spawn ∷ Call first (Command.Monitor here beside) ∷ Local first ∷ Call first (Command.ExitSelf beside reason)
+    ∷ Call first (Command.Demonitor here reference) ∷ []
 
 -- ---- dials that meet
 

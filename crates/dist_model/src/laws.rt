@@ -11,18 +11,20 @@ ghost use Rattle.dist_model.specs.Downs.{Down, down_in, downs};
 ghost use Rattle.erl_term.specs.Data.{Data};
 ghost use Rattle.erl_term.specs.declared.refusal.Refusal.{Refusal};
 ghost use Rattle.erl_control.specs.Control.{Fits};
+ghost use Rattle.erl_control.specs.declared.signal.Signal.{Signal};
 ghost use Rattle.dist_model.specs.Fits.{fits};
 ghost use Rattle.dist_model.specs.Links.{LinkNews, noproc};
 ghost use Rattle.dist_model.specs.Items.{Signalled, telling, news_in};
 ghost use Rattle.link_core.specs.declared.end.End.{End};
 ghost use Rattle.link_core.specs.Table.{is_active, linked, unlinked};
-ghost use Rattle.dist_model.specs.Commands.{Accepts};
+ghost use Rattle.dist_model.specs.Commands.{Accepts, Accepts};
 ghost use Rattle.dist_model.specs.declared.report.Answer.{Answer};
+ghost use Rattle.dist_model.specs.declared.report.Kind.{Kind};
 ghost use Rattle.dist_model.specs.Linking.{link_by, unlink_by};
 ghost use Rattle.dist_model.specs.Tabled.{links_by_table, unlinks_by_table};
 ghost use Rattle.erl_names.specs.Draw as draw;
 ghost use Rattle.erl_names.specs.Minted.{id_of};
-ghost use Rattle.dist_model.specs.World.{World, Event, Report, Refused, Arrive, step};
+ghost use Rattle.dist_model.specs.World.{World, Event, Report, Refused, Reported, Arrive, Local, step};
 ghost use Rattle.dist_model.specs.Quiet.{Quiet, is_quiet};
 ghost use Rattle.dist_model.specs.Runs.{Goes, Runs, run, Always, opening};
 ghost use Rattle.std.specs.FinMap as map;
@@ -239,12 +241,38 @@ pub fn monitor_tells()
         (record { owner = schedule.here; target = schedule.there; info = reason }) ∷ [] }
 {}
 
-/// A node stops and starts, and is dialed again. Who then monitors a process of its earlier
-/// incarnation gets one DOWN, with noproc.
+/// A node stops, starts and spawns a process, and is dialed again. Who then monitors the process that
+/// had the same id in the earlier incarnation gets one DOWN, with noproc.
 pub fn restart_tells()
     ensures down { (cookie : List ℕ) (own other : ℕ) →
         downs schedule.reference (history (schedule.monitored_after_a_restart own other) (schedule.two_nodes cookie)) ≡
         (record { owner = schedule.here; target = schedule.there; info = noproc }) ∷ [] }
+{}
+
+/// A process takes its link back, and its partner ends before it hears of that. The partner's EXIT
+/// comes, and isn't reacted to.
+pub fn late_exit()
+    ensures waiting { (cookie : List ℕ) (reason : Data) → fits reason ≡ true →
+        let w = run (schedule.unlinked_before_the_end reason) (schedule.two_nodes cookie) in
+        end_between w schedule.here schedule.beside ≡ End.Pending 1 }
+    ensures ignored { (cookie : List ℕ) (reason : Data) → fits reason ≡ true →
+        let w = run (schedule.unlinked_before_the_end reason) (schedule.two_nodes cookie) in
+        (step w (Local schedule.first)).report ≡ Reported (Answer.Took Kind.Exit) [] }
+{}
+
+/// Who links itself to a process of its own node that has ended reacts to an exit with noproc.
+pub fn dead_partner()
+    ensures reacts { (cookie : List ℕ) (reason : Data) → fits reason ≡ true →
+        let w = run (schedule.linked_to_the_dead reason) (schedule.two_nodes cookie) in
+        Reacts schedule.here schedule.beside noproc ((step w (Local schedule.first)).report) }
+{}
+
+/// A process ends, and its monitor is taken back before the news of that comes. No DOWN is put.
+pub fn late_down()
+    ensures none { (cookie : List ℕ) (reason : Data) → fits reason ≡ true →
+        let w = run (schedule.demonitored_after_the_end reason) (schedule.two_nodes cookie) in
+        (step w (Local schedule.first)).report ≡
+        Reported (Answer.Took Kind.MonitorExit) [] }
 {}
 
 /// Two nodes dial each other before either hears of it. The attempt of the node with the greater name
