@@ -1,19 +1,18 @@
 -- What becomes of a node's sides in an event.
 use Rattle.erl_handshake.specs.declared.message.ShakeMsg.{ShakeMsg}
-use Rattle.std.proofs.Common.{◌≡◌, Bool, true, false, cond, List, [], ◌∷◌, refl, sym, ap, ◌∙◌, ◌||◌, Some, ◌⊎◌, inl, inr}
+use Rattle.std.proofs.Common.{◌≡◌, Bool, true, false, cond, List, [], ◌∷◌, refl, sym, ap, ◌∙◌, Some, ◌⊎◌, inl, inr}
 use Rattle.std.specs.Option.{is_some}
 use Rattle.std.specs.FinMap as fm
 use Rattle.std.specs.FinMap.Entries.{find}
 use Rattle.dist_model.proofs.Calls.{by_test}
 use Rattle.dist_model.proofs.Handshaking.{Aged, Ages, Fresh, Shut, Turned, set_at}
 use Rattle.dist_model.proofs.Keys.{same_name_is, same_trunk, same_trunk_true}
-use Rattle.dist_model.proofs.Lists.{none_of_or}
 use Rattle.dist_model.proofs.Routes.{none_some, some_same}
 use Rattle.dist_model.proofs.Sides.{holds, side_at}
 use Rattle.dist_model.specs.Downs.{same_reference}
 use Rattle.dist_model.specs.Handshake.{with_side, write}
 use Rattle.dist_model.proofs.Records.{has_records, no_records}
-use Rattle.dist_model.specs.Losses.{link_to, registered_by, watch_to}
+use Rattle.dist_model.specs.Losses.{watch_to}
 use Rattle.dist_model.specs.Names.{Name, same_name}
 use Rattle.dist_model.specs.Node.{Node}
 use Rattle.dist_model.specs.Sides.{Gone, TrunkSide, is_over}
@@ -76,7 +75,7 @@ aging_side n t s o c k u a h = by_test _ (same_trunk u t)
         hold (inr f) = inr (f.0, g.over (ap (λ (z : TrunkSide). is_over z.state) (sym e) ∙ f.1))
 
     here : u ≡ t → side_at ((with_side t s o).node) u ≡ Some s → (v : Later o.node u a) → Turned o.node t s → Later ((with_side t s o).node) u a
-    here e at v (Fresh f) = absurd (none_some v.side (sym f ∙ ap (side_at o.node) (sym e) ∙ v.there))
+    here e at v (Fresh q f) = absurd (none_some v.side (sym f ∙ ap (side_at o.node) (sym e) ∙ v.there))
     here e at v (Aged b f g) = aged b at g v (some_same v.side b (sym v.there ∙ ap (side_at o.node) e ∙ f))
     here e at v (Shut b f p g r) =
         let same : v.side ≡ b = some_same v.side b (sym v.there ∙ ap (side_at o.node) e ∙ f) in

@@ -304,7 +304,7 @@ forged_not : (a b : Bool) → (a && b) ≡ false → a ≡ true → b ≡ false
 forged_not true b h e = h
 forged_not false b h e = cc
 
-if_not_known : (b : Bool) (k : Outcome) (j : Refusal) (P : Work → Type 0) → (b ≡ false → IfGoes k P) → IfGoes (cond b (Refuses j) k) P
+pub if_not_known : (b : Bool) (k : Outcome) (j : Refusal) (P : Work → Type 0) → (b ≡ false → IfGoes k P) → IfGoes (cond b (Refuses j) k) P
 if_not_known true k j P h = tt
 if_not_known false k j P h = h refl
 

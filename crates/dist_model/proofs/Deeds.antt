@@ -1,5 +1,5 @@
 -- What each event does, in the words of what is known.
-use Rattle.dist_model.proofs.Envelopes.{outgoing, mere}
+use Rattle.dist_model.proofs.Envelopes.{mere}
 use Rattle.dist_model.proofs.Seeing.{end_at, living_at, reached_at}
 use Rattle.erl_handshake.specs.declared.message.ShakeMsg.{ShakeMsg}
 use Rattle.std.proofs.Common.{◌==◌, nat_lt, ◌≡◌, ◌≤◌, Bool, true, false, cond, not, List, [], ◌∷◌, refl, sym, ap, ◌∙◌, subst, arith, ◌&&◌, ◌||◌, Some, ◌⊎◌, inl, inr, Contains}
@@ -162,7 +162,7 @@ module _ (w : World) (h : History) (x : Name) (n : Node) (hx : node_of w.nodes x
         record {
           plain = λ s i. (a.plain s i, c.plain s i);
           posted = λ s o i k. record { truth = a.posted s o i.0 k.truth; core = b.posted s o tt k.core; home = c.posted s o i.1 k.home };
-          end_set = λ p q v o k. record { truth = a.end_set p q v o k.truth; core = b.end_set p q v o k.core; home = c.end_set p q v o k.home };
+          end_set = λ p q v o l k. record { truth = a.end_set p q v o l k.truth; core = b.end_set p q v o l k.core; home = c.end_set p q v o l k.home };
           drew = λ o k. record { truth = a.drew o k.truth; core = b.drew o k.core; home = c.drew o k.home };
           life_set = λ p l o i k. record { truth = a.life_set p l o i k.truth; core = b.life_set p l o i k.core; home = c.life_set p l o i k.home };
           message = λ p m o i k. record { truth = a.message p m o i k.truth; core = b.message p m o i k.core; home = c.message p m o i k.home };

@@ -90,7 +90,7 @@ module _ (n : Node) where
   sent_closed = record {
     plain = λ s h. tt;
     posted = λ s o h k. sent_post s o k;
-    end_set = λ p q e o k. record { sides = k.sides; name = k.name; routed = k.routed; words = k.words };
+    end_set = λ p q e o l k. record { sides = k.sides; name = k.name; routed = k.routed; words = k.words };
     drew = λ o k. record { sides = k.sides; name = k.name; routed = k.routed; words = k.words };
     life_set = λ p l o h k. record { sides = k.sides; name = k.name; routed = k.routed; words = k.words };
     message = λ p m o h k. silent o (put p m o) (Effect.Put p m) refl refl refl refl k;

@@ -368,7 +368,7 @@ module _ (n : Node) (Old : Pid → Data → Type 0) (Ok : Pid → Pid → Data �
   true_closed = record {
     plain = λ s h. plain_founded Old Call Off s h;
     posted = λ s o h k. true_post s o (old_now o (Signalled s) h) k;
-    end_set = λ p q e o k. true_node o ((set_end p q e o).node) refl refl refl k;
+    end_set = λ p q e o l k. true_node o ((set_end p q e o).node) refl refl refl k;
     drew = λ o k. true_node o ((draw kind.UnlinkId o).node) refl refl refl k;
     life_set = λ p l o h k. true_node o (record (o.node) { lives = set_life o.node.lives p l }) refl refl refl k;
     message = λ p m o h k. true_put p m o k;

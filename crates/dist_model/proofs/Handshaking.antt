@@ -13,7 +13,8 @@ use Rattle.std.proofs.Common.{◌≡◌, ℕ, Bool, true, false, cond, refl, sym
 use Rattle.std.specs.Ordering.{is_gt}
 use Rattle.std.specs.FinMap as fm
 use Rattle.dist_model.proofs.Calls.{IfGoes, by_test}
-use Rattle.dist_model.proofs.Keys.{same_trunk, same_trunk_true, trunk_total}
+use Rattle.dist_model.proofs.Keys.{same_trunk, same_trunk_refl, same_trunk_true, trunk_total}
+use Rattle.dist_model.specs.Keeping.{Towards}
 use Rattle.dist_model.proofs.Routes.{none_some, side_where_found, some_same}
 use Rattle.dist_model.proofs.Sides.{holds, side_at}
 use Rattle.dist_model.specs.Arrivals.{arrive_at, arrive_fresh, on_up, signal_at}
@@ -31,7 +32,6 @@ use Rattle.dist_model.specs.Taking.{take_item}
 use Rattle.dist_model.specs.Work.{Work, at_work}
 use Rattle.erl_names.specs.Order.{name_cmp}
 use Rattle.erl_names.specs.declared.trunk.TrunkId.{TrunkId}
-use Rattle.erl_term.specs.declared.refusal.Refusal.{Refusal}
 
 -- how a side changes: what holds the peer's records goes on to hold them, and what is over stays so
 pub record Ages (a b : TrunkSide) : Type 0 where
@@ -39,11 +39,15 @@ pub record Ages (a b : TrunkSide) : Type 0 where
   pub holding : holds a.state ≡ true → holds b.state ≡ true
   pub over : is_over a.state ≡ true → is_over b.state ≡ true
 
-pub data Turned (o : Node) (t : TrunkId) (s : TrunkSide) : Type 0 where
-  Fresh : side_at o t ≡ None → Turned o t s
-  Aged : (a : TrunkSide) → side_at o t ≡ Some a → Ages a s → Turned o t s
+pub data TurnedBy (New : TrunkId → Name → Type 0) (o : Node) (t : TrunkId) (s : TrunkSide) : Type 0 where
+  Fresh : New t s.peer → side_at o t ≡ None → TurnedBy New o t s
+  Aged : (a : TrunkSide) → side_at o t ≡ Some a → Ages a s → TurnedBy New o t s
   -- no records are left
-  Shut : (a : TrunkSide) → side_at o t ≡ Some a → s.peer ≡ a.peer → s.state ≡ Gone → has_records a.peer o ≡ false → Turned o t s
+  Shut : (a : TrunkSide) → side_at o t ≡ Some a → s.peer ≡ a.peer → s.state ≡ Gone → has_records a.peer o ≡ false → TurnedBy New o t s
+
+-- whichever side is new
+abbrev pub Turned : Node → TrunkId → TrunkSide → Type 0
+Turned = TurnedBy (λ t y. Unit {0})
 
 abbrev pub as_state : TrunkSide → State → TrunkSide
 as_state s x = record { peer = s.peer; peer_creation = creation_in x s.peer_creation; state = x }
@@ -128,6 +132,9 @@ up_ages v h i = refl
 pub set_at : (o : Work) (t : TrunkId) (s : TrunkSide) (u : TrunkId) → side_at ((with_side t s o).node) u ≡ cond (same_trunk u t) (Some s) (side_at o.node u)
 set_at o t s u = fm.get-insert trunk_total o.node.sides t s u
 
+pub towards_set : (o : Work) (t : TrunkId) (s : TrunkSide) → Towards ((with_side t s o).node) t s.peer
+towards_set o t s = record { side = s; there = set_at o t s t ∙ ap (λ b. cond b (Some s) (side_at o.node t)) (same_trunk_refl t); peer = refl }
+
 still_there : (o : Work) (t u : TrunkId) (s v : TrunkSide) → side_at o.node u ≡ Some v → (u ≡ t → ⊥) → side_at ((with_side t s o).node) u ≡ Some v
 still_there o t u s v h d = set_at o t s u ∙ by_test _ (same_trunk u t) (λ e. absurd (d (same_trunk_true u t e))) (λ e. ap (λ b. cond b (Some s) (side_at o.node u)) e ∙ h)
 
@@ -143,10 +150,10 @@ found : (test : State → Bool) (y : Name) (n : Node) (d : Option (TrunkId × Tr
 found test y n None h = tt
 found test y n (Some e) h = let f = side_where_found test y (fm.entries n.sides) e (fm.entries_sorted n.sides) h in (fm.get-entries n.sides e.0 ∙ f.there, f.passes)
 
-module _ (X : Work → Type 0) (side : (t : TrunkId) (s : TrunkSide) (o : Work) → Turned o.node t s → X o → X (with_side t s o)) (wrote : (t : TrunkId) (y : Name) (m : ShakeMsg) (o : Work) → X o → X (write t y m o)) where
-  fresh_state : (t : TrunkId) (s : TrunkSide) (x : State) (o : Work) → side_at o.node t ≡ None → X o → X (set_state t s x o)
-  fresh_state t s x o h k = side t (as_state s x) o (Fresh h) k
-
+-- which sides may be new, towards whom, and what is kept
+module _ (New : TrunkId → Name → Type 0) (X : Work → Type 0)
+    (side : (t : TrunkId) (s : TrunkSide) (o : Work) → TurnedBy New o.node t s → X o → X (with_side t s o))
+    (wrote : (t : TrunkId) (y : Name) (m : ShakeMsg) (o : Work) → Towards o.node t y → X o → X (write t y m o)) where
   aged_state : (t : TrunkId) (s : TrunkSide) (x : State) (o : Work) → side_at o.node t ≡ Some s → (holds s.state ≡ true → holds x ≡ true) → (is_over s.state ≡ true → is_over x ≡ true) → X o → X (set_state t s x o)
   aged_state t s x o h a b k = side t (as_state s x) o (Aged s h (record { peer = refl; holding = a; over = b })) k
 
@@ -154,14 +161,11 @@ module _ (X : Work → Type 0) (side : (t : TrunkId) (s : TrunkSide) (o : Work) 
   open_state t s x o h a k = aged_state t s x o h (open_ages s.state x a) (open_starts s.state x a) k
 
   told : (t : TrunkId) (s : TrunkSide) (x : State) (m : ShakeMsg) (o : Work) → X (set_state t s x o) → X (write t s.peer m (set_state t s x o))
-  told t s x m o k = wrote t s.peer m (set_state t s x o) k
+  told t s x m o k = wrote t s.peer m (set_state t s x o) (towards_set o t (as_state s x)) k
 
   if_either : (b : Bool) (x y : Outcome) → IfGoes x X → IfGoes y X → IfGoes (cond b x y) X
   if_either true x y h k = h
   if_either false x y h k = k
-
-  fresh_fault : (j : Fault) (t : TrunkId) (s : TrunkSide) (o : Work) → side_at o.node t ≡ None → X o → IfGoes (fault j t s o) X
-  fresh_fault j t s o h k = fresh_state t s (lost s.state) o h k
 
   pub known_fault : (j : Fault) (t : TrunkId) (s : TrunkSide) (o : Work) → side_at o.node t ≡ Some s → X o → IfGoes (fault j t s o) X
   known_fault j t s o h k = aged_state t s (lost s.state) o h (lost_holds s.state) (λ i. lost_over s.state) k
@@ -175,46 +179,69 @@ module _ (X : Work → Type 0) (side : (t : TrunkId) (s : TrunkSide) (o : Work) 
   given_none None test o t p h = h
   given_none (Some e) test o t p h = still_none o e.0 t (as_state e.1 Gone) e.1 h p.0
 
-  accepted : (t : TrunkId) (s : TrunkSide) (w : ℕ) (m : ShakeMsg) (x : Item) (o : Work) → side_at o.node t ≡ None → X o → IfGoes (accepts t s w m x o) X
-  accepted t s w m x o h k = wrote t s.peer (challenge o.node w) (write t s.peer m (set_state t s (Accepting w) o)) (told t s (Accepting w) m o (fresh_state t s (Accepting w) o h k))
+  -- a new side of this trunk, towards its dialer
+  module _ (t : TrunkId) (new : New t t.dialer) where
+    fresh_state : (s : TrunkSide) (x : State) (o : Work) → s.peer ≡ t.dialer → side_at o.node t ≡ None → X o → X (set_state t s x o)
+    fresh_state s x o e h k = side t (as_state s x) o (Fresh (subst (New t) (sym e) new) h) k
 
-  greeted_dialing : (d : Option (TrunkId × TrunkSide)) (t : TrunkId) (s : TrunkSide) (w : ℕ) (x : Item) (o : Work) → Passing is_dialing o.node d → side_at o.node t ≡ None → X o → IfGoes (greet_dialing d t s w x o) X
-  greeted_dialing None t s w x o p h k = accepted t s w (ShakeMsg.Status Status.Ok) x o h k
-  greeted_dialing (Some e) t s w x o p h k = if_either (is_gt (name_cmp t.dialer o.node.mint.name)) _ _
-      (accepted t s w (ShakeMsg.Status Status.OkSimultaneous) x (give_up (Some e) o) (given_none (Some e) is_dialing o t p h) (given (Some e) is_dialing o open_dialing p k))
-      (told t s Gone (ShakeMsg.Status Status.Nok) o (fresh_state t s Gone o h k))
+    fresh_fault : (j : Fault) (s : TrunkSide) (o : Work) → s.peer ≡ t.dialer → side_at o.node t ≡ None → X o → IfGoes (fault j t s o) X
+    fresh_fault j s o e h k = fresh_state s (lost s.state) o e h k
 
-  greeted_up : (d : Option (TrunkId × TrunkSide)) (t : TrunkId) (s : TrunkSide) (w : ℕ) (x : Item) (o : Work) → side_at o.node t ≡ None → X o → IfGoes (greet_up d t s w x o) X
-  greeted_up None t s w x o h k = greeted_dialing (side_where is_dialing s.peer (fm.entries o.node.sides)) t s w x o (found is_dialing s.peer o.node _ refl) h k
-  greeted_up (Some e) t s w x o h k = told t s (Asked w) (ShakeMsg.Status Status.Alive) o (fresh_state t s (Asked w) o h k)
+    accepted : (s : TrunkSide) (w : ℕ) (m : ShakeMsg) (x : Item) (o : Work) → s.peer ≡ t.dialer → side_at o.node t ≡ None → X o
+        → IfGoes (accepts t s w m x o) X
+    accepted s w m x o e h k = wrote t s.peer (challenge o.node w) (write t s.peer m (set_state t s (Accepting w) o))
+        (towards_set o t (as_state s (Accepting w))) (told t s (Accepting w) m o (fresh_state s (Accepting w) o e h k))
 
-  greeted : (t : TrunkId) (s : TrunkSide) (w : ℕ) (x : Item) (o : Work) → side_at o.node t ≡ None → X o → IfGoes (greet t s w x o) X
-  greeted t s w x o h k = greeted_up (side_where (λ v. is_up v || is_losing v) s.peer (fm.entries o.node.sides)) t s w x o h k
+    greeted_dialing : (d : Option (TrunkId × TrunkSide)) (s : TrunkSide) (w : ℕ) (x : Item) (o : Work) → Passing is_dialing o.node d
+        → s.peer ≡ t.dialer → side_at o.node t ≡ None → X o → IfGoes (greet_dialing d t s w x o) X
+    greeted_dialing None s w x o p i h k = accepted s w (ShakeMsg.Status Status.Ok) x o i h k
+    greeted_dialing (Some e) s w x o p i h k = if_either (is_gt (name_cmp t.dialer o.node.mint.name)) _ _
+        (accepted s w (ShakeMsg.Status Status.OkSimultaneous) x (give_up (Some e) o) i (given_none (Some e) is_dialing o t p h)
+        (given (Some e) is_dialing o open_dialing p k))
+        (told t s Gone (ShakeMsg.Status Status.Nok) o (fresh_state s Gone o i h k))
 
-  greeted_waiting : (d : Option (TrunkId × TrunkSide)) (t : TrunkId) (s : TrunkSide) (w : ℕ) (x : Item) (o : Work) → Passing is_waiting o.node d → side_at o.node t ≡ None → X o → IfGoes (greet_waiting d t s w x o) X
-  greeted_waiting None t s w x o p h k = greeted t s w x o h k
-  greeted_waiting (Some e) t s w x o p h k = if_either (nat_lt e.0.count t.count) _ _
-      (greeted t s w x (give_up (Some e) o) (given_none (Some e) is_waiting o t p h) (given (Some e) is_waiting o open_waiting p k))
-      (told t s Gone (ShakeMsg.Status Status.Nok) o (fresh_state t s Gone o h k))
+    greeted_up : (d : Option (TrunkId × TrunkSide)) (s : TrunkSide) (w : ℕ) (x : Item) (o : Work) → s.peer ≡ t.dialer
+        → side_at o.node t ≡ None → X o → IfGoes (greet_up d t s w x o) X
+    greeted_up None s w x o i h k = greeted_dialing (side_where is_dialing s.peer (fm.entries o.node.sides)) s w x o (found is_dialing s.peer o.node _ refl) i h k
+    greeted_up (Some e) s w x o i h k = told t s (Asked w) (ShakeMsg.Status Status.Alive) o (fresh_state s (Asked w) o i h k)
 
-  named : (t : TrunkId) (m : ShakeMsg) (w : ℕ) (o : Work) → side_at o.node t ≡ None → X o → IfGoes (awaits_name t m w o) X
-  named t (ShakeMsg.SendName flags creation name) w o h k =
-      let s : TrunkSide = record { peer = t.dialer; peer_creation = creation; state = Gone } in
-      if_either (is_same name t.dialer) _ _ (if_either (has_all_of flags mandatory) _ _ (greeted_waiting (side_where is_waiting t.dialer (fm.entries o.node.sides)) t s w (Handshake (ShakeMsg.SendName flags creation name)) o (found is_waiting t.dialer o.node _ refl) h k) (fresh_fault (Fault.Shake ShakeFault.FlagsMissing) t s o h k)) (fresh_fault (Fault.Shake ShakeFault.Forged) t s o h k)
-  named t (ShakeMsg.Status Status.Ok) w o h k = fresh_fault (Fault.Shake ShakeFault.BadMessage) t (record { peer = t.dialer; peer_creation = 0; state = Gone }) o h k
-  named t (ShakeMsg.Status Status.OkSimultaneous) w o h k = fresh_fault (Fault.Shake ShakeFault.BadMessage) t (record { peer = t.dialer; peer_creation = 0; state = Gone }) o h k
-  named t (ShakeMsg.Status Status.Nok) w o h k = fresh_fault (Fault.Shake ShakeFault.BadMessage) t (record { peer = t.dialer; peer_creation = 0; state = Gone }) o h k
-  named t (ShakeMsg.Status Status.NotAllowed) w o h k = fresh_fault (Fault.Shake ShakeFault.BadMessage) t (record { peer = t.dialer; peer_creation = 0; state = Gone }) o h k
-  named t (ShakeMsg.Status Status.Alive) w o h k = fresh_fault (Fault.Shake ShakeFault.BadMessage) t (record { peer = t.dialer; peer_creation = 0; state = Gone }) o h k
-  named t (ShakeMsg.Status Status.True) w o h k = fresh_fault (Fault.Shake ShakeFault.BadMessage) t (record { peer = t.dialer; peer_creation = 0; state = Gone }) o h k
-  named t (ShakeMsg.Status Status.False) w o h k = fresh_fault (Fault.Shake ShakeFault.BadMessage) t (record { peer = t.dialer; peer_creation = 0; state = Gone }) o h k
-  named t (ShakeMsg.Challenge a b c d) w o h k = fresh_fault (Fault.Shake ShakeFault.BadMessage) t (record { peer = t.dialer; peer_creation = 0; state = Gone }) o h k
-  named t (ShakeMsg.ChallengeReply a b) w o h k = fresh_fault (Fault.Shake ShakeFault.BadMessage) t (record { peer = t.dialer; peer_creation = 0; state = Gone }) o h k
-  named t (ShakeMsg.ChallengeAck a) w o h k = fresh_fault (Fault.Shake ShakeFault.BadMessage) t (record { peer = t.dialer; peer_creation = 0; state = Gone }) o h k
+    greeted : (s : TrunkSide) (w : ℕ) (x : Item) (o : Work) → s.peer ≡ t.dialer → side_at o.node t ≡ None → X o → IfGoes (greet t s w x o) X
+    greeted s w x o i h k = greeted_up (side_where (λ v. is_up v || is_losing v) s.peer (fm.entries o.node.sides)) s w x o i h k
 
-  pub fresh_kept : (m : Option ShakeMsg) (t : TrunkId) (w : ℕ) (o : Work) → side_at o.node t ≡ None → X o → IfGoes (arrive_fresh m t w o) X
-  fresh_kept None t w o h k = fresh_fault (Fault.Shake ShakeFault.BadMessage) t (record { peer = t.dialer; peer_creation = 0; state = Gone }) o h k
-  fresh_kept (Some m) t w o h k = subst (λ z. IfGoes z X) (sym (name_as t m w o)) (named t m w o h k)
+    greeted_waiting : (d : Option (TrunkId × TrunkSide)) (s : TrunkSide) (w : ℕ) (x : Item) (o : Work) → Passing is_waiting o.node d
+        → s.peer ≡ t.dialer → side_at o.node t ≡ None → X o → IfGoes (greet_waiting d t s w x o) X
+    greeted_waiting None s w x o p i h k = greeted s w x o i h k
+    greeted_waiting (Some e) s w x o p i h k = if_either (nat_lt e.0.count t.count) _ _
+        (greeted s w x (give_up (Some e) o) i (given_none (Some e) is_waiting o t p h) (given (Some e) is_waiting o open_waiting p k))
+        (told t s Gone (ShakeMsg.Status Status.Nok) o (fresh_state s Gone o i h k))
+
+    no_name : (o : Work) → side_at o.node t ≡ None → X o
+        → IfGoes (fault (Fault.Shake ShakeFault.BadMessage) t (record { peer = t.dialer; peer_creation = 0; state = Gone }) o) X
+    no_name o h k = fresh_fault (Fault.Shake ShakeFault.BadMessage) (record { peer = t.dialer; peer_creation = 0; state = Gone }) o refl h k
+
+    named : (m : ShakeMsg) (w : ℕ) (o : Work) → side_at o.node t ≡ None → X o → IfGoes (awaits_name t m w o) X
+    named (ShakeMsg.SendName flags creation name) w o h k =
+        let s : TrunkSide = record { peer = t.dialer; peer_creation = creation; state = Gone } in
+        if_either (is_same name t.dialer) _ _
+        (if_either (has_all_of flags mandatory) _ _
+        (greeted_waiting (side_where is_waiting t.dialer (fm.entries o.node.sides)) s w (Handshake (ShakeMsg.SendName flags creation name)) o
+        (found is_waiting t.dialer o.node _ refl) refl h k)
+        (fresh_fault (Fault.Shake ShakeFault.FlagsMissing) s o refl h k))
+        (fresh_fault (Fault.Shake ShakeFault.Forged) s o refl h k)
+    named (ShakeMsg.Status Status.Ok) w o h k = no_name o h k
+    named (ShakeMsg.Status Status.OkSimultaneous) w o h k = no_name o h k
+    named (ShakeMsg.Status Status.Nok) w o h k = no_name o h k
+    named (ShakeMsg.Status Status.NotAllowed) w o h k = no_name o h k
+    named (ShakeMsg.Status Status.Alive) w o h k = no_name o h k
+    named (ShakeMsg.Status Status.True) w o h k = no_name o h k
+    named (ShakeMsg.Status Status.False) w o h k = no_name o h k
+    named (ShakeMsg.Challenge a b c d) w o h k = no_name o h k
+    named (ShakeMsg.ChallengeReply a b) w o h k = no_name o h k
+    named (ShakeMsg.ChallengeAck a) w o h k = no_name o h k
+
+    pub fresh_kept : (m : Option ShakeMsg) (w : ℕ) (o : Work) → side_at o.node t ≡ None → X o → IfGoes (arrive_fresh m t w o) X
+    fresh_kept None w o h k = no_name o h k
+    fresh_kept (Some m) w o h k = subst (λ z. IfGoes z X) (sym (name_as t m w o)) (named m w o h k)
 
   module _ (t : TrunkId) (s : TrunkSide) (o : Work) (at : side_at o.node t ≡ Some s) (k : X o) where
     bad : IfGoes (fault (Fault.Shake ShakeFault.BadMessage) t s o) X

@@ -128,7 +128,7 @@ module _ (n : Node) (P : Pid → Type 0) where
   home_closed = record {
     plain = λ s h e. plain_targets P s h;
     posted = homed_post;
-    end_set = λ p q e o k. record { local = k.local; name = k.name };
+    end_set = λ p q e o l k. record { local = k.local; name = k.name };
     drew = λ o k. record { local = k.local; name = k.name };
     life_set = λ p l o h k. record { local = k.local; name = k.name };
     message = λ p m o h k. record { local = k.local; name = k.name };

@@ -69,3 +69,7 @@ pub mod Peopling
 pub mod Locality
 pub mod Resting
 pub mod Forms
+pub mod KeepParts
+pub mod KeepEvents
+pub mod KeepBearings
+pub mod KeepTaken

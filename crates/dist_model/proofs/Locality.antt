@@ -80,7 +80,7 @@ module _ (n : Node) where
   named names (NodeEvent.Call c) = up_named _ (any_command c)
   named names (NodeEvent.Arrive t i k) = up_named _ (arrives_named t (fm.get n.sides t) i k refl)
   named names NodeEvent.Local = up_named _ (takes_named n.local)
-  named names (NodeEvent.Lose t) = up_named _ (lasting n.local _ (lose_kept (X n n.local) (turned n n.local) (wrote n n.local) n t (fm.get n.sides t) refl (begin n)))
+  named names (NodeEvent.Lose t) = up_named _ (lasting n.local _ (lose_kept (λ u y. Unit {0}) (X n n.local) (turned n n.local) (λ u y m o v. wrote n n.local u y m o) n t (fm.get n.sides t) refl (begin n)))
   named names NodeEvent.Sweep = up_named _ (lasting n.local _ (sweeps n n.local (begin n) (any_side is_losing (fm.entries n.sides))))
   named names (NodeEvent.Dial y k) = up_named _ (lasting n.local _ (dialed n n.local (begin n) names y k))
   named names NodeEvent.Stop = up_named _ refl

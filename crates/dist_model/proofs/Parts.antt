@@ -1,7 +1,7 @@
 -- What each part of an event keeps, but for its handshakes, is kept by the whole event.
 use Rattle.dist_model.proofs.Seeing.{replies}
 use Rattle.erl_names.specs.Draw as kind
-use Rattle.std.proofs.Common.{◌≡◌, ℕ, Bool, true, false, cond, not, List, [], ◌∷◌, refl, ap, ◌&&◌, Option, Some, None}
+use Rattle.std.proofs.Common.{◌≡◌, ℕ, Bool, true, false, cond, not, List, [], ◌∷◌, refl, ap, ◌&&◌, ◌⊎◌, inl, inr, Option, Some, None}
 use Rattle.std.specs.Prelude.{codes}
 use Rattle.std.specs.FinMap as fm
 use Rattle.dist_model.proofs.Calls.{IfGoes, if_cond, if_drawn, if_not}
@@ -62,7 +62,7 @@ pub record Rules : Type 1 where
 pub record Closed (rules : Rules) (X : Work → Type 0) : Type 0 where
   pub plain : (s : Signal) → is_plain s ≡ true → rules.Says s
   pub posted : (s : Signal) (o : Work) → rules.Says s → X o → X (post s o)
-  pub end_set : (p q : Pid) (e : End) (o : Work) → X o → X (set_end p q e o)
+  pub end_set : (p q : Pid) (e : End) (o : Work) → (living o.node p ≡ true) ⊎ (e ≡ End.None) → X o → X (set_end p q e o)
   pub drew : (o : Work) → X o → X (draw kind.UnlinkId o)
   pub life_set : (p : Pid) (l : Option Life) (o : Work) → is_living_life l ≡ living o.node p → X o → X (record o { node = record (o.node) { lives = set_life o.node.lives p l } })
   pub message : (p : Pid) (m : Data) (o : Work) → ((r : Reference) → down_in r p m ≡ []) → X o → X (put p m o)
@@ -135,10 +135,10 @@ module _ (rules : Rules) (X : Work → Type 0) (c : Closed rules X) where
       go true e =
           let o1 = set_end p q (heard (end_of o.node p q) s) o in
           follows_kept (end_of o.node p q) s p q (post_all (replies p q (reply false s)) o1) (λ x h a. acts x h e a)
-          (post_all_kept (replies p q (reply false s)) o1 (replies_said false s p q (λ h. cc)) (c.end_set p q (heard (end_of o.node p q) s) o k))
+          (post_all_kept (replies p q (reply false s)) o1 (replies_said false s p q (λ h. cc)) (c.end_set p q (heard (end_of o.node p q) s) o (inl e) k))
       go false e = post_all_kept (replies p q (reply true s)) o (replies_said true s p q (λ h i. gone i e)) k
 
-  cond_kept : (b : Bool) (x y : Work) → (b ≡ true → X x) → (b ≡ false → X y) → X (cond b x y)
+  pub cond_kept : (b : Bool) (x y : Work) → (b ≡ true → X x) → (b ≡ false → X y) → X (cond b x y)
   cond_kept true x y h k = h refl
   cond_kept false x y h k = k refl
 
@@ -162,26 +162,26 @@ module _ (rules : Rules) (X : Work → Type 0) (c : Closed rules X) where
   item_kept Tick o h k = k
 
   -- a call, but for those about monitors
-  link_new_kept : (b : Bool) (p q : Pid) (o : Work) → (b ≡ false → rules.Reacts p q noconnection) → X o → X (link_new b p q o)
-  link_new_kept true p q o own k = c.posted (Signal.Link p q) (set_end p q End.Active o) (c.plain (Signal.Link p q) refl) (c.end_set p q End.Active o k)
-  link_new_kept false p q o own k = link_exit_kept p q noconnection (set_end p q End.None o) (own refl) (c.end_set p q End.None o k)
+  link_new_kept : (b : Bool) (p q : Pid) (o : Work) → living o.node p ≡ true → (b ≡ false → rules.Reacts p q noconnection) → X o → X (link_new b p q o)
+  link_new_kept true p q o l own k = c.posted (Signal.Link p q) (set_end p q End.Active o) (c.plain (Signal.Link p q) refl) (c.end_set p q End.Active o (inl l) k)
+  link_new_kept false p q o l own k = link_exit_kept p q noconnection (set_end p q End.None o) (own refl) (c.end_set p q End.None o (inl l) k)
 
-  link_by_kept : (e : End) (p q : Pid) (o : Work) → (reaches o.node q.node ≡ false → rules.Reacts p q noconnection) → X o → X (link_by e p q o)
-  link_by_kept End.None p q o own k = link_new_kept (reaches o.node q.node) p q o own k
-  link_by_kept End.Active p q o own k = k
-  link_by_kept (End.Pending i) p q o own k = link_new_kept (reaches o.node q.node) p q o own k
+  link_by_kept : (e : End) (p q : Pid) (o : Work) → living o.node p ≡ true → (reaches o.node q.node ≡ false → rules.Reacts p q noconnection) → X o → X (link_by e p q o)
+  link_by_kept End.None p q o l own k = link_new_kept (reaches o.node q.node) p q o l own k
+  link_by_kept End.Active p q o l own k = k
+  link_by_kept (End.Pending i) p q o l own k = link_new_kept (reaches o.node q.node) p q o l own k
 
-  unlink_by_kept : (e : End) (p q : Pid) (o : Work) → X o → IfGoes (unlink_by e p q o) X
-  unlink_by_kept End.None p q o k = k
-  unlink_by_kept End.Active p q o k = if_drawn (id_of o.node.mint kind.UnlinkId) _ X (λ id h.
-      c.posted (Signal.UnlinkId id p q) (set_end p q (End.Pending id) (draw kind.UnlinkId o)) (c.plain (Signal.UnlinkId id p q) refl) (c.end_set p q (End.Pending id) (draw kind.UnlinkId o) (c.drew o k)))
-  unlink_by_kept (End.Pending i) p q o k = k
+  unlink_by_kept : (e : End) (p q : Pid) (o : Work) → living o.node p ≡ true → X o → IfGoes (unlink_by e p q o) X
+  unlink_by_kept End.None p q o l k = k
+  unlink_by_kept End.Active p q o l k = if_drawn (id_of o.node.mint kind.UnlinkId) _ X (λ id h.
+      c.posted (Signal.UnlinkId id p q) (set_end p q (End.Pending id) (draw kind.UnlinkId o)) (c.plain (Signal.UnlinkId id p q) refl) (c.end_set p q (End.Pending id) (draw kind.UnlinkId o) (inl l) (c.drew o k)))
+  unlink_by_kept (End.Pending i) p q o l k = k
 
   abbrev pub Apart : Command → Type 0
   Apart d = ((p q : Pid) → d ≡ Command.Monitor p q → ⊥) × ((p : Pid) (r : Reference) → d ≡ Command.Demonitor p r → ⊥)
 
   module _ (n : Node) (k : X (at_work n)) where
-    acts_kept : (p q : Pid) (o : Outcome) → (living n p ≡ true → IfGoes o X) → IfGoes (acting n p (toward n q o)) X
+    pub acts_kept : (p q : Pid) (o : Outcome) → (living n p ≡ true → IfGoes o X) → IfGoes (acting n p (toward n q o)) X
     acts_kept p q o h = if_cond (living n p) (toward n q o) Refusal.NoSuchProcess X (λ l. if_not (same_name q.node n.mint.name && never n q) o Refusal.Forged X (h l))
 
     living_trapped : (l : Option Life) (b : Bool) → is_living_life (trapping l b) ≡ is_living_life l
@@ -199,8 +199,8 @@ module _ (rules : Rules) (X : Work → Type 0) (c : Closed rules X) where
         → ((p q : Pid) → d ≡ Command.Link p q → living n p ≡ true → reaches n q.node ≡ false → rules.Reacts p q noconnection) → IfGoes (call n d) X
     call_kept Command.Spawn a s own = if_drawn (id_of n.mint kind.Pid) _ X (λ id h. s id refl h)
     call_kept (Command.Send p q m) a s own = acts_kept p q _ (λ l. if_cond (fits m) _ Refusal.TooLong X (λ f. c.posted (Signal.Send q m) (at_work n) (c.plain (Signal.Send q m) refl) k))
-    call_kept (Command.Link p q) a s own = acts_kept p q _ (λ l. cond_kept (same_pid p q) (at_work n) _ (λ e. k) (λ e. link_by_kept (end_of n p q) p q (at_work n) (own p q refl l) k))
-    call_kept (Command.Unlink p q) a s own = acts_kept p q _ (λ l. unlink_by_kept (end_of n p q) p q (at_work n) k)
+    call_kept (Command.Link p q) a s own = acts_kept p q _ (λ l. cond_kept (same_pid p q) (at_work n) _ (λ e. k) (λ e. link_by_kept (end_of n p q) p q (at_work n) l (own p q refl l) k))
+    call_kept (Command.Unlink p q) a s own = acts_kept p q _ (λ l. unlink_by_kept (end_of n p q) p q (at_work n) l k)
     call_kept (Command.Monitor p q) a s own = absurd (a.0 p q refl)
     call_kept (Command.Demonitor p r) a s own = absurd (a.1 p r refl)
     call_kept (Command.Trap p b) a s own = if_cond (living n p) _ Refusal.NoSuchProcess X (λ l. c.life_set p (trapping (fm.get n.lives p) b) (at_work n) (living_trapped (fm.get n.lives p) b) k)
@@ -212,9 +212,9 @@ module _ (rules : Rules) (X : Work → Type 0) (c : Closed rules X) where
 
   -- a sweep of records towards y
   end_swept : (e : End) (p q : Pid) (o : Work) → (e ≡ End.Active → rules.Reacts p q noconnection) → X o → X (sweep_end e p q o)
-  end_swept End.None p q o h k = c.end_set p q End.None o k
-  end_swept End.Active p q o h k = link_exit_kept p q noconnection (set_end p q End.None o) (h refl) (c.end_set p q End.None o k)
-  end_swept (End.Pending i) p q o h k = c.end_set p q End.None o k
+  end_swept End.None p q o h k = c.end_set p q End.None o (inr refl) k
+  end_swept End.Active p q o h k = link_exit_kept p q noconnection (set_end p q End.None o) (h refl) (c.end_set p q End.None o (inr refl) k)
+  end_swept (End.Pending i) p q o h k = c.end_set p q End.None o (inr refl) k
 
   registered_swept : (d : Option (Reference × Monitor)) (o : Work) → ((e : Reference × Monitor) → d ≡ Some e → (fm.get o.node.registered e.0 ≡ Some e.1) × rules.Drops e.0 e.1) → X o → X (sweep_registered d o)
   registered_swept None o h k = k

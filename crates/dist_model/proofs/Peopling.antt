@@ -173,7 +173,7 @@ module _ (n : Node) (l : List Item) where
   closed = record {
     plain = λ s h. tt;
     posted = λ s o h k. posted s o k;
-    end_set = λ p q e o k. aside o.node _ refl refl refl refl refl (no_more o.node.local) k;
+    end_set = λ p q e o l k. aside o.node _ refl refl refl refl refl (no_more o.node.local) k;
     drew = λ o k. aside o.node _ refl refl refl refl refl (no_more o.node.local) k;
     life_set = λ p l o h k. lived p l o h k;
     message = λ p m o h k. putted p m o k;
@@ -252,10 +252,10 @@ module _ (n : Node) (l : List Item) where
     -- ---- what comes
 
     pub fresh_arrived : (t : TrunkId) (i : Item) (k : ℕ) → side_at n t ≡ None → IfGoes (arrive_fresh (handshake_in i) t k (at_work n)) X
-    fresh_arrived t i k h = fresh_kept X turned wrote (handshake_in i) t k (at_work n) h start
+    fresh_arrived t i k h = fresh_kept (λ u y. Unit {0}) X turned (λ u y m o v. wrote u y m o) t tt (handshake_in i) k (at_work n) h start
 
     pub known_arrived : (t : TrunkId) (v : TrunkSide) (i : Item) → side_at n t ≡ Some v → IfGoes (arrive_at (handshake_in i) t v i (at_work n)) X
-    known_arrived t v i h = known_kept X turned wrote t v (at_work n) h start i (λ u g. item i (at_work n) start) (handshake_in i)
+    known_arrived t v i h = known_kept (λ u y. Unit {0}) X turned (λ u y m o v. wrote u y m o) t v (at_work n) h start i (λ u g. item i (at_work n) start) (handshake_in i)
 
     -- ---- connections
 
@@ -445,7 +445,7 @@ module _ (w : World) (g : AllPeopled w.nodes) where
   after (Some n) (Lose t x) h = up_well x n h _
       (λ u. ends x n w.lists (lose n t (fm.get n.sides t)) h
       (lasts_well n u (g x n h) n.local (lose n t (fm.get n.sides t))
-      (lose_kept (X n n.local) (turned n n.local) (wrote n n.local) n t (fm.get n.sides t) refl (begin n))))
+      (lose_kept (λ u y. Unit {0}) (X n n.local) (turned n n.local) (λ u y m o v. wrote n n.local u y m o) n t (fm.get n.sides t) refl (begin n))))
   after (Some n) (Sweep x) h = up_well x n h _
       (λ u. ends x n w.lists (sweep n) h
       (lasts_well n u (g x n h) n.local (sweep n) (sweeps n n.local (begin n) (any_side is_losing (fm.entries n.sides)))))

@@ -318,7 +318,7 @@ swept n k = go (any_side is_losing (fm.entries n.sides)) refl
         ∙ (any_found is_losing (fm.entries n.sides) d (fm.entries_sorted n.sides) e).0 in
         let o = sweep_link (link_to d.1.peer (fm.entries n.ends)) d.1.peer (at_work n) in
         subst (λ z. X (Rattle.dist_model.specs.Losses.swept d.0 d.1 z)) (sym (least_as d.1.peer (at_work n)))
-        (swept_kept X side wrote d.0 d.1 o (ap (λ l. fm.get l d.0) (sent_sweep n d.1.peer).sides ∙ at)
+        (swept_kept (λ u y. Unit {0}) X side (λ u y m o v. wrote u y m o) d.0 d.1 o (ap (λ l. fm.get l d.0) (sent_sweep n d.1.peer).sides ∙ at)
         (link_swept (link_to d.1.peer (fm.entries n.ends)) d.1.peer (at_work n) k))
 
 dialed : (names : List Name) (n : Node) (y : Name) (w : ℕ) → X (at_work n) → IfGoes (dial names n y w) X
@@ -375,10 +375,10 @@ module _ (w : World) (x : Name) (g : Travels w) where
     arrived : (t : TrunkId) (z : ℕ) → Travels ((step_at w (Some n) (Arrive t x z)).world)
     arrived t z = arrives w x n (λ s. Travels s.world) (λ r. g) t z
         (λ i rest first at. ends (fm.insert w.lists (t, x) rest) (arrive_fresh (handshake_in i) t z (at_work n))
-        (popped_lists Sendable w.lists t x i rest first g.lists) (fresh_kept X side wrote (handshake_in i) t z (at_work n) at (begins n k)))
+        (popped_lists Sendable w.lists t x i rest first g.lists) (fresh_kept (λ u y. Unit {0}) X side (λ u y m o v. wrote u y m o) t tt (handshake_in i) z (at_work n) at (begins n k)))
         (λ i rest v first at over. ends (fm.insert w.lists (t, x) rest) (arrive_at (handshake_in i) t v i (at_work n))
         (popped_lists Sendable w.lists t x i rest first g.lists)
-        (known_kept X side wrote t v (at_work n) at (begins n k) i
+        (known_kept (λ u y. Unit {0}) X side (λ u y m o v. wrote u y m o) t v (at_work n) at (begins n k) i
         (λ u h. taken i (at_work n) (All-head Sendable i rest (subst (λ l. All Sendable l) first (g.lists t x))) (begins n k))
         (handshake_in i)))
 
@@ -399,7 +399,7 @@ travels_at w (Some n) (Local x) h g =
     while_up w x n (λ s. Travels s.world) (λ r. g) w.lists (take_local n n.local) (local_taken w x g n k n.local refl)
 travels_at w (Some n) (Lose t x) h g =
     let k = local_of w.nodes x n h g.locals in
-    while_up_ends w x g n (lose n t (fm.get n.sides t)) (lose_kept X side wrote n t (fm.get n.sides t) refl (begins n k))
+    while_up_ends w x g n (lose n t (fm.get n.sides t)) (lose_kept (λ u y. Unit {0}) X side (λ u y m o v. wrote u y m o) n t (fm.get n.sides t) refl (begins n k))
 travels_at w (Some n) (Sweep x) h g =
     let k = local_of w.nodes x n h g.locals in while_up_ends w x g n (sweep n) (swept n (begins n k))
 travels_at w (Some n) (Dial x y z) h g =

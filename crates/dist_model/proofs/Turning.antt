@@ -516,7 +516,7 @@ module _ (n : Node) (Tells : Reference → Monitor → Data → Type 0) (Joins :
   core_closed = record {
     plain = λ s h. tt;
     posted = λ s o h k. core_aside o (post s o) (posts_aside (s ∷ []) o) (posts_keep (λ m. m.sides) (λ m l. refl) (receiver_of s).node (Signalled s) o) k;
-    end_set = λ p q e o k. core_aside o (set_end p q e o) (node_aside o ((set_end p q e o).node) refl refl refl (λ z. refl) refl refl refl refl) refl k;
+    end_set = λ p q e o l k. core_aside o (set_end p q e o) (node_aside o ((set_end p q e o).node) refl refl refl (λ z. refl) refl refl refl refl) refl k;
     drew = λ o k. core_aside o (draw kind.UnlinkId o) (node_aside o ((draw kind.UnlinkId o).node) refl refl refl (λ z. refl) refl refl refl refl) refl k;
     life_set = λ p l o h k. core_aside o (record o { node = record (o.node) { lives = set_life o.node.lives p l } }) (node_aside o (record (o.node) { lives = set_life o.node.lives p l }) refl refl refl (lives_same p l o h) refl refl refl refl) refl k;
     message = λ p m o h k. core_aside o (put p m o) (put_aside p m o h) refl k;

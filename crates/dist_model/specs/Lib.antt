@@ -20,6 +20,7 @@ pub mod Dialing
 pub mod Due
 pub mod Incarnations
 pub mod NodeEvents
+pub mod Keeping
 pub mod World
 pub mod Runs
 pub mod Seen

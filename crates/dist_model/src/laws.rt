@@ -4,6 +4,7 @@
 //! with or without memory; and so of each moment of every run. The others are of all worlds, or of
 //! the definitions.
 ghost use Rattle.std.specs.Prelude.{◌≡◌, ◌↔◌, ℕ, List, [], ◌∷◌, ◌++◌, length, true, false, Some};
+ghost use Rattle.std.specs.FinMap as fm;
 ghost use Rattle.erl_term.specs.declared.term.Pid.{Pid};
 ghost use Rattle.erl_term.specs.declared.term.Reference.{Reference};
 ghost use Rattle.exit_core.specs.Messages.{down_term};
@@ -14,7 +15,7 @@ ghost use Rattle.erl_control.specs.Control.{Fits};
 ghost use Rattle.erl_control.specs.declared.signal.Signal.{Signal};
 ghost use Rattle.dist_model.specs.Fits.{fits};
 ghost use Rattle.dist_model.specs.Links.{LinkNews, noproc};
-ghost use Rattle.dist_model.specs.Items.{Signalled, telling, news_in};
+ghost use Rattle.dist_model.specs.Items.{Signalled, telling, news_in, Item};
 ghost use Rattle.link_core.specs.declared.end.End.{End};
 ghost use Rattle.link_core.specs.Table.{is_active, linked, unlinked};
 ghost use Rattle.dist_model.specs.Commands.{Accepts, Accepts};
@@ -27,13 +28,17 @@ ghost use Rattle.erl_names.specs.Minted.{id_of};
 ghost use Rattle.dist_model.specs.World.{World, Event, Report, Refused, Reported, Arrive, Local, step};
 ghost use Rattle.dist_model.specs.Quiet.{Quiet, is_quiet};
 ghost use Rattle.dist_model.specs.Runs.{Goes, Runs, run, Always, opening};
-ghost use Rattle.std.specs.FinMap as map;
 ghost use Rattle.erl_names.specs.declared.trunk.TrunkId.{TrunkId};
 ghost use Rattle.dist_model.specs.Names.{Name, same_pid};
 ghost use Rattle.dist_model.specs.Node.{Node, end_of, reaches};
-ghost use Rattle.dist_model.specs.Sides.{is_gone, is_parked};
-ghost use Rattle.dist_model.specs.Work.{at_work};
+ghost use Rattle.dist_model.specs.Sides.{is_gone, is_parked, TrunkSide, is_over};
+ghost use Rattle.dist_model.specs.Work.{at_work, Work};
 ghost use Rattle.dist_model.specs.Seen.{end_between, AreConnected, HasSide};
+ghost use Rattle.dist_model.specs.NodeEvents as event;
+ghost use Rattle.dist_model.specs.NodeEvents.{at_node};
+ghost use Rattle.dist_model.specs.Commands.{Accepts};
+ghost use Rattle.dist_model.specs.declared.report.Answer.{Answer};
+ghost use Rattle.dist_model.specs.Keeping.{Bearings, IsAccepted};
 ghost use Rattle.dist_model.specs.Schedules as schedule;
 ghost use Rattle.dist_model.specs.Claims.{Agreement, AgreementWithin, AgreementInQuiet, PendingOnItsWay, PendingWithin, NoLinkToTheDead, NoLinkToItself, LinkNeedsConnection, LivingMeans, SpawnedLivesOrEnded, DownHoldsNothing, OneTrunk, NoUpBesideLosing, EventIsLocal, KeepsOrder, KeepsOwnOrder, ReactsOnlyWhereLinked, EverySignalFits, EverySignalFitsWithin};
 ghost use Rattle.dist_model.specs.Histories.{Throughout, told, history};
@@ -318,4 +323,21 @@ pub fn moments()
 pub fn news_is_told()
     ensures told { (p q : Pid) (told : LinkNews) → news_in p q (Signalled (telling p q told)) ≡ told ∷ [] }
     ensures others { (p q from to : Pid) (told : LinkNews) → ((from ≡ p) × (to ≡ q) → ⊥) → news_in p q (Signalled (telling from to told)) ≡ [] }
+{}
+
+/// Whatever comes to a node, it keeps its name, and its sides and their peers, but where it dials on a
+/// trunk that it has a side of. What it sends on a trunk goes to the peer of the trunk's side. A new
+/// side is one that an item comes to, towards the dialer of its trunk, or one that the node dials,
+/// towards another node. (ERTS User's Guide, Distribution Protocol, Distribution Handshake.)
+pub fn node_keeps_its_bearings()
+    ensures kept { (names : List Name) (node : Node) (now : event.NodeEvent) (answer : Answer) (work : Work) →
+        at_node names node now ≡ Accepts answer work → Bearings node now work }
+{}
+
+/// At a node that is up, an item that comes to a side that isn't over is never refused: it is taken,
+/// or it breaks the side.
+pub fn arrival_is_taken()
+    ensures taken { (names : List Name) (node : Node) (trunk : TrunkId) (side : TrunkSide) (item : Item) (word : ℕ) →
+        node.up ≡ true → fm.get node.sides trunk ≡ Some side → is_over side.state ≡ false →
+        IsAccepted (at_node names node (event.Arrive trunk (Some item) word)) }
 {}

@@ -1,0 +1,269 @@
+-- A node keeps its name, its sides and their peers, whatever event comes to it.
+use Rattle.erl_names.specs.Draw as kind
+use Rattle.erl_names.specs.Draw.{Draw}
+use Rattle.std.proofs.Common.{◌≡◌, ◌+◌, ◌^◌, nat_lt, ℕ, Bool, true, false, cond, not, List, [], ◌∷◌, refl, sym, ap, ◌∙◌, subst, arith, Option, Some, None, ◌⊎◌, inl, inr, Contains}
+use Rattle.std.proofs.lemmas.List.Elements.{Contains-push_cases}
+use Rattle.std.specs.Option.{is_some}
+use Rattle.std.specs.FinMap as fm
+use Rattle.dist_model.proofs.Calls.{IfGoes, by_test, if_not, if_not_known}
+use Rattle.dist_model.proofs.Closing.{gone_side, gone_sides}
+use Rattle.dist_model.proofs.Ending.{last_posts}
+use Rattle.dist_model.proofs.Handshaking.{Aged, Fresh, Shut, TurnedBy, fresh_kept, set_at}
+use Rattle.dist_model.proofs.KeepEvents.{at_node_keeps}
+use Rattle.dist_model.proofs.KeepParts.{Parts}
+use Rattle.dist_model.proofs.Keys.{same_name_is, same_trunk, same_trunk_is, same_trunk_true}
+use Rattle.dist_model.proofs.Routes.{none_some, some_same}
+use Rattle.dist_model.proofs.Sides.{route_from, side_at}
+use Rattle.dist_model.specs.Arrivals.{handshake_in}
+use Rattle.dist_model.specs.Commands.{Accepts, Outcome}
+use Rattle.dist_model.specs.Dialing.{dial, draw_trunk, has_name, next_trunk}
+use Rattle.dist_model.specs.Exits.{finish}
+use Rattle.dist_model.specs.Handshake.{identity, with_side, write}
+use Rattle.dist_model.specs.Incarnations.{started, stopped}
+use Rattle.dist_model.specs.Items.{Handshake, Item, Signalled, receiver_of}
+use Rattle.dist_model.specs.Keeping.{Bearings, Comes, Dials, Towards}
+use Rattle.dist_model.specs.Names.{Name, same_name}
+use Rattle.dist_model.specs.Node.{Node, route, side_where}
+use Rattle.dist_model.specs.NodeEvents.{Arrive, Call, Dial, Local, Lose, NodeEvent, Start, Stop, Sweep, at_node}
+use Rattle.dist_model.specs.Sides.{AwaitsStatus, TrunkSide, is_gone}
+use Rattle.dist_model.specs.Work.{Work, at_work, keep_local, post_to, post_all, report, send_on}
+use Rattle.dist_model.specs.declared.report.Answer.{Answer}
+use Rattle.dist_model.specs.declared.report.Effect.{Effect}
+use Rattle.erl_control.specs.declared.signal.Signal.{Signal}
+use Rattle.erl_handshake.specs.Roles.{send_name}
+use Rattle.erl_handshake.specs.declared.message.ShakeMsg.{ShakeMsg}
+use Rattle.erl_names.specs.Minted.{Minted, drawn}
+use Rattle.erl_names.specs.declared.trunk.TrunkId.{TrunkId}
+use Rattle.erl_term.specs.Data.{Data}
+use Rattle.erl_term.specs.declared.refusal.Refusal.{Refusal}
+use Rattle.erl_term.specs.declared.term.Pid.{Pid}
+
+towards_along : (n m : Node) → m.sides ≡ n.sides → (t : TrunkId) (y : Name) → Towards n t y → Towards m t y
+towards_along n m e t y h = record { side = h.side; there = ap (λ z. fm.get z t) e ∙ h.there; peer = h.peer }
+
+-- a side stays as another changes
+towards_turned : (New : TrunkId → Name → Type 0) (t : TrunkId) (s : TrunkSide) (o : Work) → TurnedBy New o.node t s
+    → (u : TrunkId) (y : Name) → Towards o.node u y → Towards ((with_side t s o).node) u y
+towards_turned New t s o c u y v = by_test _ (same_trunk u t)
+    (λ e. record { side = s; there = set_at o t s u ∙ ap
+        (λ b. cond b (Some s) (side_at o.node u)) e; peer = same (same_trunk_true u t e) c })
+    (λ e. record { side = v.side; there = set_at o t s u ∙ ap (λ b. cond b (Some s) (side_at o.node u)) e ∙ v.there; peer = v.peer })
+  where
+    is_that : (a : TrunkSide) → u ≡ t → side_at o.node t ≡ Some a → a.peer ≡ y
+    is_that a e h = ap (λ (z : TrunkSide). z.peer) (some_same a v.side (sym h ∙ ap (side_at o.node) (sym e) ∙ v.there)) ∙ v.peer
+
+    same : u ≡ t → TurnedBy New o.node t s → s.peer ≡ y
+    same e (Fresh q h) = absurd (none_some v.side (sym h ∙ ap (side_at o.node) (sym e) ∙ v.there))
+    same e (Aged a h g) = g.peer ∙ is_that a e h
+    same e (Shut a h p g r) = p ∙ is_that a e h
+
+nothing : (f : Effect Item) → Contains [] f → ⊥
+nothing f c = let lt = c.1 in omega arith
+
+drawn_name : (m : Minted) (d : Draw) → (drawn m d).name ≡ m.name
+drawn_name m kind.Pid = refl
+drawn_name m kind.Reference = refl
+drawn_name m kind.UnlinkId = refl
+
+module _ (n : Node) (e : NodeEvent) where
+  abbrev New : TrunkId → Name → Type 0
+  New t y = (Comes e t × (y ≡ t.dialer)) ⊎ Dials n e t y
+
+  abbrev X : Work → Type 0
+  X = Bearings n e
+
+  -- with the same name and sides
+  on : (o o' : Work) → o'.node.mint.name ≡ o.node.mint.name → o'.node.sides ≡ o.node.sides
+      → ((t : TrunkId) (y : Name) (i : Item) → Contains o'.effects (Effect.Sent (Some t) y i) → Towards o.node t y) → X o → X o'
+  on o o' nm sd sent k = record {
+    name = nm ∙ k.name;
+    stays = λ t y h. still t y (k.stays t y h);
+    sent = λ t y i c. towards_along o.node o'.node sd t y (sent t y i c);
+    new = λ t s h j. k.new t s h (ap (λ z. fm.get z t) (sym sd) ∙ j);
+  }
+    where
+      still : (t : TrunkId) (y : Name) → Towards o.node t y ⊎ ((z : Name) × Dials n e t z)
+          → Towards o'.node t y ⊎ ((z : Name) × Dials n e t z)
+      still t y (inl v) = inl (towards_along o.node o'.node sd t y v)
+      still t y (inr v) = inr v
+
+  silent : (f : Effect Item) (o : Work) → ((t : TrunkId) (y : Name) (i : Item) → f ≡ Effect.Sent (Some t) y i → ⊥) → X o → X (report f o)
+  silent f o none k = on o (report f o) refl refl (λ t y i c. pick t y i (Contains-push_cases o.effects f (Effect.Sent (Some t) y i) c)) k
+    where
+      pick : (t : TrunkId) (y : Name) (i : Item) → Contains o.effects (Effect.Sent (Some t) y i) ⊎ (f ≡ Effect.Sent (Some t) y i)
+          → Towards o.node t y
+      pick t y i (inl c) = k.sent t y i c
+      pick t y i (inr h) = absurd (none t y i h)
+
+  sends : (t : TrunkId) (y : Name) (x : Item) (o : Work) → Towards o.node t y → X o → X (report (Effect.Sent (Some t) y x) o)
+  sends t y x o v k = on o (report (Effect.Sent (Some t) y x) o) refl refl
+      (λ u z i c. pick u z i (Contains-push_cases o.effects (Effect.Sent (Some t) y x) (Effect.Sent (Some u) z i) c)) k
+    where
+      pick : (u : TrunkId) (z : Name) (i : Item) → Contains o.effects (Effect.Sent (Some u) z i) ⊎ (◌≡◌ {A = Effect Item} (Effect.Sent
+          (Some t) y x) (Effect.Sent (Some u) z i))
+          → Towards o.node u z
+      pick u z i (inl c) = k.sent u z i c
+      pick u z i (inr h) = let a : t ≡ u = cc in let b : y ≡ z = cc in subst (λ w. Towards o.node w z) a (subst
+          (λ w. Towards o.node t w) b v)
+
+  kept_local : (x : Item) (o : Work) → X o → X (keep_local x o)
+  kept_local x o k = on (report (Effect.Sent None o.node.mint.name x) o) (keep_local x o) refl refl (λ t y i c. h.sent t y i c) h
+    where
+      h : X (report (Effect.Sent None o.node.mint.name x) o)
+      h = silent (Effect.Sent None o.node.mint.name x) o (λ t y i z. cc) k
+
+  posts : (y : Name) (x : Item) (o : Work) → X o → X (post_to y x o)
+  posts y x o k = go (same_name y o.node.mint.name)
+    where
+      go_on : (r : Option TrunkId) → route o.node y ≡ r → X (send_on r y x o)
+      go_on None h = k
+      go_on (Some t) h = let r = route_from o.node y t h in sends t y x o (record { side = r.found; there = r.there; peer = r.peer }) k
+
+      go : (b : Bool) → X (cond b (keep_local x o) (send_on (route o.node y) y x o))
+      go true = kept_local x o k
+      go false = go_on (route o.node y) refl
+
+  posts_all : (ss : List Signal) (o : Work) → X o → X (post_all ss o)
+  posts_all [] o k = k
+  posts_all (s ∷ ss) o k = posts_all ss (Rattle.dist_model.specs.Work.post s o) (posts (receiver_of s).node (Signalled s) o k)
+
+  -- the node alone changes
+  within : (o : Work) (m : Node) → m.mint.name ≡ o.node.mint.name → m.sides ≡ o.node.sides → X o → X (record o { node = m })
+  within o m nm sd k = on o (record o { node = m }) nm sd k.sent k
+
+  puts : (p : Pid) (m : Data) (o : Work) → X o → X (Rattle.dist_model.specs.Work.put p m o)
+  puts p m o k = within (report (Effect.Put p m) o) ((Rattle.dist_model.specs.Work.put p m o).node) refl refl (silent (Effect.Put p m) o
+      (λ t y i z. cc) k)
+
+  finishes : (p : Pid) (x : Data) (o : Work) → X o → X (finish p x o)
+  finishes p x o k =
+      let o1 = post_all (last_posts p x o) o in
+      within (report (Effect.Ended p x) o1) ((finish p x o).node) refl refl (silent (Effect.Ended p x) o1
+          (λ t y i z. cc) (posts_all (last_posts p x o) o k))
+
+  parts : Parts X
+  parts = record {
+    posted = λ s o k. posts (receiver_of s).node (Signalled s) o k;
+    end_set = λ p q v o l k. within o _ refl refl k;
+    drew = λ d o k. within o _ (drawn_name o.node.mint d) refl k;
+    life_set = λ p l o h k. within o _ refl refl k;
+    message = puts;
+    reacted = λ p q x o k. silent (Effect.LinkExit p q x) o (λ t y i z. cc) k;
+    finished = finishes;
+    registers = λ r m o l k. within o _ refl refl k;
+    unregisters = λ r o k. within o _ refl refl k;
+    watches = λ r m o l k. within o _ refl refl k;
+    unwatches = λ r o k. within o _ refl refl k;
+    spawned = λ m p k. within (at_work m) _ refl refl k;
+  }
+
+  turned : (t : TrunkId) (s : TrunkSide) (o : Work) → TurnedBy New o.node t s → X o → X (with_side t s o)
+  turned t s o c k = record {
+    name = k.name;
+    stays = λ u y h. still u y (k.stays u y h);
+    sent = λ u y i h. towards_turned New t s o c u y (k.sent u y i h);
+    new = λ u a h j. by_test _ (same_trunk u t)
+        (λ i. here u a (same_trunk_true u t i) h (some_same s a (sym (set_at o t s u ∙ ap (λ b. cond b (Some s) (side_at o.node u)) i)
+            ∙ j)) c)
+        (λ i. k.new u a h (sym (set_at o t s u ∙ ap (λ b. cond b (Some s) (side_at o.node u)) i) ∙ j));
+  }
+    where
+      still : (u : TrunkId) (y : Name) → Towards o.node u y ⊎ ((z : Name) × Dials n e u z)
+          → Towards ((with_side t s o).node) u y ⊎ ((z : Name) × Dials n e u z)
+      still u y (inl v) = inl (towards_turned New t s o c u y v)
+      still u y (inr v) = inr v
+
+      at_new : (u : TrunkId) (a b : TrunkSide) → u ≡ t → side_at n u ≡ None → side_at o.node t ≡ Some b → a.peer ≡ b.peer → New u a.peer
+      at_new u a b i h j p = subst (λ z. New u z) (sym p) (k.new u b h (ap (side_at o.node) i ∙ j))
+
+      here : (u : TrunkId) (a : TrunkSide) → u ≡ t → side_at n u ≡ None → s ≡ a → TurnedBy New o.node t s → New u a.peer
+      here u a i h q (Fresh w f) = subst (λ (z : TrunkSide). New u z.peer) q (subst (λ z. New z s.peer) (sym i) w)
+      here u a i h q (Aged b f g) = at_new u a b i h f (ap (λ (z : TrunkSide). z.peer) (sym q) ∙ g.peer)
+      here u a i h q (Shut b f p g r) = at_new u a b i h f (ap (λ (z : TrunkSide). z.peer) (sym q) ∙ p)
+
+  wrote : (t : TrunkId) (y : Name) (m : ShakeMsg) (o : Work) → Towards o.node t y → X o → X (write t y m o)
+  wrote t y m o v k = sends t y (Handshake m) o v k
+
+  -- nothing has happened
+  idle : (m : Node) → m.mint.name ≡ n.mint.name → m.sides ≡ n.sides → X (at_work m)
+  idle m nm sd = record {
+    name = nm;
+    stays = λ t y h. inl (towards_along n m sd t y h);
+    sent = λ t y i c. absurd (nothing (Effect.Sent (Some t) y i) c);
+    new = λ t s h j. absurd (none_some s (sym h ∙ ap (λ z. fm.get z t) (sym sd) ∙ j));
+  }
+
+  -- every side is gone
+  clears : (m : Node) → m.mint.name ≡ n.mint.name → m.sides ≡ (stopped n).sides → X (at_work m)
+  clears m nm sd = record {
+    name = nm;
+    stays = λ t y h. inl (record {
+      side = record { peer = h.side.peer; peer_creation = 0; state = Rattle.dist_model.specs.Sides.Gone };
+      there = at t ∙ ap gone_side h.there;
+      peer = h.peer;
+    });
+    sent = λ t y i c. absurd (nothing (Effect.Sent (Some t) y i) c);
+    new = λ t s h j. absurd (none_some s (sym (at t ∙ ap gone_side h) ∙ j));
+  }
+    where
+      at : (t : TrunkId) → side_at m t ≡ gone_side (side_at n t)
+      at t = ap (λ z. fm.get z t) sd ∙ gone_sides n t
+
+  module _ (y : Name) (w : ℕ) (h : e ≡ Dial y w) (ny : same_name y n.mint.name ≡ false) where
+    abbrev t0 : TrunkId
+    t0 = next_trunk n
+
+    abbrev s0 : TrunkSide
+    s0 = record { peer = y; peer_creation = 0; state = AwaitsStatus w }
+
+    abbrev o0 : Work
+    o0 = with_side t0 s0 (at_work (draw_trunk n))
+
+    at : (u : TrunkId) (b : Bool) → same_trunk u t0 ≡ b → side_at o0.node u ≡ cond b (Some s0) (side_at n u)
+    at u b i = set_at (at_work (draw_trunk n)) t0 s0 u ∙ ap (λ b. cond b (Some s0) (side_at n u)) i
+
+    stranger : y ≡ n.mint.name → ⊥
+    stranger i = let z : true ≡ false = sym (same_name_is y n.mint.name i) ∙ ny in cc
+
+    begun : X o0
+    begun = record {
+      name = refl;
+      stays = λ u z v. by_test _ (same_trunk u t0) (λ i. inr (y, ((w, h), same_trunk_true u t0 i, stranger)))
+          (λ i. inl (record { side = v.side; there = at u false i ∙ v.there; peer = v.peer }));
+      sent = λ u z i c. absurd (nothing (Effect.Sent (Some u) z i) c);
+      new = λ u a v j. by_test _ (same_trunk u t0)
+          (λ i. inr (subst (λ (z : TrunkSide). Dials n e u z.peer) (some_same s0 a (sym (at u true i)
+              ∙ j)) ((w, h), same_trunk_true u t0 i, stranger)))
+          (λ i. absurd (none_some a (sym v ∙ sym (at u false i) ∙ j)));
+    }
+
+    dialed : X (write t0 y (send_name (identity n)) o0)
+    dialed = sends t0 y (Handshake (send_name (identity n))) o0 (record { side = s0; there = at t0 true
+        (same_trunk_is t0 t0 refl); peer = refl }) begun
+
+  dials : (names : List Name) (y : Name) (w : ℕ) → e ≡ Dial y w → IfGoes (dial names n y w) X
+  dials names y w h = if_not_known (same_name y n.mint.name) _ Refusal.SelfDial X (λ i.
+      if_not (not (has_name y names)) _ Refusal.NothingThere X
+      (if_not (is_some (side_where (λ v. not (is_gone v)) y (fm.entries n.sides))) _ Refusal.Busy X
+      (if_not (not (nat_lt (n.dialed + 1) (2 ^ 64))) _ Refusal.IdsUsedUp X (dialed y w h i))))
+
+pub bearings_kept : (names : List Name) (n : Node) (e : NodeEvent) → IfGoes (at_node names n e) (Bearings n e)
+bearings_kept names n e = at_node_keeps (New n e) (Bearings n e) (parts n e) (turned n e) (wrote n e) names n (idle n e n refl refl) e
+    (rest e refl)
+  where
+    rest : (d : NodeEvent) → e ≡ d → Rattle.dist_model.proofs.KeepEvents.Rest (New n e) (Bearings n e) (parts n e) (turned n e)
+        (wrote n e) names n (idle n e n refl refl) d
+    rest (Call c) h = tt
+    rest (Arrive t None w) h = tt
+    rest (Arrive t (Some i) w) h = λ at. fresh_kept (New n e) (Bearings n e) (turned n e) (wrote n e) t (inl ((i, w, h), refl))
+        (handshake_in i) w (at_work n) at (idle n e n refl refl)
+    rest Local h = λ l. idle n e (record n { local = l }) refl refl
+    rest (Lose t) h = tt
+    rest Sweep h = tt
+    rest (Dial y w) h = dials n e names y w h
+    rest Stop h = clears n e (stopped n) refl refl
+    rest Start h = clears n e (started n) refl refl
+
+-- of an outcome that is accepted
+pub if_accepted : (X : Work → Type 0) (k : Outcome) (a : Answer) (o : Work) → k ≡ Accepts a o → IfGoes k X → X o
+if_accepted X k a o h j = subst (λ z. IfGoes z X) h j

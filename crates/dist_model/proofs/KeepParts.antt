@@ -1,0 +1,123 @@
+-- What every part of an event keeps is kept by a call, a signal that is taken and a sweep, at any node.
+use Rattle.erl_names.specs.Draw as kind
+use Rattle.erl_names.specs.Draw.{Draw}
+use Rattle.std.proofs.Common.{◌≡◌, true, ◌⊎◌, Option, Some, None, subst, sym}
+use Rattle.std.specs.FinMap as fm
+use Rattle.dist_model.proofs.Calls.{IfGoes, if_cond, if_drawn}
+use Rattle.dist_model.proofs.Entries.{registered_found, watch_found}
+use Rattle.dist_model.proofs.Parts.{Closed, Rules, acts_kept, call_kept, cond_kept, item_kept, link_swept}
+use Rattle.dist_model.proofs.Records.{least_as}
+use Rattle.dist_model.specs.Calls.{call, spawn_life}
+use Rattle.dist_model.specs.declared.command.Command.{Command}
+use Rattle.dist_model.specs.Exits.{finish}
+use Rattle.dist_model.specs.Items.{Item}
+use Rattle.dist_model.specs.Links.{noconnection}
+use Rattle.dist_model.specs.Losses.{least_record, link_to, sweep_record}
+use Rattle.dist_model.specs.Monitoring.{demonitor_by, register, unregister, unwatch, watch}
+use Rattle.dist_model.specs.Names.{Name, same_pid}
+use Rattle.dist_model.specs.Node.{Life, Node, is_living_life, living, reaches}
+use Rattle.dist_model.specs.Taking.{take_item}
+use Rattle.dist_model.specs.Work.{Work, at_work, draw, post, put, report, set_end, set_life}
+use Rattle.dist_model.specs.declared.report.Effect.{Effect}
+use Rattle.erl_control.specs.declared.signal.Signal.{Signal}
+use Rattle.erl_names.specs.Ids.{pid_of, reference_of}
+use Rattle.erl_names.specs.Minted.{id_of}
+use Rattle.erl_term.specs.Data.{Data}
+use Rattle.erl_term.specs.declared.refusal.Refusal.{Refusal}
+use Rattle.erl_term.specs.declared.term.Pid.{Pid}
+use Rattle.erl_term.specs.declared.term.Reference.{Reference}
+use Rattle.exit_core.specs.Messages.{down_term}
+use Rattle.link_core.specs.declared.end.End.{End}
+use Rattle.monitor_core.specs.Monitors.{monitor_of}
+use Rattle.monitor_core.specs.declared.monitor.Monitor.{Monitor}
+
+-- the parts of an event, but for what it does to sides
+pub record Parts (X : Work → Type 0) : Type 0 where
+  pub posted : (s : Signal) (o : Work) → X o → X (post s o)
+  pub end_set : (p q : Pid) (e : End) (o : Work) → (living o.node p ≡ true) ⊎ (e ≡ End.None) → X o → X (set_end p q e o)
+  pub drew : (d : Draw) (o : Work) → X o → X (draw d o)
+  pub life_set : (p : Pid) (l : Option Life) (o : Work) → is_living_life l ≡ living o.node p → X o
+      → X (record o { node = record (o.node) { lives = set_life o.node.lives p l } })
+  pub message : (p : Pid) (m : Data) (o : Work) → X o → X (put p m o)
+  pub reacted : (p q : Pid) (x : Data) (o : Work) → X o → X (report (Effect.LinkExit p q x) o)
+  pub finished : (p : Pid) (x : Data) (o : Work) → X o → X (finish p x o)
+  pub registers : (r : Reference) (m : Monitor) (o : Work) → living o.node m.target ≡ true → X o → X (register r m o)
+  pub unregisters : (r : Reference) (o : Work) → X o → X (unregister r o)
+  pub watches : (r : Reference) (m : Monitor) (o : Work) → living o.node m.owner ≡ true → X o → X (watch r m o)
+  pub unwatches : (r : Reference) (o : Work) → X o → X (unwatch r o)
+  pub spawned : (n : Node) (p : Pid) → X (at_work n) → X (spawn_life n p)
+
+abbrev any_rules : Rules
+any_rules = record {
+  Says = λ s. Unit {0};
+  Reacts = λ p q x. Unit {0};
+  Tells = λ r m x. Unit {0};
+  Joins = λ r m. Unit {0};
+  Drops = λ r m. Unit {0};
+}
+
+module _ (X : Work → Type 0) (c : Parts X) where
+  closed : Closed any_rules X
+  closed = record {
+    plain = λ s h. tt;
+    posted = λ s o h k. c.posted s o k;
+    end_set = c.end_set;
+    drew = λ o k. c.drew kind.UnlinkId o k;
+    life_set = c.life_set;
+    message = λ p m o h k. c.message p m o k;
+    reacted = λ p q x o h k. c.reacted p q x o k;
+    finished = c.finished;
+    registers = λ r m o l h k. c.registers r m o l k;
+    unregisters = λ r m o e h k. c.unregisters r o k;
+    ended = λ r m x o e h k. c.message m.owner (down_term r m.target x) (unwatch r o) (c.unwatches r o k);
+  }
+
+  pub item_keeps : (i : Item) (o : Work) → X o → X (take_item i o)
+  item_keeps i o k = item_kept any_rules X closed i o (record {
+    gone = λ p q e l. tt;
+    acts = λ p q x e l a. tt;
+    sent = λ p m e. c.message p m o k;
+    nobody = λ p q r e l. tt;
+    joins = λ p q r e l. tt;
+    drops = λ p q r e l. tt;
+    tells = λ p q r x e l. tt;
+  }) k
+
+  monitors : (n : Node) (p q : Pid) → X (at_work n) → IfGoes (call n (Command.Monitor p q)) X
+  monitors n p q k = acts_kept any_rules X closed n k p q _ (λ l. if_drawn (id_of n.mint kind.Reference) _ X (λ id h.
+      let o = draw kind.Reference (at_work n) in
+      let r = reference_of n.mint id in
+      cond_kept any_rules X closed (reaches o.node q.node) _ _
+      (λ e. c.posted (Signal.Monitor p q r) (watch r (monitor_of p q) o) (c.watches r (monitor_of p q) o l (c.drew kind.Reference
+          (at_work n) k)))
+      (λ e. c.message p (down_term r q noconnection) o (c.drew kind.Reference (at_work n) k))))
+
+  demonitors : (v : Option Monitor) (p : Pid) (r : Reference) (o : Work) → X o → IfGoes (demonitor_by v p r o) X
+  demonitors None p r o k = tt
+  demonitors (Some m) p r o k = if_cond (same_pid m.owner p) _ Refusal.NotTheOwner X
+      (λ h. c.posted (Signal.Demonitor p m.target r) (unwatch r o) (c.unwatches r o k))
+
+  others : (n : Node) (d : Command) → ((p q : Pid) → d ≡ Command.Monitor p q → ⊥) → ((p : Pid) (r : Reference)
+      → d ≡ Command.Demonitor p r → ⊥)
+      → X (at_work n) → IfGoes (call n d) X
+  others n d a b k = call_kept any_rules X closed n k d (a, b) (λ id e h. c.spawned n (pid_of n.mint id) k) (λ p q e l r. tt)
+
+  pub call_keeps : (n : Node) (d : Command) → X (at_work n) → IfGoes (call n d) X
+  call_keeps n (Command.Monitor p q) k = monitors n p q k
+  call_keeps n (Command.Demonitor p r) k = if_cond (living n p) _ Refusal.NoSuchProcess X
+      (λ l. demonitors (fm.get n.watches r) p r (at_work n) k)
+  call_keeps n Command.Spawn k = if_drawn (id_of n.mint kind.Pid) _ X (λ id h. c.spawned n (pid_of n.mint id) k)
+  call_keeps n (Command.Send p q m) k = others n (Command.Send p q m) (λ a b e. cc) (λ a r e. cc) k
+  call_keeps n (Command.Link p q) k = others n (Command.Link p q) (λ a b e. cc) (λ a r e. cc) k
+  call_keeps n (Command.Unlink p q) k = others n (Command.Unlink p q) (λ a b e. cc) (λ a r e. cc) k
+  call_keeps n (Command.Trap p b) k = others n (Command.Trap p b) (λ a b e. cc) (λ a r e. cc) k
+  call_keeps n (Command.ExitTo p q x) k = others n (Command.ExitTo p q x) (λ a b e. cc) (λ a r e. cc) k
+  call_keeps n (Command.ExitSelf p x) k = others n (Command.ExitSelf p x) (λ a b e. cc) (λ a r e. cc) k
+  call_keeps n (Command.Receive p) k = others n (Command.Receive p) (λ a b e. cc) (λ a r e. cc) k
+  call_keeps n (Command.LinksOf p) k = others n (Command.LinksOf p) (λ a b e. cc) (λ a r e. cc) k
+  call_keeps n (Command.IsAlive p) k = others n (Command.IsAlive p) (λ a b e. cc) (λ a r e. cc) k
+
+  -- the least record towards a peer
+  pub record_keeps : (y : Name) (o : Work) → X o → X (sweep_record (least_record y o.node) o)
+  record_keeps y o k = subst X (sym (least_as y o)) (link_swept any_rules X closed (link_to y (fm.entries o.node.ends)) y o (λ e h a. tt)
+      (λ e h. ((watch_found y o.node.watches e h).0, tt)) (λ e h. ((registered_found y o.node.registered e h).0, tt)) k)
