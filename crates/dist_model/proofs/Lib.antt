@@ -66,10 +66,10 @@ pub mod Following
 pub mod Histories
 pub mod Witnesses
 pub mod Peopling
-pub mod Locality
 pub mod Resting
 pub mod Forms
 pub mod KeepParts
 pub mod KeepEvents
 pub mod KeepBearings
 pub mod KeepTaken
+pub mod Locality
