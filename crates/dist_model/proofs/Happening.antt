@@ -479,7 +479,9 @@ module _ (cookie : List ℕ) (own other : ℕ) where
   lstep9 = simp (of_maps, knows) refl
 
   lrun : run (Lose (trunk 1) first ∷ Lose (trunk 1) second ∷ Sweep first ∷ Sweep second ∷ Dial first second own ∷ Arrive (trunk 2) second other ∷ Arrive (trunk 2) first 0 ∷ Arrive (trunk 2) first 0 ∷ Arrive (trunk 2) second 0 ∷ Arrive (trunk 2) first 0 ∷ []) w12 ≡ l10
-  lrun = passed w12 (Lose (trunk 1) first ∷ Lose (trunk 1) second ∷ Sweep first ∷ Sweep second ∷ Dial first second own ∷ Arrive (trunk 2) second other ∷ Arrive (trunk 2) first 0 ∷ Arrive (trunk 2) first 0 ∷ Arrive (trunk 2) second 0 ∷ Arrive (trunk 2) first 0 ∷ [])
+  lrun = passed w12
+      (Lose (trunk 1) first ∷ Lose (trunk 1) second ∷ Sweep first ∷ Sweep second ∷ Dial first second own ∷ Arrive (trunk 2) second other
+      ∷ Arrive (trunk 2) first 0 ∷ Arrive (trunk 2) first 0 ∷ Arrive (trunk 2) second 0 ∷ Arrive (trunk 2) first 0 ∷ [])
       (l1 ∷ l2 ∷ l3 ∷ l4 ∷ l5 ∷ l6 ∷ l7 ∷ l8 ∷ l9 ∷ l10 ∷ [])
       (lstep0, (lstep1, (lstep2, (lstep3, (lstep4, (lstep5, (lstep6, (lstep7, (lstep8, (lstep9, tt))))))))))
 

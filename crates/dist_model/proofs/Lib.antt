@@ -64,6 +64,8 @@ pub mod Comings
 pub mod Linked
 pub mod Following
 pub mod Histories
+pub mod Showing
+pub mod Beside
 pub mod Witnesses
 pub mod Peopling
 pub mod Resting

@@ -31,6 +31,7 @@ runs_so (e ∷ es) w = ((step w e).world, inl (refl, refl), runs_so es ((step w 
 
 -- what the last event adds to what has happened
 pub told_last : (es : List Event) (e : Event) (w : World) (h : History)
-    → told (es ++ e ∷ []) (reports_of (es ++ e ∷ []) w) h ≡ record { event = e; report = (step (run es w) e).report } ∷ told es (reports_of es w) h
+    → told (es ++ e ∷ []) (reports_of (es ++ e ∷ []) w) h
+    ≡ record { event = e; report = (step (run es w) e).report } ∷ told es (reports_of es w) h
 told_last [] e w h = refl
 told_last (d ∷ es) e w h = told_last es e ((step w d).world) (record { event = d; report = (step w d).report } ∷ h)

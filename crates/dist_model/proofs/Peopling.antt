@@ -167,7 +167,14 @@ module _ (n : Node) (l : List Item) where
       }
 
   abbrev free : Rules
-  free = record { Says = λ s. Unit {0}; Reacts = λ p q x. Unit {0}; Tells = λ r m x. Unit {0}; Joins = λ r m. Unit {0}; Drops = λ r m. Unit {0} }
+  free = record {
+    Says = λ s. Unit {0};
+    Reacts = λ p q x. Unit {0};
+    Tells = λ r m x. Unit {0};
+    Joins = λ r m. Unit {0};
+    Drops = λ r m. Unit
+        {0};
+  }
 
   closed : Closed free X
   closed = record {

@@ -1,9 +1,9 @@
 -- A process's own calls make of its end what link_core's table says, and send what it sends.
-use Rattle.std.proofs.Common.{◌≡◌, ℕ, true, false, refl, ap, ◌∙◌, Some}
+use Rattle.std.proofs.Common.{◌≡◌, ℕ, true, false, refl, ap, ◌∙◌, None, Some}
 use Rattle.erl_names.specs.Draw as kind
 use Rattle.dist_model.proofs.Keys.{end_set_same}
 use Rattle.dist_model.proofs.Views.{post_keeps}
-use Rattle.dist_model.specs.Commands.{Accepts, with_id}
+use Rattle.dist_model.specs.Commands.{Accepts, with_id, Accepts, Refuses}
 use Rattle.dist_model.specs.declared.report.Answer.{Answer}
 use Rattle.dist_model.specs.Items.{Signalled, receiver_of}
 use Rattle.dist_model.specs.Linking.{link_by, link_new, unlink_as, unlink_by}
@@ -12,6 +12,7 @@ use Rattle.dist_model.specs.Tabled.{links_by_table, unlinks_by_table}
 use Rattle.dist_model.specs.Work.{Work, at_work, draw, post, set_end}
 use Rattle.erl_control.specs.declared.signal.Signal.{Signal}
 use Rattle.erl_names.specs.Minted.{id_of}
+use Rattle.erl_term.specs.declared.refusal.Refusal.{Refusal}
 use Rattle.erl_term.specs.declared.term.Pid.{Pid}
 use Rattle.link_core.specs.Table.{is_active, linked, unlinked}
 use Rattle.link_core.specs.declared.end.End.{End}
@@ -47,6 +48,11 @@ module _ (n : Node) (p q : Pid) where
   unlink_stays End.Active h = cc
   unlink_stays (End.Pending i) h = refl
 
+  unlink_refused : (e : End) → e ≡ End.Active → id_of n.mint kind.UnlinkId ≡ None → unlink_by e p q (at_work n) ≡ Refuses Refusal.IdsUsedUp
+  unlink_refused End.None a h = cc
+  unlink_refused End.Active a h = ap (λ o. with_id o (λ i. Accepts Answer.Done (unlink_as i p q (at_work n)))) h
+  unlink_refused (End.Pending i) a h = cc
+
   pub link_follows : reaches n q.node ≡ true → link_by (end_of n p q) p q (at_work n) ≡ links_by_table (end_of n p q) p q (at_work n)
   link_follows r = link_made r (end_of n p q)
 
@@ -59,6 +65,10 @@ module _ (n : Node) (p q : Pid) where
 
   pub unlinked_end : (id : ℕ) → end_of ((unlinks_by_table (end_of n p q) id p q (at_work n)).node) p q ≡ unlinked (end_of n p q) id
   unlinked_end id = unlinked_made id (end_of n p q) refl
+
+  pub unlink_used_up : end_of n p q ≡ End.Active → id_of n.mint kind.UnlinkId ≡ None
+      → unlink_by (end_of n p q) p q (at_work n) ≡ Refuses Refusal.IdsUsedUp
+  unlink_used_up a h = unlink_refused (end_of n p q) a h
 
   pub inactive_stays : is_active (end_of n p q) ≡ false → unlink_by (end_of n p q) p q (at_work n) ≡ Accepts Answer.Done (at_work n)
   inactive_stays h = unlink_stays (end_of n p q) h

@@ -91,7 +91,8 @@ restarting = Stop second ∷ Start second ∷ Call second Command.Spawn ∷ Lose
 
 -- the nodes connect again, and the first node's process monitors the one that was
 abbrev pub monitoring_the_former : (own other : ℕ) → List Event
-monitoring_the_former own other = restarting ++ (connecting 2 own other ++ Call first (Command.Monitor here there) ∷ Arrive (trunk 2) second 0 ∷ [])
+monitoring_the_former own other =
+    restarting ++ (connecting 2 own other ++ Call first (Command.Monitor here there) ∷ Arrive (trunk 2) second 0 ∷ [])
 
 abbrev pub monitored_after_a_restart : (own other : ℕ) → List Event
 monitored_after_a_restart own other = (connected_over_a_trunk own other ++ monitoring_the_former own other) ++ Arrive (trunk 2) first 0 ∷ []
@@ -111,7 +112,8 @@ unlinked_before_the_end reason =
 -- one has ended when the other, which traps exits, links itself to it: what comes next is the answer
 abbrev pub linked_to_the_dead : (reason : Data) → List Event
 linked_to_the_dead reason =
-    Call first Command.Spawn ∷ Call first Command.Spawn ∷ Call first (Command.Trap here true) ∷ Call first (Command.ExitSelf beside reason) ∷ Call first (Command.Link here beside) ∷ Local first ∷ []
+    Call first Command.Spawn ∷ Call first Command.Spawn ∷ Call first (Command.Trap here true) ∷ Call first (Command.ExitSelf beside reason)
+    ∷ Call first (Command.Link here beside) ∷ Local first ∷ []
 
 -- one ends, and the other takes its monitor back: what comes next is the news of that end
 abbrev pub demonitored_after_the_end : (reason : Data) → List Event
@@ -125,12 +127,14 @@ demonitored_after_the_end reason =
 abbrev pub crossing : (own other word : ℕ) → List Event
 crossing own other word =
     Dial first second own ∷ Dial second first other ∷ Arrive (trunk 1) second 0 ∷ Arrive (other_trunk 1) first word
-    ∷ Arrive (other_trunk 1) second 0 ∷ Arrive (other_trunk 1) second 0 ∷ Arrive (other_trunk 1) first 0 ∷ Arrive (other_trunk 1) second 0 ∷ []
+    ∷ Arrive (other_trunk 1) second 0 ∷ Arrive (other_trunk 1) second 0 ∷ Arrive (other_trunk 1) first 0
+    ∷ Arrive (other_trunk 1) second 0 ∷ []
 
 -- the first node alone notices that the connection is lost, and dials again: `alive`, `true`
 abbrev pub dialing_again : (own other : ℕ) → List Event
 dialing_again own other =
-    Lose (trunk 1) first ∷ Sweep first ∷ Dial first second own ∷ Arrive (trunk 2) second other ∷ Arrive (trunk 2) first 0 ∷ Arrive (trunk 2) second 0 ∷ []
+    Lose (trunk 1) first ∷ Sweep first ∷ Dial first second own ∷ Arrive (trunk 2) second other
+    ∷ Arrive (trunk 2) first 0 ∷ Arrive (trunk 2) second 0 ∷ []
 
 -- the second sweeps its records, and the handshake goes on
 abbrev pub going_on : List Event

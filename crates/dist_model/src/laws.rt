@@ -3,7 +3,7 @@
 //! A law of `Always` is of every world to which any list of events leads, from any opening world,
 //! with or without memory; and so of each moment of every run. The others are of all worlds, or of
 //! the definitions.
-ghost use Rattle.std.specs.Prelude.{◌≡◌, ◌↔◌, ℕ, List, [], ◌∷◌, ◌++◌, length, true, false, Some};
+ghost use Rattle.std.specs.Prelude.{◌≡◌, ◌↔◌, ℕ, List, [], ◌∷◌, ◌++◌, length, true, false, Some, None};
 ghost use Rattle.std.specs.FinMap as fm;
 ghost use Rattle.erl_term.specs.declared.term.Pid.{Pid};
 ghost use Rattle.erl_term.specs.declared.term.Reference.{Reference};
@@ -18,7 +18,7 @@ ghost use Rattle.dist_model.specs.Links.{LinkNews, noproc};
 ghost use Rattle.dist_model.specs.Items.{Signalled, telling, news_in, Item};
 ghost use Rattle.link_core.specs.declared.end.End.{End};
 ghost use Rattle.link_core.specs.Table.{is_active, linked, unlinked};
-ghost use Rattle.dist_model.specs.Commands.{Accepts, Accepts};
+ghost use Rattle.dist_model.specs.Commands.{Accepts, Accepts, Refuses};
 ghost use Rattle.dist_model.specs.declared.report.Answer.{Answer};
 ghost use Rattle.dist_model.specs.declared.report.Kind.{Kind};
 ghost use Rattle.dist_model.specs.Linking.{link_by, unlink_by};
@@ -144,7 +144,8 @@ pub fn every_run_is_safe()
 /// a link or DOWN the report tells has a true cause in that world and what had happened by then. A
 /// want of memory tells none. (Reference Manual, Processes, Links and Monitors.)
 pub fn every_report_is_safe()
-    ensures told { (nodes : List (Name × List ℕ)) (before behind : List Event) (event : Event) (earlier later : List Report) (report : Report) (world : World) →
+    ensures told { (nodes : List (Name × List ℕ)) (before behind : List Event) (event : Event)
+        (earlier later : List Report) (report : Report) (world : World) →
         length before ≡ length earlier → Runs (opening nodes) (before ++ event ∷ behind) (earlier ++ report ∷ later) world →
         (now : World) × Runs (opening nodes) before earlier now ×
         ReactsRightly (told before earlier []) now event report × DownsRightly (told before earlier []) now event report }
@@ -177,6 +178,8 @@ pub fn calls_follow_the_table()
         unlink_by (end_of node p q) p q (at_work node) ≡ Accepts Answer.Done (unlinks_by_table (end_of node p q) id p q (at_work node)) }
     ensures unlinked { (node : Node) (p q : Pid) (id : ℕ) →
         end_of ((unlinks_by_table (end_of node p q) id p q (at_work node)).node) p q ≡ unlinked (end_of node p q) id }
+    ensures used_up { (node : Node) (p q : Pid) → end_of node p q ≡ End.Active → id_of node.mint draw.UnlinkId ≡ None →
+        unlink_by (end_of node p q) p q (at_work node) ≡ Refuses Refusal.IdsUsedUp }
     ensures inactive { (node : Node) (p q : Pid) → is_active (end_of node p q) ≡ false →
         unlink_by (end_of node p q) p q (at_work node) ≡ Accepts Answer.Done (at_work node) }
 {}
@@ -283,7 +286,8 @@ pub fn late_down()
 /// Two nodes dial each other before either hears of it. The attempt of the node with the greater name
 /// comes up, and the other is gone at both.
 pub fn dials_cross()
-    ensures connected { (cookie : List ℕ) (own other word : ℕ) → let w = run (schedule.crossing own other word) (schedule.two_nodes cookie) in
+    ensures connected { (cookie : List ℕ) (own other word : ℕ) →
+        let w = run (schedule.crossing own other word) (schedule.two_nodes cookie) in
         AreConnected w schedule.first (schedule.other_trunk 1) schedule.second }
     ensures here { (cookie : List ℕ) (own other word : ℕ) → let w = run (schedule.crossing own other word) (schedule.two_nodes cookie) in
         HasSide w schedule.first (schedule.trunk 1) schedule.second is_gone }
@@ -294,11 +298,13 @@ pub fn dials_cross()
 /// A node that alone has noticed a loss dials again. The other's side waits while the old connection's
 /// link is still held, and once that is swept the connection comes up.
 pub fn dial_waits()
-    ensures parked { (cookie : List ℕ) (own other : ℕ) → let w = run (schedule.waiting_over_a_trunk own other) (schedule.two_nodes cookie) in
+    ensures parked { (cookie : List ℕ) (own other : ℕ) →
+        let w = run (schedule.waiting_over_a_trunk own other) (schedule.two_nodes cookie) in
         HasSide w schedule.second (schedule.trunk 2) schedule.first is_parked }
     ensures held { (cookie : List ℕ) (own other : ℕ) → let w = run (schedule.waiting_over_a_trunk own other) (schedule.two_nodes cookie) in
         end_between w schedule.there schedule.here ≡ End.Active }
-    ensures connected { (cookie : List ℕ) (own other : ℕ) → let w = run (schedule.gone_on_over_a_trunk own other) (schedule.two_nodes cookie) in
+    ensures connected { (cookie : List ℕ) (own other : ℕ) →
+        let w = run (schedule.gone_on_over_a_trunk own other) (schedule.two_nodes cookie) in
         AreConnected w schedule.first (schedule.trunk 2) schedule.second }
 {}
 

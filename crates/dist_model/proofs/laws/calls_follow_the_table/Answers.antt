@@ -1,5 +1,5 @@
 use Rattle.dist_model.proofs.laws.calls_follow_the_table.Goals as goal
-use Rattle.dist_model.proofs.Tabled.{inactive_stays, link_follows, linked_end, unlink_follows, unlinked_end}
+use Rattle.dist_model.proofs.Tabled.{inactive_stays, link_follows, linked_end, unlink_follows, unlink_used_up, unlinked_end}
 
 pub returns-clause-link : goal.returns-clause-link
 returns-clause-link c = link_follows
@@ -12,6 +12,9 @@ returns-clause-unlink c = unlink_follows
 
 pub returns-clause-unlinked : goal.returns-clause-unlinked
 returns-clause-unlinked c = unlinked_end
+
+pub returns-clause-used_up : goal.returns-clause-used_up
+returns-clause-used_up c = unlink_used_up
 
 pub returns-clause-inactive : goal.returns-clause-inactive
 returns-clause-inactive c = inactive_stays
