@@ -14,10 +14,10 @@ use Rattle.dist_model.specs.Exits.{sent_exit}
 use Rattle.dist_model.specs.Fits.{fits}
 use Rattle.dist_model.specs.Items.{Handshake, Item, Signalled, Tick, news_in, telling}
 use Rattle.dist_model.specs.Linking.{unlink_by}
-use Rattle.dist_model.specs.Links.{Exits, LinkNews, Says, noconnection, noproc}
+use Rattle.dist_model.specs.Links.{Exited, LinkNews, Signals, noconnection, noproc}
 use Rattle.dist_model.specs.Monitoring.{demonitor_by, monitor, register, unregister, unwatch, watch}
 use Rattle.dist_model.specs.Names.{Name, same_name, same_pid}
-use Rattle.dist_model.specs.Node.{Ended, Life, Living, Node, end_of, is_living_life, living, never, reaches, traps_life}
+use Rattle.dist_model.specs.Node.{Ended, Life, Living, Node, end_of, is_living_life, living, is_stranger, reaches, traps_life}
 use Rattle.dist_model.specs.Taking.{take_item}
 use Rattle.dist_model.specs.Work.{Work, at_work, draw, post, put, set_end, set_life}
 use Rattle.erl_control.specs.declared.signal.Signal.{Signal}
@@ -56,12 +56,12 @@ same_lives o m h = record {
   dialed = refl;
   name = refl;
   keeps = λ k. record { born = λ p l. k.born p (sym (h p) ∙ l); rooted = λ p q e. let r = k.rooted p q e in (h p ∙ r.0, r.1, r.2) };
-  grows = λ p l. ap (λ v. not v && not (never o.node p)) (h p) ∙ l;
+  grows = λ p l. ap (λ v. not v && not (is_stranger o.node p)) (h p) ∙ l;
   draws = omega arith;
   routed = λ a. a;
   nevers = λ p h. h;
   home = λ k h. h;
-  views = λ n b p q c r k. subst (λ a. Kept a c) (sym (side_path (view b (record o { node = record (o.node) { lives = m } }) p q) (view b o p q) refl (ap (λ v. not v && not (never o.node p)) (h p)) refl refl)) k;
+  views = λ n b p q c r k. subst (λ a. Kept a c) (sym (side_path (view b (record o { node = record (o.node) { lives = m } }) p q) (view b o p q) refl (ap (λ v. not v && not (is_stranger o.node p)) (h p)) refl refl)) k;
 }
 
 -- neither a life nor an end nor a side
@@ -89,10 +89,10 @@ says_something q p s h = let n : s ∷ [] ≡ [] = sym (telling_news q p q p s �
 
 -- the other signals
 pub takes_other : (x : Item) (o : Work) → ((p q : Pid) → news_in p q x ≡ []) → Moves o (take_item x o)
-takes_other (Signalled (Signal.Link q p)) o h = absurd (says_something q p (Says LinkSignal.Link) (h q p))
-takes_other (Signalled (Signal.Exit q p r)) o h = absurd (says_something q p (Exits r) (h q p))
-takes_other (Signalled (Signal.UnlinkId i q p)) o h = absurd (says_something q p (Says (LinkSignal.Unlink i)) (h q p))
-takes_other (Signalled (Signal.UnlinkIdAck i q p)) o h = absurd (says_something q p (Says (LinkSignal.Ack i)) (h q p))
+takes_other (Signalled (Signal.Link q p)) o h = absurd (says_something q p (Signals LinkSignal.Link) (h q p))
+takes_other (Signalled (Signal.Exit q p r)) o h = absurd (says_something q p (Exited r) (h q p))
+takes_other (Signalled (Signal.UnlinkId i q p)) o h = absurd (says_something q p (Signals (LinkSignal.Unlink i)) (h q p))
+takes_other (Signalled (Signal.UnlinkIdAck i q p)) o h = absurd (says_something q p (Signals (LinkSignal.Ack i)) (h q p))
 takes_other (Signalled (Signal.Send p t)) o h = moves_cond (living o.node p) o (put p t o) o (λ l. puts p t o) (λ l. stays o)
 takes_other (Signalled (Signal.Exit2 q p r)) o h = moves_cond (living o.node p) o _ o (λ l. carries_out (reaction (traps_life (fm.get o.node.lives p)) (sent_exit p q r)) p o l) (λ l. stays o)
 takes_other (Signalled (Signal.Monitor q p k)) o h = moves_cond (living o.node p) o _ _ (λ l. registers k (monitor_of q p) o) (λ l. posts_other q.node (Signalled (Signal.MonitorExit p q k noproc)) o (λ a b. refl))
@@ -163,7 +163,7 @@ never_by n p new true false true true false false true ha hc hd he hg =
     let eq : p ≡ next_pid n = λ i. record { node = nm i; creation = cr i; id = id i; serial = se i } in
     let k : true ≡ false = sym (same_pid_is p (next_pid n) eq) ∙ new in cc
 
-pub spawned_never : (n : Node) (p : Pid) → same_pid p (next_pid n) ≡ false → never ((spawned_at n (next_pid n)).node) p ≡ never n p
+pub spawned_never : (n : Node) (p : Pid) → same_pid p (next_pid n) ≡ false → is_stranger ((spawned_at n (next_pid n)).node) p ≡ is_stranger n p
 spawned_never n p new = never_by n p new (same_name p.node n.mint.name) (nat_lt n.mint.creation p.creation) (p.creation == n.mint.creation) (nat_lt n.mint.pids p.id) (nat_lt (n.mint.pids + 1) p.id) (p.id == 0) (p.serial == 0) refl refl refl refl refl
 
 not_less : (x : ℕ) → nat_lt x x ≡ false
@@ -172,7 +172,7 @@ not_less x = grind arith
 not_zero : (x : ℕ) → (x + 1 == 0) ≡ false
 not_zero x = grind arith
 
-next_never : (n : Node) → never ((spawned_at n (next_pid n)).node) (next_pid n) ≡ false
+next_never : (n : Node) → is_stranger ((spawned_at n (next_pid n)).node) (next_pid n) ≡ false
 next_never n =
     let a = same_name_refl n.mint.name in
     let b = not_less n.mint.creation in
@@ -189,7 +189,7 @@ next_never n =
     go true ha false hb false false hd false hf = refl
     go false ha b hb c d hd f hf = cc
 
-next_was_never : (n : Node) → never n (next_pid n) ≡ true
+next_was_never : (n : Node) → is_stranger n (next_pid n) ≡ true
 next_was_never n =
     go (same_name n.mint.name n.mint.name) (same_name_refl n.mint.name) (nat_lt n.mint.creation n.mint.creation) (n.mint.creation == n.mint.creation) (same_nat n.mint.creation) (nat_lt n.mint.pids (n.mint.pids + 1)) (less_next n.mint.pids) (n.mint.pids + 1 == 0)
   where
@@ -240,18 +240,18 @@ spawned_over : (n : Node) (p : Pid) → over ((spawned_at n (next_pid n)).node) 
 spawned_over n p = by_test _ (same_pid p (next_pid n))
     (λ h.
     let e : p ≡ next_pid n = same_pid_true p (next_pid n) h in
-    let a : over ((spawned_at n (next_pid n)).node) p ≡ false = ap (λ v. not v && not (never ((spawned_at n (next_pid n)).node) p)) (spawned_living n p ∙ born_cond_true (same_pid p (next_pid n)) (fm.get n.lives p) h) in
-    let c : over n p ≡ false = and_not_true (not (living n p)) (never n p) (ap (never n) e ∙ next_was_never n) in
+    let a : over ((spawned_at n (next_pid n)).node) p ≡ false = ap (λ v. not v && not (is_stranger ((spawned_at n (next_pid n)).node) p)) (spawned_living n p ∙ born_cond_true (same_pid p (next_pid n)) (fm.get n.lives p) h) in
+    let c : over n p ≡ false = and_not_true (not (living n p)) (is_stranger n p) (ap (is_stranger n) e ∙ next_was_never n) in
     a ∙ sym c)
-    (λ h. ap (λ v. not v && not (never ((spawned_at n (next_pid n)).node) p)) (spawned_living n p ∙ born_cond_false (same_pid p (next_pid n)) (fm.get n.lives p) h)
+    (λ h. ap (λ v. not v && not (is_stranger ((spawned_at n (next_pid n)).node) p)) (spawned_living n p ∙ born_cond_false (same_pid p (next_pid n)) (fm.get n.lives p) h)
     ∙ ap (λ v. not (living n p) && not v) (spawned_never n p h))
 
 pub spawned_stays_living : (n : Node) (p : Pid) → living n p ≡ true → living ((spawned_at n (next_pid n)).node) p ≡ true
 spawned_stays_living n p l = by_test _ (same_pid p (next_pid n)) (λ h. spawned_living n p ∙ born_cond_true (same_pid p (next_pid n)) (fm.get n.lives p) h)
     (λ h. spawned_living n p ∙ born_cond_false (same_pid p (next_pid n)) (fm.get n.lives p) h ∙ l)
 
-pub spawned_stays_born : (n : Node) (p : Pid) → never n p ≡ false → never ((spawned_at n (next_pid n)).node) p ≡ false
-spawned_stays_born n p h = by_test _ (same_pid p (next_pid n)) (λ e. ap (never ((spawned_at n (next_pid n)).node)) (same_pid_true p (next_pid n) e) ∙ next_never n) (λ e. spawned_never n p e ∙ h)
+pub spawned_stays_born : (n : Node) (p : Pid) → is_stranger n p ≡ false → is_stranger ((spawned_at n (next_pid n)).node) p ≡ false
+spawned_stays_born n p h = by_test _ (same_pid p (next_pid n)) (λ e. ap (is_stranger ((spawned_at n (next_pid n)).node)) (same_pid_true p (next_pid n) e) ∙ next_never n) (λ e. spawned_never n p e ∙ h)
 
 home_along : (f g : Pid → Bool) (xs : List Item) → ((p : Pid) → f p ≡ false → g p ≡ false) → Homely f xs → Homely g xs
 home_along f g [] h k = tt
@@ -263,7 +263,7 @@ spawns n = record {
   dialed = refl;
   name = refl;
   keeps = λ k. record {
-    born = λ p l. by_test _ (same_pid p (next_pid n)) (λ h. ap (never ((spawned_at n (next_pid n)).node)) (same_pid_true p (next_pid n) h) ∙ next_never n)
+    born = λ p l. by_test _ (same_pid p (next_pid n)) (λ h. ap (is_stranger ((spawned_at n (next_pid n)).node)) (same_pid_true p (next_pid n) h) ∙ next_never n)
         (λ h. spawned_never n p h ∙ k.born p (sym (spawned_living n p ∙ born_cond_false (same_pid p (next_pid n)) (fm.get n.lives p) h) ∙ l));
     rooted = λ p q e. let r = k.rooted p q e in (spawned_stays_living n p r.0, r.1, λ i. let d = r.2 i in (spawned_stays_born n q d.0, d.1));
   };
@@ -271,7 +271,7 @@ spawns n = record {
   draws = omega arith;
   routed = λ a. a;
   nevers = λ p h. spawned_stays_born n p h;
-  home = λ k h. home_along (λ p. never n p) (λ p. never ((spawned_at n (next_pid n)).node) p) n.local (λ p e. spawned_stays_born n p e) h;
+  home = λ k h. home_along (λ p. is_stranger n p) (λ p. is_stranger ((spawned_at n (next_pid n)).node) p) n.local (λ p e. spawned_stays_born n p e) h;
   views = λ k b p q c r t. subst (λ a. Kept a c) (sym (side_path (view b (spawned_at n (next_pid n)) p q) (view b (at_work n) p q) refl (spawned_over n p) refl refl)) t;
 }
 
@@ -308,11 +308,11 @@ pub if_not_known : (b : Bool) (k : Outcome) (j : Refusal) (P : Work → Type 0) 
 if_not_known true k j P h = tt
 if_not_known false k j P h = h refl
 
-acts_known : (n : Node) (p q : Pid) (k : Outcome) → (living n p ≡ true → (same_name q.node n.mint.name ≡ true → never n q ≡ false) → IfGoes k (Moves (at_work n))) → IfGoes (acting n p (toward n q k)) (Moves (at_work n))
-acts_known n p q k h = if_cond (living n p) (toward n q k) Refusal.NoSuchProcess (Moves (at_work n)) (λ l. if_not_known (same_name q.node n.mint.name && never n q) k Refusal.Forged (Moves (at_work n)) (λ v. h l (forged_not (same_name q.node n.mint.name) (never n q) v)))
+acts_known : (n : Node) (p q : Pid) (k : Outcome) → (living n p ≡ true → (same_name q.node n.mint.name ≡ true → is_stranger n q ≡ false) → IfGoes k (Moves (at_work n))) → IfGoes (acting n p (toward n q k)) (Moves (at_work n))
+acts_known n p q k h = if_cond (living n p) (toward n q k) Refusal.NoSuchProcess (Moves (at_work n)) (λ l. if_not_known (same_name q.node n.mint.name && is_stranger n q) k Refusal.Forged (Moves (at_work n)) (λ v. h l (forged_not (same_name q.node n.mint.name) (is_stranger n q) v)))
 
 acts : (n : Node) (p q : Pid) (k : Outcome) → (living n p ≡ true → IfGoes k (Moves (at_work n))) → IfGoes (acting n p (toward n q k)) (Moves (at_work n))
-acts n p q k h = if_cond (living n p) (toward n q k) Refusal.NoSuchProcess (Moves (at_work n)) (λ l. if_not (same_name q.node n.mint.name && never n q) k Refusal.Forged (Moves (at_work n)) (h l))
+acts n p q k h = if_cond (living n p) (toward n q k) Refusal.NoSuchProcess (Moves (at_work n)) (λ l. if_not (same_name q.node n.mint.name && is_stranger n q) k Refusal.Forged (Moves (at_work n)) (h l))
 
 -- whatever a call does, no pair is hurt
 pub calls : (n : Node) (c : Command) → IfGoes (call n c) (Moves (at_work n))

@@ -29,9 +29,9 @@ use Rattle.dist_model.specs.Incarnations.{all_gone, started, stopped}
 use Rattle.dist_model.specs.Items.{Handshake, Item, Signalled, news, news_in, telling}
 use Rattle.dist_model.specs.Links.{LinkNews}
 use Rattle.dist_model.proofs.Records.{has_records, least_as, sweep_link}
-use Rattle.dist_model.specs.Losses.{least_record, sweep_record, any_side, close, link_to, parked_by, parked_goes, sweep, sweep_by, swept}
+use Rattle.dist_model.specs.Losses.{least_record, sweep_record, any_side, close_side, link_to, released_by, release_parked, sweep, sweep_by, close_if_swept}
 use Rattle.dist_model.specs.Names.{Name, pair_cmp, place_cmp, same_name, same_pid}
-use Rattle.dist_model.specs.Node.{Node, end_of, is_living_life, never, side_where}
+use Rattle.dist_model.specs.Node.{Node, end_of, is_living_life, is_stranger, side_where}
 use Rattle.dist_model.specs.Sides.{Accepting, Asked, AwaitsAck, AwaitsChallenge, AwaitsStatus, Gone, Losing, Parked, State, TrunkSide, Up, is_gone, is_losing, is_parked, is_up}
 use Rattle.dist_model.specs.Work.{Work, at_work}
 use Rattle.dist_model.specs.World.{World, carried, came_of, list_to, node_of, set_node}
@@ -160,14 +160,14 @@ placed_write w x o t y m g = subst (λ l. Good (record { names = w.names; nodes 
 -- a sweep
 module _ (w : World) (x : Name) (n : Node) (hx : node_of w.nodes x ≡ Some n) where
   -- the node in the midst of the event, after which the side t is to be closed
-  closes : (o : Work) (t : TrunkId) (v : TrunkSide) → o.node.mint.name ≡ x → side_at o.node t ≡ Some v → v.state ≡ Losing → has_records v.peer o.node ≡ false → Good (placed w x o) → Good (placed w x (close t v o))
+  closes : (o : Work) (t : TrunkId) (v : TrunkSide) → o.node.mint.name ≡ x → side_at o.node t ≡ Some v → v.state ≡ Losing → has_records v.peer o.node ≡ false → Good (placed w x o) → Good (placed w x (close_side t v o))
   closes o t v e h los clean g =
       let hw : node_of (placed w x o).nodes x ≡ Some o.node = node_of_set_same w.nodes x n o.node hx e in
       let o1 = set_state t v Gone o in
       let g1 : Good (placed w x o1) = placed_state w x o t (as_state v Gone) e (good_closed (placed w x o) x o.node t v hw h clean g) in
       unparks o1 e (freed o.node t v (g.core.sides x o.node hw) h los) g1 (side_where is_parked v.peer (fm.entries o1.node.sides)) refl
     where
-      go_by : (o1 : Work) → o1.node.mint.name ≡ x → (u : TrunkId) (b : TrunkSide) → side_at o1.node u ≡ Some b → held o1.node b.peer ≡ false → Good (placed w x o1) → (a : State) → b.state ≡ a → is_parked a ≡ true → Good (placed w x (parked_goes (Some (u, b)) o1))
+      go_by : (o1 : Work) → o1.node.mint.name ≡ x → (u : TrunkId) (b : TrunkSide) → side_at o1.node u ≡ Some b → held o1.node b.peer ≡ false → Good (placed w x o1) → (a : State) → b.state ≡ a → is_parked a ≡ true → Good (placed w x (release_parked (Some (u, b)) o1))
       go_by o1 e u b hb nh g a ea pa =
           let k = parked_is b.state (ap is_parked ea ∙ pa) in
           let hw : node_of (placed w x o1).nodes x ≡ Some o1.node = node_of_set_same w.nodes x n o1.node hx e in
@@ -176,15 +176,15 @@ module _ (w : World) (x : Name) (n : Node) (hx : node_of w.nodes x ≡ Some n) w
           let o2 = set_state u b (Accepting k.0) o1 in
           let hw2 : node_of (placed w x o2).nodes x ≡ Some o2.node = node_of_set_same w.nodes x n o2.node hx e in
           let g3 : Good (placed w x (write u b.peer (challenge o1.node k.0) o2)) = placed_write w x o2 u b.peer (challenge o1.node k.0) (good_written (placed w x o2) x o2.node u s (challenge o1.node k.0) hw2 (side_after_same o1.node u s) refl refl (λ j. (k.0, refl)) g2) in
-          subst (λ z. Good (placed w x (parked_by z u b o1))) (sym k.1) g3
+          subst (λ z. Good (placed w x (released_by z u b o1))) (sym k.1) g3
 
-      unparks : (o1 : Work) → o1.node.mint.name ≡ x → held o1.node v.peer ≡ false → Good (placed w x o1) → (d : Option (TrunkId × TrunkSide)) → side_where is_parked v.peer (fm.entries o1.node.sides) ≡ d → Good (placed w x (parked_goes d o1))
+      unparks : (o1 : Work) → o1.node.mint.name ≡ x → held o1.node v.peer ≡ false → Good (placed w x o1) → (d : Option (TrunkId × TrunkSide)) → side_where is_parked v.peer (fm.entries o1.node.sides) ≡ d → Good (placed w x (release_parked d o1))
       unparks o1 e nh g None i = g
       unparks o1 e nh g (Some d) i =
           let f = side_where_found is_parked v.peer (fm.entries o1.node.sides) d (fm.entries_sorted o1.node.sides) i in
           go_by o1 e d.0 d.1 (fm.get-entries o1.node.sides d.0 ∙ f.there) (ap (held o1.node) f.peer ∙ nh) g d.1.state refl f.passes
 
-  swept_by : (o : Work) (t : TrunkId) (v : TrunkSide) → o.node.mint.name ≡ x → side_at o.node t ≡ Some v → v.state ≡ Losing → Good (placed w x o) → Good (placed w x (swept t v o))
+  swept_by : (o : Work) (t : TrunkId) (v : TrunkSide) → o.node.mint.name ≡ x → side_at o.node t ≡ Some v → v.state ≡ Losing → Good (placed w x o) → Good (placed w x (close_if_swept t v o))
   swept_by o t v e h los g = go (has_records v.peer o.node) refl
     where
       go : (b : Bool) → has_records v.peer o.node ≡ b → Good (placed w x (close_if b t v o))
@@ -203,7 +203,7 @@ module _ (w : World) (x : Name) (n : Node) (hx : node_of w.nodes x ≡ Some n) w
           let f = sweep_moves n d.0 d.1 (g.core.nodes x n hx) (g.core.sides x n hx) h los in
           let o = sweep_link (link_to d.1.peer (fm.entries n.ends)) d.1.peer (at_work n) in
           let same : (sweep_record (least_record d.1.peer n) (at_work n)) ≡ o = least_as d.1.peer (at_work n) in
-          subst (λ z. Good (placed w x (swept d.0 d.1 z))) (sym same) (swept_by o d.0 d.1 (f.name ∙ node_of_name w.nodes x n hx) (ap (λ l. fm.get l d.0) f.sides ∙ h) los (good_moved w x n o hx f g))
+          subst (λ z. Good (placed w x (close_if_swept d.0 d.1 z))) (sym same) (swept_by o d.0 d.1 (f.name ∙ node_of_name w.nodes x n hx) (ap (λ l. fm.get l d.0) f.sides ∙ h) los (good_moved w x n o hx f g))
 
 -- a node stops or starts
 abbrev pub gone_side : Option TrunkSide → Option TrunkSide
@@ -377,18 +377,18 @@ module _ (w : World) (x : Name) (n : Node) (hx : node_of w.nodes x ≡ Some n) (
   no_end : (p q : Pid) → end_of (stopped n) p q ≡ End.None
   no_end p q = ap end_in (fm.get-empty pair_cmp (p, q))
 
-  stopped_over : (p : Pid) → never n p ≡ false → over (stopped n) p ≡ true
-  stopped_over p h = ap (λ v. not v && not (never n p)) (ap is_living_life (fm.get-empty pid_cmp p)) ∙ ap not h
+  stopped_over : (p : Pid) → is_stranger n p ≡ false → over (stopped n) p ≡ true
+  stopped_over p h = ap (λ v. not v && not (is_stranger n p)) (ap is_living_life (fm.get-empty pid_cmp p)) ∙ ap not h
 
   stopped_pairs : HomePairs (stopped n)
   stopped_pairs p q hp hq d =
       let k = g.home x n hx in
       let a = side_of (stopped n) p q (news p q n.local) in
       let b = side_of (stopped n) q p (news q p n.local) in
-      by_test _ (never n p)
-      (λ i. let v = strange (λ z. never n z) p q n.local i k.local in blank a b (no_end p q) (no_end q p) v.0 v.1)
-      (λ i. by_test _ (never n q)
-      (λ j. let v = strange (λ z. never n z) q p n.local j k.local in blank a b (no_end p q) (no_end q p) v.1 v.0)
+      by_test _ (is_stranger n p)
+      (λ i. let v = strange (λ z. is_stranger n z) p q n.local i k.local in blank a b (no_end p q) (no_end q p) v.0 v.1)
+      (λ i. by_test _ (is_stranger n q)
+      (λ j. let v = strange (λ z. is_stranger n z) q p n.local j k.local in blank a b (no_end p q) (no_end q p) v.1 v.0)
       (λ j.
       subst (λ c. Kept c b) (side_path (record { end = End.None; gone = true; drawn = n.mint.unlink_ids; sent = news p q n.local }) a (sym (no_end p q)) (sym (stopped_over p i)) refl refl)
       (subst (λ c. Kept (record { end = End.None; gone = true; drawn = n.mint.unlink_ids; sent = news p q n.local }) c) (side_path (record { end = End.None; gone = true; drawn = n.mint.unlink_ids; sent = news q p n.local }) b (sym (no_end q p)) (sym (stopped_over q j)) refl refl)

@@ -41,11 +41,11 @@ use Rattle.dist_model.specs.Handshake.{identity, fault, with_side, write}
 use Rattle.dist_model.specs.Histories.{History}
 use Rattle.dist_model.specs.Incarnations.{start, started, stop, stopped}
 use Rattle.dist_model.specs.Items.{Handshake, Item, Signalled, Tick, receiver_of, sender_of, kind_of}
-use Rattle.dist_model.specs.Links.{Says, noconnection}
+use Rattle.dist_model.specs.Links.{Signals, noconnection}
 use Rattle.dist_model.proofs.Records.{least_as, sweep_link}
-use Rattle.dist_model.specs.Losses.{least_record, swept_kind, any_side, link_to, lose, sweep_by, swept}
+use Rattle.dist_model.specs.Losses.{least_record, swept_kind, any_side, link_to, lose, sweep_by, close_if_swept}
 use Rattle.dist_model.specs.Names.{Name, same_name}
-use Rattle.dist_model.specs.Node.{Node, end_of, is_living_life, living, never, reaches, side_where}
+use Rattle.dist_model.specs.Node.{Node, end_of, is_living_life, living, is_stranger, reaches, side_where}
 use Rattle.dist_model.specs.Sides.{Accepting, Asked, AwaitsAck, AwaitsChallenge, AwaitsStatus, Gone, Losing, Parked, State, TrunkSide, Up, is_gone, is_losing, is_over}
 use Rattle.dist_model.specs.Taking.{take_item}
 use Rattle.dist_model.specs.Work.{Work, at_work, delivered, put}
@@ -102,7 +102,7 @@ and_first : (a b : Bool) → a ≡ false → (a && b) ≡ false
 and_first true b h = cc
 and_first false b h = refl
 
-started_born : (n : Node) (p : Pid) → never n p ≡ false → never (started n) p ≡ false
+started_born : (n : Node) (p : Pid) → is_stranger n p ≡ false → is_stranger (started n) p ≡ false
 started_born n p h =
     let v = five (not (same_name p.node n.mint.name)) (nat_lt n.mint.creation p.creation) (p.creation == n.mint.creation && nat_lt n.mint.pids p.id) (p.id == 0) (not (p.serial == 0)) h in
     let k = above_next n.mint.creation p.creation v.1 in
@@ -145,7 +145,7 @@ module _ (w : World) (h : History) (x : Name) (n : Node) (hx : node_of w.nodes x
           pids = refl;
         }) k.shaken.turns) k.shaken.home k.shaken.aging
 
-    module _ (fs : All (IsFounded w h) xs) (ts : All (TargetsIn (λ q. never n q ≡ false)) xs) where
+    module _ (fs : All (IsFounded w h) xs) (ts : All (TargetsIn (λ q. is_stranger n q ≡ false)) xs) where
       whole : Whole w h x n hx gw g e xs (at_work (record n { local = xs }))
       whole = begins w h x n hx gw g e xs fs ts
 
@@ -154,7 +154,7 @@ module _ (w : World) (h : History) (x : Name) (n : Node) (hx : node_of w.nodes x
 
       -- ---- an item is taken
 
-      module _ (i : Item) (fi : IsFounded w h i) (link_known : (p q : Pid) → i ≡ Signalled (Signal.Link q p) → never n p ≡ false) (monitor_known : (p q : Pid) (r : Reference) → i ≡ Signalled (Signal.Monitor p q r) → never n q ≡ false)
+      module _ (i : Item) (fi : IsFounded w h i) (link_known : (p q : Pid) → i ≡ Signalled (Signal.Link q p) → is_stranger n p ≡ false) (monitor_known : (p q : Pid) (r : Reference) → i ≡ Signalled (Signal.Monitor p q r) → is_stranger n q ≡ false)
           (counts : (fs : List (Effect Item)) → takes_message e (Reported (Answer.Took (kind_of i)) fs) ≡ is_sent_message (Answer.Took (kind_of i))) where
         reasons : ((p : Pid) (m : Data) → i ≡ Signalled (Signal.Send p m) → ⊥) → Reasons (rules w h x n hx gw g e xs) (Whole w h x n hx gw g e xs) i (at_work (record n { local = xs }))
         reasons ns = record {
@@ -225,7 +225,7 @@ module _ (w : World) (h : History) (x : Name) (n : Node) (hx : node_of w.nodes x
       fails : (j : Fault) → A (fault j t v (at_work n))
       fails j = calms (fault j t v (at_work n)) (known_fault (λ u y. Unit {0}) (Calm (Arrive t x k) n.local (λ r z. refl) (λ r z. refl)) (calm_side (Arrive t x k) n.local (λ r z. refl) (λ r z. refl)) (calm_wrote (Arrive t x k) n.local (λ r z. refl) (λ r z. refl)) j t v (at_work n) at calm0)
 
-      received : is_good n v i ≡ true → (s : Signal) → i ≡ Signalled s → never n (receiver_of s) ≡ false
+      received : is_good n v i ≡ true → (s : Signal) → i ≡ Signalled s → is_stranger n (receiver_of s) ≡ false
       received good s j = not_never n (receiver_of s) (and_both (from_peer v (sender_of s)) (is_to n (receiver_of s)) (sym (ap (is_good n v) j) ∙ good)).1
 
       up_comes : A (on_up t v i (at_work n))
@@ -256,18 +256,18 @@ module _ (w : World) (h : History) (x : Name) (n : Node) (hx : node_of w.nodes x
   pub local_done : (l : List Item) → n.local ≡ l → AllGo (take_local n l) (λ a o. (i : Item) (xs : List Item) → l ≡ i ∷ xs → D (Local x) xs a o)
   local_done [] j = tt
   local_done (i ∷ xs) j = λ i2 xs2 s. subst (λ z. D (Local x) z (Answer.Took (kind_of i)) (take_item i (at_work (record n { local = xs })))) (tail_same s)
-      (taken_done (Local x) xs (λ r v. refl) (λ r v. refl) (All-tail (IsFounded w h) i xs fs) (All-tail (TargetsIn (λ q. never n q ≡ false)) i xs ts) i (All-head (IsFounded w h) i xs fs)
-      (λ p q s. (home_saying (λ a. never n a) q p (Says LinkSignal.Link) (subst (λ z. HomeItem (λ a. never n a) z) s hl.0)).1)
-      (λ p q r s. subst (λ z. TargetsIn (λ a. never n a ≡ false) z) s (All-head (TargetsIn (λ q. never n q ≡ false)) i xs ts)) (λ fs. refl))
+      (taken_done (Local x) xs (λ r v. refl) (λ r v. refl) (All-tail (IsFounded w h) i xs fs) (All-tail (TargetsIn (λ q. is_stranger n q ≡ false)) i xs ts) i (All-head (IsFounded w h) i xs fs)
+      (λ p q s. (home_saying (λ a. is_stranger n a) q p (Signals LinkSignal.Link) (subst (λ z. HomeItem (λ a. is_stranger n a) z) s hl.0)).1)
+      (λ p q r s. subst (λ z. TargetsIn (λ a. is_stranger n a ≡ false) z) s (All-head (TargetsIn (λ q. is_stranger n q ≡ false)) i xs ts)) (λ fs. refl))
     where
       fs : All (IsFounded w h) (i ∷ xs)
       fs = subst (λ z. All (IsFounded w h) z) j (g.locals x n hx)
 
-      ts : All (TargetsIn (λ q. never n q ≡ false)) (i ∷ xs)
-      ts = subst (λ z. All (TargetsIn (λ q. never n q ≡ false)) z) j (g.homes x n hx)
+      ts : All (TargetsIn (λ q. is_stranger n q ≡ false)) (i ∷ xs)
+      ts = subst (λ z. All (TargetsIn (λ q. is_stranger n q ≡ false)) z) j (g.homes x n hx)
 
-      hl : Homely (λ p. never n p) (i ∷ xs)
-      hl = subst (λ l. Homely (λ p. never n p) l) j ((gw.home x n hx).local)
+      hl : Homely (λ p. is_stranger n p) (i ∷ xs)
+      hl = subst (λ l. Homely (λ p. is_stranger n p) l) j ((gw.home x n hx).local)
 
       tail_same : {i2 : Item} {xs2 : List Item} → i ∷ xs ≡ i2 ∷ xs2 → xs ≡ xs2
       tail_same s = cc
@@ -318,8 +318,8 @@ module _ (w : World) (h : History) (x : Name) (n : Node) (hx : node_of w.nodes x
       (begins w h x n hx gw g (Sweep x) n.local (g.locals x n hx) (g.homes x n hx)) in
       let o1 = sweep_link (link_to d.1.peer (fm.entries n.ends)) d.1.peer (at_work n) in
       let s = swept_kept (λ u y. Unit {0}) (Shaken w h x n hx gw g (Sweep x) n.local) (shaken_side w h x n hx gw g (Sweep x) n.local) (λ t y m o v z. shaken_wrote w h x n hx gw g (Sweep x) n.local t y m o z) d.0 d.1 o1 (ap (λ z. fm.get z d.0) k.core.sides ∙ at) (shaken w h x n hx gw g (Sweep x) n.local o1 k) in
-      subst (λ z. D (Sweep x) n.local (Answer.Swept (swept_kind (least_record d.1.peer n))) (swept d.0 d.1 z)) (sym (least_as d.1.peer (at_work n)))
-      (done_shaken w h x n hx gw g (Sweep x) n.local _ (swept d.0 d.1 o1) (λ q. refl) (λ q. refl) refl s)
+      subst (λ z. D (Sweep x) n.local (Answer.Swept (swept_kind (least_record d.1.peer n))) (close_if_swept d.0 d.1 z)) (sym (least_as d.1.peer (at_work n)))
+      (done_shaken w h x n hx gw g (Sweep x) n.local _ (close_if_swept d.0 d.1 o1) (λ q. refl) (λ q. refl) refl s)
     where
       right : (y : Name) → reaches n y ≡ false → (e : (Pid × Pid) × End) → link_to y (fm.entries n.ends) ≡ Some e → e.1 ≡ End.Active → Right w h (Sweep x) e.0.0 e.0.1 noconnection
       right y far e l a =
@@ -335,8 +335,8 @@ module _ (w : World) (h : History) (x : Name) (n : Node) (hx : node_of w.nodes x
 
   module _ (e : Event) (m : Node) (na : (k : Reference) (r : Report) → is_answered k e r ≡ false) (nd : (k : Reference) (r : Report) → is_demonitored k e r ≡ false) (tm : (r : Report) → takes_message e r ≡ false)
       (nam : m.mint.name ≡ n.mint.name) (empty_lives : m.lives ≡ fm.empty) (empty_watches : m.watches ≡ fm.empty) (empty_registered : m.registered ≡ fm.empty) (all_over : m.sides ≡ fm.from_entries (Rattle.dist_model.specs.Incarnations.all_gone (fm.entries n.sides)))
-      (nv : (p : Pid) → never n p ≡ false → never m p ≡ false) (dr : (k : Reference) → Drawn n k → Drawn m k)
-      (fs : All (IsFounded w h) m.local) (ts : All (TargetsIn (λ q. never m q ≡ false)) m.local) where
+      (nv : (p : Pid) → is_stranger n p ≡ false → is_stranger m p ≡ false) (dr : (k : Reference) → Drawn n k → Drawn m k)
+      (fs : All (IsFounded w h) m.local) (ts : All (TargetsIn (λ q. is_stranger m q ≡ false)) m.local) where
     dead : (p : Pid) → living m p ≡ false
     dead p = ap is_living_life (ap (λ z. fm.get z p) empty_lives ∙ fm.get-empty pid_cmp p)
 
@@ -395,7 +395,7 @@ module _ (w : World) (h : History) (x : Name) (n : Node) (hx : node_of w.nodes x
 
   pub start_done : AllGo (start n) (D (Start x) n.local)
   start_done = go_not n.up _ Refusal.NodeUp (D (Start x) n.local) (λ a. go_cond (nat_lt (n.mint.creation + 1) (2 ^ 32)) _ Refusal.IdsUsedUp (D (Start x) n.local) (λ b.
-      cleared_done (Start x) (started n) (λ k r. refl) (λ k r. refl) (λ r. refl) refl refl refl refl refl (started_born n) again (All-nil (IsFounded w h)) (All-nil (TargetsIn (λ q. never (started n) q ≡ false))) (Answer.Started (n.mint.creation + 1))))
+      cleared_done (Start x) (started n) (λ k r. refl) (λ k r. refl) (λ r. refl) refl refl refl refl refl (started_born n) again (All-nil (IsFounded w h)) (All-nil (TargetsIn (λ q. is_stranger (started n) q ≡ false))) (Answer.Started (n.mint.creation + 1))))
     where
       again : (k : Reference) → Drawn n k → Drawn (started n) k
       again k (inl d) = inl (omega arith)

@@ -29,7 +29,7 @@ use Rattle.dist_model.specs.Histories.{History}
 use Rattle.dist_model.specs.Items.{Item}
 use Rattle.dist_model.specs.Links.{noconnection, noproc}
 use Rattle.dist_model.specs.Names.{Name, same_name}
-use Rattle.dist_model.specs.Node.{Node, end_of, living, never, reaches, route}
+use Rattle.dist_model.specs.Node.{Node, end_of, living, is_stranger, reaches, route}
 use Rattle.dist_model.specs.Seen.{end_between, is_reached}
 use Rattle.dist_model.specs.Sides.{TrunkSide}
 use Rattle.dist_model.specs.Work.{Work, at_work}
@@ -42,18 +42,18 @@ use Rattle.erl_term.specs.declared.term.Reference.{Reference}
 use Rattle.link_core.specs.declared.end.End.{End}
 use Rattle.monitor_core.specs.declared.monitor.Monitor.{Monitor}
 
-pub never_same : (m n : Node) → m.mint.name ≡ n.mint.name → m.mint.creation ≡ n.mint.creation → m.mint.pids ≡ n.mint.pids → (p : Pid) → never m p ≡ never n p
+pub never_same : (m n : Node) → m.mint.name ≡ n.mint.name → m.mint.creation ≡ n.mint.creation → m.mint.pids ≡ n.mint.pids → (p : Pid) → is_stranger m p ≡ is_stranger n p
 never_same m n a b c p = λ i. not (same_name p.node (a i)) || nat_lt (b i) p.creation || (p.creation == b i && nat_lt (c i) p.id) || p.id == 0 || not (p.serial == 0)
 
 not_true : (b : Bool) → not b ≡ true → b ≡ false
 not_true true h = cc
 not_true false h = refl
 
-pub over_parts : (n : Node) (p : Pid) → over n p ≡ true → (living n p ≡ false) × (never n p ≡ false)
-over_parts n p h = let v = and_both (not (living n p)) (not (never n p)) h in (not_true (living n p) v.0, not_true (never n p) v.1)
+pub over_parts : (n : Node) (p : Pid) → over n p ≡ true → (living n p ≡ false) × (is_stranger n p ≡ false)
+over_parts n p h = let v = and_both (not (living n p)) (not (is_stranger n p)) h in (not_true (living n p) v.0, not_true (is_stranger n p) v.1)
 
-pub over_of : (n : Node) (p : Pid) → living n p ≡ false → never n p ≡ false → over n p ≡ true
-over_of n p l v = ap (λ b. not b && not (never n p)) l ∙ ap not v
+pub over_of : (n : Node) (p : Pid) → living n p ≡ false → is_stranger n p ≡ false → over n p ≡ true
+over_of n p l v = ap (λ b. not b && not (is_stranger n p)) l ∙ ap not v
 
 or_none : (a b : Bool) → (a || b) ≡ false → (a ≡ false) × (b ≡ false)
 or_none true b h = cc
@@ -90,19 +90,19 @@ module _ (w : World) (h : History) (x : Name) (n : Node) (hx : node_of w.nodes x
   pub kn : NodeKept n
   kn = gw.core.nodes x n hx
 
-  pub at_pid : (p : Pid) → never n p ≡ false → p.node ≡ x
+  pub at_pid : (p : Pid) → is_stranger n p ≡ false → p.node ≡ x
   at_pid p v = same_name_true p.node n.mint.name (never_own n p v) ∙ nm
 
-  pub node_here : (p : Pid) → never n p ≡ false → node_of w.nodes p.node ≡ Some n
+  pub node_here : (p : Pid) → is_stranger n p ≡ false → node_of w.nodes p.node ≡ Some n
   node_here p v = subst (λ z. node_of w.nodes z ≡ Some n) (sym (at_pid p v)) hx
 
-  pub unreached : (p : Pid) (y : Name) → never n p ≡ false → reaches n y ≡ false → (same_name y p.node ≡ false) × (is_reached w p y ≡ false)
+  pub unreached : (p : Pid) (y : Name) → is_stranger n p ≡ false → reaches n y ≡ false → (same_name y p.node ≡ false) × (is_reached w p y ≡ false)
   unreached p y v r = (ap (same_name y) (at_pid p v ∙ sym nm) ∙ (or_none (same_name y n.mint.name) (is_some (route n y)) r).0, ap (λ o. reached_at o y) (node_here p v) ∙ r)
 
-  pub no_connection : (p q : Pid) → never n p ≡ false → reaches n q.node ≡ false → TrueCause h w p q noconnection
+  pub no_connection : (p q : Pid) → is_stranger n p ≡ false → reaches n q.node ≡ false → TrueCause h w p q noconnection
   no_connection p q v r = let u = unreached p q.node v r in NoConnection refl u.0 u.1
 
-  pub dead_now : (p : Pid) → living n p ≡ false → never n p ≡ false → Old w h p noproc
+  pub dead_now : (p : Pid) → living n p ≡ false → is_stranger n p ≡ false → Old w h p noproc
   dead_now p l v = inr (refl, (n, node_here p v, over_of n p l v))
 
   pub held_active : (e : Event) (p q : Pid) (z : Data) → living n p ≡ true → end_of n p q ≡ End.Active → TrueCause h w p q z → Right w h e p q z
@@ -126,7 +126,7 @@ module _ (w : World) (h : History) (x : Name) (n : Node) (hx : node_of w.nodes x
     Drops k u = Off w h k ⊎ (reaches n u.owner.node ≡ false)
 
     abbrev pub Spawned : Pid → Type 0
-    Spawned q = never n q ≡ false
+    Spawned q = is_stranger n q ≡ false
 
     abbrev pub T : Work → Type 0
     T = True (record n { local = xs }) (Old w h) (Right w h e) (Called h) (Off w h)
@@ -241,14 +241,14 @@ module _ (w : World) (h : History) (x : Name) (n : Node) (hx : node_of w.nodes x
       nevers = λ p v. nv p ∙ v;
       grows = older;
       carries = carried_by _ _ o (founded_by _ _ _ _ _ _ (λ q z c. c) (λ p q r m. inr m) (λ r c. c)) t.carried;
-      homes = All-weaker (TargetsIn Spawned) (TargetsIn (λ q. never o.node q ≡ false)) (targets_by Spawned (λ q. never o.node q ≡ false) (λ q v. nv q ∙ v)) o.node.local k.local;
+      homes = All-weaker (TargetsIn Spawned) (TargetsIn (λ q. is_stranger o.node q ≡ false)) (targets_by Spawned (λ q. is_stranger o.node q ≡ false) (λ q v. nv q ∙ v)) o.node.local k.local;
       enrolled = λ r m j. let v = u.enrolled r m j in (v.0, joins r m v.1);
       owners = λ r m j. u.owners r m j;
       drawn = λ r d. drawn_along n o.node r u.creation (omega (arith, u.references)) d;
       course = λ r. fate r (u.fates r);
     }
       where
-        nv : (p : Pid) → never o.node p ≡ never n p
+        nv : (p : Pid) → is_stranger o.node p ≡ is_stranger n p
         nv p = never_same o.node n u.name u.creation u.pids p
 
         older : (p : Pid) → over n p ≡ true → over o.node p ≡ true

@@ -17,11 +17,11 @@ use Rattle.dist_model.specs.Calls.{call}
 use Rattle.dist_model.specs.Commands.{Accepts, Refuses}
 use Rattle.dist_model.specs.declared.command.Command.{Command}
 use Rattle.dist_model.specs.declared.report.Answer.{Answer}
-use Rattle.dist_model.specs.Exits.{demonitors, exits, finish, monitor_exits}
+use Rattle.dist_model.specs.Exits.{demonitors, exits, end_process, monitor_exits}
 use Rattle.dist_model.specs.Items.{Item, Signalled, receiver_of}
 use Rattle.dist_model.specs.Monitoring.{demonitor_by, unwatch, watch}
 use Rattle.dist_model.specs.Names.{Name, same_name, same_pid}
-use Rattle.dist_model.specs.Node.{Node, living, never, reaches, route, ends_of}
+use Rattle.dist_model.specs.Node.{Node, living, is_stranger, reaches, route, ends_of}
 use Rattle.dist_model.specs.Taking.{take_item}
 use Rattle.dist_model.specs.Work.{Work, at_work, draw, keep_local, post, post_all, put, report, send_on}
 use Rattle.erl_control.specs.declared.signal.Signal.{Signal}
@@ -70,11 +70,11 @@ module _ (n : Node) where
         words = subst AllWords (sym out) k.words;
       }
 
-  sent_finish : (p : Pid) (x : Data) (o : Work) → Sent n o → Sent n (finish p x o)
+  sent_finish : (p : Pid) (x : Data) (o : Work) → Sent n o → Sent n (end_process p x o)
   sent_finish p x o k =
       let ss = exits p x (ends_of o.node p) ++ monitor_exits p x (fm.entries o.node.registered) ++ demonitors p
       (fm.entries o.node.watches) in
-      silent (post_all ss o) (finish p x o) (Effect.Ended p x) refl refl refl refl (sent_all ss o k)
+      silent (post_all ss o) (end_process p x o) (Effect.Ended p x) refl refl refl refl (sent_all ss o k)
 
   abbrev pub all_rules : Rules
   all_rules = record {
@@ -144,7 +144,7 @@ module _ (n : Node) where
   -- a call
   pub sent_call : (c : Command) → IfGoes (call n c) (Sent n)
   sent_call (Command.Monitor p q) = if_cond (living n p) _ Refusal.NoSuchProcess (Sent n)
-      (λ l. if_not (same_name q.node n.mint.name && never n q) _ Refusal.Forged (Sent n)
+      (λ l. if_not (same_name q.node n.mint.name && is_stranger n q) _ Refusal.Forged (Sent n)
       (if_drawn (id_of n.mint kind.Reference) _ (Sent n) (λ count h.
       either (reaches n q.node) _ _ (sent_post (Signal.Monitor p q (reference_of n.mint count))
       (watch (reference_of n.mint count) (monitor_of p q) (draw kind.Reference (at_work n)))

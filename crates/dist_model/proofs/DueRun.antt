@@ -34,7 +34,7 @@ use Rattle.dist_model.specs.Work.{at_work}
 use Rattle.dist_model.specs.World.{Arrive, Stepped, World, came_of, carried, list_to, node_of, set_node, step_at}
 use Rattle.dist_model.proofs.Records.{least_as, sweep_link}
 use Rattle.dist_model.proofs.Stepping.{arrives}
-use Rattle.dist_model.specs.Losses.{any_side, link_to, lose, lose_at, sweep, sweep_by, swept}
+use Rattle.dist_model.specs.Losses.{any_side, link_to, lose, lose_at, sweep, sweep_by, close_if_swept}
 use Rattle.dist_model.proofs.Closing.{any_found}
 use Rattle.erl_handshake.specs.declared.message.ShakeMsg.{ShakeMsg}
 use Rattle.erl_handshake.specs.declared.status.Status.{Status}
@@ -244,7 +244,7 @@ module _ (w : World) (x : Name) (n : Node) (hx : node_of w.nodes x ≡ Some n) (
           let h : side_at n d.0 ≡ Some d.1 = fm.get-entries n.sides d.0 ∙ r.0 in
           let k = sent_sweep n d.1.peer in
           let s = going w.lists u in
-          subst (λ z. Due (set_node w.nodes x ((swept d.0 d.1 z).node)) (carried w.lists ((swept d.0 d.1 z).effects)))
+          subst (λ z. Due (set_node w.nodes x ((close_if_swept d.0 d.1 z).node)) (carried w.lists ((close_if_swept d.0 d.1 z).effects)))
           (sym (least_as d.1.peer (at_work n)))
           (sweeps w.nodes w.lists x n hx (sweep_link (link_to d.1.peer (fm.entries n.ends)) d.1.peer (at_work n)) d.0 d.1
           (ap (λ l. fm.get l d.0) k.sides ∙ h)

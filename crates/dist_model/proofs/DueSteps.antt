@@ -14,10 +14,10 @@ use Rattle.dist_model.proofs.Sides.{holds, side_at, up_is}
 use Rattle.dist_model.proofs.Table.{role_gone, role_state, up_once}
 use Rattle.dist_model.specs.Admission.{give_up}
 use Rattle.dist_model.specs.Commands.{Outcome}
-use Rattle.dist_model.specs.Handshake.{challenge, end_up, go_on, goes_on, set_state, write}
+use Rattle.dist_model.specs.Handshake.{challenge, up_is_lost, challenge_or_park, send_challenge_or_park, set_state, write}
 use Rattle.dist_model.specs.Items.{Handshake, Item}
 use Rattle.dist_model.proofs.Records.{has_records}
-use Rattle.dist_model.specs.Losses.{close, lose_at, parked_by, parked_goes, swept}
+use Rattle.dist_model.specs.Losses.{close_side, lose_at, released_by, release_parked, close_if_swept}
 use Rattle.dist_model.specs.Names.{Name, place_cmp, same_name}
 use Rattle.dist_model.specs.Node.{Node, side_where}
 use Rattle.dist_model.specs.Sides.{Accepting, Asked, AwaitsAck, AwaitsChallenge, AwaitsStatus, Gone, Losing, Parked, State, TrunkSide, Up, is_dialing, is_losing, is_over, is_parked, is_up, is_waiting, lost}
@@ -129,12 +129,12 @@ module _ (ns : List Node) (m : FinMap place_cmp (List Item)) (x : Name) (n : Nod
 
   module _ (t : TrunkId) (far : t.dialer ≡ x → ⊥) (k : Met ns t x) (s : TrunkSide) (ps : s.peer ≡ t.dialer) (w : ℕ) where
     went_on : (o : Work) (d : Option (TrunkId × TrunkSide)) → side_at o.node t ≡ Some s → up_once s.state ≡ false → holds s.state ≡ false
-        → X o → X (go_on d t s w o)
+        → X o → X (challenge_or_park d t s w o)
     went_on o None h f e g = tells ns m x n hx t far k s ps o (Some s) (Accepting w) (challenge o.node w) g h f e (inr refl) refl refl refl
     went_on o (Some l) h f e g = sets_side ns m x n hx t far k s ps o (Some s) (Parked w) g h f e (inr refl) refl
 
     pub asked : (o : Work) (d : Option (TrunkId × TrunkSide)) → side_where is_up s.peer (fm.entries o.node.sides) ≡ d
-        → side_at o.node t ≡ Some s → s.state ≡ Asked w → X o → X (goes_on t s w (end_up d o))
+        → side_at o.node t ≡ Some s → s.state ≡ Asked w → X o → X (send_challenge_or_park t s w (up_is_lost d o))
     asked o None j h a g = went_on o (side_where is_losing s.peer (fm.entries o.node.sides)) h (ap up_once a) (ap holds a) g
     asked o (Some e) j h a g =
         let f = there_of is_up s.peer o e j in
@@ -142,7 +142,7 @@ module _ (ns : List Node) (m : FinMap place_cmp (List Item)) (x : Name) (n : Nod
         let apart : t ≡ e.0 → ⊥ = λ i.
         let q : s ≡ e.1 = some_same s e.1 (sym h ∙ ap (side_at o.node) i ∙ f.0) in
         let z : Asked w ≡ Up = sym a ∙ ap (λ (y : TrunkSide). y.state) q ∙ u in cc in
-        let o1 = end_up (Some e) o in
+        let o1 = up_is_lost (Some e) o in
         went_on o1 (side_where is_losing s.peer (fm.entries o1.node.sides)) (side_after_other o.node e.0 _ t apart ∙ h) (ap up_once a)
         (ap holds a)
         (ends_side ns m x n hx o e.0 e.1 Losing g f.0 refl (λ i. let z : true ≡ false = sym (ap holds u) ∙ i in cc) (λ i. ap holds u)
@@ -165,7 +165,7 @@ module _ (ns : List Node) (m : FinMap place_cmp (List Item)) (x : Name) (n : Nod
   -- ---- a sweep
 
   unparks_by : (o : Work) (t : TrunkId) (s : TrunkSide) → side_at o.node t ≡ Some s → X o → (v : State) → s.state ≡ v
-      → X (parked_by v t s o)
+      → X (released_by v t s o)
   unparks_by o t s h g (Parked w) e = go (same_name t.dialer x) refl (g.told t s h).whose
     where
       go : (b : Bool) → same_name t.dialer x ≡ b → Whose ns x t s → X (write t s.peer (challenge o.node w) (set_state t s (Accepting w) o))
@@ -185,14 +185,14 @@ module _ (ns : List Node) (m : FinMap place_cmp (List Item)) (x : Name) (n : Nod
   unparks_by o t s h g Gone e = g
 
   unparks : (o : Work) (y : Name) (d : Option (TrunkId × TrunkSide)) → side_where is_parked y (fm.entries o.node.sides) ≡ d → X o
-      → X (parked_goes d o)
+      → X (release_parked d o)
   unparks o y None j g = g
   unparks o y (Some e) j g = unparks_by o e.0 e.1 (there_of is_parked y o e j).0 g e.1.state refl
 
-  pub sweeps : (o : Work) (t : TrunkId) (s : TrunkSide) → side_at o.node t ≡ Some s → X o → X (swept t s o)
+  pub sweeps : (o : Work) (t : TrunkId) (s : TrunkSide) → side_at o.node t ≡ Some s → X o → X (close_if_swept t s o)
   sweeps o t s h g = go (has_records s.peer o.node)
     where
-      go : (b : Bool) → X (cond b o (close t s o))
+      go : (b : Bool) → X (cond b o (close_side t s o))
       go true = g
       go false = unparks (set_state t s Gone o) s.peer (side_where is_parked s.peer (fm.entries ((set_state t s Gone o).node.sides))) refl
           (gone_side o t s h g)

@@ -12,11 +12,11 @@ use Rattle.dist_model.proofs.Pair.{Side, farewell, finished}
 use Rattle.dist_model.proofs.Seeing.{end_in}
 use Rattle.dist_model.proofs.Views.{silent_lines, AllSuit, AllSuit-append, line, linking_suits, over, post_all_keeps, post_all_view, posted, posted-append, side_path, signal_other, view}
 use Rattle.dist_model.proofs.Leaving.{exits_in, exits_cons}
-use Rattle.dist_model.specs.Exits.{buried, demonitors, exit_for, finish, monitor_exits}
+use Rattle.dist_model.specs.Exits.{buried, demonitors, exit_for, end_process, monitor_exits}
 use Rattle.dist_model.specs.Items.{news}
-use Rattle.dist_model.specs.Links.{Exits, LinkNews}
+use Rattle.dist_model.specs.Links.{Exited, LinkNews}
 use Rattle.dist_model.specs.Names.{pair_cmp, same_pid}
-use Rattle.dist_model.specs.Node.{Ended, Life, end_of, is_living_life, living, never, reaches}
+use Rattle.dist_model.specs.Node.{Ended, Life, end_of, is_living_life, living, is_stranger, reaches}
 use Rattle.dist_model.specs.Work.{Work, post_all}
 use Rattle.erl_control.specs.declared.signal.Signal.{Signal}
 use Rattle.erl_term.specs.Data.{Data}
@@ -51,12 +51,12 @@ head p r o y e = cond (same_pid o p) (exit_for p r y e) []
 -- an exit for another pair says nothing to this one
 exit_miss : (p q x y : Pid) (r : Data) (e : End) → (same_pid x p && same_pid y q) ≡ false → posted p q (exit_for x r y e) ≡ []
 exit_miss p q x y r End.None h = refl
-exit_miss p q x y r End.Active h = append-nil _ ∙ signal_other (same_pid x p && same_pid y q) (Exits r) h
+exit_miss p q x y r End.Active h = append-nil _ ∙ signal_other (same_pid x p && same_pid y q) (Exited r) h
 exit_miss p q x y r (End.Pending i) h = refl
 
 exit_hit : (p q : Pid) (r : Data) (e : End) → posted p q (exit_for p r q e) ≡ farewell e r
 exit_hit p q r End.None = refl
-exit_hit p q r End.Active = ap (λ b. cond (b && same_pid q q) (Exits r ∷ []) [] ++ []) (same_pid_refl p) ∙ ap (λ b. cond b (Exits r ∷ []) [] ++ []) (same_pid_refl q)
+exit_hit p q r End.Active = ap (λ b. cond (b && same_pid q q) (Exited r ∷ []) [] ++ []) (same_pid_refl p) ∙ ap (λ b. cond b (Exited r ∷ []) [] ++ []) (same_pid_refl q)
 exit_hit p q r (End.Pending i) = refl
 
 head_miss_by : (b : Bool) (p q o y : Pid) (r : Data) (e : End) → same_pid o p ≡ b → (same_pid o p && same_pid y q) ≡ false → posted p q (cond b (exit_for p r y e) []) ≡ []
@@ -142,7 +142,7 @@ suits_unwatches p q x (e ∷ es) =
 
 suits_exit : (p q x y : Pid) (r : Data) (e : End) → AllSuit p q (exit_for x r y e)
 suits_exit p q x y r End.None = tt
-suits_exit p q x y r End.Active = (linking_suits x y p q (Exits r), tt)
+suits_exit p q x y r End.Active = (linking_suits x y p q (Exited r), tt)
 suits_exit p q x y r (End.Pending i) = tt
 
 suits_exits : (p q x : Pid) (r : Data) (es : List ((Pid × Pid) × End)) → AllSuit p q (exits_in x r es)
@@ -198,32 +198,32 @@ is_living_kept true r l h = cc
 is_living_kept false r l h = refl
 
 -- the process that ends
-pub finish_view : (b : List LinkNews) (p : Pid) (r : Data) (o : Work) (q : Pid) → reaches o.node q.node ≡ true → never o.node p ≡ false → view b (finish p r o) p q ≡ finished false r (view b o p q)
+pub finish_view : (b : List LinkNews) (p : Pid) (r : Data) (o : Work) (q : Pid) → reaches o.node q.node ≡ true → is_stranger o.node p ≡ false → view b (end_process p r o) p q ≡ finished false r (view b o p q)
 finish_view b p r o q reach born =
     let o1 = post_all (last_posts p r o) o in
     let s = post_all_view b (last_posts p r o) o p q reach (suits_last p q p r o) in
-    let sent : (view b (finish p r o) p q).sent ≡ (finished false r (view b o p q)).sent =
-    ap (λ (a : Side). a.sent) (silent_lines b (finish p r o) o1.effects (o1.effects ++ Effect.Ended p r ∷ []) p q (sent_in-silent o1.effects (Effect.Ended p r) refl))
+    let sent : (view b (end_process p r o) p q).sent ≡ (finished false r (view b o p q)).sent =
+    ap (λ (a : Side). a.sent) (silent_lines b (end_process p r o) o1.effects (o1.effects ++ Effect.Ended p r ∷ []) p q (sent_in-silent o1.effects (Effect.Ended p r) refl))
     ∙ ap (λ (a : Side). a.sent) s
     ∙ ap (λ l. (b ++ news p q (line o q.node)) ++ l) (posted_last p q p r o ∙ exits_here p q r (fm.entries o.node.ends) (fm.entries_sorted o.node.ends) ∙ ap (λ e. farewell (end_in e) r) (sym (fm.get-entries o.node.ends (p, q)))) in
-    side_path (view b (finish p r o) p q) (finished false r (view b o p q))
+    side_path (view b (end_process p r o) p q) (finished false r (view b o p q))
     (buried_end p r o1 p q ∙ end_cond _ _ (ap not (same_pid_refl p)))
-    (ap (λ v. not v && not (never o1.node p)) (buried_living p r o1 p ∙ is_living_cond _ r _ (same_pid_refl p)) ∙ ap not (post_all_keeps (λ n. never n p) (λ n l. refl) (last_posts p r o) o ∙ born))
+    (ap (λ v. not v && not (is_stranger o1.node p)) (buried_living p r o1 p ∙ is_living_cond _ r _ (same_pid_refl p)) ∙ ap not (post_all_keeps (λ n. is_stranger n p) (λ n l. refl) (last_posts p r o) o ∙ born))
     (post_all_keeps (λ n. n.mint.unlink_ids) (λ n l. refl) (last_posts p r o) o)
     sent
 
 -- the others
-pub finish_view_other : (b : List LinkNews) (x : Pid) (r : Data) (o : Work) (p q : Pid) → reaches o.node q.node ≡ true → same_pid p x ≡ false → view b (finish x r o) p q ≡ view b o p q
+pub finish_view_other : (b : List LinkNews) (x : Pid) (r : Data) (o : Work) (p q : Pid) → reaches o.node q.node ≡ true → same_pid p x ≡ false → view b (end_process x r o) p q ≡ view b o p q
 finish_view_other b x r o p q reach other =
     let o1 = post_all (last_posts x r o) o in
     let s = post_all_view b (last_posts x r o) o p q reach (suits_last p q x r o) in
-    let sent : (view b (finish x r o) p q).sent ≡ (view b o p q).sent =
-    ap (λ (a : Side). a.sent) (silent_lines b (finish x r o) o1.effects (o1.effects ++ Effect.Ended x r ∷ []) p q (sent_in-silent o1.effects (Effect.Ended x r) refl))
+    let sent : (view b (end_process x r o) p q).sent ≡ (view b o p q).sent =
+    ap (λ (a : Side). a.sent) (silent_lines b (end_process x r o) o1.effects (o1.effects ++ Effect.Ended x r ∷ []) p q (sent_in-silent o1.effects (Effect.Ended x r) refl))
     ∙ ap (λ (a : Side). a.sent) s
     ∙ ap (λ l. (b ++ news p q (line o q.node)) ++ l) (posted_last p q x r o ∙ exits_other p q x r (fm.entries o.node.ends) (same_pid_sym p x other))
     ∙ append-nil _ in
-    side_path (view b (finish x r o) p q) (view b o p q)
+    side_path (view b (end_process x r o) p q) (view b o p q)
     (buried_end x r o1 p q ∙ end_cond_kept _ _ (ap not other) ∙ post_all_keeps (λ n. end_of n p q) (λ n l. refl) (last_posts x r o) o)
-    (ap (λ v. not v && not (never o1.node p)) (buried_living x r o1 p ∙ is_living_kept _ r _ other) ∙ post_all_keeps (λ n. over n p) (λ n l. refl) (last_posts x r o) o)
+    (ap (λ v. not v && not (is_stranger o1.node p)) (buried_living x r o1 p ∙ is_living_kept _ r _ other) ∙ post_all_keeps (λ n. over n p) (λ n l. refl) (last_posts x r o) o)
     (post_all_keeps (λ n. n.mint.unlink_ids) (λ n l. refl) (last_posts x r o) o)
     sent

@@ -28,7 +28,7 @@ use Rattle.dist_model.specs.Items.{Item, Signalled}
 use Rattle.dist_model.specs.Links.{noconnection}
 use Rattle.dist_model.specs.Monitoring.{demonitor_by, monitor, unwatch, watch}
 use Rattle.dist_model.specs.Names.{Name, same_name, same_pid}
-use Rattle.dist_model.specs.Node.{Node, is_living_life, living, never, reaches}
+use Rattle.dist_model.specs.Node.{Node, is_living_life, living, is_stranger, reaches}
 use Rattle.dist_model.specs.Sides.{TrunkSide, is_over}
 use Rattle.dist_model.specs.Work.{Work, at_work, draw, post, put, delivered}
 use Rattle.dist_model.specs.declared.report.Effect.{Effect}
@@ -181,7 +181,7 @@ module _ (w : World) (h : History) (x : Name) (n : Node) (hx : node_of w.nodes x
             local = All-weaker (IsFounded w h) _ (founded_by _ _ _ _ _ _ (λ q z c. inl c) (λ p q r m. inr m) (λ r c. inl c)) n.local (g.locals x n hx);
             sent = All-nil _;
           };
-          homes = All-weaker (TargetsIn (λ q. never n q ≡ false)) (TargetsIn (λ q. never o.node q ≡ false)) (targets_by _ _ (λ q v. spawned_stays_born n q v)) n.local (g.homes x n hx);
+          homes = All-weaker (TargetsIn (λ q. is_stranger n q ≡ false)) (TargetsIn (λ q. is_stranger o.node q ≡ false)) (targets_by _ _ (λ q v. spawned_stays_born n q v)) n.local (g.homes x n hx);
           enrolled = λ k u j. let v = g.enrolled x n k u hx j in (spawned_stays_living n u.target v.0, v.1);
           owners = λ k u j. spawned_stays_living n u.owner (g.watching x n k u hx j).4;
           drawn = λ k d. d;
@@ -201,7 +201,7 @@ module _ (w : World) (h : History) (x : Name) (n : Node) (hx : node_of w.nodes x
 
   -- ---- a process monitors another
 
-  module _ (p q : Pid) (l : living n p ≡ true) (known : (same_name q.node n.mint.name && never n q) ≡ false) (id : ℕ) (hid : id_of n.mint kind.Reference ≡ Some id) where
+  module _ (p q : Pid) (l : living n p ≡ true) (known : (same_name q.node n.mint.name && is_stranger n q) ≡ false) (id : ℕ) (hid : id_of n.mint kind.Reference ≡ Some id) where
     abbrev r0 : Reference
     r0 = reference_of n.mint id
 
@@ -211,7 +211,7 @@ module _ (w : World) (h : History) (x : Name) (n : Node) (hx : node_of w.nodes x
     abbrev o0 : Work
     o0 = draw kind.Reference (at_work n)
 
-    born : never n p ≡ false
+    born : is_stranger n p ≡ false
     born = (kn w h x n hx gw g).born p l
 
     asked : Call x (Command.Monitor p q) ≡ Call p.node (Command.Monitor p q)
@@ -256,10 +256,10 @@ module _ (w : World) (h : History) (x : Name) (n : Node) (hx : node_of w.nodes x
         let mt : o.node.mint ≡ o1.node.mint = posts_keep (λ m. m.mint) (λ m z. refl) q.node (Signalled s) o1 in
         let rs : o.node.registered ≡ n.registered = posts_keep (λ m. m.registered) (λ m z. refl) q.node (Signalled s) o1 in
         let lv : (a : Pid) → living o.node a ≡ living n a = λ a. posts_keep (λ m. living m a) (λ m z. refl) q.node (Signalled s) o1 in
-        let nv : (a : Pid) → never o.node a ≡ never n a = λ a. posts_keep (λ m. never m a) (λ m z. refl) q.node (Signalled s) o1 in
+        let nv : (a : Pid) → is_stranger o.node a ≡ is_stranger n a = λ a. posts_keep (λ m. is_stranger m a) (λ m z. refl) q.node (Signalled s) o1 in
         let sd : o.node.sides ≡ n.sides = posts_keep (λ m. m.sides) (λ m z. refl) q.node (Signalled s) o1 in
         let got : (k : Reference) → fm.get o.node.watches k ≡ cond (same_reference k (reference_of n.mint id)) (Some (monitor_of p q)) (fm.get n.watches k) = λ k. ap (λ z. fm.get z k) ws ∙ fm.get-insert reference_cmp_total n.watches (reference_of n.mint id) (monitor_of p q) k in
-        let hp : Homed n (λ a. never n a ≡ false) o = homed_post n (λ a. never n a ≡ false) s o1 (λ i. forged (same_name q.node n.mint.name) (never n q) known i) (record { local = g.homes x n hx; name = refl }) in
+        let hp : Homed n (λ a. is_stranger n a ≡ false) o = homed_post n (λ a. is_stranger n a ≡ false) s o1 (λ i. forged (same_name q.node n.mint.name) (is_stranger n q) known i) (record { local = g.homes x n hx; name = refl }) in
         let dn : (k : Reference) → downs_in k o.effects ≡ [] = λ k. quietly_downs k [] o.effects quietly in
         let cp = carried_post (Founded (EndedBefore n (Old w h) (λ a b z. Unit {0}) (Called h) (Off w h) o) (λ a b k. Monitored k a b ((record { event = Call x (Command.Monitor p q); report = Reported (Answer.Reference (reference_of n.mint id)) o.effects }) ∷ h)) (OffNow n (Old w h) (λ a b z. Unit {0}) (Called h) (Off w h) o))
         q.node (Signalled s) o1 (inl (asked, same_reference_refl (reference_of n.mint id))) (record { local = All-weaker (IsFounded w h) _ (old_items o) n.local (g.locals x n hx); sent = All-nil _ }) in
@@ -269,7 +269,7 @@ module _ (w : World) (h : History) (x : Name) (n : Node) (hx : node_of w.nodes x
             nevers = λ a v. nv a ∙ v;
             grows = λ a v. let b = over_parts n a v in over_of o.node a (lv a ∙ b.0) (nv a ∙ b.1);
             carries = cp;
-            homes = All-weaker (TargetsIn (λ a. never n a ≡ false)) (TargetsIn (λ a. never o.node a ≡ false)) (targets_by _ _ (λ a v. nv a ∙ v)) o.node.local hp.local;
+            homes = All-weaker (TargetsIn (λ a. is_stranger n a ≡ false)) (TargetsIn (λ a. is_stranger o.node a ≡ false)) (targets_by _ _ (λ a v. nv a ∙ v)) o.node.local hp.local;
             enrolled = λ k u j. let v = g.enrolled x n k u hx (ap (λ z. fm.get z k) (sym rs) ∙ j) in (lv u.target ∙ v.0, v.1);
             owners = λ k u j. lv u.owner ∙ owner k u (same_reference k (reference_of n.mint id)) (sym (got k) ∙ j);
             drawn = λ k d. subst (λ m. Drawn (record n { mint = m }) k) (sym mt) (stays_drawn k d);
@@ -349,10 +349,10 @@ module _ (w : World) (h : History) (x : Name) (n : Node) (hx : node_of w.nodes x
       let mt : o.node.mint ≡ n.mint = posts_keep (λ z. z.mint) (λ z y. refl) m.target.node (Signalled s) o1 in
       let rs : o.node.registered ≡ n.registered = posts_keep (λ z. z.registered) (λ z y. refl) m.target.node (Signalled s) o1 in
       let lv : (a : Pid) → living o.node a ≡ living n a = λ a. posts_keep (λ z. living z a) (λ z y. refl) m.target.node (Signalled s) o1 in
-      let nv : (a : Pid) → never o.node a ≡ never n a = λ a. posts_keep (λ z. never z a) (λ z y. refl) m.target.node (Signalled s) o1 in
+      let nv : (a : Pid) → is_stranger o.node a ≡ is_stranger n a = λ a. posts_keep (λ z. is_stranger z a) (λ z y. refl) m.target.node (Signalled s) o1 in
       let sd : o.node.sides ≡ n.sides = posts_keep (λ z. z.sides) (λ z y. refl) m.target.node (Signalled s) o1 in
       let got : (k : Reference) → fm.get o.node.watches k ≡ cond (same_reference k r) None (fm.get n.watches k) = λ k. ap (λ z. fm.get z k) ws ∙ fm.get-remove reference_cmp_total n.watches r k in
-      let hp : Homed n (λ a. never n a ≡ false) o = homed_post n (λ a. never n a ≡ false) s o1 (λ j. tt) (record { local = g.homes x n hx; name = refl }) in
+      let hp : Homed n (λ a. is_stranger n a ≡ false) o = homed_post n (λ a. is_stranger n a ≡ false) s o1 (λ j. tt) (record { local = g.homes x n hx; name = refl }) in
       let dn : (k : Reference) → downs_in k o.effects ≡ [] = λ k. quietly_downs k [] o.effects quietly in
       let cp = carried_post (Founded (EndedBefore n (Old w h) (λ a b z. Unit {0}) (Called h) (Off w h) o) (λ a b k. Monitored k a b ((record { event = Call x (Command.Demonitor p r); report = Reported Rattle.dist_model.specs.declared.report.Answer.TheVariants.Done o.effects }) ∷ h)) (OffNow n (Old w h) (λ a b z. Unit {0}) (Called h) (Off w h) o))
       m.target.node (Signalled s) o1 (inr ((m, i), got r ∙ ap (λ b. cond b None (fm.get n.watches r)) (same_reference_refl r)))
@@ -363,7 +363,7 @@ module _ (w : World) (h : History) (x : Name) (n : Node) (hx : node_of w.nodes x
           nevers = λ a v. nv a ∙ v;
           grows = λ a v. let b = over_parts n a v in over_of o.node a (lv a ∙ b.0) (nv a ∙ b.1);
           carries = cp;
-          homes = All-weaker (TargetsIn (λ a. never n a ≡ false)) (TargetsIn (λ a. never o.node a ≡ false)) (targets_by _ _ (λ a v. nv a ∙ v)) o.node.local hp.local;
+          homes = All-weaker (TargetsIn (λ a. is_stranger n a ≡ false)) (TargetsIn (λ a. is_stranger o.node a ≡ false)) (targets_by _ _ (λ a v. nv a ∙ v)) o.node.local hp.local;
           enrolled = λ k u j. let v = g.enrolled x n k u hx (ap (λ z. fm.get z k) (sym rs) ∙ j) in (lv u.target ∙ v.0, v.1);
           owners = λ k u j. lv u.owner ∙ (g.watching x n k u hx (left k u (same_reference k r) (sym (got k) ∙ j))).4;
           drawn = λ k d. subst (λ z. Drawn (record n { mint = z }) k) (sym mt) d;
@@ -389,7 +389,7 @@ module _ (w : World) (h : History) (x : Name) (n : Node) (hx : node_of w.nodes x
   call_done (Command.Link p q) = plain_call (Command.Link p q) (λ i. cc) (λ a b i. cc) (λ a b i. cc)
   call_done (Command.Unlink p q) = plain_call (Command.Unlink p q) (λ i. cc) (λ a b i. cc) (λ a b i. cc)
   call_done (Command.Monitor p q) = go_cond (living n p) _ Refusal.NoSuchProcess (Done (Call x (Command.Monitor p q)) n.local) (λ l.
-      go_not (same_name q.node n.mint.name && never n q) _ Refusal.Forged (Done (Call x (Command.Monitor p q)) n.local) (λ f.
+      go_not (same_name q.node n.mint.name && is_stranger n q) _ Refusal.Forged (Done (Call x (Command.Monitor p q)) n.local) (λ f.
       go_drawn (id_of n.mint kind.Reference) _ (Done (Call x (Command.Monitor p q)) n.local) (λ id i. monitor_done p q l f id i)))
   call_done (Command.Demonitor p r) = go_cond (living n p) _ Refusal.NoSuchProcess (Done (Call x (Command.Demonitor p r)) n.local) (λ l. demonitor_done p r (fm.get n.watches r) refl)
   call_done (Command.Trap p b) = plain_call (Command.Trap p b) (λ i. cc) (λ a c i. cc) (λ a c i. cc)

@@ -41,7 +41,7 @@ use Rattle.dist_model.specs.Links.{noconnection, noproc}
 use Rattle.dist_model.specs.Losses.{any_side, lose, sweep}
 use Rattle.dist_model.specs.Monitoring.{monitor, register, unwatch, watch}
 use Rattle.dist_model.specs.Names.{Name, same_name, same_pid}
-use Rattle.dist_model.specs.Node.{Node, living, never, reaches, route}
+use Rattle.dist_model.specs.Node.{Node, living, is_stranger, reaches, route}
 use Rattle.dist_model.specs.Sides.{Accepting, Asked, AwaitsAck, AwaitsChallenge, AwaitsStatus, Gone, Losing, Parked, State, TrunkSide, Up, is_losing, is_up, is_over}
 use Rattle.dist_model.specs.Taking.{take_item}
 use Rattle.dist_model.specs.Work.{Work, at_work, draw, post, put}
@@ -277,7 +277,7 @@ module _ (w : World) (h : History) (x : Name) (n : Node) (hx : node_of w.nodes x
       go false far = λ k u i j. absurd (none_some u (sym i ∙ j))
 
   make_fresh : (p q : Pid) → AllGo (call n (Command.Monitor p q)) Fresh
-  make_fresh p q = go_cond (living n p) _ Refusal.NoSuchProcess Fresh (λ l. go_not (same_name q.node n.mint.name && never n q) _ Refusal.Forged Fresh (λ f. go_drawn (id_of n.mint kind.Reference) _ Fresh (λ id i. monitor_fresh p q id)))
+  make_fresh p q = go_cond (living n p) _ Refusal.NoSuchProcess Fresh (λ l. go_not (same_name q.node n.mint.name && is_stranger n q) _ Refusal.Forged Fresh (λ f. go_drawn (id_of n.mint kind.Reference) _ Fresh (λ id i. monitor_fresh p q id)))
 
   -- every other event begins no monitor
   none_begun : (e : Event) (xs : List Item) (a : Answer) (o : Work) → ((k : Reference) → is_answered k e (Reported a o.effects) ≡ false) → Done w h x n hx gw g e xs a o → Fresh a o

@@ -13,7 +13,7 @@ use Rattle.dist_model.proofs.Parts.{Closed, Rules, is_plain}
 use Rattle.dist_model.proofs.Routes.{at_place, list_to_carried, list_to_insert, none_some, some_same}
 use Rattle.dist_model.specs.Downs.{same_reference}
 use Rattle.dist_model.proofs.Leaving.{exits_in, exits_cons}
-use Rattle.dist_model.specs.Exits.{demonitors, exit_for, finish, is_owned, is_target, monitor_exits}
+use Rattle.dist_model.specs.Exits.{demonitors, exit_for, end_process, is_owned, is_target, monitor_exits}
 use Rattle.dist_model.specs.Handshake.{with_side, write}
 use Rattle.dist_model.specs.Items.{Handshake, Item, Signalled, Tick, receiver_of}
 use Rattle.dist_model.specs.Monitoring.{register, unregister, unwatch}
@@ -289,12 +289,12 @@ module _ (n : Node) (Old : Pid → Data → Type 0) (Ok : Pid → Pid → Data �
   -- a process ends
   module _ (p : Pid) (x : Data) (o : Work) (k : True o) where
     abbrev last : Work
-    last = finish p x o
+    last = end_process p x o
 
     abbrev Good : Signal → Type 0
-    Good s = FoundedIn (finish p x o) (Signalled s)
+    Good s = FoundedIn (end_process p x o) (Signalled s)
 
-    why : EndedBefore (finish p x o) p x
+    why : EndedBefore (end_process p x o) p x
     why = inr (Contains-push ((post_all (exits_in p x (fm.entries o.node.ends) ++ monitor_exits p x (fm.entries o.node.registered) ++ demonitors p (fm.entries o.node.watches)) o).effects) (Effect.Ended p x))
 
     none : All Good []
@@ -319,7 +319,7 @@ module _ (n : Node) (Old : Pid → Data → Type 0) (Ok : Pid → Pid → Data �
         go true i = All-cons Good (Signal.MonitorExit p e.1.owner e.0 x) [] (why, subst (λ z. Call e.1.owner z e.0) (same_pid_true e.1.target p i) (k.enrolled e.0 e.1 (All-head (λ d. fm.get o.node.registered d.0 ≡ Some d.1) e es h))) none
         go false i = none
 
-    left : (r : Reference) → fm.get (finish p x o).node.watches r ≡ cond (not (is_owned p (fm.get o.node.watches r))) (fm.get o.node.watches r) None
+    left : (r : Reference) → fm.get (end_process p x o).node.watches r ≡ cond (not (is_owned p (fm.get o.node.watches r))) (fm.get o.node.watches r) None
     left r =
         let ss = exits_in p x (fm.entries o.node.ends) ++ monitor_exits p x (fm.entries o.node.registered) ++ demonitors p (fm.entries o.node.watches) in
         watches_left p ((post_all ss o).node.watches) r ∙ ap (λ (z : MonitorMap). cond (not (is_owned p (fm.get z r))) (fm.get z r) None) (all_posts_keep (λ m. m.watches) (λ m l. refl) ss o)
@@ -336,22 +336,22 @@ module _ (n : Node) (Old : Pid → Data → Type 0) (Ok : Pid → Pid → Data �
         go true i = All-cons Good (Signal.Demonitor p e.1.target e.0) [] (inr ((e.1, k.watched e.0 e.1 here), left e.0 ∙ ap (λ v. cond (not (is_owned p v)) v None) here ∙ ap (λ b. cond (not b) (Some e.1) None) i)) none
         go false i = none
 
-    true_finish : True (finish p x o)
+    true_finish : True (end_process p x o)
     true_finish =
         let ss = exits_in p x (fm.entries o.node.ends) ++ monitor_exits p x (fm.entries o.node.registered) ++ demonitors p (fm.entries o.node.watches) in
         let o1 = post_all ss o in
         let q = quietly_all o.effects ss o Nothing in
         let ws = all_posts_keep (λ m. m.watches) (λ m l. refl) ss o in
         let rs = all_posts_keep (λ m. m.registered) (λ m l. refl) ss o in
-        let more : (f : Effect Item) → Contains o.effects f → Contains (finish p x o).effects f = λ f h. Contains-append_left o1.effects (Effect.Ended p x ∷ []) f (quietly_more o.effects o1.effects q f h) in
-        let less : (r : Reference) (m : Monitor) → fm.get (finish p x o).node.watches r ≡ Some m → fm.get o.node.watches r ≡ Some m = λ r m h. (retained (not (is_owned p (fm.get o.node.watches r))) (fm.get o.node.watches r) m (sym (left r) ∙ h)).1 in
-        let c : Carried (FoundedIn (finish p x o)) o1 = carried_all (FoundedIn (finish p x o)) ss o
+        let more : (f : Effect Item) → Contains o.effects f → Contains (end_process p x o).effects f = λ f h. Contains-append_left o1.effects (Effect.Ended p x ∷ []) f (quietly_more o.effects o1.effects q f h) in
+        let less : (r : Reference) (m : Monitor) → fm.get (end_process p x o).node.watches r ≡ Some m → fm.get o.node.watches r ≡ Some m = λ r m h. (retained (not (is_owned p (fm.get o.node.watches r))) (fm.get o.node.watches r) m (sym (left r) ∙ h)).1 in
+        let c : Carried (FoundedIn (end_process p x o)) o1 = carried_all (FoundedIn (end_process p x o)) ss o
         (All-append Good (exits_in p x (fm.entries o.node.ends) ++ monitor_exits p x (fm.entries o.node.registered)) (demonitors p (fm.entries o.node.watches))
         (All-append Good (exits_in p x (fm.entries o.node.ends)) (monitor_exits p x (fm.entries o.node.registered)) (exits_good (fm.entries o.node.ends)) (monitor_exits_good (fm.entries o.node.registered) (each_entry o.node.registered)))
         (demonitors_good (fm.entries o.node.watches) (each_entry o.node.watches)))
-        (carried_by (FoundedIn o) (FoundedIn (finish p x o)) o (widen o (finish p x o) more less) k.carried) in
+        (carried_by (FoundedIn o) (FoundedIn (end_process p x o)) o (widen o (end_process p x o) more less) k.carried) in
         record {
-          carried = record { local = c.local; sent = subst (All (λ (v : Envelope). FoundedIn (finish p x o) v.item)) (sym (sent_in-silent o1.effects (Effect.Ended p x) refl)) c.sent };
+          carried = record { local = c.local; sent = subst (All (λ (v : Envelope). FoundedIn (end_process p x o) v.item)) (sym (sent_in-silent o1.effects (Effect.Ended p x) refl)) c.sent };
           acts = λ a b z h. pick a b z (Contains-push_cases o1.effects (Effect.Ended p x) (Effect.LinkExit a b z) h);
           watched = λ r m h. k.watched r m (less r m h);
           enrolled = λ r m h. k.enrolled r m (ap (λ z. fm.get z r) (sym rs) ∙ (retained (not (is_target p (fm.get o1.node.registered r))) (fm.get o1.node.registered r) m (sym (registered_left p o1.node.registered r) ∙ h)).1);

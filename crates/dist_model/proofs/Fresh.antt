@@ -22,7 +22,7 @@ use Rattle.dist_model.proofs.Table.{Good, Posted, begun_state, role_state, up_on
 use Rattle.dist_model.specs.Admission.{give_up}
 use Rattle.dist_model.specs.Commands.{Accepts}
 use Rattle.dist_model.specs.declared.report.Answer.{Answer}
-use Rattle.dist_model.specs.Handshake.{challenge, end_up, fault, go_on, goes_on, set_state, write}
+use Rattle.dist_model.specs.Handshake.{challenge, up_is_lost, fault, challenge_or_park, send_challenge_or_park, set_state, write}
 use Rattle.dist_model.specs.Items.{Handshake, Item, kind_of}
 use Rattle.dist_model.specs.Names.{Name, same_name}
 use Rattle.dist_model.specs.Node.{Node, side_where}
@@ -158,7 +158,7 @@ module _ (w : World) (x : Name) (n : Node) (hx : node_of w.nodes x ≡ Some n) (
         λ m a ha. cc,
       ))
 
-  on : (o : Work) → o.node.mint.name ≡ x → side_at o.node t ≡ Some v → NoneIs is_up v.peer o.node ⊎ ((d : TrunkId × TrunkSide) × (side_at o.node d.0 ≡ Some d.1) × (d.1.peer ≡ v.peer) × (d.1.state ≡ Losing)) → Good (placed w x o) → Good (placed w x (goes_on t v k o))
+  on : (o : Work) → o.node.mint.name ≡ x → side_at o.node t ≡ Some v → NoneIs is_up v.peer o.node ⊎ ((d : TrunkId × TrunkSide) × (side_at o.node d.0 ≡ Some d.1) × (d.1.peer ≡ v.peer) × (d.1.state ≡ Losing)) → Good (placed w x o) → Good (placed w x (send_challenge_or_park t v k o))
   on o eo ho up go = by (side_where is_losing v.peer (fm.entries o.node.sides)) refl
     where
       not_holds : (s : State) → is_up s ≡ false → is_losing s ≡ false → holds s ≡ false
@@ -175,7 +175,7 @@ module _ (w : World) (x : Name) (n : Node) (hx : node_of w.nodes x ≡ Some n) (
       no_up nl (inl a) = a
       no_up nl (inr a) = let z : true ≡ false = sym (ap is_losing a.3) ∙ nl a.0.0 a.0.1 a.1 a.2 in absurd (let y : true ≡ false = z in cc)
 
-      by : (d : Option (TrunkId × TrunkSide)) → side_where is_losing v.peer (fm.entries o.node.sides) ≡ d → Good (placed w x (go_on d t v k o))
+      by : (d : Option (TrunkId × TrunkSide)) → side_where is_losing v.peer (fm.entries o.node.sides) ≡ d → Good (placed w x (challenge_or_park d t v k o))
       by (Some d) i = parks o eo ho go
       by None i =
           let nl = none_is is_losing v.peer o.node i in
@@ -183,13 +183,13 @@ module _ (w : World) (x : Name) (n : Node) (hx : node_of w.nodes x ≡ Some n) (
           let o1 = set_state t v (Accepting k) o in
           placed_write w x o1 t v.peer (challenge o.node k) (good_written (placed w x o1) x o1.node t (as_state v (Accepting k)) (challenge o.node k) (at_x w x n hx o1 eo) (side_after_same o.node t (as_state v (Accepting k))) refl refl (λ j. (k, refl)) g1)
 
-  pub asked_on : Good (placed w x (goes_on t v k (end_up (side_where is_up v.peer (fm.entries n.sides)) (at_work n))))
+  pub asked_on : Good (placed w x (send_challenge_or_park t v k (up_is_lost (side_where is_up v.peer (fm.entries n.sides)) (at_work n))))
   asked_on = go (side_where is_up v.peer (fm.entries n.sides)) refl
     where
       nn : n.mint.name ≡ x
       nn = node_of_name w.nodes x n hx
 
-      go : (d : Option (TrunkId × TrunkSide)) → side_where is_up v.peer (fm.entries n.sides) ≡ d → Good (placed w x (goes_on t v k (end_up d (at_work n))))
+      go : (d : Option (TrunkId × TrunkSide)) → side_where is_up v.peer (fm.entries n.sides) ≡ d → Good (placed w x (send_challenge_or_park t v k (up_is_lost d (at_work n))))
       go None i = on (at_work n) nn h (inl (none_is is_up v.peer n i)) gz
       go (Some d) i =
           let f = side_where_found is_up v.peer (fm.entries n.sides) d (fm.entries_sorted n.sides) i in

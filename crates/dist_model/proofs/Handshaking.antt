@@ -21,10 +21,10 @@ use Rattle.dist_model.specs.Arrivals.{arrive_at, arrive_fresh, on_up, signal_at}
 use Rattle.dist_model.specs.Arrivals
 use Rattle.dist_model.specs.Commands.{Accepts, Outcome}
 use Rattle.dist_model.specs.declared.report.Answer.{Answer}
-use Rattle.dist_model.specs.Handshake.{challenge, end_up, fault, go_on, set_state, with_side, write}
+use Rattle.dist_model.specs.Handshake.{challenge, up_is_lost, fault, challenge_or_park, set_state, with_side, write}
 use Rattle.dist_model.specs.Items.{Handshake, Item, kind_of}
 use Rattle.dist_model.proofs.Records.{has_records}
-use Rattle.dist_model.specs.Losses.{close, lose, lose_at, parked_by, parked_goes, swept}
+use Rattle.dist_model.specs.Losses.{close_side, lose, lose_at, released_by, release_parked, close_if_swept}
 use Rattle.dist_model.specs.Names.{Name}
 use Rattle.dist_model.specs.Node.{Node, side_where}
 use Rattle.dist_model.specs.Sides.{Accepting, Asked, AwaitsAck, AwaitsChallenge, AwaitsStatus, Gone, Losing, Parked, State, TrunkSide, Up, is_dialing, is_losing, is_parked, is_up, is_waiting, lost, is_over, creation_in}
@@ -291,7 +291,7 @@ module _ (New : TrunkId → Name → Type 0) (X : Work → Type 0)
     acknowledged v h (ShakeMsg.Challenge a b c d) = bad
     acknowledged v h (ShakeMsg.ChallengeReply a b) = bad
 
-    ended_up : (d : Option (TrunkId × TrunkSide)) → Passing is_up o.node d → X (end_up d o)
+    ended_up : (d : Option (TrunkId × TrunkSide)) → Passing is_up o.node d → X (up_is_lost d o)
     ended_up None p = k
     ended_up (Some e) p = aged_state e.0 e.1 Losing o p.0 (λ h. refl) (λ h. refl) k
 
@@ -309,11 +309,11 @@ module _ (New : TrunkId → Name → Type 0) (X : Work → Type 0)
         two Losing h u = cc
         two Gone h u = cc
 
-    still_at : (d : Option (TrunkId × TrunkSide)) → Passing is_up o.node d → is_open s.state ≡ true → side_at ((end_up d o).node) t ≡ Some s
+    still_at : (d : Option (TrunkId × TrunkSide)) → Passing is_up o.node d → is_open s.state ≡ true → side_at ((up_is_lost d o).node) t ≡ Some s
     still_at None p h = at
     still_at (Some e) p h = still_there o e.0 t (as_state e.1 Losing) s at (not_up e h p.0 p.1)
 
-    gone_on : (d : Option (TrunkId × TrunkSide)) (w : ℕ) (o' : Work) → side_at o'.node t ≡ Some s → is_open s.state ≡ true → X o' → X (go_on d t s w o')
+    gone_on : (d : Option (TrunkId × TrunkSide)) (w : ℕ) (o' : Work) → side_at o'.node t ≡ Some s → is_open s.state ≡ true → X o' → X (challenge_or_park d t s w o')
     gone_on None w o' a h j = told t s (Accepting w) (challenge o'.node w) o' (open_state t s (Accepting w) o' a h j)
     gone_on (Some e) w o' a h j = open_state t s (Parked w) o' a h j
 
@@ -321,7 +321,7 @@ module _ (New : TrunkId → Name → Type 0) (X : Work → Type 0)
     asked v h (ShakeMsg.Status Status.True) =
         let d = side_where is_up s.peer (fm.entries o.node.sides) in
         let p = found is_up s.peer o.node d refl in
-        gone_on (side_where is_losing s.peer (fm.entries ((end_up d o).node.sides))) v (end_up d o) (still_at d p h) h (ended_up d p)
+        gone_on (side_where is_losing s.peer (fm.entries ((up_is_lost d o).node.sides))) v (up_is_lost d o) (still_at d p h) h (ended_up d p)
     asked v h (ShakeMsg.Status Status.False) = known_fault (Fault.Shake ShakeFault.Nok) t s o at k
     asked v h (ShakeMsg.Status Status.Ok) = bad
     asked v h (ShakeMsg.Status Status.OkSimultaneous) = bad
@@ -399,7 +399,7 @@ module _ (New : TrunkId → Name → Type 0) (X : Work → Type 0)
   lose_kept n t (Some s) h k = lost_kept t s (at_work n) h k s.state refl
 
   -- a swept connection
-  unparked_by : (v : State) (t : TrunkId) (s : TrunkSide) (o : Work) → s.state ≡ v → side_at o.node t ≡ Some s → X o → X (parked_by v t s o)
+  unparked_by : (v : State) (t : TrunkId) (s : TrunkSide) (o : Work) → s.state ≡ v → side_at o.node t ≡ Some s → X o → X (released_by v t s o)
   unparked_by (Parked w) t s o e h k = told t s (Accepting w) (challenge o.node w) o (open_state t s (Accepting w) o h (ap is_open e) k)
   unparked_by (AwaitsStatus v) t s o e h k = k
   unparked_by (AwaitsChallenge v) t s o e h k = k
@@ -410,14 +410,14 @@ module _ (New : TrunkId → Name → Type 0) (X : Work → Type 0)
   unparked_by Losing t s o e h k = k
   unparked_by Gone t s o e h k = k
 
-  unparked : (d : Option (TrunkId × TrunkSide)) (o : Work) → Passing is_parked o.node d → X o → X (parked_goes d o)
+  unparked : (d : Option (TrunkId × TrunkSide)) (o : Work) → Passing is_parked o.node d → X o → X (release_parked d o)
   unparked None o p k = k
   unparked (Some e) o p k = unparked_by e.1.state e.0 e.1 o refl p.0 k
 
-  pub swept_kept : (t : TrunkId) (s : TrunkSide) (o : Work) → side_at o.node t ≡ Some s → X o → X (swept t s o)
+  pub swept_kept : (t : TrunkId) (s : TrunkSide) (o : Work) → side_at o.node t ≡ Some s → X o → X (close_if_swept t s o)
   swept_kept t s o h k = go (has_records s.peer o.node) refl
     where
-      go : (b : Bool) → has_records s.peer o.node ≡ b → X (cond b o (close t s o))
+      go : (b : Bool) → has_records s.peer o.node ≡ b → X (cond b o (close_side t s o))
       go true e = k
       go false e =
           let o1 = set_state t s Gone o in

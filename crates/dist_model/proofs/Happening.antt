@@ -29,7 +29,7 @@ use Rattle.dist_model.specs.Sides.{TrunkSide, AwaitsStatus, AwaitsChallenge, Awa
 use Rattle.dist_model.specs.Node.{Node, Life, Living}
 use Rattle.dist_model.specs.declared.command.Command.{Command}
 use Rattle.dist_model.specs.World.{World, Event, Call, Arrive, Lose, Sweep, Dial, step, node_of, list_to}
-use Rattle.dist_model.specs.Quiet.{Over, Quiet, is_silent}
+use Rattle.dist_model.specs.Quiet.{Over, Quiet, nothing_between}
 use Rattle.dist_model.specs.Runs.{run}
 use Rattle.dist_model.specs.Seen.{HasSide, end_between}
 use Rattle.dist_model.specs.Schedules.{connected_over_a_trunk, first, second, here, there, trunk, two_nodes, unlinking, losing, connecting, linked_over_a_trunk, unlinked_over_a_trunk, connected_again}
@@ -519,7 +519,7 @@ module _ (cookie : List ℕ) (own other : ℕ) where
   swept_there = ap (λ w. end_between w there here) again_is ∙ simp of_maps refl
 
   quiet_over : (w : World) (t : TrunkId) → HasSide w first t second is_up → HasSide w second t first is_up
-      → is_silent here there (list_to w.lists t first) ≡ true → is_silent here there (list_to w.lists t second) ≡ true → Quiet w here there
+      → nothing_between here there (list_to w.lists t first) ≡ true → nothing_between here there (list_to w.lists t second) ≡ true → Quiet w here there
   quiet_over w t a b c d = Over refl t (a, b) c d
 
   pub linked_quiet : Quiet (run (linked_over_a_trunk own other) (two_nodes cookie)) here there

@@ -223,7 +223,7 @@ sound_opening : (cs : List (Name × List ℕ)) → Sound (opening cs) []
 sound_opening cs = record {
   lists = λ t y. subst (λ l. All (IsFounded (opening cs) []) l) (sym (ap list_in (fm.get-empty place_cmp (t, y)))) (All-nil (IsFounded (opening cs) []));
   locals = λ y v hv. let k = new_is cs cs y v hv in subst (λ (z : Node). All (IsFounded (opening cs) []) z.local) (sym k.2) (All-nil (IsFounded (opening cs) []));
-  homes = λ y v hv. let k = new_is cs cs y v hv in subst (λ (z : Node). All (Rattle.dist_model.proofs.Homing.TargetsIn (λ q. Rattle.dist_model.specs.Node.never z q ≡ false)) z.local) (sym k.2) (All-nil _);
+  homes = λ y v hv. let k = new_is cs cs y v hv in subst (λ (z : Node). All (Rattle.dist_model.proofs.Homing.TargetsIn (λ q. Rattle.dist_model.specs.Node.is_stranger z q ≡ false)) z.local) (sym k.2) (All-nil _);
   enrolled = λ y v k u hv i. let m = new_is cs cs y v hv in absurd (none_some u (sym (fm.get-empty reference_cmp k) ∙ subst (λ (z : Node). fm.get z.registered k ≡ Some u) m.2 i));
   one = λ k. omega arith;
   drawn = λ k i. absurd (omega (arith, i));

@@ -13,7 +13,7 @@ use Rattle.dist_model.specs.Items.{Item, Signalled, news, news_in, telling}
 use Rattle.dist_model.specs.Linking.{take_link}
 use Rattle.dist_model.specs.Links.{LinkNews}
 use Rattle.dist_model.specs.Names.{Name, same_name, same_pid}
-use Rattle.dist_model.specs.Node.{Node, never, reaches, route}
+use Rattle.dist_model.specs.Node.{Node, is_stranger, reaches, route}
 use Rattle.dist_model.specs.Taking.{take_item}
 use Rattle.dist_model.specs.Work.{Work, at_work}
 use Rattle.erl_term.specs.declared.term.Pid.{Pid}
@@ -67,7 +67,7 @@ module _ (n : Node) (xs : List Item) (kn : NodeKept n) where
       let gone : (x y : Pid) → news x y n.local ≡ news x y xs = λ x y. ap (news x y) first ∙ ap (λ l. l ++ news x y xs) (none x y) in
       subst (λ l. Kept (side_of n p q l) (side_of n q p (news q p xs))) (gone p q) (subst (λ l. Kept (side_of n p q (news p q n.local)) (side_of n q p l)) (gone q p) (k p q hp hq d)))
 
-  module _ (q0 p0 : Pid) (s : LinkNews) (first : n.local ≡ Signalled (telling q0 p0 s) ∷ xs) (hp0 : never n p0 ≡ false) (hq0 : never n q0 ≡ false) (own0 : same_name q0.node n.mint.name ≡ true) (two : same_pid p0 q0 ≡ false) where
+  module _ (q0 p0 : Pid) (s : LinkNews) (first : n.local ≡ Signalled (telling q0 p0 s) ∷ xs) (hp0 : is_stranger n p0 ≡ false) (hq0 : is_stranger n q0 ≡ false) (own0 : same_name q0.node n.mint.name ≡ true) (two : same_pid p0 q0 ≡ false) where
     o0 : Work
     o0 = at_work (record n { local = xs })
 
@@ -145,7 +145,7 @@ module _ (n : Node) (xs : List Item) (kn : NodeKept n) where
         both p q t u x y (inl e) c r k = f.others kn1 hd [] x y c r (subst (λ z. (same_pid z p0 && same_pid y q0) ≡ false) (sym e.0) (subst (λ z. (same_pid p p0 && same_pid z q0) ≡ false) (sym e.1) (flip q p t))) k
         both p q t u x y (inr e) c r k = f.others kn1 hd [] x y c r (subst (λ z. (same_pid z p0 && same_pid y q0) ≡ false) (sym e.0) (subst (λ z. (same_pid q p0 && same_pid z q0) ≡ false) (sym e.1) (flip p q u))) k
 
-pub never_own : (n : Node) (p : Pid) → never n p ≡ false → same_name p.node n.mint.name ≡ true
+pub never_own : (n : Node) (p : Pid) → is_stranger n p ≡ false → same_name p.node n.mint.name ≡ true
 never_own n p h = go (same_name p.node n.mint.name) h
   where
     go : (b : Bool) → ((((not b || nat_lt n.mint.creation p.creation) || (p.creation == n.mint.creation && nat_lt n.mint.pids p.id)) || p.id == 0) || not (p.serial == 0)) ≡ false → b ≡ true
@@ -155,11 +155,11 @@ never_own n p h = go (same_name p.node n.mint.name) h
 -- Local: each pair of the node
 pub local_home : (n : Node) (i : Item) (xs : List Item) → n.local ≡ i ∷ xs → NodeKept n → home_of n → HomePairs n → HomePairs ((take_item i (at_work (record n { local = xs }))).node)
 unfolding o1
-local_home n i xs first kn hm k = go (kind i) (subst (λ l. Homely (λ p. never n p) l) first hm).0
+local_home n i xs first kn hm k = go (kind i) (subst (λ l. Homely (λ p. is_stranger n p) l) first hm).0
   where
-    go : ((p q : Pid) → news_in p q i ≡ []) ⊎ ((q : Pid) × (p : Pid) × (s : LinkNews) × (i ≡ Signalled (telling q p s))) → HomeItem (λ p. never n p) i → HomePairs ((take_item i (at_work (record n { local = xs }))).node)
+    go : ((p q : Pid) → news_in p q i ≡ []) ⊎ ((q : Pid) × (p : Pid) × (s : LinkNews) × (i ≡ Signalled (telling q p s))) → HomeItem (λ p. is_stranger n p) i → HomePairs ((take_item i (at_work (record n { local = xs }))).node)
     go (inl h) m = plain_home n xs kn i first h k
     go (inr h) m =
-        let g : (never n h.0 ≡ false) × (never n h.1 ≡ false) × (same_pid h.0 h.1 ≡ false) = home_saying (λ p. never n p) h.0 h.1 h.2 (subst (λ z. HomeItem (λ p. never n p) z) h.3 m) in
+        let g : (is_stranger n h.0 ≡ false) × (is_stranger n h.1 ≡ false) × (same_pid h.0 h.1 ≡ false) = home_saying (λ p. is_stranger n p) h.0 h.1 h.2 (subst (λ z. HomeItem (λ p. is_stranger n p) z) h.3 m) in
         subst (λ z. HomePairs ((take_item z (at_work (record n { local = xs }))).node)) (sym h.3)
         (subst (λ (z : Work). HomePairs z.node) (sym (taken_link h.0 h.1 h.2 (at_work (record n { local = xs })))) (linking_home n xs kn h.0 h.1 h.2 (first ∙ ap (λ z. z ∷ xs) h.3) g.1 g.0 (never_own n h.0 g.0) (pid_turned h.0 h.1 g.2) k))

@@ -8,7 +8,7 @@ use Rattle.dist_model.proofs.Founding.{posts_keep}
 use Rattle.dist_model.proofs.Handshaking.{Turned}
 use Rattle.dist_model.proofs.Parts.{Closed, Rules, is_plain}
 use Rattle.dist_model.proofs.Leaving.{exits_in, exits_cons}
-use Rattle.dist_model.specs.Exits.{demonitors, exit_for, finish, monitor_exits}
+use Rattle.dist_model.specs.Exits.{demonitors, exit_for, end_process, monitor_exits}
 use Rattle.dist_model.specs.Handshake.{with_side, write}
 use Rattle.dist_model.specs.Items.{Handshake, Item, Signalled, Tick, receiver_of}
 use Rattle.dist_model.specs.Names.{Name, same_name, same_pid}
@@ -113,7 +113,7 @@ module _ (n : Node) (P : Pid → Type 0) where
       go true = All-cons (Targets P) (Signal.Demonitor p e.1.target e.0) [] tt (All-nil (Targets P))
       go false = All-nil (Targets P)
 
-  homed_finish : (p : Pid) (x : Data) (o : Work) → Homed o → Homed (finish p x o)
+  homed_finish : (p : Pid) (x : Data) (o : Work) → Homed o → Homed (end_process p x o)
   homed_finish p x o k =
       let es = exits_in p x (fm.entries o.node.ends) in
       let ms = monitor_exits p x (fm.entries o.node.registered) in

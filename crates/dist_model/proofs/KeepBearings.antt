@@ -17,7 +17,7 @@ use Rattle.dist_model.proofs.Sides.{route_from, side_at}
 use Rattle.dist_model.specs.Arrivals.{handshake_in}
 use Rattle.dist_model.specs.Commands.{Accepts, Outcome}
 use Rattle.dist_model.specs.Dialing.{dial, draw_trunk, has_name, next_trunk}
-use Rattle.dist_model.specs.Exits.{finish}
+use Rattle.dist_model.specs.Exits.{end_process}
 use Rattle.dist_model.specs.Handshake.{identity, with_side, write}
 use Rattle.dist_model.specs.Incarnations.{started, stopped}
 use Rattle.dist_model.specs.Items.{Handshake, Item, Signalled, receiver_of}
@@ -115,13 +115,13 @@ module _ (n : Node) (e : NodeEvent) where
   posts : (y : Name) (x : Item) (o : Work) → X o → X (post_to y x o)
   posts y x o k = go (same_name y o.node.mint.name)
     where
-      go_on : (r : Option TrunkId) → route o.node y ≡ r → X (send_on r y x o)
-      go_on None h = k
-      go_on (Some t) h = let r = route_from o.node y t h in sends t y x o (record { side = r.found; there = r.there; peer = r.peer }) k
+      challenge_or_park : (r : Option TrunkId) → route o.node y ≡ r → X (send_on r y x o)
+      challenge_or_park None h = k
+      challenge_or_park (Some t) h = let r = route_from o.node y t h in sends t y x o (record { side = r.found; there = r.there; peer = r.peer }) k
 
       go : (b : Bool) → X (cond b (keep_local x o) (send_on (route o.node y) y x o))
       go true = kept_local x o k
-      go false = go_on (route o.node y) refl
+      go false = challenge_or_park (route o.node y) refl
 
   posts_all : (ss : List Signal) (o : Work) → X o → X (post_all ss o)
   posts_all [] o k = k
@@ -135,10 +135,10 @@ module _ (n : Node) (e : NodeEvent) where
   puts p m o k = within (report (Effect.Put p m) o) ((Rattle.dist_model.specs.Work.put p m o).node) refl refl (silent (Effect.Put p m) o
       (λ t y i z. cc) k)
 
-  finishes : (p : Pid) (x : Data) (o : Work) → X o → X (finish p x o)
+  finishes : (p : Pid) (x : Data) (o : Work) → X o → X (end_process p x o)
   finishes p x o k =
       let o1 = post_all (last_posts p x o) o in
-      within (report (Effect.Ended p x) o1) ((finish p x o).node) refl refl (silent (Effect.Ended p x) o1
+      within (report (Effect.Ended p x) o1) ((end_process p x o).node) refl refl (silent (Effect.Ended p x) o1
           (λ t y i z. cc) (posts_all (last_posts p x o) o k))
 
   parts : Parts X

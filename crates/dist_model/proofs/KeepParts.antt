@@ -9,7 +9,7 @@ use Rattle.dist_model.proofs.Parts.{Closed, Rules, acts_kept, call_kept, cond_ke
 use Rattle.dist_model.proofs.Records.{least_as}
 use Rattle.dist_model.specs.Calls.{call, spawn_life}
 use Rattle.dist_model.specs.declared.command.Command.{Command}
-use Rattle.dist_model.specs.Exits.{finish}
+use Rattle.dist_model.specs.Exits.{end_process}
 use Rattle.dist_model.specs.Items.{Item}
 use Rattle.dist_model.specs.Links.{noconnection}
 use Rattle.dist_model.specs.Losses.{least_record, link_to, sweep_record}
@@ -40,7 +40,7 @@ pub record Parts (X : Work → Type 0) : Type 0 where
       → X (record o { node = record (o.node) { lives = set_life o.node.lives p l } })
   pub message : (p : Pid) (m : Data) (o : Work) → X o → X (put p m o)
   pub reacted : (p q : Pid) (x : Data) (o : Work) → X o → X (report (Effect.LinkExit p q x) o)
-  pub finished : (p : Pid) (x : Data) (o : Work) → X o → X (finish p x o)
+  pub finished : (p : Pid) (x : Data) (o : Work) → X o → X (end_process p x o)
   pub registers : (r : Reference) (m : Monitor) (o : Work) → living o.node m.target ≡ true → X o → X (register r m o)
   pub unregisters : (r : Reference) (o : Work) → X o → X (unregister r o)
   pub watches : (r : Reference) (m : Monitor) (o : Work) → living o.node m.owner ≡ true → X o → X (watch r m o)

@@ -7,7 +7,7 @@ use Rattle.conn_core.specs.declared.arrival.Fault.{Fault}
 use Rattle.dist_model.specs.Arrivals.{arrive, arrive_at, handshake_in, is_good, signal_at}
 use Rattle.dist_model.specs.Commands.{Accepts, Refuses}
 use Rattle.dist_model.specs.declared.report.Answer.{Answer}
-use Rattle.dist_model.specs.Handshake.{after, after_answer, fault, handshake_at}
+use Rattle.dist_model.specs.Handshake.{on_verdict, after_answer, fault, handshake_at}
 use Rattle.dist_model.specs.Items.{Item, kind_of}
 use Rattle.dist_model.specs.Keeping.{IsAccepted}
 use Rattle.dist_model.specs.Names.{Name}
@@ -21,7 +21,7 @@ use Rattle.erl_names.specs.declared.trunk.TrunkId.{TrunkId}
 use Rattle.erl_term.specs.declared.refusal.Refusal.{Refusal}
 
 after_taken : (v : Progress) (t : TrunkId) (s r : TrunkSide) (m : ShakeMsg) (d : Option ShakeMsg) (o : Work)
-    → IsAccepted (after v t s r m d o)
+    → IsAccepted (on_verdict v t s r m d o)
 after_taken verdict.Go t s r m d o = (_, _, refl)
 after_taken verdict.Done t s r m d o = (_, _, refl)
 after_taken (verdict.Ended j) t s r m d o = (_, _, refl)

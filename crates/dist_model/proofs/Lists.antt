@@ -1,7 +1,7 @@
 -- What the words of Pair say of a list with one signal more.
 use Rattle.std.proofs.Common.{◌≡◌, ◌≢◌, ℕ, ◌+◌, Bool, true, false, cond, List, [], ◌∷◌, ◌++◌, refl, sym, ap, ◌∙◌, arith, ◌||◌, ◌==◌}
 use Rattle.dist_model.proofs.Pair.{Linked, Silent, Unlinked, Word, ack_of, acks, has_exit, has_link, is_exit, is_link, last_word, later, said, unlink_of, unlinks}
-use Rattle.dist_model.specs.Links.{Exits, LinkNews, Says, drained, heard}
+use Rattle.dist_model.specs.Links.{Exited, LinkNews, Signals, drained, heard}
 use Rattle.link_core.specs.declared.end.End.{End}
 use Rattle.link_core.specs.declared.end.LinkSignal.{LinkSignal}
 
@@ -10,18 +10,18 @@ drained-push e [] s = refl
 drained-push e (x ∷ L) s = drained-push (heard e x) L s
 
 later-said : (v w : Word) (s : LinkNews) → later v (said w s) ≡ said (later v w) s
-later-said v Silent (Says LinkSignal.Link) = refl
-later-said v Silent (Says (LinkSignal.Unlink j)) = refl
-later-said v Silent (Says (LinkSignal.Ack j)) = refl
-later-said v Silent (Exits r) = refl
-later-said v Linked (Says LinkSignal.Link) = refl
-later-said v Linked (Says (LinkSignal.Unlink j)) = refl
-later-said v Linked (Says (LinkSignal.Ack j)) = refl
-later-said v Linked (Exits r) = refl
-later-said v (Unlinked i) (Says LinkSignal.Link) = refl
-later-said v (Unlinked i) (Says (LinkSignal.Unlink j)) = refl
-later-said v (Unlinked i) (Says (LinkSignal.Ack j)) = refl
-later-said v (Unlinked i) (Exits r) = refl
+later-said v Silent (Signals LinkSignal.Link) = refl
+later-said v Silent (Signals (LinkSignal.Unlink j)) = refl
+later-said v Silent (Signals (LinkSignal.Ack j)) = refl
+later-said v Silent (Exited r) = refl
+later-said v Linked (Signals LinkSignal.Link) = refl
+later-said v Linked (Signals (LinkSignal.Unlink j)) = refl
+later-said v Linked (Signals (LinkSignal.Ack j)) = refl
+later-said v Linked (Exited r) = refl
+later-said v (Unlinked i) (Signals LinkSignal.Link) = refl
+later-said v (Unlinked i) (Signals (LinkSignal.Unlink j)) = refl
+later-said v (Unlinked i) (Signals (LinkSignal.Ack j)) = refl
+later-said v (Unlinked i) (Exited r) = refl
 
 later-silent : (w : Word) → later w Silent ≡ w
 later-silent w = refl
@@ -82,10 +82,10 @@ ack_or_not false i L f h = f h
 -- a pending end stays so where neither its ACK nor an EXIT comes
 pub stays_pending : (i : ℕ) (L : List LinkNews) → acks i L ≡ 0 → has_exit L ≡ false → drained (End.Pending i) L ≡ End.Pending i
 stays_pending i [] none quiet = refl
-stays_pending i ((Says LinkSignal.Link) ∷ L) none quiet = stays_pending i L (omega arith) quiet
-stays_pending i (Says (LinkSignal.Unlink j) ∷ L) none quiet = stays_pending i L (omega arith) quiet
-stays_pending i (Says (LinkSignal.Ack j) ∷ L) none quiet = ack_comes (i == j) i L none (λ h. stays_pending i L h quiet)
-stays_pending i (Exits r ∷ L) none quiet = cc
+stays_pending i ((Signals LinkSignal.Link) ∷ L) none quiet = stays_pending i L (omega arith) quiet
+stays_pending i (Signals (LinkSignal.Unlink j) ∷ L) none quiet = stays_pending i L (omega arith) quiet
+stays_pending i (Signals (LinkSignal.Ack j) ∷ L) none quiet = ack_comes (i == j) i L none (λ h. stays_pending i L h quiet)
+stays_pending i (Exited r ∷ L) none quiet = cc
 
 -- what becomes of an end that isn't pending, by the last word
 abbrev pub outcome : End → Word → End
@@ -110,18 +110,18 @@ outcome-none e (Unlinked i) = refl
 
 pub drained_by_word : (L : List LinkNews) → has_exit L ≡ false → (drained End.Active L ≡ outcome End.Active (last_word L)) × (drained End.None L ≡ outcome End.None (last_word L))
 drained_by_word [] quiet = (refl, refl)
-drained_by_word ((Says LinkSignal.Link) ∷ L) quiet = let h = drained_by_word L quiet in (h.0 ∙ sym (outcome-link End.Active (last_word L)), h.0 ∙ sym (outcome-link End.None (last_word L)))
-drained_by_word (Says (LinkSignal.Unlink j) ∷ L) quiet = let h = drained_by_word L quiet in (h.1 ∙ sym (outcome-unlink End.Active j (last_word L)), h.1 ∙ sym (outcome-unlink End.None j (last_word L)))
-drained_by_word (Says (LinkSignal.Ack j) ∷ L) quiet = let h = drained_by_word L quiet in (h.0 ∙ sym (outcome-none End.Active (last_word L)), h.1 ∙ sym (outcome-none End.None (last_word L)))
-drained_by_word (Exits r ∷ L) quiet = cc
+drained_by_word ((Signals LinkSignal.Link) ∷ L) quiet = let h = drained_by_word L quiet in (h.0 ∙ sym (outcome-link End.Active (last_word L)), h.0 ∙ sym (outcome-link End.None (last_word L)))
+drained_by_word (Signals (LinkSignal.Unlink j) ∷ L) quiet = let h = drained_by_word L quiet in (h.1 ∙ sym (outcome-unlink End.Active j (last_word L)), h.1 ∙ sym (outcome-unlink End.None j (last_word L)))
+drained_by_word (Signals (LinkSignal.Ack j) ∷ L) quiet = let h = drained_by_word L quiet in (h.0 ∙ sym (outcome-none End.Active (last_word L)), h.1 ∙ sym (outcome-none End.None (last_word L)))
+drained_by_word (Exited r ∷ L) quiet = cc
 
 -- an active end stays or becomes active wherever another one does
 pub active_wins : (i : ℕ) (L : List LinkNews) → (drained End.None L ≡ End.Active → drained End.Active L ≡ End.Active) × (drained (End.Pending i) L ≡ End.Active → drained End.None L ≡ End.Active)
 active_wins i [] = (λ h. refl, λ h. cc)
-active_wins i ((Says LinkSignal.Link) ∷ L) = let h = active_wins i L in (λ k. k, λ k. h.0 (h.1 k))
-active_wins i (Says (LinkSignal.Unlink j) ∷ L) = let h = active_wins i L in (λ k. k, λ k. h.1 k)
-active_wins i (Says (LinkSignal.Ack j) ∷ L) = let h = active_wins i L in (λ k. h.0 k, λ k. ack_or_not (i == j) i L h.1 k)
-active_wins i (Exits r ∷ L) = (λ k. k, λ k. k)
+active_wins i ((Signals LinkSignal.Link) ∷ L) = let h = active_wins i L in (λ k. k, λ k. h.0 (h.1 k))
+active_wins i (Signals (LinkSignal.Unlink j) ∷ L) = let h = active_wins i L in (λ k. k, λ k. h.1 k)
+active_wins i (Signals (LinkSignal.Ack j) ∷ L) = let h = active_wins i L in (λ k. h.0 k, λ k. ack_or_not (i == j) i L h.1 k)
+active_wins i (Exited r ∷ L) = (λ k. k, λ k. k)
 
 pub active_wins_any : (e : End) (L : List LinkNews) → drained e L ≡ End.Active → drained End.Active L ≡ End.Active
 active_wins_any End.None L h = (active_wins 0 L).0 h
@@ -131,10 +131,10 @@ active_wins_any (End.Pending i) L h = (active_wins i L).0 ((active_wins i L).1 h
 -- only a LINK makes an absent end active
 pub by_a_link : (L : List LinkNews) → drained End.None L ≡ End.Active → has_link L ≡ true
 by_a_link [] h = cc
-by_a_link ((Says LinkSignal.Link) ∷ L) h = refl
-by_a_link (Says (LinkSignal.Unlink j) ∷ L) h = by_a_link L h
-by_a_link (Says (LinkSignal.Ack j) ∷ L) h = by_a_link L h
-by_a_link (Exits r ∷ L) h = by_a_link L h
+by_a_link ((Signals LinkSignal.Link) ∷ L) h = refl
+by_a_link (Signals (LinkSignal.Unlink j) ∷ L) h = by_a_link L h
+by_a_link (Signals (LinkSignal.Ack j) ∷ L) h = by_a_link L h
+by_a_link (Exited r ∷ L) h = by_a_link L h
 
 pub by_a_link_any : (e : End) (L : List LinkNews) → e ≢ End.Active → drained e L ≡ End.Active → has_link L ≡ true
 by_a_link_any End.None L n h = by_a_link L h

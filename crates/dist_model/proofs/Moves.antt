@@ -15,12 +15,12 @@ use Rattle.dist_model.proofs.Pair.{Side, finished}
 use Rattle.dist_model.proofs.Seeing.{end_in, replies}
 use Rattle.dist_model.proofs.Views.{silent_lines, silent_view, AllSuit, Suits, linking_suits, more, over, post_all_keeps, post_all_view, post_keeps, post_view, posted, side_path, telling_news, telling_receiver, view}
 use Rattle.dist_model.proofs.Leaving.{exits_in, exits_cons}
-use Rattle.dist_model.specs.Exits.{carry_out, demonitors, exit_for, finish, link_exit, linked_exit, monitor_exits}
+use Rattle.dist_model.specs.Exits.{carry_out, demonitors, exit_for, end_process, link_exit, linked_exit, monitor_exits}
 use Rattle.dist_model.specs.Items.{Item, Signalled, news_in, receiver_of, telling}
 use Rattle.dist_model.specs.Linking.{exit_follows, link, link_by, link_new, take_link, take_link_by}
-use Rattle.dist_model.specs.Links.{Exits, LinkNews, Says, heard, noconnection, reply}
+use Rattle.dist_model.specs.Links.{Exited, LinkNews, Signals, heard, noconnection, reply}
 use Rattle.dist_model.specs.Names.{Name, pair_cmp, same_name, same_pid}
-use Rattle.dist_model.specs.Node.{Ended, Life, Living, Node, end_of, is_living_life, living, never, reaches, route, route_in, side_where, traps_life}
+use Rattle.dist_model.specs.Node.{Ended, Life, Living, Node, end_of, is_living_life, living, is_stranger, reaches, route, route_in, side_where, traps_life}
 use Rattle.dist_model.specs.Sides.{TrunkSide, is_losing, is_up}
 use Rattle.dist_model.specs.Work.{Work, delivered, keep_local, post, post_all, post_to, put, report, send_on, set_end, set_life}
 use Rattle.dist_model.specs.declared.report.Effect.{Effect}
@@ -72,8 +72,8 @@ held n y = same_name y n.mint.name || is_some (side_where (λ v. is_up v || is_l
 
 -- what a node keeps by itself
 pub record NodeKept (n : Node) : Type 0 where
-  pub born : (p : Pid) → living n p ≡ true → never n p ≡ false
-  pub rooted : (p q : Pid) → (end_of n p q ≡ End.None → ⊥) → (living n p ≡ true) × (held n q.node ≡ true) × (same_name q.node n.mint.name ≡ true → (never n q ≡ false) × (same_pid p q ≡ false))
+  pub born : (p : Pid) → living n p ≡ true → is_stranger n p ≡ false
+  pub rooted : (p q : Pid) → (end_of n p q ≡ End.None → ⊥) → (living n p ≡ true) × (held n q.node ≡ true) × (same_name q.node n.mint.name ≡ true → (is_stranger n q ≡ false) × (same_pid p q ≡ false))
 
 -- what a local list holds about links: between two that were spawned here, and are two
 abbrev pub HomeItem : (Pid → Bool) → Item → Type 0
@@ -102,13 +102,13 @@ Homely-push f [] x h k = (k, tt)
 Homely-push f (y ∷ ys) x h k = (h.0, Homely-push f ys x h.1 k)
 
 abbrev pub home_of : Node → Type 0
-home_of n = Homely (λ p. never n p) n.local
+home_of n = Homely (λ p. is_stranger n p) n.local
 
 home_plain : (f : Pid → Bool) (x : Item) → ((p q : Pid) → news_in p q x ≡ []) → HomeItem f x
 home_plain f x none a b n = absurd (n (none a b))
 
 -- an item may be posted to y: it is plain, or y is another node, or both were spawned here
-pub post_home : (y : Name) (x : Item) (o : Work) → (same_name y o.node.mint.name ≡ true → HomeItem (λ p. never o.node p) x) → home_of o.node → home_of ((post_to y x o).node)
+pub post_home : (y : Name) (x : Item) (o : Work) → (same_name y o.node.mint.name ≡ true → HomeItem (λ p. is_stranger o.node p) x) → home_of o.node → home_of ((post_to y x o).node)
 post_home y x o i h = go (same_name y o.node.mint.name) refl
   where
     sent : (r : Option TrunkId) → home_of ((send_on r y x o).node)
@@ -116,18 +116,18 @@ post_home y x o i h = go (same_name y o.node.mint.name) refl
     sent (Some t) = h
 
     go : (b : Bool) → same_name y o.node.mint.name ≡ b → home_of ((cond b (keep_local x o) (send_on (route o.node y) y x o)).node)
-    go true e = Homely-push (λ p. never o.node p) o.node.local x h (i e)
+    go true e = Homely-push (λ p. is_stranger o.node p) o.node.local x h (i e)
     go false e = sent (route o.node y)
 
 abbrev pub PostsHome : Name → (Pid → Bool) → List Signal → Type 0
 PostsHome z f [] = Unit {0}
 PostsHome z f (e ∷ es) = (same_name (receiver_of e).node z ≡ true → HomeItem f (Signalled e)) × PostsHome z f es
 
-pub post_all_home : (es : List Signal) (o : Work) → PostsHome o.node.mint.name (λ p. never o.node p) es → home_of o.node → home_of ((post_all es o).node)
+pub post_all_home : (es : List Signal) (o : Work) → PostsHome o.node.mint.name (λ p. is_stranger o.node p) es → home_of o.node → home_of ((post_all es o).node)
 post_all_home [] o i h = h
 post_all_home (e ∷ es) o i h = post_all_home es (post e o)
-    (subst (λ f. PostsHome ((post e o).node.mint.name) f es) (sym (λ j p. post_keeps (λ n. never n p) (λ n m. refl) (receiver_of e).node (Signalled e) o j))
-    (subst (λ z. PostsHome z (λ p. never o.node p) es) (sym (post_keeps (λ n. n.mint.name) (λ n m. refl) (receiver_of e).node (Signalled e) o)) i.1))
+    (subst (λ f. PostsHome ((post e o).node.mint.name) f es) (sym (λ j p. post_keeps (λ n. is_stranger n p) (λ n m. refl) (receiver_of e).node (Signalled e) o j))
+    (subst (λ z. PostsHome z (λ p. is_stranger o.node p) es) (sym (post_keeps (λ n. n.mint.name) (λ n m. refl) (receiver_of e).node (Signalled e) o)) i.1))
     (post_home (receiver_of e).node (Signalled e) o i.0 h)
 
 PostsHome-append : (z : Name) (f : Pid → Bool) (xs ys : List Signal) → PostsHome z f xs → PostsHome z f ys → PostsHome z f (xs ++ ys)
@@ -147,7 +147,7 @@ exits_home z f p r (e ∷ es) hp h s =
 
     own : (b : Bool) → same_pid e.0.0 p ≡ b → (v : End) → v ≡ e.1 → PostsHome z f (cond b (exit_for p r e.0.1 v) [])
     own true j End.None i = tt
-    own true j End.Active i = (λ nm. let d : (f e.0.1 ≡ false) × (same_pid p e.0.1 ≡ false) = subst (λ u. (f e.0.1 ≡ false) × (same_pid u e.0.1 ≡ false)) (same_pid_true e.0.0 p j) (h e (ap (λ c. cond (is_eq c) (Some e.1) (find pair_cmp e.0 es)) (tied_itself pair_total e.0)) (λ a. let c : End.Active ≡ End.None = i ∙ a in cc) nm) in home_said f p e.0.1 (Exits r) (hp, d.0, d.1), tt)
+    own true j End.Active i = (λ nm. let d : (f e.0.1 ≡ false) × (same_pid p e.0.1 ≡ false) = subst (λ u. (f e.0.1 ≡ false) × (same_pid u e.0.1 ≡ false)) (same_pid_true e.0.0 p j) (h e (ap (λ c. cond (is_eq c) (Some e.1) (find pair_cmp e.0 es)) (tied_itself pair_total e.0)) (λ a. let c : End.Active ≡ End.None = i ∙ a in cc) nm) in home_said f p e.0.1 (Exited r) (hp, d.0, d.1), tt)
     own true j (End.Pending u) i = tt
     own false j v i = tt
 
@@ -196,7 +196,7 @@ pub record Moves (o o' : Work) : Type 0 where
   pub grows : (p : Pid) → over o.node p ≡ true → over o'.node p ≡ true
   pub draws : o.node.mint.unlink_ids ≤ o'.node.mint.unlink_ids
   pub routed : AllRouted o.node.sides (outgoing o) → AllRouted o'.node.sides (outgoing o')
-  pub nevers : (p : Pid) → never o.node p ≡ false → never o'.node p ≡ false
+  pub nevers : (p : Pid) → is_stranger o.node p ≡ false → is_stranger o'.node p ≡ false
   pub home : NodeKept o.node → home_of o.node → home_of o'.node
   pub views : NodeKept o.node → (b : List LinkNews) (p q : Pid) (c : Side) → reaches o.node q.node ≡ true → Kept (view b o p q) c → Kept (view b o' p q) c
 
@@ -257,7 +257,7 @@ put_living p t o x = set_life_living o.node.lives p (delivered (fm.get o.node.li
 put_view : (b : List LinkNews) (x : Pid) (t : Data) (o : Work) (p q : Pid) → view b (put x t o) p q ≡ view b o p q
 put_view b x t o p q =
     silent_lines b (put x t o) o.effects (o.effects ++ Effect.Put x t ∷ []) p q (sent_in-silent o.effects (Effect.Put x t) refl)
-    ∙ side_path (view b (record (put x t o) { effects = o.effects }) p q) (view b o p q) refl (ap (λ v. not v && not (never o.node p)) (put_living x t o p)) refl refl
+    ∙ side_path (view b (record (put x t o) { effects = o.effects }) p q) (view b o p q) refl (ap (λ v. not v && not (is_stranger o.node p)) (put_living x t o p)) refl refl
 
 pub puts : (x : Pid) (t : Data) (o : Work) → Moves o (put x t o)
 puts x t o = record {
@@ -265,7 +265,7 @@ puts x t o = record {
   dialed = refl;
   name = refl;
   keeps = λ k. record { born = λ p l. k.born p (sym (put_living x t o p) ∙ l); rooted = λ p q e. let r = k.rooted p q e in (put_living x t o p ∙ r.0, r.1, r.2) };
-  grows = λ p h. ap (λ v. not v && not (never o.node p)) (put_living x t o p) ∙ h;
+  grows = λ p h. ap (λ v. not v && not (is_stranger o.node p)) (put_living x t o p) ∙ h;
   draws = omega arith;
   routed = silent_routed o.node.sides o.effects (Effect.Put x t) refl;
   nevers = λ p h. h;
@@ -280,24 +280,24 @@ keeps_finish_at r a b g k =
     subst P (sym g) (keeps_finish r a.end false a.drawn a.sent b) k
 
 not_over : (n : Node) (p : Pid) → living n p ≡ true → over n p ≡ false
-not_over n p l = ap (λ v. not v && not (never n p)) l
+not_over n p l = ap (λ v. not v && not (is_stranger n p)) l
 
-finish_views : (x : Pid) (r : Data) (o : Work) → living o.node x ≡ true → NodeKept o.node → (b : List LinkNews) (p q : Pid) (c : Side) → reaches o.node q.node ≡ true → (t : Bool) → same_pid p x ≡ t → Kept (view b o p q) c → Kept (view b (finish x r o) p q) c
+finish_views : (x : Pid) (r : Data) (o : Work) → living o.node x ≡ true → NodeKept o.node → (b : List LinkNews) (p q : Pid) (c : Side) → reaches o.node q.node ≡ true → (t : Bool) → same_pid p x ≡ t → Kept (view b o p q) c → Kept (view b (end_process x r o) p q) c
 finish_views x r o l n b p q c reach true e k =
     let h : p ≡ x = same_pid_true p x e in
     let lp : living o.node p ≡ true = subst (λ v. living o.node v ≡ true) (sym h) l in
-    let d : Kept (view b (finish p r o) p q) c = subst (λ a. Kept a c) (sym (finish_view b p r o q reach (n.born p lp))) (keeps_finish_at r (view b o p q) c (not_over o.node p lp) k) in
-    subst (λ v. Kept (view b (finish v r o) p q) c) h d
+    let d : Kept (view b (end_process p r o) p q) c = subst (λ a. Kept a c) (sym (finish_view b p r o q reach (n.born p lp))) (keeps_finish_at r (view b o p q) c (not_over o.node p lp) k) in
+    subst (λ v. Kept (view b (end_process v r o) p q) c) h d
 finish_views x r o l n b p q c reach false e k = subst (λ a. Kept a c) (sym (finish_view_other b x r o p q reach e)) k
 
 cond_absent : (b : Bool) (o : Option End) → (end_in (cond (not b) o None) ≡ End.None → ⊥) → b ≡ false
 cond_absent true o h = absurd (h refl)
 cond_absent false o h = refl
 
-finish_end : (x : Pid) (r : Data) (o : Work) (p q : Pid) → end_of ((finish x r o).node) p q ≡ end_in (cond (not (same_pid p x)) (fm.get ((post_all (last_posts x r o) o).node.ends) (p, q)) None)
+finish_end : (x : Pid) (r : Data) (o : Work) (p q : Pid) → end_of ((end_process x r o).node) p q ≡ end_in (cond (not (same_pid p x)) (fm.get ((post_all (last_posts x r o) o).node.ends) (p, q)) None)
 finish_end x r o p q = buried_end x r (post_all (last_posts x r o) o) p q
 
-finish_living : (x : Pid) (r : Data) (o : Work) (p : Pid) → living ((finish x r o).node) p ≡ is_living_life (cond (same_pid p x) (Some (Ended r)) (fm.get ((post_all (last_posts x r o) o).node.lives) p))
+finish_living : (x : Pid) (r : Data) (o : Work) (p : Pid) → living ((end_process x r o).node) p ≡ is_living_life (cond (same_pid p x) (Some (Ended r)) (fm.get ((post_all (last_posts x r o) o).node.lives) p))
 finish_living x r o p = buried_living x r (post_all (last_posts x r o) o) p
 
 ended_cond : (b : Bool) (r : Data) (l : Option Life) → is_living_life (cond b (Some (Ended r)) l) ≡ true → (b ≡ false) × (is_living_life l ≡ true)
@@ -316,7 +316,7 @@ over_grows : (b : Bool) (r : Data) (l : Option Life) (v : Bool) → (not (is_liv
 over_grows true r l v h = (and_both (not (is_living_life l)) (not v) h).1
 over_grows false r l v h = h
 
-pub finishes : (x : Pid) (r : Data) (o : Work) → living o.node x ≡ true → Moves o (finish x r o)
+pub finishes : (x : Pid) (r : Data) (o : Work) → living o.node x ≡ true → Moves o (end_process x r o)
 finishes x r o l =
     let posts = last_posts x r o in
     let o1 = post_all posts o in
@@ -329,25 +329,25 @@ finishes x r o l =
       keeps = λ k. record {
         born = λ p h.
             let v = ended_cond (same_pid p x) r (fm.get o1.node.lives p) (sym (finish_living x r o p) ∙ h) in
-            post_all_keeps (λ n. never n p) (λ n m. refl) posts o ∙ k.born p (sym (post_all_keeps (λ n. living n p) (λ n m. refl) posts o) ∙ v.1);
+            post_all_keeps (λ n. is_stranger n p) (λ n m. refl) posts o ∙ k.born p (sym (post_all_keeps (λ n. living n p) (λ n m. refl) posts o) ∙ v.1);
         rooted = λ p q e.
             let d : same_pid p x ≡ false = cond_absent (same_pid p x) (fm.get o1.node.ends (p, q)) (λ h. e (finish_end x r o p q ∙ h)) in
-            let f : end_of ((finish x r o).node) p q ≡ end_of o.node p q = finish_end x r o p q ∙ cond_end_kept (same_pid p x) _ d ∙ post_all_keeps (λ n. end_of n p q) (λ n m. refl) posts o in
-            let g : living ((finish x r o).node) p ≡ living o.node p = finish_living x r o p ∙ cond_life_kept (same_pid p x) r _ d ∙ post_all_keeps (λ n. living n p) (λ n m. refl) posts o in
+            let f : end_of ((end_process x r o).node) p q ≡ end_of o.node p q = finish_end x r o p q ∙ cond_end_kept (same_pid p x) _ d ∙ post_all_keeps (λ n. end_of n p q) (λ n m. refl) posts o in
+            let g : living ((end_process x r o).node) p ≡ living o.node p = finish_living x r o p ∙ cond_life_kept (same_pid p x) r _ d ∙ post_all_keeps (λ n. living n p) (λ n m. refl) posts o in
             let t = k.rooted p q (λ h. e (f ∙ h)) in
-            (g ∙ t.0, held_along o.node ((finish x r o).node) sd nm q.node ∙ t.1, λ nn. let u = t.2 (ap (same_name q.node) (sym nm) ∙ nn) in (post_all_keeps (λ n. never n q) (λ n m. refl) posts o ∙ u.0, u.1));
+            (g ∙ t.0, held_along o.node ((end_process x r o).node) sd nm q.node ∙ t.1, λ nn. let u = t.2 (ap (same_name q.node) (sym nm) ∙ nn) in (post_all_keeps (λ n. is_stranger n q) (λ n m. refl) posts o ∙ u.0, u.1));
       };
-      grows = λ p h. ap (λ v. not v && not (never o1.node p)) (finish_living x r o p) ∙ over_grows (same_pid p x) r (fm.get o1.node.lives p) (never o1.node p) (post_all_keeps (λ n. over n p) (λ n m. refl) posts o ∙ h);
+      grows = λ p h. ap (λ v. not v && not (is_stranger o1.node p)) (finish_living x r o p) ∙ over_grows (same_pid p x) r (fm.get o1.node.lives p) (is_stranger o1.node p) (post_all_keeps (λ n. over n p) (λ n m. refl) posts o ∙ h);
       draws = omega (arith, post_all_keeps (λ n. n.mint.unlink_ids) (λ n m. refl) posts o);
       routed = λ a. silent_routed o1.node.sides o1.effects (Effect.Ended x r) refl (post_all_routed posts o a);
-      nevers = λ p h. post_all_keeps (λ n. never n p) (λ n m. refl) posts o ∙ h;
+      nevers = λ p h. post_all_keeps (λ n. is_stranger n p) (λ n m. refl) posts o ∙ h;
       home = λ k h. post_all_home posts o
-          (PostsHome-append o.node.mint.name (λ p. never o.node p) (exits_in x r (fm.entries o.node.ends) ++ monitor_exits x r (fm.entries o.node.registered)) (demonitors x (fm.entries o.node.watches))
-          (PostsHome-append o.node.mint.name (λ p. never o.node p) (exits_in x r (fm.entries o.node.ends)) (monitor_exits x r (fm.entries o.node.registered))
-          (exits_home o.node.mint.name (λ p. never o.node p) x r (fm.entries o.node.ends) (k.born x l)
+          (PostsHome-append o.node.mint.name (λ p. is_stranger o.node p) (exits_in x r (fm.entries o.node.ends) ++ monitor_exits x r (fm.entries o.node.registered)) (demonitors x (fm.entries o.node.watches))
+          (PostsHome-append o.node.mint.name (λ p. is_stranger o.node p) (exits_in x r (fm.entries o.node.ends)) (monitor_exits x r (fm.entries o.node.registered))
+          (exits_home o.node.mint.name (λ p. is_stranger o.node p) x r (fm.entries o.node.ends) (k.born x l)
           (λ e fe ne nn. (k.rooted e.0.0 e.0.1 (λ a. ne (sym (ap end_in (fm.get-entries o.node.ends e.0 ∙ fe)) ∙ a))).2 nn) (fm.entries_sorted o.node.ends))
-          (downs_home o.node.mint.name (λ p. never o.node p) x r (fm.entries o.node.registered)))
-          (unwatches_home o.node.mint.name (λ p. never o.node p) x (fm.entries o.node.watches))) h;
+          (downs_home o.node.mint.name (λ p. is_stranger o.node p) x r (fm.entries o.node.registered)))
+          (unwatches_home o.node.mint.name (λ p. is_stranger o.node p) x (fm.entries o.node.watches))) h;
       views = λ n b p q c reach k. finish_views x r o l n b p q c reach (same_pid p x) refl k;
     }
 
@@ -372,20 +372,20 @@ set_view b x y e o p q = side_path (view b (set_end x y e o) p q) (ended_at (sam
 end_set : (x y : Pid) (e : End) (o : Work) (p q : Pid) → end_of ((set_end x y e o).node) p q ≡ cond (same_pid p x && same_pid q y) e (end_of o.node p q)
 end_set x y e o p q = set_in-get o.node.ends (x, y) e (p, q) ∙ ap (λ t. cond t e (end_of o.node p q)) (same_pair p q x y)
 
-set_rooted : (x y : Pid) (e : End) (o : Work) → NodeKept o.node → ((e ≡ End.None → ⊥) → (living o.node x ≡ true) × (held o.node y.node ≡ true) × (same_name y.node o.node.mint.name ≡ true → (never o.node y ≡ false) × (same_pid x y ≡ false))) → NodeKept ((set_end x y e o).node)
+set_rooted : (x y : Pid) (e : End) (o : Work) → NodeKept o.node → ((e ≡ End.None → ⊥) → (living o.node x ≡ true) × (held o.node y.node ≡ true) × (same_name y.node o.node.mint.name ≡ true → (is_stranger o.node y ≡ false) × (same_pid x y ≡ false))) → NodeKept ((set_end x y e o).node)
 set_rooted x y e o k h = record {
   born = k.born;
   rooted = λ p q n. go p q (same_pid p x && same_pid q y) refl (λ m. n (end_set x y e o p q ∙ m));
 }
   where
-    go : (p q : Pid) (t : Bool) → (same_pid p x && same_pid q y) ≡ t → (cond (same_pid p x && same_pid q y) e (end_of o.node p q) ≡ End.None → ⊥) → (living o.node p ≡ true) × (held o.node q.node ≡ true) × (same_name q.node o.node.mint.name ≡ true → (never o.node q ≡ false) × (same_pid p q ≡ false))
+    go : (p q : Pid) (t : Bool) → (same_pid p x && same_pid q y) ≡ t → (cond (same_pid p x && same_pid q y) e (end_of o.node p q) ≡ End.None → ⊥) → (living o.node p ≡ true) × (held o.node q.node ≡ true) × (same_name q.node o.node.mint.name ≡ true → (is_stranger o.node q ≡ false) × (same_pid p q ≡ false))
     go p q true i n =
         let v = and_both (same_pid p x) (same_pid q y) i in
         let r = h (λ m. n (ap (λ t. cond t e (end_of o.node p q)) i ∙ m)) in (
           subst (λ z. living o.node z ≡ true) (sym (same_pid_true p x v.0)) r.0,
           subst (λ (z : Pid). held o.node z.node ≡ true) (sym (same_pid_true q y v.1)) r.1,
-          subst (λ (z : Pid). same_name z.node o.node.mint.name ≡ true → (never o.node z ≡ false) × (same_pid p z ≡ false)) (sym (same_pid_true q y v.1))
-              (subst (λ z. same_name y.node o.node.mint.name ≡ true → (never o.node y ≡ false) × (same_pid z y ≡ false)) (sym (same_pid_true p x v.0)) r.2),
+          subst (λ (z : Pid). same_name z.node o.node.mint.name ≡ true → (is_stranger o.node z ≡ false) × (same_pid p z ≡ false)) (sym (same_pid_true q y v.1))
+              (subst (λ z. same_name y.node o.node.mint.name ≡ true → (is_stranger o.node y ≡ false) × (same_pid z y ≡ false)) (sym (same_pid_true p x v.0)) r.2),
         )
     go p q false i n = k.rooted p q (λ m. n (ap (λ t. cond t e (end_of o.node p q)) i ∙ m))
 
@@ -417,10 +417,10 @@ reach_held n y h = or_either (same_name y n.mint.name) (is_some (route n y)) (is
 -- posts keep what a node keeps
 post_kept : (y : Name) (x : Item) (o : Work) → NodeKept o.node → NodeKept ((post_to y x o).node)
 post_kept y x o k = record {
-  born = λ p l. post_keeps (λ n. never n p) (λ n m. refl) y x o ∙ k.born p (sym (post_keeps (λ n. living n p) (λ n m. refl) y x o) ∙ l);
+  born = λ p l. post_keeps (λ n. is_stranger n p) (λ n m. refl) y x o ∙ k.born p (sym (post_keeps (λ n. living n p) (λ n m. refl) y x o) ∙ l);
   rooted = λ p q e.
       let r = k.rooted p q (λ m. e (post_keeps (λ n. end_of n p q) (λ n m. refl) y x o ∙ m)) in
-      (post_keeps (λ n. living n p) (λ n m. refl) y x o ∙ r.0, post_keeps (λ n. held n q.node) (λ n m. refl) y x o ∙ r.1, λ nn. let d = r.2 (sym (post_keeps (λ n. same_name q.node n.mint.name) (λ n m. refl) y x o) ∙ nn) in (post_keeps (λ n. never n q) (λ n m. refl) y x o ∙ d.0, d.1));
+      (post_keeps (λ n. living n p) (λ n m. refl) y x o ∙ r.0, post_keeps (λ n. held n q.node) (λ n m. refl) y x o ∙ r.1, λ nn. let d = r.2 (sym (post_keeps (λ n. same_name q.node n.mint.name) (λ n m. refl) y x o) ∙ nn) in (post_keeps (λ n. is_stranger n q) (λ n m. refl) y x o ∙ d.0, d.1));
 }
 
 -- an item that is no signal about a link
@@ -433,8 +433,8 @@ posts_other y x o none = record {
   grows = λ p h. post_keeps (λ n. over n p) (λ n m. refl) y x o ∙ h;
   draws = omega (arith, post_keeps (λ n. n.mint.unlink_ids) (λ n m. refl) y x o);
   routed = post_routed y x o;
-  nevers = λ p h. post_keeps (λ n. never n p) (λ n m. refl) y x o ∙ h;
-  home = λ k h. post_home y x o (λ e. home_plain (λ p. never o.node p) x none) h;
+  nevers = λ p h. post_keeps (λ n. is_stranger n p) (λ n m. refl) y x o ∙ h;
+  home = λ k h. post_home y x o (λ e. home_plain (λ p. is_stranger o.node p) x none) h;
   views = λ n b p q c r k. subst (λ a. Kept a c) (sym (post_view b y x o p q r (inr (none p q)) ∙ ap (more (view b o p q)) (none p q) ∙ side_path (more (view b o p q) []) (view b o p q) refl refl refl (append-nil _))) k;
 }
 
@@ -471,12 +471,12 @@ told_view b x y e s o p q reach false h =
         go false i = i
 
 -- a process links to another
-keeps_activate_at : (a b : Side) → a.gone ≡ false → (a.end ≡ End.Active → ⊥) → Kept a b → Kept (told End.Active (Says LinkSignal.Link) a) b
+keeps_activate_at : (a b : Side) → a.gone ≡ false → (a.end ≡ End.Active → ⊥) → Kept a b → Kept (told End.Active (Signals LinkSignal.Link) a) b
 keeps_activate_at a b g n k =
-    let P : Bool → Type 0 = λ v. Kept (record { end = a.end; gone = v; drawn = a.drawn; sent = a.sent }) b → Kept (record { end = End.Active; gone = v; drawn = a.drawn; sent = a.sent ++ (Says LinkSignal.Link) ∷ [] }) b in
+    let P : Bool → Type 0 = λ v. Kept (record { end = a.end; gone = v; drawn = a.drawn; sent = a.sent }) b → Kept (record { end = End.Active; gone = v; drawn = a.drawn; sent = a.sent ++ (Signals LinkSignal.Link) ∷ [] }) b in
     subst P (sym g) (go a.end n) k
   where
-    go : (e : End) → (e ≡ End.Active → ⊥) → Kept (record { end = e; gone = false; drawn = a.drawn; sent = a.sent }) b → Kept (record { end = End.Active; gone = false; drawn = a.drawn; sent = a.sent ++ (Says LinkSignal.Link) ∷ [] }) b
+    go : (e : End) → (e ≡ End.Active → ⊥) → Kept (record { end = e; gone = false; drawn = a.drawn; sent = a.sent }) b → Kept (record { end = End.Active; gone = false; drawn = a.drawn; sent = a.sent ++ (Signals LinkSignal.Link) ∷ [] }) b
     go End.None n k = keeps_link End.None false a.drawn a.sent b k
     go End.Active n k = absurd (n refl)
     go (End.Pending i) n k = keeps_link (End.Pending i) false a.drawn a.sent b k
@@ -486,24 +486,24 @@ at_pair P p q x y h k =
     let v = and_both (same_pid p x) (same_pid q y) h in
     subst (λ z. P z q) (sym (same_pid_true p x v.0)) (subst (λ z. P x z) (sym (same_pid_true q y v.1)) k)
 
-links_reached : (x y : Pid) (o : Work) → (same_name y.node o.node.mint.name ≡ true → (never o.node y ≡ false) × (same_pid x y ≡ false)) → living o.node x ≡ true → reaches o.node y.node ≡ true → (end_of o.node x y ≡ End.Active → ⊥) → Moves o (post_to y.node (Signalled (telling x y (Says LinkSignal.Link))) (set_end x y End.Active o))
+links_reached : (x y : Pid) (o : Work) → (same_name y.node o.node.mint.name ≡ true → (is_stranger o.node y ≡ false) × (same_pid x y ≡ false)) → living o.node x ≡ true → reaches o.node y.node ≡ true → (end_of o.node x y ≡ End.Active → ⊥) → Moves o (post_to y.node (Signalled (telling x y (Signals LinkSignal.Link))) (set_end x y End.Active o))
 links_reached x y o v l reach n = record {
-  sides = post_keeps (λ m. m.sides) (λ m u. refl) y.node (Signalled (telling x y (Says LinkSignal.Link))) (set_end x y End.Active o);
-  dialed = post_keeps (λ m. m.dialed) (λ m u. refl) y.node (Signalled (telling x y (Says LinkSignal.Link))) (set_end x y End.Active o);
-  name = post_keeps (λ m. m.mint.name) (λ m u. refl) y.node (Signalled (telling x y (Says LinkSignal.Link))) (set_end x y End.Active o);
-  keeps = λ k. post_kept y.node (Signalled (telling x y (Says LinkSignal.Link))) (set_end x y End.Active o) (set_rooted x y End.Active o k (λ h. (l, reach_held o.node y.node reach, v)));
-  grows = λ p h. post_keeps (λ m. over m p) (λ m u. refl) y.node (Signalled (telling x y (Says LinkSignal.Link))) (set_end x y End.Active o) ∙ h;
-  draws = omega (arith, post_keeps (λ m. m.mint.unlink_ids) (λ m u. refl) y.node (Signalled (telling x y (Says LinkSignal.Link))) (set_end x y End.Active o));
-  routed = λ a. post_routed y.node (Signalled (telling x y (Says LinkSignal.Link))) (set_end x y End.Active o) a;
-  nevers = λ p h. post_keeps (λ m. never m p) (λ m u. refl) y.node (Signalled (telling x y (Says LinkSignal.Link))) (set_end x y End.Active o) ∙ h;
-  home = λ k h. post_home y.node (Signalled (telling x y (Says LinkSignal.Link))) (set_end x y End.Active o) (λ e. let d = v e in home_said (λ p. never o.node p) x y (Says LinkSignal.Link) (k.born x l, d.0, d.1)) h;
+  sides = post_keeps (λ m. m.sides) (λ m u. refl) y.node (Signalled (telling x y (Signals LinkSignal.Link))) (set_end x y End.Active o);
+  dialed = post_keeps (λ m. m.dialed) (λ m u. refl) y.node (Signalled (telling x y (Signals LinkSignal.Link))) (set_end x y End.Active o);
+  name = post_keeps (λ m. m.mint.name) (λ m u. refl) y.node (Signalled (telling x y (Signals LinkSignal.Link))) (set_end x y End.Active o);
+  keeps = λ k. post_kept y.node (Signalled (telling x y (Signals LinkSignal.Link))) (set_end x y End.Active o) (set_rooted x y End.Active o k (λ h. (l, reach_held o.node y.node reach, v)));
+  grows = λ p h. post_keeps (λ m. over m p) (λ m u. refl) y.node (Signalled (telling x y (Signals LinkSignal.Link))) (set_end x y End.Active o) ∙ h;
+  draws = omega (arith, post_keeps (λ m. m.mint.unlink_ids) (λ m u. refl) y.node (Signalled (telling x y (Signals LinkSignal.Link))) (set_end x y End.Active o));
+  routed = λ a. post_routed y.node (Signalled (telling x y (Signals LinkSignal.Link))) (set_end x y End.Active o) a;
+  nevers = λ p h. post_keeps (λ m. is_stranger m p) (λ m u. refl) y.node (Signalled (telling x y (Signals LinkSignal.Link))) (set_end x y End.Active o) ∙ h;
+  home = λ k h. post_home y.node (Signalled (telling x y (Signals LinkSignal.Link))) (set_end x y End.Active o) (λ e. let d = v e in home_said (λ p. is_stranger o.node p) x y (Signals LinkSignal.Link) (k.born x l, d.0, d.1)) h;
   views = λ nk b p q c r k. go b p q c r k (same_pid p x && same_pid q y) refl;
 }
   where
-    go : (b : List LinkNews) (p q : Pid) (c : Side) → reaches o.node q.node ≡ true → Kept (view b o p q) c → (t : Bool) → (same_pid p x && same_pid q y) ≡ t → Kept (view b (post_to y.node (Signalled (telling x y (Says LinkSignal.Link))) (set_end x y End.Active o)) p q) c
-    go b p q c r k true h = subst (λ a. Kept a c) (sym (told_view b x y End.Active (Says LinkSignal.Link) o p q r true h))
+    go : (b : List LinkNews) (p q : Pid) (c : Side) → reaches o.node q.node ≡ true → Kept (view b o p q) c → (t : Bool) → (same_pid p x && same_pid q y) ≡ t → Kept (view b (post_to y.node (Signalled (telling x y (Signals LinkSignal.Link))) (set_end x y End.Active o)) p q) c
+    go b p q c r k true h = subst (λ a. Kept a c) (sym (told_view b x y End.Active (Signals LinkSignal.Link) o p q r true h))
         (keeps_activate_at (view b o p q) c (at_pair (λ u v. over o.node u ≡ false) p q x y h (not_over o.node x l)) (at_pair (λ u v. end_of o.node u v ≡ End.Active → ⊥) p q x y h n) k)
-    go b p q c r k false h = subst (λ a. Kept a c) (sym (told_view b x y End.Active (Says LinkSignal.Link) o p q r false h)) k
+    go b p q c r k false h = subst (λ a. Kept a c) (sym (told_view b x y End.Active (Signals LinkSignal.Link) o p q r false h)) k
 
 -- the partner's node isn't reached: no pair that is reached is meant
 apart_by_reach : (n : Node) (p q x y : Pid) → reaches n q.node ≡ true → reaches n y.node ≡ false → (same_pid p x && same_pid q y) ≡ false
@@ -530,16 +530,16 @@ removes_unreached x y o u = record {
   views = λ nk b p q c r k. subst (λ a. Kept a c) (sym (set_view b x y End.None o p q ∙ ap (λ t. ended_at t End.None (view b o p q)) (apart_by_reach o.node p q x y r u))) k;
 }
 
-pub link_news : (t : Bool) (x y : Pid) (o : Work) → (same_name y.node o.node.mint.name ≡ true → (never o.node y ≡ false) × (same_pid x y ≡ false)) → reaches o.node y.node ≡ t → living o.node x ≡ true → (end_of o.node x y ≡ End.Active → ⊥) → Moves o (link_new t x y o)
+pub link_news : (t : Bool) (x y : Pid) (o : Work) → (same_name y.node o.node.mint.name ≡ true → (is_stranger o.node y ≡ false) × (same_pid x y ≡ false)) → reaches o.node y.node ≡ t → living o.node x ≡ true → (end_of o.node x y ≡ End.Active → ⊥) → Moves o (link_new t x y o)
 link_news true x y o v r l n = links_reached x y o v l r n
 link_news false x y o v r l n = then o (set_end x y End.None o) (link_new false x y o) (removes_unreached x y o r) (link_exits x y noconnection (set_end x y End.None o) l)
 
-links_by : (e : End) (x y : Pid) (o : Work) → (same_name y.node o.node.mint.name ≡ true → (never o.node y ≡ false) × (same_pid x y ≡ false)) → end_of o.node x y ≡ e → living o.node x ≡ true → Moves o (link_by e x y o)
+links_by : (e : End) (x y : Pid) (o : Work) → (same_name y.node o.node.mint.name ≡ true → (is_stranger o.node y ≡ false) × (same_pid x y ≡ false)) → end_of o.node x y ≡ e → living o.node x ≡ true → Moves o (link_by e x y o)
 links_by End.None x y o v h l = link_news (reaches o.node y.node) x y o v refl l (λ a. let n : End.None ≡ End.Active = sym h ∙ a in cc)
 links_by End.Active x y o v h l = stays o
 links_by (End.Pending i) x y o v h l = link_news (reaches o.node y.node) x y o v refl l (λ a. let n : End.Pending i ≡ End.Active = sym h ∙ a in cc)
 
-pub links : (x y : Pid) (o : Work) → (same_name y.node o.node.mint.name ≡ true → never o.node y ≡ false) → living o.node x ≡ true → Moves o (link x y o)
+pub links : (x y : Pid) (o : Work) → (same_name y.node o.node.mint.name ≡ true → is_stranger o.node y ≡ false) → living o.node x ≡ true → Moves o (link x y o)
 links x y o v l = go (same_pid x y) refl
   where
     go : (t : Bool) → same_pid x y ≡ t → Moves o (cond t o (link_by (end_of o.node x y) x y o))
@@ -547,9 +547,9 @@ links x y o v l = go (same_pid x y) refl
     go false e = links_by (end_of o.node x y) x y o (λ i. (v i, e)) refl l
 
 -- a process unlinks
-keeps_unlink_at : (a b : Side) (j : ℕ) → a.gone ≡ false → a.end ≡ End.Active → a.drawn < j → Kept a b → Kept (record { end = End.Pending j; gone = a.gone; drawn = j; sent = a.sent ++ Says (LinkSignal.Unlink j) ∷ [] }) b
+keeps_unlink_at : (a b : Side) (j : ℕ) → a.gone ≡ false → a.end ≡ End.Active → a.drawn < j → Kept a b → Kept (record { end = End.Pending j; gone = a.gone; drawn = j; sent = a.sent ++ Signals (LinkSignal.Unlink j) ∷ [] }) b
 keeps_unlink_at a b j g e lt k =
-    let P : Bool → End → Type 0 = λ v u. Kept (record { end = u; gone = v; drawn = a.drawn; sent = a.sent }) b → Kept (record { end = End.Pending j; gone = v; drawn = j; sent = a.sent ++ Says (LinkSignal.Unlink j) ∷ [] }) b in
+    let P : Bool → End → Type 0 = λ v u. Kept (record { end = u; gone = v; drawn = a.drawn; sent = a.sent }) b → Kept (record { end = End.Pending j; gone = v; drawn = j; sent = a.sent ++ Signals (LinkSignal.Unlink j) ∷ [] }) b in
     subst (λ v. P v a.end) (sym g) (subst (λ u. P false u) (sym e) (keeps_unlink End.Active a.drawn j a.sent b lt)) k
 
 -- under any id above those drawn
@@ -563,23 +563,23 @@ pub unlinks_as : (x y : Pid) (o : Work) (j : ℕ) → living o.node x ≡ true �
 unlinks_as x y o j l e lt =
     let o0 = draw_unlink j o in
     record {
-      sides = post_keeps (λ m. m.sides) (λ m u. refl) y.node (Signalled (telling x y (Says (LinkSignal.Unlink j)))) (set_end x y (End.Pending j) o0);
-      dialed = post_keeps (λ m. m.dialed) (λ m u. refl) y.node (Signalled (telling x y (Says (LinkSignal.Unlink j)))) (set_end x y (End.Pending j) o0);
-      name = post_keeps (λ m. m.mint.name) (λ m u. refl) y.node (Signalled (telling x y (Says (LinkSignal.Unlink j)))) (set_end x y (End.Pending j) o0);
-      keeps = λ k. post_kept y.node (Signalled (telling x y (Says (LinkSignal.Unlink j)))) (set_end x y (End.Pending j) o0)
+      sides = post_keeps (λ m. m.sides) (λ m u. refl) y.node (Signalled (telling x y (Signals (LinkSignal.Unlink j)))) (set_end x y (End.Pending j) o0);
+      dialed = post_keeps (λ m. m.dialed) (λ m u. refl) y.node (Signalled (telling x y (Signals (LinkSignal.Unlink j)))) (set_end x y (End.Pending j) o0);
+      name = post_keeps (λ m. m.mint.name) (λ m u. refl) y.node (Signalled (telling x y (Signals (LinkSignal.Unlink j)))) (set_end x y (End.Pending j) o0);
+      keeps = λ k. post_kept y.node (Signalled (telling x y (Signals (LinkSignal.Unlink j)))) (set_end x y (End.Pending j) o0)
           (set_rooted x y (End.Pending j) o0 (record { born = k.born; rooted = k.rooted }) (λ h. k.rooted x y (λ a. let n : End.Active ≡ End.None = sym e ∙ a in cc)));
-      grows = λ p h. post_keeps (λ m. over m p) (λ m u. refl) y.node (Signalled (telling x y (Says (LinkSignal.Unlink j)))) (set_end x y (End.Pending j) o0) ∙ h;
-      draws = omega (arith, lt, post_keeps (λ m. m.mint.unlink_ids) (λ m u. refl) y.node (Signalled (telling x y (Says (LinkSignal.Unlink j)))) (set_end x y (End.Pending j) o0));
-      routed = λ a. post_routed y.node (Signalled (telling x y (Says (LinkSignal.Unlink j)))) (set_end x y (End.Pending j) o0) a;
-      nevers = λ p h. post_keeps (λ m. never m p) (λ m u. refl) y.node (Signalled (telling x y (Says (LinkSignal.Unlink j)))) (set_end x y (End.Pending j) o0) ∙ h;
-      home = λ k h. post_home y.node (Signalled (telling x y (Says (LinkSignal.Unlink j)))) (set_end x y (End.Pending j) o0) (λ i. let d = (k.rooted x y (λ a. let n : End.Active ≡ End.None = sym e ∙ a in cc)).2 i in home_said (λ p. never o.node p) x y (Says (LinkSignal.Unlink j)) (k.born x l, d.0, d.1)) h;
+      grows = λ p h. post_keeps (λ m. over m p) (λ m u. refl) y.node (Signalled (telling x y (Signals (LinkSignal.Unlink j)))) (set_end x y (End.Pending j) o0) ∙ h;
+      draws = omega (arith, lt, post_keeps (λ m. m.mint.unlink_ids) (λ m u. refl) y.node (Signalled (telling x y (Signals (LinkSignal.Unlink j)))) (set_end x y (End.Pending j) o0));
+      routed = λ a. post_routed y.node (Signalled (telling x y (Signals (LinkSignal.Unlink j)))) (set_end x y (End.Pending j) o0) a;
+      nevers = λ p h. post_keeps (λ m. is_stranger m p) (λ m u. refl) y.node (Signalled (telling x y (Signals (LinkSignal.Unlink j)))) (set_end x y (End.Pending j) o0) ∙ h;
+      home = λ k h. post_home y.node (Signalled (telling x y (Signals (LinkSignal.Unlink j)))) (set_end x y (End.Pending j) o0) (λ i. let d = (k.rooted x y (λ a. let n : End.Active ≡ End.None = sym e ∙ a in cc)).2 i in home_said (λ p. is_stranger o.node p) x y (Signals (LinkSignal.Unlink j)) (k.born x l, d.0, d.1)) h;
       views = λ nk b p q c r k. go b p q c r k (same_pid p x && same_pid q y) refl;
     }
   where
     go : (b : List LinkNews) (p q : Pid) (c : Side) → reaches o.node q.node ≡ true → Kept (view b o p q) c → (t : Bool) → (same_pid p x && same_pid q y) ≡ t → Kept (view b (unlink_at j x y o) p q) c
-    go b p q c r k true h = subst (λ a. Kept a c) (sym (told_view b x y (End.Pending j) (Says (LinkSignal.Unlink j)) (draw_unlink j o) p q r true h))
+    go b p q c r k true h = subst (λ a. Kept a c) (sym (told_view b x y (End.Pending j) (Signals (LinkSignal.Unlink j)) (draw_unlink j o) p q r true h))
         (keeps_unlink_at (view b o p q) c j (at_pair (λ u v. over o.node u ≡ false) p q x y h (not_over o.node x l)) (at_pair (λ u v. end_of o.node u v ≡ End.Active) p q x y h e) lt k)
-    go b p q c r k false h = subst (λ a. Kept a c) (sym (told_view b x y (End.Pending j) (Says (LinkSignal.Unlink j)) (draw_unlink j o) p q r false h)) (keeps_draw (view b o p q) c j lt k)
+    go b p q c r k false h = subst (λ a. Kept a c) (sym (told_view b x y (End.Pending j) (Signals (LinkSignal.Unlink j)) (draw_unlink j o) p q r false h)) (keeps_draw (view b o p q) c j lt k)
 
 -- a signal about a link is taken
 abbrev pub with_sent : Side → List LinkNews → Side
@@ -593,7 +593,7 @@ pub record Takes (x y : Pid) (s : LinkNews) (o o' : Work) : Type 0 where
   pub grows : (p : Pid) → over o.node p ≡ true → over o'.node p ≡ true
   pub draws : o.node.mint.unlink_ids ≤ o'.node.mint.unlink_ids
   pub routed : AllRouted o.node.sides (outgoing o) → AllRouted o'.node.sides (outgoing o')
-  pub nevers : (p : Pid) → never o.node p ≡ false → never o'.node p ≡ false
+  pub nevers : (p : Pid) → is_stranger o.node p ≡ false → is_stranger o'.node p ≡ false
   pub home : NodeKept o.node → held o.node y.node ≡ true → home_of o.node → home_of o'.node
   pub here : NodeKept o.node → held o.node y.node ≡ true → (b : List LinkNews) (c : Side) (L : List LinkNews) → reaches o.node y.node ≡ true → Kept (view b o x y) (with_sent c (s ∷ L)) → Kept (view b o' x y) (with_sent c L)
   pub others : NodeKept o.node → held o.node y.node ≡ true → (b : List LinkNews) (p q : Pid) (c : Side) → reaches o.node q.node ≡ true → (same_pid p x && same_pid q y) ≡ false → Kept (view b o p q) c → Kept (view b o' p q) c
@@ -657,7 +657,7 @@ replies_home : (z : Name) (f : Pid → Bool) (x y : Pid) (ss : List LinkNews) �
 replies_home z f x y [] hx hy = tt
 replies_home z f x y (s ∷ ss) hx hy = (λ e. let d = hy (ap (λ (u : Pid). same_name u.node z) (sym (telling_receiver x y s)) ∙ e) in home_said f x y s (hx, d.0, d.1), replies_home z f x y ss hx hy)
 
-takes_living : (x y : Pid) (s : LinkNews) (o : Work) → (same_name y.node o.node.mint.name ≡ true → (never o.node y ≡ false) × (same_pid x y ≡ false)) → never o.node x ≡ false → living o.node x ≡ true → Takes x y s o (post_all (replies x y (reply false s)) (set_end x y (heard (end_of o.node x y) s) o))
+takes_living : (x y : Pid) (s : LinkNews) (o : Work) → (same_name y.node o.node.mint.name ≡ true → (is_stranger o.node y ≡ false) × (same_pid x y ≡ false)) → is_stranger o.node x ≡ false → living o.node x ≡ true → Takes x y s o (post_all (replies x y (reply false s)) (set_end x y (heard (end_of o.node x y) s) o))
 takes_living x y s o v nx l =
     let e = heard (end_of o.node x y) s in
     let o1 = set_end x y e o in
@@ -670,8 +670,8 @@ takes_living x y s o v nx l =
       grows = λ p h. post_all_keeps (λ m. over m p) (λ m u. refl) es o1 ∙ h;
       draws = omega (arith, post_all_keeps (λ m. m.mint.unlink_ids) (λ m u. refl) es o1);
       routed = λ a. post_all_routed es o1 a;
-      nevers = λ p h. post_all_keeps (λ m. never m p) (λ m u. refl) es o1 ∙ h;
-      home = λ k h m. post_all_home es o1 (replies_home o.node.mint.name (λ p. never o.node p) x y (reply false s) nx v) m;
+      nevers = λ p h. post_all_keeps (λ m. is_stranger m p) (λ m u. refl) es o1 ∙ h;
+      home = λ k h m. post_all_home es o1 (replies_home o.node.mint.name (λ p. is_stranger o.node p) x y (reply false s) nx v) m;
       here = λ n h b c L r k. subst (λ a. Kept a (with_sent c L))
           (sym (replied_here b x y (reply false s) o1 r ∙ ap (λ a. more a (reply false s)) (set_view b x y e o x y ∙ ap (λ t. ended_at t e (view b o x y)) (one_pair x y))))
           (takes_at false (view b o x y) c s L (not_over o.node x l) k);
@@ -679,7 +679,7 @@ takes_living x y s o v nx l =
           (sym (replied_there b x y (reply false s) o1 p q r t ∙ set_view b x y e o p q ∙ ap (λ t. ended_at t e (view b o p q)) t)) k;
     }
 
-takes_over : (x y : Pid) (s : LinkNews) (o : Work) → (same_name y.node o.node.mint.name ≡ true → (never o.node y ≡ false) × (same_pid x y ≡ false)) → never o.node x ≡ false → over o.node x ≡ true → Takes x y s o (post_all (replies x y (reply true s)) o)
+takes_over : (x y : Pid) (s : LinkNews) (o : Work) → (same_name y.node o.node.mint.name ≡ true → (is_stranger o.node y ≡ false) × (same_pid x y ≡ false)) → is_stranger o.node x ≡ false → over o.node x ≡ true → Takes x y s o (post_all (replies x y (reply true s)) o)
 takes_over x y s o v nx l =
     let es = replies x y (reply true s) in
     record {
@@ -690,22 +690,22 @@ takes_over x y s o v nx l =
       grows = λ p h. post_all_keeps (λ m. over m p) (λ m u. refl) es o ∙ h;
       draws = omega (arith, post_all_keeps (λ m. m.mint.unlink_ids) (λ m u. refl) es o);
       routed = λ a. post_all_routed es o a;
-      nevers = λ p h. post_all_keeps (λ m. never m p) (λ m u. refl) es o ∙ h;
-      home = λ k h m. post_all_home es o (replies_home o.node.mint.name (λ p. never o.node p) x y (reply true s) nx v) m;
+      nevers = λ p h. post_all_keeps (λ m. is_stranger m p) (λ m u. refl) es o ∙ h;
+      home = λ k h m. post_all_home es o (replies_home o.node.mint.name (λ p. is_stranger o.node p) x y (reply true s) nx v) m;
       here = λ n h b c L r k. subst (λ a. Kept a (with_sent c L)) (sym (replied_here b x y (reply true s) o r)) (takes_at true (view b o x y) c s L l k);
       others = λ n h b p q c r t k. subst (λ a. Kept a c) (sym (replied_there b x y (reply true s) o p q r t)) k;
     }
 
 exit_moves : (e : End) (s : LinkNews) (x y : Pid) (o : Work) → living o.node x ≡ true → Moves o (exit_follows e s x y o)
-exit_moves e (Says LinkSignal.Link) x y o l = stays o
-exit_moves e (Says (LinkSignal.Unlink j)) x y o l = stays o
-exit_moves e (Says (LinkSignal.Ack j)) x y o l = stays o
-exit_moves End.None (Exits r) x y o l = stays o
-exit_moves End.Active (Exits r) x y o l = link_exits x y r o l
-exit_moves (End.Pending i) (Exits r) x y o l = stays o
+exit_moves e (Signals LinkSignal.Link) x y o l = stays o
+exit_moves e (Signals (LinkSignal.Unlink j)) x y o l = stays o
+exit_moves e (Signals (LinkSignal.Ack j)) x y o l = stays o
+exit_moves End.None (Exited r) x y o l = stays o
+exit_moves End.Active (Exited r) x y o l = link_exits x y r o l
+exit_moves (End.Pending i) (Exited r) x y o l = stays o
 
 -- whoever was spawned takes it by the rules of the pair
-pub takes_link : (x y : Pid) (s : LinkNews) (o : Work) → (same_name y.node o.node.mint.name ≡ true → (never o.node y ≡ false) × (same_pid x y ≡ false)) → never o.node x ≡ false → Takes x y s o (take_link x y s o)
+pub takes_link : (x y : Pid) (s : LinkNews) (o : Work) → (same_name y.node o.node.mint.name ≡ true → (is_stranger o.node y ≡ false) × (same_pid x y ≡ false)) → is_stranger o.node x ≡ false → Takes x y s o (take_link x y s o)
 takes_link x y s o u v = go (living o.node x) refl
   where
     go : (t : Bool) → living o.node x ≡ t → Takes x y s o (take_link_by t x y s o)
@@ -714,4 +714,4 @@ takes_link x y s o u v = go (living o.node x) refl
         let o2 = post_all (replies x y (reply false s)) o1 in
         takes_then x y s o o2 (exit_follows (end_of o.node x y) s x y o2) (takes_living x y s o u v l)
         (exit_moves (end_of o.node x y) s x y o2 (post_all_keeps (λ m. living m x) (λ m u. refl) (replies x y (reply false s)) o1 ∙ l))
-    go false l = takes_over x y s o u v (ap (λ t. not t && not (never o.node x)) l ∙ ap not v)
+    go false l = takes_over x y s o u v (ap (λ t. not t && not (is_stranger o.node x)) l ∙ ap not v)

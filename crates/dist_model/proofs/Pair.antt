@@ -1,21 +1,21 @@
 -- Two processes and their link, as each side of it is seen: words for the invariant of a pair.
 use Rattle.std.specs.Prelude.{ℕ, ◌+◌, Bool, true, false, cond, List, [], ◌∷◌, ◌++◌, ◌==◌, ◌||◌}
-use Rattle.dist_model.specs.Links.{Exits, LinkNews, Says, drained, heard, reply}
+use Rattle.dist_model.specs.Links.{Exited, LinkNews, Signals, drained, heard, reply}
 use Rattle.erl_term.specs.Data.{Data}
 use Rattle.link_core.specs.declared.end.End.{End}
 use Rattle.link_core.specs.declared.end.LinkSignal.{LinkSignal}
 
 abbrev pub is_link : LinkNews → Bool
-is_link (Says LinkSignal.Link) = true
-is_link (Says (LinkSignal.Unlink j)) = false
-is_link (Says (LinkSignal.Ack j)) = false
-is_link (Exits r) = false
+is_link (Signals LinkSignal.Link) = true
+is_link (Signals (LinkSignal.Unlink j)) = false
+is_link (Signals (LinkSignal.Ack j)) = false
+is_link (Exited r) = false
 
 abbrev pub is_exit : LinkNews → Bool
-is_exit (Says LinkSignal.Link) = false
-is_exit (Says (LinkSignal.Unlink j)) = false
-is_exit (Says (LinkSignal.Ack j)) = false
-is_exit (Exits r) = true
+is_exit (Signals LinkSignal.Link) = false
+is_exit (Signals (LinkSignal.Unlink j)) = false
+is_exit (Signals (LinkSignal.Ack j)) = false
+is_exit (Exited r) = true
 
 abbrev pub has_link : List LinkNews → Bool
 has_link [] = false
@@ -33,10 +33,10 @@ pub data Word : Type 0 where
 
 -- the word that stands after w, if any, else w
 abbrev pub said : Word → LinkNews → Word
-said w (Says LinkSignal.Link) = Linked
-said w (Says (LinkSignal.Unlink j)) = Unlinked j
-said w (Says (LinkSignal.Ack j)) = w
-said w (Exits r) = w
+said w (Signals LinkSignal.Link) = Linked
+said w (Signals (LinkSignal.Unlink j)) = Unlinked j
+said w (Signals (LinkSignal.Ack j)) = w
+said w (Exited r) = w
 
 abbrev pub later : Word → Word → Word
 later w Silent = w
@@ -48,16 +48,16 @@ last_word [] = Silent
 last_word (s ∷ L) = later (said Silent s) (last_word L)
 
 abbrev pub unlink_of : ℕ → LinkNews → ℕ
-unlink_of i (Says LinkSignal.Link) = 0
-unlink_of i (Says (LinkSignal.Unlink j)) = cond (i == j) 1 0
-unlink_of i (Says (LinkSignal.Ack j)) = 0
-unlink_of i (Exits r) = 0
+unlink_of i (Signals LinkSignal.Link) = 0
+unlink_of i (Signals (LinkSignal.Unlink j)) = cond (i == j) 1 0
+unlink_of i (Signals (LinkSignal.Ack j)) = 0
+unlink_of i (Exited r) = 0
 
 abbrev pub ack_of : ℕ → LinkNews → ℕ
-ack_of i (Says LinkSignal.Link) = 0
-ack_of i (Says (LinkSignal.Unlink j)) = 0
-ack_of i (Says (LinkSignal.Ack j)) = cond (i == j) 1 0
-ack_of i (Exits r) = 0
+ack_of i (Signals LinkSignal.Link) = 0
+ack_of i (Signals (LinkSignal.Unlink j)) = 0
+ack_of i (Signals (LinkSignal.Ack j)) = cond (i == j) 1 0
+ack_of i (Exited r) = 0
 
 -- how many UNLINK_ID i, how many ACK i a list holds
 abbrev pub unlinks : ℕ → List LinkNews → ℕ
@@ -77,9 +77,9 @@ pub record Side : Type 0 where
 
 -- a call of a process that has ended does nothing
 abbrev pub link_end : End → Side → Side
-link_end End.None a = record { end = End.Active; gone = a.gone; drawn = a.drawn; sent = a.sent ++ (Says LinkSignal.Link) ∷ [] }
+link_end End.None a = record { end = End.Active; gone = a.gone; drawn = a.drawn; sent = a.sent ++ (Signals LinkSignal.Link) ∷ [] }
 link_end End.Active a = a
-link_end (End.Pending i) a = record { end = End.Active; gone = a.gone; drawn = a.drawn; sent = a.sent ++ (Says LinkSignal.Link) ∷ [] }
+link_end (End.Pending i) a = record { end = End.Active; gone = a.gone; drawn = a.drawn; sent = a.sent ++ (Signals LinkSignal.Link) ∷ [] }
 
 abbrev pub linked_side : Bool → Side → Side
 linked_side true a = a
@@ -88,12 +88,12 @@ linked_side false a = link_end a.end a
 -- the id has to be above all that were drawn
 abbrev pub unlink_end : End → ℕ → Side → Side
 unlink_end End.None j a = a
-unlink_end End.Active j a = record { end = End.Pending j; gone = a.gone; drawn = j; sent = a.sent ++ Says (LinkSignal.Unlink j) ∷ [] }
+unlink_end End.Active j a = record { end = End.Pending j; gone = a.gone; drawn = j; sent = a.sent ++ Signals (LinkSignal.Unlink j) ∷ [] }
 unlink_end (End.Pending i) j a = a
 
 abbrev pub farewell : End → Data → List LinkNews
 farewell End.None r = []
-farewell End.Active r = Exits r ∷ []
+farewell End.Active r = Exited r ∷ []
 farewell (End.Pending i) r = []
 
 abbrev pub finished : Bool → Data → Side → Side

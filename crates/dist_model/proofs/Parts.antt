@@ -10,16 +10,16 @@ use Rattle.dist_model.specs.Calls.{acting, call, spawn_life, toward, trapping, w
 use Rattle.dist_model.specs.Commands.{Outcome}
 use Rattle.dist_model.specs.declared.command.Command.{Command}
 use Rattle.dist_model.specs.Downs.{down_in}
-use Rattle.dist_model.specs.Exits.{carry_out, finish, link_exit, linked_exit, sent_exit}
+use Rattle.dist_model.specs.Exits.{carry_out, end_process, link_exit, linked_exit, sent_exit}
 use Rattle.dist_model.specs.Fits.{fits}
 use Rattle.dist_model.specs.Items.{Handshake, Item, Signalled, Tick}
 use Rattle.dist_model.specs.Linking.{exit_follows, link_by, link_new, take_link, take_link_by, unlink_by}
-use Rattle.dist_model.specs.Links.{Exits, LinkNews, Says, heard, noconnection, noproc, reply}
+use Rattle.dist_model.specs.Links.{Exited, LinkNews, Signals, heard, noconnection, noproc, reply}
 use Rattle.dist_model.proofs.Records.{sweep_link, sweep_registered, sweep_watch}
 use Rattle.dist_model.specs.Losses.{registered_by, sweep_end, watch_to}
 use Rattle.dist_model.specs.Monitoring.{register, unregister, unwatch}
 use Rattle.dist_model.specs.Names.{Name, same_name, same_pid}
-use Rattle.dist_model.specs.Node.{Life, Living, Node, end_of, is_living_life, living, never, reaches, traps_life}
+use Rattle.dist_model.specs.Node.{Life, Living, Node, end_of, is_living_life, living, is_stranger, reaches, traps_life}
 use Rattle.dist_model.specs.Taking.{take_item}
 use Rattle.dist_model.specs.Work.{Work, at_work, draw, post, post_all, put, report, set_end, set_life}
 use Rattle.dist_model.specs.declared.report.Effect.{Effect}
@@ -67,7 +67,7 @@ pub record Closed (rules : Rules) (X : Work → Type 0) : Type 0 where
   pub life_set : (p : Pid) (l : Option Life) (o : Work) → is_living_life l ≡ living o.node p → X o → X (record o { node = record (o.node) { lives = set_life o.node.lives p l } })
   pub message : (p : Pid) (m : Data) (o : Work) → ((r : Reference) → down_in r p m ≡ []) → X o → X (put p m o)
   pub reacted : (p q : Pid) (x : Data) (o : Work) → rules.Reacts p q x → X o → X (report (Effect.LinkExit p q x) o)
-  pub finished : (p : Pid) (x : Data) (o : Work) → X o → X (finish p x o)
+  pub finished : (p : Pid) (x : Data) (o : Work) → X o → X (end_process p x o)
   pub registers : (r : Reference) (m : Monitor) (o : Work) → living o.node m.target ≡ true → rules.Joins r m → X o → X (register r m o)
   pub unregisters : (r : Reference) (m : Monitor) (o : Work) → fm.get o.node.registered r ≡ Some m → rules.Drops r m → X o → X (unregister r o)
   pub ended : (r : Reference) (m : Monitor) (x : Data) (o : Work) → fm.get o.node.watches r ≡ Some m → rules.Tells r m x → X o → X (put m.owner (down_term r m.target x) (unwatch r o))
@@ -114,21 +114,21 @@ module _ (rules : Rules) (X : Work → Type 0) (c : Closed rules X) where
   link_exit_kept p q x o h k = exit_kept (traps_life (fm.get o.node.lives p)) (linked_exit p q x) p (report (Effect.LinkExit p q x) o) (c.reacted p q x o h k)
 
   -- a word of a link is heard
-  follows_kept : (e : End) (s : LinkNews) (p q : Pid) (o : Work) → ((x : Data) → s ≡ Exits x → e ≡ End.Active → rules.Reacts p q x) → X o → X (exit_follows e s p q o)
-  follows_kept e (Says s) p q o h k = k
-  follows_kept End.None (Exits x) p q o h k = k
-  follows_kept End.Active (Exits x) p q o h k = link_exit_kept p q x o (h x refl refl) k
-  follows_kept (End.Pending i) (Exits x) p q o h k = k
+  follows_kept : (e : End) (s : LinkNews) (p q : Pid) (o : Work) → ((x : Data) → s ≡ Exited x → e ≡ End.Active → rules.Reacts p q x) → X o → X (exit_follows e s p q o)
+  follows_kept e (Signals s) p q o h k = k
+  follows_kept End.None (Exited x) p q o h k = k
+  follows_kept End.Active (Exited x) p q o h k = link_exit_kept p q x o (h x refl refl) k
+  follows_kept (End.Pending i) (Exited x) p q o h k = k
 
-  replies_said : (g : Bool) (s : LinkNews) (p q : Pid) → (g ≡ true → s ≡ Says LinkSignal.Link → rules.Says (Signal.Exit p q noproc)) → AllSaid (replies p q (reply g s))
-  replies_said true (Says LinkSignal.Link) p q h = (h refl refl, tt)
-  replies_said false (Says LinkSignal.Link) p q h = tt
-  replies_said g (Says (LinkSignal.Unlink i)) p q h = (c.plain (Signal.UnlinkIdAck i p q) refl, tt)
-  replies_said g (Says (LinkSignal.Ack i)) p q h = tt
-  replies_said g (Exits x) p q h = tt
+  replies_said : (g : Bool) (s : LinkNews) (p q : Pid) → (g ≡ true → s ≡ Signals LinkSignal.Link → rules.Says (Signal.Exit p q noproc)) → AllSaid (replies p q (reply g s))
+  replies_said true (Signals LinkSignal.Link) p q h = (h refl refl, tt)
+  replies_said false (Signals LinkSignal.Link) p q h = tt
+  replies_said g (Signals (LinkSignal.Unlink i)) p q h = (c.plain (Signal.UnlinkIdAck i p q) refl, tt)
+  replies_said g (Signals (LinkSignal.Ack i)) p q h = tt
+  replies_said g (Exited x) p q h = tt
 
-  take_link_kept : (p q : Pid) (s : LinkNews) (o : Work) → (s ≡ Says LinkSignal.Link → living o.node p ≡ false → rules.Says (Signal.Exit p q noproc))
-      → ((x : Data) → s ≡ Exits x → living o.node p ≡ true → end_of o.node p q ≡ End.Active → rules.Reacts p q x) → X o → X (take_link p q s o)
+  take_link_kept : (p q : Pid) (s : LinkNews) (o : Work) → (s ≡ Signals LinkSignal.Link → living o.node p ≡ false → rules.Says (Signal.Exit p q noproc))
+      → ((x : Data) → s ≡ Exited x → living o.node p ≡ true → end_of o.node p q ≡ End.Active → rules.Reacts p q x) → X o → X (take_link p q s o)
   take_link_kept p q s o gone acts k = go (living o.node p) refl
     where
       go : (b : Bool) → living o.node p ≡ b → X (take_link_by b p q s o)
@@ -143,14 +143,14 @@ module _ (rules : Rules) (X : Work → Type 0) (c : Closed rules X) where
   cond_kept false x y h k = k refl
 
   pub item_kept : (i : Item) (o : Work) → Reasons rules X i o → X o → X (take_item i o)
-  item_kept (Signalled (Signal.Link q p)) o h k = take_link_kept p q (Says LinkSignal.Link) o (λ e. h.gone p q refl) (λ x e. cc) k
-  item_kept (Signalled (Signal.Exit q p x)) o h k = take_link_kept p q (Exits x) o (λ e. cc) (λ z e. h.acts p q z (ap (λ w. Signalled (Signal.Exit q p (reason_in x w))) e)) k
+  item_kept (Signalled (Signal.Link q p)) o h k = take_link_kept p q (Signals LinkSignal.Link) o (λ e. h.gone p q refl) (λ x e. cc) k
+  item_kept (Signalled (Signal.Exit q p x)) o h k = take_link_kept p q (Exited x) o (λ e. cc) (λ z e. h.acts p q z (ap (λ w. Signalled (Signal.Exit q p (reason_in x w))) e)) k
     where
       reason_in : Data → LinkNews → Data
-      reason_in d (Says s) = d
-      reason_in d (Exits z) = z
-  item_kept (Signalled (Signal.UnlinkId i q p)) o h k = take_link_kept p q (Says (LinkSignal.Unlink i)) o (λ e. cc) (λ x e. cc) k
-  item_kept (Signalled (Signal.UnlinkIdAck i q p)) o h k = take_link_kept p q (Says (LinkSignal.Ack i)) o (λ e. cc) (λ x e. cc) k
+      reason_in d (Signals s) = d
+      reason_in d (Exited z) = z
+  item_kept (Signalled (Signal.UnlinkId i q p)) o h k = take_link_kept p q (Signals (LinkSignal.Unlink i)) o (λ e. cc) (λ x e. cc) k
+  item_kept (Signalled (Signal.UnlinkIdAck i q p)) o h k = take_link_kept p q (Signals (LinkSignal.Ack i)) o (λ e. cc) (λ x e. cc) k
   item_kept (Signalled (Signal.Send p m)) o h k = cond_kept (living o.node p) _ o (λ l. h.sent p m refl) (λ l. k)
   item_kept (Signalled (Signal.Exit2 q p x)) o h k = cond_kept (living o.node p) _ o (λ l. exit_kept (traps_life (fm.get o.node.lives p)) (sent_exit p q x) p o k) (λ l. k)
   item_kept (Signalled (Signal.Monitor p q r)) o h k = cond_kept (living o.node q) _ _ (λ l. c.registers r (monitor_of p q) o l (h.joins p q r refl l) k) (λ l. c.posted (Signal.MonitorExit q p r noproc) o (h.nobody p q r refl l) k)
@@ -182,7 +182,7 @@ module _ (rules : Rules) (X : Work → Type 0) (c : Closed rules X) where
 
   module _ (n : Node) (k : X (at_work n)) where
     pub acts_kept : (p q : Pid) (o : Outcome) → (living n p ≡ true → IfGoes o X) → IfGoes (acting n p (toward n q o)) X
-    acts_kept p q o h = if_cond (living n p) (toward n q o) Refusal.NoSuchProcess X (λ l. if_not (same_name q.node n.mint.name && never n q) o Refusal.Forged X (h l))
+    acts_kept p q o h = if_cond (living n p) (toward n q o) Refusal.NoSuchProcess X (λ l. if_not (same_name q.node n.mint.name && is_stranger n q) o Refusal.Forged X (h l))
 
     living_trapped : (l : Option Life) (b : Bool) → is_living_life (trapping l b) ≡ is_living_life l
     living_trapped None b = refl

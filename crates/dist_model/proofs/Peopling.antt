@@ -28,16 +28,16 @@ use Rattle.dist_model.specs.Commands.{Accepts, Outcome, Refuses}
 use Rattle.dist_model.specs.declared.command.Command.{Command}
 use Rattle.dist_model.specs.Dialing.{dial, has_name}
 use Rattle.dist_model.proofs.Leaving.{exits_in}
-use Rattle.dist_model.specs.Exits.{demonitors, finish, monitor_exits}
+use Rattle.dist_model.specs.Exits.{demonitors, end_process, monitor_exits}
 use Rattle.dist_model.specs.Handshake.{set_state, with_side, write}
 use Rattle.dist_model.specs.Incarnations.{start, started, stop, stopped}
 use Rattle.dist_model.specs.Items.{Item, Signalled, receiver_of}
 use Rattle.dist_model.specs.Links.{noconnection}
 use Rattle.dist_model.proofs.Records.{has_records, least_as, sweep_link}
-use Rattle.dist_model.specs.Losses.{any_side, close, link_to, lose, parked_by, parked_goes, sweep, sweep_by, swept}
+use Rattle.dist_model.specs.Losses.{any_side, close_side, link_to, lose, released_by, release_parked, sweep, sweep_by, close_if_swept}
 use Rattle.dist_model.specs.Monitoring.{demonitor_by, monitor, unwatch, watch}
 use Rattle.dist_model.specs.Names.{Name, same_name, same_pid}
-use Rattle.dist_model.specs.Node.{Ended, Life, Living, Node, is_living_life, living, never, reaches, route, side_where}
+use Rattle.dist_model.specs.Node.{Ended, Life, Living, Node, is_living_life, living, is_stranger, reaches, route, side_where}
 use Rattle.dist_model.specs.Runs.{Always, Goes, Runs, new_node, opening}
 use Rattle.dist_model.specs.Sides.{in_state, Accepting, Asked, AwaitsAck, AwaitsChallenge, AwaitsStatus, Gone, Losing, Parked, State, TrunkSide, Up, is_gone, is_losing, is_parked}
 use Rattle.dist_model.specs.Work.{Work, at_work, delivered, draw, keep_local, post, post_all, post_to, put, send_on, set_life}
@@ -58,7 +58,7 @@ use Rattle.monitor_core.specs.declared.monitor.Monitor.{Monitor}
 
 pub record Peopled (n : Node) : Type 0 where
   pub alive : (p : Pid) → living n p ≡ true → (n.up ≡ true) × (p.creation ≡ n.mint.creation)
-  pub kept : (p : Pid) → n.up ≡ true → p.creation ≡ n.mint.creation → never n p ≡ false → is_some (fm.get n.lives p) ≡ true
+  pub kept : (p : Pid) → n.up ≡ true → p.creation ≡ n.mint.creation → is_stranger n p ≡ false → is_some (fm.get n.lives p) ≡ true
   pub down : n.up ≡ false → (n.lives ≡ fm.empty) × (n.ends ≡ fm.empty) × (n.watches ≡ fm.empty) × (n.registered ≡ fm.empty)
 
 -- what becomes of a node's processes where none is spawned: those that it keeps it goes on to keep, and none comes to life;
@@ -149,7 +149,7 @@ module _ (n : Node) (l : List Item) where
   putted p m o k = let v = lived p (delivered (fm.get o.node.lives p) m) o (living_delivered (fm.get o.node.lives p) m) k in
       record { up = v.up; name = v.name; creation = v.creation; pids = v.pids; keeps = v.keeps; dies = v.dies; grows = v.grows }
 
-  finished : (p : Pid) (x : Data) (o : Work) → X o → X (finish p x o)
+  finished : (p : Pid) (x : Data) (o : Work) → X o → X (end_process p x o)
   finished p x o k =
       let ss = exits_in p x (fm.entries o.node.ends) ++ monitor_exits p x (fm.entries o.node.registered) ++ demonitors p
       (fm.entries o.node.watches) in
@@ -246,7 +246,7 @@ module _ (n : Node) (l : List Item) where
     called (Command.Link p q) ns = plain (Command.Link p q) ns (λ a b i. cc) (λ a b i. cc)
     called (Command.Unlink p q) ns = plain (Command.Unlink p q) ns (λ a b i. cc) (λ a b i. cc)
     called (Command.Monitor p q) ns = if_cond (living n p) _ Refusal.NoSuchProcess X
-        (λ l. if_not (same_name q.node n.mint.name && never n q) _ Refusal.Forged X
+        (λ l. if_not (same_name q.node n.mint.name && is_stranger n q) _ Refusal.Forged X
         (if_drawn (id_of n.mint kind.Reference) _ X (λ id i. monitors p q id)))
     called (Command.Demonitor p r) ns = if_cond (living n p) _ Refusal.NoSuchProcess X (λ l. demonitored p r (fm.get n.watches r))
     called (Command.Trap p b) ns = plain (Command.Trap p b) ns (λ a c i. cc) (λ a c i. cc)
@@ -272,7 +272,7 @@ module _ (n : Node) (l : List Item) where
         (if_not (not (nat_lt (n.dialed + 1) (2 ^ 64))) _ Refusal.IdsUsedUp X
         (aside n _ refl refl refl refl refl (no_more n.local) start))))
 
-    unparked_by : (v : State) (t : TrunkId) (s : TrunkSide) (o : Work) → X o → X (parked_by v t s o)
+    unparked_by : (v : State) (t : TrunkId) (s : TrunkSide) (o : Work) → X o → X (released_by v t s o)
     unparked_by (Parked w) t s o k = sided t (in_state (Accepting w) s) o k
     unparked_by (AwaitsStatus w) t s o k = k
     unparked_by (AwaitsChallenge w) t s o k = k
@@ -283,11 +283,11 @@ module _ (n : Node) (l : List Item) where
     unparked_by Losing t s o k = k
     unparked_by Gone t s o k = k
 
-    unparked : (d : Option (TrunkId × TrunkSide)) (o : Work) → X o → X (parked_goes d o)
+    unparked : (d : Option (TrunkId × TrunkSide)) (o : Work) → X o → X (release_parked d o)
     unparked None o k = k
     unparked (Some e) o k = unparked_by e.1.state e.0 e.1 o k
 
-    closes : (b : Bool) (t : TrunkId) (s : TrunkSide) (o : Work) → X o → X (cond b o (close t s o))
+    closes : (b : Bool) (t : TrunkId) (s : TrunkSide) (o : Work) → X o → X (cond b o (close_side t s o))
     closes true t s o k = k
     closes false t s o k = let o1 = set_state t s Gone o in unparked (side_where is_parked s.peer (fm.entries o1.node.sides)) o1
         (sided t (in_state Gone s) o k)
@@ -297,7 +297,7 @@ module _ (n : Node) (l : List Item) where
     sweeps (Some d) =
         let y = d.1.peer in
         let o1 = sweep_link (link_to y (fm.entries n.ends)) y (at_work n) in
-        subst (λ z. X (swept d.0 d.1 z)) (sym (least_as y (at_work n))) (closes (has_records y o1.node) d.0 d.1 o1
+        subst (λ z. X (close_if_swept d.0 d.1 z)) (sym (least_as y (at_work n))) (closes (has_records y o1.node) d.0 d.1 o1
         (link_swept free X closed (link_to y (fm.entries n.ends)) y (at_work n) (λ e i a. tt)
         (λ v l. ((watch_found y n.watches v l).0, tt)) (λ v l. ((registered_found y n.registered v l).0, tt)) start))
 
@@ -312,7 +312,7 @@ begin n = record { up = refl; name = refl; creation = refl; pids = refl; keeps =
 
 -- ---- each event keeps it
 
-never_as : (n m : Node) (l : List Item) → Lasts n l m → (p : Pid) → never m p ≡ never n p
+never_as : (n m : Node) (l : List Item) → Lasts n l m → (p : Pid) → is_stranger m p ≡ is_stranger n p
 never_as n m l k p = λ i. not (same_name p.node (k.name i)) || nat_lt (k.creation i) p.creation
     || (p.creation == k.creation i && nat_lt (k.pids i) p.id) || p.id == 0 || not (p.serial == 0)
 
@@ -384,7 +384,7 @@ nobody : (n : Node) (p : Pid) → n.lives ≡ fm.empty → living n p ≡ true �
 nobody n p e l = let c : false ≡ true = sym (ap is_living_life (ap (λ z. fm.get z p) e ∙ fm.get-empty pid_cmp p)) ∙ l in cc
 
 -- of an incarnation that has spawned nobody each process is to come
-unspawned : (n : Node) (p : Pid) → n.mint.pids ≡ 0 → p.creation ≡ n.mint.creation → never n p ≡ false → ⊥
+unspawned : (n : Node) (p : Pid) → n.mint.pids ≡ 0 → p.creation ≡ n.mint.creation → is_stranger n p ≡ false → ⊥
 unspawned n p z c b =
     let v = five (not (same_name p.node n.mint.name)) (nat_lt n.mint.creation p.creation)
     (p.creation == n.mint.creation && nat_lt n.mint.pids p.id) (p.id == 0) (not (p.serial == 0)) b in

@@ -28,18 +28,18 @@ use Rattle.dist_model.specs.Commands.{Accepts, Outcome, Refuses, with_id}
 use Rattle.dist_model.specs.declared.command.Command.{Command}
 use Rattle.dist_model.specs.Dialing.{dial, has_name}
 use Rattle.dist_model.proofs.Leaving.{exits_in, exits_cons}
-use Rattle.dist_model.specs.Exits.{carry_out, demonitors, finish, link_exit, linked_exit, monitor_exits, sent_exit}
+use Rattle.dist_model.specs.Exits.{carry_out, demonitors, end_process, link_exit, linked_exit, monitor_exits, sent_exit}
 use Rattle.dist_model.specs.Fits.{fits}
-use Rattle.dist_model.specs.Handshake.{challenge, end_up, go_on, handshake_at, set_state, write}
+use Rattle.dist_model.specs.Handshake.{challenge, up_is_lost, challenge_or_park, handshake_at, set_state, write}
 use Rattle.dist_model.specs.Incarnations.{start, stop}
 use Rattle.dist_model.specs.Items.{Handshake, Item, Signalled, Tick, receiver_of, telling}
 use Rattle.dist_model.specs.Linking.{exit_follows, link_by, link_new, take_link, take_link_by, unlink_by}
-use Rattle.dist_model.specs.Links.{Exits, LinkNews, Says, heard, noconnection, noproc, reply}
+use Rattle.dist_model.specs.Links.{Exited, LinkNews, Signals, heard, noconnection, noproc, reply}
 use Rattle.dist_model.proofs.Records.{has_records, least_as, sweep_link, sweep_registered, sweep_watch}
-use Rattle.dist_model.specs.Losses.{any_side, link_to, lose, lose_at, parked_by, parked_goes, registered_by, sweep, sweep_by, sweep_end, swept, watch_to}
+use Rattle.dist_model.specs.Losses.{any_side, link_to, lose, lose_at, released_by, release_parked, registered_by, sweep, sweep_by, sweep_end, close_if_swept, watch_to}
 use Rattle.dist_model.specs.Monitoring.{demonitor_by, register, unregister, unwatch, watch}
 use Rattle.dist_model.specs.Names.{Name, place_cmp, same_name, same_pid}
-use Rattle.dist_model.specs.Node.{Node, end_of, living, never, reaches, route, side_where, traps_life}
+use Rattle.dist_model.specs.Node.{Node, end_of, living, is_stranger, reaches, route, side_where, traps_life}
 use Rattle.dist_model.specs.Seen.{end_between}
 use Rattle.dist_model.specs.Sides.{Accepting, Asked, AwaitsAck, AwaitsChallenge, AwaitsStatus, Gone, Losing, Parked, State, TrunkSide, Up, is_dialing, is_gone, is_losing, is_parked, is_up, is_waiting, is_over}
 use Rattle.dist_model.specs.Taking.{take_item}
@@ -151,7 +151,7 @@ calm_post_all (e ∷ es) o p q h = calm_post (receiver_of e).node (Signalled e) 
 pub calm_put : (x : Pid) (t : Data) (o : Work) → Calm o (put x t o)
 calm_put x t o p q h = calm_last o.effects (Effect.Put x t) (λ a b. refl) p q h
 
-pub calm_finish : (x : Pid) (r : Data) (o : Work) → Calm o (finish x r o)
+pub calm_finish : (x : Pid) (r : Data) (o : Work) → Calm o (end_process x r o)
 calm_finish x r o p q h =
     let es = exits_in x r (fm.entries o.node.ends) ++ monitor_exits x r (fm.entries o.node.registered) ++ demonitors x (fm.entries o.node.watches) in
     calm_post_all es o p q (calm_last ((post_all es o).effects) (Effect.Ended x r) (λ a b. refl) p q h)
@@ -174,16 +174,16 @@ abbrev pub Held : Node → Pid → Pid → Type 0
 Held n p q = (living n p ≡ true) × (end_of n p q ≡ End.Active)
 
 follows_of : (e : End) (s : LinkNews) (a b : Pid) (o : Work) (p q : Pid) → reacts_in p q ((exit_follows e s a b o).effects) ≡ true → (reacts_in p q o.effects ≡ true) ⊎ ((a ≡ p) × (b ≡ q) × (e ≡ End.Active))
-follows_of e (Says LinkSignal.Link) a b o p q h = inl h
-follows_of e (Says (LinkSignal.Unlink j)) a b o p q h = inl h
-follows_of e (Says (LinkSignal.Ack j)) a b o p q h = inl h
-follows_of End.None (Exits r) a b o p q h = inl h
-follows_of End.Active (Exits r) a b o p q h = pick (exit_of a b r o p q h)
+follows_of e (Signals LinkSignal.Link) a b o p q h = inl h
+follows_of e (Signals (LinkSignal.Unlink j)) a b o p q h = inl h
+follows_of e (Signals (LinkSignal.Ack j)) a b o p q h = inl h
+follows_of End.None (Exited r) a b o p q h = inl h
+follows_of End.Active (Exited r) a b o p q h = pick (exit_of a b r o p q h)
   where
     pick : (reacts_in p q o.effects ≡ true) ⊎ ((a ≡ p) × (b ≡ q)) → (reacts_in p q o.effects ≡ true) ⊎ ((a ≡ p) × (b ≡ q) × (End.Active ≡ End.Active))
     pick (inl e) = inl e
     pick (inr e) = inr (e.0, e.1, refl)
-follows_of (End.Pending i) (Exits r) a b o p q h = inl h
+follows_of (End.Pending i) (Exited r) a b o p q h = inl h
 
 held_at : (n : Node) (a b p q : Pid) → a ≡ p → b ≡ q → living n a ≡ true → end_of n a b ≡ End.Active → Held n p q
 held_at n a b p q ap1 bq l e = subst (λ z. Held n z q) ap1 (subst (λ z. Held n a z) bq (l, e))
@@ -207,10 +207,10 @@ calm_register : (k : Reference) (u : Monitor) (o : Work) → Calm o (register k 
 calm_register k u o p q h = h
 
 pub item_taken : (x : Item) (o : Work) (p q : Pid) → reacts_in p q ((take_item x o).effects) ≡ true → (reacts_in p q o.effects ≡ true) ⊎ Held o.node p q
-item_taken (Signalled (Signal.Link b a)) o p q h = link_taken a b (Says LinkSignal.Link) o p q h
-item_taken (Signalled (Signal.Exit b a r)) o p q h = link_taken a b (Exits r) o p q h
-item_taken (Signalled (Signal.UnlinkId i b a)) o p q h = link_taken a b (Says (LinkSignal.Unlink i)) o p q h
-item_taken (Signalled (Signal.UnlinkIdAck i b a)) o p q h = link_taken a b (Says (LinkSignal.Ack i)) o p q h
+item_taken (Signalled (Signal.Link b a)) o p q h = link_taken a b (Signals LinkSignal.Link) o p q h
+item_taken (Signalled (Signal.Exit b a r)) o p q h = link_taken a b (Exited r) o p q h
+item_taken (Signalled (Signal.UnlinkId i b a)) o p q h = link_taken a b (Signals (LinkSignal.Unlink i)) o p q h
+item_taken (Signalled (Signal.UnlinkIdAck i b a)) o p q h = link_taken a b (Signals (LinkSignal.Ack i)) o p q h
 item_taken (Signalled (Signal.Send a t)) o p q h = inl (calm_cond (living o.node a) o (put a t o) o (calm_put a t o) (λ c d k. k) p q h)
 item_taken (Signalled (Signal.Exit2 b a r)) o p q h = inl (calm_cond (living o.node a) o _ o (calm_carry (reaction (traps_life (fm.get o.node.lives a)) (sent_exit a b r)) a o) (λ c d k. k) p q h)
 item_taken (Signalled (Signal.Monitor b a k)) o p q h = inl (calm_cond (living o.node a) o _ _ (calm_register k (monitor_of b a) o) (calm_post b.node (Signalled (Signal.MonitorExit a b k noproc)) o) p q h)
@@ -240,10 +240,10 @@ OwnLink n c o = (p q : Pid) → reacts_in p q o.effects ≡ true → (c ≡ Comm
 
 module _ (n : Node) where
   acts_on : (c : Command) (p q : Pid) (k : Outcome) → (living n p ≡ true → IfGoes k (OwnLink n c)) → IfGoes (acting n p (toward n q k)) (OwnLink n c)
-  acts_on c p q k h = on_cond (living n p) (toward n q k) Refusal.NoSuchProcess (OwnLink n c) (λ l. on_not (same_name q.node n.mint.name && never n q) k Refusal.Forged (OwnLink n c) (h l))
+  acts_on c p q k h = on_cond (living n p) (toward n q k) Refusal.NoSuchProcess (OwnLink n c) (λ l. on_not (same_name q.node n.mint.name && is_stranger n q) k Refusal.Forged (OwnLink n c) (h l))
 
   links_new : (a b : Pid) (o : Work) → o.effects ≡ [] → (t : Bool) → reaches n b.node ≡ t → living n a ≡ true → OwnLink n (Command.Link a b) (link_new t a b o)
-  links_new a b o e true r l p q h = nothing (sym (ap (reacts_in p q) e) ∙ calm_post b.node (Signalled (telling a b (Says LinkSignal.Link))) (set_end a b End.Active o) p q h)
+  links_new a b o e true r l p q h = nothing (sym (ap (reacts_in p q) e) ∙ calm_post b.node (Signalled (telling a b (Signals LinkSignal.Link))) (set_end a b End.Active o) p q h)
   links_new a b o e false r l p q h = pick (exit_of a b noconnection (set_end a b End.None o) p q h)
     where
       pick : (reacts_in p q o.effects ≡ true) ⊎ ((a ≡ p) × (b ≡ q)) → (Command.Link a b ≡ Command.Link p q) × (living n p ≡ true) × (reaches n q.node ≡ false)
@@ -286,7 +286,7 @@ module _ (n : Node) where
   called (Command.IsAlive a) = λ p q h. nothing h
 
 -- sweeps
-calm_parked : (v : State) (t : TrunkId) (s : TrunkSide) (o : Work) → Calm o (parked_by v t s o)
+calm_parked : (v : State) (t : TrunkId) (s : TrunkSide) (o : Work) → Calm o (released_by v t s o)
 calm_parked (Parked k) t s o p q h = calm_send (Some t) s.peer (Handshake (challenge o.node k)) (set_state t s (Accepting k) o) p q h
 calm_parked (AwaitsStatus k) t s o p q h = h
 calm_parked (AwaitsChallenge k) t s o p q h = h
@@ -297,11 +297,11 @@ calm_parked Up t s o p q h = h
 calm_parked Losing t s o p q h = h
 calm_parked Gone t s o p q h = h
 
-calm_goes : (d : Option (TrunkId × TrunkSide)) (o : Work) → Calm o (parked_goes d o)
+calm_goes : (d : Option (TrunkId × TrunkSide)) (o : Work) → Calm o (release_parked d o)
 calm_goes None o p q h = h
 calm_goes (Some d) o p q h = calm_parked d.1.state d.0 d.1 o p q h
 
-calm_swept : (t : TrunkId) (s : TrunkSide) (o : Work) → Calm o (swept t s o)
+calm_swept : (t : TrunkId) (s : TrunkSide) (o : Work) → Calm o (close_if_swept t s o)
 calm_swept t s o p q h = go (has_records s.peer o.node) h
   where
     go : (b : Bool) → reacts_in p q ((close_if b t s o).effects) ≡ true → reacts_in p q o.effects ≡ true
@@ -343,7 +343,7 @@ module _ (n : Node) (kn : NodeKept n) where
     where
       go : (d : Option (TrunkId × TrunkSide)) → IfGoes (sweep_by d (at_work n)) (HeldBefore n)
       go None = tt
-      go (Some d) = subst (λ z. HeldBefore n (swept d.0 d.1 z)) (sym (least_as d.1.peer (at_work n)))
+      go (Some d) = subst (λ z. HeldBefore n (close_if_swept d.0 d.1 z)) (sym (least_as d.1.peer (at_work n)))
           (λ p q h. link_swept d.1.peer (link_to d.1.peer (fm.entries n.ends)) refl p q (calm_swept d.0 d.1 (sweep_link (link_to d.1.peer (fm.entries n.ends)) d.1.peer (at_work n)) p q h))
 
 -- the handshake
@@ -433,11 +433,11 @@ module _ (n : Node) (t : TrunkId) where
     still_ack u (ShakeMsg.ChallengeReply a b) = λ p q h. h
     still_ack u (ShakeMsg.ChallengeAck a) = either (is_answered n.cookie u a) _ _ Still (λ p q h. h) (λ p q h. h)
 
-    still_on : (d : Option (TrunkId × TrunkSide)) (u : ℕ) (o : Work) → Still o → Still (go_on d t v u o)
+    still_on : (d : Option (TrunkId × TrunkSide)) (u : ℕ) (o : Work) → Still o → Still (challenge_or_park d t v u o)
     still_on None u o k = λ p q h. k p q (calm_send (Some t) v.peer (Handshake (challenge o.node u)) (set_state t v (Accepting u) o) p q h)
     still_on (Some d) u o k = k
 
-    still_end : (d : Option (TrunkId × TrunkSide)) → Still (end_up d (at_work n))
+    still_end : (d : Option (TrunkId × TrunkSide)) → Still (up_is_lost d (at_work n))
     still_end None = λ p q h. h
     still_end (Some d) = λ p q h. h
 
@@ -447,7 +447,7 @@ module _ (n : Node) (t : TrunkId) where
     still_true u (ShakeMsg.Status Status.Nok) = λ p q h. h
     still_true u (ShakeMsg.Status Status.NotAllowed) = λ p q h. h
     still_true u (ShakeMsg.Status Status.Alive) = λ p q h. h
-    still_true u (ShakeMsg.Status Status.True) = still_on (side_where is_losing v.peer (fm.entries (end_up (side_where is_up v.peer (fm.entries n.sides)) (at_work n)).node.sides)) u (end_up (side_where is_up v.peer (fm.entries n.sides)) (at_work n)) (still_end (side_where is_up v.peer (fm.entries n.sides)))
+    still_true u (ShakeMsg.Status Status.True) = still_on (side_where is_losing v.peer (fm.entries (up_is_lost (side_where is_up v.peer (fm.entries n.sides)) (at_work n)).node.sides)) u (up_is_lost (side_where is_up v.peer (fm.entries n.sides)) (at_work n)) (still_end (side_where is_up v.peer (fm.entries n.sides)))
     still_true u (ShakeMsg.Status Status.False) = λ p q h. h
     still_true u (ShakeMsg.SendName c b a) = λ p q h. h
     still_true u (ShakeMsg.Challenge c d b a) = λ p q h. h

@@ -24,7 +24,7 @@ use Rattle.dist_model.specs.Histories.{History}
 use Rattle.dist_model.specs.Items.{Handshake, Item, Signalled, Tick}
 use Rattle.dist_model.specs.Names.{Name, same_name, same_pid}
 use Rattle.dist_model.specs.Node.{Node, living, side_where}
-use Rattle.dist_model.specs.Quiet.{Over, Quiet, Unconnected, Within, is_of, is_silent}
+use Rattle.dist_model.specs.Quiet.{Over, Quiet, Unconnected, Within, is_signal_of, nothing_between}
 use Rattle.dist_model.specs.Seen.{HasSide, is_connected, local_list}
 use Rattle.dist_model.specs.Sides.{State, TrunkSide, is_losing, is_up, is_over}
 use Rattle.dist_model.specs.World.{World, list_to, node_of}
@@ -53,7 +53,7 @@ module _ (w : World) (h : History) (t : Tale w h) (k : Reference) (p q : Pid) (m
   named : (r : Reference) (a b : Pid) → same_reference k r ≡ true → Monitored r a b h → (a ≡ p) × (b ≡ q)
   named r a b e c = both a b refl (subst (λ z. Monitored z a b h) (sym (same_reference_true k r e)) c)
 
-  call_of : (i : Item) → IsFounded w h i → is_call k i ≡ true → is_of p q i ≡ true
+  call_of : (i : Item) → IsFounded w h i → is_call k i ≡ true → is_signal_of p q i ≡ true
   call_of (Signalled (Signal.Monitor a b r)) f e = let o = named r a b e f in ap (λ c. c && same_pid b q) (same_pid_is a p o.0) ∙ same_pid_is b q o.1
   call_of (Signalled (Signal.MonitorExit b a r z)) f e = cc
   call_of (Signalled (Signal.Link a b)) f e = cc
@@ -66,7 +66,7 @@ module _ (w : World) (h : History) (t : Tale w h) (k : Reference) (p q : Pid) (m
   call_of (Handshake z) f e = cc
   call_of Tick f e = cc
 
-  end_of : (i : Item) → IsFounded w h i → is_end k i ≡ true → is_of q p i ≡ true
+  end_of : (i : Item) → IsFounded w h i → is_end k i ≡ true → is_signal_of q p i ≡ true
   end_of (Signalled (Signal.MonitorExit b a r z)) f e = let o = named r a b e f.1 in ap (λ c. c && same_pid a p) (same_pid_is b q o.1) ∙ same_pid_is a p o.0
   end_of (Signalled (Signal.Monitor a b r)) f e = cc
   end_of (Signalled (Signal.Link a b)) f e = cc
@@ -84,13 +84,13 @@ module _ (w : World) (h : History) (t : Tale w h) (k : Reference) (p q : Pid) (m
   not_true false j = refl
 
   -- in a silent list nothing of the monitor travels
-  silent_list : (f : Item → Bool) → ((i : Item) → IsFounded w h i → f i ≡ true → (is_of p q i || is_of q p i) ≡ true) → (l : List Item) → All (IsFounded w h) l → is_silent p q l ≡ true → has f l ≡ true → ⊥
+  silent_list : (f : Item → Bool) → ((i : Item) → IsFounded w h i → f i ≡ true → (is_signal_of p q i || is_signal_of q p i) ≡ true) → (l : List Item) → All (IsFounded w h) l → nothing_between p q l ≡ true → has f l ≡ true → ⊥
   silent_list f of [] fs s j = cc
   silent_list f of (i ∷ l) fs s j =
-      let v = and_both (not (is_of p q i || is_of q p i)) (is_silent p q l) s in
-      go (f i) refl (not_true (is_of p q i || is_of q p i) v.0) j (silent_list f of l (All-tail (IsFounded w h) i l fs) v.1)
+      let v = and_both (not (is_signal_of p q i || is_signal_of q p i)) (nothing_between p q l) s in
+      go (f i) refl (not_true (is_signal_of p q i || is_signal_of q p i) v.0) j (silent_list f of l (All-tail (IsFounded w h) i l fs) v.1)
     where
-      go : (b : Bool) → f i ≡ b → (is_of p q i || is_of q p i) ≡ false → (b || has f l) ≡ true → (has f l ≡ true → ⊥) → ⊥
+      go : (b : Bool) → f i ≡ b → (is_signal_of p q i || is_signal_of q p i) ≡ false → (b || has f l) ≡ true → (has f l ≡ true → ⊥) → ⊥
       go true e n c r = let z : true ≡ false = sym (of i (All-head (IsFounded w h) i l fs) e) ∙ n in cc
       go false e n c r = r c
 
@@ -98,11 +98,11 @@ module _ (w : World) (h : History) (t : Tale w h) (k : Reference) (p q : Pid) (m
   or_second true b j = refl
   or_second false b j = j
 
-  no_call : (l : List Item) → All (IsFounded w h) l → is_silent p q l ≡ true → has (is_call k) l ≡ true → ⊥
-  no_call l = silent_list (is_call k) (λ i f e. ap (λ b. b || is_of q p i) (call_of i f e)) l
+  no_call : (l : List Item) → All (IsFounded w h) l → nothing_between p q l ≡ true → has (is_call k) l ≡ true → ⊥
+  no_call l = silent_list (is_call k) (λ i f e. ap (λ b. b || is_signal_of q p i) (call_of i f e)) l
 
-  no_end : (l : List Item) → All (IsFounded w h) l → is_silent p q l ≡ true → has (is_end k) l ≡ true → ⊥
-  no_end l = silent_list (is_end k) (λ i f e. or_second (is_of p q i) (is_of q p i) (end_of i f e)) l
+  no_end : (l : List Item) → All (IsFounded w h) l → nothing_between p q l ≡ true → has (is_end k) l ≡ true → ⊥
+  no_end l = silent_list (is_end k) (λ i f e. or_second (is_signal_of p q i) (is_signal_of q p i) (end_of i f e)) l
 
   -- what is registered is this monitor, of a living target
   registered : (y : Node) (b : Monitor) → node_of w.nodes q.node ≡ Some y → fm.get y.registered k ≡ Some b → IsRegistered w k p q
@@ -125,20 +125,20 @@ module _ (w : World) (h : History) (t : Tale w h) (k : Reference) (p q : Pid) (m
     followed : Followed w y v k (monitor_of p q)
     followed = t.linked y v k (monitor_of p q) hv j
 
-    at_home : p.node ≡ q.node → is_silent p q (local_list w p.node) ≡ true → HomeKnown v k → IsRegistered w k p q
-    at_home e s (inl c) = absurd (no_call v.local (t.sound.locals y v hv) (ap (λ z. is_silent p q (local_at z)) (sym here) ∙ s) c)
+    at_home : p.node ≡ q.node → nothing_between p q (local_list w p.node) ≡ true → HomeKnown v k → IsRegistered w k p q
+    at_home e s (inl c) = absurd (no_call v.local (t.sound.locals y v hv) (ap (λ z. nothing_between p q (local_at z)) (sym here) ∙ s) c)
     at_home e s (inr (inl c)) = registered v c.0 (ap (node_of w.nodes) (sym e) ∙ here) c.1
-    at_home e s (inr (inr c)) = absurd (no_end v.local (t.sound.locals y v hv) (ap (λ z. is_silent p q (local_at z)) (sym here) ∙ s) c)
+    at_home e s (inr (inr c)) = absurd (no_end v.local (t.sound.locals y v hv) (ap (λ z. nothing_between p q (local_at z)) (sym here) ∙ s) c)
 
-    on_trunk : (u : TrunkId) → HasSide w q.node u p.node is_up → is_silent p q (list_to w.lists u p.node) ≡ true → is_silent p q (list_to w.lists u q.node) ≡ true → Known w u y q.node k → IsRegistered w k p q
+    on_trunk : (u : TrunkId) → HasSide w q.node u p.node is_up → nothing_between p q (list_to w.lists u p.node) ≡ true → nothing_between p q (list_to w.lists u q.node) ≡ true → Known w u y q.node k → IsRegistered w k p q
     on_trunk u b s r (Travels c) = absurd (no_call (list_to w.lists u q.node) (t.sound.lists u q.node) r c)
     on_trunk u b s r (Enrolled z side c hz hs up i) = registered z c hz i
-    on_trunk u b s r (Returns c) = absurd (no_end (list_to w.lists u y) (t.sound.lists u y) (ap (λ z. is_silent p q (list_to w.lists u z)) (sym owner_at) ∙ s) c)
+    on_trunk u b s r (Returns c) = absurd (no_end (list_to w.lists u y) (t.sound.lists u y) (ap (λ z. nothing_between p q (list_to w.lists u z)) (sym owner_at) ∙ s) c)
     on_trunk u b s r (PeerOver z side hz hs ov) =
         let same : b.side ≡ side = some_same b.side side (sym b.there ∙ ap (λ o. side_in o u) hz ∙ hs) in
         absurd (up_not_over side.state (ap (λ (c : TrunkSide). is_up c.state) (sym same) ∙ b.state) ov)
 
-    far_away : Away w y v k (monitor_of p q) → (u : TrunkId) → HasSide w p.node u q.node is_up → HasSide w q.node u p.node is_up → is_silent p q (list_to w.lists u p.node) ≡ true → is_silent p q (list_to w.lists u q.node) ≡ true → IsRegistered w k p q
+    far_away : Away w y v k (monitor_of p q) → (u : TrunkId) → HasSide w p.node u q.node is_up → HasSide w q.node u p.node is_up → nothing_between p q (list_to w.lists u p.node) ≡ true → nothing_between p q (list_to w.lists u q.node) ≡ true → IsRegistered w k p q
     far_away c u a b s r = go (one (t.good.core.sides y v hv).one)
       where
         there : side_at v u ≡ Some a.side

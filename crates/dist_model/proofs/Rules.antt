@@ -9,7 +9,7 @@ use Rattle.conn_core.specs.declared.arrival.Fault.{Fault}
 use Rattle.dist_model.specs.Admission.{admit, after_name, answer_to, give_up, give_up_if, hears_name, new_side, others, stands_after}
 use Rattle.dist_model.specs.Commands.{Accepts, Outcome, Refuses}
 use Rattle.dist_model.specs.declared.report.Answer.{Answer}
-use Rattle.dist_model.specs.Handshake.{acceptor_side, challenge, dialer_side, end_up, fault, goes_on, handshake_at, handshake_on, identity, set_state, write}
+use Rattle.dist_model.specs.Handshake.{acceptor_side, challenge, dialer_side, up_is_lost, fault, send_challenge_or_park, handshake_at, handshake_on, identity, set_state, write}
 use Rattle.dist_model.specs.Items.{Handshake, Item, kind_of}
 use Rattle.dist_model.specs.Node.{side_where}
 use Rattle.dist_model.specs.Sides.{Accepting, Asked, AwaitsAck, AwaitsChallenge, AwaitsStatus, Gone, Losing, Parked, State, TrunkSide, Up, is_dialing, is_losing, is_up, is_waiting}
@@ -55,7 +55,7 @@ awaits_ack t s v (ShakeMsg.ChallengeAck digest) o = cond (is_answered o.node.coo
 awaits_ack t s v _ o = fault (Fault.Shake ShakeFault.BadMessage) t s o
 
 abbrev pub awaits_true : TrunkId → TrunkSide → ℕ → ShakeMsg → Work → Outcome
-awaits_true t s w (ShakeMsg.Status Status.True) o = Accepts (Answer.Took (kind_of (Handshake (ShakeMsg.Status Status.True)))) (goes_on t s w (end_up (side_where is_up s.peer (fm.entries o.node.sides)) o))
+awaits_true t s w (ShakeMsg.Status Status.True) o = Accepts (Answer.Took (kind_of (Handshake (ShakeMsg.Status Status.True)))) (send_challenge_or_park t s w (up_is_lost (side_where is_up s.peer (fm.entries o.node.sides)) o))
 awaits_true t s w (ShakeMsg.Status Status.False) o = fault (Fault.Shake ShakeFault.Nok) t s o
 awaits_true t s w _ o = fault (Fault.Shake ShakeFault.BadMessage) t s o
 

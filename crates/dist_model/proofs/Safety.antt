@@ -17,10 +17,10 @@ use Rattle.dist_model.proofs.Table.{Good, HomeKept, Likely, no_asks_beside, up_l
 use Rattle.dist_model.proofs.Views.{over, side_of}
 use Rattle.dist_model.specs.Claims.{Agreement, AgreementInQuiet, AgreementWithin, LinkNeedsConnection, NoLinkToItself, NoLinkToTheDead, NoUpBesideLosing, OneTrunk, PendingOnItsWay, PendingWithin}
 use Rattle.dist_model.specs.Items.{Handshake, Item, Signalled, Tick, news, news_in}
-use Rattle.dist_model.specs.Links.{Exits, LinkNews, Says, drained, last_said}
+use Rattle.dist_model.specs.Links.{Exited, LinkNews, Signals, drained, last_said}
 use Rattle.dist_model.specs.Names.{Name, pair_cmp, place_cmp, same_name, same_pid}
-use Rattle.dist_model.specs.Node.{Node, end_of, is_living_life, living, never}
-use Rattle.dist_model.specs.Quiet.{Over, Unconnected, Within, is_of, is_silent}
+use Rattle.dist_model.specs.Node.{Node, end_of, is_living_life, living, is_stranger}
+use Rattle.dist_model.specs.Quiet.{Over, Unconnected, Within, is_signal_of, nothing_between}
 use Rattle.dist_model.specs.Runs.{new_node, opening}
 use Rattle.dist_model.specs.Seen.{HasSide, end_between, is_connected, local_list}
 use Rattle.dist_model.specs.Sides.{Accepting, Asked, AwaitsAck, AwaitsChallenge, AwaitsStatus, Gone, Losing, Parked, State, TrunkSide, Up, is_gone, is_losing, is_up}
@@ -34,14 +34,14 @@ use Rattle.link_core.specs.declared.end.End.{End}
 use Rattle.link_core.specs.declared.end.LinkSignal.{LinkSignal}
 
 living_not_over : (n : Node) (p : Pid) → living n p ≡ true → over n p ≡ false
-living_not_over n p l = ap (λ v. not v && not (never n p)) l
+living_not_over n p l = ap (λ v. not v && not (is_stranger n p)) l
 
 -- a silent list has no signals about a link
-silent_signals : (p q : Pid) (l : List Item) → is_silent p q l ≡ true → (news p q l ≡ []) × (news q p l ≡ [])
+silent_signals : (p q : Pid) (l : List Item) → nothing_between p q l ≡ true → (news p q l ≡ []) × (news q p l ≡ [])
 silent_signals p q [] h = (refl, refl)
 silent_signals p q (x ∷ xs) h =
-    let v = and_both (not (is_of p q x || is_of q p x)) (is_silent p q xs) h in
-    let u = neither (is_of p q x) (is_of q p x) v.0 in
+    let v = and_both (not (is_signal_of p q x || is_signal_of q p x)) (nothing_between p q xs) h in
+    let u = neither (is_signal_of p q x) (is_signal_of q p x) v.0 in
     let r = silent_signals p q xs v.1 in
     (ap (λ l. l ++ news p q xs) (unnamed p q x u.0) ∙ r.0, ap (λ l. l ++ news q p xs) (unnamed q p x u.1) ∙ r.1)
   where
@@ -50,11 +50,11 @@ silent_signals p q (x ∷ xs) h =
     neither false true h = cc
     neither false false h = (refl, refl)
 
-    unnamed : (p q : Pid) (x : Item) → is_of p q x ≡ false → news_in p q x ≡ []
-    unnamed p q (Signalled (Signal.Link a b)) h = ap (λ t. cond t (Says LinkSignal.Link ∷ []) []) h
-    unnamed p q (Signalled (Signal.Exit a b r)) h = ap (λ t. cond t (Exits r ∷ []) []) h
-    unnamed p q (Signalled (Signal.UnlinkId i a b)) h = ap (λ t. cond t (Says (LinkSignal.Unlink i) ∷ []) []) h
-    unnamed p q (Signalled (Signal.UnlinkIdAck i a b)) h = ap (λ t. cond t (Says (LinkSignal.Ack i) ∷ []) []) h
+    unnamed : (p q : Pid) (x : Item) → is_signal_of p q x ≡ false → news_in p q x ≡ []
+    unnamed p q (Signalled (Signal.Link a b)) h = ap (λ t. cond t (Signals LinkSignal.Link ∷ []) []) h
+    unnamed p q (Signalled (Signal.Exit a b r)) h = ap (λ t. cond t (Exited r ∷ []) []) h
+    unnamed p q (Signalled (Signal.UnlinkId i a b)) h = ap (λ t. cond t (Signals (LinkSignal.Unlink i) ∷ []) []) h
+    unnamed p q (Signalled (Signal.UnlinkIdAck i a b)) h = ap (λ t. cond t (Signals (LinkSignal.Ack i) ∷ []) []) h
     unnamed p q (Signalled (Signal.Send b m)) h = refl
     unnamed p q (Signalled (Signal.Exit2 a b r)) h = refl
     unnamed p q (Signalled (Signal.Monitor a b k)) h = refl
@@ -82,7 +82,7 @@ module _ (p q : Pid) (a b : Node) (m l : List LinkNews) (k : Kept (side_of a p q
   agrees : living a p ≡ true → living b q ≡ true → drained (end_of a p q) l ≡ End.Active ↔ drained (end_of b q p) m ≡ End.Active
   agrees lp lq = k.agree (living_not_over a p lp) (living_not_over b q lq)
 
-  pends : (i : ℕ) → living a p ≡ true → living b q ≡ true → end_of a p q ≡ End.Pending i → (last_said m ≡ Some (LinkSignal.Unlink i)) ⊎ Contains l (Says (LinkSignal.Ack i))
+  pends : (i : ℕ) → living a p ≡ true → living b q ≡ true → end_of a p q ≡ End.Pending i → (last_said m ≡ Some (LinkSignal.Unlink i)) ⊎ Contains l (Signals (LinkSignal.Ack i))
   pends i lp lq e = pending_travels (side_of a p q m) (side_of b q p l) k (living_not_over a p lp) (living_not_over b q lq) i e
 
   not_to_dead : NodeKept b → living a p ≡ true → living b q ≡ false → m ≡ [] → l ≡ [] → end_of a p q ≡ End.Active → ⊥
@@ -182,7 +182,7 @@ module _ (w : World) (g : Good w) where
   pending p q t i u lp lq e = go (node_of w.nodes p.node) (node_of w.nodes q.node) refl refl lp lq e
     where
       go : (c d : Option Node) → node_of w.nodes p.node ≡ c → node_of w.nodes q.node ≡ d → living_at c p ≡ true → living_at d q ≡ true → end_at c p q ≡ End.Pending i
-          → (last_said (news p q (list_to w.lists t q.node)) ≡ Some (LinkSignal.Unlink i)) ⊎ Contains (news q p (list_to w.lists t p.node)) (Says (LinkSignal.Ack i))
+          → (last_said (news p q (list_to w.lists t q.node)) ≡ Some (LinkSignal.Unlink i)) ⊎ Contains (news q p (list_to w.lists t p.node)) (Signals (LinkSignal.Ack i))
       go None d hc hd lp lq e = none_living lp
       go (Some a) None hc hd lp lq e = none_living lq
       go (Some a) (Some b) hc hd lp lq e = pends p q a b _ _ (kept_over p q a b t hc hd u.0 u.1) i lp lq e
@@ -193,12 +193,12 @@ module _ (w : World) (g : Good w) where
       (λ j. go j (node_of w.nodes p.node) (node_of w.nodes q.node) refl refl lp lq e)
     where
       go : same_pid p q ≡ false → (c d : Option Node) → node_of w.nodes p.node ≡ c → node_of w.nodes q.node ≡ d → living_at c p ≡ true → living_at d q ≡ true → end_at c p q ≡ End.Pending i
-          → (last_said (news p q (local_at c)) ≡ Some (LinkSignal.Unlink i)) ⊎ Contains (news q p (local_at c)) (Says (LinkSignal.Ack i))
+          → (last_said (news p q (local_at c)) ≡ Some (LinkSignal.Unlink i)) ⊎ Contains (news q p (local_at c)) (Signals (LinkSignal.Ack i))
       go j None d hc hd lp lq e = none_living lp
       go j (Some a) None hc hd lp lq e = none_living lq
       go j (Some a) (Some b) hc hd lp lq e = pends p q a a _ _ (kept_within p q a hc n j) i lp (ap (λ z. living z q) (one_node p q a b hc hd n) ∙ lq) e
 
-  dead_within : (p q : Pid) → p.node ≡ q.node → (c d : Option Node) → node_of w.nodes p.node ≡ c → node_of w.nodes q.node ≡ d → is_silent p q (local_at c) ≡ true → living_at c p ≡ true → living_at d q ≡ false → end_at c p q ≡ End.Active → ⊥
+  dead_within : (p q : Pid) → p.node ≡ q.node → (c d : Option Node) → node_of w.nodes p.node ≡ c → node_of w.nodes q.node ≡ d → nothing_between p q (local_at c) ≡ true → living_at c p ≡ true → living_at d q ≡ false → end_at c p q ≡ End.Active → ⊥
   dead_within p q n None d hc hd s lp lq e = none_living lp
   dead_within p q n (Some a) None hc hd s lp lq e = some_none a (sym hc ∙ ap (node_of w.nodes) n ∙ hd)
   dead_within p q n (Some a) (Some b) hc hd s lp lq e =
@@ -208,7 +208,7 @@ module _ (w : World) (g : Good w) where
       (λ j. let c : true ≡ false = sym lp ∙ ap (living a) (same_pid_true p q j) ∙ dead in cc)
       (λ j. not_to_dead p q a a _ _ (kept_within p q a hc n j) (g.core.nodes p.node a hc) lp dead v.0 v.1 e)
 
-  dead_over : (p q : Pid) (t : TrunkId) → HasSide w p.node t q.node is_up → HasSide w q.node t p.node is_up → is_silent p q (list_to w.lists t p.node) ≡ true → is_silent p q (list_to w.lists t q.node) ≡ true
+  dead_over : (p q : Pid) (t : TrunkId) → HasSide w p.node t q.node is_up → HasSide w q.node t p.node is_up → nothing_between p q (list_to w.lists t p.node) ≡ true → nothing_between p q (list_to w.lists t q.node) ≡ true
       → (c d : Option Node) → node_of w.nodes p.node ≡ c → node_of w.nodes q.node ≡ d → living_at c p ≡ true → living_at d q ≡ false → end_at c p q ≡ End.Active → ⊥
   dead_over p q t x y s r None d hc hd lp lq e = none_living lp
   dead_over p q t x y s r (Some a) None hc hd lp lq e = some_none y.side (sym y.there ∙ ap (λ o. side_in o t) hd)

@@ -4,7 +4,7 @@ use Rattle.std.specs.Option.{is_some, unwrap_or}
 use Rattle.std.specs.FinMap as fm
 use Rattle.dist_model.specs.Items.{Item, news, telling}
 use Rattle.dist_model.specs.Links.{LinkNews}
-use Rattle.dist_model.specs.Losses.{close}
+use Rattle.dist_model.specs.Losses.{close_side}
 use Rattle.dist_model.specs.Names.{Name}
 use Rattle.dist_model.specs.Node.{Node, end_of, living, reaches, side_where}
 use Rattle.dist_model.specs.Runs.{new_node}
@@ -50,4 +50,4 @@ abbrev pub new_nodes : List (Name × List ℕ) → List Node
 new_nodes cs = map (λ (c : Name × List ℕ). new_node c.0 c.1) cs
 
 abbrev pub close_if : Bool → TrunkId → TrunkSide → Work → Work
-close_if kept t s o = cond kept o (close t s o)
+close_if kept t s o = cond kept o (close_side t s o)

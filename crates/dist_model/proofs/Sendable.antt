@@ -25,20 +25,20 @@ use Rattle.dist_model.specs.Claims.{EverySignalFits, EverySignalFitsWithin}
 use Rattle.dist_model.specs.Commands.{Accepts, Outcome, Refuses}
 use Rattle.dist_model.specs.declared.command.Command.{Command}
 use Rattle.dist_model.specs.Dialing.{dial, draw_trunk, has_name, next_trunk}
-use Rattle.dist_model.specs.Exits.{carry_out, demonitors, exit_for, exits, finish, link_exit, linked_exit, monitor_exits, sent_exit}
+use Rattle.dist_model.specs.Exits.{carry_out, demonitors, exit_for, exits, end_process, link_exit, linked_exit, monitor_exits, sent_exit}
 use Rattle.dist_model.specs.Fits.{are_below, fits}
 use Rattle.dist_model.specs.Handshake.{identity, with_side, write}
 use Rattle.dist_model.specs.Incarnations.{start, stop, stopped}
 use Rattle.dist_model.specs.Items.{Handshake, Item, Signalled, Tick, receiver_of, telling}
 use Rattle.dist_model.specs.Linking.{exit_follows, link_by, link_new, take_link, take_link_by, unlink_by}
-use Rattle.dist_model.specs.Links.{Exits, LinkNews, Says, heard, noconnection, noproc, reply}
+use Rattle.dist_model.specs.Links.{Exited, LinkNews, Signals, heard, noconnection, noproc, reply}
 use Rattle.dist_model.specs.Losses.{any_side, link_to, lose, registered_by, sweep, sweep_by, sweep_end, watch_to}
 use Rattle.dist_model.proofs.Records.{least_as, sweep_link, sweep_registered, sweep_watch}
 use Rattle.dist_model.specs.Monitoring.{demonitor_by, register, unregister, unwatch, watch}
 use Rattle.dist_model.specs.Names.{Name, place_cmp, same_name, same_pid}
 use Rattle.dist_model.specs.NodeEvents.{if_up}
 use Rattle.dist_model.proofs.Envelopes.{Envelope, outgoing, sent_by, sent_in, sent_in-silent}
-use Rattle.dist_model.specs.Node.{Node, end_of, living, never, reaches, side_where, traps_life, ends_of}
+use Rattle.dist_model.specs.Node.{Node, end_of, living, is_stranger, reaches, side_where, traps_life, ends_of}
 use Rattle.dist_model.specs.Runs.{Always, opening}
 use Rattle.dist_model.specs.Sides.{AwaitsStatus, is_gone, is_losing, TrunkSide}
 use Rattle.dist_model.specs.Taking.{take_item}
@@ -155,12 +155,12 @@ demonitors_sendable p [] = All-nil One
 demonitors_sendable p (e ∷ es) = All-append One (cond (same_pid e.1.owner p) (Signal.Demonitor p e.1.target e.0 ∷ []) []) (demonitors p es)
     (one_or_none (same_pid e.1.owner p) (Signal.Demonitor p e.1.target e.0) (tt, tt)) (demonitors_sendable p es)
 
-finished : (p : Pid) (x : Data) (o : Work) → Fits x → X o → X (finish p x o)
+finished : (p : Pid) (x : Data) (o : Work) → Fits x → X o → X (end_process p x o)
 finished p x o f k =
     let a = exits p x (ends_of o.node p) in
     let b = monitor_exits p x (fm.entries o.node.registered) in
     let c = demonitors p (fm.entries o.node.watches) in
-    silent (post_all ((a ++ b) ++ c) o) (finish p x o) (Effect.Ended p x) refl refl refl (carried_all Sendable ((a ++ b) ++ c) o
+    silent (post_all ((a ++ b) ++ c) o) (end_process p x o) (Effect.Ended p x) refl refl refl (carried_all Sendable ((a ++ b) ++ c) o
     (All-append One (a ++ b) c (All-append One a b (exits_sendable p x (ends_of o.node p) f)
     (monitor_exits_sendable p x (fm.entries o.node.registered) f)) (demonitors_sendable p (fm.entries o.node.watches))) k)
 
@@ -185,17 +185,17 @@ link_exited p q x o f k = reacted (traps_life (fm.get o.node.lives p)) (linked_e
 -- ---- an item is taken
 
 replied : (gone : Bool) (p q : Pid) (s : LinkNews) → IsSendable (telling q p s) → AllSendable (replies p q (reply gone s))
-replied true p q (Says LinkSignal.Link) h = one_or_none true (Signal.Exit p q noproc) (tt, noproc_fits)
-replied false p q (Says LinkSignal.Link) h = All-nil One
-replied gone p q (Says (LinkSignal.Unlink i)) h = one_or_none true (Signal.UnlinkIdAck i p q) h
-replied gone p q (Says (LinkSignal.Ack i)) h = All-nil One
-replied gone p q (Exits x) h = All-nil One
+replied true p q (Signals LinkSignal.Link) h = one_or_none true (Signal.Exit p q noproc) (tt, noproc_fits)
+replied false p q (Signals LinkSignal.Link) h = All-nil One
+replied gone p q (Signals (LinkSignal.Unlink i)) h = one_or_none true (Signal.UnlinkIdAck i p q) h
+replied gone p q (Signals (LinkSignal.Ack i)) h = All-nil One
+replied gone p q (Exited x) h = All-nil One
 
 followed : (e : End) (s : LinkNews) (p q : Pid) (o : Work) → IsSendable (telling q p s) → X o → X (exit_follows e s p q o)
-followed e (Says s) p q o h k = k
-followed End.None (Exits x) p q o h k = k
-followed End.Active (Exits x) p q o h k = link_exited p q x o h.1 k
-followed (End.Pending i) (Exits x) p q o h k = k
+followed e (Signals s) p q o h k = k
+followed End.None (Exited x) p q o h k = k
+followed End.Active (Exited x) p q o h k = link_exited p q x o h.1 k
+followed (End.Pending i) (Exited x) p q o h k = k
 
 link_taken : (p q : Pid) (s : LinkNews) (o : Work) → IsSendable (telling q p s) → X o → X (take_link p q s o)
 link_taken p q s o h k = go (living o.node p)
@@ -208,10 +208,10 @@ link_taken p q s o h k = go (living o.node p)
     go false = carried_all Sendable (replies p q (reply true s)) o (replied true p q s h) k
 
 taken : (i : Item) (o : Work) → Sendable i → X o → X (take_item i o)
-taken (Signalled (Signal.Link q p)) o h k = link_taken p q (Says LinkSignal.Link) o h k
-taken (Signalled (Signal.Exit q p x)) o h k = link_taken p q (Exits x) o h k
-taken (Signalled (Signal.UnlinkId i q p)) o h k = link_taken p q (Says (LinkSignal.Unlink i)) o h k
-taken (Signalled (Signal.UnlinkIdAck i q p)) o h k = link_taken p q (Says (LinkSignal.Ack i)) o h k
+taken (Signalled (Signal.Link q p)) o h k = link_taken p q (Signals LinkSignal.Link) o h k
+taken (Signalled (Signal.Exit q p x)) o h k = link_taken p q (Exited x) o h k
+taken (Signalled (Signal.UnlinkId i q p)) o h k = link_taken p q (Signals (LinkSignal.Unlink i)) o h k
+taken (Signalled (Signal.UnlinkIdAck i q p)) o h k = link_taken p q (Signals (LinkSignal.Ack i)) o h k
 taken (Signalled (Signal.Send p m)) o h k = either (living o.node p) (put p m o) o
     (silent o (put p m o) (Effect.Put p m) refl refl refl k) k
 taken (Signalled (Signal.Exit2 q p x)) o h k = either (living o.node p) _ o
@@ -252,7 +252,7 @@ demonitored (Some v) p r o k = if_cond (same_pid v.owner p) _ Refusal.NotTheOwne
 module _ (n : Node) (k : X (at_work n)) where
   acted : (p q : Pid) (o : Outcome) → IfGoes o X → IfGoes (acting n p (toward n q o)) X
   acted p q o h = if_cond (living n p) (toward n q o) Refusal.NoSuchProcess X
-      (λ l. if_not (same_name q.node n.mint.name && never n q) o Refusal.Forged X h)
+      (λ l. if_not (same_name q.node n.mint.name && is_stranger n q) o Refusal.Forged X h)
 
   fitted : (x : Data) (o : Outcome) → (Fits x → IfGoes o X) → IfGoes (cond (fits x) o (Refuses Refusal.TooLong)) X
   fitted x o h = if_cond (fits x) o Refusal.TooLong X (λ e. h ((fits_test x).0 e))
@@ -308,8 +308,8 @@ link_swept : (d : Option ((Pid × Pid) × End)) (y : Name) (o : Work) → X o �
 link_swept None y o k = watch_swept (watch_to y (fm.entries o.node.watches)) y o k
 link_swept (Some e) y o k = end_swept e.1 e.0.0 e.0.1 o k
 
-swept : (n : Node) → X (at_work n) → IfGoes (sweep n) X
-swept n k = go (any_side is_losing (fm.entries n.sides)) refl
+close_if_swept : (n : Node) → X (at_work n) → IfGoes (sweep n) X
+close_if_swept n k = go (any_side is_losing (fm.entries n.sides)) refl
   where
     go : (d : Option (TrunkId × TrunkSide)) → any_side is_losing (fm.entries n.sides) ≡ d → IfGoes (sweep_by d (at_work n)) X
     go None e = tt
@@ -317,7 +317,7 @@ swept n k = go (any_side is_losing (fm.entries n.sides)) refl
         let at : side_at n d.0 ≡ Some d.1 = fm.get-entries n.sides d.0
         ∙ (any_found is_losing (fm.entries n.sides) d (fm.entries_sorted n.sides) e).0 in
         let o = sweep_link (link_to d.1.peer (fm.entries n.ends)) d.1.peer (at_work n) in
-        subst (λ z. X (Rattle.dist_model.specs.Losses.swept d.0 d.1 z)) (sym (least_as d.1.peer (at_work n)))
+        subst (λ z. X (Rattle.dist_model.specs.Losses.close_if_swept d.0 d.1 z)) (sym (least_as d.1.peer (at_work n)))
         (swept_kept (λ u y. Unit {0}) X side (λ u y m o v. wrote u y m o) d.0 d.1 o (ap (λ l. fm.get l d.0) (sent_sweep n d.1.peer).sides ∙ at)
         (link_swept (link_to d.1.peer (fm.entries n.ends)) d.1.peer (at_work n) k))
 
@@ -401,7 +401,7 @@ travels_at w (Some n) (Lose t x) h g =
     let k = local_of w.nodes x n h g.locals in
     while_up_ends w x g n (lose n t (fm.get n.sides t)) (lose_kept (λ u y. Unit {0}) X side (λ u y m o v. wrote u y m o) n t (fm.get n.sides t) refl (begins n k))
 travels_at w (Some n) (Sweep x) h g =
-    let k = local_of w.nodes x n h g.locals in while_up_ends w x g n (sweep n) (swept n (begins n k))
+    let k = local_of w.nodes x n h g.locals in while_up_ends w x g n (sweep n) (close_if_swept n (begins n k))
 travels_at w (Some n) (Dial x y z) h g =
     let k = local_of w.nodes x n h g.locals in while_up_ends w x g n (dial w.names n y z) (dialed w.names n y z (begins n k))
 travels_at w (Some n) (Stop x) h g =

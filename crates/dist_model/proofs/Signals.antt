@@ -21,7 +21,7 @@ use Rattle.dist_model.specs.Items.{Item, Signalled, news, news_in, telling}
 use Rattle.dist_model.specs.Linking.{take_link}
 use Rattle.dist_model.specs.Links.{LinkNews}
 use Rattle.dist_model.specs.Names.{Name, same_name, same_pid}
-use Rattle.dist_model.specs.Node.{Node, never, reaches}
+use Rattle.dist_model.specs.Node.{Node, is_stranger, reaches}
 use Rattle.dist_model.specs.Sides.{TrunkSide, is_up}
 use Rattle.dist_model.specs.Taking.{take, take_item}
 use Rattle.dist_model.specs.Work.{Work, at_work}
@@ -161,13 +161,13 @@ module _ (w : World) (x : Name) (n : Node) (i : Item) (xs : List Item) (hx : nod
       (λ t z h. key_of n o1 t z sd _ (carried_key o1.node.sides w.lists o1.effects t z ro h))
 
   rest_home : home_of n1
-  rest_home = (subst (λ l. Homely (λ p. never n p) l) first ((g.home x n hx).local)).1
+  rest_home = (subst (λ l. Homely (λ p. is_stranger n p) l) first ((g.home x n hx).local)).1
 
 abbrev after_local : (w : World) (x : Name) (n : Node) (xs : List Item) → Item → World
 after_local w x n xs i = record { names = w.names; nodes = set_node w.nodes x ((take_item i (at_work (record n { local = xs }))).node); lists = carried w.lists ((take_item i (at_work (record n { local = xs }))).effects) }
 
 pub good_local : (w : World) (x : Name) (n : Node) (i : Item) (xs : List Item) → node_of w.nodes x ≡ Some n → Good w → n.local ≡ i ∷ xs → Good (after_local w x n xs i)
-good_local w x n i xs hx g first = go (kind i) (subst (λ l. Homely (λ p. never n p) l) first ((g.home x n hx).local)).0
+good_local w x n i xs hx g first = go (kind i) (subst (λ l. Homely (λ p. is_stranger n p) l) first ((g.home x n hx).local)).0
   where
     plain : (j : Item) → n.local ≡ j ∷ xs → ((p q : Pid) → news_in p q j ≡ []) → Good (after_local w x n xs j)
     plain j e none =
@@ -177,7 +177,7 @@ good_local w x n i xs hx g first = go (kind i) (subst (λ l. Homely (λ p. never
         (local_core w x n j xs hx g e f.sides f.name (f.keeps k1) f.grows f.draws (f.routed tt) (λ p q b c far r k. f.views k1 b p q c r k))
         f.sides f.dialed f.name (f.routed tt) (f.home k1 (rest_home w x n j xs hx g e))
 
-    linking : (q0 p0 : Pid) (s : LinkNews) → n.local ≡ Signalled (telling q0 p0 s) ∷ xs → never n q0 ≡ false → never n p0 ≡ false → same_pid q0 p0 ≡ false → Good (after_local w x n xs (Signalled (telling q0 p0 s)))
+    linking : (q0 p0 : Pid) (s : LinkNews) → n.local ≡ Signalled (telling q0 p0 s) ∷ xs → is_stranger n q0 ≡ false → is_stranger n p0 ≡ false → same_pid q0 p0 ≡ false → Good (after_local w x n xs (Signalled (telling q0 p0 s)))
     linking q0 p0 s e hq hp two =
         let f : Takes p0 q0 s (at_work (record n { local = xs })) (take (telling q0 p0 s) (at_work (record n { local = xs }))) =
         subst (λ z. Takes p0 q0 s (at_work (record n { local = xs })) z) (sym (taken_link q0 p0 s (at_work (record n { local = xs })))) (takes_link p0 q0 s (at_work (record n { local = xs })) (λ z. (hq, pid_turned q0 p0 two)) hp) in
@@ -197,8 +197,8 @@ good_local w x n i xs hx g first = go (kind i) (subst (λ l. Homely (λ p. never
         not_this p q q0 own far b = and_no2 b (same_pid q q0) (by_test _ (same_pid q q0)
             (λ i. let c : true ≡ false = sym own ∙ ap (λ (v : Pid). same_name v.node n.mint.name) (sym (same_pid_true q q0 i)) ∙ far in cc) (λ i. i))
 
-    go : ((p q : Pid) → news_in p q i ≡ []) ⊎ ((q : Pid) × (p : Pid) × (s : LinkNews) × (i ≡ Signalled (telling q p s))) → HomeItem (λ p. never n p) i → Good (after_local w x n xs i)
+    go : ((p q : Pid) → news_in p q i ≡ []) ⊎ ((q : Pid) × (p : Pid) × (s : LinkNews) × (i ≡ Signalled (telling q p s))) → HomeItem (λ p. is_stranger n p) i → Good (after_local w x n xs i)
     go (inl h) m = plain i first h
     go (inr h) m =
-        let v : (never n h.0 ≡ false) × (never n h.1 ≡ false) × (same_pid h.0 h.1 ≡ false) = home_saying (λ p. never n p) h.0 h.1 h.2 (subst (λ z. HomeItem (λ p. never n p) z) h.3 m) in
+        let v : (is_stranger n h.0 ≡ false) × (is_stranger n h.1 ≡ false) × (same_pid h.0 h.1 ≡ false) = home_saying (λ p. is_stranger n p) h.0 h.1 h.2 (subst (λ z. HomeItem (λ p. is_stranger n p) z) h.3 m) in
         subst (λ z. Good (after_local w x n xs z)) (sym h.3) (linking h.0 h.1 h.2 (first ∙ ap (λ z. z ∷ xs) h.3) v.0 v.1 v.2)

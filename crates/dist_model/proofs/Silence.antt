@@ -11,7 +11,7 @@ use Rattle.dist_model.proofs.Routes.{below_find, none_some, some_same}
 use Rattle.dist_model.proofs.Seeing.{side_in, sides_at}
 use Rattle.dist_model.specs.Names.{Name, same_name}
 use Rattle.dist_model.specs.Node.{Node, first_where}
-use Rattle.dist_model.specs.Quiet.{Over, Quiet, Unconnected, Within, is_quiet, is_quiet_on, is_silent, is_up_to}
+use Rattle.dist_model.specs.Quiet.{Over, Quiet, Unconnected, Within, is_quiet, is_quiet_on, nothing_between, is_up_to}
 use Rattle.dist_model.specs.Seen.{HasSide, is_connected, local_list}
 use Rattle.dist_model.specs.Sides.{TrunkSide, is_up}
 use Rattle.dist_model.specs.World.{World, list_to, node_of}
@@ -83,7 +83,7 @@ module _ (w : World) (p q : Pid) where
   over d None e h = cc
   over d (Some n) e h =
       let r = passing (is_quiet_on w p q) (fm.entries n.sides) (fm.entries_sorted n.sides) h in
-      let v = all_four (is_up_to q.node (Some r.side)) (is_up_to p.node (side_in (node_of w.nodes q.node) r.trunk)) (is_silent p q (list_to w.lists r.trunk p.node)) (is_silent p q (list_to w.lists r.trunk q.node)) r.passes in
+      let v = all_four (is_up_to q.node (Some r.side)) (is_up_to p.node (side_in (node_of w.nodes q.node) r.trunk)) (nothing_between p q (list_to w.lists r.trunk p.node)) (nothing_between p q (list_to w.lists r.trunk q.node)) r.passes in
       let at : side_in (node_of w.nodes p.node) r.trunk ≡ Some r.side = ap (λ u. side_in u r.trunk) e ∙ fm.get-entries n.sides r.trunk ∙ r.found in
       Over d r.trunk (up_there w p.node r.trunk q.node (ap (is_up_to q.node) at ∙ v.0), up_there w q.node r.trunk p.node v.1) v.2 v.3
 
@@ -98,8 +98,8 @@ module _ (w : World) (p q : Pid) where
 
   pub quiet_by_test : is_quiet w p q ≡ true → Quiet w p q
   quiet_by_test h = by_test (Quiet w p q) (same_name p.node q.node)
-      (λ e. Within (same_name_true p.node q.node e) (sym (ap (λ b. cond b (is_silent p q (local_list w p.node)) apart) e) ∙ h))
-      (λ e. either (is_some (first_where (is_quiet_on w p q) (sides_at (node_of w.nodes p.node)))) (not (is_connected w p.node q.node) && not (is_connected w q.node p.node)) (Quiet w p q) (sym (ap (λ b. cond b (is_silent p q (local_list w p.node)) apart) e) ∙ h)
+      (λ e. Within (same_name_true p.node q.node e) (sym (ap (λ b. cond b (nothing_between p q (local_list w p.node)) apart) e) ∙ h))
+      (λ e. either (is_some (first_where (is_quiet_on w p q) (sides_at (node_of w.nodes p.node)))) (not (is_connected w p.node q.node) && not (is_connected w q.node p.node)) (Quiet w p q) (sym (ap (λ b. cond b (nothing_between p q (local_list w p.node)) apart) e) ∙ h)
       (λ i. over e (node_of w.nodes p.node) refl i)
       (λ i. let v = none_there (is_connected w p.node q.node) (is_connected w q.node p.node) i in Unconnected e v.0 v.1))
 
@@ -112,14 +112,14 @@ module _ (w : World) (p q : Pid) where
   or_right false = refl
 
   pub test_of_quiet : Quiet w p q → is_quiet w p q ≡ true
-  test_of_quiet (Within e s) = ap (λ b. cond b (is_silent p q (local_list w p.node)) apart) (same_name_is p.node q.node e) ∙ s
+  test_of_quiet (Within e s) = ap (λ b. cond b (nothing_between p q (local_list w p.node)) apart) (same_name_is p.node q.node e) ∙ s
   test_of_quiet (Over d t c s r) =
-      ap (λ b. cond b (is_silent p q (local_list w p.node)) apart) d
+      ap (λ b. cond b (nothing_between p q (local_list w p.node)) apart) d
       ∙ ap (λ b. b || (not (is_connected w p.node q.node) && not (is_connected w q.node p.node))) (some_there t (node_of w.nodes p.node) refl c.0
-      (four_all (is_up_to q.node (Some c.0.side)) (is_up_to p.node (side_in (node_of w.nodes q.node) t)) (is_silent p q (list_to w.lists t p.node)) (is_silent p q (list_to w.lists t q.node))
+      (four_all (is_up_to q.node (Some c.0.side)) (is_up_to p.node (side_in (node_of w.nodes q.node) t)) (nothing_between p q (list_to w.lists t p.node)) (nothing_between p q (list_to w.lists t q.node))
       (sym (ap (is_up_to q.node) c.0.there) ∙ is_up_there w p.node t q.node c.0) (is_up_there w q.node t p.node c.1) s r))
   test_of_quiet (Unconnected d a b) =
-      ap (λ c. cond c (is_silent p q (local_list w p.node)) apart) d
+      ap (λ c. cond c (nothing_between p q (local_list w p.node)) apart) d
       ∙ ap (λ c. is_some (first_where (is_quiet_on w p q) (sides_at (node_of w.nodes p.node))) || c) (ap (λ c. not c && not (is_connected w q.node p.node)) a ∙ ap not b)
       ∙ or_right (is_some (first_where (is_quiet_on w p q) (sides_at (node_of w.nodes p.node))))
 

@@ -17,9 +17,9 @@ use Rattle.dist_model.specs.Commands.{Accepts, Outcome, Refuses}
 use Rattle.dist_model.specs.declared.command.Command.{Command}
 use Rattle.dist_model.specs.Items.{Handshake, Item, Signalled, Tick, news, news_in, telling}
 use Rattle.dist_model.specs.Linking.{take_link}
-use Rattle.dist_model.specs.Links.{Exits, LinkNews, Says}
+use Rattle.dist_model.specs.Links.{Exited, LinkNews, Signals}
 use Rattle.dist_model.specs.Names.{Name, place_cmp, same_name, same_pid}
-use Rattle.dist_model.specs.Node.{Node, never, reaches, route_in}
+use Rattle.dist_model.specs.Node.{Node, is_stranger, reaches, route_in}
 use Rattle.dist_model.specs.Sides.{Accepting, Asked, AwaitsAck, AwaitsChallenge, AwaitsStatus, Gone, Losing, Parked, State, TrunkSide, Up, is_up}
 use Rattle.dist_model.specs.Taking.{take, take_item}
 use Rattle.dist_model.specs.Work.{Work, at_work}
@@ -188,8 +188,8 @@ module _ (w : World) (x : Name) (n : Node) (t0 : TrunkId) (s0 : TrunkSide) (i : 
 pub is_from_peer : (s : TrunkSide) (q : Pid) → is_from s q ≡ true → q.node ≡ s.peer
 is_from_peer s q h = same_name_true q.node s.peer (and_both (same_name q.node s.peer) _ h).0
 
-pub not_never : (n : Node) (p : Pid) → is_to n p ≡ true → never n p ≡ false
-not_never n p h = go (never n p) (and_both (same_name p.node n.mint.name) (not (never n p)) h).1
+pub not_never : (n : Node) (p : Pid) → is_to n p ≡ true → is_stranger n p ≡ false
+not_never n p h = go (is_stranger n p) (and_both (same_name p.node n.mint.name) (not (is_stranger n p)) h).1
   where
     go : (b : Bool) → not b ≡ true → b ≡ false
     go true h = cc
@@ -197,23 +197,23 @@ not_never n p h = go (never n p) (and_both (same_name p.node n.mint.name) (not (
 
 -- who takes it
 pub taken_link : (q p : Pid) (s : LinkNews) (o : Work) → take (telling q p s) o ≡ take_link p q s o
-taken_link q p (Says LinkSignal.Link) o = refl
-taken_link q p (Says (LinkSignal.Unlink i)) o = refl
-taken_link q p (Says (LinkSignal.Ack i)) o = refl
-taken_link q p (Exits r) o = refl
+taken_link q p (Signals LinkSignal.Link) o = refl
+taken_link q p (Signals (LinkSignal.Unlink i)) o = refl
+taken_link q p (Signals (LinkSignal.Ack i)) o = refl
+taken_link q p (Exited r) o = refl
 
 pub good_link : (n : Node) (v : TrunkSide) (q p : Pid) (s : LinkNews) → is_good n v (Signalled (telling q p s)) ≡ (is_from v q && is_to n p)
-good_link n v q p (Says LinkSignal.Link) = refl
-good_link n v q p (Says (LinkSignal.Unlink i)) = refl
-good_link n v q p (Says (LinkSignal.Ack i)) = refl
-good_link n v q p (Exits r) = refl
+good_link n v q p (Signals LinkSignal.Link) = refl
+good_link n v q p (Signals (LinkSignal.Unlink i)) = refl
+good_link n v q p (Signals (LinkSignal.Ack i)) = refl
+good_link n v q p (Exited r) = refl
 
 -- about a link, or not
 pub kind : (i : Item) → ((p q : Pid) → news_in p q i ≡ []) ⊎ ((q : Pid) × (p : Pid) × (s : LinkNews) × (i ≡ Signalled (telling q p s)))
-kind (Signalled (Signal.Link q p)) = inr (q, p, Says LinkSignal.Link, refl)
-kind (Signalled (Signal.Exit q p r)) = inr (q, p, Exits r, refl)
-kind (Signalled (Signal.UnlinkId i q p)) = inr (q, p, Says (LinkSignal.Unlink i), refl)
-kind (Signalled (Signal.UnlinkIdAck i q p)) = inr (q, p, Says (LinkSignal.Ack i), refl)
+kind (Signalled (Signal.Link q p)) = inr (q, p, Signals LinkSignal.Link, refl)
+kind (Signalled (Signal.Exit q p r)) = inr (q, p, Exited r, refl)
+kind (Signalled (Signal.UnlinkId i q p)) = inr (q, p, Signals (LinkSignal.Unlink i), refl)
+kind (Signalled (Signal.UnlinkIdAck i q p)) = inr (q, p, Signals (LinkSignal.Ack i), refl)
 kind (Signalled (Signal.Send p t)) = inl (λ a b. refl)
 kind (Signalled (Signal.Exit2 q p r)) = inl (λ a b. refl)
 kind (Signalled (Signal.Monitor q p r)) = inl (λ a b. refl)

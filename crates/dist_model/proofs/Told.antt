@@ -19,7 +19,7 @@ use Rattle.dist_model.specs.Histories.{Happening, History}
 use Rattle.dist_model.specs.Items.{Item}
 use Rattle.dist_model.specs.Links.{noproc}
 use Rattle.dist_model.specs.Names.{Name, place_cmp}
-use Rattle.dist_model.specs.Node.{Node, living, never}
+use Rattle.dist_model.specs.Node.{Node, living, is_stranger}
 use Rattle.dist_model.specs.Work.{Work}
 use Rattle.dist_model.specs.declared.report.Effect.{Effect}
 use Rattle.dist_model.specs.World.{Call, Event, Report, Reported, World, carried, list_to, node_of, set_node}
@@ -58,7 +58,7 @@ IsNamed k h d = Monitored k d.owner d.target h
 pub record Sound (w : World) (h : History) : Type 0 where
   pub lists : (t : TrunkId) (y : Name) → All (IsFounded w h) (list_to w.lists t y)
   pub locals : (y : Name) (v : Node) → node_of w.nodes y ≡ Some v → All (IsFounded w h) v.local
-  pub homes : (y : Name) (v : Node) → node_of w.nodes y ≡ Some v → All (TargetsIn (λ q. never v q ≡ false)) v.local
+  pub homes : (y : Name) (v : Node) → node_of w.nodes y ≡ Some v → All (TargetsIn (λ q. is_stranger v q ≡ false)) v.local
   pub enrolled : (y : Name) (v : Node) (k : Reference) (u : Monitor) → node_of w.nodes y ≡ Some v → fm.get v.registered k ≡ Some u → (living v u.target ≡ true) × Monitored k u.owner u.target h
   pub one : (k : Reference) → answers k h ≤ 1
   pub drawn : (k : Reference) → 1 ≤ answers k h → (v : Node) × (node_of w.nodes k.node ≡ Some v) × Drawn v k
@@ -98,10 +98,10 @@ pub data Course (w : World) (h : History) (n : Node) (x : Name) (e : Event) (r :
 -- what an event at x leaves
 pub record Deed (w : World) (h : History) (x : Name) (n : Node) (e : Event) (a : Answer) (o : Work) : Type 0 where
   pub name : o.node.mint.name ≡ x
-  pub nevers : (p : Pid) → never n p ≡ false → never o.node p ≡ false
+  pub nevers : (p : Pid) → is_stranger n p ≡ false → is_stranger o.node p ≡ false
   pub grows : (p : Pid) → over n p ≡ true → over o.node p ≡ true
   pub carries : Carried (Founded (EndedBefore n (Old w h) (λ p q z. Unit {0}) (Called h) (Off w h) o) (λ p q k. Monitored k p q ((record { event = e; report = Reported a o.effects }) ∷ h)) (OffNow n (Old w h) (λ p q z. Unit {0}) (Called h) (Off w h) o)) o
-  pub homes : All (TargetsIn (λ q. never o.node q ≡ false)) o.node.local
+  pub homes : All (TargetsIn (λ q. is_stranger o.node q ≡ false)) o.node.local
   pub enrolled : (k : Reference) (u : Monitor) → fm.get o.node.registered k ≡ Some u → (living o.node u.target ≡ true) × Monitored k u.owner u.target h
   pub owners : (k : Reference) (u : Monitor) → fm.get o.node.watches k ≡ Some u → living o.node u.owner ≡ true
   pub drawn : (k : Reference) → Drawn n k → Drawn o.node k
@@ -341,7 +341,7 @@ module _ (w : World) (h : History) (x : Name) (n : Node) (hx : node_of w.nodes x
         (λ i. subst (λ (z : Node). All (IsFounded (after m) happened) z.local) (here_after y v i hv) (All-weaker _ (IsFounded (after m) happened) comes_founded o.node.local d.carries.local))
         (λ i. All-weaker (IsFounded w h) (IsFounded (after m) happened) stays_founded v.local (g.locals y v (sym (elsewhere y i) ∙ hv)));
     homes = λ y v hv. by_name _ x y
-        (λ i. subst (λ (z : Node). All (TargetsIn (λ q. never z q ≡ false)) z.local) (here_after y v i hv) d.homes)
+        (λ i. subst (λ (z : Node). All (TargetsIn (λ q. is_stranger z q ≡ false)) z.local) (here_after y v i hv) d.homes)
         (λ i. g.homes y v (sym (elsewhere y i) ∙ hv));
     enrolled = λ y v k u hv j. by_name _ x y
         (λ i. let r = d.enrolled k u (ap (λ (z : Node). fm.get z.registered k) (here_after y v i hv) ∙ j) in (ap (λ (z : Node). living z u.target) (sym (here_after y v i hv)) ∙ r.0, inr r.1))

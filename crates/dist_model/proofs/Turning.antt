@@ -17,7 +17,7 @@ use Rattle.dist_model.proofs.Routes.{at_place, none_some, some_same}
 use Rattle.dist_model.proofs.Table.{has}
 use Rattle.dist_model.specs.Downs.{Down, down_in, downs_in, same_reference}
 use Rattle.dist_model.proofs.Leaving.{exits_in, exits_cons}
-use Rattle.dist_model.specs.Exits.{buried, demonitors, finish, is_owned, is_target, monitor_exits}
+use Rattle.dist_model.specs.Exits.{buried, demonitors, end_process, is_owned, is_target, monitor_exits}
 use Rattle.dist_model.specs.Handshake.{with_side, write}
 use Rattle.dist_model.specs.Items.{Handshake, Item, Signalled, receiver_of}
 use Rattle.dist_model.specs.Monitoring.{register, unregister, unwatch}
@@ -401,7 +401,7 @@ module _ (n : Node) (Tells : Reference → Monitor → Data → Type 0) (Joins :
       (any_to_append (is_end j) m.owner.node (exits_in p x (fm.entries o.node.ends)) (monitor_exits p x (fm.entries o.node.registered))
       ∙ or_second (any_to (is_end j) m.owner.node (exits_in p x (fm.entries o.node.ends))) _ (told_owner p x j m (fm.entries o.node.registered) (sym (fm.get-entries o.node.registered j) ∙ h) e))
 
-  finish_turns : (p : Pid) (x : Data) (o : Work) → Core o → Core (finish p x o)
+  finish_turns : (p : Pid) (x : Data) (o : Work) → Core o → Core (end_process p x o)
   finish_turns p x o k = record {
     turns = buried_turns p x (post_all (last_words p x o) o)
         (λ j m h e. lands_all (is_end j) n m.owner.node (last_words p x o) o k.sides k.turns.name (owner_hears p x o j m (ap (λ z. fm.get z j) (sym (all_posts_keep (λ v. v.registered) (λ v l. refl) (last_words p x o) o)) ∙ h) e))

@@ -5,9 +5,9 @@ use Rattle.dist_model.proofs.Envelopes.{Envelope, outgoing, sent_by, sent_in, se
 use Rattle.dist_model.proofs.Keys.{and_both, same_name_is, same_pid_refl, same_pid_true}
 use Rattle.dist_model.proofs.Pair.{Side}
 use Rattle.dist_model.specs.Items.{Item, Signalled, news, news_in, receiver_of, sender_of, telling}
-use Rattle.dist_model.specs.Links.{Exits, LinkNews, Says}
+use Rattle.dist_model.specs.Links.{Exited, LinkNews, Signals}
 use Rattle.dist_model.specs.Names.{Name, same_name, same_pid}
-use Rattle.dist_model.specs.Node.{Node, end_of, living, never, reaches, route}
+use Rattle.dist_model.specs.Node.{Node, end_of, living, is_stranger, reaches, route}
 use Rattle.dist_model.specs.declared.report.Effect.{Effect}
 use Rattle.dist_model.specs.Work.{Work, keep_local, post, post_all, post_to, report, send_on}
 use Rattle.erl_control.specs.declared.signal.Signal.{Signal}
@@ -25,7 +25,7 @@ line o y = cond (same_name y o.node.mint.name) o.node.local (to_name y (outgoing
 
 -- once spawned, and not living
 abbrev pub over : Node → Pid → Bool
-over n p = not (living n p) && not (never n p)
+over n p = not (living n p) && not (is_stranger n p)
 
 abbrev pub side_of : Node → Pid → Pid → List LinkNews → Side
 side_of n p q L = record { end = end_of n p q; gone = over n p; drawn = n.mint.unlink_ids; sent = L }
@@ -168,22 +168,22 @@ signal_other true s h = cc
 signal_other false s h = refl
 
 pub telling_news : (a b p q : Pid) (s : LinkNews) → news_in p q (Signalled (telling a b s)) ≡ cond (same_pid a p && same_pid b q) (s ∷ []) []
-telling_news a b p q (Says LinkSignal.Link) = refl
-telling_news a b p q (Says (LinkSignal.Unlink i)) = refl
-telling_news a b p q (Says (LinkSignal.Ack i)) = refl
-telling_news a b p q (Exits r) = refl
+telling_news a b p q (Signals LinkSignal.Link) = refl
+telling_news a b p q (Signals (LinkSignal.Unlink i)) = refl
+telling_news a b p q (Signals (LinkSignal.Ack i)) = refl
+telling_news a b p q (Exited r) = refl
 
 pub telling_receiver : (a b : Pid) (s : LinkNews) → receiver_of (telling a b s) ≡ b
-telling_receiver a b (Says LinkSignal.Link) = refl
-telling_receiver a b (Says (LinkSignal.Unlink i)) = refl
-telling_receiver a b (Says (LinkSignal.Ack i)) = refl
-telling_receiver a b (Exits r) = refl
+telling_receiver a b (Signals LinkSignal.Link) = refl
+telling_receiver a b (Signals (LinkSignal.Unlink i)) = refl
+telling_receiver a b (Signals (LinkSignal.Ack i)) = refl
+telling_receiver a b (Exited r) = refl
 
 pub telling_sender : (a b : Pid) (s : LinkNews) → sender_of (telling a b s) ≡ Some a
-telling_sender a b (Says LinkSignal.Link) = refl
-telling_sender a b (Says (LinkSignal.Unlink i)) = refl
-telling_sender a b (Says (LinkSignal.Ack i)) = refl
-telling_sender a b (Exits r) = refl
+telling_sender a b (Signals LinkSignal.Link) = refl
+telling_sender a b (Signals (LinkSignal.Unlink i)) = refl
+telling_sender a b (Signals (LinkSignal.Ack i)) = refl
+telling_sender a b (Exited r) = refl
 
 pub linking_suits_by : (b : Bool) (x y p q : Pid) (s : LinkNews) → (same_pid x p && same_pid y q) ≡ b → Suits y.node (Signalled (telling x y s)) p q
 linking_suits_by true x y p q s e = inl (ap (λ (v : Pid). v.node) (same_pid_true y q (and_both (same_pid x p) (same_pid y q) e).1))

@@ -7,7 +7,7 @@ use Rattle.dist_model.specs.declared.report.Answer.{Answer}
 use Rattle.dist_model.specs.Handshake.{fault, handshake_at}
 use Rattle.dist_model.specs.Items.{Handshake, Item, Signalled, Tick, kind_of, receiver_of, sender_of}
 use Rattle.dist_model.specs.Names.{same_name}
-use Rattle.dist_model.specs.Node.{Node, never}
+use Rattle.dist_model.specs.Node.{Node, is_stranger}
 use Rattle.dist_model.specs.Sides.{State, TrunkSide, Up, is_over, unheard}
 use Rattle.dist_model.specs.Taking.{take_item}
 use Rattle.dist_model.specs.Work.{Work, at_work}
@@ -29,7 +29,7 @@ from_peer side None = true
 from_peer side (Some p) = is_from side p
 
 abbrev pub is_to : Node → Pid → Bool
-is_to node p = same_name p.node node.mint.name && not (never node p)
+is_to node p = same_name p.node node.mint.name && not (is_stranger node p)
 
 abbrev pub is_good : Node → TrunkSide → Item → Bool
 is_good node side (Signalled signal) = from_peer side (sender_of signal) && is_to node (receiver_of signal)

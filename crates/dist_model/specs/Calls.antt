@@ -6,12 +6,12 @@ use Rattle.erl_names.specs.Draw as kind
 use Rattle.dist_model.specs.Commands.{Accepts, Outcome, Refuses, with_id}
 use Rattle.dist_model.specs.declared.report.Answer.{Answer}
 use Rattle.dist_model.specs.declared.command.Command.{Command}
-use Rattle.dist_model.specs.Exits.{finish}
+use Rattle.dist_model.specs.Exits.{end_process}
 use Rattle.dist_model.specs.Fits.{fits}
 use Rattle.dist_model.specs.Linking.{link, unlink_by}
 use Rattle.dist_model.specs.Monitoring.{demonitor_by, monitor}
 use Rattle.dist_model.specs.Names.{same_name, same_pid}
-use Rattle.dist_model.specs.Node.{Life, Living, Node, end_of, ends_of, living, never}
+use Rattle.dist_model.specs.Node.{Life, Living, Node, end_of, ends_of, living, is_stranger}
 use Rattle.dist_model.specs.Work.{Work, at_work, draw, post, set_life}
 use Rattle.erl_control.specs.declared.signal.Signal.{Signal}
 use Rattle.erl_names.specs.Ids.{pid_of, reference_of}
@@ -27,7 +27,7 @@ acting node p outcome = if living node p then outcome else Refuses Refusal.NoSuc
 
 -- what it acts on may not be a pid of this node that it never spawned
 abbrev pub toward : Node → Pid → Outcome → Outcome
-toward node q outcome = if same_name q.node node.mint.name && never node q then Refuses Refusal.Forged else outcome
+toward node q outcome = if same_name q.node node.mint.name && is_stranger node q then Refuses Refusal.Forged else outcome
 
 abbrev pub fitting : Data → Outcome → Outcome
 fitting term outcome = if fits term then outcome else Refuses Refusal.TooLong
@@ -60,7 +60,7 @@ call node (Command.Monitor p q) = acting node p (toward node q (with_id (id_of n
 call node (Command.Demonitor p r) = acting node p (demonitor_by (fm.get node.watches r) p r (at_work node))
 call node (Command.Trap p on) = acting node p (Accepts Answer.Done (with_life node p (trapping (fm.get node.lives p) on)))
 call node (Command.ExitTo p q reason) = acting node p (toward node q (fitting reason (Accepts Answer.Done (post (Signal.Exit2 p q reason) (at_work node)))))
-call node (Command.ExitSelf p reason) = acting node p (fitting reason (Accepts Answer.Done (finish p reason (at_work node))))
+call node (Command.ExitSelf p reason) = acting node p (fitting reason (Accepts Answer.Done (end_process p reason (at_work node))))
 call node (Command.Receive p) = acting node p (Accepts (Answer.Message (first_message (fm.get node.lives p))) (with_life node p (without_first (fm.get node.lives p))))
 call node (Command.LinksOf p) = acting node p (Accepts (Answer.Links (ends_of node p)) (at_work node))
 call node (Command.IsAlive p) = Accepts (Answer.Alive (living node p)) (at_work node)

@@ -5,7 +5,7 @@ use Rattle.std.specs.FinMap as fm
 use Rattle.dist_model.specs.Causes.{Reacts}
 use Rattle.dist_model.specs.declared.command.Command.{Command}
 use Rattle.dist_model.specs.Items.{Item, Signalled, news}
-use Rattle.dist_model.specs.Links.{Says, drained, last_said}
+use Rattle.dist_model.specs.Links.{Signals, drained, last_said}
 use Rattle.dist_model.specs.Names.{Name, place_cmp}
 use Rattle.dist_model.specs.NodeEvents.{at_node}
 use Rattle.dist_model.specs.Commands.{Accepts, Refuses}
@@ -13,7 +13,7 @@ use Rattle.dist_model.specs.Work.{Work}
 use Rattle.dist_model.specs.declared.report.Answer.{Answer}
 use Rattle.dist_model.specs.declared.report.Effect.{Effect}
 use Rattle.erl_term.specs.declared.refusal.Refusal.{Refusal}
-use Rattle.dist_model.specs.Node.{Node, living, never, Ended}
+use Rattle.dist_model.specs.Node.{Node, living, is_stranger, Ended}
 use Rattle.dist_model.specs.Quiet.{Quiet}
 use Rattle.dist_model.specs.Seen.{AreConnected, HasSide, end_between, is_connected, is_living, is_reached, local_list}
 use Rattle.dist_model.specs.Sides.{is_losing, is_up}
@@ -47,11 +47,11 @@ AgreementInQuiet w = (p q : Pid) → Quiet w p q → is_living w p ≡ true → 
 -- where an end waits for an acknowledgement, its UNLINK_ID is the last LINK or UNLINK_ID on the way to the partner, or the acknowledgement is on its way back
 abbrev pub PendingOnItsWay : World → Type 0
 PendingOnItsWay w = (p q : Pid) (t : TrunkId) (i : ℕ) → AreConnected w p.node t q.node → is_living w p ≡ true → is_living w q ≡ true → end_between w p q ≡ End.Pending i
-    → (last_said (news p q (list_to w.lists t q.node)) ≡ Some (LinkSignal.Unlink i)) ⊎ Contains (news q p (list_to w.lists t p.node)) (Says (LinkSignal.Ack i))
+    → (last_said (news p q (list_to w.lists t q.node)) ≡ Some (LinkSignal.Unlink i)) ⊎ Contains (news q p (list_to w.lists t p.node)) (Signals (LinkSignal.Ack i))
 
 abbrev pub PendingWithin : World → Type 0
 PendingWithin w = (p q : Pid) (i : ℕ) → p.node ≡ q.node → is_living w p ≡ true → is_living w q ≡ true → end_between w p q ≡ End.Pending i
-    → (last_said (news p q (local_list w p.node)) ≡ Some (LinkSignal.Unlink i)) ⊎ Contains (news q p (local_list w p.node)) (Says (LinkSignal.Ack i))
+    → (last_said (news p q (local_list w p.node)) ≡ Some (LinkSignal.Unlink i)) ⊎ Contains (news q p (local_list w p.node)) (Signals (LinkSignal.Ack i))
 
 -- ---- No link to the dead, and none to itself. (Reference Manual, Processes, Links)
 
@@ -72,12 +72,12 @@ LinkNeedsConnection w = (p q : Pid) → (end_between w p q ≡ End.None → ⊥)
 -- a process that is living was spawned by the running incarnation
 abbrev pub LivingMeans : World → Type 0
 LivingMeans w = (name : Name) (node : Node) (p : Pid) → node_of w.nodes name ≡ Some node → living node p ≡ true
-    → (node.up ≡ true) × (p.creation ≡ node.mint.creation) × (never node p ≡ false)
+    → (node.up ≡ true) × (p.creation ≡ node.mint.creation) × (is_stranger node p ≡ false)
 
 -- and each that it has spawned is living, or the node keeps why it ended
 abbrev pub SpawnedLivesOrEnded : World → Type 0
 SpawnedLivesOrEnded w = (name : Name) (node : Node) (p : Pid) → node_of w.nodes name ≡ Some node
-    → node.up ≡ true → p.creation ≡ node.mint.creation → never node p ≡ false
+    → node.up ≡ true → p.creation ≡ node.mint.creation → is_stranger node p ≡ false
     → (living node p ≡ true) ⊎ ((reason : Data) × (fm.get node.lives p ≡ Some (Ended reason)))
 
 -- a node that is down keeps no processes, no links and no monitors

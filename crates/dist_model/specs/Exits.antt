@@ -49,8 +49,8 @@ buried p reason work = record work {
 }
 
 -- each group in the order of its keys
-abbrev pub finish : Pid → Data → Work → Work
-finish p reason work = buried p reason
+abbrev pub end_process : Pid → Data → Work → Work
+end_process p reason work = buried p reason
     (post_all (exits p reason (ends_of work.node p) ++ monitor_exits p reason (fm.entries work.node.registered) ++ demonitors p (fm.entries work.node.watches)) work)
 
 -- ---- an exit signal comes to p
@@ -66,7 +66,7 @@ sent_exit p q reason = record { sender = q; reason = reason; link = false; is_ac
 abbrev pub carry_out : Reaction → Pid → Work → Work
 carry_out Reaction.Ignore p work = work
 carry_out (Reaction.Put message) p work = put p message work
-carry_out (Reaction.End reason) p work = finish p reason work
+carry_out (Reaction.End reason) p work = end_process p reason work
 
 -- the link's record is gone by now, so no EXIT goes back to q
 abbrev pub link_exit : Pid → Pid → Data → Work → Work

@@ -71,12 +71,12 @@ acceptor_side side (AcceptorState.Done creation) = record side { peer_creation =
 acceptor_side side AcceptorState.Over = in_state Gone side
 
 -- the role's turn says what is sent, and whether the handshake goes on
-abbrev pub after : Verdict → TrunkId → (old new : TrunkSide) → ShakeMsg → Option ShakeMsg → Work → Outcome
-after (verdict.Ended why) trunk old new message send work = fault (Fault.Shake why) trunk old work
-after _ trunk old new message send work = Accepts (Answer.Took (kind_of (Handshake message))) (write_if trunk old.peer send (with_side trunk new work))
+abbrev pub on_verdict : Verdict → TrunkId → (old new : TrunkSide) → ShakeMsg → Option ShakeMsg → Work → Outcome
+on_verdict (verdict.Ended why) trunk old new message send work = fault (Fault.Shake why) trunk old work
+on_verdict _ trunk old new message send work = Accepts (Answer.Took (kind_of (Handshake message))) (write_if trunk old.peer send (with_side trunk new work))
 
 abbrev pub handshake_on : TrunkId → TrunkSide → ShakeMsg → TrunkSide → Next → Work → Outcome
-handshake_on trunk old message new next work = after next.progress trunk old new message next.send work
+handshake_on trunk old message new next work = on_verdict next.progress trunk old new message next.send work
 
 abbrev pub dialer_hears : TrunkId → TrunkSide → DialerState → ShakeMsg → Work → Outcome
 dialer_hears trunk side state message work =
@@ -91,20 +91,20 @@ acceptor_hears trunk side state message work =
 
 -- ---- the dialer answers `true`: the older connection is lost, and once its records are swept the handshake goes on
 
-abbrev pub end_up : Option (TrunkId × TrunkSide) → Work → Work
-end_up None work = work
-end_up (Some entry) work = set_state entry.0 entry.1 Losing work
+abbrev pub up_is_lost : Option (TrunkId × TrunkSide) → Work → Work
+up_is_lost None work = work
+up_is_lost (Some entry) work = set_state entry.0 entry.1 Losing work
 
-abbrev pub go_on : Option (TrunkId × TrunkSide) → TrunkId → TrunkSide → ℕ → Work → Work
-go_on None trunk side word work = send_challenge trunk side word work
-go_on (Some losing) trunk side word work = set_state trunk side (Parked word) work
+abbrev pub challenge_or_park : Option (TrunkId × TrunkSide) → TrunkId → TrunkSide → ℕ → Work → Work
+challenge_or_park None trunk side word work = send_challenge trunk side word work
+challenge_or_park (Some losing) trunk side word work = set_state trunk side (Parked word) work
 
-abbrev pub goes_on : TrunkId → TrunkSide → ℕ → Work → Work
-goes_on trunk side word work = go_on (side_where is_losing side.peer (fm.entries work.node.sides)) trunk side word work
+abbrev pub send_challenge_or_park : TrunkId → TrunkSide → ℕ → Work → Work
+send_challenge_or_park trunk side word work = challenge_or_park (side_where is_losing side.peer (fm.entries work.node.sides)) trunk side word work
 
 abbrev pub after_answer : Verdict → TrunkId → TrunkSide → ℕ → ShakeMsg → Work → Outcome
 after_answer (verdict.Ended why) trunk side word message work = fault (Fault.Shake why) trunk side work
-after_answer _ trunk side word message work = Accepts (Answer.Took (kind_of (Handshake message))) (goes_on trunk side word (end_up (side_where is_up side.peer (fm.entries work.node.sides)) work))
+after_answer _ trunk side word message work = Accepts (Answer.Took (kind_of (Handshake message))) (send_challenge_or_park trunk side word (up_is_lost (side_where is_up side.peer (fm.entries work.node.sides)) work))
 
 abbrev pub hears_answer : TrunkId → TrunkSide → ℕ → ShakeMsg → Work → Outcome
 hears_answer trunk side word message work =

@@ -2,7 +2,7 @@
 -- (ERTS User's Guide, Distribution Protocol.)
 use Rattle.std.specs.List.{flat_map}
 use Rattle.std.specs.Prelude.{Option, None, Some, if◌then◌else◌, ◌&&◌, List, [], ◌∷◌}
-use Rattle.dist_model.specs.Links.{Exits, LinkNews, Says}
+use Rattle.dist_model.specs.Links.{Exited, LinkNews, Signals}
 use Rattle.dist_model.specs.Names.{same_pid}
 use Rattle.dist_model.specs.declared.report.Kind.{Kind}
 use Rattle.erl_control.specs.declared.signal.Signal.{Signal}
@@ -41,20 +41,20 @@ receiver_of (Signal.UnlinkIdAck id from to) = to
 
 -- the signal by which p tells q news of their link
 abbrev pub telling : Pid → Pid → LinkNews → Signal
-telling p q (Says LinkSignal.Link) = Signal.Link p q
-telling p q (Says (LinkSignal.Unlink id)) = Signal.UnlinkId id p q
-telling p q (Says (LinkSignal.Ack id)) = Signal.UnlinkIdAck id p q
-telling p q (Exits reason) = Signal.Exit p q reason
+telling p q (Signals LinkSignal.Link) = Signal.Link p q
+telling p q (Signals (LinkSignal.Unlink id)) = Signal.UnlinkId id p q
+telling p q (Signals (LinkSignal.Ack id)) = Signal.UnlinkIdAck id p q
+telling p q (Exited reason) = Signal.Exit p q reason
 
 -- what p tells q of their link by an item, and by those of a list
 abbrev pub if_between : Pid → Pid → Pid → Pid → LinkNews → List LinkNews
 if_between p q from to told = if same_pid from p && same_pid to q then told ∷ [] else []
 
 abbrev pub news_in : Pid → Pid → Item → List LinkNews
-news_in p q (Signalled (Signal.Link from to)) = if_between p q from to (Says LinkSignal.Link)
-news_in p q (Signalled (Signal.Exit from to reason)) = if_between p q from to (Exits reason)
-news_in p q (Signalled (Signal.UnlinkId id from to)) = if_between p q from to (Says (LinkSignal.Unlink id))
-news_in p q (Signalled (Signal.UnlinkIdAck id from to)) = if_between p q from to (Says (LinkSignal.Ack id))
+news_in p q (Signalled (Signal.Link from to)) = if_between p q from to (Signals LinkSignal.Link)
+news_in p q (Signalled (Signal.Exit from to reason)) = if_between p q from to (Exited reason)
+news_in p q (Signalled (Signal.UnlinkId id from to)) = if_between p q from to (Signals (LinkSignal.Unlink id))
+news_in p q (Signalled (Signal.UnlinkIdAck id from to)) = if_between p q from to (Signals (LinkSignal.Ack id))
 news_in p q _ = []
 
 abbrev pub news : Pid → Pid → List Item → List LinkNews

@@ -6,7 +6,7 @@ use Rattle.dist_model.specs.Commands.{Accepts, Outcome, with_id}
 use Rattle.dist_model.specs.declared.report.Answer.{Answer}
 use Rattle.dist_model.specs.Exits.{link_exit}
 use Rattle.dist_model.specs.Items.{telling}
-use Rattle.dist_model.specs.Links.{Exits, LinkNews, Says, heard, noconnection, reply}
+use Rattle.dist_model.specs.Links.{Exited, LinkNews, Signals, heard, noconnection, reply}
 use Rattle.dist_model.specs.Names.{same_pid}
 use Rattle.dist_model.specs.Node.{end_of, living, reaches}
 use Rattle.dist_model.specs.Work.{Work, draw, post, post_all, set_end}
@@ -41,8 +41,8 @@ unlink_by end p q work = if is_active end then with_id (id_of work.node.mint kin
 
 -- to an exit it reacts only where it was linked
 abbrev pub exit_follows : End → LinkNews → Pid → Pid → Work → Work
-exit_follows was (Says signal) p q work = work
-exit_follows was (Exits reason) p q work = if is_active was then link_exit p q reason work else work
+exit_follows was (Signals signal) p q work = work
+exit_follows was (Exited reason) p q work = if is_active was then link_exit p q reason work else work
 
 -- the reply goes before anything else
 abbrev pub take_link_by : Bool → Pid → Pid → LinkNews → Work → Work

@@ -15,13 +15,13 @@ noconnection = atom (codes "noconnection")
 
 -- a signal of the New Link Protocol, or EXIT
 pub data LinkNews : Type 0 where
-  Says : (signal : LinkSignal) → LinkNews
-  Exits : (reason : Data) → LinkNews
+  Signals : (signal : LinkSignal) → LinkNews
+  Exited : (reason : Data) → LinkNews
 
 -- an end once its process has heard the partner's news
 abbrev pub heard : End → LinkNews → End
-heard end (Says signal) = received end signal
-heard end (Exits reason) = exited end
+heard end (Signals signal) = received end signal
+heard end (Exited reason) = exited end
 
 -- and once it has heard all that travels to it
 abbrev pub drained : End → List LinkNews → End
@@ -30,15 +30,15 @@ drained end (first ∷ rest) = drained (heard end first) rest
 
 -- what goes back at once: a process that isn't living answers LINK by EXIT with noproc, and UNLINK_ID is acknowledged in any case
 abbrev pub reply : (gone : Bool) → LinkNews → List LinkNews
-reply gone (Says LinkSignal.Link) = if gone then Exits noproc ∷ [] else []
-reply gone (Says (LinkSignal.Unlink id)) = Says (LinkSignal.Ack id) ∷ []
-reply gone (Says (LinkSignal.Ack id)) = []
-reply gone (Exits reason) = []
+reply gone (Signals LinkSignal.Link) = if gone then Exited noproc ∷ [] else []
+reply gone (Signals (LinkSignal.Unlink id)) = Signals (LinkSignal.Ack id) ∷ []
+reply gone (Signals (LinkSignal.Ack id)) = []
+reply gone (Exited reason) = []
 
 -- the last LINK or UNLINK_ID, if there is one
 abbrev pub last_said : List LinkNews → Option LinkSignal
 last_said [] = None
-last_said (Says LinkSignal.Link ∷ rest) = option_or (last_said rest) (Some LinkSignal.Link)
-last_said (Says (LinkSignal.Unlink id) ∷ rest) = option_or (last_said rest) (Some (LinkSignal.Unlink id))
-last_said (Says (LinkSignal.Ack id) ∷ rest) = last_said rest
-last_said (Exits reason ∷ rest) = last_said rest
+last_said (Signals LinkSignal.Link ∷ rest) = option_or (last_said rest) (Some LinkSignal.Link)
+last_said (Signals (LinkSignal.Unlink id) ∷ rest) = option_or (last_said rest) (Some (LinkSignal.Unlink id))
+last_said (Signals (LinkSignal.Ack id) ∷ rest) = last_said rest
+last_said (Exited reason ∷ rest) = last_said rest

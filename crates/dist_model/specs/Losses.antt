@@ -75,21 +75,21 @@ sweep_record (Some (OfRegistration r)) work = unregister r work
 
 -- ---- once no record is left the side is gone, and an attempt that waited for it goes on
 
-abbrev pub parked_by : State → TrunkId → TrunkSide → Work → Work
-parked_by (Parked word) trunk side work = send_challenge trunk side word work
-parked_by _ trunk side work = work
+abbrev pub released_by : State → TrunkId → TrunkSide → Work → Work
+released_by (Parked word) trunk side work = send_challenge trunk side word work
+released_by _ trunk side work = work
 
-abbrev pub parked_goes : Option (TrunkId × TrunkSide) → Work → Work
-parked_goes None work = work
-parked_goes (Some entry) work = parked_by entry.1.state entry.0 entry.1 work
+abbrev pub release_parked : Option (TrunkId × TrunkSide) → Work → Work
+release_parked None work = work
+release_parked (Some entry) work = released_by entry.1.state entry.0 entry.1 work
 
-abbrev pub close : TrunkId → TrunkSide → Work → Work
-close trunk side work =
+abbrev pub close_side : TrunkId → TrunkSide → Work → Work
+close_side trunk side work =
     let closed = set_state trunk side Gone work in
-    parked_goes (side_where is_parked side.peer (fm.entries closed.node.sides)) closed
+    release_parked (side_where is_parked side.peer (fm.entries closed.node.sides)) closed
 
-abbrev pub swept : TrunkId → TrunkSide → Work → Work
-swept trunk side work = if is_some (least_record side.peer work.node) then work else close trunk side work
+abbrev pub close_if_swept : TrunkId → TrunkSide → Work → Work
+close_if_swept trunk side work = if is_some (least_record side.peer work.node) then work else close_side trunk side work
 
 -- ---- a sweep takes the least record of the least trunk that is lost
 
@@ -100,7 +100,7 @@ abbrev pub sweep_by : Option (TrunkId × TrunkSide) → Work → Outcome
 sweep_by None work = Refuses Refusal.NothingThere
 sweep_by (Some entry) work =
     let least = least_record entry.1.peer work.node in
-    Accepts (Answer.Swept (swept_kind least)) (swept entry.0 entry.1 (sweep_record least work))
+    Accepts (Answer.Swept (swept_kind least)) (close_if_swept entry.0 entry.1 (sweep_record least work))
 
 abbrev pub sweep : Node → Outcome
 sweep node = sweep_by (any_side is_losing (fm.entries node.sides)) (at_work node)

@@ -54,8 +54,8 @@ abbrev pub traps : Node → Pid → Bool
 traps node p = traps_life (fm.get node.lives p)
 
 -- no process of the node has had this pid: it is of another node, or its creation or its id is to come, or no process has such an id
-abbrev pub never : Node → Pid → Bool
-never node p =
+abbrev pub is_stranger : Node → Pid → Bool
+is_stranger node p =
     not (same_name p.node node.mint.name)
     || nat_lt node.mint.creation p.creation
     || (p.creation == node.mint.creation && nat_lt node.mint.pids p.id)

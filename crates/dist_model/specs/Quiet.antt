@@ -10,26 +10,26 @@ use Rattle.dist_model.specs.World.{World, list_to, node_of}
 use Rattle.erl_names.specs.declared.trunk.TrunkId.{TrunkId}
 use Rattle.erl_term.specs.declared.term.Pid.{Pid}
 
-abbrev pub is_by : Pid → Option Pid → Bool
-is_by p None = false
-is_by p (Some sender) = same_pid sender p
+abbrev pub names_sender : Pid → Option Pid → Bool
+names_sender p None = false
+names_sender p (Some sender) = same_pid sender p
 
 -- a signal of p to q. A message names no sender, so it is of nobody
-abbrev pub is_of : Pid → Pid → Item → Bool
-is_of p q (Signalled signal) = is_by p (sender_of signal) && same_pid (receiver_of signal) q
-is_of p q (Handshake message) = false
-is_of p q Tick = false
+abbrev pub is_signal_of : Pid → Pid → Item → Bool
+is_signal_of p q (Signalled signal) = names_sender p (sender_of signal) && same_pid (receiver_of signal) q
+is_signal_of p q (Handshake message) = false
+is_signal_of p q Tick = false
 
 -- no signal of one of them to the other is in the list
-abbrev pub is_silent : Pid → Pid → List Item → Bool
-is_silent p q [] = true
-is_silent p q (item ∷ rest) = not (is_of p q item || is_of q p item) && is_silent p q rest
+abbrev pub nothing_between : Pid → Pid → List Item → Bool
+nothing_between p q [] = true
+nothing_between p q (item ∷ rest) = not (is_signal_of p q item || is_signal_of q p item) && nothing_between p q rest
 
 -- in their node's own list; on a trunk that is up at both nodes; or because the nodes aren't connected
 pub data Quiet (world : World) (p q : Pid) : Type 0 where
-  Within : p.node ≡ q.node → is_silent p q (local_list world p.node) ≡ true → Quiet world p q
+  Within : p.node ≡ q.node → nothing_between p q (local_list world p.node) ≡ true → Quiet world p q
   Over : same_name p.node q.node ≡ false → (trunk : TrunkId) → AreConnected world p.node trunk q.node
-      → is_silent p q (list_to world.lists trunk p.node) ≡ true → is_silent p q (list_to world.lists trunk q.node) ≡ true → Quiet world p q
+      → nothing_between p q (list_to world.lists trunk p.node) ≡ true → nothing_between p q (list_to world.lists trunk q.node) ≡ true → Quiet world p q
   Unconnected : same_name p.node q.node ≡ false → is_connected world p.node q.node ≡ false → is_connected world q.node p.node ≡ false → Quiet world p q
 
 -- ---- the same as a test
@@ -42,12 +42,12 @@ abbrev pub is_quiet_on : World → Pid → Pid → TrunkId → TrunkSide → Boo
 is_quiet_on world p q trunk side =
     is_up_to q.node (Some side)
     && is_up_to p.node (side_of_trunk world q.node trunk)
-    && is_silent p q (list_to world.lists trunk p.node)
-    && is_silent p q (list_to world.lists trunk q.node)
+    && nothing_between p q (list_to world.lists trunk p.node)
+    && nothing_between p q (list_to world.lists trunk q.node)
 
 abbrev pub is_quiet : World → Pid → Pid → Bool
 is_quiet world p q =
     if same_name p.node q.node
-    then is_silent p q (local_list world p.node)
+    then nothing_between p q (local_list world p.node)
     else is_some (first_where (is_quiet_on world p q) (seen (node_of world.nodes p.node) [] (λ node. fm.entries node.sides)))
     || (not (is_connected world p.node q.node) && not (is_connected world q.node p.node))

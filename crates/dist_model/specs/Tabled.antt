@@ -3,7 +3,7 @@
 use Rattle.std.specs.Prelude.{ℕ, Option, None, Some}
 use Rattle.erl_names.specs.Draw as kind
 use Rattle.dist_model.specs.Items.{telling}
-use Rattle.dist_model.specs.Links.{Says}
+use Rattle.dist_model.specs.Links.{Signals}
 use Rattle.dist_model.specs.Work.{Work, draw, post, set_end}
 use Rattle.erl_term.specs.declared.term.Pid.{Pid}
 use Rattle.link_core.specs.Table.{link_sent, linked, unlink_sent, unlinked}
@@ -13,7 +13,7 @@ use Rattle.link_core.specs.declared.end.LinkSignal.{LinkSignal}
 -- where the table sends a signal p's end towards q changes, and the signal goes
 abbrev pub turn_end : End → Option LinkSignal → Pid → Pid → Work → Work
 turn_end end None p q work = work
-turn_end end (Some signal) p q work = post (telling p q (Says signal)) (set_end p q end work)
+turn_end end (Some signal) p q work = post (telling p q (Signals signal)) (set_end p q end work)
 
 -- and to take a link back an id is drawn
 abbrev pub draw_for : Option LinkSignal → Work → Work
