@@ -8,7 +8,7 @@ use Rattle.dist_model.specs.Causes.{Reacts}
 use Rattle.dist_model.specs.declared.report.Answer.{Answer}
 use Rattle.dist_model.specs.declared.command.Command.{Command}
 use Rattle.dist_model.specs.Exits.{without_owner, without_target}
-use Rattle.dist_model.specs.Fits.{fits}
+use Rattle.erl_control.specs.Fits.{fits}
 use Rattle.dist_model.specs.Items.{Signalled}
 use Rattle.dist_model.specs.Links.{noproc}
 use Rattle.dist_model.specs.Names.{pair_cmp, same_pid}

@@ -11,7 +11,7 @@ use Rattle.dist_model.specs.Calls.{acting, call, spawn_life, toward, trapping, w
 use Rattle.dist_model.specs.Commands.{Accepts, Outcome, Refuses, with_id}
 use Rattle.dist_model.specs.declared.command.Command.{Command}
 use Rattle.dist_model.specs.Exits.{sent_exit}
-use Rattle.dist_model.specs.Fits.{fits}
+use Rattle.erl_control.specs.Fits.{fits}
 use Rattle.dist_model.specs.Items.{Handshake, Item, Signalled, Tick, news_in, telling}
 use Rattle.dist_model.specs.Linking.{unlink_by}
 use Rattle.dist_model.specs.Links.{Exited, LinkNews, Signals, noconnection, noproc}

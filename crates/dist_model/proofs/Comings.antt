@@ -40,7 +40,8 @@ use Rattle.erl_handshake.specs.Roles.{send_name}
 use Rattle.dist_model.specs.Handshake.{identity, fault, with_side, write}
 use Rattle.dist_model.specs.Histories.{History}
 use Rattle.dist_model.specs.Incarnations.{start, started, stop, stopped}
-use Rattle.dist_model.specs.Items.{Handshake, Item, Signalled, Tick, receiver_of, sender_of, kind_of}
+use Rattle.dist_model.specs.Items.{Handshake, Item, Signalled, Tick, kind_of}
+use Rattle.erl_control.specs.Ends.{receiver_of, sender_of}
 use Rattle.dist_model.specs.Links.{Signals, noconnection}
 use Rattle.dist_model.proofs.Records.{least_as, sweep_link}
 use Rattle.dist_model.specs.Losses.{least_record, swept_kind, any_side, link_to, lose, sweep_by, close_if_swept}

@@ -9,7 +9,7 @@ use Rattle.dist_model.proofs.Sides.{holds, or_true, up_holds}
 use Rattle.dist_model.proofs.Lists.{none_of_or, or_none}
 use Rattle.dist_model.proofs.Keys.{and_both}
 use Rattle.dist_model.proofs.Primitives.{has-push}
-use Rattle.dist_model.proofs.Fitting.{and, not_false}
+use Rattle.erl_control.proofs.Fitting.{and, not_false}
 use Rattle.dist_model.proofs.NewSides.{not_not}
 
 -- ---- items

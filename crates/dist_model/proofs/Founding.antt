@@ -15,7 +15,8 @@ use Rattle.dist_model.specs.Downs.{same_reference}
 use Rattle.dist_model.proofs.Leaving.{exits_in, exits_cons}
 use Rattle.dist_model.specs.Exits.{demonitors, exit_for, end_process, is_owned, is_target, monitor_exits}
 use Rattle.dist_model.specs.Handshake.{with_side, write}
-use Rattle.dist_model.specs.Items.{Handshake, Item, Signalled, Tick, receiver_of}
+use Rattle.dist_model.specs.Items.{Handshake, Item, Signalled, Tick}
+use Rattle.erl_control.specs.Ends.{receiver_of}
 use Rattle.dist_model.specs.Monitoring.{register, unregister, unwatch}
 use Rattle.dist_model.specs.Names.{Name, place_cmp, same_name, same_pid}
 use Rattle.dist_model.specs.Node.{Node, route}

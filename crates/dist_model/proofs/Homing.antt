@@ -10,7 +10,8 @@ use Rattle.dist_model.proofs.Parts.{Closed, Rules, is_plain}
 use Rattle.dist_model.proofs.Leaving.{exits_in, exits_cons}
 use Rattle.dist_model.specs.Exits.{demonitors, exit_for, end_process, monitor_exits}
 use Rattle.dist_model.specs.Handshake.{with_side, write}
-use Rattle.dist_model.specs.Items.{Handshake, Item, Signalled, Tick, receiver_of}
+use Rattle.dist_model.specs.Items.{Handshake, Item, Signalled, Tick}
+use Rattle.erl_control.specs.Ends.{receiver_of}
 use Rattle.dist_model.specs.Names.{Name, same_name, same_pid}
 use Rattle.dist_model.specs.Node.{Node, route}
 use Rattle.dist_model.specs.Sides.{TrunkSide}

@@ -20,7 +20,8 @@ use Rattle.dist_model.specs.Dialing.{dial, draw_trunk, has_name, next_trunk}
 use Rattle.dist_model.specs.Exits.{end_process}
 use Rattle.dist_model.specs.Handshake.{identity, with_side, write}
 use Rattle.dist_model.specs.Incarnations.{started, stopped}
-use Rattle.dist_model.specs.Items.{Handshake, Item, Signalled, receiver_of}
+use Rattle.dist_model.specs.Items.{Handshake, Item, Signalled}
+use Rattle.erl_control.specs.Ends.{receiver_of}
 use Rattle.dist_model.specs.Keeping.{Bearings, Comes, Dials, Towards}
 use Rattle.dist_model.specs.Names.{Name, same_name}
 use Rattle.dist_model.specs.Node.{Node, route, side_where}

@@ -14,7 +14,8 @@ use Rattle.dist_model.specs.Commands.{Refuses}
 use Rattle.dist_model.specs.Dialing.{dial}
 use Rattle.dist_model.specs.Handshake.{with_side, write}
 use Rattle.dist_model.specs.Incarnations.{started, stopped}
-use Rattle.dist_model.specs.Items.{Item, Signalled, receiver_of}
+use Rattle.dist_model.specs.Items.{Item, Signalled}
+use Rattle.erl_control.specs.Ends.{receiver_of}
 use Rattle.dist_model.specs.Keeping.{Towards}
 use Rattle.dist_model.specs.Losses.{any_side, least_record, sweep_by, sweep_record}
 use Rattle.dist_model.specs.Names.{Name}

@@ -32,7 +32,6 @@ pub mod Fresh
 pub mod Run
 pub mod Reacting
 pub mod Silence
-pub mod Fitting
 pub mod Passing
 pub mod Happening
 pub mod Downing

@@ -16,7 +16,8 @@ use Rattle.dist_model.proofs.Seeing.{end_in, replies}
 use Rattle.dist_model.proofs.Views.{silent_lines, silent_view, AllSuit, Suits, linking_suits, more, over, post_all_keeps, post_all_view, post_keeps, post_view, posted, side_path, telling_news, telling_receiver, view}
 use Rattle.dist_model.proofs.Leaving.{exits_in, exits_cons}
 use Rattle.dist_model.specs.Exits.{carry_out, demonitors, exit_for, end_process, link_exit, linked_exit, monitor_exits}
-use Rattle.dist_model.specs.Items.{Item, Signalled, news_in, receiver_of, telling}
+use Rattle.dist_model.specs.Items.{Item, Signalled, news_in, telling}
+use Rattle.erl_control.specs.Ends.{receiver_of}
 use Rattle.dist_model.specs.Linking.{exit_follows, link, link_by, link_new, take_link, take_link_by}
 use Rattle.dist_model.specs.Links.{Exited, LinkNews, Signals, heard, noconnection, reply}
 use Rattle.dist_model.specs.Names.{Name, pair_cmp, same_name, same_pid}

@@ -11,7 +11,7 @@ use Rattle.dist_model.specs.Commands.{Outcome}
 use Rattle.dist_model.specs.declared.command.Command.{Command}
 use Rattle.dist_model.specs.Downs.{down_in}
 use Rattle.dist_model.specs.Exits.{carry_out, end_process, link_exit, linked_exit, sent_exit}
-use Rattle.dist_model.specs.Fits.{fits}
+use Rattle.erl_control.specs.Fits.{fits}
 use Rattle.dist_model.specs.Items.{Handshake, Item, Signalled, Tick}
 use Rattle.dist_model.specs.Linking.{exit_follows, link_by, link_new, take_link, take_link_by, unlink_by}
 use Rattle.dist_model.specs.Links.{Exited, LinkNews, Signals, heard, noconnection, noproc, reply}

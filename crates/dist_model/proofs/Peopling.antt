@@ -31,7 +31,8 @@ use Rattle.dist_model.proofs.Leaving.{exits_in}
 use Rattle.dist_model.specs.Exits.{demonitors, end_process, monitor_exits}
 use Rattle.dist_model.specs.Handshake.{set_state, with_side, write}
 use Rattle.dist_model.specs.Incarnations.{start, started, stop, stopped}
-use Rattle.dist_model.specs.Items.{Item, Signalled, receiver_of}
+use Rattle.dist_model.specs.Items.{Item, Signalled}
+use Rattle.erl_control.specs.Ends.{receiver_of}
 use Rattle.dist_model.specs.Links.{noconnection}
 use Rattle.dist_model.proofs.Records.{has_records, least_as, sweep_link}
 use Rattle.dist_model.specs.Losses.{any_side, close_side, link_to, lose, released_by, release_parked, sweep, sweep_by, close_if_swept}

@@ -29,10 +29,11 @@ use Rattle.dist_model.specs.declared.command.Command.{Command}
 use Rattle.dist_model.specs.Dialing.{dial, has_name}
 use Rattle.dist_model.proofs.Leaving.{exits_in, exits_cons}
 use Rattle.dist_model.specs.Exits.{carry_out, demonitors, end_process, link_exit, linked_exit, monitor_exits, sent_exit}
-use Rattle.dist_model.specs.Fits.{fits}
+use Rattle.erl_control.specs.Fits.{fits}
 use Rattle.dist_model.specs.Handshake.{challenge, up_is_lost, challenge_or_park, handshake_at, set_state, write}
 use Rattle.dist_model.specs.Incarnations.{start, stop}
-use Rattle.dist_model.specs.Items.{Handshake, Item, Signalled, Tick, receiver_of, telling}
+use Rattle.dist_model.specs.Items.{Handshake, Item, Signalled, Tick, telling}
+use Rattle.erl_control.specs.Ends.{receiver_of}
 use Rattle.dist_model.specs.Linking.{exit_follows, link_by, link_new, take_link, take_link_by, unlink_by}
 use Rattle.dist_model.specs.Links.{Exited, LinkNews, Signals, heard, noconnection, noproc, reply}
 use Rattle.dist_model.proofs.Records.{has_records, least_as, sweep_link, sweep_registered, sweep_watch}

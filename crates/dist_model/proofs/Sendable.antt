@@ -11,7 +11,7 @@ use Rattle.std.specs.FinMap.{FinMap}
 use Rattle.dist_model.proofs.Calls.{IfGoes, if_cond, if_drawn, if_not, some_number}
 use Rattle.dist_model.proofs.Closing.{any_found}
 use Rattle.dist_model.proofs.DueParts.{sent_sweep}
-use Rattle.dist_model.proofs.Fitting.{all_from, fits_test}
+use Rattle.erl_control.proofs.Fitting.{all_from, fits_test}
 use Rattle.dist_model.proofs.Founding.{Carried, carried_all, carried_lists, carried_post, carried_write, popped_lists}
 use Rattle.dist_model.proofs.Handshaking.{fresh_kept, known_kept, lose_kept, swept_kept, Turned}
 use Rattle.dist_model.proofs.Routes.{none_some, some_same}
@@ -26,10 +26,11 @@ use Rattle.dist_model.specs.Commands.{Accepts, Outcome, Refuses}
 use Rattle.dist_model.specs.declared.command.Command.{Command}
 use Rattle.dist_model.specs.Dialing.{dial, draw_trunk, has_name, next_trunk}
 use Rattle.dist_model.specs.Exits.{carry_out, demonitors, exit_for, exits, end_process, link_exit, linked_exit, monitor_exits, sent_exit}
-use Rattle.dist_model.specs.Fits.{are_below, fits}
+use Rattle.erl_control.specs.Fits.{are_below, fits}
 use Rattle.dist_model.specs.Handshake.{identity, with_side, write}
 use Rattle.dist_model.specs.Incarnations.{start, stop, stopped}
-use Rattle.dist_model.specs.Items.{Handshake, Item, Signalled, Tick, receiver_of, telling}
+use Rattle.dist_model.specs.Items.{Handshake, Item, Signalled, Tick, telling}
+use Rattle.erl_control.specs.Ends.{receiver_of}
 use Rattle.dist_model.specs.Linking.{exit_follows, link_by, link_new, take_link, take_link_by, unlink_by}
 use Rattle.dist_model.specs.Links.{Exited, LinkNews, Signals, heard, noconnection, noproc, reply}
 use Rattle.dist_model.specs.Losses.{any_side, link_to, lose, registered_by, sweep, sweep_by, sweep_end, watch_to}

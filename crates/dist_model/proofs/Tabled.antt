@@ -5,7 +5,8 @@ use Rattle.dist_model.proofs.Keys.{end_set_same}
 use Rattle.dist_model.proofs.Views.{post_keeps}
 use Rattle.dist_model.specs.Commands.{Accepts, with_id, Accepts, Refuses}
 use Rattle.dist_model.specs.declared.report.Answer.{Answer}
-use Rattle.dist_model.specs.Items.{Signalled, receiver_of}
+use Rattle.dist_model.specs.Items.{Signalled}
+use Rattle.erl_control.specs.Ends.{receiver_of}
 use Rattle.dist_model.specs.Linking.{link_by, link_new, unlink_as, unlink_by}
 use Rattle.dist_model.specs.Node.{Node, end_of, reaches}
 use Rattle.dist_model.specs.Tabled.{links_by_table, unlinks_by_table}

@@ -19,7 +19,8 @@ use Rattle.dist_model.specs.Downs.{Down, down_in, downs_in, same_reference}
 use Rattle.dist_model.proofs.Leaving.{exits_in, exits_cons}
 use Rattle.dist_model.specs.Exits.{buried, demonitors, end_process, is_owned, is_target, monitor_exits}
 use Rattle.dist_model.specs.Handshake.{with_side, write}
-use Rattle.dist_model.specs.Items.{Handshake, Item, Signalled, receiver_of}
+use Rattle.dist_model.specs.Items.{Handshake, Item, Signalled}
+use Rattle.erl_control.specs.Ends.{receiver_of}
 use Rattle.dist_model.specs.Monitoring.{register, unregister, unwatch}
 use Rattle.dist_model.specs.Names.{Name, same_name, same_pid}
 use Rattle.dist_model.specs.Node.{Ended, Life, Living, Node, is_living_life, living, route, route_in}

@@ -4,7 +4,8 @@ use Rattle.std.specs.Option.{is_some}
 use Rattle.dist_model.proofs.Envelopes.{Envelope, outgoing, sent_by, sent_in, sent_in-push, sent_in-silent}
 use Rattle.dist_model.proofs.Keys.{and_both, same_name_is, same_pid_refl, same_pid_true}
 use Rattle.dist_model.proofs.Pair.{Side}
-use Rattle.dist_model.specs.Items.{Item, Signalled, news, news_in, receiver_of, sender_of, telling}
+use Rattle.dist_model.specs.Items.{Item, Signalled, news, news_in, telling}
+use Rattle.erl_control.specs.Ends.{receiver_of, sender_of}
 use Rattle.dist_model.specs.Links.{Exited, LinkNews, Signals}
 use Rattle.dist_model.specs.Names.{Name, same_name, same_pid}
 use Rattle.dist_model.specs.Node.{Node, end_of, living, is_stranger, reaches, route}

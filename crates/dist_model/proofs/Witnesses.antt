@@ -12,7 +12,7 @@ use Rattle.dist_model.specs.declared.report.Answer.{Answer}
 use Rattle.dist_model.specs.declared.command.Command.{Command}
 use Rattle.dist_model.specs.Downs.{downs, downs_by}
 use Rattle.dist_model.specs.Exits.{without_owner, without_target}
-use Rattle.dist_model.specs.Fits.{fits}
+use Rattle.erl_control.specs.Fits.{fits}
 use Rattle.dist_model.specs.Histories.{history}
 use Rattle.dist_model.specs.Items.{Handshake, Item, Signalled}
 use Rattle.dist_model.specs.Links.{noconnection, noproc}

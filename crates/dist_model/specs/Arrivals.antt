@@ -5,7 +5,8 @@ use Rattle.dist_model.specs.Admission.{hears_name}
 use Rattle.dist_model.specs.Commands.{Accepts, Outcome, Refuses}
 use Rattle.dist_model.specs.declared.report.Answer.{Answer}
 use Rattle.dist_model.specs.Handshake.{fault, handshake_at}
-use Rattle.dist_model.specs.Items.{Handshake, Item, Signalled, Tick, kind_of, receiver_of, sender_of}
+use Rattle.dist_model.specs.Items.{Handshake, Item, Signalled, Tick, kind_of}
+use Rattle.erl_control.specs.Ends.{receiver_of, sender_of}
 use Rattle.dist_model.specs.Names.{same_name}
 use Rattle.dist_model.specs.Node.{Node, is_stranger}
 use Rattle.dist_model.specs.Sides.{State, TrunkSide, Up, is_over, unheard}

@@ -7,7 +7,7 @@ use Rattle.dist_model.specs.Commands.{Accepts, Outcome, Refuses, with_id}
 use Rattle.dist_model.specs.declared.report.Answer.{Answer}
 use Rattle.dist_model.specs.declared.command.Command.{Command}
 use Rattle.dist_model.specs.Exits.{end_process}
-use Rattle.dist_model.specs.Fits.{fits}
+use Rattle.erl_control.specs.Fits.{fits}
 use Rattle.dist_model.specs.Linking.{link, unlink_by}
 use Rattle.dist_model.specs.Monitoring.{demonitor_by, monitor}
 use Rattle.dist_model.specs.Names.{same_name, same_pid}

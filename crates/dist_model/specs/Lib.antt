@@ -10,7 +10,6 @@ pub mod Linking
 pub mod Tabled
 pub mod Monitoring
 pub mod Taking
-pub mod Fits
 pub mod Calls
 pub mod Handshake
 pub mod Admission

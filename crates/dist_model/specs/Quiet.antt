@@ -1,7 +1,8 @@
 -- Where nothing travels between two processes.
 use Rattle.std.specs.Prelude.{◌≡◌, Option, None, Some, is_some, Bool, true, false, not, if◌then◌else◌, List, [], ◌∷◌, ◌&&◌, ◌||◌}
 use Rattle.std.specs.FinMap as fm
-use Rattle.dist_model.specs.Items.{Handshake, Item, Signalled, Tick, receiver_of, sender_of}
+use Rattle.dist_model.specs.Items.{Handshake, Item, Signalled, Tick}
+use Rattle.erl_control.specs.Ends.{receiver_of, sender_of}
 use Rattle.dist_model.specs.Names.{Name, same_name, same_pid}
 use Rattle.dist_model.specs.Node.{first_where}
 use Rattle.dist_model.specs.Seen.{AreConnected, is_connected, local_list, seen, side_of_trunk}

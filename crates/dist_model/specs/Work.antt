@@ -1,7 +1,8 @@
 -- A node in the midst of an event: what it has become, what it has sent, what it reports.
 use Rattle.std.specs.Prelude.{Option, None, Some, if◌then◌else◌, List, [], ◌∷◌, ◌++◌}
 use Rattle.std.specs.FinMap as fm
-use Rattle.dist_model.specs.Items.{Item, Signalled, receiver_of}
+use Rattle.dist_model.specs.Items.{Item, Signalled}
+use Rattle.erl_control.specs.Ends.{receiver_of}
 use Rattle.dist_model.specs.Names.{Name, pair_cmp, same_name}
 use Rattle.dist_model.specs.Node.{Life, Living, Node, route}
 use Rattle.dist_model.specs.declared.report.Effect.{Effect}

@@ -13,7 +13,7 @@ ghost use Rattle.erl_term.specs.Data.{Data};
 ghost use Rattle.erl_term.specs.declared.refusal.Refusal.{Refusal};
 ghost use Rattle.erl_control.specs.Control.{Fits};
 ghost use Rattle.erl_control.specs.declared.signal.Signal.{Signal};
-ghost use Rattle.dist_model.specs.Fits.{fits};
+ghost use Rattle.erl_control.specs.Fits.{fits};
 ghost use Rattle.dist_model.specs.Links.{LinkNews, noproc};
 ghost use Rattle.dist_model.specs.Items.{Signalled, telling, news_in, Item};
 ghost use Rattle.link_core.specs.declared.end.End.{End};
@@ -154,11 +154,6 @@ pub fn every_report_is_safe()
 /// Whether nothing travels between two processes can be tested.
 pub fn quiet_test()
     ensures test { (world : World) (p q : Pid) → (is_quiet world p q ≡ true) ↔ Quiet world p q }
-{}
-
-/// The terms that the world lets a signal carry are those that erl_control's signals carry.
-pub fn fits_test()
-    ensures test { (term : Data) → (fits term ≡ true) ↔ Fits term }
 {}
 
 /// Events lead somewhere, whatever they are: where memory never wants, to the world of their steps.

@@ -7,3 +7,4 @@ pub mod Rows
 pub mod Texts
 pub mod Frames
 pub mod Canonical
+pub mod Fitting

@@ -5,3 +5,5 @@ pub mod Canonical
 pub mod Parts
 pub mod Reading
 pub mod Numbers
+pub mod Fits
+pub mod Ends

@@ -1,13 +1,14 @@
 //! Laws of the definitions.
-ghost use Rattle.std.specs.Prelude.{◌≡◌, ◌++◌, List, [], ℕ, length, Option, Some, Result, Ok};
-ghost use Rattle.erl_term.specs.Data.{atom};
+ghost use Rattle.std.specs.Prelude.{◌≡◌, ◌↔◌, ◌++◌, true, List, [], ℕ, length, Option, Some, Result, Ok};
+ghost use Rattle.erl_term.specs.Data.{Data, atom};
 ghost use Rattle.erl_term.specs.Numbers.{AreBytes};
 ghost use Rattle.erl_control.specs.declared.signal.Item.{Item};
 ghost use Rattle.erl_control.specs.declared.error.FrameError.{FrameError};
 ghost use Rattle.erl_control.specs.declared.signal.Signal.{Signal};
 ghost use Rattle.erl_term.specs.Canonical.{IsInRange};
-ghost use Rattle.erl_control.specs.Control.{control_term, IsSendable};
+ghost use Rattle.erl_control.specs.Control.{control_term, Fits, IsSendable};
 ghost use Rattle.erl_control.specs.Canonical.{canonical_frame};
+ghost use Rattle.erl_control.specs.Fits.{fits};
 ghost use Rattle.erl_control.specs.Frame.{IsFramed};
 ghost use Rattle.erl_control.specs.Answer.{IsFrameDue};
 
@@ -38,3 +39,8 @@ pub fn canonical_is_framed()
     erl_term::canonical_is_spelling();
     erl_term::short_parts();
 }
+
+/// Whether a signal can carry a term can be tested.
+pub fn fits_test()
+    ensures test { (term : Data) → (fits term ≡ true) ↔ Fits term }
+{}

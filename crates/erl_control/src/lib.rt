@@ -24,7 +24,7 @@ mod unframing;
 pub use error::{FrameError, FrameFault};
 pub use fit::{MOST_PAYLOAD_BYTES, MOST_PAYLOAD_LEVELS, fits};
 pub use framing::{frame, put_frame};
-pub use laws::{canonical_is_framed, one_answer, one_frame, read_again};
+pub use laws::{canonical_is_framed, fits_test, one_answer, one_frame, read_again};
 pub use signal::{Item, Signal};
 pub use signal_parts::SignalParts;
 pub use signal_ref::{ItemRef, SignalRef};

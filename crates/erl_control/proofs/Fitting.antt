@@ -10,7 +10,7 @@ use Rattle.erl_term.specs.Text.{is_atom_text}
 use Rattle.erl_term.specs.Canonical.{IsPidInRange, IsReferenceInRange, IsInRange, AreInRange, canonical, levels_of, is_list}
 use Rattle.erl_term.proofs.TextReader.{IsAtomText-from, is_atom_text-from}
 use Rattle.erl_control.specs.Control.{Fits}
-use Rattle.dist_model.specs.Fits.{are_below, are_in_range, fits, is_in_range, is_machine_int, is_pid_in_range, is_reference_in_range}
+use Rattle.erl_control.specs.Fits.{are_below, are_in_range, fits, is_in_range, is_machine_int, is_pid_in_range, is_reference_in_range}
 use Rattle.erl_term.specs.declared.term.Pid.{Pid}
 use Rattle.erl_term.specs.declared.term.Reference.{Reference}
 

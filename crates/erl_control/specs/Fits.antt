@@ -1,4 +1,4 @@
--- Which terms a signal can carry, as its message or its reason: erl_control's `Fits`, as a test.
+-- Which terms a signal can carry, as its message or its reason: `Fits` of Control, as a test.
 -- (own: at most 60 levels, and 60,000 bytes of the canonical spelling.)
 use Rattle.erl_term.specs.Data.{Data, int, atom, tuple, list, improper, binary, pid, reference, Items, no_items, item, count}
 use Rattle.std.specs.Prelude.{ℕ, ℤ, pos, negsuc, ◌^◌, Bool, true, not, ◌&&◌, nat_lt, nat_le, List, [], ◌∷◌, length}

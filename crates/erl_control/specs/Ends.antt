@@ -1,0 +1,28 @@
+-- From which process a signal comes, and to which it goes.
+-- (ERTS User's Guide, Distribution Protocol, Protocol between Connected Nodes.)
+use Rattle.std.specs.Prelude.{Option, None, Some}
+use Rattle.erl_control.specs.declared.signal.Signal.{Signal}
+use Rattle.erl_term.specs.declared.term.Pid.{Pid}
+
+-- a message names no sender
+abbrev pub sender_of : Signal → Option Pid
+sender_of (Signal.Link from to) = Some from
+sender_of (Signal.Send to message) = None
+sender_of (Signal.Exit from to reason) = Some from
+sender_of (Signal.Exit2 from to reason) = Some from
+sender_of (Signal.Monitor from to r) = Some from
+sender_of (Signal.Demonitor from to r) = Some from
+sender_of (Signal.MonitorExit from to r reason) = Some from
+sender_of (Signal.UnlinkId id from to) = Some from
+sender_of (Signal.UnlinkIdAck id from to) = Some from
+
+abbrev pub receiver_of : Signal → Pid
+receiver_of (Signal.Link from to) = to
+receiver_of (Signal.Send to message) = to
+receiver_of (Signal.Exit from to reason) = to
+receiver_of (Signal.Exit2 from to reason) = to
+receiver_of (Signal.Monitor from to r) = to
+receiver_of (Signal.Demonitor from to r) = to
+receiver_of (Signal.MonitorExit from to r reason) = to
+receiver_of (Signal.UnlinkId id from to) = to
+receiver_of (Signal.UnlinkIdAck id from to) = to
