@@ -23,7 +23,6 @@ use Rattle.dist_model.specs.Admission.{give_up, hears_name}
 use Rattle.dist_model.specs.Arrivals.{arrive_at, arrive_fresh, handshake_in, is_good, signal_at, take_local}
 use Rattle.dist_model.specs.Calls.{acting, call, toward}
 use Rattle.dist_model.specs.Causes.{Reacts}
-use Rattle.dist_model.specs.Claims.{ReactsOnlyWhereLinked}
 use Rattle.dist_model.specs.Commands.{Accepts, Outcome, Refuses, with_id}
 use Rattle.dist_model.specs.declared.command.Command.{Command}
 use Rattle.dist_model.specs.Dialing.{dial, has_name}
@@ -583,5 +582,6 @@ module _ (w : World) (g : Good w) where
   at_its_node (Some n) (Stop x) h = up_tells (Stop x) x n _ (outcome (Stop x) x n w.lists h (stop n) (λ p q r. nothing r))
   at_its_node (Some n) (Start x) h = outcome (Start x) x n w.lists h (start n) (starts n)
 
-  pub reactions : ReactsOnlyWhereLinked w
+  pub reactions : (e : Event) (p q : Pid) (reason : Data) → Reacts p q reason ((step w e).report)
+      → (end_between w p q ≡ End.Active) ⊎ ((e ≡ Call p.node (Command.Link p q)) × (reached_at (node_of w.nodes p.node) q.node ≡ false))
   reactions e p q r h = at_its_node (node_of w.nodes (node_name e)) e refl p q (told p q r ((step w e).report) h)

@@ -95,13 +95,6 @@ OneTrunk w = (x y : Name) (t u : TrunkId) → HasSide w x t y is_up → HasSide 
 abbrev pub NoUpBesideLosing : World → Type 0
 NoUpBesideLosing w = (x y : Name) (t u : TrunkId) → HasSide w x t y is_up → HasSide w x u y is_losing → ⊥
 
--- ---- Reactions. (Reference Manual, Processes, Links)
-
--- whatever comes next, a process reacts to the exit of a link only where it held it active, or where it links in this very event towards a node that isn't reached
-abbrev pub ReactsOnlyWhereLinked : World → Type 0
-ReactsOnlyWhereLinked w = (e : Event) (p q : Pid) (reason : Data) → Reacts p q reason ((step w e).report)
-    → (end_between w p q ≡ End.Active) ⊎ ((e ≡ Call p.node (Command.Link p q)) × (is_reached w p q.node ≡ false))
-
 -- ---- An event is of one node. (own: the threads of nodes rest on it)
 
 -- the other nodes stay as they are, and the node becomes what its event makes of it

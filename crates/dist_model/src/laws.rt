@@ -40,7 +40,7 @@ ghost use Rattle.dist_model.specs.Commands.{Accepts};
 ghost use Rattle.dist_model.specs.declared.report.Answer.{Answer};
 ghost use Rattle.dist_model.specs.Keeping.{Bearings, IsAccepted};
 ghost use Rattle.dist_model.specs.Schedules as schedule;
-ghost use Rattle.dist_model.specs.Claims.{Agreement, AgreementWithin, AgreementInQuiet, PendingOnItsWay, PendingWithin, NoLinkToTheDead, NoLinkToItself, LinkNeedsConnection, LivingMeans, SpawnedLivesOrEnded, DownHoldsNothing, OneTrunk, NoUpBesideLosing, EventIsLocal, KeepsOrder, KeepsOwnOrder, ReactsOnlyWhereLinked, EverySignalFits, EverySignalFitsWithin};
+ghost use Rattle.dist_model.specs.Claims.{Agreement, AgreementWithin, AgreementInQuiet, PendingOnItsWay, PendingWithin, NoLinkToTheDead, NoLinkToItself, LinkNeedsConnection, LivingMeans, SpawnedLivesOrEnded, DownHoldsNothing, OneTrunk, NoUpBesideLosing, EventIsLocal, KeepsOrder, KeepsOwnOrder, EverySignalFits, EverySignalFitsWithin};
 ghost use Rattle.dist_model.specs.Histories.{Throughout, told, history};
 ghost use Rattle.dist_model.specs.Causes.{Reacts};
 ghost use Rattle.dist_model.specs.Fates.{ReactsRightly, DownsRightly, ReactsForTrueCause, ExitsTellTrueCause, ExitsTellTrueCauseWithin, AnsweredOnce, DownOnce, DownToTheOwner, NoDownWhereDemonitored, DownsTellTrueCause, DownOrRegistered};
@@ -115,7 +115,6 @@ pub fn travelling_signals_fit()
 /// travels tells: the partner ended with it, there is no such process, or there is no connection.
 /// (Reference Manual, Processes, Links and Receiving Exit Signals.)
 pub fn reactions()
-    ensures linked { Always ReactsOnlyWhereLinked }
     ensures cause { Throughout ReactsForTrueCause }
     ensures travelling { Throughout ExitsTellTrueCause }
     ensures within { Throughout ExitsTellTrueCauseWithin }

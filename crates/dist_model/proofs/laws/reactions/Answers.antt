@@ -1,13 +1,6 @@
 use Rattle.dist_model.proofs.laws.reactions.Goals as goal
 use Rattle.dist_model.proofs.Histories.{exits_tell_true_cause, exits_tell_true_cause_within, reacts_for_true_cause, throughout}
-use Rattle.dist_model.proofs.Reacting.{reactions}
-use Rattle.dist_model.proofs.Run.{always}
-use Rattle.dist_model.proofs.Safety.{good_opening}
-use Rattle.dist_model.specs.Claims.{ReactsOnlyWhereLinked}
 use Rattle.dist_model.specs.Fates.{ExitsTellTrueCause, ExitsTellTrueCauseWithin, ReactsForTrueCause}
-
-pub returns-clause-linked : goal.returns-clause-linked
-returns-clause-linked c = always ReactsOnlyWhereLinked good_opening reactions
 
 pub returns-clause-cause : goal.returns-clause-cause
 returns-clause-cause c = throughout ReactsForTrueCause reacts_for_true_cause
