@@ -31,7 +31,6 @@ use Rattle.erl_handshake.specs.Roles.{is_answered}
 use Rattle.erl_handshake.specs.declared.message.ShakeMsg.{ShakeMsg}
 use Rattle.erl_handshake.specs.declared.status.Status.{Status}
 use Rattle.erl_names.specs.declared.trunk.TrunkId.{TrunkId}
-use Rattle.erl_term.specs.declared.refusal.Refusal.{Refusal}
 use Rattle.erl_term.specs.declared.term.Pid.{Pid}
 
 module _ (w : World) (x : Name) (n : Node) (t : TrunkId) (v : TrunkSide) (i : Item) (rest : List Item) (hx : node_of w.nodes x ≡ Some n)

@@ -3,7 +3,7 @@ use Rattle.erl_names.specs.Draw as kind
 use Rattle.std.proofs.Common.{nat_lt, ◌≡◌, ℕ, ◌+◌, ◌≤◌, Bool, true, false, cond, List, [], ◌∷◌, refl, sym, ap, ◌∙◌, subst, arith, ◌&&◌, Option, Some, None, ◌⊎◌, inl, inr, Contains, append-nil}
 use Rattle.std.proofs.lemmas.List.Elements.{All-nil, All-weaker, Contains-push_cases}
 use Rattle.std.specs.FinMap as fm
-use Rattle.dist_model.proofs.Envelopes.{outgoing, mere, sent_mere}
+use Rattle.dist_model.proofs.Envelopes.{mere, sent_mere}
 use Rattle.dist_model.proofs.Aging.{Aging, ageless}
 use Rattle.dist_model.proofs.Calls.{IfGoes, by_test, next_pid, none_number, pid_drawn, some_number, spawned_at, spawned_stays_born, spawned_stays_living, spawns}
 use Rattle.dist_model.proofs.Deeds.{T, U, H, Right, Shaken, Whole, at_pid, begins, counted, deed, drawn_along, kn, nm, no_connection, over_of, over_parts, rules, shaken, unreached, whole_closed}

@@ -28,7 +28,7 @@ use Rattle.dist_model.specs.Items.{Item, Signalled, Handshake}
 use Rattle.dist_model.specs.Sides.{TrunkSide, AwaitsStatus, AwaitsChallenge, AwaitsAck, Accepting, Up, Losing, Gone, is_up}
 use Rattle.dist_model.specs.Node.{Node, Life, Living}
 use Rattle.dist_model.specs.declared.command.Command.{Command}
-use Rattle.dist_model.specs.World.{World, Event, Call, Arrive, Lose, Sweep, Dial, step, node_of, list_to}
+use Rattle.dist_model.specs.World.{World, Call, Arrive, Lose, Sweep, Dial, step, node_of, list_to}
 use Rattle.dist_model.specs.Quiet.{Over, Quiet, nothing_between}
 use Rattle.dist_model.specs.Runs.{run}
 use Rattle.dist_model.specs.Seen.{HasSide, end_between}

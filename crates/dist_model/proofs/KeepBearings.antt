@@ -46,8 +46,12 @@ towards_along n m e t y h = record { side = h.side; there = ap (λ z. fm.get z t
 towards_turned : (New : TrunkId → Name → Type 0) (t : TrunkId) (s : TrunkSide) (o : Work) → TurnedBy New o.node t s
     → (u : TrunkId) (y : Name) → Towards o.node u y → Towards ((with_side t s o).node) u y
 towards_turned New t s o c u y v = by_test _ (same_trunk u t)
-    (λ e. record { side = s; there = set_at o t s u ∙ ap
-        (λ b. cond b (Some s) (side_at o.node u)) e; peer = same (same_trunk_true u t e) c })
+    (λ e. record {
+      side = s;
+      there = set_at o t s u ∙ ap
+          (λ b. cond b (Some s) (side_at o.node u)) e;
+      peer = same (same_trunk_true u t e) c;
+    })
     (λ e. record { side = v.side; there = set_at o t s u ∙ ap (λ b. cond b (Some s) (side_at o.node u)) e ∙ v.there; peer = v.peer })
   where
     is_that : (a : TrunkSide) → u ≡ t → side_at o.node t ≡ Some a → a.peer ≡ y
@@ -140,7 +144,7 @@ module _ (n : Node) (e : NodeEvent) where
   finishes p x o k =
       let o1 = post_all (last_posts p x o) o in
       within (report (Effect.Ended p x) o1) ((end_process p x o).node) refl refl (silent (Effect.Ended p x) o1
-          (λ t y i z. cc) (posts_all (last_posts p x o) o k))
+      (λ t y i z. cc) (posts_all (last_posts p x o) o k))
 
   parts : Parts X
   parts = record {
@@ -165,7 +169,7 @@ module _ (n : Node) (e : NodeEvent) where
     sent = λ u y i h. towards_turned New t s o c u y (k.sent u y i h);
     new = λ u a h j. by_test _ (same_trunk u t)
         (λ i. here u a (same_trunk_true u t i) h (some_same s a (sym (set_at o t s u ∙ ap (λ b. cond b (Some s) (side_at o.node u)) i)
-            ∙ j)) c)
+        ∙ j)) c)
         (λ i. k.new u a h (sym (set_at o t s u ∙ ap (λ b. cond b (Some s) (side_at o.node u)) i) ∙ j));
   }
     where
@@ -234,13 +238,17 @@ module _ (n : Node) (e : NodeEvent) where
       sent = λ u z i c. absurd (nothing (Effect.Sent (Some u) z i) c);
       new = λ u a v j. by_test _ (same_trunk u t0)
           (λ i. inr (subst (λ (z : TrunkSide). Dials n e u z.peer) (some_same s0 a (sym (at u true i)
-              ∙ j)) ((w, h), same_trunk_true u t0 i, stranger)))
+          ∙ j)) ((w, h), same_trunk_true u t0 i, stranger)))
           (λ i. absurd (none_some a (sym v ∙ sym (at u false i) ∙ j)));
     }
 
     dialed : X (write t0 y (send_name (identity n)) o0)
-    dialed = sends t0 y (Handshake (send_name (identity n))) o0 (record { side = s0; there = at t0 true
-        (same_trunk_is t0 t0 refl); peer = refl }) begun
+    dialed = sends t0 y (Handshake (send_name (identity n))) o0 (record {
+      side = s0;
+      there = at t0 true
+          (same_trunk_is t0 t0 refl);
+      peer = refl;
+    }) begun
 
   dials : (names : List Name) (y : Name) (w : ℕ) → e ≡ Dial y w → IfGoes (dial names n y w) X
   dials names y w h = if_not_known (same_name y n.mint.name) _ Refusal.SelfDial X (λ i.

@@ -85,7 +85,7 @@ module _ (New : TrunkId → Name → Type 0) (X : Work → Type 0) (c : Parts X)
   sweeps (Some d) h =
       let y = d.1.peer in
       let at : side_at n d.0 ≡ Some d.1 = fm.get-entries n.sides d.0
-          ∙ (any_found is_losing (fm.entries n.sides) d (fm.entries_sorted n.sides) h).0 in
+      ∙ (any_found is_losing (fm.entries n.sides) d (fm.entries_sorted n.sides) h).0 in
       let o = sweep_record (least_record y n) (at_work n) in
       let same : o.node.sides ≡ n.sides = record_keeps (λ o. o.node.sides ≡ n.sides) (sides_parts (λ m. m ≡ n.sides)) y (at_work n) refl in
       swept_kept New X side wrote d.0 d.1 o (ap (λ m. fm.get m d.0) same ∙ at) (record_keeps X c y (at_work n) k)

@@ -89,7 +89,7 @@ module _ (X : Work → Type 0) (c : Parts X) where
       let r = reference_of n.mint id in
       cond_kept any_rules X closed (reaches o.node q.node) _ _
       (λ e. c.posted (Signal.Monitor p q r) (watch r (monitor_of p q) o) (c.watches r (monitor_of p q) o l (c.drew kind.Reference
-          (at_work n) k)))
+      (at_work n) k)))
       (λ e. c.message p (down_term r q noconnection) o (c.drew kind.Reference (at_work n) k))))
 
   demonitors : (v : Option Monitor) (p : Pid) (r : Reference) (o : Work) → X o → IfGoes (demonitor_by v p r o) X

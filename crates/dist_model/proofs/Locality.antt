@@ -42,9 +42,11 @@ module _ (w : World) (e : Event) where
         accepts = λ m b p hm r.
             let same : Accepts a o ≡ Accepts b p = sym c ∙ ap (λ v. at_node w.names v (met w e)) (some_same n m (sym hx ∙ hm)) ∙ r in
             let sa : a ≡ b = cc in
-            let so : o ≡ p = cc in
-            (λ i. Reported (sa i) ((so i).effects), subst (λ (z : Work). node_of (set_node w.nodes (node_name e) o.node) z.node.mint.name ≡ Some z.node) so
-                (ap (node_of (set_node w.nodes (node_name e) o.node)) nm ∙ node_of_set_same w.nodes (node_name e) n o.node hx nm));
+            let so : o ≡ p = cc in (
+              λ i. Reported (sa i) ((so i).effects),
+              subst (λ (z : Work). node_of (set_node w.nodes (node_name e) o.node) z.node.mint.name ≡ Some z.node) so
+                  (ap (node_of (set_node w.nodes (node_name e) o.node)) nm ∙ node_of_set_same w.nodes (node_name e) n o.node hx nm),
+            );
       }
     where
       not_both : (k : Refusal) (a : Answer) (o : Work) → Refuses k ≡ Accepts a o → ⊥

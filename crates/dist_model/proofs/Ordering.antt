@@ -1,5 +1,5 @@
 -- What travels keeps its order.
-use Rattle.std.proofs.Common.{◌≡◌, ℕ, Bool, true, false, cond, List, [], ◌∷◌, ◌++◌, refl, sym, ap, ◌∙◌, ◌&&◌, Option, Some, None, ◌⊎◌, inl, inr, append-nil, subst, ◌+◌, ◌^◌, nat_lt}
+use Rattle.std.proofs.Common.{◌≡◌, ℕ, true, false, cond, List, [], ◌∷◌, ◌++◌, refl, sym, ap, ◌∙◌, ◌&&◌, Option, Some, None, ◌⊎◌, inl, inr, append-nil, subst, ◌+◌, ◌^◌, nat_lt}
 use Rattle.std.specs.FinMap as fm
 use Rattle.erl_names.specs.Minted.{id_of}
 use Rattle.erl_names.specs.Draw as kind
@@ -28,7 +28,7 @@ use Rattle.dist_model.specs.Items.{Item, kind_of}
 use Rattle.dist_model.specs.Losses.{lose, sweep, any_side}
 use Rattle.dist_model.specs.Names.{Name, place_cmp, same_name}
 use Rattle.dist_model.specs.Node.{Node}
-use Rattle.dist_model.specs.Sides.{TrunkSide, is_losing}
+use Rattle.dist_model.specs.Sides.{is_losing}
 use Rattle.dist_model.specs.Work.{at_work, Work}
 use Rattle.dist_model.specs.World.{Arrive, Call, Dial, Event, Local, Lose, Start, Stepped, Stop, Sweep, World, carried, came_of, list_to, node_name, node_of, refused, step_at}
 use Rattle.erl_names.specs.declared.trunk.TrunkId.{TrunkId}

@@ -42,7 +42,7 @@ use Rattle.dist_model.specs.Node.{Ended, Life, Living, Node, is_living_life, liv
 use Rattle.dist_model.specs.Runs.{Always, Goes, Runs, new_node, opening}
 use Rattle.dist_model.specs.Sides.{in_state, Accepting, Asked, AwaitsAck, AwaitsChallenge, AwaitsStatus, Gone, Losing, Parked, State, TrunkSide, Up, is_gone, is_losing, is_parked}
 use Rattle.dist_model.specs.Work.{Work, at_work, delivered, draw, keep_local, post, post_all, post_to, put, send_on, set_life}
-use Rattle.dist_model.specs.World.{Arrive, Call, Dial, Event, Local, Lose, Report, Start, Stepped, Stop, Sweep, World, came_of, list_to, node_name, node_of, refused, set_node, step_at}
+use Rattle.dist_model.specs.World.{Arrive, Call, Dial, Event, Local, Lose, Report, Start, Stepped, Stop, Sweep, World, came_of, node_name, node_of, set_node, step_at}
 use Rattle.erl_control.specs.declared.signal.Signal.{Signal}
 use Rattle.erl_handshake.specs.declared.message.ShakeMsg.{ShakeMsg}
 use Rattle.erl_names.specs.Ids.{pid_of, reference_of}

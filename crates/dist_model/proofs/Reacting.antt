@@ -15,7 +15,7 @@ use Rattle.dist_model.proofs.Keys.{and_both, same_name_true, same_pid_refl, same
 use Rattle.dist_model.proofs.Moves.{NodeKept}
 use Rattle.dist_model.proofs.Pair.{later}
 use Rattle.dist_model.proofs.Routes.{node_of_name}
-use Rattle.dist_model.proofs.Rules.{accepts, awaits_ack, awaits_challenge, awaits_name, awaits_reply, awaits_status, awaits_true, greet, greet_dialing, greet_up, greet_waiting, handshake_as, handshake_by, name_as}
+use Rattle.dist_model.proofs.Rules.{awaits_ack, awaits_challenge, awaits_name, awaits_reply, awaits_status, awaits_true, greet, greet_dialing, greet_up, greet_waiting, handshake_as, handshake_by, name_as}
 use Rattle.dist_model.proofs.Seeing.{close_if, end_at, end_in, reached_at, replies}
 use Rattle.dist_model.proofs.Sweeping.{link_found}
 use Rattle.dist_model.proofs.Table.{Good}
@@ -26,7 +26,7 @@ use Rattle.dist_model.specs.Causes.{Reacts}
 use Rattle.dist_model.specs.Commands.{Accepts, Outcome, Refuses, with_id}
 use Rattle.dist_model.specs.declared.command.Command.{Command}
 use Rattle.dist_model.specs.Dialing.{dial, has_name}
-use Rattle.dist_model.proofs.Leaving.{exits_in, exits_cons}
+use Rattle.dist_model.proofs.Leaving.{exits_in}
 use Rattle.dist_model.specs.Exits.{carry_out, demonitors, end_process, link_exit, linked_exit, monitor_exits, sent_exit}
 use Rattle.erl_control.specs.Fits.{fits}
 use Rattle.dist_model.specs.Handshake.{challenge, up_is_lost, challenge_or_park, handshake_at, set_state, write}
@@ -41,11 +41,11 @@ use Rattle.dist_model.specs.Monitoring.{demonitor_by, register, unregister, unwa
 use Rattle.dist_model.specs.Names.{Name, place_cmp, same_name, same_pid}
 use Rattle.dist_model.specs.Node.{Node, end_of, living, is_stranger, reaches, route, side_where, traps_life}
 use Rattle.dist_model.specs.Seen.{end_between}
-use Rattle.dist_model.specs.Sides.{Accepting, Asked, AwaitsAck, AwaitsChallenge, AwaitsStatus, Gone, Losing, Parked, State, TrunkSide, Up, is_dialing, is_gone, is_losing, is_parked, is_up, is_waiting, is_over}
+use Rattle.dist_model.specs.Sides.{Accepting, Asked, AwaitsAck, AwaitsChallenge, AwaitsStatus, Gone, Losing, Parked, State, TrunkSide, Up, is_dialing, is_gone, is_losing, is_parked, is_up, is_waiting}
 use Rattle.dist_model.specs.Taking.{take_item}
 use Rattle.dist_model.specs.Work.{Work, at_work, draw, keep_local, post, post_all, post_to, put, report, send_on, set_end}
 use Rattle.dist_model.specs.declared.report.Effect.{Effect}
-use Rattle.dist_model.specs.World.{Arrive, Call, Dial, Event, Local, Lose, Refused, Report, Reported, Start, Stepped, Stop, Sweep, World, came_of, list_to, node_name, node_of, step, step_at}
+use Rattle.dist_model.specs.World.{Arrive, Call, Dial, Event, Local, Lose, Refused, Report, Reported, Start, Stop, Sweep, World, came_of, node_name, node_of, step, step_at}
 use Rattle.erl_control.specs.declared.signal.Signal.{Signal}
 use Rattle.erl_handshake.specs.Flags.{has_all_of, mandatory}
 use Rattle.erl_handshake.specs.Roles.{is_answered, is_same}

@@ -1,5 +1,5 @@
 -- The least record of a lost connection, one kind after the other: the form that the proofs go by.
-use Rattle.std.proofs.Common.{◌≡◌, ℕ, Bool, true, false, List, [], ◌∷◌, refl, Option, Some, None}
+use Rattle.std.proofs.Common.{◌≡◌, Bool, false, refl, Option, Some, None}
 use Rattle.std.specs.Option.{is_some, option_map, option_or}
 use Rattle.std.specs.FinMap as fm
 use Rattle.dist_model.specs.Links.{noconnection}

@@ -6,8 +6,8 @@ use Rattle.std.proofs.Common.{◌≡◌, ℕ, Bool, true, false, cond, not, refl
 use Rattle.std.specs.Option.{is_some}
 use Rattle.std.specs.Ordering.{is_gt}
 use Rattle.conn_core.specs.declared.arrival.Fault.{Fault}
-use Rattle.dist_model.specs.Admission.{admit, after_name, answer_to, give_up, give_up_if, hears_name, new_side, others, stands_after}
-use Rattle.dist_model.specs.Commands.{Accepts, Outcome, Refuses}
+use Rattle.dist_model.specs.Admission.{admit, after_name, answer_to, give_up, give_up_if, hears_name, stands_after}
+use Rattle.dist_model.specs.Commands.{Accepts, Outcome}
 use Rattle.dist_model.specs.declared.report.Answer.{Answer}
 use Rattle.dist_model.specs.Handshake.{acceptor_side, challenge, dialer_side, up_is_lost, fault, send_challenge_or_park, handshake_at, handshake_on, identity, set_state, write}
 use Rattle.dist_model.specs.Items.{Handshake, Item, kind_of}
@@ -28,7 +28,6 @@ use Rattle.erl_handshake.specs.declared.message.ShakeMsg.{ShakeMsg}
 use Rattle.erl_handshake.specs.declared.status.Status.{Status}
 use Rattle.erl_names.specs.Order.{name_cmp}
 use Rattle.erl_names.specs.declared.trunk.TrunkId.{TrunkId}
-use Rattle.erl_term.specs.declared.refusal.Refusal.{Refusal}
 
 -- the dialer awaits the status
 abbrev pub awaits_status : TrunkId → TrunkSide → ℕ → ShakeMsg → Work → Outcome
@@ -286,8 +285,8 @@ name_as t (ShakeMsg.SendName f c n) w o = go (is_same n t.dialer) (has_all_of f 
   where
     go : (a b : Bool) → after_name ((on_name (cond a (cond b None (Some ShakeFault.FlagsMissing)) (Some ShakeFault.Forged)) c w).next.progress) t (record { peer = t.dialer; peer_creation = c; state = Gone }) w o
         ≡ cond a (cond b (greet_waiting (side_where is_waiting t.dialer (fm.entries o.node.sides)) t (record { peer = t.dialer; peer_creation = c; state = Gone }) w (Handshake (ShakeMsg.SendName f c n)) o)
-            (fault (Fault.Shake ShakeFault.FlagsMissing) t (record { peer = t.dialer; peer_creation = c; state = Gone }) o))
-            (fault (Fault.Shake ShakeFault.Forged) t (record { peer = t.dialer; peer_creation = c; state = Gone }) o)
+        (fault (Fault.Shake ShakeFault.FlagsMissing) t (record { peer = t.dialer; peer_creation = c; state = Gone }) o))
+        (fault (Fault.Shake ShakeFault.Forged) t (record { peer = t.dialer; peer_creation = c; state = Gone }) o)
     go true true = admit_as t (record { peer = t.dialer; peer_creation = c; state = Gone }) w (Handshake (ShakeMsg.SendName f c n)) o refl refl
     go true false = refl
     go false b = refl

@@ -15,7 +15,7 @@ use Rattle.dist_model.specs.Links.{LinkNews, noproc}
 use Rattle.dist_model.specs.Names.{Name, same_name}
 use Rattle.dist_model.specs.Node.{Node, end_of, reaches, route, route_in, side_where}
 pub use Rattle.dist_model.specs.Sides.{holds}
-use Rattle.dist_model.specs.Sides.{Accepting, Asked, AwaitsAck, AwaitsChallenge, AwaitsStatus, Gone, Losing, Parked, State, TrunkSide, Up, is_gone, is_losing, is_up}
+use Rattle.dist_model.specs.Sides.{Accepting, Asked, AwaitsAck, AwaitsChallenge, AwaitsStatus, Gone, Losing, Parked, State, TrunkSide, Up, is_gone, is_up}
 use Rattle.dist_model.specs.Work.{Work, at_work}
 use Rattle.erl_names.specs.Order.{trunk_cmp}
 use Rattle.erl_names.specs.declared.trunk.TrunkId.{TrunkId}

@@ -29,7 +29,7 @@ module _ (w : World) (x : Name) (n : Node) (P : Stepped → Type 0) (refuses : (
   pub arrives_then : (t : TrunkId) (k : ℕ)
       → ((i : Item) (is : List Item) → n.up ≡ true → list_to w.lists t x ≡ i ∷ is → fm.get n.sides t ≡ None → P (came_of w x (fm.insert w.lists (t, x) is) (arrive_fresh (handshake_in i) t k (at_work n))))
       → ((i : Item) (is : List Item) (s : TrunkSide) → n.up ≡ true → list_to w.lists t x ≡ i ∷ is → fm.get n.sides t ≡ Some s → is_over s.state ≡ false
-          → P (came_of w x (fm.insert w.lists (t, x) is) (arrive_at (handshake_in i) t s i (at_work n))))
+      → P (came_of w x (fm.insert w.lists (t, x) is) (arrive_at (handshake_in i) t s i (at_work n))))
       → P (step_at w (Some n) (Arrive t x k))
   arrives_then t k fresh known = while_up_then (fm.insert w.lists (t, x) (rest_of (list_to w.lists t x))) (arrive n t (fm.get n.sides t) (first_of (list_to w.lists t x)) k)
       (λ u. go u (list_to w.lists t x) (fm.get n.sides t) refl refl)
@@ -48,6 +48,6 @@ module _ (w : World) (x : Name) (n : Node) (P : Stepped → Type 0) (refuses : (
   pub arrives : (t : TrunkId) (k : ℕ)
       → ((i : Item) (is : List Item) → list_to w.lists t x ≡ i ∷ is → fm.get n.sides t ≡ None → P (came_of w x (fm.insert w.lists (t, x) is) (arrive_fresh (handshake_in i) t k (at_work n))))
       → ((i : Item) (is : List Item) (s : TrunkSide) → list_to w.lists t x ≡ i ∷ is → fm.get n.sides t ≡ Some s → is_over s.state ≡ false
-          → P (came_of w x (fm.insert w.lists (t, x) is) (arrive_at (handshake_in i) t s i (at_work n))))
+      → P (came_of w x (fm.insert w.lists (t, x) is) (arrive_at (handshake_in i) t s i (at_work n))))
       → P (step_at w (Some n) (Arrive t x k))
   arrives t k fresh known = arrives_then t k (λ i is u. fresh i is) (λ i is s u. known i is s)

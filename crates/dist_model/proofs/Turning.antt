@@ -16,7 +16,7 @@ use Rattle.dist_model.proofs.Parts.{Closed, Rules}
 use Rattle.dist_model.proofs.Routes.{at_place, none_some, some_same}
 use Rattle.dist_model.proofs.Table.{has}
 use Rattle.dist_model.specs.Downs.{Down, down_in, downs_in, same_reference}
-use Rattle.dist_model.proofs.Leaving.{exits_in, exits_cons}
+use Rattle.dist_model.proofs.Leaving.{exits_in}
 use Rattle.dist_model.specs.Exits.{buried, demonitors, end_process, is_owned, is_target, monitor_exits}
 use Rattle.dist_model.specs.Handshake.{with_side, write}
 use Rattle.dist_model.specs.Items.{Handshake, Item, Signalled}

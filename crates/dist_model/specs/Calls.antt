@@ -1,6 +1,6 @@
 -- What a caller may ask of a node.
 -- (Reference Manual, Processes: Process Creation, Links, Monitors, Error Handling.)
-use Rattle.std.specs.Prelude.{Option, None, Some, Bool, false, if◌then◌else◌, List, [], ◌∷◌, ◌&&◌}
+use Rattle.std.specs.Prelude.{Option, None, Some, Bool, false, if◌then◌else◌, [], ◌∷◌, ◌&&◌}
 use Rattle.std.specs.FinMap as fm
 use Rattle.erl_names.specs.Draw as kind
 use Rattle.dist_model.specs.Commands.{Accepts, Outcome, Refuses, with_id}
@@ -10,7 +10,7 @@ use Rattle.dist_model.specs.Exits.{end_process}
 use Rattle.erl_control.specs.Fits.{fits}
 use Rattle.dist_model.specs.Linking.{link, unlink_by}
 use Rattle.dist_model.specs.Monitoring.{demonitor_by, monitor}
-use Rattle.dist_model.specs.Names.{same_name, same_pid}
+use Rattle.dist_model.specs.Names.{same_name}
 use Rattle.dist_model.specs.Node.{Life, Living, Node, end_of, ends_of, living, is_stranger}
 use Rattle.dist_model.specs.Work.{Work, at_work, draw, post, set_life}
 use Rattle.erl_control.specs.declared.signal.Signal.{Signal}
@@ -19,7 +19,6 @@ use Rattle.erl_names.specs.Minted.{drawn, id_of}
 use Rattle.erl_term.specs.Data.{Data}
 use Rattle.erl_term.specs.declared.refusal.Refusal.{Refusal}
 use Rattle.erl_term.specs.declared.term.Pid.{Pid}
-use Rattle.link_core.specs.declared.end.End.{End}
 
 -- the acting process has to be living here
 abbrev pub acting : Node → Pid → Outcome → Outcome

@@ -2,8 +2,6 @@
 use Rattle.std.specs.Prelude.{if◌then◌else◌, List, [], ◌∷◌, ◌++◌, ◌≡◌, ◌⊎◌, ◌↔◌, None, Some, ℕ, true, false, Contains}
 use Rattle.std.specs.Ordering.{eq_by_cmp}
 use Rattle.std.specs.FinMap as fm
-use Rattle.dist_model.specs.Causes.{Reacts}
-use Rattle.dist_model.specs.declared.command.Command.{Command}
 use Rattle.dist_model.specs.Items.{Item, Signalled, news}
 use Rattle.dist_model.specs.Links.{Signals, drained, last_said}
 use Rattle.dist_model.specs.Names.{Name, place_cmp}
@@ -15,9 +13,9 @@ use Rattle.dist_model.specs.declared.report.Effect.{Effect}
 use Rattle.erl_term.specs.declared.refusal.Refusal.{Refusal}
 use Rattle.dist_model.specs.Node.{Node, living, is_stranger, Ended}
 use Rattle.dist_model.specs.Quiet.{Quiet}
-use Rattle.dist_model.specs.Seen.{AreConnected, HasSide, end_between, is_connected, is_living, is_reached, local_list}
+use Rattle.dist_model.specs.Seen.{AreConnected, HasSide, end_between, is_connected, is_living, local_list}
 use Rattle.dist_model.specs.Sides.{is_losing, is_up}
-use Rattle.dist_model.specs.World.{Arrive, Call, Event, Refused, Report, Reported, Stepped, World, list_to, met, node_name, node_of, refused, step, Local, Start}
+use Rattle.dist_model.specs.World.{Arrive, Event, Refused, Report, Reported, Stepped, World, list_to, met, node_name, node_of, refused, step, Local, Start}
 use Rattle.erl_control.specs.Control.{IsSendable}
 use Rattle.erl_control.specs.declared.signal.Signal.{Signal}
 use Rattle.erl_names.specs.declared.trunk.TrunkId.{TrunkId}

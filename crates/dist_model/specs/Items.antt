@@ -1,7 +1,7 @@
 -- What travels between two nodes, and from a node to itself.
 -- (ERTS User's Guide, Distribution Protocol.)
 use Rattle.std.specs.List.{flat_map}
-use Rattle.std.specs.Prelude.{Option, None, Some, if◌then◌else◌, ◌&&◌, List, [], ◌∷◌}
+use Rattle.std.specs.Prelude.{if◌then◌else◌, ◌&&◌, List, [], ◌∷◌}
 use Rattle.dist_model.specs.Links.{Exited, LinkNews, Signals}
 use Rattle.dist_model.specs.Names.{same_pid}
 use Rattle.dist_model.specs.declared.report.Kind.{Kind}
