@@ -38,7 +38,8 @@ is_good node side (Handshake message) = true
 is_good node side Tick = true
 
 abbrev pub on_up : TrunkId → TrunkSide → Item → Work → Outcome
-on_up trunk side item work = if is_good work.node side item then Accepts (Answer.Took (kind_of item)) (take_item item work) else fault Fault.Forged trunk side work
+on_up trunk side item work =
+    if is_good work.node side item then Accepts (Answer.Took (kind_of item)) (take_item item work) else fault Fault.Forged trunk side work
 
 -- ---- the first item of a trunk comes
 

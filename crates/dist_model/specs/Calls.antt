@@ -50,16 +50,20 @@ without_first (Some (Living trap (message ∷ rest))) = Some (Living trap rest)
 without_first life = life
 
 abbrev pub call : Node → Command → Outcome
-call node Command.Spawn = with_id (id_of node.mint kind.Pid) (λ id. Accepts (Answer.Pid (pid_of node.mint id)) (spawn_life node (pid_of node.mint id)))
-call node (Command.Send p q message) = acting node p (toward node q (fitting message (Accepts Answer.Done (post (Signal.Send q message) (at_work node)))))
+call node Command.Spawn = with_id (id_of node.mint kind.Pid) (λ id.
+    Accepts (Answer.Pid (pid_of node.mint id)) (spawn_life node (pid_of node.mint id)))
+call node (Command.Send p q message) =
+    acting node p (toward node q (fitting message (Accepts Answer.Done (post (Signal.Send q message) (at_work node)))))
 call node (Command.Link p q) = acting node p (toward node q (Accepts Answer.Done (link p q (at_work node))))
 call node (Command.Unlink p q) = acting node p (toward node q (unlink_by (end_of node p q) p q (at_work node)))
 call node (Command.Monitor p q) = acting node p (toward node q (with_id (id_of node.mint kind.Reference) (λ count.
     let r = reference_of node.mint count in Accepts (Answer.Reference r) (monitor r p q (draw kind.Reference (at_work node))))))
 call node (Command.Demonitor p r) = acting node p (demonitor_by (fm.get node.watches r) p r (at_work node))
 call node (Command.Trap p on) = acting node p (Accepts Answer.Done (with_life node p (trapping (fm.get node.lives p) on)))
-call node (Command.ExitTo p q reason) = acting node p (toward node q (fitting reason (Accepts Answer.Done (post (Signal.Exit2 p q reason) (at_work node)))))
+call node (Command.ExitTo p q reason) =
+    acting node p (toward node q (fitting reason (Accepts Answer.Done (post (Signal.Exit2 p q reason) (at_work node)))))
 call node (Command.ExitSelf p reason) = acting node p (fitting reason (Accepts Answer.Done (end_process p reason (at_work node))))
-call node (Command.Receive p) = acting node p (Accepts (Answer.Message (first_message (fm.get node.lives p))) (with_life node p (without_first (fm.get node.lives p))))
+call node (Command.Receive p) =
+    acting node p (Accepts (Answer.Message (first_message (fm.get node.lives p))) (with_life node p (without_first (fm.get node.lives p))))
 call node (Command.LinksOf p) = acting node p (Accepts (Answer.Links (ends_of node p)) (at_work node))
 call node (Command.IsAlive p) = Accepts (Answer.Alive (living node p)) (at_work node)

@@ -28,4 +28,5 @@ HasEnded q reason (last ∷ before) = Ends q reason last.report ⊎ HasEnded q r
 pub data TrueCause (history : History) (world : World) (p q : Pid) (reason : Data) : Type 0 where
   HadEnded : HasEnded q reason history → TrueCause history world p q reason
   NoProcess : reason ≡ noproc → is_living world q ≡ false → TrueCause history world p q reason
-  NoConnection : reason ≡ noconnection → same_name q.node p.node ≡ false → is_reached world p q.node ≡ false → TrueCause history world p q reason
+  NoConnection : reason ≡ noconnection → same_name q.node p.node ≡ false → is_reached world p q.node ≡ false
+      → TrueCause history world p q reason

@@ -29,41 +29,52 @@ use Rattle.link_core.specs.declared.end.LinkSignal.{LinkSignal}
 -- two living processes of connected nodes: once all that travels has come, both hold their link active, or neither does
 abbrev pub Agreement : World → Type 0
 Agreement w = (p q : Pid) (t : TrunkId) → AreConnected w p.node t q.node → is_living w p ≡ true → is_living w q ≡ true
-    → drained (end_between w p q) (news q p (list_to w.lists t p.node)) ≡ End.Active ↔ drained (end_between w q p) (news p q (list_to w.lists t q.node)) ≡ End.Active
+    → drained (end_between w p q) (news q p (list_to w.lists t p.node)) ≡ End.Active
+    ↔ drained (end_between w q p) (news p q (list_to w.lists t q.node)) ≡ End.Active
 
 -- two living processes of one node
 abbrev pub AgreementWithin : World → Type 0
 AgreementWithin w = (p q : Pid) → p.node ≡ q.node → is_living w p ≡ true → is_living w q ≡ true
-    → drained (end_between w p q) (news q p (local_list w p.node)) ≡ End.Active ↔ drained (end_between w q p) (news p q (local_list w p.node)) ≡ End.Active
+    → drained (end_between w p q) (news q p (local_list w p.node)) ≡ End.Active
+    ↔ drained (end_between w q p) (news p q (local_list w p.node)) ≡ End.Active
 
 -- whenever nothing travels between two living processes, both hold their link active, or neither does
 abbrev pub AgreementInQuiet : World → Type 0
-AgreementInQuiet w = (p q : Pid) → Quiet w p q → is_living w p ≡ true → is_living w q ≡ true → end_between w p q ≡ End.Active ↔ end_between w q p ≡ End.Active
+AgreementInQuiet w = (p q : Pid) → Quiet w p q → is_living w p ≡ true → is_living w q ≡ true
+    → end_between w p q ≡ End.Active ↔ end_between w q p ≡ End.Active
 
 -- ---- Pending. (ERTS User's Guide, Distribution Protocol, New Link Protocol)
 
--- where an end waits for an acknowledgement, its UNLINK_ID is the last LINK or UNLINK_ID on the way to the partner, or the acknowledgement is on its way back
+-- where an end waits for an acknowledgement, its UNLINK_ID is the last LINK or UNLINK_ID on the way to the partner, or the
+-- acknowledgement is on its way back
 abbrev pub PendingOnItsWay : World → Type 0
-PendingOnItsWay w = (p q : Pid) (t : TrunkId) (i : ℕ) → AreConnected w p.node t q.node → is_living w p ≡ true → is_living w q ≡ true → end_between w p q ≡ End.Pending i
-    → (last_said (news p q (list_to w.lists t q.node)) ≡ Some (LinkSignal.Unlink i)) ⊎ Contains (news q p (list_to w.lists t p.node)) (Signals (LinkSignal.Ack i))
+PendingOnItsWay w = (p q : Pid) (t : TrunkId) (i : ℕ) → AreConnected w p.node t q.node → is_living w p ≡ true → is_living w q ≡ true
+    → end_between w p q ≡ End.Pending i
+    → (last_said (news p q (list_to w.lists t q.node)) ≡ Some (LinkSignal.Unlink i))
+    ⊎ Contains (news q p (list_to w.lists t p.node)) (Signals (LinkSignal.Ack i))
 
 abbrev pub PendingWithin : World → Type 0
-PendingWithin w = (p q : Pid) (i : ℕ) → p.node ≡ q.node → is_living w p ≡ true → is_living w q ≡ true → end_between w p q ≡ End.Pending i
-    → (last_said (news p q (local_list w p.node)) ≡ Some (LinkSignal.Unlink i)) ⊎ Contains (news q p (local_list w p.node)) (Signals (LinkSignal.Ack i))
+PendingWithin w = (p q : Pid) (i : ℕ) → p.node ≡ q.node → is_living w p ≡ true → is_living w q ≡ true
+    → end_between w p q ≡ End.Pending i
+    → (last_said (news p q (local_list w p.node)) ≡ Some (LinkSignal.Unlink i))
+    ⊎ Contains (news q p (local_list w p.node)) (Signals (LinkSignal.Ack i))
 
 -- ---- No link to the dead, and none to itself. (Reference Manual, Processes, Links)
 
 abbrev pub NoLinkToTheDead : World → Type 0
-NoLinkToTheDead w = (p q : Pid) → Quiet w p q → is_living w p ≡ true → is_living w q ≡ false → end_between w p q ≡ End.Active → ⊥
+NoLinkToTheDead w = (p q : Pid) → Quiet w p q → is_living w p ≡ true → is_living w q ≡ false
+    → end_between w p q ≡ End.Active → ⊥
 
 abbrev pub NoLinkToItself : World → Type 0
 NoLinkToItself w = (p : Pid) → end_between w p p ≡ End.None
 
 -- ---- Links are of living processes that can reach each other. (Reference Manual, Processes, Links; Distributed Erlang)
 
--- an end that isn't none is that of a living process, towards its own node or one that its node is connected to, or whose records it hasn't swept yet
+-- an end that isn't none is that of a living process, towards its own node or one that its node is connected to, or whose records
+-- it hasn't swept yet
 abbrev pub LinkNeedsConnection : World → Type 0
-LinkNeedsConnection w = (p q : Pid) → (end_between w p q ≡ End.None → ⊥) → (is_living w p ≡ true) × ((q.node ≡ p.node) ⊎ (is_connected w p.node q.node ≡ true))
+LinkNeedsConnection w = (p q : Pid) → (end_between w p q ≡ End.None → ⊥)
+    → (is_living w p ≡ true) × ((q.node ≡ p.node) ⊎ (is_connected w p.node q.node ≡ true))
 
 -- ---- Who is living. (Reference Manual, Processes, Process Creation and Termination; ERTS User's Guide, External Term Format, NEW_PID_EXT)
 
@@ -100,8 +111,10 @@ pub record IsOf (w : World) (e : Event) (s : Stepped) : Type 0 where
   pub names : s.world.names ≡ w.names
   pub others : (x : Name) → (x ≡ node_name e → ⊥) → node_of s.world.nodes x ≡ node_of w.nodes x
   pub nobody : node_of w.nodes (node_name e) ≡ None → s ≡ refused w Refusal.NothingThere
-  pub refuses : (node : Node) (why : Refusal) → node_of w.nodes (node_name e) ≡ Some node → at_node w.names node (met w e) ≡ Refuses why → s ≡ refused w why
-  pub accepts : (node : Node) (answer : Answer) (work : Work) → node_of w.nodes (node_name e) ≡ Some node → at_node w.names node (met w e) ≡ Accepts answer work
+  pub refuses : (node : Node) (why : Refusal) → node_of w.nodes (node_name e) ≡ Some node
+      → at_node w.names node (met w e) ≡ Refuses why → s ≡ refused w why
+  pub accepts : (node : Node) (answer : Answer) (work : Work) → node_of w.nodes (node_name e) ≡ Some node
+      → at_node w.names node (met w e) ≡ Accepts answer work
       → (s.report ≡ Reported answer work.effects) × (node_of s.world.nodes work.node.mint.name ≡ Some work.node)
 
 abbrev pub EventIsLocal : World → Type 0
@@ -119,12 +132,13 @@ sent_to t x [] = []
 sent_to t x (Effect.Sent (Some u) y item ∷ rest) = (if eq_by_cmp place_cmp (t, x) (u, y) then item ∷ [] else []) ++ sent_to t x rest
 sent_to t x (effect ∷ rest) = sent_to t x rest
 
--- whatever comes next, what travels on a trunk to a node keeps its order: what the report says was sent, and nothing else, comes behind it, and
--- the first item is taken only as it comes to that node
+-- whatever comes next, what travels on a trunk to a node keeps its order: what the report says was sent, and nothing else, comes
+-- behind it, and the first item is taken only as it comes to that node
 abbrev pub KeepsOrder : World → Type 0
 KeepsOrder w = (e : Event) (t : TrunkId) (x : Name) → let s = step w e in let sent = sent_to t x (effects_of s.report) in
     (list_to s.world.lists t x ≡ list_to w.lists t x ++ sent)
-    ⊎ (((word : ℕ) × (e ≡ Arrive t x word)) × (first : Item) × (rest : List Item) × (list_to w.lists t x ≡ first ∷ rest) × (list_to s.world.lists t x ≡ rest ++ sent))
+    ⊎ (((word : ℕ) × (e ≡ Arrive t x word)) × (first : Item) × (rest : List Item) × (list_to w.lists t x ≡ first ∷ rest)
+    × (list_to s.world.lists t x ≡ rest ++ sent))
 
 -- items come behind those that are on their way
 abbrev pub Grows : List Item → List Item → Type 0

@@ -51,7 +51,8 @@ buried p reason work = record work {
 -- each group in the order of its keys
 abbrev pub end_process : Pid → Data → Work → Work
 end_process p reason work = buried p reason
-    (post_all (exits p reason (ends_of work.node p) ++ monitor_exits p reason (fm.entries work.node.registered) ++ demonitors p (fm.entries work.node.watches)) work)
+    (post_all (exits p reason (ends_of work.node p) ++ monitor_exits p reason (fm.entries work.node.registered)
+    ++ demonitors p (fm.entries work.node.watches)) work)
 
 -- ---- an exit signal comes to p
 

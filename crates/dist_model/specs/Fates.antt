@@ -54,7 +54,8 @@ DownOnce history world = (r : Reference) → length (downs r history) ≤ 1
 
 -- to the process that made the call, for the process that it named: the pid whole, and so the incarnation
 abbrev pub DownToTheOwner : History → World → Type 0
-DownToTheOwner history world = (r : Reference) (down : Down) → Contains (downs r history) down → Monitored r down.owner down.target history
+DownToTheOwner history world = (r : Reference) (down : Down) → Contains (downs r history) down
+    → Monitored r down.owner down.target history
 
 -- where a Demonitor went through there was no DOWN, and there is none
 abbrev pub NoDownWhereDemonitored : History → World → Type 0
@@ -77,7 +78,9 @@ registered_at (Some node) r = fm.get node.registered r
 abbrev pub IsRegistered : World → Reference → Pid → Pid → Type 0
 IsRegistered world r p q = (is_living world q ≡ true) × (registered_at (node_of world.nodes q.node) r ≡ Some (monitor_of p q))
 
--- whenever nothing travels between them, a living owner that didn't take its monitor back has got its DOWN, or the target is living and registered
+-- whenever nothing travels between them, a living owner that didn't take its monitor back has got its DOWN, or the target is living
+-- and registered
 abbrev pub DownOrRegistered : History → World → Type 0
-DownOrRegistered history world = (r : Reference) (p q : Pid) → Monitored r p q history → is_living world p ≡ true → (Demonitored r history → ⊥) → Quiet world p q
+DownOrRegistered history world = (r : Reference) (p q : Pid) → Monitored r p q history → is_living world p ≡ true
+    → (Demonitored r history → ⊥) → Quiet world p q
     → (length (downs r history) ≡ 1) ⊎ IsRegistered world r p q

@@ -73,7 +73,8 @@ acceptor_side side AcceptorState.Over = in_state Gone side
 -- the role's turn says what is sent, and whether the handshake goes on
 abbrev pub on_verdict : Verdict → TrunkId → (old new : TrunkSide) → ShakeMsg → Option ShakeMsg → Work → Outcome
 on_verdict (verdict.Ended why) trunk old new message send work = fault (Fault.Shake why) trunk old work
-on_verdict _ trunk old new message send work = Accepts (Answer.Took (kind_of (Handshake message))) (write_if trunk old.peer send (with_side trunk new work))
+on_verdict _ trunk old new message send work =
+    Accepts (Answer.Took (kind_of (Handshake message))) (write_if trunk old.peer send (with_side trunk new work))
 
 abbrev pub handshake_on : TrunkId → TrunkSide → ShakeMsg → TrunkSide → Next → Work → Outcome
 handshake_on trunk old message new next work = on_verdict next.progress trunk old new message next.send work
@@ -104,7 +105,8 @@ send_challenge_or_park trunk side word work = challenge_or_park (side_where is_l
 
 abbrev pub after_answer : Verdict → TrunkId → TrunkSide → ℕ → ShakeMsg → Work → Outcome
 after_answer (verdict.Ended why) trunk side word message work = fault (Fault.Shake why) trunk side work
-after_answer _ trunk side word message work = Accepts (Answer.Took (kind_of (Handshake message))) (send_challenge_or_park trunk side word (up_is_lost (side_where is_up side.peer (fm.entries work.node.sides)) work))
+after_answer _ trunk side word message work = Accepts (Answer.Took (kind_of (Handshake message)))
+    (send_challenge_or_park trunk side word (up_is_lost (side_where is_up side.peer (fm.entries work.node.sides)) work))
 
 abbrev pub hears_answer : TrunkId → TrunkSide → ℕ → ShakeMsg → Work → Outcome
 hears_answer trunk side word message work =

@@ -22,7 +22,8 @@ without_sides node = fm.from_entries (all_gone (fm.entries node.sides))
 
 -- no process is living any more, nothing is sent, and every connection is gone
 abbrev pub stopped : Node → Node
-stopped node = record node { up = false; lives = fm.empty; ends = fm.empty; watches = fm.empty; registered = fm.empty; sides = without_sides node }
+stopped node =
+    record node { up = false; lives = fm.empty; ends = fm.empty; watches = fm.empty; registered = fm.empty; sides = without_sides node }
 
 -- the creation is one more, and nothing is left but the trunks that it has dialed and those that are gone
 abbrev pub started : Node → Node
@@ -34,4 +35,5 @@ stop node = Accepts Answer.Stopped (at_work (stopped node))
 abbrev pub start : Node → Outcome
 start node =
     if node.up then Refuses Refusal.NodeUp else
-    (if nat_lt (node.mint.creation + 1) (2 ^ 32) then Accepts (Answer.Started (node.mint.creation + 1)) (at_work (started node)) else Refuses Refusal.IdsUsedUp)
+    (if nat_lt (node.mint.creation + 1) (2 ^ 32) then Accepts (Answer.Started (node.mint.creation + 1)) (at_work (started node))
+    else Refuses Refusal.IdsUsedUp)

@@ -29,7 +29,8 @@ Comes event trunk = (item : Item) × (word : ℕ) × (event ≡ Arrive trunk (So
 
 -- the node dials another on the trunk
 abbrev pub Dials : Node → NodeEvent → TrunkId → Name → Type 0
-Dials node event trunk peer = ((word : ℕ) × (event ≡ Dial peer word)) × (trunk ≡ next_trunk node) × (peer ≡ node.mint.name → ⊥)
+Dials node event trunk peer =
+    ((word : ℕ) × (event ≡ Dial peer word)) × (trunk ≡ next_trunk node) × (peer ≡ node.mint.name → ⊥)
 
 pub record Bearings (node : Node) (event : NodeEvent) (work : Work) : Type 0 where
   pub name : work.node.mint.name ≡ node.mint.name

@@ -30,8 +30,10 @@ nothing_between p q (item ∷ rest) = not (is_signal_of p q item || is_signal_of
 pub data Quiet (world : World) (p q : Pid) : Type 0 where
   Within : p.node ≡ q.node → nothing_between p q (local_list world p.node) ≡ true → Quiet world p q
   Over : same_name p.node q.node ≡ false → (trunk : TrunkId) → AreConnected world p.node trunk q.node
-      → nothing_between p q (list_to world.lists trunk p.node) ≡ true → nothing_between p q (list_to world.lists trunk q.node) ≡ true → Quiet world p q
-  Unconnected : same_name p.node q.node ≡ false → is_connected world p.node q.node ≡ false → is_connected world q.node p.node ≡ false → Quiet world p q
+      → nothing_between p q (list_to world.lists trunk p.node) ≡ true
+      → nothing_between p q (list_to world.lists trunk q.node) ≡ true → Quiet world p q
+  Unconnected : same_name p.node q.node ≡ false → is_connected world p.node q.node ≡ false
+      → is_connected world q.node p.node ≡ false → Quiet world p q
 
 -- ---- the same as a test
 

@@ -52,4 +52,5 @@ reports_of (event ∷ events) world = (step world event).report ∷ reports_of e
 
 -- whatever happens, and so at each moment of whatever happens
 abbrev pub Always : (World → Type 0) → Type 0
-Always Holds = (nodes : List (Name × List ℕ)) (events : List Event) (reports : List Report) (world : World) → Runs (opening nodes) events reports world → Holds world
+Always Holds = (nodes : List (Name × List ℕ)) (events : List Event) (reports : List Report) (world : World)
+    → Runs (opening nodes) events reports world → Holds world

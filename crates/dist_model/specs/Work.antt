@@ -41,7 +41,8 @@ send_on (Some trunk) peer item work = report (Effect.Sent (Some trunk) peer item
 
 -- into the own list, onto the trunk that is up, or nowhere
 abbrev pub post_to : Name → Item → Work → Work
-post_to target item work = if same_name target work.node.mint.name then keep_local item work else send_on (route work.node target) target item work
+post_to target item work =
+    if same_name target work.node.mint.name then keep_local item work else send_on (route work.node target) target item work
 
 -- a signal goes to its receiver's node. (Reference Manual, Processes, Delivery of Signals)
 abbrev pub post : Signal → Work → Work
