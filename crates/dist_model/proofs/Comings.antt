@@ -16,7 +16,7 @@ use Rattle.dist_model.proofs.Deeds.{downs_mere, Right, Shaken, U, Whole, at_pid,
 use Rattle.dist_model.proofs.Entries.{registered_found, watch_found}
 use Rattle.dist_model.proofs.Events.{AllGo, Done, all_go, done, done_shaken, done_whole, go_cond, go_not}
 use Rattle.dist_model.proofs.Founding.{Founded, founded_by, true_put}
-use Rattle.dist_model.proofs.Handshaking.{Fresh, Turned, fresh_kept, known_fault, lose_kept, swept_kept, towards_set}
+use Rattle.dist_model.proofs.Handshaking.{Aged, Fresh, Roomy, Turned, fresh_kept, known_fault, lose_kept, as_state, parked_ages, room_new, swept_kept, towards_set}
 use Rattle.dist_model.specs.Keeping.{Towards}
 use Rattle.dist_model.proofs.Handshaking
 use Rattle.dist_model.proofs.Homing.{TargetsIn}
@@ -37,7 +37,7 @@ use Rattle.dist_model.specs.declared.report.Answer.{Answer}
 use Rattle.dist_model.specs.Dialing.{dial, draw_trunk, has_name, next_trunk}
 use Rattle.dist_model.specs.Downs.{Monitored, downs_in, is_answered, is_demonitored, is_sent_message, takes_message}
 use Rattle.erl_handshake.specs.Roles.{send_name}
-use Rattle.dist_model.specs.Handshake.{identity, fault, with_side, write}
+use Rattle.dist_model.specs.Handshake.{identity, fault, set_state, with_side, write}
 use Rattle.dist_model.specs.Histories.{History}
 use Rattle.dist_model.specs.Incarnations.{start, started, stop, stopped}
 use Rattle.dist_model.specs.Items.{Handshake, Item, Signalled, Tick, kind_of}
@@ -121,11 +121,12 @@ module _ (w : World) (h : History) (x : Name) (n : Node) (hx : node_of w.nodes x
       pub shaken : Shaken w h x n hx gw g e xs o
       pub none : (k : Reference) → downs_in k o.effects ≡ []
 
-    calm_side : (t : TrunkId) (s : TrunkSide) (o : Work) → Turned o.node t s → Calm o → Calm (with_side t s o)
-    calm_side t s o c k = record { shaken = shaken_side w h x n hx gw g e xs t s o c k.shaken; none = k.none }
+    calm_side : (t : TrunkId) (s : TrunkSide) (o : Work) → Turned o.node t s → Roomy o.node t s → Calm o → Calm (with_side t s o)
+    calm_side t s o c r k = record { shaken = shaken_side w h x n hx gw g e xs t s o c k.shaken; none = k.none }
 
     calm_wrote : (t : TrunkId) (y : Name) (m : ShakeMsg) (o : Work) → Towards o.node t y → Calm o → Calm (write t y m o)
-    calm_wrote t y m o v k = record { shaken = shaken_wrote w h x n hx gw g e xs t y m o k.shaken; none = λ r. no_more r o.effects (Effect.Sent (Some t) y (Handshake m) ∷ []) refl ∙ k.none r }
+    calm_wrote t y m o v k = record { shaken = shaken_wrote w h x n hx gw g e xs t y m o k.shaken; none = λ r. no_more r o.effects
+        (Effect.Sent (Some t) y (Handshake m) ∷ []) refl ∙ k.none r }
 
     none_counted : (k : Reference) (b : Bool) (fs : List (Effect Item)) → downs_in k fs ≡ [] → downs_in k (cond b (mere fs) fs) ≡ downs_in k fs
     none_counted k true fs i = downs_mere k fs ∙ sym i
@@ -220,11 +221,15 @@ module _ (w : World) (h : History) (x : Name) (n : Node) (hx : node_of w.nodes x
 
     pub fresh_comes : side_at n t ≡ None → A (arrive_fresh (handshake_in i) t k (at_work n))
     fresh_comes at = calms (arrive_fresh (handshake_in i) t k (at_work n))
-        (fresh_kept (λ u y. Unit {0}) (Calm (Arrive t x k) n.local (λ r v. refl) (λ r v. refl)) (calm_side (Arrive t x k) n.local (λ r v. refl) (λ r v. refl)) (calm_wrote (Arrive t x k) n.local (λ r v. refl) (λ r v. refl)) t tt (handshake_in i) k (at_work n) at calm0)
+        (fresh_kept (λ u y. Unit {0}) (Calm (Arrive t x k) n.local (λ r v. refl) (λ r v. refl)) (calm_side (Arrive t x k) n.local
+            (λ r v. refl) (λ r v. refl)) (calm_wrote (Arrive t x k) n.local (λ r v. refl)
+            (λ r v. refl)) t tt (handshake_in i) k (at_work n) at calm0)
 
     module _ (v : TrunkSide) (at : side_at n t ≡ Some v) where
       fails : (j : Fault) → A (fault j t v (at_work n))
-      fails j = calms (fault j t v (at_work n)) (known_fault (λ u y. Unit {0}) (Calm (Arrive t x k) n.local (λ r z. refl) (λ r z. refl)) (calm_side (Arrive t x k) n.local (λ r z. refl) (λ r z. refl)) (calm_wrote (Arrive t x k) n.local (λ r z. refl) (λ r z. refl)) j t v (at_work n) at calm0)
+      fails j = calms (fault j t v (at_work n)) (known_fault (λ u y. Unit {0}) (Calm (Arrive t x k) n.local (λ r z. refl)
+          (λ r z. refl)) (calm_side (Arrive t x k) n.local (λ r z. refl) (λ r z. refl)) (calm_wrote (Arrive t x k) n.local
+          (λ r z. refl) (λ r z. refl)) j t v (at_work n) at calm0)
 
       received : is_good n v i ≡ true → (s : Signal) → i ≡ Signalled s → is_stranger n (receiver_of s) ≡ false
       received good s j = not_never n (receiver_of s) (and_both (from_peer v (sender_of s)) (is_to n (receiver_of s)) (sym (ap (is_good n v) j) ∙ good)).1
@@ -250,7 +255,9 @@ module _ (w : World) (h : History) (x : Name) (n : Node) (hx : node_of w.nodes x
       pub known_comes : (m : Option ShakeMsg) → A (arrive_at m t v i (at_work n))
       known_comes None = signal_comes v.state
       known_comes (Some m) = calms (arrive_at (Some m) t v i (at_work n))
-          (Handshaking.shaken (λ u y. Unit {0}) (Calm (Arrive t x k) n.local (λ r z. refl) (λ r z. refl)) (calm_side (Arrive t x k) n.local (λ r z. refl) (λ r z. refl)) (calm_wrote (Arrive t x k) n.local (λ r z. refl) (λ r z. refl)) t v (at_work n) at calm0 v.state refl m)
+          (Handshaking.shaken (λ u y. Unit {0}) (Calm (Arrive t x k) n.local (λ r z. refl)
+              (λ r z. refl)) (calm_side (Arrive t x k) n.local (λ r z. refl) (λ r z. refl)) (calm_wrote (Arrive t x k) n.local
+              (λ r z. refl) (λ r z. refl)) t v (at_work n) at calm0 v.state refl m)
 
   -- ---- from itself
 
@@ -277,7 +284,8 @@ module _ (w : World) (h : History) (x : Name) (n : Node) (hx : node_of w.nodes x
 
   pub lose_done : (t : TrunkId) (o : Option TrunkSide) → side_at n t ≡ o → AllGo (lose n t o) (D (Lose t x) n.local)
   lose_done t o at = all_go (Calm (Lose t x) n.local (λ r v. refl) (λ r v. refl)) (D (Lose t x) n.local) (lose n t o) (λ a p c. calm_done (Lose t x) n.local (λ r v. refl) (λ r v. refl) a p c)
-      (lose_kept (λ u y. Unit {0}) (Calm (Lose t x) n.local (λ r v. refl) (λ r v. refl)) (calm_side (Lose t x) n.local (λ r v. refl) (λ r v. refl)) (calm_wrote (Lose t x) n.local (λ r v. refl) (λ r v. refl)) n t o at
+      (lose_kept (λ u y. Unit {0}) (Calm (Lose t x) n.local (λ r v. refl) (λ r v. refl)) (calm_side (Lose t x) n.local (λ r v. refl)
+          (λ r v. refl)) (calm_wrote (Lose t x) n.local (λ r v. refl) (λ r v. refl)) n t o at
       (calm (Lose t x) n.local (λ r v. refl) (λ r v. refl) (g.locals x n hx) (g.homes x n hx)))
 
   no_next : (o : Option TrunkSide) → side_at n (next_trunk n) ≡ o → side_at n (next_trunk n) ≡ None
@@ -300,8 +308,11 @@ module _ (w : World) (h : History) (x : Name) (n : Node) (hx : node_of w.nodes x
         };
         none = λ r. refl;
       } in
-      let c2 = calm_side (Dial x y k) n.local (λ r v. refl) (λ r v. refl) (next_trunk n) s o (Fresh tt (no_next (side_at n (next_trunk n)) refl)) c1 in
-      calm_done (Dial x y k) n.local (λ r v. refl) (λ r v. refl) _ _ (calm_wrote (Dial x y k) n.local (λ r v. refl) (λ r v. refl) (next_trunk n) y (send_name (identity n)) (with_side (next_trunk n) s o) (towards_set o (next_trunk n) s) c2)))))
+      let c2 = calm_side (Dial x y k) n.local (λ r v. refl)
+          (λ r v. refl) (next_trunk n) s o (Fresh tt (no_next (side_at n (next_trunk n)) refl)) (room_new (draw_trunk n)
+          (next_trunk n) s (no_next (side_at n (next_trunk n)) refl)) c1 in
+      calm_done (Dial x y k) n.local (λ r v. refl) (λ r v. refl) _ _ (calm_wrote (Dial x y k) n.local (λ r v. refl)
+          (λ r v. refl) (next_trunk n) y (send_name (identity n)) (with_side (next_trunk n) s o) (towards_set o (next_trunk n) s) c2)))))
 
   -- ---- a sweep
 
@@ -318,7 +329,11 @@ module _ (w : World) (h : History) (x : Name) (n : Node) (hx : node_of w.nodes x
       (λ v l. let f = registered_found d.1.peer n.registered v l in (f.0, inr (ap (reaches n) f.1 ∙ far)))
       (begins w h x n hx gw g (Sweep x) n.local (g.locals x n hx) (g.homes x n hx)) in
       let o1 = sweep_link (link_to d.1.peer (fm.entries n.ends)) d.1.peer (at_work n) in
-      let s = swept_kept (λ u y. Unit {0}) (Shaken w h x n hx gw g (Sweep x) n.local) (shaken_side w h x n hx gw g (Sweep x) n.local) (λ t y m o v z. shaken_wrote w h x n hx gw g (Sweep x) n.local t y m o z) d.0 d.1 o1 (ap (λ z. fm.get z d.0) k.core.sides ∙ at) (shaken w h x n hx gw g (Sweep x) n.local o1 k) in
+      let s = swept_kept (λ u y. Unit {0}) (Shaken w h x n hx gw g (Sweep x) n.local)
+          (λ t v o c r z. shaken_side w h x n hx gw g (Sweep x) n.local t v o c z)
+          (λ t y m o v z. shaken_wrote w h x n hx gw g (Sweep x) n.local t y m o z) d.0 d.1 o1 (ap (λ z. fm.get z d.0) k.core.sides ∙ at)
+      (λ u b v f p e z. shaken_side w h x n hx gw g (Sweep x) n.local u (as_state b (Accepting v)) (set_state d.0 d.1 Gone o1) (Aged b f
+          (parked_ages b v e)) z) (shaken w h x n hx gw g (Sweep x) n.local o1 k) in
       subst (λ z. D (Sweep x) n.local (Answer.Swept (swept_kind (least_record d.1.peer n))) (close_if_swept d.0 d.1 z)) (sym (least_as d.1.peer (at_work n)))
       (done_shaken w h x n hx gw g (Sweep x) n.local _ (close_if_swept d.0 d.1 o1) (λ q. refl) (λ q. refl) refl s)
     where

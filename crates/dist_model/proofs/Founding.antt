@@ -190,7 +190,7 @@ cond_some false v m h = h
 pub removed_some : (w : MonitorMap) (k r : Reference) (m : Monitor) → fm.get (fm.remove w k) r ≡ Some m → fm.get w r ≡ Some m
 removed_some w k r m h = cond_some (same_reference r k) (fm.get w r) m (sym (fm.get-remove reference_cmp_total w k r) ∙ h)
 
-retained : (b : Bool) (v : Option Monitor) (m : Monitor) → cond b v None ≡ Some m → (b ≡ true) × (v ≡ Some m)
+pub retained : (b : Bool) (v : Option Monitor) (m : Monitor) → cond b v None ≡ Some m → (b ≡ true) × (v ≡ Some m)
 retained true v m h = (refl, h)
 retained false v m h = absurd (none_some m h)
 

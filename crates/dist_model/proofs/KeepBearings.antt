@@ -8,7 +8,7 @@ use Rattle.std.specs.FinMap as fm
 use Rattle.dist_model.proofs.Calls.{IfGoes, by_test, if_not, if_not_known}
 use Rattle.dist_model.proofs.Closing.{gone_side, gone_sides}
 use Rattle.dist_model.proofs.Ending.{last_posts}
-use Rattle.dist_model.proofs.Handshaking.{Aged, Fresh, Shut, TurnedBy, fresh_kept, set_at}
+use Rattle.dist_model.proofs.Handshaking.{Aged, Fresh, Roomy, Shut, TurnedBy, Unparks, as_state, fresh_kept, parked_ages, set_at}
 use Rattle.dist_model.proofs.KeepEvents.{at_node_keeps}
 use Rattle.dist_model.proofs.KeepParts.{Parts}
 use Rattle.dist_model.proofs.Keys.{same_name_is, same_trunk, same_trunk_is, same_trunk_true}
@@ -18,7 +18,7 @@ use Rattle.dist_model.specs.Arrivals.{handshake_in}
 use Rattle.dist_model.specs.Commands.{Accepts, Outcome}
 use Rattle.dist_model.specs.Dialing.{dial, draw_trunk, has_name, next_trunk}
 use Rattle.dist_model.specs.Exits.{end_process}
-use Rattle.dist_model.specs.Handshake.{identity, with_side, write}
+use Rattle.dist_model.specs.Handshake.{identity, set_state, with_side, write}
 use Rattle.dist_model.specs.Incarnations.{started, stopped}
 use Rattle.dist_model.specs.Items.{Handshake, Item, Signalled}
 use Rattle.erl_control.specs.Ends.{receiver_of}
@@ -26,7 +26,7 @@ use Rattle.dist_model.specs.Keeping.{Bearings, Comes, Dials, Towards}
 use Rattle.dist_model.specs.Names.{Name, same_name}
 use Rattle.dist_model.specs.Node.{Node, route, side_where}
 use Rattle.dist_model.specs.NodeEvents.{Arrive, Call, Dial, Local, Lose, NodeEvent, Start, Stop, Sweep, at_node}
-use Rattle.dist_model.specs.Sides.{AwaitsStatus, TrunkSide, is_gone}
+use Rattle.dist_model.specs.Sides.{Accepting, AwaitsStatus, Gone, Losing, TrunkSide, is_gone}
 use Rattle.dist_model.specs.Work.{Work, at_work, keep_local, post_to, post_all, report, send_on}
 use Rattle.dist_model.specs.declared.report.Answer.{Answer}
 use Rattle.dist_model.specs.declared.report.Effect.{Effect}
@@ -77,6 +77,9 @@ module _ (n : Node) (e : NodeEvent) where
   abbrev X : Work → Type 0
   X = Bearings n e
 
+  abbrev Stays : Node → TrunkId → Name → Type 0
+  Stays m t y = Towards m t y ⊎ ((z : Name) × Dials n e t z × Towards m t z)
+
   -- with the same name and sides
   on : (o o' : Work) → o'.node.mint.name ≡ o.node.mint.name → o'.node.sides ≡ o.node.sides
       → ((t : TrunkId) (y : Name) (i : Item) → Contains o'.effects (Effect.Sent (Some t) y i) → Towards o.node t y) → X o → X o'
@@ -87,10 +90,9 @@ module _ (n : Node) (e : NodeEvent) where
     new = λ t s h j. k.new t s h (ap (λ z. fm.get z t) (sym sd) ∙ j);
   }
     where
-      still : (t : TrunkId) (y : Name) → Towards o.node t y ⊎ ((z : Name) × Dials n e t z)
-          → Towards o'.node t y ⊎ ((z : Name) × Dials n e t z)
+      still : (t : TrunkId) (y : Name) → Stays o.node t y → Stays o'.node t y
       still t y (inl v) = inl (towards_along o.node o'.node sd t y v)
-      still t y (inr v) = inr v
+      still t y (inr v) = inr (v.0, v.1, towards_along o.node o'.node sd t v.0 v.2)
 
   silent : (f : Effect Item) (o : Work) → ((t : TrunkId) (y : Name) (i : Item) → f ≡ Effect.Sent (Some t) y i → ⊥) → X o → X (report f o)
   silent f o none k = on o (report f o) refl refl (λ t y i c. pick t y i (Contains-push_cases o.effects f (Effect.Sent (Some t) y i) c)) k
@@ -162,8 +164,8 @@ module _ (n : Node) (e : NodeEvent) where
     spawned = λ m p k. within (at_work m) _ refl refl k;
   }
 
-  turned : (t : TrunkId) (s : TrunkSide) (o : Work) → TurnedBy New o.node t s → X o → X (with_side t s o)
-  turned t s o c k = record {
+  towards_kept : (t : TrunkId) (s : TrunkSide) (o : Work) → TurnedBy New o.node t s → X o → X (with_side t s o)
+  towards_kept t s o c k = record {
     name = k.name;
     stays = λ u y h. still u y (k.stays u y h);
     sent = λ u y i h. towards_turned New t s o c u y (k.sent u y i h);
@@ -173,10 +175,9 @@ module _ (n : Node) (e : NodeEvent) where
         (λ i. k.new u a h (sym (set_at o t s u ∙ ap (λ b. cond b (Some s) (side_at o.node u)) i) ∙ j));
   }
     where
-      still : (u : TrunkId) (y : Name) → Towards o.node u y ⊎ ((z : Name) × Dials n e u z)
-          → Towards ((with_side t s o).node) u y ⊎ ((z : Name) × Dials n e u z)
+      still : (u : TrunkId) (y : Name) → Stays o.node u y → Stays ((with_side t s o).node) u y
       still u y (inl v) = inl (towards_turned New t s o c u y v)
-      still u y (inr v) = inr v
+      still u y (inr v) = inr (v.0, v.1, towards_turned New t s o c u v.0 v.2)
 
       at_new : (u : TrunkId) (a b : TrunkSide) → u ≡ t → side_at n u ≡ None → side_at o.node t ≡ Some b → a.peer ≡ b.peer → New u a.peer
       at_new u a b i h j p = subst (λ z. New u z) (sym p) (k.new u b h (ap (side_at o.node) i ∙ j))
@@ -186,8 +187,15 @@ module _ (n : Node) (e : NodeEvent) where
       here u a i h q (Aged b f g) = at_new u a b i h f (ap (λ (z : TrunkSide). z.peer) (sym q) ∙ g.peer)
       here u a i h q (Shut b f p g r) = at_new u a b i h f (ap (λ (z : TrunkSide). z.peer) (sym q) ∙ p)
 
+  turned : (t : TrunkId) (s : TrunkSide) (o : Work) → TurnedBy New o.node t s → Roomy o.node t s → X o → X (with_side t s o)
+  turned t s o c r k = towards_kept t s o c k
+
   wrote : (t : TrunkId) (y : Name) (m : ShakeMsg) (o : Work) → Towards o.node t y → X o → X (write t y m o)
   wrote t y m o v k = sends t y (Handshake m) o v k
+
+  opens : (t : TrunkId) (s : TrunkSide) (o : Work) → side_at o.node t ≡ Some s → s.state ≡ Losing → X o
+      → Unparks New X turned wrote s.peer (set_state t s Gone o)
+  opens t s o h e k u b w f p i j = towards_kept u (as_state b (Accepting w)) (set_state t s Gone o) (Aged b f (parked_ages b w i)) j
 
   -- nothing has happened
   idle : (m : Node) → m.mint.name ≡ n.mint.name → m.sides ≡ n.sides → X (at_work m)
@@ -233,7 +241,7 @@ module _ (n : Node) (e : NodeEvent) where
     begun : X o0
     begun = record {
       name = refl;
-      stays = λ u z v. by_test _ (same_trunk u t0) (λ i. inr (y, ((w, h), same_trunk_true u t0 i, stranger)))
+      stays = λ u z v. by_test _ (same_trunk u t0) (λ i. inr (y, ((w, h), same_trunk_true u t0 i, stranger), record { side = s0; there = at u true i; peer = refl }))
           (λ i. inl (record { side = v.side; there = at u false i ∙ v.there; peer = v.peer }));
       sent = λ u z i c. absurd (nothing (Effect.Sent (Some u) z i) c);
       new = λ u a v j. by_test _ (same_trunk u t0)
@@ -257,11 +265,12 @@ module _ (n : Node) (e : NodeEvent) where
       (if_not (not (nat_lt (n.dialed + 1) (2 ^ 64))) _ Refusal.IdsUsedUp X (dialed y w h i))))
 
 pub bearings_kept : (names : List Name) (n : Node) (e : NodeEvent) → IfGoes (at_node names n e) (Bearings n e)
-bearings_kept names n e = at_node_keeps (New n e) (Bearings n e) (parts n e) (turned n e) (wrote n e) names n (idle n e n refl refl) e
+bearings_kept names n e = at_node_keeps (New n e) (Bearings n e) (parts n e) (turned n e) (wrote n e) (opens n e) names n
+    (idle n e n refl refl) e
     (rest e refl)
   where
     rest : (d : NodeEvent) → e ≡ d → Rattle.dist_model.proofs.KeepEvents.Rest (New n e) (Bearings n e) (parts n e) (turned n e)
-        (wrote n e) names n (idle n e n refl refl) d
+        (wrote n e) (opens n e) names n (idle n e n refl refl) d
     rest (Call c) h = tt
     rest (Arrive t None w) h = tt
     rest (Arrive t (Some i) w) h = λ at. fresh_kept (New n e) (Bearings n e) (turned n e) (wrote n e) t (inl ((i, w, h), refl))

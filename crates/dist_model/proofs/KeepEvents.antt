@@ -3,16 +3,16 @@ use Rattle.std.proofs.Common.{◌≡◌, ◌+◌, ◌^◌, nat_lt, ℕ, Bool, tr
 use Rattle.std.specs.FinMap as fm
 use Rattle.std.specs.FinMap.{FinMap}
 use Rattle.dist_model.proofs.Calls.{IfGoes, if_cond, if_not}
-use Rattle.dist_model.proofs.Closing.{any_found}
+use Rattle.dist_model.proofs.Closing.{any_found, losing_is}
 use Rattle.dist_model.proofs.Ending.{last_posts}
 use Rattle.dist_model.proofs.Founding.{all_posts_keep, posts_keep}
-use Rattle.dist_model.proofs.Handshaking.{TurnedBy, known_kept, lose_kept, swept_kept}
+use Rattle.dist_model.proofs.Handshaking.{Roomy, TurnedBy, Unparks, known_kept, lose_kept, swept_kept}
 use Rattle.dist_model.proofs.KeepParts.{Parts, call_keeps, item_keeps, record_keeps}
 use Rattle.dist_model.proofs.Sides.{side_at}
 use Rattle.dist_model.specs.Arrivals.{arrive, arrive_first, arrive_fresh, handshake_in, take_local}
 use Rattle.dist_model.specs.Commands.{Refuses}
 use Rattle.dist_model.specs.Dialing.{dial}
-use Rattle.dist_model.specs.Handshake.{with_side, write}
+use Rattle.dist_model.specs.Handshake.{set_state, with_side, write}
 use Rattle.dist_model.specs.Incarnations.{started, stopped}
 use Rattle.dist_model.specs.Items.{Item, Signalled}
 use Rattle.erl_control.specs.Ends.{receiver_of}
@@ -21,7 +21,7 @@ use Rattle.dist_model.specs.Losses.{any_side, least_record, sweep_by, sweep_reco
 use Rattle.dist_model.specs.Names.{Name}
 use Rattle.dist_model.specs.Node.{Node}
 use Rattle.dist_model.specs.NodeEvents.{Arrive, Call, Dial, Local, Lose, NodeEvent, Start, Stop, Sweep, at_node}
-use Rattle.dist_model.specs.Sides.{TrunkSide, is_losing, is_over}
+use Rattle.dist_model.specs.Sides.{Gone, Losing, TrunkSide, is_losing, is_over}
 use Rattle.dist_model.specs.Work.{Work, at_work}
 use Rattle.erl_handshake.specs.declared.message.ShakeMsg.{ShakeMsg}
 use Rattle.erl_names.specs.Order.{trunk_cmp}
@@ -49,8 +49,10 @@ sides_parts P = record {
     along e k = subst P (sym e) k
 
 module _ (New : TrunkId → Name → Type 0) (X : Work → Type 0) (c : Parts X)
-    (side : (t : TrunkId) (s : TrunkSide) (o : Work) → TurnedBy New o.node t s → X o → X (with_side t s o))
+    (side : (t : TrunkId) (s : TrunkSide) (o : Work) → TurnedBy New o.node t s → Roomy o.node t s → X o → X (with_side t s o))
     (wrote : (t : TrunkId) (y : Name) (m : ShakeMsg) (o : Work) → Towards o.node t y → X o → X (write t y m o))
+    (opens : (t : TrunkId) (s : TrunkSide) (o : Work) → side_at o.node t ≡ Some s → s.state ≡ Losing → X o
+    → Unparks New X side wrote s.peer (set_state t s Gone o))
     (names : List Name) (n : Node) (k : X (at_work n)) where
   -- what isn't made of such parts alone
   abbrev pub Rest : NodeEvent → Type 0
@@ -84,11 +86,12 @@ module _ (New : TrunkId → Name → Type 0) (X : Work → Type 0) (c : Parts X)
   sweeps None h = tt
   sweeps (Some d) h =
       let y = d.1.peer in
-      let at : side_at n d.0 ≡ Some d.1 = fm.get-entries n.sides d.0
-      ∙ (any_found is_losing (fm.entries n.sides) d (fm.entries_sorted n.sides) h).0 in
+      let f = any_found is_losing (fm.entries n.sides) d (fm.entries_sorted n.sides) h in
       let o = sweep_record (least_record y n) (at_work n) in
       let same : o.node.sides ≡ n.sides = record_keeps (λ o. o.node.sides ≡ n.sides) (sides_parts (λ m. m ≡ n.sides)) y (at_work n) refl in
-      swept_kept New X side wrote d.0 d.1 o (ap (λ m. fm.get m d.0) same ∙ at) (record_keeps X c y (at_work n) k)
+      let at : side_at o.node d.0 ≡ Some d.1 = ap (λ m. fm.get m d.0) same ∙ fm.get-entries n.sides d.0 ∙ f.0 in
+      let kept = record_keeps X c y (at_work n) k in
+      swept_kept New X side wrote d.0 d.1 o at (opens d.0 d.1 o at (losing_is d.1.state f.1) kept) kept
 
   pub at_node_keeps : (e : NodeEvent) → Rest e → IfGoes (at_node names n e) X
   at_node_keeps (Call d) r = if_cond n.up _ Refusal.NodeDown X (λ u. call_keeps X c n d k)

@@ -73,4 +73,7 @@ pub mod KeepParts
 pub mod KeepEvents
 pub mod KeepBearings
 pub mod KeepTaken
+pub mod KeepAlive
+pub mod KeepSingle
+pub mod KeepSteady
 pub mod Locality

@@ -252,7 +252,7 @@ pub set_life_living : (m : FinMap pid_cmp Life) (p : Pid) (l : Option Life) (x :
 set_life_living m p None x h = refl
 set_life_living m p (Some l) x h = ap is_living_life (fm.get-insert pid_total m p l x) ∙ living_cond (same_pid x p) (Some l) (fm.get m x) h
 
-put_living : (p : Pid) (t : Data) (o : Work) (x : Pid) → living ((put p t o).node) x ≡ living o.node x
+pub put_living : (p : Pid) (t : Data) (o : Work) (x : Pid) → living ((put p t o).node) x ≡ living o.node x
 put_living p t o x = set_life_living o.node.lives p (delivered (fm.get o.node.lives p) t) x (λ h. living_received (fm.get o.node.lives p) t ∙ ap (λ v. is_living_life (fm.get o.node.lives v)) (sym (same_pid_true x p h)))
 
 put_view : (b : List LinkNews) (x : Pid) (t : Data) (o : Work) (p q : Pid) → view b (put x t o) p q ≡ view b o p q
@@ -291,25 +291,25 @@ finish_views x r o l n b p q c reach true e k =
     subst (λ v. Kept (view b (end_process v r o) p q) c) h d
 finish_views x r o l n b p q c reach false e k = subst (λ a. Kept a c) (sym (finish_view_other b x r o p q reach e)) k
 
-cond_absent : (b : Bool) (o : Option End) → (end_in (cond (not b) o None) ≡ End.None → ⊥) → b ≡ false
+pub cond_absent : (b : Bool) (o : Option End) → (end_in (cond (not b) o None) ≡ End.None → ⊥) → b ≡ false
 cond_absent true o h = absurd (h refl)
 cond_absent false o h = refl
 
-finish_end : (x : Pid) (r : Data) (o : Work) (p q : Pid) → end_of ((end_process x r o).node) p q ≡ end_in (cond (not (same_pid p x)) (fm.get ((post_all (last_posts x r o) o).node.ends) (p, q)) None)
+pub finish_end : (x : Pid) (r : Data) (o : Work) (p q : Pid) → end_of ((end_process x r o).node) p q ≡ end_in (cond (not (same_pid p x)) (fm.get ((post_all (last_posts x r o) o).node.ends) (p, q)) None)
 finish_end x r o p q = buried_end x r (post_all (last_posts x r o) o) p q
 
-finish_living : (x : Pid) (r : Data) (o : Work) (p : Pid) → living ((end_process x r o).node) p ≡ is_living_life (cond (same_pid p x) (Some (Ended r)) (fm.get ((post_all (last_posts x r o) o).node.lives) p))
+pub finish_living : (x : Pid) (r : Data) (o : Work) (p : Pid) → living ((end_process x r o).node) p ≡ is_living_life (cond (same_pid p x) (Some (Ended r)) (fm.get ((post_all (last_posts x r o) o).node.lives) p))
 finish_living x r o p = buried_living x r (post_all (last_posts x r o) o) p
 
 ended_cond : (b : Bool) (r : Data) (l : Option Life) → is_living_life (cond b (Some (Ended r)) l) ≡ true → (b ≡ false) × (is_living_life l ≡ true)
 ended_cond true r l h = cc
 ended_cond false r l h = (refl, h)
 
-cond_end_kept : (b : Bool) (o : Option End) → b ≡ false → end_in (cond (not b) o None) ≡ end_in o
+pub cond_end_kept : (b : Bool) (o : Option End) → b ≡ false → end_in (cond (not b) o None) ≡ end_in o
 cond_end_kept true o h = cc
 cond_end_kept false o h = refl
 
-cond_life_kept : (b : Bool) (r : Data) (l : Option Life) → b ≡ false → is_living_life (cond b (Some (Ended r)) l) ≡ is_living_life l
+pub cond_life_kept : (b : Bool) (r : Data) (l : Option Life) → b ≡ false → is_living_life (cond b (Some (Ended r)) l) ≡ is_living_life l
 cond_life_kept true r l h = cc
 cond_life_kept false r l h = refl
 
@@ -370,7 +370,7 @@ pub set_view : (b : List LinkNews) (x y : Pid) (e : End) (o : Work) (p q : Pid) 
 set_view b x y e o p q = side_path (view b (set_end x y e o) p q) (ended_at (same_pid p x && same_pid q y) e (view b o p q))
     (set_in-get o.node.ends (x, y) e (p, q) ∙ ap (λ t. cond t e (end_of o.node p q)) (same_pair p q x y)) refl refl refl
 
-end_set : (x y : Pid) (e : End) (o : Work) (p q : Pid) → end_of ((set_end x y e o).node) p q ≡ cond (same_pid p x && same_pid q y) e (end_of o.node p q)
+pub end_set : (x y : Pid) (e : End) (o : Work) (p q : Pid) → end_of ((set_end x y e o).node) p q ≡ cond (same_pid p x && same_pid q y) e (end_of o.node p q)
 end_set x y e o p q = set_in-get o.node.ends (x, y) e (p, q) ∙ ap (λ t. cond t e (end_of o.node p q)) (same_pair p q x y)
 
 set_rooted : (x y : Pid) (e : End) (o : Work) → NodeKept o.node → ((e ≡ End.None → ⊥) → (living o.node x ≡ true) × (held o.node y.node ≡ true) × (same_name y.node o.node.mint.name ≡ true → (is_stranger o.node y ≡ false) × (same_pid x y ≡ false))) → NodeKept ((set_end x y e o).node)

@@ -118,13 +118,13 @@ good_drawn w x n hx g =
     (changed w x n (at_work (draw_trunk n)) w.lists hx refl refl (record { born = k.born; rooted = k.rooted }) tt (λ t y d. sym (append-nil (list_to w.lists t y))) (λ t s fs j b p q pn qn old. old) g.core)
     hk.local hk.pairs (λ t nu z. refl) (λ t z h. inl h)
 
-all_none : (test : State → Bool) (y : Name) (n : Node) → side_where test y (fm.entries n.sides) ≡ None → (t : TrunkId) (s : TrunkSide) → side_at n t ≡ Some s → s.peer ≡ y → test s.state ≡ false
+pub all_none : (test : State → Bool) (y : Name) (n : Node) → side_where test y (fm.entries n.sides) ≡ None → (t : TrunkId) (s : TrunkSide) → side_at n t ≡ Some s → s.peer ≡ y → test s.state ≡ false
 all_none test y n h t s f p = side_where_none test y (fm.entries n.sides) t s h (sym (fm.get-entries n.sides t) ∙ f) p
 
 next_free : (w : World) (x : Name) (n : Node) → node_of w.nodes x ≡ Some n → Good w → side_at n (next_trunk n) ≡ None
 next_free w x n hx g = option_none (side_at n (next_trunk n)) (λ s h. let c = (g.home x n hx).counts (next_trunk n) s h refl in absurd (omega arith))
 
-none_case : (o : Option (TrunkId × TrunkSide)) → is_some o ≡ false → o ≡ None
+pub none_case : (o : Option (TrunkId × TrunkSide)) → is_some o ≡ false → o ≡ None
 none_case None h = refl
 none_case (Some e) h = cc
 

@@ -179,7 +179,7 @@ module _ (w : World) where
   own_at (Some n) (Arrive t x k) h = comes_kept x n h t k
   own_at (Some n) (Local x) h = up_kept (Local x) x n h _ (own_local x n n.local h refl)
   own_at (Some n) (Lose t x) h = up_kept (Lose t x) x n h _ (grown (Lose t x) x n h w.lists (lose n t (fm.get n.sides t))
-      (lose_kept (λ u y. Unit {0}) (X n n.local) (turned n n.local) (λ u y m o v. wrote n n.local u y m o) n t (fm.get n.sides t) refl (begin n)))
+      (lose_kept (λ u y. Unit {0}) (X n n.local) (λ u s o c r. turned n n.local u s o c) (λ u y m o v. wrote n n.local u y m o) n t (fm.get n.sides t) refl (begin n)))
   own_at (Some n) (Sweep x) h = up_kept (Sweep x) x n h _
       (grown (Sweep x) x n h w.lists (sweep n) (sweeps n n.local (begin n) (any_side is_losing (fm.entries n.sides))))
   own_at (Some n) (Dial x y k) h = up_kept (Dial x y k) x n h _

@@ -135,7 +135,8 @@ module _ (rules : Rules) (X : Work → Type 0) (c : Closed rules X) where
       go true e =
           let o1 = set_end p q (heard (end_of o.node p q) s) o in
           follows_kept (end_of o.node p q) s p q (post_all (replies p q (reply false s)) o1) (λ x h a. acts x h e a)
-          (post_all_kept (replies p q (reply false s)) o1 (replies_said false s p q (λ h. cc)) (c.end_set p q (heard (end_of o.node p q) s) o (inl e) k))
+          (post_all_kept (replies p q (reply false s)) o1 (replies_said false s p q
+              (λ h. cc)) (c.end_set p q (heard (end_of o.node p q) s) o (inl e) k))
       go false e = post_all_kept (replies p q (reply true s)) o (replies_said true s p q (λ h i. gone i e)) k
 
   pub cond_kept : (b : Bool) (x y : Work) → (b ≡ true → X x) → (b ≡ false → X y) → X (cond b x y)
@@ -162,11 +163,15 @@ module _ (rules : Rules) (X : Work → Type 0) (c : Closed rules X) where
   item_kept Tick o h k = k
 
   -- a call, but for those about monitors
-  link_new_kept : (b : Bool) (p q : Pid) (o : Work) → living o.node p ≡ true → (b ≡ false → rules.Reacts p q noconnection) → X o → X (link_new b p q o)
-  link_new_kept true p q o l own k = c.posted (Signal.Link p q) (set_end p q End.Active o) (c.plain (Signal.Link p q) refl) (c.end_set p q End.Active o (inl l) k)
-  link_new_kept false p q o l own k = link_exit_kept p q noconnection (set_end p q End.None o) (own refl) (c.end_set p q End.None o (inl l) k)
+  link_new_kept : (b : Bool) (p q : Pid) (o : Work) → living o.node p ≡ true → (b ≡ false → rules.Reacts p q noconnection) → X o
+      → X (link_new b p q o)
+  link_new_kept true p q o l own k = c.posted (Signal.Link p q) (set_end p q End.Active o) (c.plain (Signal.Link p q) refl)
+      (c.end_set p q End.Active o (inl l) k)
+  link_new_kept false p q o l own k = link_exit_kept p q noconnection (set_end p q End.None o) (own refl) (c.end_set p q End.None o
+      (inl l) k)
 
-  link_by_kept : (e : End) (p q : Pid) (o : Work) → living o.node p ≡ true → (reaches o.node q.node ≡ false → rules.Reacts p q noconnection) → X o → X (link_by e p q o)
+  link_by_kept : (e : End) (p q : Pid) (o : Work) → living o.node p ≡ true → (reaches o.node q.node ≡ false
+      → rules.Reacts p q noconnection) → X o → X (link_by e p q o)
   link_by_kept End.None p q o l own k = link_new_kept (reaches o.node q.node) p q o l own k
   link_by_kept End.Active p q o l own k = k
   link_by_kept (End.Pending i) p q o l own k = link_new_kept (reaches o.node q.node) p q o l own k
@@ -174,7 +179,8 @@ module _ (rules : Rules) (X : Work → Type 0) (c : Closed rules X) where
   unlink_by_kept : (e : End) (p q : Pid) (o : Work) → living o.node p ≡ true → X o → IfGoes (unlink_by e p q o) X
   unlink_by_kept End.None p q o l k = k
   unlink_by_kept End.Active p q o l k = if_drawn (id_of o.node.mint kind.UnlinkId) _ X (λ id h.
-      c.posted (Signal.UnlinkId id p q) (set_end p q (End.Pending id) (draw kind.UnlinkId o)) (c.plain (Signal.UnlinkId id p q) refl) (c.end_set p q (End.Pending id) (draw kind.UnlinkId o) (inl l) (c.drew o k)))
+      c.posted (Signal.UnlinkId id p q) (set_end p q (End.Pending id) (draw kind.UnlinkId o)) (c.plain (Signal.UnlinkId id p q) refl)
+          (c.end_set p q (End.Pending id) (draw kind.UnlinkId o) (inl l) (c.drew o k)))
   unlink_by_kept (End.Pending i) p q o l k = k
 
   abbrev pub Apart : Command → Type 0
@@ -199,7 +205,8 @@ module _ (rules : Rules) (X : Work → Type 0) (c : Closed rules X) where
         → ((p q : Pid) → d ≡ Command.Link p q → living n p ≡ true → reaches n q.node ≡ false → rules.Reacts p q noconnection) → IfGoes (call n d) X
     call_kept Command.Spawn a s own = if_drawn (id_of n.mint kind.Pid) _ X (λ id h. s id refl h)
     call_kept (Command.Send p q m) a s own = acts_kept p q _ (λ l. if_cond (fits m) _ Refusal.TooLong X (λ f. c.posted (Signal.Send q m) (at_work n) (c.plain (Signal.Send q m) refl) k))
-    call_kept (Command.Link p q) a s own = acts_kept p q _ (λ l. cond_kept (same_pid p q) (at_work n) _ (λ e. k) (λ e. link_by_kept (end_of n p q) p q (at_work n) l (own p q refl l) k))
+    call_kept (Command.Link p q) a s own = acts_kept p q _ (λ l. cond_kept (same_pid p q) (at_work n) _ (λ e. k)
+        (λ e. link_by_kept (end_of n p q) p q (at_work n) l (own p q refl l) k))
     call_kept (Command.Unlink p q) a s own = acts_kept p q _ (λ l. unlink_by_kept (end_of n p q) p q (at_work n) l k)
     call_kept (Command.Monitor p q) a s own = absurd (a.0 p q refl)
     call_kept (Command.Demonitor p r) a s own = absurd (a.1 p r refl)

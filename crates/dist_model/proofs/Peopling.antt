@@ -260,10 +260,10 @@ module _ (n : Node) (l : List Item) where
     -- ---- what comes
 
     pub fresh_arrived : (t : TrunkId) (i : Item) (k : ℕ) → side_at n t ≡ None → IfGoes (arrive_fresh (handshake_in i) t k (at_work n)) X
-    fresh_arrived t i k h = fresh_kept (λ u y. Unit {0}) X turned (λ u y m o v. wrote u y m o) t tt (handshake_in i) k (at_work n) h start
+    fresh_arrived t i k h = fresh_kept (λ u y. Unit {0}) X (λ u s o c r. turned u s o c) (λ u y m o v. wrote u y m o) t tt (handshake_in i) k (at_work n) h start
 
     pub known_arrived : (t : TrunkId) (v : TrunkSide) (i : Item) → side_at n t ≡ Some v → IfGoes (arrive_at (handshake_in i) t v i (at_work n)) X
-    known_arrived t v i h = known_kept (λ u y. Unit {0}) X turned (λ u y m o v. wrote u y m o) t v (at_work n) h start i (λ u g. item i (at_work n) start) (handshake_in i)
+    known_arrived t v i h = known_kept (λ u y. Unit {0}) X (λ u s o c r. turned u s o c) (λ u y m o v. wrote u y m o) t v (at_work n) h start i (λ u g. item i (at_work n) start) (handshake_in i)
 
     -- ---- connections
 
@@ -453,7 +453,7 @@ module _ (w : World) (g : AllPeopled w.nodes) where
   after (Some n) (Lose t x) h = up_well x n h _
       (λ u. ends x n w.lists (lose n t (fm.get n.sides t)) h
       (lasts_well n u (g x n h) n.local (lose n t (fm.get n.sides t))
-      (lose_kept (λ u y. Unit {0}) (X n n.local) (turned n n.local) (λ u y m o v. wrote n n.local u y m o) n t (fm.get n.sides t) refl (begin n))))
+      (lose_kept (λ u y. Unit {0}) (X n n.local) (λ u s o c r. turned n n.local u s o c) (λ u y m o v. wrote n n.local u y m o) n t (fm.get n.sides t) refl (begin n))))
   after (Some n) (Sweep x) h = up_well x n h _
       (λ u. ends x n w.lists (sweep n) h
       (lasts_well n u (g x n h) n.local (sweep n) (sweeps n n.local (begin n) (any_side is_losing (fm.entries n.sides)))))

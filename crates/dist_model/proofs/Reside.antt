@@ -9,7 +9,7 @@ use Rattle.dist_model.proofs.Moves.{NodeKept, held}
 use Rattle.dist_model.proofs.Pair.{Side}
 use Rattle.dist_model.proofs.Pairs.{Met, TrunkPairs, WorldKept, up_joined}
 use Rattle.dist_model.proofs.Routes.{node_of_name, node_of_set_other, node_of_set_same, side_where_found, side_where_none, some_same}
-use Rattle.dist_model.proofs.Sides.{SidesKept, asks, beside, holds, holds_kinds, joined, not_held, side_at, unheld_absent}
+use Rattle.dist_model.proofs.Sides.{Single, SidesKept, asks, beside, holds, holds_kinds, joined, not_held, side_at, unheld_absent}
 use Rattle.dist_model.proofs.Views.{side_of, side_path}
 use Rattle.dist_model.specs.Items.{news}
 use Rattle.dist_model.specs.Names.{Name, same_name}
@@ -64,34 +64,48 @@ beside_turned a b h = go (holds a) (asks b) (asks a) (holds b) h
     go false q true false h = cc
     go false q false s h = cc
 
+pub if_trunk : (t0 : TrunkId) (P : Type 0) (t : TrunkId) → (t ≡ t0 → P) → ((t ≡ t0 → ⊥) → P) → P
+if_trunk t0 P t a b = by_test P (same_trunk t t0) (λ h. a (same_trunk_true t t0 h)) (λ h. b
+    (λ e. let c : true ≡ false = sym (same_trunk_is t t0 e) ∙ h in cc))
+
+same_at : (n : Node) (t0 : TrunkId) (s : TrunkSide) (t : TrunkId) (v : TrunkSide) → t ≡ t0 → side_at (with_side_at n t0 s) t ≡ Some v
+    → s ≡ v
+same_at n t0 s t v e h = some_same s v (sym (side_after_same n t0 s) ∙ ap (side_at (with_side_at n t0 s)) (sym e) ∙ h)
+
+-- a side that stands beside the others towards its peer
+pub single_after : (n : Node) (t0 : TrunkId) (s : TrunkSide) → Single n.sides
+    → ((u : TrunkId) (v : TrunkSide) → side_at n u ≡ Some v → v.peer ≡ s.peer → (u ≡ t0 → ⊥) → is_gone s.state ≡ false
+        → is_gone v.state ≡ false → beside s.state v.state ≡ true)
+    → Single ((with_side_at n t0 s).sides)
+single_after n t0 s k room t u a b ha hb e ga gb = if_trunk t0 _ t
+    (λ te. if_trunk t0 _ u (λ ue. inl (te ∙ sym ue))
+    (λ ud.
+    let sa : s ≡ a = same_at n t0 s t a te ha in
+    inr (subst (λ (z : TrunkSide). beside z.state b.state ≡ true) sa (room u b (sym (side_after_other n t0 s u ud) ∙ hb) (sym e
+        ∙ ap (λ (z : TrunkSide). z.peer) (sym sa)) ud (ap (λ (z : TrunkSide). is_gone z.state) sa ∙ ga) gb))))
+    (λ td. if_trunk t0 _ u
+    (λ ue.
+    let sb : s ≡ b = same_at n t0 s u b ue hb in
+    inr (beside_turned b.state a.state (subst (λ (z : TrunkSide). beside z.state a.state ≡ true) sb (room t a (sym
+        (side_after_other n t0 s t td) ∙ ha) (e ∙ ap (λ (z : TrunkSide). z.peer) (sym sb)) td (ap
+        (λ (z : TrunkSide). is_gone z.state) sb ∙ gb) ga))))
+    (λ ud. k t u a b (sym (side_after_other n t0 s t td) ∙ ha) (sym (side_after_other n t0 s u ud) ∙ hb) e ga gb))
+
 pub sides_after : (n : Node) (t0 : TrunkId) (s : TrunkSide) → SidesKept n → Fits n t0 s → SidesKept (with_side_at n t0 s)
-sides_after n t0 s k f = record { one = one; other = other; mine = mine }
+sides_after n t0 s k f = record { one = single_after n t0 s k.one f.room; other = other; mine = mine }
   where
-    at_same : (t : TrunkId) (v : TrunkSide) → t ≡ t0 → side_at (with_side_at n t0 s) t ≡ Some v → s ≡ v
-    at_same t v e h = some_same s v (sym (side_after_same n t0 s) ∙ ap (side_at (with_side_at n t0 s)) (sym e) ∙ h)
-
-    one : (t u : TrunkId) (a b : TrunkSide) → side_at (with_side_at n t0 s) t ≡ Some a → side_at (with_side_at n t0 s) u ≡ Some b → a.peer ≡ b.peer → is_gone a.state ≡ false → is_gone b.state ≡ false → (t ≡ u) ⊎ (beside a.state b.state ≡ true)
-    one t u a b ha hb e ga gb = by_trunk _ t t0
-        (λ te. by_trunk _ u t0 (λ ue. inl (te ∙ sym ue))
-        (λ ud.
-        let sa : s ≡ a = at_same t a te ha in
-        inr (subst (λ (z : TrunkSide). beside z.state b.state ≡ true) sa (f.room u b (sym (side_after_other n t0 s u ud) ∙ hb) (sym e ∙ ap (λ (z : TrunkSide). z.peer) (sym sa)) ud (ap (λ (z : TrunkSide). is_gone z.state) sa ∙ ga) gb))))
-        (λ td. by_trunk _ u t0
-        (λ ue.
-        let sb : s ≡ b = at_same u b ue hb in
-        inr (beside_turned b.state a.state (subst (λ (z : TrunkSide). beside z.state a.state ≡ true) sb (f.room t a (sym (side_after_other n t0 s t td) ∙ ha) (e ∙ ap (λ (z : TrunkSide). z.peer) (sym sb)) td (ap (λ (z : TrunkSide). is_gone z.state) sb ∙ gb) ga))))
-        (λ ud. k.one t u a b (sym (side_after_other n t0 s t td) ∙ ha) (sym (side_after_other n t0 s u ud) ∙ hb) e ga gb))
-
     other : (t : TrunkId) (a : TrunkSide) → side_at (with_side_at n t0 s) t ≡ Some a → a.peer ≡ n.mint.name → ⊥
-    other t a ha e = by_trunk _ t t0 (λ te. f.stranger (ap (λ (z : TrunkSide). z.peer) (at_same t a te ha) ∙ e)) (λ td. k.other t a (sym (side_after_other n t0 s t td) ∙ ha) e)
+    other t a ha e = if_trunk t0 _ t (λ te. f.stranger (ap (λ (z : TrunkSide). z.peer) (same_at n t0 s t a te ha)
+        ∙ e)) (λ td. k.other t a (sym (side_after_other n t0 s t td) ∙ ha) e)
 
     role_of : (a : TrunkSide) → s ≡ a → (t0.dialer ≡ n.mint.name) ⊎ (t0.dialer ≡ s.peer) → (t0.dialer ≡ n.mint.name) ⊎ (t0.dialer ≡ a.peer)
     role_of a e (inl h) = inl h
     role_of a e (inr h) = inr (h ∙ ap (λ (z : TrunkSide). z.peer) e)
 
     mine : (t : TrunkId) (a : TrunkSide) → side_at (with_side_at n t0 s) t ≡ Some a → (t.dialer ≡ n.mint.name) ⊎ (t.dialer ≡ a.peer)
-    mine t a ha = by_trunk _ t t0
-        (λ te. subst (λ (z : TrunkId). (z.dialer ≡ n.mint.name) ⊎ (z.dialer ≡ a.peer)) (sym te) (role_of a (at_same t a te ha) f.role))
+    mine t a ha = if_trunk t0 _ t
+        (λ te. subst (λ (z : TrunkId). (z.dialer ≡ n.mint.name) ⊎ (z.dialer ≡ a.peer)) (sym te) (role_of a
+            (same_at n t0 s t a te ha) f.role))
         (λ td. k.mine t a (sym (side_after_other n t0 s t td) ∙ ha))
 
 -- a node that held y still does, but for the side itself

@@ -13,7 +13,7 @@ use Rattle.dist_model.proofs.Closing.{any_found}
 use Rattle.dist_model.proofs.DueParts.{sent_sweep}
 use Rattle.erl_control.proofs.Fitting.{all_from, fits_test}
 use Rattle.dist_model.proofs.Founding.{Carried, carried_all, carried_lists, carried_post, carried_write, popped_lists}
-use Rattle.dist_model.proofs.Handshaking.{fresh_kept, known_kept, lose_kept, swept_kept, Turned}
+use Rattle.dist_model.proofs.Handshaking.{fresh_kept, known_kept, lose_kept, swept_kept, Turned, Aged, as_state, parked_ages}
 use Rattle.dist_model.proofs.Routes.{none_some, some_same}
 use Rattle.dist_model.proofs.Run.{always_kept}
 use Rattle.dist_model.proofs.Stepping.{arrives, while_up}
@@ -27,7 +27,7 @@ use Rattle.dist_model.specs.declared.command.Command.{Command}
 use Rattle.dist_model.specs.Dialing.{dial, draw_trunk, has_name, next_trunk}
 use Rattle.dist_model.specs.Exits.{carry_out, demonitors, exit_for, exits, end_process, link_exit, linked_exit, monitor_exits, sent_exit}
 use Rattle.erl_control.specs.Fits.{are_below, fits}
-use Rattle.dist_model.specs.Handshake.{identity, with_side, write}
+use Rattle.dist_model.specs.Handshake.{identity, with_side, write, set_state}
 use Rattle.dist_model.specs.Incarnations.{start, stop, stopped}
 use Rattle.dist_model.specs.Items.{Handshake, Item, Signalled, Tick, telling}
 use Rattle.erl_control.specs.Ends.{receiver_of}
@@ -41,7 +41,7 @@ use Rattle.dist_model.specs.NodeEvents.{if_up}
 use Rattle.dist_model.proofs.Envelopes.{Envelope, outgoing, sent_by, sent_in, sent_in-silent}
 use Rattle.dist_model.specs.Node.{Node, end_of, living, is_stranger, reaches, side_where, traps_life, ends_of}
 use Rattle.dist_model.specs.Runs.{Always, opening}
-use Rattle.dist_model.specs.Sides.{AwaitsStatus, is_gone, is_losing, TrunkSide}
+use Rattle.dist_model.specs.Sides.{AwaitsStatus, is_gone, is_losing, TrunkSide, Accepting, Gone}
 use Rattle.dist_model.specs.Taking.{take_item}
 use Rattle.dist_model.specs.Work.{Work, at_work, draw, post, post_all, put, report, set_end}
 use Rattle.dist_model.specs.declared.report.Effect.{Effect}
@@ -319,7 +319,8 @@ close_if_swept n k = go (any_side is_losing (fm.entries n.sides)) refl
         ∙ (any_found is_losing (fm.entries n.sides) d (fm.entries_sorted n.sides) e).0 in
         let o = sweep_link (link_to d.1.peer (fm.entries n.ends)) d.1.peer (at_work n) in
         subst (λ z. X (Rattle.dist_model.specs.Losses.close_if_swept d.0 d.1 z)) (sym (least_as d.1.peer (at_work n)))
-        (swept_kept (λ u y. Unit {0}) X side (λ u y m o v. wrote u y m o) d.0 d.1 o (ap (λ l. fm.get l d.0) (sent_sweep n d.1.peer).sides ∙ at)
+        (swept_kept (λ u y. Unit {0}) X (λ u s o c r. side u s o c) (λ u y m o v. wrote u y m o) d.0 d.1 o (ap (λ l. fm.get l d.0) (sent_sweep n d.1.peer).sides ∙ at)
+        (λ u b v f p e z. side u (as_state b (Accepting v)) (set_state d.0 d.1 Gone o) (Aged b f (parked_ages b v e)) z)
         (link_swept (link_to d.1.peer (fm.entries n.ends)) d.1.peer (at_work n) k))
 
 dialed : (names : List Name) (n : Node) (y : Name) (w : ℕ) → X (at_work n) → IfGoes (dial names n y w) X
@@ -376,10 +377,10 @@ module _ (w : World) (x : Name) (g : Travels w) where
     arrived : (t : TrunkId) (z : ℕ) → Travels ((step_at w (Some n) (Arrive t x z)).world)
     arrived t z = arrives w x n (λ s. Travels s.world) (λ r. g) t z
         (λ i rest first at. ends (fm.insert w.lists (t, x) rest) (arrive_fresh (handshake_in i) t z (at_work n))
-        (popped_lists Sendable w.lists t x i rest first g.lists) (fresh_kept (λ u y. Unit {0}) X side (λ u y m o v. wrote u y m o) t tt (handshake_in i) z (at_work n) at (begins n k)))
+        (popped_lists Sendable w.lists t x i rest first g.lists) (fresh_kept (λ u y. Unit {0}) X (λ u s o c r. side u s o c) (λ u y m o v. wrote u y m o) t tt (handshake_in i) z (at_work n) at (begins n k)))
         (λ i rest v first at over. ends (fm.insert w.lists (t, x) rest) (arrive_at (handshake_in i) t v i (at_work n))
         (popped_lists Sendable w.lists t x i rest first g.lists)
-        (known_kept (λ u y. Unit {0}) X side (λ u y m o v. wrote u y m o) t v (at_work n) at (begins n k) i
+        (known_kept (λ u y. Unit {0}) X (λ u s o c r. side u s o c) (λ u y m o v. wrote u y m o) t v (at_work n) at (begins n k) i
         (λ u h. taken i (at_work n) (All-head Sendable i rest (subst (λ l. All Sendable l) first (g.lists t x))) (begins n k))
         (handshake_in i)))
 
@@ -400,7 +401,7 @@ travels_at w (Some n) (Local x) h g =
     while_up w x n (λ s. Travels s.world) (λ r. g) w.lists (take_local n n.local) (local_taken w x g n k n.local refl)
 travels_at w (Some n) (Lose t x) h g =
     let k = local_of w.nodes x n h g.locals in
-    while_up_ends w x g n (lose n t (fm.get n.sides t)) (lose_kept (λ u y. Unit {0}) X side (λ u y m o v. wrote u y m o) n t (fm.get n.sides t) refl (begins n k))
+    while_up_ends w x g n (lose n t (fm.get n.sides t)) (lose_kept (λ u y. Unit {0}) X (λ u s o c r. side u s o c) (λ u y m o v. wrote u y m o) n t (fm.get n.sides t) refl (begins n k))
 travels_at w (Some n) (Sweep x) h g =
     let k = local_of w.nodes x n h g.locals in while_up_ends w x g n (sweep n) (close_if_swept n (begins n k))
 travels_at w (Some n) (Dial x y z) h g =

@@ -41,9 +41,14 @@ beside a b = (holds a && asks b) || (asks a && holds b)
 abbrev pub side_at : Node → TrunkId → Option TrunkSide
 side_at n t = fm.get n.sides t
 
+-- two sides towards one peer that aren't gone are one, or one waits for the end of the other
+abbrev pub Single : FinMap trunk_cmp TrunkSide → Type 0
+Single m = (t u : TrunkId) (s v : TrunkSide) → fm.get m t ≡ Some s → fm.get m u ≡ Some v → s.peer ≡ v.peer → is_gone s.state ≡ false
+    → is_gone v.state ≡ false
+    → (t ≡ u) ⊎ (beside s.state v.state ≡ true)
+
 pub record SidesKept (n : Node) : Type 0 where
-  -- two sides towards one peer that aren't gone are one, or one waits for the end of the other
-  pub one : (t u : TrunkId) (s v : TrunkSide) → side_at n t ≡ Some s → side_at n u ≡ Some v → s.peer ≡ v.peer → is_gone s.state ≡ false → is_gone v.state ≡ false → (t ≡ u) ⊎ (beside s.state v.state ≡ true)
+  pub one : Single n.sides
   pub other : (t : TrunkId) (s : TrunkSide) → side_at n t ≡ Some s → s.peer ≡ n.mint.name → ⊥
   pub mine : (t : TrunkId) (s : TrunkSide) → side_at n t ≡ Some s → (t.dialer ≡ n.mint.name) ⊎ (t.dialer ≡ s.peer)
 

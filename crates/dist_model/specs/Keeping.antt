@@ -1,18 +1,22 @@
 -- What any event leaves of its node, whichever node it is.
 -- (ERTS User's Guide, Distribution Protocol, Distribution Handshake. That sides stay once they are gone is own.)
-use Rattle.std.specs.Prelude.{◌≡◌, ◌⊎◌, ℕ, None, Some, Contains}
+use Rattle.std.specs.Prelude.{◌≡◌, ◌≢◌, ◌⊎◌, ◌||◌, ℕ, Bool, true, false, None, Some, Contains}
 use Rattle.std.specs.FinMap as fm
 use Rattle.dist_model.specs.Commands.{Accepts, Outcome}
 use Rattle.dist_model.specs.Dialing.{next_trunk}
 use Rattle.dist_model.specs.declared.report.Answer.{Answer}
 use Rattle.dist_model.specs.Items.{Item}
 use Rattle.dist_model.specs.Names.{Name}
-use Rattle.dist_model.specs.Node.{Node}
+use Rattle.dist_model.specs.Node.{Node, end_of, living}
 use Rattle.dist_model.specs.NodeEvents.{Arrive, Dial, NodeEvent}
-use Rattle.dist_model.specs.Sides.{TrunkSide}
+use Rattle.dist_model.specs.Sides.{Asked, Gone, Parked, State, TrunkSide, is_dialing, is_waiting}
 use Rattle.dist_model.specs.Work.{Work}
 use Rattle.dist_model.specs.declared.report.Effect.{Effect}
 use Rattle.erl_names.specs.declared.trunk.TrunkId.{TrunkId}
+use Rattle.erl_term.specs.declared.term.Pid.{Pid}
+use Rattle.erl_term.specs.declared.term.Reference.{Reference}
+use Rattle.link_core.specs.declared.end.End.{End}
+use Rattle.monitor_core.specs.declared.monitor.Monitor.{Monitor}
 
 abbrev pub IsAccepted : Outcome → Type 0
 IsAccepted outcome = (answer : Answer) × (work : Work) × (outcome ≡ Accepts answer work)
@@ -34,12 +38,38 @@ Dials node event trunk peer =
 
 pub record Bearings (node : Node) (event : NodeEvent) (work : Work) : Type 0 where
   pub name : work.node.mint.name ≡ node.mint.name
-  -- a side stays, and its peer, but where a node dials on a trunk that it has a side of
+  -- a side stays, and its peer, but where the node dials on its trunk: then it is towards that one
   pub stays : (trunk : TrunkId) (peer : Name) → Towards node trunk peer
-      → Towards work.node trunk peer ⊎ ((other : Name) × Dials node event trunk other)
+      → Towards work.node trunk peer ⊎ ((other : Name) × Dials node event trunk other × Towards work.node trunk other)
   -- what is sent on a trunk goes to the peer of its side
   pub sent : (trunk : TrunkId) (peer : Name) (item : Item)
       → Contains work.effects (Effect.Sent (Some trunk) peer item) → Towards work.node trunk peer
   -- a new side is one that an item comes to, towards its dialer, or that the node dials
   pub new : (trunk : TrunkId) (side : TrunkSide) → fm.get node.sides trunk ≡ None → fm.get work.node.sides trunk ≡ Some side
       → (Comes event trunk × (side.peer ≡ trunk.dialer)) ⊎ Dials node event trunk side.peer
+
+-- ---- what a node keeps throughout
+
+-- it dials, has accepted, or is a connection: it doesn't wait for another's end
+abbrev pub is_engaged : State → Bool
+is_engaged (Asked w) = false
+is_engaged (Parked w) = false
+is_engaged Gone = false
+is_engaged _ = true
+
+-- the connection isn't there yet
+abbrev pub is_attempt : State → Bool
+is_attempt state = is_dialing state || is_waiting state
+
+-- of the sides towards one peer at most one is in such a state
+abbrev pub AtMostOne : (State → Bool) → Node → Type 0
+AtMostOne test node = (t u : TrunkId) (s v : TrunkSide) → fm.get node.sides t ≡ Some s → fm.get node.sides u ≡ Some v → s.peer ≡ v.peer
+    → test s.state ≡ true → test v.state ≡ true → t ≡ u
+
+pub record Steady (node : Node) : Type 0 where
+  pub engaged : AtMostOne is_engaged node
+  pub attempts : AtMostOne is_attempt node
+  -- links and monitors are of living processes
+  pub ends : (p q : Pid) → end_of node p q ≢ End.None → living node p ≡ true
+  pub owners : (r : Reference) (m : Monitor) → fm.get node.watches r ≡ Some m → living node m.owner ≡ true
+  pub targets : (r : Reference) (m : Monitor) → fm.get node.registered r ≡ Some m → living node m.target ≡ true

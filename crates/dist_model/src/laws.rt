@@ -27,7 +27,7 @@ ghost use Rattle.erl_names.specs.Draw as draw;
 ghost use Rattle.erl_names.specs.Minted.{id_of};
 ghost use Rattle.dist_model.specs.World.{World, Event, Report, Refused, Reported, Arrive, Local, step};
 ghost use Rattle.dist_model.specs.Quiet.{Quiet, is_quiet};
-ghost use Rattle.dist_model.specs.Runs.{Goes, Runs, run, Always, opening};
+ghost use Rattle.dist_model.specs.Runs.{Goes, Runs, run, Always, opening, new_node};
 ghost use Rattle.erl_names.specs.declared.trunk.TrunkId.{TrunkId};
 ghost use Rattle.dist_model.specs.Names.{Name, same_pid};
 ghost use Rattle.dist_model.specs.Node.{Node, end_of, reaches};
@@ -38,7 +38,9 @@ ghost use Rattle.dist_model.specs.NodeEvents as event;
 ghost use Rattle.dist_model.specs.NodeEvents.{at_node};
 ghost use Rattle.dist_model.specs.Commands.{Accepts};
 ghost use Rattle.dist_model.specs.declared.report.Answer.{Answer};
-ghost use Rattle.dist_model.specs.Keeping.{Bearings, IsAccepted};
+ghost use Rattle.dist_model.specs.Keeping.{Bearings, IsAccepted, Steady};
+ghost use Rattle.dist_model.specs.Work.{Work, at_work};
+ghost use Rattle.dist_model.specs.Seen.{end_between, AreConnected};
 ghost use Rattle.dist_model.specs.Schedules as schedule;
 ghost use Rattle.dist_model.specs.Claims.{Agreement, AgreementWithin, AgreementInQuiet, PendingOnItsWay, PendingWithin, NoLinkToTheDead, NoLinkToItself, LinkNeedsConnection, LivingMeans, SpawnedLivesOrEnded, DownHoldsNothing, OneTrunk, NoUpBesideLosing, EventIsLocal, KeepsOrder, KeepsOwnOrder, EverySignalFits, EverySignalFitsWithin};
 ghost use Rattle.dist_model.specs.Histories.{Throughout, told, history};
@@ -340,4 +342,15 @@ pub fn arrival_is_taken()
     ensures taken { (names : List Name) (node : Node) (trunk : TrunkId) (side : TrunkSide) (item : Item) (word : ℕ) →
         node.up ≡ true → fm.get node.sides trunk ≡ Some side → is_over side.state ≡ false →
         IsAccepted (at_node names node (event.Arrive trunk (Some item) word)) }
+{}
+
+/// A new node is steady, and a steady node stays so, whatever comes to it: of its sides towards one
+/// peer at most one dials, has accepted, is up or is losing, and at most one is an attempt that isn't
+/// up yet; and its links, the monitors that it owns and those that others have of its processes are
+/// of living processes. (ERTS User's Guide, Distribution Protocol, Distribution Handshake; Reference
+/// Manual, Processes, Links and Monitors.)
+pub fn nodes_stay_steady()
+    ensures new { (name : Name) (cookie : List ℕ) → Steady (new_node name cookie) }
+    ensures kept { (names : List Name) (node : Node) (now : event.NodeEvent) (answer : Answer) (work : Work) →
+        Steady node → at_node names node now ≡ Accepts answer work → Steady work.node }
 {}
