@@ -125,8 +125,11 @@ module _ (w : World) (h : History) (x : Name) (n : Node) (hx : node_of w.nodes x
     calm_side t s o c r k = record { shaken = shaken_side w h x n hx gw g e xs t s o c k.shaken; none = k.none }
 
     calm_wrote : (t : TrunkId) (y : Name) (m : ShakeMsg) (o : Work) → Towards o.node t y → Calm o → Calm (write t y m o)
-    calm_wrote t y m o v k = record { shaken = shaken_wrote w h x n hx gw g e xs t y m o k.shaken; none = λ r. no_more r o.effects
-        (Effect.Sent (Some t) y (Handshake m) ∷ []) refl ∙ k.none r }
+    calm_wrote t y m o v k = record {
+      shaken = shaken_wrote w h x n hx gw g e xs t y m o k.shaken;
+      none = λ r. no_more r o.effects
+          (Effect.Sent (Some t) y (Handshake m) ∷ []) refl ∙ k.none r;
+    }
 
     none_counted : (k : Reference) (b : Bool) (fs : List (Effect Item)) → downs_in k fs ≡ [] → downs_in k (cond b (mere fs) fs) ≡ downs_in k fs
     none_counted k true fs i = downs_mere k fs ∙ sym i
@@ -222,8 +225,8 @@ module _ (w : World) (h : History) (x : Name) (n : Node) (hx : node_of w.nodes x
     pub fresh_comes : side_at n t ≡ None → A (arrive_fresh (handshake_in i) t k (at_work n))
     fresh_comes at = calms (arrive_fresh (handshake_in i) t k (at_work n))
         (fresh_kept (λ u y. Unit {0}) (Calm (Arrive t x k) n.local (λ r v. refl) (λ r v. refl)) (calm_side (Arrive t x k) n.local
-            (λ r v. refl) (λ r v. refl)) (calm_wrote (Arrive t x k) n.local (λ r v. refl)
-            (λ r v. refl)) t tt (handshake_in i) k (at_work n) at calm0)
+        (λ r v. refl) (λ r v. refl)) (calm_wrote (Arrive t x k) n.local (λ r v. refl)
+        (λ r v. refl)) t tt (handshake_in i) k (at_work n) at calm0)
 
     module _ (v : TrunkSide) (at : side_at n t ≡ Some v) where
       fails : (j : Fault) → A (fault j t v (at_work n))
@@ -256,8 +259,8 @@ module _ (w : World) (h : History) (x : Name) (n : Node) (hx : node_of w.nodes x
       known_comes None = signal_comes v.state
       known_comes (Some m) = calms (arrive_at (Some m) t v i (at_work n))
           (Handshaking.shaken (λ u y. Unit {0}) (Calm (Arrive t x k) n.local (λ r z. refl)
-              (λ r z. refl)) (calm_side (Arrive t x k) n.local (λ r z. refl) (λ r z. refl)) (calm_wrote (Arrive t x k) n.local
-              (λ r z. refl) (λ r z. refl)) t v (at_work n) at calm0 v.state refl m)
+          (λ r z. refl)) (calm_side (Arrive t x k) n.local (λ r z. refl) (λ r z. refl)) (calm_wrote (Arrive t x k) n.local
+          (λ r z. refl) (λ r z. refl)) t v (at_work n) at calm0 v.state refl m)
 
   -- ---- from itself
 
@@ -285,7 +288,7 @@ module _ (w : World) (h : History) (x : Name) (n : Node) (hx : node_of w.nodes x
   pub lose_done : (t : TrunkId) (o : Option TrunkSide) → side_at n t ≡ o → AllGo (lose n t o) (D (Lose t x) n.local)
   lose_done t o at = all_go (Calm (Lose t x) n.local (λ r v. refl) (λ r v. refl)) (D (Lose t x) n.local) (lose n t o) (λ a p c. calm_done (Lose t x) n.local (λ r v. refl) (λ r v. refl) a p c)
       (lose_kept (λ u y. Unit {0}) (Calm (Lose t x) n.local (λ r v. refl) (λ r v. refl)) (calm_side (Lose t x) n.local (λ r v. refl)
-          (λ r v. refl)) (calm_wrote (Lose t x) n.local (λ r v. refl) (λ r v. refl)) n t o at
+      (λ r v. refl)) (calm_wrote (Lose t x) n.local (λ r v. refl) (λ r v. refl)) n t o at
       (calm (Lose t x) n.local (λ r v. refl) (λ r v. refl) (g.locals x n hx) (g.homes x n hx)))
 
   no_next : (o : Option TrunkSide) → side_at n (next_trunk n) ≡ o → side_at n (next_trunk n) ≡ None
@@ -309,10 +312,10 @@ module _ (w : World) (h : History) (x : Name) (n : Node) (hx : node_of w.nodes x
         none = λ r. refl;
       } in
       let c2 = calm_side (Dial x y k) n.local (λ r v. refl)
-          (λ r v. refl) (next_trunk n) s o (Fresh tt (no_next (side_at n (next_trunk n)) refl)) (room_new (draw_trunk n)
-          (next_trunk n) s (no_next (side_at n (next_trunk n)) refl)) c1 in
+      (λ r v. refl) (next_trunk n) s o (Fresh tt (no_next (side_at n (next_trunk n)) refl)) (room_new (draw_trunk n)
+      (next_trunk n) s (no_next (side_at n (next_trunk n)) refl)) c1 in
       calm_done (Dial x y k) n.local (λ r v. refl) (λ r v. refl) _ _ (calm_wrote (Dial x y k) n.local (λ r v. refl)
-          (λ r v. refl) (next_trunk n) y (send_name (identity n)) (with_side (next_trunk n) s o) (towards_set o (next_trunk n) s) c2)))))
+      (λ r v. refl) (next_trunk n) y (send_name (identity n)) (with_side (next_trunk n) s o) (towards_set o (next_trunk n) s) c2)))))
 
   -- ---- a sweep
 
@@ -330,10 +333,10 @@ module _ (w : World) (h : History) (x : Name) (n : Node) (hx : node_of w.nodes x
       (begins w h x n hx gw g (Sweep x) n.local (g.locals x n hx) (g.homes x n hx)) in
       let o1 = sweep_link (link_to d.1.peer (fm.entries n.ends)) d.1.peer (at_work n) in
       let s = swept_kept (λ u y. Unit {0}) (Shaken w h x n hx gw g (Sweep x) n.local)
-          (λ t v o c r z. shaken_side w h x n hx gw g (Sweep x) n.local t v o c z)
-          (λ t y m o v z. shaken_wrote w h x n hx gw g (Sweep x) n.local t y m o z) d.0 d.1 o1 (ap (λ z. fm.get z d.0) k.core.sides ∙ at)
+      (λ t v o c r z. shaken_side w h x n hx gw g (Sweep x) n.local t v o c z)
+      (λ t y m o v z. shaken_wrote w h x n hx gw g (Sweep x) n.local t y m o z) d.0 d.1 o1 (ap (λ z. fm.get z d.0) k.core.sides ∙ at)
       (λ u b v f p e z. shaken_side w h x n hx gw g (Sweep x) n.local u (as_state b (Accepting v)) (set_state d.0 d.1 Gone o1) (Aged b f
-          (parked_ages b v e)) z) (shaken w h x n hx gw g (Sweep x) n.local o1 k) in
+      (parked_ages b v e)) z) (shaken w h x n hx gw g (Sweep x) n.local o1 k) in
       subst (λ z. D (Sweep x) n.local (Answer.Swept (swept_kind (least_record d.1.peer n))) (close_if_swept d.0 d.1 z)) (sym (least_as d.1.peer (at_work n)))
       (done_shaken w h x n hx gw g (Sweep x) n.local _ (close_if_swept d.0 d.1 o1) (λ q. refl) (λ q. refl) refl s)
     where

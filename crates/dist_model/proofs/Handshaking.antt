@@ -132,7 +132,7 @@ up_ages v h i = refl
 abbrev pub Room : Node → TrunkSide → TrunkSide → Type 0
 Room o a s = is_gone s.state ≡ false → (is_gone a.state ≡ false)
     × ((u : TrunkId) (v : TrunkSide) → side_at o u ≡ Some v → v.peer ≡ a.peer → beside a.state v.state ≡ true
-        → beside s.state v.state ≡ true)
+    → beside s.state v.state ≡ true)
 
 abbrev pub Roomy : Node → TrunkId → TrunkSide → Type 0
 Roomy o t s = (a : TrunkSide) → side_at o t ≡ Some a → Room o a s
@@ -329,7 +329,7 @@ module _ (New : TrunkId → Name → Type 0) (X : Work → Type 0)
         if_either (is_same name t.dialer) _ _
         (if_either (has_all_of flags mandatory) _ _
         (greeted_waiting (side_where is_waiting t.dialer (fm.entries o.node.sides)) s w (Handshake
-            (ShakeMsg.SendName flags creation name)) o
+        (ShakeMsg.SendName flags creation name)) o
         (found is_waiting t.dialer o.node _ refl) refl h k)
         (fresh_fault (Fault.Shake ShakeFault.FlagsMissing) s o refl h k))
         (fresh_fault (Fault.Shake ShakeFault.Forged) s o refl h k)
@@ -371,8 +371,12 @@ module _ (New : TrunkId → Name → Type 0) (X : Work → Type 0)
         let s1 : TrunkSide = record { peer = s.peer; peer_creation = creation; state = s.state } in
         if_either (is_same name s.peer) _ _ (if_either (has_all_of flags mandatory) _ _
         (told t s1 (AwaitsAck v) (ShakeMsg.ChallengeReply v (digest_of o.node.cookie word)) o
-        (side t (as_state s1 (AwaitsAck v)) o (Aged s at (record { peer = refl; holding = open_ages s.state
-            (AwaitsAck v) h; over = open_starts s.state (AwaitsAck v) h }))
+        (side t (as_state s1 (AwaitsAck v)) o (Aged s at (record {
+          peer = refl;
+          holding = open_ages s.state
+              (AwaitsAck v) h;
+          over = open_starts s.state (AwaitsAck v) h;
+        }))
         (roomy o.node t s (as_state s1 (AwaitsAck v)) at (room_lone o.node s (as_state s1 (AwaitsAck v)) r)) k))
         (known_fault (Fault.Shake ShakeFault.FlagsMissing) t s o at k)) (known_fault (Fault.Shake ShakeFault.Forged) t s o at k)
     challenged v h r (ShakeMsg.Status Status.Ok) = bad
@@ -456,7 +460,7 @@ module _ (New : TrunkId → Name → Type 0) (X : Work → Type 0)
         let d = side_where is_up s.peer (fm.entries o.node.sides) in
         let p = found is_up s.peer o.node d refl in
         gone_on (side_where is_losing s.peer (fm.entries ((up_is_lost d o).node.sides))) v (up_is_lost d o) (still_at d p h) h r (free d refl)
-            (ended_up d p)
+        (ended_up d p)
     asked v h r (ShakeMsg.Status Status.False) = known_fault (Fault.Shake ShakeFault.Nok) t s o at k
     asked v h r (ShakeMsg.Status Status.Ok) = bad
     asked v h r (ShakeMsg.Status Status.OkSimultaneous) = bad
@@ -573,7 +577,7 @@ module _ (New : TrunkId → Name → Type 0) (X : Work → Type 0)
           let o1 = set_state t s Gone o in
           unparked s.peer (side_where is_parked s.peer (fm.entries o1.node.sides)) o1 refl f
           (side t (as_state s Gone) o (Shut s h refl refl e) (roomy o.node t s (as_state s Gone) h (room_gone o.node s
-              (as_state s Gone) refl)) k)
+          (as_state s Gone) refl)) k)
 
 -- an attempt that was parked is open
 pub parked_ages : (b : TrunkSide) (w : ℕ) → b.state ≡ Parked w → Ages b (as_state b (Accepting w))

@@ -47,8 +47,12 @@ same n m l e w g k = along n m (λ p h. ap (λ z. is_living_life (fm.get z p)) l
 
 -- an end is set, of a living process or to none
 ends_set : (x y : Pid) (v : End) (o : Work) → (living o.node x ≡ true) ⊎ (v ≡ End.None) → Alive o.node → Alive ((set_end x y v o).node)
-ends_set x y v o l k = record { ends = λ p q h. go p q (same_pid p x && same_pid q y) refl (λ j. h (end_set x y v o p q
-    ∙ j)) l; owners = k.owners; targets = k.targets }
+ends_set x y v o l k = record {
+  ends = λ p q h. go p q (same_pid p x && same_pid q y) refl (λ j. h (end_set x y v o p q
+      ∙ j)) l;
+  owners = k.owners;
+  targets = k.targets;
+}
   where
     go : (p q : Pid) (b : Bool) → (same_pid p x && same_pid q y) ≡ b
         → (cond (same_pid p x && same_pid q y) v (end_of o.node p q) ≢ End.None)
@@ -90,8 +94,12 @@ ends_with x r o k = record {
 
 -- a monitor comes
 watched : (c : Reference) (m : Monitor) (o : Work) → living o.node m.owner ≡ true → Alive o.node → Alive ((watch c m o).node)
-watched c m o l k = record { ends = k.ends; owners = λ r v h. go r v (same_reference r c) refl (sym
-    (fm.get-insert reference_cmp_total o.node.watches c m r) ∙ h); targets = k.targets }
+watched c m o l k = record {
+  ends = k.ends;
+  owners = λ r v h. go r v (same_reference r c) refl (sym
+      (fm.get-insert reference_cmp_total o.node.watches c m r) ∙ h);
+  targets = k.targets;
+}
   where
     go : (r : Reference) (v : Monitor) (b : Bool) → same_reference r c ≡ b
         → cond (same_reference r c) (Some m) (fm.get o.node.watches r) ≡ Some v → living o.node v.owner ≡ true

@@ -157,7 +157,7 @@ opens t s o at los k u b w f p i j = single_after ((set_state t s Gone o).node) 
     was x v h hv = if_trunk t _ x
         (λ e.
         let c : as_state s Gone ≡ v = some_same (as_state s Gone) v (sym (side_after_same o.node t (as_state s Gone))
-            ∙ ap (side_at ((set_state t s Gone o).node)) (sym e) ∙ h) in
+        ∙ ap (side_at ((set_state t s Gone o).node)) (sym e) ∙ h) in
         let z : true ≡ false = sym hv ∙ ap (λ (r : TrunkSide). holds r.state) (sym c) in cc)
         (λ d. (d, sym (side_after_other o.node t (as_state s Gone) x d) ∙ h))
 
@@ -210,7 +210,7 @@ none_left test y e o g there alone h k u v hv p = pick (still e o u v hv)
     old true i d j =
         let f = side_where_found test y (fm.entries o.node.sides) e (fm.entries_sorted o.node.sides) h in
         absurd (one (k e.0 u e.1 v (fm.get-entries o.node.sides e.0 ∙ f.there) j (f.peer
-            ∙ sym p) (there e.1.state f.passes) (there v.state i)) d f.passes i)
+        ∙ sym p) (there e.1.state f.passes) (there v.state i)) d f.passes i)
 
     pick : (v.state ≡ Gone) ⊎ ((u ≡ e.0 → ⊥) × (side_at o.node u ≡ Some v)) → test v.state ≡ false
     pick (inl i) = ap test i ∙ g
@@ -240,7 +240,7 @@ module _ (t : TrunkId) (s : TrunkSide) (w : ℕ) where
   dialed_by None x o h a b k = accepted (ShakeMsg.Status Status.Ok) x o a b (no_side is_dialing s.peer o h) k
   dialed_by (Some e) x o h a b k = if_either (is_gt (name_cmp t.dialer o.node.mint.name)) _ _
       (accepted (ShakeMsg.Status Status.OkSimultaneous) x (give_up (Some e) o) (none_still is_waiting s.peer e o refl a)
-          (none_still holds s.peer e o refl b)
+      (none_still holds s.peer e o refl b)
       (none_left is_dialing s.peer e o refl dialing_there (λ p q i j. dialing_alone p q i) h k) (goes e.0 (as_state e.1 Gone) o refl k))
       (goes t (as_state s Gone) o refl k)
 
@@ -274,7 +274,7 @@ module _ (t : TrunkId) (s : TrunkSide) (w : ℕ) where
   waited_by None x o h k = greeted x o (no_side is_waiting s.peer o h) k
   waited_by (Some e) x o h k = if_either (nat_lt e.0.count t.count) _ _
       (greeted x (give_up (Some e) o) (none_left is_waiting s.peer e o refl
-          (λ v i. (waiting_kinds v i).0) waiting_beside h k) (goes e.0 (as_state e.1 Gone) o refl k))
+      (λ v i. (waiting_kinds v i).0) waiting_beside h k) (goes e.0 (as_state e.1 Gone) o refl k))
       (goes t (as_state s Gone) o refl k)
 
 no_name : (t : TrunkId) (o : Work) → X o → IfGoes (fault (Fault.Shake ShakeFault.BadMessage) t
@@ -287,7 +287,7 @@ named t (ShakeMsg.SendName flags creation name) w o k =
     if_either (is_same name t.dialer) _ _
     (if_either (has_all_of flags mandatory) _ _
     (waited_by t s w (side_where is_waiting t.dialer (fm.entries o.node.sides)) (Handshake
-        (ShakeMsg.SendName flags creation name)) o refl k)
+    (ShakeMsg.SendName flags creation name)) o refl k)
     (goes t (as_state s Gone) o refl k))
     (goes t (as_state s Gone) o refl k)
 named t (ShakeMsg.Status Status.Ok) w o k = no_name t o k
@@ -314,7 +314,7 @@ single_dial names n y w k = if_not (same_name y n.mint.name) _ Refusal.SelfDial 
     if_not (not (nat_lt (n.dialed + 1) (2 ^ 64))) _ Refusal.IdsUsedUp X
     (single_after (draw_trunk n) (next_trunk n) (record { peer = y; peer_creation = 0; state = AwaitsStatus w }) k
     (λ u v h p d gs gv. let c : true ≡ false = sym (not_not (is_gone v.state) (all_none
-        (λ v. not (is_gone v)) y n (none_case _ busy) u v h p)) ∙ gv in cc)))))
+    (λ v. not (is_gone v)) y n (none_case _ busy) u v h p)) ∙ gv in cc)))))
 
 pub single_stopped : (n : Node) → Single ((stopped n).sides)
 single_stopped n t u s v hs hv p gs gv = absurd (go (side_at n t) (sym (gone_sides n t) ∙ hs))

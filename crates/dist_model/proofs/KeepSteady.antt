@@ -172,7 +172,7 @@ alive_dial names n y w k = if_not (same_name y n.mint.name) _ Refusal.SelfDial Y
     (if_not (is_some (side_where (λ v. not (is_gone v)) y (fm.entries n.sides))) _ Refusal.Busy Y
     (if_not (not (nat_lt (n.dialed + 1) (2 ^ 64))) _ Refusal.IdsUsedUp Y
     (aside (next_trunk n) (record { peer = y; peer_creation = 0; state = AwaitsStatus w }) (at_work (draw_trunk n)) (alive_aside n
-        (draw_trunk n) refl refl refl refl k)))))
+    (draw_trunk n) refl refl refl refl k)))))
 
 alive_kept : (names : List Name) (n : Node) (e : NodeEvent) → Alive n → IfGoes (at_node names n e) Y
 alive_kept names n e k = at_node_keeps AnyNew Y alive_parts turned wrote opens names n k e (rest e)

@@ -136,7 +136,7 @@ module _ (rules : Rules) (X : Work → Type 0) (c : Closed rules X) where
           let o1 = set_end p q (heard (end_of o.node p q) s) o in
           follows_kept (end_of o.node p q) s p q (post_all (replies p q (reply false s)) o1) (λ x h a. acts x h e a)
           (post_all_kept (replies p q (reply false s)) o1 (replies_said false s p q
-              (λ h. cc)) (c.end_set p q (heard (end_of o.node p q) s) o (inl e) k))
+          (λ h. cc)) (c.end_set p q (heard (end_of o.node p q) s) o (inl e) k))
       go false e = post_all_kept (replies p q (reply true s)) o (replies_said true s p q (λ h i. gone i e)) k
 
   pub cond_kept : (b : Bool) (x y : Work) → (b ≡ true → X x) → (b ≡ false → X y) → X (cond b x y)
@@ -180,7 +180,7 @@ module _ (rules : Rules) (X : Work → Type 0) (c : Closed rules X) where
   unlink_by_kept End.None p q o l k = k
   unlink_by_kept End.Active p q o l k = if_drawn (id_of o.node.mint kind.UnlinkId) _ X (λ id h.
       c.posted (Signal.UnlinkId id p q) (set_end p q (End.Pending id) (draw kind.UnlinkId o)) (c.plain (Signal.UnlinkId id p q) refl)
-          (c.end_set p q (End.Pending id) (draw kind.UnlinkId o) (inl l) (c.drew o k)))
+      (c.end_set p q (End.Pending id) (draw kind.UnlinkId o) (inl l) (c.drew o k)))
   unlink_by_kept (End.Pending i) p q o l k = k
 
   abbrev pub Apart : Command → Type 0

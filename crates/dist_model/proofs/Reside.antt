@@ -75,20 +75,20 @@ same_at n t0 s t v e h = some_same s v (sym (side_after_same n t0 s) ∙ ap (sid
 -- a side that stands beside the others towards its peer
 pub single_after : (n : Node) (t0 : TrunkId) (s : TrunkSide) → Single n.sides
     → ((u : TrunkId) (v : TrunkSide) → side_at n u ≡ Some v → v.peer ≡ s.peer → (u ≡ t0 → ⊥) → is_gone s.state ≡ false
-        → is_gone v.state ≡ false → beside s.state v.state ≡ true)
+    → is_gone v.state ≡ false → beside s.state v.state ≡ true)
     → Single ((with_side_at n t0 s).sides)
 single_after n t0 s k room t u a b ha hb e ga gb = if_trunk t0 _ t
     (λ te. if_trunk t0 _ u (λ ue. inl (te ∙ sym ue))
     (λ ud.
     let sa : s ≡ a = same_at n t0 s t a te ha in
     inr (subst (λ (z : TrunkSide). beside z.state b.state ≡ true) sa (room u b (sym (side_after_other n t0 s u ud) ∙ hb) (sym e
-        ∙ ap (λ (z : TrunkSide). z.peer) (sym sa)) ud (ap (λ (z : TrunkSide). is_gone z.state) sa ∙ ga) gb))))
+    ∙ ap (λ (z : TrunkSide). z.peer) (sym sa)) ud (ap (λ (z : TrunkSide). is_gone z.state) sa ∙ ga) gb))))
     (λ td. if_trunk t0 _ u
     (λ ue.
     let sb : s ≡ b = same_at n t0 s u b ue hb in
     inr (beside_turned b.state a.state (subst (λ (z : TrunkSide). beside z.state a.state ≡ true) sb (room t a (sym
-        (side_after_other n t0 s t td) ∙ ha) (e ∙ ap (λ (z : TrunkSide). z.peer) (sym sb)) td (ap
-        (λ (z : TrunkSide). is_gone z.state) sb ∙ gb) ga))))
+    (side_after_other n t0 s t td) ∙ ha) (e ∙ ap (λ (z : TrunkSide). z.peer) (sym sb)) td (ap
+    (λ (z : TrunkSide). is_gone z.state) sb ∙ gb) ga))))
     (λ ud. k t u a b (sym (side_after_other n t0 s t td) ∙ ha) (sym (side_after_other n t0 s u ud) ∙ hb) e ga gb))
 
 pub sides_after : (n : Node) (t0 : TrunkId) (s : TrunkSide) → SidesKept n → Fits n t0 s → SidesKept (with_side_at n t0 s)
@@ -105,7 +105,7 @@ sides_after n t0 s k f = record { one = single_after n t0 s k.one f.room; other 
     mine : (t : TrunkId) (a : TrunkSide) → side_at (with_side_at n t0 s) t ≡ Some a → (t.dialer ≡ n.mint.name) ⊎ (t.dialer ≡ a.peer)
     mine t a ha = if_trunk t0 _ t
         (λ te. subst (λ (z : TrunkId). (z.dialer ≡ n.mint.name) ⊎ (z.dialer ≡ a.peer)) (sym te) (role_of a
-            (same_at n t0 s t a te ha) f.role))
+        (same_at n t0 s t a te ha) f.role))
         (λ td. k.mine t a (sym (side_after_other n t0 s t td) ∙ ha))
 
 -- a node that held y still does, but for the side itself
