@@ -143,7 +143,7 @@ roomy o t a s h r b j = subst (λ z. Room o z s) (some_same a b (sym h ∙ j)) r
 pub room_new : (o : Node) (t : TrunkId) (s : TrunkSide) → side_at o t ≡ None → Roomy o t s
 room_new o t s h a j = absurd (none_some a (sym h ∙ j))
 
-pub room_gone : (o : Node) (a s : TrunkSide) → is_gone s.state ≡ true → Room o a s
+room_gone : (o : Node) (a s : TrunkSide) → is_gone s.state ≡ true → Room o a s
 room_gone o a s g h = let c : true ≡ false = sym g ∙ h in cc
 
 -- it stood alone
@@ -197,8 +197,7 @@ room_lost : (o : Node) (a : TrunkSide) → Room o a (as_state a (lost a.state))
 room_lost o a h = both a.state h
   where
     both : (x : State) → is_gone (lost x) ≡ false → (is_gone x ≡ false) × ((u : TrunkId) (v : TrunkSide) → side_at o u ≡ Some v
-        → v.peer ≡ a.peer
-        → beside x v.state ≡ true → beside (lost x) v.state ≡ true)
+        → v.peer ≡ a.peer → beside x v.state ≡ true → beside (lost x) v.state ≡ true)
     both Up h = (refl, λ u v i p b. b)
     both Losing h = (refl, λ u v i p b. b)
     both (Asked z) h = cc
@@ -326,10 +325,10 @@ module _ (New : TrunkId → Name → Type 0) (X : Work → Type 0)
     named : (m : ShakeMsg) (w : ℕ) (o : Work) → side_at o.node t ≡ None → X o → IfGoes (awaits_name t m w o) X
     named (ShakeMsg.SendName flags creation name) w o h k =
         let s : TrunkSide = record { peer = t.dialer; peer_creation = creation; state = Gone } in
+        let x = Handshake (ShakeMsg.SendName flags creation name) in
         if_either (is_same name t.dialer) _ _
         (if_either (has_all_of flags mandatory) _ _
-        (greeted_waiting (side_where is_waiting t.dialer (fm.entries o.node.sides)) s w (Handshake
-        (ShakeMsg.SendName flags creation name)) o
+        (greeted_waiting (side_where is_waiting t.dialer (fm.entries o.node.sides)) s w x o
         (found is_waiting t.dialer o.node _ refl) refl h k)
         (fresh_fault (Fault.Shake ShakeFault.FlagsMissing) s o refl h k))
         (fresh_fault (Fault.Shake ShakeFault.Forged) s o refl h k)
@@ -355,8 +354,8 @@ module _ (New : TrunkId → Name → Type 0) (X : Work → Type 0)
     status : (v : ℕ) → is_open s.state ≡ true → Lone s.state → (m : ShakeMsg) → IfGoes (awaits_status t s v m o) X
     status v h r (ShakeMsg.Status Status.Ok) = lone_state t s (AwaitsChallenge v) o at h r k
     status v h r (ShakeMsg.Status Status.OkSimultaneous) = lone_state t s (AwaitsChallenge v) o at h r k
-    status v h r (ShakeMsg.Status Status.Alive) = told t s (AwaitsChallenge v) (ShakeMsg.Status Status.True) o (lone_state t s
-        (AwaitsChallenge v) o at h r k)
+    status v h r (ShakeMsg.Status Status.Alive) = told t s (AwaitsChallenge v) (ShakeMsg.Status Status.True) o
+        (lone_state t s (AwaitsChallenge v) o at h r k)
     status v h r (ShakeMsg.Status Status.Nok) = known_fault (Fault.Shake ShakeFault.Nok) t s o at k
     status v h r (ShakeMsg.Status Status.NotAllowed) = known_fault (Fault.Shake ShakeFault.Nok) t s o at k
     status v h r (ShakeMsg.Status Status.True) = bad
@@ -371,12 +370,8 @@ module _ (New : TrunkId → Name → Type 0) (X : Work → Type 0)
         let s1 : TrunkSide = record { peer = s.peer; peer_creation = creation; state = s.state } in
         if_either (is_same name s.peer) _ _ (if_either (has_all_of flags mandatory) _ _
         (told t s1 (AwaitsAck v) (ShakeMsg.ChallengeReply v (digest_of o.node.cookie word)) o
-        (side t (as_state s1 (AwaitsAck v)) o (Aged s at (record {
-          peer = refl;
-          holding = open_ages s.state
-              (AwaitsAck v) h;
-          over = open_starts s.state (AwaitsAck v) h;
-        }))
+        (side t (as_state s1 (AwaitsAck v)) o
+        (Aged s at (record { peer = refl; holding = open_ages s.state (AwaitsAck v) h; over = open_starts s.state (AwaitsAck v) h }))
         (roomy o.node t s (as_state s1 (AwaitsAck v)) at (room_lone o.node s (as_state s1 (AwaitsAck v)) r)) k))
         (known_fault (Fault.Shake ShakeFault.FlagsMissing) t s o at k)) (known_fault (Fault.Shake ShakeFault.Forged) t s o at k)
     challenged v h r (ShakeMsg.Status Status.Ok) = bad
@@ -473,9 +468,9 @@ module _ (New : TrunkId → Name → Type 0) (X : Work → Type 0)
     asked v h r (ShakeMsg.ChallengeAck a) = bad
 
     replied : (v : ℕ) → is_open s.state ≡ true → Lone s.state → (m : ShakeMsg) → IfGoes (awaits_reply t s v m o) X
-    replied v h r (ShakeMsg.ChallengeReply word digest) = if_either (is_answered o.node.cookie v digest) _ _ (told t s Up
-        (ShakeMsg.ChallengeAck (digest_of o.node.cookie word)) o (lone_state t s Up o at h r k)) (known_fault
-        (Fault.Shake ShakeFault.BadDigest) t s o at k)
+    replied v h r (ShakeMsg.ChallengeReply word digest) = if_either (is_answered o.node.cookie v digest) _ _
+        (told t s Up (ShakeMsg.ChallengeAck (digest_of o.node.cookie word)) o (lone_state t s Up o at h r k))
+        (known_fault (Fault.Shake ShakeFault.BadDigest) t s o at k)
     replied v h r (ShakeMsg.Status Status.Ok) = bad
     replied v h r (ShakeMsg.Status Status.OkSimultaneous) = bad
     replied v h r (ShakeMsg.Status Status.Alive) = bad

@@ -48,8 +48,7 @@ same n m l e w g k = along n m (λ p h. ap (λ z. is_living_life (fm.get z p)) l
 -- an end is set, of a living process or to none
 ends_set : (x y : Pid) (v : End) (o : Work) → (living o.node x ≡ true) ⊎ (v ≡ End.None) → Alive o.node → Alive ((set_end x y v o).node)
 ends_set x y v o l k = record {
-  ends = λ p q h. go p q (same_pid p x && same_pid q y) refl (λ j. h (end_set x y v o p q
-      ∙ j)) l;
+  ends = λ p q h. go p q (same_pid p x && same_pid q y) refl (λ j. h (end_set x y v o p q ∙ j)) l;
   owners = k.owners;
   targets = k.targets;
 }
@@ -84,8 +83,8 @@ ends_with x r o k = record {
     stays p e l = finish_living x r o p ∙ cond_life_kept (same_pid p x) r (fm.get ((post_all (last_posts x r o) o).node.lives) p) e
         ∙ ap (λ z. is_living_life (fm.get z p)) (all_posts_keep (λ n. n.lives) (λ n l. refl) (last_posts x r o) o) ∙ l
 
-    left_end : (p q : Pid) → (end_in (cond (not (same_pid p x)) (fm.get ((post_all (last_posts x r o) o).node.ends)
-        (p, q)) None) ≢ End.None)
+    left_end : (p q : Pid)
+        → (end_in (cond (not (same_pid p x)) (fm.get ((post_all (last_posts x r o) o).node.ends) (p, q)) None) ≢ End.None)
         → living ((end_process x r o).node) p ≡ true
     left_end p q h =
         let e = cond_absent (same_pid p x) (fm.get ((post_all (last_posts x r o) o).node.ends) (p, q)) h in
@@ -96,15 +95,15 @@ ends_with x r o k = record {
 watched : (c : Reference) (m : Monitor) (o : Work) → living o.node m.owner ≡ true → Alive o.node → Alive ((watch c m o).node)
 watched c m o l k = record {
   ends = k.ends;
-  owners = λ r v h. go r v (same_reference r c) refl (sym
-      (fm.get-insert reference_cmp_total o.node.watches c m r) ∙ h);
+  owners = λ r v h. go r v (same_reference r c) refl (sym (fm.get-insert reference_cmp_total o.node.watches c m r) ∙ h);
   targets = k.targets;
 }
   where
     go : (r : Reference) (v : Monitor) (b : Bool) → same_reference r c ≡ b
         → cond (same_reference r c) (Some m) (fm.get o.node.watches r) ≡ Some v → living o.node v.owner ≡ true
-    go r v true e h = ap (λ (z : Monitor). living o.node z.owner) (sym (some_same m v (sym (ap
-        (λ b. cond b (Some m) (fm.get o.node.watches r)) e) ∙ h))) ∙ l
+    go r v true e h =
+        let new : m ≡ v = some_same m v (sym (ap (λ b. cond b (Some m) (fm.get o.node.watches r)) e) ∙ h) in
+        ap (λ (z : Monitor). living o.node z.owner) (sym new) ∙ l
     go r v false e h = k.owners r v (sym (ap (λ b. cond b (Some m) (fm.get o.node.watches r)) e) ∙ h)
 
 enrolled : (c : Reference) (m : Monitor) (o : Work) → living o.node m.target ≡ true → Alive o.node → Alive ((register c m o).node)
@@ -130,8 +129,8 @@ alive_parts = record {
       (posts_keep (λ m. m.watches) (λ m l. refl) y (Signalled s) o) (posts_keep (λ m. m.registered) (λ m l. refl) y (Signalled s) o) k;
   end_set = λ p q e o l k. ends_set p q e o l k;
   drew = λ d o k. record { ends = k.ends; owners = k.owners; targets = k.targets };
-  life_set = λ p l o h k. along o.node _ (λ x j. set_life_living o.node.lives p l x (λ e. h
-      ∙ ap (living o.node) (sym (same_pid_true x p e))) ∙ j)
+  life_set = λ p l o h k. along o.node _
+      (λ x j. set_life_living o.node.lives p l x (λ e. h ∙ ap (living o.node) (sym (same_pid_true x p e))) ∙ j)
       refl (λ r v j. j) (λ r v j. j) k;
   message = λ p m o k. along o.node _ (λ x j. put_living p m o x ∙ j) refl (λ r v j. j) (λ r v j. j) k;
   reacted = λ p q x o k. k;

@@ -1,22 +1,21 @@
 -- A node keeps its name, its sides and their peers, whatever event comes to it.
 use Rattle.erl_names.specs.Draw as kind
 use Rattle.erl_names.specs.Draw.{Draw}
-use Rattle.std.proofs.Common.{◌≡◌, ◌+◌, ◌^◌, nat_lt, ℕ, Bool, true, false, cond, not, List, [], ◌∷◌, refl, sym, ap, ◌∙◌, subst, arith, Option, Some, None, ◌⊎◌, inl, inr, Contains}
+use Rattle.std.proofs.Common.{◌≡◌, ℕ, Bool, true, false, cond, List, [], ◌∷◌, refl, sym, ap, ◌∙◌, subst, arith, Option, Some, None, ◌⊎◌, inl, inr, Contains}
 use Rattle.std.proofs.lemmas.List.Elements.{Contains-push_cases}
-use Rattle.std.specs.Option.{is_some}
 use Rattle.std.specs.FinMap as fm
-use Rattle.dist_model.proofs.Calls.{IfGoes, by_test, if_not, if_not_known}
+use Rattle.dist_model.proofs.Calls.{IfGoes, by_test}
 use Rattle.dist_model.proofs.Closing.{gone_side, gone_sides}
 use Rattle.dist_model.proofs.Ending.{last_posts}
 use Rattle.dist_model.proofs.Handshaking.{Aged, Fresh, Roomy, Shut, TurnedBy, Unparks, as_state, fresh_kept, parked_ages, set_at}
-use Rattle.dist_model.proofs.KeepEvents.{at_node_keeps}
+use Rattle.dist_model.proofs.KeepEvents.{Rest, at_node_keeps, dial_goes}
 use Rattle.dist_model.proofs.KeepParts.{Parts}
 use Rattle.dist_model.proofs.Keys.{same_name_is, same_trunk, same_trunk_is, same_trunk_true}
 use Rattle.dist_model.proofs.Routes.{none_some, some_same}
 use Rattle.dist_model.proofs.Sides.{route_from, side_at}
 use Rattle.dist_model.specs.Arrivals.{handshake_in}
 use Rattle.dist_model.specs.Commands.{Accepts, Outcome}
-use Rattle.dist_model.specs.Dialing.{dial, draw_trunk, has_name, next_trunk}
+use Rattle.dist_model.specs.Dialing.{draw_trunk, next_trunk}
 use Rattle.dist_model.specs.Exits.{end_process}
 use Rattle.dist_model.specs.Handshake.{identity, set_state, with_side, write}
 use Rattle.dist_model.specs.Incarnations.{started, stopped}
@@ -24,10 +23,10 @@ use Rattle.dist_model.specs.Items.{Handshake, Item, Signalled}
 use Rattle.erl_control.specs.Ends.{receiver_of}
 use Rattle.dist_model.specs.Keeping.{Bearings, Comes, Dials, Towards}
 use Rattle.dist_model.specs.Names.{Name, same_name}
-use Rattle.dist_model.specs.Node.{Node, route, side_where}
+use Rattle.dist_model.specs.Node.{Node, route}
 use Rattle.dist_model.specs.NodeEvents.{Arrive, Call, Dial, Local, Lose, NodeEvent, Start, Stop, Sweep, at_node}
-use Rattle.dist_model.specs.Sides.{Accepting, AwaitsStatus, Gone, Losing, TrunkSide, is_gone}
-use Rattle.dist_model.specs.Work.{Work, at_work, keep_local, post_to, post_all, report, send_on}
+use Rattle.dist_model.specs.Sides.{Accepting, AwaitsStatus, Gone, Losing, TrunkSide}
+use Rattle.dist_model.specs.Work.{Work, at_work, keep_local, post, post_all, post_to, put, report, send_on}
 use Rattle.dist_model.specs.declared.report.Answer.{Answer}
 use Rattle.dist_model.specs.declared.report.Effect.{Effect}
 use Rattle.erl_control.specs.declared.signal.Signal.{Signal}
@@ -36,7 +35,6 @@ use Rattle.erl_handshake.specs.declared.message.ShakeMsg.{ShakeMsg}
 use Rattle.erl_names.specs.Minted.{Minted, drawn}
 use Rattle.erl_names.specs.declared.trunk.TrunkId.{TrunkId}
 use Rattle.erl_term.specs.Data.{Data}
-use Rattle.erl_term.specs.declared.refusal.Refusal.{Refusal}
 use Rattle.erl_term.specs.declared.term.Pid.{Pid}
 
 towards_along : (n m : Node) → m.sides ≡ n.sides → (t : TrunkId) (y : Name) → Towards n t y → Towards m t y
@@ -46,14 +44,12 @@ towards_along n m e t y h = record { side = h.side; there = ap (λ z. fm.get z t
 towards_turned : (New : TrunkId → Name → Type 0) (t : TrunkId) (s : TrunkSide) (o : Work) → TurnedBy New o.node t s
     → (u : TrunkId) (y : Name) → Towards o.node u y → Towards ((with_side t s o).node) u y
 towards_turned New t s o c u y v = by_test _ (same_trunk u t)
-    (λ e. record {
-      side = s;
-      there = set_at o t s u ∙ ap
-          (λ b. cond b (Some s) (side_at o.node u)) e;
-      peer = same (same_trunk_true u t e) c;
-    })
-    (λ e. record { side = v.side; there = set_at o t s u ∙ ap (λ b. cond b (Some s) (side_at o.node u)) e ∙ v.there; peer = v.peer })
+    (λ e. record { side = s; there = at true e; peer = same (same_trunk_true u t e) c })
+    (λ e. record { side = v.side; there = at false e ∙ v.there; peer = v.peer })
   where
+    at : (b : Bool) → same_trunk u t ≡ b → side_at ((with_side t s o).node) u ≡ cond b (Some s) (side_at o.node u)
+    at b e = set_at o t s u ∙ ap (λ b. cond b (Some s) (side_at o.node u)) e
+
     is_that : (a : TrunkSide) → u ≡ t → side_at o.node t ≡ Some a → a.peer ≡ y
     is_that a e h = ap (λ (z : TrunkSide). z.peer) (some_same a v.side (sym h ∙ ap (side_at o.node) (sym e) ∙ v.there)) ∙ v.peer
 
@@ -106,12 +102,14 @@ module _ (n : Node) (e : NodeEvent) where
   sends t y x o v k = on o (report (Effect.Sent (Some t) y x) o) refl refl
       (λ u z i c. pick u z i (Contains-push_cases o.effects (Effect.Sent (Some t) y x) (Effect.Sent (Some u) z i) c)) k
     where
-      pick : (u : TrunkId) (z : Name) (i : Item) → Contains o.effects (Effect.Sent (Some u) z i) ⊎ (◌≡◌ {A = Effect Item} (Effect.Sent
-          (Some t) y x) (Effect.Sent (Some u) z i))
+      pick : (u : TrunkId) (z : Name) (i : Item)
+          → Contains o.effects (Effect.Sent (Some u) z i) ⊎ (◌≡◌ {A = Effect Item} (Effect.Sent (Some t) y x) (Effect.Sent (Some u) z i))
           → Towards o.node u z
       pick u z i (inl c) = k.sent u z i c
-      pick u z i (inr h) = let a : t ≡ u = cc in let b : y ≡ z = cc in subst (λ w. Towards o.node w z) a (subst
-          (λ w. Towards o.node t w) b v)
+      pick u z i (inr h) =
+          let a : t ≡ u = cc in
+          let b : y ≡ z = cc in
+          subst (λ w. Towards o.node w z) a (subst (λ w. Towards o.node t w) b v)
 
   kept_local : (x : Item) (o : Work) → X o → X (keep_local x o)
   kept_local x o k = on (report (Effect.Sent None o.node.mint.name x) o) (keep_local x o) refl refl (λ t y i c. h.sent t y i c) h
@@ -132,21 +130,21 @@ module _ (n : Node) (e : NodeEvent) where
 
   posts_all : (ss : List Signal) (o : Work) → X o → X (post_all ss o)
   posts_all [] o k = k
-  posts_all (s ∷ ss) o k = posts_all ss (Rattle.dist_model.specs.Work.post s o) (posts (receiver_of s).node (Signalled s) o k)
+  posts_all (s ∷ ss) o k = posts_all ss (post s o) (posts (receiver_of s).node (Signalled s) o k)
 
   -- the node alone changes
   within : (o : Work) (m : Node) → m.mint.name ≡ o.node.mint.name → m.sides ≡ o.node.sides → X o → X (record o { node = m })
   within o m nm sd k = on o (record o { node = m }) nm sd k.sent k
 
-  puts : (p : Pid) (m : Data) (o : Work) → X o → X (Rattle.dist_model.specs.Work.put p m o)
-  puts p m o k = within (report (Effect.Put p m) o) ((Rattle.dist_model.specs.Work.put p m o).node) refl refl (silent (Effect.Put p m) o
-      (λ t y i z. cc) k)
+  puts : (p : Pid) (m : Data) (o : Work) → X o → X (put p m o)
+  puts p m o k = within (report (Effect.Put p m) o) ((put p m o).node) refl refl
+      (silent (Effect.Put p m) o (λ t y i z. cc) k)
 
   finishes : (p : Pid) (x : Data) (o : Work) → X o → X (end_process p x o)
   finishes p x o k =
       let o1 = post_all (last_posts p x o) o in
-      within (report (Effect.Ended p x) o1) ((end_process p x o).node) refl refl (silent (Effect.Ended p x) o1
-      (λ t y i z. cc) (posts_all (last_posts p x o) o k))
+      within (report (Effect.Ended p x) o1) ((end_process p x o).node) refl refl
+      (silent (Effect.Ended p x) o1 (λ t y i z. cc) (posts_all (last_posts p x o) o k))
 
   parts : Parts X
   parts = record {
@@ -170,11 +168,13 @@ module _ (n : Node) (e : NodeEvent) where
     stays = λ u y h. still u y (k.stays u y h);
     sent = λ u y i h. towards_turned New t s o c u y (k.sent u y i h);
     new = λ u a h j. by_test _ (same_trunk u t)
-        (λ i. here u a (same_trunk_true u t i) h (some_same s a (sym (set_at o t s u ∙ ap (λ b. cond b (Some s) (side_at o.node u)) i)
-        ∙ j)) c)
-        (λ i. k.new u a h (sym (set_at o t s u ∙ ap (λ b. cond b (Some s) (side_at o.node u)) i) ∙ j));
+        (λ i. here u a (same_trunk_true u t i) h (some_same s a (sym (at u true i) ∙ j)) c)
+        (λ i. k.new u a h (sym (at u false i) ∙ j));
   }
     where
+      at : (u : TrunkId) (b : Bool) → same_trunk u t ≡ b → side_at ((with_side t s o).node) u ≡ cond b (Some s) (side_at o.node u)
+      at u b i = set_at o t s u ∙ ap (λ b. cond b (Some s) (side_at o.node u)) i
+
       still : (u : TrunkId) (y : Name) → Stays o.node u y → Stays ((with_side t s o).node) u y
       still u y (inl v) = inl (towards_turned New t s o c u y v)
       still u y (inr v) = inr (v.0, v.1, towards_turned New t s o c u v.0 v.2)
@@ -211,7 +211,7 @@ module _ (n : Node) (e : NodeEvent) where
   clears m nm sd = record {
     name = nm;
     stays = λ t y h. inl (record {
-      side = record { peer = h.side.peer; peer_creation = 0; state = Rattle.dist_model.specs.Sides.Gone };
+      side = record { peer = h.side.peer; peer_creation = 0; state = Gone };
       there = at t ∙ ap gone_side h.there;
       peer = h.peer;
     });
@@ -238,38 +238,32 @@ module _ (n : Node) (e : NodeEvent) where
     stranger : y ≡ n.mint.name → ⊥
     stranger i = let z : true ≡ false = sym (same_name_is y n.mint.name i) ∙ ny in cc
 
+    dials_it : (u : TrunkId) → same_trunk u t0 ≡ true → Dials n e u y
+    dials_it u i = ((w, h), same_trunk_true u t0 i, stranger)
+
     begun : X o0
     begun = record {
       name = refl;
-      stays = λ u z v. by_test _ (same_trunk u t0) (λ i. inr (y, ((w, h), same_trunk_true u t0 i, stranger), record { side = s0; there = at u true i; peer = refl }))
+      stays = λ u z v. by_test _ (same_trunk u t0)
+          (λ i. inr (y, dials_it u i, record { side = s0; there = at u true i; peer = refl }))
           (λ i. inl (record { side = v.side; there = at u false i ∙ v.there; peer = v.peer }));
       sent = λ u z i c. absurd (nothing (Effect.Sent (Some u) z i) c);
       new = λ u a v j. by_test _ (same_trunk u t0)
-          (λ i. inr (subst (λ (z : TrunkSide). Dials n e u z.peer) (some_same s0 a (sym (at u true i)
-          ∙ j)) ((w, h), same_trunk_true u t0 i, stranger)))
+          (λ i. inr (subst (λ (z : TrunkSide). Dials n e u z.peer) (some_same s0 a (sym (at u true i) ∙ j)) (dials_it u i)))
           (λ i. absurd (none_some a (sym v ∙ sym (at u false i) ∙ j)));
     }
 
     dialed : X (write t0 y (send_name (identity n)) o0)
-    dialed = sends t0 y (Handshake (send_name (identity n))) o0 (record {
-      side = s0;
-      there = at t0 true
-          (same_trunk_is t0 t0 refl);
-      peer = refl;
-    }) begun
-
-  dials : (names : List Name) (y : Name) (w : ℕ) → e ≡ Dial y w → IfGoes (dial names n y w) X
-  dials names y w h = if_not_known (same_name y n.mint.name) _ Refusal.SelfDial X (λ i.
-      if_not (not (has_name y names)) _ Refusal.NothingThere X
-      (if_not (is_some (side_where (λ v. not (is_gone v)) y (fm.entries n.sides))) _ Refusal.Busy X
-      (if_not (not (nat_lt (n.dialed + 1) (2 ^ 64))) _ Refusal.IdsUsedUp X (dialed y w h i))))
+    dialed =
+        let v : Towards o0.node t0 y = record { side = s0; there = at t0 true (same_trunk_is t0 t0 refl); peer = refl } in
+        sends t0 y (Handshake (send_name (identity n))) o0 v begun
 
 pub bearings_kept : (names : List Name) (n : Node) (e : NodeEvent) → IfGoes (at_node names n e) (Bearings n e)
 bearings_kept names n e = at_node_keeps (New n e) (Bearings n e) (parts n e) (turned n e) (wrote n e) (opens n e) names n
     (idle n e n refl refl) e
     (rest e refl)
   where
-    rest : (d : NodeEvent) → e ≡ d → Rattle.dist_model.proofs.KeepEvents.Rest (New n e) (Bearings n e) (parts n e) (turned n e)
+    rest : (d : NodeEvent) → e ≡ d → Rest (New n e) (Bearings n e) (parts n e) (turned n e)
         (wrote n e) (opens n e) names n (idle n e n refl refl) d
     rest (Call c) h = tt
     rest (Arrive t None w) h = tt
@@ -278,7 +272,7 @@ bearings_kept names n e = at_node_keeps (New n e) (Bearings n e) (parts n e) (tu
     rest Local h = λ l. idle n e (record n { local = l }) refl refl
     rest (Lose t) h = tt
     rest Sweep h = tt
-    rest (Dial y w) h = dials n e names y w h
+    rest (Dial y w) h = dial_goes (Bearings n e) names n y w (λ ny busy. dialed n e y w h ny)
     rest Stop h = clears n e (stopped n) refl refl
     rest Start h = clears n e (started n) refl refl
 

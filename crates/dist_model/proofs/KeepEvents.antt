@@ -1,8 +1,9 @@
 -- What every part of an event keeps is kept by the event, at any node.
-use Rattle.std.proofs.Common.{◌≡◌, ◌+◌, ◌^◌, nat_lt, ℕ, Bool, true, false, cond, List, [], ◌∷◌, refl, sym, ap, ◌∙◌, subst, Option, Some, None}
+use Rattle.std.proofs.Common.{◌≡◌, ◌+◌, ◌^◌, nat_lt, ℕ, Bool, true, false, cond, not, List, [], ◌∷◌, refl, sym, ap, ◌∙◌, subst, Option, Some, None}
+use Rattle.std.specs.Option.{is_some}
 use Rattle.std.specs.FinMap as fm
 use Rattle.std.specs.FinMap.{FinMap}
-use Rattle.dist_model.proofs.Calls.{IfGoes, if_cond, if_not}
+use Rattle.dist_model.proofs.Calls.{IfGoes, if_cond, if_not, if_not_known}
 use Rattle.dist_model.proofs.Closing.{any_found, losing_is}
 use Rattle.dist_model.proofs.Ending.{last_posts}
 use Rattle.dist_model.proofs.Founding.{all_posts_keep, posts_keep}
@@ -11,33 +12,37 @@ use Rattle.dist_model.proofs.KeepParts.{Parts, call_keeps, item_keeps, record_ke
 use Rattle.dist_model.proofs.Sides.{side_at}
 use Rattle.dist_model.specs.Arrivals.{arrive, arrive_first, arrive_fresh, handshake_in, take_local}
 use Rattle.dist_model.specs.Commands.{Refuses}
-use Rattle.dist_model.specs.Dialing.{dial}
-use Rattle.dist_model.specs.Handshake.{set_state, with_side, write}
+use Rattle.dist_model.specs.Dialing.{dial, draw_trunk, has_name, next_trunk}
+use Rattle.dist_model.specs.Handshake.{identity, set_state, with_side, write}
 use Rattle.dist_model.specs.Incarnations.{started, stopped}
 use Rattle.dist_model.specs.Items.{Item, Signalled}
 use Rattle.erl_control.specs.Ends.{receiver_of}
 use Rattle.dist_model.specs.Keeping.{Towards}
 use Rattle.dist_model.specs.Losses.{any_side, least_record, sweep_by, sweep_record}
-use Rattle.dist_model.specs.Names.{Name}
-use Rattle.dist_model.specs.Node.{Node}
+use Rattle.dist_model.specs.Names.{Name, same_name}
+use Rattle.dist_model.specs.Node.{Node, side_where}
 use Rattle.dist_model.specs.NodeEvents.{Arrive, Call, Dial, Local, Lose, NodeEvent, Start, Stop, Sweep, at_node}
-use Rattle.dist_model.specs.Sides.{Gone, Losing, TrunkSide, is_losing, is_over}
+use Rattle.dist_model.specs.Sides.{AwaitsStatus, Gone, Losing, TrunkSide, is_gone, is_losing, is_over}
 use Rattle.dist_model.specs.Work.{Work, at_work}
+use Rattle.erl_handshake.specs.Roles.{send_name}
 use Rattle.erl_handshake.specs.declared.message.ShakeMsg.{ShakeMsg}
 use Rattle.erl_names.specs.Order.{trunk_cmp}
 use Rattle.erl_names.specs.declared.trunk.TrunkId.{TrunkId}
 use Rattle.erl_term.specs.declared.refusal.Refusal.{Refusal}
 
--- what is of the sides alone
-pub sides_parts : (P : FinMap trunk_cmp TrunkSide → Type 0) → Parts (λ o. P o.node.sides)
-sides_parts P = record {
-  posted = λ s o k. along (posts_keep (λ m. m.sides) (λ m l. refl) (receiver_of s).node (Signalled s) o) k;
+-- what is of the sides and of what was dialed alone
+pub outer_parts : (P : FinMap trunk_cmp TrunkSide → ℕ → Type 0) → Parts (λ o. P o.node.sides o.node.dialed)
+outer_parts P = record {
+  posted = λ s o k.
+      let y = (receiver_of s).node in
+      along (posts_keep (λ m. m.sides) (λ m l. refl) y (Signalled s) o) (posts_keep (λ m. m.dialed) (λ m l. refl) y (Signalled s) o) k;
   end_set = λ p q e o l k. k;
   drew = λ d o k. k;
   life_set = λ p l o h k. k;
   message = λ p m o k. k;
   reacted = λ p q x o k. k;
-  finished = λ p x o k. along (all_posts_keep (λ m. m.sides) (λ m l. refl) (last_posts p x o) o) k;
+  finished = λ p x o k. along (all_posts_keep (λ m. m.sides) (λ m l. refl) (last_posts p x o) o)
+      (all_posts_keep (λ m. m.dialed) (λ m l. refl) (last_posts p x o) o) k;
   registers = λ r m o l k. k;
   unregisters = λ r o k. k;
   watches = λ r m o l k. k;
@@ -45,8 +50,19 @@ sides_parts P = record {
   spawned = λ n p k. k;
 }
   where
-    along : {a b : FinMap trunk_cmp TrunkSide} → a ≡ b → P b → P a
-    along e k = subst P (sym e) k
+    along : {a b : FinMap trunk_cmp TrunkSide} {c d : ℕ} → a ≡ b → c ≡ d → P b d → P a c
+    along {a} {b} {c} {d} e f k = subst (λ z. P z c) (sym e) (subst (P b) (sym f) k)
+
+-- a node dials another, where its sides towards that are gone
+pub dial_goes : (X : Work → Type 0) (names : List Name) (n : Node) (y : Name) (w : ℕ)
+    → (same_name y n.mint.name ≡ false → is_some (side_where (λ v. not (is_gone v)) y (fm.entries n.sides)) ≡ false
+    → X (write (next_trunk n) y (send_name (identity n))
+    (with_side (next_trunk n) (record { peer = y; peer_creation = 0; state = AwaitsStatus w }) (at_work (draw_trunk n)))))
+    → IfGoes (dial names n y w) X
+dial_goes X names n y w f = if_not_known (same_name y n.mint.name) _ Refusal.SelfDial X (λ i.
+    if_not (not (has_name y names)) _ Refusal.NothingThere X
+    (if_not_known (is_some (side_where (λ v. not (is_gone v)) y (fm.entries n.sides))) _ Refusal.Busy X (λ j.
+    if_not (not (nat_lt (n.dialed + 1) (2 ^ 64))) _ Refusal.IdsUsedUp X (f i j))))
 
 module _ (New : TrunkId → Name → Type 0) (X : Work → Type 0) (c : Parts X)
     (side : (t : TrunkId) (s : TrunkSide) (o : Work) → TurnedBy New o.node t s → Roomy o.node t s → X o → X (with_side t s o))
@@ -88,7 +104,8 @@ module _ (New : TrunkId → Name → Type 0) (X : Work → Type 0) (c : Parts X)
       let y = d.1.peer in
       let f = any_found is_losing (fm.entries n.sides) d (fm.entries_sorted n.sides) h in
       let o = sweep_record (least_record y n) (at_work n) in
-      let same : o.node.sides ≡ n.sides = record_keeps (λ o. o.node.sides ≡ n.sides) (sides_parts (λ m. m ≡ n.sides)) y (at_work n) refl in
+      let same : o.node.sides ≡ n.sides =
+      record_keeps (λ o. o.node.sides ≡ n.sides) (outer_parts (λ m d. m ≡ n.sides)) y (at_work n) refl in
       let at : side_at o.node d.0 ≡ Some d.1 = ap (λ m. fm.get m d.0) same ∙ fm.get-entries n.sides d.0 ∙ f.0 in
       let kept = record_keeps X c y (at_work n) k in
       swept_kept New X side wrote d.0 d.1 o at (opens d.0 d.1 o at (losing_is d.1.state f.1) kept) kept

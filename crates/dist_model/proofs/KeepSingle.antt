@@ -1,26 +1,26 @@
 -- Of the sides towards one peer there is one, or one that waits for the end of another, whatever event comes to the node.
-use Rattle.std.proofs.Common.{◌≡◌, ◌+◌, ◌^◌, nat_lt, ℕ, Bool, true, false, cond, not, refl, sym, ap, ◌∙◌, ◌&&◌, ◌||◌, Option, Some, None, ◌⊎◌, inl, inr, subst, List}
-use Rattle.std.specs.Option.{is_some}
+use Rattle.std.proofs.Common.{◌≡◌, nat_lt, ℕ, Bool, true, false, cond, not, refl, sym, ap, ◌∙◌, ◌&&◌, ◌||◌, Option, Some, None, ◌⊎◌, inl, inr, subst, List}
 use Rattle.std.specs.Ordering.{is_gt}
 use Rattle.std.specs.FinMap as fm
 use Rattle.conn_core.specs.declared.arrival.Fault.{Fault}
-use Rattle.dist_model.proofs.Calls.{IfGoes, if_not, if_not_known}
+use Rattle.dist_model.proofs.Calls.{IfGoes}
 use Rattle.dist_model.proofs.Closing.{gone_side, gone_sides}
 use Rattle.dist_model.proofs.Handshaking.{Aged, Fresh, Roomy, Shut, TurnedBy, Unparks, as_state, asks_beside}
+use Rattle.dist_model.proofs.KeepEvents.{dial_goes}
 use Rattle.dist_model.proofs.NewSides.{all_none, none_case, not_not}
 use Rattle.dist_model.proofs.Reside.{if_trunk, side_after_other, side_after_same, single_after}
-use Rattle.dist_model.proofs.Routes.{none_some, side_where_found, side_where_none, some_same}
+use Rattle.dist_model.proofs.Routes.{Found, none_some, side_where_found, some_same}
 use Rattle.dist_model.proofs.Rules.{accepts, awaits_name, greet, greet_dialing, greet_up, greet_waiting, name_as}
 use Rattle.dist_model.proofs.Sides.{Single, asks, beside, holds, holds_kinds, side_at}
 use Rattle.dist_model.specs.Admission.{give_up}
 use Rattle.dist_model.specs.Arrivals.{arrive_fresh}
 use Rattle.dist_model.specs.Commands.{Outcome}
-use Rattle.dist_model.specs.Dialing.{dial, draw_trunk, has_name, next_trunk}
+use Rattle.dist_model.specs.Dialing.{dial, draw_trunk, next_trunk}
 use Rattle.dist_model.specs.Handshake.{fault, set_state, with_side, write}
 use Rattle.dist_model.specs.Incarnations.{stopped}
 use Rattle.dist_model.specs.Items.{Handshake, Item}
 use Rattle.dist_model.specs.Keeping.{Towards}
-use Rattle.dist_model.specs.Names.{Name, same_name}
+use Rattle.dist_model.specs.Names.{Name}
 use Rattle.dist_model.specs.Node.{Node, side_where}
 use Rattle.dist_model.specs.Sides.{Accepting, Asked, AwaitsAck, AwaitsChallenge, AwaitsStatus, Gone, Losing, Parked, State, TrunkSide, Up, is_dialing, is_gone, is_waiting}
 use Rattle.dist_model.specs.Work.{Work}
@@ -31,7 +31,6 @@ use Rattle.erl_handshake.specs.declared.message.ShakeMsg.{ShakeMsg}
 use Rattle.erl_handshake.specs.declared.status.Status.{Status}
 use Rattle.erl_names.specs.Order.{name_cmp}
 use Rattle.erl_names.specs.declared.trunk.TrunkId.{TrunkId}
-use Rattle.erl_term.specs.declared.refusal.Refusal.{Refusal}
 
 -- ---- states
 
@@ -152,8 +151,8 @@ pub opens : (t : TrunkId) (s : TrunkSide) (o : Work) → side_at o.node t ≡ So
     → Unparks NoNew X turned wrote s.peer (set_state t s Gone o)
 opens t s o at los k u b w f p i j = single_after ((set_state t s Gone o).node) u (as_state b (Accepting w)) j room
   where
-    was : (x : TrunkId) (v : TrunkSide) → side_at ((set_state t s Gone o).node) x ≡ Some v → holds v.state ≡ true → (x ≡ t
-        → ⊥) × (side_at o.node x ≡ Some v)
+    was : (x : TrunkId) (v : TrunkSide) → side_at ((set_state t s Gone o).node) x ≡ Some v → holds v.state ≡ true
+        → (x ≡ t → ⊥) × (side_at o.node x ≡ Some v)
     was x v h hv = if_trunk t _ x
         (λ e.
         let c : as_state s Gone ≡ v = some_same (as_state s Gone) v (sym (side_after_same o.node t (as_state s Gone))
@@ -174,8 +173,7 @@ opens t s o at los k u b w f p i j = single_after ((set_state t s Gone o).node) 
         other x v a.0 hv (k t x s v at a.1 (sym p ∙ sym q) (ap is_gone los) (holds_kinds v.state hv).0)
 
     room : (x : TrunkId) (v : TrunkSide) → side_at ((set_state t s Gone o).node) x ≡ Some v → v.peer ≡ b.peer → (x ≡ u → ⊥)
-        → is_gone (Accepting w) ≡ false
-        → is_gone v.state ≡ false → beside (Accepting w) v.state ≡ true
+        → is_gone (Accepting w) ≡ false → is_gone v.state ≡ false → beside (Accepting w) v.state ≡ true
     room x v h q d gs gv = absurd (pick x v h q d (j u x b v f h (sym q) (ap is_gone i) gv))
 
 -- ---- a new side
@@ -209,8 +207,8 @@ none_left test y e o g there alone h k u v hv p = pick (still e o u v hv)
     old false i d j = i
     old true i d j =
         let f = side_where_found test y (fm.entries o.node.sides) e (fm.entries_sorted o.node.sides) h in
-        absurd (one (k e.0 u e.1 v (fm.get-entries o.node.sides e.0 ∙ f.there) j (f.peer
-        ∙ sym p) (there e.1.state f.passes) (there v.state i)) d f.passes i)
+        let at : side_at o.node e.0 ≡ Some e.1 = fm.get-entries o.node.sides e.0 ∙ f.there in
+        absurd (one (k e.0 u e.1 v at j (f.peer ∙ sym p) (there e.1.state f.passes) (there v.state i)) d f.passes i)
 
     pick : (v.state ≡ Gone) ⊎ ((u ≡ e.0 → ⊥) × (side_at o.node u ≡ Some v)) → test v.state ≡ false
     pick (inl i) = ap test i ∙ g
@@ -241,7 +239,8 @@ module _ (t : TrunkId) (s : TrunkSide) (w : ℕ) where
   dialed_by (Some e) x o h a b k = if_either (is_gt (name_cmp t.dialer o.node.mint.name)) _ _
       (accepted (ShakeMsg.Status Status.OkSimultaneous) x (give_up (Some e) o) (none_still is_waiting s.peer e o refl a)
       (none_still holds s.peer e o refl b)
-      (none_left is_dialing s.peer e o refl dialing_there (λ p q i j. dialing_alone p q i) h k) (goes e.0 (as_state e.1 Gone) o refl k))
+      (none_left is_dialing s.peer e o refl dialing_there (λ p q i j. dialing_alone p q i) h k)
+      (goes e.0 (as_state e.1 Gone) o refl k))
       (goes t (as_state s Gone) o refl k)
 
   connected_by : (d : Option (TrunkId × TrunkSide)) (x : Item) (o : Work) → side_where holds s.peer (fm.entries o.node.sides) ≡ d
@@ -249,7 +248,7 @@ module _ (t : TrunkId) (s : TrunkSide) (w : ℕ) where
   connected_by None x o h a k = dialed_by (side_where is_dialing s.peer (fm.entries o.node.sides)) x o refl a (no_side holds s.peer o h) k
   connected_by (Some e) x o h a k = single_after o.node t (as_state s (Asked w)) k room
     where
-      f : Rattle.dist_model.proofs.Routes.Found holds s.peer (fm.entries o.node.sides) e
+      f : Found holds s.peer (fm.entries o.node.sides) e
       f = side_where_found holds s.peer (fm.entries o.node.sides) e (fm.entries_sorted o.node.sides) h
 
       at : side_at o.node e.0 ≡ Some e.1
@@ -262,8 +261,7 @@ module _ (t : TrunkId) (s : TrunkSide) (w : ℕ) where
           let c : true ≡ false = sym (asks_waits v.state (holds_beside e.1.state v.state f.passes i)) ∙ a u v hv p in cc
 
       room : (u : TrunkId) (v : TrunkSide) → side_at o.node u ≡ Some v → v.peer ≡ s.peer → (u ≡ t → ⊥) → is_gone (Asked w) ≡ false
-          → is_gone v.state ≡ false
-          → beside (Asked w) v.state ≡ true
+          → is_gone v.state ≡ false → beside (Asked w) v.state ≡ true
       room u v hv p d gs gv = pick u v hv p (k e.0 u e.1 v at hv (f.peer ∙ sym p) (holds_kinds e.1.state f.passes).0 gv)
 
   greeted : (x : Item) (o : Work) → NoSide is_waiting s.peer o → X o → IfGoes (greet t s w x o) X
@@ -273,21 +271,21 @@ module _ (t : TrunkId) (s : TrunkSide) (w : ℕ) where
       → IfGoes (greet_waiting d t s w x o) X
   waited_by None x o h k = greeted x o (no_side is_waiting s.peer o h) k
   waited_by (Some e) x o h k = if_either (nat_lt e.0.count t.count) _ _
-      (greeted x (give_up (Some e) o) (none_left is_waiting s.peer e o refl
-      (λ v i. (waiting_kinds v i).0) waiting_beside h k) (goes e.0 (as_state e.1 Gone) o refl k))
+      (greeted x (give_up (Some e) o) (none_left is_waiting s.peer e o refl (λ v i. (waiting_kinds v i).0) waiting_beside h k)
+      (goes e.0 (as_state e.1 Gone) o refl k))
       (goes t (as_state s Gone) o refl k)
 
-no_name : (t : TrunkId) (o : Work) → X o → IfGoes (fault (Fault.Shake ShakeFault.BadMessage) t
-    (record { peer = t.dialer; peer_creation = 0; state = Gone }) o) X
+no_name : (t : TrunkId) (o : Work) → X o
+    → IfGoes (fault (Fault.Shake ShakeFault.BadMessage) t (record { peer = t.dialer; peer_creation = 0; state = Gone }) o) X
 no_name t o k = goes t (record { peer = t.dialer; peer_creation = 0; state = Gone }) o refl k
 
 named : (t : TrunkId) (m : ShakeMsg) (w : ℕ) (o : Work) → X o → IfGoes (awaits_name t m w o) X
 named t (ShakeMsg.SendName flags creation name) w o k =
     let s : TrunkSide = record { peer = t.dialer; peer_creation = creation; state = Gone } in
+    let x = Handshake (ShakeMsg.SendName flags creation name) in
     if_either (is_same name t.dialer) _ _
     (if_either (has_all_of flags mandatory) _ _
-    (waited_by t s w (side_where is_waiting t.dialer (fm.entries o.node.sides)) (Handshake
-    (ShakeMsg.SendName flags creation name)) o refl k)
+    (waited_by t s w (side_where is_waiting t.dialer (fm.entries o.node.sides)) x o refl k)
     (goes t (as_state s Gone) o refl k))
     (goes t (as_state s Gone) o refl k)
 named t (ShakeMsg.Status Status.Ok) w o k = no_name t o k
@@ -308,13 +306,11 @@ single_fresh (Some m) t w o k = subst (λ z. IfGoes z X) (sym (name_as t m w o))
 -- ---- a node dials, or ends
 
 pub single_dial : (names : List Name) (n : Node) (y : Name) (w : ℕ) → Single n.sides → IfGoes (dial names n y w) X
-single_dial names n y w k = if_not (same_name y n.mint.name) _ Refusal.SelfDial X
-    (if_not (not (has_name y names)) _ Refusal.NothingThere X
-    (if_not_known (is_some (side_where (λ v. not (is_gone v)) y (fm.entries n.sides))) _ Refusal.Busy X (λ busy.
-    if_not (not (nat_lt (n.dialed + 1) (2 ^ 64))) _ Refusal.IdsUsedUp X
-    (single_after (draw_trunk n) (next_trunk n) (record { peer = y; peer_creation = 0; state = AwaitsStatus w }) k
-    (λ u v h p d gs gv. let c : true ≡ false = sym (not_not (is_gone v.state) (all_none
-    (λ v. not (is_gone v)) y n (none_case _ busy) u v h p)) ∙ gv in cc)))))
+single_dial names n y w k = dial_goes X names n y w (λ i busy.
+    single_after (draw_trunk n) (next_trunk n) (record { peer = y; peer_creation = 0; state = AwaitsStatus w }) k
+    (λ u v h p d gs gv.
+    let g = not_not (is_gone v.state) (all_none (λ v. not (is_gone v)) y n (none_case _ busy) u v h p) in
+    let c : true ≡ false = sym g ∙ gv in cc))
 
 pub single_stopped : (n : Node) → Single ((stopped n).sides)
 single_stopped n t u s v hs hv p gs gv = absurd (go (side_at n t) (sym (gone_sides n t) ∙ hs))

@@ -1,12 +1,12 @@
 -- A node stays steady, whatever event comes to it.
-use Rattle.std.proofs.Common.{◌≡◌, Bool, true, false, not, List, refl, sym, ap, ◌∙◌, ◌+◌, ◌^◌, nat_lt, ◌&&◌, ◌||◌, Some, None, ◌⊎◌, inl, inr, ℕ}
+use Rattle.std.proofs.Common.{◌≡◌, Bool, true, false, not, List, refl, sym, ap, ◌∙◌, ◌&&◌, ◌||◌, Some, None, ◌⊎◌, inl, inr, ℕ}
 use Rattle.std.specs.FinMap as fm
-use Rattle.std.specs.Option.{is_some}
-use Rattle.dist_model.proofs.Calls.{IfGoes, if_not}
+use Rattle.dist_model.proofs.Calls.{IfGoes}
 use Rattle.dist_model.proofs.Handshaking.{Roomy, Turned, Unparks, as_state, fresh_kept}
 use Rattle.dist_model.proofs.KeepAlive.{Alive, alive_aside, alive_parts, all_alive}
 use Rattle.dist_model.proofs.KeepBearings.{if_accepted}
-use Rattle.dist_model.proofs.KeepEvents.{Rest, at_node_keeps, sides_parts}
+use Rattle.dist_model.proofs.KeepEvents.{Rest, at_node_keeps, dial_goes, outer_parts}
+use Rattle.dist_model.proofs.KeepParts.{Parts}
 use Rattle.dist_model.proofs.KeepSingle
 use Rattle.dist_model.proofs.KeepSingle.{NoNew, single_dial, single_fresh, single_stopped}
 use Rattle.dist_model.proofs.Routes.{none_some}
@@ -14,12 +14,12 @@ use Rattle.dist_model.proofs.Sides.{Single, asks, beside, holds, holds_kinds, si
 use Rattle.dist_model.specs.Arrivals.{handshake_in}
 use Rattle.dist_model.specs.Commands.{Accepts}
 use Rattle.dist_model.specs.declared.report.Answer.{Answer}
-use Rattle.dist_model.specs.Dialing.{dial, draw_trunk, has_name, next_trunk}
+use Rattle.dist_model.specs.Dialing.{draw_trunk, next_trunk}
 use Rattle.dist_model.specs.Handshake.{set_state, with_side, write}
 use Rattle.dist_model.specs.Incarnations.{started, stopped}
 use Rattle.dist_model.specs.Keeping.{Steady, Towards, is_attempt, is_engaged}
-use Rattle.dist_model.specs.Names.{Name, same_name}
-use Rattle.dist_model.specs.Node.{Node, side_where}
+use Rattle.dist_model.specs.Names.{Name}
+use Rattle.dist_model.specs.Node.{Node}
 use Rattle.dist_model.specs.NodeEvents.{Arrive, Call, Dial, Local, Lose, NodeEvent, Start, Stop, Sweep, at_node}
 use Rattle.dist_model.specs.Runs.{new_node}
 use Rattle.dist_model.specs.Sides.{Accepting, Asked, AwaitsAck, AwaitsChallenge, AwaitsStatus, Gone, Losing, Parked, State, TrunkSide, Up, is_gone}
@@ -27,7 +27,6 @@ use Rattle.dist_model.specs.Work.{Work, at_work}
 use Rattle.erl_handshake.specs.declared.message.ShakeMsg.{ShakeMsg}
 use Rattle.erl_names.specs.Order.{trunk_cmp}
 use Rattle.erl_names.specs.declared.trunk.TrunkId.{TrunkId}
-use Rattle.erl_term.specs.declared.refusal.Refusal.{Refusal}
 
 -- ---- the two tests of a state are one that stands beside
 
@@ -88,19 +87,19 @@ none_holds false q true false h k b = cc
 none_holds false q false false h k b = cc
 
 engaged_apart : (x y : State) → is_engaged x ≡ true → is_engaged y ≡ true → beside x y ≡ true → ⊥
-engaged_apart x y h k b = none_asks (holds x) (asks y) (asks x) (holds y) (sym (engaged_asks x (engaged_there x h))
-    ∙ h) (sym (engaged_asks y (engaged_there y k)) ∙ k) b
+engaged_apart x y h k b = none_asks (holds x) (asks y) (asks x) (holds y)
+    (sym (engaged_asks x (engaged_there x h)) ∙ h) (sym (engaged_asks y (engaged_there y k)) ∙ k) b
 
 attempts_apart : (x y : State) → is_attempt x ≡ true → is_attempt y ≡ true → beside x y ≡ true → ⊥
-attempts_apart x y h k b = none_holds (holds x) (asks y) (asks x) (holds y) (sym (attempt_holds x (attempt_there x h))
-    ∙ h) (sym (attempt_holds y (attempt_there y k)) ∙ k) b
+attempts_apart x y h k b = none_holds (holds x) (asks y) (asks x) (holds y)
+    (sym (attempt_holds x (attempt_there x h)) ∙ h) (sym (attempt_holds y (attempt_there y k)) ∙ k) b
 
 steady_of : (n : Node) → Single n.sides → Alive n → Steady n
 steady_of n k a = record {
-  engaged = λ t u s v hs hv p es ev. pick t u s v (engaged_apart s.state v.state es ev) (k t u s v hs hv p (engaged_there s.state es)
-      (engaged_there v.state ev));
-  attempts = λ t u s v hs hv p es ev. pick t u s v (attempts_apart s.state v.state es ev) (k t u s v hs hv p (attempt_there s.state es)
-      (attempt_there v.state ev));
+  engaged = λ t u s v hs hv p es ev. pick t u s v (engaged_apart s.state v.state es ev)
+      (k t u s v hs hv p (engaged_there s.state es) (engaged_there v.state ev));
+  attempts = λ t u s v hs hv p es ev. pick t u s v (attempts_apart s.state v.state es ev)
+      (k t u s v hs hv p (attempt_there s.state es) (attempt_there v.state ev));
   ends = a.ends;
   owners = a.owners;
   targets = a.targets;
@@ -130,11 +129,14 @@ single_of n k t u s v hs hv p gs gv = go (asks s.state) (asks v.state) (holds s.
 
 -- ---- the sides
 
+abbrev single_parts : Parts KeepSingle.X
+single_parts = outer_parts (λ m d. Single m)
+
 single_kept : (names : List Name) (n : Node) (e : NodeEvent) → Single n.sides → IfGoes (at_node names n e) KeepSingle.X
-single_kept names n e k = at_node_keeps NoNew KeepSingle.X
-    (sides_parts Single) KeepSingle.turned KeepSingle.wrote KeepSingle.opens names n k e (rest e)
+single_kept names n e k =
+    at_node_keeps NoNew KeepSingle.X single_parts KeepSingle.turned KeepSingle.wrote KeepSingle.opens names n k e (rest e)
   where
-    rest : (d : NodeEvent) → Rest NoNew KeepSingle.X (sides_parts Single) KeepSingle.turned KeepSingle.wrote KeepSingle.opens names n k d
+    rest : (d : NodeEvent) → Rest NoNew KeepSingle.X single_parts KeepSingle.turned KeepSingle.wrote KeepSingle.opens names n k d
     rest (Call c) = tt
     rest (Arrive t None w) = tt
     rest (Arrive t (Some i) w) = λ at. single_fresh (handshake_in i) t w (at_work n) k
@@ -166,14 +168,6 @@ opens : (t : TrunkId) (s : TrunkSide) (o : Work) → side_at o.node t ≡ Some s
     → Unparks AnyNew Y turned wrote s.peer (set_state t s Gone o)
 opens t s o h e k u b w f p i j = aside u (as_state b (Accepting w)) (set_state t s Gone o) j
 
-alive_dial : (names : List Name) (n : Node) (y : Name) (w : ℕ) → Alive n → IfGoes (dial names n y w) Y
-alive_dial names n y w k = if_not (same_name y n.mint.name) _ Refusal.SelfDial Y
-    (if_not (not (has_name y names)) _ Refusal.NothingThere Y
-    (if_not (is_some (side_where (λ v. not (is_gone v)) y (fm.entries n.sides))) _ Refusal.Busy Y
-    (if_not (not (nat_lt (n.dialed + 1) (2 ^ 64))) _ Refusal.IdsUsedUp Y
-    (aside (next_trunk n) (record { peer = y; peer_creation = 0; state = AwaitsStatus w }) (at_work (draw_trunk n)) (alive_aside n
-    (draw_trunk n) refl refl refl refl k)))))
-
 alive_kept : (names : List Name) (n : Node) (e : NodeEvent) → Alive n → IfGoes (at_node names n e) Y
 alive_kept names n e k = at_node_keeps AnyNew Y alive_parts turned wrote opens names n k e (rest e)
   where
@@ -184,14 +178,16 @@ alive_kept names n e k = at_node_keeps AnyNew Y alive_parts turned wrote opens n
     rest Local = λ l. alive_aside n (record n { local = l }) refl refl refl refl k
     rest (Lose t) = tt
     rest Sweep = tt
-    rest (Dial y w) = alive_dial names n y w k
+    rest (Dial y w) = dial_goes Y names n y w (λ i j.
+        aside (next_trunk n) (record { peer = y; peer_creation = 0; state = AwaitsStatus w }) (at_work (draw_trunk n))
+        (alive_aside n (draw_trunk n) refl refl refl refl k))
     rest Stop = all_alive (stopped n) refl refl refl
     rest Start = all_alive (started n) refl refl refl
 
 pub steady_kept : (names : List Name) (n : Node) (e : NodeEvent) (a : Answer) (o : Work) → Steady n → at_node names n e ≡ Accepts a o
     → Steady o.node
-steady_kept names n e a o k h = steady_of o.node (if_accepted KeepSingle.X (at_node names n e) a o h (single_kept names n e
-    (single_of n k)))
+steady_kept names n e a o k h = steady_of o.node
+    (if_accepted KeepSingle.X (at_node names n e) a o h (single_kept names n e (single_of n k)))
     (if_accepted Y (at_node names n e) a o h (alive_kept names n e (record { ends = k.ends; owners = k.owners; targets = k.targets })))
 
 pub steady_new : (x : Name) (cookie : List ℕ) → Steady (new_node x cookie)

@@ -76,4 +76,5 @@ pub mod KeepTaken
 pub mod KeepAlive
 pub mod KeepSingle
 pub mod KeepSteady
+pub mod KeepCounted
 pub mod Locality

@@ -1,6 +1,6 @@
 -- What any event leaves of its node, whichever node it is.
 -- (ERTS User's Guide, Distribution Protocol, Distribution Handshake. That sides stay once they are gone is own.)
-use Rattle.std.specs.Prelude.{◌≡◌, ◌≢◌, ◌⊎◌, ◌||◌, ℕ, Bool, true, false, None, Some, Contains}
+use Rattle.std.specs.Prelude.{◌≡◌, ◌≢◌, ◌≤◌, ◌⊎◌, ◌||◌, ℕ, Bool, true, false, None, Some, Contains}
 use Rattle.std.specs.FinMap as fm
 use Rattle.dist_model.specs.Commands.{Accepts, Outcome}
 use Rattle.dist_model.specs.Dialing.{next_trunk}
@@ -73,3 +73,13 @@ pub record Steady (node : Node) : Type 0 where
   pub ends : (p q : Pid) → end_of node p q ≢ End.None → living node p ≡ true
   pub owners : (r : Reference) (m : Monitor) → fm.get node.watches r ≡ Some m → living node m.owner ≡ true
   pub targets : (r : Reference) (m : Monitor) → fm.get node.registered r ≡ Some m → living node m.target ≡ true
+
+-- ---- the trunks of which a node is the dialer
+
+-- it has dialed those that it has sides of
+abbrev pub CountsOwn : Node → Type 0
+CountsOwn node = (t : TrunkId) (s : TrunkSide) → fm.get node.sides t ≡ Some s → t.dialer ≡ node.mint.name → t.count ≤ node.dialed
+
+-- no item comes of one that it has no side of
+abbrev pub ComesOfOthers : Node → NodeEvent → Type 0
+ComesOfOthers node event = (t : TrunkId) → Comes event t → t.dialer ≡ node.mint.name → fm.get node.sides t ≢ None

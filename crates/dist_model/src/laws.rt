@@ -38,7 +38,7 @@ ghost use Rattle.dist_model.specs.NodeEvents as event;
 ghost use Rattle.dist_model.specs.NodeEvents.{at_node};
 ghost use Rattle.dist_model.specs.Commands.{Accepts};
 ghost use Rattle.dist_model.specs.declared.report.Answer.{Answer};
-ghost use Rattle.dist_model.specs.Keeping.{Bearings, IsAccepted, Steady};
+ghost use Rattle.dist_model.specs.Keeping.{Bearings, ComesOfOthers, CountsOwn, IsAccepted, Steady, Towards};
 ghost use Rattle.dist_model.specs.Work.{Work, at_work};
 ghost use Rattle.dist_model.specs.Seen.{end_between, AreConnected};
 ghost use Rattle.dist_model.specs.Schedules as schedule;
@@ -353,4 +353,16 @@ pub fn nodes_stay_steady()
     ensures new { (name : Name) (cookie : List ℕ) → Steady (new_node name cookie) }
     ensures kept { (names : List Name) (node : Node) (now : event.NodeEvent) (answer : Answer) (work : Work) →
         Steady node → at_node names node now ≡ Accepts answer work → Steady work.node }
+{}
+
+/// Where a node has dialed each trunk of its own that it has a side of, the next that it dials is new
+/// to it, and so all its sides stay, with their peers. A new node is so, and any node stays so, but
+/// where an item comes of a trunk of its own that it has no side of. (own)
+pub fn own_trunks_are_counted()
+    ensures new { (name : Name) (cookie : List ℕ) → CountsOwn (new_node name cookie) }
+    ensures kept { (names : List Name) (node : Node) (now : event.NodeEvent) (answer : Answer) (work : Work) →
+        CountsOwn node → ComesOfOthers node now → at_node names node now ≡ Accepts answer work → CountsOwn work.node }
+    ensures stays { (names : List Name) (node : Node) (now : event.NodeEvent) (answer : Answer) (work : Work) →
+        CountsOwn node → at_node names node now ≡ Accepts answer work →
+        (trunk : TrunkId) (peer : Name) → Towards node trunk peer → Towards work.node trunk peer }
 {}

@@ -19,8 +19,8 @@ pub use laws::{
     every_report_is_safe, every_run_is_safe, exit_comes, late_down, late_exit, link_comes_about,
     link_is_taken_back, links_need_a_connection, living_means, moments, monitor_tells, monitors,
     news_is_told, no_link_to_the_dead, node_keeps_its_bearings, nodes_stay_steady, one_trunk,
-    order_is_kept, pending, quiet_test, reactions, refused_changes_nothing, restart_tells,
-    travelling_signals_fit,
+    order_is_kept, own_trunks_are_counted, pending, quiet_test, reactions, refused_changes_nothing,
+    restart_tells, travelling_signals_fit,
 };
 pub use links::Links;
 pub use report::{Answer, Effect, Kind, Report, Swept};
