@@ -1,11 +1,12 @@
 -- What is due to bytes, body by body.
-use Rattle.std.proofs.Common.{◌≡◌, ◌≢◌, ℕ, zero, suc, ◌+◌, ◌≤◌, List, [], ◌∷◌, ◌++◌, length, take, drop, Option, Some, None, Result, Ok, Err, refl, sym, ap, subst, ◌∙◌, append_assoc, arith, inl, inr}
+use Rattle.std.proofs.Common.{◌≡◌, ◌≢◌, ℕ, zero, suc, ◌+◌, ◌≤◌, List, [], ◌∷◌, ◌++◌, length, take, drop, Option, Some, None, Result, Ok, Err, refl, sym, ap, subst, ◌∙◌, ◌⊎◌, append_assoc, arith, inl, inr}
 use Rattle.std.proofs.lemmas.Bool.{cases_lt}
 use Rattle.std.proofs.lemmas.List.{take_at, drop_at, take-append-drop, length-append, length-take, length-drop, append-nil}
 use Rattle.byteorder.specs.Endian.{big_number}
 use Rattle.readers.specs.Reading.{AreBytes}
 use Rattle.readers.proofs.Sequence.{AreBytes-rest}
 use Rattle.readers.proofs.Places.{AreBytes-front}
+use Rattle.std.specs.Prelude.{IfOk, IfErr}
 use Rattle.erl_term.specs.Spelling.{IsNumber}
 use Rattle.erl_control.specs.declared.signal.Signal.{Signal}
 use Rattle.erl_control.specs.declared.signal.Item.{Item}
@@ -342,3 +343,21 @@ one_made one i j a b x y f g e =
       bodies_say one i j n.body (subst (IsBody i) bodies m.carries) n.carries,
       m.parts ∙ ap (λ (w : List ℕ). w ++ m.body) lens ∙ ap (λ (w : List ℕ). n.len ++ w) bodies ∙ sym n.parts,
     )
+
+abbrev pub OneAnswer : Type 0
+OneAnswer = (bytes : List ℕ) → AreBytes bytes → (due : Result (Option (Item × ℕ)) FrameError) × IsFrameDue bytes due × ((other : Result (Option (Item × ℕ)) FrameError) → IsFrameDue bytes other → other ≡ due)
+
+-- what is answered is what is due, unless memory ran out
+pub only_due : OneAnswer → (bytes : List ℕ) → AreBytes bytes → (a : Result (Option (Item × ℕ)) FrameError) → IfOk a (λ x. IsFrameDue bytes (Ok x)) → IfErr a (λ e. e ≢ OutOfMemory → IsFrameDue bytes (Err e)) → (due : Result (Option (Item × ℕ)) FrameError) → IsFrameDue bytes due → (a ≡ due) ⊎ (a ≡ Err OutOfMemory)
+only_due one bytes h a ok err due d = by a ok err
+  where
+    same : (b : Result (Option (Item × ℕ)) FrameError) → IsFrameDue bytes b → (b ≡ due) ⊎ (b ≡ Err OutOfMemory)
+    same b p = let u = one bytes h in inl (u.2 b p ∙ sym (u.2 due d))
+
+    by : (b : Result (Option (Item × ℕ)) FrameError) → IfOk b (λ x. IsFrameDue bytes (Ok x)) → IfErr b (λ e. e ≢ OutOfMemory → IsFrameDue bytes (Err e)) → (b ≡ due) ⊎ (b ≡ Err OutOfMemory)
+    by (Ok x) ok err = same (Ok x) ok
+    by (Err NotPassThrough) ok err = same (Err NotPassThrough) (err (λ e. cc))
+    by (Err BadControl) ok err = same (Err BadControl) (err (λ e. cc))
+    by (Err TooLong) ok err = same (Err TooLong) (err (λ e. cc))
+    by (Err (Term t)) ok err = same (Err (Term t)) (err (λ e. cc))
+    by (Err OutOfMemory) ok err = inr refl
