@@ -1,0 +1,5 @@
+pub mod Texts
+pub mod Lookups
+pub mod Own
+pub mod Edited
+pub mod Changed

@@ -1,0 +1,4 @@
+pub mod Lives
+pub mod Held
+pub mod Becomes
+pub mod Room
