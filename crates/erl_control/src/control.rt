@@ -1,17 +1,22 @@
-//! The text of a signal, read row by row where it lies. It takes no memory.
-ghost use Rattle.std.specs.Prelude.{IfOk, IfErr};
+//! The text of a signal, read row by row where it lies. No memory is asked for before the whole text
+//! stands there.
+ghost use Rattle.std.specs.Prelude.{◌≡◌, ◌≢◌, IfOk, IfErr, IsErrOf};
 ghost use Rattle.erl_term.specs.Parts.{ReadsFront};
+ghost use Rattle.erl_control.specs.declared.signal.Signal.{Signal as TheSignal};
+ghost use Rattle.erl_control.specs.declared.error.FrameError.{FrameError};
 ghost use Rattle.erl_control.specs.Numbers.{error_of};
 ghost use Rattle.erl_control.specs.Parts.{signal_in};
 ghost use Rattle.erl_control.specs.Reading.{IsRowHead, HasFields, IsSendText, IsText, HasNoText, IsTextFault, IsFitText};
 
-use crate::error::FrameFault;
+use crate::error::{FrameError, FrameFault};
 use crate::fields::{
     id_and_pids_at, pids_and_reason_at, pids_and_reference_at, pids_at,
     pids_reference_and_reason_at, row_head_at, send_and_message_at, send_at,
 };
+use crate::signal::Signal;
 use crate::signal_ref::SignalRef;
 use erl_term::{PidRef, TermRef, term_len};
+use std::alloc::Global;
 
 fn link_at(levels: u32, fields: &[u8]) -> Option<(SignalRef<'_>, &[u8])>
     ensures { ReadsFront (HasFields levels 1) fields.now result }
@@ -165,4 +170,23 @@ pub fn signal_at(text: &[u8]) -> Result<SignalRef<'_>, FrameFault>
         return Err(FrameFault::TooLong);
     }
     Ok(signal)
+}
+
+/// What [`signal_at`] answers, with memory of its own. The signal is made where it was read: it is
+/// large as it lies in the bytes, and moving it out first costs a fifth of the time.
+pub fn signal_of(alloc: Global, text: &[u8]) -> Result<Signal, FrameError>
+    ensures ok { IfOk result (λ signal. IsFitText signal text.now) }
+    ensures err { IfErr result (λ e. e ≢ FrameError.OutOfMemory → IsTextFault text.now e) }
+    ensures memory { IsErrOf result FrameError.OutOfMemory → (signal : TheSignal) × IsFitText signal text.now }
+{
+    let Some((signal, rest)) = text_at(text) else {
+        return Err(fault_of(text).into());
+    };
+    if !rest.is_empty() {
+        return Err(FrameError::BadControl);
+    }
+    if !signal.is_fit() {
+        return Err(FrameError::TooLong);
+    }
+    Ok(signal.to_signal(alloc)?)
 }

@@ -8,7 +8,7 @@ ghost use Rattle.erl_control.specs.Numbers.{error_of};
 ghost use Rattle.erl_control.specs.Parts.{item_in, answer_in};
 ghost use Rattle.erl_control.specs.Reading.{IsBody, IsBodyFault};
 
-use crate::control::signal_at;
+use crate::control::{signal_at, signal_of};
 use crate::error::{FrameError, FrameFault};
 use crate::laws::one_answer;
 use crate::signal::Item;
@@ -80,8 +80,6 @@ pub fn frame_at(bytes: &[u8]) -> Result<Option<(ItemRef<'_>, usize)>, FrameFault
     answer_at(bytes)
 }
 
-// A signal is made from where it lies in the bytes, before anything is put around it: what is read is
-// large, and moving it costs a sixth of the time.
 fn item_of(alloc: Global, body: &[u8]) -> Result<Item, FrameError>
     ensures ok { IfOk result (λ item. IsBody item body.now) }
     ensures err { IfErr result (λ e. e ≢ FrameError.OutOfMemory → IsBodyFault body.now e) }
@@ -89,7 +87,7 @@ fn item_of(alloc: Global, body: &[u8]) -> Result<Item, FrameError>
 {
     match body {
         [] => Ok(Item::Tick),
-        [112, text @ ..] => Ok(Item::Signal(signal_at(text)?.to_signal(alloc)?)),
+        [112, text @ ..] => Ok(Item::Signal(signal_of(alloc, text)?)),
         _ => Err(FrameError::NotPassThrough),
     }
 }
