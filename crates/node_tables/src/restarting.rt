@@ -1,5 +1,5 @@
 //! An incarnation stops, and the next one starts.
-ghost use Rattle.std.specs.Prelude.{◌≡◌, ◌+◌, ◌-◌, ◌^◌, ◌↔◌, true, false, OnOk, OnErr, IsErr};
+ghost use Rattle.std.specs.Prelude.{◌≡◌, ◌+◌, ◌-◌, ◌^◌, ◌↔◌, true, false, OnOk, OnErr, IsErr, IsOkUnless};
 ghost use Rattle.std.specs.FinMap as fm;
 ghost use Rattle.erl_names.specs.Minted.{nothing_drawn};
 ghost use Rattle.node_tables.specs.Held.{ends, lives};
@@ -32,6 +32,7 @@ impl Incarnation {
         ensures ends { OnOk result (ends self.new ≡ fm.empty) }
         ensures last { IsErr result ↔ (self.old.mint.creation ≡ 2 ^ 32 - 1) }
         ensures err { OnErr result (self.new ≡ self.old) }
+        ensures only { IsOkUnless result Refusal.IdsUsedUp }
     {
         self.mint.restart()?;
         self.held.clear();
