@@ -1,0 +1,4 @@
+pub mod Texts
+pub mod Placed
+pub mod Routing
+pub mod Ended

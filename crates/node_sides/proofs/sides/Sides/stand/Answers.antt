@@ -1,0 +1,53 @@
+use Rattle.std.proofs.Common.{refl, sym, ◌∙◌, subst, arith, List, set}
+use Rattle.conn_core.specs.declared.side.Side.{Side}
+use Rattle.erl_names.specs.Order.{trunk_cmp}
+use Rattle.sorted_map.specs.Entries.{IsFoundAt, IsGapAt}
+use Rattle.node_sides.proofs.Placed.{get_side, none_found, place_found, put_sides, put_sorted, set_puts, settled_set, stood_none, stood_there, there_found}
+use Rattle.node_sides.proofs.Routing.{stood_routed}
+use Rattle.node_sides.specs.Standings.{entries_of, side_of, sides_in}
+use Rattle.node_sides.proofs.sides.Sides.stand.Goals as goal
+
+pub index-requires : goal.index-requires
+index-requires c = omega (arith, place_found _ _ _ c.in-Ok.ensures.found, c.deref.ensures.len)
+
+pub index_mut-requires : goal.index_mut-requires
+index_mut-requires c = omega (arith, place_found _ _ _ c.in-Ok.ensures.found, c.deref.ensures.len)
+
+pub invariant_of-self : goal.invariant_of-self
+invariant_of-self c =
+    let it = c.args.self.now in
+    let held = it.held.items in
+    let q = c.args.trunk.now in
+    let at = c.in-Ok.at in
+    let was = c.index.result.now in
+    let x = c.index_mut.result.now in
+    let y : Side = record x { standing = c.args.standing } in
+    let found = subst (λ (l : List Side). IsFoundAt trunk_cmp (entries_of l) q at) c.deref.ensures.value c.in-Ok.ensures.found in
+    let puts = set_puts held q at x c.index_mut.ensures.value found y refl in
+    record {
+      sorted = put_sorted held (set held at y) q (side_of y) it.sorted puts;
+      settled = settled_set held at y c.requires.0 it.settled;
+      routed = stood_routed it.routes.entries c.close_route.new.routes.entries held (set held at y) q (side_of was) (side_of y) it.routed
+          (there_found held q at was c.index.ensures found) puts c.requires.1 c.close_route.ensures.up c.close_route.ensures.down;
+    }
+
+pub returns-in-Ok-clause-sides : goal.returns-in-Ok-clause-sides
+returns-in-Ok-clause-sides c =
+    let it = c.args.self.now in
+    let held = it.held.items in
+    let q = c.args.trunk.now in
+    let at = c.in-Ok.at in
+    let x = c.index_mut.result.now in
+    let y : Side = record x { standing = c.args.standing } in
+    let found = subst (λ (l : List Side). IsFoundAt trunk_cmp (entries_of l) q at) c.deref.ensures.value c.in-Ok.ensures.found in
+    put_sides held (set held at y) q (side_of y) it.sorted (set_puts held q at x c.index_mut.ensures.value found y refl)
+    ∙ sym (stood_there (sides_in held) q c.args.standing (side_of x) (get_side held q it.sorted ∙ there_found held q at x c.index_mut.ensures.value found))
+
+pub returns-in_default-clause-sides : goal.returns-in_default-clause-sides
+returns-in_default-clause-sides c =
+    let it = c.args.self.now in
+    let held = it.held.items in
+    let q = c.args.trunk.now in
+    let at = c.in_default.field-0 in
+    let gap = subst (λ (l : List Side). IsGapAt trunk_cmp (entries_of l) q at) c.deref.ensures.value c.in_default.ensures.gap in
+    sym (stood_none (sides_in held) q c.args.standing (get_side held q it.sorted ∙ none_found held q at it.sorted gap))

@@ -1,0 +1,4 @@
+pub mod Standings
+pub mod Sides
+pub mod Changes
+pub mod Passing

@@ -1,0 +1,82 @@
+//! What there is of the sides.
+ghost use Rattle.std.specs.Prelude.{◌≡◌, ◌+◌, ◌≤◌, ℕ, true, IfSome, IsOk, OnOk};
+ghost use Rattle.std.specs.FinMap as fm;
+ghost use Rattle.std.specs.Option.{option_copied, option_map};
+ghost use Rattle.dist_model.specs.Losses.{any_side};
+ghost use Rattle.dist_model.specs.Node.{route_in, side_where};
+ghost use Rattle.dist_model.specs.Sides.{is_losing};
+ghost use Rattle.node_sides.specs.Passing.{passes};
+ghost use Rattle.node_sides.specs.Sides.{HasRouteRoom, HasSideRoom, sides};
+ghost use Rattle.node_sides.specs.Standings.{entry_of, is_settled, side_of};
+
+use crate::lookup::place_in;
+use crate::seeking::{first_losing, first_towards};
+use crate::sides::Sides;
+use crate::which::Which;
+use conn_core::Side;
+use erl_names::TrunkId;
+use erl_term::Atom;
+use sorted_map::SortedMap;
+use std::alloc::{AllocError, Global};
+
+impl Sides {
+    /// No sides. Takes no memory.
+    pub fn new(alloc: Global) -> Sides
+        ensures { sides result ≡ fm.empty }
+    {
+        Sides {
+            held: Vec::new(alloc),
+            routes: SortedMap::new(alloc),
+        }
+    }
+
+    /// The side of a connection.
+    pub fn get(&self, trunk: &TrunkId) -> Option<&Side>
+        ensures side { option_map side_of (option_copied result) ≡ fm.get (sides self.now) trunk.now }
+        ensures trunk { IfSome (option_copied result) (λ side. side.trunk ≡ trunk.now) }
+        ensures settled { IfSome (option_copied result) (λ side. is_settled side.standing ≡ true) }
+    {
+        match place_in(&self.held, trunk) {
+            Ok(at) => Some(&self.held[at]),
+            Err(_) => None,
+        }
+    }
+
+    /// The connection that is up to a peer. (Reference Manual, Distributed Erlang.)
+    pub fn route(&self, peer: &Atom) -> Option<&TrunkId>
+        ensures { option_copied result ≡ route_in (fm.entries (sides self.now)) peer.now }
+    {
+        self.routes.get(peer)
+    }
+
+    /// The first side towards a peer that is sought. (ERTS User's Guide, Distribution Protocol,
+    /// Distribution Handshake.)
+    pub fn first_towards(&self, peer: &Atom, which: Which) -> Option<&Side>
+        ensures { option_map entry_of (option_copied result) ≡ side_where (passes which) peer.now (fm.entries (sides self.now)) }
+    {
+        first_towards(&self.held, peer, which)
+    }
+
+    /// The first side that is lost and isn't cleared away yet. (Reference Manual, Distributed Erlang.)
+    pub fn first_losing(&self) -> Option<&Side>
+        ensures { option_map entry_of (option_copied result) ≡ any_side is_losing (fm.entries (sides self.now)) }
+    {
+        first_losing(&self.held)
+    }
+
+    /// Makes room for so many more sides, and for as many more that are up.
+    ///
+    /// # Errors
+    /// Where there is no memory for it. Then no side has changed.
+    pub fn reserve(&mut self, additional: usize) -> Result<(), AllocError>
+        ensures sides { sides self.new ≡ sides self.old }
+        ensures side_room { OnOk result (HasSideRoom additional self.new) }
+        ensures route_room { OnOk result (HasRouteRoom additional self.new) }
+        ensures kept_sides { (more : ℕ) → HasSideRoom more self.old → HasSideRoom more self.new }
+        ensures kept_routes { (more : ℕ) → HasRouteRoom more self.old → HasRouteRoom more self.new }
+        ensures succeeds { HasSideRoom additional self.old → HasRouteRoom additional self.old → IsOk result }
+    {
+        self.held.reserve(additional)?;
+        self.routes.reserve(additional)
+    }
+}
