@@ -1,16 +1,17 @@
 -- What the processes of an incarnation are as maps: look-ups, and an edit at one place.
-use Rattle.std.proofs.Common.{◌≡◌, ◌≢◌, ℕ, zero, suc, ◌+◌, ◌<◌, Bool, true, false, cond, nat_eq, ◌&&◌, T, List, [], ◌∷◌, ◌++◌, Option, None, Some, refl, sym, ap, subst, ◌∙◌, arith}
+use Rattle.std.proofs.Common.{◌≡◌, ◌≢◌, ℕ, zero, suc, ◌+◌, ◌<◌, Bool, true, false, cond, nat_eq, ◌&&◌, T, List, [], ◌∷◌, ◌++◌, append-nil, append_assoc, length, Option, None, Some, refl, sym, ap, subst, ◌∙◌, arith}
 use Rattle.std.proofs.lemmas.Bool.Decides.{nat_tests}
 use Rattle.std.specs.Option.{option_map, option_and_then, option_or}
 use Rattle.std.specs.List.{slice_get}
 use Rattle.std.specs.declared.cmp.Ordering.{Ordering}
 use Rattle.std.specs.declared.cmp.Ordering.TheVariants.{Less, Equal, Greater}
 use Rattle.std.specs.Ordering.{is_eq, is_lt, ordering_then, nat_cmp, eq_by_cmp}
-use Rattle.std.specs.Cmp.{nat_cmp_total, tied_itself, unsigned_ties}
+use Rattle.std.specs.Cmp.{eq_by_cmp_equiv, nat_cmp_total, tied_itself, unsigned_ties}
 use Rattle.std.specs.Cmp.Lexicographic.{slice_cmp}
 use Rattle.std.specs.FinMap as fm
 use Rattle.std.specs.FinMap.Entries.{find, below_all, is_sorted}
 use Rattle.dist_model.specs.Names.{pair_cmp, same_name, same_pid}
+use Rattle.dist_model.specs.Node.{links_in}
 use Rattle.dist_model.proofs.Keys.{name_total, pid_total, same_pair}
 use Rattle.erl_names.specs.Ids.{pid_of}
 use Rattle.erl_names.specs.Minted.{Minted}
@@ -228,3 +229,63 @@ unfolding ends_in
 get_end m es p q =
     fm.get-from_sorted pair_cmp (ends_from m 1 es) (p, q) (ends_sorted m 1 es) ∙ find_end m es 1 p q
     ∙ ap (λ o. option_and_then (end_at q) (cond (is_own m p) o None)) (from_one es p.id)
+
+-- ---- the links of one process
+
+abbrev pub links_held : Option Life → List (Pid × End)
+links_held None = []
+links_held (Some e) = fm.entries (links_of e)
+
+links_both : (p : Pid) (xs ys : List ((Pid × Pid) × End)) → links_in (xs ++ ys) p ≡ links_in xs p ++ links_in ys p
+links_both p [] ys = refl
+links_both p (x ∷ xs) ys =
+    let here = cond (same_pid x.0.0 p) ((x.0.1, x.1) ∷ []) [] in
+    ap (λ l. here ++ l) (links_both p xs ys) ∙ sym (append_assoc here (links_in xs p) (links_in ys p))
+
+links_owned : (p P : Pid) (xs : List (Pid × End)) → links_in (owned P xs) p ≡ cond (same_pid p P) xs []
+links_owned p P [] = go (same_pid p P)
+  where
+    go : (b : Bool) → ◌≡◌ {A = List (Pid × End)} [] (cond b [] [])
+    go true = refl
+    go false = refl
+links_owned p P (x ∷ xs) =
+    ap (λ b. cond b ((x.0, x.1) ∷ []) [] ++ links_in (owned P xs) p) ((eq_by_cmp_equiv pid_total).symm P p)
+    ∙ ap (λ l. cond (same_pid p P) (x ∷ []) [] ++ l) (links_owned p P xs) ∙ go (same_pid p P)
+  where
+    go : (b : Bool) → cond b (x ∷ []) [] ++ cond b xs [] ≡ cond b (x ∷ xs) []
+    go true = refl
+    go false = refl
+
+links_from : (m : Minted) (es : List Life) (n : ℕ) (p : Pid) → links_in (ends_from m n es) p ≡ links_held (cond (is_own m p) (from_id es n p.id) None)
+unfolding from_id
+links_from m [] n p = go (is_own m p)
+  where
+    go : (o : Bool) → ◌≡◌ {A = List (Pid × End)} [] (links_held (cond o None None))
+    go true = refl
+    go false = refl
+links_from m (e ∷ es) n p =
+    links_both p (owned (pid_of m n) (fm.entries (links_of e))) (ends_from m (suc n) es)
+    ∙ ap (λ l. l ++ links_in (ends_from m (suc n) es) p) (links_owned p (pid_of m n) (fm.entries (links_of e)) ∙ ap (λ b. cond b (fm.entries (links_of e)) []) (at_id m n p))
+    ∙ ap (λ l. cond (is_own m p && nat_eq p.id n) (fm.entries (links_of e)) [] ++ l) (links_from m es (suc n) p)
+    ∙ go (is_own m p) (nat_eq p.id n) refl
+  where
+    go : (o i : Bool) → nat_eq p.id n ≡ i → cond (o && i) (fm.entries (links_of e)) [] ++ links_held (cond o (from_id es (suc n) p.id) None)
+        ≡ links_held (cond o (cond i (Some e) (from_id es (suc n) p.id)) None)
+    go false i h = refl
+    go true false h = refl
+    go true true h =
+        let same : p.id ≡ n = eq_of p.id n h in
+        ap (λ o. fm.entries (links_of e) ++ links_held o) (before_id es (suc n) p.id (omega arith)) ∙ append-nil _
+
+pub get_links : (m : Minted) (es : List Life) (p : Pid) → links_in (fm.entries (ends_in m es)) p ≡ links_held (life_in m es p)
+unfolding ends_in
+get_links m es p =
+    ap (λ xs. links_in xs p) (fm.entries-from_sorted pair_cmp (ends_from m 1 es) (ends_sorted m 1 es)) ∙ links_from m es 1 p
+    ∙ ap (λ o. links_held (cond (is_own m p) o None)) (from_one es p.id)
+
+none_of : (xs : List (Pid × End)) → 0 ≡ length xs → xs ≡ []
+none_of [] h = refl
+none_of (x ∷ xs) h = absurd (omega arith)
+
+pub no_links : ◌≡◌ {A = List (Pid × End)} (fm.entries (fm.empty {R = pid_cmp})) []
+no_links = none_of _ (sym (fm.len-empty pid_cmp End) ∙ fm.len-entries (fm.empty {X = End} {R = pid_cmp}))

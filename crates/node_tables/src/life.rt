@@ -1,5 +1,6 @@
 //! A process of the running incarnation.
 ghost use Rattle.std.specs.Prelude.{◌≡◌, Some};
+ghost use Rattle.std.specs.FinMap as fm;
 ghost use Rattle.dist_model.specs.Node.{is_living_life, traps_life};
 ghost use Rattle.link_core.specs.Ends.{end_of};
 ghost use Rattle.node_tables.specs.Lives.{life_of, links_of};
@@ -51,6 +52,17 @@ impl Life {
         match self {
             Life::Living { ends, .. } => ends.end(partner),
             Life::Ended(_) => End::None,
+        }
+    }
+
+    /// Its partners and the end towards each, in the order of the partners. One that has ended has no
+    /// links.
+    pub fn links(&self) -> &[(Pid, End)]
+        ensures { result.now ≡ fm.entries (links_of self.now) }
+    {
+        match self {
+            Life::Living { ends, .. } => ends.partners(),
+            Life::Ended(_) => &[],
         }
     }
 }

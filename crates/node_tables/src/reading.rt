@@ -2,7 +2,7 @@
 ghost use Rattle.std.specs.Prelude.{◌≡◌, unwrap_or};
 ghost use Rattle.std.specs.FinMap as fm;
 ghost use Rattle.std.specs.Option.{option_copied, option_map, option_and_then};
-ghost use Rattle.dist_model.specs.Node.{is_living_life, traps_life};
+ghost use Rattle.dist_model.specs.Node.{is_living_life, links_in, traps_life};
 ghost use Rattle.erl_term.specs.declared.term.Pid.{Pid as ThePid};
 ghost use Rattle.link_core.specs.declared.end.End.TheVariants as end;
 ghost use Rattle.node_tables.specs.Lives.{end_at, life_of};
@@ -66,6 +66,17 @@ impl Incarnation {
         match self.life(process) {
             Some(life) => life.end(partner),
             None => End::None,
+        }
+    }
+
+    /// The partners of a process and the end towards each, in the order of the partners. None where it
+    /// isn't living.
+    pub fn links(&self, process: &Pid) -> &[(Pid, End)]
+        ensures { result.now ≡ links_in (fm.entries (ends self.now)) process.now }
+    {
+        match life_in(&self.mint, &self.held, process) {
+            Some(life) => life.links(),
+            None => &[],
         }
     }
 }

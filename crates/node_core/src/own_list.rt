@@ -1,0 +1,68 @@
+//! The first item of the own list is planned, and carried out.
+ghost use Rattle.std.specs.Prelude.{◌≡◌, IfOk, List, ◌∷◌, MatchResult};
+ghost use Rattle.dist_model.specs.Names.{Name};
+ghost use Rattle.dist_model.specs.NodeEvents as event;
+ghost use Rattle.dist_model.specs.Arrivals.{take_local};
+ghost use Rattle.dist_model.specs.Items.{Item as TheItem};
+ghost use Rattle.dist_model.specs.NodeEvents.{at_node, if_up};
+ghost use Rattle.dist_model.specs.Work.{at_work};
+ghost use Rattle.node_plans.specs.Carried.{CarriesOut, IsBlank};
+ghost use Rattle.node_core.specs.Done.{Does};
+ghost use Rattle.node_plans.specs.Planned.{IsPlanned, IsRefused, Plans};
+ghost use Rattle.node_plans.specs.Room.{Fits};
+ghost use Rattle.node_plans.specs.Seen.{seen};
+
+use crate::taking_signals::take_first;
+use dist_model::Report;
+use erl_term::Refusal;
+use node_plans::{Frame, Node, Plan};
+use std::alloc::Global;
+
+// The first signal comes, at any node.
+fn take_first_if_up(alloc: Global, node: &Node, plan: &mut Plan) -> Result<(), Refusal>
+    requires blank { IsBlank plan.old }
+    requires taken { (first : TheItem) (rest : List TheItem) → (seen node.now).local ≡ first ∷ rest → CarriesOut plan.old (seen node.now) (at_work (record (seen node.now) { local = rest })) }
+    ensures { Plans (seen node.now) (if_up (seen node.now) (take_local (seen node.now) (seen node.now).local)) plan.new result }
+{
+    if !node.is_up() {
+        return Err(Refusal::NodeDown);
+    }
+    take_first(alloc, node, plan)
+}
+
+/// Plans that the first signal that travels from a node to itself comes. The node stays as it is but
+/// for its room. (Reference Manual, Processes, Delivery of Signals.)
+///
+/// # Errors
+/// [`Refusal::NodeDown`] at a node that has stopped, [`Refusal::NothingThere`] where nothing travels,
+/// and behind these [`Refusal::OutOfMemory`].
+pub fn plan_local(alloc: Global, node: &mut Node) -> Result<Plan, Refusal>
+    ensures same { seen node.new ≡ seen node.old }
+    ensures plan { (names : List Name) → let due = at_node names (seen node.old) event.Local in
+        MatchResult result (IsPlanned (seen node.old) due) (IsRefused due) }
+    ensures fits { IfOk result (Fits node.new) }
+{
+    let mut plan = Plan::new(alloc, true);
+    match take_first_if_up(alloc, node, &mut plan) {
+        Ok(()) => {}
+        Err(e) => return Err(e),
+    }
+    match node.reserve(&plan) {
+        Ok(()) => Ok(plan),
+        Err(_) => Err(Refusal::OutOfMemory),
+    }
+}
+
+/// The first signal that travels from a node to itself comes: planned, and carried out. (Reference
+/// Manual, Processes, Delivery of Signals.)
+///
+/// # Errors
+/// As [`plan_local`]. Then nothing has changed.
+pub fn local(alloc: Global, node: &mut Node) -> Result<Report<Frame>, Refusal>
+    ensures { (names : List Name) → Does (at_node names (seen node.old) event.Local) (seen node.old) (seen node.new) result }
+{
+    match plan_local(alloc, node) {
+        Ok(plan) => Ok(node.commit(alloc, plan)),
+        Err(e) => Err(e),
+    }
+}

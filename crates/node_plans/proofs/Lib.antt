@@ -1,0 +1,10 @@
+pub mod Texts
+pub mod Sendable
+pub mod Committing
+pub mod Posted
+pub mod Making
+pub mod Outcomes
+pub mod Sided
+pub mod Free
+pub mod Leaving
+pub mod Reactions

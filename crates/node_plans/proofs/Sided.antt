@@ -1,0 +1,54 @@
+-- A plan in which a side changes, or a message of the handshake is sent.
+use Rattle.std.proofs.Common.{◌≡◌, ℕ, List, [], ◌∷◌, ◌++◌, refl, sym, ap, subst, ◌∙◌}
+use Rattle.std.specs.FinMap.{FinMap}
+use Rattle.std.specs.declared.alloc.Global.{Global}
+use Rattle.std.specs.declared.vec.Vec.{Vec}
+use Rattle.dist_model.specs.Items.{Item}
+use Rattle.dist_model.specs.Node.{Node}
+use Rattle.dist_model.specs.Sides.{TrunkSide}
+use Rattle.dist_model.specs.Work.{Work, report}
+use Rattle.dist_model.specs.declared.report.Effect.{Effect}
+use Rattle.erl_names.specs.Order.{trunk_cmp}
+use Rattle.node_plans.specs.Carried.{Lets, LetsAll, Makes, sided}
+use Rattle.node_plans.specs.Frames.{shown}
+use Rattle.node_plans.specs.Plans.{sides_after}
+use Rattle.node_plans.specs.declared.plan.Plan.{Plan}
+use Rattle.node_sides.specs.Changes.{side_changed}
+use Rattle.node_sides.specs.declared.change.SideChange.{SideChange}
+use Rattle.node_plans.proofs.Posted.{map_push}
+
+one_more : (changes : List SideChange) (change : SideChange) (sides : FinMap trunk_cmp TrunkSide) → sides_after (changes ++ change ∷ []) sides ≡ side_changed change (sides_after changes sides)
+one_more [] change sides = refl
+one_more (first ∷ rest) change sides = one_more rest change (side_changed first sides)
+
+lets_more : (changes : List SideChange) (change : SideChange) (sides : FinMap trunk_cmp TrunkSide) → LetsAll changes sides → Lets change (sides_after changes sides) → LetsAll (changes ++ change ∷ []) sides
+lets_more [] change sides h k = (k, tt)
+lets_more (first ∷ rest) change sides h k = (h.0, lets_more rest change (side_changed first sides) h.1 k)
+
+module _ (plan : Plan) (m : Node) (work : Work) (h : Makes plan m work) where
+  sides_are : work.node.sides ≡ sides_after plan.sides.items m.sides
+  sides_are = ap (λ (n : Node). n.sides) h.node
+
+  pub changed_side : (change : SideChange) (changes : Vec SideChange Global) → Lets change work.node.sides → changes.items ≡ plan.sides.items ++ change ∷ []
+      → Makes (record plan { sides = changes }) m (sided change work)
+  changed_side change changes l e =
+      let more : side_changed change work.node.sides ≡ sides_after changes.items m.sides =
+      ap (side_changed change) sides_are ∙ sym (one_more plan.sides.items change m.sides) ∙ ap (λ xs. sides_after xs m.sides) (sym e) in
+      let P : List SideChange → Type 0 = (λ xs. LetsAll xs m.sides) in
+      record {
+        sound = record { suits = h.sound.suits; next = h.sound.next; sendable = h.sound.sendable };
+        sides = subst P (sym e) (lets_more plan.sides.items change m.sides h.sides (subst (Lets change) sides_are l));
+        dials = h.dials;
+        node = (λ i. record (h.node i) { sides = more i });
+        effects = h.effects;
+      }
+
+  pub reported : (effect : Effect Item) (effects : Vec (Effect (List ℕ)) Global) → effects.items ≡ plan.effects.items ++ shown effect ∷ []
+      → Makes (record plan { effects = effects }) m (report effect work)
+  reported effect effects e = record {
+    sound = record { suits = h.sound.suits; next = h.sound.next; sendable = h.sound.sendable };
+    sides = h.sides;
+    dials = h.dials;
+    node = h.node;
+    effects = e ∙ ap (λ xs. xs ++ shown effect ∷ []) h.effects ∙ sym (map_push shown work.effects effect);
+  }

@@ -1,0 +1,16 @@
+use Rattle.std.proofs.Common.{◌≡◌, take}
+use Rattle.dist_model.specs.Exits.{demonitors}
+use Rattle.dist_model.specs.Work.{Work, post_all}
+use Rattle.node_plans.specs.Carried.{CarriesOut}
+use Rattle.node_plans.specs.Seen.{seen}
+use Rattle.node_plans.proofs.plan.Plan.post_demonitors.Given as goal
+
+-- those so far have been told
+abbrev pub invariant-loop-reference : goal.invariant-loop-reference
+invariant-loop-reference l = record {
+  told : (work : Work) → CarriesOut l.fn.self (seen l.node) work → CarriesOut l.self (seen l.node) (post_all (demonitors l.process (take l.reference-index l.reference-items)) work);
+  answer : l.self.answer ≡ l.fn.self.answer;
+  change : l.self.change ≡ l.fn.self.change;
+  watches : l.self.watches ≡ l.fn.self.watches;
+  watchers : l.self.watchers ≡ l.fn.self.watchers;
+}

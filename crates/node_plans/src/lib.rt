@@ -1,0 +1,26 @@
+//! A node, and plans of what an event is to do to it.
+#![tactic(auto)]
+
+mod carrying;
+mod change;
+mod commit;
+mod ending;
+mod frame;
+mod names;
+mod node;
+mod opening;
+mod plan;
+mod planning;
+mod posting;
+mod reacting;
+mod reading;
+mod reserving;
+mod siding;
+mod telling;
+
+pub use change::{Change, Draws, LifeChange, LinkChange, MonitorChange};
+pub use frame::Frame;
+pub use names::{same_name, same_pid};
+pub use node::Node;
+pub use plan::Plan;
+pub use reacting::{no_connection, no_process};

@@ -1,0 +1,39 @@
+//! Names and pids compared.
+ghost use Rattle.std.specs.Prelude.{◌≡◌};
+ghost use Rattle.dist_model.specs.Names.{same_name, same_pid};
+ghost use Rattle.erl_control.specs.Ends.{receiver_of};
+
+use erl_control::Signal;
+use erl_term::{Atom, Pid};
+
+/// Whether the two are one name.
+#[tactic(auto, using(crate::proofs::Texts::same_text))]
+pub fn same_name(a: &Atom, b: &Atom) -> bool
+    ensures { result ≡ same_name a.now b.now }
+{
+    a == b
+}
+
+/// Whether the two are one pid.
+pub fn same_pid(a: &Pid, b: &Pid) -> bool
+    ensures { result ≡ same_pid a.now b.now }
+{
+    a.cmp(b).is_eq()
+}
+
+/// The process that a signal goes to.
+pub(crate) fn receiver(signal: &Signal) -> &Pid
+    ensures { result.now ≡ receiver_of signal.now }
+{
+    match signal {
+        Signal::Link { to, .. }
+        | Signal::Send { to, .. }
+        | Signal::Exit { to, .. }
+        | Signal::Exit2 { to, .. }
+        | Signal::Monitor { to, .. }
+        | Signal::Demonitor { to, .. }
+        | Signal::MonitorExit { to, .. }
+        | Signal::UnlinkId { to, .. }
+        | Signal::UnlinkIdAck { to, .. } => to,
+    }
+}

@@ -1,0 +1,26 @@
+//! What an event is to do to a node.
+
+use crate::change::{Change, Draws, MonitorChange};
+use crate::frame::Frame;
+use dist_model::{Answer, Effect};
+use erl_control::Signal;
+use node_sides::SideChange;
+
+/// What an event is to do to a node, what it answers and what it brings about. All refusals are
+/// behind it, and all its memory is there.
+#[derive(Drop)]
+pub struct Plan {
+    pub(crate) draws: Draws,
+    pub(crate) change: Change,
+    pub(crate) watches: MonitorChange,
+    pub(crate) watchers: MonitorChange,
+    /// Whether the first item of the own list is taken.
+    pub(crate) pops: bool,
+    pub(crate) local: Vec<Signal>,
+    /// What becomes of the sides, one after the other.
+    pub(crate) sides: Vec<SideChange>,
+    /// Whether the node dials on a new connection.
+    pub(crate) dials: bool,
+    pub(crate) answer: Answer,
+    pub(crate) effects: Vec<Effect<Frame>>,
+}

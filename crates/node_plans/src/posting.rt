@@ -1,0 +1,70 @@
+//! A signal is sent.
+ghost use Rattle.std.specs.Prelude.{◌≡◌, true, None, Some, IfSome};
+ghost use Rattle.dist_model.specs.Node as model;
+ghost use Rattle.dist_model.specs.Node.{Node as TheNode};
+ghost use Rattle.node_plans.specs.Plans.{told};
+ghost use Rattle.dist_model.specs.Work.{Work, post};
+ghost use Rattle.node_plans.specs.Carried.{Carries, CarriesOut};
+ghost use Rattle.node_plans.specs.Keeps.{is_sendable};
+ghost use Rattle.node_plans.specs.Seen.{seen};
+
+use crate::frame::Frame;
+use crate::names::{receiver, same_name};
+use crate::node::Node;
+use crate::plan::Plan;
+use conn_core::Side;
+use dist_model::Effect;
+use erl_control::Signal;
+use erl_term::Atom;
+use std::alloc::{AllocError, Global};
+
+impl Node {
+    // The side of the connection that is up to a peer.
+    fn way(&self, peer: &Atom) -> Option<&Side>
+        ensures none { result ≡ None → model.route (seen self.now) peer.now ≡ None }
+        ensures trunk { IfSome result (λ side. model.route (seen self.now) peer.now ≡ Some side.now.trunk) }
+        ensures peer { IfSome result (λ side. side.now.peer ≡ peer.now) }
+    {
+        let trunk = self.sides.route(peer)?;
+        self.sides.get(trunk)
+    }
+}
+
+impl Plan {
+    /// A signal is sent to the node of its receiver: into the own list, onto the connection that is
+    /// up, or nowhere. (Reference Manual, Processes, Delivery of Signals.)
+    ///
+    /// # Errors
+    /// Where there is no memory for it.
+    pub fn post(&mut self, alloc: Global, node: &Node, signal: Signal) -> Result<(), AllocError>
+        requires { is_sendable signal ≡ true }
+        ensures carries { (work : Work) → CarriesOut self.old (seen node.now) work → Carries (seen node.now) (post signal work) self.new result }
+        ensures answer { self.new.answer ≡ self.old.answer }
+        ensures told { (m : TheNode) → told self.new m ≡ told self.old m }
+        ensures change { self.new.change ≡ self.old.change }
+        ensures watches { self.new.watches ≡ self.old.watches }
+        ensures watchers { self.new.watchers ≡ self.old.watchers }
+    {
+        let target = &receiver(&signal).node;
+        if same_name(target, node.name().atom()) {
+            let sent = Effect::Sent {
+                trunk: None,
+                peer: node.name().clone()?,
+                item: Frame::of(alloc, &signal)?,
+            };
+            self.effects.push(sent)?;
+            self.local.push(signal)?;
+            return Ok(());
+        }
+        let Some(side) = node.way(target) else {
+            return Ok(());
+        };
+        let sent = Effect::Sent {
+            trunk: Some(side.trunk.clone()?),
+            peer: side.peer.clone()?,
+            item: Frame::of(alloc, &signal)?,
+        };
+        self.effects.push(sent)?;
+        Ok(())
+    }
+}

@@ -1,0 +1,136 @@
+//! What a node says of its processes.
+ghost use Rattle.std.specs.Prelude.{◌≡◌, IfSome, true};
+ghost use Rattle.std.specs.FinMap as fm;
+ghost use Rattle.std.specs.Option.{option_copied, option_map};
+ghost use Rattle.dist_model.specs.Handshake.{identity};
+ghost use Rattle.dist_model.specs.Losses.{any_side};
+ghost use Rattle.dist_model.specs.Sides.{is_losing};
+ghost use Rattle.node_sides.specs.Passing.{passes};
+ghost use Rattle.node_sides.specs.Standings.{entry_of, is_settled, side_of};
+ghost use Rattle.dist_model.specs.Node as model;
+ghost use Rattle.dist_model.specs.Items.{Signalled};
+ghost use Rattle.dist_model.specs.World.{first_of as first_in};
+ghost use Rattle.node_plans.specs.Keeps.{is_sendable};
+ghost use Rattle.node_plans.specs.Seen.{seen};
+
+use crate::node::Node;
+use conn_core::Side;
+use erl_control::Signal;
+use erl_handshake::Identity;
+use erl_names::{Mint, NodeName, TrunkId};
+use erl_term::{Atom, Pid};
+use link_core::End;
+use monitor_core::{Watchers, Watches};
+use node_sides::Which;
+
+impl Node {
+    /// The name of the node.
+    pub fn name(&self) -> &NodeName
+        ensures { result.now ≡ (seen self.now).mint.name }
+    {
+        self.incarnation.mint().name()
+    }
+
+    /// What its incarnation has drawn.
+    pub fn mint(&self) -> &Mint
+        ensures { result.now ≡ (seen self.now).mint }
+    {
+        self.incarnation.mint()
+    }
+
+    /// Whether the node runs.
+    pub fn is_up(&self) -> bool
+        ensures { result ≡ (seen self.now).up }
+    {
+        self.incarnation.is_up()
+    }
+
+    /// The node as it introduces itself. (ERTS User's Guide, Distribution Protocol, Distribution
+    /// Handshake.)
+    pub fn identity(&self) -> &Identity
+        ensures { result.now ≡ identity (seen self.now) }
+    {
+        &self.own
+    }
+
+    /// How many connections it has ever dialed.
+    pub fn dialed(&self) -> u64
+        ensures { result ≡ (seen self.now).dialed }
+    {
+        self.dialed
+    }
+
+    /// The side of a connection.
+    pub fn side(&self, trunk: &TrunkId) -> Option<&Side>
+        ensures side { option_map side_of (option_copied result) ≡ fm.get (seen self.now).sides trunk.now }
+        ensures trunk { IfSome (option_copied result) (λ side. side.trunk ≡ trunk.now) }
+        ensures settled { IfSome (option_copied result) (λ side. is_settled side.standing ≡ true) }
+    {
+        self.sides.get(trunk)
+    }
+
+    /// The first side towards a peer that is sought.
+    pub fn first_towards(&self, peer: &Atom, which: Which) -> Option<&Side>
+        ensures { option_map entry_of (option_copied result) ≡ model.side_where (passes which) peer.now (fm.entries (seen self.now).sides) }
+    {
+        self.sides.first_towards(peer, which)
+    }
+
+    /// The first side that is lost and isn't cleared away yet.
+    pub fn first_losing(&self) -> Option<&Side>
+        ensures { option_map entry_of (option_copied result) ≡ any_side is_losing (fm.entries (seen self.now).sides) }
+    {
+        self.sides.first_losing()
+    }
+
+    /// The first signal that travels from the node to itself.
+    pub fn first_local(&self) -> Option<&Signal>
+        ensures first { first_in (seen self.now).local ≡ option_map Signalled (option_copied result) }
+        ensures sendable { IfSome (option_copied result) (λ signal. is_sendable signal ≡ true) }
+    {
+        self.local.front()
+    }
+
+    /// The monitors that its processes own.
+    pub fn watches(&self) -> &Watches
+        ensures { result.now.monitors ≡ (seen self.now).watches }
+    {
+        &self.watches
+    }
+
+    /// The monitors that others have of its processes.
+    pub fn watchers(&self) -> &Watchers
+        ensures { result.now.monitors ≡ (seen self.now).registered }
+    {
+        &self.watchers
+    }
+
+    /// Whether a process is living here.
+    pub fn is_living(&self, process: &Pid) -> bool
+        ensures { result ≡ model.living (seen self.now) process.now }
+    {
+        self.incarnation.is_living(process)
+    }
+
+    /// Whether a process is living here and traps exits. (Reference Manual, Processes, Receiving Exit
+    /// Signals.)
+    pub fn traps(&self, process: &Pid) -> bool
+        ensures { result ≡ model.traps (seen self.now) process.now }
+    {
+        self.incarnation.traps(process)
+    }
+
+    /// The end that a process has of its link to a partner.
+    pub fn end(&self, process: &Pid, partner: &Pid) -> End
+        ensures { result ≡ model.end_of (seen self.now) process.now partner.now }
+    {
+        self.incarnation.end(process, partner)
+    }
+
+    /// The connection that is up to a peer.
+    pub fn route(&self, peer: &Atom) -> Option<&TrunkId>
+        ensures { option_copied result ≡ model.route (seen self.now) peer.now }
+    {
+        self.sides.route(peer)
+    }
+}
