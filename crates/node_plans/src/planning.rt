@@ -10,7 +10,7 @@ ghost use Rattle.dist_model.specs.declared.report.Answer.TheVariants as the_answ
 ghost use Rattle.erl_names.specs.Draw as kind;
 ghost use Rattle.erl_names.specs.Ids.{pid_of, reference_of};
 ghost use Rattle.node_tables.specs.Becomes.{becomes};
-ghost use Rattle.node_plans.specs.Carried.{Carries, CarriesOut, IsBlank};
+ghost use Rattle.node_plans.specs.Carried.{Carries, CarriesOut, IsBlank, Makes};
 ghost use Rattle.node_plans.specs.Plans.{told};
 ghost use Rattle.node_plans.specs.declared.change.Change.TheVariants as change;
 ghost use Rattle.node_plans.specs.declared.change.Draws.TheVariants as the_draws;
@@ -53,11 +53,13 @@ impl Plan {
     pub fn answers(&mut self, answer: Answer)
         requires { self.old.change ≡ change.None }
         ensures told { (m : TheNode) → told self.new m ≡ answer }
+        ensures dials { self.new.dials ≡ self.old.dials }
         ensures draws { self.new.draws ≡ self.old.draws }
         ensures change { self.new.change ≡ self.old.change }
         ensures watches { self.new.watches ≡ self.old.watches }
         ensures watchers { self.new.watchers ≡ self.old.watchers }
         ensures carries { (m : TheNode) (work : Work) → CarriesOut self.old m work → CarriesOut self.new m work }
+        ensures makes { (m : TheNode) (work : Work) → Makes self.old m work → Makes self.new m work }
     {
         self.answer = answer;
     }

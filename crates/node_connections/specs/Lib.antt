@@ -1,0 +1,3 @@
+pub mod Dialed
+pub mod Waiting
+pub mod Admitted
