@@ -20,7 +20,6 @@ ghost use Rattle.node_sides.specs.Standings.{standing_side};
 ghost use Rattle.node_connections.specs.Admitted.{admitted_by, named_side, sends_challenge};
 ghost use Rattle.node_connections.specs.Waiting.{named_in};
 
-use crate::answering::or_refuse;
 use crate::challenging::write_challenge;
 use crate::standing::stand_down;
 use conn_core::{Arrival, Fault, Side, Standing, Taken};
@@ -29,7 +28,7 @@ use erl_handshake::{
     AcceptorState, Admission, OtherConnections, Progress, ShakeFault, ShakeMsg, Status,
 };
 use erl_term::{Atom, Refusal};
-use node_plans::{Node, Plan};
+use node_plans::{Node, Plan, or_refuse};
 use node_sides::{SideChange, Which};
 use std::alloc::{AllocError, Global};
 

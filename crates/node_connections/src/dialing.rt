@@ -11,12 +11,11 @@ ghost use Rattle.node_plans.specs.Plans.{told};
 ghost use Rattle.node_plans.specs.Seen.{seen};
 ghost use Rattle.node_plans.specs.declared.change.Change.TheVariants as change;
 
-use crate::answering::or_refuse;
 use conn_core::Side;
 use dist_model::Answer;
 use erl_names::{NodeName, TrunkId};
 use erl_term::Refusal;
-use node_plans::{Node, Plan, same_name};
+use node_plans::{Node, Plan, or_refuse, same_name};
 use node_sides::{SideChange, Which};
 use std::alloc::{AllocError, Global};
 

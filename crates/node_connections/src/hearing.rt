@@ -20,7 +20,7 @@ ghost use Rattle.node_sides.specs.Changes.{IsTowards, NoOtherUp};
 ghost use Rattle.node_sides.specs.Standings.{is_settled, side_of, standing_side, state_of};
 ghost use Rattle.node_connections.specs.Waiting.{asked_in};
 
-use crate::answering::{kind, or_refuse};
+use crate::answering::kind;
 use crate::challenging::send_challenge;
 use crate::losing::break_side;
 use crate::standing::{stand, stand_down};
@@ -28,7 +28,7 @@ use conn_core::{Arrival, Side, Standing, Taken};
 use dist_model::Answer;
 use erl_handshake::{AcceptorState, ShakeMsg};
 use erl_term::Refusal;
-use node_plans::{Node, Plan};
+use node_plans::{Node, Plan, or_refuse};
 use node_sides::Which;
 use std::alloc::{AllocError, Global};
 

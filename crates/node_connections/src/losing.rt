@@ -13,13 +13,12 @@ ghost use Rattle.node_plans.specs.Seen.{seen};
 ghost use Rattle.node_plans.specs.declared.change.Change.TheVariants as change;
 ghost use Rattle.node_sides.specs.Standings.{is_settled, side_of};
 
-use crate::answering::or_refuse;
 use crate::standing::stand_down;
 use conn_core::{Fault, Side};
 use dist_model::Answer;
 use erl_names::TrunkId;
 use erl_term::Refusal;
-use node_plans::{Node, Plan};
+use node_plans::{Node, Plan, or_refuse};
 
 /// The node notices that a connection is lost, or gives an attempt up. (Reference Manual, Distributed
 /// Erlang.)

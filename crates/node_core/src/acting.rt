@@ -4,13 +4,11 @@ ghost use Rattle.dist_model.specs.Calls as calls;
 ghost use Rattle.dist_model.specs.Commands.{Outcome, Refuses};
 ghost use Rattle.dist_model.specs.Node as model;
 ghost use Rattle.erl_control.specs.Fits.{fits};
-ghost use Rattle.node_plans.specs.Planned.{refused};
 ghost use Rattle.node_plans.specs.Seen.{seen};
 
 use erl_control::fits_test;
 use erl_term::{Atom, Payload, Pid, Refusal};
 use node_plans::{Node, same_name};
-use std::alloc::AllocError;
 
 // Whether no process of the node has had this pid.
 fn is_stranger(node: &Node, process: &Pid) -> bool
@@ -68,14 +66,4 @@ pub(crate) fn reaches(node: &Node, name: &Atom) -> bool
     ensures { result ≡ model.reaches (seen node.now) name.now }
 {
     same_name(name, node.name().atom()) || node.route(name).is_some()
-}
-
-/// Want of memory is a refusal.
-pub(crate) fn or_refuse(given: Result<(), AllocError>) -> Result<(), Refusal>
-    ensures { result ≡ refused given }
-{
-    match given {
-        Ok(()) => Ok(()),
-        Err(_) => Err(Refusal::OutOfMemory),
-    }
 }

@@ -9,12 +9,12 @@ ghost use Rattle.node_plans.specs.Carried.{CarriesOut, IsBlank};
 ghost use Rattle.node_plans.specs.Plans.{told};
 ghost use Rattle.node_plans.specs.Seen.{seen};
 
-use crate::acting::{acts, aims_at, fits_in, or_refuse};
+use crate::acting::{acts, aims_at, fits_in};
 use dist_model::{Answer, Links};
 use erl_control::Signal;
 use erl_term::{Payload, Pid, Refusal};
 use link_core::End;
-use node_plans::{Node, Plan};
+use node_plans::{Node, Plan, or_refuse};
 use std::alloc::{AllocError, Global};
 
 /// A process is spawned.

@@ -4,6 +4,7 @@
 mod acting;
 mod calling;
 mod commands;
+mod incarnations;
 mod linking;
 mod monitoring;
 mod own_list;
@@ -12,4 +13,5 @@ mod taking_monitors;
 mod taking_signals;
 
 pub use calling::{call, plan_call};
+pub use incarnations::{start, stop};
 pub use own_list::{local, plan_local};

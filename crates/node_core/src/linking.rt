@@ -16,21 +16,12 @@ ghost use Rattle.node_plans.specs.Plans.{told};
 ghost use Rattle.node_plans.specs.Seen.{seen};
 ghost use Rattle.node_plans.specs.declared.change.Change.TheVariants as change;
 
-use crate::acting::{acts, aims_at, or_refuse, reaches};
+use crate::acting::{acts, aims_at, reaches};
 use erl_term::{Pid, Refusal};
-use link_core::{End, LinkSignal};
-use node_plans::{Node, Plan, no_connection, same_pid};
+use link_core::LinkSignal;
+use node_plans::{Node, Plan, is_active, no_connection, or_refuse, same_pid};
 use node_tables::EndChange;
 use std::alloc::{AllocError, Global};
-
-pub(crate) fn is_active(end: End) -> bool
-    ensures { result ≡ is_active end }
-{
-    match end {
-        End::Active => true,
-        End::None | End::Pending(_) => false,
-    }
-}
 
 // It links itself to a process of a node that is reached.
 fn link_reached(

@@ -21,12 +21,12 @@ ghost use Rattle.node_plans.specs.declared.change.Change.TheVariants as change;
 ghost use Rattle.node_plans.specs.declared.change.Draws.TheVariants as draws;
 ghost use Rattle.node_plans.specs.declared.change.MonitorChange.TheVariants as stays;
 
-use crate::acting::{acts, aims_at, or_refuse, reaches};
+use crate::acting::{acts, aims_at, reaches};
 use dist_model::Answer;
 use erl_term::{Pid, Reference, Refusal};
 use exit_core::down_message;
 use monitor_core::Monitor;
-use node_plans::{Node, Plan, no_connection, same_pid};
+use node_plans::{Node, Plan, no_connection, or_refuse, same_pid};
 use std::alloc::{AllocError, Global};
 
 pub(crate) fn copied(reference: &Reference) -> Result<Reference, AllocError>

@@ -16,13 +16,12 @@ ghost use Rattle.node_plans.specs.Keeps.{is_sendable};
 ghost use Rattle.node_plans.specs.Plans.{told};
 ghost use Rattle.node_plans.specs.Seen.{seen};
 
-use crate::linking::is_active;
 use erl_control::Signal;
 use erl_term::{Payload, Pid, Reference};
 use exit_core::down_message;
 use link_core::LinkSignal;
 use monitor_core::Monitor;
-use node_plans::{Node, Plan, no_process, same_pid};
+use node_plans::{Node, Plan, is_active, no_process};
 use node_tables::EndChange;
 use std::alloc::{AllocError, Global};
 

@@ -11,14 +11,13 @@ ghost use Rattle.node_plans.specs.Planned.{Plans};
 ghost use Rattle.node_plans.specs.Plans.{told};
 ghost use Rattle.node_plans.specs.Seen.{seen};
 
-use crate::acting::or_refuse;
 use crate::taking::{take_exit, take_exit2, take_message, take_news};
 use crate::taking_monitors::{take_demonitor, take_monitor, take_monitor_exit};
 use dist_model::{Answer, Kind};
 use erl_control::Signal;
 use erl_term::Refusal;
 use link_core::LinkSignal;
-use node_plans::{Node, Plan};
+use node_plans::{Node, Plan, or_refuse};
 use std::alloc::{AllocError, Global};
 
 /// What a signal is.

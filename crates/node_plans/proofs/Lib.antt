@@ -8,3 +8,4 @@ pub mod Sided
 pub mod Free
 pub mod Leaving
 pub mod Reactions
+pub mod Restarted

@@ -74,7 +74,8 @@ fn is_gone(change: &Change, partner: &Pid) -> bool
     }
 }
 
-fn is_active(end: End) -> bool
+/// Whether a process is linked at this end. (Reference Manual, Processes, Links.)
+pub fn is_active(end: End) -> bool
     ensures { result ≡ is_active end }
 {
     matches!(end, End::Active)

@@ -14,13 +14,17 @@ mod planning;
 mod posting;
 mod reacting;
 mod reading;
+mod refusing;
 mod reserving;
+mod restarting;
 mod siding;
 mod telling;
 
 pub use change::{Change, Draws, LifeChange, LinkChange, MonitorChange};
+pub use ending::is_active;
 pub use frame::Frame;
 pub use names::{same_name, same_pid};
 pub use node::Node;
 pub use plan::Plan;
 pub use reacting::{no_connection, no_process};
+pub use refusing::or_refuse;
