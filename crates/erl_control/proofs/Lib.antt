@@ -1,4 +1,5 @@
 pub mod Sequence
+pub mod Sent
 pub mod Table
 pub mod Arms
 pub mod Answered
