@@ -91,6 +91,33 @@ impl Side {
         }
     }
 
+    /// What a message of the handshake comes to that was read from so many bytes. The word becomes the
+    /// challenge of a side that is fresh, and is not used elsewhere. Changes nothing, and takes no
+    /// memory. (ERTS User's Guide, Distribution Protocol, Distribution Handshake.)
+    pub fn hear(&self, own: &Identity, message: ShakeMsg, word: u32, len: usize) -> Arrival
+        ensures { result ≡ table.on_message own.now self.now.peer self.now.standing message word len }
+    {
+        match self.standing {
+            Standing::Dialing(state) => {
+                let turn = state.step(own, &self.peer, &message);
+                Arrival::of_message(turn.state.into(), message, turn.next, len)
+            }
+            Standing::Accepting(state) => {
+                let turn = state.step(own, &self.peer, &message, word);
+                Arrival::of_message(turn.state.into(), message, turn.next, len)
+            }
+            Standing::Up { .. } | Standing::Losing { .. } | Standing::Gone => unread(self.standing),
+        }
+    }
+
+    /// What bytes come to that are no message of the handshake. Changes nothing, and takes no memory.
+    /// (ERTS User's Guide, Distribution Protocol, Distribution Handshake.)
+    pub fn hear_nothing(&self) -> Arrival
+        ensures { result ≡ table.on_no_message self.now.standing }
+    {
+        unread(self.standing)
+    }
+
     /// Decides whether the attempt of the peer goes on at the node of this name, beside the other
     /// connections that the node has with the peer ([`AcceptorState::admit`]). Answers how the side
     /// stands then, and what is said to the peer; None where the side doesn't await this. Changes
