@@ -2,12 +2,16 @@
 
 ghost use Rattle.std.specs.Prelude.{◌≡◌, ◌≢◌, ◌≤◌, ◌+◌, IfOk, OnOk, OnErr, IsOk, Some};
 ghost use Rattle.std.specs.FinMap as map;
+ghost use Rattle.std.specs.Option.{option_copied};
+ghost use Rattle.std.specs.Ordering.{nat_cmp, eq_by_cmp};
+ghost use Rattle.std.specs.Cmp.Lexicographic.{slice_cmp};
+ghost use Rattle.sorted_map.specs.Entries.{first_where};
 ghost use Rattle.link_core.specs.Table.{linked, link_sent, unlinked, unlink_sent, received, exited, is_active, answered};
 ghost use Rattle.link_core.specs.Ends.{end_of, with_end};
-ghost use Rattle.link_core.specs.Records.{IsLink};
+ghost use Rattle.link_core.specs.Records.{AreSorted, IsLink};
 
 use crate::end::{End, LinkSignal};
-use erl_term::Pid;
+use erl_term::{Atom, Pid};
 use sorted_map::SortedMap;
 use std::alloc::{AllocError, Global};
 use std::marker::Model;
@@ -188,6 +192,15 @@ impl Ends {
         self.records.entries()
     }
 
+    /// The first partner at the node of this name, in the order of pids, and the end towards it. The
+    /// partners at one node lie beside one another, so the search doesn't go over the others. Takes no
+    /// memory.
+    pub fn first_towards(&self, node: &Atom) -> Option<&(Pid, End)>
+        ensures { option_copied result ≡ first_where (λ partner end. eq_by_cmp (slice_cmp nat_cmp) partner.node node.now) (map.entries self.now.ends) }
+    {
+        first_at(self.records.entries(), node)
+    }
+
     // Puts the record of a link, at a partner that has one or as a new one.
     fn put(&mut self, partner: Pid, end: End) -> Result<(), AllocError>
         requires { IsLink end }
@@ -217,5 +230,19 @@ impl Ends {
         ensures room { self.old.room ≤ self.new.room }
     {
         self.records.remove(partner);
+    }
+}
+
+// The first partner at a node, by a binary search.
+fn first_at<'a>(records: &'a [(Pid, End)], node: &Atom) -> Option<&'a (Pid, End)>
+    requires { AreSorted records.now }
+    ensures { option_copied result ≡ first_where (λ partner end. eq_by_cmp (slice_cmp nat_cmp) partner.node node.now) records.now }
+{
+    let at = records.partition_point(|(partner, _)| partner.node.cmp(node).is_lt());
+    let record = records.get(at)?;
+    if record.0.node.cmp(node).is_eq() {
+        Some(record)
+    } else {
+        None
     }
 }

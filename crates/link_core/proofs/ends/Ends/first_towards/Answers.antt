@@ -1,0 +1,11 @@
+use Rattle.std.proofs.Common.{sym, ap, ◌∙◌}
+use Rattle.std.specs.FinMap as map
+use Rattle.erl_term.specs.Order.{pid_cmp}
+use Rattle.link_core.specs.Ends.{Held}
+use Rattle.link_core.proofs.Towards.{first_at}
+use Rattle.link_core.proofs.ends.Ends.first_towards.Goals as goal
+
+pub returns : goal.returns
+returns c =
+    let here = c.entries.ensures.entries ∙ sym (map.entries-from_sorted pid_cmp _ c.self.invariant.sorted) ∙ ap (λ (k : Held). map.entries k.ends) c.self.view_is in
+    c.first_at.ensures ∙ ap (first_at c.args.node.now) here
