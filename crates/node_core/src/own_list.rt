@@ -12,10 +12,10 @@ ghost use Rattle.node_plans.specs.Planned.{IsPlanned, IsRefused, Plans};
 ghost use Rattle.node_plans.specs.Room.{Fits};
 ghost use Rattle.node_plans.specs.Seen.{seen};
 
-use crate::taking_signals::take_first;
 use dist_model::Report;
 use erl_term::Refusal;
 use node_plans::{Frame, Node, Plan};
+use node_signals::take_first;
 use std::alloc::Global;
 
 // The first signal comes, at any node.

@@ -4,6 +4,7 @@
 mod carrying;
 mod change;
 mod commit;
+mod copying;
 mod ending;
 mod frame;
 mod names;
@@ -21,9 +22,10 @@ mod siding;
 mod telling;
 
 pub use change::{Change, Draws, LifeChange, LinkChange, MonitorChange};
+pub use copying::{copied, monitor_between};
 pub use ending::is_active;
 pub use frame::Frame;
-pub use names::{same_name, same_pid};
+pub use names::{receiver, same_name, same_pid, sender};
 pub use node::Node;
 pub use plan::Plan;
 pub use reacting::{no_connection, no_process};

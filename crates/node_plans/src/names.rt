@@ -1,7 +1,8 @@
 //! Names and pids compared.
 ghost use Rattle.std.specs.Prelude.{◌≡◌};
+ghost use Rattle.std.specs.Option.{option_copied};
 ghost use Rattle.dist_model.specs.Names.{same_name, same_pid};
-ghost use Rattle.erl_control.specs.Ends.{receiver_of};
+ghost use Rattle.erl_control.specs.Ends.{receiver_of, sender_of};
 
 use erl_control::Signal;
 use erl_term::{Atom, Pid};
@@ -22,7 +23,7 @@ pub fn same_pid(a: &Pid, b: &Pid) -> bool
 }
 
 /// The process that a signal goes to.
-pub(crate) fn receiver(signal: &Signal) -> &Pid
+pub fn receiver(signal: &Signal) -> &Pid
     ensures { result.now ≡ receiver_of signal.now }
 {
     match signal {
@@ -35,5 +36,22 @@ pub(crate) fn receiver(signal: &Signal) -> &Pid
         | Signal::MonitorExit { to, .. }
         | Signal::UnlinkId { to, .. }
         | Signal::UnlinkIdAck { to, .. } => to,
+    }
+}
+
+/// The process that a signal is from. A SEND tells none.
+pub fn sender(signal: &Signal) -> Option<&Pid>
+    ensures { option_copied result ≡ sender_of signal.now }
+{
+    match signal {
+        Signal::Send { .. } => None,
+        Signal::Link { from, .. }
+        | Signal::Exit { from, .. }
+        | Signal::Exit2 { from, .. }
+        | Signal::Monitor { from, .. }
+        | Signal::Demonitor { from, .. }
+        | Signal::MonitorExit { from, .. }
+        | Signal::UnlinkId { from, .. }
+        | Signal::UnlinkIdAck { from, .. } => Some(from),
     }
 }

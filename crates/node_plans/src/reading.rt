@@ -13,6 +13,7 @@ ghost use Rattle.dist_model.specs.World.{first_of as first_in};
 ghost use Rattle.node_plans.specs.Keeps.{is_sendable};
 ghost use Rattle.node_plans.specs.Seen.{seen};
 
+use crate::names::same_name;
 use crate::node::Node;
 use conn_core::Side;
 use erl_control::Signal;
@@ -110,6 +111,18 @@ impl Node {
         ensures { result ≡ model.living (seen self.now) process.now }
     {
         self.incarnation.is_living(process)
+    }
+
+    /// Whether no process of the node has had this pid. (Reference Manual, Processes.)
+    pub fn is_stranger(&self, process: &Pid) -> bool
+        ensures { result ≡ model.is_stranger (seen self.now) process.now }
+    {
+        let mint = self.mint();
+        !same_name(&process.node, mint.name().atom())
+            || mint.creation().number() < process.creation
+            || (process.creation == mint.creation().number() && mint.pids() < process.id)
+            || process.id == 0
+            || process.serial != 0
     }
 
     /// Whether a process is living here and traps exits. (Reference Manual, Processes, Receiving Exit

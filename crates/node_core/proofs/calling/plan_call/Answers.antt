@@ -18,11 +18,11 @@ comes_of_none command m t c d = no_item command t c.0 c.1 c.2
     no_item : (command : Command) (t : TrunkId) (item : Item) (word : ℕ) → event.Call command ≡ event.Arrive t (Some item) word → fm.get m.sides t ≢ None
     no_item command t item word h = cc
 
-pub carry_if_up-requires-clause-told : goal.carry_if_up-requires-clause-told
-carry_if_up-requires-clause-told c = c.new-plan.ensures.told (seen c.args.node.now)
+pub obey_if_up-requires-clause-told : goal.obey_if_up-requires-clause-told
+obey_if_up-requires-clause-told c = c.new-plan.ensures.told (seen c.args.node.now)
 
-pub carry_if_up-requires-clause-carries : goal.carry_if_up-requires-clause-carries
-carry_if_up-requires-clause-carries c = c.new-plan.ensures.carries refl (seen c.args.node.now)
+pub obey_if_up-requires-clause-carries : goal.obey_if_up-requires-clause-carries
+obey_if_up-requires-clause-carries c = c.new-plan.ensures.carries refl (seen c.args.node.now)
 
 pub reserve-requires-clause-dialed : goal.reserve-requires-clause-dialed
 reserve-requires-clause-dialed c = c.in-Ok.ensures.makes.dials
