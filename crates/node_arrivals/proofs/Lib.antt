@@ -1,0 +1,4 @@
+pub mod Accepted
+pub mod Judged
+pub mod Refused
+pub mod Sent
