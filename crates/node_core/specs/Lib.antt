@@ -1,1 +1,3 @@
 pub mod Done
+pub mod Staying
+pub mod Arrived

@@ -13,6 +13,7 @@ ghost use Rattle.node_plans.specs.Plans.{told};
 ghost use Rattle.node_plans.specs.Room.{Fits};
 ghost use Rattle.node_plans.specs.Seen.{seen};
 
+use crate::settling::settle;
 use dist_model::{Command, Report};
 use erl_term::Refusal;
 use node_calls::obey;
@@ -45,14 +46,8 @@ pub fn plan_call(alloc: Global, node: &mut Node, command: Command) -> Result<Pla
     ensures fits { IfOk result (Fits node.new) }
 {
     let mut plan = Plan::new(alloc, false);
-    match obey_if_up(alloc, node, &mut plan, command) {
-        Ok(()) => {}
-        Err(e) => return Err(e),
-    }
-    match node.reserve(&plan) {
-        Ok(()) => Ok(plan),
-        Err(_) => Err(Refusal::OutOfMemory),
-    }
+    let planned = obey_if_up(alloc, node, &mut plan, command);
+    settle(node, plan, planned)
 }
 
 /// A caller's command is planned, and carried out. (Reference Manual, Processes.)

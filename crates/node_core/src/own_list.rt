@@ -12,6 +12,7 @@ ghost use Rattle.node_plans.specs.Planned.{IsPlanned, IsRefused, Plans};
 ghost use Rattle.node_plans.specs.Room.{Fits};
 ghost use Rattle.node_plans.specs.Seen.{seen};
 
+use crate::settling::settle;
 use dist_model::Report;
 use erl_term::Refusal;
 use node_plans::{Frame, Node, Plan};
@@ -43,14 +44,8 @@ pub fn plan_local(alloc: Global, node: &mut Node) -> Result<Plan, Refusal>
     ensures fits { IfOk result (Fits node.new) }
 {
     let mut plan = Plan::new(alloc, true);
-    match take_first_if_up(alloc, node, &mut plan) {
-        Ok(()) => {}
-        Err(e) => return Err(e),
-    }
-    match node.reserve(&plan) {
-        Ok(()) => Ok(plan),
-        Err(_) => Err(Refusal::OutOfMemory),
-    }
+    let planned = take_first_if_up(alloc, node, &mut plan);
+    settle(node, plan, planned)
 }
 
 /// The first signal that travels from a node to itself comes: planned, and carried out. (Reference

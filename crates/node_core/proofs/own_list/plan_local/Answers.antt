@@ -1,39 +1,22 @@
-use Rattle.std.proofs.Common.{◌≡◌, ◌≢◌, ℕ, Some, None, refl, subst, []}
-use Rattle.dist_model.proofs.KeepCounted.{counted_kept}
-use Rattle.dist_model.proofs.KeepSteady.{steady_kept}
-use Rattle.std.specs.FinMap as fm
+use Rattle.std.proofs.Common.{◌≡◌, ℕ, Some, refl, []}
 use Rattle.dist_model.specs.Items.{Item}
-use Rattle.dist_model.specs.Keeping.{ComesOfOthers, CountsOwn, Steady}
-use Rattle.dist_model.specs.Node.{Node}
 use Rattle.erl_names.specs.declared.trunk.TrunkId.{TrunkId}
 use Rattle.dist_model.specs.NodeEvents as event
+use Rattle.dist_model.specs.NodeEvents.{at_node}
 use Rattle.node_plans.specs.Seen.{seen}
-use Rattle.node_plans.proofs.Outcomes.{lacks}
+use Rattle.node_core.proofs.Staying.{comes_of_none, stays}
 use Rattle.node_core.proofs.own_list.plan_local.Goals as goal
 
-comes_of_none : (m : Node) → ComesOfOthers m (event.Local)
-comes_of_none m t c d = no_item t c.0 c.1 c.2
-  where
-    no_item : (t : TrunkId) (item : Item) (word : ℕ) → event.Local ≡ event.Arrive t (Some item) word → fm.get m.sides t ≢ None
-    no_item t item word h = cc
+no_item : (t : TrunkId) (item : Item) (word : ℕ) → event.Local ≡ event.Arrive t (Some item) word → ⊥
+no_item t item word h = cc
 
-pub take_first_if_up-requires-clause-taken : goal.take_first_if_up-requires-clause-taken
-take_first_if_up-requires-clause-taken c = λ first rest h. c.new-plan.ensures.taken refl (seen c.args.node.now) first rest h
+pub take_first_if_up-planned-requires-clause-taken : goal.take_first_if_up-planned-requires-clause-taken
+take_first_if_up-planned-requires-clause-taken c = λ first rest h. c.new-plan.ensures.taken refl (seen c.args.node.now) first rest h
 
-pub reserve-requires-clause-dialed : goal.reserve-requires-clause-dialed
-reserve-requires-clause-dialed c = c.in-Ok.ensures.makes.dials
+pub settle-requires : goal.settle-requires
+settle-requires c =
+    let node = c.args.node.now in
+    stays [] (seen node) event.Local _ _ node.steady node.counted (comes_of_none (seen node) event.Local no_item) c.take_first_if_up-planned.ensures
 
-pub reserve-requires-clause-steady : goal.reserve-requires-clause-steady
-reserve-requires-clause-steady c =
-    let m = seen c.args.node.now in
-    let h = c.in-Ok.ensures in
-    subst Steady h.makes.node (steady_kept [] m event.Local h.answer h.work c.args.node.now.steady h.accepts)
-
-pub reserve-requires-clause-counted : goal.reserve-requires-clause-counted
-reserve-requires-clause-counted c =
-    let m = seen c.args.node.now in
-    let h = c.in-Ok.ensures in
-    subst CountsOwn h.makes.node (counted_kept [] m event.Local h.answer h.work h.accepts c.args.node.now.counted (comes_of_none m))
-
-pub returns-in-Err-reserve-clause-plan : goal.returns-in-Err-reserve-clause-plan
-returns-in-Err-reserve-clause-plan c = λ names. let h = c.in-Ok.ensures in lacks _ h.answer h.work h.accepts
+pub returns-clause-plan : goal.returns-clause-plan
+returns-clause-plan c = λ names. c.settle.ensures.plan (at_node names (seen c.args.node.now) event.Local) c.take_first_if_up-planned.ensures

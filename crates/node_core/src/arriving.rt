@@ -1,0 +1,139 @@
+//! Bytes come on a connection.
+ghost use Rattle.std.specs.Prelude.{◌≡◌, false, true, IfOk, Err};
+ghost use Rattle.std.specs.FinMap as fm;
+ghost use Rattle.dist_model.specs.Work.{at_work};
+ghost use Rattle.erl_term.specs.declared.refusal.Refusal.TheVariants as refusal;
+ghost use Rattle.node_arrivals.specs.Coming.{PlansBytes, comes};
+ghost use Rattle.node_core.specs.Arrived.{DoesArrived, PlansArrived, is_undialed, without_len};
+ghost use Rattle.node_plans.specs.Carried.{CarriesOut, IsBlank};
+ghost use Rattle.node_plans.specs.Room.{Fits};
+ghost use Rattle.node_plans.specs.Seen.{seen};
+
+use crate::settling::settle;
+use dist_model::Report;
+use erl_names::TrunkId;
+use erl_term::Refusal;
+use node_plans::{Frame, Node, Plan, same_name};
+use std::alloc::Global;
+
+/// What is to be done at what came on a connection.
+#[derive(Drop)]
+pub struct PlannedArrival {
+    /// What is to be done.
+    pub plan: Plan,
+    /// How many bytes are taken.
+    pub len: usize,
+}
+
+/// What a node has done at what came on a connection.
+#[derive(Drop)]
+pub struct Arrived {
+    /// What it answers, and what it has brought about.
+    pub report: Report<Frame>,
+    /// How many bytes were taken.
+    pub len: usize,
+}
+
+// Whether the node would have dialed on this connection and has no side of it.
+fn is_undialed(node: &Node, trunk: &TrunkId) -> bool
+    ensures { result ≡ is_undialed (seen node.now) trunk.now (fm.get (seen node.now).sides trunk.now) }
+{
+    match node.side(trunk) {
+        Some(_) => false,
+        None => same_name(trunk.dialer.atom(), node.name().atom()),
+    }
+}
+
+// The same at any node.
+fn arrive_if_up(
+    alloc: Global,
+    node: &Node,
+    plan: &mut Plan,
+    trunk: &TrunkId,
+    bytes: &[u8],
+    word: u32,
+) -> Result<usize, Refusal>
+    requires blank { IsBlank plan.old }
+    requires carries { CarriesOut plan.old (seen node.now) (at_work (seen node.now)) }
+    ensures down { (seen node.now).up ≡ false → result ≡ Err refusal.NodeDown }
+    ensures undialed { let m = seen node.now in m.up ≡ true → is_undialed m trunk.now (fm.get m.sides trunk.now) ≡ true → result ≡ Err refusal.NotLive }
+    ensures came { let m = seen node.now in m.up ≡ true → is_undialed m trunk.now (fm.get m.sides trunk.now) ≡ false →
+        PlansBytes m (fm.get m.sides trunk.now) bytes.now (λ front. comes m trunk.now (fm.get m.sides trunk.now) front word) plan.new result }
+{
+    if !node.is_up() {
+        return Err(Refusal::NodeDown);
+    }
+    if is_undialed(node, trunk) {
+        return Err(Refusal::NotLive);
+    }
+    node_arrivals::arrive(alloc, node, plan, trunk, bytes, word)
+}
+
+// Whether it was planned, without the number of bytes.
+fn without_len(taken: Result<usize, Refusal>) -> Result<(), Refusal>
+    ensures { result ≡ without_len taken }
+{
+    match taken {
+        Ok(_) => Ok(()),
+        Err(e) => Err(e),
+    }
+}
+
+/// Plans what a node does at the front of the bytes that come on a connection: an item is taken, and
+/// what is none breaks the side. The word becomes the challenge of a new side, and is not used
+/// elsewhere. The node stays as it is but for its room. (ERTS User's Guide, Distribution Protocol.)
+///
+/// # Errors
+/// The first that fits: [`Refusal::NodeDown`] at a node that has stopped; [`Refusal::NotLive`] where the
+/// side is lost or gone, where there is none and no message is whole yet, and where there is none and
+/// the node itself would have dialed; [`Refusal::NothingThere`] where nothing is whole yet; behind
+/// these [`Refusal::OutOfMemory`].
+pub fn plan_arrival(
+    alloc: Global,
+    node: &mut Node,
+    trunk: &TrunkId,
+    bytes: &[u8],
+    word: u32,
+) -> Result<PlannedArrival, Refusal>
+    ensures same { seen node.new ≡ seen node.old }
+    ensures down { (seen node.old).up ≡ false → result ≡ Err refusal.NodeDown }
+    ensures undialed { let m = seen node.old in m.up ≡ true → is_undialed m trunk.now (fm.get m.sides trunk.now) ≡ true → result ≡ Err refusal.NotLive }
+    ensures came { let m = seen node.old in m.up ≡ true → is_undialed m trunk.now (fm.get m.sides trunk.now) ≡ false →
+        PlansArrived m trunk.now bytes.now word result }
+    ensures fits { IfOk result (λ arrival. Fits node.new arrival.plan) }
+{
+    let mut plan = Plan::new(alloc, false);
+    let taken = arrive_if_up(alloc, node, &mut plan, trunk, bytes, word);
+    let len = taken.unwrap_or(0);
+    match settle(node, plan, without_len(taken)) {
+        Ok(plan) => Ok(PlannedArrival { plan, len }),
+        Err(e) => Err(e),
+    }
+}
+
+/// What comes on a connection is taken: planned, and carried out. (ERTS User's Guide, Distribution
+/// Protocol.)
+///
+/// # Errors
+/// As [`plan_arrival`]. Then nothing has changed.
+pub fn arrive(
+    alloc: Global,
+    node: &mut Node,
+    trunk: &TrunkId,
+    bytes: &[u8],
+    word: u32,
+) -> Result<Arrived, Refusal>
+    ensures down { (seen node.old).up ≡ false → (result ≡ Err refusal.NodeDown) × (seen node.new ≡ seen node.old) }
+    ensures undialed { let m = seen node.old in m.up ≡ true → is_undialed m trunk.now (fm.get m.sides trunk.now) ≡ true →
+        (result ≡ Err refusal.NotLive) × (seen node.new ≡ m) }
+    ensures came { let m = seen node.old in m.up ≡ true → is_undialed m trunk.now (fm.get m.sides trunk.now) ≡ false →
+        DoesArrived m (seen node.new) trunk.now bytes.now word result }
+{
+    match plan_arrival(alloc, node, trunk, bytes, word) {
+        Ok(PlannedArrival { plan, len }) => Ok(Arrived {
+            report: node.commit(alloc, plan),
+            len,
+        }),
+        Err(e) => Err(e),
+    }
+}
