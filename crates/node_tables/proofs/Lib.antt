@@ -3,3 +3,5 @@ pub mod Lookups
 pub mod Own
 pub mod Edited
 pub mod Changed
+pub mod Found
+pub mod Behind

@@ -97,7 +97,7 @@ find_life m (e ∷ es) n p =
 
 -- ---- they are in the order of their keys
 
-less_id : (m : Minted) (n k : ℕ) → n < k → is_lt (pid_cmp (pid_of m n) (pid_of m k)) ≡ true
+pub less_id : (m : Minted) (n k : ℕ) → n < k → is_lt (pid_cmp (pid_of m n) (pid_of m k)) ≡ true
 less_id m n k l =
     let name : slice_cmp nat_cmp m.name m.name ≡ Equal = tied_itself name_total m.name in
     let creation : nat_cmp m.creation m.creation ≡ Equal = tied_itself nat_cmp_total m.creation in

@@ -1,4 +1,5 @@
 pub mod Lives
+pub mod Linked
 pub mod Held
 pub mod Becomes
 pub mod Room

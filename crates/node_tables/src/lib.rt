@@ -14,8 +14,10 @@ mod life;
 mod lookup;
 mod reading;
 mod restarting;
+mod seeking;
 mod spawning;
 
 pub use end_change::EndChange;
 pub use incarnation::Incarnation;
 pub use life::Life;
+pub use seeking::FoundLink;

@@ -9,8 +9,9 @@ use crate::life::Life;
 use erl_names::Mint;
 use erl_term::{Atom, Pid};
 
+/// Whether two names are the same.
 #[tactic(auto, using(crate::proofs::Texts::same_text))]
-fn same_name(a: &Atom, b: &Atom) -> bool
+pub(crate) fn same_name(a: &Atom, b: &Atom) -> bool
     ensures { result ≡ same_name a.now b.now }
 {
     a == b

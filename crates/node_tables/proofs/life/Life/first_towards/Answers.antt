@@ -1,0 +1,10 @@
+use Rattle.std.proofs.Common.{sym, ap, ◌∙◌}
+use Rattle.std.specs.FinMap as fm
+use Rattle.dist_model.specs.Names.{same_name}
+use Rattle.dist_model.specs.Node.{first_where}
+use Rattle.node_tables.proofs.Lookups.{no_links}
+use Rattle.node_tables.specs.Lives.{links_of}
+use Rattle.node_tables.proofs.life.Life.first_towards.Goals as goal
+
+pub returns-in-Ended : goal.returns-in-Ended
+returns-in-Ended c = sym (ap (first_where (λ partner end. same_name partner.node c.args.node.now)) (ap (λ l. fm.entries (links_of l)) c.in-Ended.is ∙ no_links))
