@@ -1,10 +1,16 @@
 //! What a node says of its processes.
-ghost use Rattle.std.specs.Prelude.{◌≡◌, IfSome, true};
+ghost use Rattle.std.specs.Prelude.{◌≡◌, ◌<◌, IfNone, IfSome, Some, false, true};
 ghost use Rattle.std.specs.FinMap as fm;
 ghost use Rattle.std.specs.Option.{option_copied, option_map};
+ghost use Rattle.std.specs.Ordering.{is_lt};
 ghost use Rattle.dist_model.specs.Handshake.{identity};
 ghost use Rattle.dist_model.specs.Losses.{any_side};
+ghost use Rattle.dist_model.specs.Names.{pair_cmp, same_name};
 ghost use Rattle.dist_model.specs.Sides.{is_losing};
+ghost use Rattle.erl_names.specs.Ids.{pid_of};
+ghost use Rattle.erl_term.specs.Order.{pid_cmp};
+ghost use Rattle.erl_term.specs.declared.term.Pid.{Pid as ThePid};
+ghost use Rattle.link_core.specs.declared.end.End.{End as TheEnd};
 ghost use Rattle.node_sides.specs.Passing.{passes};
 ghost use Rattle.node_sides.specs.Standings.{entry_of, is_settled, side_of};
 ghost use Rattle.dist_model.specs.Node as model;
@@ -23,6 +29,7 @@ use erl_term::{Atom, Pid};
 use link_core::End;
 use monitor_core::{Watchers, Watches};
 use node_sides::Which;
+use node_tables::FoundLink;
 
 impl Node {
     /// The name of the node.
@@ -145,5 +152,32 @@ impl Node {
         ensures { option_copied result ≡ model.route (seen self.now) peer.now }
     {
         self.sides.route(peer)
+    }
+
+    /// The first link to a process at a node, of the processes here whose ids are greater than this one,
+    /// in the order of the ids. Those that are passed have no links to it. (Reference Manual, Processes,
+    /// Links.)
+    pub fn first_link_towards(&self, node: &Atom, after: u32) -> Option<FoundLink<'_>>
+        requires { (seen self.now).up ≡ true }
+        ensures found { let m = seen self.now in IfSome result (λ f. fm.get m.ends (pid_of m.mint f.id, f.partner.now) ≡ Some f.end) }
+        ensures towards { IfSome result (λ f. same_name f.partner.now.node node.now ≡ true) }
+        ensures behind { IfSome result (λ f. after < f.id) }
+        // none that would come before it is to one at the node
+        ensures least { let m = seen self.now in IfSome result (λ f. (p q : ThePid) (e : TheEnd) → fm.get m.ends (p, q) ≡ Some e → after < p.id
+            → same_name q.node node.now ≡ true → is_lt (pair_cmp (p, q) (pid_of m.mint f.id, f.partner.now)) ≡ false) }
+        ensures none { let m = seen self.now in IfNone result ((p q : ThePid) (e : TheEnd) → fm.get m.ends (p, q) ≡ Some e → after < p.id → same_name q.node node.now ≡ false) }
+    {
+        self.incarnation.first_link_towards(node, after)
+    }
+
+    /// Whether a process has a link to one at a node, of those behind this partner in the order of pids.
+    /// Costs the logarithm of its links. (Reference Manual, Processes, Links.)
+    pub fn has_link_behind(&self, process: &Pid, node: &Atom, partner: &Pid) -> bool
+        ensures has { let m = seen self.now in result ≡ true → (q : ThePid) × (e : TheEnd) × (fm.get m.ends (process.now, q) ≡ Some e)
+            × (same_name q.node node.now ≡ true) × (is_lt (pid_cmp partner.now q) ≡ true) }
+        ensures none { let m = seen self.now in result ≡ false → (q : ThePid) (e : TheEnd) → fm.get m.ends (process.now, q) ≡ Some e
+            → is_lt (pid_cmp partner.now q) ≡ true → same_name q.node node.now ≡ false }
+    {
+        self.incarnation.has_link_behind(process, node, partner)
     }
 }
