@@ -8,3 +8,4 @@ pub mod Fresh
 pub mod Room
 pub mod Planned
 pub mod Exiting
+pub mod Adding

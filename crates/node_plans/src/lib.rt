@@ -1,6 +1,7 @@
 //! A node, and plans of what an event is to do to it.
 #![tactic(auto)]
 
+mod adding;
 mod carrying;
 mod change;
 mod commit;
