@@ -1,0 +1,12 @@
+pub mod Began
+pub mod Behind
+pub mod Cleared
+pub mod Firsts
+pub mod Heeded
+pub mod Kept
+pub mod Later
+pub mod Losing
+pub mod Owned
+pub mod Passed
+pub mod Stands
+pub mod Swept

@@ -1,0 +1,62 @@
+-- Nothing is left before the record that was found.
+use Rattle.std.proofs.Common.{◌≡◌, ℕ, ◌≤◌, ◌-◌, Bool, true, false, Option, None, Some, inl, inr, refl, ap, arith}
+use Rattle.std.specs.FinMap as fm
+use Rattle.dist_model.proofs.Keys.{pair_exact, pair_total}
+use Rattle.dist_model.specs.Losses.{link_to, watch_to}
+use Rattle.dist_model.specs.Names.{Name, same_name}
+use Rattle.dist_model.specs.Node.{Node}
+use Rattle.erl_names.specs.Ids.{pid_of}
+use Rattle.erl_term.specs.declared.term.Pid.{Pid}
+use Rattle.erl_term.specs.declared.term.Reference.{Reference}
+use Rattle.link_core.specs.declared.end.End.{End}
+use Rattle.monitor_core.proofs.Order.{reference_cmp_exact, reference_cmp_total}
+use Rattle.monitor_core.specs.declared.monitor.Monitor.{Monitor}
+use Rattle.node_plans.specs.Seen.{seen}
+use Rattle.node_plans.specs.declared.node.Node.{Node as TheNode}
+use Rattle.node_sweeps.proofs.Cleared.{watched_from}
+use Rattle.node_sweeps.proofs.Firsts.{found, none_found}
+use Rattle.node_sweeps.proofs.Later.{behind}
+use Rattle.node_sweeps.proofs.Owned.{owner}
+use Rattle.node_sweeps.specs.Ahead.{IsBehindAll, NoneLinkedUpTo, NoneOwnedBefore}
+
+no_links : (peer : Name) (m : Node) (id : ℕ) → link_to peer (fm.entries m.ends) ≡ None → NoneLinkedUpTo peer id m.ends
+no_links peer m id h p q e g l = none_found pair_total pair_exact (λ pair end. same_name pair.1.node peer) m.ends h (p, q) e g
+
+pub watch_stands : (peer : Name) (m : Node) (id : ℕ) (r : Reference) (w : Monitor) → link_to peer (fm.entries m.ends) ≡ None → watch_to peer (fm.entries m.watches) ≡ Some (r, w)
+    → IsBehindAll peer id (Some r) None m
+watch_stands peer m id r w links h = record {
+  links = no_links peer m id links;
+  watches = watched_from peer m.watches r w h;
+  registrations = λ s x g b. absurd b;
+}
+
+pub registration_stands : (peer : Name) (m : Node) (id : ℕ) (bound : Option Reference) (r : Reference) → link_to peer (fm.entries m.ends) ≡ None
+    → watch_to peer (fm.entries m.watches) ≡ None → NoneOwnedBefore peer (Some r) m.registered → IsBehindAll peer id bound (Some r) m
+registration_stands peer m id bound r links watches h = record {
+  links = no_links peer m id links;
+  watches = λ s x g b. none_found reference_cmp_total reference_cmp_exact (λ key value. same_name value.target.node peer) m.watches watches s x g;
+  registrations = h;
+}
+
+module _ (it : TheNode) (peer : Name) (id : ℕ) (q : Pid) (e : End) (first : link_to peer (fm.entries (seen it).ends) ≡ Some ((pid_of (seen it).mint id, q), e)) where
+  pub is_drawn : 1 ≤ id
+  is_drawn =
+      let f = found pair_total pair_exact (λ pair end. same_name pair.1.node peer) (seen it).ends ((pid_of (seen it).mint id, q), e) first in
+      let o = owner it.incarnation.mint it.incarnation.held.items (pid_of (seen it).mint id) q e f.held in
+      omega (arith, o.positive)
+
+  before_it : (x y : Pid) (f : End) → fm.get (seen it).ends (x, y) ≡ Some f → x.id ≤ id - 1 → (b : Bool) → same_name y.node peer ≡ b → b ≡ false
+  before_it x y f h l false t = refl
+  before_it x y f h l true t =
+      let d = is_drawn in
+      elim (behind it.incarnation.mint it.incarnation.held.items peer id q e first x y f h t) [
+        | inl more ↦ absurd (omega (arith, d, l, more))
+        | inr same ↦ let s : x.id ≡ id = ap (λ (p : Pid). p.id) same in absurd (omega (arith, d, l, s))
+      ]
+
+  pub link_stands : IsBehindAll peer (id - 1) None None (seen it)
+  link_stands = record {
+    links = λ x y f h l. before_it x y f h l (same_name y.node peer) refl;
+    watches = λ s w g b. absurd b;
+    registrations = λ s w g b. absurd b;
+  }

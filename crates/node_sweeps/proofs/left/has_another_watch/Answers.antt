@@ -1,0 +1,23 @@
+use Rattle.std.proofs.Common.{◌≡◌, Some, refl, length, not, ◌&&◌, ◌∙◌}
+use Rattle.std.specs.List.{list_any, slice_range}
+use Rattle.dist_model.specs.Downs.{same_reference}
+use Rattle.dist_model.specs.Names.{same_name}
+use Rattle.erl_term.specs.declared.term.Reference.{Reference}
+use Rattle.monitor_core.specs.declared.monitor.Monitor.{Monitor}
+use Rattle.node_plans.specs.Seen.{seen}
+use Rattle.node_sweeps.proofs.Kept.{any_but}
+use Rattle.node_sweeps.proofs.Passed.{sorted_of}
+use Rattle.node_sweeps.proofs.left.has_another_watch.Goals as goal
+
+pub place_of-at-requires : goal.place_of-at-requires
+place_of-at-requires c = sorted_of c.watches.result.now.monitors (seen c.args.node.now).watches c.entries-entries.result.now c.watches.ensures c.entries-entries.ensures
+
+pub returns : goal.returns
+returns c =
+    let peer = c.args.peer.now in
+    let es = c.entries-entries.result.now in
+    let at = c.place_of-at.result in
+    let test = λ (e : Reference × Monitor). same_name e.1.target.node peer && not (same_reference e.0 c.args.gone.now) in
+    let is : c.any_under_another.result ≡ list_any test (slice_range es at (length es)) = c.any_under_another.ensures in
+    is ∙ any_but c.watches.result.now.monitors (seen c.args.node.now).watches es c.watches.ensures c.entries-entries.ensures (Some c.args.gone.now)
+    (λ r w. same_name w.target.node peer) test at c.place_of-at.ensures.within c.place_of-at.ensures.before c.requires c.args.gone.now (λ e. refl)

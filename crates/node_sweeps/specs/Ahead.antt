@@ -1,0 +1,51 @@
+-- How far a sweep has come: no record towards its peer is left before that.
+use Rattle.std.specs.Prelude.{◌≡◌, ◌≤◌, ℕ, false, Option, None, Some}
+use Rattle.std.specs.FinMap as fm
+use Rattle.std.specs.FinMap.{FinMap}
+use Rattle.std.specs.declared.cmp.Ordering.TheVariants.{Less}
+use Rattle.dist_model.specs.Names.{Name, pair_cmp, same_name}
+use Rattle.dist_model.specs.Node.{Node}
+use Rattle.erl_term.specs.declared.term.Pid.{Pid}
+use Rattle.erl_term.specs.declared.term.Reference.{Reference}
+use Rattle.link_core.specs.declared.end.End.{End}
+use Rattle.monitor_core.specs.Monitors.{MonitorMap}
+use Rattle.monitor_core.specs.Order.{reference_cmp}
+use Rattle.monitor_core.specs.declared.monitor.Monitor.{Monitor}
+use Rattle.node_sweeps.specs.declared.sweeping.Sweeping.{Sweeping}
+
+-- a reference that is less than the bound
+abbrev pub IsBefore : Reference → Option Reference → Type 0
+IsBefore r None = ⊥
+IsBefore r (Some bound) = reference_cmp r bound ≡ Less
+
+-- no process up to this id is linked to one at the peer
+abbrev pub NoneLinkedUpTo : Name → ℕ → FinMap pair_cmp End → Type 0
+NoneLinkedUpTo peer id ends = (p q : Pid) (e : End) → fm.get ends (p, q) ≡ Some e → p.id ≤ id → same_name q.node peer ≡ false
+
+-- no monitor under a lesser reference is of a process at the peer
+abbrev pub NoneWatchedBefore : Name → Option Reference → MonitorMap → Type 0
+NoneWatchedBefore peer bound monitors = (r : Reference) (w : Monitor) → fm.get monitors r ≡ Some w → IsBefore r bound → same_name w.target.node peer ≡ false
+
+-- and none is owned by one
+abbrev pub NoneOwnedBefore : Name → Option Reference → MonitorMap → Type 0
+NoneOwnedBefore peer bound monitors = (r : Reference) (w : Monitor) → fm.get monitors r ≡ Some w → IsBefore r bound → same_name w.owner.node peer ≡ false
+
+-- links of the processes up to this id, and monitors under lesser references
+pub record IsBehindAll (peer : Name) (id : ℕ) (watch registration : Option Reference) (m : Node) : Type 0 where
+  pub links : NoneLinkedUpTo peer id m.ends
+  pub watches : NoneWatchedBefore peer watch m.watches
+  pub registrations : NoneOwnedBefore peer registration m.registered
+
+abbrev pub IsAheadOf : Option Name → ℕ → (watch registration : Option Reference) → Node → Type 0
+IsAheadOf None id watch registration m = Unit {0}
+IsAheadOf (Some peer) id watch registration m = IsBehindAll peer id watch registration m
+
+-- what is behind is gone
+abbrev pub IsAhead : Sweeping → Node → Type 0
+IsAhead s m = IsAheadOf s.peer s.id s.watch s.registration m
+
+-- at the first record
+pub record Begins (s : Sweeping) : Type 0 where
+  pub id : s.id ≡ 0
+  pub watch : s.watch ≡ None
+  pub registration : s.registration ≡ None
