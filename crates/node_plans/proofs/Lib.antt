@@ -9,3 +9,4 @@ pub mod Free
 pub mod Leaving
 pub mod Reactions
 pub mod Restarted
+pub mod Quieted

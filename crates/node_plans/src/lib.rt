@@ -14,6 +14,7 @@ mod opening;
 mod plan;
 mod planning;
 mod posting;
+mod quiet;
 mod reacting;
 mod reading;
 mod refusing;

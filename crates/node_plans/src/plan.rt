@@ -1,4 +1,5 @@
 //! What an event is to do to a node.
+ghost use Rattle.std.specs.Prelude.{◌≡◌};
 
 use crate::change::{Change, Draws, MonitorChange};
 use crate::frame::Frame;
@@ -23,4 +24,13 @@ pub struct Plan {
     pub(crate) dials: bool,
     pub(crate) answer: Answer,
     pub(crate) effects: Vec<Effect<Frame>>,
+}
+
+impl Plan {
+    /// What it brings about, in order: what is sent among it, as bytes with its connection.
+    pub fn effects(&self) -> &[Effect<Frame>]
+        ensures { result.now ≡ self.now.effects.items }
+    {
+        &self.effects
+    }
 }

@@ -17,6 +17,7 @@ ghost use Rattle.dist_model.specs.Node as model;
 ghost use Rattle.dist_model.specs.Items.{Signalled};
 ghost use Rattle.dist_model.specs.World.{first_of as first_in};
 ghost use Rattle.node_plans.specs.Keeps.{is_sendable};
+ghost use Rattle.node_tables.specs.Lives.{life_of};
 ghost use Rattle.node_plans.specs.Seen.{seen};
 
 use crate::names::same_name;
@@ -29,7 +30,7 @@ use erl_term::{Atom, Pid};
 use link_core::End;
 use monitor_core::{Watchers, Watches};
 use node_sides::Which;
-use node_tables::FoundLink;
+use node_tables::{FoundLink, Life};
 
 impl Node {
     /// The name of the node.
@@ -111,6 +112,13 @@ impl Node {
         ensures { result.now.monitors ≡ (seen self.now).registered }
     {
         &self.watchers
+    }
+
+    /// What there is of a process: it lives, has ended, or there is none.
+    pub fn life(&self, process: &Pid) -> Option<&Life>
+        ensures { fm.get (seen self.now).lives process.now ≡ option_map life_of (option_copied result) }
+    {
+        self.incarnation.life(process)
     }
 
     /// Whether a process is living here.
