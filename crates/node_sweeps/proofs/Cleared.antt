@@ -1,5 +1,5 @@
 -- A plan that carries a sweep out leaves the sides as they are.
-use Rattle.std.proofs.Common.{◌≡◌, ℕ, Bool, true, false, Option, None, Some, refl, ap, subst, ◌∙◌}
+use Rattle.std.proofs.Common.{◌≡◌, ℕ, Bool, true, false, OnOk, Option, None, Some, Result, Ok, Err, refl, ap, subst, ◌∙◌}
 use Rattle.std.specs.FinMap as fm
 use Rattle.std.specs.Option.{option_map, option_or}
 use Rattle.std.specs.Ordering.{is_lt}
@@ -29,8 +29,10 @@ module _ (plan : Plan) (m : Node) (work : Work) (h : CarriesOut plan m work) whe
   pub same_sides : work.node.sides ≡ m.sides
   same_sides = ap (λ (n : Node). n.sides) h.node ∙ ap (λ xs. sides_after xs m.sides) h.still
 
-  pub still_sides : (new : Plan) → new ≡ plan → sides_after new.sides.items m.sides ≡ m.sides
-  still_sides new is = ap (λ (x : Plan). sides_after x.sides.items m.sides) is ∙ ap (λ xs. sides_after xs m.sides) h.still
+-- what holds either way holds where it is done
+pub on_done : {E X : Type 0} (r : Result (Unit {0}) E) → X → OnOk r X
+on_done (Ok done) x = x
+on_done (Err e) x = tt
 
 -- ---- the process of the first link is living
 

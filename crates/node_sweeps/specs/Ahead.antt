@@ -36,13 +36,9 @@ pub record IsBehindAll (peer : Name) (id : ℕ) (watch registration : Option Ref
   pub watches : NoneWatchedBefore peer watch m.watches
   pub registrations : NoneOwnedBefore peer registration m.registered
 
-abbrev pub IsAheadOf : Option Name → ℕ → (watch registration : Option Reference) → Node → Type 0
-IsAheadOf None id watch registration m = Unit {0}
-IsAheadOf (Some peer) id watch registration m = IsBehindAll peer id watch registration m
-
 -- what is behind is gone
 abbrev pub IsAhead : Sweeping → Node → Type 0
-IsAhead s m = IsAheadOf s.peer s.id s.watch s.registration m
+IsAhead s m = (peer : Name) → s.peer ≡ Some peer → IsBehindAll peer s.id s.watch s.registration m
 
 -- at the first record
 pub record Begins (s : Sweeping) : Type 0 where

@@ -1,5 +1,5 @@
 //! A record is swept, and its side closed once none is left.
-ghost use Rattle.std.specs.Prelude.{◌≡◌, None, Some, true, IfOk, OnOk};
+ghost use Rattle.std.specs.Prelude.{◌≡◌, None, Some, true, OnOk};
 ghost use Rattle.std.specs.FinMap as fm;
 ghost use Rattle.dist_model.specs.Losses.{close_if_swept, link_to, sweep_end, sweep_record, watch_to};
 ghost use Rattle.dist_model.specs.Losses as model_record;
@@ -9,11 +9,10 @@ ghost use Rattle.dist_model.specs.Work.{Work, at_work};
 ghost use Rattle.dist_model.specs.declared.report.Answer.TheVariants as the_answer;
 ghost use Rattle.dist_model.specs.declared.report.Swept.TheVariants as the_kind;
 ghost use Rattle.node_plans.specs.Carried.{CarriesOut, IsBlank, Makes, MakesOr};
-ghost use Rattle.node_plans.specs.Plans.{committed, told};
+ghost use Rattle.node_plans.specs.Plans.{told};
 ghost use Rattle.node_plans.specs.Seen.{seen};
 ghost use Rattle.node_sides.specs.Standings.{side_of, state_of};
 ghost use Rattle.node_sweeps.specs.Ahead.{NoneOwnedBefore, NoneWatchedBefore};
-ghost use Rattle.node_sweeps.specs.Done.{done};
 ghost use Rattle.node_sweeps.specs.Records.{has_records, link_entry, record_of};
 ghost use Rattle.node_sweeps.specs.declared.records.Record.TheVariants as the_record;
 
@@ -42,7 +41,6 @@ fn close_unless(
     ensures makes { (work : Work) → work.node.sides ≡ (seen node.now).sides → left ≡ has_records side.now.peer work.node →
         Makes plan.old (seen node.now) work → MakesOr (seen node.now) (close_if_swept side.now.trunk (side_of side.now) work) plan.new result }
     ensures told { (m : TheNode) → told plan.new m ≡ told plan.old m }
-    ensures left { left ≡ true → plan.new ≡ plan.old }
 {
     if left {
         Ok(())
@@ -51,7 +49,7 @@ fn close_unless(
     }
 }
 
-/// The first link is swept. It answers whether a record is left.
+/// The first link is swept.
 pub(crate) fn clear_link(
     alloc: Global,
     node: &Node,
@@ -59,7 +57,7 @@ pub(crate) fn clear_link(
     side: &Side,
     from: &Sweeping,
     link: &FoundLink<'_>,
-) -> Result<bool, AllocError>
+) -> Result<(), AllocError>
     requires up { (seen node.now).up ≡ true }
     requires blank { IsBlank plan.old }
     requires carries { CarriesOut plan.old (seen node.now) (at_work (seen node.now)) }
@@ -69,20 +67,17 @@ pub(crate) fn clear_link(
     requires watches { NoneWatchedBefore side.now.peer from.now.watch (seen node.now).watches }
     requires registrations { NoneOwnedBefore side.now.peer from.now.registration (seen node.now).registered }
     ensures makes { let swept = sweep_record (Some (record_of (seen node.now).mint (the_record.Link link.now))) (at_work (seen node.now)) in
-        MakesOr (seen node.now) (close_if_swept side.now.trunk (side_of side.now) swept) plan.new (done result) }
+        MakesOr (seen node.now) (close_if_swept side.now.trunk (side_of side.now) swept) plan.new result }
     ensures told { OnOk result (told plan.new (seen node.now) ≡ the_answer.Swept the_kind.Link) }
-    ensures stays { IfOk result (λ left. left ≡ true → (committed plan.new (seen node.now)).sides ≡ (seen node.now).sides) }
 {
     plan.answers(Answer::Swept(Swept::Link));
     let process = node.mint().pid(link.id)?;
     take_link(alloc, node, plan, &process, link.partner, link.end)?;
     let left = link_leaves(node, side.peer.atom(), from, &process, link);
-    close_unless(alloc, node, plan, side, left)?;
-    Ok(left)
+    close_unless(alloc, node, plan, side, left)
 }
 
-/// The first monitor of a process at the peer is swept, where no link is left. It answers whether a
-/// record is left.
+/// The first monitor of a process at the peer is swept, where no link is left.
 pub(crate) fn clear_watch(
     alloc: Global,
     node: &Node,
@@ -90,7 +85,7 @@ pub(crate) fn clear_watch(
     side: &Side,
     from: &Sweeping,
     watch: &(Reference, Monitor),
-) -> Result<bool, AllocError>
+) -> Result<(), AllocError>
     requires blank { IsBlank plan.old }
     requires carries { CarriesOut plan.old (seen node.now) (at_work (seen node.now)) }
     requires there { fm.get (seen node.now).sides side.now.trunk ≡ Some (side_of side.now) }
@@ -99,26 +94,23 @@ pub(crate) fn clear_watch(
     requires first { watch_to side.now.peer (fm.entries (seen node.now).watches) ≡ Some watch.now }
     requires registrations { NoneOwnedBefore side.now.peer from.now.registration (seen node.now).registered }
     ensures makes { let swept = sweep_record (Some (model_record.OfWatch watch.now.0 watch.now.1)) (at_work (seen node.now)) in
-        MakesOr (seen node.now) (close_if_swept side.now.trunk (side_of side.now) swept) plan.new (done result) }
+        MakesOr (seen node.now) (close_if_swept side.now.trunk (side_of side.now) swept) plan.new result }
     ensures told { OnOk result (told plan.new (seen node.now) ≡ the_answer.Swept the_kind.Watch) }
-    ensures stays { IfOk result (λ left. left ≡ true → (committed plan.new (seen node.now)).sides ≡ (seen node.now).sides) }
 {
     plan.answers(Answer::Swept(Swept::Watch));
     take_watch(alloc, plan, &watch.0, &watch.1)?;
     let left = watch_leaves(node, side.peer.atom(), from, &watch.0);
-    close_unless(alloc, node, plan, side, left)?;
-    Ok(left)
+    close_unless(alloc, node, plan, side, left)
 }
 
-/// The first monitor that a process at the peer has is swept, where no other record is left. It
-/// answers whether one of its kind is left.
+/// The first monitor that a process at the peer has is swept, where no other record is left.
 pub(crate) fn clear_registration(
     alloc: Global,
     node: &Node,
     plan: &mut Plan,
     side: &Side,
     reference: &Reference,
-) -> Result<bool, AllocError>
+) -> Result<(), AllocError>
     requires blank { IsBlank plan.old }
     requires carries { CarriesOut plan.old (seen node.now) (at_work (seen node.now)) }
     requires there { fm.get (seen node.now).sides side.now.trunk ≡ Some (side_of side.now) }
@@ -127,13 +119,11 @@ pub(crate) fn clear_registration(
     requires watches { watch_to side.now.peer (fm.entries (seen node.now).watches) ≡ None }
     requires first { NoneOwnedBefore side.now.peer (Some reference.now) (seen node.now).registered }
     ensures makes { let swept = sweep_record (Some (model_record.OfRegistration reference.now)) (at_work (seen node.now)) in
-        MakesOr (seen node.now) (close_if_swept side.now.trunk (side_of side.now) swept) plan.new (done result) }
+        MakesOr (seen node.now) (close_if_swept side.now.trunk (side_of side.now) swept) plan.new result }
     ensures told { OnOk result (told plan.new (seen node.now) ≡ the_answer.Swept the_kind.Registration) }
-    ensures stays { IfOk result (λ left. left ≡ true → (committed plan.new (seen node.now)).sides ≡ (seen node.now).sides) }
 {
     plan.answers(Answer::Swept(Swept::Registration));
     take_registration(plan, reference)?;
     let left = registration_leaves(node, side.peer.atom(), reference);
-    close_unless(alloc, node, plan, side, left)?;
-    Ok(left)
+    close_unless(alloc, node, plan, side, left)
 }

@@ -8,11 +8,11 @@ ghost use Rattle.dist_model.specs.declared.report.Answer.TheVariants as the_answ
 ghost use Rattle.dist_model.specs.declared.report.Swept.TheVariants as the_kind;
 ghost use Rattle.node_plans.specs.Carried.{CarriesOut, IsBlank, MakesOr};
 ghost use Rattle.node_plans.specs.Planned.{Plans};
-ghost use Rattle.node_plans.specs.Plans.{committed, told};
+ghost use Rattle.node_plans.specs.Plans.{told};
 ghost use Rattle.node_plans.specs.Seen.{seen};
 ghost use Rattle.node_sides.specs.Standings.{entry_of, side_of, state_of};
 ghost use Rattle.node_sweeps.specs.Ahead.{IsAhead, IsBehindAll};
-ghost use Rattle.node_sweeps.specs.Done.{GoesOn, done};
+ghost use Rattle.node_sweeps.specs.Done.{done};
 ghost use Rattle.node_sweeps.specs.Records.{record_of};
 
 use crate::clearing::{clear_link, clear_registration, clear_watch};
@@ -26,28 +26,27 @@ use node_connections::close_side;
 use node_plans::{Node, Plan};
 use std::alloc::{AllocError, Global};
 
-// The least record is swept. It answers whether one is left.
+// The least record is swept, and the side closed where none is left.
 fn clear(
     alloc: Global,
     node: &Node,
     plan: &mut Plan,
     side: &Side,
     from: &Sweeping,
-    record: &Record<'_>,
-) -> Result<bool, AllocError>
+    next: &Record<'_>,
+) -> Result<(), AllocError>
     requires up { (seen node.now).up ≡ true }
     requires blank { IsBlank plan.old }
     requires carries { CarriesOut plan.old (seen node.now) (at_work (seen node.now)) }
     requires there { fm.get (seen node.now).sides side.now.trunk ≡ Some (side_of side.now) }
     requires losing { is_losing (state_of side.now.standing) ≡ true }
     requires behind { IsBehindAll side.now.peer from.now.id from.now.watch from.now.registration (seen node.now) }
-    requires least { least_record side.now.peer (seen node.now) ≡ Some (record_of (seen node.now).mint record.now) }
-    ensures makes { let swept = sweep_record (Some (record_of (seen node.now).mint record.now)) (at_work (seen node.now)) in
-        MakesOr (seen node.now) (close_if_swept side.now.trunk (side_of side.now) swept) plan.new (done result) }
-    ensures told { OnOk result (told plan.new (seen node.now) ≡ the_answer.Swept (swept_kind (Some (record_of (seen node.now).mint record.now)))) }
-    ensures stays { IfOk result (λ left. left ≡ true → (committed plan.new (seen node.now)).sides ≡ (seen node.now).sides) }
+    requires least { least_record side.now.peer (seen node.now) ≡ Some (record_of (seen node.now).mint next.now) }
+    ensures makes { let swept = sweep_record (Some (record_of (seen node.now).mint next.now)) (at_work (seen node.now)) in
+        MakesOr (seen node.now) (close_if_swept side.now.trunk (side_of side.now) swept) plan.new result }
+    ensures told { OnOk result (told plan.new (seen node.now) ≡ the_answer.Swept (swept_kind (Some (record_of (seen node.now).mint next.now)))) }
 {
-    match record {
+    match next {
         Record::Link(link) => clear_link(alloc, node, plan, side, from, link),
         Record::Watch(watch) => clear_watch(alloc, node, plan, side, from, watch),
         Record::Registration(registration) => clear_registration(
@@ -61,12 +60,11 @@ fn clear(
 }
 
 // How far it has come with the least record.
-fn stand_at(node: &Node, side: &Side, record: &Record<'_>) -> Result<Sweeping, AllocError>
-    requires least { least_record side.now.peer (seen node.now) ≡ Some (record_of (seen node.now).mint record.now) }
-    ensures ahead { IfOk result (λ s. IsAhead s (seen node.now)) }
-    ensures peer { IfOk result (λ s. s.peer ≡ Some side.now.peer) }
+fn stand_at(node: &Node, side: &Side, next: &Record<'_>) -> Result<Sweeping, AllocError>
+    requires least { least_record side.now.peer (seen node.now) ≡ Some (record_of (seen node.now).mint next.now) }
+    ensures { IfOk result (λ s. IsAhead s (seen node.now)) }
 {
-    match record {
+    match next {
         Record::Link(link) => at_link(node, &side.peer, link),
         Record::Watch(watch) => at_watch(node, &side.peer, watch),
         Record::Registration(registration) => at_registration(node, &side.peer, &registration.0),
@@ -80,7 +78,7 @@ fn sweep_least(
     plan: &mut Plan,
     side: &Side,
     from: &Sweeping,
-    record: &Record<'_>,
+    next: &Record<'_>,
 ) -> Result<Sweeping, AllocError>
     requires up { (seen node.now).up ≡ true }
     requires blank { IsBlank plan.old }
@@ -89,18 +87,14 @@ fn sweep_least(
     requires there { fm.get (seen node.now).sides side.now.trunk ≡ Some (side_of side.now) }
     requires losing { is_losing (state_of side.now.standing) ≡ true }
     requires behind { IsBehindAll side.now.peer from.now.id from.now.watch from.now.registration (seen node.now) }
-    requires least { least_record side.now.peer (seen node.now) ≡ Some (record_of (seen node.now).mint record.now) }
-    ensures makes { let swept = sweep_record (Some (record_of (seen node.now).mint record.now)) (at_work (seen node.now)) in
+    requires least { least_record side.now.peer (seen node.now) ≡ Some (record_of (seen node.now).mint next.now) }
+    ensures makes { let swept = sweep_record (Some (record_of (seen node.now).mint next.now)) (at_work (seen node.now)) in
         MakesOr (seen node.now) (close_if_swept side.now.trunk (side_of side.now) swept) plan.new (done result) }
-    ensures told { OnOk result (told plan.new (seen node.now) ≡ the_answer.Swept (swept_kind (Some (record_of (seen node.now).mint record.now)))) }
+    ensures told { OnOk result (told plan.new (seen node.now) ≡ the_answer.Swept (swept_kind (Some (record_of (seen node.now).mint next.now)))) }
     ensures ahead { IfOk result (λ s. IsAhead s (seen node.now)) }
-    ensures goes_on { IfOk result (λ s. GoesOn s (committed plan.new (seen node.now))) }
 {
-    if clear(alloc, node, plan, side, from, record)? {
-        stand_at(node, side, record)
-    } else {
-        Ok(Sweeping::new())
-    }
+    clear(alloc, node, plan, side, from, next)?;
+    stand_at(node, side, next)
 }
 
 // No record is left: the side is closed.
@@ -118,7 +112,6 @@ fn close_swept(
     ensures makes { MakesOr (seen node.now) (close_if_swept side.now.trunk (side_of side.now) (at_work (seen node.now))) plan.new (done result) }
     ensures told { OnOk result (told plan.new (seen node.now) ≡ the_answer.Swept the_kind.Side) }
     ensures ahead { IfOk result (λ s. IsAhead s (seen node.now)) }
-    ensures goes_on { IfOk result (λ s. GoesOn s (committed plan.new (seen node.now))) }
 {
     plan.answers(Answer::Swept(Swept::Side));
     close_side(alloc, node, plan, side)?;
@@ -144,10 +137,9 @@ fn sweep_side(
         MakesOr (seen node.now) (close_if_swept side.now.trunk (side_of side.now) (sweep_record least (at_work (seen node.now)))) plan.new (done result) }
     ensures told { OnOk result (told plan.new (seen node.now) ≡ the_answer.Swept (swept_kind (least_record side.now.peer (seen node.now)))) }
     ensures ahead { IfOk result (λ s. IsAhead s (seen node.now)) }
-    ensures goes_on { IfOk result (λ s. GoesOn s (committed plan.new (seen node.now))) }
 {
     match least(node, side.peer.atom(), from) {
-        Some(record) => sweep_least(alloc, node, plan, side, from, &record),
+        Some(next) => sweep_least(alloc, node, plan, side, from, &next),
         None => close_swept(alloc, node, plan, side),
     }
 }
@@ -172,7 +164,6 @@ pub fn sweep(
     requires ahead { IsAhead so_far.now (seen node.now) }
     ensures plans { Plans (seen node.now) (sweep (seen node.now)) plan.new (done result) }
     ensures ahead { IfOk result (λ s. IsAhead s (seen node.now)) }
-    ensures goes_on { IfOk result (λ s. GoesOn s (committed plan.new (seen node.now))) }
 {
     let Some(side) = node.first_losing() else {
         return Err(Refusal::NothingThere);

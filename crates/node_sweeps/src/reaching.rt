@@ -22,8 +22,7 @@ pub(crate) fn at_link(
     link: &FoundLink<'_>,
 ) -> Result<Sweeping, AllocError>
     requires { link_to peer.now (fm.entries (seen node.now).ends) ≡ Some (link_entry (seen node.now).mint link.now) }
-    ensures ahead { IfOk result (λ s. IsAhead s (seen node.now)) }
-    ensures peer { IfOk result (λ s. s.peer ≡ Some peer.now) }
+    ensures { IfOk result (λ s. IsAhead s (seen node.now)) }
 {
     let _node = node;
     Ok(Sweeping {
@@ -42,8 +41,7 @@ pub(crate) fn at_watch(
 ) -> Result<Sweeping, AllocError>
     requires links { link_to peer.now (fm.entries (seen node.now).ends) ≡ None }
     requires first { watch_to peer.now (fm.entries (seen node.now).watches) ≡ Some watch.now }
-    ensures ahead { IfOk result (λ s. IsAhead s (seen node.now)) }
-    ensures peer { IfOk result (λ s. s.peer ≡ Some peer.now) }
+    ensures { IfOk result (λ s. IsAhead s (seen node.now)) }
 {
     Ok(Sweeping {
         peer: Some(peer.clone()?),
@@ -71,8 +69,7 @@ pub(crate) fn at_registration(
     requires links { link_to peer.now (fm.entries (seen node.now).ends) ≡ None }
     requires watches { watch_to peer.now (fm.entries (seen node.now).watches) ≡ None }
     requires first { NoneOwnedBefore peer.now (Some registration.now) (seen node.now).registered }
-    ensures ahead { IfOk result (λ s. IsAhead s (seen node.now)) }
-    ensures peer { IfOk result (λ s. s.peer ≡ Some peer.now) }
+    ensures { IfOk result (λ s. IsAhead s (seen node.now)) }
 {
     Ok(Sweeping {
         peer: Some(peer.clone()?),

@@ -3,7 +3,6 @@ ghost use Rattle.std.specs.Prelude.{◌≡◌, true};
 ghost use Rattle.dist_model.specs.Node.{Node as TheNode};
 ghost use Rattle.node_plans.specs.Seen.{seen};
 ghost use Rattle.node_sweeps.specs.Ahead.{Begins, IsAhead, IsBehindAll};
-ghost use Rattle.node_sweeps.specs.Done.{GoesOn};
 
 use erl_names::NodeName;
 use erl_term::{Atom, Reference};
@@ -29,7 +28,6 @@ impl Sweeping {
     pub fn new() -> Sweeping
         ensures ahead { (m : TheNode) → IsAhead result m }
         ensures begins { Begins result }
-        ensures idle { (m : TheNode) → GoesOn result m }
     {
         Sweeping {
             peer: None,

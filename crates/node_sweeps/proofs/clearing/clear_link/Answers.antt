@@ -5,10 +5,10 @@ use Rattle.dist_model.specs.Work.{at_work}
 use Rattle.erl_names.specs.Ids.{pid_of}
 use Rattle.erl_term.specs.declared.term.Pid.{Pid}
 use Rattle.node_plans.proofs.Making.{makes_it}
-use Rattle.node_plans.specs.Carried.{CarriesOut, Makes}
+use Rattle.node_plans.specs.Carried.{CarriesOut, MakesOr}
 use Rattle.node_plans.specs.Seen.{seen}
 use Rattle.node_sides.specs.Standings.{side_of}
-use Rattle.node_sweeps.proofs.Cleared.{first_lives, same_sides, still_sides}
+use Rattle.node_sweeps.proofs.Cleared.{on_done, first_lives, same_sides}
 use Rattle.node_sweeps.specs.Records.{has_records}
 use Rattle.node_sweeps.proofs.clearing.clear_link.Goals as goal
 
@@ -29,17 +29,10 @@ returns-clause-makes c =
     let same : p ≡ pid_of m.mint link.id = search rules in
     let h : CarriesOut c.take_link.new.plan m work = c.in_ok-take_link.ensures.carries (at_work m) (c.answers.ensures.carries m (at_work m) c.requires.carries) in
     let left : c.link_leaves-left.result ≡ has_records side.peer work.node = c.link_leaves-left.ensures ∙ ap (λ y. has_records y work.node) c.atom.ensures in
-    let P : Pid → Type 0 = λ x. Makes c.close_unless.new.plan m (close_if_swept side.trunk (side_of side) (sweep_end link.end x link.partner.now (at_work m))) in
-    subst P same (c.in_ok-close_unless.ensures.makes work (same_sides c.take_link.new.plan m work h) left (makes_it c.take_link.new.plan m work h))
+    let P : Pid → Type 0 = λ x. MakesOr m (close_if_swept side.trunk (side_of side) (sweep_end link.end x link.partner.now (at_work m))) c.close_unless.new.plan c.close_unless.result in
+    subst P same (c.close_unless.ensures.makes work (same_sides c.take_link.new.plan m work h) left (makes_it c.take_link.new.plan m work h))
 
 pub returns-clause-told : goal.returns-clause-told
 returns-clause-told c =
     let m = seen c.args.node.now in
-    c.in_ok-close_unless.ensures.told m ∙ c.in_ok-take_link.ensures.told m ∙ c.answers.ensures.told m
-
-pub returns-clause-stays : goal.returns-clause-stays
-returns-clause-stays c = λ t.
-    let m = seen c.args.node.now in
-    let work = sweep_end c.args.link.now.end c.in_ok-process.process c.args.link.now.partner.now (at_work m) in
-    let h : CarriesOut c.take_link.new.plan m work = c.in_ok-take_link.ensures.carries (at_work m) (c.answers.ensures.carries m (at_work m) c.requires.carries) in
-    still_sides c.take_link.new.plan m work h c.close_unless.new.plan (c.in_ok-close_unless.ensures.left t)
+    on_done c.close_unless.result (c.close_unless.ensures.told m ∙ c.in_ok-take_link.ensures.told m ∙ c.answers.ensures.told m)

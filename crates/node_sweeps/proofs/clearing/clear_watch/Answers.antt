@@ -9,7 +9,7 @@ use Rattle.exit_core.specs.Messages.{down_term}
 use Rattle.node_plans.proofs.Making.{makes_it}
 use Rattle.node_plans.specs.Carried.{CarriesOut}
 use Rattle.node_plans.specs.Seen.{seen}
-use Rattle.node_sweeps.proofs.Cleared.{same_sides, still_sides, watched_from}
+use Rattle.node_sweeps.proofs.Cleared.{on_done, same_sides, watched_from}
 use Rattle.node_sweeps.specs.Ahead.{NoneWatchedBefore}
 use Rattle.node_sweeps.specs.Records.{has_records}
 use Rattle.std.proofs.Common.{Some}
@@ -31,18 +31,9 @@ returns-clause-makes c =
     let lives : living m watch.1.owner ≡ true = c.args.node.now.steady.owners watch.0 watch.1 (watch_found side.peer m.watches watch c.requires.first).0 in
     let h : CarriesOut c.take_watch.new.plan m work = c.in_ok-take_watch.ensures.carries m (at_work m) lives (c.answers.ensures.carries m (at_work m) c.requires.carries) in
     let left : c.watch_leaves-left.result ≡ has_records side.peer work.node = c.watch_leaves-left.ensures ∙ ap (λ y. has_records y work.node) c.atom.ensures in
-    c.in_ok-close_unless.ensures.makes work (same_sides c.take_watch.new.plan m work h) left (makes_it c.take_watch.new.plan m work h)
+    c.close_unless.ensures.makes work (same_sides c.take_watch.new.plan m work h) left (makes_it c.take_watch.new.plan m work h)
 
 pub returns-clause-told : goal.returns-clause-told
 returns-clause-told c =
     let m = seen c.args.node.now in
-    c.in_ok-close_unless.ensures.told m ∙ c.in_ok-take_watch.ensures.told m ∙ c.answers.ensures.told m
-
-pub returns-clause-stays : goal.returns-clause-stays
-returns-clause-stays c = λ t.
-    let m = seen c.args.node.now in
-    let watch = c.args.watch.now in
-    let work : Work = put watch.1.owner (down_term watch.0 watch.1.target noconnection) (unwatch watch.0 (at_work m)) in
-    let lives : living m watch.1.owner ≡ true = c.args.node.now.steady.owners watch.0 watch.1 (watch_found c.args.side.now.peer m.watches watch c.requires.first).0 in
-    let h : CarriesOut c.take_watch.new.plan m work = c.in_ok-take_watch.ensures.carries m (at_work m) lives (c.answers.ensures.carries m (at_work m) c.requires.carries) in
-    still_sides c.take_watch.new.plan m work h c.close_unless.new.plan (c.in_ok-close_unless.ensures.left t)
+    on_done c.close_unless.result (c.close_unless.ensures.told m ∙ c.in_ok-take_watch.ensures.told m ∙ c.answers.ensures.told m)

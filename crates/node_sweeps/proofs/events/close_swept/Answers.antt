@@ -22,5 +22,5 @@ returns-clause-makes c =
 pub returns-clause-told : goal.returns-clause-told
 returns-clause-told c = let m = seen c.args.node.now in c.in_ok-close_side.ensures.told m ∙ c.answers.ensures.told m
 
-pub returns-clause-goes_on : goal.returns-clause-goes_on
-returns-clause-goes_on c = c.new.ensures.idle (committed c.close_side.new.plan (seen c.args.node.now))
+pub returns-clause-ahead : goal.returns-clause-ahead
+returns-clause-ahead c = c.new.ensures.ahead (seen c.args.node.now)

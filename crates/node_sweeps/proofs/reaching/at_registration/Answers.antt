@@ -1,4 +1,5 @@
-use Rattle.std.proofs.Common.{◌≡◌, Some, rules, sym, subst}
+use Rattle.std.proofs.Common.{◌≡◌, Some, rules, sym, subst, ◌∙◌}
+use Rattle.dist_model.proofs.Routes.{some_same}
 use Rattle.dist_model.specs.Names.{Name}
 use Rattle.erl_term.specs.declared.term.Reference.{Reference}
 use Rattle.node_plans.specs.Seen.{seen}
@@ -6,13 +7,13 @@ use Rattle.node_sweeps.proofs.Stands.{registration_stands}
 use Rattle.node_sweeps.specs.Ahead.{IsBehindAll}
 use Rattle.node_sweeps.proofs.reaching.at_registration.Goals as goal
 
-pub returns-clause-ahead : goal.returns-clause-ahead
-returns-clause-ahead c =
+pub returns : goal.returns
+returns c =
     let m = seen c.args.node.now in
     let registration = c.args.registration.now in
     let bound = c.in_ok-last_reference.field-0 in
-    let peer : c.in_ok-clone.field-0 ≡ c.args.peer.now = search rules in
+    let clone : c.in_ok-clone.field-0 ≡ c.args.peer.now = search rules in
     let same : c.in_ok-copied.field-0 ≡ registration = search rules in
     let P : Name → Reference → Type 0 = λ y r. IsBehindAll y c.pids.result bound (Some r) m in
-    subst (λ y. P y c.in_ok-copied.field-0) (sym peer) (subst (P c.args.peer.now) (sym same)
+    λ peer is. subst (λ y. P y c.in_ok-copied.field-0) (sym clone ∙ some_same _ peer is) (subst (P c.args.peer.now) (sym same)
     (registration_stands c.args.peer.now m c.pids.result bound registration c.requires.links c.requires.watches c.requires.first))

@@ -1,6 +1,5 @@
-use Rattle.std.proofs.Common.{◌≡◌, Some, rules, ap, sym, ◌∙◌, subst}
+use Rattle.std.proofs.Common.{◌≡◌, Some, rules, ap, sym, ◌∙◌}
 use Rattle.dist_model.proofs.Keys.{same_name_true}
-use Rattle.node_sweeps.specs.Ahead.{IsAheadOf}
 use Rattle.node_sweeps.proofs.sweeping.Sweeping.is_towards.Goals as goal
 
 pub returns-in-Some : goal.returns-in-Some
@@ -9,4 +8,4 @@ returns-in-Some c = λ m h a.
     let peer = c.args.peer.now in
     let is : s.peer ≡ Some c.in-Some.name = search rules in
     let same : c.in-Some.name ≡ peer = sym c.atom.ensures ∙ same_name_true c.atom.result.now peer (sym c.same_name.ensures ∙ h) in
-    subst (λ y. IsAheadOf y s.id s.watch s.registration m) (is ∙ ap (λ y. Some y) same) a
+    a peer (is ∙ ap (λ y. Some y) same)
