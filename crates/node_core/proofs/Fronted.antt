@@ -27,6 +27,7 @@ use Rattle.node_arrivals.specs.Fronts.{Front, Begins, Holds, Spoils}
 use Rattle.node_core.proofs.Staying.{comes_of_none}
 use Rattle.node_core.specs.Arrived.{PlansArrived, arrives, is_undialed, without_len}
 use Rattle.node_core.specs.declared.arriving.PlannedArrival.{PlannedArrival}
+use Rattle.node_core.specs.declared.planned.Planned.{Planned}
 use Rattle.node_core.specs.Staying.{Stays}
 use Rattle.node_plans.specs.Planned.{IsPlanned, IsRefused, Plans}
 use Rattle.node_plans.specs.declared.plan.Plan.{Plan}
@@ -43,7 +44,7 @@ not_both b h k = cc
 no_error : (len : ℕ) → ◌≡◌ {A = Result ℕ Refusal} (Ok len) (Err Refusal.NotLive) → ⊥
 no_error len h = cc
 
-no_plan : (plan : Plan) (e : Refusal) → ◌≡◌ {A = Result Plan Refusal} (Ok plan) (Err e) → ⊥
+no_plan : (plan : Planned) (e : Refusal) → ◌≡◌ {A = Result Planned Refusal} (Ok plan) (Err e) → ⊥
 no_plan plan e h = cc
 
 no_item : (trunk t : TrunkId) (item : Item) (v word : ℕ) → Arrive trunk None v ≡ Arrive t (Some item) word → ⊥
@@ -130,8 +131,8 @@ by_up m trunk bytes word plan taken steady counts down undialed came = go m.up r
 
 -- ---- what is planned at a node that runs
 
-abbrev pub with_len : Result Plan Refusal → ℕ → Result PlannedArrival Refusal
-with_len (Ok plan) len = Ok (record { plan = plan; len = len })
+abbrev pub with_len : Result Planned Refusal → ℕ → Result PlannedArrival Refusal
+with_len (Ok planned) len = Ok (record { planned = planned; len = len })
 with_len (Err e) len = Err e
 
 module _ (m : Node) (trunk : TrunkId) (bytes : List ℕ) (word : ℕ) (plan : Plan) (up : m.up ≡ true) where
@@ -141,8 +142,8 @@ module _ (m : Node) (trunk : TrunkId) (bytes : List ℕ) (word : ℕ) (plan : Pl
   at_running : (front : Front) (planned : Result (Unit {0}) Refusal) → Plans m (due front) plan planned → Plans m (arrives m trunk front word) plan planned
   at_running front planned h = let P : Outcome → Type 0 = (λ x. Plans m x plan planned) in subst P (sym (ap (λ b. cond b (due front) (Refuses Refusal.NodeDown)) up)) h
 
-  pub arrived : (taken : Result ℕ Refusal) (settled : Result Plan Refusal) → PlansBytes m (fm.get m.sides trunk) bytes due plan taken
-      → ((x : Outcome) → Plans m x plan (without_len taken) → MatchResult settled (IsPlanned m x) (IsRefused x))
+  pub arrived : (taken : Result ℕ Refusal) (settled : Result Planned Refusal) → PlansBytes m (fm.get m.sides trunk) bytes due plan taken
+      → ((x : Outcome) → Plans m x plan (without_len taken) → MatchResult settled (λ p. IsPlanned m x p.plan) (IsRefused x))
       → ((e : Refusal) → without_len taken ≡ Err e → settled ≡ Err e)
       → PlansArrived m trunk bytes word (with_len settled (result_unwrap_or taken 0))
   arrived (Ok len) (Ok new) h s r = record { front = h.front; is = h.is; plans = (s (arrives m trunk h.front word) (at_running h.front (Ok tt) h.plans.0), h.plans.1) }

@@ -29,7 +29,7 @@ without_len (Ok len) = Ok tt
 without_len (Err e) = Err e
 
 abbrev pub PlansFront : Node → Outcome → Front → Result PlannedArrival Refusal → Type 0
-PlansFront m due front (Ok arrival) = IsPlanned m due arrival.plan × (arrival.len ≡ len_of front)
+PlansFront m due front (Ok arrival) = IsPlanned m due arrival.planned.plan × (arrival.len ≡ len_of front)
 PlansFront m due front (Err e) = IsRefused due e
 
 pub record PlansArrived (m : Node) (trunk : TrunkId) (bytes : List ℕ) (word : ℕ) (result : Result PlannedArrival Refusal) : Type 0 where

@@ -1,3 +1,5 @@
 pub mod Done
 pub mod Staying
+pub mod Suiting
 pub mod Arrived
+pub mod Model

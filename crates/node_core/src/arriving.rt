@@ -4,11 +4,12 @@ ghost use Rattle.std.specs.FinMap as fm;
 ghost use Rattle.dist_model.specs.Work.{at_work};
 ghost use Rattle.erl_term.specs.declared.refusal.Refusal.TheVariants as refusal;
 ghost use Rattle.node_arrivals.specs.Coming.{PlansBytes, comes};
-ghost use Rattle.node_core.specs.Arrived.{DoesArrived, PlansArrived, is_undialed, without_len};
+ghost use Rattle.node_core.specs.Arrived.{PlansArrived, is_undialed, without_len};
+ghost use Rattle.node_core.specs.Suiting.{Suits};
 ghost use Rattle.node_plans.specs.Carried.{CarriesOut, IsBlank};
-ghost use Rattle.node_plans.specs.Room.{Fits};
 ghost use Rattle.node_plans.specs.Seen.{seen};
 
+use crate::planned::Planned;
 use crate::settling::settle;
 use dist_model::Report;
 use erl_names::TrunkId;
@@ -20,7 +21,7 @@ use std::alloc::Global;
 #[derive(Drop)]
 pub struct PlannedArrival {
     /// What is to be done.
-    pub plan: Plan,
+    pub planned: Planned,
     /// How many bytes are taken.
     pub len: usize,
 }
@@ -79,16 +80,9 @@ fn without_len(taken: Result<usize, Refusal>) -> Result<(), Refusal>
     }
 }
 
-/// Plans what a node does at the front of the bytes that come on a connection: an item is taken, and
-/// what is none breaks the side. The word becomes the challenge of a new side, and is not used
-/// elsewhere. The node stays as it is but for its room. (ERTS User's Guide, Distribution Protocol.)
-///
-/// # Errors
-/// The first that fits: [`Refusal::NodeDown`] at a node that has stopped; [`Refusal::NotLive`] where the
-/// side is lost or gone, where there is none and no message is whole yet, and where there is none and
-/// the node itself would have dialed; [`Refusal::NothingThere`] where nothing is whole yet; behind
-/// these [`Refusal::OutOfMemory`].
-pub fn plan_arrival(
+/// Plans what a node does at the front of the bytes that come on a connection. The node stays as it is
+/// but for its room.
+pub(crate) fn plan_arrival(
     alloc: Global,
     node: &mut Node,
     trunk: &TrunkId,
@@ -100,40 +94,13 @@ pub fn plan_arrival(
     ensures undialed { let m = seen node.old in m.up ≡ true → is_undialed m trunk.now (fm.get m.sides trunk.now) ≡ true → result ≡ Err refusal.NotLive }
     ensures came { let m = seen node.old in m.up ≡ true → is_undialed m trunk.now (fm.get m.sides trunk.now) ≡ false →
         PlansArrived m trunk.now bytes.now word result }
-    ensures fits { IfOk result (λ arrival. Fits node.new arrival.plan) }
+    ensures suits { IfOk result (λ arrival. Suits node.new arrival.planned) }
 {
     let mut plan = Plan::new(alloc, false);
     let taken = arrive_if_up(alloc, node, &mut plan, trunk, bytes, word);
     let len = taken.unwrap_or(0);
-    match settle(node, plan, without_len(taken)) {
-        Ok(plan) => Ok(PlannedArrival { plan, len }),
-        Err(e) => Err(e),
-    }
-}
-
-/// What comes on a connection is taken: planned, and carried out. (ERTS User's Guide, Distribution
-/// Protocol.)
-///
-/// # Errors
-/// As [`plan_arrival`]. Then nothing has changed.
-pub fn arrive(
-    alloc: Global,
-    node: &mut Node,
-    trunk: &TrunkId,
-    bytes: &[u8],
-    word: u32,
-) -> Result<Arrived, Refusal>
-    ensures down { (seen node.old).up ≡ false → (result ≡ Err refusal.NodeDown) × (seen node.new ≡ seen node.old) }
-    ensures undialed { let m = seen node.old in m.up ≡ true → is_undialed m trunk.now (fm.get m.sides trunk.now) ≡ true →
-        (result ≡ Err refusal.NotLive) × (seen node.new ≡ m) }
-    ensures came { let m = seen node.old in m.up ≡ true → is_undialed m trunk.now (fm.get m.sides trunk.now) ≡ false →
-        DoesArrived m (seen node.new) trunk.now bytes.now word result }
-{
-    match plan_arrival(alloc, node, trunk, bytes, word) {
-        Ok(PlannedArrival { plan, len }) => Ok(Arrived {
-            report: node.commit(alloc, plan),
-            len,
-        }),
+    match settle(node, plan, None, without_len(taken)) {
+        Ok(planned) => Ok(PlannedArrival { planned, len }),
         Err(e) => Err(e),
     }
 }

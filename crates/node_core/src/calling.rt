@@ -1,4 +1,4 @@
-//! A caller's command is planned, and carried out.
+//! A caller's command is planned.
 ghost use Rattle.std.specs.Prelude.{◌≡◌, IfOk, List, MatchResult, true};
 ghost use Rattle.dist_model.specs.Calls.{call};
 ghost use Rattle.dist_model.specs.Names.{Name};
@@ -6,18 +6,18 @@ ghost use Rattle.dist_model.specs.NodeEvents as event;
 ghost use Rattle.dist_model.specs.NodeEvents.{NodeEvent, at_node, if_up};
 ghost use Rattle.dist_model.specs.Work.{at_work};
 ghost use Rattle.dist_model.specs.declared.report.Answer.TheVariants as answer;
-ghost use Rattle.node_core.specs.Done.{Does};
+ghost use Rattle.node_core.specs.Suiting.{Suits};
 ghost use Rattle.node_plans.specs.Carried.{CarriesOut, IsBlank};
 ghost use Rattle.node_plans.specs.Planned.{IsPlanned, IsRefused, Plans};
 ghost use Rattle.node_plans.specs.Plans.{told};
-ghost use Rattle.node_plans.specs.Room.{Fits};
 ghost use Rattle.node_plans.specs.Seen.{seen};
 
+use crate::planned::Planned;
 use crate::settling::settle;
-use dist_model::{Command, Report};
+use dist_model::Command;
 use erl_term::Refusal;
 use node_calls::obey;
-use node_plans::{Frame, Node, Plan};
+use node_plans::{Node, Plan};
 use std::alloc::Global;
 
 // The same at any node.
@@ -34,32 +34,18 @@ fn obey_if_up(alloc: Global, node: &Node, plan: &mut Plan, command: Command) -> 
     obey(alloc, node, plan, command)
 }
 
-/// Plans a caller's command at a node, which stays as it is but for its room. (Reference Manual,
-/// Processes.)
-///
-/// # Errors
-/// As the model refuses the command, and behind that [`Refusal::OutOfMemory`].
-pub fn plan_call(alloc: Global, node: &mut Node, command: Command) -> Result<Plan, Refusal>
+/// Plans a caller's command at a node, which stays as it is but for its room.
+pub(crate) fn plan_call(
+    alloc: Global,
+    node: &mut Node,
+    command: Command,
+) -> Result<Planned, Refusal>
     ensures same { seen node.new ≡ seen node.old }
     ensures plan { (names : List Name) → let due = at_node names (seen node.old) (event.Call command) in
-        MatchResult result (IsPlanned (seen node.old) due) (IsRefused due) }
-    ensures fits { IfOk result (Fits node.new) }
+        MatchResult result (λ p. IsPlanned (seen node.old) due p.plan) (IsRefused due) }
+    ensures suits { IfOk result (Suits node.new) }
 {
     let mut plan = Plan::new(alloc, false);
     let planned = obey_if_up(alloc, node, &mut plan, command);
-    settle(node, plan, planned)
-}
-
-/// A caller's command is planned, and carried out. (Reference Manual, Processes.)
-///
-/// # Errors
-/// As the model refuses the command, and behind that [`Refusal::OutOfMemory`]. Then nothing has
-/// changed.
-pub fn call(alloc: Global, node: &mut Node, command: Command) -> Result<Report<Frame>, Refusal>
-    ensures { (names : List Name) → Does (at_node names (seen node.old) (event.Call command)) (seen node.old) (seen node.new) result }
-{
-    match plan_call(alloc, node, command) {
-        Ok(plan) => Ok(node.commit(alloc, plan)),
-        Err(e) => Err(e),
-    }
+    settle(node, plan, None, planned)
 }

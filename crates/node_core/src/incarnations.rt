@@ -16,7 +16,7 @@ use std::alloc::Global;
 ///
 /// # Errors
 /// [`Refusal::NodeDown`] at a node that has stopped. Then nothing has changed.
-pub fn stop(alloc: Global, node: &mut Node) -> Result<Report<Frame>, Refusal>
+pub(crate) fn stop(alloc: Global, node: &mut Node) -> Result<Report<Frame>, Refusal>
     ensures { (names : List Name) → Does (at_node names (seen node.old) event.Stop) (seen node.old) (seen node.new) result }
 {
     if !node.is_up() {
@@ -36,7 +36,7 @@ pub fn stop(alloc: Global, node: &mut Node) -> Result<Report<Frame>, Refusal>
 /// # Errors
 /// [`Refusal::NodeUp`] at a node that runs, and [`Refusal::IdsUsedUp`] behind the last incarnation.
 /// Then nothing has changed.
-pub fn start(alloc: Global, node: &mut Node) -> Result<Report<Frame>, Refusal>
+pub(crate) fn start(alloc: Global, node: &mut Node) -> Result<Report<Frame>, Refusal>
     ensures { (names : List Name) → Does (at_node names (seen node.old) event.Start) (seen node.old) (seen node.new) result }
 {
     if node.is_up() {

@@ -1,17 +1,20 @@
-//! What one node does at each event.
+//! One node: what it does at each event, planned and then carried out.
 #![tactic(auto)]
 
 mod arriving;
 mod calling;
+mod committing;
 mod dialing;
+mod events;
 mod incarnations;
 mod losing;
+mod node;
 mod own_list;
+mod planned;
+mod reading;
 mod settling;
+mod sweeping;
 
-pub use arriving::{Arrived, PlannedArrival, arrive, plan_arrival};
-pub use calling::{call, plan_call};
-pub use dialing::{dial, plan_dial};
-pub use incarnations::{start, stop};
-pub use losing::{lose, plan_loss};
-pub use own_list::{local, plan_local};
+pub use arriving::{Arrived, PlannedArrival};
+pub use node::Node;
+pub use planned::Planned;

@@ -7,18 +7,17 @@ ghost use Rattle.dist_model.specs.NodeEvents as event;
 ghost use Rattle.dist_model.specs.NodeEvents.{at_node, if_up};
 ghost use Rattle.dist_model.specs.Work.{at_work};
 ghost use Rattle.dist_model.specs.declared.report.Answer.TheVariants as answer;
-ghost use Rattle.node_core.specs.Done.{Does};
+ghost use Rattle.node_core.specs.Suiting.{Suits};
 ghost use Rattle.node_plans.specs.Carried.{Makes};
 ghost use Rattle.node_plans.specs.Planned.{IsPlanned, IsRefused, Plans};
 ghost use Rattle.node_plans.specs.Plans.{told};
-ghost use Rattle.node_plans.specs.Room.{Fits};
 ghost use Rattle.node_plans.specs.Seen.{seen};
 
+use crate::planned::Planned;
 use crate::settling::settle;
-use dist_model::Report;
 use erl_names::TrunkId;
 use erl_term::Refusal;
-use node_plans::{Frame, Node, Plan};
+use node_plans::{Node, Plan};
 use std::alloc::Global;
 
 // The same at any node.
@@ -34,33 +33,14 @@ fn lose_if_up(node: &Node, plan: &mut Plan, trunk: &TrunkId) -> Result<(), Refus
 }
 
 /// Plans that a node notices that a connection is lost, or gives an attempt up. The node stays as it
-/// is but for its room. (Reference Manual, Distributed Erlang.)
-///
-/// # Errors
-/// [`Refusal::NodeDown`] at a node that has stopped, [`Refusal::NotLive`] where there is nothing to
-/// lose, and behind these [`Refusal::OutOfMemory`].
-pub fn plan_loss(alloc: Global, node: &mut Node, trunk: &TrunkId) -> Result<Plan, Refusal>
+/// is but for its room.
+pub(crate) fn plan_loss(alloc: Global, node: &mut Node, trunk: &TrunkId) -> Result<Planned, Refusal>
     ensures same { seen node.new ≡ seen node.old }
     ensures plan { (names : List Name) → let due = at_node names (seen node.old) (event.Lose trunk.now) in
-        MatchResult result (IsPlanned (seen node.old) due) (IsRefused due) }
-    ensures fits { IfOk result (Fits node.new) }
+        MatchResult result (λ p. IsPlanned (seen node.old) due p.plan) (IsRefused due) }
+    ensures suits { IfOk result (Suits node.new) }
 {
     let mut plan = Plan::new(alloc, false);
     let planned = lose_if_up(node, &mut plan, trunk);
-    settle(node, plan, planned)
-}
-
-/// A node notices that a connection is lost, or gives an attempt up: planned, and carried out. What it
-/// has of processes beyond is swept away later, one record at a time. (Reference Manual, Distributed
-/// Erlang.)
-///
-/// # Errors
-/// As [`plan_loss`]. Then nothing has changed.
-pub fn lose(alloc: Global, node: &mut Node, trunk: &TrunkId) -> Result<Report<Frame>, Refusal>
-    ensures { (names : List Name) → Does (at_node names (seen node.old) (event.Lose trunk.now)) (seen node.old) (seen node.new) result }
-{
-    match plan_loss(alloc, node, trunk) {
-        Ok(plan) => Ok(node.commit(alloc, plan)),
-        Err(e) => Err(e),
-    }
+    settle(node, plan, None, planned)
 }

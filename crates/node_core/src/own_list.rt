@@ -1,4 +1,4 @@
-//! The first item of the own list is planned, and carried out.
+//! The first item of the own list is planned.
 ghost use Rattle.std.specs.Prelude.{◌≡◌, IfOk, List, ◌∷◌, MatchResult};
 ghost use Rattle.dist_model.specs.Names.{Name};
 ghost use Rattle.dist_model.specs.NodeEvents as event;
@@ -7,15 +7,14 @@ ghost use Rattle.dist_model.specs.Items.{Item as TheItem};
 ghost use Rattle.dist_model.specs.NodeEvents.{at_node, if_up};
 ghost use Rattle.dist_model.specs.Work.{at_work};
 ghost use Rattle.node_plans.specs.Carried.{CarriesOut, IsBlank};
-ghost use Rattle.node_core.specs.Done.{Does};
+ghost use Rattle.node_core.specs.Suiting.{Suits};
 ghost use Rattle.node_plans.specs.Planned.{IsPlanned, IsRefused, Plans};
-ghost use Rattle.node_plans.specs.Room.{Fits};
 ghost use Rattle.node_plans.specs.Seen.{seen};
 
+use crate::planned::Planned;
 use crate::settling::settle;
-use dist_model::Report;
 use erl_term::Refusal;
-use node_plans::{Frame, Node, Plan};
+use node_plans::{Node, Plan};
 use node_signals::take_first;
 use std::alloc::Global;
 
@@ -32,32 +31,14 @@ fn take_first_if_up(alloc: Global, node: &Node, plan: &mut Plan) -> Result<(), R
 }
 
 /// Plans that the first signal that travels from a node to itself comes. The node stays as it is but
-/// for its room. (Reference Manual, Processes, Delivery of Signals.)
-///
-/// # Errors
-/// [`Refusal::NodeDown`] at a node that has stopped, [`Refusal::NothingThere`] where nothing travels,
-/// and behind these [`Refusal::OutOfMemory`].
-pub fn plan_local(alloc: Global, node: &mut Node) -> Result<Plan, Refusal>
+/// for its room.
+pub(crate) fn plan_local(alloc: Global, node: &mut Node) -> Result<Planned, Refusal>
     ensures same { seen node.new ≡ seen node.old }
     ensures plan { (names : List Name) → let due = at_node names (seen node.old) event.Local in
-        MatchResult result (IsPlanned (seen node.old) due) (IsRefused due) }
-    ensures fits { IfOk result (Fits node.new) }
+        MatchResult result (λ p. IsPlanned (seen node.old) due p.plan) (IsRefused due) }
+    ensures suits { IfOk result (Suits node.new) }
 {
     let mut plan = Plan::new(alloc, true);
     let planned = take_first_if_up(alloc, node, &mut plan);
-    settle(node, plan, planned)
-}
-
-/// The first signal that travels from a node to itself comes: planned, and carried out. (Reference
-/// Manual, Processes, Delivery of Signals.)
-///
-/// # Errors
-/// As [`plan_local`]. Then nothing has changed.
-pub fn local(alloc: Global, node: &mut Node) -> Result<Report<Frame>, Refusal>
-    ensures { (names : List Name) → Does (at_node names (seen node.old) event.Local) (seen node.old) (seen node.new) result }
-{
-    match plan_local(alloc, node) {
-        Ok(plan) => Ok(node.commit(alloc, plan)),
-        Err(e) => Err(e),
-    }
+    settle(node, plan, None, planned)
 }

@@ -17,8 +17,8 @@ obey_if_up-planned-requires-clause-told c = c.new-plan.ensures.told (seen c.args
 pub obey_if_up-planned-requires-clause-carries : goal.obey_if_up-planned-requires-clause-carries
 obey_if_up-planned-requires-clause-carries c = c.new-plan.ensures.carries refl (seen c.args.node.now)
 
-pub settle-requires : goal.settle-requires
-settle-requires c =
+pub settle-requires-clause-stays : goal.settle-requires-clause-stays
+settle-requires-clause-stays c =
     let node = c.args.node.now in
     let e = event.Call c.args.command in
     stays [] (seen node) e _ _ node.steady node.counted (comes_of_none (seen node) e (no_item c.args.command)) c.obey_if_up-planned.ensures

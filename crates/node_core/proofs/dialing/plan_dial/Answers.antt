@@ -31,8 +31,8 @@ dial_if_up-planned-requires-clause-dials c = (c.new-plan.ensures.carries refl (s
 pub dial_if_up-planned-requires-clause-makes : goal.dial_if_up-planned-requires-clause-makes
 dial_if_up-planned-requires-clause-makes c = let m = seen c.args.node.now in makes_it _ m (at_work m) (c.new-plan.ensures.carries refl m)
 
-pub settle-requires : goal.settle-requires
-settle-requires c =
+pub settle-requires-clause-stays : goal.settle-requires-clause-stays
+settle-requires-clause-stays c =
     let node = c.args.node.now in
     let e = event.Dial c.args.peer.now c.args.word in
     let names = some_names c.args.is_known c.args.peer.now in

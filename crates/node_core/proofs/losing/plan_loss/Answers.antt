@@ -18,8 +18,8 @@ lose_if_up-planned-requires-clause-told c = c.new-plan.ensures.told (seen c.args
 pub lose_if_up-planned-requires-clause-makes : goal.lose_if_up-planned-requires-clause-makes
 lose_if_up-planned-requires-clause-makes c = let m = seen c.args.node.now in makes_it _ m (at_work m) (c.new-plan.ensures.carries refl m)
 
-pub settle-requires : goal.settle-requires
-settle-requires c =
+pub settle-requires-clause-stays : goal.settle-requires-clause-stays
+settle-requires-clause-stays c =
     let node = c.args.node.now in
     let e = event.Lose c.args.trunk.now in
     stays [] (seen node) e _ _ node.steady node.counted (comes_of_none (seen node) e (no_item c.args.trunk.now)) c.lose_if_up-planned.ensures

@@ -13,8 +13,8 @@ no_item t item word h = cc
 pub take_first_if_up-planned-requires-clause-taken : goal.take_first_if_up-planned-requires-clause-taken
 take_first_if_up-planned-requires-clause-taken c = λ first rest h. c.new-plan.ensures.taken refl (seen c.args.node.now) first rest h
 
-pub settle-requires : goal.settle-requires
-settle-requires c =
+pub settle-requires-clause-stays : goal.settle-requires-clause-stays
+settle-requires-clause-stays c =
     let node = c.args.node.now in
     stays [] (seen node) event.Local _ _ node.steady node.counted (comes_of_none (seen node) event.Local no_item) c.take_first_if_up-planned.ensures
 

@@ -1,0 +1,5 @@
+use Rattle.node_plans.specs.Seen.{seen}
+use Rattle.node_core.proofs.node.Node.stop.Goals as goal
+
+pub invariant_of-self : goal.invariant_of-self
+invariant_of-self c = record { ahead = c.new.ensures.ahead (seen c.stop.new.node) }

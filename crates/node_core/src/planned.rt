@@ -1,0 +1,23 @@
+//! What was planned of an event.
+ghost use Rattle.std.specs.Prelude.{◌≡◌};
+
+use dist_model::Effect;
+use node_plans::{Frame, Plan};
+use node_sweeps::Sweeping;
+
+/// What an event is to do to a node. All refusals are behind it, and all its memory is there.
+#[derive(Drop)]
+pub struct Planned {
+    pub(crate) plan: Plan,
+    /// How far a sweep has come by then, where the event is one.
+    pub(crate) sweeping: Option<Sweeping>,
+}
+
+impl Planned {
+    /// What it brings about, in order: what is sent among it, as bytes with its connection.
+    pub fn effects(&self) -> &[Effect<Frame>]
+        ensures { result.now ≡ self.now.plan.effects.items }
+    {
+        self.plan.effects()
+    }
+}

@@ -1,0 +1,119 @@
+//! A new node, and what a node says of itself.
+ghost use Rattle.std.specs.Prelude.{◌≡◌, IfOk, is_some};
+ghost use Rattle.std.specs.FinMap as fm;
+ghost use Rattle.std.specs.Option.{option_copied, option_map};
+ghost use Rattle.dist_model.specs.Node.{end_of, living, route, side_where};
+ghost use Rattle.dist_model.specs.Quiet.{nothing_between};
+ghost use Rattle.dist_model.specs.Runs.{new_node};
+ghost use Rattle.dist_model.specs.Sides.{holds};
+ghost use Rattle.node_core.specs.Model.{model_of};
+ghost use Rattle.node_sides.specs.Standings.{side_of};
+ghost use Rattle.node_tables.specs.Lives.{life_of};
+
+use crate::node::Node;
+use conn_core::Side;
+use erl_handshake::Cookie;
+use erl_names::{NodeName, TrunkId};
+use erl_term::{Atom, Pid};
+use link_core::End;
+use node_plans::Node as State;
+use node_sides::Which;
+use node_sweeps::Sweeping;
+use node_tables::Life;
+use std::alloc::{AllocError, Global};
+
+impl Node {
+    /// A node of this name that runs, in its first incarnation. (Reference Manual, Distributed
+    /// Erlang, Nodes.)
+    ///
+    /// # Errors
+    /// Where there is no memory for the name.
+    pub fn new(alloc: Global, name: NodeName, cookie: Cookie) -> Result<Node, AllocError>
+        ensures { IfOk result (λ node. model_of node ≡ new_node name cookie) }
+    {
+        Ok(Node {
+            state: State::new(alloc, name, cookie)?,
+            sweeping: Sweeping::new(),
+        })
+    }
+
+    /// The name of the node.
+    pub fn name(&self) -> &NodeName
+        ensures { result.now ≡ (model_of self.now).mint.name }
+    {
+        self.state.name()
+    }
+
+    /// Whether the node runs.
+    pub fn is_up(&self) -> bool
+        ensures { result ≡ (model_of self.now).up }
+    {
+        self.state.is_up()
+    }
+
+    /// The creation of its incarnation. (ERTS User's Guide, Distribution Protocol, Distribution
+    /// Handshake, on creations.)
+    pub fn creation(&self) -> u32
+        ensures { result ≡ (model_of self.now).mint.creation }
+    {
+        self.state.mint().creation().number()
+    }
+
+    /// How many processes its incarnation has spawned: their ids are 1 to this.
+    pub fn spawned(&self) -> u32
+        ensures { result ≡ (model_of self.now).mint.pids }
+    {
+        self.state.mint().pids()
+    }
+
+    /// What there is of a process: it lives, has ended for a reason, or there is none. (Reference
+    /// Manual, Processes.)
+    pub fn life(&self, process: &Pid) -> Option<&Life>
+        ensures { fm.get (model_of self.now).lives process.now ≡ option_map life_of (option_copied result) }
+    {
+        self.state.life(process)
+    }
+
+    /// Whether a process is living here.
+    pub fn is_living(&self, process: &Pid) -> bool
+        ensures { result ≡ living (model_of self.now) process.now }
+    {
+        self.state.is_living(process)
+    }
+
+    /// The end that a process has of its link to a partner. (ERTS User's Guide, Distribution Protocol,
+    /// New Link Protocol.)
+    pub fn end(&self, process: &Pid, partner: &Pid) -> End
+        ensures { result ≡ end_of (model_of self.now) process.now partner.now }
+    {
+        self.state.end(process, partner)
+    }
+
+    /// Whether nothing travels between two processes of the node.
+    pub fn has_nothing_between(&self, p: &Pid, q: &Pid) -> bool
+        ensures { result ≡ nothing_between p.now q.now (model_of self.now).local }
+    {
+        self.state.has_nothing_between(p, q)
+    }
+
+    /// The side of a connection. (ERTS User's Guide, Distribution Protocol.)
+    pub fn side(&self, trunk: &TrunkId) -> Option<&Side>
+        ensures { option_map side_of (option_copied result) ≡ fm.get (model_of self.now).sides trunk.now }
+    {
+        self.state.side(trunk)
+    }
+
+    /// The connection that is up to a peer.
+    pub fn route(&self, peer: &Atom) -> Option<&TrunkId>
+        ensures { option_copied result ≡ route (model_of self.now) peer.now }
+    {
+        self.state.route(peer)
+    }
+
+    /// Whether there is a connection to a peer that is up, or lost and not yet swept.
+    pub fn is_connected(&self, peer: &Atom) -> bool
+        ensures { result ≡ is_some (side_where holds peer.now (fm.entries (model_of self.now).sides)) }
+    {
+        self.state.first_towards(peer, Which::Holding).is_some()
+    }
+}
