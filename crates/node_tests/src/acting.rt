@@ -1,0 +1,181 @@
+//! The events of the rows.
+use crate::rows::{Event, Process, Said, Trunk};
+use dist_model::{Command, Report};
+use erl_handshake::Cookie;
+use erl_names::{NodeName, TrunkId};
+use erl_term::{Atom, Payload, Pid, Reference, ReferenceWords, Refusal, Term};
+use node_core::Node;
+use node_plans::Frame;
+use std::alloc::Global;
+
+/// The cookie of the node, and of its peers.
+const SECRET: &[u8] = b"1234567890123456789012345678901234567890123456789012345678901234567890";
+
+/// The word that each event draws.
+const WORD: u32 = 1234567890;
+
+/// The node a@h.
+pub fn node(alloc: Global) -> Result<Node, Refusal> {
+    let name = NodeName::read(alloc, "a@h")?;
+    let cookie = Cookie::new(Vec::from_slice(alloc, SECRET)?);
+    Ok(Node::new(alloc, name, cookie)?)
+}
+
+pub fn atom(alloc: Global, text: &str) -> Result<Atom, Refusal> {
+    let text = String::from_str(alloc, text)?;
+    if !Atom::fits(text.as_str()) {
+        return Err(Refusal::BadName);
+    }
+    Ok(Atom::new(text))
+}
+
+pub fn pid(alloc: Global, process: Process) -> Result<Pid, Refusal> {
+    let (node, creation, id) = process;
+    Ok(Pid {
+        node: atom(alloc, node)?,
+        creation,
+        id,
+        serial: 0,
+    })
+}
+
+/// The reference of the node's first incarnation that has this word, 0 and 0.
+fn reference(alloc: Global, word: u32) -> Result<Reference, Refusal> {
+    let words = ReferenceWords::new(&[word, 0, 0]).ok_or(Refusal::BadName)?;
+    Ok(Reference {
+        node: atom(alloc, "a@h")?,
+        creation: 1,
+        words,
+    })
+}
+
+pub fn trunk(alloc: Global, trunk: Trunk) -> Result<TrunkId, Refusal> {
+    let (dialer, count) = trunk;
+    Ok(TrunkId {
+        dialer: NodeName::read(alloc, dialer)?,
+        count,
+    })
+}
+
+fn nested(alloc: Global, levels: usize) -> Result<Term, Refusal> {
+    let mut term = Term::Int(0);
+    for _ in 0..levels {
+        let mut items = Vec::with_capacity(alloc, 1)?;
+        items.push(term)?;
+        term = Term::Tuple(items);
+    }
+    Ok(term)
+}
+
+fn said(alloc: Global, what: Said) -> Result<Payload, Refusal> {
+    let term = match what {
+        Said::Atom(name) => Term::Atom(atom(alloc, name)?),
+        Said::Nested(levels) => nested(alloc, levels)?,
+    };
+    Ok(Payload::new(term))
+}
+
+/// A command of a process that names another one.
+fn command_between(
+    alloc: Global,
+    event: Event,
+    from: Process,
+    to: Process,
+) -> Result<Command, Refusal> {
+    let from = pid(alloc, from)?;
+    let to = pid(alloc, to)?;
+    Ok(match event {
+        Event::Send(_, _, what) => Command::Send {
+            from,
+            to,
+            message: said(alloc, what)?,
+        },
+        Event::ExitTo(_, _, what) => Command::ExitTo {
+            from,
+            to,
+            reason: said(alloc, what)?,
+        },
+        Event::Link(..) => Command::Link { from, to },
+        Event::Unlink(..) => Command::Unlink { from, to },
+        _ => Command::Monitor {
+            owner: from,
+            target: to,
+        },
+    })
+}
+
+/// A command of a process, or none.
+fn command_of(alloc: Global, event: Event) -> Result<Command, Refusal> {
+    Ok(match event {
+        Event::Send(from, to, _)
+        | Event::ExitTo(from, to, _)
+        | Event::Link(from, to)
+        | Event::Unlink(from, to)
+        | Event::Monitor(from, to) => command_between(alloc, event, from, to)?,
+        Event::Demonitor(owner, word) => Command::Demonitor {
+            owner: pid(alloc, owner)?,
+            reference: reference(alloc, word)?,
+        },
+        Event::Trap(process, on) => Command::Trap {
+            process: pid(alloc, process)?,
+            on,
+        },
+        Event::ExitSelf(process, what) => Command::ExitSelf {
+            process: pid(alloc, process)?,
+            reason: said(alloc, what)?,
+        },
+        Event::Receive(process) => Command::Receive {
+            process: pid(alloc, process)?,
+        },
+        Event::LinksOf(process) => Command::LinksOf {
+            process: pid(alloc, process)?,
+        },
+        Event::IsAlive(process) => Command::IsAlive {
+            process: pid(alloc, process)?,
+        },
+        _ => Command::Spawn,
+    })
+}
+
+fn dial(
+    alloc: Global,
+    node: &mut Node,
+    peer: &str,
+    is_known: bool,
+) -> Result<Report<Frame>, Refusal> {
+    let peer = NodeName::read(alloc, peer)?;
+    node.dial(alloc, is_known, &peer, WORD)
+}
+
+fn lose(alloc: Global, node: &mut Node, lost: Trunk) -> Result<Report<Frame>, Refusal> {
+    let trunk = trunk(alloc, lost)?;
+    node.lose(alloc, &trunk)
+}
+
+/// All of the bytes are taken.
+fn arrive(
+    alloc: Global,
+    node: &mut Node,
+    on: Trunk,
+    bytes: &[u8],
+) -> Result<Report<Frame>, Refusal> {
+    let trunk = trunk(alloc, on)?;
+    Ok(node.arrive(alloc, &trunk, bytes, WORD)?.report)
+}
+
+/// What the node does at an event.
+pub fn act(alloc: Global, node: &mut Node, event: Event) -> Result<Report<Frame>, Refusal> {
+    match event {
+        Event::Local => node.local(alloc),
+        Event::Sweep => node.sweep(alloc),
+        Event::Stop => node.stop(alloc),
+        Event::Start => node.start(alloc),
+        Event::Dial(peer, is_known) => dial(alloc, node, peer, is_known),
+        Event::Lose(lost) => lose(alloc, node, lost),
+        Event::Arrive(on, wire) => arrive(alloc, node, on, wire.bytes()),
+        _ => {
+            let command = command_of(alloc, event)?;
+            node.call(alloc, command)
+        }
+    }
+}
