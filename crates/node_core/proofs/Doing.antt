@@ -1,5 +1,5 @@
 -- A plan that is carried out does what was planned.
-use Rattle.std.proofs.Common.{◌≡◌, ℕ, List, sym, ap, ◌∙◌}
+use Rattle.std.proofs.Common.{◌≡◌, sym, ap, ◌∙◌}
 use Rattle.std.specs.declared.alloc.Global.{Global}
 use Rattle.std.specs.declared.vec.Vec.{Vec}
 use Rattle.dist_model.specs.Commands.{Outcome}
@@ -7,11 +7,12 @@ use Rattle.dist_model.specs.Node.{Node}
 use Rattle.dist_model.specs.declared.report.Effect.{Effect}
 use Rattle.dist_model.specs.declared.report.Report.{Report}
 use Rattle.node_core.specs.Done.{Did}
+use Rattle.node_plans.specs.Frames.{Framed}
 use Rattle.node_plans.specs.Planned.{IsPlanned}
 use Rattle.node_plans.specs.Plans.{committed, told}
 use Rattle.node_plans.specs.declared.plan.Plan.{Plan}
 
-pub done : (m new : Node) (outcome : Outcome) (plan : Plan) (report : Report (List ℕ)) → IsPlanned m outcome plan
+pub done : (m new : Node) (outcome : Outcome) (plan : Plan) (report : Report Framed) → IsPlanned m outcome plan
     → new ≡ committed plan m → report.answer ≡ told plan m → report.effects ≡ plan.effects → Did outcome new report
 done m new outcome plan report h n t e = record {
   answer = h.answer;
@@ -19,5 +20,6 @@ done m new outcome plan report h n t e = record {
   accepts = h.accepts;
   told = t ∙ h.told;
   node = n ∙ sym h.makes.node;
-  effects = ap (λ (xs : Vec (Effect (List ℕ)) Global). xs.items) e ∙ h.makes.effects;
+  effects = ap (λ (xs : Vec (Effect Framed) Global). xs.items) e ∙ h.makes.effects;
+  spelled = h.makes.spelled;
 }

@@ -16,4 +16,5 @@ makes_it plan m work h = record {
   dials = (λ e. not_both plan.dials h.calm e);
   node = h.node;
   effects = h.effects;
+  spelled = h.spelled;
 }

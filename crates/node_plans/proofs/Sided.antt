@@ -1,5 +1,5 @@
 -- A plan in which a side changes, or a message of the handshake is sent.
-use Rattle.std.proofs.Common.{◌≡◌, ℕ, List, [], ◌∷◌, ◌++◌, refl, sym, ap, subst, ◌∙◌}
+use Rattle.std.proofs.Common.{◌≡◌, List, [], ◌∷◌, ◌++◌, refl, sym, ap, subst, ◌∙◌}
 use Rattle.std.specs.FinMap.{FinMap}
 use Rattle.std.specs.declared.alloc.Global.{Global}
 use Rattle.std.specs.declared.vec.Vec.{Vec}
@@ -10,12 +10,12 @@ use Rattle.dist_model.specs.Work.{Work, report}
 use Rattle.dist_model.specs.declared.report.Effect.{Effect}
 use Rattle.erl_names.specs.Order.{trunk_cmp}
 use Rattle.node_plans.specs.Carried.{Lets, LetsAll, Makes, sided}
-use Rattle.node_plans.specs.Frames.{shown}
+use Rattle.node_plans.specs.Frames.{Framed, SendsSpelled, shown}
 use Rattle.node_plans.specs.Plans.{sides_after}
 use Rattle.node_plans.specs.declared.plan.Plan.{Plan}
 use Rattle.node_sides.specs.Changes.{side_changed}
 use Rattle.node_sides.specs.declared.change.SideChange.{SideChange}
-use Rattle.node_plans.proofs.Posted.{map_push}
+use Rattle.node_plans.proofs.Posted.{map_push, spelled_push}
 
 one_more : (changes : List SideChange) (change : SideChange) (sides : FinMap trunk_cmp TrunkSide) → sides_after (changes ++ change ∷ []) sides ≡ side_changed change (sides_after changes sides)
 one_more [] change sides = refl
@@ -41,14 +41,16 @@ module _ (plan : Plan) (m : Node) (work : Work) (h : Makes plan m work) where
         dials = h.dials;
         node = (λ i. record (h.node i) { sides = more i });
         effects = h.effects;
+        spelled = h.spelled;
       }
 
-  pub reported : (effect : Effect Item) (effects : Vec (Effect (List ℕ)) Global) → effects.items ≡ plan.effects.items ++ shown effect ∷ []
+  pub reported : (effect : Effect Item) (effects : Vec (Effect Framed) Global) → effects.items ≡ plan.effects.items ++ shown effect ∷ [] → SendsSpelled effect
       → Makes (record plan { effects = effects }) m (report effect work)
-  reported effect effects e = record {
+  reported effect effects e s = record {
     sound = record { suits = h.sound.suits; next = h.sound.next; sendable = h.sound.sendable };
     sides = h.sides;
     dials = h.dials;
     node = h.node;
     effects = e ∙ ap (λ xs. xs ++ shown effect ∷ []) h.effects ∙ sym (map_push shown work.effects effect);
+    spelled = spelled_push work.effects effect h.spelled s;
   }

@@ -14,7 +14,7 @@ use Rattle.node_sides.specs.declared.change.SideChange.{SideChange}
 use Rattle.node_sides.specs.declared.change.SideChange.TheVariants as side
 use Rattle.erl_term.specs.Order.{pid_cmp}
 use Rattle.erl_term.specs.declared.term.Pid.{Pid}
-use Rattle.node_plans.specs.Frames.{shown}
+use Rattle.node_plans.specs.Frames.{AllSpelled, shown}
 use Rattle.node_plans.specs.Keeps.{are_sendable}
 use Rattle.node_plans.specs.Plans.{committed}
 use Rattle.node_plans.specs.declared.change.Change.{Change}
@@ -62,6 +62,7 @@ pub record Makes (plan : Plan) (m : Node) (work : Work) : Type 0 where
   pub dials : plan.dials ≡ true → m.dialed < 2 ^ 64 - 1
   pub node : work.node ≡ committed plan m
   pub effects : plan.effects.items ≡ map shown work.effects
+  pub spelled : AllSpelled work.effects
 
 -- unless memory was wanting
 abbrev pub MakesOr : Node → Work → Plan → Result (Unit {0}) AllocError → Type 0
@@ -79,6 +80,7 @@ pub record CarriesOut (plan : Plan) (m : Node) (work : Work) : Type 0 where
   pub calm : plan.dials ≡ false
   pub node : work.node ≡ committed plan m
   pub effects : plan.effects.items ≡ map shown work.effects
+  pub spelled : AllSpelled work.effects
 
 -- unless memory was wanting
 abbrev pub Carries : Node → Work → Plan → Result (Unit {0}) AllocError → Type 0

@@ -30,4 +30,5 @@ returns-in-Ok c = λ names.
       told = ap Answer.Started number;
       node = c.in-Ok.ensures.node;
       effects = c.new.ensures.items;
+      spelled = tt;
     }

@@ -18,4 +18,5 @@ returns c = λ names.
       told = refl;
       node = c.stop.ensures;
       effects = c.new.ensures.items;
+      spelled = tt;
     }

@@ -1,7 +1,7 @@
 use Rattle.std.proofs.Common.{◌≡◌, ◌++◌, ◌∷◌, [], Some, rules}
 use Rattle.dist_model.specs.Items.{Handshake}
 use Rattle.dist_model.specs.declared.report.Effect.{Effect}
-use Rattle.erl_handshake.specs.Messages.{written}
+use Rattle.node_plans.specs.Frames.{IsSpelled, framed}
 use Rattle.node_plans.proofs.Sided.{reported}
 use Rattle.node_plans.proofs.plan.Plan.write.Goals as goal
 
@@ -9,5 +9,6 @@ pub returns-clause-makes : goal.returns-clause-makes
 returns-clause-makes c = λ m w h.
     let t = c.args.trunk.now in
     let y = c.args.peer.now in
-    let out : c.push.new.self.items ≡ c.args.self.now.effects.items ++ Effect.Sent (Some t) y (written c.args.message.now) ∷ [] = search rules in
-    reported c.args.self.now m w h (Effect.Sent (Some t) y (Handshake c.args.message.now)) c.push.new.self out
+    let spelled : IsSpelled (Handshake c.args.message.now) = search rules in
+    let out : c.push.new.self.items ≡ c.args.self.now.effects.items ++ Effect.Sent (Some t) y (framed (Handshake c.args.message.now)) ∷ [] = search rules in
+    reported c.args.self.now m w h (Effect.Sent (Some t) y (Handshake c.args.message.now)) c.push.new.self out spelled
