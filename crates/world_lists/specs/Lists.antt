@@ -1,0 +1,60 @@
+-- What travels on each connection to each of its nodes, as it was sent.
+-- (Reference Manual, Processes, Delivery of Signals.)
+use Rattle.std.specs.Prelude.{Option, unwrap_or, None, Some, Bool, false, not, if◌then◌else◌, List, [], ◌∷◌, ◌++◌, ◌&&◌, ◌||◌}
+use Rattle.std.specs.FinMap.{find}
+use Rattle.std.specs.List.{list_all}
+use Rattle.std.specs.Ordering.{eq_by_cmp}
+use Rattle.dist_model.specs.Names.{Name, place_cmp, same_pid}
+use Rattle.dist_model.specs.declared.report.Effect.{Effect}
+use Rattle.erl_names.specs.Order.{name_cmp, trunk_cmp}
+use Rattle.erl_names.specs.declared.trunk.TrunkId.{TrunkId}
+use Rattle.erl_term.specs.declared.term.Pid.{Pid}
+use Rattle.node_plans.specs.Frames.{Framed}
+
+-- by the node that it travels to
+abbrev pub Line : Type 0
+Line = List (Name × List Framed)
+
+-- by the connection
+abbrev pub Lines : Type 0
+Lines = List (TrunkId × Line)
+
+abbrev pub in_line : Line → Name → List Framed
+in_line line to = unwrap_or (find name_cmp to line) []
+
+-- on that connection to that node, the first to come first
+abbrev pub at : Lines → TrunkId → Name → List Framed
+at lines trunk to = in_line (unwrap_or (find trunk_cmp trunk lines) []) to
+
+abbrev pub first_of : List Framed → Option Framed
+first_of [] = None
+first_of (frame ∷ rest) = Some frame
+
+abbrev pub behind_first : List Framed → List Framed
+behind_first [] = []
+behind_first (frame ∷ rest) = rest
+
+-- ---- what is sent
+
+-- one frame more, at its place
+abbrev pub one_at : TrunkId × Name → TrunkId × Name → Framed → List Framed
+one_at place of frame = if eq_by_cmp place_cmp place of then frame ∷ [] else []
+
+-- what is sent on a connection to a node
+abbrev pub sent_at : TrunkId → Name → List (Effect Framed) → List Framed
+sent_at trunk to [] = []
+sent_at trunk to (Effect.Sent (Some on) peer frame ∷ rest) = one_at (trunk, to) (on, peer) frame ++ sent_at trunk to rest
+sent_at trunk to (effect ∷ rest) = sent_at trunk to rest
+
+-- ---- what travels between two processes
+
+abbrev pub joins : Pid → Pid → Option (Pid × Pid) → Bool
+joins p q None = false
+joins p q (Some pids) = same_pid pids.0 p && same_pid pids.1 q
+
+-- a signal of one of them to the other
+abbrev pub is_between : Pid → Pid → Framed → Bool
+is_between p q frame = joins p q frame.between || joins q p frame.between
+
+abbrev pub nothing_between : Pid → Pid → List Framed → Bool
+nothing_between p q = list_all (λ frame. not (is_between p q frame))
