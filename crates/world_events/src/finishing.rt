@@ -1,0 +1,36 @@
+//! What was planned is sent, and carried out.
+ghost use Rattle.std.specs.Prelude.{◌≡◌, List};
+ghost use Rattle.dist_model.specs.Commands.{Outcome};
+ghost use Rattle.node_core.specs.Model.{IsFor, model_of};
+ghost use Rattle.node_plans.specs.Planned.{IsPlanned};
+ghost use Rattle.world_events.specs.Events.{Sends};
+
+use dist_model::Report;
+use erl_term::Refusal;
+use node_core::{Node, Planned};
+use node_plans::Frame;
+use std::alloc::Global;
+use world_lists::Lists;
+
+/// What was planned for a node as it is, is sent, and then carried out.
+///
+/// # Errors
+/// [`Refusal::OutOfMemory`]. Then nothing has changed.
+pub(crate) fn finish(
+    alloc: Global,
+    node: &mut Node,
+    lists: &mut Lists,
+    planned: Planned,
+) -> Result<Report<Frame>, Refusal>
+    requires { IsFor node.old planned }
+    ensures { (due : Outcome) → IsPlanned (model_of node.old) due planned.plan →
+        Sends due (model_of node.old) (model_of node.new) lists.old lists.new result }
+{
+    match lists.send(alloc, planned.effects()) {
+        Ok(()) => Ok(node.commit(alloc, planned)),
+        Err(_) => {
+            drop(planned);
+            Err(Refusal::OutOfMemory)
+        }
+    }
+}
