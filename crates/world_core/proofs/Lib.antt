@@ -1,0 +1,5 @@
+pub mod Going
+pub mod Named
+pub mod Opened
+pub mod Reached
+pub mod Stepped

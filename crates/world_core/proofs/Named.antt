@@ -1,0 +1,94 @@
+-- Names of nodes, and the node at a place by its name.
+use Rattle.std.proofs.Common.{◌≡◌, ◌<◌, ◌≤◌, ◌||◌, ◌&&◌, ℕ, zero, suc, Bool, true, false, cond, not, List, [], ◌∷◌, map, length, Option, None, Some, refl, sym, ap, ◌∙◌, slice_set, slice_index_or, arith}
+use Rattle.std.specs.List.{list_any}
+use Rattle.dist_model.proofs.Keys.{and_both, same_name_is, same_name_true}
+use Rattle.dist_model.specs.Dialing.{has_name}
+use Rattle.dist_model.specs.Names.{Name, same_name}
+use Rattle.dist_model.specs.Node.{Node as TheNode}
+use Rattle.dist_model.specs.World.{node_of, set_node}
+use Rattle.node_core.specs.Model.{model_of}
+use Rattle.node_core.specs.declared.node.Node.{Node}
+use Rattle.world_core.specs.Names.{are_distinct, name_at, name_of, names_of}
+use Rattle.world_events.specs.declared.event.NodeEvent.TheVariants as happens
+
+pub has_node : (name : Name) (nodes : List Node) → has_name name (names_of nodes) ≡ list_any (λ node. same_name name (name_of node)) nodes
+has_node name [] = refl
+has_node name (node ∷ rest) = ap (λ b. same_name name (name_of node) || b) (has_node name rest)
+
+pub not_true : (b : Bool) → not b ≡ true → b ≡ false
+not_true true h = cc
+not_true false h = refl
+
+neither : (a b : Bool) → (a || b) ≡ false → (a ≡ false) × (b ≡ false)
+neither true b h = cc
+neither false b h = (refl, h)
+
+turned : (a b : Name) → same_name a b ≡ false → same_name b a ≡ false
+turned a b h = go (same_name b a) refl
+  where
+    go : (r : Bool) → same_name b a ≡ r → same_name b a ≡ false
+    go true e = let no : true ≡ false = sym (same_name_is a b (sym (same_name_true b a e))) ∙ h in cc
+    go false e = e
+
+-- a name that is none of the others, at a place of these
+not_at : (name : Name) (nodes : List Node) (place : ℕ) → place < length nodes → has_name name (names_of nodes) ≡ false → same_name name (name_at (names_of nodes) place) ≡ false
+not_at name [] place l h = absurd (omega (arith, l))
+not_at name (node ∷ rest) zero l h = (neither (same_name name (name_of node)) (has_name name (names_of rest)) h).0
+not_at name (node ∷ rest) (suc place) l h = not_at name rest place (omega (arith, l)) (neither (same_name name (name_of node)) (has_name name (names_of rest)) h).1
+
+module _ (d : Node) where
+  pub name_is : (nodes : List Node) (place : ℕ) → place < length nodes → name_at (names_of nodes) place ≡ name_of (slice_index_or nodes place d)
+  name_is [] place l = absurd (omega (arith, l))
+  name_is (node ∷ rest) zero l = refl
+  name_is (node ∷ rest) (suc place) l = name_is rest place (omega (arith, l))
+
+  pub node_at : (nodes : List Node) (place : ℕ) → place < length nodes → are_distinct (names_of nodes) ≡ true
+      → node_of (map model_of nodes) (name_at (names_of nodes) place) ≡ Some (model_of (slice_index_or nodes place d))
+  node_at [] place l h = absurd (omega (arith, l))
+  node_at (node ∷ rest) zero l h =
+      ap (λ b. cond b (Some (model_of node)) (node_of (map model_of rest) (name_of node))) (same_name_is (name_of node) (name_of node) refl)
+  node_at (node ∷ rest) (suc place) l h =
+      let t = and_both (not (has_name (name_of node) (names_of rest))) (are_distinct (names_of rest)) h in
+      let other = not_at (name_of node) rest place (omega (arith, l)) (not_true _ t.0) in
+      ap (λ b. cond b (Some (model_of node)) (node_of (map model_of rest) (name_at (names_of rest) place))) other
+      ∙ node_at rest place (omega (arith, l)) t.1
+
+pub node_set : (nodes : List Node) (place : ℕ) (new : Node) → place < length nodes → are_distinct (names_of nodes) ≡ true
+    → set_node (map model_of nodes) (name_at (names_of nodes) place) (model_of new) ≡ map model_of (slice_set nodes place new)
+node_set [] place new l h = absurd (omega (arith, l))
+node_set (node ∷ rest) zero new l h =
+    ap (λ b. cond b (model_of new ∷ map model_of rest) (model_of node ∷ set_node (map model_of rest) (name_of node) (model_of new))) (same_name_is (name_of node) (name_of node) refl)
+node_set (node ∷ rest) (suc place) new l h =
+    let t = and_both (not (has_name (name_of node) (names_of rest))) (are_distinct (names_of rest)) h in
+    let other = not_at (name_of node) rest place (omega (arith, l)) (not_true _ t.0) in
+    ap (λ b. cond b (model_of new ∷ map model_of rest) (model_of node ∷ set_node (map model_of rest) (name_at (names_of rest) place) (model_of new))) other
+    ∙ ap (λ ns. model_of node ∷ ns) (node_set rest place new (omega (arith, l)) t.1)
+
+-- ---- behind the last place stands nobody
+
+pub nobody_at : (names : List Name) (place : ℕ) → length names ≤ place → name_at names place ≡ []
+nobody_at [] place l = refl
+nobody_at (name ∷ rest) zero l = absurd (omega (arith, l))
+nobody_at (name ∷ rest) (suc place) l = nobody_at rest place (omega (arith, l))
+
+pub nobody_is : (nodes : List Node) → has_name [] (names_of nodes) ≡ false → node_of (map model_of nodes) [] ≡ None
+nobody_is [] h = refl
+nobody_is (node ∷ rest) h =
+    let t = neither (same_name [] (name_of node)) (has_name [] (names_of rest)) h in
+    ap (λ b. cond b (Some (model_of node)) (node_of (map model_of rest) [])) (turned [] (name_of node) t.0) ∙ nobody_is rest t.1
+
+-- ---- one node changes, and keeps its name
+
+pub names_set : (nodes : List Node) (place : ℕ) (new d : Node) → place < length nodes → name_of new ≡ name_of (slice_index_or nodes place d) → names_of (slice_set nodes place new) ≡ names_of nodes
+names_set [] place new d l h = absurd (omega (arith, l))
+names_set (node ∷ rest) zero new d l h = ap (λ n. n ∷ names_of rest) h
+names_set (node ∷ rest) (suc place) new d l h = ap (λ ns. name_of node ∷ ns) (names_set rest place new d (omega (arith, l)) h)
+
+pub same_models : (nodes : List Node) (place : ℕ) (new d : Node) → place < length nodes → model_of new ≡ model_of (slice_index_or nodes place d)
+    → map model_of (slice_set nodes place new) ≡ map model_of nodes
+same_models [] place new d l h = absurd (omega (arith, l))
+same_models (node ∷ rest) zero new d l h = ap (λ n. n ∷ map model_of rest) h
+same_models (node ∷ rest) (suc place) new d l h = ap (λ ns. model_of node ∷ ns) (same_models rest place new d (omega (arith, l)) h)
+
+pub peer_is : (a b : Name) (v w : ℕ) → happens.Dial a v ≡ happens.Dial b w → a ≡ b
+peer_is a b v w h = cc

@@ -1,0 +1,78 @@
+-- What events come to in a world of code is what they come to in the model.
+use Rattle.std.specs.Prelude.{◌≡◌, ◌++◌, List, [], ◌∷◌, map, Result, Ok, Err}
+use Rattle.dist_model.specs.Histories.{told}
+use Rattle.dist_model.specs.Names.{Name}
+use Rattle.dist_model.specs.Runs.{Goes, Runs}
+use Rattle.dist_model.specs.Safety.{Safe}
+use Rattle.dist_model.specs.World as model
+use Rattle.dist_model.specs.declared.report.Report.{Report}
+use Rattle.erl_term.specs.declared.refusal.Refusal.{Refusal}
+use Rattle.node_plans.specs.Frames.{Framed, shown}
+use Rattle.world_core.specs.Names.{name_at}
+use Rattle.world_core.specs.Stands.{Stands}
+use Rattle.world_core.specs.declared.event.Event.{Event}
+use Rattle.world_core.specs.declared.world.World.{World}
+use Rattle.world_events.specs.declared.event.NodeEvent.{NodeEvent}
+use Rattle.world_events.specs.declared.event.NodeEvent.TheVariants as event
+
+-- at the node of that name
+abbrev pub event_at : Name → NodeEvent → model.Event
+event_at name (event.Call command) = model.Call name command
+event_at name (event.Arrive trunk word) = model.Arrive trunk name word
+event_at name event.Local = model.Local name
+event_at name (event.Lose trunk) = model.Lose trunk name
+event_at name event.Sweep = model.Sweep name
+event_at name (event.Dial peer word) = model.Dial name peer word
+event_at name event.Stop = model.Stop name
+event_at name event.Start = model.Start name
+
+abbrev pub event_in : List Name → Event → model.Event
+event_in names e = event_at (name_at names e.node) e.event
+
+abbrev pub events_in : List Name → List Event → List model.Event
+events_in names = map (event_in names)
+
+abbrev pub Answered : Type 0
+Answered = Result (Report Framed) Refusal
+
+-- it tells the same, with the frames of what was sent
+abbrev pub Tells : Answered → model.Report → Type 0
+Tells (Ok report) (model.Reported answer effects) = (report.answer ≡ answer) × (report.effects.items ≡ map shown effects)
+Tells (Err e) (model.Refused why) = e ≡ why
+Tells _ _ = ⊥
+
+abbrev pub TellAll : List Answered → List model.Report → Type 0
+TellAll [] [] = Unit {0}
+TellAll (answer ∷ answers) (report ∷ reports) = Tells answer report × TellAll answers reports
+TellAll _ _ = ⊥
+
+-- one event: the model's step, or want of memory, and the world stands for what it comes to
+pub record Came (new : World) (m : model.World) (event : model.Event) (answer : Answered) : Type 0 where
+  pub report : model.Report
+  pub next : model.World
+  pub goes : Goes m event report next
+  pub tells : Tells answer report
+  pub stands : Stands new next
+
+-- a list of events: a run of the model
+pub record Ran (new : World) (m : model.World) (events : List model.Event) (answers : List Answered) : Type 0 where
+  pub reports : List model.Report
+  pub next : model.World
+  pub runs : Runs m events reports next
+  pub tells : TellAll answers reports
+  pub stands : Stands new next
+
+-- before some of the events nothing was unsafe either
+pub record WasSafe (m : model.World) (before : List model.Event) (reports : List model.Report) : Type 0 where
+  pub earlier : List model.Report
+  pub later : List model.Report
+  pub parts : reports ≡ earlier ++ later
+  pub now : model.World
+  pub runs : Runs m before earlier now
+  pub safe : Safe (told before earlier []) now
+
+-- from an opening world all that a run promises holds at its end, and before each of its events
+pub record RanSafely (new : World) (m : model.World) (events : List model.Event) (answers : List Answered) : Type 0 where
+  pub ran : Ran new m events answers
+  pub at_the_end : Safe (told events ran.reports []) ran.next
+  pub before_each : (before behind : List model.Event) → events ≡ before ++ behind → WasSafe m before ran.reports

@@ -1,0 +1,65 @@
+//! One event of a world.
+ghost use Rattle.std.specs.Prelude.{◌≡◌, ℕ};
+ghost use Rattle.std.specs.List.{list_any};
+ghost use Rattle.dist_model.specs.Dialing.{has_name};
+ghost use Rattle.dist_model.specs.Names.{Name, same_name};
+ghost use Rattle.dist_model.specs.World.{World as TheWorld};
+ghost use Rattle.world_core.specs.Names.{name_of, names_of};
+ghost use Rattle.world_core.specs.Ran.{Came, event_in};
+ghost use Rattle.world_core.specs.Stands.{Stands};
+ghost use Rattle.world_events.specs.declared.event.NodeEvent.TheVariants as happens;
+
+use crate::event::Event;
+use crate::world::World;
+use dist_model::Report;
+use erl_names::NodeName;
+use erl_term::Refusal;
+use node_core::Node;
+use node_plans::{Frame, same_name};
+use std::alloc::Global;
+use world_events::{NodeEvent, happen};
+
+// Whether one of the nodes has this name.
+fn has_node(nodes: &[Node], name: &NodeName) -> bool
+    ensures { result ≡ list_any (λ node. same_name name.now (name_of node)) nodes.now }
+{
+    nodes
+        .iter()
+        .any(|node| same_name(name.atom(), node.name().atom()))
+}
+
+// Whether there is a node of the name that is dialed, where one is.
+fn is_known(nodes: &[Node], event: &NodeEvent) -> bool
+    ensures { (peer : Name) (word : ℕ) → event.now ≡ happens.Dial peer word → has_name peer (names_of nodes.now) ≡ result }
+{
+    match event {
+        NodeEvent::Dial { peer, .. } => has_node(nodes, peer),
+        _ => true,
+    }
+}
+
+impl World {
+    /// Something happens at a node: it answers, or refuses, and what it sends goes behind what travels.
+    /// (ERTS User's Guide, Distribution Protocol; Reference Manual, Processes; Distributed Erlang.)
+    ///
+    /// # Errors
+    /// [`Refusal::NothingThere`] where there is no node at the place, and else as the node refuses the
+    /// event; behind these [`Refusal::OutOfMemory`]. Then nothing has changed.
+    pub fn apply(&mut self, alloc: Global, event: Event) -> Result<Report<Frame>, Refusal>
+        ensures { (m : TheWorld) → Stands self.old m → Came self.new m (event_in m.names event) result }
+    {
+        let Event { node, event } = event;
+        let is_known = is_known(&self.nodes, &event);
+        if node >= self.nodes.len() {
+            drop(event);
+            return Err(Refusal::NothingThere);
+        }
+        happen(
+            alloc,
+            &mut self.nodes[node],
+            &mut self.lists,
+            is_known,
+            event,
+        )
+    }
+}

@@ -1,0 +1,13 @@
+//! Several Erlang nodes in one thread, and what travels between them: one event at a time.
+#![tactic(auto)]
+
+mod applying;
+mod event;
+mod opening;
+mod running;
+mod world;
+
+pub use event::Event;
+pub use running::Answered;
+pub use world::World;
+pub use world_events::NodeEvent;

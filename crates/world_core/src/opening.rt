@@ -1,0 +1,81 @@
+//! A world in which nothing has happened yet.
+ghost use Rattle.std.specs.Prelude.{◌≡◌, ◌++◌, [], ◌∷◌, IfOk, OnOk, false, map, true};
+ghost use Rattle.std.specs.List.{list_any};
+ghost use Rattle.dist_model.specs.Dialing.{has_name};
+ghost use Rattle.dist_model.specs.Names.{same_name};
+ghost use Rattle.dist_model.specs.Runs.{new_node, opening};
+ghost use Rattle.node_core.specs.Model.{model_of};
+ghost use Rattle.world_core.specs.Names.{are_distinct};
+ghost use Rattle.world_core.specs.Stands.{Stands};
+
+use crate::world::World;
+use erl_handshake::Cookie;
+use erl_names::NodeName;
+use node_core::Node;
+use node_plans::same_name;
+use std::alloc::{AllocError, Global};
+use world_lists::Lists;
+
+// The nodes of these names and cookies come behind those that are made. Each has a name.
+fn make(
+    alloc: Global,
+    made: &mut Vec<Node>,
+    nodes: Vec<(NodeName, Cookie)>,
+) -> Result<(), AllocError>
+    ensures made { OnOk result (map model_of made.new.items ≡ map model_of made.old.items ++ map (λ node. new_node node.0 node.1) nodes.items) }
+    ensures named { OnOk result (has_name [] (map (λ node. node.0) nodes.items) ≡ false) }
+{
+    for (name, cookie) in nodes {
+        name.text();
+        made.push(Node::new(alloc, name, cookie)?)?;
+    }
+    Ok(())
+}
+
+// Whether one of the nodes has this name.
+fn has_name(nodes: &[(NodeName, Cookie)], name: &NodeName) -> bool
+    ensures { result ≡ list_any (λ node. same_name name.now node.0) nodes.now }
+{
+    nodes
+        .iter()
+        .any(|(other, _)| same_name(name.atom(), other.atom()))
+}
+
+impl World {
+    /// Whether a world can have these nodes: no two have one name.
+    pub fn can_open(nodes: &[(NodeName, Cookie)]) -> bool
+        ensures { result ≡ are_distinct (map (λ node. node.0) nodes.now) }
+    {
+        let mut at = 0;
+        while at < nodes.len() {
+            let (name, _) = &nodes[at];
+            at += 1;
+            if has_name(&nodes[at..], name) {
+                return false;
+            }
+        }
+        true
+    }
+
+    /// A world of nodes of these names and cookies, which are up, in their first incarnations. Nothing
+    /// has happened yet. (Reference Manual, Distributed Erlang, Nodes.)
+    ///
+    /// # Errors
+    /// Where there is no memory for it.
+    pub fn new(alloc: Global, nodes: Vec<(NodeName, Cookie)>) -> Result<World, AllocError>
+        requires { are_distinct (map (λ node. node.0) nodes.items) ≡ true }
+        ensures { IfOk result (λ world. Stands world (opening nodes.items)) }
+    {
+        let mut made = Vec::new(alloc);
+        match make(alloc, &mut made, nodes) {
+            Ok(()) => Ok(World {
+                nodes: made,
+                lists: Lists::new(alloc),
+            }),
+            Err(e) => {
+                drop(made);
+                Err(e)
+            }
+        }
+    }
+}

@@ -1,0 +1,11 @@
+//! All nodes, and what travels between them.
+use node_core::Node;
+use world_lists::Lists;
+
+/// Several nodes, which dial each other, and what travels between them. (Reference Manual, Distributed
+/// Erlang.)
+#[derive(Drop)]
+pub struct World {
+    pub(crate) nodes: Vec<Node>,
+    pub(crate) lists: Lists,
+}
