@@ -1,9 +1,9 @@
 -- Some events of a list have happened.
-use Rattle.std.proofs.Common.{◌≡◌, Bool, true, false, List, [], ◌∷◌, ◌++◌, map, Option, None, Some, Result, Ok, Err, refl, sym, ap, subst, ◌∙◌, inl, inr, append-nil, append_assoc}
+use Rattle.std.proofs.Common.{◌≡◌, List, [], ◌∷◌, ◌++◌, Option, None, Some, refl, sym, ap, subst, ◌∙◌, inl, inr, append-nil, append_assoc}
 use Rattle.std.proofs.lemmas.List.{map-append}
 use Rattle.dist_model.proofs.Run.{moments}
 use Rattle.dist_model.specs.Commands.{Accepts, Outcome, Refuses}
-use Rattle.dist_model.specs.Histories.{Throughout, told}
+use Rattle.dist_model.specs.Histories.{Throughout}
 use Rattle.dist_model.specs.Names.{Name}
 use Rattle.dist_model.specs.Node.{Node}
 use Rattle.dist_model.specs.NodeEvents.{at_node}

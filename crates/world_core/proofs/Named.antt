@@ -1,10 +1,10 @@
 -- Names of nodes, and the node at a place by its name.
-use Rattle.std.proofs.Common.{◌≡◌, ◌<◌, ◌≤◌, ◌||◌, ◌&&◌, ℕ, zero, suc, Bool, true, false, cond, not, List, [], ◌∷◌, map, length, Option, None, Some, refl, sym, ap, ◌∙◌, slice_set, slice_index_or, arith}
-use Rattle.std.specs.List.{list_any}
+use Rattle.std.proofs.Common.{◌≡◌, ◌<◌, ◌≤◌, ◌||◌, ℕ, zero, suc, Bool, true, false, cond, not, List, [], ◌∷◌, map, length, None, Some, refl, sym, ap, ◌∙◌, slice_set, slice_index_or, arith}
+use Rattle.std.specs.List.{find, list_any}
+use Rattle.std.specs.Option.{option_map}
 use Rattle.dist_model.proofs.Keys.{and_both, same_name_is, same_name_true}
 use Rattle.dist_model.specs.Dialing.{has_name}
 use Rattle.dist_model.specs.Names.{Name, same_name}
-use Rattle.dist_model.specs.Node.{Node as TheNode}
 use Rattle.dist_model.specs.World.{node_of, set_node}
 use Rattle.node_core.specs.Model.{model_of}
 use Rattle.node_core.specs.declared.node.Node.{Node}
@@ -92,3 +92,14 @@ same_models (node ∷ rest) (suc place) new d l h = ap (λ ns. model_of node ∷
 
 pub peer_is : (a b : Name) (v w : ℕ) → happens.Dial a v ≡ happens.Dial b w → a ≡ b
 peer_is a b v w h = cc
+
+-- ---- the node of a name
+
+pub node_found : (nodes : List Node) (name : Name) → node_of (map model_of nodes) name ≡ option_map model_of (find (λ node. same_name (name_of node) name) nodes)
+node_found [] name = refl
+node_found (node ∷ rest) name = go (same_name (name_of node) name) (node_found rest name)
+  where
+    go : (b : Bool) → node_of (map model_of rest) name ≡ option_map model_of (find (λ node. same_name (name_of node) name) rest)
+        → cond b (Some (model_of node)) (node_of (map model_of rest) name) ≡ option_map model_of (cond b (Some node) (find (λ node. same_name (name_of node) name) rest))
+    go true h = refl
+    go false h = h

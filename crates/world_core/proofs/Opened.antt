@@ -1,5 +1,5 @@
 -- A world in which nothing has happened yet.
-use Rattle.std.proofs.Common.{◌≡◌, ◌<◌, ◌+◌, ◌&&◌, ◌||◌, ◌++◌, ℕ, zero, suc, Bool, true, false, cond, not, List, [], ◌∷◌, drop, length, map, refl, sym, ap, subst, ◌∙◌, arith, slice_index_or}
+use Rattle.std.proofs.Common.{◌≡◌, ◌<◌, ◌&&◌, ◌||◌, ℕ, zero, suc, Bool, true, false, not, List, [], ◌∷◌, drop, length, map, refl, sym, ap, subst, ◌∙◌, arith, slice_index_or}
 use Rattle.std.specs.List.{list_any}
 use Rattle.std.specs.FinMap as fm
 use Rattle.dist_model.proofs.Seeing.{list_in}

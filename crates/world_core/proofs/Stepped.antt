@@ -1,8 +1,7 @@
 -- What an event of a node comes to is the model's step of the world.
-use Rattle.std.proofs.Common.{◌≡◌, ◌<◌, ◌≤◌, ◌&&◌, ℕ, Bool, true, false, cond, not, List, [], ◌∷◌, ◌++◌, map, length, Option, None, Some, Result, Ok, Err, refl, sym, ap, subst, ◌∙◌, slice_set, slice_index_or, inl, inr, ◌⊎◌}
+use Rattle.std.proofs.Common.{◌≡◌, ◌<◌, ◌≤◌, ◌&&◌, ℕ, Bool, true, false, cond, not, List, [], ◌∷◌, ◌++◌, map, length, Option, None, Some, Ok, Err, refl, sym, ap, subst, ◌∙◌, slice_set, slice_index_or, inl, inr}
 use Rattle.std.specs.FinMap as fm
 use Rattle.std.specs.FinMap.{FinMap}
-use Rattle.std.specs.Ordering.{eq_by_cmp}
 use Rattle.std.proofs.lemmas.List.{map-append}
 use Rattle.dist_model.proofs.Envelopes.{sent_in}
 use Rattle.dist_model.proofs.Keys.{and_both, same_name_true, same_place, same_trunk, same_trunk_true}
@@ -17,7 +16,7 @@ use Rattle.dist_model.specs.NodeEvents.{at_node, if_up}
 use Rattle.dist_model.specs.NodeEvents as model
 use Rattle.dist_model.specs.Runs.{Goes}
 use Rattle.dist_model.specs.Sides.{TrunkSide, is_over}
-use Rattle.dist_model.specs.Work.{Work, at_work}
+use Rattle.dist_model.specs.Work.{Work}
 use Rattle.dist_model.specs.World.{Refused, Reported, Stepped, came_of, carried, first_of, list_to, node_of, refused, rest_of, set_node, step, step_at}
 use Rattle.dist_model.specs.World as world
 use Rattle.dist_model.specs.declared.report.Answer.{Answer}
@@ -30,8 +29,8 @@ use Rattle.node_core.specs.declared.node.Node.{Node}
 use Rattle.node_plans.specs.Frames.{AllSpelled, Framed, framed, shown}
 use Rattle.node_plans.specs.Planned.{IsRefused}
 use Rattle.world_core.specs.Names.{are_distinct, name_at, name_of, names_of}
-use Rattle.world_core.specs.Ran.{Answered, Came, Tells, event_at}
-use Rattle.world_core.specs.Stands.{AreSpelled, IsReached, Stands}
+use Rattle.world_core.specs.Ran.{Answered, Came, event_at}
+use Rattle.world_core.specs.Stands.{AreSpelled, Stands}
 use Rattle.world_core.specs.declared.world.World.{World}
 use Rattle.world_core.proofs.Named.{name_is, names_set, node_at, node_set, nobody_at, nobody_is, not_true, same_models}
 use Rattle.world_core.proofs.Reached.{can_come, reached_next}
@@ -40,7 +39,7 @@ use Rattle.world_events.specs.Coming.{IsNext}
 use Rattle.world_events.specs.Events.{ComesTo, Meets, met, taken_at}
 use Rattle.world_events.specs.declared.event.NodeEvent.{NodeEvent}
 use Rattle.world_events.specs.declared.event.NodeEvent.TheVariants as event
-use Rattle.world_lists.specs.Lists.{Lines, at, behind_first, one_at, sent_at}
+use Rattle.world_lists.specs.Lists.{at, behind_first, sent_at}
 
 -- ---- what is sent
 

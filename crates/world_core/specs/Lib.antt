@@ -1,3 +1,4 @@
 pub mod Names
 pub mod Stands
 pub mod Ran
+pub mod Quiet

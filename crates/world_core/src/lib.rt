@@ -4,6 +4,7 @@
 mod applying;
 mod event;
 mod opening;
+mod reading;
 mod running;
 mod world;
 

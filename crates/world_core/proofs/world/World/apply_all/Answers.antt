@@ -1,4 +1,4 @@
-use Rattle.std.proofs.Common.{◌≡◌, ◌∷◌, List, length, arith, rules, subst, sym}
+use Rattle.std.proofs.Common.{◌≡◌, ◌∷◌, List, arith, rules, subst, sym}
 use Rattle.world_core.specs.declared.event.Event.{Event}
 use Rattle.world_core.specs.Ran.{Answered}
 use Rattle.world_core.proofs.Going.{Going, none_yet, one_more}

@@ -1,4 +1,4 @@
-use Rattle.std.proofs.Common.{◌≡◌, ◌≤◌, ◌+◌, length}
+use Rattle.std.proofs.Common.{◌≤◌, ◌+◌, length}
 use Rattle.std.specs.Vec.{vec_capacity, vec_len}
 use Rattle.dist_model.specs.World.{World as TheWorld}
 use Rattle.world_core.specs.Stands.{Stands}
