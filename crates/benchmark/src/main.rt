@@ -4,6 +4,7 @@
 #![tactic(auto)]
 
 mod frames;
+mod nodes;
 mod pids;
 mod rate;
 mod terms;
@@ -15,13 +16,15 @@ const USAGE: &str = "usage: benchmark SUBJECT
 
 subjects:
   terms    decode and encode of terms
-  frames   unframe and frame of link signals";
+  frames   unframe and frame of link signals
+  nodes    the events of one node";
 
 fn main(rt: HostRuntime) -> Result<()> {
     let subject = env::args(&rt)?.nth(1);
     match subject.as_ref().map_or("", |word| word.as_str()) {
         "terms" => terms::measure(&rt),
         "frames" => frames::measure(&rt),
+        "nodes" => nodes::measure(&rt),
         _ => Ok(println!(rt; "{USAGE}")?),
     }
 }

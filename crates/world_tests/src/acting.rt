@@ -48,7 +48,7 @@ pub fn world(alloc: Global) -> Result<World, Refusal> {
     nodes.push(node(alloc, 1)?)?;
     if !World::can_open(&nodes) {
         drop(nodes);
-        return Err(Refusal::NameTaken);
+        return Err(Refusal::BadName);
     }
     Ok(World::new(alloc, nodes)?)
 }

@@ -3,6 +3,7 @@ use crate::acting::first_wrong;
 use crate::rows::Row;
 use crate::rows::Step::{Come, Dial, Exit, Link, Lose, Spawn, Start, Stop, Sweep, Unlink};
 use link_core::End::{Active, None as No, Pending};
+use std::test::Fail;
 
 /// Both nodes spawn their process, and connect.
 const CONNECTED: &[Row] = &[
