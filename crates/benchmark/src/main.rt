@@ -8,6 +8,7 @@ mod nodes;
 mod pids;
 mod rate;
 mod terms;
+mod worlds;
 
 use anyhow::Result;
 use std::env;
@@ -17,7 +18,8 @@ const USAGE: &str = "usage: benchmark SUBJECT
 subjects:
   terms    decode and encode of terms
   frames   unframe and frame of link signals
-  nodes    the events of one node";
+  nodes    the events of one node
+  worlds   two nodes and what travels between them";
 
 fn main(rt: HostRuntime) -> Result<()> {
     let subject = env::args(&rt)?.nth(1);
@@ -25,6 +27,7 @@ fn main(rt: HostRuntime) -> Result<()> {
         "terms" => terms::measure(&rt),
         "frames" => frames::measure(&rt),
         "nodes" => nodes::measure(&rt),
+        "worlds" => worlds::measure(&rt),
         _ => Ok(println!(rt; "{USAGE}")?),
     }
 }
