@@ -1,0 +1,41 @@
+/* Refuses one allocation of a program, for ./fail-allocations, which preloads it: the one whose number,
+   from 1 on, the variable REFUSED says. A program that ends before that one ends with status 77. */
+#define _GNU_SOURCE
+#include <dlfcn.h>
+#include <stdlib.h>
+
+static long met, refused;
+
+__attribute__((constructor)) static void begin(void)
+{
+    const char *word = getenv("REFUSED");
+    refused = word ? atol(word) : 0;
+    met = 0;
+}
+
+__attribute__((destructor)) static void end(void)
+{
+    if (met < refused)
+        _Exit(77);
+}
+
+static int is_refused(void)
+{
+    return ++met == refused;
+}
+
+void *malloc(size_t size)
+{
+    static void *(*next)(size_t);
+    if (!next)
+        next = (void *(*)(size_t))dlsym(RTLD_NEXT, "malloc");
+    return is_refused() ? NULL : next(size);
+}
+
+void *realloc(void *old, size_t size)
+{
+    static void *(*next)(void *, size_t);
+    if (!next)
+        next = (void *(*)(void *, size_t))dlsym(RTLD_NEXT, "realloc");
+    return is_refused() ? NULL : next(old, size);
+}
