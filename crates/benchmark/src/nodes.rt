@@ -6,10 +6,9 @@ use dist_model::{Answer, Command, Report};
 use erl_handshake::Cookie;
 use erl_names::{NodeName, TrunkId};
 use erl_term::{Atom, Payload, Pid, Reference, Refusal, Term};
-use node_core::Node;
-use node_plans::Frame;
 use std::alloc::Global;
 use std::time::Instant;
+use world_core::{Frame, Node};
 
 /// How many processes the node has.
 const SIZES: [u32; 3] = [1_000, 10_000, 100_000];

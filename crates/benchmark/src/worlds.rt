@@ -6,10 +6,9 @@ use dist_model::{Answer, Command, Report};
 use erl_handshake::Cookie;
 use erl_names::{NodeName, TrunkId};
 use erl_term::{Atom, Payload, Pid, Reference, Refusal, Term};
-use node_plans::Frame;
 use std::alloc::Global;
 use std::time::Instant;
-use world_core::{Event, NodeEvent, World};
+use world_core::{Event, Frame, NodeEvent, World};
 
 /// How many messages are sent, and pairs of calls made.
 const ROUNDS: u32 = 200_000;

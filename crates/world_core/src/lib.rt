@@ -9,6 +9,9 @@ mod running;
 mod world;
 
 pub use event::Event;
+pub use node_core::Node;
+pub use node_plans::Frame;
+pub use node_tables::Life;
 pub use running::Answered;
 pub use world::World;
 pub use world_events::NodeEvent;

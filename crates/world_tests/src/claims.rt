@@ -1,8 +1,7 @@
 //! What has to hold of a world after each event, as far as it can be seen.
 use erl_term::Pid;
 use link_core::End;
-use node_core::Node;
-use world_core::World;
+use world_core::{Node, World};
 
 fn is_active(end: End) -> bool {
     matches!(end, End::Active)

@@ -7,9 +7,8 @@ use anyhow::Result;
 use erl_names::TrunkId;
 use erl_term::{Pid, Refusal};
 use link_core::End;
-use node_tables::Life;
 use std::alloc::Global;
-use world_core::World;
+use world_core::{Life, World};
 
 /// A story of a world.
 #[derive(Clone, Copy)]

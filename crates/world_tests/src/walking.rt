@@ -7,9 +7,8 @@ use crate::told::{Message, Place, Process, Reason, Step, Told, Trunk};
 use anyhow::Result;
 use dist_model::{Effect, Kind, Report};
 use erl_term::{Pid, Refusal};
-use node_plans::Frame;
 use std::alloc::Global;
-use world_core::World;
+use world_core::{Frame, World};
 
 const COOKIES: &[&str] = &["c", "c", "c", "c"];
 
