@@ -46,12 +46,6 @@ impl Rate<'_> {
         if nanos == 0 { 1 } else { nanos }
     }
 
-    /// Prints how many rounds a second has.
-    pub fn print_rounds(&self, rt: &HostRuntime) -> Result<()> {
-        println!(rt; "  {}: {} a second", self.name, self.a_second())?;
-        Ok(())
-    }
-
     /// Prints how many rounds a second has, and how many megabytes of 1,000,000 bytes.
     pub fn print(&self, rt: &HostRuntime) -> Result<()> {
         let (a_second, megabytes) = (self.a_second(), self.megabytes());

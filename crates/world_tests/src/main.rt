@@ -2,15 +2,16 @@
 //!
 //! With no argument it tells each story, and which of its rows doesn't hold. A story is a table of events,
 //! of what each has to come to, and of what there is to see then; after each event it is asked whether all
-//! processes agree on their links. `world_tests rows` leaves the long stories away, for `rt try
-//! --fail-alloc 1..`: an event for which memory was wanting is tried again, so the rows have to hold under
-//! each allocation that is refused. `world_tests walk SEED NODES EVENTS` has so many events happen at
-//! random.
+//! processes agree on their links. `world_tests rows` leaves the long story away, for
+//! `./fail-allocations`: an event for which memory was wanting is tried again, so the rows have to hold
+//! under each allocation that is refused. `world_tests walk SEED NODES EVENTS` has so many events happen at
+//! random, and `world_tests measure` says how often some happen in a second.
 #![tactic(auto)]
 
 mod answers;
 mod claims;
 mod events;
+mod measuring;
 mod random;
 mod stage;
 mod stories;
@@ -18,13 +19,14 @@ mod told;
 mod walking;
 
 use anyhow::{Context, Result};
+use measuring::measure;
 use stage::tell_all;
 use std::env;
 use std::process::ExitCode;
 use stories::{ALL, LONG};
 use walking::walk_at_random;
 
-const USAGE: &str = "usage: world_tests [rows | walk SEED NODES EVENTS]";
+const USAGE: &str = "usage: world_tests [rows | measure | walk SEED NODES EVENTS]";
 
 fn number(rt: &HostRuntime, place: usize) -> Result<u64> {
     let word = env::args(rt)?.nth(place).context(USAGE)?;
@@ -37,6 +39,10 @@ fn run(rt: &HostRuntime) -> Result<bool> {
     match word.as_ref().map_or("", |word| word.as_str()) {
         "" => Ok(tell_all(rt, ALL)? && tell_all(rt, LONG)? && walk_at_random(rt, 1, 3, 2000)?),
         "rows" => tell_all(rt, ALL),
+        "measure" => {
+            measure(rt)?;
+            Ok(true)
+        }
         "walk" => walk_at_random(rt, number(rt, 2)?, number(rt, 3)? as usize, number(rt, 4)?),
         _ => {
             println!(rt; "{USAGE}")?;
