@@ -1,13 +1,13 @@
 -- The `@` of a name is its first, so the words of a name are known.
-use Rattle.std.proofs.Common.{◌≡◌, ℕ, ◌+◌, ◌-◌, ◌<◌, ◌≤◌, ◌==◌, Bool, true, false, nat_lt, if◌then◌else◌, List, ◌∷◌, ◌++◌, length, take, drop, get_or, None, Some, position, ap, refl, sym, ◌∙◌, subst, arith, length-append, length-drop}
-use Rattle.std.specs.List.{position_or_len}
+use Rattle.std.proofs.Common.{◌≡◌, ℕ, ◌+◌, ◌-◌, ◌<◌, ◌≤◌, ◌==◌, Bool, true, false, nat_lt, if◌then◌else◌, List, [], ◌∷◌, ◌++◌, length, take, drop, get_or, None, Some, position, ap, refl, sym, ◌∙◌, subst, arith, length-append, length-drop}
+use Rattle.std.specs.List.{position_or_len, list_all}
 use Rattle.std.proofs.Math.Seq.{get_or-append_seam, take-append_seam, drop-append-add}
 use Rattle.std.proofs.lemmas.List.{get_or_append_left, take_all}
 use Rattle.std.proofs.lemmas.List.Sums.{split_at_first, position_or_len_is, passes_at_first}
 use Rattle.std.proofs.lemmas.Bool.{eqb-true, ltb-true, lt-ltb}
 use Rattle.std.specs.Str.{IsUtf8, chars}
 use Rattle.std.proofs.lemmas.Str.{chars-encodes, length-le-encodes}
-use Rattle.erl_names.specs.Name.{IsNodeName, IsWord, is_name_byte, is_host_byte}
+use Rattle.erl_names.specs.Name.{IsNodeName, IsWord, is_name_byte, is_host_byte, is_word}
 
 abbrev pub is_at : ℕ → Bool
 is_at b = b == 64
@@ -117,3 +117,8 @@ chars-le text u =
 -- a name is short enough for an atom
 pub chars_in_name : (text copy : List ℕ) → copy ≡ text → IsUtf8 text → IsNodeName text → length (chars copy) ≤ 255
 chars_in_name text copy e u n = rw e (omega (arith, chars-le text u, n.short))
+
+-- of a word that isn't empty its bytes decide
+pub word_test : (passes : ℕ → Bool) (word : List ℕ) (all : Bool) → false ≡ (length word == 0) → all ≡ list_all passes word → all ≡ is_word passes word
+word_test passes [] all h e = absurd cc
+word_test passes (b ∷ word) all h e = e

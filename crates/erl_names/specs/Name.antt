@@ -1,6 +1,6 @@
 -- The name of a node. (Reference Manual, Distributed Erlang, Nodes.)
-use Rattle.std.specs.Prelude.{◌≡◌, ◌<◌, ◌≤◌, ◌==◌, ◌||◌, ℕ, Bool, List, ◌∷◌, ◌++◌, length}
-use Rattle.std.specs.List.{AllPass}
+use Rattle.std.specs.Prelude.{◌≡◌, ◌<◌, ◌≤◌, ◌+◌, ◌==◌, ◌&&◌, ◌||◌, ℕ, Bool, false, List, [], ◌∷◌, ◌++◌, length, take, drop, position, nat_lt, Option, None, Some, if◌then◌else◌}
+use Rattle.std.specs.List.{AllPass, list_all}
 use Rattle.std.specs.Char.{is_ascii_alphanumeric}
 
 -- an ASCII letter, a digit, `_` or `-`
@@ -23,3 +23,16 @@ pub record IsNodeName (text : List ℕ) : Type 0 where
   pub name_word : IsWord is_name_byte name
   pub host_word : IsWord is_host_byte host
   pub short : length text ≤ 64
+
+-- the same as tests
+abbrev pub is_word : (ℕ → Bool) → List ℕ → Bool
+is_word passes [] = false
+is_word passes word = list_all passes word
+
+-- the words before and behind the first @
+abbrev pub are_words : List ℕ → Option ℕ → Bool
+are_words text None = false
+are_words text (Some at) = is_word is_name_byte (take at text) && is_word is_host_byte (drop (at + 1) text)
+
+abbrev pub is_node_name : List ℕ → Bool
+is_node_name text = if nat_lt 64 (length text) then false else are_words text (position (λ b. b == 64) text)

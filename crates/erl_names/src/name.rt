@@ -1,6 +1,6 @@
 //! The names of nodes.
 ghost use Rattle.std.specs.Prelude.{◌≡◌, ◌⊎◌, ◌↔◌, IsTrue, IfOk, OnOk, IfErr, IsErrOf, ◌==◌, position};
-ghost use Rattle.erl_names.specs.Name.{IsNodeName, IsWord, is_name_byte, is_host_byte};
+ghost use Rattle.erl_names.specs.Name.{IsNodeName, IsWord, is_name_byte, is_host_byte, is_node_name, is_word};
 
 use erl_term::{Atom, Refusal};
 use std::alloc::{AllocError, Global};
@@ -30,6 +30,15 @@ impl Model for NodeName {
 }
 
 impl NodeName {
+    /// Whether a text has the form of a name. It takes no memory. (Reference Manual, Distributed Erlang,
+    /// Nodes.)
+    pub fn fits(text: &str) -> bool
+        ensures form { IsTrue result ↔ IsNodeName text.now }
+        ensures test { result ≡ is_node_name text.now }
+    {
+        has_form(text.as_bytes())
+    }
+
     /// The name that a text spells.
     ///
     /// Refused with [`Refusal::BadName`] where the text hasn't the form of a name, and with
@@ -41,7 +50,7 @@ impl NodeName {
         ensures memory { IsErrOf result Refusal.OutOfMemory → IsNodeName text.now }
         ensures only { IfErr result (λ e. (e ≡ Refusal.BadName) ⊎ (e ≡ Refusal.OutOfMemory)) }
     {
-        if !has_form(text.as_bytes()) {
+        if !NodeName::fits(text) {
             return Err(Refusal::BadName);
         }
         Ok(NodeName {
@@ -77,7 +86,8 @@ impl Clone for NodeName {
 
 // Whether the text has the form of a name.
 fn has_form(text: &[u8]) -> bool
-    ensures { IsTrue result ↔ IsNodeName text.now }
+    ensures form { IsTrue result ↔ IsNodeName text.now }
+    ensures test { result ≡ is_node_name text.now }
 {
     if text.len() > 64 {
         return false;
@@ -97,14 +107,16 @@ fn first_at(text: &[u8]) -> Option<usize>
 
 // Whether these are the bytes of a first word.
 fn is_name(word: &[u8]) -> bool
-    ensures { IsTrue result ↔ IsWord is_name_byte word.now }
+    ensures word { IsTrue result ↔ IsWord is_name_byte word.now }
+    ensures test { result ≡ is_word is_name_byte word.now }
 {
     !word.is_empty() && word.iter().all(|b| is_name_byte(*b))
 }
 
 // Whether these are the bytes of a second word.
 fn is_host(word: &[u8]) -> bool
-    ensures { IsTrue result ↔ IsWord is_host_byte word.now }
+    ensures word { IsTrue result ↔ IsWord is_host_byte word.now }
+    ensures test { result ≡ is_word is_host_byte word.now }
 {
     !word.is_empty() && word.iter().all(|b| is_name_byte(*b) || *b == b'.')
 }
