@@ -1,5 +1,5 @@
 -- How sides stand, as the model has it, and the map that a list of them stands for.
-use Rattle.std.specs.Prelude.{◌≡◌, Bool, true, false, ◌&&◌, List, [], ◌∷◌, map, Option, None, Some, unwrap_or}
+use Rattle.std.specs.Prelude.{◌≡◌, ℕ, Bool, true, false, ◌&&◌, List, [], ◌∷◌, map, position, Option, None, Some, unwrap_or}
 use Rattle.std.specs.FinMap as fm
 use Rattle.std.specs.FinMap.{FinMap, find}
 use Rattle.std.specs.Ordering.{eq_by_cmp}
@@ -8,7 +8,7 @@ use Rattle.conn_core.specs.declared.side.Side.{Side}
 use Rattle.conn_core.specs.declared.standing.Standing.{Standing}
 use Rattle.conn_core.specs.declared.standing.Standing.TheVariants.{Dialing, Accepting, Up, Losing, Gone}
 use Rattle.dist_model.specs.Names.{Name, same_name}
-use Rattle.dist_model.specs.Sides.{State, TrunkSide, is_up}
+use Rattle.dist_model.specs.Sides.{State, TrunkSide, is_losing, is_up}
 use Rattle.dist_model.specs.Sides as model
 use Rattle.erl_handshake.specs.declared.acceptor.AcceptorState.TheVariants as acceptor
 use Rattle.erl_handshake.specs.declared.dialer.DialerState.TheVariants as dialer
@@ -75,6 +75,14 @@ sides_in held = fm.from_sorted (entries_of held)
 abbrev pub all_settled : List Side → Bool
 all_settled [] = true
 all_settled (side ∷ rest) = is_settled side.standing && all_settled rest
+
+-- ---- the first that is lost and isn't cleared away yet
+
+abbrev pub is_lost : Side → Bool
+is_lost side = is_losing (state_of side.standing)
+
+abbrev pub lost_place : List Side → Option ℕ
+lost_place = position is_lost
 
 -- ---- the routes: exactly the sides that are up
 

@@ -10,6 +10,7 @@ ghost use Rattle.node_sides.specs.Sides.{sides, HasRouteRoom, HasSideRoom};
 ghost use Rattle.node_sides.specs.Standings.{side_of, state_of};
 
 use crate::lookup::place_in;
+use crate::seeking::lost_place;
 use crate::sides::Sides;
 use crate::which::is_up;
 use conn_core::{Side, Standing};
@@ -35,6 +36,7 @@ impl Sides {
                 Err(_) => unreachable!(),
             },
         }
+        self.lost = lost_place(&self.held);
     }
 
     /// The side of a connection stands so, and isn't up, if there is one. Takes no memory. (ERTS User's
@@ -48,6 +50,7 @@ impl Sides {
         if let Ok(at) = place_in(&self.held, trunk) {
             close_route(&mut self.routes, &self.held[at]);
             self.held[at].standing = standing;
+            self.lost = lost_place(&self.held);
         }
     }
 
@@ -65,6 +68,7 @@ impl Sides {
             Ok(at) => self.held[at].standing = Standing::Up { creation },
             Err(_) => unreachable!(),
         }
+        self.lost = lost_place(&self.held);
         match self.routes.insert(peer, trunk) {
             Ok(_) => {}
             Err(_) => unreachable!(),

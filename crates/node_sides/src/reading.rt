@@ -10,7 +10,7 @@ ghost use Rattle.node_sides.specs.Sides.{HasRouteRoom, HasSideRoom, sides};
 ghost use Rattle.node_sides.specs.Standings.{entry_of, is_settled, side_of};
 
 use crate::lookup::place_in;
-use crate::seeking::{first_losing, first_towards};
+use crate::seeking::first_towards;
 use crate::sides::Sides;
 use crate::which::Which;
 use conn_core::Side;
@@ -27,6 +27,7 @@ impl Sides {
         Sides {
             held: Vec::new(alloc),
             routes: SortedMap::new(alloc),
+            lost: None,
         }
     }
 
@@ -57,11 +58,16 @@ impl Sides {
         first_towards(&self.held, peer, which)
     }
 
-    /// The first side that is lost and isn't cleared away yet. (Reference Manual, Distributed Erlang.)
+    /// The first side that is lost and isn't cleared away yet. Its place is kept, so nothing is searched.
+    /// (Reference Manual, Distributed Erlang.)
     pub fn first_losing(&self) -> Option<&Side>
         ensures { option_map entry_of (option_copied result) ≡ any_side is_losing (fm.entries (sides self.now)) }
     {
-        first_losing(&self.held)
+        let held = self.held.as_slice();
+        match self.lost {
+            Some(at) => held.get(at),
+            None => None,
+        }
     }
 
     /// Makes room for so many more sides, and for as many more that are up.

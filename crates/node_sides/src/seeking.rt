@@ -1,12 +1,10 @@
 //! The first side that is sought.
 ghost use Rattle.std.specs.Prelude.{◌≡◌, ◌&&◌};
 ghost use Rattle.std.specs.Option.{option_copied, option_map};
-ghost use Rattle.dist_model.specs.Losses.{any_side};
 ghost use Rattle.dist_model.specs.Names.{same_name as same_names};
 ghost use Rattle.dist_model.specs.Node.{side_where};
-ghost use Rattle.dist_model.specs.Sides.{is_losing as is_losing_state};
 ghost use Rattle.node_sides.specs.Passing.{passes};
-ghost use Rattle.node_sides.specs.Standings.{entries_of, entry_of, state_of};
+ghost use Rattle.node_sides.specs.Standings.{entries_of, entry_of, lost_place, state_of};
 
 use crate::lookup::same_name;
 use crate::which::{Which, is_losing};
@@ -24,15 +22,11 @@ pub(crate) fn first_towards<'a>(held: &'a [Side], peer: &Atom, which: Which) -> 
     None
 }
 
-pub(crate) fn first_losing(held: &[Side]) -> Option<&Side>
-    ensures { option_map entry_of (option_copied result) ≡ any_side is_losing_state (entries_of held.now) }
+/// The place of the first side that is lost and isn't cleared away yet.
+pub(crate) fn lost_place(held: &[Side]) -> Option<usize>
+    ensures { result ≡ lost_place held.now }
 {
-    for side in held {
-        if is_losing(side.standing) {
-            return Some(side);
-        }
-    }
-    None
+    held.iter().position(|side| is_losing(side.standing))
 }
 
 // Whether the side is towards the peer, and sought.

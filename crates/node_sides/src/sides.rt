@@ -2,7 +2,7 @@
 ghost use Rattle.std.specs.Prelude.{◌≡◌, true};
 ghost use Rattle.std.specs.FinMap.{is_sorted};
 ghost use Rattle.erl_names.specs.Order.{trunk_cmp};
-ghost use Rattle.node_sides.specs.Standings.{all_settled, entries_of, AreRouted};
+ghost use Rattle.node_sides.specs.Standings.{all_settled, entries_of, lost_place, AreRouted};
 
 use conn_core::Side;
 use erl_names::TrunkId;
@@ -18,7 +18,10 @@ pub struct Sides {
     pub(crate) held: Vec<Side>,
     /// The connection that is up, by its peer.
     pub(crate) routes: SortedMap<Atom, TrunkId>,
+    /// The place of the first side that is lost and isn't cleared away yet.
+    pub(crate) lost: Option<usize>,
     ghost sorted: { is_sorted trunk_cmp (entries_of held.items) ≡ true },
     ghost settled: { all_settled held.items ≡ true },
     ghost routed: { AreRouted routes.entries held.items },
+    ghost first_lost: { lost ≡ lost_place held.items },
 }

@@ -5,7 +5,7 @@ use Rattle.erl_names.specs.Order.{trunk_cmp}
 use Rattle.sorted_map.specs.Entries.{IsFoundAt, IsGapAt}
 use Rattle.node_sides.proofs.Placed.{get_side, insert_puts, none_found, not_there, place_gap, put_sides, put_sorted, settled_insert, taken}
 use Rattle.node_sides.proofs.Routing.{down_routed}
-use Rattle.node_sides.specs.Standings.{all_settled, entries_of, is_up_to, side_of}
+use Rattle.node_sides.specs.Standings.{all_settled, entries_of, is_up_to, lost_place, side_of}
 use Rattle.node_sides.proofs.sides.Sides.add.Goals as goal
 
 pub unreachable-requires : goal.unreachable-requires
@@ -18,19 +18,38 @@ unreachable-requires c =
 pub insert-requires : goal.insert-requires
 insert-requires c = omega (arith, place_gap _ _ _ c.in-Err.ensures.gap, c.deref.ensures.len)
 
-pub invariant_of-self : goal.invariant_of-self
-invariant_of-self c =
+pub invariant_of-self-clause-sorted : goal.invariant_of-self-clause-sorted
+invariant_of-self-clause-sorted c =
     let it = c.args.self.now in
     let x = c.args.side in
     let at = c.in-Err.at in
     let gap = subst (λ (l : List Side). IsGapAt trunk_cmp (entries_of l) x.trunk at) c.deref.ensures.value c.in-Err.ensures.gap in
     let now = c.insert.ensures.items ∙ taken c.insert.result (insert it.held.items at x) it.held.items (c.insert.ensures.succeeds (omega (arith, c.requires.room))) in
     let puts = ap entries_of now ∙ insert_puts it.held.items at x gap in
-    record {
-      sorted = put_sorted it.held.items _ x.trunk (side_of x) it.sorted puts;
-      settled = ap all_settled now ∙ settled_insert it.held.items at x c.requires.down.0 it.settled;
-      routed = down_routed it.routes.entries it.held.items _ x.trunk (side_of x) it.routed puts c.requires.down.1 (λ q. ap (is_up_to q) (none_found it.held.items x.trunk at it.sorted gap));
-    }
+    put_sorted it.held.items _ x.trunk (side_of x) it.sorted puts
+
+pub invariant_of-self-clause-settled : goal.invariant_of-self-clause-settled
+invariant_of-self-clause-settled c =
+    let it = c.args.self.now in
+    let x = c.args.side in
+    let at = c.in-Err.at in
+    let gap = subst (λ (l : List Side). IsGapAt trunk_cmp (entries_of l) x.trunk at) c.deref.ensures.value c.in-Err.ensures.gap in
+    let now = c.insert.ensures.items ∙ taken c.insert.result (insert it.held.items at x) it.held.items (c.insert.ensures.succeeds (omega (arith, c.requires.room))) in
+    let puts = ap entries_of now ∙ insert_puts it.held.items at x gap in
+    ap all_settled now ∙ settled_insert it.held.items at x c.requires.down.0 it.settled
+
+pub invariant_of-self-clause-routed : goal.invariant_of-self-clause-routed
+invariant_of-self-clause-routed c =
+    let it = c.args.self.now in
+    let x = c.args.side in
+    let at = c.in-Err.at in
+    let gap = subst (λ (l : List Side). IsGapAt trunk_cmp (entries_of l) x.trunk at) c.deref.ensures.value c.in-Err.ensures.gap in
+    let now = c.insert.ensures.items ∙ taken c.insert.result (insert it.held.items at x) it.held.items (c.insert.ensures.succeeds (omega (arith, c.requires.room))) in
+    let puts = ap entries_of now ∙ insert_puts it.held.items at x gap in
+    down_routed it.routes.entries it.held.items _ x.trunk (side_of x) it.routed puts c.requires.down.1 (λ q. ap (is_up_to q) (none_found it.held.items x.trunk at it.sorted gap))
+
+pub invariant_of-self-clause-first_lost : goal.invariant_of-self-clause-first_lost
+invariant_of-self-clause-first_lost c = c.lost_place-self.ensures ∙ ap lost_place c.deref-2.ensures.value
 
 pub returns-clause-sides : goal.returns-clause-sides
 returns-clause-sides c =

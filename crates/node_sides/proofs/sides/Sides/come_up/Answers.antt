@@ -22,8 +22,8 @@ unreachable-requires c =
     let gap = subst (λ (l : List Side). IsGapAt trunk_cmp (entries_of l) q c.in-Err.field-0) c.deref.ensures.value c.in-Err.ensures.gap in
     no_some c.args.peer (sym c.requires.towards ∙ ap (option_map (λ (s : TrunkSide). s.peer)) (get_side it.held.items q it.sorted ∙ none_found it.held.items q c.in-Err.field-0 it.sorted gap))
 
-pub invariant_of-self : goal.invariant_of-self
-invariant_of-self c =
+pub invariant_of-self-clause-sorted : goal.invariant_of-self-clause-sorted
+invariant_of-self-clause-sorted c =
     let it = c.args.self.now in
     let held = it.held.items in
     let q = c.args.trunk in
@@ -35,13 +35,39 @@ invariant_of-self c =
     let was = there_found held q at x c.index_mut.ensures.value found in
     let peer : x.peer ≡ c.args.peer = same_some x.peer c.args.peer (sym (ap (option_map (λ (s : TrunkSide). s.peer)) (get_side held q it.sorted ∙ was)) ∙ c.requires.towards) in
     let routes = done c.insert.result (c.insert.new.self.entries ≡ put name_cmp c.args.peer q it.routes.entries) (c.insert.ensures.succeeds c.requires.room) c.insert.ensures.entries in
-    record {
-      sorted = put_sorted held (set held at y) q (side_of y) it.sorted puts;
-      settled = settled_set held at y refl it.settled;
-      routed = up_routed it.routes.entries c.insert.new.self.entries held (set held at y) q (side_of x) (side_of y) it.routed was puts refl refl
-          (routes ∙ ap (λ (n : Name). put name_cmp n q it.routes.entries) (sym peer))
-          (λ t s h p u. c.requires.alone t s (get_side held t it.sorted ∙ h) (p ∙ peer) u);
-    }
+    put_sorted held (set held at y) q (side_of y) it.sorted puts
+
+pub invariant_of-self-clause-settled : goal.invariant_of-self-clause-settled
+invariant_of-self-clause-settled c =
+    let it = c.args.self.now in
+    let held = it.held.items in
+    let q = c.args.trunk in
+    let at = c.in-Ok.at in
+    let x = c.index_mut.result.now in
+    let y : Side = record x { standing = standing.Up c.args.creation } in
+    let found = subst (λ (l : List Side). IsFoundAt trunk_cmp (entries_of l) q at) c.deref.ensures.value c.in-Ok.ensures.found in
+    let puts = set_puts held q at x c.index_mut.ensures.value found y refl in
+    let was = there_found held q at x c.index_mut.ensures.value found in
+    let peer : x.peer ≡ c.args.peer = same_some x.peer c.args.peer (sym (ap (option_map (λ (s : TrunkSide). s.peer)) (get_side held q it.sorted ∙ was)) ∙ c.requires.towards) in
+    let routes = done c.insert.result (c.insert.new.self.entries ≡ put name_cmp c.args.peer q it.routes.entries) (c.insert.ensures.succeeds c.requires.room) c.insert.ensures.entries in
+    settled_set held at y refl it.settled
+
+pub invariant_of-self-clause-routed : goal.invariant_of-self-clause-routed
+invariant_of-self-clause-routed c =
+    let it = c.args.self.now in
+    let held = it.held.items in
+    let q = c.args.trunk in
+    let at = c.in-Ok.at in
+    let x = c.index_mut.result.now in
+    let y : Side = record x { standing = standing.Up c.args.creation } in
+    let found = subst (λ (l : List Side). IsFoundAt trunk_cmp (entries_of l) q at) c.deref.ensures.value c.in-Ok.ensures.found in
+    let puts = set_puts held q at x c.index_mut.ensures.value found y refl in
+    let was = there_found held q at x c.index_mut.ensures.value found in
+    let peer : x.peer ≡ c.args.peer = same_some x.peer c.args.peer (sym (ap (option_map (λ (s : TrunkSide). s.peer)) (get_side held q it.sorted ∙ was)) ∙ c.requires.towards) in
+    let routes = done c.insert.result (c.insert.new.self.entries ≡ put name_cmp c.args.peer q it.routes.entries) (c.insert.ensures.succeeds c.requires.room) c.insert.ensures.entries in
+    up_routed it.routes.entries c.insert.new.self.entries held (set held at y) q (side_of x) (side_of y) it.routed was puts refl refl
+    (routes ∙ ap (λ (n : Name). put name_cmp n q it.routes.entries) (sym peer))
+    (λ t s h p u. c.requires.alone t s (get_side held t it.sorted ∙ h) (p ∙ peer) u)
 
 pub returns-clause-sides : goal.returns-clause-sides
 returns-clause-sides c =

@@ -13,8 +13,8 @@ index-requires c = omega (arith, place_found _ _ _ c.in-Ok.ensures.found, c.dere
 pub index_mut-requires : goal.index_mut-requires
 index_mut-requires c = omega (arith, place_found _ _ _ c.in-Ok.ensures.found, c.deref.ensures.len)
 
-pub invariant_of-self : goal.invariant_of-self
-invariant_of-self c =
+pub invariant_of-self-clause-sorted : goal.invariant_of-self-clause-sorted
+invariant_of-self-clause-sorted c =
     let it = c.args.self.now in
     let held = it.held.items in
     let q = c.args.trunk.now in
@@ -24,12 +24,34 @@ invariant_of-self c =
     let y : Side = record x { standing = c.args.standing } in
     let found = subst (λ (l : List Side). IsFoundAt trunk_cmp (entries_of l) q at) c.deref.ensures.value c.in-Ok.ensures.found in
     let puts = set_puts held q at x c.index_mut.ensures.value found y refl in
-    record {
-      sorted = put_sorted held (set held at y) q (side_of y) it.sorted puts;
-      settled = settled_set held at y c.requires.0 it.settled;
-      routed = stood_routed it.routes.entries c.close_route.new.routes.entries held (set held at y) q (side_of was) (side_of y) it.routed
-          (there_found held q at was c.index.ensures found) puts c.requires.1 c.close_route.ensures.up c.close_route.ensures.down;
-    }
+    put_sorted held (set held at y) q (side_of y) it.sorted puts
+
+pub invariant_of-self-clause-settled : goal.invariant_of-self-clause-settled
+invariant_of-self-clause-settled c =
+    let it = c.args.self.now in
+    let held = it.held.items in
+    let q = c.args.trunk.now in
+    let at = c.in-Ok.at in
+    let was = c.index.result.now in
+    let x = c.index_mut.result.now in
+    let y : Side = record x { standing = c.args.standing } in
+    let found = subst (λ (l : List Side). IsFoundAt trunk_cmp (entries_of l) q at) c.deref.ensures.value c.in-Ok.ensures.found in
+    let puts = set_puts held q at x c.index_mut.ensures.value found y refl in
+    settled_set held at y c.requires.0 it.settled
+
+pub invariant_of-self-clause-routed : goal.invariant_of-self-clause-routed
+invariant_of-self-clause-routed c =
+    let it = c.args.self.now in
+    let held = it.held.items in
+    let q = c.args.trunk.now in
+    let at = c.in-Ok.at in
+    let was = c.index.result.now in
+    let x = c.index_mut.result.now in
+    let y : Side = record x { standing = c.args.standing } in
+    let found = subst (λ (l : List Side). IsFoundAt trunk_cmp (entries_of l) q at) c.deref.ensures.value c.in-Ok.ensures.found in
+    let puts = set_puts held q at x c.index_mut.ensures.value found y refl in
+    stood_routed it.routes.entries c.close_route.new.routes.entries held (set held at y) q (side_of was) (side_of y) it.routed
+    (there_found held q at was c.index.ensures found) puts c.requires.1 c.close_route.ensures.up c.close_route.ensures.down
 
 pub returns-in-Ok-clause-sides : goal.returns-in-Ok-clause-sides
 returns-in-Ok-clause-sides c =
