@@ -1,0 +1,13 @@
+//! The logs of several nodes, each kept by its node alone, and the one run that they are.
+//!
+//! There is no code here, and no word of Erlang: states, events, answers, channels and symbols are any
+//! types, and what a node does at an event is any relation. A symbol is what travels on a channel, be
+//! it an item or a byte. `specs/Logs` says what a log is, `specs/Runs` what a run of all nodes is, and
+//! [`logs_are_a_run`] that the first make the second.
+#![tactic(auto)]
+
+mod laws;
+mod nodes;
+
+pub use laws::{log_grows, logs_are_a_run};
+pub use nodes::Nodes;
