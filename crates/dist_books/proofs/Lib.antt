@@ -1,0 +1,5 @@
+pub mod Lines
+pub mod Numbers
+pub mod Steps
+pub mod Senders
+pub mod Joining
