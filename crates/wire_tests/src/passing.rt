@@ -1,0 +1,126 @@
+ghost use Rattle.std.specs.Prelude.{◌≡◌};
+
+use erl_names::{NodeName, TrunkId};
+use std::alloc::{AllocError, Global};
+use std::sync::Wait;
+use std::test::*;
+use std::thread;
+use wire_core::{CAPACITY, Direction, Offer, Parcel, Piece, WireIn, WireOut, audit, connect, wire};
+
+const COUNT: u64 = 10_000;
+
+fn trunk(alloc: Global) -> Result<TrunkId, Fail> {
+    Ok(TrunkId {
+        dialer: NodeName::read(alloc, "a@h")?,
+        count: 1,
+    })
+}
+
+fn parcel(alloc: Global, trunk: &TrunkId, seq: u64) -> Result<Parcel, AllocError> {
+    Ok(Parcel {
+        trunk: trunk.clone()?,
+        towards: Direction::ToAcceptor,
+        seq,
+        stamp: seq.wrapping_add(1),
+        bytes: Piece::new(vec![in alloc; 7]?),
+    })
+}
+
+fn parcels(alloc: Global, count: u64) -> Result<Vec<Parcel>, Fail> {
+    let trunk = trunk(alloc)?;
+    let mut all = Vec::new(alloc);
+    for seq in 0..count {
+        all.push(parcel(alloc, &trunk, seq)?)?;
+    }
+    Ok(all)
+}
+
+// Tries until there is room.
+fn put<R: Wait>(rt: &R, out: &mut WireOut, parcel: Parcel)
+    ensures { out.new.wire ≡ out.old.wire }
+{
+    let mut waiting = parcel;
+    for _ in rt.forever() {
+        match out.put(rt, waiting) {
+            Ok(()) => return,
+            Err(back) => waiting = back,
+        }
+        thread::yield_now();
+    }
+    unreachable!()
+}
+
+fn put_all<R: Wait>(rt: &R, mut out: WireOut, parcels: Vec<Parcel>) -> WireOut
+    ensures { result.wire ≡ out.wire }
+{
+    for parcel in parcels {
+        put(rt, &mut out, parcel);
+    }
+    out
+}
+
+// Tries until there is one.
+fn take<R: Wait>(rt: &R, into: &mut WireIn) -> Parcel
+    ensures { into.new.wire ≡ into.old.wire }
+{
+    for _ in rt.forever() {
+        if let Some(parcel) = into.take(rt) {
+            return parcel;
+        }
+        thread::yield_now();
+    }
+    unreachable!()
+}
+
+// How many of so many parcels come in their order.
+fn take_all<R: Wait>(rt: &R, mut into: WireIn, count: u64) -> (WireIn, u64)
+    ensures { result.0.wire ≡ into.wire }
+{
+    let mut in_order = 0;
+    for seq in 0..count {
+        let parcel = take(rt, &mut into);
+        if parcel.seq == seq && parcel.bytes.as_slice() == [7].as_slice() {
+            in_order += 1;
+        }
+    }
+    (into, in_order)
+}
+
+#[test]
+fn parcels_pass_from_thread_to_thread(rt: HostRuntime) -> Result<(), Fail> {
+    let all = parcels(rt.alloc(), COUNT)?;
+    let (out, into) = wire(rt.alloc())?;
+    let (out, (into, in_order)) = thread::join(
+        &rt,
+        move ||
+            ensures { result.wire ≡ out.wire }
+        { put_all(&rt, out, all) },
+        move ||
+            ensures { result.0.wire ≡ into.wire }
+        { take_all(&rt, into, COUNT) },
+    );
+    assert_eq!(rt; in_order, COUNT);
+    assert_eq!(rt; audit(&rt, out, into), 0);
+    Ok(())
+}
+
+#[test]
+fn a_full_wire_gives_a_parcel_back(rt: HostRuntime) -> Result<(), Fail> {
+    let alloc = rt.alloc();
+    let (dialer, acceptor) = connect(alloc, trunk(alloc)?)?;
+    let Offer { mut out, .. } = dialer;
+    let Offer { mut into, trunk, .. } = acceptor;
+    let mut put = 0;
+    for parcel in parcels(alloc, CAPACITY as u64)? {
+        put += usize::from(out.put(&rt, parcel).is_ok());
+    }
+    assert_eq!(rt; put, CAPACITY);
+    match out.put(&rt, parcel(alloc, &trunk, 64)?) {
+        Ok(()) => assert!(rt; false, "it held one more"),
+        Err(back) => assert_eq!(rt; back.seq, 64),
+    }
+    assert_eq!(rt; into.take(&rt).map(|parcel| parcel.seq), Some(0));
+    assert!(rt; out.put(&rt, parcel(alloc, &trunk, 64)?).is_ok());
+    assert_eq!(rt; audit(&rt, out, into), 64);
+    Ok(())
+}
