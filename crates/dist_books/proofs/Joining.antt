@@ -1,15 +1,14 @@
 -- Books are one run of the world.
-use Rattle.std.proofs.Common.{◌≡◌, ◌≢◌, ℕ, ◌<◌, ◌≤◌, Option, None, Some, List, [], ◌∷◌, ◌++◌, ◌⊎◌, inl, inr, length, drop, slice_index_or, refl, sym, ap, ◌∙◌, subst, append_assoc, arith}
+use Rattle.std.proofs.Common.{◌≡◌, ◌≢◌, ℕ, ◌<◌, ◌≤◌, Option, None, Some, List, [], ◌∷◌, ◌++◌, inl, inr, length, drop, slice_index_or, refl, sym, ap, ◌∙◌, subst, append_assoc, arith}
 use Rattle.std.proofs.Math.Seq.{drop-append_seam}
-use Rattle.dist_books.proofs.Numbers.{IsKnown, book_beyond, each_kept, in_or_out, known_or_not, number_there}
+use Rattle.dist_books.proofs.Numbers.{book_beyond, each_kept, known_or_not, number_there}
 use Rattle.dist_books.proofs.Senders.{none_sent, peer_sends, took_elsewhere}
 use Rattle.dist_books.proofs.Steps.{IsLocal, KeepsBearings, opened, runs}
 use Rattle.dist_books.specs.Acting.{Acts, Nodes, Way, name_at, opened_at, same_way}
-use Rattle.dist_books.specs.Books.{Book, Kept, Log, Port, Replays, Stamped, book_at, number_of, on_the_way, outbox_to, port_of, put_to, sender, slot_of, taken_by}
-use Rattle.dist_books.specs.Merged.{AreBooks, BooksAreARun, BooksAreSafe, IsMerged, IsOneRun, IsSafeAt, Placed, Precedes, events_of, reports_of}
+use Rattle.dist_books.specs.Books.{Book, Kept, Log, Port, Stamped, book_at, number_of, on_the_way, outbox_to, port_of, put_to, sender, slot_of, taken_by}
+use Rattle.dist_books.specs.Merged.{AreBooks, BooksAreARun, BooksAreSafe, IsMerged, Placed, Precedes, events_of, reports_of}
 use Rattle.dist_model.specs.Histories.{Throughout}
 use Rattle.dist_model.specs.Items.{Item}
-use Rattle.dist_model.specs.Names.{Name}
 use Rattle.dist_model.specs.Runs.{Runs, opening}
 use Rattle.dist_model.specs.Safety.{Safe}
 use Rattle.dist_model.specs.World.{World}
@@ -39,11 +38,14 @@ module _ (nodes : Nodes) (books : List Book) (are : AreBooks nodes books) where
   took_by c k elsewhere = took_elsewhere nodes k c elsewhere (opened_at nodes k) (book_at books k).node (log k) (kept k).1.leads
 
   takes : (c : Way) (k : ℕ) → k ≢ receiver c → took_on same_way c (log k) ≡ []
-  takes c k apart = took_by c k (λ below same. apart (sym (ap (λ name. number_of nodes name) same ∙ number_there nodes are.distinct k below)))
+  takes c k apart = took_by c k
+      (λ below same. apart (sym (ap (λ name. number_of nodes name) same ∙ number_there nodes are.distinct k below)))
 
-  taken_is : (c : Way) → taken_by (port_of nodes books c.1 c.0) ≡ took_on same_way c (log (receiver c)) ++ slot_of (port_of nodes books c.1 c.0)
+  taken_is : (c : Way) → taken_by (port_of nodes books c.1 c.0) ≡ took_on same_way c (log (receiver c)) ++ slot_of
+      (port_of nodes books c.1 c.0)
   taken_is c = elim (known_or_not nodes c.1) [
-    | inl h ↦ (kept (receiver c)).1.into c.0 ∙ ap (λ name. took_on same_way (c.0, name) (log (receiver c)) ++ slot_of (port_of nodes books c.1 c.0)) h.1
+    | inl h ↦ (kept (receiver c)).1.into c.0
+        ∙ ap (λ name. took_on same_way (c.0, name) (log (receiver c)) ++ slot_of (port_of nodes books c.1 c.0)) h.1
     | inr h ↦ (
         let nobody = book_beyond nodes books are.one_each (receiver c) h in
         ap (λ (book : Book). taken_by (book.ports c.0)) nobody
@@ -52,19 +54,23 @@ module _ (nodes : Nodes) (books : List Book) (are : AreBooks nodes books) where
   ]
 
   -- what was taken begins what the sender has put
-  begins : (c : Way) (o : Option Port) → port_of nodes books c.1 c.0 ≡ o → (rest : List Stamped) × (put_to c.1 ((book_at books (sender nodes books c)).ports c.0) ≡ taken_by o ++ rest)
+  begins : (c : Way) (o : Option Port) → port_of nodes books c.1 c.0 ≡ o → (rest : List Stamped)
+      × (put_to c.1 ((book_at books (sender nodes books c)).ports c.0) ≡ taken_by o ++ rest)
   begins c None at = (put_to c.1 ((book_at books (sender nodes books c)).ports c.0), refl)
   begins c (Some port) at = elim (known_or_not nodes c.1) [
     | inl h ↦ (
         let agree = are.agree (receiver c) c.0 port h.0 at in
         let sends = peer_sends nodes books are c.0 c.1 port (log (receiver c)) h.0 h.1 at (kept (receiver c)).1 in (
           agree.0,
-          ap (λ s. put_to c.1 ((book_at books s).ports c.0)) sends ∙ ap (λ name. put_to name (port_of nodes books port.peer c.0)) (sym h.1) ∙ agree.1,
+          ap (λ s. put_to c.1 ((book_at books s).ports c.0)) sends
+              ∙ ap (λ name. put_to name (port_of nodes books port.peer c.0)) (sym h.1) ∙ agree.1,
         ))
-    | inr h ↦ absurd (let no : None ≡ Some port = sym (ap (λ (book : Book). book.ports c.0) (book_beyond nodes books are.one_each (receiver c) h)) ∙ at in cc)
+    | inr h ↦ absurd (let no : None ≡ Some port = sym
+        (ap (λ (book : Book). book.ports c.0) (book_beyond nodes books are.one_each (receiver c) h)) ∙ at in cc)
   ]
 
-  logs : AreLogs same_way (Acts nodes) (opened_at nodes) (λ k. (book_at books k).node) (sender nodes books) receiver (on_the_way nodes books) log
+  logs : AreLogs same_way (Acts nodes) (opened_at nodes) (λ k. (book_at books k).node) (sender nodes books) receiver
+      (on_the_way nodes books) log
   logs = record {
     leads = λ k. (kept k).1.leads;
     earlier = λ k. (kept k).1.earlier;
@@ -74,7 +80,8 @@ module _ (nodes : Nodes) (books : List Book) (are : AreBooks nodes books) where
         let into = port_of nodes books c.1 c.0 in
         let out = (book_at books (sender nodes books c)).ports c.0 in
         let b = begins c into refl in
-        balance (put_to c.1 out) (outbox_to c.1 out) (taken_by into) (took_on same_way c (log (receiver c))) (slot_of into) b.0 (sent_on same_way c (log (sender nodes books c)))
+        balance (put_to c.1 out) (outbox_to c.1 out) (taken_by into) (took_on same_way c (log (receiver c))) (slot_of into) b.0
+        (sent_on same_way c (log (sender nodes books c)))
         ((kept (sender nodes books c)).1.out c.0 c.1) (taken_is c) b.1;
   }
 
@@ -89,9 +96,11 @@ module _ (nodes : Nodes) (books : List Book) (are : AreBooks nodes books) where
 
 pub books_are_a_run : IsLocal → KeepsBearings → BooksAreARun
 books_are_a_run local bearings nodes books merged are is =
-    let run = logs_are_a_run same_way (Acts nodes) (opened_at nodes) (λ k. (book_at books k).node) (sender nodes books) (λ c. number_of nodes c.1)
+    let run = logs_are_a_run same_way (Acts nodes) (opened_at nodes) (λ k. (book_at books k).node) (sender nodes books)
+    (λ c. number_of nodes c.1)
     (on_the_way nodes books) (log nodes books are) merged (logs nodes books are) (merge_of nodes books are merged is) in
-    let moved = runs local bearings nodes are.distinct merged (opening nodes) (merging.opening Way Item (opened_at nodes)) run.0 (opened local bearings nodes are.distinct) run.1 in
+    let moved = runs local bearings nodes are.distinct merged (opening nodes) (merging.opening Way Item (opened_at nodes)) run.0
+    (opened local bearings nodes are.distinct) run.1 in
     record {
       world = moved.0;
       runs = moved.1;
@@ -100,7 +109,8 @@ books_are_a_run local bearings nodes books merged are is =
     }
 
 -- the beginning of a run is a run
-beginning : (before behind : List Placed) (world last : World) → Runs world (events_of (before ++ behind)) (reports_of (before ++ behind)) last
+beginning : (before behind : List Placed) (world last : World)
+    → Runs world (events_of (before ++ behind)) (reports_of (before ++ behind)) last
     → (now : World) × Runs world (events_of before) (reports_of before) now
 beginning [] behind world last runs = (world, refl)
 beginning (x ∷ before) behind world last runs =
@@ -110,7 +120,8 @@ beginning (x ∷ before) behind world last runs =
 pub books_are_safe : IsLocal → KeepsBearings → Throughout Safe → BooksAreSafe
 books_are_safe local bearings safe nodes books merged are is before behind parts =
     let run = books_are_a_run local bearings nodes books merged are is in
-    let first = beginning before behind (opening nodes) run.world (subst (λ l. Runs (opening nodes) (events_of l) (reports_of l) run.world) parts run.runs) in
+    let first = beginning before behind (opening nodes) run.world
+    (subst (λ l. Runs (opening nodes) (events_of l) (reports_of l) run.world) parts run.runs) in
     record {
       world = first.0;
       runs = first.1;

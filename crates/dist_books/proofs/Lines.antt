@@ -1,9 +1,9 @@
 -- Whatever comes of an event at a node is a line of its log.
 use Rattle.erl_handshake.specs.declared.turn.Progress.{Progress}
 use Rattle.erl_handshake.specs.declared.turn.Progress.TheVariants as progress
-use Rattle.std.proofs.Common.{◌≡◌, ℕ, ◌<◌, Bool, true, false, cond, Option, None, Some, List, inl, inr, ◌⊎◌, length, refl, sym, ap, ◌∙◌, subst}
+use Rattle.std.proofs.Common.{◌≡◌, ℕ, Bool, true, false, cond, Option, None, Some, List, inl, inr, ◌⊎◌, refl, sym, ap, ◌∙◌}
 use Rattle.std.specs.FinMap as fm
-use Rattle.dist_books.specs.Acting.{AcceptsWhatComes, Acts, EventsAreLines, IsMet, Nodes, RefusesWhateverComes, meets, name_at, names_of, next_of, report_of, sent_in, taken_in}
+use Rattle.dist_books.specs.Acting.{AcceptsWhatComes, EventsAreLines, IsMet, RefusesWhateverComes, meets, names_of, next_of, report_of, sent_in, taken_in}
 use Rattle.dist_model.specs.Admission.{after_name}
 use Rattle.dist_model.specs.Arrivals.{arrive, arrive_fresh, handshake_in}
 use Rattle.dist_model.specs.Commands.{Accepts, Outcome, Refuses}
@@ -15,8 +15,7 @@ use Rattle.dist_model.specs.NodeEvents as met
 use Rattle.dist_model.specs.NodeEvents.{at_node}
 use Rattle.dist_model.specs.Sides.{TrunkSide, is_over}
 use Rattle.dist_model.specs.Work.{Work, at_work}
-use Rattle.dist_model.specs.World.{Arrive, Call, Dial, Event, Local, Lose, Start, Stop, Sweep, node_name}
-use Rattle.dist_model.specs.declared.report.Answer.{Answer}
+use Rattle.dist_model.specs.World.{Arrive, Call, Dial, Event, Local, Lose, Start, Stop, Sweep}
 use Rattle.erl_handshake.specs.declared.message.ShakeMsg.{ShakeMsg}
 use Rattle.erl_names.specs.declared.trunk.TrunkId.{TrunkId}
 use Rattle.erl_term.specs.declared.refusal.Refusal.{Refusal}
@@ -24,7 +23,8 @@ use Rattle.erl_term.specs.declared.refusal.Refusal.{Refusal}
 -- what the law of the model says of an arrival
 abbrev pub ArrivalIsTaken : Type 0
 ArrivalIsTaken = (names : List Name) (node : Node) (trunk : TrunkId) (side : TrunkSide) (item : Item) (word : ℕ)
-    → node.up ≡ true → fm.get node.sides trunk ≡ Some side → is_over side.state ≡ false → IsAccepted (at_node names node (met.Arrive trunk (Some item) word))
+    → node.up ≡ true → fm.get node.sides trunk ≡ Some side → is_over side.state ≡ false
+    → IsAccepted (at_node names node (met.Arrive trunk (Some item) word))
 
 clash : {X : Type 0} (outcome : Outcome) (why : Refusal) → IsAccepted outcome → outcome ≡ Refuses why → X
 clash outcome why taken refused = let no : Accepts taken.0 taken.1 ≡ Refuses why = sym taken.2 ∙ refused in absurd (cc)
@@ -45,17 +45,20 @@ module _ (is_taken : ArrivalIsTaken) (names : List Name) (node : Node) where
     arrives first = at_node names node (met.Arrive trunk first word)
 
     -- where all are refused for one reason
-    all_alike : (why also : Refusal) (item : Item) → ((first : Option Item) → arrives first ≡ Refuses also) → arrives (Some item) ≡ Refuses why
+    all_alike : (why also : Refusal) (item : Item) → ((first : Option Item) → arrives first ≡ Refuses also)
+        → arrives (Some item) ≡ Refuses why
         → (first : Option Item) → arrives first ≡ Refuses why
     all_alike why also item all refused first = all first ∙ sym (all (Some item)) ∙ refused
 
-    over_or_not : (side : TrunkSide) (b : Bool) (why : Refusal) (item : Item) → node.up ≡ true → fm.get node.sides trunk ≡ Some side → is_over side.state ≡ b
+    over_or_not : (side : TrunkSide) (b : Bool) (why : Refusal) (item : Item) → node.up ≡ true → fm.get node.sides trunk ≡ Some side
+        → is_over side.state ≡ b
         → arrives (Some item) ≡ Refuses why → (first : Option Item) → arrives first ≡ Refuses why
     over_or_not side true why item up there over refused = all_alike why Refusal.NotLive item (λ first.
         ap (λ b. cond b (arrive node trunk (fm.get node.sides trunk) first word) (Refuses Refusal.NodeDown)) up
         ∙ ap (λ s. arrive node trunk s first word) there
         ∙ rw over refl) refused
-    over_or_not side false why item up there over refused = clash (arrives (Some item)) why (is_taken names node trunk side item word up there over) refused
+    over_or_not side false why item up there over refused =
+        clash (arrives (Some item)) why (is_taken names node trunk side item word up there over) refused
 
     side_or_none : (o : Option TrunkSide) (why : Refusal) (item : Item) → node.up ≡ true → fm.get node.sides trunk ≡ o
         → arrives (Some item) ≡ Refuses why → (first : Option Item) → arrives first ≡ Refuses why
@@ -65,12 +68,14 @@ module _ (is_taken : ArrivalIsTaken) (names : List Name) (node : Node) where
         ∙ ap (λ s. arrive node trunk s (Some item) word) there) ∙ refused)
     side_or_none (Some side) why item up there refused = over_or_not side (is_over side.state) why item up there refl refused
 
-    refused_once : (b : Bool) (why : Refusal) (item : Item) → node.up ≡ b → arrives (Some item) ≡ Refuses why → (first : Option Item) → arrives first ≡ Refuses why
+    refused_once : (b : Bool) (why : Refusal) (item : Item) → node.up ≡ b → arrives (Some item) ≡ Refuses why → (first : Option Item)
+        → arrives first ≡ Refuses why
     refused_once false why item up refused = all_alike why Refusal.NodeDown item (λ first.
         ap (λ b. cond b (arrive node trunk (fm.get node.sides trunk) first word) (Refuses Refusal.NodeDown)) up) refused
     refused_once true why item up refused = side_or_none (fm.get node.sides trunk) why item up refl refused
 
-  refused_whatever : (event : Event) (first : Option Item) (why : Refusal) → IsMet event first → at_node names node (meets event first) ≡ Refuses why
+  refused_whatever : (event : Event) (first : Option Item) (why : Refusal) → IsMet event first
+      → at_node names node (meets event first) ≡ Refuses why
       → (other : Option Item) → at_node names node (meets event other) ≡ Refuses why
   refused_whatever (Call name command) first why met refused other = refused
   refused_whatever (Arrive trunk name word) None why met refused other = absurd (met refl)
@@ -82,7 +87,8 @@ module _ (is_taken : ArrivalIsTaken) (names : List Name) (node : Node) where
   refused_whatever (Stop name) first why met refused other = refused
   refused_whatever (Start name) first why met refused other = refused
 
-  line_of : (event : Event) (first : Option Item) → IsMet event first → (outcome : Outcome) → at_node names node (meets event first) ≡ outcome
+  line_of : (event : Event) (first : Option Item) → IsMet event first → (outcome : Outcome)
+      → at_node names node (meets event first) ≡ outcome
       → RefusesWhateverComes names node event (taken_in event first outcome) (report_of outcome) (next_of node outcome) (sent_in outcome)
       ⊎ AcceptsWhatComes names node event (taken_in event first outcome) (report_of outcome) (next_of node outcome) (sent_in outcome)
   line_of event first met (Refuses why) is = inl (record {

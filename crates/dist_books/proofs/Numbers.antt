@@ -1,15 +1,13 @@
 -- Nodes by their numbers and names, and books by their numbers.
-use Rattle.std.proofs.Common.{◌≡◌, ◌≢◌, ℕ, zero, suc, ◌<◌, ◌≤◌, Bool, true, false, None, Some, List, [], ◌∷◌, ◌⊎◌, inl, inr, if◌then◌else◌, map, length, refl, sym, ap, ◌∙◌, subst, arith, slice_index_or}
+use Rattle.std.proofs.Common.{◌≡◌, ℕ, zero, suc, ◌<◌, ◌≤◌, Bool, true, false, Some, List, [], ◌∷◌, ◌⊎◌, inl, inr, if◌then◌else◌, map, length, refl, sym, ap, ◌∙◌, subst, arith, slice_index_or}
 use Rattle.std.proofs.lemmas.Bool.Decides.{leb_tells}
 use Rattle.std.proofs.lemmas.List.Elements.{All-nil}
 use Rattle.dist_books.specs.Acting.{Nodes, name_at, opened_at}
-use Rattle.dist_books.specs.Books.{AllKept, AreDistinct, Book, Kept, Log, book_at, no_book, number_of}
+use Rattle.dist_books.specs.Books.{AllKept, AreDistinct, Book, Kept, book_at, no_book, number_of}
 use Rattle.dist_model.proofs.Keys.{same_name_is, same_name_refl, same_name_true}
 use Rattle.dist_model.specs.Names.{Name, same_name}
-use Rattle.dist_model.specs.Node.{Node}
 use Rattle.dist_model.specs.Runs.{new_node}
 use Rattle.dist_model.specs.World.{node_of}
-use Rattle.merging.specs.Logs.{Line, TakesEarlier}
 
 pub in_or_out : (k n : ℕ) → (k < n) ⊎ (n ≤ k)
 in_or_out k n = elim (leb_tells n k) [ inl h ↦ inr h.1 | inr h ↦ inl (let a = h.1 in omega arith) ]
@@ -40,7 +38,8 @@ known_or_not [] name = inr (omega arith)
 known_or_not (x ∷ xs) name = pick (same_name x.0 name) refl (known_or_not xs name)
   where
     pick : (b : Bool) → same_name x.0 name ≡ b → IsKnown xs name ⊎ (length xs ≤ number_of xs name)
-        → (((if b then 0 else suc (number_of xs name)) < length (x ∷ xs)) × (name_at (x ∷ xs) (if b then 0 else suc (number_of xs name)) ≡ name))
+        → (((if b then 0 else suc (number_of xs name)) < length (x ∷ xs))
+        × (name_at (x ∷ xs) (if b then 0 else suc (number_of xs name)) ≡ name))
         ⊎ (length (x ∷ xs) ≤ (if b then 0 else suc (number_of xs name)))
     pick true same rest = inl (omega arith, same_name_true x.0 name same)
     pick false same (inl h) = inl ((let a = h.0 in omega arith), h.1)
@@ -63,7 +62,9 @@ opened_there (x ∷ xs) distinct (suc k) below = pick (same_name x.0 (name_at xs
     apart : AreDistinct xs
     apart i j a b same = let h : suc i ≡ suc j = distinct (suc i) (suc j) (omega arith) (omega arith) same in omega arith
 
-    pick : (b : Bool) → same_name x.0 (name_at xs k) ≡ b → node_of (map (λ node. new_node node.0 node.1) (x ∷ xs)) (name_at xs k) ≡ node_of (map (λ node. new_node node.0 node.1) xs) (name_at xs k)
+    pick : (b : Bool) → same_name x.0 (name_at xs k) ≡ b
+        → node_of (map (λ node. new_node node.0 node.1) (x ∷ xs)) (name_at xs k) ≡ node_of (map (λ node. new_node node.0 node.1) xs)
+        (name_at xs k)
     pick true is = absurd (let h : 0 ≡ suc k = distinct 0 (suc k) (omega arith) below (same_name_true x.0 (name_at xs k) is) in omega arith)
     pick false is = ap (λ b. if b then Some (new_node x.0 x.1) else node_of (map (λ node. new_node node.0 node.1) xs) (name_at xs k)) is
 
@@ -87,7 +88,8 @@ nobody_kept nodes k out = (
 pub book_beyond : (nodes : Nodes) (books : List Book) → length books ≡ length nodes → (k : ℕ) → length nodes ≤ k → book_at books k ≡ no_book
 book_beyond nodes books one_each k out = past_end books k no_book (omega (arith, one_each, out))
 
-pub each_kept : (nodes : Nodes) (books : List Book) → length books ≡ length nodes → AllKept nodes books → (k : ℕ) → Kept nodes k (book_at books k)
+pub each_kept : (nodes : Nodes) (books : List Book) → length books ≡ length nodes → AllKept nodes books → (k : ℕ)
+    → Kept nodes k (book_at books k)
 each_kept nodes books one_each kept k = elim (in_or_out k (length nodes)) [
   | inl h ↦ kept k h
   | inr h ↦ subst (λ book. Kept nodes k book) (sym (book_beyond nodes books one_each k h)) (nobody_kept nodes k h)

@@ -1,9 +1,9 @@
 -- Who sends and who takes on a way, by the logs of the books.
-use Rattle.std.proofs.Common.{◌≡◌, ◌≢◌, ℕ, ◌<◌, Bool, true, false, Option, None, Some, List, [], ◌∷◌, ◌++◌, inl, inr, ◌⊎◌, if◌then◌else◌, length, refl, sym, ap, ◌∙◌, subst}
+use Rattle.std.proofs.Common.{◌≡◌, ◌≢◌, ℕ, ◌<◌, Bool, true, false, Option, None, Some, List, [], ◌∷◌, ◌++◌, inl, inr, if◌then◌else◌, length, refl, sym, ap, ◌∙◌, subst}
 use Rattle.dist_books.proofs.Numbers.{book_beyond, in_or_out, number_there}
 use Rattle.dist_books.proofs.Steps.{same_way_is}
 use Rattle.dist_books.specs.Acting.{Acts, Nodes, Way, name_at, same_way, takes}
-use Rattle.dist_books.specs.Books.{Book, IsPort, Log, Port, Replays, Stamped, book_at, no_book, number_of, outbox_to, peer_in, port_of, put_to, sender, slot_of, taken_by}
+use Rattle.dist_books.specs.Books.{Book, IsPort, Log, Port, Replays, Stamped, book_at, number_of, outbox_to, peer_in, port_of, put_to, sender, slot_of, taken_by}
 use Rattle.dist_books.specs.Merged.{AreBooks}
 use Rattle.dist_model.proofs.Keys.{same_name_is, same_name_true}
 use Rattle.dist_model.specs.Items.{Item}
@@ -20,10 +20,12 @@ no_front (x ∷ xs) ys h = absurd (cc)
 -- ---- who takes: the node that the way leads to
 
 -- an event takes off a way to its own node
-takes_own : (event : Event) (first : Option Item) (way : Way) (items : List Item) → Some (way, items) ≡ takes event first → way.1 ≡ node_name event
+takes_own : (event : Event) (first : Option Item) (way : Way) (items : List Item) → Some (way, items) ≡ takes event first
+    → way.1 ≡ node_name event
 takes_own (Call name command) first way items is = absurd (cc)
 takes_own (Arrive trunk name word) None way items is = absurd (cc)
-takes_own (Arrive trunk name word) (Some item) way items is = let same : ◌≡◌ {A = Way × List Item} (way, items) ((trunk, name), item ∷ []) = cc in ap (λ (taken : Way × List Item). taken.0.1) same
+takes_own (Arrive trunk name word) (Some item) way items is =
+    let same : ◌≡◌ {A = Way × List Item} (way, items) ((trunk, name), item ∷ []) = cc in ap (λ (taken : Way × List Item). taken.0.1) same
 takes_own (Local name) first way items is = absurd (cc)
 takes_own (Lose trunk name) first way items is = absurd (cc)
 takes_own (Sweep name) first way items is = absurd (cc)
@@ -66,7 +68,9 @@ module _ (nodes : Nodes) (books : List Book) (are : AreBooks nodes books) where
   not_put k (Some port) below apart = pick (same_name port.peer (name_at nodes k)) refl
     where
       pick : (b : Bool) → same_name port.peer (name_at nodes k) ≡ b → (if b then port.put else []) ≡ []
-      pick true is = absurd (apart (sym (ap (λ name. number_of nodes name) (same_name_true port.peer (name_at nodes k) is) ∙ number_there nodes are.distinct k below)))
+      pick true is = absurd (apart
+          (sym (ap (λ name. number_of nodes name) (same_name_true port.peer (name_at nodes k) is)
+          ∙ number_there nodes are.distinct k below)))
       pick false is = refl
 
   module _ (t : TrunkId) (y : Name) (k : ℕ) (log : Log) (replays : Replays nodes k (book_at books k) log) (below : k < length nodes) where
@@ -83,18 +87,22 @@ module _ (nodes : Nodes) (books : List Book) (are : AreBooks nodes books) where
     ]
     sends_none port at true dials apart to is = elim is [
       | inl d ↦ absurd (d.1 (to ∙ sym (same_name_true t.dialer y dials) ∙ d.0))
-      | inr d ↦ d.2 (no_front (took_on same_way (t, own) log) (slot_of ((book_at books k).ports t)) (sym (replays.into t) ∙ ap taken_by at ∙ nothing_taken))
+      | inr d ↦ d.2 (no_front (took_on same_way (t, own) log) (slot_of ((book_at books k).ports t))
+          (sym (replays.into t) ∙ ap taken_by at ∙ nothing_taken))
     ]
       where
         nothing_taken : port.taken ≡ []
         nothing_taken =
-            let agree = subst (λ name. (rest : List Stamped) × (put_to own (port_of nodes books name t) ≡ port.taken ++ rest)) to (are.agree k t port below at) in
+            let agree = subst (λ name. (rest : List Stamped) × (put_to own (port_of nodes books name t) ≡ port.taken ++ rest)) to
+            (are.agree k t port below at) in
             no_front port.taken agree.0 (sym agree.1 ∙ not_put k (port_of nodes books y t) below apart)
 
-    sent_none : (o : Option Port) → (book_at books k).ports t ≡ o → k ≢ sender nodes books (t, y) → IsPort own t o (took_on same_way (t, own) log)
+    sent_none : (o : Option Port) → (book_at books k).ports t ≡ o → k ≢ sender nodes books (t, y)
+        → IsPort own t o (took_on same_way (t, own) log)
         → put_to y o ++ outbox_to y o ≡ []
     sent_none None at apart is = refl
-    sent_none (Some port) at apart is = port_sends port y (same_name port.peer y) refl (λ to. sends_none port at (same_name t.dialer y) refl apart to is)
+    sent_none (Some port) at apart is =
+        port_sends port y (same_name port.peer y) refl (λ to. sends_none port at (same_name t.dialer y) refl apart to is)
 
   pub none_sent : (t : TrunkId) (y : Name) (k : ℕ) (log : Log) → Replays nodes k (book_at books k) log → k ≢ sender nodes books (t, y)
       → put_to y ((book_at books k).ports t) ++ outbox_to y ((book_at books k).ports t) ≡ []
@@ -104,12 +112,14 @@ module _ (nodes : Nodes) (books : List Book) (are : AreBooks nodes books) where
   ]
 
   -- the peer of a port is who sends on its way in
-  pub peer_sends : (t : TrunkId) (y : Name) (port : Port) (log : Log) → number_of nodes y < length nodes → name_at nodes (number_of nodes y) ≡ y
+  pub peer_sends : (t : TrunkId) (y : Name) (port : Port) (log : Log) → number_of nodes y < length nodes
+      → name_at nodes (number_of nodes y) ≡ y
       → port_of nodes books y t ≡ Some port → Replays nodes (number_of nodes y) (book_at books (number_of nodes y)) log
       → sender nodes books (t, y) ≡ number_of nodes port.peer
   peer_sends t y port log below named at replays = by_dialer (same_name t.dialer y) refl
     where
-      by_dialer : (b : Bool) → same_name t.dialer y ≡ b → (if b then peer_in nodes books (port_of nodes books y t) else number_of nodes t.dialer) ≡ number_of nodes port.peer
+      by_dialer : (b : Bool) → same_name t.dialer y ≡ b
+          → (if b then peer_in nodes books (port_of nodes books y t) else number_of nodes t.dialer) ≡ number_of nodes port.peer
       by_dialer true is = ap (λ o. peer_in nodes books o) at
       by_dialer false is =
           let own = name_at nodes (number_of nodes y) in

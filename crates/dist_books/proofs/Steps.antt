@@ -1,20 +1,19 @@
 -- What moves nodes with their lists moves the world.
-use Rattle.std.proofs.Common.{◌≡◌, ◌≢◌, ℕ, ◌<◌, Bool, true, false, cond, Option, None, Some, List, [], ◌∷◌, ◌++◌, ◌⊎◌, inl, inr, if◌then◌else◌, length, refl, sym, ap, ◌∙◌, subst, append-nil}
+use Rattle.std.proofs.Common.{◌≡◌, ℕ, ◌<◌, Bool, true, false, cond, Option, None, Some, List, [], ◌∷◌, ◌++◌, inl, inr, if◌then◌else◌, length, refl, sym, ap, ◌∙◌, subst, append-nil}
 use Rattle.std.specs.FinMap as fm
 use Rattle.std.specs.FinMap.{FinMap}
 use Rattle.std.specs.Option.{unwrap_or}
-use Rattle.std.specs.Ordering.{eq_by_cmp}
 use Rattle.std.proofs.lemmas.Bool.Decides.{eqb_tells}
 use Rattle.dist_books.proofs.Numbers.{opened_there}
 use Rattle.dist_books.specs.Acting.{AcceptsWhatComes, Acts, Nodes, RefusesWhateverComes, Way, meets, name_at, names_of, on_ways, opened_at, same_way, takes}
 use Rattle.dist_books.specs.Books.{AreDistinct}
 use Rattle.dist_books.specs.Merged.{Placed, events_of, reports_of}
 use Rattle.dist_model.proofs.Envelopes as envelopes
-use Rattle.dist_model.proofs.Keys.{and_both, same_name_is, same_name_refl, same_name_true, same_place, same_trunk, same_trunk_refl, same_trunk_true}
+use Rattle.dist_model.proofs.Keys.{and_both, same_name_refl, same_name_true, same_place, same_trunk, same_trunk_refl, same_trunk_true}
 use Rattle.dist_model.proofs.Routes.{at_place, list_to_carried, list_to_insert, node_of_name}
 use Rattle.dist_model.specs.Arrivals.{arrive, arrive_first}
 use Rattle.dist_model.specs.Claims.{EventIsLocal}
-use Rattle.dist_model.specs.Commands.{Accepts, Outcome, Refuses}
+use Rattle.dist_model.specs.Commands.{Accepts, Refuses}
 use Rattle.dist_model.specs.Items.{Item}
 use Rattle.dist_model.specs.Keeping.{Bearings}
 use Rattle.dist_model.specs.Names.{Name, place_cmp, same_name}
@@ -39,7 +38,8 @@ abbrev pub IsLocal : Type 0
 IsLocal = (world : World) → EventIsLocal world
 
 abbrev pub KeepsBearings : Type 0
-KeepsBearings = (names : List Name) (node : Node) (now : NodeEvent) (answer : Answer) (work : Work) → at_node names node now ≡ Accepts answer work → Bearings node now work
+KeepsBearings = (names : List Name) (node : Node) (now : NodeEvent) (answer : Answer) (work : Work)
+    → at_node names node now ≡ Accepts answer work → Bearings node now work
 
 -- ---- ways
 
@@ -65,10 +65,12 @@ sent_is c (Effect.Ended p r ∷ rest) = sent_is c rest
 sent_is c (Effect.LinkExit p q r ∷ rest) = sent_is c rest
 
 -- an arrival with nothing is refused
-nothing_refused : (names : List Name) (node : Node) (trunk : TrunkId) (word : ℕ) (said : Answer) (work : Work) → at_node names node (event.Arrive trunk None word) ≡ Accepts said work → ⊥
+nothing_refused : (names : List Name) (node : Node) (trunk : TrunkId) (word : ℕ) (said : Answer) (work : Work)
+    → at_node names node (event.Arrive trunk None word) ≡ Accepts said work → ⊥
 nothing_refused names node trunk word said work is = by_up node.up is
   where
-    over : (b : Bool) (side : TrunkSide) → cond b (Refuses Refusal.NotLive) (arrive_first None trunk side (at_work node)) ≡ Accepts said work → ⊥
+    over : (b : Bool) (side : TrunkSide)
+        → cond b (Refuses Refusal.NotLive) (arrive_first None trunk side (at_work node)) ≡ Accepts said work → ⊥
     over true side h = absurd (cc)
     over false side h = absurd (cc)
 
@@ -92,14 +94,16 @@ module _ (w : World) (left : Way → List Item) where
   abbrev IsTaken : Event → Option Item → Type 0
   IsTaken e first = (met w e ≡ meets e first) × AreLeft (model.left w e)
 
-  first_taken : (trunk : TrunkId) (name : Name) (word : ℕ) (item : Item) → Begin (Some ((trunk, name), item ∷ [])) → IsTaken (Arrive trunk name word) (Some item)
+  first_taken : (trunk : TrunkId) (name : Name) (word : ℕ) (item : Item) → Begin (Some ((trunk, name), item ∷ []))
+      → IsTaken (Arrive trunk name word) (Some item)
   first_taken trunk name word item begin =
       let way : Way = (trunk, name) in
-      let list : list_to w.lists trunk name ≡ item ∷ left way = begin way ∙ ap (λ b. (if b then item ∷ [] else []) ++ left way) (same_way_self way) in (
+      let list : list_to w.lists trunk name ≡ item ∷ left way = begin way
+      ∙ ap (λ b. (if b then item ∷ [] else []) ++ left way) (same_way_self way) in (
         ap (λ l. event.Arrive trunk (first_of l) word) list,
         λ c. list_to_insert w.lists trunk name (rest_of (list_to w.lists trunk name)) c.0 c.1
-        ∙ ap (λ b. cond b (rest_of (list_to w.lists trunk name)) (list_to w.lists c.0 c.1)) (sym (same_place c.0 trunk c.1 name))
-        ∙ elsewhere c (same_way c way) refl (ap (λ l. rest_of l) list),
+            ∙ ap (λ b. cond b (rest_of (list_to w.lists trunk name)) (list_to w.lists c.0 c.1)) (sym (same_place c.0 trunk c.1 name))
+            ∙ elsewhere c (same_way c way) refl (ap (λ l. rest_of l) list),
       )
     where
       elsewhere : (c : Way) (b : Bool) → same_way c (trunk, name) ≡ b → rest_of (list_to w.lists trunk name) ≡ left (trunk, name)
@@ -107,9 +111,11 @@ module _ (w : World) (left : Way → List Item) where
       elsewhere c true is rest = rest ∙ ap left (sym (same_way_is c (trunk, name) is))
       elsewhere c false is rest = begin c ∙ ap (λ b. (if b then item ∷ [] else []) ++ left c) is
 
-  is_taken : (names : List Name) (node : Node) (e : Event) (first : Option Item) (said : Answer) (work : Work) → at_node names node (meets e first) ≡ Accepts said work → Begin (takes e first) → IsTaken e first
+  is_taken : (names : List Name) (node : Node) (e : Event) (first : Option Item) (said : Answer) (work : Work)
+      → at_node names node (meets e first) ≡ Accepts said work → Begin (takes e first) → IsTaken e first
   is_taken names node (Call name command) first said work accepted begin = (refl, begin)
-  is_taken names node (Arrive trunk name word) None said work accepted begin = absurd (nothing_refused names node trunk word said work accepted)
+  is_taken names node (Arrive trunk name word) None said work accepted begin =
+      absurd (nothing_refused names node trunk word said work accepted)
   is_taken names node (Arrive trunk name word) (Some item) said work accepted begin = first_taken trunk name word item begin
   is_taken names node (Local name) first said work accepted begin = (refl, begin)
   is_taken names node (Lose trunk name) first said work accepted begin = (refl, begin)
@@ -141,7 +147,8 @@ module _ (local : IsLocal) (bearings : KeepsBearings) (nodes : Nodes) (distinct 
     pub nodes_are : (k : ℕ) → k < length nodes → node_of w.nodes (name_at nodes k) ≡ Some (v.nodes k)
     pub lists_are : (c : Way) → list_to w.lists c.0 c.1 ≡ v.lists c
 
-  module _ (w : World) (v new : NodesWorld) (k : ℕ) (e : Event) (answer : Report) (at : At w v) (m : Moves same_way (Acts nodes) v k e answer new) where
+  module _ (w : World) (v new : NodesWorld) (k : ℕ) (e : Event) (answer : Report) (at : At w v)
+      (m : Moves same_way (Acts nodes) v k e answer new) where
     abbrev Moved : Type 0
     Moved = (next : World) × Goes w e answer next × At next new
 
@@ -152,7 +159,8 @@ module _ (local : IsLocal) (bearings : KeepsBearings) (nodes : Nodes) (distinct 
     refusing r =
         let some = met_some w e in
         let said : at_node w.names (v.nodes k) (met w e) ≡ Refuses r.why =
-        ap (λ names. at_node names (v.nodes k) (met w e)) at.names_are ∙ ap (λ now. at_node (names_of nodes) (v.nodes k) now) some.1 ∙ r.refused some.0 in
+        ap (λ names. at_node names (v.nodes k) (met w e)) at.names_are ∙ ap (λ now. at_node (names_of nodes) (v.nodes k) now) some.1
+        ∙ r.refused some.0 in
         let stepped : step w e ≡ refused w r.why = (local w e).refuses (v.nodes k) r.why here said in (
           w,
           inl (r.answered ∙ ap (λ s. s.report) (sym stepped), ap (λ s. s.world) (sym stepped)),
@@ -160,7 +168,7 @@ module _ (local : IsLocal) (bearings : KeepsBearings) (nodes : Nodes) (distinct 
             names_are = at.names_are;
             nodes_are = λ j within. at.nodes_are j within ∙ ap (λ n. Some n) (sym (unchanged j));
             lists_are = λ c. at.lists_are c ∙ m.first c ∙ ap (λ took. off same_way c took ++ m.left c) r.nothing_taken
-            ∙ sym (append-nil (m.left c)) ∙ ap (λ sent. m.left c ++ on same_way c sent) (sym r.nothing_sent) ∙ sym (m.behind c);
+                ∙ sym (append-nil (m.left c)) ∙ ap (λ sent. m.left c ++ on same_way c sent) (sym r.nothing_sent) ∙ sym (m.behind c);
           },
         )
       where
@@ -172,7 +180,8 @@ module _ (local : IsLocal) (bearings : KeepsBearings) (nodes : Nodes) (distinct 
         let taken = is_taken w m.left (names_of nodes) (v.nodes k) e a.first a.said a.work a.accepted
         (λ c. at.lists_are c ∙ m.first c ∙ ap (λ took. off same_way c took ++ m.left c) a.taken) in
         let said : at_node w.names (v.nodes k) (met w e) ≡ Accepts a.said a.work =
-        ap (λ names. at_node names (v.nodes k) (met w e)) at.names_are ∙ ap (λ now. at_node (names_of nodes) (v.nodes k) now) taken.0 ∙ a.accepted in
+        ap (λ names. at_node names (v.nodes k) (met w e)) at.names_are ∙ ap (λ now. at_node (names_of nodes) (v.nodes k) now) taken.0
+        ∙ a.accepted in
         let is = local w e in
         let accepts = is.accepts (v.nodes k) a.said a.work here said in
         let stepped : step w e ≡ came_of w (node_name e) (model.left w e) (Accepts a.said a.work) =
@@ -184,7 +193,8 @@ module _ (local : IsLocal) (bearings : KeepsBearings) (nodes : Nodes) (distinct 
             nodes_are = nodes_now accepts.1 is.others;
             lists_are = λ c.
                 ap (λ s. list_to s.world.lists c.0 c.1) stepped ∙ list_to_carried (model.left w e) a.work.effects c.0 c.1
-                ∙ ap (λ l. l ++ at_place c.0 c.1 (envelopes.sent_in a.work.effects)) (taken.1 c) ∙ ap (λ l. m.left c ++ l) (sent_is c a.work.effects)
+                ∙ ap (λ l. l ++ at_place c.0 c.1 (envelopes.sent_in a.work.effects)) (taken.1 c)
+                ∙ ap (λ l. m.left c ++ l) (sent_is c a.work.effects)
                 ∙ ap (λ sent. m.left c ++ on same_way c sent) (sym a.sends) ∙ sym (m.behind c);
           },
         )
@@ -197,10 +207,11 @@ module _ (local : IsLocal) (bearings : KeepsBearings) (nodes : Nodes) (distinct 
             → ((x : Name) → (x ≡ node_name e → ⊥) → node_of (step w e).world.nodes x ≡ node_of w.nodes x)
             → (j : ℕ) → j < length nodes → node_of (step w e).world.nodes (name_at nodes j) ≡ Some (new.nodes j)
         nodes_now own others j within = elim (eqb_tells j k) [
-          | inl h ↦ ap (λ i. node_of (step w e).world.nodes (name_at nodes i)) h.1 ∙ ap (λ x. node_of (step w e).world.nodes x) (sym named) ∙ own
-            ∙ ap (λ n. Some n) (sym a.becomes ∙ ap new.nodes (sym h.1))
+          | inl h ↦ ap (λ i. node_of (step w e).world.nodes (name_at nodes i)) h.1
+              ∙ ap (λ x. node_of (step w e).world.nodes x) (sym named) ∙ own
+              ∙ ap (λ n. Some n) (sym a.becomes ∙ ap new.nodes (sym h.1))
           | inr h ↦ others (name_at nodes j) (λ same. h.1 (distinct j k within m.acted.0 (same ∙ m.acted.1)))
-            ∙ at.nodes_are j within ∙ ap (λ n. Some n) (sym (m.others j h.1))
+              ∙ at.nodes_are j within ∙ ap (λ n. Some n) (sym (m.others j h.1))
         ]
 
     moved : Moved

@@ -62,7 +62,8 @@ on_ways (effect ∷ rest) = on_ways rest
 
 module _ (names : List Name) (node : Node) (event : Event) where
   -- whatever comes first, it refuses, and nothing changes
-  pub record RefusesWhateverComes (took : Option (Way × List Item)) (answer : Report) (next : Node) (sent : List (Way × List Item)) : Type 0 where
+  pub record RefusesWhateverComes (took : Option (Way × List Item)) (answer : Report) (next : Node)
+      (sent : List (Way × List Item)) : Type 0 where
     pub why : Refusal
     pub refused : (first : Option Item) → at_node names node (meets event first) ≡ Refuses why
     pub answered : answer ≡ Refused why
@@ -71,7 +72,8 @@ module _ (names : List Name) (node : Node) (event : Event) where
     pub nothing_sent : sent ≡ []
 
   -- it accepts the event, with the item that comes, if one does
-  pub record AcceptsWhatComes (took : Option (Way × List Item)) (answer : Report) (next : Node) (sent : List (Way × List Item)) : Type 0 where
+  pub record AcceptsWhatComes (took : Option (Way × List Item)) (answer : Report) (next : Node)
+      (sent : List (Way × List Item)) : Type 0 where
     pub first : Option Item
     pub said : Answer
     pub work : Work
@@ -84,7 +86,8 @@ module _ (names : List Name) (node : Node) (event : Event) where
 -- an event of the node of this number
 abbrev pub Acts : Nodes → ℕ → Node → Event → Option (Way × List Item) → Report → Node → List (Way × List Item) → Type 0
 Acts nodes k node event took answer next sent = (k < length nodes) × (node_name event ≡ name_at nodes k)
-    × (RefusesWhateverComes (names_of nodes) node event took answer next sent ⊎ AcceptsWhatComes (names_of nodes) node event took answer next sent)
+    × (RefusesWhateverComes (names_of nodes) node event took answer next sent
+    ⊎ AcceptsWhatComes (names_of nodes) node event took answer next sent)
 
 -- ---- each event is so
 

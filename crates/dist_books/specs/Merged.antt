@@ -49,7 +49,8 @@ pub record AreBooks (nodes : Nodes) (books : List Book) : Type 0 where
   pub agree : WiresAgree nodes books
 
 abbrev pub BooksAreARun : Type 0
-BooksAreARun = (nodes : Nodes) (books : List Book) (merged : List Placed) → AreBooks nodes books → IsMerged books merged → IsOneRun nodes books merged
+BooksAreARun = (nodes : Nodes) (books : List Book) (merged : List Placed) → AreBooks nodes books → IsMerged books merged
+    → IsOneRun nodes books merged
 
 abbrev pub BooksAreSafe : Type 0
 BooksAreSafe = (nodes : Nodes) (books : List Book) (merged : List Placed) → AreBooks nodes books → IsMerged books merged

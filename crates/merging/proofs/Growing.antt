@@ -12,7 +12,8 @@ module _ {E A C I : Type 0} (same : C → C → Bool) where
   pub took_grows : TookGrows E A C I same
   took_grows c [] line = append-nil (off same c line.took)
   took_grows c (x ∷ xs) line =
-      ap (λ l. off same c x.took ++ l) (took_grows c xs line) ∙ sym (append_assoc (off same c x.took) (took_on same c xs) (off same c line.took))
+      ap (λ l. off same c x.took ++ l) (took_grows c xs line)
+      ∙ sym (append_assoc (off same c x.took) (took_on same c xs) (off same c line.took))
 
 pub lead_grows : {S E A C I : Type 0} → (acts : ℕ → S → E → Option (C × List I) → A → S → List (C × List I) → Type 0) → LeadGrows acts
 lead_grows {S} acts k from now next [] line leads acted =

@@ -19,7 +19,8 @@ put_other : {X : Type 0} (f : ℕ → X) (k : ℕ) (x : X) (j : ℕ) → j ≢ k
 put_other f k x j apart = elim (eqb_tells j k) [ inl h ↦ absurd (apart h.1) | inr h ↦ ap (λ b. if b then x else f j) h.0 ]
 
 -- what holds of the new value, and of each old one, holds of all
-put_all : {X : Type 0} (P : ℕ → X → Type 0) (f : ℕ → X) (k : ℕ) (x : X) → P k x → ((j : ℕ) → j ≢ k → P j (f j)) → (j : ℕ) → P j (put f k x j)
+put_all : {X : Type 0} (P : ℕ → X → Type 0) (f : ℕ → X) (k : ℕ) (x : X) → P k x → ((j : ℕ) → j ≢ k → P j (f j)) → (j : ℕ)
+    → P j (put f k x j)
 put_all P f k x new old j = elim (eqb_tells j k) [
   | inl h ↦ subst (P j) (sym (ap (λ b. if b then x else f j) h.0)) (subst (λ i. P i x) (sym h.1) new)
   | inr h ↦ subst (P j) (sym (put_other f k x j h.1)) (old j h.1)
@@ -38,7 +39,8 @@ bare_stamped stamp [] = refl
 bare_stamped stamp (x ∷ xs) = ap (λ l. x ∷ l) (bare_stamped stamp xs)
 
 -- What is taken begins what was sent. It can't be among what is still to be sent, since that has later stamps.
-begins : {I : Type 0} (n : ℕ) (front more taken took rest : List (ℕ × I)) → Since n more → All (λ symbol. symbol.0 < n) taken → front ++ more ≡ (taken ++ took) ++ rest
+begins : {I : Type 0} (n : ℕ) (front more taken took rest : List (ℕ × I)) → Since n more → All (λ symbol. symbol.0 < n) taken
+    → front ++ more ≡ (taken ++ took) ++ rest
     → (left : List (ℕ × I)) × (front ≡ taken ++ left) × (left ++ more ≡ took ++ rest)
 begins n front more [] took rest since before is = (front, refl, is)
 begins n [] [] (y ∷ taken) took rest since before is = absurd (cc)
@@ -62,11 +64,13 @@ nothing_behind (x ∷ xs) ys h = absurd (cc)
 
 -- ---- what one node's log says on a channel, once its first line is gone
 
-module _ {E A C I : Type 0} (f : List (Line E A C I) → List (ℕ × I)) (g : List (ℕ × I)) (log : ℕ → List (Line E A C I)) (k p : ℕ) (y : Line E A C I) (ys : List (Line E A C I))
+module _ {E A C I : Type 0} (f : List (Line E A C I) → List (ℕ × I)) (g : List (ℕ × I)) (log : ℕ → List (Line E A C I)) (k p : ℕ)
+    (y : Line E A C I) (ys : List (Line E A C I))
     (more : f (y ∷ ys) ≡ g ++ f ys) (at : log k ≡ y ∷ ys) (only : (j : ℕ) → j ≢ p → f (log j) ≡ []) where
   first_of_log : f (log p) ≡ g ++ f (put log k ys p)
   first_of_log = elim (eqb_tells p k) [
-    | inl h ↦ ap (λ j. f (log j)) h.1 ∙ ap f at ∙ more ∙ ap (λ l. g ++ f l) (sym (put_same log k ys)) ∙ ap (λ j. g ++ f (put log k ys j)) (sym h.1)
+    | inl h ↦ ap (λ j. f (log j)) h.1 ∙ ap f at ∙ more ∙ ap (λ l. g ++ f l) (sym (put_same log k ys))
+        ∙ ap (λ j. g ++ f (put log k ys j)) (sym h.1)
     | inr h ↦ (
         let none : g ++ f ys ≡ [] = sym more ∙ ap f (sym at) ∙ only k (λ e. h.1 (sym e)) in
         ap (λ l. f l) (sym (put_other log k ys p h.1)) ∙ ap (λ l. l ++ f (put log k ys p)) (sym (nothing_before g (f ys) none)))
@@ -104,17 +108,24 @@ NotAfter x y = x.1.stamp ≤ y.1.stamp
 head_first : {E A : Type 0} (x : ℕ × Entry E A) (merged : List (ℕ × Entry E A)) → AllPairs NotAfter (x ∷ merged) → All (NotAfter x) merged
 head_first x merged h k d below = h 0 (suc k) d (omega arith) (omega arith)
 
-tail_ordered : {E A : Type 0} (x : ℕ × Entry E A) (merged : List (ℕ × Entry E A)) → AllPairs NotAfter (x ∷ merged) → AllPairs NotAfter merged
+tail_ordered : {E A : Type 0} (x : ℕ × Entry E A) (merged : List (ℕ × Entry E A)) → AllPairs NotAfter (x ∷ merged)
+    → AllPairs NotAfter merged
 tail_ordered x merged h i j d before below = h (suc i) (suc j) d (omega arith) (omega arith)
 
-from_all : {E A : Type 0} (n j : ℕ) (merged : List (ℕ × Entry E A)) → All (λ x. n ≤ x.1.stamp) merged → All (λ e. n ≤ e.stamp) (of_node j merged)
+from_all : {E A : Type 0} (n j : ℕ) (merged : List (ℕ × Entry E A)) → All (λ x. n ≤ x.1.stamp) merged
+    → All (λ e. n ≤ e.stamp) (of_node j merged)
 from_all n j [] h = All-nil (λ e. n ≤ e.stamp)
 from_all n j (x ∷ xs) h =
     let rest = from_all n j xs (All-tail (λ z. n ≤ z.1.stamp) x xs h) in
     let P : Bool → Type 0 = λ b. All (λ e. n ≤ e.stamp) (if b then x.1 ∷ of_node j xs else of_node j xs) in
-    elim (j == x.0) as P [ true ↦ All-cons (λ e. n ≤ e.stamp) x.1 (of_node j xs) (All-head (λ z. n ≤ z.1.stamp) x xs h) rest | false ↦ rest ]
+    elim (j == x.0) as P [
+      | true ↦ All-cons (λ e. n ≤ e.stamp) x.1 (of_node j xs)
+          (All-head (λ z. n ≤ z.1.stamp) x xs h) rest
+      | false ↦ rest
+    ]
 
-since_sent : {E A C I : Type 0} (same : C → C → Bool) (n : ℕ) (c : C) (log : List (Line E A C I)) → All (λ e. n ≤ e.stamp) (entries_of log) → Since n (sent_on same c log)
+since_sent : {E A C I : Type 0} (same : C → C → Bool) (n : ℕ) (c : C) (log : List (Line E A C I))
+    → All (λ e. n ≤ e.stamp) (entries_of log) → Since n (sent_on same c log)
 since_sent same n c [] h = All-nil (λ z. n ≤ z.0)
 since_sent same n c (x ∷ xs) h =
     All-append (λ z. n ≤ z.0) (stamped x.entry.stamp (on same c x.sent)) (sent_on same c xs)
@@ -137,7 +148,8 @@ module _ {S E A C I : Type 0} (same : C → C → Bool) (acts : ℕ → S → E 
   world_of nodes lists = record { nodes = nodes; lists = λ c. bare (lists c) }
 
   abbrev Ends : World S C I → List (ℕ × Entry E A) → Type 0
-  Ends world merged = (new : World S C I) × Runs same acts world merged new × ((k : ℕ) → new.nodes k ≡ finals k) × ((c : C) → new.lists c ≡ bare (rests c))
+  Ends world merged = (new : World S C I) × Runs same acts world merged new × ((k : ℕ) → new.nodes k ≡ finals k)
+      × ((c : C) → new.lists c ≡ bare (rests c))
 
   bare_off : (c : C) (took : Option (C × List (ℕ × I))) → bare (off same c took) ≡ off same c (bare_took took)
   bare_off c None = refl
@@ -176,7 +188,8 @@ module _ {S E A C I : Type 0} (same : C → C → Bool) (acts : ℕ → S → E 
     early = subst (λ l. AllTakeEarlier l) at (go.earlier k)
 
     each' : (j : ℕ) → of_node j merged ≡ entries_of (log' j)
-    each' = put_all (λ j l. of_node j merged ≡ entries_of l) log k ys (let h = own in cc) (λ j apart. sym (other_first j x merged apart) ∙ go.each j)
+    each' = put_all (λ j l. of_node j merged ≡ entries_of l) log k ys (let h = own in cc)
+        (λ j apart. sym (other_first j x merged apart) ∙ go.each j)
 
     later : All (λ z. n ≤ z.1.stamp) merged
     later = subst (λ (e : Entry E A). All (λ z. e.stamp ≤ z.1.stamp) merged) (sym is_first) (head_first x merged go.ordered)
@@ -184,7 +197,8 @@ module _ {S E A C I : Type 0} (same : C → C → Bool) (acts : ℕ → S → E 
     abbrev to_send : C → List (ℕ × I)
     to_send c = stamped n (on same c y.sent) ++ sent_on same c (log' (sender c))
 
-    split : (c : C) → (left : List (ℕ × I)) × (lists c ≡ off same c y.took ++ left) × (left ++ to_send c ≡ took_on same c (log' (receiver c)) ++ rests c)
+    split : (c : C) → (left : List (ℕ × I)) × (lists c ≡ off same c y.took ++ left)
+        × (left ++ to_send c ≡ took_on same c (log' (receiver c)) ++ rests c)
     split c =
         let sent = first_of_log (sent_on same c) (stamped n (on same c y.sent)) log k (sender c) y ys refl at (go.sends c) in
         let taken = first_of_log (took_on same c) (off same c y.took) log k (receiver c) y ys refl at (go.takes c) in
@@ -212,10 +226,13 @@ module _ {S E A C I : Type 0} (same : C → C → Bool) (acts : ℕ → S → E 
           took = bare_took y.took;
           sent = y.sent;
           left = λ c. bare (split c).0;
-          acted = subst (λ s. acts k (nodes k) y.entry.event (bare_took y.took) y.entry.answer s y.sent) (sym (put_same nodes k head.0)) head.1;
+          acted = subst (λ s. acts k (nodes k) y.entry.event (bare_took y.took) y.entry.answer s y.sent)
+              (sym (put_same nodes k head.0)) head.1;
           others = λ j apart. put_other nodes k head.0 j apart;
-          first = λ c. ap (λ l. bare l) (split c).1 ∙ map-append (λ symbol. symbol.1) (off same c y.took) (split c).0 ∙ ap (λ l. l ++ bare (split c).0) (bare_off c y.took);
-          behind = λ c. map-append (λ symbol. symbol.1) (split c).0 (stamped n (on same c y.sent)) ∙ ap (λ l. bare (split c).0 ++ l) (bare_stamped n (on same c y.sent));
+          first = λ c. ap (λ l. bare l) (split c).1 ∙ map-append (λ symbol. symbol.1) (off same c y.took) (split c).0
+              ∙ ap (λ l. l ++ bare (split c).0) (bare_off c y.took);
+          behind = λ c. map-append (λ symbol. symbol.1) (split c).0 (stamped n (on same c y.sent))
+              ∙ ap (λ l. bare (split c).0 ++ l) (bare_stamped n (on same c y.sent));
         })
 
     goes_on : GoOn nodes' lists' log' merged
@@ -223,7 +240,8 @@ module _ {S E A C I : Type 0} (same : C → C → Bool) (acts : ℕ → S → E 
       leads = put_all (λ j s. Leads acts j s (log' j) (finals j)) nodes k head.0
           (subst (λ l. Leads acts k head.0 l (finals k)) (sym (put_same log k ys)) head.2)
           (λ j apart. subst (λ l. Leads acts j (nodes j) l (finals j)) (sym (put_other log k ys j apart)) (go.leads j));
-      earlier = put_all (λ j l. AllTakeEarlier l) log k ys (All-tail (λ line. TakesEarlier line.entry.stamp line.took) y ys early) (λ j apart. go.earlier j);
+      earlier = put_all (λ j l. AllTakeEarlier l) log k ys (All-tail (λ line. TakesEarlier line.entry.stamp line.took) y ys early)
+          (λ j apart. go.earlier j);
       sends = λ c. only_rest (sent_on same c) (stamped n (on same c y.sent)) log k (sender c) y ys refl at (go.sends c);
       takes = λ c. only_rest (took_on same c) (off same c y.took) log k (receiver c) y ys refl at (go.takes c);
       agree = λ c. append_assoc (split c).0 (stamped n (on same c y.sent)) (sent_on same c (log' (sender c))) ∙ (split c).2;
@@ -231,7 +249,8 @@ module _ {S E A C I : Type 0} (same : C → C → Bool) (acts : ℕ → S → E 
       ordered = tail_ordered x merged go.ordered;
     }
 
-  run_from : (merged : List (ℕ × Entry E A)) (nodes : ℕ → S) (lists : C → List (ℕ × I)) (log : ℕ → List (Line E A C I)) → GoOn nodes lists log merged → Ends (world_of nodes lists) merged
+  run_from : (merged : List (ℕ × Entry E A)) (nodes : ℕ → S) (lists : C → List (ℕ × I)) (log : ℕ → List (Line E A C I))
+      → GoOn nodes lists log merged → Ends (world_of nodes lists) merged
   run_from [] nodes lists log go = (
     world_of nodes lists,
     refl,
@@ -242,14 +261,26 @@ module _ {S E A C I : Type 0} (same : C → C → Bool) (acts : ℕ → S → E 
   )
   run_from (x ∷ merged) nodes lists log go = first_line (run_from merged) (log x.0) refl
     where
-      first_line : ((nodes : ℕ → S) (lists : C → List (ℕ × I)) (log : ℕ → List (Line E A C I)) → GoOn nodes lists log merged → Ends (world_of nodes lists) merged)
+      first_line : ((nodes : ℕ → S) (lists : C → List (ℕ × I)) (log : ℕ → List (Line E A C I)) → GoOn nodes lists log merged
+          → Ends (world_of nodes lists) merged)
           → (own : List (Line E A C I)) → log x.0 ≡ own → Ends (world_of nodes lists) (x ∷ merged)
-      first_line further [] at = absurd (let own : x.1 ∷ of_node x.0 merged ≡ [] = sym (own_first x merged) ∙ go.each x.0 ∙ ap (λ l. entries_of l) at in cc)
+      first_line further [] at =
+          absurd (let own : x.1 ∷ of_node x.0 merged ≡ [] = sym (own_first x merged) ∙ go.each x.0 ∙ ap (λ l. entries_of l) at in cc)
       first_line further (y ∷ ys) at =
-          let rest = further (nodes' x merged nodes lists log y ys at go) (lists' x merged nodes lists log y ys at go) (put log x.0 ys) (goes_on x merged nodes lists log y ys at go) in
-          (rest.0, (world_of (nodes' x merged nodes lists log y ys at go) (lists' x merged nodes lists log y ys at go), moves x merged nodes lists log y ys at go, rest.1), rest.2, rest.3)
+          let rest = further (nodes' x merged nodes lists log y ys at go) (lists' x merged nodes lists log y ys at go) (put log x.0 ys)
+          (goes_on x merged nodes lists log y ys at go) in (
+            rest.0,
+            (
+              world_of (nodes' x merged nodes lists log y ys at go) (lists' x merged nodes lists log y ys at go),
+              moves x merged nodes lists log y ys at go,
+              rest.1,
+            ),
+            rest.2,
+            rest.3,
+          )
 
-pub logs_are_a_run : {S E A C I : Type 0} (same : C → C → Bool) (acts : ℕ → S → E → Option (C × List I) → A → S → List (C × List I) → Type 0) → LogsAreARun same acts
+pub logs_are_a_run : {S E A C I : Type 0} (same : C → C → Bool)
+    (acts : ℕ → S → E → Option (C × List I) → A → S → List (C × List I) → Type 0) → LogsAreARun same acts
 logs_are_a_run same acts opened finals sender receiver rests log merged logs merge =
     run_from same acts finals sender receiver rests merged opened (λ c. []) log
     (record {

@@ -71,7 +71,8 @@ AllTakeEarlier log = All (λ line. TakesEarlier line.entry.stamp line.took) log
 -- ---- a log with one line more
 
 abbrev pub LeadGrows : {S E A C I : Type 0} → (ℕ → S → E → Option (C × List I) → A → S → List (C × List I) → Type 0) → Type 0
-LeadGrows {S} {E} {A} {C} {I} acts = (k : ℕ) (from now next : S) (log : List (Line E A C I)) (line : Line E A C I) → Leads acts k from log now
+LeadGrows {S} {E} {A} {C} {I} acts = (k : ℕ) (from now next : S) (log : List (Line E A C I)) (line : Line E A C I)
+    → Leads acts k from log now
     → acts k now line.entry.event (bare_took line.took) line.entry.answer next line.sent → Leads acts k from (log ++ line ∷ []) next
 
 abbrev pub SentGrows : (E A C I : Type 0) → (C → C → Bool) → Type 0

@@ -33,7 +33,8 @@ module _ {S E A C I : Type 0} (same : C → C → Bool) (acts : ℕ → S → E 
       (next : World S C I) × Moves world placed.0 placed.1.event placed.1.answer next × Runs next rest new
 
   -- The logs of all nodes. On each channel one node sends and one takes, and what was sent is what was taken, and a rest.
-  pub record AreLogs (opened finals : ℕ → S) (sender receiver : C → ℕ) (rests : C → List (ℕ × I)) (log : ℕ → List (Line E A C I)) : Type 0 where
+  pub record AreLogs (opened finals : ℕ → S) (sender receiver : C → ℕ) (rests : C → List (ℕ × I))
+      (log : ℕ → List (Line E A C I)) : Type 0 where
     pub leads : (k : ℕ) → Leads acts k (opened k) (log k) (finals k)
     pub earlier : (k : ℕ) → AllTakeEarlier (log k)
     pub sends : (c : C) (k : ℕ) → k ≢ sender c → sent_on same c (log k) ≡ []

@@ -1,6 +1,7 @@
 //! The laws. Each function does nothing: its contract is the law.
 ghost use Rattle.merging.specs.Logs.{LeadGrows, SentGrows, TookGrows};
 ghost use Rattle.merging.specs.Runs.{LogsAreARun};
+ghost use Rattle.merging.specs.Unsorted.{LeadByStamp, LeadNowhereByNode};
 
 use crate::nodes::Nodes;
 
@@ -19,4 +20,11 @@ pub fn log_grows<N: Nodes>()
     ensures leads { LeadGrows N.acts }
     ensures sent { SentGrows N.Event N.Answer N.Channel N.Symbol N.same }
     ensures took { TookGrows N.Event N.Answer N.Channel N.Symbol N.same }
+{}
+
+/// The order of the stamps is needed. Where one node sends a symbol and another takes it, the two
+/// entries are a run by their stamps, and none where they stand by the numbers of their nodes.
+pub fn order_of_stamps_is_needed()
+    ensures by_stamp { LeadByStamp }
+    ensures by_node { LeadNowhereByNode }
 {}

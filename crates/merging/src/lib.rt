@@ -9,5 +9,5 @@
 mod laws;
 mod nodes;
 
-pub use laws::{log_grows, logs_are_a_run};
+pub use laws::{log_grows, logs_are_a_run, order_of_stamps_is_needed};
 pub use nodes::Nodes;

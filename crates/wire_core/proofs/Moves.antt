@@ -15,7 +15,8 @@ Each F views = (pass : ℕ) (v : View) → get_elem? views pass ≡ some v → F
 
 each_set : (F : ℕ → View → Type 0) (views : List View) (pass : ℕ) (w : View) → F pass w
     → ((j : ℕ) (u : View) → j ≢ pass → get_elem? views j ≡ some u → F j u) → Each F (set views pass w)
-each_set F views pass w mine others j u e = ⊎_elim (λ (x : (j ≡ pass) × (w ≡ u)). subst (λ (y : ℕ × View). F y.0 y.1) (λ i. (sym x.0 i, x.1 i)) mine)
+each_set F views pass w mine others j u e =
+    ⊎_elim (λ (x : (j ≡ pass) × (w ≡ u)). subst (λ (y : ℕ × View). F y.0 y.1) (λ i. (sym x.0 i, x.1 i)) mine)
     (λ (x : (j ≢ pass) × (get_elem? views j ≡ some u)). others j u x.0 x.1) (at_set views pass j w u e)
 
 -- one that wasn't among the passes is the new one
@@ -47,7 +48,8 @@ begins = record {
     nobody_else : {X : Type 0} (j : ℕ) (u : View) → j ≢ 0 → get_elem? (whole ∷ []) j ≡ some u → X
     nobody_else j u other e = absurd (other (at_end [] whole u j (λ x. some-ne-none u (sym x)) e))
 
-pub gives : (n pass : ℕ) (v : View) (x : Parcel) → v.puts ≡ true → Pushes Passes n pass v x (λ w. w ≡ knowing v.puts v.takes (v.put ++ x ∷ []) v.taken)
+pub gives : (n pass : ℕ) (v : View) (x : Parcel) → v.puts ≡ true
+    → Pushes Passes n pass v x (λ w. w ≡ knowing v.puts v.takes (v.put ++ x ∷ []) v.taken)
 gives n pass v x may items views _ h at =
     let w : View = knowing v.puts v.takes (v.put ++ x ∷ []) v.taken in
     let mine = h.puts pass v at may in (
@@ -59,7 +61,7 @@ gives n pass v x may items views _ h at =
         taken = h.taken;
         whole = ap (λ l. l ++ x ∷ []) h.whole ∙ append_assoc h.taken items (x ∷ []);
         puts = each_set (Puts h.giving (h.put ++ x ∷ [])) views pass w (λ _. (mine.0, ap (λ l. l ++ x ∷ []) mine.1))
-        (λ j u other e p. absurd (other ((h.puts j u e p).0 ∙ sym mine.0)));
+            (λ j u other e p. absurd (other ((h.puts j u e p).0 ∙ sym mine.0)));
         takes = each_set (Takes h.taking h.taken) views pass w (h.takes pass v at) (λ j u other e. h.takes j u e);
       },
       refl,
@@ -78,7 +80,7 @@ takes pass v may x items views h at =
         whole = h.whole ∙ sym (append_assoc h.taken (x ∷ []) items);
         puts = each_set (Puts h.giving h.put) views pass w (h.puts pass v at) (λ j u other e. h.puts j u e);
         takes = each_set (Takes h.taking (h.taken ++ x ∷ [])) views pass w (λ _. (mine.0, ap (λ l. l ++ x ∷ []) mine.1))
-        (λ j u other e p. absurd (other ((h.takes j u e p).0 ∙ sym mine.0)));
+            (λ j u other e p. absurd (other ((h.takes j u e p).0 ∙ sym mine.0)));
       },
       refl,
     )
@@ -98,9 +100,11 @@ is_cut pass v may_put may_take items views h at =
       put = h.put;
       taken = h.taken;
       whole = h.whole;
-      puts = λ j u e. ⊎_elim (λ x. (old j u x).0) (λ x p. absurd (true≢false (sym (ap (λ (y : View). y.puts) x ∙ p)))) (at_snoc first (taker v.taken) u j e);
+      puts = λ j u e. ⊎_elim (λ x. (old j u x).0) (λ x p. absurd (true≢false (sym (ap (λ (y : View). y.puts) x ∙ p))))
+          (at_snoc first (taker v.taken) u j e);
       takes = λ j u e p. ⊎_elim (λ x. absurd ((old j u x).1 p))
-          (λ x. (at_end first (taker v.taken) u j (λ was. (old j u was).1 p) e, ap (λ (y : View). y.taken) (sym x) ∙ also.1)) (at_snoc first (taker v.taken) u j e);
+          (λ x. (at_end first (taker v.taken) u j (λ was. (old j u was).1 p) e, ap (λ (y : View). y.taken) (sym x) ∙ also.1))
+          (at_snoc first (taker v.taken) u j e);
     }
 
 -- the two are put together again
@@ -113,7 +117,9 @@ is_joined pass v other u may_put may_take items views h at two at' =
     let was : get_elem? views other ≡ some u = ⊎_elim (λ x. absurd (two x.0)) (λ x. x.1) (at_set views pass other both u at') in
     let theirs = h.takes other u was may_take in
     let TakesNow : ℕ → View → Type 0 = λ j y. j ≢ other → Takes pass h.taken j y in
-    let now : Each TakesNow first = each_set TakesNow views pass both (λ _ _. (refl, theirs.1)) (λ j y _ e apart p. absurd (apart ((h.takes j y e p).0 ∙ sym theirs.0))) in
+    let now : Each TakesNow first =
+    each_set TakesNow views pass both (λ _ _. (refl, theirs.1))
+    (λ j y _ e apart p. absurd (apart ((h.takes j y e p).0 ∙ sym theirs.0))) in
     record {
       giving = h.giving;
       taking = pass;
@@ -121,7 +127,7 @@ is_joined pass v other u may_put may_take items views h at two at' =
       taken = h.taken;
       whole = h.whole;
       puts = each_set (Puts h.giving h.put) first other spent (λ p. absurd (true≢false (sym p)))
-      (λ j y _ e. (each_set (Puts h.giving h.put) views pass both (λ _. mine) (λ i z _ f. h.puts i z f)) j y e);
+          (λ j y _ e. (each_set (Puts h.giving h.put) views pass both (λ _. mine) (λ i z _ f. h.puts i z f)) j y e);
       takes = each_set (Takes pass h.taken) first other spent (λ p. absurd (true≢false (sym p))) (λ j y apart e. now j y e apart);
     }
 

@@ -29,9 +29,8 @@ impl Model for WireOut {
     ghost use Rattle.std.specs.Arc.{arc_value};
     ghost use Rattle.crossbeam_queue.specs.Passes.{IsPassOf, ruled_capacity};
 
-    ghost invariant = {
-        λ end. IsPassOf (arc_value end.line) end.pass × (ruled_capacity (arc_value end.line) ≡ 64) × (known end.pass ≡ giver (known end.pass).put)
-    };
+    ghost invariant = { λ end. IsPassOf (arc_value end.line) end.pass × (ruled_capacity (arc_value end.line) ≡ 64)
+        × (known end.pass ≡ giver (known end.pass).put) };
 }
 
 /// The end at which parcels are taken. Contracts see of which wire it is, and all that was taken, in
@@ -54,9 +53,8 @@ impl Model for WireIn {
     ghost use Rattle.std.specs.Arc.{arc_value};
     ghost use Rattle.crossbeam_queue.specs.Passes.{IsPassOf, ruled_capacity};
 
-    ghost invariant = {
-        λ end. IsPassOf (arc_value end.line) end.pass × (ruled_capacity (arc_value end.line) ≡ 64) × (known end.pass ≡ taker (known end.pass).taken)
-    };
+    ghost invariant = { λ end. IsPassOf (arc_value end.line) end.pass × (ruled_capacity (arc_value end.line) ≡ 64)
+        × (known end.pass ≡ taker (known end.pass).taken) };
 }
 
 /// Both ends of a new wire, through which nothing went yet.
@@ -99,8 +97,7 @@ impl WireOut {
 }
 
 impl WireIn {
-    /// Takes the first parcel of the wire. There is none only where the wire was empty at some moment
-    /// of the call.
+    /// Takes the first parcel of the wire, if it holds one. Where there is none nothing has changed.
     pub fn take<R: Wait>(&mut self, rt: &R) -> Option<Parcel>
         ensures wire { self.new.wire ≡ self.old.wire }
         ensures taken { IfSome result (λ parcel. self.new.parcels ≡ self.old.parcels ++ parcel ∷ []) }
