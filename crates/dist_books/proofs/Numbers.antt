@@ -3,7 +3,7 @@ use Rattle.std.proofs.Common.{◌≡◌, ℕ, zero, suc, ◌<◌, ◌≤◌, Boo
 use Rattle.std.proofs.lemmas.Bool.Decides.{leb_tells}
 use Rattle.std.proofs.lemmas.List.Elements.{All-nil}
 use Rattle.dist_books.specs.Acting.{Nodes, name_at, opened_at}
-use Rattle.dist_books.specs.Books.{AllKept, AreDistinct, Book, Kept, book_at, no_book, number_of}
+use Rattle.dist_books.specs.Books.{AllKept, AreDistinct, Book, Kept, NewBooksAreKept, book_at, new_book, no_book, number_of}
 use Rattle.dist_model.proofs.Keys.{same_name_is, same_name_refl, same_name_true}
 use Rattle.dist_model.specs.Names.{Name, same_name}
 use Rattle.dist_model.specs.Runs.{new_node}
@@ -70,13 +70,12 @@ opened_there (x ∷ xs) distinct (suc k) below = pick (same_name x.0 (name_at xs
 
 -- ---- books
 
--- nobody's book is kept too
-nobody_kept : (nodes : Nodes) (k : ℕ) → length nodes ≤ k → Kept nodes k no_book
-nobody_kept nodes k out = (
+pub new_books_are_kept : NewBooksAreKept
+new_books_are_kept nodes k = (
   [],
   record {
     history = refl;
-    leads = ap (λ node. new_node node.0 node.1) (sym (past_end nodes k ([], []) out));
+    leads = refl;
     rise = refl;
     earlier = All-nil _;
     out = λ trunk peer. refl;
@@ -84,6 +83,12 @@ nobody_kept nodes k out = (
     port = λ trunk. tt;
   },
 )
+
+-- nobody's book is kept too
+nobody_kept : (nodes : Nodes) (k : ℕ) → length nodes ≤ k → Kept nodes k no_book
+nobody_kept nodes k out =
+    subst (λ (node : Name × List ℕ). Kept nodes k (new_book (new_node node.0 node.1))) (past_end nodes k ([], []) out)
+    (new_books_are_kept nodes k)
 
 pub book_beyond : (nodes : Nodes) (books : List Book) → length books ≡ length nodes → (k : ℕ) → length nodes ≤ k → book_at books k ≡ no_book
 book_beyond nodes books one_each k out = past_end books k no_book (omega (arith, one_each, out))

@@ -81,11 +81,18 @@ pub record Replays (nodes : Nodes) (k : ℕ) (book : Book) (log : Log) : Type 0 
 abbrev pub Kept : Nodes → ℕ → Book → Type 0
 Kept nodes k book = (log : Log) × Replays nodes k book log
 
+-- of a node to which nothing has happened yet
+abbrev pub new_book : Node → Book
+new_book node = record { node = node; last = 0; history = []; ports = λ trunk. None }
+
+abbrev pub NewBooksAreKept : Type 0
+NewBooksAreKept = (nodes : Nodes) (k : ℕ) → Kept nodes k (new_book (opened_at nodes k))
+
 -- ---- the books of all nodes, by their numbers
 
 -- of nobody
 abbrev pub no_book : Book
-no_book = record { node = new_node [] []; last = 0; history = []; ports = λ trunk. None }
+no_book = new_book (new_node [] [])
 
 abbrev pub book_at : List Book → ℕ → Book
 book_at books k = slice_index_or books k no_book

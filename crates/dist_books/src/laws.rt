@@ -1,14 +1,21 @@
 //! The laws. Each function does nothing: its contract is the law.
 ghost use Rattle.dist_books.specs.Acting.{EventsAreLines};
+ghost use Rattle.dist_books.specs.Books.{NewBooksAreKept};
 ghost use Rattle.dist_books.specs.Merged.{BooksAreARun, BooksAreSafe};
 
 /// Whatever comes of an event at a node is a line of its log: what it answers, what it becomes and what
-/// it sends, with the item that came. For an item that comes it doesn't matter what else is on the way.
+/// it sends, with the item that came. An arrival is to have an item: where none is there the node can't
+/// know whether one is on its way, and it isn't written down.
 pub fn events_are_lines()
     ensures { EventsAreLines }
 {
     dist_model::arrival_is_taken();
 }
+
+/// The book of a node to which nothing has happened yet replays, with an empty log.
+pub fn new_books_are_kept()
+    ensures { NewBooksAreKept }
+{}
 
 /// The books of all nodes, each of which replays, and where what each wire end took begins what the
 /// other put. Their entries, by stamp and then by node, are one run of the world from its opening

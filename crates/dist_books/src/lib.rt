@@ -9,4 +9,4 @@
 
 mod laws;
 
-pub use laws::{books_are_a_run, events_are_lines};
+pub use laws::{books_are_a_run, events_are_lines, new_books_are_kept};
