@@ -1,3 +1,4 @@
+//! What the laws speak of: nodes, and what each does.
 ghost use Rattle.std.specs.Prelude.{Bool, List, Option, ℕ};
 
 /// Nodes, each with a state of its own, and the channels between them.

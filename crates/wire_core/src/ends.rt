@@ -1,4 +1,5 @@
-ghost use Rattle.std.specs.Prelude.{◌≡◌, ◌<◌, ◌^◌, ℕ, List, [], ◌∷◌, ◌++◌, length, IfOk, IfErr, OnErr, IfSome, IfNone, OnOk};
+//! The two ends of a wire. Each shares the queue, and has a pass of it.
+ghost use Rattle.std.specs.Prelude.{◌≡◌, List, [], ◌∷◌, ◌++◌, length, IfOk, IfErr, OnErr, IfSome, IfNone, OnOk};
 ghost use Rattle.wire_core.specs.declared.parcel.Parcel.{Parcel};
 
 use crate::parcel::Parcel;

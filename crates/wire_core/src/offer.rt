@@ -1,3 +1,4 @@
+//! The wires of a new connection.
 ghost use Rattle.std.specs.Prelude.{◌≡◌, [], IfOk};
 
 use crate::ends::{WireIn, WireOut, wire};

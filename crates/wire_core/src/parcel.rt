@@ -1,3 +1,5 @@
+//! What travels on a wire.
+
 use crate::piece::Piece;
 use erl_names::TrunkId;
 

@@ -1,3 +1,4 @@
+//! Parcels on a wire.
 ghost use Rattle.std.specs.Prelude.{◌≡◌};
 
 use erl_names::{NodeName, TrunkId};
