@@ -1,0 +1,14 @@
+pub mod WordLemmas
+pub mod DigitLemmas
+pub mod AtomLemmas
+pub mod Separated
+pub mod Pieces
+pub mod Marks
+pub mod Cells
+pub mod Shapes
+pub mod Tails
+pub mod Printed
+pub mod Leaves
+pub mod Whole
+pub mod ItemsBuilt
+pub mod ItemsRead

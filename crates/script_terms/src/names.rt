@@ -1,0 +1,93 @@
+//! The names of a script.
+ghost use Rattle.std.specs.Prelude.{◌≡◌, ◌≤◌, ◌<◌, ◌+◌, None, OnOk, OnErr, IsOk, option_copied};
+ghost use Rattle.std.specs.String.{string_bytes};
+ghost use Rattle.script_terms.specs.Binding.{Look, Knows, with_name, room};
+ghost use Rattle.script_terms.specs.Reading.{Answers, named_at};
+
+use crate::fault::TermFault;
+use crate::words::{Kind, is_name_word, word_of};
+use erl_term::{Pid, Reference};
+use indexmap::IndexMap;
+use std::alloc::{AllocError, Global};
+
+/// What a name of a script stands for.
+#[derive(Debug, Drop)]
+pub enum Named {
+    /// A process.
+    Process(Pid),
+    /// A reference, as that of a monitor.
+    Monitor(Reference),
+}
+
+/// The names that a script has bound, in the order in which it did.
+#[derive(Drop)]
+pub struct Names {
+    bound: IndexMap<String, Named>,
+}
+
+impl Names {
+    /// Before any name is bound.
+    pub fn new(alloc: Global) -> Names
+        ensures { Knows result (λ name. None) }
+    {
+        Names {
+            bound: IndexMap::new(alloc),
+        }
+    }
+
+    /// What the name stands for, if it is bound.
+    pub fn get(&self, name: &str) -> Option<&Named>
+        ensures { (look : Look) → Knows self.now look → option_copied result ≡ look name.now }
+    {
+        self.bound.get(name)
+    }
+
+    /// Makes room for one more name, so that the next [`put`](Names::put) asks for no memory.
+    pub fn reserve(&mut self) -> Result<(), AllocError>
+        ensures names { (look : Look) → Knows self.old look → Knows self.new look }
+        ensures room { OnOk result (1 ≤ room self.new) }
+    {
+        self.bound.reserve(1)
+    }
+
+    /// Binds a name for which there is [room](Names::reserve). It can't fail.
+    pub fn put(&mut self, name: String, named: Named)
+        requires { 1 ≤ room self.old }
+        ensures { (look : Look) → Knows self.old look → Knows self.new (with_name look (string_bytes name) named) }
+    {
+        self.bound.insert(name, named).unwrap();
+    }
+
+    /// Binds a name, and changes nothing where memory is wanting. A name that was bound keeps its
+    /// place in the order.
+    pub fn bind(&mut self, alloc: Global, name: &str, named: Named) -> Result<(), AllocError>
+        ensures ok { OnOk result ((look : Look) → Knows self.old look → Knows self.new (with_name look name.now named)) }
+        ensures err { OnErr result ((look : Look) → Knows self.old look → Knows self.new look) }
+    {
+        let name = String::from_str(alloc, name)?;
+        self.reserve()?;
+        self.put(name, named);
+        Ok(())
+    }
+}
+
+/// What the name at the front stands for, and the bytes after it.
+#[tactic(auto, unfolding(crate::specs::Reading::named_at))]
+pub(crate) fn named_of<'a, 'b>(
+    names: &'a Names,
+    bytes: &'b [u8],
+) -> Result<(&'a Named, &'b [u8]), TermFault>
+    ensures { (look : Look) → Knows names.now look → Answers (λ x. (x.0.now, x.1.now)) result (named_at look bytes.now) }
+{
+    let (word, rest) = word_of(Kind::Name, bytes);
+    if !is_name_word(word) {
+        return Err(TermFault::BadTerm);
+    }
+    let Ok(name) = str::from_utf8(word) else {
+        return Err(TermFault::BadTerm);
+    };
+    match names.get(name) {
+        Some(named) => Ok((named, rest)),
+        None => Err(TermFault::UnknownName),
+    }
+}
