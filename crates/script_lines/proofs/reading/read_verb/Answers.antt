@@ -1,0 +1,19 @@
+use Rattle.script_lines.proofs.reading.read_verb.Goals as goal
+
+pub returns-in-Node : goal.returns-in-Node
+returns-in-Node c = λ look knows. rw c.in-Node.is (c.node_line.ensures look)
+
+pub returns-in-Pair : goal.returns-in-Pair
+returns-in-Pair c = λ look knows. rw c.in-Pair.is (c.pair_line.ensures look)
+
+pub returns-in-Spawn : goal.returns-in-Spawn
+returns-in-Spawn c = λ look knows. rw c.in-Spawn.is (c.spawn_line.ensures c.args.may_come look knows)
+
+pub returns-in-Monitor : goal.returns-in-Monitor
+returns-in-Monitor c = λ look knows. rw c.in-Monitor.is (c.monitor_line.ensures c.args.may_come look knows)
+
+pub returns-in-Demonitor : goal.returns-in-Demonitor
+returns-in-Demonitor c = λ look knows. rw c.in-Demonitor.is (c.demonitor_line.ensures c.args.may_come look knows)
+
+pub returns-in-Trap : goal.returns-in-Trap
+returns-in-Trap c = λ look knows. rw c.in-Trap.is (c.trap_line.ensures c.args.may_come look knows)

@@ -1,0 +1,5 @@
+pub mod Commands
+pub mod Words
+pub mod Naming
+pub mod Said
+pub mod Lines

@@ -1,0 +1,90 @@
+-- What the words of a line name, or the first fault.
+use Rattle.std.specs.Prelude.{ℕ, ◌&&◌, Bool, true, false, List, length, codes, Option, None, Some, Result, Ok, Err, nat_le, if◌then◌else◌}
+use Rattle.std.specs.List.{list_all}
+use Rattle.std.specs.Str.{bytes_eq}
+use Rattle.erl_names.specs.Name.{is_node_name}
+use Rattle.erl_term.specs.Data.{Data}
+use Rattle.erl_term.specs.Reading.{◌>>=◌}
+use Rattle.erl_term.specs.declared.term.Pid.{Pid}
+use Rattle.erl_term.specs.declared.term.Reference.{Reference}
+use Rattle.script_lines.specs.declared.reason.Reason.{Reason}
+use Rattle.script_lines.specs.declared.reason.Reason.TheVariants.{WrongWords, BadName, UnknownName, NameTaken, BadTerm}
+use Rattle.script_terms.specs.Binding.{Look}
+use Rattle.script_terms.specs.Reading.{term_of}
+use Rattle.script_terms.specs.Words.{is_name}
+use Rattle.script_terms.specs.declared.fault.TermFault.{TermFault}
+use Rattle.script_terms.specs.declared.fault.TermFault.TheVariants as fault
+use Rattle.script_terms.specs.declared.names.Named.{Named}
+use Rattle.script_terms.specs.declared.names.Named.TheVariants.{Process, Monitor}
+
+-- words that have the forms that they should
+abbrev pub formed : Bool → Result (Unit {0}) Reason
+formed true = Ok tt
+formed false = Err BadName
+
+-- a cookie is 1 to 255 printable ASCII characters
+abbrev pub is_printable : ℕ → Bool
+is_printable c = nat_le 33 c && nat_le c 126
+
+abbrev pub is_cookie_length : ℕ → Bool
+is_cookie_length n = nat_le 1 n && nat_le n 255
+
+abbrev pub is_cookie : List ℕ → Bool
+is_cookie word = is_cookie_length (length word) && list_all is_printable word
+
+-- what the name is bound to has to be of the kind
+abbrev pub process_in : Option Named → Result Pid Reason
+process_in (Some (Process p)) = Ok p
+process_in (Some (Monitor r)) = Err UnknownName
+process_in None = Err UnknownName
+
+abbrev pub reference_in : Option Named → Result Reference Reason
+reference_in (Some (Monitor r)) = Ok r
+reference_in (Some (Process p)) = Err UnknownName
+reference_in None = Err UnknownName
+
+-- a name that is to be bound has to be free
+abbrev pub free_in : Option Named → Result (Unit {0}) Reason
+free_in None = Ok tt
+free_in (Some named) = Err NameTaken
+
+abbrev pub process_named : Look → List ℕ → Result Pid Reason
+process_named look word = formed (is_name word) >>= λ _. process_in (look word)
+
+-- forms come before what the names are bound to
+abbrev pub processes_named : Look → (first second : List ℕ) → Result (Pid × Pid) Reason
+processes_named look first second =
+    formed (is_name first && is_name second) >>= λ _. process_in (look first) >>= λ p. process_in (look second) >>= λ q. Ok (p, q)
+
+abbrev pub monitor_named : Look → (owner target name : List ℕ) → Result (Pid × Pid) Reason
+monitor_named look owner target name =
+    formed (is_name owner && (is_name target && is_name name)) >>= λ _.
+    process_in (look owner) >>= λ p. process_in (look target) >>= λ q. free_in (look name) >>= λ _. Ok (p, q)
+
+abbrev pub demonitor_named : Look → (owner reference : List ℕ) → Result (Pid × Reference) Reason
+demonitor_named look owner reference =
+    formed (is_name owner && is_name reference) >>= λ _. process_in (look owner) >>= λ p. reference_in (look reference) >>= λ r. Ok (p, r)
+
+abbrev pub nodes_formed : (node peer : List ℕ) → Result (Unit {0}) Reason
+nodes_formed node peer = formed (is_node_name node && is_node_name peer)
+
+abbrev pub spawn_formed : Look → (node name : List ℕ) → Result (Unit {0}) Reason
+spawn_formed look node name = formed (is_node_name node && is_name name) >>= λ _. free_in (look name)
+
+abbrev pub node_formed : (name cookie : List ℕ) → Result (Unit {0}) Reason
+node_formed name cookie = formed (is_node_name name && is_cookie cookie)
+
+abbrev pub switch_named : List ℕ → Result Bool Reason
+switch_named word = if bytes_eq word (codes "on") then Ok true else if bytes_eq word (codes "off") then Ok false else Err WrongWords
+
+-- a text has to be a term
+abbrev pub reason_of : TermFault → Reason
+reason_of fault.UnknownName = UnknownName
+reason_of fault.BadTerm = BadTerm
+
+abbrev pub is_term : Result Data TermFault → Result (Unit {0}) Reason
+is_term (Ok t) = Ok tt
+is_term (Err e) = Err (reason_of e)
+
+abbrev pub term_read : Look → List ℕ → Result (Unit {0}) Reason
+term_read look text = is_term (term_of look text)

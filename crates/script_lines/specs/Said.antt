@@ -1,0 +1,62 @@
+-- What a line says, without where its words lie. A term is given by its text.
+use Rattle.std.specs.Prelude.{ℕ, Bool, List}
+use Rattle.erl_term.specs.declared.term.Pid.{Pid}
+use Rattle.erl_term.specs.declared.term.Reference.{Reference}
+use Rattle.script_lines.specs.declared.line.Line.{Line}
+use Rattle.script_lines.specs.declared.line.Line.TheVariants as line
+
+pub data Said : Type 0 where
+  Node : (name cookie : List ℕ) → Said
+  Pair : Said
+  Spawn : (node name : List ℕ) → Said
+  Send : (from to : Pid) → (term : List ℕ) → Said
+  Link : (from to : Pid) → Said
+  Unlink : (from to : Pid) → Said
+  Monitor : (owner target : Pid) → (name : List ℕ) → Said
+  Demonitor : (owner : Pid) → Reference → Said
+  Trap : (process : Pid) → (on : Bool) → Said
+  Exit : (from to : Pid) → (term : List ℕ) → Said
+  Die : (process : Pid) → (term : List ℕ) → Said
+  Receive : (process : Pid) → Said
+  Links : (process : Pid) → Said
+  Alive : (process : Pid) → Said
+  Ends : (first second : Pid) → Said
+  Dial : (node peer : List ℕ) → Said
+  Route : (node peer : List ℕ) → Said
+  Lose : (node peer : List ℕ) → Said
+  Cut : (node peer : List ℕ) → Said
+  Stop : (node : List ℕ) → Said
+  Start : (node : List ℕ) → Said
+  Deliver : (node peer : List ℕ) → Said
+  Local : (node : List ℕ) → Said
+  Sweep : (node : List ℕ) → Said
+  Settle : Said
+  Show : Said
+
+abbrev pub said : Line → Said
+said (line.Node name cookie) = Node name.now cookie.now
+said line.Pair = Pair
+said (line.Spawn node name) = Spawn node.now name.now
+said (line.Send from to term) = Send from.now to.now term.now
+said (line.Link from to) = Link from.now to.now
+said (line.Unlink from to) = Unlink from.now to.now
+said (line.Monitor owner target name) = Monitor owner.now target.now name.now
+said (line.Demonitor owner reference) = Demonitor owner.now reference.now
+said (line.Trap process on) = Trap process.now on
+said (line.Exit from to term) = Exit from.now to.now term.now
+said (line.Die process term) = Die process.now term.now
+said (line.Receive process) = Receive process.now
+said (line.Links process) = Links process.now
+said (line.Alive process) = Alive process.now
+said (line.Ends first second) = Ends first.now second.now
+said (line.Dial node peer) = Dial node.now peer.now
+said (line.Route node peer) = Route node.now peer.now
+said (line.Lose node peer) = Lose node.now peer.now
+said (line.Cut node peer) = Cut node.now peer.now
+said (line.Stop node) = Stop node.now
+said (line.Start node) = Start node.now
+said (line.Deliver node peer) = Deliver node.now peer.now
+said (line.Local node) = Local node.now
+said (line.Sweep node) = Sweep node.now
+said line.Settle = Settle
+said line.Show = Show

@@ -1,0 +1,126 @@
+//! What a line says, once its names are looked up.
+
+use erl_term::{Pid, Reference};
+
+/// What a line says. Words and terms are as they stand in the line: nodes may be unknown, a term is known
+/// to be one.
+#[derive(Clone, Copy, Debug)]
+pub enum Line<'a> {
+    /// `node NAME COOKIE`
+    Node {
+        name: &'a str,
+        cookie: &'a str,
+    },
+    /// `pair`
+    Pair,
+    /// `spawn NODE name`, of a name that nothing has.
+    Spawn {
+        node: &'a str,
+        name: &'a str,
+    },
+    /// `send from to TERM`
+    Send {
+        from: &'a Pid,
+        to: &'a Pid,
+        term: &'a str,
+    },
+    /// `link p q`
+    Link {
+        from: &'a Pid,
+        to: &'a Pid,
+    },
+    /// `unlink p q`
+    Unlink {
+        from: &'a Pid,
+        to: &'a Pid,
+    },
+    /// `monitor p q ref`, of a name that nothing has.
+    Monitor {
+        owner: &'a Pid,
+        target: &'a Pid,
+        name: &'a str,
+    },
+    /// `demonitor p ref`
+    Demonitor {
+        owner: &'a Pid,
+        reference: &'a Reference,
+    },
+    /// `trap p on` and `trap p off`
+    Trap {
+        process: &'a Pid,
+        on: bool,
+    },
+    /// `exit from to TERM`
+    Exit {
+        from: &'a Pid,
+        to: &'a Pid,
+        term: &'a str,
+    },
+    /// `die p TERM`
+    Die {
+        process: &'a Pid,
+        term: &'a str,
+    },
+    /// `receive p`
+    Receive {
+        process: &'a Pid,
+    },
+    /// `links p`
+    Links {
+        process: &'a Pid,
+    },
+    /// `alive p`
+    Alive {
+        process: &'a Pid,
+    },
+    /// `ends p q`
+    Ends {
+        first: &'a Pid,
+        second: &'a Pid,
+    },
+    /// `dial NODE PEER`
+    Dial {
+        node: &'a str,
+        peer: &'a str,
+    },
+    /// `route NODE PEER`
+    Route {
+        node: &'a str,
+        peer: &'a str,
+    },
+    /// `lose NODE PEER`
+    Lose {
+        node: &'a str,
+        peer: &'a str,
+    },
+    /// `cut NODE PEER`
+    Cut {
+        node: &'a str,
+        peer: &'a str,
+    },
+    /// `stop NODE`
+    Stop {
+        node: &'a str,
+    },
+    /// `start NODE`
+    Start {
+        node: &'a str,
+    },
+    /// `deliver NODE PEER`
+    Deliver {
+        node: &'a str,
+        peer: &'a str,
+    },
+    /// `local NODE`
+    Local {
+        node: &'a str,
+    },
+    /// `sweep NODE`
+    Sweep {
+        node: &'a str,
+    },
+    /// `settle`
+    Settle,
+    /// `show`
+    Show,
+}

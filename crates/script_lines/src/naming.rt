@@ -1,0 +1,164 @@
+//! What the words of a line name.
+ghost use Rattle.std.specs.Prelude.{◌≡◌, ◌&&◌, Option};
+ghost use Rattle.std.specs.Option.{option_copied};
+ghost use Rattle.script_lines.specs.Naming.{demonitor_named, formed, free_in, is_cookie, is_cookie_length, is_printable, monitor_named, node_formed, nodes_formed, process_in, process_named, processes_named, reference_in, spawn_formed, switch_named, term_read};
+ghost use Rattle.script_lines.specs.Words.{Answers};
+ghost use Rattle.script_terms.specs.Binding.{Look, Knows};
+ghost use Rattle.script_terms.specs.declared.names.Named.{Named};
+
+use crate::reason::Reason;
+use erl_names::NodeName;
+use erl_term::{Pid, Reference};
+use script_terms::{Named, Names, check_term, is_name};
+
+/// Words have to have the forms that they should.
+pub(crate) fn formed(is_formed: bool) -> Result<(), Reason>
+    ensures { result ≡ formed is_formed }
+{
+    if is_formed {
+        Ok(())
+    } else {
+        Err(Reason::BadName)
+    }
+}
+
+// Whether a cookie may have so many characters.
+fn is_cookie_len(len: usize) -> bool
+    ensures { result ≡ is_cookie_length len }
+{
+    1 <= len && len <= 255
+}
+
+fn is_cookie(word: &[u8]) -> bool
+    ensures { result ≡ is_cookie word.now }
+{
+    is_cookie_len(word.len()) && word.iter().all(|c| is_printable(*c))
+}
+
+fn is_printable(c: u8) -> bool
+    ensures { result ≡ is_printable c }
+{
+    b'!' <= c && c <= b'~'
+}
+
+fn process_in<'a>(names: &'a Names, word: &str) -> Result<&'a Pid, Reason>
+    ensures { (look : Look) → Knows names.now look → Answers (λ p. p.now) result (process_in (look word.now)) }
+{
+    match names.get(word) {
+        Some(Named::Process(process)) => Ok(process),
+        _ => Err(Reason::UnknownName),
+    }
+}
+
+fn reference_in<'a>(names: &'a Names, word: &str) -> Result<&'a Reference, Reason>
+    ensures { (look : Look) → Knows names.now look → Answers (λ r. r.now) result (reference_in (look word.now)) }
+{
+    match names.get(word) {
+        Some(Named::Monitor(reference)) => Ok(reference),
+        _ => Err(Reason::UnknownName),
+    }
+}
+
+fn free_in(names: &Names, word: &str) -> Result<(), Reason>
+    ensures { (look : Look) → Knows names.now look → result ≡ free_in (look word.now) }
+{
+    match names.get(word) {
+        None => Ok(()),
+        Some(_) => Err(Reason::NameTaken),
+    }
+}
+
+/// The process of a name.
+pub(crate) fn process_named<'a>(names: &'a Names, word: &str) -> Result<&'a Pid, Reason>
+    ensures { (look : Look) → Knows names.now look → Answers (λ p. p.now) result (process_named look word.now) }
+{
+    formed(is_name(word))?;
+    process_in(names, word)
+}
+
+/// The processes of two names.
+pub(crate) fn processes_named<'a>(
+    names: &'a Names,
+    first: &str,
+    second: &str,
+) -> Result<(&'a Pid, &'a Pid), Reason>
+    ensures { (look : Look) → Knows names.now look → Answers (λ pids. (pids.0.now, pids.1.now)) result (processes_named look first.now second.now) }
+{
+    formed(is_name(first) && is_name(second))?;
+    let first = process_in(names, first)?;
+    let second = process_in(names, second)?;
+    Ok((first, second))
+}
+
+/// The processes of a monitor that is to get a name.
+pub(crate) fn monitor_named<'a>(
+    names: &'a Names,
+    owner: &str,
+    target: &str,
+    name: &str,
+) -> Result<(&'a Pid, &'a Pid), Reason>
+    ensures { (look : Look) → Knows names.now look → Answers (λ pids. (pids.0.now, pids.1.now)) result (monitor_named look owner.now target.now name.now) }
+{
+    formed(is_name(owner) && is_name(target) && is_name(name))?;
+    let owner = process_in(names, owner)?;
+    let target = process_in(names, target)?;
+    free_in(names, name)?;
+    Ok((owner, target))
+}
+
+/// The process and the reference of two names.
+pub(crate) fn demonitor_named<'a>(
+    names: &'a Names,
+    owner: &str,
+    reference: &str,
+) -> Result<(&'a Pid, &'a Reference), Reason>
+    ensures { (look : Look) → Knows names.now look → Answers (λ ids. (ids.0.now, ids.1.now)) result (demonitor_named look owner.now reference.now) }
+{
+    formed(is_name(owner) && is_name(reference))?;
+    let owner = process_in(names, owner)?;
+    let reference = reference_in(names, reference)?;
+    Ok((owner, reference))
+}
+
+/// Two words have to be names of nodes.
+pub(crate) fn nodes_formed(node: &str, peer: &str) -> Result<(), Reason>
+    ensures { result ≡ nodes_formed node.now peer.now }
+{
+    formed(NodeName::fits(node) && NodeName::fits(peer))
+}
+
+/// A node's name, and a name that is free.
+pub(crate) fn spawn_formed(names: &Names, node: &str, name: &str) -> Result<(), Reason>
+    ensures { (look : Look) → Knows names.now look → result ≡ spawn_formed look node.now name.now }
+{
+    formed(NodeName::fits(node) && is_name(name))?;
+    free_in(names, name)
+}
+
+/// A node's name and a cookie.
+pub(crate) fn node_formed(name: &str, cookie: &str) -> Result<(), Reason>
+    ensures { result ≡ node_formed name.now cookie.now }
+{
+    formed(NodeName::fits(name) && is_cookie(cookie.as_bytes()))
+}
+
+/// `on` or `off`.
+pub(crate) fn switch_named(word: &str) -> Result<bool, Reason>
+    ensures { result ≡ switch_named word.now }
+{
+    match word {
+        "on" => Ok(true),
+        "off" => Ok(false),
+        _ => Err(Reason::WrongWords),
+    }
+}
+
+/// A text has to be a term.
+pub(crate) fn term_read(names: &Names, text: &str) -> Result<(), Reason>
+    ensures { (look : Look) → Knows names.now look → result ≡ term_read look text.now }
+{
+    match check_term(names, text) {
+        Ok(()) => Ok(()),
+        Err(fault) => Err(Reason::of(fault)),
+    }
+}

@@ -1,0 +1,240 @@
+//! Lines are read.
+ghost use Rattle.std.specs.Prelude.{◌≡◌};
+ghost use Rattle.script_lines.specs.Lines.{Reads, ReadsSome, line_says, node_in, nodes_in, placed, process_and_term_in, process_in, processes_and_term_in, processes_in, verb_says, words_say};
+ghost use Rattle.script_lines.specs.Words.{Answers, behind_word, word_of};
+ghost use Rattle.script_lines.specs.declared.command.Verb.TheVariants as verb;
+ghost use Rattle.script_terms.specs.Binding.{Look, Knows};
+
+use crate::command::Verb;
+use crate::line::Line;
+use crate::naming::{
+    demonitor_named, formed, monitor_named, node_formed, nodes_formed, process_named,
+    processes_named, spawn_formed, switch_named, term_read,
+};
+use crate::reason::Reason;
+use crate::words::{
+    first_word, no_words, one_word, three_words, two_words, word_and_text, words_and_text,
+};
+use erl_names::NodeName;
+use erl_term::Pid;
+use script_terms::Names;
+
+/// The most bytes of a line, without its line break.
+pub const LINE_LIMIT: usize = 65_536;
+
+/// Which of the lines may still come that stand at the beginning alone.
+#[derive(Clone, Copy, Debug, PartialEq, Eq)]
+pub struct MayCome {
+    /// A `pair` line, which is the first of all.
+    pub pair: bool,
+    /// A `node` line.
+    pub node: bool,
+}
+
+fn placed(is_placed: bool) -> Result<(), Reason>
+    ensures { result ≡ placed is_placed }
+{
+    if is_placed {
+        Ok(())
+    } else {
+        Err(Reason::WrongWords)
+    }
+}
+
+// The words that follow, of lines that begin alike.
+
+fn nodes_in(rest: &str) -> Result<(&str, &str), Reason>
+    ensures { Answers (λ nodes. (nodes.0.now, nodes.1.now)) result (nodes_in rest.now) }
+{
+    let (node, peer) = two_words(rest)?;
+    nodes_formed(node, peer)?;
+    Ok((node, peer))
+}
+
+fn node_in(rest: &str) -> Result<&str, Reason>
+    ensures { Answers (λ node. node.now) result (node_in rest.now) }
+{
+    let node = one_word(rest)?;
+    formed(NodeName::fits(node))?;
+    Ok(node)
+}
+
+fn processes_in<'a>(names: &'a Names, rest: &str) -> Result<(&'a Pid, &'a Pid), Reason>
+    ensures { (look : Look) → Knows names.now look → Answers (λ pids. (pids.0.now, pids.1.now)) result (processes_in look rest.now) }
+{
+    let (first, second) = two_words(rest)?;
+    processes_named(names, first, second)
+}
+
+fn process_in<'a>(names: &'a Names, rest: &str) -> Result<&'a Pid, Reason>
+    ensures { (look : Look) → Knows names.now look → Answers (λ p. p.now) result (process_in look rest.now) }
+{
+    let word = one_word(rest)?;
+    process_named(names, word)
+}
+
+fn processes_and_term_in<'a>(
+    names: &'a Names,
+    rest: &'a str,
+) -> Result<(&'a Pid, &'a Pid, &'a str), Reason>
+    ensures { (look : Look) → Knows names.now look → Answers (λ it. (it.0.now, it.1.now, it.2.now)) result (processes_and_term_in look rest.now) }
+{
+    let (first, second, term) = words_and_text(rest)?;
+    let (first, second) = processes_named(names, first, second)?;
+    term_read(names, term)?;
+    Ok((first, second, term))
+}
+
+fn process_and_term_in<'a>(names: &'a Names, rest: &'a str) -> Result<(&'a Pid, &'a str), Reason>
+    ensures { (look : Look) → Knows names.now look → Answers (λ it. (it.0.now, it.1.now)) result (process_and_term_in look rest.now) }
+{
+    let (process, term) = word_and_text(rest)?;
+    let process = process_named(names, process)?;
+    term_read(names, term)?;
+    Ok((process, term))
+}
+
+// The words that follow, of lines of their own kind.
+
+fn node_line(may_come: MayCome, rest: &str) -> Result<Line<'_>, Reason>
+    ensures { (look : Look) → Reads (verb_says may_come look verb.Node rest.now) result }
+{
+    let (name, cookie) = two_words(rest)?;
+    placed(may_come.node)?;
+    node_formed(name, cookie)?;
+    Ok(Line::Node { name, cookie })
+}
+
+fn pair_line(may_come: MayCome, rest: &str) -> Result<Line<'_>, Reason>
+    ensures { (look : Look) → Reads (verb_says may_come look verb.Pair rest.now) result }
+{
+    no_words(rest)?;
+    placed(may_come.pair)?;
+    Ok(Line::Pair)
+}
+
+fn spawn_line<'a>(names: &Names, rest: &'a str) -> Result<Line<'a>, Reason>
+    ensures { (may_come : MayCome) (look : Look) → Knows names.now look → Reads (verb_says may_come look verb.Spawn rest.now) result }
+{
+    let (node, name) = two_words(rest)?;
+    spawn_formed(names, node, name)?;
+    Ok(Line::Spawn { node, name })
+}
+
+fn monitor_line<'a>(names: &'a Names, rest: &'a str) -> Result<Line<'a>, Reason>
+    ensures { (may_come : MayCome) (look : Look) → Knows names.now look → Reads (verb_says may_come look verb.Monitor rest.now) result }
+{
+    let (owner, target, name) = three_words(rest)?;
+    let (owner, target) = monitor_named(names, owner, target, name)?;
+    Ok(Line::Monitor {
+        owner,
+        target,
+        name,
+    })
+}
+
+fn demonitor_line<'a>(names: &'a Names, rest: &str) -> Result<Line<'a>, Reason>
+    ensures { (may_come : MayCome) (look : Look) → Knows names.now look → Reads (verb_says may_come look verb.Demonitor rest.now) result }
+{
+    let (owner, reference) = two_words(rest)?;
+    let (owner, reference) = demonitor_named(names, owner, reference)?;
+    Ok(Line::Demonitor { owner, reference })
+}
+
+fn trap_line<'a>(names: &'a Names, rest: &str) -> Result<Line<'a>, Reason>
+    ensures { (may_come : MayCome) (look : Look) → Knows names.now look → Reads (verb_says may_come look verb.Trap rest.now) result }
+{
+    let (process, switch) = two_words(rest)?;
+    let on = switch_named(switch)?;
+    let process = process_named(names, process)?;
+    Ok(Line::Trap { process, on })
+}
+
+// The words that follow a verb.
+fn read_verb<'a>(
+    may_come: MayCome,
+    names: &'a Names,
+    verb: Verb,
+    rest: &'a str,
+) -> Result<Line<'a>, Reason>
+    ensures { (look : Look) → Knows names.now look → Reads (verb_says may_come look verb rest.now) result }
+{
+    match verb {
+        Verb::Node => node_line(may_come, rest),
+        Verb::Pair => pair_line(may_come, rest),
+        Verb::Spawn => spawn_line(names, rest),
+        Verb::Monitor => monitor_line(names, rest),
+        Verb::Demonitor => demonitor_line(names, rest),
+        Verb::Trap => trap_line(names, rest),
+        Verb::Send => processes_and_term_in(names, rest).map(|(from, to, term)| Line::Send {
+            from,
+            to,
+            term,
+        }),
+        Verb::Exit => processes_and_term_in(names, rest).map(|(from, to, term)| Line::Exit {
+            from,
+            to,
+            term,
+        }),
+        Verb::Die => process_and_term_in(names, rest).map(|(process, term)| Line::Die {
+            process,
+            term,
+        }),
+        Verb::Link => processes_in(names, rest).map(|(from, to)| Line::Link { from, to }),
+        Verb::Unlink => processes_in(names, rest).map(|(from, to)| Line::Unlink { from, to }),
+        Verb::Ends => processes_in(names, rest).map(|(first, second)| Line::Ends { first, second }),
+        Verb::Receive => process_in(names, rest).map(|process| Line::Receive { process }),
+        Verb::Links => process_in(names, rest).map(|process| Line::Links { process }),
+        Verb::Alive => process_in(names, rest).map(|process| Line::Alive { process }),
+        Verb::Dial => nodes_in(rest).map(|(node, peer)| Line::Dial { node, peer }),
+        Verb::Route => nodes_in(rest).map(|(node, peer)| Line::Route { node, peer }),
+        Verb::Lose => nodes_in(rest).map(|(node, peer)| Line::Lose { node, peer }),
+        Verb::Cut => nodes_in(rest).map(|(node, peer)| Line::Cut { node, peer }),
+        Verb::Deliver => nodes_in(rest).map(|(node, peer)| Line::Deliver { node, peer }),
+        Verb::Stop => node_in(rest).map(|node| Line::Stop { node }),
+        Verb::Start => node_in(rest).map(|node| Line::Start { node }),
+        Verb::Local => node_in(rest).map(|node| Line::Local { node }),
+        Verb::Sweep => node_in(rest).map(|node| Line::Sweep { node }),
+        Verb::Settle => no_words(rest).map(|()| Line::Settle),
+        Verb::Show => no_words(rest).map(|()| Line::Show),
+    }
+}
+
+// The words of a line that is short, and text.
+fn read_words<'a>(
+    may_come: MayCome,
+    names: &'a Names,
+    text: &'a str,
+) -> Result<Option<Line<'a>>, Reason>
+    ensures { (look : Look) → Knows names.now look → ReadsSome (words_say may_come look (word_of text.now) (behind_word text.now)) result }
+{
+    let (word, rest) = first_word(text);
+    if word.is_empty() || word.starts_with('#') {
+        return Ok(None);
+    }
+    let Some(verb) = Verb::named(word) else {
+        return Err(Reason::UnknownCommand);
+    };
+    let line = read_verb(may_come, names, verb, rest)?;
+    Ok(Some(line))
+}
+
+/// What a line says; None where it is to be passed over. It takes no memory.
+///
+/// # Errors
+/// The first reason that fits, where the line is a bad one.
+pub fn read_line<'a>(
+    may_come: MayCome,
+    names: &'a Names,
+    line: &'a [u8],
+) -> Result<Option<Line<'a>>, Reason>
+    ensures { (look : Look) → Knows names.now look → ReadsSome (line_says may_come look line.now) result }
+{
+    if line.len() > LINE_LIMIT {
+        return Err(Reason::TooLong);
+    }
+    match str::from_utf8(line) {
+        Ok(text) => read_words(may_come, names, text),
+        Err(_) => Err(Reason::NotText),
+    }
+}
