@@ -7,4 +7,8 @@
 #![tactic(auto)]
 
 #[cfg(test)]
+mod lines;
+#[cfg(test)]
 mod scripts;
+#[cfg(test)]
+mod terms;

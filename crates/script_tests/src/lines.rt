@@ -1,0 +1,80 @@
+//! Lines of scripts, and why a line is a bad one.
+use crate::terms::names;
+use script_lines::{MayCome, Reason, read_line};
+use std::test::*;
+
+/// Lines at the beginning of a script in which p is a process and r a reference, and what is wrong with them.
+const LINES: [(&str, Option<Reason>); 43] = [
+    ("", None),
+    ("   ", None),
+    ("# anything", None),
+    ("  #pair", None),
+    ("node a@h c", None),
+    ("  node   a@h   c  ", None),
+    ("node a@h", Some(Reason::WrongWords)),
+    ("node a@h c d", Some(Reason::WrongWords)),
+    ("node a c", Some(Reason::BadName)),
+    ("node a@h é", Some(Reason::BadName)),
+    ("pair", None),
+    ("pair #", Some(Reason::WrongWords)),
+    ("spawn a@h new", None),
+    ("spawn a@h New", Some(Reason::BadName)),
+    ("spawn a@h p", Some(Reason::NameTaken)),
+    ("spawn b@h q", None),
+    ("send p p hi", None),
+    ("send p p  {a,'b c'}  ", None),
+    ("send p p", Some(Reason::WrongWords)),
+    ("send p p Hi", Some(Reason::BadTerm)),
+    ("send p p $q", Some(Reason::UnknownName)),
+    ("send p q [", Some(Reason::UnknownName)),
+    ("send P q [", Some(Reason::BadName)),
+    ("link p p", None),
+    ("link p r", Some(Reason::UnknownName)),
+    ("link p", Some(Reason::WrongWords)),
+    ("monitor p p s", None),
+    ("monitor p p r", Some(Reason::NameTaken)),
+    ("demonitor p r", None),
+    ("demonitor r p", Some(Reason::UnknownName)),
+    ("trap p on", None),
+    ("trap p On", Some(Reason::WrongWords)),
+    ("trap q off", Some(Reason::UnknownName)),
+    ("exit p p normal", None),
+    ("die p {stop,1}", None),
+    ("die p", Some(Reason::WrongWords)),
+    ("deliver a@h zz@h", None),
+    ("deliver a@h zz", Some(Reason::BadName)),
+    ("settle", None),
+    ("settle now", Some(Reason::WrongWords)),
+    ("show\t", Some(Reason::UnknownCommand)),
+    ("Show", Some(Reason::UnknownCommand)),
+    ("show\r", Some(Reason::UnknownCommand)),
+];
+
+const BEGINNING: MayCome = MayCome {
+    pair: true,
+    node: true,
+};
+
+const LATER: MayCome = MayCome {
+    pair: false,
+    node: false,
+};
+
+#[test]
+fn lines(rt: HostRuntime) -> Result<(), Fail> {
+    let names = names(rt.alloc())?;
+    for (line, wanted) in LINES {
+        let reason = read_line(BEGINNING, &names, line.as_bytes()).err();
+        assert!(rt; reason == wanted, "{line}");
+    }
+    for line in ["pair", "node a@h c"] {
+        let reason = read_line(LATER, &names, line.as_bytes()).err();
+        assert!(rt; reason == Some(Reason::WrongWords), "{line}");
+    }
+    let long = vec![in rt.alloc(); b' '; 65_537]?;
+    let reason = read_line(BEGINNING, &names, &long).err();
+    assert!(rt; reason == Some(Reason::TooLong));
+    let reason = read_line(BEGINNING, &names, b"# \xff").err();
+    assert!(rt; reason == Some(Reason::NotText));
+    Ok(())
+}
