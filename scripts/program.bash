@@ -21,20 +21,28 @@ crates_of_program() {
     done
 }
 
-# The checksum of crates.txt and of the sources, definitions and proofs of those crates.
+# The lines of crates.txt of these crates, without comments and further spaces.
+lines_of() {
+    local names=" $* "
+    sed 's/#.*//' "$top/crates.txt" | awk -F: -v names="$names" '{ split($1, head, " "); if (head[1] != "" && index(names, " " head[1] " ")) { $1 = $1; print } }' | tr -s ' ' ' ' | LC_ALL=C sort
+}
+
+# The checksum of the sources, definitions and proofs of those crates, and of their lines of crates.txt. Of
+# whatever else there is in the repository nothing counts.
 sum_of_sources() {
     (
         cd "$top" || exit 1
+        mapfile -t names < <(crates_of_program)
         folders=()
-        for name in $(crates_of_program); do
+        for name in "${names[@]}"; do
             for part in src specs proofs; do
                 [ ! -d "crates/$name/$part" ] || folders+=("crates/$name/$part")
             done
         done
         {
-            printf 'crates.txt\0'
-            find "${folders[@]}" -type f \( -name '*.rt' -o -name '*.antt' \) -print0 | LC_ALL=C sort -z
-        } | xargs -0 sha256sum | sha256sum | cut -c1-16
+            lines_of "${names[@]}"
+            find "${folders[@]}" -type f \( -name '*.rt' -o -name '*.antt' \) -print0 | LC_ALL=C sort -z | xargs -0 sha256sum
+        } | sha256sum | cut -c1-16
     )
 }
 

@@ -41,8 +41,13 @@ fn main(rt: HostRuntime) -> ExitCode {
         }
         Ok(options) => ExitCode::from(run(&rt, alloc, &options)),
         Err(fault) => {
-            let _ = fault.print(&rt);
-            ExitCode::from(fault.exit_code() as u8)
+            let is_printed = fault.print(&rt).is_ok();
+            let status = fault.exit_code() as u8;
+            ExitCode::from(if status == 0 && !is_printed {
+                Outcome::Failed.status()
+            } else {
+                status
+            })
         }
     }
 }
