@@ -84,11 +84,19 @@ const TERMS: [(&str, Printed); 62] = [
     ("$", BadTerm),
 ];
 
+fn atom(alloc: Global, text: &str) -> Result<Atom, Fail> {
+    let text = String::from_str(alloc, text)?;
+    if !Atom::fits(text.as_str()) {
+        return Err(Fail::from("an atom has at most 255 characters"));
+    }
+    Ok(Atom::new(text))
+}
+
 /// The names p and r, of a process and of a reference.
 pub fn names(alloc: Global) -> Result<Names, Fail> {
     let mut names = Names::new(alloc);
     let process = Pid {
-        node: Atom::new(String::from_str(alloc, "a@h")?),
+        node: atom(alloc, "a@h")?,
         creation: 2,
         id: 1,
         serial: 0,
@@ -96,7 +104,7 @@ pub fn names(alloc: Global) -> Result<Names, Fail> {
     names.bind(alloc, "p", Named::Process(process))?;
     let words = ReferenceWords::new(&[7, 0, 0]).ok_or("three words")?;
     let reference = Reference {
-        node: Atom::new(String::from_str(alloc, "a@h")?),
+        node: atom(alloc, "a@h")?,
         creation: 2,
         words,
     };
