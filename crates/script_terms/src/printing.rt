@@ -140,7 +140,7 @@ pub fn put_pid(out: &mut String, pid: &Pid) -> Result<(), AllocError>
     write!(out, ".{id}.{serial}.{creation}>")
 }
 
-/// Appends a reference: `#Ref<NODE.CREATION.W1.W2.W3>`, with as many words as it has.
+/// Appends a reference: `#Ref<NODE.CREATION.WORD.WORD.WORD>`, with as many words as it has.
 #[tactic(auto, unfolding(crate::specs::Printing::reference_text))]
 pub fn put_reference(out: &mut String, reference: &Reference) -> Result<(), AllocError>
     ensures { OnOk result (string_bytes out.new ≡ string_bytes out.old ++ reference_text reference.now) }
