@@ -1,4 +1,4 @@
-pub mod Connections
 pub mod Entries
 pub mod Lines
 pub mod More
+pub mod Nodes

@@ -1,4 +1,4 @@
--- What travels on each connection to each of its nodes, as it was sent.
+-- What travels to each node on each of its connections, as it was sent.
 -- (Reference Manual, Processes, Delivery of Signals.)
 use Rattle.std.specs.Prelude.{Option, unwrap_or, None, Some, Bool, false, not, if◌then◌else◌, List, [], ◌∷◌, ◌++◌, ◌&&◌, ◌||◌}
 use Rattle.std.specs.FinMap.{find}
@@ -11,20 +11,23 @@ use Rattle.erl_names.specs.declared.trunk.TrunkId.{TrunkId}
 use Rattle.erl_term.specs.declared.term.Pid.{Pid}
 use Rattle.node_plans.specs.Frames.{Framed}
 
--- by the node that it travels to
+-- to one node, by the connection
 abbrev pub Line : Type 0
-Line = List (Name × List Framed)
+Line = List (TrunkId × List Framed)
 
--- by the connection
+-- by the node that it travels to
 abbrev pub Lines : Type 0
-Lines = List (TrunkId × Line)
+Lines = List (Name × Line)
 
-abbrev pub in_line : Line → Name → List Framed
-in_line line to = unwrap_or (find name_cmp to line) []
+abbrev pub in_line : Line → TrunkId → List Framed
+in_line line trunk = unwrap_or (find trunk_cmp trunk line) []
+
+abbrev pub line_to : Lines → Name → Line
+line_to lines to = unwrap_or (find name_cmp to lines) []
 
 -- on that connection to that node, the first to come first
 abbrev pub at : Lines → TrunkId → Name → List Framed
-at lines trunk to = in_line (unwrap_or (find trunk_cmp trunk lines) []) to
+at lines trunk to = in_line (line_to lines to) trunk
 
 abbrev pub first_of : List Framed → Option Framed
 first_of [] = None

@@ -1,4 +1,4 @@
-//! What travels between the nodes of a world: for each connection and each of its two nodes the frames
+//! What travels between the nodes of a world: for each node and each of its connections the frames
 //! that were sent and haven't come yet, the first to come first. (Reference Manual, Processes, Delivery
 //! of Signals.)
 #![tactic(auto)]
@@ -9,3 +9,4 @@ mod queue;
 mod sending;
 
 pub use lists::Lists;
+pub use queue::Queue;

@@ -1,33 +1,35 @@
-//! What travels on one connection.
-ghost use Rattle.std.specs.Prelude.{◌≡◌, ◌++◌, ◌∷◌, [], List, OnErr, OnOk, if◌then◌else◌};
-ghost use Rattle.std.specs.FinMap.{find};
+//! What travels to one node.
+ghost use Rattle.std.specs.Prelude.{◌≡◌, ◌++◌, ◌∷◌, [], List, OnErr, OnOk, T, if◌then◌else◌};
+ghost use Rattle.std.specs.FinMap.{find, is_sorted};
 ghost use Rattle.std.specs.Option.{option_copied};
-ghost use Rattle.dist_model.specs.Names.{Name, same_name};
-ghost use Rattle.erl_names.specs.Order.{name_cmp};
+ghost use Rattle.std.specs.Ordering.{eq_by_cmp};
+ghost use Rattle.erl_names.specs.Order.{trunk_cmp};
+ghost use Rattle.erl_names.specs.declared.trunk.TrunkId.{TrunkId as TheTrunk};
 ghost use Rattle.node_plans.specs.Frames.{Framed};
 ghost use Rattle.world_lists.specs.Lists.{behind_first, in_line};
 
 use crate::queue::Queue;
-use erl_names::NodeName;
+use erl_names::TrunkId;
 use node_plans::Frame;
 use sorted_map::SortedMap;
 use std::alloc::{AllocError, Global};
 use std::marker::Model;
 
-/// What travels on a connection, by the node that it travels to. Contracts see the entries.
+/// What travels to a node, by the connection on which it travels. Contracts see the entries.
 #[derive(Drop)]
 pub(crate) struct Line {
-    queues: SortedMap<NodeName, Queue>,
+    queues: SortedMap<TrunkId, Queue>,
 }
 
 impl Model for Line {
-    ghost use Rattle.std.specs.Coded.{coded×, coded_list, coded_ℕ};
+    ghost use Rattle.std.specs.Coded.{coded×, coded_list};
+    ghost use Rattle.erl_names.specs.contracts.trunk.TrunkId as trunk;
     ghost use Rattle.node_plans.specs.contracts.frame.Frame as frame;
     ghost use Rattle.world_lists.specs.Lists.{Line as TheLine};
 
     ghost Value = { TheLine };
 
-    ghost coded = { coded_list (coded× (coded_list coded_ℕ) (coded_list frame.the_row.coded)) };
+    ghost coded = { coded_list (coded× trunk.the_row.coded (coded_list frame.the_row.coded)) };
 
     ghost view = { λ l. l.queues.entries };
 }
@@ -42,57 +44,65 @@ impl Line {
         }
     }
 
-    /// What travels to a node, if ever anything has.
-    pub(crate) fn queue(&self, to: &NodeName) -> Option<&Queue>
-        ensures { option_copied result ≡ find name_cmp to.now self.now }
+    /// The entries, in the order of the connections.
+    pub(crate) fn entries(&self) -> &[(TrunkId, Queue)]
+        ensures entries { result.now ≡ self.now }
+        ensures sorted { T (is_sorted trunk_cmp self.now) }
     {
-        self.queues.get(to)
+        self.queues.entries()
     }
 
-    /// One frame more to a node, behind the others.
+    /// What travels on a connection, if ever anything has.
+    pub(crate) fn queue(&self, trunk: &TrunkId) -> Option<&Queue>
+        ensures { option_copied result ≡ find trunk_cmp trunk.now self.now }
+    {
+        self.queues.get(trunk)
+    }
+
+    /// One frame more on a connection, behind the others.
     pub(crate) fn push(
         &mut self,
         alloc: Global,
-        to: &NodeName,
+        trunk: &TrunkId,
         frame: Frame,
     ) -> Result<(), AllocError>
-        ensures ok { OnOk result ((x : Name) → in_line self.new x ≡ in_line self.old x ++ (if same_name x to.now then frame ∷ [] else [])) }
-        ensures err { OnErr result ((x : Name) → in_line self.new x ≡ in_line self.old x) }
+        ensures ok { OnOk result ((t : TheTrunk) → in_line self.new t ≡ in_line self.old t ++ (if eq_by_cmp trunk_cmp t trunk.now then frame ∷ [] else [])) }
+        ensures err { OnErr result ((t : TheTrunk) → in_line self.new t ≡ in_line self.old t) }
     {
-        match self.queues.change(to, Queue::new(alloc)) {
+        match self.queues.change(trunk, Queue::new(alloc)) {
             Some(mut queue) => {
                 let pushed = queue.push(frame);
-                drop(self.queues.change(to, queue));
+                drop(self.queues.change(trunk, queue));
                 pushed
             }
             None => {
                 let mut queue = Queue::new(alloc);
                 queue.push(frame)?;
-                drop(self.queues.insert(to.clone()?, queue)?);
+                drop(self.queues.insert(trunk.clone()?, queue)?);
                 Ok(())
             }
         }
     }
 
-    /// The first to a node is taken out, if there is one.
-    pub(crate) fn drop_first(&mut self, alloc: Global, to: &NodeName)
-        ensures { (x : Name) → in_line self.new x ≡ (if same_name x to.now then behind_first (in_line self.old x) else in_line self.old x) }
+    /// The first on a connection is taken out, if there is one.
+    pub(crate) fn drop_first(&mut self, alloc: Global, trunk: &TrunkId)
+        ensures { (t : TheTrunk) → in_line self.new t ≡ (if eq_by_cmp trunk_cmp t trunk.now then behind_first (in_line self.old t) else in_line self.old t) }
     {
-        if let Some(mut queue) = self.queues.change(to, Queue::new(alloc)) {
+        if let Some(mut queue) = self.queues.change(trunk, Queue::new(alloc)) {
             queue.drop_first();
-            drop(self.queues.change(to, queue));
+            drop(self.queues.change(trunk, queue));
         }
     }
 
-    /// The last to a node is taken out, if there is one.
-    pub(crate) fn drop_last(&mut self, alloc: Global, to: &NodeName)
-        ensures { (rest : Name → List Framed) (frame : Framed) →
-            ((x : Name) → in_line self.old x ≡ rest x ++ (if same_name x to.now then frame ∷ [] else [])) →
-            (x : Name) → in_line self.new x ≡ rest x }
+    /// The last on a connection is taken out, if there is one.
+    pub(crate) fn drop_last(&mut self, alloc: Global, trunk: &TrunkId)
+        ensures { (rest : TheTrunk → List Framed) (frame : Framed) →
+            ((t : TheTrunk) → in_line self.old t ≡ rest t ++ (if eq_by_cmp trunk_cmp t trunk.now then frame ∷ [] else [])) →
+            (t : TheTrunk) → in_line self.new t ≡ rest t }
     {
-        if let Some(mut queue) = self.queues.change(to, Queue::new(alloc)) {
+        if let Some(mut queue) = self.queues.change(trunk, Queue::new(alloc)) {
             queue.drop_last();
-            drop(self.queues.change(to, queue));
+            drop(self.queues.change(trunk, queue));
         }
     }
 }

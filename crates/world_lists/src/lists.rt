@@ -1,13 +1,16 @@
 //! What travels between nodes.
-ghost use Rattle.std.specs.Prelude.{◌≡◌, ◌++◌, ◌∷◌, [], List, OnErr, OnOk, if◌then◌else◌};
+ghost use Rattle.std.specs.Prelude.{◌≡◌, ◌++◌, ◌∷◌, [], List, OnErr, OnOk, T, if◌then◌else◌};
+ghost use Rattle.std.specs.FinMap.{is_sorted};
 ghost use Rattle.std.specs.Option.{option_copied};
 ghost use Rattle.std.specs.Ordering.{eq_by_cmp};
 ghost use Rattle.dist_model.specs.Names.{Name, place_cmp};
+ghost use Rattle.erl_names.specs.Order.{trunk_cmp};
 ghost use Rattle.erl_names.specs.declared.trunk.TrunkId.{TrunkId as TheTrunk};
 ghost use Rattle.node_plans.specs.Frames.{Framed};
-ghost use Rattle.world_lists.specs.Lists.{at, behind_first, first_of, nothing_between, one_at};
+ghost use Rattle.world_lists.specs.Lists.{at, behind_first, first_of, line_to, nothing_between, one_at};
 
 use crate::line::Line;
+use crate::queue::Queue;
 use erl_names::{NodeName, TrunkId};
 use erl_term::Pid;
 use node_plans::Frame;
@@ -15,23 +18,22 @@ use sorted_map::SortedMap;
 use std::alloc::{AllocError, Global};
 use std::marker::Model;
 
-/// What travels between the nodes of a world: on each connection to each of its nodes, the first to
-/// come first. Contracts see the entries, by connection and by node. (Reference Manual, Processes,
+/// What travels between the nodes of a world: to each node on each of its connections, the first to
+/// come first. Contracts see the entries, by node and by connection. (Reference Manual, Processes,
 /// Delivery of Signals.)
 #[derive(Drop)]
 pub struct Lists {
-    lines: SortedMap<TrunkId, Line>,
+    lines: SortedMap<NodeName, Line>,
 }
 
 impl Model for Lists {
-    ghost use Rattle.std.specs.Coded.{coded×, coded_list};
-    ghost use Rattle.erl_names.specs.contracts.trunk.TrunkId as trunk;
+    ghost use Rattle.std.specs.Coded.{coded×, coded_list, coded_ℕ};
     ghost use Rattle.world_lists.specs.Lists.{Lines};
     ghost use Rattle.world_lists.specs.contracts.line.Line as line;
 
     ghost Value = { Lines };
 
-    ghost coded = { coded_list (coded× trunk.the_row.coded line.the_row.coded) };
+    ghost coded = { coded_list (coded× (coded_list coded_ℕ) line.the_row.coded) };
 
     ghost view = { λ l. l.lines.entries };
 }
@@ -46,11 +48,23 @@ impl Lists {
         }
     }
 
+    /// What travels to a node, by connection, in the order of connections; on some of them nothing may
+    /// travel any more. Takes no memory.
+    pub fn line(&self, to: &NodeName) -> &[(TrunkId, Queue)]
+        ensures line { result.now ≡ line_to self.now to.now }
+        ensures sorted { T (is_sorted trunk_cmp result.now) }
+    {
+        match self.lines.get(to) {
+            Some(line) => line.entries(),
+            None => &[],
+        }
+    }
+
     /// What comes next on a connection to a node. Takes no memory.
     pub fn first(&self, trunk: &TrunkId, to: &NodeName) -> Option<&Frame>
         ensures { option_copied result ≡ first_of (at self.now trunk.now to.now) }
     {
-        self.lines.get(trunk)?.queue(to)?.first()
+        self.lines.get(to)?.queue(trunk)?.first()
     }
 
     /// Whether no signal of one of two processes to the other travels on a connection to a node. Takes
@@ -58,10 +72,10 @@ impl Lists {
     pub fn has_nothing_between(&self, trunk: &TrunkId, to: &NodeName, p: &Pid, q: &Pid) -> bool
         ensures { result ≡ nothing_between p.now q.now (at self.now trunk.now to.now) }
     {
-        let Some(line) = self.lines.get(trunk) else {
+        let Some(line) = self.lines.get(to) else {
             return true;
         };
-        match line.queue(to) {
+        match line.queue(trunk) {
             Some(queue) => queue.has_nothing_between(p, q),
             None => true,
         }
@@ -81,16 +95,16 @@ impl Lists {
         ensures ok { OnOk result ((t : TheTrunk) (x : Name) → at self.new t x ≡ at self.old t x ++ one_at (t, x) (trunk.now, to.now) frame) }
         ensures err { OnErr result ((t : TheTrunk) (x : Name) → at self.new t x ≡ at self.old t x) }
     {
-        match self.lines.change(trunk, Line::new(alloc)) {
+        match self.lines.change(to, Line::new(alloc)) {
             Some(mut line) => {
-                let pushed = line.push(alloc, to, frame);
-                drop(self.lines.change(trunk, line));
+                let pushed = line.push(alloc, trunk, frame);
+                drop(self.lines.change(to, line));
                 pushed
             }
             None => {
                 let mut line = Line::new(alloc);
-                line.push(alloc, to, frame)?;
-                drop(self.lines.insert(trunk.clone()?, line)?);
+                line.push(alloc, trunk, frame)?;
+                drop(self.lines.insert(to.clone()?, line)?);
                 Ok(())
             }
         }
@@ -100,9 +114,9 @@ impl Lists {
     pub fn drop_first(&mut self, alloc: Global, trunk: &TrunkId, to: &NodeName)
         ensures { (t : TheTrunk) (x : Name) → at self.new t x ≡ (if eq_by_cmp place_cmp (t, x) (trunk.now, to.now) then behind_first (at self.old t x) else at self.old t x) }
     {
-        if let Some(mut line) = self.lines.change(trunk, Line::new(alloc)) {
-            line.drop_first(alloc, to);
-            drop(self.lines.change(trunk, line));
+        if let Some(mut line) = self.lines.change(to, Line::new(alloc)) {
+            line.drop_first(alloc, trunk);
+            drop(self.lines.change(to, line));
         }
     }
 
@@ -112,9 +126,9 @@ impl Lists {
             ((t : TheTrunk) (x : Name) → at self.old t x ≡ rest t x ++ one_at (t, x) (trunk.now, to.now) frame) →
             (t : TheTrunk) (x : Name) → at self.new t x ≡ rest t x }
     {
-        if let Some(mut line) = self.lines.change(trunk, Line::new(alloc)) {
-            line.drop_last(alloc, to);
-            drop(self.lines.change(trunk, line));
+        if let Some(mut line) = self.lines.change(to, Line::new(alloc)) {
+            line.drop_last(alloc, trunk);
+            drop(self.lines.change(to, line));
         }
     }
 }

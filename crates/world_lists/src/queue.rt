@@ -1,4 +1,4 @@
-//! What travels to one node on one connection.
+//! What travels on one connection to one node.
 ghost use Rattle.std.specs.Prelude.{◌≡◌, ◌++◌, ◌∷◌, [], List, OnErr, OnOk, not};
 ghost use Rattle.std.specs.List.{list_all};
 ghost use Rattle.std.specs.Option.{option_copied};
@@ -13,7 +13,7 @@ use std::marker::Model;
 
 /// What travels on a connection to one of its nodes, the first to come first. Contracts see the list.
 #[derive(Drop)]
-pub(crate) struct Queue {
+pub struct Queue {
     frames: VecDeque<Frame>,
 }
 
@@ -57,8 +57,8 @@ impl Queue {
         }
     }
 
-    /// The first to come.
-    pub(crate) fn first(&self) -> Option<&Frame>
+    /// What comes next. Takes no memory.
+    pub fn first(&self) -> Option<&Frame>
         ensures { option_copied result ≡ first_of self.now }
     {
         self.frames.front()

@@ -1,5 +1,5 @@
 use Rattle.std.proofs.Common.{sym, ◌∙◌}
-use Rattle.world_lists.proofs.Connections.{first_gone, none_gone}
+use Rattle.world_lists.proofs.Nodes.{first_gone, none_gone}
 use Rattle.world_lists.proofs.lists.Lists.drop_first.Goals as goal
 
 pub returns-in-Some : goal.returns-in-Some

@@ -1,5 +1,5 @@
 use Rattle.std.proofs.Common.{sym, ◌∙◌}
-use Rattle.world_lists.proofs.Connections.{last_gone, none_last}
+use Rattle.world_lists.proofs.Nodes.{last_gone, none_last}
 use Rattle.world_lists.proofs.lists.Lists.drop_last.Goals as goal
 
 pub returns-in-Some : goal.returns-in-Some

@@ -1,6 +1,6 @@
 use Rattle.std.proofs.Common.{rules, sym, ◌∙◌}
 use Rattle.world_lists.proofs.Lines.{on_err, on_ok}
-use Rattle.world_lists.proofs.Connections.{first_more, more, stays}
+use Rattle.world_lists.proofs.Nodes.{first_more, more, stays}
 use Rattle.world_lists.proofs.lists.Lists.push.Goals as goal
 
 pub returns-in-Some-clause-ok : goal.returns-in-Some-clause-ok
