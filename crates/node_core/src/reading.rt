@@ -2,11 +2,14 @@
 ghost use Rattle.std.specs.Prelude.{◌≡◌, IfOk, is_some};
 ghost use Rattle.std.specs.FinMap as fm;
 ghost use Rattle.std.specs.Option.{option_copied, option_map};
+ghost use Rattle.dist_model.specs.Losses.{any_side};
 ghost use Rattle.dist_model.specs.Node.{end_of, living, route, side_where};
 ghost use Rattle.dist_model.specs.Quiet.{nothing_between};
 ghost use Rattle.dist_model.specs.Runs.{new_node};
-ghost use Rattle.dist_model.specs.Sides.{holds};
+ghost use Rattle.dist_model.specs.Sides.{holds, is_losing};
+ghost use Rattle.dist_model.specs.World.{first_of};
 ghost use Rattle.node_core.specs.Model.{model_of};
+ghost use Rattle.node_sides.specs.Passing.{passes};
 ghost use Rattle.node_sides.specs.Standings.{side_of};
 ghost use Rattle.node_tables.specs.Lives.{life_of};
 
@@ -108,6 +111,31 @@ impl Node {
         ensures { option_copied result ≡ route (model_of self.now) peer.now }
     {
         self.state.route(peer)
+    }
+
+    /// The first connection to a peer, or attempt at one, that stands in the way that is sought.
+    pub fn first_towards(&self, peer: &Atom, which: Which) -> Option<&TrunkId>
+        ensures { option_copied result ≡ option_map (λ entry. entry.0) (side_where (passes which) peer.now (fm.entries (model_of self.now).sides)) }
+    {
+        match self.state.first_towards(peer, which) {
+            Some(side) => Some(&side.trunk),
+            None => None,
+        }
+    }
+
+    /// Whether a signal travels from the node to itself. (Reference Manual, Processes, Delivery of
+    /// Signals.)
+    pub fn has_local(&self) -> bool
+        ensures { result ≡ is_some (first_of (model_of self.now).local) }
+    {
+        self.state.first_local().is_some()
+    }
+
+    /// Whether a connection is lost, and what the node keeps of it isn't swept yet.
+    pub fn is_losing(&self) -> bool
+        ensures { result ≡ is_some (any_side is_losing (fm.entries (model_of self.now).sides)) }
+    {
+        self.state.first_losing().is_some()
     }
 
     /// Whether there is a connection to a peer that is up, or lost and not yet swept.

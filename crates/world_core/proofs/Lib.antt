@@ -1,3 +1,4 @@
+pub mod Incoming
 pub mod Going
 pub mod Named
 pub mod Opened

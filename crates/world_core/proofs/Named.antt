@@ -1,6 +1,11 @@
 -- Names of nodes, and the node at a place by its name.
-use Rattle.std.proofs.Common.{◌≡◌, ◌<◌, ◌≤◌, ◌||◌, ℕ, zero, suc, Bool, true, false, cond, not, List, [], ◌∷◌, map, length, None, Some, refl, sym, ap, ◌∙◌, slice_set, slice_index_or, arith}
-use Rattle.std.specs.List.{find, list_any}
+use Rattle.std.proofs.Common.{◌≡◌, ◌<◌, ◌≤◌, ◌||◌, ℕ, zero, suc, Bool, true, false, cond, not, List, [], ◌∷◌, map, length, None, Some, refl, sym, ap, ◌∙◌, slice_set, slice_index_or, get_or, nat_lt, bytes_eq, arith}
+use Rattle.std.proofs.lemmas.List.Folds.{find_at}
+use Rattle.std.proofs.lemmas.List.Quantifiers.{position-Some}
+use Rattle.std.proofs.lemmas.Bool.{ltb-false}
+use Rattle.std.proofs.lemmas.Map.Text.{is_eq-slice_cmp}
+use Rattle.std.proofs.lemmas.Option.{slice_get_past}
+use Rattle.std.specs.List.{find, list_any, position, position_or_len, slice_get}
 use Rattle.std.specs.Option.{option_map}
 use Rattle.dist_model.proofs.Keys.{and_both, same_name_is, same_name_true}
 use Rattle.dist_model.specs.Dialing.{has_name}
@@ -19,11 +24,11 @@ pub not_true : (b : Bool) → not b ≡ true → b ≡ false
 not_true true h = cc
 not_true false h = refl
 
-neither : (a b : Bool) → (a || b) ≡ false → (a ≡ false) × (b ≡ false)
+pub neither : (a b : Bool) → (a || b) ≡ false → (a ≡ false) × (b ≡ false)
 neither true b h = cc
 neither false b h = (refl, h)
 
-turned : (a b : Name) → same_name a b ≡ false → same_name b a ≡ false
+pub turned : (a b : Name) → same_name a b ≡ false → same_name b a ≡ false
 turned a b h = go (same_name b a) refl
   where
     go : (r : Bool) → same_name b a ≡ r → same_name b a ≡ false
@@ -103,3 +108,34 @@ node_found (node ∷ rest) name = go (same_name (name_of node) name) (node_found
         → cond b (Some (model_of node)) (node_of (map model_of rest) name) ≡ option_map model_of (cond b (Some node) (find (λ node. same_name (name_of node) name) rest))
     go true h = refl
     go false h = h
+
+-- ---- the place of a name
+
+abbrev is_named : Name → Node → Bool
+is_named name node = same_name (name_of node) name
+
+at_place : (nodes : List Node) (d : Node) (place : ℕ) → place < length nodes → name_at (names_of nodes) place ≡ name_of (get_or nodes place d)
+at_place [] d place l = absurd (omega (arith, l))
+at_place (node ∷ rest) d zero l = refl
+at_place (node ∷ rest) d (suc place) l = at_place rest d place (omega (arith, l))
+
+pub place_is : (nodes : List Node) (name : Name) (place : ℕ) → position (λ node. same_name (name_of node) name) nodes ≡ Some place → name_at (names_of nodes) place ≡ name
+place_is [] name place h = cc
+place_is (node ∷ rest) name place h =
+    let k = position-Some (is_named name) (node ∷ rest) place node h in
+    at_place (node ∷ rest) node place k.0 ∙ same_name_true _ name k.1
+
+pub no_place_is : (nodes : List Node) (name : Name) → position (λ node. same_name (name_of node) name) nodes ≡ None → node_of (map model_of nodes) name ≡ None
+no_place_is nodes name h =
+    node_found nodes name ∙ ap (option_map model_of) (find_at (is_named name) nodes ∙ nobody (nat_lt (position_or_len (is_named name) nodes) (length nodes)) refl h)
+  where
+    nobody : (b : Bool) → nat_lt (position_or_len (is_named name) nodes) (length nodes) ≡ b → cond b (Some (position_or_len (is_named name) nodes)) None ≡ None
+        → slice_get nodes (position_or_len (is_named name) nodes) ≡ None
+    nobody true e k = cc
+    nobody false e k = slice_get_past nodes _ (ltb-false _ (length nodes) e)
+
+-- ---- names as texts
+
+pub spelled : (name : Name) (nodes : List Node) → list_any (λ node. bytes_eq name (name_of node)) nodes ≡ has_name name (names_of nodes)
+spelled name [] = refl
+spelled name (node ∷ rest) = (λ i. sym (is_eq-slice_cmp name (name_of node)) i || spelled name rest i)

@@ -1,17 +1,22 @@
 -- A world in which nothing has happened yet.
-use Rattle.std.proofs.Common.{◌≡◌, ◌<◌, ◌&&◌, ◌||◌, ℕ, zero, suc, Bool, true, false, not, List, [], ◌∷◌, drop, length, map, refl, sym, ap, subst, ◌∙◌, arith, slice_index_or}
+use Rattle.std.proofs.Common.{◌≡◌, ◌<◌, ◌&&◌, ◌||◌, ℕ, zero, suc, Bool, true, false, not, List, [], ◌∷◌, ◌++◌, drop, length, map, Result, Ok, Err, OnErr, refl, sym, ap, subst, ◌∙◌, arith, slice_index_or}
+use Rattle.std.proofs.lemmas.List.{length-append, map-append}
 use Rattle.std.specs.List.{list_any}
 use Rattle.std.specs.FinMap as fm
+use Rattle.dist_model.proofs.Keys.{and_both}
 use Rattle.dist_model.proofs.Seeing.{list_in}
 use Rattle.dist_model.specs.Dialing.{has_name}
 use Rattle.dist_model.specs.Names.{Name, place_cmp, same_name}
 use Rattle.dist_model.specs.Node.{Node as TheNode}
 use Rattle.dist_model.specs.Runs.{new_node, opening}
 use Rattle.dist_model.specs.World.{list_to}
+use Rattle.dist_model.specs.World.{World as TheWorld}
+use Rattle.erl_names.specs.Name.{IsNodeName}
 use Rattle.erl_names.specs.declared.trunk.TrunkId.{TrunkId}
 use Rattle.node_core.specs.Model.{model_of}
 use Rattle.node_core.specs.declared.node.Node.{Node}
 use Rattle.node_plans.specs.Frames.{framed}
+use Rattle.world_core.proofs.Named.{neither, not_true, turned}
 use Rattle.world_core.specs.Names.{are_distinct, name_of, names_of}
 use Rattle.world_core.specs.Stands.{AreSpelled, Stands}
 use Rattle.world_core.specs.declared.world.World.{World}
@@ -64,3 +69,59 @@ opens w nodes made none named distinct = record {
   spelled = λ t x. subst AreSpelled (sym (nothing_on t x)) tt;
   reached = record { nodes = nodes; events = []; reports = []; runs = refl };
 }
+
+-- ---- one node more
+
+not_empty : (name : Name) → IsNodeName name → same_name name [] ≡ false
+not_empty [] h =
+    let parts = ap length h.parts in
+    let long = length-append h.name (64 ∷ h.host) in
+    absurd (omega arith)
+not_empty (c ∷ cs) h = refl
+
+has_more : (y x : Name) (names : List Name) → has_name y names ≡ false → same_name y x ≡ false → has_name y (names ++ x ∷ []) ≡ false
+has_more y x [] h k = ap (λ b. b || false) k
+has_more y x (z ∷ rest) h k =
+    let t = neither (same_name y z) (has_name y rest) h in
+    (λ i. t.0 i || has_more y x rest t.1 k i)
+
+more_distinct : (names : List Name) (x : Name) → are_distinct names ≡ true → has_name x names ≡ false → are_distinct (names ++ x ∷ []) ≡ true
+more_distinct [] x d h = refl
+more_distinct (y ∷ rest) x d h =
+    let t = and_both (not (has_name y rest)) (are_distinct rest) d in
+    let k = neither (same_name x y) (has_name x rest) h in
+    (λ i. not (has_more y x rest (not_true _ t.0) (turned x y k.0) i) && more_distinct rest x t.1 k.1 i)
+
+pub joins : (w new : World) (nodes : List Named) (node : Node) (name : Name) (cookie : List ℕ) → Stands w (opening nodes) → new.nodes.items ≡ w.nodes.items ++ node ∷ [] → new.lists ≡ w.lists
+    → model_of node ≡ new_node name cookie → has_name name (names_of w.nodes.items) ≡ false → IsNodeName name → Stands new (opening (nodes ++ (name, cookie) ∷ []))
+joins w new nodes node name cookie h items lists model free form =
+    let f : Named → TheNode = (λ n. new_node n.0 n.1) in
+    let one : List Named = (name, cookie) ∷ [] in
+    let made : map model_of new.nodes.items ≡ map f (nodes ++ one) =
+    ap (map model_of) items ∙ map-append model_of w.nodes.items (node ∷ []) ∙ (λ i. sym h.nodes i ++ model i ∷ []) ∙ sym (map-append f nodes one) in
+    record {
+      names = sym (names_made new.nodes.items (nodes ++ one) made);
+      distinct = ap (λ (ns : List Name). are_distinct ([] ∷ ns)) (map-append name_in nodes one)
+          ∙ more_distinct ([] ∷ map name_in nodes) name h.distinct (λ i. not_empty name form i || (ap (has_name name) h.names ∙ free) i);
+      nodes = sym made;
+      lists = λ t x. ap (λ ls. at ls t x) lists ∙ h.lists t x;
+      spelled = h.spelled;
+      reached = record { nodes = nodes ++ one; events = []; reports = []; runs = refl };
+    }
+
+-- ---- as many nodes
+
+pub stays : (w new : World) (m : TheWorld) → Stands w m → new.nodes.items ≡ w.nodes.items → new.lists ≡ w.lists → Stands new m
+stays w new m h items lists = record {
+  names = h.names ∙ ap names_of (sym items);
+  distinct = h.distinct;
+  nodes = h.nodes ∙ ap (map model_of) (sym items);
+  lists = λ t x. ap (λ ls. at ls t x) lists ∙ h.lists t x;
+  spelled = h.spelled;
+  reached = h.reached;
+}
+
+-- what holds in any case holds of an error
+pub on_err : {X E : Type 0} {P : Type 0} (r : Result X E) → P → OnErr r P
+on_err (Ok x) p = tt
+on_err (Err e) p = p

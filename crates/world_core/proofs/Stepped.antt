@@ -191,13 +191,10 @@ module _ (w : World) (m : world.World) (stands : Stands w m) where
   nobody : has_name [] (names_of w.nodes.items) ≡ false
   nobody = not_true _ (and_both (not (has_name [] (names_of w.nodes.items))) (are_distinct (names_of w.nodes.items)) named).0
 
-  -- there is no such place
-  pub no_place : (new : World) (place : ℕ) (e : NodeEvent) → length (names_of w.nodes.items) ≤ place → Stands new m
-      → Came new m (event_at (name_at m.names place) e) (Err Refusal.NothingThere)
-  no_place new place e l s =
-      let name : name_at m.names place ≡ [] = ap (λ ns. name_at ns place) stands.names ∙ nobody_at (names_of w.nodes.items) place l in
-      let none : node_of m.nodes (name_at m.names place) ≡ None = ap (node_of m.nodes) name ∙ ap (λ ns. node_of ns []) stands.nodes ∙ nobody_is w.nodes.items nobody in
-      let is : step m (event_at (name_at m.names place) e) ≡ refused m Refusal.NothingThere = by_node m (name_at m.names place) e None none in
+  -- there is no node of that name
+  pub no_node : (new : World) (name : Name) (e : NodeEvent) → node_of m.nodes name ≡ None → Stands new m → Came new m (event_at name e) (Err Refusal.NothingThere)
+  no_node new name e none s =
+      let is : step m (event_at name e) ≡ refused m Refusal.NothingThere = by_node m name e None none in
       record {
         report = Refused Refusal.NothingThere;
         next = m;
@@ -205,6 +202,13 @@ module _ (w : World) (m : world.World) (stands : Stands w m) where
         tells = refl;
         stands = s;
       }
+
+  -- there is no such place
+  pub no_place : (new : World) (place : ℕ) (e : NodeEvent) → length (names_of w.nodes.items) ≤ place → Stands new m
+      → Came new m (event_at (name_at m.names place) e) (Err Refusal.NothingThere)
+  no_place new place e l s =
+      let name : name_at m.names place ≡ [] = ap (λ ns. name_at ns place) stands.names ∙ nobody_at (names_of w.nodes.items) place l in
+      no_node new (name_at m.names place) e (ap (node_of m.nodes) name ∙ ap (λ ns. node_of ns []) stands.nodes ∙ nobody_is w.nodes.items nobody) s
 
   module _ (place : ℕ) (node new : Node) (l : place < length w.nodes.items) (is : slice_index_or w.nodes.items place node ≡ node) where
     abbrev pub name : Name

@@ -2,7 +2,9 @@
 #![tactic(auto)]
 
 mod applying;
+mod arriving;
 mod event;
+mod naming;
 mod opening;
 mod reading;
 mod running;

@@ -1,11 +1,12 @@
 //! A world in which nothing has happened yet.
-ghost use Rattle.std.specs.Prelude.{◌≡◌, ◌++◌, [], ◌∷◌, IfOk, OnOk, false, map, true};
+ghost use Rattle.std.specs.Prelude.{◌≡◌, ◌++◌, [], ◌∷◌, List, ℕ, IfOk, OnErr, OnOk, false, map, true};
 ghost use Rattle.std.specs.List.{list_any};
 ghost use Rattle.dist_model.specs.Dialing.{has_name};
-ghost use Rattle.dist_model.specs.Names.{same_name};
+ghost use Rattle.dist_model.specs.Names.{Name, same_name};
 ghost use Rattle.dist_model.specs.Runs.{new_node, opening};
+ghost use Rattle.dist_model.specs.World.{World as TheWorld};
 ghost use Rattle.node_core.specs.Model.{model_of};
-ghost use Rattle.world_core.specs.Names.{are_distinct};
+ghost use Rattle.world_core.specs.Names.{are_distinct, names_of};
 ghost use Rattle.world_core.specs.Stands.{Stands};
 
 use crate::world::World;
@@ -77,5 +78,29 @@ impl World {
                 Err(e)
             }
         }
+    }
+
+    /// A world of no nodes. Takes no memory.
+    pub fn empty(alloc: Global) -> World
+        ensures { Stands result (opening []) }
+    {
+        World {
+            nodes: Vec::new(alloc),
+            lists: Lists::new(alloc),
+        }
+    }
+
+    /// A node more, before anything has happened: it comes behind the others. None of them has its name.
+    ///
+    /// # Errors
+    /// Where there is no memory for it. Then nothing has changed.
+    pub fn join(&mut self, alloc: Global, name: NodeName, cookie: Cookie) -> Result<(), AllocError>
+        requires { has_name name (names_of self.old.nodes.items) ≡ false }
+        ensures ok { (nodes : List (Name × List ℕ)) → Stands self.old (opening nodes) → OnOk result (Stands self.new (opening (nodes ++ (name, cookie) ∷ []))) }
+        ensures err { (m : TheWorld) → Stands self.old m → OnErr result (Stands self.new m) }
+    {
+        name.text();
+        self.nodes.push(Node::new(alloc, name, cookie)?)?;
+        Ok(())
     }
 }

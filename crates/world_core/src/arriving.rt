@@ -1,0 +1,83 @@
+//! Where something comes to a node from its peers.
+ghost use Rattle.std.specs.Prelude.{◌≡◌, ◌&&◌, is_some};
+ghost use Rattle.std.specs.FinMap as fm;
+ghost use Rattle.std.specs.List.{find};
+ghost use Rattle.std.specs.Option.{option_copied, option_map};
+ghost use Rattle.dist_model.specs.World.{World as TheWorld};
+ghost use Rattle.node_core.specs.Model.{model_of};
+ghost use Rattle.node_sides.specs.Standings.{side_of};
+ghost use Rattle.world_core.specs.Coming.{is_from, next_arrival, peer_on, takes, takes_from};
+ghost use Rattle.world_core.specs.Stands.{Stands};
+ghost use Rattle.world_lists.specs.Lists.{first_of};
+
+use crate::world::World;
+use conn_core::Side;
+use erl_names::TrunkId;
+use erl_term::Atom;
+use node_core::Node;
+use node_plans::same_name;
+use node_sides::Which;
+use world_lists::Queue;
+
+// Whether a side takes what comes to it, or is made by it.
+fn takes(side: Option<&Side>) -> bool
+    ensures { result ≡ takes (option_map side_of (option_copied side.entry)) }
+{
+    match side {
+        Some(side) => Which::Open.passes(side.standing) && !Which::Losing.passes(side.standing),
+        None => true,
+    }
+}
+
+// The node at the other end of a connection.
+fn peer_on<'a>(trunk: &'a TrunkId, side: Option<&'a Side>) -> &'a Atom
+    ensures { result.now ≡ peer_on trunk.now (option_map side_of (option_copied side.entry)) }
+{
+    match side {
+        Some(side) => side.peer.atom(),
+        None => trunk.dialer.atom(),
+    }
+}
+
+// Whether a peer is the one that is asked for, if one is.
+fn is_from(from: Option<&Atom>, peer: &Atom) -> bool
+    ensures { result ≡ is_from (option_copied from.entry) peer.now }
+{
+    match from {
+        Some(name) => same_name(peer, name),
+        None => true,
+    }
+}
+
+// Whether a node takes what comes on a connection, from a certain peer or from any.
+fn takes_from(node: &Node, trunk: &TrunkId, from: Option<&Atom>) -> bool
+    ensures { result ≡ takes_from (option_copied from.entry) trunk.now (fm.get (model_of node.now).sides trunk.now) }
+{
+    let side = node.side(trunk);
+    takes(side) && is_from(from, peer_on(trunk, side))
+}
+
+// The first entry of a line with something that the node takes.
+fn first_in<'a>(
+    line: &'a [(TrunkId, Queue)],
+    node: &Node,
+    from: Option<&Atom>,
+) -> Option<&'a (TrunkId, Queue)>
+    ensures { option_copied result ≡ find (λ entry. is_some (first_of entry.1) && takes_from (option_copied from.entry) entry.0 (fm.get (model_of node.now).sides entry.0)) line.now }
+{
+    line.iter().find(|(trunk, queue)| queue.first().is_some() && takes_from(node, trunk, from))
+}
+
+impl World {
+    /// The least connection on which something comes to a node that the node takes: from a certain peer,
+    /// or from any. (ERTS User's Guide, Distribution Protocol; Reference Manual, Processes, Delivery of
+    /// Signals.)
+    pub fn next_arrival(&self, node: &Node, from: Option<&Atom>) -> Option<&TrunkId>
+        ensures { (m : TheWorld) → Stands self.now m → option_copied result ≡ next_arrival m (model_of node.now) (option_copied from.entry) }
+    {
+        match first_in(self.lists.line(node.name()), node, from) {
+            Some((trunk, _)) => Some(trunk),
+            None => None,
+        }
+    }
+}
