@@ -12,3 +12,5 @@ pub mod Leaves
 pub mod Whole
 pub mod ItemsBuilt
 pub mod ItemsRead
+pub mod Runs
+pub mod Shown

@@ -5,3 +5,4 @@ pub mod Printing
 pub mod Quoted
 pub mod Checking
 pub mod Steps
+pub mod OneLine

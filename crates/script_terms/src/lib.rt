@@ -15,6 +15,7 @@ mod bytes;
 mod checking;
 mod fault;
 mod integers;
+mod laws;
 mod lists;
 mod names;
 mod printing;
@@ -23,6 +24,7 @@ mod words;
 
 pub use checking::check_term;
 pub use fault::{ReadError, TermFault};
+pub use laws::one_line;
 pub use names::{Named, Names};
 pub use printing::{put_pid, put_reference, put_term};
 pub use reading::read_term;
