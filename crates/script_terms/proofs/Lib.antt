@@ -14,3 +14,7 @@ pub mod ItemsBuilt
 pub mod ItemsRead
 pub mod Runs
 pub mod Shown
+pub mod Numerals
+pub mod Quotes
+pub mod Again
+pub mod Given

@@ -6,3 +6,4 @@ pub mod Quoted
 pub mod Checking
 pub mod Steps
 pub mod OneLine
+pub mod Values

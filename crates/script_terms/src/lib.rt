@@ -24,7 +24,7 @@ mod words;
 
 pub use checking::check_term;
 pub use fault::{ReadError, TermFault};
-pub use laws::one_line;
+pub use laws::{one_line, read_again, read_values};
 pub use names::{Named, Names};
 pub use printing::{put_pid, put_reference, put_term};
 pub use reading::read_term;
