@@ -1,8 +1,9 @@
 -- Text that stands on one line.
-use Rattle.std.specs.Prelude.{◌≡◌, ℕ, List, Bool, true, not, ◌&&◌, ◌==◌, nat_le}
+use Rattle.std.specs.Prelude.{◌≡◌, ℕ, List, Bool, true, not, ◌&&◌, ◌==◌, nat_le, IfSome}
 use Rattle.std.specs.List.{list_all}
 use Rattle.std.specs.Str.{IsUtf8}
 use Rattle.erl_term.specs.Data.{Data, int, atom, tuple, list, improper, binary, pid, reference, Items, no_items, item}
+use Rattle.script_terms.specs.Binding.{Look, named_data}
 
 -- no control character of ASCII, which are those below 32, the ends of lines among them, and 127
 abbrev pub is_shown : ℕ → Bool
@@ -27,3 +28,7 @@ abbrev mutual
   pub ArePrintable : Items → Type 0
   ArePrintable no_items = Unit {0}
   ArePrintable (item t ts) = IsPrintable t × ArePrintable ts
+
+-- and so has what each name of a script stands for
+abbrev pub NamesArePrintable : Look → Type 0
+NamesArePrintable look = (name : List ℕ) → IfSome (look name) (λ named. IsPrintable (named_data named))

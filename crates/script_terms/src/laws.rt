@@ -7,7 +7,7 @@ ghost use Rattle.erl_term.specs.Canonical.{levels_of};
 ghost use Rattle.script_terms.specs.Binding.{Look};
 ghost use Rattle.script_terms.specs.Reading.{term_of};
 ghost use Rattle.script_terms.specs.Printing.{term_text, pid_text, reference_text};
-ghost use Rattle.script_terms.specs.OneLine.{IsOneLine, IsPrintable};
+ghost use Rattle.script_terms.specs.OneLine.{IsOneLine, IsPrintable, NamesArePrintable};
 ghost use Rattle.script_terms.specs.Values.{IsValue, is_literal};
 
 /// What is printed stands on one line. The name of a node is printed as it is, and so has to be one
@@ -18,9 +18,11 @@ pub fn one_line()
     ensures reference { (r : Reference) → IsOneLine r.node → IsOneLine (reference_text r) }
 {}
 
-/// What is read is a value of at most 64 levels.
+/// What is read is a value of at most 64 levels, and printed on one line where the names that are
+/// bound are.
 pub fn read_values()
-    ensures { (look : Look) (text : List ℕ) (t : Data) → term_of look text ≡ Ok t → IsValue t × (levels_of t ≤ 64) }
+    ensures value { (look : Look) (text : List ℕ) (t : Data) → term_of look text ≡ Ok t → IsValue t × (levels_of t ≤ 64) }
+    ensures line { (look : Look) (text : List ℕ) (t : Data) → NamesArePrintable look → term_of look text ≡ Ok t → IsPrintable t }
 {}
 
 /// A value that is printed is read again, whatever names are bound, unless a pid or a reference

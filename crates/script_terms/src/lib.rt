@@ -5,7 +5,9 @@
 //! escapes `\'`, `\\` and `\x{H}`; `{..}`, `[..]`, `[..|T]` and `<<1,2>>` are tuples, lists and
 //! binaries; and `$name` is the process or the reference that the script gave that name to, which
 //! [`Names`] holds. No space stands outside of quotes. The first fault from the left decides which
-//! [`TermFault`] comes. [`put_term`] prints a term in the same forms, on one line.
+//! [`TermFault`] comes. [`put_term`] prints a term in the same forms, on one line. What it prints is
+//! read as the same term again, where no pid and no reference stands in it: [`read_again`],
+//! [`read_values`] and [`one_line`] are the laws.
 //!
 //! Terms are [`erl_term`]'s, in at most 64 levels. Contracts see the UTF-8 bytes of a text.
 #![tactic(auto)]
