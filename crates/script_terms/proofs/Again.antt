@@ -220,10 +220,6 @@ more_listed : (ts : Items) → more_text ts ≡ behind_commas term_text (listed 
 more_listed no_items = refl
 more_listed (item t ts) = ap (λ (bs : List ℕ). 44 ∷ (term_text t ++ bs)) (more_listed ts)
 
-listed_len : (ts : Items) → length (listed ts) ≡ count ts
-listed_len no_items = refl
-listed_len (item t ts) = ap suc (listed_len ts)
-
 more_len : (ts : Items) → count ts ≤ length (more_text ts)
 more_len no_items = omega arith
 more_len (item t ts) = let more = more_len ts in omega (arith, length-append (term_text t) (more_text ts))
