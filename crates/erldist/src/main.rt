@@ -17,9 +17,14 @@ fn run<R: Input + Print + Eprint>(rt: &R, alloc: Global, options: &Options) -> u
     let Ok(mut writer) = BufWriter::new(alloc, io::writer(rt)) else {
         return Outcome::OutOfMemory.status();
     };
-    let outcome = run_script(alloc, &mut rt.reader(), &mut writer, options);
+    let mut advice = String::new(alloc);
+    let outcome = run_script(alloc, &mut rt.reader(), &mut writer, options, &mut advice);
     if let Outcome::BadLine(line, reason) = outcome {
-        let _ = eprintln!(rt; "line {line}: {reason}");
+        let _ = if advice.is_empty() {
+            eprintln!(rt; "line {line}: {reason}")
+        } else {
+            eprintln!(rt; "line {line}: {reason}: {advice}")
+        };
     }
     outcome.status()
 }
@@ -35,10 +40,6 @@ fn main(rt: HostRuntime) -> ExitCode {
         Err(_) => return ExitCode::from(Outcome::OutOfMemory.status()),
     };
     match read_options(alloc, words.as_slice()) {
-        Ok(options) if options.threads => {
-            let _ = eprintln!(rt; "erldist: --threads: this version has no node threads yet");
-            ExitCode::from(BAD_COMMAND_LINE)
-        }
         Ok(options) => ExitCode::from(run(&rt, alloc, &options)),
         Err(fault) => {
             let is_printed = fault.print(&rt).is_ok();

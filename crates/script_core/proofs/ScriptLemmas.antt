@@ -6,17 +6,18 @@ use Rattle.std.proofs.lemmas.List.Elements.{All-head, All-tail, All-push}
 use Rattle.std.proofs.lemmas.List.Splits.{slice_split_at, slice_split_none, slice_split-cons_no}
 use Rattle.std.specs.List.{slice_split, onto_first}
 use Rattle.std.specs.Io.KnownBytes.{Appends, Consumes, Keeps, IsAtEnd, ReadConsumes}
-use Rattle.script_core.specs.declared.command.Reason.{Reason}
-use Rattle.script_core.specs.declared.command.Reason.TheVariants.{TooLong}
+use Rattle.script_lines.specs.declared.reason.Reason.{Reason}
+use Rattle.script_lines.specs.declared.reason.Reason.TheVariants.{TooLong}
 use Rattle.script_core.specs.declared.script.Outcome.{Outcome}
 use Rattle.script_core.specs.declared.script.Outcome.TheVariants as outcome
 use Rattle.script_core.specs.declared.script.Script.{Script}
 use Rattle.std.specs.Prelude.{IfSome}
-use Rattle.script_core.specs.declared.session.Stop.{Stop}
-use Rattle.script_core.specs.declared.session.Stop.TheVariants.{Bad}
-use Rattle.script_core.specs.declared.session.Session.{Session}
-use Rattle.script_core.specs.Sessions.{Obeys, Stepped}
-use Rattle.script_core.specs.Script.{State, Step, Run, TooManyLines, stops, prints, runs_step, runs_lines, script, line_does, lines_of, without_empty_last}
+use Rattle.script_session.specs.declared.session.Stop.{Stop}
+use Rattle.script_session.specs.declared.session.Stop.TheVariants.{Bad}
+use Rattle.script_session.specs.declared.session.Session.{Session}
+use Rattle.script_session.specs.Session.{State, Step, line_does}
+use Rattle.script_session.specs.Stands.{Obeys, Steps}
+use Rattle.script_core.specs.Script.{Run, TooManyLines, stops, prints, runs_step, runs_lines, runs_from, lines_of, without_empty_last}
 use Rattle.script_core.specs.Outcomes.{AppendsFront, Answers, Position, opening, rest_of, IsAt, Reaches, Took, Progress, fault_at}
 
 abbrev is_break : ℕ → Bool
@@ -245,7 +246,7 @@ obeys_bad does session old new r stop reason e s o =
     let k : Obeys does session old new (Err (Bad reason)) = subst (Obeys does session old new) (e ∙ ap (λ (w : Stop). Err w) s) o in
     k.0
 
-pub obeys_ok : (does : Result Step Reason) (session : Session) (old new : List ℕ) (r : Result (Unit {0}) Stop) (x : Unit {0}) → r ≡ Ok x → Obeys does session old new r → Stepped does session old new
+pub obeys_ok : (does : Result Step Reason) (session : Session) (old new : List ℕ) (r : Result (Unit {0}) Stop) (x : Unit {0}) → r ≡ Ok x → Obeys does session old new r → Steps does session old new
 obeys_ok does session old new r x e o = subst (Obeys does session old new) e o
 
 pub not_break : (byte : ℕ) → (byte ≡ 10 → ⊥) → is_break byte ≡ false
@@ -264,14 +265,14 @@ took_front p xs ys s old new o h = λ rest. subst (λ (bytes : List ℕ). Answer
 
 -- ---- the whole input
 
-pub begins : (input : List ℕ) (remaining : Option (List ℕ)) (s : Script) (held : Option (List ℕ)) → remaining ≡ Some input → IsAt s opening → Progress input remaining s held held
-begins input remaining s held e at = record { bytes = []; left = input; remains = e; parts = refl; reached = reaches_none opening s held at }
+pub begins : (from : State) (input : List ℕ) (remaining : Option (List ℕ)) (s : Script) (held : Option (List ℕ)) → remaining ≡ Some input → IsAt s (opening from) → Progress from input remaining s held held
+begins from input remaining s held e at = record { bytes = []; left = input; remains = e; parts = refl; reached = reaches_none (opening from) s held at }
 
 -- what was written so far is a beginning
-pub progress_front : (input : List ℕ) (remaining : Option (List ℕ)) (s : Script) (old new : Option (List ℕ)) → Progress input remaining s old new → AppendsFront (script input).text old new
-progress_front input remaining s old new q =
+pub progress_front : (from : State) (input : List ℕ) (remaining : Option (List ℕ)) (s : Script) (old new : Option (List ℕ)) → Progress from input remaining s old new → AppendsFront (runs_from from input).text old new
+progress_front from input remaining s old new q =
     let r = q.reached in
-    subst (λ (run : Run). AppendsFront run.text old new) (sym (ap (rest_of opening) q.parts ∙ r.goes q.left))
+    subst (λ (run : Run). AppendsFront run.text old new) (sym (ap (rest_of (opening from)) q.parts ∙ r.goes q.left))
     (front_more r.text (rest_of r.to q.left).text old new (front_whole r.text old new r.appended))
 
 consumed : (old new : Option (List ℕ)) (bs left : List ℕ) → old ≡ Some left → Consumes old new bs → (more : List ℕ) × (new ≡ Some more) × (left ≡ bs ++ more)
@@ -279,8 +280,8 @@ consumed None new bs left e h = absurd cc
 consumed (Some xs) None bs left e h = absurd h
 consumed (Some xs) (Some ys) bs left e h = (ys, refl, let same : xs ≡ left = cc in sym same ∙ h)
 
-pub kept : (input : List ℕ) (before after : Option (List ℕ)) (s : Script) (old new : Option (List ℕ)) → Keeps before after → Progress input before s old new → Progress input after s old new
-kept input before after s old new k q = record { bytes = q.bytes; left = q.left; remains = same before after q.left q.remains k; parts = q.parts; reached = q.reached }
+pub kept : (from : State) (input : List ℕ) (before after : Option (List ℕ)) (s : Script) (old new : Option (List ℕ)) → Keeps before after → Progress from input before s old new → Progress from input after s old new
+kept from input before after s old new k q = record { bytes = q.bytes; left = q.left; remains = same before after q.left q.remains k; parts = q.parts; reached = q.reached }
   where
     same : (b a : Option (List ℕ)) (left : List ℕ) → b ≡ Some left → Keeps b a → a ≡ Some left
     same None a left e h = absurd cc
@@ -288,31 +289,31 @@ kept input before after s old new k q = record { bytes = q.bytes; left = q.left;
     same (Some xs) (Some ys) left e h = ap (λ (w : List ℕ). Some w) h ∙ e
 
 -- more of it was read and taken
-pub goes_on : (input chunk : List ℕ) (before after : Option (List ℕ)) (s t : Script) (old mid new : Option (List ℕ)) → Consumes before after chunk → Progress input before s old mid → ((p : Position) → IsAt s p → Took p chunk t mid new (Ok tt)) → Progress input after t old new
-goes_on input chunk before after s t old mid new c q k =
+pub goes_on : (from : State) (input chunk : List ℕ) (before after : Option (List ℕ)) (s t : Script) (old mid new : Option (List ℕ)) → Consumes before after chunk → Progress from input before s old mid → ((p : Position) → IsAt s p → Took p chunk t mid new (Ok tt)) → Progress from input after t old new
+goes_on from input chunk before after s t old mid new c q k =
     let m = consumed before after chunk q.left q.remains c in
     record {
       bytes = q.bytes ++ chunk;
       left = m.0;
       remains = m.1;
       parts = q.parts ∙ ap (λ (w : List ℕ). q.bytes ++ w) m.2 ∙ sym (append_assoc q.bytes chunk m.0);
-      reached = took_both opening q.bytes chunk s t old mid new (Ok tt) q.reached k;
+      reached = took_both (opening from) q.bytes chunk s t old mid new (Ok tt) q.reached k;
     }
 
 -- it was read and answered by an error
-pub ends_there : (input chunk : List ℕ) (before after : Option (List ℕ)) (s t : Script) (old mid new : Option (List ℕ)) (o : Outcome) → Consumes before after chunk → Progress input before s old mid → ((p : Position) → IsAt s p → Took p chunk t mid new (Err o)) → Answers (script input) old new o
-ends_there input chunk before after s t old mid new o c q k =
+pub ends_there : (from : State) (input chunk : List ℕ) (before after : Option (List ℕ)) (s t : Script) (old mid new : Option (List ℕ)) (o : Outcome) → Consumes before after chunk → Progress from input before s old mid → ((p : Position) → IsAt s p → Took p chunk t mid new (Err o)) → Answers (runs_from from input) old new o
+ends_there from input chunk before after s t old mid new o c q k =
     let m = consumed before after chunk q.left q.remains c in
     let whole : input ≡ (q.bytes ++ chunk) ++ m.0 = q.parts ∙ ap (λ (w : List ℕ). q.bytes ++ w) m.2 ∙ sym (append_assoc q.bytes chunk m.0) in
-    subst (λ (w : List ℕ). Answers (rest_of opening w) old new o) (sym whole) (took_both opening q.bytes chunk s t old mid new (Err o) q.reached k m.0)
+    subst (λ (w : List ℕ). Answers (rest_of (opening from) w) old new o) (sym whole) (took_both (opening from) q.bytes chunk s t old mid new (Err o) q.reached k m.0)
 
 -- nothing is left of it
-pub ends : (input : List ℕ) (before after : Option (List ℕ)) (s : Script) (old mid new : Option (List ℕ)) (o : Outcome) → Consumes before after [] → IsAtEnd after → Progress input before s old mid → ((p : Position) → IsAt s p → Answers (rest_of p []) mid new o) → Answers (script input) old new o
-ends input before after s old mid new o c e q k =
+pub ends : (from : State) (input : List ℕ) (before after : Option (List ℕ)) (s : Script) (old mid new : Option (List ℕ)) (o : Outcome) → Consumes before after [] → IsAtEnd after → Progress from input before s old mid → ((p : Position) → IsAt s p → Answers (rest_of p []) mid new o) → Answers (runs_from from input) old new o
+ends from input before after s old mid new o c e q k =
     let m = consumed before after [] q.left q.remains c in
     let none : m.0 ≡ [] = subst IsAtEnd m.1 e in
     let whole : input ≡ q.bytes ++ [] = q.parts ∙ ap (λ (w : List ℕ). q.bytes ++ w) (m.2 ∙ none) in
-    subst (λ (r : Run). Answers r old new o) (sym (ap (rest_of opening) whole ∙ q.reached.goes []))
+    subst (λ (r : Run). Answers r old new o) (sym (ap (rest_of (opening from)) whole ∙ q.reached.goes []))
     (answers_after q.reached.text (rest_of q.reached.to []) old mid new o q.reached.appended (k q.reached.to q.reached.at))
 
 pub for_known : (known : Option (List ℕ)) (P : List ℕ → Type 0) → ((input : List ℕ) → known ≡ Some input → P input) → IfSome known P
@@ -326,3 +327,8 @@ pub read_none : {E : Type 0} (old new : Option (List ℕ)) (r : Result ℕ E) (n
 read_none old new r n buf e z some h =
     let k = subst (λ w. ReadConsumes old new w buf) (e ∙ ap (λ (m : ℕ). Ok m) z) h in
     (k.0, k.1 refl some)
+
+-- what was written is flushed
+pub flushed : (p : Position) (bytes front : List ℕ) (s : Script) (old mid new : Option (List ℕ)) → Reaches p front s old mid → front ≡ bytes → Keeps mid new → Reaches p bytes s old new
+flushed p bytes front s old mid new r e k =
+    subst (λ (w : List ℕ). Reaches p w s old new) e (record { to = r.to; text = r.text; at = r.at; goes = r.goes; appended = keeps_appended old mid new r.text k r.appended })

@@ -1,12 +1,13 @@
 -- What running a script answers and writes, and where a run stands whose script has come in part.
 use Rattle.std.specs.Prelude.{◌≡◌, ◌≤◌, ℕ, ◌==◌, false, nat_lt, if◌then◌else◌, List, [], ◌++◌, length, All, Option, None, Some, Result, Ok, Err}
 use Rattle.std.specs.Io.KnownBytes.{Appends}
-use Rattle.script_core.specs.declared.command.Reason.{Reason}
 use Rattle.script_core.specs.declared.script.Outcome.{Outcome}
 use Rattle.script_core.specs.declared.script.Outcome.TheVariants.{Ran, BadLine, OutOfMemory, Failed}
 use Rattle.script_core.specs.declared.script.Script.{Script}
-use Rattle.script_core.specs.Script.{State, fresh_state, Run, Whole, AtBadLine, lines_of, runs_lines, script, prints}
-use Rattle.script_core.specs.Sessions.{StandsFor}
+use Rattle.script_core.specs.Script.{Run, Whole, AtBadLine, lines_of, runs_from, runs_lines, prints}
+use Rattle.script_lines.specs.declared.reason.Reason.{Reason}
+use Rattle.script_session.specs.Session.{State}
+use Rattle.script_session.specs.Stands.{IsState}
 
 -- the exit status of the program
 abbrev pub status_of : Outcome → ℕ
@@ -41,15 +42,15 @@ pub record Position : Type 0 where
   pub state : State
   pub pending : List ℕ
 
-abbrev pub opening : Position
-opening = record { number = 1; state = fresh_state; pending = [] }
+abbrev pub opening : State → Position
+opening state = record { number = 1; state = state; pending = [] }
 
 -- the run of what is still to come
 abbrev pub rest_of : Position → List ℕ → Run
 rest_of p bytes = runs_lines p.number p.state (lines_of (p.pending ++ bytes))
 
 pub record IsAt (s : Script) (p : Position) : Type 0 where
-  pub session : StandsFor s.session p.state
+  pub session : IsState s.session p.state
   pub pending : s.pending.items ≡ p.pending
   pub number : s.number ≡ p.number
   pub one_line : All (λ c. (c == 10) ≡ false) p.pending
@@ -69,14 +70,14 @@ Took p bytes s old new (Ok x) = Reaches p bytes s old new
 Took p bytes s old new (Err outcome) = (rest : List ℕ) → Answers (rest_of p (bytes ++ rest)) old new outcome
 
 -- what has been read of the input was taken
-pub record Progress (input : List ℕ) (remaining : Option (List ℕ)) (s : Script) (old new : Option (List ℕ)) : Type 0 where
+pub record Progress (from : State) (input : List ℕ) (remaining : Option (List ℕ)) (s : Script) (old new : Option (List ℕ)) : Type 0 where
   pub bytes : List ℕ
   pub left : List ℕ
   pub remains : remaining ≡ Some left
   pub parts : input ≡ bytes ++ left
-  pub reached : Reaches opening bytes s old new
+  pub reached : Reaches (opening from) bytes s old new
 
 -- more has been taken, or the script has ended
-abbrev pub GoesOn : List ℕ → Option (List ℕ) → Script → Option (List ℕ) → Option (List ℕ) → Option Outcome → Type 0
-GoesOn input remaining s old new None = Progress input remaining s old new
-GoesOn input remaining s old new (Some outcome) = Answers (script input) old new outcome
+abbrev pub GoesOn : State → List ℕ → Option (List ℕ) → Script → Option (List ℕ) → Option (List ℕ) → Option Outcome → Type 0
+GoesOn from input remaining s old new None = Progress from input remaining s old new
+GoesOn from input remaining s old new (Some outcome) = Answers (runs_from from input) old new outcome

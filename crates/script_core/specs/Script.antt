@@ -1,50 +1,8 @@
--- A whole script: what it prints, how it ends, and the pair at its end.
-use Rattle.std.specs.Prelude.{ℕ, ◌+◌, ◌==◌, Bool, true, false, List, [], ◌∷◌, ◌++◌, length, Option, None, Some, Result, Ok, Err, is_some, nat_lt, if◌then◌else◌}
+-- A whole script: what it prints, how it ends, and the state at its end.
+use Rattle.std.specs.Prelude.{ℕ, ◌+◌, ◌==◌, Bool, List, [], ◌∷◌, ◌++◌, length, Result, Ok, Err, nat_lt, if◌then◌else◌}
 use Rattle.std.specs.List.{slice_split}
-use Rattle.erl_term.specs.declared.refusal.Refusal.TheVariants.{NothingThere}
-use Rattle.link_core.specs.Pair.{Pair, start}
-use Rattle.script_core.specs.declared.command.Command.{Command}
-use Rattle.script_core.specs.declared.command.Command.TheVariants as command
-use Rattle.script_core.specs.declared.command.Reason.{Reason}
-use Rattle.script_core.specs.Lines.{line_says}
-use Rattle.script_core.specs.Texts.{refused_text}
-use Rattle.script_core.specs.Session.{Reply, runs_command}
-
--- whether a command came already, and the pair that the script made
-pub record State : Type 0 where
-  pub started : Bool
-  pub pair : Option Pair
-
-abbrev pub fresh_state : State
-fresh_state = record { started = false; pair = None }
-
--- the state after a line, and what the line prints
-pub record Step : Type 0 where
-  pub state : State
-  pub text : List ℕ
-
-abbrev pub paired : Reply → Step
-paired reply = record { state = record { started = true; pair = Some reply.pair }; text = reply.text }
-
--- with no pair there is no trunk, and nothing has a name
-abbrev pub unpaired : Command → Step
-unpaired command.Pair = paired (record { pair = start; text = [] })
-unpaired (command.Link x y) = record { state = record { started = true; pair = None }; text = refused_text NothingThere }
-unpaired (command.Unlink x y) = record { state = record { started = true; pair = None }; text = refused_text NothingThere }
-unpaired (command.Deliver x y) = record { state = record { started = true; pair = None }; text = refused_text NothingThere }
-unpaired (command.Ends x y) = record { state = record { started = true; pair = None }; text = refused_text NothingThere }
-
-abbrev pub command_does : Command → Option Pair → Step
-command_does c None = unpaired c
-command_does c (Some w) = paired (runs_command c w)
-
-abbrev pub says_does : State → Result (Option Command) Reason → Result Step Reason
-says_does state (Ok None) = Ok (record { state = state; text = [] })
-says_does state (Ok (Some c)) = Ok (command_does c state.pair)
-says_does state (Err reason) = Err reason
-
-abbrev pub line_does : State → List ℕ → Result Step Reason
-line_does state line = says_does state (line_says state.started (is_some state.pair) line)
+use Rattle.script_lines.specs.declared.reason.Reason.{Reason}
+use Rattle.script_session.specs.Session.{State, Step, fresh_state, line_does}
 
 -- the parts between line breaks are lines, but for an empty last part
 abbrev pub without_empty_last : List (List ℕ) → List (List ℕ)
@@ -84,5 +42,9 @@ runs_lines number state (line ∷ lines) =
     if nat_lt 1048576 number then stops TooManyLines state
     else runs_step number state (line_does state line) (λ after. runs_lines (number + 1) after lines)
 
-abbrev pub script : List ℕ → Run
-script input = runs_lines 1 fresh_state (lines_of input)
+abbrev pub runs_from : State → List ℕ → Run
+runs_from state input = runs_lines 1 state (lines_of input)
+
+-- from the first line, under the options
+abbrev pub script : (trace : Bool) → (seed : ℕ) → List ℕ → Run
+script trace seed input = runs_from (fresh_state trace seed) input

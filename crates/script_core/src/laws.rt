@@ -1,35 +1,24 @@
 //! Laws of the definitions. Each function does nothing: its contract is the law.
 
-ghost use Rattle.std.specs.Prelude.{◌≡◌, ◌↔◌, List, ℕ, Some};
-ghost use Rattle.link_core.specs.declared.end.End.TheVariants as End;
-ghost use Rattle.link_core.specs.declared.end.LinkSignal.{LinkSignal};
-ghost use Rattle.link_core.specs.Pair.{Event, Pair, run, start};
-ghost use Rattle.link_core.specs.Claims.{Agree, IsAtRest};
-ghost use Rattle.erl_control.specs.declared.signal.Item.{Item};
-ghost use Rattle.erl_control.specs.Frame.{IsFramed};
-ghost use Rattle.script_core.specs.declared.node.Node.{Node};
-ghost use Rattle.script_core.specs.Wire.{frame_bytes, signal_from, IsSent};
+ghost use Rattle.std.specs.Prelude.{List, ℕ, Bool, []};
+ghost use Rattle.dist_model.specs.Histories.{told};
+ghost use Rattle.dist_model.specs.Names.{Name};
+ghost use Rattle.dist_model.specs.Runs.{Runs, opening};
+ghost use Rattle.dist_model.specs.Safety.{Safe};
+ghost use Rattle.dist_model.specs.World.{Event, Report};
 ghost use Rattle.script_core.specs.Script.{script};
 
-use erl_control::canonical_is_framed;
-use link_core::{run_goes_on, two_processes};
+use dist_model::every_run_is_safe;
+use script_session::events_lead_to_every_line;
 
-/// Whatever the script, the pair at its end is one that two processes come to, whatever they do:
-/// both ends agree once all has come, and where nothing travels both are linked or neither is. A
-/// beginning of a script is a script, so this holds after each of its lines.
+/// Whatever the script, the world at its end is one to which some events lead from an opening world,
+/// and the run that leads to it is safe: agreement, pending, no link to the dead, reactions, monitors
+/// and one trunk. A beginning of a script is a script, so this holds after each of its lines.
 pub fn every_script()
-    ensures run { (input : List ℕ) (w : Pair) → (script input).state.pair ≡ Some w → (events : List Event) × (w ≡ run events start) }
-    ensures agreement { (input : List ℕ) (w : Pair) → (script input).state.pair ≡ Some w → Agree w.here w.there }
-    ensures rest { (input : List ℕ) (w : Pair) → (script input).state.pair ≡ Some w → IsAtRest w → ((w.here.end ≡ End.Active) ↔ (w.there.end ≡ End.Active)) }
+    ensures safe { (trace : Bool) (seed : ℕ) (input : List ℕ) → let world = (script trace seed input).state.stage.world in
+        (nodes : List (Name × List ℕ)) × (events : List Event) × (reports : List Report) ×
+        Runs (opening nodes) events reports world × Safe (told events reports []) world }
 {
-    run_goes_on();
-    two_processes();
-}
-
-/// The bytes that travel for a link signal are a frame of that signal, from the one process to the
-/// other.
-pub fn framed_signals()
-    ensures { (node : Node) (signal : LinkSignal) → IsSent signal → IsFramed (Item.Signal (signal_from node signal)) (frame_bytes node signal) }
-{
-    canonical_is_framed();
+    every_run_is_safe();
+    events_lead_to_every_line();
 }

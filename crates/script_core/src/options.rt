@@ -1,11 +1,10 @@
+//! The command line.
 use clap::{Arg, ArgAction, Command, Error};
 use std::alloc::Global;
 
 /// What the command line asks for.
 #[derive(Clone, Copy, Debug, PartialEq, Eq)]
 pub struct Options {
-    /// Whether each node is a thread of its own. No version has node threads yet.
-    pub threads: bool,
     /// Whether each frame that is sent is printed. A script of a pair prints them in any case.
     pub trace: bool,
     /// The first challenge word of the handshakes, 0 to 4,294,967,295; 1 where none is given.
@@ -14,14 +13,45 @@ pub struct Options {
 
 const ABOUT: &str = "Erlang nodes in one process, driven by a script on standard input";
 
+const VERSION: &str = "0.1";
+
+const COMMANDS: &str = "\
+Commands of a script, one a line:
+  node NAME COOKIE   a node; node lines come before all other commands
+  pair               two nodes with a process each, p and q, connected; the first command of all
+  spawn NODE name    a process, under this name from then on
+  send p q TERM      a message to q
+  link p q           p links to q
+  unlink p q         p takes its link to q back
+  monitor p q name   p monitors q; the name is that of the reference
+  demonitor p name   p takes the monitor back
+  trap p on|off      p traps exits, or ceases to
+  exit p q TERM      p asks q to end, as by exit/2
+  die p TERM         p ends, as by exit/1
+  receive p          the oldest message of p
+  links p            the links of p
+  alive p            whether p is living
+  ends p q           how p and q hold their links to one another
+  dial NODE PEER     NODE dials PEER
+  route NODE PEER    the connection of NODE to PEER that is up
+  lose NODE PEER     NODE notices that its connection to PEER is lost
+  cut NODE PEER      both do
+  stop NODE          the node stops
+  start NODE         it starts again, in its next incarnation
+  deliver NODE PEER  what comes next from PEER comes to NODE
+  local NODE         what comes next from NODE to itself comes
+  sweep NODE         one record of a lost connection is swept
+  settle             all of this happens, until nothing more may
+  show               the nodes, their processes and the messages that wait
+
+Exit status: 0 the script ran; 2 wrong command line; 3 bad line; 4 no memory; 6 reading or writing
+failed, or the script has more than 1,048,576 lines. docs/SCRIPTS.md tells the whole.";
+
 /// Reads the words of a command line, of which the first is the program's name.
 ///
-/// An error has the text for the user: help that was asked for, or what is wrong with the words.
+/// An error has the text for the user: help or the version that was asked for, or what is wrong with the
+/// words.
 pub fn read_options<'a>(alloc: Global, words: &'a [String]) -> Result<Options, Error> {
-    let threads = Arg::new(alloc, "threads")
-        .long("threads")
-        .help("Run each node as a thread of its own")
-        .action(ArgAction::SetTrue);
     let trace = Arg::new(alloc, "trace")
         .long("trace")
         .help("Print each frame that is sent, in hex")
@@ -34,12 +64,12 @@ pub fn read_options<'a>(alloc: Global, words: &'a [String]) -> Result<Options, E
         .value_parser(clap::value_parser!(u32));
     let command = Command::new(alloc, "erldist")
         .about(ABOUT)
-        .arg(threads)?
+        .version(VERSION)
+        .after_help(COMMANDS)
         .arg(trace)?
         .arg(seed)?;
     let matches = command.try_get_matches_from(words)?;
     Ok(Options {
-        threads: matches.get_flag("threads"),
         trace: matches.get_flag("trace"),
         seed: matches.get_one::<u32>("seed").unwrap_or(1),
     })

@@ -4,12 +4,12 @@ ghost use Rattle.std.specs.Prelude.{◌≡◌, ◌≤◌, [], ◌∷◌, length,
 ghost use Rattle.std.specs.Io.KnownBytes.{Appends};
 ghost use Rattle.script_core.specs.declared.script.Outcome.{Outcome};
 ghost use Rattle.script_core.specs.Script.{script};
+ghost use Rattle.script_session.specs.Session.{State, fresh_state};
 ghost use Rattle.script_core.specs.Outcomes.{status_of, fault_at, Answers, Position, opening, rest_of, IsAt, Took, Progress, GoesOn, AppendsFront};
 
-use crate::command::Reason;
-use crate::line::LINE_LIMIT;
 use crate::options::Options;
-use crate::session::{Session, Stop};
+use script_lines::{LINE_LIMIT, Reason};
+use script_session::{Session, Stop};
 use std::alloc::Global;
 use std::io::{ErrorKind, Read, Write};
 
@@ -43,32 +43,42 @@ impl Outcome {
     }
 }
 
-/// Runs the script that the reader gives, and writes what it prints.
+/// Runs the script that the reader gives, and writes what it prints. What it prints, and how it ends,
+/// is a function of its bytes and the options: see `specs/Script.antt`.
 ///
 /// What is written is flushed whenever the reader has given all that it has at hand. After a bad
 /// line, and where memory, reading or writing fails, nothing more is read or written: what was
-/// written is the beginning of what the script prints.
+/// written is the beginning of what the script prints. What is wrong with a bad line is put behind the
+/// advice, and the remedy where there is an obvious one, as far as there is memory for it.
 pub fn run_script<R: Read, W: Write>(
     alloc: Global,
     reader: &mut R,
     writer: &mut W,
-    _options: &Options,
+    options: &Options,
+    advice: &mut String,
 ) -> Outcome
-    ensures { IfSome (R.remaining reader.old) (λ input. Answers (script input) (W.contents writer.old) (W.contents writer.new) result) }
+    ensures { IfSome (R.remaining reader.old) (λ input. Answers (script options.now.trace options.now.seed input) (W.contents writer.old) (W.contents writer.new) result) }
 {
-    let outcome = run_to_end(alloc, reader, writer);
+    let outcome = run_to_end(alloc, reader, writer, options, advice);
     if outcome == Outcome::Failed || writer.flush().is_ok() {
         return outcome;
     }
     Outcome::Failed
 }
 
-fn run_to_end<R: Read, W: Write>(alloc: Global, reader: &mut R, writer: &mut W) -> Outcome
-    ensures { IfSome (R.remaining reader.old) (λ input. Answers (script input) (W.contents writer.old) (W.contents writer.new) result) }
+fn run_to_end<R: Read, W: Write>(
+    alloc: Global,
+    reader: &mut R,
+    writer: &mut W,
+    options: &Options,
+    advice: &mut String,
+) -> Outcome
+    ensures { IfSome (R.remaining reader.old) (λ input. Answers (script options.now.trace options.now.seed input) (W.contents writer.old) (W.contents writer.new) result) }
 {
-    let mut script = Script::new(alloc);
+    let mut script = Script::new(alloc, options);
     for _ in 0..u64::MAX {
         if let Some(outcome) = script.read_on(alloc, reader, writer) {
+            script.advise(alloc, outcome, advice);
             return outcome;
         }
     }
@@ -86,13 +96,22 @@ struct Script {
 }
 
 impl Script {
-    fn new(alloc: Global) -> Script
-        ensures { IsAt result opening }
+    fn new(alloc: Global, options: &Options) -> Script
+        ensures { IsAt result (opening (fresh_state options.now.trace options.now.seed)) }
     {
         Script {
-            session: Session::new(alloc),
+            session: Session::new(alloc, options.trace, options.seed),
             pending: Vec::new(alloc),
             number: 1,
+        }
+    }
+
+    /// What is wrong with the line at which it ended, if it is a bad one.
+    fn advise(&self, alloc: Global, outcome: Outcome, advice: &mut String) {
+        if let Outcome::BadLine(_, reason) = outcome {
+            let _ = self
+                .session
+                .put_advice(alloc, advice, reason, &self.pending);
         }
     }
 
@@ -103,8 +122,8 @@ impl Script {
         reader: &mut R,
         writer: &mut W,
     ) -> Option<Outcome>
-        ensures { (input : List ℕ) (held : Option (List ℕ)) → Progress input (R.remaining reader.old) self.old held (W.contents writer.old)
-            → GoesOn input (R.remaining reader.new) self.new held (W.contents writer.new) result }
+        ensures { (from : State) (input : List ℕ) (held : Option (List ℕ)) → Progress from input (R.remaining reader.old) self.old held (W.contents writer.old)
+            → GoesOn from input (R.remaining reader.new) self.new held (W.contents writer.new) result }
     {
         let mut chunk = [0u8; 4096];
         match reader.read(&mut chunk) {

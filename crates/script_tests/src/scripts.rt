@@ -5,7 +5,6 @@ use std::io::{self, ErrorKind, Read, Write};
 use std::test::*;
 
 const OPTIONS: Options = Options {
-    threads: false,
     trace: false,
     seed: 1,
 };
@@ -30,13 +29,19 @@ fn is_printed(printed: &[u8], wanted: &str) -> bool {
 fn runs(alloc: Global, script: &[u8], wanted: &str, outcome: Outcome) -> bool {
     let mut reader = script;
     let mut printed = Vec::new(alloc);
-    let ended = run_script(alloc, &mut reader, &mut printed, &OPTIONS);
+    let ended = run_script(
+        alloc,
+        &mut reader,
+        &mut printed,
+        &OPTIONS,
+        &mut String::new(alloc),
+    );
     ended == outcome && is_printed(&printed, wanted)
 }
 
 const NOTHING_THERE: &str = "refused 19 NothingThere\n";
 
-const SCRIPTS: [(&str, &str); 12] = [
+const SCRIPTS: [(&str, &str); 13] = [
     ("", ""),
     ("\n\n# pair\n  #pair\n   \n#", ""),
     ("pair\n", ""),
@@ -64,6 +69,10 @@ const SCRIPTS: [(&str, &str); 12] = [
         "pair\nlink p q\ndeliver b@h a@h\nunlink p q\nlink p q\nunlink p q\ndeliver b@h a@h\ndeliver a@h b@h\nends p q\ndeliver b@h a@h\ndeliver b@h a@h\nends p q\ndeliver a@h b@h\nends q p\n",
         "done\ntook link\ndone\ndone\ndone\ntook unlink\ntook unlink_ack\nends pending:2 none\ntook link\ntook unlink\nends pending:2 none\ntook unlink_ack\nends none none\n",
     ),
+    (
+        "pair\nlink p q\ndeliver b@h a@h\nunlink p q\nlink p q\nunlink p q\ndeliver b@h a@h\nlink q p\ndeliver b@h a@h\ndeliver b@h a@h\ndeliver a@h b@h\nends p q\ndeliver a@h b@h\ndeliver a@h b@h\nends p q\n",
+        "done\ntook link\ndone\ndone\ndone\ntook unlink\ndone\ntook link\ntook unlink\ntook unlink_ack\nends pending:2 none\ntook link\ntook unlink_ack\nends none none\n",
+    ),
 ];
 
 #[test]
@@ -88,7 +97,13 @@ const ITS_OUTPUT: &str =
 fn printed_front(alloc: Global) -> (Outcome, Option<usize>) {
     let mut reader = WHOLE;
     let mut printed = Vec::new(alloc);
-    let outcome = run_script(alloc, &mut reader, &mut printed, &OPTIONS);
+    let outcome = run_script(
+        alloc,
+        &mut reader,
+        &mut printed,
+        &OPTIONS,
+        &mut String::new(alloc),
+    );
     let is_front = ITS_OUTPUT.as_bytes().starts_with(&printed);
     (outcome, is_front.then_some(printed.len()))
 }
@@ -110,7 +125,7 @@ fn script_allocations(rt: HostRuntime) -> Result<(), Fail> {
     }
 }
 
-const BAD_LINES: [(&[u8], Reason); 29] = [
+const BAD_LINES: [(&[u8], Reason); 35] = [
     (b"\xFF", Reason::NotText),
     (b"ends p \xFF", Reason::NotText),
     (b"# \xC3\x28", Reason::NotText),
@@ -134,8 +149,14 @@ const BAD_LINES: [(&[u8], Reason); 29] = [
     (b"link r 1", Reason::BadName),
     (b"unlink _p q", Reason::BadName),
     (b"unlink p \xC3\xA4", Reason::BadName),
-    (b"deliver a@h c@h", Reason::BadName),
+    (b"deliver a@h h", Reason::BadName),
     (b"deliver p q", Reason::BadName),
+    (b"node c@h c", Reason::WrongWords),
+    (b"spawn a@h p", Reason::NameTaken),
+    (b"monitor p q p", Reason::NameTaken),
+    (b"send p q {", Reason::BadTerm),
+    (b"send p q $r", Reason::UnknownName),
+    (b"trap p maybe", Reason::WrongWords),
     (b"link p r", Reason::UnknownName),
     (b"unlink r q", Reason::UnknownName),
     (b"ends q_1 p", Reason::UnknownName),
@@ -258,7 +279,13 @@ fn halts(alloc: Global, halt: u64, kind: ErrorKind, outcome: Outcome, wanted: &s
         kind,
     };
     let mut printed = Vec::new(alloc);
-    let ended = run_script(alloc, &mut reader, &mut printed, &OPTIONS);
+    let ended = run_script(
+        alloc,
+        &mut reader,
+        &mut printed,
+        &OPTIONS,
+        &mut String::new(alloc),
+    );
     ended == outcome && printed.as_slice() == wanted.as_bytes()
 }
 
@@ -314,7 +341,13 @@ fn fills(alloc: Global, writes: u64, flushes: u64, outcome: Outcome, wanted: &st
         writes,
         flushes,
     };
-    let ended = run_script(alloc, &mut script, &mut writer, &OPTIONS);
+    let ended = run_script(
+        alloc,
+        &mut script,
+        &mut writer,
+        &OPTIONS,
+        &mut String::new(alloc),
+    );
     ended == outcome && writer.taken.as_slice() == wanted.as_bytes()
 }
 
@@ -357,33 +390,30 @@ fn options(alloc: Global, words: &[&str]) -> Result<Result<Options, i32>, AllocE
     Ok(read_options(alloc, given.as_slice()).map_err(|error| error.exit_code()))
 }
 
-/// Command lines, and what they ask for: threads, the trace, and the seed.
-const GOOD_WORDS: [(&[&str], bool, bool, u32); 5] = [
-    (&[], false, false, 1),
-    (&["--seed", "7"], false, false, 7),
-    (&["--seed=4294967295"], false, false, 4_294_967_295),
-    (&["--trace", "--seed", "0"], false, true, 0),
-    (&["--threads"], true, false, 1),
+/// Command lines, and what they ask for: the trace, and the seed.
+const GOOD_WORDS: [(&[&str], bool, u32); 4] = [
+    (&[], false, 1),
+    (&["--seed", "7"], false, 7),
+    (&["--seed=4294967295"], false, 4_294_967_295),
+    (&["--trace", "--seed", "0"], true, 0),
 ];
 
 /// Others, and the status that they are refused with.
-const OTHER_WORDS: [(&[&str], i32); 6] = [
+const OTHER_WORDS: [(&[&str], i32); 8] = [
     (&["--seed", "4294967296"], 2),
     (&["--seed", "-1"], 2),
     (&["--seed"], 2),
     (&["script"], 2),
     (&["--fast"], 2),
+    (&["--threads"], 2),
     (&["--help"], 0),
+    (&["--version"], 0),
 ];
 
 #[test]
 fn command_lines(rt: HostRuntime) -> Result<(), Fail> {
-    for (words, threads, trace, seed) in GOOD_WORDS {
-        let wanted = Options {
-            threads,
-            trace,
-            seed,
-        };
+    for (words, trace, seed) in GOOD_WORDS {
+        let wanted = Options { trace, seed };
         assert_eq!(rt; options(rt.alloc(), words)?, Ok(wanted), "seed {seed}");
     }
     for (row, (words, status)) in OTHER_WORDS.iter().enumerate() {

@@ -1,19 +1,12 @@
-use Rattle.std.proofs.Common.{◌≡◌, ◌↔◌, subst, sym}
-use Rattle.link_core.specs.declared.end.End.TheVariants as End
-use Rattle.link_core.specs.Pair.{Pair}
-use Rattle.link_core.specs.Claims.{Agree, IsAtRest}
-use Rattle.script_core.proofs.RunLemmas.{script_runs}
+use Rattle.script_core.proofs.RunLemmas.{script_led}
+use Rattle.script_core.specs.Script.{script}
 use Rattle.script_core.proofs.laws.every_script.Goals as goal
 
-pub returns-clause-run : goal.returns-clause-run
-returns-clause-run c = λ input w e. script_runs c.run_goes_on.ensures input w e
-
-pub returns-clause-agreement : goal.returns-clause-agreement
-returns-clause-agreement c = λ input w e.
-    let r = script_runs c.run_goes_on.ensures input w e in
-    subst (λ (v : Pair). Agree v.here v.there) (sym r.1) (c.two_processes.ensures.agreement r.0)
-
-pub returns-clause-rest : goal.returns-clause-rest
-returns-clause-rest c = λ input w e.
-    let r = script_runs c.run_goes_on.ensures input w e in
-    subst (λ (v : Pair). IsAtRest v → ((v.here.end ≡ End.Active) ↔ (v.there.end ≡ End.Active))) (sym r.1) (c.two_processes.ensures.rest r.0)
+pub returns : goal.returns
+returns c =
+    record {
+      safe = λ trace seed input.
+          let led = script_led c.events_lead_to_every_line.ensures.fresh c.events_lead_to_every_line.ensures.line trace seed input in
+          let r = led.reached in
+          (r.nodes, r.events, r.reports, r.runs, c.every_run_is_safe.ensures.safe r.nodes r.events r.reports (script trace seed input).state.stage.world r.runs);
+    }

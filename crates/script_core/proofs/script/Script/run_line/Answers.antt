@@ -4,7 +4,8 @@ use Rattle.std.proofs.lemmas.Result.{err_from_is_err_and}
 use Rattle.std.specs.Io.KnownBytes.{Appends}
 use Rattle.script_core.specs.declared.script.Outcome.{Outcome}
 use Rattle.script_core.specs.declared.script.Outcome.TheVariants.{BadLine}
-use Rattle.script_core.specs.Script.{Run, line_does}
+use Rattle.script_core.specs.Script.{Run}
+use Rattle.script_session.specs.Session.{line_does}
 use Rattle.script_core.specs.Outcomes.{Answers, AppendsFront, rest_of}
 use Rattle.script_core.proofs.ScriptLemmas.{bad_line, fault_within, one_line, obeys_bad, obeys_ok, front_more}
 use Rattle.script_core.proofs.script.Script.run_line.Goals as goal
@@ -29,7 +30,7 @@ returns-clause-took g c = λ p at.
       to = record { number = p.number + 1; state = st.step.state; pending = [] };
       text = st.step.text;
       at = record {
-        session = st.session_is;
+        session = st.state;
         pending = c.clear.ensures.items;
         number = ap (λ (n : ℕ). n + 1) at.number;
         one_line = All-nil _;

@@ -1,8 +1,8 @@
-use Rattle.std.proofs.Common.{◌≡◌, ℕ, ◌+◌, List, [], ◌∷◌, ◌++◌, take, drop, Err, get_or, sym, ap, subst, ◌∙◌}
+use Rattle.std.proofs.Common.{◌≡◌, arith, rules, take_all, ℕ, ◌+◌, List, [], ◌∷◌, ◌++◌, take, drop, Err, get_or, sym, ap, subst, ◌∙◌}
 use Rattle.std.proofs.lemmas.List.{take-append-drop, take_more}
 use Rattle.std.proofs.lemmas.Result.{err_from_is_err_and}
 use Rattle.script_core.specs.Outcomes.{Took, Reaches}
-use Rattle.script_core.proofs.ScriptLemmas.{reaches_none, took_both, took_front}
+use Rattle.script_core.proofs.ScriptLemmas.{flushed, reaches_none, took_both, took_front}
 use Rattle.script_core.proofs.script.Script.take.Goals as goal
 
 pub loop-byte-init : goal.loop-byte-init
@@ -33,3 +33,10 @@ loop-byte-preserved g c = λ p at.
     let both = took_both p (take i bytes) (get_or bytes i 0 ∷ []) c.loop-byte.self c.take_byte.new.self old mid new c.take_byte.result (c.loop-byte.invariant p at) c.take_byte.ensures in
     let done : Reaches p (take i bytes ++ get_or bytes i 0 ∷ []) c.take_byte.new.self old new = subst (Took p (take i bytes ++ get_or bytes i 0 ∷ []) c.take_byte.new.self old new) c.in_ok-take_byte.was both in
     subst (λ (w : List ℕ). Reaches p w c.take_byte.new.self old new) (sym (take_more bytes i 0 c.loop-byte-test.true)) done
+
+pub returns-in-Ok : goal.returns-in-Ok
+returns-in-Ok g c = λ p at.
+    let bytes = c.args.bytes.now in
+    let i = c.loop-byte.byte-index in
+    let whole : take i bytes ≡ bytes = take_all i bytes (search (arith, rules)) in
+    flushed p bytes (take i bytes) c.loop-byte.self (g.W.Write.contents c.args.writer.now) (g.W.Write.contents c.loop-byte.writer) (g.W.Write.contents c.flush.new.self) (c.loop-byte.invariant p at) whole c.flush.ensures.bytes

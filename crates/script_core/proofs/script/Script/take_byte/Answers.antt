@@ -1,6 +1,6 @@
 use Rattle.std.proofs.Common.{◌≤◌, ℕ, List, [], ◌∷◌, ◌++◌, length, sym, ap, subst, ◌∙◌, arith}
 use Rattle.std.proofs.lemmas.List.{length-append}
-use Rattle.script_core.specs.declared.command.Reason.TheVariants.{TooLong}
+use Rattle.script_lines.specs.declared.reason.Reason.TheVariants.{TooLong}
 use Rattle.script_core.specs.declared.script.Outcome.{Outcome}
 use Rattle.script_core.specs.Outcomes.{Answers, rest_of, fault_at}
 use Rattle.script_core.proofs.ScriptLemmas.{appends_nothing, long_byte, not_break, one_more, one_byte}

@@ -1,0 +1,105 @@
+-- Commands about the connections of two nodes. A node has to be known, and up.
+-- (ERTS User's Guide, Distribution Protocol; Reference Manual, Distributed Erlang.)
+use Rattle.std.specs.Prelude.{Option, None, Some, is_some, ℕ, Bool, ◌||◌, if◌then◌else◌, List, Result, Ok, Err}
+use Rattle.std.specs.FinMap as fm
+use Rattle.std.specs.Option.{option_map}
+use Rattle.dist_model.specs.Names.{Name}
+use Rattle.dist_model.specs.Node.{Node, route, side_where}
+use Rattle.dist_model.specs.Sides.{State, is_dialing, is_up, is_waiting}
+use Rattle.dist_model.specs.World.{Arrive, Lose, World, node_of}
+use Rattle.erl_names.specs.declared.trunk.TrunkId.{TrunkId}
+use Rattle.erl_term.specs.declared.refusal.Refusal.{Refusal}
+use Rattle.script_session.specs.Stage.{Scene, Stage, after, happens, says}
+use Rattle.script_session.specs.declared.connections.Live.{Live}
+use Rattle.script_texts.specs.Texts.{done_text, refused_text, route_text}
+use Rattle.world_core.specs.Coming.{next_arrival}
+
+abbrev pub refuses : Refusal → Stage → Scene
+refuses why stage = says (refused_text why) stage
+
+-- ---- what comes from a peer
+
+abbrev pub or_nothing : Option TrunkId → Result TrunkId Refusal
+or_nothing None = Err Refusal.NothingThere
+or_nothing (Some trunk) = Ok trunk
+
+-- on which connection, or why nothing does
+abbrev pub coming_at : World → Option Node → (peer : Name) → Result TrunkId Refusal
+coming_at world None peer = Err Refusal.NothingThere
+coming_at world (Some node) peer = if node.up then or_nothing (next_arrival world node (Some peer)) else Err Refusal.NodeDown
+
+abbrev pub coming_to : World → (node peer : Name) → Result TrunkId Refusal
+coming_to world node peer = coming_at world (node_of world.nodes node) peer
+
+abbrev pub arrives : Result TrunkId Refusal → Name → Stage → Scene
+arrives (Err why) name stage = refuses why stage
+arrives (Ok trunk) name stage = happens (Arrive trunk name stage.word) stage
+
+abbrev pub delivers : (node peer : Name) → Stage → Scene
+delivers node peer stage = arrives (coming_to stage.world node peer) node stage
+
+-- ---- the connection that is up
+
+abbrev pub route_at : Option Node → (peer : Name) → Stage → Scene
+route_at None peer stage = refuses Refusal.NothingThere stage
+route_at (Some node) peer stage = if node.up then says (route_text (route node peer)) stage else refuses Refusal.NodeDown stage
+
+abbrev pub routes : (node peer : Name) → Stage → Scene
+routes node peer stage = route_at (node_of stage.world.nodes node) peer stage
+
+-- ---- a node loses its connection to a peer, and gives up its attempts at one. It has at most one of each kind
+
+abbrev pub side_on : (State → Bool) → Name → Node → Option TrunkId
+side_on test peer node = option_map (λ entry. entry.0) (side_where test peer (fm.entries node.sides))
+
+abbrev pub live_sides : Node → (peer : Name) → Live
+live_sides node peer = record { dialing = side_on is_dialing peer node; waiting = side_on is_waiting peer node; up = side_on is_up peer node }
+
+abbrev pub is_any : Live → Bool
+is_any live = is_some live.dialing || (is_some live.waiting || is_some live.up)
+
+-- a loss sends nothing
+abbrev pub lose_on : Name → Option TrunkId → Stage → Stage
+lose_on name None stage = stage
+lose_on name (Some trunk) stage = after stage (Lose trunk name)
+
+abbrev pub lose_all : Name → Live → Stage → Stage
+lose_all name live stage = lose_on name live.up (lose_on name live.waiting (lose_on name live.dialing stage))
+
+-- the stage afterwards, and why it was refused, if it was
+pub record Lost : Type 0 where
+  pub stage : Stage
+  pub refusal : Option Refusal
+
+abbrev pub unlost : Refusal → Stage → Lost
+unlost why stage = record { stage = stage; refusal = Some why }
+
+abbrev pub lose_live : Name → Live → Stage → Lost
+lose_live name live stage = if is_any live then record { stage = lose_all name live stage; refusal = None } else unlost Refusal.NotLive stage
+
+abbrev pub lose_at : Option Node → (name peer : Name) → Stage → Lost
+lose_at None name peer stage = unlost Refusal.NothingThere stage
+lose_at (Some node) name peer stage = if node.up then lose_live name (live_sides node peer) stage else unlost Refusal.NodeDown stage
+
+abbrev pub lose : (node peer : Name) → Stage → Lost
+lose node peer stage = lose_at (node_of stage.world.nodes node) node peer stage
+
+abbrev pub lost_text : Option Refusal → List ℕ
+lost_text None = done_text
+lost_text (Some why) = refused_text why
+
+abbrev pub loses : (node peer : Name) → Stage → Scene
+loses node peer stage = let lost = lose node peer stage in says (lost_text lost.refusal) lost.stage
+
+-- ---- at both nodes. Where both refuse it, the first says why
+
+abbrev pub both_text : Option Refusal → Option Refusal → List ℕ
+both_text None second = done_text
+both_text (Some why) None = done_text
+both_text (Some why) (Some other) = refused_text why
+
+abbrev pub cuts : (node peer : Name) → Stage → Scene
+cuts node peer stage =
+    let here = lose node peer stage in
+    let there = lose peer node here.stage in
+    says (both_text here.refusal there.refusal) there.stage

@@ -1,0 +1,39 @@
+-- The pair of a script: two nodes a@h and b@h, a process of each, and the connection that a@h dialed, which is up.
+use Rattle.std.specs.Prelude.{ℕ, true, List, [], ◌∷◌, codes}
+use Rattle.dist_model.specs.Names.{Name}
+use Rattle.dist_model.specs.Runs.{opening}
+use Rattle.dist_model.specs.World.{Arrive, Call, Dial, Event}
+use Rattle.dist_model.specs.declared.command.Command.{Command}
+use Rattle.erl_names.specs.declared.trunk.TrunkId.{TrunkId}
+use Rattle.erl_term.specs.declared.term.Pid.{Pid}
+use Rattle.script_session.specs.Stage.{Stage, play}
+use Rattle.script_terms.specs.Binding.{Look, with_name}
+use Rattle.script_terms.specs.declared.names.Named.TheVariants.{Process}
+
+abbrev pub first : Name
+first = codes "a@h"
+
+abbrev pub second : Name
+second = codes "b@h"
+
+abbrev pub pair_nodes : List (Name × List ℕ)
+pair_nodes = (first, codes "c") ∷ (second, codes "c") ∷ []
+
+abbrev pub trunk : TrunkId
+trunk = record { dialer = first; count = 1 }
+
+-- the name, the status, the challenge, its answer and the acknowledgement come
+abbrev pub pair_plays : List (ℕ → Event)
+pair_plays =
+    (λ word. Call first Command.Spawn) ∷ (λ word. Call second Command.Spawn)
+    ∷ Dial first second ∷ Arrive trunk second ∷ Arrive trunk first ∷ Arrive trunk first ∷ Arrive trunk second ∷ Arrive trunk first ∷ []
+
+-- from then on what is sent is printed
+abbrev pub pair_stage : ℕ → Stage
+pair_stage word = play pair_plays (record { world = opening pair_nodes; word = word; trace = true })
+
+abbrev pub first_process : Name → Pid
+first_process node = record { node = node; creation = 1; id = 1; serial = 0 }
+
+abbrev pub pair_names : Look → Look
+pair_names look = with_name (with_name look (codes "p") (Process (first_process first))) (codes "q") (Process (first_process second))

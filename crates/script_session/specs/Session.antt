@@ -1,0 +1,170 @@
+-- What each line of a script does, and what it prints.
+use Rattle.std.specs.Prelude.{Option, None, Some, ℕ, Bool, true, false, not, ◌==◌, ◌&&◌, nat_lt, if◌then◌else◌, List, [], ◌∷◌, ◌++◌, length, Result, Ok, Err}
+use Rattle.std.specs.Option.{option_or}
+use Rattle.dist_model.specs.Dialing.{has_name}
+use Rattle.dist_model.specs.Names.{Name}
+use Rattle.dist_model.specs.Runs.{new_node, opening}
+use Rattle.dist_model.specs.Seen.{end_between}
+use Rattle.dist_model.specs.World.{Call, Dial, Event, Local, Start, Stop, Sweep, World}
+use Rattle.dist_model.specs.declared.command.Command.{Command}
+use Rattle.dist_model.specs.declared.report.Answer.{Answer}
+use Rattle.erl_term.specs.Data.{Data, list, no_items}
+use Rattle.erl_term.specs.declared.term.Pid.{Pid}
+use Rattle.script_lines.specs.Lines.{line_says}
+use Rattle.script_lines.specs.Said.{Said}
+use Rattle.script_lines.specs.Said as says
+use Rattle.script_lines.specs.declared.reading.MayCome.{MayCome}
+use Rattle.script_lines.specs.declared.reason.Reason.{Reason}
+use Rattle.script_session.specs.Connections.{cuts, delivers, loses, routes}
+use Rattle.script_session.specs.Pairs.{pair_names, pair_stage}
+use Rattle.script_session.specs.Shown.{shown_world}
+use Rattle.script_session.specs.Stage.{Scene, Stage, happens}
+use Rattle.script_session.specs.Stage as stage
+use Rattle.script_session.specs.Turns.{settles}
+use Rattle.script_session.specs.declared.made.Made.{Made}
+use Rattle.script_terms.specs.Binding.{Look, with_name}
+use Rattle.script_terms.specs.Reading.{term_of}
+use Rattle.script_terms.specs.declared.fault.TermFault.{TermFault}
+use Rattle.script_texts.specs.Texts.{answer_text, ends_text}
+
+pub record State : Type 0 where
+  pub stage : Stage
+  -- what the names of the script stand for
+  pub names : Look
+  -- whether a command has come that no line for a node may follow
+  pub started : Bool
+
+abbrev pub fresh_state : (trace : Bool) → (word : ℕ) → State
+fresh_state trace word = record { stage = record { world = opening []; word = word; trace = trace }; names = λ name. None; started = false }
+
+-- ---- what a command makes of the stage, and what it prints
+
+-- a line's text is a term: else it is a bad line
+abbrev pub term_in : Result Data TermFault → Data
+term_in (Ok t) = t
+term_in (Err e) = list no_items
+
+abbrev pub read : Look → List ℕ → Data
+read look text = term_in (term_of look text)
+
+-- a node more, in its first incarnation
+abbrev pub joined : World → Name → (cookie : List ℕ) → World
+joined world name cookie = record { names = world.names ++ name ∷ []; nodes = world.nodes ++ new_node name cookie ∷ []; lists = world.lists }
+
+abbrev pub joins : Name → (cookie : List ℕ) → Stage → Scene
+joins name cookie it = record {
+  stage = record it { world = joined it.world name cookie };
+  text = answer_text name (Answer.Started 1);
+  made = Made.Nothing;
+}
+
+-- ---- what a line asks a node for, which is that of the first process
+
+-- a process acts on another
+abbrev pub asks_of_two : Look → Said → Option (Name × Command)
+asks_of_two look (says.Send from to term) = Some (from.node, Command.Send from to (read look term))
+asks_of_two look (says.Link from to) = Some (from.node, Command.Link from to)
+asks_of_two look (says.Unlink from to) = Some (from.node, Command.Unlink from to)
+asks_of_two look (says.Monitor owner target name) = Some (owner.node, Command.Monitor owner target)
+asks_of_two look (says.Exit from to term) = Some (from.node, Command.ExitTo from to (read look term))
+asks_of_two look _ = None
+
+-- it acts by itself, or is looked at
+abbrev pub asks_of_one : Look → Said → Option (Name × Command)
+asks_of_one look (says.Demonitor owner reference) = Some (owner.node, Command.Demonitor owner reference)
+asks_of_one look (says.Trap process on) = Some (process.node, Command.Trap process on)
+asks_of_one look (says.Die process term) = Some (process.node, Command.ExitSelf process (read look term))
+asks_of_one look (says.Receive process) = Some (process.node, Command.Receive process)
+asks_of_one look (says.Links process) = Some (process.node, Command.LinksOf process)
+asks_of_one look (says.Alive process) = Some (process.node, Command.IsAlive process)
+asks_of_one look _ = None
+
+abbrev pub asks : Look → Said → Option (Name × Command)
+asks look said = option_or (asks_of_two look said) (asks_of_one look said)
+
+-- ---- what the other lines do
+
+-- what brings a pair about isn't printed
+abbrev pub pairs : Stage → Scene
+pairs it = record { stage = pair_stage it.word; text = []; made = Made.Pair }
+
+abbrev pub holds : (p q : Pid) → Stage → Scene
+holds p q it = stage.says (ends_text (end_between it.world p q) (end_between it.world q p)) it
+
+abbrev pub shows : Stage → Scene
+shows it = stage.says (shown_world it.world) it
+
+abbrev pub moves : Said → Stage → Scene
+moves (says.Node name cookie) it = joins name cookie it
+moves says.Pair it = pairs it
+moves (says.Spawn node name) it = happens (Call node Command.Spawn) it
+moves (says.Ends p q) it = holds p q it
+moves (says.Dial node peer) it = happens (Dial node peer it.word) it
+moves (says.Route node peer) it = routes node peer it
+moves (says.Lose node peer) it = loses node peer it
+moves (says.Cut node peer) it = cuts node peer it
+moves (says.Stop node) it = happens (Stop node) it
+moves (says.Start node) it = happens (Start node) it
+moves (says.Deliver node peer) it = delivers node peer it
+moves (says.Local node) it = happens (Local node) it
+moves (says.Sweep node) it = happens (Sweep node) it
+moves says.Settle it = settles 1000000 it
+moves says.Show it = shows it
+moves _ it = stage.says [] it
+
+abbrev pub plays_as : Option (Name × Command) → Said → Stage → Scene
+plays_as None said it = moves said it
+plays_as (Some asked) said it = happens (Call asked.0 asked.1) it
+
+abbrev pub plays : Look → Said → Stage → Scene
+plays look said it = plays_as (asks look said) said it
+
+-- ---- what it binds names to
+
+-- the name that a line gives
+abbrev pub new_name : Said → List ℕ
+new_name (says.Spawn node name) = name
+new_name (says.Monitor owner target name) = name
+new_name _ = []
+
+abbrev pub binds : (name : List ℕ) → Made → Look → Look
+binds name Made.Nothing look = look
+binds name (Made.One named) look = with_name look name named
+binds name Made.Pair look = pair_names look
+
+abbrev pub starts : Said → Bool
+starts (says.Node name cookie) = false
+starts _ = true
+
+-- ---- a line
+
+-- the state after it, and what it prints
+pub record Step : Type 0 where
+  pub state : State
+  pub text : List ℕ
+
+abbrev pub does : Said → State → Step
+does said state = let scene = plays state.names said state.stage in record {
+  state = record { stage = scene.stage; names = binds (new_name said) scene.made state.names; started = starts said };
+  text = scene.text;
+}
+
+-- a line for a node whose name is taken is a bad line too
+abbrev pub is_taken : Said → List Name → Bool
+is_taken (says.Node name cookie) names = has_name name names
+is_taken _ names = false
+
+abbrev pub says_does : State → Result (Option Said) Reason → Result Step Reason
+says_does state (Ok None) = Ok (record { state = state; text = [] })
+says_does state (Ok (Some said)) = if is_taken said state.stage.world.names then Err Reason.NameTaken else Ok (does said state)
+says_does state (Err reason) = Err reason
+
+-- the lines for nodes come first, and are at most 64. A pair is made before all else
+abbrev pub may_come : State → MayCome
+may_come state = record {
+  pair = not state.started && length state.stage.world.names == 0;
+  node = not state.started && nat_lt (length state.stage.world.names) 64;
+}
+
+abbrev pub line_does : State → List ℕ → Result Step Reason
+line_does state line = says_does state (line_says (may_come state) state.names line)

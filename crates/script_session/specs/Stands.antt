@@ -1,0 +1,78 @@
+-- What a stage and a session of code stand for, and what calls of them come to.
+use Rattle.std.specs.Prelude.{◌≡◌, false, ℕ, List, [], ◌++◌, Result, Ok, Err, string_bytes}
+use Rattle.dist_model.specs.Names.{Name}
+use Rattle.dist_model.specs.Runs.{opening}
+use Rattle.dist_model.specs.World.{Event, Refused, Report, Reported, World, step}
+use Rattle.dist_model.specs.declared.report.Answer.{Answer}
+use Rattle.erl_term.specs.declared.refusal.Refusal.{Refusal}
+use Rattle.script_lines.specs.declared.reason.Reason.{Reason}
+use Rattle.script_session.specs.Session.{State, Step}
+use Rattle.script_session.specs.Stage.{Scene, after, sents_of}
+use Rattle.script_session.specs.Stage.{Stage as TheStage}
+use Rattle.script_session.specs.declared.made.Made.{Made}
+use Rattle.script_session.specs.declared.session.Session.{Session}
+use Rattle.script_session.specs.declared.session.Stop.{Stop}
+use Rattle.script_session.specs.declared.session.Stop.TheVariants as stop
+use Rattle.script_session.specs.declared.stage.Stage.{Stage}
+use Rattle.script_terms.specs.Binding.{Knows}
+use Rattle.world_core.specs.Stands.{IsReached, Stands}
+
+pub record IsStage (stage : Stage) (it : TheStage) : Type 0 where
+  pub world : Stands stage.world it.world
+  pub word : stage.word ≡ it.word
+  pub trace : stage.trace ≡ it.trace
+
+abbrev pub IsOpening : World → Type 0
+IsOpening world = (nodes : List (Name × List ℕ)) × (world ≡ opening nodes)
+
+pub record IsState (session : Session) (state : State) : Type 0 where
+  pub stage : IsStage session.stage state.stage
+  pub names : Knows session.names state.names
+  pub started : session.started ≡ state.started
+  -- before a command has come, nothing has happened in the world
+  pub opening : state.started ≡ false → IsOpening state.stage.world
+
+-- ---- what an event comes to
+
+abbrev pub Tells : Result Answer Refusal → Report → Type 0
+Tells (Ok answer) (Reported due effects) = answer ≡ due
+Tells (Err e) (Refused why) = e ≡ why
+Tells _ _ = ⊥
+
+-- what it sends was printed, and what it came to is told. The challenge isn't taken yet
+pub record Moved (event : Event) (it : TheStage) (new : Stage) (old_text new_text : List ℕ) (came : Result Answer Refusal) : Type 0 where
+  pub world : Stands new.world (step it.world event).world
+  pub word : new.word ≡ it.word
+  pub trace : new.trace ≡ it.trace
+  pub text : new_text ≡ old_text ++ sents_of it event
+  pub tells : Tells came (step it.world event).report
+
+pub record Happened (event : Event) (it : TheStage) (new : Stage) (old_text new_text : List ℕ) (came : Result Answer Refusal) : Type 0 where
+  pub stage : IsStage new (after it event)
+  pub text : new_text ≡ old_text ++ sents_of it event
+  pub tells : Tells came (step it.world event).report
+
+-- ---- what a command and a line come to
+
+pub record Plays (scene : Scene) (new : Stage) (old_text new_text : List ℕ) (answer : Made) : Type 0 where
+  pub stage : IsStage new scene.stage
+  pub text : new_text ≡ old_text ++ scene.text
+  pub made : answer ≡ scene.made
+
+pub record Steps (does : Result Step Reason) (new : Session) (old_text new_text : List ℕ) : Type 0 where
+  pub step : Step
+  pub says : does ≡ Ok step
+  pub state : IsState new step.state
+  pub text : new_text ≡ old_text ++ step.text
+
+-- a line was run, or is a bad line; memory may want only where it is none
+abbrev pub Obeys : Result Step Reason → Session → (old_text new_text : List ℕ) → Result (Unit {0}) Stop → Type 0
+Obeys does new old_text new_text (Ok x) = Steps does new old_text new_text
+Obeys does new old_text new_text (Err (stop.Bad reason)) = (does ≡ Err reason) × (new_text ≡ old_text)
+Obeys does new old_text new_text (Err stop.OutOfMemory) = (step : Step) × (does ≡ Ok step)
+
+-- ---- some events lead to the world of a state from an opening one
+
+pub record IsLed (state : State) : Type 0 where
+  pub reached : IsReached state.stage.world
+  pub opening : state.started ≡ false → IsOpening state.stage.world

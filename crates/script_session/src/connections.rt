@@ -1,0 +1,228 @@
+//! Commands about the connections of two nodes.
+ghost use Rattle.std.specs.Prelude.{◌≡◌, IfOk, OnOk, string_bytes};
+ghost use Rattle.std.specs.FinMap as fm;
+ghost use Rattle.std.specs.Option.{option_map};
+ghost use Rattle.dist_model.specs.Node.{side_where};
+ghost use Rattle.node_core.specs.Model.{model_of};
+ghost use Rattle.node_sides.specs.Passing.{passes};
+ghost use Rattle.script_session.specs.Connections.{coming_to, cuts, delivers, is_any, live_sides, lose, lose_all, lose_on, loses, routes};
+ghost use Rattle.script_session.specs.Stage.{Stage as TheStage};
+ghost use Rattle.script_session.specs.Stands.{IsStage, Plays};
+ghost use Rattle.script_session.specs.declared.made.Made.{Made as TheMade};
+
+use crate::made::Made;
+use crate::pairs::node_name;
+use crate::stage::Stage;
+use erl_names::{NodeName, TrunkId};
+use erl_term::{Atom, Refusal};
+use node_sides::Which;
+use script_texts::{put_done, put_refused, put_route};
+use std::alloc::{AllocError, Global};
+use world_core::{Node, NodeEvent};
+
+/// The connection of a node to a peer, and its attempts at one.
+#[derive(Debug, Drop)]
+pub(crate) struct Live {
+    /// The attempt of the node itself.
+    dialing: Option<TrunkId>,
+    /// The attempt of the peer.
+    waiting: Option<TrunkId>,
+    /// The connection that is up.
+    up: Option<TrunkId>,
+}
+
+// A copy of the first connection to a peer that stands so.
+fn side_on(node: &Node, peer: &Atom, which: Which) -> Result<Option<TrunkId>, AllocError>
+    ensures { IfOk result (λ trunk. trunk ≡ option_map (λ entry. entry.0) (side_where (passes which) peer.now (fm.entries (model_of node.now).sides))) }
+{
+    match node.first_towards(peer, which) {
+        Some(trunk) => Ok(Some(trunk.clone()?)),
+        None => Ok(None),
+    }
+}
+
+impl Live {
+    // Those of a node.
+    fn of(node: &Node, peer: &Atom) -> Result<Live, AllocError>
+        ensures { IfOk result (λ live. live ≡ live_sides (model_of node.now) peer.now) }
+    {
+        Ok(Live {
+            dialing: side_on(node, peer, Which::Dialing)?,
+            waiting: side_on(node, peer, Which::Waiting)?,
+            up: side_on(node, peer, Which::Up)?,
+        })
+    }
+
+    // Whether there is one.
+    fn is_any(&self) -> bool
+        ensures { result ≡ is_any self.now }
+    {
+        self.dialing.is_some() || self.waiting.is_some() || self.up.is_some()
+    }
+}
+
+impl Stage {
+    // The connection on which something comes to a node from a peer, or why nothing does.
+    fn coming(
+        &self,
+        node: &NodeName,
+        peer: &NodeName,
+    ) -> Result<Result<TrunkId, Refusal>, AllocError>
+        ensures { (it : TheStage) → IsStage self.now it → IfOk result (λ coming. coming ≡ coming_to it.world node.now peer.now) }
+    {
+        let Some(here) = self.world.node(node.atom()) else {
+            return Ok(Err(Refusal::NothingThere));
+        };
+        if !here.is_up() {
+            return Ok(Err(Refusal::NodeDown));
+        }
+        match self.world.next_arrival(here, Some(peer.atom())) {
+            Some(trunk) => Ok(Ok(trunk.clone()?)),
+            None => Ok(Err(Refusal::NothingThere)),
+        }
+    }
+
+    /// What comes next to a node from a peer comes.
+    ///
+    /// # Errors
+    /// Where memory is wanting.
+    pub(crate) fn deliver(
+        &mut self,
+        alloc: Global,
+        node: &str,
+        peer: &str,
+        out: &mut String,
+    ) -> Result<Made, AllocError>
+        ensures { (it : TheStage) → IsStage self.old it →
+            IfOk result (Plays (delivers node.now peer.now it) self.new (string_bytes out.old) (string_bytes out.new)) }
+    {
+        let (node, peer) = (node_name(alloc, node)?, node_name(alloc, peer)?);
+        match self.coming(&node, &peer)? {
+            Ok(trunk) => {
+                let word = self.word;
+                self.act(alloc, node.atom(), NodeEvent::Arrive { trunk, word }, out)
+            }
+            Err(why) => {
+                put_refused(out, why)?;
+                Ok(Made::Nothing)
+            }
+        }
+    }
+
+    /// The connection of a node to a peer that is up.
+    ///
+    /// # Errors
+    /// Where memory is wanting.
+    pub(crate) fn route(
+        &self,
+        alloc: Global,
+        node: &str,
+        peer: &str,
+        out: &mut String,
+    ) -> Result<(), AllocError>
+        ensures { (it : TheStage) → IsStage self.now it →
+            OnOk result (Plays (routes node.now peer.now it) self.now (string_bytes out.old) (string_bytes out.new) TheMade.Nothing) }
+    {
+        let (node, peer) = (node_name(alloc, node)?, node_name(alloc, peer)?);
+        match self.world.node(node.atom()) {
+            None => put_refused(out, Refusal::NothingThere),
+            Some(here) if !here.is_up() => put_refused(out, Refusal::NodeDown),
+            Some(here) => put_route(out, here.route(peer.atom())),
+        }
+    }
+
+    // A node loses one of its connections, if there is one.
+    fn lose_on(
+        &mut self,
+        alloc: Global,
+        node: &Atom,
+        trunk: Option<TrunkId>,
+    ) -> Result<(), AllocError>
+        ensures { (it : TheStage) → IsStage self.old it → OnOk result (IsStage self.new (lose_on node.now trunk it)) }
+    {
+        match trunk {
+            Some(trunk) => self.pass(alloc, node, NodeEvent::Lose(trunk)),
+            None => Ok(()),
+        }
+    }
+
+    // A node loses them all.
+    fn lose_all(&mut self, alloc: Global, node: &Atom, live: Live) -> Result<(), AllocError>
+        ensures { (it : TheStage) → IsStage self.old it → OnOk result (IsStage self.new (lose_all node.now live it)) }
+    {
+        let Live {
+            dialing,
+            waiting,
+            up,
+        } = live;
+        self.lose_on(alloc, node, dialing)?;
+        self.lose_on(alloc, node, waiting)?;
+        self.lose_on(alloc, node, up)
+    }
+
+    // A node loses its connection to a peer, and gives up its attempts at one, or the refusal.
+    fn lose_at(
+        &mut self,
+        alloc: Global,
+        node: &NodeName,
+        peer: &NodeName,
+    ) -> Result<Option<Refusal>, AllocError>
+        ensures stage { (it : TheStage) → IsStage self.old it → OnOk result (IsStage self.new (lose node.now peer.now it).stage) }
+        ensures refusal { (it : TheStage) → IsStage self.old it → IfOk result (λ refusal. refusal ≡ (lose node.now peer.now it).refusal) }
+    {
+        let live = match self.world.node(node.atom()) {
+            None => return Ok(Some(Refusal::NothingThere)),
+            Some(here) if !here.is_up() => return Ok(Some(Refusal::NodeDown)),
+            Some(here) => Live::of(here, peer.atom())?,
+        };
+        if !live.is_any() {
+            return Ok(Some(Refusal::NotLive));
+        }
+        self.lose_all(alloc, node.atom(), live)?;
+        Ok(None)
+    }
+
+    /// A node loses its connection to a peer.
+    ///
+    /// # Errors
+    /// Where memory is wanting.
+    pub(crate) fn lose(
+        &mut self,
+        alloc: Global,
+        node: &str,
+        peer: &str,
+        out: &mut String,
+    ) -> Result<(), AllocError>
+        ensures { (it : TheStage) → IsStage self.old it →
+            OnOk result (Plays (loses node.now peer.now it) self.new (string_bytes out.old) (string_bytes out.new) TheMade.Nothing) }
+    {
+        let (node, peer) = (node_name(alloc, node)?, node_name(alloc, peer)?);
+        match self.lose_at(alloc, &node, &peer)? {
+            Some(why) => put_refused(out, why),
+            None => put_done(out),
+        }
+    }
+
+    /// Two nodes lose their connection, the one after the other.
+    ///
+    /// # Errors
+    /// Where memory is wanting.
+    pub(crate) fn cut(
+        &mut self,
+        alloc: Global,
+        node: &str,
+        peer: &str,
+        out: &mut String,
+    ) -> Result<(), AllocError>
+        ensures { (it : TheStage) → IsStage self.old it →
+            OnOk result (Plays (cuts node.now peer.now it) self.new (string_bytes out.old) (string_bytes out.new) TheMade.Nothing) }
+    {
+        let (node, peer) = (node_name(alloc, node)?, node_name(alloc, peer)?);
+        let here = self.lose_at(alloc, &node, &peer)?;
+        let there = self.lose_at(alloc, &peer, &node)?;
+        match (here, there) {
+            (Some(why), Some(_)) => put_refused(out, why),
+            _ => put_done(out),
+        }
+    }
+}

@@ -1,0 +1,18 @@
+//! A script's commands, over a world of Erlang nodes: what each line does, and what it prints.
+//!
+//! [`Session::line`] runs a line. What it does is told over the steps of `dist_model`'s world: each
+//! command is a list of events, and each text one of their reports.
+#![tactic(auto)]
+
+mod connections;
+mod laws;
+mod made;
+mod pairs;
+mod playing;
+mod session;
+mod settling;
+mod showing;
+mod stage;
+
+pub use laws::events_lead_to_every_line;
+pub use session::{Session, Stop};

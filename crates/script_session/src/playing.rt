@@ -1,0 +1,299 @@
+//! What a line's command does on the stage.
+ghost use Rattle.std.specs.Prelude.{◌≡◌, false, IfOk, OnOk, string_bytes};
+ghost use Rattle.dist_model.specs.Dialing.{has_name};
+ghost use Rattle.dist_model.specs.World.{Dial};
+ghost use Rattle.script_lines.specs.Said.{said};
+ghost use Rattle.script_session.specs.Session.{asks, asks_of_one, asks_of_two, holds, is_taken, joins, moves, new_name, plays, read, shows, starts};
+ghost use Rattle.script_session.specs.Stage.{Stage as TheStage, happens};
+ghost use Rattle.script_session.specs.Stands.{IsOpening, IsStage, Plays};
+ghost use Rattle.script_session.specs.declared.made.Made.{Made as TheMade};
+ghost use Rattle.script_terms.specs.Binding.{Knows, Look};
+ghost use Rattle.world_core.specs.Names.{names_of};
+ghost use Rattle.world_core.specs.Ran.{event_at};
+
+use crate::made::Made;
+use crate::pairs::{cookie, node_name};
+use crate::showing::put_world;
+use crate::stage::Stage;
+use dist_model::{Answer, Command};
+use erl_term::{Atom, Payload, Pid};
+use script_lines::Line;
+use script_terms::{Names, read_term};
+use script_texts::{put_answer, put_ends};
+use std::alloc::{AllocError, Global};
+use world_core::NodeEvent;
+
+// A term of a line, which is known to be one.
+fn term(alloc: Global, names: &Names, text: &str) -> Result<Payload, AllocError>
+    ensures { (look : Look) → Knows names.now look → IfOk result (λ t. t ≡ read look text.now) }
+{
+    read_term(alloc, names, text).map_err(|_| AllocError)
+}
+
+// Copies of two processes, and of the name of the first one's node.
+fn at_two(first: &Pid, second: &Pid) -> Result<(Atom, Pid, Pid), AllocError>
+    ensures { IfOk result (λ two. two ≡ (first.now.node, first.now, second.now)) }
+{
+    Ok((first.node.clone()?, first.clone()?, second.clone()?))
+}
+
+// A copy of a process, and of the name of its node.
+fn at_one(process: &Pid) -> Result<(Atom, Pid), AllocError>
+    ensures { IfOk result (λ one. one ≡ (process.now.node, process.now)) }
+{
+    Ok((process.node.clone()?, process.clone()?))
+}
+
+/// The name that a line gives to what it makes.
+///
+/// # Errors
+/// Where memory is wanting.
+pub(crate) fn new_name(alloc: Global, line: Line) -> Result<String, AllocError>
+    ensures { IfOk result (λ name. string_bytes name ≡ new_name (said line.entry)) }
+{
+    match line {
+        Line::Spawn { name, .. } | Line::Monitor { name, .. } => String::from_str(alloc, name),
+        _ => Ok(String::new(alloc)),
+    }
+}
+
+/// Whether a line is for a node whose name another has.
+pub(crate) fn is_taken(stage: &Stage, line: Line) -> bool
+    ensures { result ≡ is_taken (said line.entry) (names_of stage.now.world.nodes.items) }
+{
+    match line {
+        Line::Node { name, .. } => stage.world.has_name(name),
+        _ => false,
+    }
+}
+
+/// Whether behind a line no line for a node may come.
+pub(crate) fn starts(line: Line) -> bool
+    ensures { result ≡ starts (said line.entry) }
+{
+    match line {
+        Line::Node { .. } => false,
+        _ => true,
+    }
+}
+
+impl Stage {
+    // Something happens at the node that a word names.
+    fn at(
+        &mut self,
+        alloc: Global,
+        node: &str,
+        event: NodeEvent,
+        out: &mut String,
+    ) -> Result<Made, AllocError>
+        ensures { (it : TheStage) → IsStage self.old it →
+            IfOk result (Plays (happens (event_at node.now event) it) self.new (string_bytes out.old) (string_bytes out.new)) }
+    {
+        match node_name(alloc, node) {
+            Ok(name) => self.act(alloc, name.atom(), event, out),
+            Err(e) => {
+                drop(event);
+                Err(e)
+            }
+        }
+    }
+
+    // One node dials another.
+    fn dials(
+        &mut self,
+        alloc: Global,
+        node: &str,
+        peer: &str,
+        out: &mut String,
+    ) -> Result<Made, AllocError>
+        ensures { (it : TheStage) → IsStage self.old it →
+            IfOk result (Plays (happens (Dial node.now peer.now it.word) it) self.new (string_bytes out.old) (string_bytes out.new)) }
+    {
+        let peer = node_name(alloc, peer)?;
+        let word = self.word;
+        self.at(alloc, node, NodeEvent::Dial { peer, word }, out)
+    }
+
+    // A node more.
+    fn join(
+        &mut self,
+        alloc: Global,
+        name: &str,
+        secret: &str,
+        out: &mut String,
+    ) -> Result<(), AllocError>
+        requires { has_name name.now (names_of self.old.world.nodes.items) ≡ false }
+        ensures { (it : TheStage) → IsStage self.old it → IsOpening it.world →
+            OnOk result (Plays (joins name.now secret.now it) self.new (string_bytes out.old) (string_bytes out.new) TheMade.Nothing) }
+    {
+        let secret = cookie(alloc, secret)?;
+        self.world.join(alloc, node_name(alloc, name)?, secret)?;
+        put_answer(out, name, &Answer::Started(1))
+    }
+
+    // How two processes hold their links to one another.
+    fn ends(&self, first: &Pid, second: &Pid, out: &mut String) -> Result<(), AllocError>
+        ensures { (it : TheStage) → IsStage self.now it →
+            OnOk result (Plays (holds first.now second.now it) self.now (string_bytes out.old) (string_bytes out.new) TheMade.Nothing) }
+    {
+        let held = self.world.end(first, second);
+        put_ends(out, held, self.world.end(second, first))
+    }
+
+    // All nodes and processes.
+    fn show(&self, out: &mut String) -> Result<(), AllocError>
+        ensures { (it : TheStage) → IsStage self.now it →
+            OnOk result (Plays (shows it) self.now (string_bytes out.old) (string_bytes out.new) TheMade.Nothing) }
+    {
+        put_world(out, &self.world)
+    }
+}
+
+// What a line asks a node for, in which a process acts on another.
+fn asked_of_two(
+    alloc: Global,
+    names: &Names,
+    line: Line,
+) -> Result<Option<(Atom, Command)>, AllocError>
+    ensures { (look : Look) → Knows names.now look → IfOk result (λ asked. asked ≡ asks_of_two look (said line.entry)) }
+{
+    match line {
+        Line::Send {
+            from,
+            to,
+            term: text,
+        } => {
+            let message = term(alloc, names, text)?;
+            let (node, from, to) = at_two(from, to)?;
+            Ok(Some((node, Command::Send { from, to, message })))
+        }
+        Line::Link { from, to } => {
+            let (node, from, to) = at_two(from, to)?;
+            Ok(Some((node, Command::Link { from, to })))
+        }
+        Line::Unlink { from, to } => {
+            let (node, from, to) = at_two(from, to)?;
+            Ok(Some((node, Command::Unlink { from, to })))
+        }
+        Line::Monitor { owner, target, .. } => {
+            let (node, owner, target) = at_two(owner, target)?;
+            Ok(Some((node, Command::Monitor { owner, target })))
+        }
+        Line::Exit {
+            from,
+            to,
+            term: text,
+        } => {
+            let reason = term(alloc, names, text)?;
+            let (node, from, to) = at_two(from, to)?;
+            Ok(Some((node, Command::ExitTo { from, to, reason })))
+        }
+        _ => Ok(None),
+    }
+}
+
+// What a line asks a node for, in which a process acts by itself, or is looked at.
+fn asked_of_one(
+    alloc: Global,
+    names: &Names,
+    line: Line,
+) -> Result<Option<(Atom, Command)>, AllocError>
+    ensures { (look : Look) → Knows names.now look → IfOk result (λ asked. asked ≡ asks_of_one look (said line.entry)) }
+{
+    match line {
+        Line::Demonitor { owner, reference } => {
+            let reference = reference.clone()?;
+            let (node, owner) = at_one(owner)?;
+            Ok(Some((node, Command::Demonitor { owner, reference })))
+        }
+        Line::Trap { process, on } => {
+            let (node, process) = at_one(process)?;
+            Ok(Some((node, Command::Trap { process, on })))
+        }
+        Line::Die {
+            process,
+            term: text,
+        } => {
+            let reason = term(alloc, names, text)?;
+            let (node, process) = at_one(process)?;
+            Ok(Some((node, Command::ExitSelf { process, reason })))
+        }
+        Line::Receive { process } => {
+            let (node, process) = at_one(process)?;
+            Ok(Some((node, Command::Receive { process })))
+        }
+        Line::Links { process } => {
+            let (node, process) = at_one(process)?;
+            Ok(Some((node, Command::LinksOf { process })))
+        }
+        Line::Alive { process } => {
+            let (node, process) = at_one(process)?;
+            Ok(Some((node, Command::IsAlive { process })))
+        }
+        _ => Ok(None),
+    }
+}
+
+// What a line asks a node for, if it does.
+fn asked(alloc: Global, names: &Names, line: Line) -> Result<Option<(Atom, Command)>, AllocError>
+    ensures { (look : Look) → Knows names.now look → IfOk result (λ asked. asked ≡ asks look (said line.entry)) }
+{
+    match asked_of_two(alloc, names, line)? {
+        Some(asked) => Ok(Some(asked)),
+        None => asked_of_one(alloc, names, line),
+    }
+}
+
+impl Stage {
+    // A line that asks nothing of a process's node.
+    fn moves(&mut self, alloc: Global, line: Line, out: &mut String) -> Result<Made, AllocError>
+        requires { is_taken (said line) (names_of self.old.world.nodes.items) ≡ false }
+        ensures { (it : TheStage) → IsStage self.old it → (starts (said line.entry) ≡ false → IsOpening it.world) →
+            IfOk result (Plays (moves (said line.entry) it) self.new (string_bytes out.old) (string_bytes out.new)) }
+    {
+        match line {
+            Line::Node { name, cookie } => self
+                .join(alloc, name, cookie, out)
+                .map(|()| Made::Nothing),
+            Line::Pair => self.pair(alloc).map(|()| Made::Pair),
+            Line::Spawn { node, .. } => self.at(alloc, node, NodeEvent::Call(Command::Spawn), out),
+            Line::Ends { first, second } => self.ends(first, second, out).map(|()| Made::Nothing),
+            Line::Dial { node, peer } => self.dials(alloc, node, peer, out),
+            Line::Route { node, peer } => self
+                .route(alloc, node, peer, out)
+                .map(|()| Made::Nothing),
+            Line::Lose { node, peer } => self.lose(alloc, node, peer, out).map(|()| Made::Nothing),
+            Line::Cut { node, peer } => self.cut(alloc, node, peer, out).map(|()| Made::Nothing),
+            Line::Stop { node } => self.at(alloc, node, NodeEvent::Stop, out),
+            Line::Start { node } => self.at(alloc, node, NodeEvent::Start, out),
+            Line::Deliver { node, peer } => self.deliver(alloc, node, peer, out),
+            Line::Local { node } => self.at(alloc, node, NodeEvent::Local, out),
+            Line::Sweep { node } => self.at(alloc, node, NodeEvent::Sweep, out),
+            Line::Settle => self.settle(alloc, out).map(|()| Made::Nothing),
+            Line::Show => self.show(out).map(|()| Made::Nothing),
+            // what asks a node is carried out there, and doesn't come here
+            _ => Err(AllocError),
+        }
+    }
+
+    /// A line's command.
+    ///
+    /// # Errors
+    /// Where memory is wanting.
+    pub(crate) fn play(
+        &mut self,
+        alloc: Global,
+        names: &Names,
+        line: Line,
+        out: &mut String,
+    ) -> Result<Made, AllocError>
+        requires { is_taken (said line) (names_of self.old.world.nodes.items) ≡ false }
+        ensures { (it : TheStage) (look : Look) → IsStage self.old it → Knows names.now look → (starts (said line.entry) ≡ false → IsOpening it.world) →
+            IfOk result (Plays (plays look (said line.entry) it) self.new (string_bytes out.old) (string_bytes out.new)) }
+    {
+        match asked(alloc, names, line)? {
+            Some((node, command)) => self.act(alloc, &node, NodeEvent::Call(command), out),
+            None => self.moves(alloc, line, out),
+        }
+    }
+}

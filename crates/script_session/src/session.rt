@@ -1,0 +1,146 @@
+//! The session of a script.
+ghost use Rattle.std.specs.Prelude.{◌≡◌, false, IfOk, OnOk, string_bytes};
+ghost use Rattle.script_lines.specs.Said.{said};
+ghost use Rattle.script_session.specs.Session.{State, binds, fresh_state, is_taken, line_does, may_come, new_name, plays, starts};
+ghost use Rattle.script_session.specs.Stage.{Stage as TheStage};
+ghost use Rattle.script_session.specs.Stands.{IsOpening, IsStage, IsState, Obeys, Plays};
+ghost use Rattle.script_terms.specs.Binding.{Knows, Look};
+ghost use Rattle.world_core.specs.Names.{names_of};
+
+use crate::made::Made;
+use crate::pairs::{FIRST, SECOND, first_process};
+use crate::playing::{is_taken, new_name, starts};
+use crate::stage::Stage;
+use script_advice::put_advice;
+use script_lines::{Line, MayCome, Reason, read_line};
+use script_terms::{Named, Names};
+use std::alloc::{AllocError, Global};
+use world_core::World;
+
+/// The most nodes of a script.
+const MOST_NODES: usize = 64;
+
+/// Why a line isn't run.
+#[derive(Clone, Copy, Debug, PartialEq, Eq)]
+pub enum Stop {
+    /// It is a bad line.
+    Bad(Reason),
+    /// Memory is wanting.
+    OutOfMemory,
+}
+
+/// A script of which some lines have run: its world, and what its names stand for.
+#[derive(Drop)]
+pub struct Session {
+    stage: Stage,
+    names: Names,
+    started: bool,
+}
+
+// What a line's command makes, and the name that the line gives to it.
+fn carry_out(
+    alloc: Global,
+    stage: &mut Stage,
+    names: &Names,
+    line: Line,
+    out: &mut String,
+) -> Result<(String, Made), AllocError>
+    requires { is_taken (said line) (names_of stage.old.world.nodes.items) ≡ false }
+    ensures name { IfOk result (λ named. string_bytes named.0 ≡ new_name (said line.entry)) }
+    ensures played { (it : TheStage) (look : Look) → IsStage stage.old it → Knows names.now look → (starts (said line.entry) ≡ false → IsOpening it.world) →
+        IfOk result (λ named. Plays (plays look (said line.entry) it) stage.new (string_bytes out.old) (string_bytes out.new) named.1) }
+{
+    let name = new_name(alloc, line)?;
+    let made = stage.play(alloc, names, line, out)?;
+    Ok((name, made))
+}
+
+// What a command has made gets its name.
+fn bind(alloc: Global, names: &mut Names, name: String, made: Made) -> Result<(), AllocError>
+    ensures { (look : Look) → Knows names.old look → OnOk result (Knows names.new (binds (string_bytes name) made look)) }
+{
+    match made {
+        Made::Nothing => Ok(()),
+        Made::One(named) => {
+            names.reserve()?;
+            names.put(name, named);
+            Ok(())
+        }
+        Made::Pair => {
+            names.bind(alloc, "p", Named::Process(first_process(alloc, FIRST)?))?;
+            names.bind(alloc, "q", Named::Process(first_process(alloc, SECOND)?))
+        }
+    }
+}
+
+impl Session {
+    /// Before the first line. Each frame that is sent is printed where that is asked for; the first
+    /// challenge of a handshake is the seed, and each next one greater by 1. Takes no memory.
+    pub fn new(alloc: Global, trace: bool, seed: u32) -> Session
+        ensures { IsState result (fresh_state trace seed) }
+    {
+        Session {
+            stage: Stage {
+                world: World::empty(alloc),
+                word: seed,
+                trace,
+            },
+            names: Names::new(alloc),
+            started: false,
+        }
+    }
+
+    // Which of the lines may still come that stand at the beginning alone.
+    fn may_come(&self) -> MayCome
+        ensures { (state : State) → IsState self.now state → result ≡ may_come state }
+    {
+        let nodes = self.stage.world.nodes().len();
+        MayCome {
+            pair: !self.started && nodes == 0,
+            node: !self.started && nodes < MOST_NODES,
+        }
+    }
+
+    /// Runs a line, and puts what it prints behind what is printed. What it does is told over the events
+    /// of `dist_model`'s world.
+    ///
+    /// # Errors
+    /// [`Stop::Bad`] where the line is no command, or may not come here, before anything happens;
+    /// [`Stop::OutOfMemory`] only where it is one.
+    pub fn line(&mut self, alloc: Global, line: &[u8], out: &mut String) -> Result<(), Stop>
+        ensures { (state : State) → IsState self.old state → Obeys (line_does state line.now) self.new (string_bytes out.old) (string_bytes out.new) result }
+    {
+        let line = match read_line(self.may_come(), &self.names, line) {
+            Ok(Some(line)) => line,
+            Ok(None) => return Ok(()),
+            Err(reason) => return Err(Stop::Bad(reason)),
+        };
+        if is_taken(&self.stage, line) {
+            return Err(Stop::Bad(Reason::NameTaken));
+        }
+        let has_started = starts(line);
+        let Ok((name, made)) = carry_out(alloc, &mut self.stage, &self.names, line, out) else {
+            return Err(Stop::OutOfMemory);
+        };
+        let Ok(()) = bind(alloc, &mut self.names, name, made) else {
+            return Err(Stop::OutOfMemory);
+        };
+        self.started = has_started;
+        Ok(())
+    }
+
+    /// Puts what is wrong with a bad line behind what is printed, and the remedy where there is an obvious
+    /// one.
+    ///
+    /// # Errors
+    /// Where memory is wanting.
+    pub fn put_advice(
+        &self,
+        alloc: Global,
+        out: &mut String,
+        reason: Reason,
+        line: &[u8],
+    ) -> Result<(), AllocError> {
+        put_advice(alloc, out, &self.names, reason, line)
+    }
+}
