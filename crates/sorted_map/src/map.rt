@@ -67,6 +67,21 @@ impl<K: Ord, V> SortedMap<K, V> {
         }
     }
 
+    /// Where the entry of a key is, or where it would go. Takes no memory.
+    pub fn place(&self, key: &K) -> Result<usize, usize>
+        ensures found { IfOk result (IsFoundAt K.cmp self.now.entries key.now) }
+        ensures gap { IfErr result (IsGapAt K.cmp self.now.entries key.now) }
+    {
+        place(&self.entries, key)
+    }
+
+    /// How many more keys may come without memory.
+    pub fn room(&self) -> usize
+        ensures { result ≡ self.now.room }
+    {
+        self.entries.capacity() - self.entries.len()
+    }
+
     /// Makes room for so many more keys: that many insertions can't be refused afterwards.
     ///
     /// # Errors
