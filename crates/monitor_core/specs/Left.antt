@@ -15,6 +15,14 @@ abbrev pub is_target : Pid → Option Monitor → Bool
 is_target process None = false
 is_target process (Some monitor) = eq_by_cmp pid_cmp monitor.target process
 
+abbrev pub is_of : (Monitor → Pid) → Pid → Option Monitor → Bool
+is_of of process None = false
+is_of of process (Some monitor) = eq_by_cmp pid_cmp (of monitor) process
+
+-- of whichever of their processes
+abbrev pub without : (Monitor → Pid) → MonitorMap → Pid → MonitorMap
+without of monitors process = map.retain_keys monitors (λ reference. not (is_of of process (map.get monitors reference)))
+
 abbrev pub without_owner : MonitorMap → Pid → MonitorMap
 without_owner monitors process = map.retain_keys monitors (λ reference. not (is_owned process (map.get monitors reference)))
 

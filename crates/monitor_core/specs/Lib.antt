@@ -4,3 +4,4 @@ pub mod Records
 pub mod Runs
 pub mod Sought
 pub mod Left
+pub mod Index

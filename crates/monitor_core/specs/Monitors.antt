@@ -8,6 +8,7 @@ use Rattle.erl_term.specs.declared.term.Pid.{Pid}
 use Rattle.erl_term.specs.declared.term.Reference.{Reference}
 use Rattle.erl_term.specs.Order.{pid_cmp}
 use Rattle.monitor_core.specs.declared.monitor.Monitor.{Monitor}
+use Rattle.monitor_core.specs.declared.places.Side.{Side}
 use Rattle.monitor_core.specs.Order.{reference_cmp}
 
 abbrev pub MonitorMap : Type 0
@@ -20,6 +21,16 @@ pub record Held : Type 0 where
 
 abbrev pub held_code : Coded Reference → Coded Monitor → Coded Held
 held_code reference monitor = code_by (MonitorMap × ℕ) (coded× (map.code reference monitor) coded_ℕ) (λ k. (k.monitors, k.room)) (λ p. record { monitors = p.0; room = p.1 }) (λ _. refl)
+
+-- the same, and by which of its processes a monitor is found
+pub record Sided : Type 0 where
+  pub monitors : MonitorMap
+  pub room : ℕ
+  pub side : Side
+
+abbrev pub sided_code : Coded Reference → Coded Monitor → Coded Side → Coded Sided
+sided_code reference monitor side =
+    code_by (MonitorMap × (ℕ × Side)) (coded× (map.code reference monitor) (coded× coded_ℕ side)) (λ k. (k.monitors, (k.room, k.side))) (λ p. record { monitors = p.0; room = p.1.0; side = p.1.1 }) (λ _. refl)
 
 abbrev pub monitor_of : Pid → Pid → Monitor
 monitor_of owner target = record { owner = owner; target = target }

@@ -9,6 +9,7 @@
 mod laws;
 mod monitor;
 mod monitors;
+mod places;
 mod watchers;
 mod watches;
 

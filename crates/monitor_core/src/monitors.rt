@@ -5,39 +5,50 @@ ghost use Rattle.std.specs.Bool.{OnFalse};
 ghost use Rattle.std.specs.Option.{option_copied};
 ghost use Rattle.std.specs.FinMap as map;
 ghost use Rattle.sorted_map.specs.Entries.{first_where, at_place};
-ghost use Rattle.monitor_core.specs.Left.{without_owner, without_target};
+ghost use Rattle.std.specs.List.{All, filter};
+ghost use Rattle.std.specs.Ordering.{eq_by_cmp};
+ghost use Rattle.erl_term.specs.Order.{pid_cmp};
+ghost use Rattle.monitor_core.specs.Index.{picked, process_of};
+ghost use Rattle.monitor_core.specs.Left.{without};
 ghost use Rattle.monitor_core.specs.Monitors.{is_held};
 ghost use Rattle.monitor_core.specs.Sought.{meets};
 ghost use Rattle.monitor_core.specs.Runs.{Adds, Removes, Ends, takes, called};
 ghost use Rattle.monitor_core.specs.Records.{PassesFirstAt, NonePasses};
 
 use crate::monitor::Monitor;
+use crate::places::{Point, Side, close};
 use erl_term::{Atom, Pid, Reference};
 use sorted_map::SortedMap;
 use std::alloc::{AllocError, Global};
 use std::marker::Model;
 
-/// Monitors by reference. Contracts see the finite map from references to monitors, in the order of
-/// references, and the room: how many more references may come without memory.
+/// Monitors by reference, with the places of those of each process. Contracts see the finite map from
+/// references to monitors, in the order of references, the room: how many more references may come
+/// without memory, and by which of its processes a monitor is found.
 #[derive(Drop)]
 pub(crate) struct Monitors {
+    side: Side,
     records: SortedMap<Reference, Monitor>,
+    places: Vec<usize>,
 }
 
 impl Model for Monitors {
+    ghost use Rattle.std.specs.Prelude.{min, ◌-◌};
+    ghost use Rattle.std.specs.Vec.{vec_len, vec_capacity};
     ghost use Rattle.std.specs.FinMap as map;
-    ghost use Rattle.monitor_core.specs.Monitors.{Held, held_code};
-    ghost use Rattle.monitor_core.specs.Records.{AreSorted};
+    ghost use Rattle.monitor_core.specs.Index.{IsKept, process_of};
+    ghost use Rattle.monitor_core.specs.Monitors.{Sided, sided_code};
     ghost use Rattle.erl_term.specs.contracts.term.Reference as reference;
     ghost use Rattle.monitor_core.specs.contracts.monitor.Monitor as monitor;
+    ghost use Rattle.monitor_core.specs.contracts.places.Side as the_side;
 
-    ghost Value = { Held };
+    ghost Value = { Sided };
 
-    ghost coded = { held_code reference.the_row.coded monitor.the_row.coded };
+    ghost coded = { sided_code reference.the_row.coded monitor.the_row.coded the_side.the_row.coded };
 
-    ghost view = { λ a. record { monitors = map.from_sorted a.records.entries; room = a.records.room } };
+    ghost view = { λ a. record { monitors = map.from_sorted a.records.entries; room = min a.records.room (vec_capacity a.places - vec_len a.places); side = a.side } };
 
-    ghost invariant = { λ a. AreSorted a.records.entries };
+    ghost invariant = { λ a. IsKept (process_of a.side) a.records.entries a.places.items };
 }
 
 /// Which monitors are sought.
@@ -69,12 +80,15 @@ impl Sought<'_> {
 }
 
 impl Monitors {
-    /// No monitors. Takes no memory.
-    pub(crate) fn new(alloc: Global) -> Monitors
-        ensures { result.monitors ≡ map.empty }
+    /// No monitors, which are found by this process of theirs. Takes no memory.
+    pub(crate) fn new(alloc: Global, side: Side) -> Monitors
+        ensures monitors { result.monitors ≡ map.empty }
+        ensures side { result.side ≡ side }
     {
         Monitors {
+            side,
             records: SortedMap::new(alloc),
+            places: Vec::new(alloc),
         }
     }
 
@@ -99,8 +113,16 @@ impl Monitors {
         ensures kept { self.old.room ≤ self.new.room }
         ensures err { OnErr result (self.new ≡ self.old) }
         ensures succeeds { additional ≤ self.old.room → IsOk result }
+        ensures side { self.new.side ≡ self.old.side }
     {
-        self.records.reserve(additional)
+        // The greater room first: where the lesser can't grow then, the room hasn't changed.
+        if self.records.room() < self.places.capacity() - self.places.len() {
+            self.places.reserve(additional)?;
+            self.records.reserve(additional)
+        } else {
+            self.records.reserve(additional)?;
+            self.places.reserve(additional)
+        }
     }
 
     /// Puts a monitor in. A reference that has one keeps it.
@@ -110,12 +132,16 @@ impl Monitors {
         ensures err { OnErr result (self.new ≡ self.old) }
         ensures only_new { OnErr result (map.get self.old.monitors reference ≡ None) }
         ensures succeeds { 1 ≤ self.old.room → IsOk result }
+        ensures side { self.new.side ≡ self.old.side }
     {
-        if self.records.get(&reference).is_some() {
-            return Ok(());
-        }
+        let at = match self.records.place(&reference) {
+            Ok(_) => return Ok(()),
+            Err(at) => at,
+        };
+        self.places.reserve(1)?;
         let none_before = self.records.insert(reference, monitor)?;
         drop(none_before);
+        self.side.put(self.records.entries(), &mut self.places, at);
         Ok(())
     }
 
@@ -125,7 +151,16 @@ impl Monitors {
         ensures monitors { self.new.monitors ≡ called self.old.monitors (Removes reference.now) }
         ensures room { self.old.room ≤ self.new.room }
         ensures unchanged { OnFalse result (self.new.monitors ≡ self.old.monitors) }
+        ensures side { self.new.side ≡ self.old.side }
     {
+        let at = match self.records.place(reference) {
+            Ok(at) => at,
+            Err(_) => return false,
+        };
+        let (from, to) = self
+            .side
+            .part(self.records.entries(), &self.places, &Point::At(at));
+        close(&mut self.places, from, to);
         self.records.remove(reference).is_some()
     }
 
@@ -137,6 +172,7 @@ impl Monitors {
         ensures monitors { self.new.monitors ≡ called self.old.monitors (Ends reference.now monitor.now) }
         ensures room { self.old.room ≤ self.new.room }
         ensures unchanged { OnFalse result (self.new.monitors ≡ self.old.monitors) }
+        ensures side { self.new.side ≡ self.old.side }
     {
         let ends = self.holds(reference, monitor);
         if ends {
@@ -165,22 +201,34 @@ impl Monitors {
         Some(from + at)
     }
 
-    /// Takes those out that a process owns. Takes no memory.
-    pub(crate) fn remove_owned_by(&mut self, owner: &Pid)
-        ensures monitors { self.new.monitors ≡ without_owner self.old.monitors owner.now }
-        ensures room { self.old.room ≤ self.new.room }
+    /// The places among the entries of the monitors that are found by a process, in their order.
+    pub(crate) fn places_of(&self, process: &Pid) -> &[usize]
+        ensures found { let entries = map.entries self.now.monitors in
+            picked entries result.now ≡ filter (λ entry. eq_by_cmp pid_cmp (process_of self.now.side entry.1) process.now) entries }
+        ensures places { All (λ place. place < length (map.entries self.now.monitors)) result.now }
     {
-        self.records
-            .retain(|(_, monitor)| monitor.owner.cmp(owner).is_ne());
+        let (from, to) = self
+            .side
+            .part(self.records.entries(), &self.places, &Point::Of(process));
+        &self.places[from..to]
     }
 
-    /// Takes those out that watch a process. Takes no memory.
-    pub(crate) fn remove_targeting(&mut self, target: &Pid)
-        ensures monitors { self.new.monitors ≡ without_target self.old.monitors target.now }
+    /// Takes those out that are found by a process. Takes no memory.
+    pub(crate) fn remove_of(&mut self, process: &Pid)
+        ensures monitors { self.new.monitors ≡ without (process_of self.old.side) self.old.monitors process.now }
         ensures room { self.old.room ≤ self.new.room }
+        ensures side { self.new.side ≡ self.old.side }
     {
+        let (from, to) = self
+            .side
+            .part(self.records.entries(), &self.places, &Point::Of(process));
+        if from == to {
+            return;
+        }
+        let side = self.side;
+        close(&mut self.places, from, to);
         self.records
-            .retain(|(_, monitor)| monitor.target.cmp(target).is_ne());
+            .retain(|(_, monitor)| side.process(monitor).cmp(process).is_ne());
     }
 
     // Whether reference, owner and target stand together.

@@ -6,13 +6,16 @@ ghost use Rattle.std.specs.Option.{option_copied};
 ghost use Rattle.std.specs.Ordering.{nat_cmp, eq_by_cmp};
 ghost use Rattle.std.specs.Cmp.Lexicographic.{slice_cmp};
 ghost use Rattle.std.specs.FinMap as map;
+ghost use Rattle.std.specs.List.{All, filter};
 ghost use Rattle.erl_term.specs.Order.{pid_cmp};
 ghost use Rattle.sorted_map.specs.Entries.{first_where, at_place};
+ghost use Rattle.monitor_core.specs.Index.{picked};
 ghost use Rattle.monitor_core.specs.Left.{without_target};
 ghost use Rattle.monitor_core.specs.Runs.{Adds, Removes, Ends, takes, called};
 
 use crate::monitor::Monitor;
 use crate::monitors::{Monitors, Sought};
+use crate::places::Side;
 use erl_term::{Atom, Pid, Reference};
 use std::alloc::{AllocError, Global};
 use std::marker::Model;
@@ -26,7 +29,9 @@ pub struct Watchers {
 }
 
 impl Model for Watchers {
+    ghost use Rattle.std.specs.Prelude.{◌≡◌};
     ghost use Rattle.monitor_core.specs.Monitors.{Held, held_code};
+    ghost use Rattle.monitor_core.specs.declared.places.Side.TheVariants.{Target};
     ghost use Rattle.erl_term.specs.contracts.term.Reference as reference;
     ghost use Rattle.monitor_core.specs.contracts.monitor.Monitor as monitor;
 
@@ -34,7 +39,9 @@ impl Model for Watchers {
 
     ghost coded = { held_code reference.the_row.coded monitor.the_row.coded };
 
-    ghost view = { λ a. a.monitors };
+    ghost view = { λ a. record { monitors = a.monitors.monitors; room = a.monitors.room } };
+
+    ghost invariant = { λ a. a.monitors.side ≡ Target };
 }
 
 impl Watchers {
@@ -43,7 +50,7 @@ impl Watchers {
         ensures { result.monitors ≡ map.empty }
     {
         Watchers {
-            monitors: Monitors::new(alloc),
+            monitors: Monitors::new(alloc, Side::Target),
         }
     }
 
@@ -115,13 +122,26 @@ impl Watchers {
         self.monitors.remove(reference)
     }
 
-    /// The target has ended: takes all its monitors out, in one pass. Takes no memory. (Reference
+    /// The target has ended: takes all its monitors out, in one pass, and in none where it
+    /// has none. Takes no memory. (Reference
     /// Manual, Processes, Monitors; ERTS User's Guide, Distribution Protocol, MONITOR_P_EXIT.)
     pub fn remove_targeting(&mut self, target: &Pid)
         ensures monitors { self.new.monitors ≡ without_target self.old.monitors target.now }
         ensures room { self.old.room ≤ self.new.room }
     {
-        self.monitors.remove_targeting(target);
+        self.monitors.remove_of(target);
+    }
+
+    /// The places among [`Watchers::entries`] of the monitors that watch a process, in the order of
+    /// references. They are found by the process: no other monitors are gone over. Takes no memory.
+    /// (Reference Manual, Processes, Monitors; ERTS User's Guide, Distribution Protocol,
+    /// MONITOR_P_EXIT.)
+    pub fn targeting(&self, target: &Pid) -> &[usize]
+        ensures found { let entries = map.entries self.now.monitors in
+            picked entries result.now ≡ filter (λ entry. eq_by_cmp pid_cmp entry.1.target target.now) entries }
+        ensures places { All (λ place. place < length (map.entries self.now.monitors)) result.now }
+    {
+        self.monitors.places_of(target)
     }
 
     /// Of the monitors that watch a process, the one of the least reference. Takes no memory. (Reference

@@ -6,13 +6,16 @@ ghost use Rattle.std.specs.Option.{option_copied};
 ghost use Rattle.std.specs.Ordering.{nat_cmp, eq_by_cmp};
 ghost use Rattle.std.specs.Cmp.Lexicographic.{slice_cmp};
 ghost use Rattle.std.specs.FinMap as map;
+ghost use Rattle.std.specs.List.{All, filter};
 ghost use Rattle.erl_term.specs.Order.{pid_cmp};
 ghost use Rattle.sorted_map.specs.Entries.{first_where, at_place};
+ghost use Rattle.monitor_core.specs.Index.{picked};
 ghost use Rattle.monitor_core.specs.Left.{without_owner};
 ghost use Rattle.monitor_core.specs.Runs.{Adds, Removes, Ends, takes, called};
 
 use crate::monitor::Monitor;
 use crate::monitors::{Monitors, Sought};
+use crate::places::Side;
 use erl_term::{Atom, Pid, Reference};
 use std::alloc::{AllocError, Global};
 use std::marker::Model;
@@ -26,7 +29,9 @@ pub struct Watches {
 }
 
 impl Model for Watches {
+    ghost use Rattle.std.specs.Prelude.{◌≡◌};
     ghost use Rattle.monitor_core.specs.Monitors.{Held, held_code};
+    ghost use Rattle.monitor_core.specs.declared.places.Side.TheVariants.{Owner};
     ghost use Rattle.erl_term.specs.contracts.term.Reference as reference;
     ghost use Rattle.monitor_core.specs.contracts.monitor.Monitor as monitor;
 
@@ -34,7 +39,9 @@ impl Model for Watches {
 
     ghost coded = { held_code reference.the_row.coded monitor.the_row.coded };
 
-    ghost view = { λ a. a.monitors };
+    ghost view = { λ a. record { monitors = a.monitors.monitors; room = a.monitors.room } };
+
+    ghost invariant = { λ a. a.monitors.side ≡ Owner };
 }
 
 impl Watches {
@@ -43,7 +50,7 @@ impl Watches {
         ensures { result.monitors ≡ map.empty }
     {
         Watches {
-            monitors: Monitors::new(alloc),
+            monitors: Monitors::new(alloc, Side::Owner),
         }
     }
 
@@ -117,13 +124,25 @@ impl Watches {
         self.monitors.end(reference, monitor)
     }
 
-    /// The owner has ended: takes all its monitors out, in one pass. Takes no memory. (Reference
+    /// The owner has ended: takes all its monitors out, in one pass, and in none where it
+    /// has none. Takes no memory. (Reference
     /// Manual, Processes, Monitors; ERTS User's Guide, Distribution Protocol, DEMONITOR_P.)
     pub fn remove_owned_by(&mut self, owner: &Pid)
         ensures monitors { self.new.monitors ≡ without_owner self.old.monitors owner.now }
         ensures room { self.old.room ≤ self.new.room }
     {
-        self.monitors.remove_owned_by(owner);
+        self.monitors.remove_of(owner);
+    }
+
+    /// The places among [`Watches::entries`] of the monitors that a process owns, in the order of
+    /// references. They are found by the process: no other monitors are gone over. Takes no memory.
+    /// (Reference Manual, Processes, Monitors; ERTS User's Guide, Distribution Protocol, DEMONITOR_P.)
+    pub fn owned_by(&self, owner: &Pid) -> &[usize]
+        ensures found { let entries = map.entries self.now.monitors in
+            picked entries result.now ≡ filter (λ entry. eq_by_cmp pid_cmp entry.1.owner owner.now) entries }
+        ensures places { All (λ place. place < length (map.entries self.now.monitors)) result.now }
+    {
+        self.monitors.places_of(owner)
     }
 
     /// Of the monitors that a process owns, the one of the least reference. Takes no memory. (Reference
