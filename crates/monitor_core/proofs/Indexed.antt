@@ -21,7 +21,7 @@ use Rattle.monitor_core.specs.Records.{Records}
 use Rattle.monitor_core.specs.Index.{Each, Rises, counted, tally, picked, process_at, place_cmp, order_at, IsRising, IsIndex, IsGrown, IsParted, moved_up, sunk}
 use Rattle.monitor_core.proofs.Order.{pid_cmp_total}
 use Rattle.monitor_core.proofs.Tallies.{Test, plus_if, same, same_is, same_itself, below, below_lt, below_is, is_below, each_weaker, each_both, each_append, each_left, each_right, each_map, rises_map, rises_weaker, rises_left, rises_right, rises_around, rises_with, counted_append, counted_with, counted_map, counted_same, counted_none, none_counted, tally_same, tally_none, climbing_same}
-use Rattle.monitor_core.proofs.Shifts.{up, up_is, up_rises, up_other, tally_up, length_with, process_with, later, left, left_same, left_one, kept, kept_rises, kept_and_gone, tally_left, process_left, chosen, counted_chosen, chosen_climbs, passing, picked_chosen}
+use Rattle.monitor_core.proofs.Shifts.{up, up_is, up_rises, up_other, tally_up, length_with, process_with, left, left_same, left_one, kept, kept_rises, kept_and_gone, tally_left, process_left, chosen, counted_chosen, chosen_climbs, passing, picked_chosen}
 use Rattle.monitor_core.proofs.Parts.{partitioned, climbs_up}
 
 abbrev maybe_cmp : Option Pid → Option Pid → Ordering

@@ -1,14 +1,13 @@
 -- What a search over places finds.
-use Rattle.std.proofs.Common.{◌≡◌, ℕ, zero, suc, ◌+◌, ◌-◌, ◌<◌, ◌≤◌, Bool, true, false, cond, not, ◌&&◌, List, [], ◌∷◌, ◌++◌, map, length, take, drop, get_or, nat_lt, refl, sym, ap, subst, ◌∙◌, arith, tests}
-use Rattle.std.specs.List.{All, AllWithin, filter, slice_range}
+use Rattle.std.proofs.Common.{◌≡◌, ℕ, zero, suc, ◌+◌, ◌-◌, ◌<◌, ◌≤◌, Bool, true, false, List, [], ◌∷◌, length, take, drop, get_or, nat_lt, refl, sym, ap, subst, ◌∙◌, arith, tests}
+use Rattle.std.specs.List.{All, AllWithin, slice_range}
 use Rattle.std.specs.List.Sorted.{IsNonDecreasing, IsPartitionedBy, IsPartitionPoint}
 use Rattle.std.specs.declared.cmp.Ordering.{Ordering}
 use Rattle.std.specs.declared.cmp.Ordering.TheVariants.{Less, Equal, Greater}
-use Rattle.std.specs.Ordering.{is_lt, is_le, is_eq}
-use Rattle.std.proofs.lemmas.List.{get_or-drop, take-append-drop}
-use Rattle.std.proofs.lemmas.List.Edits.{split_between}
+use Rattle.std.specs.Ordering.{is_lt, is_le}
+use Rattle.std.proofs.lemmas.List.{get_or-drop}
 use Rattle.monitor_core.specs.Index.{Each, Rises, counted, IsParted}
-use Rattle.monitor_core.proofs.Tallies.{Test, plus_if, each_weaker, each_both}
+use Rattle.monitor_core.proofs.Tallies.{Test, plus_if}
 
 pub each_take : (P : ℕ → Type 0) (xs : List ℕ) (i : ℕ) → AllWithin P xs 0 i → i ≤ length xs → Each P (take i xs)
 each_take P xs zero h l = tt

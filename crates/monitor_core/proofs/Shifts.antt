@@ -1,13 +1,13 @@
 -- Where records stand once one has come in or some are gone.
-use Rattle.std.proofs.Common.{◌≡◌, ℕ, zero, suc, ◌+◌, ◌-◌, ◌<◌, ◌≤◌, Bool, true, false, cond, not, ◌&&◌, List, [], ◌∷◌, ◌++◌, map, length, take, drop, nat_lt, Option, None, Some, refl, sym, ap, subst, ◌∙◌, arith, tests}
-use Rattle.std.specs.List.{filter, insert, remove, slice_get}
+use Rattle.std.proofs.Common.{◌≡◌, ℕ, zero, suc, ◌+◌, ◌<◌, ◌≤◌, Bool, true, false, cond, not, ◌&&◌, List, [], ◌∷◌, ◌++◌, map, length, nat_lt, refl, sym, ap, ◌∙◌, arith, tests}
+use Rattle.std.specs.List.{insert, remove, slice_get}
 use Rattle.std.specs.Option.{option_to_list}
 use Rattle.erl_term.specs.declared.term.Pid.{Pid}
 use Rattle.erl_term.specs.declared.term.Reference.{Reference}
 use Rattle.monitor_core.specs.declared.monitor.Monitor.{Monitor}
 use Rattle.monitor_core.specs.Records.{Records}
-use Rattle.monitor_core.specs.Index.{Each, Rises, counted, tally, picked, process_at, moved_up, sunk}
-use Rattle.monitor_core.proofs.Tallies.{Test, plus_if, same, below, each_map, each_weaker, rises_map, counted_map, tally_none}
+use Rattle.monitor_core.specs.Index.{Each, Rises, counted, tally, picked, process_at, moved_up}
+use Rattle.monitor_core.proofs.Tallies.{Test, plus_if, same, below, rises_map, counted_map, tally_none}
 
 -- one place up from a place on
 abbrev pub up : ℕ → ℕ → ℕ

@@ -1,6 +1,5 @@
 -- How many of a list, and of the numbers below one, pass a test. Rising lists of which each test passes as many are one.
-use Rattle.std.proofs.Common.{◌≡◌, ℕ, zero, suc, ◌+◌, ◌-◌, ◌<◌, ◌≤◌, Bool, true, false, cond, not, ◌&&◌, List, [], ◌∷◌, ◌++◌, map, length, take, drop, nat_lt, ◌⊎◌, inl, inr, refl, sym, ap, subst, ◌∙◌, arith, tests}
-use Rattle.std.specs.List.{filter, insert, slice_range}
+use Rattle.std.proofs.Common.{◌≡◌, ℕ, zero, suc, ◌+◌, ◌<◌, Bool, true, false, cond, List, [], ◌∷◌, ◌++◌, map, nat_lt, refl, sym, ap, ◌∙◌, arith, tests}
 use Rattle.monitor_core.specs.Index.{Each, Rises, counted, tally}
 
 abbrev pub Test : Type 0

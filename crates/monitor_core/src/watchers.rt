@@ -122,9 +122,9 @@ impl Watchers {
         self.monitors.remove(reference)
     }
 
-    /// The target has ended: takes all its monitors out, in one pass, and in none where it
-    /// has none. Takes no memory. (Reference
-    /// Manual, Processes, Monitors; ERTS User's Guide, Distribution Protocol, MONITOR_P_EXIT.)
+    /// The target has ended: takes all its monitors out, in one pass, and in none where it has none.
+    /// Takes no memory. (Reference Manual, Processes, Monitors; ERTS User's Guide, Distribution
+    /// Protocol, MONITOR_P_EXIT.)
     pub fn remove_targeting(&mut self, target: &Pid)
         ensures monitors { self.new.monitors ≡ without_target self.old.monitors target.now }
         ensures room { self.old.room ≤ self.new.room }

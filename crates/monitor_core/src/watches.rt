@@ -124,9 +124,9 @@ impl Watches {
         self.monitors.end(reference, monitor)
     }
 
-    /// The owner has ended: takes all its monitors out, in one pass, and in none where it
-    /// has none. Takes no memory. (Reference
-    /// Manual, Processes, Monitors; ERTS User's Guide, Distribution Protocol, DEMONITOR_P.)
+    /// The owner has ended: takes all its monitors out, in one pass, and in none where it has none.
+    /// Takes no memory. (Reference Manual, Processes, Monitors; ERTS User's Guide, Distribution
+    /// Protocol, DEMONITOR_P.)
     pub fn remove_owned_by(&mut self, owner: &Pid)
         ensures monitors { self.new.monitors ≡ without_owner self.old.monitors owner.now }
         ensures room { self.old.room ≤ self.new.room }

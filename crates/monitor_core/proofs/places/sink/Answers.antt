@@ -1,4 +1,4 @@
-use Rattle.std.proofs.Common.{◌≡◌, ◌<◌, ◌-◌, ◌++◌, ◌+◌, get_or, set, length, map, take, drop, ap, sym, refl, ◌∙◌, arith}
+use Rattle.std.proofs.Common.{◌<◌, ◌-◌, get_or, set, length, ap, ◌∙◌, arith}
 use Rattle.std.proofs.lemmas.List.{get_or_default}
 use Rattle.std.proofs.lemmas.List.Edits.{map_over_more}
 use Rattle.monitor_core.specs.Index.{sunk}

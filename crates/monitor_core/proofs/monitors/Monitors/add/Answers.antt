@@ -1,11 +1,10 @@
-use Rattle.std.proofs.Common.{◌≡◌, ◌+◌, ◌-◌, ◌≤◌, min, None, Some, get_or, is_some, sym, ap, subst, ◌∙◌, arith}
+use Rattle.std.proofs.Common.{is_some, sym, ap, subst, ◌∙◌, arith}
 use Rattle.std.specs.FinMap as map
 use Rattle.sorted_map.specs.Maps.{sorted_put}
 use Rattle.sorted_map.proofs.Places.{finds, finds_none, put_gap, gap_in_range}
-use Rattle.monitor_core.specs.Order.{reference_cmp}
 use Rattle.monitor_core.specs.Monitors.{Sided, added}
 use Rattle.monitor_core.specs.Records.{AreSorted}
-use Rattle.monitor_core.specs.Index.{IsIndex, IsGrown, process_of}
+use Rattle.monitor_core.specs.Index.{IsIndex, process_of}
 use Rattle.monitor_core.proofs.Order.{reference_cmp_total}
 use Rattle.monitor_core.proofs.Maps.{get_here, added_new, added_again, map_of}
 use Rattle.monitor_core.proofs.Held.{at_refusal}

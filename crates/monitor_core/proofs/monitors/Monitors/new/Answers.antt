@@ -1,4 +1,4 @@
-use Rattle.std.proofs.Common.{ap, refl, ◌∙◌, [], length}
+use Rattle.std.proofs.Common.{ap, ◌∙◌, [], length}
 use Rattle.std.specs.FinMap as map
 use Rattle.monitor_core.specs.Order.{reference_cmp}
 use Rattle.monitor_core.proofs.monitors.Monitors.new.Goals as goal

@@ -1,4 +1,4 @@
-use Rattle.std.proofs.Common.{◌≡◌, ◌<◌, List, ℕ, length, sym, ap, subst, ◌∙◌}
+use Rattle.std.proofs.Common.{◌<◌, length, sym, ap, subst, ◌∙◌}
 use Rattle.std.specs.List.{All, filter, slice_range}
 use Rattle.std.specs.FinMap as map
 use Rattle.monitor_core.specs.Order.{reference_cmp}

@@ -1,9 +1,7 @@
-use Rattle.std.proofs.Common.{◌≡◌, ◌-◌, None, List, ℕ, sym, ap, subst, ◌∙◌, is_some}
+use Rattle.std.proofs.Common.{sym, ap, subst, ◌∙◌, is_some}
 use Rattle.std.specs.FinMap as map
-use Rattle.std.specs.List.{remove, slice_range}
 use Rattle.sorted_map.specs.Maps.{sorted_without, map_without}
 use Rattle.sorted_map.proofs.Places.{finds_none, without_found}
-use Rattle.monitor_core.specs.Order.{reference_cmp}
 use Rattle.monitor_core.specs.Monitors.{Sided}
 use Rattle.monitor_core.specs.Records.{Records, AreSorted}
 use Rattle.monitor_core.specs.Index.{IsIndex, IsParted, order_at, process_of}

@@ -1,6 +1,6 @@
-use Rattle.std.proofs.Common.{◌≡◌, ◌-◌, [], ◌∷◌, List, ℕ, not, rules, refl, sym, ap, subst, take, drop, ◌∙◌, arith}
+use Rattle.std.proofs.Common.{◌≡◌, [], not, rules, refl, sym, ap, subst, ◌∙◌}
 use Rattle.std.proofs.lemmas.Fn.{filter_same}
-use Rattle.std.specs.List.{filter, slice_range}
+use Rattle.std.specs.List.{slice_range}
 use Rattle.std.specs.Ordering.{eq_by_cmp}
 use Rattle.std.specs.FinMap as map
 use Rattle.std.proofs.lemmas.List.Edits.{between_none}
@@ -8,14 +8,13 @@ use Rattle.sorted_map.specs.Maps.{sorted_kept, map_kept}
 use Rattle.erl_term.specs.Order.{pid_cmp}
 use Rattle.erl_term.specs.declared.term.Reference.{Reference}
 use Rattle.monitor_core.specs.declared.monitor.Monitor.{Monitor}
-use Rattle.monitor_core.specs.declared.places.Side.{Side}
 use Rattle.monitor_core.specs.declared.places.Point.TheVariants.{Of}
 use Rattle.monitor_core.specs.Left.{is_of, without}
 use Rattle.monitor_core.specs.Monitors.{Sided}
 use Rattle.monitor_core.specs.Records.{Records, AreSorted}
 use Rattle.monitor_core.specs.Index.{IsIndex, IsParted, order_at, picked, process_of}
 use Rattle.monitor_core.proofs.Order.{reference_cmp_total, reference_cmp_exact}
-use Rattle.monitor_core.proofs.Indexed.{is_its, closed_index, gone_up, left_others, none_its, passing_its, picked_gone}
+use Rattle.monitor_core.proofs.Indexed.{closed_index, gone_up, left_others, none_its, passing_its, picked_gone}
 use Rattle.monitor_core.proofs.monitors.Monitors.remove_of.Goals as goal
 
 pub returns-then-from-to-clause-monitors : goal.returns-then-from-to-clause-monitors

@@ -1,4 +1,3 @@
-use Rattle.std.proofs.Common.{sym, ap, ◌∙◌}
 use Rattle.monitor_core.specs.Index.{process_of}
 use Rattle.monitor_core.proofs.Indexed.{process_here, process_nowhere}
 use Rattle.monitor_core.proofs.places.Side.process_at.Goals as goal

@@ -1,6 +1,6 @@
-use Rattle.std.proofs.Common.{◌≡◌, ◌<◌, length, map, sym, ap, subst, ◌∙◌}
+use Rattle.std.proofs.Common.{◌<◌, sym, ap, subst, ◌∙◌}
 use Rattle.std.specs.List.{insert}
-use Rattle.monitor_core.specs.Index.{Each, IsIndex, IsRising, IsParted, order_at, process_of, moved_up}
+use Rattle.monitor_core.specs.Index.{Each, IsIndex, IsRising, IsParted, order_at, process_of}
 use Rattle.monitor_core.specs.declared.places.Point.TheVariants.{At}
 use Rattle.monitor_core.proofs.Indexed.{as_many, within_records, moved_rising, grown_index}
 use Rattle.monitor_core.proofs.places.Side.put.Goals as goal
