@@ -1,6 +1,8 @@
 -- What a process that ends sends.
-use Rattle.std.proofs.Common.{◌≡◌, Bool, true, false, cond, not, ◌&&◌, List, [], ◌∷◌, ◌++◌, None, refl, sym, ap, ◌∙◌, append-nil, append_assoc}
-use Rattle.std.specs.List.{flat_map}
+use Rattle.std.proofs.Common.{◌≡◌, ℕ, ◌<◌, Bool, true, false, cond, not, ◌&&◌, List, [], ◌∷◌, ◌++◌, length, get_or, None, Some, refl, sym, ap, ◌∙◌, append-nil, append_assoc}
+use Rattle.std.specs.List.{filter, flat_map, slice_get}
+use Rattle.std.specs.Option.{option_to_list}
+use Rattle.std.proofs.lemmas.Option.{slice_get-get_or}
 use Rattle.std.specs.Ordering.{eq_by_cmp}
 use Rattle.std.specs.FinMap as fm
 use Rattle.std.specs.FinMap.{FinMap}
@@ -14,6 +16,7 @@ use Rattle.erl_control.specs.declared.signal.Signal.{Signal}
 use Rattle.erl_term.specs.Data.{Data}
 use Rattle.erl_term.specs.declared.term.Pid.{Pid}
 use Rattle.link_core.specs.declared.end.End.{End}
+use Rattle.monitor_core.specs.Index.{picked}
 use Rattle.node_tables.specs.declared.end_change.EndChange.TheVariants as end
 use Rattle.node_plans.specs.Carried.{CarriesOut, IsFree, link_in}
 use Rattle.node_plans.specs.Exiting.{OnlyExits, exit_to, exits_to}
@@ -37,6 +40,30 @@ flat_more f (y ∷ xs) x = ap (λ l. f y ++ l) (flat_more f xs x) ∙ sym (appen
 -- and one more
 pub post_more : {X : Type 0} (f : X → List Signal) (xs ys : List X) (x : X) (w : Work) → ys ≡ xs ++ x ∷ [] → post_all (flat_map f ys) w ≡ post_all (f x) (post_all (flat_map f xs) w)
 post_more f xs ys x w h = ap (λ l. post_all (flat_map f l) w) h ∙ ap (λ l. post_all l w) (flat_more f xs x) ∙ post_both (flat_map f xs) (f x) w
+
+-- ---- signals for the items at some places
+
+pub picked_more : {A : Type 0} (items : List A) (places more : List ℕ) (place : ℕ) (item : A) → more ≡ places ++ place ∷ [] → place < length items → item ≡ get_or items place item → picked items more ≡ picked items places ++ item ∷ []
+picked_more items places more place item m l h = ap (picked items) m ∙ go places
+  where
+    here : slice_get items place ≡ Some item
+    here = slice_get-get_or items place item l ∙ ap Some (sym h)
+
+    go : (ps : List ℕ) → picked items (ps ++ place ∷ []) ≡ picked items ps ++ item ∷ []
+    go [] = ap (λ o. option_to_list o ++ []) here
+    go (p ∷ ps) = ap (λ l. option_to_list (slice_get items p) ++ l) (go ps) ∙ sym (append_assoc (option_to_list (slice_get items p)) (picked items ps) (item ∷ []))
+
+-- what doesn't pass gives none
+pub flat_passing : {X : Type 0} (passes : X → Bool) (f : X → List Signal) (xs : List X) → flat_map (λ x. cond (passes x) (f x) []) (filter passes xs) ≡ flat_map (λ x. cond (passes x) (f x) []) xs
+flat_passing passes f [] = refl
+flat_passing {X = X} passes f (x ∷ xs) = go (passes x) refl (flat_passing passes f xs)
+  where
+    told : List X → List Signal
+    told = flat_map (λ y. cond (passes y) (f y) [])
+
+    go : (b : Bool) → passes x ≡ b → told (filter passes xs) ≡ told xs → told (cond b (x ∷ filter passes xs) (filter passes xs)) ≡ cond b (f x) [] ++ told xs
+    go true e h = ap (λ b. cond b (f x) [] ++ told (filter passes xs)) e ∙ ap (λ l. f x ++ l) h
+    go false e h = h
 
 -- ---- a partner whose link is gone is told nothing
 

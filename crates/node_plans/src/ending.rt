@@ -176,7 +176,9 @@ impl Plan {
         ensures watches { self.new.watches ≡ self.old.watches }
         ensures watchers { self.new.watchers ≡ self.old.watchers }
     {
-        for (reference, monitor) in node.watchers.entries() {
+        let entries = node.watchers.entries();
+        for place in node.watchers.targeting(process) {
+            let (reference, monitor) = &entries[*place];
             self.post_monitor_exit(alloc, node, process, reason, reference, monitor)?;
         }
         Ok(())
@@ -221,7 +223,9 @@ impl Plan {
         ensures watches { self.new.watches ≡ self.old.watches }
         ensures watchers { self.new.watchers ≡ self.old.watchers }
     {
-        for (reference, monitor) in node.watches.entries() {
+        let entries = node.watches.entries();
+        for place in node.watches.owned_by(process) {
+            let (reference, monitor) = &entries[*place];
             self.post_demonitor(alloc, node, process, reference, monitor)?;
         }
         Ok(())
