@@ -4,8 +4,8 @@ use Rattle.std.specs.List.{filter, insert, remove, slice_range}
 use Rattle.std.specs.Cmp.{both_ways, IsTotalOrder, nat_cmp_total, alike_right, tied_back}
 use Rattle.std.specs.Cmp.Lexicographic.{options_total}
 use Rattle.std.proofs.lemmas.Cmp.{on_total, then_total, tied_itself, ranked}
-use Rattle.std.proofs.lemmas.List.{take_at, drop_at, drop-drop, take-append-drop, map-append, append_assoc, length-map, length-take, length-append}
-use Rattle.std.proofs.lemmas.List.Edits.{split_between}
+use Rattle.std.proofs.lemmas.List.{take_at, drop_at, drop-drop, get_or_default, take-append-drop, map-append, append_assoc, length-map, length-take, length-append}
+use Rattle.std.proofs.lemmas.List.Edits.{split_between, get_or-between}
 use Rattle.std.specs.declared.cmp.Ordering.{Ordering}
 use Rattle.std.specs.declared.cmp.Ordering.TheVariants.{Less, Equal, Greater}
 use Rattle.std.specs.Ordering.{is_lt, is_le, is_eq, nat_cmp, ordering_then, ordering_reverse, eq_by_cmp}
@@ -22,7 +22,7 @@ use Rattle.monitor_core.specs.Index.{Each, Rises, counted, tally, picked, proces
 use Rattle.monitor_core.proofs.Order.{pid_cmp_total}
 use Rattle.monitor_core.proofs.Tallies.{Test, plus_if, same, same_is, same_itself, below, below_lt, below_is, is_below, each_weaker, each_both, each_append, each_left, each_right, each_map, rises_map, rises_weaker, rises_left, rises_right, rises_around, rises_with, counted_append, counted_with, counted_map, counted_same, counted_none, none_counted, tally_same, tally_none, climbing_same}
 use Rattle.monitor_core.proofs.Shifts.{up, up_is, up_rises, up_other, tally_up, length_with, process_with, left, left_same, left_one, kept, kept_rises, kept_and_gone, tally_left, process_left, chosen, counted_chosen, chosen_climbs, passing, picked_chosen}
-use Rattle.monitor_core.proofs.Parts.{partitioned, climbs_up}
+use Rattle.monitor_core.proofs.Parts.{each_drop, partitioned, climbs_up}
 
 abbrev maybe_cmp : Option Pid → Option Pid → Ordering
 maybe_cmp = option_cmp pid_cmp
@@ -154,6 +154,31 @@ cut_sunk f xs gone from to l n le =
     ∙ ap (λ l. map f (take from xs) ++ l) (ap (drop to) (sym (append_assoc (map f (take from xs)) gone (map f (drop to xs)))) ∙ drop_at (map f (take from xs) ++ gone) (map f (drop to xs)) to b)
     ∙ sym (map-append f (take from xs) (drop to xs))
 
+-- nothing sinks below what is gone
+stay : (gone xs : List ℕ) (least : ℕ) → Each (λ o. least ≤ o) gone → Each (λ x. x ≤ least) xs → map (sunk gone) xs ≡ xs
+stay gone [] least h k = refl
+stay gone (x ∷ xs) least h k =
+    let none = counted_none (λ o. nat_lt o x) gone (each_weaker (λ o. least ≤ o) (λ o. nat_lt o x ≡ false) (λ o l. not_less o x (omega (arith, l, k.0))) gone h) in
+    ap (λ y. y ∷ map (sunk gone) xs) (ap (λ n. x - n) none ∙ omega arith) ∙ ap (λ ys. x ∷ ys) (stay gone xs least h k.1)
+  where
+    not_less : (o y : ℕ) → y ≤ o → nat_lt o y ≡ false
+    not_less o y l = grind (arith, tests)
+
+above_first : (xs : List ℕ) (first : ℕ) → IsNonDecreasing xs → ((d : ℕ) → 0 < length xs → first ≡ get_or xs 0 d) → Each (λ o. first ≤ o) xs
+above_first xs first h f = each_drop (λ o. first ≤ o) xs 0 (λ k d a b. let e = f d (omega (arith, b)) in let l = h 0 k d (omega arith) b in omega (arith, e, l))
+
+pub last_alone : (xs : List ℕ) (from to : ℕ) → from < to → to ≤ length xs → Each (λ x. x < length xs) xs → IsNonDecreasing (slice_range xs from to) → get_or xs from 0 ≡ length xs - 1
+    → xs ≡ map (sunk (slice_range xs from to)) (take from xs) ++ (slice_range xs from to ++ map (sunk (slice_range xs from to)) (drop to xs))
+last_alone xs from to l m w h e =
+    let gone = slice_range xs from to in
+    let whole = split_between xs from to (omega (arith, l)) in
+    let least : Each (λ o. length xs - 1 ≤ o) gone = above_first gone (length xs - 1) h (λ d k. sym (get_or-between xs from to 0 d (omega (arith, l)) ∙ ap (λ n. get_or xs n d) (omega arith) ∙ get_or_default xs from d 0 (omega (arith, l, m)) ∙ e)) in
+    let all = subst (Each (λ x. x < length xs)) whole w in
+    let front : Each (λ x. x ≤ length xs - 1) (take from xs) = each_weaker (λ x. x < length xs) (λ x. x ≤ length xs - 1) (λ x k. omega (arith, k)) (take from xs) (each_left _ (take from xs) (gone ++ drop to xs) all) in
+    let back : Each (λ x. x ≤ length xs - 1) (drop to xs) = each_weaker (λ x. x < length xs) (λ x. x ≤ length xs - 1) (λ x k. omega (arith, k)) (drop to xs) (each_right _ gone (drop to xs) (each_right _ (take from xs) (gone ++ drop to xs) all)) in
+    whole ∙ ap (λ ys. ys ++ (gone ++ drop to xs)) (sym (stay gone (take from xs) (length xs - 1) least front))
+    ∙ ap (λ ys. map (sunk gone) (take from xs) ++ (gone ++ ys)) (sym (stay gone (drop to xs) (length xs - 1) least back))
+
 -- a record came in
 map_agree : (f g : ℕ → ℕ) → ((x : ℕ) → f x ≡ g x) → (xs : List ℕ) → map f xs ≡ map g xs
 map_agree f g h [] = refl
@@ -167,8 +192,11 @@ tally_every : (n : ℕ) → tally (λ x. true) n ≡ n
 tally_every zero = refl
 tally_every (suc n) = ap suc (tally_every n)
 
-pub as_many : (of : Monitor → Pid) (rs : Records) (places : List ℕ) → IsIndex of rs places → length places ≡ length rs
+as_many : (of : Monitor → Pid) (rs : Records) (places : List ℕ) → IsIndex of rs places → length places ≡ length rs
 as_many of rs places h = sym (counted_every places) ∙ h.all (λ x. true) ∙ tally_every (length rs)
+
+pub within_places : (of : Monitor → Pid) (rs : Records) (places : List ℕ) → IsIndex of rs places → Each (λ x. x < length places) places
+within_places of rs places h = subst (λ n. Each (λ x. x < n) places) (sym (as_many of rs places h)) (within_records of rs places h)
 
 -- nothing moves where it is the last
 pub none_moved : (at : ℕ) (xs : List ℕ) → Each (λ x. x < at) xs → map (moved_up at) xs ≡ xs

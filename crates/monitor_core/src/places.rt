@@ -159,15 +159,19 @@ fn sink_around(places: &mut [usize], from: usize, to: usize)
     sink(behind, gone);
 }
 
-// The same of a vector.
+// The same of a vector. The last record alone has none behind it that sinks.
 fn sink_others(places: &mut Vec<usize>, from: usize, to: usize)
     requires order { (from ≤ to) × (to ≤ vec_len places.old) }
+    requires within { Each (λ place. place < length places.old.items) places.old.items }
     requires gone { IsNonDecreasing (slice_range places.old.items from to) }
     ensures places { let gone = slice_range places.old.items from to in
         places.new.items ≡ map (sunk gone) (take from places.old.items) ++ (gone ++ map (sunk gone) (drop to places.old.items)) }
     ensures capacity { vec_capacity places.new ≡ vec_capacity places.old }
     ensures len { vec_len places.new ≡ vec_len places.old }
 {
+    if from < to && places[from] == places.len() - 1 {
+        return;
+    }
     sink_around(places, from, to);
 }
 
@@ -177,12 +181,15 @@ fn cut(places: &mut Vec<usize>, from: usize, to: usize)
     ensures places { places.new.items ≡ take from places.old.items ++ drop to places.old.items }
     ensures capacity { vec_capacity places.new ≡ vec_capacity places.old }
 {
-    places.drain(from..to);
+    let len = places.len();
+    places.copy_within(to..len, from);
+    places.truncate(len - (to - from));
 }
 
 /// The records at a part of the places are gone: the other places sink, and this part goes.
 pub(crate) fn close(places: &mut Vec<usize>, from: usize, to: usize)
     requires order { (from ≤ to) × (to ≤ vec_len places.old) }
+    requires within { Each (λ place. place < length places.old.items) places.old.items }
     requires gone { IsNonDecreasing (slice_range places.old.items from to) }
     ensures places { places.new.items ≡ map (sunk (slice_range places.old.items from to)) (take from places.old.items ++ drop to places.old.items) }
     ensures capacity { vec_capacity places.new ≡ vec_capacity places.old }

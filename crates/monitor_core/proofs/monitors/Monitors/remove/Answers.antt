@@ -8,7 +8,7 @@ use Rattle.monitor_core.specs.Index.{IsIndex, IsParted, order_at, process_of}
 use Rattle.monitor_core.specs.declared.places.Point.TheVariants.{At}
 use Rattle.monitor_core.proofs.Order.{reference_cmp_total, reference_cmp_exact}
 use Rattle.monitor_core.proofs.Maps.{get_here, remove_same, none_of, on_true}
-use Rattle.monitor_core.proofs.Indexed.{closed_index, gone_up, left_at}
+use Rattle.monitor_core.proofs.Indexed.{closed_index, gone_up, left_at, within_places}
 use Rattle.monitor_core.proofs.monitors.Monitors.remove.Goals as goal
 
 pub returns-in-Err-clause-answer : goal.returns-in-Err-clause-answer
@@ -24,6 +24,9 @@ returns-in-Err-clause-monitors c =
     let none = ap (λ (k : Sided). map.get k.monitors c.args.reference.now) (sym c.self.view_is) ∙ get_here rs c.args.reference.now c.self.invariant.sorted
     ∙ finds_none reference_cmp_total rs c.args.reference.now c.in-Err.field-0 c.self.invariant.sorted c.in-Err.ensures.gap in
     sym (remove_same _ c.args.reference.now none)
+
+pub close-requires-clause-within : goal.close-requires-clause-within
+close-requires-clause-within c = within_places (process_of c.self.inside.side) c.self.inside.records.entries c.self.inside.places.items c.self.invariant.index
 
 pub close-requires-clause-gone : goal.close-requires-clause-gone
 close-requires-clause-gone c =

@@ -14,7 +14,7 @@ use Rattle.monitor_core.specs.Monitors.{Sided}
 use Rattle.monitor_core.specs.Records.{Records, AreSorted}
 use Rattle.monitor_core.specs.Index.{IsIndex, IsParted, order_at, picked, process_of}
 use Rattle.monitor_core.proofs.Order.{reference_cmp_total, reference_cmp_exact}
-use Rattle.monitor_core.proofs.Indexed.{closed_index, gone_up, left_others, none_its, passing_its, picked_gone}
+use Rattle.monitor_core.proofs.Indexed.{closed_index, gone_up, left_others, none_its, passing_its, picked_gone, within_places}
 use Rattle.monitor_core.proofs.monitors.Monitors.remove_of.Goals as goal
 
 pub returns-then-from-to-clause-monitors : goal.returns-then-from-to-clause-monitors
@@ -33,6 +33,9 @@ returns-then-from-to-clause-monitors c =
     sym (ap (λ (k : Sided). k.monitors) c.self.view_is) ∙ ap map.from_sorted (sym (none_its of c.args.process.now rs none))
     ∙ map_kept reference_cmp_total reference_cmp_exact goes (is_of of c.args.process.now) refl (λ m. refl) rs c.self.invariant.sorted
     ∙ ap (λ (k : Sided). without (process_of k.side) k.monitors c.args.process.now) c.self.view_is
+
+pub close-requires-clause-within : goal.close-requires-clause-within
+close-requires-clause-within c = within_places (process_of c.self.inside.side) c.self.inside.records.entries c.self.inside.places.items c.self.invariant.index
 
 pub close-requires-clause-gone : goal.close-requires-clause-gone
 close-requires-clause-gone c =

@@ -1,15 +1,12 @@
-use Rattle.std.proofs.Common.{◌<◌, sym, ap, subst, ◌∙◌}
+use Rattle.std.proofs.Common.{sym, ap, subst, ◌∙◌}
 use Rattle.std.specs.List.{insert}
-use Rattle.monitor_core.specs.Index.{Each, IsIndex, IsRising, IsParted, order_at, process_of}
+use Rattle.monitor_core.specs.Index.{IsIndex, IsRising, IsParted, order_at, process_of}
 use Rattle.monitor_core.specs.declared.places.Point.TheVariants.{At}
-use Rattle.monitor_core.proofs.Indexed.{as_many, within_records, moved_rising, grown_index}
+use Rattle.monitor_core.proofs.Indexed.{within_places, moved_rising, grown_index}
 use Rattle.monitor_core.proofs.places.Side.put.Goals as goal
 
 pub make_way-requires : goal.make_way-requires
-make_way-requires c =
-    let g = c.requires.grown in
-    let places = c.args.places.now.items in
-    subst (λ n. Each (λ place. place < n) places) (sym (as_many (process_of c.args.self) g.others places g.index)) (within_records (process_of c.args.self) g.others places g.index)
+make_way-requires c = within_places (process_of c.args.self) c.requires.grown.others c.args.places.now.items c.requires.grown.index
 
 pub part-before-requires : goal.part-before-requires
 part-before-requires c =
