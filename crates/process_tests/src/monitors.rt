@@ -28,6 +28,10 @@ enum Call {
     RemoveAll(Process),
     /// The first of a process: of its own monitors, or of those that target it.
     First(Process),
+    /// How many a process has: of its own monitors, or of those that target it.
+    CountOf(Process),
+    /// The last of those.
+    LastOf(Process),
     /// The first whose other end is on the node of this process.
     FirstTowards(Process),
     /// How many there are.
@@ -56,6 +60,14 @@ fn found(entry: Option<&(Reference, Monitor)>) -> Answer {
             [word, ..] => Answer::Found(*word),
             [] => Answer::NotFound,
         },
+        None => Answer::NotFound,
+    }
+}
+
+/// The entry at the last of these places.
+fn last(entries: &[(Reference, Monitor)], places: &[usize]) -> Answer {
+    match places.last() {
+        Some(place) => found(entries.get(*place)),
         None => Answer::NotFound,
     }
 }
@@ -101,6 +113,8 @@ fn call_own(alloc: Global, watches: &mut Watches, call: Call) -> Result<Answer, 
         Call::Has(word) => yes_or_no(watches.get(&reference(alloc, word)?).is_some()),
         Call::Remove(word) => yes_or_no(watches.remove(&reference(alloc, word)?)),
         Call::First(process) => found(watches.first_owned_by(&pid(alloc, process)?)),
+        Call::CountOf(process) => Answer::Count(watches.owned_by(&pid(alloc, process)?).len()),
+        Call::LastOf(process) => last(watches.entries(), watches.owned_by(&pid(alloc, process)?)),
         Call::RemoveAll(process) => removes_own(alloc, watches, process)?,
         Call::FirstTowards(process) => found(watches.first_towards(&pid(alloc, process)?.node)),
         Call::Count => Answer::Count(watches.entries().len()),
@@ -141,6 +155,13 @@ fn call_of_others(alloc: Global, watchers: &mut Watchers, call: Call) -> Result<
         Call::Has(word) => yes_or_no(watchers.get(&reference(alloc, word)?).is_some()),
         Call::Remove(word) => yes_or_no(watchers.remove(&reference(alloc, word)?)),
         Call::First(process) => found(watchers.first_targeting(&pid(alloc, process)?)),
+        Call::CountOf(process) => Answer::Count(watchers.targeting(&pid(alloc, process)?).len()),
+        Call::LastOf(process) => {
+            last(
+                watchers.entries(),
+                watchers.targeting(&pid(alloc, process)?),
+            )
+        }
         Call::RemoveAll(process) => removes(alloc, watchers, process)?,
         Call::FirstTowards(process) => found(watchers.first_towards(&pid(alloc, process)?.node)),
         Call::Count => Answer::Count(watchers.entries().len()),
@@ -180,7 +201,28 @@ const OWN_IN_ORDER: [(Call, Answer); 14] = [
     (Call::Count, Answer::Count(1)),
 ];
 
-const OF_OTHERS: [(Call, Answer); 16] = [
+/// A process is found with all that it has, whatever came or went before them.
+const OWN_OF_EACH: [(Call, Answer); 17] = [
+    (Call::Put(5, OWNER, TARGET), Answer::Done),
+    (Call::Put(3, OTHER, TARGET), Answer::Done),
+    (Call::Put(4, OWNER, OTHER), Answer::Done),
+    (Call::Put(1, OWNER_OF_THE_NEXT, TARGET), Answer::Done),
+    (Call::Put(2, OWNER, TARGET), Answer::Done),
+    (Call::Put(4, OTHER, OWNER), Answer::Done),
+    (Call::CountOf(OWNER), Answer::Count(3)),
+    (Call::LastOf(OWNER), Answer::Found(5)),
+    (Call::LastOf(OTHER), Answer::Found(3)),
+    (Call::LastOf(OWNER_OF_THE_NEXT), Answer::Found(1)),
+    (Call::CountOf(TARGET), Answer::Count(0)),
+    (Call::Remove(2), Answer::Yes),
+    (Call::RemoveAll(OWNER_OF_THE_NEXT), Answer::Done),
+    (Call::CountOf(OWNER), Answer::Count(2)),
+    (Call::LastOf(OTHER), Answer::Found(3)),
+    (Call::RemoveAll(OWNER), Answer::Done),
+    (Call::LastOf(OTHER), Answer::Found(3)),
+];
+
+const OF_OTHERS: [(Call, Answer); 20] = [
     (Call::Put(3, OWNER, TARGET), Answer::Done),
     (Call::Put(1, OWNER, TARGET), Answer::Done),
     (Call::Put(2, OWNER, TARGET), Answer::Done),
@@ -189,12 +231,16 @@ const OF_OTHERS: [(Call, Answer); 16] = [
     (Call::Ends(1, OWNER_OF_THE_NEXT, TARGET), Answer::No),
     (Call::Has(1), Answer::Yes),
     (Call::First(TARGET), Answer::Found(1)),
+    (Call::CountOf(TARGET), Answer::Count(3)),
+    (Call::LastOf(TARGET), Answer::Found(3)),
+    (Call::LastOf(OTHER), Answer::Found(4)),
     (Call::FirstTowards(OWNER), Answer::Found(1)),
     (Call::Ends(1, OWNER, TARGET), Answer::Yes),
     (Call::Remove(1), Answer::No),
     (Call::FirstTowards(OWNER), Answer::Found(2)),
     (Call::RemoveAll(TARGET), Answer::Done),
     (Call::First(TARGET), Answer::NotFound),
+    (Call::LastOf(OTHER), Answer::Found(4)),
     (Call::FirstTowards(OWNER), Answer::NotFound),
     (Call::Count, Answer::Count(1)),
 ];
@@ -215,6 +261,7 @@ fn first_wrong(alloc: Global, rows: &[(Call, Answer)]) -> Option<usize> {
 fn own_monitors(rt: HostRuntime) {
     assert_eq!(rt; first_wrong_own(rt.alloc(), &OWN), None);
     assert_eq!(rt; first_wrong_own(rt.alloc(), &OWN_IN_ORDER), None);
+    assert_eq!(rt; first_wrong_own(rt.alloc(), &OWN_OF_EACH), None);
 }
 
 #[test]
