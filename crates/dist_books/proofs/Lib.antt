@@ -3,3 +3,4 @@ pub mod Numbers
 pub mod Steps
 pub mod Senders
 pub mod Joining
+pub mod Growing

@@ -1,3 +1,4 @@
 pub mod Acting
 pub mod Books
 pub mod Merged
+pub mod Growing

@@ -1,6 +1,7 @@
 //! The laws. Each function does nothing: its contract is the law.
 ghost use Rattle.dist_books.specs.Acting.{EventsAreLines};
 ghost use Rattle.dist_books.specs.Books.{NewBooksAreKept};
+ghost use Rattle.dist_books.specs.Growing.{BooksGrow, BooksRest, NewBooksFollow, NextIsNew, SentToPeers};
 ghost use Rattle.dist_books.specs.Merged.{BooksAreARun, BooksAreSafe};
 
 /// Whatever comes of an event at a node is a line of its log: what it answers, what it becomes and what
@@ -28,4 +29,20 @@ pub fn books_are_a_run()
     dist_model::event_is_local();
     dist_model::node_keeps_its_bearings();
     dist_model::every_run_is_safe();
+}
+
+/// A book of which all holds that its thread keeps (`Follows`: a log replays it, and its ports are those
+/// of its node's sides) is such a book again with the entry of any event (`grow`), where what waits is
+/// put, what was put comes into a slot, or the port comes of a trunk that another node has dialed
+/// (`rest`); and so is the book of a new node (`new`). The trunk that a node dials next has no port yet
+/// (`next`), and what an event sends goes to the peer of a port (`sent`).
+pub fn books_grow()
+    ensures grow { BooksGrow }
+    ensures rest { BooksRest }
+    ensures new { NewBooksFollow }
+    ensures next { NextIsNew }
+    ensures sent { SentToPeers }
+{
+    events_are_lines();
+    dist_model::node_keeps_its_bearings();
 }
