@@ -1,5 +1,6 @@
-pub mod Texts
 pub mod Placed
 pub mod Routing
 pub mod Ended
 pub mod Lost
+pub mod Index
+pub mod Sought

@@ -1,6 +1,13 @@
 -- The place of the first side that is lost.
-use Rattle.std.proofs.Common.{◌≡◌, nat_lt, Bor, ℕ, zero, suc, ◌+◌, ◌<◌, Bool, true, false, cond, List, [], ◌∷◌, length, get_or, map, Option, None, Some, refl, sym, ap, ◌∙◌, arith}
-use Rattle.std.specs.List.{position_from}
+use Rattle.std.proofs.Common.{◌≡◌, nat_lt, Bor, ℕ, zero, suc, ◌+◌, ◌<◌, ◌≤◌, Bool, true, false, cond, List, [], ◌∷◌, length, get_or, map, Option, None, Some, refl, sym, ap, ◌∙◌, arith}
+use Rattle.std.specs.List.{All, filter, position_from, slice_get}
+use Rattle.std.specs.Ordering.{eq_by_cmp}
+use Rattle.std.proofs.lemmas.List.Elements.{All-contains, filter_passes}
+use Rattle.dist_model.proofs.Calls.{by_test}
+use Rattle.node_sides.proofs.Index.{Has, has_rest, one_place}
+use Rattle.node_sides.proofs.Sought.{never, sought_open}
+use Rattle.node_sides.specs.Index.{AreIndexed, IsLeast, passes_in, place_cmp}
+use Rattle.node_sides.specs.declared.which.Which.TheVariants.{Losing}
 use Rattle.std.specs.Option.{option_copied, option_map}
 use Rattle.std.specs.Slice.{IsItemAt}
 use Rattle.std.proofs.lemmas.Iterator.Adapters.{position_from-zero}
@@ -65,3 +72,58 @@ no_item m n h l = grind arith
 pub lost_read : (held : List Side) (at : ℕ) (o : Option (Bor Side)) → lost_place held ≡ Some at → IsItemAt held at o → option_map entry_of (option_copied o) ≡ any_side is_losing (entries_of held)
 lost_read held at None h item = absurd (no_item at (length held) item.0 (lost_within held at h))
 lost_read held at (Some x) h item = sym (lost_entry held at x.now h item.1)
+
+-- ---- it is the least among the places of those that aren't gone
+
+module _ (held : List Side) where
+  abbrev pub lost_at : ℕ → Bool
+  lost_at place = passes_in is_losing (slice_get held place)
+
+  at_least : (xs : List ℕ) (least k : ℕ) → All (λ other. least ≤ other) (filter lost_at xs) → lost_at k ≡ true → Has held xs k → least ≤ k
+  at_least [] least k a t h = absurd (never (sym h))
+  at_least (y ∷ ys) least k a t h = go (lost_at y) refl a (at_least ys least k)
+    where
+      go : (b : Bool) → lost_at y ≡ b → All (λ other. least ≤ other) (cond b (y ∷ filter lost_at ys) (filter lost_at ys)) → (All (λ other. least ≤ other) (filter lost_at ys) → lost_at k ≡ true → Has held ys k → least ≤ k) → least ≤ k
+      go true e a more = by_test _ (eq_by_cmp (place_cmp held) k y)
+          (λ s. let same = one_place held k y s in let l = a 0 0 (omega arith) in omega (arith, same, l))
+          (λ s. more (λ i d l. a (suc i) d (omega arith)) t (has_rest held y k ys s h))
+      go false e a more = by_test _ (eq_by_cmp (place_cmp held) k y)
+          (λ s. absurd (never (sym t ∙ ap lost_at (one_place held k y s) ∙ e)))
+          (λ s. more a t (has_rest held y k ys s h))
+
+  no_cons : {A : Type 0} (x : A) (xs : List A) → x ∷ xs ≡ [] → ⊥
+  no_cons x xs h = cc
+
+  not_one : (xs : List ℕ) (k : ℕ) → filter lost_at xs ≡ [] → lost_at k ≡ true → Has held xs k → ⊥
+  not_one [] k n t h = never (sym h)
+  not_one (y ∷ ys) k n t h = go (lost_at y) refl n (not_one ys k)
+    where
+      go : (b : Bool) → lost_at y ≡ b → cond b (y ∷ filter lost_at ys) (filter lost_at ys) ≡ [] → (filter lost_at ys ≡ [] → lost_at k ≡ true → Has held ys k → ⊥) → ⊥
+      go true e n more = no_cons y _ n
+      go false e n more = by_test ⊥ (eq_by_cmp (place_cmp held) k y)
+          (λ s. never (sym t ∙ ap lost_at (one_place held k y s) ∙ e))
+          (λ s. more n t (has_rest held y k ys s h))
+
+pub lost_first : (held : List Side) (i at : ℕ) → lost_at held at ≡ true → ((k : ℕ) → k < at → lost_at held k ≡ false) → position_from is_lost i held ≡ Some (i + at)
+lost_first [] i at t before = absurd (never (sym t))
+lost_first (x ∷ xs) i zero t before = ap (λ b. cond b (Some i) (position_from is_lost (i + 1) xs)) t ∙ ap Some (omega arith)
+lost_first (x ∷ xs) i (suc at) t before =
+    ap (λ b. cond b (Some i) (position_from is_lost (i + 1) xs)) (before 0 (omega arith))
+    ∙ lost_first xs (i + 1) at t (λ k l. before (suc k) (omega arith)) ∙ ap Some (omega arith)
+
+pub lost_nowhere : (held : List Side) (i : ℕ) → ((k : ℕ) → lost_at held k ≡ false) → position_from is_lost i held ≡ None
+lost_nowhere [] i h = refl
+lost_nowhere (x ∷ xs) i h = ap (λ b. cond b (Some i) (position_from is_lost (i + 1) xs)) (h 0) ∙ lost_nowhere xs (i + 1) (λ k. h (suc k))
+
+pub least_is : (held : List Side) (places : List ℕ) (r : Option ℕ) → AreIndexed held places → IsLeast (filter (lost_at held) places) r → r ≡ lost_place held
+least_is held places r h = go r
+  where
+    has_it : (k : ℕ) → lost_at held k ≡ true → Has held places k
+    has_it k t = h.exact k ∙ sought_open Losing (slice_get held k) t
+
+    go : (r : Option ℕ) → IsLeast (filter (lost_at held) places) r → r ≡ lost_place held
+    go None n = sym (position_from-zero is_lost held ∙ lost_nowhere held 0 (λ k. by_test _ (lost_at held k) (λ t. absurd (not_one held places k n t (has_it k t))) (λ t. t)))
+    go (Some least) (there, all) = sym (position_from-zero is_lost held ∙ lost_first held 0 least
+        (All-contains (λ k. lost_at held k ≡ true) (filter (lost_at held) places) least (filter_passes (lost_at held) places) there)
+        (λ k l. by_test _ (lost_at held k) (λ t. let b = at_least held places least k all t (has_it k t) in absurd (omega (arith, b, l))) (λ t. t))
+        ∙ ap Some (omega arith))

@@ -2,3 +2,4 @@ pub mod Standings
 pub mod Sides
 pub mod Changes
 pub mod Passing
+pub mod Index

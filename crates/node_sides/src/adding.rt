@@ -10,9 +10,10 @@ ghost use Rattle.node_sides.specs.Sides.{sides, HasRouteRoom, HasSideRoom};
 ghost use Rattle.node_sides.specs.Standings.{side_of, state_of};
 
 use crate::lookup::place_in;
-use crate::seeking::lost_place;
+use crate::places::{add_place, keep_place};
+use crate::seeking::least_lost;
 use crate::sides::Sides;
-use crate::which::is_up;
+use crate::which::{is_open, is_up};
 use conn_core::{Side, Standing};
 use erl_names::TrunkId;
 use erl_term::Atom;
@@ -31,12 +32,15 @@ impl Sides {
     {
         match place_in(&self.held, &side.trunk) {
             Ok(_) => unreachable!(),
-            Err(at) => match self.held.insert(at, side) {
-                Ok(()) => {}
-                Err(_) => unreachable!(),
-            },
+            Err(at) => {
+                match self.held.insert(at, side) {
+                    Ok(()) => {}
+                    Err(_) => unreachable!(),
+                }
+                add_place(&self.held, &mut self.places, at);
+            }
         }
-        self.lost = lost_place(&self.held);
+        self.lost = least_lost(&self.held, &self.places);
     }
 
     /// The side of a connection stands so, and isn't up, if there is one. Takes no memory. (ERTS User's
@@ -48,9 +52,11 @@ impl Sides {
         ensures route_room { (more : ℕ) → HasRouteRoom more self.old → HasRouteRoom more self.new }
     {
         if let Ok(at) = place_in(&self.held, trunk) {
+            let was_open = is_open(self.held[at].standing);
             close_route(&mut self.routes, &self.held[at]);
             self.held[at].standing = standing;
-            self.lost = lost_place(&self.held);
+            keep_place(&self.held, &mut self.places, at, was_open);
+            self.lost = least_lost(&self.held, &self.places);
         }
     }
 
@@ -65,10 +71,14 @@ impl Sides {
         ensures route_room { (more : ℕ) → HasRouteRoom (suc more) self.old → HasRouteRoom more self.new }
     {
         match place_in(&self.held, &trunk) {
-            Ok(at) => self.held[at].standing = Standing::Up { creation },
+            Ok(at) => {
+                let was_open = is_open(self.held[at].standing);
+                self.held[at].standing = Standing::Up { creation };
+                keep_place(&self.held, &mut self.places, at, was_open);
+            }
             Err(_) => unreachable!(),
         }
-        self.lost = lost_place(&self.held);
+        self.lost = least_lost(&self.held, &self.places);
         match self.routes.insert(peer, trunk) {
             Ok(_) => {}
             Err(_) => unreachable!(),

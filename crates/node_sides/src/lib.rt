@@ -9,6 +9,7 @@ mod adding;
 mod change;
 mod lookup;
 mod making;
+mod places;
 mod reading;
 mod seeking;
 mod sides;

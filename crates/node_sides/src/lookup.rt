@@ -3,19 +3,10 @@ ghost use Rattle.std.specs.Prelude.{◌≡◌, true, IfOk, IfErr};
 ghost use Rattle.std.specs.FinMap.{is_sorted};
 ghost use Rattle.sorted_map.specs.Entries.{IsFoundAt, IsGapAt};
 ghost use Rattle.erl_names.specs.Order.{trunk_cmp};
-ghost use Rattle.dist_model.specs.Names.{same_name};
 ghost use Rattle.node_sides.specs.Standings.{entries_of};
 
 use conn_core::Side;
 use erl_names::TrunkId;
-use erl_term::Atom;
-
-#[tactic(auto, using(crate::proofs::Texts::same_text))]
-pub(crate) fn same_name(a: &Atom, b: &Atom) -> bool
-    ensures { result ≡ same_name a.now b.now }
-{
-    a == b
-}
 
 /// Where the side of a connection is, or where it would go.
 pub(crate) fn place_in(held: &[Side], trunk: &TrunkId) -> Result<usize, usize>

@@ -27,6 +27,7 @@ impl Sides {
         Sides {
             held: Vec::new(alloc),
             routes: SortedMap::new(alloc),
+            places: Vec::new(alloc),
             lost: None,
         }
     }
@@ -55,7 +56,7 @@ impl Sides {
     pub fn first_towards(&self, peer: &Atom, which: Which) -> Option<&Side>
         ensures { option_map entry_of (option_copied result) ≡ side_where (passes which) peer.now (fm.entries (sides self.now)) }
     {
-        first_towards(&self.held, peer, which)
+        first_towards(&self.held, &self.places, peer, which)
     }
 
     /// The first side that is lost and isn't cleared away yet. Its place is kept, so nothing is searched.
@@ -83,6 +84,8 @@ impl Sides {
         ensures succeeds { HasSideRoom additional self.old → HasRouteRoom additional self.old → IsOk result }
     {
         self.held.reserve(additional)?;
+        let gone = self.held.len() - self.places.len();
+        self.places.reserve(gone + additional)?;
         self.routes.reserve(additional)
     }
 }

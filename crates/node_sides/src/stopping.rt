@@ -18,6 +18,7 @@ impl Sides {
     {
         self.routes.retain(|_| false);
         end_all(&mut self.held);
+        self.places.clear();
         self.lost = None;
     }
 }

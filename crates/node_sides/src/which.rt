@@ -97,7 +97,7 @@ fn is_dialing(standing: Standing) -> bool
     }
 }
 
-fn is_open(standing: Standing) -> bool
+pub(crate) fn is_open(standing: Standing) -> bool
     ensures { result ≡ not (is_gone (state_of standing)) }
 {
     match standing {

@@ -3,8 +3,10 @@ use Rattle.std.specs.List.{insert}
 use Rattle.conn_core.specs.declared.side.Side.{Side}
 use Rattle.erl_names.specs.Order.{trunk_cmp}
 use Rattle.sorted_map.specs.Entries.{IsFoundAt, IsGapAt}
+use Rattle.node_sides.proofs.Lost.{least_is}
 use Rattle.node_sides.proofs.Placed.{get_side, insert_puts, none_found, not_there, place_gap, put_sides, put_sorted, settled_insert, taken}
 use Rattle.node_sides.proofs.Routing.{down_routed}
+use Rattle.node_sides.specs.Index.{AreIndexed}
 use Rattle.node_sides.specs.Standings.{all_settled, entries_of, is_up_to, lost_place, side_of}
 use Rattle.node_sides.proofs.sides.Sides.add.Goals as goal
 
@@ -49,7 +51,26 @@ invariant_of-self-clause-routed c =
     down_routed it.routes.entries it.held.items _ x.trunk (side_of x) it.routed puts c.requires.down.1 (λ q. ap (is_up_to q) (none_found it.held.items x.trunk at it.sorted gap))
 
 pub invariant_of-self-clause-first_lost : goal.invariant_of-self-clause-first_lost
-invariant_of-self-clause-first_lost c = c.lost_place-self.ensures ∙ ap lost_place c.deref-2.ensures.value
+invariant_of-self-clause-first_lost c =
+    let held = c.deref-2.result.now in
+    let places = c.deref-3.result.now in
+    let same = c.deref-in-Err.ensures.value ∙ sym c.deref-2.ensures.value in
+    let index = subst (λ (l : List Side). AreIndexed l places) same (subst (AreIndexed c.deref-in-Err.result.now) (sym c.deref-3.ensures.value) c.add_place.ensures.index) in
+    least_is held places c.least_lost-self.result index c.least_lost-self.ensures ∙ ap lost_place c.deref-2.ensures.value
+
+pub add_place-requires-clause-grown : goal.add_place-requires-clause-grown
+add_place-requires-clause-grown c =
+    let it = c.args.self.now in
+    let x = c.args.side in
+    let at = c.in-Err.at in
+    let gap = subst (λ (l : List Side). IsGapAt trunk_cmp (entries_of l) x.trunk at) c.deref.ensures.value c.in-Err.ensures.gap in
+    record {
+      others = it.held.items;
+      new = x;
+      is = c.deref-in-Err.ensures.value ∙ c.in-Ok-insert.ensures.items;
+      within = place_gap it.held.items x.trunk at gap;
+      index = it.indexed;
+    }
 
 pub returns-clause-sides : goal.returns-clause-sides
 returns-clause-sides c =

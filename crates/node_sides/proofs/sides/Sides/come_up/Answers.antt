@@ -1,5 +1,7 @@
-use Rattle.std.proofs.Common.{◌≡◌, refl, sym, ap, ◌∙◌, subst, arith, List, set}
+use Rattle.std.proofs.Common.{◌≡◌, refl, sym, ap, ◌∙◌, subst, arith, length, List, set}
 use Rattle.conn_core.specs.declared.side.Side.{Side}
+use Rattle.std.proofs.lemmas.Option.{slice_get_read}
+use Rattle.node_sides.specs.Index.{AreIndexed, not_gone, passes_in}
 use Rattle.std.specs.FinMap.{put}
 use Rattle.conn_core.specs.declared.standing.Standing.TheVariants as standing
 use Rattle.dist_model.specs.Names.{Name}
@@ -7,10 +9,14 @@ use Rattle.erl_names.specs.Order.{name_cmp, trunk_cmp}
 use Rattle.sorted_map.specs.Entries.{IsFoundAt, IsGapAt}
 use Rattle.std.specs.Option.{option_map}
 use Rattle.dist_model.specs.Sides.{TrunkSide}
+use Rattle.node_sides.proofs.Lost.{least_is}
 use Rattle.node_sides.proofs.Placed.{done, get_side, no_some, none_found, place_found, put_sides, put_sorted, same_some, set_puts, settled_set, stood_there, there_found}
 use Rattle.node_sides.proofs.Routing.{up_routed}
-use Rattle.node_sides.specs.Standings.{entries_of, side_of, sides_in}
+use Rattle.node_sides.specs.Standings.{lost_place, entries_of, side_of, sides_in}
 use Rattle.node_sides.proofs.sides.Sides.come_up.Goals as goal
+
+pub index-requires : goal.index-requires
+index-requires c = omega (arith, place_found _ _ _ c.in-Ok.ensures.found, c.deref.ensures.len)
 
 pub index_mut-requires : goal.index_mut-requires
 index_mut-requires c = omega (arith, place_found _ _ _ c.in-Ok.ensures.found, c.deref.ensures.len)
@@ -21,6 +27,33 @@ unreachable-requires c =
     let q = c.args.trunk in
     let gap = subst (λ (l : List Side). IsGapAt trunk_cmp (entries_of l) q c.in-Err.field-0) c.deref.ensures.value c.in-Err.ensures.gap in
     no_some c.args.peer (sym c.requires.towards ∙ ap (option_map (λ (s : TrunkSide). s.peer)) (get_side it.held.items q it.sorted ∙ none_found it.held.items q c.in-Err.field-0 it.sorted gap))
+
+pub keep_place-requires-clause-changed : goal.keep_place-requires-clause-changed
+keep_place-requires-clause-changed c =
+    let it = c.args.self.now in
+    let held = it.held.items in
+    let at = c.in-Ok.at in
+    let was = c.index.result.now in
+    let x = c.index_mut.result.now in
+    let y : Side = record x { standing = standing.Up c.args.creation } in
+    let within = place_found held c.args.trunk at (subst (λ (l : List Side). IsFoundAt trunk_cmp (entries_of l) c.args.trunk at) c.deref.ensures.value c.in-Ok.ensures.found) in
+    record {
+      before = held;
+      side = y;
+      is = c.deref-in-Ok.ensures.value;
+      within = within;
+      peer = ap (option_map (λ (s : Side). s.peer)) (slice_get_read held (length held) at x refl within c.index_mut.ensures.value);
+      stood = ap (passes_in not_gone) (slice_get_read held (length held) at was refl within c.index.ensures) ∙ sym c.is_open-was_open.ensures;
+      index = it.indexed;
+    }
+
+pub invariant_of-self-clause-first_lost : goal.invariant_of-self-clause-first_lost
+invariant_of-self-clause-first_lost c =
+    let held = c.deref-2.result.now in
+    let places = c.deref-3.result.now in
+    let same = c.deref-in-Ok.ensures.value ∙ sym c.deref-2.ensures.value in
+    let index = subst (λ (l : List Side). AreIndexed l places) same (subst (AreIndexed c.deref-in-Ok.result.now) (sym c.deref-3.ensures.value) c.keep_place.ensures.index) in
+    least_is held places c.least_lost-self.result index c.least_lost-self.ensures ∙ ap lost_place c.deref-2.ensures.value
 
 pub invariant_of-self-clause-sorted : goal.invariant_of-self-clause-sorted
 invariant_of-self-clause-sorted c =
