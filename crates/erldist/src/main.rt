@@ -4,6 +4,8 @@
 //! [`read_options`] reads the command line, and [`run_script`] runs the script.
 #![tactic(auto)]
 
+use clap::Error;
+use clap::error::ErrorKind;
 use script_core::{Options, Outcome, read_options, run_script};
 use std::alloc::Global;
 use std::io::{self, BufWriter};
@@ -29,26 +31,40 @@ fn run<R: Input + Print + Eprint>(rt: &R, alloc: Global, options: &Options) -> u
     outcome.status()
 }
 
+/// Says why the words of the command line can't be read, and answers the exit status.
+fn unread<R: Eprint>(rt: &R, fault: &io::Error) -> u8 {
+    if fault.kind() == io::ErrorKind::OutOfMemory {
+        return Outcome::OutOfMemory.status();
+    }
+    let _ = eprintln!(rt; "erldist: the command line can't be read: {fault}");
+    BAD_COMMAND_LINE
+}
+
+/// Prints the help or the version that was asked for, or what is wrong with the command line, and
+/// answers the exit status.
+fn answered<R: Print + Eprint>(rt: &R, fault: &Error) -> u8 {
+    if fault.kind() == ErrorKind::OutOfMemory {
+        return Outcome::OutOfMemory.status();
+    }
+    match fault.print(rt) {
+        Err(e) if e.kind() == io::ErrorKind::OutOfMemory => Outcome::OutOfMemory.status(),
+        Err(_) if fault.exit_code() == 0 => Outcome::Failed.status(),
+        _ => fault.exit_code() as u8,
+    }
+}
+
 fn main(rt: HostRuntime) -> ExitCode {
     let alloc = rt.alloc();
-    let Ok(words) = std::env::args(&rt) else {
-        let _ = eprintln!(rt; "erldist: the command line can't be read");
-        return ExitCode::from(BAD_COMMAND_LINE);
+    let words = match std::env::args(&rt) {
+        Ok(words) => words,
+        Err(fault) => return ExitCode::from(unread(&rt, &fault)),
     };
     let words: Vec<String> = match words.collect(alloc) {
         Ok(words) => words,
         Err(_) => return ExitCode::from(Outcome::OutOfMemory.status()),
     };
-    match read_options(alloc, words.as_slice()) {
-        Ok(options) => ExitCode::from(run(&rt, alloc, &options)),
-        Err(fault) => {
-            let is_printed = fault.print(&rt).is_ok();
-            let status = fault.exit_code() as u8;
-            ExitCode::from(if status == 0 && !is_printed {
-                Outcome::Failed.status()
-            } else {
-                status
-            })
-        }
-    }
+    ExitCode::from(match read_options(alloc, words.as_slice()) {
+        Ok(options) => run(&rt, alloc, &options),
+        Err(fault) => answered(&rt, &fault),
+    })
 }
