@@ -1,6 +1,10 @@
 -- What a parcel carries.
-use Rattle.std.specs.Prelude.{ℕ, ◌≤◌, List, length}
+use Rattle.std.specs.Prelude.{◌≡◌, ℕ, List}
+use Rattle.dist_model.specs.Items.{Item}
+use Rattle.node_plans.specs.Frames.{IsSpelled, bytes_of}
 
--- 1 to 512 bytes
-abbrev pub IsPiece : List ℕ → Type 0
-IsPiece bytes = (1 ≤ length bytes) × (length bytes ≤ 512)
+-- one whole item, as it is written
+pub record IsPiece (bytes : List ℕ) : Type 0 where
+  pub item : Item
+  pub spelled : IsSpelled item
+  pub written : bytes_of item ≡ bytes

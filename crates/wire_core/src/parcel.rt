@@ -12,7 +12,7 @@ pub enum Direction {
     ToDialer,
 }
 
-/// What travels on a wire: a piece of what one event of the sending node wrote.
+/// What travels on a wire: one item of what one event of the sending node wrote.
 #[derive(Clone, Drop)]
 pub struct Parcel {
     /// Of which connection it is.

@@ -5,7 +5,9 @@ ghost use Rattle.wire_core.specs.Pieces.{IsPiece};
 use std::alloc::AllocError;
 use std::marker::Model;
 
-/// 1 to 512 bytes of what is written on a connection. Contracts see them as a list.
+/// The bytes of one whole item that is written on a connection: a frame, or a message of the handshake.
+/// That they are the spelling of one its type keeps. Contracts see them as a list. (ERTS User's Guide,
+/// Distribution Protocol.)
 #[derive(Drop)]
 pub struct Piece {
     bytes: Vec<u8>,
@@ -23,10 +25,7 @@ impl Model for Piece {
 }
 
 impl Piece {
-    /// How many bytes a piece has at most.
-    pub const MAX_LEN: usize = 512;
-
-    /// These bytes, of which there are 1 to 512.
+    /// These bytes, which are an item's.
     pub fn new(bytes: Vec<u8>) -> Self
         requires { IsPiece bytes.items }
         ensures { result ≡ bytes.items }
@@ -37,7 +36,7 @@ impl Piece {
     /// The bytes.
     pub fn as_slice(&self) -> &[u8]
         ensures bytes { result.now ≡ self.now }
-        ensures length { IsPiece self.now }
+        ensures item { IsPiece self.now }
     {
         self.bytes.as_slice()
     }
@@ -45,7 +44,7 @@ impl Piece {
     /// The bytes.
     pub fn into_bytes(self) -> Vec<u8>
         ensures bytes { result.items ≡ self }
-        ensures length { IsPiece self }
+        ensures item { IsPiece self }
     {
         let Piece { bytes } = self;
         bytes
