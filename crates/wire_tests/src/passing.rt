@@ -17,13 +17,18 @@ fn trunk(alloc: Global) -> Result<TrunkId, Fail> {
     })
 }
 
+// A tick.
+fn tick(alloc: Global) -> Result<Piece, AllocError> {
+    Ok(Piece::new(vec![in alloc; 0; 4]?))
+}
+
 fn parcel(alloc: Global, trunk: &TrunkId, seq: u64) -> Result<Parcel, AllocError> {
     Ok(Parcel {
         trunk: trunk.clone()?,
         towards: Direction::ToAcceptor,
         seq,
         stamp: seq.wrapping_add(1),
-        bytes: Piece::new(vec![in alloc; 7]?),
+        bytes: tick(alloc)?,
     })
 }
 
@@ -80,7 +85,7 @@ fn take_all<R: Wait>(rt: &R, mut into: WireIn, count: u64) -> (WireIn, bool)
     let mut in_order = true;
     for seq in 0..count {
         let parcel = take(rt, &mut into);
-        in_order &= parcel.seq == seq && parcel.bytes.as_slice() == [7].as_slice();
+        in_order &= parcel.seq == seq && parcel.bytes.as_slice() == [0, 0, 0, 0].as_slice();
     }
     (into, in_order)
 }

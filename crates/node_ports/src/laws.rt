@@ -1,0 +1,13 @@
+//! What a node's end of a connection is to its book. Each function does nothing: its contract is the law.
+ghost use Rattle.node_ports.specs.Standing.{FetchShifts, FlushShifts, FreshStands};
+
+/// A new port stands for one through which nothing went (`fresh`). Where a parcel is put (`flush`), or
+/// one of an item is taken (`fetch`), it stands for a port that has shifted as a book's may between two
+/// entries: what was put and then the outbox is what it was, and what was taken is in the slot behind
+/// what was there.
+#[tactic(auto, using(crate::proofs::Carrying::fresh_stands, crate::proofs::Carrying::flush_shifts, crate::proofs::Carrying::fetch_shifts))]
+pub fn ports_shift()
+    ensures fresh { FreshStands }
+    ensures flush { FlushShifts }
+    ensures fetch { FetchShifts }
+{}
