@@ -2,6 +2,7 @@
 ghost use Rattle.std.specs.Prelude.{◌≡◌};
 
 use erl_names::{NodeName, TrunkId};
+use node_ports::Port;
 use std::alloc::{AllocError, Global};
 use std::sync::Wait;
 use std::test::*;
@@ -125,5 +126,28 @@ fn a_full_wire_gives_a_parcel_back(rt: HostRuntime) -> Result<(), Fail> {
     }
     assert_eq!(rt; into.take(&rt).map(|parcel| parcel.seq), Some(0));
     assert!(rt; out.put(&rt, parcel(alloc, &trunk, 64)?).is_ok());
+    Ok(())
+}
+
+#[test]
+fn two_ports_pass_parcels(rt: HostRuntime) -> Result<(), Fail> {
+    let alloc = rt.alloc();
+    let trunk = trunk(alloc)?;
+    let (ours, theirs) = connect(alloc, trunk.clone()?)?;
+    let mut dialer = Port::new(alloc, NodeName::read(alloc, "b@h")?, ours);
+    let mut acceptor = Port::new(alloc, NodeName::read(alloc, "a@h")?, theirs);
+    assert!(rt; !dialer.flush(&rt)?);
+    dialer.send(parcel(alloc, &trunk, 0)?)?;
+    dialer.send(parcel(alloc, &trunk, 1)?)?;
+    assert!(rt; dialer.flush(&rt)?);
+    assert!(rt; dialer.flush(&rt)?);
+    assert!(rt; acceptor.fetch(&rt)?);
+    assert!(rt; !acceptor.fetch(&rt)?, "one waits to come");
+    assert_eq!(rt; acceptor.first().map(|parcel| parcel.seq), Some(0));
+    acceptor.drop_first();
+    assert!(rt; acceptor.fetch(&rt)?);
+    assert_eq!(rt; acceptor.first().map(|parcel| parcel.seq), Some(1));
+    assert_eq!(rt; dialer.put().len(), 2);
+    assert_eq!(rt; acceptor.taken().len(), 2);
     Ok(())
 }
