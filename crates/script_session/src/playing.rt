@@ -271,8 +271,18 @@ impl Stage {
             Line::Sweep { node } => self.at(alloc, node, NodeEvent::Sweep, out),
             Line::Settle => self.settle(alloc, out).map(|()| Made::Nothing),
             Line::Show => self.show(out).map(|()| Made::Nothing),
-            // what asks a node is carried out there, and doesn't come here
-            _ => Err(AllocError),
+            // what asks a node is carried out there, and nothing is left to do
+            Line::Send { .. } => Ok(Made::Nothing),
+            Line::Link { .. } => Ok(Made::Nothing),
+            Line::Unlink { .. } => Ok(Made::Nothing),
+            Line::Monitor { .. } => Ok(Made::Nothing),
+            Line::Demonitor { .. } => Ok(Made::Nothing),
+            Line::Trap { .. } => Ok(Made::Nothing),
+            Line::Exit { .. } => Ok(Made::Nothing),
+            Line::Die { .. } => Ok(Made::Nothing),
+            Line::Receive { .. } => Ok(Made::Nothing),
+            Line::Links { .. } => Ok(Made::Nothing),
+            Line::Alive { .. } => Ok(Made::Nothing),
         }
     }
 
