@@ -129,25 +129,50 @@ fn a_full_wire_gives_a_parcel_back(rt: HostRuntime) -> Result<(), Fail> {
     Ok(())
 }
 
+// The two ends of a connection.
+fn ports(alloc: Global, trunk: &TrunkId) -> Result<(Port, Port), Fail> {
+    let dialer = NodeName::read(alloc, "a@h")?;
+    let acceptor = NodeName::read(alloc, "b@h")?;
+    let (ours, theirs) = connect(alloc, trunk.clone()?)?;
+    Ok((
+        Port::new(alloc, acceptor, ours),
+        Port::new(alloc, dialer, theirs),
+    ))
+}
+
+// The place in its direction of the parcel that comes next.
+fn next(port: &Port) -> Option<u64> {
+    port.first().map(|parcel| parcel.seq)
+}
+
+// Whether two parcels pass from one port to the other, each when the one before has come.
+fn pass_two<R: Wait>(
+    rt: &R,
+    alloc: Global,
+    trunk: &TrunkId,
+    from: &mut Port,
+    to: &mut Port,
+) -> Result<bool, AllocError> {
+    let mut is_right = !from.flush(rt)?;
+    from.send(parcel(alloc, trunk, 0)?)?;
+    from.send(parcel(alloc, trunk, 1)?)?;
+    is_right &= from.flush(rt)? && from.flush(rt)? && !from.flush(rt)?;
+    is_right &= to.fetch(rt)? && !to.fetch(rt)? && next(to) == Some(0);
+    to.drop_first();
+    is_right &= to.fetch(rt)? && next(to) == Some(1);
+    to.drop_first();
+    is_right &= !to.fetch(rt)? && next(to).is_none();
+    Ok(is_right && from.put().len() == 2 && to.taken().len() == 2)
+}
+
 #[test]
 fn two_ports_pass_parcels(rt: HostRuntime) -> Result<(), Fail> {
     let alloc = rt.alloc();
     let trunk = trunk(alloc)?;
-    let (ours, theirs) = connect(alloc, trunk.clone()?)?;
-    let mut dialer = Port::new(alloc, NodeName::read(alloc, "b@h")?, ours);
-    let mut acceptor = Port::new(alloc, NodeName::read(alloc, "a@h")?, theirs);
-    assert!(rt; !dialer.flush(&rt)?);
-    dialer.send(parcel(alloc, &trunk, 0)?)?;
-    dialer.send(parcel(alloc, &trunk, 1)?)?;
-    assert!(rt; dialer.flush(&rt)?);
-    assert!(rt; dialer.flush(&rt)?);
-    assert!(rt; acceptor.fetch(&rt)?);
-    assert!(rt; !acceptor.fetch(&rt)?, "one waits to come");
-    assert_eq!(rt; acceptor.first().map(|parcel| parcel.seq), Some(0));
-    acceptor.drop_first();
-    assert!(rt; acceptor.fetch(&rt)?);
-    assert_eq!(rt; acceptor.first().map(|parcel| parcel.seq), Some(1));
-    assert_eq!(rt; dialer.put().len(), 2);
-    assert_eq!(rt; acceptor.taken().len(), 2);
+    let (mut dialer, mut acceptor) = ports(alloc, &trunk)?;
+    let is_right = pass_two(&rt, alloc, &trunk, &mut dialer, &mut acceptor);
+    drop(dialer);
+    drop(acceptor);
+    assert!(rt; is_right?);
     Ok(())
 }
