@@ -1,9 +1,8 @@
 -- What a contract sees of a node's end of a connection: towards whom it is, what it has put on its wire and what waits before that,
 -- what it has taken off the other wire, and what of that hasn't come to the node yet.
-use Rattle.std.specs.Prelude.{Option, None, Some, List, [], ◌∷◌, ◌++◌}
+use Rattle.std.specs.Prelude.{◌≡◌, ℕ, Option, None, Some, List, [], ◌∷◌, ◌++◌, length}
 use Rattle.erl_names.specs.declared.trunk.TrunkId.{TrunkId}
 use Rattle.wire_core.specs.declared.parcel.Parcel.{Parcel}
-use Rattle.std.specs.Prelude.{ℕ}
 
 pub record PortSeen : Type 0 where
   pub trunk : TrunkId
@@ -40,3 +39,7 @@ first_of (parcel ∷ rest) = Some parcel
 abbrev pub behind_first : List Parcel → List Parcel
 behind_first [] = []
 behind_first (parcel ∷ rest) = rest
+
+-- the last that were put fill a wire
+abbrev pub EndsFull : List Parcel → Type 0
+EndsFull put = (taken held : List Parcel) × (put ≡ taken ++ held) × (length held ≡ 64)

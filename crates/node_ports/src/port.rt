@@ -1,7 +1,7 @@
 //! A node's end of a connection.
-ghost use Rattle.std.specs.Prelude.{◌≡◌, [], ◌∷◌, ◌++◌, IfOk, IfErr, OnErr, true, false, Ok};
+ghost use Rattle.std.specs.Prelude.{◌≡◌, ◌⊎◌, [], ◌∷◌, ◌++◌, IfOk, IfErr, OnErr, true, false, Ok};
 ghost use Rattle.std.specs.Option.{option_copied};
-ghost use Rattle.node_ports.specs.Ports.{behind_first, fetched, first_of, flushed, fresh, sending, with_slot};
+ghost use Rattle.node_ports.specs.Ports.{EndsFull, behind_first, fetched, first_of, flushed, fresh, sending, with_slot};
 ghost use Rattle.wire_core.specs.Pieces.{IsPiece};
 ghost use Rattle.wire_core.specs.declared.parcel.Parcel.{Parcel as TheParcel};
 
@@ -114,7 +114,7 @@ impl Port {
     }
 
     /// Puts the first parcel of the outbox on the wire, and says whether it did. It doesn't where nothing
-    /// waits, or where the wire is full.
+    /// waits, or where the wire was full at some moment: the last 64 that were put weren't taken yet.
     ///
     /// # Errors
     /// Where there is no memory for the copy that stays. Then nothing has changed.
@@ -122,6 +122,7 @@ impl Port {
         ensures put { result ≡ Ok true → self.new ≡ flushed self.old self.old.outbox }
         ensures some { result ≡ Ok true → self.old.outbox ≡ [] → ⊥ }
         ensures unchanged { result ≡ Ok false → self.new ≡ self.old }
+        ensures full { result ≡ Ok false → (self.old.outbox ≡ []) ⊎ EndsFull self.old.put }
         ensures err { OnErr result (self.new ≡ self.old) }
     {
         self.put.reserve(1)?;
