@@ -86,7 +86,7 @@ module _ {E A C I : Type 0} (f : List (Line E A C I) → List (ℕ × I)) (g : L
 
 -- ---- entries
 
-own_first : {X : Type 0} (x : ℕ × X) (merged : List (ℕ × X)) → of_node x.0 (x ∷ merged) ≡ x.1 ∷ of_node x.0 merged
+pub own_first : {X : Type 0} (x : ℕ × X) (merged : List (ℕ × X)) → of_node x.0 (x ∷ merged) ≡ x.1 ∷ of_node x.0 merged
 own_first x merged = elim (eqb_tells x.0 x.0) [
   | inl h ↦ ap (λ b. if b then x.1 ∷ of_node x.0 merged else of_node x.0 merged) h.0
   | inr h ↦ absurd (h.1 refl)

@@ -1,3 +1,4 @@
 pub mod Logs
 pub mod Runs
+pub mod Sorting
 pub mod Unsorted

@@ -1,6 +1,8 @@
 //! The laws. Each function does nothing: its contract is the law.
+ghost use Rattle.std.specs.Prelude.{ℕ};
 ghost use Rattle.merging.specs.Logs.{LeadGrows, SentGrows, TookGrows};
 ghost use Rattle.merging.specs.Runs.{LogsAreARun};
+ghost use Rattle.merging.specs.Sorting.{SortMerges};
 ghost use Rattle.merging.specs.Unsorted.{LeadByStamp, LeadNowhereByNode};
 
 use crate::nodes::Nodes;
@@ -20,6 +22,13 @@ pub fn log_grows<N: Nodes>()
     ensures leads { LeadGrows N.acts }
     ensures sent { SentGrows N.Event N.Answer N.Channel N.Symbol N.same }
     ensures took { TookGrows N.Event N.Answer N.Channel N.Symbol N.same }
+{}
+
+/// All entries of several histories, in each of which the stamps rise, sorted by their stamps and then
+/// by the numbers of their nodes: of each node they are its history, in its order, and each comes before
+/// those that it precedes.
+pub fn sort_merges<T>()
+    ensures { (stamp : T → ℕ) → SortMerges stamp }
 {}
 
 /// The order of the stamps is needed. Where one node sends a symbol and another takes it, the two
