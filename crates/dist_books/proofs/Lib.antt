@@ -4,3 +4,4 @@ pub mod Steps
 pub mod Senders
 pub mod Joining
 pub mod Growing
+pub mod Sorted

@@ -1,5 +1,5 @@
 -- The entries of all books, and the run that they are.
-use Rattle.std.specs.Prelude.{◌≡◌, ◌⊎◌, ℕ, ◌<◌, Some, List, ◌++◌, [], AllPairs, length, map}
+use Rattle.std.specs.Prelude.{◌≡◌, ◌⊎◌, ℕ, ◌<◌, Some, List, ◌++◌, [], AllPairs, IsPermutation, length, map}
 use Rattle.dist_books.specs.Acting.{Nodes, Way, name_at}
 use Rattle.dist_books.specs.Books.{AllKept, AreDistinct, Book, WiresAgree, book_at, on_the_way}
 use Rattle.dist_model.specs.Histories.{told}
@@ -8,6 +8,7 @@ use Rattle.dist_model.specs.Safety.{Safe}
 use Rattle.dist_model.specs.World.{Event, Report, World, list_to, node_of}
 use Rattle.merging.specs.Logs.{Entry, bare}
 use Rattle.merging.specs.Runs.{of_node}
+use Rattle.merging.specs.Sorting.{IsInOrder, placed_from}
 
 -- an entry with the number of its node
 abbrev pub Placed : Type 0
@@ -21,6 +22,14 @@ Precedes x y = (x.1.stamp < y.1.stamp) ⊎ ((x.1.stamp ≡ y.1.stamp) × (x.0 < 
 pub record IsMerged (books : List Book) (merged : List Placed) : Type 0 where
   pub each : (k : ℕ) → of_node k merged ≡ (book_at books k).history
   pub sorted : AllPairs Precedes merged
+
+-- all entries, book by book
+abbrev pub entries_of : List Book → List Placed
+entries_of books = placed_from 0 (map (λ book. book.history) books)
+
+abbrev pub SortsMerge : Type 0
+SortsMerge = (nodes : Nodes) (books : List Book) (merged : List Placed) → length books ≡ length nodes → AllKept nodes books
+    → IsPermutation (entries_of books) merged → IsInOrder (λ entry. entry.stamp) merged → IsMerged books merged
 
 abbrev pub events_of : List Placed → List Event
 events_of merged = map (λ placed. placed.1.event) merged

@@ -2,7 +2,7 @@
 ghost use Rattle.dist_books.specs.Acting.{EventsAreLines};
 ghost use Rattle.dist_books.specs.Books.{NewBooksAreKept};
 ghost use Rattle.dist_books.specs.Growing.{BooksGrow, BooksRest, NewBooksFollow, NextIsNew, SentToPeers};
-ghost use Rattle.dist_books.specs.Merged.{BooksAreARun, BooksAreSafe};
+ghost use Rattle.dist_books.specs.Merged.{BooksAreARun, BooksAreSafe, SortsMerge};
 
 /// Whatever comes of an event at a node is a line of its log: what it answers, what it becomes and what
 /// it sends, with the item that came. An arrival is to have an item: where none is there the node can't
@@ -21,10 +21,12 @@ pub fn new_books_are_kept()
 /// The books of all nodes, each of which replays, and where what each wire end took begins what the
 /// other put. Their entries, by stamp and then by node, are one run of the world from its opening
 /// (`run`): at its end the nodes are those of the books, and on each way is what was sent and not yet
-/// taken. Whatever is promised of runs holds of it, at each of its moments (`safe`).
+/// taken. Whatever is promised of runs holds of it, at each of its moments (`safe`). A sort of all
+/// entries by stamp and node gives that list (`sort`).
 pub fn books_are_a_run()
     ensures run { BooksAreARun }
     ensures safe { BooksAreSafe }
+    ensures sort { SortsMerge }
 {
     dist_model::event_is_local();
     dist_model::node_keeps_its_bearings();

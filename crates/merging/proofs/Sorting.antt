@@ -79,27 +79,24 @@ module _ {X : Type 0} where
 -- ---- what is placed
 
 module _ {X : Type 0} (stamp : X → ℕ) where
-  abbrev placed : ℕ → List (List X) → List (ℕ × X)
-  placed = placed_from stamp
-
-  before_placed : (k j : ℕ) (histories : List (List X)) → k < j → of_node k (placed j histories) ≡ []
+  before_placed : (k j : ℕ) (histories : List (List X)) → k < j → of_node k (placed_from j histories) ≡ []
   before_placed k j [] below = refl
   before_placed k j (h ∷ hs) below =
-      of_both k (map (λ entry. (j, entry)) h) (placed (suc j) hs)
+      of_both k (map (λ entry. (j, entry)) h) (placed_from (suc j) hs)
       ∙ ap₂ (λ l m. l ++ m) (other_placed k j h (λ e. absurd (omega (arith, e, below)))) (before_placed k (suc j) hs (omega (arith, below)))
 
-  of_placed : (j i : ℕ) (histories : List (List X)) → of_node (j + i) (placed j histories) ≡ slice_index_or histories i []
+  of_placed : (j i : ℕ) (histories : List (List X)) → of_node (j + i) (placed_from j histories) ≡ slice_index_or histories i []
   of_placed j i [] = refl
   of_placed j zero (h ∷ hs) =
       let same : j + 0 ≡ j = omega arith in
-      ap (λ k. of_node k (placed j (h ∷ hs))) same
-      ∙ of_both j (map (λ entry. (j, entry)) h) (placed (suc j) hs)
+      ap (λ k. of_node k (placed_from j (h ∷ hs))) same
+      ∙ of_both j (map (λ entry. (j, entry)) h) (placed_from (suc j) hs)
       ∙ ap₂ (λ l m. l ++ m) (own_placed j h) (before_placed j (suc j) hs (omega arith)) ∙ append-nil h
   of_placed j (suc i) (h ∷ hs) =
       let same : j + suc i ≡ suc j + i = omega arith in
-      of_both (j + suc i) (map (λ entry. (j, entry)) h) (placed (suc j) hs)
-      ∙ ap (λ l. l ++ of_node (j + suc i) (placed (suc j) hs)) (other_placed (j + suc i) j h (λ e. absurd (omega (arith, e))))
-      ∙ ap (λ k. of_node k (placed (suc j) hs)) same ∙ of_placed (suc j) i hs
+      of_both (j + suc i) (map (λ entry. (j, entry)) h) (placed_from (suc j) hs)
+      ∙ ap (λ l. l ++ of_node (j + suc i) (placed_from (suc j) hs)) (other_placed (j + suc i) j h (λ e. absurd (omega (arith, e))))
+      ∙ ap (λ k. of_node k (placed_from (suc j) hs)) same ∙ of_placed (suc j) i hs
 
   rises_at : (histories : List (List X)) → All (Rises stamp) histories → (k : ℕ) → Rises stamp (slice_index_or histories k [])
   rises_at [] h k = no_pairs (λ x y. stamp x < stamp y)
@@ -176,10 +173,10 @@ module _ {X : Type 0} (stamp : X → ℕ) where
   pub sort_merges : SortMerges stamp
   sort_merges histories merged rise same sorted =
       let up = in_order merged sorted in
-      let all : (k : ℕ) → of_node k (placed 0 histories) ≡ slice_index_or histories k [] =
-      λ k. (let same : k ≡ 0 + k = omega arith in ap (λ j. of_node j (placed 0 histories)) same ∙ of_placed 0 k histories) in
+      let all : (k : ℕ) → of_node k (placed_from 0 histories) ≡ slice_index_or histories k [] =
+      λ k. (let same : k ≡ 0 + k = omega arith in ap (λ j. of_node j (placed_from 0 histories)) same ∙ of_placed 0 k histories) in
       let each : (k : ℕ) → of_node k merged ≡ slice_index_or histories k [] =
       λ k. one_order stamp (slice_index_or histories k []) (of_node k merged) (rises_at histories rise k)
-      (subst (λ l. IsPermutation l (of_node k merged)) (all k) (permuted k (placed 0 histories) merged same))
+      (subst (λ l. IsPermutation l (of_node k merged)) (all k) (permuted k (placed_from 0 histories) merged same))
       (own_in_order k merged up) in
       (each, precedes merged up (λ k. subst (Rises stamp) (sym (each k)) (rises_at histories rise k)))

@@ -3,12 +3,12 @@ use Rattle.std.specs.Prelude.{◌≡◌, ◌⊎◌, ℕ, suc, ◌<◌, List, [],
 use Rattle.std.specs.Ordering.{nat_cmp, ordering_then}
 use Rattle.merging.specs.Runs.{of_node}
 
-module _ {X : Type 0} (stamp : X → ℕ) where
-  -- each entry with the number of its node, node by node, from this number on
-  abbrev pub placed_from : ℕ → List (List X) → List (ℕ × X)
-  placed_from k [] = []
-  placed_from k (history ∷ histories) = map (λ entry. (k, entry)) history ++ placed_from (suc k) histories
+-- each entry with the number of its node, node by node, from this number on
+abbrev pub placed_from : {X : Type 0} → ℕ → List (List X) → List (ℕ × X)
+placed_from k [] = []
+placed_from k (history ∷ histories) = map (λ entry. (k, entry)) history ++ placed_from (suc k) histories
 
+module _ {X : Type 0} (stamp : X → ℕ) where
   abbrev pub Rises : List X → Type 0
   Rises history = AllPairs (λ x y. stamp x < stamp y) history
 
