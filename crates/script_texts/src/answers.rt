@@ -30,14 +30,16 @@ pub fn put_refused(out: &mut String, refusal: Refusal) -> Result<(), AllocError>
     writeln!(out, "refused {number} {name}")
 }
 
-fn put_trunk(out: &mut String, trunk: &TrunkId) -> Result<(), AllocError>
+/// A connection: the name of the node that dialed it, and the count of its dials.
+pub fn put_trunk(out: &mut String, trunk: &TrunkId) -> Result<(), AllocError>
     ensures { OnOk result (string_bytes out.new ≡ string_bytes out.old ++ trunk_text trunk.now) }
 {
     let (dialer, count) = (trunk.dialer.text(), trunk.count);
     write!(out, "{dialer}/{count}")
 }
 
-fn put_end(out: &mut String, end: End) -> Result<(), AllocError>
+/// The end of a link.
+pub fn put_end(out: &mut String, end: End) -> Result<(), AllocError>
     ensures { OnOk result (string_bytes out.new ≡ string_bytes out.old ++ end_text end) }
 {
     match end {

@@ -8,7 +8,7 @@ use erl_control::FrameFault;
 use erl_term::Refusal;
 
 /// The word for a kind of item.
-pub(crate) fn kind_name(kind: Kind) -> &'static str
+pub fn kind_name(kind: Kind) -> &'static str
     ensures { result.now ≡ kind_name kind }
 {
     match kind {
@@ -31,7 +31,7 @@ pub(crate) fn kind_name(kind: Kind) -> &'static str
 }
 
 /// The word for what a sweep took.
-pub(crate) fn swept_name(swept: Swept) -> &'static str
+pub fn swept_name(swept: Swept) -> &'static str
     ensures { result.now ≡ swept_name swept }
 {
     match swept {
@@ -54,7 +54,7 @@ fn frame_fault_name(fault: FrameFault) -> &'static str
 }
 
 /// The name of what broke a side.
-pub(crate) fn fault_name(fault: Fault) -> &'static str
+pub fn fault_name(fault: Fault) -> &'static str
     ensures { result.now ≡ fault_name fault }
 {
     match fault {

@@ -1,0 +1,94 @@
+-- No line has a number with a fraction: so its text is told exactly.
+use Rattle.std.proofs.Common.{◌≡◌, ℕ, false, ◌||◌, List, [], ◌∷◌, Option, None, Some, Result, Ok, Err, map, refl, ap, ap₂}
+use Rattle.dist_model.specs.declared.command.Command.{Command}
+use Rattle.dist_model.specs.declared.command.Command.TheVariants as command
+use Rattle.dist_model.specs.declared.report.Answer.{Answer}
+use Rattle.dist_model.specs.declared.report.Answer.TheVariants as answer
+use Rattle.dist_model.specs.declared.report.Effect.{Effect}
+use Rattle.dist_model.specs.declared.report.Kind.{Kind}
+use Rattle.dist_model.specs.declared.report.Report.{Report}
+use Rattle.erl_names.specs.declared.trunk.TrunkId.{TrunkId}
+use Rattle.erl_term.specs.Data as terms
+use Rattle.erl_term.specs.declared.refusal.Refusal.{Refusal}
+use Rattle.erl_term.specs.declared.term.Pid.{Pid}
+use Rattle.link_core.specs.declared.end.End.{End}
+use Rattle.node_plans.specs.Frames.{Framed}
+use Rattle.script_json.specs.Events.{command_data, event_data}
+use Rattle.item_kinds.specs.Kinds.{kind_in}
+use Rattle.script_json.specs.Reports.{answer_data, brought, came_data, effect_data, kind_data, line_data, link_data, message_data}
+use Rattle.script_json.specs.Texts.{connection_if}
+use Rattle.serde_json.specs.View.{items_of}
+use Rattle.serde_json.specs.Written.{has_float, items_have_float}
+use Rattle.world_events.specs.declared.event.NodeEvent.{NodeEvent}
+use Rattle.world_events.specs.declared.event.NodeEvent.TheVariants as event
+
+in_kind : (kind : Option Kind) → has_float (kind_data kind) ≡ false
+in_kind None = refl
+in_kind (Some kind) = refl
+
+in_trunk : (trunk : Option TrunkId) → has_float (connection_if trunk) ≡ false
+in_trunk None = refl
+in_trunk (Some trunk) = refl
+
+in_message : (message : Option terms.Data) → has_float (message_data message) ≡ false
+in_message None = refl
+in_message (Some message) = refl
+
+in_links : (links : List (Pid × End)) → items_have_float (items_of (map link_data links)) ≡ false
+in_links [] = refl
+in_links (link ∷ links) = in_links links
+
+in_answer : (a : Answer) → has_float (answer_data a) ≡ false
+in_answer answer.Done = refl
+in_answer (answer.Pid p) = refl
+in_answer (answer.Reference r) = refl
+in_answer (answer.Message message) = ap (λ b. b || false) (in_message message)
+in_answer (answer.Links links) = ap (λ b. b || false) (in_links links)
+in_answer (answer.Alive living) = refl
+in_answer (answer.Trunk trunk) = refl
+in_answer (answer.Took kind) = refl
+in_answer (answer.Broken fault) = refl
+in_answer (answer.Swept swept) = refl
+in_answer answer.Stopped = refl
+in_answer (answer.Started creation) = refl
+
+in_effect : (effect : Effect Framed) → has_float (effect_data effect) ≡ false
+in_effect (Effect.Put to message) = refl
+in_effect (Effect.Ended p reason) = refl
+in_effect (Effect.LinkExit p partner reason) = refl
+in_effect (Effect.Sent trunk peer frame) = ap₂ (λ b c. b || (c || false)) (in_kind (kind_in frame.bytes)) (in_trunk trunk)
+
+in_effects : (effects : List (Effect Framed)) → items_have_float (items_of (map effect_data effects)) ≡ false
+in_effects [] = refl
+in_effects (effect ∷ effects) = ap₂ (λ b c. b || c) (in_effect effect) (in_effects effects)
+
+in_came : (came : Result (Report Framed) Refusal) → has_float (came_data came) ≡ false
+in_came (Ok report) = in_answer report.answer
+in_came (Err refusal) = refl
+
+in_command : (c : Command) → has_float (command_data c) ≡ false
+in_command command.Spawn = refl
+in_command (command.Send from to message) = refl
+in_command (command.Link from to) = refl
+in_command (command.Unlink from to) = refl
+in_command (command.Monitor owner target) = refl
+in_command (command.Demonitor owner reference) = refl
+in_command (command.Trap p on) = refl
+in_command (command.ExitTo from to reason) = refl
+in_command (command.ExitSelf p reason) = refl
+in_command (command.Receive p) = refl
+in_command (command.LinksOf p) = refl
+in_command (command.IsAlive p) = refl
+
+in_event : (e : NodeEvent) → has_float (event_data e) ≡ false
+in_event (event.Call c) = in_command c
+in_event (event.Arrive trunk word) = refl
+in_event event.Local = refl
+in_event (event.Lose trunk) = refl
+in_event event.Sweep = refl
+in_event (event.Dial peer word) = refl
+in_event event.Stop = refl
+in_event event.Start = refl
+
+pub in_line : (node : List ℕ) (e : NodeEvent) (came : Result (Report Framed) Refusal) → has_float (line_data node (event_data e) came) ≡ false
+in_line node e came = rw (in_came came, in_effects (brought came), in_event e) refl

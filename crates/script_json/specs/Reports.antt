@@ -1,0 +1,105 @@
+-- What came of an event, in JSON: what the node answers or why it refuses, and what the event brought about.
+use Rattle.std.specs.Prelude.{ℕ, List, [], Option, None, Some, Result, Ok, Err, codes, map}
+use Rattle.conn_core.specs.FaultNumbers.{fault_number}
+use Rattle.dist_model.specs.declared.report.Answer.{Answer}
+use Rattle.dist_model.specs.declared.report.Answer.TheVariants as answer
+use Rattle.dist_model.specs.declared.report.Effect.{Effect}
+use Rattle.dist_model.specs.declared.report.Kind.{Kind}
+use Rattle.dist_model.specs.declared.report.Report.{Report}
+use Rattle.erl_term.specs.Data as terms
+use Rattle.erl_term.specs.ErrorNumbers.{refusal_name, refusal_number}
+use Rattle.erl_term.specs.declared.refusal.Refusal.{Refusal}
+use Rattle.erl_term.specs.declared.term.Pid.{Pid}
+use Rattle.hex.specs.Hex.{encode_upper}
+use Rattle.link_core.specs.declared.end.End.{End}
+use Rattle.node_plans.specs.Frames.{Framed}
+use Rattle.item_kinds.specs.Kinds.{kind_in}
+use Rattle.script_json.specs.Events.{event_data}
+use Rattle.script_json.specs.Texts.{connection, connection_if, monitor, payload, process}
+use Rattle.script_texts.specs.Texts.{end_text}
+use Rattle.script_texts.specs.Words.{fault_name, kind_name, swept_name}
+use Rattle.serde_json.specs.Data.{Data, array, boolean, member, no_members, null, number, object, string, unsigned}
+use Rattle.serde_json.specs.View.{items_of}
+use Rattle.serde_json.specs.Written.{compact_text}
+use Rattle.world_events.specs.declared.event.NodeEvent.{NodeEvent}
+
+abbrev pub kind_data : Option Kind → Data
+kind_data None = null
+kind_data (Some kind) = string (kind_name kind)
+
+-- ---- answers
+
+abbrev pub message_data : Option terms.Data → Data
+message_data None = null
+message_data (Some message) = payload message
+
+abbrev pub link_data : Pid × End → Data
+link_data link = object (member (codes "end") (string (end_text link.1)) (member (codes "partner") (process link.0) no_members))
+
+abbrev pub answer_data : Answer → Data
+answer_data answer.Done = object (member (codes "kind") (string (codes "done")) no_members)
+answer_data (answer.Pid p) = object (member (codes "kind") (string (codes "pid")) (member (codes "process") (process p) no_members))
+answer_data (answer.Reference r) =
+    object (member (codes "kind") (string (codes "reference")) (member (codes "reference") (monitor r) no_members))
+answer_data (answer.Message message) =
+    object (member (codes "kind") (string (codes "message")) (member (codes "message") (message_data message) no_members))
+answer_data (answer.Links links) =
+    object (member (codes "kind") (string (codes "links")) (member (codes "links") (array (items_of (map link_data links))) no_members))
+answer_data (answer.Alive living) =
+    object (member (codes "alive") (boolean living) (member (codes "kind") (string (codes "alive")) no_members))
+answer_data (answer.Trunk trunk) =
+    object (member (codes "kind") (string (codes "trunk")) (member (codes "trunk") (connection trunk) no_members))
+answer_data (answer.Took kind) =
+    object (member (codes "item") (string (kind_name kind)) (member (codes "kind") (string (codes "took")) no_members))
+answer_data (answer.Broken fault) =
+    object (member (codes "kind") (string (codes "broken")) (member (codes "name") (string (fault_name fault))
+    (member (codes "number") (number (unsigned (fault_number fault))) no_members)))
+answer_data (answer.Swept swept) =
+    object (member (codes "kind") (string (codes "swept")) (member (codes "record") (string (swept_name swept)) no_members))
+answer_data answer.Stopped = object (member (codes "kind") (string (codes "stopped")) no_members)
+answer_data (answer.Started creation) =
+    object (member (codes "creation") (number (unsigned creation)) (member (codes "kind") (string (codes "started")) no_members))
+
+abbrev pub refusal_data : Refusal → Data
+refusal_data refusal =
+    object (member (codes "kind") (string (codes "refused")) (member (codes "name") (string (refusal_name refusal))
+    (member (codes "number") (number (unsigned (refusal_number refusal))) no_members)))
+
+-- ---- what an event brought about
+
+abbrev pub effect_data : Effect Framed → Data
+effect_data (Effect.Put to message) =
+    object (member (codes "kind") (string (codes "put")) (member (codes "message") (payload message)
+    (member (codes "to") (process to) no_members)))
+effect_data (Effect.Ended p reason) =
+    object (member (codes "kind") (string (codes "ended")) (member (codes "process") (process p)
+    (member (codes "reason") (payload reason) no_members)))
+effect_data (Effect.LinkExit p partner reason) =
+    object (member (codes "kind") (string (codes "link_exit")) (member (codes "partner") (process partner)
+    (member (codes "process") (process p) (member (codes "reason") (payload reason) no_members))))
+effect_data (Effect.Sent trunk peer frame) =
+    object (member (codes "hex") (string (encode_upper frame.bytes)) (member (codes "item") (kind_data (kind_in frame.bytes))
+    (member (codes "kind") (string (codes "sent")) (member (codes "peer") (string peer)
+    (member (codes "trunk") (connection_if trunk) no_members)))))
+
+abbrev pub effects_data : List (Effect Framed) → Data
+effects_data effects = array (items_of (map effect_data effects))
+
+-- ---- the whole
+
+abbrev pub came_data : Result (Report Framed) Refusal → Data
+came_data (Ok report) = answer_data report.answer
+came_data (Err refusal) = refusal_data refusal
+
+abbrev pub brought : Result (Report Framed) Refusal → List (Effect Framed)
+brought (Ok report) = report.effects.items
+brought (Err refusal) = []
+
+abbrev pub line_data : (node : List ℕ) → (event : Data) → Result (Report Framed) Refusal → Data
+line_data node event came =
+    object (member (codes "answer") (came_data came) (member (codes "effects") (effects_data (brought came))
+    (member (codes "event") event (member (codes "node") (string node) no_members))))
+
+-- the text of a line, without its line break
+unfoldable pub line_text : (node : List ℕ) → NodeEvent → Result (Report Framed) Refusal → List ℕ
+line_text node event came = compact_text (line_data node (event_data event) came)

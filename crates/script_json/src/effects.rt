@@ -1,0 +1,106 @@
+//! What an event brought about, in JSON.
+ghost use Rattle.std.specs.Prelude.{◌≡◌, IfOk, map};
+ghost use Rattle.std.specs.Option.{option_copied};
+ghost use Rattle.dist_model.specs.declared.report.Effect.{Effect as TheEffect};
+ghost use Rattle.item_kinds.specs.Kinds.{kind_in};
+ghost use Rattle.script_json.specs.Reports.{effect_data, effects_data, kind_data};
+ghost use Rattle.script_json.specs.Texts.{connection_if};
+ghost use Rattle.serde_json.specs.View.{view};
+
+use crate::texts::{printed_pid, printed_term, printed_trunk};
+use dist_model::Effect;
+use erl_names::{NodeName, TrunkId};
+use erl_term::{Payload, Pid};
+use hex::encode_upper;
+use item_kinds::kind_in;
+use node_plans::Frame;
+use script_texts::kind_name;
+use serde_json::{Value, json};
+use std::alloc::{AllocError, Global};
+
+fn put(alloc: Global, to: &Pid, message: &Payload) -> Result<Value, AllocError>
+    ensures { IfOk result (λ v. view v ≡ effect_data (TheEffect.Put to.now message.now)) }
+{
+    let (message, to) = (printed_term(alloc, message)?, printed_pid(alloc, to)?);
+    json!(in alloc; {"kind": "put", "message": message, "to": to})
+}
+
+fn ended(alloc: Global, ended: &Pid, reason: &Payload) -> Result<Value, AllocError>
+    ensures { IfOk result (λ v. view v ≡ effect_data (TheEffect.Ended ended.now reason.now)) }
+{
+    let (ended, reason) = (printed_pid(alloc, ended)?, printed_term(alloc, reason)?);
+    json!(in alloc; {"kind": "ended", "process": ended, "reason": reason})
+}
+
+fn link_exit(
+    alloc: Global,
+    told: &Pid,
+    partner: &Pid,
+    reason: &Payload,
+) -> Result<Value, AllocError>
+    ensures { IfOk result (λ v. view v ≡ effect_data (TheEffect.LinkExit told.now partner.now reason.now)) }
+{
+    let (told, partner) = (printed_pid(alloc, told)?, printed_pid(alloc, partner)?);
+    let reason = printed_term(alloc, reason)?;
+    json!(in alloc; {"kind": "link_exit", "partner": partner, "process": told, "reason": reason})
+}
+
+fn item(alloc: Global, bytes: &[u8]) -> Result<Value, AllocError>
+    ensures { IfOk result (λ v. view v ≡ kind_data (kind_in bytes.now)) }
+{
+    match kind_in(bytes) {
+        Some(kind) => Value::try_from_str(alloc, kind_name(kind)),
+        None => Ok(Value::Null),
+    }
+}
+
+fn connection_if(alloc: Global, trunk: Option<&TrunkId>) -> Result<Value, AllocError>
+    ensures { IfOk result (λ v. view v ≡ connection_if (option_copied trunk.entry)) }
+{
+    match trunk {
+        Some(trunk) => Ok(Value::String(printed_trunk(alloc, trunk)?)),
+        None => Ok(Value::Null),
+    }
+}
+
+fn sent(
+    alloc: Global,
+    trunk: Option<&TrunkId>,
+    peer: &NodeName,
+    frame: &Frame,
+) -> Result<Value, AllocError>
+    ensures { IfOk result (λ v. view v ≡ effect_data (TheEffect.Sent (option_copied trunk.entry) peer.now frame.now)) }
+{
+    let (hex, item) = (
+        encode_upper(alloc, frame.as_slice())?,
+        item(alloc, frame.as_slice())?,
+    );
+    let trunk = connection_if(alloc, trunk)?;
+    json!(in alloc; {"hex": hex, "item": item, "kind": "sent", "peer": peer.text(), "trunk": trunk})
+}
+
+fn effect(alloc: Global, effect: &Effect<Frame>) -> Result<Value, AllocError>
+    ensures { IfOk result (λ v. view v ≡ effect_data effect.now) }
+{
+    match effect {
+        Effect::Put { to, message } => put(alloc, to, message),
+        Effect::Ended { process, reason } => ended(alloc, process, reason),
+        Effect::LinkExit {
+            process,
+            partner,
+            reason,
+        } => link_exit(alloc, process, partner, reason),
+        Effect::Sent { trunk, peer, item } => sent(alloc, trunk.as_ref(), peer, item),
+    }
+}
+
+/// What an event brought about, in order.
+pub(crate) fn effects(alloc: Global, effects: &[Effect<Frame>]) -> Result<Value, AllocError>
+    ensures { IfOk result (λ v. view v ≡ effects_data effects.now) }
+{
+    let mut all = Vec::new(alloc);
+    for brought in effects {
+        all.push(effect(alloc, brought)?)?;
+    }
+    Ok(Value::Array(all))
+}
