@@ -6,7 +6,7 @@
 
 use clap::Error;
 use clap::error::ErrorKind;
-use script_core::{Options, Outcome, read_options, run_script};
+use script_core::{Options, Outcome, read_options, run_script, run_telling};
 use std::alloc::Global;
 use std::io::{self, BufWriter};
 use std::process::ExitCode;
@@ -20,7 +20,11 @@ fn run<R: Input + Print + Eprint>(rt: &R, alloc: Global, options: &Options) -> u
         return Outcome::OutOfMemory.status();
     };
     let mut advice = String::new(alloc);
-    let outcome = run_script(alloc, &mut rt.reader(), &mut writer, options, &mut advice);
+    let outcome = if options.events {
+        run_telling(alloc, &mut rt.reader(), &mut writer, options, &mut advice)
+    } else {
+        run_script(alloc, &mut rt.reader(), &mut writer, options, &mut advice)
+    };
     if let Outcome::BadLine(line, reason) = outcome {
         let _ = if advice.is_empty() {
             eprintln!(rt; "line {line}: {reason}")

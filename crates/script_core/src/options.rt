@@ -7,11 +7,16 @@ use std::alloc::Global;
 pub struct Options {
     /// Whether each frame that is sent is printed. A script of a pair prints them in any case.
     pub trace: bool,
+    /// Whether each event is told in a line of JSON, in place of what the script prints.
+    pub events: bool,
     /// The first challenge word of the handshakes, 0 to 4,294,967,295; 1 where none is given.
     pub seed: u32,
 }
 
 const ABOUT: &str = "Erlang nodes in one process, driven by a script on standard input";
+
+/// The forms of a trace: frames in hex, or events in JSON.
+const TRACES: &[&str] = &["hex", "json"];
 
 const VERSION: &str = "0.1";
 
@@ -54,8 +59,12 @@ failed, or the script has more than 1,048,576 lines. docs/SCRIPTS.md tells the w
 pub fn read_options<'a>(alloc: Global, words: &'a [String]) -> Result<Options, Error> {
     let trace = Arg::new(alloc, "trace")
         .long("trace")
-        .help("Print each frame that is sent, in hex")
-        .action(ArgAction::SetTrue);
+        .value_name("json")
+        .help("Print each frame that is sent, in hex; with =json each event, in place of all else")
+        .num_args(0..=1)
+        .require_equals(true)
+        .default_missing_value("hex")
+        .value_parser(TRACES);
     let seed = Arg::new(alloc, "seed")
         .long("seed")
         .value_name("N")
@@ -69,8 +78,10 @@ pub fn read_options<'a>(alloc: Global, words: &'a [String]) -> Result<Options, E
         .arg(trace)?
         .arg(seed)?;
     let matches = command.try_get_matches_from(words)?;
+    let trace = matches.get_str("trace");
     Ok(Options {
-        trace: matches.get_flag("trace"),
+        trace: trace == Some("hex"),
+        events: trace == Some("json"),
         seed: matches.get_one::<u32>("seed").unwrap_or(1),
     })
 }

@@ -1,6 +1,6 @@
 //! A script, read from any reader and answered on any writer.
 
-ghost use Rattle.std.specs.Prelude.{◌≡◌, ◌≤◌, [], ◌∷◌, length, take, IfSome, IfOk, IfErr, OnOk, Option, List, ℕ};
+ghost use Rattle.std.specs.Prelude.{◌≡◌, ◌≤◌, [], ◌∷◌, length, take, IfSome, IfOk, IfErr, OnOk, Option, List, ℕ, string_bytes};
 ghost use Rattle.std.specs.Io.KnownBytes.{Appends};
 ghost use Rattle.script_core.specs.declared.script.Outcome.{Outcome};
 ghost use Rattle.script_core.specs.Script.{script};
@@ -11,7 +11,7 @@ use crate::options::Options;
 use script_lines::{LINE_LIMIT, Reason};
 use script_session::{Session, Stop};
 use std::alloc::Global;
-use std::io::{ErrorKind, Read, Write};
+use std::io::{self, ErrorKind, Read, Write};
 
 /// The most lines of a script that are run.
 pub const LINES: u64 = 1_048_576;
@@ -85,6 +85,36 @@ fn run_to_end<R: Read, W: Write>(
     Outcome::Failed
 }
 
+/// Runs the script that the reader gives, and writes in place of what it prints a line of JSON for each
+/// event that comes of it, in the order of the run, refused ones too. How it ends is a function of the
+/// script's bytes and the options, as of [`run_script`].
+///
+/// Lines are written and flushed whenever the reader has given all that it has at hand. After a bad line,
+/// and where memory, reading or writing fails, nothing more is read; the events before have their lines,
+/// unless it is writing that fails.
+pub fn run_telling<R: Read, W: Write>(
+    alloc: Global,
+    reader: &mut R,
+    writer: &mut W,
+    options: &Options,
+    advice: &mut String,
+) -> Outcome {
+    let mut script = Script::new(alloc, options);
+    script.session.tell_events();
+    let mut unseen = io::sink();
+    for _ in 0..u64::MAX {
+        let ended = script.read_on(alloc, reader, &mut unseen);
+        if let Err(failed) = script.write_events(writer) {
+            return failed;
+        }
+        if let Some(outcome) = ended {
+            script.advise(alloc, outcome, advice);
+            return outcome;
+        }
+    }
+    Outcome::Failed
+}
+
 /// A script of which a part was read.
 #[derive(Drop)]
 struct Script {
@@ -112,6 +142,20 @@ impl Script {
             let _ = self
                 .session
                 .put_advice(alloc, advice, reason, &self.pending);
+        }
+    }
+
+    /// Writes the lines of the events that have happened since the last were written.
+    fn write_events<W: Write>(&mut self, writer: &mut W) -> Result<(), Outcome>
+        ensures wrote { OnOk result (Appends (W.contents writer.old) (W.contents writer.new) (string_bytes self.old.session.stage.telling.lines)) }
+        ensures taken { OnOk result (string_bytes self.new.session.stage.telling.lines ≡ []) }
+        ensures err { IfErr result (λ outcome. outcome ≡ Outcome.Failed) }
+    {
+        write_bytes(writer, self.session.events().as_bytes())?;
+        self.session.clear_events();
+        match writer.flush() {
+            Ok(()) => Ok(()),
+            Err(_) => Err(Outcome::Failed),
         }
     }
 

@@ -5,3 +5,4 @@ pub mod Shown
 pub mod Pairs
 pub mod Session
 pub mod Stands
+pub mod Telling

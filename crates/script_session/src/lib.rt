@@ -13,6 +13,7 @@ mod session;
 mod settling;
 mod showing;
 mod stage;
+mod telling;
 
 pub use laws::events_lead_to_every_line;
 pub use session::{Session, Stop};

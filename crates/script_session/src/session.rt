@@ -1,5 +1,5 @@
 //! The session of a script.
-ghost use Rattle.std.specs.Prelude.{◌≡◌, false, IfOk, OnOk, string_bytes};
+ghost use Rattle.std.specs.Prelude.{◌≡◌, [], false, IfOk, OnOk, string_bytes};
 ghost use Rattle.script_lines.specs.Said.{said};
 ghost use Rattle.script_session.specs.Session.{State, binds, fresh_state, is_taken, line_does, may_come, new_name, plays, starts};
 ghost use Rattle.script_session.specs.Stage.{Stage as TheStage};
@@ -11,6 +11,7 @@ use crate::made::Made;
 use crate::pairs::{FIRST, SECOND, first_process};
 use crate::playing::{is_taken, new_name, starts};
 use crate::stage::Stage;
+use crate::telling::Telling;
 use script_advice::put_advice;
 use script_lines::{Line, MayCome, Reason, read_line};
 use script_terms::{Named, Names};
@@ -84,6 +85,7 @@ impl Session {
                 world: World::empty(alloc),
                 word: seed,
                 trace,
+                telling: Telling::off(alloc),
             },
             names: Names::new(alloc),
             started: false,
@@ -127,6 +129,29 @@ impl Session {
         };
         self.started = has_started;
         Ok(())
+    }
+
+    /// From now on each event is told, in a line of JSON.
+    pub fn tell_events(&mut self)
+        ensures { (state : State) → IsState self.old state → IsState self.new state }
+    {
+        self.stage.telling.is_on = true;
+    }
+
+    /// The lines of the events that have happened since they were last cleared: all those that come of
+    /// the script's lines, refused ones too, in their order.
+    pub fn events(&self) -> &str
+        ensures { result.now ≡ string_bytes self.now.stage.telling.lines }
+    {
+        self.stage.telling.lines.as_str()
+    }
+
+    /// Those were taken.
+    pub fn clear_events(&mut self)
+        ensures state { (state : State) → IsState self.old state → IsState self.new state }
+        ensures cleared { string_bytes self.new.stage.telling.lines ≡ [] }
+    {
+        self.stage.telling.lines.clear();
     }
 
     /// Puts what is wrong with a bad line behind what is printed, and the remedy where there is an obvious

@@ -7,6 +7,7 @@ ghost use Rattle.script_session.specs.Stands.{Happened, IsStage, Moved, Plays, T
 ghost use Rattle.world_core.specs.Ran.{event_at};
 
 use crate::made::{Made, made_by};
+use crate::telling::Telling;
 use dist_model::{Answer, Effect, Report};
 use erl_names::TrunkId;
 use erl_term::{Atom, Refusal};
@@ -14,12 +15,14 @@ use script_texts::{put_answer, put_refused, put_sent};
 use std::alloc::{AllocError, Global};
 use world_core::{Frame, NodeEvent, World};
 
-/// The world of a script, the next challenge, and whether each frame that is sent is printed.
+/// The world of a script, the next challenge, whether each frame that is sent is printed, and what is told
+/// of each event.
 #[derive(Drop)]
 pub(crate) struct Stage {
     pub(crate) world: World,
     pub(crate) word: u32,
     pub(crate) trace: bool,
+    pub(crate) telling: Telling,
 }
 
 // What an effect sends.
@@ -112,8 +115,8 @@ impl Stage {
         }
     }
 
-    // Something happens at the node of a name, under the challenge that is next. What it sends is printed,
-    // if the frames are to be.
+    // Something happens at the node of a name, under the challenge that is next, and is told where it is to
+    // be. What it sends is printed, if the frames are to be.
     fn step(
         &mut self,
         alloc: Global,
@@ -124,7 +127,10 @@ impl Stage {
         ensures { (it : TheStage) → IsStage self.old it →
             IfOk result (Moved (event_at node.now event) it self.new (string_bytes out.old) (string_bytes out.new)) }
     {
-        match self.world.apply_at(alloc, node, event) {
+        let told = self.telling.begin(alloc, &event)?;
+        let came = self.world.apply_at(alloc, node, event);
+        self.telling.end(alloc, node.text(), told, &came)?;
+        match came {
             Ok(Report { answer, effects }) => {
                 put_sents_if(alloc, out, self.trace, node.text(), &effects)?;
                 Ok(Ok(answer))

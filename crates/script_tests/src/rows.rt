@@ -7,6 +7,7 @@ use std::test::*;
 fn ends_so(alloc: Global, script: &str, wanted: &str) -> bool {
     let options = Options {
         trace: false,
+        events: false,
         seed: 1,
     };
     let mut reader = script.as_bytes();
@@ -119,6 +120,7 @@ fn patience(alloc: Global, messages: u32) -> Result<Vec<u8>, AllocError> {
     script.push_str("settle\nsettle\n")?;
     let options = Options {
         trace: false,
+        events: false,
         seed: 1,
     };
     let mut reader = script.as_bytes();
@@ -204,6 +206,7 @@ fn advice(rt: HostRuntime) {
     for (script, wanted) in ADVICE {
         let options = Options {
             trace: false,
+            events: false,
             seed: 1,
         };
         let mut reader = script.as_bytes();

@@ -1,11 +1,12 @@
 //! Scripts written by hand, and what they print.
-use script_core::{Options, Outcome, Reason, read_options, run_script};
+use script_core::{Options, Outcome, Reason, read_options, run_script, run_telling};
 use std::alloc::{AllocError, Global};
 use std::io::{self, ErrorKind, Read, Write};
 use std::test::*;
 
 const OPTIONS: Options = Options {
     trace: false,
+    events: false,
     seed: 1,
 };
 
@@ -390,16 +391,20 @@ fn options(alloc: Global, words: &[&str]) -> Result<Result<Options, i32>, AllocE
     Ok(read_options(alloc, given.as_slice()).map_err(|error| error.exit_code()))
 }
 
-/// Command lines, and what they ask for: the trace, and the seed.
-const GOOD_WORDS: [(&[&str], bool, u32); 4] = [
-    (&[], false, 1),
-    (&["--seed", "7"], false, 7),
-    (&["--seed=4294967295"], false, 4_294_967_295),
-    (&["--trace", "--seed", "0"], true, 0),
+/// Command lines, and what they ask for: the trace, events in its place, and the seed.
+const GOOD_WORDS: [(&[&str], bool, bool, u32); 6] = [
+    (&[], false, false, 1),
+    (&["--seed", "7"], false, false, 7),
+    (&["--seed=4294967295"], false, false, 4_294_967_295),
+    (&["--trace", "--seed", "0"], true, false, 0),
+    (&["--trace=hex"], true, false, 1),
+    (&["--seed", "0", "--trace=json"], false, true, 0),
 ];
 
 /// Others, and the status that they are refused with.
-const OTHER_WORDS: [(&[&str], i32); 8] = [
+const OTHER_WORDS: [(&[&str], i32); 10] = [
+    (&["--trace", "json"], 2),
+    (&["--trace=xml"], 2),
     (&["--seed", "4294967296"], 2),
     (&["--seed", "-1"], 2),
     (&["--seed"], 2),
@@ -412,12 +417,54 @@ const OTHER_WORDS: [(&[&str], i32); 8] = [
 
 #[test]
 fn command_lines(rt: HostRuntime) -> Result<(), Fail> {
-    for (words, trace, seed) in GOOD_WORDS {
-        let wanted = Options { trace, seed };
+    for (words, trace, events, seed) in GOOD_WORDS {
+        let wanted = Options {
+            trace,
+            events,
+            seed,
+        };
         assert_eq!(rt; options(rt.alloc(), words)?, Ok(wanted), "seed {seed}");
     }
     for (row, (words, status)) in OTHER_WORDS.iter().enumerate() {
         assert_eq!(rt; options(rt.alloc(), words)?, Err(*status), "row {row}");
     }
     Ok(())
+}
+
+/// Scripts, the lines of their events in JSON, and how they end.
+const TOLD: [(&str, &str, Outcome); 3] = [
+    ("", "", Outcome::Ran),
+    (
+        "node a@h c\nspawn a@h p\nalive p\ndeliver a@h a@h\nshow\nstart a@h",
+        r#"{"answer":{"kind":"pid","process":"<a@h.1.0.1>"},"effects":[],"event":{"kind":"spawn"},"node":"a@h"}
+{"answer":{"alive":true,"kind":"alive"},"effects":[],"event":{"kind":"alive","process":"<a@h.1.0.1>"},"node":"a@h"}
+{"answer":{"kind":"refused","name":"NodeUp","number":23},"effects":[],"event":{"kind":"start"},"node":"a@h"}
+"#,
+        Outcome::Ran,
+    ),
+    (
+        "node a@h c\nspawn a@h p\nfly\nalive p\n",
+        r#"{"answer":{"kind":"pid","process":"<a@h.1.0.1>"},"effects":[],"event":{"kind":"spawn"},"node":"a@h"}
+"#,
+        Outcome::BadLine(3, Reason::UnknownCommand),
+    ),
+];
+
+#[test]
+fn told(rt: HostRuntime) {
+    for (script, wanted, outcome) in TOLD {
+        let mut printed = Vec::new(rt.alloc());
+        let mut reader = script.as_bytes();
+        let ended = run_telling(
+            rt.alloc(),
+            &mut reader,
+            &mut printed,
+            &OPTIONS,
+            &mut String::new(rt.alloc()),
+        );
+        assert!(rt;
+            ended == outcome && printed.as_slice() == wanted.as_bytes(),
+            "{script}"
+        );
+    }
 }
