@@ -1,0 +1,12 @@
+//! What a reader of XML makes of the text that is written.
+ghost use Rattle.std.specs.Prelude.{◌≡◌, ℕ, List, map};
+ghost use Rattle.std.specs.Str.{chars};
+ghost use Rattle.svg_text.specs.Escaping.{escaped_text, seen};
+ghost use Rattle.svg_text.specs.Reading.{IsText, read_text};
+
+/// Whatever a text has, what is written of it is character data of XML, of which a reader reads the text
+/// again, with U+FFFD for each character that no document may have.
+pub fn text_is_read_again()
+    ensures grammar { (text : List ℕ) → IsText (chars (escaped_text text)) }
+    ensures read { (text : List ℕ) → read_text (chars (escaped_text text)) ≡ map seen (chars text) }
+{}
