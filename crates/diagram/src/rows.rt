@@ -1,0 +1,59 @@
+//! What a diagram shows.
+
+/// What a diagram shows: its lanes, the first at the left, and its rows, the first on top.
+#[derive(Drop)]
+pub struct Diagram {
+    /// What the whole is, in a few words.
+    pub title: String,
+    pub lanes: Vec<Lane>,
+    pub rows: Vec<Row>,
+}
+
+/// A life line.
+#[derive(Drop)]
+pub struct Lane {
+    pub name: String,
+    /// What stands below the name, a line each.
+    pub under: Vec<String>,
+}
+
+/// What happens at once. A row first takes an item, then its marks come, and then queues are given up.
+#[derive(Drop)]
+pub struct Row {
+    /// What stands at the left, a line each.
+    pub words: Vec<String>,
+    /// The queue from which an item is taken.
+    pub took: Option<u32>,
+    pub marks: Vec<Mark>,
+    /// The queues from which nothing is taken any more.
+    pub gave_up: Vec<u32>,
+}
+
+/// What stands on a lane.
+#[derive(Drop)]
+pub enum Mark {
+    Note(Note),
+    Sent(Item),
+}
+
+/// Words on a lane.
+#[derive(Drop)]
+pub struct Note {
+    /// The number of the lane, from 0.
+    pub lane: usize,
+    pub words: String,
+}
+
+/// What is sent from a lane to another.
+#[derive(Drop)]
+pub struct Item {
+    pub label: String,
+    /// What there is to say of it in full.
+    pub tooltip: String,
+    /// The lane that it is sent from.
+    pub from: usize,
+    /// The lane that it is sent to.
+    pub to: usize,
+    /// The queue on which it is sent.
+    pub queue: u32,
+}
