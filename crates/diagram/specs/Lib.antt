@@ -1,1 +1,5 @@
 pub mod Queues
+pub mod Arrows
+pub mod Lines
+pub mod Lists
+pub mod Layout

@@ -7,12 +7,12 @@
 //! arrow of the first item, and so on. It knows nothing of what lanes and items are.
 #![tactic(auto)]
 
-
-
-
+mod arrows;
+mod layout;
+mod lines;
 mod queues;
 mod rows;
 
-
-
+pub use arrows::{Arrow, End};
+pub use layout::{Layout, lay_out};
 pub use rows::{Diagram, Item, Lane, Mark, Note, Row};
