@@ -1,2 +1,5 @@
 pub mod LineSteps
 pub mod QueueTable
+pub mod Sends
+pub mod Downward
+pub mod Overlaps

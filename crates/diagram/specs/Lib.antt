@@ -3,3 +3,4 @@ pub mod Arrows
 pub mod Lines
 pub mod Lists
 pub mod Layout
+pub mod Claims

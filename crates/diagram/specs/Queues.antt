@@ -1,10 +1,9 @@
 -- What a queue sees of the rows: which items are sent on it, and which rows take one.
-use Rattle.std.specs.Prelude.{ℕ, ◌+◌, Bool, true, false, ◌==◌, ◌&&◌, nat_lt, List, [], ◌∷◌, ◌++◌, length, map, Option, None, Some, is_none, if◌then◌else◌}
+use Rattle.std.specs.Prelude.{ℕ, ◌+◌, Bool, ◌==◌, ◌&&◌, nat_lt, List, [], ◌∷◌, ◌++◌, length, Option, None, Some, is_none, if◌then◌else◌}
 use Rattle.std.specs.Option.{option_map_or}
 use Rattle.std.specs.List.{slice_get}
 use Rattle.diagram.specs.declared.queues.Place.{Place}
 use Rattle.diagram.specs.declared.queues.Traffic.{Traffic}
-use Rattle.diagram.specs.declared.rows.Item.{Item}
 use Rattle.diagram.specs.declared.rows.Mark.{Mark}
 use Rattle.diagram.specs.declared.rows.Mark.TheVariants as mark
 use Rattle.diagram.specs.declared.rows.Row.{Row}

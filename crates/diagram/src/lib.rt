@@ -8,11 +8,15 @@
 #![tactic(auto)]
 
 mod arrows;
+mod laws;
 mod layout;
 mod lines;
 mod queues;
 mod rows;
 
 pub use arrows::{Arrow, End};
+pub use laws::{
+    each_item_has_one_arrow, first_sent_is_first_taken, no_arrow_goes_up, nothing_overlaps,
+};
 pub use layout::{Layout, lay_out};
 pub use rows::{Diagram, Item, Lane, Mark, Note, Row};

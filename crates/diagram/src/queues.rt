@@ -147,12 +147,7 @@ fn give_up_all(
     Ok(())
 }
 
-fn pass(
-    alloc: Global,
-    table: &mut Vec<Traffic>,
-    at: usize,
-    row: &Row,
-) -> Result<(), AllocError>
+fn pass(alloc: Global, table: &mut Vec<Traffic>, at: usize, row: &Row) -> Result<(), AllocError>
     ensures { OnOk result ((q : ℕ) → seen_at table.new.items q ≡ after_row q at row.now (seen_at table.old.items q)) }
 {
     take(alloc, table, at, row.took)?;

@@ -1,6 +1,4 @@
-use Rattle.std.proofs.Common.{◌≡◌, ◌<◌, ◌∙◌, ◌+◌, length, take, count_by, arith}
-use Rattle.std.proofs.lemmas.Grind.{common_steps}
-use Rattle.diagram.specs.Lines.{is_on, lane_of}
+use Rattle.std.proofs.Common.{arith}
 use Rattle.diagram.proofs.LineSteps.{one_more}
 use Rattle.diagram.proofs.lines.lines.Goals as goal
 
