@@ -94,6 +94,7 @@ all_marks_scalars [] = refl
 all_marks_scalars (c ∷ cs) = scalars-append (marks c) (flat_map marks cs) (marks_scalars (reference_to c) c refl) (all_marks_scalars cs)
 
 chars_written : (text : List ℕ) → chars (escaped_text text) ≡ flat_map marks (chars text)
+unfolding escaped_text
 chars_written text = ap chars (written (chars text)) ∙ chars-encodes (flat_map marks (chars text)) (all_marks_scalars (chars text))
 
 -- ---- the two claims

@@ -38,5 +38,5 @@ abbrev pub escaped : ℕ → List ℕ
 escaped c = by_reference (reference_to c) c
 
 -- of the bytes of a text
-abbrev pub escaped_text : List ℕ → List ℕ
+unfoldable pub escaped_text : List ℕ → List ℕ
 escaped_text text = flat_map escaped (chars text)

@@ -1,2 +1,4 @@
 pub mod Escaping
 pub mod Reading
+pub mod Markup
+pub mod Figures

@@ -48,6 +48,7 @@ fn put_char(out: &mut String, c: char) -> Result<(), AllocError>
 ///
 /// # Errors
 /// Where there is no memory for it.
+#[tactic(auto, unfolding(crate::specs::Escaping::escaped_text))]
 pub fn put_text(out: &mut String, text: &str) -> Result<(), AllocError>
     ensures { OnOk result (string_bytes out.new ≡ string_bytes out.old ++ escaped_text text.now) }
 {

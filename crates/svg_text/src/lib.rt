@@ -6,7 +6,10 @@
 #![tactic(auto)]
 
 mod escaping;
+mod figures;
 mod laws;
+mod markup;
 
 pub use escaping::put_text;
+pub use figures::{Point, put_box, put_dot, put_line, put_words};
 pub use laws::text_is_read_again;

@@ -1,0 +1,80 @@
+-- Texts that are written as they are.
+use Rattle.std.proofs.Common.{◌≡◌, ℕ, zero, suc, ◌+◌, ◌%◌, ◌<◌, ◌≤◌, ◌^◌, Bool, true, false, ◌&&◌, nat_lt, List, [], ◌∷◌, ◌++◌, Option, None, Some, is_none, refl, sym, ap, ◌∙◌, arith, decimal, encode_utf8}
+use Rattle.std.specs.List.{flat_map, list_all}
+use Rattle.std.specs.Str.{chars, IsAscii}
+use Rattle.std.proofs.lemmas.Bool.Decides.{nat_tests}
+use Rattle.std.proofs.lemmas.Bool.{cases_Bool, cond-true}
+use Rattle.std.proofs.lemmas.Fmt.{decimal_by_steps}
+use Rattle.std.proofs.lemmas.List.Folds.{list_all-append}
+use Rattle.std.proofs.lemmas.Str.{chars-IsAscii, encode_ascii}
+use Rattle.svg_text.specs.Escaping.{by_reference, escaped, escaped_text, is_allowed, reference_to, seen}
+
+-- a byte that stands for itself
+abbrev pub is_itself : ℕ → Bool
+is_itself c = nat_lt c 128 && (is_allowed c && is_none (reference_to c))
+
+first : (a b : Bool) → (a && b) ≡ true → a ≡ true
+first true b h = refl
+first false b h = h
+
+second : (a b : Bool) → (a && b) ≡ true → b ≡ true
+second true b h = h
+second false b h = cc
+
+below : (c : ℕ) → nat_lt c 128 ≡ true → c < 128
+below c h = grind (arith, nat_tests)
+
+none_is : (o : Option (List ℕ)) → is_none o ≡ true → o ≡ None
+none_is None h = refl
+none_is (Some x) h = cc
+
+itself_ascii : (c : ℕ) → is_itself c ≡ true → c < 128
+itself_ascii c h = below c (first (nat_lt c 128) (is_allowed c && is_none (reference_to c)) h)
+
+itself_escaped : (c : ℕ) → is_itself c ≡ true → escaped c ≡ c ∷ []
+itself_escaped c h =
+    let rest = second (nat_lt c 128) (is_allowed c && is_none (reference_to c)) h in
+    ap (λ (o : Option (List ℕ)). by_reference o c) (none_is (reference_to c) (second (is_allowed c) (is_none (reference_to c)) rest))
+    ∙ ap encode_utf8 (cond-true (is_allowed c) c 65533 (first (is_allowed c) (is_none (reference_to c)) rest))
+    ∙ encode_ascii c (itself_ascii c h)
+
+all_escaped : (bytes : List ℕ) → list_all is_itself bytes ≡ true → flat_map escaped bytes ≡ bytes
+all_escaped [] h = refl
+all_escaped (c ∷ cs) h =
+    ap (λ (text : List ℕ). text ++ flat_map escaped cs) (itself_escaped c (first (is_itself c) (list_all is_itself cs) h))
+    ∙ ap (λ (text : List ℕ). c ∷ text) (all_escaped cs (second (is_itself c) (list_all is_itself cs) h))
+
+all_ascii : (bytes : List ℕ) → list_all is_itself bytes ≡ true → IsAscii bytes
+all_ascii [] h i = omega arith
+all_ascii (c ∷ cs) h zero = itself_ascii c (first (is_itself c) (list_all is_itself cs) h)
+all_ascii (c ∷ cs) h (suc i) = all_ascii cs (second (is_itself c) (list_all is_itself cs) h) i
+
+-- such a text is written as it is
+pub plain_text : (bytes : List ℕ) → list_all is_itself bytes ≡ true → escaped_text bytes ≡ bytes
+unfolding escaped_text
+plain_text bytes h = ap (flat_map escaped) (chars-IsAscii bytes (all_ascii bytes h)) ∙ all_escaped bytes h
+
+digit_itself : (d : ℕ) → d < 10 → is_itself (48 + d) ≡ true
+digit_itself zero h = refl
+digit_itself (suc zero) h = refl
+digit_itself (suc (suc zero)) h = refl
+digit_itself (suc (suc (suc zero))) h = refl
+digit_itself (suc (suc (suc (suc zero)))) h = refl
+digit_itself (suc (suc (suc (suc (suc zero))))) h = refl
+digit_itself (suc (suc (suc (suc (suc (suc zero)))))) h = refl
+digit_itself (suc (suc (suc (suc (suc (suc (suc zero))))))) h = refl
+digit_itself (suc (suc (suc (suc (suc (suc (suc (suc zero)))))))) h = refl
+digit_itself (suc (suc (suc (suc (suc (suc (suc (suc (suc zero))))))))) h = refl
+digit_itself (suc (suc (suc (suc (suc (suc (suc (suc (suc (suc d)))))))))) h = absurd (omega arith)
+
+pub decimal_itself : (n : ℕ) → n < 2 ^ 64 → list_all is_itself (decimal n) ≡ true
+decimal_itself n h =
+    decimal_by_steps (λ (n : ℕ) (ds : List ℕ). list_all is_itself ds ≡ true)
+    (λ (n : ℕ) (low : n < 10). ap (λ (b : Bool). b && true) (digit_itself n low))
+    (λ (n : ℕ) (ds : List ℕ) (low : 10 ≤ n) (rest : list_all is_itself ds ≡ true).
+        let small : n % 10 < 10 = omega arith in
+        list_all-append is_itself ds ((48 + n % 10) ∷ []) ∙ ap (λ (b : Bool). b && list_all is_itself ((48 + n % 10) ∷ [])) rest ∙ ap (λ (b : Bool). b && true) (digit_itself (n % 10) small))
+    n h
+
+pub plain_decimal : (n : ℕ) → n < 2 ^ 64 → escaped_text (decimal n) ≡ decimal n
+plain_decimal n h = plain_text (decimal n) (decimal_itself n h)
