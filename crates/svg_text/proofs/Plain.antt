@@ -1,13 +1,14 @@
 -- Texts that are written as they are.
-use Rattle.std.proofs.Common.{◌≡◌, ℕ, zero, suc, ◌+◌, ◌%◌, ◌<◌, ◌≤◌, ◌^◌, Bool, true, false, ◌&&◌, nat_lt, List, [], ◌∷◌, ◌++◌, Option, None, Some, is_none, refl, sym, ap, ◌∙◌, arith, decimal, encode_utf8}
+use Rattle.std.proofs.Common.{◌≡◌, ℕ, zero, suc, ◌+◌, ◌%◌, ◌<◌, ◌≤◌, ◌^◌, Bool, true, false, ◌&&◌, nat_lt, List, [], ◌∷◌, ◌++◌, Option, None, Some, is_none, refl, ap, ◌∙◌, arith, codes, decimal, encode_utf8}
 use Rattle.std.specs.List.{flat_map, list_all}
-use Rattle.std.specs.Str.{chars, IsAscii}
+use Rattle.std.specs.Str.{IsAscii}
 use Rattle.std.proofs.lemmas.Bool.Decides.{nat_tests}
-use Rattle.std.proofs.lemmas.Bool.{cases_Bool, cond-true}
+use Rattle.std.proofs.lemmas.Bool.{cond-true}
 use Rattle.std.proofs.lemmas.Fmt.{decimal_by_steps}
 use Rattle.std.proofs.lemmas.List.Folds.{list_all-append}
 use Rattle.std.proofs.lemmas.Str.{chars-IsAscii, encode_ascii}
-use Rattle.svg_text.specs.Escaping.{by_reference, escaped, escaped_text, is_allowed, reference_to, seen}
+use Rattle.svg_text.specs.Document.{area}
+use Rattle.svg_text.specs.Escaping.{by_reference, escaped, escaped_text, is_allowed, reference_to}
 
 -- a byte that stands for itself
 abbrev pub is_itself : ℕ → Bool
@@ -72,9 +73,19 @@ decimal_itself n h =
     decimal_by_steps (λ (n : ℕ) (ds : List ℕ). list_all is_itself ds ≡ true)
     (λ (n : ℕ) (low : n < 10). ap (λ (b : Bool). b && true) (digit_itself n low))
     (λ (n : ℕ) (ds : List ℕ) (low : 10 ≤ n) (rest : list_all is_itself ds ≡ true).
-        let small : n % 10 < 10 = omega arith in
-        list_all-append is_itself ds ((48 + n % 10) ∷ []) ∙ ap (λ (b : Bool). b && list_all is_itself ((48 + n % 10) ∷ [])) rest ∙ ap (λ (b : Bool). b && true) (digit_itself (n % 10) small))
+    let small : n % 10 < 10 = omega arith in
+    list_all-append is_itself ds ((48 + n % 10) ∷ []) ∙ ap (λ (b : Bool). b && list_all is_itself ((48 + n % 10) ∷ [])) rest ∙ ap (λ (b : Bool). b && true) (digit_itself (n % 10) small))
     n h
 
 pub plain_decimal : (n : ℕ) → n < 2 ^ 64 → escaped_text (decimal n) ≡ decimal n
 plain_decimal n h = plain_text (decimal n) (decimal_itself n h)
+
+joined : (a b : List ℕ) → list_all is_itself a ≡ true → list_all is_itself b ≡ true → list_all is_itself (a ++ b) ≡ true
+joined a b h k = list_all-append is_itself a b ∙ ap (λ (x : Bool). x && list_all is_itself b) h ∙ k
+
+pub plain_area : (width height : ℕ) → width < 2 ^ 64 → height < 2 ^ 64 → escaped_text (area width height) ≡ area width height
+plain_area width height wide high =
+    plain_text (area width height)
+    (joined (codes "0 0 " ++ decimal width ++ codes " ") (decimal height)
+    (joined (codes "0 0 " ++ decimal width) (codes " ") (joined (codes "0 0 ") (decimal width) refl (decimal_itself width wide)) refl)
+    (decimal_itself height high))

@@ -2,3 +2,4 @@ pub mod Escaping
 pub mod Reading
 pub mod Markup
 pub mod Figures
+pub mod Document

@@ -59,11 +59,11 @@ pub record Appends (old new : List ℕ) : Type 0 where
   pub well_formed : IsContent content
   pub behind : new ≡ old ++ content
 
--- one element and nothing beside it
+-- one element, and a line break behind it
 pub record IsDocument (text : List ℕ) : Type 0 where
   pub name : List ℕ
   pub attributes : List (List ℕ × List ℕ)
   pub inner : List ℕ
   pub tagged : AreTagged name attributes
   pub well_formed : IsContent inner
-  pub is : text ≡ element name attributes inner
+  pub is : text ≡ element name attributes inner ++ codes "\n"

@@ -1,6 +1,7 @@
 //! The figures of a drawing, a line each.
 ghost use Rattle.std.specs.Prelude.{◌≡◌, ◌++◌, OnOk, string_bytes};
-ghost use Rattle.svg_text.specs.Figures.{a_box, a_dot, a_line, an_element_of_text, place_text, size_text, some_words, titled};
+ghost use Rattle.svg_text.specs.Markup.{Appends};
+ghost use Rattle.svg_text.specs.Figures.{a_box, a_line, class_text, place_text, size_text, some_words, text_element, titled};
 
 use crate::escaping::put_text;
 use crate::markup::{put_attribute, put_end_tag, put_number};
@@ -13,9 +14,10 @@ pub struct Point {
     pub y: u64,
 }
 
-// An element with no attribute, and a text within.
+/// Appends an element with no attribute, and a text within.
+#[tactic(auto, unfolding(crate::specs::Figures::text_element))]
 pub(crate) fn put_text_element(out: &mut String, name: &str, text: &str) -> Result<(), AllocError>
-    ensures { OnOk result (string_bytes out.new ≡ string_bytes out.old ++ an_element_of_text name.now text.now) }
+    ensures { OnOk result (string_bytes out.new ≡ string_bytes out.old ++ text_element name.now text.now) }
 {
     out.push_str("<")?;
     out.push_str(name)?;
@@ -25,6 +27,7 @@ pub(crate) fn put_text_element(out: &mut String, name: &str, text: &str) -> Resu
 }
 
 // What is shown of a figure where a pointer rests on it, if anything is.
+#[tactic(auto, unfolding(crate::specs::Figures::titled))]
 fn put_title(out: &mut String, tooltip: &str) -> Result<(), AllocError>
     ensures { OnOk result (string_bytes out.new ≡ string_bytes out.old ++ titled tooltip.now) }
 {
@@ -34,6 +37,15 @@ fn put_title(out: &mut String, tooltip: &str) -> Result<(), AllocError>
     put_text_element(out, "title", tooltip)
 }
 
+/// Appends the class of a figure, by which the style names it.
+#[tactic(auto, unfolding(crate::specs::Figures::class_text))]
+pub(crate) fn put_class(out: &mut String, class: &str) -> Result<(), AllocError>
+    ensures { OnOk result (string_bytes out.new ≡ string_bytes out.old ++ class_text class.now) }
+{
+    put_attribute(out, "class", class)
+}
+
+#[tactic(auto, unfolding(crate::specs::Figures::place_text))]
 fn put_place(out: &mut String, x: &str, y: &str, at: Point) -> Result<(), AllocError>
     ensures { OnOk result (string_bytes out.new ≡ string_bytes out.old ++ place_text x.now y.now at) }
 {
@@ -52,15 +64,17 @@ pub fn put_line(
     to: Point,
     tooltip: &str,
 ) -> Result<(), AllocError>
-    ensures { OnOk result (string_bytes out.new ≡ string_bytes out.old ++ a_line class.now from to tooltip.now) }
+    ensures text { OnOk result (string_bytes out.new ≡ string_bytes out.old ++ a_line class.now from to tooltip.now) }
+    ensures content { OnOk result (Appends (string_bytes out.old) (string_bytes out.new)) }
 {
     out.push_str("<line")?;
-    put_attribute(out, "class", class)?;
+    put_class(out, class)?;
     put_place(out, "x1", "y1", from)?;
     put_place(out, "x2", "y2", to)?;
     out.push_str(">")?;
     put_title(out, tooltip)?;
-    out.push_str("</line>\n")
+    out.push_str("</line>\n")?;
+    Ok(())
 }
 
 /// Appends words at a place.
@@ -71,18 +85,21 @@ pub fn put_words(
     words: &str,
     tooltip: &str,
 ) -> Result<(), AllocError>
-    ensures { OnOk result (string_bytes out.new ≡ string_bytes out.old ++ some_words class.now at words.now tooltip.now) }
+    ensures text { OnOk result (string_bytes out.new ≡ string_bytes out.old ++ some_words class.now at words.now tooltip.now) }
+    ensures content { OnOk result (Appends (string_bytes out.old) (string_bytes out.new)) }
 {
     out.push_str("<text")?;
-    put_attribute(out, "class", class)?;
+    put_class(out, class)?;
     put_place(out, "x", "y", at)?;
     out.push_str(">")?;
     put_text(out, words)?;
     put_title(out, tooltip)?;
-    out.push_str("</text>\n")
+    out.push_str("</text>\n")?;
+    Ok(())
 }
 
 // The size of a box, and the radius of its corners.
+#[tactic(auto, unfolding(crate::specs::Figures::size_text))]
 fn put_size(out: &mut String, width: u64, height: u64) -> Result<(), AllocError>
     ensures { OnOk result (string_bytes out.new ≡ string_bytes out.old ++ size_text width height) }
 {
@@ -91,7 +108,7 @@ fn put_size(out: &mut String, width: u64, height: u64) -> Result<(), AllocError>
     put_attribute(out, "rx", "6")
 }
 
-/// Appends a box with round corners.
+/// Appends a box with round corners: a dot, where it is no larger than 12.
 pub fn put_box(
     out: &mut String,
     class: &str,
@@ -99,22 +116,13 @@ pub fn put_box(
     width: u64,
     height: u64,
 ) -> Result<(), AllocError>
-    ensures { OnOk result (string_bytes out.new ≡ string_bytes out.old ++ a_box class.now corner width height) }
+    ensures text { OnOk result (string_bytes out.new ≡ string_bytes out.old ++ a_box class.now corner width height) }
+    ensures content { OnOk result (Appends (string_bytes out.old) (string_bytes out.new)) }
 {
     out.push_str("<rect")?;
-    put_attribute(out, "class", class)?;
+    put_class(out, class)?;
     put_place(out, "x", "y", corner)?;
     put_size(out, width, height)?;
-    out.push_str("></rect>\n")
-}
-
-/// Appends a dot.
-pub fn put_dot(out: &mut String, class: &str, center: Point) -> Result<(), AllocError>
-    ensures { OnOk result (string_bytes out.new ≡ string_bytes out.old ++ a_dot class.now center) }
-{
-    out.push_str("<circle")?;
-    put_attribute(out, "class", class)?;
-    put_place(out, "cx", "cy", center)?;
-    put_attribute(out, "r", "3")?;
-    out.push_str("></circle>\n")
+    out.push_str("></rect>\n")?;
+    Ok(())
 }
