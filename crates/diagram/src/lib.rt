@@ -19,4 +19,4 @@ pub use laws::{
     each_item_has_one_arrow, first_sent_is_first_taken, no_arrow_goes_up, nothing_overlaps,
 };
 pub use layout::{Layout, lay_out};
-pub use rows::{Diagram, Item, Lane, Mark, Note, Row};
+pub use rows::{Diagram, Item, Lane, Mark, Note, Row, Tone};

@@ -41,7 +41,20 @@ pub enum Mark {
 pub struct Note {
     /// The number of the lane, from 0.
     pub lane: usize,
+    pub tone: Tone,
     pub words: String,
+}
+
+/// How a note is coloured. The words of the note say the same.
+#[derive(Clone, Copy, Debug, PartialEq, Eq)]
+pub enum Tone {
+    Plain,
+    /// All is well.
+    Calm,
+    /// Something has still to come.
+    Pending,
+    /// Something has ended.
+    Alarm,
 }
 
 /// What is sent from a lane to another.

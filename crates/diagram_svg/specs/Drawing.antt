@@ -1,0 +1,8 @@
+-- A drawing behind a text.
+use Rattle.std.specs.Prelude.{◌≡◌, ℕ, List, ◌++◌}
+use Rattle.svg_text.specs.Markup.{IsDocument}
+
+pub record AppendsDocument (old new : List ℕ) : Type 0 where
+  pub drawing : List ℕ
+  pub document : IsDocument drawing
+  pub behind : new ≡ old ++ drawing

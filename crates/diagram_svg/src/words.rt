@@ -1,0 +1,36 @@
+//! Words that have to fit into so much room.
+ghost use Rattle.std.specs.Prelude.{OnOk, string_bytes};
+ghost use Rattle.svg_text.specs.Markup.{Appends};
+
+use std::alloc::{AllocError, Global};
+use svg_text::{Point, put_words};
+
+/// The first characters of a text, and three dots in place of those behind them.
+pub(crate) fn shortened(alloc: Global, words: &str, most: usize) -> Result<String, AllocError> {
+    let mut short = String::new(alloc);
+    for (count, c) in words.chars().enumerate() {
+        if count == most {
+            short.push('\u{2026}')?;
+            break;
+        }
+        short.push(c)?;
+    }
+    Ok(short)
+}
+
+/// Appends the first characters of a text. Where others are left out, its tooltip is the whole.
+pub(crate) fn put_short(
+    alloc: Global,
+    out: &mut String,
+    class: &str,
+    at: Point,
+    words: &str,
+    most: usize,
+) -> Result<(), AllocError>
+    ensures { OnOk result (Appends (string_bytes out.old) (string_bytes out.new)) }
+{
+    let short = shortened(alloc, words, most)?;
+    let tooltip = if short.as_str() == words { "" } else { words };
+    put_words(out, class, at, short.as_str(), tooltip)?;
+    Ok(())
+}
