@@ -29,8 +29,8 @@ fn aside(x: u64, by: u64, is_right: bool) -> u64 {
     }
 }
 
-// Where an arrow begins and ends. One that is on its way ends between the lanes, the farther the fewer
-// are before it, so that none comes before another.
+// Where an arrow begins and ends. One that no row takes ends between the lanes, the farther the fewer
+// such are before it, so that none comes before another.
 fn span_of(frame: Frame, layout: &Layout, item: &Item, arrow: Arrow, before: u64) -> Span {
     let is_right = item.from <= item.to;
     let start = frame.lane(item.from);
@@ -39,7 +39,7 @@ fn span_of(frame: Frame, layout: &Layout, item: &Item, arrow: Arrow, before: u64
     let (reach, y) = match arrow.end {
         End::Taken(row) => (way.saturating_sub(3), frame.line(layout, row, 0)),
         End::Lost(row) => (
-            way / 2,
+            way.saturating_mul(5) / before.saturating_mul(2).saturating_add(10),
             frame.row(layout, row.saturating_add(1)).saturating_sub(10),
         ),
         End::OnItsWay => (
@@ -186,7 +186,7 @@ fn put_label(
     let class = if span.is_right { "label" } else { "label-left" };
     let at = Point {
         x: aside(span.from.x, 9, span.is_right),
-        y: span.from.y.saturating_sub(4),
+        y: span.from.y.saturating_sub(3),
     };
     let label = label_of(alloc, item, end)?;
     put_words(out, class, at, label.as_str(), item.tooltip.as_str())?;
@@ -224,6 +224,15 @@ fn put_part(
     }
 }
 
+// 1 for an arrow whose item no row takes.
+fn waits(end: End) -> u64 {
+    match end {
+        End::Taken(_) => 0,
+        End::Lost(_) => 1,
+        End::OnItsWay => 1,
+    }
+}
+
 // The arrows of a queue.
 fn put_queue(
     alloc: Global,
@@ -242,9 +251,7 @@ fn put_queue(
             let span = span_of(frame, layout, item, *arrow, before);
             put_part(alloc, out, part, span, arrow.end, item)?;
         }
-        if arrow.end == End::OnItsWay {
-            before = before.saturating_add(1);
-        }
+        before = before.saturating_add(waits(arrow.end));
     }
     Ok(())
 }

@@ -82,7 +82,7 @@ impl Frame {
     pub(crate) fn width(self) -> u64 {
         (self.lanes as u64)
             .saturating_mul(LANE)
-            .saturating_add(LEFT + 10)
+            .saturating_add(LEFT + 50)
     }
 
     pub(crate) fn height(self, layout: &Layout) -> u64 {

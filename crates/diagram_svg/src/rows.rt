@@ -162,13 +162,13 @@ fn put_note(alloc: Global, out: &mut String, at: Point, note: &Note) -> Result<(
     let width = count.saturating_mul(7).saturating_add(20);
     let corner = Point {
         x: at.x.saturating_sub(width / 2),
-        y: at.y.saturating_sub(LINE / 2 - 1),
+        y: at.y.saturating_sub(LINE / 2 - 2),
     };
     let foot = Point {
         x: at.x,
         y: at.y.saturating_add(4),
     };
-    put_box(out, class_of(note.tone), corner, width, LINE - 2)?;
+    put_box(out, class_of(note.tone), corner, width, LINE - 4)?;
     put_short(alloc, out, "words", foot, note.words.as_str(), NOTE)?;
     Ok(())
 }

@@ -1,0 +1,68 @@
+//! What is written of texts and of whole diagrams.
+
+use crate::building::diagram;
+use diagram_svg::put_picture;
+use std::alloc::Global;
+use std::test::Fail;
+use svg_text::put_text;
+
+/// Texts, and how they stand in an XML document.
+const TEXTS: &[(&str, &str)] = &[
+    ("", ""),
+    ("p: pending 1", "p: pending 1"),
+    ("a<b & \"c\">'d'", "a&lt;b &amp; &quot;c&quot;&gt;&apos;d&apos;"),
+    ("&lt;", "&amp;lt;"),
+    ("\u{e5}\u{1f600}", "\u{e5}\u{1f600}"),
+    ("\t\r\n", "&#9;&#13;&#10;"),
+    // No document may have these.
+    ("\u{0}\u{1b}\u{fffe}\u{ffff}", "\u{fffd}\u{fffd}\u{fffd}\u{fffd}"),
+    ("\u{7f}\u{fffd}\u{10ffff}", "\u{7f}\u{fffd}\u{10ffff}"),
+];
+
+fn written(alloc: Global, text: &str) -> Result<String, Fail> {
+    let mut out = String::new(alloc);
+    put_text(&mut out, text)?;
+    Ok(out)
+}
+
+#[test]
+fn texts_are_escaped(rt: HostRuntime) -> Result<(), Fail> {
+    for (text, wanted) in TEXTS {
+        assert_eq!(rt; written(rt.alloc(), text)?.as_str(), *wanted, "of {text:?}");
+    }
+    Ok(())
+}
+
+/// Rows of a diagram, and a text with how often the drawing has it.
+const DRAWINGS: &[(&[&str], &str, usize)] = &[
+    (&[], "</svg>\n", 1),
+    (&["link p q;SEND 0 1 0 LINK", "deliver;TAKE 0"], "<line class=\"sent\"", 1),
+    (&["link p q;SEND 0 1 0 LINK", "deliver;TAKE 0"], ">LINK<title>0000002A70</title></text>", 1),
+    (&["link p q;SEND 0 1 0 LINK"], "LINK (on its way)", 1),
+    (&["link p q;SEND 0 1 0 LINK;SEND 0 1 0 LINK", "lose;GIVE-UP 0"], "LINK (lost)", 2),
+    (&["link p q;SEND 0 1 0 LINK", "lose;GIVE-UP 0"], "<line class=\"cross\"", 2),
+    (&["send p q '<&'"], ">send p q &apos;&lt;&amp;&apos;</text>", 1),
+    (&["ends p q;NOTE 0 p: active"], "<rect class=\"calm\"", 1),
+    // A long word is cut short, and stands in the tooltip.
+    (
+        &["send p q 123456789012345678901234567890"],
+        ">send p q 123456789012345678901234567\u{2026}<title>send p q 123456789012345678901234567890</title>",
+        1,
+    ),
+];
+
+fn drawing(alloc: Global, rows: &[&str]) -> Result<String, Fail> {
+    let it = diagram(alloc, "Two nodes", &["a@h", "b@h"], rows)?;
+    let mut out = String::new(alloc);
+    put_picture(alloc, &mut out, &it)?;
+    Ok(out)
+}
+
+#[test]
+fn drawings_have_their_parts(rt: HostRuntime) -> Result<(), Fail> {
+    for (rows, part, times) in DRAWINGS {
+        let found = drawing(rt.alloc(), rows)?.as_str().matches(*part).count();
+        assert_eq!(rt; found, *times, "{part:?} of {rows:?}");
+    }
+    Ok(())
+}
