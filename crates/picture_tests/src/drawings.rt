@@ -10,12 +10,18 @@ use svg_text::put_text;
 const TEXTS: &[(&str, &str)] = &[
     ("", ""),
     ("p: pending 1", "p: pending 1"),
-    ("a<b & \"c\">'d'", "a&lt;b &amp; &quot;c&quot;&gt;&apos;d&apos;"),
+    (
+        "a<b & \"c\">'d'",
+        "a&lt;b &amp; &quot;c&quot;&gt;&apos;d&apos;",
+    ),
     ("&lt;", "&amp;lt;"),
     ("\u{e5}\u{1f600}", "\u{e5}\u{1f600}"),
     ("\t\r\n", "&#9;&#13;&#10;"),
     // No document may have these.
-    ("\u{0}\u{1b}\u{fffe}\u{ffff}", "\u{fffd}\u{fffd}\u{fffd}\u{fffd}"),
+    (
+        "\u{0}\u{1b}\u{fffe}\u{ffff}",
+        "\u{fffd}\u{fffd}\u{fffd}\u{fffd}",
+    ),
     ("\u{7f}\u{fffd}\u{10ffff}", "\u{7f}\u{fffd}\u{10ffff}"),
 ];
 
@@ -36,12 +42,32 @@ fn texts_are_escaped(rt: HostRuntime) -> Result<(), Fail> {
 /// Rows of a diagram, and a text with how often the drawing has it.
 const DRAWINGS: &[(&[&str], &str, usize)] = &[
     (&[], "</svg>\n", 1),
-    (&["link p q;SEND 0 1 0 LINK", "deliver;TAKE 0"], "<line class=\"sent\"", 1),
-    (&["link p q;SEND 0 1 0 LINK", "deliver;TAKE 0"], ">LINK<title>0000002A70</title></text>", 1),
+    (
+        &["link p q;SEND 0 1 0 LINK", "deliver;TAKE 0"],
+        "<line class=\"sent\"",
+        1,
+    ),
+    (
+        &["link p q;SEND 0 1 0 LINK", "deliver;TAKE 0"],
+        ">LINK<title>0000002A70</title></text>",
+        1,
+    ),
     (&["link p q;SEND 0 1 0 LINK"], "LINK (on its way)", 1),
-    (&["link p q;SEND 0 1 0 LINK;SEND 0 1 0 LINK", "lose;GIVE-UP 0"], "LINK (lost)", 2),
-    (&["link p q;SEND 0 1 0 LINK", "lose;GIVE-UP 0"], "<line class=\"cross\"", 2),
-    (&["send p q '<&'"], ">send p q &apos;&lt;&amp;&apos;</text>", 1),
+    (
+        &["link p q;SEND 0 1 0 LINK;SEND 0 1 0 LINK", "lose;GIVE-UP 0"],
+        "LINK (lost)",
+        2,
+    ),
+    (
+        &["link p q;SEND 0 1 0 LINK", "lose;GIVE-UP 0"],
+        "<line class=\"cross\"",
+        2,
+    ),
+    (
+        &["send p q '<&'"],
+        ">send p q &apos;&lt;&amp;&apos;</text>",
+        1,
+    ),
     (&["ends p q;NOTE 0 p: active"], "<rect class=\"calm\"", 1),
     // A long word is cut short, and stands in the tooltip.
     (

@@ -24,7 +24,12 @@ const LAYOUTS: &[(&[&str], &str, &str)] = &[
     ),
     // What a row sends it doesn't take, and a row that finds nothing takes nothing.
     (
-        &["a;TAKE 0;SEND 0 1 0 x", "b;TAKE 0", "c;TAKE 0", "d;SEND 0 1 0 y"],
+        &[
+            "a;TAKE 0;SEND 0 1 0 x",
+            "b;TAKE 0",
+            "c;TAKE 0",
+            "d;SEND 0 1 0 y",
+        ],
         "0:0.0 taken 1,0:3.0 way",
         "0[1] 2[] 3[] 4[0] 5",
     ),
@@ -48,7 +53,10 @@ const LAYOUTS: &[(&[&str], &str, &str)] = &[
     ),
     // Marks of two lanes share their lines, and words need theirs.
     (
-        &["a;refused;NOTE 0 p;NOTE 1 q;NOTE 0 r", "b;c;d;TAKE 3;NOTE 1 s"],
+        &[
+            "a;refused;NOTE 0 p;NOTE 1 q;NOTE 0 r",
+            "b;c;d;TAKE 3;NOTE 1 s",
+        ],
         "",
         "0[001] 2[1] 5",
     ),

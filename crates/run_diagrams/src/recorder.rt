@@ -94,10 +94,7 @@ impl Recorder {
 
     // The next row, with what is to stand at its left.
     fn begin(&mut self, alloc: Global) -> Row {
-        empty_row(
-            alloc,
-            std::mem::replace(&mut self.words, Vec::new(alloc)),
-        )
+        empty_row(alloc, std::mem::replace(&mut self.words, Vec::new(alloc)))
     }
 
     /// Something is noted on the lane of a node, in a row of its own.
