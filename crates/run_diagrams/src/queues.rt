@@ -1,4 +1,7 @@
 //! The numbers of queues: what travels on a connection to one of its two nodes.
+ghost use Rattle.std.specs.Prelude.{◌≡◌, ◌↔◌, ◌++◌, ◌∷◌, [], ℕ, IfNone, IfOk, IfSome, IsTrue, OnErr, OnOk};
+ghost use Rattle.run_diagrams.specs.Numbers.{AreApart, IsNumber, way_of};
+ghost use Rattle.run_diagrams.specs.declared.queues.Way.{Way as TheWay};
 
 use erl_names::{NodeName, TrunkId};
 use std::alloc::{AllocError, Global};
@@ -10,20 +13,55 @@ pub(crate) struct Way {
     pub(crate) to: NodeName,
 }
 
+impl Way {
+    // Whether it is what travels on this connection to this node.
+    fn is(&self, trunk: &TrunkId, to: &NodeName) -> bool
+        ensures { IsTrue result ↔ (self.now ≡ way_of trunk.now to.now) }
+    {
+        self.trunk == *trunk && self.to == *to
+    }
+}
+
+// The number of a way that was met.
+fn place_of(ways: &[Way], trunk: &TrunkId, to: &NodeName) -> Option<usize>
+    ensures found { IfSome result (λ place. IsNumber ways.now place (way_of trunk.now to.now)) }
+    ensures none { IfNone result ((place : ℕ) → ¬ (IsNumber ways.now place (way_of trunk.now to.now))) }
+{
+    for (place, way) in ways.iter().enumerate() {
+        if way.is(trunk, to) {
+            return Some(place);
+        }
+    }
+    None
+}
+
 /// The ways that were met, the first as number 0.
 #[derive(Drop)]
 pub(crate) struct Ways {
-    ways: Vec<Way>,
+    pub(crate) ways: Vec<Way>,
 }
 
 impl Ways {
-    pub(crate) fn new(alloc: Global) -> Ways {
+    pub(crate) fn new(alloc: Global) -> Ways
+        ensures { AreApart result.ways.items }
+    {
         Ways {
             ways: Vec::new(alloc),
         }
     }
 
-    /// The number of a way, which it keeps.
+    // A way more.
+    fn add(&mut self, alloc: Global, trunk: &TrunkId, to: &NodeName) -> Result<(), AllocError>
+        ensures ok { OnOk result (self.new.ways.items ≡ self.old.ways.items ++ way_of trunk.now to.now ∷ []) }
+        ensures err { OnErr result (self.new.ways.items ≡ self.old.ways.items) }
+    {
+        let trunk = trunk.clone()?;
+        let to = NodeName::read(alloc, to.text()).map_err(|_| AllocError)?;
+        self.ways.push(Way { trunk, to })?;
+        Ok(())
+    }
+
+    /// The number of a way, which it keeps: no two ways have one number, and no way has two.
     ///
     /// # Errors
     /// Where memory is wanting, as for more than 2^32 ways.
@@ -32,20 +70,26 @@ impl Ways {
         alloc: Global,
         trunk: &TrunkId,
         to: &NodeName,
-    ) -> Result<u32, AllocError> {
-        let count = self.ways.len();
-        for (place, way) in self.ways.iter().enumerate() {
-            if way.trunk == *trunk && way.to == *to {
-                return u32::try_from(place).map_err(|_| AllocError);
+    ) -> Result<u32, AllocError>
+        ensures number { IfOk result (λ number. IsNumber self.new.ways.items number (way_of trunk.now to.now)) }
+        ensures kept { (number : ℕ) (way : TheWay) → IsNumber self.old.ways.items number way → IsNumber self.new.ways.items number way }
+        ensures apart { AreApart self.old.ways.items → AreApart self.new.ways.items }
+    {
+        let place = match place_of(&self.ways, trunk, to) {
+            Some(place) => place,
+            None => {
+                let place = self.ways.len();
+                self.add(alloc, trunk, to)?;
+                place
             }
-        }
-        let trunk = trunk.clone()?;
-        let to = NodeName::read(alloc, to.text()).map_err(|_| AllocError)?;
-        self.ways.push(Way { trunk, to })?;
-        u32::try_from(count).map_err(|_| AllocError)
+        };
+        u32::try_from(place).map_err(|_| AllocError)
     }
 
     /// The numbers of all ways to a node.
+    ///
+    /// # Errors
+    /// Where memory is wanting.
     pub(crate) fn all_to(&self, alloc: Global, node: &str) -> Result<Vec<u32>, AllocError> {
         let mut numbers = Vec::new(alloc);
         for (place, way) in self.ways.iter().enumerate() {
