@@ -7,3 +7,5 @@ mod building;
 mod drawings;
 #[cfg(test)]
 mod layouts;
+#[cfg(test)]
+mod runs;
