@@ -1,5 +1,5 @@
 //! A node's end of a connection.
-ghost use Rattle.std.specs.Prelude.{◌≡◌, ◌⊎◌, [], ◌∷◌, ◌++◌, IfOk, IfErr, OnErr, true, false, Ok};
+ghost use Rattle.std.specs.Prelude.{◌≡◌, ◌⊎◌, [], ◌∷◌, ◌++◌, IfOk, IfErr, OnErr, is_none, true, false, Ok};
 ghost use Rattle.std.specs.Option.{option_copied};
 ghost use Rattle.node_ports.specs.Ports.{EndsFull, behind_first, fetched, first_of, flushed, fresh, sending, with_slot};
 ghost use Rattle.wire_core.specs.Pieces.{IsPiece};
@@ -95,6 +95,13 @@ impl Port {
     {
         self.outbox.push_back(parcel)?;
         Ok(())
+    }
+
+    /// Whether nothing waits to be put.
+    pub fn is_idle(&self) -> bool
+        ensures { result ≡ is_none (first_of self.now.outbox) }
+    {
+        self.outbox.front().is_none()
     }
 
     /// What comes to the node next, if anything does.
