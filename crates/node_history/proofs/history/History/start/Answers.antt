@@ -1,0 +1,11 @@
+use Rattle.std.proofs.Common.{arith}
+use Rattle.dist_model.specs.NodeEvents as model
+use Rattle.node_history.proofs.Entering.{tried_at}
+use Rattle.world_events.specs.declared.event.NodeEvent.TheVariants as event
+use Rattle.node_history.proofs.history.History.start.Goals as goal
+
+pub returns : goal.returns
+returns c = λ names.
+    tried_at names model.Start event.Start 0 c.in_ok-stamp.stamp c.args.self.now c.next_stamp.new.self c.write.new.self c.start-answer.new.self c.start-answer.result
+    c.next_stamp.ensures.node c.next_stamp.ensures.last c.next_stamp.ensures.entries c.in_ok-stamp.ensures.ok (omega arith) (c.start-answer.ensures names)
+    c.write.result c.write.ensures

@@ -1,0 +1,21 @@
+//! What is kept of an event.
+
+use dist_model::Report;
+use erl_term::Refusal;
+use node_plans::Frame;
+use world_events::NodeEvent;
+
+/// What a node answers to an event: its report, or why it refuses.
+pub type Answered = Result<Report<Frame>, Refusal>;
+
+/// What is kept of an event at a node.
+#[derive(Debug, Drop)]
+pub struct Entry {
+    /// When it was, from 1 up: later events of a node have higher stamps, and an item that comes was
+    /// sent under a lower one.
+    pub stamp: u64,
+    /// What happened.
+    pub event: NodeEvent,
+    /// What the node answered.
+    pub answer: Answered,
+}

@@ -1,0 +1,17 @@
+//! A node, and the history of what has happened at it: one entry an event, under stamps that rise.
+//!
+//! [`History`] is that. A thread's book keeps one. Each event is written down with what the node
+//! answers, a refusal too (`specs/Entering`); only an event for which memory is wanting isn't, and then
+//! nothing has changed.
+#![tactic(auto)]
+
+mod arriving;
+mod copying;
+mod entry;
+mod events;
+mod history;
+mod kinds;
+
+pub use entry::{Answered, Entry};
+pub use history::History;
+pub use kinds::is_read;
