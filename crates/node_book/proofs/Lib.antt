@@ -1,0 +1,10 @@
+pub mod Ways
+pub mod Places
+pub mod Counted
+pub mod Growing
+pub mod Resting
+pub mod Taking
+pub mod Opening
+pub mod Moving
+pub mod Booking
+pub mod Coming

@@ -1,0 +1,12 @@
+use Rattle.std.proofs.Common.{ap, sym, ◌∙◌}
+use Rattle.dist_model.specs.Dialing.{has_name}
+use Rattle.node_book.proofs.Booking.{dial_kept}
+use Rattle.node_book.proofs.book.Book.dial.Goals as goal
+
+pub invariant_of-self : goal.invariant_of-self
+invariant_of-self c =
+    let b = c.self.inside in
+    let e = c.dial.ensures in
+    dial_kept c.books_grow.ensures.grow c.books_grow.ensures.next b.names.items b.place b.cookie b.history c.dial.new.history b.outlets.items c.dial.new.outlets.items
+    c.has_name-is_known.result c.args.peer c.args.word c.dial.result
+    (ap (λ l. has_name c.args.peer l) (sym c.deref.ensures.value) ∙ sym c.has_name-is_known.ensures) e.ok e.history e.outlets c.self.invariant

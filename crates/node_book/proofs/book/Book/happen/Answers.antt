@@ -1,0 +1,17 @@
+use Rattle.node_book.proofs.Booking.{happened, plainly, plainly_not}
+use Rattle.node_book.proofs.book.Book.happen.Goals as goal
+
+pub invariant_of-self : goal.invariant_of-self
+invariant_of-self c =
+    let b = c.self.inside in
+    happened c.books_grow.ensures.grow b.names.items b.place b.cookie b.history c.happen.new.history b.outlets.items c.args.event c.happen.result c.requires c.happen.ensures c.self.invariant
+
+pub returns-clause-ok : goal.returns-clause-ok
+returns-clause-ok c =
+    let b = c.self.inside in
+    rw (← c.self.view_is) (plainly b.names.items b.place b.cookie b.history c.happen.new.history b.outlets.items c.args.event c.requires c.happen.result c.happen.ensures)
+
+pub returns-clause-err : goal.returns-clause-err
+returns-clause-err c =
+    let b = c.self.inside in
+    rw (← c.self.view_is) (plainly_not b.names.items b.place b.cookie b.history c.happen.new.history b.outlets.items c.args.event c.requires c.happen.result c.happen.ensures)

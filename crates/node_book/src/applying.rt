@@ -1,0 +1,145 @@
+//! What happens at a book's node is entered.
+ghost use Rattle.std.specs.Prelude.{◌≡◌, ◌<◌, IfErr, IfOk, length, true};
+ghost use Rattle.node_core.specs.Model.{model_of};
+ghost use Rattle.node_book.specs.Answers.{is_plain};
+ghost use Rattle.node_book.specs.Books.{Applies, IsFreshBook, IsUnapplied, is_ready_on};
+ghost use Rattle.world_events.specs.declared.event.NodeEvent.TheVariants as event;
+
+use crate::arriving::{is_ready, take};
+use crate::book::Book;
+use crate::dialing::dial;
+use crate::happening::happen;
+use crate::names::{has_name, place_of};
+use erl_handshake::Cookie;
+use erl_names::{NodeName, TrunkId};
+use erl_term::Refusal;
+use node_core::Node;
+use node_history::{Entry, History};
+use std::alloc::{AllocError, Global};
+use world_events::NodeEvent;
+
+impl Book {
+    /// The book of the node at that place among all nodes, with its cookie. Nothing has happened to it
+    /// yet.
+    ///
+    /// # Errors
+    /// Where there is no memory for it.
+    pub fn new(
+        alloc: Global,
+        names: Vec<NodeName>,
+        place: usize,
+        cookie: Cookie,
+    ) -> Result<Book, AllocError>
+        requires { place < length names.items }
+        ensures { IfOk result (IsFreshBook names.items place cookie) }
+    {
+        dist_books::books_grow();
+        let name = names[place].clone()?;
+        let node = Node::new(alloc, name, cookie.clone()?)?;
+        Ok(Book {
+            names,
+            place,
+            cookie,
+            history: History::new(alloc, node),
+            outlets: Vec::new(alloc),
+            offers: Vec::new(alloc),
+        })
+    }
+
+    /// The place of its node among all nodes, from 0.
+    pub fn place(&self) -> usize
+        ensures { result ≡ self.now.place }
+    {
+        self.place
+    }
+
+    /// The node.
+    pub fn node(&self) -> &Node
+        ensures { model_of result.now ≡ model_of self.now.history.node }
+    {
+        self.history.node()
+    }
+
+    /// The entries of what has happened, the first event first.
+    pub fn entries(&self) -> &[Entry]
+        ensures { result.now ≡ self.now.history.entries.items }
+    {
+        self.history.entries()
+    }
+
+    /// Whether an item has come on a connection that the node may take, or has to refuse: whether an
+    /// `Arrive` of it can be applied.
+    pub fn ready(&self, trunk: &TrunkId) -> bool
+        ensures { result ≡ is_ready_on (model_of self.now.history.node) trunk.now self.now.outlets }
+    {
+        match place_of(&self.outlets, trunk) {
+            Some(at) => is_ready(self.history.node(), trunk, self.outlets[at].port.first()),
+            None => false,
+        }
+    }
+
+    // Something happens at the node alone.
+    fn happen(&mut self, alloc: Global, event: NodeEvent) -> Result<usize, Refusal>
+        requires { is_plain event ≡ true }
+        ensures ok { IfOk result (Applies event self.old self.new) }
+        ensures err { IfErr result (IsUnapplied event self.old self.new) }
+    {
+        dist_books::books_grow();
+        happen(alloc, &mut self.history, event)
+    }
+
+    // What has come on a connection comes to the node.
+    fn arrive(&mut self, alloc: Global, trunk: TrunkId, word: u32) -> Result<usize, Refusal>
+        ensures ok { IfOk result (Applies (event.Arrive trunk word) self.old self.new) }
+        ensures err { IfErr result (IsUnapplied (event.Arrive trunk word) self.old self.new) }
+    {
+        dist_books::books_grow();
+        match place_of(&self.outlets, &trunk) {
+            Some(at) => take(alloc, &mut self.history, &mut self.outlets[at], trunk, word),
+            None => Err(Refusal::NothingThere),
+        }
+    }
+
+    // The node dials another.
+    fn dial(&mut self, alloc: Global, peer: NodeName, word: u32) -> Result<usize, Refusal>
+        ensures ok { IfOk result (Applies (event.Dial peer word) self.old self.new) }
+        ensures err { IfErr result (IsUnapplied (event.Dial peer word) self.old self.new) }
+    {
+        dist_books::books_grow();
+        let is_known = has_name(&self.names, &peer);
+        dial(
+            alloc,
+            &mut self.history,
+            &mut self.outlets,
+            &mut self.offers,
+            is_known,
+            peer,
+            word,
+        )
+    }
+
+    /// Something happens at the node. One entry more is in the history, with what the node answers, a
+    /// refusal too, and its place is told. Its stamp is one more than the greater of the last one and of
+    /// that under which was sent what has come. What the node sends waits at its ends of the connections.
+    /// (ERTS User's Guide, Distribution Protocol; Reference Manual, Processes.)
+    ///
+    /// # Errors
+    /// [`Refusal::NothingThere`] at an `Arrive` for which the connection isn't [`Book::ready`];
+    /// [`Refusal::IdsUsedUp`] where no higher stamp is left, and then [`Refusal::OutOfMemory`]. Then
+    /// nothing has changed.
+    pub fn apply(&mut self, alloc: Global, event: NodeEvent) -> Result<usize, Refusal>
+        ensures ok { IfOk result (Applies event self.old self.new) }
+        ensures err { IfErr result (IsUnapplied event self.old self.new) }
+    {
+        match event {
+            NodeEvent::Call(command) => self.happen(alloc, NodeEvent::Call(command)),
+            NodeEvent::Arrive { trunk, word } => self.arrive(alloc, trunk, word),
+            NodeEvent::Local => self.happen(alloc, NodeEvent::Local),
+            NodeEvent::Lose(trunk) => self.happen(alloc, NodeEvent::Lose(trunk)),
+            NodeEvent::Sweep => self.happen(alloc, NodeEvent::Sweep),
+            NodeEvent::Dial { peer, word } => self.dial(alloc, peer, word),
+            NodeEvent::Stop => self.happen(alloc, NodeEvent::Stop),
+            NodeEvent::Start => self.happen(alloc, NodeEvent::Start),
+        }
+    }
+}

@@ -1,0 +1,135 @@
+//! A port, and how far the history has come into it.
+ghost use Rattle.std.specs.Prelude.{◌≡◌, IfOk};
+ghost use Rattle.node_book.specs.Feeding.{Fed, KeepsFeeding};
+ghost use Rattle.node_plans.specs.Frames.{Framed};
+ghost use Rattle.wire_core.specs.Pieces.{IsPiece};
+
+use crate::scanning::next_sent;
+use node_history::Entry;
+use node_plans::{Frame, same_name};
+use node_ports::Port;
+use std::alloc::{AllocError, Global};
+use std::sync::Wait;
+use wire_core::{CAPACITY, Direction, Parcel, Piece};
+
+/// A node's end of a connection, and the place of the history up to which what was sent on it has come
+/// into the end's outbox: so many entries, and so many of the effects of the next.
+#[derive(Drop)]
+pub struct Outlet {
+    pub(crate) port: Port,
+    pub(crate) entry: usize,
+    pub(crate) effects: usize,
+}
+
+// To which of the two nodes what is put at a port goes.
+fn towards(port: &Port) -> Direction {
+    if same_name(port.trunk().dialer.atom(), port.peer().atom()) {
+        Direction::ToDialer
+    } else {
+        Direction::ToAcceptor
+    }
+}
+
+// The next parcel that is put at a port.
+fn parcel(alloc: Global, port: &Port, stamp: u64, frame: &Frame) -> Result<Parcel, AllocError>
+    requires { IsPiece frame.now.bytes }
+    ensures stamp { IfOk result (λ parcel. parcel.stamp ≡ stamp) }
+    ensures bytes { IfOk result (λ parcel. parcel.bytes ≡ frame.now.bytes) }
+{
+    let trunk = port.trunk().clone()?;
+    let bytes = Vec::from_slice(alloc, frame.as_slice())?;
+    Ok(Parcel {
+        trunk,
+        towards: towards(port),
+        seq: port.put().len() as u64,
+        stamp,
+        bytes: Piece::new(bytes),
+    })
+}
+
+impl Outlet {
+    // Where nothing waits to be put, what the history has sent next comes into the outbox, if anything
+    // does.
+    fn stage(&mut self, alloc: Global, entries: &[Entry]) -> Result<(), AllocError>
+        requires { Fed entries.now self.old }
+        ensures { KeepsFeeding entries.now self.old self.new }
+    {
+        if !self.port.is_idle() {
+            return Ok(());
+        }
+        match next_sent(
+            entries,
+            self.entry,
+            self.effects,
+            self.port.trunk(),
+            self.port.peer(),
+        ) {
+            Some(next) => {
+                let parcel = parcel(alloc, &self.port, next.stamp, next.frame)?;
+                self.port.send(parcel)?;
+                self.entry = next.entry;
+                self.effects = next.effects;
+            }
+            None => {
+                self.entry = entries.len();
+                self.effects = 0;
+            }
+        }
+        Ok(())
+    }
+
+    // Puts the next parcel on the wire, and says whether it did.
+    fn put_one<R: Wait>(
+        &mut self,
+        rt: &R,
+        alloc: Global,
+        entries: &[Entry],
+    ) -> Result<bool, AllocError>
+        requires { Fed entries.now self.old }
+        ensures { KeepsFeeding entries.now self.old self.new }
+    {
+        node_ports::ports_shift();
+        self.stage(alloc, entries)?;
+        self.port.flush(rt)
+    }
+
+    /// Puts what waits on the wire, as far as there is room, and tells how many parcels.
+    ///
+    /// # Errors
+    /// Where there is no memory for the first.
+    pub(crate) fn flush<R: Wait>(
+        &mut self,
+        rt: &R,
+        alloc: Global,
+        entries: &[Entry],
+    ) -> Result<u64, AllocError>
+        requires { Fed entries.now self.old }
+        ensures { KeepsFeeding entries.now self.old self.new }
+    {
+        for count in 0..CAPACITY {
+            match self.put_one(rt, alloc, entries) {
+                Ok(true) => {}
+                Ok(false) => return Ok(count as u64),
+                Err(e) => {
+                    if count == 0 {
+                        return Err(e);
+                    }
+                    return Ok(count as u64);
+                }
+            }
+        }
+        Ok(CAPACITY as u64)
+    }
+
+    /// Takes a parcel of the wire into the slot, if that is empty, and says whether it did.
+    ///
+    /// # Errors
+    /// Where there is no memory for it.
+    pub(crate) fn fetch<R: Wait>(&mut self, rt: &R, entries: &[Entry]) -> Result<bool, AllocError>
+        ensures { KeepsFeeding entries.now self.old self.new }
+    {
+        node_ports::ports_shift();
+        let _ = entries;
+        self.port.fetch(rt)
+    }
+}

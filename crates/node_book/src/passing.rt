@@ -1,0 +1,93 @@
+//! What passes at a book's connections between two entries.
+ghost use Rattle.std.specs.Prelude.{◌≡◌, IfErr, IfOk};
+ghost use Rattle.node_core.specs.Model.{model_of};
+ghost use Rattle.node_book.specs.Books.{Rests, wants};
+
+use crate::book::Book;
+use crate::dialing::Left;
+use crate::names::place_of;
+use crate::outlet::Outlet;
+use erl_names::TrunkId;
+use erl_term::Refusal;
+use node_plans::same_name;
+use node_ports::Port;
+use std::alloc::Global;
+use std::sync::Wait;
+use wire_core::Offer;
+
+impl Book {
+    /// Puts what waits on a connection onto its wire, as far as there is room there, and tells how many
+    /// parcels.
+    ///
+    /// # Errors
+    /// Where there is no memory for the first of them. Then nothing has changed.
+    pub fn flush<R: Wait>(&mut self, rt: &R, alloc: Global, trunk: &TrunkId) -> Result<u64, Refusal>
+        ensures { Rests self.old self.new }
+    {
+        dist_books::books_grow();
+        match place_of(&self.outlets, trunk) {
+            Some(at) => Ok(self.outlets[at].flush(rt, alloc, self.history.entries())?),
+            None => Ok(0),
+        }
+    }
+
+    /// Takes a parcel off the wire of a connection, to come next, where none waits to come, and says
+    /// whether it did.
+    ///
+    /// # Errors
+    /// Where there is no memory for it. Then nothing has changed.
+    pub fn fetch<R: Wait>(&mut self, rt: &R, trunk: &TrunkId) -> Result<bool, Refusal>
+        ensures { Rests self.old self.new }
+    {
+        dist_books::books_grow();
+        match place_of(&self.outlets, trunk) {
+            Some(at) => Ok(self.outlets[at].fetch(rt, self.history.entries())?),
+            None => Ok(false),
+        }
+    }
+
+    /// Hands out what is left for another node of a connection that this one has dialed, the oldest
+    /// first.
+    pub fn take_offer(&mut self) -> Option<Left>
+        ensures rests { Rests self.old self.new }
+        ensures outlets { self.new.outlets ≡ self.old.outlets }
+    {
+        if self.offers.is_empty() {
+            return None;
+        }
+        Some(self.offers.remove(0))
+    }
+
+    /// Whether an offer can be installed: another node has dialed, and the book hasn't the connection
+    /// yet.
+    pub fn wants(&self, offer: &Offer) -> bool
+        ensures { result ≡ wants (model_of self.now.history.node) offer.now.trunk self.now.outlets }
+    {
+        !same_name(offer.trunk.dialer.atom(), self.history.node().name().atom())
+            && place_of(&self.outlets, &offer.trunk).is_none()
+    }
+
+    /// Takes up this node's half of a connection that another node has dialed.
+    ///
+    /// # Errors
+    /// The offer comes back where the book doesn't want it, or where there is no memory. Then nothing has
+    /// changed.
+    pub fn install(&mut self, alloc: Global, offer: Offer) -> Result<(), Offer>
+        ensures { Rests self.old self.new }
+    {
+        dist_books::books_grow();
+        if !self.wants(&offer) || self.outlets.reserve(1).is_err() {
+            return Err(offer);
+        }
+        let Ok(dialer) = offer.trunk.dialer.clone() else {
+            return Err(offer);
+        };
+        let entry = self.history.entries().len();
+        self.outlets.push_reserved(Outlet {
+            port: Port::new(alloc, dialer, offer),
+            entry,
+            effects: 0,
+        });
+        Ok(())
+    }
+}
