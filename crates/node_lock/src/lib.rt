@@ -1,0 +1,14 @@
+//! A node's book under its lock, and who calls the node.
+//!
+//! A [`Seat`] is a caller of one node. [`NodeLock`] keeps the node's book: what a caller asks for runs in
+//! it only where the receipt of what the caller asked for last stands in that very book.
+#![tactic(auto)]
+
+mod act;
+mod calling;
+mod lock;
+mod seat;
+
+pub use act::Act;
+pub use lock::NodeLock;
+pub use seat::{Receipt, Seat};

@@ -1,0 +1,61 @@
+//! A book under its lock.
+ghost use Rattle.std.specs.Prelude.{◌≡◌, IfErr, IfOk, []};
+ghost use Rattle.node_lock.specs.Calling.{AddsReceipt, IsSameSeat};
+
+use crate::act::Act;
+use crate::calling::call;
+use crate::seat::{Receipt, Seat};
+use erl_term::Refusal;
+use node_book::Book;
+use std::alloc::Global;
+use std::sync::{Mutex, MutexGuard, Wait};
+
+/// The book of a node under the node's own lock. No lock is over two nodes. What the book keeps holds
+/// whenever the lock is taken, and nothing else is known of it then.
+#[derive(Drop)]
+pub struct NodeLock {
+    place: usize,
+    book: Mutex<Book>,
+}
+
+impl NodeLock {
+    /// The book under its lock. Takes no memory.
+    pub fn new(book: Book) -> NodeLock
+        ensures { result.place ≡ book.place }
+    {
+        NodeLock {
+            place: book.place(),
+            book: Mutex::new(book),
+        }
+    }
+
+    /// A new seat at the node. Takes no memory.
+    pub fn seat(&self, alloc: Global) -> Seat
+        ensures node { result.node ≡ self.now.place }
+        ensures receipts { result.receipts.items ≡ [] }
+    {
+        Seat::new(alloc, self.place)
+    }
+
+    /// What a caller asks for, in the book as it then is.
+    ///
+    /// # Errors
+    /// As those of [`call`]. Then the seat is as it was.
+    pub fn call<R: Wait>(
+        &self,
+        rt: &R,
+        alloc: Global,
+        seat: &mut Seat,
+        act: Act,
+    ) -> Result<Receipt, Refusal>
+        ensures ok { IfOk result (AddsReceipt seat.old seat.new) }
+        ensures err { IfErr result (λ _. IsSameSeat seat.old seat.new) }
+    {
+        call(alloc, &mut self.book.lock(rt), seat, act)
+    }
+
+    /// Lends the book to the node's thread.
+    pub fn lock<R: Wait>(&self, rt: &R) -> MutexGuard<'_, Book> {
+        self.book.lock(rt)
+    }
+}
