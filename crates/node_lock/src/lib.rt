@@ -10,5 +10,6 @@ mod lock;
 mod seat;
 
 pub use act::Act;
+pub use calling::call;
 pub use lock::NodeLock;
 pub use seat::{Receipt, Seat};
