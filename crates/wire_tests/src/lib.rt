@@ -1,5 +1,7 @@
-//! Tests of wires, between two threads.
+//! Tests of wires between two threads, and of two books.
 #![tactic(auto)]
 
+#[cfg(test)]
+mod books;
 #[cfg(test)]
 mod passing;
