@@ -10,14 +10,16 @@ use std::alloc::{AllocError, Global};
 use svg_text::{Point, put_box, put_line, put_words};
 
 // How many characters have room in a label.
-const LABEL: usize = 18;
+const LABEL: usize = 24;
 
-// An arrow from a place to another, and whether it goes to the right.
+// An arrow from a place to another, whether it goes to the right, and whether its label stands at the right
+// of its start.
 #[derive(Clone, Copy)]
 struct Span {
     from: Point,
     to: Point,
     is_right: bool,
+    is_said_right: bool,
 }
 
 // So far from a place, to the right or to the left.
@@ -26,6 +28,16 @@ fn aside(x: u64, by: u64, is_right: bool) -> u64 {
         x.saturating_add(by)
     } else {
         x.saturating_sub(by)
+    }
+}
+
+// Whether the label of an arrow stands at the right of its start: outside of all lanes where it can, for
+// there are no arrows, else at the side to which it goes.
+fn is_said_right(frame: Frame, item: &Item, is_right: bool) -> bool {
+    if is_right {
+        item.from > 0
+    } else {
+        frame.is_last(item.from)
     }
 }
 
@@ -57,6 +69,7 @@ fn span_of(frame: Frame, layout: &Layout, item: &Item, arrow: Arrow, before: u64
             y,
         },
         is_right,
+        is_said_right: is_said_right(frame, item, is_right),
     }
 }
 
@@ -174,6 +187,15 @@ fn label_of(alloc: Global, item: &Item, end: End) -> Result<String, AllocError> 
     Ok(label)
 }
 
+// Beside the start of an arrow, or above the arrow where that goes to the same side.
+fn label_height(span: Span) -> u64 {
+    if span.is_said_right == span.is_right {
+        span.from.y.saturating_sub(3)
+    } else {
+        span.from.y.saturating_add(4)
+    }
+}
+
 fn put_label(
     alloc: Global,
     out: &mut String,
@@ -183,10 +205,14 @@ fn put_label(
 ) -> Result<(), AllocError>
     ensures { OnOk result (Appends (string_bytes out.old) (string_bytes out.new)) }
 {
-    let class = if span.is_right { "label" } else { "label-left" };
+    let class = if span.is_said_right {
+        "label"
+    } else {
+        "label-left"
+    };
     let at = Point {
-        x: aside(span.from.x, 9, span.is_right),
-        y: span.from.y.saturating_sub(3),
+        x: aside(span.from.x, 9, span.is_said_right),
+        y: label_height(span),
     };
     let label = label_of(alloc, item, end)?;
     put_words(out, class, at, label.as_str(), item.tooltip.as_str())?;

@@ -3,17 +3,19 @@
 use diagram::{Diagram, Lane, Layout};
 
 // The room at the left, for the words of a row, and from lane to lane.
-const LEFT: u64 = 310;
+const LEFT: u64 = 340;
 
-const LANE: u64 = 230;
+const LANE: u64 = 270;
 // The height of a line, and the room between two rows.
-pub(crate) const LINE: u64 = 20;
+pub(crate) const LINE: u64 = 22;
 
 const GAP: u64 = 10;
 // The height of a lane's name, and of each line below it.
 const HEAD: u64 = 56;
 
 pub(crate) const UNDER: u64 = 15;
+// How many of these lines there is room for.
+pub(crate) const MOST_UNDER: usize = 12;
 
 /// Where lanes and lines stand in a drawing.
 #[derive(Clone, Copy)]
@@ -30,7 +32,7 @@ fn most_under(lanes: &[Lane]) -> usize {
     for lane in lanes {
         most = lane.under.len().max(most);
     }
-    most
+    most.min(MOST_UNDER)
 }
 
 /// The frame of a diagram.
@@ -49,6 +51,11 @@ impl Frame {
         (lane as u64)
             .saturating_mul(LANE)
             .saturating_add(LEFT + LANE / 2)
+    }
+
+    /// Whether no lane is at the right of a lane.
+    pub(crate) fn is_last(self, lane: usize) -> bool {
+        lane.saturating_add(1) == self.lanes
     }
 
     /// The upper end of a row, or below the last one the lower end of all.
@@ -82,7 +89,7 @@ impl Frame {
     pub(crate) fn width(self) -> u64 {
         (self.lanes as u64)
             .saturating_mul(LANE)
-            .saturating_add(LEFT + 50)
+            .saturating_add(LEFT + 110)
     }
 
     pub(crate) fn height(self, layout: &Layout) -> u64 {

@@ -2,7 +2,7 @@
 ghost use Rattle.std.specs.Prelude.{OnOk, string_bytes};
 ghost use Rattle.svg_text.specs.Markup.{Appends};
 
-use crate::frame::{Frame, LINE, UNDER};
+use crate::frame::{Frame, MOST_UNDER, UNDER};
 use crate::words::{put_short, shortened};
 use diagram::{Lane, Layout, Mark, Note, Row, Tone};
 use std::alloc::{AllocError, Global};
@@ -11,17 +11,41 @@ use svg_text::{Point, put_box, put_line};
 // How many characters have room at the left, and on a lane.
 const WORDS: usize = 36;
 
-const NOTE: usize = 24;
+const NOTE: usize = 32;
+
+// How many of the words below the name of a lane have room, beside the line that says how many have not.
+fn shown_of(under: &[String]) -> usize {
+    if under.len() > MOST_UNDER {
+        MOST_UNDER - 1
+    } else {
+        under.len()
+    }
+}
+
+// How many more there are.
+fn put_left(alloc: Global, out: &mut String, at: Point, left: usize) -> Result<(), AllocError>
+    ensures { OnOk result (Appends (string_bytes out.old) (string_bytes out.new)) }
+{
+    if left > 0 {
+        let words = format!(in alloc; "and {left} more")?;
+        put_short(alloc, out, "under", at, words.as_str(), NOTE)
+    } else {
+        Ok(())
+    }
+}
 
 // The words below the name of a lane.
 fn put_under(alloc: Global, out: &mut String, x: u64, under: &[String]) -> Result<(), AllocError>
     ensures { OnOk result (Appends (string_bytes out.old) (string_bytes out.new)) }
 {
+    let shown = shown_of(under);
     let mut y: u64 = 60;
-    for words in under {
+    for words in under.iter().take(shown) {
         put_short(alloc, out, "under", Point { x, y }, words.as_str(), NOTE)?;
         y = y.saturating_add(UNDER);
     }
+    let left = under.len().saturating_sub(shown);
+    put_left(alloc, out, Point { x, y }, left)?;
     Ok(())
 }
 
@@ -162,13 +186,13 @@ fn put_note(alloc: Global, out: &mut String, at: Point, note: &Note) -> Result<(
     let width = count.saturating_mul(7).saturating_add(20);
     let corner = Point {
         x: at.x.saturating_sub(width / 2),
-        y: at.y.saturating_sub(LINE / 2 - 2),
+        y: at.y.saturating_sub(8),
     };
     let foot = Point {
         x: at.x,
         y: at.y.saturating_add(4),
     };
-    put_box(out, class_of(note.tone), corner, width, LINE - 4)?;
+    put_box(out, class_of(note.tone), corner, width, 16)?;
     put_short(alloc, out, "words", foot, note.words.as_str(), NOTE)?;
     Ok(())
 }

@@ -7,6 +7,7 @@ use diagram::{Arrow, Diagram, End, Mark, lay_out};
 use dist_model::Command;
 use erl_handshake::Cookie;
 use erl_names::{NodeName, TrunkId};
+use erl_term::Refusal;
 use run_diagrams::Recorder;
 use std::alloc::Global;
 use std::test::Fail;
@@ -88,7 +89,7 @@ fn arrive(
         word: 2,
     };
     let came = world.apply_at(alloc, node.atom(), event);
-    recorder.happened(alloc, node, Some(&trunk), &came)?;
+    recorder.happened(alloc, node.text(), Some(&trunk), &came)?;
     Ok(())
 }
 
@@ -100,7 +101,7 @@ fn step(alloc: Global, world: &mut World, recorder: &mut Recorder, text: &str) -
         return arrive(alloc, world, recorder, &node);
     }
     let came = world.apply_at(alloc, node.atom(), event(alloc, word)?);
-    recorder.happened(alloc, &node, None, &came)?;
+    recorder.happened(alloc, node.text(), None, &came)?;
     Ok(())
 }
 
@@ -166,5 +167,21 @@ fn runs_are_recorded(rt: HostRuntime) -> Result<(), Fail> {
         let found = recorded(rt.alloc(), story)?;
         assert_eq!(rt; found.as_str(), *wanted, "of {story:?}");
     }
+    Ok(())
+}
+
+/// Rows that have no room are counted in a last one.
+#[test]
+fn many_rows(rt: HostRuntime) -> Result<(), Fail> {
+    let alloc = rt.alloc();
+    let mut recorder = Recorder::new(alloc, "many")?;
+    for _ in 0..10_003 {
+        recorder.refused(alloc, Refusal::NothingThere)?;
+    }
+    recorder.close(alloc)?;
+    let rows = &recorder.diagram().rows;
+    assert_eq!(rt; rows.len(), 10_001);
+    let last = rows.last().and_then(|row| row.words.first());
+    assert_eq!(rt; last.map(|words| words.as_str()), Some("and 3 rows more"));
     Ok(())
 }

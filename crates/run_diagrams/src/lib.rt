@@ -6,9 +6,12 @@
 //! it serves a world and a merged trace of node threads alike.
 #![tactic(auto)]
 
+mod events;
 mod labels;
+mod names;
 mod notes;
 mod queues;
 mod recorder;
+mod row;
 
 pub use recorder::Recorder;

@@ -1,9 +1,12 @@
 //! What happens at a node, in words.
 
+use crate::names::ProcessNames;
 use diagram::Tone;
 use dist_model::{Answer, Effect, Kind, Swept};
 use erl_term::{Payload, Pid};
-use script_terms::{put_pid, put_term};
+use link_core::End;
+use script_terms::put_term;
+use script_texts::{put_answer, put_end};
 use std::alloc::{AllocError, Global};
 
 /// Words about a node.
@@ -16,13 +19,14 @@ pub(crate) struct Words {
 // A process, what befalls it, and a term.
 fn about(
     alloc: Global,
+    names: &ProcessNames,
     tone: Tone,
     process: &Pid,
     what: &str,
     term: &Payload,
 ) -> Result<Option<Words>, AllocError> {
     let mut words = String::new(alloc);
-    put_pid(&mut words, process)?;
+    names.put(&mut words, process)?;
     words.push_str(what)?;
     put_term(&mut words, term.term())?;
     Ok(Some(Words { tone, words }))
@@ -40,11 +44,19 @@ fn plain(alloc: Global, tone: Tone, text: &str) -> Result<Option<Words>, AllocEr
 /// Where memory is wanting.
 pub(crate) fn of_effect<Item>(
     alloc: Global,
+    names: &ProcessNames,
     effect: &Effect<Item>,
 ) -> Result<Option<Words>, AllocError> {
     match effect {
-        Effect::Put { to, message } => about(alloc, Tone::Plain, to, " gets ", message),
-        Effect::Ended { process, reason } => about(alloc, Tone::Alarm, process, " ends: ", reason),
+        Effect::Put { to, message } => about(alloc, names, Tone::Plain, to, " gets ", message),
+        Effect::Ended { process, reason } => about(
+            alloc,
+            names,
+            Tone::Alarm,
+            process,
+            " ends: ",
+            reason,
+        ),
         Effect::LinkExit { .. } => Ok(None),
         Effect::Sent { .. } => Ok(None),
     }
@@ -88,4 +100,62 @@ pub(crate) fn of_answer(alloc: Global, answer: &Answer) -> Result<Option<Words>,
         }
         _ => Ok(None),
     }
+}
+
+/// A node's connection is lost, or an attempt at one is given up.
+///
+/// # Errors
+/// Where memory is wanting.
+pub(crate) fn lost(alloc: Global) -> Result<Option<Words>, AllocError> {
+    plain(alloc, Tone::Alarm, "connection lost")
+}
+
+/// How a process holds its link to another.
+///
+/// # Errors
+/// Where memory is wanting.
+pub(crate) fn of_end(
+    alloc: Global,
+    names: &ProcessNames,
+    process: &Pid,
+    end: End,
+) -> Result<Option<Words>, AllocError> {
+    let tone = match end {
+        End::None => Tone::Plain,
+        End::Active => Tone::Calm,
+        End::Pending(_) => Tone::Pending,
+    };
+    let mut words = String::new(alloc);
+    names.put(&mut words, process)?;
+    words.push_str(": ")?;
+    put_end(&mut words, end)?;
+    Ok(Some(Words { tone, words }))
+}
+
+/// What is replied to a command, if there is more to be said of it than that it is done, and nothing of it
+/// stands on a lane.
+///
+/// # Errors
+/// Where memory is wanting.
+pub(crate) fn of_reply(
+    alloc: Global,
+    node: &str,
+    answer: &Answer,
+) -> Result<Option<String>, AllocError> {
+    match answer {
+        Answer::Reference(_) => reply(alloc, node, answer),
+        Answer::Message(_) => reply(alloc, node, answer),
+        Answer::Links(_) => reply(alloc, node, answer),
+        Answer::Alive(_) => reply(alloc, node, answer),
+        Answer::Trunk(_) => reply(alloc, node, answer),
+        _ => Ok(None),
+    }
+}
+
+// The line that is printed of it.
+fn reply(alloc: Global, node: &str, answer: &Answer) -> Result<Option<String>, AllocError> {
+    let mut text = String::new(alloc);
+    put_answer(&mut text, node, answer)?;
+    text.pop();
+    Ok(Some(text))
 }

@@ -1,32 +1,41 @@
 //! The recorder of a run.
 
-use crate::labels::put_label;
-use crate::notes::{Words, of_answer, of_effect};
+ghost use Rattle.std.specs.Prelude.{◌≡◌, [], None, OnOk};
+ghost use Rattle.run_diagrams.specs.Recording.{is_full, with_row};
+
+use crate::names::ProcessNames;
+use crate::notes::{Words, of_end};
 use crate::queues::Ways;
-use diagram::{Diagram, Item, Lane, Mark, Note, Row, Tone};
-use dist_model::{Answer, Effect, Report};
-use erl_handshake::Role;
-use erl_names::{NodeName, TrunkId};
-use erl_term::Refusal;
-use node_plans::Frame;
+use crate::row::{empty_row, is_blank, put_refusal, put_words};
+use diagram::{Diagram, Lane, Row, Tone};
+use erl_term::{Pid, Refusal};
+use link_core::End;
+use script_terms::put_pid;
 use std::alloc::{AllocError, Global};
+
+/// The most rows of a diagram. Those behind them are counted.
+const MOST_ROWS: usize = 10_000;
 
 /// A run so far, as a diagram: a lane for each node, and a row for each event.
 #[derive(Drop)]
 pub struct Recorder {
-    diagram: Diagram,
-    ways: Ways,
+    pub(crate) diagram: Diagram,
+    pub(crate) ways: Ways,
+    pub(crate) names: ProcessNames,
     /// What is to stand at the left of the next row.
     words: Vec<String>,
+    /// How many rows have no room.
+    left_out: u64,
 }
 
-fn empty_row(alloc: Global, words: Vec<String>) -> Row {
-    Row {
-        words,
-        took: None,
-        marks: Vec::new(alloc),
-        gave_up: Vec::new(alloc),
+/// The place of a node's lane; the one behind all where it has none.
+pub(crate) fn place_of(lanes: &[Lane], node: &str) -> usize {
+    for (place, lane) in lanes.iter().enumerate() {
+        if lane.name.as_str() == node {
+            return place;
+        }
     }
+    lanes.len()
 }
 
 impl Recorder {
@@ -42,7 +51,9 @@ impl Recorder {
                 rows: Vec::new(alloc),
             },
             ways: Ways::new(alloc),
+            names: ProcessNames::new(alloc),
             words: Vec::new(alloc),
+            left_out: 0,
         })
     }
 
@@ -64,26 +75,30 @@ impl Recorder {
         Ok(())
     }
 
-    // The lane of a node; the one behind all where it has none.
-    fn lane_of(&self, node: &str) -> usize {
-        for (place, lane) in self.diagram.lanes.iter().enumerate() {
-            if lane.name.as_str() == node {
-                return place;
-            }
-        }
-        self.diagram.lanes.len()
+    /// The lane of a node; the one behind all where it has none.
+    pub(crate) fn lane_of(&self, node: &str) -> usize {
+        place_of(&self.diagram.lanes, node)
     }
 
-    /// A line below the name of a node, as for a process there.
-    pub fn add_under(&mut self, alloc: Global, node: &str, text: &str) -> Result<(), AllocError> {
-        let place = self.lane_of(node);
-        match self.diagram.lanes.get_mut(place) {
-            Some(lane) => {
-                lane.under.push(String::from_str(alloc, text)?)?;
-                Ok(())
-            }
-            None => Ok(()),
+    /// A process has a name from now on: it stands below that of its node, and in place of the process.
+    pub fn add_process(
+        &mut self,
+        alloc: Global,
+        process: &Pid,
+        name: &str,
+    ) -> Result<(), AllocError> {
+        if self.is_full() {
+            return Ok(());
         }
+        self.names.add(alloc, process, name)?;
+        let mut text = String::from_str(alloc, name)?;
+        text.push_str(" = ")?;
+        put_pid(&mut text, process)?;
+        let place = self.lane_of(process.node.text());
+        if let Some(lane) = self.diagram.lanes.get_mut(place) {
+            lane.under.push(text)?;
+        }
+        Ok(())
     }
 
     /// What is to stand at the left of the next row: a line more.
@@ -92,9 +107,92 @@ impl Recorder {
         Ok(())
     }
 
-    // The next row, with what is to stand at its left.
-    fn begin(&mut self, alloc: Global) -> Row {
-        empty_row(alloc, std::mem::replace(&mut self.words, Vec::new(alloc)))
+    /// What was to stand at the left of the next row is not to.
+    pub fn hush(&mut self) {
+        self.words.clear();
+    }
+
+    /// What is still to stand at the left of a row stands there in a row of its own.
+    pub fn rest(&mut self, alloc: Global) -> Result<(), AllocError> {
+        if self.words.is_empty() {
+            return Ok(());
+        }
+        let row = self.begin(alloc);
+        self.end(row)
+    }
+
+    /// The next row, with what is to stand at its left.
+    pub(crate) fn begin(&mut self, alloc: Global) -> Row
+        ensures took { result.took ≡ None }
+        ensures marks { result.marks.items ≡ [] }
+        ensures rows { self.new.diagram.rows.items ≡ self.old.diagram.rows.items }
+        ensures ways { self.new.ways.ways.items ≡ self.old.ways.ways.items }
+    {
+        let words = std::mem::replace(&mut self.words, Vec::new(alloc));
+        empty_row(alloc, words)
+    }
+
+    // Whether no row has room any more.
+    fn is_full(&self) -> bool
+        ensures { result ≡ is_full self.now.diagram.rows.items }
+    {
+        self.diagram.rows.len() >= MOST_ROWS
+    }
+
+    /// It is a row of the diagram, if there is something to be seen in it, and as long as there is room.
+    pub(crate) fn end(&mut self, row: Row) -> Result<(), AllocError>
+        ensures rows { OnOk result (self.new.diagram.rows.items ≡ with_row self.old.diagram.rows.items row) }
+        ensures ways { self.new.ways.ways.items ≡ self.old.ways.ways.items }
+    {
+        if is_blank(&row) {
+            drop(row);
+        } else if self.is_full() {
+            self.left_out = self.left_out.saturating_add(1);
+            drop(row);
+        } else {
+            self.diagram.rows.push(row)?;
+        }
+        Ok(())
+    }
+
+    /// Nothing more is recorded: where rows had no room, a last one says how many.
+    pub fn close(&mut self, alloc: Global) -> Result<(), AllocError> {
+        let left_out = std::mem::replace(&mut self.left_out, 0);
+        if left_out > 0 {
+            let mut words = Vec::new(alloc);
+            words.push(format!(in alloc; "and {left_out} rows more")?)?;
+            self.diagram.rows.push(empty_row(alloc, words))?;
+        }
+        Ok(())
+    }
+
+    /// What was asked for is refused, and nothing happened.
+    pub fn refused(&mut self, alloc: Global, why: Refusal) -> Result<(), AllocError> {
+        let mut row = self.begin(alloc);
+        put_refusal(alloc, &mut row, why)?;
+        self.end(row)
+    }
+
+    /// How two processes hold their links to one another, each on the lane of its node.
+    pub fn ends(
+        &mut self,
+        alloc: Global,
+        first: (&Pid, End),
+        second: (&Pid, End),
+    ) -> Result<(), AllocError> {
+        let mut row = self.begin(alloc);
+        let (here, there) = (first.0.node.text(), second.0.node.text());
+        put_words(
+            &mut row,
+            self.lane_of(here),
+            of_end(alloc, &self.names, first.0, first.1)?,
+        )?;
+        put_words(
+            &mut row,
+            self.lane_of(there),
+            of_end(alloc, &self.names, second.0, second.1)?,
+        )?;
+        self.end(row)
     }
 
     /// Something is noted on the lane of a node, in a row of its own.
@@ -111,123 +209,6 @@ impl Recorder {
             words: String::from_str(alloc, text)?,
         });
         put_words(&mut row, self.lane_of(node), words)?;
-        self.diagram.rows.push(row)?;
-        Ok(())
-    }
-
-    /// An event happened at a node. Where it was an arrival or a loss, the connection is that on which
-    /// something came or that was lost.
-    pub fn happened(
-        &mut self,
-        alloc: Global,
-        node: &NodeName,
-        trunk: Option<&TrunkId>,
-        came: &Result<Report<Frame>, Refusal>,
-    ) -> Result<(), AllocError> {
-        let mut row = self.begin(alloc);
-        match came {
-            Ok(report) => self.put_report(alloc, &mut row, node, trunk, report)?,
-            Err(why) => put_refusal(alloc, &mut row, *why)?,
-        }
-        self.diagram.rows.push(row)?;
-        Ok(())
-    }
-
-    fn put_report(
-        &mut self,
-        alloc: Global,
-        row: &mut Row,
-        node: &NodeName,
-        trunk: Option<&TrunkId>,
-        report: &Report<Frame>,
-    ) -> Result<(), AllocError> {
-        let lane = self.lane_of(node.text());
-        if let Some(trunk) = trunk {
-            self.put_arrival(alloc, row, node, trunk, &report.answer)?;
-        }
-        put_words(row, lane, of_answer(alloc, &report.answer)?)?;
-        if let Answer::Stopped = report.answer {
-            row.gave_up = self.ways.all_to(alloc, node.text())?;
-        }
-        for effect in &report.effects {
-            put_words(row, lane, of_effect(alloc, effect)?)?;
-            self.put_sent(alloc, row, node, lane, effect)?;
-        }
-        Ok(())
-    }
-
-    // What came on a connection is taken; where it broke the connection, or this was lost, nothing more is.
-    fn put_arrival(
-        &mut self,
-        alloc: Global,
-        row: &mut Row,
-        node: &NodeName,
-        trunk: &TrunkId,
-        answer: &Answer,
-    ) -> Result<(), AllocError> {
-        let queue = self.ways.number(alloc, trunk, node)?;
-        match answer {
-            Answer::Took(_) => row.took = Some(queue),
-            Answer::Broken(_) => {
-                row.took = Some(queue);
-                row.gave_up.push(queue)?;
-            }
-            _ => row.gave_up.push(queue)?,
-        }
-        Ok(())
-    }
-
-    // An item that is sent on a connection.
-    fn put_sent(
-        &mut self,
-        alloc: Global,
-        row: &mut Row,
-        node: &NodeName,
-        lane: usize,
-        effect: &Effect<Frame>,
-    ) -> Result<(), AllocError> {
-        let Effect::Sent {
-            trunk: Some(trunk),
-            peer,
-            item,
-        } = effect
-        else {
-            return Ok(());
-        };
-        let role = if trunk.dialer == *node {
-            Role::Acceptor
-        } else {
-            Role::Dialer
-        };
-        let queue = self.ways.number(alloc, trunk, peer)?;
-        let mut label = String::new(alloc);
-        put_label(alloc, &mut label, role, item.as_slice())?;
-        let tooltip = hex::encode_upper(alloc, item.as_slice())?;
-        let to = self.lane_of(peer.text());
-        row.marks.push(Mark::Sent(Item {
-            label,
-            tooltip,
-            from: lane,
-            to,
-            queue,
-        }))?;
-        Ok(())
-    }
-}
-
-fn put_refusal(alloc: Global, row: &mut Row, why: Refusal) -> Result<(), AllocError> {
-    let (number, name) = (why.number(), why.name());
-    row.words
-        .push(format!(in alloc; "refused {number} {name}")?)?;
-    Ok(())
-}
-
-fn put_words(row: &mut Row, lane: usize, words: Option<Words>) -> Result<(), AllocError> {
-    match words {
-        Some(Words { tone, words }) => {
-            row.marks.push(Mark::Note(Note { lane, tone, words }))?;
-            Ok(())
-        }
-        None => Ok(()),
+        self.end(row)
     }
 }

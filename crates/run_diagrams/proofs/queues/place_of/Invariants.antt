@@ -1,4 +1,4 @@
-use Rattle.std.proofs.Common.{◌≡◌, ℕ, ◌<◌}
+use Rattle.std.proofs.Common.{ℕ, ◌<◌}
 use Rattle.run_diagrams.specs.Numbers.{IsNumber, way_of}
 use Rattle.run_diagrams.proofs.queues.place_of.Given as goal
 

@@ -1,0 +1,100 @@
+-- What of an event stands in the row that is made of it: each item that it sent, on the queue of its way, and whether the row takes one.
+use Rattle.std.specs.Prelude.{◌≡◌, ℕ, Bool, ◌==◌, ◌&&◌, ◌||◌, not, nat_lt, if◌then◌else◌, List, [], ◌∷◌, ◌++◌, length, Option, None, Some, is_none, Result, Ok, Err}
+use Rattle.std.specs.List.{flat_map}
+use Rattle.diagram.specs.declared.rows.Mark.{Mark}
+use Rattle.diagram.specs.declared.rows.Mark.TheVariants as mark
+use Rattle.diagram.specs.declared.rows.Row.{Row}
+use Rattle.dist_model.specs.Names.{Name}
+use Rattle.dist_model.specs.declared.report.Answer.{Answer}
+use Rattle.dist_model.specs.declared.report.Answer.TheVariants as answer
+use Rattle.dist_model.specs.declared.report.Effect.{Effect}
+use Rattle.dist_model.specs.declared.report.Report.{Report}
+use Rattle.erl_names.specs.declared.trunk.TrunkId.{TrunkId}
+use Rattle.erl_term.specs.declared.refusal.Refusal.{Refusal}
+use Rattle.node_plans.specs.Frames.{Framed}
+use Rattle.run_diagrams.specs.Numbers.{IsNumber, way_of}
+use Rattle.run_diagrams.specs.declared.queues.Way.{Way}
+
+-- ---- what an event sends on connections, and what it takes
+
+abbrev pub way_in : Effect Framed → List Way
+way_in (Effect.Sent (Some trunk) peer frame) = way_of trunk peer ∷ []
+way_in _ = []
+
+abbrev pub ways_of : List (Effect Framed) → List Way
+ways_of effects = flat_map way_in effects
+
+-- what came on a connection is taken, also where it breaks the side there
+abbrev pub took_on : Name → Option TrunkId → Answer → Option Way
+took_on node (Some trunk) (answer.Took kind) = Some (way_of trunk node)
+took_on node (Some trunk) (answer.Broken fault) = Some (way_of trunk node)
+took_on node _ _ = None
+
+abbrev pub taken : Answer → (queue : ℕ) → Option ℕ
+taken (answer.Took kind) queue = Some queue
+taken (answer.Broken fault) queue = Some queue
+taken _ queue = None
+
+-- ---- a row
+
+abbrev pub queue_in : Mark → List ℕ
+queue_in (mark.Sent item) = item.queue ∷ []
+queue_in (mark.Note note) = []
+
+abbrev pub queues_of : List Mark → List ℕ
+queues_of marks = flat_map queue_in marks
+
+abbrev pub AreNumbers : (all : List Way) → List ℕ → List Way → Type 0
+AreNumbers all [] [] = Unit {0}
+AreNumbers all (number ∷ numbers) (way ∷ ways) = IsNumber all number way × AreNumbers all numbers ways
+AreNumbers all _ _ = ⊥
+
+abbrev pub IsTaken : (all : List Way) → Option ℕ → Option Way → Type 0
+IsTaken all None None = Unit {0}
+IsTaken all (Some number) (Some way) = IsNumber all number way
+IsTaken all _ _ = ⊥
+
+pub record IsRowOf (node : Name) (trunk : Option TrunkId) (report : Report Framed) (all : List Way) (row : Row) : Type 0 where
+  pub sent : AreNumbers all (queues_of row.marks.items) (ways_of report.effects.items)
+  pub took : IsTaken all row.took (took_on node trunk report.answer)
+
+-- of an event that was refused
+pub record IsIdle (row : Row) : Type 0 where
+  pub sent : queues_of row.marks.items ≡ []
+  pub took : row.took ≡ None
+
+abbrev pub IsRowFor : Name → Option TrunkId → Result (Report Framed) Refusal → List Way → Row → Type 0
+IsRowFor node trunk (Ok report) all row = IsRowOf node trunk report all row
+IsRowFor node trunk (Err why) all row = IsIdle row
+
+-- ---- the rows
+
+-- nothing is to be seen in it
+abbrev pub is_blank : Row → Bool
+is_blank row = (length row.words.items == 0) && (length row.marks.items == 0) && is_none row.took && (length row.gave_up.items == 0)
+
+-- a diagram has 10,000 rows at most
+abbrev pub is_full : List Row → Bool
+is_full rows = not (nat_lt (length rows) 10000)
+
+abbrev pub with_row : List Row → Row → List Row
+with_row rows row = if is_blank row || is_full rows then rows else rows ++ row ∷ []
+
+-- an event has a row of its own
+pub record IsRecorded (node : Name) (trunk : Option TrunkId) (came : Result (Report Framed) Refusal) (old new : List Row) (all : List Way) : Type 0 where
+  pub row : Row
+  pub behind : new ≡ with_row old row
+  pub is : IsRowFor node trunk came all row
+
+-- ---- on the way to it
+
+-- ways keep their numbers
+abbrev pub KeepsNumbers : (old new : List Way) → Type 0
+KeepsNumbers old new = (number : ℕ) (way : Way) → IsNumber old number way → IsNumber new number way
+
+-- marks that send on these ways, and others, stand behind those of a row
+pub record Adds (all : List Way) (ways : List Way) (old new : Row) : Type 0 where
+  pub numbers : List ℕ
+  pub are : AreNumbers all numbers ways
+  pub queues : queues_of new.marks.items ≡ queues_of old.marks.items ++ numbers
+  pub took : new.took ≡ old.took
