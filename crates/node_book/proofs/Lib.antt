@@ -8,3 +8,4 @@ pub mod Opening
 pub mod Moving
 pub mod Booking
 pub mod Coming
+pub mod Placing

@@ -3,20 +3,31 @@ ghost use Rattle.std.specs.Prelude.{◌≡◌, ◌<◌, IfErr, IfOk, length, tru
 ghost use Rattle.node_core.specs.Model.{model_of};
 ghost use Rattle.node_book.specs.Answers.{is_plain};
 ghost use Rattle.node_book.specs.Books.{Applies, IsFreshBook, IsUnapplied, is_ready_on};
+ghost use Rattle.node_history.specs.Acts.{is_act};
+ghost use Rattle.node_history.specs.Telling.{IsTold, placed};
 ghost use Rattle.world_events.specs.declared.event.NodeEvent.TheVariants as event;
 
 use crate::arriving::{is_ready, take};
 use crate::book::Book;
 use crate::dialing::dial;
-use crate::happening::happen;
 use crate::names::{has_name, place_of};
 use erl_handshake::Cookie;
 use erl_names::{NodeName, TrunkId};
 use erl_term::Refusal;
 use node_core::Node;
-use node_history::{Entry, History};
+use node_history::{Entry, History, Told};
 use std::alloc::{AllocError, Global};
 use world_events::NodeEvent;
+
+// The place that is told.
+fn placed(told: Result<Told, Refusal>) -> Result<usize, Refusal>
+    ensures { result ≡ placed told }
+{
+    match told {
+        Ok(told) => Ok(told.place),
+        Err(e) => Err(e),
+    }
+}
 
 impl Book {
     /// The book of the node at that place among all nodes, with its cookie. Nothing has happened to it
@@ -78,14 +89,22 @@ impl Book {
         }
     }
 
-    // Something happens at the node alone.
-    fn happen(&mut self, alloc: Global, event: NodeEvent) -> Result<usize, Refusal>
-        requires { is_plain event ≡ true }
-        ensures ok { IfOk result (Applies event self.old self.new) }
-        ensures err { IfErr result (IsUnapplied event self.old self.new) }
+    // The first signal that travels from the node to itself comes.
+    fn local(&mut self, alloc: Global) -> Result<usize, Refusal>
+        ensures ok { IfOk result (Applies event.Local self.old self.new) }
+        ensures err { IfErr result (IsUnapplied event.Local self.old self.new) }
     {
         dist_books::books_grow();
-        happen(alloc, &mut self.history, event)
+        self.history.local(alloc)
+    }
+
+    // The least record of a lost connection is swept.
+    fn sweep(&mut self, alloc: Global) -> Result<usize, Refusal>
+        ensures ok { IfOk result (Applies event.Sweep self.old self.new) }
+        ensures err { IfErr result (IsUnapplied event.Sweep self.old self.new) }
+    {
+        dist_books::books_grow();
+        self.history.sweep(alloc)
     }
 
     // What has come on a connection comes to the node.
@@ -100,9 +119,22 @@ impl Book {
         }
     }
 
+    // A caller asks for what happens at the node alone.
+    fn ask(&mut self, alloc: Global, event: NodeEvent) -> Result<Told, Refusal>
+        requires plain { is_plain event ≡ true }
+        requires act { is_act event ≡ true }
+        ensures ok { IfOk result (λ told. Applies event self.old self.new told.place) }
+        ensures told { IfOk result (IsTold self.new.history.entries.items) }
+        ensures err { IfErr result (IsUnapplied event self.old self.new) }
+    {
+        dist_books::books_grow();
+        self.history.act(alloc, false, event)
+    }
+
     // The node dials another.
-    fn dial(&mut self, alloc: Global, peer: NodeName, word: u32) -> Result<usize, Refusal>
-        ensures ok { IfOk result (Applies (event.Dial peer word) self.old self.new) }
+    fn dial(&mut self, alloc: Global, peer: NodeName, word: u32) -> Result<Told, Refusal>
+        ensures ok { IfOk result (λ told. Applies (event.Dial peer word) self.old self.new told.place) }
+        ensures told { IfOk result (IsTold self.new.history.entries.items) }
         ensures err { IfErr result (IsUnapplied (event.Dial peer word) self.old self.new) }
     {
         dist_books::books_grow();
@@ -116,6 +148,30 @@ impl Book {
             peer,
             word,
         )
+    }
+
+    /// A caller asks for something: it is entered as by [`Book::apply`], and the place of the entry is
+    /// told, and its answer. (ERTS User's Guide, Distribution Protocol; Reference Manual, Processes.)
+    ///
+    /// # Errors
+    /// [`Refusal::IdsUsedUp`] where no higher stamp is left, and then [`Refusal::OutOfMemory`], also
+    /// where there is none for the answer that is told. Then nothing has changed.
+    pub fn act(&mut self, alloc: Global, event: NodeEvent) -> Result<Told, Refusal>
+        requires { is_act event ≡ true }
+        ensures ok { IfOk result (λ told. Applies event self.old self.new told.place) }
+        ensures told { IfOk result (IsTold self.new.history.entries.items) }
+        ensures err { IfErr result (IsUnapplied event self.old self.new) }
+    {
+        match event {
+            NodeEvent::Call(command) => self.ask(alloc, NodeEvent::Call(command)),
+            NodeEvent::Lose(trunk) => self.ask(alloc, NodeEvent::Lose(trunk)),
+            NodeEvent::Dial { peer, word } => self.dial(alloc, peer, word),
+            NodeEvent::Stop => self.ask(alloc, NodeEvent::Stop),
+            NodeEvent::Start => self.ask(alloc, NodeEvent::Start),
+            NodeEvent::Arrive { .. } => unreachable!(),
+            NodeEvent::Local => unreachable!(),
+            NodeEvent::Sweep => unreachable!(),
+        }
     }
 
     /// Something happens at the node. One entry more is in the history, with what the node answers, a
@@ -132,14 +188,16 @@ impl Book {
         ensures err { IfErr result (IsUnapplied event self.old self.new) }
     {
         match event {
-            NodeEvent::Call(command) => self.happen(alloc, NodeEvent::Call(command)),
+            NodeEvent::Call(command) => placed(self.act(alloc, NodeEvent::Call(command))),
             NodeEvent::Arrive { trunk, word } => self.arrive(alloc, trunk, word),
-            NodeEvent::Local => self.happen(alloc, NodeEvent::Local),
-            NodeEvent::Lose(trunk) => self.happen(alloc, NodeEvent::Lose(trunk)),
-            NodeEvent::Sweep => self.happen(alloc, NodeEvent::Sweep),
-            NodeEvent::Dial { peer, word } => self.dial(alloc, peer, word),
-            NodeEvent::Stop => self.happen(alloc, NodeEvent::Stop),
-            NodeEvent::Start => self.happen(alloc, NodeEvent::Start),
+            NodeEvent::Local => self.local(alloc),
+            NodeEvent::Lose(trunk) => placed(self.act(alloc, NodeEvent::Lose(trunk))),
+            NodeEvent::Sweep => self.sweep(alloc),
+            NodeEvent::Dial { peer, word } => {
+                placed(self.act(alloc, NodeEvent::Dial { peer, word }))
+            }
+            NodeEvent::Stop => placed(self.act(alloc, NodeEvent::Stop)),
+            NodeEvent::Start => placed(self.act(alloc, NodeEvent::Start)),
         }
     }
 }

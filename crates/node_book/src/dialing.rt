@@ -4,6 +4,7 @@ ghost use Rattle.std.specs.Option.{option_copied, option_map};
 ghost use Rattle.erl_names.specs.declared.trunk.TrunkId.{TrunkId as TheTrunk};
 ghost use Rattle.node_core.specs.Model.{model_of};
 ghost use Rattle.node_history.specs.Entering.{IsWanting, Stays};
+ghost use Rattle.node_history.specs.Telling.{IsTold};
 ghost use Rattle.node_book.specs.Answers.{trunk_in, trunk_said};
 ghost use Rattle.node_book.specs.Applying.{DialsOut, with_opened};
 
@@ -13,10 +14,11 @@ use dist_model::Answer;
 use erl_names::{NodeName, TrunkId};
 use erl_term::Refusal;
 use node_core::Node;
-use node_history::{Entry, History};
+use node_history::{Entry, History, Told};
 use node_ports::Port;
 use std::alloc::{AllocError, Global};
 use wire_core::{Offer, connect};
+use world_events::NodeEvent;
 
 /// What is left for the other node of a new connection: its name, and its half.
 #[derive(Drop)]
@@ -113,10 +115,10 @@ fn open(
 }
 
 /// A node dials another. Where it does, its end of the connection is behind the others, and the other
-/// node's half behind those that are left. The place of the entry is told.
+/// node's half behind those that are left. The place of the entry is told, and its answer.
 ///
 /// # Errors
-/// As those of [`History::dial`]; also where there is no memory for the connection. Then nothing has
+/// As those of [`History::act`]; also where there is no memory for the connection. Then nothing has
 /// changed.
 pub(crate) fn dial(
     alloc: Global,
@@ -126,8 +128,9 @@ pub(crate) fn dial(
     is_known: bool,
     peer: NodeName,
     word: u32,
-) -> Result<usize, Refusal>
-    ensures ok { IfOk result (DialsOut is_known peer word history.old history.new outlets.old.items outlets.new.items) }
+) -> Result<Told, Refusal>
+    ensures ok { IfOk result (λ told. DialsOut is_known peer word history.old history.new outlets.old.items outlets.new.items told.place) }
+    ensures told { IfOk result (IsTold history.new.entries.items) }
     ensures history { IfErr result (λ e. Stays history.old history.new) }
     ensures outlets { IfErr result (λ e. outlets.new.items ≡ outlets.old.items) }
     ensures why { IfErr result (IsWanting history.old.last 0) }
@@ -139,14 +142,14 @@ pub(crate) fn dial(
     outlets.reserve(1)?;
     offers.reserve(1)?;
     let halves = both_halves(alloc, history.node(), &peer)?;
-    let place = match history.dial(alloc, is_known, peer, word) {
-        Ok(place) => place,
+    let told = match history.act(alloc, is_known, NodeEvent::Dial { peer, word }) {
+        Ok(told) => told,
         Err(e) => {
             drop(halves);
             return Err(e);
         }
     };
-    let count = count_in(entry_at(history.entries(), place));
-    open(alloc, halves, count, place, outlets, offers);
-    Ok(place)
+    let count = count_in(entry_at(history.entries(), told.place));
+    open(alloc, halves, count, told.place, outlets, offers);
+    Ok(told)
 }

@@ -10,10 +10,10 @@ mod applying;
 mod arriving;
 mod book;
 mod dialing;
-mod happening;
 mod names;
 mod outlet;
 mod passing;
+mod reading;
 mod scanning;
 
 pub use book::Book;

@@ -1,2 +1,5 @@
 pub mod Entering
 pub mod Kinds
+pub mod Acts
+pub mod Spares
+pub mod Telling

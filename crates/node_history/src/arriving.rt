@@ -44,7 +44,7 @@ impl History {
     /// (ERTS User's Guide, Distribution Protocol.)
     ///
     /// # Errors
-    /// As [`History::call`].
+    /// As [`History::local`].
     pub fn arrive(
         &mut self,
         alloc: Global,

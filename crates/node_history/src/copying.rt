@@ -1,8 +1,12 @@
 //! Copies of what a history keeps.
 ghost use Rattle.std.specs.Prelude.{◌≡◌, IfOk};
+ghost use Rattle.std.specs.Option.{option_copied};
 
-use dist_model::Command;
+use dist_model::{Command, Effect};
+use erl_names::TrunkId;
+use node_plans::Frame;
 use std::alloc::{AllocError, Global};
+use world_events::NodeEvent;
 
 /// A copy of a command.
 ///
@@ -56,5 +60,86 @@ pub(crate) fn copied(alloc: Global, command: &Command) -> Result<Command, AllocE
         Command::IsAlive { process } => Ok(Command::IsAlive {
             process: process.clone()?,
         }),
+    }
+}
+
+// A copy of what an event brought about.
+fn copied_effect(alloc: Global, effect: &Effect<Frame>) -> Result<Effect<Frame>, AllocError>
+    ensures { IfOk result (λ copy. copy ≡ effect.now) }
+{
+    match effect {
+        Effect::Put { to, message } => Ok(Effect::Put {
+            to: to.clone()?,
+            message: message.copy(alloc)?,
+        }),
+        Effect::Ended { process, reason } => Ok(Effect::Ended {
+            process: process.clone()?,
+            reason: reason.copy(alloc)?,
+        }),
+        Effect::LinkExit {
+            process,
+            partner,
+            reason,
+        } => Ok(Effect::LinkExit {
+            process: process.clone()?,
+            partner: partner.clone()?,
+            reason: reason.copy(alloc)?,
+        }),
+        Effect::Sent { trunk, peer, item } => Ok(Effect::Sent {
+            trunk: copied_trunk(trunk.as_ref())?,
+            peer: peer.clone()?,
+            item: item.copy(alloc)?,
+        }),
+    }
+}
+
+fn copied_trunk(trunk: Option<&TrunkId>) -> Result<Option<TrunkId>, AllocError>
+    ensures { IfOk result (λ copy. copy ≡ option_copied trunk.entry) }
+{
+    match trunk {
+        Some(trunk) => Ok(Some(trunk.clone()?)),
+        None => Ok(None),
+    }
+}
+
+/// Copies of what an event brought about, in order.
+///
+/// # Errors
+/// Where there is no memory for them.
+pub(crate) fn copied_effects(
+    alloc: Global,
+    effects: &[Effect<Frame>],
+) -> Result<Vec<Effect<Frame>>, AllocError>
+    ensures { IfOk result (λ copies. copies.items ≡ effects.now) }
+{
+    let mut copies = Vec::with_capacity(alloc, effects.len())?;
+    for effect in effects {
+        copies.push(copied_effect(alloc, effect)?)?;
+    }
+    Ok(copies)
+}
+
+/// A copy of an event.
+///
+/// # Errors
+/// Where there is no memory for it.
+pub fn copied_event(alloc: Global, event: &NodeEvent) -> Result<NodeEvent, AllocError>
+    ensures { IfOk result (λ copy. copy ≡ event.now) }
+{
+    match event {
+        NodeEvent::Call(command) => Ok(NodeEvent::Call(copied(alloc, command)?)),
+        NodeEvent::Arrive { trunk, word } => Ok(NodeEvent::Arrive {
+            trunk: trunk.clone()?,
+            word: *word,
+        }),
+        NodeEvent::Local => Ok(NodeEvent::Local),
+        NodeEvent::Lose(trunk) => Ok(NodeEvent::Lose(trunk.clone()?)),
+        NodeEvent::Sweep => Ok(NodeEvent::Sweep),
+        NodeEvent::Dial { peer, word } => Ok(NodeEvent::Dial {
+            peer: peer.clone()?,
+            word: *word,
+        }),
+        NodeEvent::Stop => Ok(NodeEvent::Stop),
+        NodeEvent::Start => Ok(NodeEvent::Start),
     }
 }

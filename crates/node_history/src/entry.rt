@@ -19,3 +19,12 @@ pub struct Entry {
     /// What the node answered.
     pub answer: Answered,
 }
+
+/// What a caller is told of what it has asked for.
+#[derive(Debug, Drop)]
+pub struct Told {
+    /// The place of the entry in the history, from 0.
+    pub place: usize,
+    /// What the node answered, as the entry has it.
+    pub answer: Answered,
+}

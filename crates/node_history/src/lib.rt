@@ -5,13 +5,17 @@
 //! nothing has changed.
 #![tactic(auto)]
 
+mod acts;
 mod arriving;
 mod copying;
 mod entry;
 mod events;
 mod history;
 mod kinds;
+mod spare;
 
-pub use entry::{Answered, Entry};
+pub use acts::is_act;
+pub use copying::copied_event;
+pub use entry::{Answered, Entry, Told};
 pub use history::History;
 pub use kinds::is_read;

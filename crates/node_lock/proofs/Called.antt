@@ -1,50 +1,71 @@
 -- What a call adds, or that it changes nothing.
-use Rattle.std.proofs.Common.{◌≡◌, ℕ, ◌++◌, ◌∷◌, Bool, true, false, Some, List, [], ◌==◌, ◌&&◌, inl, inr, length, slice_get, refl, sym, ap, subst, ◌∙◌, arith}
-use Rattle.std.proofs.lemmas.Bool.Decides.{nat_tests}
+use Rattle.std.proofs.Common.{◌≡◌, ℕ, ◌++◌, ◌∷◌, Bool, true, false, Option, Some, List, [], inl, inr, length, slice_get, refl, sym, ap, subst, ◌∙◌}
+use Rattle.std.specs.Prelude.{IsTrue, ◌↔◌}
 use Rattle.erl_term.specs.declared.refusal.Refusal.{Refusal}
 use Rattle.node_book.specs.Books.{Applies, IsUnapplied}
 use Rattle.node_book.specs.Seen.{BookSeen}
+use Rattle.node_history.specs.Acts.{is_act}
+use Rattle.node_history.specs.Telling.{Answers, IsTold}
 use Rattle.node_history.specs.declared.entry.Entry.{Entry}
+use Rattle.node_history.specs.declared.entry.Told.{Told}
 use Rattle.node_lock.specs.Acts.{event_of}
-use Rattle.node_lock.specs.Calling.{Calls, IsUncalled, is_at_home, stamp_at, stamp_in}
-use Rattle.node_lock.specs.Seats.{last_of, last_stands}
+use Rattle.node_lock.specs.Calling.{Asks, Calls, IsAtHome, IsUncalled, stamp_at, stamp_in}
+use Rattle.node_lock.specs.Seats.{StandsAs}
 use Rattle.node_lock.specs.declared.act.Act.{Act}
-use Rattle.node_lock.specs.declared.seat.Receipt.{Receipt}
+use Rattle.node_lock.specs.declared.seat.Asked.{Asked}
 use Rattle.node_lock.specs.declared.seat.Seat.{Seat}
+use Rattle.same_events.specs.Said.{said}
 use Rattle.world_events.specs.declared.event.NodeEvent.{NodeEvent}
 
 slice_last : (es : List Entry) (e : Entry) → slice_get (es ++ e ∷ []) (length es) ≡ Some e
 slice_last [] e = refl
 slice_last (x ∷ es) e = slice_last es e
 
--- the entry that was added has the last stamp
-stamp_last : (what : NodeEvent) (book next : BookSeen) (place : ℕ) → Applies what book next place → stamp_at next.history.entries.items place ≡ next.history.last
-stamp_last what book next place a =
-    ap (λ k. stamp_at next.history.entries.items k) a.place_is
-    ∙ ap (λ es. stamp_at es (length book.history.entries.items)) a.enters.entries
-    ∙ ap stamp_in (slice_last book.history.entries.items (record { stamp = next.history.last; event = what; answer = a.enters.answer }))
+-- the entry that was added
+there : (what : NodeEvent) (book next : BookSeen) (place : ℕ) (a : Applies what book next place)
+    → slice_get next.history.entries.items place ≡ Some (record { stamp = next.history.last; event = what; answer = a.enters.answer })
+there what book next place a =
+    ap (λ k. slice_get next.history.entries.items k) a.place_is
+    ∙ ap (λ es. slice_get es (length book.history.entries.items)) a.enters.entries
+    ∙ slice_last book.history.entries.items (record { stamp = next.history.last; event = what; answer = a.enters.answer })
 
-first_of_both : (a b : Bool) → (a && b) ≡ true → a ≡ true
-first_of_both true b h = refl
-first_of_both false b h = h
+-- whether it is at home
+pub at_home : (b : Bool) {H : Type 0} → (IsTrue b ↔ H) → b ≡ true → H
+at_home b h is = h.0 is
 
-same_number : (n k : ℕ) → (n == k) ≡ true → n ≡ k
-same_number n k h = grind (arith, nat_tests)
+pub away : (b : Bool) {H : Type 0} → (IsTrue b ↔ H) → b ≡ false → H → ⊥
+away b h is home = let no : false ≡ true = sym is ∙ h.1 home in cc
 
 module _ (act : Act) (book : BookSeen) (seat : Seat) where
-  pub called : (next : BookSeen) (after : Seat) (receipt : Receipt) (what : NodeEvent) (mid : List Receipt) → is_at_home book seat ≡ true → what ≡ event_of act
-      → Applies what book next receipt.position → receipt.stamp ≡ stamp_at next.history.entries.items receipt.position → receipt.node ≡ next.place
-      → after.node ≡ seat.node → mid ≡ seat.receipts.items → after.receipts.items ≡ mid ++ receipt ∷ [] → Calls act book next seat after receipt
-  called next after receipt what mid home is applies stamp node same m receipts = record {
-    home = home;
-    applies = subst (λ e. Applies e book next receipt.position) is applies;
-    stamp = stamp ∙ stamp_last what book next receipt.position applies;
-    node = node ∙ applies.same.place
-        ∙ sym (same_number seat.node book.place (first_of_both (seat.node == book.place) (last_stands (last_of seat.receipts.items) book.history.entries.items) home));
-    adds = record { node = same; receipts = receipts ∙ ap (λ l. l ++ receipt ∷ []) m };
-  }
+  module _ (next : BookSeen) (after : Seat) (asked : Asked) (told : Told) (what : NodeEvent) (mid : List Asked) (place : ℕ) (home : IsAtHome book seat) (is : what ≡ event_of act)
+      (applies : Applies what book next told.place) where
+    stamp : asked.receipt.stamp ≡ stamp_at next.history.entries.items told.place → asked.receipt.stamp ≡ next.history.last
+    stamp h = h ∙ ap stamp_in (there what book next told.place applies)
 
-  pub strange : is_at_home book seat ≡ false → IsUncalled act book book seat seat Refusal.StrangeSeat
+    stands : IsTold next.history.entries.items told → is_act what ≡ true → asked.event ≡ what → asked.receipt.stamp ≡ next.history.last → asked.receipt.answer ≡ told.answer
+        → StandsAs asked (slice_get next.history.entries.items told.place)
+    stands t acts e s a =
+        let same : said told.answer ≡ said applies.enters.answer = subst (Answers told.answer) (there what book next told.place applies) t in
+        subst (StandsAs asked) (sym (there what book next told.place applies)) (sym s, acts, sym e, sym same ∙ ap said (sym a))
+
+    pub called : IsTold next.history.entries.items told → is_act what ≡ true → asked.event ≡ what → asked.receipt.position ≡ told.place
+        → asked.receipt.stamp ≡ stamp_at next.history.entries.items told.place → asked.receipt.node ≡ next.place → asked.receipt.answer ≡ told.answer → after.node ≡ seat.node
+        → mid ≡ seat.receipts.items → after.receipts.items ≡ mid ++ asked ∷ [] → place ≡ length mid → Calls act book next seat after place
+    called t acts e p s n a same m receipts at = record {
+      home = home;
+      asks = record {
+        asked = asked;
+        event = e ∙ is;
+        node = n ∙ applies.same.place ∙ sym home.0;
+        adds = record { node = same; receipts = receipts ∙ ap (λ l. l ++ asked ∷ []) m };
+        place_is = at ∙ ap (λ (l : List Asked). length l) m;
+      };
+      applies = subst (λ k. Applies (event_of act) book next k) (sym p) (subst (λ w. Applies w book next told.place) is applies);
+      stamp = stamp s;
+      stands = subst (λ k. StandsAs asked (slice_get next.history.entries.items k)) (sym p) (stands t acts e (stamp s) a);
+    }
+
+  pub strange : (IsAtHome book seat → ⊥) → IsUncalled act book book seat seat Refusal.StrangeSeat
   strange away = record {
     stays = record { node = refl; receipts = refl };
     same = record { names = refl; place = refl; cookie = refl };
@@ -53,7 +74,7 @@ module _ (act : Act) (book : BookSeen) (seat : Seat) where
     why = inl (refl, away);
   }
 
-  pub no_room : (after : Seat) → is_at_home book seat ≡ true → after.node ≡ seat.node → after.receipts.items ≡ seat.receipts.items
+  pub no_room : (after : Seat) → IsAtHome book seat → after.node ≡ seat.node → after.receipts.items ≡ seat.receipts.items
       → IsUncalled act book book seat after Refusal.OutOfMemory
   no_room after home n r = record {
     stays = record { node = n; receipts = r };
@@ -63,7 +84,7 @@ module _ (act : Act) (book : BookSeen) (seat : Seat) where
     why = inr (home, inl refl);
   }
 
-  pub unapplied : (next : BookSeen) (after : Seat) (what : NodeEvent) (e : Refusal) → is_at_home book seat ≡ true → what ≡ event_of act → IsUnapplied what book next e
+  pub unapplied : (next : BookSeen) (after : Seat) (what : NodeEvent) (e : Refusal) → IsAtHome book seat → what ≡ event_of act → IsUnapplied what book next e
       → after.node ≡ seat.node → after.receipts.items ≡ seat.receipts.items → IsUncalled act book next seat after e
   unapplied next after what e home is h n r =
       let u = subst (λ w. IsUnapplied w book next e) is h in

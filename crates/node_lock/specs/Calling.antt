@@ -1,14 +1,14 @@
 -- What a call adds to a book and to a seat.
-use Rattle.std.specs.Prelude.{◌≡◌, ◌⊎◌, ◌≤◌, ◌<◌, ℕ, Bool, true, false, not, Option, None, Some, List, [], ◌∷◌, ◌++◌, slice_get, ◌==◌, ◌&&◌}
+use Rattle.std.specs.Prelude.{◌≡◌, ◌⊎◌, ℕ, Option, None, Some, List, [], ◌∷◌, ◌++◌, length, slice_get}
 use Rattle.erl_term.specs.declared.refusal.Refusal.{Refusal}
 use Rattle.node_book.specs.Books.{Applies, IsSameNode, IsUnapplied}
 use Rattle.node_book.specs.Seen.{BookSeen}
 use Rattle.node_history.specs.Entering.{Stays}
 use Rattle.node_history.specs.declared.entry.Entry.{Entry}
 use Rattle.node_lock.specs.Acts.{event_of}
-use Rattle.node_lock.specs.Seats.{last_of, last_stands}
+use Rattle.node_lock.specs.Seats.{LastStands, StandsAs, last_of}
 use Rattle.node_lock.specs.declared.act.Act.{Act}
-use Rattle.node_lock.specs.declared.seat.Receipt.{Receipt}
+use Rattle.node_lock.specs.declared.seat.Asked.{Asked}
 use Rattle.node_lock.specs.declared.seat.Seat.{Seat}
 
 abbrev pub stamp_in : Option Entry → ℕ
@@ -19,29 +19,37 @@ abbrev pub stamp_at : List Entry → ℕ → ℕ
 stamp_at entries place = stamp_in (slice_get entries place)
 
 -- the book is of the seat's node, and the seat's last receipt stands in it
-abbrev pub is_at_home : BookSeen → Seat → Bool
-is_at_home book seat = (seat.node == book.place) && last_stands (last_of seat.receipts.items) book.history.entries.items
+abbrev pub IsAtHome : BookSeen → Seat → Type 0
+IsAtHome book seat = (seat.node ≡ book.place) × LastStands (last_of seat.receipts.items) book.history.entries.items
 
-pub record AddsReceipt (old new : Seat) (receipt : Receipt) : Type 0 where
+pub record AddsReceipt (old new : Seat) (asked : Asked) : Type 0 where
   pub node : new.node ≡ old.node
-  pub receipts : new.receipts.items ≡ old.receipts.items ++ receipt ∷ []
+  pub receipts : new.receipts.items ≡ old.receipts.items ++ asked ∷ []
 
 pub record IsSameSeat (old new : Seat) : Type 0 where
   pub node : new.node ≡ old.node
   pub receipts : new.receipts.items ≡ old.receipts.items
 
--- the act is applied, and the receipt is of its entry
-pub record Calls (act : Act) (book next : BookSeen) (seat after : Seat) (receipt : Receipt) : Type 0 where
-  pub home : is_at_home book seat ≡ true
-  pub applies : Applies (event_of act) book next receipt.position
-  pub stamp : receipt.stamp ≡ next.history.last
-  pub node : receipt.node ≡ seat.node
-  pub adds : AddsReceipt seat after receipt
+-- the seat has the receipt of the act behind the others, where it is told
+pub record Asks (act : Act) (seat after : Seat) (place : ℕ) : Type 0 where
+  pub asked : Asked
+  pub event : asked.event ≡ event_of act
+  pub node : asked.receipt.node ≡ seat.node
+  pub adds : AddsReceipt seat after asked
+  pub place_is : place ≡ length seat.receipts.items
+
+-- the act is applied, and the receipt stands at its entry
+pub record Calls (act : Act) (book next : BookSeen) (seat after : Seat) (place : ℕ) : Type 0 where
+  pub home : IsAtHome book seat
+  pub asks : Asks act seat after place
+  pub applies : Applies (event_of act) book next asks.asked.receipt.position
+  pub stamp : asks.asked.receipt.stamp ≡ next.history.last
+  pub stands : StandsAs asks.asked (slice_get next.history.entries.items asks.asked.receipt.position)
 
 pub record IsUncalled (act : Act) (book next : BookSeen) (seat after : Seat) (e : Refusal) : Type 0 where
   pub stays : IsSameSeat seat after
   pub same : IsSameNode book next
   pub history : Stays book.history next.history
   pub outlets : next.outlets ≡ book.outlets
-  pub why : ((e ≡ Refusal.StrangeSeat) × (is_at_home book seat ≡ false))
-      ⊎ ((is_at_home book seat ≡ true) × ((e ≡ Refusal.OutOfMemory) ⊎ IsUnapplied (event_of act) book next e))
+  pub why : ((e ≡ Refusal.StrangeSeat) × (IsAtHome book seat → ⊥))
+      ⊎ (IsAtHome book seat × ((e ≡ Refusal.OutOfMemory) ⊎ IsUnapplied (event_of act) book next e))

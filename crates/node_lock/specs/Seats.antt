@@ -1,18 +1,20 @@
 -- Where a receipt stands.
-use Rattle.std.specs.Prelude.{ℕ, ◌-◌, Bool, true, false, Option, None, Some, List, length, slice_get, ◌==◌, ◌&&◌}
+use Rattle.std.specs.Prelude.{◌≡◌, ◌-◌, true, Option, None, Some, List, length, slice_get}
+use Rattle.node_history.specs.Acts.{is_act}
 use Rattle.node_history.specs.declared.entry.Entry.{Entry}
-use Rattle.node_lock.specs.Acts.{is_act}
-use Rattle.node_lock.specs.declared.seat.Receipt.{Receipt}
+use Rattle.node_lock.specs.declared.seat.Asked.{Asked}
+use Rattle.same_events.specs.Said.{said}
 
--- the entry has its stamp, and is what a caller has asked for
-abbrev pub stands_as : Receipt → Option Entry → Bool
-stands_as receipt None = false
-stands_as receipt (Some entry) = entry.stamp == receipt.stamp && is_act entry.event
+-- the entry is what a caller has asked for: it has the receipt's stamp, its act's event and its answer
+abbrev pub StandsAs : Asked → Option Entry → Type 0
+StandsAs asked None = ⊥
+StandsAs asked (Some entry) =
+    (entry.stamp ≡ asked.receipt.stamp) × (is_act entry.event ≡ true) × (entry.event ≡ asked.event) × (said entry.answer ≡ said asked.receipt.answer)
 
-abbrev pub last_of : List Receipt → Option Receipt
+abbrev pub last_of : List Asked → Option Asked
 last_of receipts = slice_get receipts (length receipts - 1)
 
 -- the receipt that came last, if there is one, stands at its place
-abbrev pub last_stands : Option Receipt → List Entry → Bool
-last_stands None entries = true
-last_stands (Some receipt) entries = stands_as receipt (slice_get entries receipt.position)
+abbrev pub LastStands : Option Asked → List Entry → Type 0
+LastStands None entries = Unit {0}
+LastStands (Some asked) entries = StandsAs asked (slice_get entries asked.receipt.position)

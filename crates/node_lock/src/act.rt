@@ -1,6 +1,7 @@
 //! What a caller may ask for.
-ghost use Rattle.std.specs.Prelude.{◌≡◌};
-ghost use Rattle.node_lock.specs.Acts.{event_of, is_act};
+ghost use Rattle.std.specs.Prelude.{◌≡◌, true};
+ghost use Rattle.node_lock.specs.Acts.{event_of};
+ghost use Rattle.node_history.specs.Acts.{is_act};
 
 use dist_model::Command;
 use erl_names::{NodeName, TrunkId};
@@ -30,7 +31,8 @@ pub enum Act {
 impl Act {
     /// The event at the node.
     pub(crate) fn into_event(self) -> NodeEvent
-        ensures { result ≡ event_of self }
+        ensures event { result ≡ event_of self }
+        ensures act { is_act result ≡ true }
     {
         match self {
             Act::Run(command) => NodeEvent::Call(command),
@@ -39,21 +41,5 @@ impl Act {
             Act::Stop => NodeEvent::Stop,
             Act::Start => NodeEvent::Start,
         }
-    }
-}
-
-/// Whether an event is what a caller has asked for.
-pub(crate) fn is_act(event: &NodeEvent) -> bool
-    ensures { result ≡ is_act event.now }
-{
-    match event {
-        NodeEvent::Call(_) => true,
-        NodeEvent::Dial { .. } => true,
-        NodeEvent::Lose(_) => true,
-        NodeEvent::Stop => true,
-        NodeEvent::Start => true,
-        NodeEvent::Arrive { .. } => false,
-        NodeEvent::Local => false,
-        NodeEvent::Sweep => false,
     }
 }

@@ -1,10 +1,10 @@
 //! A book under its lock.
 ghost use Rattle.std.specs.Prelude.{◌≡◌, IfErr, IfOk, []};
-ghost use Rattle.node_lock.specs.Calling.{AddsReceipt, IsSameSeat};
+ghost use Rattle.node_lock.specs.Calling.{Asks, IsSameSeat};
 
 use crate::act::Act;
 use crate::calling::call;
-use crate::seat::{Receipt, Seat};
+use crate::seat::Seat;
 use erl_term::Refusal;
 use node_book::Book;
 use std::alloc::Global;
@@ -37,7 +37,8 @@ impl NodeLock {
         Seat::new(alloc, self.place)
     }
 
-    /// What a caller asks for, in the book as it then is.
+    /// What a caller asks for, in the book as it then is. The place of its receipt among the seat's is
+    /// told.
     ///
     /// # Errors
     /// As those of [`call`]. Then the seat is as it was.
@@ -47,8 +48,8 @@ impl NodeLock {
         alloc: Global,
         seat: &mut Seat,
         act: Act,
-    ) -> Result<Receipt, Refusal>
-        ensures ok { IfOk result (AddsReceipt seat.old seat.new) }
+    ) -> Result<usize, Refusal>
+        ensures ok { IfOk result (Asks act seat.old seat.new) }
         ensures err { IfErr result (λ _. IsSameSeat seat.old seat.new) }
     {
         call(alloc, &mut self.book.lock(rt), seat, act)

@@ -1,14 +1,15 @@
 //! Who calls a node, and the receipts of what was asked for.
-ghost use Rattle.std.specs.Prelude.{◌≡◌, []};
+ghost use Rattle.std.specs.Prelude.{◌≡◌, ◌↔◌, IsTrue, []};
 ghost use Rattle.std.specs.Option.{option_copied};
-ghost use Rattle.node_lock.specs.Seats.{last_of, last_stands, stands_as};
+ghost use Rattle.node_lock.specs.Seats.{LastStands, StandsAs, last_of};
 
-use crate::act::is_act;
-use node_history::Entry;
+use node_history::{Answered, Entry, is_act};
+use same_events::{is_same_answer, is_same_event};
 use std::alloc::Global;
+use world_events::NodeEvent;
 
-/// Where the entry of what a caller has asked for stands.
-#[derive(Clone, Copy, Debug, PartialEq, Eq)]
+/// Where the entry of what a caller has asked for stands, and what the node answered.
+#[derive(Debug, Drop)]
 pub struct Receipt {
     /// The place of the node among all nodes, from 0.
     pub node: usize,
@@ -16,14 +17,25 @@ pub struct Receipt {
     pub position: usize,
     /// The stamp of the entry, from 1.
     pub stamp: u64,
+    /// What the node answered.
+    pub answer: Answered,
 }
 
-/// A caller of one node: the place of the node among all nodes, and the receipts of all that was asked
-/// for, the first one first.
+/// What a caller has asked for, beside its receipt.
+#[derive(Debug, Drop)]
+pub struct Asked {
+    /// The act, as the event at the node.
+    pub event: NodeEvent,
+    /// Its receipt.
+    pub receipt: Receipt,
+}
+
+/// A caller of one node: the place of the node among all nodes, and all that was asked for with the
+/// receipts, the first one first.
 #[derive(Drop)]
 pub struct Seat {
     pub(crate) node: usize,
-    pub(crate) receipts: Vec<Receipt>,
+    pub(crate) receipts: Vec<Asked>,
 }
 
 impl Seat {
@@ -45,30 +57,42 @@ impl Seat {
         self.node
     }
 
-    /// The receipts, the first one first.
-    pub fn receipts(&self) -> &[Receipt]
+    /// What was asked for, with the receipts, the first one first.
+    pub fn receipts(&self) -> &[Asked]
         ensures { result.now ≡ self.now.receipts.items }
     {
         self.receipts.as_slice()
     }
+
+    /// What was asked for last, with its receipt.
+    pub fn last(&self) -> Option<&Asked>
+        ensures { option_copied result ≡ last_of self.now.receipts.items }
+    {
+        self.receipts.last()
+    }
 }
 
-// Whether an entry is what a receipt is of.
-fn stands_as(receipt: Receipt, entry: Option<&Entry>) -> bool
-    ensures { result ≡ stands_as receipt (option_copied entry.entry) }
+/// Whether an entry is what a receipt is of: it has its stamp, its act's event and its answer.
+pub fn stands_as(asked: &Asked, entry: Option<&Entry>) -> bool
+    ensures { IsTrue result ↔ StandsAs asked.now (option_copied entry.entry) }
 {
     match entry {
-        Some(entry) => entry.stamp == receipt.stamp && is_act(&entry.event),
+        Some(entry) => {
+            entry.stamp == asked.receipt.stamp
+                && is_act(&entry.event)
+                && is_same_event(&entry.event, &asked.event)
+                && is_same_answer(&entry.answer, &asked.receipt.answer)
+        }
         None => false,
     }
 }
 
 /// Whether the last receipt of a seat stands at its place in a history.
-pub(crate) fn last_stands(receipts: &[Receipt], entries: &[Entry]) -> bool
-    ensures { result ≡ last_stands (last_of receipts.now) entries.now }
+pub(crate) fn last_stands(receipts: &[Asked], entries: &[Entry]) -> bool
+    ensures { IsTrue result ↔ LastStands (last_of receipts.now) entries.now }
 {
     match receipts.last() {
-        Some(receipt) => stands_as(*receipt, entries.get(receipt.position)),
+        Some(asked) => stands_as(asked, entries.get(asked.receipt.position)),
         None => true,
     }
 }

@@ -7,7 +7,7 @@ use erl_names::{NodeName, TrunkId};
 use erl_term::{Payload, Pid, Refusal, Term};
 use node_book::{Book, Left};
 use node_history::Entry;
-use node_lock::{Act, Seat, call};
+use node_lock::{Act, Asked, Seat, call};
 use std::alloc::{AllocError, Global};
 use std::sync::Wait;
 use std::test::*;
@@ -172,8 +172,11 @@ fn asks(
     seat: &mut Seat,
     act: Act,
 ) -> Result<(usize, usize, u64), Refusal> {
-    let receipt = call(alloc, book, seat, act)?;
-    Ok((receipt.node, receipt.position, receipt.stamp))
+    let place = call(alloc, book, seat, act)?;
+    match seat.receipts().get(place) {
+        Some(Asked { receipt, .. }) => Ok((receipt.node, receipt.position, receipt.stamp)),
+        None => Err(Refusal::NothingThere),
+    }
 }
 
 /// A seat calls the book of its node, and no other: neither the other node's, nor a new one of the same

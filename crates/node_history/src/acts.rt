@@ -1,0 +1,168 @@
+//! What a caller asks for is written down, and answered.
+ghost use Rattle.std.specs.Prelude.{◌≡◌, IfErr, IfOk, List, MatchResult, None, true};
+ghost use Rattle.dist_model.specs.Commands.{Outcome};
+ghost use Rattle.dist_model.specs.Names.{Name};
+ghost use Rattle.dist_model.specs.NodeEvents.{at_node};
+ghost use Rattle.erl_term.specs.declared.refusal.Refusal.TheVariants as refusal;
+ghost use Rattle.node_core.specs.Model.{IsFor, model_of};
+ghost use Rattle.node_history.specs.Acts.{Knows, is_act};
+ghost use Rattle.node_history.specs.Entering.{Tries};
+ghost use Rattle.node_history.specs.Spares.{Fills};
+ghost use Rattle.node_history.specs.Telling.{IsPlainCopy, IsTold, IsTwice, placed};
+ghost use Rattle.node_plans.specs.Planned.{IsPlanned, IsRefused};
+ghost use Rattle.world_events.specs.Events.{met};
+
+use crate::copying::{copied, copied_effects};
+use crate::entry::{Answered, Told};
+use crate::history::History;
+use crate::spare::Spare;
+use dist_model::Report;
+use erl_term::Refusal;
+use node_core::{Node, Planned};
+use std::alloc::{AllocError, Global};
+use world_events::NodeEvent;
+
+/// Whether an event is what a caller has asked for: a command, a dial, a loss, a stop or a start. All
+/// else is the doing of the node's thread.
+pub fn is_act(event: &NodeEvent) -> bool
+    ensures { result ≡ is_act event.now }
+{
+    match event {
+        NodeEvent::Call(_) => true,
+        NodeEvent::Dial { .. } => true,
+        NodeEvent::Lose(_) => true,
+        NodeEvent::Stop => true,
+        NodeEvent::Start => true,
+        NodeEvent::Arrive { .. } => false,
+        NodeEvent::Local => false,
+        NodeEvent::Sweep => false,
+    }
+}
+
+// What a node answers, twice.
+#[derive(Drop)]
+struct Twice {
+    answer: Answered,
+    copy: Answered,
+}
+
+// What was planned is carried out. All memory is taken before the node changes.
+fn carry_out(
+    alloc: Global,
+    node: &mut Node,
+    spare: Spare,
+    planned: Result<Planned, Refusal>,
+) -> Result<Twice, AllocError>
+    requires { IfOk planned (IsFor node.old) }
+    ensures ok { (due : Outcome) → Fills spare due → MatchResult planned (λ p. IsPlanned (model_of node.old) due p.plan) (IsRefused due) →
+        IfOk result (IsTwice due (model_of node.old) (model_of node.new)) }
+    ensures err { IfErr result (λ _. model_of node.new ≡ model_of node.old) }
+{
+    match planned {
+        Ok(planned) => {
+            let effects = copied_effects(alloc, planned.effects())?;
+            let report = node.commit(alloc, planned);
+            let answer = spare.again(&report.answer);
+            Ok(Twice {
+                answer: Ok(report),
+                copy: Ok(Report { answer, effects }),
+            })
+        }
+        Err(e) => {
+            drop(spare);
+            Ok(Twice {
+                answer: Err(e),
+                copy: Err(e),
+            })
+        }
+    }
+}
+
+// The answer of an event that brings nothing about, twice. Takes no memory.
+fn told_twice(alloc: Global, spare: Spare, answer: Answered) -> Twice
+    ensures answer { result.answer ≡ answer }
+    ensures copy { IsPlainCopy spare answer result.copy }
+{
+    let copy = match &answer {
+        Ok(report) => Ok(Report {
+            answer: spare.again(&report.answer),
+            effects: Vec::new(alloc),
+        }),
+        Err(e) => {
+            drop(spare);
+            Err(*e)
+        }
+    };
+    Twice { answer, copy }
+}
+
+// An act happens at a node, which answers it twice.
+fn act_twice(
+    alloc: Global,
+    node: &mut Node,
+    is_known: bool,
+    event: &NodeEvent,
+) -> Result<Twice, Refusal>
+    requires { is_act event.now ≡ true }
+    ensures ok { IfOk result (λ t. (names : List Name) → Knows names event.now is_known →
+        IsTwice (at_node names (model_of node.old) (met event.now None)) (model_of node.old) (model_of node.new) t) }
+    ensures same { IfErr result (λ _. model_of node.new ≡ model_of node.old) }
+    ensures err { IfErr result (λ e. e ≡ refusal.OutOfMemory) }
+{
+    let spare = Spare::of(alloc, node, event)?;
+    match event {
+        NodeEvent::Call(command) => {
+            let copy = copied(alloc, command)?;
+            let planned = node.plan_call(alloc, copy);
+            Ok(carry_out(alloc, node, spare, planned)?)
+        }
+        NodeEvent::Lose(trunk) => {
+            let planned = node.plan_loss(alloc, trunk);
+            Ok(carry_out(alloc, node, spare, planned)?)
+        }
+        NodeEvent::Dial { peer, word } => {
+            let planned = node.plan_dial(alloc, is_known, peer, *word);
+            Ok(carry_out(alloc, node, spare, planned)?)
+        }
+        NodeEvent::Stop => Ok(told_twice(alloc, spare, node.stop(alloc))),
+        NodeEvent::Start => Ok(told_twice(alloc, spare, node.start(alloc))),
+        NodeEvent::Arrive { .. } => unreachable!(),
+        NodeEvent::Local => unreachable!(),
+        NodeEvent::Sweep => unreachable!(),
+    }
+}
+
+impl History {
+    /// A caller asks for something: a command, a dial (whether there is a node of the peer's name is
+    /// told), a loss, a stop or a start. The place of the entry is told, and its answer. (ERTS User's
+    /// Guide, Distribution Protocol; Reference Manual, Processes.)
+    ///
+    /// # Errors
+    /// [`Refusal::IdsUsedUp`] where no higher stamp is left, and then [`Refusal::OutOfMemory`], also
+    /// where there is none for the answer that is told. Then nothing has changed.
+    pub fn act(&mut self, alloc: Global, is_known: bool, event: NodeEvent) -> Result<Told, Refusal>
+        requires { is_act event ≡ true }
+        ensures tries { (names : List Name) → Knows names event is_known →
+            Tries (at_node names (model_of self.old.node) (met event None)) event 0 self.old self.new (placed result) }
+        ensures told { IfOk result (IsTold self.new.entries.items) }
+    {
+        let stamp = self.next_stamp(0)?;
+        let Twice { answer, copy } = match act_twice(alloc, &mut self.node, is_known, &event) {
+            Ok(both) => both,
+            Err(e) => {
+                drop(event);
+                return Err(e);
+            }
+        };
+        match self.write(stamp, event, answer) {
+            Ok(place) => Ok(Told {
+                place,
+                answer: copy,
+            }),
+            Err(e) => {
+                drop(copy);
+                Err(e)
+            }
+        }
+    }
+}
