@@ -9,8 +9,10 @@ use diagram::{Arrow, End, Item, Layout, Mark, Row};
 use std::alloc::{AllocError, Global};
 use svg_text::{Point, put_box, put_line, put_words};
 
-// How many characters have room in a label.
+// How many characters of what an item is called have room in a label, and how many with what becomes of it.
 const LABEL: usize = 24;
+
+const WHOLE_LABEL: usize = 30;
 
 // An arrow from a place to another, whether it goes to the right, and whether its label stands at the right
 // of its start.
@@ -176,14 +178,21 @@ fn put_arrow(out: &mut String, span: Span, end: End, tooltip: &str) -> Result<()
     Ok(())
 }
 
+// What becomes of an item that isn't taken.
+fn fate_of(end: End) -> &'static str {
+    match end {
+        End::Taken(_) => "",
+        End::Lost(_) => " (lost)",
+        End::OnItsWay => " (on its way)",
+    }
+}
+
 // What is said of an item at the start of its arrow.
 fn label_of(alloc: Global, item: &Item, end: End) -> Result<String, AllocError> {
-    let mut label = shortened(alloc, item.label.as_str(), LABEL)?;
-    match end {
-        End::Taken(_) => {}
-        End::Lost(_) => label.push_str(" (lost)")?,
-        End::OnItsWay => label.push_str(" (on its way)")?,
-    }
+    let fate = fate_of(end);
+    let room = WHOLE_LABEL.saturating_sub(fate.len()).min(LABEL);
+    let mut label = shortened(alloc, item.label.as_str(), room)?;
+    label.push_str(fate)?;
     Ok(label)
 }
 

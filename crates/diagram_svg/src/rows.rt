@@ -9,9 +9,9 @@ use std::alloc::{AllocError, Global};
 use svg_text::{Point, put_box, put_line};
 
 // How many characters have room at the left, and on a lane.
-const WORDS: usize = 36;
+const WORDS: usize = 30;
 
-const NOTE: usize = 32;
+const NOTE: usize = 35;
 
 // How many of the words below the name of a lane have room, beside the line that says how many have not.
 fn shown_of(under: &[String]) -> usize {

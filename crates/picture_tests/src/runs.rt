@@ -178,8 +178,7 @@ fn many_rows(rt: HostRuntime) -> Result<(), Fail> {
     for _ in 0..10_003 {
         recorder.refused(alloc, Refusal::NothingThere)?;
     }
-    recorder.close(alloc)?;
-    let rows = &recorder.diagram().rows;
+    let rows = recorder.finish(alloc)?.rows;
     assert_eq!(rt; rows.len(), 10_001);
     let last = rows.last().and_then(|row| row.words.first());
     assert_eq!(rt; last.map(|words| words.as_str()), Some("and 3 rows more"));

@@ -8,6 +8,7 @@
 
 mod events;
 mod labels;
+mod messages;
 mod names;
 mod notes;
 mod queues;

@@ -1,5 +1,6 @@
 //! What happens at a node, in words.
 
+use crate::messages::put_message;
 use crate::names::ProcessNames;
 use diagram::Tone;
 use dist_model::{Answer, Effect, Kind, Swept};
@@ -16,20 +17,37 @@ pub(crate) struct Words {
     pub(crate) words: String,
 }
 
-// A process, what befalls it, and a term.
-fn about(
+// A process that ends, and why.
+fn ended(
     alloc: Global,
     names: &ProcessNames,
-    tone: Tone,
     process: &Pid,
-    what: &str,
-    term: &Payload,
+    reason: &Payload,
 ) -> Result<Option<Words>, AllocError> {
     let mut words = String::new(alloc);
     names.put(&mut words, process)?;
-    words.push_str(what)?;
-    put_term(&mut words, term.term())?;
-    Ok(Some(Words { tone, words }))
+    words.push_str(" ends: ")?;
+    put_term(&mut words, reason.term())?;
+    Ok(Some(Words {
+        tone: Tone::Alarm,
+        words,
+    }))
+}
+
+// A process, and what it gets.
+fn given(
+    alloc: Global,
+    names: &ProcessNames,
+    process: &Pid,
+    message: &Payload,
+) -> Result<Option<Words>, AllocError> {
+    let mut words = String::new(alloc);
+    names.put(&mut words, process)?;
+    put_message(&mut words, names, message.term())?;
+    Ok(Some(Words {
+        tone: Tone::Plain,
+        words,
+    }))
 }
 
 fn plain(alloc: Global, tone: Tone, text: &str) -> Result<Option<Words>, AllocError> {
@@ -48,15 +66,8 @@ pub(crate) fn of_effect<Item>(
     effect: &Effect<Item>,
 ) -> Result<Option<Words>, AllocError> {
     match effect {
-        Effect::Put { to, message } => about(alloc, names, Tone::Plain, to, " gets ", message),
-        Effect::Ended { process, reason } => about(
-            alloc,
-            names,
-            Tone::Alarm,
-            process,
-            " ends: ",
-            reason,
-        ),
+        Effect::Put { to, message } => given(alloc, names, to, message),
+        Effect::Ended { process, reason } => ended(alloc, names, process, reason),
         Effect::LinkExit { .. } => Ok(None),
         Effect::Sent { .. } => Ok(None),
     }

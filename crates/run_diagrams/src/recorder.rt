@@ -155,15 +155,19 @@ impl Recorder {
         Ok(())
     }
 
-    /// Nothing more is recorded: where rows had no room, a last one says how many.
-    pub fn close(&mut self, alloc: Global) -> Result<(), AllocError> {
-        let left_out = std::mem::replace(&mut self.left_out, 0);
+    /// The diagram of what has happened: where rows had no room, a last one says how many.
+    pub fn finish(self, alloc: Global) -> Result<Diagram, AllocError> {
+        let Recorder {
+            mut diagram,
+            left_out,
+            ..
+        } = self;
         if left_out > 0 {
             let mut words = Vec::new(alloc);
             words.push(format!(in alloc; "and {left_out} rows more")?)?;
-            self.diagram.rows.push(empty_row(alloc, words))?;
+            diagram.rows.push(empty_row(alloc, words))?;
         }
-        Ok(())
+        Ok(diagram)
     }
 
     /// What was asked for is refused, and nothing happened.
