@@ -1,12 +1,13 @@
 //! `erldist`: Erlang nodes in one process, driven by a script.
 //!
 //! The script comes on standard input, a command a line; what it does goes to standard output.
-//! [`read_options`] reads the command line, and [`run_script`] runs the script.
+//! [`read_options`] reads the command line, and [`run_script`] runs the script; [`run_telling`] and
+//! [`run_drawing`] do where its events or a drawing of them are to be written.
 #![tactic(auto)]
 
 use clap::Error;
 use clap::error::ErrorKind;
-use script_core::{Options, Outcome, read_options, run_script, run_telling};
+use script_core::{Form, Options, Outcome, read_options, run_drawing, run_script, run_telling};
 use std::alloc::Global;
 use std::io::{self, BufWriter};
 use std::process::ExitCode;
@@ -20,10 +21,11 @@ fn run<R: Input + Print + Eprint>(rt: &R, alloc: Global, options: &Options) -> u
         return Outcome::OutOfMemory.status();
     };
     let mut advice = String::new(alloc);
-    let outcome = if options.events {
-        run_telling(alloc, &mut rt.reader(), &mut writer, options, &mut advice)
-    } else {
-        run_script(alloc, &mut rt.reader(), &mut writer, options, &mut advice)
+    let mut reader = rt.reader();
+    let outcome = match options.form {
+        Form::Text => run_script(alloc, &mut reader, &mut writer, options, &mut advice),
+        Form::Events => run_telling(alloc, &mut reader, &mut writer, options, &mut advice),
+        Form::Picture => run_drawing(alloc, &mut reader, &mut writer, options, &mut advice),
     };
     if let Outcome::BadLine(line, reason) = outcome {
         let _ = if advice.is_empty() {

@@ -1,5 +1,5 @@
 -- Some events lead to the world at the end of a script.
-use Rattle.std.proofs.Common.{◌≡◌, ℕ, ◌+◌, Bool, true, false, cond, ltb, List, [], ◌∷◌, Result, Ok, Err, IfOk}
+use Rattle.std.proofs.Common.{ℕ, ◌+◌, Bool, true, false, cond, ltb, List, [], ◌∷◌, Result, Ok, Err, IfOk}
 use Rattle.script_lines.specs.declared.reason.Reason.{Reason}
 use Rattle.script_session.specs.Session.{State, Step, fresh_state, line_does}
 use Rattle.script_session.specs.Stands.{IsLed}

@@ -1,7 +1,8 @@
 //! Scripts: commands that drive Erlang nodes in one process, and what they print.
 //!
 //! [`run_script`] reads a script, a command a line, and writes what it does, over any reader and
-//! writer; [`run_telling`] writes a line of JSON for each event in its place. Its [`Outcome`] says how the script ended, and names the line that is bad and the
+//! writer; in its place [`run_telling`] writes a line of JSON for each event, and [`run_drawing`] a drawing
+//! of them all. Their [`Outcome`] says how the script ended, and names the line that is bad and the
 //! [`Reason`]. [`read_options`] reads the command line. What the lines do is `script_session`'s matter,
 //! and [`every_script`] is the law that the safety of every run is that of every script.
 #![tactic(auto)]
@@ -11,6 +12,6 @@ mod options;
 mod script;
 
 pub use laws::every_script;
-pub use options::{Options, read_options};
-pub use script::{Outcome, run_script, run_telling};
+pub use options::{Form, Options, read_options};
+pub use script::{Outcome, run_drawing, run_script, run_telling};
 pub use script_lines::Reason;

@@ -2,13 +2,24 @@
 use clap::{Arg, ArgAction, Command, Error};
 use std::alloc::Global;
 
+/// What is written of a script.
+#[derive(Clone, Copy, Debug, PartialEq, Eq)]
+pub enum Form {
+    /// What its commands print.
+    Text,
+    /// A line of JSON for each event.
+    Events,
+    /// A drawing in SVG of all that happens.
+    Picture,
+}
+
 /// What the command line asks for.
 #[derive(Clone, Copy, Debug, PartialEq, Eq)]
 pub struct Options {
     /// Whether each frame that is sent is printed. A script of a pair prints them in any case.
     pub trace: bool,
-    /// Whether each event is told in a line of JSON, in place of what the script prints.
-    pub events: bool,
+    /// What is written of the script.
+    pub form: Form,
     /// The first challenge word of the handshakes, 0 to 4,294,967,295; 1 where none is given.
     pub seed: u32,
 }
@@ -65,6 +76,11 @@ pub fn read_options<'a>(alloc: Global, words: &'a [String]) -> Result<Options, E
         .require_equals(true)
         .default_missing_value("hex")
         .value_parser(TRACES);
+    let picture = Arg::new(alloc, "picture")
+        .long("picture")
+        .help("Draw in SVG all that happens, in place of all else")
+        .action(ArgAction::SetTrue)
+        .conflicts_with("trace")?;
     let seed = Arg::new(alloc, "seed")
         .long("seed")
         .value_name("N")
@@ -76,12 +92,20 @@ pub fn read_options<'a>(alloc: Global, words: &'a [String]) -> Result<Options, E
         .version(VERSION)
         .after_help(COMMANDS)
         .arg(trace)?
+        .arg(picture)?
         .arg(seed)?;
     let matches = command.try_get_matches_from(words)?;
     let trace = matches.get_str("trace");
+    let form = if matches.get_flag("picture") {
+        Form::Picture
+    } else if trace == Some("json") {
+        Form::Events
+    } else {
+        Form::Text
+    };
     Ok(Options {
         trace: trace == Some("hex"),
-        events: trace == Some("json"),
+        form,
         seed: matches.get_one::<u32>("seed").unwrap_or(1),
     })
 }

@@ -3,14 +3,17 @@
 ghost use Rattle.std.specs.Prelude.{◌≡◌, ◌≤◌, [], ◌∷◌, length, take, IfSome, IfOk, IfErr, OnOk, Option, List, ℕ, string_bytes};
 ghost use Rattle.std.specs.Io.KnownBytes.{Appends};
 ghost use Rattle.script_core.specs.declared.script.Outcome.{Outcome};
-ghost use Rattle.script_core.specs.Script.{script};
+ghost use Rattle.script_core.specs.Drawn.{Draws, Ends};
+ghost use Rattle.script_core.specs.Script.{runs_from, script};
 ghost use Rattle.script_session.specs.Session.{State, fresh_state};
+ghost use Rattle.svg_text.specs.Markup.{IsDocument};
 ghost use Rattle.script_core.specs.Outcomes.{status_of, fault_at, Answers, Position, opening, rest_of, IsAt, Took, Progress, GoesOn, AppendsFront};
 
 use crate::options::Options;
+use diagram_svg::put_picture;
 use script_lines::{LINE_LIMIT, Reason};
 use script_session::{Session, Stop};
-use std::alloc::Global;
+use std::alloc::{AllocError, Global};
 use std::io::{self, ErrorKind, Read, Write};
 
 /// The most lines of a script that are run.
@@ -76,13 +79,9 @@ fn run_to_end<R: Read, W: Write>(
     ensures { IfSome (R.remaining reader.old) (λ input. Answers (script options.now.trace options.now.seed input) (W.contents writer.old) (W.contents writer.new) result) }
 {
     let mut script = Script::new(alloc, options);
-    for _ in 0..u64::MAX {
-        if let Some(outcome) = script.read_on(alloc, reader, writer) {
-            script.advise(alloc, outcome, advice);
-            return outcome;
-        }
-    }
-    Outcome::Failed
+    let outcome = script.read_all(alloc, reader, writer);
+    script.advise(alloc, outcome, advice);
+    outcome
 }
 
 /// Runs the script that the reader gives, and writes in place of what it prints a line of JSON for each
@@ -115,6 +114,39 @@ pub fn run_telling<R: Read, W: Write>(
     Outcome::Failed
 }
 
+/// Runs the script that the reader gives, and writes in place of what it prints a drawing in SVG of all
+/// that happens. How it ends is a function of the script's bytes and the options, as of [`run_script`].
+///
+/// The drawing is written at the end, behind a bad line too, or where reading has failed: then it is of
+/// what has happened until there. Where memory is wanting nothing is written.
+pub fn run_drawing<R: Read, W: Write>(
+    alloc: Global,
+    reader: &mut R,
+    writer: &mut W,
+    options: &Options,
+    advice: &mut String,
+) -> Outcome
+    ensures draws { Draws (W.contents writer.old) (W.contents writer.new) result }
+    ensures ends { IfSome (R.remaining reader.old) (λ input. Ends (script options.now.trace options.now.seed input).verdict result) }
+{
+    let mut script = Script::new(alloc, options);
+    if script.session.draw_picture(alloc).is_err() {
+        return Outcome::OutOfMemory;
+    }
+    let outcome = script.read_all(alloc, reader, &mut io::sink());
+    if outcome == Outcome::OutOfMemory {
+        return outcome;
+    }
+    script.advise(alloc, outcome, advice);
+    let Ok(drawing) = script.drawing(alloc) else {
+        return Outcome::OutOfMemory;
+    };
+    match write_whole(writer, drawing.as_bytes()) {
+        Ok(()) => outcome,
+        Err(failed) => failed,
+    }
+}
+
 /// A script of which a part was read.
 #[derive(Drop)]
 struct Script {
@@ -136,6 +168,24 @@ impl Script {
         }
     }
 
+    /// Reads on until the script has ended, and answers how it did.
+    fn read_all<R: Read, W: Write>(
+        &mut self,
+        alloc: Global,
+        reader: &mut R,
+        writer: &mut W,
+    ) -> Outcome
+        ensures { (from : State) → IsAt self.old (opening from) →
+            IfSome (R.remaining reader.old) (λ input. Answers (runs_from from input) (W.contents writer.old) (W.contents writer.new) result) }
+    {
+        for _ in 0..u64::MAX {
+            if let Some(outcome) = self.read_on(alloc, reader, writer) {
+                return outcome;
+            }
+        }
+        Outcome::Failed
+    }
+
     /// What is wrong with the line at which it ended, if it is a bad one.
     fn advise(&self, alloc: Global, outcome: Outcome, advice: &mut String) {
         if let Outcome::BadLine(_, reason) = outcome {
@@ -143,6 +193,16 @@ impl Script {
                 .session
                 .put_advice(alloc, advice, reason, &self.pending);
         }
+    }
+
+    /// A drawing of what has happened.
+    fn drawing(&mut self, alloc: Global) -> Result<String, AllocError>
+        ensures { IfOk result (λ drawing. IsDocument (string_bytes drawing)) }
+    {
+        let diagram = self.session.picture(alloc)?;
+        let mut out = String::new(alloc);
+        put_picture(alloc, &mut out, &diagram)?;
+        Ok(out)
     }
 
     /// Writes the lines of the events that have happened since the last were written.
@@ -272,6 +332,18 @@ fn write_bytes<W: Write>(writer: &mut W, bytes: &[u8]) -> Result<(), Outcome>
         rest = &rest[len..];
     }
     Err(Outcome::Failed)
+}
+
+/// The same, and flushes them.
+fn write_whole<W: Write>(writer: &mut W, bytes: &[u8]) -> Result<(), Outcome>
+    ensures ok { OnOk result (Appends (W.contents writer.old) (W.contents writer.new) bytes.now) }
+    ensures err { IfErr result (λ outcome. (outcome ≡ Outcome.Failed) × AppendsFront bytes.now (W.contents writer.old) (W.contents writer.new)) }
+{
+    write_bytes(writer, bytes)?;
+    match writer.flush() {
+        Ok(()) => Ok(()),
+        Err(_) => Err(Outcome::Failed),
+    }
 }
 
 /// Writes a beginning of the bytes, and answers how many: none where the writer was interrupted.

@@ -1,5 +1,5 @@
 //! Commands about the connections of two nodes.
-ghost use Rattle.std.specs.Prelude.{◌≡◌, IfOk, OnOk, string_bytes};
+ghost use Rattle.std.specs.Prelude.{◌≡◌, ◌++◌, IfOk, OnOk, string_bytes};
 ghost use Rattle.std.specs.FinMap as fm;
 ghost use Rattle.std.specs.Option.{option_map};
 ghost use Rattle.dist_model.specs.Node.{side_where};
@@ -9,6 +9,7 @@ ghost use Rattle.script_session.specs.Connections.{coming_to, cuts, delivers, is
 ghost use Rattle.script_session.specs.Stage.{Stage as TheStage};
 ghost use Rattle.script_session.specs.Stands.{IsStage, Plays};
 ghost use Rattle.script_session.specs.declared.made.Made.{Made as TheMade};
+ghost use Rattle.script_texts.specs.Texts.{refused_text};
 
 use crate::made::Made;
 use crate::pairs::node_name;
@@ -62,6 +63,15 @@ impl Live {
 }
 
 impl Stage {
+    // What a line asks for is refused before anything happens.
+    fn refuse(&mut self, alloc: Global, out: &mut String, why: Refusal) -> Result<(), AllocError>
+        ensures stage { (it : TheStage) → IsStage self.old it → IsStage self.new it }
+        ensures text { OnOk result (string_bytes out.new ≡ string_bytes out.old ++ refused_text why) }
+    {
+        self.telling.picture.refused(alloc, why)?;
+        put_refused(out, why)
+    }
+
     // The connection on which something comes to a node from a peer, or why nothing does.
     fn coming(
         &self,
@@ -103,7 +113,7 @@ impl Stage {
                 self.act(alloc, node.atom(), NodeEvent::Arrive { trunk, word }, out)
             }
             Err(why) => {
-                put_refused(out, why)?;
+                self.refuse(alloc, out, why)?;
                 Ok(Made::Nothing)
             }
         }
@@ -198,7 +208,7 @@ impl Stage {
     {
         let (node, peer) = (node_name(alloc, node)?, node_name(alloc, peer)?);
         match self.lose_at(alloc, &node, &peer)? {
-            Some(why) => put_refused(out, why),
+            Some(why) => self.refuse(alloc, out, why),
             None => put_done(out),
         }
     }
@@ -221,7 +231,7 @@ impl Stage {
         let here = self.lose_at(alloc, &node, &peer)?;
         let there = self.lose_at(alloc, &peer, &node)?;
         match (here, there) {
-            (Some(why), Some(_)) => put_refused(out, why),
+            (Some(why), Some(_)) => self.refuse(alloc, out, why),
             _ => put_done(out),
         }
     }

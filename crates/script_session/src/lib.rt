@@ -8,6 +8,7 @@ mod connections;
 mod laws;
 mod made;
 mod pairs;
+mod picture;
 mod playing;
 mod session;
 mod settling;

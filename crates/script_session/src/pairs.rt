@@ -118,6 +118,8 @@ impl Stage {
         let peer = node_name(alloc, SECOND)?;
         self.world = pair_world(alloc)?;
         self.trace = true;
+        self.telling.picture.join(alloc, FIRST)?;
+        self.telling.picture.join(alloc, SECOND)?;
         self.spawn(alloc, &first)?;
         self.spawn(alloc, &second)?;
         self.dial(alloc, &first, peer)?;

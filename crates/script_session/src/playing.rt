@@ -128,6 +128,7 @@ impl Stage {
     {
         let secret = cookie(alloc, secret)?;
         self.world.join(alloc, node_name(alloc, name)?, secret)?;
+        self.telling.picture.join(alloc, name)?;
         put_answer(out, name, &Answer::Started(1))
     }
 

@@ -12,6 +12,7 @@ use crate::pairs::{FIRST, SECOND, first_process};
 use crate::playing::{is_taken, new_name, starts};
 use crate::stage::Stage;
 use crate::telling::Telling;
+use diagram::Diagram;
 use script_advice::put_advice;
 use script_lines::{Line, MayCome, Reason, read_line};
 use script_terms::{Named, Names};
@@ -43,6 +44,7 @@ fn carry_out(
     alloc: Global,
     stage: &mut Stage,
     names: &Names,
+    text: &[u8],
     line: Line,
     out: &mut String,
 ) -> Result<(String, Made), AllocError>
@@ -51,8 +53,13 @@ fn carry_out(
     ensures played { (it : TheStage) (look : Look) → IsStage stage.old it → Knows names.now look → (starts (said line.entry) ≡ false → IsOpening it.world) →
         IfOk result (λ named. Plays (plays look (said line.entry) it) stage.new (string_bytes out.old) (string_bytes out.new) named.1) }
 {
+    stage.telling.picture.say(alloc, text)?;
     let name = new_name(alloc, line)?;
     let made = stage.play(alloc, names, line, out)?;
+    stage
+        .telling
+        .picture
+        .ran(alloc, &stage.world, line, name.as_str(), &made)?;
     Ok((name, made))
 }
 
@@ -112,7 +119,8 @@ impl Session {
     pub fn line(&mut self, alloc: Global, line: &[u8], out: &mut String) -> Result<(), Stop>
         ensures { (state : State) → IsState self.old state → Obeys (line_does state line.now) self.new (string_bytes out.old) (string_bytes out.new) result }
     {
-        let line = match read_line(self.may_come(), &self.names, line) {
+        let text = line;
+        let line = match read_line(self.may_come(), &self.names, text) {
             Ok(Some(line)) => line,
             Ok(None) => return Ok(()),
             Err(reason) => return Err(Stop::Bad(reason)),
@@ -121,7 +129,8 @@ impl Session {
             return Err(Stop::Bad(Reason::NameTaken));
         }
         let has_started = starts(line);
-        let Ok((name, made)) = carry_out(alloc, &mut self.stage, &self.names, line, out) else {
+        let Ok((name, made)) = carry_out(alloc, &mut self.stage, &self.names, text, line, out)
+        else {
             return Err(Stop::OutOfMemory);
         };
         let Ok(()) = bind(alloc, &mut self.names, name, made) else {
@@ -136,6 +145,26 @@ impl Session {
         ensures { (state : State) → IsState self.old state → IsState self.new state }
     {
         self.stage.telling.is_on = true;
+    }
+
+    /// From now on a picture is drawn of what happens.
+    ///
+    /// # Errors
+    /// Where memory is wanting.
+    pub fn draw_picture(&mut self, alloc: Global) -> Result<(), AllocError>
+        ensures { (state : State) → IsState self.old state → IsState self.new state }
+    {
+        self.stage.telling.picture.begin(alloc)
+    }
+
+    /// What has happened since, as a diagram; it is empty where no picture is drawn. Then none is any more.
+    ///
+    /// # Errors
+    /// Where memory is wanting.
+    pub fn picture(&mut self, alloc: Global) -> Result<Diagram, AllocError>
+        ensures { (state : State) → IsState self.old state → IsState self.new state }
+    {
+        self.stage.telling.picture.taken(alloc)
     }
 
     /// The lines of the events that have happened since they were last cleared: all those that come of

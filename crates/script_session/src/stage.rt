@@ -127,9 +127,9 @@ impl Stage {
         ensures { (it : TheStage) → IsStage self.old it →
             IfOk result (Moved (event_at node.now event) it self.new (string_bytes out.old) (string_bytes out.new)) }
     {
-        let told = self.telling.begin(alloc, &event)?;
+        let begun = self.telling.begin(alloc, &event)?;
         let came = self.world.apply_at(alloc, node, event);
-        self.telling.end(alloc, node.text(), told, &came)?;
+        self.telling.end(alloc, node.text(), begun, &came)?;
         match came {
             Ok(Report { answer, effects }) => {
                 put_sents_if(alloc, out, self.trace, node.text(), &effects)?;

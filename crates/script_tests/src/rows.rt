@@ -1,5 +1,5 @@
 //! Stories of several nodes, and how what they print ends.
-use script_core::{Options, Outcome, run_script};
+use script_core::{Form, Options, Outcome, run_script};
 use std::alloc::{AllocError, Global};
 use std::test::*;
 
@@ -7,7 +7,7 @@ use std::test::*;
 fn ends_so(alloc: Global, script: &str, wanted: &str) -> bool {
     let options = Options {
         trace: false,
-        events: false,
+        form: Form::Text,
         seed: 1,
     };
     let mut reader = script.as_bytes();
@@ -120,7 +120,7 @@ fn patience(alloc: Global, messages: u32) -> Result<Vec<u8>, AllocError> {
     script.push_str("settle\nsettle\n")?;
     let options = Options {
         trace: false,
-        events: false,
+        form: Form::Text,
         seed: 1,
     };
     let mut reader = script.as_bytes();
@@ -206,7 +206,7 @@ fn advice(rt: HostRuntime) {
     for (script, wanted) in ADVICE {
         let options = Options {
             trace: false,
-            events: false,
+            form: Form::Text,
             seed: 1,
         };
         let mut reader = script.as_bytes();

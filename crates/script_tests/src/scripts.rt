@@ -1,12 +1,14 @@
 //! Scripts written by hand, and what they print.
-use script_core::{Options, Outcome, Reason, read_options, run_script, run_telling};
+use script_core::{
+    Form, Options, Outcome, Reason, read_options, run_drawing, run_script, run_telling,
+};
 use std::alloc::{AllocError, Global};
 use std::io::{self, ErrorKind, Read, Write};
 use std::test::*;
 
 const OPTIONS: Options = Options {
     trace: false,
-    events: false,
+    form: Form::Text,
     seed: 1,
 };
 
@@ -391,20 +393,25 @@ fn options(alloc: Global, words: &[&str]) -> Result<Result<Options, i32>, AllocE
     Ok(read_options(alloc, given.as_slice()).map_err(|error| error.exit_code()))
 }
 
-/// Command lines, and what they ask for: the trace, events in its place, and the seed.
-const GOOD_WORDS: [(&[&str], bool, bool, u32); 6] = [
-    (&[], false, false, 1),
-    (&["--seed", "7"], false, false, 7),
-    (&["--seed=4294967295"], false, false, 4_294_967_295),
-    (&["--trace", "--seed", "0"], true, false, 0),
-    (&["--trace=hex"], true, false, 1),
-    (&["--seed", "0", "--trace=json"], false, true, 0),
+/// Command lines, and what they ask for: the trace, what is written in place of the text, and the seed.
+const GOOD_WORDS: [(&[&str], bool, Form, u32); 8] = [
+    (&[], false, Form::Text, 1),
+    (&["--seed", "7"], false, Form::Text, 7),
+    (&["--seed=4294967295"], false, Form::Text, 4_294_967_295),
+    (&["--trace", "--seed", "0"], true, Form::Text, 0),
+    (&["--trace=hex"], true, Form::Text, 1),
+    (&["--seed", "0", "--trace=json"], false, Form::Events, 0),
+    (&["--picture"], false, Form::Picture, 1),
+    (&["--picture", "--seed", "3"], false, Form::Picture, 3),
 ];
 
 /// Others, and the status that they are refused with.
-const OTHER_WORDS: [(&[&str], i32); 10] = [
+const OTHER_WORDS: [(&[&str], i32); 13] = [
     (&["--trace", "json"], 2),
     (&["--trace=xml"], 2),
+    (&["--picture", "--trace"], 2),
+    (&["--trace=json", "--picture"], 2),
+    (&["--picture=svg"], 2),
     (&["--seed", "4294967296"], 2),
     (&["--seed", "-1"], 2),
     (&["--seed"], 2),
@@ -417,12 +424,8 @@ const OTHER_WORDS: [(&[&str], i32); 10] = [
 
 #[test]
 fn command_lines(rt: HostRuntime) -> Result<(), Fail> {
-    for (words, trace, events, seed) in GOOD_WORDS {
-        let wanted = Options {
-            trace,
-            events,
-            seed,
-        };
+    for (words, trace, form, seed) in GOOD_WORDS {
+        let wanted = Options { trace, form, seed };
         assert_eq!(rt; options(rt.alloc(), words)?, Ok(wanted), "seed {seed}");
     }
     for (row, (words, status)) in OTHER_WORDS.iter().enumerate() {
@@ -466,5 +469,74 @@ fn told(rt: HostRuntime) {
             ended == outcome && printed.as_slice() == wanted.as_bytes(),
             "{script}"
         );
+    }
+}
+
+/// Scripts, what stands in their drawings, and how they end.
+const DRAWN: [(&str, &[&str], Outcome); 6] = [
+    ("", &["A run of Erlang nodes"], Outcome::Ran),
+    (
+        "node a@h c\nspawn a@h p\nalive p\nstop a@h\nspawn a@h q\nshow\n",
+        &[
+            ">a@h<",
+            ">p = &lt;a@h.1.0.1&gt;<",
+            ">spawn a@h p<",
+            ">stopped<",
+            ">refused 2 NodeDown<",
+            ">show<",
+        ],
+        Outcome::Ran,
+    ),
+    (
+        "pair\nlink p q\ndeliver b@h a@h\nends p q\nroute a@h b@h\n",
+        &[">pair<", ">LINK", ">connected<", ">p: active<", ">up a@h/1<"],
+        Outcome::Ran,
+    ),
+    (
+        "node a@h c\nnode b@h c\nlose a@h b@h\ncut a@h b@h\nroute c@h a@h",
+        &[
+            ">lose a@h b@h<",
+            ">cut a@h b@h<",
+            ">refused 19 NothingThere<",
+        ],
+        Outcome::Ran,
+    ),
+    (
+        "node 'a<&@h c\n",
+        &["A run of Erlang nodes"],
+        Outcome::BadLine(1, Reason::BadName),
+    ),
+    (
+        "node a@h c\nspawn a@h p\nfly\nalive p\n",
+        &[">spawn a@h p<"],
+        Outcome::BadLine(3, Reason::UnknownCommand),
+    ),
+];
+
+/// Whether a drawing is whole, and all of this stands in it.
+fn is_drawn(drawing: &[u8], wanted: &[&str]) -> bool {
+    let Ok(drawing) = std::str::from_utf8(drawing) else {
+        return false;
+    };
+    let mut has_all = drawing.starts_with("<svg ") && drawing.ends_with("</svg>\n");
+    for text in wanted {
+        has_all = has_all && drawing.contains(*text);
+    }
+    has_all
+}
+
+#[test]
+fn drawn(rt: HostRuntime) {
+    for (script, wanted, outcome) in DRAWN {
+        let mut printed = Vec::new(rt.alloc());
+        let mut reader = script.as_bytes();
+        let ended = run_drawing(
+            rt.alloc(),
+            &mut reader,
+            &mut printed,
+            &OPTIONS,
+            &mut String::new(rt.alloc()),
+        );
+        assert!(rt; ended == outcome && is_drawn(&printed, wanted), "{script}");
     }
 }
