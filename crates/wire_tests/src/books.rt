@@ -14,7 +14,7 @@ use std::test::*;
 use world_events::NodeEvent;
 
 // The book of one of two nodes.
-fn book(alloc: Global, place: usize) -> Result<Book, Fail>
+pub(crate) fn book(alloc: Global, place: usize) -> Result<Book, Fail>
     requires { place < 2 }
 {
     let mut names = Vec::new(alloc);
@@ -43,7 +43,7 @@ fn pass<R: Wait>(
 }
 
 // All that waits passes, in both directions.
-fn settle<R: Wait>(
+pub(crate) fn settle<R: Wait>(
     rt: &R,
     alloc: Global,
     trunk: &TrunkId,

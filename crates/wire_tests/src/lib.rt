@@ -1,7 +1,9 @@
-//! Tests of wires between two threads, and of two books.
+//! Tests of wires between two threads, of two books, and of what they merge into.
 #![tactic(auto)]
 
 #[cfg(test)]
 mod books;
+#[cfg(test)]
+mod joining;
 #[cfg(test)]
 mod passing;

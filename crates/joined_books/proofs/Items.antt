@@ -1,0 +1,101 @@
+-- The bytes of an item tell the item, and parcels that say the same carry the same.
+use Rattle.std.proofs.Common.{◌≡◌, ℕ, Option, Some, List, [], ◌++◌, refl, sym, ap, ◌∙◌, subst, arith}
+use Rattle.dist_model.specs.Items.{Handshake, Item, Signalled, Tick, kind_of}
+use Rattle.dist_model.specs.declared.report.Kind.{Kind}
+use Rattle.erl_control.specs.Canonical.{canonical_frame}
+use Rattle.erl_control.specs.Frame.{IsFramed}
+use Rattle.erl_control.specs.declared.signal.Item.{Item as Framed}
+use Rattle.erl_control.specs.declared.signal.Item.TheVariants as frame
+use Rattle.erl_control.specs.declared.signal.Signal.{Signal}
+use Rattle.erl_handshake.proofs.Dues.{same_message, written_shake}
+use Rattle.erl_handshake.specs.Messages.{IsFor, written}
+use Rattle.erl_handshake.specs.declared.message.Role.{Role}
+use Rattle.erl_handshake.specs.declared.message.Role.TheVariants.{Acceptor, Dialer}
+use Rattle.erl_handshake.specs.declared.message.ShakeMsg.{ShakeMsg}
+use Rattle.item_kinds.proofs.Told.{kind_is_told}
+use Rattle.item_kinds.specs.Kinds.{kind_in}
+use Rattle.node_plans.specs.Frames.{IsSpelled, bytes_of}
+
+abbrev pub OneFrame : Type 0
+OneFrame = (i j : Framed) (a b x y : List ℕ) → IsFramed i a → IsFramed j b → a ++ x ≡ b ++ y → (i ≡ j) × (a ≡ b)
+
+-- ---- of one kind
+
+some_is : (a b : Kind) → ◌≡◌ {A = Option Kind} (Some a) (Some b) → a ≡ b
+some_is a b h = cc
+
+same_kind : (x y : Item) → IsSpelled x → IsSpelled y → bytes_of x ≡ bytes_of y → kind_of x ≡ kind_of y
+same_kind x y p q e = some_is (kind_of x) (kind_of y) (sym (kind_is_told x p) ∙ ap kind_in e ∙ kind_is_told y q)
+
+abbrev group : Kind → ℕ
+group Kind.SendName = 1
+group Kind.Status = 1
+group Kind.Challenge = 1
+group Kind.ChallengeReply = 1
+group Kind.ChallengeAck = 1
+group Kind.Tick = 2
+group _ = 0
+
+signal_group : (s : Signal) → group (kind_of (Signalled s)) ≡ 0
+signal_group (Signal.Link from to) = refl
+signal_group (Signal.Send to message) = refl
+signal_group (Signal.Exit from to reason) = refl
+signal_group (Signal.Exit2 from to reason) = refl
+signal_group (Signal.Monitor from to r) = refl
+signal_group (Signal.Demonitor from to r) = refl
+signal_group (Signal.MonitorExit from to r reason) = refl
+signal_group (Signal.UnlinkId id from to) = refl
+signal_group (Signal.UnlinkIdAck id from to) = refl
+
+message_group : (m : ShakeMsg) → group (kind_of (Handshake m)) ≡ 1
+message_group (ShakeMsg.SendName flags creation name) = refl
+message_group (ShakeMsg.Status status) = refl
+message_group (ShakeMsg.Challenge flags challenge creation name) = refl
+message_group (ShakeMsg.ChallengeReply challenge digest) = refl
+message_group (ShakeMsg.ChallengeAck digest) = refl
+
+abbrev reader_of : Kind → Role
+reader_of Kind.SendName = Acceptor
+reader_of _ = Dialer
+
+read_by : (m : ShakeMsg) → IsFor (reader_of (kind_of (Handshake m))) m
+read_by (ShakeMsg.SendName flags creation name) = refl
+read_by (ShakeMsg.Status status) = tt
+read_by (ShakeMsg.Challenge flags challenge creation name) = refl
+read_by (ShakeMsg.ChallengeReply challenge digest) = tt
+read_by (ShakeMsg.ChallengeAck digest) = tt
+
+-- ---- the item
+
+apart : (x y : Item) → (group (kind_of x) ≡ group (kind_of y) → ⊥) → kind_of x ≡ kind_of y → ⊥
+apart x y differ e = differ (ap group e)
+
+pub bytes_tell_items : OneFrame → (x y : Item) → IsSpelled x → IsSpelled y → bytes_of x ≡ bytes_of y → x ≡ y
+bytes_tell_items one (Signalled s) (Signalled t) p q e =
+    let h = one (frame.Signal s) (frame.Signal t) (canonical_frame s) (canonical_frame t) [] [] p q (ap (λ b. b ++ []) e) in
+    let same : s ≡ t = signals s t h.0 in ap Signalled same
+  where
+    signals : (s t : Signal) → ◌≡◌ {A = Framed} (frame.Signal s) (frame.Signal t) → s ≡ t
+    signals s t h = cc
+bytes_tell_items one (Signalled s) (Handshake m) p q e =
+    absurd (apart (Signalled s) (Handshake m) (λ g. let a = signal_group s in let b = message_group m in omega arith)
+    (same_kind (Signalled s) (Handshake m) p q e))
+bytes_tell_items one (Signalled s) Tick p q e =
+    absurd (apart (Signalled s) Tick (λ g. let a = signal_group s in omega arith) (same_kind (Signalled s) Tick p q e))
+bytes_tell_items one (Handshake m) (Signalled s) p q e =
+    absurd (apart (Handshake m) (Signalled s) (λ g. let a = signal_group s in let b = message_group m in omega arith)
+    (same_kind (Handshake m) (Signalled s) p q e))
+bytes_tell_items one (Handshake m) (Handshake k) p q e =
+    let kinds = same_kind (Handshake m) (Handshake k) p q e in
+    let role = reader_of (kind_of (Handshake m)) in
+    let other : IsFor role k = subst (λ r. IsFor r k) (ap reader_of (sym kinds)) (read_by k) in
+    let h = same_message role m k (written m) (written k) [] [] (written_shake role m (read_by m) p) (written_shake role k other q)
+    (ap (λ b. b ++ []) e) in
+    ap Handshake h.0
+bytes_tell_items one (Handshake m) Tick p q e =
+    absurd (apart (Handshake m) Tick (λ g. let b = message_group m in omega arith) (same_kind (Handshake m) Tick p q e))
+bytes_tell_items one Tick (Signalled s) p q e =
+    absurd (apart Tick (Signalled s) (λ g. let a = signal_group s in omega arith) (same_kind Tick (Signalled s) p q e))
+bytes_tell_items one Tick (Handshake m) p q e =
+    absurd (apart Tick (Handshake m) (λ g. let b = message_group m in omega arith) (same_kind Tick (Handshake m) p q e))
+bytes_tell_items one Tick Tick p q e = refl

@@ -1,0 +1,15 @@
+pub mod Agree
+pub mod Assembling
+pub mod Carried
+pub mod Counting
+pub mod Filling
+pub mod Items
+pub mod Joining
+pub mod Looping
+pub mod Marking
+pub mod Modelled
+pub mod Naming
+pub mod Ordered
+pub mod Receipting
+pub mod Tests
+pub mod Zipped

@@ -1,0 +1,10 @@
+pub mod Each
+pub mod Places
+pub mod Parts
+pub mod Names
+pub mod Parcels
+pub mod Wires
+pub mod Marks
+pub mod Receipts
+pub mod Joined
+pub mod Faults
