@@ -489,7 +489,13 @@ const DRAWN: [(&str, &[&str], Outcome); 6] = [
     ),
     (
         "pair\nlink p q\ndeliver b@h a@h\nends p q\nroute a@h b@h\n",
-        &[">pair<", ">LINK", ">connected<", ">p: active<", ">up a@h/1<"],
+        &[
+            ">pair<",
+            ">LINK",
+            ">connected<",
+            ">p: active<",
+            ">up a@h/1<",
+        ],
         Outcome::Ran,
     ),
     (
