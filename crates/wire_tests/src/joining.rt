@@ -205,7 +205,7 @@ enum Case {
     SeatTwice,
 }
 
-fn chosen<R: Wait>(rt: &R, alloc: Global, case: Case) -> Result<Chosen, Fail> {
+fn joined_as<R: Wait>(rt: &R, alloc: Global, case: Case) -> Result<Chosen, Fail> {
     let set = used(rt, alloc)?;
     let all = match case {
         Case::Whole => whole(alloc, set)?,
@@ -244,7 +244,7 @@ fn books_merge_or_say_why(rt: HostRuntime) -> Result<(), Fail> {
         (Case::SeatLeftOut, "24 SeatsMissing 1"),
         (Case::SeatTwice, "22 StrangeReceipt 1 0"),
     ] {
-        let Chosen { books, seats } = chosen(&rt, alloc, case)?;
+        let Chosen { books, seats } = joined_as(&rt, alloc, case)?;
         let outcome = merge_books(alloc, &books, &seats);
         let text = told(alloc, &outcome)?;
         drop(books);
