@@ -69,10 +69,16 @@ const DRAWINGS: &[(&[&str], &str, usize)] = &[
         1,
     ),
     (&["ends p q;NOTE 0 p: active"], "<rect class=\"calm\"", 1),
+    // A long label leaves room for what becomes of its item.
+    (
+        &["exit p q;SEND 0 1 0 abcdefghijklmnopqrstuvwxyz"],
+        ">abcdefghijklmnopq\u{2026} (on its way)<",
+        1,
+    ),
     // A long word is cut short, and stands in the tooltip.
     (
         &["send p q 123456789012345678901234567890"],
-        ">send p q 123456789012345678901234567\u{2026}<title>send p q 123456789012345678901234567890</title>",
+        ">send p q 123456789012345678901\u{2026}<title>send p q 123456789012345678901234567890</title>",
         1,
     ),
 ];
