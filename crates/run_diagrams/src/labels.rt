@@ -2,7 +2,7 @@
 
 use erl_control::{ItemRef, SignalRef, frame_at};
 use erl_handshake::{Role, ShakeMsg, read};
-use erl_term::TermRef;
+use erl_term::{Refusal, TermRef};
 use script_terms::put_term;
 use std::alloc::{AllocError, Global};
 
@@ -51,6 +51,7 @@ fn put_message(
 ) -> Result<(), AllocError> {
     match read(alloc, role, bytes) {
         Ok(Some((message, _))) => out.push_str(message_name(&message)),
+        Err(Refusal::OutOfMemory) => Err(AllocError),
         _ => out.push_str("not known"),
     }
 }
