@@ -1,5 +1,5 @@
 -- Some events lead to the world after each line.
-use Rattle.std.proofs.Common.{◌≡◌, ℕ, zero, suc, ◌+◌, Bool, true, false, cond, not, is_some, List, [], ◌∷◌, ◌++◌, Option, None, Some, Result, Ok, Err, IfOk, refl, sym, ap, subst, ◌∙◌, inl}
+use Rattle.std.proofs.Common.{◌≡◌, ℕ, zero, suc, Bool, true, false, cond, List, [], ◌∷◌, ◌++◌, Option, None, Some, Result, Ok, Err, IfOk, refl, sym, ap, subst, ◌∙◌, inl}
 use Rattle.std.proofs.lemmas.List.{map-append}
 use Rattle.std.specs.FinMap as fm
 use Rattle.dist_model.specs.Names.{Name}
@@ -12,16 +12,15 @@ use Rattle.erl_term.specs.declared.refusal.Refusal.{Refusal}
 use Rattle.script_lines.specs.Lines.{line_says}
 use Rattle.script_lines.specs.Said.{Said}
 use Rattle.script_lines.specs.Said as says
-use Rattle.script_lines.specs.declared.reading.MayCome.{MayCome}
 use Rattle.script_lines.specs.declared.reason.Reason.{Reason}
 use Rattle.script_session.specs.Connections as connections
 use Rattle.script_session.specs.Connections.{Lost, arrives, coming_to, cuts, delivers, lose, lose_all, lose_at, lose_live, lose_on, live_sides, is_any, loses, routes}
 use Rattle.script_session.specs.Pairs.{pair_nodes, pair_plays, pair_stage}
-use Rattle.script_session.specs.Session.{State, Step, asks, does, is_taken, joined, line_does, may_come, moves, plays, plays_as, says_does, starts}
+use Rattle.script_session.specs.Session.{State, asks, does, is_taken, joined, line_does, may_come, moves, plays, plays_as, says_does, starts}
 use Rattle.script_session.specs.Stage as stage
 use Rattle.script_session.specs.Stage.{Scene, Stage, after, happens, play}
 use Rattle.script_session.specs.Stands.{IsLed, IsOpening}
-use Rattle.script_session.specs.Turns.{goes_on, settles, takes_turn, turn}
+use Rattle.script_session.specs.Turns.{settles, takes_turn, turn}
 use Rattle.script_session.specs.declared.connections.Live.{Live}
 use Rattle.script_session.proofs.Coming.{node_comes_early}
 use Rattle.script_terms.specs.Binding.{Look}

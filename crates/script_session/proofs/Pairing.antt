@@ -1,9 +1,6 @@
 -- The stage of a pair, event by event.
-use Rattle.std.proofs.Common.{◌≡◌, ℕ, List, [], ◌∷◌, true, Result, OnOk, refl, sym, ap, subst, ◌∙◌}
-use Rattle.dist_model.specs.Names.{Name}
-use Rattle.dist_model.specs.Runs.{opening}
-use Rattle.dist_model.specs.World.{Arrive, Call, Dial, Event}
-use Rattle.dist_model.specs.declared.command.Command.{Command}
+use Rattle.std.proofs.Common.{◌≡◌, ℕ, List, [], ◌∷◌, refl, sym, subst, ◌∙◌}
+use Rattle.dist_model.specs.World.{Event}
 use Rattle.script_session.specs.Stage.{Stage as TheStage, after, play}
 use Rattle.script_session.specs.Stands.{IsStage}
 use Rattle.script_session.specs.declared.stage.Stage.{Stage}

@@ -1,13 +1,13 @@
 -- What a line that is read comes to.
-use Rattle.std.proofs.Common.{◌≡◌, ℕ, Bool, false, cond, List, [], ◌++◌, Option, None, Some, Result, Ok, Err, append-nil, refl, sym, ap, subst, ◌∙◌}
+use Rattle.std.proofs.Common.{◌≡◌, ℕ, false, cond, List, [], Option, None, Some, Result, Ok, Err, append-nil, sym, ap, subst, ◌∙◌}
 use Rattle.script_lines.specs.Lines.{ReadsSome, line_says}
-use Rattle.script_lines.specs.Said.{Said, said}
+use Rattle.script_lines.specs.Said.{Said}
 use Rattle.script_lines.specs.declared.line.Line.{Line}
 use Rattle.script_lines.specs.declared.reading.MayCome.{MayCome}
 use Rattle.script_lines.specs.declared.reason.Reason.{Reason}
 use Rattle.script_session.proofs.Coming.{node_comes_early}
 use Rattle.script_session.proofs.Leading.{plays_opens}
-use Rattle.script_session.specs.Session.{State, Step, binds, does, is_taken, line_does, may_come, new_name, plays, says_does, starts}
+use Rattle.script_session.specs.Session.{State, binds, does, is_taken, line_does, may_come, new_name, plays, says_does, starts}
 use Rattle.script_session.specs.Stands.{IsOpening, IsState, Plays, Steps}
 use Rattle.script_session.specs.declared.made.Made.{Made}
 use Rattle.script_session.specs.declared.session.Session.{Session}

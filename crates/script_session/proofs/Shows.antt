@@ -5,7 +5,6 @@ use Rattle.std.proofs.lemmas.List.{append-nil}
 use Rattle.std.proofs.lemmas.List.Concat.{flat_map-append}
 use Rattle.dist_model.specs.Node.{Node as TheNode}
 use Rattle.erl_names.specs.Ids.{pid_of}
-use Rattle.erl_names.specs.Minted.{Minted}
 use Rattle.erl_term.specs.declared.term.Pid.{Pid}
 use Rattle.node_core.specs.Model.{model_of}
 use Rattle.node_core.specs.declared.node.Node.{Node}

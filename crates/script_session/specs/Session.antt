@@ -5,7 +5,7 @@ use Rattle.dist_model.specs.Dialing.{has_name}
 use Rattle.dist_model.specs.Names.{Name}
 use Rattle.dist_model.specs.Runs.{new_node, opening}
 use Rattle.dist_model.specs.Seen.{end_between}
-use Rattle.dist_model.specs.World.{Call, Dial, Event, Local, Start, Stop, Sweep, World}
+use Rattle.dist_model.specs.World.{Call, Dial, Local, Start, Stop, Sweep, World}
 use Rattle.dist_model.specs.declared.command.Command.{Command}
 use Rattle.dist_model.specs.declared.report.Answer.{Answer}
 use Rattle.erl_term.specs.Data.{Data, list, no_items}

@@ -1,6 +1,6 @@
 -- What a script plays on: its world, and what is printed of an event there.
 -- (ERTS User's Guide, Distribution Protocol; Reference Manual, Processes; Distributed Erlang.)
-use Rattle.std.specs.Prelude.{Option, None, Some, is_some, ℕ, ◌+◌, ◌%◌, ◌^◌, Bool, true, false, not, if◌then◌else◌, List, [], ◌∷◌, ◌++◌, map}
+use Rattle.std.specs.Prelude.{Some, is_some, ℕ, ◌+◌, ◌%◌, ◌^◌, Bool, true, false, not, if◌then◌else◌, List, [], ◌∷◌, ◌++◌, map}
 use Rattle.std.specs.List.{flat_map}
 use Rattle.dist_model.specs.Names.{Name}
 use Rattle.dist_model.specs.Seen.{side_of_trunk}

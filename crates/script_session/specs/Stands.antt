@@ -1,5 +1,5 @@
 -- What a stage and a session of code stand for, and what calls of them come to.
-use Rattle.std.specs.Prelude.{◌≡◌, false, ℕ, List, [], ◌++◌, Result, Ok, Err, string_bytes}
+use Rattle.std.specs.Prelude.{◌≡◌, false, ℕ, List, ◌++◌, Result, Ok, Err}
 use Rattle.dist_model.specs.Names.{Name}
 use Rattle.dist_model.specs.Runs.{opening}
 use Rattle.dist_model.specs.World.{Event, Refused, Report, Reported, World, step}

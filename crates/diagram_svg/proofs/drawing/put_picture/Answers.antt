@@ -1,4 +1,3 @@
-use Rattle.std.proofs.Common.{string_bytes}
 use Rattle.diagram_svg.proofs.Appending.{appends_whole}
 use Rattle.diagram_svg.proofs.drawing.put_picture.Goals as goal
 

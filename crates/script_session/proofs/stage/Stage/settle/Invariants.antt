@@ -1,4 +1,4 @@
-use Rattle.std.proofs.Common.{◌≤◌, string_bytes}
+use Rattle.std.proofs.Common.{string_bytes}
 use Rattle.script_session.specs.Stage.{Stage as TheStage}
 use Rattle.script_session.specs.Stands.{IsStage}
 use Rattle.script_session.proofs.Turning.{Going}

@@ -1,6 +1,4 @@
-use Rattle.std.proofs.Common.{rules, string_bytes}
-use Rattle.std.specs.List.{flat_map}
-use Rattle.script_session.specs.Stage.{sent_in}
+use Rattle.std.proofs.Common.{string_bytes}
 use Rattle.script_session.proofs.Stepping.{moved, printed}
 use Rattle.script_session.proofs.stage.Stage.step.Goals as goal
 
