@@ -10,12 +10,31 @@ use node_book::Book;
 use std::alloc::Global;
 use std::sync::{Mutex, MutexGuard, Wait};
 
-/// The book of a node under the node's own lock. No lock is over two nodes. What the book keeps holds
-/// whenever the lock is taken, and nothing else is known of it then.
+/// The book of a node under the node's own lock, until it is taken out. No lock is over two nodes. What
+/// the book keeps holds whenever the lock is taken, and nothing else is known of it then.
 #[derive(Drop)]
 pub struct NodeLock {
     place: usize,
-    book: Mutex<Book>,
+    book: Mutex<Option<Book>>,
+}
+
+// What a caller asks for, where the book is there.
+fn call_in(
+    alloc: Global,
+    book: &mut Option<Book>,
+    seat: &mut Seat,
+    act: Act,
+) -> Result<usize, Refusal>
+    ensures ok { IfOk result (Asks act seat.old seat.new) }
+    ensures err { IfErr result (λ _. IsSameSeat seat.old seat.new) }
+{
+    match book {
+        Some(book) => call(alloc, book, seat, act),
+        None => {
+            drop(act);
+            Err(Refusal::StrangeSeat)
+        }
+    }
 }
 
 impl NodeLock {
@@ -25,7 +44,7 @@ impl NodeLock {
     {
         NodeLock {
             place: book.place(),
-            book: Mutex::new(book),
+            book: Mutex::new(Some(book)),
         }
     }
 
@@ -41,7 +60,8 @@ impl NodeLock {
     /// told.
     ///
     /// # Errors
-    /// As those of [`call`]. Then the seat is as it was.
+    /// As those of [`call`]; and [`Refusal::StrangeSeat`] where the book was taken out. Then the seat is
+    /// as it was.
     pub fn call<R: Wait>(
         &self,
         rt: &R,
@@ -52,11 +72,16 @@ impl NodeLock {
         ensures ok { IfOk result (Asks act seat.old seat.new) }
         ensures err { IfErr result (λ _. IsSameSeat seat.old seat.new) }
     {
-        call(alloc, &mut self.book.lock(rt), seat, act)
+        call_in(alloc, &mut self.book.lock(rt), seat, act)
     }
 
-    /// Lends the book to the node's thread.
-    pub fn lock<R: Wait>(&self, rt: &R) -> MutexGuard<'_, Book> {
+    /// Lends the book to the node's thread, unless it was taken out.
+    pub fn lock<R: Wait>(&self, rt: &R) -> MutexGuard<'_, Option<Book>> {
         self.book.lock(rt)
+    }
+
+    /// Takes the book out, for good. Takes no memory.
+    pub fn take<R: Wait>(&self, rt: &R) -> Option<Book> {
+        self.book.lock(rt).take()
     }
 }

@@ -1,0 +1,102 @@
+-- What a node's book has may go to another thread, with the terms in it.
+use denote.Builtin
+use denote.Param.Send.{IsSend, IsSync, plain_send, recorded_send, recorded_sync, sendable, struct_send, struct_sync}
+use denote.RattleType.{RattleType}
+use denote.Struct.Declared.{shape}
+use Rattle.cluster_run.specs.contracts.desk.Desk as desk
+use Rattle.cluster_run.specs.contracts.desk.Shared as shared
+use Rattle.crossbeam_channel.proofs.channel.Sender.TheSendSync as sender
+use Rattle.crossbeam_channel.specs.contracts.channel.Sender as a_sender
+use Rattle.dist_model.proofs.links.Links.TheSendSync as links
+use Rattle.erl_handshake.proofs.cookie.Cookie.TheSendSync as cookie
+use Rattle.erl_names.proofs.name.NodeName.TheSendSync as name
+use Rattle.erl_names.specs.contracts.name.NodeName as a_name
+use Rattle.erl_names.proofs.trunk.TrunkId.TheSendSync as trunk
+use Rattle.erl_term.proofs.atom.Atom.TheSendSync as atom
+use Rattle.erl_term.proofs.refusal.Refusal.TheSendSync as refusal
+use Rattle.erl_term.proofs.term.Pid.TheSendSync as pid
+use Rattle.erl_term.proofs.term.Reference.TheSendSync as reference
+use Rattle.erl_term.proofs.term.Term.TheLaws.TheKnot
+use Rattle.erl_term.specs.contracts.payload.Payload as payload
+use Rattle.node_book.proofs.dialing.Left.TheSendSync as left
+use Rattle.node_book.proofs.outlet.Outlet.TheSendSync as outlet
+use Rattle.node_book.specs.contracts.book.Book as book
+use Rattle.node_history.specs.contracts.entry.Entry as entry
+use Rattle.node_history.specs.contracts.history.History as history
+use Rattle.node_lock.specs.contracts.lock.NodeLock as lock
+use Rattle.node_plans.proofs.frame.Frame.TheSendSync as frame
+use Rattle.std.below.std_heap.proofs.GlobalAllocator.TheSendSync as heap
+use Rattle.std.proofs.Crossing
+use Rattle.std.proofs.alloc.Global.TheSendSync as global
+use Rattle.std.proofs.sync.Arc.TheSendSync as arc
+use Rattle.std.proofs.sync.atomic.AtomicBool.TheSendSync as flag
+use Rattle.std.proofs.sync.atomic.AtomicU64.TheSendSync as number
+use Rattle.std.proofs.vec.Vec.TheSendSync as vec
+use Rattle.std.specs.contracts.alloc.Global as the_global
+use Rattle.std.specs.contracts.impls.GlobalAllocator.TheImpl
+use Rattle.std.specs.contracts.sync.Arc as an_arc
+use Rattle.wire_core.proofs.offer.Offer.TheSendSync as offer
+use Rattle.wire_core.specs.contracts.offer.Offer as an_offer
+
+payload_send : IsSend payload.the_row
+payload_send = search (Crossing.crosses, TheKnot.crosses, atom.the_send, pid.the_field_send, reference.the_field_send, sendable) depth 60 fits 20000
+
+entry_send : IsSend entry.the_row
+entry_send = search (payload_send, refusal.the_send, name.the_send, trunk.the_send, frame.the_send, links.the_send, Crossing.crosses, TheKnot.crosses, pid.the_field_send, reference.the_field_send, sendable) depth 60 fits 20000
+
+history_field : IsSend history.the_field.row
+history_field = search (entry_send, Crossing.crosses, TheKnot.crosses, atom.the_send, pid.the_field_send, reference.the_field_send, sendable) depth 60 fits 20000
+
+book_send : IsSend book.the_row
+book_send = search (history_field, name.the_send, cookie.the_send, outlet.the_send, left.the_send, Crossing.crosses, TheKnot.crosses, sendable) depth 60 fits 20000
+
+lock_send : IsSend (lock.the_field).row
+lock_send = search (book_send, Crossing.crosses, TheKnot.crosses, sendable) depth 60 fits 20000
+
+lock_sync : IsSync (lock.the_field).row
+lock_sync = search (book_send, Crossing.crosses, TheKnot.crosses, sendable) depth 60 fits 20000
+
+-- ---- what the threads share
+
+pub bell_send : IsSend (a_sender.the_row Builtin.unit the_global.the_row TheImpl.ghosts)
+bell_send = sender.the_send Builtin.unit the_global.the_row TheImpl.ghosts (plain_send _ _ _ _ _) global.the_send global.the_sync heap.the_frees
+
+bell_sync : IsSync (a_sender.the_row Builtin.unit the_global.the_row TheImpl.ghosts)
+bell_sync = sender.the_sync Builtin.unit the_global.the_row TheImpl.ghosts (plain_send _ _ _ _ _) global.the_send global.the_sync heap.the_frees
+
+box_send : IsSend (a_sender.the_row an_offer.the_row the_global.the_row TheImpl.ghosts)
+box_send = sender.the_send an_offer.the_row the_global.the_row TheImpl.ghosts offer.the_send global.the_send global.the_sync heap.the_frees
+
+box_sync : IsSync (a_sender.the_row an_offer.the_row the_global.the_row TheImpl.ghosts)
+box_sync = sender.the_sync an_offer.the_row the_global.the_row TheImpl.ghosts offer.the_send global.the_send global.the_sync heap.the_frees
+
+desk_send : IsSend desk.the_row
+desk_send = recorded_send (desk.the_field).row _ _ (desk.the_type).to_one (struct_send (shape desk.the_type) (lock_send, (bell_send, (box_send, (number.the_send, tt)))))
+
+desk_sync : IsSync desk.the_row
+desk_sync = recorded_sync (desk.the_field).row _ _ (desk.the_type).to_one (struct_sync (shape desk.the_type) (lock_sync, (bell_sync, (box_sync, (number.the_sync, tt)))))
+
+module _ (G : RattleType) where
+  shared_send : IsSend G → IsSend (shared.the_row G)
+  shared_send send = recorded_send (shared.the_field G).row _ _ (shared.the_type G).to_one
+      (struct_send (shape (shared.the_type G)) (
+        vec.the_send a_name.the_row the_global.the_row TheImpl.ghosts name.the_send global.the_send heap.the_frees,
+        (
+          vec.the_send desk.the_row the_global.the_row TheImpl.ghosts desk_send global.the_send heap.the_frees,
+          (number.the_send, (flag.the_field_send, (send, tt))),
+        ),
+      ))
+
+  shared_sync : IsSync G → IsSync (shared.the_row G)
+  shared_sync sync = recorded_sync (shared.the_field G).row _ _ (shared.the_type G).to_one
+      (struct_sync (shape (shared.the_type G)) (
+        vec.the_sync a_name.the_row the_global.the_row TheImpl.ghosts name.the_sync global.the_sync,
+        (
+          vec.the_sync desk.the_row the_global.the_row TheImpl.ghosts desk_sync global.the_sync,
+          (number.the_sync, (flag.the_field_sync, (sync, tt))),
+        ),
+      ))
+
+  pub arc_send : IsSend G → IsSync G → IsSend (an_arc.the_row (shared.the_row G) the_global.the_row TheImpl.ghosts)
+  arc_send send sync =
+      arc.the_send (shared.the_row G) the_global.the_row TheImpl.ghosts (shared_send send) global.the_send (shared_sync sync) global.the_sync heap.the_frees

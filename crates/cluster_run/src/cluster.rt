@@ -1,0 +1,371 @@
+//! The nodes of a world, and those who call them.
+ghost use Rattle.std.specs.Prelude.{◌≡◌, ◌<◌, ◌≤◌, IfErr, IfOk, [], length};
+ghost use Rattle.std.specs.Fn.{FnOnceReturnsAt};
+ghost use Rattle.cluster_run.specs.Finishing.{IsFinished};
+ghost use Rattle.cluster_run.specs.Starting.{IsNoThread, IsUnstarted};
+ghost use Rattle.erl_term.specs.declared.refusal.Refusal.TheVariants.{NothingThere};
+ghost use Rattle.node_core.specs.declared.node.Node.{Node as TheNode};
+ghost use Rattle.node_lock.specs.Calling.{Asks, IsSameSeat};
+
+use crate::desk::{Desk, Shared};
+use crate::gate::Gate;
+use crate::settling::{Settled, look};
+use crate::worker::{Worker, work};
+use crossbeam_channel::{Receiver, Sender, bounded, unbounded};
+use erl_handshake::Cookie;
+use erl_names::NodeName;
+use erl_term::Refusal;
+use joined_books::{FinishError, Trace, merge_books};
+use node_book::Book;
+use node_core::Node;
+use node_lock::{Act, Asked, NodeLock, Seat};
+use std::alloc::{AllocError, Global};
+use std::sync::atomic::{AtomicBool, AtomicU64, Ordering};
+use std::sync::{Arc, Wait};
+use std::thread;
+use std::thread::Threads;
+use wire_core::Offer;
+
+// What a node's thread is reached by.
+#[derive(Drop)]
+struct Ears {
+    ear: Receiver<()>,
+    offers: Receiver<Offer>,
+}
+
+/// The nodes of a world, each with a thread of its own. The threads go on until [`Cluster::finish`].
+/// Any thread may call the nodes by a reference to this.
+#[derive(Drop)]
+pub struct Cluster<G> {
+    alloc: Global,
+    count: usize,
+    shared: Arc<Shared<G>>,
+    // How many threads were started, and where each says that it has ended.
+    started: usize,
+    ended: Receiver<()>,
+}
+
+// A node's desk and what its thread is reached by.
+fn desk(alloc: Global, book: Book) -> Result<(Desk, Ears), AllocError> {
+    let (bell, ear) = bounded(alloc, 1)?;
+    let (box_for_offers, offers) = unbounded(alloc)?;
+    let desk = Desk {
+        lock: NodeLock::new(book),
+        bell,
+        box_for_offers,
+        shortages: AtomicU64::new(0),
+    };
+    Ok((desk, Ears { ear, offers }))
+}
+
+// The desks of all nodes.
+fn desks(
+    alloc: Global,
+    names: &[NodeName],
+    cookies: Vec<Cookie>,
+) -> Result<(Vec<Desk>, Vec<Ears>), AllocError> {
+    let mut desks = Vec::new(alloc);
+    let mut ears = Vec::new(alloc);
+    let mut place = 0usize;
+    for cookie in cookies {
+        if place >= names.len() {
+            break;
+        }
+        let mut own = Vec::new(alloc);
+        for name in names {
+            own.push(name.clone()?)?;
+        }
+        if place >= own.len() {
+            break;
+        }
+        let (desk, ear) = desk(alloc, Book::new(alloc, own, place, cookie)?)?;
+        desks.push(desk)?;
+        ears.push(ear)?;
+        place += 1;
+    }
+    Ok((desks, ears))
+}
+
+// Whether the receipt of a place says that it was done.
+fn is_done(seat: &Seat, place: &Result<usize, Refusal>) -> bool {
+    match place {
+        Ok(place) => match seat.receipts().get(*place) {
+            Some(Asked { receipt, .. }) => receipt.answer.is_ok(),
+            None => false,
+        },
+        Err(_) => false,
+    }
+}
+
+// Starts the thread of a node.
+fn start<R, G>(
+    rt: &R,
+    shared: &Arc<Shared<G>>,
+    end: &Sender<()>,
+    worker: Worker,
+) -> Result<(), Refusal>
+where
+    R: Threads + Wait + Copy + Send + Drop + 'static,
+    G: Gate + Send + Sync + Drop + 'static,
+    ensures { IfErr result IsNoThread }
+{
+    let shared = Arc::try_clone(shared)?;
+    let end = end.clone()?;
+    let own = *rt;
+    let thread = thread::spawn(rt, move || {
+        work(&own, &shared, worker);
+        drop(shared);
+        let _ = end.try_send(&own, ());
+    });
+    match thread {
+        Ok(_) => Ok(()),
+        Err(_) => Err(Refusal::NoThread),
+    }
+}
+
+// Starts the threads of all nodes, and tells how many, up to the first that can't be started.
+fn start_all<R, G>(
+    rt: &R,
+    alloc: Global,
+    shared: &Arc<Shared<G>>,
+    end: &Sender<()>,
+    ears: Vec<Ears>,
+    seed: u32,
+) -> (usize, Result<(), Refusal>)
+where
+    R: Threads + Wait + Copy + Send + Drop + 'static,
+    G: Gate + Send + Sync + Drop + 'static,
+    ensures { IfErr result.1 IsNoThread }
+{
+    let mut started = 0usize;
+    for Ears { ear, offers } in ears {
+        let worker = Worker::new(alloc, started, ear, offers, seed);
+        if let Err(e) = start(rt, shared, end, worker) {
+            return (started, Err(e));
+        }
+        started = started.wrapping_add(1);
+    }
+    (started, Ok(()))
+}
+
+impl<G: Gate + Send + Sync + Drop + 'static> Cluster<G> {
+    /// The nodes of these names, each with the cookie of its place, and their threads. Each runs, in its
+    /// first incarnation. Challenges are counted from 1. (Reference Manual, Distributed Erlang; ERTS
+    /// User's Guide, Distribution Protocol.)
+    ///
+    /// # Errors
+    /// [`Refusal::NothingThere`] where there isn't one cookie for each name; [`Refusal::OutOfMemory`]; and
+    /// [`Refusal::NoThread`] where a thread can't be started. Then those that were are joined.
+    pub fn new<R>(
+        rt: &R,
+        alloc: Global,
+        names: Vec<NodeName>,
+        cookies: Vec<Cookie>,
+        gate: G,
+    ) -> Result<Cluster<G>, Refusal>
+    where
+        R: Threads + Wait + Copy + Send + Drop + 'static,
+        ensures ok { IfOk result (λ cluster. cluster.count ≡ length names.items) }
+        ensures err { IfErr result (IsUnstarted (length names.items) (length cookies.items)) }
+    {
+        Cluster::new_seeded(rt, alloc, names, cookies, gate, 1)
+    }
+
+    /// The same, with challenges counted from a seed: at each node the word of a connection that is new
+    /// to it, where another node has dialed, is the seed, and then one more each time, modulo 2^32.
+    ///
+    /// # Errors
+    /// As those of [`Cluster::new`].
+    pub fn new_seeded<R>(
+        rt: &R,
+        alloc: Global,
+        names: Vec<NodeName>,
+        cookies: Vec<Cookie>,
+        gate: G,
+        seed: u32,
+    ) -> Result<Cluster<G>, Refusal>
+    where
+        R: Threads + Wait + Copy + Send + Drop + 'static,
+        ensures ok { IfOk result (λ cluster. cluster.count ≡ length names.items) }
+        ensures err { IfErr result (IsUnstarted (length names.items) (length cookies.items)) }
+    {
+        let count = names.len();
+        if cookies.len() != count {
+            return Err(Refusal::NothingThere);
+        }
+        let (desks, ears) = desks(alloc, &names, cookies)?;
+        let shared = Arc::new(
+            alloc,
+            Shared {
+                names,
+                desks,
+                on_their_way: AtomicU64::new(0),
+                is_over: AtomicBool::new(false),
+                gate,
+            },
+        )?;
+        let (end, ended) = bounded(alloc, count)?;
+        let (started, outcome) = start_all(rt, alloc, &shared, &end, ears, seed);
+        drop(end);
+        let cluster = Cluster {
+            alloc,
+            count,
+            shared,
+            started,
+            ended,
+        };
+        if let Err(e) = outcome {
+            cluster.halt(rt);
+            return Err(e);
+        }
+        Ok(cluster)
+    }
+
+    // Ends the threads. A handle of a thread can't be shared by threads, so none is kept: what a thread
+    // does last is to say that it has ended.
+    fn halt<R: Wait>(self, rt: &R) -> Arc<Shared<G>> {
+        let Cluster {
+            shared,
+            started,
+            ended,
+            ..
+        } = self;
+        shared.is_over.store(true, Ordering::SeqCst);
+        for desk in &shared.desks {
+            desk.ring(rt);
+        }
+        for _ in 0..started {
+            let _ = ended.recv(rt);
+        }
+        shared
+    }
+
+    /// A new seat at a node. Takes no memory.
+    ///
+    /// # Errors
+    /// [`Refusal::NothingThere`] where there is no such node.
+    pub fn seat(&self, node: usize) -> Result<Seat, Refusal>
+        ensures node { IfOk result (λ seat. seat.node ≡ node) }
+        ensures receipts { IfOk result (λ seat. seat.receipts.items ≡ []) }
+        ensures there { IfOk result (λ _. node < self.now.count) }
+        ensures err { IfErr result (λ e. (e ≡ NothingThere) × (self.now.count ≤ node)) }
+    {
+        if node < self.count {
+            Ok(Seat::new(self.alloc, node))
+        } else {
+            Err(Refusal::NothingThere)
+        }
+    }
+
+    /// What a caller asks for, at the node of its seat as that then is. The place of its receipt among
+    /// the seat's is told. (Reference Manual, Processes; ERTS User's Guide, Distribution Protocol.)
+    ///
+    /// # Errors
+    /// As those of [`NodeLock::call`]; and [`Refusal::StrangeSeat`] where there is no such node. Then the
+    /// seat is as it was.
+    pub fn call<R: Wait>(&self, rt: &R, seat: &mut Seat, act: Act) -> Result<usize, Refusal>
+        ensures ok { IfOk result (Asks act seat.old seat.new) }
+        ensures err { IfErr result (λ _. IsSameSeat seat.old seat.new) }
+    {
+        let Some(desk) = self.shared.desks.get(seat.node()) else {
+            drop(act);
+            return Err(Refusal::StrangeSeat);
+        };
+        let may_leave = matches!(&act, Act::Dial { .. });
+        if may_leave {
+            self.shared.leaves();
+        }
+        let place = desk.lock.call(rt, self.alloc, seat, act);
+        if may_leave && !is_done(seat, &place) {
+            self.shared.is_there();
+        }
+        desk.ring(rt);
+        place
+    }
+
+    /// What a function says of a node as it then is. The node's lock is held meanwhile.
+    ///
+    /// # Errors
+    /// [`Refusal::NothingThere`] where there is no such node.
+    pub fn look<R: Wait, A, F: FnOnce(&Node) -> A>(
+        &self,
+        rt: &R,
+        node: usize,
+        f: F,
+    ) -> Result<A, Refusal>
+        requires { F.IsAlwaysCallable f }
+        ensures ok { IfOk result (λ said. (node : TheNode) × FnOnceReturnsAt F.FnOnce f node said) }
+        ensures err { IfErr result (λ e. e ≡ NothingThere) }
+    {
+        let Some(desk) = self.shared.desks.get(node) else {
+            return Err(Refusal::NothingThere);
+        };
+        let guard = desk.lock.lock(rt);
+        match &*guard {
+            Some(book) => Ok(f(book.node())),
+            None => Err(Refusal::NothingThere),
+        }
+    }
+
+    /// How often a node's thread has found no memory for what it was to do, and tried again later.
+    pub fn shortages(&self, node: usize) -> u64 {
+        match self.shared.desks.get(node) {
+            Some(desk) => desk.shortages.load(Ordering::SeqCst),
+            None => 0,
+        }
+    }
+
+    /// Looks whether anything may still happen by itself, so many times at most: no offer of a connection
+    /// is on its way, no node has a signal to itself or something to sweep, and nothing waits on a side
+    /// that isn't lost or gone. It has settled where two looks, one behind the other, find so, and find as
+    /// many entries. Nothing is claimed of this.
+    pub fn settle<R: Wait>(&self, rt: &R, max_turns: u64) -> Settled {
+        let mut last = None;
+        for _ in 0..max_turns {
+            let found = look(rt, self.alloc, &self.shared);
+            if !found.is_busy && last == Some(found) {
+                return Settled::Settled;
+            }
+            last = Some(found);
+            thread::yield_now();
+        }
+        Settled::StillBusy
+    }
+
+    /// Ends the threads, and merges the books of all nodes, as [`merge_books`] does.
+    ///
+    /// # Errors
+    /// As those of [`merge_books`].
+    pub fn finish<R: Threads + Wait>(self, rt: &R, seats: Vec<Seat>) -> Result<Trace, FinishError>
+        ensures { IfOk result (λ trace. IsFinished self.count seats.items trace.entries.items) }
+    {
+        let alloc = self.alloc;
+        let count = self.count;
+        let shared = self.halt(rt);
+        let books = taken(rt, alloc, &shared, count)?;
+        merge_books(alloc, &books, &seats)
+    }
+}
+
+// The books, out of their locks.
+fn taken<R: Wait, G>(
+    rt: &R,
+    alloc: Global,
+    shared: &Shared<G>,
+    count: usize,
+) -> Result<Vec<Book>, FinishError>
+    ensures { IfOk result (λ books. length books.items ≡ count) }
+{
+    let mut books = Vec::new(alloc);
+    for node in 0..count {
+        let book = match shared.desks.get(node) {
+            Some(desk) => desk.lock.take(rt),
+            None => None,
+        };
+        match book {
+            Some(book) => books.push(book)?,
+            None => return Err(FinishError::StrangeBook { node }),
+        }
+    }
+    Ok(books)
+}

@@ -1,0 +1,189 @@
+//! Nodes to test, and what is asked of them.
+
+use cluster_run::{Cluster, Gate, Open, Settled};
+use dist_model::{Answer, Command};
+use erl_handshake::Cookie;
+use erl_names::{NodeName, TrunkId};
+use erl_term::{Payload, Pid, Refusal, Term};
+use joined_books::{Placed, Trace};
+use node_lock::{Act, Asked, Seat};
+use std::alloc::{AllocError, Global};
+use std::rt::Runtime;
+use std::sync::Wait;
+use std::thread::Threads;
+
+/// What the tests run on.
+pub trait Machine: Runtime + Threads + Wait + Copy + Send + Sync + 'static {}
+
+impl<R: Runtime + Threads + Wait + Copy + Send + Sync + 'static> Machine for R {}
+
+/// Nodes with no gate.
+pub type Nodes = Cluster<Open>;
+
+/// More looks than any test needs.
+pub const ENOUGH: u64 = 10_000_000;
+
+/// The name of the node at a place.
+pub fn name(place: usize) -> &'static str {
+    match place {
+        0 => "a@h",
+        1 => "b@h",
+        2 => "c@h",
+        _ => "d@h",
+    }
+}
+
+/// The nodes of the first so many names, at most four.
+pub fn cluster<R, G>(rt: &R, alloc: Global, count: usize, gate: G) -> Result<Cluster<G>, Refusal>
+where
+    R: Machine,
+    G: Gate + Send + Sync + Drop + 'static,
+{
+    let mut names = Vec::new(alloc);
+    let mut cookies = Vec::new(alloc);
+    for place in 0..count {
+        names.push(NodeName::read(alloc, name(place))?)?;
+        cookies.push(Cookie::new(Vec::from_slice(alloc, b"c")?))?;
+    }
+    Cluster::new(rt, alloc, names, cookies, gate)
+}
+
+/// What is asked by a seat, and whether the node did it.
+pub fn asks<R: Wait, G>(
+    rt: &R,
+    cluster: &Cluster<G>,
+    seat: &mut Seat,
+    act: Act,
+) -> Result<bool, Refusal>
+where
+    G: Gate + Send + Sync + Drop + 'static,
+{
+    let place = cluster.call(rt, seat, act)?;
+    Ok(match seat.receipts().get(place) {
+        Some(Asked { receipt, .. }) => receipt.answer.is_ok(),
+        None => false,
+    })
+}
+
+fn pid_told(seat: &Seat) -> Result<Option<Pid>, AllocError> {
+    match seat.last() {
+        Some(Asked { receipt, .. }) => match &receipt.answer {
+            Ok(report) => match &report.answer {
+                Answer::Pid(pid) => Ok(Some(pid.clone()?)),
+                _ => Ok(None),
+            },
+            Err(_) => Ok(None),
+        },
+        None => Ok(None),
+    }
+}
+
+/// A new process.
+pub fn spawned<R: Wait, G>(rt: &R, cluster: &Cluster<G>, seat: &mut Seat) -> Result<Pid, Refusal>
+where
+    G: Gate + Send + Sync + Drop + 'static,
+{
+    cluster.call(rt, seat, Act::Run(Command::Spawn))?;
+    pid_told(seat)?.ok_or(Refusal::NothingThere)
+}
+
+/// The node of the seat dials that of a place.
+pub fn dials<R: Wait, G>(
+    rt: &R,
+    alloc: Global,
+    cluster: &Cluster<G>,
+    seat: &mut Seat,
+    to: usize,
+) -> Result<bool, Refusal>
+where
+    G: Gate + Send + Sync + Drop + 'static,
+{
+    let peer = NodeName::read(alloc, name(to))?;
+    asks(rt, cluster, seat, Act::Dial { peer, word: 7 })
+}
+
+/// One process links another, or takes its link back.
+pub fn links<R: Wait, G>(
+    rt: &R,
+    cluster: &Cluster<G>,
+    seat: &mut Seat,
+    from: &Pid,
+    to: &Pid,
+    on: bool,
+) -> Result<bool, Refusal>
+where
+    G: Gate + Send + Sync + Drop + 'static,
+{
+    let from = from.clone()?;
+    let to = to.clone()?;
+    let command = if on {
+        Command::Link { from, to }
+    } else {
+        Command::Unlink { from, to }
+    };
+    asks(rt, cluster, seat, Act::Run(command))
+}
+
+/// A process sends a message to another.
+pub fn sends<R: Wait, G>(
+    rt: &R,
+    cluster: &Cluster<G>,
+    seat: &mut Seat,
+    from: &Pid,
+    to: &Pid,
+) -> Result<bool, Refusal>
+where
+    G: Gate + Send + Sync + Drop + 'static,
+{
+    let from = from.clone()?;
+    let to = to.clone()?;
+    let message = Payload::new(Term::Int(7));
+    asks(
+        rt,
+        cluster,
+        seat,
+        Act::Run(Command::Send { from, to, message }),
+    )
+}
+
+/// Whether the cluster comes to rest.
+pub fn settles<R: Wait, G>(rt: &R, cluster: &Cluster<G>) -> bool
+where
+    G: Gate + Send + Sync + Drop + 'static,
+{
+    cluster.settle(rt, ENOUGH) == Settled::Settled
+}
+
+/// Whether a node is connected to another on the connection that this node has dialed as so-manieth.
+pub fn is_up<R: Wait, G>(
+    rt: &R,
+    alloc: Global,
+    cluster: &Cluster<G>,
+    node: usize,
+    peer: usize,
+    dialed: (usize, u64),
+) -> Result<bool, Refusal>
+where
+    G: Gate + Send + Sync + Drop + 'static,
+{
+    let trunk = TrunkId {
+        dialer: NodeName::read(alloc, name(dialed.0))?,
+        count: dialed.1,
+    };
+    let peer = NodeName::read(alloc, name(peer))?;
+    cluster.look(rt, node, |node| node.route(peer.atom()) == Some(&trunk))
+}
+
+/// Whether entries stand by stamp and then by node, and those of each node in their order.
+pub fn is_ordered(trace: &Trace) -> bool {
+    let mut last: Option<Placed> = None;
+    for next in &trace.entries {
+        if let Some(last) = last {
+            if (last.stamp, last.node) >= (next.stamp, next.node) {
+                return false;
+            }
+        }
+        last = Some(*next);
+    }
+    true
+}
