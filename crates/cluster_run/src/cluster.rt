@@ -2,7 +2,7 @@
 ghost use Rattle.std.specs.Prelude.{◌≡◌, ◌<◌, ◌≤◌, IfErr, IfOk, [], length};
 ghost use Rattle.std.specs.Fn.{FnOnceReturnsAt};
 ghost use Rattle.cluster_run.specs.Finishing.{IsFinished};
-ghost use Rattle.cluster_run.specs.Starting.{IsNoThread, IsUnstarted};
+ghost use Rattle.cluster_run.specs.Starting.{IsNoThread, IsStarted, IsUnstarted};
 ghost use Rattle.erl_term.specs.declared.refusal.Refusal.TheVariants.{NothingThere};
 ghost use Rattle.node_core.specs.declared.node.Node.{Node as TheNode};
 ghost use Rattle.node_lock.specs.Calling.{Asks, IsSameSeat};
@@ -25,6 +25,7 @@ use std::sync::{Arc, Wait};
 use std::thread;
 use std::thread::Threads;
 use wire_core::Offer;
+use world_core::World;
 
 // What a node's thread is reached by.
 #[derive(Drop)]
@@ -33,12 +34,21 @@ struct Ears {
     offers: Receiver<Offer>,
 }
 
+/// What nodes in threads have come to, once all threads have ended.
+#[derive(Drop)]
+pub struct Finished {
+    /// All entries of all books, by stamp and then by node.
+    pub trace: Trace,
+    /// The book of each node, at its place.
+    pub books: Vec<Book>,
+}
+
 /// The nodes of a world, each with a thread of its own. The threads go on until [`Cluster::finish`].
 /// Any thread may call the nodes by a reference to this.
 #[derive(Drop)]
 pub struct Cluster<G> {
     alloc: Global,
-    count: usize,
+    nodes: Vec<(NodeName, Cookie)>,
     shared: Arc<Shared<G>>,
     // How many threads were started, and where each says that it has ended.
     started: usize,
@@ -58,30 +68,31 @@ fn desk(alloc: Global, book: Book) -> Result<(Desk, Ears), AllocError> {
     Ok((desk, Ears { ear, offers }))
 }
 
+// The names of all nodes.
+fn names_of(alloc: Global, nodes: &[(NodeName, Cookie)]) -> Result<Vec<NodeName>, AllocError> {
+    let mut names = Vec::new(alloc);
+    for (name, _) in nodes {
+        names.push(name.clone()?)?;
+    }
+    Ok(names)
+}
+
 // The desks of all nodes.
 fn desks(
     alloc: Global,
-    names: &[NodeName],
-    cookies: Vec<Cookie>,
+    nodes: &[(NodeName, Cookie)],
 ) -> Result<(Vec<Desk>, Vec<Ears>), AllocError> {
     let mut desks = Vec::new(alloc);
     let mut ears = Vec::new(alloc);
-    let mut place = 0usize;
-    for cookie in cookies {
+    for place in 0..nodes.len() {
+        let names = names_of(alloc, nodes)?;
         if place >= names.len() {
             break;
         }
-        let mut own = Vec::new(alloc);
-        for name in names {
-            own.push(name.clone()?)?;
-        }
-        if place >= own.len() {
-            break;
-        }
-        let (desk, ear) = desk(alloc, Book::new(alloc, own, place, cookie)?)?;
+        let (_, cookie) = &nodes[place];
+        let (desk, ear) = desk(alloc, Book::new(alloc, names, place, cookie.clone()?)?)?;
         desks.push(desk)?;
         ears.push(ear)?;
-        place += 1;
     }
     Ok((desks, ears))
 }
@@ -149,26 +160,25 @@ where
 }
 
 impl<G: Gate + Send + Sync + Drop + 'static> Cluster<G> {
-    /// The nodes of these names, each with the cookie of its place, and their threads. Each runs, in its
-    /// first incarnation. Challenges are counted from 1. (Reference Manual, Distributed Erlang; ERTS
-    /// User's Guide, Distribution Protocol.)
+    /// Nodes of these names and cookies, and their threads. Each runs, in its first incarnation.
+    /// Challenges are counted from 1. (Reference Manual, Distributed Erlang; ERTS User's Guide,
+    /// Distribution Protocol.)
     ///
     /// # Errors
-    /// [`Refusal::NothingThere`] where there isn't one cookie for each name; [`Refusal::OutOfMemory`]; and
-    /// [`Refusal::NoThread`] where a thread can't be started. Then those that were are joined.
+    /// [`Refusal::BadName`] where two nodes have one name; [`Refusal::OutOfMemory`]; and
+    /// [`Refusal::NoThread`] where a thread can't be started. Then those that were are ended.
     pub fn new<R>(
         rt: &R,
         alloc: Global,
-        names: Vec<NodeName>,
-        cookies: Vec<Cookie>,
+        nodes: Vec<(NodeName, Cookie)>,
         gate: G,
     ) -> Result<Cluster<G>, Refusal>
     where
         R: Threads + Wait + Copy + Send + Drop + 'static,
-        ensures ok { IfOk result (λ cluster. cluster.count ≡ length names.items) }
-        ensures err { IfErr result (IsUnstarted (length names.items) (length cookies.items)) }
+        ensures ok { IfOk result (λ cluster. IsStarted nodes.items cluster.nodes.items) }
+        ensures err { IfErr result (IsUnstarted nodes.items) }
     {
-        Cluster::new_seeded(rt, alloc, names, cookies, gate, 1)
+        Cluster::new_seeded(rt, alloc, nodes, gate, 1)
     }
 
     /// The same, with challenges counted from a seed: at each node the word of a connection that is new
@@ -179,21 +189,20 @@ impl<G: Gate + Send + Sync + Drop + 'static> Cluster<G> {
     pub fn new_seeded<R>(
         rt: &R,
         alloc: Global,
-        names: Vec<NodeName>,
-        cookies: Vec<Cookie>,
+        nodes: Vec<(NodeName, Cookie)>,
         gate: G,
         seed: u32,
     ) -> Result<Cluster<G>, Refusal>
     where
         R: Threads + Wait + Copy + Send + Drop + 'static,
-        ensures ok { IfOk result (λ cluster. cluster.count ≡ length names.items) }
-        ensures err { IfErr result (IsUnstarted (length names.items) (length cookies.items)) }
+        ensures ok { IfOk result (λ cluster. IsStarted nodes.items cluster.nodes.items) }
+        ensures err { IfErr result (IsUnstarted nodes.items) }
     {
-        let count = names.len();
-        if cookies.len() != count {
-            return Err(Refusal::NothingThere);
+        if !World::can_open(&nodes) {
+            return Err(Refusal::BadName);
         }
-        let (desks, ears) = desks(alloc, &names, cookies)?;
+        let names = names_of(alloc, &nodes)?;
+        let (desks, ears) = desks(alloc, &nodes)?;
         let shared = Arc::new(
             alloc,
             Shared {
@@ -204,12 +213,12 @@ impl<G: Gate + Send + Sync + Drop + 'static> Cluster<G> {
                 gate,
             },
         )?;
-        let (end, ended) = bounded(alloc, count)?;
+        let (end, ended) = bounded(alloc, nodes.len())?;
         let (started, outcome) = start_all(rt, alloc, &shared, &end, ears, seed);
         drop(end);
         let cluster = Cluster {
             alloc,
-            count,
+            nodes,
             shared,
             started,
             ended,
@@ -223,8 +232,11 @@ impl<G: Gate + Send + Sync + Drop + 'static> Cluster<G> {
 
     // Ends the threads. A handle of a thread can't be shared by threads, so none is kept: what a thread
     // does last is to say that it has ended.
-    fn halt<R: Wait>(self, rt: &R) -> Arc<Shared<G>> {
+    fn halt<R: Wait>(self, rt: &R) -> (Vec<(NodeName, Cookie)>, Arc<Shared<G>>)
+        ensures { result.0.items ≡ self.nodes.items }
+    {
         let Cluster {
+            nodes,
             shared,
             started,
             ended,
@@ -237,7 +249,7 @@ impl<G: Gate + Send + Sync + Drop + 'static> Cluster<G> {
         for _ in 0..started {
             let _ = ended.recv(rt);
         }
-        shared
+        (nodes, shared)
     }
 
     /// A new seat at a node. Takes no memory.
@@ -247,10 +259,10 @@ impl<G: Gate + Send + Sync + Drop + 'static> Cluster<G> {
     pub fn seat(&self, node: usize) -> Result<Seat, Refusal>
         ensures node { IfOk result (λ seat. seat.node ≡ node) }
         ensures receipts { IfOk result (λ seat. seat.receipts.items ≡ []) }
-        ensures there { IfOk result (λ _. node < self.now.count) }
-        ensures err { IfErr result (λ e. (e ≡ NothingThere) × (self.now.count ≤ node)) }
+        ensures there { IfOk result (λ _. node < length self.now.nodes.items) }
+        ensures err { IfErr result (λ e. (e ≡ NothingThere) × (length self.now.nodes.items ≤ node)) }
     {
-        if node < self.count {
+        if node < self.nodes.len() {
             Ok(Seat::new(self.alloc, node))
         } else {
             Err(Refusal::NothingThere)
@@ -332,18 +344,25 @@ impl<G: Gate + Send + Sync + Drop + 'static> Cluster<G> {
         Settled::StillBusy
     }
 
-    /// Ends the threads, and merges the books of all nodes, as [`merge_books`] does.
+    /// Ends the threads, and merges the books of all nodes, as [`merge_books`] does: the entries of all
+    /// books, by stamp and then by node, are one safe run of the model's world of the cluster's nodes,
+    /// from its opening, and the receipts of the seats are the acts that were entered. The books are
+    /// given too.
     ///
     /// # Errors
     /// As those of [`merge_books`].
-    pub fn finish<R: Threads + Wait>(self, rt: &R, seats: Vec<Seat>) -> Result<Trace, FinishError>
-        ensures { IfOk result (λ trace. IsFinished self.count seats.items trace.entries.items) }
+    pub fn finish<R: Threads + Wait>(
+        self,
+        rt: &R,
+        seats: Vec<Seat>,
+    ) -> Result<Finished, FinishError>
+        ensures { IfOk result (λ it. IsFinished self.nodes.items it.books.items seats.items it.trace.entries.items) }
     {
         let alloc = self.alloc;
-        let count = self.count;
-        let shared = self.halt(rt);
-        let books = taken(rt, alloc, &shared, count)?;
-        merge_books(alloc, &books, &seats)
+        let (nodes, shared) = self.halt(rt);
+        let books = taken(rt, alloc, &shared, nodes.len())?;
+        let trace = merge_books(alloc, &nodes, &books, &seats)?;
+        Ok(Finished { trace, books })
     }
 }
 
@@ -353,9 +372,7 @@ fn taken<R: Wait, G>(
     alloc: Global,
     shared: &Shared<G>,
     count: usize,
-) -> Result<Vec<Book>, FinishError>
-    ensures { IfOk result (λ books. length books.items ≡ count) }
-{
+) -> Result<Vec<Book>, FinishError> {
     let mut books = Vec::new(alloc);
     for node in 0..count {
         let book = match shared.desks.get(node) {

@@ -16,6 +16,6 @@ mod settling;
 mod turn;
 mod worker;
 
-pub use cluster::Cluster;
+pub use cluster::{Cluster, Finished};
 pub use gate::{Gate, Open};
 pub use settling::Settled;

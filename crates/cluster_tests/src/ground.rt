@@ -33,19 +33,23 @@ pub fn name(place: usize) -> &'static str {
     }
 }
 
+/// A node of this name and of the cookie `c`.
+pub fn named(alloc: Global, name: &str) -> Result<(NodeName, Cookie), Refusal> {
+    let name = NodeName::read(alloc, name)?;
+    Ok((name, Cookie::new(Vec::from_slice(alloc, b"c")?)))
+}
+
 /// The nodes of the first so many names, at most four.
 pub fn cluster<R, G>(rt: &R, alloc: Global, count: usize, gate: G) -> Result<Cluster<G>, Refusal>
 where
     R: Machine,
     G: Gate + Send + Sync + Drop + 'static,
 {
-    let mut names = Vec::new(alloc);
-    let mut cookies = Vec::new(alloc);
+    let mut nodes = Vec::new(alloc);
     for place in 0..count {
-        names.push(NodeName::read(alloc, name(place))?)?;
-        cookies.push(Cookie::new(Vec::from_slice(alloc, b"c")?))?;
+        nodes.push(named(alloc, name(place))?)?;
     }
-    Cluster::new(rt, alloc, names, cookies, gate)
+    Cluster::new(rt, alloc, nodes, gate)
 }
 
 /// What is asked by a seat, and whether the node did it.

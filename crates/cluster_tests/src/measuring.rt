@@ -3,7 +3,7 @@
 use crate::ground::{Machine, Nodes, cluster, dials, sends, settles, spawned};
 use crate::stories::Wrong;
 use anyhow::Result;
-use cluster_run::Open;
+use cluster_run::{Finished, Open};
 use erl_term::{Pid, Refusal};
 use node_lock::Seat;
 use std::alloc::Global;
@@ -113,7 +113,7 @@ fn measure_in<R: Machine>(rt: &R, alloc: Global, count: usize) -> Result<bool> {
     let outcome = cluster.finish(rt, seats);
     let finished = start.elapsed(rt)?;
     let entries = match &outcome {
-        Ok(trace) => trace.entries.len() as u64,
+        Ok(Finished { trace, .. }) => trace.entries.len() as u64,
         Err(_) => 0,
     };
     let rate = a_second(u64::from(done), called);

@@ -1,14 +1,13 @@
 //! What nodes in threads come to.
 
 use crate::ground::{
-    Machine, Nodes, asks, cluster, dials, is_ordered, is_up, links, sends, settles, spawned,
+    Machine, Nodes, asks, cluster, dials, is_ordered, is_up, links, named, sends, settles, spawned,
 };
 use crate::meeting::{Meet, Meeting};
 use crate::walking::walk;
 use anyhow::Result;
-use cluster_run::{Cluster, Open, Settled};
+use cluster_run::{Cluster, Finished, Open, Settled};
 use dist_model::Command;
-use erl_handshake::Cookie;
 use erl_names::{NodeName, TrunkId};
 use erl_term::{Pid, Refusal};
 use joined_books::{FinishError, Trace};
@@ -112,7 +111,7 @@ fn finishes<R: Machine>(rt: &R, alloc: Global, two: Two) -> Result<Trace, Wrong>
 
 fn finish_with<R: Machine>(rt: &R, cluster: Nodes, seats: Vec<Seat>) -> Result<Trace, Wrong> {
     match cluster.finish(rt, seats) {
-        Ok(trace) => Ok(trace),
+        Ok(Finished { trace, .. }) => Ok(trace),
         Err(FinishError::OutOfMemory) => Err(Wrong::NoMemoryToMerge),
         Err(_) => Err(Wrong::Unmerged),
     }
@@ -245,7 +244,7 @@ fn seat_left_out<R: Machine>(rt: &R, alloc: Global) -> Result<(), Wrong> {
     )
 }
 
-/// There is no node past the last one, and each name wants a cookie.
+/// There is no node past the last one, and no two have one name.
 fn no_such_node<R: Machine>(rt: &R, alloc: Global) -> Result<(), Wrong> {
     let cluster = cluster(rt, alloc, 1, Open)?;
     check(10, matches!(cluster.seat(1), Err(Refusal::NothingThere)))?;
@@ -262,11 +261,11 @@ fn no_such_node<R: Machine>(rt: &R, alloc: Global) -> Result<(), Wrong> {
     check(14, cluster.settle(rt, 0) == Settled::StillBusy)?;
     drop(seat);
     finish_with(rt, cluster, Vec::new(alloc))?;
-    let mut names = Vec::new(alloc);
-    names.push(NodeName::read(alloc, "a@h")?)?;
-    let cookies: Vec<Cookie> = Vec::new(alloc);
-    let none = Cluster::new(rt, alloc, names, cookies, Open);
-    check(15, matches!(&none, Err(Refusal::NothingThere)))
+    let mut nodes = Vec::new(alloc);
+    nodes.push(named(alloc, "a@h")?)?;
+    nodes.push(named(alloc, "a@h")?)?;
+    let none = Cluster::new(rt, alloc, nodes, Open);
+    check(15, matches!(&none, Err(Refusal::BadName)))
 }
 
 /// Two nodes' threads are within their events at the same time.
@@ -286,7 +285,7 @@ fn two_nodes_at_once<R: Machine>(rt: &R, alloc: Global) -> Result<(), Wrong> {
     check(11, settles(rt, &cluster))?;
     check(12, meeting.have_met())?;
     match cluster.finish(rt, seats) {
-        Ok(trace) => check(13, trace.entries.len() == 6 && is_ordered(&trace)),
+        Ok(Finished { trace, .. }) => check(13, trace.entries.len() == 6 && is_ordered(&trace)),
         Err(_) => Err(Wrong::Unmerged),
     }
 }

@@ -4,7 +4,7 @@ use crate::ground::{Machine, Nodes, cluster, is_ordered, name, settles};
 use crate::random::Random;
 use crate::stories::Wrong;
 use anyhow::Result;
-use cluster_run::Open;
+use cluster_run::{Finished, Open};
 use dist_model::Command;
 use erl_names::{NodeName, TrunkId};
 use erl_term::{Atom, Payload, Pid, Refusal, Term};
@@ -34,7 +34,7 @@ fn process<R: Wait>(
     random: &mut Random,
 ) -> Result<(usize, Pid), Refusal> {
     let place = random.below(NODES);
-    let back = random.below(LAST) as u32;
+    let back = u32::try_from(random.below(LAST)).unwrap_or(0);
     let (creation, spawned) = cluster.look(rt, place, |node| (node.creation(), node.spawned()))?;
     let id = spawned.saturating_sub(back).max(1);
     let text = String::from_str(alloc, name(place))?;
@@ -97,7 +97,7 @@ fn act<R: Wait>(
         0..=79 => Ok((place, Act::Run(Command::Spawn))),
         80..=119 => {
             let peer = NodeName::read(alloc, name(random.below(NODES)))?;
-            let word = random.below(1000) as u32;
+            let word = u32::try_from(random.below(1000)).unwrap_or(0);
             Ok((place, Act::Dial { peer, word }))
         }
         120..=123 => Ok((place, Act::Lose(trunk(alloc, random)?))),
@@ -204,7 +204,7 @@ pub fn walk<R: Machine>(rt: &R, alloc: Global, seed: u64, count: u64) -> Result<
         }
     }
     let trace = match cluster.finish(rt, seats) {
-        Ok(trace) => trace,
+        Ok(Finished { trace, .. }) => trace,
         Err(_) => return Err(Wrong::Unmerged),
     };
     if !is_settled {

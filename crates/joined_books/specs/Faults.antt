@@ -1,6 +1,7 @@
 -- Why books and seats don't join.
 use Rattle.std.specs.Prelude.{List}
-use Rattle.joined_books.specs.Names.{AllInPlace, IsStrangeBook}
+use Rattle.dist_books.specs.Acting.{Nodes}
+use Rattle.joined_books.specs.Names.{AreInPlace, IsStrangeBook}
 use Rattle.joined_books.specs.Receipts.{AllStand, IsMissing, IsStrangeReceipt}
 use Rattle.joined_books.specs.Wires.{AreWhole, IsTorn}
 use Rattle.joined_books.specs.declared.error.FinishError.{FinishError}
@@ -9,9 +10,9 @@ use Rattle.node_book.specs.Seen.{BookSeen}
 use Rattle.node_lock.specs.declared.seat.Seat.{Seat}
 
 -- What is wrong is where the error says, and what is looked at before is in order.
-abbrev pub IsFault : List BookSeen → List Seat → FinishError → Type 0
-IsFault books seats (StrangeBook node) = IsStrangeBook books node
-IsFault books seats (Torn trunk seq) = AllInPlace books × IsTorn books trunk seq
-IsFault books seats (StrangeReceipt node position) = AllInPlace books × AreWhole books × IsStrangeReceipt books seats node position
-IsFault books seats (SeatsMissing node) = AllInPlace books × AreWhole books × AllStand books seats × IsMissing books seats node
-IsFault books seats OutOfMemory = Unit {0}
+abbrev pub IsFault : Nodes → List BookSeen → List Seat → FinishError → Type 0
+IsFault nodes books seats (StrangeBook node) = IsStrangeBook nodes books node
+IsFault nodes books seats (Torn trunk seq) = AreInPlace nodes books × IsTorn books trunk seq
+IsFault nodes books seats (StrangeReceipt node position) = AreInPlace nodes books × AreWhole books × IsStrangeReceipt books seats node position
+IsFault nodes books seats (SeatsMissing node) = AreInPlace nodes books × AreWhole books × AllStand books seats × IsMissing books seats node
+IsFault nodes books seats OutOfMemory = Unit {0}

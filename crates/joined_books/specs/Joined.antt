@@ -25,9 +25,8 @@ pub record Shows (books : List BookSeen) (nodes : Nodes) (placed : Placed) (of :
   pub there : slice_get (entries_at books placed.node) placed.position ≡ Some entry
   pub tells : TellsEntry (name_at nodes placed.node) entry of.1
 
--- they are one run of the world, from its opening to the world of the books' nodes, and it is safe at each moment
-pub record AreARun (books : List BookSeen) (entries : List Placed) : Type 0 where
-  pub nodes : Nodes
+-- they are one run of the world of these nodes, from its opening to the world of the books, and it is safe at each moment
+pub record AreARun (nodes : Nodes) (books : List BookSeen) (entries : List Placed) : Type 0 where
   pub models : List Book
   pub merged : List model.Placed
   pub one_each : length nodes ≡ length books

@@ -1,26 +1,28 @@
 -- Books that are of the nodes of one world, each at its place.
-use Rattle.std.specs.Prelude.{◌≡◌, ◌≢◌, ℕ, ◌<◌, List, [], length, slice_index_or}
-use Rattle.dist_model.specs.Names.{Name}
+use Rattle.std.specs.Prelude.{◌≡◌, ◌≢◌, ◌⊎◌, ℕ, ◌<◌, List, [], length, slice_index_or}
+use Rattle.dist_books.specs.Acting.{Nodes, name_at, names_of}
 use Rattle.joined_books.specs.Each.{AllAt}
-use Rattle.joined_books.specs.Parts.{part_at}
 use Rattle.node_book.specs.Seen.{BookSeen}
 
--- the names that the first book has
-abbrev pub names_in : List BookSeen → List Name
-names_in books = part_at (λ book. book.names) books 0
-
--- the book is of the node at this place, of so many nodes of these names, and none before has its name
-pub record IsInPlace (names : List Name) (count k : ℕ) (book : BookSeen) : Type 0 where
+-- of these nodes the book is of the one at this place: it has its cookie, and the names of all; and none before has its name
+pub record IsInPlace (nodes : Nodes) (k : ℕ) (book : BookSeen) : Type 0 where
+  pub within : k < length nodes
   pub place : book.place ≡ k
-  pub names_are : book.names ≡ names
-  pub one_each : length names ≡ count
-  pub once : (j : ℕ) → j < k → slice_index_or names j [] ≢ slice_index_or names k []
+  pub names : book.names ≡ names_of nodes
+  pub cookie : book.cookie ≡ (slice_index_or nodes k ([], [])).1
+  pub once : (j : ℕ) → j < k → name_at nodes j ≢ name_at nodes k
 
-abbrev pub AllInPlace : List BookSeen → Type 0
-AllInPlace books = AllAt (IsInPlace (names_in books) (length books)) books
+-- each book is, and each node has one
+pub record AreInPlace (nodes : Nodes) (books : List BookSeen) : Type 0 where
+  pub each : AllAt (IsInPlace nodes) books
+  pub one_each : length books ≡ length nodes
 
-pub record IsStrangeBook (books : List BookSeen) (k : ℕ) : Type 0 where
+pub record IsOutOfPlace (nodes : Nodes) (books : List BookSeen) (k : ℕ) : Type 0 where
   pub book : BookSeen
   pub within : k < length books
   pub is : slice_index_or books k book ≡ book
-  pub strange : IsInPlace (names_in books) (length books) k book → ⊥
+  pub strange : IsInPlace nodes k book → ⊥
+
+-- the book at this place isn't that of the node there, or the node there is the first that has none
+abbrev pub IsStrangeBook : Nodes → List BookSeen → ℕ → Type 0
+IsStrangeBook nodes books k = IsOutOfPlace nodes books k ⊎ ((k ≡ length books) × (length books < length nodes))

@@ -9,11 +9,11 @@ use thiserror::Error;
 /// Why books and seats don't join. Nodes and positions are counted from 0.
 #[derive(Debug, Drop, Error)]
 pub enum FinishError {
-    /// The book at this place isn't of the node of this place, its list of names isn't that of the first
-    /// book with one name a book, or a book before has its name.
+    /// The book at this place isn't that of the node there: its name, its cookie or its list of names is
+    /// another, or a node before has its name. Or the node at this place is the first that has no book.
     #[error("23 StrangeBook {node}")]
     StrangeBook {
-        /// The place among the books.
+        /// The place among the books, and the nodes.
         node: usize,
     },
     /// What one node took of a connection isn't what the other has put on it.

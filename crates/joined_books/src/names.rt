@@ -1,68 +1,63 @@
 //! Whether books are of the nodes of one world.
-ghost use Rattle.std.specs.Prelude.{◌≡◌, ◌≢◌, ◌↔◌, ℕ, ◌<◌, [], IsTrue, MatchOption, length, slice_index_or};
-ghost use Rattle.joined_books.specs.Names.{AllInPlace, IsInPlace, IsStrangeBook, names_in};
+ghost use Rattle.std.specs.Prelude.{◌≡◌, ◌≢◌, ◌↔◌, ℕ, ◌<◌, IsTrue, MatchOption, length};
+ghost use Rattle.dist_books.specs.Acting.{name_at, names_of};
+ghost use Rattle.joined_books.specs.Names.{AreInPlace, IsInPlace, IsStrangeBook};
 
+use erl_handshake::Cookie;
 use erl_names::NodeName;
 use node_book::Book;
 use node_plans::same_name;
 
-// Whether two lists have the same names.
-fn same_names(a: &[NodeName], b: &[NodeName]) -> bool
-    ensures { IsTrue result ↔ (a.now ≡ b.now) }
+// Whether these are the names of the nodes.
+fn are_names(names: &[NodeName], nodes: &[(NodeName, Cookie)]) -> bool
+    ensures { IsTrue result ↔ (names.now ≡ names_of nodes.now) }
 {
-    if a.len() != b.len() {
+    if names.len() != nodes.len() {
         return false;
     }
-    for place in 0..a.len() {
-        if !same_name(a[place].atom(), b[place].atom()) {
+    for place in 0..names.len() {
+        if !same_name(names[place].atom(), nodes[place].0.atom()) {
             return false;
         }
     }
     true
 }
 
-// Whether no name before a place is the one there.
-fn is_new(names: &[NodeName], place: usize) -> bool
-    requires { place < length names.now }
-    ensures { IsTrue result ↔ ((j : ℕ) → j < place → slice_index_or names.now j [] ≢ slice_index_or names.now place []) }
+// Whether no node before a place has the name of the one there.
+fn is_new(nodes: &[(NodeName, Cookie)], place: usize) -> bool
+    requires { place < length nodes.now }
+    ensures { IsTrue result ↔ ((j : ℕ) → j < place → name_at nodes.now j ≢ name_at nodes.now place) }
 {
     for other in 0..place {
-        if same_name(names[other].atom(), names[place].atom()) {
+        if same_name(nodes[other].0.atom(), nodes[place].0.atom()) {
             return false;
         }
     }
     true
 }
 
-// Whether a book is of the node at this place, of so many nodes of these names.
-fn is_in_place(names: &[NodeName], count: usize, place: usize, book: &Book) -> bool
-    requires { place < count }
-    ensures { IsTrue result ↔ IsInPlace names.now count place book.now }
+// Whether a book is of the node at this place.
+fn is_in_place(nodes: &[(NodeName, Cookie)], place: usize, book: &Book) -> bool
+    ensures { IsTrue result ↔ IsInPlace nodes.now place book.now }
 {
-    book.place() == place
-        && same_names(book.names(), names)
-        && names.len() == count
-        && is_new(names, place)
+    place < nodes.len()
+        && book.place() == place
+        && are_names(book.names(), nodes)
+        && book.cookie().as_slice() == nodes[place].1.as_slice()
+        && is_new(nodes, place)
 }
 
-// The names that the first book has.
-fn names_in(books: &[Book]) -> &[NodeName]
-    ensures { result.now ≡ names_in books.now }
-{
-    match books.first() {
-        Some(book) => book.names(),
-        None => &[],
-    }
-}
-
-/// The place of the first book that isn't of the node there.
-pub(crate) fn strange_book(books: &[Book]) -> Option<usize>
-    ensures { MatchOption result (AllInPlace books.now) (IsStrangeBook books.now) }
+/// The place of the first book that isn't of the node there, or else of the first node that has no book.
+pub(crate) fn strange_book(nodes: &[(NodeName, Cookie)], books: &[Book]) -> Option<usize>
+    ensures { MatchOption result (AreInPlace nodes.now books.now) (IsStrangeBook nodes.now books.now) }
 {
     for place in 0..books.len() {
-        if !is_in_place(names_in(books), books.len(), place, &books[place]) {
+        if !is_in_place(nodes, place, &books[place]) {
             return Some(place);
         }
+    }
+    if books.len() < nodes.len() {
+        return Some(books.len());
     }
     None
 }

@@ -1,8 +1,9 @@
 //! Whether receipts are the acts of books.
 ghost use Rattle.std.specs.Prelude.{◌≡◌, ◌⊎◌, ◌↔◌, ◌++◌, ◌<◌, ◌≤◌, ◌^◌, ℕ, All, Bool, List, [], IfErr, IfOk, IsTrue, MatchOption, false, length, count_by, slice_index_or, slice_set, true};
+ghost use Rattle.dist_books.specs.Acting.{Nodes};
 ghost use Rattle.joined_books.specs.Faults.{IsFault};
 ghost use Rattle.joined_books.specs.Marks.{AreMarked, IsStrange};
-ghost use Rattle.joined_books.specs.Names.{AllInPlace};
+ghost use Rattle.joined_books.specs.Names.{AreInPlace};
 ghost use Rattle.joined_books.specs.Parts.{entries_at};
 ghost use Rattle.joined_books.specs.Receipts.{AllStand, AreReceipts, IsShort, StandAll, StandsIn, own_receipts, position_of, receipts_of};
 ghost use Rattle.joined_books.specs.Wires.{AreWhole};
@@ -84,7 +85,7 @@ fn strange_one(
 // Whether the receipts of all seats stand, each at another position.
 fn check_nodes(alloc: Global, books: &[Book], seats: &[Seat]) -> Result<(), FinishError>
     ensures ok { IfOk result (λ _. (node : ℕ) → node < length books.now → StandAll books.now seats.now node) }
-    ensures err { IfErr result (λ e. AllInPlace books.now → AreWhole books.now → IsFault books.now seats.now e) }
+    ensures err { IfErr result (λ e. (opening : Nodes) → AreInPlace opening books.now → AreWhole books.now → IsFault opening books.now seats.now e) }
 {
     for node in 0..books.len() {
         match strange_one(alloc, node, books[node].entries(), seats)? {
@@ -98,7 +99,7 @@ fn check_nodes(alloc: Global, books: &[Book], seats: &[Seat]) -> Result<(), Fini
 // Whether no seat of a node that there isn't has a receipt.
 fn check_seats(books: &[Book], seats: &[Seat]) -> Result<(), FinishError>
     ensures ok { IfOk result (λ _. All (λ seat. length books.now ≤ seat.node → seat.receipts.items ≡ []) seats.now) }
-    ensures err { IfErr result (λ e. AllInPlace books.now → AreWhole books.now → IsFault books.now seats.now e) }
+    ensures err { IfErr result (λ e. (opening : Nodes) → AreInPlace opening books.now → AreWhole books.now → IsFault opening books.now seats.now e) }
 {
     for seat in seats {
         if seat.node() >= books.len() {
@@ -154,8 +155,8 @@ fn is_short(node: usize, entries: &[Entry], seats: &[Seat]) -> bool
 fn check_counts(books: &[Book], seats: &[Seat]) -> Result<(), FinishError>
     ensures ok { IfOk result (λ _. (node : ℕ) → node < length books.now →
         IsShort (entries_at books.now node) (receipts_of node seats.now) → ⊥) }
-    ensures err { IfErr result (λ e. AllInPlace books.now → AreWhole books.now → AllStand books.now seats.now →
-        IsFault books.now seats.now e) }
+    ensures err { IfErr result (λ e. (opening : Nodes) → AreInPlace opening books.now → AreWhole books.now → AllStand books.now seats.now →
+        IsFault opening books.now seats.now e) }
 {
     for node in 0..books.len() {
         if is_short(node, books[node].entries(), seats) {
@@ -178,7 +179,7 @@ pub(crate) fn check_receipts(
     seats: &[Seat],
 ) -> Result<(), FinishError>
     ensures ok { IfOk result (λ _. AreReceipts books.now seats.now) }
-    ensures err { IfErr result (λ e. AllInPlace books.now → AreWhole books.now → IsFault books.now seats.now e) }
+    ensures err { IfErr result (λ e. (opening : Nodes) → AreInPlace opening books.now → AreWhole books.now → IsFault opening books.now seats.now e) }
 {
     check_nodes(alloc, books, seats)?;
     check_seats(books, seats)?;

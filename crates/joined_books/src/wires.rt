@@ -1,8 +1,9 @@
 //! Whether wires agree.
 ghost use Rattle.std.specs.Prelude.{◌≡◌, ◌↔◌, IfErr, IfOk, IsTrue, List, MatchOption, Some};
 ghost use Rattle.std.specs.Option.{option_copied, option_map};
+ghost use Rattle.dist_books.specs.Acting.{Nodes};
 ghost use Rattle.joined_books.specs.Faults.{IsFault};
-ghost use Rattle.joined_books.specs.Names.{AllInPlace};
+ghost use Rattle.joined_books.specs.Names.{AreInPlace};
 ghost use Rattle.joined_books.specs.Parcels.{Begins, IsTornAt, said};
 ghost use Rattle.joined_books.specs.Wires.{AreWhole, IsTornIn, IsWholeAt, put_to, put_towards};
 ghost use Rattle.node_lock.specs.declared.seat.Seat.{Seat as TheSeat};
@@ -94,7 +95,7 @@ fn tear_at<'a>(books: &[Book], book: &'a Book) -> Option<Tear<'a>>
 /// there is no memory to tell of which connection.
 pub(crate) fn check_wires(books: &[Book]) -> Result<(), FinishError>
     ensures ok { IfOk result (λ _. AreWhole books.now) }
-    ensures err { IfErr result (λ e. (seats : List TheSeat) → AllInPlace books.now → IsFault books.now seats e) }
+    ensures err { IfErr result (λ e. (opening : Nodes) (seats : List TheSeat) → AreInPlace opening books.now → IsFault opening books.now seats e) }
 {
     for book in books {
         if let Some(Tear { trunk, seq }) = tear_at(books, book) {
