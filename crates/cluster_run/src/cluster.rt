@@ -8,6 +8,7 @@ ghost use Rattle.node_core.specs.declared.node.Node.{Node as TheNode};
 ghost use Rattle.node_lock.specs.Calling.{Asks, IsSameSeat};
 
 use crate::desk::{Desk, Shared};
+use crate::finished::Finished;
 use crate::gate::Gate;
 use crate::settling::{Settled, look};
 use crate::worker::{Worker, work};
@@ -15,7 +16,7 @@ use crossbeam_channel::{Receiver, Sender, bounded, unbounded};
 use erl_handshake::Cookie;
 use erl_names::NodeName;
 use erl_term::Refusal;
-use joined_books::{FinishError, Trace, merge_books};
+use joined_books::{FinishError, merge_books};
 use node_book::Book;
 use node_core::Node;
 use node_lock::{Act, Asked, NodeLock, Seat};
@@ -32,15 +33,6 @@ use world_core::World;
 struct Ears {
     ear: Receiver<()>,
     offers: Receiver<Offer>,
-}
-
-/// What nodes in threads have come to, once all threads have ended.
-#[derive(Drop)]
-pub struct Finished {
-    /// All entries of all books, by stamp and then by node.
-    pub trace: Trace,
-    /// The book of each node, at its place.
-    pub books: Vec<Book>,
 }
 
 /// The nodes of a world, each with a thread of its own. The threads go on until [`Cluster::finish`].
@@ -356,13 +348,17 @@ impl<G: Gate + Send + Sync + Drop + 'static> Cluster<G> {
         rt: &R,
         seats: Vec<Seat>,
     ) -> Result<Finished, FinishError>
-        ensures { IfOk result (λ it. IsFinished self.nodes.items it.books.items seats.items it.trace.entries.items) }
+        ensures { IfOk result (λ it. (it.nodes.items ≡ self.nodes.items) × IsFinished self.nodes.items it.books.items seats.items it.trace.entries.items) }
     {
         let alloc = self.alloc;
         let (nodes, shared) = self.halt(rt);
         let books = taken(rt, alloc, &shared, nodes.len())?;
         let trace = merge_books(alloc, &nodes, &books, &seats)?;
-        Ok(Finished { trace, books })
+        Ok(Finished {
+            nodes,
+            books,
+            trace,
+        })
     }
 }
 

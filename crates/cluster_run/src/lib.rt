@@ -11,11 +11,13 @@
 mod books;
 mod cluster;
 mod desk;
+mod finished;
 mod gate;
 mod settling;
 mod turn;
 mod worker;
 
-pub use cluster::{Cluster, Finished};
+pub use cluster::Cluster;
+pub use finished::Finished;
 pub use gate::{Gate, Open};
 pub use settling::Settled;

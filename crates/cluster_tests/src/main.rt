@@ -9,6 +9,7 @@ mod ground;
 mod measuring;
 mod meeting;
 mod random;
+mod replaying;
 mod stories;
 mod walking;
 

@@ -1,16 +1,17 @@
 //! What nodes in threads come to.
 
 use crate::ground::{
-    Machine, Nodes, asks, cluster, dials, is_ordered, is_up, links, named, sends, settles, spawned,
+    Machine, Nodes, asks, cluster, dials, is_up, links, named, sends, settles, spawned,
 };
 use crate::meeting::{Meet, Meeting};
+use crate::replaying::is_whole;
 use crate::walking::walk;
 use anyhow::Result;
 use cluster_run::{Cluster, Finished, Open, Settled};
 use dist_model::Command;
 use erl_names::{NodeName, TrunkId};
 use erl_term::{Pid, Refusal};
-use joined_books::{FinishError, Trace};
+use joined_books::FinishError;
 use link_core::End;
 use node_lock::{Act, Seat};
 use std::alloc::{AllocError, AllocFailed, Global};
@@ -96,7 +97,7 @@ fn ends<R: Machine>(rt: &R, two: &Two) -> Result<(End, End), Wrong> {
 }
 
 // The threads end, and the books merge.
-fn finishes<R: Machine>(rt: &R, alloc: Global, two: Two) -> Result<Trace, Wrong> {
+fn finishes<R: Machine>(rt: &R, alloc: Global, two: Two) -> Result<Finished, Wrong> {
     let Two {
         cluster,
         at_a,
@@ -109,9 +110,9 @@ fn finishes<R: Machine>(rt: &R, alloc: Global, two: Two) -> Result<Trace, Wrong>
     finish_with(rt, cluster, seats)
 }
 
-fn finish_with<R: Machine>(rt: &R, cluster: Nodes, seats: Vec<Seat>) -> Result<Trace, Wrong> {
+fn finish_with<R: Machine>(rt: &R, cluster: Nodes, seats: Vec<Seat>) -> Result<Finished, Wrong> {
     match cluster.finish(rt, seats) {
-        Ok(Finished { trace, .. }) => Ok(trace),
+        Ok(finished) => Ok(finished),
         Err(FinishError::OutOfMemory) => Err(Wrong::NoMemoryToMerge),
         Err(_) => Err(Wrong::Unmerged),
     }
@@ -138,9 +139,9 @@ fn link<R: Machine>(rt: &R, alloc: Global) -> Result<(), Wrong> {
         16,
         two.cluster.shortages(0) == 0 && two.cluster.shortages(2) == 0,
     )?;
-    let trace = finishes(rt, alloc, two)?;
-    check(17, trace.entries.len() == 13)?;
-    check(18, is_ordered(&trace))
+    let finished = finishes(rt, alloc, two)?;
+    check(17, finished.trace.entries.len() == 13)?;
+    check(18, is_whole(alloc, &finished)?)
 }
 
 /// Far more messages than a wire holds, in both directions, all come.
@@ -152,9 +153,9 @@ fn flood<R: Machine>(rt: &R, alloc: Global) -> Result<(), Wrong> {
         check(11, sends(rt, &two.cluster, &mut two.at_b, &two.q, &two.p)?)?;
     }
     check(12, settles(rt, &two.cluster))?;
-    let trace = finishes(rt, alloc, two)?;
-    check(13, trace.entries.len() == 8 + 2000)?;
-    check(14, is_ordered(&trace))
+    let finished = finishes(rt, alloc, two)?;
+    check(13, finished.trace.entries.len() == 8 + 2000)?;
+    check(14, is_whole(alloc, &finished)?)
 }
 
 /// A node stops and starts, the other notices, and they connect again.
@@ -178,7 +179,7 @@ fn restart<R: Machine>(rt: &R, alloc: Global) -> Result<(), Wrong> {
     check(19, settles(rt, &two.cluster))?;
     check(20, ends(rt, &two)? == (End::None, End::None))?;
     connects(rt, alloc, &mut two, 2)?;
-    check(21, is_ordered(&finishes(rt, alloc, two)?))
+    check(21, is_whole(alloc, &finishes(rt, alloc, two)?)?)
 }
 
 // The node of a seat notices that the connection that the first node dialed as so-manieth is lost.
@@ -208,7 +209,7 @@ fn loss<R: Machine>(rt: &R, alloc: Global) -> Result<(), Wrong> {
     check(15, settles(rt, &two.cluster))?;
     connects(rt, alloc, &mut two, 2)?;
     check(16, ends(rt, &two)? == (End::None, End::None))?;
-    check(17, is_ordered(&finishes(rt, alloc, two)?))
+    check(17, is_whole(alloc, &finishes(rt, alloc, two)?)?)
 }
 
 /// Both nodes dial each other before either has heard of it: one connection comes up.
@@ -222,7 +223,7 @@ fn crossed<R: Machine>(rt: &R, alloc: Global) -> Result<(), Wrong> {
     check(12, by_a != by_b)?;
     check(13, by_a == is_up(rt, alloc, &two.cluster, 1, 0, (0, 1))?)?;
     check(14, by_b == is_up(rt, alloc, &two.cluster, 1, 0, (1, 1))?)?;
-    check(15, is_ordered(&finishes(rt, alloc, two)?))
+    check(15, is_whole(alloc, &finishes(rt, alloc, two)?)?)
 }
 
 /// Where a seat is left out, the books don't merge.
@@ -285,7 +286,10 @@ fn two_nodes_at_once<R: Machine>(rt: &R, alloc: Global) -> Result<(), Wrong> {
     check(11, settles(rt, &cluster))?;
     check(12, meeting.have_met())?;
     match cluster.finish(rt, seats) {
-        Ok(Finished { trace, .. }) => check(13, trace.entries.len() == 6 && is_ordered(&trace)),
+        Ok(finished) => check(
+            13,
+            finished.trace.entries.len() == 6 && is_whole(alloc, &finished)?,
+        ),
         Err(_) => Err(Wrong::Unmerged),
     }
 }
@@ -305,7 +309,7 @@ fn small<R: Machine>(rt: &R, alloc: Global) -> Result<(), Wrong> {
     )?;
     check(11, settles(rt, &two.cluster))?;
     check(12, ends(rt, &two)? == (End::Active, End::Active))?;
-    check(13, is_ordered(&finishes(rt, alloc, two)?))
+    check(13, is_whole(alloc, &finishes(rt, alloc, two)?)?)
 }
 
 /// A short run, for the refusal of each allocation in turn: whether it could be done. It is told where

@@ -1,10 +1,11 @@
 //! Threads that call all nodes at random.
 
-use crate::ground::{Machine, Nodes, cluster, is_ordered, name, settles};
+use crate::ground::{Machine, Nodes, cluster, name, settles};
 use crate::random::Random;
+use crate::replaying::is_whole;
 use crate::stories::Wrong;
 use anyhow::Result;
-use cluster_run::{Finished, Open};
+use cluster_run::Open;
 use dist_model::Command;
 use erl_names::{NodeName, TrunkId};
 use erl_term::{Atom, Payload, Pid, Refusal, Term};
@@ -203,8 +204,8 @@ pub fn walk<R: Machine>(rt: &R, alloc: Global, seed: u64, count: u64) -> Result<
             seats.push(seat)?;
         }
     }
-    let trace = match cluster.finish(rt, seats) {
-        Ok(Finished { trace, .. }) => trace,
+    let finished = match cluster.finish(rt, seats) {
+        Ok(finished) => finished,
         Err(_) => return Err(Wrong::Unmerged),
     };
     if !is_settled {
@@ -213,7 +214,7 @@ pub fn walk<R: Machine>(rt: &R, alloc: Global, seed: u64, count: u64) -> Result<
     if refused > 0 {
         return Err(Wrong::At(2));
     }
-    if !is_ordered(&trace) {
+    if !is_whole(alloc, &finished)? {
         return Err(Wrong::At(3));
     }
     Ok(())

@@ -3,7 +3,7 @@ use Rattle.std.proofs.Common.{◌≡◌, ℕ, ◌<◌, List, [], ◌∷◌, get_
 use Rattle.std.specs.List.{All, AllZip}
 use Rattle.std.proofs.lemmas.List.{length-map}
 use Rattle.dist_books.proofs.Numbers.{in_or_out}
-use Rattle.dist_books.specs.Acting.{Nodes, name_at, names_of}
+use Rattle.dist_books.specs.Acting.{Nodes, name_at}
 use Rattle.dist_books.specs.Books.{AllKept, AreDistinct, Book, book_at, no_book}
 use Rattle.dist_books.specs.Merged.{AreBooks, BooksAreARun, BooksAreSafe}
 use Rattle.dist_books.specs.Merged as model
@@ -12,11 +12,11 @@ use Rattle.dist_model.specs.World.{Event, Report}
 use Rattle.joined_books.proofs.Agree.{IsModelOf, agree}
 use Rattle.joined_books.proofs.Assembling.{IsPlace, assembled, histories_rise, stamp_of}
 use Rattle.joined_books.proofs.Carried.{BytesTell}
-use Rattle.joined_books.proofs.Naming.{as_many, cookie_is, distinct, name_is, names_kept, nodes_of, part_mapped, some_of}
+use Rattle.joined_books.proofs.Naming.{distinct, name_is, part_mapped, some_of}
 use Rattle.joined_books.proofs.Ordered.{Rise, ordered}
 use Rattle.joined_books.proofs.Zipped.{Chosen, choose, part_beyond, part_of, past, zip_maps, zip_weaker}
 use Rattle.joined_books.specs.Joined.{AllReplay, AreARun, IsTrace, Shows}
-use Rattle.joined_books.specs.Names.{AllInPlace, names_in}
+use Rattle.joined_books.specs.Names.{AreInPlace}
 use Rattle.joined_books.specs.Parts.{entries_at, part_at, stamps_of}
 use Rattle.joined_books.specs.Places.{IsByStampAndNode, all_places, places_from}
 use Rattle.joined_books.specs.Wires.{AreWhole, own}
@@ -27,78 +27,48 @@ use Rattle.node_book.specs.Standing.{AreNodes, TellEntries, TellsEntry}
 use Rattle.node_history.specs.declared.entry.Entry.{Entry}
 use Rattle.std.specs.List.Sorted.{IsPermutation}
 
--- ---- the nodes of the books
+module _ (nodes : Nodes) (books : List BookSeen) (in_place : AreInPlace nodes books) where
+  are_nodes : (k : ℕ) (d : BookSeen) → k < length books → AreNodes (get_or books k d).names k (get_or books k d).cookie nodes
+  are_nodes k d below = record { named = sym (in_place.each k d below).names; secret = sym (in_place.each k d below).cookie }
 
-cookies_in : List BookSeen → List (List ℕ)
-cookies_in books = map (λ (book : BookSeen). book.cookie) books
-
-names_as_many : (books : List BookSeen) → AllInPlace books → length (names_in books) ≡ length books
-names_as_many [] h = refl
-names_as_many (book ∷ books) h = (h 0 book (omega arith)).one_each
-
--- what is known of books that are in place
-record Named (books : List BookSeen) : Type 0 where
-  nodes : Nodes
-  named : names_of nodes ≡ names_in books
-  one_each : length nodes ≡ length books
-  cookies : (k : ℕ) (d : BookSeen) → k < length books → (slice_index_or nodes k ([], [])).1 ≡ (get_or books k d).cookie
-
-named : (books : List BookSeen) → AllInPlace books → Named books
-unfolding cookies_in
-named books h =
-    let lens : length (names_in books) ≡ length (cookies_in books) =
-    names_as_many books h ∙ sym (length-map books (λ (book : BookSeen). book.cookie)) in
-    record {
-      nodes = nodes_of (names_in books) (cookies_in books);
-      named = names_kept (names_in books) (cookies_in books) lens;
-      one_each = as_many (names_in books) (cookies_in books) lens ∙ length-map books (λ (book : BookSeen). book.cookie);
-      cookies = λ k d below. cookie_is (names_in books) (cookies_in books) k lens
-          ∙ part_of (λ (book : BookSeen). book.cookie) books k d [] below;
-    }
-
-module _ (books : List BookSeen) (in_place : AllInPlace books) (of : Named books) where
-  are_nodes : (k : ℕ) (d : BookSeen) → k < length books → AreNodes (get_or books k d).names k (get_or books k d).cookie of.nodes
-  are_nodes k d below = record { named = of.named ∙ sym (in_place k d below).names_are; secret = of.cookies k d below }
-
-  owns : (k : ℕ) (d : BookSeen) → k < length books → own (get_or books k d) ≡ name_at of.nodes k
+  owns : (k : ℕ) (d : BookSeen) → k < length books → own (get_or books k d) ≡ name_at nodes k
   owns k d below =
-      let p = in_place k d below in
+      let p = in_place.each k d below in
       ap (λ n. slice_index_or (get_or books k d).names n []) p.place
-      ∙ ap (λ (l : List Name). slice_index_or l k []) (p.names_are ∙ sym of.named) ∙ sym (name_is of.nodes k)
+      ∙ ap (λ (l : List Name). slice_index_or l k []) p.names ∙ sym (name_is nodes k)
 
-  are_distinct : AreDistinct of.nodes
+  are_distinct : AreDistinct nodes
   are_distinct =
-      distinct of.nodes
-      (λ k within j before e. (let here : k < length books = omega (arith, of.one_each) in
-      (in_place k (some_of books k here) here).once j before
-      (ap (λ (l : List Name). slice_index_or l j []) (sym of.named) ∙ e ∙ ap (λ (l : List Name). slice_index_or l k []) of.named)))
+      distinct nodes
+      (λ k within. (let here : k < length books = omega (arith, in_place.one_each) in
+      (in_place.each k (some_of books k here) here).once))
 
   -- ---- what the model keeps of the books
 
-  models_of : AllReplay books → Chosen (IsModelOf of.nodes) books
-  models_of replay = choose (IsModelOf of.nodes) books one
+  models_of : AllReplay books → Chosen (IsModelOf nodes) books
+  models_of replay = choose (IsModelOf nodes) books one
     where
-      one : (k : ℕ) (d : BookSeen) → k < length books → (m : Book) × IsModelOf of.nodes k (get_or books k d) m
+      one : (k : ℕ) (d : BookSeen) → k < length books → (m : Book) × IsModelOf nodes k (get_or books k d) m
       one k d below =
           let book = get_or books k d in
-          let place = (in_place k d below).place in
-          let nodes : AreNodes book.names book.place book.cookie of.nodes =
-          subst (λ n. AreNodes book.names n book.cookie of.nodes) (sym place) (are_nodes k d below) in
-          let stands = (replay k d below).1 of.nodes nodes in
-          (stands.book, subst (λ n. IsModelOf of.nodes n book stands.book) place (record { is = stands.is; follows = stands.follows }))
+          let place = (in_place.each k d below).place in
+          let named : AreNodes book.names book.place book.cookie nodes =
+          subst (λ n. AreNodes book.names n book.cookie nodes) (sym place) (are_nodes k d below) in
+          let stands = (replay k d below).1 nodes named in
+          (stands.book, subst (λ n. IsModelOf nodes n book stands.book) place (record { is = stands.is; follows = stands.follows }))
 
-  module _ (models : Chosen (IsModelOf of.nodes) books) where
-    kept : AllKept of.nodes models.ys
+  module _ (models : Chosen (IsModelOf nodes) books) where
+    kept : AllKept nodes models.ys
     kept k within =
-        let here : k < length books = omega (arith, of.one_each) in
+        let here : k < length books = omega (arith, in_place.one_each) in
         let m = models.each k (some_of books k here) no_book here in (m.follows.log, m.follows.replays)
 
-    are_books : BytesTell → AreWhole books → AreBooks of.nodes models.ys
+    are_books : BytesTell → AreWhole books → AreBooks nodes models.ys
     are_books tell whole = record {
       distinct = are_distinct;
-      one_each = models.lens ∙ sym of.one_each;
+      one_each = models.lens ∙ in_place.one_each;
       kept = kept;
-      agree = agree of.nodes books models of.one_each owns tell whole;
+      agree = agree nodes books models (sym in_place.one_each) owns tell whole;
     }
 
     told : (own : Name) (entries : List Entry) (history : List (Told Event Report)) → TellEntries own entries history
@@ -108,19 +78,19 @@ module _ (books : List BookSeen) (in_place : AllInPlace books) (of : Named books
     told own (e ∷ es) [] h = h
     told own (e ∷ es) (x ∷ xs) h = (h.0, told own es xs h.1)
 
-    all_told : (k : ℕ) → AllZip (TellsEntry (name_at of.nodes k)) (entries_at books k) (book_at models.ys k).history
+    all_told : (k : ℕ) → AllZip (TellsEntry (name_at nodes k)) (entries_at books k) (book_at models.ys k).history
     all_told k = elim (in_or_out k (length books)) [
       | inl within ↦ (
           let d = some_of books k within in
           let m = models.each k d no_book within in
-          subst (λ l. AllZip (TellsEntry (name_at of.nodes k)) l (book_at models.ys k).history)
+          subst (λ l. AllZip (TellsEntry (name_at nodes k)) l (book_at models.ys k).history)
           (sym (part_of (λ (b : BookSeen). b.history.entries.items) books k d [] within))
-          (told (name_at of.nodes k) (get_or books k d).history.entries.items (book_at models.ys k).history m.is.entries))
+          (told (name_at nodes k) (get_or books k d).history.entries.items (book_at models.ys k).history m.is.entries))
       | inr beyond ↦ (
           let none : entries_at books k ≡ [] = part_beyond (λ (b : BookSeen). b.history.entries.items) books k [] (omega arith) in
           let nobody : book_at models.ys k ≡ no_book = past models.ys k no_book (let l = models.lens in omega arith) in
-          subst (λ l. AllZip (TellsEntry (name_at of.nodes k)) l (book_at models.ys k).history) (sym none)
-          (subst (λ (b : Book). AllZip (TellsEntry (name_at of.nodes k)) [] b.history) (sym nobody) tt))
+          subst (λ l. AllZip (TellsEntry (name_at nodes k)) l (book_at models.ys k).history) (sym none)
+          (subst (λ (b : Book). AllZip (TellsEntry (name_at nodes k)) [] b.history) (sym nobody) tt))
     ]
 
     tells_stamp : (own : Name) (entry : Entry) (of : Told Event Report) → TellsEntry own entry of → stamp_of of ≡ entry.stamp
@@ -128,58 +98,56 @@ module _ (books : List BookSeen) (in_place : AllInPlace books) (of : Named books
 
     same_stamps : (k : ℕ) → map (λ (entry : Entry). entry.stamp) (entries_at books k) ≡ map stamp_of (book_at models.ys k).history
     same_stamps k =
-        zip_maps (TellsEntry (name_at of.nodes k)) (λ (entry : Entry). entry.stamp) stamp_of (tells_stamp (name_at of.nodes k))
+        zip_maps (TellsEntry (name_at nodes k)) (λ (entry : Entry). entry.stamp) stamp_of (tells_stamp (name_at nodes k))
         (entries_at books k) (book_at models.ys k).history (all_told k)
 
     stamps_are : (k : ℕ) → part_at stamps_of books k ≡ map (λ (entry : Entry). entry.stamp) (entries_at books k)
     stamps_are k = part_mapped (λ (b : BookSeen). b.history.entries.items) (λ (entry : Entry). entry.stamp) books k
 
-    rise : AreBooks of.nodes models.ys → All Rise (map stamps_of books)
+    rise : AreBooks nodes models.ys → All Rise (map stamps_of books)
     rise are k d below =
         let within : k < length books = omega (arith, length-map books stamps_of) in
         let e = some_of books k within in
         let same : get_or (map stamps_of books) k d ≡ map stamp_of (book_at models.ys k).history =
         part_of stamps_of books k e d within ∙ sym (part_of stamps_of books k e [] within) ∙ stamps_are k ∙ same_stamps k in
-        subst Rise (sym same) (histories_rise of.nodes models.ys are k)
+        subst Rise (sym same) (histories_rise nodes models.ys are k)
 
     -- ---- the run
 
-    in_order : (items : List Placed) → AreBooks of.nodes models.ys → IsPermutation (all_places 0 (map stamps_of books)) items
+    in_order : (items : List Placed) → AreBooks nodes models.ys → IsPermutation (all_places 0 (map stamps_of books)) items
         → IsByStampAndNode items
         → IsTrace books items
     in_order items are all sorted = ordered (map stamps_of books) items (rise are) all sorted
 
     shows : (placed : Placed) (x : model.Placed)
-        → IsPlace (λ (entry : Entry). entry.stamp) TellsEntry of.nodes (entries_at books) placed x → Shows books of.nodes placed x
+        → IsPlace (λ (entry : Entry). entry.stamp) TellsEntry nodes (entries_at books) placed x → Shows books nodes placed x
     shows placed x h = record { node = h.node; entry = h.entry; there = h.there; tells = h.tells }
 
-    a_run : (items : List Placed) → AreBooks of.nodes models.ys → IsTrace books items → BooksAreARun → BooksAreSafe → AreARun books items
+    a_run : (items : List Placed) → AreBooks nodes models.ys → IsTrace books items → BooksAreARun → BooksAreSafe → AreARun nodes books items
     a_run items are trace is_run is_safe =
-        let a = assembled (λ (entry : Entry). entry.stamp) TellsEntry tells_stamp of.nodes models.ys (entries_at books) items are all_told
+        let a = assembled (λ (entry : Entry). entry.stamp) TellsEntry tells_stamp nodes models.ys (entries_at books) items are all_told
         (record { each = λ k. trace.each k ∙ ap (λ l. places_from k 0 l) (stamps_are k); sorted = trace.sorted }) is_run is_safe in
         record {
-          nodes = of.nodes;
           models = models.ys;
           merged = a.merged;
-          one_each = of.one_each;
+          one_each = sym in_place.one_each;
           stand = λ k d below. record { named = are_nodes k d below; is = (models.each k d no_book below).is };
           are = are;
-          shown = zip_weaker (IsPlace (λ (entry : Entry). entry.stamp) TellsEntry of.nodes (entries_at books)) (Shows books of.nodes)
+          shown = zip_weaker (IsPlace (λ (entry : Entry). entry.stamp) TellsEntry nodes (entries_at books)) (Shows books nodes)
               shows items a.merged a.shown;
           run = a.run;
           safe = a.safe;
         }
 
-pub record IsJoined (books : List BookSeen) (items : List Placed) : Type 0 where
+pub record IsJoined (nodes : Nodes) (books : List BookSeen) (items : List Placed) : Type 0 where
   pub trace : IsTrace books items
-  pub run : AreARun books items
+  pub run : AreARun nodes books items
 
-pub joined : BooksAreARun → BooksAreSafe → BytesTell → (books : List BookSeen) (items : List Placed) → AllReplay books → AllInPlace books
-    → AreWhole books
-    → IsPermutation (all_places 0 (map stamps_of books)) items → IsByStampAndNode items → IsJoined books items
-joined is_run is_safe tell books items replay in_place whole all sorted =
-    let of = named books in_place in
-    let models = models_of books in_place of replay in
-    let are = are_books books in_place of models tell whole in
-    let trace = in_order books in_place of models items are all sorted in
-    record { trace = trace; run = a_run books in_place of models items are trace is_run is_safe }
+pub joined : BooksAreARun → BooksAreSafe → BytesTell → (nodes : Nodes) (books : List BookSeen) (items : List Placed) → AllReplay books
+    → AreInPlace nodes books → AreWhole books
+    → IsPermutation (all_places 0 (map stamps_of books)) items → IsByStampAndNode items → IsJoined nodes books items
+joined is_run is_safe tell nodes books items replay in_place whole all sorted =
+    let models = models_of nodes books in_place replay in
+    let are = are_books nodes books in_place models tell whole in
+    let trace = in_order nodes books in_place models items are all sorted in
+    record { trace = trace; run = a_run nodes books in_place models items are trace is_run is_safe }

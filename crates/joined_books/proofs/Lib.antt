@@ -11,5 +11,6 @@ pub mod Modelled
 pub mod Naming
 pub mod Ordered
 pub mod Receipting
+pub mod Replaying
 pub mod Tests
 pub mod Zipped

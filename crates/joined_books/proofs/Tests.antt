@@ -1,7 +1,8 @@
 -- Tests that tell a fact, names and lists.
 use Rattle.std.specs.Prelude.{IsTrue, ◌↔◌}
-use Rattle.std.proofs.Common.{◌≡◌, ◌≢◌, ℕ, zero, suc, ◌<◌, Bool, true, false, List, [], ◌∷◌, get_or, length, refl, sym, ◌∙◌, arith}
+use Rattle.std.proofs.Common.{◌≡◌, ◌≢◌, ℕ, zero, suc, ◌<◌, Bool, true, false, List, [], ◌∷◌, get_or, length, refl, sym, ap, ◌∙◌, arith}
 use Rattle.std.proofs.lemmas.List.{same_lists}
+use Rattle.dist_books.specs.Acting.{Nodes, name_at}
 use Rattle.dist_model.proofs.Keys.{same_name_is, same_name_true}
 use Rattle.dist_model.specs.Names.{Name, same_name}
 
@@ -38,13 +39,14 @@ read [] k x e below is = absurd (omega arith)
 read (y ∷ ys) zero x e below is = sym is
 read (y ∷ ys) (suc k) x e below is = read ys k x e (omega arith) is
 
--- two names that were read and compared
-module _ (a b : List Name) (i j : ℕ) (x y u v : Name) (r : Bool) (within : i < length a) (also : j < length b) (x_is : x ≡ get_or a i x)
-    (y_is : y ≡ get_or b j y)
-    (u_is : u ≡ x) (v_is : v ≡ y) (r_is : r ≡ same_name u v) where
-  pub same_read : r ≡ true → get_or a i [] ≡ get_or b j []
-  same_read t = read a i x [] within x_is ∙ sym u_is ∙ same_name_true u v (sym r_is ∙ t) ∙ v_is ∙ sym (read b j y [] also y_is)
+-- the name of a node that was read
+pub name_read : (nodes : Nodes) (k : ℕ) (x : Name × List ℕ) → k < length nodes → x ≡ get_or nodes k x → name_at nodes k ≡ x.0
+name_read nodes k x below is = ap (λ (node : Name × List ℕ). node.0) (read nodes k x ([], []) below is)
 
-  pub other_read : r ≡ false → get_or a i [] ≢ get_or b j []
-  other_read f same =
-      other_name u v (sym r_is ∙ f) (u_is ∙ sym (read a i x [] within x_is) ∙ same ∙ read b j y [] also y_is ∙ sym v_is)
+-- two names that were read and compared
+module _ (p q x y u v : Name) (r : Bool) (x_is : p ≡ x) (y_is : q ≡ y) (u_is : u ≡ x) (v_is : v ≡ y) (r_is : r ≡ same_name u v) where
+  pub same_read : r ≡ true → p ≡ q
+  same_read t = x_is ∙ sym u_is ∙ same_name_true u v (sym r_is ∙ t) ∙ v_is ∙ sym y_is
+
+  pub other_read : r ≡ false → p ≢ q
+  other_read f same = other_name u v (sym r_is ∙ f) (u_is ∙ sym x_is ∙ same ∙ y_is ∙ sym v_is)

@@ -8,3 +8,4 @@ pub mod Marks
 pub mod Receipts
 pub mod Joined
 pub mod Faults
+pub mod Replayed

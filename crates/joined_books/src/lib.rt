@@ -4,7 +4,7 @@
 //! other end has put on it, and the receipts that callers hold are the acts that the books have entered,
 //! each once, all entries, by their stamps and then by their nodes, are one run of the model's world from
 //! its opening, and a safe one (`specs/Joined`). Where one of these isn't so, the error says where
-//! (`specs/Faults`).
+//! (`specs/Faults`). [`replay`] gives the world to which that run leads.
 #![tactic(auto)]
 
 mod error;
@@ -14,9 +14,11 @@ mod merge;
 mod names;
 mod order;
 mod receipts;
+mod replay;
 mod trace;
 mod wires;
 
 pub use error::FinishError;
 pub use merge::merge_books;
+pub use replay::replay;
 pub use trace::{Placed, Trace};

@@ -1,26 +1,29 @@
 use Rattle.std.proofs.Common.{◌<◌, arith, length}
 use borrow.Author.Count.{below_more}
-use Rattle.joined_books.proofs.Tests.{is_not, other_read, same_read}
+use Rattle.dist_books.specs.Acting.{name_at}
+use Rattle.joined_books.proofs.Tests.{is_not, name_read, other_read, same_read}
 use Rattle.joined_books.proofs.names.is_new.Goals as goal
 
 pub returns-then-same_name : goal.returns-then-same_name
 returns-then-same_name c =
-    let names = c.args.names.now in
+    let nodes = c.args.nodes.now in
     let k = c.loop-other.other in
-    let within : k < length names = omega arith in
-    let same = same_read names names k c.args.place c.index-names-other.result c.index-names-place.result c.atom.result.now
-    c.atom-in-loop-other.result.now c.same_name.result
-    within c.requires c.index-names-other.is c.index-names-place.is c.atom.ensures c.atom-in-loop-other.ensures c.same_name.ensures
-    c.if-same_name.true in
+    let within : k < length nodes = omega arith in
+    let same = same_read (name_at nodes k) (name_at nodes c.args.place) c.index-nodes-other.result.0 c.index-nodes-place.result.0
+    c.atom.result.now c.atom-in-loop-other.result.now c.same_name.result
+    (name_read nodes k c.index-nodes-other.result within c.index-nodes-other.is)
+    (name_read nodes c.args.place c.index-nodes-place.result c.requires c.index-nodes-place.is)
+    c.atom.ensures c.atom-in-loop-other.ensures c.same_name.ensures c.if-same_name.true in
     is_not (λ new. new k (omega arith) same)
 
 pub loop-other-preserved : goal.loop-other-preserved
 loop-other-preserved c =
-    let names = c.args.names.now in
+    let nodes = c.args.nodes.now in
     let k = c.loop-other.other in
-    let within : k < length names = omega arith in
+    let within : k < length nodes = omega arith in
     below_more _ _ c.loop-other.invariant
-    (other_read names names k c.args.place c.index-names-other.result c.index-names-place.result c.atom.result.now
-    c.atom-in-loop-other.result.now c.same_name.result
-    within c.requires c.index-names-other.is c.index-names-place.is c.atom.ensures c.atom-in-loop-other.ensures c.same_name.ensures
-    c.if-same_name.false)
+    (other_read (name_at nodes k) (name_at nodes c.args.place) c.index-nodes-other.result.0 c.index-nodes-place.result.0
+    c.atom.result.now c.atom-in-loop-other.result.now c.same_name.result
+    (name_read nodes k c.index-nodes-other.result within c.index-nodes-other.is)
+    (name_read nodes c.args.place c.index-nodes-place.result c.requires c.index-nodes-place.is)
+    c.atom.ensures c.atom-in-loop-other.ensures c.same_name.ensures c.if-same_name.false)

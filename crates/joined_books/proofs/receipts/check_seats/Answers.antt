@@ -5,7 +5,7 @@ use Rattle.node_lock.specs.declared.seat.Asked.{Asked}
 use Rattle.joined_books.proofs.receipts.check_seats.Goals as goal
 
 pub returns-in-Some-clause-err : goal.returns-in-Some-clause-err
-returns-in-Some-clause-err c = λ places whole.
+returns-in-Some-clause-err c = λ nodes places whole.
     let item = c.in-Some.ensures.item in
     let over = c.if-node-books.true in
     let same : c.node.result ≡ c.node-in-Some.result = c.node.ensures ∙ sym c.node-in-Some.ensures in

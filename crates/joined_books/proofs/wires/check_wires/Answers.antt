@@ -8,7 +8,7 @@ one_trunk : (t u : TrunkId) → t.dialer ≡ u.dialer → t.count ≡ u.count �
 one_trunk t u p q = ap₂ (λ (name : Name) (count : ℕ). record { dialer = name; count = count }) p q
 
 pub returns-in-Some-clause-err : goal.returns-in-Some-clause-err
-returns-in-Some-clause-err c = λ seats places.
+returns-in-Some-clause-err c = λ nodes seats places.
     let copy = c.in_ok-clone.ensures.cases in
     let books = c.args.books.now in
     let P : TrunkId → Type 0 = λ t. IsTornIn books c.book-item.result t c.in-Some.field-0.seq in (

@@ -1,0 +1,40 @@
+//! What nodes in threads have come to.
+ghost use Rattle.std.specs.Prelude.{◌≡◌, IfErr, IfOk};
+ghost use Rattle.erl_term.specs.declared.refusal.Refusal.TheVariants.{OutOfMemory};
+ghost use Rattle.joined_books.specs.Joined.{AreARun};
+ghost use Rattle.world_core.specs.Stands.{Stands};
+
+use erl_handshake::Cookie;
+use erl_names::NodeName;
+use erl_term::Refusal;
+use joined_books::{Trace, replay};
+use node_book::Book;
+use std::alloc::Global;
+use world_core::World;
+
+/// What nodes in threads have come to, once all threads have ended.
+#[derive(Drop)]
+pub struct Finished {
+    /// The names and cookies of the nodes.
+    pub nodes: Vec<(NodeName, Cookie)>,
+    /// The book of each node, at its place.
+    pub books: Vec<Book>,
+    /// All entries of all books, by stamp and then by node.
+    pub trace: Trace,
+}
+
+impl Finished {
+    /// The world to which the trace leads: that at the end of the one run that all entries are. It is
+    /// made anew, by the events of the trace.
+    ///
+    /// # Errors
+    /// As those of [`replay`]: where nothing of this was changed since
+    /// [`Cluster::finish`](crate::Cluster::finish), [`Refusal::OutOfMemory`] alone.
+    pub fn world(&self, alloc: Global) -> Result<World, Refusal>
+        ensures ok { (run : AreARun self.now.nodes.items self.now.books.items self.now.trace.entries.items) →
+            IfOk result (λ world. Stands world run.run.world) }
+        ensures err { AreARun self.now.nodes.items self.now.books.items self.now.trace.entries.items → IfErr result (λ e. e ≡ OutOfMemory) }
+    {
+        replay(alloc, &self.nodes, &self.books, &self.trace)
+    }
+}
