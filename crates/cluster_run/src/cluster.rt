@@ -311,11 +311,21 @@ impl<G: Gate + Send + Sync + Drop + 'static> Cluster<G> {
         }
     }
 
-    /// How often a node's thread has found no memory for what it was to do, and tried again later.
-    pub fn shortages(&self, node: usize) -> u64 {
+    /// How often a node's thread has found no memory for what it was to do, and tried again later; the
+    /// count stays at its highest, 2^64 - 1.
+    ///
+    /// # Errors
+    /// [`Refusal::NothingThere`] where there is no such node.
+    pub fn shortages(&self, node: usize) -> Result<u64, Refusal>
+        ensures there { IfOk result (λ _. node < length self.now.nodes.items) }
+        ensures err { IfErr result (λ e. e ≡ NothingThere) }
+    {
+        if node >= self.nodes.len() {
+            return Err(Refusal::NothingThere);
+        }
         match self.shared.desks.get(node) {
-            Some(desk) => desk.shortages.load(Ordering::SeqCst),
-            None => 0,
+            Some(desk) => Ok(desk.shortages.load(Ordering::SeqCst)),
+            None => Err(Refusal::NothingThere),
         }
     }
 

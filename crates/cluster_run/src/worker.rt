@@ -266,7 +266,12 @@ impl Worker {
             None => Turn::new(),
         };
         drop(guard);
-        desk.shortages.fetch_add(turn.shortages, Ordering::SeqCst);
+        if turn.shortages > 0 {
+            // nobody else changes it
+            let before = desk.shortages.load(Ordering::SeqCst);
+            let count = before.saturating_add(turn.shortages);
+            desk.shortages.store(count, Ordering::SeqCst);
+        }
         turn
     }
 }

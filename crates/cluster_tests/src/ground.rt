@@ -4,8 +4,9 @@ use cluster_run::{Cluster, Gate, Open, Settled};
 use dist_model::{Answer, Command};
 use erl_handshake::Cookie;
 use erl_names::{NodeName, TrunkId};
-use erl_term::{Payload, Pid, Refusal, Term};
+use erl_term::{Payload, Pid, Reference, Refusal, Term};
 use joined_books::{Placed, Trace};
+use link_core::End;
 use node_lock::{Act, Asked, Seat};
 use std::alloc::{AllocError, Global};
 use std::rt::Runtime;
@@ -23,23 +24,23 @@ pub type Nodes = Cluster<Open>;
 /// More looks than any test needs.
 pub const ENOUGH: u64 = 10_000_000;
 
+/// The names of the first nodes.
+const FIRST: [&str; 4] = ["a@h", "b@h", "c@h", "d@h"];
+
 /// The name of the node at a place.
-pub fn name(place: usize) -> &'static str {
-    match place {
-        0 => "a@h",
-        1 => "b@h",
-        2 => "c@h",
-        _ => "d@h",
+pub fn name(alloc: Global, place: usize) -> Result<NodeName, Refusal> {
+    match FIRST.get(place) {
+        Some(name) => Ok(NodeName::read(alloc, name)?),
+        None => Ok(NodeName::read(alloc, format!(in alloc; "n{place}@h")?.as_str())?),
     }
 }
 
 /// A node of this name and of the cookie `c`.
-pub fn named(alloc: Global, name: &str) -> Result<(NodeName, Cookie), Refusal> {
-    let name = NodeName::read(alloc, name)?;
+pub fn named(alloc: Global, name: NodeName) -> Result<(NodeName, Cookie), Refusal> {
     Ok((name, Cookie::new(Vec::from_slice(alloc, b"c")?)))
 }
 
-/// The nodes of the first so many names, at most four.
+/// The nodes of the first so many names.
 pub fn cluster<R, G>(rt: &R, alloc: Global, count: usize, gate: G) -> Result<Cluster<G>, Refusal>
 where
     R: Machine,
@@ -47,7 +48,7 @@ where
 {
     let mut nodes = Vec::new(alloc);
     for place in 0..count {
-        nodes.push(named(alloc, name(place))?)?;
+        nodes.push(named(alloc, name(alloc, place)?)?)?;
     }
     Cluster::new(rt, alloc, nodes, gate)
 }
@@ -102,7 +103,7 @@ pub fn dials<R: Wait, G>(
 where
     G: Gate + Send + Sync + Drop + 'static,
 {
-    let peer = NodeName::read(alloc, name(to))?;
+    let peer = name(alloc, to)?;
     asks(rt, cluster, seat, Act::Dial { peer, word: 7 })
 }
 
@@ -150,6 +151,79 @@ where
     )
 }
 
+// The reference of the monitor that was made last.
+fn reference_told(seat: &Seat) -> Result<Option<Reference>, AllocError> {
+    match seat.last() {
+        Some(Asked { receipt, .. }) => match &receipt.answer {
+            Ok(report) => match &report.answer {
+                Answer::Reference(reference) => Ok(Some(reference.clone()?)),
+                _ => Ok(None),
+            },
+            Err(_) => Ok(None),
+        },
+        None => Ok(None),
+    }
+}
+
+/// A process monitors another, and takes the monitor back.
+pub fn monitors<R: Wait, G>(
+    rt: &R,
+    cluster: &Cluster<G>,
+    seat: &mut Seat,
+    from: &Pid,
+    to: &Pid,
+) -> Result<bool, Refusal>
+where
+    G: Gate + Send + Sync + Drop + 'static,
+{
+    let owner = from.clone()?;
+    let target = to.clone()?;
+    if !asks(
+        rt,
+        cluster,
+        seat,
+        Act::Run(Command::Monitor { owner, target }),
+    )? {
+        return Ok(false);
+    }
+    let reference = reference_told(seat)?.ok_or(Refusal::NothingThere)?;
+    let owner = from.clone()?;
+    let command = Command::Demonitor { owner, reference };
+    asks(rt, cluster, seat, Act::Run(command))
+}
+
+/// Whether the process says that it has this link alone, and has it active.
+pub fn has_link<R: Wait, G>(
+    rt: &R,
+    cluster: &Cluster<G>,
+    seat: &mut Seat,
+    process: &Pid,
+    partner: &Pid,
+) -> Result<bool, Refusal>
+where
+    G: Gate + Send + Sync + Drop + 'static,
+{
+    let process = process.clone()?;
+    cluster.call(rt, seat, Act::Run(Command::LinksOf { process }))?;
+    Ok(match seat.last() {
+        Some(Asked { receipt, .. }) => match &receipt.answer {
+            Ok(report) => match &report.answer {
+                Answer::Links(links) => is_link(&links.entries, partner),
+                _ => false,
+            },
+            Err(_) => false,
+        },
+        None => false,
+    })
+}
+
+fn is_link(links: &[(Pid, End)], partner: &Pid) -> bool {
+    match links {
+        [(to, end)] => to == partner && *end == End::Active,
+        _ => false,
+    }
+}
+
 /// Whether the cluster comes to rest.
 pub fn settles<R: Wait, G>(rt: &R, cluster: &Cluster<G>) -> bool
 where
@@ -171,10 +245,10 @@ where
     G: Gate + Send + Sync + Drop + 'static,
 {
     let trunk = TrunkId {
-        dialer: NodeName::read(alloc, name(dialed.0))?,
+        dialer: name(alloc, dialed.0)?,
         count: dialed.1,
     };
-    let peer = NodeName::read(alloc, name(peer))?;
+    let peer = name(alloc, peer)?;
     cluster.look(rt, node, |node| node.route(peer.atom()) == Some(&trunk))
 }
 

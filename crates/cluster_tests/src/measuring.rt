@@ -1,6 +1,6 @@
-//! How many calls there are in a second.
+//! How often nodes in threads do in a second what callers ask for most.
 
-use crate::ground::{Machine, Nodes, cluster, dials, sends, settles, spawned};
+use crate::ground::{Machine, Nodes, cluster, dials, links, monitors, sends, settles, spawned};
 use crate::stories::Wrong;
 use anyhow::Result;
 use cluster_run::{Finished, Open};
@@ -11,10 +11,34 @@ use std::sync::Wait;
 use std::thread::join;
 use std::time::{Duration, Instant};
 
-/// So often each caller calls.
-const ROUNDS: u32 = 20_000;
+/// So often all callers call, taken together.
+const CALLS: usize = 120_000;
 
-/// Who calls a node, and the two processes of the messages.
+/// How many nodes there are. Two that stand beside one another are connected.
+const SIZES: [usize; 6] = [2, 4, 8, 16, 32, 64];
+
+/// What callers ask for.
+#[derive(Clone, Copy)]
+enum Work {
+    /// Messages to a process of the other node.
+    Messages,
+    /// A link to one is made and taken back.
+    Links,
+    /// A monitor of one is made and taken back.
+    Monitors,
+}
+
+impl Work {
+    fn name(self) -> &'static str {
+        match self {
+            Work::Messages => "messages",
+            Work::Links => "pairs of link and unlink",
+            Work::Monitors => "pairs of monitor and demonitor",
+        }
+    }
+}
+
+/// Who calls a node, and the two processes.
 #[derive(Drop)]
 struct Caller {
     seat: Seat,
@@ -22,17 +46,40 @@ struct Caller {
     to: Pid,
 }
 
-fn calls<R: Wait>(rt: &R, cluster: &Nodes, caller: &mut Caller) -> u32 {
-    let mut done = 0u32;
-    for _ in 0..ROUNDS {
-        if sends(rt, cluster, &mut caller.seat, &caller.from, &caller.to) == Ok(true) {
-            done = done.saturating_add(1);
+impl Caller {
+    // Whether all is done that is asked for.
+    fn asks<R: Wait>(&mut self, rt: &R, cluster: &Nodes, work: Work) -> Result<bool, Refusal> {
+        let Caller { seat, from, to } = self;
+        match work {
+            Work::Messages => sends(rt, cluster, seat, from, to),
+            Work::Links => Ok(
+                links(rt, cluster, seat, from, to, true)?
+                    && links(rt, cluster, seat, from, to, false)?,
+            ),
+            Work::Monitors => monitors(rt, cluster, seat, from, to),
         }
     }
-    done
 }
 
-// A process at each node, and a connection from each to the next.
+/// The callers of one thread, and how often they have got what they asked for.
+#[derive(Drop)]
+struct Crew {
+    callers: Vec<Caller>,
+    done: u64,
+}
+
+fn calls<R: Wait>(rt: &R, cluster: &Nodes, mut crew: Crew, work: Work, rounds: usize) -> Crew {
+    for _ in 0..rounds {
+        for caller in &mut crew.callers {
+            if caller.asks(rt, cluster, work) == Ok(true) {
+                crew.done = crew.done.saturating_add(1);
+            }
+        }
+    }
+    crew
+}
+
+// A process at each node, and a connection from each second node to the one before.
 fn callers<R: Machine>(
     rt: &R,
     alloc: Global,
@@ -44,16 +91,15 @@ fn callers<R: Machine>(
     for place in 0..count {
         let mut seat = cluster.seat(place)?;
         pids.push(spawned(rt, cluster, &mut seat)?)?;
-        if place > 0 {
-            dials(rt, alloc, cluster, &mut seat, place.saturating_sub(1))?;
+        if place & 1 == 1 {
+            dials(rt, alloc, cluster, &mut seat, place ^ 1)?;
         }
         seats.push(seat)?;
     }
     let mut made = Vec::new(alloc);
     let mut place = 0usize;
     for seat in seats {
-        let peer = if count > 1 { place ^ 1 } else { place };
-        let (Some(from), Some(to)) = (pids.get(place), pids.get(peer)) else {
+        let (Some(from), Some(to)) = (pids.get(place), pids.get(place ^ 1)) else {
             return Err(Wrong::Refused(Refusal::NothingThere));
         };
         made.push(Caller {
@@ -66,26 +112,71 @@ fn callers<R: Machine>(
     Ok(made)
 }
 
-fn two_go<R: Machine>(rt: &R, cluster: &Nodes, a: &mut Caller, b: &mut Caller) -> u32 {
-    let (a, b) = join(rt, || calls(rt, cluster, a), || calls(rt, cluster, b));
-    a.saturating_add(b)
+fn no_crew(alloc: Global) -> Crew {
+    Crew {
+        callers: Vec::new(alloc),
+        done: 0,
+    }
 }
 
-// Each caller has a thread.
-fn go<R: Machine>(rt: &R, cluster: &Nodes, callers: &mut [Caller]) -> u32 {
-    match callers {
-        [a] => calls(rt, cluster, a),
-        [a, b] => two_go(rt, cluster, a, b),
-        [a, b, c, d] => {
-            let (low, high) = join(
-                rt,
-                || two_go(rt, cluster, a, b),
-                || two_go(rt, cluster, c, d),
-            );
-            low.saturating_add(high)
-        }
-        _ => 0,
+// The callers, dealt out to four threads.
+fn crews(alloc: Global, callers: Vec<Caller>) -> Result<(Crew, Crew, Crew, Crew), Wrong> {
+    let mut crews = (
+        no_crew(alloc),
+        no_crew(alloc),
+        no_crew(alloc),
+        no_crew(alloc),
+    );
+    let mut place = 0usize;
+    for caller in callers {
+        let its = match place & 3 {
+            0 => &mut crews.0,
+            1 => &mut crews.1,
+            2 => &mut crews.2,
+            _ => &mut crews.3,
+        };
+        its.callers.push(caller)?;
+        place = place.saturating_add(1);
     }
+    Ok(crews)
+}
+
+fn two<R: Machine>(
+    rt: &R,
+    cluster: &Nodes,
+    a: Crew,
+    b: Crew,
+    work: Work,
+    rounds: usize,
+) -> (Crew, Crew) {
+    join(
+        rt,
+        || calls(rt, cluster, a, work, rounds),
+        || calls(rt, cluster, b, work, rounds),
+    )
+}
+
+// Each crew has a thread.
+fn four<R: Machine>(
+    rt: &R,
+    alloc: Global,
+    cluster: &Nodes,
+    callers: Vec<Caller>,
+    work: Work,
+    rounds: usize,
+) -> Result<Vec<Crew>, Wrong> {
+    let (a, b, c, d) = crews(alloc, callers)?;
+    let ((a, b), (c, d)) = join(
+        rt,
+        || two(rt, cluster, a, b, work, rounds),
+        || two(rt, cluster, c, d, work, rounds),
+    );
+    let mut all = Vec::new(alloc);
+    all.push(a)?;
+    all.push(b)?;
+    all.push(c)?;
+    all.push(d)?;
+    Ok(all)
 }
 
 fn a_second(count: u64, took: Duration) -> u64 {
@@ -93,41 +184,72 @@ fn a_second(count: u64, took: Duration) -> u64 {
     u64::try_from(u128::from(count).saturating_mul(1_000_000) / micros).unwrap_or(0)
 }
 
-fn measure_in<R: Machine>(rt: &R, alloc: Global, count: usize) -> Result<bool> {
-    let Ok(cluster) = cluster(rt, alloc, count, Open) else {
-        return Ok(false);
-    };
-    let Ok(mut callers) = callers(rt, alloc, &cluster, count) else {
-        return Ok(false);
-    };
-    settles(rt, &cluster);
-    let start = Instant::now(rt)?;
-    let done = go(rt, &cluster, callers.as_mut_slice());
-    let called = start.elapsed(rt)?;
-    let is_settled = settles(rt, &cluster);
-    let settled = start.elapsed(rt)?;
+// The seats of all callers, and how often they got what they asked for.
+fn seats_of(alloc: Global, crews: Vec<Crew>) -> Result<(Vec<Seat>, u64), Wrong> {
     let mut seats = Vec::new(alloc);
-    for caller in callers {
-        seats.push(caller.seat)?;
+    let mut done = 0u64;
+    for crew in crews {
+        done = done.saturating_add(crew.done);
+        for caller in crew.callers {
+            seats.push(caller.seat)?;
+        }
     }
-    let outcome = cluster.finish(rt, seats);
-    let finished = start.elapsed(rt)?;
-    let entries = match &outcome {
-        Ok(Finished { trace, .. }) => trace.entries.len() as u64,
-        Err(_) => 0,
-    };
-    let rate = a_second(u64::from(done), called);
-    let all = a_second(entries, settled);
-    println!(rt;
-        "{count} nodes: {rate} calls a second, {all} entries a second until all has come"
-    )?;
-    println!(rt;
-        "  {entries} entries, settled: {is_settled}, merged after {} ms",
-        finished.saturating_sub(settled).as_millis()
-    )?;
-    Ok(outcome.is_ok())
+    Ok((seats, done))
 }
 
+/// How long it took until all calls were answered, until all that they brought about had happened, and
+/// until the books were merged; and how many calls and entries there were.
+#[derive(Clone, Copy)]
+struct Times {
+    called: Duration,
+    settled: Duration,
+    merged: Duration,
+    calls: u64,
+    entries: u64,
+}
+
+fn timed<R: Machine>(rt: &R, alloc: Global, count: usize, work: Work) -> Result<Times> {
+    let cluster = cluster(rt, alloc, count, Open)?;
+    let callers = callers(rt, alloc, &cluster, count)?;
+    settles(rt, &cluster);
+    let start = Instant::now(rt)?;
+    let crews = four(rt, alloc, &cluster, callers, work, CALLS / count.max(1))?;
+    let called = start.elapsed(rt)?;
+    settles(rt, &cluster);
+    let settled = start.elapsed(rt)?;
+    let (seats, calls) = seats_of(alloc, crews)?;
+    let Finished { trace, .. } = cluster.finish(rt, seats)?;
+    Ok(Times {
+        called,
+        settled,
+        merged: start.elapsed(rt)?.saturating_sub(settled),
+        calls,
+        entries: trace.entries.len() as u64,
+    })
+}
+
+fn tell<R: Machine>(rt: &R, alloc: Global, count: usize, work: Work) -> Result<()> {
+    let times = timed(rt, alloc, count, work)?;
+    let name = work.name();
+    let called = a_second(times.calls, times.called);
+    let settled = a_second(times.calls, times.settled);
+    println!(rt;
+        "{count} nodes: {called} {name} a second are asked for, {settled} until all has happened"
+    )?;
+    println!(rt;
+        "  {} entries, merged in {} ms",
+        times.entries,
+        times.merged.as_millis()
+    )?;
+    Ok(())
+}
+
+/// Says how many there are, of each kind, over so many nodes.
 pub fn measure<R: Machine>(rt: &R, alloc: Global) -> Result<bool> {
-    Ok(measure_in(rt, alloc, 1)? && measure_in(rt, alloc, 2)? && measure_in(rt, alloc, 4)?)
+    for count in SIZES {
+        tell(rt, alloc, count, Work::Messages)?;
+        tell(rt, alloc, count, Work::Links)?;
+        tell(rt, alloc, count, Work::Monitors)?;
+    }
+    Ok(true)
 }

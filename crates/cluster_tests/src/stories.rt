@@ -1,7 +1,8 @@
 //! What nodes in threads come to.
 
 use crate::ground::{
-    Machine, Nodes, asks, cluster, dials, is_up, links, named, sends, settles, spawned,
+    Machine, Nodes, asks, cluster, dials, has_link, is_up, links, name, named, sends, settles,
+    spawned,
 };
 use crate::meeting::{Meet, Meeting};
 use crate::replaying::is_whole;
@@ -15,18 +16,24 @@ use joined_books::FinishError;
 use link_core::End;
 use node_lock::{Act, Seat};
 use std::alloc::{AllocError, AllocFailed, Global};
-use std::sync::Arc;
+use std::sync::{Arc, Wait};
+use std::thread::join;
+use thiserror::Error;
 
 /// Why a test doesn't hold.
-#[derive(Clone, Copy, Debug, PartialEq, Eq)]
+#[derive(Clone, Copy, Debug, PartialEq, Eq, Error)]
 pub enum Wrong {
     /// What was asked for with this number isn't so.
+    #[error("check {0} doesn't hold")]
     At(u32),
     /// A call was refused.
+    #[error("{0}")]
     Refused(Refusal),
     /// The books don't merge.
+    #[error("the books don't merge")]
     Unmerged,
     /// There was no memory to merge them.
+    #[error("out of memory")]
     NoMemoryToMerge,
 }
 
@@ -137,7 +144,7 @@ fn link<R: Machine>(rt: &R, alloc: Global) -> Result<(), Wrong> {
     check(15, ends(rt, &two)? == (End::None, End::None))?;
     check(
         16,
-        two.cluster.shortages(0) == 0 && two.cluster.shortages(2) == 0,
+        two.cluster.shortages(0) == Ok(0) && two.cluster.shortages(2) == Err(Refusal::NothingThere),
     )?;
     let finished = finishes(rt, alloc, two)?;
     check(17, finished.trace.entries.len() == 13)?;
@@ -263,8 +270,8 @@ fn no_such_node<R: Machine>(rt: &R, alloc: Global) -> Result<(), Wrong> {
     drop(seat);
     finish_with(rt, cluster, Vec::new(alloc))?;
     let mut nodes = Vec::new(alloc);
-    nodes.push(named(alloc, "a@h")?)?;
-    nodes.push(named(alloc, "a@h")?)?;
+    nodes.push(named(alloc, name(alloc, 0)?)?)?;
+    nodes.push(named(alloc, name(alloc, 0)?)?)?;
     let none = Cluster::new(rt, alloc, nodes, Open);
     check(15, matches!(&none, Err(Refusal::BadName)))
 }
@@ -292,6 +299,67 @@ fn two_nodes_at_once<R: Machine>(rt: &R, alloc: Global) -> Result<(), Wrong> {
         ),
         Err(_) => Err(Wrong::Unmerged),
     }
+}
+
+// At its node a caller has a process link another, and the process says so.
+fn reads_back<R: Wait>(rt: &R, cluster: &Nodes, mut seat: Seat) -> Result<Seat, Refusal> {
+    let x = spawned(rt, cluster, &mut seat)?;
+    let y = spawned(rt, cluster, &mut seat)?;
+    if links(rt, cluster, &mut seat, &x, &y, true)? && has_link(rt, cluster, &mut seat, &x, &y)? {
+        return Ok(seat);
+    }
+    Err(Refusal::NothingThere)
+}
+
+fn two_read_back<R: Machine>(
+    rt: &R,
+    cluster: &Nodes,
+    a: Seat,
+    b: Seat,
+) -> (Result<Seat, Refusal>, Result<Seat, Refusal>) {
+    join(
+        rt,
+        || reads_back(rt, cluster, a),
+        || reads_back(rt, cluster, b),
+    )
+}
+
+// Four nodes, and the seats of four threads, each at a node of its own, which have read back what they
+// have asked for.
+fn four_read_back<R: Machine>(rt: &R, alloc: Global) -> Result<(Nodes, Vec<Seat>), Wrong> {
+    let cluster = cluster(rt, alloc, 4, Open)?;
+    let (a, b) = (cluster.seat(0)?, cluster.seat(1)?);
+    let (c, d) = (cluster.seat(2)?, cluster.seat(3)?);
+    let ((a, b), (c, d)) = join(
+        rt,
+        || two_read_back(rt, &cluster, a, b),
+        || two_read_back(rt, &cluster, c, d),
+    );
+    let mut seats = Vec::new(alloc);
+    seats.push(a?)?;
+    seats.push(b?)?;
+    seats.push(c?)?;
+    seats.push(d?)?;
+    Ok((cluster, seats))
+}
+
+/// Four threads call a node each, and read back what they have asked for. Each node has four calls then, and
+/// the signal of its link, which it sends to itself.
+fn read_back<R: Machine>(rt: &R, alloc: Global) -> Result<(), Wrong> {
+    let (cluster, seats) = four_read_back(rt, alloc)?;
+    check(10, settles(rt, &cluster))?;
+    let finished = finish_with(rt, cluster, seats)?;
+    check(11, finished.trace.entries.len() == 20)?;
+    check(12, is_whole(alloc, &finished)?)?;
+    let (cluster, mut seats) = four_read_back(rt, alloc)?;
+    drop(seats.pop());
+    check(
+        13,
+        matches!(
+            cluster.finish(rt, seats),
+            Err(FinishError::SeatsMissing { node: 3 })
+        ),
+    )
 }
 
 /// Four threads call four nodes at random.
@@ -339,10 +407,11 @@ enum Story {
     SeatLeftOut,
     NoSuchNode,
     TwoNodesAtOnce,
+    ReadBack,
     AtRandom,
 }
 
-const ALL: [Story; 9] = [
+const ALL: [Story; 10] = [
     Story::Link,
     Story::Flood,
     Story::Restart,
@@ -351,6 +420,7 @@ const ALL: [Story; 9] = [
     Story::SeatLeftOut,
     Story::NoSuchNode,
     Story::TwoNodesAtOnce,
+    Story::ReadBack,
     Story::AtRandom,
 ];
 
@@ -365,6 +435,7 @@ impl Story {
             Story::SeatLeftOut => "a seat is left out",
             Story::NoSuchNode => "there is no such node",
             Story::TwoNodesAtOnce => "two nodes at once",
+            Story::ReadBack => "four threads read back what they asked for",
             Story::AtRandom => "four threads call at random",
         }
     }
@@ -379,6 +450,7 @@ impl Story {
             Story::SeatLeftOut => seat_left_out(rt, alloc),
             Story::NoSuchNode => no_such_node(rt, alloc),
             Story::TwoNodesAtOnce => two_nodes_at_once(rt, alloc),
+            Story::ReadBack => read_back(rt, alloc),
             Story::AtRandom => at_random(rt, alloc),
         }
     }

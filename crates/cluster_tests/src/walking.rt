@@ -38,11 +38,7 @@ fn process<R: Wait>(
     let back = u32::try_from(random.below(LAST)).unwrap_or(0);
     let (creation, spawned) = cluster.look(rt, place, |node| (node.creation(), node.spawned()))?;
     let id = spawned.saturating_sub(back).max(1);
-    let text = String::from_str(alloc, name(place))?;
-    if !Atom::fits(text.as_str()) {
-        return Err(Refusal::BadName);
-    }
-    let node = Atom::new(text);
+    let node = name(alloc, place)?.atom().clone()?;
     Ok((
         place,
         Pid {
@@ -81,7 +77,7 @@ fn command(random: &mut Random, from: Pid, to: Pid) -> Command {
 }
 
 fn trunk(alloc: Global, random: &mut Random) -> Result<TrunkId, Refusal> {
-    let dialer = NodeName::read(alloc, name(random.below(NODES)))?;
+    let dialer = name(alloc, random.below(NODES))?;
     let count = random.below(6) as u64;
     Ok(TrunkId { dialer, count })
 }
@@ -97,7 +93,7 @@ fn act<R: Wait>(
     match random.below(1000) {
         0..=79 => Ok((place, Act::Run(Command::Spawn))),
         80..=119 => {
-            let peer = NodeName::read(alloc, name(random.below(NODES)))?;
+            let peer = name(alloc, random.below(NODES))?;
             let word = u32::try_from(random.below(1000)).unwrap_or(0);
             Ok((place, Act::Dial { peer, word }))
         }
