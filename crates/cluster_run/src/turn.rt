@@ -35,4 +35,10 @@ impl Turn {
             Step::Wanting => self.shortages = self.shortages.saturating_add(1),
         }
     }
+
+    /// What has come of another turn.
+    pub(crate) fn add(&mut self, other: Turn) {
+        self.is_done = self.is_done || other.is_done;
+        self.shortages = self.shortages.saturating_add(other.shortages);
+    }
 }

@@ -15,6 +15,9 @@ use std::thread;
 use wire_core::Offer;
 use world_events::NodeEvent;
 
+/// So often at most a thread does one of each thing before it gives up its node's lock.
+const TURNS: usize = 16;
+
 // A connection of the node, and the place of the node at its other end.
 #[derive(Drop)]
 struct Route {
@@ -255,6 +258,19 @@ impl Worker {
         turn
     }
 
+    // The same again and again, as long as something is done.
+    fn turns_in<R: Wait, G: Gate>(&mut self, rt: &R, shared: &Shared<G>, book: &mut Book) -> Turn {
+        let mut all = Turn::new();
+        for _ in 0..TURNS {
+            let turn = self.turn_in(rt, shared, book);
+            all.add(turn);
+            if !turn.is_done {
+                break;
+            }
+        }
+        all
+    }
+
     // The same, under the node's lock.
     fn turn<R: Wait, G: Gate>(&mut self, rt: &R, shared: &Shared<G>) -> Turn {
         let Some(desk) = shared.desks.get(self.node) else {
@@ -262,7 +278,7 @@ impl Worker {
         };
         let mut guard = desk.lock.lock(rt);
         let turn = match &mut *guard {
-            Some(book) => self.turn_in(rt, shared, book),
+            Some(book) => self.turns_in(rt, shared, book),
             None => Turn::new(),
         };
         drop(guard);

@@ -380,19 +380,17 @@ fn small<R: Machine>(rt: &R, alloc: Global) -> Result<(), Wrong> {
     check(13, is_whole(alloc, &finishes(rt, alloc, two)?)?)
 }
 
-/// A short run, for the refusal of each allocation in turn: whether it could be done. It is told where
-/// anything but memory was wanting.
+/// A short run, for the refusal of each allocation in turn: whether it could be done. Where it couldn't,
+/// what was wanting is told.
 pub fn tell_small<R: Machine>(rt: &R, alloc: Global) -> Result<bool> {
     match small(rt, alloc) {
         Ok(()) => {
             println!(rt; "done")?;
             Ok(true)
         }
-        Err(Wrong::Refused(Refusal::OutOfMemory)) => Ok(false),
-        Err(Wrong::NoMemoryToMerge) => Ok(false),
         Err(wrong) => {
-            println!(rt; "{wrong:?}")?;
-            Ok(true)
+            println!(rt; "{wrong}")?;
+            Ok(false)
         }
     }
 }
