@@ -1,7 +1,7 @@
 -- The entries of a run, gone through once more.
-use Rattle.std.proofs.Common.{◌≡◌, ◌≢◌, ◌⊎◌, ℕ, zero, suc, ◌<◌, Bool, true, false, not, ◌||◌, ◌&&◌, Option, None, Some, Result, Ok, Err, List, [], ◌∷◌, drop, get_or, inl, inr, length, map, refl, sym, ap, ◌∙◌, subst, arith}
+use Rattle.std.proofs.Common.{◌≡◌, ◌≢◌, ◌⊎◌, ℕ, zero, suc, ◌+◌, ◌<◌, ◌≤◌, Bool, true, false, not, ◌||◌, ◌&&◌, Option, None, Some, Result, Ok, Err, List, [], ◌∷◌, drop, get_or, inl, inr, length, map, refl, sym, ap, ◌∙◌, subst, arith}
 use Rattle.std.specs.List.{AllZip, slice_get}
-use Rattle.std.proofs.lemmas.List.{drop_more}
+use Rattle.std.proofs.lemmas.List.{drop_all, drop_more}
 use Rattle.dist_books.specs.Acting.{Nodes, names_of}
 use Rattle.dist_books.specs.Acting as books
 use Rattle.dist_books.specs.Books.{AreDistinct}
@@ -104,7 +104,7 @@ module _ (nodes : Nodes) (all : List BookSeen) where
   begins entries r world stands =
       record { m = opening nodes; names = refl; stands = stands; merged = r.merged; shown = r.shown; runs = r.run.runs }
 
-  pub ends : (end : model.World) (world : World) → Going [] end world → Stands world end
+  ends : (end : model.World) (world : World) → Going [] end world → Stands world end
   ends end world g = over g.merged g.shown g.runs
     where
       over : (merged : List run.Placed) → AllZip (Shows all nodes) [] merged → Runs g.m (run.events_of merged) (run.reports_of merged) end
@@ -116,7 +116,7 @@ module _ (nodes : Nodes) (all : List BookSeen) where
   some_is a b e = cc
 
   -- the first of the rest is an entry of the books
-  pub there : (placed : Placed) (rest : List Placed) (end : model.World) (world : World) → Going (placed ∷ rest) end world
+  there : (placed : Placed) (rest : List Placed) (end : model.World) (world : World) → Going (placed ∷ rest) end world
       → slice_get (entries_at all placed.node) placed.position ≢ None
   there placed rest end world g none = over g.merged g.shown
     where
@@ -124,7 +124,7 @@ module _ (nodes : Nodes) (all : List BookSeen) where
       over [] h = h
       over (x ∷ xs) h = let no : ◌≡◌ {A = Option Entry} None (Some h.0.entry) = sym none ∙ h.0.there in cc
 
-  pub goes : (placed : Placed) (rest : List Placed) (end : model.World) (world new : World) (entry : Entry)
+  goes : (placed : Placed) (rest : List Placed) (end : model.World) (world new : World) (entry : Entry)
       → slice_get (entries_at all placed.node) placed.position ≡ Some entry → Going (placed ∷ rest) end world
       → ((m : model.World) → Stands world m → HappensAgain m placed.node entry new) → Going rest end new
   goes placed rest end world new entry is g again = over g.merged g.shown g.runs
@@ -156,13 +156,29 @@ module _ (nodes : Nodes) (all : List BookSeen) where
             runs = runs.2;
           }
 
-  -- the entries from a place on
-  pub from_place : (entries : List Placed) (i : ℕ) (placed : Placed) (end : model.World) (world : World) → i < length entries
-      → placed ≡ get_or entries i placed
-      → Going (drop i entries) end world → Going (placed ∷ drop (i + 1) entries) end world
-  from_place entries i placed end world within is g =
-      subst (λ l. Going l end world)
-      (drop_more entries i placed within ∙ ap (λ (x : Placed). x ∷ drop (i + 1) entries) (sym is)) g
+  -- the entries from a place on, as they were read
+  module _ (entries read : List Placed) (same : read ≡ entries) (i : ℕ) (d : Placed) (end : model.World) (world : World)
+      (within : i < length read) where
+    abbrev placed : Placed
+    placed = get_or read i d
+
+    from_place : Going (drop i entries) end world → Going (placed ∷ drop (i + 1) read) end world
+    from_place g = subst (λ l. Going l end world) (drop_more read i d within) (subst (λ l. Going (drop i l) end world) (sym same) g)
+
+    pub there_at : Going (drop i entries) end world → slice_get (entries_at all placed.node) placed.position ≢ None
+    there_at g = there placed (drop (i + 1) read) end world (from_place g)
+
+    pub goes_at : (new : World) (entry : Entry) → slice_get (entries_at all placed.node) placed.position ≡ Some entry
+        → Going (drop i entries) end world
+        → ((m : model.World) → Stands world m → HappensAgain m placed.node entry new) → Going (drop (i + 1) entries) end new
+    goes_at new entry is g again =
+        subst (λ l. Going (drop (i + 1) l) end new) same
+        (goes placed (drop (i + 1) read) end world new entry is (from_place g) again)
+
+  pub ends_at : (entries read : List Placed) → read ≡ entries → (i : ℕ) → length read ≤ i → (end : model.World) (world : World)
+      → Going (drop i entries) end world → Stands world end
+  ends_at entries read same i past end world g =
+      ends end world (subst (λ l. Going l end world) (drop_all i entries (subst (λ l. length l ≤ i) same past)) g)
 
 -- ---- names that are distinct
 

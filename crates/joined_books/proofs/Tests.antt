@@ -1,10 +1,12 @@
 -- Tests that tell a fact, names and lists.
 use Rattle.std.specs.Prelude.{IsTrue, ◌↔◌}
-use Rattle.std.proofs.Common.{◌≡◌, ◌≢◌, ℕ, zero, suc, ◌<◌, Bool, true, false, List, [], ◌∷◌, get_or, length, refl, sym, ap, ◌∙◌, arith}
+use Rattle.std.proofs.Common.{◌≡◌, ◌≢◌, ℕ, zero, suc, ◌<◌, ◌≤◌, Bool, true, false, List, [], ◌∷◌, get_or, length, refl, sym, ap, ◌∙◌, arith}
 use Rattle.std.proofs.lemmas.List.{same_lists}
 use Rattle.dist_books.specs.Acting.{Nodes, name_at}
 use Rattle.dist_model.proofs.Keys.{same_name_is, same_name_true}
 use Rattle.dist_model.specs.Names.{Name, same_name}
+use Rattle.joined_books.specs.Names.{IsInPlace}
+use Rattle.node_book.specs.Seen.{BookSeen}
 
 -- a test that is true, or false, of a fact that holds, or doesn't
 pub is_so : {H : Type 0} → H → IsTrue true ↔ H
@@ -39,9 +41,22 @@ read [] k x e below is = absurd (omega arith)
 read (y ∷ ys) zero x e below is = sym is
 read (y ∷ ys) (suc k) x e below is = read ys k x e (omega arith) is
 
--- the name of a node that was read
-pub name_read : (nodes : Nodes) (k : ℕ) (x : Name × List ℕ) → k < length nodes → x ≡ get_or nodes k x → name_at nodes k ≡ x.0
-name_read nodes k x below is = ap (λ (node : Name × List ℕ). node.0) (read nodes k x ([], []) below is)
+-- the name and the cookie of a node that was read
+pub name_read : (nodes : Nodes) (k : ℕ) (d : Name × List ℕ) → k < length nodes → name_at nodes k ≡ (get_or nodes k d).0
+name_read [] k d below = absurd (omega arith)
+name_read (node ∷ nodes) zero d below = refl
+name_read (node ∷ nodes) (suc k) d below = name_read nodes k d (omega arith)
+
+pub cookie_read : (nodes : Nodes) (k : ℕ) (d : Name × List ℕ) → k < length nodes → (get_or nodes k ([], [])).1 ≡ (get_or nodes k d).1
+cookie_read [] k d below = absurd (omega arith)
+cookie_read (node ∷ nodes) zero d below = refl
+cookie_read (node ∷ nodes) (suc k) d below = cookie_read nodes k d (omega arith)
+
+-- no more books than nodes
+pub no_more : (nodes : Nodes) (books : List BookSeen) → ((k : ℕ) → k < length books → (d : BookSeen) → IsInPlace nodes k (get_or books k d))
+    → length books ≤ length nodes
+no_more nodes [] h = omega arith
+no_more nodes (book ∷ books) h = let w = (h (length books) (omega arith) book).within in omega (arith, w)
 
 -- two names that were read and compared
 module _ (p q x y u v : Name) (r : Bool) (x_is : p ≡ x) (y_is : q ≡ y) (u_is : u ≡ x) (v_is : v ≡ y) (r_is : r ≡ same_name u v) where

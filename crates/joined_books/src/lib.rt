@@ -14,11 +14,11 @@ mod merge;
 mod names;
 mod order;
 mod receipts;
-mod replay;
+mod rerun;
 mod trace;
 mod wires;
 
 pub use error::FinishError;
 pub use merge::merge_books;
-pub use replay::replay;
+pub use rerun::replay;
 pub use trace::{Placed, Trace};

@@ -1,5 +1,5 @@
 //! Whether books are of the nodes of one world.
-ghost use Rattle.std.specs.Prelude.{◌≡◌, ◌≢◌, ◌↔◌, ℕ, ◌<◌, IsTrue, MatchOption, length};
+ghost use Rattle.std.specs.Prelude.{◌≡◌, ◌≢◌, ◌↔◌, ℕ, ◌<◌, [], IsTrue, MatchOption, length, slice_index_or};
 ghost use Rattle.dist_books.specs.Acting.{name_at, names_of};
 ghost use Rattle.joined_books.specs.Names.{AreInPlace, IsInPlace, IsStrangeBook};
 
@@ -36,14 +36,25 @@ fn is_new(nodes: &[(NodeName, Cookie)], place: usize) -> bool
     true
 }
 
+// Whether the node at a place has this cookie.
+fn has_cookie(nodes: &[(NodeName, Cookie)], place: usize, cookie: &Cookie) -> bool
+    requires { place < length nodes.now }
+    ensures { IsTrue result ↔ (cookie.now ≡ (slice_index_or nodes.now place ([], [])).1) }
+{
+    let (_, own) = &nodes[place];
+    cookie.as_slice() == own.as_slice()
+}
+
 // Whether a book is of the node at this place.
 fn is_in_place(nodes: &[(NodeName, Cookie)], place: usize, book: &Book) -> bool
     ensures { IsTrue result ↔ IsInPlace nodes.now place book.now }
 {
-    place < nodes.len()
-        && book.place() == place
+    if place >= nodes.len() {
+        return false;
+    }
+    book.place() == place
         && are_names(book.names(), nodes)
-        && book.cookie().as_slice() == nodes[place].1.as_slice()
+        && has_cookie(nodes, place, book.cookie())
         && is_new(nodes, place)
 }
 

@@ -6,12 +6,6 @@ use Rattle.joined_books.proofs.Naming.{name_is}
 use Rattle.joined_books.proofs.Tests.{is_not, is_so, list_from_places, name_read, other_read, read, same_read}
 use Rattle.joined_books.proofs.names.are_names.Goals as goal
 
-pub returns-then : goal.returns-then
-returns-then c =
-    let nodes = c.args.nodes.now in
-    let lens = length-map nodes (λ node. node.0) in
-    is_not (λ e. (let no = ap length e in omega (arith, no, lens)))
-
 pub returns-then-not-same_name : goal.returns-then-not-same_name
 returns-then-not-same_name c =
     let names = c.args.names.now in
@@ -19,10 +13,10 @@ returns-then-not-same_name c =
     let k = c.loop-place.place in
     let within : k < length names = omega arith in
     let also : k < length nodes = omega arith in
-    let differ = other_read (get_or names k []) (name_at nodes k) c.index-names-place.result c.index-nodes-place.result.0
+    let differ = other_read (get_or names k []) (name_at nodes k) c.index-names-place.result (get_or nodes k c.index-nodes-place.result).0
     c.atom.result.now c.atom-in-loop-place.result.now c.same_name.result
     (read names k c.index-names-place.result [] within c.index-names-place.is)
-    (name_read nodes k c.index-nodes-place.result also c.index-nodes-place.is)
+    (name_read nodes k c.index-nodes-place.result also)
     c.atom.ensures c.atom-in-loop-place.ensures c.same_name.ensures c.if-not-same_name.true in
     is_not (λ e. differ (ap (λ l. get_or l k []) e ∙ sym (name_is nodes k)))
 
@@ -34,10 +28,10 @@ loop-place-preserved c =
     let within : k < length names = omega arith in
     let also : k < length nodes = omega arith in
     below_more _ _ c.loop-place.invariant
-    (same_read (get_or names k []) (name_at nodes k) c.index-names-place.result c.index-nodes-place.result.0
+    (same_read (get_or names k []) (name_at nodes k) c.index-names-place.result (get_or nodes k c.index-nodes-place.result).0
     c.atom.result.now c.atom-in-loop-place.result.now c.same_name.result
     (read names k c.index-names-place.result [] within c.index-names-place.is)
-    (name_read nodes k c.index-nodes-place.result also c.index-nodes-place.is)
+    (name_read nodes k c.index-nodes-place.result also)
     c.atom.ensures c.atom-in-loop-place.ensures c.same_name.ensures c.if-not-same_name.false)
 
 pub returns : goal.returns

@@ -1,7 +1,7 @@
 use Rattle.std.proofs.Common.{ℕ, zero, suc, ◌≡◌, ◌<◌, ◌≤◌, arith, inl, inr, length, sym, subst, slice_index_or}
 use borrow.Author.Count.{below_more}
 use Rattle.dist_books.specs.Acting.{Nodes}
-use Rattle.joined_books.proofs.Tests.{fails, holds, read}
+use Rattle.joined_books.proofs.Tests.{fails, holds, no_more, read}
 use Rattle.joined_books.specs.Names.{IsInPlace}
 use Rattle.node_book.specs.Seen.{BookSeen}
 use Rattle.joined_books.proofs.names.strange_book.Goals as goal
@@ -26,3 +26,12 @@ loop-place-preserved c =
     below_more P k c.loop-place.invariant
     (λ d. subst (IsInPlace nodes k)
     (sym (read books k c.index-books-place.result d c.loop-place-test.true c.index-books-place.is)) here)
+
+pub returns : goal.returns
+returns c =
+    let nodes = c.args.nodes.now in
+    let books = c.args.books.now in
+    let each : (k : ℕ) → k < length books → (d : BookSeen) → IsInPlace nodes k (slice_index_or books k d) =
+    λ k below. c.loop-place.invariant k (omega arith) in
+    let most = no_more nodes books each in
+    record { each = λ k d below. each k below d; one_each = omega (arith, most) }

@@ -44,13 +44,20 @@ fn opened(alloc: Global, nodes: &[(NodeName, Cookie)]) -> Result<World, Refusal>
     Ok(World::new(alloc, copies)?)
 }
 
+fn entry_of(entries: &[Entry], position: usize) -> Option<&Entry>
+    ensures { option_copied result ≡ slice_get entries.now position }
+{
+    entries.get(position)
+}
+
 // The entry that stands at a place.
 fn entry_at<'a>(books: &'a [Book], placed: &Placed) -> Option<&'a Entry>
-    ensures { option_copied result.entry ≡ slice_get (entries_at books.now placed.now.node) placed.now.position }
+    ensures { option_copied result ≡ slice_get (entries_at books.now placed.now.node) placed.now.position }
 {
-    books
-        .get(placed.node)
-        .and_then(|book| book.entries().get(placed.position))
+    if placed.node >= books.len() {
+        return None;
+    }
+    entry_of(books[placed.node].entries(), placed.position)
 }
 
 // What an entry tells happens in a world, at the node of a place.
@@ -85,11 +92,13 @@ pub fn replay(
     ensures err { AreARun nodes.now books.now trace.now.entries.items → IfErr result (λ e. e ≡ OutOfMemory) }
 {
     let mut world = opened(alloc, nodes)?;
-    for placed in &trace.entries {
-        let Some(entry) = entry_at(books, placed) else {
-            return Err(Refusal::NothingThere);
-        };
-        happens(alloc, &mut world, placed.node, entry)?;
+    let entries = trace.entries.as_slice();
+    for at in 0..entries.len() {
+        let placed = &entries[at];
+        match entry_at(books, placed) {
+            Some(entry) => happens(alloc, &mut world, placed.node, entry)?,
+            None => return Err(Refusal::NothingThere),
+        }
     }
     Ok(world)
 }
