@@ -1,17 +1,26 @@
 -- What merged books come to.
-use Rattle.std.proofs.Common.{◌≡◌, ℕ, List, length, subst}
-use Rattle.std.specs.Prelude.{IfOk, Ok, Err, Result}
+use Rattle.std.proofs.Common.{◌≡◌, List, ◌∙◌, subst}
 use Rattle.cluster_run.specs.Finishing.{IsFinished}
+use Rattle.dist_books.specs.Acting.{Nodes}
 use Rattle.joined_books.specs.Joined.{AreARun, IsTrace}
 use Rattle.joined_books.specs.Receipts.{AreReceipts}
-use Rattle.joined_books.specs.declared.error.FinishError.{FinishError}
-use Rattle.joined_books.specs.declared.trace.Trace.{Trace}
+use Rattle.joined_books.specs.declared.trace.Placed.{Placed}
 use Rattle.node_book.specs.Seen.{BookSeen}
 use Rattle.node_lock.specs.declared.seat.Seat.{Seat}
 
-pub finished : (r : Result Trace FinishError) (books : List BookSeen) (count : ℕ) (seats all : List Seat) → length books ≡ count → seats ≡ all
-    → IfOk r (λ trace. IsTrace books trace.entries.items) → IfOk r (λ trace. AreARun books trace.entries.items) → IfOk r (λ _. AreReceipts books seats)
-    → IfOk r (λ trace. IsFinished count all trace.entries.items)
-finished (Ok trace) books count seats all many same t u v =
-    record { books = books; one_each = many; trace = t; run = u; receipts = subst (AreReceipts books) same v }
-finished (Err e) books count seats all many same t u v = _
+-- of nodes, books and seats that were lent
+module _ (entries : List Placed) (own nodes lent_nodes : Nodes) (books lent_books : List BookSeen) (seats lent_seats : List Seat)
+    (kept : nodes ≡ own) (nodes_are : lent_nodes ≡ nodes) (books_are : lent_books ≡ books) (seats_are : lent_seats ≡ seats) where
+  pub finished : IsTrace lent_books entries → AreARun lent_nodes lent_books entries → AreReceipts lent_books lent_seats
+      → (nodes ≡ own) × IsFinished own books seats entries
+  finished trace run receipts =
+      let is : AreARun own books entries =
+      subst (λ l. AreARun own l entries) books_are (subst (λ l. AreARun l lent_books entries) (nodes_are ∙ kept) run) in (
+        kept,
+        record {
+          one_each = is.one_each;
+          trace = subst (λ l. IsTrace l entries) books_are trace;
+          run = is;
+          receipts = subst (λ l. AreReceipts l seats) books_are (subst (λ l. AreReceipts lent_books l) seats_are receipts);
+        },
+      )
