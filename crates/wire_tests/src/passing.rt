@@ -1,43 +1,40 @@
 //! Parcels on a wire.
 ghost use Rattle.std.specs.Prelude.{◌≡◌};
 
+use crate::acts::{name, trunk};
+use crate::telling::{Machine, Wrong, check};
 use erl_names::{NodeName, TrunkId};
+use erl_term::Refusal;
 use node_ports::Port;
 use std::alloc::{AllocError, Global};
 use std::sync::Wait;
-use std::test::*;
-use std::thread;
+use std::thread::{join, yield_now};
 use wire_core::{CAPACITY, Direction, Offer, Parcel, Piece, WireIn, WireOut, audit, connect, wire};
 
+/// So many parcels pass from thread to thread.
 const COUNT: u64 = 10_000;
 
-fn trunk(alloc: Global) -> Result<TrunkId, Fail> {
-    Ok(TrunkId {
-        dialer: NodeName::read(alloc, "a@h")?,
-        count: 1,
-    })
-}
-
-// A tick.
-fn tick(alloc: Global) -> Result<Piece, AllocError> {
+/// What ticks carry.
+pub fn tick(alloc: Global) -> Result<Piece, AllocError> {
     Ok(Piece::new(vec![in alloc; 0; 4]?))
 }
 
-fn parcel(alloc: Global, trunk: &TrunkId, seq: u64) -> Result<Parcel, AllocError> {
+fn parcel(trunk: &TrunkId, seq: u64, piece: &Piece) -> Result<Parcel, AllocError> {
     Ok(Parcel {
         trunk: trunk.clone()?,
         towards: Direction::ToAcceptor,
         seq,
         stamp: seq.wrapping_add(1),
-        bytes: tick(alloc)?,
+        bytes: piece.clone()?,
     })
 }
 
-fn parcels(alloc: Global, count: u64) -> Result<Vec<Parcel>, Fail> {
+/// So many parcels in order that carry this.
+pub fn parcels(alloc: Global, piece: &Piece, count: u64) -> Result<Vec<Parcel>, Refusal> {
     let trunk = trunk(alloc)?;
     let mut all = Vec::new(alloc);
     for seq in 0..count {
-        all.push(parcel(alloc, &trunk, seq)?)?;
+        all.push(parcel(&trunk, seq, piece)?)?;
     }
     Ok(all)
 }
@@ -52,7 +49,7 @@ fn put<R: Wait>(rt: &R, out: &mut WireOut, parcel: Parcel)
             Ok(()) => return,
             Err(back) => waiting = back,
         }
-        thread::yield_now();
+        yield_now();
     }
     unreachable!()
 }
@@ -74,105 +71,241 @@ fn take<R: Wait>(rt: &R, into: &mut WireIn) -> Parcel
         if let Some(parcel) = into.take(rt) {
             return parcel;
         }
-        thread::yield_now();
+        yield_now();
     }
     unreachable!()
 }
 
-// Whether so many parcels come in their order.
-fn take_all<R: Wait>(rt: &R, mut into: WireIn, count: u64) -> (WireIn, bool)
+// Whether so many parcels come in their order, with these bytes each.
+fn take_all<R: Wait>(rt: &R, mut into: WireIn, count: u64, bytes: &[u8]) -> (WireIn, bool)
     ensures { result.0.wire ≡ into.wire }
 {
     let mut in_order = true;
     for seq in 0..count {
         let parcel = take(rt, &mut into);
-        in_order &= parcel.seq == seq && parcel.bytes.as_slice() == [0, 0, 0, 0].as_slice();
+        in_order &= parcel.seq == seq && parcel.bytes.as_slice() == bytes;
     }
     (into, in_order)
 }
 
-#[test]
-fn parcels_pass_from_thread_to_thread(rt: HostRuntime) -> Result<(), Fail> {
-    let all = parcels(rt.alloc(), COUNT)?;
-    let (out, into) = wire(rt.alloc())?;
-    let (out, (into, in_order)) = thread::join(
-        &rt,
-        move ||
-            ensures { result.wire ≡ out.wire }
-        { put_all(&rt, out, all) },
-        move ||
-            ensures { result.0.wire ≡ into.wire }
-        { take_all(&rt, into, COUNT) },
-    );
-    assert!(rt; in_order);
-    assert_eq!(rt; audit(&rt, out, into), 0);
-    Ok(())
+/// What comes of it where parcels pass.
+#[derive(Clone, Copy)]
+pub struct Passed {
+    /// Whether they come in their order, and with their bytes.
+    pub in_order: bool,
+    /// How many the wire still holds.
+    pub left: u64,
 }
 
-#[test]
-fn a_full_wire_gives_a_parcel_back(rt: HostRuntime) -> Result<(), Fail> {
-    let alloc = rt.alloc();
+/// Parcels that have these bytes each pass over a wire from one thread to another.
+pub fn pass<R: Machine>(
+    rt: &R,
+    alloc: Global,
+    parcels: Vec<Parcel>,
+    bytes: &[u8],
+) -> Result<Passed, AllocError> {
+    let (out, into) = wire(alloc)?;
+    let count = parcels.len() as u64;
+    let (out, (into, in_order)) = join(
+        rt,
+        move ||
+            ensures { result.wire ≡ out.wire }
+        { put_all(rt, out, parcels) },
+        move ||
+            ensures { result.0.wire ≡ into.wire }
+        { take_all(rt, into, count, bytes) },
+    );
+    Ok(Passed {
+        in_order,
+        left: audit(rt, out, into),
+    })
+}
+
+/// Parcels pass from thread to thread in their order, and none is left.
+pub fn two_threads<R: Machine>(rt: &R, alloc: Global) -> Result<(), Wrong> {
+    let piece = tick(alloc)?;
+    let parcels = parcels(alloc, &piece, COUNT)?;
+    let passed = pass(rt, alloc, parcels, piece.as_slice())?;
+    check(1, passed.in_order)?;
+    check(2, passed.left == 0)
+}
+
+// The place in its direction of the parcel that came back.
+fn back(put: Result<(), Parcel>) -> Option<u64> {
+    match put {
+        Ok(()) => None,
+        Err(parcel) => Some(parcel.seq),
+    }
+}
+
+// The place in its direction of the parcel that was taken.
+fn seq(taken: Option<Parcel>) -> Option<u64> {
+    match taken {
+        Some(parcel) => Some(parcel.seq),
+        None => None,
+    }
+}
+
+// Whether so many parcels are put that the wire is full.
+fn fills<R: Wait>(
+    rt: &R,
+    out: &mut WireOut,
+    trunk: &TrunkId,
+    piece: &Piece,
+) -> Result<bool, AllocError> {
+    for seq in 0..CAPACITY as u64 {
+        if back(out.put(rt, parcel(trunk, seq, piece)?)).is_some() {
+            return Ok(false);
+        }
+    }
+    Ok(true)
+}
+
+fn overfill<R: Wait>(
+    rt: &R,
+    out: &mut WireOut,
+    into: &mut WireIn,
+    trunk: &TrunkId,
+    piece: &Piece,
+) -> Result<(), Wrong> {
+    check(1, fills(rt, out, trunk, piece)?)?;
+    let more = parcel(trunk, 64, piece)?;
+    check(2, back(out.put(rt, more)) == Some(64))?;
+    check(3, seq(into.take(rt)) == Some(0))?;
+    let more = parcel(trunk, 64, piece)?;
+    check(4, back(out.put(rt, more)).is_none())
+}
+
+/// A full wire gives a parcel back, and takes it when another was taken.
+pub fn full_wire<R: Machine>(rt: &R, alloc: Global) -> Result<(), Wrong> {
+    let piece = tick(alloc)?;
     let (dialer, acceptor) = connect(alloc, trunk(alloc)?)?;
-    let Offer { out, .. } = dialer;
+    let Offer { mut out, .. } = dialer;
     let Offer {
         mut into,
         trunk,
         ..
     } = acceptor;
-    let mut out = put_all(&rt, out, parcels(alloc, CAPACITY as u64)?);
-    match out.put(&rt, parcel(alloc, &trunk, 64)?) {
-        Ok(()) => assert!(rt; false, "it held one more"),
-        Err(back) => assert_eq!(rt; back.seq, 64),
-    }
-    assert_eq!(rt; into.take(&rt).map(|parcel| parcel.seq), Some(0));
-    assert!(rt; out.put(&rt, parcel(alloc, &trunk, 64)?).is_ok());
-    Ok(())
+    let filled = overfill(rt, &mut out, &mut into, &trunk, &piece);
+    drop(out);
+    drop(into);
+    drop(trunk);
+    filled
 }
 
-// The two ends of a connection.
-fn ports(alloc: Global, trunk: &TrunkId) -> Result<(Port, Port), Fail> {
-    let dialer = NodeName::read(alloc, "a@h")?;
-    let acceptor = NodeName::read(alloc, "b@h")?;
-    let (ours, theirs) = connect(alloc, trunk.clone()?)?;
-    Ok((
-        Port::new(alloc, acceptor, ours),
-        Port::new(alloc, dialer, theirs),
-    ))
+/// What two ports are called for, and what they answer.
+#[derive(Clone, Copy)]
+enum Step {
+    /// The one is to send a parcel of this place in its direction.
+    Send(u64),
+    /// Whether it puts one.
+    Flush(bool),
+    /// So many it has put.
+    HasPut(usize),
+    /// Whether the other takes one.
+    Fetch(bool),
+    /// The place of the one that comes next there.
+    Next(Option<u64>),
+    /// That one has come.
+    DropFirst,
+    /// So many it has taken.
+    HasTaken(usize),
 }
+
+/// Two parcels, each of which comes when the one before has.
+const STEPS: &[Step] = &[
+    Step::Flush(false),
+    Step::Send(0),
+    Step::Send(1),
+    Step::Flush(true),
+    Step::Flush(true),
+    Step::Flush(false),
+    Step::HasPut(2),
+    Step::Fetch(true),
+    Step::Fetch(false),
+    Step::Next(Some(0)),
+    Step::DropFirst,
+    Step::Fetch(true),
+    Step::Next(Some(1)),
+    Step::DropFirst,
+    Step::Fetch(false),
+    Step::Next(None),
+    Step::HasTaken(2),
+];
 
 // The place in its direction of the parcel that comes next.
 fn next(port: &Port) -> Option<u64> {
-    port.first().map(|parcel| parcel.seq)
+    match port.first() {
+        Some(parcel) => Some(parcel.seq),
+        None => None,
+    }
 }
 
-// Whether two parcels pass from one port to the other, each when the one before has come.
-fn pass_two<R: Wait>(
+fn holds<R: Wait>(
+    rt: &R,
+    trunk: &TrunkId,
+    piece: &Piece,
+    from: &mut Port,
+    to: &mut Port,
+    step: Step,
+) -> Result<bool, AllocError> {
+    match step {
+        Step::Send(seq) => {
+            from.send(parcel(trunk, seq, piece)?)?;
+            Ok(true)
+        }
+        Step::Flush(does) => Ok(from.flush(rt)? == does),
+        Step::HasPut(count) => Ok(from.put().len() == count),
+        Step::Fetch(does) => Ok(to.fetch(rt)? == does),
+        Step::Next(seq) => Ok(next(to) == seq),
+        Step::DropFirst => {
+            to.drop_first();
+            Ok(true)
+        }
+        Step::HasTaken(count) => Ok(to.taken().len() == count),
+    }
+}
+
+fn step_all<R: Wait>(
     rt: &R,
     alloc: Global,
     trunk: &TrunkId,
     from: &mut Port,
     to: &mut Port,
-) -> Result<bool, AllocError> {
-    let mut is_right = !from.flush(rt)?;
-    from.send(parcel(alloc, trunk, 0)?)?;
-    from.send(parcel(alloc, trunk, 1)?)?;
-    is_right &= from.flush(rt)? && from.flush(rt)? && !from.flush(rt)?;
-    is_right &= to.fetch(rt)? && !to.fetch(rt)? && next(to) == Some(0);
-    to.drop_first();
-    is_right &= to.fetch(rt)? && next(to) == Some(1);
-    to.drop_first();
-    is_right &= !to.fetch(rt)? && next(to).is_none();
-    Ok(is_right && from.put().len() == 2 && to.taken().len() == 2)
+) -> Result<(), Wrong> {
+    let piece = tick(alloc)?;
+    let mut number = 0u32;
+    for step in STEPS {
+        number = number.saturating_add(1);
+        if !holds(rt, trunk, &piece, from, to, *step)? {
+            return Err(Wrong::Row(number));
+        }
+    }
+    Ok(())
 }
 
-#[test]
-fn two_ports_pass_parcels(rt: HostRuntime) -> Result<(), Fail> {
-    let alloc = rt.alloc();
+fn pass_two<R: Wait>(
+    rt: &R,
+    alloc: Global,
+    trunk: &TrunkId,
+    dialer: Offer,
+    acceptor: Offer,
+) -> Result<(), Wrong> {
+    let ours = NodeName::read(alloc, name(0))?;
+    let theirs = NodeName::read(alloc, name(1))?;
+    let mut from = Port::new(alloc, theirs, dialer);
+    let mut to = Port::new(alloc, ours, acceptor);
+    let passed = step_all(rt, alloc, trunk, &mut from, &mut to);
+    drop(from);
+    drop(to);
+    passed
+}
+
+/// Two parcels pass from one port to the other.
+pub fn two_ports<R: Machine>(rt: &R, alloc: Global) -> Result<(), Wrong> {
     let trunk = trunk(alloc)?;
-    let (mut dialer, mut acceptor) = ports(alloc, &trunk)?;
-    let is_right = pass_two(&rt, alloc, &trunk, &mut dialer, &mut acceptor);
-    drop(dialer);
-    drop(acceptor);
-    assert!(rt; is_right?);
-    Ok(())
+    let (dialer, acceptor) = connect(alloc, trunk.clone()?)?;
+    let passed = pass_two(rt, alloc, &trunk, dialer, acceptor);
+    drop(trunk);
+    passed
 }
