@@ -1,12 +1,16 @@
 -- What merged books come to.
 use Rattle.std.proofs.Common.{◌≡◌, List, ◌∙◌, subst}
+use Rattle.std.specs.Prelude.{IfOk, Result}
 use Rattle.cluster_run.specs.Finishing.{IsFinished}
 use Rattle.dist_books.specs.Acting.{Nodes}
+use Rattle.erl_term.specs.declared.refusal.Refusal.{Refusal}
 use Rattle.joined_books.specs.Joined.{AreARun, IsTrace}
 use Rattle.joined_books.specs.Receipts.{AreReceipts}
 use Rattle.joined_books.specs.declared.trace.Placed.{Placed}
 use Rattle.node_book.specs.Seen.{BookSeen}
 use Rattle.node_lock.specs.declared.seat.Seat.{Seat}
+use Rattle.world_core.specs.Stands.{Stands}
+use Rattle.world_core.specs.declared.world.World.{World}
 
 -- of nodes, books and seats that were lent
 module _ (entries : List Placed) (own nodes lent_nodes : Nodes) (books lent_books : List BookSeen) (seats lent_seats : List Seat)
@@ -24,3 +28,12 @@ module _ (entries : List Placed) (own nodes lent_nodes : Nodes) (books lent_book
           receipts = subst (λ l. AreReceipts l seats) books_are (subst (λ l. AreReceipts lent_books l) seats_are receipts);
         },
       )
+
+-- the world at the end of their run
+module _ (entries : List Placed) (nodes lent_nodes : Nodes) (books lent_books : List BookSeen) (r : Result World Refusal) where
+  abbrev pub IsItsWorld : Nodes → List BookSeen → Type 0
+  IsItsWorld ns bs = (run : AreARun ns bs entries) → IfOk r (λ world. Stands world run.run.world)
+
+  pub lent : lent_nodes ≡ nodes → lent_books ≡ books → IsItsWorld lent_nodes lent_books → IsItsWorld nodes books
+  lent nodes_are books_are is =
+      subst (λ l. IsItsWorld nodes l) books_are (subst (λ l. IsItsWorld l lent_books) nodes_are is)
