@@ -1,5 +1,5 @@
 -- Books that are in place, replayed and whole are one run.
-use Rattle.std.proofs.Common.{◌≡◌, ℕ, ◌<◌, List, [], ◌∷◌, get_or, inl, inr, length, map, refl, sym, ap, ◌∙◌, subst, arith, slice_index_or}
+use Rattle.std.proofs.Common.{◌≡◌, ℕ, ◌<◌, List, [], ◌∷◌, get_or, inl, inr, length, map, sym, ap, ◌∙◌, subst, arith, slice_index_or}
 use Rattle.std.specs.List.{All, AllZip}
 use Rattle.std.proofs.lemmas.List.{length-map}
 use Rattle.dist_books.proofs.Numbers.{in_or_out}

@@ -1,8 +1,7 @@
 -- The names of nodes by their places, and parts of books.
-use Rattle.std.proofs.Common.{◌≡◌, ◌≢◌, ◌⊎◌, ℕ, zero, suc, ◌<◌, List, [], ◌∷◌, inl, inr, length, map, refl, sym, ap, ◌∙◌, arith, slice_index_or}
+use Rattle.std.proofs.Common.{◌≡◌, ◌≢◌, ◌⊎◌, ℕ, zero, suc, ◌<◌, List, [], ◌∷◌, inl, inr, length, map, refl, sym, ap, arith, slice_index_or}
 use Rattle.dist_books.specs.Acting.{Nodes, name_at, names_of}
 use Rattle.dist_books.specs.Books.{AreDistinct}
-use Rattle.dist_model.specs.Names.{Name}
 
 pub name_is : (nodes : Nodes) (k : ℕ) → name_at nodes k ≡ slice_index_or (names_of nodes) k []
 name_is [] k = refl

@@ -1,12 +1,12 @@
 -- The entries of a run, gone through once more.
-use Rattle.std.proofs.Common.{◌≡◌, ◌≢◌, ◌⊎◌, ℕ, zero, suc, ◌+◌, ◌<◌, ◌≤◌, Bool, true, false, not, ◌||◌, ◌&&◌, Option, None, Some, Result, Ok, Err, List, [], ◌∷◌, drop, get_or, inl, inr, length, map, refl, sym, ap, ◌∙◌, subst, arith}
+use Rattle.std.proofs.Common.{◌≡◌, ◌≢◌, ◌⊎◌, ℕ, zero, suc, ◌+◌, ◌<◌, ◌≤◌, Bool, true, false, not, ◌||◌, ◌&&◌, Option, None, Some, Ok, Err, List, [], ◌∷◌, drop, get_or, inl, inr, length, refl, sym, ap, ◌∙◌, subst, arith}
 use Rattle.std.specs.List.{AllZip, slice_get}
 use Rattle.std.proofs.lemmas.List.{drop_all, drop_more}
 use Rattle.dist_books.specs.Acting.{Nodes, names_of}
 use Rattle.dist_books.specs.Acting as books
 use Rattle.dist_books.specs.Books.{AreDistinct}
 use Rattle.dist_books.specs.Merged as run
-use Rattle.dist_model.proofs.Keys.{same_name_is, same_name_true}
+use Rattle.dist_model.proofs.Keys.{same_name_true}
 use Rattle.dist_model.specs.Commands.{Accepts, Outcome, Refuses}
 use Rattle.dist_model.specs.Dialing.{has_name}
 use Rattle.dist_model.specs.Names.{Name, same_name}
@@ -23,7 +23,7 @@ use Rattle.joined_books.specs.declared.trace.Placed.{Placed}
 use Rattle.node_book.specs.Seen.{BookSeen}
 use Rattle.node_history.specs.declared.entry.Entry.{Entry}
 use Rattle.world_core.specs.Names.{are_distinct, name_at}
-use Rattle.world_core.specs.Ran.{Answered, Came, Tells, event_at}
+use Rattle.world_core.specs.Ran.{Answered, Tells, event_at}
 use Rattle.world_core.specs.Stands.{Stands}
 use Rattle.world_core.specs.declared.world.World.{World}
 

@@ -1,6 +1,5 @@
-use Rattle.std.proofs.Common.{ℕ, zero, suc, ◌≡◌, ◌<◌, ◌≤◌, arith, inl, inr, length, sym, subst, slice_index_or}
+use Rattle.std.proofs.Common.{ℕ, ◌<◌, arith, inl, length, sym, subst, slice_index_or}
 use borrow.Author.Count.{below_more}
-use Rattle.dist_books.specs.Acting.{Nodes}
 use Rattle.joined_books.proofs.Tests.{fails, holds, no_more, read}
 use Rattle.joined_books.specs.Names.{IsInPlace}
 use Rattle.node_book.specs.Seen.{BookSeen}

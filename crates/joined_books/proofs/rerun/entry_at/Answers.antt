@@ -1,4 +1,4 @@
-use Rattle.std.proofs.Common.{◌≡◌, ◌∙◌, None, Option, List, [], ap, arith, subst, sym}
+use Rattle.std.proofs.Common.{◌≡◌, ◌∙◌, List, [], ap, arith, sym}
 use Rattle.std.specs.List.{slice_get}
 use Rattle.joined_books.proofs.Receipting.{entries_are}
 use Rattle.joined_books.proofs.Zipped.{part_beyond}
