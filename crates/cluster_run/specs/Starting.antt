@@ -1,5 +1,5 @@
 -- How nodes are started, and why they aren't.
-use Rattle.std.specs.Prelude.{◌≡◌, ◌⊎◌, List, false, map, true}
+use Rattle.std.specs.Prelude.{◌≡◌, ◌⊎◌, false, map, true}
 use Rattle.dist_books.specs.Acting.{Nodes}
 use Rattle.erl_term.specs.declared.refusal.Refusal.{Refusal}
 use Rattle.world_core.specs.Names.{are_distinct}
