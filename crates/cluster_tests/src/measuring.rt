@@ -8,11 +8,14 @@ use erl_term::{Pid, Refusal};
 use node_lock::Seat;
 use std::alloc::Global;
 use std::sync::Wait;
-use std::thread::join;
+use std::thread::for_each_mut;
 use std::time::{Duration, Instant};
 
 /// So often all callers call, taken together.
 const CALLS: usize = 120_000;
+
+/// So many threads call.
+const THREADS: usize = 4;
 
 /// How many nodes there are. Two that stand beside one another are connected.
 const SIZES: [usize; 6] = [2, 4, 8, 16, 32, 64];
@@ -38,18 +41,19 @@ impl Work {
     }
 }
 
-/// Who calls a node, and the two processes.
+/// Who calls a node, the two processes, and how often all was done that was asked for.
 #[derive(Drop)]
 struct Caller {
     seat: Seat,
     from: Pid,
     to: Pid,
+    done: u64,
 }
 
 impl Caller {
     // Whether all is done that is asked for.
     fn asks<R: Wait>(&mut self, rt: &R, cluster: &Nodes, work: Work) -> Result<bool, Refusal> {
-        let Caller { seat, from, to } = self;
+        let Caller { seat, from, to, .. } = self;
         match work {
             Work::Messages => sends(rt, cluster, seat, from, to),
             Work::Links => Ok(
@@ -61,22 +65,28 @@ impl Caller {
     }
 }
 
-/// The callers of one thread, and how often they have got what they asked for.
-#[derive(Drop)]
-struct Crew {
-    callers: Vec<Caller>,
-    done: u64,
-}
-
-fn calls<R: Wait>(rt: &R, cluster: &Nodes, mut crew: Crew, work: Work, rounds: usize) -> Crew {
+fn calls<R: Wait>(rt: &R, cluster: &Nodes, caller: &mut Caller, work: Work, rounds: usize) {
     for _ in 0..rounds {
-        for caller in &mut crew.callers {
-            if caller.asks(rt, cluster, work) == Ok(true) {
-                crew.done = crew.done.saturating_add(1);
-            }
+        if caller.asks(rt, cluster, work) == Ok(true) {
+            caller.done = caller.done.saturating_add(1);
         }
     }
-    crew
+}
+
+// All callers call, in four threads at most.
+fn all_call<R: Machine>(
+    rt: &R,
+    cluster: &Nodes,
+    callers: &mut [Caller],
+    work: Work,
+    rounds: usize,
+) {
+    for_each_mut(
+        rt,
+        callers,
+        THREADS,
+        &|_place, caller: &mut Caller| calls(rt, cluster, caller, work, rounds),
+    );
 }
 
 // A process at each node, and a connection from each second node to the one before.
@@ -106,77 +116,11 @@ fn callers<R: Machine>(
             seat,
             from: from.clone()?,
             to: to.clone()?,
+            done: 0,
         })?;
         place = place.saturating_add(1);
     }
     Ok(made)
-}
-
-fn no_crew(alloc: Global) -> Crew {
-    Crew {
-        callers: Vec::new(alloc),
-        done: 0,
-    }
-}
-
-// The callers, dealt out to four threads.
-fn crews(alloc: Global, callers: Vec<Caller>) -> Result<(Crew, Crew, Crew, Crew), Wrong> {
-    let mut crews = (
-        no_crew(alloc),
-        no_crew(alloc),
-        no_crew(alloc),
-        no_crew(alloc),
-    );
-    let mut place = 0usize;
-    for caller in callers {
-        let its = match place & 3 {
-            0 => &mut crews.0,
-            1 => &mut crews.1,
-            2 => &mut crews.2,
-            _ => &mut crews.3,
-        };
-        its.callers.push(caller)?;
-        place = place.saturating_add(1);
-    }
-    Ok(crews)
-}
-
-fn two<R: Machine>(
-    rt: &R,
-    cluster: &Nodes,
-    a: Crew,
-    b: Crew,
-    work: Work,
-    rounds: usize,
-) -> (Crew, Crew) {
-    join(
-        rt,
-        || calls(rt, cluster, a, work, rounds),
-        || calls(rt, cluster, b, work, rounds),
-    )
-}
-
-// Each crew has a thread.
-fn four<R: Machine>(
-    rt: &R,
-    alloc: Global,
-    cluster: &Nodes,
-    callers: Vec<Caller>,
-    work: Work,
-    rounds: usize,
-) -> Result<Vec<Crew>, Wrong> {
-    let (a, b, c, d) = crews(alloc, callers)?;
-    let ((a, b), (c, d)) = join(
-        rt,
-        || two(rt, cluster, a, b, work, rounds),
-        || two(rt, cluster, c, d, work, rounds),
-    );
-    let mut all = Vec::new(alloc);
-    all.push(a)?;
-    all.push(b)?;
-    all.push(c)?;
-    all.push(d)?;
-    Ok(all)
 }
 
 fn a_second(count: u64, took: Duration) -> u64 {
@@ -185,14 +129,12 @@ fn a_second(count: u64, took: Duration) -> u64 {
 }
 
 // The seats of all callers, and how often they got what they asked for.
-fn seats_of(alloc: Global, crews: Vec<Crew>) -> Result<(Vec<Seat>, u64), Wrong> {
+fn seats_of(alloc: Global, callers: Vec<Caller>) -> Result<(Vec<Seat>, u64), Wrong> {
     let mut seats = Vec::new(alloc);
     let mut done = 0u64;
-    for crew in crews {
-        done = done.saturating_add(crew.done);
-        for caller in crew.callers {
-            seats.push(caller.seat)?;
-        }
+    for caller in callers {
+        done = done.saturating_add(caller.done);
+        seats.push(caller.seat)?;
     }
     Ok((seats, done))
 }
@@ -210,14 +152,15 @@ struct Times {
 
 fn timed<R: Machine>(rt: &R, alloc: Global, count: usize, work: Work) -> Result<Times> {
     let cluster = cluster(rt, alloc, count, Open)?;
-    let callers = callers(rt, alloc, &cluster, count)?;
+    let mut callers = callers(rt, alloc, &cluster, count)?;
     settles(rt, &cluster);
     let start = Instant::now(rt)?;
-    let crews = four(rt, alloc, &cluster, callers, work, CALLS / count.max(1))?;
+    let rounds = CALLS / count.max(1);
+    all_call(rt, &cluster, callers.as_mut_slice(), work, rounds);
     let called = start.elapsed(rt)?;
     settles(rt, &cluster);
     let settled = start.elapsed(rt)?;
-    let (seats, calls) = seats_of(alloc, crews)?;
+    let (seats, calls) = seats_of(alloc, callers)?;
     let Finished { trace, .. } = cluster.finish(rt, seats)?;
     Ok(Times {
         called,

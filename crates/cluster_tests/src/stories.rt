@@ -17,7 +17,7 @@ use link_core::End;
 use node_lock::{Act, Seat};
 use std::alloc::{AllocError, AllocFailed, Global};
 use std::sync::{Arc, Wait};
-use std::thread::join;
+use std::thread::for_each_mut;
 use thiserror::Error;
 
 /// Why a test doesn't hold.
@@ -301,45 +301,51 @@ fn two_nodes_at_once<R: Machine>(rt: &R, alloc: Global) -> Result<(), Wrong> {
     }
 }
 
-// At its node a caller has a process link another, and the process says so.
-fn reads_back<R: Wait>(rt: &R, cluster: &Nodes, mut seat: Seat) -> Result<Seat, Refusal> {
-    let x = spawned(rt, cluster, &mut seat)?;
-    let y = spawned(rt, cluster, &mut seat)?;
-    if links(rt, cluster, &mut seat, &x, &y, true)? && has_link(rt, cluster, &mut seat, &x, &y)? {
-        return Ok(seat);
-    }
-    Err(Refusal::NothingThere)
+/// A seat, and whether its caller read back what it had asked for.
+#[derive(Drop)]
+struct Reader {
+    seat: Seat,
+    has_read: bool,
 }
 
-fn two_read_back<R: Machine>(
-    rt: &R,
-    cluster: &Nodes,
-    a: Seat,
-    b: Seat,
-) -> (Result<Seat, Refusal>, Result<Seat, Refusal>) {
-    join(
+// At its node a caller has a process link another, and asks it for its links.
+fn reads_back<R: Wait>(rt: &R, cluster: &Nodes, seat: &mut Seat) -> Result<bool, Refusal> {
+    let x = spawned(rt, cluster, seat)?;
+    let y = spawned(rt, cluster, seat)?;
+    Ok(links(rt, cluster, seat, &x, &y, true)? && has_link(rt, cluster, seat, &x, &y)?)
+}
+
+fn reads<R: Wait>(rt: &R, cluster: &Nodes, reader: &mut Reader) {
+    reader.has_read = reads_back(rt, cluster, &mut reader.seat) == Ok(true);
+}
+
+// Each reader has a thread.
+fn all_read<R: Machine>(rt: &R, cluster: &Nodes, readers: &mut [Reader]) {
+    for_each_mut(
         rt,
-        || reads_back(rt, cluster, a),
-        || reads_back(rt, cluster, b),
-    )
+        readers,
+        4,
+        &|_place, reader: &mut Reader| { reads(rt, cluster, reader) },
+    );
 }
 
 // Four nodes, and the seats of four threads, each at a node of its own, which have read back what they
 // have asked for.
 fn four_read_back<R: Machine>(rt: &R, alloc: Global) -> Result<(Nodes, Vec<Seat>), Wrong> {
     let cluster = cluster(rt, alloc, 4, Open)?;
-    let (a, b) = (cluster.seat(0)?, cluster.seat(1)?);
-    let (c, d) = (cluster.seat(2)?, cluster.seat(3)?);
-    let ((a, b), (c, d)) = join(
-        rt,
-        || two_read_back(rt, &cluster, a, b),
-        || two_read_back(rt, &cluster, c, d),
-    );
+    let mut readers = Vec::new(alloc);
+    for place in 0..4 {
+        readers.push(Reader {
+            seat: cluster.seat(place)?,
+            has_read: false,
+        })?;
+    }
+    all_read(rt, &cluster, readers.as_mut_slice());
     let mut seats = Vec::new(alloc);
-    seats.push(a?)?;
-    seats.push(b?)?;
-    seats.push(c?)?;
-    seats.push(d?)?;
+    for reader in readers {
+        check(9, reader.has_read)?;
+        seats.push(reader.seat)?;
+    }
     Ok((cluster, seats))
 }
 

@@ -12,9 +12,11 @@ use erl_term::{Atom, Payload, Pid, Refusal, Term};
 use node_lock::{Act, Seat};
 use std::alloc::Global;
 use std::sync::Wait;
-use std::thread::join;
+use std::thread::for_each_mut;
 
 const NODES: usize = 4;
+
+const THREADS: usize = 4;
 
 /// A process is one of the last so many of its node.
 const LAST: usize = 3;
@@ -121,19 +123,12 @@ fn one<R: Wait>(
 }
 
 // So many calls of a caller.
-fn calls<R: Wait>(
-    rt: &R,
-    alloc: Global,
-    cluster: &Nodes,
-    mut caller: Caller,
-    count: u64,
-) -> Caller {
+fn calls<R: Wait>(rt: &R, alloc: Global, cluster: &Nodes, caller: &mut Caller, count: u64) {
     for _ in 0..count {
-        if one(rt, alloc, cluster, &mut caller).is_err() {
+        if one(rt, alloc, cluster, caller).is_err() {
             caller.refused = caller.refused.saturating_add(1);
         }
     }
-    caller
 }
 
 fn new_caller(alloc: Global, cluster: &Nodes, seed: u64) -> Result<Caller, Wrong> {
@@ -148,49 +143,36 @@ fn new_caller(alloc: Global, cluster: &Nodes, seed: u64) -> Result<Caller, Wrong
     })
 }
 
-fn two<R: Machine>(
-    rt: &R,
-    alloc: Global,
-    cluster: &Nodes,
-    a: Caller,
-    b: Caller,
-    count: u64,
-) -> (Caller, Caller) {
-    join(
-        rt,
-        || calls(rt, alloc, cluster, a, count),
-        || calls(rt, alloc, cluster, b, count),
-    )
+// Four callers, who have numbers of their own.
+fn new_callers(alloc: Global, cluster: &Nodes, seed: u64) -> Result<Vec<Caller>, Wrong> {
+    let mut callers = Vec::new(alloc);
+    for factor in [1, 3, 5, 7] {
+        callers.push(new_caller(alloc, cluster, seed.wrapping_mul(factor))?)?;
+    }
+    Ok(callers)
 }
 
-fn four<R: Machine>(
+// Each caller has a thread.
+fn all_call<R: Machine>(
     rt: &R,
     alloc: Global,
     cluster: &Nodes,
-    seed: u64,
+    callers: &mut [Caller],
     count: u64,
-) -> Result<Vec<Caller>, Wrong> {
-    let a = new_caller(alloc, cluster, seed)?;
-    let b = new_caller(alloc, cluster, seed.wrapping_mul(3))?;
-    let c = new_caller(alloc, cluster, seed.wrapping_mul(5))?;
-    let d = new_caller(alloc, cluster, seed.wrapping_mul(7))?;
-    let ((a, b), (c, d)) = join(
+) {
+    for_each_mut(
         rt,
-        || two(rt, alloc, cluster, a, b, count),
-        || two(rt, alloc, cluster, c, d, count),
+        callers,
+        THREADS,
+        &|_place, caller: &mut Caller| calls(rt, alloc, cluster, caller, count),
     );
-    let mut callers = Vec::new(alloc);
-    callers.push(a)?;
-    callers.push(b)?;
-    callers.push(c)?;
-    callers.push(d)?;
-    Ok(callers)
 }
 
 /// Four threads call so often each, at random. Then all settles, and the books merge.
 pub fn walk<R: Machine>(rt: &R, alloc: Global, seed: u64, count: u64) -> Result<(), Wrong> {
     let cluster = cluster(rt, alloc, NODES, Open)?;
-    let callers = four(rt, alloc, &cluster, seed, count)?;
+    let mut callers = new_callers(alloc, &cluster, seed)?;
+    all_call(rt, alloc, &cluster, callers.as_mut_slice(), count);
     let is_settled = settles(rt, &cluster);
     let mut seats = Vec::new(alloc);
     let mut refused = 0u64;
