@@ -19,6 +19,7 @@ use Rattle.monitor_core.specs.declared.places.Point.{Point}
 use Rattle.monitor_core.specs.declared.places.Point.TheVariants.{Of, At}
 use Rattle.monitor_core.specs.Records.{Records}
 use Rattle.monitor_core.specs.Index.{Each, Rises, counted, tally, picked, process_at, place_cmp, order_at, IsRising, IsIndex, IsGrown, IsParted, moved_up, sunk}
+use Rattle.sorted_map.specs.Facts.{stays_le, stays_less}
 use Rattle.monitor_core.proofs.Order.{pid_cmp_total}
 use Rattle.monitor_core.proofs.Tallies.{Test, plus_if, same, same_is, same_itself, below, below_lt, below_is, is_below, each_weaker, each_both, each_append, each_left, each_right, each_map, rises_map, rises_weaker, rises_left, rises_right, rises_around, rises_with, counted_append, counted_with, counted_map, counted_same, counted_none, none_counted, tally_same, tally_none, climbing_same}
 use Rattle.monitor_core.proofs.Shifts.{up, up_is, up_rises, up_other, tally_up, length_with, process_with, left, left_same, left_one, kept, kept_rises, kept_and_gone, tally_left, process_left, chosen, counted_chosen, chosen_climbs, passing, picked_chosen}
@@ -56,23 +57,6 @@ tied_less Equal d e h = h
 tied_less Greater d e h = cc
 
 module _ {K : Type 0} {R : K → K → Ordering} (o : IsTotalOrder R) where
-  -- the lesser of two is below what the greater is below or tied with
-  stays_less : (x y k : K) → R x y ≡ Less → is_lt (R y k) ≡ true → is_lt (R x k) ≡ true
-  stays_less x y k l h = go (R y k) refl h
-    where
-      go : (c : Ordering) → R y k ≡ c → is_lt c ≡ true → is_lt (R x k) ≡ true
-      go Less e t = ap is_lt (o.trans x y k l e)
-      go Equal e t = cc
-      go Greater e t = cc
-
-  stays_le : (x y k : K) → R x y ≡ Less → is_le (R y k) ≡ true → is_le (R x k) ≡ true
-  stays_le x y k l h = go (R y k) refl h
-    where
-      go : (c : Ordering) → R y k ≡ c → is_le c ≡ true → is_le (R x k) ≡ true
-      go Less e t = ap is_le (o.trans x y k l e)
-      go Equal e t = ap is_le (sym (alike_right o y k x e) ∙ l)
-      go Greater e t = cc
-
   both_tied : (x y k : K) → R x k ≡ Equal → R y k ≡ Equal → R x y ≡ Equal
   both_tied x y k h g = sym (alike_right o k y x (tied_back o y k g)) ∙ h
 

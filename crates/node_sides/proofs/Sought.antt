@@ -17,7 +17,7 @@ use Rattle.dist_model.specs.Names.{Name, same_name}
 use Rattle.dist_model.specs.Node.{side_where}
 use Rattle.dist_model.specs.Sides as model
 use Rattle.dist_model.specs.Sides.{State}
-use Rattle.sorted_map.specs.Facts.{both_pass, less}
+use Rattle.sorted_map.specs.Facts.{both_pass, less, stays_le, stays_less}
 use Rattle.node_sides.proofs.Index.{Has, has_rest, one_place, peer_cmp, peer_total, place_total}
 use Rattle.node_sides.proofs.Placed.{holds, no_some, same_some}
 use Rattle.node_sides.specs.Index.{AreIndexed, first_of, keyed, not_gone, passes_in, peer_at, place_cmp}
@@ -91,24 +91,6 @@ first_later p held (x ∷ xs) zero d l h = sym (ap (λ b. cond b (slice_get held
 first_later p held (x ∷ xs) (suc i) d l h = first_later p held xs i d (omega arith) h
 
 -- ---- where the places of a peer are
-
-module _ {K : Type 0} {R : K → K → Ordering} (o : IsTotalOrder R) where
-  -- the lesser of two is below what the greater is below or tied with
-  stays_less : (x y k : K) → R x y ≡ Less → is_lt (R y k) ≡ true → is_lt (R x k) ≡ true
-  stays_less x y k l h = go (R y k) refl h
-    where
-      go : (c : Ordering) → R y k ≡ c → is_lt c ≡ true → is_lt (R x k) ≡ true
-      go Less e t = ap is_lt (o.trans x y k l e)
-      go Equal e t = cc
-      go Greater e t = cc
-
-  stays_le : (x y k : K) → R x y ≡ Less → is_le (R y k) ≡ true → is_le (R x k) ≡ true
-  stays_le x y k l h = go (R y k) refl h
-    where
-      go : (c : Ordering) → R y k ≡ c → is_le c ≡ true → is_le (R x k) ≡ true
-      go Less e t = ap is_le (o.trans x y k l e)
-      go Equal e t = ap is_le (sym (alike_right o y k x e) ∙ l)
-      go Greater e t = cc
 
 behind : (cmp : ℕ → ℕ → Ordering) (x : ℕ) (xs : List ℕ) (j d : ℕ) → T (below_all cmp x (keyed xs)) → j < length xs → cmp x (get_or xs j d) ≡ Less
 behind cmp x [] j d h l = absurd (omega arith)

@@ -1,8 +1,9 @@
 -- Small facts of entries in order, which the lemmas of this crate share.
-use Rattle.std.proofs.Common.{◌≡◌, Bool, true, false, cond, ◌&&◌, T, List, [], ◌∷◌, None, Some, refl, ap, ◌∙◌}
+use Rattle.std.proofs.Common.{◌≡◌, Bool, true, false, cond, ◌&&◌, T, List, [], ◌∷◌, None, Some, refl, sym, ap, ◌∙◌}
 use Rattle.std.specs.declared.cmp.Ordering.{Ordering}
 use Rattle.std.specs.declared.cmp.Ordering.TheVariants.{Less, Equal, Greater}
-use Rattle.std.specs.Ordering.{is_lt, is_eq}
+use Rattle.std.specs.Cmp.{IsTotalOrder, alike_right}
+use Rattle.std.specs.Ordering.{is_lt, is_le, is_eq}
 use Rattle.std.specs.FinMap.{find}
 use Rattle.std.specs.FinMap.Entries.{below_all}
 
@@ -26,3 +27,21 @@ find_below_all cmp key [] h = refl
 find_below_all cmp key (e ∷ rest) h =
     let t = both_pass _ _ h in
     ap (λ o. cond (is_eq o) (Some e.1) (find cmp key rest)) (less _ t.0) ∙ find_below_all cmp key rest t.1
+
+module _ {K : Type 0} {R : K → K → Ordering} (o : IsTotalOrder R) where
+  -- the lesser of two is below what the greater is below or tied with
+  pub stays_less : (x y k : K) → R x y ≡ Less → is_lt (R y k) ≡ true → is_lt (R x k) ≡ true
+  stays_less x y k l h = go (R y k) refl h
+    where
+      go : (c : Ordering) → R y k ≡ c → is_lt c ≡ true → is_lt (R x k) ≡ true
+      go Less e t = ap is_lt (o.trans x y k l e)
+      go Equal e t = cc
+      go Greater e t = cc
+
+  pub stays_le : (x y k : K) → R x y ≡ Less → is_le (R y k) ≡ true → is_le (R x k) ≡ true
+  stays_le x y k l h = go (R y k) refl h
+    where
+      go : (c : Ordering) → R y k ≡ c → is_le c ≡ true → is_le (R x k) ≡ true
+      go Less e t = ap is_le (o.trans x y k l e)
+      go Equal e t = ap is_le (sym (alike_right o y k x e) ∙ l)
+      go Greater e t = cc
