@@ -22,20 +22,13 @@ use Rattle.joined_books.specs.Replayed.{HappensAgain}
 use Rattle.joined_books.specs.declared.trace.Placed.{Placed}
 use Rattle.node_book.specs.Seen.{BookSeen}
 use Rattle.node_history.specs.declared.entry.Entry.{Entry}
+use Rattle.world_core.proofs.Going.{goes_names}
 use Rattle.world_core.specs.Names.{are_distinct, name_at}
 use Rattle.world_core.specs.Ran.{Answered, Tells, event_at}
 use Rattle.world_core.specs.Stands.{Stands}
 use Rattle.world_core.specs.declared.world.World.{World}
 
 -- ---- a step
-
-came_names : (m : model.World) (x : Name) (l : _) (o : Outcome) → (came_of m x l o).world.names ≡ m.names
-came_names m x l (Refuses why) = refl
-came_names m x l (Accepts answer work) = refl
-
-step_names : (m : model.World) (e : model.Event) (o : Option Node) → (step_at m o e).world.names ≡ m.names
-step_names m e None = refl
-step_names m e (Some node) = came_names m (node_name e) (left m e) (at_node m.names node (met m e))
 
 -- where a step is refused the world is as it was
 came_refused : (m : model.World) (x : Name) (l : _) (o : Outcome) (why : Refusal) → (came_of m x l o).report ≡ Refused why
@@ -58,10 +51,6 @@ pub goes_on : (m : model.World) (e : model.Event) (r : model.Report) (next : mod
     → r ≢ Refused Refusal.OutOfMemory → next ≡ (step m e).world
 goes_on m e r next (inl h) other = h.1
 goes_on m e r next (inr h) other = absurd (other h.0)
-
-goes_names : (m : model.World) (e : model.Event) (r : model.Report) (next : model.World) → Goes m e r next → next.names ≡ m.names
-goes_names m e r next (inl h) = ap (λ (w : model.World). w.names) h.1 ∙ step_names m e (node_of m.nodes (node_name e))
-goes_names m e r next (inr h) = ap (λ (w : model.World). w.names) h.1
 
 -- ---- what is told
 

@@ -35,11 +35,11 @@ came_names : (m : model.World) (x : Name) (l : _) (o : Outcome) → (came_of m x
 came_names m x l (Refuses why) = refl
 came_names m x l (Accepts answer work) = refl
 
-step_names_at : (m : model.World) (e : model.Event) (o : Option Node) → (step_at m o e).world.names ≡ m.names
+pub step_names_at : (m : model.World) (e : model.Event) (o : Option Node) → (step_at m o e).world.names ≡ m.names
 step_names_at m e None = refl
 step_names_at m e (Some node) = came_names m (node_name e) (left m e) (at_node m.names node (met m e))
 
-goes_names : (m : model.World) (e : model.Event) (r : model.Report) (next : model.World) → Goes m e r next → next.names ≡ m.names
+pub goes_names : (m : model.World) (e : model.Event) (r : model.Report) (next : model.World) → Goes m e r next → next.names ≡ m.names
 goes_names m e r next (inl h) = ap (λ (w : model.World). w.names) h.1 ∙ step_names_at m e (node_of m.nodes (node_name e))
 goes_names m e r next (inr h) = ap (λ (w : model.World). w.names) h.1
 
