@@ -20,8 +20,7 @@ pub struct OtherConnections {
     pub dialing: bool,
 }
 
-/// What becomes of an attempt, and which others it ends. Each that it ends has the reason
-/// [`ShakeFault::Superseded`].
+/// What becomes of an attempt, and which others it ends. Of those nothing more is reported.
 #[derive(Clone, Copy, Debug, PartialEq, Eq)]
 pub struct Admission {
     /// What is said to the dialer.
