@@ -1,49 +1,52 @@
--- Whether an item is read where it comes, told by its bytes: a side that is up reads frames, any other messages of the handshake
--- that are written to its role, and a node without a side those for an acceptor.
+-- Whether what is sent as some bytes is read where it comes, told by its kind: a side that is up reads signals and ticks, any other
+-- messages of the handshake that are written to its role, and a node without a side those for an acceptor.
 -- (ERTS User's Guide, Distribution Protocol, Distribution Handshake and Protocol between Connected Nodes.)
-use Rattle.std.specs.Prelude.{ℕ, ◌+◌, ◌*◌, Option, None, Some, Bool, true, not, List, length, nat_lt, slice_index, ◌==◌, ◌&&◌, ◌||◌}
+use Rattle.std.specs.Prelude.{ℕ, Option, None, Some, Bool, true, false, not, List, ◌&&◌}
 use Rattle.std.specs.FinMap as fm
 use Rattle.dist_model.specs.Node.{Node}
 use Rattle.dist_model.specs.Sides as state
 use Rattle.dist_model.specs.Sides.{State, TrunkSide}
+use Rattle.dist_model.specs.declared.report.Kind.{Kind}
 use Rattle.erl_names.specs.declared.trunk.TrunkId.{TrunkId}
+use Rattle.item_kinds.specs.Kinds.{kind_in}
 use Rattle.node_core.specs.Arrived.{is_undialed}
 
--- a message begins with its length in two bytes, and has two at least; a frame with its length in four, which is 65,536 at most
-abbrev pub is_message : List ℕ → Bool
-is_message bytes = nat_lt 1 (256 * slice_index bytes 0 + slice_index bytes 1)
+abbrev pub is_message : Option Kind → Bool
+is_message (Some Kind.SendName) = true
+is_message (Some Kind.Status) = true
+is_message (Some Kind.Challenge) = true
+is_message (Some Kind.ChallengeReply) = true
+is_message (Some Kind.ChallengeAck) = true
+is_message _ = false
 
--- send_name and send_challenge have one letter: in this one the length of the name stands behind the length, the letter, the flags
--- and two numbers
-abbrev pub is_challenge : List ℕ → Bool
-is_challenge bytes = 256 * slice_index bytes 19 + slice_index bytes 20 + 21 == length bytes
+abbrev pub is_for_dialer : Option Kind → Bool
+is_for_dialer (Some Kind.Status) = true
+is_for_dialer (Some Kind.Challenge) = true
+is_for_dialer (Some Kind.ChallengeAck) = true
+is_for_dialer _ = false
 
--- by the letter: s and a, or N
-abbrev pub is_for_dialer : List ℕ → Bool
-is_for_dialer bytes =
-    let letter = slice_index bytes 2 in is_message bytes && ((letter == 115 || letter == 97) || (letter == 78 && is_challenge bytes))
+abbrev pub is_for_acceptor : Option Kind → Bool
+is_for_acceptor (Some Kind.SendName) = true
+is_for_acceptor (Some Kind.Status) = true
+is_for_acceptor (Some Kind.ChallengeReply) = true
+is_for_acceptor _ = false
 
--- s and r, or N
-abbrev pub is_for_acceptor : List ℕ → Bool
-is_for_acceptor bytes =
-    let letter = slice_index bytes 2 in is_message bytes && ((letter == 115 || letter == 114) || (letter == 78 && not (is_challenge bytes)))
-
-abbrev pub reads_bytes : State → List ℕ → Bool
-reads_bytes (state.AwaitsStatus word) bytes = is_for_dialer bytes
-reads_bytes (state.AwaitsChallenge word) bytes = is_for_dialer bytes
-reads_bytes (state.AwaitsAck word) bytes = is_for_dialer bytes
-reads_bytes (state.Asked word) bytes = is_for_acceptor bytes
-reads_bytes (state.Parked word) bytes = is_for_acceptor bytes
-reads_bytes (state.Accepting word) bytes = is_for_acceptor bytes
-reads_bytes state.Up bytes = not (is_message bytes)
+abbrev pub reads_kind : State → Option Kind → Bool
+reads_kind (state.AwaitsStatus word) kind = is_for_dialer kind
+reads_kind (state.AwaitsChallenge word) kind = is_for_dialer kind
+reads_kind (state.AwaitsAck word) kind = is_for_dialer kind
+reads_kind (state.Asked word) kind = is_for_acceptor kind
+reads_kind (state.Parked word) kind = is_for_acceptor kind
+reads_kind (state.Accepting word) kind = is_for_acceptor kind
+reads_kind state.Up kind = not (is_message kind)
 -- whatever comes isn't read any more
-reads_bytes state.Losing bytes = true
-reads_bytes state.Gone bytes = true
+reads_kind state.Losing kind = true
+reads_kind state.Gone kind = true
 
-abbrev pub reads_bytes_at : Option TrunkSide → List ℕ → Bool
-reads_bytes_at None bytes = is_for_acceptor bytes
-reads_bytes_at (Some side) bytes = reads_bytes side.state bytes
+abbrev pub reads_kind_at : Option TrunkSide → Option Kind → Bool
+reads_kind_at None kind = is_for_acceptor kind
+reads_kind_at (Some side) kind = reads_kind side.state kind
 
 -- nothing comes of a trunk that the node itself would have dialed, and has no side of
 abbrev pub comes_here : Node → TrunkId → List ℕ → Bool
-comes_here m trunk bytes = let side = fm.get m.sides trunk in not (is_undialed m trunk side) && reads_bytes_at side bytes
+comes_here m trunk bytes = let side = fm.get m.sides trunk in not (is_undialed m trunk side) && reads_kind_at side (kind_in bytes)

@@ -1,81 +1,77 @@
 //! Whether an item is read where it comes.
-ghost use Rattle.std.specs.Prelude.{◌≡◌, not, slice_index};
+ghost use Rattle.std.specs.Prelude.{◌≡◌, not};
 ghost use Rattle.std.specs.Option.{option_copied, option_map};
 ghost use Rattle.node_core.specs.Model.{model_of};
-ghost use Rattle.node_history.specs.Kinds.{comes_here, is_challenge, is_for_acceptor, is_for_dialer, is_message, reads_bytes, reads_bytes_at};
+ghost use Rattle.node_history.specs.Kinds.{comes_here, is_for_acceptor, is_for_dialer, is_message, reads_kind, reads_kind_at};
 ghost use Rattle.conn_core.specs.declared.standing.Standing.TheVariants as standing;
 ghost use Rattle.node_core.specs.Arrived.{is_undialed};
 ghost use Rattle.node_sides.specs.Standings.{side_of, state_of};
 
 use conn_core::{Side, Standing};
+use dist_model::Kind;
 use erl_handshake::{AcceptorState, DialerState};
 use erl_names::TrunkId;
+use item_kinds::kind_in;
 use node_core::Node;
 use node_plans::same_name;
 
-// The byte at a place, and 0 behind the last.
-fn byte_at(bytes: &[u8], place: usize) -> u8
-    ensures { result ≡ slice_index bytes.now place }
-{
-    match bytes.get(place) {
-        Some(byte) => *byte,
-        None => 0,
-    }
-}
-
 // Whether it is a message of the handshake, and no frame.
-fn is_message(bytes: &[u8]) -> bool
-    ensures { result ≡ is_message bytes.now }
+fn is_message(kind: Option<Kind>) -> bool
+    ensures { result ≡ is_message kind }
 {
-    256 * usize::from(byte_at(bytes, 0)) + usize::from(byte_at(bytes, 1)) > 1
-}
-
-// Whether a message with the letter N is a challenge.
-fn is_challenge(bytes: &[u8]) -> bool
-    ensures { result ≡ is_challenge bytes.now }
-{
-    256 * usize::from(byte_at(bytes, 19)) + usize::from(byte_at(bytes, 20)) + 21 == bytes.len()
+    matches!(
+        kind,
+        Some(
+            Kind::SendName
+                | Kind::Status
+                | Kind::Challenge
+                | Kind::ChallengeReply
+                | Kind::ChallengeAck
+        )
+    )
 }
 
 // Whether it is a message that is written to a dialer.
-fn is_for_dialer(bytes: &[u8]) -> bool
-    ensures { result ≡ is_for_dialer bytes.now }
+fn is_for_dialer(kind: Option<Kind>) -> bool
+    ensures { result ≡ is_for_dialer kind }
 {
-    let letter = byte_at(bytes, 2);
-    is_message(bytes)
-        && ((letter == b's' || letter == b'a') || (letter == b'N' && is_challenge(bytes)))
+    matches!(
+        kind,
+        Some(Kind::Status | Kind::Challenge | Kind::ChallengeAck)
+    )
 }
 
 // Whether it is a message that is written to an acceptor.
-fn is_for_acceptor(bytes: &[u8]) -> bool
-    ensures { result ≡ is_for_acceptor bytes.now }
+fn is_for_acceptor(kind: Option<Kind>) -> bool
+    ensures { result ≡ is_for_acceptor kind }
 {
-    let letter = byte_at(bytes, 2);
-    is_message(bytes)
-        && ((letter == b's' || letter == b'r') || (letter == b'N' && !is_challenge(bytes)))
+    matches!(
+        kind,
+        Some(Kind::SendName | Kind::Status | Kind::ChallengeReply)
+    )
 }
 
 // Whether a side that dials reads it.
-fn is_read_dialing(state: DialerState, bytes: &[u8]) -> bool
-    ensures { result ≡ reads_bytes (state_of (standing.Dialing state)) bytes.now }
+fn is_read_dialing(state: DialerState, kind: Option<Kind>) -> bool
+    ensures { result ≡ reads_kind (state_of (standing.Dialing state)) kind }
 {
     match state {
-        DialerState::AwaitsStatus { .. } => is_for_dialer(bytes),
-        DialerState::AwaitsChallenge { .. } => is_for_dialer(bytes),
-        DialerState::AwaitsAck { .. } => is_for_dialer(bytes),
+        DialerState::AwaitsStatus { .. } => is_for_dialer(kind),
+        DialerState::AwaitsChallenge { .. } => is_for_dialer(kind),
+        DialerState::AwaitsAck { .. } => is_for_dialer(kind),
         DialerState::Done { .. } => true,
         DialerState::Over => true,
     }
 }
 
 // Whether a side that was dialed reads it.
-fn is_read_accepting(state: AcceptorState, bytes: &[u8]) -> bool
-    ensures { result ≡ reads_bytes (state_of (standing.Accepting state)) bytes.now }
+fn is_read_accepting(state: AcceptorState, kind: Option<Kind>) -> bool
+    ensures { result ≡ reads_kind (state_of (standing.Accepting state)) kind }
 {
     match state {
-        AcceptorState::AwaitsAnswer { .. } => is_for_acceptor(bytes),
-        AcceptorState::AwaitsTurn { .. } => is_for_acceptor(bytes),
-        AcceptorState::AwaitsReply { .. } => is_for_acceptor(bytes),
+        AcceptorState::AwaitsAnswer { .. } => is_for_acceptor(kind),
+        AcceptorState::AwaitsTurn { .. } => is_for_acceptor(kind),
+        AcceptorState::AwaitsReply { .. } => is_for_acceptor(kind),
         AcceptorState::AwaitsName => true,
         AcceptorState::AwaitsAdmission { .. } => true,
         AcceptorState::Done { .. } => true,
@@ -84,25 +80,25 @@ fn is_read_accepting(state: AcceptorState, bytes: &[u8]) -> bool
 }
 
 // Whether a side that stands so reads it.
-fn is_read_in(standing: Standing, bytes: &[u8]) -> bool
-    ensures { result ≡ reads_bytes (state_of standing) bytes.now }
+fn is_read_in(standing: Standing, kind: Option<Kind>) -> bool
+    ensures { result ≡ reads_kind (state_of standing) kind }
 {
     match standing {
-        Standing::Dialing(state) => is_read_dialing(state, bytes),
-        Standing::Accepting(state) => is_read_accepting(state, bytes),
-        Standing::Up { .. } => !is_message(bytes),
+        Standing::Dialing(state) => is_read_dialing(state, kind),
+        Standing::Accepting(state) => is_read_accepting(state, kind),
+        Standing::Up { .. } => !is_message(kind),
         Standing::Losing { .. } => true,
         Standing::Gone => true,
     }
 }
 
 // Whether a side reads it, or a node without one.
-fn is_read_at(side: Option<&Side>, bytes: &[u8]) -> bool
-    ensures { result ≡ reads_bytes_at (option_map side_of (option_copied side.entry)) bytes.now }
+fn is_read_at(side: Option<&Side>, kind: Option<Kind>) -> bool
+    ensures { result ≡ reads_kind_at (option_map side_of (option_copied side.entry)) kind }
 {
     match side {
-        Some(side) => is_read_in(side.standing, bytes),
-        None => is_for_acceptor(bytes),
+        Some(side) => is_read_in(side.standing, kind),
+        None => is_for_acceptor(kind),
     }
 }
 
@@ -123,5 +119,5 @@ pub fn is_read(node: &Node, trunk: &TrunkId, bytes: &[u8]) -> bool
     ensures { result ≡ comes_here (model_of node.now) trunk.now bytes.now }
 {
     let side = node.side(trunk);
-    is_dialed(node, trunk, side) && is_read_at(side, bytes)
+    is_dialed(node, trunk, side) && is_read_at(side, kind_in(bytes))
 }
