@@ -394,7 +394,7 @@ module _ (names : List Name) (place : ℕ) (cookie : List ℕ) (old new : Histor
 
 -- ---- as the code tells it
 
-found_first : (trunk : TrunkId) (os os' : List Outlet) (at : ℕ) → os' ≡ os → Some at ≡ position (λ o. eq_by_cmp trunk_cmp trunk o.port.trunk) os' → IsFirst trunk at os
+pub found_first : (trunk : TrunkId) (os os' : List Outlet) (at : ℕ) → os' ≡ os → Some at ≡ position (λ o. eq_by_cmp trunk_cmp trunk o.port.trunk) os' → IsFirst trunk at os
 found_first trunk os os' at same h = is_first trunk at os (ap (λ l. position (λ o. eq_by_cmp trunk_cmp trunk o.port.trunk) l) (sym same) ∙ sym h)
 
 module _ (names : List Name) (place : ℕ) (cookie : List ℕ) (history : History) (outlets : List Outlet) (trunk : TrunkId) (at : ℕ) (old new : Outlet) (es : List Entry)

@@ -2,6 +2,7 @@ pub mod Ways
 pub mod Places
 pub mod Counted
 pub mod Growing
+pub mod Putting
 pub mod Resting
 pub mod Taking
 pub mod Opening

@@ -162,7 +162,7 @@ fed_after es o n fed keeps = let f = keeps fed.0 fed.1 fed.2 in (fed.0, f.next, 
 
 -- ---- as the code tells it
 
-abbrev Moved : Type 0
+abbrev pub Moved : Type 0
 Moved = Result Bool AllocError
 
 pub same_keeps : (es : List Entry) (o : Outlet) (port : PortSeen) → port ≡ o.port → KeepsFeeding es o (record o { port = port })

@@ -1,7 +1,7 @@
 //! A port, and how far the history has come into it.
-ghost use Rattle.std.specs.Prelude.{◌≡◌, IfOk};
+ghost use Rattle.std.specs.Prelude.{◌≡◌, [], IfOk, OnErr, OnOk, Ok, false, true};
 ghost use Rattle.node_book.specs.Feeding.{Fed, KeepsFeeding};
-ghost use Rattle.node_plans.specs.Frames.{Framed};
+ghost use Rattle.node_book.specs.Passing.{IsStill, Puts, Takes, waits};
 ghost use Rattle.wire_core.specs.Pieces.{IsPiece};
 
 use crate::scanning::next_sent;
@@ -52,7 +52,9 @@ impl Outlet {
     // does.
     fn stage(&mut self, alloc: Global, entries: &[Entry]) -> Result<(), AllocError>
         requires { Fed entries.now self.old }
-        ensures { KeepsFeeding entries.now self.old self.new }
+        ensures feeds { KeepsFeeding entries.now self.old self.new }
+        ensures puts { Puts entries.now self.old self.new 0 }
+        ensures ready { OnOk result (self.new.port.outbox ≡ [] → waits entries.now self.new ≡ []) }
     {
         if !self.port.is_idle() {
             return Ok(());
@@ -86,7 +88,10 @@ impl Outlet {
         entries: &[Entry],
     ) -> Result<bool, AllocError>
         requires { Fed entries.now self.old }
-        ensures { KeepsFeeding entries.now self.old self.new }
+        ensures feeds { KeepsFeeding entries.now self.old self.new }
+        ensures puts { result ≡ Ok true → Puts entries.now self.old self.new 1 }
+        ensures still { result ≡ Ok false → Puts entries.now self.old self.new 0 × IsStill entries.now self.new }
+        ensures err { OnErr result (Puts entries.now self.old self.new 0) }
     {
         node_ports::ports_shift();
         self.stage(alloc, entries)?;
@@ -104,7 +109,10 @@ impl Outlet {
         entries: &[Entry],
     ) -> Result<u64, AllocError>
         requires { Fed entries.now self.old }
-        ensures { KeepsFeeding entries.now self.old self.new }
+        ensures feeds { KeepsFeeding entries.now self.old self.new }
+        ensures puts { IfOk result (Puts entries.now self.old self.new) }
+        ensures still { result ≡ Ok 0 → IsStill entries.now self.new }
+        ensures err { OnErr result (Puts entries.now self.old self.new 0) }
     {
         for count in 0..CAPACITY {
             match self.put_one(rt, alloc, entries) {
@@ -126,7 +134,10 @@ impl Outlet {
     /// # Errors
     /// Where there is no memory for it.
     pub(crate) fn fetch<R: Wait>(&mut self, rt: &R, entries: &[Entry]) -> Result<bool, AllocError>
-        ensures { KeepsFeeding entries.now self.old self.new }
+        ensures feeds { KeepsFeeding entries.now self.old self.new }
+        ensures takes { result ≡ Ok true → Takes self.old self.new }
+        ensures unchanged { result ≡ Ok false → self.new ≡ self.old }
+        ensures err { OnErr result (self.new ≡ self.old) }
     {
         node_ports::ports_shift();
         let _ = entries;

@@ -1,7 +1,8 @@
 //! What passes at a book's connections between two entries.
-ghost use Rattle.std.specs.Prelude.{◌≡◌, IfErr, IfOk};
+ghost use Rattle.std.specs.Prelude.{◌≡◌, ◌++◌, ◌∷◌, [], IfErr, IfOk, OnErr, OnOk, Ok, false, true};
 ghost use Rattle.node_core.specs.Model.{model_of};
 ghost use Rattle.node_book.specs.Books.{Rests, wants};
+ghost use Rattle.node_book.specs.Passing.{AtOutlet, IsStillAt, Puts, PutsAt, Takes, fresh_outlet};
 
 use crate::book::Book;
 use crate::dialing::Left;
@@ -20,9 +21,12 @@ impl Book {
     /// parcels.
     ///
     /// # Errors
-    /// Where there is no memory for the first of them. Then nothing has changed.
+    /// Where there is no memory for the first of them. Then none was put.
     pub fn flush<R: Wait>(&mut self, rt: &R, alloc: Global, trunk: &TrunkId) -> Result<u64, Refusal>
-        ensures { Rests self.old self.new }
+        ensures rests { Rests self.old self.new }
+        ensures puts { IfOk result (PutsAt trunk.now self.old.history.entries.items self.old.outlets self.new.outlets) }
+        ensures still { result ≡ Ok 0 → IsStillAt trunk.now self.old.history.entries.items self.old.outlets self.new.outlets }
+        ensures err { OnErr result (AtOutlet trunk.now (λ old new. Puts self.old.history.entries.items old new 0) self.old.outlets self.new.outlets) }
     {
         dist_books::books_grow();
         match place_of(&self.outlets, trunk) {
@@ -37,7 +41,10 @@ impl Book {
     /// # Errors
     /// Where there is no memory for it. Then nothing has changed.
     pub fn fetch<R: Wait>(&mut self, rt: &R, trunk: &TrunkId) -> Result<bool, Refusal>
-        ensures { Rests self.old self.new }
+        ensures rests { Rests self.old self.new }
+        ensures takes { result ≡ Ok true → AtOutlet trunk.now Takes self.old.outlets self.new.outlets }
+        ensures unchanged { result ≡ Ok false → self.new.outlets ≡ self.old.outlets }
+        ensures err { OnErr result (self.new.outlets ≡ self.old.outlets) }
     {
         dist_books::books_grow();
         match place_of(&self.outlets, trunk) {
@@ -73,7 +80,10 @@ impl Book {
     /// The offer comes back where the book doesn't want it, or where there is no memory. Then nothing has
     /// changed.
     pub fn install(&mut self, alloc: Global, offer: Offer) -> Result<(), Offer>
-        ensures { Rests self.old self.new }
+        ensures rests { Rests self.old self.new }
+        ensures wanted { OnOk result (wants (model_of self.old.history.node) offer.trunk self.old.outlets ≡ true) }
+        ensures ok { OnOk result (self.new.outlets ≡ self.old.outlets ++ fresh_outlet self.old.history.entries.items offer.trunk ∷ []) }
+        ensures err { IfErr result (λ back. (back.trunk ≡ offer.trunk) × (self.new.outlets ≡ self.old.outlets)) }
     {
         dist_books::books_grow();
         if !self.wants(&offer) || self.outlets.reserve(1).is_err() {

@@ -1,17 +1,21 @@
+use Rattle.std.proofs.Common.{ap, Ok, ◌∙◌}
 use Rattle.node_book.proofs.Moving.{both_keep, fed_after}
+use Rattle.node_book.proofs.Putting.{puts_both}
 use Rattle.node_book.proofs.outlet.Outlet.flush.Goals as goal
 
-pub returns-in-Ok-false : goal.returns-in-Ok-false
-returns-in-Ok-false g c = both_keep c.args.entries.now c.args.self.now c.loop-count.self c.put_one.new.self c.loop-count.invariant.1 c.put_one.ensures
+pub returns-in-Ok-false-clause-feeds : goal.returns-in-Ok-false-clause-feeds
+returns-in-Ok-false-clause-feeds g c = both_keep c.args.entries.now c.args.self.now c.loop-count.self c.put_one.new.self c.loop-count.invariant.1 c.put_one.ensures.feeds
 
-pub returns-then-count-eq0 : goal.returns-then-count-eq0
-returns-then-count-eq0 g c = both_keep c.args.entries.now c.args.self.now c.loop-count.self c.put_one.new.self c.loop-count.invariant.1 c.put_one.ensures
+pub returns-then-count-eq0-clause-feeds : goal.returns-then-count-eq0-clause-feeds
+returns-then-count-eq0-clause-feeds g c = both_keep c.args.entries.now c.args.self.now c.loop-count.self c.put_one.new.self c.loop-count.invariant.1 c.put_one.ensures.feeds
 
-pub returns-in-Err : goal.returns-in-Err
-returns-in-Err g c = both_keep c.args.entries.now c.args.self.now c.loop-count.self c.put_one.new.self c.loop-count.invariant.1 c.put_one.ensures
+pub returns-in-Err-clause-feeds : goal.returns-in-Err-clause-feeds
+returns-in-Err-clause-feeds g c = both_keep c.args.entries.now c.args.self.now c.loop-count.self c.put_one.new.self c.loop-count.invariant.1 c.put_one.ensures.feeds
 
 pub loop-count-preserved : goal.loop-count-preserved
 loop-count-preserved g c = (
-  fed_after c.args.entries.now c.loop-count.self c.put_one.new.self c.loop-count.invariant.0 c.put_one.ensures,
-  both_keep c.args.entries.now c.args.self.now c.loop-count.self c.put_one.new.self c.loop-count.invariant.1 c.put_one.ensures,
+  fed_after c.args.entries.now c.loop-count.self c.put_one.new.self c.loop-count.invariant.0 c.put_one.ensures.feeds,
+  both_keep c.args.entries.now c.args.self.now c.loop-count.self c.put_one.new.self c.loop-count.invariant.1 c.put_one.ensures.feeds,
+  puts_both c.args.entries.now c.args.self.now c.loop-count.self c.put_one.new.self c.loop-count.count 1 c.loop-count.invariant.2
+      (c.put_one.ensures.puts (c.in-Ok-true.is ∙ ap (λ b. Ok b) c.in-Ok-true.field-0-test)),
 )
