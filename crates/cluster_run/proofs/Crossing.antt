@@ -1,11 +1,14 @@
 -- What a node's book has may go to another thread, with the terms in it.
 use denote.Builtin
-use denote.Param.Send.{IsSend, IsSync, plain_send, recorded_send, recorded_sync, sendable, struct_send, struct_sync}
+use denote.Param.Send.{IsSend, IsSync, plain_send, plain_sync, recorded_send, recorded_sync, sendable, struct_send, struct_sync}
 use denote.RattleType.{RattleType}
 use denote.Struct.Declared.{shape}
+use Rattle.cluster_run.specs.contracts.cluster.Cluster as cluster
 use Rattle.cluster_run.specs.contracts.desk.Desk as desk
 use Rattle.cluster_run.specs.contracts.desk.Shared as shared
+use Rattle.crossbeam_channel.proofs.channel.Receiver.TheSendSync as receiver
 use Rattle.crossbeam_channel.proofs.channel.Sender.TheSendSync as sender
+use Rattle.crossbeam_channel.specs.contracts.channel.Receiver as a_receiver
 use Rattle.crossbeam_channel.specs.contracts.channel.Sender as a_sender
 use Rattle.dist_model.proofs.links.Links.TheSendSync as links
 use Rattle.erl_handshake.proofs.cookie.Cookie.TheSendSync as cookie
@@ -24,6 +27,9 @@ use Rattle.node_book.specs.contracts.book.Book as book
 use Rattle.node_history.specs.contracts.entry.Entry as entry
 use Rattle.node_history.specs.contracts.history.History as history
 use Rattle.node_lock.specs.contracts.lock.NodeLock as lock
+use Rattle.node_lock.specs.contracts.seat.Asked as asked
+use Rattle.node_lock.specs.contracts.seat.Receipt as receipt
+use Rattle.node_lock.specs.contracts.seat.Seat as seat
 use Rattle.node_plans.proofs.frame.Frame.TheSendSync as frame
 use Rattle.std.below.std_heap.proofs.GlobalAllocator.TheSendSync as heap
 use Rattle.std.proofs.Crossing
@@ -37,6 +43,7 @@ use Rattle.std.specs.contracts.impls.GlobalAllocator.TheImpl
 use Rattle.std.specs.contracts.sync.Arc as an_arc
 use Rattle.wire_core.proofs.offer.Offer.TheSendSync as offer
 use Rattle.wire_core.specs.contracts.offer.Offer as an_offer
+use Rattle.world_events.specs.contracts.event.NodeEvent as event
 
 payload_send : IsSend payload.the_row
 payload_send = search (Crossing.crosses, TheKnot.crosses, atom.the_send, pid.the_field_send, reference.the_field_send, sendable) depth 60 fits 20000
@@ -56,6 +63,26 @@ lock_send = search (book_send, Crossing.crosses, TheKnot.crosses, sendable) dept
 lock_sync : IsSync (lock.the_field).row
 lock_sync = search (book_send, Crossing.crosses, TheKnot.crosses, sendable) depth 60 fits 20000
 
+-- ---- a caller may be in any thread
+
+receipt_send : IsSend (receipt.the_field).row
+receipt_send = search (payload_send, refusal.the_send, name.the_send, trunk.the_send, frame.the_send, links.the_send, Crossing.crosses, TheKnot.crosses, pid.the_field_send, reference.the_field_send, sendable) depth 60 fits 20000
+
+event_send : IsSend (event.the_field).row
+event_send = search (payload_send, name.the_send, Crossing.crosses, TheKnot.crosses, pid.the_field_send, reference.the_field_send, sendable) depth 60 fits 20000
+
+asked_send : IsSend asked.the_row
+asked_send = recorded_send (asked.the_field).row _ _ (asked.the_type).to_one (struct_send (shape asked.the_type) (event_send, (receipt_send, tt)))
+
+pub seat_field : IsSend (seat.the_field).row
+seat_field = struct_send (shape seat.the_type) (
+  plain_send _ _ _ _ _,
+  (vec.the_send asked.the_row the_global.the_row TheImpl.ghosts asked_send global.the_send heap.the_frees, tt),
+)
+
+pub seat_send : IsSend seat.the_row
+seat_send = recorded_send (seat.the_field).row _ _ (seat.the_type).to_one seat_field
+
 -- ---- what the threads share
 
 pub bell_send : IsSend (a_sender.the_row Builtin.unit the_global.the_row TheImpl.ghosts)
@@ -69,6 +96,9 @@ box_send = sender.the_send an_offer.the_row the_global.the_row TheImpl.ghosts of
 
 box_sync : IsSync (a_sender.the_row an_offer.the_row the_global.the_row TheImpl.ghosts)
 box_sync = sender.the_sync an_offer.the_row the_global.the_row TheImpl.ghosts offer.the_send global.the_send global.the_sync heap.the_frees
+
+ended_sync : IsSync (a_receiver.the_row Builtin.unit the_global.the_row TheImpl.ghosts)
+ended_sync = receiver.the_sync Builtin.unit the_global.the_row TheImpl.ghosts (plain_send _ _ _ _ _) global.the_send global.the_sync heap.the_frees
 
 desk_send : IsSend desk.the_row
 desk_send = recorded_send (desk.the_field).row _ _ (desk.the_type).to_one (struct_send (shape desk.the_type) (lock_send, (bell_send, (box_send, (number.the_send, tt)))))
@@ -100,3 +130,18 @@ module _ (G : RattleType) where
   pub arc_send : IsSend G → IsSync G → IsSend (an_arc.the_row (shared.the_row G) the_global.the_row TheImpl.ghosts)
   arc_send send sync =
       arc.the_send (shared.the_row G) the_global.the_row TheImpl.ghosts (shared_send send) global.the_send (shared_sync sync) global.the_sync heap.the_frees
+
+  pub arc_sync : IsSend G → IsSync G → IsSync (an_arc.the_row (shared.the_row G) the_global.the_row TheImpl.ghosts)
+  arc_sync send sync =
+      arc.the_sync (shared.the_row G) the_global.the_row TheImpl.ghosts (shared_send send) global.the_send (shared_sync sync) global.the_sync heap.the_frees
+
+  -- any thread may call the nodes by a reference to their cluster
+  pub cluster_sync : IsSend G → IsSync G → IsSync (cluster.the_row G)
+  cluster_sync send sync = recorded_sync (cluster.the_field G).row _ _ (cluster.the_type G).to_one
+      (struct_sync (shape (cluster.the_type G)) (
+        global.the_field_sync,
+        (
+          search (name.the_sync, cookie.the_sync, Crossing.crosses, sendable) depth 60 fits 20000,
+          (arc_sync send sync, (plain_sync _ _ _ _ _, (ended_sync, tt))),
+        ),
+      ))
