@@ -1,0 +1,9 @@
+-- Any thread may call the nodes of a test.
+use denote.Param.Send.{IsSync, sendable}
+use Rattle.cluster_run.proofs.Crossing.{cluster_sync}
+use Rattle.cluster_run.specs.contracts.cluster.Cluster as cluster
+use Rattle.cluster_run.specs.contracts.gate.Open as ungated
+use Rattle.std.proofs.Crossing
+
+pub nodes_sync : IsSync (cluster.the_row ungated.the_row)
+nodes_sync = cluster_sync ungated.the_row (search (Crossing.crosses, sendable)) (search (Crossing.crosses, sendable))

@@ -1,0 +1,11 @@
+use denote.Param.Send.{sendable}
+use Rattle.cluster_run.proofs.Crossing.{seat_field}
+use Rattle.cluster_tests.proofs.Crossing.{nodes_sync}
+use Rattle.std.proofs.Crossing
+use Rattle.cluster_tests.proofs.stories.all_read.Goals as goal
+
+pub for_each_mut-requires-send-T : goal.for_each_mut-requires-send-T
+for_each_mut-requires-send-T g c = search (seat_field, Crossing.crosses, sendable) depth 60 fits 20000
+
+pub for_each_mut-requires-sync-F : goal.for_each_mut-requires-sync-F
+for_each_mut-requires-sync-F g c κs within = search (nodes_sync, Crossing.crosses, sendable) depth 60 fits 20000

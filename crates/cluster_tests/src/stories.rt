@@ -1,0 +1,544 @@
+//! What nodes in threads come to.
+
+use crate::ground::{
+    Machine, Nodes, asks, cluster, dials, has_link, is_up, links, name, named, sends, settles,
+    spawned,
+};
+use crate::meeting::{Meet, Meeting};
+use crate::replaying::is_whole;
+use crate::walking::walk;
+use anyhow::Result;
+use cluster_run::{Cluster, Finished, Open, Settled};
+use erl_names::{NodeName, TrunkId};
+use erl_term::{Pid, Refusal};
+use joined_books::FinishError;
+use link_core::End;
+use node_lock::{Act, Seat};
+use std::alloc::{AllocError, AllocFailed, Global};
+use std::sync::{Arc, Wait};
+use std::thread::for_each_mut;
+use thiserror::Error;
+
+/// Why a test doesn't hold.
+#[derive(Clone, Copy, Debug, PartialEq, Eq, Error)]
+pub enum Wrong {
+    /// What was asked for with this number isn't so.
+    #[error("check {0} doesn't hold")]
+    At(u32),
+    /// A call was refused.
+    #[error("{0}")]
+    Refused(Refusal),
+    /// The books don't merge.
+    #[error("the books don't merge")]
+    Unmerged,
+    /// There was no memory to merge them.
+    #[error("out of memory")]
+    NoMemoryToMerge,
+}
+
+impl From<Refusal> for Wrong {
+    fn from(e: Refusal) -> Wrong {
+        Wrong::Refused(e)
+    }
+}
+
+impl From<AllocError> for Wrong {
+    fn from(_e: AllocError) -> Wrong {
+        Wrong::Refused(Refusal::OutOfMemory)
+    }
+}
+
+impl<T: Drop> From<AllocFailed<T>> for Wrong {
+    fn from(_e: AllocFailed<T>) -> Wrong {
+        Wrong::Refused(Refusal::OutOfMemory)
+    }
+}
+
+/// Whether what is checked under this number is so.
+pub fn check(number: u32, is_so: bool) -> Result<(), Wrong> {
+    if is_so {
+        Ok(())
+    } else {
+        Err(Wrong::At(number))
+    }
+}
+
+/// Two nodes with a seat and a process at each.
+#[derive(Drop)]
+struct Two {
+    cluster: Nodes,
+    at_a: Seat,
+    at_b: Seat,
+    p: Pid,
+    q: Pid,
+}
+
+fn two_nodes<R: Machine>(rt: &R, alloc: Global) -> Result<Two, Wrong> {
+    let cluster = cluster(rt, alloc, 2, Open)?;
+    let mut at_a = cluster.seat(0)?;
+    let mut at_b = cluster.seat(1)?;
+    let p = spawned(rt, &cluster, &mut at_a)?;
+    let q = spawned(rt, &cluster, &mut at_b)?;
+    Ok(Two {
+        cluster,
+        at_a,
+        at_b,
+        p,
+        q,
+    })
+}
+
+impl Two {
+    // The first node dials the other, and both are connected.
+    fn connects<R: Machine>(&mut self, rt: &R, alloc: Global, count: u64) -> Result<(), Wrong> {
+        check(1, dials(rt, alloc, &self.cluster, &mut self.at_a, 1)?)?;
+        check(2, settles(rt, &self.cluster))?;
+        check(3, is_up(rt, alloc, &self.cluster, 0, 1, (0, count))?)?;
+        check(4, is_up(rt, alloc, &self.cluster, 1, 0, (0, count))?)
+    }
+
+    // The first process links the other, or takes its link back.
+    fn p_links<R: Wait>(&mut self, rt: &R, on: bool) -> Result<bool, Refusal> {
+        links(rt, &self.cluster, &mut self.at_a, &self.p, &self.q, on)
+    }
+
+    // The first process sends a message to the other.
+    fn p_sends<R: Wait>(&mut self, rt: &R) -> Result<bool, Refusal> {
+        sends(rt, &self.cluster, &mut self.at_a, &self.p, &self.q)
+    }
+
+    // What the two processes have of their link.
+    fn ends<R: Wait>(&self, rt: &R) -> Result<(End, End), Refusal> {
+        let at_p = self.cluster.look(rt, 0, |node| node.end(&self.p, &self.q))?;
+        let at_q = self.cluster.look(rt, 1, |node| node.end(&self.q, &self.p))?;
+        Ok((at_p, at_q))
+    }
+
+    // As [`finish_with`].
+    fn finishes<R: Machine>(self, rt: &R, alloc: Global) -> Result<Finished, Wrong> {
+        let Two {
+            cluster,
+            at_a,
+            at_b,
+            ..
+        } = self;
+        let mut seats = Vec::new(alloc);
+        seats.push(at_a)?;
+        seats.push(at_b)?;
+        finish_with(rt, cluster, seats)
+    }
+}
+
+/// The threads end, and the books merge.
+pub fn finish_with<R: Machine>(
+    rt: &R,
+    cluster: Nodes,
+    seats: Vec<Seat>,
+) -> Result<Finished, Wrong> {
+    match cluster.finish(rt, seats) {
+        Ok(finished) => Ok(finished),
+        Err(FinishError::OutOfMemory) => Err(Wrong::NoMemoryToMerge),
+        Err(_) => Err(Wrong::Unmerged),
+    }
+}
+
+/// How many entries a trace has, if that is known, and that it is whole.
+pub fn check_trace(
+    alloc: Global,
+    finished: &Finished,
+    entries: Option<usize>,
+) -> Result<(), Wrong> {
+    if let Some(entries) = entries {
+        check(101, finished.trace.entries.len() == entries)?;
+    }
+    check(102, is_whole(alloc, finished)?)
+}
+
+/// A link comes about and is taken back. All that happens is five acts, five messages of the handshake and
+/// three signals.
+fn link<R: Machine>(rt: &R, alloc: Global, two: &mut Two) -> Result<usize, Wrong> {
+    two.connects(rt, alloc, 1)?;
+    check(10, two.p_links(rt, true)?)?;
+    check(11, settles(rt, &two.cluster))?;
+    check(12, two.ends(rt)? == (End::Active, End::Active))?;
+    check(13, two.p_links(rt, false)?)?;
+    check(14, settles(rt, &two.cluster))?;
+    check(15, two.ends(rt)? == (End::None, End::None))?;
+    check(
+        16,
+        two.cluster.shortages(0) == Ok(0) && two.cluster.shortages(2) == Err(Refusal::NothingThere),
+    )?;
+    Ok(13)
+}
+
+/// Far more messages than a wire holds, in both directions, all come.
+fn flood<R: Machine>(rt: &R, alloc: Global, two: &mut Two) -> Result<usize, Wrong> {
+    two.connects(rt, alloc, 1)?;
+    for _ in 0..500 {
+        check(10, two.p_sends(rt)?)?;
+        check(11, sends(rt, &two.cluster, &mut two.at_b, &two.q, &two.p)?)?;
+    }
+    check(12, settles(rt, &two.cluster))?;
+    Ok(8 + 2000)
+}
+
+// The node of a seat notices that the connection that the first node dialed as so-manieth is lost.
+fn loses<R: Machine>(
+    rt: &R,
+    alloc: Global,
+    cluster: &Nodes,
+    seat: &mut Seat,
+    count: u64,
+) -> Result<bool, Refusal> {
+    let dialer = NodeName::read(alloc, "a@h")?;
+    asks(rt, cluster, seat, Act::Lose(TrunkId { dialer, count }))
+}
+
+/// A node stops and starts, the other notices, and they connect again.
+fn restart<R: Machine>(rt: &R, alloc: Global, two: &mut Two) -> Result<(), Wrong> {
+    two.connects(rt, alloc, 1)?;
+    check(10, two.p_links(rt, true)?)?;
+    check(11, settles(rt, &two.cluster))?;
+    check(12, asks(rt, &two.cluster, &mut two.at_b, Act::Stop)?)?;
+    check(13, settles(rt, &two.cluster))?;
+    for _ in 0..200 {
+        check(14, two.p_sends(rt)?)?;
+    }
+    check(15, settles(rt, &two.cluster))?;
+    check(16, asks(rt, &two.cluster, &mut two.at_b, Act::Start)?)?;
+    check(17, settles(rt, &two.cluster))?;
+    check(18, loses(rt, alloc, &two.cluster, &mut two.at_a, 1)?)?;
+    check(19, settles(rt, &two.cluster))?;
+    check(20, two.ends(rt)? == (End::None, End::None))?;
+    two.connects(rt, alloc, 2)
+}
+
+/// Both nodes notice that their connection is lost, and connect again.
+fn loss<R: Machine>(rt: &R, alloc: Global, two: &mut Two) -> Result<(), Wrong> {
+    two.connects(rt, alloc, 1)?;
+    check(
+        10,
+        links(rt, &two.cluster, &mut two.at_b, &two.q, &two.p, true)?,
+    )?;
+    check(11, loses(rt, alloc, &two.cluster, &mut two.at_a, 1)?)?;
+    check(12, settles(rt, &two.cluster))?;
+    check(13, !is_up(rt, alloc, &two.cluster, 0, 1, (0, 1))?)?;
+    check(14, loses(rt, alloc, &two.cluster, &mut two.at_b, 1)?)?;
+    check(15, settles(rt, &two.cluster))?;
+    two.connects(rt, alloc, 2)?;
+    check(16, two.ends(rt)? == (End::None, End::None))
+}
+
+/// Both nodes dial each other before either has heard of it: one connection comes up.
+fn crossed<R: Machine>(rt: &R, alloc: Global, two: &mut Two) -> Result<(), Wrong> {
+    check(10, dials(rt, alloc, &two.cluster, &mut two.at_a, 1)?)?;
+    let _ = dials(rt, alloc, &two.cluster, &mut two.at_b, 0)?;
+    check(11, settles(rt, &two.cluster))?;
+    let by_a = is_up(rt, alloc, &two.cluster, 0, 1, (0, 1))?;
+    let by_b = is_up(rt, alloc, &two.cluster, 0, 1, (1, 1))?;
+    check(12, by_a != by_b)?;
+    check(13, by_a == is_up(rt, alloc, &two.cluster, 1, 0, (0, 1))?)?;
+    check(14, by_b == is_up(rt, alloc, &two.cluster, 1, 0, (1, 1))?)
+}
+
+// One short run.
+fn small<R: Machine>(rt: &R, alloc: Global, two: &mut Two) -> Result<(), Wrong> {
+    two.connects(rt, alloc, 1)?;
+    check(10, two.p_links(rt, true)?)?;
+    check(11, settles(rt, &two.cluster))?;
+    check(12, two.ends(rt)? == (End::Active, End::Active))
+}
+
+/// What happens at two nodes.
+#[derive(Clone, Copy)]
+enum AtTwo {
+    Link,
+    Flood,
+    Restart,
+    Loss,
+    Crossed,
+    Small,
+}
+
+impl AtTwo {
+    // How many entries the trace has then, if that is known.
+    fn happens<R: Machine>(
+        self,
+        rt: &R,
+        alloc: Global,
+        two: &mut Two,
+    ) -> Result<Option<usize>, Wrong> {
+        match self {
+            AtTwo::Link => link(rt, alloc, two).map(Some),
+            AtTwo::Flood => flood(rt, alloc, two).map(Some),
+            AtTwo::Restart => restart(rt, alloc, two).map(|()| None),
+            AtTwo::Loss => loss(rt, alloc, two).map(|()| None),
+            AtTwo::Crossed => crossed(rt, alloc, two).map(|()| None),
+            AtTwo::Small => small(rt, alloc, two).map(|()| None),
+        }
+    }
+
+    // It happens, the threads end, and the trace is whole.
+    fn tell<R: Machine>(self, rt: &R, alloc: Global) -> Result<(), Wrong> {
+        let mut two = two_nodes(rt, alloc)?;
+        let happened = self.happens(rt, alloc, &mut two);
+        let finished = two.finishes(rt, alloc)?;
+        match happened {
+            Ok(entries) => check_trace(alloc, &finished, entries),
+            Err(wrong) => Err(wrong),
+        }
+    }
+}
+
+/// Where a seat is left out, the books don't merge.
+fn seat_left_out<R: Machine>(rt: &R, alloc: Global) -> Result<(), Wrong> {
+    let Two {
+        cluster,
+        at_a,
+        at_b,
+        ..
+    } = two_nodes(rt, alloc)?;
+    drop(at_b);
+    let mut seats = Vec::new(alloc);
+    seats.push(at_a)?;
+    let outcome = cluster.finish(rt, seats);
+    check(
+        10,
+        matches!(&outcome, Err(FinishError::SeatsMissing { node: 1 })),
+    )
+}
+
+// Of a cluster of one node no other is asked for anything.
+fn asks_nowhere<R: Machine>(rt: &R, cluster: &Nodes, strange: &mut Seat) -> Result<(), Wrong> {
+    check(10, matches!(cluster.seat(1), Err(Refusal::NothingThere)))?;
+    check(
+        11,
+        cluster.look(rt, 1, |node| node.is_up()) == Err(Refusal::NothingThere),
+    )?;
+    check(
+        12,
+        cluster.call(rt, strange, Act::Stop) == Err(Refusal::StrangeSeat),
+    )?;
+    check(13, strange.receipts().is_empty())?;
+    check(14, cluster.settle(rt, 0) == Settled::StillBusy)
+}
+
+// No two nodes have one name.
+fn one_name_twice<R: Machine>(rt: &R, alloc: Global) -> Result<(), Wrong> {
+    let mut nodes = Vec::new(alloc);
+    nodes.push(named(alloc, name(alloc, 0)?)?)?;
+    nodes.push(named(alloc, name(alloc, 0)?)?)?;
+    let none = Cluster::new(rt, alloc, nodes, Open);
+    check(15, matches!(&none, Err(Refusal::BadName)))
+}
+
+/// There is no node past the last one, and no two have one name.
+fn no_such_node<R: Machine>(rt: &R, alloc: Global) -> Result<(), Wrong> {
+    let cluster = cluster(rt, alloc, 1, Open)?;
+    let mut strange = Seat::new(alloc, 1);
+    let asked = asks_nowhere(rt, &cluster, &mut strange);
+    drop(finish_with(rt, cluster, Vec::new(alloc))?);
+    asked?;
+    one_name_twice(rt, alloc)
+}
+
+// A process at each of two nodes sends itself a message.
+fn both_send<R: Machine>(
+    rt: &R,
+    alloc: Global,
+    cluster: &Cluster<Meet>,
+) -> Result<Vec<Seat>, Wrong> {
+    let mut seats = Vec::new(alloc);
+    for place in 0..2 {
+        let mut seat = cluster.seat(place)?;
+        let own = spawned(rt, cluster, &mut seat)?;
+        check(10, sends(rt, cluster, &mut seat, &own, &own)?)?;
+        seats.push(seat)?;
+    }
+    check(11, settles(rt, cluster))?;
+    Ok(seats)
+}
+
+/// Two nodes' threads are within their events at the same time.
+fn two_nodes_at_once<R: Machine>(rt: &R, alloc: Global) -> Result<(), Wrong> {
+    let meeting = Arc::new(alloc, Meeting::new())?;
+    let gate = Meet {
+        meeting: Arc::try_clone(&meeting)?,
+    };
+    let cluster = cluster(rt, alloc, 2, gate)?;
+    let seats = both_send(rt, alloc, &cluster)?;
+    match cluster.finish(rt, seats) {
+        Ok(finished) => {
+            check(12, meeting.have_met())?;
+            check_trace(alloc, &finished, Some(6))
+        }
+        Err(_) => Err(Wrong::Unmerged),
+    }
+}
+
+/// A seat, and whether its caller read back what it had asked for.
+#[derive(Drop)]
+struct Reader {
+    seat: Seat,
+    has_read: bool,
+}
+
+// At its node a caller has a process link another, and asks it for its links.
+fn reads_back<R: Wait>(rt: &R, cluster: &Nodes, seat: &mut Seat) -> Result<bool, Refusal> {
+    let x = spawned(rt, cluster, seat)?;
+    let y = spawned(rt, cluster, seat)?;
+    Ok(links(rt, cluster, seat, &x, &y, true)? && has_link(rt, cluster, seat, &x, &y)?)
+}
+
+fn reads<R: Wait>(rt: &R, cluster: &Nodes, reader: &mut Reader) {
+    reader.has_read = reads_back(rt, cluster, &mut reader.seat) == Ok(true);
+}
+
+// Each reader has a thread.
+fn all_read<R: Machine>(rt: &R, cluster: &Nodes, readers: &mut [Reader]) {
+    for_each_mut(
+        rt,
+        readers,
+        4,
+        &|_place, reader: &mut Reader| { reads(rt, cluster, reader) },
+    );
+}
+
+// The seats of four threads, each at a node of its own, which have read back what they have asked for.
+fn four_read_back<R: Machine>(rt: &R, alloc: Global, cluster: &Nodes) -> Result<Vec<Seat>, Wrong> {
+    let mut readers = Vec::new(alloc);
+    for place in 0..4 {
+        readers.push(Reader {
+            seat: cluster.seat(place)?,
+            has_read: false,
+        })?;
+    }
+    all_read(rt, cluster, readers.as_mut_slice());
+    let mut seats = Vec::new(alloc);
+    for reader in readers {
+        check(9, reader.has_read)?;
+        seats.push(reader.seat)?;
+    }
+    check(10, settles(rt, cluster))?;
+    Ok(seats)
+}
+
+/// Four threads call a node each, and read back what they have asked for. Each node has four calls then, and
+/// the signal of its link, which it sends to itself.
+fn read_back<R: Machine>(rt: &R, alloc: Global) -> Result<(), Wrong> {
+    let cluster = cluster(rt, alloc, 4, Open)?;
+    let seats = four_read_back(rt, alloc, &cluster)?;
+    let finished = finish_with(rt, cluster, seats)?;
+    check_trace(alloc, &finished, Some(20))
+}
+
+/// The same, but the last seat is left out.
+fn last_seat_left_out<R: Machine>(rt: &R, alloc: Global) -> Result<(), Wrong> {
+    let cluster = cluster(rt, alloc, 4, Open)?;
+    let mut seats = four_read_back(rt, alloc, &cluster)?;
+    drop(seats.pop());
+    let outcome = cluster.finish(rt, seats);
+    check(
+        10,
+        matches!(&outcome, Err(FinishError::SeatsMissing { node: 3 })),
+    )
+}
+
+/// Four threads call four nodes at random.
+fn at_random<R: Machine>(rt: &R, alloc: Global) -> Result<(), Wrong> {
+    walk(rt, alloc, 1, 2000)
+}
+
+/// A short run, for the refusal of each allocation in turn: whether it could be done. Where it couldn't,
+/// what was wanting is told.
+pub fn tell_small<R: Machine>(rt: &R, alloc: Global) -> Result<bool> {
+    match AtTwo::Small.tell(rt, alloc) {
+        Ok(()) => {
+            println!(rt; "done")?;
+            Ok(true)
+        }
+        Err(wrong) => {
+            println!(rt; "{wrong}")?;
+            Ok(false)
+        }
+    }
+}
+
+#[derive(Clone, Copy)]
+enum Story {
+    AtTwo(AtTwo),
+    SeatLeftOut,
+    LastSeatLeftOut,
+    NoSuchNode,
+    TwoNodesAtOnce,
+    ReadBack,
+    AtRandom,
+}
+
+const ALL: [Story; 11] = [
+    Story::AtTwo(AtTwo::Link),
+    Story::AtTwo(AtTwo::Flood),
+    Story::AtTwo(AtTwo::Restart),
+    Story::AtTwo(AtTwo::Loss),
+    Story::AtTwo(AtTwo::Crossed),
+    Story::SeatLeftOut,
+    Story::NoSuchNode,
+    Story::TwoNodesAtOnce,
+    Story::ReadBack,
+    Story::LastSeatLeftOut,
+    Story::AtRandom,
+];
+
+impl AtTwo {
+    fn name(self) -> &'static str {
+        match self {
+            AtTwo::Link => "a link is made and taken back",
+            AtTwo::Flood => "more comes than a wire holds",
+            AtTwo::Restart => "a node stops and starts",
+            AtTwo::Loss => "a connection is lost, and comes again",
+            AtTwo::Crossed => "both nodes dial",
+            AtTwo::Small => "a short run",
+        }
+    }
+}
+
+impl Story {
+    fn name(self) -> &'static str {
+        match self {
+            Story::AtTwo(story) => story.name(),
+            Story::SeatLeftOut => "a seat is left out",
+            Story::LastSeatLeftOut => "the last of four seats is left out",
+            Story::NoSuchNode => "there is no such node",
+            Story::TwoNodesAtOnce => "two nodes at once",
+            Story::ReadBack => "four threads read back what they asked for",
+            Story::AtRandom => "four threads call at random",
+        }
+    }
+
+    fn tell<R: Machine>(self, rt: &R, alloc: Global) -> Result<(), Wrong> {
+        match self {
+            Story::AtTwo(story) => story.tell(rt, alloc),
+            Story::SeatLeftOut => seat_left_out(rt, alloc),
+            Story::LastSeatLeftOut => last_seat_left_out(rt, alloc),
+            Story::NoSuchNode => no_such_node(rt, alloc),
+            Story::TwoNodesAtOnce => two_nodes_at_once(rt, alloc),
+            Story::ReadBack => read_back(rt, alloc),
+            Story::AtRandom => at_random(rt, alloc),
+        }
+    }
+}
+
+/// Tells each story, and whether it holds.
+pub fn tell_all<R: Machine>(rt: &R, alloc: Global) -> Result<bool> {
+    let mut all = true;
+    for story in ALL {
+        match story.tell(rt, alloc) {
+            Ok(()) => println!(rt; "{}: holds", story.name())?,
+            Err(wrong) => {
+                all = false;
+                println!(rt; "{}: {wrong:?}", story.name())?;
+            }
+        }
+    }
+    Ok(all)
+}
