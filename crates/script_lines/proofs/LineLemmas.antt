@@ -1,10 +1,11 @@
 -- What the tests of a line come to.
-use Rattle.std.proofs.Common.{◌≡◌, ◌≤◌, ℕ, Bool, true, false, ◌&&◌, List, length, Result, Err, Option, refl, sym, ap, subst, nat_lt, ◌∙◌}
+use Rattle.std.proofs.Common.{◌≡◌, ◌≤◌, ℕ, Bool, true, false, ◌&&◌, List, length, Result, Err, Option, None, refl, sym, ap, subst, nat_lt, ◌∙◌}
 use Rattle.std.proofs.lemmas.Bool.{le-ltb}
 use Rattle.std.proofs.lemmas.Str.{IsUtf8-from_is_utf8, is_utf8-from_IsUtf8}
 use Rattle.std.specs.List.{list_all}
 use Rattle.std.specs.Str.{IsUtf8, is_utf8}
-use Rattle.script_lines.specs.Lines.{ReadsSome, line_says, words_say}
+use Rattle.script_lines.specs.Commands.{verb_named}
+use Rattle.script_lines.specs.Lines.{ReadsSome, line_says, verb_in, words_say}
 use Rattle.script_lines.specs.Naming.{is_cookie, is_cookie_length, is_printable}
 use Rattle.script_lines.specs.Said.{Said}
 use Rattle.script_lines.specs.Words.{behind_word, word_of}
@@ -31,6 +32,12 @@ pub reads_words : (may : MayCome) (look : Look) (line text : List ℕ) (result :
 reads_words may look line text result fits h same reads =
     subst (λ (says : Result (Option Said) Reason). ReadsSome says result)
     (ap (λ (t : List ℕ). words_say may look (word_of t) (behind_word t)) same ∙ sym (says_words may look line fits h)) reads
+
+pub no_text_no_verb : (line : List ℕ) → length line ≤ 65536 → (IsUtf8 line → ⊥) → None ≡ verb_in line
+no_text_no_verb line fits h = rw (short line fits, not_utf8 line (is_utf8 line) refl h) refl
+
+pub verb_of_text : (line text : List ℕ) → length line ≤ 65536 → IsUtf8 line → text ≡ line → verb_named (word_of text) ≡ verb_in line
+verb_of_text line text fits h same = rw (short line fits, is_utf8-from_IsUtf8 line h) (ap (λ (t : List ℕ). verb_named (word_of t)) same)
 
 pub cookie_test : (word : List ℕ) (fits all : Bool) → fits ≡ true → fits ≡ is_cookie_length (length word) → all ≡ list_all is_printable word → all ≡ is_cookie word
 cookie_test word fits all holds is e = by (is_cookie_length (length word)) (sym is ∙ holds)

@@ -90,6 +90,10 @@ line_says may look line =
     else if is_utf8 line then words_say may look (word_of line) (behind_word line)
     else Err NotText
 
+-- the command that a line begins with, of a line that isn't too long, and is text
+abbrev pub verb_in : List ℕ → Option Verb
+verb_in line = if nat_lt 65536 (length line) then None else if is_utf8 line then verb_named (word_of line) else None
+
 -- what a function read is what a line says
 abbrev pub Reads : Result Said Reason → Result Line Reason → Type 0
 Reads says (Ok line) = says ≡ Ok (said line)

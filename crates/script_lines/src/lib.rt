@@ -14,5 +14,5 @@ mod words;
 
 pub use command::Verb;
 pub use line::Line;
-pub use reading::{LINE_LIMIT, MayCome, read_line};
+pub use reading::{LINE_LIMIT, MayCome, read_line, verb_in};
 pub use reason::Reason;

@@ -1,6 +1,6 @@
 //! Lines are read.
 ghost use Rattle.std.specs.Prelude.{◌≡◌};
-ghost use Rattle.script_lines.specs.Lines.{Reads, ReadsSome, line_says, node_in, nodes_in, placed, process_and_term_in, process_in, processes_and_term_in, processes_in, verb_says, words_say};
+ghost use Rattle.script_lines.specs.Lines.{Reads, ReadsSome, line_says, node_in, nodes_in, placed, process_and_term_in, process_in, processes_and_term_in, processes_in, verb_in, verb_says, words_say};
 ghost use Rattle.script_lines.specs.Words.{Answers, behind_word, word_of};
 ghost use Rattle.script_lines.specs.declared.command.Verb.TheVariants as verb;
 ghost use Rattle.script_terms.specs.Binding.{Look, Knows};
@@ -217,6 +217,19 @@ fn read_words<'a>(
     };
     let line = read_verb(may_come, names, verb, rest)?;
     Ok(Some(line))
+}
+
+/// The command whose word a line begins with, of a line that is short enough, and text. Takes no memory.
+pub fn verb_in(line: &[u8]) -> Option<Verb>
+    ensures { result ≡ verb_in line.now }
+{
+    if line.len() > LINE_LIMIT {
+        return None;
+    }
+    match str::from_utf8(line) {
+        Ok(text) => Verb::named(first_word(text).0),
+        Err(_) => None,
+    }
 }
 
 /// What a line says; None where it is to be passed over. It takes no memory.

@@ -23,13 +23,13 @@ use world_core::{Node, NodeEvent};
 
 /// The connection of a node to a peer, and its attempts at one.
 #[derive(Debug, Drop)]
-pub(crate) struct Live {
+pub struct Live {
     /// The attempt of the node itself.
-    dialing: Option<TrunkId>,
+    pub dialing: Option<TrunkId>,
     /// The attempt of the peer.
-    waiting: Option<TrunkId>,
+    pub waiting: Option<TrunkId>,
     /// The connection that is up.
-    up: Option<TrunkId>,
+    pub up: Option<TrunkId>,
 }
 
 // A copy of the first connection to a peer that stands so.
@@ -43,8 +43,11 @@ fn side_on(node: &Node, peer: &Atom, which: Which) -> Result<Option<TrunkId>, Al
 }
 
 impl Live {
-    // Those of a node.
-    fn of(node: &Node, peer: &Atom) -> Result<Live, AllocError>
+    /// Those of a node, towards a peer.
+    ///
+    /// # Errors
+    /// Where memory is wanting.
+    pub fn of(node: &Node, peer: &Atom) -> Result<Live, AllocError>
         ensures { IfOk result (λ live. live ≡ live_sides (model_of node.now) peer.now) }
     {
         Ok(Live {
@@ -54,8 +57,8 @@ impl Live {
         })
     }
 
-    // Whether there is one.
-    fn is_any(&self) -> bool
+    /// Whether there is one.
+    pub fn is_any(&self) -> bool
         ensures { result ≡ is_any self.now }
     {
         self.dialing.is_some() || self.waiting.is_some() || self.up.is_some()

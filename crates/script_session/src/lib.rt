@@ -16,5 +16,11 @@ mod showing;
 mod stage;
 mod telling;
 
+pub use connections::Live;
 pub use laws::events_lead_to_every_line;
-pub use session::{Session, Stop};
+pub use made::Made;
+pub use pairs::{cookie, node_name};
+pub use playing::{asked, new_name, starts};
+pub use session::{MOST_NODES, Session, Stop, bind};
+pub use showing::put_shown;
+pub use stage::put_sents;

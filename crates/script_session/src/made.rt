@@ -10,7 +10,7 @@ use script_terms::Named;
 
 /// What a command makes that a name may be bound to.
 #[derive(Debug, Drop)]
-pub(crate) enum Made {
+pub enum Made {
     /// Nothing.
     Nothing,
     /// A process, or a monitor.

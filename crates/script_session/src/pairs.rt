@@ -28,7 +28,7 @@ const COOKIE: &str = "c";
 ///
 /// # Errors
 /// Where memory is wanting.
-pub(crate) fn node_name(alloc: Global, word: &str) -> Result<NodeName, AllocError>
+pub fn node_name(alloc: Global, word: &str) -> Result<NodeName, AllocError>
     ensures { IfOk result (λ name. name ≡ word.now) }
 {
     NodeName::read(alloc, word).map_err(|_| AllocError)
@@ -38,7 +38,7 @@ pub(crate) fn node_name(alloc: Global, word: &str) -> Result<NodeName, AllocErro
 ///
 /// # Errors
 /// Where memory is wanting.
-pub(crate) fn cookie(alloc: Global, word: &str) -> Result<Cookie, AllocError>
+pub fn cookie(alloc: Global, word: &str) -> Result<Cookie, AllocError>
     ensures { IfOk result (λ cookie. cookie ≡ word.now) }
 {
     Ok(Cookie::new(String::from_str(alloc, word)?.into_bytes()))

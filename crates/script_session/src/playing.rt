@@ -48,7 +48,7 @@ fn at_one(process: &Pid) -> Result<(Atom, Pid), AllocError>
 ///
 /// # Errors
 /// Where memory is wanting.
-pub(crate) fn new_name(alloc: Global, line: Line) -> Result<String, AllocError>
+pub fn new_name(alloc: Global, line: Line) -> Result<String, AllocError>
     ensures { IfOk result (λ name. string_bytes name ≡ new_name (said line.entry)) }
 {
     match line {
@@ -68,7 +68,7 @@ pub(crate) fn is_taken(stage: &Stage, line: Line) -> bool
 }
 
 /// Whether behind a line no line for a node may come.
-pub(crate) fn starts(line: Line) -> bool
+pub fn starts(line: Line) -> bool
     ensures { result ≡ starts (said line.entry) }
 {
     match line {
@@ -235,8 +235,15 @@ fn asked_of_one(
     }
 }
 
-// What a line asks a node for, if it does.
-fn asked(alloc: Global, names: &Names, line: Line) -> Result<Option<(Atom, Command)>, AllocError>
+/// What a line asks a node for, if it does, and the name of that node: it is the first process's.
+///
+/// # Errors
+/// Where memory is wanting.
+pub fn asked(
+    alloc: Global,
+    names: &Names,
+    line: Line,
+) -> Result<Option<(Atom, Command)>, AllocError>
     ensures { (look : Look) → Knows names.now look → IfOk result (λ asked. asked ≡ asks look (said line.entry)) }
 {
     match asked_of_two(alloc, names, line)? {

@@ -20,7 +20,7 @@ use std::alloc::{AllocError, Global};
 use world_core::World;
 
 /// The most nodes of a script.
-const MOST_NODES: usize = 64;
+pub const MOST_NODES: usize = 64;
 
 /// Why a line isn't run.
 #[derive(Clone, Copy, Debug, PartialEq, Eq)]
@@ -63,8 +63,11 @@ fn carry_out(
     Ok((name, made))
 }
 
-// What a command has made gets its name.
-fn bind(alloc: Global, names: &mut Names, name: String, made: Made) -> Result<(), AllocError>
+/// What a command has made gets its name.
+///
+/// # Errors
+/// Where memory is wanting.
+pub fn bind(alloc: Global, names: &mut Names, name: String, made: Made) -> Result<(), AllocError>
     ensures { (look : Look) → Knows names.old look → OnOk result (Knows names.new (binds (string_bytes name) made look)) }
 {
     match made {

@@ -54,8 +54,11 @@ fn put_processes(out: &mut String, node: &Node) -> Result<(), AllocError>
     Ok(())
 }
 
-// A node, with its processes.
-fn put_one(out: &mut String, node: &Node) -> Result<(), AllocError>
+/// A node, and its processes by their ids, with the messages that wait.
+///
+/// # Errors
+/// Where memory is wanting.
+pub fn put_shown(out: &mut String, node: &Node) -> Result<(), AllocError>
     ensures { OnOk result (string_bytes out.new ≡ string_bytes out.old ++ shown_node (model_of node.now)) }
 {
     put_node(out, node.name().text(), node.is_up(), node.creation())?;
@@ -70,7 +73,7 @@ fn put_all(out: &mut String, nodes: &[Node]) -> Result<(), AllocError>
     ensures { OnOk result (string_bytes out.new ≡ string_bytes out.old ++ flat_map (λ node. shown_node (model_of node)) nodes.now) }
 {
     for node in nodes {
-        put_one(out, node)?;
+        put_shown(out, node)?;
     }
     Ok(())
 }

@@ -44,8 +44,11 @@ fn put_sent_in(
     }
 }
 
-// What an event sends.
-fn put_sents(
+/// What an event sends, of a node of this name: a line for each item.
+///
+/// # Errors
+/// Where memory is wanting.
+pub fn put_sents(
     alloc: Global,
     out: &mut String,
     node: &str,

@@ -79,3 +79,7 @@ route_text (Some trunk) = codes "up " ++ trunk_text trunk ++ codes "\n"
 abbrev pub settled_text : Bool → List ℕ
 settled_text true = codes "settled\n"
 settled_text false = codes "busy\n"
+
+-- the books of all nodes were merged
+abbrev pub merged_text : List ℕ
+merged_text = codes "merged\n"

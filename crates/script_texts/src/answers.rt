@@ -2,7 +2,7 @@
 ghost use Rattle.std.specs.Prelude.{◌≡◌, ◌++◌, OnOk, Option, string_bytes};
 ghost use Rattle.std.specs.List.{flat_map};
 ghost use Rattle.std.specs.Option.{option_copied};
-ghost use Rattle.script_texts.specs.Texts.{alive_text, answer_text, done_text, end_text, ends_text, link_text, message_text, refused_text, route_text, settled_text, trunk_text};
+ghost use Rattle.script_texts.specs.Texts.{alive_text, answer_text, done_text, end_text, ends_text, link_text, merged_text, message_text, refused_text, route_text, settled_text, trunk_text};
 
 use crate::kinds::{fault_name, kind_name, swept_name};
 use dist_model::Answer;
@@ -153,4 +153,11 @@ pub fn put_settled(out: &mut String, is_settled: bool) -> Result<(), AllocError>
     ensures { OnOk result (string_bytes out.new ≡ string_bytes out.old ++ settled_text is_settled) }
 {
     out.push_str(if is_settled { "settled\n" } else { "busy\n" })
+}
+
+/// The books of all nodes were merged.
+pub fn put_merged(out: &mut String) -> Result<(), AllocError>
+    ensures { OnOk result (string_bytes out.new ≡ string_bytes out.old ++ merged_text) }
+{
+    out.push_str("merged\n")
 }

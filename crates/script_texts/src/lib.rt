@@ -11,7 +11,8 @@ mod nodes;
 mod sent;
 
 pub use answers::{
-    put_answer, put_done, put_end, put_ends, put_refused, put_route, put_settled, put_trunk,
+    put_answer, put_done, put_end, put_ends, put_merged, put_refused, put_route, put_settled,
+    put_trunk,
 };
 pub use kinds::{fault_name, kind_name, swept_name};
 pub use nodes::{put_ended, put_living, put_node};
