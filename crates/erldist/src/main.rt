@@ -2,12 +2,16 @@
 //!
 //! The script comes on standard input, a command a line; what it does goes to standard output.
 //! [`read_options`] reads the command line, and [`run_script`] runs the script; [`run_telling`] and
-//! [`run_drawing`] do where its events or a drawing of them are to be written.
+//! [`run_drawing`] do where its events or a drawing of them are to be written, and [`run_threads`] where
+//! its nodes are to have threads.
 #![tactic(auto)]
 
 use clap::Error;
 use clap::error::ErrorKind;
-use script_core::{Form, Options, Outcome, read_options, run_drawing, run_script, run_telling};
+use script_core::{
+    Form, Machine, Options, Outcome, read_options, run_drawing, run_script, run_telling,
+    run_threads,
+};
 use std::alloc::Global;
 use std::io::{self, BufWriter};
 use std::process::ExitCode;
@@ -16,7 +20,7 @@ use std::process::ExitCode;
 const BAD_COMMAND_LINE: u8 = 2;
 
 /// Runs the script on standard input, and answers the exit status.
-fn run<R: Input + Print + Eprint>(rt: &R, alloc: Global, options: &Options) -> u8 {
+fn run<R: Input + Print + Eprint + Machine>(rt: &R, alloc: Global, options: &Options) -> u8 {
     let Ok(mut writer) = BufWriter::new(alloc, io::writer(rt)) else {
         return Outcome::OutOfMemory.status();
     };
@@ -26,6 +30,7 @@ fn run<R: Input + Print + Eprint>(rt: &R, alloc: Global, options: &Options) -> u
         Form::Text => run_script(alloc, &mut reader, &mut writer, options, &mut advice),
         Form::Events => run_telling(alloc, &mut reader, &mut writer, options, &mut advice),
         Form::Picture => run_drawing(alloc, &mut reader, &mut writer, options, &mut advice),
+        Form::Threads => run_threads(rt, alloc, &mut reader, &mut writer, options, &mut advice),
     };
     if let Outcome::BadLine(line, reason) = outcome {
         let _ = if advice.is_empty() {

@@ -10,15 +10,13 @@ use Rattle.script_lines.specs.declared.reason.Reason.{Reason}
 use Rattle.script_lines.specs.declared.reason.Reason.TheVariants.{TooLong}
 use Rattle.script_core.specs.declared.script.Outcome.{Outcome}
 use Rattle.script_core.specs.declared.script.Outcome.TheVariants as outcome
-use Rattle.script_core.specs.declared.script.Script.{Script}
 use Rattle.std.specs.Prelude.{IfSome}
 use Rattle.script_session.specs.declared.session.Stop.{Stop}
 use Rattle.script_session.specs.declared.session.Stop.TheVariants.{Bad}
-use Rattle.script_session.specs.declared.session.Session.{Session}
 use Rattle.script_session.specs.Session.{State, Step, line_does}
-use Rattle.script_session.specs.Stands.{Obeys, Steps}
+use Rattle.script_core.specs.Lines.{Heeds, Steps}
 use Rattle.script_core.specs.Script.{Run, TooManyLines, stops, prints, runs_step, runs_lines, runs_from, lines_of, without_empty_last}
-use Rattle.script_core.specs.Outcomes.{AppendsFront, Answers, Position, opening, rest_of, IsAt, Reaches, Took, Progress, fault_at}
+use Rattle.script_core.specs.Outcomes.{AppendsFront, Answers, Position, opening, rest_of, Reaches, Took, Progress, fault_at}
 
 abbrev is_break : ℕ → Bool
 is_break c = eqb c 10
@@ -49,6 +47,7 @@ pub answers_after : (text : List ℕ) (r : Run) (old mid new : Option (List ℕ)
 answers_after text r old mid new outcome.Ran a h = (h.0, appends_both old mid new text r.text a h.1)
 answers_after text r old mid new (outcome.BadLine number reason) a h = (h.0, appends_both old mid new text r.text a h.1)
 answers_after text r old mid new outcome.OutOfMemory a h = front_after text r.text old mid new a h
+answers_after text r old mid new outcome.Unmerged a h = absurd h
 answers_after text r old mid new outcome.Failed a h = front_after text r.text old mid new a h
 
 -- nothing was written
@@ -73,6 +72,7 @@ pub answers_front : (r : Run) (old new : Option (List ℕ)) (o : Outcome) → An
 answers_front r old new outcome.Ran h = front_whole r.text old new h.1
 answers_front r old new (outcome.BadLine number reason) h = front_whole r.text old new h.1
 answers_front r old new outcome.OutOfMemory h = h
+answers_front r old new outcome.Unmerged h = absurd h
 answers_front r old new outcome.Failed h = h
 
 pub keeps_appended : (old mid new : Option (List ℕ)) (text : List ℕ) → Keeps mid new → Appends old mid text → Appends old new text
@@ -119,11 +119,11 @@ wrote_front bytes rest old mid new w a = record {
 prints_twice : (a b : List ℕ) (r : Run) → prints a (prints b r) ≡ prints (a ++ b) r
 prints_twice a b r = ap (λ (w : List ℕ). record { state = r.state; text = w; verdict = r.verdict }) (sym (append_assoc a b r.text))
 
-pub reaches_none : (p : Position) (s : Script) (held : Option (List ℕ)) → IsAt s p → Reaches p [] s held held
+pub reaches_none : (p : Position) (s : Position → Type 0) (held : Option (List ℕ)) → s p → Reaches p [] s held held
 reaches_none p s held at = record { to = p; text = []; at = at; goes = λ rest. refl; appended = appends_nothing held }
 
 -- some bytes, and then others
-pub took_both : (p : Position) (xs ys : List ℕ) (s t : Script) (old mid new : Option (List ℕ)) (r : Result (Unit {0}) Outcome) → Reaches p xs s old mid → ((q : Position) → IsAt s q → Took q ys t mid new r) → Took p (xs ++ ys) t old new r
+pub took_both : (p : Position) (xs ys : List ℕ) (s t : Position → Type 0) (old mid new : Option (List ℕ)) (r : Result (Unit {0}) Outcome) → Reaches p xs s old mid → ((q : Position) → s q → Took q ys t mid new r) → Took p (xs ++ ys) t old new r
 took_both p xs ys s t old mid new (Ok x) h k =
     let l = k h.to h.at in
     record {
@@ -234,20 +234,18 @@ pub end_is_break : (p : Position) → 0 < length p.pending → All (λ c. is_bre
 end_is_break p some h = ap (runs_lines p.number p.state) (lines-end p.pending some h)
 
 -- a last line was run, and nothing comes
-pub ran_to_end : (p : Position) (s : Script) (old new : Option (List ℕ)) → 0 < length p.pending → All (λ c. is_break c ≡ false) p.pending → (t : Reaches p (10 ∷ []) s old new) → t.to.pending ≡ [] → Answers (rest_of p []) old new outcome.Ran
+pub ran_to_end : (p : Position) (s : Position → Type 0) (old new : Option (List ℕ)) → 0 < length p.pending → All (λ c. is_break c ≡ false) p.pending → (t : Reaches p (10 ∷ []) s old new) → t.to.pending ≡ [] → Answers (rest_of p []) old new outcome.Ran
 ran_to_end p s old new some h t e =
     subst (λ (r : Run). Answers r old new outcome.Ran) (sym (end_is_break p some h ∙ t.goes []))
     (answers_after t.text (rest_of t.to []) old new new outcome.Ran t.appended (at_end t.to new e))
 
 -- ---- what calls answered
 
-pub obeys_bad : (does : Result Step Reason) (session : Session) (old new : List ℕ) (r : Result (Unit {0}) Stop) (stop : Stop) (reason : Reason) → r ≡ Err stop → stop ≡ Bad reason → Obeys does session old new r → does ≡ Err reason
-obeys_bad does session old new r stop reason e s o =
-    let k : Obeys does session old new (Err (Bad reason)) = subst (Obeys does session old new) (e ∙ ap (λ (w : Stop). Err w) s) o in
-    k.0
+pub heeds_bad : {S : Type 0} (stands : S → State → Type 0) (does : Result Step Reason) (session : S) (old new : List ℕ) (r : Result (Unit {0}) Stop) (stop : Stop) (reason : Reason) → r ≡ Err stop → stop ≡ Bad reason → Heeds stands does session old new r → does ≡ Err reason
+heeds_bad stands does session old new r stop reason e s o = subst (Heeds stands does session old new) (e ∙ ap (λ (w : Stop). Err w) s) o
 
-pub obeys_ok : (does : Result Step Reason) (session : Session) (old new : List ℕ) (r : Result (Unit {0}) Stop) (x : Unit {0}) → r ≡ Ok x → Obeys does session old new r → Steps does session old new
-obeys_ok does session old new r x e o = subst (Obeys does session old new) e o
+pub heeds_ok : {S : Type 0} (stands : S → State → Type 0) (does : Result Step Reason) (session : S) (old new : List ℕ) (r : Result (Unit {0}) Stop) (x : Unit {0}) → r ≡ Ok x → Heeds stands does session old new r → Steps stands does session old new
+heeds_ok stands does session old new r x e o = subst (Heeds stands does session old new) e o
 
 pub not_break : (byte : ℕ) → (byte ≡ 10 → ⊥) → is_break byte ≡ false
 not_break byte h = by (is_break byte) refl
@@ -260,16 +258,16 @@ pub some_pending : (n : ℕ) → false ≡ eqb n 0 → 0 < n
 some_pending zero e = absurd cc
 some_pending (suc n) e = omega arith
 
-pub took_front : (p : Position) (xs ys : List ℕ) (s : Script) (old new : Option (List ℕ)) (o : Outcome) → Took p xs s old new (Err o) → Took p (xs ++ ys) s old new (Err o)
+pub took_front : (p : Position) (xs ys : List ℕ) (s : Position → Type 0) (old new : Option (List ℕ)) (o : Outcome) → Took p xs s old new (Err o) → Took p (xs ++ ys) s old new (Err o)
 took_front p xs ys s old new o h = λ rest. subst (λ (bytes : List ℕ). Answers (rest_of p bytes) old new o) (sym (append_assoc xs ys rest)) (h (ys ++ rest))
 
 -- ---- the whole input
 
-pub begins : (from : State) (input : List ℕ) (remaining : Option (List ℕ)) (s : Script) (held : Option (List ℕ)) → remaining ≡ Some input → IsAt s (opening from) → Progress from input remaining s held held
+pub begins : (from : State) (input : List ℕ) (remaining : Option (List ℕ)) (s : Position → Type 0) (held : Option (List ℕ)) → remaining ≡ Some input → s (opening from) → Progress from input remaining s held held
 begins from input remaining s held e at = record { bytes = []; left = input; remains = e; parts = refl; reached = reaches_none (opening from) s held at }
 
 -- what was written so far is a beginning
-pub progress_front : (from : State) (input : List ℕ) (remaining : Option (List ℕ)) (s : Script) (old new : Option (List ℕ)) → Progress from input remaining s old new → AppendsFront (runs_from from input).text old new
+pub progress_front : (from : State) (input : List ℕ) (remaining : Option (List ℕ)) (s : Position → Type 0) (old new : Option (List ℕ)) → Progress from input remaining s old new → AppendsFront (runs_from from input).text old new
 progress_front from input remaining s old new q =
     let r = q.reached in
     subst (λ (run : Run). AppendsFront run.text old new) (sym (ap (rest_of (opening from)) q.parts ∙ r.goes q.left))
@@ -280,7 +278,7 @@ consumed None new bs left e h = absurd cc
 consumed (Some xs) None bs left e h = absurd h
 consumed (Some xs) (Some ys) bs left e h = (ys, refl, let same : xs ≡ left = cc in sym same ∙ h)
 
-pub kept : (from : State) (input : List ℕ) (before after : Option (List ℕ)) (s : Script) (old new : Option (List ℕ)) → Keeps before after → Progress from input before s old new → Progress from input after s old new
+pub kept : (from : State) (input : List ℕ) (before after : Option (List ℕ)) (s : Position → Type 0) (old new : Option (List ℕ)) → Keeps before after → Progress from input before s old new → Progress from input after s old new
 kept from input before after s old new k q = record { bytes = q.bytes; left = q.left; remains = same before after q.left q.remains k; parts = q.parts; reached = q.reached }
   where
     same : (b a : Option (List ℕ)) (left : List ℕ) → b ≡ Some left → Keeps b a → a ≡ Some left
@@ -289,7 +287,7 @@ kept from input before after s old new k q = record { bytes = q.bytes; left = q.
     same (Some xs) (Some ys) left e h = ap (λ (w : List ℕ). Some w) h ∙ e
 
 -- more of it was read and taken
-pub goes_on : (from : State) (input chunk : List ℕ) (before after : Option (List ℕ)) (s t : Script) (old mid new : Option (List ℕ)) → Consumes before after chunk → Progress from input before s old mid → ((p : Position) → IsAt s p → Took p chunk t mid new (Ok tt)) → Progress from input after t old new
+pub goes_on : (from : State) (input chunk : List ℕ) (before after : Option (List ℕ)) (s t : Position → Type 0) (old mid new : Option (List ℕ)) → Consumes before after chunk → Progress from input before s old mid → ((p : Position) → s p → Took p chunk t mid new (Ok tt)) → Progress from input after t old new
 goes_on from input chunk before after s t old mid new c q k =
     let m = consumed before after chunk q.left q.remains c in
     record {
@@ -301,14 +299,14 @@ goes_on from input chunk before after s t old mid new c q k =
     }
 
 -- it was read and answered by an error
-pub ends_there : (from : State) (input chunk : List ℕ) (before after : Option (List ℕ)) (s t : Script) (old mid new : Option (List ℕ)) (o : Outcome) → Consumes before after chunk → Progress from input before s old mid → ((p : Position) → IsAt s p → Took p chunk t mid new (Err o)) → Answers (runs_from from input) old new o
+pub ends_there : (from : State) (input chunk : List ℕ) (before after : Option (List ℕ)) (s t : Position → Type 0) (old mid new : Option (List ℕ)) (o : Outcome) → Consumes before after chunk → Progress from input before s old mid → ((p : Position) → s p → Took p chunk t mid new (Err o)) → Answers (runs_from from input) old new o
 ends_there from input chunk before after s t old mid new o c q k =
     let m = consumed before after chunk q.left q.remains c in
     let whole : input ≡ (q.bytes ++ chunk) ++ m.0 = q.parts ∙ ap (λ (w : List ℕ). q.bytes ++ w) m.2 ∙ sym (append_assoc q.bytes chunk m.0) in
     subst (λ (w : List ℕ). Answers (rest_of (opening from) w) old new o) (sym whole) (took_both (opening from) q.bytes chunk s t old mid new (Err o) q.reached k m.0)
 
 -- nothing is left of it
-pub ends : (from : State) (input : List ℕ) (before after : Option (List ℕ)) (s : Script) (old mid new : Option (List ℕ)) (o : Outcome) → Consumes before after [] → IsAtEnd after → Progress from input before s old mid → ((p : Position) → IsAt s p → Answers (rest_of p []) mid new o) → Answers (runs_from from input) old new o
+pub ends : (from : State) (input : List ℕ) (before after : Option (List ℕ)) (s : Position → Type 0) (old mid new : Option (List ℕ)) (o : Outcome) → Consumes before after [] → IsAtEnd after → Progress from input before s old mid → ((p : Position) → s p → Answers (rest_of p []) mid new o) → Answers (runs_from from input) old new o
 ends from input before after s old mid new o c e q k =
     let m = consumed before after [] q.left q.remains c in
     let none : m.0 ≡ [] = subst IsAtEnd m.1 e in
@@ -329,6 +327,6 @@ read_none old new r n buf e z some h =
     (k.0, k.1 refl some)
 
 -- what was written is flushed
-pub flushed : (p : Position) (bytes front : List ℕ) (s : Script) (old mid new : Option (List ℕ)) → Reaches p front s old mid → front ≡ bytes → Keeps mid new → Reaches p bytes s old new
+pub flushed : (p : Position) (bytes front : List ℕ) (s : Position → Type 0) (old mid new : Option (List ℕ)) → Reaches p front s old mid → front ≡ bytes → Keeps mid new → Reaches p bytes s old new
 flushed p bytes front s old mid new r e k =
     subst (λ (w : List ℕ). Reaches p w s old new) e (record { to = r.to; text = r.text; at = r.at; goes = r.goes; appended = keeps_appended old mid new r.text k r.appended })

@@ -11,6 +11,7 @@ use Rattle.svg_text.specs.Markup.{IsDocument}
 abbrev pub Ends : Verdict → Outcome → Type 0
 Ends verdict outcome.Ran = verdict ≡ Whole
 Ends verdict (outcome.BadLine number reason) = verdict ≡ AtBadLine number reason
+Ends verdict outcome.Unmerged = ⊥
 Ends verdict _ = Unit {0}
 
 pub record IsDrawn (old new : Option (List ℕ)) : Type 0 where

@@ -1,3 +1,5 @@
 pub mod Script
 pub mod Outcomes
 pub mod Drawn
+pub mod Lines
+pub mod Threaded

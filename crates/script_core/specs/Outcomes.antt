@@ -2,18 +2,18 @@
 use Rattle.std.specs.Prelude.{◌≡◌, ◌≤◌, ℕ, ◌==◌, false, nat_lt, if◌then◌else◌, List, [], ◌++◌, length, All, Option, None, Some, Result, Ok, Err}
 use Rattle.std.specs.Io.KnownBytes.{Appends}
 use Rattle.script_core.specs.declared.script.Outcome.{Outcome}
-use Rattle.script_core.specs.declared.script.Outcome.TheVariants.{Ran, BadLine, OutOfMemory, Failed}
+use Rattle.script_core.specs.declared.script.Outcome.TheVariants.{Ran, BadLine, OutOfMemory, Unmerged, Failed}
 use Rattle.script_core.specs.declared.script.Script.{Script}
 use Rattle.script_core.specs.Script.{Run, Whole, AtBadLine, lines_of, runs_from, runs_lines, prints}
 use Rattle.script_lines.specs.declared.reason.Reason.{Reason}
 use Rattle.script_session.specs.Session.{State}
-use Rattle.script_session.specs.Stands.{IsState}
 
 -- the exit status of the program
 abbrev pub status_of : Outcome → ℕ
 status_of Ran = 0
 status_of (BadLine number reason) = 3
 status_of OutOfMemory = 4
+status_of Unmerged = 5
 status_of Failed = 6
 
 -- a beginning of the text was put behind what the writer held
@@ -28,6 +28,7 @@ abbrev pub Answers : Run → Option (List ℕ) → Option (List ℕ) → Outcome
 Answers r old new Ran = (r.verdict ≡ Whole) × Appends old new r.text
 Answers r old new (BadLine number reason) = (r.verdict ≡ AtBadLine number reason) × Appends old new r.text
 Answers r old new OutOfMemory = AppendsFront r.text old new
+Answers r old new Unmerged = ⊥
 Answers r old new Failed = AppendsFront r.text old new
 
 -- ---- a script that has come in part
@@ -49,35 +50,36 @@ opening state = record { number = 1; state = state; pending = [] }
 abbrev pub rest_of : Position → List ℕ → Run
 rest_of p bytes = runs_lines p.number p.state (lines_of (p.pending ++ bytes))
 
-pub record IsAt (s : Script) (p : Position) : Type 0 where
-  pub session : IsState s.session p.state
+-- what runs its lines stands for the state before the line that comes
+pub record IsAt {S : Type 0} (stands : S → State → Type 0) (s : Script S) (p : Position) : Type 0 where
+  pub session : stands s.session p.state
   pub pending : s.pending.items ≡ p.pending
   pub number : s.number ≡ p.number
   pub one_line : All (λ c. (c == 10) ≡ false) p.pending
   pub short : length p.pending ≤ 65536
 
 -- the bytes were taken, and what they print was written
-pub record Reaches (p : Position) (bytes : List ℕ) (s : Script) (old new : Option (List ℕ)) : Type 0 where
+pub record Reaches (p : Position) (bytes : List ℕ) (is_at : Position → Type 0) (old new : Option (List ℕ)) : Type 0 where
   pub to : Position
   pub text : List ℕ
-  pub at : IsAt s to
+  pub at : is_at to
   pub goes : (rest : List ℕ) → rest_of p (bytes ++ rest) ≡ prints text (rest_of to rest)
   pub appended : Appends old new text
 
 -- an error is the answer to the whole script, whatever else comes
-abbrev pub Took : Position → List ℕ → Script → Option (List ℕ) → Option (List ℕ) → Result (Unit {0}) Outcome → Type 0
-Took p bytes s old new (Ok x) = Reaches p bytes s old new
-Took p bytes s old new (Err outcome) = (rest : List ℕ) → Answers (rest_of p (bytes ++ rest)) old new outcome
+abbrev pub Took : Position → List ℕ → (Position → Type 0) → Option (List ℕ) → Option (List ℕ) → Result (Unit {0}) Outcome → Type 0
+Took p bytes is_at old new (Ok x) = Reaches p bytes is_at old new
+Took p bytes is_at old new (Err outcome) = (rest : List ℕ) → Answers (rest_of p (bytes ++ rest)) old new outcome
 
 -- what has been read of the input was taken
-pub record Progress (from : State) (input : List ℕ) (remaining : Option (List ℕ)) (s : Script) (old new : Option (List ℕ)) : Type 0 where
+pub record Progress (from : State) (input : List ℕ) (remaining : Option (List ℕ)) (is_at : Position → Type 0) (old new : Option (List ℕ)) : Type 0 where
   pub bytes : List ℕ
   pub left : List ℕ
   pub remains : remaining ≡ Some left
   pub parts : input ≡ bytes ++ left
-  pub reached : Reaches (opening from) bytes s old new
+  pub reached : Reaches (opening from) bytes is_at old new
 
 -- more has been taken, or the script has ended
-abbrev pub GoesOn : State → List ℕ → Option (List ℕ) → Script → Option (List ℕ) → Option (List ℕ) → Option Outcome → Type 0
-GoesOn from input remaining s old new None = Progress from input remaining s old new
-GoesOn from input remaining s old new (Some outcome) = Answers (runs_from from input) old new outcome
+abbrev pub GoesOn : State → List ℕ → Option (List ℕ) → (Position → Type 0) → Option (List ℕ) → Option (List ℕ) → Option Outcome → Type 0
+GoesOn from input remaining is_at old new None = Progress from input remaining is_at old new
+GoesOn from input remaining is_at old new (Some outcome) = Answers (runs_from from input) old new outcome

@@ -1,8 +1,9 @@
 //! The command line.
-use clap::{Arg, ArgAction, Command, Error};
+use clap::error::ErrorKind;
+use clap::{Arg, ArgAction, ArgMatches, Command, Error};
 use std::alloc::Global;
 
-/// What is written of a script.
+/// How a script is run, and what is written of it.
 #[derive(Clone, Copy, Debug, PartialEq, Eq)]
 pub enum Form {
     /// What its commands print.
@@ -11,6 +12,8 @@ pub enum Form {
     Events,
     /// A drawing in SVG of all that happens.
     Picture,
+    /// What its commands print, at nodes that have a thread each.
+    Threads,
 }
 
 /// What the command line asks for.
@@ -28,6 +31,9 @@ const ABOUT: &str = "Erlang nodes in one process, driven by a script on standard
 
 /// The forms of a trace: frames in hex, or events in JSON.
 const TRACES: &[&str] = &["hex", "json"];
+
+/// Events in threads have no one order in which they happen.
+const THREADS_AND_EVENTS: &str = "the argument '--threads' cannot be used with '--trace=json'";
 
 const VERSION: &str = "0.1";
 
@@ -59,15 +65,14 @@ Commands of a script, one a line:
   sweep NODE         one record of a lost connection is swept
   settle             all of this happens, until nothing more may
   show               the nodes, their processes and the messages that wait
+With --threads there is no pair, deliver, local or sweep: nodes in threads take what comes by themselves.
 
-Exit status: 0 the script ran; 2 wrong command line; 3 bad line; 4 no memory; 6 reading or writing
-failed, or the script has more than 1,048,576 lines. docs/SCRIPTS.md tells the whole.";
+Exit status: 0 the script ran; 2 wrong command line; 3 bad line; 4 no memory, or no threads; 5 the
+histories of nodes in threads don't merge; 6 reading or writing failed, or the script has more than
+1,048,576 lines. docs/SCRIPTS.md tells the whole.";
 
-/// Reads the words of a command line, of which the first is the program's name.
-///
-/// An error has the text for the user: help or the version that was asked for, or what is wrong with the
-/// words.
-pub fn read_options<'a>(alloc: Global, words: &'a [String]) -> Result<Options, Error> {
+// What a command line may have.
+fn command<'a>(alloc: Global) -> Result<Command<'a>, Error> {
     let trace = Arg::new(alloc, "trace")
         .long("trace")
         .value_name("json")
@@ -81,30 +86,53 @@ pub fn read_options<'a>(alloc: Global, words: &'a [String]) -> Result<Options, E
         .help("Draw in SVG all that happens, in place of all else")
         .action(ArgAction::SetTrue)
         .conflicts_with("trace")?;
+    let threads = Arg::new(alloc, "threads")
+        .long("threads")
+        .help("Give each node a thread of its own, and say at the end that their histories merge")
+        .action(ArgAction::SetTrue)
+        .conflicts_with("picture")?;
     let seed = Arg::new(alloc, "seed")
         .long("seed")
         .value_name("N")
         .help("The first challenge word of the handshakes")
         .default_value("1")
         .value_parser(clap::value_parser!(u32));
-    let command = Command::new(alloc, "erldist")
-        .about(ABOUT)
-        .version(VERSION)
-        .after_help(COMMANDS)
-        .arg(trace)?
-        .arg(picture)?
-        .arg(seed)?;
-    let matches = command.try_get_matches_from(words)?;
-    let trace = matches.get_str("trace");
-    let form = if matches.get_flag("picture") {
-        Form::Picture
-    } else if trace == Some("json") {
-        Form::Events
-    } else {
-        Form::Text
+    Ok(
+        Command::new(alloc, "erldist")
+            .about(ABOUT)
+            .version(VERSION)
+            .after_help(COMMANDS)
+            .arg(trace)?
+            .arg(threads)?
+            .arg(picture)?
+            .arg(seed)?,
+    )
+}
+
+// What is written of a script; None where what is asked for doesn't go together.
+fn form_of(matches: &ArgMatches<'_>) -> Option<Form> {
+    let events = matches.get_str("trace") == Some("json");
+    match (matches.get_flag("threads"), matches.get_flag("picture")) {
+        (true, _) if events => None,
+        (true, _) => Some(Form::Threads),
+        (false, true) => Some(Form::Picture),
+        (false, false) if events => Some(Form::Events),
+        (false, false) => Some(Form::Text),
+    }
+}
+
+/// Reads the words of a command line, of which the first is the program's name.
+///
+/// An error has the text for the user: help or the version that was asked for, or what is wrong with the
+/// words.
+pub fn read_options<'a>(alloc: Global, words: &'a [String]) -> Result<Options, Error> {
+    let mut command = command(alloc)?;
+    let matches = command.try_get_matches_from_mut(words)?;
+    let Some(form) = form_of(&matches) else {
+        return Err(command.error(ErrorKind::ArgumentConflict, THREADS_AND_EVENTS)?);
     };
     Ok(Options {
-        trace: trace == Some("hex"),
+        trace: matches.get_str("trace") == Some("hex"),
         form,
         seed: matches.get_one::<u32>("seed").unwrap_or(1),
     })

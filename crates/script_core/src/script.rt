@@ -5,10 +5,11 @@ ghost use Rattle.std.specs.Io.KnownBytes.{Appends};
 ghost use Rattle.script_core.specs.declared.script.Outcome.{Outcome};
 ghost use Rattle.script_core.specs.Drawn.{Draws, Ends};
 ghost use Rattle.script_core.specs.Script.{runs_from, script};
-ghost use Rattle.script_session.specs.Session.{State, fresh_state};
+ghost use Rattle.script_session.specs.Session.{State};
 ghost use Rattle.svg_text.specs.Markup.{IsDocument};
 ghost use Rattle.script_core.specs.Outcomes.{status_of, fault_at, Answers, Position, opening, rest_of, IsAt, Took, Progress, GoesOn, AppendsFront};
 
+use crate::lines::Lines;
 use crate::options::Options;
 use diagram_svg::put_picture;
 use script_lines::{LINE_LIMIT, Reason};
@@ -26,8 +27,10 @@ pub enum Outcome {
     Ran,
     /// A line is bad: its number, from 1, and why. The output of the lines before stays.
     BadLine(u64, Reason),
-    /// Memory is wanting.
+    /// Memory is wanting, or threads are.
     OutOfMemory,
+    /// It ran through at nodes in threads, and the histories of these don't merge.
+    Unmerged,
     /// Reading or writing failed, or the input has more than 1,048,576 lines.
     Failed,
 }
@@ -41,6 +44,7 @@ impl Outcome {
             Outcome::Ran => 0,
             Outcome::BadLine(..) => 3,
             Outcome::OutOfMemory => 4,
+            Outcome::Unmerged => 5,
             Outcome::Failed => 6,
         }
     }
@@ -78,7 +82,8 @@ fn run_to_end<R: Read, W: Write>(
 ) -> Outcome
     ensures { IfSome (R.remaining reader.old) (λ input. Answers (script options.now.trace options.now.seed input) (W.contents writer.old) (W.contents writer.new) result) }
 {
-    let mut script = Script::new(alloc, options);
+    let session = Session::new(alloc, options.trace, options.seed);
+    let mut script = Script::new(alloc, session);
     let outcome = script.read_all(alloc, reader, writer);
     script.advise(alloc, outcome, advice);
     outcome
@@ -98,7 +103,8 @@ pub fn run_telling<R: Read, W: Write>(
     options: &Options,
     advice: &mut String,
 ) -> Outcome {
-    let mut script = Script::new(alloc, options);
+    let session = Session::new(alloc, options.trace, options.seed);
+    let mut script = Script::new(alloc, session);
     script.session.tell_events();
     let mut unseen = io::sink();
     for _ in 0..u64::MAX {
@@ -129,7 +135,8 @@ pub fn run_drawing<R: Read, W: Write>(
     ensures draws { Draws (W.contents writer.old) (W.contents writer.new) result }
     ensures ends { IfSome (R.remaining reader.old) (λ input. Ends (script options.now.trace options.now.seed input).verdict result) }
 {
-    let mut script = Script::new(alloc, options);
+    let session = Session::new(alloc, options.trace, options.seed);
+    let mut script = Script::new(alloc, session);
     if script.session.draw_picture(alloc).is_err() {
         return Outcome::OutOfMemory;
     }
@@ -149,33 +156,42 @@ pub fn run_drawing<R: Read, W: Write>(
 
 /// A script of which a part was read.
 #[derive(Drop)]
-struct Script {
-    session: Session,
+pub(crate) struct Script<S> {
+    pub(crate) session: S,
     /// What has come of the line that is being read.
     pending: Vec<u8>,
     /// The number of that line, from 1.
     number: u64,
 }
 
-impl Script {
-    fn new(alloc: Global, options: &Options) -> Script
-        ensures { IsAt result (opening (fresh_state options.now.trace options.now.seed)) }
+impl<S: Lines> Script<S> {
+    /// Nothing of it was read.
+    pub(crate) fn new(alloc: Global, session: S) -> Script<S>
+        ensures session { result.session ≡ session }
+        ensures at { (state : State) → S.stands session state → IsAt S.stands result (opening state) }
     {
         Script {
-            session: Session::new(alloc, options.trace, options.seed),
+            session,
             pending: Vec::new(alloc),
             number: 1,
         }
     }
 
+    /// What has run its lines.
+    pub(crate) fn into_session(self) -> S
+        ensures { result ≡ self.session }
+    {
+        self.session
+    }
+
     /// Reads on until the script has ended, and answers how it did.
-    fn read_all<R: Read, W: Write>(
+    pub(crate) fn read_all<R: Read, W: Write>(
         &mut self,
         alloc: Global,
         reader: &mut R,
         writer: &mut W,
     ) -> Outcome
-        ensures { (from : State) → IsAt self.old (opening from) →
+        ensures { (from : State) → IsAt S.stands self.old (opening from) →
             IfSome (R.remaining reader.old) (λ input. Answers (runs_from from input) (W.contents writer.old) (W.contents writer.new) result) }
     {
         for _ in 0..u64::MAX {
@@ -187,7 +203,7 @@ impl Script {
     }
 
     /// What is wrong with the line at which it ended, if it is a bad one.
-    fn advise(&self, alloc: Global, outcome: Outcome, advice: &mut String) {
+    pub(crate) fn advise(&self, alloc: Global, outcome: Outcome, advice: &mut String) {
         if let Outcome::BadLine(_, reason) = outcome {
             let _ = self
                 .session
@@ -195,39 +211,22 @@ impl Script {
         }
     }
 
-    /// A drawing of what has happened.
-    fn drawing(&mut self, alloc: Global) -> Result<String, AllocError>
-        ensures { IfOk result (λ drawing. IsDocument (string_bytes drawing)) }
+    /// The number of the line that is being read, from 1.
+    pub(crate) fn number(&self) -> u64
+        ensures { result ≡ self.now.number }
     {
-        let diagram = self.session.picture(alloc)?;
-        let mut out = String::new(alloc);
-        put_picture(alloc, &mut out, &diagram)?;
-        Ok(out)
-    }
-
-    /// Writes the lines of the events that have happened since the last were written.
-    fn write_events<W: Write>(&mut self, writer: &mut W) -> Result<(), Outcome>
-        ensures wrote { OnOk result (Appends (W.contents writer.old) (W.contents writer.new) (string_bytes self.old.session.stage.telling.lines)) }
-        ensures taken { OnOk result (string_bytes self.new.session.stage.telling.lines ≡ []) }
-        ensures err { IfErr result (λ outcome. outcome ≡ Outcome.Failed) }
-    {
-        write_bytes(writer, self.session.events().as_bytes())?;
-        self.session.clear_events();
-        match writer.flush() {
-            Ok(()) => Ok(()),
-            Err(_) => Err(Outcome::Failed),
-        }
+        self.number
     }
 
     /// Reads once, and takes what was read. The answer is how the script ended, if it did.
-    fn read_on<R: Read, W: Write>(
+    pub(crate) fn read_on<R: Read, W: Write>(
         &mut self,
         alloc: Global,
         reader: &mut R,
         writer: &mut W,
     ) -> Option<Outcome>
-        ensures { (from : State) (input : List ℕ) (held : Option (List ℕ)) → Progress from input (R.remaining reader.old) self.old held (W.contents writer.old)
-            → GoesOn from input (R.remaining reader.new) self.new held (W.contents writer.new) result }
+        ensures { (from : State) (input : List ℕ) (held : Option (List ℕ)) → Progress from input (R.remaining reader.old) (IsAt S.stands self.old) held (W.contents writer.old)
+            → GoesOn from input (R.remaining reader.new) (IsAt S.stands self.new) held (W.contents writer.new) result }
     {
         let mut chunk = [0u8; 4096];
         match reader.read(&mut chunk) {
@@ -243,7 +242,7 @@ impl Script {
 
     /// More of the script comes.
     fn take<W: Write>(&mut self, alloc: Global, bytes: &[u8], writer: &mut W) -> Result<(), Outcome>
-        ensures { (p : Position) → IsAt self.old p → Took p bytes.now self.new (W.contents writer.old) (W.contents writer.new) result }
+        ensures { (p : Position) → IsAt S.stands self.old p → Took p bytes.now (IsAt S.stands self.new) (W.contents writer.old) (W.contents writer.new) result }
     {
         for byte in bytes {
             self.take_byte(alloc, *byte, writer)?;
@@ -260,7 +259,7 @@ impl Script {
         byte: u8,
         writer: &mut W,
     ) -> Result<(), Outcome>
-        ensures { (p : Position) → IsAt self.old p → Took p (byte ∷ []) self.new (W.contents writer.old) (W.contents writer.new) result }
+        ensures { (p : Position) → IsAt S.stands self.old p → Took p (byte ∷ []) (IsAt S.stands self.new) (W.contents writer.old) (W.contents writer.new) result }
     {
         if byte == b'\n' {
             return self.run_line(alloc, writer);
@@ -287,7 +286,7 @@ impl Script {
     /// Runs the line that was read, and begins the next.
     fn run_line<W: Write>(&mut self, alloc: Global, writer: &mut W) -> Result<(), Outcome>
         ensures next { OnOk result (self.new.pending.items ≡ []) }
-        ensures took { (p : Position) → IsAt self.old p → Took p (10 ∷ []) self.new (W.contents writer.old) (W.contents writer.new) result }
+        ensures took { (p : Position) → IsAt S.stands self.old p → Took p (10 ∷ []) (IsAt S.stands self.new) (W.contents writer.old) (W.contents writer.new) result }
     {
         if self.number > LINES {
             return Err(Outcome::Failed);
@@ -306,7 +305,7 @@ impl Script {
 
     /// The script has come to its end.
     fn finish<W: Write>(&mut self, alloc: Global, writer: &mut W) -> Outcome
-        ensures { (p : Position) → IsAt self.old p → Answers (rest_of p []) (W.contents writer.old) (W.contents writer.new) result }
+        ensures { (p : Position) → IsAt S.stands self.old p → Answers (rest_of p []) (W.contents writer.old) (W.contents writer.new) result }
     {
         if self.pending.is_empty() {
             return Outcome::Ran;
@@ -318,8 +317,34 @@ impl Script {
     }
 }
 
+impl Script<Session> {
+    /// A drawing of what has happened.
+    fn drawing(&mut self, alloc: Global) -> Result<String, AllocError>
+        ensures { IfOk result (λ drawing. IsDocument (string_bytes drawing)) }
+    {
+        let diagram = self.session.picture(alloc)?;
+        let mut out = String::new(alloc);
+        put_picture(alloc, &mut out, &diagram)?;
+        Ok(out)
+    }
+
+    /// Writes the lines of the events that have happened since the last were written.
+    fn write_events<W: Write>(&mut self, writer: &mut W) -> Result<(), Outcome>
+        ensures wrote { OnOk result (Appends (W.contents writer.old) (W.contents writer.new) (string_bytes self.old.session.stage.telling.lines)) }
+        ensures taken { OnOk result (string_bytes self.new.session.stage.telling.lines ≡ []) }
+        ensures err { IfErr result (λ outcome. outcome ≡ Outcome.Failed) }
+    {
+        write_bytes(writer, self.session.events().as_bytes())?;
+        self.session.clear_events();
+        match writer.flush() {
+            Ok(()) => Ok(()),
+            Err(_) => Err(Outcome::Failed),
+        }
+    }
+}
+
 /// Writes the bytes, or where writing fails a beginning of them.
-fn write_bytes<W: Write>(writer: &mut W, bytes: &[u8]) -> Result<(), Outcome>
+pub(crate) fn write_bytes<W: Write>(writer: &mut W, bytes: &[u8]) -> Result<(), Outcome>
     ensures ok { OnOk result (Appends (W.contents writer.old) (W.contents writer.new) bytes.now) }
     ensures err { IfErr result (λ outcome. (outcome ≡ Outcome.Failed) × AppendsFront bytes.now (W.contents writer.old) (W.contents writer.new)) }
 {

@@ -417,7 +417,7 @@ const OTHER_WORDS: [(&[&str], i32); 13] = [
     (&["--seed"], 2),
     (&["script"], 2),
     (&["--fast"], 2),
-    (&["--threads"], 2),
+    (&["--threads", "--picture"], 2),
     (&["--help"], 0),
     (&["--version"], 0),
 ];

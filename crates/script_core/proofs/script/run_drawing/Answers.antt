@@ -16,10 +16,11 @@ pub returns-in-Ok-write_whole-clause-ends : goal.returns-in-Ok-write_whole-claus
 returns-in-Ok-write_whole-clause-ends g c =
     let at = fresh_state c.args.options.now.trace c.args.options.now.seed in
     ends_all (g.R.Read.remaining c.args.reader.now) (script c.args.options.now.trace c.args.options.now.seed) None None c.read_all-outcome.result
-    (c.read_all-outcome.ensures at (record {
-      session = c.draw_picture.ensures at c.new-script.ensures.session;
-      pending = c.new-script.ensures.pending;
-      number = c.new-script.ensures.number;
-      one_line = c.new-script.ensures.one_line;
-      short = c.new-script.ensures.short;
+    (let opened = c.new-script.ensures.at at c.new-session.ensures in
+    c.read_all-outcome.ensures at (record {
+      session = c.draw_picture.ensures at opened.session;
+      pending = opened.pending;
+      number = opened.number;
+      one_line = opened.one_line;
+      short = opened.short;
     }))

@@ -7,13 +7,13 @@ use Rattle.script_core.specs.declared.script.Outcome.TheVariants.{BadLine}
 use Rattle.script_core.specs.Script.{Run}
 use Rattle.script_session.specs.Session.{line_does}
 use Rattle.script_core.specs.Outcomes.{Answers, AppendsFront, rest_of}
-use Rattle.script_core.proofs.ScriptLemmas.{bad_line, fault_within, one_line, obeys_bad, obeys_ok, front_more}
+use Rattle.script_core.proofs.ScriptLemmas.{bad_line, fault_within, one_line, heeds_bad, heeds_ok, front_more}
 use Rattle.script_core.proofs.script.Script.run_line.Goals as goal
 
 pub returns-in-Err-Bad-clause-took : goal.returns-in-Err-Bad-clause-took
 returns-in-Err-Bad-clause-took g c = λ p at rest.
     let held = g.W.Write.contents c.args.writer.now in
-    let does = obeys_bad (line_does p.state c.deref.result.now) c.line.new.self (string_bytes c.new-out.result) (string_bytes c.line.new.out) c.line.result c.in-Err-Bad.field-0 c.in-Err-Bad.reason c.in-Err-Bad.is c.in-Err-Bad.field-0-is (c.line.ensures p.state at.session) in
+    let does = heeds_bad g.S.Lines.stands (line_does p.state c.deref.result.now) c.line.new.self (string_bytes c.new-out.result) (string_bytes c.line.new.out) c.line.result c.in-Err-Bad.field-0 c.in-Err-Bad.reason c.in-Err-Bad.is c.in-Err-Bad.field-0-is (c.line.ensures p.state at.session) in
     let same : c.deref.result.now ≡ p.pending = c.deref.ensures.value ∙ at.pending in
     let within : p.number ≤ 1048576 = let n = at.number in let m = c.if-self-gt-LINES.false in omega arith in
     subst (λ (o : Outcome). Answers (rest_of p (10 ∷ rest)) held held o)
@@ -22,7 +22,7 @@ returns-in-Err-Bad-clause-took g c = λ p at rest.
 
 pub returns-clause-took : goal.returns-clause-took
 returns-clause-took g c = λ p at.
-    let st = obeys_ok (line_does p.state c.deref.result.now) c.line.new.self (string_bytes c.new-out.result) (string_bytes c.line.new.out) c.line.result c.in-Ok.field-0 c.in-Ok.is (c.line.ensures p.state at.session) in
+    let st = heeds_ok g.S.Lines.stands (line_does p.state c.deref.result.now) c.line.new.self (string_bytes c.new-out.result) (string_bytes c.line.new.out) c.line.result c.in-Ok.field-0 c.in-Ok.is (c.line.ensures p.state at.session) in
     let same : c.deref.result.now ≡ p.pending = c.deref.ensures.value ∙ at.pending in
     let within : p.number ≤ 1048576 = let n = at.number in let m = c.if-self-gt-LINES.false in omega arith in
     let text : c.as_bytes.result.now ≡ st.step.text = c.as_bytes.ensures.value ∙ st.text ∙ ap (λ (w : List ℕ). w ++ st.step.text) c.new-out.ensures.bytes in
@@ -44,7 +44,7 @@ pub returns-in_err-write_bytes-clause-took : goal.returns-in_err-write_bytes-cla
 returns-in_err-write_bytes-clause-took g c = λ p at.
     let old = g.W.Write.contents c.args.writer.now in
     let new = g.W.Write.contents c.write_bytes.new.writer in
-    let st = obeys_ok (line_does p.state c.deref.result.now) c.line.new.self (string_bytes c.new-out.result) (string_bytes c.line.new.out) c.line.result c.in-Ok.field-0 c.in-Ok.is (c.line.ensures p.state at.session) in
+    let st = heeds_ok g.S.Lines.stands (line_does p.state c.deref.result.now) c.line.new.self (string_bytes c.new-out.result) (string_bytes c.line.new.out) c.line.result c.in-Ok.field-0 c.in-Ok.is (c.line.ensures p.state at.session) in
     let same : c.deref.result.now ≡ p.pending = c.deref.ensures.value ∙ at.pending in
     let within : p.number ≤ 1048576 = let n = at.number in let m = c.if-self-gt-LINES.false in omega arith in
     let text : c.as_bytes.result.now ≡ st.step.text = c.as_bytes.ensures.value ∙ st.text ∙ ap (λ (w : List ℕ). w ++ st.step.text) c.new-out.ensures.bytes in

@@ -1,0 +1,193 @@
+//! A script whose nodes have threads.
+ghost use Rattle.script_core.specs.Threaded.{Tells};
+
+use crate::lines::Lines;
+use crate::options::Options;
+use crate::script::{Outcome, Script, write_bytes};
+use script_lines::Reason;
+use script_session::Stop;
+use script_threads::{Machine, ThreadedSession, Unfinished};
+use std::alloc::{AllocError, Global};
+use std::io::{self, Read, Write};
+use std::mem;
+
+/// A session of nodes in threads, and the lines that have come and aren't run yet.
+#[derive(Drop)]
+pub(crate) struct InThreads {
+    session: ThreadedSession,
+    lines: Vec<Vec<u8>>,
+}
+
+impl InThreads {
+    fn new(alloc: Global, seed: u32) -> InThreads {
+        InThreads {
+            session: ThreadedSession::new(alloc, seed),
+            lines: Vec::new(alloc),
+        }
+    }
+
+    // The lines that have come.
+    fn take_lines(&mut self, alloc: Global) -> Vec<Vec<u8>> {
+        mem::replace(&mut self.lines, Vec::new(alloc))
+    }
+}
+
+impl Lines for InThreads {
+    // what threads do is no function of a line
+    ghost stands = { λ _ _. ⊥ };
+
+    // The line waits until who reads the script runs it.
+    fn line(&mut self, alloc: Global, line: &[u8], _out: &mut String) -> Result<(), Stop> {
+        let Ok(line) = Vec::from_slice(alloc, line) else {
+            return Err(Stop::OutOfMemory);
+        };
+        match self.lines.push(line) {
+            Ok(()) => Ok(()),
+            Err(_) => Err(Stop::OutOfMemory),
+        }
+    }
+
+    fn put_advice(
+        &self,
+        alloc: Global,
+        out: &mut String,
+        reason: Reason,
+        line: &[u8],
+    ) -> Result<(), AllocError> {
+        self.session.put_advice(alloc, out, reason, line)
+    }
+}
+
+/// Runs the script that the reader gives, at nodes that have a thread each, and writes what it prints.
+/// Where it runs through, the histories of the nodes that it has named are merged at its end, and a line
+/// tells so, behind the frames that were sent, if the options ask for them.
+///
+/// What is written is flushed whenever the reader has given all that it has at hand. After a bad line,
+/// and where memory, reading or writing fails, nothing more is read or written. What is wrong with a bad
+/// line is put behind the advice, as by [`run_script`](crate::run_script).
+pub fn run_threads<M: Machine, R: Read, W: Write>(
+    rt: &M,
+    alloc: Global,
+    reader: &mut R,
+    writer: &mut W,
+    options: &Options,
+    advice: &mut String,
+) -> Outcome {
+    let outcome = run_to_end(rt, alloc, reader, writer, options, advice);
+    if outcome == Outcome::Failed || writer.flush().is_ok() {
+        return outcome;
+    }
+    Outcome::Failed
+}
+
+fn run_to_end<M: Machine, R: Read, W: Write>(
+    rt: &M,
+    alloc: Global,
+    reader: &mut R,
+    writer: &mut W,
+    options: &Options,
+    advice: &mut String,
+) -> Outcome {
+    let mut script = Script::new(alloc, InThreads::new(alloc, options.seed));
+    let outcome = read_all(rt, alloc, &mut script, reader, writer, advice);
+    let InThreads { session, .. } = script.into_session();
+    if outcome == Outcome::Ran {
+        return finish(rt, alloc, session, options.trace, writer);
+    }
+    session.abandon(rt);
+    outcome
+}
+
+// Reads on until the script has ended, and answers how it did. What was read at once is run before more
+// is read.
+fn read_all<M: Machine, R: Read, W: Write>(
+    rt: &M,
+    alloc: Global,
+    script: &mut Script<InThreads>,
+    reader: &mut R,
+    writer: &mut W,
+    advice: &mut String,
+) -> Outcome {
+    let mut unseen = io::sink();
+    for _ in 0..u64::MAX {
+        let ended = script.read_on(alloc, reader, &mut unseen);
+        if let Err(outcome) = run_lines(rt, alloc, script, writer, advice) {
+            return outcome;
+        }
+        if let Some(outcome) = ended {
+            script.advise(alloc, outcome, advice);
+            return outcome;
+        }
+    }
+    Outcome::Failed
+}
+
+// Runs the lines that have come, the last of which stands before the one that is being read.
+fn run_lines<M: Machine, W: Write>(
+    rt: &M,
+    alloc: Global,
+    script: &mut Script<InThreads>,
+    writer: &mut W,
+    advice: &mut String,
+) -> Result<(), Outcome> {
+    let lines = script.session.take_lines(alloc);
+    let mut number = script.number().saturating_sub(lines.len() as u64);
+    for line in &lines {
+        run_line(
+            rt,
+            alloc,
+            &mut script.session.session,
+            number,
+            line,
+            writer,
+            advice,
+        )?;
+        number = number.saturating_add(1);
+    }
+    match writer.flush() {
+        Ok(()) => Ok(()),
+        Err(_) => Err(Outcome::Failed),
+    }
+}
+
+// Runs the line of a number.
+fn run_line<M: Machine, W: Write>(
+    rt: &M,
+    alloc: Global,
+    session: &mut ThreadedSession,
+    number: u64,
+    line: &[u8],
+    writer: &mut W,
+    advice: &mut String,
+) -> Result<(), Outcome> {
+    let mut out = String::new(alloc);
+    match session.line(rt, alloc, line, &mut out) {
+        Ok(()) => write_bytes(writer, out.as_bytes()),
+        Err(Stop::Bad(reason)) => {
+            let _ = session.put_advice(alloc, advice, reason, line);
+            Err(Outcome::BadLine(number, reason))
+        }
+        Err(Stop::OutOfMemory) => Err(Outcome::OutOfMemory),
+    }
+}
+
+/// The threads end, and what is to be said of that is written.
+fn finish<M: Machine, W: Write>(
+    rt: &M,
+    alloc: Global,
+    session: ThreadedSession,
+    trace: bool,
+    writer: &mut W,
+) -> Outcome
+    ensures { Tells trace session (W.contents writer.old) (W.contents writer.new) result }
+{
+    let mut out = String::new(alloc);
+    match session.finish(rt, alloc, trace, &mut out) {
+        Ok(()) => match write_bytes(writer, out.as_bytes()) {
+            Ok(()) => Outcome::Ran,
+            Err(failed) => failed,
+        },
+        Err(Unfinished::OutOfMemory) => Outcome::OutOfMemory,
+        Err(Unfinished::Unmerged) => Outcome::Unmerged,
+    }
+}

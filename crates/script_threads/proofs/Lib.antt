@@ -1,0 +1,4 @@
+pub mod Lines
+pub mod Named
+pub mod Ending
+pub mod Asking

@@ -1,0 +1,44 @@
+//! What is said of a bad line beside the reason.
+
+use script_lines::{Reason, Verb, verb_in};
+use script_terms::Names;
+use std::alloc::{AllocError, Global};
+
+// Of a command that isn't there for nodes in threads, why, and what does instead.
+fn of_missing(verb: Verb) -> Option<&'static str> {
+    match verb {
+        Verb::Pair => Some(
+            "'pair'; it takes what comes itself, and nodes in threads do: 'node', 'spawn' and 'dial' lines make a pair, and 'settle' waits for it",
+        ),
+        Verb::Deliver => Some(
+            "'deliver'; nodes in threads take what comes by themselves: 'settle' waits for it",
+        ),
+        Verb::Local => Some(
+            "'local'; nodes in threads take what comes by themselves: 'settle' waits for it",
+        ),
+        Verb::Sweep => Some("'sweep'; nodes in threads sweep by themselves: 'settle' waits for it"),
+        _ => None,
+    }
+}
+
+/// Puts what is wrong with a bad line behind what is printed, and the remedy where there is an obvious
+/// one.
+///
+/// # Errors
+/// Where memory is wanting.
+pub(crate) fn put_advice(
+    alloc: Global,
+    out: &mut String,
+    names: &Names,
+    reason: Reason,
+    line: &[u8],
+) -> Result<(), AllocError> {
+    let missing = match verb_in(line) {
+        Some(verb) if reason == Reason::UnknownCommand => of_missing(verb),
+        _ => None,
+    };
+    match missing {
+        Some(text) => out.push_str(text),
+        None => script_advice::put_advice(alloc, out, names, reason, line),
+    }
+}

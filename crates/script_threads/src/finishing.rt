@@ -1,0 +1,185 @@
+//! The end of a script.
+ghost use Rattle.std.specs.Prelude.{◌≡◌, ◌<◌, ◌++◌, IfOk, OnOk, false, length, string_bytes, true};
+ghost use Rattle.std.specs.List.{flat_map};
+ghost use Rattle.std.specs.Option.{option_copied};
+ghost use Rattle.script_texts.specs.Texts.{merged_text};
+ghost use Rattle.script_threads.specs.Merged.{AreMerged, Ends, sents_at, sents_with, trace_text};
+ghost use Rattle.script_threads.specs.Standing.{has_started, is_idle, nodes_of};
+ghost use Rattle.script_threads.specs.declared.threads.Cast.TheVariants as cast;
+
+use crate::running::{Machine, Running};
+use crate::session::ThreadedSession;
+use crate::threads::{Cast, NodeThreads};
+use cluster_run::Finished;
+use erl_handshake::Cookie;
+use erl_names::NodeName;
+use joined_books::{FinishError, Placed};
+use node_book::Book;
+use node_history::Entry;
+use script_session::put_sents;
+use script_texts::put_merged;
+use std::alloc::{AllocError, Global};
+
+/// Why the nodes of a script weren't merged.
+#[derive(Clone, Copy, Debug, PartialEq, Eq)]
+pub enum Unfinished {
+    /// Memory is wanting, or threads are.
+    OutOfMemory,
+    /// The histories of the nodes don't fit together, or to what was answered.
+    Unmerged,
+}
+
+impl From<AllocError> for Unfinished {
+    fn from(_e: AllocError) -> Unfinished {
+        Unfinished::OutOfMemory
+    }
+}
+
+impl From<FinishError> for Unfinished {
+    fn from(e: FinishError) -> Unfinished {
+        match e {
+            FinishError::OutOfMemory => Unfinished::OutOfMemory,
+            _ => Unfinished::Unmerged,
+        }
+    }
+}
+
+// What a node of this name sent with an entry, if there is one.
+fn put_entry(
+    alloc: Global,
+    out: &mut String,
+    node: &str,
+    entry: Option<&Entry>,
+) -> Result<(), AllocError>
+    ensures { OnOk result (string_bytes out.new ≡ string_bytes out.old ++ sents_with node.now (option_copied entry.entry)) }
+{
+    match entry {
+        Some(
+            Entry {
+                answer: Ok(report),
+                ..
+            },
+        ) => put_sents(alloc, out, node, &report.effects),
+        _ => Ok(()),
+    }
+}
+
+// The same, of the entry at a place.
+fn put_placed(
+    alloc: Global,
+    out: &mut String,
+    nodes: &[(NodeName, Cookie)],
+    books: &[Book],
+    placed: &Placed,
+) -> Result<(), AllocError>
+    ensures { OnOk result (string_bytes out.new ≡ string_bytes out.old ++ sents_at nodes.now books.now placed.now) }
+{
+    match (nodes.get(placed.node), books.get(placed.node)) {
+        (Some((name, _)), Some(book)) => {
+            put_entry(alloc, out, name.text(), book.entries().get(placed.position))
+        }
+        _ => Ok(()),
+    }
+}
+
+// What was sent with all entries, in their order.
+fn put_trace(
+    alloc: Global,
+    out: &mut String,
+    nodes: &[(NodeName, Cookie)],
+    books: &[Book],
+    entries: &[Placed],
+) -> Result<(), AllocError>
+    ensures { OnOk result (string_bytes out.new ≡ string_bytes out.old ++ flat_map (sents_at nodes.now books.now) entries.now) }
+{
+    for placed in entries {
+        put_placed(alloc, out, nodes, books, placed)?;
+    }
+    Ok(())
+}
+
+// That the nodes have merged, behind what was sent with all entries, if that is asked for.
+fn put_end(
+    alloc: Global,
+    out: &mut String,
+    trace: bool,
+    nodes: &[(NodeName, Cookie)],
+    finished: &Finished,
+) -> Result<(), AllocError>
+    ensures { OnOk result (string_bytes out.new ≡ string_bytes out.old
+        ++ trace_text trace nodes.now finished.now.books.items finished.now.trace.entries.items ++ merged_text) }
+{
+    if trace {
+        put_trace(alloc, out, nodes, &finished.books, &finished.trace.entries)?;
+    }
+    put_merged(out)
+}
+
+// Ends the threads, and tells that the nodes have merged.
+fn finish_running<R: Machine>(
+    rt: &R,
+    alloc: Global,
+    trace: bool,
+    running: Running,
+    out: &mut String,
+) -> Result<(), Unfinished>
+    ensures merged { OnOk result (AreMerged trace (cast.Running running) (string_bytes out.old) (string_bytes out.new)) }
+    ensures some { 0 < length running.nodes.items }
+{
+    let Running {
+        nodes,
+        cluster,
+        seats,
+    } = running;
+    let finished = cluster.finish(rt, seats)?;
+    put_end(alloc, out, trace, &nodes, &finished)?;
+    Ok(())
+}
+
+// The nodes, with their threads, which are started where that isn't done.
+fn started<R: Machine>(
+    rt: &R,
+    alloc: Global,
+    mut threads: NodeThreads,
+) -> Result<NodeThreads, AllocError>
+    ensures nodes { IfOk result (λ it. nodes_of it.cast ≡ nodes_of threads.cast) }
+    ensures started { IfOk result (λ it. has_started it.cast ≡ true) }
+    ensures same { IfOk result (λ it. is_idle threads.cast ≡ false → it.cast ≡ threads.cast) }
+{
+    threads.start(rt, alloc)?;
+    Ok(threads)
+}
+
+impl ThreadedSession {
+    /// Ends the threads, of a script that has run through, and merges the histories of its nodes. Where
+    /// it has named nodes these are one safe run, and that is told by a line, behind the frames that were
+    /// sent in the order of the run, if these are asked for. Else nothing is printed.
+    ///
+    /// # Errors
+    /// [`Unfinished`] tells.
+    pub fn finish<R: Machine>(
+        self,
+        rt: &R,
+        alloc: Global,
+        trace: bool,
+        out: &mut String,
+    ) -> Result<(), Unfinished>
+        ensures { OnOk result (Ends trace self.threads.cast (string_bytes out.old) (string_bytes out.new)) }
+    {
+        let NodeThreads { cast, .. } = started(rt, alloc, self.threads)?;
+        match cast {
+            Cast::Running(running) => finish_running(rt, alloc, trace, running, out),
+            Cast::Named(_) => Ok(()),
+        }
+    }
+
+    /// Ends the threads, of a script that hasn't run through.
+    pub fn abandon<R: Machine>(self, rt: &R) {
+        let ThreadedSession { threads, .. } = self;
+        let NodeThreads { cast, .. } = threads;
+        if let Cast::Running(running) = cast {
+            let Running { cluster, seats, .. } = running;
+            drop(cluster.finish(rt, seats));
+        }
+    }
+}

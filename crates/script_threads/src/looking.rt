@@ -1,0 +1,120 @@
+//! What is seen of nodes in threads.
+ghost use Rattle.std.specs.Prelude.{◌≡◌, IfOk, OnOk, string_bytes, true};
+ghost use Rattle.dist_model.specs.Node.{route};
+ghost use Rattle.node_core.specs.Model.{model_of};
+ghost use Rattle.script_session.specs.Connections.{is_any, live_sides};
+ghost use Rattle.script_session.specs.Shown.{shown_node};
+
+use crate::nodes::place_of;
+use crate::running::Running;
+use erl_names::TrunkId;
+use erl_term::{Atom, Pid, Refusal};
+use link_core::End;
+use node_core::Node;
+use script_session::{Live, put_shown};
+use std::alloc::{AllocError, Global};
+use std::sync::Wait;
+
+// The connection of a node to a peer that is up.
+fn route_at(node: &Node, peer: &Atom) -> Result<Option<TrunkId>, Refusal>
+    ensures { IfOk result (λ trunk. trunk ≡ route (model_of node.now) peer.now) }
+{
+    if !node.is_up() {
+        return Err(Refusal::NodeDown);
+    }
+    match node.route(peer) {
+        Some(trunk) => Ok(Some(trunk.clone()?)),
+        None => Ok(None),
+    }
+}
+
+// The connection of a node to a peer, and its attempts at one.
+fn live_at(node: &Node, peer: &Atom) -> Result<Live, Refusal>
+    ensures live { IfOk result (λ live. live ≡ live_sides (model_of node.now) peer.now) }
+    ensures any { IfOk result (λ live. is_any live ≡ true) }
+{
+    if !node.is_up() {
+        return Err(Refusal::NodeDown);
+    }
+    let live = Live::of(node, peer)?;
+    if live.is_any() {
+        Ok(live)
+    } else {
+        drop(live);
+        Err(Refusal::NotLive)
+    }
+}
+
+// What there is to see of a node.
+fn shown(alloc: Global, node: &Node) -> Result<String, Refusal>
+    ensures { IfOk result (λ text. string_bytes text ≡ shown_node (model_of node.now)) }
+{
+    let mut text = String::new(alloc);
+    put_shown(&mut text, node)?;
+    Ok(text)
+}
+
+impl Running {
+    /// The connection of the node of a name to a peer that is up.
+    ///
+    /// # Errors
+    /// [`Refusal::NothingThere`] where no node has the name, [`Refusal::NodeDown`],
+    /// [`Refusal::OutOfMemory`].
+    pub(crate) fn route<R: Wait>(
+        &self,
+        rt: &R,
+        node: &str,
+        peer: &Atom,
+    ) -> Result<Option<TrunkId>, Refusal> {
+        let Some(place) = place_of(&self.nodes, node) else {
+            return Err(Refusal::NothingThere);
+        };
+        self.cluster.look(rt, place, |node| route_at(node, peer))?
+    }
+
+    /// The connection of the node of a name to a peer, and its attempts at one. There is one of these.
+    ///
+    /// # Errors
+    /// As those of [`Running::route`]; and [`Refusal::NotLive`].
+    pub(crate) fn live<R: Wait>(&self, rt: &R, node: &str, peer: &Atom) -> Result<Live, Refusal> {
+        let Some(place) = place_of(&self.nodes, node) else {
+            return Err(Refusal::NothingThere);
+        };
+        self.cluster.look(rt, place, |node| live_at(node, peer))?
+    }
+
+    /// How a process holds its link to another.
+    pub(crate) fn end<R: Wait>(&self, rt: &R, process: &Pid, partner: &Pid) -> End {
+        let Some(place) = place_of(&self.nodes, process.node.text()) else {
+            return End::None;
+        };
+        self.cluster
+            .look(rt, place, |node| node.end(process, partner))
+            .unwrap_or(End::None)
+    }
+
+    // What there is to see of the node at a place.
+    fn shown_at<R: Wait>(&self, rt: &R, alloc: Global, place: usize) -> Result<String, Refusal> {
+        self.cluster.look(rt, place, |node| shown(alloc, node))?
+    }
+
+    /// Each node as it then is, the one after the other, and its processes.
+    ///
+    /// # Errors
+    /// Where memory is wanting.
+    pub(crate) fn show<R: Wait>(
+        &self,
+        rt: &R,
+        alloc: Global,
+        out: &mut String,
+    ) -> Result<(), AllocError> {
+        for place in 0..self.nodes.len() {
+            match self.shown_at(rt, alloc, place) {
+                Ok(text) => out.push_str(text.as_str())?,
+                Err(Refusal::OutOfMemory) => return Err(AllocError),
+                Err(_) => {}
+            }
+        }
+        Ok(())
+    }
+}

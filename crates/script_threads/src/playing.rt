@@ -1,0 +1,91 @@
+//! What a line's command does at nodes in threads.
+ghost use Rattle.std.specs.Prelude.{◌≡◌, IfOk};
+ghost use Rattle.script_lines.specs.Said.{said};
+ghost use Rattle.script_terms.specs.Binding.{Knows, Look};
+ghost use Rattle.script_threads.specs.Standing.{MayCome, is_idle, nodes_after, nodes_of};
+
+use crate::running::Machine;
+use crate::threads::NodeThreads;
+use dist_model::Command;
+use node_lock::Act;
+use script_lines::Line;
+use script_session::{Made, asked};
+use script_terms::Names;
+use std::alloc::{AllocError, Global};
+
+impl NodeThreads {
+    // A line that asks nothing of a process's node.
+    fn moves<R: Machine>(
+        &mut self,
+        rt: &R,
+        alloc: Global,
+        line: Line,
+        out: &mut String,
+    ) -> Result<Made, AllocError>
+        ensures nodes { MayCome (said line.entry) self.old.cast → IfOk result (λ _. nodes_of self.new.cast ≡ nodes_after (said line.entry) (nodes_of self.old.cast)) }
+        ensures idle { is_idle self.new.cast ≡ is_idle self.old.cast }
+    {
+        match line {
+            Line::Node { name, cookie } => self
+                .join(alloc, name, cookie, out)
+                .map(|()| Made::Nothing),
+            Line::Spawn { node, .. } => self.act(rt, node, Act::Run(Command::Spawn), out),
+            Line::Ends { first, second } => self
+                .ends(rt, first, second, out)
+                .map(|()| Made::Nothing),
+            Line::Dial { node, peer } => self.dial(rt, alloc, node, peer, out),
+            Line::Route { node, peer } => self
+                .route(rt, alloc, node, peer, out)
+                .map(|()| Made::Nothing),
+            Line::Lose { node, peer } => self
+                .lose(rt, alloc, node, peer, out)
+                .map(|()| Made::Nothing),
+            Line::Cut { node, peer } => self
+                .cut(rt, alloc, node, peer, out)
+                .map(|()| Made::Nothing),
+            Line::Stop { node } => self.act(rt, node, Act::Stop, out),
+            Line::Start { node } => self.act(rt, node, Act::Start, out),
+            Line::Settle => self.settle(rt, out).map(|()| Made::Nothing),
+            Line::Show => self.show(rt, alloc, out).map(|()| Made::Nothing),
+            // these aren't there, as `read` says
+            Line::Pair => Ok(Made::Nothing),
+            Line::Deliver { .. } => Ok(Made::Nothing),
+            Line::Local { .. } => Ok(Made::Nothing),
+            Line::Sweep { .. } => Ok(Made::Nothing),
+            // what asks a node is carried out there, and nothing is left to do
+            Line::Send { .. } => Ok(Made::Nothing),
+            Line::Link { .. } => Ok(Made::Nothing),
+            Line::Unlink { .. } => Ok(Made::Nothing),
+            Line::Monitor { .. } => Ok(Made::Nothing),
+            Line::Demonitor { .. } => Ok(Made::Nothing),
+            Line::Trap { .. } => Ok(Made::Nothing),
+            Line::Exit { .. } => Ok(Made::Nothing),
+            Line::Die { .. } => Ok(Made::Nothing),
+            Line::Receive { .. } => Ok(Made::Nothing),
+            Line::Links { .. } => Ok(Made::Nothing),
+            Line::Alive { .. } => Ok(Made::Nothing),
+        }
+    }
+
+    /// A line's command.
+    ///
+    /// # Errors
+    /// Where memory is wanting.
+    pub(crate) fn play<R: Machine>(
+        &mut self,
+        rt: &R,
+        alloc: Global,
+        names: &Names,
+        line: Line,
+        out: &mut String,
+    ) -> Result<Made, AllocError>
+        ensures nodes { (look : Look) → Knows names.now look → MayCome (said line.entry) self.old.cast →
+            IfOk result (λ _. nodes_of self.new.cast ≡ nodes_after (said line.entry) (nodes_of self.old.cast)) }
+        ensures idle { is_idle self.new.cast ≡ is_idle self.old.cast }
+    {
+        match asked(alloc, names, line)? {
+            Some((node, command)) => self.act(rt, node.text(), Act::Run(command), out),
+            None => self.moves(rt, alloc, line, out),
+        }
+    }
+}

@@ -1,0 +1,197 @@
+//! The nodes of a script, and their threads.
+ghost use Rattle.std.specs.Prelude.{◌≡◌, ◌++◌, ◌∷◌, [], OnOk, false, true};
+ghost use Rattle.script_threads.specs.Standing.{has_started, is_idle, nodes_of};
+
+use crate::running::{Machine, Running};
+use cluster_run::Settled;
+use dist_model::Answer;
+use erl_handshake::Cookie;
+use erl_names::NodeName;
+use erl_term::{Pid, Refusal};
+use link_core::End;
+use node_lock::Act;
+use script_session::{Made, cookie, node_name};
+use script_texts::{put_answer, put_ends, put_refused, put_settled};
+use std::alloc::{AllocError, Global};
+use std::sync::Wait;
+
+/// The most looks of one `settle`.
+const MOST_LOOKS: u64 = 1_000_000;
+
+/// The nodes that a script has named.
+#[derive(Drop)]
+pub(crate) enum Cast {
+    /// They have no threads yet.
+    Named(Vec<(NodeName, Cookie)>),
+    /// They have.
+    Running(Running),
+}
+
+/// The nodes that a script has named, and what challenges they take.
+#[derive(Drop)]
+pub(crate) struct NodeThreads {
+    pub(crate) cast: Cast,
+    /// The first challenge.
+    seed: u32,
+    /// The challenge of the next dial.
+    word: u32,
+}
+
+impl NodeThreads {
+    /// Before any node has a name.
+    pub(crate) fn new(alloc: Global, seed: u32) -> NodeThreads
+        ensures none { nodes_of result.cast ≡ [] }
+        ensures idle { is_idle result.cast ≡ true }
+    {
+        NodeThreads {
+            cast: Cast::Named(Vec::new(alloc)),
+            seed,
+            word: seed,
+        }
+    }
+
+    /// The names and the cookies of the nodes.
+    pub(crate) fn nodes(&self) -> &[(NodeName, Cookie)]
+        ensures { result.now ≡ nodes_of self.now.cast }
+    {
+        match &self.cast {
+            Cast::Named(nodes) => nodes,
+            Cast::Running(running) => &running.nodes,
+        }
+    }
+
+    /// Starts a thread for each node, unless that is done, or there is no node.
+    ///
+    /// # Errors
+    /// Where memory is wanting, or threads are.
+    pub(crate) fn start<R: Machine>(&mut self, rt: &R, alloc: Global) -> Result<(), AllocError>
+        ensures nodes { nodes_of self.new.cast ≡ nodes_of self.old.cast }
+        ensures started { OnOk result (has_started self.new.cast ≡ true) }
+        ensures same { is_idle self.old.cast ≡ false → self.new.cast ≡ self.old.cast }
+    {
+        let running = match &self.cast {
+            Cast::Named(nodes) if !nodes.is_empty() => {
+                Running::start(rt, alloc, nodes, self.seed)?
+            }
+            _ => return Ok(()),
+        };
+        self.cast = Cast::Running(running);
+        Ok(())
+    }
+
+    /// A node more, before the threads are started.
+    ///
+    /// # Errors
+    /// Where memory is wanting.
+    pub(crate) fn join(
+        &mut self,
+        alloc: Global,
+        name: &str,
+        secret: &str,
+        out: &mut String,
+    ) -> Result<(), AllocError>
+        ensures nodes { is_idle self.old.cast ≡ true → OnOk result (nodes_of self.new.cast ≡ nodes_of self.old.cast ++ (name.now, secret.now) ∷ []) }
+        ensures idle { is_idle self.new.cast ≡ is_idle self.old.cast }
+    {
+        if let Cast::Named(nodes) = &mut self.cast {
+            nodes.push((node_name(alloc, name)?, cookie(alloc, secret)?))?;
+        }
+        put_answer(out, name, &Answer::Started(1))
+    }
+
+    /// What is asked for by the seat at the node of a name, and what it answers is printed.
+    ///
+    /// # Errors
+    /// Where memory is wanting.
+    pub(crate) fn act<R: Wait>(
+        &mut self,
+        rt: &R,
+        node: &str,
+        asked: Act,
+        out: &mut String,
+    ) -> Result<Made, AllocError>
+        ensures nodes { nodes_of self.new.cast ≡ nodes_of self.old.cast }
+        ensures idle { is_idle self.new.cast ≡ is_idle self.old.cast }
+    {
+        match &mut self.cast {
+            Cast::Running(running) => running.act(rt, node, asked, out),
+            Cast::Named(_) => {
+                drop(asked);
+                put_refused(out, Refusal::NothingThere)?;
+                Ok(Made::Nothing)
+            }
+        }
+    }
+
+    /// One node dials another, under the next challenge.
+    ///
+    /// # Errors
+    /// Where memory is wanting.
+    pub(crate) fn dial<R: Wait>(
+        &mut self,
+        rt: &R,
+        alloc: Global,
+        node: &str,
+        peer: &str,
+        out: &mut String,
+    ) -> Result<Made, AllocError>
+        ensures nodes { nodes_of self.new.cast ≡ nodes_of self.old.cast }
+        ensures idle { is_idle self.new.cast ≡ is_idle self.old.cast }
+    {
+        let peer = node_name(alloc, peer)?;
+        let word = self.word;
+        self.word = word.wrapping_add(1);
+        self.act(rt, node, Act::Dial { peer, word }, out)
+    }
+
+    // How a process holds its link to another.
+    fn end<R: Wait>(&self, rt: &R, process: &Pid, partner: &Pid) -> End {
+        match &self.cast {
+            Cast::Running(running) => running.end(rt, process, partner),
+            Cast::Named(_) => End::None,
+        }
+    }
+
+    /// How two processes hold their links to one another.
+    ///
+    /// # Errors
+    /// Where memory is wanting.
+    pub(crate) fn ends<R: Wait>(
+        &self,
+        rt: &R,
+        first: &Pid,
+        second: &Pid,
+        out: &mut String,
+    ) -> Result<(), AllocError> {
+        let held = self.end(rt, first, second);
+        put_ends(out, held, self.end(rt, second, first))
+    }
+
+    /// Waits until nothing more happens by itself, and says whether it has come to that.
+    ///
+    /// # Errors
+    /// Where memory is wanting.
+    pub(crate) fn settle<R: Wait>(&self, rt: &R, out: &mut String) -> Result<(), AllocError> {
+        let settled = match &self.cast {
+            Cast::Running(running) => running.cluster.settle(rt, MOST_LOOKS),
+            Cast::Named(_) => Settled::Settled,
+        };
+        put_settled(out, settled == Settled::Settled)
+    }
+
+    /// Each node as it then is, the one after the other, and its processes.
+    ///
+    /// # Errors
+    /// Where memory is wanting.
+    pub(crate) fn show<R: Wait>(
+        &self,
+        rt: &R,
+        alloc: Global,
+        out: &mut String,
+    ) -> Result<(), AllocError> {
+        match &self.cast {
+            Cast::Running(running) => running.show(rt, alloc, out),
+            Cast::Named(_) => Ok(()),
+        }
+    }
+}
