@@ -3,6 +3,7 @@
 #define _GNU_SOURCE
 #include <dlfcn.h>
 #include <stdlib.h>
+#include <unistd.h>
 
 static long met, refused;
 
@@ -19,9 +20,17 @@ __attribute__((destructor)) static void end(void)
         _Exit(77);
 }
 
+/* A program with threads ends by this, and runs no destructor. */
+void _exit(int status)
+{
+    void (*next)(int) = (void (*)(int))dlsym(RTLD_NEXT, "_exit");
+    next(met < refused ? 77 : status);
+    __builtin_unreachable();
+}
+
 static int is_refused(void)
 {
-    return ++met == refused;
+    return __atomic_add_fetch(&met, 1, __ATOMIC_SEQ_CST) == refused;
 }
 
 void *malloc(size_t size)
