@@ -1,7 +1,7 @@
 //! The nodes of a world, and those who call them.
 ghost use Rattle.std.specs.Prelude.{◌≡◌, ◌<◌, ◌≤◌, IfErr, IfOk, [], length};
 ghost use Rattle.std.specs.Fn.{FnOnceReturnsAt};
-ghost use Rattle.cluster_run.specs.Finishing.{IsFinished};
+ghost use Rattle.cluster_run.specs.Finishing.{IsFinished, IsUnfinished};
 ghost use Rattle.cluster_run.specs.Starting.{IsNoThread, IsStarted, IsUnstarted};
 ghost use Rattle.erl_term.specs.declared.refusal.Refusal.TheVariants.{NothingThere};
 ghost use Rattle.node_core.specs.declared.node.Node.{Node as TheNode};
@@ -352,17 +352,19 @@ impl<G: Gate + Send + Sync + Drop + 'static> Cluster<G> {
     /// given too.
     ///
     /// # Errors
-    /// As those of [`merge_books`].
+    /// As those of [`merge_books`] (`fault`): what the error says is so of these seats and of the books
+    /// that stood under the locks, and what is looked at before is in order.
     pub fn finish<R: Threads + Wait>(
         self,
         rt: &R,
         seats: Vec<Seat>,
     ) -> Result<Finished, FinishError>
-        ensures { IfOk result (λ it. (it.nodes.items ≡ self.nodes.items) × IsFinished self.nodes.items it.books.items seats.items it.trace.entries.items) }
+        ensures ok { IfOk result (λ it. (it.nodes.items ≡ self.nodes.items) × IsFinished self.nodes.items it.books.items seats.items it.trace.entries.items) }
+        ensures fault { IfErr result (IsUnfinished self.nodes.items seats.items) }
     {
         let alloc = self.alloc;
         let (nodes, shared) = self.halt(rt);
-        let books = taken(rt, alloc, &shared, nodes.len())?;
+        let books = taken(rt, alloc, &shared)?;
         let trace = merge_books(alloc, &nodes, &books, &seats)?;
         Ok(Finished {
             nodes,
@@ -372,23 +374,18 @@ impl<G: Gate + Send + Sync + Drop + 'static> Cluster<G> {
     }
 }
 
-// The books, out of their locks.
+// The books, out of their locks, up to the first that isn't there.
 fn taken<R: Wait, G>(
     rt: &R,
     alloc: Global,
     shared: &Shared<G>,
-    count: usize,
-) -> Result<Vec<Book>, FinishError> {
+) -> Result<Vec<Book>, AllocError> {
     let mut books = Vec::new(alloc);
-    for node in 0..count {
-        let book = match shared.desks.get(node) {
-            Some(desk) => desk.lock.take(rt),
-            None => None,
+    for desk in &shared.desks {
+        let Some(book) = desk.lock.take(rt) else {
+            break;
         };
-        match book {
-            Some(book) => books.push(book)?,
-            None => return Err(FinishError::StrangeBook { node }),
-        }
+        books.push(book)?;
     }
     Ok(books)
 }
