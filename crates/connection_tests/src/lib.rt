@@ -12,3 +12,5 @@ mod handshakes;
 mod roles;
 #[cfg(test)]
 mod sides;
+#[cfg(test)]
+mod streams;

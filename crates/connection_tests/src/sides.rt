@@ -13,23 +13,25 @@ use erl_term::{Refusal, TermError};
 use std::alloc::Global;
 use std::test::*;
 
-const SECRET: &[u8] = b"1234567890123456789012345678901234567890123456789012345678901234567890";
+pub(crate) const SECRET: &[u8] =
+    b"1234567890123456789012345678901234567890123456789012345678901234567890";
 
 const OTHER_SECRET: &[u8] = b"d";
 
-const CHALLENGE: u32 = 1234567890;
+pub(crate) const CHALLENGE: u32 = 1234567890;
 
 /// The messages of a handshake of a@h with b@h, in its order.
-const SEND_NAME: &[u8] = b"\0\x12N\0\0\0\x04\x03\x05\x01\x0C\0\0\0\x01\0\x03a@h";
+pub(crate) const SEND_NAME: &[u8] = b"\0\x12N\0\0\0\x04\x03\x05\x01\x0C\0\0\0\x01\0\x03a@h";
 
-const OK: &[u8] = b"\0\x03sok";
+pub(crate) const OK: &[u8] = b"\0\x03sok";
 
-const CHALLENGES: &[u8] = b"\0\x16N\0\0\0\x04\x03\x05\x01\x0C\x49\x96\x02\xD2\0\0\0\x01\0\x03b@h";
+pub(crate) const CHALLENGES: &[u8] =
+    b"\0\x16N\0\0\0\x04\x03\x05\x01\x0C\x49\x96\x02\xD2\0\0\0\x01\0\x03b@h";
 
-const REPLIES: &[u8] =
+pub(crate) const REPLIES: &[u8] =
     b"\0\x15r\x49\x96\x02\xD2\x57\xED\xF4\xA2\x2B\xE3\xC9\x55\xAC\x49\xDA\x2E\x21\x07\xB6\x7A";
 
-const ACKNOWLEDGES: &[u8] =
+pub(crate) const ACKNOWLEDGES: &[u8] =
     b"\0\x11a\x57\xED\xF4\xA2\x2B\xE3\xC9\x55\xAC\x49\xDA\x2E\x21\x07\xB6\x7A";
 
 /// The question whether to go on, and both answers.
@@ -41,10 +43,10 @@ const FALSE: &[u8] = b"\0\x06sfalse";
 
 const NOK: &[u8] = b"\0\x04snok";
 
-const TICK: &[u8] = &[0, 0, 0, 0];
+pub(crate) const TICK: &[u8] = &[0, 0, 0, 0];
 
 /// A LINK from the first process of b@h to that of a@h.
-const LINK: &[u8] = &[
+pub(crate) const LINK: &[u8] = &[
     0, 0, 0, 0x2A, 0x70, 0x83, 0x68, 3, 0x61, 1, 0x58, 0x77, 3, 0x62, 0x40, 0x68, 0, 0, 0, 1, 0, 0,
     0, 0, 0, 0, 0, 1, 0x58, 0x77, 3, 0x61, 0x40, 0x68, 0, 0, 0, 1, 0, 0, 0, 0, 0, 0, 0, 1,
 ];
@@ -62,7 +64,7 @@ const LONG_NAME: &[u8] = b"\0\x14N\0\0\0\x04\x03\x05\x01\x0C\0\0\0\x01\0\x03a@h\
 const OTHER_DIGEST: &[u8] =
     b"\0\x11a\x57\xED\xF4\xA2\x2B\xE3\xC9\x55\xAC\x49\xDA\x2E\x21\x07\xB6\0";
 
-const ALONE: OtherConnections = OtherConnections {
+pub(crate) const ALONE: OtherConnections = OtherConnections {
     waiting: None,
     connected: false,
     dialing: false,
@@ -299,13 +301,13 @@ fn identity(alloc: Global, name: &str, secret: &[u8]) -> Result<Identity, Refusa
 
 /// A side, and who its node is.
 #[derive(Drop)]
-struct Held {
-    own: Identity,
-    side: Side,
+pub(crate) struct Held {
+    pub(crate) own: Identity,
+    pub(crate) side: Side,
 }
 
 /// The side of a@h, which dials b@h.
-fn dialing(alloc: Global, count: u64, secret: &[u8]) -> Result<Held, Refusal> {
+pub(crate) fn dialing(alloc: Global, count: u64, secret: &[u8]) -> Result<Held, Refusal> {
     let dialer = NodeName::read(alloc, "a@h")?;
     let peer = NodeName::read(alloc, "b@h")?;
     Ok(Held {
@@ -315,7 +317,7 @@ fn dialing(alloc: Global, count: u64, secret: &[u8]) -> Result<Held, Refusal> {
 }
 
 /// The side of b@h, which a@h dials.
-fn fresh(alloc: Global, secret: &[u8]) -> Result<Held, Refusal> {
+pub(crate) fn fresh(alloc: Global, secret: &[u8]) -> Result<Held, Refusal> {
     let dialer = NodeName::read(alloc, "a@h")?;
     Ok(Held {
         own: identity(alloc, "b@h", secret)?,
@@ -334,7 +336,7 @@ fn begun(alloc: Global, start: Start) -> Result<Held, Refusal> {
 
 /// What bytes were.
 #[derive(Clone, Copy, PartialEq, Eq)]
-enum Kind {
+pub(crate) enum Kind {
     Message,
     Tick,
     Signal,
@@ -346,7 +348,10 @@ enum Kind {
 }
 
 /// What an answer is, of which the bytes that are sent back are put behind the others.
-fn kind_of(answer: &Result<Option<Arrival>, Refusal>, sent: &mut Vec<u8>) -> Result<Kind, Refusal> {
+pub(crate) fn kind_of(
+    answer: &Result<Option<Arrival>, Refusal>,
+    sent: &mut Vec<u8>,
+) -> Result<Kind, Refusal> {
     let arrival = match answer {
         Ok(Some(arrival)) => arrival,
         Ok(None) => return Ok(Kind::Begun),
@@ -369,7 +374,7 @@ fn kind_of(answer: &Result<Option<Arrival>, Refusal>, sent: &mut Vec<u8>) -> Res
 }
 
 /// How the side stands after the answer, and how many bytes it took.
-fn after(held: &Held, answer: &Result<Option<Arrival>, Refusal>) -> (Standing, usize) {
+pub(crate) fn after(held: &Held, answer: &Result<Option<Arrival>, Refusal>) -> (Standing, usize) {
     match answer {
         Ok(Some(arrival)) => (arrival.standing, arrival.len),
         _ => (held.side.standing, 0),
@@ -430,7 +435,7 @@ fn asks_for_more(alloc: Global, held: &mut Held, bytes: &[u8]) -> Result<bool, R
 }
 
 /// What the node decides on the attempt. The side stands so then.
-fn decided(held: &mut Held, others: OtherConnections) -> Option<Admission> {
+pub(crate) fn decided(held: &mut Held, others: OtherConnections) -> Option<Admission> {
     let (standing, admission) = held.side.admit(&held.own.name, others)?;
     held.side.standing = standing;
     Some(admission)
@@ -451,7 +456,7 @@ fn gives_way(held: &mut Held) -> bool {
 }
 
 /// The bytes of the challenge, or none where the side doesn't await it. The side stands so then.
-fn challenge(alloc: Global, held: &mut Held) -> Result<Vec<u8>, Refusal> {
+pub(crate) fn challenge(alloc: Global, held: &mut Held) -> Result<Vec<u8>, Refusal> {
     let Some((standing, message)) = held.side.send_challenge(&held.own)? else {
         return Ok(Vec::new(alloc));
     };

@@ -1,0 +1,152 @@
+//! Streams of whole connections, which come in pieces of every size.
+use crate::sides::{
+    ACKNOWLEDGES, ALONE, CHALLENGE, CHALLENGES, Held, Kind, LINK, OK, REPLIES, SECRET, SEND_NAME,
+    TICK, after, challenge, decided, dialing, fresh, kind_of,
+};
+use conn_pieces::{Incoming, pieces_are_the_stream};
+use erl_term::Refusal;
+use std::alloc::Global;
+use std::test::*;
+
+/// A stream that comes to one of the two nodes, in its parts, and what these are.
+#[derive(Clone, Copy)]
+struct Stream {
+    /// Whether it comes to a@h, which dials, or to b@h.
+    dials: bool,
+    parts: &'static [&'static [u8]],
+    kinds: &'static [Kind],
+}
+
+const STREAMS: &[Stream] = &[
+    Stream {
+        dials: true,
+        parts: &[OK, CHALLENGES, ACKNOWLEDGES, TICK, LINK, TICK],
+        kinds: &[
+            Kind::Message,
+            Kind::Message,
+            Kind::Message,
+            Kind::Tick,
+            Kind::Signal,
+            Kind::Tick,
+        ],
+    },
+    Stream {
+        dials: false,
+        parts: &[SEND_NAME, REPLIES, TICK, TICK],
+        kinds: &[Kind::Message, Kind::Message, Kind::Tick, Kind::Tick],
+    },
+    // what is no frame of this profile breaks the side, and what is behind it isn't taken
+    Stream {
+        dials: true,
+        parts: &[OK, CHALLENGES, ACKNOWLEDGES, &[0, 0, 0, 1, 113], TICK],
+        kinds: &[
+            Kind::Message,
+            Kind::Message,
+            Kind::Message,
+            Kind::Fault(6),
+            Kind::NotLive,
+        ],
+    },
+];
+
+fn joined(alloc: Global, parts: &[&[u8]]) -> Result<Vec<u8>, Refusal> {
+    let mut bytes = Vec::new(alloc);
+    for part in parts {
+        bytes.extend_from_slice(part)?;
+    }
+    Ok(bytes)
+}
+
+/// Where the node has to decide on the attempt it goes on, and the challenge is sent.
+fn decides(alloc: Global, held: &mut Held) -> Result<(), Refusal> {
+    if decided(held, ALONE).is_some() {
+        challenge(alloc, held)?;
+    }
+    Ok(())
+}
+
+/// What is taken next.
+fn next(alloc: Global, held: &mut Held, incoming: &mut Incoming) -> Result<Kind, Refusal> {
+    let mut sent = Vec::new(alloc);
+    let answer = incoming.next(alloc, &held.own, &held.side, CHALLENGE);
+    let kind = kind_of(&answer, &mut sent);
+    let (standing, _) = after(held, &answer);
+    drop(answer);
+    held.side.standing = standing;
+    decides(alloc, held)?;
+    kind
+}
+
+/// How many of these are taken next, in their order, until more bytes are needed. None where another
+/// is taken.
+fn takes(
+    alloc: Global,
+    held: &mut Held,
+    incoming: &mut Incoming,
+    kinds: &[Kind],
+) -> Result<Option<usize>, Refusal> {
+    for (number, kind) in kinds.iter().enumerate() {
+        let found = next(alloc, held, incoming)?;
+        if found == Kind::Begun {
+            return Ok(Some(number));
+        }
+        if found != *kind {
+            return Ok(None);
+        }
+    }
+    Ok(Some(kinds.len()))
+}
+
+/// Whether all of these are taken, and nothing else, where the bytes come in pieces of this size.
+fn comes(
+    alloc: Global,
+    held: &mut Held,
+    bytes: &[u8],
+    kinds: &[Kind],
+    size: usize,
+) -> Result<bool, Refusal> {
+    let mut incoming = Incoming::new(alloc);
+    let mut taken = 0;
+    let mut start = 0;
+    for _ in 0..bytes.len() {
+        if start >= bytes.len() || taken > kinds.len() {
+            break;
+        }
+        let end = bytes.len().min(start.saturating_add(size));
+        incoming.feed(&bytes[start..end])?;
+        match takes(alloc, held, &mut incoming, &kinds[taken..])? {
+            Some(count) => taken = taken.saturating_add(count),
+            None => return Ok(false),
+        }
+        start = end;
+    }
+    Ok(taken == kinds.len())
+}
+
+/// The first size of pieces in which a stream gives something else.
+fn wrong_size(alloc: Global, stream: &Stream) -> Result<Option<usize>, Refusal> {
+    let bytes = joined(alloc, stream.parts)?;
+    for size in 1..=bytes.len() {
+        let mut held = if stream.dials {
+            dialing(alloc, 1, SECRET)?
+        } else {
+            fresh(alloc, SECRET)?
+        };
+        let is_so = comes(alloc, &mut held, bytes.as_slice(), stream.kinds, size);
+        drop(held);
+        if !is_so? {
+            return Ok(Some(size));
+        }
+    }
+    Ok(None)
+}
+
+#[test]
+fn streams_in_pieces(rt: HostRuntime) -> Result<(), Fail> {
+    pieces_are_the_stream();
+    for (number, stream) in STREAMS.iter().enumerate() {
+        let wrong = wrong_size(rt.alloc(), stream)?;
+        assert_eq!(rt; wrong, None, "stream {number}");
+    }
+    Ok(())
+}
