@@ -1,8 +1,7 @@
 -- What a caller asks for is answered twice, and written down once.
-use Rattle.std.proofs.Common.{◌≡◌, ℕ, ◌+◌, ◌^◌, ◌<◌, max, Bool, true, false, ◌||◌, nat_lt, if◌then◌else◌, OnOk, Option, None, Some, List, [], ◌∷◌, ◌++◌, length, slice_get, map, Result, Ok, Err, IfOk, MatchResult, inl, inr, refl, sym, ap, ◌∙◌, subst}
+use Rattle.std.proofs.Common.{◌≡◌, ℕ, ◌+◌, ◌^◌, Bool, true, false, ◌||◌, nat_lt, if◌then◌else◌, OnOk, None, Some, List, [], ◌∷◌, ◌++◌, length, slice_get, map, Result, Ok, Err, IfOk, MatchResult, inl, inr, refl, sym, ap, ◌∙◌, subst}
 use Rattle.std.specs.Result.{IsErrAnd}
 use Rattle.std.specs.declared.alloc.AllocError.{AllocError}
-use Rattle.std.specs.declared.alloc.Global.{Global}
 use Rattle.std.specs.Global.{Vec}
 use Rattle.dist_model.proofs.Keys.{same_name_refl}
 use Rattle.dist_model.specs.Commands.{Accepts, Outcome, Refuses}
@@ -10,7 +9,7 @@ use Rattle.dist_model.specs.Names.{Name}
 use Rattle.dist_model.specs.Node as model
 use Rattle.dist_model.specs.NodeEvents as events
 use Rattle.dist_model.specs.NodeEvents.{at_node}
-use Rattle.dist_model.specs.Work.{Work, at_work}
+use Rattle.dist_model.specs.Work.{Work}
 use Rattle.dist_model.specs.declared.command.Command.TheVariants as command
 use Rattle.dist_model.specs.declared.report.Answer.{Answer as Said}
 use Rattle.dist_model.specs.declared.report.Effect.{Effect}
@@ -19,13 +18,12 @@ use Rattle.erl_term.specs.declared.refusal.Refusal.{Refusal}
 use Rattle.node_core.proofs.Doing.{done}
 use Rattle.node_core.specs.Done.{Did, Does}
 use Rattle.node_core.specs.Model.{model_of}
-use Rattle.node_core.specs.declared.node.Node.{Node}
 use Rattle.node_core.specs.declared.planned.Planned.{Planned}
 use Rattle.node_history.specs.Acts.{Knows}
 use Rattle.erl_term.specs.declared.term.Pid.{Pid}
 use Rattle.link_core.specs.declared.end.End.{End}
 use Rattle.node_history.proofs.Filling.{looks_not}
-use Rattle.node_history.specs.Entering.{Answer, IsWanting, Stays, Tries, Writes}
+use Rattle.node_history.specs.Entering.{Answer, IsWanting, Tries, Writes}
 use Rattle.node_history.specs.Spares.{AreLinksOf, Fills, filled}
 use Rattle.node_history.specs.Telling.{Answers, IsPlainCopy, IsTold, IsTwice, placed}
 use Rattle.node_history.specs.declared.acts.Twice.{Twice}

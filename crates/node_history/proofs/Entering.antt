@@ -1,5 +1,5 @@
 -- What the node has answered is written down, or memory was wanting and nothing has changed.
-use Rattle.std.proofs.Common.{◌≡◌, ◌⊎◌, ℕ, ◌+◌, ◌^◌, ◌<◌, max, true, false, List, [], ◌∷◌, ◌++◌, length, Result, Ok, Err, inl, inr, refl, sym, ap, ◌∙◌, subst}
+use Rattle.std.proofs.Common.{◌≡◌, ℕ, ◌+◌, ◌^◌, ◌<◌, max, true, false, List, [], ◌∷◌, ◌++◌, length, Result, Ok, Err, inl, inr, sym, ap, ◌∙◌, subst}
 use Rattle.dist_model.specs.Commands.{Outcome, Refuses}
 use Rattle.dist_model.specs.Names.{Name}
 use Rattle.dist_model.specs.Node as model
@@ -9,7 +9,7 @@ use Rattle.erl_term.specs.declared.refusal.Refusal.{Refusal}
 use Rattle.node_core.specs.Done.{Does}
 use Rattle.node_core.specs.Model.{model_of}
 use Rattle.node_core.specs.declared.node.Node.{Node}
-use Rattle.node_history.specs.Entering.{Answer, Ends, Enters, IsWanting, Stays, Tries, Writes, is_unwritten}
+use Rattle.node_history.specs.Entering.{Answer, Ends, IsWanting, Stays, Tries, Writes, is_unwritten}
 use Rattle.node_history.specs.declared.entry.Entry.{Entry}
 use Rattle.node_history.specs.declared.history.History.{History}
 use Rattle.node_plans.specs.Planned.{IsRefused}

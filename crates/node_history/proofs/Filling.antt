@@ -1,10 +1,9 @@
 -- What an act answers is there before, but for what takes no memory.
-use Rattle.std.proofs.Common.{◌≡◌, ℕ, Option, None, Some, Bool, true, false, not, is_some, List, [], nat_lt, ◌+◌, ◌^◌, ◌&&◌, if◌then◌else◌, refl, sym, ap, ◌∙◌}
+use Rattle.std.proofs.Common.{◌≡◌, ℕ, Option, None, Some, Bool, true, false, not, is_some, List, nat_lt, ◌+◌, ◌^◌, ◌&&◌, if◌then◌else◌, refl, sym, ap}
 use Rattle.std.specs.FinMap as fm
-use Rattle.dist_model.specs.Calls.{call, first_message}
+use Rattle.dist_model.specs.Calls.{call}
 use Rattle.dist_model.specs.Commands.{Accepts, Outcome, Refuses, with_id}
 use Rattle.dist_model.specs.Dialing.{has_name, next_trunk}
-use Rattle.dist_model.specs.Linking.{unlink_by}
 use Rattle.dist_model.specs.Losses.{lose, lose_at}
 use Rattle.dist_model.specs.Monitoring.{demonitor_by}
 use Rattle.dist_model.specs.Names.{Name, same_name, same_pid}
@@ -19,7 +18,7 @@ use Rattle.dist_model.specs.declared.command.Command.TheVariants as command
 use Rattle.dist_model.specs.declared.report.Answer.{Answer}
 use Rattle.erl_control.specs.Fits.{fits}
 use Rattle.erl_names.specs.Draw as kind
-use Rattle.erl_names.specs.Ids.{pid_of, reference_of}
+use Rattle.erl_names.specs.Ids.{reference_of}
 use Rattle.erl_names.specs.Minted.{id_of}
 use Rattle.erl_names.specs.declared.trunk.TrunkId.{TrunkId}
 use Rattle.erl_term.specs.declared.refusal.Refusal.{Refusal}
@@ -29,7 +28,7 @@ use Rattle.link_core.specs.Table.{is_active}
 use Rattle.link_core.specs.declared.end.End.{End}
 use Rattle.monitor_core.specs.declared.monitor.Monitor.{Monitor}
 use Rattle.node_history.specs.Acts.{is_act}
-use Rattle.node_history.specs.Spares.{AreLinksFor, AreLinksOf, Fills, filled, message_for, message_of}
+use Rattle.node_history.specs.Spares.{AreLinksFor, AreLinksOf, Fills, message_for, message_of}
 use Rattle.node_history.specs.declared.spare.Spare.{Spare}
 use Rattle.world_events.specs.Events.{met}
 use Rattle.world_events.specs.declared.event.NodeEvent.{NodeEvent}

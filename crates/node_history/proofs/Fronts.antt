@@ -1,5 +1,5 @@
 -- The node takes the item that was sent.
-use Rattle.std.proofs.Common.{◌≡◌, ℕ, Bool, true, false, cond, List, Option, Some, Result, Ok, Err, refl, ap, subst, sym, ◌∙◌, inl}
+use Rattle.std.proofs.Common.{◌≡◌, ℕ, Bool, true, false, cond, List, Some, Result, Ok, Err, refl, ap, subst, sym, inl}
 use Rattle.std.specs.FinMap as fm
 use Rattle.dist_model.specs.Arrivals.{arrive}
 use Rattle.dist_model.specs.Commands.{Outcome, Refuses}
@@ -9,7 +9,6 @@ use Rattle.dist_model.specs.Node.{Node}
 use Rattle.dist_model.specs.NodeEvents.{Arrive, at_node, if_up}
 use Rattle.erl_names.specs.declared.trunk.TrunkId.{TrunkId}
 use Rattle.erl_term.specs.declared.refusal.Refusal.{Refusal}
-use Rattle.node_arrivals.specs.Coming.{comes}
 use Rattle.node_arrivals.specs.Fronts.{Front}
 use Rattle.node_core.specs.Arrived.{DoesArrived, DoesFront, arrives, is_undialed}
 use Rattle.node_core.specs.Done.{Did, Does}

@@ -1,6 +1,6 @@
 -- One entry more in the history of a node.
 -- (ERTS User's Guide, Distribution Protocol; Reference Manual, Processes. Stamps are own.)
-use Rattle.std.specs.Prelude.{◌≡◌, ◌⊎◌, ℕ, ◌+◌, ◌^◌, ◌<◌, ◌≤◌, max, Bool, true, false, List, [], ◌∷◌, ◌++◌, length, Result, Ok, Err}
+use Rattle.std.specs.Prelude.{◌≡◌, ◌⊎◌, ℕ, ◌+◌, ◌^◌, ◌<◌, ◌≤◌, max, Bool, true, false, [], ◌∷◌, ◌++◌, length, Result, Ok, Err}
 use Rattle.dist_model.specs.Commands.{Outcome, Refuses}
 use Rattle.dist_model.specs.Node.{Node}
 use Rattle.dist_model.specs.declared.report.Report.{Report}

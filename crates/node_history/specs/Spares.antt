@@ -1,5 +1,5 @@
 -- What of a node's answer to an act takes memory, and is known before the act.
-use Rattle.std.specs.Prelude.{◌≡◌, true, Option, None, Some, List}
+use Rattle.std.specs.Prelude.{◌≡◌, true, Option, None, List}
 use Rattle.std.specs.FinMap as fm
 use Rattle.dist_model.specs.Calls.{first_message}
 use Rattle.dist_model.specs.Commands.{Accepts, Outcome, Refuses}

@@ -1,6 +1,5 @@
 use Rattle.std.proofs.Common.{◌≡◌, [], ap, rules, ◌∙◌}
 use Rattle.dist_model.specs.Node.{ends_of}
-use Rattle.erl_term.specs.declared.term.Pid.{Pid}
 use Rattle.node_core.specs.Model.{model_of}
 use Rattle.node_history.proofs.Acting.{not_looked}
 use Rattle.node_history.proofs.Filling.{looks}
