@@ -4,9 +4,11 @@ use mathlib.Core.Option.{some, some-ne-none}
 use lib.ListN.{get_elem?}
 use Rattle.crossbeam_queue.specs.Fifo.{Pushes, Pops, Forks, Merges, Learns}
 use Rattle.crossbeam_queue.proofs.Lists.{at_set, at_snoc}
-use Rattle.wire_core.specs.declared.parcel.Parcel.{Parcel}
 use Rattle.wire_core.specs.declared.rule.View.{View}
+use Rattle.wire_core.specs.Cuts.{AreCut, IsCut, marks_of}
+use Rattle.wire_core.specs.Pieces.{PieceSeen}
 use Rattle.wire_core.specs.Passing.{Passes, giver, knowing, spent, taker, whole}
+use Rattle.wire_core.proofs.Cuts.{cut_front, marks_append, nothing_is_cut}
 
 -- ---- what holds of each pass
 
@@ -26,10 +28,10 @@ at_end [] a b (suc j) n e = absurd (some-ne-none b (sym e))
 at_end (x ∷ xs) a b zero n e = absurd (n e)
 at_end (x ∷ xs) a b (suc j) n e = ap suc (at_end xs a b j n e)
 
-abbrev Puts : ℕ → List Parcel → ℕ → View → Type 0
+abbrev Puts : ℕ → List PieceSeen → ℕ → View → Type 0
 Puts giving put pass v = v.puts ≡ true → (pass ≡ giving) × (v.put ≡ put)
 
-abbrev Takes : ℕ → List Parcel → ℕ → View → Type 0
+abbrev Takes : ℕ → List PieceSeen → ℕ → View → Type 0
 Takes taking taken pass v = v.takes ≡ true → (pass ≡ taking) × (v.taken ≡ taken)
 
 -- ---- the steps
@@ -41,6 +43,7 @@ begins = record {
   put = [];
   taken = [];
   whole = refl;
+  cut = nothing_is_cut;
   puts = each_set (Puts 0 []) (whole ∷ []) 0 whole (λ _. (refl, refl)) (λ j u other e _. nobody_else j u other e);
   takes = each_set (Takes 0 []) (whole ∷ []) 0 whole (λ _. (refl, refl)) (λ j u other e _. nobody_else j u other e);
 }
@@ -48,9 +51,9 @@ begins = record {
     nobody_else : {X : Type 0} (j : ℕ) (u : View) → j ≢ 0 → get_elem? (whole ∷ []) j ≡ some u → X
     nobody_else j u other e = absurd (other (at_end [] whole u j (λ x. some-ne-none u (sym x)) e))
 
-pub gives : (n pass : ℕ) (v : View) (x : Parcel) → v.puts ≡ true
+pub gives : (n pass : ℕ) (v : View) (x : PieceSeen) → v.puts ≡ true → AreCut (v.put ++ x ∷ [])
     → Pushes Passes n pass v x (λ w. w ≡ knowing v.puts v.takes (v.put ++ x ∷ []) v.taken)
-gives n pass v x may items views _ h at =
+gives n pass v x may cut items views _ h at =
     let w : View = knowing v.puts v.takes (v.put ++ x ∷ []) v.taken in
     let mine = h.puts pass v at may in (
       w,
@@ -60,6 +63,7 @@ gives n pass v x may items views _ h at =
         put = h.put ++ x ∷ [];
         taken = h.taken;
         whole = ap (λ l. l ++ x ∷ []) h.whole ∙ append_assoc h.taken items (x ∷ []);
+        cut = subst (λ l. AreCut (l ++ x ∷ [])) mine.1 cut;
         puts = each_set (Puts h.giving (h.put ++ x ∷ [])) views pass w (λ _. (mine.0, ap (λ l. l ++ x ∷ []) mine.1))
             (λ j u other e p. absurd (other ((h.puts j u e p).0 ∙ sym mine.0)));
         takes = each_set (Takes h.taking h.taken) views pass w (h.takes pass v at) (λ j u other e. h.takes j u e);
@@ -67,22 +71,27 @@ gives n pass v x may items views _ h at =
       refl,
     )
 
-pub takes : (pass : ℕ) (v : View) → v.takes ≡ true → Pops Passes pass v (λ x w. w ≡ knowing v.puts v.takes v.put (v.taken ++ x ∷ []))
+pub takes : (pass : ℕ) (v : View) → v.takes ≡ true
+    → Pops Passes pass v (λ x w. (w ≡ knowing v.puts v.takes v.put (v.taken ++ x ∷ [])) × AreCut (v.taken ++ x ∷ []))
 takes pass v may x items views h at =
     let w : View = knowing v.puts v.takes v.put (v.taken ++ x ∷ []) in
-    let mine = h.takes pass v at may in (
+    let mine = h.takes pass v at may in
+    let whole = h.whole ∙ sym (append_assoc h.taken (x ∷ []) items) in
+    let cut : AreCut (h.taken ++ x ∷ []) =
+    cut_front (marks_of (h.taken ++ x ∷ [])) (marks_of items) (subst IsCut (ap marks_of whole ∙ marks_append (h.taken ++ x ∷ []) items) h.cut) in (
       w,
       record {
         giving = h.giving;
         taking = h.taking;
         put = h.put;
         taken = h.taken ++ x ∷ [];
-        whole = h.whole ∙ sym (append_assoc h.taken (x ∷ []) items);
+        whole = whole;
+        cut = h.cut;
         puts = each_set (Puts h.giving h.put) views pass w (h.puts pass v at) (λ j u other e. h.puts j u e);
         takes = each_set (Takes h.taking (h.taken ++ x ∷ [])) views pass w (λ _. (mine.0, ap (λ l. l ++ x ∷ []) mine.1))
             (λ j u other e p. absurd (other ((h.takes j u e p).0 ∙ sym mine.0)));
       },
-      refl,
+      (refl, subst (λ l. AreCut (l ++ x ∷ [])) (sym mine.1) cut),
     )
 
 -- one pass for both is cut in two, the second behind all
@@ -100,6 +109,7 @@ is_cut pass v may_put may_take items views h at =
       put = h.put;
       taken = h.taken;
       whole = h.whole;
+      cut = h.cut;
       puts = λ j u e. ⊎_elim (λ x. (old j u x).0) (λ x p. absurd (true≢false (sym (ap (λ (y : View). y.puts) x ∙ p))))
           (at_snoc first (taker v.taken) u j e);
       takes = λ j u e p. ⊎_elim (λ x. absurd ((old j u x).1 p))
@@ -126,6 +136,7 @@ is_joined pass v other u may_put may_take items views h at two at' =
       put = h.put;
       taken = h.taken;
       whole = h.whole;
+      cut = h.cut;
       puts = each_set (Puts h.giving h.put) first other spent (λ p. absurd (true≢false (sym p)))
           (λ j y _ e. (each_set (Puts h.giving h.put) views pass both (λ _. mine) (λ i z _ f. h.puts i z f)) j y e);
       takes = each_set (Takes pass h.taken) first other spent (λ p. absurd (true≢false (sym p))) (λ j y apart e. now j y e apart);
@@ -137,5 +148,5 @@ learns_rest pass v may_put may_take items views h at =
     (h.puts pass v at may_put).1 ∙ h.whole ∙ ap (λ l. l ++ items) (sym (h.takes pass v at may_take).1)
 
 -- the giver learns that what is on the wire is the end of what it put
-pub learns_end : (pass : ℕ) (v : View) → v.puts ≡ true → Learns Passes pass v (λ items. (taken : List Parcel) × (v.put ≡ taken ++ items))
+pub learns_end : (pass : ℕ) (v : View) → v.puts ≡ true → Learns Passes pass v (λ items. (taken : List PieceSeen) × (v.put ≡ taken ++ items))
 learns_end pass v may items views h at = (h.taken, (h.puts pass v at may).1 ∙ h.whole)

@@ -1,17 +1,18 @@
 //! The two ends of a wire. Each shares the queue, and has a pass of it.
 ghost use Rattle.std.specs.Prelude.{◌≡◌, List, [], ◌∷◌, ◌++◌, length, IfOk, IfErr, OnErr, IfSome, IfNone, OnOk};
-ghost use Rattle.wire_core.specs.declared.parcel.Parcel.{Parcel};
+ghost use Rattle.wire_core.specs.Cuts.{AreCut};
+ghost use Rattle.wire_core.specs.Pieces.{PieceSeen};
 
-use crate::parcel::Parcel;
+use crate::piece::Piece;
 use crate::rule::{Ends, Left, Line, Put, Taken, WirePass};
 use std::alloc::{AllocError, Global};
 use std::marker::Model;
 use std::sync::{Arc, Wait};
 
-/// How many parcels a wire holds.
+/// How many pieces a wire holds.
 pub const CAPACITY: usize = 64;
 
-/// The end at which parcels are put. Contracts see of which wire it is, and all that was put, in order.
+/// The end at which pieces are put. Contracts see of which wire it is, and all that was put, in order.
 #[derive(Drop)]
 pub struct WireOut {
     line: Arc<Line>,
@@ -24,7 +25,7 @@ impl Model for WireOut {
 
     ghost Value = { WireEnd };
 
-    ghost view = { λ end. record { wire = end.pass.table_id; parcels = (known end.pass).put } };
+    ghost view = { λ end. record { wire = end.pass.table_id; pieces = (known end.pass).put } };
 
     ghost use Rattle.std.specs.Prelude.{◌≡◌};
     ghost use Rattle.std.specs.Arc.{arc_value};
@@ -34,7 +35,7 @@ impl Model for WireOut {
         × (known end.pass ≡ giver (known end.pass).put) };
 }
 
-/// The end at which parcels are taken. Contracts see of which wire it is, and all that was taken, in
+/// The end at which pieces are taken. Contracts see of which wire it is, and all that was taken, in
 /// order.
 #[derive(Drop)]
 pub struct WireIn {
@@ -48,7 +49,7 @@ impl Model for WireIn {
 
     ghost Value = { WireEnd };
 
-    ghost view = { λ end. record { wire = end.pass.table_id; parcels = (known end.pass).taken } };
+    ghost view = { λ end. record { wire = end.pass.table_id; pieces = (known end.pass).taken } };
 
     ghost use Rattle.std.specs.Prelude.{◌≡◌};
     ghost use Rattle.std.specs.Arc.{arc_value};
@@ -64,8 +65,8 @@ impl Model for WireIn {
 /// Where there is no memory for it.
 pub fn wire(alloc: Global) -> Result<(WireOut, WireIn), AllocError>
     ensures one { IfOk result (λ ends. ends.0.wire ≡ ends.1.wire) }
-    ensures put { IfOk result (λ ends. ends.0.parcels ≡ []) }
-    ensures taken { IfOk result (λ ends. ends.1.parcels ≡ []) }
+    ensures put { IfOk result (λ ends. ends.0.pieces ≡ []) }
+    ensures taken { IfOk result (λ ends. ends.1.pieces ≡ []) }
 {
     let (line, mut pass) = Line::ruled(alloc, CAPACITY)?;
     let other = line.another::<Ends>(&mut pass);
@@ -81,38 +82,41 @@ pub fn wire(alloc: Global) -> Result<(WireOut, WireIn), AllocError>
 }
 
 impl WireOut {
-    /// Puts a parcel behind those that were put.
+    /// Puts a piece behind those that were put. With it they have to be cut from items: the taker puts
+    /// these together again.
     ///
     /// # Errors
-    /// The parcel comes back where the wire was full at some moment of the call: so many of those that
+    /// The piece comes back where the wire was full at some moment of the call: so many of those that
     /// were put weren't taken yet. Then nothing has changed.
-    pub fn put<R: Wait>(&mut self, rt: &R, parcel: Parcel) -> Result<(), Parcel>
+    pub fn put<R: Wait>(&mut self, rt: &R, piece: Piece) -> Result<(), Piece>
+        requires { AreCut (self.old.pieces ++ piece ∷ []) }
         ensures wire { self.new.wire ≡ self.old.wire }
-        ensures put { OnOk result (self.new.parcels ≡ self.old.parcels ++ parcel ∷ []) }
-        ensures back { IfErr result (λ back. back ≡ parcel) }
-        ensures unchanged { OnErr result (self.new.parcels ≡ self.old.parcels) }
-        ensures full { OnErr result ((taken held : List Parcel) × (self.old.parcels ≡ taken ++ held) × (length held ≡ CAPACITY)) }
+        ensures put { OnOk result (self.new.pieces ≡ self.old.pieces ++ piece ∷ []) }
+        ensures back { IfErr result (λ back. back ≡ piece) }
+        ensures unchanged { OnErr result (self.new.pieces ≡ self.old.pieces) }
+        ensures full { OnErr result ((taken held : List PieceSeen) × (self.old.pieces ≡ taken ++ held) × (length held ≡ CAPACITY)) }
     {
-        self.line.push_as::<Put, R>(rt, &mut self.pass, parcel)
+        self.line.push_as::<Put, R>(rt, &mut self.pass, piece)
     }
 }
 
 impl WireIn {
-    /// Takes the first parcel of the wire, if it holds one. Where there is none nothing has changed.
-    pub fn take<R: Wait>(&mut self, rt: &R) -> Option<Parcel>
+    /// Takes the first piece of the wire, if it holds one. Where there is none nothing has changed.
+    pub fn take<R: Wait>(&mut self, rt: &R) -> Option<Piece>
         ensures wire { self.new.wire ≡ self.old.wire }
-        ensures taken { IfSome result (λ parcel. self.new.parcels ≡ self.old.parcels ++ parcel ∷ []) }
-        ensures unchanged { IfNone result (self.new.parcels ≡ self.old.parcels) }
+        ensures taken { IfSome result (λ piece. self.new.pieces ≡ self.old.pieces ++ piece ∷ []) }
+        ensures cut { IfSome result (λ piece. AreCut self.new.pieces) }
+        ensures unchanged { IfNone result (self.new.pieces ≡ self.old.pieces) }
     {
         self.line.pop_as::<Taken, R>(rt, &mut self.pass)
     }
 }
 
-/// How many parcels the wire of these two ends still holds: what was put is what was taken, and then
+/// How many pieces the wire of these two ends still holds: what was put is what was taken, and then
 /// so many more.
 pub fn audit<R: Wait>(rt: &R, out: WireOut, into: WireIn) -> u64
     requires { out.wire ≡ into.wire }
-    ensures { (held : List Parcel) × (out.parcels ≡ into.parcels ++ held) × (length held ≡ result) }
+    ensures { (held : List PieceSeen) × (out.pieces ≡ into.pieces ++ held) × (length held ≡ result) }
 {
     let WireOut { line, mut pass } = out;
     let WireIn {

@@ -16,8 +16,8 @@ pub struct Offer {
     pub out: WireOut,
     /// Where the node takes what comes.
     pub into: WireIn,
-    ghost nothing_put: { out.parcels ≡ [] },
-    ghost nothing_taken: { into.parcels ≡ [] },
+    ghost nothing_put: { out.pieces ≡ [] },
+    ghost nothing_taken: { into.pieces ≡ [] },
 }
 
 /// The two halves of a new connection, the dialer's and the acceptor's: what is put at the one is taken

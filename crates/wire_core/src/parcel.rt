@@ -1,6 +1,6 @@
-//! What travels on a wire.
+//! The items that went through a connection.
 
-use crate::piece::Piece;
+use crate::spelling::Spelling;
 use erl_names::TrunkId;
 
 /// To which of the two nodes of a connection.
@@ -12,7 +12,8 @@ pub enum Direction {
     ToDialer,
 }
 
-/// What travels on a wire: one item of what one event of the sending node wrote.
+/// One item of what one event of the sending node wrote. It goes over a wire in pieces, and is put
+/// together again where they are taken.
 #[derive(Clone, Drop)]
 pub struct Parcel {
     /// Of which connection it is.
@@ -24,5 +25,5 @@ pub struct Parcel {
     /// The stamp of the event that sent it, from 1 up.
     pub stamp: u64,
     /// What it carries.
-    pub bytes: Piece,
+    pub bytes: Spelling,
 }

@@ -1,62 +1,52 @@
-//! What a parcel carries.
-ghost use Rattle.std.specs.Prelude.{◌≡◌};
-ghost use Rattle.wire_core.specs.Pieces.{IsPiece};
+//! What travels on a wire.
+ghost use Rattle.std.specs.Prelude.{◌≡◌, length};
+ghost use Rattle.wire_core.specs.Pieces.{IsLength, piece_of};
 
-use std::alloc::AllocError;
 use std::marker::Model;
 
-/// The bytes of one whole item that is written on a connection: a frame, or a message of the handshake.
-/// That they are the spelling of one its type keeps. Contracts see them as a list. (ERTS User's Guide,
-/// Distribution Protocol.)
+/// The most bytes of a piece.
+pub const LONGEST: usize = 512;
+
+/// What travels on a wire: from 1 to 512 bytes of what a node sends to its peer, all of one event, whose
+/// stamp it has. An item may be cut anywhere. Contracts see the stamp and the bytes.
 #[derive(Drop)]
 pub struct Piece {
+    stamp: u64,
     bytes: Vec<u8>,
 }
 
 impl Model for Piece {
-    ghost use Rattle.std.specs.Prelude.{ℕ, List};
-    ghost use Rattle.wire_core.specs.Pieces.{IsPiece};
+    ghost use Rattle.std.specs.Prelude.{length};
+    ghost use Rattle.wire_core.specs.Pieces.{IsLength, PieceSeen, piece_of};
 
-    ghost Value = { List ℕ };
+    ghost Value = { PieceSeen };
 
-    ghost view = { λ piece. piece.bytes.items };
+    ghost view = { λ piece. piece_of piece.stamp piece.bytes.items };
 
-    ghost invariant = { λ piece. IsPiece piece.bytes.items };
+    ghost invariant = { λ piece. IsLength (length piece.bytes.items) };
 }
 
 impl Piece {
-    /// These bytes, which are an item's.
-    pub fn new(bytes: Vec<u8>) -> Self
-        requires { IsPiece bytes.items }
-        ensures { result ≡ bytes.items }
+    /// These bytes, under the stamp of the event that sent them.
+    pub fn new(stamp: u64, bytes: Vec<u8>) -> Self
+        requires { IsLength (length bytes.items) }
+        ensures { result ≡ piece_of stamp bytes.items }
     {
-        Piece { bytes }
+        Piece { stamp, bytes }
+    }
+
+    /// The stamp.
+    pub fn stamp(&self) -> u64
+        ensures { result ≡ self.now.stamp }
+    {
+        self.stamp
     }
 
     /// The bytes.
     pub fn as_slice(&self) -> &[u8]
-        ensures bytes { result.now ≡ self.now }
-        ensures item { IsPiece self.now }
+        ensures bytes { result.now ≡ self.now.bytes }
+        ensures length { IsLength (length self.now.bytes) }
     {
         self.bytes.as_slice()
-    }
-
-    /// The bytes.
-    pub fn into_bytes(self) -> Vec<u8>
-        ensures bytes { result.items ≡ self }
-        ensures item { IsPiece self }
-    {
-        let Piece { bytes } = self;
-        bytes
-    }
-}
-
-impl Clone for Piece {
-    ghost is_clone = { λ piece copy. copy ≡ piece };
-
-    fn clone(&self) -> Result<Piece, AllocError> {
-        Ok(Piece {
-            bytes: self.bytes.clone()?,
-        })
     }
 }

@@ -1,6 +1,6 @@
 //! What the passes of a wire know, and what each step tells. (`specs/Passing` has the rule.)
 
-use crate::parcel::Parcel;
+use crate::piece::Piece;
 use crossbeam_queue::protocol::{Join, Lesson, Outcome, Protocol, Split};
 use crossbeam_queue::{Pass, RuledArrayQueue};
 use std::collections::LinkedList;
@@ -9,13 +9,13 @@ use std::collections::LinkedList;
 pub struct View {
     pub puts: bool,
     pub takes: bool,
-    pub put: LinkedList<Parcel>,
-    pub taken: LinkedList<Parcel>,
+    pub put: LinkedList<Piece>,
+    pub taken: LinkedList<Piece>,
 }
 
 pub(crate) struct InOrder;
 
-impl Protocol<Parcel, View> for InOrder {
+impl Protocol<Piece, View> for InOrder {
     ghost use Rattle.wire_core.specs.Passing.{Passes, whole};
 
     ghost holds = { Passes };
@@ -43,34 +43,35 @@ impl Join<View> for Ends {
     ghost spent = { spent };
 }
 
-/// A parcel was put. Where it wasn't, what was put and not yet taken filled the wire.
+/// A piece was put. Where it wasn't, what was put and not yet taken filled the wire.
 pub(crate) struct Put;
 
-impl Outcome<Parcel, View> for Put {
+impl Outcome<Piece, View> for Put {
     ghost use Rattle.std.specs.Prelude.{◌≡◌, [], ◌∷◌, ◌++◌};
     ghost use Rattle.wire_core.specs.Passing.{knowing};
 
-    ghost then = { λ view parcel new. new ≡ knowing view.puts view.takes (view.put ++ parcel ∷ []) view.taken };
+    ghost then = { λ view piece new. new ≡ knowing view.puts view.takes (view.put ++ piece ∷ []) view.taken };
 }
 
-impl Lesson<Parcel, View> for Put {
+impl Lesson<Piece, View> for Put {
     ghost use Rattle.std.specs.Prelude.{◌≡◌, List, ◌++◌};
-    ghost use Rattle.wire_core.specs.declared.parcel.Parcel.{Parcel};
+    ghost use Rattle.wire_core.specs.Pieces.{PieceSeen};
 
-    ghost fact = { λ view held. (taken : List Parcel) × (view.put ≡ taken ++ held) };
+    ghost fact = { λ view held. (taken : List PieceSeen) × (view.put ≡ taken ++ held) };
 }
 
-/// A parcel was taken.
+/// A piece was taken, and what was taken is cut from items.
 pub(crate) struct Taken;
 
-impl Outcome<Parcel, View> for Taken {
+impl Outcome<Piece, View> for Taken {
     ghost use Rattle.std.specs.Prelude.{◌≡◌, [], ◌∷◌, ◌++◌};
+    ghost use Rattle.wire_core.specs.Cuts.{AreCut};
     ghost use Rattle.wire_core.specs.Passing.{knowing};
 
-    ghost then = { λ view parcel new. new ≡ knowing view.puts view.takes view.put (view.taken ++ parcel ∷ []) };
+    ghost then = { λ view piece new. (new ≡ knowing view.puts view.takes view.put (view.taken ++ piece ∷ [])) × AreCut (view.taken ++ piece ∷ []) };
 }
 
-impl Lesson<Parcel, View> for Taken {
+impl Lesson<Piece, View> for Taken {
     ghost use Rattle.std.specs.Prelude.{⊤};
 
     ghost fact = { λ view held. ⊤ };
@@ -79,12 +80,12 @@ impl Lesson<Parcel, View> for Taken {
 /// What the wire still holds, to who has both passes.
 pub(crate) struct Left;
 
-impl Lesson<Parcel, View> for Left {
+impl Lesson<Piece, View> for Left {
     ghost use Rattle.std.specs.Prelude.{◌≡◌, ◌++◌};
 
     ghost fact = { λ view held. view.put ≡ view.taken ++ held };
 }
 
-pub(crate) type Line = RuledArrayQueue<Parcel, View, InOrder>;
+pub(crate) type Line = RuledArrayQueue<Piece, View, InOrder>;
 
-pub(crate) type WirePass = Pass<Parcel, View>;
+pub(crate) type WirePass = Pass<Piece, View>;

@@ -1,0 +1,19 @@
+//! The laws of items in pieces. Each function does nothing: its contract is the law.
+ghost use Rattle.wire_core.specs.Gathering.{FrontIsNeeded, FrontIsTold, FrontStays, IsCutBehind, IsWholeByFront};
+
+/// The bytes at the front of an item tell how many it has, whatever follows, as soon as they are two, or
+/// four where it is a frame.
+#[tactic(auto, using(crate::proofs::Fronts::front_is_told, crate::proofs::Fronts::front_stays, crate::proofs::Fronts::front_is_needed))]
+pub fn front_is_told()
+    ensures told { FrontIsTold }
+    ensures stays { FrontStays }
+    ensures needed { FrontIsNeeded }
+{}
+
+/// By that length what was cut from items is put together again as it was: behind the items that were put
+/// together stands what is cut from the others, and it is an item once it is as long as it says.
+#[tactic(auto, using(crate::proofs::Gathering::cut_behind, crate::proofs::Gathering::whole_item))]
+pub fn pieces_are_gathered()
+    ensures behind { IsCutBehind }
+    ensures whole { IsWholeByFront }
+{}
