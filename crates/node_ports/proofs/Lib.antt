@@ -1,3 +1,4 @@
 pub mod Slots
 pub mod Carrying
+pub mod Streaming
 pub mod Full

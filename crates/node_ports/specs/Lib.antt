@@ -1,2 +1,4 @@
 pub mod Ports
+pub mod Fetching
+pub mod Streams
 pub mod Standing

@@ -3,8 +3,8 @@ use Rattle.std.specs.Prelude.{◌≡◌, List, [], ◌∷◌}
 use Rattle.dist_books.specs.Books.{Port, Stamped}
 use Rattle.dist_books.specs.Growing.{Shifts}
 use Rattle.node_plans.specs.Frames.{IsSpelled, bytes_of}
-use Rattle.node_ports.specs.Ports.{PortSeen, fetched, flushed, fresh}
-use Rattle.wire_core.specs.Pieces.{IsPiece}
+use Rattle.node_ports.specs.Fetching.{Fetches}
+use Rattle.node_ports.specs.Ports.{PortSeen, flushed, fresh}
 use Rattle.wire_core.specs.declared.parcel.Parcel.{Parcel}
 use Rattle.erl_names.specs.declared.trunk.TrunkId.{TrunkId}
 use Rattle.dist_model.specs.Names.{Name}
@@ -39,9 +39,9 @@ no_port peer = record { peer = peer; put = []; outbox = []; taken = []; slot = [
 abbrev pub FreshStands : Type 0
 FreshStands = (trunk : TrunkId) (peer : Name) → StandsFor (fresh trunk peer) (no_port peer)
 
--- the first that waits is put, and a parcel of an item is taken
+-- the next piece is put, and a piece is taken
 abbrev pub FlushShifts : Type 0
 FlushShifts = (seen : PortSeen) (port : Port) → StandsFor seen port → ShiftsTo (flushed seen seen.outbox) port
 
 abbrev pub FetchShifts : Type 0
-FetchShifts = (seen : PortSeen) (port : Port) (parcel : Parcel) → IsPiece parcel.bytes → StandsFor seen port → ShiftsTo (fetched seen parcel) port
+FetchShifts = (seen new : PortSeen) (port : Port) → Fetches seen new → StandsFor seen port → ShiftsTo new port

@@ -1,0 +1,5 @@
+use Rattle.node_ports.proofs.Carrying.{fetch_shifts}
+use Rattle.node_ports.proofs.laws.ports_shift.Goals as goal
+
+pub returns-clause-fetch : goal.returns-clause-fetch
+returns-clause-fetch c = fetch_shifts
