@@ -1,6 +1,5 @@
 -- Each call keeps what went over the wires of a port what it has put and taken.
-use Rattle.std.proofs.Common.{◌≡◌, ℕ, zero, suc, ◌+◌, ◌^◌, ◌<◌, ◌≤◌, Bool, true, false, Option, None, Some, List, [], ◌∷◌, ◌++◌, drop, get_or, length, map, nat_lt, take, if◌then◌else◌, refl, sym, ap, ◌∙◌, subst, append_assoc, append-nil, arith}
-use Rattle.std.proofs.lemmas.Bool.Decides.{nat_tests}
+use Rattle.std.proofs.Common.{◌≡◌, ℕ, zero, suc, ◌+◌, ◌^◌, ◌<◌, ◌≤◌, Bool, true, false, Option, None, Some, List, [], ◌∷◌, ◌++◌, drop, get_or, length, take, refl, sym, ap, ◌∙◌, subst, append_assoc, append-nil, arith}
 use Rattle.std.proofs.lemmas.List.{length-append}
 use Rattle.dist_model.specs.Items.{Item}
 use Rattle.node_plans.specs.Frames.{bytes_of}
@@ -12,7 +11,7 @@ use Rattle.wire_core.specs.Spellings.{SpellsItem}
 use Rattle.wire_core.specs.declared.parcel.Parcel.{Parcel}
 use Rattle.wire_core.proofs.Cuts.{marked_append, marks_append, same_stamp, unmarked_append, unmarked_marked}
 use Rattle.node_ports.specs.Fetching.{IsWhole}
-use Rattle.node_ports.specs.Ports.{PortSeen, behind_first, flushed, next_piece}
+use Rattle.node_ports.specs.Ports.{PortSeen, behind_first, next_piece}
 use Rattle.node_ports.specs.Streams.{AllSpellItems, IsBegun, IsNext, PutInPieces, TakenInPieces, begun_marks, marks_of_parcels}
 
 -- ---- parcels
@@ -187,6 +186,7 @@ more_waits told pieces put outbox begun p s h = record {
     is : (l : List Parcel) → IsBegun begun l → IsBegun begun (l ++ p ∷ [])
     is [] e = let some : 0 < length p.bytes = has_bytes told p.bytes s in omega arith
     is (x ∷ l) e = e
+
     same : (l : List Parcel) → IsBegun begun l → begun_marks begun l ≡ begun_marks begun (l ++ p ∷ [])
     same [] e = ap (λ n. marked p.stamp (take n p.bytes)) (sym e)
     same (x ∷ l) e = refl

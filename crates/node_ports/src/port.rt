@@ -14,8 +14,8 @@ use std::marker::Model;
 use std::mem::replace;
 use std::sync::Wait;
 use wire_core::{
-    Direction, LONGEST, Offer, Parcel, Piece, Spelling, WireIn, WireOut, front_is_told, front_length,
-    pieces_are_gathered,
+    Direction, LONGEST, Offer, Parcel, Piece, Spelling, WireIn, WireOut, front_is_told,
+    front_length, pieces_are_gathered,
 };
 
 /// A node's end of a connection. Contracts see the connection and the peer, what was put on the wire to
@@ -48,8 +48,18 @@ impl Model for Port {
 
     ghost Value = { PortSeen };
 
-    ghost view = { λ p. record { trunk = p.trunk; peer = p.peer; put = p.put.items; outbox = p.outbox.items; taken = p.taken.items; slot = drop p.handled p.taken.items;
-        pieces = p.out.pieces; begun = p.begun; gathered = p.gathered.items; greatest = p.greatest } };
+    ghost view = { λ p. record {
+      trunk = p.trunk;
+      peer = p.peer;
+      put = p.put.items;
+      outbox = p.outbox.items;
+      taken = p.taken.items;
+      slot = drop p.handled p.taken.items;
+      pieces = p.out.pieces;
+      begun = p.begun;
+      gathered = p.gathered.items;
+      greatest = p.greatest;
+    } };
 
     ghost invariant = { λ p. PutInPieces p.out.pieces p.put.items p.outbox.items p.begun × TakenInPieces p.into.pieces p.taken.items p.gathered.items
         × (p.handled ≤ length p.taken.items) × IsLength p.greatest };

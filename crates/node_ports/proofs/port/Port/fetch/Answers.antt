@@ -1,4 +1,4 @@
-use Rattle.std.proofs.Common.{◌≡◌, ◌≤◌, ◌++◌, ◌∙◌, List, [], length, true≢false, sym, ap, inl, inr, refl, subst, drop}
+use Rattle.std.proofs.Common.{◌≤◌, ◌++◌, ◌∙◌, List, length, true≢false, sym, ap, inr, subst, drop}
 use Rattle.node_ports.specs.Fetching.{IsWhole}
 use Rattle.node_ports.proofs.Streaming.{handled_more, part_taken, spells, whole_taken}
 use Rattle.wire_core.specs.Spellings.{SpellsItem}
@@ -23,8 +23,7 @@ invariant_of-self-then-is_whole g c =
     let front = subst IsWhole c.as_slice-2.ensures.value (c.is_whole.ensures.0 c.if-is_whole.true) in
     let all = c.push_reserved.ensures.items in
     let bytes = c.new-then-is_whole.ensures ∙ ap (λ v. v.items) c.replace-bytes.ensures.value in
-    let none = ap (λ v. v.items) c.replace-bytes.ensures.after ∙ c.new.ensures.items in
-    (
+    let none = ap (λ v. v.items) c.replace-bytes.ensures.after ∙ c.new.ensures.items in (
       c.self.invariant.0,
       whole_taken c.front_is_told.ensures.told laws.behind laws.whole p.into.pieces c.take.new.self.pieces p.taken.items c.reserve.new.self.items p.gathered.items c.extend_from_slice.new.self.items
           c.in-Some.piece c.self.invariant.1 c.as_slice.ensures.length c.in-Some.ensures.taken c.in-Some.ensures.cut c.reserve.ensures.items gathered_are front
@@ -37,8 +36,7 @@ pub invariant_of-self-else-is_whole : goal.invariant_of-self-else-is_whole
 invariant_of-self-else-is_whole g c =
     let p = c.self.inside in
     let laws = c.pieces_are_gathered.ensures in
-    let gathered_are = c.in_ok-extend_from_slice.ensures.items ∙ (λ i. c.reserve-2.ensures.items i ++ c.as_slice.ensures.bytes i) in
-    (
+    let gathered_are = c.in_ok-extend_from_slice.ensures.items ∙ (λ i. c.reserve-2.ensures.items i ++ c.as_slice.ensures.bytes i) in (
       c.self.invariant.0,
       part_taken c.front_is_told.ensures.told laws.behind laws.whole p.into.pieces c.take.new.self.pieces p.taken.items c.reserve.new.self.items p.gathered.items c.extend_from_slice.new.self.items
           c.in-Some.piece c.self.invariant.1 c.as_slice.ensures.length c.in-Some.ensures.taken c.in-Some.ensures.cut c.reserve.ensures.items gathered_are,
@@ -58,8 +56,16 @@ returns-else-is_whole-clause-taken g c = λ _.
       comes = inr (record {
         is_part = λ front. part (subst IsWhole (sym gathered_are) front);
         becomes = λ i. record {
-          trunk = p.trunk; peer = p.peer; put = p.put.items; outbox = p.outbox.items; taken = c.reserve.ensures.items i; slot = drop p.handled (c.reserve.ensures.items i);
-          pieces = p.out.pieces; begun = p.begun; gathered = gathered_are i; greatest = p.greatest;
+          trunk = p.trunk;
+          peer = p.peer;
+          put = p.put.items;
+          outbox = p.outbox.items;
+          taken = c.reserve.ensures.items i;
+          slot = drop p.handled (c.reserve.ensures.items i);
+          pieces = p.out.pieces;
+          begun = p.begun;
+          gathered = gathered_are i;
+          greatest = p.greatest;
         };
       });
     })

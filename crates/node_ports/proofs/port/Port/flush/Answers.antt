@@ -23,10 +23,9 @@ invariant_of-self-in-Some-pop_front g c =
     let p = c.self.inside in
     let n = subst (λ (port : PortSeen). IsNext port c.in-Some.piece c.in-Some.is_last) (sym c.self.view_is) (some_is c.in_ok-piece.field-0 _ _ c.in-Some.is c.in_ok-piece.ensures.next) in
     let pieces_are = went c.put.result (c.put.new.self.pieces ≡ p.out.pieces ++ c.in-Some.piece ∷ []) c.if-is_err.ensures.value c.put.ensures.put in
-    let put_is = c.push_reserved.ensures.items ∙ ap (λ (l : List Parcel). l ++ c.in-Some-pop_front.first ∷ []) c.reserve.ensures.items in
-    (
+    let put_is = c.push_reserved.ensures.items ∙ ap (λ (l : List Parcel). l ++ c.in-Some-pop_front.first ∷ []) c.reserve.ensures.items in (
       last_put c.front_is_told.ensures.told _ c.in-Some.piece c.in-Some.is_last c.self.invariant.0 n c.put.new.self.pieces pieces_are
-      c.push_reserved.new.self.items c.pop_front.new.self.items c.in-Some-pop_front.first put_is c.in-Some-pop_front.ensures.items c.if-is_last.true,
+          c.push_reserved.new.self.items c.pop_front.new.self.items c.in-Some-pop_front.first put_is c.in-Some-pop_front.ensures.items c.if-is_last.true,
       c.self.invariant.1,
       c.self.invariant.2,
       c.self.invariant.3,
@@ -36,10 +35,9 @@ pub invariant_of-self-else-is_last : goal.invariant_of-self-else-is_last
 invariant_of-self-else-is_last g c =
     let p = c.self.inside in
     let n = subst (λ (port : PortSeen). IsNext port c.in-Some.piece c.in-Some.is_last) (sym c.self.view_is) (some_is c.in_ok-piece.field-0 _ _ c.in-Some.is c.in_ok-piece.ensures.next) in
-    let pieces_are = went c.put.result (c.put.new.self.pieces ≡ p.out.pieces ++ c.in-Some.piece ∷ []) c.if-is_err.ensures.value c.put.ensures.put in
-    (
+    let pieces_are = went c.put.result (c.put.new.self.pieces ≡ p.out.pieces ++ c.in-Some.piece ∷ []) c.if-is_err.ensures.value c.put.ensures.put in (
       part_put c.front_is_told.ensures.told _ c.in-Some.piece c.in-Some.is_last c.self.invariant.0 n c.put.new.self.pieces pieces_are
-      c.reserve.new.self.items p.outbox.items c.reserve.ensures.items refl c.if-is_last.false,
+          c.reserve.new.self.items p.outbox.items c.reserve.ensures.items refl c.if-is_last.false,
       c.self.invariant.1,
       c.self.invariant.2,
       c.self.invariant.3,

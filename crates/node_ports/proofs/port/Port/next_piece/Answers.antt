@@ -1,4 +1,4 @@
-use Rattle.std.proofs.Common.{ℕ, ◌+◌, ◌<◌, ◌≤◌, List, drop, length, take, sym, ap, subst, ◌∙◌}
+use Rattle.std.proofs.Common.{ℕ, ◌+◌, ◌<◌, ◌≤◌, List, drop, length, take, ap, subst, ◌∙◌}
 use Rattle.node_ports.proofs.Streaming.{first_in, next_of}
 use Rattle.node_ports.specs.Ports.{PortSeen, behind_first}
 use Rattle.node_ports.specs.Streams.{IsNext}
