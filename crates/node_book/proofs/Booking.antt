@@ -1,12 +1,11 @@
 -- What a book keeps is kept by each of its calls.
-use Rattle.std.proofs.Common.{◌≡◌, ◌≢◌, ◌⊎◌, ℕ, zero, suc, ◌+◌, ◌<◌, Bool, true, false, cond, Option, None, Some, List, [], ◌∷◌, ◌++◌, Result, Ok, Err, IfOk, IfErr, is_ok, inl, inr, ⊎_elim, is_none, not, ◌&&◌, if◌then◌else◌, get_or, length, map, set, slice_get, refl, sym, ap, ◌∙◌, subst, arith}
+use Rattle.std.proofs.Common.{◌≡◌, ◌⊎◌, ℕ, zero, suc, ◌+◌, ◌<◌, Bool, true, false, cond, Option, None, Some, List, [], ◌∷◌, ◌++◌, Result, Ok, Err, IfOk, IfErr, is_ok, inl, inr, ⊎_elim, is_none, not, ◌&&◌, get_or, length, map, set, slice_get, refl, sym, ap, ◌∙◌, subst, arith}
 use Rattle.std.specs.List.{position}
 use Rattle.std.specs.Option.{option_map}
 use Rattle.std.specs.Ordering.{eq_by_cmp}
-use Rattle.dist_books.specs.Acting as acting
-use Rattle.dist_books.specs.Acting.{IsMet, Nodes, meets, name_at, names_of, taken_in, takes}
+use Rattle.dist_books.specs.Acting.{IsMet, Nodes, meets, name_at, names_of, taken_in}
 use Rattle.dist_books.specs.Books.{Port}
-use Rattle.dist_books.specs.Growing.{BooksGrow, BooksRest, Comes, NewBooksFollow, NextIsNew}
+use Rattle.dist_books.specs.Growing.{BooksGrow, BooksRest, NewBooksFollow, NextIsNew}
 use Rattle.dist_model.proofs.Keys.{same_name_is}
 use Rattle.dist_model.specs.Commands.{Accepts, Outcome, Refuses}
 use Rattle.dist_model.specs.Dialing.{has_name, next_trunk}
@@ -26,7 +25,7 @@ use Rattle.node_history.specs.declared.entry.Entry.{Entry}
 use Rattle.node_history.specs.declared.history.History.{History}
 use Rattle.node_book.proofs.Growing as growing
 use Rattle.node_book.proofs.Growing.{ends, entered_plainly, entered_refused}
-use Rattle.node_book.proofs.Opening.{Dialed, accepted_dial, entered_dialing, opened_outlet}
+use Rattle.node_book.proofs.Opening.{accepted_dial, entered_dialing, opened_outlet}
 use Rattle.node_book.proofs.Places.{IsFirst, first_is, is_first, none_is}
 use Rattle.node_book.proofs.Resting.{installed, new_stands, shifted}
 use Rattle.node_book.proofs.Taking.{Waits, entered_taking, some_not_none, waits}
@@ -39,9 +38,10 @@ use Rattle.node_book.specs.Feeding.{Fed, KeepsFeeding}
 use Rattle.node_book.specs.Standing.{AreNodes, FeedsAt, IsBook, Stands, TellEntries, outlet_of}
 use Rattle.node_book.specs.Waiting.{AreFramesOf}
 use Rattle.node_book.specs.declared.outlet.Outlet.{Outlet}
+use Rattle.node_book.specs.Passing.{fresh_outlet, new_outlet}
 use Rattle.node_ports.specs.Ports.{first_of, fresh}
 use Rattle.node_ports.specs.Standing.{no_port}
-use Rattle.wire_core.specs.Pieces.{IsPiece}
+use Rattle.wire_core.specs.Spellings.{SpellsItem}
 use Rattle.wire_core.specs.declared.parcel.Parcel.{Parcel}
 use Rattle.world_core.specs.Ran.{event_at}
 use Rattle.world_events.specs.Events.{met as met_by}
@@ -210,8 +210,8 @@ module _ (grow : BooksGrow) (names : List Name) (place : ℕ) (cookie : List ℕ
 -- ---- the node dials
 
 module _ (grow : BooksGrow) (new_next : NextIsNew) (names : List Name) (place : ℕ) (cookie : List ℕ) (old new : History) (outlets after : List Outlet) (is_known : Bool)
-    (peer : Name) (word : ℕ) (known : has_name peer names ≡ is_known) (kept : IsBook names place cookie old outlets) where
-  module _ (at : ℕ) (h : DialsOut is_known peer word old new outlets after at) (nodes : Nodes) (a : AreNodes names place cookie nodes) where
+    (peer : Name) (word greatest : ℕ) (known : has_name peer names ≡ is_known) (kept : IsBook names place cookie old outlets) where
+  module _ (at : ℕ) (h : DialsOut greatest is_known peer word old new outlets after at) (nodes : Nodes) (a : AreNodes names place cookie nodes) where
     s2 : Stands place old outlets nodes
     s2 = kept.1 nodes a
 
@@ -233,18 +233,18 @@ module _ (grow : BooksGrow) (new_next : NextIsNew) (names : List Name) (place : 
     abbrev count_of : Option TrunkId → Option ℕ
     count_of = option_map (λ (t : TrunkId). t.count)
 
-    opened_by : (answer : Answer) → e2.answer ≡ answer → after ≡ with_opened own peer at (count_of (trunk_answered answer)) outlets
+    opened_by : (answer : Answer) → e2.answer ≡ answer → after ≡ with_opened greatest own peer at (count_of (trunk_answered answer)) outlets
     opened_by answer is =
         h.opened
-        ∙ ap (λ (x : Option Entry). with_opened own peer at (count_of (trunk_in x)) outlets) (last_entry outcome (event.Dial peer word) 0 old new e2 at h.place_is)
-        ∙ ap (λ x. with_opened own peer at (count_of (trunk_answered x)) outlets) is
+        ∙ ap (λ (x : Option Entry). with_opened greatest own peer at (count_of (trunk_in x)) outlets) (last_entry outcome (event.Dial peer word) 0 old new e2 at h.place_is)
+        ∙ ap (λ x. with_opened greatest own peer at (count_of (trunk_answered x)) outlets) is
 
     -- a new outlet of that connection
     same_outlet : (name : Name) → name ≡ s2.book.node.mint.name
-        → with_opened name peer at (Some (s2.book.node.dialed + 1)) outlets ≡ outlets ++ opened_outlet (next_trunk s2.book.node) peer old.entries.items ∷ []
+        → with_opened greatest name peer at (Some (s2.book.node.dialed + 1)) outlets ≡ outlets ++ opened_outlet greatest (next_trunk s2.book.node) peer old.entries.items ∷ []
     same_outlet name is =
-        ap (λ (n : Name). with_opened n peer at (Some (s2.book.node.dialed + 1)) outlets) is
-        ∙ ap (λ (n : ℕ). with_opened s2.book.node.mint.name peer n (Some (s2.book.node.dialed + 1)) outlets) h.place_is
+        ap (λ (n : Name). with_opened greatest n peer at (Some (s2.book.node.dialed + 1)) outlets) is
+        ∙ ap (λ (n : ℕ). with_opened greatest s2.book.node.mint.name peer n (Some (s2.book.node.dialed + 1)) outlets) h.place_is
 
     by_reply : (answer : Answer) → e2.answer ≡ answer → Ends due2 s2.book.node (model_of new.node) answer → Stands place new after nodes
     by_reply (Ok report) is d =
@@ -252,9 +252,9 @@ module _ (grow : BooksGrow) (new_next : NextIsNew) (names : List Name) (place : 
         let said : count_of (trunk_answered (Ok report)) ≡ Some (s2.book.node.dialed + 1) =
         ap (λ (x : Said). count_of (trunk_said x)) (d.told ∙ dialed.answer) in
         subst (λ os. Stands place new os nodes)
-        (sym (opened_by (Ok report) is ∙ ap (λ c. with_opened own peer at c outlets) said
+        (sym (opened_by (Ok report) is ∙ ap (λ c. with_opened greatest own peer at c outlets) said
         ∙ same_outlet own (ap (λ (m : model.Node). m.mint.name) (sym s2.is.node))))
-        (entered_dialing grow new_next place nodes old new peer word outlets below2 s2 e2 d.answer d.work d.accepts)
+        (entered_dialing grow new_next place nodes old new peer word greatest outlets below2 s2 e2 d.answer d.work d.accepts)
     by_reply (Err why) is d =
         subst (λ os. Stands place new os nodes) (sym (opened_by (Err why) is))
         (entered_refused grow place nodes old new (event.Dial peer word) None 0 outlets below2 s2 e2 tt why d.0)
@@ -262,7 +262,7 @@ module _ (grow : BooksGrow) (new_next : NextIsNew) (names : List Name) (place : 
     pub dialed_stands : Stands place new after nodes
     dialed_stands = by_reply e2.answer refl (ends grow place nodes old new (event.Dial peer word) None 0 outlets below2 s2 e2)
 
-  pub dialed : (at : ℕ) → DialsOut is_known peer word old new outlets after at → IsBook names place cookie new after
+  pub dialed : (at : ℕ) → DialsOut greatest is_known peer word old new outlets after at → IsBook names place cookie new after
   dialed at h = (kept.0, λ nodes a. dialed_stands at h nodes a)
 
 -- ---- between two entries
@@ -275,20 +275,20 @@ shift_kept rest names place cookie history outlets trunk k d after first keeps k
   λ nodes a. shifted rest place nodes history outlets (kept.1 nodes a) trunk k (get_or outlets k d) after first (first_is trunk k outlets d first) keeps,
 )
 
-abbrev pub installed_outlet : TrunkId → List Entry → Outlet
-installed_outlet trunk es = record { port = fresh trunk trunk.dialer; entry = length es; effects = 0 }
+abbrev pub installed_outlet : (greatest : ℕ) → TrunkId → List Entry → Outlet
+installed_outlet greatest trunk es = fresh_outlet greatest es trunk
 
-pub install_kept : BooksRest → (names : List Name) (place : ℕ) (cookie : List ℕ) (history : History) (outlets : List Outlet) (trunk : TrunkId)
+pub install_kept : BooksRest → (greatest : ℕ) (names : List Name) (place : ℕ) (cookie : List ℕ) (history : History) (outlets : List Outlet) (trunk : TrunkId)
     → same_name trunk.dialer (model_of history.node).mint.name ≡ false → outlet_of trunk outlets ≡ None → IsBook names place cookie history outlets
-    → IsBook names place cookie history (outlets ++ installed_outlet trunk history.entries.items ∷ [])
-install_kept rest names place cookie history outlets trunk other none kept = (
+    → IsBook names place cookie history (outlets ++ installed_outlet greatest trunk history.entries.items ∷ [])
+install_kept rest greatest names place cookie history outlets trunk other none kept = (
   kept.0,
   λ nodes a.
       let s = kept.1 nodes a in
       let es = history.entries.items in
       let own = name_at nodes place in
       let name : (model_of history.node).mint.name ≡ own = ap (λ (m : model.Node). m.mint.name) (sym s.is.node) ∙ s.follows.ports.name in
-      installed rest place nodes history outlets s (installed_outlet trunk es) (no_port trunk.dialer) none
+      installed rest place nodes history outlets s (installed_outlet greatest trunk es) (no_port trunk.dialer) none
       (record {
         other = λ is. let no : true ≡ false = sym (same_name_is trunk.dialer (model_of history.node).mint.name (is ∙ sym name)) ∙ other in cc;
         peer = refl;
@@ -352,8 +352,8 @@ new_kept follow names place cookie name history h name_is node last entries = (
 
 -- ---- what a book says of an event at the node alone
 
-abbrev pub seen : (names : List Name) (place : ℕ) (cookie : List ℕ) → History → List Outlet → BookSeen
-seen names place cookie history outlets = record { names = names; place = place; cookie = cookie; history = history; outlets = outlets }
+abbrev pub seen : (names : List Name) (place : ℕ) (cookie : List ℕ) (greatest : ℕ) → History → List Outlet → BookSeen
+seen names place cookie greatest history outlets = record { names = names; place = place; cookie = cookie; history = history; outlets = outlets; greatest = greatest }
 
 plain_comes : (what : NodeEvent) (outlets : List Outlet) → is_plain what ≡ true → IsComing what outlets None 0
 plain_comes (event.Call command) outlets h = (refl, refl)
@@ -365,9 +365,9 @@ plain_comes (event.Dial peer word) outlets h = (refl, refl)
 plain_comes event.Stop outlets h = (refl, refl)
 plain_comes event.Start outlets h = (refl, refl)
 
-module _ (names : List Name) (place : ℕ) (cookie : List ℕ) (old new : History) (outlets : List Outlet) (what : NodeEvent) (plain : is_plain what ≡ true) where
+module _ (names : List Name) (place : ℕ) (cookie : List ℕ) (greatest : ℕ) (old new : History) (outlets : List Outlet) (what : NodeEvent) (plain : is_plain what ≡ true) where
   pub plainly : (result : Result ℕ Refusal) → HappensAt what old new result
-      → IfOk result (Applies what (seen names place cookie old outlets) (seen names place cookie new outlets))
+      → IfOk result (Applies what (seen names place cookie greatest old outlets) (seen names place cookie greatest new outlets))
   plainly (Ok at) h =
       let t = h names in
       record {
@@ -376,17 +376,17 @@ module _ (names : List Name) (place : ℕ) (cookie : List ℕ) (old new : Histor
         comes = plain_comes what outlets plain;
         enters = t.0;
         place_is = t.1;
-        same = record { names = refl; place = refl; cookie = refl };
+        same = record { names = refl; place = refl; cookie = refl; greatest = refl };
       }
   plainly (Err e) h = tt
 
   pub plainly_not : (result : Result ℕ Refusal) → HappensAt what old new result
-      → IfErr result (IsUnapplied what (seen names place cookie old outlets) (seen names place cookie new outlets))
+      → IfErr result (IsUnapplied what (seen names place cookie greatest old outlets) (seen names place cookie greatest new outlets))
   plainly_not (Ok at) h = tt
   plainly_not (Err e) h =
       let t = h names in
       record {
-        same = record { names = refl; place = refl; cookie = refl };
+        same = record { names = refl; place = refl; cookie = refl; greatest = refl };
         history = t.0;
         outlets = refl;
         why = inr (None, 0, plain_comes what outlets plain, t.1);
@@ -410,7 +410,7 @@ module _ (names : List Name) (place : ℕ) (cookie : List ℕ) (history : Histor
       subst (λ l. Fed l old) (sym entries) (subst (λ o. Fed history.entries.items o) (sym is)
       (book_feeds names place cookie history outlets trunk at old (found_first trunk outlets os' at same there) kept))
 
-module _ (names : List Name) (place : ℕ) (cookie : List ℕ) (old new : History) (outlets : List Outlet) (trunk : TrunkId) (word : ℕ) (at : ℕ) (before after : Outlet)
+module _ (names : List Name) (place : ℕ) (cookie : List ℕ) (greatest : ℕ) (old new : History) (outlets : List Outlet) (trunk : TrunkId) (word : ℕ) (at : ℕ) (before after : Outlet)
     (os' : List Outlet) (same : os' ≡ outlets) (there : Some at ≡ position (λ o. eq_by_cmp trunk_cmp trunk o.port.trunk) os') (is : before ≡ get_or outlets at before) where
   first_one : IsFirst trunk at outlets
   first_one = found_first trunk outlets os' at same there
@@ -428,56 +428,56 @@ module _ (names : List Name) (place : ℕ) (cookie : List ℕ) (old new : Histor
   next_is : next_at (outlet_of trunk outlets) ≡ first_of before.port.slot
   next_is = ap (λ o. next_at o) outlet_is
 
-  of_piece : (parcel : Parcel) → first_of before.port.slot ≡ Some parcel → (piece : IsPiece parcel.bytes) → IsComing (event.Arrive trunk word) outlets (Some piece.item) parcel.stamp
+  of_piece : (parcel : Parcel) → first_of before.port.slot ≡ Some parcel → (piece : SpellsItem parcel.bytes) → IsComing (event.Arrive trunk word) outlets (Some piece.item) parcel.stamp
   of_piece parcel slot piece = subst (λ q. IsOf q piece.item parcel.stamp) (sym (next_is ∙ slot)) (refl, sym piece.written, piece.spelled)
 
   pub arrive_applies : (result : Result ℕ Refusal) → IfOk result (Takes trunk word old new before after)
-      → IfOk result (Applies (event.Arrive trunk word) (seen names place cookie old outlets) (seen names place cookie new (set outlets at after)))
+      → IfOk result (Applies (event.Arrive trunk word) (seen names place cookie greatest old outlets) (seen names place cookie greatest new (set outlets at after)))
   arrive_applies (Ok x) h = record {
     first = Some h.piece.item;
     sent = h.parcel.stamp;
     comes = of_piece h.parcel (ap (λ l. first_of l) h.slot) h.piece;
     enters = h.enters names h.piece.item h.piece.spelled (sym h.piece.written);
     place_is = h.place_is;
-    same = record { names = refl; place = refl; cookie = refl };
+    same = record { names = refl; place = refl; cookie = refl; greatest = refl };
   }
   arrive_applies (Err e) h = tt
 
   why_not : (e : Refusal) → TakesNothing trunk old new before after e
-      → ((e ≡ Refusal.NothingThere) × IsUnready (event.Arrive trunk word) (seen names place cookie old outlets))
+      → ((e ≡ Refusal.NothingThere) × IsUnready (event.Arrive trunk word) (seen names place cookie greatest old outlets))
       ⊎ ((first : Option Item) × (sent : ℕ) × IsComing (event.Arrive trunk word) outlets first sent × IsWanting old.last sent e)
   why_not e h = ⊎_elim
       (λ (x : (e ≡ Refusal.NothingThere) × (is_ready (model_of old.node) trunk (first_of before.port.slot) ≡ false)).
       inl (x.0, ap (λ q. is_ready (model_of old.node) trunk q) next_is ∙ x.1))
-      (λ (x : (parcel : Parcel) × (first_of before.port.slot ≡ Some parcel) × IsPiece parcel.bytes × IsWanting old.last parcel.stamp e).
+      (λ (x : (parcel : Parcel) × (first_of before.port.slot ≡ Some parcel) × SpellsItem parcel.bytes × IsWanting old.last parcel.stamp e).
       inr (Some x.2.item, x.0.stamp, of_piece x.0 x.1 x.2, x.3)) h.why
 
   pub arrive_unapplied : (result : Result ℕ Refusal) → IfErr result (TakesNothing trunk old new before after)
-      → IfErr result (IsUnapplied (event.Arrive trunk word) (seen names place cookie old outlets) (seen names place cookie new (set outlets at after)))
+      → IfErr result (IsUnapplied (event.Arrive trunk word) (seen names place cookie greatest old outlets) (seen names place cookie greatest new (set outlets at after)))
   arrive_unapplied (Ok x) h = tt
   arrive_unapplied (Err e) h = record {
-    same = record { names = refl; place = refl; cookie = refl };
+    same = record { names = refl; place = refl; cookie = refl; greatest = refl };
     history = h.history;
     outlets = ap (λ o. set outlets at o) (h.outlet ∙ is) ∙ set_first trunk at outlets before first_one;
     why = why_not e h;
   }
 
-pub nowhere_unapplied : (names : List Name) (place : ℕ) (cookie : List ℕ) (history : History) (outlets os' : List Outlet) (trunk : TrunkId) (word : ℕ) → os' ≡ outlets
+pub nowhere_unapplied : (names : List Name) (place : ℕ) (cookie : List ℕ) (greatest : ℕ) (history : History) (outlets os' : List Outlet) (trunk : TrunkId) (word : ℕ) → os' ≡ outlets
     → None ≡ position (λ o. eq_by_cmp trunk_cmp trunk o.port.trunk) os'
-    → IsUnapplied (event.Arrive trunk word) (seen names place cookie history outlets) (seen names place cookie history outlets) Refusal.NothingThere
-nowhere_unapplied names place cookie history outlets os' trunk word same h = record {
-  same = record { names = refl; place = refl; cookie = refl };
+    → IsUnapplied (event.Arrive trunk word) (seen names place cookie greatest history outlets) (seen names place cookie greatest history outlets) Refusal.NothingThere
+nowhere_unapplied names place cookie greatest history outlets os' trunk word same h = record {
+  same = record { names = refl; place = refl; cookie = refl; greatest = refl };
   history = record { node = refl; last = refl; entries = refl };
   outlets = refl;
   why = inl (refl, ap (λ o. is_ready (model_of history.node) trunk (next_at o)) (none_is trunk outlets (ap (λ l. position (λ o. eq_by_cmp trunk_cmp trunk o.port.trunk) l) (sym same) ∙ sym h)));
 }
 
-pub dial_kept : BooksGrow → NextIsNew → (names : List Name) (place : ℕ) (cookie : List ℕ) (old new : History) (outlets after : List Outlet) (is_known : Bool) (peer : Name) (word : ℕ)
-    (result : Result ℕ Refusal) → has_name peer names ≡ is_known → IfOk result (DialsOut is_known peer word old new outlets after)
+pub dial_kept : BooksGrow → NextIsNew → (greatest : ℕ) (names : List Name) (place : ℕ) (cookie : List ℕ) (old new : History) (outlets after : List Outlet) (is_known : Bool) (peer : Name) (word : ℕ)
+    (result : Result ℕ Refusal) → has_name peer names ≡ is_known → IfOk result (DialsOut greatest is_known peer word old new outlets after)
     → IfErr result (λ e. Stays old new) → IfErr result (λ e. after ≡ outlets) → IsBook names place cookie old outlets → IsBook names place cookie new after
-dial_kept grow next names place cookie old new outlets after is_known peer word (Ok x) known ok st os kept =
-    dialed grow next names place cookie old new outlets after is_known peer word known kept x ok
-dial_kept grow next names place cookie old new outlets after is_known peer word (Err e) known ok st os kept =
+dial_kept grow next greatest names place cookie old new outlets after is_known peer word (Ok x) known ok st os kept =
+    dialed grow next names place cookie old new outlets after is_known peer word greatest known kept x ok
+dial_kept grow next greatest names place cookie old new outlets after is_known peer word (Err e) known ok st os kept =
     still_kept names place cookie old new outlets after st os kept
 
 pub none_same : (trunk : TrunkId) (os : List Outlet) → is_none (position (λ o. eq_by_cmp trunk_cmp trunk o.port.trunk) os) ≡ is_none (outlet_of trunk os)
@@ -502,15 +502,14 @@ no_outlet : (o : Option Outlet) → is_none o ≡ true → o ≡ None
 no_outlet None h = refl
 no_outlet (Some o) h = absurd (let no : false ≡ true = h in cc)
 
-pub installed_as : BooksRest → (names : List Name) (place : ℕ) (cookie : List ℕ) (history : History) (outlets mid after : List Outlet) (trunk : TrunkId) (dialer : Name)
-    (new : Outlet) → wants (model_of history.node) trunk outlets ≡ true → mid ≡ outlets → after ≡ mid ++ new ∷ [] → new.port ≡ fresh trunk dialer → dialer ≡ trunk.dialer
-    → new.entry ≡ length history.entries.items → new.effects ≡ 0 → IsBook names place cookie history outlets → IsBook names place cookie history after
-installed_as rest names place cookie history outlets mid after trunk dialer new w m a port d entry effects kept =
+pub installed_as : BooksRest → (greatest : ℕ) (names : List Name) (place : ℕ) (cookie : List ℕ) (history : History) (outlets mid after : List Outlet) (trunk : TrunkId) (dialer : Name)
+    (new : Outlet) → wants (model_of history.node) trunk outlets ≡ true → mid ≡ outlets → after ≡ mid ++ new ∷ [] → new ≡ new_outlet greatest trunk dialer (length history.entries.items) → dialer ≡ trunk.dialer
+    → IsBook names place cookie history outlets → IsBook names place cookie history after
+installed_as rest greatest names place cookie history outlets mid after trunk dialer new w m a is d kept =
     let t = wanted (same_name trunk.dialer (model_of history.node).mint.name) (is_none (outlet_of trunk outlets)) w in
-    let is_port : new.port ≡ fresh trunk trunk.dialer = port ∙ ap (λ x. fresh trunk x) d in
-    let is_new : new ≡ installed_outlet trunk history.entries.items = λ i. record { port = is_port i; entry = entry i; effects = effects i } in
+    let is_new : new ≡ installed_outlet greatest trunk history.entries.items = is ∙ ap (λ x. new_outlet greatest trunk x (length history.entries.items)) d in
     subst (λ l. IsBook names place cookie history l) (sym (a ∙ ap (λ l. l ++ new ∷ []) m ∙ ap (λ o. outlets ++ o ∷ []) is_new))
-    (install_kept rest names place cookie history outlets trunk t.0 (no_outlet (outlet_of trunk outlets) t.1) kept)
+    (install_kept rest greatest names place cookie history outlets trunk t.0 (no_outlet (outlet_of trunk outlets) t.1) kept)
 
 pub copied_name : (names : List Name) (place : ℕ) (name held : Name) → name ≡ held → held ≡ get_or names place held → name ≡ get_or names place name
 copied_name names place name held is h = subst (λ n. n ≡ get_or names place n) (sym is) h

@@ -1,5 +1,5 @@
 -- What comes, and what a dial comes to, as the code tells it.
-use Rattle.std.proofs.Common.{◌≡◌, ℕ, Bool, true, false, cond, ◌||◌, Option, None, Some, List, [], ◌∷◌, Result, Ok, Err, inl, inr, length, slice_get, refl, sym, ap, ◌∙◌, subst}
+use Rattle.std.proofs.Common.{◌≡◌, ℕ, Bool, true, false, cond, ◌||◌, Option, None, Some, List, [], ◌∷◌, Result, Ok, Err, inr, slice_get, refl, sym, ap, ◌∙◌, subst}
 use Rattle.std.specs.Option.{option_map}
 use Rattle.dist_model.proofs.Keys.{same_name_refl}
 use Rattle.dist_model.specs.Dialing.{has_name}
@@ -19,7 +19,7 @@ use Rattle.node_history.specs.Kinds.{comes_here}
 use Rattle.node_history.specs.declared.history.History.{History}
 use Rattle.node_plans.specs.Frames.{IsSpelled, bytes_of}
 use Rattle.node_ports.specs.Ports.{first_of}
-use Rattle.wire_core.specs.Pieces.{IsPiece}
+use Rattle.wire_core.specs.Spellings.{SpellsItem}
 use Rattle.wire_core.specs.declared.parcel.Parcel.{Parcel}
 use Rattle.world_events.specs.Coming.{CanCome}
 use Rattle.world_events.specs.declared.event.NodeEvent.TheVariants as event
@@ -31,7 +31,7 @@ first_there : (parcel : Parcel) (l : List Parcel) → Some parcel ≡ first_of l
 first_there parcel [] h = absurd (let no : ◌≡◌ {A = Option Parcel} (Some parcel) None = h in cc)
 first_there parcel (p ∷ ps) h = (ps, let e : parcel ≡ p = cc in ap (λ x. x ∷ ps) (sym e))
 
-module _ (old new : History) (o : Outlet) (trunk : TrunkId) (word : ℕ) (parcel : Parcel) (r : Result ℕ Refusal) (piece : IsPiece parcel.bytes)
+module _ (old new : History) (o : Outlet) (trunk : TrunkId) (word : ℕ) (parcel : Parcel) (r : Result ℕ Refusal) (piece : SpellsItem parcel.bytes)
     (slot : Some parcel ≡ first_of o.port.slot) (here : comes_here (model_of old.node) trunk parcel.bytes ≡ true)
     (arrives : (names : List Name) (item : Item) → parcel.bytes ≡ bytes_of item → CanCome (model_of old.node) trunk item
     → Tries (at_node names (model_of old.node) (model.Arrive trunk (Some item) word)) (event.Arrive trunk word) parcel.stamp old new r) where
@@ -79,16 +79,16 @@ module _ (old new : History) (before after : List Outlet) (is_known : Bool) (pee
       let n = some_names peer is_known in
       subst (Tries (at_node n.0 (model_of old.node) (model.Dial peer word)) (event.Dial peer word) 0 old new) is (dials n.0 n.1)
 
-  pub dialed_out : (place : ℕ) (own to : Name) (count : Option ℕ) → r ≡ Ok place → own ≡ (model_of old.node).mint.name → to ≡ peer
-      → count ≡ option_map (λ (t : TrunkId). t.count) (trunk_in (slice_get new.entries.items place)) → after ≡ with_opened own to place count before
-      → DialsOut is_known peer word old new before after place
-  dialed_out place own to count is o t c h =
+  pub dialed_out : (greatest place : ℕ) (own to : Name) (count : Option ℕ) → r ≡ Ok place → own ≡ (model_of old.node).mint.name → to ≡ peer
+      → count ≡ option_map (λ (t : TrunkId). t.count) (trunk_in (slice_get new.entries.items place)) → after ≡ with_opened greatest own to place count before
+      → DialsOut greatest is_known peer word old new before after place
+  dialed_out greatest place own to count is o t c h =
       let n = some_names peer is_known in
       let at : (names : List Name) → has_name peer names ≡ is_known → _ = λ names k.
       subst (Tries (at_node names (model_of old.node) (model.Dial peer word)) (event.Dial peer word) 0 old new) is (dials names k) in
       record {
         enters = λ names k. (at names k).0;
         place_is = (at n.0 n.1).1;
-        opened = h ∙ ap (λ x. with_opened x to place count before) o ∙ ap (λ x. with_opened (model_of old.node).mint.name x place count before) t
-            ∙ ap (λ x. with_opened (model_of old.node).mint.name peer place x before) c;
+        opened = h ∙ ap (λ x. with_opened greatest x to place count before) o ∙ ap (λ x. with_opened greatest (model_of old.node).mint.name x place count before) t
+            ∙ ap (λ x. with_opened greatest (model_of old.node).mint.name peer place x before) c;
       }

@@ -1,32 +1,28 @@
 -- A book with one entry more stands for one with one more.
-use Rattle.std.proofs.Common.{◌≡◌, ◌≢◌, ◌⊎◌, ℕ, ◌+◌, ◌<◌, Bool, true, false, cond, Option, None, Some, List, [], ◌∷◌, ◌++◌, Ok, Err, inl, inr, if◌then◌else◌, length, map, refl, sym, ap, ◌∙◌, subst, append_assoc, append-nil, arith}
+use Rattle.std.proofs.Common.{◌≡◌, ℕ, ◌<◌, Option, None, Some, List, [], ◌∷◌, ◌++◌, Ok, Err, length, refl, sym, ap, ◌∙◌, subst, append_assoc, arith}
 use Rattle.dist_books.specs.Acting as acting
 use Rattle.dist_books.specs.Acting.{IsMet, Nodes, Way, meets, name_at, names_of, next_of, on_ways, report_of, same_way, taken_in, takes}
 use Rattle.dist_books.specs.Books.{Book, Port, Stamped}
-use Rattle.dist_books.specs.Growing as growing
 use Rattle.dist_books.specs.Growing.{BooksGrow, IsTowards, Leaves, comes_to}
-use Rattle.dist_model.specs.Commands.{Accepts, Outcome, Refuses}
+use Rattle.dist_model.specs.Commands.{Outcome, Refuses}
 use Rattle.dist_model.specs.Items.{Item}
 use Rattle.dist_model.specs.Keeping.{CountsOwn, Dials, Towards}
 use Rattle.dist_model.specs.Names.{Name}
 use Rattle.dist_model.specs.Node as model
-use Rattle.dist_model.specs.NodeEvents as met
 use Rattle.dist_model.specs.NodeEvents.{at_node}
 use Rattle.dist_model.specs.World.{Event, Report, node_name}
 use Rattle.erl_names.specs.declared.trunk.TrunkId.{TrunkId}
 use Rattle.merging.specs.Logs as merging
 use Rattle.merging.specs.Logs.{TakesEarlier, bare_took, on, stamped}
-use Rattle.node_core.specs.Done.{Did}
 use Rattle.node_core.specs.Model.{model_of}
 use Rattle.node_history.specs.Entering.{Answer, Ends, Enters}
 use Rattle.node_history.specs.declared.entry.Entry.{Entry}
 use Rattle.node_history.specs.declared.history.History.{History}
 use Rattle.node_book.proofs.Counted.{counts_of}
 use Rattle.node_book.proofs.Ways.{frames_append, frames_of_sent, place_snoc, waiting_snoc}
-use Rattle.node_book.specs.Standing.{Feeds, FeedsAt, IsBookOf, Stands, TellEntries, TellsEntry, outlet_of}
+use Rattle.node_book.specs.Standing.{Feeds, FeedsAt, Stands, TellEntries, TellsEntry, outlet_of}
 use Rattle.node_book.specs.Waiting.{AreFramesOf, effects_of, sent_in, waiting}
 use Rattle.node_book.specs.declared.outlet.Outlet.{Outlet}
-use Rattle.node_plans.specs.Frames.{shown}
 use Rattle.world_core.specs.Ran.{Tells, event_at}
 use Rattle.world_events.specs.Events.{met as met_by}
 use Rattle.world_events.specs.declared.event.NodeEvent.{NodeEvent}

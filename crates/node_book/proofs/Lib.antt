@@ -3,6 +3,7 @@ pub mod Places
 pub mod Counted
 pub mod Growing
 pub mod Putting
+pub mod Pieces
 pub mod Resting
 pub mod Taking
 pub mod Opening

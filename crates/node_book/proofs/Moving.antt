@@ -1,5 +1,5 @@
 -- What moves at an outlet: into its outbox, onto its wire, and off its other wire.
-use Rattle.std.proofs.Common.{◌≡◌, ℕ, ◌+◌, ◌<◌, Bool, true, false, Result, Ok, Err, OnErr, List, [], ◌∷◌, ◌++◌, inl, inr, length, refl, sym, ap, ◌∙◌, subst, append_assoc, append-nil, arith}
+use Rattle.std.proofs.Common.{◌≡◌, ℕ, ◌+◌, ◌<◌, Bool, true, false, Result, Ok, Err, OnErr, List, [], ◌∷◌, ◌++◌, if◌then◌else◌, inl, inr, length, nat_lt, refl, sym, ap, ◌∙◌, subst, append_assoc, append-nil}
 use Rattle.std.specs.declared.alloc.AllocError.{AllocError}
 use Rattle.dist_books.specs.Books.{Port, Stamped}
 use Rattle.dist_books.specs.Growing.{Shifts}
@@ -8,12 +8,14 @@ use Rattle.node_history.specs.declared.entry.Entry.{Entry}
 use Rattle.node_book.proofs.Ways.{none_behind}
 use Rattle.node_book.specs.Feeding.{Fed, FeedsShifted, KeepsFeeding}
 use Rattle.node_book.specs.Standing.{Feeds}
-use Rattle.node_book.specs.Waiting.{AreFramesOf, IsFrameOf, IsPlace, waiting}
+use Rattle.node_book.specs.Waiting.{AreFramesOf, IsFrameOf, waiting}
 use Rattle.node_book.specs.declared.outlet.Outlet.{Outlet}
 use Rattle.node_plans.specs.Frames.{Framed}
-use Rattle.node_ports.specs.Ports.{PortSeen, fetched, flushed, sending}
-use Rattle.node_ports.specs.Standing.{Carries, CarryAll, FetchShifts, FlushShifts, ShiftsTo, StandsFor}
-use Rattle.wire_core.specs.Pieces.{IsPiece}
+use Rattle.node_ports.specs.Fetching.{Fetches}
+use Rattle.node_ports.specs.Ports.{PortSeen, flushed, next_piece, sending}
+use Rattle.node_ports.specs.Standing.{Carries, CarryAll, FetchShifts, FlushShifts, ShiftsTo}
+use Rattle.wire_core.specs.Pieces.{PieceSeen}
+use Rattle.wire_core.specs.Spellings.{SpellsItem}
 use Rattle.wire_core.specs.declared.parcel.Parcel.{Parcel}
 
 -- ---- the port moves, and the place stays
@@ -46,15 +48,30 @@ module _ (t : TrunkId) (es : List Entry) (o : Outlet) (p : Port) (f : Feeds t es
 
 flushed_trunk : (seen : PortSeen) (waiting : List Parcel) → ((flushed seen waiting).trunk ≡ seen.trunk) × ((flushed seen waiting).peer ≡ seen.peer)
 flushed_trunk seen [] = (refl, refl)
-flushed_trunk seen (x ∷ xs) = (refl, refl)
+flushed_trunk seen (x ∷ xs) = go (nat_lt (seen.begun + seen.greatest) (length x.bytes))
+  where
+    pieces : List PieceSeen
+    pieces = seen.pieces ++ next_piece seen x ∷ []
+
+    go : (is_part : Bool)
+        → ((if is_part then record seen { pieces = pieces; begun = seen.begun + seen.greatest } else record seen { pieces = pieces; begun = 0; put = seen.put ++ x ∷ []; outbox = xs }).trunk ≡ seen.trunk)
+        × ((if is_part then record seen { pieces = pieces; begun = seen.begun + seen.greatest } else record seen { pieces = pieces; begun = 0; put = seen.put ++ x ∷ []; outbox = xs }).peer ≡ seen.peer)
+    go true = (refl, refl)
+    go false = (refl, refl)
 
 pub flush_keeps : FlushShifts → (es : List Entry) (o : Outlet) → KeepsFeeding es o (record o { port = flushed o.port o.port.outbox })
 flush_keeps law es o t p f =
     let w = flushed_trunk o.port o.port.outbox in
     shifted t es o p f (flushed o.port o.port.outbox) w.0 w.1 (law o.port f.staged f.stands)
 
-pub fetch_keeps : FetchShifts → (es : List Entry) (o : Outlet) (parcel : Parcel) → IsPiece parcel.bytes → KeepsFeeding es o (record o { port = fetched o.port parcel })
-fetch_keeps law es o parcel piece t p f = shifted t es o p f (fetched o.port parcel) refl refl (law o.port f.staged parcel piece f.stands)
+fetched_trunk : (old new : PortSeen) → Fetches old new → (new.trunk ≡ old.trunk) × (new.peer ≡ old.peer)
+fetched_trunk old new f = elim f.comes [
+  | inl e ↦ (ap (λ (p : PortSeen). p.trunk) e.becomes, ap (λ (p : PortSeen). p.peer) e.becomes)
+  | inr g ↦ (ap (λ (p : PortSeen). p.trunk) g.becomes, ap (λ (p : PortSeen). p.peer) g.becomes)
+]
+
+pub fetch_keeps : FetchShifts → (es : List Entry) (o : Outlet) (new : PortSeen) → Fetches o.port new → KeepsFeeding es o (record o { port = new })
+fetch_keeps law es o new h t p f = let w = fetched_trunk o.port new h in shifted t es o p f new w.0 w.1 (law o.port new f.staged h f.stands)
 
 pub nothing_keeps : (es : List Entry) (o : Outlet) → KeepsFeeding es o o
 nothing_keeps es o t p f =
@@ -147,9 +164,9 @@ passed_keeps es o none t p f =
 
 -- ---- what is sent next is an item's
 
-pub next_piece : (es : List Entry) (o : Outlet) (stamp : ℕ) (frame : Framed) (rest : List (ℕ × Framed)) → Fed es o
-    → waiting (o.port.trunk, o.port.peer) o.entry o.effects es ≡ (stamp, frame) ∷ rest → IsPiece frame.bytes
-next_piece es o stamp frame rest fed next =
+pub next_spells : (es : List Entry) (o : Outlet) (stamp : ℕ) (frame : Framed) (rest : List (ℕ × Framed)) → Fed es o
+    → waiting (o.port.trunk, o.port.peer) o.entry o.effects es ≡ (stamp, frame) ∷ rest → SpellsItem frame.bytes
+next_spells es o stamp frame rest fed next =
     let t = fed.0 in
     let f = fed.2 in
     let there : waiting (t, o.port.peer) o.entry o.effects es ≡ (stamp, frame) ∷ rest =
@@ -169,10 +186,9 @@ pub same_keeps : (es : List Entry) (o : Outlet) (port : PortSeen) → port ≡ o
 same_keeps es o port is = subst (λ x. KeepsFeeding es o (record o { port = x })) (sym is) (nothing_keeps es o)
 
 pub fetched_keeps : FetchShifts → (es : List Entry) (o : Outlet) (port : PortSeen) (r : Moved)
-    → (r ≡ Ok true → (parcel : Parcel) × IsPiece parcel.bytes × (port ≡ fetched o.port parcel)) → (r ≡ Ok false → port ≡ o.port) → OnErr r (port ≡ o.port)
+    → (r ≡ Ok true → Fetches o.port port) → (r ≡ Ok false → port ≡ o.port) → OnErr r (port ≡ o.port)
     → KeepsFeeding es o (record o { port = port })
-fetched_keeps law es o port (Ok true) taken none err =
-    let t = taken refl in subst (λ x. KeepsFeeding es o (record o { port = x })) (sym t.2) (fetch_keeps law es o t.0 t.1)
+fetched_keeps law es o port (Ok true) taken none err = fetch_keeps law es o port (taken refl)
 fetched_keeps law es o port (Ok false) taken none err = same_keeps es o port (none refl)
 fetched_keeps law es o port (Err e) taken none err = same_keeps es o port err
 
@@ -187,8 +203,8 @@ module _ (es : List Entry) (o : Outlet) (t : TrunkId) (x : List ℕ) (trunk : t 
   at_port : (l : List (ℕ × Framed)) → waiting (t, x) o.entry o.effects es ≡ l → waiting (o.port.trunk, o.port.peer) o.entry o.effects es ≡ l
   at_port l h = subst (λ u. waiting (u, o.port.peer) o.entry o.effects es ≡ l) trunk (subst (λ y. waiting (t, y) o.entry o.effects es ≡ l) peer h)
 
-  pub piece_at : (stamp : ℕ) (frame : Framed) (rest : List (ℕ × Framed)) → Fed es o → waiting (t, x) o.entry o.effects es ≡ (stamp, frame) ∷ rest → IsPiece frame.bytes
-  piece_at stamp frame rest fed h = next_piece es o stamp frame rest fed (at_port ((stamp, frame) ∷ rest) h)
+  pub piece_at : (stamp : ℕ) (frame : Framed) (rest : List (ℕ × Framed)) → Fed es o → waiting (t, x) o.entry o.effects es ≡ (stamp, frame) ∷ rest → SpellsItem frame.bytes
+  piece_at stamp frame rest fed h = next_spells es o stamp frame rest fed (at_port ((stamp, frame) ∷ rest) h)
 
   pub passed_at : waiting (t, x) o.entry o.effects es ≡ [] → KeepsFeeding es o (record o { entry = length es; effects = 0 })
   passed_at h = passed_keeps es o (at_port [] h)

@@ -1,5 +1,5 @@
 -- A node dials: the entry of its event, and a port of the new connection.
-use Rattle.std.proofs.Common.{◌≡◌, ◌≢◌, ℕ, ◌+◌, ◌<◌, ◌^◌, Bool, true, false, cond, not, nat_lt, Option, None, Some, List, [], ◌∷◌, ◌++◌, inl, inr, is_some, length, refl, sym, ap, ◌∙◌, subst, arith}
+use Rattle.std.proofs.Common.{◌≡◌, ℕ, ◌+◌, ◌<◌, ◌^◌, Bool, true, false, cond, not, nat_lt, Option, None, Some, List, [], ◌∷◌, ◌++◌, inr, is_some, length, refl, sym, ap, ◌∙◌, subst}
 use Rattle.std.specs.FinMap as fm
 use Rattle.dist_books.specs.Acting as acting
 use Rattle.dist_books.specs.Acting.{Nodes, Way, meets, name_at, names_of, same_way}
@@ -32,12 +32,11 @@ use Rattle.node_book.proofs.Growing.{entered, feeds_grown, grown_towards, leaves
 use Rattle.node_book.proofs.Places.{outlet_push}
 use Rattle.node_book.proofs.Ways.{none_behind, place_snoc, waiting_snoc}
 use Rattle.node_book.specs.Standing.{Feeds, FeedsAt, Stands, outlet_of}
-use Rattle.node_book.specs.Waiting.{AreFramesOf, sent_in, waiting}
+use Rattle.node_book.specs.Waiting.{AreFramesOf, sent_in}
 use Rattle.node_book.specs.declared.outlet.Outlet.{Outlet}
-use Rattle.node_ports.specs.Ports.{fresh}
+use Rattle.node_book.specs.Passing.{new_outlet}
 use Rattle.node_ports.specs.Standing.{no_port}
 use Rattle.world_events.specs.Events.{met as met_by}
-use Rattle.world_events.specs.declared.event.NodeEvent.{NodeEvent}
 use Rattle.world_events.specs.declared.event.NodeEvent.TheVariants as event
 
 -- ---- what a dial comes to that is accepted
@@ -99,8 +98,8 @@ accepted_dial names m peer word said work h = by_up m.up h
         (is_some (side_where (λ state. not (is_gone state)) peer (fm.entries m.sides))) (not (nat_lt (m.dialed + 1) (2 ^ 64))) refl e
     by_up false e = refused_or Refusal.NodeDown said work e
 
-abbrev pub opened_outlet : TrunkId → Name → List Entry → Outlet
-opened_outlet trunk peer es = record { port = fresh trunk peer; entry = length es; effects = 0 }
+abbrev pub opened_outlet : (greatest : ℕ) → TrunkId → Name → List Entry → Outlet
+opened_outlet greatest trunk peer es = new_outlet greatest trunk peer (length es)
 
 same_peer : (p q : Name) (w v : ℕ) → met.Dial p w ≡ met.Dial q v → p ≡ q
 same_peer p q w v h = cc
@@ -108,7 +107,7 @@ same_peer p q w v h = cc
 some_port : (p : Port) {A : Type 0} → ◌≡◌ {A = Option Port} None (Some p) → A
 some_port p h = cc
 
-module _ (grow : BooksGrow) (new_next : NextIsNew) (place : ℕ) (nodes : Nodes) (old new : History) (peer : Name) (word : ℕ) (outlets : List Outlet)
+module _ (grow : BooksGrow) (new_next : NextIsNew) (place : ℕ) (nodes : Nodes) (old new : History) (peer : Name) (word greatest : ℕ) (outlets : List Outlet)
     (below : place < length nodes) (s : Stands place old outlets nodes)
     (e : Enters (at_node (names_of nodes) (model_of old.node) (met_by (event.Dial peer word) None)) (event.Dial peer word) 0 old new) where
   abbrev own : Name
@@ -140,7 +139,7 @@ module _ (grow : BooksGrow) (new_next : NextIsNew) (place : ℕ) (nodes : Nodes)
     opened = record (no_port peer) { outbox = sent }
 
     abbrev outlet : Outlet
-    outlet = opened_outlet t0 peer old.entries.items
+    outlet = opened_outlet greatest t0 peer old.entries.items
 
     was_none : s.book.ports t0 ≡ None
     was_none = new_next nodes place s.book s.follows (subst CountsOwn (sym s.is.node) (counts_of old.node))

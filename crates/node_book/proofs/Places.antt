@@ -2,7 +2,7 @@
 use Rattle.std.proofs.Common.{◌≡◌, ℕ, zero, suc, ◌+◌, ◌<◌, Bool, true, false, cond, Option, None, Some, List, [], ◌∷◌, ◌++◌, length, get_or, set, refl, sym, ap, ◌∙◌, subst, arith}
 use Rattle.std.proofs.lemmas.Iterator.Adapters.{position_from-zero}
 use Rattle.std.specs.List.{position, position_from}
-use Rattle.dist_model.proofs.Keys.{same_trunk, same_trunk_is, same_trunk_refl, same_trunk_true}
+use Rattle.dist_model.proofs.Keys.{same_trunk, same_trunk_true}
 use Rattle.erl_names.specs.declared.trunk.TrunkId.{TrunkId}
 use Rattle.node_book.specs.Standing.{outlet_of}
 use Rattle.node_book.specs.declared.outlet.Outlet.{Outlet}

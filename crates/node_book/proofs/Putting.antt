@@ -1,9 +1,10 @@
 -- What is put at an outlet, and what waits there.
-use Rattle.std.proofs.Common.{◌≡◌, ◌⊎◌, ℕ, zero, suc, ◌+◌, Bool, true, false, cond, None, Some, Result, Ok, Err, List, [], ◌∷◌, ◌++◌, get_or, inl, inr, length, map, refl, set, sym, ap, ◌∙◌, subst, append_assoc, append-nil}
+use Rattle.std.proofs.Common.{◌≡◌, ◌⊎◌, ◌≤◌, ℕ, zero, suc, ◌+◌, Bool, true, false, cond, drop, if◌then◌else◌, nat_lt, take, arith, None, Some, Result, Ok, Err, List, [], ◌∷◌, ◌++◌, get_or, inl, inr, length, map, refl, set, sym, ap, ◌∙◌, subst, append_assoc, append-nil}
 use Rattle.std.specs.Prelude.{OnErr, is_none}
 use Rattle.std.specs.List.{position}
 use Rattle.std.specs.Ordering.{eq_by_cmp}
 use Rattle.std.specs.declared.alloc.AllocError.{AllocError}
+use Rattle.std.proofs.lemmas.Bool.Decides.{nat_tests}
 use Rattle.std.proofs.lemmas.List.{length-append, map-append}
 use Rattle.dist_books.specs.Acting.{Way}
 use Rattle.erl_names.specs.Order.{trunk_cmp}
@@ -21,8 +22,13 @@ use Rattle.node_book.specs.declared.outlet.Outlet.{Outlet}
 use Rattle.node_history.specs.declared.entry.Entry.{Entry}
 use Rattle.node_history.specs.declared.history.History.{History}
 use Rattle.node_plans.specs.Frames.{Framed}
-use Rattle.node_ports.specs.Ports.{EndsFull, PortSeen, fetched, first_of, flushed, sending}
-use Rattle.wire_core.specs.Pieces.{IsPiece}
+use Rattle.node_ports.proofs.Streaming.{none_begun, take_all, take_more}
+use Rattle.node_ports.specs.Fetching.{Fetches}
+use Rattle.node_ports.specs.Ports.{EndsFull, PortSeen, first_of, flushed, next_piece, sending}
+use Rattle.node_ports.specs.Streams.{begun_marks, marks_of_parcels}
+use Rattle.wire_core.specs.Pieces.{PieceSeen}
+use Rattle.wire_core.proofs.Cuts.{marked_append, marks_append}
+use Rattle.wire_core.specs.Cuts.{marked, marks_of}
 use Rattle.wire_core.specs.declared.parcel.Parcel.{Parcel}
 
 abbrev framed_said : ℕ × Framed → ℕ × List ℕ
@@ -31,8 +37,32 @@ framed_said sent = (sent.0, sent.1.bytes)
 -- ---- nothing is put
 
 pub puts_none : (es : List Entry) (o : Outlet) → Puts es o o 0
-puts_none es o =
-    record { trunk = refl; peer = refl; taken = refl; slot = refl; moved = []; many = refl; put = sym (append-nil o.port.put); waited = refl }
+puts_none es o = record {
+  trunk = refl;
+  peer = refl;
+  taken = refl;
+  slot = refl;
+  gathered = refl;
+  greatest = refl;
+  cut = [];
+  many = refl;
+  pieces = sym (append-nil o.port.pieces);
+  moved = [];
+  few = omega arith;
+  put = sym (append-nil o.port.put);
+  waited = refl;
+  bytes = append-nil (begun_marks o.port.begun o.port.outbox);
+}
+
+parcels_append : (a b : List Parcel) → marks_of_parcels (a ++ b) ≡ marks_of_parcels a ++ marks_of_parcels b
+parcels_append [] b = refl
+parcels_append (p ∷ a) b =
+    ap (λ l. marked p.stamp p.bytes ++ l) (parcels_append a b) ∙ sym (append_assoc (marked p.stamp p.bytes) (marks_of_parcels a) (marks_of_parcels b))
+
+-- so many bytes of the one, and then of the next
+same_bytes : {A : Type 0} (a b c x y p q : List A) → a ++ x ≡ p ++ b → b ++ y ≡ q ++ c → a ++ (x ++ y) ≡ (p ++ q) ++ c
+same_bytes a b c x y p q h k =
+    sym (append_assoc a x y) ∙ ap (λ l. l ++ y) h ∙ append_assoc p b y ∙ ap (λ l. p ++ l) k ∙ sym (append_assoc p q c)
 
 pub puts_both : (es : List Entry) (o n m : Outlet) (a b : ℕ) → Puts es o n a → Puts es n m b → Puts es o m (a + b)
 puts_both es o n m a b p q = record {
@@ -40,20 +70,34 @@ puts_both es o n m a b p q = record {
   peer = q.peer ∙ p.peer;
   taken = q.taken ∙ p.taken;
   slot = q.slot ∙ p.slot;
+  gathered = q.gathered ∙ p.gathered;
+  greatest = q.greatest ∙ p.greatest;
+  cut = p.cut ++ q.cut;
+  many = length-append p.cut q.cut ∙ ap (λ k. k + length q.cut) p.many ∙ ap (λ k. a + k) q.many;
+  pieces = q.pieces ∙ ap (λ l. l ++ q.cut) p.pieces ∙ append_assoc o.port.pieces p.cut q.cut;
   moved = p.moved ++ q.moved;
-  many = length-append p.moved q.moved ∙ ap (λ k. k + length q.moved) p.many ∙ ap (λ k. a + k) q.many;
+  few = let f = p.few in let g = q.few in omega (arith, length-append p.moved q.moved);
   put = q.put ∙ ap (λ l. l ++ q.moved) p.put ∙ append_assoc o.port.put p.moved q.moved;
   waited = p.waited ∙ ap (λ l. map said p.moved ++ l) q.waited ∙ sym (append_assoc (map said p.moved) (map said q.moved) (waits es m))
       ∙ ap (λ l. l ++ waits es m) (sym (map-append said p.moved q.moved));
+  bytes = ap (λ l. begun_marks o.port.begun o.port.outbox ++ l) (marks_append p.cut q.cut)
+      ∙ same_bytes (begun_marks o.port.begun o.port.outbox) (begun_marks n.port.begun n.port.outbox) (begun_marks m.port.begun m.port.outbox)
+      (marks_of p.cut) (marks_of q.cut) (marks_of_parcels p.moved) (marks_of_parcels q.moved) p.bytes q.bytes
+      ∙ ap (λ l. l ++ begun_marks m.port.begun m.port.outbox) (sym (parcels_append p.moved q.moved));
 }
 
 -- ---- what the history sent next comes into the outbox
 
+-- one more that waits isn't begun
+begun_same : (parcel : Parcel) (begun : ℕ) (outbox : List Parcel) → (outbox ≡ [] → begun ≡ 0) → begun_marks begun outbox ≡ begun_marks begun (outbox ++ parcel ∷ [])
+begun_same parcel begun [] none = ap (λ n. marked parcel.stamp (take n parcel.bytes)) (sym (none refl))
+begun_same parcel begun (x ∷ outbox) none = refl
+
 pub puts_staged : (es : List Entry) (o : Outlet) (parcel : Parcel) (stamp : ℕ) (frame : Framed) (entry effects : ℕ)
     → waiting (o.port.trunk, o.port.peer) o.entry o.effects es ≡ (stamp, frame) ∷ waiting (o.port.trunk, o.port.peer) entry effects es
-    → parcel.stamp ≡ stamp → parcel.bytes ≡ frame.bytes
+    → parcel.stamp ≡ stamp → parcel.bytes ≡ frame.bytes → (o.port.outbox ≡ [] → o.port.begun ≡ 0)
     → Puts es o (record { port = sending o.port parcel; entry = entry; effects = effects }) 0
-puts_staged es o parcel stamp frame entry effects next stamp_is bytes_are =
+puts_staged es o parcel stamp frame entry effects next stamp_is bytes_are begun =
     let rest = waiting (o.port.trunk, o.port.peer) entry effects es in
     let same : said parcel ≡ framed_said (stamp, frame) = λ i. (stamp_is i, bytes_are i) in
     record {
@@ -61,13 +105,19 @@ puts_staged es o parcel stamp frame entry effects next stamp_is bytes_are =
       peer = refl;
       taken = refl;
       slot = refl;
-      moved = [];
+      gathered = refl;
+      greatest = refl;
+      cut = [];
       many = refl;
+      pieces = sym (append-nil o.port.pieces);
+      moved = [];
+      few = omega arith;
       put = sym (append-nil o.port.put);
       waited = ap (λ l. map said o.port.outbox ++ map framed_said l) next
           ∙ ap (λ x. map said o.port.outbox ++ (x ∷ map framed_said rest)) (sym same)
           ∙ sym (append_assoc (map said o.port.outbox) (said parcel ∷ []) (map framed_said rest))
           ∙ ap (λ l. l ++ map framed_said rest) (sym (map-append said o.port.outbox (parcel ∷ [])));
+      bytes = append-nil (begun_marks o.port.begun o.port.outbox) ∙ begun_same parcel o.port.begun o.port.outbox begun;
     }
 
 -- nothing waits behind the last entry that was looked at
@@ -79,10 +129,16 @@ puts_past es o entry same = record {
   peer = refl;
   taken = refl;
   slot = refl;
-  moved = [];
+  gathered = refl;
+  greatest = refl;
+  cut = [];
   many = refl;
+  pieces = sym (append-nil o.port.pieces);
+  moved = [];
+  few = omega arith;
   put = sym (append-nil o.port.put);
   waited = ap (λ l. map said o.port.outbox ++ map framed_said l) same;
+  bytes = append-nil (begun_marks o.port.begun o.port.outbox);
 }
 
 snoc_is_some : (parcels : List Parcel) (parcel : Parcel) → parcels ++ parcel ∷ [] ≡ [] → ⊥
@@ -94,21 +150,71 @@ nothing_waits : (es : List Entry) (o : Outlet) → waiting (o.port.trunk, o.port
 nothing_waits es o none idle = ap (λ l. map said l ++ map framed_said (waiting (o.port.trunk, o.port.peer) o.entry o.effects es)) idle
     ∙ ap (λ l. map framed_said l) none
 
--- ---- the first of the outbox is put
+-- ---- a piece of the first of the outbox is put
+
+not_below : (n k : ℕ) → nat_lt n k ≡ false → k ≤ n
+not_below n k h = grind (arith, nat_tests)
 
 pub puts_one : (es : List Entry) (o : Outlet) (outbox : List Parcel) → o.port.outbox ≡ outbox → (outbox ≡ [] → ⊥)
     → Puts es o (record o { port = flushed o.port outbox }) 1
 puts_one es o [] is some = absurd (some refl)
-puts_one es o (first ∷ rest) is some = record {
-  trunk = refl;
-  peer = refl;
-  taken = refl;
-  slot = refl;
-  moved = first ∷ [];
-  many = refl;
-  put = refl;
-  waited = ap (λ l. map said l ++ map framed_said (waiting (o.port.trunk, o.port.peer) o.entry o.effects es)) is;
-}
+puts_one es o (first ∷ rest) is some = go (nat_lt (o.port.begun + o.port.greatest) (length first.bytes)) refl
+  where
+    k : ℕ
+    k = o.port.begun
+
+    n : ℕ
+    n = o.port.greatest
+
+    pieces : List PieceSeen
+    pieces = o.port.pieces ++ next_piece o.port first ∷ []
+
+    begun : (m : ℕ) → begun_marks m o.port.outbox ≡ marked first.stamp (take m first.bytes)
+    begun m = ap (λ l. begun_marks m l) is
+
+    next : begun_marks k o.port.outbox ++ marks_of (next_piece o.port first ∷ []) ≡ marked first.stamp (take (k + n) first.bytes)
+    next = ap (λ l. l ++ marks_of (next_piece o.port first ∷ [])) (begun k)
+        ∙ ap (λ l. marked first.stamp (take k first.bytes) ++ l) (append-nil (marked first.stamp (take n (drop k first.bytes))))
+        ∙ sym (marked_append first.stamp (take k first.bytes) (take n (drop k first.bytes))) ∙ ap (marked first.stamp) (take_more k n first.bytes)
+
+    all : nat_lt (k + n) (length first.bytes) ≡ false → take (k + n) first.bytes ≡ first.bytes
+    all last = take_all (k + n) first.bytes (not_below (k + n) (length first.bytes) last)
+
+    go : (is_part : Bool) → nat_lt (k + n) (length first.bytes) ≡ is_part
+        → Puts es o (record o { port = if is_part then record o.port { pieces = pieces; begun = k + n } else record o.port { pieces = pieces; begun = 0; put = o.port.put ++ first ∷ []; outbox = rest } }) 1
+    go true part = record {
+      trunk = refl;
+      peer = refl;
+      taken = refl;
+      slot = refl;
+      gathered = refl;
+      greatest = refl;
+      cut = next_piece o.port first ∷ [];
+      many = refl;
+      pieces = refl;
+      moved = [];
+      few = omega arith;
+      put = sym (append-nil o.port.put);
+      waited = refl;
+      bytes = next ∙ sym (begun (k + n));
+    }
+    go false last = record {
+      trunk = refl;
+      peer = refl;
+      taken = refl;
+      slot = refl;
+      gathered = refl;
+      greatest = refl;
+      cut = next_piece o.port first ∷ [];
+      many = refl;
+      pieces = refl;
+      moved = first ∷ [];
+      few = omega arith;
+      put = refl;
+      waited = ap (λ l. map said l ++ map framed_said (waiting (o.port.trunk, o.port.peer) o.entry o.effects es)) is;
+      bytes = next ∙ ap (marked first.stamp) (all last) ∙ sym (append-nil (marked first.stamp first.bytes)) ∙ sym (append-nil (marks_of_parcels (first ∷ [])))
+          ∙ ap (λ l. marks_of_parcels (first ∷ []) ++ l) (sym (none_begun rest));
+    }
 
 -- ---- the outlet of a connection
 
@@ -132,14 +238,14 @@ module _ (es : List Entry) (o : Outlet) (t : TrunkId) (x : List ℕ) (trunk : t 
   at_port : (l : List (ℕ × Framed)) → waiting (t, x) o.entry o.effects es ≡ l → waiting (o.port.trunk, o.port.peer) o.entry o.effects es ≡ l
   at_port l h = subst (λ u. waiting (u, o.port.peer) o.entry o.effects es ≡ l) trunk (subst (λ y. waiting (t, y) o.entry o.effects es ≡ l) peer h)
 
-  pub puts_staged_at : (port : PortSeen) (parcel : Parcel) (stamp : ℕ) (frame : Framed) (entry effects : ℕ)
+  pub puts_staged_at : (o.port.outbox ≡ [] → o.port.begun ≡ 0) → (port : PortSeen) (parcel : Parcel) (stamp : ℕ) (frame : Framed) (entry effects : ℕ)
       → waiting (t, x) o.entry o.effects es ≡ (stamp, frame) ∷ waiting (t, x) entry effects es
       → parcel.stamp ≡ stamp → parcel.bytes ≡ frame.bytes → port ≡ sending o.port parcel
       → Puts es o (record { port = port; entry = entry; effects = effects }) 0
-  puts_staged_at port parcel stamp frame entry effects h s b is =
+  puts_staged_at begun port parcel stamp frame entry effects h s b is =
       subst (λ y. Puts es o (record { port = y; entry = entry; effects = effects }) 0) (sym is)
       (puts_staged es o parcel stamp frame entry effects
-      (at_port _ h ∙ ap (λ (way : Way). (stamp, frame) ∷ waiting way entry effects es) (λ i. (trunk i, peer i))) s b)
+      (at_port _ h ∙ ap (λ (way : Way). (stamp, frame) ∷ waiting way entry effects es) (λ i. (trunk i, peer i))) s b begun)
 
   pub puts_past_at : waiting (t, x) o.entry o.effects es ≡ [] → Puts es o (record o { entry = length es; effects = 0 }) 0
   puts_past_at h = puts_past es o (length es) (at_port [] h ∙ sym (none_behind (o.port.trunk, o.port.peer) es))
@@ -166,14 +272,14 @@ module _ (es : List Entry) (o mid : Outlet) (port : PortSeen) (p : Puts es o mid
   pub none_put : port ≡ mid.port → Puts es o after 0
   none_put same = puts_both es o mid after 0 0 p (puts_same es mid port same)
 
-  pub still : (mid.port.outbox ≡ [] → waits es mid ≡ []) → (r ≡ Ok false → port ≡ mid.port) → (r ≡ Ok false → (mid.port.outbox ≡ []) ⊎ EndsFull mid.port.put)
+  pub still : (mid.port.outbox ≡ [] → waits es mid ≡ []) → (r ≡ Ok false → port ≡ mid.port) → (r ≡ Ok false → (mid.port.outbox ≡ []) ⊎ EndsFull mid.port.pieces)
       → r ≡ Ok false → Puts es o after 0 × IsStill es after
   still ready unchanged full is =
       let same = unchanged is in (
         none_put same,
         elim (full is) [
           | inl empty ↦ inl (subst (λ x. waits es (record mid { port = x }) ≡ []) (sym same) (ready empty))
-          | inr ends ↦ inr (subst (λ (x : PortSeen). EndsFull x.put) (sym same) ends)
+          | inr ends ↦ inr (subst (λ (x : PortSeen). EndsFull x.pieces) (sym same) ends)
         ],
       )
 
@@ -184,11 +290,11 @@ module _ (es : List Entry) (o mid : Outlet) (port : PortSeen) (p : Puts es o mid
       go (Ok b) h = tt
       go (Err e) h = none_put h
 
--- ---- a parcel is taken, or nothing has changed
+-- ---- a piece is taken, or nothing has changed
 
-pub taken_one : (o : Outlet) (port : PortSeen) (r : Moved) → (r ≡ Ok true → (parcel : Parcel) × IsPiece parcel.bytes × (port ≡ fetched o.port parcel))
-    → (r ≡ Ok true → o.port.slot ≡ []) → r ≡ Ok true → Takes o (record o { port = port })
-taken_one o port r taken empty is = let t = taken is in (t.0, empty is, ap (λ (p : PortSeen). record o { port = p }) t.2)
+pub taken_one : (o : Outlet) (port : PortSeen) (r : Moved) → (r ≡ Ok true → Fetches o.port port) → (r ≡ Ok true → o.port.slot ≡ []) → r ≡ Ok true
+    → Takes o (record o { port = port })
+taken_one o port r taken empty is = (port, empty is, taken is, refl)
 
 pub unchanged_err : (o : Outlet) (port : PortSeen) (r : Moved) → OnErr r (port ≡ o.port) → OnErr r (◌≡◌ {A = Outlet} (record o { port = port }) o)
 unchanged_err o port (Ok b) h = tt

@@ -1,7 +1,7 @@
 -- Between two entries parcels move, and ports come.
-use Rattle.std.proofs.Common.{◌≡◌, ◌≢◌, ℕ, ◌<◌, Bool, true, false, cond, Option, None, Some, List, [], ◌∷◌, ◌++◌, length, set, refl, sym, ap, ◌∙◌, subst, append_assoc, append-nil, arith}
+use Rattle.std.proofs.Common.{◌≡◌, ℕ, Bool, true, false, cond, Option, None, Some, List, [], ◌∷◌, ◌++◌, set, refl, sym, subst, append-nil}
 use Rattle.dist_books.specs.Acting.{Nodes, name_at, opened_at}
-use Rattle.dist_books.specs.Books.{Book, Port, Stamped, new_book}
+use Rattle.dist_books.specs.Books.{Book, Port, new_book}
 use Rattle.dist_books.specs.Growing.{BooksRest, Comes, Moves, NewBooksFollow, Shifts}
 use Rattle.dist_model.proofs.Keys.{same_trunk, same_trunk_true}
 use Rattle.dist_model.specs.Names.{Name}
@@ -11,7 +11,7 @@ use Rattle.node_history.specs.declared.entry.Entry.{Entry}
 use Rattle.node_history.specs.declared.history.History.{History}
 use Rattle.node_book.proofs.Places.{IsFirst, outlet_push, outlet_set}
 use Rattle.node_book.specs.Feeding.{KeepsFeeding}
-use Rattle.node_book.specs.Standing.{Feeds, FeedsAt, IsBookOf, Stands, TellEntries, outlet_of}
+use Rattle.node_book.specs.Standing.{Feeds, FeedsAt, Stands, TellEntries, outlet_of}
 use Rattle.node_book.specs.declared.outlet.Outlet.{Outlet}
 
 shifts_not : (p : Port) → Shifts p p

@@ -1,11 +1,11 @@
 -- An item has come that was taken off the wire: the entry of its event, and the slot without it.
-use Rattle.std.proofs.Common.{◌≡◌, ℕ, ◌+◌, ◌<◌, All, Bool, true, false, cond, Option, None, Some, List, [], ◌∷◌, ◌++◌, if◌then◌else◌, get_or, length, set, ◌&&◌, refl, sym, ap, ◌∙◌, subst, append_assoc, arith}
+use Rattle.std.proofs.Common.{◌≡◌, ℕ, ◌<◌, All, Bool, true, false, cond, Option, None, Some, List, [], ◌∷◌, ◌++◌, if◌then◌else◌, get_or, length, set, ◌&&◌, refl, sym, ap, ◌∙◌, subst, append_assoc, arith}
 use Rattle.dist_books.proofs.Steps.{same_way_self}
 use Rattle.dist_books.specs.Acting as acting
 use Rattle.dist_books.specs.Acting.{Nodes, Way, meets, name_at, names_of, same_way, taken_in}
 use Rattle.dist_books.specs.Books.{Port, Stamped}
 use Rattle.dist_books.specs.Growing.{BooksGrow, Leaves}
-use Rattle.dist_model.proofs.Keys.{same_name_refl, same_place, same_trunk, same_trunk_true}
+use Rattle.dist_model.proofs.Keys.{same_place, same_trunk, same_trunk_true}
 use Rattle.dist_model.specs.Commands.{Accepts, Outcome}
 use Rattle.dist_model.specs.Items.{Item}
 use Rattle.dist_model.specs.Names.{Name, same_name}
@@ -26,10 +26,9 @@ use Rattle.node_book.specs.Applying.{without_next}
 use Rattle.node_book.specs.Standing.{Feeds, FeedsAt, Stands, outlet_of}
 use Rattle.node_book.specs.declared.outlet.Outlet.{Outlet}
 use Rattle.node_ports.specs.Ports.{behind_first}
-use Rattle.node_ports.specs.Standing.{Carries, CarryAll, StandsFor}
+use Rattle.node_ports.specs.Standing.{Carries, CarryAll}
 use Rattle.wire_core.specs.declared.parcel.Parcel.{Parcel}
 use Rattle.world_events.specs.Events.{met as met_by}
-use Rattle.world_events.specs.declared.event.NodeEvent.{NodeEvent}
 use Rattle.world_events.specs.declared.event.NodeEvent.TheVariants as event
 
 abbrev pub behind : List Stamped → List Stamped

@@ -1,6 +1,5 @@
 -- What the history has sent on a way, from a place on.
-use Rattle.std.proofs.Common.{◌≡◌, ◌⊎◌, ℕ, zero, suc, ◌+◌, ◌<◌, ◌≤◌, Bool, true, false, Option, None, Some, List, [], ◌∷◌, ◌++◌, inl, inr, if◌then◌else◌, drop, length, map, get_or, refl, sym, ap, ◌∙◌, subst, append_assoc, append-nil, arith, length-append}
-use Rattle.dist_books.specs.Acting as acting
+use Rattle.std.proofs.Common.{◌≡◌, ℕ, zero, suc, ◌+◌, ◌<◌, ◌≤◌, Bool, true, false, None, Some, List, [], ◌∷◌, ◌++◌, inl, inr, if◌then◌else◌, drop, length, map, get_or, refl, sym, ap, ◌∙◌, subst, append_assoc, append-nil, arith, length-append}
 use Rattle.dist_books.specs.Acting.{Way, on_ways, same_way}
 use Rattle.dist_books.specs.Books.{Stamped}
 use Rattle.dist_model.specs.Items.{Item}

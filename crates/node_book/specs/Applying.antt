@@ -1,5 +1,5 @@
 -- What an event adds to a book, and what it is where none can be added.
-use Rattle.std.specs.Prelude.{◌≡◌, ◌⊎◌, ℕ, Option, None, Some, Bool, true, false, List, [], ◌∷◌, ◌++◌, if◌then◌else◌, length, slice_get}
+use Rattle.std.specs.Prelude.{◌≡◌, ◌⊎◌, ℕ, Option, None, Some, Bool, false, List, [], ◌∷◌, ◌++◌, if◌then◌else◌, length, slice_get}
 use Rattle.std.specs.Option.{option_map}
 use Rattle.dist_model.specs.Dialing.{has_name}
 use Rattle.dist_model.specs.Items.{Item}
@@ -16,8 +16,9 @@ use Rattle.node_book.specs.Answers.{is_accepted, trunk_in}
 use Rattle.node_book.specs.Standing.{outlet_of}
 use Rattle.node_book.specs.declared.outlet.Outlet.{Outlet}
 use Rattle.node_plans.specs.Frames.{IsSpelled, bytes_of}
-use Rattle.node_ports.specs.Ports.{behind_first, first_of, fresh, with_slot}
-use Rattle.wire_core.specs.Pieces.{IsPiece}
+use Rattle.node_book.specs.Passing.{new_outlet}
+use Rattle.node_ports.specs.Ports.{behind_first, first_of, with_slot}
+use Rattle.wire_core.specs.Spellings.{SpellsItem}
 use Rattle.wire_core.specs.declared.parcel.Parcel.{Parcel}
 use Rattle.world_events.specs.Events.{met}
 use Rattle.world_events.specs.declared.event.NodeEvent.{NodeEvent}
@@ -53,7 +54,7 @@ pub record Takes (trunk : TrunkId) (word : ℕ) (old new : History) (before afte
   pub parcel : Parcel
   pub rest : List Parcel
   pub slot : before.port.slot ≡ parcel ∷ rest
-  pub piece : IsPiece parcel.bytes
+  pub piece : SpellsItem parcel.bytes
   pub enters : (names : List Name) (item : Item) → IsSpelled item → parcel.bytes ≡ bytes_of item
       → Enters (at_node names (model_of old.node) (met (event.Arrive trunk word) (Some item))) (event.Arrive trunk word) parcel.stamp old new
   pub place_is : place ≡ length old.entries.items
@@ -63,18 +64,18 @@ pub record TakesNothing (trunk : TrunkId) (old new : History) (before after : Ou
   pub history : Stays old new
   pub outlet : after ≡ before
   pub why : ((e ≡ Refusal.NothingThere) × (is_ready (model_of old.node) trunk (first_of before.port.slot) ≡ false))
-      ⊎ ((parcel : Parcel) × (first_of before.port.slot ≡ Some parcel) × IsPiece parcel.bytes × IsWanting old.last parcel.stamp e)
+      ⊎ ((parcel : Parcel) × (first_of before.port.slot ≡ Some parcel) × SpellsItem parcel.bytes × IsWanting old.last parcel.stamp e)
 
 -- ---- a node dials
 
-abbrev pub with_opened : Name → Name → (place : ℕ) → Option ℕ → List Outlet → List Outlet
-with_opened own peer place None outlets = outlets
-with_opened own peer place (Some count) outlets =
-    outlets ++ record { port = fresh (record { dialer = own; count = count }) peer; entry = place; effects = 0 } ∷ []
+abbrev pub with_opened : (greatest : ℕ) → Name → Name → (place : ℕ) → Option ℕ → List Outlet → List Outlet
+with_opened greatest own peer place None outlets = outlets
+with_opened greatest own peer place (Some count) outlets =
+    outlets ++ new_outlet greatest (record { dialer = own; count = count }) peer place ∷ []
 
-pub record DialsOut (is_known : Bool) (peer : Name) (word : ℕ) (old new : History) (before after : List Outlet) (place : ℕ) : Type 0 where
+pub record DialsOut (greatest : ℕ) (is_known : Bool) (peer : Name) (word : ℕ) (old new : History) (before after : List Outlet) (place : ℕ) : Type 0 where
   pub enters : (names : List Name) → has_name peer names ≡ is_known
       → Enters (at_node names (model_of old.node) (met (event.Dial peer word) None)) (event.Dial peer word) 0 old new
   pub place_is : place ≡ length old.entries.items
-  pub opened : after ≡ with_opened (model_of old.node).mint.name peer place
+  pub opened : after ≡ with_opened greatest (model_of old.node).mint.name peer place
       (option_map (λ (trunk : TrunkId). trunk.count) (trunk_in (slice_get new.entries.items place))) before

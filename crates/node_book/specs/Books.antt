@@ -1,15 +1,15 @@
 -- What a call leaves of a book.
-use Rattle.std.specs.Prelude.{◌≡◌, ◌⊎◌, ℕ, Option, Bool, false, not, ◌&&◌, List, [], is_none, length}
+use Rattle.std.specs.Prelude.{◌≡◌, ◌⊎◌, ℕ, Option, Bool, false, not, ◌&&◌, List, [], is_none, length, map}
 use Rattle.dist_model.specs.Items.{Item}
 use Rattle.dist_model.specs.Names.{Name, same_name}
 use Rattle.dist_model.specs.Node as model
 use Rattle.dist_model.specs.NodeEvents.{at_node}
-use Rattle.dist_model.specs.Runs.{new_node}
 use Rattle.erl_names.specs.declared.trunk.TrunkId.{TrunkId}
 use Rattle.erl_term.specs.declared.refusal.Refusal.{Refusal}
 use Rattle.node_core.specs.Model.{model_of}
 use Rattle.node_history.specs.Entering.{Enters, IsWanting, Stays}
 use Rattle.node_book.specs.Applying.{IsComing, is_ready, next_at}
+use Rattle.node_book.specs.Passing.{with_piece}
 use Rattle.node_book.specs.Seen.{BookSeen}
 use Rattle.node_book.specs.Standing.{outlet_of}
 use Rattle.node_book.specs.declared.outlet.Outlet.{Outlet}
@@ -24,11 +24,12 @@ is_ready_on m trunk outlets = is_ready m trunk (next_at (outlet_of trunk outlets
 abbrev pub wants : model.Node → TrunkId → List Outlet → Bool
 wants m trunk outlets = not (same_name trunk.dialer m.mint.name) && is_none (outlet_of trunk outlets)
 
--- whose book it is
+-- whose book it is, and how long its pieces may be
 pub record IsSameNode (old new : BookSeen) : Type 0 where
   pub names : new.names ≡ old.names
   pub place : new.place ≡ old.place
   pub cookie : new.cookie ≡ old.cookie
+  pub greatest : new.greatest ≡ old.greatest
 
 -- of a node to which nothing has happened
 pub record IsFreshBook (names : List Name) (place : ℕ) (cookie : List ℕ) (book : BookSeen) : Type 0 where
@@ -38,6 +39,7 @@ pub record IsFreshBook (names : List Name) (place : ℕ) (cookie : List ℕ) (bo
   pub last : book.history.last ≡ 0
   pub entries : book.history.entries.items ≡ []
   pub outlets : book.outlets ≡ []
+  pub greatest_is : book.greatest ≡ 512
 
 -- the event is entered, at the node of the model as the step of it that the event is
 pub record Applies (what : NodeEvent) (old new : BookSeen) (place : ℕ) : Type 0 where
@@ -64,3 +66,7 @@ pub record IsUnapplied (what : NodeEvent) (old new : BookSeen) (e : Refusal) : T
 pub record Rests (old new : BookSeen) : Type 0 where
   pub same : IsSameNode old new
   pub history : new.history ≡ old.history
+
+-- pieces of so many bytes at most are put from now on, at all connections, also at those to come
+abbrev pub with_pieces : (greatest : ℕ) → BookSeen → BookSeen
+with_pieces greatest book = record book { greatest = greatest; outlets = map (with_piece greatest) book.outlets }

@@ -11,12 +11,14 @@ use crate::arriving::{is_ready, take};
 use crate::book::Book;
 use crate::dialing::dial;
 use crate::names::{has_name, place_of};
+use crate::outlet::PieceLength;
 use erl_handshake::Cookie;
 use erl_names::{NodeName, TrunkId};
 use erl_term::Refusal;
 use node_core::Node;
 use node_history::{Entry, History, Told};
 use std::alloc::{AllocError, Global};
+use wire_core::LONGEST;
 use world_events::NodeEvent;
 
 // The place that is told.
@@ -54,6 +56,7 @@ impl Book {
             history: History::new(alloc, node),
             outlets: Vec::new(alloc),
             offers: Vec::new(alloc),
+            greatest: PieceLength { bytes: LONGEST },
         })
     }
 
@@ -144,6 +147,7 @@ impl Book {
             &mut self.history,
             &mut self.outlets,
             &mut self.offers,
+            self.greatest,
             is_known,
             peer,
             word,

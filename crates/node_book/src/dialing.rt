@@ -9,13 +9,12 @@ ghost use Rattle.node_book.specs.Answers.{trunk_in, trunk_said};
 ghost use Rattle.node_book.specs.Applying.{DialsOut, with_opened};
 
 use crate::arriving::entry_at;
-use crate::outlet::Outlet;
+use crate::outlet::{Outlet, PieceLength};
 use dist_model::Answer;
 use erl_names::{NodeName, TrunkId};
 use erl_term::Refusal;
 use node_core::Node;
 use node_history::{Entry, History, Told};
-use node_ports::Port;
 use std::alloc::{AllocError, Global};
 use wire_core::{Offer, connect};
 use world_events::NodeEvent;
@@ -82,10 +81,11 @@ fn open(
     place: usize,
     outlets: &mut Vec<Outlet>,
     offers: &mut Vec<Left>,
+    greatest: PieceLength,
 )
     requires outlets { vec_len outlets.old < vec_capacity outlets.old }
     requires offers { vec_len offers.old < vec_capacity offers.old }
-    ensures { outlets.new.items ≡ with_opened halves.ours.trunk.dialer halves.peer place count outlets.old.items }
+    ensures { outlets.new.items ≡ with_opened greatest.bytes halves.ours.trunk.dialer halves.peer place count outlets.old.items }
 {
     let Halves {
         mut ours,
@@ -97,11 +97,7 @@ fn open(
         Some(count) => {
             ours.trunk.count = count;
             theirs.trunk.count = count;
-            outlets.push_reserved(Outlet {
-                port: Port::new(alloc, peer, ours),
-                entry: place,
-                effects: 0,
-            });
+            outlets.push_reserved(Outlet::new(alloc, peer, ours, greatest, place));
             offers.push_reserved(Left {
                 peer: to,
                 offer: theirs,
@@ -125,11 +121,12 @@ pub(crate) fn dial(
     history: &mut History,
     outlets: &mut Vec<Outlet>,
     offers: &mut Vec<Left>,
+    greatest: PieceLength,
     is_known: bool,
     peer: NodeName,
     word: u32,
 ) -> Result<Told, Refusal>
-    ensures ok { IfOk result (λ told. DialsOut is_known peer word history.old history.new outlets.old.items outlets.new.items told.place) }
+    ensures ok { IfOk result (λ told. DialsOut greatest.bytes is_known peer word history.old history.new outlets.old.items outlets.new.items told.place) }
     ensures told { IfOk result (IsTold history.new.entries.items) }
     ensures history { IfErr result (λ e. Stays history.old history.new) }
     ensures outlets { IfErr result (λ e. outlets.new.items ≡ outlets.old.items) }
@@ -150,6 +147,6 @@ pub(crate) fn dial(
         }
     };
     let count = count_in(entry_at(history.entries(), told.place));
-    open(alloc, halves, count, told.place, outlets, offers);
+    open(alloc, halves, count, told.place, outlets, offers, greatest);
     Ok(told)
 }

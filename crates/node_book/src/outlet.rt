@@ -1,16 +1,17 @@
 //! A port, and how far the history has come into it.
-ghost use Rattle.std.specs.Prelude.{◌≡◌, [], IfOk, OnErr, OnOk, Ok, false, true};
+ghost use Rattle.std.specs.Prelude.{◌≡◌, ◌≤◌, map, [], IfOk, OnErr, OnOk, Ok, false, true};
 ghost use Rattle.node_book.specs.Feeding.{Fed, KeepsFeeding};
-ghost use Rattle.node_book.specs.Passing.{IsStill, Puts, Takes, waits};
-ghost use Rattle.wire_core.specs.Pieces.{IsPiece};
+ghost use Rattle.node_book.specs.Passing.{IsStill, Puts, Takes, new_outlet, waits, with_piece};
+ghost use Rattle.wire_core.specs.Spellings.{SpellsItem};
 
 use crate::scanning::next_sent;
+use erl_names::NodeName;
 use node_history::Entry;
 use node_plans::{Frame, same_name};
 use node_ports::Port;
 use std::alloc::{AllocError, Global};
 use std::sync::Wait;
-use wire_core::{CAPACITY, Direction, Parcel, Piece};
+use wire_core::{CAPACITY, Direction, Offer, Parcel, Spelling};
 
 /// A node's end of a connection, and the place of the history up to which what was sent on it has come
 /// into the end's outbox: so many entries, and so many of the effects of the next.
@@ -19,6 +20,14 @@ pub struct Outlet {
     pub(crate) port: Port,
     pub(crate) entry: usize,
     pub(crate) effects: usize,
+}
+
+/// A length that pieces may have.
+#[derive(Clone, Copy)]
+pub(crate) struct PieceLength {
+    pub(crate) bytes: usize,
+    ghost some: { 1 ≤ bytes },
+    ghost short: { bytes ≤ 512 },
 }
 
 // To which of the two nodes what is put at a port goes.
@@ -32,7 +41,7 @@ fn towards(port: &Port) -> Direction {
 
 // The next parcel that is put at a port.
 fn parcel(alloc: Global, port: &Port, stamp: u64, frame: &Frame) -> Result<Parcel, AllocError>
-    requires { IsPiece frame.now.bytes }
+    requires { SpellsItem frame.now.bytes }
     ensures stamp { IfOk result (λ parcel. parcel.stamp ≡ stamp) }
     ensures bytes { IfOk result (λ parcel. parcel.bytes ≡ frame.now.bytes) }
 {
@@ -43,11 +52,39 @@ fn parcel(alloc: Global, port: &Port, stamp: u64, frame: &Frame) -> Result<Parce
         towards: towards(port),
         seq: port.put().len() as u64,
         stamp,
-        bytes: Piece::new(bytes),
+        bytes: Spelling::new(bytes),
     })
 }
 
+/// Pieces of so many bytes at most are put from now on at all of these ends.
+pub(crate) fn set_all(outlets: &mut Vec<Outlet>, greatest: PieceLength)
+    ensures { outlets.new.items ≡ map (with_piece greatest.bytes) outlets.old.items }
+{
+    for at in 0..outlets.len() {
+        outlets[at].port.set_piece(greatest.bytes);
+    }
+}
+
 impl Outlet {
+    /// A new end of a connection to a peer, which the history feeds from an entry on. Takes no memory.
+    pub(crate) fn new(
+        alloc: Global,
+        peer: NodeName,
+        offer: Offer,
+        greatest: PieceLength,
+        entry: usize,
+    ) -> Self
+        ensures { result ≡ new_outlet greatest.bytes offer.trunk peer entry }
+    {
+        let mut port = Port::new(alloc, peer, offer);
+        port.set_piece(greatest.bytes);
+        Outlet {
+            port,
+            entry,
+            effects: 0,
+        }
+    }
+
     // Where nothing waits to be put, what the history has sent next comes into the outbox, if anything
     // does.
     fn stage(&mut self, alloc: Global, entries: &[Entry]) -> Result<(), AllocError>
@@ -80,7 +117,7 @@ impl Outlet {
         Ok(())
     }
 
-    // Puts the next parcel on the wire, and says whether it did.
+    // Puts the next piece on the wire, and says whether it did.
     fn put_one<R: Wait>(
         &mut self,
         rt: &R,
@@ -98,7 +135,7 @@ impl Outlet {
         self.port.flush(rt)
     }
 
-    /// Puts what waits on the wire, as far as there is room, and tells how many parcels.
+    /// Puts what waits on the wire, as far as there is room, and tells how many pieces.
     ///
     /// # Errors
     /// Where there is no memory for the first.
@@ -129,7 +166,8 @@ impl Outlet {
         Ok(CAPACITY as u64)
     }
 
-    /// Takes a parcel of the wire into the slot, if that is empty, and says whether it did.
+    /// Takes a piece off the wire, if the slot is empty, and says whether it did. With the last piece of an
+    /// item that is in the slot.
     ///
     /// # Errors
     /// Where there is no memory for it.

@@ -1,24 +1,34 @@
 //! What passes at a book's connections between two entries.
 ghost use Rattle.std.specs.Prelude.{◌≡◌, ◌++◌, ◌∷◌, [], IfErr, IfOk, OnErr, OnOk, Ok, false, true};
 ghost use Rattle.node_core.specs.Model.{model_of};
-ghost use Rattle.node_book.specs.Books.{Rests, wants};
+ghost use Rattle.node_book.specs.Books.{Rests, wants, with_pieces};
 ghost use Rattle.node_book.specs.Passing.{AtOutlet, IsStillAt, Puts, PutsAt, Takes, fresh_outlet};
+ghost use Rattle.wire_core.specs.Pieces.{IsLength};
 
 use crate::book::Book;
 use crate::dialing::Left;
 use crate::names::place_of;
-use crate::outlet::Outlet;
+use crate::outlet::{Outlet, PieceLength, set_all};
 use erl_names::TrunkId;
 use erl_term::Refusal;
 use node_plans::same_name;
-use node_ports::Port;
 use std::alloc::Global;
 use std::sync::Wait;
 use wire_core::Offer;
 
 impl Book {
-    /// Puts what waits on a connection onto its wire, as far as there is room there, and tells how many
-    /// parcels.
+    /// From now on pieces of so many bytes at most are put, from 1 to 512, at all connections, also at those
+    /// to come. At first it is 512.
+    pub fn set_piece(&mut self, greatest: usize)
+        requires { IsLength greatest }
+        ensures { self.new ≡ with_pieces greatest self.old }
+    {
+        self.greatest = PieceLength { bytes: greatest };
+        set_all(&mut self.outlets, self.greatest);
+    }
+
+    /// Puts what waits on a connection onto its wire in pieces, as far as there is room there, and tells how
+    /// many pieces.
     ///
     /// # Errors
     /// Where there is no memory for the first of them. Then none was put.
@@ -35,8 +45,8 @@ impl Book {
         }
     }
 
-    /// Takes a parcel off the wire of a connection, to come next, where none waits to come, and says
-    /// whether it did.
+    /// Takes a piece off the wire of a connection, where no parcel waits to come, and says whether it did.
+    /// With the last piece of an item that comes next.
     ///
     /// # Errors
     /// Where there is no memory for it. Then nothing has changed.
@@ -82,7 +92,7 @@ impl Book {
     pub fn install(&mut self, alloc: Global, offer: Offer) -> Result<(), Offer>
         ensures rests { Rests self.old self.new }
         ensures wanted { OnOk result (wants (model_of self.old.history.node) offer.trunk self.old.outlets ≡ true) }
-        ensures ok { OnOk result (self.new.outlets ≡ self.old.outlets ++ fresh_outlet self.old.history.entries.items offer.trunk ∷ []) }
+        ensures ok { OnOk result (self.new.outlets ≡ self.old.outlets ++ fresh_outlet self.old.greatest self.old.history.entries.items offer.trunk ∷ []) }
         ensures err { IfErr result (λ back. (back.trunk ≡ offer.trunk) × (self.new.outlets ≡ self.old.outlets)) }
     {
         dist_books::books_grow();
@@ -93,11 +103,8 @@ impl Book {
             return Err(offer);
         };
         let entry = self.history.entries().len();
-        self.outlets.push_reserved(Outlet {
-            port: Port::new(alloc, dialer, offer),
-            entry,
-            effects: 0,
-        });
+        self.outlets
+            .push_reserved(Outlet::new(alloc, dialer, offer, self.greatest, entry));
         Ok(())
     }
 }

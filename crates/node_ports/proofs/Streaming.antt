@@ -61,12 +61,12 @@ take_none : (n : ℕ) → take {A = ℕ} n [] ≡ []
 take_none zero = refl
 take_none (suc n) = refl
 
-take_more : (a b : ℕ) (l : List ℕ) → take a l ++ take b (drop a l) ≡ take (a + b) l
+pub take_more : (a b : ℕ) (l : List ℕ) → take a l ++ take b (drop a l) ≡ take (a + b) l
 take_more zero b l = ap (λ n. take n l) (let e : b ≡ 0 + b = omega arith in e)
 take_more (suc a) b [] = take_none b ∙ sym (take_none (suc a + b))
 take_more (suc a) b (x ∷ l) = let e : suc (a + b) ≡ suc a + b = omega arith in ap (λ m. x ∷ m) (take_more a b l) ∙ ap (λ n. take n (x ∷ l)) e
 
-take_all : (n : ℕ) (l : List ℕ) → length l ≤ n → take n l ≡ l
+pub take_all : (n : ℕ) (l : List ℕ) → length l ≤ n → take n l ≡ l
 take_all zero [] h = refl
 take_all (suc n) [] h = refl
 take_all zero (x ∷ l) h = absurd (omega arith)
@@ -77,7 +77,7 @@ take_drop zero l = refl
 take_drop (suc n) [] = refl
 take_drop (suc n) (x ∷ l) = ap (λ m. x ∷ m) (take_drop n l)
 
-none_begun : (outbox : List Parcel) → begun_marks 0 outbox ≡ []
+pub none_begun : (outbox : List Parcel) → begun_marks 0 outbox ≡ []
 none_begun [] = refl
 none_begun (p ∷ outbox) = refl
 

@@ -1,4 +1,4 @@
-use Rattle.std.proofs.Common.{◌≡◌, true, false, cond, ap, sym, ◌∙◌, slice_get}
+use Rattle.std.proofs.Common.{cond, ap, sym, ◌∙◌, slice_get}
 use Rattle.node_core.specs.Model.{model_of}
 use Rattle.node_book.proofs.Coming.{came, came_not, reads_here}
 use Rattle.node_book.specs.Answers.{is_accepted}

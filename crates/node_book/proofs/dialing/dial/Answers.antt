@@ -3,7 +3,7 @@ use Rattle.dist_model.specs.Node as model
 use Rattle.erl_names.specs.declared.trunk.TrunkId.{TrunkId}
 use Rattle.node_book.specs.Answers.{trunk_in}
 use Rattle.node_book.specs.Applying.{with_opened}
-use Rattle.std.proofs.Common.{slice_get, ap, sym, ◌∙◌}
+use Rattle.std.proofs.Common.{slice_get, ap, ◌∙◌}
 use Rattle.node_history.specs.Telling.{placed}
 use Rattle.node_book.proofs.Coming.{dialed_not, dialed_out}
 use Rattle.node_book.proofs.dialing.dial.Goals as goal
@@ -20,7 +20,7 @@ pub returns-clause-ok : goal.returns-clause-ok
 returns-clause-ok c =
     let halves = c.in_ok-halves.halves in
     dialed_out c.args.history.now c.act.new.self c.args.outlets.now.items c.open.new.outlets.items c.args.is_known c.args.peer c.args.word (placed c.act.result) c.act.ensures.tries
-    c.in-Ok.told.place halves.ours.trunk.dialer halves.peer c.count_in-count.result (ap placed c.in-Ok.is)
+    c.args.greatest.bytes c.in-Ok.told.place halves.ours.trunk.dialer halves.peer c.count_in-count.result (ap placed c.in-Ok.is)
     (c.in_ok-halves.ensures.dialer ∙ ap (λ (m : model.Node). m.mint.name) c.node.ensures) c.in_ok-halves.ensures.peer
     (c.count_in-count.ensures ∙ ap (λ x. option_map (λ (t : TrunkId). t.count) (trunk_in x)) (c.entry_at.ensures ∙ ap (λ es. slice_get es c.in-Ok.told.place) c.entries.ensures))
-    (c.open.ensures ∙ ap (λ os. with_opened halves.ours.trunk.dialer halves.peer c.in-Ok.told.place c.count_in-count.result os) c.in_ok-reserve.ensures.items)
+    (c.open.ensures ∙ ap (λ os. with_opened c.args.greatest.bytes halves.ours.trunk.dialer halves.peer c.in-Ok.told.place c.count_in-count.result os) c.in_ok-reserve.ensures.items)

@@ -1,9 +1,11 @@
-use Rattle.std.proofs.Common.{ap, refl, sym, subst, ◌∙◌, length}
+use Rattle.std.proofs.Common.{List, ap, sym, subst, ◌∙◌, length}
 use Rattle.node_book.proofs.Booking.{installed_as}
 use Rattle.node_book.specs.Books.{wants}
+use Rattle.node_book.specs.Passing.{new_outlet}
 use Rattle.node_book.specs.Seen.{BookSeen}
 use Rattle.node_book.specs.Standing.{IsBook}
 use Rattle.node_core.specs.Model.{model_of}
+use Rattle.node_history.specs.declared.entry.Entry.{Entry}
 use Rattle.node_book.proofs.book.Book.install.Goals as goal
 
 pub invariant_of-self : goal.invariant_of-self
@@ -15,7 +17,8 @@ invariant_of-self-in_default c = let b = c.self.inside in subst (λ os. IsBook b
 pub invariant_of-self-2 : goal.invariant_of-self-2
 invariant_of-self-2 c =
     let b = c.self.inside in
-    installed_as c.books_grow.ensures.rest b.names.items b.place b.cookie b.history b.outlets.items c.reserve.new.self.items c.push_reserved.new.self.items c.args.offer.trunk c.in-Ok.dialer
-    (record { port = c.new.result; entry = length c.entries-entry.result.now; effects = 0 })
+    installed_as c.books_grow.ensures.rest b.greatest.bytes b.names.items b.place b.cookie b.history b.outlets.items c.reserve.new.self.items c.push_reserved.new.self.items c.args.offer.trunk c.in-Ok.dialer
+    c.new.result
     (ap (λ (s : BookSeen). wants (model_of s.history.node) c.args.offer.trunk s.outlets) c.self.view_is ∙ sym c.wants.ensures ∙ c.if-not-wants.false)
-    c.reserve.ensures.items c.push_reserved.ensures.items c.new.ensures c.in-Ok.ensures.cases (ap (λ l. length l) c.entries-entry.ensures) refl c.self.invariant
+    c.reserve.ensures.items c.push_reserved.ensures.items
+    (c.new.ensures ∙ ap (λ (es : List Entry). new_outlet b.greatest.bytes c.args.offer.trunk c.in-Ok.dialer (length es)) c.entries-entry.ensures) c.in-Ok.ensures.cases c.self.invariant

@@ -5,8 +5,8 @@ use Rattle.node_book.specs.Standing.{IsBook}
 use Rattle.node_core.specs.Model.{model_of}
 use Rattle.node_book.proofs.book.Book.new.Goals as goal
 
-pub invariant_of-result : goal.invariant_of-result
-invariant_of-result c =
+pub invariant_of-result-2 : goal.invariant_of-result-2
+invariant_of-result-2 c =
     let names = c.args.names.items in
     let name = c.in_ok-name.name in
     subst (λ os. IsBook names c.args.place c.args.cookie c.new-2.result os) (sym c.new-3.ensures.items)

@@ -11,9 +11,9 @@ invariant_of-self c =
 pub returns-clause-ok : goal.returns-clause-ok
 returns-clause-ok c =
     let b = c.self.inside in
-    rw (← c.self.view_is) (plainly b.names.items b.place b.cookie b.history c.sweep.new.self b.outlets.items event.Sweep refl c.sweep.result c.sweep.ensures)
+    rw (← c.self.view_is) (plainly b.names.items b.place b.cookie b.greatest.bytes b.history c.sweep.new.self b.outlets.items event.Sweep refl c.sweep.result c.sweep.ensures)
 
 pub returns-clause-err : goal.returns-clause-err
 returns-clause-err c =
     let b = c.self.inside in
-    rw (← c.self.view_is) (plainly_not b.names.items b.place b.cookie b.history c.sweep.new.self b.outlets.items event.Sweep refl c.sweep.result c.sweep.ensures)
+    rw (← c.self.view_is) (plainly_not b.names.items b.place b.cookie b.greatest.bytes b.history c.sweep.new.self b.outlets.items event.Sweep refl c.sweep.result c.sweep.ensures)

@@ -1,5 +1,5 @@
-use Rattle.node_book.proofs.Moving.{nothing_keeps, passed_at, piece_at, same_keeps, staged_at}
-use Rattle.node_book.proofs.Putting.{past_waits, puts_none, puts_past_at, puts_same, puts_staged_at, some_waits, staged_waits}
+use Rattle.node_book.proofs.Moving.{nothing_keeps, piece_at, same_keeps, staged_at}
+use Rattle.node_book.proofs.Putting.{puts_none, puts_past_at, puts_same, puts_staged_at, some_waits, staged_waits}
 use Rattle.node_book.proofs.outlet.Outlet.stage.Goals as goal
 
 pub parcel-requires : goal.parcel-requires
@@ -24,7 +24,7 @@ returns-in_ok-send-in-Some c = record {
   feeds = staged_at c.args.entries.now c.args.self.now c.trunk.result.now c.peer.result.now c.trunk.ensures c.peer.ensures
       c.send.new.self c.in_ok-parcel-in-Some.parcel c.in-Some.next.stamp c.in-Some.next.frame.now c.in-Some.next.entry c.in-Some.next.effects
       c.in-Some.ensures.some c.in_ok-parcel-in-Some.ensures.stamp c.in_ok-parcel-in-Some.ensures.bytes c.in-Some.ensures.within c.in_ok-send-in-Some.ensures.ok;
-  puts = puts_staged_at c.args.entries.now c.args.self.now c.trunk.result.now c.peer.result.now c.trunk.ensures c.peer.ensures
+  puts = puts_staged_at c.args.entries.now c.args.self.now c.trunk.result.now c.peer.result.now c.trunk.ensures c.peer.ensures c.is_idle.ensures.begun
       c.send.new.self c.in_ok-parcel-in-Some.parcel c.in-Some.next.stamp c.in-Some.next.frame.now c.in-Some.next.entry c.in-Some.next.effects
       c.in-Some.ensures.some c.in_ok-parcel-in-Some.ensures.stamp c.in_ok-parcel-in-Some.ensures.bytes c.in_ok-send-in-Some.ensures.ok;
   ready = λ empty. absurd (staged_waits c.args.self.now c.send.new.self c.in_ok-parcel-in-Some.parcel c.in_ok-send-in-Some.ensures.ok empty);
@@ -34,5 +34,9 @@ pub returns-then-not-is_idle : goal.returns-then-not-is_idle
 returns-then-not-is_idle c = record {
   feeds = nothing_keeps c.args.entries.now c.args.self.now;
   puts = puts_none c.args.entries.now c.args.self.now;
-  ready = λ empty. absurd (some_waits c.args.self.now.port.outbox c.is_idle.result c.is_idle.ensures c.if-not-is_idle.true empty);
+  ready = λ empty. absurd (some_waits c.args.self.now.port.outbox c.is_idle.result c.is_idle.ensures.idle c.if-not-is_idle.true empty);
 }
+
+pub returns-in-None-clause-puts : goal.returns-in-None-clause-puts
+returns-in-None-clause-puts c =
+    puts_past_at c.args.entries.now c.args.self.now c.trunk.result.now c.peer.result.now c.trunk.ensures c.peer.ensures c.in-None.ensures.none
