@@ -88,6 +88,18 @@ fn is_whole(bytes: &[u8]) -> bool
     front_length(bytes) == Some(bytes.len())
 }
 
+// The bytes that were gathered, in no more room than they take. None are left: the bytes stay as long as
+// the port.
+fn take_all(gathered: &mut Vec<u8>) -> Vec<u8>
+    ensures bytes { result.items ≡ gathered.old.items }
+    ensures none { gathered.new.items ≡ [] }
+{
+    let alloc = *gathered.allocator();
+    let mut bytes = replace(gathered, Vec::new(alloc));
+    bytes.shrink_to_fit();
+    bytes
+}
+
 // To which node of a connection what comes from this one goes.
 fn away_from(peer: &NodeName, trunk: &TrunkId) -> Direction {
     if same_name(trunk.dialer.atom(), peer.atom()) {
@@ -264,8 +276,7 @@ impl Port {
         };
         self.gathered.extend_from_slice(piece.as_slice())?;
         if is_whole(self.gathered.as_slice()) {
-            let alloc = *self.gathered.allocator();
-            let bytes = replace(&mut self.gathered, Vec::new(alloc));
+            let bytes = take_all(&mut self.gathered);
             self.taken.push_reserved(Parcel {
                 towards: away_from(&self.peer, &trunk),
                 trunk,
