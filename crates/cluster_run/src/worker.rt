@@ -167,7 +167,7 @@ impl Worker {
         }
     }
 
-    // A parcel is taken off a wire, and the other node's thread is woken, since there is room again.
+    // A piece is taken off a wire, and the other node's thread is woken, since there is room again.
     fn fetch<R: Wait, G>(&self, rt: &R, shared: &Shared<G>, book: &mut Book, at: usize) -> Step {
         let Some(route) = self.routes.get(at) else {
             return Step::Nothing;

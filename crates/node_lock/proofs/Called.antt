@@ -68,7 +68,7 @@ module _ (act : Act) (book : BookSeen) (seat : Seat) where
   pub strange : (IsAtHome book seat → ⊥) → IsUncalled act book book seat seat Refusal.StrangeSeat
   strange away = record {
     stays = record { node = refl; receipts = refl };
-    same = record { names = refl; place = refl; cookie = refl };
+    same = record { names = refl; place = refl; cookie = refl; greatest = refl };
     history = record { node = refl; last = refl; entries = refl };
     outlets = refl;
     why = inl (refl, away);
@@ -78,7 +78,7 @@ module _ (act : Act) (book : BookSeen) (seat : Seat) where
       → IsUncalled act book book seat after Refusal.OutOfMemory
   no_room after home n r = record {
     stays = record { node = n; receipts = r };
-    same = record { names = refl; place = refl; cookie = refl };
+    same = record { names = refl; place = refl; cookie = refl; greatest = refl };
     history = record { node = refl; last = refl; entries = refl };
     outlets = refl;
     why = inr (home, inl refl);
