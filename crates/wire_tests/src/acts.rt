@@ -79,6 +79,13 @@ pub fn pid(alloc: Global, process: Process) -> Result<Pid, Refusal> {
     })
 }
 
+fn message(alloc: Global, ask: Ask) -> Result<Payload, Refusal> {
+    Ok(Payload::new(match ask {
+        Ask::SendBinary(_, _, count) => Term::Binary(vec![in alloc; 7; count]?),
+        _ => Term::Int(7),
+    }))
+}
+
 fn between(alloc: Global, ask: Ask, from: Process, to: Process) -> Result<Command, Refusal> {
     let from = pid(alloc, from)?;
     let to = pid(alloc, to)?;
@@ -87,7 +94,7 @@ fn between(alloc: Global, ask: Ask, from: Process, to: Process) -> Result<Comman
         _ => Command::Send {
             from,
             to,
-            message: Payload::new(Term::Int(7)),
+            message: message(alloc, ask)?,
         },
     })
 }
@@ -96,7 +103,9 @@ fn between(alloc: Global, ask: Ask, from: Process, to: Process) -> Result<Comman
 pub fn act(alloc: Global, ask: Ask) -> Result<Act, Refusal> {
     Ok(match ask {
         Ask::Spawn => Act::Run(Command::Spawn),
-        Ask::Send(from, to) | Ask::Link(from, to) => Act::Run(between(alloc, ask, from, to)?),
+        Ask::Send(from, to) | Ask::SendBinary(from, to, _) | Ask::Link(from, to) => Act::Run(
+            between(alloc, ask, from, to)?,
+        ),
         Ask::Dial(place) => Act::Dial {
             peer: NodeName::read(alloc, name(place))?,
             word: WORD,

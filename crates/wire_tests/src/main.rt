@@ -3,11 +3,12 @@
 //! With no argument it tells each story, and what of it doesn't hold. Most stories are tables of what is
 //! asked of the books of some nodes, of what comes of it, and of what they merge into. `wire_tests small`
 //! is some short ones, for `./fail-allocations`: what memory was wanting for is tried again, so they have
-//! to hold under each allocation that is refused. `wire_tests measure` says how many parcels pass over a
+//! to hold under each allocation that is refused. `wire_tests measure` says how many pieces pass over a
 //! wire in a second, and how many calls a node's book takes.
 #![tactic(auto)]
 
 mod acts;
+mod cutting;
 mod measuring;
 mod passing;
 mod rows;

@@ -1,4 +1,4 @@
-//! How many parcels pass over a wire in a second, and how many calls a node takes.
+//! How many pieces pass over a wire in a second, and how many calls a node takes.
 use crate::acts::{book, named, pid};
 use crate::passing::{parcels, pass};
 use crate::rows::{Ask, Row};
@@ -15,11 +15,11 @@ use node_lock::{Act, Asked, NodeLock, Seat};
 use std::alloc::{AllocError, Global};
 use std::sync::Wait;
 use std::time::{Duration, Instant};
-use wire_core::Piece;
+use wire_core::Spelling;
 use world_events::NodeEvent;
 
-/// So many parcels pass.
-const PARCELS: u64 = 1_000_000;
+/// So many pieces pass.
+const PIECES: u64 = 1_000_000;
 
 /// So often a process sends itself a message.
 const ROUNDS: u32 = 200_000;
@@ -225,14 +225,14 @@ fn measure_calls<R: Machine>(rt: &R, alloc: Global, which: Which, round: Round) 
 }
 
 // The frame of a message from one node to another, as it is put on a wire.
-fn example<R: Wait>(rt: &R, alloc: Global) -> Result<Piece, Refusal> {
+fn example<R: Wait>(rt: &R, alloc: Global) -> Result<Spelling, Refusal> {
     let mut stage = open(alloc, &[A, B])?;
     let put = sent(rt, alloc, &mut stage);
     drop(stage);
     put
 }
 
-fn sent<R: Wait>(rt: &R, alloc: Global, stage: &mut Stage) -> Result<Piece, Refusal> {
+fn sent<R: Wait>(rt: &R, alloc: Global, stage: &mut Stage) -> Result<Spelling, Refusal> {
     for row in CONNECTED {
         stage.holds(rt, alloc, &[], *row)?;
     }
@@ -243,20 +243,20 @@ fn sent<R: Wait>(rt: &R, alloc: Global, stage: &mut Stage) -> Result<Piece, Refu
 }
 
 fn measure_wire<R: Machine>(rt: &R, alloc: Global) -> Result<bool> {
-    let piece = example(rt, alloc)?;
-    let bytes = piece.as_slice();
-    let parcels = parcels(alloc, &piece, PARCELS)?;
+    let frame = example(rt, alloc)?;
+    let bytes = frame.as_slice();
+    let parcels = parcels(alloc, &frame, PIECES)?;
     let start = Instant::now(rt)?;
     let passed = pass(rt, alloc, parcels, bytes)?;
-    let rate = a_second(PARCELS, start.elapsed(rt)?);
+    let rate = a_second(PIECES, start.elapsed(rt)?);
     println!(rt;
-        "a wire between two threads: {rate} parcels of {} bytes a second",
+        "a wire between two threads: {rate} pieces of {} bytes a second",
         bytes.len()
     )?;
     Ok(passed.in_order && passed.left == 0)
 }
 
-/// Prints how many parcels pass in a second, and how often a process sends itself a message, and receives
+/// Prints how many pieces pass in a second, and how often a process sends itself a message, and receives
 /// it. Answers whether all could be done.
 pub fn measure<R: Machine>(rt: &R, alloc: Global) -> Result<bool> {
     let mut all = measure_wire(rt, alloc)?;

@@ -1,5 +1,7 @@
-//! Parcels on a wire.
-ghost use Rattle.std.specs.Prelude.{◌≡◌};
+//! Pieces on a wire, and parcels between two ports.
+ghost use Rattle.std.specs.Prelude.{◌≡◌, [], IfSome};
+ghost use Rattle.wire_core.specs.Spellings.{SpellsItem};
+ghost use Rattle.wire_tests.specs.Whole.{AreItems};
 
 use crate::acts::{name, trunk};
 use crate::telling::{Machine, Wrong, check};
@@ -9,41 +11,60 @@ use node_ports::Port;
 use std::alloc::{AllocError, Global};
 use std::sync::Wait;
 use std::thread::{join, yield_now};
-use wire_core::{CAPACITY, Direction, Offer, Parcel, Piece, WireIn, WireOut, audit, connect, wire};
+use wire_core::{
+    CAPACITY, Direction, LONGEST, Offer, Parcel, Piece, Spelling, WireIn, WireOut, audit, connect,
+    wire,
+};
 
-/// So many parcels pass from thread to thread.
+/// So many pieces pass from thread to thread.
 const COUNT: u64 = 10_000;
 
 /// What ticks carry.
-pub fn tick(alloc: Global) -> Result<Piece, AllocError> {
-    Ok(Piece::new(vec![in alloc; 0; 4]?))
+pub fn tick(alloc: Global) -> Result<Spelling, AllocError> {
+    Ok(Spelling::new(vec![in alloc; 0; 4]?))
 }
 
-fn parcel(trunk: &TrunkId, seq: u64, piece: &Piece) -> Result<Parcel, AllocError> {
+/// A parcel that carries this, at this place in its direction.
+pub fn parcel(trunk: &TrunkId, seq: u64, bytes: &Spelling) -> Result<Parcel, AllocError> {
     Ok(Parcel {
         trunk: trunk.clone()?,
         towards: Direction::ToAcceptor,
         seq,
         stamp: seq.wrapping_add(1),
-        bytes: piece.clone()?,
+        bytes: bytes.clone()?,
     })
 }
 
 /// So many parcels in order that carry this.
-pub fn parcels(alloc: Global, piece: &Piece, count: u64) -> Result<Vec<Parcel>, Refusal> {
+pub fn parcels(alloc: Global, bytes: &Spelling, count: u64) -> Result<Vec<Parcel>, Refusal> {
     let trunk = trunk(alloc)?;
     let mut all = Vec::new(alloc);
     for seq in 0..count {
-        all.push(parcel(&trunk, seq, piece)?)?;
+        all.push(parcel(&trunk, seq, bytes)?)?;
     }
     Ok(all)
 }
 
-// Tries until there is room.
-fn put<R: Wait>(rt: &R, out: &mut WireOut, parcel: Parcel)
-    ensures { out.new.wire ≡ out.old.wire }
+// The one piece of a parcel that isn't too long for it.
+fn piece(parcel: Parcel) -> Option<Piece>
+    ensures { IfSome result (λ piece. SpellsItem piece.bytes) }
 {
-    let mut waiting = parcel;
+    let Parcel { stamp, bytes, .. } = parcel;
+    let bytes = bytes.into_bytes();
+    if bytes.len() == 0 || bytes.len() > LONGEST {
+        return None;
+    }
+    Some(Piece::new(stamp, bytes))
+}
+
+// Tries until there is room.
+fn put<R: Wait>(rt: &R, out: &mut WireOut, piece: Piece)
+    requires before { AreItems out.old.pieces }
+    requires item { SpellsItem piece.bytes }
+    ensures wire { out.new.wire ≡ out.old.wire }
+    ensures after { AreItems out.new.pieces }
+{
+    let mut waiting = piece;
     for _ in rt.forever() {
         match out.put(rt, waiting) {
             Ok(()) => return,
@@ -55,40 +76,43 @@ fn put<R: Wait>(rt: &R, out: &mut WireOut, parcel: Parcel)
 }
 
 fn put_all<R: Wait>(rt: &R, mut out: WireOut, parcels: Vec<Parcel>) -> WireOut
+    requires { out.pieces ≡ [] }
     ensures { result.wire ≡ out.wire }
 {
     for parcel in parcels {
-        put(rt, &mut out, parcel);
+        if let Some(piece) = piece(parcel) {
+            put(rt, &mut out, piece);
+        }
     }
     out
 }
 
 // Tries until there is one.
-fn take<R: Wait>(rt: &R, into: &mut WireIn) -> Parcel
+fn take<R: Wait>(rt: &R, into: &mut WireIn) -> Piece
     ensures { into.new.wire ≡ into.old.wire }
 {
     for _ in rt.forever() {
-        if let Some(parcel) = into.take(rt) {
-            return parcel;
+        if let Some(piece) = into.take(rt) {
+            return piece;
         }
         yield_now();
     }
     unreachable!()
 }
 
-// Whether so many parcels come in their order, with these bytes each.
+// Whether so many pieces come in their order, with these bytes each.
 fn take_all<R: Wait>(rt: &R, mut into: WireIn, count: u64, bytes: &[u8]) -> (WireIn, bool)
     ensures { result.0.wire ≡ into.wire }
 {
     let mut in_order = true;
     for seq in 0..count {
-        let parcel = take(rt, &mut into);
-        in_order &= parcel.seq == seq && parcel.bytes.as_slice() == bytes;
+        let piece = take(rt, &mut into);
+        in_order &= piece.stamp() == seq.wrapping_add(1) && piece.as_slice() == bytes;
     }
     (into, in_order)
 }
 
-/// What comes of it where parcels pass.
+/// What comes of it where pieces pass.
 #[derive(Clone, Copy)]
 pub struct Passed {
     /// Whether they come in their order, and with their bytes.
@@ -97,7 +121,7 @@ pub struct Passed {
     pub left: u64,
 }
 
-/// Parcels that have these bytes each pass over a wire from one thread to another.
+/// Parcels that have these bytes each pass over a wire from one thread to another, each as one piece.
 pub fn pass<R: Machine>(
     rt: &R,
     alloc: Global,
@@ -109,6 +133,7 @@ pub fn pass<R: Machine>(
     let (out, (into, in_order)) = join(
         rt,
         move ||
+            requires { out.pieces ≡ [] }
             ensures { result.wire ≡ out.wire }
         { put_all(rt, out, parcels) },
         move ||
@@ -121,40 +146,49 @@ pub fn pass<R: Machine>(
     })
 }
 
-/// Parcels pass from thread to thread in their order, and none is left.
+/// Pieces pass from thread to thread in their order, and none is left.
 pub fn two_threads<R: Machine>(rt: &R, alloc: Global) -> Result<(), Wrong> {
-    let piece = tick(alloc)?;
-    let parcels = parcels(alloc, &piece, COUNT)?;
-    let passed = pass(rt, alloc, parcels, piece.as_slice())?;
+    let bytes = tick(alloc)?;
+    let parcels = parcels(alloc, &bytes, COUNT)?;
+    let passed = pass(rt, alloc, parcels, bytes.as_slice())?;
     check(1, passed.in_order)?;
     check(2, passed.left == 0)
 }
 
-// The place in its direction of the parcel that came back.
-fn back(put: Result<(), Parcel>) -> Option<u64> {
-    match put {
-        Ok(()) => None,
-        Err(parcel) => Some(parcel.seq),
+// Puts the piece of a parcel. The stamp of one that came back.
+fn try_put<R: Wait>(rt: &R, out: &mut WireOut, parcel: Parcel) -> Option<u64>
+    requires { AreItems out.old.pieces }
+    ensures { AreItems out.new.pieces }
+{
+    match piece(parcel) {
+        Some(piece) => match out.put(rt, piece) {
+            Ok(()) => None,
+            Err(back) => Some(back.stamp()),
+        },
+        None => Some(0),
     }
 }
 
-// The place in its direction of the parcel that was taken.
-fn seq(taken: Option<Parcel>) -> Option<u64> {
+// The stamp of the piece that was taken.
+fn stamp(taken: Option<Piece>) -> Option<u64> {
     match taken {
-        Some(parcel) => Some(parcel.seq),
+        Some(piece) => Some(piece.stamp()),
         None => None,
     }
 }
 
-// Whether so many parcels are put that the wire is full.
+// Whether so many pieces are put that the wire is full.
 fn fills<R: Wait>(
     rt: &R,
     out: &mut WireOut,
     trunk: &TrunkId,
-    piece: &Piece,
-) -> Result<bool, AllocError> {
+    bytes: &Spelling,
+) -> Result<bool, AllocError>
+    requires { AreItems out.old.pieces }
+    ensures { AreItems out.new.pieces }
+{
     for seq in 0..CAPACITY as u64 {
-        if back(out.put(rt, parcel(trunk, seq, piece)?)).is_some() {
+        if try_put(rt, out, parcel(trunk, seq, bytes)?).is_some() {
             return Ok(false);
         }
     }
@@ -166,19 +200,21 @@ fn overfill<R: Wait>(
     out: &mut WireOut,
     into: &mut WireIn,
     trunk: &TrunkId,
-    piece: &Piece,
-) -> Result<(), Wrong> {
-    check(1, fills(rt, out, trunk, piece)?)?;
-    let more = parcel(trunk, 64, piece)?;
-    check(2, back(out.put(rt, more)) == Some(64))?;
-    check(3, seq(into.take(rt)) == Some(0))?;
-    let more = parcel(trunk, 64, piece)?;
-    check(4, back(out.put(rt, more)).is_none())
+    bytes: &Spelling,
+) -> Result<(), Wrong>
+    requires { AreItems out.old.pieces }
+{
+    check(1, fills(rt, out, trunk, bytes)?)?;
+    let more = parcel(trunk, 64, bytes)?;
+    check(2, try_put(rt, out, more) == Some(65))?;
+    check(3, stamp(into.take(rt)) == Some(1))?;
+    let more = parcel(trunk, 64, bytes)?;
+    check(4, try_put(rt, out, more).is_none())
 }
 
-/// A full wire gives a parcel back, and takes it when another was taken.
+/// A full wire gives a piece back, and takes it when another was taken.
 pub fn full_wire<R: Machine>(rt: &R, alloc: Global) -> Result<(), Wrong> {
-    let piece = tick(alloc)?;
+    let bytes = tick(alloc)?;
     let (dialer, acceptor) = connect(alloc, trunk(alloc)?)?;
     let Offer { mut out, .. } = dialer;
     let Offer {
@@ -186,7 +222,7 @@ pub fn full_wire<R: Machine>(rt: &R, alloc: Global) -> Result<(), Wrong> {
         trunk,
         ..
     } = acceptor;
-    let filled = overfill(rt, &mut out, &mut into, &trunk, &piece);
+    let filled = overfill(rt, &mut out, &mut into, &trunk, &bytes);
     drop(out);
     drop(into);
     drop(trunk);
@@ -244,14 +280,14 @@ fn next(port: &Port) -> Option<u64> {
 fn holds<R: Wait>(
     rt: &R,
     trunk: &TrunkId,
-    piece: &Piece,
+    bytes: &Spelling,
     from: &mut Port,
     to: &mut Port,
     step: Step,
 ) -> Result<bool, AllocError> {
     match step {
         Step::Send(seq) => {
-            from.send(parcel(trunk, seq, piece)?)?;
+            from.send(parcel(trunk, seq, bytes)?)?;
             Ok(true)
         }
         Step::Flush(does) => Ok(from.flush(rt)? == does),
@@ -273,11 +309,11 @@ fn step_all<R: Wait>(
     from: &mut Port,
     to: &mut Port,
 ) -> Result<(), Wrong> {
-    let piece = tick(alloc)?;
+    let bytes = tick(alloc)?;
     let mut number = 0u32;
     for step in STEPS {
         number = number.saturating_add(1);
-        if !holds(rt, trunk, &piece, from, to, *step)? {
+        if !holds(rt, trunk, &bytes, from, to, *step)? {
             return Err(Wrong::Row(number));
         }
     }

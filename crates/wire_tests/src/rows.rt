@@ -15,6 +15,8 @@ pub enum Ask {
     Spawn,
     /// A process sends another the number 7.
     Send(Process, Process),
+    /// A process sends another a binary of so many bytes.
+    SendBinary(Process, Process, usize),
     Link(Process, Process),
     /// The node dials the one at this place.
     Dial(usize),
@@ -50,10 +52,16 @@ pub enum Row {
     Hands(usize, usize, bool),
     /// All that waits passes between two books, in turns.
     Settles(usize, usize),
-    /// A book puts so many parcels on its wire.
+    /// A book puts pieces of so many bytes at most from now on.
+    SetsPiece(usize, usize),
+    /// A book puts so many pieces on its wire.
     Flushes(usize, u64),
-    /// Whether a book takes a parcel of its wire.
+    /// Whether a book takes a piece off its wire.
     Fetches(usize, bool),
+    /// A book takes so many pieces off its wire, and nothing is ready after any of them.
+    Gathers(usize, u32),
+    /// Whether something has come to a book that its node may take.
+    IsReady(usize, bool),
     /// So many parcels a book has put on its wire.
     HasPut(usize, usize),
     /// So many parcels a book has taken of its wire.

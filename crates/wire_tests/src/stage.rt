@@ -10,11 +10,11 @@ use node_book::{Book, Left};
 use node_lock::{Asked, Seat, call};
 use std::alloc::Global;
 use std::sync::Wait;
-use wire_core::{Offer, Parcel, Piece};
+use wire_core::{LONGEST, Offer, Parcel, Spelling};
 use world_events::NodeEvent;
 
 /// More than all that can wait.
-const ENOUGH: u32 = 1000;
+const ENOUGH: u32 = 2000;
 
 /// The challenge of each message that comes.
 const WORD: u32 = 5;
@@ -235,7 +235,35 @@ impl Stage {
         }
     }
 
-    // What waits is put, and the first of it comes.
+    // A book puts pieces of so many bytes at most from now on, where a piece may have so many.
+    fn sets_piece(&mut self, place: usize, greatest: usize) -> bool {
+        match self.books.get_mut(place) {
+            Some(book) => {
+                if greatest == 0 || greatest > LONGEST {
+                    return false;
+                }
+                book.set_piece(greatest);
+                true
+            }
+            None => false,
+        }
+    }
+
+    fn is_ready(&self, place: usize) -> Result<bool, Refusal> {
+        Ok(self.book(place)?.ready(&self.trunk))
+    }
+
+    // Whether a book takes so many pieces, and nothing is ready after any of them.
+    fn gathers<R: Wait>(&mut self, rt: &R, place: usize, times: u32) -> Result<bool, Refusal> {
+        for _ in 0..times {
+            if !self.fetches(rt, place)? || self.is_ready(place)? {
+                return Ok(false);
+            }
+        }
+        Ok(true)
+    }
+
+    // What waits is put, a piece of it is taken, and what is whole comes. Whether anything moves.
     fn passes<R: Wait>(
         &mut self,
         rt: &R,
@@ -243,9 +271,10 @@ impl Stage {
         from: usize,
         to: usize,
     ) -> Result<bool, Refusal> {
-        self.flushes(rt, alloc, from)?;
-        self.fetches(rt, to)?;
-        self.takes(alloc, to)
+        let has_put = self.flushes(rt, alloc, from)? > 0;
+        let has_taken = self.fetches(rt, to)?;
+        let has_come = self.takes(alloc, to)?;
+        Ok(has_put || has_taken || has_come)
     }
 
     // Whether all that waits passes, in both directions.
@@ -265,7 +294,7 @@ impl Stage {
     }
 
     /// A copy of what a book has put on its wire last.
-    pub fn last_put(&self, place: usize) -> Result<Piece, Refusal> {
+    pub fn last_put(&self, place: usize) -> Result<Spelling, Refusal> {
         match put(self.book(place)?).last() {
             Some(parcel) => Ok(parcel.bytes.clone()?),
             None => Err(Refusal::NothingThere),
@@ -323,6 +352,7 @@ impl Stage {
             Row::HasTaken(book, count) => self.taken(at(of, book))? == count,
             Row::HasEntries(book, count) => self.book(at(of, book))?.entries().len() == count,
             Row::HasReceipts(seat, count) => self.receipts(at(of, seat))? == count,
+            Row::IsReady(book, does) => self.is_ready(at(of, book))? == does,
             Row::IsUp(book, does) => self.book(at(of, book))?.node().is_up() == does,
             Row::IsConnected(book, peer, does) => self.is_connected(at(of, book), at(of, peer))?
                 == does,
@@ -348,6 +378,8 @@ impl Stage {
             Row::Repeats(book, ask, times) => self.repeats(alloc, at(of, book), ask, times)?,
             Row::Hands(from, to, does) => self.hands(alloc, at(of, from), at(of, to)) == does,
             Row::Settles(a, b) => self.settles(rt, alloc, at(of, a), at(of, b))?,
+            Row::SetsPiece(book, greatest) => self.sets_piece(at(of, book), greatest),
+            Row::Gathers(book, times) => self.gathers(rt, at(of, book), times)?,
             Row::Flushes(book, count) => self.flushes(rt, alloc, at(of, book))? == count,
             Row::Fetches(book, does) => self.fetches(rt, at(of, book))? == does,
             _ => self.shows(alloc, of, row)?,

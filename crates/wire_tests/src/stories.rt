@@ -1,8 +1,8 @@
 //! What is asked of books, row by row.
-use crate::rows::Ask::{Dial, Link, Send, Spawn, Start, Stop};
+use crate::rows::Ask::{Dial, Link, Send, SendBinary, Spawn, Start, Stop};
 use crate::rows::Row::{
-    Asks, Fetches, Flushes, Hands, Has, HasEntries, HasPut, HasReceipts, HasTaken, IsConnected,
-    IsUp, Merges, Repeats, Settles,
+    Asks, Fetches, Flushes, Gathers, Hands, Has, HasEntries, HasPut, HasReceipts, HasTaken,
+    IsConnected, IsReady, IsUp, Merges, Repeats, SetsPiece, Settles,
 };
 use crate::rows::Told::{Done, NotCalled, Refused};
 use crate::rows::{Kept, Named, Part, Process, Row, Story};
@@ -142,40 +142,114 @@ const SEND_LAST: Part = Part {
 };
 
 /// Stories that take long.
-pub const LONG: &[Story] = &[Story {
-    name: "a wire takes 64, and the rest waits",
-    books: &[A, B],
-    parts: &[
-        CONNECT,
-        Part {
-            of: &[],
-            rows: &[
-                Repeats(0, Send(P, Q), 100),
-                HasEntries(0, 105),
-                HasPut(0, 2),
-                HasTaken(1, 2),
-                Flushes(0, 64),
-                HasPut(0, 66),
-                Flushes(0, 0),
-                Fetches(1, true),
-                Fetches(1, false),
-                Flushes(0, 1),
-                Flushes(0, 0),
-                HasPut(0, 67),
-                HasTaken(1, 3),
-                HasEntries(1, 3),
-                Settles(0, 1),
-                HasPut(0, 102),
-                HasTaken(1, 102),
-                HasEntries(1, 103),
-                Flushes(0, 0),
-            ],
-        },
-    ],
-}];
+pub const LONG: &[Story] = &[
+    Story {
+        name: "a wire takes 64, and the rest waits",
+        books: &[A, B],
+        parts: &[
+            CONNECT,
+            Part {
+                of: &[],
+                rows: &[
+                    Repeats(0, Send(P, Q), 100),
+                    HasEntries(0, 105),
+                    HasPut(0, 2),
+                    HasTaken(1, 2),
+                    Flushes(0, 64),
+                    HasPut(0, 66),
+                    Flushes(0, 0),
+                    Fetches(1, true),
+                    Fetches(1, false),
+                    Flushes(0, 1),
+                    Flushes(0, 0),
+                    HasPut(0, 67),
+                    HasTaken(1, 3),
+                    HasEntries(1, 3),
+                    Settles(0, 1),
+                    HasPut(0, 102),
+                    HasTaken(1, 102),
+                    HasEntries(1, 103),
+                    Flushes(0, 0),
+                ],
+            },
+        ],
+    },
+    Story {
+        name: "a link in pieces of one byte",
+        books: &[A, B],
+        parts: &[
+            CONNECT,
+            Part {
+                of: &[],
+                rows: &[
+                    SetsPiece(0, 1),
+                    Asks(0, 0, Link(P, Q), Done(0, 5, 8)),
+                    Flushes(0, 46),
+                    Flushes(0, 0),
+                    HasPut(0, 3),
+                    Gathers(1, 45),
+                    HasTaken(1, 2),
+                    Fetches(1, true),
+                    IsReady(1, true),
+                    HasTaken(1, 3),
+                    Fetches(1, false),
+                    Settles(0, 1),
+                    Has(1, Q, P, Active),
+                ],
+            },
+        ],
+    },
+    Story {
+        name: "a message in three pieces",
+        books: &[A, B],
+        parts: &[
+            CONNECT,
+            Part {
+                of: &[],
+                rows: &[
+                    Asks(0, 0, SendBinary(P, Q, 1000), Done(0, 5, 8)),
+                    Flushes(0, 3),
+                    HasPut(0, 3),
+                    Gathers(1, 2),
+                    Fetches(1, true),
+                    IsReady(1, true),
+                    Settles(0, 1),
+                    HasEntries(1, 4),
+                    Merges(
+                        TWO,
+                        (0, 2),
+                        (0, 2),
+                        "0:1 1:1 0:2 1:3 0:4 0:5 1:6 0:7 0:8 1:9 ",
+                    ),
+                ],
+            },
+        ],
+    },
+];
 
 /// Stories that don't.
 pub const SHORT: &[Story] = &[
+    Story {
+        name: "a link in short pieces",
+        books: &[A, B],
+        parts: &[
+            Part {
+                of: &[],
+                rows: &[SetsPiece(0, 7), SetsPiece(1, 5)],
+            },
+            CONNECT,
+            Part {
+                of: &[],
+                rows: &[
+                    Asks(0, 0, Link(P, Q), Done(0, 5, 8)),
+                    Settles(0, 1),
+                    Has(1, Q, P, Active),
+                    HasPut(0, 3),
+                    HasTaken(1, 3),
+                ],
+            },
+        ],
+    },
     Story {
         name: "a link, and the books merge",
         books: &[A, B],

@@ -1,4 +1,5 @@
 //! Stories are told, and what of them doesn't hold.
+use crate::cutting::{cut_frames, each_length};
 use crate::passing::{full_wire, two_ports, two_threads};
 use crate::rows::{Kept, Story};
 use crate::stage::{Stage, open};
@@ -94,8 +95,14 @@ pub fn tell_all<R: Machine>(rt: &R, alloc: Global, stories: &[Story]) -> Result<
 
 /// The same of the stories of wires alone.
 pub fn tell_wires<R: Machine>(rt: &R, alloc: Global) -> Result<bool> {
-    let threads = put(rt, "two threads pass parcels", two_threads(rt, alloc))?;
-    let full = put(rt, "a full wire gives a parcel back", full_wire(rt, alloc))?;
+    let threads = put(rt, "two threads pass pieces", two_threads(rt, alloc))?;
+    let full = put(rt, "a full wire gives a piece back", full_wire(rt, alloc))?;
     let ports = put(rt, "two ports pass parcels", two_ports(rt, alloc))?;
-    Ok(threads && full && ports)
+    let cuts = put(rt, "frames are cut into pieces", cut_frames(rt, alloc))?;
+    let lengths = put(
+        rt,
+        "a link in pieces of each length",
+        each_length(rt, alloc),
+    )?;
+    Ok(threads && full && ports && cuts && lengths)
 }
