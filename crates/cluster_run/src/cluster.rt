@@ -375,11 +375,7 @@ impl<G: Gate + Send + Sync + Drop + 'static> Cluster<G> {
 }
 
 // The books, out of their locks, up to the first that isn't there.
-fn taken<R: Wait, G>(
-    rt: &R,
-    alloc: Global,
-    shared: &Shared<G>,
-) -> Result<Vec<Book>, AllocError> {
+fn taken<R: Wait, G>(rt: &R, alloc: Global, shared: &Shared<G>) -> Result<Vec<Book>, AllocError> {
     let mut books = Vec::new(alloc);
     for desk in &shared.desks {
         let Some(book) = desk.lock.take(rt) else {
