@@ -1,5 +1,5 @@
 -- What a call adds, or that it changes nothing.
-use Rattle.std.proofs.Common.{◌≡◌, ℕ, ◌++◌, ◌∷◌, Bool, true, false, Option, Some, List, [], inl, inr, length, slice_get, refl, sym, ap, subst, ◌∙◌}
+use Rattle.std.proofs.Common.{◌≡◌, ℕ, ◌++◌, ◌∷◌, Bool, true, false, Some, List, [], inl, inr, length, slice_get, refl, sym, ap, subst, ◌∙◌}
 use Rattle.std.specs.Prelude.{IsTrue, ◌↔◌}
 use Rattle.erl_term.specs.declared.refusal.Refusal.{Refusal}
 use Rattle.node_book.specs.Books.{Applies, IsUnapplied}
@@ -9,7 +9,7 @@ use Rattle.node_history.specs.Telling.{Answers, IsTold}
 use Rattle.node_history.specs.declared.entry.Entry.{Entry}
 use Rattle.node_history.specs.declared.entry.Told.{Told}
 use Rattle.node_lock.specs.Acts.{event_of}
-use Rattle.node_lock.specs.Calling.{Asks, Calls, IsAtHome, IsUncalled, stamp_at, stamp_in}
+use Rattle.node_lock.specs.Calling.{Calls, IsAtHome, IsUncalled, stamp_at, stamp_in}
 use Rattle.node_lock.specs.Seats.{StandsAs}
 use Rattle.node_lock.specs.declared.act.Act.{Act}
 use Rattle.node_lock.specs.declared.seat.Asked.{Asked}

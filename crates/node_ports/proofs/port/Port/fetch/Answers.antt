@@ -1,4 +1,4 @@
-use Rattle.std.proofs.Common.{◌≤◌, ◌++◌, ◌∙◌, List, length, true≢false, sym, ap, inr, subst, drop}
+use Rattle.std.proofs.Common.{◌≤◌, ◌++◌, ◌∙◌, List, length, true≢false, sym, inr, subst, drop}
 use Rattle.node_ports.specs.Fetching.{IsWhole}
 use Rattle.node_ports.proofs.Streaming.{handled_more, part_taken, spells, whole_taken}
 use Rattle.wire_core.specs.Spellings.{SpellsItem}
