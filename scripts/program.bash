@@ -27,6 +27,13 @@ lines_of() {
     sed 's/#.*//' "$top/crates.txt" | awk -F: -v names="$names" '{ split($1, head, " "); if (head[1] != "" && index(names, " " head[1] " ")) { $1 = $1; print } }' | tr -s ' ' ' ' | LC_ALL=C sort
 }
 
+# The crates of the program in the order of their proofs: each behind those that it uses, the program last.
+crates_in_order() {
+    local names
+    mapfile -t names < <(crates_of_program)
+    lines_of "${names[@]}" | awk -v names=" ${names[*]} " '{ sub(":", "", $1); for (i = 2; i <= NF; i++) if (index(names, " " $i " ")) print $i, $1 }' | tsort
+}
+
 # The checksum of the sources, definitions and proofs of those crates, and of their lines of crates.txt. Of
 # whatever else there is in the repository nothing counts.
 sum_of_sources() {
