@@ -57,3 +57,15 @@ IsFrontIn state.Gone bytes front = Unit {0}
 abbrev pub IsFront : Option TrunkSide → List ℕ → Front → Type 0
 IsFront None bytes front = IsMessageFront role.Acceptor bytes front
 IsFront (Some side) bytes front = IsFrontIn side.state bytes front
+
+-- ---- whether the front is known: an item is whole, or what stands there is none, or nothing is read any more. More bytes
+-- change nothing of it
+
+abbrev pub IsWholeIn : State → List ℕ → Type 0
+IsWholeIn state.Losing bytes = Unit {0}
+IsWholeIn state.Gone bytes = Unit {0}
+IsWholeIn st bytes = ¬ IsFrontIn st bytes Begins
+
+abbrev pub IsWhole : Option TrunkSide → List ℕ → Type 0
+IsWhole None bytes = ¬ IsFront None bytes Begins
+IsWhole (Some side) bytes = IsWholeIn side.state bytes

@@ -4,5 +4,7 @@
 mod arriving;
 mod good;
 mod opening;
+mod whole;
 
 pub use arriving::arrive;
+pub use whole::is_whole;

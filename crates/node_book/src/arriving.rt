@@ -9,7 +9,7 @@ use crate::outlet::Outlet;
 use erl_names::TrunkId;
 use erl_term::Refusal;
 use node_core::Node;
-use node_history::{Entry, History, is_read};
+use node_history::{Entry, History, is_read, what_is_read_is_whole};
 use std::alloc::Global;
 use wire_core::Parcel;
 
@@ -30,12 +30,16 @@ fn is_accepted(entry: Option<&Entry>) -> bool
     }
 }
 
-/// Whether a parcel is there, and the node reads it.
+/// Whether a parcel is there, whole, and the node reads it.
 pub(crate) fn is_ready(node: &Node, trunk: &TrunkId, parcel: Option<&Parcel>) -> bool
     ensures { result ≡ is_ready (model_of node.now) trunk.now (option_copied parcel.entry) }
 {
     match parcel {
-        Some(parcel) => is_read(node, trunk, parcel.bytes.as_slice()),
+        Some(parcel) => {
+            let bytes = parcel.bytes.as_slice();
+            what_is_read_is_whole(bytes);
+            is_read(node, trunk, bytes) && node.whole(trunk, bytes)
+        }
         None => false,
     }
 }

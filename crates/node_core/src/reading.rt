@@ -1,5 +1,5 @@
 //! A new node, and what a node says of itself.
-ghost use Rattle.std.specs.Prelude.{◌≡◌, IfOk, is_some};
+ghost use Rattle.std.specs.Prelude.{◌≡◌, ◌↔◌, IfOk, IsTrue, is_some};
 ghost use Rattle.std.specs.FinMap as fm;
 ghost use Rattle.std.specs.Option.{option_copied, option_map};
 ghost use Rattle.dist_model.specs.Losses.{any_side};
@@ -8,6 +8,7 @@ ghost use Rattle.dist_model.specs.Quiet.{nothing_between};
 ghost use Rattle.dist_model.specs.Runs.{new_node};
 ghost use Rattle.dist_model.specs.Sides.{holds, is_losing};
 ghost use Rattle.dist_model.specs.World.{first_of};
+ghost use Rattle.node_arrivals.specs.Fronts.{IsWhole};
 ghost use Rattle.node_core.specs.Model.{model_of};
 ghost use Rattle.node_sides.specs.Passing.{passes};
 ghost use Rattle.node_sides.specs.Standings.{side_of};
@@ -19,6 +20,7 @@ use erl_handshake::Cookie;
 use erl_names::{NodeName, TrunkId};
 use erl_term::{Atom, Pid};
 use link_core::End;
+use node_arrivals::is_whole;
 use node_plans::Node as State;
 use node_sides::Which;
 use node_sweeps::Sweeping;
@@ -104,6 +106,17 @@ impl Node {
         ensures { option_map side_of (option_copied result) ≡ fm.get (model_of self.now).sides trunk.now }
     {
         self.state.side(trunk)
+    }
+
+    /// Whether bytes that come on a connection begin with a whole item of the node's side of it, or with
+    /// what is none, so that [`Node::arrive`] asks for no more of them. A node without a side reads as
+    /// the one that is dialed, and one whose side is lost or gone reads nothing, so it asks for none.
+    /// Takes no memory. (ERTS User's Guide, Distribution Protocol, Distribution Handshake and Protocol
+    /// between Connected Nodes.)
+    pub fn whole(&self, trunk: &TrunkId, bytes: &[u8]) -> bool
+        ensures { IsTrue result ↔ IsWhole (fm.get (model_of self.now).sides trunk.now) bytes.now }
+    {
+        is_whole(&self.state, trunk, bytes)
     }
 
     /// The connection that is up to a peer.

@@ -1,5 +1,5 @@
 -- The bytes of an item tell whether it is read.
-use Rattle.std.proofs.Common.{◌≡◌, Option, None, Some, Bool, true, false, not, ◌&&◌, refl, sym, ap, ◌∙◌}
+use Rattle.std.proofs.Common.{◌≡◌, ℕ, List, Option, None, Some, Bool, true, false, not, ◌&&◌, refl, sym, ap, subst, ◌∙◌}
 use Rattle.std.specs.FinMap as fm
 use Rattle.dist_model.specs.Due.{is_handshake, shakes_for}
 use Rattle.dist_model.specs.Items.{Handshake, Item, Signalled, Tick, kind_of}
@@ -13,8 +13,10 @@ use Rattle.erl_names.specs.declared.trunk.TrunkId.{TrunkId}
 use Rattle.item_kinds.proofs.Told.{kind_is_told}
 use Rattle.item_kinds.specs.Kinds.{kind_in}
 use Rattle.node_core.specs.Arrived.{is_undialed}
-use Rattle.node_history.specs.Kinds.{comes_here, is_for_acceptor, is_for_dialer, is_message, reads_kind, reads_kind_at}
+use Rattle.node_history.specs.Kinds.{ReadIsWhole, comes_here, is_for_acceptor, is_for_dialer, is_message, reads_kind, reads_kind_at}
 use Rattle.node_plans.specs.Frames.{IsSpelled, bytes_of}
+use Rattle.readers.specs.Reading.{AreBytes}
+use Rattle.world_events.proofs.Fronts.{FrameAgain, OneFrame, whole_at}
 use Rattle.world_events.specs.Coming.{CanCome, reads, reads_at}
 
 abbrev IsNoMessage : Option Kind → Type 0
@@ -89,3 +91,7 @@ can_come m trunk item h c =
       read = by_kind side item ∙ sym (ap (λ kind. reads_kind_at side kind) (kind_is_told item h)) ∙ here.1;
       theirs = here.0;
     }
+
+pub read_is_whole : OneFrame → FrameAgain → (bytes : List ℕ) → AreBytes bytes → ReadIsWhole bytes
+read_is_whole one again bytes are m trunk item s b h =
+    whole_at one again bytes are (fm.get m.sides trunk) item (can_come m trunk item s (subst (λ bs. comes_here m trunk bs ≡ true) b h)).read s b

@@ -1,15 +1,18 @@
 -- Whether what is sent as some bytes is read where it comes, told by its kind: a side that is up reads signals and ticks, any other
 -- messages of the handshake that are written to its role, and a node without a side those for an acceptor.
 -- (ERTS User's Guide, Distribution Protocol, Distribution Handshake and Protocol between Connected Nodes.)
-use Rattle.std.specs.Prelude.{ℕ, Option, None, Some, Bool, true, false, not, List, ◌&&◌}
+use Rattle.std.specs.Prelude.{◌≡◌, ℕ, Option, None, Some, Bool, true, false, not, List, ◌&&◌}
 use Rattle.std.specs.FinMap as fm
+use Rattle.dist_model.specs.Items.{Item}
 use Rattle.dist_model.specs.Node.{Node}
 use Rattle.dist_model.specs.Sides as state
 use Rattle.dist_model.specs.Sides.{State, TrunkSide}
 use Rattle.dist_model.specs.declared.report.Kind.{Kind}
 use Rattle.erl_names.specs.declared.trunk.TrunkId.{TrunkId}
 use Rattle.item_kinds.specs.Kinds.{kind_in}
+use Rattle.node_arrivals.specs.Fronts.{IsWhole}
 use Rattle.node_core.specs.Arrived.{is_undialed}
+use Rattle.node_plans.specs.Frames.{IsSpelled, bytes_of}
 
 abbrev pub is_message : Option Kind → Bool
 is_message (Some Kind.SendName) = true
@@ -50,3 +53,8 @@ reads_kind_at (Some side) kind = reads_kind side.state kind
 -- nothing comes of a trunk that the node itself would have dialed, and has no side of
 abbrev pub comes_here : Node → TrunkId → List ℕ → Bool
 comes_here m trunk bytes = let side = fm.get m.sides trunk in not (is_undialed m trunk side) && reads_kind_at side (kind_in bytes)
+
+-- what is sent as these bytes and read is whole: the node asks for no more of them
+abbrev pub ReadIsWhole : List ℕ → Type 0
+ReadIsWhole bytes = (m : Node) (trunk : TrunkId) (item : Item) → IsSpelled item → bytes ≡ bytes_of item → comes_here m trunk bytes ≡ true
+    → IsWhole (fm.get m.sides trunk) bytes

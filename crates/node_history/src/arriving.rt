@@ -20,7 +20,8 @@ use node_core::{Arrived, Node};
 use std::alloc::Global;
 use world_events::NodeEvent;
 
-fn are_bytes(bytes: &[u8])
+/// Does nothing.
+pub(crate) fn are_bytes(bytes: &[u8])
     ensures { AreBytes bytes.now }
 {}
 

@@ -2,11 +2,12 @@
 ghost use Rattle.std.specs.Prelude.{◌≡◌, not};
 ghost use Rattle.std.specs.Option.{option_copied, option_map};
 ghost use Rattle.node_core.specs.Model.{model_of};
-ghost use Rattle.node_history.specs.Kinds.{comes_here, is_for_acceptor, is_for_dialer, is_message, reads_kind, reads_kind_at};
+ghost use Rattle.node_history.specs.Kinds.{ReadIsWhole, comes_here, is_for_acceptor, is_for_dialer, is_message, reads_kind, reads_kind_at};
 ghost use Rattle.conn_core.specs.declared.standing.Standing.TheVariants as standing;
 ghost use Rattle.node_core.specs.Arrived.{is_undialed};
 ghost use Rattle.node_sides.specs.Standings.{side_of, state_of};
 
+use crate::arriving::are_bytes;
 use conn_core::{Side, Standing};
 use dist_model::Kind;
 use erl_handshake::{AcceptorState, DialerState};
@@ -120,4 +121,13 @@ pub fn is_read(node: &Node, trunk: &TrunkId, bytes: &[u8]) -> bool
 {
     let side = node.side(trunk);
     is_dialed(node, trunk, side) && is_read_at(side, kind_in(bytes))
+}
+
+/// Does nothing. What is sent and read here is whole ([`Node::whole`]): the node asks for no more bytes.
+pub fn what_is_read_is_whole(bytes: &[u8])
+    ensures { ReadIsWhole bytes.now }
+{
+    erl_control::one_answer();
+    erl_control::read_again();
+    are_bytes(bytes);
 }

@@ -18,4 +18,4 @@ pub use acts::is_act;
 pub use copying::copied_event;
 pub use entry::{Answered, Entry, Told};
 pub use history::History;
-pub use kinds::is_read;
+pub use kinds::{is_read, what_is_read_is_whole};

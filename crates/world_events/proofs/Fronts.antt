@@ -26,7 +26,7 @@ use Rattle.erl_handshake.specs.declared.message.ShakeMsg.{ShakeMsg}
 use Rattle.erl_names.specs.declared.trunk.TrunkId.{TrunkId}
 use Rattle.erl_term.specs.declared.refusal.Refusal.{Refusal}
 use Rattle.node_arrivals.specs.Coming.{comes, item_of}
-use Rattle.node_arrivals.specs.Fronts.{Begins, Front, Holds, IsFrameFront, IsFront, IsFrontIn, IsMessageFront, Spoils}
+use Rattle.node_arrivals.specs.Fronts.{Begins, Front, Holds, IsFrameFront, IsFront, IsFrontIn, IsMessageFront, IsWhole, IsWholeIn, Spoils}
 use Rattle.node_plans.specs.Frames.{IsSpelled, bytes_of}
 use Rattle.readers.specs.Reading.{AreBytes}
 use Rattle.world_events.specs.Coming.{reads, reads_at}
@@ -180,6 +180,25 @@ module _ (one : OneFrame) (again : FrameAgain) (bytes : List ℕ) (are : AreByte
   shake_front dials (Handshake message) front r s b k = message_front dials message bytes front r s b k
   shake_front dials (Signalled signal) front r s b k = cc
   shake_front dials Tick front r s b k = cc
+
+  -- what was sent is whole where it is read
+  not_begun : (item : Item) → ((n : ℕ) × (Begins ≡ Holds item n)) → ⊥
+  not_begun item h = let no : Begins ≡ Holds item h.0 = h.1 in cc
+
+  whole_in : (item : Item) (st : State) → reads st item ≡ true → IsSpelled item → bytes ≡ bytes_of item → IsWholeIn st bytes
+  whole_in item (state.AwaitsStatus w) r s b = λ k. not_begun item (shake_front true item Begins r s b k)
+  whole_in item (state.AwaitsChallenge w) r s b = λ k. not_begun item (shake_front true item Begins r s b k)
+  whole_in item (state.AwaitsAck w) r s b = λ k. not_begun item (shake_front true item Begins r s b k)
+  whole_in item (state.Asked w) r s b = λ k. not_begun item (shake_front false item Begins r s b k)
+  whole_in item (state.Parked w) r s b = λ k. not_begun item (shake_front false item Begins r s b k)
+  whole_in item (state.Accepting w) r s b = λ k. not_begun item (shake_front false item Begins r s b k)
+  whole_in item state.Up r s b = λ k. not_begun item (up_front item Begins r s b k)
+  whole_in item state.Losing r s b = tt
+  whole_in item state.Gone r s b = tt
+
+  pub whole_at : (o : Option TrunkSide) (item : Item) → reads_at o item ≡ true → IsSpelled item → bytes ≡ bytes_of item → IsWhole o bytes
+  whole_at None item r s b = λ k. not_begun item (shake_front false item Begins r s b k)
+  whole_at (Some side) item r s b = whole_in item side.state r s b
 
   module _ (m : Node) (trunk : TrunkId) (word : ℕ) where
     -- whatever comes to a side that is over is refused
