@@ -11,6 +11,11 @@ abbrev pub behind : Option Arrival → List ℕ → List ℕ
 behind None bytes = bytes
 behind (Some arrival) bytes = drop arrival.len bytes
 
+-- the side that took it
+abbrev pub standing_as : Option Arrival → Side → Side
+standing_as None side = side
+standing_as (Some arrival) side = record side { standing = arrival.standing }
+
 -- one of them, and the side as it stood then, whatever had happened to it meanwhile
 pub record Taking : Type 0 where
   pub side : Side

@@ -1,12 +1,12 @@
 //! What the peer sends, in whatever pieces it comes.
 //!
-//! A stream may be cut anywhere, as TCP cuts it. [`Incoming`] keeps the bytes that a side hasn't taken
-//! yet. What a side takes of a stream that comes in pieces is what stands, whole, at the front of the
+//! A stream may be cut anywhere, as TCP cuts it. A [`StreamSide`] is a side that keeps the bytes that it
+//! hasn't taken yet. What a side takes of a stream that comes in pieces is what stands, whole, at the front of the
 //! stream, up to the first fault (`pieces_are_the_stream`).
 #![tactic(auto)]
 
-mod incoming;
 mod laws;
+mod stream_side;
 
-pub use incoming::Incoming;
 pub use laws::pieces_are_the_stream;
+pub use stream_side::StreamSide;

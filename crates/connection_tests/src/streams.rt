@@ -3,7 +3,7 @@ use crate::sides::{
     ACKNOWLEDGES, ALONE, CHALLENGE, CHALLENGES, Held, Kind, LINK, OK, REPLIES, SECRET, SEND_NAME,
     TICK, after, challenge, decided, dialing, fresh, kind_of,
 };
-use conn_pieces::{Incoming, pieces_are_the_stream};
+use conn_pieces::{StreamSide, pieces_are_the_stream};
 use erl_term::Refusal;
 use std::alloc::Global;
 use std::test::*;
@@ -65,16 +65,21 @@ fn decides(alloc: Global, held: &mut Held) -> Result<(), Refusal> {
     Ok(())
 }
 
-/// What is taken next.
-fn next(alloc: Global, held: &mut Held, incoming: &mut Incoming) -> Result<Kind, Refusal> {
+/// What the stream's side takes next. None where it doesn't stand as the answer says then. The node
+/// decides at the side that is held, and the other stands as this does.
+fn next(alloc: Global, held: &mut Held, stream: &mut StreamSide) -> Result<Option<Kind>, Refusal> {
     let mut sent = Vec::new(alloc);
-    let answer = incoming.next(alloc, &held.own, &held.side, CHALLENGE);
+    let answer = stream.next(alloc, &held.own, CHALLENGE);
     let kind = kind_of(&answer, &mut sent);
     let (standing, _) = after(held, &answer);
     drop(answer);
+    if stream.side.standing != standing {
+        return Ok(None);
+    }
     held.side.standing = standing;
     decides(alloc, held)?;
-    kind
+    stream.side.standing = held.side.standing;
+    Ok(Some(kind?))
 }
 
 /// How many of these are taken next, in their order, until more bytes are needed. None where another
@@ -82,11 +87,13 @@ fn next(alloc: Global, held: &mut Held, incoming: &mut Incoming) -> Result<Kind,
 fn takes(
     alloc: Global,
     held: &mut Held,
-    incoming: &mut Incoming,
+    stream: &mut StreamSide,
     kinds: &[Kind],
 ) -> Result<Option<usize>, Refusal> {
     for (number, kind) in kinds.iter().enumerate() {
-        let found = next(alloc, held, incoming)?;
+        let Some(found) = next(alloc, held, stream)? else {
+            return Ok(None);
+        };
         if found == Kind::Begun {
             return Ok(Some(number));
         }
@@ -101,11 +108,11 @@ fn takes(
 fn comes(
     alloc: Global,
     held: &mut Held,
+    stream: &mut StreamSide,
     bytes: &[u8],
     kinds: &[Kind],
     size: usize,
 ) -> Result<bool, Refusal> {
-    let mut incoming = Incoming::new(alloc);
     let mut taken = 0;
     let mut start = 0;
     for _ in 0..bytes.len() {
@@ -113,8 +120,8 @@ fn comes(
             break;
         }
         let end = bytes.len().min(start.saturating_add(size));
-        incoming.feed(&bytes[start..end])?;
-        match takes(alloc, held, &mut incoming, &kinds[taken..])? {
+        stream.feed(&bytes[start..end])?;
+        match takes(alloc, held, stream, &kinds[taken..])? {
             Some(count) => taken = taken.saturating_add(count),
             None => return Ok(false),
         }
@@ -123,16 +130,31 @@ fn comes(
     Ok(taken == kinds.len())
 }
 
+/// The side that a stream comes to, at its beginning.
+fn begun(alloc: Global, stream: &Stream) -> Result<Held, Refusal> {
+    if stream.dials {
+        dialing(alloc, 1, SECRET)
+    } else {
+        fresh(alloc, SECRET)
+    }
+}
+
 /// The first size of pieces in which a stream gives something else.
 fn wrong_size(alloc: Global, stream: &Stream) -> Result<Option<usize>, Refusal> {
     let bytes = joined(alloc, stream.parts)?;
     for size in 1..=bytes.len() {
-        let mut held = if stream.dials {
-            dialing(alloc, 1, SECRET)?
-        } else {
-            fresh(alloc, SECRET)?
-        };
-        let is_so = comes(alloc, &mut held, bytes.as_slice(), stream.kinds, size);
+        let mut held = begun(alloc, stream)?;
+        let Held { side, .. } = begun(alloc, stream)?;
+        let mut reading = StreamSide::new(alloc, side);
+        let is_so = comes(
+            alloc,
+            &mut held,
+            &mut reading,
+            bytes.as_slice(),
+            stream.kinds,
+            size,
+        );
+        drop(reading);
         drop(held);
         if !is_so? {
             return Ok(Some(size));
