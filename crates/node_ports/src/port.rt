@@ -38,6 +38,8 @@ pub struct Port {
     gathered: Vec<u8>,
     handled: usize,
     greatest: usize,
+    // A copy of the connection's name, for the parcel that is taken next.
+    spare: Option<TrunkId>,
 }
 
 impl Model for Port {
@@ -100,6 +102,19 @@ fn take_all(gathered: &mut Vec<u8>) -> Vec<u8>
     bytes
 }
 
+// The copy of a name that was to spare, or another.
+fn spare_or_copy(spare: &mut Option<TrunkId>, trunk: &TrunkId) -> Result<TrunkId, AllocError> {
+    match spare.take() {
+        Some(copy) => Ok(copy),
+        None => trunk.clone(),
+    }
+}
+
+// The copy is to spare.
+fn put_back(spare: &mut Option<TrunkId>, copy: TrunkId) {
+    *spare = Some(copy);
+}
+
 // To which node of a connection what comes from this one goes.
 fn away_from(peer: &NodeName, trunk: &TrunkId) -> Direction {
     if same_name(trunk.dialer.atom(), peer.atom()) {
@@ -127,6 +142,7 @@ impl Port {
             gathered: Vec::new(alloc),
             handled: 0,
             greatest: LONGEST,
+            spare: None,
         }
     }
 
@@ -269,9 +285,9 @@ impl Port {
         }
         self.taken.reserve(1)?;
         self.gathered.reserve(LONGEST)?;
-        let trunk = self.trunk.clone()?;
+        let trunk = spare_or_copy(&mut self.spare, &self.trunk)?;
         let Some(piece) = self.into.take(rt) else {
-            drop(trunk);
+            put_back(&mut self.spare, trunk);
             return Ok(false);
         };
         self.gathered.extend_from_slice(piece.as_slice())?;
@@ -284,6 +300,9 @@ impl Port {
                 stamp: piece.stamp(),
                 bytes: Spelling::new(bytes),
             });
+        } else {
+            put_back(&mut self.spare, trunk);
+            return Ok(true);
         }
         Ok(true)
     }
