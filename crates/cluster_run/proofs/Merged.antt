@@ -1,12 +1,14 @@
 -- What merged books come to.
 use Rattle.std.proofs.Common.{◌≡◌, List, ◌∙◌, subst}
-use Rattle.std.specs.Prelude.{IfOk, Result}
+use Rattle.std.specs.Prelude.{IfOk, Result, Ok}
 use Rattle.cluster_run.specs.Finishing.{IsFinished}
 use Rattle.dist_books.specs.Acting.{Nodes}
 use Rattle.erl_term.specs.declared.refusal.Refusal.{Refusal}
 use Rattle.joined_books.specs.Joined.{AreARun, IsTrace}
 use Rattle.joined_books.specs.Receipts.{AreReceipts}
+use Rattle.joined_books.specs.declared.error.FinishError.{FinishError}
 use Rattle.joined_books.specs.declared.trace.Placed.{Placed}
+use Rattle.joined_books.specs.declared.trace.Trace.{Trace}
 use Rattle.node_book.specs.Seen.{BookSeen}
 use Rattle.node_lock.specs.declared.seat.Seat.{Seat}
 use Rattle.world_core.specs.Stands.{Stands}
@@ -28,6 +30,16 @@ module _ (entries : List Placed) (own nodes lent_nodes : Nodes) (books lent_book
           receipts = subst (λ l. AreReceipts l seats) books_are (subst (λ l. AreReceipts lent_books l) seats_are receipts);
         },
       )
+
+  -- as the merge answers
+  module _ (r : Result Trace FinishError) (trace : Trace) (is : r ≡ Ok trace) (entries_are : trace.entries.items ≡ entries) where
+    at_trace : (P : List Placed → Type 0) → IfOk r (λ t. P t.entries.items) → P entries
+    at_trace P h = subst P entries_are (subst (λ q. IfOk q (λ t. P t.entries.items)) is h)
+
+    pub finished_in : IfOk r (λ t. IsTrace lent_books t.entries.items) → IfOk r (λ t. AreARun lent_nodes lent_books t.entries.items)
+        → IfOk r (λ t. AreReceipts lent_books lent_seats) → (nodes ≡ own) × IsFinished own books seats entries
+    finished_in t run receipts =
+        finished (at_trace (IsTrace lent_books) t) (at_trace (AreARun lent_nodes lent_books) run) (at_trace (λ es. AreReceipts lent_books lent_seats) receipts)
 
 -- the world at the end of their run
 module _ (entries : List Placed) (nodes lent_nodes : Nodes) (books lent_books : List BookSeen) (r : Result World Refusal) where

@@ -1,10 +1,8 @@
 -- What all books come to when the threads have ended.
 use Rattle.std.specs.Prelude.{◌≡◌, List, length}
 use Rattle.dist_books.specs.Acting.{Nodes}
-use Rattle.joined_books.specs.Faults.{IsFault}
 use Rattle.joined_books.specs.Joined.{AreARun, IsTrace}
 use Rattle.joined_books.specs.Receipts.{AreReceipts}
-use Rattle.joined_books.specs.declared.error.FinishError.{FinishError}
 use Rattle.joined_books.specs.declared.trace.Placed.{Placed}
 use Rattle.node_book.specs.Seen.{BookSeen}
 use Rattle.node_lock.specs.declared.seat.Seat.{Seat}
@@ -16,7 +14,3 @@ pub record IsFinished (nodes : Nodes) (books : List BookSeen) (seats : List Seat
   pub trace : IsTrace books entries
   pub run : AreARun nodes books entries
   pub receipts : AreReceipts books seats
-
--- there are books of which the error is true, of these nodes and with these seats
-abbrev pub IsUnfinished : Nodes → List Seat → FinishError → Type 0
-IsUnfinished nodes seats e = (books : List BookSeen) × IsFault nodes books seats e

@@ -1,14 +1,15 @@
 //! The nodes of a world, and those who call them.
 ghost use Rattle.std.specs.Prelude.{◌≡◌, ◌<◌, ◌≤◌, IfErr, IfOk, [], length};
 ghost use Rattle.std.specs.Fn.{FnOnceReturnsAt};
-ghost use Rattle.cluster_run.specs.Finishing.{IsFinished, IsUnfinished};
+ghost use Rattle.cluster_run.specs.Finishing.{IsFinished};
 ghost use Rattle.cluster_run.specs.Starting.{IsNoThread, IsStarted, IsUnstarted};
 ghost use Rattle.erl_term.specs.declared.refusal.Refusal.TheVariants.{NothingThere};
+ghost use Rattle.joined_books.specs.Faults.{IsFault};
 ghost use Rattle.node_core.specs.declared.node.Node.{Node as TheNode};
 ghost use Rattle.node_lock.specs.Calling.{Asks, IsSameSeat};
 
 use crate::desk::{Desk, Shared};
-use crate::finished::Finished;
+use crate::finished::{Finished, Unmerged};
 use crate::gate::Gate;
 use crate::settling::{Settled, look};
 use crate::worker::{Worker, work};
@@ -352,36 +353,47 @@ impl<G: Gate + Send + Sync + Drop + 'static> Cluster<G> {
     /// given too.
     ///
     /// # Errors
-    /// As those of [`merge_books`] (`fault`): what the error says is so of these seats and of the books
-    /// that stood under the locks, and what is looked at before is in order.
-    pub fn finish<R: Threads + Wait>(
-        self,
-        rt: &R,
-        seats: Vec<Seat>,
-    ) -> Result<Finished, FinishError>
+    /// As those of [`merge_books`] (`fault`). The nodes, the books and the seats come back with it: of
+    /// these the error is true, and what is looked at before is in order.
+    pub fn finish<R: Threads + Wait>(self, rt: &R, seats: Vec<Seat>) -> Result<Finished, Unmerged>
         ensures ok { IfOk result (λ it. (it.nodes.items ≡ self.nodes.items) × IsFinished self.nodes.items it.books.items seats.items it.trace.entries.items) }
-        ensures fault { IfErr result (IsUnfinished self.nodes.items seats.items) }
+        ensures fault { IfErr result (λ it. (it.nodes.items ≡ self.nodes.items) × (it.seats.items ≡ seats.items) × IsFault self.nodes.items it.books.items seats.items it.fault) }
     {
         let alloc = self.alloc;
         let (nodes, shared) = self.halt(rt);
-        let books = taken(rt, alloc, &shared)?;
-        let trace = merge_books(alloc, &nodes, &books, &seats)?;
-        Ok(Finished {
-            nodes,
-            books,
-            trace,
-        })
+        let mut books = Vec::new(alloc);
+        let merged = match take_books(rt, &shared, &mut books) {
+            Ok(()) => merge_books(alloc, &nodes, &books, &seats),
+            Err(_) => Err(FinishError::OutOfMemory),
+        };
+        match merged {
+            Ok(trace) => Ok(Finished {
+                nodes,
+                books,
+                trace,
+            }),
+            Err(fault) => Err(Unmerged {
+                fault,
+                nodes,
+                books,
+                seats,
+            }),
+        }
     }
 }
 
-// The books, out of their locks, up to the first that isn't there.
-fn taken<R: Wait, G>(rt: &R, alloc: Global, shared: &Shared<G>) -> Result<Vec<Book>, AllocError> {
-    let mut books = Vec::new(alloc);
+// Puts the books out of their locks behind others, up to the first that isn't there.
+fn take_books<R: Wait, G>(
+    rt: &R,
+    shared: &Shared<G>,
+    books: &mut Vec<Book>,
+) -> Result<(), AllocError> {
     for desk in &shared.desks {
+        books.reserve(1)?;
         let Some(book) = desk.lock.take(rt) else {
             break;
         };
         books.push(book)?;
     }
-    Ok(books)
+    Ok(())
 }

@@ -7,8 +7,9 @@ ghost use Rattle.world_core.specs.Stands.{Stands};
 use erl_handshake::Cookie;
 use erl_names::NodeName;
 use erl_term::Refusal;
-use joined_books::{Trace, replay};
+use joined_books::{FinishError, Trace, replay};
 use node_book::Book;
+use node_lock::Seat;
 use std::alloc::Global;
 use world_core::World;
 
@@ -21,6 +22,20 @@ pub struct Finished {
     pub books: Vec<Book>,
     /// All entries of all books, by stamp and then by node.
     pub trace: Trace,
+}
+
+/// Why what nodes in threads have come to wasn't merged, and what it is: nothing of it is lost, but what
+/// there was no memory for.
+#[derive(Drop)]
+pub struct Unmerged {
+    /// What is wrong.
+    pub fault: FinishError,
+    /// The names and cookies of the nodes.
+    pub nodes: Vec<(NodeName, Cookie)>,
+    /// The book of each node, at its place. Where memory is wanting, these may be the first alone.
+    pub books: Vec<Book>,
+    /// The seats of all callers.
+    pub seats: Vec<Seat>,
 }
 
 impl Finished {

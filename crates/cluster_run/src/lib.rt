@@ -18,6 +18,6 @@ mod turn;
 mod worker;
 
 pub use cluster::Cluster;
-pub use finished::Finished;
+pub use finished::{Finished, Unmerged};
 pub use gate::{Gate, Open};
 pub use settling::Settled;

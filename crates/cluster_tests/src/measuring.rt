@@ -176,7 +176,10 @@ fn timed<R: Machine>(
 // How many entries the trace has, and how long the books took to merge.
 fn merged<R: Machine>(rt: &R, cluster: Nodes, seats: Vec<Seat>) -> Result<(usize, Duration)> {
     let start = Instant::now(rt)?;
-    let Finished { trace, .. } = cluster.finish(rt, seats)?;
+    let Finished { trace, .. } = match cluster.finish(rt, seats) {
+        Ok(finished) => finished,
+        Err(unmerged) => return Err(unmerged.fault.into()),
+    };
     let entries = trace.entries.len();
     drop(trace);
     Ok((entries, start.elapsed(rt)?))

@@ -8,7 +8,7 @@ use crate::meeting::{Meet, Meeting};
 use crate::replaying::is_whole;
 use crate::walking::walk;
 use anyhow::Result;
-use cluster_run::{Cluster, Finished, Open, Settled};
+use cluster_run::{Cluster, Finished, Open, Settled, Unmerged};
 use erl_names::{NodeName, TrunkId};
 use erl_term::{Pid, Refusal};
 use joined_books::FinishError;
@@ -137,8 +137,10 @@ pub fn finish_with<R: Machine>(
 ) -> Result<Finished, Wrong> {
     match cluster.finish(rt, seats) {
         Ok(finished) => Ok(finished),
-        Err(FinishError::OutOfMemory) => Err(Wrong::NoMemoryToMerge),
-        Err(_) => Err(Wrong::Unmerged),
+        Err(unmerged) => Err(match unmerged.fault {
+            FinishError::OutOfMemory => Wrong::NoMemoryToMerge,
+            _ => Wrong::Unmerged,
+        }),
     }
 }
 
@@ -290,6 +292,18 @@ impl AtTwo {
     }
 }
 
+// Whether the seat of the last node is missing, and all else has come back.
+fn is_missing(outcome: &Result<Finished, Unmerged>, last: usize) -> bool {
+    match outcome {
+        Ok(_) => false,
+        Err(unmerged) => {
+            matches!(unmerged.fault, FinishError::SeatsMissing { node } if node == last)
+                && unmerged.books.len() == last.saturating_add(1)
+                && unmerged.seats.len() == last
+        }
+    }
+}
+
 /// Where a seat is left out, the books don't merge.
 fn seat_left_out<R: Machine>(rt: &R, alloc: Global) -> Result<(), Wrong> {
     let Two {
@@ -302,10 +316,7 @@ fn seat_left_out<R: Machine>(rt: &R, alloc: Global) -> Result<(), Wrong> {
     let mut seats = Vec::new(alloc);
     seats.push(at_a)?;
     let outcome = cluster.finish(rt, seats);
-    check(
-        10,
-        matches!(&outcome, Err(FinishError::SeatsMissing { node: 1 })),
-    )
+    check(10, is_missing(&outcome, 1))
 }
 
 // Of a cluster of one node no other is asked for anything.
@@ -438,10 +449,7 @@ fn last_seat_left_out<R: Machine>(rt: &R, alloc: Global) -> Result<(), Wrong> {
     let mut seats = four_read_back(rt, alloc, &cluster)?;
     drop(seats.pop());
     let outcome = cluster.finish(rt, seats);
-    check(
-        10,
-        matches!(&outcome, Err(FinishError::SeatsMissing { node: 3 })),
-    )
+    check(10, is_missing(&outcome, 3))
 }
 
 /// Four threads call four nodes at random.

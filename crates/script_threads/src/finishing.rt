@@ -131,9 +131,10 @@ fn finish_running<R: Machine>(
         cluster,
         seats,
     } = running;
-    let finished = cluster.finish(rt, seats)?;
-    put_end(alloc, out, trace, &nodes, &finished)?;
-    Ok(())
+    match cluster.finish(rt, seats) {
+        Ok(finished) => Ok(put_end(alloc, out, trace, &nodes, &finished)?),
+        Err(unmerged) => Err(Unfinished::from(unmerged.fault)),
+    }
 }
 
 // The nodes, with their threads, which are started where that isn't done.
