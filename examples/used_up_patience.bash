@@ -14,10 +14,9 @@ SCRIPT
 seq -f 'send p q %.0f' 1000001
 cat << 'SCRIPT'
 
-# The first settle takes a million of them, and says that the last one still travels. The second one
-# takes that.
+# settle takes a million of them, and says that the last one still travels. deliver takes that.
 settle
-settle
+deliver b@h a@h
 
 # The messages wait in the order in which they were sent.
 receive q
