@@ -30,7 +30,7 @@ use Rattle.node_lock.specs.contracts.lock.NodeLock as lock
 use Rattle.node_lock.specs.contracts.seat.Asked as asked
 use Rattle.node_lock.specs.contracts.seat.Receipt as receipt
 use Rattle.node_lock.specs.contracts.seat.Seat as seat
-use Rattle.node_plans.proofs.frame.Frame.TheSendSync as frame
+use Rattle.node_frames.proofs.frame.Frame.TheSendSync as frame
 use Rattle.std.below.std_heap.proofs.GlobalAllocator.TheSendSync as heap
 use Rattle.std.proofs.Crossing
 use Rattle.std.proofs.alloc.Global.TheSendSync as global

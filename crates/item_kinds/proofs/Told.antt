@@ -14,7 +14,7 @@ use Rattle.erl_handshake.specs.declared.status.Status.{Status}
 use Rattle.erl_names.specs.Name.{IsNodeName, is_host_byte, is_name_byte}
 use Rattle.erl_term.specs.Canonical.{canonical_head, canonical_int}
 use Rattle.item_kinds.specs.Kinds.{byte_at, frame_kind, is_message, kind_in, message_kind, named_kind, number_at, signal_kind}
-use Rattle.node_plans.specs.Frames.{IsSpelled, bytes_of}
+use Rattle.node_frames.specs.Frames.{IsSpelled, bytes_of}
 
 is_below : (n k : ℕ) → n < k → nat_lt n k ≡ true
 is_below n k h = grind (arith, nat_tests)

@@ -2,7 +2,7 @@
 ghost use Rattle.std.specs.Prelude.{◌≡◌, Some};
 ghost use Rattle.dist_model.specs.Items.{Item, kind_of};
 ghost use Rattle.item_kinds.specs.Kinds.{kind_in};
-ghost use Rattle.node_plans.specs.Frames.{IsSpelled, bytes_of};
+ghost use Rattle.node_frames.specs.Frames.{IsSpelled, bytes_of};
 
 /// Of each item that is sent, be it a message of the handshake, a tick or a signal, its bytes tell its
 /// kind.

@@ -4,7 +4,7 @@ use Rattle.std.specs.List.{AllZip}
 use Rattle.std.specs.Option.{option_map}
 use Rattle.dist_books.specs.Books.{Stamped}
 use Rattle.dist_model.specs.Items.{Item}
-use Rattle.node_plans.specs.Frames.{IsSpelled, bytes_of}
+use Rattle.node_frames.specs.Frames.{IsSpelled, bytes_of}
 use Rattle.node_ports.specs.Standing.{Carries, CarryAll}
 use Rattle.wire_core.specs.declared.parcel.Parcel.{Parcel}
 

@@ -14,7 +14,7 @@ use Rattle.erl_handshake.specs.declared.message.Role.TheVariants.{Acceptor, Dial
 use Rattle.erl_handshake.specs.declared.message.ShakeMsg.{ShakeMsg}
 use Rattle.item_kinds.proofs.Told.{kind_is_told}
 use Rattle.item_kinds.specs.Kinds.{kind_in}
-use Rattle.node_plans.specs.Frames.{IsSpelled, bytes_of}
+use Rattle.node_frames.specs.Frames.{IsSpelled, bytes_of}
 
 abbrev pub OneFrame : Type 0
 OneFrame = (i j : Framed) (a b x y : List ℕ) → IsFramed i a → IsFramed j b → a ++ x ≡ b ++ y → (i ≡ j) × (a ≡ b)

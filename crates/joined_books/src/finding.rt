@@ -6,7 +6,7 @@ ghost use Rattle.joined_books.specs.Wires.{outlets_named, own};
 
 use erl_names::{NodeName, TrunkId};
 use node_book::{Book, Outlet};
-use node_plans::same_name;
+use node_frames::same_name;
 
 /// The name of a book's node.
 pub(crate) fn own(book: &Book) -> &NodeName

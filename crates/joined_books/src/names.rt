@@ -6,7 +6,7 @@ ghost use Rattle.joined_books.specs.Names.{AreInPlace, IsInPlace, IsStrangeBook}
 use erl_handshake::Cookie;
 use erl_names::NodeName;
 use node_book::Book;
-use node_plans::same_name;
+use node_frames::same_name;
 
 // Whether these are the names of the nodes.
 fn are_names(names: &[NodeName], nodes: &[(NodeName, Cookie)]) -> bool

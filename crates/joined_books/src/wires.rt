@@ -12,7 +12,7 @@ use crate::error::FinishError;
 use crate::finding::{outlet_of, outlets_named, own};
 use erl_names::{NodeName, TrunkId};
 use node_book::{Book, Outlet};
-use node_plans::same_name;
+use node_frames::same_name;
 use node_ports::Port;
 use wire_core::Parcel;
 

@@ -15,7 +15,7 @@ use Rattle.erl_control.specs.declared.signal.Signal.{Signal}
 use Rattle.node_arrivals.specs.Coming.{CanBeSent, IsItemSent, item_of}
 use Rattle.node_arrivals.specs.Fronts.{Holds, IsFrontIn}
 use Rattle.node_sides.specs.Standings.{state_of}
-use Rattle.node_plans.specs.Keeps.{is_sendable}
+use Rattle.node_frames.specs.Sendable.{is_sendable}
 
 an_id : (id : ℕ) → IsUnlinkId id → (nat_le 1 id && nat_lt id (2 ^ 64)) ≡ true
 an_id id h = let some = h.0 in let low = h.1 in and (nat_le 1 id) (nat_lt id (2 ^ 64)) (search (rules, some)) (search (rules, low))

@@ -16,7 +16,7 @@ use Rattle.erl_control.specs.declared.signal.Item.TheVariants as frame
 use Rattle.erl_names.specs.declared.trunk.TrunkId.{TrunkId}
 use Rattle.erl_term.specs.declared.refusal.Refusal.{Refusal}
 use Rattle.node_arrivals.specs.Fronts.{Front, Begins, Holds, Spoils, IsFront, IsFrontIn, len_of}
-use Rattle.node_plans.specs.Keeps.{is_sendable}
+use Rattle.node_frames.specs.Sendable.{is_sendable}
 use Rattle.node_plans.specs.Planned.{IsPlanned, IsRefused, Plans}
 use Rattle.node_plans.specs.declared.plan.Plan.{Plan}
 

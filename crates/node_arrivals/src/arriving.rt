@@ -8,7 +8,7 @@ ghost use Rattle.dist_model.specs.Work.{at_work};
 ghost use Rattle.node_arrivals.specs.Coming.{PlansArrival, PlansBytes, comes};
 ghost use Rattle.dist_model.specs.Items.{Signalled};
 ghost use Rattle.node_arrivals.specs.Coming.{CanBeSent, IsItemSent, item_of};
-ghost use Rattle.node_plans.specs.Keeps.{is_sendable};
+ghost use Rattle.node_frames.specs.Sendable.{is_sendable};
 ghost use Rattle.node_plans.specs.Carried.{CarriesOut, IsBlank};
 ghost use Rattle.node_plans.specs.Planned.{Plans};
 ghost use Rattle.node_plans.specs.Seen.{seen};

@@ -8,7 +8,7 @@ ghost use Rattle.node_arrivals.specs.Coming.{PlansBytes, comes};
 ghost use Rattle.node_plans.specs.Carried.{Makes};
 ghost use Rattle.node_plans.specs.Planned.{Plans};
 ghost use Rattle.node_plans.specs.Seen.{seen};
-ghost use Rattle.node_plans.specs.declared.change.Change.TheVariants as change;
+ghost use Rattle.node_changes.specs.declared.change.Change.TheVariants as change;
 
 use conn_core::Side;
 use erl_handshake::{Role, ShakeMsg, read};

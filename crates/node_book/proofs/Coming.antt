@@ -17,7 +17,7 @@ use Rattle.node_history.proofs.Telling.{can_come}
 use Rattle.node_history.specs.Entering.{IsWanting, Stays, Tries}
 use Rattle.node_history.specs.Kinds.{comes_here}
 use Rattle.node_history.specs.declared.history.History.{History}
-use Rattle.node_plans.specs.Frames.{IsSpelled, bytes_of}
+use Rattle.node_frames.specs.Frames.{IsSpelled, bytes_of}
 use Rattle.node_ports.specs.Ports.{first_of}
 use Rattle.wire_core.specs.Spellings.{SpellsItem}
 use Rattle.wire_core.specs.declared.parcel.Parcel.{Parcel}

@@ -10,7 +10,7 @@ use Rattle.node_book.specs.Feeding.{Fed, FeedsShifted, KeepsFeeding}
 use Rattle.node_book.specs.Standing.{Feeds}
 use Rattle.node_book.specs.Waiting.{AreFramesOf, IsFrameOf, waiting}
 use Rattle.node_book.specs.declared.outlet.Outlet.{Outlet}
-use Rattle.node_plans.specs.Frames.{Framed}
+use Rattle.node_frames.specs.Frames.{Framed}
 use Rattle.node_ports.specs.Fetching.{Fetches}
 use Rattle.node_ports.specs.Ports.{PortSeen, flushed, next_piece, sending}
 use Rattle.node_ports.specs.Standing.{Carries, CarryAll, FetchShifts, FlushShifts, ShiftsTo}

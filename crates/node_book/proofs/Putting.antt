@@ -21,7 +21,7 @@ use Rattle.node_book.specs.Waiting.{waiting}
 use Rattle.node_book.specs.declared.outlet.Outlet.{Outlet}
 use Rattle.node_history.specs.declared.entry.Entry.{Entry}
 use Rattle.node_history.specs.declared.history.History.{History}
-use Rattle.node_plans.specs.Frames.{Framed}
+use Rattle.node_frames.specs.Frames.{Framed}
 use Rattle.node_ports.proofs.Streaming.{none_begun, take_all, take_more}
 use Rattle.node_ports.specs.Fetching.{Fetches}
 use Rattle.node_ports.specs.Ports.{EndsFull, PortSeen, first_of, flushed, next_piece, sending}

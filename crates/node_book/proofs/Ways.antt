@@ -9,7 +9,7 @@ use Rattle.erl_names.specs.declared.trunk.TrunkId.{TrunkId}
 use Rattle.merging.specs.Logs.{on, stamped}
 use Rattle.node_history.specs.declared.entry.Entry.{Entry}
 use Rattle.node_book.specs.Waiting.{AreFramesOf, IsPlace, all_sent, effects_of, sent_behind, sent_in, waiting}
-use Rattle.node_plans.specs.Frames.{AllSpelled, Framed, framed, shown}
+use Rattle.node_frames.specs.Frames.{AllSpelled, Framed, framed, shown}
 use Rattle.world_lists.specs.Lists.{sent_at}
 
 -- ---- one entry more

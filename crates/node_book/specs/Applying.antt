@@ -15,7 +15,7 @@ use Rattle.node_history.specs.declared.history.History.{History}
 use Rattle.node_book.specs.Answers.{is_accepted, trunk_in}
 use Rattle.node_book.specs.Standing.{outlet_of}
 use Rattle.node_book.specs.declared.outlet.Outlet.{Outlet}
-use Rattle.node_plans.specs.Frames.{IsSpelled, bytes_of}
+use Rattle.node_frames.specs.Frames.{IsSpelled, bytes_of}
 use Rattle.node_book.specs.Passing.{new_outlet}
 use Rattle.node_ports.specs.Ports.{behind_first, first_of, with_slot}
 use Rattle.wire_core.specs.Spellings.{SpellsItem}

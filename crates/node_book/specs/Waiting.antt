@@ -6,7 +6,7 @@ use Rattle.dist_model.specs.declared.report.Effect.{Effect}
 use Rattle.merging.specs.Logs.{stamped}
 use Rattle.node_history.specs.Entering.{Answer}
 use Rattle.node_history.specs.declared.entry.Entry.{Entry}
-use Rattle.node_plans.specs.Frames.{Framed, IsSpelled, framed}
+use Rattle.node_frames.specs.Frames.{Framed, IsSpelled, framed}
 use Rattle.world_lists.specs.Lists.{sent_at}
 
 abbrev pub effects_of : Answer → List (Effect Framed)

@@ -8,7 +8,7 @@ ghost use Rattle.erl_names.specs.Order.{trunk_cmp};
 
 use crate::outlet::Outlet;
 use erl_names::{NodeName, TrunkId};
-use node_plans::same_name;
+use node_frames::same_name;
 
 /// Whether the two are one connection.
 pub(crate) fn same_trunk(a: &TrunkId, b: &TrunkId) -> bool

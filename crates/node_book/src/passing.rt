@@ -11,7 +11,7 @@ use crate::names::place_of;
 use crate::outlet::{Outlet, PieceLength, set_all};
 use erl_names::TrunkId;
 use erl_term::Refusal;
-use node_plans::same_name;
+use node_frames::same_name;
 use std::alloc::Global;
 use std::sync::Wait;
 use wire_core::Offer;

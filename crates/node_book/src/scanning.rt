@@ -7,7 +7,7 @@ use crate::names::same_trunk;
 use dist_model::Effect;
 use erl_names::{NodeName, TrunkId};
 use node_history::{Answered, Entry};
-use node_plans::{Frame, same_name};
+use node_frames::{Frame, same_name};
 
 // What an effect sends on a connection to a peer.
 fn sent_on<'a>(effect: &'a Effect<Frame>, trunk: &TrunkId, peer: &NodeName) -> Option<&'a Frame>

@@ -14,12 +14,13 @@ ghost use Rattle.node_plans.specs.Planned.{Plans};
 ghost use Rattle.node_plans.specs.Carried.{Carries, CarriesOut, IsBlank};
 ghost use Rattle.node_plans.specs.Plans.{told};
 ghost use Rattle.node_plans.specs.Seen.{seen};
-ghost use Rattle.node_plans.specs.declared.change.Change.TheVariants as change;
+ghost use Rattle.node_changes.specs.declared.change.Change.TheVariants as change;
 
 use crate::acting::{acts, aims_at, reaches};
 use erl_term::{Pid, Refusal};
 use link_core::LinkSignal;
-use node_plans::{Node, Plan, is_active, no_connection, or_refuse, same_pid};
+use node_plans::{Node, Plan, is_active, no_connection, or_refuse};
+use node_frames::same_pid;
 use node_tables::EndChange;
 use std::alloc::{AllocError, Global};
 

@@ -17,16 +17,17 @@ ghost use Rattle.node_plans.specs.Carried.{Carries, CarriesOut, IsBlank};
 ghost use Rattle.node_plans.specs.Planned.{Plans};
 ghost use Rattle.node_plans.specs.Plans.{told};
 ghost use Rattle.node_plans.specs.Seen.{seen};
-ghost use Rattle.node_plans.specs.declared.change.Change.TheVariants as change;
-ghost use Rattle.node_plans.specs.declared.change.Draws.TheVariants as draws;
-ghost use Rattle.node_plans.specs.declared.change.MonitorChange.TheVariants as stays;
+ghost use Rattle.node_changes.specs.declared.change.Change.TheVariants as change;
+ghost use Rattle.node_changes.specs.declared.change.Draws.TheVariants as draws;
+ghost use Rattle.node_changes.specs.declared.change.MonitorChange.TheVariants as stays;
 
 use crate::acting::{acts, aims_at, reaches};
 use dist_model::Answer;
 use erl_term::{Pid, Reference, Refusal};
 use exit_core::down_message;
 use monitor_core::Monitor;
-use node_plans::{Node, Plan, copied, monitor_between, no_connection, or_refuse, same_pid};
+use node_plans::{Node, Plan, copied, monitor_between, no_connection, or_refuse};
+use node_frames::same_pid;
 use std::alloc::{AllocError, Global};
 
 // A process monitors another whose node is reached, under the reference that is drawn for this.

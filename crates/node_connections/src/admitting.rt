@@ -13,7 +13,7 @@ ghost use Rattle.node_plans.specs.Carried.{Makes, MakesOr};
 ghost use Rattle.node_plans.specs.Planned.{Plans};
 ghost use Rattle.node_plans.specs.Plans.{told};
 ghost use Rattle.node_plans.specs.Seen.{seen};
-ghost use Rattle.node_plans.specs.declared.change.Change.TheVariants as change;
+ghost use Rattle.node_changes.specs.declared.change.Change.TheVariants as change;
 ghost use Rattle.node_sides.specs.Changes.{IsDown};
 ghost use Rattle.node_sides.specs.Passing.{passes};
 ghost use Rattle.node_sides.specs.Standings.{standing_side};

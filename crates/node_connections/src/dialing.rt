@@ -9,13 +9,14 @@ ghost use Rattle.node_plans.specs.Carried.{Makes, MakesOr};
 ghost use Rattle.node_plans.specs.Planned.{Plans};
 ghost use Rattle.node_plans.specs.Plans.{told};
 ghost use Rattle.node_plans.specs.Seen.{seen};
-ghost use Rattle.node_plans.specs.declared.change.Change.TheVariants as change;
+ghost use Rattle.node_changes.specs.declared.change.Change.TheVariants as change;
 
 use conn_core::Side;
 use dist_model::Answer;
 use erl_names::{NodeName, TrunkId};
 use erl_term::Refusal;
-use node_plans::{Node, Plan, or_refuse, same_name};
+use node_plans::{Node, Plan, or_refuse};
+use node_frames::same_name;
 use node_sides::{SideChange, Which};
 use std::alloc::{AllocError, Global};
 

@@ -15,7 +15,7 @@ ghost use Rattle.node_plans.specs.Carried.{Makes, MakesOr};
 ghost use Rattle.node_plans.specs.Planned.{Plans};
 ghost use Rattle.node_plans.specs.Plans.{told};
 ghost use Rattle.node_plans.specs.Seen.{seen};
-ghost use Rattle.node_plans.specs.declared.change.Change.TheVariants as change;
+ghost use Rattle.node_changes.specs.declared.change.Change.TheVariants as change;
 ghost use Rattle.node_sides.specs.Changes.{IsTowards, NoOtherUp};
 ghost use Rattle.node_sides.specs.Standings.{is_settled, side_of, standing_side, state_of};
 ghost use Rattle.node_connections.specs.Waiting.{asked_in};

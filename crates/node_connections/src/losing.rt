@@ -10,7 +10,7 @@ ghost use Rattle.node_plans.specs.Carried.{Makes};
 ghost use Rattle.node_plans.specs.Planned.{Plans};
 ghost use Rattle.node_plans.specs.Plans.{told};
 ghost use Rattle.node_plans.specs.Seen.{seen};
-ghost use Rattle.node_plans.specs.declared.change.Change.TheVariants as change;
+ghost use Rattle.node_changes.specs.declared.change.Change.TheVariants as change;
 ghost use Rattle.node_sides.specs.Standings.{is_settled, side_of};
 
 use crate::standing::stand_down;

@@ -6,7 +6,7 @@ use Rattle.dist_model.specs.Work.{Work}
 use Rattle.dist_model.specs.declared.report.Answer.{Answer}
 use Rattle.dist_model.specs.declared.report.Report.{Report}
 use Rattle.erl_term.specs.declared.refusal.Refusal.{Refusal}
-use Rattle.node_plans.specs.Frames.{AllSpelled, Framed, shown}
+use Rattle.node_frames.specs.Frames.{AllSpelled, Framed, shown}
 use Rattle.node_plans.specs.Planned.{IsRefused}
 
 pub record Did (outcome : Outcome) (new : Node) (report : Report Framed) : Type 0 where

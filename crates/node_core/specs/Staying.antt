@@ -2,7 +2,8 @@
 use Rattle.std.specs.Prelude.{◌≡◌, ◌<◌, ◌-◌, ◌^◌, true}
 use Rattle.dist_model.specs.Keeping.{CountsOwn, Steady}
 use Rattle.dist_model.specs.Node.{Node}
-use Rattle.node_plans.specs.Carried.{IsSound, LetsAll}
+use Rattle.node_plans.specs.Carried.{IsSound}
+use Rattle.node_changes.specs.Suits.{LetsAll}
 use Rattle.node_plans.specs.Plans.{committed}
 use Rattle.node_plans.specs.declared.plan.Plan.{Plan}
 

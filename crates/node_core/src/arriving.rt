@@ -14,7 +14,8 @@ use crate::settling::settle;
 use dist_model::Report;
 use erl_names::TrunkId;
 use erl_term::Refusal;
-use node_plans::{Frame, Node, Plan, same_name};
+use node_frames::{Frame, same_name};
+use node_plans::{Node, Plan};
 use std::alloc::Global;
 
 /// What is to be done at what came on a connection.

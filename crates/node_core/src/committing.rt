@@ -9,7 +9,7 @@ ghost use Rattle.node_sweeps.specs.Ahead.{IsAhead};
 use crate::node::Node;
 use crate::planned::Planned;
 use dist_model::Report;
-use node_plans::Frame;
+use node_frames::Frame;
 use node_sweeps::Sweeping;
 use std::alloc::Global;
 

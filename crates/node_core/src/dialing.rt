@@ -9,7 +9,7 @@ ghost use Rattle.node_core.specs.Suiting.{Suits};
 ghost use Rattle.node_plans.specs.Carried.{Makes};
 ghost use Rattle.node_plans.specs.Planned.{IsPlanned, IsRefused, Plans};
 ghost use Rattle.node_plans.specs.Seen.{seen};
-ghost use Rattle.node_plans.specs.declared.change.Change.TheVariants as change;
+ghost use Rattle.node_changes.specs.declared.change.Change.TheVariants as change;
 
 use crate::planned::Planned;
 use crate::settling::settle;

@@ -23,7 +23,7 @@ use crate::sweeping::plan_sweep;
 use dist_model::{Command, Report};
 use erl_names::{NodeName, TrunkId};
 use erl_term::Refusal;
-use node_plans::Frame;
+use node_frames::Frame;
 use node_sweeps::Sweeping;
 use std::alloc::Global;
 

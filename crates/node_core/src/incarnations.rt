@@ -8,7 +8,8 @@ ghost use Rattle.node_plans.specs.Seen.{seen};
 
 use dist_model::{Answer, Report};
 use erl_term::Refusal;
-use node_plans::{Frame, Node};
+use node_frames::Frame;
+use node_plans::Node;
 use std::alloc::Global;
 
 /// A node stops. Takes no memory. (ERTS User's Guide, Distribution Protocol, Distribution Handshake,

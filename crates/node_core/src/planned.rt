@@ -2,7 +2,8 @@
 ghost use Rattle.std.specs.Prelude.{◌≡◌};
 
 use dist_model::Effect;
-use node_plans::{Frame, Plan};
+use node_frames::Frame;
+use node_plans::Plan;
 use node_sweeps::Sweeping;
 
 /// What an event is to do to a node. All refusals are behind it, and all its memory is there.

@@ -31,7 +31,7 @@ use Rattle.node_history.specs.declared.entry.Entry.{Entry}
 use Rattle.node_history.specs.declared.entry.Told.{Told}
 use Rattle.node_history.specs.declared.history.History.{History}
 use Rattle.node_history.specs.declared.spare.Spare.{Spare}
-use Rattle.node_plans.specs.Frames.{Framed, shown}
+use Rattle.node_frames.specs.Frames.{Framed, shown}
 use Rattle.node_plans.specs.Planned.{IsPlanned, IsRefused}
 use Rattle.node_plans.specs.Plans.{committed, told}
 use Rattle.node_plans.specs.declared.plan.Plan.{Plan}

@@ -14,7 +14,7 @@ use Rattle.node_core.specs.Arrived.{DoesArrived, DoesFront, arrives, is_undialed
 use Rattle.node_core.specs.Done.{Did, Does}
 use Rattle.node_core.specs.declared.arriving.Arrived.{Arrived}
 use Rattle.node_history.specs.Entering.{Answer}
-use Rattle.node_plans.specs.Frames.{bytes_of}
+use Rattle.node_frames.specs.Frames.{bytes_of}
 use Rattle.node_plans.specs.Planned.{IsRefused}
 use Rattle.readers.specs.Reading.{AreBytes}
 use Rattle.world_events.proofs.Fronts.{FrameAgain, OneFrame, item_comes}

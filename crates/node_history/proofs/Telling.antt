@@ -14,7 +14,7 @@ use Rattle.item_kinds.proofs.Told.{kind_is_told}
 use Rattle.item_kinds.specs.Kinds.{kind_in}
 use Rattle.node_core.specs.Arrived.{is_undialed}
 use Rattle.node_history.specs.Kinds.{ReadIsWhole, comes_here, is_for_acceptor, is_for_dialer, is_message, reads_kind, reads_kind_at}
-use Rattle.node_plans.specs.Frames.{IsSpelled, bytes_of}
+use Rattle.node_frames.specs.Frames.{IsSpelled, bytes_of}
 use Rattle.readers.specs.Reading.{AreBytes}
 use Rattle.world_events.proofs.Fronts.{FrameAgain, OneFrame, whole_at}
 use Rattle.world_events.specs.Coming.{CanCome, reads, reads_at}

@@ -8,7 +8,7 @@ use Rattle.erl_term.specs.declared.refusal.Refusal.{Refusal}
 use Rattle.node_core.specs.Done.{Did}
 use Rattle.node_core.specs.Model.{model_of}
 use Rattle.node_history.specs.declared.history.History.{History}
-use Rattle.node_plans.specs.Frames.{Framed}
+use Rattle.node_frames.specs.Frames.{Framed}
 use Rattle.world_events.specs.declared.event.NodeEvent.{NodeEvent}
 
 abbrev pub Answer : Type 0

@@ -12,7 +12,7 @@ use Rattle.erl_names.specs.declared.trunk.TrunkId.{TrunkId}
 use Rattle.item_kinds.specs.Kinds.{kind_in}
 use Rattle.node_arrivals.specs.Fronts.{IsWhole}
 use Rattle.node_core.specs.Arrived.{is_undialed}
-use Rattle.node_plans.specs.Frames.{IsSpelled, bytes_of}
+use Rattle.node_frames.specs.Frames.{IsSpelled, bytes_of}
 
 abbrev pub is_message : Option Kind → Bool
 is_message (Some Kind.SendName) = true

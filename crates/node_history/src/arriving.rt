@@ -7,7 +7,7 @@ ghost use Rattle.dist_model.specs.NodeEvents.{at_node};
 ghost use Rattle.node_core.specs.Done.{Does};
 ghost use Rattle.node_core.specs.Model.{model_of};
 ghost use Rattle.node_history.specs.Entering.{Tries};
-ghost use Rattle.node_plans.specs.Frames.{bytes_of};
+ghost use Rattle.node_frames.specs.Frames.{bytes_of};
 ghost use Rattle.readers.specs.Reading.{AreBytes};
 ghost use Rattle.world_events.specs.Coming.{CanCome};
 ghost use Rattle.world_events.specs.declared.event.NodeEvent.TheVariants as event;

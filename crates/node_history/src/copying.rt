@@ -4,7 +4,7 @@ ghost use Rattle.std.specs.Option.{option_copied};
 
 use dist_model::{Command, Effect};
 use erl_names::TrunkId;
-use node_plans::Frame;
+use node_frames::Frame;
 use std::alloc::{AllocError, Global};
 use world_events::NodeEvent;
 

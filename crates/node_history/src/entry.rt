@@ -2,7 +2,7 @@
 
 use dist_model::Report;
 use erl_term::Refusal;
-use node_plans::Frame;
+use node_frames::Frame;
 use world_events::NodeEvent;
 
 /// What a node answers to an event: its report, or why it refuses.

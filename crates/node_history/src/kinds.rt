@@ -14,7 +14,7 @@ use erl_handshake::{AcceptorState, DialerState};
 use erl_names::TrunkId;
 use item_kinds::kind_in;
 use node_core::Node;
-use node_plans::same_name;
+use node_frames::same_name;
 
 // Whether it is a message of the handshake, and no frame.
 fn is_message(kind: Option<Kind>) -> bool

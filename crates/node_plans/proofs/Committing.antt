@@ -12,17 +12,18 @@ use Rattle.monitor_core.proofs.Order.{reference_cmp_exact, reference_cmp_total}
 use Rattle.monitor_core.specs.Left.{is_owned}
 use Rattle.monitor_core.specs.Monitors.{MonitorMap}
 use Rattle.monitor_core.specs.declared.monitor.Monitor.{Monitor}
-use Rattle.node_plans.specs.Carried.{IsNext}
-use Rattle.node_plans.specs.Fresh.{IsFresh}
-use Rattle.node_plans.specs.Keeps.{AreDrawn, are_sendable, is_sendable}
-use Rattle.node_plans.specs.Plans.{drawn_by, popped, spawned_by, watched, watches_left}
-use Rattle.node_plans.specs.declared.change.Change.{Change}
-use Rattle.node_plans.specs.declared.change.Change.TheVariants as change
-use Rattle.node_plans.specs.declared.change.Draws.{Draws}
-use Rattle.node_plans.specs.declared.change.Draws.TheVariants as draws
-use Rattle.node_plans.specs.declared.change.LifeChange.TheVariants as life
-use Rattle.node_plans.specs.declared.change.MonitorChange.{MonitorChange}
-use Rattle.node_plans.specs.declared.change.MonitorChange.TheVariants as monitor
+use Rattle.node_changes.specs.Suits.{IsNext}
+use Rattle.node_changes.specs.Fresh.{IsFresh}
+use Rattle.node_plans.specs.Keeps.{AreDrawn}
+use Rattle.node_frames.specs.Sendable.{are_sendable, is_sendable}
+use Rattle.node_changes.specs.Changed.{drawn_by, popped, spawned_by, watched, watches_left}
+use Rattle.node_changes.specs.declared.change.Change.{Change}
+use Rattle.node_changes.specs.declared.change.Change.TheVariants as change
+use Rattle.node_changes.specs.declared.change.Draws.{Draws}
+use Rattle.node_changes.specs.declared.change.Draws.TheVariants as draws
+use Rattle.node_changes.specs.declared.change.LifeChange.TheVariants as life
+use Rattle.node_changes.specs.declared.change.MonitorChange.{MonitorChange}
+use Rattle.node_changes.specs.declared.change.MonitorChange.TheVariants as monitor
 
 pub map_popped : {A B : Type 0} (f : A → B) (pops : Bool) (xs ys : List A) → map f (popped pops xs ++ ys) ≡ popped pops (map f xs) ++ map f ys
 map_popped f false xs ys = map-append f xs ys

@@ -9,8 +9,8 @@ use Rattle.erl_term.specs.declared.term.Pid.{Pid}
 use Rattle.link_core.specs.declared.end.End.{End}
 use Rattle.monitor_core.specs.Monitors.{MonitorMap}
 use Rattle.node_plans.specs.Carried.{IsFree, link_in}
-use Rattle.node_plans.specs.Plans.{end_after, ends_after, lives_after, watchers_left, watches_left}
-use Rattle.node_plans.specs.declared.change.Change.{Change}
+use Rattle.node_changes.specs.Changed.{end_after, ends_after, lives_after, watchers_left, watches_left}
+use Rattle.node_changes.specs.declared.change.Change.{Change}
 
 pub lives_free : (c : Change) (p : Pid) (m : Minted) (lives : FinMap pid_cmp Life) → IsFree c p → lives_after c m lives ≡ lives
 lives_free c p m lives f = grind arith

@@ -20,10 +20,10 @@ use Rattle.monitor_core.specs.Index.{picked}
 use Rattle.node_tables.specs.declared.end_change.EndChange.TheVariants as end
 use Rattle.node_plans.specs.Carried.{CarriesOut, IsFree, link_in}
 use Rattle.node_plans.specs.Exiting.{OnlyExits, exit_to, exits_to}
-use Rattle.node_plans.specs.Plans.{end_after, registered, watched}
-use Rattle.node_plans.specs.declared.change.LinkChange.{LinkChange}
-use Rattle.node_plans.specs.declared.change.LinkChange.TheVariants as link
-use Rattle.node_plans.specs.declared.change.MonitorChange.TheVariants as monitor
+use Rattle.node_changes.specs.Changed.{end_after, registered, watched}
+use Rattle.node_changes.specs.declared.change.LinkChange.{LinkChange}
+use Rattle.node_changes.specs.declared.change.LinkChange.TheVariants as link
+use Rattle.node_changes.specs.declared.change.MonitorChange.TheVariants as monitor
 use Rattle.node_plans.specs.declared.plan.Plan.{Plan}
 use Rattle.node_plans.proofs.Free.{ends_free, watchers_free, watches_free}
 

@@ -1,5 +1,3 @@
-pub mod Texts
-pub mod Sendable
 pub mod Committing
 pub mod Posted
 pub mod Making

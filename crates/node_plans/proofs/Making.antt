@@ -2,7 +2,8 @@
 use Rattle.std.proofs.Common.{◌≡◌, Bool, true, false, List, sym, subst}
 use Rattle.dist_model.specs.Node.{Node}
 use Rattle.dist_model.specs.Work.{Work}
-use Rattle.node_plans.specs.Carried.{CarriesOut, LetsAll, Makes}
+use Rattle.node_plans.specs.Carried.{CarriesOut, Makes}
+use Rattle.node_changes.specs.Suits.{LetsAll}
 use Rattle.node_plans.specs.declared.plan.Plan.{Plan}
 use Rattle.node_sides.specs.declared.change.SideChange.{SideChange}
 

@@ -1,5 +1,7 @@
 -- A signal that is sent: a plan goes on to carry out what the model does.
-use Rattle.std.proofs.Common.{◌≡◌, Bool, true, false, cond, ◌&&◌, List, [], ◌∷◌, ◌++◌, map, Option, None, Some, refl, sym, ap, subst, ◌∙◌, append_assoc}
+use Rattle.std.proofs.Common.{◌≡◌, Bool, true, false, cond, ◌&&◌, List, [], ◌∷◌, ◌++◌, map, Option, None, Some, refl, sym, ap, subst, ◌∙◌, append_assoc, Result, Ok, Err}
+use Rattle.std.specs.Prelude.{OnOk}
+use Rattle.std.specs.declared.alloc.AllocError.{AllocError}
 use Rattle.std.specs.declared.alloc.Global.{Global}
 use Rattle.std.specs.declared.vec.Vec.{Vec}
 use Rattle.std.specs.FinMap as fm
@@ -11,10 +13,10 @@ use Rattle.dist_model.specs.declared.report.Effect.{Effect}
 use Rattle.erl_control.specs.Ends.{receiver_of}
 use Rattle.erl_control.specs.declared.signal.Signal.{Signal}
 use Rattle.erl_names.specs.declared.trunk.TrunkId.{TrunkId}
-use Rattle.node_plans.specs.Carried.{CarriesOut}
-use Rattle.node_plans.specs.Frames.{AllSpelled, Framed, IsSpelled, SendsSpelled, framed, shown}
-use Rattle.node_plans.specs.Keeps.{are_sendable, is_sendable}
-use Rattle.node_plans.specs.Plans.{popped, sides_after}
+use Rattle.node_plans.specs.Carried.{Carries, CarriesOut}
+use Rattle.node_frames.specs.Frames.{AllSpelled, Framed, IsSpelled, SendsSpelled, framed, shown}
+use Rattle.node_frames.specs.Sendable.{are_sendable, is_sendable}
+use Rattle.node_changes.specs.Changed.{popped, sides_after}
 use Rattle.node_plans.specs.declared.plan.Plan.{Plan}
 use Rattle.node_plans.proofs.Committing.{named_after, sendable_both}
 
@@ -72,6 +74,13 @@ module _ (plan : Plan) (m : Node) (work : Work) (signal : Signal) (h : CarriesOu
         effects = f ∙ ap (λ xs. xs ++ Effect.Sent (Some t) (receiver_of signal).node (framed (Signalled signal)) ∷ []) h.effects ∙ sym (map_push shown work.effects (Effect.Sent (Some t) (receiver_of signal).node (Signalled signal)));
         spelled = spelled_push work.effects (Effect.Sent (Some t) (receiver_of signal).node (Signalled signal)) h.spelled written;
       })
+
+  -- or there was no memory for it
+  pub sent_if : (t : TrunkId) (effects : Vec (Effect Framed) Global) (sent : Result (Unit {0}) AllocError) → OnOk sent (IsSpelled (Signalled signal)) → same_name (receiver_of signal).node m.mint.name ≡ false → route m (receiver_of signal).node ≡ Some t
+      → OnOk sent (effects.items ≡ plan.effects.items ++ Effect.Sent (Some t) (receiver_of signal).node (framed (Signalled signal)) ∷ [])
+      → Carries m (post signal work) (record plan { effects = effects }) sent
+  sent_if t effects (Ok done) written e r f = sent_on t effects written e r f
+  sent_if t effects (Err x) written e r f = tt
 
   -- nowhere
   pub dropped : same_name (receiver_of signal).node m.mint.name ≡ false → route m (receiver_of signal).node ≡ None → CarriesOut plan m (post signal work)

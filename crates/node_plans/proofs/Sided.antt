@@ -9,9 +9,10 @@ use Rattle.dist_model.specs.Sides.{TrunkSide}
 use Rattle.dist_model.specs.Work.{Work, report}
 use Rattle.dist_model.specs.declared.report.Effect.{Effect}
 use Rattle.erl_names.specs.Order.{trunk_cmp}
-use Rattle.node_plans.specs.Carried.{Lets, LetsAll, Makes, sided}
-use Rattle.node_plans.specs.Frames.{Framed, SendsSpelled, shown}
-use Rattle.node_plans.specs.Plans.{sides_after}
+use Rattle.node_changes.specs.Suits.{Lets, LetsAll}
+use Rattle.node_plans.specs.Carried.{Makes, sided}
+use Rattle.node_frames.specs.Frames.{Framed, SendsSpelled, shown}
+use Rattle.node_changes.specs.Changed.{sides_after}
 use Rattle.node_plans.specs.declared.plan.Plan.{Plan}
 use Rattle.node_sides.specs.Changes.{side_changed}
 use Rattle.node_sides.specs.declared.change.SideChange.{SideChange}

@@ -9,8 +9,8 @@ use Rattle.erl_term.specs.Data.{Data}
 use Rattle.erl_term.specs.declared.term.Pid.{Pid}
 use Rattle.exit_core.specs.declared.reaction.Reaction.{Reaction}
 use Rattle.link_core.specs.declared.end.End.{End}
-use Rattle.node_plans.specs.declared.change.LinkChange.{LinkChange}
-use Rattle.node_plans.specs.declared.change.LinkChange.TheVariants as link
+use Rattle.node_changes.specs.declared.change.LinkChange.{LinkChange}
+use Rattle.node_changes.specs.declared.change.LinkChange.TheVariants as link
 use Rattle.node_tables.specs.declared.end_change.EndChange.TheVariants as end
 
 -- nothing else is planned of the ends of a process than that a link is gone

@@ -1,10 +1,8 @@
-pub mod Frames
 pub mod SeenOf
 pub mod Keeps
 pub mod Seen
 pub mod Plans
 pub mod Carried
-pub mod Fresh
 pub mod Room
 pub mod Planned
 pub mod Exiting

@@ -13,18 +13,18 @@ ghost use Rattle.node_plans.specs.Carried.{Carries, CarriesOut, IsFree, link_in}
 ghost use Rattle.node_plans.specs.Exiting.{OnlyExits, exit_to, exits_to, is_gone};
 ghost use Rattle.node_plans.specs.Plans.{told};
 ghost use Rattle.node_plans.specs.Seen.{seen};
-ghost use Rattle.node_plans.specs.declared.change.Change.TheVariants as the_change;
-ghost use Rattle.node_plans.specs.declared.change.MonitorChange.TheVariants as monitor;
+ghost use Rattle.node_changes.specs.declared.change.Change.TheVariants as the_change;
+ghost use Rattle.node_changes.specs.declared.change.MonitorChange.TheVariants as monitor;
 
-use crate::change::{Change, LifeChange, LinkChange};
-use crate::names::same_pid;
+use crate::effects::push_ended;
 use crate::node::Node;
 use crate::plan::Plan;
-use dist_model::Effect;
 use erl_control::Signal;
 use erl_term::{Payload, Pid, Reference};
 use link_core::End;
 use monitor_core::Monitor;
+use node_changes::{Change, LifeChange, LinkChange};
+use node_frames::same_pid;
 use node_tables::EndChange;
 use std::alloc::{AllocError, Global};
 use std::mem;
@@ -240,12 +240,8 @@ impl Plan {
         ensures watches { self.new.watches ≡ self.old.watches }
         ensures watchers { self.new.watchers ≡ self.old.watchers }
     {
+        push_ended(&mut self.effects, alloc, process, &reason)?;
         let ended = process.clone()?;
-        let effect = Effect::Ended {
-            process: process.clone()?,
-            reason: reason.copy(alloc)?,
-        };
-        self.effects.push(effect)?;
         change_life(&mut self.change, ended, LifeChange::Ends(reason));
         Ok(())
     }

@@ -2,13 +2,10 @@
 #![tactic(auto)]
 
 mod adding;
-mod carrying;
-mod change;
 mod commit;
 mod copying;
+mod effects;
 mod ending;
-mod frame;
-mod names;
 mod node;
 mod opening;
 mod plan;
@@ -23,11 +20,8 @@ mod restarting;
 mod siding;
 mod telling;
 
-pub use change::{Change, Draws, LifeChange, LinkChange, MonitorChange};
 pub use copying::{copied, monitor_between};
 pub use ending::is_active;
-pub use frame::Frame;
-pub use names::{receiver, same_name, same_pid, sender};
 pub use node::Node;
 pub use plan::Plan;
 pub use reacting::{no_connection, no_process};

@@ -1,7 +1,8 @@
 //! One node.
 ghost use Rattle.std.specs.Prelude.{◌≡◌, true};
 ghost use Rattle.dist_model.specs.Keeping.{CountsOwn, Steady};
-ghost use Rattle.node_plans.specs.Keeps.{AreDrawn, Introduces, are_sendable};
+ghost use Rattle.node_plans.specs.Keeps.{AreDrawn, Introduces};
+ghost use Rattle.node_frames.specs.Sendable.{are_sendable};
 ghost use Rattle.node_plans.specs.SeenOf.{seen_of};
 
 use erl_control::Signal;

@@ -1,10 +1,10 @@
 //! What an event is to do to a node.
 ghost use Rattle.std.specs.Prelude.{◌≡◌};
 
-use crate::change::{Change, Draws, MonitorChange};
-use crate::frame::Frame;
 use dist_model::{Answer, Effect};
 use erl_control::Signal;
+use node_changes::{Change, Draws, MonitorChange};
+use node_frames::Frame;
 use node_sides::SideChange;
 
 /// What an event is to do to a node, what it answers and what it brings about. All refusals are

@@ -12,17 +12,17 @@ ghost use Rattle.erl_names.specs.Ids.{pid_of, reference_of};
 ghost use Rattle.node_tables.specs.Becomes.{becomes};
 ghost use Rattle.node_plans.specs.Carried.{Carries, CarriesOut, IsBlank, Makes};
 ghost use Rattle.node_plans.specs.Plans.{told};
-ghost use Rattle.node_plans.specs.declared.change.Change.TheVariants as change;
-ghost use Rattle.node_plans.specs.declared.change.Draws.TheVariants as the_draws;
-ghost use Rattle.node_plans.specs.declared.change.LifeChange.TheVariants as life;
-ghost use Rattle.node_plans.specs.declared.change.LinkChange.TheVariants as link;
-ghost use Rattle.node_plans.specs.declared.change.MonitorChange.TheVariants as monitor;
+ghost use Rattle.node_changes.specs.declared.change.Change.TheVariants as change;
+ghost use Rattle.node_changes.specs.declared.change.Draws.TheVariants as the_draws;
+ghost use Rattle.node_changes.specs.declared.change.LifeChange.TheVariants as life;
+ghost use Rattle.node_changes.specs.declared.change.LinkChange.TheVariants as link;
+ghost use Rattle.node_changes.specs.declared.change.MonitorChange.TheVariants as monitor;
 
-use crate::change::{Change, Draws, LifeChange, LinkChange, MonitorChange};
 use crate::plan::Plan;
 use dist_model::Answer;
 use erl_term::{Pid, Reference};
 use monitor_core::Monitor;
+use node_changes::{Change, Draws, LifeChange, LinkChange, MonitorChange};
 use node_tables::EndChange;
 use std::alloc::{AllocError, Global};
 

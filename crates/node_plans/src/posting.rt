@@ -5,17 +5,16 @@ ghost use Rattle.dist_model.specs.Node.{Node as TheNode};
 ghost use Rattle.node_plans.specs.Plans.{told};
 ghost use Rattle.dist_model.specs.Work.{Work, post};
 ghost use Rattle.node_plans.specs.Carried.{Carries, CarriesOut};
-ghost use Rattle.node_plans.specs.Keeps.{is_sendable};
+ghost use Rattle.node_frames.specs.Sendable.{is_sendable};
 ghost use Rattle.node_plans.specs.Seen.{seen};
 
-use crate::frame::Frame;
-use crate::names::{receiver, same_name};
+use crate::effects::{push_here, push_there};
 use crate::node::Node;
 use crate::plan::Plan;
 use conn_core::Side;
-use dist_model::Effect;
 use erl_control::Signal;
 use erl_term::Atom;
+use node_frames::{Frame, receiver, same_name};
 use std::alloc::{AllocError, Global};
 
 impl Node {
@@ -47,24 +46,20 @@ impl Plan {
     {
         let target = &receiver(&signal).node;
         if same_name(target, node.name().atom()) {
-            let sent = Effect::Sent {
-                trunk: None,
-                peer: node.name().clone()?,
-                item: Frame::of(alloc, &signal)?,
-            };
-            self.effects.push(sent)?;
+            push_here(&mut self.effects, alloc, node.name(), &signal)?;
             self.local.push(signal)?;
             return Ok(());
         }
-        let Some(side) = node.way(target) else {
-            return Ok(());
-        };
-        let sent = Effect::Sent {
-            trunk: Some(side.trunk.clone()?),
-            peer: side.peer.clone()?,
-            item: Frame::of(alloc, &signal)?,
-        };
-        self.effects.push(sent)?;
-        Ok(())
+        match node.way(target) {
+            None => {
+                drop(signal);
+                Ok(())
+            }
+            Some(side) => {
+                let sent = push_there(&mut self.effects, alloc, side, &signal);
+                drop(signal);
+                sent
+            }
+        }
     }
 }

@@ -5,10 +5,10 @@ ghost use Rattle.dist_model.specs.Items.{Signalled};
 ghost use Rattle.dist_model.specs.Quiet.{is_signal_of, nothing_between};
 ghost use Rattle.node_plans.specs.Seen.{seen};
 
-use crate::names::{receiver, same_pid, sender};
 use crate::node::Node;
 use erl_control::Signal;
 use erl_term::Pid;
+use node_frames::{receiver, same_pid, sender};
 use std::collections::VecDeque;
 
 // Whether a signal is one of a process to another.

@@ -11,19 +11,20 @@ ghost use Rattle.node_plans.specs.Carried.{Carries, CarriesOut, IsFree, link_in}
 ghost use Rattle.node_plans.specs.Exiting.{FitsWhereEnds, OnlyExits};
 ghost use Rattle.node_plans.specs.Plans.{told};
 ghost use Rattle.node_plans.specs.Seen.{seen};
-ghost use Rattle.node_plans.specs.declared.change.Change.TheVariants as the_change;
-ghost use Rattle.node_plans.specs.declared.change.LinkChange.TheVariants as link;
-ghost use Rattle.node_plans.specs.declared.change.MonitorChange.TheVariants as monitor;
+ghost use Rattle.node_changes.specs.declared.change.Change.TheVariants as the_change;
+ghost use Rattle.node_changes.specs.declared.change.LinkChange.TheVariants as link;
+ghost use Rattle.node_changes.specs.declared.change.MonitorChange.TheVariants as monitor;
 ghost use Rattle.node_tables.specs.declared.end_change.EndChange.TheVariants as end;
 
-use crate::change::LifeChange;
+use crate::effects::{push, push_put};
 use crate::ending::change_life;
-use crate::names::same_pid;
 use crate::node::Node;
 use crate::plan::Plan;
 use dist_model::Effect;
 use erl_term::{Payload, Pid};
 use exit_core::{ExitSignal, Reaction, named};
+use node_changes::LifeChange;
+use node_frames::same_pid;
 use node_tables::Life;
 use std::alloc::{AllocError, Global};
 
@@ -84,12 +85,8 @@ impl Plan {
         ensures watches { self.new.watches ≡ self.old.watches }
         ensures watchers { self.new.watchers ≡ self.old.watchers }
     {
+        push_put(&mut self.effects, alloc, process, &message)?;
         let to = process.clone()?;
-        let effect = Effect::Put {
-            to: process.clone()?,
-            message: message.copy(alloc)?,
-        };
-        self.effects.push(effect)?;
         change_life(&mut self.change, to, LifeChange::Gets(message));
         Ok(())
     }
@@ -116,7 +113,7 @@ impl Plan {
             partner: partner.clone()?,
             reason: reason.copy(alloc)?,
         };
-        self.effects.push(effect)?;
+        push(&mut self.effects, effect)?;
         Ok(())
     }
 

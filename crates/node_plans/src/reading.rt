@@ -16,11 +16,10 @@ ghost use Rattle.node_sides.specs.Standings.{entry_of, is_settled, side_of};
 ghost use Rattle.dist_model.specs.Node as model;
 ghost use Rattle.dist_model.specs.Items.{Signalled};
 ghost use Rattle.dist_model.specs.World.{first_of as first_in};
-ghost use Rattle.node_plans.specs.Keeps.{is_sendable};
+ghost use Rattle.node_frames.specs.Sendable.{is_sendable};
 ghost use Rattle.node_tables.specs.Lives.{life_of};
 ghost use Rattle.node_plans.specs.Seen.{seen};
 
-use crate::names::same_name;
 use crate::node::Node;
 use conn_core::Side;
 use erl_control::Signal;
@@ -29,6 +28,7 @@ use erl_names::{Mint, NodeName, TrunkId};
 use erl_term::{Atom, Pid};
 use link_core::End;
 use monitor_core::{Watchers, Watches};
+use node_frames::same_name;
 use node_sides::Which;
 use node_tables::{FoundLink, Life};
 

@@ -4,14 +4,16 @@ ghost use Rattle.dist_model.specs.Dialing.{draw_trunk};
 ghost use Rattle.dist_model.specs.Handshake.{write};
 ghost use Rattle.dist_model.specs.Node.{Node as TheNode};
 ghost use Rattle.dist_model.specs.Work.{Work};
-ghost use Rattle.node_plans.specs.Carried.{Lets, Makes, MakesOr, sided};
+ghost use Rattle.node_changes.specs.Suits.{Lets};
+ghost use Rattle.node_plans.specs.Carried.{Makes, MakesOr, sided};
 ghost use Rattle.node_plans.specs.Plans.{told};
 
-use crate::frame::Frame;
+use crate::effects::push;
 use crate::plan::Plan;
 use dist_model::Effect;
 use erl_handshake::ShakeMsg;
 use erl_names::{NodeName, TrunkId};
+use node_frames::Frame;
 use node_sides::SideChange;
 use std::alloc::{AllocError, Global};
 
@@ -48,7 +50,7 @@ impl Plan {
             peer: peer.clone()?,
             item: Frame::of_message(alloc, message)?,
         };
-        self.effects.push(sent)?;
+        push(&mut self.effects, sent)?;
         Ok(())
     }
 

@@ -6,7 +6,7 @@ ghost use Rattle.dist_model.specs.Node.{Node as TheNode};
 ghost use Rattle.dist_model.specs.Work.{Work, post};
 ghost use Rattle.erl_control.specs.declared.signal.Signal.TheVariants as signals;
 ghost use Rattle.node_plans.specs.Carried.{Carries, CarriesOut};
-ghost use Rattle.node_plans.specs.Keeps.{is_sendable};
+ghost use Rattle.node_frames.specs.Sendable.{is_sendable};
 ghost use Rattle.node_plans.specs.Plans.{told};
 ghost use Rattle.node_plans.specs.Seen.{seen};
 

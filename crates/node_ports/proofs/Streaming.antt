@@ -2,7 +2,7 @@
 use Rattle.std.proofs.Common.{◌≡◌, ℕ, zero, suc, ◌+◌, ◌^◌, ◌<◌, ◌≤◌, Bool, true, false, Option, None, Some, List, [], ◌∷◌, ◌++◌, drop, get_or, length, take, refl, sym, ap, ◌∙◌, subst, append_assoc, append-nil, arith}
 use Rattle.std.proofs.lemmas.List.{length-append}
 use Rattle.dist_model.specs.Items.{Item}
-use Rattle.node_plans.specs.Frames.{bytes_of}
+use Rattle.node_frames.specs.Frames.{bytes_of}
 use Rattle.wire_core.specs.Cuts.{AreCut, AreSpelled, IsCut, marked, marks_of, marks_of_items, unmarked}
 use Rattle.wire_core.specs.Fronts.{front_length}
 use Rattle.wire_core.specs.Gathering.{FrontIsTold, IsCutBehind, IsItem, IsWholeByFront}

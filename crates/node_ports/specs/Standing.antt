@@ -2,7 +2,7 @@
 use Rattle.std.specs.Prelude.{◌≡◌, List, [], ◌∷◌}
 use Rattle.dist_books.specs.Books.{Port, Stamped}
 use Rattle.dist_books.specs.Growing.{Shifts}
-use Rattle.node_plans.specs.Frames.{IsSpelled, bytes_of}
+use Rattle.node_frames.specs.Frames.{IsSpelled, bytes_of}
 use Rattle.node_ports.specs.Fetching.{Fetches}
 use Rattle.node_ports.specs.Ports.{PortSeen, flushed, fresh}
 use Rattle.wire_core.specs.declared.parcel.Parcel.{Parcel}

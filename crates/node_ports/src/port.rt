@@ -7,7 +7,7 @@ ghost use Rattle.node_ports.specs.Streams.{IsNext};
 ghost use Rattle.wire_core.specs.Pieces.{IsLength};
 
 use erl_names::{NodeName, TrunkId};
-use node_plans::same_name;
+use node_frames::same_name;
 use std::alloc::{AllocError, Global};
 use std::collections::VecDeque;
 use std::marker::Model;

@@ -7,8 +7,8 @@ use Rattle.dist_model.specs.Work.{Work}
 use Rattle.erl_term.specs.declared.term.Pid.{Pid}
 use Rattle.link_core.specs.declared.end.End.{End}
 use Rattle.node_plans.specs.Carried.{CarriesOut}
-use Rattle.node_plans.specs.Plans.{ends_after, lives_after}
-use Rattle.node_plans.specs.declared.change.Change.TheVariants as change
+use Rattle.node_changes.specs.Changed.{ends_after, lives_after}
+use Rattle.node_changes.specs.declared.change.Change.TheVariants as change
 use Rattle.node_plans.specs.declared.plan.Plan.{Plan}
 
 module _ (plan : Plan) (m : Node) (work : Work) (h : CarriesOut plan m work) (none : plan.change ≡ change.None) where

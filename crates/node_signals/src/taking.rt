@@ -12,7 +12,7 @@ ghost use Rattle.link_core.specs.declared.end.End.TheVariants as end;
 ghost use Rattle.erl_control.specs.declared.signal.Signal.TheVariants as signal;
 ghost use Rattle.erl_control.specs.Fits.{fits};
 ghost use Rattle.node_plans.specs.Carried.{Carries, CarriesOut, IsBlank};
-ghost use Rattle.node_plans.specs.Keeps.{is_sendable};
+ghost use Rattle.node_frames.specs.Sendable.{is_sendable};
 ghost use Rattle.node_plans.specs.Plans.{told};
 ghost use Rattle.node_plans.specs.Seen.{seen};
 

@@ -6,7 +6,7 @@ ghost use Rattle.dist_model.specs.Node.{Node as TheNode};
 ghost use Rattle.dist_model.specs.Taking.{take};
 ghost use Rattle.dist_model.specs.Work.{Work, at_work};
 ghost use Rattle.node_plans.specs.Carried.{Carries, CarriesOut, IsBlank};
-ghost use Rattle.node_plans.specs.Keeps.{is_sendable};
+ghost use Rattle.node_frames.specs.Sendable.{is_sendable};
 ghost use Rattle.node_plans.specs.Planned.{Plans};
 ghost use Rattle.node_plans.specs.Plans.{told};
 ghost use Rattle.node_plans.specs.Seen.{seen};

@@ -17,7 +17,7 @@ use Rattle.monitor_core.specs.Monitors.{MonitorMap}
 use Rattle.monitor_core.specs.Order.{reference_cmp}
 use Rattle.monitor_core.specs.declared.monitor.Monitor.{Monitor}
 use Rattle.node_plans.specs.Carried.{CarriesOut}
-use Rattle.node_plans.specs.Plans.{sides_after}
+use Rattle.node_changes.specs.Changed.{sides_after}
 use Rattle.node_plans.specs.Seen.{seen}
 use Rattle.node_plans.specs.declared.node.Node.{Node as TheNode}
 use Rattle.node_plans.specs.declared.plan.Plan.{Plan}

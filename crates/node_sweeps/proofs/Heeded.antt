@@ -18,16 +18,18 @@ use Rattle.monitor_core.proofs.Order.{reference_cmp_exact, reference_cmp_total}
 use Rattle.monitor_core.specs.Left.{is_owned, is_target}
 use Rattle.monitor_core.specs.Monitors.{MonitorMap, added}
 use Rattle.monitor_core.specs.declared.monitor.Monitor.{Monitor}
-use Rattle.node_plans.specs.Adding.{adds_towards, changes_towards, is_new, links_towards, registers_towards, watches_towards}
-use Rattle.node_plans.specs.Plans.{committed, end_after, ends_after, ends_left, registered, watched, watchers_left, watches_left}
-use Rattle.node_plans.specs.declared.change.Change.{Change}
-use Rattle.node_plans.specs.declared.change.Change.TheVariants as change
-use Rattle.node_plans.specs.declared.change.LifeChange.{LifeChange}
-use Rattle.node_plans.specs.declared.change.LifeChange.TheVariants as life
-use Rattle.node_plans.specs.declared.change.LinkChange.{LinkChange}
-use Rattle.node_plans.specs.declared.change.LinkChange.TheVariants as link
-use Rattle.node_plans.specs.declared.change.MonitorChange.{MonitorChange}
-use Rattle.node_plans.specs.declared.change.MonitorChange.TheVariants as monitor
+use Rattle.node_plans.specs.Adding.{adds_towards}
+use Rattle.node_changes.specs.Adding.{changes_towards, is_new, links_towards, registers_towards, watches_towards}
+use Rattle.node_plans.specs.Plans.{committed}
+use Rattle.node_changes.specs.Changed.{end_after, ends_after, ends_left, registered, watched, watchers_left, watches_left}
+use Rattle.node_changes.specs.declared.change.Change.{Change}
+use Rattle.node_changes.specs.declared.change.Change.TheVariants as change
+use Rattle.node_changes.specs.declared.change.LifeChange.{LifeChange}
+use Rattle.node_changes.specs.declared.change.LifeChange.TheVariants as life
+use Rattle.node_changes.specs.declared.change.LinkChange.{LinkChange}
+use Rattle.node_changes.specs.declared.change.LinkChange.TheVariants as link
+use Rattle.node_changes.specs.declared.change.MonitorChange.{MonitorChange}
+use Rattle.node_changes.specs.declared.change.MonitorChange.TheVariants as monitor
 use Rattle.node_plans.specs.declared.plan.Plan.{Plan}
 use Rattle.node_sweeps.specs.Ahead.{IsBefore, IsBehindAll, NoneLinkedUpTo, NoneOwnedBefore, NoneWatchedBefore}
 use Rattle.node_tables.specs.Becomes.{becomes, end_changed}

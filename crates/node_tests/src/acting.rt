@@ -5,7 +5,7 @@ use erl_handshake::Cookie;
 use erl_names::{NodeName, TrunkId};
 use erl_term::{Atom, Payload, Pid, Reference, ReferenceWords, Refusal, Term};
 use node_core::Node;
-use node_plans::Frame;
+use node_frames::Frame;
 use std::alloc::Global;
 
 /// The cookie of the node, and of its peers.

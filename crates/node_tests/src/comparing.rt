@@ -6,7 +6,7 @@ use erl_names::TrunkId;
 use erl_term::{Payload, Pid, Reference, Refusal, Term};
 use link_core::End;
 use node_core::Node;
-use node_plans::Frame;
+use node_frames::Frame;
 use node_tables::Life;
 use std::alloc::Global;
 

@@ -11,7 +11,7 @@ use Rattle.dist_model.specs.declared.report.Effect.{Effect}
 use Rattle.dist_model.specs.declared.report.Report.{Report}
 use Rattle.erl_names.specs.declared.trunk.TrunkId.{TrunkId}
 use Rattle.erl_term.specs.declared.refusal.Refusal.{Refusal}
-use Rattle.node_plans.specs.Frames.{Framed}
+use Rattle.node_frames.specs.Frames.{Framed}
 use Rattle.run_diagrams.specs.Numbers.{IsNumber, way_of}
 use Rattle.run_diagrams.specs.declared.queues.Way.{Way}
 

@@ -15,7 +15,7 @@ use dist_model::{Answer, Effect, Report};
 use erl_handshake::Role;
 use erl_names::{NodeName, TrunkId};
 use erl_term::Refusal;
-use node_plans::Frame;
+use node_frames::Frame;
 use std::alloc::{AllocError, Global};
 
 // Where an event happens: at the node of this name, and on that lane.

@@ -9,7 +9,7 @@ use crate::terms::is_same_payload;
 use dist_model::{Effect, Report};
 use erl_names::TrunkId;
 use erl_term::{Pid, Refusal};
-use node_plans::Frame;
+use node_frames::Frame;
 
 fn are_same_pids(a: Option<&(Pid, Pid)>, b: Option<&(Pid, Pid)>) -> bool
     ensures { IsTrue result ↔ (option_copied a.entry ≡ option_copied b.entry) }

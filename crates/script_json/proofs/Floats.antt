@@ -12,7 +12,7 @@ use Rattle.erl_term.specs.Data as terms
 use Rattle.erl_term.specs.declared.refusal.Refusal.{Refusal}
 use Rattle.erl_term.specs.declared.term.Pid.{Pid}
 use Rattle.link_core.specs.declared.end.End.{End}
-use Rattle.node_plans.specs.Frames.{Framed}
+use Rattle.node_frames.specs.Frames.{Framed}
 use Rattle.script_json.specs.Events.{command_data, event_data}
 use Rattle.item_kinds.specs.Kinds.{kind_in}
 use Rattle.script_json.specs.Reports.{answer_data, brought, came_data, effect_data, kind_data, line_data, link_data, message_data}

@@ -12,7 +12,7 @@ use Rattle.erl_term.specs.declared.refusal.Refusal.{Refusal}
 use Rattle.erl_term.specs.declared.term.Pid.{Pid}
 use Rattle.hex.specs.Hex.{encode_upper}
 use Rattle.link_core.specs.declared.end.End.{End}
-use Rattle.node_plans.specs.Frames.{Framed}
+use Rattle.node_frames.specs.Frames.{Framed}
 use Rattle.item_kinds.specs.Kinds.{kind_in}
 use Rattle.script_json.specs.Events.{event_data}
 use Rattle.script_json.specs.Texts.{connection, connection_if, monitor, payload, process}

@@ -13,7 +13,7 @@ use erl_names::{NodeName, TrunkId};
 use erl_term::{Payload, Pid};
 use hex::encode_upper;
 use item_kinds::kind_in;
-use node_plans::Frame;
+use node_frames::Frame;
 use script_texts::kind_name;
 use serde_json::{Value, json};
 use std::alloc::{AllocError, Global};

@@ -9,7 +9,7 @@ use crate::answers::{answer, refusal};
 use crate::effects::effects;
 use dist_model::{Effect, Report};
 use erl_term::Refusal;
-use node_plans::Frame;
+use node_frames::Frame;
 use serde_json::{Value, json};
 use std::alloc::{AllocError, Global};
 

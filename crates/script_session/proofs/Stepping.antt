@@ -7,7 +7,7 @@ use Rattle.dist_model.specs.World.{Event, Refused, Report, Reported, World, node
 use Rattle.dist_model.specs.declared.report.Effect.{Effect}
 use Rattle.dist_model.specs.declared.report.Report.{Report as Told}
 use Rattle.erl_term.specs.declared.refusal.Refusal.{Refusal}
-use Rattle.node_plans.specs.Frames.{Framed}
+use Rattle.node_frames.specs.Frames.{Framed}
 use Rattle.script_session.specs.Stage.{sent_in, sents}
 use Rattle.script_session.specs.Stage.{Stage as TheStage}
 use Rattle.script_session.specs.declared.stage.Stage.{Stage}

@@ -6,7 +6,7 @@ use Rattle.dist_model.specs.Names.{Name}
 use Rattle.dist_model.specs.Seen.{side_of_trunk}
 use Rattle.dist_model.specs.World.{Arrive, Dial, Event, Refused, Report, Reported, World, node_name, step}
 use Rattle.dist_model.specs.declared.report.Effect.{Effect}
-use Rattle.node_plans.specs.Frames.{Framed, shown}
+use Rattle.node_frames.specs.Frames.{Framed, shown}
 use Rattle.dist_model.specs.declared.report.Answer.{Answer}
 use Rattle.script_session.specs.declared.made.Made.{Made}
 use Rattle.script_session.specs.declared.made.Made.TheVariants.{Nothing, One}

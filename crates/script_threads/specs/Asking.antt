@@ -9,7 +9,7 @@ use Rattle.node_lock.specs.Calling.{AddsReceipt, IsSameSeat}
 use Rattle.node_lock.specs.declared.act.Act.{Act}
 use Rattle.node_lock.specs.declared.seat.Asked.{Asked}
 use Rattle.node_lock.specs.declared.seat.Seat.{Seat}
-use Rattle.node_plans.specs.Frames.{Framed}
+use Rattle.node_frames.specs.Frames.{Framed}
 use Rattle.script_session.specs.declared.made.Made.{Made}
 use Rattle.script_session.specs.declared.made.Made.TheVariants.{Nothing, One}
 use Rattle.script_terms.specs.declared.names.Named.TheVariants.{Monitor, Process}

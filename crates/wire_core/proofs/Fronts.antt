@@ -10,7 +10,7 @@ use Rattle.erl_control.specs.declared.signal.Signal.{Signal}
 use Rattle.erl_handshake.specs.Messages.{HasFields, content, status_text}
 use Rattle.erl_handshake.specs.declared.message.ShakeMsg.{ShakeMsg}
 use Rattle.erl_handshake.specs.declared.status.Status.{Status}
-use Rattle.node_plans.specs.Frames.{bytes_of}
+use Rattle.node_frames.specs.Frames.{bytes_of}
 use Rattle.wire_core.specs.Fronts.{frame_length, front_length}
 use Rattle.wire_core.specs.Gathering.{FrontIsNeeded, FrontIsTold, FrontStays}
 

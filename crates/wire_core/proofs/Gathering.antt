@@ -1,7 +1,7 @@
 -- What is cut from items is put together again, by the length at their front.
 use Rattle.std.proofs.Common.{◌≡◌, ℕ, Option, None, Some, List, [], ◌∷◌, ◌++◌, length, refl, sym, ap, ◌∙◌, append_assoc, arith}
 use Rattle.dist_model.specs.Items.{Item}
-use Rattle.node_plans.specs.Frames.{IsSpelled, bytes_of}
+use Rattle.node_frames.specs.Frames.{IsSpelled, bytes_of}
 use Rattle.wire_core.specs.Cuts.{AreSpelled, IsCut, marked, marks_of_items, unmarked}
 use Rattle.wire_core.specs.Fronts.{front_length}
 use Rattle.wire_core.specs.Gathering.{IsCutBehind, IsItem, IsWholeByFront}

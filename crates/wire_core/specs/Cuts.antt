@@ -1,7 +1,7 @@
 -- Pieces that are cut from items. Their bytes are seen one by one, each under the stamp of its piece, or of its item.
 use Rattle.std.specs.Prelude.{◌≡◌, ℕ, List, [], ◌∷◌, ◌++◌, map}
 use Rattle.dist_model.specs.Items.{Item}
-use Rattle.node_plans.specs.Frames.{IsSpelled, bytes_of}
+use Rattle.node_frames.specs.Frames.{IsSpelled, bytes_of}
 use Rattle.wire_core.specs.Pieces.{PieceSeen}
 
 abbrev pub marked : ℕ → List ℕ → List (ℕ × ℕ)

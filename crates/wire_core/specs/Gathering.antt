@@ -1,7 +1,7 @@
 -- An item tells its length by its first bytes, and so what was cut from items is put together again.
 use Rattle.std.specs.Prelude.{◌≡◌, ℕ, ◌+◌, ◌*◌, ◌<◌, ◌≤◌, None, Some, List, ◌∷◌, ◌++◌, length}
 use Rattle.dist_model.specs.Items.{Item}
-use Rattle.node_plans.specs.Frames.{IsSpelled, bytes_of}
+use Rattle.node_frames.specs.Frames.{IsSpelled, bytes_of}
 use Rattle.wire_core.specs.Cuts.{AreSpelled, IsCut, marked, marks_of_items, unmarked}
 use Rattle.wire_core.specs.Fronts.{front_length}
 

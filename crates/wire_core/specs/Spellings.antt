@@ -1,7 +1,7 @@
 -- What a parcel carries.
 use Rattle.std.specs.Prelude.{◌≡◌, ℕ, List}
 use Rattle.dist_model.specs.Items.{Item}
-use Rattle.node_plans.specs.Frames.{IsSpelled, bytes_of}
+use Rattle.node_frames.specs.Frames.{IsSpelled, bytes_of}
 
 -- the bytes of one whole item, as it is written
 pub record SpellsItem (bytes : List ℕ) : Type 0 where

@@ -16,7 +16,7 @@ use Rattle.dist_model.specs.Sides as state
 use Rattle.dist_model.specs.World.{first_of}
 use Rattle.erl_names.specs.Order.{name_cmp, trunk_cmp}
 use Rattle.erl_names.specs.declared.trunk.TrunkId.{TrunkId}
-use Rattle.node_plans.specs.Frames.{Framed, framed}
+use Rattle.node_frames.specs.Frames.{Framed, framed}
 use Rattle.node_sweeps.proofs.Firsts.{Found, first_is}
 use Rattle.node_sweeps.proofs.Firsts.{found as found_in}
 use Rattle.sorted_map.specs.Entries.{first_where}

@@ -15,7 +15,7 @@ use Rattle.erl_names.specs.Name.{IsNodeName}
 use Rattle.erl_names.specs.declared.trunk.TrunkId.{TrunkId}
 use Rattle.node_core.specs.Model.{model_of}
 use Rattle.node_core.specs.declared.node.Node.{Node}
-use Rattle.node_plans.specs.Frames.{framed}
+use Rattle.node_frames.specs.Frames.{framed}
 use Rattle.world_core.proofs.Named.{neither, not_true, turned}
 use Rattle.world_core.specs.Names.{are_distinct, name_of, names_of}
 use Rattle.world_core.specs.Stands.{AreSpelled, Stands}

@@ -19,7 +19,7 @@ use Rattle.erl_control.specs.Ends.{receiver_of, sender_of}
 use Rattle.erl_names.specs.Order.{trunk_cmp}
 use Rattle.erl_names.specs.declared.trunk.TrunkId.{TrunkId}
 use Rattle.erl_term.specs.declared.term.Pid.{Pid}
-use Rattle.node_plans.specs.Frames.{between_of, framed, named}
+use Rattle.node_frames.specs.Frames.{between_of, framed, named}
 use Rattle.sorted_map.specs.First.{first_held, first_none, first_passes}
 use Rattle.world_core.specs.Quiet.{is_quiet_there}
 use Rattle.world_core.specs.Stands.{Stands}

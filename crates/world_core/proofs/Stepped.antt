@@ -26,7 +26,7 @@ use Rattle.erl_names.specs.declared.trunk.TrunkId.{TrunkId}
 use Rattle.erl_term.specs.declared.refusal.Refusal.{Refusal}
 use Rattle.node_core.specs.Model.{model_of}
 use Rattle.node_core.specs.declared.node.Node.{Node}
-use Rattle.node_plans.specs.Frames.{AllSpelled, Framed, framed, shown}
+use Rattle.node_frames.specs.Frames.{AllSpelled, Framed, framed, shown}
 use Rattle.node_plans.specs.Planned.{IsRefused}
 use Rattle.world_core.specs.Names.{are_distinct, name_at, name_of, names_of}
 use Rattle.world_core.specs.Ran.{Answered, Came, event_at}

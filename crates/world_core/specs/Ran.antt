@@ -7,7 +7,7 @@ use Rattle.dist_model.specs.Safety.{Safe}
 use Rattle.dist_model.specs.World as model
 use Rattle.dist_model.specs.declared.report.Report.{Report}
 use Rattle.erl_term.specs.declared.refusal.Refusal.{Refusal}
-use Rattle.node_plans.specs.Frames.{Framed, shown}
+use Rattle.node_frames.specs.Frames.{Framed, shown}
 use Rattle.world_core.specs.Names.{name_at}
 use Rattle.world_core.specs.Stands.{Stands}
 use Rattle.world_core.specs.declared.event.Event.{Event}

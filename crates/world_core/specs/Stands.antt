@@ -8,7 +8,7 @@ use Rattle.dist_model.specs.World.{Event, Report, list_to}
 use Rattle.dist_model.specs.World.{World as TheWorld}
 use Rattle.erl_names.specs.declared.trunk.TrunkId.{TrunkId}
 use Rattle.node_core.specs.Model.{model_of}
-use Rattle.node_plans.specs.Frames.{IsSpelled, framed}
+use Rattle.node_frames.specs.Frames.{IsSpelled, framed}
 use Rattle.world_core.specs.Names.{are_distinct, names_of}
 use Rattle.world_core.specs.declared.world.World.{World}
 use Rattle.world_lists.specs.Lists.{at}

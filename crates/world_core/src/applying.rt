@@ -15,7 +15,7 @@ use dist_model::Report;
 use erl_names::NodeName;
 use erl_term::Refusal;
 use node_core::Node;
-use node_plans::{Frame, same_name};
+use node_frames::{Frame, same_name};
 use std::alloc::Global;
 use world_events::{NodeEvent, happen};
 

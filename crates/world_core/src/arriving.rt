@@ -15,7 +15,7 @@ use conn_core::Side;
 use erl_names::TrunkId;
 use erl_term::Atom;
 use node_core::Node;
-use node_plans::same_name;
+use node_frames::same_name;
 use node_sides::Which;
 use world_lists::Queue;
 

@@ -12,7 +12,7 @@ mod world;
 
 pub use event::Event;
 pub use node_core::Node;
-pub use node_plans::Frame;
+pub use node_frames::Frame;
 pub use node_tables::Life;
 pub use running::Answered;
 pub use world::World;

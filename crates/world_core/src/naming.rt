@@ -14,7 +14,7 @@ use crate::world::World;
 use dist_model::Report;
 use erl_term::{Atom, Refusal};
 use node_core::Node;
-use node_plans::{Frame, same_name};
+use node_frames::{Frame, same_name};
 use std::alloc::Global;
 use world_events::NodeEvent;
 

@@ -13,7 +13,7 @@ use crate::world::World;
 use erl_handshake::Cookie;
 use erl_names::NodeName;
 use node_core::Node;
-use node_plans::same_name;
+use node_frames::same_name;
 use std::alloc::{AllocError, Global};
 use world_lists::Lists;
 

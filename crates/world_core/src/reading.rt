@@ -19,7 +19,7 @@ use erl_names::{NodeName, TrunkId};
 use erl_term::{Atom, Pid};
 use link_core::End;
 use node_core::Node;
-use node_plans::same_name;
+use node_frames::same_name;
 
 // The first node of a name.
 fn find<'a>(nodes: &'a [Node], name: &Atom) -> Option<&'a Node>

@@ -11,7 +11,7 @@ use crate::event::Event;
 use crate::world::World;
 use dist_model::Report;
 use erl_term::Refusal;
-use node_plans::Frame;
+use node_frames::Frame;
 use std::alloc::{AllocError, Global};
 
 /// What comes of an event: what the node answers and brings about, or why it refuses.

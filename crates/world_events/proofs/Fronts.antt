@@ -27,7 +27,7 @@ use Rattle.erl_names.specs.declared.trunk.TrunkId.{TrunkId}
 use Rattle.erl_term.specs.declared.refusal.Refusal.{Refusal}
 use Rattle.node_arrivals.specs.Coming.{comes, item_of}
 use Rattle.node_arrivals.specs.Fronts.{Begins, Front, Holds, IsFrameFront, IsFront, IsFrontIn, IsMessageFront, IsWhole, IsWholeIn, Spoils}
-use Rattle.node_plans.specs.Frames.{IsSpelled, bytes_of}
+use Rattle.node_frames.specs.Frames.{IsSpelled, bytes_of}
 use Rattle.readers.specs.Reading.{AreBytes}
 use Rattle.world_events.specs.Coming.{reads, reads_at}
 

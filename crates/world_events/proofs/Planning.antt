@@ -26,7 +26,7 @@ use Rattle.node_core.proofs.Doing.{done}
 use Rattle.node_core.specs.Arrived.{PlansArrived, PlansFront, arrives, is_undialed}
 use Rattle.node_core.specs.Done.{Did, Does}
 use Rattle.node_core.specs.declared.arriving.PlannedArrival.{PlannedArrival}
-use Rattle.node_plans.specs.Frames.{Framed, shown}
+use Rattle.node_frames.specs.Frames.{Framed, shown}
 use Rattle.node_plans.specs.Planned.{IsPlanned, IsRefused}
 use Rattle.node_plans.specs.Plans.{committed, told}
 use Rattle.node_plans.specs.declared.plan.Plan.{Plan}

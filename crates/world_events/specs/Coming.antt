@@ -10,7 +10,7 @@ use Rattle.dist_model.specs.Sides as state
 use Rattle.dist_model.specs.Sides.{State, TrunkSide}
 use Rattle.erl_names.specs.declared.trunk.TrunkId.{TrunkId}
 use Rattle.node_core.specs.Arrived.{is_undialed}
-use Rattle.node_plans.specs.Frames.{Framed, IsSpelled, framed}
+use Rattle.node_frames.specs.Frames.{Framed, IsSpelled, framed}
 
 abbrev pub reads : State → Item → Bool
 reads (state.AwaitsStatus word) item = shakes_for true item

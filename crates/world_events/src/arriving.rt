@@ -17,7 +17,7 @@ use dist_model::Report;
 use erl_names::TrunkId;
 use erl_term::Refusal;
 use node_core::{Node, Planned, PlannedArrival};
-use node_plans::Frame;
+use node_frames::Frame;
 use std::alloc::Global;
 use world_lists::Lists;
 

@@ -8,7 +8,7 @@ ghost use Rattle.world_events.specs.Events.{Sends};
 use dist_model::Report;
 use erl_term::Refusal;
 use node_core::{Node, Planned};
-use node_plans::Frame;
+use node_frames::Frame;
 use std::alloc::Global;
 use world_lists::Lists;
 

@@ -15,7 +15,7 @@ use dist_model::{Command, Report};
 use erl_names::{NodeName, TrunkId};
 use erl_term::Refusal;
 use node_core::Node;
-use node_plans::Frame;
+use node_frames::Frame;
 use std::alloc::Global;
 use world_lists::Lists;
 

@@ -5,7 +5,7 @@ use Rattle.std.specs.declared.alloc.AllocError.{AllocError}
 use Rattle.dist_model.proofs.Keys.{same_trunk, same_trunk_true, trunk_total}
 use Rattle.erl_names.specs.Order.{trunk_cmp}
 use Rattle.erl_names.specs.declared.trunk.TrunkId.{TrunkId}
-use Rattle.node_plans.specs.Frames.{Framed}
+use Rattle.node_frames.specs.Frames.{Framed}
 use Rattle.sorted_map.specs.Entries.{changed}
 use Rattle.world_lists.specs.Lists.{Line, behind_first, in_line}
 use Rattle.world_lists.proofs.Entries.{again, held_at, new_at, none_at, not_changed, swapped}

@@ -3,7 +3,7 @@ use Rattle.std.proofs.Common.{◌≡◌, List, [], ◌∷◌, ◌++◌, Some, No
 use Rattle.dist_model.specs.Names.{Name}
 use Rattle.dist_model.specs.declared.report.Effect.{Effect}
 use Rattle.erl_names.specs.declared.trunk.TrunkId.{TrunkId}
-use Rattle.node_plans.specs.Frames.{Framed}
+use Rattle.node_frames.specs.Frames.{Framed}
 use Rattle.world_lists.specs.Lists.{one_at, sent_at}
 
 pub sent_more : (t : TrunkId) (x : Name) (effects more : List (Effect Framed)) → sent_at t x (effects ++ more) ≡ sent_at t x effects ++ sent_at t x more

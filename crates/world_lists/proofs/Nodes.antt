@@ -6,7 +6,7 @@ use Rattle.dist_model.proofs.Keys.{name_total, same_name_true, same_place, same_
 use Rattle.dist_model.specs.Names.{Name, place_cmp, same_name}
 use Rattle.erl_names.specs.Order.{name_cmp}
 use Rattle.erl_names.specs.declared.trunk.TrunkId.{TrunkId}
-use Rattle.node_plans.specs.Frames.{Framed}
+use Rattle.node_frames.specs.Frames.{Framed}
 use Rattle.sorted_map.specs.Entries.{changed}
 use Rattle.world_lists.specs.Lists.{Line, Lines, at, behind_first, in_line, line_to, one_at}
 use Rattle.world_lists.proofs.Entries.{held_at, new_at, none_at, not_changed, swapped}

@@ -9,7 +9,7 @@ use Rattle.dist_model.specs.declared.report.Effect.{Effect}
 use Rattle.erl_names.specs.Order.{name_cmp, trunk_cmp}
 use Rattle.erl_names.specs.declared.trunk.TrunkId.{TrunkId}
 use Rattle.erl_term.specs.declared.term.Pid.{Pid}
-use Rattle.node_plans.specs.Frames.{Framed}
+use Rattle.node_frames.specs.Frames.{Framed}
 
 -- to one node, by the connection
 abbrev pub Line : Type 0

@@ -5,12 +5,12 @@ ghost use Rattle.std.specs.Option.{option_copied};
 ghost use Rattle.std.specs.Ordering.{eq_by_cmp};
 ghost use Rattle.erl_names.specs.Order.{trunk_cmp};
 ghost use Rattle.erl_names.specs.declared.trunk.TrunkId.{TrunkId as TheTrunk};
-ghost use Rattle.node_plans.specs.Frames.{Framed};
+ghost use Rattle.node_frames.specs.Frames.{Framed};
 ghost use Rattle.world_lists.specs.Lists.{behind_first, in_line};
 
 use crate::queue::Queue;
 use erl_names::TrunkId;
-use node_plans::Frame;
+use node_frames::Frame;
 use sorted_map::SortedMap;
 use std::alloc::{AllocError, Global};
 use std::marker::Model;
@@ -24,7 +24,7 @@ pub(crate) struct Line {
 impl Model for Line {
     ghost use Rattle.std.specs.Coded.{coded×, coded_list};
     ghost use Rattle.erl_names.specs.contracts.trunk.TrunkId as trunk;
-    ghost use Rattle.node_plans.specs.contracts.frame.Frame as frame;
+    ghost use Rattle.node_frames.specs.contracts.frame.Frame as frame;
     ghost use Rattle.world_lists.specs.Lists.{Line as TheLine};
 
     ghost Value = { TheLine };

@@ -6,14 +6,14 @@ ghost use Rattle.std.specs.Ordering.{eq_by_cmp};
 ghost use Rattle.dist_model.specs.Names.{Name, place_cmp};
 ghost use Rattle.erl_names.specs.Order.{trunk_cmp};
 ghost use Rattle.erl_names.specs.declared.trunk.TrunkId.{TrunkId as TheTrunk};
-ghost use Rattle.node_plans.specs.Frames.{Framed};
+ghost use Rattle.node_frames.specs.Frames.{Framed};
 ghost use Rattle.world_lists.specs.Lists.{at, behind_first, first_of, line_to, nothing_between, one_at};
 
 use crate::line::Line;
 use crate::queue::Queue;
 use erl_names::{NodeName, TrunkId};
 use erl_term::Pid;
-use node_plans::Frame;
+use node_frames::Frame;
 use sorted_map::SortedMap;
 use std::alloc::{AllocError, Global};
 use std::marker::Model;

@@ -2,11 +2,11 @@
 ghost use Rattle.std.specs.Prelude.{◌≡◌, ◌++◌, ◌∷◌, [], List, OnErr, OnOk, not};
 ghost use Rattle.std.specs.List.{list_all};
 ghost use Rattle.std.specs.Option.{option_copied};
-ghost use Rattle.node_plans.specs.Frames.{Framed};
+ghost use Rattle.node_frames.specs.Frames.{Framed};
 ghost use Rattle.world_lists.specs.Lists.{behind_first, first_of, is_between, joins};
 
 use erl_term::Pid;
-use node_plans::{Frame, same_pid};
+use node_frames::{Frame, same_pid};
 use std::alloc::{AllocError, Global};
 use std::collections::VecDeque;
 use std::marker::Model;
@@ -20,8 +20,8 @@ pub struct Queue {
 impl Model for Queue {
     ghost use Rattle.std.specs.Prelude.{List};
     ghost use Rattle.std.specs.Coded.{coded_list};
-    ghost use Rattle.node_plans.specs.Frames.{Framed};
-    ghost use Rattle.node_plans.specs.contracts.frame.Frame as frame;
+    ghost use Rattle.node_frames.specs.Frames.{Framed};
+    ghost use Rattle.node_frames.specs.contracts.frame.Frame as frame;
 
     ghost Value = { List Framed };
 

@@ -2,12 +2,12 @@
 ghost use Rattle.std.specs.Prelude.{◌≡◌, ◌++◌, ◌∷◌, ◌≤◌, [], List, OnErr, OnOk, length, take};
 ghost use Rattle.dist_model.specs.Names.{Name};
 ghost use Rattle.erl_names.specs.declared.trunk.TrunkId.{TrunkId as TheTrunk};
-ghost use Rattle.node_plans.specs.Frames.{Framed};
+ghost use Rattle.node_frames.specs.Frames.{Framed};
 ghost use Rattle.world_lists.specs.Lists.{at, sent_at};
 
 use crate::lists::Lists;
 use dist_model::Effect;
-use node_plans::Frame;
+use node_frames::Frame;
 use std::alloc::{AllocError, Global};
 
 impl Lists {

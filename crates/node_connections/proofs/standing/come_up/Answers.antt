@@ -2,7 +2,8 @@ use Rattle.std.proofs.Common.{◌≡◌, rules, sym, ap, ◌∙◌, subst}
 use Rattle.dist_model.specs.Work.{Work}
 use Rattle.erl_names.specs.declared.trunk.TrunkId.{TrunkId}
 use Rattle.node_connections.proofs.Stood.{comes_up}
-use Rattle.node_plans.specs.Carried.{Lets, MakesOr, sided}
+use Rattle.node_changes.specs.Suits.{Lets}
+use Rattle.node_plans.specs.Carried.{MakesOr, sided}
 use Rattle.node_sides.specs.declared.change.SideChange.TheVariants as change
 use Rattle.dist_model.specs.Names.{Name}
 use Rattle.node_connections.proofs.standing.come_up.Goals as goal

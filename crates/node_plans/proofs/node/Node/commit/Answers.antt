@@ -1,13 +1,14 @@
 use Rattle.std.proofs.Common.{◌≡◌, refl, sym, ap, subst, ◌∙◌, rules}
 use Rattle.dist_model.specs.Items.{Signalled}
 use Rattle.dist_model.specs.Keeping.{CountsOwn, Steady}
-use Rattle.node_plans.specs.Plans.{committed, drawn_by}
+use Rattle.node_plans.specs.Plans.{committed}
+use Rattle.node_changes.specs.Changed.{drawn_by}
 use Rattle.node_plans.specs.Seen.{seen}
 use Rattle.node_plans.specs.SeenOf.{seen_of}
 use Rattle.erl_names.specs.Minted.{Minted}
 use Rattle.monitor_core.specs.Monitors.{MonitorMap}
 use Rattle.node_plans.specs.Keeps.{AreDrawn}
-use Rattle.node_plans.specs.Plans.{spawned_by}
+use Rattle.node_changes.specs.Changed.{spawned_by}
 use Rattle.node_plans.proofs.Committing.{drawn_after, fresh_next, map_popped, named_after, sendable_after}
 use Rattle.node_plans.proofs.node.Node.commit.Goals as goal
 
@@ -41,7 +42,7 @@ invariant_of-self c =
       drawn = let P : Minted → Type 0 = AreDrawn c.change_watches.new.watches.monitors in subst P (sym mint)
           (let Q : MonitorMap → Type 0 = (λ watches. AreDrawn watches (drawn_by plan.draws (spawned_by plan.change old.incarnation.mint))) in subst Q (sym c.change_watches.ensures)
           (drawn_after plan.watches plan.draws plan.change old.incarnation.mint old.watches.monitors c.requires.sound.next old.drawn));
-      sendable = ap Rattle.node_plans.specs.Keeps.are_sendable c.keep.ensures ∙ sendable_after plan.pops old.local.items plan.local.items old.sendable c.requires.sound.sendable;
+      sendable = ap Rattle.node_frames.specs.Sendable.are_sendable c.keep.ensures ∙ sendable_after plan.pops old.local.items plan.local.items old.sendable c.requires.sound.sendable;
       steady = subst Steady (sym is) c.requires.steady;
       counted = subst CountsOwn (sym is) c.requires.counted;
     }

@@ -8,7 +8,7 @@ use Rattle.erl_names.specs.Ids.{reference_of}
 use Rattle.erl_names.specs.Minted.{Minted}
 use Rattle.monitor_core.specs.Monitors.{MonitorMap}
 use Rattle.monitor_core.specs.Order.{reference_cmp}
-use Rattle.node_plans.specs.Keeps.{are_sendable}
+use Rattle.node_frames.specs.Sendable.{are_sendable}
 use Rattle.node_plans.specs.Seen.{seen}
 use Rattle.node_plans.specs.SeenOf.{seen_of}
 use Rattle.node_plans.proofs.Restarted.{counted_started, steady_started}

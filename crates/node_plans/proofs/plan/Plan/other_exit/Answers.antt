@@ -5,7 +5,7 @@ use Rattle.exit_core.specs.Reaction.{reaction}
 use Rattle.node_plans.specs.Carried.{Carries, IsFree}
 use Rattle.node_plans.specs.Exiting.{FitsWhereEnds}
 use Rattle.node_plans.specs.Seen.{seen}
-use Rattle.node_plans.specs.declared.change.Change.{Change}
+use Rattle.node_changes.specs.declared.change.Change.{Change}
 use Rattle.node_plans.proofs.Reactions.{sent_fits, reacts_to_other}
 use Rattle.node_plans.proofs.plan.Plan.other_exit.Goals as goal
 

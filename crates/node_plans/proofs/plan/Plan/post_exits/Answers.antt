@@ -6,7 +6,7 @@ use Rattle.link_core.specs.declared.end.End.{End}
 use Rattle.node_plans.specs.Carried.{CarriesOut, link_in}
 use Rattle.node_plans.specs.Exiting.{exit_to, exits_to}
 use Rattle.node_plans.specs.Seen.{seen}
-use Rattle.node_plans.specs.declared.change.LinkChange.{LinkChange}
+use Rattle.node_changes.specs.declared.change.LinkChange.{LinkChange}
 use Rattle.node_plans.proofs.Leaving.{post_more}
 use Rattle.node_plans.proofs.plan.Plan.post_exits.Goals as goal
 

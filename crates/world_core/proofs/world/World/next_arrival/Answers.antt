@@ -6,7 +6,7 @@ use Rattle.dist_model.specs.World.{World as TheWorld}
 use Rattle.erl_names.specs.Order.{trunk_cmp}
 use Rattle.erl_names.specs.declared.trunk.TrunkId.{TrunkId}
 use Rattle.node_core.specs.Model.{model_of}
-use Rattle.node_plans.specs.Frames.{framed}
+use Rattle.node_frames.specs.Frames.{framed}
 use Rattle.world_core.specs.Coming.{takes_from}
 use Rattle.world_core.proofs.Incoming.{arrivals_same}
 use Rattle.world_core.proofs.world.World.next_arrival.Goals as goal

@@ -3,7 +3,7 @@ use Rattle.std.proofs.lemmas.List.{take_more}
 use Rattle.dist_model.specs.Names.{Name}
 use Rattle.dist_model.specs.declared.report.Effect.{Effect}
 use Rattle.erl_names.specs.declared.trunk.TrunkId.{TrunkId}
-use Rattle.node_plans.specs.Frames.{Framed}
+use Rattle.node_frames.specs.Frames.{Framed}
 use Rattle.world_lists.specs.Lists.{at, sent_at}
 use Rattle.world_lists.proofs.More.{behind}
 use Rattle.world_lists.proofs.lists.Lists.send_some.Goals as goal

@@ -1,7 +1,7 @@
 use Rattle.std.proofs.Common.{◌≡◌, ◌+◌, ◌-◌, ◌++◌, ◌∷◌, [], take, ap, sym, ◌∙◌, arith, append-nil}
 use Rattle.std.proofs.lemmas.List.{take_more}
 use Rattle.dist_model.specs.declared.report.Effect.{Effect}
-use Rattle.node_plans.specs.Frames.{Framed}
+use Rattle.node_frames.specs.Frames.{Framed}
 use Rattle.world_lists.specs.Lists.{sent_at}
 use Rattle.world_lists.proofs.More.{behind}
 use Rattle.world_lists.proofs.lists.Lists.take_back.Goals as goal

@@ -1,7 +1,7 @@
 use Rattle.std.proofs.Common.{length, ◌≡◌, ◌++◌, ◌≤◌, List, take}
 use Rattle.dist_model.specs.Names.{Name}
 use Rattle.erl_names.specs.declared.trunk.TrunkId.{TrunkId}
-use Rattle.node_plans.specs.Frames.{Framed}
+use Rattle.node_frames.specs.Frames.{Framed}
 use Rattle.world_lists.specs.Lists.{at, sent_at}
 use Rattle.world_lists.proofs.lists.Lists.take_back.Given as goal
 

@@ -1,6 +1,6 @@
 use Rattle.std.proofs.Common.{◌≡◌, ◌∷◌, [], ◌++◌, Some, ap, ◌∙◌, append-nil, rules}
 use Rattle.dist_model.specs.declared.report.Effect.{Effect}
-use Rattle.node_plans.specs.Frames.{Framed}
+use Rattle.node_frames.specs.Frames.{Framed}
 use Rattle.world_lists.specs.Lists.{one_at, sent_at}
 use Rattle.world_lists.proofs.lists.Lists.take_one_back.Goals as goal
 

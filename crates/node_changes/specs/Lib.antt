@@ -1,0 +1,5 @@
+pub mod Changed
+pub mod Suits
+pub mod Fresh
+pub mod Room
+pub mod Adding

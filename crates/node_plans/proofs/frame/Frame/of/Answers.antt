@@ -1,6 +1,0 @@
-use Rattle.std.proofs.Common.{rules}
-use Rattle.node_plans.proofs.Sendable.{sendable_is}
-use Rattle.node_plans.proofs.frame.Frame.of.Goals as goal
-
-pub unreachable-requires : goal.unreachable-requires
-unreachable-requires c = let s = sendable_is c.args.signal.now c.requires in search (rules, s)
