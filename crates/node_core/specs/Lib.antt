@@ -1,5 +1,1 @@
-pub mod Done
-pub mod Staying
-pub mod Suiting
-pub mod Arrived
 pub mod Model

@@ -2,13 +2,13 @@
 ghost use Rattle.std.specs.Prelude.{◌≡◌};
 ghost use Rattle.dist_model.specs.Node.{Node as TheNode};
 ghost use Rattle.node_core.specs.Model.{IsFor, model_of};
-ghost use Rattle.node_core.specs.Suiting.{IsAheadIfAny};
+ghost use Rattle.node_events.specs.Suiting.{IsAheadIfAny};
 ghost use Rattle.node_plans.specs.Plans.{committed, told};
 ghost use Rattle.node_sweeps.specs.Ahead.{IsAhead};
 
 use crate::node::Node;
-use crate::planned::Planned;
 use dist_model::Report;
+use node_events::Planned;
 use node_frames::Frame;
 use node_sweeps::Sweeping;
 use std::alloc::Global;

@@ -6,23 +6,19 @@ ghost use Rattle.dist_model.specs.Names.{Name};
 ghost use Rattle.dist_model.specs.NodeEvents as event;
 ghost use Rattle.dist_model.specs.NodeEvents.{at_node};
 ghost use Rattle.erl_term.specs.declared.refusal.Refusal.TheVariants as refusal;
-ghost use Rattle.node_core.specs.Arrived.{DoesArrived, PlansArrived, is_undialed};
-ghost use Rattle.node_core.specs.Done.{Does};
+ghost use Rattle.node_events.specs.Arrived.{DoesArrived, PlansArrived, is_undialed};
+ghost use Rattle.node_events.specs.Done.{Does};
 ghost use Rattle.node_core.specs.Model.{IsFor, model_of};
 ghost use Rattle.node_plans.specs.Planned.{IsPlanned, IsRefused};
 
-use crate::arriving::{Arrived, PlannedArrival, plan_arrival};
-use crate::calling::plan_call;
-use crate::dialing::plan_dial;
-use crate::incarnations::{start, stop};
-use crate::losing::plan_loss;
 use crate::node::Node;
-use crate::own_list::plan_local;
-use crate::planned::Planned;
-use crate::sweeping::plan_sweep;
 use dist_model::{Command, Report};
 use erl_names::{NodeName, TrunkId};
 use erl_term::Refusal;
+use node_events::{
+    Arrived, Planned, PlannedArrival, plan_arrival, plan_call, plan_dial, plan_local, plan_loss,
+    plan_sweep, start, stop,
+};
 use node_frames::Frame;
 use node_sweeps::Sweeping;
 use std::alloc::Global;

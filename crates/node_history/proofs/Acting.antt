@@ -15,10 +15,10 @@ use Rattle.dist_model.specs.declared.report.Answer.{Answer as Said}
 use Rattle.dist_model.specs.declared.report.Effect.{Effect}
 use Rattle.dist_model.specs.declared.report.Report.{Report}
 use Rattle.erl_term.specs.declared.refusal.Refusal.{Refusal}
-use Rattle.node_core.proofs.Doing.{done}
-use Rattle.node_core.specs.Done.{Did, Does}
+use Rattle.node_events.proofs.Doing.{done}
+use Rattle.node_events.specs.Done.{Did, Does}
 use Rattle.node_core.specs.Model.{model_of}
-use Rattle.node_core.specs.declared.planned.Planned.{Planned}
+use Rattle.node_events.specs.declared.planned.Planned.{Planned}
 use Rattle.node_history.specs.Acts.{Knows}
 use Rattle.erl_term.specs.declared.term.Pid.{Pid}
 use Rattle.link_core.specs.declared.end.End.{End}

@@ -6,7 +6,7 @@ use Rattle.dist_model.specs.Node as model
 use Rattle.dist_model.specs.NodeEvents as met
 use Rattle.dist_model.specs.NodeEvents.{at_node}
 use Rattle.erl_term.specs.declared.refusal.Refusal.{Refusal}
-use Rattle.node_core.specs.Done.{Does}
+use Rattle.node_events.specs.Done.{Does}
 use Rattle.node_core.specs.Model.{model_of}
 use Rattle.node_core.specs.declared.node.Node.{Node}
 use Rattle.node_history.specs.Entering.{Answer, Ends, IsWanting, Stays, Tries, Writes, is_unwritten}

@@ -10,9 +10,9 @@ use Rattle.dist_model.specs.NodeEvents.{Arrive, at_node, if_up}
 use Rattle.erl_names.specs.declared.trunk.TrunkId.{TrunkId}
 use Rattle.erl_term.specs.declared.refusal.Refusal.{Refusal}
 use Rattle.node_arrivals.specs.Fronts.{Front}
-use Rattle.node_core.specs.Arrived.{DoesArrived, DoesFront, arrives, is_undialed}
-use Rattle.node_core.specs.Done.{Did, Does}
-use Rattle.node_core.specs.declared.arriving.Arrived.{Arrived}
+use Rattle.node_events.specs.Arrived.{DoesArrived, DoesFront, arrives, is_undialed}
+use Rattle.node_events.specs.Done.{Did, Does}
+use Rattle.node_events.specs.declared.arriving.Arrived.{Arrived}
 use Rattle.node_history.specs.Entering.{Answer}
 use Rattle.node_frames.specs.Frames.{bytes_of}
 use Rattle.node_plans.specs.Planned.{IsRefused}

@@ -12,7 +12,7 @@ use Rattle.erl_handshake.specs.declared.message.ShakeMsg.{ShakeMsg}
 use Rattle.erl_names.specs.declared.trunk.TrunkId.{TrunkId}
 use Rattle.item_kinds.proofs.Told.{kind_is_told}
 use Rattle.item_kinds.specs.Kinds.{kind_in}
-use Rattle.node_core.specs.Arrived.{is_undialed}
+use Rattle.node_events.specs.Arrived.{is_undialed}
 use Rattle.node_history.specs.Kinds.{ReadIsWhole, comes_here, is_for_acceptor, is_for_dialer, is_message, reads_kind, reads_kind_at}
 use Rattle.node_frames.specs.Frames.{IsSpelled, bytes_of}
 use Rattle.readers.specs.Reading.{AreBytes}

@@ -5,7 +5,7 @@ use Rattle.dist_model.specs.Commands.{Outcome, Refuses}
 use Rattle.dist_model.specs.Node.{Node}
 use Rattle.dist_model.specs.declared.report.Report.{Report}
 use Rattle.erl_term.specs.declared.refusal.Refusal.{Refusal}
-use Rattle.node_core.specs.Done.{Did}
+use Rattle.node_events.specs.Done.{Did}
 use Rattle.node_core.specs.Model.{model_of}
 use Rattle.node_history.specs.declared.history.History.{History}
 use Rattle.node_frames.specs.Frames.{Framed}

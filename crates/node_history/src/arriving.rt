@@ -4,7 +4,7 @@ ghost use Rattle.dist_model.specs.Items.{Item};
 ghost use Rattle.dist_model.specs.Names.{Name};
 ghost use Rattle.dist_model.specs.NodeEvents as model;
 ghost use Rattle.dist_model.specs.NodeEvents.{at_node};
-ghost use Rattle.node_core.specs.Done.{Does};
+ghost use Rattle.node_events.specs.Done.{Does};
 ghost use Rattle.node_core.specs.Model.{model_of};
 ghost use Rattle.node_history.specs.Entering.{Tries};
 ghost use Rattle.node_frames.specs.Frames.{bytes_of};

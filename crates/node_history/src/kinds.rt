@@ -4,7 +4,7 @@ ghost use Rattle.std.specs.Option.{option_copied, option_map};
 ghost use Rattle.node_core.specs.Model.{model_of};
 ghost use Rattle.node_history.specs.Kinds.{ReadIsWhole, comes_here, is_for_acceptor, is_for_dialer, is_message, reads_kind, reads_kind_at};
 ghost use Rattle.conn_core.specs.declared.standing.Standing.TheVariants as standing;
-ghost use Rattle.node_core.specs.Arrived.{is_undialed};
+ghost use Rattle.node_events.specs.Arrived.{is_undialed};
 ghost use Rattle.node_sides.specs.Standings.{side_of, state_of};
 
 use crate::arriving::are_bytes;

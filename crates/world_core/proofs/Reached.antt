@@ -15,7 +15,7 @@ use Rattle.dist_model.specs.Sides as state
 use Rattle.dist_model.specs.Sides.{State, TrunkSide}
 use Rattle.dist_model.specs.World.{Event, Report, World, list_to, node_of}
 use Rattle.erl_names.specs.declared.trunk.TrunkId.{TrunkId}
-use Rattle.node_core.specs.Arrived.{is_undialed}
+use Rattle.node_events.specs.Arrived.{is_undialed}
 use Rattle.world_core.specs.Stands.{AreSpelled, IsReached}
 use Rattle.world_events.specs.Coming.{CanCome, reads, reads_at}
 

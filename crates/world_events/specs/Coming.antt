@@ -9,7 +9,7 @@ use Rattle.dist_model.specs.Node.{Node}
 use Rattle.dist_model.specs.Sides as state
 use Rattle.dist_model.specs.Sides.{State, TrunkSide}
 use Rattle.erl_names.specs.declared.trunk.TrunkId.{TrunkId}
-use Rattle.node_core.specs.Arrived.{is_undialed}
+use Rattle.node_events.specs.Arrived.{is_undialed}
 use Rattle.node_frames.specs.Frames.{Framed, IsSpelled, framed}
 
 abbrev pub reads : State → Item → Bool

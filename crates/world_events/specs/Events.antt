@@ -10,7 +10,7 @@ use Rattle.dist_model.specs.NodeEvents as model
 use Rattle.dist_model.specs.declared.report.Report.{Report}
 use Rattle.erl_names.specs.declared.trunk.TrunkId.{TrunkId}
 use Rattle.erl_term.specs.declared.refusal.Refusal.{Refusal}
-use Rattle.node_core.specs.Done.{Did}
+use Rattle.node_events.specs.Done.{Did}
 use Rattle.node_frames.specs.Frames.{Framed}
 use Rattle.node_plans.specs.Planned.{IsRefused}
 use Rattle.world_events.specs.Coming.{IsNext}

@@ -1,0 +1,25 @@
+-- A plan that is carried out does what was planned.
+use Rattle.std.proofs.Common.{◌≡◌, sym, ap, ◌∙◌}
+use Rattle.std.specs.declared.alloc.Global.{Global}
+use Rattle.std.specs.declared.vec.Vec.{Vec}
+use Rattle.dist_model.specs.Commands.{Outcome}
+use Rattle.dist_model.specs.Node.{Node}
+use Rattle.dist_model.specs.declared.report.Effect.{Effect}
+use Rattle.dist_model.specs.declared.report.Report.{Report}
+use Rattle.node_events.specs.Done.{Did}
+use Rattle.node_frames.specs.Frames.{Framed}
+use Rattle.node_plans.specs.Planned.{IsPlanned}
+use Rattle.node_plans.specs.Plans.{committed, told}
+use Rattle.node_plans.specs.declared.plan.Plan.{Plan}
+
+pub done : (m new : Node) (outcome : Outcome) (plan : Plan) (report : Report Framed) → IsPlanned m outcome plan
+    → new ≡ committed plan m → report.answer ≡ told plan m → report.effects ≡ plan.effects → Did outcome new report
+done m new outcome plan report h n t e = record {
+  answer = h.answer;
+  work = h.work;
+  accepts = h.accepts;
+  told = t ∙ h.told;
+  node = n ∙ sym h.makes.node;
+  effects = ap (λ (xs : Vec (Effect Framed) Global). xs.items) e ∙ h.makes.effects;
+  spelled = h.makes.spelled;
+}

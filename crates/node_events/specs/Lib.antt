@@ -1,0 +1,4 @@
+pub mod Done
+pub mod Staying
+pub mod Suiting
+pub mod Arrived

@@ -1,0 +1,47 @@
+//! A caller's command is planned.
+ghost use Rattle.std.specs.Prelude.{◌≡◌, IfOk, List, MatchResult, true};
+ghost use Rattle.dist_model.specs.Calls.{call};
+ghost use Rattle.dist_model.specs.Names.{Name};
+ghost use Rattle.dist_model.specs.NodeEvents as event;
+ghost use Rattle.dist_model.specs.NodeEvents.{NodeEvent, at_node, if_up};
+ghost use Rattle.dist_model.specs.Work.{at_work};
+ghost use Rattle.dist_model.specs.declared.report.Answer.TheVariants as answer;
+ghost use Rattle.node_events.specs.Suiting.{Suits};
+ghost use Rattle.node_plans.specs.Carried.{CarriesOut, IsBlank};
+ghost use Rattle.node_plans.specs.Planned.{IsPlanned, IsRefused, Plans};
+ghost use Rattle.node_plans.specs.Plans.{told};
+ghost use Rattle.node_plans.specs.Seen.{seen};
+
+use crate::planned::Planned;
+use crate::settling::settle;
+use dist_model::Command;
+use erl_term::Refusal;
+use node_calls::obey;
+use node_plans::{Node, Plan};
+use std::alloc::Global;
+
+// The same at any node.
+fn obey_if_up(alloc: Global, node: &Node, plan: &mut Plan, command: Command) -> Result<(), Refusal>
+    requires blank { IsBlank plan.old }
+    requires told { told plan.old (seen node.now) ≡ answer.Done }
+    requires carries { CarriesOut plan.old (seen node.now) (at_work (seen node.now)) }
+    ensures { Plans (seen node.now) (if_up (seen node.now) (call (seen node.now) command)) plan.new result }
+{
+    if !node.is_up() {
+        drop(command);
+        return Err(Refusal::NodeDown);
+    }
+    obey(alloc, node, plan, command)
+}
+
+/// Plans a caller's command at a node, which stays as it is but for its room.
+pub fn plan_call(alloc: Global, node: &mut Node, command: Command) -> Result<Planned, Refusal>
+    ensures same { seen node.new ≡ seen node.old }
+    ensures plan { (names : List Name) → let due = at_node names (seen node.old) (event.Call command) in
+        MatchResult result (λ p. IsPlanned (seen node.old) due p.plan) (IsRefused due) }
+    ensures suits { IfOk result (Suits node.new) }
+{
+    let mut plan = Plan::new(alloc, false);
+    let planned = obey_if_up(alloc, node, &mut plan, command);
+    settle(node, plan, None, planned)
+}
