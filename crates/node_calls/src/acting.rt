@@ -8,8 +8,8 @@ ghost use Rattle.node_plans.specs.Seen.{seen};
 
 use erl_control::fits_test;
 use erl_term::{Atom, Payload, Pid, Refusal};
-use node_plans::Node;
 use node_frames::same_name;
+use node_plans::Node;
 
 /// The process that acts has to be living here.
 pub(crate) fn acts(node: &Node, process: &Pid) -> Result<(), Refusal>

@@ -14,6 +14,7 @@ use dist_model::{Answer, Links};
 use erl_control::Signal;
 use erl_term::{Payload, Pid, Refusal};
 use link_core::End;
+use node_endings::finish;
 use node_plans::{Node, Plan, or_refuse};
 use std::alloc::{AllocError, Global};
 
@@ -120,7 +121,7 @@ pub(crate) fn exit_self(
 {
     acts(node, process)?;
     fits_in(&reason)?;
-    or_refuse(plan.finish(alloc, node, process, reason))
+    or_refuse(finish(plan, alloc, node, process, reason))
 }
 
 // The links of a process.

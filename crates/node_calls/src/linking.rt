@@ -19,8 +19,9 @@ ghost use Rattle.node_changes.specs.declared.change.Change.TheVariants as change
 use crate::acting::{acts, aims_at, reaches};
 use erl_term::{Pid, Refusal};
 use link_core::LinkSignal;
-use node_plans::{Node, Plan, is_active, no_connection, or_refuse};
+use node_endings::{is_active, link_exit, no_connection};
 use node_frames::same_pid;
+use node_plans::{Node, Plan, or_refuse};
 use node_tables::EndChange;
 use std::alloc::{AllocError, Global};
 
@@ -56,7 +57,7 @@ fn link_lost(
 {
     let reason = no_connection(alloc)?;
     plan.change_end(process, partner, EndChange::Exits)?;
-    plan.link_exit(alloc, node, process, partner, reason)
+    link_exit(plan, alloc, node, process, partner, reason)
 }
 
 // It links itself to a process to which it isn't linked.

@@ -26,8 +26,9 @@ use dist_model::Answer;
 use erl_term::{Pid, Reference, Refusal};
 use exit_core::down_message;
 use monitor_core::Monitor;
-use node_plans::{Node, Plan, copied, monitor_between, no_connection, or_refuse};
+use node_endings::no_connection;
 use node_frames::same_pid;
+use node_plans::{Node, Plan, copied, monitor_between, or_refuse};
 use std::alloc::{AllocError, Global};
 
 // A process monitors another whose node is reached, under the reference that is drawn for this.

@@ -3,8 +3,5 @@ pub mod Posted
 pub mod Making
 pub mod Outcomes
 pub mod Sided
-pub mod Free
-pub mod Leaving
-pub mod Reactions
 pub mod Restarted
 pub mod Quieted

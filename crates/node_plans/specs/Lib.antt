@@ -5,5 +5,5 @@ pub mod Plans
 pub mod Carried
 pub mod Room
 pub mod Planned
-pub mod Exiting
+pub mod Gone
 pub mod Adding

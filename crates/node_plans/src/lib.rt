@@ -21,8 +21,6 @@ mod siding;
 mod telling;
 
 pub use copying::{copied, monitor_between};
-pub use ending::is_active;
 pub use node::Node;
 pub use plan::Plan;
-pub use reacting::{no_connection, no_process};
 pub use refusing::or_refuse;

@@ -188,4 +188,12 @@ impl Node {
     {
         self.incarnation.has_link_behind(process, node, partner)
     }
+
+    /// The partners of a process and the end towards each, in the order of the partners. None where it
+    /// isn't living.
+    pub fn links(&self, process: &Pid) -> &[(Pid, End)]
+        ensures { result.now ≡ model.ends_of (seen self.now) process.now }
+    {
+        self.incarnation.links(process)
+    }
 }

@@ -21,7 +21,8 @@ use erl_term::{Payload, Pid, Reference};
 use exit_core::down_message;
 use link_core::LinkSignal;
 use monitor_core::Monitor;
-use node_plans::{Node, Plan, is_active, no_process};
+use node_endings::{is_active, link_exit, no_process, other_exit};
+use node_plans::{Node, Plan};
 use node_tables::EndChange;
 use std::alloc::{AllocError, Global};
 
@@ -149,7 +150,7 @@ fn take_active_exit(
 {
     let reason = reason.copy(alloc)?;
     plan.change_end(to, from, EndChange::Exits)?;
-    plan.link_exit(alloc, node, to, from, reason)
+    link_exit(plan, alloc, node, to, from, reason)
 }
 
 // EXIT comes to a process.
@@ -193,5 +194,5 @@ pub(crate) fn take_exit2(
     if !node.is_living(to) {
         return Ok(());
     }
-    plan.other_exit(alloc, node, to, from, reason.copy(alloc)?)
+    other_exit(plan, alloc, node, to, from, reason.copy(alloc)?)
 }

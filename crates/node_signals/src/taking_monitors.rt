@@ -17,8 +17,9 @@ use erl_control::Signal;
 use erl_term::{Payload, Pid, Reference};
 use exit_core::down_message;
 use monitor_core::Monitor;
-use node_plans::{Node, Plan, copied, monitor_between, no_process};
+use node_endings::no_process;
 use node_frames::same_pid;
+use node_plans::{Node, Plan, copied, monitor_between};
 use std::alloc::{AllocError, Global};
 
 // Whether it is the monitor of this owner and this target.

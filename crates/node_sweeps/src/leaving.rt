@@ -16,7 +16,8 @@ use crate::left::{
 use crate::monitors::{first_registration, first_watch};
 use crate::sweeping::Sweeping;
 use erl_term::{Atom, Pid, Reference};
-use node_plans::{Node, is_active};
+use node_endings::is_active;
+use node_plans::Node;
 use node_tables::FoundLink;
 
 // Once a process ends by the first link.

@@ -15,8 +15,8 @@ ghost use Rattle.node_sweeps.specs.Records.{has_link, has_registration, has_watc
 use crate::places::place_of;
 use erl_term::{Atom, Pid, Reference};
 use monitor_core::Monitor;
-use node_plans::Node;
 use node_frames::{same_name, same_pid};
+use node_plans::Node;
 use node_tables::FoundLink;
 
 // ---- links

@@ -6,8 +6,8 @@ ghost use Rattle.node_sweeps.specs.Ahead.{Begins, IsAhead, IsBehindAll};
 
 use erl_names::NodeName;
 use erl_term::{Atom, Reference};
-use node_plans::Node;
 use node_frames::same_name;
+use node_plans::Node;
 
 /// How far the sweep of a lost connection has come: which records towards its peer are gone, so that
 /// the next are sought behind them. (Reference Manual, Distributed Erlang; that records go one at a

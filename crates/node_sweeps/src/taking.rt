@@ -17,7 +17,8 @@ use erl_term::{Payload, Pid, Reference};
 use exit_core::down_message;
 use link_core::End;
 use monitor_core::Monitor;
-use node_plans::{Node, Plan, copied, is_active, no_connection};
+use node_endings::{is_active, link_exit, no_connection};
+use node_plans::{Node, Plan, copied};
 use node_tables::EndChange;
 use std::alloc::{AllocError, Global};
 
@@ -37,7 +38,7 @@ fn break_link(
 {
     let reason = no_connection(alloc)?;
     plan.change_end(process, partner, EndChange::Exits)?;
-    plan.link_exit(alloc, node, process, partner, reason)
+    link_exit(plan, alloc, node, process, partner, reason)
 }
 
 /// A link to a process that isn't reached any more goes, also one that waits for its acknowledgement.

@@ -7,7 +7,7 @@ use Rattle.erl_term.specs.Data.{Data}
 use Rattle.link_core.specs.declared.end.End.{End}
 use Rattle.node_plans.specs.Carried.{Carries}
 use Rattle.node_plans.specs.Seen.{seen}
-use Rattle.node_plans.proofs.Reactions.{noconnection_fits}
+use Rattle.node_endings.proofs.Reactions.{noconnection_fits}
 use Rattle.node_calls.proofs.linking.link_lost.Goals as goal
 
 pub link_exit-requires-clause-fits : goal.link_exit-requires-clause-fits
@@ -21,5 +21,5 @@ returns-clause-carries c = λ w h.
     let p = c.args.process.now in
     let q = c.args.partner.now in
     let is : c.in_ok-reason.reason ≡ noconnection = search rules in
-    let P : Data → Type 0 = λ x. Carries m (link_exit p q x (set_end p q End.None w)) c.link_exit.new.self c.link_exit.result in
+    let P : Data → Type 0 = λ x. Carries m (link_exit p q x (set_end p q End.None w)) c.link_exit.new.plan c.link_exit.result in
     subst P is (c.link_exit.ensures.carries _ (c.in_ok-change_end.ensures.carries m w c.requires.living h))

@@ -13,5 +13,5 @@ returns-clause-carries c = λ w h.
     let p = c.args.to.now in
     let q = c.args.from.now in
     let same : c.in_ok-reason.reason ≡ c.args.reason.now = search rules in
-    let P : Data → Type 0 = λ x. Carries m (link_exit p q x (set_end p q End.None w)) c.link_exit.new.self c.link_exit.result in
+    let P : Data → Type 0 = λ x. Carries m (link_exit p q x (set_end p q End.None w)) c.link_exit.new.plan c.link_exit.result in
     subst P same (c.link_exit.ensures.carries _ (c.in_ok-change_end.ensures.carries m w c.requires.living h))

@@ -1,0 +1,3 @@
+pub mod Free
+pub mod Leaving
+pub mod Reactions

@@ -1,0 +1,160 @@
+//! An exit signal comes to a process, and what it does to it.
+ghost use Rattle.std.specs.Prelude.{◌≡◌, true, IfOk};
+ghost use Rattle.dist_model.specs.Exits.{carry_out, link_exit, other_exit};
+ghost use Rattle.dist_model.specs.Links.{noconnection, noproc};
+ghost use Rattle.dist_model.specs.Node.{Node as TheNode, living, traps};
+ghost use Rattle.dist_model.specs.Work.{Work, put};
+ghost use Rattle.erl_control.specs.Fits.{fits};
+ghost use Rattle.exit_core.specs.Reaction.{reaction};
+ghost use Rattle.node_plans.specs.Carried.{Carries, CarriesOut, IsFree, link_in};
+ghost use Rattle.node_endings.specs.Exiting.{FitsWhereEnds, OnlyExits};
+ghost use Rattle.node_plans.specs.Plans.{told};
+ghost use Rattle.node_plans.specs.Seen.{seen};
+ghost use Rattle.node_changes.specs.declared.change.Change.TheVariants as the_change;
+ghost use Rattle.node_changes.specs.declared.change.LinkChange.TheVariants as link;
+ghost use Rattle.node_changes.specs.declared.change.MonitorChange.TheVariants as monitor;
+ghost use Rattle.node_tables.specs.declared.end_change.EndChange.TheVariants as end;
+
+use crate::ending::finish;
+use erl_term::{Payload, Pid};
+use exit_core::{ExitSignal, Reaction, named};
+use node_frames::same_pid;
+use node_plans::{Node, Plan};
+use node_tables::Life;
+use std::alloc::{AllocError, Global};
+
+/// The reason noproc: there is no such process. (Reference Manual, Processes, Links and Monitors.)
+///
+/// # Errors
+/// Where there is no memory for it.
+pub fn no_process(alloc: Global) -> Result<Payload, AllocError>
+    ensures { IfOk result (λ p. p ≡ noproc) }
+{
+    named(alloc, "noproc")
+}
+
+/// The reason noconnection: the node isn't reached. (Reference Manual, Processes, Links and
+/// Monitors.)
+///
+/// # Errors
+/// Where there is no memory for it.
+pub fn no_connection(alloc: Global) -> Result<Payload, AllocError>
+    ensures { IfOk result (λ p. p ≡ noconnection) }
+{
+    named(alloc, "noconnection")
+}
+
+// What an exit signal does to a process that is living.
+fn react(
+    alloc: Global,
+    node: &Node,
+    process: &Pid,
+    signal: ExitSignal,
+) -> Result<Reaction, AllocError>
+    requires { living (seen node.now) process.now ≡ true }
+    ensures { IfOk result (λ r. r ≡ reaction (traps (seen node.now) process.now) signal) }
+{
+    match node.life(process) {
+        Some(Life::Living { process, .. }) => process.react(alloc, signal),
+        _ => unreachable!(),
+    }
+}
+
+/// The exit signal of its active link with a partner comes to a process: the link is gone.
+/// (Reference Manual, Processes, Links; ERTS User's Guide, Distribution Protocol, EXIT.)
+///
+/// # Errors
+/// Where there is no memory for it.
+pub fn link_exit(
+    plan: &mut Plan,
+    alloc: Global,
+    node: &Node,
+    process: &Pid,
+    partner: &Pid,
+    reason: Payload,
+) -> Result<(), AllocError>
+    requires fits { fits reason ≡ true }
+    requires free { IsFree plan.old.change process.now }
+    requires gone { link_in plan.old.change ≡ link.Becomes partner.now end.Exits }
+    requires watches { plan.old.watches ≡ monitor.Stays }
+    requires watchers { plan.old.watchers ≡ monitor.Stays }
+    requires living { living (seen node.now) process.now ≡ true }
+    ensures carries { (work : Work) → CarriesOut plan.old (seen node.now) work → Carries (seen node.now) (link_exit process.now partner.now reason work) plan.new result }
+    ensures answer { plan.new.answer ≡ plan.old.answer }
+    ensures told { (m : TheNode) → told plan.new m ≡ told plan.old m }
+    ensures watches { plan.new.watches ≡ plan.old.watches }
+    ensures watchers { plan.new.watchers ≡ plan.old.watchers }
+{
+    plan.reacted(alloc, process, partner, &reason)?;
+    let signal = ExitSignal {
+        sender: partner.clone()?,
+        reason,
+        link: true,
+        is_active: true,
+        is_own: same_pid(partner, process),
+    };
+    let reaction = react(alloc, node, process, signal)?;
+    carry_out(plan, alloc, node, process, reaction)
+}
+
+/// An exit signal comes to a process as another, or it itself, sent it. (Reference Manual,
+/// Processes, Sending Exit Signals; ERTS User's Guide, Distribution Protocol, EXIT2.)
+///
+/// # Errors
+/// Where there is no memory for it.
+pub fn other_exit(
+    plan: &mut Plan,
+    alloc: Global,
+    node: &Node,
+    process: &Pid,
+    sender: &Pid,
+    reason: Payload,
+) -> Result<(), AllocError>
+    requires fits { fits reason ≡ true }
+    requires none { plan.old.change ≡ the_change.None }
+    requires watches { plan.old.watches ≡ monitor.Stays }
+    requires watchers { plan.old.watchers ≡ monitor.Stays }
+    requires living { living (seen node.now) process.now ≡ true }
+    ensures carries { (work : Work) → CarriesOut plan.old (seen node.now) work → Carries (seen node.now) (other_exit process.now sender.now reason work) plan.new result }
+    ensures answer { plan.new.answer ≡ plan.old.answer }
+    ensures told { (m : TheNode) → told plan.new m ≡ told plan.old m }
+    ensures watches { plan.new.watches ≡ plan.old.watches }
+    ensures watchers { plan.new.watchers ≡ plan.old.watchers }
+{
+    let signal = ExitSignal {
+        sender: sender.clone()?,
+        reason,
+        link: false,
+        is_active: false,
+        is_own: same_pid(sender, process),
+    };
+    let reaction = react(alloc, node, process, signal)?;
+    carry_out(plan, alloc, node, process, reaction)
+}
+
+// A process does as it reacts.
+fn carry_out(
+    plan: &mut Plan,
+    alloc: Global,
+    node: &Node,
+    process: &Pid,
+    reaction: Reaction,
+) -> Result<(), AllocError>
+    requires fits { FitsWhereEnds reaction }
+    requires free { IsFree plan.old.change process.now }
+    requires link { OnlyExits (link_in plan.old.change) }
+    requires watches { plan.old.watches ≡ monitor.Stays }
+    requires watchers { plan.old.watchers ≡ monitor.Stays }
+    requires living { living (seen node.now) process.now ≡ true }
+    ensures carries { (work : Work) → CarriesOut plan.old (seen node.now) work → Carries (seen node.now) (carry_out reaction process.now work) plan.new result }
+    ensures answer { plan.new.answer ≡ plan.old.answer }
+    ensures told { (m : TheNode) → told plan.new m ≡ told plan.old m }
+    ensures watches { plan.new.watches ≡ plan.old.watches }
+    ensures watchers { plan.new.watchers ≡ plan.old.watchers }
+{
+    match reaction {
+        Reaction::Ignore => Ok(()),
+        Reaction::Put(message) => plan.put(alloc, process, message),
+        Reaction::End(reason) => finish(plan, alloc, node, process, reason),
+    }
+}
