@@ -32,10 +32,16 @@ pub fn settle(
 {
     match planned {
         Ok(()) => {}
-        Err(e) => return Err(e),
+        Err(e) => {
+            drop(plan);
+            return Err(e);
+        }
     }
     match node.reserve(&plan) {
         Ok(()) => Ok(Planned { plan, sweeping }),
-        Err(_) => Err(Refusal::OutOfMemory),
+        Err(_) => {
+            drop(plan);
+            Err(Refusal::OutOfMemory)
+        }
     }
 }
