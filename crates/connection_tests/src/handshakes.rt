@@ -32,7 +32,7 @@ pub(crate) enum Message {
 
 use Message::*;
 
-const ROLES: [Role; 2] = [Role::Dialer, Role::Acceptor];
+const ROLES: &[Role] = &[Role::Dialer, Role::Acceptor];
 
 const NAME: &[u8] = b"\0\x12N\0\0\0\x04\x03\x05\x01\x0C\0\0\0\x01\0\x03a@h";
 
@@ -125,22 +125,30 @@ const NO_MESSAGES: &[&[u8]] = &[
 
 /// The message of a row.
 pub(crate) fn made(alloc: Global, message: Message) -> Result<ShakeMsg, Refusal> {
-    Ok(match message {
-        SendName(flags, creation, name) => ShakeMsg::SendName {
-            flags: Flags::from_bits(flags),
-            creation,
-            name: NodeName::read(alloc, name)?,
-        },
-        SendStatus(status) => ShakeMsg::Status(status),
-        SendChallenge(flags, challenge, creation, name) => ShakeMsg::Challenge {
-            flags: Flags::from_bits(flags),
-            challenge,
-            creation,
-            name: NodeName::read(alloc, name)?,
-        },
-        SendReply(challenge, digest) => ShakeMsg::ChallengeReply { challenge, digest },
-        SendAck(digest) => ShakeMsg::ChallengeAck { digest },
-    })
+    match message {
+        SendName(flags, creation, name) => {
+            let name = NodeName::read(alloc, name)?;
+            let flags = Flags::from_bits(flags);
+            Ok(ShakeMsg::SendName {
+                flags,
+                creation,
+                name,
+            })
+        }
+        SendStatus(status) => Ok(ShakeMsg::Status(status)),
+        SendChallenge(flags, challenge, creation, name) => {
+            let name = NodeName::read(alloc, name)?;
+            let flags = Flags::from_bits(flags);
+            Ok(ShakeMsg::Challenge {
+                flags,
+                challenge,
+                creation,
+                name,
+            })
+        }
+        SendReply(challenge, digest) => Ok(ShakeMsg::ChallengeReply { challenge, digest }),
+        SendAck(digest) => Ok(ShakeMsg::ChallengeAck { digest }),
+    }
 }
 
 /// What is read.
@@ -188,7 +196,10 @@ fn answer(alloc: Global, role: Role, bytes: &[u8], wanted: &ShakeMsg) -> Result<
 
 /// Whether the message is written in these bytes.
 fn is_written(alloc: Global, message: &ShakeMsg, bytes: &[u8]) -> Result<bool, Refusal> {
-    Ok(write(alloc, message)?.as_slice() == bytes)
+    let written = write(alloc, message)?;
+    let is_so = written.as_slice() == bytes;
+    drop(written);
+    Ok(is_so)
 }
 
 /// The parts behind one another.
@@ -205,16 +216,29 @@ fn counted(alloc: Global, body: &[u8]) -> Result<Vec<u8>, AllocError> {
     joined(alloc, &[&[0, (body.len() % 250) as u8], body])
 }
 
-/// Whether each reader answers so to these bytes with others behind them: it reads the message if
-/// that is for it.
-fn is_read(alloc: Global, row: Message, message: &ShakeMsg, bytes: &[u8]) -> Result<bool, Refusal> {
-    let more = joined(alloc, &[bytes, &[0, 3, 0x73]])?;
+/// Whether each reader answers so to these bytes: it reads the message, of so many of them, if that
+/// is for it.
+fn is_read_in(
+    alloc: Global,
+    row: Message,
+    message: &ShakeMsg,
+    bytes: &[u8],
+    len: usize,
+) -> Result<bool, Refusal> {
     for role in ROLES {
-        if answer(alloc, role, &more, message)? != due(row, role, bytes.len()) {
+        if answer(alloc, *role, bytes, message)? != due(row, *role, len) {
             return Ok(false);
         }
     }
     Ok(true)
+}
+
+/// The same of a message's bytes with others behind them.
+fn is_read(alloc: Global, row: Message, message: &ShakeMsg, bytes: &[u8]) -> Result<bool, Refusal> {
+    let more = joined(alloc, &[bytes, &[0, 3, 0x73]])?;
+    let is_read = is_read_in(alloc, row, message, &more, bytes.len());
+    drop(more);
+    is_read
 }
 
 /// Whether the message is written in these bytes, and read again.
@@ -234,12 +258,21 @@ fn messages_travel(rt: HostRuntime) -> Result<(), Fail> {
     Ok(())
 }
 
+/// Whether a send_name of a@h travels with these flags and this creation, in these bytes.
+fn name_travels(alloc: Global, flags: u64, creation: u32, numbers: &[u8]) -> Result<bool, Refusal> {
+    let bytes = joined(alloc, &[b"\0\x12N", numbers, b"\0\x03a@h"])?;
+    let travels = travels(alloc, SendName(flags, creation, "a@h"), &bytes);
+    drop(bytes);
+    travels
+}
+
 #[test]
 fn numbers_travel(rt: HostRuntime) -> Result<(), Fail> {
     for (flags, creation, numbers) in NUMBERS {
-        let bytes = joined(rt.alloc(), &[b"\0\x12N", numbers, b"\0\x03a@h"])?;
-        let name = SendName(*flags, *creation, "a@h");
-        assert!(rt; travels(rt.alloc(), name, &bytes)?, "{flags}, {creation}");
+        assert!(rt;
+            name_travels(rt.alloc(), *flags, *creation, numbers)?,
+            "{flags}, {creation}"
+        );
     }
     Ok(())
 }
@@ -307,21 +340,31 @@ fn is_status(body: &[u8]) -> bool {
     }
 }
 
+/// Whether both readers refuse these bytes behind their length.
+fn is_refused(alloc: Global, body: &[u8]) -> Result<bool, Refusal> {
+    let bytes = counted(alloc, body)?;
+    let is_refused = both_answer(alloc, &bytes, Reading::Refused(Refusal::BadMessage));
+    drop(bytes);
+    is_refused
+}
+
 #[test]
 fn what_is_no_message(rt: HostRuntime) -> Result<(), Fail> {
     for (number, body) in NO_MESSAGES.iter().enumerate() {
         assert!(rt; !is_status(body), "row {number}");
-        let bytes = counted(rt.alloc(), body)?;
-        let is_refused = both_answer(rt.alloc(), &bytes, Reading::Refused(Refusal::BadMessage))?;
-        assert!(rt; is_refused, "row {number}");
+        assert!(rt; is_refused(rt.alloc(), body)?, "row {number}");
     }
     Ok(())
 }
 
+const WHOLE: &[&[u8]] = &[NAME, CHALLENGES, REPLY, ACK, ALIVE];
+
+const TOO_FEW: &[&[u8]] = &[&[0xFF, 0xFF, 0x78], &[0, 2, 0xFF]];
+
 /// Each beginning of a message asks for more bytes, and so do other bytes that are too few.
 #[test]
 fn what_is_not_whole(rt: HostRuntime) -> Result<(), Fail> {
-    for message in [NAME, CHALLENGES, REPLY, ACK, ALIVE] {
+    for message in WHOLE {
         for len in 0..message.len() {
             assert!(rt;
                 both_answer(rt.alloc(), &message[..len], Reading::More)?,
@@ -329,8 +372,9 @@ fn what_is_not_whole(rt: HostRuntime) -> Result<(), Fail> {
             );
         }
     }
-    assert!(rt; both_answer(rt.alloc(), &[0xFF, 0xFF, 0x78], Reading::More)?);
-    assert!(rt; both_answer(rt.alloc(), &[0, 2, 0xFF], Reading::More)?);
+    for bytes in TOO_FEW {
+        assert!(rt; both_answer(rt.alloc(), bytes, Reading::More)?);
+    }
     Ok(())
 }
 

@@ -1,17 +1,16 @@
 //! The two roles, line by line of their tables.
 use crate::handshakes::Message::*;
 use crate::handshakes::{CHALLENGE, DIGEST, MANDATORY, Message, made};
+use crate::sides::{SECRET, identity};
 use erl_handshake::{
-    AcceptorState, Admission, Cookie, DialerState, Flags, Identity, Next, OtherConnections,
-    Progress, ShakeFault, ShakeMsg, Status, done_only_by_digest, handshake_comes_about,
+    AcceptorState, Admission, Cookie, DialerState, Identity, Next, OtherConnections, Progress,
+    ShakeFault, ShakeMsg, Status, done_only_by_digest, handshake_comes_about,
     later_attempt_goes_on, one_of_two_dials, right_peers_pass,
 };
-use erl_names::{Creation, NodeName, TrunkId};
+use erl_names::{NodeName, TrunkId};
 use erl_term::Refusal;
 use std::alloc::Global;
 use std::test::*;
-
-const SECRET: &[u8] = b"1234567890123456789012345678901234567890123456789012345678901234567890";
 
 const WRONG: [u8; 16] = [0; 16];
 
@@ -188,16 +187,6 @@ const ACCEPTORS: &[(&[Step], Step)] = &[
     (ASKED, RefusesCalls),
 ];
 
-fn identity(alloc: Global, name: &str) -> Result<Identity, Refusal> {
-    let cookie = Vec::from_slice(alloc, SECRET)?;
-    Ok(Identity {
-        name: NodeName::read(alloc, name)?,
-        creation: Creation::first(),
-        flags: Flags::mandatory(),
-        cookie: Cookie::new(cookie),
-    })
-}
-
 /// A dialer: who it is, its peer, and what it awaits.
 #[derive(Drop)]
 struct Dialing {
@@ -209,7 +198,7 @@ struct Dialing {
 /// The dialer of a@h, whose peer is b@h.
 fn dialer(alloc: Global) -> Result<Dialing, Refusal> {
     Ok(Dialing {
-        own: identity(alloc, "a@h")?,
+        own: identity(alloc, "a@h", SECRET)?,
         peer: NodeName::read(alloc, "b@h")?,
         state: DialerState::AwaitsStatus {
             challenge: CHALLENGE,
@@ -227,7 +216,7 @@ struct Accepting {
 
 /// The acceptor of the attempt that a@h counts as this one.
 fn acceptor(alloc: Global, own: &str, count: u64) -> Result<Accepting, Refusal> {
-    let own = identity(alloc, own)?;
+    let own = identity(alloc, own, SECRET)?;
     let dialer = NodeName::read(alloc, "a@h")?;
     Ok(Accepting {
         own,
@@ -303,6 +292,21 @@ fn dialer_turns(
     Ok(true)
 }
 
+/// Whether they do, and then the message does this.
+fn dialer_turns_and(
+    alloc: Global,
+    dialer: &mut Dialing,
+    turns: &[(Message, Answer)],
+    message: Message,
+    answer: Answer,
+) -> Result<bool, Refusal> {
+    if dialer_turns(alloc, dialer, turns)? {
+        dialer_answers(alloc, dialer, message, answer)
+    } else {
+        Ok(false)
+    }
+}
+
 /// Whether the message does this to a dialer to which the turns came first.
 fn dials(
     alloc: Global,
@@ -311,10 +315,9 @@ fn dials(
     answer: Answer,
 ) -> Result<bool, Refusal> {
     let mut dialer = dialer(alloc)?;
-    let first = dialer_turns(alloc, &mut dialer, turns);
-    let then = dialer_turns(alloc, &mut dialer, &[(message, answer)]);
+    let is_so = dialer_turns_and(alloc, &mut dialer, turns, message, answer);
     drop(dialer);
-    Ok(first? && then?)
+    is_so
 }
 
 #[test]
@@ -425,13 +428,26 @@ fn acceptor_goes(alloc: Global, acceptor: &mut Accepting, steps: &[Step]) -> Res
     Ok(true)
 }
 
+/// Whether they do, and then this step does.
+fn acceptor_goes_and(
+    alloc: Global,
+    acceptor: &mut Accepting,
+    steps: &[Step],
+    step: Step,
+) -> Result<bool, Refusal> {
+    if acceptor_goes(alloc, acceptor, steps)? {
+        goes(alloc, acceptor, step)
+    } else {
+        Ok(false)
+    }
+}
+
 /// Whether the step comes out as it has to, behind the steps that come first.
 fn accepts(alloc: Global, steps: &[Step], step: Step) -> Result<bool, Refusal> {
     let mut acceptor = acceptor(alloc, "b@h", 1)?;
-    let first = acceptor_goes(alloc, &mut acceptor, steps);
-    let then = acceptor_goes(alloc, &mut acceptor, &[step]);
+    let is_so = acceptor_goes_and(alloc, &mut acceptor, steps, step);
     drop(acceptor);
-    Ok(first? && then?)
+    is_so
 }
 
 #[test]
@@ -539,13 +555,20 @@ fn parties(rt: HostRuntime) -> Result<(), Fail> {
     Ok(())
 }
 
+/// What is done to an acceptor while allocations are refused.
+const ALLOCATING: &[(&[Step], Step)] = &[
+    (&[], Comes(NAME, Waits)),
+    (GREETED, Admits(ALONE, Status::Ok)),
+    (CHALLENGING, RefusesCalls),
+];
+
 /// Run by the script fail-allocations too, with each allocation refused in turn.
 #[test]
 fn roles_allocations(rt: HostRuntime) -> Result<(), Fail> {
     assert!(rt; is_dialer(rt.alloc())?);
-    assert!(rt; accepts(rt.alloc(), &[], Comes(NAME, Waits))?);
-    assert!(rt; accepts(rt.alloc(), GREETED, Admits(ALONE, Status::Ok))?);
-    assert!(rt; accepts(rt.alloc(), CHALLENGING, RefusesCalls)?);
+    for (steps, step) in ALLOCATING {
+        assert!(rt; accepts(rt.alloc(), steps, *step)?);
+    }
     Ok(())
 }
 

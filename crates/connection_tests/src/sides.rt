@@ -10,7 +10,7 @@ use erl_handshake::{
 };
 use erl_names::{Creation, NodeName, TrunkId};
 use erl_term::{Refusal, TermError};
-use std::alloc::Global;
+use std::alloc::{AllocError, Global};
 use std::test::*;
 
 pub(crate) const SECRET: &[u8] =
@@ -289,14 +289,24 @@ const SCENARIOS: &[(Start, &[Step])] = &[
     (UP, &[AsksForMore(&[0, 0, 0, 2, 112, 131])]),
 ];
 
-fn identity(alloc: Global, name: &str, secret: &[u8]) -> Result<Identity, Refusal> {
-    let cookie = Vec::from_slice(alloc, secret)?;
-    Ok(Identity {
-        name: NodeName::read(alloc, name)?,
-        creation: Creation::first(),
-        flags: Flags::mandatory(),
-        cookie: Cookie::new(cookie),
-    })
+fn cookie(alloc: Global, secret: &[u8]) -> Result<Cookie, Refusal> {
+    Ok(Cookie::new(Vec::from_slice(alloc, secret)?))
+}
+
+pub(crate) fn identity(alloc: Global, name: &str, secret: &[u8]) -> Result<Identity, Refusal> {
+    let cookie = cookie(alloc, secret)?;
+    match NodeName::read(alloc, name) {
+        Ok(name) => Ok(Identity {
+            name,
+            creation: Creation::first(),
+            flags: Flags::mandatory(),
+            cookie,
+        }),
+        Err(why) => {
+            drop(cookie);
+            Err(why)
+        }
+    }
 }
 
 /// A side, and who its node is.
@@ -326,7 +336,7 @@ pub(crate) fn fresh(alloc: Global, secret: &[u8]) -> Result<Held, Refusal> {
 }
 
 /// The side that a scenario begins with.
-fn begun(alloc: Global, start: Start) -> Result<Held, Refusal> {
+fn begun(alloc: Global, start: &Start) -> Result<Held, Refusal> {
     if start.dials {
         dialing(alloc, 1, start.secret)
     } else {
@@ -352,13 +362,17 @@ pub(crate) fn kind_of(
     answer: &Result<Option<Arrival>, Refusal>,
     sent: &mut Vec<u8>,
 ) -> Result<Kind, Refusal> {
-    let arrival = match answer {
-        Ok(Some(arrival)) => arrival,
-        Ok(None) => return Ok(Kind::Begun),
-        Err(Refusal::NotLive) => return Ok(Kind::NotLive),
-        Err(why) => return Err(*why),
-    };
-    match &arrival.was {
+    match answer {
+        Ok(Some(arrival)) => Ok(kind_of_taken(&arrival.was, sent)?),
+        Ok(None) => Ok(Kind::Begun),
+        Err(Refusal::NotLive) => Ok(Kind::NotLive),
+        Err(why) => Err(*why),
+    }
+}
+
+/// The same of what was taken.
+fn kind_of_taken(taken: &Taken, sent: &mut Vec<u8>) -> Result<Kind, AllocError> {
+    match taken {
         Taken::Message { send: None, .. } => Ok(Kind::Message),
         Taken::Message {
             send: Some(message),
@@ -421,7 +435,9 @@ fn arrives(
 /// Whether the item at the front leaves so many bytes.
 fn leaves(alloc: Global, held: &mut Held, bytes: &[u8], rest: usize) -> Result<bool, Refusal> {
     let mut sent = Vec::new(alloc);
-    let (_, len) = kind_at(alloc, held, bytes, &mut sent)?;
+    let found = kind_at(alloc, held, bytes, &mut sent);
+    drop(sent);
+    let (_, len) = found?;
     Ok(bytes.len().checked_sub(len) == Some(rest))
 }
 
@@ -455,15 +471,20 @@ fn gives_way(held: &mut Held) -> bool {
     }
 }
 
+/// The bytes of a message.
+fn bytes_of(alloc: Global, message: ShakeMsg) -> Result<Vec<u8>, AllocError> {
+    let bytes = write(alloc, &message);
+    drop(message);
+    bytes
+}
+
 /// The bytes of the challenge, or none where the side doesn't await it. The side stands so then.
 pub(crate) fn challenge(alloc: Global, held: &mut Held) -> Result<Vec<u8>, Refusal> {
     let Some((standing, message)) = held.side.send_challenge(&held.own)? else {
         return Ok(Vec::new(alloc));
     };
     held.side.standing = standing;
-    let sent = write(alloc, &message);
-    drop(message);
-    Ok(sent?)
+    Ok(bytes_of(alloc, message)?)
 }
 
 fn goes_on(alloc: Global, held: &mut Held, bytes: &[u8]) -> Result<bool, Refusal> {
@@ -536,7 +557,7 @@ fn first_wrong_behind(
 }
 
 /// The first step of a scenario that comes out otherwise.
-fn wrong_step(alloc: Global, start: Start, steps: &[Step]) -> Result<Option<usize>, Refusal> {
+fn wrong_step(alloc: Global, start: &Start, steps: &[Step]) -> Result<Option<usize>, Refusal> {
     let mut held = begun(alloc, start)?;
     let wrong = first_wrong_behind(alloc, &mut held, start.steps, steps);
     drop(held);
@@ -546,7 +567,7 @@ fn wrong_step(alloc: Global, start: Start, steps: &[Step]) -> Result<Option<usiz
 #[test]
 fn scenarios(rt: HostRuntime) -> Result<(), Fail> {
     for (number, (start, steps)) in SCENARIOS.iter().enumerate() {
-        let wrong = wrong_step(rt.alloc(), *start, steps)?;
+        let wrong = wrong_step(rt.alloc(), start, steps)?;
         assert_eq!(rt; wrong, None, "scenario {number}");
     }
     Ok(())
@@ -590,17 +611,14 @@ fn passed(alloc: Global, bytes: &[u8], held: &mut Held) -> Result<Vec<u8>, Refus
 }
 
 /// The bytes of a dialer's first message.
-fn name(alloc: Global, held: &Held) -> Result<Vec<u8>, Refusal> {
-    let message = held.own.send_name()?;
-    let sent = write(alloc, &message);
-    drop(message);
-    Ok(sent?)
+fn name(alloc: Global, held: &Held) -> Result<Vec<u8>, AllocError> {
+    bytes_of(alloc, held.own.send_name()?)
 }
 
 /// The bytes of the status that is sent, where the node decides on the attempt.
 fn status(alloc: Global, held: &mut Held) -> Result<Vec<u8>, Refusal> {
     match decided(held, ALONE) {
-        Some(admission) => Ok(write(alloc, &ShakeMsg::Status(admission.status))?),
+        Some(admission) => Ok(bytes_of(alloc, ShakeMsg::Status(admission.status))?),
         None => Err(Refusal::NothingThere),
     }
 }
@@ -641,15 +659,18 @@ fn two_sides(rt: HostRuntime) -> Result<(), Fail> {
     Ok(())
 }
 
+/// What is done to a side while allocations are refused.
+const ALLOCATING: &[(Start, &[Step])] = &[
+    (ACCEPTING, &[Answers(REPLIES, ACKNOWLEDGES)]),
+    (UP, &[]),
+];
+
 /// Run by the script fail-allocations too, with each allocation refused in turn.
 #[test]
 fn sides_allocations(rt: HostRuntime) -> Result<(), Fail> {
-    let alloc = rt.alloc();
-    assert_eq!(rt;
-        wrong_step(alloc, ACCEPTING, &[Answers(REPLIES, ACKNOWLEDGES)])?,
-        None
-    );
-    assert_eq!(rt; wrong_step(alloc, UP, &[])?, None);
+    for (start, steps) in ALLOCATING {
+        assert_eq!(rt; wrong_step(rt.alloc(), start, steps)?, None);
+    }
     Ok(())
 }
 

@@ -60,7 +60,7 @@ fn joined(alloc: Global, parts: &[&[u8]]) -> Result<Vec<u8>, Refusal> {
 /// Where the node has to decide on the attempt it goes on, and the challenge is sent.
 fn decides(alloc: Global, held: &mut Held) -> Result<(), Refusal> {
     if decided(held, ALONE).is_some() {
-        challenge(alloc, held)?;
+        drop(challenge(alloc, held)?);
     }
     Ok(())
 }
@@ -139,28 +139,51 @@ fn begun(alloc: Global, stream: &Stream) -> Result<Held, Refusal> {
     }
 }
 
-/// The first size of pieces in which a stream gives something else.
-fn wrong_size(alloc: Global, stream: &Stream) -> Result<Option<usize>, Refusal> {
-    let bytes = joined(alloc, stream.parts)?;
+/// The stream's side at its beginning.
+fn reading(alloc: Global, stream: &Stream) -> Result<StreamSide, Refusal> {
+    let Held { own, side } = begun(alloc, stream)?;
+    drop(own);
+    Ok(StreamSide::new(alloc, side))
+}
+
+/// Whether the stream is read as it has to be beside the side that is held.
+fn comes_beside(
+    alloc: Global,
+    held: &mut Held,
+    stream: &Stream,
+    bytes: &[u8],
+    size: usize,
+) -> Result<bool, Refusal> {
+    let mut reading = reading(alloc, stream)?;
+    let is_so = comes(alloc, held, &mut reading, bytes, stream.kinds, size);
+    drop(reading);
+    is_so
+}
+
+/// Whether the stream gives what it has to in pieces of this size.
+fn comes_in(alloc: Global, stream: &Stream, bytes: &[u8], size: usize) -> Result<bool, Refusal> {
+    let mut held = begun(alloc, stream)?;
+    let is_so = comes_beside(alloc, &mut held, stream, bytes, size);
+    drop(held);
+    is_so
+}
+
+/// The first size of pieces in which these bytes give something else.
+fn wrong_size_of(alloc: Global, stream: &Stream, bytes: &[u8]) -> Result<Option<usize>, Refusal> {
     for size in 1..=bytes.len() {
-        let mut held = begun(alloc, stream)?;
-        let Held { side, .. } = begun(alloc, stream)?;
-        let mut reading = StreamSide::new(alloc, side);
-        let is_so = comes(
-            alloc,
-            &mut held,
-            &mut reading,
-            bytes.as_slice(),
-            stream.kinds,
-            size,
-        );
-        drop(reading);
-        drop(held);
-        if !is_so? {
+        if !comes_in(alloc, stream, bytes, size)? {
             return Ok(Some(size));
         }
     }
     Ok(None)
+}
+
+/// The same of the stream's own bytes.
+fn wrong_size(alloc: Global, stream: &Stream) -> Result<Option<usize>, Refusal> {
+    let bytes = joined(alloc, stream.parts)?;
+    let wrong = wrong_size_of(alloc, stream, bytes.as_slice());
+    drop(bytes);
+    wrong
 }
 
 #[test]
