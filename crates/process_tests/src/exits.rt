@@ -1,6 +1,6 @@
 //! What exit signals do to a process, and the messages as Erlang writes them.
 use crate::processes::{Process, pid, reference};
-use erl_term::{Atom, Payload, Refusal, Term, encode};
+use erl_term::{Atom, Payload, Pid, Refusal, Term, encode};
 use exit_core::{
     ExitSignal, Mailbox, Proc, Reaction, down_message, exit_message, only_active_links, ways_to_end,
 };
@@ -65,13 +65,24 @@ fn told_of(reaction: &Reaction) -> Told {
 }
 
 fn signal(alloc: Global, reason: &str, from: From) -> Result<ExitSignal, Refusal> {
-    Ok(ExitSignal {
-        sender: pid(alloc, SENDER)?,
-        reason: atom(alloc, reason)?,
+    let reason = atom(alloc, reason)?;
+    match pid(alloc, SENDER) {
+        Ok(sender) => Ok(signal_of(sender, reason, from)),
+        Err(why) => {
+            drop(reason);
+            Err(why)
+        }
+    }
+}
+
+fn signal_of(sender: Pid, reason: Payload, from: From) -> ExitSignal {
+    ExitSignal {
+        sender,
+        reason,
         link: matches!(from, From::Link | From::OtherLink),
         is_active: matches!(from, From::Link),
         is_own: matches!(from, From::Itself),
-    })
+    }
 }
 
 /// Whether a process, which traps exits or doesn't, does this.
@@ -89,7 +100,7 @@ fn reacts(
     Ok(told_of(&reaction) == wanted)
 }
 
-const REACTIONS: [(bool, &str, From, Told); 12] = [
+const REACTIONS: &[(bool, &str, From, Told)] = &[
     (false, "boom", From::OtherLink, Told::Ignores),
     (true, "kill", From::OtherLink, Told::Ignores),
     // kill, and kill of a link
@@ -144,10 +155,24 @@ fn is_written(alloc: Global, message: &Payload, hex: &str) -> Result<bool, Fail>
     Ok(text.as_str() == hex)
 }
 
+fn is_exit_written(alloc: Global) -> Result<bool, Fail> {
+    let message = exit(alloc)?;
+    let is_so = is_written(alloc, &message, EXIT);
+    drop(message);
+    is_so
+}
+
+fn is_down_written(alloc: Global) -> Result<bool, Fail> {
+    let message = down(alloc)?;
+    let is_so = is_written(alloc, &message, DOWN);
+    drop(message);
+    is_so
+}
+
 #[test]
 fn messages(rt: HostRuntime) -> Result<(), Fail> {
-    assert!(rt; is_written(rt.alloc(), &exit(rt.alloc())?, EXIT)?);
-    assert!(rt; is_written(rt.alloc(), &down(rt.alloc())?, DOWN)?);
+    assert!(rt; is_exit_written(rt.alloc())?);
+    assert!(rt; is_down_written(rt.alloc())?);
     Ok(())
 }
 
@@ -157,15 +182,21 @@ fn puts(alloc: Global, mailbox: &mut Mailbox, name: &str) -> Result<(), Refusal>
 
 /// The name of the message at a place, if one is there.
 fn message_at(mailbox: &Mailbox, place: usize) -> Option<&str> {
-    mailbox.get(place).map(|message| name_of(message.term()))
+    match mailbox.get(place) {
+        Some(message) => Some(name_of(message.term())),
+        None => None,
+    }
 }
 
 /// Whether the oldest message has this name.
 fn takes(mailbox: &mut Mailbox, name: &str) -> bool {
-    match &mailbox.take() {
+    let taken = mailbox.take();
+    let is_so = match &taken {
         Some(message) => name_of(message.term()) == name,
         None => false,
-    }
+    };
+    drop(taken);
+    is_so
 }
 
 #[test]

@@ -55,13 +55,18 @@ fn sends(signal: Option<LinkSignal>) -> Answer {
     }
 }
 
-fn two_processes(alloc: Global) -> Result<Pair, Refusal> {
-    Ok(Pair {
-        p: pid(alloc, P)?,
-        q: pid(alloc, Q)?,
+fn pair_of(alloc: Global, p: Pid, q: Pid) -> Pair {
+    Pair {
+        p,
+        q,
         of_p: Ends::new(alloc),
         of_q: Ends::new(alloc),
-    })
+    }
+}
+
+fn two_processes(alloc: Global) -> Result<Pair, Refusal> {
+    let p = pid(alloc, P)?;
+    Ok(pair_of(alloc, p, pid(alloc, Q)?))
 }
 
 /// Makes the call with the ends of one process.
@@ -120,7 +125,7 @@ const IS_LINKED: Row = (
 );
 
 /// The acknowledgement of an unlink that was overtaken by a further link and unlink ends nothing.
-const OLD_ACKNOWLEDGEMENT: [Row; 12] = [
+const OLD_ACKNOWLEDGEMENT: &[Row] = &[
     LINKS,
     IS_LINKED,
     (
@@ -196,7 +201,7 @@ const OLD_ACKNOWLEDGEMENT: [Row; 12] = [
 ];
 
 /// Both unlink at once, and one of them links again.
-const CROSSED_UNLINKS: [Row; 10] = [
+const CROSSED_UNLINKS: &[Row] = &[
     LINKS,
     IS_LINKED,
     (
@@ -259,7 +264,7 @@ const CROSSED_UNLINKS: [Row; 10] = [
 
 /// An exit ends a link once, and ends one that is taken back in silence. What isn't linked sends
 /// nothing when it unlinks, and a second link is silent.
-const EXITS: [Row; 8] = [
+const EXITS: &[Row] = &[
     (
         Who::P,
         Call::Unlink(9),
@@ -302,9 +307,9 @@ const EXITS: [Row; 8] = [
 
 #[test]
 fn schedules(rt: HostRuntime) -> Result<(), Fail> {
-    assert_eq!(rt; first_wrong(rt.alloc(), &OLD_ACKNOWLEDGEMENT)?, None);
-    assert_eq!(rt; first_wrong(rt.alloc(), &CROSSED_UNLINKS)?, None);
-    assert_eq!(rt; first_wrong(rt.alloc(), &EXITS)?, None);
+    for rows in [OLD_ACKNOWLEDGEMENT, CROSSED_UNLINKS, EXITS] {
+        assert_eq!(rt; first_wrong(rt.alloc(), rows)?, None);
+    }
     Ok(())
 }
 
@@ -330,7 +335,7 @@ fn links_to_five(alloc: Global, ends: &mut Ends) -> Result<LinkSignal, Refusal> 
     unlinked(alloc, ends, ("b@h", 1, 2))
 }
 
-const FIVE: [(Process, End); 11] = [
+const FIVE: &[(Process, End)] = &[
     (("b@h", 1, 1), End::Active),
     (("b@h", 1, 2), End::None),
     (("b@h", 1, 3), End::Active),
@@ -351,7 +356,7 @@ fn several_partners(rt: HostRuntime) -> Result<(), Fail> {
     assert_eq!(rt; links_to_five(rt.alloc(), &mut ends)?, LinkSignal::Ack(6));
     assert_eq!(rt; ends.partners().len(), 9);
     for (partner, wanted) in FIVE {
-        assert_eq!(rt; end(rt.alloc(), &ends, partner), Ok(wanted));
+        assert_eq!(rt; end(rt.alloc(), &ends, *partner), Ok(*wanted));
     }
     Ok(())
 }

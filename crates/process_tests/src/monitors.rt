@@ -1,8 +1,8 @@
 //! Monitors of processes, put in and taken out call by call.
 use crate::processes::{Process, pid, reference};
-use erl_term::{Reference, Refusal};
+use erl_term::{Pid, Reference, Refusal};
 use monitor_core::{Monitor, Watchers, Watches};
-use std::alloc::Global;
+use std::alloc::{AllocError, Global};
 use std::test::*;
 
 const OWNER: Process = ("a@h", 1, 1);
@@ -72,11 +72,17 @@ fn last(entries: &[(Reference, Monitor)], places: &[usize]) -> Answer {
     }
 }
 
+fn monitor_of(owner: Pid, target: Pid) -> Monitor {
+    Monitor { owner, target }
+}
+
 fn monitor(alloc: Global, owner: Process, target: Process) -> Result<Monitor, Refusal> {
-    Ok(Monitor {
-        owner: pid(alloc, owner)?,
-        target: pid(alloc, target)?,
-    })
+    let owner = pid(alloc, owner)?;
+    Ok(monitor_of(owner, pid(alloc, target)?))
+}
+
+fn add(watches: &mut Watches, reference: Reference, monitor: Monitor) -> Result<(), AllocError> {
+    watches.add(reference, monitor)
 }
 
 fn puts_own(
@@ -85,7 +91,11 @@ fn puts_own(
     call: (u32, Process, Process),
 ) -> Result<Answer, Refusal> {
     let (word, owner, target) = call;
-    watches.add(reference(alloc, word)?, monitor(alloc, owner, target)?)?;
+    add(
+        watches,
+        reference(alloc, word)?,
+        monitor(alloc, owner, target)?,
+    )?;
     Ok(Answer::Done)
 }
 
@@ -169,7 +179,7 @@ fn call_of_others(alloc: Global, watchers: &mut Watchers, call: Call) -> Result<
 }
 
 /// A reference that has a monitor keeps it, and a DOWN ends the monitor that it names whole, once.
-const OWN: [(Call, Answer); 11] = [
+const OWN: &[(Call, Answer)] = &[
     (Call::Put(2, OWNER, TARGET), Answer::Done),
     (Call::Put(1, OWNER, TARGET), Answer::Done),
     (Call::Put(1, TARGET, OWNER), Answer::Done),
@@ -184,7 +194,7 @@ const OWN: [(Call, Answer); 11] = [
 ];
 
 /// The least reference comes first. A process that ends takes all its own with it.
-const OWN_IN_ORDER: [(Call, Answer); 14] = [
+const OWN_IN_ORDER: &[(Call, Answer)] = &[
     (Call::Put(3, OWNER, TARGET), Answer::Done),
     (Call::Put(1, OTHER, OWNER), Answer::Done),
     (Call::Put(2, OWNER, TARGET), Answer::Done),
@@ -202,7 +212,7 @@ const OWN_IN_ORDER: [(Call, Answer); 14] = [
 ];
 
 /// A process is found with all that it has, whatever came or went before them.
-const OWN_OF_EACH: [(Call, Answer); 17] = [
+const OWN_OF_EACH: &[(Call, Answer)] = &[
     (Call::Put(5, OWNER, TARGET), Answer::Done),
     (Call::Put(3, OTHER, TARGET), Answer::Done),
     (Call::Put(4, OWNER, OTHER), Answer::Done),
@@ -222,7 +232,7 @@ const OWN_OF_EACH: [(Call, Answer); 17] = [
     (Call::LastOf(OTHER), Answer::Found(3)),
 ];
 
-const OF_OTHERS: [(Call, Answer); 20] = [
+const OF_OTHERS: &[(Call, Answer)] = &[
     (Call::Put(3, OWNER, TARGET), Answer::Done),
     (Call::Put(1, OWNER, TARGET), Answer::Done),
     (Call::Put(2, OWNER, TARGET), Answer::Done),
@@ -259,14 +269,14 @@ fn first_wrong(alloc: Global, rows: &[(Call, Answer)]) -> Option<usize> {
 
 #[test]
 fn own_monitors(rt: HostRuntime) {
-    assert_eq!(rt; first_wrong_own(rt.alloc(), &OWN), None);
-    assert_eq!(rt; first_wrong_own(rt.alloc(), &OWN_IN_ORDER), None);
-    assert_eq!(rt; first_wrong_own(rt.alloc(), &OWN_OF_EACH), None);
+    for rows in [OWN, OWN_IN_ORDER, OWN_OF_EACH] {
+        assert_eq!(rt; first_wrong_own(rt.alloc(), rows), None);
+    }
 }
 
 #[test]
 fn monitors_of_others(rt: HostRuntime) {
-    assert_eq!(rt; first_wrong(rt.alloc(), &OF_OTHERS), None);
+    assert_eq!(rt; first_wrong(rt.alloc(), OF_OTHERS), None);
 }
 
 /// Puts in a monitor, and tells whether its reference has one exactly where it was not refused.

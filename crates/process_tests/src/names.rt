@@ -10,9 +10,9 @@ const LONGEST: &str = "nnnnnnnnnnnnnnnnnnnnnnnnnnnnnnnnnnnnnnnnnnnnnnnnnnnnnnnnn
 
 const TOO_LONG: &str = "nnnnnnnnnnnnnnnnnnnnnnnnnnnnnnnnnnnnnnnnnnnnnnnnnnnnnnnnnnnnnnn@h";
 
-const GOOD: [&str; 5] = ["a@h", LONGEST, "a_b-9@127.0.0.1", "A@x-y_z.Example", "-@."];
+const GOOD: &[&str] = &["a@h", LONGEST, "a_b-9@127.0.0.1", "A@x-y_z.Example", "-@."];
 
-const BAD: [&str; 12] = [
+const BAD: &[&str] = &[
     "", "@", "a", "a@", "@h", "a@h@h", "a+b@h", "a.b@h", "a@h h", "é@h", "a@hé", TOO_LONG,
 ];
 
@@ -36,8 +36,20 @@ fn names(rt: HostRuntime) -> Result<(), Fail> {
     Ok(())
 }
 
+/// A name, of whose text the proof knows nothing more.
+fn name(alloc: Global, text: &str) -> Result<NodeName, Refusal> {
+    NodeName::read(alloc, text)
+}
+
 fn mint(alloc: Global, creation: Creation) -> Result<Mint, Refusal> {
-    NodeName::read(alloc, "a@h").map(|name| Mint::new(name, creation))
+    match name(alloc, "a@h") {
+        Ok(name) => Ok(Mint::new(name, creation)),
+        Err(why) => Err(why),
+    }
+}
+
+fn mint_of_second(alloc: Global) -> Result<Mint, Refusal> {
+    mint(alloc, Creation::first().next()?)
 }
 
 /// How many references are drawn before they are used up, if each is the number of the draw.
@@ -52,14 +64,30 @@ fn references(mint: &mut Mint) -> Option<u32> {
     None
 }
 
+/// What is drawn next: a reference, a pid and an unlink id.
+fn next_of_each(
+    mint: &mut Mint,
+) -> (
+    Result<u32, Refusal>,
+    Result<u32, Refusal>,
+    Result<u64, Refusal>,
+) {
+    (
+        mint.next_reference(),
+        mint.next_pid(),
+        mint.next_unlink_id(),
+    )
+}
+
 /// Used up for good, and the other numbers aren't.
 #[test]
 fn references_used_up(rt: HostRuntime) -> Result<(), Fail> {
     let mut mint = mint(rt.alloc(), Creation::first())?;
     assert_eq!(rt; references(&mut mint), Some(262_143));
-    assert_eq!(rt; mint.next_reference(), Err(Refusal::IdsUsedUp));
-    assert_eq!(rt; mint.next_pid(), Ok(1));
-    assert_eq!(rt; mint.next_unlink_id(), Ok(1));
+    let (reference, pid, unlink_id) = next_of_each(&mut mint);
+    assert_eq!(rt; reference, Err(Refusal::IdsUsedUp));
+    assert_eq!(rt; pid, Ok(1));
+    assert_eq!(rt; unlink_id, Ok(1));
     Ok(())
 }
 
@@ -98,24 +126,29 @@ fn draws(rt: HostRuntime) -> Result<(), Fail> {
 }
 
 fn trunk(alloc: Global, dialer: &str, count: u64) -> Result<TrunkId, Refusal> {
-    Ok(TrunkId {
-        dialer: NodeName::read(alloc, dialer)?,
-        count,
-    })
+    match name(alloc, dialer) {
+        Ok(dialer) => Ok(TrunkId { dialer, count }),
+        Err(why) => Err(why),
+    }
 }
 
+/// A connection by the dialer's name and its count.
+type Trunk = (&'static str, u64);
+
 /// How two connections compare: by the dialer's name, and then by its count. A copy is the same.
+const TRUNKS: &[(Trunk, Trunk, Ordering)] = &[
+    (("a@h", 2), ("b@h", 1), Ordering::Less),
+    (("b@h", 1), ("b@h", 2), Ordering::Less),
+    (("b@h", 1), ("b@h", 1), Ordering::Equal),
+];
+
 #[test]
 fn trunks_in_order(rt: HostRuntime) -> Result<(), Fail> {
-    for (one, other, wanted) in [
-        (("a@h", 2), ("b@h", 1), Ordering::Less),
-        (("b@h", 1), ("b@h", 2), Ordering::Less),
-        (("b@h", 1), ("b@h", 1), Ordering::Equal),
-    ] {
-        let order = order_of(rt.alloc(), one, other)?;
+    for (one, other, wanted) in TRUNKS {
+        let order = order_of(rt.alloc(), *one, *other)?;
         assert_eq!(rt;
             order,
-            wanted,
+            *wanted,
             "{} {}, {} {}",
             one.0, one.1, other.0, other.1
         );
@@ -123,7 +156,7 @@ fn trunks_in_order(rt: HostRuntime) -> Result<(), Fail> {
     Ok(())
 }
 
-fn order_of(alloc: Global, one: (&str, u64), other: (&str, u64)) -> Result<Ordering, Refusal> {
+fn order_of(alloc: Global, one: Trunk, other: Trunk) -> Result<Ordering, Refusal> {
     let one = trunk(alloc, one.0, one.1)?;
     let other = trunk(alloc, other.0, other.1)?.clone()?;
     Ok(one.cmp(&other))
@@ -131,8 +164,10 @@ fn order_of(alloc: Global, one: (&str, u64), other: (&str, u64)) -> Result<Order
 
 /// The number of the incarnation that is made of this number.
 fn number_of(number: u32) -> Option<u32> {
-    let creation = Creation::new(number)?;
-    Some(creation.number())
+    match Creation::new(number) {
+        Some(creation) => Some(creation.number()),
+        None => None,
+    }
 }
 
 /// The number of the incarnation behind the one of this number.
@@ -171,8 +206,11 @@ fn draws_nothing(mint: &mut Mint) -> Result<bool, Refusal> {
 /// Run by the script fail-allocations too, with each allocation refused in turn.
 #[test]
 fn name_allocations(rt: HostRuntime) -> Result<(), Fail> {
-    let mut mint = mint(rt.alloc(), Creation::first().next()?)?;
-    assert!(rt; is_named_again(&mint)?);
-    assert!(rt; draws_nothing(&mut mint)?);
+    let mut mint = mint_of_second(rt.alloc())?;
+    let is_named_again = is_named_again(&mint);
+    let draws_nothing = draws_nothing(&mut mint);
+    drop(mint);
+    assert!(rt; is_named_again?);
+    assert!(rt; draws_nothing?);
     Ok(())
 }
