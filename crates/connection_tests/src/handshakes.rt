@@ -1,9 +1,9 @@
 //! Messages of the handshake as the distribution protocol has them, written by hand.
+use crate::sides::node_name;
 use erl_handshake::{
     Flag, Flags, Role, ShakeMsg, Status, digest, digests, flags_by_bits, one_answer, one_message,
     read, read_again, short_messages, write, written_is_shake,
 };
-use erl_names::NodeName;
 use erl_term::Refusal;
 use std::alloc::{AllocError, Global};
 use std::test::*;
@@ -127,7 +127,7 @@ const NO_MESSAGES: &[&[u8]] = &[
 pub(crate) fn made(alloc: Global, message: Message) -> Result<ShakeMsg, Refusal> {
     match message {
         SendName(flags, creation, name) => {
-            let name = NodeName::read(alloc, name)?;
+            let name = node_name(alloc, name)?;
             let flags = Flags::from_bits(flags);
             Ok(ShakeMsg::SendName {
                 flags,
@@ -137,7 +137,7 @@ pub(crate) fn made(alloc: Global, message: Message) -> Result<ShakeMsg, Refusal>
         }
         SendStatus(status) => Ok(ShakeMsg::Status(status)),
         SendChallenge(flags, challenge, creation, name) => {
-            let name = NodeName::read(alloc, name)?;
+            let name = node_name(alloc, name)?;
             let flags = Flags::from_bits(flags);
             Ok(ShakeMsg::Challenge {
                 flags,
@@ -194,12 +194,14 @@ fn answer(alloc: Global, role: Role, bytes: &[u8], wanted: &ShakeMsg) -> Result<
     compared
 }
 
+fn written(alloc: Global, message: &ShakeMsg) -> Result<Vec<u8>, AllocError> {
+    write(alloc, message)
+}
+
 /// Whether the message is written in these bytes.
 fn is_written(alloc: Global, message: &ShakeMsg, bytes: &[u8]) -> Result<bool, Refusal> {
-    let written = write(alloc, message)?;
-    let is_so = written.as_slice() == bytes;
-    drop(written);
-    Ok(is_so)
+    let written = written(alloc, message)?;
+    Ok(written.as_slice() == bytes)
 }
 
 /// The parts behind one another.
@@ -357,14 +359,10 @@ fn what_is_no_message(rt: HostRuntime) -> Result<(), Fail> {
     Ok(())
 }
 
-const WHOLE: &[&[u8]] = &[NAME, CHALLENGES, REPLY, ACK, ALIVE];
-
-const TOO_FEW: &[&[u8]] = &[&[0xFF, 0xFF, 0x78], &[0, 2, 0xFF]];
-
 /// Each beginning of a message asks for more bytes, and so do other bytes that are too few.
 #[test]
 fn what_is_not_whole(rt: HostRuntime) -> Result<(), Fail> {
-    for message in WHOLE {
+    for message in [NAME, CHALLENGES, REPLY, ACK, ALIVE] {
         for len in 0..message.len() {
             assert!(rt;
                 both_answer(rt.alloc(), &message[..len], Reading::More)?,
@@ -372,9 +370,8 @@ fn what_is_not_whole(rt: HostRuntime) -> Result<(), Fail> {
             );
         }
     }
-    for bytes in TOO_FEW {
-        assert!(rt; both_answer(rt.alloc(), bytes, Reading::More)?);
-    }
+    assert!(rt; both_answer(rt.alloc(), &[0xFF, 0xFF, 0x78], Reading::More)?);
+    assert!(rt; both_answer(rt.alloc(), &[0, 2, 0xFF], Reading::More)?);
     Ok(())
 }
 

@@ -1,7 +1,7 @@
 //! The two roles, line by line of their tables.
 use crate::handshakes::Message::*;
 use crate::handshakes::{CHALLENGE, DIGEST, MANDATORY, Message, made};
-use crate::sides::{SECRET, identity};
+use crate::sides::{SECRET, identity, node_name};
 use erl_handshake::{
     AcceptorState, Admission, Cookie, DialerState, Identity, Next, OtherConnections, Progress,
     ShakeFault, ShakeMsg, Status, done_only_by_digest, handshake_comes_about,
@@ -199,7 +199,7 @@ struct Dialing {
 fn dialer(alloc: Global) -> Result<Dialing, Refusal> {
     Ok(Dialing {
         own: identity(alloc, "a@h", SECRET)?,
-        peer: NodeName::read(alloc, "b@h")?,
+        peer: node_name(alloc, "b@h")?,
         state: DialerState::AwaitsStatus {
             challenge: CHALLENGE,
         },
@@ -217,7 +217,7 @@ struct Accepting {
 /// The acceptor of the attempt that a@h counts as this one.
 fn acceptor(alloc: Global, own: &str, count: u64) -> Result<Accepting, Refusal> {
     let own = identity(alloc, own, SECRET)?;
-    let dialer = NodeName::read(alloc, "a@h")?;
+    let dialer = node_name(alloc, "a@h")?;
     Ok(Accepting {
         own,
         trunk: TrunkId { dialer, count },

@@ -289,13 +289,18 @@ const SCENARIOS: &[(Start, &[Step])] = &[
     (UP, &[AsksForMore(&[0, 0, 0, 2, 112, 131])]),
 ];
 
+/// A node's name, of whose text a proof knows nothing more.
+pub(crate) fn node_name(alloc: Global, text: &str) -> Result<NodeName, Refusal> {
+    NodeName::read(alloc, text)
+}
+
 fn cookie(alloc: Global, secret: &[u8]) -> Result<Cookie, Refusal> {
     Ok(Cookie::new(Vec::from_slice(alloc, secret)?))
 }
 
 pub(crate) fn identity(alloc: Global, name: &str, secret: &[u8]) -> Result<Identity, Refusal> {
     let cookie = cookie(alloc, secret)?;
-    match NodeName::read(alloc, name) {
+    match node_name(alloc, name) {
         Ok(name) => Ok(Identity {
             name,
             creation: Creation::first(),
@@ -318,8 +323,8 @@ pub(crate) struct Held {
 
 /// The side of a@h, which dials b@h.
 pub(crate) fn dialing(alloc: Global, count: u64, secret: &[u8]) -> Result<Held, Refusal> {
-    let dialer = NodeName::read(alloc, "a@h")?;
-    let peer = NodeName::read(alloc, "b@h")?;
+    let dialer = node_name(alloc, "a@h")?;
+    let peer = node_name(alloc, "b@h")?;
     Ok(Held {
         own: identity(alloc, "a@h", secret)?,
         side: Side::dial(TrunkId { dialer, count }, peer, CHALLENGE),
@@ -328,7 +333,7 @@ pub(crate) fn dialing(alloc: Global, count: u64, secret: &[u8]) -> Result<Held, 
 
 /// The side of b@h, which a@h dials.
 pub(crate) fn fresh(alloc: Global, secret: &[u8]) -> Result<Held, Refusal> {
-    let dialer = NodeName::read(alloc, "a@h")?;
+    let dialer = node_name(alloc, "a@h")?;
     Ok(Held {
         own: identity(alloc, "b@h", secret)?,
         side: Side::fresh(TrunkId { dialer, count: 1 })?,
@@ -370,6 +375,11 @@ pub(crate) fn kind_of(
     }
 }
 
+fn kind_of_message(answer: &ShakeMsg, sent: &mut Vec<u8>) -> Result<Kind, AllocError> {
+    put(sent, answer)?;
+    Ok(Kind::Message)
+}
+
 /// The same of what was taken.
 fn kind_of_taken(taken: &Taken, sent: &mut Vec<u8>) -> Result<Kind, AllocError> {
     match taken {
@@ -377,10 +387,7 @@ fn kind_of_taken(taken: &Taken, sent: &mut Vec<u8>) -> Result<Kind, AllocError> 
         Taken::Message {
             send: Some(message),
             ..
-        } => {
-            put(sent, message)?;
-            Ok(Kind::Message)
-        }
+        } => kind_of_message(message, sent),
         Taken::Item(Item::Tick) => Ok(Kind::Tick),
         Taken::Item(Item::Signal(_)) => Ok(Kind::Signal),
         Taken::Broken(fault) => Ok(Kind::Fault(fault.number())),
@@ -435,9 +442,7 @@ fn arrives(
 /// Whether the item at the front leaves so many bytes.
 fn leaves(alloc: Global, held: &mut Held, bytes: &[u8], rest: usize) -> Result<bool, Refusal> {
     let mut sent = Vec::new(alloc);
-    let found = kind_at(alloc, held, bytes, &mut sent);
-    drop(sent);
-    let (_, len) = found?;
+    let (_, len) = kind_at(alloc, held, bytes, &mut sent)?;
     Ok(bytes.len().checked_sub(len) == Some(rest))
 }
 
@@ -547,10 +552,10 @@ fn first_wrong(alloc: Global, held: &mut Held, steps: &[Step]) -> Result<Option<
 fn first_wrong_behind(
     alloc: Global,
     held: &mut Held,
-    start: &[Step],
+    start: &Start,
     steps: &[Step],
 ) -> Result<Option<usize>, Refusal> {
-    if first_wrong(alloc, held, start)?.is_some() {
+    if first_wrong(alloc, held, start.steps)?.is_some() {
         return Err(Refusal::NothingThere);
     }
     first_wrong(alloc, held, steps)
@@ -559,7 +564,7 @@ fn first_wrong_behind(
 /// The first step of a scenario that comes out otherwise.
 fn wrong_step(alloc: Global, start: &Start, steps: &[Step]) -> Result<Option<usize>, Refusal> {
     let mut held = begun(alloc, start)?;
-    let wrong = first_wrong_behind(alloc, &mut held, start.steps, steps);
+    let wrong = first_wrong_behind(alloc, &mut held, start, steps);
     drop(held);
     wrong
 }
@@ -610,9 +615,13 @@ fn passed(alloc: Global, bytes: &[u8], held: &mut Held) -> Result<Vec<u8>, Refus
     Ok(sent)
 }
 
+fn send_name(own: &Identity) -> Result<ShakeMsg, AllocError> {
+    own.send_name()
+}
+
 /// The bytes of a dialer's first message.
 fn name(alloc: Global, held: &Held) -> Result<Vec<u8>, AllocError> {
-    bytes_of(alloc, held.own.send_name()?)
+    bytes_of(alloc, send_name(&held.own)?)
 }
 
 /// The bytes of the status that is sent, where the node decides on the attempt.

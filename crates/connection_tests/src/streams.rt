@@ -57,9 +57,13 @@ fn joined(alloc: Global, parts: &[&[u8]]) -> Result<Vec<u8>, Refusal> {
     Ok(bytes)
 }
 
+fn is_decided(held: &mut Held) -> bool {
+    decided(held, ALONE).is_some()
+}
+
 /// Where the node has to decide on the attempt it goes on, and the challenge is sent.
 fn decides(alloc: Global, held: &mut Held) -> Result<(), Refusal> {
-    if decided(held, ALONE).is_some() {
+    if is_decided(held) {
         drop(challenge(alloc, held)?);
     }
     Ok(())
