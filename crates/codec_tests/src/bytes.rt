@@ -3,7 +3,7 @@
 //! A row has them as text: `83 6801 6107` are five bytes by their hex digits, and `63*6801` are
 //! two of them 63 times. A word of [`NAMES`] stands for the bytes that it names.
 
-use std::alloc::Global;
+use std::alloc::{AllocError, Global};
 use std::test::Fail;
 
 /// Names, and the bytes that they stand for.
@@ -53,14 +53,22 @@ fn put_words(alloc: Global, bytes: &mut Vec<u8>, text: &str) -> Result<(), Fail>
     Ok(())
 }
 
-/// The text that the word stands for.
-fn named(word: &str) -> &str {
-    for &(name, text) in NAMES {
+/// The text of a name, if it is one of these.
+fn text_of(names: &[(&str, &'static str)], word: &str) -> Option<&'static str> {
+    for &(name, text) in names {
         if name == word {
-            return text;
+            return Some(text);
         }
     }
-    word
+    None
+}
+
+/// The text that the word stands for.
+fn named(word: &str) -> &str {
+    match text_of(NAMES, word) {
+        Some(text) => text,
+        None => word,
+    }
 }
 
 fn put_part(alloc: Global, bytes: &mut Vec<u8>, part: &str) -> Result<(), Fail> {
@@ -68,10 +76,10 @@ fn put_part(alloc: Global, bytes: &mut Vec<u8>, part: &str) -> Result<(), Fail> 
         Some((count, digits)) => (count.parse::<usize>()?, digits),
         None => (1, part),
     };
-    put_times(bytes, count, &hex::decode(alloc, digits)?)
+    Ok(put_times(bytes, count, &hex::decode(alloc, digits)?)?)
 }
 
-fn put_times(bytes: &mut Vec<u8>, count: usize, part: &[u8]) -> Result<(), Fail> {
+fn put_times(bytes: &mut Vec<u8>, count: usize, part: &[u8]) -> Result<(), AllocError> {
     for _ in 0..count {
         bytes.extend_from_slice(part)?;
     }

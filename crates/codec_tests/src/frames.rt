@@ -319,10 +319,14 @@ fn framed(alloc: Global, control: &[&str]) -> Result<Vec<u8>, Fail> {
 fn frame_of(alloc: Global, control: &[u8]) -> Result<Vec<u8>, Fail> {
     let len = u32::try_from(control.len().saturating_add(2))?;
     let mut bytes = Vec::new(alloc);
+    put_framed(&mut bytes, len, control)?;
+    Ok(bytes)
+}
+
+fn put_framed(bytes: &mut Vec<u8>, len: u32, control: &[u8]) -> Result<(), AllocError> {
     bytes.extend_from_slice(&len.to_be_bytes())?;
     bytes.extend_from_slice(&[0x70, 0x83])?;
-    bytes.extend_from_slice(control)?;
-    Ok(bytes)
+    bytes.extend_from_slice(control)
 }
 
 /// The text of an atom, and nothing of another term.
@@ -349,8 +353,9 @@ fn parts_of(reference: &Reference) -> (&str, &[u32]) {
 }
 
 fn with_payload<'a>(name: &'a str, from: &'a Pid, to: &'a Pid, payload: &'a Payload) -> Told<'a> {
+    let payload = atom_in(payload);
     Told {
-        payload: atom_in(payload),
+        payload,
         ..between(name, from, to)
     }
 }
@@ -462,10 +467,16 @@ fn front_of(alloc: Global, bytes: &[u8], wanted: &Told<'_>) -> Result<Front, Fai
 /// Whether the frame of the signal is these bytes, and is read where others stand behind it too.
 fn travels(alloc: Global, spelling: &str, signal: &Told<'_>) -> Result<bool, Fail> {
     let mut bytes = joined(alloc, &[spelling])?;
+    let travels = travels_in(alloc, &mut bytes, signal);
+    drop(bytes);
+    travels
+}
+
+fn travels_in(alloc: Global, bytes: &mut Vec<u8>, signal: &Told<'_>) -> Result<bool, Fail> {
     let wanted = Front::Frame(bytes.len());
-    let alone = front_of(alloc, &bytes, signal)?;
+    let alone = front_of(alloc, bytes, signal)?;
     bytes.extend_from_slice(&[0, 1, 2])?;
-    let before_others = front_of(alloc, &bytes, signal)?;
+    let before_others = front_of(alloc, bytes, signal)?;
     Ok((alone, before_others) == (wanted, wanted))
 }
 
@@ -523,8 +534,16 @@ fn bytes_have_a_front(rt: HostRuntime) -> Result<(), Fail> {
 
 fn pid(alloc: Global, spelling: &str) -> Result<Pid, Fail> {
     let bytes = joined(alloc, &[spelling])?;
-    let (pid, _) = pid_at(1, &bytes).ok_or("no pid")?;
-    Ok(pid.to_pid(alloc)?)
+    let pid = pid_in(alloc, &bytes);
+    drop(bytes);
+    Ok(pid?.ok_or("no pid")?)
+}
+
+fn pid_in(alloc: Global, bytes: &[u8]) -> Result<Option<Pid>, AllocError> {
+    match pid_at(1, bytes) {
+        Some((pid, _)) => Ok(Some(pid.to_pid(alloc)?)),
+        None => Ok(None),
+    }
 }
 
 fn pids(alloc: Global) -> Result<(Pid, Pid), Fail> {
@@ -534,7 +553,13 @@ fn pids(alloc: Global) -> Result<(Pid, Pid), Fail> {
 
 fn term(alloc: Global, spelling: &str) -> Result<Term, Fail> {
     let bytes = joined(alloc, &[spelling])?;
-    let (term, _) = decode(alloc, &bytes)?;
+    let term = term_in(alloc, &bytes);
+    drop(bytes);
+    Ok(term?)
+}
+
+fn term_in(alloc: Global, bytes: &[u8]) -> Result<Term, TermError> {
+    let (term, _) = decode(alloc, bytes)?;
     Ok(term)
 }
 

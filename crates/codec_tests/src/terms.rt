@@ -197,8 +197,16 @@ fn reads(alloc: Global, bytes: &[u8], canonical: &[u8], levels: u32) -> Result<b
 
 fn spells(alloc: Global, spelling: &str, canonical: &str, levels: u32) -> Result<bool, Fail> {
     let bytes = joined(alloc, &[spelling])?;
+    let spells = spells_in(alloc, &bytes, canonical, levels);
+    drop(bytes);
+    spells
+}
+
+fn spells_in(alloc: Global, bytes: &[u8], canonical: &str, levels: u32) -> Result<bool, Fail> {
     let canonical = joined(alloc, &[canonical])?;
-    reads(alloc, &bytes, &canonical, levels)
+    let reads = reads(alloc, bytes, &canonical, levels);
+    drop(canonical);
+    reads
 }
 
 #[test]
@@ -552,6 +560,11 @@ const PIDS: &[(PidFields, PidFields, Ordering)] = &[
     (("a@h", 1, 2, 0), FIRST_PID, Ordering::Greater),
 ];
 
+fn are_in_order(one: &Pid, other: &Pid, order: Ordering) -> bool {
+    let orders = (one.cmp(other), one.partial_cmp(other), one == other);
+    orders == (order, Some(order), order == Ordering::Equal)
+}
+
 fn pids_are(
     alloc: Global,
     one: PidFields,
@@ -560,8 +573,7 @@ fn pids_are(
 ) -> Result<bool, Fail> {
     let one = pid(alloc, one)?;
     let other = pid(alloc, other)?;
-    let orders = (one.cmp(&other), one.partial_cmp(&other), one == other);
-    Ok(orders == (order, Some(order), order == Ordering::Equal))
+    Ok(are_in_order(&one, &other, order))
 }
 
 fn references_are(
@@ -626,6 +638,11 @@ const REFUSALS: &[(Refusal, u8, &str)] = &[
     (Refusal::NoThread, 30, "30 NoThread"),
 ];
 
+fn has_parts(error: TermError, number: u8, name: &str) -> bool {
+    let parts = (error.number(), error.name(), error.is_out_of_memory());
+    parts == (number, name, number == 12)
+}
+
 fn is_error(
     alloc: Global,
     error: TermError,
@@ -634,8 +651,9 @@ fn is_error(
     text: &str,
 ) -> Result<bool, AllocError> {
     let printed = format!(in alloc; "{error}")?;
-    let parts = (error.number(), error.name(), error.is_out_of_memory());
-    Ok(printed.as_str() == text && parts == (number, name, number == 12))
+    let is_text = printed.as_str() == text;
+    drop(printed);
+    Ok(is_text && has_parts(error, number, name))
 }
 
 fn is_refusal(alloc: Global, refusal: Refusal, number: u8, text: &str) -> Result<bool, AllocError> {
