@@ -64,30 +64,14 @@ fn references(mint: &mut Mint) -> Option<u32> {
     None
 }
 
-/// What is drawn next: a reference, a pid and an unlink id.
-fn next_of_each(
-    mint: &mut Mint,
-) -> (
-    Result<u32, Refusal>,
-    Result<u32, Refusal>,
-    Result<u64, Refusal>,
-) {
-    (
-        mint.next_reference(),
-        mint.next_pid(),
-        mint.next_unlink_id(),
-    )
-}
-
 /// Used up for good, and the other numbers aren't.
 #[test]
 fn references_used_up(rt: HostRuntime) -> Result<(), Fail> {
     let mut mint = mint(rt.alloc(), Creation::first())?;
     assert_eq!(rt; references(&mut mint), Some(262_143));
-    let (reference, pid, unlink_id) = next_of_each(&mut mint);
-    assert_eq!(rt; reference, Err(Refusal::IdsUsedUp));
-    assert_eq!(rt; pid, Ok(1));
-    assert_eq!(rt; unlink_id, Ok(1));
+    assert_eq!(rt; mint.next_reference(), Err(Refusal::IdsUsedUp));
+    assert_eq!(rt; mint.next_pid(), Ok(1));
+    assert_eq!(rt; mint.next_unlink_id(), Ok(1));
     Ok(())
 }
 
