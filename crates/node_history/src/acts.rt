@@ -59,15 +59,21 @@ fn carry_out(
     ensures err { IfErr result (λ _. model_of node.new ≡ model_of node.old) }
 {
     match planned {
-        Ok(planned) => {
-            let effects = copied_effects(alloc, planned.effects())?;
-            let report = node.commit(alloc, planned);
-            let answer = spare.again(&report.answer);
-            Ok(Twice {
-                answer: Ok(report),
-                copy: Ok(Report { answer, effects }),
-            })
-        }
+        Ok(planned) => match copied_effects(alloc, planned.effects()) {
+            Ok(effects) => {
+                let report = node.commit(alloc, planned);
+                let answer = spare.again(&report.answer);
+                Ok(Twice {
+                    answer: Ok(report),
+                    copy: Ok(Report { answer, effects }),
+                })
+            }
+            Err(e) => {
+                drop(spare);
+                drop(planned);
+                Err(e)
+            }
+        },
         Err(e) => {
             drop(spare);
             Ok(Twice {

@@ -4,9 +4,29 @@ ghost use Rattle.std.specs.Option.{option_copied};
 
 use dist_model::{Command, Effect};
 use erl_names::TrunkId;
+use erl_term::{Payload, Pid};
 use node_frames::Frame;
 use std::alloc::{AllocError, Global};
 use world_events::NodeEvent;
+
+// Copies of two processes.
+fn two(first: &Pid, second: &Pid) -> Result<(Pid, Pid), AllocError>
+    ensures { IfOk result (λ two. two ≡ (first.now, second.now)) }
+{
+    Ok((first.clone()?, second.clone()?))
+}
+
+// The same, with what one says to the other.
+fn two_and(
+    alloc: Global,
+    first: &Pid,
+    second: &Pid,
+    said: &Payload,
+) -> Result<(Pid, Pid, Payload), AllocError>
+    ensures { IfOk result (λ three. three ≡ (first.now, second.now, said.now)) }
+{
+    Ok((first.clone()?, second.clone()?, said.copy(alloc)?))
+}
 
 /// A copy of a command.
 ///
@@ -17,23 +37,26 @@ pub(crate) fn copied(alloc: Global, command: &Command) -> Result<Command, AllocE
 {
     match command {
         Command::Spawn => Ok(Command::Spawn),
-        Command::Send { from, to, message } => Ok(Command::Send {
-            from: from.clone()?,
-            to: to.clone()?,
-            message: message.copy(alloc)?,
-        }),
-        Command::Link { from, to } => Ok(Command::Link {
-            from: from.clone()?,
-            to: to.clone()?,
-        }),
-        Command::Unlink { from, to } => Ok(Command::Unlink {
-            from: from.clone()?,
-            to: to.clone()?,
-        }),
-        Command::Monitor { owner, target } => Ok(Command::Monitor {
-            owner: owner.clone()?,
-            target: target.clone()?,
-        }),
+        Command::Send { from, to, message } => {
+            let (from, to, message) = two_and(alloc, from, to, message)?;
+            Ok(Command::Send { from, to, message })
+        }
+        Command::Link { from, to } => {
+            let (from, to) = two(from, to)?;
+            Ok(Command::Link { from, to })
+        }
+        Command::Unlink { from, to } => {
+            let (from, to) = two(from, to)?;
+            Ok(Command::Unlink { from, to })
+        }
+        Command::Monitor { owner, target } => {
+            let (owner, target) = two(owner, target)?;
+            Ok(Command::Monitor { owner, target })
+        }
+        Command::ExitTo { from, to, reason } => {
+            let (from, to, reason) = two_and(alloc, from, to, reason)?;
+            Ok(Command::ExitTo { from, to, reason })
+        }
         Command::Demonitor { owner, reference } => Ok(Command::Demonitor {
             owner: owner.clone()?,
             reference: reference.clone()?,
@@ -41,11 +64,6 @@ pub(crate) fn copied(alloc: Global, command: &Command) -> Result<Command, AllocE
         Command::Trap { process, on } => Ok(Command::Trap {
             process: process.clone()?,
             on: *on,
-        }),
-        Command::ExitTo { from, to, reason } => Ok(Command::ExitTo {
-            from: from.clone()?,
-            to: to.clone()?,
-            reason: reason.copy(alloc)?,
         }),
         Command::ExitSelf { process, reason } => Ok(Command::ExitSelf {
             process: process.clone()?,

@@ -169,37 +169,68 @@ impl Spare {
     pub(crate) fn again(self, answer: &Answer) -> Answer
         ensures { result ≡ filled self answer.now }
     {
-        let Spare {
-            atom,
-            name,
-            message,
-            links,
-        } = self;
         match answer {
-            Answer::Done => Answer::Done,
             Answer::Pid(pid) => Answer::Pid(Pid {
-                node: atom,
+                node: self.into_atom(),
                 creation: pid.creation,
                 id: pid.id,
                 serial: pid.serial,
             }),
             Answer::Reference(reference) => Answer::Reference(Reference {
-                node: atom,
+                node: self.into_atom(),
                 creation: reference.creation,
                 words: words_again(&reference.words),
             }),
-            Answer::Message(_) => Answer::Message(message),
-            Answer::Links(_) => Answer::Links(links),
-            Answer::Alive(is_living) => Answer::Alive(*is_living),
+            Answer::Message(_) => Answer::Message(self.into_message()),
+            Answer::Links(_) => Answer::Links(self.into_links()),
             Answer::Trunk(trunk) => Answer::Trunk(TrunkId {
-                dialer: name,
+                dialer: self.into_name(),
                 count: trunk.count,
             }),
-            Answer::Took(kind) => Answer::Took(*kind),
-            Answer::Broken(fault) => Answer::Broken(*fault),
-            Answer::Swept(what) => Answer::Swept(*what),
-            Answer::Stopped => Answer::Stopped,
-            Answer::Started(creation) => Answer::Started(*creation),
+            Answer::Done => self.unused(Answer::Done),
+            Answer::Alive(is_living) => self.unused(Answer::Alive(*is_living)),
+            Answer::Took(kind) => self.unused(Answer::Took(*kind)),
+            Answer::Broken(fault) => self.unused(Answer::Broken(*fault)),
+            Answer::Swept(what) => self.unused(Answer::Swept(*what)),
+            Answer::Stopped => self.unused(Answer::Stopped),
+            Answer::Started(creation) => self.unused(Answer::Started(*creation)),
         }
+    }
+
+    // An answer for which nothing of it is needed.
+    fn unused(self, answer: Answer) -> Answer
+        ensures { result ≡ answer }
+    {
+        drop(self);
+        answer
+    }
+
+    // The name of the node as an atom, and nothing else.
+    fn into_atom(self) -> Atom
+        ensures { result ≡ self.atom }
+    {
+        let Spare { atom, .. } = self;
+        atom
+    }
+
+    fn into_name(self) -> NodeName
+        ensures { result ≡ self.name }
+    {
+        let Spare { name, .. } = self;
+        name
+    }
+
+    fn into_message(self) -> Option<Payload>
+        ensures { result ≡ self.message }
+    {
+        let Spare { message, .. } = self;
+        message
+    }
+
+    fn into_links(self) -> Links
+        ensures { result ≡ self.links }
+    {
+        let Spare { links, .. } = self;
+        links
     }
 }
