@@ -77,8 +77,10 @@ impl History {
         let Some(stamp) = top.checked_add(1) else {
             return Err(Refusal::IdsUsedUp);
         };
-        self.entries.reserve(1)?;
-        Ok(stamp)
+        match self.entries.reserve(1) {
+            Ok(()) => Ok(stamp),
+            Err(_) => Err(Refusal::OutOfMemory),
+        }
     }
 
     // What the node has answered is written down, for which there is room, and the place of the entry
