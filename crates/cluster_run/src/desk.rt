@@ -2,8 +2,8 @@
 
 use crossbeam_channel::Sender;
 use erl_names::NodeName;
-use node_lock::NodeLock;
 use node_frames::same_name;
+use node_lock::NodeLock;
 use std::sync::Wait;
 use std::sync::atomic::{AtomicBool, AtomicU64, Ordering};
 use wire_core::Offer;

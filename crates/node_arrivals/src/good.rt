@@ -9,8 +9,8 @@ ghost use Rattle.node_sides.specs.Standings.{side_of};
 use conn_core::Side;
 use erl_control::Signal;
 use erl_term::Pid;
-use node_plans::Node;
 use node_frames::{receiver, same_name, sender};
+use node_plans::Node;
 
 // Whether the process is of the peer's, of the incarnation that it named or an earlier one.
 fn is_from(side: &Side, process: &Pid) -> bool

@@ -6,8 +6,8 @@ ghost use Rattle.wire_core.specs.Spellings.{SpellsItem};
 
 use crate::scanning::next_sent;
 use erl_names::NodeName;
-use node_history::Entry;
 use node_frames::{Frame, same_name};
+use node_history::Entry;
 use node_ports::Port;
 use std::alloc::{AllocError, Global};
 use std::sync::Wait;

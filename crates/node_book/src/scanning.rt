@@ -6,8 +6,8 @@ ghost use Rattle.world_lists.specs.Lists.{sent_at};
 use crate::names::same_trunk;
 use dist_model::Effect;
 use erl_names::{NodeName, TrunkId};
-use node_history::{Answered, Entry};
 use node_frames::{Frame, same_name};
+use node_history::{Answered, Entry};
 
 // What an effect sends on a connection to a peer.
 fn sent_on<'a>(effect: &'a Effect<Frame>, trunk: &TrunkId, peer: &NodeName) -> Option<&'a Frame>

@@ -15,8 +15,8 @@ use conn_core::Side;
 use dist_model::Answer;
 use erl_names::{NodeName, TrunkId};
 use erl_term::Refusal;
-use node_plans::{Node, Plan, or_refuse};
 use node_frames::same_name;
+use node_plans::{Node, Plan, or_refuse};
 use node_sides::{SideChange, Which};
 use std::alloc::{AllocError, Global};
 
