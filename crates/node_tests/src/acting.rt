@@ -4,7 +4,7 @@ use dist_model::{Command, Report};
 use erl_handshake::Cookie;
 use erl_names::{NodeName, TrunkId};
 use erl_term::{Atom, Payload, Pid, Reference, ReferenceWords, Refusal, Term};
-use node_core::Node;
+use node_core::{Arrived, Node};
 use node_frames::Frame;
 use std::alloc::Global;
 
@@ -16,17 +16,16 @@ const WORD: u32 = 1234567890;
 
 /// The node a@h.
 pub fn node(alloc: Global) -> Result<Node, Refusal> {
-    let name = NodeName::read(alloc, "a@h")?;
+    let name = node_name(alloc, "a@h")?;
     let cookie = Cookie::new(Vec::from_slice(alloc, SECRET)?);
     Ok(Node::new(alloc, name, cookie)?)
 }
 
 pub fn atom(alloc: Global, text: &str) -> Result<Atom, Refusal> {
-    let text = String::from_str(alloc, text)?;
-    if !Atom::fits(text.as_str()) {
+    if !Atom::fits(text) {
         return Err(Refusal::BadName);
     }
-    Ok(Atom::new(text))
+    Ok(Atom::new(String::from_str(alloc, text)?))
 }
 
 pub fn pid(alloc: Global, process: Process) -> Result<Pid, Refusal> {
@@ -52,7 +51,7 @@ fn reference(alloc: Global, word: u32) -> Result<Reference, Refusal> {
 pub fn trunk(alloc: Global, trunk: Trunk) -> Result<TrunkId, Refusal> {
     let (dialer, count) = trunk;
     Ok(TrunkId {
-        dialer: NodeName::read(alloc, dialer)?,
+        dialer: node_name(alloc, dialer)?,
         count,
     })
 }
@@ -137,19 +136,42 @@ fn command_of(alloc: Global, event: Event) -> Result<Command, Refusal> {
     })
 }
 
+/// A node's name, of whose text a proof knows nothing more.
+fn node_name(alloc: Global, text: &str) -> Result<NodeName, Refusal> {
+    NodeName::read(alloc, text)
+}
+
+fn dial_to(
+    alloc: Global,
+    node: &mut Node,
+    peer: &NodeName,
+    is_known: bool,
+) -> Result<Report<Frame>, Refusal> {
+    node.dial(alloc, is_known, peer, WORD)
+}
+
 fn dial(
     alloc: Global,
     node: &mut Node,
     peer: &str,
     is_known: bool,
 ) -> Result<Report<Frame>, Refusal> {
-    let peer = NodeName::read(alloc, peer)?;
-    node.dial(alloc, is_known, &peer, WORD)
+    let peer = node_name(alloc, peer)?;
+    dial_to(alloc, node, &peer, is_known)
 }
 
 fn lose(alloc: Global, node: &mut Node, lost: Trunk) -> Result<Report<Frame>, Refusal> {
     let trunk = trunk(alloc, lost)?;
     node.lose(alloc, &trunk)
+}
+
+fn arrive_on(
+    alloc: Global,
+    node: &mut Node,
+    trunk: &TrunkId,
+    bytes: &[u8],
+) -> Result<Arrived, Refusal> {
+    node.arrive(alloc, trunk, bytes, WORD)
 }
 
 /// All of the bytes are taken.
@@ -160,7 +182,10 @@ fn arrive(
     bytes: &[u8],
 ) -> Result<Report<Frame>, Refusal> {
     let trunk = trunk(alloc, on)?;
-    Ok(node.arrive(alloc, &trunk, bytes, WORD)?.report)
+    match arrive_on(alloc, node, &trunk, bytes) {
+        Ok(arrived) => Ok(arrived.report),
+        Err(why) => Err(why),
+    }
 }
 
 /// What the node does at an event.

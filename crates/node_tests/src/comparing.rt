@@ -180,7 +180,10 @@ fn does(
 /// Whether an event is refused for this reason. Where memory is wanting, that is the error.
 fn refuses(alloc: Global, node: &mut Node, event: Event, why: Refusal) -> Result<bool, Refusal> {
     match act(alloc, node, event) {
-        Ok(_) => Ok(false),
+        Ok(report) => {
+            drop(report);
+            Ok(false)
+        }
         Err(Refusal::OutOfMemory) => Err(Refusal::OutOfMemory),
         Err(found) => Ok(found == why),
     }
@@ -190,7 +193,7 @@ fn refuses(alloc: Global, node: &mut Node, event: Event, why: Refusal) -> Result
 fn settles(alloc: Global, node: &mut Node) -> Result<bool, Refusal> {
     for _ in 0..100 {
         match node.local(alloc) {
-            Ok(_) => {}
+            Ok(report) => drop(report),
             Err(Refusal::NothingThere) => return Ok(true),
             Err(e) => return Err(e),
         }
