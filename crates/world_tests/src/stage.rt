@@ -34,24 +34,41 @@ struct Stage {
     processes: Vec<Pid>,
 }
 
-// The processes of some nodes.
-fn processes(alloc: Global, nodes: Place) -> Result<Vec<Pid>, Refusal> {
-    let mut made = Vec::new(alloc);
+// One process more.
+fn add(alloc: Global, made: &mut Vec<Pid>, process: Process) -> Result<(), Refusal> {
+    let pid = pid(alloc, process)?;
+    match made.push(pid) {
+        Ok(()) => Ok(()),
+        Err(_) => Err(Refusal::OutOfMemory),
+    }
+}
+
+fn add_all(alloc: Global, made: &mut Vec<Pid>, nodes: Place) -> Result<(), Refusal> {
     for place in 0..nodes {
         for creation in 1..=2 {
             for id in 1..=MOST {
-                made.push(pid(
-                    alloc,
-                    Process {
-                        place,
-                        creation,
-                        id,
-                    },
-                )?)?;
+                let process = Process {
+                    place,
+                    creation,
+                    id,
+                };
+                add(alloc, made, process)?;
             }
         }
     }
-    Ok(made)
+    Ok(())
+}
+
+// The processes of some nodes.
+fn processes(alloc: Global, nodes: Place) -> Result<Vec<Pid>, Refusal> {
+    let mut made = Vec::new(alloc);
+    match add_all(alloc, &mut made, nodes) {
+        Ok(()) => Ok(made),
+        Err(e) => {
+            drop(made);
+            Err(e)
+        }
+    }
 }
 
 fn open(alloc: Global, cookies: &[&str]) -> Result<Stage, Refusal> {
