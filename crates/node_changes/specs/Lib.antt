@@ -3,3 +3,4 @@ pub mod Suits
 pub mod Fresh
 pub mod Room
 pub mod Adding
+pub mod Parts

@@ -7,6 +7,7 @@ mod change;
 mod monitors;
 mod own_list;
 mod processes;
+mod setting;
 mod sides;
 
 pub use adding::{changes_towards, registers_towards, watches_towards};

@@ -8,7 +8,8 @@ use Rattle.erl_term.specs.Order.{pid_cmp}
 use Rattle.erl_term.specs.declared.term.Pid.{Pid}
 use Rattle.link_core.specs.declared.end.End.{End}
 use Rattle.monitor_core.specs.Monitors.{MonitorMap}
-use Rattle.node_plans.specs.Carried.{IsFree, link_in}
+use Rattle.node_plans.specs.Carried.{IsFree}
+use Rattle.node_changes.specs.Parts.{link_in}
 use Rattle.node_changes.specs.Changed.{end_after, ends_after, lives_after, watchers_left, watches_left}
 use Rattle.node_changes.specs.declared.change.Change.{Change}
 

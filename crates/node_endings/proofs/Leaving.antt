@@ -18,7 +18,8 @@ use Rattle.erl_term.specs.declared.term.Pid.{Pid}
 use Rattle.link_core.specs.declared.end.End.{End}
 use Rattle.monitor_core.specs.Index.{picked}
 use Rattle.node_tables.specs.declared.end_change.EndChange.TheVariants as end
-use Rattle.node_plans.specs.Carried.{CarriesOut, IsFree, link_in}
+use Rattle.node_plans.specs.Carried.{CarriesOut, IsFree}
+use Rattle.node_changes.specs.Parts.{link_in}
 use Rattle.node_endings.specs.Exiting.{OnlyExits, exit_to, exits_to}
 use Rattle.node_changes.specs.Changed.{end_after, registered, watched}
 use Rattle.node_changes.specs.declared.change.LinkChange.{LinkChange}

@@ -5,3 +5,4 @@ pub mod Outcomes
 pub mod Sided
 pub mod Restarted
 pub mod Quieted
+pub mod Changing

@@ -1,5 +1,7 @@
 -- A plan in which a side changes, or a message of the handshake is sent.
-use Rattle.std.proofs.Common.{◌≡◌, List, [], ◌∷◌, ◌++◌, refl, sym, ap, subst, ◌∙◌}
+use Rattle.std.proofs.Common.{◌≡◌, List, [], ◌∷◌, ◌++◌, refl, sym, ap, subst, ◌∙◌, Result, Ok, Err}
+use Rattle.std.specs.Prelude.{OnOk}
+use Rattle.std.specs.declared.alloc.AllocError.{AllocError}
 use Rattle.std.specs.FinMap.{FinMap}
 use Rattle.std.specs.declared.alloc.Global.{Global}
 use Rattle.std.specs.declared.vec.Vec.{Vec}
@@ -10,7 +12,7 @@ use Rattle.dist_model.specs.Work.{Work, report}
 use Rattle.dist_model.specs.declared.report.Effect.{Effect}
 use Rattle.erl_names.specs.Order.{trunk_cmp}
 use Rattle.node_changes.specs.Suits.{Lets, LetsAll}
-use Rattle.node_plans.specs.Carried.{Makes, sided}
+use Rattle.node_plans.specs.Carried.{Makes, MakesOr, sided}
 use Rattle.node_frames.specs.Frames.{Framed, SendsSpelled, shown}
 use Rattle.node_changes.specs.Changed.{sides_after}
 use Rattle.node_plans.specs.declared.plan.Plan.{Plan}
@@ -18,11 +20,13 @@ use Rattle.node_sides.specs.Changes.{side_changed}
 use Rattle.node_sides.specs.declared.change.SideChange.{SideChange}
 use Rattle.node_plans.proofs.Posted.{map_push, spelled_push}
 
-one_more : (changes : List SideChange) (change : SideChange) (sides : FinMap trunk_cmp TrunkSide) → sides_after (changes ++ change ∷ []) sides ≡ side_changed change (sides_after changes sides)
+one_more : (changes : List SideChange) (change : SideChange) (sides : FinMap trunk_cmp TrunkSide)
+    → sides_after (changes ++ change ∷ []) sides ≡ side_changed change (sides_after changes sides)
 one_more [] change sides = refl
 one_more (first ∷ rest) change sides = one_more rest change (side_changed first sides)
 
-lets_more : (changes : List SideChange) (change : SideChange) (sides : FinMap trunk_cmp TrunkSide) → LetsAll changes sides → Lets change (sides_after changes sides) → LetsAll (changes ++ change ∷ []) sides
+lets_more : (changes : List SideChange) (change : SideChange) (sides : FinMap trunk_cmp TrunkSide)
+    → LetsAll changes sides → Lets change (sides_after changes sides) → LetsAll (changes ++ change ∷ []) sides
 lets_more [] change sides h k = (k, tt)
 lets_more (first ∷ rest) change sides h k = (h.0, lets_more rest change (side_changed first sides) h.1 k)
 
@@ -30,8 +34,8 @@ module _ (plan : Plan) (m : Node) (work : Work) (h : Makes plan m work) where
   sides_are : work.node.sides ≡ sides_after plan.sides.items m.sides
   sides_are = ap (λ (n : Node). n.sides) h.node
 
-  pub changed_side : (change : SideChange) (changes : Vec SideChange Global) → Lets change work.node.sides → changes.items ≡ plan.sides.items ++ change ∷ []
-      → Makes (record plan { sides = changes }) m (sided change work)
+  pub changed_side : (change : SideChange) (changes : Vec SideChange Global) → Lets change work.node.sides
+      → changes.items ≡ plan.sides.items ++ change ∷ [] → Makes (record plan { sides = changes }) m (sided change work)
   changed_side change changes l e =
       let more : side_changed change work.node.sides ≡ sides_after changes.items m.sides =
       ap (side_changed change) sides_are ∙ sym (one_more plan.sides.items change m.sides) ∙ ap (λ xs. sides_after xs m.sides) (sym e) in
@@ -45,9 +49,10 @@ module _ (plan : Plan) (m : Node) (work : Work) (h : Makes plan m work) where
         spelled = h.spelled;
       }
 
-  pub reported : (effect : Effect Item) (effects : Vec (Effect Framed) Global) → effects.items ≡ plan.effects.items ++ shown effect ∷ [] → SendsSpelled effect
-      → Makes (record plan { effects = effects }) m (report effect work)
-  reported effect effects e s = record {
+  pub makes_report : (effect : Effect Item) (effects : Vec (Effect Framed) Global) (told : Result (Unit {0}) AllocError)
+      → OnOk told (effects.items ≡ plan.effects.items ++ shown effect ∷ []) → OnOk told (SendsSpelled effect)
+      → MakesOr m (report effect work) (record plan { effects = effects }) told
+  makes_report effect effects (Ok done) e s = record {
     sound = record { suits = h.sound.suits; next = h.sound.next; sendable = h.sound.sendable };
     sides = h.sides;
     dials = h.dials;
@@ -55,3 +60,4 @@ module _ (plan : Plan) (m : Node) (work : Work) (h : Makes plan m work) where
     effects = e ∙ ap (λ xs. xs ++ shown effect ∷ []) h.effects ∙ sym (map_push shown work.effects effect);
     spelled = spelled_push work.effects effect h.spelled s;
   }
+  makes_report effect effects (Err x) e s = tt

@@ -14,8 +14,6 @@ use Rattle.node_changes.specs.declared.change.Change.{Change}
 use Rattle.node_changes.specs.declared.change.Change.TheVariants as change
 use Rattle.node_changes.specs.declared.change.Draws.TheVariants as draws
 use Rattle.node_changes.specs.declared.change.LifeChange.TheVariants as life
-use Rattle.node_changes.specs.declared.change.LinkChange.{LinkChange}
-use Rattle.node_changes.specs.declared.change.LinkChange.TheVariants as link
 use Rattle.node_changes.specs.declared.change.MonitorChange.TheVariants as monitor
 use Rattle.node_plans.specs.declared.plan.Plan.{Plan}
 
@@ -63,11 +61,6 @@ abbrev pub IsFree : Change → Pid → Type 0
 IsFree change.None p = Unit {0}
 IsFree (change.Of own e life.Stays) p = own ≡ p
 IsFree _ p = ⊥
-
--- what is planned of an end
-abbrev pub link_in : Change → LinkChange
-link_in (change.Of p e l) = e
-link_in _ = link.Stays
 
 -- nothing is planned yet
 pub record IsBlank (plan : Plan) : Type 0 where

@@ -1,6 +1,7 @@
 pub mod SeenOf
 pub mod Keeps
 pub mod Seen
+pub mod Sent
 pub mod Plans
 pub mod Carried
 pub mod Room

@@ -3,41 +3,18 @@ ghost use Rattle.std.specs.Prelude.{◌≡◌, true};
 ghost use Rattle.dist_model.specs.Exits.{buried};
 ghost use Rattle.dist_model.specs.Node.{Node as TheNode, living};
 ghost use Rattle.dist_model.specs.Work.{Work};
-ghost use Rattle.node_plans.specs.Carried.{Carries, CarriesOut, IsFree, link_in};
+ghost use Rattle.node_plans.specs.Carried.{Carries, CarriesOut, IsFree};
+ghost use Rattle.node_changes.specs.Parts.{link_in};
 ghost use Rattle.node_plans.specs.Gone.{is_gone};
 ghost use Rattle.node_plans.specs.Plans.{told};
-ghost use Rattle.node_changes.specs.declared.change.Change.TheVariants as the_change;
 
-use crate::effects::push_ended;
 use crate::plan::Plan;
 use erl_term::{Payload, Pid};
 use node_changes::{Change, LifeChange, LinkChange};
+use node_effects::push_ended;
 use node_frames::same_pid;
 use node_tables::EndChange;
 use std::alloc::{AllocError, Global};
-use std::mem;
-
-// What is planned of an end, taken out.
-fn take_link(change: &mut Change) -> LinkChange
-    ensures { result ≡ link_in change.old }
-{
-    match mem::replace(change, Change::None) {
-        Change::Of { link, .. } => link,
-        Change::None | Change::Spawns => LinkChange::Stays,
-    }
-}
-
-/// What becomes of a process is planned, and what is planned of an end of it stays.
-pub(crate) fn change_life(change: &mut Change, process: Pid, life: LifeChange)
-    ensures { change.new ≡ the_change.Of process (link_in change.old) life }
-{
-    let link = take_link(change);
-    *change = Change::Of {
-        process,
-        link,
-        life,
-    };
-}
 
 impl Plan {
     /// Whether it is planned that the link to a partner is gone. (Reference Manual, Processes, Links.)
@@ -66,9 +43,12 @@ impl Plan {
         ensures watches { self.new.watches ≡ self.old.watches }
         ensures watchers { self.new.watchers ≡ self.old.watchers }
     {
-        push_ended(&mut self.effects, alloc, process, &reason)?;
-        let ended = process.clone()?;
-        change_life(&mut self.change, ended, LifeChange::Ends(reason));
-        Ok(())
+        match push_ended(&mut self.effects, alloc, process, &reason) {
+            Ok(()) => self.change.set_life(process, LifeChange::Ends(reason)),
+            Err(wanting) => {
+                drop(reason);
+                Err(wanting)
+            }
+        }
     }
 }

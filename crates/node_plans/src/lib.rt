@@ -4,7 +4,6 @@
 mod adding;
 mod commit;
 mod copying;
-mod effects;
 mod ending;
 mod node;
 mod opening;

@@ -25,6 +25,7 @@ use monitor_core::Monitor;
 use node_changes::{Change, Draws, LifeChange, LinkChange, MonitorChange};
 use node_tables::EndChange;
 use std::alloc::{AllocError, Global};
+use std::mem;
 
 impl Plan {
     /// Nothing is to be done, but that the first item of the own list is taken, if it says so. Takes
@@ -61,7 +62,7 @@ impl Plan {
         ensures carries { (m : TheNode) (work : Work) → CarriesOut self.old m work → CarriesOut self.new m work }
         ensures makes { (m : TheNode) (work : Work) → Makes self.old m work → Makes self.new m work }
     {
-        self.answer = answer;
+        drop(mem::replace(&mut self.answer, answer));
     }
 
     /// A process is spawned. Takes no memory. (Reference Manual, Processes, Process Creation.)
@@ -71,7 +72,7 @@ impl Plan {
         ensures told { (m : TheNode) → told self.new m ≡ told self.old m }
         ensures change { self.new.change ≡ change.Spawns }
     {
-        self.change = Change::Spawns;
+        self.change.set(Change::Spawns);
     }
 
     /// A living process traps exits from now on, or doesn't. Takes no memory. (Reference Manual,
@@ -82,11 +83,11 @@ impl Plan {
         ensures told { (m : TheNode) → told self.new m ≡ told self.old m }
         ensures change { self.new.change ≡ change.Of process link.Stays (life.Traps on) }
     {
-        self.change = Change::Of {
+        self.change.set(Change::Of {
             process,
             link: LinkChange::Stays,
             life: LifeChange::Traps(on),
-        };
+        });
     }
 
     /// The oldest message of a living process is taken out, if there is one. Takes no memory.
@@ -96,27 +97,11 @@ impl Plan {
         ensures carries { (m : TheNode) → living m process ≡ true → CarriesOut self.old m (at_work m) → CarriesOut self.new m (with_life m process (without_first (fm.get m.lives process))) }
         ensures told { (m : TheNode) → told self.new m ≡ the_answer.Message (first_message (fm.get m.lives process)) }
     {
-        self.change = Change::Of {
+        self.change.set(Change::Of {
             process,
             link: LinkChange::Stays,
             life: LifeChange::TakesFirst,
-        };
-    }
-
-    // The end of a living process towards a partner changes. Takes no memory.
-    fn change_owned(&mut self, process: Pid, partner: Pid, how: EndChange)
-        requires { self.old.change ≡ change.None }
-        ensures carries { (m : TheNode) (work : Work) → living m process ≡ true → CarriesOut self.old m work → CarriesOut self.new m (set_end process partner (becomes how (end_of m process partner)) work) }
-        ensures told { (m : TheNode) → told self.new m ≡ told self.old m }
-        ensures change { self.new.change ≡ change.Of process (link.Becomes partner how) life.Stays }
-        ensures watches { self.new.watches ≡ self.old.watches }
-        ensures watchers { self.new.watchers ≡ self.old.watchers }
-    {
-        self.change = Change::Of {
-            process,
-            link: LinkChange::Becomes(partner, how),
-            life: LifeChange::Stays,
-        };
+        });
     }
 
     /// The end of a living process towards a partner changes. (ERTS User's Guide, Distribution
@@ -137,9 +122,7 @@ impl Plan {
         ensures watches { self.new.watches ≡ self.old.watches }
         ensures watchers { self.new.watchers ≡ self.old.watchers }
     {
-        let process = process.clone()?;
-        self.change_owned(process, partner.clone()?, how);
-        Ok(())
+        self.change.set_end(process, partner, how)
     }
 
     /// An unlink id is drawn. Takes no memory. (ERTS User's Guide, Distribution Protocol, New Link
@@ -181,7 +164,7 @@ impl Plan {
         ensures told { (m : TheNode) → told self.new m ≡ told self.old m }
         ensures change { self.new.change ≡ self.old.change }
     {
-        self.watches = MonitorChange::Adds(reference, owned);
+        self.watches.set(MonitorChange::Adds(reference, owned));
     }
 
     /// A monitor of a process here goes. Takes no memory. (Reference Manual, Processes, Monitors.)
@@ -192,7 +175,7 @@ impl Plan {
         ensures told { (m : TheNode) → told self.new m ≡ told self.old m }
         ensures change { self.new.change ≡ self.old.change }
     {
-        self.watches = MonitorChange::Removes(reference);
+        self.watches.set(MonitorChange::Removes(reference));
     }
 
     /// Another has a monitor of a process here. Takes no memory. (Reference Manual, Processes,
@@ -203,7 +186,7 @@ impl Plan {
         ensures carries { (m : TheNode) (work : Work) → CarriesOut self.old m work → CarriesOut self.new m (monitoring.register reference owned work) }
         ensures told { (m : TheNode) → told self.new m ≡ told self.old m }
     {
-        self.watchers = MonitorChange::Adds(reference, owned);
+        self.watchers.set(MonitorChange::Adds(reference, owned));
     }
 
     /// A monitor that another has of a process here goes. Takes no memory. (Reference Manual,
@@ -214,6 +197,6 @@ impl Plan {
         ensures carries { (m : TheNode) (work : Work) → CarriesOut self.old m work → CarriesOut self.new m (monitoring.unregister reference work) }
         ensures told { (m : TheNode) → told self.new m ≡ told self.old m }
     {
-        self.watchers = MonitorChange::Removes(reference);
+        self.watchers.set(MonitorChange::Removes(reference));
     }
 }

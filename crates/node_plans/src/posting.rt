@@ -1,5 +1,5 @@
 //! A signal is sent.
-ghost use Rattle.std.specs.Prelude.{◌≡◌, true, None, Some, IfSome};
+ghost use Rattle.std.specs.Prelude.{◌≡◌, ◌++◌, [], ◌∷◌, true, None, Some, IfSome, OnOk};
 ghost use Rattle.dist_model.specs.Node as model;
 ghost use Rattle.dist_model.specs.Node.{Node as TheNode};
 ghost use Rattle.node_plans.specs.Plans.{told};
@@ -7,13 +7,15 @@ ghost use Rattle.dist_model.specs.Work.{Work, post};
 ghost use Rattle.node_plans.specs.Carried.{Carries, CarriesOut};
 ghost use Rattle.node_frames.specs.Sendable.{is_sendable};
 ghost use Rattle.node_plans.specs.Seen.{seen};
+ghost use Rattle.node_plans.specs.Sent.{IsSent};
 
-use crate::effects::{push_here, push_there};
 use crate::node::Node;
 use crate::plan::Plan;
 use conn_core::Side;
+use dist_model::Effect;
 use erl_control::Signal;
 use erl_term::Atom;
+use node_effects::{push_signal_here, push_signal_there};
 use node_frames::{Frame, receiver, same_name};
 use std::alloc::{AllocError, Global};
 
@@ -26,6 +28,48 @@ impl Node {
     {
         let trunk = self.sides.route(peer)?;
         self.sides.get(trunk)
+    }
+}
+
+// It comes behind the others.
+fn keep(local: &mut Vec<Signal>, signal: Signal) -> Result<(), AllocError>
+    ensures { OnOk result (local.new.items ≡ local.old.items ++ signal ∷ []) }
+{
+    local.push(signal)?;
+    Ok(())
+}
+
+// A signal comes into the own list or onto the connection that is up, with what is told of it.
+fn send(
+    local: &mut Vec<Signal>,
+    effects: &mut Vec<Effect<Frame>>,
+    alloc: Global,
+    node: &Node,
+    signal: Signal,
+) -> Result<(), AllocError>
+    requires { is_sendable signal ≡ true }
+    ensures { OnOk result (IsSent (seen node.now) signal local.old.items local.new.items effects.old.items effects.new.items) }
+{
+    let target = &receiver(&signal).node;
+    if same_name(target, node.name().atom()) {
+        return match push_signal_here(effects, alloc, node.name(), &signal) {
+            Ok(()) => keep(local, signal),
+            Err(wanting) => {
+                drop(signal);
+                Err(wanting)
+            }
+        };
+    }
+    match node.way(target) {
+        None => {
+            drop(signal);
+            Ok(())
+        }
+        Some(side) => {
+            let sent = push_signal_there(effects, alloc, side, &signal);
+            drop(signal);
+            sent
+        }
     }
 }
 
@@ -44,22 +88,6 @@ impl Plan {
         ensures watches { self.new.watches ≡ self.old.watches }
         ensures watchers { self.new.watchers ≡ self.old.watchers }
     {
-        let target = &receiver(&signal).node;
-        if same_name(target, node.name().atom()) {
-            push_here(&mut self.effects, alloc, node.name(), &signal)?;
-            self.local.push(signal)?;
-            return Ok(());
-        }
-        match node.way(target) {
-            None => {
-                drop(signal);
-                Ok(())
-            }
-            Some(side) => {
-                let sent = push_there(&mut self.effects, alloc, side, &signal);
-                drop(signal);
-                sent
-            }
-        }
+        send(&mut self.local, &mut self.effects, alloc, node, signal)
     }
 }

@@ -7,12 +7,10 @@ ghost use Rattle.node_plans.specs.Carried.{Carries, CarriesOut, IsFree};
 ghost use Rattle.node_plans.specs.Plans.{told};
 ghost use Rattle.node_changes.specs.declared.change.LinkChange.TheVariants as link;
 
-use crate::effects::{push, push_put};
-use crate::ending::change_life;
 use crate::plan::Plan;
-use dist_model::Effect;
 use erl_term::{Payload, Pid};
 use node_changes::LifeChange;
+use node_effects::{push_link_exit, push_put};
 use std::alloc::{AllocError, Global};
 
 impl Plan {
@@ -29,10 +27,13 @@ impl Plan {
         ensures watches { self.new.watches ≡ self.old.watches }
         ensures watchers { self.new.watchers ≡ self.old.watchers }
     {
-        push_put(&mut self.effects, alloc, process, &message)?;
-        let to = process.clone()?;
-        change_life(&mut self.change, to, LifeChange::Gets(message));
-        Ok(())
+        match push_put(&mut self.effects, alloc, process, &message) {
+            Ok(()) => self.change.set_life(process, LifeChange::Gets(message)),
+            Err(wanting) => {
+                drop(message);
+                Err(wanting)
+            }
+        }
     }
 
     /// A process has reacted to the exit of its link with a partner.
@@ -52,12 +53,6 @@ impl Plan {
         ensures watches { self.new.watches ≡ self.old.watches }
         ensures watchers { self.new.watchers ≡ self.old.watchers }
     {
-        let effect = Effect::LinkExit {
-            process: process.clone()?,
-            partner: partner.clone()?,
-            reason: reason.copy(alloc)?,
-        };
-        push(&mut self.effects, effect)?;
-        Ok(())
+        push_link_exit(&mut self.effects, alloc, process, partner, reason)
     }
 }

@@ -8,12 +8,10 @@ ghost use Rattle.node_changes.specs.Suits.{Lets};
 ghost use Rattle.node_plans.specs.Carried.{Makes, MakesOr, sided};
 ghost use Rattle.node_plans.specs.Plans.{told};
 
-use crate::effects::push;
 use crate::plan::Plan;
-use dist_model::Effect;
 use erl_handshake::ShakeMsg;
 use erl_names::{NodeName, TrunkId};
-use node_frames::Frame;
+use node_effects::push_message;
 use node_sides::SideChange;
 use std::alloc::{AllocError, Global};
 
@@ -45,13 +43,7 @@ impl Plan {
         ensures makes { (m : TheNode) (work : Work) → Makes self.old m work → MakesOr m (write trunk.now peer.now message.now work) self.new result }
         ensures told { (m : TheNode) → told self.new m ≡ told self.old m }
     {
-        let sent = Effect::Sent {
-            trunk: Some(trunk.clone()?),
-            peer: peer.clone()?,
-            item: Frame::of_message(alloc, message)?,
-        };
-        push(&mut self.effects, sent)?;
-        Ok(())
+        push_message(&mut self.effects, alloc, trunk, peer, message)
     }
 
     /// The node dials on a new connection. Takes no memory.

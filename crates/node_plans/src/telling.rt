@@ -1,5 +1,5 @@
 //! A process tells another of their link, or of a monitor.
-ghost use Rattle.std.specs.Prelude.{◌≡◌, true, IfOk};
+ghost use Rattle.std.specs.Prelude.{◌≡◌, true};
 ghost use Rattle.dist_model.specs.Items.{telling};
 ghost use Rattle.dist_model.specs.Links.{Signals};
 ghost use Rattle.dist_model.specs.Node.{Node as TheNode};
@@ -12,43 +12,10 @@ ghost use Rattle.node_plans.specs.Seen.{seen};
 
 use crate::node::Node;
 use crate::plan::Plan;
-use erl_control::Signal;
 use erl_term::{Pid, Reference};
 use link_core::LinkSignal;
+use node_effects::{demonitor_signal, link_signal, monitor_signal};
 use std::alloc::{AllocError, Global};
-
-// The signal by which a process tells its partner.
-fn link_signal(from: &Pid, to: &Pid, signal: LinkSignal) -> Result<Signal, AllocError>
-    ensures { IfOk result (λ s. s ≡ telling from.now to.now (Signals signal)) }
-{
-    let from = from.clone()?;
-    let to = to.clone()?;
-    Ok(match signal {
-        LinkSignal::Link => Signal::Link { from, to },
-        LinkSignal::Unlink(id) => Signal::UnlinkId { id, from, to },
-        LinkSignal::Ack(id) => Signal::UnlinkIdAck { id, from, to },
-    })
-}
-
-fn monitor_signal(from: &Pid, to: &Pid, reference: &Reference) -> Result<Signal, AllocError>
-    ensures { IfOk result (λ s. s ≡ signals.Monitor from.now to.now reference.now) }
-{
-    Ok(Signal::Monitor {
-        from: from.clone()?,
-        to: to.clone()?,
-        reference: reference.clone()?,
-    })
-}
-
-fn demonitor_signal(from: &Pid, to: &Pid, reference: &Reference) -> Result<Signal, AllocError>
-    ensures { IfOk result (λ s. s ≡ signals.Demonitor from.now to.now reference.now) }
-{
-    Ok(Signal::Demonitor {
-        from: from.clone()?,
-        to: to.clone()?,
-        reference: reference.clone()?,
-    })
-}
 
 impl Plan {
     /// A process sends MONITOR_P. (ERTS User's Guide, Distribution Protocol, Protocol between

@@ -3,7 +3,8 @@ use Rattle.dist_model.specs.Node.{ends_of}
 use Rattle.dist_model.specs.Work.{post_all}
 use Rattle.erl_term.specs.declared.term.Pid.{Pid}
 use Rattle.link_core.specs.declared.end.End.{End}
-use Rattle.node_plans.specs.Carried.{Carries, CarriesOut, link_in}
+use Rattle.node_plans.specs.Carried.{Carries, CarriesOut}
+use Rattle.node_changes.specs.Parts.{link_in}
 use Rattle.node_endings.specs.Exiting.{exits_to}
 use Rattle.node_plans.specs.Seen.{seen}
 use Rattle.node_endings.proofs.Leaving.{finishes}

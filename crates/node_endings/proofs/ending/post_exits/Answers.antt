@@ -3,7 +3,8 @@ use Rattle.std.proofs.lemmas.List.{take_more}
 use Rattle.dist_model.specs.Work.{post_all}
 use Rattle.erl_term.specs.declared.term.Pid.{Pid}
 use Rattle.link_core.specs.declared.end.End.{End}
-use Rattle.node_plans.specs.Carried.{CarriesOut, link_in}
+use Rattle.node_plans.specs.Carried.{CarriesOut}
+use Rattle.node_changes.specs.Parts.{link_in}
 use Rattle.node_endings.specs.Exiting.{exit_to, exits_to}
 use Rattle.node_plans.specs.Seen.{seen}
 use Rattle.node_changes.specs.declared.change.LinkChange.{LinkChange}

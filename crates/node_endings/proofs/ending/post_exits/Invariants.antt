@@ -1,6 +1,7 @@
 use Rattle.std.proofs.Common.{◌≡◌, take}
 use Rattle.dist_model.specs.Work.{Work, post_all}
-use Rattle.node_plans.specs.Carried.{CarriesOut, link_in}
+use Rattle.node_plans.specs.Carried.{CarriesOut}
+use Rattle.node_changes.specs.Parts.{link_in}
 use Rattle.node_endings.specs.Exiting.{exits_to}
 use Rattle.node_plans.specs.Seen.{seen}
 use Rattle.node_endings.proofs.ending.post_exits.Given as goal

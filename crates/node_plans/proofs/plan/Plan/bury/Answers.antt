@@ -1,19 +1,12 @@
-use Rattle.std.proofs.Common.{◌≡◌, rules, ◌++◌, ◌∷◌, [], ap, sym, ◌∙◌}
-use Rattle.dist_model.specs.Items.{Item}
+use Rattle.std.proofs.Common.{◌≡◌, rules, ◌++◌, ◌∷◌, []}
 use Rattle.dist_model.specs.declared.report.Effect.{Effect}
-use Rattle.node_frames.specs.Frames.{shown}
-use Rattle.node_plans.proofs.Posted.{map_push, spelled_push}
+use Rattle.node_plans.proofs.Changing.{carries_bury}
 use Rattle.node_plans.proofs.plan.Plan.bury.Goals as goal
 
-pub returns-clause-carries : goal.returns-clause-carries
-returns-clause-carries c = λ m work living h.
-    let told : Effect Item = Effect.Ended c.args.process.now c.args.reason in
-    let out : c.push_ended.new.effects.items ≡ c.args.self.now.effects.items ++ shown told ∷ [] = search rules in
-    record {
-      sound = search (rules, h);
-      still = h.still;
-      calm = h.calm;
-      node = search (rules, h);
-      effects = out ∙ ap (λ xs. xs ++ shown told ∷ []) h.effects ∙ sym (map_push shown work.effects told);
-      spelled = spelled_push work.effects told h.spelled tt;
-    }
+pub returns-in-Ok-clause-carries : goal.returns-in-Ok-clause-carries
+returns-in-Ok-clause-carries c = λ m work alive h.
+    let plan = c.args.self.now in
+    let p = c.args.process.now in
+    let effects = c.push_ended.new.effects in
+    let told : effects.items ≡ plan.effects.items ++ Effect.Ended p c.args.reason ∷ [] = search rules in
+    carries_bury plan m work p h c.requires alive c.set_life.new.self effects c.args.reason c.set_life.result told c.set_life.ensures.ok

@@ -1,28 +1,25 @@
-//! What a plan brings about, put behind what it brought about before.
+//! What is sent.
 ghost use Rattle.std.specs.Prelude.{◌≡◌, ◌++◌, [], ◌∷◌, None, Some, OnOk, true};
-ghost use Rattle.dist_model.specs.Items.{Signalled};
+ghost use Rattle.dist_model.specs.Items.{Handshake, Signalled};
 ghost use Rattle.dist_model.specs.declared.report.Effect.TheVariants as effect;
 ghost use Rattle.node_frames.specs.Frames.{IsSpelled, framed};
 ghost use Rattle.node_frames.specs.Sendable.{is_sendable};
 
+use crate::pushing::push;
 use conn_core::Side;
 use dist_model::Effect;
 use erl_control::Signal;
-use erl_names::NodeName;
-use erl_term::{Payload, Pid};
+use erl_handshake::ShakeMsg;
+use erl_names::{NodeName, TrunkId};
 use node_frames::Frame;
 use std::alloc::{AllocError, Global};
 
-/// One more.
-pub(crate) fn push(effects: &mut Vec<Effect<Frame>>, more: Effect<Frame>) -> Result<(), AllocError>
-    ensures { OnOk result (effects.new.items ≡ effects.old.items ++ more ∷ []) }
-{
-    effects.push(more)?;
-    Ok(())
-}
-
-/// A signal travels from the node of this name to itself.
-pub(crate) fn push_here(
+/// A signal travels from the node of this name to itself. (Reference Manual, Processes, Delivery of
+/// Signals.)
+///
+/// # Errors
+/// Where there is no memory for it.
+pub fn push_signal_here(
     effects: &mut Vec<Effect<Frame>>,
     alloc: Global,
     name: &NodeName,
@@ -32,16 +29,19 @@ pub(crate) fn push_here(
     ensures effects { OnOk result (effects.new.items ≡ effects.old.items ++ effect.Sent None name.now (framed (Signalled signal.now)) ∷ []) }
     ensures spelled { OnOk result (IsSpelled (Signalled signal.now)) }
 {
-    let sent = Effect::Sent {
+    let here = Effect::Sent {
         trunk: None,
         peer: name.clone()?,
         item: Frame::of(alloc, signal)?,
     };
-    push(effects, sent)
+    push(effects, here)
 }
 
-/// A signal is sent on the connection of this side.
-pub(crate) fn push_there(
+/// A signal is sent on the connection of this side. (Reference Manual, Processes, Delivery of Signals.)
+///
+/// # Errors
+/// Where there is no memory for it.
+pub fn push_signal_there(
     effects: &mut Vec<Effect<Frame>>,
     alloc: Global,
     side: &Side,
@@ -51,42 +51,33 @@ pub(crate) fn push_there(
     ensures effects { OnOk result (effects.new.items ≡ effects.old.items ++ effect.Sent (Some side.now.trunk) side.now.peer (framed (Signalled signal.now)) ∷ []) }
     ensures spelled { OnOk result (IsSpelled (Signalled signal.now)) }
 {
-    let sent = Effect::Sent {
+    let there = Effect::Sent {
         trunk: Some(side.trunk.clone()?),
         peer: side.peer.clone()?,
         item: Frame::of(alloc, signal)?,
     };
-    push(effects, sent)
+    push(effects, there)
 }
 
-/// A message comes into the mailbox of a process.
-pub(crate) fn push_put(
+/// A message of the handshake is sent on a connection. (ERTS User's Guide, Distribution Protocol,
+/// Distribution Handshake.)
+///
+/// # Errors
+/// Where there is no memory for it.
+pub fn push_message(
     effects: &mut Vec<Effect<Frame>>,
     alloc: Global,
-    process: &Pid,
-    message: &Payload,
+    trunk: &TrunkId,
+    peer: &NodeName,
+    message: &ShakeMsg,
 ) -> Result<(), AllocError>
-    ensures { OnOk result (effects.new.items ≡ effects.old.items ++ effect.Put process.now message.now ∷ []) }
+    ensures effects { OnOk result (effects.new.items ≡ effects.old.items ++ effect.Sent (Some trunk.now) peer.now (framed (Handshake message.now)) ∷ []) }
+    ensures spelled { OnOk result (IsSpelled (Handshake message.now)) }
 {
-    let put = Effect::Put {
-        to: process.clone()?,
-        message: message.copy(alloc)?,
+    let written = Effect::Sent {
+        trunk: Some(trunk.clone()?),
+        peer: peer.clone()?,
+        item: Frame::of_message(alloc, message)?,
     };
-    push(effects, put)
-}
-
-/// A process ends.
-pub(crate) fn push_ended(
-    effects: &mut Vec<Effect<Frame>>,
-    alloc: Global,
-    process: &Pid,
-    reason: &Payload,
-) -> Result<(), AllocError>
-    ensures { OnOk result (effects.new.items ≡ effects.old.items ++ effect.Ended process.now reason.now ∷ []) }
-{
-    let ended = Effect::Ended {
-        process: process.clone()?,
-        reason: reason.copy(alloc)?,
-    };
-    push(effects, ended)
+    push(effects, written)
 }
