@@ -13,6 +13,9 @@ use Rattle.link_core.specs.declared.end.End.{End}
 use Rattle.monitor_core.specs.Left.{without_owner, without_target}
 use Rattle.monitor_core.specs.Monitors.{MonitorMap}
 use Rattle.node_tables.specs.declared.seeking.FoundLink.{FoundLink}
+use Rattle.monitor_core.specs.declared.monitor.Monitor.{Monitor}
+use Rattle.node_sweeps.specs.declared.left.MonitorKind.{MonitorKind}
+use Rattle.node_sweeps.specs.declared.left.MonitorKind.TheVariants as kind
 use Rattle.node_sweeps.specs.declared.records.Record.{Record}
 use Rattle.node_sweeps.specs.declared.records.Record.TheVariants.{Link, Watch, Registration}
 
@@ -34,6 +37,16 @@ has_watch peer monitors = is_some (watch_to peer (fm.entries monitors))
 
 abbrev pub has_registration : Name → MonitorMap → Bool
 has_registration peer monitors = is_some (registered_by peer (fm.entries monitors))
+
+-- ---- the processes of a monitor: the one here, and the other
+
+abbrev pub ours : MonitorKind → Monitor → Pid
+ours kind.Watch monitor = monitor.owner
+ours kind.Registration monitor = monitor.target
+
+abbrev pub theirs : MonitorKind → Monitor → Pid
+theirs kind.Watch monitor = monitor.target
+theirs kind.Registration monitor = monitor.owner
 
 -- ---- the ends once a link is swept: a process that ends by it has none any more
 

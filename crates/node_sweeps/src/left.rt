@@ -10,7 +10,7 @@ ghost use Rattle.erl_names.specs.Ids.{pid_of};
 ghost use Rattle.monitor_core.specs.Left.{without_owner, without_target};
 ghost use Rattle.node_plans.specs.Seen.{seen};
 ghost use Rattle.node_sweeps.specs.Ahead.{NoneOwnedBefore, NoneWatchedBefore};
-ghost use Rattle.node_sweeps.specs.Records.{has_link, has_registration, has_watch, link_entry, parted, unlinked};
+ghost use Rattle.node_sweeps.specs.Records.{has_link, has_registration, has_watch, link_entry, ours, parted, theirs, unlinked};
 
 use crate::places::place_of;
 use erl_term::{Atom, Pid, Reference};
@@ -46,20 +46,79 @@ pub(crate) fn has_another_link(
         || node.first_link_towards(peer, link.id).is_some()
 }
 
-// ---- monitors of processes here
+// ---- monitors
 
-fn watches_for_another(monitor: &Monitor, peer: &Atom, process: &Pid) -> bool
-    ensures { result ≡ (same_name monitor.now.target.node peer.now && not (same_pid monitor.now.owner process.now)) }
-{
-    same_name(&monitor.target.node, peer) && !same_pid(&monitor.owner, process)
+/// Whose monitors are meant.
+#[derive(Clone, Copy)]
+pub(crate) enum MonitorKind {
+    /// Those that processes here have of others.
+    Watch,
+    /// Those that others have of processes here.
+    Registration,
 }
 
-fn any_for_another(entries: &[(Reference, Monitor)], peer: &Atom, process: &Pid) -> bool
-    ensures { result ≡ list_any (λ e. same_name e.1.target.node peer.now && not (same_pid e.1.owner process.now)) entries.now }
+// The process of a monitor that is here.
+fn ours(kind: MonitorKind, monitor: &Monitor) -> &Pid
+    ensures { result.now ≡ ours kind monitor.now }
+{
+    match kind {
+        MonitorKind::Watch => &monitor.owner,
+        MonitorKind::Registration => &monitor.target,
+    }
+}
+
+// The other one.
+fn theirs(kind: MonitorKind, monitor: &Monitor) -> &Pid
+    ensures { result.now ≡ theirs kind monitor.now }
+{
+    match kind {
+        MonitorKind::Watch => &monitor.target,
+        MonitorKind::Registration => &monitor.owner,
+    }
+}
+
+fn is_of_another(kind: MonitorKind, monitor: &Monitor, peer: &Atom, process: &Pid) -> bool
+    ensures { result ≡ (same_name (theirs kind monitor.now).node peer.now && not (same_pid (ours kind monitor.now) process.now)) }
+{
+    same_name(&theirs(kind, monitor).node, peer) && !same_pid(ours(kind, monitor), process)
+}
+
+fn any_of_another(
+    kind: MonitorKind,
+    entries: &[(Reference, Monitor)],
+    peer: &Atom,
+    process: &Pid,
+) -> bool
+    ensures { result ≡ list_any (λ e. same_name (theirs kind e.1).node peer.now && not (same_pid (ours kind e.1) process.now)) entries.now }
 {
     entries
         .iter()
-        .any(|(_, monitor)| watches_for_another(monitor, peer, process))
+        .any(|(_, monitor)| is_of_another(kind, monitor, peer, process))
+}
+
+fn is_under_another(
+    kind: MonitorKind,
+    reference: &Reference,
+    monitor: &Monitor,
+    peer: &Atom,
+    gone: &Reference,
+) -> bool
+    ensures { result ≡ (same_name (theirs kind monitor.now).node peer.now && not (same_reference reference.now gone.now)) }
+{
+    same_name(&theirs(kind, monitor).node, peer) && reference.cmp(gone).is_ne()
+}
+
+fn any_under_another(
+    kind: MonitorKind,
+    entries: &[(Reference, Monitor)],
+    peer: &Atom,
+    gone: &Reference,
+) -> bool
+    ensures { result ≡ list_any (λ e. same_name (theirs kind e.1).node peer.now && not (same_reference e.0 gone.now)) entries.now }
+{
+    entries.iter().any(|(reference, monitor)| is_under_another(
+        kind, reference, monitor, peer, gone,
+    ))
 }
 
 // Whether a monitor is left once a process ends.
@@ -74,24 +133,7 @@ pub(crate) fn has_watch_of_another(
 {
     let entries = node.watches().entries();
     let at = place_of(entries, from);
-    any_for_another(&entries[at..], peer, process)
-}
-
-fn watches_under_another(
-    reference: &Reference,
-    monitor: &Monitor,
-    peer: &Atom,
-    gone: &Reference,
-) -> bool
-    ensures { result ≡ (same_name monitor.now.target.node peer.now && not (same_reference reference.now gone.now)) }
-{
-    same_name(&monitor.target.node, peer) && reference.cmp(gone).is_ne()
-}
-
-fn any_under_another(entries: &[(Reference, Monitor)], peer: &Atom, gone: &Reference) -> bool
-    ensures { result ≡ list_any (λ e. same_name e.1.target.node peer.now && not (same_reference e.0 gone.now)) entries.now }
-{
-    entries.iter().any(|(reference, monitor)| watches_under_another(reference, monitor, peer, gone))
+    any_of_another(MonitorKind::Watch, &entries[at..], peer, process)
 }
 
 // Whether a monitor is left once that of a reference is gone.
@@ -101,23 +143,7 @@ pub(crate) fn has_another_watch(node: &Node, peer: &Atom, gone: &Reference) -> b
 {
     let entries = node.watches().entries();
     let at = place_of(entries, Some(gone));
-    any_under_another(&entries[at..], peer, gone)
-}
-
-// ---- monitors that others have
-
-fn owned_on_another(monitor: &Monitor, peer: &Atom, process: &Pid) -> bool
-    ensures { result ≡ (same_name monitor.now.owner.node peer.now && not (same_pid monitor.now.target process.now)) }
-{
-    same_name(&monitor.owner.node, peer) && !same_pid(&monitor.target, process)
-}
-
-fn any_owned_on_another(entries: &[(Reference, Monitor)], peer: &Atom, process: &Pid) -> bool
-    ensures { result ≡ list_any (λ e. same_name e.1.owner.node peer.now && not (same_pid e.1.target process.now)) entries.now }
-{
-    entries
-        .iter()
-        .any(|(_, monitor)| owned_on_another(monitor, peer, process))
+    any_under_another(MonitorKind::Watch, &entries[at..], peer, gone)
 }
 
 // Whether a monitor that another has is left once a process ends.
@@ -132,24 +158,7 @@ pub(crate) fn has_registration_of_another(
 {
     let entries = node.watchers().entries();
     let at = place_of(entries, from);
-    any_owned_on_another(&entries[at..], peer, process)
-}
-
-fn owned_under_another(
-    reference: &Reference,
-    monitor: &Monitor,
-    peer: &Atom,
-    gone: &Reference,
-) -> bool
-    ensures { result ≡ (same_name monitor.now.owner.node peer.now && not (same_reference reference.now gone.now)) }
-{
-    same_name(&monitor.owner.node, peer) && reference.cmp(gone).is_ne()
-}
-
-fn any_owned_under_another(entries: &[(Reference, Monitor)], peer: &Atom, gone: &Reference) -> bool
-    ensures { result ≡ list_any (λ e. same_name e.1.owner.node peer.now && not (same_reference e.0 gone.now)) entries.now }
-{
-    entries.iter().any(|(reference, monitor)| owned_under_another(reference, monitor, peer, gone))
+    any_of_another(MonitorKind::Registration, &entries[at..], peer, process)
 }
 
 // Whether a monitor that another has is left once that of a reference is gone.
@@ -159,5 +168,5 @@ pub(crate) fn has_another_registration(node: &Node, peer: &Atom, gone: &Referenc
 {
     let entries = node.watchers().entries();
     let at = place_of(entries, Some(gone));
-    any_owned_under_another(&entries[at..], peer, gone)
+    any_under_another(MonitorKind::Registration, &entries[at..], peer, gone)
 }

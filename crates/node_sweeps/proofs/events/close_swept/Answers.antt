@@ -5,7 +5,6 @@ use Rattle.dist_model.specs.Losses.{Record, close_side}
 use Rattle.dist_model.specs.Work.{at_work}
 use Rattle.node_plans.proofs.Making.{makes_it}
 use Rattle.node_plans.specs.Carried.{Makes}
-use Rattle.node_plans.specs.Plans.{committed}
 use Rattle.node_plans.specs.Seen.{seen}
 use Rattle.node_sides.specs.Standings.{side_of}
 use Rattle.node_sweeps.proofs.events.close_swept.Goals as goal

@@ -18,6 +18,6 @@ returns c =
     let es = c.entries-entries.result.now in
     let at = c.place_of-at.result in
     let test = λ (e : Reference × Monitor). same_name e.1.owner.node peer && not (same_reference e.0 c.args.gone.now) in
-    let is : c.any_owned_under_another.result ≡ list_any test (slice_range es at (length es)) = c.any_owned_under_another.ensures in
+    let is : c.any_under_another.result ≡ list_any test (slice_range es at (length es)) = c.any_under_another.ensures in
     is ∙ any_but c.watchers.result.now.monitors (seen c.args.node.now).registered es c.watchers.ensures c.entries-entries.ensures (Some c.args.gone.now)
     (λ r w. same_name w.owner.node peer) test at c.place_of-at.ensures.within c.place_of-at.ensures.before c.requires c.args.gone.now (λ e. refl)

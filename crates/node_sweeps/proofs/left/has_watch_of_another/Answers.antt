@@ -18,6 +18,6 @@ returns c =
     let es = c.entries-entries.result.now in
     let at = c.place_of-at.result in
     let test = λ (e : Reference × Monitor). same_name e.1.target.node peer && not (same_pid e.1.owner c.args.process.now) in
-    let is : c.any_for_another.result ≡ list_any test (slice_range es at (length es)) = c.any_for_another.ensures in
+    let is : c.any_of_another.result ≡ list_any test (slice_range es at (length es)) = c.any_of_another.ensures in
     is ∙ any_by_owner c.watches.result.now.monitors (seen c.args.node.now).watches es c.watches.ensures c.entries-entries.ensures (option_copied c.args.from)
     (λ r w. same_name w.target.node peer) test at c.place_of-at.ensures.within c.place_of-at.ensures.before c.requires c.args.process.now (λ e. refl)
