@@ -1,6 +1,6 @@
 //! What a measurement found.
 
-ghost use Rattle.std.specs.Prelude.{◌≡◌, ◌≤◌, ◌<◌, ◌*◌, ◌/◌, ◌-◌, ◌^◌};
+ghost use Rattle.std.specs.Prelude.{◌≡◌, ◌≤◌, ◌<◌, ◌*◌, ◌/◌, ◌-◌, ◌^◌, max};
 ghost use Rattle.benchmark.specs.Rates.{nanos_of, a_second, megabytes_a_second};
 
 use anyhow::Result;
@@ -15,6 +15,13 @@ pub struct Rate<'a> {
     /// The bytes of one round.
     pub bytes: usize,
     pub elapsed: Duration,
+}
+
+// A number, of which 0 counts as 1.
+fn at_least_one(number: u128) -> u128
+    ensures { result ≡ max number 1 }
+{
+    if number == 0 { 1 } else { number }
 }
 
 impl Rate<'_> {
@@ -42,8 +49,7 @@ impl Rate<'_> {
     fn nanos(&self) -> u128
         ensures { result ≡ nanos_of self.now.elapsed }
     {
-        let nanos = self.elapsed.as_nanos();
-        if nanos == 0 { 1 } else { nanos }
+        at_least_one(self.elapsed.as_nanos())
     }
 
     /// Prints how many rounds a second has, and how many megabytes of 1,000,000 bytes.

@@ -4,7 +4,7 @@ use crate::pids::pid;
 use crate::rate::Rate;
 use anyhow::Result;
 use erl_term::{Term, decode, encode};
-use std::alloc::Global;
+use std::alloc::{AllocError, Global};
 use std::hint::black_box;
 use std::time::Instant;
 
@@ -64,22 +64,28 @@ fn measure_term(rt: &HostRuntime, name: &str, term: &Term, rounds: u64) -> Resul
     decoding.print(rt)
 }
 
+// Want of memory is plain here: an error that holds a term is dear to prove at each place.
+fn push(items: &mut Vec<Term>, item: Term) -> Result<(), AllocError> {
+    items.push(item)?;
+    Ok(())
+}
+
 /// The control term of LINK: {1, From, To}.
 fn link(alloc: Global) -> Result<Term> {
     let mut items = Vec::with_capacity(alloc, 3)?;
-    items.push(Term::Int(1))?;
-    items.push(Term::Pid(pid(alloc, "a@h", 1)?))?;
-    items.push(Term::Pid(pid(alloc, "b@h", 1)?))?;
+    push(&mut items, Term::Int(1))?;
+    push(&mut items, Term::Pid(pid(alloc, "a@h", 1)?))?;
+    push(&mut items, Term::Pid(pid(alloc, "b@h", 1)?))?;
     Ok(Term::Tuple(items))
 }
 
 /// The control term of UNLINK_ID: {35, Id, From, To}.
 fn unlink(alloc: Global) -> Result<Term> {
     let mut items = Vec::with_capacity(alloc, 4)?;
-    items.push(Term::Int(35))?;
-    items.push(Term::Int(1))?;
-    items.push(Term::Pid(pid(alloc, "a@h", 1)?))?;
-    items.push(Term::Pid(pid(alloc, "b@h", 1)?))?;
+    push(&mut items, Term::Int(35))?;
+    push(&mut items, Term::Int(1))?;
+    push(&mut items, Term::Pid(pid(alloc, "a@h", 1)?))?;
+    push(&mut items, Term::Pid(pid(alloc, "b@h", 1)?))?;
     Ok(Term::Tuple(items))
 }
 
@@ -89,23 +95,23 @@ fn table(alloc: Global) -> Result<Term> {
     for _ in 0..WIDTH {
         let mut row = Vec::with_capacity(alloc, WIDTH)?;
         for _ in 0..WIDTH {
-            row.push(link(alloc)?)?;
+            push(&mut row, link(alloc)?)?;
         }
-        rows.push(Term::Tuple(row))?;
+        push(&mut rows, Term::Tuple(row))?;
     }
     Ok(Term::Tuple(rows))
 }
 
 /// The integers from 0.
-fn integers(alloc: Global) -> Result<Term> {
+fn integers(alloc: Global) -> Result<Term, AllocError> {
     let mut items = Vec::with_capacity(alloc, INTEGERS)?;
     for i in 0..INTEGERS {
-        items.push(Term::Int(i as i128))?;
+        push(&mut items, Term::Int(i as i128))?;
     }
     Ok(Term::list(items))
 }
 
-fn binary(alloc: Global) -> Result<Term> {
+fn binary(alloc: Global) -> Result<Term, AllocError> {
     let mut bytes = Vec::with_capacity(alloc, BYTES)?;
     for _ in 0..BYTES {
         bytes.push(7)?;

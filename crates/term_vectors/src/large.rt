@@ -3,7 +3,7 @@
 use anyhow::Result;
 use erl_term::{Atom, Term, decode, encode};
 use sha2::{Digest, Sha256};
-use std::alloc::Global;
+use std::alloc::{AllocError, Global};
 
 /// What a large term is.
 #[derive(Clone, Copy)]
@@ -74,14 +74,14 @@ fn counted(alloc: Global, count: usize, modulus: usize) -> Result<Term> {
 fn atoms(alloc: Global, count: usize) -> Result<Term> {
     let mut items = Vec::with_capacity(alloc, count)?;
     for _ in 0..count {
-        items.push(atom(alloc, "a")?)?;
+        push(&mut items, atom(alloc, "a")?)?;
     }
     Ok(Term::Tuple(items))
 }
 
 fn improper(alloc: Global, count: usize) -> Result<Term> {
     let items = same(alloc, 1, count)?;
-    let tail = Box::new(alloc, atom(alloc, "z")?)?;
+    let tail = boxed(alloc, atom(alloc, "z")?)?;
     Ok(Term::List {
         items,
         tail: Some(tail),
@@ -96,30 +96,40 @@ fn list_in_tuple(alloc: Global, count: usize) -> Result<Term> {
 fn empty_lists(alloc: Global, count: usize) -> Result<Term> {
     let mut items = Vec::with_capacity(alloc, count)?;
     for _ in 0..count {
-        items.push(Term::list(Vec::new(alloc)))?;
+        push(&mut items, Term::list(Vec::new(alloc)))?;
     }
     Ok(Term::list(items))
 }
 
+// Want of memory is plain here: an error that holds a term is dear to prove at each place.
+fn push(items: &mut Vec<Term>, item: Term) -> Result<(), AllocError> {
+    items.push(item)?;
+    Ok(())
+}
+
+fn boxed(alloc: Global, term: Term) -> Result<Box<Term>, AllocError> {
+    Ok(Box::new(alloc, term)?)
+}
+
 /// The integers from 0, so many, modulo a number.
-fn integers(alloc: Global, count: usize, modulus: usize) -> Result<Vec<Term>> {
+fn integers(alloc: Global, count: usize, modulus: usize) -> Result<Vec<Term>, AllocError> {
     let mut items = Vec::with_capacity(alloc, count)?;
     for i in 0..count {
         let n = i.checked_rem(modulus).unwrap_or(0);
-        items.push(Term::Int(n as i128))?;
+        push(&mut items, Term::Int(n as i128))?;
     }
     Ok(items)
 }
 
-fn same(alloc: Global, n: i128, count: usize) -> Result<Vec<Term>> {
+fn same(alloc: Global, n: i128, count: usize) -> Result<Vec<Term>, AllocError> {
     let mut items = Vec::with_capacity(alloc, count)?;
     for _ in 0..count {
-        items.push(Term::Int(n))?;
+        push(&mut items, Term::Int(n))?;
     }
     Ok(items)
 }
 
-fn vec_of(alloc: Global, byte: u8, count: usize) -> Result<Vec<u8>> {
+fn vec_of(alloc: Global, byte: u8, count: usize) -> Result<Vec<u8>, AllocError> {
     let mut bytes = Vec::with_capacity(alloc, count)?;
     for _ in 0..count {
         bytes.push(byte)?;
