@@ -7,7 +7,7 @@ use anyhow::Result;
 use erl_names::TrunkId;
 use erl_term::{Pid, Refusal};
 use link_core::End;
-use std::alloc::Global;
+use std::alloc::{AllocError, Global};
 use world_core::{Life, World};
 
 /// A story of a world.
@@ -34,10 +34,15 @@ struct Stage {
     processes: Vec<Pid>,
 }
 
+fn push(made: &mut Vec<Pid>, pid: Pid) -> Result<(), AllocError> {
+    made.push(pid)?;
+    Ok(())
+}
+
 // One process more.
 fn add(alloc: Global, made: &mut Vec<Pid>, process: Process) -> Result<(), Refusal> {
     let pid = pid(alloc, process)?;
-    match made.push(pid) {
+    match push(made, pid) {
         Ok(()) => Ok(()),
         Err(_) => Err(Refusal::OutOfMemory),
     }
