@@ -232,13 +232,24 @@ fn example<R: Wait>(rt: &R, alloc: Global) -> Result<Spelling, Refusal> {
     put
 }
 
-fn sent<R: Wait>(rt: &R, alloc: Global, stage: &mut Stage) -> Result<Spelling, Refusal> {
-    for row in CONNECTED {
+// A message is sent and put.
+const SENT: &[Row] = &[Row::Repeats(0, Ask::Send(P, Q), 1), Row::Flushes(0, 1)];
+
+fn hold_all<R: Wait>(
+    rt: &R,
+    alloc: Global,
+    stage: &mut Stage,
+    rows: &[Row],
+) -> Result<(), Refusal> {
+    for row in rows {
         stage.holds(rt, alloc, &[], *row)?;
     }
-    for row in [Row::Repeats(0, Ask::Send(P, Q), 1), Row::Flushes(0, 1)] {
-        stage.holds(rt, alloc, &[], row)?;
-    }
+    Ok(())
+}
+
+fn sent<R: Wait>(rt: &R, alloc: Global, stage: &mut Stage) -> Result<Spelling, Refusal> {
+    hold_all(rt, alloc, stage, CONNECTED)?;
+    hold_all(rt, alloc, stage, SENT)?;
     stage.last_put(0)
 }
 
