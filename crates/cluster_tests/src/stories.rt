@@ -262,6 +262,20 @@ enum AtTwo {
     Small,
 }
 
+fn known(entries: Result<usize, Wrong>) -> Result<Option<usize>, Wrong> {
+    match entries {
+        Ok(entries) => Ok(Some(entries)),
+        Err(wrong) => Err(wrong),
+    }
+}
+
+fn unknown(done: Result<(), Wrong>) -> Result<Option<usize>, Wrong> {
+    match done {
+        Ok(()) => Ok(None),
+        Err(wrong) => Err(wrong),
+    }
+}
+
 impl AtTwo {
     // How many entries the trace has then, if that is known.
     fn happens<R: Machine>(
@@ -271,12 +285,12 @@ impl AtTwo {
         two: &mut Two,
     ) -> Result<Option<usize>, Wrong> {
         match self {
-            AtTwo::Link => link(rt, alloc, two).map(Some),
-            AtTwo::Flood => flood(rt, alloc, two).map(Some),
-            AtTwo::Restart => restart(rt, alloc, two).map(|()| None),
-            AtTwo::Loss => loss(rt, alloc, two).map(|()| None),
-            AtTwo::Crossed => crossed(rt, alloc, two).map(|()| None),
-            AtTwo::Small => small(rt, alloc, two).map(|()| None),
+            AtTwo::Link => known(link(rt, alloc, two)),
+            AtTwo::Flood => known(flood(rt, alloc, two)),
+            AtTwo::Restart => unknown(restart(rt, alloc, two)),
+            AtTwo::Loss => unknown(loss(rt, alloc, two)),
+            AtTwo::Crossed => unknown(crossed(rt, alloc, two)),
+            AtTwo::Small => unknown(small(rt, alloc, two)),
         }
     }
 

@@ -122,7 +122,10 @@ fn one<R: Wait>(rt: &R, cluster: &Nodes, caller: &mut Caller) -> Result<usize, R
     let act = act(rt, caller.alloc, cluster, &mut caller.random, place)?;
     match caller.seats.get_mut(place) {
         Some(seat) => cluster.call(rt, seat, act),
-        None => Err(Refusal::NothingThere),
+        None => {
+            drop(act);
+            Err(Refusal::NothingThere)
+        }
     }
 }
 
