@@ -19,10 +19,10 @@ use Rattle.conn_core.specs.declared.standing.Standing.TheVariants.{Dialing, Acce
 use Rattle.conn_core.specs.declared.side.Side.{Side}
 use Rattle.conn_core.specs.Side.{of_acceptor, on_message, admitted_at, gone_on, lost, is_live, state_of}
 use Rattle.conn_core.proofs.Within.{Within, within_rest, first_within, within_itself, right_digest, either}
-use Rattle.conn_core.specs.Happenings.{Happening, Message, NoMessage, Frame, NoFrame, Admit, GoOn, Lose, Close, standing_after, after, unheard, IsNamed, IsReplied}
+use Rattle.conn_core.specs.Happenings.{Happening, Message, NoMessage, Frame, NoFrame, Admit, GoOn}
+use Rattle.conn_core.specs.Happenings.{Lose, Close, standing_after, after, unheard, IsNamed, IsReplied}
 
 abbrev Kept : Identity → List ℕ → List Happening → Standing → Type 0
-Kept own peer all (Accepting acceptor.AwaitsName) = Unit {0}
 Kept own peer all (Accepting (acceptor.AwaitsAdmission c creation)) = IsNamed peer c all
 Kept own peer all (Accepting (acceptor.AwaitsAnswer c creation)) = IsNamed peer c all
 Kept own peer all (Accepting (acceptor.AwaitsTurn c creation)) = IsNamed peer c all
@@ -31,8 +31,7 @@ Kept own peer all (Accepting (acceptor.Done creation)) = ⊥
 Kept own peer all (Accepting acceptor.Over) = ⊥
 Kept own peer all (Dialing d) = ⊥
 Kept own peer all (Up creation) = IsReplied own peer all
-Kept own peer all (Losing creation) = Unit {0}
-Kept own peer all Gone = Unit {0}
+Kept own peer all _ = Unit {0}
 
 -- a name without fault is the peer's
 name_is : (peer name : List ℕ) (flags : ℕ) (b : Bool) → is_same name peer ≡ b → introduction_fault peer name flags ≡ None → name ≡ peer
@@ -47,24 +46,27 @@ named : (own : Identity) (peer : List ℕ) (all : List Happening) (fault : Optio
     Kept own peer all (of_acceptor (on_name fault creation word).state)
 named own peer all (Some why) flags creation word name e came = tt
 named own peer all None flags creation word name e came =
-    record { flags = flags; creation = creation; came = subst (λ (n : List ℕ). Contains all (Message (SendName flags creation n) word)) (name_is peer name flags _ refl e) came }
+    record {
+      flags = flags;
+      creation = creation;
+      came = subst (λ (n : List ℕ). Contains all (Message (SendName flags creation n) word)) (name_is peer name flags _ refl e) came;
+    }
 
-answered : (own : Identity) (peer : List ℕ) (all : List Happening) (c creation : ℕ) (s : TheStatus) → IsNamed peer c all → Kept own peer all (of_acceptor (on_answer c creation s).state)
-answered own peer all c creation status.Ok n = tt
-answered own peer all c creation status.OkSimultaneous n = tt
-answered own peer all c creation status.Nok n = tt
-answered own peer all c creation status.NotAllowed n = tt
-answered own peer all c creation status.Alive n = tt
+answered : (own : Identity) (peer : List ℕ) (all : List Happening) (c creation : ℕ) (s : TheStatus) → IsNamed peer c all
+    → Kept own peer all (of_acceptor (on_answer c creation s).state)
 answered own peer all c creation status.True n = n
-answered own peer all c creation status.False n = tt
+answered own peer all c creation _ n = tt
 
 chosen_reply : (own : Identity) (c creation theirs : ℕ) (digest : List ℕ) (b : Bool) → is_answered own.cookie c digest ≡ b →
-    of_acceptor (awaits_reply own c creation (ChallengeReply theirs digest)).state ≡ of_acceptor (if b then acceptor.Done creation else acceptor.Over)
+    of_acceptor (awaits_reply own c creation (ChallengeReply theirs digest)).state
+    ≡ of_acceptor (if b then acceptor.Done creation else acceptor.Over)
 chosen_reply own c creation theirs digest true is = rw is refl
 chosen_reply own c creation theirs digest false is = rw is refl
 
-replied : (own : Identity) (peer : List ℕ) (all : List Happening) (c creation theirs word : ℕ) (digest : List ℕ) (b : Bool) → is_answered own.cookie c digest ≡ b → IsNamed peer c all →
-    Contains all (Message (ChallengeReply theirs digest) word) → Kept own peer all (of_acceptor (if b then acceptor.Done creation else acceptor.Over))
+replied : (own : Identity) (peer : List ℕ) (all : List Happening) (c creation theirs word : ℕ) (digest : List ℕ) (b : Bool)
+    → is_answered own.cookie c digest ≡ b → IsNamed peer c all →
+    Contains all (Message (ChallengeReply theirs digest) word)
+    → Kept own peer all (of_acceptor (if b then acceptor.Done creation else acceptor.Over))
 replied own peer all c creation theirs word digest true is n came =
     record {
       challenge = c;
@@ -77,90 +79,67 @@ replied own peer all c creation theirs word digest false is n came = tt
 
 message_keeps : (own : Identity) (peer : List ℕ) (all : List Happening) (st : Standing) (message : ShakeMsg) (word : ℕ) →
     Contains all (Message message word) → Kept own peer all st → Kept own peer all (on_message own peer st message word 0).standing
-message_keeps own peer all (Accepting acceptor.AwaitsName) (SendName f k n) word came e = named own peer all (introduction_fault peer n f) f k word n refl came
-message_keeps own peer all (Accepting acceptor.AwaitsName) (Status s) word came e = tt
-message_keeps own peer all (Accepting acceptor.AwaitsName) (Challenge f t k n) word came e = tt
-message_keeps own peer all (Accepting acceptor.AwaitsName) (ChallengeReply t d) word came e = tt
-message_keeps own peer all (Accepting acceptor.AwaitsName) (ChallengeAck d) word came e = tt
-message_keeps own peer all (Accepting (acceptor.AwaitsAdmission c k)) message word came e = tt
+message_keeps own peer all (Accepting acceptor.AwaitsName) (SendName f k n) word came e =
+    named own peer all (introduction_fault peer n f) f k word n refl came
 message_keeps own peer all (Accepting (acceptor.AwaitsAnswer c k)) (Status s) word came e = answered own peer all c k s e
-message_keeps own peer all (Accepting (acceptor.AwaitsAnswer c k)) (SendName f j n) word came e = tt
-message_keeps own peer all (Accepting (acceptor.AwaitsAnswer c k)) (Challenge f t j n) word came e = tt
-message_keeps own peer all (Accepting (acceptor.AwaitsAnswer c k)) (ChallengeReply t d) word came e = tt
-message_keeps own peer all (Accepting (acceptor.AwaitsAnswer c k)) (ChallengeAck d) word came e = tt
-message_keeps own peer all (Accepting (acceptor.AwaitsTurn c k)) message word came e = tt
 message_keeps own peer all (Accepting (acceptor.AwaitsReply c k)) (ChallengeReply t d) word came e =
     subst (Kept own peer all) (sym (chosen_reply own c k t d _ refl)) (replied own peer all c k t word d _ refl e came)
-message_keeps own peer all (Accepting (acceptor.AwaitsReply c k)) (SendName f j n) word came e = tt
-message_keeps own peer all (Accepting (acceptor.AwaitsReply c k)) (Status s) word came e = tt
-message_keeps own peer all (Accepting (acceptor.AwaitsReply c k)) (Challenge f t j n) word came e = tt
-message_keeps own peer all (Accepting (acceptor.AwaitsReply c k)) (ChallengeAck d) word came e = tt
 message_keeps own peer all (Accepting (acceptor.Done k)) message word came e = absurd e
 message_keeps own peer all (Accepting acceptor.Over) message word came e = absurd e
 message_keeps own peer all (Dialing d) message word came e = absurd e
-message_keeps own peer all (Up k) message word came e = tt
-message_keeps own peer all (Losing k) message word came e = tt
-message_keeps own peer all Gone message word came e = tt
+message_keeps own peer all _ _ word came e = tt
 
 lost_keeps : (own : Identity) (peer : List ℕ) (all : List Happening) (st : Standing) → Kept own peer all st → Kept own peer all (lost st)
 lost_keeps own peer all (Dialing d) e = tt
-lost_keeps own peer all (Accepting a) e = tt
-lost_keeps own peer all (Up k) e = tt
-lost_keeps own peer all (Losing k) e = tt
-lost_keeps own peer all Gone e = tt
+lost_keeps own peer all _ e = tt
 
-decided : (own : Identity) (peer : List ℕ) (all : List Happening) (s : TheStatus) (c creation : ℕ) → IsNamed peer c all → Kept own peer all (of_acceptor (after_status s c creation))
+decided : (own : Identity) (peer : List ℕ) (all : List Happening) (s : TheStatus) (c creation : ℕ) → IsNamed peer c all
+    → Kept own peer all (of_acceptor (after_status s c creation))
 decided own peer all status.Ok c creation n = n
 decided own peer all status.OkSimultaneous c creation n = n
-decided own peer all status.Nok c creation n = tt
-decided own peer all status.NotAllowed c creation n = tt
 decided own peer all status.Alive c creation n = n
-decided own peer all status.True c creation n = tt
-decided own peer all status.False c creation n = tt
+decided own peer all _ c creation n = tt
 
-admitted_keeps : (own : Identity) (trunk : TrunkId) (peer : List ℕ) (all : List Happening) (st : Standing) (others : OtherConnections) → Kept own peer all st → Kept own peer all (admitted_at own.name trunk st others)
-admitted_keeps own trunk peer all (Accepting acceptor.AwaitsName) others e = e
-admitted_keeps own trunk peer all (Accepting (acceptor.AwaitsAdmission c k)) others e = decided own peer all (status_due trunk.dialer own.name trunk.count others) c k e
-admitted_keeps own trunk peer all (Accepting (acceptor.AwaitsAnswer c k)) others e = e
-admitted_keeps own trunk peer all (Accepting (acceptor.AwaitsTurn c k)) others e = e
-admitted_keeps own trunk peer all (Accepting (acceptor.AwaitsReply c k)) others e = e
+admitted_keeps : (own : Identity) (trunk : TrunkId) (peer : List ℕ) (all : List Happening) (st : Standing) (others : OtherConnections)
+    → Kept own peer all st → Kept own peer all (admitted_at own.name trunk st others)
+admitted_keeps own trunk peer all (Accepting (acceptor.AwaitsAdmission c k)) others e =
+    decided own peer all (status_due trunk.dialer own.name trunk.count others) c k e
 admitted_keeps own trunk peer all (Accepting (acceptor.Done k)) others e = absurd e
 admitted_keeps own trunk peer all (Accepting acceptor.Over) others e = absurd e
 admitted_keeps own trunk peer all (Dialing d) others e = absurd e
-admitted_keeps own trunk peer all (Up k) others e = e
-admitted_keeps own trunk peer all (Losing k) others e = e
-admitted_keeps own trunk peer all Gone others e = e
+admitted_keeps own trunk peer all _ others e = e
 
-gone_on_keeps : (own : Identity) (peer : List ℕ) (all : List Happening) (st : Standing) → Kept own peer all st → Kept own peer all (gone_on st)
-gone_on_keeps own peer all (Accepting acceptor.AwaitsName) e = e
-gone_on_keeps own peer all (Accepting (acceptor.AwaitsAdmission c k)) e = e
-gone_on_keeps own peer all (Accepting (acceptor.AwaitsAnswer c k)) e = e
-gone_on_keeps own peer all (Accepting (acceptor.AwaitsTurn c k)) e = e
-gone_on_keeps own peer all (Accepting (acceptor.AwaitsReply c k)) e = e
+gone_on_keeps : (own : Identity) (peer : List ℕ) (all : List Happening) (st : Standing) → Kept own peer all st
+    → Kept own peer all (gone_on st)
 gone_on_keeps own peer all (Accepting (acceptor.Done k)) e = absurd e
 gone_on_keeps own peer all (Accepting acceptor.Over) e = absurd e
 gone_on_keeps own peer all (Dialing d) e = absurd e
-gone_on_keeps own peer all (Up k) e = e
-gone_on_keeps own peer all (Losing k) e = e
-gone_on_keeps own peer all Gone e = e
+gone_on_keeps own peer all _ e = e
 
-step_keeps : (own : Identity) (s : Side) (all : List Happening) (h : Happening) → Contains all h → Kept own s.peer all s.standing → Kept own s.peer all (standing_after own s h)
+step_keeps : (own : Identity) (s : Side) (all : List Happening) (h : Happening) → Contains all h
+    → Kept own s.peer all s.standing → Kept own s.peer all (standing_after own s h)
 step_keeps own s all (Message m w) came e = message_keeps own s.peer all s.standing m w came e
 step_keeps own s all NoMessage came e = lost_keeps own s.peer all s.standing e
 step_keeps own s all (Frame item) came e = e
 step_keeps own s all (NoFrame why) came e = lost_keeps own s.peer all s.standing e
 step_keeps own s all (Admit others) came e = admitted_keeps own s.trunk s.peer all s.standing others e
 step_keeps own s all GoOn came e = gone_on_keeps own s.peer all s.standing e
-step_keeps own s all Lose came e = either (Kept own s.peer all) (is_live (state_of s.standing)) (lost s.standing) s.standing (lost_keeps own s.peer all s.standing e) e
+step_keeps own s all Lose came e =
+    either (Kept own s.peer all) (is_live (state_of s.standing)) (lost s.standing) s.standing (lost_keeps own s.peer all s.standing e) e
 step_keeps own s all Close came e = tt
 
-run_keeps : (own : Identity) (hs : List Happening) (s : Side) (all : List Happening) → Within hs all → Kept own s.peer all s.standing → Kept own s.peer all (after own hs s).standing
+run_keeps : (own : Identity) (hs : List Happening) (s : Side) (all : List Happening) → Within hs all
+    → Kept own s.peer all s.standing → Kept own s.peer all (after own hs s).standing
 run_keeps own [] s all w e = e
 run_keeps own (h ∷ hs) s all w e =
-    run_keeps own hs (record s { standing = standing_after own s h }) all (within_rest h hs all w) (step_keeps own s all h (first_within h hs all w) e)
+    run_keeps own hs (record s { standing = standing_after own s h }) all (within_rest h hs all w)
+    (step_keeps own s all h (first_within h hs all w) e)
 
-up_replied : (own : Identity) (peer : List ℕ) (creation : ℕ) (all : List Happening) (st : Standing) → st ≡ Up creation → Kept own peer all st → IsReplied own peer all
+up_replied : (own : Identity) (peer : List ℕ) (creation : ℕ) (all : List Happening) (st : Standing) → st ≡ Up creation
+    → Kept own peer all st → IsReplied own peer all
 up_replied own peer creation all st e k = subst (Kept own peer all) e k
 
-pub acceptor_up : (own : Identity) (trunk : TrunkId) (creation : ℕ) (hs : List Happening) → (after own hs (unheard trunk)).standing ≡ Up creation → IsReplied own trunk.dialer hs
-acceptor_up own trunk creation hs e = up_replied own trunk.dialer creation hs _ e (run_keeps own hs (unheard trunk) hs (within_itself hs) tt)
+pub acceptor_up : (own : Identity) (trunk : TrunkId) (creation : ℕ) (hs : List Happening)
+    → (after own hs (unheard trunk)).standing ≡ Up creation → IsReplied own trunk.dialer hs
+acceptor_up own trunk creation hs e =
+    up_replied own trunk.dialer creation hs _ e (run_keeps own hs (unheard trunk) hs (within_itself hs) tt)

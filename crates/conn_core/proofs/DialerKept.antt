@@ -15,7 +15,8 @@ use Rattle.conn_core.specs.declared.standing.Standing.TheVariants.{Dialing, Acce
 use Rattle.conn_core.specs.declared.side.Side.{Side}
 use Rattle.conn_core.specs.Side.{of_dialer, on_message, admitted_at, gone_on, lost, is_live, state_of}
 use Rattle.conn_core.proofs.Within.{Within, within_rest, first_within, within_itself, right_digest, either}
-use Rattle.conn_core.specs.Happenings.{Happening, Message, NoMessage, Frame, NoFrame, Admit, GoOn, Lose, Close, standing_after, after, dialed, IsAcknowledged}
+use Rattle.conn_core.specs.Happenings.{Happening, Message, NoMessage, Frame, NoFrame, Admit, GoOn}
+use Rattle.conn_core.specs.Happenings.{Lose, Close, standing_after, after, dialed, IsAcknowledged}
 
 -- ---- the side of a dialer
 
@@ -23,32 +24,33 @@ abbrev DialerKept : Identity → ℕ → List Happening → Standing → Type 0
 DialerKept own challenge all (Dialing (dialer.AwaitsStatus c)) = c ≡ challenge
 DialerKept own challenge all (Dialing (dialer.AwaitsChallenge c)) = c ≡ challenge
 DialerKept own challenge all (Dialing (dialer.AwaitsAck c creation)) = c ≡ challenge
-DialerKept own challenge all (Dialing (dialer.Done creation)) = ⊥
-DialerKept own challenge all (Dialing dialer.Over) = ⊥
-DialerKept own challenge all (Accepting a) = ⊥
 DialerKept own challenge all (Up creation) = IsAcknowledged own challenge all
 DialerKept own challenge all (Losing creation) = Unit {0}
 DialerKept own challenge all Gone = Unit {0}
+DialerKept own challenge all _ = ⊥
 
-dialer_status : (own : Identity) (challenge : ℕ) (all : List Happening) (c : ℕ) (s : TheStatus) → c ≡ challenge → DialerKept own challenge all (of_dialer (on_status c s).state)
+dialer_status : (own : Identity) (challenge : ℕ) (all : List Happening) (c : ℕ) (s : TheStatus) → c ≡ challenge
+    → DialerKept own challenge all (of_dialer (on_status c s).state)
 dialer_status own challenge all c status.Ok e = e
 dialer_status own challenge all c status.OkSimultaneous e = e
-dialer_status own challenge all c status.Nok e = tt
-dialer_status own challenge all c status.NotAllowed e = tt
 dialer_status own challenge all c status.Alive e = e
-dialer_status own challenge all c status.True e = tt
-dialer_status own challenge all c status.False e = tt
+dialer_status own challenge all c _ e = tt
 
-dialer_challenged : (own : Identity) (challenge : ℕ) (all : List Happening) (fault : Option ShakeFault) (c theirs creation : ℕ) → c ≡ challenge →
+dialer_challenged : (own : Identity) (challenge : ℕ) (all : List Happening) (fault : Option ShakeFault) (c theirs creation : ℕ)
+    → c ≡ challenge →
     DialerKept own challenge all (of_dialer (on_challenge fault own c theirs creation).state)
 dialer_challenged own challenge all None c theirs creation e = e
 dialer_challenged own challenge all (Some why) c theirs creation e = tt
 
-dialer_acked : (own : Identity) (challenge : ℕ) (all : List Happening) (c creation word : ℕ) (digest : List ℕ) (b : Bool) → is_answered own.cookie c digest ≡ b → c ≡ challenge →
+dialer_acked : (own : Identity) (challenge : ℕ) (all : List Happening) (c creation word : ℕ) (digest : List ℕ) (b : Bool)
+    → is_answered own.cookie c digest ≡ b → c ≡ challenge →
     Contains all (Message (ChallengeAck digest) word) →
     DialerKept own challenge all (of_dialer (if b then dialer.Done creation else dialer.Over))
 dialer_acked own challenge all c creation word digest true is e came =
-    record { word = word; came = subst (λ (d : List ℕ). Contains all (Message (ChallengeAck d) word)) (right_digest own c challenge digest e is) came }
+    record {
+      word = word;
+      came = subst (λ (d : List ℕ). Contains all (Message (ChallengeAck d) word)) (right_digest own c challenge digest e is) came;
+    }
 dialer_acked own challenge all c creation word digest false is e came = tt
 
 -- the state that the branches of a choice have
@@ -61,53 +63,37 @@ chosen_ack own c creation digest true is = rw is refl
 chosen_ack own c creation digest false is = rw is refl
 
 dialer_message : (own : Identity) (peer : List ℕ) (challenge : ℕ) (all : List Happening) (st : Standing) (message : ShakeMsg) (word : ℕ) →
-    Contains all (Message message word) → DialerKept own challenge all st → DialerKept own challenge all (on_message own peer st message word 0).standing
+    Contains all (Message message word) → DialerKept own challenge all st
+    → DialerKept own challenge all (on_message own peer st message word 0).standing
 dialer_message own peer challenge all (Dialing (dialer.AwaitsStatus c)) (Status s) word came e = dialer_status own challenge all c s e
-dialer_message own peer challenge all (Dialing (dialer.AwaitsStatus c)) (SendName f k n) word came e = tt
-dialer_message own peer challenge all (Dialing (dialer.AwaitsStatus c)) (Challenge f t k n) word came e = tt
-dialer_message own peer challenge all (Dialing (dialer.AwaitsStatus c)) (ChallengeReply t d) word came e = tt
-dialer_message own peer challenge all (Dialing (dialer.AwaitsStatus c)) (ChallengeAck d) word came e = tt
-dialer_message own peer challenge all (Dialing (dialer.AwaitsChallenge c)) (Challenge f t k n) word came e = dialer_challenged own challenge all (introduction_fault peer n f) c t k e
-dialer_message own peer challenge all (Dialing (dialer.AwaitsChallenge c)) (Status s) word came e = tt
-dialer_message own peer challenge all (Dialing (dialer.AwaitsChallenge c)) (SendName f k n) word came e = tt
-dialer_message own peer challenge all (Dialing (dialer.AwaitsChallenge c)) (ChallengeReply t d) word came e = tt
-dialer_message own peer challenge all (Dialing (dialer.AwaitsChallenge c)) (ChallengeAck d) word came e = tt
+dialer_message own peer challenge all (Dialing (dialer.AwaitsChallenge c)) (Challenge f t k n) word came e =
+    dialer_challenged own challenge all (introduction_fault peer n f) c t k e
 dialer_message own peer challenge all (Dialing (dialer.AwaitsAck c k)) (ChallengeAck d) word came e =
     subst (DialerKept own challenge all) (sym (chosen_ack own c k d _ refl)) (dialer_acked own challenge all c k word d _ refl e came)
-dialer_message own peer challenge all (Dialing (dialer.AwaitsAck c k)) (Status s) word came e = tt
-dialer_message own peer challenge all (Dialing (dialer.AwaitsAck c k)) (SendName f j n) word came e = tt
-dialer_message own peer challenge all (Dialing (dialer.AwaitsAck c k)) (Challenge f t j n) word came e = tt
-dialer_message own peer challenge all (Dialing (dialer.AwaitsAck c k)) (ChallengeReply t d) word came e = tt
 dialer_message own peer challenge all (Dialing (dialer.Done k)) message word came e = absurd e
 dialer_message own peer challenge all (Dialing dialer.Over) message word came e = absurd e
 dialer_message own peer challenge all (Accepting a) message word came e = absurd e
-dialer_message own peer challenge all (Up k) message word came e = tt
-dialer_message own peer challenge all (Losing k) message word came e = tt
-dialer_message own peer challenge all Gone message word came e = tt
+dialer_message own peer challenge all _ _ word came e = tt
 
-dialer_lost : (own : Identity) (challenge : ℕ) (all : List Happening) (st : Standing) → DialerKept own challenge all st → DialerKept own challenge all (lost st)
+dialer_lost : (own : Identity) (challenge : ℕ) (all : List Happening) (st : Standing) → DialerKept own challenge all st
+    → DialerKept own challenge all (lost st)
 dialer_lost own challenge all (Dialing d) e = tt
-dialer_lost own challenge all (Accepting a) e = tt
-dialer_lost own challenge all (Up k) e = tt
-dialer_lost own challenge all (Losing k) e = tt
-dialer_lost own challenge all Gone e = tt
+dialer_lost own challenge all _ e = tt
 
 -- an acceptor's calls change nothing at a dialer
-dialer_admitted : (own : Identity) (o : List ℕ) (trunk : TrunkId) (challenge : ℕ) (all : List Happening) (st : Standing) (others : OtherConnections) → DialerKept own challenge all st → DialerKept own challenge all (admitted_at o trunk st others)
-dialer_admitted own o trunk challenge all (Dialing d) others e = e
+dialer_admitted : (own : Identity) (o : List ℕ) (trunk : TrunkId) (challenge : ℕ) (all : List Happening) (st : Standing)
+    (others : OtherConnections) → DialerKept own challenge all st → DialerKept own challenge all
+    (admitted_at o trunk st others)
 dialer_admitted own o trunk challenge all (Accepting a) others e = absurd e
-dialer_admitted own o trunk challenge all (Up k) others e = e
-dialer_admitted own o trunk challenge all (Losing k) others e = e
-dialer_admitted own o trunk challenge all Gone others e = e
+dialer_admitted own o trunk challenge all _ others e = e
 
-dialer_gone_on : (own : Identity) (challenge : ℕ) (all : List Happening) (st : Standing) → DialerKept own challenge all st → DialerKept own challenge all (gone_on st)
-dialer_gone_on own challenge all (Dialing d) e = e
+dialer_gone_on : (own : Identity) (challenge : ℕ) (all : List Happening) (st : Standing) → DialerKept own challenge all st
+    → DialerKept own challenge all (gone_on st)
 dialer_gone_on own challenge all (Accepting a) e = absurd e
-dialer_gone_on own challenge all (Up k) e = e
-dialer_gone_on own challenge all (Losing k) e = e
-dialer_gone_on own challenge all Gone e = e
+dialer_gone_on own challenge all _ e = e
 
-dialer_step : (own : Identity) (s : Side) (challenge : ℕ) (all : List Happening) (h : Happening) → Contains all h → DialerKept own challenge all s.standing →
+dialer_step : (own : Identity) (s : Side) (challenge : ℕ) (all : List Happening) (h : Happening) → Contains all h
+    → DialerKept own challenge all s.standing →
     DialerKept own challenge all (standing_after own s h)
 dialer_step own s challenge all (Message m w) came e = dialer_message own s.peer challenge all s.standing m w came e
 dialer_step own s challenge all NoMessage came e = dialer_lost own challenge all s.standing e
@@ -116,18 +102,24 @@ dialer_step own s challenge all (NoFrame why) came e = dialer_lost own challenge
 dialer_step own s challenge all (Admit others) came e = dialer_admitted own own.name s.trunk challenge all s.standing others e
 dialer_step own s challenge all GoOn came e = dialer_gone_on own challenge all s.standing e
 dialer_step own s challenge all Lose came e =
-    either (DialerKept own challenge all) (is_live (state_of s.standing)) (lost s.standing) s.standing (dialer_lost own challenge all s.standing e) e
+    either (DialerKept own challenge all) (is_live (state_of s.standing)) (lost s.standing) s.standing
+    (dialer_lost own challenge all s.standing e) e
 dialer_step own s challenge all Close came e = tt
 
-dialer_run : (own : Identity) (hs : List Happening) (s : Side) (challenge : ℕ) (all : List Happening) → Within hs all → DialerKept own challenge all s.standing →
+dialer_run : (own : Identity) (hs : List Happening) (s : Side) (challenge : ℕ) (all : List Happening) → Within hs all
+    → DialerKept own challenge all s.standing →
     DialerKept own challenge all (after own hs s).standing
 dialer_run own [] s challenge all w e = e
 dialer_run own (h ∷ hs) s challenge all w e =
-    dialer_run own hs (record s { standing = standing_after own s h }) challenge all (within_rest h hs all w) (dialer_step own s challenge all h (first_within h hs all w) e)
+    dialer_run own hs (record s { standing = standing_after own s h }) challenge all (within_rest h hs all w)
+    (dialer_step own s challenge all h (first_within h hs all w) e)
 
-up_acked : (own : Identity) (challenge creation : ℕ) (all : List Happening) (st : Standing) → st ≡ Up creation → DialerKept own challenge all st → IsAcknowledged own challenge all
+up_acked : (own : Identity) (challenge creation : ℕ) (all : List Happening) (st : Standing) → st ≡ Up creation
+    → DialerKept own challenge all st → IsAcknowledged own challenge all
 up_acked own challenge creation all st e k = subst (DialerKept own challenge all) e k
 
-pub dialer_up : (own : Identity) (trunk : TrunkId) (peer : List ℕ) (challenge creation : ℕ) (hs : List Happening) → (after own hs (dialed trunk peer challenge)).standing ≡ Up creation →
+pub dialer_up : (own : Identity) (trunk : TrunkId) (peer : List ℕ) (challenge creation : ℕ) (hs : List Happening)
+    → (after own hs (dialed trunk peer challenge)).standing ≡ Up creation →
     IsAcknowledged own challenge hs
-dialer_up own trunk peer challenge creation hs e = up_acked own challenge creation hs _ e (dialer_run own hs (dialed trunk peer challenge) challenge hs (within_itself hs) refl)
+dialer_up own trunk peer challenge creation hs e =
+    up_acked own challenge creation hs _ e (dialer_run own hs (dialed trunk peer challenge) challenge hs (within_itself hs) refl)

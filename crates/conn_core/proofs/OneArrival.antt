@@ -39,13 +39,15 @@ shaken_due reader own side bytes word (Ok None) d = d
 shaken_due reader own side bytes word (Ok (Some x)) d = inl (x.0, x.1, d, refl)
 shaken_due reader own side bytes word (Err e) d = inr ((refl, d.1), refl)
 
-pub of_message : (reader : Role) (own : Identity) (side : Side) (bytes : List ℕ) (word : ℕ) (due : Option Arrival) → MessageDue reader own side bytes word due →
+pub of_message : (reader : Role) (own : Identity) (side : Side) (bytes : List ℕ) (word : ℕ) (due : Option Arrival)
+    → MessageDue reader own side bytes word due →
     (read : Shaken) × IsShakeDue reader bytes read × (due ≡ of_shaken own side word read)
 of_message reader own side bytes word None d = (Ok None, d, refl)
 of_message reader own side bytes word (Some a) (inl x) = (Ok (Some (x.0, x.1)), x.2, ap Some x.3)
 of_message reader own side bytes word (Some a) (inr x) = (Err BadMessage, x.0, ap Some x.1)
 
-pub one_message : (reader : Role) (own : Identity) (side : Side) (bytes : List ℕ) (word : ℕ) (read : Shaken) → IsShakeDue reader bytes read →
+pub one_message : (reader : Role) (own : Identity) (side : Side) (bytes : List ℕ) (word : ℕ) (read : Shaken)
+    → IsShakeDue reader bytes read →
     ((other : Shaken) → IsShakeDue reader bytes other → other ≡ read) → One (MessageDue reader own side bytes word)
 one_message reader own side bytes word read d once = (
   of_shaken own side word read,
@@ -69,7 +71,8 @@ of_framed standing (Ok None) = None
 of_framed standing (Ok (Some x)) = Some (on_item standing x.0 x.1)
 of_framed standing (Err e) = broken_by standing (fault_of e)
 
-framed_due : (standing : Standing) (bytes : List ℕ) (read : Framed) → IsFrameDue bytes read → FrameDue standing bytes (of_framed standing read)
+framed_due : (standing : Standing) (bytes : List ℕ) (read : Framed) → IsFrameDue bytes read
+    → FrameDue standing bytes (of_framed standing read)
 framed_due standing bytes (Ok None) d = d
 framed_due standing bytes (Ok (Some x)) d = inl (x.0, x.1, d, refl)
 framed_due standing bytes (Err error.NotPassThrough) d = inr (fault.NotPassThrough, d, refl)
@@ -80,11 +83,10 @@ framed_due standing bytes (Err error.OutOfMemory) d = absurd d
 
 fault_back : (why : FrameFault) → fault_of (error_of why) ≡ Some why
 fault_back fault.NotPassThrough = refl
-fault_back fault.BadControl = refl
-fault_back fault.TooLong = refl
-fault_back (fault.Term e) = refl
+fault_back _ = refl
 
-of_frame : (standing : Standing) (bytes : List ℕ) (due : Option Arrival) → FrameDue standing bytes due → (read : Framed) × IsFrameDue bytes read × (due ≡ of_framed standing read)
+of_frame : (standing : Standing) (bytes : List ℕ) (due : Option Arrival) → FrameDue standing bytes due → (read : Framed)
+    × IsFrameDue bytes read × (due ≡ of_framed standing read)
 of_frame standing bytes None d = (Ok None, d, refl)
 of_frame standing bytes (Some a) (inl x) = (Ok (Some (x.0, x.1)), x.2, ap Some x.3)
 of_frame standing bytes (Some a) (inr x) =

@@ -27,7 +27,8 @@ within_itself hs = λ x c. c
 -- ---- what both roles need
 
 -- the digest is the one over this challenge
-pub right_digest : (own : Identity) (c challenge : ℕ) (digest : List ℕ) → c ≡ challenge → is_answered own.cookie c digest ≡ true → digest ≡ digest_of own.cookie challenge
+pub right_digest : (own : Identity) (c challenge : ℕ) (digest : List ℕ) → c ≡ challenge
+    → is_answered own.cookie c digest ≡ true → digest ≡ digest_of own.cookie challenge
 right_digest own c challenge digest e is = (bytes_decides digest (digest_of own.cookie c)).0 is ∙ ap (digest_of own.cookie) e
 
 pub either : (Kept : Standing → Type 0) (b : Bool) (x y : Standing) → Kept x → Kept y → Kept (if b then x else y)

@@ -24,7 +24,8 @@ use Rattle.conn_core.specs.Side.{on_message, on_no_message, on_item, on_no_frame
 abbrev pub MessageDue : Role → Identity → Side → List ℕ → (word : ℕ) → Option Arrival → Type 0
 MessageDue reader own side bytes word None = IsShakeDue reader bytes (Ok None)
 MessageDue reader own side bytes word (Some arrival) =
-    ((message : ShakeMsg) × (len : ℕ) × IsShakeDue reader bytes (Ok (Some (message, len))) × (arrival ≡ on_message own side.peer side.standing message word len))
+    ((message : ShakeMsg) × (len : ℕ) × IsShakeDue reader bytes (Ok (Some (message, len)))
+    × (arrival ≡ on_message own side.peer side.standing message word len))
     ⊎ (IsShakeDue reader bytes (Err BadMessage) × (arrival ≡ on_no_message side.standing))
 
 -- a frame stands at the front, or one that can't be read, or more bytes are needed

@@ -54,5 +54,6 @@ pub record Meeting (dialing accepting : Identity) (count challenge word : ℕ) (
       (Status (admission dialing.name accepting.name count nothing_else).status) told None
   pub hears_challenge : Takes dialing (dialer_at dialing accepting count told) word
       (challenge_of accepting (challenge_at (decided dialing accepting count named))) replied (Some reply)
-  pub hears_reply : Takes accepting (acceptor_at dialing count (gone_on (decided dialing accepting count named))) word reply acceptor (Some acknowledgement)
+  pub hears_reply : Takes accepting
+      (acceptor_at dialing count (gone_on (decided dialing accepting count named))) word reply acceptor (Some acknowledgement)
   pub hears_acknowledgement : Takes dialing (dialer_at dialing accepting count replied) word acknowledgement dialer None

@@ -138,7 +138,8 @@ abbrev pub on_message : (own : Identity) → (peer : List ℕ) → Standing → 
 on_message own peer (Dialing d) message word len =
     let turn = dialer_turn own peer d message in record { standing = of_dialer turn.state; was = taken_as message turn.next; len = len }
 on_message own peer (Accepting a) message word len =
-    let turn = acceptor_turn own peer a message word in record { standing = of_acceptor turn.state; was = taken_as message turn.next; len = len }
+    let turn =
+    acceptor_turn own peer a message word in record { standing = of_acceptor turn.state; was = taken_as message turn.next; len = len }
 on_message own peer standing message word len = on_no_message standing
 
 -- what a frame of so many bytes carries

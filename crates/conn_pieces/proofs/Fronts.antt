@@ -1,5 +1,6 @@
 -- What stands at the front of bytes stands at the front of more of them.
-use Rattle.std.proofs.Common.{◌≡◌, inl, inr, ℕ, ◌<◌, ◌≤◌, List, [], ◌∷◌, ◌++◌, Some, Err, length, refl, ap, sym, subst, ◌∙◌, append_assoc, arith}
+use Rattle.std.proofs.Common.{◌≡◌, inl, inr, ℕ, ◌<◌, ◌≤◌, List, [], ◌∷◌, ◌++◌, Some, Err}
+use Rattle.std.proofs.Common.{length, refl, ap, sym, subst, ◌∙◌, append_assoc, arith}
 use Rattle.std.proofs.lemmas.List.{length-append, take-append-le}
 use Rattle.byteorder.specs.Endian.{big_number}
 use Rattle.erl_control.specs.declared.error.FrameFault.{FrameFault}
@@ -59,14 +60,16 @@ same_number (a ∷ b ∷ c ∷ []) more h = absurd (omega arith)
 more_long : (front more : List ℕ) → frame.IsLong front → frame.IsLong (front ++ more)
 more_long front more h = (longer front more 4 h.0, subst (λ n. limit < n) (sym (same_number front more h.0)) h.1)
 
-more_fault : (why : FrameFault) (front more : List ℕ) → IsFrameDue front (Err (error_of why)) → IsFrameDue (front ++ more) (Err (error_of why))
+more_fault : (why : FrameFault) (front more : List ℕ) → IsFrameDue front (Err (error_of why))
+    → IsFrameDue (front ++ more) (Err (error_of why))
 more_fault fault.NotPassThrough front more h = (h.0, h.1, more_body front more _ h.2, h.3)
 more_fault fault.BadControl front more h = (h.0, more_body front more _ h.1, h.2)
 more_fault fault.TooLong front more (inl h) = inl (more_long front more h)
 more_fault fault.TooLong front more (inr h) = inr (h.0, more_body front more _ h.1, h.2)
 more_fault (fault.Term e) front more h = (h.0, more_body front more _ h.1, h.2)
 
-more_frame : (standing : Standing) (front more : List ℕ) (a : Arrival) → FrameDue standing front (Some a) → FrameDue standing (front ++ more) (Some a)
+more_frame : (standing : Standing) (front more : List ℕ) (a : Arrival) → FrameDue standing front (Some a)
+    → FrameDue standing (front ++ more) (Some a)
 more_frame standing front more a (inl x) =
     let same = take-append-le x.1 front more x.2.0 in
     inl (x.0, x.1, (longer front more x.1 x.2.0, subst (IsFramed x.0) (sym same) x.2.1), x.3)

@@ -7,12 +7,14 @@ use Rattle.conn_pieces.proofs.Fronts.{more_due}
 use Rattle.conn_pieces.proofs.Whole.{due_within, whole_due}
 
 module _ (own : Identity) (more : List ℕ) where
-  pub given : (front rest : List ℕ) (takings : List Taking) → Takes own front takings rest → Takes own (front ++ more) takings (rest ++ more)
+  pub given : (front rest : List ℕ) (takings : List Taking) → Takes own front takings rest
+      → Takes own (front ++ more) takings (rest ++ more)
   given front rest [] h = ap (λ l. l ++ more) h
   given front rest (t ∷ ts) h =
       let n : t.arrival.len ≤ length front = due_within own t.side front t.word t.arrival h.0 in (
         more_due own t.side front more t.word t.arrival h.0,
-        subst (λ l. Takes own l ts (rest ++ more)) (sym (drop-append-le t.arrival.len front more n)) (given (drop t.arrival.len front) rest ts h.1),
+        subst (λ l. Takes own l ts (rest ++ more)) (sym (drop-append-le t.arrival.len front more n))
+            (given (drop t.arrival.len front) rest ts h.1),
       )
 
 -- ---- back
@@ -26,7 +28,8 @@ shorter own stream rest (t ∷ ts) h =
     omega arith
 
 module _ (own : Identity) (more : List ℕ) where
-  pub taken : (front rest : List ℕ) (takings : List Taking) → AreWhole takings → Takes own (front ++ more) takings (rest ++ more) → Takes own front takings rest
+  pub taken : (front rest : List ℕ) (takings : List Taking) → AreWhole takings
+      → Takes own (front ++ more) takings (rest ++ more) → Takes own front takings rest
   taken front rest [] w h = append_cancel_right rest front more h
   taken front rest (t ∷ ts) w h =
       let some : 0 < t.arrival.len = w 0 t (omega arith) in

@@ -17,9 +17,11 @@ use Rattle.conn_core.specs.Side.{on_message}
 -- ---- how many bytes a message takes
 
 abbrev Counts : (own : Identity) (peer : List ℕ) (standing : Standing) (message : ShakeMsg) (word len : ℕ) → Type 0
-Counts own peer standing message word len = 0 < (on_message own peer standing message word len).len → (on_message own peer standing message word len).len ≡ len
+Counts own peer standing message word len =
+    0 < (on_message own peer standing message word len).len → (on_message own peer standing message word len).len ≡ len
 
-counts : (own : Identity) (peer : List ℕ) (standing : Standing) (message : ShakeMsg) (word len : ℕ) → Counts own peer standing message word len
+counts : (own : Identity) (peer : List ℕ) (standing : Standing) (message : ShakeMsg) (word len : ℕ)
+    → Counts own peer standing message word len
 counts own peer (Dialing d) message word len h = refl
 counts own peer (Accepting a) message word len h = refl
 counts own peer (Up creation) message word len h = absurd (omega arith)
@@ -32,7 +34,8 @@ module _ (own : Identity) (side : Side) (front more : List ℕ) (word : ℕ) (a 
   within : (b : Arrival) → a ≡ b → b.len ≡ 0 → ⊥
   within b e z = let n : a.len ≡ 0 = ap (λ x. x.len) e ∙ z in omega arith
 
-  whole_message : (reader : Role) → a.len ≤ length front → MessageDue reader own side (front ++ more) word (Some a) → MessageDue reader own side front word (Some a)
+  whole_message : (reader : Role) → a.len ≤ length front → MessageDue reader own side (front ++ more) word (Some a)
+      → MessageDue reader own side front word (Some a)
   whole_message reader fits (inl x) =
       let count : a.len ≡ x.1 = ap (λ b. b.len) x.3 ∙ counts own side.peer side.standing x.0 word x.1 (subst (λ b. 0 < b.len) x.3 some) in
       let n : x.1 ≤ length front = subst (λ n. n ≤ length front) count fits in
@@ -45,7 +48,8 @@ module _ (own : Identity) (side : Side) (front more : List ℕ) (word : ℕ) (a 
       inl (x.0, x.1, (n, subst (IsFramed x.0) (take-append-le x.1 front more n) x.2.1), x.3)
   whole_frame standing fits (inr x) = absurd (within _ x.2 refl)
 
-  whole_at : (standing : Standing) → a.len ≤ length front → DueAt standing own side (front ++ more) word (Some a) → DueAt standing own side front word (Some a)
+  whole_at : (standing : Standing) → a.len ≤ length front → DueAt standing own side (front ++ more) word (Some a)
+      → DueAt standing own side front word (Some a)
   whole_at (Dialing d) fits h = whole_message role.Dialer fits h
   whole_at (Accepting d) fits h = whole_message role.Acceptor fits h
   whole_at (Up creation) fits h = whole_frame (Up creation) fits h
@@ -81,5 +85,6 @@ none_or_within : (n m : ℕ) → (0 < n → n ≤ m) → n ≤ m
 none_or_within zero m h = omega arith
 none_or_within (suc n) m h = h (omega arith)
 
-pub due_within : (own : Identity) (side : Side) (bytes : List ℕ) (word : ℕ) (a : Arrival) → ArrivalDue own side bytes word (Some a) → a.len ≤ length bytes
+pub due_within : (own : Identity) (side : Side) (bytes : List ℕ) (word : ℕ) (a : Arrival)
+    → ArrivalDue own side bytes word (Some a) → a.len ≤ length bytes
 due_within own side bytes word a h = none_or_within a.len (length bytes) (λ some. within_at side.standing own side bytes word a some h)

@@ -1,11 +1,13 @@
 -- An arrow ends below the row in which it begins.
-use Rattle.std.proofs.Common.{◌≡◌, ℕ, ◌+◌, ◌<◌, ◌≤◌, Bool, true, false, eqb, cond, ◌&&◌, List, [], ◌∷◌, ◌++◌, length, Option, None, Some, is_none, nat_lt, refl, subst, arith, All}
+use Rattle.std.proofs.Common.{◌≡◌, ℕ, ◌+◌, ◌<◌, ◌≤◌, Bool, true, false, eqb, cond, ◌&&◌, List, [], ◌∷◌}
+use Rattle.std.proofs.Common.{◌++◌, length, Option, None, Some, is_none, nat_lt, refl, subst, arith, All}
 use Rattle.std.specs.List.{AllByRecursion}
 use Rattle.std.proofs.lemmas.Bool.Decides.{nat_tests}
 use Rattle.std.proofs.lemmas.List.Elements.{All-from_recursion}
 use Rattle.diagram.specs.Arrows.{arrows_of, pairs, untaken}
 use Rattle.diagram.specs.Claims.{EndsBelow, GoesDown}
-use Rattle.diagram.specs.Queues.{Seen, after_row, changed, given_up, has_next, losing, nothing, sending, sent_at, sent_one, taking, took, traffic, traffic_of}
+use Rattle.diagram.specs.Queues.{Seen, after_row, changed, given_up, has_next, losing, nothing}
+use Rattle.diagram.specs.Queues.{sending, sent_at, sent_one, taking, took, traffic, traffic_of}
 use Rattle.diagram.specs.declared.queues.Place.{Place}
 use Rattle.diagram.specs.declared.rows.Mark.{Mark}
 use Rattle.diagram.specs.declared.rows.Mark.TheVariants as mark
@@ -62,7 +64,8 @@ later_sent [] sent more h = tt
 later_sent (row ∷ taken) [] more h = absurd h
 later_sent (row ∷ taken) (place ∷ sent) more h = (h.0, later_sent taken sent more h.1)
 
-later_taken : (n : ℕ) (taken : List ℕ) (sent : List Place) → Earlier n sent → length taken < length sent → Later taken sent → Later (taken ++ n ∷ []) sent
+later_taken : (n : ℕ) (taken : List ℕ) (sent : List Place) → Earlier n sent → length taken < length sent → Later taken sent
+    → Later (taken ++ n ∷ []) sent
 later_taken n [] [] e l h = absurd (omega arith)
 later_taken n [] (place ∷ sent) e l h = (e.0, tt)
 later_taken n (row ∷ taken) [] e l h = absurd h
@@ -82,7 +85,8 @@ second : (a b : Bool) → (a && b) ≡ true → b ≡ true
 second true b h = h
 second false b h = cc
 
-took_if : (n : ℕ) (seen : Seen) (b : Bool) → (b ≡ true → length seen.taken < length seen.sent) → Fine n seen → Fine (n + 1) (cond b (record { sent = seen.sent; taken = seen.taken ++ n ∷ []; lost = seen.lost }) seen)
+took_if : (n : ℕ) (seen : Seen) (b : Bool) → (b ≡ true → length seen.taken < length seen.sent) → Fine n seen
+    → Fine (n + 1) (cond b (record { sent = seen.sent; taken = seen.taken ++ n ∷ []; lost = seen.lost }) seen)
 took_if n seen true l h = record {
   sent = earlier_wider n (n + 1) seen.sent (omega arith) h.sent;
   later = later_taken n seen.taken seen.sent h.sent (l refl) h.later;
@@ -95,7 +99,9 @@ waits : (taken sent : ℕ) → nat_lt taken sent ≡ true → taken < sent
 waits taken sent h = grind (arith, nat_tests)
 
 took_fine : (n : ℕ) (seen : Seen) → Fine n seen → Fine (n + 1) (took n seen)
-took_fine n seen h = took_if n seen (has_next seen) (λ t. waits (length seen.taken) (length seen.sent) (second (is_none seen.lost) (nat_lt (length seen.taken) (length seen.sent)) t)) h
+took_fine n seen h =
+    took_if n seen (has_next seen)
+    (λ t. waits (length seen.taken) (length seen.sent) (second (is_none seen.lost) (nat_lt (length seen.taken) (length seen.sent)) t)) h
 
 took_or_not : (n : ℕ) (seen : Seen) (b : Bool) → Fine n seen → Fine (n + 1) (changed (took n) b seen)
 took_or_not n seen true h = took_fine n seen h
@@ -123,9 +129,11 @@ one_fine queue n at (mark.Sent item) seen h = changed_fine (n + 1) (sent_at n at
 
 sending_fine : (queue n at : ℕ) (marks : List Mark) (seen : Seen) → Fine (n + 1) seen → Fine (n + 1) (sending queue n at marks seen)
 sending_fine queue n at [] seen h = h
-sending_fine queue n at (mark ∷ marks) seen h = sending_fine queue n (at + 1) marks (sent_one queue n at mark seen) (one_fine queue n at mark seen h)
+sending_fine queue n at (mark ∷ marks) seen h =
+    sending_fine queue n (at + 1) marks (sent_one queue n at mark seen) (one_fine queue n at mark seen h)
 
-lost_if : (n : ℕ) (seen : Seen) (b : Bool) → Fine (n + 1) seen → Fine (n + 1) (cond b (record { sent = seen.sent; taken = seen.taken; lost = Some n }) seen)
+lost_if : (n : ℕ) (seen : Seen) (b : Bool) → Fine (n + 1) seen
+    → Fine (n + 1) (cond b (record { sent = seen.sent; taken = seen.taken; lost = Some n }) seen)
 lost_if n seen true h = record { sent = h.sent; later = h.later; taken = h.taken; lost = omega arith }
 lost_if n seen false h = h
 
@@ -153,16 +161,20 @@ untaken_down : (n row : ℕ) (lost : Option ℕ) → row < n → LostAbove n los
 untaken_down n row None h k = h
 untaken_down n row (Some at) h k = (omega arith, omega arith)
 
-pairs_down : (n : ℕ) (lost : Option ℕ) (sent : List Place) (taken : List ℕ) → Earlier n sent → Later taken sent → Above n taken → LostAbove n lost → AllByRecursion (GoesDown n) (pairs lost sent taken)
+pairs_down : (n : ℕ) (lost : Option ℕ) (sent : List Place) (taken : List ℕ) → Earlier n sent → Later taken sent
+    → Above n taken → LostAbove n lost → AllByRecursion (GoesDown n) (pairs lost sent taken)
 pairs_down n lost [] taken e l a k = tt
 pairs_down n lost (place ∷ sent) [] e l a k = (untaken_down n place.row lost e.0 k, pairs_down n lost sent [] e.1 tt tt k)
 pairs_down n lost (place ∷ sent) (row ∷ taken) e l a k = ((l.0, a.0), pairs_down n lost sent taken e.1 l.1 a.1 k)
 
 fine_down : (n : ℕ) (seen : Seen) → Fine n seen → All (GoesDown n) (pairs seen.lost seen.sent seen.taken)
-fine_down n seen h = All-from_recursion (GoesDown n) (pairs seen.lost seen.sent seen.taken) (pairs_down n seen.lost seen.sent seen.taken h.sent h.later h.taken h.lost)
+fine_down n seen h =
+    All-from_recursion (GoesDown n) (pairs seen.lost seen.sent seen.taken)
+    (pairs_down n seen.lost seen.sent seen.taken h.sent h.later h.taken h.lost)
 
 pub all_down : (queue : ℕ) (rows : List Row) → All (GoesDown (length rows)) (arrows_of queue rows)
 all_down queue rows =
     let same : 0 + length rows ≡ length rows = omega arith in
     fine_down (length rows) (traffic_of queue rows)
-    (subst (λ (m : ℕ). Fine m (traffic_of queue rows)) same (traffic_fine queue 0 rows nothing (record { sent = tt; later = tt; taken = tt; lost = tt })))
+    (subst (λ (m : ℕ). Fine m (traffic_of queue rows)) same
+    (traffic_fine queue 0 rows nothing (record { sent = tt; later = tt; taken = tt; lost = tt })))

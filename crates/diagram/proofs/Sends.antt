@@ -1,10 +1,12 @@
 -- The marks that send on a queue, the rows that take from it, and what the queue sees of them.
-use Rattle.std.proofs.Common.{◌≡◌, ℕ, ◌+◌, Bool, true, false, eqb, cond, ◌||◌, List, [], ◌∷◌, ◌++◌, map, Option, None, Some, append_assoc, append-nil, is_none, refl, sym, ap, ◌∙◌, inl, inr}
+use Rattle.std.proofs.Common.{◌≡◌, ℕ, ◌+◌, Bool, true, false, eqb, cond, ◌||◌, List, [], ◌∷◌, ◌++◌, map, Option}
+use Rattle.std.proofs.Common.{None, Some, append_assoc, append-nil, is_none, refl, sym, ap, ◌∙◌, inl, inr}
 use Rattle.std.specs.List.{list_any}
 use Rattle.std.proofs.lemmas.Bool.{cases_Bool, cond-true, cond-false}
 use Rattle.diagram.specs.Arrows.{arrows_of, pairs}
 use Rattle.diagram.specs.Claims.{IsFed, giving_up, sends, sends_at, sends_in, start_of, takes, takes_from}
-use Rattle.diagram.specs.Queues.{Seen, after_row, changed, given_up, has_next, losing, nothing, sending, sent_at, sent_one, taking, took, traffic, traffic_of}
+use Rattle.diagram.specs.Queues.{Seen, after_row, changed, given_up, has_next, losing, nothing}
+use Rattle.diagram.specs.Queues.{sending, sent_at, sent_one, taking, took, traffic, traffic_of}
 use Rattle.diagram.specs.declared.queues.Place.{Place}
 use Rattle.diagram.specs.declared.rows.Mark.{Mark}
 use Rattle.diagram.specs.declared.rows.Mark.TheVariants as mark
@@ -19,22 +21,28 @@ starts lost (place ∷ sent) (row ∷ taken) = ap (λ (rest : List Place). place
 
 -- ---- what each step leaves of what was sent
 
-kept_by : {A : Type 0} (of : Seen → A) (change : Seen → Seen) (b : Bool) (seen : Seen) → of (change seen) ≡ of seen → of (changed change b seen) ≡ of seen
+kept_by : {A : Type 0} (of : Seen → A) (change : Seen → Seen) (b : Bool) (seen : Seen) → of (change seen) ≡ of seen
+    → of (changed change b seen) ≡ of seen
 kept_by of change true seen h = h
 kept_by of change false seen h = refl
 
 took_sent : (row : ℕ) (seen : Seen) → (took row seen).sent ≡ seen.sent
 took_sent row seen =
     elim (cases_Bool (has_next seen)) [
-      | inl t ↦ ap (λ (s : Seen). s.sent) (cond-true (has_next seen) (record { sent = seen.sent; taken = seen.taken ++ row ∷ []; lost = seen.lost }) seen t)
-      | inr f ↦ ap (λ (s : Seen). s.sent) (cond-false (has_next seen) (record { sent = seen.sent; taken = seen.taken ++ row ∷ []; lost = seen.lost }) seen f)
+      | inl t ↦
+          ap (λ (s : Seen). s.sent)
+          (cond-true (has_next seen) (record { sent = seen.sent; taken = seen.taken ++ row ∷ []; lost = seen.lost }) seen t)
+      | inr f ↦
+          ap (λ (s : Seen). s.sent)
+          (cond-false (has_next seen) (record { sent = seen.sent; taken = seen.taken ++ row ∷ []; lost = seen.lost }) seen f)
     ]
 
 taking_sent : (queue row : ℕ) (from : Option ℕ) (seen : Seen) → (taking queue row from seen).sent ≡ seen.sent
 taking_sent queue row None seen = refl
 taking_sent queue row (Some other) seen = kept_by (λ (s : Seen). s.sent) (took row) (eqb other queue) seen (took_sent row seen)
 
-given_up_is : {A : Type 0} (of : Seen → A) (row : ℕ) (seen : Seen) → of (record { sent = seen.sent; taken = seen.taken; lost = Some row }) ≡ of seen → of (given_up row seen) ≡ of seen
+given_up_is : {A : Type 0} (of : Seen → A) (row : ℕ) (seen : Seen)
+    → of (record { sent = seen.sent; taken = seen.taken; lost = Some row }) ≡ of seen → of (given_up row seen) ≡ of seen
 given_up_is of row seen h =
     elim (cases_Bool (is_none seen.lost)) [
       | inl t ↦ ap of (cond-true (is_none seen.lost) (record { sent = seen.sent; taken = seen.taken; lost = Some row }) seen t) ∙ h
@@ -56,7 +64,8 @@ losing_taken queue row (other ∷ others) seen =
 one_sent : (queue row at : ℕ) (mark : Mark) (seen : Seen) → (sent_one queue row at mark seen).sent ≡ seen.sent ++ sends_at queue row at mark
 one_sent queue row at (mark.Note note) seen = sym (append-nil seen.sent)
 one_sent queue row at (mark.Sent item) seen =
-    elim (eqb item.queue queue) as (λ b. (changed (sent_at row at) b seen).sent ≡ seen.sent ++ cond b ((record { row = row; mark = at }) ∷ []) []) [
+    elim (eqb item.queue queue) as
+    (λ b. (changed (sent_at row at) b seen).sent ≡ seen.sent ++ cond b ((record { row = row; mark = at }) ∷ []) []) [
       | true ↦ refl
       | false ↦ sym (append-nil seen.sent)
     ]
@@ -69,7 +78,8 @@ one_lost : (queue row at : ℕ) (mark : Mark) (seen : Seen) → (sent_one queue 
 one_lost queue row at (mark.Note note) seen = refl
 one_lost queue row at (mark.Sent item) seen = kept_by (λ (s : Seen). s.lost) (sent_at row at) (eqb item.queue queue) seen refl
 
-sending_sent : (queue row at : ℕ) (marks : List Mark) (seen : Seen) → (sending queue row at marks seen).sent ≡ seen.sent ++ sends_in queue row at marks
+sending_sent : (queue row at : ℕ) (marks : List Mark) (seen : Seen)
+    → (sending queue row at marks seen).sent ≡ seen.sent ++ sends_in queue row at marks
 sending_sent queue row at [] seen = sym (append-nil seen.sent)
 sending_sent queue row at (mark ∷ marks) seen =
     sending_sent queue row (at + 1) marks (sent_one queue row at mark seen)
@@ -78,13 +88,16 @@ sending_sent queue row at (mark ∷ marks) seen =
 
 sending_taken : (queue row at : ℕ) (marks : List Mark) (seen : Seen) → (sending queue row at marks seen).taken ≡ seen.taken
 sending_taken queue row at [] seen = refl
-sending_taken queue row at (mark ∷ marks) seen = sending_taken queue row (at + 1) marks (sent_one queue row at mark seen) ∙ one_taken queue row at mark seen
+sending_taken queue row at (mark ∷ marks) seen =
+    sending_taken queue row (at + 1) marks (sent_one queue row at mark seen) ∙ one_taken queue row at mark seen
 
 sending_lost : (queue row at : ℕ) (marks : List Mark) (seen : Seen) → (sending queue row at marks seen).lost ≡ seen.lost
 sending_lost queue row at [] seen = refl
-sending_lost queue row at (mark ∷ marks) seen = sending_lost queue row (at + 1) marks (sent_one queue row at mark seen) ∙ one_lost queue row at mark seen
+sending_lost queue row at (mark ∷ marks) seen =
+    sending_lost queue row (at + 1) marks (sent_one queue row at mark seen) ∙ one_lost queue row at mark seen
 
-after_sent : (queue at : ℕ) (row : Row) (seen : Seen) → (after_row queue at row seen).sent ≡ seen.sent ++ sends_in queue at 0 row.marks.items
+after_sent : (queue at : ℕ) (row : Row) (seen : Seen)
+    → (after_row queue at row seen).sent ≡ seen.sent ++ sends_in queue at 0 row.marks.items
 after_sent queue at row seen =
     losing_sent queue at row.gave_up.items (sending queue at 0 row.marks.items (taking queue at row.took seen))
     ∙ sending_sent queue at 0 row.marks.items (taking queue at row.took seen)
@@ -109,17 +122,22 @@ taken_by b row = cond b (row ∷ []) []
 
 -- a row that finds an item takes it
 found : (row : ℕ) (seen : Seen) → has_next seen ≡ true → (took row seen).taken ≡ seen.taken ++ row ∷ []
-found row seen h = ap (λ (s : Seen). s.taken) (cond-true (has_next seen) (record { sent = seen.sent; taken = seen.taken ++ row ∷ []; lost = seen.lost }) seen h)
+found row seen h =
+    ap (λ (s : Seen). s.taken)
+    (cond-true (has_next seen) (record { sent = seen.sent; taken = seen.taken ++ row ∷ []; lost = seen.lost }) seen h)
 
-found_if : (b : Bool) (row : ℕ) (seen : Seen) → (b ≡ true → has_next seen ≡ true) → (changed (took row) b seen).taken ≡ seen.taken ++ taken_by b row
+found_if : (b : Bool) (row : ℕ) (seen : Seen) → (b ≡ true → has_next seen ≡ true)
+    → (changed (took row) b seen).taken ≡ seen.taken ++ taken_by b row
 found_if true row seen h = found row seen (h refl)
 found_if false row seen h = sym (append-nil seen.taken)
 
-taking_taken : (queue row : ℕ) (from : Option ℕ) (seen : Seen) → (takes_from queue from ≡ true → has_next seen ≡ true) → (taking queue row from seen).taken ≡ seen.taken ++ taken_by (takes_from queue from) row
+taking_taken : (queue row : ℕ) (from : Option ℕ) (seen : Seen) → (takes_from queue from ≡ true → has_next seen ≡ true)
+    → (taking queue row from seen).taken ≡ seen.taken ++ taken_by (takes_from queue from) row
 taking_taken queue row None seen h = sym (append-nil seen.taken)
 taking_taken queue row (Some other) seen h = found_if (eqb other queue) row seen h
 
-after_taken : (queue at : ℕ) (row : Row) (seen : Seen) → (takes_from queue row.took ≡ true → has_next seen ≡ true) → (after_row queue at row seen).taken ≡ seen.taken ++ taken_by (takes_from queue row.took) at
+after_taken : (queue at : ℕ) (row : Row) (seen : Seen) → (takes_from queue row.took ≡ true → has_next seen ≡ true)
+    → (after_row queue at row seen).taken ≡ seen.taken ++ taken_by (takes_from queue row.took) at
 after_taken queue at row seen h =
     losing_taken queue at row.gave_up.items (sending queue at 0 row.marks.items (taking queue at row.took seen))
     ∙ sending_taken queue at 0 row.marks.items (taking queue at row.took seen)
@@ -129,7 +147,8 @@ joined : (b : Bool) (at : ℕ) (rest : List ℕ) → taken_by b at ++ rest ≡ c
 joined true at rest = refl
 joined false at rest = refl
 
-traffic_taken : (queue at : ℕ) (rows : List Row) (seen : Seen) → IsFed queue at rows seen → (traffic queue at rows seen).taken ≡ seen.taken ++ takes queue at rows
+traffic_taken : (queue at : ℕ) (rows : List Row) (seen : Seen) → IsFed queue at rows seen
+    → (traffic queue at rows seen).taken ≡ seen.taken ++ takes queue at rows
 traffic_taken queue at [] seen h = sym (append-nil seen.taken)
 traffic_taken queue at (row ∷ rows) seen h =
     traffic_taken queue (at + 1) rows (after_row queue at row seen) h.1
@@ -146,15 +165,20 @@ or_else (Some row) other = Some row
 took_lost : (row : ℕ) (seen : Seen) → (took row seen).lost ≡ seen.lost
 took_lost row seen =
     elim (cases_Bool (has_next seen)) [
-      | inl t ↦ ap (λ (s : Seen). s.lost) (cond-true (has_next seen) (record { sent = seen.sent; taken = seen.taken ++ row ∷ []; lost = seen.lost }) seen t)
-      | inr f ↦ ap (λ (s : Seen). s.lost) (cond-false (has_next seen) (record { sent = seen.sent; taken = seen.taken ++ row ∷ []; lost = seen.lost }) seen f)
+      | inl t ↦
+          ap (λ (s : Seen). s.lost)
+          (cond-true (has_next seen) (record { sent = seen.sent; taken = seen.taken ++ row ∷ []; lost = seen.lost }) seen t)
+      | inr f ↦
+          ap (λ (s : Seen). s.lost)
+          (cond-false (has_next seen) (record { sent = seen.sent; taken = seen.taken ++ row ∷ []; lost = seen.lost }) seen f)
     ]
 
 taking_lost : (queue row : ℕ) (from : Option ℕ) (seen : Seen) → (taking queue row from seen).lost ≡ seen.lost
 taking_lost queue row None seen = refl
 taking_lost queue row (Some other) seen = kept_by (λ (s : Seen). s.lost) (took row) (eqb other queue) seen (took_lost row seen)
 
-given_up_lost : (row : ℕ) (sent : List Place) (taken : List ℕ) (lost : Option ℕ) → (given_up row (record { sent = sent; taken = taken; lost = lost })).lost ≡ or_else lost (Some row)
+given_up_lost : (row : ℕ) (sent : List Place) (taken : List ℕ) (lost : Option ℕ)
+    → (given_up row (record { sent = sent; taken = taken; lost = lost })).lost ≡ or_else lost (Some row)
 given_up_lost row sent taken None = refl
 given_up_lost row sent taken (Some at) = refl
 
@@ -179,7 +203,8 @@ any_step : (b c : Bool) (row : ℕ) → or_else (cond b (Some row) None) (cond c
 any_step true c row = refl
 any_step false c row = refl
 
-losing_lost : (queue row : ℕ) (others : List ℕ) (seen : Seen) → (losing queue row others seen).lost ≡ or_else seen.lost (cond (list_any (λ other. eqb other queue) others) (Some row) None)
+losing_lost : (queue row : ℕ) (others : List ℕ) (seen : Seen)
+    → (losing queue row others seen).lost ≡ or_else seen.lost (cond (list_any (λ other. eqb other queue) others) (Some row) None)
 losing_lost queue row [] seen = sym (or_none seen.lost)
 losing_lost queue row (other ∷ others) seen =
     let any = list_any (λ other. eqb other queue) others in
@@ -188,7 +213,8 @@ losing_lost queue row (other ∷ others) seen =
     ∙ or_assoc seen.lost (cond (eqb other queue) (Some row) None) (cond any (Some row) None)
     ∙ ap (λ (lost : Option ℕ). or_else seen.lost lost) (any_step (eqb other queue) any row)
 
-after_lost : (queue at : ℕ) (row : Row) (seen : Seen) → (after_row queue at row seen).lost ≡ or_else seen.lost (cond (list_any (λ other. eqb other queue) row.gave_up.items) (Some at) None)
+after_lost : (queue at : ℕ) (row : Row) (seen : Seen)
+    → (after_row queue at row seen).lost ≡ or_else seen.lost (cond (list_any (λ other. eqb other queue) row.gave_up.items) (Some at) None)
 after_lost queue at row seen =
     losing_lost queue at row.gave_up.items (sending queue at 0 row.marks.items (taking queue at row.took seen))
     ∙ ap (λ (lost : Option ℕ). or_else lost (cond (list_any (λ other. eqb other queue) row.gave_up.items) (Some at) None))
@@ -198,7 +224,8 @@ given_step : (b : Bool) (at : ℕ) (rest : Option ℕ) → or_else (cond b (Some
 given_step true at rest = refl
 given_step false at rest = refl
 
-traffic_lost : (queue at : ℕ) (rows : List Row) (seen : Seen) → (traffic queue at rows seen).lost ≡ or_else seen.lost (giving_up queue at rows)
+traffic_lost : (queue at : ℕ) (rows : List Row) (seen : Seen)
+    → (traffic queue at rows seen).lost ≡ or_else seen.lost (giving_up queue at rows)
 traffic_lost queue at [] seen = sym (or_none seen.lost)
 traffic_lost queue at (row ∷ rows) seen =
     let any = list_any (λ other. eqb other queue) row.gave_up.items in
@@ -207,7 +234,8 @@ traffic_lost queue at (row ∷ rows) seen =
     ∙ or_assoc seen.lost (cond any (Some at) None) (giving_up queue (at + 1) rows)
     ∙ ap (λ (lost : Option ℕ). or_else seen.lost lost) (given_step any at (giving_up queue (at + 1) rows))
 
-pub fed_in_order : (queue : ℕ) (rows : List Row) → IsFed queue 0 rows nothing → arrows_of queue rows ≡ pairs (giving_up queue 0 rows) (sends queue 0 rows) (takes queue 0 rows)
+pub fed_in_order : (queue : ℕ) (rows : List Row) → IsFed queue 0 rows nothing
+    → arrows_of queue rows ≡ pairs (giving_up queue 0 rows) (sends queue 0 rows) (takes queue 0 rows)
 fed_in_order queue rows h =
     let seen = traffic_of queue rows in
     ap (λ (lost : Option ℕ). pairs lost seen.sent seen.taken) (traffic_lost queue 0 rows nothing)

@@ -45,7 +45,8 @@ giving_up queue at (row ∷ rows) = if list_any (λ other. other == queue) row.g
 -- each row that takes from the queue finds an item on its way
 abbrev pub IsFed : (queue at : ℕ) → List Row → Seen → Type 0
 IsFed queue at [] seen = Unit {0}
-IsFed queue at (row ∷ rows) seen = (takes_from queue row.took ≡ true → has_next seen ≡ true) × IsFed queue (at + 1) rows (after_row queue at row seen)
+IsFed queue at (row ∷ rows) seen =
+    (takes_from queue row.took ≡ true → has_next seen ≡ true) × IsFed queue (at + 1) rows (after_row queue at row seen)
 
 -- an arrow ends in one of so many rows: below the row in which it begins where the item is taken, in that row or below it where it is lost
 abbrev pub EndsBelow : (rows start : ℕ) → End → Type 0

@@ -15,13 +15,16 @@ appends_more old mid new first others = record {
   behind = others.behind ∙ ap (λ (text : List ℕ). text ++ others.content) first.behind ∙ append_assoc old first.content others.content;
 }
 
-pub appends_whole : (width height : ℕ) (title style old begun drawn new : List ℕ) → begun ≡ old ++ drawing_start width height title style → Appends begun drawn → new ≡ drawn ++ drawing_end → AppendsDocument old new
+pub appends_whole : (width height : ℕ) (title style old begun drawn new : List ℕ)
+    → begun ≡ old ++ drawing_start width height title style → Appends begun drawn → new ≡ drawn ++ drawing_end
+    → AppendsDocument old new
 appends_whole width height title style old begun drawn new start figures end =
     let first = drawing_start width height title style in
     record {
       drawing = first ++ figures.content ++ drawing_end;
       document = document width height title style figures.content figures.well_formed;
       behind =
-          end ∙ ap (λ (text : List ℕ). text ++ drawing_end) (figures.behind ∙ ap (λ (text : List ℕ). text ++ figures.content) start ∙ append_assoc old first figures.content)
+          end ∙ ap (λ (text : List ℕ). text ++ drawing_end)
+          (figures.behind ∙ ap (λ (text : List ℕ). text ++ figures.content) start ∙ append_assoc old first figures.content)
           ∙ append_assoc old (first ++ figures.content) drawing_end;
     }

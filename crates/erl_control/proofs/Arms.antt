@@ -7,9 +7,11 @@ use Rattle.erl_term.specs.Parts.{ReadsFront}
 use Rattle.erl_control.specs.declared.signal.Signal.{Signal}
 use Rattle.erl_control.specs.declared.signal.Signal.TheVariants as signal
 use Rattle.erl_control.specs.declared.signal_ref.SignalRef.{SignalRef}
-use Rattle.erl_control.specs.declared.signal_ref.SignalRef.TheVariants.{Link, Send, Exit, Exit2, Monitor, Demonitor, MonitorExit, UnlinkId, UnlinkIdAck}
+use Rattle.erl_control.specs.declared.signal_ref.SignalRef.TheVariants.{Link, Send, Exit, Exit2, Monitor, Demonitor}
+use Rattle.erl_control.specs.declared.signal_ref.SignalRef.TheVariants.{MonitorExit, UnlinkId, UnlinkIdAck}
 use Rattle.erl_control.specs.Parts.{signal_in}
-use Rattle.erl_control.specs.Reading.{ArePids, AreIdAndPids, ArePidsAndReason, ArePidsAndReference, AreMonitorExit, AreSendAndMessage, tag_of, HasFields}
+use Rattle.erl_control.specs.Reading.{ArePids, AreIdAndPids, ArePidsAndReason, ArePidsAndReference}
+use Rattle.erl_control.specs.Reading.{AreMonitorExit, AreSendAndMessage, tag_of, HasFields}
 use Rattle.erl_control.proofs.Sequence.{mapped, read_as}
 
 -- each signal lies somewhere
@@ -92,35 +94,48 @@ module _ (levels : ℕ) where
   unlink_id_ack_from (UnlinkIdAck id p q) b f = ((id, (p, q)), refl, f.1)
   unlink_id_ack_from y b t = absurd (let e = t.0 in omega arith)
 
-  pub read_link : (bytes : List ℕ) (o : Option ((Pid × Pid) × Bor (List ℕ))) → ReadsFront (ArePids levels) bytes o → ReadsFront (HasFields levels 1) bytes (mapped link o)
+  pub read_link : (bytes : List ℕ) (o : Option ((Pid × Pid) × Bor (List ℕ))) → ReadsFront (ArePids levels) bytes o
+      → ReadsFront (HasFields levels 1) bytes (mapped link o)
   read_link bytes o r = read_as (ArePids levels) (HasFields levels 1) link (λ x b s. (refl, s)) link_from bytes o r
 
-  pub read_send : (bytes : List ℕ) (o : Option (((Data × Pid) × Data) × Bor (List ℕ))) → ReadsFront (AreSendAndMessage levels) bytes o → ReadsFront (HasFields levels 2) bytes (mapped send o)
+  pub read_send : (bytes : List ℕ) (o : Option (((Data × Pid) × Data) × Bor (List ℕ)))
+      → ReadsFront (AreSendAndMessage levels) bytes o → ReadsFront (HasFields levels 2) bytes (mapped send o)
   read_send bytes o r = read_as (AreSendAndMessage levels) (HasFields levels 2) send (λ x b s. (refl, (x.0.0, s))) send_from bytes o r
 
-  pub read_exit : (bytes : List ℕ) (o : Option (((Pid × Pid) × Data) × Bor (List ℕ))) → ReadsFront (ArePidsAndReason levels) bytes o → ReadsFront (HasFields levels 3) bytes (mapped exit o)
+  pub read_exit : (bytes : List ℕ) (o : Option (((Pid × Pid) × Data) × Bor (List ℕ)))
+      → ReadsFront (ArePidsAndReason levels) bytes o → ReadsFront (HasFields levels 3) bytes (mapped exit o)
   read_exit bytes o r = read_as (ArePidsAndReason levels) (HasFields levels 3) exit (λ x b s. (refl, s)) exit_from bytes o r
 
-  pub read_exit2 : (bytes : List ℕ) (o : Option (((Pid × Pid) × Data) × Bor (List ℕ))) → ReadsFront (ArePidsAndReason levels) bytes o → ReadsFront (HasFields levels 8) bytes (mapped exit2 o)
+  pub read_exit2 : (bytes : List ℕ) (o : Option (((Pid × Pid) × Data) × Bor (List ℕ)))
+      → ReadsFront (ArePidsAndReason levels) bytes o → ReadsFront (HasFields levels 8) bytes (mapped exit2 o)
   read_exit2 bytes o r = read_as (ArePidsAndReason levels) (HasFields levels 8) exit2 (λ x b s. (refl, s)) exit2_from bytes o r
 
-  pub read_monitor : (bytes : List ℕ) (o : Option (((Pid × Pid) × Reference) × Bor (List ℕ))) → ReadsFront (ArePidsAndReference levels) bytes o → ReadsFront (HasFields levels 19) bytes (mapped monitor o)
+  pub read_monitor : (bytes : List ℕ) (o : Option (((Pid × Pid) × Reference) × Bor (List ℕ)))
+      → ReadsFront (ArePidsAndReference levels) bytes o → ReadsFront (HasFields levels 19) bytes (mapped monitor o)
   read_monitor bytes o r = read_as (ArePidsAndReference levels) (HasFields levels 19) monitor (λ x b s. (refl, s)) monitor_from bytes o r
 
-  pub read_demonitor : (bytes : List ℕ) (o : Option (((Pid × Pid) × Reference) × Bor (List ℕ))) → ReadsFront (ArePidsAndReference levels) bytes o → ReadsFront (HasFields levels 20) bytes (mapped demonitor o)
-  read_demonitor bytes o r = read_as (ArePidsAndReference levels) (HasFields levels 20) demonitor (λ x b s. (refl, s)) demonitor_from bytes o r
+  pub read_demonitor : (bytes : List ℕ) (o : Option (((Pid × Pid) × Reference) × Bor (List ℕ)))
+      → ReadsFront (ArePidsAndReference levels) bytes o → ReadsFront (HasFields levels 20) bytes (mapped demonitor o)
+  read_demonitor bytes o r =
+      read_as (ArePidsAndReference levels) (HasFields levels 20) demonitor (λ x b s. (refl, s)) demonitor_from bytes o r
 
-  pub read_monitor_exit : (bytes : List ℕ) (o : Option ((((Pid × Pid) × Reference) × Data) × Bor (List ℕ))) → ReadsFront (AreMonitorExit levels) bytes o → ReadsFront (HasFields levels 21) bytes (mapped monitor_exit o)
-  read_monitor_exit bytes o r = read_as (AreMonitorExit levels) (HasFields levels 21) monitor_exit (λ x b s. (refl, s)) monitor_exit_from bytes o r
+  pub read_monitor_exit : (bytes : List ℕ) (o : Option ((((Pid × Pid) × Reference) × Data) × Bor (List ℕ)))
+      → ReadsFront (AreMonitorExit levels) bytes o → ReadsFront (HasFields levels 21) bytes (mapped monitor_exit o)
+  read_monitor_exit bytes o r =
+      read_as (AreMonitorExit levels) (HasFields levels 21) monitor_exit (λ x b s. (refl, s)) monitor_exit_from bytes o r
 
-  pub read_unlink_id : (bytes : List ℕ) (o : Option ((ℕ × (Pid × Pid)) × Bor (List ℕ))) → ReadsFront (AreIdAndPids levels) bytes o → ReadsFront (HasFields levels 35) bytes (mapped unlink_id o)
+  pub read_unlink_id : (bytes : List ℕ) (o : Option ((ℕ × (Pid × Pid)) × Bor (List ℕ)))
+      → ReadsFront (AreIdAndPids levels) bytes o → ReadsFront (HasFields levels 35) bytes (mapped unlink_id o)
   read_unlink_id bytes o r = read_as (AreIdAndPids levels) (HasFields levels 35) unlink_id (λ x b s. (refl, s)) unlink_id_from bytes o r
 
-  pub read_unlink_id_ack : (bytes : List ℕ) (o : Option ((ℕ × (Pid × Pid)) × Bor (List ℕ))) → ReadsFront (AreIdAndPids levels) bytes o → ReadsFront (HasFields levels 36) bytes (mapped unlink_id_ack o)
-  read_unlink_id_ack bytes o r = read_as (AreIdAndPids levels) (HasFields levels 36) unlink_id_ack (λ x b s. (refl, s)) unlink_id_ack_from bytes o r
+  pub read_unlink_id_ack : (bytes : List ℕ) (o : Option ((ℕ × (Pid × Pid)) × Bor (List ℕ)))
+      → ReadsFront (AreIdAndPids levels) bytes o → ReadsFront (HasFields levels 36) bytes (mapped unlink_id_ack o)
+  read_unlink_id_ack bytes o r =
+      read_as (AreIdAndPids levels) (HasFields levels 36) unlink_id_ack (λ x b s. (refl, s)) unlink_id_ack_from bytes o r
 
   -- no signal has another tag
-  pub no_tag : (tag : ℕ) (bytes : List ℕ) → (¬ (tag ≡ 1)) → (¬ (tag ≡ 2)) → (¬ (tag ≡ 3)) → (¬ (tag ≡ 8)) → (¬ (tag ≡ 19)) → (¬ (tag ≡ 20)) → (¬ (tag ≡ 21)) → (¬ (tag ≡ 35)) → (¬ (tag ≡ 36)) → ReadsFront (HasFields levels tag) bytes None
+  pub no_tag : (tag : ℕ) (bytes : List ℕ) → (¬ (tag ≡ 1)) → (¬ (tag ≡ 2)) → (¬ (tag ≡ 3)) → (¬ (tag ≡ 8)) → (¬ (tag ≡ 19))
+      → (¬ (tag ≡ 20)) → (¬ (tag ≡ 21)) → (¬ (tag ≡ 35)) → (¬ (tag ≡ 36)) → ReadsFront (HasFields levels tag) bytes None
   no_tag tag bytes a b c d e f g h i = record { takes = tt; again = λ y text rest t p. never y t.0 }
     where
       never : (y : SignalRef) → tag_of (signal_in y) ≡ tag → ⊥

@@ -1,5 +1,7 @@
 -- The frame that is written is a frame.
-use Rattle.std.proofs.Common.{◌≡◌, ℕ, zero, suc, ◌+◌, ◌^◌, ◌<◌, ◌≤◌, ◌↔◌, Bool, true, false, cond, List, [], ◌∷◌, ◌++◌, length, refl, rules, arith}
+use Rattle.erl_term.proofs.Canonical.{AreBytes-cons, byte_low, high_bytes, four_bytes}
+use Rattle.std.proofs.Common.{◌≡◌, ℕ, zero, suc, ◌+◌, ◌^◌, ◌<◌, ◌≤◌, ◌↔◌, Bool, true}
+use Rattle.std.proofs.Common.{false, cond, List, [], ◌∷◌, ◌++◌, length, refl, rules, arith}
 use Rattle.std.proofs.lemmas.List.{length-append}
 use Rattle.std.proofs.lemmas.Str.{IsUtf8-nil, chars-nil}
 use Rattle.std.proofs.lemmas.Int.{ints}
@@ -13,29 +15,16 @@ use Rattle.erl_term.specs.declared.term.Reference.{Reference}
 use Rattle.erl_term.specs.Data.{Data, int, atom, tuple, pid, reference, Items, no_items, item, count}
 use Rattle.erl_term.specs.Spelling.{IsNumber, IsSpelling}
 use Rattle.erl_term.specs.Text.{IsAtomText}
-use Rattle.erl_term.specs.Canonical.{canonical, canonical_term, canonical_head, canonical_int, canonical_atom, canonical_pid, canonical_reference, canonical_items, levels_of, IsInRange, IsPidInRange, IsReferenceInRange}
+use Rattle.erl_term.specs.Canonical.{canonical, canonical_term, canonical_head, canonical_int, canonical_atom, canonical_pid}
+use Rattle.erl_term.specs.Canonical.{canonical_reference, canonical_items, levels_of, IsInRange, IsPidInRange, IsReferenceInRange}
 use Rattle.erl_control.specs.declared.signal.Signal.{Signal}
-use Rattle.erl_control.specs.declared.signal.Signal.TheVariants.{Link, Send, Exit, Exit2, Monitor, Demonitor, MonitorExit, UnlinkId, UnlinkIdAck}
+use Rattle.erl_control.specs.declared.signal.Signal.TheVariants.{Link, Send, Exit, Exit2, Monitor, Demonitor}
+use Rattle.erl_control.specs.declared.signal.Signal.TheVariants.{MonitorExit, UnlinkId, UnlinkIdAck}
 use Rattle.erl_control.specs.Control.{row, control_term, message_of, Carries, Fits, IsFit, IsSendable}
 use Rattle.erl_control.specs.Frame.{limit, SpellsMessage, IsSignalFrame}
 use Rattle.erl_control.specs.Canonical.{canonical_control, canonical_message, canonical_text, canonical_frame}
 
 -- ---- a number in four bytes
-
-AreBytes-cons : (b : ℕ) (bs : List ℕ) → b < 256 → AreBytes bs → AreBytes (b ∷ bs)
-AreBytes-cons b bs lt h zero = lt
-AreBytes-cons b bs lt h (suc i) = h i
-
-byte_low : (k x : ℕ) → byte_at k x < 256
-byte_low zero x = omega arith
-byte_low (suc k) x = omega arith
-
-high_bytes : (n x : ℕ) → AreBytes (big_bytes n x)
-high_bytes zero x = AreBytes-nil
-high_bytes (suc k) x = AreBytes-cons (byte_at k x) (big_bytes k x) (byte_low k x) (high_bytes k x)
-
-four_bytes : (x : ℕ) → x < 2 ^ 32 → IsNumber 4 x (big_bytes 4 x)
-four_bytes x lt = record { len = refl; bytes = high_bytes 4 x; says = omega arith }
 
 -- ---- the atom ''
 
@@ -46,7 +35,8 @@ empty_atom_len : length (canonical_atom []) ≡ 2
 unfolding canonical_atom
 empty_atom_len = refl
 
-pub send_len : (to : Pid) (m : Data) → length (canonical_text (Send to m)) ≡ length (131 ∷ (canonical_head 3 ++ canonical_int (pos 2))) + 2 + length (canonical_pid to) + 1 + length (canonical_term m)
+pub send_len : (to : Pid) (m : Data) → length (canonical_text (Send to m))
+    ≡ length (131 ∷ (canonical_head 3 ++ canonical_int (pos 2))) + 2 + length (canonical_pid to) + 1 + length (canonical_term m)
 send_len to m =
     let pids : List ℕ = canonical_pid to ++ [] in
     let a = empty_atom_len in
@@ -103,17 +93,28 @@ row_short tag n ts ints h =
     )
 
 module _ (ints : ShortIntegers) (pids : ShortPids) (references : ShortReferences) where
-  two_pids : (n : ℕ) (p q : Pid) (ts : Items) → IsPidInRange p → IsPidInRange q → AtMost n ts → AtMost (2072 + n) (item (pid p) (item (pid q) ts))
-  two_pids n p q ts h k a = let b = one_more 1036 (1036 + n) (pid p) (item (pid q) ts) (pids p h) (one_more 1036 n (pid q) ts (pids q k) a) in omega arith
+  two_pids : (n : ℕ) (p q : Pid) (ts : Items) → IsPidInRange p → IsPidInRange q → AtMost n ts
+      → AtMost (2072 + n) (item (pid p) (item (pid q) ts))
+  two_pids n p q ts h k a =
+      let b = one_more 1036 (1036 + n) (pid p) (item (pid q) ts) (pids p h) (one_more 1036 n (pid q) ts (pids q k) a) in omega arith
 
-  exit_short : (tag : ℕ) (p q : Pid) (t : Data) → IsPidInRange p → IsPidInRange q → length (canonical t) ≤ 60000 → length (canonical (row tag (pid p ∷ pid q ∷ t ∷ []))) ≤ 62097
-  exit_short tag p q t h k fit = row_short tag 62072 (item (pid p) (item (pid q) (item t no_items))) ints (two_pids 60000 p q (item t no_items) h k (one_more 60000 0 t no_items (omega arith) (omega arith)))
+  exit_short : (tag : ℕ) (p q : Pid) (t : Data) → IsPidInRange p → IsPidInRange q → length (canonical t) ≤ 60000
+      → length (canonical (row tag (pid p ∷ pid q ∷ t ∷ []))) ≤ 62097
+  exit_short tag p q t h k fit =
+      row_short tag 62072 (item (pid p) (item (pid q) (item t no_items))) ints
+      (two_pids 60000 p q (item t no_items) h k (one_more 60000 0 t no_items (omega arith) (omega arith)))
 
-  monitor_short : (tag : ℕ) (p q : Pid) (r : Reference) → IsPidInRange p → IsPidInRange q → IsReferenceInRange r → length (canonical (row tag (pid p ∷ pid q ∷ reference r ∷ []))) ≤ 3147
-  monitor_short tag p q r h k l = row_short tag 3122 (item (pid p) (item (pid q) (item (reference r) no_items))) ints (two_pids 1050 p q (item (reference r) no_items) h k (one_more 1050 0 (reference r) no_items (references r l) (omega arith)))
+  monitor_short : (tag : ℕ) (p q : Pid) (r : Reference) → IsPidInRange p → IsPidInRange q → IsReferenceInRange r
+      → length (canonical (row tag (pid p ∷ pid q ∷ reference r ∷ []))) ≤ 3147
+  monitor_short tag p q r h k l =
+      row_short tag 3122 (item (pid p) (item (pid q) (item (reference r) no_items))) ints
+      (two_pids 1050 p q (item (reference r) no_items) h k (one_more 1050 0 (reference r) no_items (references r l) (omega arith)))
 
-  unlink_short : (tag id : ℕ) (p q : Pid) → IsPidInRange p → IsPidInRange q → length (canonical (row tag (int (pos id) ∷ pid p ∷ pid q ∷ []))) ≤ 2116
-  unlink_short tag id p q h k = row_short tag 2091 (item (int (pos id)) (item (pid p) (item (pid q) no_items))) ints (one_more 19 2072 (int (pos id)) (item (pid p) (item (pid q) no_items)) (ints (pos id)) (two_pids 0 p q no_items h k (omega arith)))
+  unlink_short : (tag id : ℕ) (p q : Pid) → IsPidInRange p → IsPidInRange q
+      → length (canonical (row tag (int (pos id) ∷ pid p ∷ pid q ∷ []))) ≤ 2116
+  unlink_short tag id p q h k =
+      row_short tag 2091 (item (int (pos id)) (item (pid p) (item (pid q) no_items))) ints
+      (one_more 19 2072 (int (pos id)) (item (pid p) (item (pid q) no_items)) (ints (pos id)) (two_pids 0 p q no_items h k (omega arith)))
 
   -- the control term of a signal that carries what fits, and its message
   text_short : (s : Signal) → Carries Fits s → IsInRange (control_term (atom []) s) → length (canonical_text s) < limit
@@ -127,18 +128,29 @@ module _ (ints : ShortIntegers) (pids : ShortPids) (references : ShortReferences
       let l = f.2 in
       let n = send_len p t in
       omega (arith, length-append (canonical_head 3) (canonical_int (pos 2)))
-  text_short (Exit p q t) f h = let a = exit_short 3 p q t h.1.1.0 h.1.1.1.0 f.2 in omega (arith, length-append {A = ℕ} (canonical_control (Exit p q t)) [])
-  text_short (Exit2 p q t) f h = let a = exit_short 8 p q t h.1.1.0 h.1.1.1.0 f.2 in omega (arith, length-append {A = ℕ} (canonical_control (Exit2 p q t)) [])
-  text_short (Monitor p q r) f h = let a = monitor_short 19 p q r h.1.1.0 h.1.1.1.0 h.1.1.1.1.0 in omega (arith, length-append {A = ℕ} (canonical_control (Monitor p q r)) [])
-  text_short (Demonitor p q r) f h = let a = monitor_short 20 p q r h.1.1.0 h.1.1.1.0 h.1.1.1.1.0 in omega (arith, length-append {A = ℕ} (canonical_control (Demonitor p q r)) [])
+  text_short (Exit p q t) f h =
+      let a = exit_short 3 p q t h.1.1.0 h.1.1.1.0 f.2 in omega (arith, length-append {A = ℕ} (canonical_control (Exit p q t)) [])
+  text_short (Exit2 p q t) f h =
+      let a = exit_short 8 p q t h.1.1.0 h.1.1.1.0 f.2 in omega (arith, length-append {A = ℕ} (canonical_control (Exit2 p q t)) [])
+  text_short (Monitor p q r) f h =
+      let a = monitor_short 19 p q r h.1.1.0 h.1.1.1.0 h.1.1.1.1.0 in
+      omega (arith, length-append {A = ℕ} (canonical_control (Monitor p q r)) [])
+  text_short (Demonitor p q r) f h =
+      let a = monitor_short 20 p q r h.1.1.0 h.1.1.1.0 h.1.1.1.1.0 in
+      omega (arith, length-append {A = ℕ} (canonical_control (Demonitor p q r)) [])
   text_short (MonitorExit p q r t) f h =
       let g = f.2 in
       let last = one_more 60000 0 t no_items (omega arith) (omega arith) in
-      let ts = two_pids 61050 p q (item (reference r) (item t no_items)) h.1.1.0 h.1.1.1.0 (one_more 1050 60000 (reference r) (item t no_items) (references r h.1.1.1.1.0) last) in
+      let ts =
+      two_pids 61050 p q (item (reference r) (item t no_items)) h.1.1.0 h.1.1.1.0
+      (one_more 1050 60000 (reference r) (item t no_items) (references r h.1.1.1.1.0) last) in
       let a = row_short 21 63122 (item (pid p) (item (pid q) (item (reference r) (item t no_items)))) ints ts in
       omega (arith, length-append {A = ℕ} (canonical_control (MonitorExit p q r t)) [])
-  text_short (UnlinkId id p q) f h = let a = unlink_short 35 id p q h.1.1.1.0 h.1.1.1.1.0 in omega (arith, length-append {A = ℕ} (canonical_control (UnlinkId id p q)) [])
-  text_short (UnlinkIdAck id p q) f h = let a = unlink_short 36 id p q h.1.1.1.0 h.1.1.1.1.0 in omega (arith, length-append {A = ℕ} (canonical_control (UnlinkIdAck id p q)) [])
+  text_short (UnlinkId id p q) f h =
+      let a = unlink_short 35 id p q h.1.1.1.0 h.1.1.1.1.0 in omega (arith, length-append {A = ℕ} (canonical_control (UnlinkId id p q)) [])
+  text_short (UnlinkIdAck id p q) f h =
+      let a = unlink_short 36 id p q h.1.1.1.0 h.1.1.1.1.0 in
+      omega (arith, length-append {A = ℕ} (canonical_control (UnlinkIdAck id p q)) [])
 
 -- ---- frames
 
@@ -146,15 +158,10 @@ abbrev pub CanonicalSpells : Type 0
 CanonicalSpells = (t : Data) (levels : ℕ) → IsInRange t → (IsSpelling levels t (canonical t) ↔ (levels_of t ≤ levels))
 
 few_levels : (s : Signal) → Carries Fits s → levels_of (control_term (atom []) s) ≤ 64
-few_levels (Link p q) f = omega arith
-few_levels (Send p t) f = omega arith
 few_levels (Exit p q t) f = let l = f.1 in omega arith
 few_levels (Exit2 p q t) f = let l = f.1 in omega arith
-few_levels (Monitor p q r) f = omega arith
-few_levels (Demonitor p q r) f = omega arith
 few_levels (MonitorExit p q r t) f = let l = f.1 in omega arith
-few_levels (UnlinkId id p q) f = omega arith
-few_levels (UnlinkIdAck id p q) f = omega arith
+few_levels _ f = omega arith
 
 told : CanonicalSpells → (s : Signal) → Carries Fits s → SpellsMessage (message_of s) (canonical_message (message_of s))
 told spells (Send p t) f = (spells t 64 f.0).1 (let l = f.1 in omega arith)
@@ -167,7 +174,8 @@ fit_of (Exit2 p q t) f = (f.1, f.2)
 fit_of (MonitorExit p q r t) f = (f.1, f.2)
 fit_of s f = tt
 
-pub canonical_framed : CanonicalSpells → ShortIntegers → ShortPids → ShortReferences → (s : Signal) → IsSendable s → IsInRange (control_term (atom []) s) → IsSignalFrame s (canonical_frame s)
+pub canonical_framed : CanonicalSpells → ShortIntegers → ShortPids → ShortReferences → (s : Signal) → IsSendable s
+    → IsInRange (control_term (atom []) s) → IsSignalFrame s (canonical_frame s)
 canonical_framed spells ints pids references s u h =
     let k = text_short ints pids references s u.1 h in
     record {

@@ -1,5 +1,7 @@
 -- What is due to bytes, body by body.
-use Rattle.std.proofs.Common.{◌≡◌, ◌≢◌, ℕ, zero, suc, ◌+◌, ◌≤◌, List, [], ◌∷◌, ◌++◌, length, take, drop, Option, Some, None, Result, Ok, Err, refl, sym, ap, subst, ◌∙◌, ◌⊎◌, append_assoc, arith, inl, inr}
+use Rattle.erl_term.proofs.Behind.{zero_is}
+use Rattle.std.proofs.Common.{◌≡◌, ◌≢◌, ℕ, zero, suc, ◌+◌, ◌≤◌, List, [], ◌∷◌, ◌++◌, length, take, drop, Option, Some}
+use Rattle.std.proofs.Common.{None, Result, Ok, Err, refl, sym, ap, subst, ◌∙◌, ◌⊎◌, append_assoc, arith, inl, inr}
 use Rattle.std.proofs.lemmas.Bool.{cases_lt}
 use Rattle.std.proofs.lemmas.List.{take_at, drop_at, take-append-drop, length-append, length-take, length-drop, append-nil}
 use Rattle.byteorder.specs.Endian.{big_number}
@@ -20,7 +22,8 @@ use Rattle.erl_control.proofs.Same.{same_or_not}
 use Rattle.erl_control.proofs.Texts.{OneTerm, OneSpelling, IsTextDue, text_due, text_once, some_text, one_text}
 
 -- one answer is due to a text
-pub due_to_text : OneTerm → OneSpelling → (text : List ℕ) (x y : Result Signal FrameError) → AreBytes text → length text ≤ limit → IsTextDue text x → IsTextDue text y → x ≡ y
+pub due_to_text : OneTerm → OneSpelling → (text : List ℕ) (x y : Result Signal FrameError) → AreBytes text
+    → length text ≤ limit → IsTextDue text x → IsTextDue text y → x ≡ y
 due_to_text term one text x y h le p q = text_once term one text h le x y (text_due text x p) (text_due text y q)
 
 -- ---- bodies
@@ -47,7 +50,8 @@ abbrev tail_of : List ℕ → List ℕ
 tail_of [] = []
 tail_of (x ∷ xs) = xs
 
-pub body_once : OneTerm → OneSpelling → (body : List ℕ) (x y : Result Item FrameError) → AreBytes body → length body ≤ limit → BodyDue body x → BodyDue body y → x ≡ y
+pub body_once : OneTerm → OneSpelling → (body : List ℕ) (x y : Result Item FrameError) → AreBytes body → length body ≤ limit
+    → BodyDue body x → BodyDue body y → x ≡ y
 body_once term one body x y h le p q = by p q
   where
     fits : (text : List ℕ) → body ≡ 112 ∷ text → AreBytes text
@@ -79,43 +83,27 @@ body_once term one body x y h le p q = by p q
     by (other k a e n p) (fault b g f c q) = absurd (n (let l = sym e ∙ f in cc))
     by (signal a s e c p) (tick f q) = absurd (let l = sym e ∙ f in cc)
     by (signal a s e c p) (other j b f m q) = absurd (m (let l = sym e ∙ f in cc))
-    by (signal a s e c p) (signal b r f d q) = p ∙ ap (λ (z : Signal). Ok (SignalItem z)) (item_of s r a e c (subst (IsFitText r) (same a b e f) d)) ∙ sym q
+    by (signal a s e c p) (signal b r f d q) =
+        p ∙ ap (λ (z : Signal). Ok (SignalItem z)) (item_of s r a e c (subst (IsFitText r) (same a b e f) d)) ∙ sym q
     by (signal a s e c p) (fault b g f d q) = absurd (never s g a e c (subst (λ w. IsTextFault w g) (same a b e f) d))
     by (fault a g e c p) (tick f q) = absurd (let l = sym e ∙ f in cc)
     by (fault a g e c p) (other j b f m q) = absurd (m (let l = sym e ∙ f in cc))
     by (fault a g e c p) (signal b r f d q) = absurd (never r g b f d (subst (λ w. IsTextFault w g) (same b a f e) c))
-    by (fault a g e c p) (fault b i f d q) = p ∙ ap (λ (z : FrameError). Err z) (fault_of g i a e c (subst (λ w. IsTextFault w i) (same a b e f) d)) ∙ sym q
+    by (fault a g e c p) (fault b i f d q) =
+        p ∙ ap (λ (z : FrameError). Err z) (fault_of g i a e c (subst (λ w. IsTextFault w i) (same a b e f) d)) ∙ sym q
 
 -- ---- frames
 
 big_four : (len rest : List ℕ) → length len ≡ 4 → big_number 4 (len ++ rest) ≡ big_number 4 len
 big_four (a ∷ b ∷ c ∷ d ∷ []) rest e = refl
-big_four [] rest e = absurd (omega arith)
-big_four (a ∷ []) rest e = absurd (omega arith)
-big_four (a ∷ b ∷ []) rest e = absurd (omega arith)
-big_four (a ∷ b ∷ c ∷ []) rest e = absurd (omega arith)
-big_four (a ∷ b ∷ c ∷ d ∷ x ∷ xs) rest e = absurd (omega arith)
-
-four_zeros : (len : List ℕ) → IsNumber 4 0 len → len ≡ 0 ∷ 0 ∷ 0 ∷ 0 ∷ []
-four_zeros (a ∷ b ∷ c ∷ d ∷ []) n =
-    let e : big_number 4 (a ∷ b ∷ c ∷ d ∷ []) ≡ 0 = n.says in
-    let p : a ≡ 0 = omega arith in let q : b ≡ 0 = omega arith in let r : c ≡ 0 = omega arith in let s : d ≡ 0 = omega arith in
-    rw (p, q, r, s) refl
-four_zeros [] n = absurd (let e = n.len in omega arith)
-four_zeros (a ∷ []) n = absurd (let e = n.len in omega arith)
-four_zeros (a ∷ b ∷ []) n = absurd (let e = n.len in omega arith)
-four_zeros (a ∷ b ∷ c ∷ []) n = absurd (let e = n.len in omega arith)
-four_zeros (a ∷ b ∷ c ∷ d ∷ x ∷ xs) n = absurd (let e = n.len in omega arith)
+big_four _ rest e = absurd (omega arith)
 
 zeros_are : IsNumber 4 0 (0 ∷ 0 ∷ 0 ∷ 0 ∷ [])
 zeros_are = record { len = refl; bytes = fits; says = refl }
   where
     fits : AreBytes (0 ∷ 0 ∷ 0 ∷ 0 ∷ [])
-    fits zero = omega arith
-    fits (suc zero) = omega arith
-    fits (suc (suc zero)) = omega arith
     fits (suc (suc (suc zero))) = omega arith
-    fits (suc (suc (suc (suc i)))) = omega arith
+    fits _ = omega arith
 
 -- where a body stands
 pub record Placed (bytes body : List ℕ) : Type 0 where
@@ -129,7 +117,8 @@ placed bytes body b =
     record {
       says = ap (big_number 4) b.parts ∙ big_four b.len (body ++ b.rest) n ∙ b.number.says;
       within = let l = ap length b.parts in omega (arith, length-append b.len (body ++ b.rest), length-append body b.rest);
-      is_body = sym (take_at body b.rest (length body) refl) ∙ ap (take (length body)) (sym (ap (drop 4) b.parts ∙ drop_at b.len (body ++ b.rest) 4 n));
+      is_body = sym (take_at body b.rest (length body) refl)
+          ∙ ap (take (length body)) (sym (ap (drop 4) b.parts ∙ drop_at b.len (body ++ b.rest) 4 n));
     }
 
 one_body : (bytes a b : List ℕ) → HasBody bytes a → HasBody bytes b → a ≡ b
@@ -164,7 +153,8 @@ begun_not_long : (bytes : List ℕ) → IsBegun bytes → IsLong bytes → ⊥
 begun_not_long bytes (inl lt) x = omega arith
 begun_not_long bytes (inr y) x = omega arith
 
-pub due_once : OneTerm → OneSpelling → (bytes : List ℕ) (x y : Result (Option (Item × ℕ)) FrameError) → AreBytes bytes → Due bytes x → Due bytes y → x ≡ y
+pub due_once : OneTerm → OneSpelling → (bytes : List ℕ) (x y : Result (Option (Item × ℕ)) FrameError) → AreBytes bytes
+    → Due bytes x → Due bytes y → x ≡ y
 due_once term one bytes x y h (begun b p) (begun c q) = p ∙ sym q
 due_once term one bytes x y h (begun b p) (long c q) = absurd (begun_not_long bytes b c)
 due_once term one bytes x y h (begun b p) (whole body a c d q) = absurd (not_begun bytes body b c)
@@ -180,9 +170,16 @@ due_once term one bytes x y h (whole body a b d p) (whole other_body c e f q) =
     p ∙ ap (λ z. framed (length body) z) answers ∙ ap (λ (w : List ℕ). framed (length w) c) (sym same) ∙ sym q
 
 -- the same as the words of the definition
-front_body : (bytes : List ℕ) (n : ℕ) (len body : List ℕ) → n ≤ length bytes → IsNumber 4 (length body) len → length body ≤ limit → take n bytes ≡ len ++ body → HasBody bytes body × (n ≡ length body + 4)
+front_body : (bytes : List ℕ) (n : ℕ) (len body : List ℕ) → n ≤ length bytes → IsNumber 4 (length body) len
+    → length body ≤ limit → take n bytes ≡ len ++ body → HasBody bytes body × (n ≡ length body + 4)
 front_body bytes n len body le k s e = (
-  record { len = len; rest = drop n bytes; number = k; short = s; parts = sym (take-append-drop n bytes) ∙ ap (λ (w : List ℕ). w ++ drop n bytes) e ∙ append_assoc len body (drop n bytes) },
+  record {
+    len = len;
+    rest = drop n bytes;
+    number = k;
+    short = s;
+    parts = sym (take-append-drop n bytes) ∙ ap (λ (w : List ℕ). w ++ drop n bytes) e ∙ append_assoc len body (drop n bytes);
+  },
   (let l = ap length e in let m = k.len in omega (arith, length-take n bytes, length-append len body)),
 )
 
@@ -202,7 +199,8 @@ due_from bytes (Err (Term e)) d = whole (112 ∷ d.0) (Err (Term e)) d.1 (fault 
 due_from bytes (Err BadControl) d = whole (112 ∷ d.0) (Err BadControl) d.1 (fault d.0 BadControl refl d.2 refl) refl
 due_from bytes (Err OutOfMemory) d = absurd d
 
-pub frame_once : OneTerm → OneSpelling → (bytes : List ℕ) (x y : Result (Option (Item × ℕ)) FrameError) → AreBytes bytes → IsFrameDue bytes x → IsFrameDue bytes y → x ≡ y
+pub frame_once : OneTerm → OneSpelling → (bytes : List ℕ) (x y : Result (Option (Item × ℕ)) FrameError) → AreBytes bytes
+    → IsFrameDue bytes x → IsFrameDue bytes y → x ≡ y
 frame_once term one bytes x y h p q = due_once term one bytes x y h (due_from bytes x p) (due_from bytes y q)
 
 take_body : (bytes body : List ℕ) (b : HasBody bytes body) → take (length body + 4) bytes ≡ b.len ++ body
@@ -211,11 +209,15 @@ take_body bytes body b =
     let e : length (b.len ++ body) ≡ length body + 4 = omega (arith, length-append b.len body) in
     ap (take (length body + 4)) (b.parts ∙ sym (append_assoc b.len body b.rest)) ∙ take_at (b.len ++ body) b.rest (length body + 4) e
 
-pub item_due : (bytes body : List ℕ) (item : Item) → HasBody bytes body → IsBody item body → IsFrameDue bytes (Ok (Some (item, length body + 4)))
+pub item_due : (bytes body : List ℕ) (item : Item) → HasBody bytes body → IsBody item body
+    → IsFrameDue bytes (Ok (Some (item, length body + 4)))
 item_due bytes body Tick b p =
     let w = (placed bytes body b).within in
-    let l : length body ≡ 0 = ap length p in
-    (omega arith, take_body bytes body b ∙ ap (λ (w : List ℕ). b.len ++ w) p ∙ append-nil b.len ∙ four_zeros b.len (subst (λ (n : ℕ). IsNumber 4 n b.len) l b.number))
+    let l : length body ≡ 0 = ap length p in (
+      omega arith,
+      take_body bytes body b ∙ ap (λ (w : List ℕ). b.len ++ w) p ∙ append-nil b.len
+          ∙ zero_is b.len (subst (λ (n : ℕ). IsNumber 4 n b.len) l b.number),
+    )
 item_due bytes body (SignalItem s) b p =
     let w = (placed bytes body b).within in
     let l : length body ≡ suc (length p.0) = ap length p.1 in
@@ -271,7 +273,8 @@ whole_due : (bytes body : List ℕ) (b : Result Item FrameError) → HasBody byt
 whole_due bytes body (Ok i) h d = (Ok (Some (i, length body + 4)), item_due bytes body i h d)
 whole_due bytes body (Err e) h d = (Err e, fault_due bytes body e h d)
 
-whole_body : (bytes : List ℕ) → AreBytes bytes → 4 ≤ length bytes → big_number 4 bytes ≤ limit → 4 + big_number 4 bytes ≤ length bytes → HasBody bytes (take (big_number 4 bytes) (drop 4 bytes))
+whole_body : (bytes : List ℕ) → AreBytes bytes → 4 ≤ length bytes → big_number 4 bytes ≤ limit
+    → 4 + big_number 4 bytes ≤ length bytes → HasBody bytes (take (big_number 4 bytes) (drop 4 bytes))
 whole_body bytes h le short within =
     let n = big_number 4 bytes in
     let len : length (take n (drop 4 bytes)) ≡ n = omega (arith, length-take n (drop 4 bytes), length-drop 4 bytes) in
@@ -319,7 +322,13 @@ record Made (i : Item) (a : List ℕ) : Type 0 where
 
 made : (i : Item) (a : List ℕ) → IsFramed i a → Made i a
 made Tick a f = record { len = 0 ∷ 0 ∷ 0 ∷ 0 ∷ []; body = []; number = zeros_are; parts = f; carries = refl }
-made (SignalItem s) a f = record { len = f.len; body = 112 ∷ f.text; number = f.number; parts = f.bytes; carries = (f.text, refl, (f.is_text, f.fit)) }
+made (SignalItem s) a f = record {
+  len = f.len;
+  body = 112 ∷ f.text;
+  number = f.number;
+  parts = f.bytes;
+  carries = (f.text, refl, (f.is_text, f.fit));
+}
 
 bodies_say : OneSpelling → (i j : Item) (body : List ℕ) → IsBody i body → IsBody j body → i ≡ j
 bodies_say one Tick Tick body p q = refl
@@ -336,25 +345,32 @@ one_made one i j a b x y f g e =
     let p : a ++ x ≡ m.len ++ (m.body ++ x) = ap (λ (w : List ℕ). w ++ x) m.parts ∙ append_assoc m.len m.body x in
     let q : b ++ y ≡ n.len ++ (n.body ++ y) = ap (λ (w : List ℕ). w ++ y) n.parts ∙ append_assoc n.len n.body y in
     let all : m.len ++ (m.body ++ x) ≡ n.len ++ (n.body ++ y) = sym p ∙ e ∙ q in
-    let lens : m.len ≡ n.len = sym (take_at m.len (m.body ++ x) 4 m.number.len) ∙ ap (take 4) all ∙ take_at n.len (n.body ++ y) 4 n.number.len in
-    let tails : m.body ++ x ≡ n.body ++ y = sym (drop_at m.len (m.body ++ x) 4 m.number.len) ∙ ap (drop 4) all ∙ drop_at n.len (n.body ++ y) 4 n.number.len in
+    let lens : m.len ≡ n.len =
+    sym (take_at m.len (m.body ++ x) 4 m.number.len) ∙ ap (take 4) all ∙ take_at n.len (n.body ++ y) 4 n.number.len in
+    let tails : m.body ++ x ≡ n.body ++ y =
+    sym (drop_at m.len (m.body ++ x) 4 m.number.len) ∙ ap (drop 4) all ∙ drop_at n.len (n.body ++ y) 4 n.number.len in
     let sizes : length m.body ≡ length n.body = sym m.number.says ∙ ap (big_number 4) lens ∙ n.number.says in
-    let bodies : m.body ≡ n.body = sym (take_at m.body x (length m.body) refl) ∙ ap (take (length m.body)) tails ∙ take_at n.body y (length m.body) (sym sizes) in (
+    let bodies : m.body ≡ n.body =
+    sym (take_at m.body x (length m.body) refl) ∙ ap (take (length m.body)) tails ∙ take_at n.body y (length m.body) (sym sizes) in (
       bodies_say one i j n.body (subst (IsBody i) bodies m.carries) n.carries,
       m.parts ∙ ap (λ (w : List ℕ). w ++ m.body) lens ∙ ap (λ (w : List ℕ). n.len ++ w) bodies ∙ sym n.parts,
     )
 
 abbrev pub OneAnswer : Type 0
-OneAnswer = (bytes : List ℕ) → AreBytes bytes → (due : Result (Option (Item × ℕ)) FrameError) × IsFrameDue bytes due × ((other : Result (Option (Item × ℕ)) FrameError) → IsFrameDue bytes other → other ≡ due)
+OneAnswer = (bytes : List ℕ) → AreBytes bytes → (due : Result (Option (Item × ℕ)) FrameError) × IsFrameDue bytes due
+    × ((other : Result (Option (Item × ℕ)) FrameError) → IsFrameDue bytes other → other ≡ due)
 
 -- what is answered is what is due, unless memory ran out
-pub only_due : OneAnswer → (bytes : List ℕ) → AreBytes bytes → (a : Result (Option (Item × ℕ)) FrameError) → IfOk a (λ x. IsFrameDue bytes (Ok x)) → IfErr a (λ e. e ≢ OutOfMemory → IsFrameDue bytes (Err e)) → (due : Result (Option (Item × ℕ)) FrameError) → IsFrameDue bytes due → (a ≡ due) ⊎ (a ≡ Err OutOfMemory)
+pub only_due : OneAnswer → (bytes : List ℕ) → AreBytes bytes → (a : Result (Option (Item × ℕ)) FrameError)
+    → IfOk a (λ x. IsFrameDue bytes (Ok x)) → IfErr a (λ e. e ≢ OutOfMemory → IsFrameDue bytes (Err e))
+    → (due : Result (Option (Item × ℕ)) FrameError) → IsFrameDue bytes due → (a ≡ due) ⊎ (a ≡ Err OutOfMemory)
 only_due one bytes h a ok err due d = by a ok err
   where
     same : (b : Result (Option (Item × ℕ)) FrameError) → IsFrameDue bytes b → (b ≡ due) ⊎ (b ≡ Err OutOfMemory)
     same b p = let u = one bytes h in inl (u.2 b p ∙ sym (u.2 due d))
 
-    by : (b : Result (Option (Item × ℕ)) FrameError) → IfOk b (λ x. IsFrameDue bytes (Ok x)) → IfErr b (λ e. e ≢ OutOfMemory → IsFrameDue bytes (Err e)) → (b ≡ due) ⊎ (b ≡ Err OutOfMemory)
+    by : (b : Result (Option (Item × ℕ)) FrameError) → IfOk b (λ x. IsFrameDue bytes (Ok x))
+        → IfErr b (λ e. e ≢ OutOfMemory → IsFrameDue bytes (Err e)) → (b ≡ due) ⊎ (b ≡ Err OutOfMemory)
     by (Ok x) ok err = same (Ok x) ok
     by (Err NotPassThrough) ok err = same (Err NotPassThrough) (err (λ e. cc))
     by (Err BadControl) ok err = same (Err BadControl) (err (λ e. cc))

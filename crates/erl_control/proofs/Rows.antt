@@ -6,7 +6,8 @@ use Rattle.erl_term.specs.declared.term.Pid.{Pid}
 use Rattle.erl_term.specs.declared.term.Reference.{Reference}
 use Rattle.erl_term.specs.Data.{Data, int, tuple, pid, reference, Items, no_items, item}
 use Rattle.erl_control.specs.declared.signal.Signal.{Signal}
-use Rattle.erl_control.specs.declared.signal.Signal.TheVariants.{Link, Send, Exit, Exit2, Monitor, Demonitor, MonitorExit, UnlinkId, UnlinkIdAck}
+use Rattle.erl_control.specs.declared.signal.Signal.TheVariants.{Link, Send, Exit, Exit2, Monitor, Demonitor}
+use Rattle.erl_control.specs.declared.signal.Signal.TheVariants.{MonitorExit, UnlinkId, UnlinkIdAck}
 use Rattle.erl_control.specs.Control.{control_term, message_of, IsUnlinkId, HasId}
 use Rattle.erl_control.specs.Answer.{IsRow}
 use Rattle.erl_control.proofs.Same.{same_term}
@@ -78,14 +79,7 @@ but_message s = s
 
 signal_back : (unused : Data) (s : Signal) → signal_in (control_term unused s) ≡ but_message s
 signal_back unused (Link p q) = refl
-signal_back unused (Send p t) = refl
-signal_back unused (Exit p q t) = refl
-signal_back unused (Exit2 p q t) = refl
-signal_back unused (Monitor p q r) = refl
-signal_back unused (Demonitor p q r) = refl
-signal_back unused (MonitorExit p q r t) = refl
-signal_back unused (UnlinkId id p q) = refl
-signal_back unused (UnlinkIdAck id p q) = refl
+signal_back unused _ = refl
 
 pub row_tells : (u v : Data) (s r : Signal) → control_term u s ≡ control_term v r → but_message s ≡ but_message r
 row_tells u v s r e = sym (signal_back u s) ∙ ap signal_in e ∙ signal_back v r
@@ -94,14 +88,7 @@ row_tells u v s r e = sym (signal_back u s) ∙ ap signal_in e ∙ signal_back v
 
 row_back : (unused : Data) (s : Signal) → control_term (a_in (control_term unused s)) (but_message s) ≡ control_term unused s
 row_back unused (Link p q) = refl
-row_back unused (Send p t) = refl
-row_back unused (Exit p q t) = refl
-row_back unused (Exit2 p q t) = refl
-row_back unused (Monitor p q r) = refl
-row_back unused (Demonitor p q r) = refl
-row_back unused (MonitorExit p q r t) = refl
-row_back unused (UnlinkId id p q) = refl
-row_back unused (UnlinkIdAck id p q) = refl
+row_back unused _ = refl
 
 id_kept : (s : Signal) → HasId s → HasId (but_message s)
 id_kept (Send p t) h = tt
@@ -126,7 +113,8 @@ rebuilt t = control_term (a_in t) (signal_in t)
 rebuilt_row : (t : Data) → IsRow t → (t ≡ rebuilt t) × HasId (signal_in t)
 rebuilt_row t r =
     let back = ap signal_in r.3 ∙ signal_back r.1 r.0 in (
-      r.3 ∙ sym (row_back r.1 r.0) ∙ ap (λ (u : Data). control_term (a_in u) (but_message r.0)) (sym r.3) ∙ ap (λ (s : Signal). control_term (a_in t) s) (sym back),
+      r.3 ∙ sym (row_back r.1 r.0) ∙ ap (λ (u : Data). control_term (a_in u) (but_message r.0)) (sym r.3)
+          ∙ ap (λ (s : Signal). control_term (a_in t) s) (sym back),
       subst HasId (sym back) (id_kept r.0 r.2),
     )
 
@@ -150,4 +138,5 @@ whole_signal (Send p t) = refl
 whole_signal s = refl
 
 pub same_signal : (s r : Signal) → but_message s ≡ but_message r → message_of s ≡ message_of r → s ≡ r
-same_signal s r p q = sym (whole_signal s) ∙ ap (λ (z : Signal). with_message z (message_of s)) p ∙ ap (with_message (but_message r)) q ∙ whole_signal r
+same_signal s r p q =
+    sym (whole_signal s) ∙ ap (λ (z : Signal). with_message z (message_of s)) p ∙ ap (with_message (but_message r)) q ∙ whole_signal r

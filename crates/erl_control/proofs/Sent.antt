@@ -6,7 +6,8 @@ use Rattle.erl_control.specs.Control.{Carries, Fits, IsFit, IsSendable, control_
 use Rattle.erl_control.specs.Frame.{IsFramed, IsSignalText}
 use Rattle.erl_control.specs.declared.signal.Item.TheVariants.{Signal as SignalItem}
 use Rattle.erl_control.specs.declared.signal.Signal.{Signal}
-use Rattle.erl_control.specs.declared.signal.Signal.TheVariants.{Link, Send, Exit, Exit2, Monitor, Demonitor, MonitorExit, UnlinkId, UnlinkIdAck}
+use Rattle.erl_control.specs.declared.signal.Signal.TheVariants.{Link, Send, Exit, Exit2, Monitor, Demonitor}
+use Rattle.erl_control.specs.declared.signal.Signal.TheVariants.{MonitorExit, UnlinkId, UnlinkIdAck}
 use Rattle.erl_term.specs.Canonical.{IsInRange}
 use Rattle.erl_term.proofs.InRange.{spelled_in_range}
 
@@ -24,13 +25,10 @@ carried (Exit2 from to reason) text r short fit =
     (all.1.1.1.1.0, fit.0, fit.1)
 carried (MonitorExit from to reference reason) text r short fit =
     let e = ap length r.bytes in let both = length-append r.control r.message in
-    let all : IsInRange (control_term r.unused (MonitorExit from to reference reason)) = spelled_in_range 64 _ r.control r.spelled (omega arith) in
+    let all : IsInRange (control_term r.unused (MonitorExit from to reference reason)) =
+    spelled_in_range 64 _ r.control r.spelled (omega arith) in
     (all.1.1.1.1.1.0, fit.0, fit.1)
-carried (Link from to) text r short fit = tt
-carried (Monitor from to reference) text r short fit = tt
-carried (Demonitor from to reference) text r short fit = tt
-carried (UnlinkId id from to) text r short fit = tt
-carried (UnlinkIdAck id from to) text r short fit = tt
+carried _ text r short fit = tt
 
 pub framed_sendable : (s : Signal) (b : List ℕ) → IsFramed (SignalItem s) b → IsSendable s
 framed_sendable s b r = let short = r.short in (r.is_text.has_id, carried s r.text r.is_text (omega arith) r.fit)

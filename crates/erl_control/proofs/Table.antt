@@ -8,10 +8,12 @@ use Rattle.erl_term.specs.Data.{Data, int, tuple, pid, reference, Items, no_item
 use Rattle.erl_term.specs.Spelling.{SpellAll, Spells, IsSpelling}
 use Rattle.erl_term.proofs.Behind.{head_of, tuple_opened, tuple_closed}
 use Rattle.erl_control.specs.declared.signal.Signal.{Signal}
-use Rattle.erl_control.specs.declared.signal.Signal.TheVariants.{Link, Send, Exit, Exit2, Monitor, Demonitor, MonitorExit, UnlinkId, UnlinkIdAck}
+use Rattle.erl_control.specs.declared.signal.Signal.TheVariants.{Link, Send, Exit, Exit2, Monitor, Demonitor}
+use Rattle.erl_control.specs.declared.signal.Signal.TheVariants.{MonitorExit, UnlinkId, UnlinkIdAck}
 use Rattle.erl_control.specs.Control.{control_term, message_of, IsUnlinkId, HasId}
 use Rattle.erl_control.specs.Frame.{SpellsMessage, IsSignalText}
-use Rattle.erl_control.specs.Reading.{IsRowHead, ArePids, AreIdAndPids, ArePidsAndReason, ArePidsAndReference, AreMonitorExit, AreSend, IsSendText, tag_of, arity_of, AreFields}
+use Rattle.erl_control.specs.Reading.{IsRowHead, ArePids, AreIdAndPids, ArePidsAndReason, ArePidsAndReference}
+use Rattle.erl_control.specs.Reading.{AreMonitorExit, AreSend, IsSendText, tag_of, arity_of, AreFields}
 
 -- ---- fields in a row
 
@@ -43,7 +45,8 @@ two_from S t u ts b s = record {
   parts = s.4 ∙ ap (λ (w : List ℕ). s.0 ++ w) s.3.4 ∙ sym (append_assoc s.0 s.3.0 s.3.1);
 }
 
-two_to : (S : Data → List ℕ → Type 0) (t u : Data) (ts : Items) (b x y z : List ℕ) → S t x → S u y → SpellAll S ts z → b ≡ (x ++ y) ++ z → SpellAll S (item t (item u ts)) b
+two_to : (S : Data → List ℕ → Type 0) (t u : Data) (ts : Items) (b x y z : List ℕ) → S t x → S u y → SpellAll S ts z
+    → b ≡ (x ++ y) ++ z → SpellAll S (item t (item u ts)) b
 two_to S t u ts b x y z p q r e = (x, y ++ z, p, (y, z, q, r, refl), e ∙ append_assoc x y z)
 
 -- From and To, and what is behind them
@@ -54,7 +57,8 @@ record PidsThen (levels : ℕ) (p q : Pid) (ts : Items) (b : List ℕ) : Type 0 
   are_others : SpellAll (Spells levels) ts back
   parts : b ≡ front ++ back
 
-pids_from : (levels : ℕ) (p q : Pid) (ts : Items) (b : List ℕ) → SpellAll (Spells levels) (item (pid p) (item (pid q) ts)) b → PidsThen levels p q ts b
+pids_from : (levels : ℕ) (p q : Pid) (ts : Items) (b : List ℕ) → SpellAll (Spells levels) (item (pid p) (item (pid q) ts)) b
+    → PidsThen levels p q ts b
 pids_from levels p q ts b s =
     let w = two_from (Spells levels) (pid p) (pid q) ts b s in
     record {
@@ -65,7 +69,8 @@ pids_from levels p q ts b s =
       parts = w.parts;
     }
 
-pids_to : (levels : ℕ) (p q : Pid) (ts : Items) (b front back : List ℕ) → ArePids levels (p, q) front → SpellAll (Spells levels) ts back → b ≡ front ++ back → SpellAll (Spells levels) (item (pid p) (item (pid q) ts)) b
+pids_to : (levels : ℕ) (p q : Pid) (ts : Items) (b front back : List ℕ) → ArePids levels (p, q) front
+    → SpellAll (Spells levels) ts back → b ≡ front ++ back → SpellAll (Spells levels) (item (pid p) (item (pid q) ts)) b
 pids_to levels p q ts b front back s r e =
     two_to (Spells levels) (pid p) (pid q) ts b s.front s.back back s.is_front s.is_back r (e ∙ ap (λ (w : List ℕ). w ++ back) s.parts)
 
@@ -88,36 +93,15 @@ by_parts unused s = tuple (item (int (pos (tag_of s))) (fields_of unused s))
 
 row_parts : (unused : Data) (s : Signal) → control_term unused s ≡ by_parts unused s
 row_parts unused (Link p q) = refl
-row_parts unused (Send p t) = refl
-row_parts unused (Exit p q t) = refl
-row_parts unused (Exit2 p q t) = refl
-row_parts unused (Monitor p q r) = refl
-row_parts unused (Demonitor p q r) = refl
-row_parts unused (MonitorExit p q r t) = refl
-row_parts unused (UnlinkId id p q) = refl
-row_parts unused (UnlinkIdAck id p q) = refl
+row_parts unused _ = refl
 
 row_arity : (unused : Data) (s : Signal) → suc (count (fields_of unused s)) ≡ arity_of s
 row_arity unused (Link p q) = refl
-row_arity unused (Send p t) = refl
-row_arity unused (Exit p q t) = refl
-row_arity unused (Exit2 p q t) = refl
-row_arity unused (Monitor p q r) = refl
-row_arity unused (Demonitor p q r) = refl
-row_arity unused (MonitorExit p q r t) = refl
-row_arity unused (UnlinkId id p q) = refl
-row_arity unused (UnlinkIdAck id p q) = refl
+row_arity unused _ = refl
 
 row_tag : (s : Signal) → tag_of s < 2 ^ 64
 row_tag (Link p q) = omega arith
-row_tag (Send p t) = omega arith
-row_tag (Exit p q t) = omega arith
-row_tag (Exit2 p q t) = omega arith
-row_tag (Monitor p q r) = omega arith
-row_tag (Demonitor p q r) = omega arith
-row_tag (MonitorExit p q r t) = omega arith
-row_tag (UnlinkId id p q) = omega arith
-row_tag (UnlinkIdAck id p q) = omega arith
+row_tag _ = omega arith
 
 module _ (levels : ℕ) where
   two_pids_from : (p q : Pid) (b : List ℕ) → SpellAll (Spells levels) (item (pid p) (item (pid q) no_items)) b → ArePids levels (p, q) b
@@ -128,23 +112,44 @@ module _ (levels : ℕ) where
   two_pids_to : (p q : Pid) (b : List ℕ) → ArePids levels (p, q) b → SpellAll (Spells levels) (item (pid p) (item (pid q) no_items)) b
   two_pids_to p q b s = pids_to levels p q no_items b b [] s refl (sym (append-nil b))
 
-  exit_from : (p q : Pid) (t : Data) (b : List ℕ) → SpellAll (Spells levels) (item (pid p) (item (pid q) (item t no_items))) b → ArePidsAndReason levels ((p, q), t) b
+  exit_from : (p q : Pid) (t : Data) (b : List ℕ) → SpellAll (Spells levels) (item (pid p) (item (pid q) (item t no_items))) b
+      → ArePidsAndReason levels ((p, q), t) b
   exit_from p q t b s =
       let w = pids_from levels p q (item t no_items) b s in
-      record { front = w.front; back = w.back; is_front = w.are_pids; is_back = last_from (Spells levels) t w.back w.are_others; parts = w.parts }
+      record {
+        front = w.front;
+        back = w.back;
+        is_front = w.are_pids;
+        is_back = last_from (Spells levels) t w.back w.are_others;
+        parts = w.parts;
+      }
 
-  exit_to : (p q : Pid) (t : Data) (b : List ℕ) → ArePidsAndReason levels ((p, q), t) b → SpellAll (Spells levels) (item (pid p) (item (pid q) (item t no_items))) b
+  exit_to : (p q : Pid) (t : Data) (b : List ℕ) → ArePidsAndReason levels ((p, q), t) b
+      → SpellAll (Spells levels) (item (pid p) (item (pid q) (item t no_items))) b
   exit_to p q t b s = pids_to levels p q (item t no_items) b s.front s.back s.is_front (last_to (Spells levels) t s.back s.is_back) s.parts
 
-  monitor_from : (p q : Pid) (r : Reference) (b : List ℕ) → SpellAll (Spells levels) (item (pid p) (item (pid q) (item (reference r) no_items))) b → ArePidsAndReference levels ((p, q), r) b
+  monitor_from : (p q : Pid) (r : Reference) (b : List ℕ)
+      → SpellAll (Spells levels) (item (pid p) (item (pid q) (item (reference r) no_items))) b
+      → ArePidsAndReference levels ((p, q), r) b
   monitor_from p q r b s =
       let w = pids_from levels p q (item (reference r) no_items) b s in
-      record { front = w.front; back = w.back; is_front = w.are_pids; is_back = last_from (Spells levels) (reference r) w.back w.are_others; parts = w.parts }
+      record {
+        front = w.front;
+        back = w.back;
+        is_front = w.are_pids;
+        is_back = last_from (Spells levels) (reference r) w.back w.are_others;
+        parts = w.parts;
+      }
 
-  monitor_to : (p q : Pid) (r : Reference) (b : List ℕ) → ArePidsAndReference levels ((p, q), r) b → SpellAll (Spells levels) (item (pid p) (item (pid q) (item (reference r) no_items))) b
-  monitor_to p q r b s = pids_to levels p q (item (reference r) no_items) b s.front s.back s.is_front (last_to (Spells levels) (reference r) s.back s.is_back) s.parts
+  monitor_to : (p q : Pid) (r : Reference) (b : List ℕ) → ArePidsAndReference levels ((p, q), r) b
+      → SpellAll (Spells levels) (item (pid p) (item (pid q) (item (reference r) no_items))) b
+  monitor_to p q r b s =
+      pids_to levels p q (item (reference r) no_items) b s.front s.back s.is_front
+      (last_to (Spells levels) (reference r) s.back s.is_back) s.parts
 
-  monitor_exit_from : (p q : Pid) (r : Reference) (t : Data) (b : List ℕ) → SpellAll (Spells levels) (item (pid p) (item (pid q) (item (reference r) (item t no_items)))) b → AreMonitorExit levels (((p, q), r), t) b
+  monitor_exit_from : (p q : Pid) (r : Reference) (t : Data) (b : List ℕ)
+      → SpellAll (Spells levels) (item (pid p) (item (pid q) (item (reference r) (item t no_items)))) b
+      → AreMonitorExit levels (((p, q), r), t) b
   monitor_exit_from p q r t b s =
       let w = pids_from levels p q (item (reference r) (item t no_items)) b s in
       let o = w.are_others in
@@ -156,17 +161,21 @@ module _ (levels : ℕ) where
         parts = w.parts ∙ ap (λ (v : List ℕ). w.front ++ v) o.4 ∙ sym (append_assoc w.front o.0 o.1);
       }
 
-  monitor_exit_to : (p q : Pid) (r : Reference) (t : Data) (b : List ℕ) → AreMonitorExit levels (((p, q), r), t) b → SpellAll (Spells levels) (item (pid p) (item (pid q) (item (reference r) (item t no_items)))) b
+  monitor_exit_to : (p q : Pid) (r : Reference) (t : Data) (b : List ℕ) → AreMonitorExit levels (((p, q), r), t) b
+      → SpellAll (Spells levels) (item (pid p) (item (pid q) (item (reference r) (item t no_items)))) b
   monitor_exit_to p q r t b s =
       let f = s.is_front in
       pids_to levels p q (item (reference r) (item t no_items)) b f.front (f.back ++ s.back) f.is_front
       (f.back, s.back, f.is_back, last_to (Spells levels) t s.back s.is_back, refl)
       (s.parts ∙ ap (λ (v : List ℕ). v ++ s.back) f.parts ∙ append_assoc f.front f.back s.back)
 
-  unlink_from : (id : ℕ) (p q : Pid) (b : List ℕ) → IsUnlinkId id → SpellAll (Spells levels) (item (int (pos id)) (item (pid p) (item (pid q) no_items))) b → AreIdAndPids levels (id, (p, q)) b
+  unlink_from : (id : ℕ) (p q : Pid) (b : List ℕ) → IsUnlinkId id
+      → SpellAll (Spells levels) (item (int (pos id)) (item (pid p) (item (pid q) no_items))) b
+      → AreIdAndPids levels (id, (p, q)) b
   unlink_from id p q b u s = record { front = s.0; back = s.1; is_front = (u, s.2); is_back = two_pids_from p q s.1 s.3; parts = s.4 }
 
-  unlink_to : (id : ℕ) (p q : Pid) (b : List ℕ) → AreIdAndPids levels (id, (p, q)) b → SpellAll (Spells levels) (item (int (pos id)) (item (pid p) (item (pid q) no_items))) b
+  unlink_to : (id : ℕ) (p q : Pid) (b : List ℕ) → AreIdAndPids levels (id, (p, q)) b
+      → SpellAll (Spells levels) (item (int (pos id)) (item (pid p) (item (pid q) no_items))) b
   unlink_to id p q b s = (s.front, s.back, s.is_front.1, two_pids_to p q s.back s.is_back, s.parts)
 
   pub send_from : (t : Data) (p : Pid) (b : List ℕ) → SpellAll (Spells levels) (item t (item (pid p) no_items)) b → AreSend levels (t, p) b
@@ -179,16 +188,20 @@ module _ (levels : ℕ) where
   alone : (T : List ℕ → Type 0) (x message : List ℕ) → message ≡ [] → T x → T (x ++ message)
   alone T x message e s = subst T (sym (ap (λ (w : List ℕ). x ++ w) e ∙ append-nil x)) s
 
-  fields_from : (unused : Data) (s : Signal) (x message : List ℕ) → HasId s → SpellAll (Spells levels) (fields_of unused s) x → SpellsMessage (message_of s) message → AreFields levels s (x ++ message)
+  fields_from : (unused : Data) (s : Signal) (x message : List ℕ) → HasId s → SpellAll (Spells levels) (fields_of unused s) x
+      → SpellsMessage (message_of s) message → AreFields levels s (x ++ message)
   fields_from unused (Link p q) x message h s e = alone (AreFields levels (Link p q)) x message e (two_pids_from p q x s)
-  fields_from unused (Send p t) x message h s e = (unused, record { front = x; back = message; is_front = send_from unused p x s; is_back = e; parts = refl })
+  fields_from unused (Send p t) x message h s e =
+      (unused, record { front = x; back = message; is_front = send_from unused p x s; is_back = e; parts = refl })
   fields_from unused (Exit p q t) x message h s e = alone (AreFields levels (Exit p q t)) x message e (exit_from p q t x s)
   fields_from unused (Exit2 p q t) x message h s e = alone (AreFields levels (Exit2 p q t)) x message e (exit_from p q t x s)
   fields_from unused (Monitor p q r) x message h s e = alone (AreFields levels (Monitor p q r)) x message e (monitor_from p q r x s)
   fields_from unused (Demonitor p q r) x message h s e = alone (AreFields levels (Demonitor p q r)) x message e (monitor_from p q r x s)
-  fields_from unused (MonitorExit p q r t) x message h s e = alone (AreFields levels (MonitorExit p q r t)) x message e (monitor_exit_from p q r t x s)
+  fields_from unused (MonitorExit p q r t) x message h s e =
+      alone (AreFields levels (MonitorExit p q r t)) x message e (monitor_exit_from p q r t x s)
   fields_from unused (UnlinkId id p q) x message h s e = alone (AreFields levels (UnlinkId id p q)) x message e (unlink_from id p q x h s)
-  fields_from unused (UnlinkIdAck id p q) x message h s e = alone (AreFields levels (UnlinkIdAck id p q)) x message e (unlink_from id p q x h s)
+  fields_from unused (UnlinkIdAck id p q) x message h s e =
+      alone (AreFields levels (UnlinkIdAck id p q)) x message e (unlink_from id p q x h s)
 
   pub record Fields (s : Signal) (b : List ℕ) : Type 0 where
     pub unused : Data
@@ -199,14 +212,31 @@ module _ (levels : ℕ) where
     pub told : SpellsMessage (message_of s) message
     pub parts : b ≡ elements ++ message
 
-  abbrev lone : (s : Signal) (b : List ℕ) → HasId s → SpellAll (Spells levels) (fields_of (int (pos 0)) s) b → SpellsMessage (message_of s) [] → Fields s b
-  lone s b h all e = record { unused = int (pos 0); elements = b; message = []; has_id = h; spelled = all; told = e; parts = sym (append-nil b) }
+  abbrev lone : (s : Signal) (b : List ℕ) → HasId s → SpellAll (Spells levels) (fields_of (int (pos 0)) s) b
+      → SpellsMessage (message_of s) [] → Fields s b
+  lone s b h all e = record {
+    unused = int (pos 0);
+    elements = b;
+    message = [];
+    has_id = h;
+    spelled = all;
+    told = e;
+    parts = sym (append-nil b);
+  }
 
   fields_to : (s : Signal) (b : List ℕ) → AreFields levels s b → Fields s b
   fields_to (Link p q) b f = lone (Link p q) b tt (two_pids_to p q b f) refl
   fields_to (Send p t) b f =
       let g = f.1 in
-      record { unused = f.0; elements = g.front; message = g.back; has_id = tt; spelled = send_to f.0 p g.front g.is_front; told = g.is_back; parts = g.parts }
+      record {
+        unused = f.0;
+        elements = g.front;
+        message = g.back;
+        has_id = tt;
+        spelled = send_to f.0 p g.front g.is_front;
+        told = g.is_back;
+        parts = g.parts;
+      }
   fields_to (Exit p q t) b f = lone (Exit p q t) b tt (exit_to p q t b f) refl
   fields_to (Exit2 p q t) b f = lone (Exit2 p q t) b tt (exit_to p q t b f) refl
   fields_to (Monitor p q r) b f = lone (Monitor p q r) b tt (monitor_to p q r b f) refl
@@ -234,7 +264,13 @@ row_from tag ts b lt s =
       levels = o.below;
       front = 131 ∷ (o.head ++ e.0);
       fields = e.1;
-      is_front = record { front = 131 ∷ o.head; back = e.0; is_front = record { head = o.head; is_head = o.is_head; bytes = refl }; is_back = (lt, e.2); parts = refl };
+      is_front = record {
+        front = 131 ∷ o.head;
+        back = e.0;
+        is_front = record { head = o.head; is_head = o.is_head; bytes = refl };
+        is_back = (lt, e.2);
+        parts = refl;
+      };
       are_fields = e.3;
       parts = s.bytes ∙ ap (λ (w : List ℕ). 131 ∷ w) (o.parts ∙ ap (λ (w : List ℕ). o.head ++ w) e.4 ∙ sym (append_assoc o.head e.0 e.1));
     }
@@ -253,7 +289,8 @@ row_to tag ts b s =
         spelled = (f.back, s.fields, f.is_back.1, s.are_fields, refl);
         parts = refl;
       });
-      bytes = s.parts ∙ ap (λ (w : List ℕ). w ++ s.fields) (f.parts ∙ ap (λ (w : List ℕ). w ++ f.back) h.bytes) ∙ ap (λ (w : List ℕ). 131 ∷ w) (append_assoc h.head f.back s.fields);
+      bytes = s.parts ∙ ap (λ (w : List ℕ). w ++ s.fields) (f.parts ∙ ap (λ (w : List ℕ). w ++ f.back) h.bytes)
+          ∙ ap (λ (w : List ℕ). 131 ∷ w) (append_assoc h.head f.back s.fields);
     }
 
 -- ---- the text of a signal as the head of a row and what is behind it
@@ -268,7 +305,9 @@ pub record Shape (s : Signal) (b : List ℕ) : Type 0 where
 
 pub shape : (s : Signal) (b : List ℕ) → IsSignalText s b → Shape s b
 shape s b i =
-    let w = row_from (tag_of s) (fields_of i.unused s) i.control (row_tag s) (subst (λ (t : Data). IsSpelling 64 t i.control) (row_parts i.unused s) i.spelled) in
+    let w =
+    row_from (tag_of s) (fields_of i.unused s) i.control (row_tag s)
+    (subst (λ (t : Data). IsSpelling 64 t i.control) (row_parts i.unused s) i.spelled) in
     record {
       levels = w.levels;
       front = w.front;
@@ -294,7 +333,8 @@ unshape s b h =
       control = h.front ++ f.elements;
       message = f.message;
       has_id = f.has_id;
-      spelled = subst (λ (t : Data). IsSpelling 64 t (h.front ++ f.elements)) (sym (row_parts f.unused s)) (row_to (tag_of s) (fields_of f.unused s) (h.front ++ f.elements) row);
+      spelled = subst (λ (t : Data). IsSpelling 64 t (h.front ++ f.elements)) (sym (row_parts f.unused s))
+          (row_to (tag_of s) (fields_of f.unused s) (h.front ++ f.elements) row);
       told = f.told;
       bytes = h.parts ∙ ap (λ (w : List ℕ). h.front ++ w) f.parts ∙ sym (append_assoc h.front f.elements f.message);
     }

@@ -1,5 +1,6 @@
 -- What is due to the text of a signal.
-use Rattle.std.proofs.Common.{◌≡◌, ◌≢◌, ℕ, ◌≤◌, Bool, true, false, List, [], ◌∷◌, ◌++◌, length, take, drop, Option, Some, None, Result, Ok, Err, refl, sym, ap, subst, ◌∙◌, append_assoc, arith, ◌⊎◌, inl, inr}
+use Rattle.std.proofs.Common.{◌≡◌, ◌≢◌, ℕ, ◌≤◌, Bool, true, false, List, [], ◌∷◌, ◌++◌, length, take, drop, Option, Some}
+use Rattle.std.proofs.Common.{None, Result, Ok, Err, refl, sym, ap, subst, ◌∙◌, append_assoc, arith, ◌⊎◌, inl, inr}
 use Rattle.std.proofs.lemmas.Bool.{cases_lt}
 use Rattle.std.proofs.lemmas.List.{take_at, take-append-drop, length-append, append-nil, append_cancel_left}
 use Rattle.readers.specs.Reading.{AreBytes}
@@ -22,7 +23,8 @@ use Rattle.erl_control.proofs.Rows.{but_message, row_tells, same_signal, is_row}
 
 -- one answer is due to any bytes in which a term is looked for
 abbrev pub OneTerm : Type 0
-OneTerm = (bytes : List ℕ) → AreBytes bytes → (due : Result (Data × ℕ) TermError) × IsDue bytes due × ((other : Result (Data × ℕ) TermError) → IsDue bytes other → other ≡ due)
+OneTerm = (bytes : List ℕ) → AreBytes bytes → (due : Result (Data × ℕ) TermError) × IsDue bytes due
+    × ((other : Result (Data × ℕ) TermError) → IsDue bytes other → other ≡ due)
 
 abbrev pub OneSpelling : Type 0
 OneSpelling = (t u : Data) (a b x y : List ℕ) → IsSpelling 64 t a → IsSpelling 64 u b → a ++ x ≡ b ++ y → (t ≡ u) × (a ≡ b)
@@ -53,13 +55,15 @@ front_due t a rest s le =
     (record { within = omega arith; is_text = subst (IsSpelling 64 t) (sym (take_at a rest (length a) refl)) s }, omega arith)
 
 -- where a spelling stands at the front, no error is due
-never_fault : OneTerm → (t : Data) (text a rest : List ℕ) (e : TermError) → AreBytes text → length text ≤ limit → IsSpelling 64 t a → text ≡ a ++ rest → IsDue text (Err e) → ⊥
+never_fault : OneTerm → (t : Data) (text a rest : List ℕ) (e : TermError) → AreBytes text → length text ≤ limit
+    → IsSpelling 64 t a → text ≡ a ++ rest → IsDue text (Err e) → ⊥
 never_fault one t text a rest e h le s p d =
     let q = subst (λ w. IsDue w (Ok (t, length a))) (sym p) (front_due t a rest s (subst (λ w. length w ≤ limit) p le)) in
     ok_not_err (t, length a) e (term_once one text h (Ok (t, length a)) (Err e) q d)
 
 -- and no other term
-same_front : OneTerm → (t u : Data) (text a rest : List ℕ) (n : ℕ) → AreBytes text → length text ≤ limit → IsSpelling 64 t a → text ≡ a ++ rest → IsDue text (Ok (u, n)) → t ≡ u
+same_front : OneTerm → (t u : Data) (text a rest : List ℕ) (n : ℕ) → AreBytes text → length text ≤ limit → IsSpelling 64 t a
+    → text ≡ a ++ rest → IsDue text (Ok (u, n)) → t ≡ u
 same_front one t u text a rest n h le s p d =
     let q = subst (λ w. IsDue w (Ok (t, length a))) (sym p) (front_due t a rest s (subst (λ w. length w ≤ limit) p le)) in
     same_ok (t, length a) (u, n) (term_once one text h (Ok (t, length a)) (Ok (u, n)) q d)
@@ -70,7 +74,8 @@ has_message : Option Data → Bool
 has_message (Some t) = true
 has_message None = false
 
-messages : OneSpelling → (o p : Option Data) (m n x y : List ℕ) → SpellsMessage o m → SpellsMessage p n → has_message o ≡ has_message p → m ++ x ≡ n ++ y → (o ≡ p) × (m ≡ n)
+messages : OneSpelling → (o p : Option Data) (m n x y : List ℕ) → SpellsMessage o m → SpellsMessage p n
+    → has_message o ≡ has_message p → m ++ x ≡ n ++ y → (o ≡ p) × (m ≡ n)
 unfolding has_message
 messages one None None m n x y s r k e = (refl, s ∙ sym r)
 messages one (Some t) (Some u) m n x y s r k e = let q = one t u m n x y s r e in (ap (λ (z : Data). Some z) q.0, q.1)
@@ -101,13 +106,18 @@ opened s text front rest i p = record {
   parts = p ∙ ap (λ (w : List ℕ). w ++ rest) i.bytes ∙ append_assoc i.control i.message rest;
 }
 
-pub one_text : OneSpelling → (s r : Signal) (text a b x y : List ℕ) → IsSignalText s a → IsSignalText r b → text ≡ a ++ x → text ≡ b ++ y → (s ≡ r) × (a ≡ b)
+pub one_text : OneSpelling → (s r : Signal) (text a b x y : List ℕ) → IsSignalText s a → IsSignalText r b → text ≡ a ++ x
+    → text ≡ b ++ y → (s ≡ r) × (a ≡ b)
 one_text one s r text a b x y i j p q =
     let m = opened s text a x i p in
     let n = opened r text b y j q in
-    let k = one (control_term m.unused s) (control_term n.unused r) m.control n.control (m.message ++ x) (n.message ++ y) m.spelled n.spelled (sym m.parts ∙ n.parts) in
+    let k =
+    one (control_term m.unused s) (control_term n.unused r) m.control n.control (m.message ++ x)
+    (n.message ++ y) m.spelled n.spelled (sym m.parts ∙ n.parts) in
     let same = row_tells m.unused n.unused s r k.0 in
-    let behind : m.message ++ x ≡ n.message ++ y = append_cancel_left m.control (m.message ++ x) (n.message ++ y) (sym m.parts ∙ n.parts ∙ ap (λ (w : List ℕ). w ++ (n.message ++ y)) (sym k.1)) in
+    let behind : m.message ++ x ≡ n.message ++ y =
+    append_cancel_left m.control (m.message ++ x) (n.message ++ y)
+    (sym m.parts ∙ n.parts ∙ ap (λ (w : List ℕ). w ++ (n.message ++ y)) (sym k.1)) in
     let wants = wants_message s ∙ ap (λ (z : Signal). has_message (message_of z)) same ∙ sym (wants_message r) in
     let told = messages one (message_of s) (message_of r) m.message n.message x y m.told n.told wants behind in (
       same_signal s r same told.0,
@@ -153,14 +163,21 @@ module _ (term : OneTerm) (one : OneSpelling) (text : List ℕ) (h : AreBytes te
   -- a signal's text at the front has no fault
   no_message_fault : (s : Signal) (e : TermError) (rest : List ℕ) → Opened s text rest → IsMessageFault text e → ⊥
   no_message_fault s e rest o f =
-      let k = one (control_term o.unused s) (send_term f.unused f.to) o.control f.control (o.message ++ rest) f.message o.spelled f.spelled (sym o.parts ∙ f.parts) in
+      let k =
+      one (control_term o.unused s) (send_term f.unused f.to) o.control f.control
+      (o.message ++ rest) f.message o.spelled f.spelled (sym o.parts ∙ f.parts) in
       let sent = send_at_front s o.unused f.unused f.to k.0 in
-      let behind : f.message ≡ o.message ++ rest = append_cancel_left f.control f.message (o.message ++ rest) (sym f.parts ∙ o.parts ∙ ap (λ (w : List ℕ). w ++ (o.message ++ rest)) k.1) in
+      let behind : f.message ≡ o.message ++ rest =
+      append_cancel_left f.control f.message (o.message ++ rest)
+      (sym f.parts ∙ o.parts ∙ ap (λ (w : List ℕ). w ++ (o.message ++ rest)) k.1) in
       let told : IsSpelling 64 sent.0 o.message = subst (λ (z : Signal). SpellsMessage (message_of z) o.message) sent.1 o.told in
-      never_fault term sent.0 f.message o.message rest e (message_fits f.control f.message f.parts) (message_short f.control f.message f.parts) told behind f.fault
+      never_fault term sent.0 f.message o.message rest e (message_fits f.control f.message f.parts)
+      (message_short f.control f.message f.parts) told behind f.fault
 
   no_fault : (s : Signal) (e : TermError) (front rest : List ℕ) → IsSignalText s front → text ≡ front ++ rest → IsTermFault text e → ⊥
-  no_fault s e front rest i p (inl d) = let o = opened s text front rest i p in never_fault term (control_term o.unused s) text o.control (o.message ++ rest) e h le o.spelled o.parts d
+  no_fault s e front rest i p (inl d) =
+      let o = opened s text front rest i p in
+      never_fault term (control_term o.unused s) text o.control (o.message ++ rest) e h le o.spelled o.parts d
   no_fault s e front rest i p (inr f) = no_message_fault s e rest (opened s text front rest i p) f
 
   is_a_row : (s : Signal) (front rest : List ℕ) → IsSignalText s front → text ≡ front ++ rest → IsNoRow text → ⊥
@@ -175,9 +192,13 @@ module _ (term : OneTerm) (one : OneSpelling) (text : List ℕ) (h : AreBytes te
   same_fault e f (inl d) (inr c) = absurd (never_fault term (send_term c.unused c.to) text c.control c.message e h le c.spelled c.parts d)
   same_fault e f (inr d) (inl c) = absurd (never_fault term (send_term d.unused d.to) text d.control d.message f h le d.spelled d.parts c)
   same_fault e f (inr d) (inr c) =
-      let k = one (send_term d.unused d.to) (send_term c.unused c.to) d.control c.control d.message c.message d.spelled c.spelled (sym d.parts ∙ c.parts) in
-      let behind : d.message ≡ c.message = append_cancel_left d.control d.message c.message (sym d.parts ∙ c.parts ∙ ap (λ (w : List ℕ). w ++ c.message) (sym k.1)) in
-      same_err e f (term_once term c.message (message_fits c.control c.message c.parts) (Err e) (Err f) (subst (λ w. IsDue w (Err e)) behind d.fault) c.fault)
+      let k =
+      one (send_term d.unused d.to) (send_term c.unused c.to) d.control c.control d.message c.message d.spelled c.spelled
+      (sym d.parts ∙ c.parts) in
+      let behind : d.message ≡ c.message =
+      append_cancel_left d.control d.message c.message (sym d.parts ∙ c.parts ∙ ap (λ (w : List ℕ). w ++ c.message) (sym k.1)) in
+      same_err e f (term_once term c.message (message_fits c.control c.message c.parts) (Err e) (Err f)
+      (subst (λ w. IsDue w (Err e)) behind d.fault) c.fault)
 
   fault_is_row : (e : TermError) → IsTermFault text e → IsNoRow text → ⊥
   fault_is_row e (inl d) c = ok_not_err (c.0, c.1) e (term_once term text h (Ok (c.0, c.1)) (Err e) c.2 d)
@@ -223,7 +244,8 @@ fit_or_not : (t : Data) → IsFit t ⊎ (¬ IsFit t)
 fit_or_not t =
     elim (cases_lt 60 (levels_of t)) [
       | inl deep ↦ inr (λ f. let l = f.0 in omega arith)
-      | inr few ↦ elim (cases_lt 60000 (length (canonical t))) [ inl long ↦ inr (λ f. let l = f.1 in omega arith) | inr short ↦ inl (few, short) ]
+      | inr few ↦
+          elim (cases_lt 60000 (length (canonical t))) [ inl long ↦ inr (λ f. let l = f.1 in omega arith) | inr short ↦ inl (few, short) ]
     ]
 
 carries_or_not : (s : Signal) → Carries IsFit s ⊎ (¬ Carries IsFit s)
@@ -236,13 +258,15 @@ carries_or_not s = inl tt
 whole_text : (s : Signal) (text front : List ℕ) → IsSignalText s front → text ≡ front ++ [] → IsSignalText s text
 whole_text s text front i p = subst (IsSignalText s) (sym (p ∙ append-nil front)) i
 
-judge : (s : Signal) (text front rest : List ℕ) → IsSignalText s front → text ≡ front ++ rest → (Carries IsFit s ⊎ (¬ Carries IsFit s)) → SomeText text
+judge : (s : Signal) (text front rest : List ℕ) → IsSignalText s front → text ≡ front ++ rest
+    → (Carries IsFit s ⊎ (¬ Carries IsFit s)) → SomeText text
 judge s text front [] i p (inl c) = (Ok s, (whole_text s text front i p, c))
 judge s text front [] i p (inr f) = (Err TooLong, (s, whole_text s text front i p, f))
 judge s text front (b ∷ rest) i p c = (Err BadControl, inr (s, front, b ∷ rest, i, (λ e. cc), p))
 
 -- a row at the front, and what is behind it
-row_text : OneTerm → (text control rest : List ℕ) (s : Signal) (unused : Data) → AreBytes text → HasId s → IsSpelling 64 (control_term unused s) control → text ≡ control ++ rest → SomeText text
+row_text : OneTerm → (text control rest : List ℕ) (s : Signal) (unused : Data) → AreBytes text → HasId s
+    → IsSpelling 64 (control_term unused s) control → text ≡ control ++ rest → SomeText text
 row_text one text control rest (Send to m) unused h i s p = by (one rest (AreBytes-rest control rest (subst AreBytes p h)))
   where
     told : (t : Data) (n : ℕ) → IsDue rest (Ok (t, n)) → SomeText text
@@ -255,23 +279,36 @@ row_text one text control rest (Send to m) unused h i s p = by (one rest (AreByt
 
     on : (due : Result (Data × ℕ) TermError) → IsDue rest due → SomeText text
     on (Ok x) d = told x.0 x.1 d
-    on (Err e) d = (Err (Term e), inr (record { unused = unused; to = to; control = control; message = rest; spelled = s; fault = d; parts = p }))
+    on (Err e) d =
+        (Err (Term e), inr (record { unused = unused; to = to; control = control; message = rest; spelled = s; fault = d; parts = p }))
 
-    by : (due : Result (Data × ℕ) TermError) × IsDue rest due × ((other : Result (Data × ℕ) TermError) → IsDue rest other → other ≡ due) → SomeText text
+    by : (due : Result (Data × ℕ) TermError) × IsDue rest due
+        × ((other : Result (Data × ℕ) TermError) → IsDue rest other → other ≡ due) → SomeText text
     by d = on d.0 d.1
 row_text one text control rest z unused h i s p =
-    judge z text control rest (record { unused = unused; control = control; message = []; has_id = i; spelled = s; told = refl; bytes = sym (append-nil control) }) p (carries_or_not z)
+    judge z text control rest (record {
+      unused = unused;
+      control = control;
+      message = [];
+      has_id = i;
+      spelled = s;
+      told = refl;
+      bytes = sym (append-nil control);
+    }) p (carries_or_not z)
 
 pub some_text : OneTerm → (text : List ℕ) → AreBytes text → SomeText text
 some_text one text h = by (one text h)
   where
     row : (t : Data) (n : ℕ) → IsDue text (Ok (t, n)) → (IsRow t ⊎ (¬ IsRow t)) → SomeText text
     row t n d (inr free) = (Err BadControl, inl (t, n, d, free))
-    row t n d (inl r) = row_text one text (take n text) (drop n text) r.0 r.1 h r.2 (subst (λ (u : Data). IsSpelling 64 u (take n text)) r.3 d.0.is_text) (sym (take-append-drop n text))
+    row t n d (inl r) =
+        row_text one text (take n text) (drop n text) r.0 r.1 h r.2
+        (subst (λ (u : Data). IsSpelling 64 u (take n text)) r.3 d.0.is_text) (sym (take-append-drop n text))
 
     on : (due : Result (Data × ℕ) TermError) → IsDue text due → SomeText text
     on (Ok x) d = row x.0 x.1 d (is_row x.0)
     on (Err e) d = (Err (Term e), inl d)
 
-    by : (due : Result (Data × ℕ) TermError) × IsDue text due × ((other : Result (Data × ℕ) TermError) → IsDue text other → other ≡ due) → SomeText text
+    by : (due : Result (Data × ℕ) TermError) × IsDue text due
+        × ((other : Result (Data × ℕ) TermError) → IsDue text other → other ≡ due) → SomeText text
     by d = on d.0 d.1

@@ -6,7 +6,8 @@ use Rattle.erl_term.specs.Data.{Data, int, tuple, pid, reference}
 use Rattle.erl_term.specs.View.{items_of}
 use Rattle.erl_term.specs.Canonical.{canonical, levels_of, IsWithin}
 use Rattle.erl_control.specs.declared.signal.Signal.{Signal}
-use Rattle.erl_control.specs.declared.signal.Signal.TheVariants.{Link, Send, Exit, Exit2, Monitor, Demonitor, MonitorExit, UnlinkId, UnlinkIdAck}
+use Rattle.erl_control.specs.declared.signal.Signal.TheVariants.{Link, Send, Exit, Exit2, Monitor, Demonitor}
+use Rattle.erl_control.specs.declared.signal.Signal.TheVariants.{MonitorExit, UnlinkId, UnlinkIdAck}
 
 abbrev pub row : ℕ → List Data → Data
 row tag fields = tuple (items_of (int (pos tag) ∷ fields))

@@ -20,7 +20,8 @@ abbrev pub is_pid_in_range : Pid → Bool
 is_pid_in_range p = is_atom_text p.node && are_below (2 ^ 32) (p.id ∷ p.serial ∷ p.creation ∷ [])
 
 abbrev pub is_reference_in_range : Reference → Bool
-is_reference_in_range r = is_atom_text r.node && (are_below (2 ^ 32) (r.creation ∷ r.words) && (nat_le 1 (length r.words) && nat_le (length r.words) 5))
+is_reference_in_range r =
+    is_atom_text r.node && (are_below (2 ^ 32) (r.creation ∷ r.words) && (nat_le 1 (length r.words) && nat_le (length r.words) 5))
 
 -- a value of the profile
 abbrev mutual
@@ -29,7 +30,8 @@ abbrev mutual
   is_in_range (atom text) = is_atom_text text
   is_in_range (tuple ts) = nat_lt (count ts) (2 ^ 32) && are_in_range ts
   is_in_range (list ts) = nat_lt (count ts) (2 ^ 32) && are_in_range ts
-  is_in_range (improper ts t) = nat_lt 0 (count ts) && (nat_lt (count ts) (2 ^ 32) && (not (is_list t) && (are_in_range ts && is_in_range t)))
+  is_in_range (improper ts t) =
+      nat_lt 0 (count ts) && (nat_lt (count ts) (2 ^ 32) && (not (is_list t) && (are_in_range ts && is_in_range t)))
   is_in_range (binary bytes) = are_below 256 bytes && nat_lt (length bytes) (2 ^ 32)
   is_in_range (pid p) = is_pid_in_range p
   is_in_range (reference r) = is_reference_in_range r

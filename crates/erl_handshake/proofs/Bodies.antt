@@ -1,13 +1,12 @@
 -- The bodies of messages: what a body with a letter in front is, and that a body is of one message.
-use Rattle.std.proofs.Common.{Bool, true, false, ◌||◌, ◌&&◌, ◌==◌, nat_le, get_or, rules, if◌then◌else◌, codes, ◌≡◌, ℕ, ◌<◌, ◌≤◌, ◌^◌, List, [], ◌∷◌, ◌++◌, length, drop, ap, sym, refl, subst, ◌∙◌, append_assoc, arith, ◌⊎◌, inl, inr}
+use Rattle.std.proofs.Common.{Bool, true, false, ◌||◌, ◌&&◌, ◌==◌, nat_le, get_or, rules, if◌then◌else◌, codes, ◌≡◌, ℕ, ◌<◌, ◌≤◌}
+use Rattle.std.proofs.Common.{◌^◌, List, [], ◌∷◌, ◌++◌, length, drop, ap, sym, refl, subst, ◌∙◌, append_assoc, arith, ◌⊎◌, inl, inr}
 use Rattle.std.proofs.lemmas.List.{append-nil}
 use Rattle.std.specs.Str.{bytes_eq, IsUtf8, IsAscii}
-use Rattle.std.proofs.lemmas.Str.{IsUtf8-from_ascii}
-use Rattle.std.specs.Int.{to_be_bytes, w32, w64}
-use Rattle.std.specs.Int.{is_in_range}
+use Rattle.std.proofs.lemmas.Str.{IsUtf8-from_ascii, IsAscii-append}
+use Rattle.std.specs.Int.{to_be_bytes, w32, w64, is_in_range}
 use Rattle.std.specs.Char.{is_ascii_alphanumeric}
-use Rattle.std.proofs.lemmas.Bool.{eqb-true, leb-true}
-use Rattle.std.proofs.lemmas.Str.{IsAscii-append}
+use Rattle.std.proofs.lemmas.Bool.{eqb-true, leb-true, or_cases}
 use Rattle.std.proofs.lemmas.Str.Ascii.{IsAscii-from_all}
 use Rattle.erl_names.specs.Name.{IsNodeName, IsWord, is_name_byte, is_host_byte}
 use Rattle.erl_handshake.specs.declared.status.Status.{Status as TheStatus}
@@ -107,7 +106,8 @@ challenge_is (Challenge flags challenge creation name) bytes b = record {
   challenge_fits = b.has_fields.1;
   creation_fits = b.has_fields.2;
   has_name = record { rest = b.rest; is_name = b.has_fields.3; parts = refl };
-  parts = behind bytes _ b.parts ∙ four (to_be_bytes w64 flags) (to_be_bytes w32 challenge) (to_be_bytes w32 creation) (counted name) b.rest;
+  parts =
+      behind bytes _ b.parts ∙ four (to_be_bytes w64 flags) (to_be_bytes w32 challenge) (to_be_bytes w32 creation) (counted name) b.rest;
   message_is = refl;
 }
 challenge_is (ChallengeReply challenge digest) bytes b = absurd (let e : 78 ≡ 114 = same_letter 78 114 bytes _ b.parts in omega arith)
@@ -118,15 +118,21 @@ with_none a rest e = ap (λ (w : List ℕ). a ++ w) e ∙ append-nil a
 
 pub status_is : (role : Role) (message : ShakeMsg) (bytes : List ℕ) → IsBody role message (115 ∷ bytes) → IsStatus message bytes
 status_is role (SendName flags creation name) bytes b = absurd (let e : 115 ≡ 78 = same_letter 115 78 bytes _ b.parts in omega arith)
-status_is role (Status s) bytes b = record { status = s; parts = behind bytes _ b.parts ∙ with_none (status_text s) b.rest b.may_follow; message_is = refl }
-status_is role (Challenge flags challenge creation name) bytes b = absurd (let e : 115 ≡ 78 = same_letter 115 78 bytes _ b.parts in omega arith)
+status_is role (Status s) bytes b = record {
+  status = s;
+  parts = behind bytes _ b.parts ∙ with_none (status_text s) b.rest b.may_follow;
+  message_is = refl;
+}
+status_is role (Challenge flags challenge creation name) bytes b =
+    absurd (let e : 115 ≡ 78 = same_letter 115 78 bytes _ b.parts in omega arith)
 status_is role (ChallengeReply challenge digest) bytes b = absurd (let e : 115 ≡ 114 = same_letter 115 114 bytes _ b.parts in omega arith)
 status_is role (ChallengeAck digest) bytes b = absurd (let e : 115 ≡ 97 = same_letter 115 97 bytes _ b.parts in omega arith)
 
 pub reply_is : (role : Role) (message : ShakeMsg) (bytes : List ℕ) → IsBody role message (114 ∷ bytes) → IsReply message bytes
 reply_is role (SendName flags creation name) bytes b = absurd (let e : 114 ≡ 78 = same_letter 114 78 bytes _ b.parts in omega arith)
 reply_is role (Status s) bytes b = absurd (let e : 114 ≡ 115 = same_letter 114 115 bytes _ b.parts in omega arith)
-reply_is role (Challenge flags challenge creation name) bytes b = absurd (let e : 114 ≡ 78 = same_letter 114 78 bytes _ b.parts in omega arith)
+reply_is role (Challenge flags challenge creation name) bytes b =
+    absurd (let e : 114 ≡ 78 = same_letter 114 78 bytes _ b.parts in omega arith)
 reply_is role (ChallengeReply challenge digest) bytes b = record {
   challenge = challenge;
   digest = digest;
@@ -148,35 +154,64 @@ ack_is role (ChallengeAck digest) bytes b =
 
 -- ---- and back
 
-pub send_name_body : (flags creation : ℕ) (name tail bytes : List ℕ) → flags < 2 ^ 64 → creation < 2 ^ 32 → BeginsWithName tail name → bytes ≡ to_be_bytes w64 flags ++ (to_be_bytes w32 creation ++ tail) → IsBody Acceptor (SendName flags creation name) (78 ∷ bytes)
+pub send_name_body : (flags creation : ℕ) (name tail bytes : List ℕ) → flags < 2 ^ 64 → creation < 2 ^ 32
+    → BeginsWithName tail name → bytes ≡ to_be_bytes w64 flags ++ (to_be_bytes w32 creation ++ tail)
+    → IsBody Acceptor (SendName flags creation name) (78 ∷ bytes)
 send_name_body flags creation name tail bytes p q n e = record {
   rest = n.rest;
   has_fields = (p, q, n.is_name);
   is_for = refl;
   may_follow = tt;
-  parts = ap (λ (w : List ℕ). 78 ∷ w) (e ∙ ap (λ (w : List ℕ). to_be_bytes w64 flags ++ (to_be_bytes w32 creation ++ w)) n.parts ∙ sym (three (to_be_bytes w64 flags) (to_be_bytes w32 creation) (counted name) n.rest));
+  parts = ap (λ (w : List ℕ). 78 ∷ w) (e
+      ∙ ap (λ (w : List ℕ). to_be_bytes w64 flags ++ (to_be_bytes w32 creation ++ w)) n.parts
+      ∙ sym (three (to_be_bytes w64 flags) (to_be_bytes w32 creation) (counted name) n.rest));
 }
 
-pub challenge_body : (flags challenge creation : ℕ) (name tail bytes : List ℕ) → flags < 2 ^ 64 → challenge < 2 ^ 32 → creation < 2 ^ 32 → BeginsWithName tail name → bytes ≡ to_be_bytes w64 flags ++ (to_be_bytes w32 challenge ++ (to_be_bytes w32 creation ++ tail)) → IsBody Dialer (Challenge flags challenge creation name) (78 ∷ bytes)
+pub challenge_body : (flags challenge creation : ℕ) (name tail bytes : List ℕ) → flags < 2 ^ 64 → challenge < 2 ^ 32
+    → creation < 2 ^ 32 → BeginsWithName tail name
+    → bytes ≡ to_be_bytes w64 flags ++ (to_be_bytes w32 challenge ++ (to_be_bytes w32 creation ++ tail))
+    → IsBody Dialer (Challenge flags challenge creation name) (78 ∷ bytes)
 challenge_body flags challenge creation name tail bytes p q r n e = record {
   rest = n.rest;
   has_fields = (p, q, r, n.is_name);
   is_for = refl;
   may_follow = tt;
-  parts = ap (λ (w : List ℕ). 78 ∷ w) (e ∙ ap (λ (w : List ℕ). to_be_bytes w64 flags ++ (to_be_bytes w32 challenge ++ (to_be_bytes w32 creation ++ w))) n.parts ∙ sym (four (to_be_bytes w64 flags) (to_be_bytes w32 challenge) (to_be_bytes w32 creation) (counted name) n.rest));
+  parts = ap (λ (w : List ℕ). 78 ∷ w) (e
+      ∙ ap (λ (w : List ℕ). to_be_bytes w64 flags ++ (to_be_bytes w32 challenge ++ (to_be_bytes w32 creation ++ w))) n.parts
+      ∙ sym (four (to_be_bytes w64 flags) (to_be_bytes w32 challenge) (to_be_bytes w32 creation) (counted name) n.rest));
 }
 
 pub status_body : (role : Role) (s : TheStatus) (bytes : List ℕ) → bytes ≡ status_text s → IsBody role (Status s) (115 ∷ bytes)
-status_body role s bytes e = record { rest = []; has_fields = tt; is_for = tt; may_follow = refl; parts = ap (λ (w : List ℕ). 115 ∷ w) (e ∙ sym (append-nil (status_text s))) }
+status_body role s bytes e = record {
+  rest = [];
+  has_fields = tt;
+  is_for = tt;
+  may_follow = refl;
+  parts = ap (λ (w : List ℕ). 115 ∷ w) (e ∙ sym (append-nil (status_text s)));
+}
 
-pub reply_body : (role : Role) (challenge : ℕ) (digest bytes : List ℕ) → challenge < 2 ^ 32 → length digest ≡ 16 → bytes ≡ to_be_bytes w32 challenge ++ digest → IsBody role (ChallengeReply challenge digest) (114 ∷ bytes)
-reply_body role challenge digest bytes p l e = record { rest = []; has_fields = (p, l); is_for = tt; may_follow = refl; parts = ap (λ (w : List ℕ). 114 ∷ w) (e ∙ sym (append-nil (to_be_bytes w32 challenge ++ digest))) }
+pub reply_body : (role : Role) (challenge : ℕ) (digest bytes : List ℕ) → challenge < 2 ^ 32 → length digest ≡ 16
+    → bytes ≡ to_be_bytes w32 challenge ++ digest → IsBody role (ChallengeReply challenge digest) (114 ∷ bytes)
+reply_body role challenge digest bytes p l e = record {
+  rest = [];
+  has_fields = (p, l);
+  is_for = tt;
+  may_follow = refl;
+  parts = ap (λ (w : List ℕ). 114 ∷ w) (e ∙ sym (append-nil (to_be_bytes w32 challenge ++ digest)));
+}
 
 pub ack_body : (role : Role) (digest : List ℕ) → length digest ≡ 16 → IsBody role (ChallengeAck digest) (97 ∷ digest)
-ack_body role digest l = record { rest = []; has_fields = l; is_for = tt; may_follow = refl; parts = ap (λ (w : List ℕ). 97 ∷ w) (sym (append-nil digest)) }
+ack_body role digest l = record {
+  rest = [];
+  has_fields = l;
+  is_for = tt;
+  may_follow = refl;
+  parts = ap (λ (w : List ℕ). 97 ∷ w) (sym (append-nil digest));
+}
 
 -- a send_name has its name, and a name makes a send_name
-pub send_name_named : (flags creation : ℕ) (tail bytes : List ℕ) → flags < 2 ^ 64 → creation < 2 ^ 32 → bytes ≡ to_be_bytes w64 flags ++ (to_be_bytes w32 creation ++ tail)
+pub send_name_named : (flags creation : ℕ) (tail bytes : List ℕ) → flags < 2 ^ 64 → creation < 2 ^ 32
+    → bytes ≡ to_be_bytes w64 flags ++ (to_be_bytes w32 creation ++ tail)
     → (m : ShakeMsg) → IsBody Acceptor m (78 ∷ bytes) → (name : List ℕ) × BeginsWithName tail name
 send_name_named flags creation tail bytes p q e m b =
     let s = send_name_is m bytes b in
@@ -184,7 +219,8 @@ send_name_named flags creation tail bytes p q e m b =
     let c = one_number_4 s.creation creation _ _ s.creation_fits q f.1 in
     (s.name, subst (λ (w : List ℕ). BeginsWithName w s.name) c.1 s.has_name)
 
-pub challenge_named : (flags challenge creation : ℕ) (tail bytes : List ℕ) → flags < 2 ^ 64 → challenge < 2 ^ 32 → creation < 2 ^ 32 → bytes ≡ to_be_bytes w64 flags ++ (to_be_bytes w32 challenge ++ (to_be_bytes w32 creation ++ tail))
+pub challenge_named : (flags challenge creation : ℕ) (tail bytes : List ℕ) → flags < 2 ^ 64 → challenge < 2 ^ 32
+    → creation < 2 ^ 32 → bytes ≡ to_be_bytes w64 flags ++ (to_be_bytes w32 challenge ++ (to_be_bytes w32 creation ++ tail))
     → (m : ShakeMsg) → IsBody Dialer m (78 ∷ bytes) → (name : List ℕ) × BeginsWithName tail name
 challenge_named flags challenge creation tail bytes p q r e m b =
     let s = challenge_is m bytes b in
@@ -203,10 +239,6 @@ one_name tail a b p q = (one_counted a b p.rest q.rest (short_name a p.is_name) 
 
 -- ---- names
 
-either : (a b : Bool) → (a || b) ≡ true → (a ≡ true) ⊎ (b ≡ true)
-either true b e = inl refl
-either false b e = inr e
-
 second : (a b : Bool) → (a && b) ≡ true → b ≡ true
 second true b e = e
 second false b e = cc
@@ -216,9 +248,9 @@ range_low lo hi c e = leb-true c hi (second (nat_le lo c) (nat_le c hi) e)
 
 alphanumeric_low : (c : ℕ) → is_ascii_alphanumeric c ≡ true → c < 128
 alphanumeric_low c e =
-    elim (either (is_in_range 48 57 c || is_in_range 65 90 c) (is_in_range 97 122 c) e) [
+    elim (or_cases (is_in_range 48 57 c || is_in_range 65 90 c) (is_in_range 97 122 c) e) [
       | inl p ↦
-          elim (either (is_in_range 48 57 c) (is_in_range 65 90 c) p) [
+          elim (or_cases (is_in_range 48 57 c) (is_in_range 65 90 c) p) [
             | inl q ↦ omega (arith, range_low 48 57 c q)
             | inr q ↦ omega (arith, range_low 65 90 c q)
           ]
@@ -227,21 +259,23 @@ alphanumeric_low c e =
 
 name_byte_low : (c : ℕ) → is_name_byte c ≡ true → c < 128
 name_byte_low c e =
-    elim (either (is_ascii_alphanumeric c) (c == 95 || c == 45) e) [
+    elim (or_cases (is_ascii_alphanumeric c) (c == 95 || c == 45) e) [
       | inl p ↦ alphanumeric_low c p
-      | inr p ↦ elim (either (c == 95) (c == 45) p) [ inl q ↦ omega (arith, eqb-true c 95 q) | inr q ↦ omega (arith, eqb-true c 45 q) ]
+      | inr p ↦ elim (or_cases (c == 95) (c == 45) p) [ inl q ↦ omega (arith, eqb-true c 95 q) | inr q ↦ omega (arith, eqb-true c 45 q) ]
     ]
 
 host_byte_low : (c : ℕ) → is_host_byte c ≡ true → c < 128
 host_byte_low c e =
-    elim (either (is_name_byte c) (c == 46) e) [ inl p ↦ name_byte_low c p | inr q ↦ omega (arith, eqb-true c 46 q) ]
+    elim (or_cases (is_name_byte c) (c == 46) e) [ inl p ↦ name_byte_low c p | inr q ↦ omega (arith, eqb-true c 46 q) ]
 
 word_ascii : (passes : ℕ → Bool) → ((c : ℕ) → passes c ≡ true → c < 128) → (word : List ℕ) → IsWord passes word → IsAscii word
 word_ascii passes low word w = IsAscii-from_all word (λ i d lt. low (get_or word i d) (w.1 i d lt))
 
 name_ascii : (name : List ℕ) → IsNodeName name → IsAscii name
 name_ascii name n =
-    let host : IsAscii (64 ∷ n.host) = IsAscii-append (64 ∷ []) n.host (IsAscii-from_all (64 ∷ []) (search rules)) (word_ascii is_host_byte host_byte_low n.host n.host_word) in
+    let host : IsAscii (64 ∷ n.host) =
+    IsAscii-append (64 ∷ []) n.host (IsAscii-from_all (64 ∷ []) (search rules))
+    (word_ascii is_host_byte host_byte_low n.host n.host_word) in
     subst IsAscii (sym n.parts) (IsAscii-append n.name (64 ∷ n.host) (word_ascii is_name_byte name_byte_low n.name n.name_word) host)
 
 -- the name in front of bytes is the text that is counted there
@@ -252,10 +286,15 @@ pub no_name : (bytes text name : List ℕ) → HasBody bytes text → ¬ IsNodeN
 no_name bytes text name h none n = none (subst IsNodeName (name_is_text bytes text name h n) n.is_name)
 
 pub no_text : (bytes text name : List ℕ) → HasBody bytes text → ¬ IsUtf8 text → BeginsWithName bytes name → ⊥
-no_text bytes text name h none n = none (subst IsUtf8 (name_is_text bytes text name h n) (IsUtf8-from_ascii name (name_ascii name n.is_name)))
+no_text bytes text name h none n =
+    none (subst IsUtf8 (name_is_text bytes text name h n) (IsUtf8-from_ascii name (name_ascii name n.is_name)))
 
 pub with_name : (bytes text name : List ℕ) → HasBody bytes text → IsNodeName text → name ≡ text → BeginsWithName bytes name
-with_name bytes text name h n e = record { rest = h.rest; is_name = subst IsNodeName (sym e) n; parts = h.parts ∙ ap (λ (w : List ℕ). counted w ++ h.rest) (sym e) }
+with_name bytes text name h n e = record {
+  rest = h.rest;
+  is_name = subst IsNodeName (sym e) n;
+  parts = h.parts ∙ ap (λ (w : List ℕ). counted w ++ h.rest) (sym e);
+}
 
 same_send_name : (m k : ShakeMsg) (bytes : List ℕ) → IsSendName m bytes → IsSendName k bytes → m ≡ k
 same_send_name m k bytes p q =
@@ -300,12 +339,7 @@ status_in text =
 pub status_back : (s : TheStatus) → status_in (status_text s) ≡ s
 unfolding status_in
 status_back status.Ok = refl
-status_back status.OkSimultaneous = refl
-status_back status.Nok = refl
-status_back status.NotAllowed = refl
-status_back status.Alive = refl
-status_back status.True = refl
-status_back status.False = refl
+status_back _ = refl
 
 same_status : (m k : ShakeMsg) (bytes : List ℕ) → IsStatus m bytes → IsStatus k bytes → m ≡ k
 same_status m k bytes p q =
@@ -314,12 +348,7 @@ same_status m k bytes p q =
 
 pub status_utf8 : (s : TheStatus) → IsUtf8 (status_text s)
 status_utf8 status.Ok = search rules
-status_utf8 status.OkSimultaneous = search rules
-status_utf8 status.Nok = search rules
-status_utf8 status.NotAllowed = search rules
-status_utf8 status.Alive = search rules
-status_utf8 status.True = search rules
-status_utf8 status.False = search rules
+status_utf8 _ = search rules
 
 -- the same body, for the same role
 moved : (role r : Role) (m : ShakeMsg) (body b : List ℕ) → role ≡ r → body ≡ b → IsBody role m body → IsBody r m b

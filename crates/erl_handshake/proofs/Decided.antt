@@ -1,5 +1,6 @@
 -- Whether a text is a name, and whether a body is of a message.
-use Rattle.std.proofs.Common.{◌≡◌, ℕ, ◌+◌, ◌<◌, ◌≤◌, ◌^◌, Bool, true, false, List, [], ◌∷◌, ◌++◌, length, take, drop, All, ap, sym, refl, subst, ◌∙◌, arith, length-append, length-drop, ◌⊎◌, inl, inr}
+use Rattle.std.proofs.Common.{◌≡◌, ℕ, ◌+◌, ◌<◌, ◌≤◌, ◌^◌, Bool, true, false, List, [], ◌∷◌, ◌++◌, length, take, drop}
+use Rattle.std.proofs.Common.{All, ap, sym, refl, subst, ◌∙◌, arith, length-append, length-drop, ◌⊎◌, inl, inr}
 use Rattle.std.specs.List.{list_all}
 use Rattle.std.specs.Str.{bytes_eq}
 use Rattle.std.specs.Cmp.Lexicographic.{same_text, other_text}
@@ -18,7 +19,9 @@ use Rattle.erl_handshake.specs.Messages.{status_text, IsBody}
 use Rattle.erl_handshake.specs.Answer.{HasBody, IsBegun}
 use Rattle.erl_handshake.specs.Reading.{BeginsWithName}
 use Rattle.erl_handshake.proofs.Bytes.{split_4, split_8, bytes_front, bytes_rest, begun_or_not, begun_or_whole}
-use Rattle.erl_handshake.proofs.Bodies.{status_in, status_back, send_name_is, challenge_is, status_is, reply_is, ack_is, send_name_body, challenge_body, status_body, reply_body, ack_body, send_name_named, challenge_named, no_name, with_name, short_name, with_letter, same_letter}
+use Rattle.erl_handshake.proofs.Bodies.{status_in, status_back, send_name_is, challenge_is, status_is, reply_is, ack_is}
+use Rattle.erl_handshake.proofs.Bodies.{send_name_body, challenge_body, status_body, reply_body, ack_body, send_name_named}
+use Rattle.erl_handshake.proofs.Bodies.{challenge_named, no_name, with_name, short_name, with_letter, same_letter}
 
 -- P holds, or it doesn't
 abbrev Decided : Type 0 → Type 0
@@ -50,10 +53,19 @@ one_split (x ∷ a) (y ∷ b) c d p q e =
 split_or_not : (text : List ℕ) → Split text ⊎ ((a b : List ℕ) → text ≡ a ++ 64 ∷ b → ⊥)
 unfolding NotAt
 split_or_not [] = inr (λ a b e. absurd (let k : 0 ≡ length a + length (64 ∷ b) = ap length e ∙ length-append a (64 ∷ b) in omega arith))
-split_or_not (x ∷ text) = elim (cases_eq x 64) [ inl e ↦ inl (record { name = []; host = text; parts = ap (λ (k : ℕ). k ∷ text) e; before = All-nil NotAt }) | inr ne ↦ later ne (split_or_not text) ]
+split_or_not (x ∷ text) =
+    elim (cases_eq x 64) [
+      | inl e ↦ inl
+          (record { name = []; host = text; parts = ap (λ (k : ℕ). k ∷ text) e; before = All-nil NotAt })
+      | inr ne ↦ later ne
+          (split_or_not text)
+    ]
   where
-    later : NotAt x → Split text ⊎ ((a b : List ℕ) → text ≡ a ++ 64 ∷ b → ⊥) → Split (x ∷ text) ⊎ ((a b : List ℕ) → x ∷ text ≡ a ++ 64 ∷ b → ⊥)
-    later ne (inl s) = inl (record { name = x ∷ s.name; host = s.host; parts = ap (λ (w : List ℕ). x ∷ w) s.parts; before = All-cons NotAt x s.name ne s.before })
+    later : NotAt x → Split text ⊎ ((a b : List ℕ) → text ≡ a ++ 64 ∷ b → ⊥) → Split (x ∷ text)
+        ⊎ ((a b : List ℕ) → x ∷ text ≡ a ++ 64 ∷ b → ⊥)
+    later ne (inl s) =
+        inl (record
+        { name = x ∷ s.name; host = s.host; parts = ap (λ (w : List ℕ). x ∷ w) s.parts; before = All-cons NotAt x s.name ne s.before })
     later ne (inr never) = inr none
       where
         none : (a b : List ℕ) → x ∷ text ≡ a ++ 64 ∷ b → ⊥
@@ -61,25 +73,39 @@ split_or_not (x ∷ text) = elim (cases_eq x 64) [ inl e ↦ inl (record { name 
         none (y ∷ a) b e = never a b (let k : text ≡ a ++ 64 ∷ b = cc in k)
 
 word_or_not : (passes : ℕ → Bool) (word : List ℕ) → Decided (IsWord passes word)
-word_or_not passes word = elim (cases_lt 0 (length word)) [ inl some ↦ by some (list_all passes word) refl | inr none ↦ inr (λ w. let s = w.0 in omega arith) ]
+word_or_not passes word =
+    elim (cases_lt 0 (length word)) [ inl some ↦ by some (list_all passes word) refl | inr none ↦ inr (λ w. let s = w.0 in omega arith) ]
   where
     by : 0 < length word → (b : Bool) → list_all passes word ≡ b → Decided (IsWord passes word)
     by some true e = inl (some, AllPass-from_list_all passes word e)
-    by some false e = inr (λ w. absurd (let k : list_all passes word ≡ true = list_all-from_AllPass passes word w.1 in let l : false ≡ true = sym e ∙ k in cc))
+    by some false e =
+        inr (λ w.
+        absurd (let k : list_all passes word ≡ true = list_all-from_AllPass passes word w.1 in let l : false ≡ true = sym e ∙ k in cc))
 
 -- a word of a name has no `@`
 name_word_free : (word : List ℕ) → IsWord is_name_byte word → All NotAt word
 unfolding NotAt
-name_word_free word w = λ i d lt e. let k : is_name_byte 64 ≡ true = subst (λ (b : ℕ). is_name_byte b ≡ true) e (w.1 i d lt) in let l : false ≡ true = k in absurd cc
+name_word_free word w =
+    λ i d lt e. let k : is_name_byte 64 ≡ true = subst (λ (b : ℕ). is_name_byte b ≡ true) e (w.1 i d lt) in
+    let l : false ≡ true = k in absurd cc
 
 pub name_or_not : (text : List ℕ) → Decided (IsNodeName text)
-name_or_not text = elim (cases_lt 64 (length text)) [ inl long ↦ inr (λ n. let s = n.short in omega arith) | inr short ↦ by short (split_or_not text) ]
+name_or_not text =
+    elim (cases_lt 64 (length text)) [ inl long ↦ inr (λ n. let s = n.short in omega arith) | inr short ↦ by short (split_or_not text) ]
   where
-    words : length text ≤ 64 → (s : Split text) → Decided (IsWord is_name_byte s.name) → Decided (IsWord is_host_byte s.host) → Decided (IsNodeName text)
-    words short s (inl n) (inl h) = inl (record { name = s.name; host = s.host; parts = s.parts; name_word = n; host_word = h; short = short })
-    words short s (inr never) (inl h) = inr (λ k. let t = one_split k.name s.name k.host s.host (name_word_free k.name k.name_word) s.before (sym k.parts ∙ s.parts) in never (subst (IsWord is_name_byte) t.0 k.name_word))
-    words short s (inr never) (inr other) = inr (λ k. let t = one_split k.name s.name k.host s.host (name_word_free k.name k.name_word) s.before (sym k.parts ∙ s.parts) in never (subst (IsWord is_name_byte) t.0 k.name_word))
-    words short s (inl n) (inr never) = inr (λ k. let t = one_split k.name s.name k.host s.host (name_word_free k.name k.name_word) s.before (sym k.parts ∙ s.parts) in never (subst (IsWord is_host_byte) t.1 k.host_word))
+    words : length text ≤ 64 → (s : Split text) → Decided (IsWord is_name_byte s.name) → Decided (IsWord is_host_byte s.host)
+        → Decided (IsNodeName text)
+    words short s (inl n) (inl h) =
+        inl (record { name = s.name; host = s.host; parts = s.parts; name_word = n; host_word = h; short = short })
+    words short s (inr never) (inl h) =
+        inr (λ k. let t = one_split k.name s.name k.host s.host (name_word_free k.name k.name_word) s.before (sym k.parts ∙ s.parts) in
+        never (subst (IsWord is_name_byte) t.0 k.name_word))
+    words short s (inr never) (inr other) =
+        inr (λ k. let t = one_split k.name s.name k.host s.host (name_word_free k.name k.name_word) s.before (sym k.parts ∙ s.parts) in
+        never (subst (IsWord is_name_byte) t.0 k.name_word))
+    words short s (inl n) (inr never) =
+        inr (λ k. let t = one_split k.name s.name k.host s.host (name_word_free k.name k.name_word) s.before (sym k.parts ∙ s.parts) in
+        never (subst (IsWord is_host_byte) t.1 k.host_word))
 
     by : length text ≤ 64 → Split text ⊎ ((a b : List ℕ) → text ≡ a ++ 64 ∷ b → ⊥) → Decided (IsNodeName text)
     by short (inl s) = words short s (word_or_not is_name_byte s.name) (word_or_not is_host_byte s.host)
@@ -96,7 +122,8 @@ front_name bytes h = by (begun_or_whole bytes h)
     text_is text b (inr never) = inr (λ x. no_name bytes text x.0 b never x.1)
 
     by : IsBegun bytes ⊎ ((text : List ℕ) × HasBody bytes text) → Decided (FrontName bytes)
-    by (inl begun) = inr (λ x. begun_or_not bytes x.0 (record { rest = x.1.rest; short = short_name x.0 x.1.is_name; parts = x.1.parts }) begun)
+    by (inl begun) =
+        inr (λ x. begun_or_not bytes x.0 (record { rest = x.1.rest; short = short_name x.0 x.1.is_name; parts = x.1.parts }) begun)
     by (inr b) = text_is b.0 b.1 (name_or_not b.0)
 
 -- ---- bodies
@@ -147,7 +174,8 @@ send_name_or_not bytes h = elim (cases_lt (length bytes) 12) [ inl few ↦ inr (
         let tail = drop 4 rest in
         let h8 = bytes_rest bytes 8 h in
         let le4 : 4 ≤ length rest = omega (arith, length-drop 8 bytes) in
-        let parts : bytes ≡ to_be_bytes w64 flags ++ (to_be_bytes w32 creation ++ tail) = parts_8 bytes h (omega arith) ∙ ap (λ (w : List ℕ). to_be_bytes w64 flags ++ w) (parts_4 rest h8 le4) in
+        let parts : bytes ≡ to_be_bytes w64 flags ++ (to_be_bytes w32 creation ++ tail) =
+        parts_8 bytes h (omega arith) ∙ ap (λ (w : List ℕ). to_be_bytes w64 flags ++ w) (parts_4 rest h8 le4) in
         let p = number_8_fits bytes h in
         let q = number_4_fits rest h8 in
         elim (front_name tail (bytes_rest rest 4 h8)) [
@@ -206,14 +234,18 @@ reply_or_not role bytes h = elim (cases_eq (length bytes) 20) [ inl len ↦ inl 
     by : length bytes ≡ 20 → HasMessage role (114 ∷ bytes)
     by len =
         let le : 4 ≤ length bytes = omega arith in
-        let l : length (drop 4 bytes) ≡ 16 = omega (arith, length-drop 4 bytes) in
-        (ChallengeReply (number_4 bytes) (drop 4 bytes), reply_body role (number_4 bytes) (drop 4 bytes) bytes (number_4_fits bytes h) l (parts_4 bytes h le))
+        let l : length (drop 4 bytes) ≡ 16 = omega (arith, length-drop 4 bytes) in (
+          ChallengeReply (number_4 bytes) (drop 4 bytes),
+          reply_body role (number_4 bytes) (drop 4 bytes) bytes (number_4_fits bytes h) l (parts_4 bytes h le),
+        )
 
     long : HasMessage role (114 ∷ bytes) → length bytes ≡ 20
     long x = let s = reply_is role x.0 bytes x.1 in let l = ap length s.parts in let d = s.len in omega arith
 
 ack_or_not : (role : Role) (bytes : List ℕ) → Decided (HasMessage role (97 ∷ bytes))
-ack_or_not role bytes = elim (cases_eq (length bytes) 16) [ inl len ↦ inl (ChallengeAck bytes, ack_body role bytes len) | inr other ↦ inr (λ x. other (ack_is role x.0 bytes x.1).len) ]
+ack_or_not role bytes =
+    elim (cases_eq (length bytes) 16)
+    [ inl len ↦ inl (ChallengeAck bytes, ack_body role bytes len) | inr other ↦ inr (λ x. other (ack_is role x.0 bytes x.1).len) ]
 
 -- the letter with which a message begins
 letter : ShakeMsg → ℕ
@@ -257,7 +289,9 @@ message_or_not role (l ∷ bytes) h =
                   | inr r ↦
                       elim (cases_eq l 97) [
                         | inl e ↦ moved role l 97 bytes e (ack_or_not role bytes)
-                        | inr a ↦ inr (λ x. other_letter x.0 l n s r a (same_letter l (letter x.0) bytes (drop 1 (l ∷ bytes)) (letter_is role x.0 (l ∷ bytes) x.1)))
+                        | inr a ↦
+                            inr (λ x. other_letter x.0 l n s r a
+                            (same_letter l (letter x.0) bytes (drop 1 (l ∷ bytes)) (letter_is role x.0 (l ∷ bytes) x.1)))
                       ]
                 ]
           ]

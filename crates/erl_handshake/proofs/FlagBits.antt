@@ -1,5 +1,6 @@
 -- Flags by their bits.
-use Rattle.std.proofs.Common.{lit<, nat_lt, get_or, zero-mul, one-mul, ◌≡◌, ◌≢◌, ℕ, ◌*◌, ◌^◌, ◌<◌, ◌==◌, not, Bool, true, false, min, max, [], ◌∷◌, bit_and, bit_or, ap, sym, refl, subst, ◌∙◌, arith, inl, inr}
+use Rattle.std.proofs.Common.{lit<, nat_lt, get_or, zero-mul, one-mul, ◌≡◌, ◌≢◌, ℕ, ◌*◌, ◌^◌, ◌<◌, ◌==◌, not, Bool, true}
+use Rattle.std.proofs.Common.{false, min, max, [], ◌∷◌, bit_and, bit_or, ap, sym, refl, subst, ◌∙◌, arith, inl, inr}
 use Rattle.std.specs.List.{AllPass}
 use Rattle.std.specs.Int.{IsBitSet, bit_at}
 use Rattle.std.proofs.lemmas.Bool.{ltb-true, eqb-true, eqb-false, cases_eq, cases_lt}
@@ -7,7 +8,8 @@ use Rattle.std.proofs.lemmas.Nat.{pow_pos}
 use Rattle.std.proofs.lemmas.Nat.Bits.{bit_at-lt, bit_at_and, bit_at_or, bit_at-pow_other, and_pow, same_from_bits}
 use Rattle.std.proofs.lemmas.List.Elements.{All-nil, All-cons}
 use Rattle.erl_handshake.specs.declared.flags.Flag.{Flag}
-use Rattle.erl_handshake.specs.declared.flags.Flag.TheVariants.{ExtendedReferences, DistMonitor, DistMonitorName, ExtendedPidsPorts, Utf8Atoms, BigCreation, ExitPayload, Handshake23, UnlinkId, V4Nc}
+use Rattle.erl_handshake.specs.declared.flags.Flag.TheVariants.{ExtendedReferences, DistMonitor, DistMonitorName, ExtendedPidsPorts}
+use Rattle.erl_handshake.specs.declared.flags.Flag.TheVariants.{Utf8Atoms, BigCreation, ExitPayload, Handshake23, UnlinkId, V4Nc}
 use Rattle.erl_handshake.specs.Flags.{flag_value, offers, has_all_of, mandatory, mandatory_flags}
 
 -- a bit is set where it is 1
@@ -18,7 +20,9 @@ bit_is n k s = elim (cases_lt (bit_at n k) 1) [
 ]
 
 is_set : (n k : ℕ) → bit_at n k ≡ 1 → IsBitSet n k
-is_set n k e = λ z. let p : bit_and n (2 ^ k) ≡ 2 ^ k = and_pow n k ∙ ap (λ (b : ℕ). b * 2 ^ k) e ∙ one-mul (2 ^ k) in let q = pow_pos k in absurd (omega arith)
+is_set n k e =
+    λ z. let p : bit_and n (2 ^ k) ≡ 2 ^ k = and_pow n k ∙ ap (λ (b : ℕ). b * 2 ^ k) e ∙ one-mul (2 ^ k) in
+    let q = pow_pos k in absurd (omega arith)
 
 -- each bit of the second is set in the first
 abbrev pub Covers : ℕ → ℕ → Type 0
@@ -49,7 +53,8 @@ eqb-same n = by (n == n) refl
 
 pub has_all : (word required : ℕ) → Covers word required → has_all_of word required ≡ true
 has_all word required c =
-    let same : bit_and word required ≡ required = same_from_bits (bit_and word required) required (λ k. bit_at_and word required k ∙ bit_same word required k c) in
+    let same : bit_and word required ≡ required =
+    same_from_bits (bit_and word required) required (λ k. bit_at_and word required k ∙ bit_same word required k c) in
     rw same (eqb-same required)
 
 -- ---- the mandatory flags
@@ -119,9 +124,13 @@ pub offered_all : (word : ℕ) → has_all_of word mandatory ≡ true → PassAl
 offered_all word e =
     let c = covers word mandatory e in
     let P : Flag → Type 0 = λ flag. offers word flag ≡ true in
-    All-cons P ExtendedReferences (DistMonitor ∷ ExtendedPidsPorts ∷ Utf8Atoms ∷ BigCreation ∷ Handshake23 ∷ UnlinkId ∷ V4Nc ∷ []) (one_of word 2 ExtendedReferences refl c (set_in 2 refl))
-    (All-cons P DistMonitor (ExtendedPidsPorts ∷ Utf8Atoms ∷ BigCreation ∷ Handshake23 ∷ UnlinkId ∷ V4Nc ∷ []) (one_of word 3 DistMonitor refl c (set_in 3 refl))
-    (All-cons P ExtendedPidsPorts (Utf8Atoms ∷ BigCreation ∷ Handshake23 ∷ UnlinkId ∷ V4Nc ∷ []) (one_of word 8 ExtendedPidsPorts refl c (set_in 8 refl))
+    All-cons P ExtendedReferences
+    (DistMonitor ∷ ExtendedPidsPorts ∷ Utf8Atoms ∷ BigCreation ∷ Handshake23 ∷ UnlinkId ∷ V4Nc ∷ [])
+    (one_of word 2 ExtendedReferences refl c (set_in 2 refl))
+    (All-cons P DistMonitor (ExtendedPidsPorts ∷ Utf8Atoms ∷ BigCreation ∷ Handshake23 ∷ UnlinkId ∷ V4Nc ∷ [])
+    (one_of word 3 DistMonitor refl c (set_in 3 refl))
+    (All-cons P ExtendedPidsPorts (Utf8Atoms ∷ BigCreation ∷ Handshake23 ∷ UnlinkId ∷ V4Nc ∷ [])
+    (one_of word 8 ExtendedPidsPorts refl c (set_in 8 refl))
     (All-cons P Utf8Atoms (BigCreation ∷ Handshake23 ∷ UnlinkId ∷ V4Nc ∷ []) (one_of word 16 Utf8Atoms refl c (set_in 16 refl))
     (All-cons P BigCreation (Handshake23 ∷ UnlinkId ∷ V4Nc ∷ []) (one_of word 18 BigCreation refl c (set_in 18 refl))
     (All-cons P Handshake23 (UnlinkId ∷ V4Nc ∷ []) (one_of word 24 Handshake23 refl c (set_in 24 refl))

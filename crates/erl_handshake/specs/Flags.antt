@@ -2,7 +2,8 @@
 -- (ERTS User's Guide, Distribution Protocol, Distribution Flags.)
 use Rattle.std.specs.Prelude.{ℕ, Bool, not, ◌==◌, List, [], ◌∷◌, bit_and}
 use Rattle.erl_handshake.specs.declared.flags.Flag.{Flag}
-use Rattle.erl_handshake.specs.declared.flags.Flag.TheVariants.{ExtendedReferences, DistMonitor, DistMonitorName, ExtendedPidsPorts, Utf8Atoms, BigCreation, ExitPayload, Handshake23, UnlinkId, V4Nc}
+use Rattle.erl_handshake.specs.declared.flags.Flag.TheVariants.{ExtendedReferences, DistMonitor, DistMonitorName, ExtendedPidsPorts}
+use Rattle.erl_handshake.specs.declared.flags.Flag.TheVariants.{Utf8Atoms, BigCreation, ExitPayload, Handshake23, UnlinkId, V4Nc}
 
 abbrev pub flag_value : Flag → ℕ
 flag_value ExtendedReferences = 0x4

@@ -27,7 +27,8 @@ counted bytes = to_be_bytes w16 (length bytes) ++ bytes
 abbrev pub content : ShakeMsg → List ℕ
 content (SendName flags creation name) = 78 ∷ (to_be_bytes w64 flags ++ (to_be_bytes w32 creation ++ counted name))
 content (Status s) = 115 ∷ status_text s
-content (Challenge flags challenge creation name) = 78 ∷ (to_be_bytes w64 flags ++ (to_be_bytes w32 challenge ++ (to_be_bytes w32 creation ++ counted name)))
+content (Challenge flags challenge creation name) =
+    78 ∷ (to_be_bytes w64 flags ++ (to_be_bytes w32 challenge ++ (to_be_bytes w32 creation ++ counted name)))
 content (ChallengeReply challenge digest) = 114 ∷ (to_be_bytes w32 challenge ++ digest)
 content (ChallengeAck digest) = 97 ∷ digest
 

@@ -14,7 +14,9 @@ Decides {A = A} S (Err e) = ((e ≡ BadMessage) × ((a : A) → ¬ S a)) ⊎ ((e
 
 -- the message of a body, to a reader of either role, or that the body is of none
 abbrev pub ReadsBody : List ℕ → Option ShakeMsg → Type 0
-ReadsBody body answer = MatchOption answer ((role : Role) (message : ShakeMsg) → ¬ IsBody role message body) (λ message. (role : Role) → IsBody role message body)
+ReadsBody body answer =
+    MatchOption answer ((role : Role) (message : ShakeMsg) → ¬ IsBody role message body)
+    (λ message. (role : Role) → IsBody role message body)
 
 -- the name stands at the front, behind its length
 pub record BeginsWithName (bytes name : List ℕ) : Type 0 where

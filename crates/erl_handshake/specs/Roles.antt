@@ -118,7 +118,10 @@ awaits_answer challenge creation _ = acceptor_ends BadMessage
 abbrev pub awaits_reply : Identity → (challenge creation : ℕ) → ShakeMsg → Turn AcceptorState
 awaits_reply own challenge creation (ChallengeReply theirs digest) =
     if is_answered own.cookie challenge digest
-    then record { state = acceptor.Done creation; next = record { send = Some (ChallengeAck (digest_of own.cookie theirs)); progress = progress.Done } }
+    then record {
+      state = acceptor.Done creation;
+      next = record { send = Some (ChallengeAck (digest_of own.cookie theirs)); progress = progress.Done };
+    }
     else acceptor_ends BadDigest
 awaits_reply own challenge creation _ = acceptor_ends BadMessage
 

@@ -1,5 +1,6 @@
 -- The `@` of a name is its first, so the words of a name are known.
-use Rattle.std.proofs.Common.{◌≡◌, ℕ, ◌+◌, ◌-◌, ◌<◌, ◌≤◌, ◌==◌, Bool, true, false, nat_lt, if◌then◌else◌, List, [], ◌∷◌, ◌++◌, length, take, drop, get_or, None, Some, position, ap, refl, sym, ◌∙◌, subst, arith, length-append, length-drop}
+use Rattle.std.proofs.Common.{◌≡◌, ℕ, ◌+◌, ◌-◌, ◌<◌, ◌≤◌, ◌==◌, Bool, true, false, nat_lt, if◌then◌else◌, List, [], ◌∷◌, ◌++◌, length}
+use Rattle.std.proofs.Common.{take, drop, get_or, None, Some, position, ap, refl, sym, ◌∙◌, subst, arith, length-append, length-drop}
 use Rattle.std.specs.List.{position_or_len, list_all}
 use Rattle.std.proofs.Math.Seq.{get_or-append_seam, take-append_seam, drop-append-add}
 use Rattle.std.proofs.lemmas.List.{get_or_append_left, take_all}
@@ -37,7 +38,8 @@ pub record HasWords (text : List ℕ) : Type 0 where
   pub host_word : IsWord is_host_byte (drop (at text + 1) text)
   pub short : length text ≤ 64
 
-words_of : (name host : List ℕ) → IsWord is_name_byte name → IsWord is_host_byte host → length (name ++ 64 ∷ host) ≤ 64 → HasWords (name ++ 64 ∷ host)
+words_of : (name host : List ℕ) → IsWord is_name_byte name → IsWord is_host_byte host → length (name ++ 64 ∷ host) ≤ 64
+    → HasWords (name ++ 64 ∷ host)
 words_of name host n h short =
     record {
       found = rw (at-is name host n) (omega (arith, length-append name (64 ∷ host)));
@@ -47,14 +49,16 @@ words_of name host n h short =
     }
 
 pub has_words : (text : List ℕ) → IsNodeName text → HasWords text
-has_words text n = subst HasWords (sym n.parts) (words_of n.name n.host n.name_word n.host_word (subst (λ (t : List ℕ). length t ≤ 64) n.parts n.short))
+has_words text n =
+    subst HasWords (sym n.parts) (words_of n.name n.host n.name_word n.host_word (subst (λ (t : List ℕ). length t ≤ 64) n.parts n.short))
 
 pub is_node_name : (text : List ℕ) → HasWords text → IsNodeName text
 is_node_name text w =
     record {
       name = take (at text) text;
       host = drop (at text + 1) text;
-      parts = split_at_first is_at text 0 w.found ∙ ap (λ (b : ℕ). take (at text) text ++ b ∷ drop (at text + 1) text) (eqb-true (get_or text (at text) 0) 64 (passes_at_first is_at text 0 w.found));
+      parts = split_at_first is_at text 0 w.found ∙ ap (λ (b : ℕ). take (at text) text ++ b ∷ drop (at text + 1) text)
+          (eqb-true (get_or text (at text) 0) 64 (passes_at_first is_at text 0 w.found));
       name_word = w.name_word;
       host_word = w.host_word;
       short = w.short;
@@ -93,10 +97,13 @@ rest-is text k = take_all (length text - k) (drop k text) (omega (arith, length-
 pub name_found : (text : List ℕ) (i : ℕ) → Some i ≡ position is_at text → IsNodeName text → IsName (take i text)
 name_found text i e n = subst (λ (k : ℕ). IsName (take k text)) (at-found text i (sym e)).1 (has_words text n).name_word
 
-pub host_found : (text : List ℕ) (i : ℕ) → Some i ≡ position is_at text → IsNodeName text → IsHost (take (length text - (i + 1)) (drop (i + 1) text))
-host_found text i e n = rw (rest-is text (i + 1)) (subst (λ (k : ℕ). IsHost (drop (k + 1) text)) (at-found text i (sym e)).1 (has_words text n).host_word)
+pub host_found : (text : List ℕ) (i : ℕ) → Some i ≡ position is_at text → IsNodeName text
+    → IsHost (take (length text - (i + 1)) (drop (i + 1) text))
+host_found text i e n =
+    rw (rest-is text (i + 1)) (subst (λ (k : ℕ). IsHost (drop (k + 1) text)) (at-found text i (sym e)).1 (has_words text n).host_word)
 
-pub form_found : (text : List ℕ) (i : ℕ) → Some i ≡ position is_at text → length text ≤ 64 → IsName (take i text) → IsHost (take (length text - (i + 1)) (drop (i + 1) text)) → IsNodeName text
+pub form_found : (text : List ℕ) (i : ℕ) → Some i ≡ position is_at text → length text ≤ 64 → IsName (take i text)
+    → IsHost (take (length text - (i + 1)) (drop (i + 1) text)) → IsNodeName text
 form_found text i e short name host =
     let f = at-found text i (sym e) in
     is_node_name text
@@ -119,6 +126,7 @@ pub chars_in_name : (text copy : List ℕ) → copy ≡ text → IsUtf8 text →
 chars_in_name text copy e u n = rw e (omega (arith, chars-le text u, n.short))
 
 -- of a word that isn't empty its bytes decide
-pub word_test : (passes : ℕ → Bool) (word : List ℕ) (all : Bool) → false ≡ (length word == 0) → all ≡ list_all passes word → all ≡ is_word passes word
+pub word_test : (passes : ℕ → Bool) (word : List ℕ) (all : Bool) → false ≡ (length word == 0) → all ≡ list_all passes word
+    → all ≡ is_word passes word
 word_test passes [] all h e = absurd cc
 word_test passes (b ∷ word) all h e = e

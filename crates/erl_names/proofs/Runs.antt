@@ -1,5 +1,6 @@
 -- A run of draws gives no number of a kind twice.
-use Rattle.std.proofs.Common.{◌≡◌, ℕ, ◌+◌, ◌<◌, ◌≤◌, Bool, true, false, nat_lt, if◌then◌else◌, List, [], ◌∷◌, ◌++◌, Option, None, Some, All, AllPairs, get_or, refl, arith}
+use Rattle.std.proofs.Common.{◌≡◌, ℕ, ◌+◌, ◌<◌, ◌≤◌, Bool, true, false, nat_lt, if◌then◌else◌, List}
+use Rattle.std.proofs.Common.{[], ◌∷◌, ◌++◌, Option, None, Some, All, AllPairs, get_or, refl, arith}
 use Rattle.std.proofs.lemmas.List.Elements.{All-cons}
 use Rattle.std.proofs.lemmas.List.Kept.{AllPairs-cons}
 use Rattle.erl_names.specs.Draw.{Draw}
@@ -41,7 +42,8 @@ given m draw.UnlinkId id e = given_at (nat_lt m.unlink_ids (last draw.UnlinkId))
 above_before : (m : Minted) (kind : Draw) (rest : List (Draw × ℕ)) → All (IsAbove (drawn m kind)) rest → All (IsAbove m) rest
 above_before m kind rest h i d lt = omega (arith, count-drawn m kind (get_or rest i d).0, h i d lt)
 
-above_given : (m : Minted) (kind : Draw) (o : Option ℕ) (rest : List (Draw × ℕ)) → id_of m kind ≡ o → All (IsAbove m) rest → All (IsAbove m) (under kind o ++ rest)
+above_given : (m : Minted) (kind : Draw) (o : Option ℕ) (rest : List (Draw × ℕ)) → id_of m kind ≡ o → All (IsAbove m) rest
+    → All (IsAbove m) (under kind o ++ rest)
 above_given m kind None rest e h = h
 above_given m kind (Some id) rest e h = All-cons (IsAbove m) (kind, id) rest (given m kind id e).above h
 
@@ -51,7 +53,8 @@ all_above (kind ∷ draws) m =
     above_given m kind (id_of m kind) (ids draws (drawn m kind)) refl (above_before m kind _ (all_above draws (drawn m kind)))
 
 -- what is above its kind's count isn't what the last draw gave
-other_than : (m : Minted) (kind : Draw) (id : ℕ) (rest : List (Draw × ℕ)) → id ≤ count m kind → All (IsAbove m) rest → All (λ later. (kind, id) ≡ later → ⊥) rest
+other_than : (m : Minted) (kind : Draw) (id : ℕ) (rest : List (Draw × ℕ)) → id ≤ count m kind → All (IsAbove m) rest
+    → All (λ later. (kind, id) ≡ later → ⊥) rest
 other_than m kind id rest le h i d lt e =
     let above = h i d lt in
     let here : count m kind < id = rw (← e) at above in

@@ -1,5 +1,7 @@
 -- Terms behind lists with no elements.
-use Rattle.std.proofs.Common.{◌≡◌, ℕ, zero, suc, ◌+◌, ◌<◌, true, false, eqb, List, [], ◌∷◌, ◌++◌, length, get_or, take, drop, Option, Some, None, Bor, refl, sym, ap, subst, ◌∙◌, append_assoc, arith, inl, inr}
+use Rattle.std.proofs.lemmas.Bool.{true≢false}
+use Rattle.std.proofs.Common.{◌≡◌, ℕ, zero, suc, ◌+◌, ◌<◌, true, false, eqb, List, [], ◌∷◌, ◌++◌, length, get_or, take}
+use Rattle.std.proofs.Common.{drop, Option, Some, None, Bor, refl, sym, ap, subst, ◌∙◌, append_assoc, arith, inl, inr}
 use Rattle.std.specs.Prelude.{ℤ, IfSome, nat_eq}
 use Rattle.std.specs.Cmp.Lexicographic.{pointwise, same_text}
 use Rattle.std.proofs.lemmas.List.{take-append-drop}
@@ -28,13 +30,19 @@ one_way (suc k) zero x y s t e = absurd (t (lists k ++ x) (sym e))
 one_way (suc k) (suc j) x y s t e = let r = one_way k j x y s t (cancel (lists k ++ x) (lists j ++ y) e) in (ap suc r.0, r.1)
 
 too_many : (k below : ℕ) (x rest : List ℕ) → Stands x → lists k ++ x ≡ lists (k + suc below) ++ rest → ⊥
-too_many zero below x rest s e = let n : 0 + suc below ≡ suc below = omega arith in s (lists below ++ rest) (e ∙ ap (λ (m : ℕ). lists m ++ rest) n)
-too_many (suc k) below x rest s e = let n : suc k + suc below ≡ suc (k + suc below) = omega arith in too_many k below x rest s (cancel (lists k ++ x) (lists (k + suc below) ++ rest) (e ∙ ap (λ (m : ℕ). lists m ++ rest) n))
+too_many zero below x rest s e =
+    let n : 0 + suc below ≡ suc below = omega arith in s (lists below ++ rest) (e ∙ ap (λ (m : ℕ). lists m ++ rest) n)
+too_many (suc k) below x rest s e =
+    let n : suc k + suc below ≡ suc (k + suc below) = omega arith in
+    too_many k below x rest s (cancel (lists k ++ x) (lists (k + suc below) ++ rest) (e ∙ ap (λ (m : ℕ). lists m ++ rest) n))
 
 -- ---- what is read behind them
 
-module _ {A : Type 0} (S : A → ℕ → List ℕ → Type 0) (starts : (a : A) (below : ℕ) (text rest : List ℕ) → S a below text → Stands (text ++ rest)) where
-  takes_behind : (levels below k : ℕ) (bytes inner : List ℕ) (answer : Option (A × Bor (List ℕ))) → levels ≡ k + suc below → bytes ≡ lists k ++ inner → IfSome answer (λ x. Takes (λ a b. S a below b) inner x.0 x.1.now) → IfSome answer (λ x. Takes (λ a b. Behind (S a) levels b) bytes x.0 x.1.now)
+module _ {A : Type 0} (S : A → ℕ → List ℕ → Type 0)
+    (starts : (a : A) (below : ℕ) (text rest : List ℕ) → S a below text → Stands (text ++ rest)) where
+  takes_behind : (levels below k : ℕ) (bytes inner : List ℕ) (answer : Option (A × Bor (List ℕ))) → levels ≡ k + suc below
+      → bytes ≡ lists k ++ inner → IfSome answer (λ x. Takes (λ a b. S a below b) inner x.0 x.1.now)
+      → IfSome answer (λ x. Takes (λ a b. Behind (S a) levels b) bytes x.0 x.1.now)
   takes_behind levels below k bytes inner None depth split t = tt
   takes_behind levels below k bytes inner (Some x) depth split t = record {
     text = lists k ++ t.text;
@@ -42,11 +50,14 @@ module _ {A : Type 0} (S : A → ℕ → List ℕ → Type 0) (starts : (a : A) 
     parts = split ∙ ap (λ (w : List ℕ). lists k ++ w) t.parts ∙ sym (append_assoc (lists k) t.text x.1.now);
   }
 
-  pub reads_behind : (levels below k : ℕ) (bytes inner : List ℕ) (answer : Option (A × Bor (List ℕ))) → levels ≡ k + suc below → bytes ≡ lists k ++ inner → Stands inner → ReadsFront (λ a b. S a below b) inner answer → ReadsFront (λ a b. Behind (S a) levels b) bytes answer
+  pub reads_behind : (levels below k : ℕ) (bytes inner : List ℕ) (answer : Option (A × Bor (List ℕ))) → levels ≡ k + suc below
+      → bytes ≡ lists k ++ inner → Stands inner → ReadsFront (λ a b. S a below b) inner answer
+      → ReadsFront (λ a b. Behind (S a) levels b) bytes answer
   reads_behind levels below k bytes inner answer depth split stands r = record {
     takes = takes_behind levels below k bytes inner answer depth split r.takes;
     again = λ a text rest s p.
-        let same : lists k ++ inner ≡ lists s.k ++ (s.text ++ rest) = sym split ∙ p ∙ ap (λ (w : List ℕ). w ++ rest) s.bytes ∙ append_assoc (lists s.k) s.text rest in
+        let same : lists k ++ inner ≡ lists s.k ++ (s.text ++ rest) =
+        sym split ∙ p ∙ ap (λ (w : List ℕ). w ++ rest) s.bytes ∙ append_assoc (lists s.k) s.text rest in
         let one = one_way k s.k inner (s.text ++ rest) stands (starts a s.below s.text rest s.is_text) same in
         let d = s.depth in
         let level : s.below ≡ below = omega (arith, one.0) in
@@ -57,16 +68,25 @@ module _ {A : Type 0} (S : A → ℕ → List ℕ → Type 0) (starts : (a : A) 
   none_behind levels bytes rest split = record {
     takes = tt;
     again = λ a text more s p.
-        let same : lists s.k ++ (s.text ++ more) ≡ lists (s.k + suc s.below) ++ rest = sym (p ∙ ap (λ (w : List ℕ). w ++ more) s.bytes ∙ append_assoc (lists s.k) s.text more) ∙ split ∙ ap (λ (n : ℕ). lists n ++ rest) s.depth in
+        let same : lists s.k ++ (s.text ++ more) ≡ lists (s.k + suc s.below) ++ rest =
+        sym (p ∙ ap (λ (w : List ℕ). w ++ more) s.bytes ∙ append_assoc (lists s.k) s.text more) ∙ split
+        ∙ ap (λ (n : ℕ). lists n ++ rest) s.depth in
         too_many s.k s.below (s.text ++ more) rest (starts a s.below s.text more s.is_text) same;
   }
 
-takes_same : {A : Type 0} (S T : A → List ℕ → Type 0) (bytes : List ℕ) (answer : Option (A × Bor (List ℕ))) → ((a : A) (b : List ℕ) → S a b → T a b) → IfSome answer (λ x. Takes S bytes x.0 x.1.now) → IfSome answer (λ x. Takes T bytes x.0 x.1.now)
+takes_same : {A : Type 0} (S T : A → List ℕ → Type 0) (bytes : List ℕ) (answer : Option (A × Bor (List ℕ)))
+    → ((a : A) (b : List ℕ) → S a b → T a b) → IfSome answer (λ x. Takes S bytes x.0 x.1.now)
+    → IfSome answer (λ x. Takes T bytes x.0 x.1.now)
 takes_same S T bytes None to t = tt
 takes_same S T bytes (Some x) to t = record { text = t.text; is_text = to x.0 t.text t.is_text; parts = t.parts }
 
-reads_same : {A : Type 0} (S T : A → List ℕ → Type 0) (bytes : List ℕ) (answer : Option (A × Bor (List ℕ))) → ((a : A) (b : List ℕ) → S a b → T a b) → ((a : A) (b : List ℕ) → T a b → S a b) → ReadsFront S bytes answer → ReadsFront T bytes answer
-reads_same S T bytes answer to back r = record { takes = takes_same S T bytes answer to r.takes; again = λ a text rest s p. r.again a text rest (back a text s) p }
+reads_same : {A : Type 0} (S T : A → List ℕ → Type 0) (bytes : List ℕ) (answer : Option (A × Bor (List ℕ)))
+    → ((a : A) (b : List ℕ) → S a b → T a b) → ((a : A) (b : List ℕ) → T a b → S a b) → ReadsFront S bytes answer
+    → ReadsFront T bytes answer
+reads_same S T bytes answer to back r = record {
+  takes = takes_same S T bytes answer to r.takes;
+  again = λ a text rest s p. r.again a text rest (back a text s) p;
+}
 
 -- ---- a term that is no list
 
@@ -92,9 +112,10 @@ joined_some x xs (reference r) = refl
 
 no_items_by : (ts : Items) (last t : Data) → is_list t ≡ false → t ≡ joined ts last → ts ≡ no_items
 no_items_by no_items last t e v = refl
-no_items_by (item x xs) last t e v = absurd (let a = joined_some x xs last in let b : is_list (joined (item x xs) last) ≡ false = ap is_list (sym v) ∙ e in cc)
+no_items_by (item x xs) last t e v =
+    absurd (let a = joined_some x xs last in let b : is_list (joined (item x xs) last) ≡ false = ap is_list (sym v) ∙ e in cc)
 
-zero_is : (len : List ℕ) → IsNumber 4 0 len → len ≡ 0 ∷ 0 ∷ 0 ∷ 0 ∷ []
+pub zero_is : (len : List ℕ) → IsNumber 4 0 len → len ≡ 0 ∷ 0 ∷ 0 ∷ 0 ∷ []
 zero_is [] s = absurd (let l = s.len in omega arith)
 zero_is (a ∷ []) s = absurd (let l = s.len in omega arith)
 zero_is (a ∷ b ∷ []) s = absurd (let l = s.len in omega arith)
@@ -119,7 +140,8 @@ zero_bytes (suc (suc (suc (suc i)))) = AreBytes-nil i
 abbrev pub Own : Data → ℕ → List ℕ → Type 0
 Own t below b = SpellsBy (Spells below) t b
 
-from_behind : (t : Data) (k below levels : ℕ) (text b : List ℕ) → Own t below text → levels ≡ k + suc below → b ≡ lists k ++ text → Spells levels t b
+from_behind : (t : Data) (k below levels : ℕ) (text b : List ℕ) → Own t below text → levels ≡ k + suc below
+    → b ≡ lists k ++ text → Spells levels t b
 from_behind t zero below levels text b s d e = let n : levels ≡ suc below = omega arith in rw (n, e) (inl s)
 from_behind t (suc k) below levels text b s d e =
     let n : levels ≡ suc (k + suc below) = omega arith in
@@ -140,7 +162,14 @@ pub behind_spelled : (t : Data) (levels : ℕ) (b : List ℕ) → Behind (Own t)
 behind_spelled t levels b s = from_behind t s.k s.below levels s.text b s.is_text s.depth s.bytes
 
 one_behind : (t : Data) (levels : ℕ) (b tail : List ℕ) → b ≡ lists 1 ++ tail → Behind (Own t) levels tail → Behind (Own t) (suc levels) b
-one_behind t levels b tail e s = record { k = suc s.k; below = s.below; text = s.text; is_text = s.is_text; depth = (let d = s.depth in omega arith); bytes = e ∙ ap (λ (w : List ℕ). lists 1 ++ w) s.bytes }
+one_behind t levels b tail e s = record {
+  k = suc s.k;
+  below = s.below;
+  text = s.text;
+  is_text = s.is_text;
+  depth = (let d = s.depth in omega arith);
+  bytes = e ∙ ap (λ (w : List ℕ). lists 1 ++ w) s.bytes;
+}
 
 pub spelled_behind : (t : Data) (levels : ℕ) (b : List ℕ) → is_list t ≡ false → Spells levels t b → Behind (Own t) levels b
 spelled_behind t zero b e s = absurd s
@@ -150,7 +179,8 @@ spelled_behind t (suc below) b e (inr s) =
     let last : s.last ≡ t = sym (s.value ∙ ap (λ (ts : Items). joined ts s.last) none ∙ joined_none s.last) in
     let len : s.len ≡ 0 ∷ 0 ∷ 0 ∷ 0 ∷ [] = zero_is s.len (subst (λ (n : ℕ). IsNumber 4 n s.len) (ap count none) s.number) in
     let elements : s.elements ≡ [] = subst (λ (ts : Items). SpellAll (Spells below) ts s.elements) none s.spelled in
-    one_behind t below b s.tail (s.bytes ∙ ap (λ (w : List ℕ). 108 ∷ (w ++ (s.elements ++ s.tail))) len ∙ ap (λ (w : List ℕ). 108 ∷ 0 ∷ 0 ∷ 0 ∷ 0 ∷ (w ++ s.tail)) elements)
+    one_behind t below b s.tail (s.bytes ∙ ap (λ (w : List ℕ). 108 ∷ (w ++ (s.elements ++ s.tail))) len
+    ∙ ap (λ (w : List ℕ). 108 ∷ 0 ∷ 0 ∷ 0 ∷ 0 ∷ (w ++ s.tail)) elements)
     (spelled_behind t below s.tail e (subst (λ (u : Data). Spells below u s.tail) last s.is_tail))
 
 -- ---- integers, pids and references
@@ -158,15 +188,12 @@ spelled_behind t (suc below) b e (inr s) =
 head_same : (a b : ℕ) (x y : List ℕ) → a ∷ x ≡ b ∷ y → a ≡ b
 head_same a b x y e = cc
 
-true_not_false : true ≡ false → ⊥
-true_not_false e = absurd cc
-
 other_tag : (tag : ℕ) (back text rest : List ℕ) → eqb tag 108 ≡ false → text ≡ tag ∷ back → Stands (text ++ rest)
 other_tag tag back text rest not e more q =
     let z : tag ∷ (back ++ rest) ≡ lists 1 ++ more = ap (λ (w : List ℕ). w ++ rest) (sym e) ∙ q in
     let k : tag ≡ 108 = head_same tag 108 (back ++ rest) _ z in
     let y : eqb tag 108 ≡ true = rw k refl in
-    absurd (true_not_false (sym y ∙ not))
+    absurd (true≢false (sym y ∙ not))
 
 integer_stands : (z : ℤ) (below : ℕ) (text rest : List ℕ) → IsIntegerText z text → Stands (text ++ rest)
 integer_stands z below text rest (inl s) = other_tag 97 s.field text rest refl s.bytes
@@ -184,36 +211,50 @@ head_stands x below text rest (s, inl h) = other_tag 104 h.arity text rest refl 
 head_stands x below text rest (s, inr h) = other_tag 105 h.arity text rest refl h.bytes
 
 abbrev Passed : ℕ → List ℕ → ℕ → List ℕ → Type 0
-Passed levels bytes below inner = (k : ℕ) × (levels ≡ k + suc below) × (bytes ≡ lists k ++ inner) × ((rest : List ℕ) → inner ≡ lists 1 ++ rest → ⊥)
+Passed levels bytes below inner =
+    (k : ℕ) × (levels ≡ k + suc below) × (bytes ≡ lists k ++ inner) × ((rest : List ℕ) → inner ≡ lists 1 ++ rest → ⊥)
 
-pub integer_behind : (levels below : ℕ) (bytes inner : List ℕ) (answer : Option (ℤ × Bor (List ℕ))) → Passed levels bytes below inner → ReadsFront IsIntegerText inner answer → ReadsFront (λ z b. Spells levels (int z) b) bytes answer
+pub integer_behind : (levels below : ℕ) (bytes inner : List ℕ) (answer : Option (ℤ × Bor (List ℕ)))
+    → Passed levels bytes below inner → ReadsFront IsIntegerText inner answer
+    → ReadsFront (λ z b. Spells levels (int z) b) bytes answer
 integer_behind levels below bytes inner answer p r =
-    reads_same (λ z b. Behind (Own (int z)) levels b) (λ z b. Spells levels (int z) b) bytes answer (λ z b s. behind_spelled (int z) levels b s) (λ z b s. spelled_behind (int z) levels b refl s)
+    reads_same (λ z b. Behind (Own (int z)) levels b) (λ z b. Spells levels (int z) b) bytes answer
+    (λ z b s. behind_spelled (int z) levels b s) (λ z b s. spelled_behind (int z) levels b refl s)
     (reads_behind (λ z below b. Own (int z) below b) integer_stands levels below p.0 bytes inner answer p.1 p.2 p.3 r)
 
 pub no_integer : (levels : ℕ) (bytes rest : List ℕ) → bytes ≡ lists levels ++ rest → ReadsFront (λ z b. Spells levels (int z) b) bytes None
 no_integer levels bytes rest e =
-    reads_same (λ z b. Behind (Own (int z)) levels b) (λ z b. Spells levels (int z) b) bytes None (λ z b s. behind_spelled (int z) levels b s) (λ z b s. spelled_behind (int z) levels b refl s)
+    reads_same (λ z b. Behind (Own (int z)) levels b) (λ z b. Spells levels (int z) b) bytes None
+    (λ z b s. behind_spelled (int z) levels b s) (λ z b s. spelled_behind (int z) levels b refl s)
     (none_behind (λ z below b. Own (int z) below b) integer_stands levels bytes rest e)
 
-pub pid_behind : (levels below : ℕ) (bytes inner : List ℕ) (answer : Option (Pid × Bor (List ℕ))) → Passed levels bytes below inner → ReadsFront IsPid inner answer → ReadsFront (λ p b. Spells levels (pid p) b) bytes answer
+pub pid_behind : (levels below : ℕ) (bytes inner : List ℕ) (answer : Option (Pid × Bor (List ℕ)))
+    → Passed levels bytes below inner → ReadsFront IsPid inner answer
+    → ReadsFront (λ p b. Spells levels (pid p) b) bytes answer
 pid_behind levels below bytes inner answer q r =
-    reads_same (λ p b. Behind (Own (pid p)) levels b) (λ p b. Spells levels (pid p) b) bytes answer (λ p b s. behind_spelled (pid p) levels b s) (λ p b s. spelled_behind (pid p) levels b refl s)
+    reads_same (λ p b. Behind (Own (pid p)) levels b) (λ p b. Spells levels (pid p) b) bytes answer
+    (λ p b s. behind_spelled (pid p) levels b s) (λ p b s. spelled_behind (pid p) levels b refl s)
     (reads_behind (λ p below b. Own (pid p) below b) pid_stands levels below q.0 bytes inner answer q.1 q.2 q.3 r)
 
 pub no_pid : (levels : ℕ) (bytes rest : List ℕ) → bytes ≡ lists levels ++ rest → ReadsFront (λ p b. Spells levels (pid p) b) bytes None
 no_pid levels bytes rest e =
-    reads_same (λ p b. Behind (Own (pid p)) levels b) (λ p b. Spells levels (pid p) b) bytes None (λ p b s. behind_spelled (pid p) levels b s) (λ p b s. spelled_behind (pid p) levels b refl s)
+    reads_same (λ p b. Behind (Own (pid p)) levels b) (λ p b. Spells levels (pid p) b) bytes None
+    (λ p b s. behind_spelled (pid p) levels b s) (λ p b s. spelled_behind (pid p) levels b refl s)
     (none_behind (λ p below b. Own (pid p) below b) pid_stands levels bytes rest e)
 
-pub reference_behind : (levels below : ℕ) (bytes inner : List ℕ) (answer : Option (Reference × Bor (List ℕ))) → Passed levels bytes below inner → ReadsFront IsReference inner answer → ReadsFront (λ r b. Spells levels (reference r) b) bytes answer
+pub reference_behind : (levels below : ℕ) (bytes inner : List ℕ) (answer : Option (Reference × Bor (List ℕ)))
+    → Passed levels bytes below inner → ReadsFront IsReference inner answer
+    → ReadsFront (λ r b. Spells levels (reference r) b) bytes answer
 reference_behind levels below bytes inner answer q r =
-    reads_same (λ p b. Behind (Own (reference p)) levels b) (λ p b. Spells levels (reference p) b) bytes answer (λ p b s. behind_spelled (reference p) levels b s) (λ p b s. spelled_behind (reference p) levels b refl s)
+    reads_same (λ p b. Behind (Own (reference p)) levels b) (λ p b. Spells levels (reference p) b) bytes answer
+    (λ p b s. behind_spelled (reference p) levels b s) (λ p b s. spelled_behind (reference p) levels b refl s)
     (reads_behind (λ p below b. Own (reference p) below b) reference_stands levels below q.0 bytes inner answer q.1 q.2 q.3 r)
 
-pub no_reference : (levels : ℕ) (bytes rest : List ℕ) → bytes ≡ lists levels ++ rest → ReadsFront (λ r b. Spells levels (reference r) b) bytes None
+pub no_reference : (levels : ℕ) (bytes rest : List ℕ) → bytes ≡ lists levels ++ rest
+    → ReadsFront (λ r b. Spells levels (reference r) b) bytes None
 no_reference levels bytes rest e =
-    reads_same (λ p b. Behind (Own (reference p)) levels b) (λ p b. Spells levels (reference p) b) bytes None (λ p b s. behind_spelled (reference p) levels b s) (λ p b s. spelled_behind (reference p) levels b refl s)
+    reads_same (λ p b. Behind (Own (reference p)) levels b) (λ p b. Spells levels (reference p) b) bytes None
+    (λ p b s. behind_spelled (reference p) levels b s) (λ p b s. spelled_behind (reference p) levels b refl s)
     (none_behind (λ p below b. Own (reference p) below b) reference_stands levels bytes rest e)
 
 -- ---- the head of a tuple
@@ -228,7 +269,8 @@ head_of arity levels = record { arity = arity; levels = levels }
 same_head : (x : TupleHead) (arity levels : ℕ) → arity ≡ x.arity → levels ≡ x.levels → head_of arity levels ≡ x
 same_head x arity levels e f = ap (λ (n : ℕ). head_of n levels) e ∙ ap (head_of x.arity) f
 
-headed : (below : ℕ) (inner : List ℕ) (n : ℕ) (rest : Bor (List ℕ)) → ReadsFront IsHead inner (Some (n, rest)) → ReadsFront (λ x b. AtHead x below b) inner (Some (head_of n below, rest))
+headed : (below : ℕ) (inner : List ℕ) (n : ℕ) (rest : Bor (List ℕ)) → ReadsFront IsHead inner (Some (n, rest))
+    → ReadsFront (λ x b. AtHead x below b) inner (Some (head_of n below, rest))
 headed below inner n rest r = record {
   takes = record { text = r.takes.text; is_text = (refl, r.takes.is_text); parts = r.takes.parts };
   again = λ x text more s p. let k = r.again x.arity text more s.1 p in (same_head x n below k.0 (sym s.0), k.1);
@@ -237,11 +279,15 @@ headed below inner n rest r = record {
 unheaded : (below : ℕ) (inner : List ℕ) → ReadsFront IsHead inner None → ReadsFront (λ x b. AtHead x below b) inner None
 unheaded below inner r = record { takes = tt; again = λ x text more s p. r.again x.arity text more s.1 p }
 
-pub head_behind : (levels below : ℕ) (bytes inner : List ℕ) (n : ℕ) (rest : Bor (List ℕ)) → Passed levels bytes below inner → ReadsFront IsHead inner (Some (n, rest)) → ReadsFront (IsTupleHead levels) bytes (Some (head_of n below, rest))
-head_behind levels below bytes inner n rest p r = reads_behind AtHead head_stands levels below p.0 bytes inner (Some (head_of n below, rest)) p.1 p.2 p.3 (headed below inner n rest r)
+pub head_behind : (levels below : ℕ) (bytes inner : List ℕ) (n : ℕ) (rest : Bor (List ℕ)) → Passed levels bytes below inner
+    → ReadsFront IsHead inner (Some (n, rest)) → ReadsFront (IsTupleHead levels) bytes (Some (head_of n below, rest))
+head_behind levels below bytes inner n rest p r =
+    reads_behind AtHead head_stands levels below p.0 bytes inner (Some (head_of n below, rest)) p.1 p.2 p.3 (headed below inner n rest r)
 
-pub head_missing : (levels below : ℕ) (bytes inner : List ℕ) → Passed levels bytes below inner → ReadsFront IsHead inner None → ReadsFront (IsTupleHead levels) bytes None
-head_missing levels below bytes inner p r = reads_behind AtHead head_stands levels below p.0 bytes inner None p.1 p.2 p.3 (unheaded below inner r)
+pub head_missing : (levels below : ℕ) (bytes inner : List ℕ) → Passed levels bytes below inner → ReadsFront IsHead inner None
+    → ReadsFront (IsTupleHead levels) bytes None
+head_missing levels below bytes inner p r =
+    reads_behind AtHead head_stands levels below p.0 bytes inner None p.1 p.2 p.3 (unheaded below inner r)
 
 pub no_head : (levels : ℕ) (bytes rest : List ℕ) → bytes ≡ lists levels ++ rest → ReadsFront (IsTupleHead levels) bytes None
 no_head levels bytes rest e = none_behind AtHead head_stands levels bytes rest e
@@ -259,7 +305,8 @@ pub record TupleParts (levels : ℕ) (ts : Items) (b : List ℕ) : Type 0 where
 pub tuple_opened : (levels : ℕ) (ts : Items) (b : List ℕ) → Spells levels (tuple ts) b → TupleParts levels ts b
 tuple_opened levels ts b s = by (spelled_behind (tuple ts) levels b refl s)
   where
-    made : (h : Behind (Own (tuple ts)) levels b) (head elements : List ℕ) → IsHead (count ts) head → SpellAll (Spells h.below) ts elements → h.text ≡ head ++ elements → TupleParts levels ts b
+    made : (h : Behind (Own (tuple ts)) levels b) (head elements : List ℕ) → IsHead (count ts) head
+        → SpellAll (Spells h.below) ts elements → h.text ≡ head ++ elements → TupleParts levels ts b
     made h head elements is all e = record {
       below = h.below;
       head = lists h.k ++ head;
@@ -280,22 +327,38 @@ pub tuple_closed : (levels : ℕ) (ts : Items) (b : List ℕ) → TupleParts lev
 tuple_closed levels ts b p =
     let h = p.is_head in
     let spelled = subst (λ (n : ℕ). SpellAll (Spells n) ts p.elements) h.is_text.0 p.spelled in
-    behind_spelled (tuple ts) levels b (record { k = h.k; below = h.below; text = h.text ++ p.elements; is_text = row h.below h.text h.is_text.1 spelled; depth = h.depth; bytes = p.parts ∙ ap (λ (w : List ℕ). w ++ p.elements) h.bytes ∙ append_assoc (lists h.k) h.text p.elements })
+    behind_spelled (tuple ts) levels b (record {
+      k = h.k;
+      below = h.below;
+      text = h.text ++ p.elements;
+      is_text = row h.below h.text h.is_text.1 spelled;
+      depth = h.depth;
+      bytes = p.parts ∙ ap (λ (w : List ℕ). w ++ p.elements) h.bytes ∙ append_assoc (lists h.k) h.text p.elements;
+    })
   where
-    row : (below : ℕ) (head : List ℕ) → IsHead (count ts) head → SpellAll (Spells below) ts p.elements → Own (tuple ts) below (head ++ p.elements)
-    row below head (inl g) all = inl (record { arity = g.arity; elements = p.elements; number = g.number; spelled = all; bytes = ap (λ (w : List ℕ). w ++ p.elements) g.bytes })
-    row below head (inr g) all = inr (record { arity = g.arity; elements = p.elements; number = g.number; spelled = all; bytes = ap (λ (w : List ℕ). w ++ p.elements) g.bytes })
+    row : (below : ℕ) (head : List ℕ) → IsHead (count ts) head → SpellAll (Spells below) ts p.elements
+        → Own (tuple ts) below (head ++ p.elements)
+    row below head (inl g) all =
+        inl (record
+        { arity = g.arity; elements = p.elements; number = g.number; spelled = all; bytes = ap (λ (w : List ℕ). w ++ p.elements) g.bytes })
+    row below head (inr g) all =
+        inr (record
+        { arity = g.arity; elements = p.elements; number = g.number; spelled = all; bytes = ap (λ (w : List ℕ). w ++ p.elements) g.bytes })
 
 -- ---- passing over them
 
 pub passes_none : (levels : ℕ) (bytes : List ℕ) → levels ≡ 0 → PassesOver levels bytes None
 passes_none levels bytes e = (bytes, rw e refl)
 
-pub passes_more : (levels below : ℕ) (bytes tail : List ℕ) (answer : Option (ℕ × Bor (List ℕ))) → levels ≡ suc below → pointwise nat_eq (take 5 bytes) (lists 1) ≡ true → tail ≡ drop 5 bytes → PassesOver below tail answer → PassesOver levels bytes answer
+pub passes_more : (levels below : ℕ) (bytes tail : List ℕ) (answer : Option (ℕ × Bor (List ℕ))) → levels ≡ suc below
+    → pointwise nat_eq (take 5 bytes) (lists 1) ≡ true → tail ≡ drop 5 bytes → PassesOver below tail answer
+    → PassesOver levels bytes answer
 passes_more levels below bytes tail answer e front rest p = by answer p
   where
     split : bytes ≡ lists 1 ++ tail
-    split = sym (take-append-drop 5 bytes) ∙ ap (λ (w : List ℕ). w ++ drop 5 bytes) (same_text (take 5 bytes) (lists 1) (sym front)) ∙ ap (λ (w : List ℕ). lists 1 ++ w) (sym rest)
+    split = sym (take-append-drop 5 bytes)
+        ∙ ap (λ (w : List ℕ). w ++ drop 5 bytes) (same_text (take 5 bytes) (lists 1) (sym front))
+        ∙ ap (λ (w : List ℕ). lists 1 ++ w) (sym rest)
 
     by : (a : Option (ℕ × Bor (List ℕ))) → PassesOver below tail a → PassesOver levels bytes a
     by None p = (p.0, rw e (split ∙ ap (λ (w : List ℕ). lists 1 ++ w) p.1))

@@ -22,4 +22,6 @@ pub number_1 : (n : ℕ) (b : List ℕ) → IsNumber 1 n b → n < 256
 number_1 n b s = let e : get_or b 0 0 * 256 ^ 0 + 0 ≡ n = s.says in let k = s.bytes 0 in omega arith
 
 pub number_4 : (n : ℕ) (b : List ℕ) → IsNumber 4 n b → n < 2 ^ 32
-number_4 n b s = let e : big_number 4 b ≡ n = s.says in let k0 = s.bytes 0 in let k1 = s.bytes 1 in let k2 = s.bytes 2 in let k3 = s.bytes 3 in omega arith
+number_4 n b s =
+    let e : big_number 4 b ≡ n = s.says in let k0 = s.bytes 0 in let k1 = s.bytes 1 in let k2 = s.bytes 2 in
+    let k3 = s.bytes 3 in omega arith

@@ -1,5 +1,6 @@
 -- The digits of a magnitude, as a loop writes them.
-use Rattle.std.proofs.Common.{◌-◌, ◌%◌, ◌/◌, ◌≢◌, eqb, set, append_assoc, true, false, Bool, take, ◌≡◌, ℕ, zero, suc, ◌+◌, ◌<◌, ◌≤◌, List, [], ◌∷◌, ◌++◌, length, refl, arith}
+use Rattle.std.proofs.Common.{◌-◌, ◌%◌, ◌/◌, ◌≢◌, eqb, set, append_assoc, true, false, Bool, take, ◌≡◌}
+use Rattle.std.proofs.Common.{ℕ, zero, suc, ◌+◌, ◌<◌, ◌≤◌, List, [], ◌∷◌, ◌++◌, length, refl, arith}
 use Rattle.std.proofs.lemmas.List.{append-nil, take_more_set}
 use Rattle.std.proofs.lemmas.Bool.{eqb-true}
 use Rattle.erl_term.specs.Canonical.{digits}
@@ -12,12 +13,14 @@ ne_eqb r true e some = absurd (some (eqb-true r 0 e))
 ne_eqb r false e some = e
 
 -- one more byte of the magnitude
-pub digit_more : (most : ℕ) (bytes : List ℕ) (len rest : ℕ) → len < length bytes → len < most → rest ≢ 0 → digits_within most (set bytes len (rest % 256)) (len + 1) (rest / 256) ≡ digits_within most bytes len rest
+pub digit_more : (most : ℕ) (bytes : List ℕ) (len rest : ℕ) → len < length bytes → len < most → rest ≢ 0
+    → digits_within most (set bytes len (rest % 256)) (len + 1) (rest / 256) ≡ digits_within most bytes len rest
 digit_more most bytes len rest lt in_most some =
     let k : most - len ≡ suc (most - (len + 1)) = omega arith in
     let not : eqb rest 0 ≡ false = ne_eqb rest (eqb rest 0) refl some in
     let one : digits (most - len) rest ≡ (rest % 256) ∷ digits (most - (len + 1)) (rest / 256) = rw (k, not) refl in
-    let front : take (len + 1) (set bytes len (rest % 256)) ≡ take len bytes ++ (rest % 256) ∷ [] = take_more_set bytes len (rest % 256) lt in
+    let front : take (len + 1) (set bytes len (rest % 256)) ≡ take len bytes ++ (rest % 256) ∷ [] =
+    take_more_set bytes len (rest % 256) lt in
     rw (front, one) (append_assoc (take len bytes) ((rest % 256) ∷ []) (digits (most - (len + 1)) (rest / 256)))
 
 digits_none : (n : ℕ) → digits n 0 ≡ []

@@ -1,5 +1,6 @@
 -- The answer of the reader from the left is the answer that is due.
-use Rattle.std.proofs.Common.{◌≡◌, ◌≢◌, ℕ, ◌+◌, ◌-◌, ◌<◌, ◌≤◌, Bool, true, false, cond, ltb, List, [], ◌∷◌, ◌++◌, length, take, drop, Result, Ok, Err, refl, sym, ap, subst, ◌∙◌, append_assoc, arith, inl, inr}
+use Rattle.std.proofs.Common.{◌≡◌, ◌≢◌, ℕ, ◌+◌, ◌-◌, ◌<◌, ◌≤◌, Bool, true, false, cond, ltb, List, [], ◌∷◌, ◌++◌, length}
+use Rattle.std.proofs.Common.{take, drop, Result, Ok, Err, refl, sym, ap, subst, ◌∙◌, append_assoc, arith, inl, inr}
 use Rattle.std.proofs.lemmas.Bool.{ltb-false, ltb-true, le-ltb, lt-ltb}
 use Rattle.std.proofs.lemmas.List.{take_at, take-append-drop, length-append, length-drop}
 use Rattle.erl_term.specs.declared.error.TermError.{TermError}
@@ -21,12 +22,17 @@ use Rattle.erl_term.proofs.WhyRows.{Explains-spelling, kind_of}
 use Rattle.erl_term.proofs.FaultKinds.{kind_is, kind_answer}
 use Rattle.erl_term.proofs.Errors.{IsReadError, read_error}
 
-pub rest_short : (bytes : List ℕ) (t : Data) (rest : List ℕ) → AreBytes bytes → spelling_at bytes ≡ Ok (t, rest) → length rest ≤ length bytes
-rest_short bytes t rest h e = let k = Reads-spelling.takes bytes t rest h e in let l = ap length k.parts in omega (arith, length-append k.text rest)
+pub rest_short : (bytes : List ℕ) (t : Data) (rest : List ℕ) → AreBytes bytes → spelling_at bytes ≡ Ok (t, rest)
+    → length rest ≤ length bytes
+rest_short bytes t rest h e =
+    let k = Reads-spelling.takes bytes t rest h e in let l = ap length k.parts in omega (arith, length-append k.text rest)
 
 -- where the reader is cut the bytes end inside a spelling
 pub cut_inside : (bytes : List ℕ) → AreBytes bytes → spelling_at bytes ≡ Err Cut → IsInside 64 bytes
-cut_inside bytes h e = record { begins = Reads-spelling.goes_on bytes h e; open_end = position.cut_open cut_or (IsSpelling 64) spelling_at Reads-spelling bytes e }
+cut_inside bytes h e = record {
+  begins = Reads-spelling.goes_on bytes h e;
+  open_end = position.cut_open cut_or (IsSpelling 64) spelling_at Reads-spelling bytes e;
+}
 
 -- and nowhere else
 pub inside_cut : (bytes : List ℕ) → AreBytes bytes → IsInside 64 bytes → spelling_at bytes ≡ Err Cut
@@ -51,7 +57,8 @@ fault_first bytes e h err not =
         inside = cut_inside f.front front_fits f.before;
         stops = λ b. position.begins_none cut_or (IsSpelling 64) spelling_at Reads-spelling (f.front ++ f.byte ∷ []) e fits f.after not b;
       };
-      why = kind_is f.front f.byte e fits (last_byte f.front f.byte fits) not f.after (kind_of f.front f.byte e (Explains-spelling.why f.front f.byte e fits not f.before f.after fits));
+      why = kind_is f.front f.byte e fits (last_byte f.front f.byte fits) not f.after
+          (kind_of f.front f.byte e (Explains-spelling.why f.front f.byte e fits not f.before f.after fits));
     }
 
 -- and each first fault is an error of its kind
@@ -61,33 +68,42 @@ fault_answer bytes kind h w =
     let split = f.parts ∙ sym (append_assoc w.front (w.byte ∷ []) f.rest) in
     let fits : AreBytes (w.front ++ w.byte ∷ []) = position.AreBytes-front (w.front ++ w.byte ∷ []) f.rest (subst AreBytes split h) in
     let front_fits : AreBytes w.front = position.AreBytes-front w.front (w.byte ∷ []) fits in
-    let k = position.fault_fails cut_or (IsSpelling 64) spelling_at Reads-spelling w.front w.byte fits f.inside.begins f.inside.open_end f.stops in
+    let k =
+    position.fault_fails cut_or
+    (IsSpelling 64) spelling_at Reads-spelling w.front w.byte fits f.inside.begins f.inside.open_end f.stops in
     let before = inside_cut w.front front_fits f.inside in
-    let same : k.0 ≡ kind = kind_answer w.front w.byte k.0 kind fits (last_byte w.front w.byte fits) k.1 k.2 (kind_of w.front w.byte k.0 (Explains-spelling.why w.front w.byte k.0 fits k.1 before k.2 fits)) w.why in
+    let same : k.0 ≡ kind =
+    kind_answer w.front w.byte k.0 kind fits (last_byte w.front w.byte fits) k.1 k.2
+    (kind_of w.front w.byte k.0 (Explains-spelling.why w.front w.byte k.0 fits k.1 before k.2 fits)) w.why in
     ap spelling_at split ∙ Reads-spelling.stable (w.front ++ w.byte ∷ []) f.rest k.0 fits k.1 k.2 ∙ ap (λ (e : TermError). Err e) same
 
 -- what is read stands at the front, and takes the bytes that are gone
-pub read_front : (bytes : List ℕ) (t : Data) (rest : List ℕ) → AreBytes bytes → spelling_at bytes ≡ Ok (t, rest) → IsAtFront bytes t (length bytes - length rest)
+pub read_front : (bytes : List ℕ) (t : Data) (rest : List ℕ) → AreBytes bytes → spelling_at bytes ≡ Ok (t, rest)
+    → IsAtFront bytes t (length bytes - length rest)
 read_front bytes t rest h e =
     let k = Reads-spelling.takes bytes t rest h e in
     let l : length bytes ≡ length k.text + length rest = ap length k.parts ∙ length-append k.text rest in
     let n : length bytes - length rest ≡ length k.text = omega arith in
-    let front : take (length bytes - length rest) bytes ≡ k.text = ap (take (length bytes - length rest)) k.parts ∙ take_at k.text rest (length bytes - length rest) (sym n) in
+    let front : take (length bytes - length rest) bytes ≡ k.text =
+    ap (take (length bytes - length rest)) k.parts ∙ take_at k.text rest (length bytes - length rest) (sym n) in
     record { within = omega arith; is_text = subst (IsSpelling 64 t) (sym front) k.is_text }
 
 -- and what stands there is read
 pub front_read : (bytes : List ℕ) (t : Data) (n : ℕ) → IsAtFront bytes t n → spelling_at bytes ≡ Ok (t, drop n bytes)
 front_read bytes t n f = ap spelling_at (sym (take-append-drop n bytes)) ∙ Reads-spelling.again t (take n bytes) (drop n bytes) f.is_text
 
-due_ok : (bytes : List ℕ) (x : Data × List ℕ) (b : Bool) → AreBytes bytes → spelling_at bytes ≡ Ok x → ltb limit (length bytes - length x.1) ≡ b → IsDue bytes (cond b (Err TooLong) (Ok (x.0, length bytes - length x.1)))
+due_ok : (bytes : List ℕ) (x : Data × List ℕ) (b : Bool) → AreBytes bytes → spelling_at bytes ≡ Ok x
+    → ltb limit (length bytes - length x.1) ≡ b → IsDue bytes (cond b (Err TooLong) (Ok (x.0, length bytes - length x.1)))
 due_ok bytes x true h e l = inr (x.0, length bytes - length x.1, ltb-true limit (length bytes - length x.1) l, read_front bytes x.0 x.1 h e)
 due_ok bytes x false h e l = (read_front bytes x.0 x.1 h e, ltb-false limit (length bytes - length x.1) l)
 
-due_cut : (bytes : List ℕ) (b : Bool) → AreBytes bytes → spelling_at bytes ≡ Err Cut → ltb limit (length bytes) ≡ b → IsDue bytes (cond b (Err TooLong) (Err Cut))
+due_cut : (bytes : List ℕ) (b : Bool) → AreBytes bytes → spelling_at bytes ≡ Err Cut → ltb limit (length bytes) ≡ b
+    → IsDue bytes (cond b (Err TooLong) (Err Cut))
 due_cut bytes true h e l = inl (ltb-true limit (length bytes) l, cut_inside bytes h e)
 due_cut bytes false h e l = (cut_inside bytes h e, ltb-false limit (length bytes) l)
 
-due_err : (bytes : List ℕ) (e : TermError) → AreBytes bytes → IsReadError e → spelling_at bytes ≡ Err e → IsDue bytes (limited (length bytes) (Err e))
+due_err : (bytes : List ℕ) (e : TermError) → AreBytes bytes → IsReadError e → spelling_at bytes ≡ Err e
+    → IsDue bytes (limited (length bytes) (Err e))
 due_err bytes Cut h k e = due_cut bytes _ h e refl
 due_err bytes Malformed h k e = fault_first bytes Malformed h e (λ q. cc)
 due_err bytes (OutOfProfile tag) h k e = fault_first bytes (OutOfProfile tag) h e (λ q. cc)
@@ -113,11 +129,13 @@ due_answer bytes (Ok x) h d =
     let n : length bytes - length (drop x.1 bytes) ≡ x.1 = omega (arith, length-drop x.1 bytes) in
     let low : ltb limit x.1 ≡ false = le-ltb limit x.1 d.1 in
     rw (e, n, low) refl
-due_answer bytes (Err Cut) h d = let low : ltb limit (length bytes) ≡ false = le-ltb limit (length bytes) d.1 in rw (inside_cut bytes h d.0, low) refl
+due_answer bytes (Err Cut) h d =
+    let low : ltb limit (length bytes) ≡ false = le-ltb limit (length bytes) d.1 in rw (inside_cut bytes h d.0, low) refl
 due_answer bytes (Err Malformed) h d = rw (fault_answer bytes Malformed h d) refl
 due_answer bytes (Err (OutOfProfile tag)) h d = rw (fault_answer bytes (OutOfProfile tag) h d) refl
 due_answer bytes (Err TooDeep) h d = rw (fault_answer bytes TooDeep h d) refl
-due_answer bytes (Err TooLong) h (inl d) = let high : ltb limit (length bytes) ≡ true = lt-ltb limit (length bytes) d.0 in rw (inside_cut bytes h d.1, high) refl
+due_answer bytes (Err TooLong) h (inl d) =
+    let high : ltb limit (length bytes) ≡ true = lt-ltb limit (length bytes) d.0 in rw (inside_cut bytes h d.1, high) refl
 due_answer bytes (Err TooLong) h (inr d) =
     let e = front_read bytes d.0 d.1 d.3 in
     let w = d.3.within in
@@ -157,7 +175,8 @@ scan_ok (Err f) n h = absurd cc
 pub scanned_due : (bytes : List ℕ) (e : TermError) → AreBytes bytes → taken_of (answer_at bytes) ≡ Err e → IsDue bytes (Err e)
 scanned_due bytes e h s = subst (IsDue bytes) (scan_err (answer_at bytes) e s) (answer_due bytes h)
 
-pub scanned_only : (bytes : List ℕ) (e : TermError) (due : Result (Data × ℕ) TermError) → AreBytes bytes → taken_of (answer_at bytes) ≡ Err e → IsDue bytes due → due ≡ Err e
+pub scanned_only : (bytes : List ℕ) (e : TermError) (due : Result (Data × ℕ) TermError) → AreBytes bytes
+    → taken_of (answer_at bytes) ≡ Err e → IsDue bytes due → due ≡ Err e
 scanned_only bytes e due h s d = sym (due_answer bytes due h d) ∙ scan_err (answer_at bytes) e s
 
 pub scanned_term : (bytes : List ℕ) (n : ℕ) → AreBytes bytes → taken_of (answer_at bytes) ≡ Ok n → (x : Data × ℕ) × IsDue bytes (Ok x)
@@ -169,7 +188,8 @@ memory_never bytes e d q = let z : IsDue bytes (Err OutOfMemory) = subst (λ (f 
 pub is_err_of : (e : TermError) → IsErrOf {T = Term × ℕ} (Err e) OutOfMemory → e ≡ OutOfMemory
 is_err_of e q = cc
 
-pub len_due : (bytes : List ℕ) (r : Result ℕ TermError) → AreBytes bytes → taken_of (answer_at bytes) ≡ r → IfOk r (λ n. (t : Data) × IsDue bytes (Ok (t, n)))
+pub len_due : (bytes : List ℕ) (r : Result ℕ TermError) → AreBytes bytes → taken_of (answer_at bytes) ≡ r
+    → IfOk r (λ n. (t : Data) × IsDue bytes (Ok (t, n)))
 len_due bytes (Err e) h s = tt
 len_due bytes (Ok n) h s =
     let x = scan_ok (answer_at bytes) n s in
@@ -177,6 +197,7 @@ len_due bytes (Ok n) h s =
     let same : x.0.1 ≡ n = cc in
     (x.0.0, subst (λ (m : ℕ). IsDue bytes (Ok (x.0.0, m))) same (subst (IsDue bytes) x.1 (answer_due bytes h)))
 
-pub len_err_due : (bytes : List ℕ) (r : Result ℕ TermError) → AreBytes bytes → taken_of (answer_at bytes) ≡ r → IfErr r (λ e. IsDue bytes (Err e))
+pub len_err_due : (bytes : List ℕ) (r : Result ℕ TermError) → AreBytes bytes → taken_of (answer_at bytes) ≡ r
+    → IfErr r (λ e. IsDue bytes (Err e))
 len_err_due bytes (Err e) h s = scanned_due bytes e h s
 len_err_due bytes (Ok n) h s = tt

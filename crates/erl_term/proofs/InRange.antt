@@ -1,14 +1,19 @@
 -- What bytes spell is a value of the profile.
-use Rattle.std.proofs.Common.{◌≡◌, ◌^◌, ◌<◌, ◌≤◌, ◌+◌, inl, inr, ℕ, zero, suc, true, false, get_or, List, [], ◌∷◌, ◌++◌, length, sym, ap, subst, arith, refl}
+use Rattle.erl_term.proofs.Bytes.{number_1, number_4}
+use Rattle.erl_term.proofs.Canonical.{letters_count}
+use Rattle.std.proofs.Common.{◌≡◌, ◌^◌, ◌<◌, ◌≤◌, ◌+◌, inl, inr, ℕ, zero, suc, true, false}
+use Rattle.std.proofs.Common.{get_or, List, [], ◌∷◌, ◌++◌, length, sym, ap, subst, arith, refl}
 use Rattle.std.specs.Prelude.{ℤ, pos, negsuc, FitsSigned, All}
 use Rattle.std.specs.Int.{w32, w128, cast_signed}
 use Rattle.std.proofs.Math.Facts.{sfits_to_z}
 use Rattle.std.proofs.lemmas.List.{length-append}
 use Rattle.byteorder.specs.Endian.{big_number}
 use Rattle.erl_term.specs.Canonical.{AreInRange, IsInRange, IsPidInRange, IsReferenceInRange, is_list}
-use Rattle.erl_term.specs.Data.{Data, int, atom, tuple, list, improper, binary, pid, reference, Items, no_items, item, append_items, count, joined}
+use Rattle.erl_term.specs.Data.{Data, int, atom, tuple, list, improper, binary, pid}
+use Rattle.erl_term.specs.Data.{reference, Items, no_items, item, append_items, count, joined}
 use Rattle.erl_term.specs.Numbers.{AreBytes, low_first, signed}
-use Rattle.erl_term.specs.Spelling.{AreWords, IsAtom, IsLatinAtom, IsBinary, IsInteger, IsList, IsNumber, IsPid, IsReference, IsSmallBig, IsSmallInteger, IsSpelling, IsString, IsTuple, SpellAll, Spells, SpellsAtom, SpellsBy, byte_items}
+use Rattle.erl_term.specs.Spelling.{AreWords, IsAtom, IsLatinAtom, IsBinary, IsInteger, IsList, IsNumber, IsPid, IsReference, IsSmallBig}
+use Rattle.erl_term.specs.Spelling.{IsSmallInteger, IsSpelling, IsString, IsTuple, SpellAll, Spells, SpellsAtom, SpellsBy, byte_items}
 use Rattle.erl_term.specs.Text.{IsAtomText}
 use Rattle.erl_term.specs.declared.term.Pid.{Pid}
 use Rattle.erl_term.specs.declared.term.Reference.{Reference}
@@ -16,37 +21,28 @@ use Rattle.erl_term.proofs.Why.{count-append}
 
 -- ---- numbers
 
-byte_below : (n : ℕ) (b : List ℕ) → IsNumber 1 n b → n < 256
-byte_below n b h = let b0 = h.bytes 0 in let e : big_number 1 b ≡ get_or b 0 0 = omega arith in let s = h.says in omega arith
-
-word_below : (n : ℕ) (b : List ℕ) → IsNumber 4 n b → n < 2 ^ 32
-word_below n b h =
-    let b0 = h.bytes 0 in let b1 = h.bytes 1 in let b2 = h.bytes 2 in let b3 = h.bytes 3 in
-    let s = h.says in
-    omega arith
-
 words_below : (ws b : List ℕ) → AreWords ws b → All (λ w. w < 2 ^ 32) ws
 words_below [] b h = λ k d lt. absurd (omega arith)
 words_below (w ∷ ws) b h = at (words_below ws h.1 h.3)
   where
     at : All (λ w. w < 2 ^ 32) ws → (k d : ℕ) → k < length (w ∷ ws) → get_or (w ∷ ws) k d < 2 ^ 32
-    at rest zero d lt = word_below w h.0 h.2
+    at rest zero d lt = number_4 w h.0 h.2
     at rest (suc k) d lt = rest k d (omega arith)
 
 wider : (z : ℤ) → FitsSigned w32 z → FitsSigned w128 z
 wider (pos n) h = omega arith
 wider (negsuc n) h = omega arith
 
-signed_fits : (sign n : ℕ) → sign ≤ 1 → n < 2 ^ 127 + sign → FitsSigned w128 (signed sign n)
+pub signed_fits : (sign n : ℕ) → sign ≤ 1 → n < 2 ^ 127 + sign → FitsSigned w128 (signed sign n)
 signed_fits zero n s h = omega arith
 signed_fits (suc zero) zero s h = omega arith
 signed_fits (suc zero) (suc n) s h = omega arith
 signed_fits (suc (suc m)) n s h = absurd (omega arith)
 
 int_fits : (z : ℤ) (b : List ℕ) (S : Data → List ℕ → Type 0) → SpellsBy S (int z) b → FitsSigned w128 z
-int_fits z b S (inl r) = let lt = byte_below r.n r.field r.number in subst (FitsSigned w128) (sym r.value) (omega arith)
+int_fits z b S (inl r) = let lt = number_1 r.n r.field r.number in subst (FitsSigned w128) (sym r.value) (omega arith)
 int_fits z b S (inr (inl r)) =
-    let fits : FitsSigned w32 (cast_signed w32 r.n) = sfits_to_z {w = w32} {n = r.n} (record { fits = word_below r.n r.field r.number }) in
+    let fits : FitsSigned w32 (cast_signed w32 r.n) = sfits_to_z {w = w32} {n = r.n} (record { fits = number_4 r.n r.field r.number }) in
     subst (FitsSigned w128) (sym r.value) (wider (cast_signed w32 r.n) fits)
 int_fits z b S (inr (inr r)) = subst (FitsSigned w128) (sym r.value) (signed_fits r.sign (low_first r.magnitude) r.is_sign r.in_range)
 
@@ -61,15 +57,15 @@ atom_text a b (inr (inr (inr r))) = r.is_text
 pid_range : (p : Pid) (b : List ℕ) → IsPid p b → IsPidInRange p
 pid_range p b r = record {
   node = atom_text p.node r.node r.is_node;
-  id = word_below p.id r.id r.is_id;
-  serial = word_below p.serial r.serial r.is_serial;
-  creation = word_below p.creation r.creation r.is_creation;
+  id = number_4 p.id r.id r.is_id;
+  serial = number_4 p.serial r.serial r.is_serial;
+  creation = number_4 p.creation r.creation r.is_creation;
 }
 
 reference_range : (x : Reference) (b : List ℕ) → IsReference x b → IsReferenceInRange x
 reference_range x b r = record {
   node = atom_text x.node r.node r.is_node;
-  creation = word_below x.creation r.creation r.is_creation;
+  creation = number_4 x.creation r.creation r.is_creation;
   some = r.some;
   few = r.few;
   words = words_below x.words r.words r.are_words;
@@ -90,16 +86,13 @@ letters_range : (ns : List ℕ) → AreBytes ns → AreInRange (byte_items ns)
 letters_range [] h = tt
 letters_range (n ∷ ns) h = (let lt = h 0 in omega arith, letters_range ns (λ i. h (suc i)))
 
-letters_count : (ns : List ℕ) → count (byte_items ns) ≡ length ns
-letters_count [] = refl
-letters_count (n ∷ ns) = ap suc (letters_count ns)
-
 append_range : (ts us : Items) → AreInRange ts → AreInRange us → AreInRange (append_items ts us)
 append_range no_items us h k = k
 append_range (item t ts) us h k = (h.0, append_range ts us h.1 k)
 
 -- some terms before a tail that is no list
-behind : (u : Data) (us : Items) (t : Data) (len : ℕ) → AreInRange (item u us) → IsInRange t → is_list t ≡ false → count (item u us) < len → len < 2 ^ 32
+behind : (u : Data) (us : Items) (t : Data) (len : ℕ) → AreInRange (item u us) → IsInRange t → is_list t ≡ false
+    → count (item u us) < len → len < 2 ^ 32
     → Fine (improper (item u us) t) len
 behind u us t len h r plain lt short = record { range = (omega arith, omega arith, plain, h, r); some = lt }
 
@@ -131,7 +124,8 @@ AllFine n = (t : Data) (b : List ℕ) → Spells n t b → length b < 2 ^ 32 →
 begins : (tag : ℕ) (rest b : List ℕ) → b ≡ tag ∷ rest → 0 < length b
 begins tag rest b e = let n = ap length e in omega arith
 
-items_fine : (n : ℕ) → AllFine n → (ts : Items) (b : List ℕ) → SpellAll (Spells n) ts b → length b < 2 ^ 32 → AreInRange ts × (count ts ≤ length b)
+items_fine : (n : ℕ) → AllFine n → (ts : Items) (b : List ℕ) → SpellAll (Spells n) ts b → length b < 2 ^ 32 → AreInRange ts
+    × (count ts ≤ length b)
 unfolding AllFine
 items_fine n each no_items b s short = (tt, omega arith)
 items_fine n each (item t ts) b s short =
@@ -152,7 +146,8 @@ atom_begins a b (inr (inl r)) = let n = ap length r.bytes in omega arith
 atom_begins a b (inr (inr (inl r))) = let n = ap length r.bytes in omega arith
 atom_begins a b (inr (inr (inr r))) = let n = ap length r.bytes in omega arith
 
-tuple_fine : (n tag width : ℕ) → AllFine n → (ts : Items) (b : List ℕ) → IsTuple (Spells n) tag width ts b → length b < 2 ^ 32 → Fine (tuple ts) (length b)
+tuple_fine : (n tag width : ℕ) → AllFine n → (ts : Items) (b : List ℕ) → IsTuple (Spells n) tag width ts b → length b < 2 ^ 32
+    → Fine (tuple ts) (length b)
 tuple_fine n tag width each ts b r short =
     let e = ap length r.bytes in let both = length-append r.arity r.elements in
     let all = items_fine n each ts r.elements r.spelled (omega arith) in
@@ -169,7 +164,8 @@ row_fine n each (list ts) b (inl r) short =
     subst (λ us. Fine (list us) (length b)) (sym r.0) (record { range = (omega arith, tt); some = some })
 row_fine n each (list ts) b (inr r) short =
     let e = ap length r.bytes in let both = length-append r.len r.letters in let few = letters_count r.letters in
-    subst (λ us. Fine (list us) (length b)) (sym r.value) (record { range = (omega arith, letters_range r.letters r.are_bytes); some = omega arith })
+    subst (λ us. Fine (list us) (length b)) (sym r.value)
+    (record { range = (omega arith, letters_range r.letters r.are_bytes); some = omega arith })
 row_fine n each (improper ts t) b s short = absurd s
 row_fine n each (binary a) b r short =
     let e = ap length r.bytes in let both = length-append r.len a in

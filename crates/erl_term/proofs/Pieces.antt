@@ -1,11 +1,13 @@
 -- Pieces of a length that stands before them: letters, strings, binaries and words.
-use Rattle.std.proofs.Common.{◌≡◌, ◌≢◌, ℕ, zero, suc, ◌+◌, ◌-◌, ◌<◌, ◌≤◌, Bool, true, false, cond, ltb, eqb, List, [], ◌∷◌, ◌++◌, length, get_or, take, drop, Ok, Err, refl, sym, ap, subst, ◌∙◌, append_assoc, arith, inl, inr}
+use Rattle.std.proofs.Common.{◌≡◌, ◌≢◌, ℕ, zero, suc, ◌+◌, ◌-◌, ◌<◌, ◌≤◌, Bool, true, false, cond, ltb, eqb, List, [], ◌∷◌, ◌++◌}
+use Rattle.std.proofs.Common.{length, get_or, take, drop, Ok, Err, refl, sym, ap, subst, ◌∙◌, append_assoc, arith, inl, inr}
 use Rattle.std.specs.Prelude.{replicate}
 use Rattle.std.specs.Str.{IsUtf8, chars, encode_utf8_all}
 use Rattle.std.proofs.Math.Utf8.{scalars, low_scalar, encode}
 use Rattle.std.proofs.lemmas.Str.{chars-encodes, encodes-chars, encodes-append}
 use Rattle.std.proofs.lemmas.Bool.{ltb-false, ltb-true, le-ltb, eqb-true}
-use Rattle.std.proofs.lemmas.List.{append-nil, take_at, drop_at, take_all, take_more, take-append-drop, length-append, length-take, length-replicate}
+use Rattle.std.proofs.lemmas.List.{append-nil, take_at, drop_at, take_all, take_more}
+use Rattle.std.proofs.lemmas.List.{take-append-drop, length-append, length-take, length-replicate}
 use Rattle.byteorder.specs.Endian.{big_number}
 use Rattle.erl_term.specs.declared.error.TermError.{TermError}
 use Rattle.erl_term.specs.declared.error.TermError.TheVariants.{Cut, Malformed}
@@ -13,11 +15,14 @@ use Rattle.erl_term.specs.Data.{Data, list, binary}
 use Rattle.erl_term.specs.Numbers.{AreBytes}
 use Rattle.erl_term.specs.Text.{latin_text}
 use Rattle.erl_term.specs.Spelling.{IsNumber, IsLatinAtom, IsString, IsBinary, AreWords, byte_items}
-use Rattle.erl_term.specs.Reading.{Read, ◌>>=◌, any_at, number_at, part_at, letters_at, latin_at, string_at, binary_at, word_count_at, words_at}
+use Rattle.erl_term.specs.Reading.{Read, ◌>>=◌, any_at, number_at, part_at, letters_at}
+use Rattle.erl_term.specs.Reading.{latin_at, string_at, binary_at, word_count_at, words_at}
 use Rattle.readers.specs.Laws.{IsOnly}
-use Rattle.erl_term.proofs.Readers.{Takes, Begins, Reads, Then, and_then, Known, known, is_ok, is_err, err_of_bind, ok_of_bind, AreBytes-nil, Reads-then, Reads-same, Mapped, Reads-map, Reads-only}
+use Rattle.erl_term.proofs.Readers.{Takes, Begins, Reads, Then, and_then, Known, known, is_ok, is_err, err_of_bind}
+use Rattle.erl_term.proofs.Readers.{ok_of_bind, AreBytes-nil, Reads-then, Reads-same, Mapped, Reads-map, Reads-only}
 use Rattle.erl_term.proofs.Tags.{suc_not}
-use Rattle.erl_term.proofs.Base.{guard_ok, guard_err, ok_is, AreBytes-padded, AreBytes-take, Reads-any, IsNumberTo, number_err, Reads-number}
+use Rattle.erl_term.proofs.Base.{guard_ok, guard_err, ok_is, AreBytes-padded, AreBytes-take}
+use Rattle.erl_term.proofs.Base.{Reads-any, IsNumberTo, number_err, Reads-number}
 
 -- ---- a part of so many bytes
 
@@ -35,7 +40,11 @@ part_takes n bytes a rest h e =
     let rest-is : drop n bytes ≡ rest = ap (λ (p : List ℕ × List ℕ). p.1) both in
     record {
       text = take n bytes;
-      is_text = record { same = a-is; len = ap length (sym a-is) ∙ omega (arith, length-take n bytes); are_bytes = subst AreBytes a-is (AreBytes-take n bytes h) };
+      is_text = record {
+        same = a-is;
+        len = ap length (sym a-is) ∙ omega (arith, length-take n bytes);
+        are_bytes = subst AreBytes a-is (AreBytes-take n bytes h);
+      };
       parts = sym (take-append-drop n bytes) ∙ ap (λ (r : List ℕ). take n bytes ++ r) rest-is;
     }
 
@@ -63,7 +72,11 @@ Reads-part n = record {
       record {
         value = bytes ++ replicate m 0;
         more = replicate m 0;
-        is_text = record { same = refl; len = omega (arith, length-append bytes (replicate m 0), length-replicate {A = ℕ} m 0); are_bytes = AreBytes-padded bytes m h };
+        is_text = record {
+          same = refl;
+          len = omega (arith, length-append bytes (replicate m 0), length-replicate {A = ℕ} m 0);
+          are_bytes = AreBytes-padded bytes m h;
+        };
       };
   starts = λ e k. (part_cut n [] e k).1;
 }
@@ -75,7 +88,9 @@ Letters width = Then (IsNumberTo 255 width) IsPart
 
 pub Reads-letters : (width : ℕ) → Reads (Letters width) (letters_at width)
 unfolding letters_at
-Reads-letters width = Reads-then (IsNumberTo 255 width) IsPart (number_at Malformed 255 width) part_at (Reads-number Malformed 255 width (λ e. cc)) (λ n text s. Reads-part n)
+Reads-letters width =
+    Reads-then (IsNumberTo 255 width) IsPart (number_at Malformed 255 width) part_at
+    (Reads-number Malformed 255 width (λ e. cc)) (λ n text s. Reads-part n)
 
 abbrev pub LatinText : ℕ → List ℕ → List ℕ → Type 0
 LatinText width = Mapped latin_text (Letters width)
@@ -86,7 +101,8 @@ Reads-latin width = Reads-map latin_text (Letters width) (letters_at width) (Rea
 
 letters_scalars : (letters : List ℕ) → AreBytes letters → scalars letters ≡ true
 letters_scalars [] h = refl
-letters_scalars (x ∷ xs) h = let one = low_scalar x (let k = h 0 in omega arith) in let more = letters_scalars xs (λ i. h (suc i)) in rw (one, more) refl
+letters_scalars (x ∷ xs) h =
+    let one = low_scalar x (let k = h 0 in omega arith) in let more = letters_scalars xs (λ i. h (suc i)) in rw (one, more) refl
 
 pub latin_chars : (letters : List ℕ) → AreBytes letters → chars (latin_text letters) ≡ letters
 unfolding latin_text
@@ -101,7 +117,8 @@ unfolding latin_text
 chars_latin a u = encodes-chars a u
 
 -- one letter more, as a loop writes it
-pub latin_more : (letters : List ℕ) (i : ℕ) (old new : List ℕ) → i < length letters → old ≡ encode_utf8_all (take i letters) → new ≡ old ++ encode (get_or letters i 0) → new ≡ encode_utf8_all (take (i + 1) letters)
+pub latin_more : (letters : List ℕ) (i : ℕ) (old new : List ℕ) → i < length letters → old ≡ encode_utf8_all (take i letters)
+    → new ≡ old ++ encode (get_or letters i 0) → new ≡ encode_utf8_all (take (i + 1) letters)
 latin_more letters i old new lt so_far more =
     let front : take (i + 1) letters ≡ take i letters ++ get_or letters i 0 ∷ [] = take_more letters i 0 lt in
     more ∙ ap (λ (w : List ℕ). w ++ encode (get_or letters i 0)) so_far
@@ -109,9 +126,11 @@ latin_more letters i old new lt so_far more =
     ∙ sym (encodes-append (take i letters) (get_or letters i 0 ∷ []))
     ∙ ap encode_utf8_all (sym front)
 
-pub latin_count : (letters : List ℕ) (i : ℕ) (text : List ℕ) → AreBytes letters → length letters ≤ i → text ≡ encode_utf8_all (take i letters) → length (chars text) ≡ length letters
+pub latin_count : (letters : List ℕ) (i : ℕ) (text : List ℕ) → AreBytes letters → length letters ≤ i
+    → text ≡ encode_utf8_all (take i letters) → length (chars text) ≡ length letters
 unfolding latin_text
-latin_count letters i text h le e = ap (λ (w : List ℕ). length (chars w)) (e ∙ ap encode_utf8_all (take_all i letters le)) ∙ ap length (latin_chars letters h)
+latin_count letters i text h le e =
+    ap (λ (w : List ℕ). length (chars w)) (e ∙ ap encode_utf8_all (take_all i letters le)) ∙ ap length (latin_chars letters h)
 
 pub latin_to : (tag width : ℕ) (a back b : List ℕ) → b ≡ tag ∷ back → LatinText width a back → IsLatinAtom tag width a b
 latin_to tag width a back b e s =
@@ -155,7 +174,10 @@ abbrev pub sized_at : {A : Type 0} → ℕ → (List ℕ → A) → List ℕ →
 sized_at width f = and_then (any_at width) (λ n bytes. part_at n bytes >>= λ part. Ok (f part.0, part.1))
 
 pub Reads-sized : {A : Type 0} (width : ℕ) (f : List ℕ → A) → Reads (Sized width f) (sized_at width f)
-Reads-sized width f = Reads-then (IsNumber width) (λ n. Mapped f (IsPart n)) (any_at width) (λ n bytes. part_at n bytes >>= λ part. Ok (f part.0, part.1)) (Reads-any width) (λ n text s. Reads-map f (IsPart n) (part_at n) (Reads-part n))
+Reads-sized width f =
+    Reads-then (IsNumber width) (λ n. Mapped f (IsPart n)) (any_at width)
+    (λ n bytes. part_at n bytes >>= λ part. Ok (f part.0, part.1)) (Reads-any width)
+    (λ n text s. Reads-map f (IsPart n) (part_at n) (Reads-part n))
 
 abbrev pub listed : List ℕ → Data
 listed letters = list (byte_items letters)
@@ -168,7 +190,8 @@ pub Reads-binary : Reads (Sized 4 binary) binary_at
 unfolding binary_at
 Reads-binary = Reads-sized 4 binary
 
-pub string_to : (t : Data) (back b : List ℕ) → b ≡ 107 ∷ back → Sized 2 listed t back → (letters : List ℕ) × (t ≡ listed letters) × IsString (byte_items letters) b
+pub string_to : (t : Data) (back b : List ℕ) → b ≡ 107 ∷ back → Sized 2 listed t back → (letters : List ℕ)
+    × (t ≡ listed letters) × IsString (byte_items letters) b
 string_to t back b e s =
     let m = s.is_back in
     let p = m.is_text in (
@@ -198,7 +221,8 @@ binary_to t back b e s =
       },
     )
 
-pub sized_back : {A : Type 0} (width : ℕ) (f : List ℕ → A) (a len : List ℕ) → AreBytes a → IsNumber width (length a) len → Sized width f (f a) (len ++ a)
+pub sized_back : {A : Type 0} (width : ℕ) (f : List ℕ → A) (a len : List ℕ) → AreBytes a → IsNumber width (length a) len
+    → Sized width f (f a) (len ++ a)
 sized_back width f a len h num = record {
   value = length a;
   front = len;
@@ -224,7 +248,8 @@ data Counts (bytes : List ℕ) (r : Read ℕ) : Type 0 where
   counts_none : (rest : List ℕ) → number_at Malformed 5 2 bytes ≡ Ok (0, rest) → r ≡ Err Malformed → Counts bytes r
   counts : (n : ℕ) (rest : List ℕ) → number_at Malformed 5 2 bytes ≡ Ok (n, rest) → 1 ≤ n → r ≡ Ok (n, rest) → Counts bytes r
 
-counts_by : (bytes : List ℕ) (n : ℕ) (rest : List ℕ) (b : Bool) → eqb n 0 ≡ b → number_at Malformed 5 2 bytes ≡ Ok (n, rest) → Counts bytes (cond b (Err Malformed) (Ok (n, rest)))
+counts_by : (bytes : List ℕ) (n : ℕ) (rest : List ℕ) (b : Bool) → eqb n 0 ≡ b → number_at Malformed 5 2 bytes ≡ Ok (n, rest)
+    → Counts bytes (cond b (Err Malformed) (Ok (n, rest)))
 counts_by bytes n rest true e k = counts_none rest (k ∙ ap (λ (m : ℕ). Ok (m, rest)) (eqb-true n 0 e)) refl
 counts_by bytes n rest false e k = counts n rest k (some n e) refl
   where
@@ -235,7 +260,8 @@ counts_by bytes n rest false e k = counts n rest k (some n e) refl
 counts_of : (bytes : List ℕ) → Known (number_at Malformed 5 2 bytes) → Counts bytes (word_count_at bytes)
 unfolding word_count_at
 counts_of bytes (is_err e k) = counts_err e k (err_of_bind (number_at Malformed 5 2 bytes) judged e k)
-counts_of bytes (is_ok x k) = subst (Counts bytes) (sym (ok_of_bind (number_at Malformed 5 2 bytes) judged x k)) (counts_by bytes x.0 x.1 _ refl k)
+counts_of bytes (is_ok x k) =
+    subst (Counts bytes) (sym (ok_of_bind (number_at Malformed 5 2 bytes) judged x k)) (counts_by bytes x.0 x.1 _ refl k)
 
 count_is : (bytes : List ℕ) → Counts bytes (word_count_at bytes)
 count_is bytes = counts_of bytes (known (number_at Malformed 5 2 bytes))
@@ -243,7 +269,8 @@ count_is bytes = counts_of bytes (known (number_at Malformed 5 2 bytes))
 Reads-to5 : Reads (IsNumberTo 5 2) (number_at Malformed 5 2)
 Reads-to5 = Reads-number Malformed 5 2 (λ e. cc)
 
-count_takes : (bytes : List ℕ) (n : ℕ) (rest : List ℕ) → AreBytes bytes → Counts bytes (word_count_at bytes) → word_count_at bytes ≡ Ok (n, rest) → Takes IsWordCount bytes n rest
+count_takes : (bytes : List ℕ) (n : ℕ) (rest : List ℕ) → AreBytes bytes → Counts bytes (word_count_at bytes)
+    → word_count_at bytes ≡ Ok (n, rest) → Takes IsWordCount bytes n rest
 count_takes bytes n rest h (counts_err e k r) eq = absurd cc
 count_takes bytes n rest h (counts_none s k r) eq = absurd cc
 count_takes bytes n rest h (counts m s k some r) eq =
@@ -262,7 +289,8 @@ count_again n text rest s =
     some zero le = absurd (omega arith)
     some (suc n) le = rw (suc_not n) refl
 
-count_stable : (bytes more : List ℕ) (e : TermError) → AreBytes bytes → e ≢ Cut → Counts bytes (word_count_at bytes) → word_count_at bytes ≡ Err e → word_count_at (bytes ++ more) ≡ Err e
+count_stable : (bytes more : List ℕ) (e : TermError) → AreBytes bytes → e ≢ Cut → Counts bytes (word_count_at bytes)
+    → word_count_at bytes ≡ Err e → word_count_at (bytes ++ more) ≡ Err e
 unfolding word_count_at
 count_stable bytes more e h c (counts n rest k some r) eq = absurd cc
 count_stable bytes more e h c (counts_err f k r) eq =
@@ -270,11 +298,15 @@ count_stable bytes more e h c (counts_err f k r) eq =
     err_of_bind (number_at Malformed 5 2 (bytes ++ more)) judged e (Reads-to5.stable bytes more e h c k2)
 count_stable bytes more e h c (counts_none rest k r) eq =
     let t = Reads-to5.takes bytes 0 rest h k in
-    let k2 : number_at Malformed 5 2 (bytes ++ more) ≡ Ok (0, rest ++ more) = ap (number_at Malformed 5 2) (ap (λ (w : List ℕ). w ++ more) t.parts ∙ append_assoc t.text rest more) ∙ Reads-to5.again 0 t.text (rest ++ more) t.is_text in
+    let k2 : number_at Malformed 5 2 (bytes ++ more) ≡ Ok (0, rest ++ more) =
+    ap (number_at Malformed 5 2) (ap (λ (w : List ℕ). w ++ more) t.parts ∙ append_assoc t.text rest more)
+    ∙ Reads-to5.again 0 t.text (rest ++ more) t.is_text in
     ok_of_bind (number_at Malformed 5 2 (bytes ++ more)) judged (0, rest ++ more) k2 ∙ sym r ∙ eq
 
 one_word : (b : List ℕ) → b ≡ 0 ∷ 1 ∷ [] → IsWordCount 1 b
-one_word b e = subst (IsWordCount 1) (sym e) (record { number = record { len = refl; bytes = fit; says = refl }; some = omega arith; few = omega arith })
+one_word b e =
+    subst (IsWordCount 1) (sym e)
+    (record { number = record { len = refl; bytes = fit; says = refl }; some = omega arith; few = omega arith })
   where
     fit : AreBytes (0 ∷ 1 ∷ [])
     fit zero = omega arith
@@ -283,7 +315,8 @@ one_word b e = subst (IsWordCount 1) (sym e) (record { number = record { len = r
 
 count_begins : (bytes : List ℕ) → length bytes < 2 → big_number 2 bytes ≤ 5 → Begins IsWordCount bytes
 count_begins [] lt le = record { value = 1; more = 0 ∷ 1 ∷ []; is_text = one_word (0 ∷ 1 ∷ []) refl }
-count_begins (b ∷ []) lt le = let z : b ≡ 0 = omega arith in record { value = 1; more = 1 ∷ []; is_text = one_word (b ∷ 1 ∷ []) (ap (λ (j : ℕ). j ∷ 1 ∷ []) z) }
+count_begins (b ∷ []) lt le =
+    let z : b ≡ 0 = omega arith in record { value = 1; more = 1 ∷ []; is_text = one_word (b ∷ 1 ∷ []) (ap (λ (j : ℕ). j ∷ 1 ∷ []) z) }
 count_begins (b ∷ c ∷ bytes) lt le = absurd (omega arith)
 
 count_goes_on : (bytes : List ℕ) → Counts bytes (word_count_at bytes) → word_count_at bytes ≡ Err Cut → Begins IsWordCount bytes
@@ -330,21 +363,33 @@ no_words [] b s = (refl, s.1)
 no_words (w ∷ ws) b s = absurd (let e = s.0 in omega arith)
 
 words_to : (n : ℕ) (ws b : List ℕ) → Then (IsNumber 4) (λ w. Mapped (λ (us : List ℕ). w ∷ us) (Counted n)) ws b → Counted (suc n) ws b
-words_to n ws b s = subst (λ us. Counted (suc n) us b) (sym s.is_back.made) (ap suc s.is_back.is_text.0, (s.front, s.back, s.is_front, s.is_back.is_text.1, s.parts))
+words_to n ws b s =
+    subst (λ us. Counted (suc n) us b) (sym s.is_back.made)
+    (ap suc s.is_back.is_text.0, (s.front, s.back, s.is_front, s.is_back.is_text.1, s.parts))
 
 words_back : (n : ℕ) (ws b : List ℕ) → Counted (suc n) ws b → Then (IsNumber 4) (λ w. Mapped (λ (us : List ℕ). w ∷ us) (Counted n)) ws b
 words_back n [] b s = absurd (let e = s.0 in omega arith)
 words_back n (w ∷ ws) b s =
     let same : length ws ≡ n = let e = s.0 in omega arith in
-    record { value = w; front = s.1.0; back = s.1.1; is_front = s.1.2; is_back = record { value = ws; is_text = (same, s.1.3); made = refl }; parts = s.1.4 }
+    record {
+      value = w;
+      front = s.1.0;
+      back = s.1.1;
+      is_front = s.1.2;
+      is_back = record { value = ws; is_text = (same, s.1.3); made = refl };
+      parts = s.1.4;
+    }
 
 abbrev pub words_after : ℕ → ℕ → List ℕ → Read (List ℕ)
 words_after n w bytes = words_at n bytes >>= λ ws. Ok (w ∷ ws.0, ws.1)
 
 pub Reads-words : (n : ℕ) → Reads (Counted n) (words_at n)
 unfolding words_at
-Reads-words zero = Reads-same (IsOnly []) (Counted 0) (λ bytes. Ok ([], bytes)) (λ ws b s. subst (λ us. Counted 0 us b) (sym s.0) (refl, s.1)) no_words (Reads-only [])
+Reads-words zero =
+    Reads-same (IsOnly []) (Counted 0) (λ bytes. Ok ([], bytes))
+    (λ ws b s. subst (λ us. Counted 0 us b) (sym s.0) (refl, s.1)) no_words (Reads-only [])
 Reads-words (suc n) =
-    Reads-same (Then (IsNumber 4) (λ w. Mapped (λ (us : List ℕ). w ∷ us) (Counted n))) (Counted (suc n)) (and_then (any_at 4) (words_after n)) (words_to n) (words_back n)
+    Reads-same (Then (IsNumber 4) (λ w. Mapped (λ (us : List ℕ). w ∷ us) (Counted n))) (Counted (suc n))
+    (and_then (any_at 4) (words_after n)) (words_to n) (words_back n)
     (Reads-then (IsNumber 4) (λ w. Mapped (λ (us : List ℕ). w ∷ us) (Counted n)) (any_at 4) (words_after n) (Reads-any 4)
     (λ w text s. Reads-map (λ (us : List ℕ). w ∷ us) (Counted n) (words_at n) (Reads-words n)))

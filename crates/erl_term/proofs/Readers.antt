@@ -3,7 +3,8 @@ use Rattle.std.proofs.Common.{◌≡◌, ◌≢◌, ℕ, List, refl, ◌⊎◌, 
 use Rattle.readers.specs.Laws.{Reads as ReadsWith, Explains as ExplainsWith}
 pub use Rattle.readers.specs.Reading.{and_then}
 pub use Rattle.readers.specs.Laws.{Takes, Begins, Then, Mapped}
-pub use Rattle.readers.proofs.Sequence.{AreBytes-nil, AreBytes-rest, AreBytes-split, Known, known, is_ok, is_err, err_of_bind, ok_of_bind, Reads-then, Reads-same, Reads-by, Reads-only, Reads-map}
+pub use Rattle.readers.proofs.Sequence.{AreBytes-nil, AreBytes-rest, AreBytes-split, Known, known, is_ok, is_err}
+pub use Rattle.readers.proofs.Sequence.{err_of_bind, ok_of_bind, Reads-then, Reads-same, Reads-by, Reads-only, Reads-map}
 pub use Rattle.readers.proofs.Places.{AreBytes-front}
 pub use Rattle.readers.proofs.Reasons.{Explains-weaker, Explains-by, Explains-then, Explains-map, map_read}
 use Rattle.erl_term.specs.declared.error.TermError.{TermError}

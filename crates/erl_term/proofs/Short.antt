@@ -6,7 +6,8 @@ use Rattle.byteorder.specs.Endian.{big_bytes}
 use Rattle.erl_term.specs.declared.term.Pid.{Pid}
 use Rattle.erl_term.specs.declared.term.Reference.{Reference}
 use Rattle.erl_term.specs.Text.{IsAtomText}
-use Rattle.erl_term.specs.Canonical.{digits, magnitude, canonical_big, canonical_int, canonical_atom, canonical_pid, canonical_reference, IsPidInRange, IsReferenceInRange}
+use Rattle.erl_term.specs.Canonical.{digits, magnitude, canonical_big, canonical_int, canonical_atom}
+use Rattle.erl_term.specs.Canonical.{canonical_pid, canonical_reference, IsPidInRange, IsReferenceInRange}
 use Rattle.erl_term.proofs.Lengths.{length-reference}
 use Rattle.erl_term.proofs.Utf8.{atom_bytes}
 
@@ -48,7 +49,12 @@ pub pid_short : (p : Pid) → IsPidInRange p → length (canonical_pid p) ≤ 10
 unfolding canonical_pid
 pid_short p h =
     let k = atom_short p.node h.node in
-    omega (arith, length-append (canonical_atom p.node) (big_bytes 4 p.id ++ (big_bytes 4 p.serial ++ big_bytes 4 p.creation)), length-append (big_bytes 4 p.id) (big_bytes 4 p.serial ++ big_bytes 4 p.creation), length-append (big_bytes 4 p.serial) (big_bytes 4 p.creation))
+    omega (
+      arith,
+      length-append (canonical_atom p.node) (big_bytes 4 p.id ++ (big_bytes 4 p.serial ++ big_bytes 4 p.creation)),
+      length-append (big_bytes 4 p.id) (big_bytes 4 p.serial ++ big_bytes 4 p.creation),
+      length-append (big_bytes 4 p.serial) (big_bytes 4 p.creation),
+    )
 
 pub reference_short : (r : Reference) → IsReferenceInRange r → length (canonical_reference r) ≤ 1050
 reference_short r h =

@@ -1,310 +1,27 @@
 -- A term is read exactly as it is spelled.
-use Rattle.std.proofs.Common.{◌≡◌, ◌≢◌, ℕ, zero, suc, ◌-◌, ◌^◌, ◌<◌, ◌≤◌, Bool, true, false, cond, List, [], ◌∷◌, ◌++◌, length, Ok, Err, refl, sym, ap, subst, ◌∙◌, arith, inl, inr}
+use Rattle.std.proofs.Common.{[], ◌≡◌, ◌≢◌, ℕ, zero, suc, ◌-◌, ◌^◌, ◌<◌, ◌≤◌, Bool, true, false, cond}
+use Rattle.std.proofs.Common.{List, ◌∷◌, ◌++◌, length, Err, refl, sym, ap, subst, ◌∙◌, arith, inl, inr}
 use Rattle.std.specs.Prelude.{ℤ, pos, nat_lt, ◌==◌, MatchBool}
-use Rattle.std.specs.List.{list_any}
 use Rattle.std.specs.Int.{w32, cast_signed}
 use Rattle.std.proofs.lemmas.Bool.{eqb-true, ltb-false, ltb-true, lt-ltb}
 use Rattle.erl_term.specs.declared.error.TermError.{TermError}
 use Rattle.erl_term.specs.declared.error.TermError.TheVariants.{Cut, Malformed, OutOfProfile, TooDeep}
-use Rattle.erl_term.specs.declared.term.Pid.{Pid}
-use Rattle.erl_term.specs.declared.term.Reference.{Reference}
-use Rattle.erl_term.specs.Data.{Data, int, atom, tuple, list, improper, binary, pid, reference, Items, no_items, item, count, joined}
+use Rattle.erl_term.specs.Data.{Data, int, atom, tuple, list, improper, binary, pid, reference, Items, no_items, item, count}
 use Rattle.erl_term.specs.Numbers.{low_first, signed}
-use Rattle.erl_term.specs.Spelling.{IsNumber, IsSmallBig, IsAtom, SpellsAtom, SpellAll, IsTuple, IsList, IsPid, IsReference, SpellsBy, Spells, IsSpelling}
+use Rattle.erl_term.specs.Spelling.{IsNumber, IsSmallBig, SpellAll, IsTuple, SpellsBy, Spells, IsSpelling}
 use Rattle.erl_term.specs.Faults.{tags, is_tag}
-use Rattle.erl_term.specs.Reading.{Read, ◌>>=◌, any_at, atom_at, latin_at, node_at, pid_at, word_count_at, words_at, reference_at, items_with, list_with, arities, row_with, term_at, spelling_at}
+use Rattle.erl_term.specs.Reading.{Read, atom_at, latin_at, pid_at, reference_at, list_with, arities, row_with, term_at, spelling_at}
 use Rattle.readers.specs.Laws.{IsOnly}
 use Rattle.erl_term.proofs.Readers.{Reads, Then, and_then, Reads-then, Reads-same, Reads-by, Mapped, Reads-map, Reads-only}
 use Rattle.erl_term.proofs.Bytes.{one_byte, byte_number, number_1, number_4}
 use Rattle.erl_term.proofs.Tags.{each_found, none_found, suc_not}
-use Rattle.erl_term.proofs.Base.{Reads-any, IsNumberTo, byte_where, bind_where, IsByteWhere, Reads-where}
-use Rattle.erl_term.proofs.TextReader.{IsText}
-use Rattle.erl_term.proofs.Utf8.{atom_bytes}
-use Rattle.erl_term.proofs.Rows.{Reads-small, Reads-integer, Reads-atom, AreItems, Reads-items, Reads-tuple, IsMagnitude, Reads-big}
-use Rattle.erl_term.proofs.Pieces.{LatinText, Reads-latin, latin_to, latin_back, Sized, listed, Reads-string, Reads-binary, string_to, binary_to, sized_back, IsWordCount, Reads-word_count, Counted, Reads-words}
-
--- ---- what stands after each tag
-
-abbrev pub AfterSmall : Data → List ℕ → Type 0
-AfterSmall = Mapped (λ n. int (pos n)) (IsNumber 1)
-
-abbrev pub AfterInteger : Data → List ℕ → Type 0
-AfterInteger = Mapped (λ n. int (cast_signed w32 n)) (IsNumber 4)
-
-abbrev pub AfterBig : Data → List ℕ → Type 0
-AfterBig = Then (IsNumberTo 16 1) (λ n. Then (IsNumberTo 1 1) (IsMagnitude n))
-
-abbrev pub AtomText : ℕ → List ℕ → List ℕ → Type 0
-AtomText width = Then (IsNumberTo 1020 width) IsText
-
-abbrev pub AfterAtom : ℕ → Data → List ℕ → Type 0
-AfterAtom width = Mapped atom (AtomText width)
-
-abbrev pub AfterTuple : ℕ → (Data → List ℕ → Type 0) → ℕ → Data → List ℕ → Type 0
-AfterTuple below Spell width = Then (IsNumberTo (arities below) width) (λ n. Mapped tuple (AreItems Spell n))
-
--- ---- nodes
-
-abbrev pub node_tags : List ℕ
-node_tags = 119 ∷ 118 ∷ 115 ∷ 100 ∷ []
-
-abbrev pub is_node : ℕ → Bool
-is_node k = list_any (λ tag. k == tag) node_tags
-
-abbrev pub AfterNode : ℕ → List ℕ → List ℕ → Type 0
-AfterNode k a b = MatchBool (k == 119) (AtomText 1 a b) (MatchBool (k == 118) (AtomText 2 a b) (MatchBool (k == 115) (LatinText 1 a b) (LatinText 2 a b)))
-
-abbrev pub node_row : ℕ → List ℕ → Read (List ℕ)
-node_row k bytes = cond (k == 119) (atom_at 1 bytes) (cond (k == 118) (atom_at 2 bytes) (cond (k == 115) (latin_at 1 bytes) (cond (k == 100) (latin_at 2 bytes) (Err Malformed))))
-
-pub node_rows : (k : ℕ) → is_node k ≡ true → Reads (AfterNode k) (node_row k)
-node_rows k e = each_found (λ j. Reads (AfterNode j) (node_row j)) node_tags (Reads-atom 1, (Reads-atom 2, (Reads-latin 1, (Reads-latin 2, tt)))) k e
-
-node_fails : (k : ℕ) (bytes : List ℕ) → is_node k ≡ false → node_row k bytes ≡ Err Malformed
-node_fails k bytes e = let p = none_found node_tags k e in rw (p.0, p.1.0, p.1.1.0, p.1.1.1.0) refl
-
-pub node_same : (bytes : List ℕ) → node_at bytes ≡ and_then (byte_where is_node (λ k. Malformed)) node_row bytes
-unfolding node_at
-node_same bytes = bind_where is_node (λ k. Malformed) node_row bytes node_fails
-
-atom_to : (tag width : ℕ) (a back b : List ℕ) → b ≡ tag ∷ back → AtomText width a back → IsAtom tag width a b
-atom_to tag width a back b e s =
-    let t = s.is_back in
-    record {
-      len = s.front;
-      is_text = t.is_text;
-      number = subst (λ (n : ℕ). IsNumber width n s.front) (sym t.len) s.is_front.number;
-      bytes = e ∙ ap (λ (w : List ℕ). tag ∷ w) (s.parts ∙ ap (λ (w : List ℕ). s.front ++ w) t.same);
-    }
-
-atom_back : (tag width : ℕ) (a b : List ℕ) → IsAtom tag width a b → (back : List ℕ) × AtomText width a back × (b ≡ tag ∷ back)
-atom_back tag width a b s =
-    (s.len ++ a, record { value = length a; front = s.len; back = a; is_front = record { number = s.number; bound = atom_bytes a s.is_text }; is_back = record { same = refl; len = refl; is_text = s.is_text }; parts = refl }, s.bytes)
-
-node_by : (a : List ℕ) (k : ℕ) → is_node k ≡ true → (back b : List ℕ) → b ≡ k ∷ back → AfterNode k a back → SpellsAtom a b
-node_by a k e = each_found (λ j. (back b : List ℕ) → b ≡ j ∷ back → AfterNode j a back → SpellsAtom a b) node_tags
-    (λ back b p s. inl (atom_to 119 1 a back b p s), (λ back b p s. inr (inl (atom_to 118 2 a back b p s)), (λ back b p s. inr (inr (inl (latin_to 115 1 a back b p s))), (λ back b p s. inr (inr (inr (latin_to 100 2 a back b p s))), tt)))) k e
-
--- the byte at the front, and what stands behind it
-byte_front : (test : ℕ → Bool) (k : ℕ) (front back b : List ℕ) → IsByteWhere test k front → b ≡ front ++ back → b ≡ k ∷ back
-byte_front test k front back b s e = e ∙ ap (λ (w : List ℕ). w ++ back) (one_byte k front s.number)
-
-node_to : (a b : List ℕ) → Then (IsByteWhere is_node) AfterNode a b → SpellsAtom a b
-node_to a b s = node_by a s.value s.is_front.passes s.back b (byte_front is_node s.value s.front s.back b s.is_front s.parts) s.is_back
-
-noded : (k : ℕ) (a back b : List ℕ) → is_node k ≡ true → k < 256 → AfterNode k a back → b ≡ k ∷ back → Then (IsByteWhere is_node) AfterNode a b
-noded k a back b e lt s p = record { value = k; front = k ∷ []; back = back; is_front = record { passes = e; number = byte_number k lt }; is_back = s; parts = p }
-
-node_back : (a b : List ℕ) → SpellsAtom a b → Then (IsByteWhere is_node) AfterNode a b
-node_back a b (inl s) = let t = atom_back 119 1 a b s in noded 119 a t.0 b refl (omega arith) t.1 t.2
-node_back a b (inr (inl s)) = let t = atom_back 118 2 a b s in noded 118 a t.0 b refl (omega arith) t.1 t.2
-node_back a b (inr (inr (inl s))) = let t = latin_back 115 1 a b s in noded 115 a t.0 b refl (omega arith) t.1 t.2
-node_back a b (inr (inr (inr s))) = let t = latin_back 100 2 a b s in noded 100 a t.0 b refl (omega arith) t.1 t.2
-
-pub Reads-node : Reads SpellsAtom node_at
-Reads-node =
-    Reads-by SpellsAtom (and_then (byte_where is_node (λ k. Malformed)) node_row) node_at node_same
-    (Reads-same (Then (IsByteWhere is_node) AfterNode) SpellsAtom (and_then (byte_where is_node (λ k. Malformed)) node_row) node_to node_back
-    (Reads-then (IsByteWhere is_node) AfterNode (byte_where is_node (λ k. Malformed)) node_row (Reads-where is_node (λ k. Malformed) (λ k e. cc) 119 refl (omega arith)) (λ k b s. node_rows k s.passes)))
-
--- ---- pids
-
-abbrev pub made_pid : List ℕ → ℕ → ℕ → ℕ → Pid
-made_pid node id serial creation = record { node = node; id = id; serial = serial; creation = creation }
-
-abbrev pub PidText : Pid → List ℕ → Type 0
-PidText = Then SpellsAtom (λ node. Then (IsNumber 4) (λ id. Then (IsNumber 4) (λ serial. Mapped (made_pid node id serial) (IsNumber 4))))
-
-pub Reads-pid : Reads PidText pid_at
-unfolding pid_at
-Reads-pid =
-    Reads-then SpellsAtom (λ node. Then (IsNumber 4) (λ id. Then (IsNumber 4) (λ serial. Mapped (made_pid node id serial) (IsNumber 4)))) node_at
-    (λ node. and_then (any_at 4) (λ id. and_then (any_at 4) (λ serial bytes. any_at 4 bytes >>= λ creation. Ok (made_pid node id serial creation.0, creation.1)))) Reads-node
-    (λ node t s. Reads-then (IsNumber 4) (λ id. Then (IsNumber 4) (λ serial. Mapped (made_pid node id serial) (IsNumber 4))) (any_at 4) (λ id. and_then (any_at 4) (λ serial bytes. any_at 4 bytes >>= λ creation. Ok (made_pid node id serial creation.0, creation.1))) (Reads-any 4)
-    (λ id u v. Reads-then (IsNumber 4) (λ serial. Mapped (made_pid node id serial) (IsNumber 4)) (any_at 4) (λ serial bytes. any_at 4 bytes >>= λ creation. Ok (made_pid node id serial creation.0, creation.1)) (Reads-any 4)
-    (λ serial w x. Reads-map (made_pid node id serial) (IsNumber 4) (any_at 4) (Reads-any 4))))
-
-pid_to : (p : Pid) (b text : List ℕ) → text ≡ 88 ∷ b → PidText p b → IsPid p text
-pid_to p b text e s =
-    let i = s.is_back in
-    let j = i.is_back in
-    let c = j.is_back in
-    subst (λ (q : Pid). IsPid q text) (sym c.made)
-    (record {
-      node = s.front;
-      id = i.front;
-      serial = j.front;
-      creation = j.back;
-      is_node = s.is_front;
-      is_id = i.is_front;
-      is_serial = j.is_front;
-      is_creation = c.is_text;
-      bytes = e ∙ ap (λ (w : List ℕ). 88 ∷ w) (s.parts ∙ ap (λ (w : List ℕ). s.front ++ w) (i.parts ∙ ap (λ (w : List ℕ). i.front ++ w) j.parts));
-    })
-
-pid_back : (p : Pid) (b : List ℕ) → IsPid p b → (back : List ℕ) × PidText p back × (b ≡ 88 ∷ back)
-pid_back p b s = (
-  s.node ++ (s.id ++ (s.serial ++ s.creation)),
-  record {
-    value = p.node;
-    front = s.node;
-    back = s.id ++ (s.serial ++ s.creation);
-    is_front = s.is_node;
-    parts = refl;
-    is_back = record {
-      value = p.id;
-      front = s.id;
-      back = s.serial ++ s.creation;
-      is_front = s.is_id;
-      parts = refl;
-      is_back = record {
-        value = p.serial;
-        front = s.serial;
-        back = s.creation;
-        is_front = s.is_serial;
-        parts = refl;
-        is_back = record { value = p.creation; is_text = s.is_creation; made = refl };
-      };
-    };
-  },
-  s.bytes,
-)
-
--- ---- references
-
-abbrev pub made_reference : List ℕ → ℕ → List ℕ → Reference
-made_reference node creation words = record { node = node; creation = creation; words = words }
-
-abbrev pub ReferenceText : Reference → List ℕ → Type 0
-ReferenceText = Then IsWordCount (λ n. Then SpellsAtom (λ node. Then (IsNumber 4) (λ creation. Mapped (made_reference node creation) (Counted n))))
-
-abbrev pub reference_words : ℕ → List ℕ → ℕ → List ℕ → Read Reference
-reference_words n node creation bytes = words_at n bytes >>= λ words. Ok (made_reference node creation words.0, words.1)
-
-pub Reads-reference_words : (n : ℕ) (node : List ℕ) (creation : ℕ) → Reads (Mapped (made_reference node creation) (Counted n)) (reference_words n node creation)
-Reads-reference_words n node creation = Reads-map (made_reference node creation) (Counted n) (words_at n) (Reads-words n)
-
-pub Reads-reference_creation : (n : ℕ) (node : List ℕ) → Reads (Then (IsNumber 4) (λ creation. Mapped (made_reference node creation) (Counted n))) (and_then (any_at 4) (reference_words n node))
-Reads-reference_creation n node = Reads-then (IsNumber 4) (λ creation. Mapped (made_reference node creation) (Counted n)) (any_at 4) (reference_words n node) (Reads-any 4) (λ creation t s. Reads-reference_words n node creation)
-
-pub Reads-reference_node : (n : ℕ) → Reads (Then SpellsAtom (λ node. Then (IsNumber 4) (λ creation. Mapped (made_reference node creation) (Counted n)))) (and_then node_at (λ node. and_then (any_at 4) (reference_words n node)))
-Reads-reference_node n =
-    Reads-then SpellsAtom (λ node. Then (IsNumber 4) (λ creation. Mapped (made_reference node creation) (Counted n))) node_at (λ node. and_then (any_at 4) (reference_words n node)) Reads-node (λ node t s. Reads-reference_creation n node)
-
-pub Reads-reference : Reads ReferenceText reference_at
-unfolding reference_at
-Reads-reference =
-    Reads-then IsWordCount (λ n. Then SpellsAtom (λ node. Then (IsNumber 4) (λ creation. Mapped (made_reference node creation) (Counted n)))) word_count_at (λ n. and_then node_at (λ node. and_then (any_at 4) (reference_words n node))) Reads-word_count
-    (λ n t s. Reads-reference_node n)
-
-pub reference_to : (r : Reference) (back b : List ℕ) → b ≡ 90 ∷ back → ReferenceText r back → IsReference r b
-reference_to r back b e s =
-    let i = s.is_back in
-    let j = i.is_back in
-    let c = j.is_back in
-    let n = c.is_text.0 in
-    subst (λ (q : Reference). IsReference q b) (sym c.made)
-    (record {
-      len = s.front;
-      node = i.front;
-      creation = j.front;
-      words = j.back;
-      some = let k = s.is_front.some in omega arith;
-      few = let k = s.is_front.few in omega arith;
-      number = subst (λ (m : ℕ). IsNumber 2 m s.front) (sym n) s.is_front.number;
-      is_node = i.is_front;
-      is_creation = j.is_front;
-      are_words = c.is_text.1;
-      bytes = e ∙ ap (λ (w : List ℕ). 90 ∷ w) (s.parts ∙ ap (λ (w : List ℕ). s.front ++ w) (i.parts ∙ ap (λ (w : List ℕ). i.front ++ w) j.parts));
-    })
-
-pub reference_back : (r : Reference) (b : List ℕ) → IsReference r b → (back : List ℕ) × ReferenceText r back × (b ≡ 90 ∷ back)
-reference_back r b s = (
-  s.len ++ (s.node ++ (s.creation ++ s.words)),
-  record {
-    value = length r.words;
-    front = s.len;
-    back = s.node ++ (s.creation ++ s.words);
-    is_front = record { number = s.number; some = s.some; few = s.few };
-    parts = refl;
-    is_back = record {
-      value = r.node;
-      front = s.node;
-      back = s.creation ++ s.words;
-      is_front = s.is_node;
-      parts = refl;
-      is_back = record {
-        value = r.creation;
-        front = s.creation;
-        back = s.words;
-        is_front = s.is_creation;
-        parts = refl;
-        is_back = record { value = r.words; is_text = (refl, s.are_words); made = refl };
-      };
-    };
-  },
-  s.bytes,
-)
-
--- ---- lists
-
-abbrev pub ListText : (Data → List ℕ → Type 0) → Data → List ℕ → Type 0
-ListText Spell = Then (IsNumber 4) (λ n. Then (AreItems Spell n) (λ ts. Mapped (joined ts) Spell))
-
-abbrev pub tail_after : (List ℕ → Read Data) → Items → List ℕ → Read Data
-tail_after one ts bytes = one bytes >>= λ t. Ok (joined ts t.0, t.1)
-
-abbrev pub cells_at : (List ℕ → Read Data) → List ℕ → Read Data
-cells_at one = and_then (any_at 4) (λ n. and_then (items_with one n) (tail_after one))
-
-pub Reads-tail : (Spell : Data → List ℕ → Type 0) (one : List ℕ → Read Data) → Reads Spell one → (n : ℕ) → Reads (Then (AreItems Spell n) (λ ts. Mapped (joined ts) Spell)) (and_then (items_with one n) (tail_after one))
-Reads-tail Spell one r n = Reads-then (AreItems Spell n) (λ ts. Mapped (joined ts) Spell) (items_with one n) (tail_after one) (Reads-items Spell one n (λ some. r)) (λ ts t s. Reads-map (joined ts) Spell one r)
-
-pub Reads-cells : (Spell : Data → List ℕ → Type 0) (one : List ℕ → Read Data) → Reads Spell one → Reads (ListText Spell) (cells_at one)
-Reads-cells Spell one r = Reads-then (IsNumber 4) (λ n. Then (AreItems Spell n) (λ ts. Mapped (joined ts) Spell)) (any_at 4) (λ n. and_then (items_with one n) (tail_after one)) (Reads-any 4) (λ n t s. Reads-tail Spell one r n)
-
-pub list_same : (below : ℕ) (one : List ℕ → Read Data) (bytes : List ℕ) → 0 < below → list_with below one bytes ≡ cells_at one bytes
-unfolding list_with
-list_same zero one bytes lt = absurd (omega arith)
-list_same (suc below) one bytes lt = rw (suc_not below) refl
-
-list_to : (below : ℕ) (t : Data) (back b : List ℕ) → b ≡ 108 ∷ back → ListText (Spells below) t back → IsList (Spells below) t b
-list_to below t back b e s =
-    let i = s.is_back in
-    let m = i.is_back in
-    record {
-      items = i.value;
-      last = m.value;
-      len = s.front;
-      elements = i.front;
-      tail = i.back;
-      number = subst (λ (n : ℕ). IsNumber 4 n s.front) (sym i.is_front.0) s.is_front;
-      spelled = i.is_front.1;
-      is_tail = m.is_text;
-      value = m.made;
-      bytes = e ∙ ap (λ (w : List ℕ). 108 ∷ w) (s.parts ∙ ap (λ (w : List ℕ). s.front ++ w) i.parts);
-    }
-
-list_back : (below : ℕ) (t : Data) (b : List ℕ) → IsList (Spells below) t b → (back : List ℕ) × ListText (Spells below) t back × (b ≡ 108 ∷ back)
-list_back below t b s = (
-  s.len ++ (s.elements ++ s.tail),
-  record {
-    value = count s.items;
-    front = s.len;
-    back = s.elements ++ s.tail;
-    is_front = s.number;
-    parts = refl;
-    is_back = record {
-      value = s.items;
-      front = s.elements;
-      back = s.tail;
-      is_front = (refl, s.spelled);
-      parts = refl;
-      is_back = record { value = s.last; is_text = s.is_tail; made = s.value };
-    };
-  },
-  s.bytes,
-)
+use Rattle.erl_term.proofs.Base.{byte_where, bind_where, IsByteWhere, Reads-where}
+use Rattle.erl_term.proofs.Rows.{Reads-small, Reads-integer, Reads-atom, Reads-tuple, Reads-big}
+use Rattle.erl_term.proofs.Pieces.{LatinText, Reads-latin, latin_to, latin_back, Sized, listed}
+use Rattle.erl_term.proofs.Pieces.{Reads-string, Reads-binary, string_to, binary_to, sized_back}
+use Rattle.erl_term.proofs.TableRows.{AfterSmall, AfterInteger, AfterBig, AtomText, AfterAtom, AfterTuple, atom_to, atom_back}
+use Rattle.erl_term.proofs.TableRows.{byte_front, PidText, Reads-pid, pid_to, pid_back, ReferenceText, Reads-reference}
+use Rattle.erl_term.proofs.TableRows.{reference_to, reference_back, ListText, cells_at, Reads-cells, list_same, list_to, list_back}
 
 -- ---- the table
 
@@ -313,9 +30,12 @@ NilText = IsOnly (list no_items)
 
 abbrev pub AfterTag : ℕ → (Data → List ℕ → Type 0) → ℕ → Data → List ℕ → Type 0
 AfterTag below Spell k t b =
-    MatchBool (k == 97) (AfterSmall t b) (MatchBool (k == 98) (AfterInteger t b) (MatchBool (k == 110) (AfterBig t b) (MatchBool (k == 118) (AfterAtom 2 t b) (MatchBool (k == 119) (AfterAtom 1 t b)
-    (MatchBool (k == 104) (AfterTuple below Spell 1 t b) (MatchBool (k == 105) (AfterTuple below Spell 4 t b) (MatchBool (k == 88) (Mapped pid PidText t b)
-    (MatchBool (k == 115) (Mapped atom (LatinText 1) t b) (MatchBool (k == 100) (Mapped atom (LatinText 2) t b) (MatchBool (k == 106) (NilText t b) (MatchBool (k == 107) (Sized 2 listed t b)
+    MatchBool (k == 97) (AfterSmall t b) (MatchBool (k == 98) (AfterInteger t b)
+    (MatchBool (k == 110) (AfterBig t b) (MatchBool (k == 118) (AfterAtom 2 t b) (MatchBool (k == 119) (AfterAtom 1 t b)
+    (MatchBool (k == 104) (AfterTuple below Spell 1 t b)
+    (MatchBool (k == 105) (AfterTuple below Spell 4 t b) (MatchBool (k == 88) (Mapped pid PidText t b)
+    (MatchBool (k == 115) (Mapped atom (LatinText 1) t b)
+    (MatchBool (k == 100) (Mapped atom (LatinText 2) t b) (MatchBool (k == 106) (NilText t b) (MatchBool (k == 107) (Sized 2 listed t b)
     (MatchBool (k == 108) (ListText Spell t b) (MatchBool (k == 109) (Sized 4 binary t b) (Mapped reference ReferenceText t b))))))))))))))
 
 -- LIST may stand where a level is left below it
@@ -335,20 +55,39 @@ fault_not_cut k e = by (k == 108) e
 no_level : (below : ℕ) → nat_lt 0 below ≡ false → below ≡ 0
 no_level below e = let le = ltb-false 0 below e in omega arith
 
-pub unknown_row : (below : ℕ) (one : List ℕ → Read Data) (k : ℕ) (bytes : List ℕ) → is_tag k ≡ false → row_with below one k bytes ≡ Err (OutOfProfile k)
+pub unknown_row : (below : ℕ) (one : List ℕ → Read Data) (k : ℕ) (bytes : List ℕ) → is_tag k ≡ false
+    → row_with below one k bytes ≡ Err (OutOfProfile k)
 unfolding row_with
 unknown_row below one k bytes e =
     let p = none_found tags k e in
-    rw (p.0, p.1.0, p.1.1.0, p.1.1.1.0, p.1.1.1.1.0, p.1.1.1.1.1.0, p.1.1.1.1.1.1.0, p.1.1.1.1.1.1.1.0, p.1.1.1.1.1.1.1.1.0, p.1.1.1.1.1.1.1.1.1.0, p.1.1.1.1.1.1.1.1.1.1.0, p.1.1.1.1.1.1.1.1.1.1.1.0, p.1.1.1.1.1.1.1.1.1.1.1.1.0, p.1.1.1.1.1.1.1.1.1.1.1.1.1.0, p.1.1.1.1.1.1.1.1.1.1.1.1.1.1.0) refl
+    rw (
+      p.0,
+      p.1.0,
+      p.1.1.0,
+      p.1.1.1.0,
+      p.1.1.1.1.0,
+      p.1.1.1.1.1.0,
+      p.1.1.1.1.1.1.0,
+      p.1.1.1.1.1.1.1.0,
+      p.1.1.1.1.1.1.1.1.0,
+      p.1.1.1.1.1.1.1.1.1.0,
+      p.1.1.1.1.1.1.1.1.1.1.0,
+      p.1.1.1.1.1.1.1.1.1.1.1.0,
+      p.1.1.1.1.1.1.1.1.1.1.1.1.0,
+      p.1.1.1.1.1.1.1.1.1.1.1.1.1.0,
+      p.1.1.1.1.1.1.1.1.1.1.1.1.1.1.0,
+    ) refl
 
 deep_row : (below : ℕ) (one : List ℕ → Read Data) (k : ℕ) (bytes : List ℕ) → k ≡ 108 → below ≡ 0 → row_with below one k bytes ≡ Err TooDeep
 unfolding row_with list_with
 deep_row below one k bytes e z = rw (e, z) refl
 
-pub tag_fails : (below : ℕ) (one : List ℕ → Read Data) (k : ℕ) (bytes : List ℕ) → may_stand below k ≡ false → row_with below one k bytes ≡ Err (tag_fault k)
+pub tag_fails : (below : ℕ) (one : List ℕ → Read Data) (k : ℕ) (bytes : List ℕ) → may_stand below k ≡ false
+    → row_with below one k bytes ≡ Err (tag_fault k)
 tag_fails below one k bytes e = by (k == 108) refl e
   where
-    by : (b : Bool) → (k == 108) ≡ b → cond b (nat_lt 0 below) (is_tag k) ≡ false → row_with below one k bytes ≡ Err (cond (k == 108) TooDeep (OutOfProfile k))
+    by : (b : Bool) → (k == 108) ≡ b → cond b (nat_lt 0 below) (is_tag k) ≡ false
+        → row_with below one k bytes ≡ Err (cond (k == 108) TooDeep (OutOfProfile k))
     by true p e = rw p (deep_row below one k bytes (eqb-true k 108 p) (no_level below e))
     by false p e = rw p (unknown_row below one k bytes e)
 
@@ -380,7 +119,8 @@ may_stand-true below k e h = by (k == 108) refl
 abbrev RowReads : ℕ → (Data → List ℕ → Type 0) → (List ℕ → Read Data) → ℕ → Type 0
 RowReads below Spell one k = (k ≡ 108 → 0 < below) → Reads (AfterTag below Spell k) (row_with below one k)
 
-pub tag_rows : (below : ℕ) (Spell : Data → List ℕ → Type 0) (one : List ℕ → Read Data) → (0 < below → Reads Spell one) → (k : ℕ) → Stands below k → Reads (AfterTag below Spell k) (row_with below one k)
+pub tag_rows : (below : ℕ) (Spell : Data → List ℕ → Type 0) (one : List ℕ → Read Data) → (0 < below → Reads Spell one)
+    → (k : ℕ) → Stands below k → Reads (AfterTag below Spell k) (row_with below one k)
 unfolding row_with
 tag_rows below Spell one r k s = each_found (RowReads below Spell one) tags (
   λ h. Reads-small,
@@ -405,8 +145,15 @@ tag_rows below Spell one r k s = each_found (RowReads below Spell one) tags (
                     (
                       λ h. Reads-string,
                       (
-                        λ h. let lt : 0 < below = h refl in Reads-by (ListText Spell) (cells_at one) (list_with below one) (λ bytes. list_same below one bytes lt) (Reads-cells Spell one (r lt)),
-                        (λ h. Reads-binary, (λ h. Reads-map pid PidText pid_at Reads-pid, (λ h. Reads-map reference ReferenceText reference_at Reads-reference, tt))),
+                        λ h. let lt : 0 < below = h refl in Reads-by (ListText Spell) (cells_at one) (list_with below one)
+                            (λ bytes. list_same below one bytes lt) (Reads-cells Spell one (r lt)),
+                        (
+                          λ h. Reads-binary,
+                          (
+                            λ h. Reads-map pid PidText pid_at Reads-pid,
+                            (λ h. Reads-map reference ReferenceText reference_at Reads-reference, tt),
+                          ),
+                        ),
                       ),
                     ),
                   ),
@@ -430,7 +177,8 @@ arity_fits : (below width : ℕ) (ts : Items) (arity b : List ℕ) → count ts 
 arity_fits zero width ts arity b n s = let e = none_there ts b s in omega arith
 arity_fits (suc below) width ts arity b n s = let e : arities (suc below) ≡ 2 ^ 32 - 1 = rw (suc_not below) refl in omega arith
 
-tuple_to : (below : ℕ) (tag width : ℕ) (t : Data) (back b : List ℕ) → b ≡ tag ∷ back → AfterTuple below (Spells below) width t back → (ts : Items) × (t ≡ tuple ts) × IsTuple (Spells below) tag width ts b
+tuple_to : (below : ℕ) (tag width : ℕ) (t : Data) (back b : List ℕ) → b ≡ tag ∷ back
+    → AfterTuple below (Spells below) width t back → (ts : Items) × (t ≡ tuple ts) × IsTuple (Spells below) tag width ts b
 tuple_to below tag width t back b e s =
     let m = s.is_back in
     let k = m.is_text in (
@@ -445,7 +193,9 @@ tuple_to below tag width t back b e s =
       },
     )
 
-tuple_back : (below : ℕ) (tag width : ℕ) (ts : Items) (b : List ℕ) → ((n : ℕ) (c : List ℕ) → IsNumber width n c → n < 2 ^ 32) → IsTuple (Spells below) tag width ts b → (back : List ℕ) × AfterTuple below (Spells below) width (tuple ts) back × (b ≡ tag ∷ back)
+tuple_back : (below : ℕ) (tag width : ℕ) (ts : Items) (b : List ℕ) → ((n : ℕ) (c : List ℕ) → IsNumber width n c → n < 2 ^ 32)
+    → IsTuple (Spells below) tag width ts b → (back : List ℕ) × AfterTuple below (Spells below) width (tuple ts) back
+    × (b ≡ tag ∷ back)
 tuple_back below tag width ts b low s = (
   s.arity ++ s.elements,
   record {
@@ -453,7 +203,10 @@ tuple_back below tag width ts b low s = (
     front = s.arity;
     back = s.elements;
     parts = refl;
-    is_front = record { number = s.number; bound = arity_fits below width ts s.arity s.elements (low (count ts) s.arity s.number) s.spelled };
+    is_front = record {
+      number = s.number;
+      bound = arity_fits below width ts s.arity s.elements (low (count ts) s.arity s.number) s.spelled;
+    };
     is_back = record { value = ts; is_text = (refl, s.spelled); made = refl };
   },
   s.bytes,
@@ -475,7 +228,9 @@ big_to t back b e s =
         are_bytes = m.are_bytes;
         in_range = m.in_range;
         value = refl;
-        bytes = e ∙ ap (λ (w : List ℕ). 110 ∷ w) (s.parts ∙ ap (λ (w : List ℕ). w ++ s.back) n-is ∙ ap (λ (w : List ℕ). s.value ∷ w) (g.parts ∙ ap (λ (w : List ℕ). w ++ g.back) sign-is) ∙ ap (λ (n : ℕ). n ∷ g.value ∷ g.back) (sym m.len));
+        bytes = e ∙ ap (λ (w : List ℕ). 110 ∷ w) (s.parts ∙ ap (λ (w : List ℕ). w ++ s.back) n-is
+            ∙ ap (λ (w : List ℕ). s.value ∷ w) (g.parts ∙ ap (λ (w : List ℕ). w ++ g.back) sign-is)
+            ∙ ap (λ (n : ℕ). n ∷ g.value ∷ g.back) (sym m.len));
       },
     )
 
@@ -510,9 +265,11 @@ own below t u b e s = inl (subst (λ (v : Data). SpellsBy (Spells below) v b) (s
 
 row_to : (below k : ℕ) → is_tag k ≡ true → RowTo below k
 row_to below k e = each_found (RowTo below) tags (
-  λ t back b p m. own below t (int (pos m.value)) b m.made (inl (record { n = m.value; field = back; number = m.is_text; value = refl; bytes = p })),
+  λ t back b p m.
+      own below t (int (pos m.value)) b m.made (inl (record { n = m.value; field = back; number = m.is_text; value = refl; bytes = p })),
   (
-    λ t back b p m. own below t (int (cast_signed w32 m.value)) b m.made (inr (inl (record { n = m.value; field = back; number = m.is_text; value = refl; bytes = p }))),
+    λ t back b p m. own below t (int (cast_signed w32 m.value)) b m.made
+        (inr (inl (record { n = m.value; field = back; number = m.is_text; value = refl; bytes = p }))),
     (
       λ t back b p s. let m = big_to t back b p s in own below t (int m.0) b m.1 (inr (inr m.2)),
       (
@@ -557,10 +314,20 @@ abbrev Tagged : ℕ → Data → List ℕ → Type 0
 Tagged below = Then (IsByteWhere (may_stand below)) (AfterTag below (Spells below))
 
 term_to : (below : ℕ) (t : Data) (b : List ℕ) → Tagged below t b → Spells (suc below) t b
-term_to below t b s = row_to below s.value (stands below s.value s.is_front.passes).tag t s.back b (byte_front (may_stand below) s.value s.front s.back b s.is_front s.parts) s.is_back
+term_to below t b s =
+    row_to below s.value (stands below s.value s.is_front.passes).tag t s.back b
+    (byte_front (may_stand below) s.value s.front s.back b s.is_front s.parts) s.is_back
 
-tagged : (below k : ℕ) (t : Data) (back b : List ℕ) → is_tag k ≡ true → (k ≡ 108 → 0 < below) → k < 256 → AfterTag below (Spells below) k t back → b ≡ k ∷ back → Tagged below t b
-tagged below k t back b e h lt s p = record { value = k; front = k ∷ []; back = back; is_front = record { passes = may_stand-true below k e h; number = byte_number k lt }; is_back = s; parts = p }
+tagged : (below k : ℕ) (t : Data) (back b : List ℕ) → is_tag k ≡ true → (k ≡ 108 → 0 < below) → k < 256
+    → AfterTag below (Spells below) k t back → b ≡ k ∷ back → Tagged below t b
+tagged below k t back b e h lt s p = record {
+  value = k;
+  front = k ∷ [];
+  back = back;
+  is_front = record { passes = may_stand-true below k e h; number = byte_number k lt };
+  is_back = s;
+  parts = p;
+}
 
 -- a tail lies a level below
 some_below : (below : ℕ) (t : Data) (b : List ℕ) → Spells below t b → 0 < below
@@ -572,25 +339,52 @@ other : (k below : ℕ) → (k == 108) ≡ false → k ≡ 108 → 0 < below
 other k below p q = absurd (let z : (k == 108) ≡ true = rw q refl in cc)
 
 term_back : (below : ℕ) (t : Data) (b : List ℕ) → Spells (suc below) t b → Tagged below t b
-term_back below (int z) b (inl (inl s)) = tagged below 97 (int z) s.field b refl (other 97 below refl) (omega arith) (record { value = s.n; is_text = s.number; made = ap int s.value }) s.bytes
-term_back below (int z) b (inl (inr (inl s))) = tagged below 98 (int z) s.field b refl (other 98 below refl) (omega arith) (record { value = s.n; is_text = s.number; made = ap int s.value }) s.bytes
-term_back below (int z) b (inl (inr (inr s))) = let m = big_back z b s in tagged below 110 (int z) m.0 b refl (other 110 below refl) (omega arith) m.1 m.2
-term_back below (atom a) b (inl (inl s)) = let m = atom_back 119 1 a b s in tagged below 119 (atom a) m.0 b refl (other 119 below refl) (omega arith) (record { value = a; is_text = m.1; made = refl }) m.2
-term_back below (atom a) b (inl (inr (inl s))) = let m = atom_back 118 2 a b s in tagged below 118 (atom a) m.0 b refl (other 118 below refl) (omega arith) (record { value = a; is_text = m.1; made = refl }) m.2
-term_back below (atom a) b (inl (inr (inr (inl s)))) = let m = latin_back 115 1 a b s in tagged below 115 (atom a) m.0 b refl (other 115 below refl) (omega arith) (record { value = a; is_text = m.1; made = refl }) m.2
-term_back below (atom a) b (inl (inr (inr (inr s)))) = let m = latin_back 100 2 a b s in tagged below 100 (atom a) m.0 b refl (other 100 below refl) (omega arith) (record { value = a; is_text = m.1; made = refl }) m.2
-term_back below (tuple ts) b (inl (inl s)) = let m = tuple_back below 104 1 ts b (λ n c k. let l = number_1 n c k in omega arith) s in tagged below 104 (tuple ts) m.0 b refl (other 104 below refl) (omega arith) m.1 m.2
-term_back below (tuple ts) b (inl (inr s)) = let m = tuple_back below 105 4 ts b number_4 s in tagged below 105 (tuple ts) m.0 b refl (other 105 below refl) (omega arith) m.1 m.2
-term_back below (list ts) b (inl (inl s)) = tagged below 106 (list ts) [] b refl (other 106 below refl) (omega arith) (ap list s.0, refl) s.1
+term_back below (int z) b (inl (inl s)) =
+    tagged below 97 (int z) s.field b refl (other 97 below refl) (omega arith)
+    (record { value = s.n; is_text = s.number; made = ap int s.value }) s.bytes
+term_back below (int z) b (inl (inr (inl s))) =
+    tagged below 98 (int z) s.field b refl (other 98 below refl) (omega arith)
+    (record { value = s.n; is_text = s.number; made = ap int s.value }) s.bytes
+term_back below (int z) b (inl (inr (inr s))) =
+    let m = big_back z b s in tagged below 110 (int z) m.0 b refl (other 110 below refl) (omega arith) m.1 m.2
+term_back below (atom a) b (inl (inl s)) =
+    let m = atom_back 119 1 a b s in
+    tagged below 119 (atom a) m.0 b refl (other 119 below refl) (omega arith) (record { value = a; is_text = m.1; made = refl }) m.2
+term_back below (atom a) b (inl (inr (inl s))) =
+    let m = atom_back 118 2 a b s in
+    tagged below 118 (atom a) m.0 b refl (other 118 below refl) (omega arith) (record { value = a; is_text = m.1; made = refl }) m.2
+term_back below (atom a) b (inl (inr (inr (inl s)))) =
+    let m = latin_back 115 1 a b s in
+    tagged below 115 (atom a) m.0 b refl (other 115 below refl) (omega arith) (record { value = a; is_text = m.1; made = refl }) m.2
+term_back below (atom a) b (inl (inr (inr (inr s)))) =
+    let m = latin_back 100 2 a b s in
+    tagged below 100 (atom a) m.0 b refl (other 100 below refl) (omega arith) (record { value = a; is_text = m.1; made = refl }) m.2
+term_back below (tuple ts) b (inl (inl s)) =
+    let m = tuple_back below 104 1 ts b (λ n c k. let l = number_1 n c k in omega arith) s in
+    tagged below 104 (tuple ts) m.0 b refl (other 104 below refl) (omega arith) m.1 m.2
+term_back below (tuple ts) b (inl (inr s)) =
+    let m = tuple_back below 105 4 ts b number_4 s in tagged below 105 (tuple ts) m.0 b refl (other 105 below refl) (omega arith) m.1 m.2
+term_back below (list ts) b (inl (inl s)) =
+    tagged below 106 (list ts) [] b refl (other 106 below refl) (omega arith) (ap list s.0, refl) s.1
 term_back below (list ts) b (inl (inr s)) =
-    tagged below 107 (list ts) (s.len ++ s.letters) b refl (other 107 below refl) (omega arith) (subst (λ (us : Items). Sized 2 listed (list us) (s.len ++ s.letters)) (sym s.value) (sized_back 2 listed s.letters s.len s.are_bytes s.number)) s.bytes
+    tagged below 107 (list ts) (s.len ++ s.letters) b refl (other 107 below refl) (omega arith) (subst
+    (λ (us : Items). Sized 2 listed (list us) (s.len ++ s.letters)) (sym s.value)
+    (sized_back 2 listed s.letters s.len s.are_bytes s.number)) s.bytes
 term_back below (improper ts t) b (inl s) = absurd s
-term_back below (binary a) b (inl s) = tagged below 109 (binary a) (s.len ++ a) b refl (other 109 below refl) (omega arith) (sized_back 4 binary a s.len s.are_bytes s.number) s.bytes
-term_back below (pid p) b (inl s) = let m = pid_back p b s in tagged below 88 (pid p) m.0 b refl (other 88 below refl) (omega arith) (record { value = p; is_text = m.1; made = refl }) m.2
-term_back below (reference r) b (inl s) = let m = reference_back r b s in tagged below 90 (reference r) m.0 b refl (other 90 below refl) (omega arith) (record { value = r; is_text = m.1; made = refl }) m.2
-term_back below t b (inr s) = let m = list_back below t b s in tagged below 108 t m.0 b refl (λ q. some_below below s.last s.tail s.is_tail) (omega arith) m.1 m.2
+term_back below (binary a) b (inl s) =
+    tagged below 109 (binary a) (s.len ++ a) b refl (other 109 below refl) (omega arith)
+    (sized_back 4 binary a s.len s.are_bytes s.number) s.bytes
+term_back below (pid p) b (inl s) =
+    let m = pid_back p b s in
+    tagged below 88 (pid p) m.0 b refl (other 88 below refl) (omega arith) (record { value = p; is_text = m.1; made = refl }) m.2
+term_back below (reference r) b (inl s) =
+    let m = reference_back r b s in
+    tagged below 90 (reference r) m.0 b refl (other 90 below refl) (omega arith) (record { value = r; is_text = m.1; made = refl }) m.2
+term_back below t b (inr s) =
+    let m = list_back below t b s in tagged below 108 t m.0 b refl (λ q. some_below below s.last s.tail s.is_tail) (omega arith) m.1 m.2
 
-pub term_same : (below : ℕ) (bytes : List ℕ) → term_at (suc below) bytes ≡ and_then (byte_where (may_stand below) tag_fault) (row_with below (term_at below)) bytes
+pub term_same : (below : ℕ) (bytes : List ℕ)
+    → term_at (suc below) bytes ≡ and_then (byte_where (may_stand below) tag_fault) (row_with below (term_at below)) bytes
 unfolding term_at
 term_same below bytes = bind_where (may_stand below) tag_fault (row_with below (term_at below)) bytes (tag_fails below (term_at below))
 
@@ -600,9 +394,12 @@ Reads-tag below = Reads-where (may_stand below) tag_fault fault_not_cut 97 refl 
 pub Reads-term : (levels : ℕ) → 0 < levels → Reads (Spells levels) (term_at levels)
 Reads-term zero lt = absurd (omega arith)
 Reads-term (suc below) lt =
-    Reads-by (Spells (suc below)) (and_then (byte_where (may_stand below) tag_fault) (row_with below (term_at below))) (term_at (suc below)) (term_same below)
-    (Reads-same (Tagged below) (Spells (suc below)) (and_then (byte_where (may_stand below) tag_fault) (row_with below (term_at below))) (term_to below) (term_back below)
-    (Reads-then (IsByteWhere (may_stand below)) (AfterTag below (Spells below)) (byte_where (may_stand below) tag_fault) (row_with below (term_at below)) (Reads-tag below)
+    Reads-by (Spells (suc below)) (and_then (byte_where (may_stand below) tag_fault) (row_with below (term_at below)))
+    (term_at (suc below)) (term_same below)
+    (Reads-same (Tagged below) (Spells (suc below))
+    (and_then (byte_where (may_stand below) tag_fault) (row_with below (term_at below))) (term_to below) (term_back below)
+    (Reads-then (IsByteWhere (may_stand below)) (AfterTag below (Spells below)) (byte_where (may_stand below) tag_fault)
+    (row_with below (term_at below)) (Reads-tag below)
     (λ k b s. tag_rows below (Spells below) (term_at below) (Reads-term below) k (stands below k s.passes))))
 
 -- ---- with the version byte
@@ -623,14 +420,30 @@ abbrev Versioned : ℕ → Data → List ℕ → Type 0
 Versioned levels = Then (IsByteWhere is_version) (λ k. Spells levels)
 
 versioned_to : (levels : ℕ) (t : Data) (b : List ℕ) → Versioned levels t b → IsSpelling levels t b
-versioned_to levels t b s = record { term = s.back; spelled = s.is_back; bytes = s.parts ∙ ap (λ (w : List ℕ). w ++ s.back) (one_byte s.value s.front s.is_front.number) ∙ ap (λ (j : ℕ). j ∷ s.back) (eqb-true s.value 131 s.is_front.passes) }
+versioned_to levels t b s = record {
+  term = s.back;
+  spelled = s.is_back;
+  bytes = s.parts ∙ ap (λ (w : List ℕ). w ++ s.back) (one_byte s.value s.front s.is_front.number)
+      ∙ ap (λ (j : ℕ). j ∷ s.back) (eqb-true s.value 131 s.is_front.passes);
+}
 
 versioned_back : (levels : ℕ) (t : Data) (b : List ℕ) → IsSpelling levels t b → Versioned levels t b
-versioned_back levels t b s = record { value = 131; front = 131 ∷ []; back = s.term; is_front = record { passes = refl; number = byte_number 131 (omega arith) }; is_back = s.spelled; parts = s.bytes }
+versioned_back levels t b s = record {
+  value = 131;
+  front = 131 ∷ [];
+  back = s.term;
+  is_front = record { passes = refl; number = byte_number 131 (omega arith) };
+  is_back = s.spelled;
+  parts = s.bytes;
+}
 
 pub Reads-spelling : Reads (IsSpelling 64) spelling_at
 unfolding spelling_at
 Reads-spelling =
-    Reads-by (IsSpelling 64) (and_then (byte_where is_version (λ k. Malformed)) (version_row 64)) spelling_at (λ bytes. bind_where is_version (λ k. Malformed) (version_row 64) bytes (version_fails 64))
-    (Reads-same (Versioned 64) (IsSpelling 64) (and_then (byte_where is_version (λ k. Malformed)) (version_row 64)) (versioned_to 64) (versioned_back 64)
-    (Reads-then (IsByteWhere is_version) (λ k. Spells 64) (byte_where is_version (λ k. Malformed)) (version_row 64) (Reads-where is_version (λ k. Malformed) (λ k e. cc) 131 refl (omega arith)) (λ k b s. version_rows 64 (omega arith) k s.passes)))
+    Reads-by (IsSpelling 64) (and_then (byte_where is_version (λ k. Malformed)) (version_row 64)) spelling_at
+    (λ bytes. bind_where is_version (λ k. Malformed) (version_row 64) bytes (version_fails 64))
+    (Reads-same (Versioned 64) (IsSpelling 64) (and_then (byte_where is_version (λ k. Malformed)) (version_row 64))
+    (versioned_to 64) (versioned_back 64)
+    (Reads-then (IsByteWhere is_version) (λ k. Spells 64) (byte_where is_version (λ k. Malformed)) (version_row 64)
+    (Reads-where is_version (λ k. Malformed) (λ k e. cc) 131 refl (omega arith))
+    (λ k b s. version_rows 64 (omega arith) k s.passes)))

@@ -2,15 +2,7 @@
 use Rattle.std.proofs.Common.{◌≡◌, ℕ, suc, Bool, true, false, eqb, List, [], ◌∷◌, refl, sym, subst, arith, ◌⊎◌, inl, inr}
 use Rattle.std.specs.Prelude.{◌||◌}
 use Rattle.std.specs.List.{list_any}
-use Rattle.std.proofs.lemmas.Bool.{eqb-true}
-
-or_true : (x y : Bool) → (x || y) ≡ true → (x ≡ true) ⊎ (y ≡ true)
-or_true true y e = inl refl
-or_true false y e = inr e
-
-or_false : (x y : Bool) → (x || y) ≡ false → (x ≡ false) × (y ≡ false)
-or_false true y e = absurd cc
-or_false false y e = (refl, e)
+use Rattle.std.proofs.lemmas.Bool.{eqb-true, or_parts, or_cases}
 
 -- a number that isn't 0
 suc_by : (n : ℕ) (b : Bool) → eqb (suc n) 0 ≡ b → eqb (suc n) 0 ≡ false
@@ -29,7 +21,7 @@ Each P (k ∷ ks) = P k × Each P ks
 pub each_found : (P : ℕ → Type 0) (ks : List ℕ) → Each P ks → (k : ℕ) → list_any (λ j. eqb k j) ks ≡ true → P k
 each_found P [] h k e = absurd cc
 each_found P (j ∷ ks) h k e =
-    elim (or_true (eqb k j) (list_any (λ i. eqb k i) ks) e) as (λ _. P k) [
+    elim (or_cases (eqb k j) (list_any (λ i. eqb k i) ks) e) as (λ _. P k) [
       | inl p ↦ subst P (sym (eqb-true k j p)) h.0
       | inr q ↦ each_found P ks h.1 k q
     ]
@@ -37,4 +29,4 @@ each_found P (j ∷ ks) h k e =
 -- one that isn't found is none of them
 pub none_found : (ks : List ℕ) (k : ℕ) → list_any (λ j. eqb k j) ks ≡ false → Each (λ j. eqb k j ≡ false) ks
 none_found [] k e = tt
-none_found (j ∷ ks) k e = let p = or_false (eqb k j) (list_any (λ i. eqb k i) ks) e in (p.0, none_found ks k p.1)
+none_found (j ∷ ks) k e = let p = or_parts (eqb k j) (list_any (λ i. eqb k i) ks) e in (p.0, none_found ks k p.1)

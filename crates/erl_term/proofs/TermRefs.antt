@@ -19,27 +19,36 @@ use Rattle.erl_term.proofs.PartReaders.{front_some, front_none}
 use Rattle.erl_term.proofs.Sizes.{size_parts}
 use Rattle.erl_term.proofs.Measured.{seen_ok, seen_err}
 
-again : (levels : ℕ) (bytes : List ℕ) (t : Data) (text rest : List ℕ) → Spells levels t text → bytes ≡ text ++ rest → term_at levels bytes ≡ Ok (t, rest)
+again : (levels : ℕ) (bytes : List ℕ) (t : Data) (text rest : List ℕ) → Spells levels t text → bytes ≡ text ++ rest
+    → term_at levels bytes ≡ Ok (t, rest)
 again zero bytes t text rest s e = absurd s
 again (suc below) bytes t text rest s e = ap (term_at (suc below)) e ∙ (Reads-term (suc below) (omega arith)).again t text rest s
 
-term_some : (levels : ℕ) (bytes : List ℕ) (x : Data × Bor (List ℕ)) → AreBytes bytes → term_at levels bytes ≡ Ok (x.0, x.1.now) → ReadsFront (Spells levels) bytes (Some x)
+term_some : (levels : ℕ) (bytes : List ℕ) (x : Data × Bor (List ℕ)) → AreBytes bytes
+    → term_at levels bytes ≡ Ok (x.0, x.1.now) → ReadsFront (Spells levels) bytes (Some x)
 unfolding term_at
 term_some zero bytes x h e = absurd cc
 term_some (suc below) bytes x h e =
-    front_some (λ (t : Data). t) (Spells (suc below)) (term_at (suc below) bytes) bytes x (λ a b q. q) e ((Reads-term (suc below) (omega arith)).takes bytes x.0 x.1.now h e) (again (suc below) bytes)
+    front_some (λ (t : Data). t) (Spells (suc below)) (term_at (suc below) bytes) bytes x (λ a b q. q) e
+    ((Reads-term (suc below) (omega arith)).takes bytes x.0 x.1.now h e) (again (suc below) bytes)
 
 -- what was measured is the term that is read
-pub measured_front : (levels : ℕ) (bytes : List ℕ) (m : Measure) (rest : Bor (List ℕ)) → AreBytes bytes → seen_by measure_of (term_at levels bytes) ≡ Ok (m, rest.now) → ReadsFront (Spells levels) bytes (Some (data_in (term_at levels bytes), rest))
+pub measured_front : (levels : ℕ) (bytes : List ℕ) (m : Measure) (rest : Bor (List ℕ)) → AreBytes bytes
+    → seen_by measure_of (term_at levels bytes) ≡ Ok (m, rest.now)
+    → ReadsFront (Spells levels) bytes (Some (data_in (term_at levels bytes), rest))
 measured_front levels bytes m rest h e =
     let s = seen_ok measure_of (term_at levels bytes) m rest.now e in
     let same : data_in (term_at levels bytes) ≡ s.value = ap data_in s.is_read in
     term_some levels bytes (data_in (term_at levels bytes), rest) h (s.is_read ∙ ap (λ (t : Data). Ok (t, rest.now)) (sym same))
 
-pub measured_none : (levels : ℕ) (bytes : List ℕ) (d : TermError) → seen_by measure_of (term_at levels bytes) ≡ Err d → ReadsFront (Spells levels) bytes None
-measured_none levels bytes d e = front_none (λ (t : Data). t) (Spells levels) (term_at levels bytes) bytes d (seen_err measure_of (term_at levels bytes) d e) (again levels bytes)
+pub measured_none : (levels : ℕ) (bytes : List ℕ) (d : TermError) → seen_by measure_of (term_at levels bytes) ≡ Err d
+    → ReadsFront (Spells levels) bytes None
+measured_none levels bytes d e =
+    front_none (λ (t : Data). t) (Spells levels) (term_at levels bytes) bytes d
+    (seen_err measure_of (term_at levels bytes) d e) (again levels bytes)
 
-pub measured_size : (read : Read Data) (m : Measure) (rest : List ℕ) (size : Size) → seen_by measure_of read ≡ Ok (m, rest) → ((t : Data) → m ≡ measure_of t → size ≡ size_of t) → size_in read ≡ Ok size
+pub measured_size : (read : Read Data) (m : Measure) (rest : List ℕ) (size : Size) → seen_by measure_of read ≡ Ok (m, rest)
+    → ((t : Data) → m ≡ measure_of t → size ≡ size_of t) → size_in read ≡ Ok size
 measured_size read m rest size e made =
     let s = seen_ok measure_of read m rest e in
     ap size_in s.is_read ∙ ap Ok (sym (made s.value s.same))
@@ -54,14 +63,16 @@ kept_size (Ok x) size e = sym (ok_is _ _ e)
 kept_size (Err d) size e = absurd cc
 
 -- a size that is held in 64 bits is compared with what they hold
-pub short_enough : (read : Read Data) (size : Size) (levels most : ℕ) → size_in read ≡ Ok size → size.levels ≤ levels → levels < 2 ^ 32 → most < 2 ^ 64 → IsTrue (ltb size.len most) ↔ IsSmall levels most (data_in read)
+pub short_enough : (read : Read Data) (size : Size) (levels most : ℕ) → size_in read ≡ Ok size → size.levels ≤ levels
+    → levels < 2 ^ 32 → most < 2 ^ 64 → IsTrue (ltb size.len most) ↔ IsSmall levels most (data_in read)
 short_enough read size levels most e le fits room =
     let p = size_parts (data_in read) size (kept_size read size e) in
     let n = p.len in
     let l = p.levels in
     (λ h. let lt = ltb-true size.len most h in (omega arith, omega arith), λ h. let short = h.1 in lt-ltb size.len most (omega arith))
 
-pub too_deep : (read : Read Data) (size : Size) (levels most : ℕ) → size_in read ≡ Ok size → levels < size.levels → levels < 2 ^ 32 → IsTrue (leb size.levels levels) ↔ IsSmall levels most (data_in read)
+pub too_deep : (read : Read Data) (size : Size) (levels most : ℕ) → size_in read ≡ Ok size → levels < size.levels
+    → levels < 2 ^ 32 → IsTrue (leb size.levels levels) ↔ IsSmall levels most (data_in read)
 too_deep read size levels most e lt fits =
     let p = size_parts (data_in read) size (kept_size read size e) in
     let l = p.levels in

@@ -1,5 +1,6 @@
 -- Facts about the data of the terms that a program holds.
-use Rattle.std.proofs.Common.{◌-◌, true, false, Bool, ltb, rules, get_or, ◌^◌, ◌≡◌, ℕ, zero, suc, ◌<◌, ◌≤◌, List, [], ◌∷◌, length, All, refl, sym, ap, ◌∙◌, arith}
+use Rattle.std.proofs.Common.{◌-◌, true, false, Bool, ltb, rules, get_or, ◌^◌, ◌≡◌, ℕ, zero, suc}
+use Rattle.std.proofs.Common.{◌<◌, ◌≤◌, List, [], ◌∷◌, length, All, refl, sym, ap, ◌∙◌, arith}
 use Rattle.std.specs.Prelude.{Option, Some, None, Box, IsTrue, ◌↔◌}
 use Rattle.std.specs.declared.alloc.Global.{Global}
 use Rattle.std.specs.Global.{Vec}
@@ -26,7 +27,8 @@ view-list t v o e f = ap view (e ∙ ap (term.List v) f) ∙ at v
     at : (x : Vec Term) → view (term.List x None) ≡ list (items_view x.items)
     at x = search (rules, the_lemmas)
 
-pub view-improper : (t : Term) (v : Vec Term) (o : Option (Box Term Global)) (b : Box Term Global) → t ≡ term.List v o → o ≡ Some b → view t ≡ improper (items_view v.items) (view b.value)
+pub view-improper : (t : Term) (v : Vec Term) (o : Option (Box Term Global)) (b : Box Term Global) → t ≡ term.List v o
+    → o ≡ Some b → view t ≡ improper (items_view v.items) (view b.value)
 view-improper t v o b e f = ap view (e ∙ ap (term.List v) f) ∙ at v b
   where
     at : (x : Vec Term) (y : Box Term Global) → view (term.List x (Some y)) ≡ improper (items_view x.items) (view y.value)
@@ -75,7 +77,8 @@ cannot_stand ts never =
 abbrev CanEnd : List Term → Data → Type 0
 CanEnd ts d = (0 < length ts) × (is_list d ≡ false)
 
-pub improper_in_range : (ts : List Term) (d : Data) (r : Bool) → CanEnd ts d → CanStand ts → (IsTrue r ↔ IsInRange d) → (IsTrue r ↔ IsInRange (improper (items_view ts) d))
+pub improper_in_range : (ts : List Term) (d : Data) (r : Bool) → CanEnd ts d → CanStand ts → (IsTrue r ↔ IsInRange d)
+    → (IsTrue r ↔ IsInRange (improper (items_view ts) d))
 improper_in_range ts d r e s f =
     let n = count-view ts in
     (λ h. (omega arith, s.0, e.1, s.1, f.0 h), λ h. f.1 h.4)
@@ -96,33 +99,45 @@ items_range ts h =
 
 -- ---- levels
 
-pub tuple_levels : (ts : List Term) (n : ℕ) (r : Bool) → 0 < n → (IsTrue r ↔ All (λ t. levels_of (view t) ≤ n - 1) ts) → (IsTrue r ↔ (levels_of (tuple (items_view ts)) ≤ n))
+pub tuple_levels : (ts : List Term) (n : ℕ) (r : Bool) → 0 < n → (IsTrue r ↔ All (λ t. levels_of (view t) ≤ n - 1) ts)
+    → (IsTrue r ↔ (levels_of (tuple (items_view ts)) ≤ n))
 tuple_levels ts n r lt f = (λ h. let l = all_levels (n - 1) ts (f.0 h) in omega arith, λ h. f.1 (levels_all (n - 1) ts (omega arith)))
 
-pub list_levels : (ts : List Term) (n : ℕ) (r : Bool) → 0 < n → is_string (items_view ts) ≡ false → (IsTrue r ↔ All (λ t. levels_of (view t) ≤ n - 1) ts) → (IsTrue r ↔ (levels_of (list (items_view ts)) ≤ n))
+pub list_levels : (ts : List Term) (n : ℕ) (r : Bool) → 0 < n → is_string (items_view ts) ≡ false
+    → (IsTrue r ↔ All (λ t. levels_of (view t) ≤ n - 1) ts) → (IsTrue r ↔ (levels_of (list (items_view ts)) ≤ n))
 list_levels ts n r lt e f =
-    let k : levels_of (list (items_view ts)) ≡ suc (most_levels (items_view ts)) = cond-false (is_string (items_view ts)) 1 (suc (most_levels (items_view ts))) e in
+    let k : levels_of (list (items_view ts)) ≡ suc (most_levels (items_view ts)) =
+    cond-false (is_string (items_view ts)) 1 (suc (most_levels (items_view ts))) e in
     (λ h. let l = all_levels (n - 1) ts (f.0 h) in omega arith, λ h. f.1 (levels_all (n - 1) ts (omega arith)))
 
-pub improper_levels : (ts : List Term) (d : Data) (n : ℕ) (r : Bool) → 0 < n → All (λ t. levels_of (view t) ≤ n - 1) ts → (IsTrue r ↔ (levels_of d ≤ n - 1)) → (IsTrue r ↔ (levels_of (improper (items_view ts) d) ≤ n))
+pub improper_levels : (ts : List Term) (d : Data) (n : ℕ) (r : Bool) → 0 < n → All (λ t. levels_of (view t) ≤ n - 1) ts
+    → (IsTrue r ↔ (levels_of d ≤ n - 1)) → (IsTrue r ↔ (levels_of (improper (items_view ts) d) ≤ n))
 improper_levels ts d n r lt all f = let l = all_levels (n - 1) ts all in (λ h. let k = f.0 h in omega arith, λ h. f.1 (omega arith))
 
-pub improper_no_levels : (ts : List Term) (d : Data) (n : ℕ) → 0 < n → (All (λ t. levels_of (view t) ≤ n - 1) ts → ⊥) → (IsTrue false ↔ (levels_of (improper (items_view ts) d) ≤ n))
+pub improper_no_levels : (ts : List Term) (d : Data) (n : ℕ) → 0 < n → (All (λ t. levels_of (view t) ≤ n - 1) ts → ⊥)
+    → (IsTrue false ↔ (levels_of (improper (items_view ts) d) ≤ n))
 improper_no_levels ts d n lt never = (λ h. absurd cc, λ h. absurd (never (levels_all (n - 1) ts (omega arith))))
 
 -- ---- items that a STRING can hold
 
 pub too_many : (ts : List Term) → 2 ^ 16 ≤ length ts → is_string (items_view ts) ≡ false
-too_many ts le = let n = count-view ts in and_right (are_byte_items (items_view ts)) (ltb (count (items_view ts)) (2 ^ 16)) (le-ltb (count (items_view ts)) (2 ^ 16) (omega arith))
+too_many ts le =
+    let n = count-view ts in and_right (are_byte_items (items_view ts)) (ltb (count (items_view ts)) (2 ^ 16))
+    (le-ltb (count (items_view ts)) (2 ^ 16) (omega arith))
 
 pub string_of : (ts : List Term) → length ts < 2 ^ 16 → All (λ t. is_byte (view t) ≡ true) ts → is_string (items_view ts) ≡ true
-string_of ts lt h = let n = count-view ts in and_from (are_byte_items (items_view ts)) (ltb (count (items_view ts)) (2 ^ 16)) (each ts h) (lt-ltb (count (items_view ts)) (2 ^ 16) (omega arith))
+string_of ts lt h =
+    let n = count-view ts in and_from (are_byte_items (items_view ts)) (ltb (count (items_view ts)) (2 ^ 16)) (each ts h)
+    (lt-ltb (count (items_view ts)) (2 ^ 16) (omega arith))
   where
     each : (us : List Term) → All (λ t. is_byte (view t) ≡ true) us → are_byte_items (items_view us) ≡ true
     each [] k = refl
-    each (u ∷ us) k = and_from (is_byte (view u)) (are_byte_items (items_view us)) (All-head (λ t. is_byte (view t) ≡ true) u us k) (each us (All-tail (λ t. is_byte (view t) ≡ true) u us k))
+    each (u ∷ us) k =
+        and_from (is_byte (view u)) (are_byte_items (items_view us)) (All-head (λ t. is_byte (view t) ≡ true) u us k)
+        (each us (All-tail (λ t. is_byte (view t) ≡ true) u us k))
 
-pub not_string : (ts : List Term) (i : ℕ) (x : Term) → i < length ts → x ≡ get_or ts i x → is_byte (view x) ≡ false → is_string (items_view ts) ≡ false
+pub not_string : (ts : List Term) (i : ℕ) (x : Term) → i < length ts → x ≡ get_or ts i x → is_byte (view x) ≡ false
+    → is_string (items_view ts) ≡ false
 not_string ts i x lt e h = and_left (are_byte_items (items_view ts)) (ltb (count (items_view ts)) (2 ^ 16)) (at ts i lt e)
   where
     at : (us : List Term) (k : ℕ) → k < length us → x ≡ get_or us k x → are_byte_items (items_view us) ≡ false
@@ -133,7 +148,8 @@ not_string ts i x lt e h = and_left (are_byte_items (items_view ts)) (ltb (count
 pub string_fits : (ts : List Term) → is_string (items_view ts) ≡ true → length ts < 2 ^ 16
 string_fits ts e = let n = count-view ts in let lt = (is_string_parts (items_view ts) e).1 in omega arith
 
-pub string_byte : (ts : List Term) (i : ℕ) (x : Term) → i < length ts → x ≡ get_or ts i x → is_string (items_view ts) ≡ true → is_byte (view x) ≡ true
+pub string_byte : (ts : List Term) (i : ℕ) (x : Term) → i < length ts → x ≡ get_or ts i x → is_string (items_view ts) ≡ true
+    → is_byte (view x) ≡ true
 string_byte ts i x lt e h = by (is_byte (view x)) refl
   where
     by : (b : Bool) → is_byte (view x) ≡ b → is_byte (view x) ≡ true

@@ -1,5 +1,6 @@
 -- Why the reader is at fault with a byte, of bytes that it was inside of before.
-use Rattle.std.proofs.Common.{◌≡◌, ◌≢◌, ℕ, zero, suc, ◌+◌, ◌<◌, Bool, false, List, [], ◌∷◌, ◌++◌, length, Ok, Err, refl, sym, ap, subst, ◌∙◌, append_assoc, arith, inl, inr}
+use Rattle.std.proofs.Common.{◌≡◌, ◌≢◌, ℕ, zero, suc, ◌+◌, ◌<◌, Bool, false, List, [], ◌∷◌, ◌++◌}
+use Rattle.std.proofs.Common.{length, Ok, Err, refl, sym, ap, subst, ◌∙◌, append_assoc, arith, inl, inr}
 use Rattle.std.specs.Prelude.{pos}
 use Rattle.byteorder.specs.Endian.{big_number}
 use Rattle.erl_term.specs.declared.error.TermError.{TermError}
@@ -15,14 +16,23 @@ use Rattle.erl_term.proofs.Rows.{AreItems, Reads-items}
 
 -- ---- more levels allow no less
 
-pub all_more : (S T : Data → List ℕ → Type 0) → ((t : Data) (b : List ℕ) → S t b → T t b) → (ts : Items) (b : List ℕ) → SpellAll S ts b → SpellAll T ts b
+pub all_more : (S T : Data → List ℕ → Type 0) → ((t : Data) (b : List ℕ) → S t b → T t b) → (ts : Items) (b : List ℕ)
+    → SpellAll S ts b → SpellAll T ts b
 all_more S T to no_items b s = s
 all_more S T to (item t ts) b s = (s.0, s.1, to t s.0 s.2, all_more S T to ts s.1 s.3, s.4)
 
-tuple_more : (S T : Data → List ℕ → Type 0) → ((t : Data) (b : List ℕ) → S t b → T t b) → (tag width : ℕ) (ts : Items) (b : List ℕ) → IsTuple S tag width ts b → IsTuple T tag width ts b
-tuple_more S T to tag width ts b s = record { arity = s.arity; elements = s.elements; number = s.number; spelled = all_more S T to ts s.elements s.spelled; bytes = s.bytes }
+tuple_more : (S T : Data → List ℕ → Type 0) → ((t : Data) (b : List ℕ) → S t b → T t b)
+    → (tag width : ℕ) (ts : Items) (b : List ℕ) → IsTuple S tag width ts b → IsTuple T tag width ts b
+tuple_more S T to tag width ts b s = record {
+  arity = s.arity;
+  elements = s.elements;
+  number = s.number;
+  spelled = all_more S T to ts s.elements s.spelled;
+  bytes = s.bytes;
+}
 
-list_more : (S T : Data → List ℕ → Type 0) → ((t : Data) (b : List ℕ) → S t b → T t b) → (t : Data) (b : List ℕ) → IsList S t b → IsList T t b
+list_more : (S T : Data → List ℕ → Type 0) → ((t : Data) (b : List ℕ) → S t b → T t b) → (t : Data) (b : List ℕ)
+    → IsList S t b → IsList T t b
 list_more S T to t b s = record {
   items = s.items;
   last = s.last;
@@ -36,7 +46,8 @@ list_more S T to t b s = record {
   bytes = s.bytes;
 }
 
-row_more : (S T : Data → List ℕ → Type 0) → ((t : Data) (b : List ℕ) → S t b → T t b) → (t : Data) (b : List ℕ) → SpellsBy S t b → SpellsBy T t b
+row_more : (S T : Data → List ℕ → Type 0) → ((t : Data) (b : List ℕ) → S t b → T t b) → (t : Data) (b : List ℕ)
+    → SpellsBy S t b → SpellsBy T t b
 row_more S T to (int z) b s = s
 row_more S T to (atom a) b s = s
 row_more S T to (tuple ts) b (inl s) = inl (tuple_more S T to 104 1 ts b s)
@@ -58,9 +69,11 @@ pub count-append : (ts us : Items) → count (append_items ts us) ≡ count ts +
 count-append no_items us = omega arith
 count-append (item t ts) us = let e = count-append ts us in omega arith
 
-pub spell_append : (S : Data → List ℕ → Type 0) (ts us : Items) (x y : List ℕ) → SpellAll S ts x → SpellAll S us y → SpellAll S (append_items ts us) (x ++ y)
+pub spell_append : (S : Data → List ℕ → Type 0) (ts us : Items) (x y : List ℕ) → SpellAll S ts x → SpellAll S us y
+    → SpellAll S (append_items ts us) (x ++ y)
 spell_append S no_items us x y s t = subst (SpellAll S us) (ap (λ (w : List ℕ). w ++ y) (sym s)) t
-spell_append S (item t ts) us x y s u = (s.0, s.1 ++ y, s.2, spell_append S ts us s.1 y s.3 u, ap (λ (w : List ℕ). w ++ y) s.4 ∙ append_assoc s.0 s.1 y)
+spell_append S (item t ts) us x y s u =
+    (s.0, s.1 ++ y, s.2, spell_append S ts us s.1 y s.3 u, ap (λ (w : List ℕ). w ++ y) s.4 ∙ append_assoc s.0 s.1 y)
 
 pub zero_items : ℕ → Items
 zero_items zero = no_items
@@ -82,7 +95,14 @@ zero_byte (suc i) = AreBytes-nil i
 pub zero_spelled : (below n : ℕ) → SpellAll (Spells (suc below)) (zero_items n) (zero_bytes n)
 unfolding zero_items zero_bytes
 zero_spelled below zero = refl
-zero_spelled below (suc n) = (97 ∷ 0 ∷ [], zero_bytes n, inl (inl (record { n = 0; field = 0 ∷ []; number = record { len = refl; bytes = zero_byte; says = refl }; value = refl; bytes = refl })), zero_spelled below n, refl)
+zero_spelled below (suc n) = (
+  97 ∷ 0 ∷ [],
+  zero_bytes n,
+  inl
+      (inl (record { n = 0; field = 0 ∷ []; number = record { len = refl; bytes = zero_byte; says = refl }; value = refl; bytes = refl })),
+  zero_spelled below n,
+  refl,
+)
 
 -- ---- the readers of fields
 
@@ -117,7 +137,8 @@ pub record IsUnknown (test : ℕ → Bool) (fault : ℕ → TermError) (front : 
   pub fails : test byte ≡ false
   pub is_fault : e ≡ fault byte
 
-pub Explains-where : (test : ℕ → Bool) (fault : ℕ → TermError) → ((k : ℕ) → fault k ≢ Cut) → Explains (IsUnknown test fault) (byte_where test fault)
+pub Explains-where : (test : ℕ → Bool) (fault : ℕ → TermError) → ((k : ℕ) → fault k ≢ Cut)
+    → Explains (IsUnknown test fault) (byte_where test fault)
 Explains-where test fault c0 = record {
   why = λ front byte e h c k l.
       elim (where_err test fault front Cut (known (any_at 1 front)) k) as (λ _. IsUnknown test fault front byte e) [
@@ -132,14 +153,17 @@ Explains-where test fault c0 = record {
     nil_if_short [] h = refl
     nil_if_short (x ∷ l) h = absurd (omega arith)
 
-    at_start : (byte : ℕ) (e : TermError) (front : List ℕ) → front ≡ [] → e ≢ Cut → byte_where test fault (byte ∷ []) ≡ Err e → IsUnknown test fault front byte e
+    at_start : (byte : ℕ) (e : TermError) (front : List ℕ) → front ≡ [] → e ≢ Cut → byte_where test fault (byte ∷ []) ≡ Err e
+        → IsUnknown test fault front byte e
     at_start byte e front none c l =
         elim (where_err test fault (byte ∷ []) e (known (any_at 1 (byte ∷ []))) l) as (λ _. IsUnknown test fault front byte e) [
           | inl p ↦ absurd (c (any_cut 1 (byte ∷ []) e p).1)
           | inr p ↦
               let one : any_at 1 (byte ∷ []) ≡ Ok (big_number 1 (byte ∷ []), []) = refl in
               let same : (big_number 1 (byte ∷ []), []) ≡ p.0 = ok_is _ _ (sym one ∙ p.1) in
-              let n : p.0.0 ≡ byte = let q : big_number 1 (byte ∷ []) ≡ p.0.0 = ap (λ (z : ℕ × List ℕ). z.0) same in let b : big_number 1 (byte ∷ []) ≡ byte = omega arith in sym q ∙ b in
+              let n : p.0.0 ≡ byte =
+              let q : big_number 1 (byte ∷ []) ≡ p.0.0 = ap (λ (z : ℕ × List ℕ). z.0) same in
+              let b : big_number 1 (byte ∷ []) ≡ byte = omega arith in sym q ∙ b in
               record { first = none; fails = ap test (sym n) ∙ p.2; is_fault = sym p.3 ∙ ap fault n }
         ]
 
@@ -161,14 +185,26 @@ pub record WhyItems (below n : ℕ) (front : List ℕ) (byte : ℕ) (e : TermErr
   pub parts : front ≡ elements ++ inner
   pub why : Why below inner byte e
 
-pub Explains-items : (below n : ℕ) → (0 < n → Reads (Spells below) (term_at below) × Explains (Why below) (term_at below)) → Explains (WhyItems below n) (items_with (term_at below) n)
+pub Explains-items : (below n : ℕ) → (0 < n → Reads (Spells below) (term_at below) × Explains (Why below) (term_at below))
+    → Explains (WhyItems below n) (items_with (term_at below) n)
 unfolding items_with
 Explains-items below zero r = record { why = λ front byte e h c k l. absurd cc }
 Explains-items below (suc n) r =
     let both = r (omega arith) in
-    Explains-then (Spells below) (λ t. Mapped (item t) (AreItems (Spells below) n)) (term_at below) (λ t bytes. map_read (item t) (items_with (term_at below) n bytes)) both.0
-    (λ t text s. Reads-map (item t) (AreItems (Spells below) n) (items_with (term_at below) n) (Reads-items (Spells below) (term_at below) n (λ some. both.0)))
+    Explains-then (Spells below) (λ t. Mapped (item t) (AreItems (Spells below) n)) (term_at below)
+    (λ t bytes. map_read (item t) (items_with (term_at below) n bytes)) both.0
+    (λ t text s. Reads-map (item t) (AreItems (Spells below) n) (items_with (term_at below) n)
+    (Reads-items (Spells below) (term_at below) n (λ some. both.0)))
     (Why below) (λ t. WhyItems below n) (WhyItems below (suc n)) both.1
     (λ t text s. Explains-map (item t) (WhyItems below n) (items_with (term_at below) n) (Explains-items below n (λ some. both)))
-    (λ front byte e w. record { before = no_items; elements = []; inner = front; spelled = refl; left = omega arith; parts = refl; why = w })
-    (λ t text inner byte e s w. record { before = item t w.before; elements = text ++ w.elements; inner = w.inner; spelled = (text, w.elements, s, w.spelled, refl); left = (let k = w.left in omega arith); parts = ap (λ (v : List ℕ). text ++ v) w.parts ∙ sym (append_assoc text w.elements w.inner); why = w.why })
+    (λ front byte e w.
+    record { before = no_items; elements = []; inner = front; spelled = refl; left = omega arith; parts = refl; why = w })
+    (λ t text inner byte e s w. record {
+      before = item t w.before;
+      elements = text ++ w.elements;
+      inner = w.inner;
+      spelled = (text, w.elements, s, w.spelled, refl);
+      left = (let k = w.left in omega arith);
+      parts = ap (λ (v : List ℕ). text ++ v) w.parts ∙ sym (append_assoc text w.elements w.inner);
+      why = w.why;
+    })

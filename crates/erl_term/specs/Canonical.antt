@@ -1,5 +1,6 @@
 -- The canonical spelling of each term: of all its spellings the one that is written.
-use Rattle.std.specs.Prelude.{◌≡◌, ℕ, zero, suc, ◌-◌, ◌/◌, ◌%◌, ◌^◌, ◌<◌, ◌≤◌, max, ℤ, pos, negsuc, List, [], ◌∷◌, ◌++◌, length, nat_lt, ◌==◌, ◌&&◌, Bool, true, false, if◌then◌else◌, FitsSigned, All}
+use Rattle.std.specs.Prelude.{◌≡◌, ℕ, zero, suc, ◌-◌, ◌/◌, ◌%◌, ◌^◌, ◌<◌, ◌≤◌, max, ℤ, pos, negsuc, List, [], ◌∷◌}
+use Rattle.std.specs.Prelude.{◌++◌, length, nat_lt, ◌==◌, ◌&&◌, Bool, true, false, if◌then◌else◌, FitsSigned, All}
 use Rattle.std.specs.List.{flat_map}
 use Rattle.std.specs.Int.{w128}
 use Rattle.byteorder.specs.Endian.{big_bytes}
@@ -75,7 +76,8 @@ canonical_cells n elements tail = 108 ∷ (big_bytes 4 n ++ (elements ++ tail))
 unfoldable pub canonical_list : Items → List ℕ → List ℕ
 canonical_list no_items elements = 106 ∷ []
 canonical_list (item t ts) elements =
-    if is_string (item t ts) then 107 ∷ (big_bytes 2 (count (item t ts)) ++ bytes_of (item t ts)) else canonical_cells (count (item t ts)) elements (106 ∷ [])
+    if is_string (item t ts) then 107
+    ∷ (big_bytes 2 (count (item t ts)) ++ bytes_of (item t ts)) else canonical_cells (count (item t ts)) elements (106 ∷ [])
 
 abbrev mutual
   pub canonical_term : Data → List ℕ
@@ -133,7 +135,8 @@ is_list (list ts) = true
 is_list (improper ts t) = true
 is_list t = false
 
--- what is a value of the profile: -2 ^ 127 to 2 ^ 127 - 1, texts of at most 255 characters, fewer than 2 ^ 32 elements and bytes, and a tail only behind some items and of no list
+-- what is a value of the profile: -2 ^ 127 to 2 ^ 127 - 1, texts of at most 255 characters, fewer than 2 ^ 32
+-- elements and bytes, and a tail only behind some items and of no list
 abbrev mutual
   pub IsInRange : Data → Type 0
   IsInRange (int z) = FitsSigned w128 z

@@ -7,7 +7,9 @@ use Rattle.erl_term.specs.contracts.term.PidOrd.TheImpl as pid_ord
 
 -- the name of the node by its bytes, then the creation, the id and the serial
 abbrev pub pid_cmp : Pid → Pid → Ordering
-pid_cmp p q = ordering_then (slice_cmp nat_cmp p.node q.node) (ordering_then (nat_cmp p.creation q.creation) (ordering_then (nat_cmp p.id q.id) (nat_cmp p.serial q.serial)))
+pid_cmp p q =
+    ordering_then (slice_cmp nat_cmp p.node q.node)
+    (ordering_then (nat_cmp p.creation q.creation) (ordering_then (nat_cmp p.id q.id) (nat_cmp p.serial q.serial)))
 
 -- what `cmp` answers
 abbrev pub compared : Pid → Pid → Ordering

@@ -62,7 +62,8 @@ head_part_at bytes =
 unfoldable pub integer_part_at : List ℕ → Read Data
 integer_part_at bytes =
     any_at 1 bytes >>= λ tag.
-    if tag.0 == 97 then small_at tag.1 else (if tag.0 == 98 then integer_at tag.1 else (if tag.0 == 110 then big_at tag.1 else Err Malformed))
+    if tag.0
+    == 97 then small_at tag.1 else (if tag.0 == 98 then integer_at tag.1 else (if tag.0 == 110 then big_at tag.1 else Err Malformed))
 
 unfoldable pub pid_part_at : List ℕ → Read Pid
 pid_part_at bytes =

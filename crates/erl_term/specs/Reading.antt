@@ -1,5 +1,6 @@
 -- Reading a term from the left, up to the first fault.
-use Rattle.std.specs.Prelude.{◌≡◌, ◌≢◌, ℕ, zero, suc, ◌+◌, ◌-◌, ◌^◌, pos, List, [], ◌∷◌, length, take, drop, Result, Ok, Err, MatchResult, nat_lt, ◌==◌, if◌then◌else◌}
+use Rattle.std.specs.Prelude.{◌≡◌, ◌≢◌, ℕ, zero, suc, ◌+◌, ◌-◌, ◌^◌, pos, List, [], ◌∷◌, length}
+use Rattle.std.specs.Prelude.{take, drop, Result, Ok, Err, MatchResult, nat_lt, ◌==◌, if◌then◌else◌}
 use Rattle.std.specs.Int.{w32, cast_signed}
 use Rattle.byteorder.specs.Endian.{big_number}
 pub use Rattle.readers.specs.Reading.{◌>>=◌}
@@ -50,7 +51,8 @@ big_at bytes =
     number_at (OutOfProfile 110) 16 1 bytes >>= λ n.
     number_at Malformed 1 1 n.1 >>= λ sign.
     part_at n.0 sign.1 >>= λ magnitude.
-    if nat_lt (low_first magnitude.0) (2 ^ 127 + sign.0) then Ok (int (signed sign.0 (low_first magnitude.0)), magnitude.1) else Err (OutOfProfile 110)
+    if nat_lt (low_first magnitude.0) (2 ^ 127 + sign.0) then Ok
+    (int (signed sign.0 (low_first magnitude.0)), magnitude.1) else Err (OutOfProfile 110)
 
 -- the text of an atom, of n bytes
 unfoldable pub text_at : ℕ → List ℕ → Read (List ℕ)
@@ -124,7 +126,8 @@ arities below = if below == 0 then 0 else 2 ^ 32 - 1
 
 -- a tuple, whose elements `one` reads
 unfoldable pub tuple_with : ℕ → (List ℕ → Read Data) → ℕ → List ℕ → Read Data
-tuple_with below one width bytes = number_at TooDeep (arities below) width bytes >>= λ arity. items_with one arity.0 arity.1 >>= λ ts. Ok (tuple ts.0, ts.1)
+tuple_with below one width bytes =
+    number_at TooDeep (arities below) width bytes >>= λ arity. items_with one arity.0 arity.1 >>= λ ts. Ok (tuple ts.0, ts.1)
 
 -- a list, whose elements and tail `one` reads. At the last level there is none, since a tail lies below it
 unfoldable pub list_with : ℕ → (List ℕ → Read Data) → List ℕ → Read Data

@@ -18,7 +18,12 @@ unfoldable pub size_of : Data → Size
 size_of t = record { len = capped (length (canonical_term t)); levels = capped (levels_of t) }
 
 unfoldable pub run_of : Items → Run
-run_of ts = record { count = capped (count ts); are_bytes = are_byte_items ts; len = capped (length (canonical_items ts)); levels = capped (most_levels ts) }
+run_of ts = record {
+  count = capped (count ts);
+  are_bytes = are_byte_items ts;
+  len = capped (length (canonical_items ts));
+  levels = capped (most_levels ts);
+}
 
 unfoldable pub measure_of : Data → Measure
 measure_of (list ts) = Proper (run_of ts)

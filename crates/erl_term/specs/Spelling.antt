@@ -154,7 +154,8 @@ SpellsBy Spell (binary a) b = IsBinary a b
 SpellsBy Spell (pid p) b = IsPid p b
 SpellsBy Spell (reference r) b = IsReference r b
 
--- b stands for t, and has at most so many levels: by a row of its kind, or by LIST, which can stand for any term. A term in which no other stands has one level.
+-- b stands for t, and has at most so many levels: by a row of its kind, or by LIST, which can stand for any
+-- term. A term in which no other stands has one level.
 abbrev pub Spells : ℕ → Data → List ℕ → Type 0
 Spells zero t b = ⊥
 Spells (suc levels) t b = SpellsBy (Spells levels) t b ⊎ IsList (Spells levels) t b

@@ -9,4 +9,5 @@ pub record Waiting : Type 0 where
   pub room : ℕ
 
 abbrev pub waiting_code : Coded Waiting
-waiting_code = code_by (List Data × ℕ) (coded× (coded_list data_code) coded_ℕ) (λ w. (w.messages, w.room)) (λ p. record { messages = p.0; room = p.1 }) (λ _. refl)
+waiting_code = code_by (List Data × ℕ) (coded× (coded_list data_code) coded_ℕ) (λ w. (w.messages, w.room))
+    (λ p. record { messages = p.0; room = p.1 }) (λ _. refl)

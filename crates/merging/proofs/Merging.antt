@@ -1,10 +1,12 @@
 -- Logs in the order of their stamps are one run: by induction over the merged entries, with what is left of each log.
-use Rattle.std.proofs.Common.{◌≡◌, ◌≢◌, ℕ, suc, ◌<◌, ◌≤◌, Bool, true, false, Option, None, Some, List, [], ◌∷◌, ◌++◌, ◌==◌, inl, inr, if◌then◌else◌, refl, sym, ap, ◌∙◌, subst, append_assoc, arith, append-nil}
+use Rattle.std.proofs.Common.{◌≡◌, ◌≢◌, ℕ, suc, ◌<◌, ◌≤◌, Bool, true, false, Option, None, Some, List, [], ◌∷◌, ◌++◌}
+use Rattle.std.proofs.Common.{◌==◌, inl, inr, if◌then◌else◌, refl, sym, ap, ◌∙◌, subst, append_assoc, arith, append-nil}
 use Rattle.std.specs.List.{All, AllPairs}
 use Rattle.std.proofs.lemmas.List.{map-append}
 use Rattle.std.proofs.lemmas.List.Elements.{All-append, All-head, All-map, All-nil, All-cons, All-tail}
 use Rattle.std.proofs.lemmas.Bool.Decides.{eqb_tells}
-use Rattle.merging.specs.Logs.{AllTakeEarlier, Entry, Leads, Line, TakesEarlier, bare, bare_took, entries_of, off, on, sent_on, stamped, took_on}
+use Rattle.merging.specs.Logs.{AllTakeEarlier, Entry, Leads, Line, TakesEarlier, bare}
+use Rattle.merging.specs.Logs.{bare_took, entries_of, off, on, sent_on, stamped, took_on}
 use Rattle.merging.specs.Runs.{LogsAreARun, Moves, Runs, World, of_node}
 
 -- ---- the value at one number is another

@@ -1,10 +1,12 @@
 -- Lists of the same elements in another order: a filter leaves them so, and where numbers of the elements rise there is one order.
-use Rattle.std.proofs.Common.{◌≡◌, ℕ, zero, suc, ◌<◌, ◌≤◌, Bool, true, false, not, cond, List, [], ◌∷◌, ◌++◌, filter, length, get_or, set, swap, refl, sym, ap, ap₂, ◌∙◌, subst, arith, inl, inr, ltb, IsPermutation}
+use Rattle.std.proofs.Common.{◌≡◌, ℕ, zero, suc, ◌<◌, ◌≤◌, Bool, true, false, not, cond, List, [], ◌∷◌, ◌++◌, filter, length}
+use Rattle.std.proofs.Common.{get_or, set, swap, refl, sym, ap, ap₂, ◌∙◌, subst, arith, inl, inr, ltb, IsPermutation}
 use Rattle.std.specs.List.{All, AllPairs}
 use Rattle.std.proofs.lemmas.Bool.Decides.{leb_tells}
 use Rattle.std.proofs.lemmas.List.Elements.{All-cons, All-head, All-nil, All-tail}
 use Rattle.std.proofs.lemmas.List.Kept.{AllPairs-filter}
-use Rattle.std.proofs.lemmas.List.Sorted.{All-permutation, IsPermutation-cons, IsPermutation-keeps, IsPermutation-refl, IsPermutation-swap, IsPermutation-trans, length_permutation}
+use Rattle.std.proofs.lemmas.List.Sorted.{All-permutation, IsPermutation-cons, IsPermutation-keeps, IsPermutation-refl}
+use Rattle.std.proofs.lemmas.List.Sorted.{IsPermutation-swap, IsPermutation-trans, length_permutation}
 
 -- ---- what holds of each exchange of neighbours holds of each order
 
@@ -43,7 +45,8 @@ module _ {A : Type 0} (p : A → Bool) where
 
   turns : (x y : A) (xs : List A) → IsPermutation (filter p (x ∷ y ∷ xs)) (filter p (y ∷ x ∷ xs))
   turns x y xs =
-      let P : Bool → Bool → Type 0 = λ b c. IsPermutation (cond b (x ∷ cond c (y ∷ filter p xs) (filter p xs)) (cond c (y ∷ filter p xs) (filter p xs)))
+      let P : Bool → Bool → Type 0 =
+      λ b c. IsPermutation (cond b (x ∷ cond c (y ∷ filter p xs) (filter p xs)) (cond c (y ∷ filter p xs) (filter p xs)))
       (cond c (y ∷ cond b (x ∷ filter p xs) (filter p xs)) (cond b (x ∷ filter p xs) (filter p xs))) in
       elim (p x) as (λ b. P b (p y)) [
         | true ↦ elim (p y) as (P true) [ true ↦ two_turned x y (filter p xs) | false ↦ IsPermutation-refl _ ]
@@ -135,6 +138,8 @@ module _ {A : Type 0} (n : A → ℕ) where
       let later : filter (is_above x) (x ∷ xs) ≡ xs =
       ap (λ b. cond b (x ∷ filter (is_above x) xs) (filter (is_above x) xs)) (itself x) ∙ all_pass (is_above x) xs higher in
       let head = one x _ (subst (λ l. IsPermutation l (filter (is_no_higher x) ys)) first (filter_permuted (is_no_higher x) _ _ h)) in
-      let tail = one_order xs _ (pair_rest (λ x y. n x < n y) x xs rises) (subst (λ l. IsPermutation l (filter (is_above x) ys)) later (filter_permuted (is_above x) _ _ h))
+      let tail =
+      one_order xs _ (pair_rest (λ x y. n x < n y) x xs rises)
+      (subst (λ l. IsPermutation l (filter (is_above x) ys)) later (filter_permuted (is_above x) _ _ h))
       (AllPairs-filter (λ y z. n y ≤ n z) (is_above x) ys up) in
       parted x ys up ∙ ap₂ ◌++◌ head tail

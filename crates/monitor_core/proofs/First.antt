@@ -1,5 +1,6 @@
 -- A search from the front finds the first record that passes.
-use Rattle.std.proofs.Common.{◌≡◌, nat_lt, Bor, ℕ, zero, suc, ◌<◌, Bool, true, false, cond, [], ◌∷◌, ◌+◌, ◌⊎◌, inl, inr, List, length, take, drop, subst, Option, None, Some, IfSome, IfNone, refl, sym, ap, ◌∙◌, arith}
+use Rattle.std.proofs.Common.{◌≡◌, nat_lt, Bor, ℕ, zero, suc, ◌<◌, Bool, true, false, cond, [], ◌∷◌, ◌+◌, ◌⊎◌, inl, inr}
+use Rattle.std.proofs.Common.{List, length, take, drop, subst, Option, None, Some, IfSome, IfNone, refl, sym, ap, ◌∙◌, arith}
 use Rattle.std.specs.Option.{MatchOption, option_copied}
 use Rattle.std.specs.Slice.{IsItemAt}
 use Rattle.std.proofs.lemmas.Option.{slice_get-get_or}
@@ -22,13 +23,16 @@ none_within : (p : Test) (rs : Records) → AllWithin (λ e. p e.1 ≡ false) rs
 none_within p [] h = tt
 none_within p (e ∷ rest) h = (h 0 e (omega arith) (omega arith), none_within p rest (λ k d le lt. h (suc k) d (omega arith) (omega arith)))
 
-first_within : (p : Test) (rs : Records) (at : ℕ) → at < length rs → HoldsAt (λ e. p e.1 ≡ true) rs at → AllWithin (λ e. p e.1 ≡ false) rs 0 at → PassesFirstAt p rs at
+first_within : (p : Test) (rs : Records) (at : ℕ) → at < length rs → HoldsAt (λ e. p e.1 ≡ true) rs at
+    → AllWithin (λ e. p e.1 ≡ false) rs 0 at → PassesFirstAt p rs at
 first_within p [] at l q h = absurd (omega arith)
 first_within p (e ∷ rest) zero l q h = q e
-first_within p (e ∷ rest) (suc at) l q h = (h 0 e (omega arith) (omega arith), first_within p rest at (omega arith) q (λ k d le lt. h (suc k) d (omega arith) (omega arith)))
+first_within p (e ∷ rest) (suc at) l q h =
+    (h 0 e (omega arith) (omega arith), first_within p rest at (omega arith) q (λ k d le lt. h (suc k) d (omega arith) (omega arith)))
 
 pub searched_from_front : (p : Test) (rs : Records) (r : Option ℕ)
-    → MatchOption r (AllWithin (λ e. p e.1 ≡ false) rs 0 (length rs)) (λ i. (i < length rs) × HoldsAt (λ e. p e.1 ≡ true) rs i × AllWithin (λ e. p e.1 ≡ false) rs 0 i)
+    → MatchOption r (AllWithin (λ e. p e.1 ≡ false) rs 0 (length rs))
+    (λ i. (i < length rs) × HoldsAt (λ e. p e.1 ≡ true) rs i × AllWithin (λ e. p e.1 ≡ false) rs 0 i)
     → record { at : IfSome r (PassesFirstAt p rs); none : IfNone r (NonePasses p rs) }
 searched_from_front p rs None h = record { at = tt; none = none_within p rs h }
 searched_from_front p rs (Some at) h = record { at = first_within p rs at h.0 h.1 h.2; none = tt }
@@ -47,7 +51,8 @@ no_item : (m n : ℕ) → false ≡ nat_lt m n → m < n → ⊥
 no_item m n h l = grind arith
 
 -- the record that is read there
-pub read_at : (p : Test) (rs : Records) (at : ℕ) (o : Option (Bor (Reference × Monitor))) → PassesFirstAt p rs at → IsItemAt rs at o → option_copied o ≡ found p rs
+pub read_at : (p : Test) (rs : Records) (at : ℕ) (o : Option (Bor (Reference × Monitor))) → PassesFirstAt p rs at
+    → IsItemAt rs at o → option_copied o ≡ found p rs
 read_at p rs at None h item = absurd (no_item at (length rs) item.0 (passes_in_range p rs at h))
 read_at p rs at (Some x) h item = ap Some item.1 ∙ sym (slice_get-get_or rs at x.now (passes_in_range p rs at h)) ∙ found_at p rs at h
 
@@ -71,8 +76,10 @@ all_passed zero xs l = absurd (omega arith)
 all_passed (suc n) [] l = refl
 all_passed (suc n) (x ∷ xs) l = all_passed n xs (omega arith)
 
-pub found_behind : (p : Test) (rs rest : Records) (from at : ℕ) → rest ≡ drop from rs → PassesFirstAt p rest at → slice_get rs (from + at) ≡ found p (drop from rs)
-found_behind p rs rest from at is h = sym (slice_get_behind from rs at) ∙ ap (λ l. slice_get l at) (sym is) ∙ found_at p rest at h ∙ ap (found p) is
+pub found_behind : (p : Test) (rs rest : Records) (from at : ℕ) → rest ≡ drop from rs → PassesFirstAt p rest at
+    → slice_get rs (from + at) ≡ found p (drop from rs)
+found_behind p rs rest from at is h =
+    sym (slice_get_behind from rs at) ∙ ap (λ l. slice_get l at) (sym is) ∙ found_at p rest at h ∙ ap (found p) is
 
 pub place_behind : (p : Test) (rs rest : Records) (from at : ℕ) → rest ≡ drop from rs → PassesFirstAt p rest at → from + at < length rs
 place_behind p rs rest from at is h = behind_in_range from rs at (subst (λ l. at < length l) is (passes_in_range p rest at h))

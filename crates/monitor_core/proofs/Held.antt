@@ -1,5 +1,6 @@
 -- Whether an owner and a target are those of the monitor that is held.
-use Rattle.std.proofs.Common.{◌≡◌, ◌↔◌, IsTrue, Bool, true, false, ◌&&◌, Option, None, Some, Result, Ok, Err, OnErr, refl, sym, ap, subst, ◌∙◌}
+use Rattle.std.proofs.Common.{◌≡◌, ◌↔◌, IsTrue, Bool, true, false, ◌&&◌, Option, None}
+use Rattle.std.proofs.Common.{Some, Result, Ok, Err, OnErr, refl, sym, ap, subst, ◌∙◌}
 use Rattle.std.specs.Ordering.{is_eq, eq_by_cmp}
 use Rattle.std.specs.declared.cmp.Ordering.{Ordering}
 use Rattle.std.specs.declared.cmp.Ordering.TheVariants.{Less, Equal, Greater}
@@ -21,7 +22,8 @@ tied_same p q Equal e t = pid_cmp_exact p q e
 tied_same p q Greater e t = cc
 
 -- a test that is true where two are one is the test of their order
-pub decided_by : {K : Type 0} {cmp : K → K → Ordering} → IsTotalOrder cmp → IsAntisymmetric cmp → (b : Bool) (p q : K) → (IsTrue b ↔ (p ≡ q)) → b ≡ eq_by_cmp cmp p q
+pub decided_by : {K : Type 0} {cmp : K → K → Ordering} → IsTotalOrder cmp → IsAntisymmetric cmp → (b : Bool) (p q : K)
+    → (IsTrue b ↔ (p ≡ q)) → b ≡ eq_by_cmp cmp p q
 decided_by {K} {cmp} order exact true p q h = sym (subst (λ x. eq_by_cmp cmp p x ≡ true) (h.0 refl) (ap is_eq (tied_itself order p)))
 decided_by {K} {cmp} order exact false p q h = go (cmp p q) refl
   where
@@ -33,12 +35,15 @@ decided_by {K} {cmp} order exact false p q h = go (cmp p q) refl
 decided : (b : Bool) (p q : Pid) → (IsTrue b ↔ (p ≡ q)) → b ≡ eq_by_cmp pid_cmp p q
 decided = decided_by pid_cmp_total pid_cmp_exact
 
-pub both_named : (o : Option Monitor) (held : Monitor) (owner target : Pid) (a b : Bool) → Some held ≡ o → a ≡ true → (IsTrue a ↔ (held.owner ≡ owner)) → (IsTrue b ↔ (held.target ≡ target)) → b ≡ is_this o (monitor_of owner target)
+pub both_named : (o : Option Monitor) (held : Monitor) (owner target : Pid) (a b : Bool) → Some held ≡ o → a ≡ true
+    → (IsTrue a ↔ (held.owner ≡ owner)) → (IsTrue b ↔ (held.target ≡ target)) → b ≡ is_this o (monitor_of owner target)
 both_named o held owner target a b e t f g =
-    ap (λ x. x && b) (sym t) ∙ ap (λ x. x && b) (decided a held.owner owner f) ∙ ap (λ x. eq_by_cmp pid_cmp held.owner owner && x) (decided b held.target target g)
+    ap (λ x. x && b) (sym t) ∙ ap (λ x. x && b) (decided a held.owner owner f)
+    ∙ ap (λ x. eq_by_cmp pid_cmp held.owner owner && x) (decided b held.target target g)
     ∙ ap (λ x. is_this x (monitor_of owner target)) e
 
-pub another_owner : (o : Option Monitor) (held : Monitor) (owner target : Pid) (a : Bool) → Some held ≡ o → a ≡ false → (IsTrue a ↔ (held.owner ≡ owner)) → a ≡ is_this o (monitor_of owner target)
+pub another_owner : (o : Option Monitor) (held : Monitor) (owner target : Pid) (a : Bool) → Some held ≡ o → a ≡ false
+    → (IsTrue a ↔ (held.owner ≡ owner)) → a ≡ is_this o (monitor_of owner target)
 another_owner o held owner target a e t f =
     t ∙ ap (λ x. x && eq_by_cmp pid_cmp held.target target) (sym t ∙ decided a held.owner owner f)
     ∙ ap (λ x. is_this x (monitor_of owner target)) e
@@ -59,7 +64,8 @@ this_held (Some held) m h =
 
 pub held_this : (o : Option Monitor) (m : Monitor) → o ≡ Some m → is_this o m ≡ true
 held_this o m e =
-    ap (λ x. is_this x m) e ∙ ap (λ x. x && eq_by_cmp pid_cmp m.target m.target) (same_tied m.owner m.owner refl) ∙ same_tied m.target m.target refl
+    ap (λ x. is_this x m) e ∙ ap (λ x. x && eq_by_cmp pid_cmp m.target m.target) (same_tied m.owner m.owner refl)
+    ∙ same_tied m.target m.target refl
 
 -- a fact holds at a refusal too
 pub at_refusal : {A E P : Type 0} (r : Result A E) → P → OnErr r P

@@ -1,5 +1,6 @@
 -- What a call does at a reference, and that a reference leaves no more often than it comes.
-use Rattle.std.proofs.Common.{◌≡◌, ◌≢◌, ◌↔◌, IsTrue, ℕ, ◌+◌, ◌≤◌, Bool, true, false, cond, ◌&&◌, List, [], ◌∷◌, Option, None, Some, is_some, refl, sym, ap, ◌∙◌, arith}
+use Rattle.std.proofs.Common.{◌≡◌, ◌≢◌, ◌↔◌, IsTrue, ℕ, ◌+◌, ◌≤◌, Bool, true, false, cond, ◌&&◌}
+use Rattle.std.proofs.Common.{List, [], ◌∷◌, Option, None, Some, is_some, refl, sym, ap, ◌∙◌, arith}
 use Rattle.std.specs.declared.cmp.Ordering.{Ordering}
 use Rattle.std.specs.declared.cmp.Ordering.TheVariants.{Less, Equal, Greater}
 use Rattle.std.specs.Ordering.{is_eq, eq_by_cmp}
@@ -75,21 +76,22 @@ abbrev times : Option Monitor → ℕ
 times o = cond (is_some o) 1 0
 
 take_out : (b : Bool) (x y : Option Monitor) → (b ≡ true → x ≡ y) → cond (is_some x && b) 1 0 + times (cond b None y) ≤ times y
-take_out true None y h = omega arith
 take_out true (Some v) y h = let e : times y ≡ 1 = ap times (sym (h refl)) in omega (arith, e)
 take_out false None y h = omega arith
-take_out false (Some v) y h = omega arith
+take_out _ _ y h = omega arith
 
 put_in : (b c : Bool) (v : Monitor) (y : Option Monitor) → times (cond c y (cond b (Some v) y)) ≤ times y + cond b 1 0
 put_in b true v y = omega arith
 put_in true false v y = omega arith
 put_in false false v y = omega arith
 
-same_if : (c : Bool) (m n : MonitorMap) (r : Reference) (o : Option Monitor) → map.get n r ≡ o → map.get (cond c m n) r ≡ cond c (map.get m r) o
+same_if : (c : Bool) (m n : MonitorMap) (r : Reference) (o : Option Monitor) → map.get n r ≡ o
+    → map.get (cond c m n) r ≡ cond c (map.get m r) o
 same_if true m n r o e = refl
 same_if false m n r o e = e
 
-end_out : (t b : Bool) (x y : Option Monitor) (o : ℕ) → (t ≡ true → is_some x ≡ true) → (b ≡ true → x ≡ y) → (t ≡ true → o ≡ times (cond b None y)) → (t ≡ false → o ≡ times y) → cond (t && b) 1 0 + o ≤ times y
+end_out : (t b : Bool) (x y : Option Monitor) (o : ℕ) → (t ≡ true → is_some x ≡ true) → (b ≡ true → x ≡ y)
+    → (t ≡ true → o ≡ times (cond b None y)) → (t ≡ false → o ≡ times y) → cond (t && b) 1 0 + o ≤ times y
 end_out true b x y o h e p q =
     let s : cond (is_some x && b) 1 0 ≡ cond b 1 0 = ap (λ (c : Bool). cond {A = ℕ} (c && b) 1 0) (h refl) in
     omega (arith, s, p refl, take_out b x y e)
@@ -113,7 +115,8 @@ step r m (Ends q e) =
     (λ t. ap (λ b. times (map.get (cond b (map.remove m q) m) r)) t) in
     omega (arith, out)
 
-pub no_more_than_added : (r : Reference) (calls : List Call) (m : MonitorMap) → departures r calls m ≤ times (map.get m r) + additions r calls
+pub no_more_than_added : (r : Reference) (calls : List Call) (m : MonitorMap)
+    → departures r calls m ≤ times (map.get m r) + additions r calls
 no_more_than_added r [] m = omega arith
 no_more_than_added r (call ∷ calls) m = omega (arith, step r m call, no_more_than_added r calls (called m call))
 
@@ -123,6 +126,7 @@ gone r calls m none h = omega (arith, no_more_than_added r calls m, ap times non
 pub from_nothing : (calls : List Call) (r : Reference) → departures r calls map.empty ≤ additions r calls
 from_nothing calls r = omega (arith, no_more_than_added r calls map.empty, ap times (map.get-empty reference_cmp r))
 
-pub gone_by_end : (r : Reference) (e : Monitor) (calls : List Call) (m : MonitorMap) → IsTrue (takes m (Ends r e)) → additions r calls ≡ 0 → departures r calls (called m (Ends r e)) ≡ 0
+pub gone_by_end : (r : Reference) (e : Monitor) (calls : List Call) (m : MonitorMap) → IsTrue (takes m (Ends r e))
+    → additions r calls ≡ 0 → departures r calls (called m (Ends r e)) ≡ 0
 gone_by_end r e calls m t h =
     gone r calls _ (ap (λ b. map.get (cond b (map.remove m r) m) r) t ∙ get_removed m r) h

@@ -33,14 +33,18 @@ equal_reference q r h = go (reference_cmp q r) refl h
 
 pub remove_same : (m : MonitorMap) (r : Reference) → map.get m r ≡ None → map.remove m r ≡ m
 remove_same m r h = map.same_map reference_cmp_total reference_cmp_exact _ _ (λ q.
-    map.get-remove reference_cmp_total m r q ∙ same_at None (map.get m q) (eq_by_cmp reference_cmp q r) (λ t. ap (map.get m) (equal_reference q r t) ∙ h))
+    map.get-remove reference_cmp_total m r q
+    ∙ same_at None (map.get m q) (eq_by_cmp reference_cmp q r) (λ t. ap (map.get m) (equal_reference q r t) ∙ h))
 
 pub get_here : (rs : Records) (r : Reference) → AreSorted rs → map.get (map_of rs) r ≡ find reference_cmp r rs
 get_here rs r h = map.get-from_sorted reference_cmp rs r h
 
 -- a reference that has none gets the monitor, and one that has one keeps it
-pub added_new : (rs : Records) (r : Reference) (m : Monitor) → AreSorted rs → find reference_cmp r rs ≡ None → map_of (put reference_cmp r m rs) ≡ added (map_of rs) r m
-added_new rs r m h none = map_put reference_cmp_total r m rs h ∙ sym (ap (λ o. cond (is_some o) (map_of rs) (map.insert (map_of rs) r m)) (get_here rs r h ∙ none))
+pub added_new : (rs : Records) (r : Reference) (m : Monitor) → AreSorted rs → find reference_cmp r rs ≡ None
+    → map_of (put reference_cmp r m rs) ≡ added (map_of rs) r m
+added_new rs r m h none =
+    map_put reference_cmp_total r m rs h
+    ∙ sym (ap (λ o. cond (is_some o) (map_of rs) (map.insert (map_of rs) r m)) (get_here rs r h ∙ none))
 
 pub added_again : (m : MonitorMap) (r : Reference) (monitor : Monitor) → is_some (map.get m r) ≡ true → added m r monitor ≡ m
 added_again m r monitor h = ap (λ b. cond b m (map.insert m r monitor)) h

@@ -1,5 +1,6 @@
 -- What a search over places finds.
-use Rattle.std.proofs.Common.{◌≡◌, ℕ, zero, suc, ◌+◌, ◌-◌, ◌<◌, ◌≤◌, Bool, true, false, List, [], ◌∷◌, length, take, drop, get_or, nat_lt, refl, sym, ap, subst, ◌∙◌, arith, tests}
+use Rattle.std.proofs.Common.{◌≡◌, ℕ, zero, suc, ◌+◌, ◌-◌, ◌<◌, ◌≤◌, Bool, true, false, List, [], ◌∷◌}
+use Rattle.std.proofs.Common.{length, take, drop, get_or, nat_lt, refl, sym, ap, subst, ◌∙◌, arith, tests}
 use Rattle.std.specs.List.{All, AllWithin, slice_range}
 use Rattle.std.specs.List.Sorted.{IsNonDecreasing, IsPartitionedBy, IsPartitionPoint}
 use Rattle.std.specs.declared.cmp.Ordering.{Ordering}
@@ -12,7 +13,8 @@ use Rattle.monitor_core.proofs.Tallies.{Test, plus_if}
 pub each_take : (P : ℕ → Type 0) (xs : List ℕ) (i : ℕ) → AllWithin P xs 0 i → i ≤ length xs → Each P (take i xs)
 each_take P xs zero h l = tt
 each_take P [] (suc i) h l = absurd (omega arith)
-each_take P (x ∷ xs) (suc i) h l = (h 0 x (omega arith) (omega arith), each_take P xs i (λ k d a b. h (suc k) d (omega arith) (omega arith)) (omega arith))
+each_take P (x ∷ xs) (suc i) h l =
+    (h 0 x (omega arith) (omega arith), each_take P xs i (λ k d a b. h (suc k) d (omega arith) (omega arith)) (omega arith))
 
 each_all : (P : ℕ → Type 0) (xs : List ℕ) → AllWithin P xs 0 (length xs) → Each P xs
 each_all P [] h = tt
@@ -30,15 +32,20 @@ short (suc i) (suc j) [] l = absurd (omega arith)
 short (suc i) (suc j) (x ∷ xs) l = let h = short i j xs (omega arith) in omega (arith, h)
 
 pub each_between : (P : ℕ → Type 0) (xs : List ℕ) (i j : ℕ) → j ≤ length xs → AllWithin P xs i j → Each P (slice_range xs i j)
-each_between P xs i j l h = each_take P (drop i xs) (j - i) (λ k d a b. subst P (sym (get_or-drop i xs k d)) (h (i + k) d (omega arith) (omega arith))) (short i j xs l)
+each_between P xs i j l h =
+    each_take P (drop i xs) (j - i)
+    (λ k d a b. subst P (sym (get_or-drop i xs k d)) (h (i + k) d (omega arith) (omega arith))) (short i j xs l)
 
 -- how many pass, where all that pass stand in front
-pub counted_front : (p : Test) (xs : List ℕ) (i : ℕ) → i ≤ length xs → AllWithin (λ x. p x ≡ true) xs 0 i → AllWithin (λ x. p x ≡ false) xs i (length xs) → counted p xs ≡ i
+pub counted_front : (p : Test) (xs : List ℕ) (i : ℕ) → i ≤ length xs → AllWithin (λ x. p x ≡ true) xs 0 i
+    → AllWithin (λ x. p x ≡ false) xs i (length xs) → counted p xs ≡ i
 counted_front p [] i l f b = omega arith
 counted_front p (x ∷ xs) zero l f b =
-    ap (λ c. plus_if c (counted p xs)) (b 0 x (omega arith) (omega arith)) ∙ counted_front p xs zero (omega arith) (λ k d a c. absurd (omega arith)) (λ k d a c. b (suc k) d (omega arith) (omega arith))
+    ap (λ c. plus_if c (counted p xs)) (b 0 x (omega arith) (omega arith))
+    ∙ counted_front p xs zero (omega arith) (λ k d a c. absurd (omega arith)) (λ k d a c. b (suc k) d (omega arith) (omega arith))
 counted_front p (x ∷ xs) (suc i) l f b =
-    ap (λ c. plus_if c (counted p xs)) (f 0 x (omega arith) (omega arith)) ∙ ap suc (counted_front p xs i (omega arith) (λ k d a c. f (suc k) d (omega arith) (omega arith)) (λ k d a c. b (suc k) d (omega arith) (omega arith)))
+    ap (λ c. plus_if c (counted p xs)) (f 0 x (omega arith) (omega arith)) ∙ ap suc (counted_front p xs i (omega arith)
+    (λ k d a c. f (suc k) d (omega arith) (omega arith)) (λ k d a c. b (suc k) d (omega arith) (omega arith)))
 
 -- each at an index
 pub each_at : (P : ℕ → Type 0) (xs : List ℕ) (j : ℕ) (d : ℕ) → j < length xs → Each P xs → P (get_or xs j d)
@@ -50,7 +57,8 @@ pub all_from_each : (P : ℕ → Type 0) (xs : List ℕ) → Each P xs → All P
 all_from_each P xs h k d l = each_at P xs k d l h
 
 -- where the lesser passes with the greater, those that pass stand in front
-pub partitioned : (R : ℕ → ℕ → Type 0) (p : Test) → ((x y : ℕ) → R x y → p y ≡ true → p x ≡ true) → (xs : List ℕ) → Rises R xs → IsPartitionedBy p xs
+pub partitioned : (R : ℕ → ℕ → Type 0) (p : Test) → ((x y : ℕ) → R x y → p y ≡ true → p x ≡ true) → (xs : List ℕ) → Rises R xs
+    → IsPartitionedBy p xs
 partitioned R p m [] h i j d le l t = absurd (omega arith)
 partitioned R p m (x ∷ xs) h zero zero d le l t = t
 partitioned R p m (x ∷ xs) h zero (suc j) d le l t = m x (get_or xs j d) (each_at (R x) xs j d (omega arith) h.0) t
@@ -65,10 +73,13 @@ climbs_up (x ∷ xs) h (suc i) zero d le l = absurd (omega arith)
 climbs_up (x ∷ xs) h (suc i) (suc j) d le l = climbs_up xs h.1 i j d (omega arith) (omega arith)
 
 pub below_parts : (n : ℕ) (xs : List ℕ) → IsNonDecreasing xs → IsPartitionedBy (λ x. nat_lt x n) xs
-below_parts n xs h i j d le l t = let k = h i j d le l in let m : get_or xs j d < n = grind (arith, tests) in let g : get_or xs i d < n = omega (arith, k, m) in grind (arith, tests)
+below_parts n xs h i j d le l t =
+    let k = h i j d le l in let m : get_or xs j d < n = grind (arith, tests) in
+    let g : get_or xs i d < n = omega (arith, k, m) in grind (arith, tests)
 
 -- where the search for the places below one ends
-pub below_front : (n : ℕ) (xs : List ℕ) (i : ℕ) → i ≤ length xs → IsPartitionPoint (λ x. nat_lt x n ≡ true) (λ x. nat_lt x n ≡ false) xs i → counted (λ x. nat_lt x n) xs ≡ i
+pub below_front : (n : ℕ) (xs : List ℕ) (i : ℕ) → i ≤ length xs
+    → IsPartitionPoint (λ x. nat_lt x n ≡ true) (λ x. nat_lt x n ≡ false) xs i → counted (λ x. nat_lt x n) xs ≡ i
 below_front n xs i l h = counted_front (λ x. nat_lt x n) xs i l h.0 h.1
 
 -- the two searches for a part
@@ -89,8 +100,7 @@ equal_by Greater h k = cc
 
 never_both : (o : Ordering) → is_lt o ≡ true → is_le o ≡ false → ⊥
 never_both Less h k = cc
-never_both Equal h k = cc
-never_both Greater h k = cc
+never_both _ h k = cc
 
 in_order : (order : ℕ → Ordering) (xs : List ℕ) (from to : ℕ) → from ≤ length xs
     → IsPartitionPoint (λ x. is_lt (order x) ≡ true) (λ x. is_lt (order x) ≡ false) xs from
@@ -98,7 +108,9 @@ in_order : (order : ℕ → Ordering) (xs : List ℕ) (from to : ℕ) → from �
 in_order order xs from to l p q = go (nat_lt to from) refl
   where
     go : (b : Bool) → nat_lt to from ≡ b → from ≤ to
-    go true e = let k : to < from = grind (arith, tests) in absurd (never_both (order (get_or xs to 0)) (p.0 to 0 (omega arith) k) (q.1 to 0 (omega arith) (omega arith)))
+    go true e =
+        let k : to < from = grind (arith, tests) in
+        absurd (never_both (order (get_or xs to 0)) (p.0 to 0 (omega arith) k) (q.1 to 0 (omega arith) (omega arith)))
     go false e = grind (arith, tests)
 
 pub parted : (order : ℕ → Ordering) (xs : List ℕ) (from to : ℕ) → from ≤ length xs → to ≤ length xs

@@ -1,5 +1,6 @@
 -- Where records stand once one has come in or some are gone.
-use Rattle.std.proofs.Common.{◌≡◌, ℕ, zero, suc, ◌+◌, ◌<◌, ◌≤◌, Bool, true, false, cond, not, ◌&&◌, List, [], ◌∷◌, ◌++◌, map, length, nat_lt, refl, sym, ap, ◌∙◌, arith, tests}
+use Rattle.std.proofs.Common.{◌≡◌, ℕ, zero, suc, ◌+◌, ◌<◌, ◌≤◌, Bool, true, false, cond, not, ◌&&◌, List}
+use Rattle.std.proofs.Common.{[], ◌∷◌, ◌++◌, map, length, nat_lt, refl, sym, ap, ◌∙◌, arith, tests}
 use Rattle.std.specs.List.{insert, remove, slice_get}
 use Rattle.std.specs.Option.{option_to_list}
 use Rattle.erl_term.specs.declared.term.Pid.{Pid}
@@ -51,9 +52,8 @@ tally_up t (suc at) (suc n) l = go (t (suc at)) (t 0) ∙ ap (plus_if (t 0)) (ta
   where
     go : (b c : Bool) → plus_if b (plus_if c (tally (λ i. t (suc (up at i))) n)) ≡ plus_if c (plus_if b (tally (λ i. t (suc (up at i))) n))
     go true true = refl
-    go true false = refl
     go false true = refl
-    go false false = refl
+    go _ _ = refl
 
 pub length_with : {A : Type 0} (xs : List A) (at : ℕ) (x : A) → at ≤ length xs → length (insert xs at x) ≡ suc (length xs)
 length_with xs zero x l = refl
@@ -61,7 +61,8 @@ length_with [] (suc at) x l = absurd (omega arith)
 length_with (y ∷ xs) (suc at) x l = ap suc (length_with xs at x (omega arith))
 
 module _ (of : Monitor → Pid) where
-  pub process_with : (rs : Records) (at : ℕ) (e : Reference × Monitor) → at ≤ length rs → (i : ℕ) → process_at of (insert rs at e) (up at i) ≡ process_at of rs i
+  pub process_with : (rs : Records) (at : ℕ) (e : Reference × Monitor) → at ≤ length rs → (i : ℕ)
+      → process_at of (insert rs at e) (up at i) ≡ process_at of rs i
   process_with rs zero e l i = refl
   process_with [] (suc at) e l i = absurd (omega arith)
   process_with (r ∷ rs) (suc at) e l zero = refl
@@ -81,12 +82,14 @@ kept g (suc i) = cond (g 0) (kept (later g) i) (suc (kept (later g) i))
 
 pub left_all : {A : Type 0} (g : Test) (xs : List A) → ((i : ℕ) → g i ≡ false) → left g xs ≡ xs
 left_all g [] h = refl
-left_all g (x ∷ xs) h = ap (λ b. cond b (left (later g) xs) (x ∷ left (later g) xs)) (h 0) ∙ ap (λ l. x ∷ l) (left_all (later g) xs (λ i. h (suc i)))
+left_all g (x ∷ xs) h =
+    ap (λ b. cond b (left (later g) xs) (x ∷ left (later g) xs)) (h 0) ∙ ap (λ l. x ∷ l) (left_all (later g) xs (λ i. h (suc i)))
 
 pub left_same : {A : Type 0} (g u : Test) (xs : List A) → ((i : ℕ) → g i ≡ u i) → left g xs ≡ left u xs
 left_same g u [] h = refl
 left_same g u (x ∷ xs) h =
-    ap (λ b. cond b (left (later g) xs) (x ∷ left (later g) xs)) (h 0) ∙ ap (λ l. cond (u 0) l (x ∷ l)) (left_same (later g) (later u) xs (λ i. h (suc i)))
+    ap (λ b. cond b (left (later g) xs) (x ∷ left (later g) xs)) (h 0)
+    ∙ ap (λ l. cond (u 0) l (x ∷ l)) (left_same (later g) (later u) xs (λ i. h (suc i)))
 
 pub left_one : {A : Type 0} (at : ℕ) (xs : List A) → left (λ i. same i at) xs ≡ remove xs at
 left_one zero [] = refl
@@ -103,7 +106,8 @@ kept_rises g zero (suc j) h l = go (g 0) h
     go false e = omega arith
 kept_rises g (suc i) (suc j) h l = go (g 0) (kept_rises (later g) i j h (omega arith))
   where
-    go : (b : Bool) → kept (later g) i < kept (later g) j → cond b (kept (later g) i) (suc (kept (later g) i)) < cond b (kept (later g) j) (suc (kept (later g) j))
+    go : (b : Bool) → kept (later g) i < kept (later g) j
+        → cond b (kept (later g) i) (suc (kept (later g) i)) < cond b (kept (later g) j) (suc (kept (later g) j))
     go true k = k
     go false k = omega arith
 
@@ -139,7 +143,8 @@ module _ (of : Monitor → Pid) where
   process_left g (r ∷ rs) (suc i) h = go (g 0) (process_left (later g) rs i h)
     where
       go : (b : Bool) → process_at of (left (later g) rs) (kept (later g) i) ≡ process_at of rs i
-          → process_at of (cond b (left (later g) rs) (r ∷ left (later g) rs)) (cond b (kept (later g) i) (suc (kept (later g) i))) ≡ process_at of rs i
+          → process_at of (cond b (left (later g) rs) (r ∷ left (later g) rs)) (cond b (kept (later g) i) (suc (kept (later g) i)))
+          ≡ process_at of rs i
       go true k = k
       go false k = k
 
@@ -153,7 +158,8 @@ counted_chosen g t [] = refl
 counted_chosen g t (x ∷ xs) = go (g 0) (counted_map t suc (chosen (later g) xs) ∙ counted_chosen (later g) (later t) xs)
   where
     go : (b : Bool) → counted t (map suc (chosen (later g) xs)) ≡ tally (λ i. g (suc i) && t (suc i)) (length xs)
-        → counted t (cond b (0 ∷ map suc (chosen (later g) xs)) (map suc (chosen (later g) xs))) ≡ plus_if (b && t 0) (tally (λ i. g (suc i) && t (suc i)) (length xs))
+        → counted t (cond b (0 ∷ map suc (chosen (later g) xs)) (map suc (chosen (later g) xs)))
+        ≡ plus_if (b && t 0) (tally (λ i. g (suc i) && t (suc i)) (length xs))
     go true more = ap (plus_if (t 0)) more
     go false more = more
 
@@ -167,9 +173,12 @@ all_behind (y ∷ ys) = (omega arith, all_behind ys)
 
 pub chosen_climbs : {A : Type 0} (g : Test) (xs : List A) → Rises (λ x y. x < y) (chosen g xs)
 chosen_climbs g [] = tt
-chosen_climbs g (x ∷ xs) = go (g 0) (rises_map (λ y. Unit {0}) (λ x y. x < y) (λ x y. x < y) suc (λ x y q r l. omega arith) (chosen (later g) xs) (each_unit _) (chosen_climbs (later g) xs))
+chosen_climbs g (x ∷ xs) =
+    go (g 0) (rises_map (λ y. Unit {0}) (λ x y. x < y) (λ x y. x < y) suc (λ x y q r l. omega arith) (chosen (later g) xs)
+    (each_unit _) (chosen_climbs (later g) xs))
   where
-    go : (b : Bool) → Rises (λ x y. x < y) (map suc (chosen (later g) xs)) → Rises (λ x y. x < y) (cond b (0 ∷ map suc (chosen (later g) xs)) (map suc (chosen (later g) xs)))
+    go : (b : Bool) → Rises (λ x y. x < y) (map suc (chosen (later g) xs))
+        → Rises (λ x y. x < y) (cond b (0 ∷ map suc (chosen (later g) xs)) (map suc (chosen (later g) xs)))
     go true more = (all_behind (chosen (later g) xs), more)
     go false more = more
 
@@ -187,6 +196,8 @@ pub picked_chosen : {A : Type 0} (g : Test) (xs : List A) → picked xs (chosen 
 picked_chosen g [] = refl
 picked_chosen g (x ∷ xs) = go (g 0) (picked_behind x xs (chosen (later g) xs) ∙ picked_chosen (later g) xs)
   where
-    go : (b : Bool) → picked (x ∷ xs) (map suc (chosen (later g) xs)) ≡ passing (later g) xs → picked (x ∷ xs) (cond b (0 ∷ map suc (chosen (later g) xs)) (map suc (chosen (later g) xs))) ≡ cond b (x ∷ passing (later g) xs) (passing (later g) xs)
+    go : (b : Bool) → picked (x ∷ xs) (map suc (chosen (later g) xs)) ≡ passing (later g) xs
+        → picked (x ∷ xs) (cond b (0 ∷ map suc (chosen (later g) xs)) (map suc (chosen (later g) xs)))
+        ≡ cond b (x ∷ passing (later g) xs) (passing (later g) xs)
     go true more = ap (λ l. x ∷ l) more
     go false more = more

@@ -1,5 +1,6 @@
 -- How many of a list, and of the numbers below one, pass a test. Rising lists of which each test passes as many are one.
-use Rattle.std.proofs.Common.{◌≡◌, ℕ, zero, suc, ◌+◌, ◌<◌, Bool, true, false, cond, List, [], ◌∷◌, ◌++◌, map, nat_lt, refl, sym, ap, ◌∙◌, arith, tests}
+use Rattle.std.proofs.Common.{◌≡◌, ℕ, zero, suc, ◌+◌, ◌<◌, Bool, true, false, cond, List}
+use Rattle.std.proofs.Common.{[], ◌∷◌, ◌++◌, map, nat_lt, refl, sym, ap, ◌∙◌, arith, tests}
 use Rattle.monitor_core.specs.Index.{Each, Rises, counted, tally}
 
 abbrev pub Test : Type 0
@@ -35,13 +36,17 @@ each_map P Q f g [] h = tt
 each_map P Q f g (x ∷ xs) h = (g x h.0, each_map P Q f g xs h.1)
 
 -- lists that rise
-pub rises_map : (Q : ℕ → Type 0) (R S : ℕ → ℕ → Type 0) (f : ℕ → ℕ) → ((x y : ℕ) → Q x → Q y → R x y → S (f x) (f y)) → (xs : List ℕ) → Each Q xs → Rises R xs → Rises S (map f xs)
+pub rises_map : (Q : ℕ → Type 0) (R S : ℕ → ℕ → Type 0) (f : ℕ → ℕ) → ((x y : ℕ) → Q x → Q y → R x y → S (f x) (f y))
+    → (xs : List ℕ) → Each Q xs → Rises R xs → Rises S (map f xs)
 rises_map Q R S f g [] q h = tt
-rises_map Q R S f g (x ∷ xs) q h = (each_map (λ y. Q y × R x y) (S (f x)) f (λ y k. g x y q.0 k.0 k.1) xs (each_both Q (R x) xs q.1 h.0), rises_map Q R S f g xs q.1 h.1)
+rises_map Q R S f g (x ∷ xs) q h =
+    (each_map (λ y. Q y × R x y) (S (f x)) f (λ y k. g x y q.0 k.0 k.1) xs (each_both Q (R x) xs q.1 h.0), rises_map Q R S f g xs q.1 h.1)
 
-pub rises_weaker : (Q : ℕ → Type 0) (R S : ℕ → ℕ → Type 0) → ((x y : ℕ) → Q x → Q y → R x y → S x y) → (xs : List ℕ) → Each Q xs → Rises R xs → Rises S xs
+pub rises_weaker : (Q : ℕ → Type 0) (R S : ℕ → ℕ → Type 0) → ((x y : ℕ) → Q x → Q y → R x y → S x y) → (xs : List ℕ)
+    → Each Q xs → Rises R xs → Rises S xs
 rises_weaker Q R S g [] q h = tt
-rises_weaker Q R S g (x ∷ xs) q h = (each_weaker (λ y. Q y × R x y) (S x) (λ y k. g x y q.0 k.0 k.1) xs (each_both Q (R x) xs q.1 h.0), rises_weaker Q R S g xs q.1 h.1)
+rises_weaker Q R S g (x ∷ xs) q h =
+    (each_weaker (λ y. Q y × R x y) (S x) (λ y k. g x y q.0 k.0 k.1) xs (each_both Q (R x) xs q.1 h.0), rises_weaker Q R S g xs q.1 h.1)
 
 pub rises_left : (R : ℕ → ℕ → Type 0) (xs ys : List ℕ) → Rises R (xs ++ ys) → Rises R xs
 rises_left R [] ys h = tt
@@ -54,11 +59,14 @@ rises_right R (x ∷ xs) ys h = rises_right R xs ys h.1
 -- the middle out
 pub rises_around : (R : ℕ → ℕ → Type 0) (xs ys zs : List ℕ) → Rises R (xs ++ (ys ++ zs)) → Rises R (xs ++ zs)
 rises_around R [] ys zs h = rises_right R ys zs h
-rises_around R (x ∷ xs) ys zs h =
-    (each_append (R x) xs zs (each_left (R x) xs (ys ++ zs) h.0) (each_right (R x) ys zs (each_right (R x) xs (ys ++ zs) h.0)), rises_around R xs ys zs h.1)
+rises_around R (x ∷ xs) ys zs h = (
+  each_append (R x) xs zs (each_left (R x) xs (ys ++ zs) h.0) (each_right (R x) ys zs (each_right (R x) xs (ys ++ zs) h.0)),
+  rises_around R xs ys zs h.1,
+)
 
 -- one more in the middle
-pub rises_with : (R : ℕ → ℕ → Type 0) (xs ys : List ℕ) (at : ℕ) → Rises R (xs ++ ys) → Each (λ x. R x at) xs → Each (R at) ys → Rises R (xs ++ at ∷ ys)
+pub rises_with : (R : ℕ → ℕ → Type 0) (xs ys : List ℕ) (at : ℕ) → Rises R (xs ++ ys) → Each (λ x. R x at) xs → Each (R at) ys
+    → Rises R (xs ++ at ∷ ys)
 rises_with R [] ys at h b a = (a, h)
 rises_with R (x ∷ xs) ys at h b a =
     (each_append (R x) xs (at ∷ ys) (each_left (R x) xs ys h.0) (b.0, each_right (R x) xs ys h.0), rises_with R xs ys at h.1 b.1 a)
@@ -68,7 +76,8 @@ pub counted_append : (t : Test) (xs ys : List ℕ) → counted t (xs ++ ys) ≡ 
 counted_append t [] ys = omega arith
 counted_append t (x ∷ xs) ys = go (t x) (counted_append t xs ys)
   where
-    go : (b : Bool) → counted t (xs ++ ys) ≡ counted t xs + counted t ys → plus_if b (counted t (xs ++ ys)) ≡ plus_if b (counted t xs) + counted t ys
+    go : (b : Bool) → counted t (xs ++ ys) ≡ counted t xs + counted t ys
+        → plus_if b (counted t (xs ++ ys)) ≡ plus_if b (counted t xs) + counted t ys
     go true h = omega (arith, h)
     go false h = h
 
@@ -78,9 +87,8 @@ counted_with t (x ∷ xs) ys at = ap (plus_if (t x)) (counted_with t xs ys at) �
   where
     go : (b c : Bool) → plus_if b (plus_if c (counted t (xs ++ ys))) ≡ plus_if c (plus_if b (counted t (xs ++ ys)))
     go true true = refl
-    go true false = refl
     go false true = refl
-    go false false = refl
+    go _ _ = refl
 
 pub counted_map : (t : Test) (f : ℕ → ℕ) (xs : List ℕ) → counted t (map f xs) ≡ counted (λ x. t (f x)) xs
 counted_map t f [] = refl
@@ -99,17 +107,21 @@ pub none_counted : (t : Test) (xs : List ℕ) → counted t xs ≡ 0 → Each (�
 none_counted t [] h = tt
 none_counted t (x ∷ xs) h = go (t x) refl h (none_counted t xs)
   where
-    go : (b : Bool) → t x ≡ b → plus_if b (counted t xs) ≡ 0 → (counted t xs ≡ 0 → Each (λ y. t y ≡ false) xs) → (t x ≡ false) × Each (λ y. t y ≡ false) xs
+    go : (b : Bool) → t x ≡ b → plus_if b (counted t xs) ≡ 0 → (counted t xs ≡ 0 → Each (λ y. t y ≡ false) xs) → (t x ≡ false)
+        × Each (λ y. t y ≡ false) xs
     go true e k more = absurd (omega (arith, k))
     go false e k more = (e, more k)
 
 pub tally_same : (t u : Test) (n : ℕ) → ((i : ℕ) → i < n → t i ≡ u i) → tally t n ≡ tally u n
 tally_same t u zero h = refl
-tally_same t u (suc n) h = ap (λ b. plus_if b (tally (λ i. t (suc i)) n)) (h 0 (omega arith)) ∙ ap (plus_if (u 0)) (tally_same (λ i. t (suc i)) (λ i. u (suc i)) n (λ i l. h (suc i) (omega arith)))
+tally_same t u (suc n) h =
+    ap (λ b. plus_if b (tally (λ i. t (suc i)) n)) (h 0 (omega arith))
+    ∙ ap (plus_if (u 0)) (tally_same (λ i. t (suc i)) (λ i. u (suc i)) n (λ i l. h (suc i) (omega arith)))
 
 pub tally_none : (t : Test) (n : ℕ) → ((i : ℕ) → i < n → t i ≡ false) → tally t n ≡ 0
 tally_none t zero h = refl
-tally_none t (suc n) h = ap (λ b. plus_if b (tally (λ i. t (suc i)) n)) (h 0 (omega arith)) ∙ tally_none (λ i. t (suc i)) n (λ i l. h (suc i) (omega arith))
+tally_none t (suc n) h =
+    ap (λ b. plus_if b (tally (λ i. t (suc i)) n)) (h 0 (omega arith)) ∙ tally_none (λ i. t (suc i)) n (λ i l. h (suc i) (omega arith))
 
 -- tests by recursion
 abbrev pub same : ℕ → ℕ → Bool
@@ -168,10 +180,13 @@ below_lt i j = go (below i j) refl (nat_lt i j) refl
 abbrev pub Climbs : List ℕ → Type 0
 Climbs xs = Rises (λ x y. x < y) xs
 
-first_is : (x : ℕ) (xs : List ℕ) (y : ℕ) (ys : List ℕ) → Each (λ z. y < z) ys → counted (λ z. same x z) (x ∷ xs) ≡ counted (λ z. same x z) (y ∷ ys) → x < y → ⊥
+first_is : (x : ℕ) (xs : List ℕ) (y : ℕ) (ys : List ℕ) → Each (λ z. y < z) ys
+    → counted (λ z. same x z) (x ∷ xs) ≡ counted (λ z. same x z) (y ∷ ys) → x < y → ⊥
 first_is x xs y ys a h l =
     let mine = ap (λ b. plus_if b (counted (λ z. same x z) xs)) (same_itself x) in
-    let none = counted_none (λ z. same x z) (y ∷ ys) (not_same x y l, each_weaker (λ z. y < z) (λ z. same x z ≡ false) (λ z k. not_same x z (omega arith)) ys a) in
+    let none =
+    counted_none (λ z. same x z) (y ∷ ys)
+    (not_same x y l, each_weaker (λ z. y < z) (λ z. same x z ≡ false) (λ z k. not_same x z (omega arith)) ys a) in
     omega (arith, mine, none, h)
 
 pub climbing_same : (xs ys : List ℕ) → Climbs xs → Climbs ys → ((t : Test) → counted t xs ≡ counted t ys) → xs ≡ ys

@@ -20,7 +20,9 @@ pub record Held : Type 0 where
   pub room : ℕ
 
 abbrev pub held_code : Coded Reference → Coded Monitor → Coded Held
-held_code reference monitor = code_by (MonitorMap × ℕ) (coded× (map.code reference monitor) coded_ℕ) (λ k. (k.monitors, k.room)) (λ p. record { monitors = p.0; room = p.1 }) (λ _. refl)
+held_code reference monitor =
+    code_by (MonitorMap × ℕ) (coded× (map.code reference monitor) coded_ℕ) (λ k. (k.monitors, k.room))
+    (λ p. record { monitors = p.0; room = p.1 }) (λ _. refl)
 
 -- the same, and by which of its processes a monitor is found
 pub record Sided : Type 0 where
@@ -30,7 +32,8 @@ pub record Sided : Type 0 where
 
 abbrev pub sided_code : Coded Reference → Coded Monitor → Coded Side → Coded Sided
 sided_code reference monitor side =
-    code_by (MonitorMap × (ℕ × Side)) (coded× (map.code reference monitor) (coded× coded_ℕ side)) (λ k. (k.monitors, (k.room, k.side))) (λ p. record { monitors = p.0; room = p.1.0; side = p.1.1 }) (λ _. refl)
+    code_by (MonitorMap × (ℕ × Side)) (coded× (map.code reference monitor) (coded× coded_ℕ side))
+    (λ k. (k.monitors, (k.room, k.side))) (λ p. record { monitors = p.0; room = p.1.0; side = p.1.1 }) (λ _. refl)
 
 abbrev pub monitor_of : Pid → Pid → Monitor
 monitor_of owner target = record { owner = owner; target = target }
@@ -53,7 +56,8 @@ is_held monitors reference monitor = is_this (map.get monitors reference) monito
 pub record IsLeast (monitors : MonitorMap) (passes : Monitor → Bool) (reference : Reference) (monitor : Monitor) : Type 0 where
   pub held : map.get monitors reference ≡ Some monitor
   pub passing : passes monitor ≡ true
-  pub least : (other : Reference) (its : Monitor) → map.get monitors other ≡ Some its → passes its ≡ true → reference_cmp other reference ≢ Less
+  pub least : (other : Reference) (its : Monitor) → map.get monitors other ≡ Some its → passes its ≡ true
+      → reference_cmp other reference ≢ Less
 
 -- that one, or none where none passes
 abbrev pub IsFirst : MonitorMap → (Monitor → Bool) → Option (Reference × Monitor) → Type 0

@@ -2,7 +2,9 @@
 use Rattle.std.specs.Prelude.{ℕ, List, Option, None, Some, codes, if◌then◌else◌}
 use Rattle.std.specs.Str.{bytes_eq}
 use Rattle.script_lines.specs.declared.command.Verb.{Verb}
-use Rattle.script_lines.specs.declared.command.Verb.TheVariants.{Node, Pair, Spawn, Send, Link, Unlink, Monitor, Demonitor, Trap, Exit, Die, Receive, Links, Alive, Ends, Dial, Route, Lose, Cut, Stop, Start, Deliver, Local, Sweep, Settle, Show}
+use Rattle.script_lines.specs.declared.command.Verb.TheVariants.{Node, Pair, Spawn, Send, Link, Unlink, Monitor, Demonitor}
+use Rattle.script_lines.specs.declared.command.Verb.TheVariants.{Trap, Exit, Die, Receive, Links, Alive, Ends, Dial, Route}
+use Rattle.script_lines.specs.declared.command.Verb.TheVariants.{Lose, Cut, Stop, Start, Deliver, Local, Sweep, Settle, Show}
 
 abbrev pub verb_named : List ℕ → Option Verb
 verb_named word =

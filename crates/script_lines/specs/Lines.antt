@@ -1,9 +1,11 @@
 -- What a line of a script says, nothing where it is to be passed over, or why it is a bad line.
-use Rattle.std.specs.Prelude.{◌≡◌, ℕ, ◌==◌, Bool, true, false, List, [], ◌∷◌, length, Option, None, Some, Result, Ok, Err, nat_lt, if◌then◌else◌}
+use Rattle.std.specs.Prelude.{◌≡◌, ℕ, ◌==◌, Bool, true, false, List, [], ◌∷◌, length}
+use Rattle.std.specs.Prelude.{Option, None, Some, Result, Ok, Err, nat_lt, if◌then◌else◌}
 use Rattle.std.specs.Str.{is_utf8}
 use Rattle.erl_term.specs.Reading.{◌>>=◌}
 use Rattle.script_lines.specs.Commands.{verb_named}
-use Rattle.script_lines.specs.Naming.{process_named, processes_named, monitor_named, demonitor_named, nodes_formed, node_formed, spawn_formed, formed, switch_named, term_read}
+use Rattle.script_lines.specs.Naming.{process_named, processes_named, monitor_named, demonitor_named}
+use Rattle.script_lines.specs.Naming.{nodes_formed, node_formed, spawn_formed, formed, switch_named, term_read}
 use Rattle.script_lines.specs.Said.{Said, said}
 use Rattle.script_lines.specs.Said as says
 use Rattle.script_lines.specs.Words.{word_of, behind_word, no_words, one_word, two_words, three_words, word_and_text, words_and_text}
@@ -37,10 +39,12 @@ process_in look rest = one_word rest >>= λ word. process_named look word
 
 abbrev pub processes_and_term_in : Look → List ℕ → Result (Pid × Pid × List ℕ) Reason
 processes_and_term_in look rest =
-    words_and_text rest >>= λ words. processes_named look words.0 words.1 >>= λ pids. term_read look words.2 >>= λ _. Ok (pids.0, pids.1, words.2)
+    words_and_text rest >>= λ words. processes_named look words.0 words.1 >>= λ pids. term_read look words.2 >>= λ _.
+    Ok (pids.0, pids.1, words.2)
 
 abbrev pub process_and_term_in : Look → List ℕ → Result (Pid × List ℕ) Reason
-process_and_term_in look rest = word_and_text rest >>= λ words. process_named look words.0 >>= λ p. term_read look words.1 >>= λ _. Ok (p, words.1)
+process_and_term_in look rest =
+    word_and_text rest >>= λ words. process_named look words.0 >>= λ p. term_read look words.1 >>= λ _. Ok (p, words.1)
 
 abbrev pub verb_says : MayCome → Look → Verb → List ℕ → Result Said Reason
 verb_says may look verb.Node rest =
@@ -49,7 +53,8 @@ verb_says may look verb.Pair rest = no_words rest >>= λ _. placed may.pair >>= 
 verb_says may look verb.Spawn rest = two_words rest >>= λ words. spawn_formed look words.0 words.1 >>= λ _. Ok (says.Spawn words.0 words.1)
 verb_says may look verb.Monitor rest =
     three_words rest >>= λ words. monitor_named look words.0 words.1 words.2 >>= λ pids. Ok (says.Monitor pids.0 pids.1 words.2)
-verb_says may look verb.Demonitor rest = two_words rest >>= λ words. demonitor_named look words.0 words.1 >>= λ ids. Ok (says.Demonitor ids.0 ids.1)
+verb_says may look verb.Demonitor rest =
+    two_words rest >>= λ words. demonitor_named look words.0 words.1 >>= λ ids. Ok (says.Demonitor ids.0 ids.1)
 verb_says may look verb.Trap rest =
     two_words rest >>= λ words. switch_named words.1 >>= λ on. process_named look words.0 >>= λ p. Ok (says.Trap p on)
 verb_says may look verb.Send rest = processes_and_term_in look rest >>= λ it. Ok (says.Send it.0 it.1 it.2)

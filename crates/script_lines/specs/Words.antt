@@ -1,4 +1,5 @@
--- The words of a line: what stands between spaces, byte 32. A text at the end of a line is what is left of it, without the spaces around it.
+-- The words of a line: what stands between spaces, byte 32. A text at the end of a line is what is left of
+-- it, without the spaces around it.
 use Rattle.std.specs.Prelude.{◌≡◌, ℕ, ◌==◌, Bool, List, [], ◌∷◌, Result, Ok, Err, MatchResult, if◌then◌else◌}
 use Rattle.std.specs.List.{before_first, after_first}
 use Rattle.erl_term.specs.Reading.{◌>>=◌}

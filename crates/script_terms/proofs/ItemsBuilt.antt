@@ -23,11 +23,14 @@ pub views_push : (ts new : List Term) (t : Term) → new ≡ ts ++ t ∷ [] → 
 views_push ts new t e = ap (map view) e ∙ map_push view ts t
 
 -- a fault passes through, and so does want of memory
-pub fails_by : {A B : Type 0} (e : ReadError) (r : Result A TermFault) (total : Result B TermFault) → Fails e r → ((f : TermFault) → r ≡ Err f → total ≡ Err f) → Fails e total
+pub fails_by : {A B : Type 0} (e : ReadError) (r : Result A TermFault) (total : Result B TermFault) → Fails e r
+    → ((f : TermFault) → r ≡ Err f → total ≡ Err f) → Fails e total
 fails_by (Fault f) r total h k = k f h
 fails_by OutOfMemory r total h k = tt
 
-pub improper_is : (ts new : List Term) (t : Term) (u : Data) → new ≡ ts ++ t ∷ [] → is_list u ≡ false → joined (and_one (items_view ts) (view t)) u ≡ improper (items_view new) u
+pub improper_is : (ts new : List Term) (t : Term) (u : Data) → new ≡ ts ++ t ∷ [] → is_list u ≡ false
+    → joined (and_one (items_view ts) (view t)) u ≡ improper (items_view new) u
 improper_is ts new t u e other =
     let k = count_and_one (items_view ts) (view t) in
-    joined_is_improper (and_one (items_view ts) (view t)) u (omega arith) other ∙ ap (λ (us : Items). improper us u) (sym (items_push ts new t e))
+    joined_is_improper (and_one (items_view ts) (view t)) u (omega arith) other
+    ∙ ap (λ (us : Items). improper us u) (sym (items_push ts new t e))

@@ -29,7 +29,9 @@ pub record OneMore (brackets : ℕ) (ts : Items) (d : Data) (i : ℕ) (row : Row
   pub are_bytes : row.are_bytes ≡ are_byte_items (and_one ts d)
   pub counted : count (and_one ts d) ≡ i + 1
 
-pub one_more : (one : List ℕ → Read Data) (brackets : ℕ) (bytes : List ℕ) (i opened : ℕ) (rest : List ℕ) (row : Row) (h : ItemsRead one brackets bytes i opened rest row) (d : Data) (shape : Shape) (new : Row) → HasShape brackets d shape → IsNext row shape new
+pub one_more : (one : List ℕ → Read Data) (brackets : ℕ) (bytes : List ℕ) (i opened : ℕ) (rest : List ℕ) (row : Row)
+    (h : ItemsRead one brackets bytes i opened rest row) (d : Data) (shape : Shape) (new : Row) → HasShape brackets d shape
+    → IsNext row shape new
     → OneMore brackets h.items d i new
 one_more one brackets bytes i opened rest row h d shape new s n = record {
   fit = n.fit ∙ fit_and_one h.items d brackets row.fit shape.fits h.fit s.fits;
@@ -37,7 +39,9 @@ one_more one brackets bytes i opened rest row h d shape new s n = record {
   counted = count_and_one h.items d ∙ ap (λ (k : ℕ). k + 1) h.counted;
 }
 
-pub more_items : (one : List ℕ → Read Data) (brackets : ℕ) (bytes : List ℕ) (i opened : ℕ) (rest : List ℕ) (row : Row) (d : Data) (after behind : List ℕ) (shape : Shape) (new : Row) → i < length bytes → one rest ≡ Ok (d, after) → step_at after ≡ Ok (step.Item, behind) → HasShape brackets d shape → IsNext row shape new
+pub more_items : (one : List ℕ → Read Data) (brackets : ℕ) (bytes : List ℕ) (i opened : ℕ) (rest : List ℕ) (row : Row)
+    (d : Data) (after behind : List ℕ) (shape : Shape) (new : Row) → i < length bytes → one rest ≡ Ok (d, after)
+    → step_at after ≡ Ok (step.Item, behind) → HasShape brackets d shape → IsNext row shape new
     → ItemsRead one brackets bytes i opened rest row → ItemsRead one brackets bytes (i + 1) opened behind new
 more_items one brackets bytes i opened rest row d after behind shape new lt e k s n h =
     let more = one_more one brackets bytes i opened rest row h d shape new s n in
@@ -49,7 +53,9 @@ more_items one brackets bytes i opened rest row d after behind shape new lt e k 
       counted = more.counted;
     }
 
-pub more_list : (one : List ℕ → Read Data) (brackets : ℕ) (bytes : List ℕ) (i opened : ℕ) (rest : List ℕ) (row : Row) (d : Data) (after behind : List ℕ) (shape : Shape) (new : Row) → i < length bytes → one rest ≡ Ok (d, after) → step_at after ≡ Ok (step.List, behind) → HasShape brackets d shape → IsNext row shape new
+pub more_list : (one : List ℕ → Read Data) (brackets : ℕ) (bytes : List ℕ) (i opened : ℕ) (rest : List ℕ) (row : Row)
+    (d : Data) (after behind : List ℕ) (shape : Shape) (new : Row) → i < length bytes → one rest ≡ Ok (d, after)
+    → step_at after ≡ Ok (step.List, behind) → HasShape brackets d shape → IsNext row shape new
     → ItemsRead one brackets bytes i opened rest row → ItemsRead one brackets bytes (i + 1) (opened + 1) behind new
 more_list one brackets bytes i opened rest row d after behind shape new lt e k s n h =
     let more = one_more one brackets bytes i opened rest row h d shape new s n in

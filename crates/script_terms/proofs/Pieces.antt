@@ -1,5 +1,6 @@
 -- What stands between quotes, as a loop reads it.
-use Rattle.std.proofs.Common.{◌≡◌, ℕ, zero, suc, ◌-◌, ◌+◌, ◌≤◌, ◌<◌, Bool, true, false, eqb, cond, List, [], ◌∷◌, ◌++◌, length, append_assoc, Result, Ok, Err, MatchResult, refl, sym, ap, ◌∙◌, arith, ◌||◌}
+use Rattle.std.proofs.Common.{◌≡◌, ℕ, zero, suc, ◌-◌, ◌+◌, ◌≤◌, ◌<◌, Bool, true, false, eqb, cond, List, [], ◌∷◌, ◌++◌}
+use Rattle.std.proofs.Common.{length, append_assoc, Result, Ok, Err, MatchResult, refl, sym, ap, ◌∙◌, arith, ◌||◌}
 use Rattle.std.specs.List.{take_while, prefix_len}
 use Rattle.std.specs.Str.Parse.{digits_value}
 use Rattle.std.specs.Prelude.{drop, encode_utf8}
@@ -34,7 +35,9 @@ bad_next [] = refl
 bad_next (c ∷ cs) = tt
 
 bad_mark : (mark : ℕ) (bytes : List ℕ) → OnlyBad (mark_at mark bytes)
-bad_mark mark bytes = bad_then (next_at bytes) (λ c. cond (eqb c.0 mark) (Ok c) (Err BadTerm)) (bad_next bytes) (λ c. bad_if (eqb c.0 mark) (Ok c) (Err BadTerm) tt refl)
+bad_mark mark bytes =
+    bad_then (next_at bytes) (λ c. cond (eqb c.0 mark) (Ok c) (Err BadTerm)) (bad_next bytes)
+    (λ c. bad_if (eqb c.0 mark) (Ok c) (Err BadTerm) tt refl)
 
 abbrev after_code : ℕ → List ℕ → Read (List ℕ)
 after_code value rest = mark_at 125 rest >>= λ close. Ok (encode_utf8 value, close.1)
@@ -47,7 +50,10 @@ bad_after value rest = by (mark_at 125 rest) (bad_mark 125 rest)
     by (Err e) h = h
 
 abbrev number_at : List ℕ → Read (List ℕ)
-number_at front = cond (eqb (length (take_while is_hex_digit front)) 0) (Err BadTerm) (cond (is_scalar (digits_value 16 (take_while is_hex_digit front))) (after_code (digits_value 16 (take_while is_hex_digit front)) (drop (prefix_len is_hex_digit front) front)) (Err BadTerm))
+number_at front =
+    cond (eqb (length (take_while is_hex_digit front)) 0) (Err BadTerm) (cond
+    (is_scalar (digits_value 16 (take_while is_hex_digit front)))
+    (after_code (digits_value 16 (take_while is_hex_digit front)) (drop (prefix_len is_hex_digit front) front)) (Err BadTerm))
 
 bad_number : (front : List ℕ) → OnlyBad (number_at front)
 bad_number front =
@@ -78,7 +84,8 @@ bad_more : (piece : List ℕ) (r : Read (List ℕ)) → OnlyBad r → OnlyBad (b
 bad_more piece (Ok x) h = tt
 bad_more piece (Err e) h = h
 
-bad_escaped : (n : ℕ) (r : Read (List ℕ)) → ((bytes : List ℕ) → OnlyBad (pieces_at n bytes)) → OnlyBad r → OnlyBad {A = List ℕ × List ℕ} (r >>= λ piece. behind_piece piece.0 (pieces_at n piece.1))
+bad_escaped : (n : ℕ) (r : Read (List ℕ)) → ((bytes : List ℕ) → OnlyBad (pieces_at n bytes)) → OnlyBad r
+    → OnlyBad {A = List ℕ × List ℕ} (r >>= λ piece. behind_piece piece.0 (pieces_at n piece.1))
 bad_escaped n (Ok piece) k h = bad_more piece.0 (pieces_at n piece.1) (k piece.1)
 bad_escaped n (Err e) k h = h
 
@@ -103,7 +110,8 @@ atom_length text e = by (is_utf8 text) refl e
     by false u h = absurd (let k : false ≡ true = sym (rw u refl) ∙ h in cc)
 
 -- a text that is too long is no atom, whatever follows
-pub too_long : (front : List ℕ) (read : Read (List ℕ)) → 1020 < length front → OnlyBad read → (with_front front read >>= atom_of) ≡ Err BadTerm
+pub too_long : (front : List ℕ) (read : Read (List ℕ)) → 1020 < length front → OnlyBad read
+    → (with_front front read >>= atom_of) ≡ Err BadTerm
 too_long front (Err e) long bad = ap Err bad
 too_long front (Ok x) long bad = by (is_atom_text (front ++ x.0)) refl
   where
@@ -111,7 +119,8 @@ too_long front (Ok x) long bad = by (is_atom_text (front ++ x.0)) refl
     by true e = absurd (let le = atom_length (front ++ x.0) e in omega (arith, length-append front x.0))
     by false e = rw e refl
 
-regroup : (front piece : List ℕ) (read : Read (List ℕ)) → with_front front (read >>= λ x. Ok (piece ++ x.0, x.1)) ≡ with_front (front ++ piece) read
+regroup : (front piece : List ℕ) (read : Read (List ℕ))
+    → with_front front (read >>= λ x. Ok (piece ++ x.0, x.1)) ≡ with_front (front ++ piece) read
 regroup front piece (Ok x) = ap (λ (ts : List ℕ). Ok (ts, x.1)) (sym (append_assoc front piece x.0))
 regroup front piece (Err f) = refl
 
@@ -119,21 +128,24 @@ regroup front piece (Err f) = refl
 abbrev pub goes : List ℕ → ℕ → ℕ → List ℕ → Read (List ℕ)
 goes front n i rest = with_front front (pieces_at (n - i) rest)
 
-pub piece_plain : (front : List ℕ) (n i c : ℕ) (rest after : List ℕ) → i < n → next_at rest ≡ Ok (c, after) → eqb c 39 ≡ false → eqb c 92 ≡ false
+pub piece_plain : (front : List ℕ) (n i c : ℕ) (rest after : List ℕ) → i < n → next_at rest ≡ Ok (c, after) → eqb c 39 ≡ false
+    → eqb c 92 ≡ false
     → goes front n i rest ≡ goes (front ++ c ∷ []) n (i + 1) after
 unfolding pieces_at
 piece_plain front n i c rest after lt h quote back =
     let e : n - i ≡ suc (n - (i + 1)) = omega arith in
     rw (e, h, quote, back) (regroup front (c ∷ []) (pieces_at (n - (i + 1)) after))
 
-pub piece_escaped : (front : List ℕ) (n i c : ℕ) (rest after piece behind : List ℕ) → i < n → next_at rest ≡ Ok (c, after) → eqb c 39 ≡ false → eqb c 92 ≡ true → escape_at after ≡ Ok (piece, behind)
+pub piece_escaped : (front : List ℕ) (n i c : ℕ) (rest after piece behind : List ℕ) → i < n → next_at rest ≡ Ok (c, after)
+    → eqb c 39 ≡ false → eqb c 92 ≡ true → escape_at after ≡ Ok (piece, behind)
     → goes front n i rest ≡ goes (front ++ piece) n (i + 1) behind
 unfolding pieces_at
 piece_escaped front n i c rest after piece behind lt h quote back k =
     let e : n - i ≡ suc (n - (i + 1)) = omega arith in
     rw (e, h, quote, back, k) (regroup front piece (pieces_at (n - (i + 1)) behind))
 
-pub piece_bad : (front : List ℕ) (n i c : ℕ) (rest after : List ℕ) (f : TermFault) → i < n → next_at rest ≡ Ok (c, after) → eqb c 39 ≡ false → eqb c 92 ≡ true → escape_at after ≡ Err f
+pub piece_bad : (front : List ℕ) (n i c : ℕ) (rest after : List ℕ) (f : TermFault) → i < n → next_at rest ≡ Ok (c, after)
+    → eqb c 39 ≡ false → eqb c 92 ≡ true → escape_at after ≡ Err f
     → goes front n i rest ≡ Err f
 unfolding pieces_at
 piece_bad front n i c rest after f lt h quote back k =
@@ -146,7 +158,8 @@ next_bad front n i rest f lt h =
     let e : n - i ≡ suc (n - (i + 1)) = omega arith in
     rw (e, h) refl
 
-pub piece_last : (front : List ℕ) (n i c : ℕ) (rest after : List ℕ) → i < n → next_at rest ≡ Ok (c, after) → eqb c 39 ≡ true → goes front n i rest ≡ Ok (front, after)
+pub piece_last : (front : List ℕ) (n i c : ℕ) (rest after : List ℕ) → i < n → next_at rest ≡ Ok (c, after) → eqb c 39 ≡ true
+    → goes front n i rest ≡ Ok (front, after)
 unfolding pieces_at
 piece_last front n i c rest after lt h quote =
     let e : n - i ≡ suc (n - (i + 1)) = omega arith in

@@ -1,20 +1,24 @@
 -- Items as they are printed, one after the other.
-use Rattle.std.proofs.Common.{◌≡◌, ℕ, zero, suc, ◌+◌, ◌<◌, eqb, false, rules, tests, List, [], ◌∷◌, ◌++◌, codes, length, get_or, take, append_assoc, sym, ap, ◌∙◌, arith}
+use Rattle.std.proofs.Common.{◌≡◌, ℕ, zero, suc, ◌+◌, ◌<◌, eqb, false, rules, tests, List, [], ◌∷◌}
+use Rattle.std.proofs.Common.{◌++◌, codes, length, get_or, take, append_assoc, sym, ap, ◌∙◌, arith}
 use Rattle.std.proofs.lemmas.List.{take_more, append-nil, length-take}
 use Rattle.erl_term.specs.declared.term.Term.{Term}
 use Rattle.erl_term.specs.View.{view, items_view}
 use Rattle.script_terms.specs.Printing.{comma_before, term_text, items_text, more_text}
 
-more_more : (ts : List Term) (x : Term) → more_text (items_view (ts ++ x ∷ [])) ≡ more_text (items_view ts) ++ (codes "," ++ term_text (view x))
+more_more : (ts : List Term) (x : Term)
+    → more_text (items_view (ts ++ x ∷ [])) ≡ more_text (items_view ts) ++ (codes "," ++ term_text (view x))
 more_more [] x = ap (λ (bs : List ℕ). codes "," ++ bs) (append-nil (term_text (view x)))
 more_more (t ∷ ts) x =
     ap (λ (bs : List ℕ). codes "," ++ (term_text (view t) ++ bs)) (more_more ts x)
-    ∙ ap (λ (bs : List ℕ). codes "," ++ bs) (sym (append_assoc (term_text (view t)) (more_text (items_view ts)) (codes "," ++ term_text (view x))))
+    ∙ ap (λ (bs : List ℕ). codes "," ++ bs)
+    (sym (append_assoc (term_text (view t)) (more_text (items_view ts)) (codes "," ++ term_text (view x))))
 
 lt-ne-eqb : (i : ℕ) → eqb (suc i) 0 ≡ false
 lt-ne-eqb i = search (rules, tests)
 
-items_push : (ts : List Term) (i : ℕ) (x : Term) → length ts ≡ i → items_text (items_view (ts ++ x ∷ [])) ≡ items_text (items_view ts) ++ (comma_before i ++ term_text (view x))
+items_push : (ts : List Term) (i : ℕ) (x : Term) → length ts ≡ i
+    → items_text (items_view (ts ++ x ∷ [])) ≡ items_text (items_view ts) ++ (comma_before i ++ term_text (view x))
 items_push [] zero x e = append-nil (term_text (view x))
 items_push [] (suc i) x e = absurd (omega arith)
 items_push (t ∷ ts) zero x e = absurd (omega arith)
@@ -24,7 +28,9 @@ items_push (t ∷ ts) (suc i) x e =
     ∙ sym (append_assoc (term_text (view t)) (more_text (items_view ts)) (codes "," ++ term_text (view x))))
 
 -- what was printed, the comma and the item
-pub items_more : (items : List Term) (i : ℕ) (x : Term) (before out then new : List ℕ) → i < length items → x ≡ get_or items i x → out ≡ before ++ items_text (items_view (take i items)) → then ≡ out ++ comma_before i → new ≡ then ++ term_text (view x)
+pub items_more : (items : List Term) (i : ℕ) (x : Term) (before out then new : List ℕ) → i < length items
+    → x ≡ get_or items i x → out ≡ before ++ items_text (items_view (take i items)) → then ≡ out ++ comma_before i
+    → new ≡ then ++ term_text (view x)
     → new ≡ before ++ items_text (items_view (take (i + 1) items))
 items_more items i x before out then new lt is o t n =
     let len : length (take i items) ≡ i = length-take-of items i lt in

@@ -1,5 +1,7 @@
 -- The levels of terms in a row, one after the other.
-use Rattle.std.proofs.Common.{◌≡◌, ℕ, suc, ◌+◌, ◌<◌, ◌^◌, Bool, true, false, cond, ◌&&◌, ◌||◌, leb, ltb, List, [], ◌∷◌, ◌++◌, refl, sym, ap, ◌∙◌, arith, max}
+use Rattle.std.proofs.Math.Bool.{and-true}
+use Rattle.std.proofs.Common.{◌≡◌, ℕ, suc, ◌+◌, ◌<◌, ◌^◌, Bool, true, false, cond, ◌&&◌, ◌||◌}
+use Rattle.std.proofs.Common.{leb, ltb, List, [], ◌∷◌, ◌++◌, refl, sym, ap, ◌∙◌, arith, max}
 use Rattle.std.proofs.lemmas.Bool.{leb-true, leb-false, le-leb, lt-leb, lt-ltb, le-ltb, ltb-true, ltb-false}
 use Rattle.erl_term.specs.Data.{Data, int, atom, tuple, list, improper, binary, pid, reference, Items, no_items, item, count, joined}
 use Rattle.erl_term.specs.View.{items_of}
@@ -30,26 +32,28 @@ pub most_push : (ds : List Data) (d : Data) → most_levels (items_of (ds ++ d �
 most_push [] d = omega arith
 most_push (e ∷ ds) d = let k = most_push ds d in omega arith
 
-pub fit_push : (ds : List Data) (d : Data) (n : ℕ) (a b : Bool) → a ≡ leb (most_levels (items_of ds)) n → b ≡ leb (levels_of d) n → (a && b) ≡ leb (most_levels (items_of (ds ++ d ∷ []))) n
-fit_push ds d n a b e f = ap (λ (x : Bool). x && b) e ∙ ap (λ (y : Bool). leb (most_levels (items_of ds)) n && y) f ∙ sym (le_max _ _ n) ∙ ap (λ (m : ℕ). leb m n) (sym (most_push ds d))
+pub fit_push : (ds : List Data) (d : Data) (n : ℕ) (a b : Bool) → a ≡ leb (most_levels (items_of ds)) n
+    → b ≡ leb (levels_of d) n → (a && b) ≡ leb (most_levels (items_of (ds ++ d ∷ []))) n
+fit_push ds d n a b e f =
+    ap (λ (x : Bool). x && b) e ∙ ap (λ (y : Bool). leb (most_levels (items_of ds)) n && y) f ∙ sym (le_max _ _ n)
+    ∙ ap (λ (m : ℕ). leb m n) (sym (most_push ds d))
 
 most_and_one : (ts : Items) (d : Data) → most_levels (and_one ts d) ≡ max (most_levels ts) (levels_of d)
 most_and_one no_items d = omega arith
 most_and_one (item e ts) d = let k = most_and_one ts d in omega arith
 
-pub fit_and_one : (ts : Items) (d : Data) (n : ℕ) (a b : Bool) → a ≡ leb (most_levels ts) n → b ≡ leb (levels_of d) n → (a && b) ≡ leb (most_levels (and_one ts d)) n
-fit_and_one ts d n a b e f = ap (λ (x : Bool). x && b) e ∙ ap (λ (y : Bool). leb (most_levels ts) n && y) f ∙ sym (le_max _ _ n) ∙ ap (λ (m : ℕ). leb m n) (sym (most_and_one ts d))
+pub fit_and_one : (ts : Items) (d : Data) (n : ℕ) (a b : Bool) → a ≡ leb (most_levels ts) n → b ≡ leb (levels_of d) n
+    → (a && b) ≡ leb (most_levels (and_one ts d)) n
+fit_and_one ts d n a b e f =
+    ap (λ (x : Bool). x && b) e ∙ ap (λ (y : Bool). leb (most_levels ts) n && y) f ∙ sym (le_max _ _ n)
+    ∙ ap (λ (m : ℕ). leb m n) (sym (most_and_one ts d))
 
 and_assoc : (a b c : Bool) → (a && (b && c)) ≡ ((a && b) && c)
 and_assoc true b c = refl
 and_assoc false b c = refl
 
-and_true : (a : Bool) → (a && true) ≡ a
-and_true true = refl
-and_true false = refl
-
 bytes_more : (ts : Items) (d : Data) → are_byte_items (and_one ts d) ≡ (are_byte_items ts && is_byte d)
-bytes_more no_items d = and_true (is_byte d)
+bytes_more no_items d = and-true (is_byte d)
 bytes_more (item e ts) d = ap (λ (x : Bool). is_byte e && x) (bytes_more ts d) ∙ and_assoc (is_byte e) (are_byte_items ts) (is_byte d)
 
 pub bytes_and_one : (ts : Items) (d : Data) (a b : Bool) → a ≡ are_byte_items ts → b ≡ is_byte d → (a && b) ≡ are_byte_items (and_one ts d)
@@ -83,9 +87,11 @@ few i n e = by (ltb i 65535) refl
     by true k = let l = ltb-true i 65535 k in sym (lt-ltb n (2 ^ 16) (omega arith))
     by false k = let l = ltb-false i 65535 k in sym (le-ltb n (2 ^ 16) (omega arith))
 
-pub list_fits : (ts : Items) (n i : ℕ) (fit bytes : Bool) → fit ≡ leb (most_levels ts) n → bytes ≡ are_byte_items ts → count ts ≡ i + 1 → (fit || (bytes && ltb i 65535)) ≡ leb (levels_of (list ts)) (n + 1)
+pub list_fits : (ts : Items) (n i : ℕ) (fit bytes : Bool) → fit ≡ leb (most_levels ts) n → bytes ≡ are_byte_items ts
+    → count ts ≡ i + 1 → (fit || (bytes && ltb i 65535)) ≡ leb (levels_of (list ts)) (n + 1)
 list_fits ts n i fit bytes e f c =
-    ap (λ (x : Bool). x || (bytes && ltb i 65535)) e ∙ ap (λ (y : Bool). leb (most_levels ts) n || (y && ltb i 65535)) f ∙ ap (λ (z : Bool). leb (most_levels ts) n || (are_byte_items ts && z)) (few i (count ts) c)
+    ap (λ (x : Bool). x || (bytes && ltb i 65535)) e ∙ ap (λ (y : Bool). leb (most_levels ts) n || (y && ltb i 65535)) f
+    ∙ ap (λ (z : Bool). leb (most_levels ts) n || (are_byte_items ts && z)) (few i (count ts) c)
     ∙ sym (one_level (most_levels ts) n (is_string ts))
 
 joined_other : (ts : Items) (u : Data) → 0 < count ts → is_list u ≡ false → joined ts u ≡ improper ts u
@@ -99,9 +105,12 @@ joined_other (item t ts) (binary a) some e = refl
 joined_other (item t ts) (pid p) some e = refl
 joined_other (item t ts) (reference r) some e = refl
 
-pub improper_fits : (ts : Items) (u : Data) (n : ℕ) (a b : Bool) → 0 < count ts → is_list u ≡ false → a ≡ leb (most_levels ts) n → b ≡ leb (levels_of u) n → (a && b) ≡ leb (levels_of (joined ts u)) (n + 1)
+pub improper_fits : (ts : Items) (u : Data) (n : ℕ) (a b : Bool) → 0 < count ts → is_list u ≡ false
+    → a ≡ leb (most_levels ts) n → b ≡ leb (levels_of u) n → (a && b) ≡ leb (levels_of (joined ts u)) (n + 1)
 improper_fits ts u n a b some other e f =
-    ap (λ (x : Bool). x && b) e ∙ ap (λ (y : Bool). leb (most_levels ts) n && y) f ∙ sym (le_max _ _ n) ∙ sym (le_suc (max (most_levels ts) (levels_of u)) n) ∙ ap (λ (d : Data). leb (levels_of d) (n + 1)) (sym (joined_other ts u some other))
+    ap (λ (x : Bool). x && b) e ∙ ap (λ (y : Bool). leb (most_levels ts) n && y) f ∙ sym (le_max _ _ n)
+    ∙ sym (le_suc (max (most_levels ts) (levels_of u)) n)
+    ∙ ap (λ (d : Data). leb (levels_of d) (n + 1)) (sym (joined_other ts u some other))
 
 pub joined_is_improper : (ts : Items) (u : Data) → 0 < count ts → is_list u ≡ false → joined ts u ≡ improper ts u
 joined_is_improper = joined_other

@@ -1,5 +1,6 @@
 -- What is printed is one line.
-use Rattle.std.proofs.Common.{◌≡◌, ℕ, zero, suc, ◌%◌, ◌≤◌, ◌<◌, Bool, true, false, ◌&&◌, ◌||◌, eqb, ltb, leb, cond, List, [], ◌∷◌, ◌++◌, codes, encode_utf8, refl, arith, decimal, IsUtf8, IsAscii, mod-lt, ℤ, pos, negsuc, lit<}
+use Rattle.std.proofs.Common.{◌≡◌, ℕ, zero, suc, ◌%◌, ◌≤◌, ◌<◌, Bool, true, false, ◌&&◌, ◌||◌, eqb, ltb, leb, cond, List, []}
+use Rattle.std.proofs.Common.{◌∷◌, ◌++◌, codes, encode_utf8, refl, arith, decimal, IsUtf8, IsAscii, mod-lt, ℤ, pos, negsuc, lit<}
 use Rattle.std.specs.Prelude.{chars}
 use Rattle.std.specs.List.{list_all, flat_map}
 use Rattle.std.specs.Fmt.{digits, digit_glyph, signed_decimal}
@@ -12,7 +13,8 @@ use Rattle.erl_term.specs.declared.term.Pid.{Pid}
 use Rattle.erl_term.specs.declared.term.Reference.{Reference}
 use Rattle.erl_term.specs.Data.{Data, int, atom, tuple, list, improper, binary, pid, reference, Items, no_items, item}
 use Rattle.script_terms.specs.Words.{is_lower, is_atom_byte, is_bare}
-use Rattle.script_terms.specs.Printing.{escaped, atom_text, numbers_text, commas_text, binary_text, pid_text, reference_text, term_text, items_text, more_text}
+use Rattle.script_terms.specs.Printing.{escaped, atom_text, numbers_text, commas_text, binary_text}
+use Rattle.script_terms.specs.Printing.{pid_text, reference_text, term_text, items_text, more_text}
 use Rattle.script_terms.specs.OneLine.{is_shown, IsOneLine, IsPrintable, ArePrintable}
 use Rattle.script_terms.proofs.Runs.{all-append, all_weaker, digits_all, encode_all}
 
@@ -58,7 +60,10 @@ signed_line (negsuc n) = line-append {xs = 45 ∷ []} (line (45 ∷ []) refl) (d
 
 numbers_line : (mark : ℕ) (ns : List ℕ) → is_visible mark ≡ true → IsOneLine (numbers_text mark ns)
 numbers_line mark [] h = line-nil
-numbers_line mark (n ∷ ns) h = line-append {xs = mark ∷ decimal n} (line-append {xs = mark ∷ []} (line (mark ∷ []) (and_from (is_visible mark) true h refl)) (decimal_line n)) (numbers_line mark ns h)
+numbers_line mark (n ∷ ns) h =
+    line-append {xs = mark ∷ decimal n}
+    (line-append {xs = mark ∷ []} (line (mark ∷ []) (and_from (is_visible mark) true h refl)) (decimal_line n))
+    (numbers_line mark ns h)
 
 commas_line : (ns : List ℕ) → IsOneLine (commas_text ns)
 commas_line [] = line-nil
@@ -90,7 +95,8 @@ escaped_line c s = by (eqb c 39 || eqb c 92) refl (ltb c 32) refl (eqb c 127) re
 
     by : (x : Bool) → (eqb c 39 || eqb c 92) ≡ x → (y : Bool) → ltb c 32 ≡ y → (z : Bool) → eqb c 127 ≡ z
         → IsOneLine (cond x (92 ∷ c ∷ []) (cond (y || z) (codes "\\x{" ++ digits 16 false c ++ codes "}") (encode_utf8 c)))
-    by true h y f z g = line (92 ∷ c ∷ []) (and_from true (is_visible c && true) refl (and_from (is_visible c) true (mark_visible c h) refl))
+    by true h y f z g =
+        line (92 ∷ c ∷ []) (and_from true (is_visible c && true) refl (and_from (is_visible c) true (mark_visible c h) refl))
     by false h true f z g = code
     by false h false f true g = code
     by false h false f false g = plain f g
@@ -109,7 +115,8 @@ bare_line : (a : List ℕ) → is_bare a ≡ true → IsOneLine a
 bare_line [] h = absurd cc
 bare_line (c ∷ cs) h =
     let both = and_parts (is_lower c) (list_all is_atom_byte cs) h in
-    line (c ∷ cs) (and_from (is_visible c) (list_all is_visible cs) (lower_visible c both.0) (all_weaker is_atom_byte is_visible cs bare_visible both.1))
+    line (c ∷ cs) (and_from (is_visible c) (list_all is_visible cs) (lower_visible c both.0)
+    (all_weaker is_atom_byte is_visible cs bare_visible both.1))
 
 atom_line : (a : List ℕ) → IsUtf8 a → IsOneLine (atom_text a)
 unfolding atom_text
@@ -126,11 +133,16 @@ dot_line n rest h = line-append (line-append h (line (codes ".") refl)) (decimal
 
 pub pid_line : (p : Pid) → IsOneLine p.node → IsOneLine (pid_text p)
 unfolding pid_text
-pid_line p h = line-append (dot_line p.creation _ (dot_line p.serial _ (dot_line p.id _ (line-append (line (codes "<") refl) h)))) (line (codes ">") refl)
+pid_line p h =
+    line-append (dot_line p.creation _ (dot_line p.serial _ (dot_line p.id _ (line-append (line (codes "<") refl) h))))
+    (line (codes ">") refl)
 
 pub reference_line : (r : Reference) → IsOneLine r.node → IsOneLine (reference_text r)
 unfolding reference_text
-reference_line r h = line-append (line-append (dot_line r.creation _ (line-append (line (codes "#Ref<") refl) h)) (numbers_line 46 r.words refl)) (line (codes ">") refl)
+reference_line r h =
+    line-append
+    (line-append (dot_line r.creation _ (line-append (line (codes "#Ref<") refl) h)) (numbers_line 46 r.words refl))
+    (line (codes ">") refl)
 
 -- ---- terms
 
@@ -140,7 +152,9 @@ mutual
   term_line (atom a) h = atom_line a h
   term_line (tuple ts) h = line-append (line (codes "{") refl) (line-append (items_line ts h) (line (codes "}") refl))
   term_line (list ts) h = line-append (line (codes "[") refl) (line-append (items_line ts h) (line (codes "]") refl))
-  term_line (improper ts t) h = line-append (line (codes "[") refl) (line-append (items_line ts h.0) (line-append (line (codes "|") refl) (line-append (term_line t h.1) (line (codes "]") refl))))
+  term_line (improper ts t) h =
+      line-append (line (codes "[") refl)
+      (line-append (items_line ts h.0) (line-append (line (codes "|") refl) (line-append (term_line t h.1) (line (codes "]") refl))))
   term_line (binary a) h = binary_line a
   term_line (pid p) h = pid_line p h
   term_line (reference r) h = reference_line r h

@@ -1,5 +1,6 @@
 -- What stands behind a | without a bracket is no list.
-use Rattle.std.proofs.Common.{◌≡◌, ℕ, zero, suc, Bool, true, false, eqb, cond, List, [], ◌∷◌, length, Ok, Err, MatchResult, refl, sym, ap, subst, ◌∙◌}
+use Rattle.std.proofs.Common.{◌≡◌, ℕ, zero, suc, Bool, true, false, eqb, cond, List, []}
+use Rattle.std.proofs.Common.{◌∷◌, length, Ok, Err, MatchResult, refl, sym, ap, subst, ◌∙◌}
 use Rattle.std.proofs.lemmas.Bool.{false≢true}
 use Rattle.erl_term.specs.Reading.{◌>>=◌}
 use Rattle.erl_term.specs.Data.{Data, int, atom, binary, tuple, no_items}
@@ -12,7 +13,8 @@ use Rattle.script_terms.specs.declared.names.Named.TheVariants.{Process, Monitor
 use Rattle.script_terms.specs.declared.fault.TermFault.TheVariants.{BadTerm}
 use Rattle.script_terms.specs.Words.{is_lower}
 use Rattle.script_terms.specs.Binding.{Look, named_data}
-use Rattle.script_terms.specs.Reading.{Read, next_at, seen, named_at, quoted_at, binary_at, bare_at, integer_at, leaf_at, tuple_at, separated_at, term_with, term_at}
+use Rattle.script_terms.specs.Reading.{Read, next_at, seen, named_at, quoted_at, binary_at, bare_at}
+use Rattle.script_terms.specs.Reading.{integer_at, leaf_at, tuple_at, separated_at, term_with, term_at}
 use Rattle.script_terms.specs.Steps.{step_at, tail_step_at}
 
 abbrev NoList : Read Data → Type 0
@@ -47,7 +49,8 @@ tuple_no_list one bytes = no_list_then (next_at bytes) _ (λ c.
     no_list_if (eqb c.0 125) (Ok (tuple no_items, c.1)) _ refl
     (no_list_then (separated_at one 125 (length bytes) bytes) (λ ts. Ok (tuple (items_of ts.0), ts.1)) (λ ts. refl)))
 
-with_no_list : (look : Look) (n : ℕ) (inner : List ℕ → Read Data) (c : ℕ) (cs : List ℕ) → eqb c 91 ≡ false → NoList (term_with look n inner (c ∷ cs))
+with_no_list : (look : Look) (n : ℕ) (inner : List ℕ → Read Data) (c : ℕ) (cs : List ℕ) → eqb c 91 ≡ false
+    → NoList (term_with look n inner (c ∷ cs))
 unfolding term_with
 with_no_list look n inner c cs e = rw e
     (no_list_if (eqb c 123) _ _ (no_list_if (eqb n 0) (Err BadTerm) _ tt (tuple_no_list inner cs)) (leaf_no_list look c cs (c ∷ cs)))
@@ -56,10 +59,13 @@ nothing : (look : Look) (n : ℕ) (inner : List ℕ → Read Data) → term_with
 unfolding term_with
 nothing look n inner = refl
 
-term_no_list : (look : Look) (n : ℕ) (bytes : List ℕ) → ((c : ℕ) (r : List ℕ) → next_at bytes ≡ Ok (c, r) → eqb c 91 ≡ false) → NoList (term_at look n bytes)
+term_no_list : (look : Look) (n : ℕ) (bytes : List ℕ) → ((c : ℕ) (r : List ℕ) → next_at bytes ≡ Ok (c, r) → eqb c 91 ≡ false)
+    → NoList (term_at look n bytes)
 unfolding term_at
-term_no_list look zero [] h = let e : term_with look 0 (λ _. Err BadTerm) [] ≡ Err BadTerm = nothing look 0 (λ _. Err BadTerm) in subst NoList (sym e) tt
-term_no_list look (suc n) [] h = let e : term_with look (suc n) (term_at look n) [] ≡ Err BadTerm = nothing look (suc n) (term_at look n) in subst NoList (sym e) tt
+term_no_list look zero [] h =
+    let e : term_with look 0 (λ _. Err BadTerm) [] ≡ Err BadTerm = nothing look 0 (λ _. Err BadTerm) in subst NoList (sym e) tt
+term_no_list look (suc n) [] h =
+    let e : term_with look (suc n) (term_at look n) [] ≡ Err BadTerm = nothing look (suc n) (term_at look n) in subst NoList (sym e) tt
 term_no_list look zero (c ∷ cs) h = with_no_list look 0 (λ _. Err BadTerm) c cs (h c cs refl)
 term_no_list look (suc n) (c ∷ cs) h = with_no_list look (suc n) (term_at look n) c cs (h c cs refl)
 
@@ -69,10 +75,8 @@ ok_no_list r t rest h e = let P : Read Data → Type 0 = NoList in subst P e h
 -- ---- the step behind which it stands
 
 abbrev tail_step : Step → Bool
-tail_step step.Item = false
-tail_step step.List = false
-tail_step step.End = false
 tail_step step.Tail = true
+tail_step _ = false
 
 abbrev is_tail : Read Step → Bool
 is_tail (Ok x) = tail_step x.0
@@ -86,7 +90,8 @@ abbrev byte_of : Read ℕ → ℕ
 byte_of (Ok x) = x.0
 byte_of (Err e) = 0
 
-in_tail : (b : ℕ) (bs behind : List ℕ) (x : Bool) → eqb b 91 ≡ x → tail_step_at (b ∷ bs) ≡ Ok (step.Tail, behind) → (c : ℕ) (r : List ℕ) → next_at behind ≡ Ok (c, r) → eqb c 91 ≡ false
+in_tail : (b : ℕ) (bs behind : List ℕ) (x : Bool) → eqb b 91 ≡ x → tail_step_at (b ∷ bs) ≡ Ok (step.Tail, behind)
+    → (c : ℕ) (r : List ℕ) → next_at behind ≡ Ok (c, r) → eqb c 91 ≡ false
 unfolding tail_step_at
 in_tail b bs behind false e h c r k =
     let q : Ok (step.Tail, b ∷ bs) ≡ Ok (step.Tail, behind) = sym (rw e refl) ∙ h in
@@ -94,7 +99,8 @@ in_tail b bs behind false e h c r k =
     let first : Ok (b, bs) ≡ Ok (c, r) = ap next_at same ∙ k in
     let byte : b ≡ c = ap byte_of first in
     ap (λ (y : ℕ). eqb y 91) (sym byte) ∙ e
-in_tail b [] behind true e h c r k = absurd (let q : Err BadTerm ≡ Ok (step.Tail, behind) = sym (rw e refl) ∙ h in false≢true (ap is_tail q))
+in_tail b [] behind true e h c r k =
+    absurd (let q : Err BadTerm ≡ Ok (step.Tail, behind) = sym (rw e refl) ∙ h in false≢true (ap is_tail q))
 in_tail b (d ∷ ds) behind true e h c r k = absurd (inner (eqb d 93) (sym (rw e refl) ∙ h))
   where
     inner : (y : Bool) → cond {A = Read Step} y (Ok (step.End, ds)) (Ok (step.List, d ∷ ds)) ≡ Ok (step.Tail, behind) → ⊥
@@ -105,7 +111,8 @@ no_tail : (behind : List ℕ) → tail_step_at [] ≡ Ok (step.Tail, behind) →
 unfolding tail_step_at
 no_tail behind q = false≢true (ap is_tail q)
 
-tail_first : (after behind : List ℕ) → step_at after ≡ Ok (step.Tail, behind) → (c : ℕ) (r : List ℕ) → next_at behind ≡ Ok (c, r) → eqb c 91 ≡ false
+tail_first : (after behind : List ℕ) → step_at after ≡ Ok (step.Tail, behind) → (c : ℕ) (r : List ℕ)
+    → next_at behind ≡ Ok (c, r) → eqb c 91 ≡ false
 unfolding step_at
 tail_first [] behind h = absurd (false≢true (ap is_tail h))
 tail_first (a ∷ as') behind h = by (eqb a 44) (eqb a 93) (eqb a 124) refl refl refl
@@ -116,9 +123,13 @@ tail_first (a ∷ as') behind h = by (eqb a 44) (eqb a 93) (eqb a 124) refl refl
 
     by : (x y z : Bool) → eqb a 44 ≡ x → eqb a 93 ≡ y → eqb a 124 ≡ z → (c : ℕ) (r : List ℕ) → next_at behind ≡ Ok (c, r) → eqb c 91 ≡ false
     by true y z e f g = absurd (let q : Ok (step.Item, as') ≡ Ok (step.Tail, behind) = sym (rw e refl) ∙ h in false≢true (ap is_tail q))
-    by false true z e f g = absurd (let q : Ok (step.End, a ∷ as') ≡ Ok (step.Tail, behind) = sym (rw (e, f) refl) ∙ h in false≢true (ap is_tail q))
+    by false true z e f g =
+        absurd (let q : Ok (step.End, a ∷ as') ≡ Ok (step.Tail, behind) = sym (rw (e, f) refl) ∙ h in false≢true (ap is_tail q))
     by false false true e f g = from as' (sym (rw (e, f, g) refl) ∙ h)
-    by false false false e f g = absurd (let q : Err BadTerm ≡ Ok (step.Tail, behind) = sym (rw (e, f, g) refl) ∙ h in false≢true (ap is_tail q))
+    by false false false e f g =
+        absurd (let q : Err BadTerm ≡ Ok (step.Tail, behind) = sym (rw (e, f, g) refl) ∙ h in false≢true (ap is_tail q))
 
-pub tail_no_list : (look : Look) (n : ℕ) (after behind : List ℕ) (t : Data) (rest : List ℕ) → step_at after ≡ Ok (step.Tail, behind) → term_at look n behind ≡ Ok (t, rest) → is_list t ≡ false
-tail_no_list look n after behind t rest h e = ok_no_list (term_at look n behind) t rest (term_no_list look n behind (tail_first after behind h)) e
+pub tail_no_list : (look : Look) (n : ℕ) (after behind : List ℕ) (t : Data) (rest : List ℕ)
+    → step_at after ≡ Ok (step.Tail, behind) → term_at look n behind ≡ Ok (t, rest) → is_list t ≡ false
+tail_no_list look n after behind t rest h e =
+    ok_no_list (term_at look n behind) t rest (term_no_list look n behind (tail_first after behind h)) e

@@ -15,12 +15,14 @@ some_term : (r : Result Data TermFault) → Ok tt ≡ checked r → (t : Data) �
 some_term (Ok t) h = (t, refl)
 some_term (Err e) h = absurd cc
 
-pub refused : (look : Look) (text : List ℕ) (e : ReadError) → Ok tt ≡ checked (term_of look text) → Fails e (term_at look 64 text) → IsRefused e (term_of look text)
+pub refused : (look : Look) (text : List ℕ) (e : ReadError) → Ok tt ≡ checked (term_of look text)
+    → Fails e (term_at look 64 text) → IsRefused e (term_of look text)
 unfolding term_of
 refused look text (Fault f) h k = rw k refl
 refused look text OutOfMemory h k = some_term (term_of look text) h
 
-pub is_whole : (look : Look) (text : List ℕ) (t : Data) (rest : List ℕ) → Ok tt ≡ checked (term_of look text) → term_at look 64 text ≡ Ok (t, rest) → term_of look text ≡ Ok t
+pub is_whole : (look : Look) (text : List ℕ) (t : Data) (rest : List ℕ) → Ok tt ≡ checked (term_of look text)
+    → term_at look 64 text ≡ Ok (t, rest) → term_of look text ≡ Ok t
 unfolding term_of
 is_whole look text t rest h k = rw k (by rest (h ∙ ap (λ (r : Read Data). checked (r >>= whole)) k))
   where

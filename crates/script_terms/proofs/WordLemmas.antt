@@ -1,7 +1,8 @@
 -- Words, by their first byte and the rest.
 use Rattle.std.proofs.lemmas.Bool.Decides.{nat_tests}
 use Rattle.std.specs.Str.{IsAscii}
-use Rattle.std.proofs.Common.{◌≡◌, ◌≤◌, ◌<◌, ◌-◌, ℕ, zero, suc, lit<, Bool, true, false, List, [], ◌∷◌, length, ◌&&◌, get_or, take, drop, take_all, refl, sym, ap, ◌∙◌, arith}
+use Rattle.std.proofs.Common.{◌≡◌, ◌≤◌, ◌<◌, ◌-◌, ℕ, zero, suc, lit<, Bool, true, false, List, [], ◌∷◌}
+use Rattle.std.proofs.Common.{length, ◌&&◌, get_or, take, drop, take_all, refl, sym, ap, ◌∙◌, arith}
 use Rattle.std.specs.List.{list_all}
 use Rattle.script_terms.specs.Words.{is_lower, is_name_byte, is_atom_byte, is_name, is_bare}
 
@@ -17,13 +18,17 @@ both-right : (a b : Bool) → (a && b) ≡ true → b ≡ true
 both-right true b e = e
 both-right false b e = absurd cc
 
-pub name_of_parts : (xs : List ℕ) → 1 ≤ length xs → is_lower (get_or xs 0 0) ≡ true → is_name xs ≡ list_all is_name_byte (take (length xs - 1) (drop 1 xs))
+pub name_of_parts : (xs : List ℕ) → 1 ≤ length xs → is_lower (get_or xs 0 0) ≡ true
+    → is_name xs ≡ list_all is_name_byte (take (length xs - 1) (drop 1 xs))
 name_of_parts [] h e = absurd (omega arith)
-name_of_parts (x ∷ xs) h e = anded (is_lower x) (list_all is_name_byte xs) e ∙ sym (ap (list_all is_name_byte) (take_all _ xs (omega arith)))
+name_of_parts (x ∷ xs) h e =
+    anded (is_lower x) (list_all is_name_byte xs) e ∙ sym (ap (list_all is_name_byte) (take_all _ xs (omega arith)))
 
-pub bare_of_parts : (xs : List ℕ) → 1 ≤ length xs → is_lower (get_or xs 0 0) ≡ true → is_bare xs ≡ list_all is_atom_byte (take (length xs - 1) (drop 1 xs))
+pub bare_of_parts : (xs : List ℕ) → 1 ≤ length xs → is_lower (get_or xs 0 0) ≡ true
+    → is_bare xs ≡ list_all is_atom_byte (take (length xs - 1) (drop 1 xs))
 bare_of_parts [] h e = absurd (omega arith)
-bare_of_parts (x ∷ xs) h e = anded (is_lower x) (list_all is_atom_byte xs) e ∙ sym (ap (list_all is_atom_byte) (take_all _ xs (omega arith)))
+bare_of_parts (x ∷ xs) h e =
+    anded (is_lower x) (list_all is_atom_byte xs) e ∙ sym (ap (list_all is_atom_byte) (take_all _ xs (omega arith)))
 
 name_byte_ascii : (c : ℕ) → is_name_byte c ≡ true → c < 128
 name_byte_ascii c e = grind (arith, nat_tests)

@@ -32,7 +32,8 @@ binary_text bytes = codes "<<" ++ commas_text bytes ++ codes ">>"
 
 -- the name of the node stands without quotes
 unfoldable pub pid_text : Pid → List ℕ
-pid_text p = codes "<" ++ p.node ++ codes "." ++ decimal p.id ++ codes "." ++ decimal p.serial ++ codes "." ++ decimal p.creation ++ codes ">"
+pid_text p =
+    codes "<" ++ p.node ++ codes "." ++ decimal p.id ++ codes "." ++ decimal p.serial ++ codes "." ++ decimal p.creation ++ codes ">"
 
 unfoldable pub reference_text : Reference → List ℕ
 reference_text r = codes "#Ref<" ++ r.node ++ codes "." ++ decimal r.creation ++ numbers_text 46 r.words ++ codes ">"

@@ -1,5 +1,6 @@
 -- Terms as a script writes them: reading from the left, up to the first fault.
-use Rattle.std.specs.Prelude.{◌≡◌, ℕ, zero, suc, ◌+◌, ◌^◌, ◌==◌, ◌||◌, ℤ, List, [], ◌∷◌, ◌++◌, length, drop, Option, None, Some, Result, Ok, Err, MatchResult, nat_lt, nat_le, if◌then◌else◌, encode_utf8}
+use Rattle.std.specs.Prelude.{◌≡◌, ℕ, zero, suc, ◌+◌, ◌^◌, ◌==◌, ◌||◌, ℤ, List, [], ◌∷◌, ◌++◌, length, drop, Option}
+use Rattle.std.specs.Prelude.{None, Some, Result, Ok, Err, MatchResult, nat_lt, nat_le, if◌then◌else◌, encode_utf8}
 use Rattle.std.specs.List.{take_while, prefix_len}
 use Rattle.std.specs.Str.Parse.{digits_value}
 use Rattle.erl_term.specs.Reading.{◌>>=◌}
@@ -38,7 +39,8 @@ unfoldable pub digits_at : ℕ → List ℕ → Read ℤ
 digits_at sign bytes =
     let digits = take_while is_digit bytes in
     if length digits == 0 then Err BadTerm
-    else if nat_lt (digits_value 10 digits) (2 ^ 127 + sign) then Ok (signed sign (digits_value 10 digits), drop (prefix_len is_digit bytes) bytes)
+    else if nat_lt (digits_value 10 digits) (2 ^ 127 + sign) then Ok
+    (signed sign (digits_value 10 digits), drop (prefix_len is_digit bytes) bytes)
     else Err BadTerm
 
 unfoldable pub integer_at : List ℕ → Read ℤ
@@ -59,7 +61,8 @@ code_at bytes =
     mark_at 123 bytes >>= λ front.
     let digits = take_while is_hex_digit front.1 in
     if length digits == 0 then Err BadTerm
-    else if is_scalar (digits_value 16 digits) then (mark_at 125 (drop (prefix_len is_hex_digit front.1) front.1) >>= λ close. Ok (encode_utf8 (digits_value 16 digits), close.1))
+    else if is_scalar (digits_value 16 digits) then
+    (mark_at 125 (drop (prefix_len is_hex_digit front.1) front.1) >>= λ close. Ok (encode_utf8 (digits_value 16 digits), close.1))
     else Err BadTerm
 
 -- behind a \: ', \ or the number of a character
@@ -70,7 +73,8 @@ escape_at bytes =
     else if c.0 == 120 then code_at c.1
     else Err BadTerm
 
--- what stands between quotes, up to the quote behind it: each \ begins an escape, and all else stands for itself. There are at most so many pieces
+-- what stands between quotes, up to the quote behind it: each \ begins an escape, and all else stands for
+-- itself. There are at most so many pieces
 unfoldable pub pieces_at : ℕ → List ℕ → Read (List ℕ)
 pieces_at zero bytes = Err BadTerm
 pieces_at (suc most) bytes =
@@ -158,7 +162,8 @@ cells_at one (suc most) bytes =
     next_at t.1 >>= λ c.
     if c.0 == 44 then (cells_at one most c.1 >>= λ u. Ok (joined (item t.0 no_items) u.0, u.1))
     else if c.0 == 93 then Ok (list (item t.0 no_items), c.1)
-    else if c.0 == 124 then (tail_at one (cells_at one most) c.1 >>= λ u. mark_at 93 u.1 >>= λ close. Ok (joined (item t.0 no_items) u.0, close.1))
+    else if c.0
+    == 124 then (tail_at one (cells_at one most) c.1 >>= λ u. mark_at 93 u.1 >>= λ close. Ok (joined (item t.0 no_items) u.0, close.1))
     else Err BadTerm
 
 -- a term in which so many brackets, { or [, may open one inside another, where `inner` reads what stands inside one

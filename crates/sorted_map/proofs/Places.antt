@@ -1,5 +1,6 @@
 -- Where an entry stands, and what an edit there does to the entries.
-use Rattle.std.proofs.Common.{◌≡◌, ℕ, zero, suc, ◌<◌, ◌≤◌, Bool, true, false, cond, not, ◌&&◌, T, List, [], ◌∷◌, length, get_or, set, Option, None, Some, is_some, IsSome, Result, Ok, Err, IfOk, IfErr, refl, sym, ap, subst, ◌∙◌, arith}
+use Rattle.std.proofs.Common.{◌≡◌, ℕ, zero, suc, ◌<◌, ◌≤◌, Bool, true, false, cond, not, ◌&&◌, T, List, [], ◌∷◌, length, get_or, set}
+use Rattle.std.proofs.Common.{Option, None, Some, is_some, IsSome, Result, Ok, Err, IfOk, IfErr, refl, sym, ap, subst, ◌∙◌, arith}
 use Rattle.std.specs.declared.cmp.Ordering.{Ordering}
 use Rattle.std.specs.declared.cmp.Ordering.TheVariants.{Less, Equal, Greater}
 use Rattle.std.specs.Ordering.{is_lt, is_eq, ordering_reverse, ordering_index, eq_by_cmp}
@@ -48,7 +49,8 @@ module _ {K : Type 0} {cmp : K → K → Ordering} (order : IsTotalOrder cmp) wh
 
 module _ {K V : Type 0} {cmp : K → K → Ordering} (order : IsTotalOrder cmp) where
   -- each later key is greater
-  later_greater : (x : K) (rest : List (K × V)) (at : ℕ) (d : K × V) → T (below_all cmp x rest) → at < length rest → cmp x (get_or rest at d).0 ≡ Less
+  later_greater : (x : K) (rest : List (K × V)) (at : ℕ) (d : K × V) → T (below_all cmp x rest) → at < length rest
+      → cmp x (get_or rest at d).0 ≡ Less
   later_greater x [] at d h l = absurd (omega arith)
   later_greater x (e ∷ rest) zero d h l = less _ (both_pass _ _ h).0
   later_greater x (e ∷ rest) (suc at) d h l = later_greater x rest at d (both_pass _ _ h).1 (omega arith)
@@ -72,7 +74,8 @@ module _ {K V : Type 0} {cmp : K → K → Ordering} (order : IsTotalOrder cmp) 
   gap_in_range (e ∷ rest) q (suc at) h = omega (arith, gap_in_range rest q at h.1)
 
   -- a binary search ends at the entry, or at the gap for it
-  found_at : (es : List (K × V)) (q : K) (at : ℕ) → T (is_sorted cmp es) → at < length es → ((d : K × V) → cmp (get_or es at d).0 q ≡ Equal) → IsFoundAt cmp es q at
+  found_at : (es : List (K × V)) (q : K) (at : ℕ) → T (is_sorted cmp es) → at < length es
+      → ((d : K × V) → cmp (get_or es at d).0 q ≡ Equal) → IsFoundAt cmp es q at
   found_at [] q at s l h = absurd (omega arith)
   found_at (e ∷ rest) q zero s l h = h e
   found_at (e ∷ rest) q (suc at) s l h =
@@ -85,9 +88,13 @@ module _ {K V : Type 0} {cmp : K → K → Ordering} (order : IsTotalOrder cmp) 
   gap_at [] q zero l below above = tt
   gap_at [] q (suc at) l below above = absurd (omega arith)
   gap_at (e ∷ rest) q zero l below above = above 0 e (omega arith) (omega arith)
-  gap_at (e ∷ rest) q (suc at) l below above = (below 0 e (omega arith), gap_at rest q at (omega arith) (λ k d lt. below (suc k) d (omega arith)) (λ k d le lt. above (suc k) d (omega arith) (omega arith)))
+  gap_at (e ∷ rest) q (suc at) l below above = (
+    below 0 e (omega arith),
+    gap_at rest q at (omega arith) (λ k d lt. below (suc k) d (omega arith)) (λ k d le lt. above (suc k) d (omega arith) (omega arith)),
+  )
 
-  pub searched : (es : List (K × V)) (q : K) (r : Result ℕ ℕ) → T (is_sorted cmp es) → IsSearchInRange r (length es) → IsBinarySearchResult (λ e. cmp e.0 q) es r
+  pub searched : (es : List (K × V)) (q : K) (r : Result ℕ ℕ) → T (is_sorted cmp es) → IsSearchInRange r (length es)
+      → IsBinarySearchResult (λ e. cmp e.0 q) es r
       → record { found : IfOk r (IsFoundAt cmp es q); gap : IfErr r (IsGapAt cmp es q) }
   searched es q (Ok at) s bound h = record { found = found_at es q at s bound h; gap = tt }
   searched es q (Err at) s bound h =
@@ -98,7 +105,8 @@ module _ {K V : Type 0} {cmp : K → K → Ordering} (order : IsTotalOrder cmp) 
   pub finds : (es : List (K × V)) (q : K) (at : ℕ) (d : K × V) → IsFoundAt cmp es q at → find cmp q es ≡ Some (get_or es at d).1
   finds [] q at d h = absurd h
   finds (e ∷ rest) q zero d h = ap (λ o. cond (is_eq o) (Some e.1) (find cmp q rest)) (tied_back order e.0 q h)
-  finds (e ∷ rest) q (suc at) d h = ap (λ o. cond (is_eq o) (Some e.1) (find cmp q rest)) (greater_of_less order e.0 q h.0) ∙ finds rest q at d h.1
+  finds (e ∷ rest) q (suc at) d h =
+      ap (λ o. cond (is_eq o) (Some e.1) (find cmp q rest)) (greater_of_less order e.0 q h.0) ∙ finds rest q at d h.1
 
   all_greater : (q x : K) (es : List (K × V)) → cmp q x ≡ Less → T (below_all cmp x es) → T (below_all cmp q es)
   all_greater q x [] l h = tt
@@ -123,16 +131,23 @@ module _ {K V : Type 0} {cmp : K → K → Ordering} (order : IsTotalOrder cmp) 
       ap (λ o. cond (is_eq o) (Some e.1) (find cmp q rest)) (greater_of_less order e.0 q h.0) ∙ finds_none rest q at (both_pass _ _ s).1 h.1
 
   -- an edit at the place is the map's
-  pub put_found : (es : List (K × V)) (q : K) (v : V) (at : ℕ) (d : K × V) → IsFoundAt cmp es q at → put cmp q v es ≡ set es at ((get_or es at d).0, v)
+  pub put_found : (es : List (K × V)) (q : K) (v : V) (at : ℕ) (d : K × V) → IsFoundAt cmp es q at
+      → put cmp q v es ≡ set es at ((get_or es at d).0, v)
   put_found [] q v at d h = absurd h
-  put_found (e ∷ rest) q v zero d h = ap (λ o. by_order o ((q, v) ∷ e ∷ rest) ((e.0, v) ∷ rest) (e ∷ put cmp q v rest)) (tied_back order e.0 q h)
-  put_found (e ∷ rest) q v (suc at) d h = ap (λ o. by_order o ((q, v) ∷ e ∷ rest) ((e.0, v) ∷ rest) (e ∷ put cmp q v rest)) (greater_of_less order e.0 q h.0) ∙ ap (λ l. e ∷ l) (put_found rest q v at d h.1)
+  put_found (e ∷ rest) q v zero d h =
+      ap (λ o. by_order o ((q, v) ∷ e ∷ rest) ((e.0, v) ∷ rest) (e ∷ put cmp q v rest)) (tied_back order e.0 q h)
+  put_found (e ∷ rest) q v (suc at) d h =
+      ap (λ o. by_order o ((q, v) ∷ e ∷ rest) ((e.0, v) ∷ rest) (e ∷ put cmp q v rest)) (greater_of_less order e.0 q h.0)
+      ∙ ap (λ l. e ∷ l) (put_found rest q v at d h.1)
 
   pub put_gap : (es : List (K × V)) (q : K) (v : V) (at : ℕ) → IsGapAt cmp es q at → put cmp q v es ≡ insert es at (q, v)
   put_gap [] q v zero h = refl
   put_gap [] q v (suc at) h = absurd h
-  put_gap (e ∷ rest) q v zero h = ap (λ o. by_order o ((q, v) ∷ e ∷ rest) ((e.0, v) ∷ rest) (e ∷ put cmp q v rest)) (less_of_greater order e.0 q h)
-  put_gap (e ∷ rest) q v (suc at) h = ap (λ o. by_order o ((q, v) ∷ e ∷ rest) ((e.0, v) ∷ rest) (e ∷ put cmp q v rest)) (greater_of_less order e.0 q h.0) ∙ ap (λ l. e ∷ l) (put_gap rest q v at h.1)
+  put_gap (e ∷ rest) q v zero h =
+      ap (λ o. by_order o ((q, v) ∷ e ∷ rest) ((e.0, v) ∷ rest) (e ∷ put cmp q v rest)) (less_of_greater order e.0 q h)
+  put_gap (e ∷ rest) q v (suc at) h =
+      ap (λ o. by_order o ((q, v) ∷ e ∷ rest) ((e.0, v) ∷ rest) (e ∷ put cmp q v rest)) (greater_of_less order e.0 q h.0)
+      ∙ ap (λ l. e ∷ l) (put_gap rest q v at h.1)
 
   all_others : (q : K) (es : List (K × V)) → T (below_all cmp q es) → without cmp q es ≡ es
   all_others q [] h = refl
@@ -153,12 +168,14 @@ module _ {K V : Type 0} {cmp : K → K → Ordering} (order : IsTotalOrder cmp) 
   without_gap [] q at s h = refl
   without_gap (e ∷ rest) q zero s h =
       let l = less_of_greater order e.0 q h in
-      ap (λ o. cond (not (is_eq o)) (e ∷ without cmp q rest) (without cmp q rest)) l ∙ ap (λ r. e ∷ r) (all_others q rest (all_greater q e.0 rest l (both_pass _ _ s).0))
+      ap (λ o. cond (not (is_eq o)) (e ∷ without cmp q rest) (without cmp q rest)) l
+      ∙ ap (λ r. e ∷ r) (all_others q rest (all_greater q e.0 rest l (both_pass _ _ s).0))
   without_gap (e ∷ rest) q (suc at) s h =
       ap (λ o. cond (not (is_eq o)) (e ∷ without cmp q rest) (without cmp q rest)) (greater_of_less order e.0 q h.0)
       ∙ ap (λ l. e ∷ l) (without_gap rest q at (both_pass _ _ s).1 h.1)
 
-  pub changed_found : (es : List (K × V)) (q : K) (v : V) (at : ℕ) (d : K × V) → IsFoundAt cmp es q at → changed cmp q v es ≡ set es at ((get_or es at d).0, v)
+  pub changed_found : (es : List (K × V)) (q : K) (v : V) (at : ℕ) (d : K × V) → IsFoundAt cmp es q at
+      → changed cmp q v es ≡ set es at ((get_or es at d).0, v)
   changed_found es q v at d h = ap (λ o. cond (is_some o) (put cmp q v es) es) (finds es q at d h) ∙ put_found es q v at d h
 
   pub changed_gap : (es : List (K × V)) (q : K) (v : V) (at : ℕ) → T (is_sorted cmp es) → IsGapAt cmp es q at → changed cmp q v es ≡ es

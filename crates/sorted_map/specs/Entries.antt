@@ -14,7 +14,9 @@ pub record Held (K V : Type 0) : Type 0 where
   pub room : ℕ
 
 abbrev pub held_code : {K V : Type 0} → Coded K → Coded V → Coded (Held K V)
-held_code {K} {V} k v = code_by (List (K × V) × ℕ) (coded× (coded_list (coded× k v)) coded_ℕ) (λ m. (m.entries, m.room)) (λ p. record { entries = p.0; room = p.1 }) (λ _. refl)
+held_code {K} {V} k v =
+    code_by (List (K × V) × ℕ) (coded× (coded_list (coded× k v)) coded_ℕ) (λ m. (m.entries, m.room))
+    (λ p. record { entries = p.0; room = p.1 }) (λ _. refl)
 
 -- the first entry that passes, in the order of the keys
 abbrev pub first_where : {K V : Type 0} → (K → V → Bool) → List (K × V) → Option (K × V)

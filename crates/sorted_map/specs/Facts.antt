@@ -22,7 +22,8 @@ less Equal h = absurd h
 less Greater h = absurd h
 
 -- a key below all of them has no entry
-pub find_below_all : {K V : Type 0} (cmp : K → K → Ordering) (key : K) (entries : List (K × V)) → T (below_all cmp key entries) → find cmp key entries ≡ None
+pub find_below_all : {K V : Type 0} (cmp : K → K → Ordering) (key : K) (entries : List (K × V))
+    → T (below_all cmp key entries) → find cmp key entries ≡ None
 find_below_all cmp key [] h = refl
 find_below_all cmp key (e ∷ rest) h =
     let t = both_pass _ _ h in

@@ -6,7 +6,8 @@ use Rattle.std.specs.List.{flat_map}
 use Rattle.svg_text.specs.Document.{area, drawing_end, drawing_start, root_text}
 use Rattle.svg_text.specs.Escaping.{escaped_text}
 use Rattle.svg_text.specs.Figures.{a_box, a_line, class_text, place_text, size_text, some_words, text_element, titled}
-use Rattle.svg_text.specs.Markup.{Appends, AreTagged, IsContent, IsDocument, attribute_text, beside, element, line_break, nothing, text, whole}
+use Rattle.svg_text.specs.Markup.{Appends, AreTagged, IsContent, IsDocument, attribute_text}
+use Rattle.svg_text.specs.Markup.{beside, element, line_break, nothing, text, whole}
 use Rattle.svg_text.specs.declared.figures.Point.{Point}
 
 -- ---- attributes
@@ -25,7 +26,8 @@ place_is : (x y : List ℕ) (at : Point) → place_text x y at ≡ attribute_tex
 unfolding place_text
 place_is x y at = refl
 
-size_is : (width height : ℕ) → size_text width height ≡ attribute_text (codes "width", decimal width) ++ attribute_text (codes "height", decimal height) ++ attribute_text (codes "rx", codes "6")
+size_is : (width height : ℕ) → size_text width height ≡ attribute_text (codes "width", decimal width)
+    ++ attribute_text (codes "height", decimal height) ++ attribute_text (codes "rx", codes "6")
 unfolding size_text
 size_is width height = refl
 
@@ -47,40 +49,62 @@ line_attributes class from to = (codes "class", class) ∷ place (codes "x1") (c
 
 pub line_content : (class : List ℕ) (from to : Point) (tooltip : List ℕ) → IsContent (a_line class from to tooltip)
 line_content class from to tooltip =
-    let same : element (codes "line") (line_attributes class from to) (titled tooltip) ++ codes "\n" ≡ a_line class from to tooltip = grind (arith, common_steps, class_is, place_is, size_is) in
+    let same : element (codes "line") (line_attributes class from to) (titled tooltip) ++ codes "\n" ≡ a_line class from to tooltip =
+    grind (arith, common_steps, class_is, place_is, size_is) in
     subst IsContent same
-    (beside _ _ (whole (codes "line") (line_attributes class from to) (titled tooltip) (record { name_is = refl; names_are = refl; apart = refl }) (titled_content tooltip)) line_break)
+    (beside _ _ (whole (codes "line") (line_attributes class from to) (titled tooltip)
+    (record { name_is = refl; names_are = refl; apart = refl }) (titled_content tooltip)) line_break)
 
 abbrev words_attributes : (class : List ℕ) → Point → Attributes
 words_attributes class at = (codes "class", class) ∷ place (codes "x") (codes "y") at
 
 pub words_content : (class : List ℕ) (at : Point) (words tooltip : List ℕ) → IsContent (some_words class at words tooltip)
 words_content class at words tooltip =
-    let same : element (codes "text") (words_attributes class at) (escaped_text words ++ titled tooltip) ++ codes "\n" ≡ some_words class at words tooltip = grind (arith, common_steps, class_is, place_is, size_is) in
+    let same : element (codes "text") (words_attributes class at) (escaped_text words ++ titled tooltip) ++ codes "\n"
+    ≡ some_words class at words tooltip = grind (arith, common_steps, class_is, place_is, size_is) in
     subst IsContent same
-    (beside _ _ (whole (codes "text") (words_attributes class at) (escaped_text words ++ titled tooltip) (record { name_is = refl; names_are = refl; apart = refl })
+    (beside _ _ (whole (codes "text") (words_attributes class at) (escaped_text words ++ titled tooltip)
+    (record { name_is = refl; names_are = refl; apart = refl })
     (beside _ _ (text words) (titled_content tooltip))) line_break)
 
 abbrev box_attributes : (class : List ℕ) → Point → (width height : ℕ) → Attributes
 box_attributes class corner width height =
-    (codes "class", class) ∷ place (codes "x") (codes "y") corner ++ (codes "width", decimal width) ∷ (codes "height", decimal height) ∷ (codes "rx", codes "6") ∷ []
+    (codes "class", class) ∷ place (codes "x") (codes "y") corner ++ (codes "width", decimal width)
+    ∷ (codes "height", decimal height) ∷ (codes "rx", codes "6") ∷ []
 
 pub box_content : (class : List ℕ) (corner : Point) (width height : ℕ) → IsContent (a_box class corner width height)
 box_content class corner width height =
-    let same : element (codes "rect") (box_attributes class corner width height) [] ++ codes "\n" ≡ a_box class corner width height = grind (arith, common_steps, class_is, place_is, size_is) in
+    let same : element (codes "rect") (box_attributes class corner width height) [] ++ codes "\n" ≡ a_box class corner width height =
+    grind (arith, common_steps, class_is, place_is, size_is) in
     subst IsContent same
-    (beside _ _ (whole (codes "rect") (box_attributes class corner width height) [] (record { name_is = refl; names_are = refl; apart = refl }) nothing) line_break)
+    (beside _ _ (whole (codes "rect") (box_attributes class corner width height) []
+    (record { name_is = refl; names_are = refl; apart = refl }) nothing) line_break)
 
 -- ---- behind a text
 
-pub line_appends : (class : List ℕ) (from to : Point) (tooltip old new : List ℕ) → new ≡ old ++ a_line class from to tooltip → Appends old new
-line_appends class from to tooltip old new h = record { content = a_line class from to tooltip; well_formed = line_content class from to tooltip; behind = h }
+pub line_appends : (class : List ℕ) (from to : Point) (tooltip old new : List ℕ) → new ≡ old ++ a_line class from to tooltip
+    → Appends old new
+line_appends class from to tooltip old new h = record {
+  content = a_line class from to tooltip;
+  well_formed = line_content class from to tooltip;
+  behind = h;
+}
 
-pub words_append : (class : List ℕ) (at : Point) (words tooltip old new : List ℕ) → new ≡ old ++ some_words class at words tooltip → Appends old new
-words_append class at words tooltip old new h = record { content = some_words class at words tooltip; well_formed = words_content class at words tooltip; behind = h }
+pub words_append : (class : List ℕ) (at : Point) (words tooltip old new : List ℕ)
+    → new ≡ old ++ some_words class at words tooltip → Appends old new
+words_append class at words tooltip old new h = record {
+  content = some_words class at words tooltip;
+  well_formed = words_content class at words tooltip;
+  behind = h;
+}
 
-pub box_appends : (class : List ℕ) (corner : Point) (width height : ℕ) (old new : List ℕ) → new ≡ old ++ a_box class corner width height → Appends old new
-box_appends class corner width height old new h = record { content = a_box class corner width height; well_formed = box_content class corner width height; behind = h }
+pub box_appends : (class : List ℕ) (corner : Point) (width height : ℕ) (old new : List ℕ)
+    → new ≡ old ++ a_box class corner width height → Appends old new
+box_appends class corner width height old new h = record {
+  content = a_box class corner width height;
+  well_formed = box_content class corner width height;
+  behind = h;
+}
 
 -- ---- the whole
 
@@ -102,13 +126,17 @@ inside_content : (title style figures : List ℕ) → IsContent figures → IsCo
 inside_content title style figures h =
     let tags : AreTagged (codes "title") [] = record { name_is = refl; names_are = refl; apart = refl } in
     let others : AreTagged (codes "style") [] = record { name_is = refl; names_are = refl; apart = refl } in
-    beside _ _ line_break (beside _ _ (element_of_text (codes "title") title tags) (beside _ _ line_break (beside _ _ (element_of_text (codes "style") style others) (beside _ _ line_break h))))
+    beside _ _ line_break (beside _ _ (element_of_text (codes "title") title tags)
+    (beside _ _ line_break (beside _ _ (element_of_text (codes "style") style others) (beside _ _ line_break h))))
 
-whole_is : (attributes title style figures : List ℕ) → codes "<svg" ++ attributes ++ codes ">\n" ++ title ++ codes "\n" ++ style ++ codes "\n" ++ figures ++ codes "</svg>\n"
-    ≡ codes "<svg" ++ attributes ++ codes ">" ++ (codes "\n" ++ (title ++ (codes "\n" ++ (style ++ (codes "\n" ++ figures))))) ++ codes "</svg>" ++ codes "\n"
+whole_is : (attributes title style figures : List ℕ)
+    → codes "<svg" ++ attributes ++ codes ">\n" ++ title ++ codes "\n" ++ style ++ codes "\n" ++ figures ++ codes "</svg>\n"
+    ≡ codes "<svg" ++ attributes ++ codes ">" ++ (codes "\n" ++ (title ++ (codes "\n" ++ (style ++ (codes "\n" ++ figures)))))
+    ++ codes "</svg>" ++ codes "\n"
 whole_is attributes title style figures = grind (arith, common_steps)
 
-pub document : (width height : ℕ) (title style figures : List ℕ) → IsContent figures → IsDocument (drawing_start width height title style ++ figures ++ drawing_end)
+pub document : (width height : ℕ) (title style figures : List ℕ) → IsContent figures
+    → IsDocument (drawing_start width height title style ++ figures ++ drawing_end)
 document width height title style figures h = record {
   name = codes "svg";
   attributes = root width height;
@@ -117,5 +145,7 @@ document width height title style figures h = record {
   well_formed = inside_content title style figures h;
   is =
       whole_is (root_text width height) (text_element (codes "title") title) (text_element (codes "style") style) figures
-      ∙ ap (λ (attributes : List ℕ). codes "<svg" ++ attributes ++ codes ">" ++ inside title style figures ++ codes "</svg>" ++ codes "\n") (root_is width height);
+      ∙ ap
+      (λ (attributes : List ℕ). codes "<svg" ++ attributes ++ codes ">" ++ inside title style figures ++ codes "</svg>" ++ codes "\n")
+      (root_is width height);
 }

@@ -1,5 +1,6 @@
 -- Texts that are written as they are.
-use Rattle.std.proofs.Common.{◌≡◌, ℕ, zero, suc, ◌+◌, ◌%◌, ◌<◌, ◌≤◌, ◌^◌, Bool, true, false, ◌&&◌, nat_lt, List, [], ◌∷◌, ◌++◌, Option, None, Some, is_none, refl, ap, ◌∙◌, arith, codes, decimal, encode_utf8}
+use Rattle.std.proofs.Common.{◌≡◌, ℕ, zero, suc, ◌+◌, ◌%◌, ◌<◌, ◌≤◌, ◌^◌, Bool, true, false, ◌&&◌, nat_lt, List, []}
+use Rattle.std.proofs.Common.{◌∷◌, ◌++◌, Option, None, Some, is_none, refl, ap, ◌∙◌, arith, codes, decimal, encode_utf8}
 use Rattle.std.specs.List.{flat_map, list_all}
 use Rattle.std.specs.Str.{IsAscii}
 use Rattle.std.proofs.lemmas.Bool.Decides.{nat_tests}
@@ -56,17 +57,8 @@ unfolding escaped_text
 plain_text bytes h = ap (flat_map escaped) (chars-IsAscii bytes (all_ascii bytes h)) ∙ all_escaped bytes h
 
 digit_itself : (d : ℕ) → d < 10 → is_itself (48 + d) ≡ true
-digit_itself zero h = refl
-digit_itself (suc zero) h = refl
-digit_itself (suc (suc zero)) h = refl
-digit_itself (suc (suc (suc zero))) h = refl
-digit_itself (suc (suc (suc (suc zero)))) h = refl
-digit_itself (suc (suc (suc (suc (suc zero))))) h = refl
-digit_itself (suc (suc (suc (suc (suc (suc zero)))))) h = refl
-digit_itself (suc (suc (suc (suc (suc (suc (suc zero))))))) h = refl
-digit_itself (suc (suc (suc (suc (suc (suc (suc (suc zero)))))))) h = refl
-digit_itself (suc (suc (suc (suc (suc (suc (suc (suc (suc zero))))))))) h = refl
 digit_itself (suc (suc (suc (suc (suc (suc (suc (suc (suc (suc d)))))))))) h = absurd (omega arith)
+digit_itself _ h = refl
 
 pub decimal_itself : (n : ℕ) → n < 2 ^ 64 → list_all is_itself (decimal n) ≡ true
 decimal_itself n h =
@@ -74,7 +66,8 @@ decimal_itself n h =
     (λ (n : ℕ) (low : n < 10). ap (λ (b : Bool). b && true) (digit_itself n low))
     (λ (n : ℕ) (ds : List ℕ) (low : 10 ≤ n) (rest : list_all is_itself ds ≡ true).
     let small : n % 10 < 10 = omega arith in
-    list_all-append is_itself ds ((48 + n % 10) ∷ []) ∙ ap (λ (b : Bool). b && list_all is_itself ((48 + n % 10) ∷ [])) rest ∙ ap (λ (b : Bool). b && true) (digit_itself (n % 10) small))
+    list_all-append is_itself ds ((48 + n % 10) ∷ []) ∙ ap (λ (b : Bool). b && list_all is_itself ((48 + n % 10) ∷ [])) rest
+    ∙ ap (λ (b : Bool). b && true) (digit_itself (n % 10) small))
     n h
 
 pub plain_decimal : (n : ℕ) → n < 2 ^ 64 → escaped_text (decimal n) ≡ decimal n

@@ -1,5 +1,6 @@
 -- What is written of a text, in characters, and what a reader makes of that.
-use Rattle.std.proofs.Common.{◌≡◌, ℕ, Bool, true, false, eqb, cond, ◌&&◌, inl, inr, List, [], ◌∷◌, ◌++◌, map, codes, Option, None, Some, encode_utf8, refl, sym, ap, subst, ◌∙◌, arith}
+use Rattle.std.proofs.Common.{◌≡◌, ℕ, Bool, true, false, eqb, cond, ◌&&◌, inl, inr, List, [], ◌∷◌, ◌++◌}
+use Rattle.std.proofs.Common.{map, codes, Option, None, Some, encode_utf8, refl, sym, ap, subst, ◌∙◌, arith}
 use Rattle.std.specs.List.{flat_map}
 use Rattle.std.specs.Str.{chars, encode_utf8_all, all_scalars}
 use Rattle.std.proofs.lemmas.Bool.{cases_Bool, cond-true, cond-false}
@@ -17,7 +18,8 @@ pub record Works (c : ℕ) (name : List ℕ) : Type 0 where
   pub seen_so : seen c ≡ c
   pub read : (rest : List ℕ) → read_on (name ++ rest) None ≡ c ∷ read_on rest None
 
-one : (k : ℕ) (x : List ℕ) (others : Option (List ℕ)) (c : ℕ) (name : List ℕ) → Works k x → (others ≡ Some name → Works c name) → cond (eqb c k) (Some x) others ≡ Some name → Works c name
+one : (k : ℕ) (x : List ℕ) (others : Option (List ℕ)) (c : ℕ) (name : List ℕ) → Works k x
+    → (others ≡ Some name → Works c name) → cond (eqb c k) (Some x) others ≡ Some name → Works c name
 one k x others c name w f h =
     elim (eqb_tells c k) [
       | inl t ↦ (let same : x ≡ name = cc (sym (cond-true (eqb c k) (Some x) others t.0) ∙ h) in
@@ -78,7 +80,8 @@ scalars-append : (xs ys : List ℕ) → all_scalars xs ≡ true → all_scalars 
 scalars-append [] ys h k = k
 scalars-append (x ∷ xs) ys h k =
     elim (cases_Bool (scalar x)) [
-      | inl t ↦ ap (λ (b : Bool). b && all_scalars (xs ++ ys)) t ∙ scalars-append xs ys (sym (ap (λ (b : Bool). b && all_scalars xs) t) ∙ h) k
+      | inl t ↦
+          ap (λ (b : Bool). b && all_scalars (xs ++ ys)) t ∙ scalars-append xs ys (sym (ap (λ (b : Bool). b && all_scalars xs) t) ∙ h) k
       | inr f ↦ (let no : false ≡ true = sym (ap (λ (b : Bool). b && all_scalars xs) f) ∙ h in cc)
     ]
 
@@ -115,8 +118,10 @@ no_and c h =
       | inr f ↦ f
     ]
 
-read_by : (o : Option (List ℕ)) (c : ℕ) (rest : List ℕ) → reference_to c ≡ o → read_on (by_marks o c ++ rest) None ≡ seen c ∷ read_on rest None
-read_by None c rest h = cond-false (eqb (seen c) 38) (read_on rest (Some [])) (seen c ∷ read_on rest None) (no_and (seen c) (seen_no_mark c h))
+read_by : (o : Option (List ℕ)) (c : ℕ) (rest : List ℕ) → reference_to c ≡ o
+    → read_on (by_marks o c ++ rest) None ≡ seen c ∷ read_on rest None
+read_by None c rest h =
+    cond-false (eqb (seen c) 38) (read_on rest (Some [])) (seen c ∷ read_on rest None) (no_and (seen c) (seen_no_mark c h))
 read_by (Some name) c rest h = (all_work c name h).read rest ∙ ap (λ (d : ℕ). d ∷ read_on rest None) (sym (all_work c name h).seen_so)
 
 read_marks : (cs : List ℕ) → read_text (flat_map marks cs) ≡ map seen cs

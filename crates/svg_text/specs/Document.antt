@@ -11,7 +11,8 @@ area width height = codes "0 0 " ++ decimal width ++ codes " " ++ decimal height
 unfoldable pub root_text : (width height : ℕ) → List ℕ
 root_text width height =
     attribute_text (codes "xmlns", codes "http://www.w3.org/2000/svg") ++ attribute_text (codes "width", decimal width)
-    ++ attribute_text (codes "height", decimal height) ++ attribute_text (codes "viewBox", area width height) ++ attribute_text (codes "role", codes "img")
+    ++ attribute_text (codes "height", decimal height) ++ attribute_text (codes "viewBox", area width height)
+    ++ attribute_text (codes "role", codes "img")
 
 -- the root's start, its title, and its style in CSS
 abbrev pub drawing_start : (width height : ℕ) → (title style : List ℕ) → List ℕ

@@ -23,7 +23,9 @@ place_text x y at = attribute_text (x, decimal at.x) ++ attribute_text (y, decim
 
 -- with round corners
 unfoldable pub size_text : (width height : ℕ) → List ℕ
-size_text width height = attribute_text (codes "width", decimal width) ++ attribute_text (codes "height", decimal height) ++ attribute_text (codes "rx", codes "6")
+size_text width height =
+    attribute_text (codes "width", decimal width) ++ attribute_text (codes "height", decimal height)
+    ++ attribute_text (codes "rx", codes "6")
 
 abbrev pub a_line : (class : List ℕ) → (from to : Point) → (tooltip : List ℕ) → List ℕ
 a_line class from to tooltip =
@@ -32,7 +34,8 @@ a_line class from to tooltip =
 
 abbrev pub some_words : (class : List ℕ) → Point → (words tooltip : List ℕ) → List ℕ
 some_words class at words tooltip =
-    codes "<text" ++ class_text class ++ place_text (codes "x") (codes "y") at ++ codes ">" ++ escaped_text words ++ titled tooltip ++ codes "</text>\n"
+    codes "<text" ++ class_text class ++ place_text (codes "x") (codes "y") at ++ codes ">" ++ escaped_text words
+    ++ titled tooltip ++ codes "</text>\n"
 
 abbrev pub a_box : (class : List ℕ) → (corner : Point) → (width height : ℕ) → List ℕ
 a_box class corner width height =

@@ -50,7 +50,8 @@ pub data IsContent : List ℕ → Type 0 where
   nothing : IsContent []
   line_break : IsContent (codes "\n")
   text : (words : List ℕ) → IsContent (escaped_text words)
-  whole : (name : List ℕ) (attributes : List (List ℕ × List ℕ)) (inner : List ℕ) → AreTagged name attributes → IsContent inner → IsContent (element name attributes inner)
+  whole : (name : List ℕ) (attributes : List (List ℕ × List ℕ)) (inner : List ℕ) → AreTagged name attributes → IsContent inner
+      → IsContent (element name attributes inner)
   beside : (first others : List ℕ) → IsContent first → IsContent others → IsContent (first ++ others)
 
 -- a text goes on with such content

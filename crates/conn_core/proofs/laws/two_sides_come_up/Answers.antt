@@ -28,7 +28,8 @@ returns c = meets
     right : (own peer : List ℕ) (challenge : ℕ) → own ≡ peer → is_answered own challenge (digest_of peer challenge) ≡ true
     right own peer challenge e = rw e (c.right_peers_pass.ensures.answered peer challenge)
 
-    meets : (dialing accepting : Identity) (count challenge word : ℕ) → CanConnect dialing → CanConnect accepting → dialing.cookie ≡ accepting.cookie → challenge < 2 ^ 32 → word < 2 ^ 32 →
+    meets : (dialing accepting : Identity) (count challenge word : ℕ) → CanConnect dialing → CanConnect accepting
+        → dialing.cookie ≡ accepting.cookie → challenge < 2 ^ 32 → word < 2 ^ 32 →
         Meeting dialing accepting count challenge word (Up accepting.creation) (Up dialing.creation)
     meets dialing accepting count challenge word d a e small fresh =
         let name = send_name dialing in
@@ -45,7 +46,8 @@ returns c = meets
           acknowledgement = ack;
           hears_name = record {
             len = length (written name);
-            due = inl (name, length (written name), at role.Acceptor name refl d.fits, rw (welcome dialing.name dialing.flags d.offers) refl);
+            due =
+                inl (name, length (written name), at role.Acceptor name refl d.fits, rw (welcome dialing.name dialing.flags d.offers) refl);
           };
           hears_status = record {
             len = length (written (Status status.Ok));
@@ -53,14 +55,29 @@ returns c = meets
           };
           hears_challenge = record {
             len = length (written asks);
-            due = inl (asks, length (written asks), at role.Dialer asks refl (a.fits.0, fresh, a.fits.1, a.fits.2), rw (welcome accepting.name accepting.flags a.offers) refl);
+            due = inl (
+              asks,
+              length (written asks),
+              at role.Dialer asks refl (a.fits.0, fresh, a.fits.1, a.fits.2),
+              rw (welcome accepting.name accepting.flags a.offers) refl,
+            );
           };
           hears_reply = record {
             len = length (written reply);
-            due = inl (reply, length (written reply), at role.Acceptor reply tt (small, digest dialing.cookie word), rw (right accepting.cookie dialing.cookie word (sym e)) refl);
+            due = inl (
+              reply,
+              length (written reply),
+              at role.Acceptor reply tt (small, digest dialing.cookie word),
+              rw (right accepting.cookie dialing.cookie word (sym e)) refl,
+            );
           };
           hears_acknowledgement = record {
             len = length (written ack);
-            due = inl (ack, length (written ack), at role.Dialer ack tt (digest accepting.cookie challenge), rw (right dialing.cookie accepting.cookie challenge e) refl);
+            due = inl (
+              ack,
+              length (written ack),
+              at role.Dialer ack tt (digest accepting.cookie challenge),
+              rw (right dialing.cookie accepting.cookie challenge e) refl,
+            );
           };
         }

@@ -2,7 +2,10 @@ use Rattle.erl_control.proofs.Answered.{no_row, message_read}
 use Rattle.erl_control.proofs.control.fault_of.Goals as goal
 
 pub returns-in_default-send_term_at : goal.returns-in_default-send_term_at
-returns-in_default-send_term_at c = let d = c.in_default.ensures.ok in no_row c.args.text.now d.0 c.in_default.field-0 c.requires c.in_default-send_term_at.ensures d.1
+returns-in_default-send_term_at c =
+    let d = c.in_default.ensures.ok in no_row c.args.text.now d.0 c.in_default.field-0 c.requires c.in_default-send_term_at.ensures d.1
 
 pub returns-in-Ok : goal.returns-in-Ok
-returns-in-Ok c = let d = c.in-Ok.ensures.ok in absurd (message_read c.args.text.now (c.in-Some.field-0-0, c.in-Some.message) d.0 c.in-Ok.field-0 c.requires c.in-Some.ensures d.1)
+returns-in-Ok c =
+    let d = c.in-Ok.ensures.ok in
+    absurd (message_read c.args.text.now (c.in-Some.field-0-0, c.in-Some.message) d.0 c.in-Ok.field-0 c.requires c.in-Some.ensures d.1)

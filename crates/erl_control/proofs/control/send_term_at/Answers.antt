@@ -6,7 +6,11 @@ pub returns-in_err-head : goal.returns-in_err-head
 returns-in_err-head c = rw c.from_residual.ensures (no_send_head c.args.text.now c.in_err-head.ensures)
 
 pub returns-then-head-ne3 : goal.returns-then-head-ne3
-returns-then-head-ne3 c = no_send c.args.text.now c.in_ok-head.head.arity c.in_ok-head.head.levels c.in_ok-head.tag c.in_ok-head.fields c.in_ok-head.ensures (λ p q. elim c.then-head-ne3.either [ inl f ↦ f p | inr g ↦ g.1 q ])
+returns-then-head-ne3 c =
+    no_send c.args.text.now c.in_ok-head.head.arity c.in_ok-head.head.levels c.in_ok-head.tag c.in_ok-head.fields c.in_ok-head.ensures
+    (λ p q. elim c.then-head-ne3.either [ inl f ↦ f p | inr g ↦ g.1 q ])
 
 pub returns : goal.returns
-returns c = send_read c.args.text.now c.in_ok-head.head.arity c.in_ok-head.head.levels c.in_ok-head.tag c.in_ok-head.fields c.send_at.result c.if-head-ne3.false c.if-tag-ne2.false c.in_ok-head.ensures c.send_at.ensures
+returns c =
+    send_read c.args.text.now c.in_ok-head.head.arity c.in_ok-head.head.levels c.in_ok-head.tag c.in_ok-head.fields
+    c.send_at.result c.if-head-ne3.false c.if-tag-ne2.false c.in_ok-head.ensures c.send_at.ensures

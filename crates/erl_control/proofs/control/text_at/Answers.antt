@@ -6,10 +6,18 @@ pub returns-in_err-head : goal.returns-in_err-head
 returns-in_err-head c = rw c.from_residual.ensures (no_head c.args.text.now c.in_err-head.ensures)
 
 pub returns-in_err-signal : goal.returns-in_err-signal
-returns-in_err-signal c = rw c.from_residual-in_err-signal.ensures (no_fields c.args.text.now c.in_ok-head.head.arity c.in_ok-head.head.levels c.in_ok-head.tag c.in_ok-head.fields c.in_ok-head.ensures c.in_err-signal.ensures)
+returns-in_err-signal c =
+    rw c.from_residual-in_err-signal.ensures (no_fields c.args.text.now c.in_ok-head.head.arity c.in_ok-head.head.levels
+    c.in_ok-head.tag c.in_ok-head.fields c.in_ok-head.ensures c.in_err-signal.ensures)
 
 pub returns-then-arity-head : goal.returns-then-arity-head
-returns-then-arity-head c = other_arity c.args.text.now c.in_ok-head.head.arity c.in_ok-head.head.levels c.in_ok-head.tag c.in_ok-head.fields (c.in_ok-signal.signal, c.in_ok-signal.rest) c.in_ok-head.ensures c.in_ok-signal.ensures (λ e. c.if-arity-head.true (c.arity.ensures ∙ e))
+returns-then-arity-head c =
+    other_arity c.args.text.now c.in_ok-head.head.arity c.in_ok-head.head.levels c.in_ok-head.tag c.in_ok-head.fields
+    (c.in_ok-signal.signal, c.in_ok-signal.rest) c.in_ok-head.ensures c.in_ok-signal.ensures
+    (λ e. c.if-arity-head.true (c.arity.ensures ∙ e))
 
 pub returns : goal.returns
-returns c = some_text c.args.text.now c.in_ok-head.head.arity c.in_ok-head.head.levels c.in_ok-head.tag c.in_ok-head.fields (c.in_ok-signal.signal, c.in_ok-signal.rest) c.in_ok-head.ensures c.in_ok-signal.ensures (sym c.arity.ensures ∙ c.if-arity-head.false)
+returns c =
+    some_text c.args.text.now c.in_ok-head.head.arity c.in_ok-head.head.levels c.in_ok-head.tag c.in_ok-head.fields
+    (c.in_ok-signal.signal, c.in_ok-signal.rest) c.in_ok-head.ensures c.in_ok-signal.ensures
+    (sym c.arity.ensures ∙ c.if-arity-head.false)

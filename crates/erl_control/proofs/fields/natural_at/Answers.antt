@@ -17,4 +17,5 @@ returns-in-Ok c =
 pub returns-in-Err : goal.returns-in-Err
 returns-in-Err c =
     let fits : FitsSigned w128 c.in_ok-n.n = search rules in
-    natural_none c.args.levels c.args.bytes.now (c.in_ok-n.n, c.in_ok-n.rest) c.in_ok-n.ensures (no_natural c.in_ok-n.n _ (to_z-of_z w128 c.in_ok-n.n fits) c.in-Err.ensures)
+    natural_none c.args.levels c.args.bytes.now (c.in_ok-n.n, c.in_ok-n.rest) c.in_ok-n.ensures
+    (no_natural c.in_ok-n.n _ (to_z-of_z w128 c.in_ok-n.n fits) c.in-Err.ensures)

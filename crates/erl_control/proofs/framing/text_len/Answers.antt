@@ -15,4 +15,6 @@ returns-in_ok-len-in-Send-clause-len c =
     rw c.in-Send.is (omega arith)
 
 pub returns-in_ok-len-in-Send-clause-in_range : goal.returns-in_ok-len-in-Send-clause-in_range
-returns-in_ok-len-in-Send-clause-in_range c = subst (λ s. IsInRange (control_term (atom []) (signal_of s))) (sym c.in-Send.is) (send_in_range c.in-Send.to.now c.in-Send.message.now c.pid_len-in-Send.ensures.in_range)
+returns-in_ok-len-in-Send-clause-in_range c =
+    subst (λ s. IsInRange (control_term (atom []) (signal_of s))) (sym c.in-Send.is)
+    (send_in_range c.in-Send.to.now c.in-Send.message.now c.pid_len-in-Send.ensures.in_range)

@@ -14,8 +14,12 @@ no_memory e q = let same : e ≡ OutOfMemory = cc in rw same refl
 pub returns-in_err-made-clause-memory : goal.returns-in_err-made-clause-memory
 returns-in_err-made-clause-memory c = λ q.
     let p = err_from_is_err_and c.from_residual-in_err-made.result c.from_residual-in_err-made.ensures.1 in
-    let m = c.in_err-made.ensures.memory (no_memory c.in_err-made.field-0.0 (rw (p.1, p.2) at q)) in
-    (m.0, length c.in-Some.body.now + 4, item_due c.args.bytes.now c.in-Some.body.now (Signal m.0) (rw c.in-Some.is at c.in_ok-body.ensures.some) m.1)
+    let m = c.in_err-made.ensures.memory (no_memory c.in_err-made.field-0.0 (rw (p.1, p.2) at q)) in (
+      m.0,
+      length c.in-Some.body.now + 4,
+      item_due c.args.bytes.now c.in-Some.body.now (Signal m.0) (rw c.in-Some.is at c.in_ok-body.ensures.some) m.1,
+    )
 
 pub returns-clause-ok : goal.returns-clause-ok
-returns-clause-ok c = item_due c.args.bytes.now c.in-Some.body.now c.in_ok-made.made (rw c.in-Some.is at c.in_ok-body.ensures.some) c.in_ok-made.ensures.ok
+returns-clause-ok c =
+    item_due c.args.bytes.now c.in-Some.body.now c.in_ok-made.made (rw c.in-Some.is at c.in_ok-body.ensures.some) c.in_ok-made.ensures.ok

@@ -5,7 +5,8 @@ use Rattle.erl_handshake.proofs.Bodies.{no_name, no_text}
 use Rattle.erl_handshake.proofs.fields.name_of.Goals as goal
 
 pub returns-in_default-from_utf8 : goal.returns-in_default-from_utf8
-returns-in_default-from_utf8 c = inl (refl, λ name n. no_text c.args.bytes.now c.in-Some.text.now name c.in-Some.ensures c.in_default-from_utf8.ensures.cases.0 n)
+returns-in_default-from_utf8 c =
+    inl (refl, λ name n. no_text c.args.bytes.now c.in-Some.text.now name c.in-Some.ensures c.in_default-from_utf8.ensures.cases.0 n)
 
 pub returns-in-Err-BadName : goal.returns-in-Err-BadName
 returns-in-Err-BadName c =
@@ -13,5 +14,6 @@ returns-in-Err-BadName c =
       refl,
       λ name n.
           no_name c.args.bytes.now c.in-Some.text.now name c.in-Some.ensures
-          (λ k. c.in-Err-BadName.ensures.bad (ap (λ (e : Refusal). Err e) c.in-Err-BadName.field-0-is) (subst IsNodeName (sym c.in-Ok.ensures.cases.0) k)) n,
+          (λ k. c.in-Err-BadName.ensures.bad (ap (λ (e : Refusal). Err e) c.in-Err-BadName.field-0-is)
+          (subst IsNodeName (sym c.in-Ok.ensures.cases.0) k)) n,
     )

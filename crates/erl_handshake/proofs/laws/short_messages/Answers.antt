@@ -8,12 +8,7 @@ use Rattle.erl_handshake.proofs.laws.short_messages.Goals as goal
 
 at_status : (s : TheStatus) → length (status_text s) ≤ 15
 at_status status.Ok = omega arith
-at_status status.OkSimultaneous = omega arith
-at_status status.Nok = omega arith
-at_status status.NotAllowed = omega arith
-at_status status.Alive = omega arith
-at_status status.True = omega arith
-at_status status.False = omega arith
+at_status _ = omega arith
 
 at : (message : ShakeMsg) → HasFields message → length (written message) ≤ 85
 at (SendName flags creation name) h = let s = h.2.short in omega arith

@@ -16,5 +16,8 @@ returns-in_err-name c =
     rw (p.1, p.2)
     (decides_err (BeginsWithName x.bytes.now) (λ m. IsBody Dialer m (78 ∷ c.args.bytes.now)) c.in_err-name.field-0.0
     (challenge_named x.flags x.challenge x.creation x.bytes.now c.args.bytes.now f.0 f.1 f.2 f.3)
-    (λ name n. (Challenge x.flags x.challenge x.creation name, challenge_body x.flags x.challenge x.creation name x.bytes.now c.args.bytes.now f.0 f.1 f.2 n f.3))
+    (λ name n. (
+      Challenge x.flags x.challenge x.creation name,
+      challenge_body x.flags x.challenge x.creation name x.bytes.now c.args.bytes.now f.0 f.1 f.2 n f.3,
+    ))
     c.in_err-name.ensures)

@@ -9,12 +9,17 @@ n_body body letter bytes e f = e ∙ ap (λ (k : ℕ). k ∷ bytes) f
 pub returns-then-letter-ne78 : goal.returns-then-letter-ne78
 returns-then-letter-ne78 c =
     let b = c.in-Some.ensures.cases in
-    rw (c.ok_or.ensures.value, b.0) (decides_option c.args.role (c.in-Some.letter.now ∷ c.in-Some.bytes.now) c.nameless_of.result c.nameless_of.ensures)
+    rw (c.ok_or.ensures.value, b.0)
+    (decides_option c.args.role (c.in-Some.letter.now ∷ c.in-Some.bytes.now) c.nameless_of.result c.nameless_of.ensures)
 
 pub returns-in-Acceptor : goal.returns-in-Acceptor
 returns-in-Acceptor c =
-    rw (c.in-Acceptor.is, n_body c.args.body.now c.in-Some.letter.now c.in-Some.bytes.now c.in-Some.ensures.cases.0 c.if-letter-ne78.false) c.send_name_of.ensures
+    rw
+    (c.in-Acceptor.is, n_body c.args.body.now c.in-Some.letter.now c.in-Some.bytes.now c.in-Some.ensures.cases.0 c.if-letter-ne78.false)
+    c.send_name_of.ensures
 
 pub returns-in-Dialer : goal.returns-in-Dialer
 returns-in-Dialer c =
-    rw (c.in-Dialer.is, n_body c.args.body.now c.in-Some.letter.now c.in-Some.bytes.now c.in-Some.ensures.cases.0 c.if-letter-ne78.false) c.challenge_of.ensures
+    rw
+    (c.in-Dialer.is, n_body c.args.body.now c.in-Some.letter.now c.in-Some.bytes.now c.in-Some.ensures.cases.0 c.if-letter-ne78.false)
+    c.challenge_of.ensures

@@ -15,5 +15,8 @@ returns-in_err-name c =
     rw (p.1, p.2)
     (decides_err (BeginsWithName c.in-Some.bytes.now) (λ m. IsBody Acceptor m (78 ∷ c.args.bytes.now)) c.in_err-name.field-0.0
     (send_name_named c.in-Some.flags c.in-Some.creation c.in-Some.bytes.now c.args.bytes.now f.0 f.1 f.2)
-    (λ name n. (SendName c.in-Some.flags c.in-Some.creation name, send_name_body c.in-Some.flags c.in-Some.creation name c.in-Some.bytes.now c.args.bytes.now f.0 f.1 n f.2))
+    (λ name n. (
+      SendName c.in-Some.flags c.in-Some.creation name,
+      send_name_body c.in-Some.flags c.in-Some.creation name c.in-Some.bytes.now c.args.bytes.now f.0 f.1 n f.2,
+    ))
     c.in_err-name.ensures)

@@ -15,10 +15,19 @@ pub returns-clause-dialer : goal.returns-clause-dialer
 unfolding Answered
 returns-clause-dialer c = λ own peer count challenge theirs f g e.
     let passes = c.right_peers_pass.ensures in
-    rw (passes.introduced own.name own.flags f, passes.introduced peer.name peer.flags g, right passes.answered peer.cookie own.cookie theirs (sym e), right passes.answered own.cookie peer.cookie challenge e) refl
+    rw (
+      passes.introduced own.name own.flags f,
+      passes.introduced peer.name peer.flags g,
+      right passes.answered peer.cookie own.cookie theirs (sym e),
+      right passes.answered own.cookie peer.cookie challenge e,
+    ) refl
 
 pub returns-clause-acceptor : goal.returns-clause-acceptor
 unfolding Answered
 returns-clause-acceptor c = λ own peer count challenge theirs f g e.
     let passes = c.right_peers_pass.ensures in
-    rw (passes.introduced own.name own.flags f, passes.introduced peer.name peer.flags g, right passes.answered peer.cookie own.cookie theirs (sym e)) refl
+    rw (
+      passes.introduced own.name own.flags f,
+      passes.introduced peer.name peer.flags g,
+      right passes.answered peer.cookie own.cookie theirs (sym e),
+    ) refl

@@ -7,5 +7,7 @@ use Rattle.erl_names.proofs.name.is_host.Goals as goal
 
 pub returns-then-not-is_empty-clause-test : goal.returns-then-not-is_empty-clause-test
 returns-then-not-is_empty-clause-test c =
-    let all = all_from_yields_List is_host_byte _ _ c.all.result c.all.ensures.ran (YieldsList-from_slice _ c.iter.ensures.rest) (λ x b q k. search (rules, tests)) in
+    let all =
+    all_from_yields_List is_host_byte _ _ c.all.result c.all.ensures.ran (YieldsList-from_slice _ c.iter.ensures.rest)
+    (λ x b q k. search (rules, tests)) in
     word_test is_host_byte c.args.word.now c.all.result c.if-not-is_empty.ensures all

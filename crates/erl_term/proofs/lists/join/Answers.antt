@@ -6,7 +6,9 @@ use Rattle.erl_term.proofs.Joined.{joined_list, joined_other}
 use Rattle.erl_term.proofs.lists.join.Goals as goal
 
 pub returns-in_ok-append-in-List : goal.returns-in_ok-append-in-List
-returns-in_ok-append-in-List c = joined_list c.args.items.items c.append.new.self c.in-List.more c.in-List.tail c.args.tail _ c.in-List.is c.in_ok-append-in-List.ensures.items refl
+returns-in_ok-append-in-List c =
+    joined_list c.args.items.items c.append.new.self c.in-List.more c.in-List.tail c.args.tail _ c.in-List.is
+    c.in_ok-append-in-List.ensures.items refl
 
 pub returns-in_ok-new-in_default : goal.returns-in_ok-new-in_default
 returns-in_ok-new-in_default c =

@@ -10,17 +10,24 @@ use Rattle.erl_term.proofs.measuring.+range.Goals.{is_in_range-then-can_end, is_
 
 pub are_in_range-loop-item-preserved : goal.are_in_range-loop-item-preserved
 are_in_range-loop-item-preserved t c =
-    All-more (λ t. IsInRange (view t)) c.args.items.now c.loop-item.item-index c.item-item.result c.loop-item-test.true c.loop-item.invariant
+    All-more
+    (λ t. IsInRange (view t)) c.args.items.now c.loop-item.item-index c.item-item.result c.loop-item-test.true c.loop-item.invariant
     (subst (λ x. IsInRange (view x)) c.item-item.is (c.is_in_range.ensures.0 c.if-not-is_in_range.false))
 
 pub are_in_range-returns : goal.are_in_range-returns
-are_in_range-returns t c = (λ h. All-same (λ t. IsInRange (view t)) _ _ (sym (take_all c.loop-item.item-index c.args.items.now (omega arith))) c.loop-item.invariant, λ h. refl)
+are_in_range-returns t c = (
+  λ h.
+      All-same (λ t. IsInRange (view t)) _ _ (sym (take_all c.loop-item.item-index c.args.items.now (omega arith))) c.loop-item.invariant,
+  λ h. refl,
+)
 
 pub can_stand-returns-then-has_count : goal.can_stand-returns-then-has_count
-can_stand-returns-then-has_count t c = can_stand c.args.items.now c.are_in_range.result (c.has_count.ensures.0 c.if-has_count.true) c.are_in_range.ensures
+can_stand-returns-then-has_count t c =
+    can_stand c.args.items.now c.are_in_range.result (c.has_count.ensures.0 c.if-has_count.true) c.are_in_range.ensures
 
 pub can_stand-returns-else-has_count : goal.can_stand-returns-else-has_count
-can_stand-returns-else-has_count t c = rw c.if-has_count.false (cannot_stand c.args.items.now (λ lt. false≢true (sym c.if-has_count.false ∙ c.has_count.ensures.1 lt)))
+can_stand-returns-else-has_count t c =
+    rw c.if-has_count.false (cannot_stand c.args.items.now (λ lt. false≢true (sym c.if-has_count.false ∙ c.has_count.ensures.1 lt)))
 
 pub is_in_range-returns-then-can_stand : goal.is_in_range-returns-then-can_stand
 is_in_range-returns-then-can_stand t c =
@@ -43,7 +50,9 @@ is_in_range-returns-else-can_stand t c =
     rw (view-improper c.args.term.now a.items a.tail b.tail a.is b.is, c.if-can_stand.false)
     (elim c.if-can_end.branch [
       | is_in_range-then-can_end w ↦
-          improper_not_stand a.items.items (view b.tail.value) (λ h. false≢true (sym c.if-can_stand.false ∙ w.value-is ∙ w.can_stand-then-can_end.ensures.1 (rw w.deref-then-can_end.ensures.value h)))
+          improper_not_stand a.items.items (view b.tail.value) (λ h. false≢true
+          (sym c.if-can_stand.false ∙ w.value-is ∙ w.can_stand-then-can_end.ensures.1 (rw w.deref-then-can_end.ensures.value h)))
       | is_in_range-else-can_end w ↦
-          improper_not_end a.items.items (view b.tail.value) (λ h. false≢true (sym w.if-can_end.false ∙ c.can_end.ensures.1 (rw (c.deref-in-Some.ensures.value, c.deref-in-Some-2.ensures) h)))
+          improper_not_end a.items.items (view b.tail.value) (λ h.
+          false≢true (sym w.if-can_end.false ∙ c.can_end.ensures.1 (rw (c.deref-in-Some.ensures.value, c.deref-in-Some-2.ensures) h)))
     ])

@@ -10,4 +10,10 @@ returns-clause-len c =
     omega arith
 
 pub returns-clause-in_range : goal.returns-clause-in_range
-returns-clause-in_range c = record { node = c.text.ensures.fits; creation = c.are_words.ensures.id; some = c.have_words.ensures.some; few = c.have_words.ensures.few; words = c.have_words.ensures.words }
+returns-clause-in_range c = record {
+  node = c.text.ensures.fits;
+  creation = c.are_words.ensures.id;
+  some = c.have_words.ensures.some;
+  few = c.have_words.ensures.few;
+  words = c.have_words.ensures.words;
+}

@@ -10,4 +10,5 @@ returns-in_err-below t c =
 pub returns-in-Some : goal.returns-in-Some
 returns-in-Some t c =
     let more : c.args.levels ≡ suc c.in_ok-below.below = search rules in
-    passes_more c.args.levels c.in_ok-below.below c.args.bytes.now c.in-Some.tail.now c.pass_over.result more c.in-Some.ensures.cases.0 c.in-Some.ensures.cases.1 c.pass_over.ensures
+    passes_more c.args.levels c.in_ok-below.below c.args.bytes.now c.in-Some.tail.now c.pass_over.result more
+    c.in-Some.ensures.cases.0 c.in-Some.ensures.cases.1 c.pass_over.ensures

@@ -5,4 +5,6 @@ pub returns-in_err-bytes : goal.returns-in_err-bytes
 returns-in_err-bytes c = let p = c.in_err-bytes.ensures in rw c.from_residual.ensures (no_integer c.args.levels c.args.bytes.now p.0 p.1)
 
 pub returns : goal.returns
-returns c = integer_behind c.args.levels _ c.args.bytes.now c.in_ok-bytes.bytes.now c.own_integer_at.result c.in_ok-bytes.ensures c.own_integer_at.ensures
+returns c =
+    integer_behind c.args.levels _ c.args.bytes.now c.in_ok-bytes.bytes.now c.own_integer_at.result c.in_ok-bytes.ensures
+    c.own_integer_at.ensures

@@ -5,4 +5,5 @@ pub returns-in_err-bytes : goal.returns-in_err-bytes
 returns-in_err-bytes c = let p = c.in_err-bytes.ensures in rw c.from_residual.ensures (no_pid c.args.levels c.args.bytes.now p.0 p.1)
 
 pub returns : goal.returns
-returns c = pid_behind c.args.levels _ c.args.bytes.now c.in_ok-bytes.bytes.now c.own_pid_at.result c.in_ok-bytes.ensures c.own_pid_at.ensures
+returns c =
+    pid_behind c.args.levels _ c.args.bytes.now c.in_ok-bytes.bytes.now c.own_pid_at.result c.in_ok-bytes.ensures c.own_pid_at.ensures

@@ -7,7 +7,9 @@ use Rattle.erl_term.proofs.parts.words_of.Goals as goal
 pub returns-in_err-word : goal.returns-in_err-word
 returns-in_err-word c =
     let p = err_from_is_err_and c.from_residual.result c.from_residual.ensures.1 in
-    rw (p.1, p.2) (word_ends (take c.loop-i.i c.loop-i.words) c.args.count c.loop-i.i c.in_err-word.field-0.0 c.loop-i.rest.now (words_at c.args.count c.args.bytes.now) c.loop-i-test.true c.in_err-word.ensures c.loop-i.invariant.1)
+    rw (p.1, p.2) (word_ends
+    (take c.loop-i.i c.loop-i.words) c.args.count c.loop-i.i c.in_err-word.field-0.0 c.loop-i.rest.now
+    (words_at c.args.count c.args.bytes.now) c.loop-i-test.true c.in_err-word.ensures c.loop-i.invariant.1)
 
 pub loop-i-preserved : goal.loop-i-preserved
 loop-i-preserved c =
@@ -15,11 +17,13 @@ loop-i-preserved c =
     let few = c.requires.few in
     let lt = c.loop-i-test.true in (
       length-set c.loop-i.words c.loop-i.i c.in_ok-word.word ∙ len,
-      word_goes_on c.loop-i.words c.args.count c.loop-i.i c.in_ok-word.word c.loop-i.rest.now c.in_ok-word.after.now (words_at c.args.count c.args.bytes.now) lt (omega arith) c.in_ok-word.ensures c.loop-i.invariant.1,
+      word_goes_on c.loop-i.words c.args.count c.loop-i.i c.in_ok-word.word c.loop-i.rest.now c.in_ok-word.after.now
+          (words_at c.args.count c.args.bytes.now) lt (omega arith) c.in_ok-word.ensures c.loop-i.invariant.1,
     )
 
 pub returns : goal.returns
 returns c =
     let le = c.loop-i.auto.i-end in
     let ge = c.loop-i-test.false in
-    rw c.of.ensures (words_done c.loop-i.words c.args.count c.loop-i.i c.loop-i.rest.now (words_at c.args.count c.args.bytes.now) (omega arith) c.loop-i.invariant.1)
+    rw c.of.ensures (words_done c.loop-i.words c.args.count c.loop-i.i c.loop-i.rest.now
+    (words_at c.args.count c.args.bytes.now) (omega arith) c.loop-i.invariant.1)

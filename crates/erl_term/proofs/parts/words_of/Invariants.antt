@@ -4,4 +4,5 @@ use Rattle.erl_term.proofs.Loop.{with_words}
 use Rattle.erl_term.proofs.parts.words_of.Given as goal
 
 abbrev pub invariant-loop-i : goal.invariant-loop-i
-invariant-loop-i l = (length l.words ≡ 5) × (with_words (take l.i l.words) (words_at (l.fn.count - l.i) l.rest) ≡ words_at l.fn.count l.fn.bytes)
+invariant-loop-i l =
+    (length l.words ≡ 5) × (with_words (take l.i l.words) (words_at (l.fn.count - l.i) l.rest) ≡ words_at l.fn.count l.fn.bytes)

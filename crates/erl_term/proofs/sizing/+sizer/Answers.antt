@@ -4,17 +4,22 @@ use Rattle.erl_term.proofs.Measured.{measures_none, measures_more, measures_end,
 use Rattle.erl_term.proofs.sizing.+sizer.Goals as goal
 
 pub items_measure_at-loop-init : goal.items_measure_at-loop-init
-items_measure_at-loop-init t c = measures_none (term_at c.args.below) c.args.count c.args.bytes.now c.empty-items.result c.empty-items.ensures
+items_measure_at-loop-init t c =
+    measures_none (term_at c.args.below) c.args.count c.args.bytes.now c.empty-items.result c.empty-items.ensures
 
 pub items_measure_at-loop-preserved : goal.items_measure_at-loop-preserved
 items_measure_at-loop-preserved t c =
-    measures_more (term_at c.args.below) c.args.count c.args.bytes.now c.loop.counter c.loop.items c.loop.rest.now c.in_ok-item.item c.alone.result c.then-items.result c.in_ok-item.after.now
+    measures_more (term_at c.args.below) c.args.count c.args.bytes.now c.loop.counter c.loop.items c.loop.rest.now
+    c.in_ok-item.item c.alone.result c.then-items.result c.in_ok-item.after.now
     c.loop-test.true c.loop.invariant c.in_ok-item.ensures c.alone.ensures c.then-items.ensures
 
 pub items_measure_at-returns-in_err-item : goal.items_measure_at-returns-in_err-item
 items_measure_at-returns-in_err-item t c =
     let p = err_from_is_err_and c.from_residual.result c.from_residual.ensures.1 in
-    rw (p.1, p.2) (measures_end (term_at c.args.below) c.args.count c.args.bytes.now c.loop.counter c.loop.items c.loop.rest.now c.in_err-item.field-0.0 c.loop-test.true c.loop.invariant c.in_err-item.ensures)
+    rw (p.1, p.2) (measures_end (term_at c.args.below) c.args.count c.args.bytes.now c.loop.counter c.loop.items
+    c.loop.rest.now c.in_err-item.field-0.0 c.loop-test.true c.loop.invariant c.in_err-item.ensures)
 
 pub items_measure_at-returns : goal.items_measure_at-returns
-items_measure_at-returns t c = measures_all (term_at c.args.below) c.args.count c.args.bytes.now c.loop.counter c.loop.items c.loop.rest.now c.loop-test.false c.loop.invariant
+items_measure_at-returns t c =
+    measures_all
+    (term_at c.args.below) c.args.count c.args.bytes.now c.loop.counter c.loop.items c.loop.rest.now c.loop-test.false c.loop.invariant

@@ -15,8 +15,10 @@ returns-then-count-letters c =
     let count : c.count.result ≡ length (chars utf8) = search (rules, chars_from_encodes) in
     let same = same_from_all c.all.new.self _ c.all.result letters (chars utf8) c.all.ensures.ran
     (YieldsList-from_zip (YieldsList-from_slice letters (search rules)) (YieldsList-from_chars utf8 is_text (search rules)))
-    (omega arith) (λ x q k. search (rules, tests)) (λ x q k. search (rules, tests)) in
-    (λ e. ap latin_text (same.0 e) ∙ chars_latin utf8 is_text, λ e. same.1 (sym (latin_chars letters (λ i. omega (arith, c.type_inv.letters i))) ∙ ap chars e))
+    (omega arith) (λ x q k. search (rules, tests)) (λ x q k. search (rules, tests)) in (
+      λ e. ap latin_text (same.0 e) ∙ chars_latin utf8 is_text,
+      λ e. same.1 (sym (latin_chars letters (λ i. omega (arith, c.type_inv.letters i))) ∙ ap chars e),
+    )
 
 pub returns-else-count-letters : goal.returns-else-count-letters
 returns-else-count-letters c =
@@ -24,5 +26,7 @@ returns-else-count-letters c =
     let utf8 = c.args.utf8.now in
     let is_text : IsUtf8 utf8 = search rules in
     let count : c.count.result ≡ length (chars utf8) = search (rules, chars_from_encodes) in
-    let never = c.if-count-letters.false in
-    (λ e. absurd (never (eqb-true _ _ e)), λ e. absurd (never (count ∙ sym (ap length (sym (latin_chars letters (λ i. omega (arith, c.type_inv.letters i))) ∙ ap chars e)))))
+    let never = c.if-count-letters.false in (
+      λ e. absurd (never (eqb-true _ _ e)),
+      λ e. absurd (never (count ∙ sym (ap length (sym (latin_chars letters (λ i. omega (arith, c.type_inv.letters i))) ∙ ap chars e)))),
+    )

@@ -6,7 +6,8 @@ use Rattle.erl_term.specs.declared.term.Term.{Term, the_lemmas}
 use Rattle.erl_term.specs.Canonical.{canonical_head, canonical_term, IsInRange}
 use Rattle.erl_term.specs.View.{view}
 use Rattle.erl_term.proofs.Terms.{view-tuple, view-list, view-improper, items_range}
-use Rattle.erl_term.proofs.Lengths.{tuple_text, improper_text, text-nil, text-string, text-cells, length-tuple, length-list, length-string, length-improper, flat_item}
+use Rattle.erl_term.proofs.Lengths.{tuple_text, improper_text, text-nil, text-string, text-cells}
+use Rattle.erl_term.proofs.Lengths.{length-tuple, length-list, length-string, length-improper, flat_item}
 use Rattle.erl_term.proofs.Written.{two, behind_cells}
 use Rattle.erl_term.proofs.writing.+write.Goals as goal
 
@@ -28,7 +29,8 @@ write_tuple-write_items-requires t c = let l = length-tuple c.args.items.now in 
 
 pub write_tuple-returns-clause-items : goal.write_tuple-returns-clause-items
 write_tuple-returns-clause-items t c =
-    two _ _ _ (canonical_head (length c.args.items.now)) _ _ c.write_tuple_head.ensures.items (tuple_text c.args.items.now) c.write_items.ensures.items
+    two _ _ _ (canonical_head (length c.args.items.now)) _ _ c.write_tuple_head.ensures.items
+    (tuple_text c.args.items.now) c.write_items.ensures.items
 
 pub write_tuple-returns-clause-len : goal.write_tuple-returns-clause-len
 write_tuple-returns-clause-len t c = let l = length-tuple c.args.items.now in omega arith
@@ -92,7 +94,8 @@ pub write_list-returns-clause-items : goal.write_list-returns-clause-items
 write_list-returns-clause-items t c =
     let some = eqb-false (length c.args.items.now) 0 (sym c.is_empty.ensures ∙ c.if-is_empty.false) in
     let e = text-cells c.args.items.now (omega arith) (sym c.is_string.ensures ∙ c.if-is_string.false) in
-    rw e (behind_cells _ _ _ (108 ∷ big_bytes 4 (length c.args.items.now)) _ (106 ∷ []) c.write_cells.ensures.items c.write_byte-2.ensures.items)
+    rw e (behind_cells _ _ _ (108 ∷ big_bytes 4 (length c.args.items.now)) _
+    (106 ∷ []) c.write_cells.ensures.items c.write_byte-2.ensures.items)
 
 pub write_list-returns-clause-len : goal.write_list-returns-clause-len
 write_list-returns-clause-len t c =
@@ -149,5 +152,7 @@ write_items-write_term-requires t c =
     let i = c.loop-item.item-index in
     let x = c.item-item.result in
     let l = flat_item (λ t. canonical_term (view t)) items i x c.loop-item-test.true c.item-item.is in
-    let range : IsInRange (view x) = subst (λ (y : Term). IsInRange (view y)) (sym c.item-item.is) (All-get_or (λ t. IsInRange (view t)) items i x c.loop-item-test.true c.requires.items) in
+    let range : IsInRange (view x) =
+    subst (λ (y : Term). IsInRange (view y)) (sym c.item-item.is)
+    (All-get_or (λ t. IsInRange (view t)) items i x c.loop-item-test.true c.requires.items) in
     (search (rules, the_lemmas), (range, omega arith))

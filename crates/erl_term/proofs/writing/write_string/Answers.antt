@@ -15,7 +15,8 @@ loop-item-preserved c =
     let x = c.item-item.result in
     record {
       items = put_more _ _ _ (107 ∷ big_bytes 2 (length items)) _ _ _ _ c.write_byte-in-loop-item.ensures.items c.loop-item.invariant.items
-          (c.unwrap_or.ensures ∙ byte_got c.byte_in.result (view x) c.byte_in.ensures.some c.byte_in.ensures.byte (string_byte items i x c.loop-item-test.true c.item-item.is c.requires.string))
+          (c.unwrap_or.ensures ∙ byte_got c.byte_in.result (view x) c.byte_in.ensures.some c.byte_in.ensures.byte
+          (string_byte items i x c.loop-item-test.true c.item-item.is c.requires.string))
           (byte_more items i x c.loop-item-test.true c.item-item.is);
       len = omega arith;
       capacity = omega arith;

@@ -7,4 +7,6 @@ use Rattle.monitor_core.proofs.monitors.first_place.Goals as goal
 pub returns : goal.returns
 returns c =
     let passes = meets c.args.sought.now in
-    searched_from_front passes c.args.records.now _ (IsFirst-from_position _ _ _ (λ e. passes e.1 ≡ true) (λ e. passes e.1 ≡ false) c.position.ensures.ran (YieldsList-from_slice c.args.records.now cc) (λ x q k. search (rules, tests)) (λ x q k. search (rules, tests)))
+    searched_from_front passes c.args.records.now _ (IsFirst-from_position _ _ _ (λ e. passes e.1 ≡ true)
+    (λ e. passes e.1 ≡ false) c.position.ensures.ran (YieldsList-from_slice c.args.records.now cc)
+    (λ x q k. search (rules, tests)) (λ x q k. search (rules, tests)))

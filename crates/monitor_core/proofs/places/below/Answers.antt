@@ -8,4 +8,5 @@ returns c =
     let n = c.args.place in
     let gone = c.args.gone.now in
     sym (below_front n gone c.partition_point.result c.partition_point.ensures.bound
-    (IsPartitionPoint-from_clause (λ x. nat_lt x n) gone c.partition_point.result c.partition_point.ensures.partitioned (below_parts n gone c.requires) (λ a r f' k. search rules)))
+    (IsPartitionPoint-from_clause (λ x. nat_lt x n) gone c.partition_point.result c.partition_point.ensures.partitioned
+    (below_parts n gone c.requires) (λ a r f' k. search rules)))

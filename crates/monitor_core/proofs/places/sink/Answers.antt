@@ -12,4 +12,5 @@ loop-place-preserved c =
     let x = get_or ys i 0 in
     let within : i < length ys = omega (arith, c.loop-place.auto.places, c.loop-place-test.true) in
     let gives = c.saturating_sub.ensures ∙ ap (λ n. x - n) c.below.ensures in
-    ap (set ys i) gives ∙ map_over_more (sunk c.args.gone.now) xs ys i x c.loop-place-test.true c.loop-place.invariant (get_or_default ys i 0 x within)
+    ap (set ys i) gives
+    ∙ map_over_more (sunk c.args.gone.now) xs ys i x c.loop-place-test.true c.loop-place.invariant (get_or_default ys i 0 x within)

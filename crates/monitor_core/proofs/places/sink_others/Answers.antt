@@ -7,5 +7,6 @@ pub returns-then-index-len-clause-places : goal.returns-then-index-len-clause-pl
 returns-then-index-len-clause-places c =
     let xs = c.args.places.now.items in
     let last : get_or xs c.args.from 0 ≡ length xs - 1 =
-    get_or_default xs c.args.from 0 c.index.result.now (omega arith) ∙ sym c.index.ensures ∙ c.if-index-len.true ∙ omega (arith, c.len.ensures) in
+    get_or_default xs c.args.from 0 c.index.result.now (omega arith) ∙ sym c.index.ensures ∙ c.if-index-len.true
+    ∙ omega (arith, c.len.ensures) in
     last_alone xs c.args.from c.args.to c.if-from-to.true (omega arith) c.requires.within c.requires.gone last

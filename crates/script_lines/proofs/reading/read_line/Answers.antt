@@ -10,4 +10,5 @@ pub returns-in-Ok : goal.returns-in-Ok
 returns-in-Ok c = λ look knows.
     let is_text : IsUtf8 c.args.line.now = search rules in
     let same : c.in-Ok.text.now ≡ c.args.line.now = search rules in
-    reads_words c.args.may_come look c.args.line.now c.in-Ok.text.now c.read_words.result c.if-line-gt-LINE_LIMIT.false is_text same (c.read_words.ensures look knows)
+    reads_words c.args.may_come look c.args.line.now c.in-Ok.text.now c.read_words.result c.if-line-gt-LINE_LIMIT.false is_text same
+    (c.read_words.ensures look knows)

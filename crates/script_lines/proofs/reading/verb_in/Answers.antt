@@ -11,4 +11,5 @@ pub returns-in-Ok : goal.returns-in-Ok
 returns-in-Ok c =
     let is_text : IsUtf8 c.args.line.now = search rules in
     let same : c.in-Ok.text.now ≡ c.args.line.now = search rules in
-    c.named.ensures ∙ ap verb_named c.first_word.ensures.word ∙ verb_of_text c.args.line.now c.in-Ok.text.now c.if-line-gt-LINE_LIMIT.false is_text same
+    c.named.ensures ∙ ap verb_named c.first_word.ensures.word
+    ∙ verb_of_text c.args.line.now c.in-Ok.text.now c.if-line-gt-LINE_LIMIT.false is_text same

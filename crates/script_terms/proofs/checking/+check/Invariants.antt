@@ -27,9 +27,11 @@ decreases-check_cells l = 3 * l.brackets + 1
 abbrev pub invariant-check_elements-loop : goal.invariant-check_elements-loop
 invariant-check_elements-loop l = (look : Look) → Knows l.names look →
     (front : List Data)
-    × (with_front front (separated_at (term_at look l.brackets) 125 (length l.bytes - l.counter) l.rest) ≡ separated_at (term_at look l.brackets) 125 (length l.bytes) l.bytes)
+    × (with_front front (separated_at (term_at look l.brackets) 125 (length l.bytes - l.counter) l.rest)
+    ≡ separated_at (term_at look l.brackets) 125 (length l.bytes) l.bytes)
     × (l.row.fit ≡ nat_le (most_levels (items_of front)) l.brackets)
 
 abbrev pub invariant-check_cells-loop-index : goal.invariant-check_cells-loop-index
 invariant-check_cells-loop-index l =
-    (l.opened ≤ l.index) × ((look : Look) → Knows l.names look → ItemsRead (term_at look l.brackets) l.brackets l.bytes l.index l.opened l.rest l.row)
+    (l.opened ≤ l.index)
+    × ((look : Look) → Knows l.names look → ItemsRead (term_at look l.brackets) l.brackets l.bytes l.index l.opened l.rest l.row)

@@ -23,9 +23,11 @@ decreases-cells_of l = 3 * l.brackets + 1
 
 abbrev pub invariant-elements_of-loop : goal.invariant-elements_of-loop
 invariant-elements_of-loop l = (look : Look) → Knows l.names look →
-    with_front (map view l.elements.items) (separated_at (term_at look l.brackets) 125 (length l.bytes - l.counter) l.rest) ≡ separated_at (term_at look l.brackets) 125 (length l.bytes) l.bytes
+    with_front (map view l.elements.items) (separated_at (term_at look l.brackets) 125 (length l.bytes - l.counter) l.rest)
+    ≡ separated_at (term_at look l.brackets) 125 (length l.bytes) l.bytes
 
 abbrev pub invariant-cells_of-loop : goal.invariant-cells_of-loop
 invariant-cells_of-loop l =
     (l.opened ≤ l.counter) × ((look : Look) → Knows l.names look →
-    state (term_at look l.brackets) (items_view l.items.items) l.opened (length l.bytes) l.counter l.rest ≡ cells_at (term_at look l.brackets) (length l.bytes) l.bytes)
+    state (term_at look l.brackets) (items_view l.items.items) l.opened (length l.bytes) l.counter l.rest
+    ≡ cells_at (term_at look l.brackets) (length l.bytes) l.bytes)

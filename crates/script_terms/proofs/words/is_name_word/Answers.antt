@@ -7,5 +7,7 @@ use Rattle.script_terms.proofs.words.is_name_word.Goals as goal
 
 pub returns-then-is_ascii_lowercase : goal.returns-then-is_ascii_lowercase
 returns-then-is_ascii_lowercase c =
-    let rest = all_from_yields_List is_name_byte _ _ c.all.result c.all.ensures.ran (YieldsList-from_slice _ c.iter.ensures.rest) (λ x b q k. search (rules, tests)) in
+    let rest =
+    all_from_yields_List is_name_byte _ _ c.all.result c.all.ensures.ran (YieldsList-from_slice _ c.iter.ensures.rest)
+    (λ x b q k. search (rules, tests)) in
     rest ∙ sym (name_of_parts c.args.word.now c.in-len1-up.len_at_least (search (rules, tests)))

@@ -7,5 +7,7 @@ use Rattle.sorted_map.proofs.map.place.Goals as goal
 pub returns : goal.returns
 returns g c =
     let facts = c.binary_search_by.ensures in
-    let by_key = facts.position (λ entry. g.K.Ord.cmp entry.0 c.args.key.now) (always_returns_same _ _ _ (λ a r f' called. (search rules, search rules))) in
+    let by_key =
+    facts.position (λ entry. g.K.Ord.cmp entry.0 c.args.key.now)
+    (always_returns_same _ _ _ (λ a r f' called. (search rules, search rules))) in
     searched g.met.K.Ord.total c.args.entries.now c.args.key.now _ c.requires facts.bound by_key

@@ -7,7 +7,8 @@ use Rattle.term_vectors.proofs.vectors.respelled.Goals as goal
 
 pub returns-in-Err : goal.returns-in-Err
 returns-in-Err c =
-    IfOk-weaker c.fault.result _ _ (λ text known. error_answer IsRespelled _ _ c.in-Err.e (λ due d. c.in-Err.ensures.only due d known)) c.fault.ensures
+    IfOk-weaker c.fault.result _ _
+    (λ text known. error_answer IsRespelled _ _ c.in-Err.e (λ due d. c.in-Err.ensures.only due d known)) c.fault.ensures
 
 pub returns-then-taken-bytes : goal.returns-then-taken-bytes
 returns-then-taken-bytes c =
@@ -26,4 +27,5 @@ returns c =
     IfOk-weaker c.fault-in-Err-encode.result _ _ (λ text known.
     whole_answer IsRespelled _ _ _ c.in-Ok.ensures.only c.if-taken-bytes.false (λ writable.
     absurd (known (only_memory (view c.in-Ok.answer.0) c.in-Err-encode.e writable
-    (λ e. told.malformed.0 (ap Err e)) (λ e. told.too_deep.0 (ap Err e)) (λ e. told.too_long.0 (ap Err e)) told.memory)))) c.fault-in-Err-encode.ensures
+    (λ e. told.malformed.0 (ap Err e)) (λ e. told.too_deep.0 (ap Err e)) (λ e. told.too_long.0 (ap Err e)) told.memory))))
+    c.fault-in-Err-encode.ensures

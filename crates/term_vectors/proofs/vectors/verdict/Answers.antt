@@ -5,7 +5,8 @@ use Rattle.term_vectors.proofs.vectors.verdict.Goals as goal
 
 pub returns-in-Err : goal.returns-in-Err
 returns-in-Err c =
-    IfOk-weaker c.fault.result _ _ (λ text known. error_answer IsRead _ _ c.in-Err.e (λ due d. c.in-Err.ensures.only due d known)) c.fault.ensures
+    IfOk-weaker c.fault.result _ _
+    (λ text known. error_answer IsRead _ _ c.in-Err.e (λ due d. c.in-Err.ensures.only due d known)) c.fault.ensures
 
 pub returns-in-Ok : goal.returns-in-Ok
 returns-in-Ok c =

@@ -6,4 +6,5 @@ pub returns-in-Byte : goal.returns-in-Byte
 returns-in-Byte c = λ t e. alone_run t c.size-size.result true (c.size-size.ensures t e) (sym (size_byte t c.args.self e c.in-Byte.is).1)
 
 pub returns-in_default : goal.returns-in_default
-returns-in_default c = λ t e. alone_run t c.size-size.result false (c.size-size.ensures t e) (sym (no_byte t c.args.self e c.in_default.not-Byte))
+returns-in_default c =
+    λ t e. alone_run t c.size-size.result false (c.size-size.ensures t e) (sym (no_byte t c.args.self e c.in_default.not-Byte))

@@ -12,6 +12,10 @@ returns-then-self-lt65536 c = λ ts e. string_size ts c.args.self e (omega arith
 pub returns : goal.returns
 returns c = λ ts e.
     elim c.else-self.branch [
-      | else-self-via-then-self+else-self-lt65536 w ↦ many_items_size ts c.args.self c.saturating_add.result c.saturating_add-2.result e w.if-self-lt65536.false c.saturating_add.ensures c.saturating_add-2.ensures
-      | else-self-via-else-self w ↦ other_items_size ts c.args.self c.saturating_add.result c.saturating_add-2.result e (omega arith) w.if-self.false c.saturating_add.ensures c.saturating_add-2.ensures
+      | else-self-via-then-self+else-self-lt65536 w ↦
+          many_items_size ts c.args.self c.saturating_add.result c.saturating_add-2.result e w.if-self-lt65536.false
+          c.saturating_add.ensures c.saturating_add-2.ensures
+      | else-self-via-else-self w ↦
+          other_items_size ts c.args.self c.saturating_add.result c.saturating_add-2.result e
+          (omega arith) w.if-self.false c.saturating_add.ensures c.saturating_add-2.ensures
     ]

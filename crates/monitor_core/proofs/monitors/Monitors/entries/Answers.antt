@@ -5,4 +5,6 @@ use Rattle.monitor_core.specs.Monitors.{Sided}
 use Rattle.monitor_core.proofs.monitors.Monitors.entries.Goals as goal
 
 pub returns : goal.returns
-returns c = c.entries.ensures.entries ∙ sym (map.entries-from_sorted reference_cmp _ c.self.invariant.sorted) ∙ ap (λ (k : Sided). map.entries k.monitors) c.self.view_is
+returns c =
+    c.entries.ensures.entries ∙ sym (map.entries-from_sorted reference_cmp _ c.self.invariant.sorted)
+    ∙ ap (λ (k : Sided). map.entries k.monitors) c.self.view_is

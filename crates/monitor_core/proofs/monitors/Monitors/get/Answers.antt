@@ -5,4 +5,6 @@ use Rattle.monitor_core.proofs.Maps.{get_here}
 use Rattle.monitor_core.proofs.monitors.Monitors.get.Goals as goal
 
 pub returns : goal.returns
-returns c = c.get.ensures ∙ sym (get_here _ c.args.reference.now c.self.invariant.sorted) ∙ ap (λ (k : Sided). map.get k.monitors c.args.reference.now) c.self.view_is
+returns c =
+    c.get.ensures ∙ sym (get_here _ c.args.reference.now c.self.invariant.sorted)
+    ∙ ap (λ (k : Sided). map.get k.monitors c.args.reference.now) c.self.view_is

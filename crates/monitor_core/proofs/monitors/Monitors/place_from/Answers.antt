@@ -10,16 +10,22 @@ use Rattle.monitor_core.proofs.monitors.Monitors.place_from.Goals as goal
 
 pub returns-in_err-rest-clause-found : goal.returns-in_err-rest-clause-found
 returns-in_err-rest-clause-found c =
-    let here = c.entries.ensures.entries ∙ sym (map.entries-from_sorted reference_cmp _ c.self.invariant.sorted) ∙ ap (λ (k : Sided). map.entries k.monitors) c.self.view_is in
+    let here =
+    c.entries.ensures.entries ∙ sym (map.entries-from_sorted reference_cmp _ c.self.invariant.sorted)
+    ∙ ap (λ (k : Sided). map.entries k.monitors) c.self.view_is in
     let p = meets c.args.sought.now in
-    ap (at_place (map.entries c.args.self.now.monitors)) c.from_residual.ensures ∙ none_past p _ c.args.from (is_past _ _ c.in_err-rest.ensures.lookup.0) ∙ ap (λ l. found p (drop c.args.from l)) here
+    ap (at_place (map.entries c.args.self.now.monitors)) c.from_residual.ensures
+    ∙ none_past p _ c.args.from (is_past _ _ c.in_err-rest.ensures.lookup.0) ∙ ap (λ l. found p (drop c.args.from l)) here
 
 pub returns-in_err-at-clause-found : goal.returns-in_err-at-clause-found
 returns-in_err-at-clause-found c =
-    let here = c.entries.ensures.entries ∙ sym (map.entries-from_sorted reference_cmp _ c.self.invariant.sorted) ∙ ap (λ (k : Sided). map.entries k.monitors) c.self.view_is in
+    let here =
+    c.entries.ensures.entries ∙ sym (map.entries-from_sorted reference_cmp _ c.self.invariant.sorted)
+    ∙ ap (λ (k : Sided). map.entries k.monitors) c.self.view_is in
     let p = meets c.args.sought.now in
     let rest = is_rest c.args.from _ _ c.in_ok-rest.ensures.lookup.0.2 in
-    ap (at_place (map.entries c.args.self.now.monitors)) c.from_residual-in_err-at.ensures ∙ none_behind p _ _ c.args.from rest c.in_err-at.ensures.none ∙ ap (λ l. found p (drop c.args.from l)) here
+    ap (at_place (map.entries c.args.self.now.monitors)) c.from_residual-in_err-at.ensures
+    ∙ none_behind p _ _ c.args.from rest c.in_err-at.ensures.none ∙ ap (λ l. found p (drop c.args.from l)) here
 
 pub overflow_add-result : goal.overflow_add-result
 overflow_add-result c =
@@ -29,14 +35,22 @@ overflow_add-result c =
 
 pub returns-clause-found : goal.returns-clause-found
 returns-clause-found c =
-    let here = c.entries.ensures.entries ∙ sym (map.entries-from_sorted reference_cmp _ c.self.invariant.sorted) ∙ ap (λ (k : Sided). map.entries k.monitors) c.self.view_is in
+    let here =
+    c.entries.ensures.entries ∙ sym (map.entries-from_sorted reference_cmp _ c.self.invariant.sorted)
+    ∙ ap (λ (k : Sided). map.entries k.monitors) c.self.view_is in
     let p = meets c.args.sought.now in
     let rest = is_rest c.args.from _ _ c.in_ok-rest.ensures.lookup.0.2 in
-    ap (λ l. slice_get l (c.args.from + c.in_ok-at.at)) (sym here) ∙ found_behind p _ _ c.args.from c.in_ok-at.at rest c.in_ok-at.ensures.at ∙ ap (λ l. found p (drop c.args.from l)) here
+    ap (λ l. slice_get l (c.args.from + c.in_ok-at.at)) (sym here)
+    ∙ found_behind p _ _ c.args.from c.in_ok-at.at rest c.in_ok-at.ensures.at
+    ∙ ap (λ l. found p (drop c.args.from l)) here
 
 pub returns-clause-place : goal.returns-clause-place
 returns-clause-place c =
-    let here = c.entries.ensures.entries ∙ sym (map.entries-from_sorted reference_cmp _ c.self.invariant.sorted) ∙ ap (λ (k : Sided). map.entries k.monitors) c.self.view_is in
+    let here =
+    c.entries.ensures.entries ∙ sym (map.entries-from_sorted reference_cmp _ c.self.invariant.sorted)
+    ∙ ap (λ (k : Sided). map.entries k.monitors) c.self.view_is in
     let p = meets c.args.sought.now in
-    let rest = is_rest c.args.from _ _ c.in_ok-rest.ensures.lookup.0.2 in
-    (omega arith, subst (λ l. c.args.from + c.in_ok-at.at < length l) here (place_behind p _ _ c.args.from c.in_ok-at.at rest c.in_ok-at.ensures.at))
+    let rest = is_rest c.args.from _ _ c.in_ok-rest.ensures.lookup.0.2 in (
+      omega arith,
+      subst (λ l. c.args.from + c.in_ok-at.at < length l) here (place_behind p _ _ c.args.from c.in_ok-at.at rest c.in_ok-at.ensures.at),
+    )

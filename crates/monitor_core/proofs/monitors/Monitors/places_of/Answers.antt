@@ -19,13 +19,18 @@ returns-clause-found c =
     let from = c.part-from.result.0 in
     let to = c.part-from.result.1 in
     let point = Of c.args.process in
-    let here = sym (map.entries-from_sorted reference_cmp rs c.self.invariant.sorted) ∙ ap (λ (k : Sided). map.entries k.monitors) c.self.view_is in
-    let parted = subst (λ (us : Records). IsParted (order_at of us point) places from to) c.entries.ensures.entries (subst (λ xs. IsParted (order_at of c.entries.result.now point) xs from to) c.deref.ensures.value c.part-from.ensures) in
+    let here =
+    sym (map.entries-from_sorted reference_cmp rs c.self.invariant.sorted)
+    ∙ ap (λ (k : Sided). map.entries k.monitors) c.self.view_is in
+    let parted =
+    subst (λ (us : Records). IsParted (order_at of us point) places from to) c.entries.ensures.entries
+    (subst (λ xs. IsParted (order_at of c.entries.result.now point) xs from to) c.deref.ensures.value c.part-from.ensures) in
     ap (λ xs. picked (map.entries c.args.self.now.monitors) (slice_range xs from to)) c.deref-2.ensures.value
     ∙ ap (λ (us : Records). picked us (slice_range places from to)) (sym here)
     ∙ picked_gone of rs point places from to c.self.invariant.index parted ∙ passing_its of c.args.process.now rs
     ∙ ap (filter (is_its of c.args.process.now)) here
-    ∙ ap (λ (s : Side). filter (is_its (process_of s) c.args.process.now) (map.entries c.args.self.now.monitors)) (ap (λ (k : Sided). k.side) c.self.view_is)
+    ∙ ap (λ (s : Side). filter (is_its (process_of s) c.args.process.now) (map.entries c.args.self.now.monitors))
+    (ap (λ (k : Sided). k.side) c.self.view_is)
 
 pub returns-clause-places : goal.returns-clause-places
 returns-clause-places c =
@@ -35,7 +40,14 @@ returns-clause-places c =
     let from = c.part-from.result.0 in
     let to = c.part-from.result.1 in
     let point = Of c.args.process in
-    let here = sym (map.entries-from_sorted reference_cmp rs c.self.invariant.sorted) ∙ ap (λ (k : Sided). map.entries k.monitors) c.self.view_is in
-    let parted = subst (λ (us : Records). IsParted (order_at of us point) places from to) c.entries.ensures.entries (subst (λ xs. IsParted (order_at of c.entries.result.now point) xs from to) c.deref.ensures.value c.part-from.ensures) in
-    subst (λ xs. All (λ place. place < length (map.entries c.args.self.now.monitors)) (slice_range xs from to)) (sym c.deref-2.ensures.value)
-    (subst (λ (us : Records). All (λ place. place < length us) (slice_range places from to)) here (all_from_each (λ place. place < length rs) (slice_range places from to) (gone_within of rs point places from to c.self.invariant.index parted)))
+    let here =
+    sym (map.entries-from_sorted reference_cmp rs c.self.invariant.sorted)
+    ∙ ap (λ (k : Sided). map.entries k.monitors) c.self.view_is in
+    let parted =
+    subst (λ (us : Records). IsParted (order_at of us point) places from to) c.entries.ensures.entries
+    (subst (λ xs. IsParted (order_at of c.entries.result.now point) xs from to) c.deref.ensures.value c.part-from.ensures) in
+    subst (λ xs. All (λ place. place < length (map.entries c.args.self.now.monitors)) (slice_range xs from to))
+    (sym c.deref-2.ensures.value)
+    (subst (λ (us : Records). All (λ place. place < length us) (slice_range places from to)) here (all_from_each
+    (λ place. place < length rs) (slice_range places from to)
+    (gone_within of rs point places from to c.self.invariant.index parted)))

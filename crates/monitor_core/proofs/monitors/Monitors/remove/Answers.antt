@@ -14,19 +14,24 @@ use Rattle.monitor_core.proofs.monitors.Monitors.remove.Goals as goal
 pub returns-in-Err-clause-answer : goal.returns-in-Err-clause-answer
 returns-in-Err-clause-answer c =
     let rs = c.self.inside.records.entries in
-    let none = ap (λ (k : Sided). map.get k.monitors c.args.reference.now) (sym c.self.view_is) ∙ get_here rs c.args.reference.now c.self.invariant.sorted
+    let none =
+    ap (λ (k : Sided). map.get k.monitors c.args.reference.now) (sym c.self.view_is)
+    ∙ get_here rs c.args.reference.now c.self.invariant.sorted
     ∙ finds_none reference_cmp_total rs c.args.reference.now c.in-Err.field-0 c.self.invariant.sorted c.in-Err.ensures.gap in
     sym (ap is_some none)
 
 pub returns-in-Err-clause-monitors : goal.returns-in-Err-clause-monitors
 returns-in-Err-clause-monitors c =
     let rs = c.self.inside.records.entries in
-    let none = ap (λ (k : Sided). map.get k.monitors c.args.reference.now) (sym c.self.view_is) ∙ get_here rs c.args.reference.now c.self.invariant.sorted
+    let none =
+    ap (λ (k : Sided). map.get k.monitors c.args.reference.now) (sym c.self.view_is)
+    ∙ get_here rs c.args.reference.now c.self.invariant.sorted
     ∙ finds_none reference_cmp_total rs c.args.reference.now c.in-Err.field-0 c.self.invariant.sorted c.in-Err.ensures.gap in
     sym (remove_same _ c.args.reference.now none)
 
 pub close-requires-clause-within : goal.close-requires-clause-within
-close-requires-clause-within c = within_places (process_of c.self.inside.side) c.self.inside.records.entries c.self.inside.places.items c.self.invariant.index
+close-requires-clause-within c =
+    within_places (process_of c.self.inside.side) c.self.inside.records.entries c.self.inside.places.items c.self.invariant.index
 
 pub close-requires-clause-gone : goal.close-requires-clause-gone
 close-requires-clause-gone c =
@@ -36,7 +41,9 @@ close-requires-clause-gone c =
     let point = At c.in-Ok.at in
     let from = c.part-from.result.0 in
     let to = c.part-from.result.1 in
-    let parted = subst (λ (us : Records). IsParted (order_at of us point) places from to) c.entries.ensures.entries (subst (λ xs. IsParted (order_at of c.entries.result.now point) xs from to) c.deref.ensures.value c.part-from.ensures) in
+    let parted =
+    subst (λ (us : Records). IsParted (order_at of us point) places from to) c.entries.ensures.entries
+    (subst (λ xs. IsParted (order_at of c.entries.result.now point) xs from to) c.deref.ensures.value c.part-from.ensures) in
     gone_up of rs point places from to c.self.invariant.index parted
 
 pub invariant_of-self : goal.invariant_of-self
@@ -47,26 +54,36 @@ invariant_of-self c =
     let point = At c.in-Ok.at in
     let from = c.part-from.result.0 in
     let to = c.part-from.result.1 in
-    let parted = subst (λ (us : Records). IsParted (order_at of us point) places from to) c.entries.ensures.entries (subst (λ xs. IsParted (order_at of c.entries.result.now point) xs from to) c.deref.ensures.value c.part-from.ensures) in
-    let gone = left_at of rs c.in-Ok.at ∙ sym (c.remove.ensures.entries ∙ without_found reference_cmp_total rs c.args.reference.now c.in-Ok.at c.self.invariant.sorted c.in-Ok.ensures.found) in
+    let parted =
+    subst (λ (us : Records). IsParted (order_at of us point) places from to) c.entries.ensures.entries
+    (subst (λ xs. IsParted (order_at of c.entries.result.now point) xs from to) c.deref.ensures.value c.part-from.ensures) in
+    let gone =
+    left_at of rs c.in-Ok.at ∙ sym (c.remove.ensures.entries
+    ∙ without_found reference_cmp_total rs c.args.reference.now c.in-Ok.at c.self.invariant.sorted c.in-Ok.ensures.found) in
     record {
-      sorted = subst AreSorted (sym c.remove.ensures.entries) (sorted_without reference_cmp_total reference_cmp_exact c.args.reference.now _ c.self.invariant.sorted);
+      sorted = subst AreSorted (sym c.remove.ensures.entries)
+          (sorted_without reference_cmp_total reference_cmp_exact c.args.reference.now _ c.self.invariant.sorted);
       index = subst (λ (us : Records). IsIndex of us c.close.new.places.items) gone
           (subst (IsIndex of _) (sym c.close.ensures.places) (closed_index of rs point places from to c.self.invariant.index parted));
     }
 
 pub returns-clause-answer : goal.returns-clause-answer
 returns-clause-answer c =
-    c.is_some.ensures ∙ ap is_some (c.remove.ensures.before ∙ sym (get_here _ c.args.reference.now c.self.invariant.sorted) ∙ ap (λ (k : Sided). map.get k.monitors c.args.reference.now) c.self.view_is)
+    c.is_some.ensures ∙ ap is_some (c.remove.ensures.before ∙ sym (get_here _ c.args.reference.now c.self.invariant.sorted)
+    ∙ ap (λ (k : Sided). map.get k.monitors c.args.reference.now) c.self.view_is)
 
 pub returns-clause-monitors : goal.returns-clause-monitors
 returns-clause-monitors c =
-    ap map.from_sorted c.remove.ensures.entries ∙ map_without reference_cmp_total reference_cmp_exact c.args.reference.now _ c.self.invariant.sorted
+    ap map.from_sorted c.remove.ensures.entries
+    ∙ map_without reference_cmp_total reference_cmp_exact c.args.reference.now _ c.self.invariant.sorted
     ∙ ap (λ (k : Sided). map.remove k.monitors c.args.reference.now) c.self.view_is
 
 pub returns-clause-unchanged : goal.returns-clause-unchanged
 returns-clause-unchanged c = on_true c.is_some.result _ (λ h.
     let none = none_of _ (sym c.is_some.ensures ∙ h) in
-    let held = ap (λ (k : Sided). map.get k.monitors c.args.reference.now) (sym c.self.view_is) ∙ get_here _ c.args.reference.now c.self.invariant.sorted ∙ sym c.remove.ensures.before ∙ none in
-    ap map.from_sorted c.remove.ensures.entries ∙ map_without reference_cmp_total reference_cmp_exact c.args.reference.now _ c.self.invariant.sorted
+    let held =
+    ap (λ (k : Sided). map.get k.monitors c.args.reference.now) (sym c.self.view_is)
+    ∙ get_here _ c.args.reference.now c.self.invariant.sorted ∙ sym c.remove.ensures.before ∙ none in
+    ap map.from_sorted c.remove.ensures.entries
+    ∙ map_without reference_cmp_total reference_cmp_exact c.args.reference.now _ c.self.invariant.sorted
     ∙ ap (λ (k : Sided). map.remove k.monitors c.args.reference.now) c.self.view_is ∙ remove_same _ c.args.reference.now held)

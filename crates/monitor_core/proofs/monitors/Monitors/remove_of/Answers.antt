@@ -25,17 +25,22 @@ returns-then-from-to-clause-monitors c =
     let point = Of c.args.process in
     let from = c.part-from.result.0 in
     let to = c.part-from.result.1 in
-    let parted = subst (λ (us : Records). IsParted (order_at of us point) places from to) c.entries.ensures.entries (subst (λ xs. IsParted (order_at of c.entries.result.now point) xs from to) c.deref.ensures.value c.part-from.ensures) in
+    let parted =
+    subst (λ (us : Records). IsParted (order_at of us point) places from to) c.entries.ensures.entries
+    (subst (λ xs. IsParted (order_at of c.entries.result.now point) xs from to) c.deref.ensures.value c.part-from.ensures) in
     let same : to ≡ from = search rules in
     let empty : slice_range places from to ≡ [] = ap (slice_range places from) same ∙ between_none places from in
-    let none = sym (passing_its of c.args.process.now rs) ∙ sym (picked_gone of rs point places from to c.self.invariant.index parted) ∙ ap (picked rs) empty in
+    let none =
+    sym (passing_its of c.args.process.now rs)
+    ∙ sym (picked_gone of rs point places from to c.self.invariant.index parted) ∙ ap (picked rs) empty in
     let goes = λ (m : Monitor). eq_by_cmp pid_cmp (of m) c.args.process.now in
     sym (ap (λ (k : Sided). k.monitors) c.self.view_is) ∙ ap map.from_sorted (sym (none_its of c.args.process.now rs none))
     ∙ map_kept reference_cmp_total reference_cmp_exact goes (is_of of c.args.process.now) refl (λ m. refl) rs c.self.invariant.sorted
     ∙ ap (λ (k : Sided). without (process_of k.side) k.monitors c.args.process.now) c.self.view_is
 
 pub close-requires-clause-within : goal.close-requires-clause-within
-close-requires-clause-within c = within_places (process_of c.self.inside.side) c.self.inside.records.entries c.self.inside.places.items c.self.invariant.index
+close-requires-clause-within c =
+    within_places (process_of c.self.inside.side) c.self.inside.records.entries c.self.inside.places.items c.self.invariant.index
 
 pub close-requires-clause-gone : goal.close-requires-clause-gone
 close-requires-clause-gone c =
@@ -45,7 +50,9 @@ close-requires-clause-gone c =
     let point = Of c.args.process in
     let from = c.part-from.result.0 in
     let to = c.part-from.result.1 in
-    let parted = subst (λ (us : Records). IsParted (order_at of us point) places from to) c.entries.ensures.entries (subst (λ xs. IsParted (order_at of c.entries.result.now point) xs from to) c.deref.ensures.value c.part-from.ensures) in
+    let parted =
+    subst (λ (us : Records). IsParted (order_at of us point) places from to) c.entries.ensures.entries
+    (subst (λ xs. IsParted (order_at of c.entries.result.now point) xs from to) c.deref.ensures.value c.part-from.ensures) in
     gone_up of rs point places from to c.self.invariant.index parted
 
 pub invariant_of-self : goal.invariant_of-self
@@ -56,9 +63,13 @@ invariant_of-self c =
     let point = Of c.args.process in
     let from = c.part-from.result.0 in
     let to = c.part-from.result.1 in
-    let parted = subst (λ (us : Records). IsParted (order_at of us point) places from to) c.entries.ensures.entries (subst (λ xs. IsParted (order_at of c.entries.result.now point) xs from to) c.deref.ensures.value c.part-from.ensures) in
+    let parted =
+    subst (λ (us : Records). IsParted (order_at of us point) places from to) c.entries.ensures.entries
+    (subst (λ xs. IsParted (order_at of c.entries.result.now point) xs from to) c.deref.ensures.value c.part-from.ensures) in
     let goes = λ (m : Monitor). eq_by_cmp pid_cmp (of m) c.args.process.now in
-    let kept = filter_same _ (λ (e : Reference × Monitor). not (goes e.1)) _ (λ x b f' called. (search rules, search rules)) _ _ c.retain.ensures.entries in
+    let kept =
+    filter_same _ (λ (e : Reference × Monitor). not (goes e.1)) _
+    (λ x b f' called. (search rules, search rules)) _ _ c.retain.ensures.entries in
     record {
       sorted = subst AreSorted (sym kept) (sorted_kept reference_cmp_total reference_cmp_exact goes rs c.self.invariant.sorted);
       index = subst (λ (us : Records). IsIndex of us c.close.new.places.items) (left_others of c.args.process.now rs ∙ sym kept)
@@ -70,6 +81,9 @@ returns-clause-monitors c =
     let of = process_of c.self.inside.side in
     let rs = c.self.inside.records.entries in
     let goes = λ (m : Monitor). eq_by_cmp pid_cmp (of m) c.args.process.now in
-    let kept = filter_same _ (λ (e : Reference × Monitor). not (goes e.1)) _ (λ x b f' called. (search rules, search rules)) _ _ c.retain.ensures.entries in
-    ap map.from_sorted kept ∙ map_kept reference_cmp_total reference_cmp_exact goes (is_of of c.args.process.now) refl (λ m. refl) rs c.self.invariant.sorted
+    let kept =
+    filter_same _ (λ (e : Reference × Monitor). not (goes e.1)) _
+    (λ x b f' called. (search rules, search rules)) _ _ c.retain.ensures.entries in
+    ap map.from_sorted kept
+    ∙ map_kept reference_cmp_total reference_cmp_exact goes (is_of of c.args.process.now) refl (λ m. refl) rs c.self.invariant.sorted
     ∙ ap (λ (k : Sided). without (process_of k.side) k.monitors c.args.process.now) c.self.view_is

@@ -15,5 +15,7 @@ returns c =
     let from = c.partition_point-from.result in
     let to = c.partition_point-to.result in
     parted (order_at of rs point) places from to c.partition_point-from.ensures.bound c.partition_point-to.ensures.bound
-    (IsPartitionPoint-from_clause (λ x. is_lt (order_at of rs point x)) places from c.partition_point-from.ensures.partitioned (parts_lt of rs point places c.requires) (λ a r f' k. search rules))
-    (IsPartitionPoint-from_clause (λ x. is_le (order_at of rs point x)) places to c.partition_point-to.ensures.partitioned (parts_le of rs point places c.requires) (λ a r f' k. search rules))
+    (IsPartitionPoint-from_clause (λ x. is_lt (order_at of rs point x)) places from c.partition_point-from.ensures.partitioned
+    (parts_lt of rs point places c.requires) (λ a r f' k. search rules))
+    (IsPartitionPoint-from_clause (λ x. is_le (order_at of rs point x)) places to c.partition_point-to.ensures.partitioned
+    (parts_le of rs point places c.requires) (λ a r f' k. search rules))

@@ -19,6 +19,8 @@ returns-in-Ok-clause-index c =
     let rs = c.args.records.now in
     let from = c.part-before.result.0 in
     let to = c.part-before.result.1 in
-    let parted = subst (λ xs. IsParted (order_at of rs (At c.args.at)) xs from to) (c.deref.ensures.value ∙ c.make_way.ensures.places) c.part-before.ensures in
+    let parted =
+    subst (λ xs. IsParted (order_at of rs (At c.args.at)) xs from to)
+    (c.deref.ensures.value ∙ c.make_way.ensures.places) c.part-before.ensures in
     subst (IsIndex of rs) (sym (c.in-Ok.ensures.items ∙ ap (λ xs. insert xs from c.args.at) c.make_way.ensures.places))
     (grown_index of rs c.args.at c.args.places.now.items c.requires.grown from to parted)

@@ -10,7 +10,8 @@ index-requires g c = omega (arith, found_in_range g.met.K.Ord.total _ _ _ c.in-O
 pub returns-in-Ok : goal.returns-in-Ok
 returns-in-Ok g c =
     let found = subst (λ l. IsFoundAt g.K.Ord.cmp l c.args.key.now c.in-Ok.at) c.deref.ensures.value c.in-Ok.ensures.found in
-    ap (λ e. Some e.1) c.index.ensures ∙ sym (finds g.met.K.Ord.total _ _ _ c.index.result.now found) ∙ ap (λ k. find g.K.Ord.cmp c.args.key.now k.entries) c.self.view_is
+    ap (λ e. Some e.1) c.index.ensures ∙ sym (finds g.met.K.Ord.total _ _ _ c.index.result.now found)
+    ∙ ap (λ k. find g.K.Ord.cmp c.args.key.now k.entries) c.self.view_is
 
 pub returns-in-Err : goal.returns-in-Err
 returns-in-Err g c =

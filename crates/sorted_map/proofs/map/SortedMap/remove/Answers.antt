@@ -10,17 +10,21 @@ remove-requires g c = omega (arith, found_in_range g.met.K.Ord.total _ _ _ c.in-
 pub invariant_of-self : goal.invariant_of-self
 invariant_of-self g c =
     let found = subst (λ l. IsFoundAt g.K.Ord.cmp l c.args.key.now c.in-Ok.at) c.deref.ensures.value c.in-Ok.ensures.found in
-    rw c.remove.ensures.items (sorted_without g.met.K.Ord.total _ _ c.args.key.now c.self.invariant (without_found g.met.K.Ord.total _ c.args.key.now c.in-Ok.at c.self.invariant found))
+    rw c.remove.ensures.items (sorted_without g.met.K.Ord.total _ _ c.args.key.now c.self.invariant
+    (without_found g.met.K.Ord.total _ c.args.key.now c.in-Ok.at c.self.invariant found))
 
 pub returns-in-Ok-clause-entries : goal.returns-in-Ok-clause-entries
 returns-in-Ok-clause-entries g c =
     let found = subst (λ l. IsFoundAt g.K.Ord.cmp l c.args.key.now c.in-Ok.at) c.deref.ensures.value c.in-Ok.ensures.found in
-    c.remove.ensures.items ∙ sym (without_found g.met.K.Ord.total _ c.args.key.now c.in-Ok.at c.self.invariant found) ∙ ap (λ k. without g.K.Ord.cmp c.args.key.now k.entries) c.self.view_is
+    c.remove.ensures.items ∙ sym (without_found g.met.K.Ord.total _ c.args.key.now c.in-Ok.at c.self.invariant found)
+    ∙ ap (λ k. without g.K.Ord.cmp c.args.key.now k.entries) c.self.view_is
 
 pub returns-in-Ok-clause-before : goal.returns-in-Ok-clause-before
 returns-in-Ok-clause-before g c =
     let found = subst (λ l. IsFoundAt g.K.Ord.cmp l c.args.key.now c.in-Ok.at) c.deref.ensures.value c.in-Ok.ensures.found in
-    ap (λ e. Some e.1) c.remove.ensures.value ∙ sym (finds g.met.K.Ord.total _ c.args.key.now c.in-Ok.at c.remove.result found) ∙ ap (λ k. find g.K.Ord.cmp c.args.key.now k.entries) c.self.view_is
+    ap (λ e. Some e.1) c.remove.ensures.value
+    ∙ sym (finds g.met.K.Ord.total _ c.args.key.now c.in-Ok.at c.remove.result found)
+    ∙ ap (λ k. find g.K.Ord.cmp c.args.key.now k.entries) c.self.view_is
 
 pub returns-in-Err-clause-entries : goal.returns-in-Err-clause-entries
 returns-in-Err-clause-entries g c =
