@@ -1,23 +1,26 @@
 -- What a call or a signal does to each pair of processes.
-use Rattle.std.proofs.Common.{◌<◌}
+use Rattle.std.proofs.Common.{◌<◌, ◌==◌, nat_lt, ◌≡◌, ℕ, ◌+◌, Bool, true, false, cond, not, List, []}
+use Rattle.std.proofs.Common.{◌∷◌, refl, sym, ap, ◌∙◌, subst, arith, ◌&&◌, ◌||◌, Option, Some, None}
 use Rattle.erl_names.specs.Draw as kind
-use Rattle.std.proofs.Common.{◌==◌, nat_lt, ◌≡◌, ℕ, ◌+◌, Bool, true, false, cond, not, List, [], ◌∷◌, refl, sym, ap, ◌∙◌, subst, arith, ◌&&◌, ◌||◌, Option, Some, None}
+use Rattle.std.proofs.lemmas.Option.{same_Some}
 use Rattle.std.specs.FinMap as fm
-use Rattle.dist_model.proofs.Kept.{Kept}
-use Rattle.dist_model.proofs.Keys.{pid_total, same_name_is, same_name_refl, same_name_true, same_pid_is, same_pid_refl, same_pid_true, same_trunk, same_trunk_is, same_trunk_true}
-use Rattle.dist_model.proofs.Moves.{Homely, Moves, carries_out, finishes, links, posts_other, puts, set_life_living, stays, then, unlinks_as}
-use Rattle.dist_model.proofs.Views.{over, side_path, telling_news, view}
+use Rattle.dist_model.proofs.Keys.{pid_total, same_name_is, same_name_refl, same_name_true, same_pid_is}
+use Rattle.dist_model.proofs.Keys.{same_pid_refl, same_pid_true, same_trunk, same_trunk_is, same_trunk_true}
+use Rattle.dist_model.proofs.Moves.{Moves, carries_out, finishes, posts_other, puts, set_life_living, stays, then}
+use Rattle.dist_model.proofs.LinkMoves.{links, unlinks_as}
+use Rattle.dist_model.proofs.Posts.{Homely}
+use Rattle.dist_model.proofs.Views.{over, telling_news, view}
+use Rattle.dist_model.proofs.Truths.{and_second}
 use Rattle.dist_model.specs.Calls.{acting, call, spawn_life, toward, trapping, with_life, without_first}
 use Rattle.dist_model.specs.Commands.{Accepts, Outcome, Refuses, with_id}
 use Rattle.dist_model.specs.declared.command.Command.{Command}
 use Rattle.dist_model.specs.Exits.{sent_exit}
 use Rattle.erl_control.specs.Fits.{fits}
-use Rattle.dist_model.specs.Items.{Handshake, Item, Signalled, Tick, news_in, telling}
+use Rattle.dist_model.specs.Items.{Item, Signalled, news_in, telling}
 use Rattle.dist_model.specs.Linking.{unlink_by}
-use Rattle.dist_model.specs.Links.{Exited, LinkNews, Signals, noconnection, noproc}
 use Rattle.dist_model.specs.Monitoring.{demonitor_by, monitor, register, unregister, unwatch, watch}
 use Rattle.dist_model.specs.Names.{Name, same_name, same_pid}
-use Rattle.dist_model.specs.Node.{Ended, Life, Living, Node, end_of, is_living_life, living, is_stranger, reaches, traps_life}
+use Rattle.dist_model.specs.Node.{Life, Living, Node, end_of, is_living_life, living, is_stranger, reaches, traps_life}
 use Rattle.dist_model.specs.Taking.{take_item}
 use Rattle.dist_model.specs.Work.{Work, at_work, draw, post, put, set_end, set_life}
 use Rattle.erl_control.specs.declared.signal.Signal.{Signal}
@@ -29,12 +32,14 @@ use Rattle.erl_term.specs.declared.term.Pid.{Pid}
 use Rattle.erl_term.specs.declared.term.Reference.{Reference}
 use Rattle.exit_core.specs.Messages.{down_term}
 use Rattle.exit_core.specs.Reaction.{reaction}
+use Rattle.link_core.specs.News.{Exited, LinkNews, Signals, noconnection, noproc}
 use Rattle.link_core.specs.declared.end.End.{End}
 use Rattle.link_core.specs.declared.end.LinkSignal.{LinkSignal}
 use Rattle.monitor_core.specs.Monitors.{is_held, monitor_of}
 use Rattle.monitor_core.specs.declared.monitor.Monitor.{Monitor}
 use Rattle.std.specs.FinMap.{FinMap}
 use Rattle.erl_names.specs.declared.trunk.TrunkId.{TrunkId}
+use Rattle.link_core.proofs.Kept.{Kept, side_path}
 
 -- what holds of the work where the event goes through
 abbrev pub IfGoes : Outcome → (Work → Type 0) → Type 0
@@ -45,12 +50,17 @@ pub if_cond : (b : Bool) (k : Outcome) (j : Refusal) (P : Work → Type 0) → (
 if_cond true k j P h = h refl
 if_cond false k j P h = tt
 
+pub if_either : (b : Bool) (x y : Outcome) (P : Work → Type 0) → IfGoes x P → IfGoes y P → IfGoes (cond b x y) P
+if_either true x y P h k = h
+if_either false x y P h k = k
+
 pub if_not : (b : Bool) (k : Outcome) (j : Refusal) (P : Work → Type 0) → IfGoes k P → IfGoes (cond b (Refuses j) k) P
 if_not true k j P h = tt
 if_not false k j P h = h
 
 -- only the lives change, and not who lives
-pub same_lives : (o : Work) (m : FinMap pid_cmp Life) → ((x : Pid) → is_living_life (fm.get m x) ≡ living o.node x) → Moves o (record o { node = record (o.node) { lives = m } })
+pub same_lives : (o : Work) (m : FinMap pid_cmp Life) → ((x : Pid) → is_living_life (fm.get m x) ≡ living o.node x)
+    → Moves o (record o { node = record (o.node) { lives = m } })
 same_lives o m h = record {
   sides = refl;
   dialed = refl;
@@ -61,31 +71,90 @@ same_lives o m h = record {
   routed = λ a. a;
   nevers = λ p h. h;
   home = λ k h. h;
-  views = λ n b p q c r k. subst (λ a. Kept a c) (sym (side_path (view b (record o { node = record (o.node) { lives = m } }) p q) (view b o p q) refl (ap (λ v. not v && not (is_stranger o.node p)) (h p)) refl refl)) k;
+  views = λ n b p q c r k. subst (λ a. Kept a c) (sym (side_path
+      (view b (record o { node = record (o.node) { lives = m } }) p q) (view b o p q) refl
+      (ap (λ v. not v && not (is_stranger o.node p)) (h p)) refl refl)) k;
 }
 
 -- neither a life nor an end nor a side
 pub registers : (k : Reference) (v : Monitor) (o : Work) → Moves o (register k v o)
-registers k v o = record { sides = refl; dialed = refl; name = refl; keeps = λ n. record { born = n.born; rooted = n.rooted }; grows = λ p h. h; draws = omega arith; routed = λ a. a; nevers = λ p h. h; home = λ k h. h; views = λ n b p q c r k. k }
+registers k v o = record {
+  sides = refl;
+  dialed = refl;
+  name = refl;
+  keeps = λ n. record { born = n.born; rooted = n.rooted };
+  grows = λ p h. h;
+  draws = omega arith;
+  routed = λ a. a;
+  nevers = λ p h. h;
+  home = λ k h. h;
+  views = λ n b p q c r k. k;
+}
 
 pub unregisters : (k : Reference) (o : Work) → Moves o (unregister k o)
-unregisters k o = record { sides = refl; dialed = refl; name = refl; keeps = λ n. record { born = n.born; rooted = n.rooted }; grows = λ p h. h; draws = omega arith; routed = λ a. a; nevers = λ p h. h; home = λ k h. h; views = λ n b p q c r t. t }
+unregisters k o = record {
+  sides = refl;
+  dialed = refl;
+  name = refl;
+  keeps = λ n. record { born = n.born; rooted = n.rooted };
+  grows = λ p h. h;
+  draws = omega arith;
+  routed = λ a. a;
+  nevers = λ p h. h;
+  home = λ k h. h;
+  views = λ n b p q c r t. t;
+}
 
 pub unwatches_one : (k : Reference) (o : Work) → Moves o (unwatch k o)
-unwatches_one k o = record { sides = refl; dialed = refl; name = refl; keeps = λ n. record { born = n.born; rooted = n.rooted }; grows = λ p h. h; draws = omega arith; routed = λ a. a; nevers = λ p h. h; home = λ k h. h; views = λ n b p q c r t. t }
+unwatches_one k o = record {
+  sides = refl;
+  dialed = refl;
+  name = refl;
+  keeps = λ n. record { born = n.born; rooted = n.rooted };
+  grows = λ p h. h;
+  draws = omega arith;
+  routed = λ a. a;
+  nevers = λ p h. h;
+  home = λ k h. h;
+  views = λ n b p q c r t. t;
+}
 
 pub watches_one : (k : Reference) (v : Monitor) (o : Work) → Moves o (watch k v o)
-watches_one k v o = record { sides = refl; dialed = refl; name = refl; keeps = λ n. record { born = n.born; rooted = n.rooted }; grows = λ p h. h; draws = omega arith; routed = λ a. a; nevers = λ p h. h; home = λ k h. h; views = λ n b p q c r t. t }
+watches_one k v o = record {
+  sides = refl;
+  dialed = refl;
+  name = refl;
+  keeps = λ n. record { born = n.born; rooted = n.rooted };
+  grows = λ p h. h;
+  draws = omega arith;
+  routed = λ a. a;
+  nevers = λ p h. h;
+  home = λ k h. h;
+  views = λ n b p q c r t. t;
+}
 
 pub draws_reference : (o : Work) → Moves o (draw kind.Reference o)
-draws_reference o = record { sides = refl; dialed = refl; name = refl; keeps = λ n. record { born = n.born; rooted = n.rooted }; grows = λ p h. h; draws = omega arith; routed = λ a. a; nevers = λ p h. h; home = λ k h. h; views = λ n b p q c r t. t }
+draws_reference o = record {
+  sides = refl;
+  dialed = refl;
+  name = refl;
+  keeps = λ n. record { born = n.born; rooted = n.rooted };
+  grows = λ p h. h;
+  draws = omega arith;
+  routed = λ a. a;
+  nevers = λ p h. h;
+  home = λ k h. h;
+  views = λ n b p q c r t. t;
+}
 
 moves_cond : (b : Bool) (o x y : Work) → (b ≡ true → Moves o x) → (b ≡ false → Moves o y) → Moves o (cond b x y)
 moves_cond true o x y f g = f refl
 moves_cond false o x y f g = g refl
 
 says_something : (q p : Pid) (s : LinkNews) → news_in q p (Signalled (telling q p s)) ≡ [] → ⊥
-says_something q p s h = let n : s ∷ [] ≡ [] = sym (telling_news q p q p s ∙ ap (λ t. cond (t && same_pid p p) (s ∷ []) []) (same_pid_refl q) ∙ ap (λ t. cond t (s ∷ []) []) (same_pid_refl p)) ∙ h in cc
+says_something q p s h =
+    let n : s ∷ [] ≡ [] = sym (telling_news q p q p s ∙ ap (λ t. cond (t && same_pid p p) (s ∷ []) []) (same_pid_refl q)
+    ∙ ap (λ t. cond t (s ∷ []) []) (same_pid_refl p)) ∙ h in cc
 
 -- the other signals
 pub takes_other : (x : Item) (o : Work) → ((p q : Pid) → news_in p q x ≡ []) → Moves o (take_item x o)
@@ -94,21 +163,23 @@ takes_other (Signalled (Signal.Exit q p r)) o h = absurd (says_something q p (Ex
 takes_other (Signalled (Signal.UnlinkId i q p)) o h = absurd (says_something q p (Signals (LinkSignal.Unlink i)) (h q p))
 takes_other (Signalled (Signal.UnlinkIdAck i q p)) o h = absurd (says_something q p (Signals (LinkSignal.Ack i)) (h q p))
 takes_other (Signalled (Signal.Send p t)) o h = moves_cond (living o.node p) o (put p t o) o (λ l. puts p t o) (λ l. stays o)
-takes_other (Signalled (Signal.Exit2 q p r)) o h = moves_cond (living o.node p) o _ o (λ l. carries_out (reaction (traps_life (fm.get o.node.lives p)) (sent_exit p q r)) p o l) (λ l. stays o)
-takes_other (Signalled (Signal.Monitor q p k)) o h = moves_cond (living o.node p) o _ _ (λ l. registers k (monitor_of q p) o) (λ l. posts_other q.node (Signalled (Signal.MonitorExit p q k noproc)) o (λ a b. refl))
-takes_other (Signalled (Signal.Demonitor q p k)) o h = moves_cond (is_held o.node.registered k (monitor_of q p)) o _ _ (λ l. unregisters k o) (λ l. stays o)
+takes_other (Signalled (Signal.Exit2 q p r)) o h =
+    moves_cond (living o.node p) o _ o
+    (λ l. carries_out (reaction (traps_life (fm.get o.node.lives p)) (sent_exit p q r)) p o l) (λ l. stays o)
+takes_other (Signalled (Signal.Monitor q p k)) o h =
+    moves_cond (living o.node p) o _ _ (λ l. registers k (monitor_of q p) o)
+    (λ l. posts_other q.node (Signalled (Signal.MonitorExit p q k noproc)) o (λ a b. refl))
+takes_other (Signalled (Signal.Demonitor q p k)) o h =
+    moves_cond (is_held o.node.registered k (monitor_of q p)) o _ _ (λ l. unregisters k o) (λ l. stays o)
 takes_other (Signalled (Signal.MonitorExit q p k r)) o h = moves_cond (living o.node p && is_held o.node.watches k (monitor_of p q)) o _ _
-    (λ l. then o (unwatch k o) (put p (down_term k q r) (unwatch k o)) (unwatches_one k o) (puts p (down_term k q r) (unwatch k o))) (λ l. stays o)
-takes_other (Handshake m) o h = stays o
-takes_other Tick o h = stays o
+    (λ l. then o (unwatch k o) (put p (down_term k q r) (unwatch k o)) (unwatches_one k o) (puts p (down_term k q r) (unwatch k o)))
+    (λ l. stays o)
+takes_other _ o h = stays o
 
 -- what a draw gives, and what it leaves
 pub if_drawn : (o : Option ℕ) (k : ℕ → Outcome) (P : Work → Type 0) → ((id : ℕ) → o ≡ Some id → IfGoes (k id) P) → IfGoes (with_id o k) P
 if_drawn None k P f = tt
 if_drawn (Some id) k P f = f id refl
-
-pub some_number : (a b : ℕ) → ◌≡◌ {A = Option ℕ} (Some a) (Some b) → a ≡ b
-some_number a b h = cc
 
 pub none_number : (P : Type 0) (b : ℕ) → ◌≡◌ {A = Option ℕ} None (Some b) → P
 none_number P b h = cc
@@ -116,17 +187,22 @@ none_number P b h = cc
 pub pid_drawn : (m : Minted) (id : ℕ) → id_of m kind.Pid ≡ Some id → (drawn m kind.Pid ≡ record m { pids = m.pids + 1 }) × (id ≡ m.pids + 1)
 pid_drawn m id h = go (nat_lt m.pids (last kind.Pid)) refl h
   where
-    go : (b : Bool) → nat_lt m.pids (last kind.Pid) ≡ b → cond b (Some (m.pids + 1)) None ≡ Some id → (drawn m kind.Pid ≡ record m { pids = m.pids + 1 }) × (id ≡ m.pids + 1)
-    go true e j = (λ i. record m { pids = cond (e i) (m.pids + 1) m.pids }, sym (some_number (m.pids + 1) id j))
+    go : (b : Bool) → nat_lt m.pids (last kind.Pid) ≡ b → cond b (Some (m.pids + 1)) None ≡ Some id
+        → (drawn m kind.Pid ≡ record m { pids = m.pids + 1 }) × (id ≡ m.pids + 1)
+    go true e j = (λ i. record m { pids = cond (e i) (m.pids + 1) m.pids }, sym (same_Some (m.pids + 1) id j))
     go false e j = none_number _ id j
 
-unlink_drawn : (m : Minted) (id : ℕ) → id_of m kind.UnlinkId ≡ Some id → (drawn m kind.UnlinkId ≡ record m { unlink_ids = id }) × (m.unlink_ids < id)
+unlink_drawn : (m : Minted) (id : ℕ) → id_of m kind.UnlinkId ≡ Some id
+    → (drawn m kind.UnlinkId ≡ record m { unlink_ids = id }) × (m.unlink_ids < id)
 unlink_drawn m id h = go (nat_lt m.unlink_ids (last kind.UnlinkId)) refl h
   where
-    go : (b : Bool) → nat_lt m.unlink_ids (last kind.UnlinkId) ≡ b → cond b (Some (m.unlink_ids + 1)) None ≡ Some id → (drawn m kind.UnlinkId ≡ record m { unlink_ids = id }) × (m.unlink_ids < id)
+    go : (b : Bool) → nat_lt m.unlink_ids (last kind.UnlinkId) ≡ b → cond b (Some (m.unlink_ids + 1)) None ≡ Some id
+        → (drawn m kind.UnlinkId ≡ record m { unlink_ids = id }) × (m.unlink_ids < id)
     go true e j =
-        let is : m.unlink_ids + 1 ≡ id = some_number (m.unlink_ids + 1) id j in
-        ((λ i. record m { unlink_ids = cond (e i) (m.unlink_ids + 1) m.unlink_ids }) ∙ (λ i. record m { unlink_ids = is i }), omega (arith, is))
+        let is : m.unlink_ids + 1 ≡ id = same_Some (m.unlink_ids + 1) id j in (
+          (λ i. record m { unlink_ids = cond (e i) (m.unlink_ids + 1) m.unlink_ids }) ∙ (λ i. record m { unlink_ids = is i }),
+          omega (arith, is),
+        )
     go false e j = none_number _ id j
 
 -- a new process
@@ -145,16 +221,11 @@ next_id s i h k = grind arith
 later_id : (s i : ℕ) → nat_lt s i ≡ false → nat_lt (s + 1) i ≡ false
 later_id s i h = grind arith
 
-never_by : (n : Node) (p : Pid) → same_pid p (next_pid n) ≡ false → (a b c d e f g : Bool) → same_name p.node n.mint.name ≡ a → (p.creation == n.mint.creation) ≡ c → nat_lt n.mint.pids p.id ≡ d → nat_lt (n.mint.pids + 1) p.id ≡ e → (p.serial == 0) ≡ g
+never_by : (n : Node) (p : Pid) → same_pid p (next_pid n) ≡ false → (a b c d e f g : Bool) → same_name p.node n.mint.name ≡ a
+    → (p.creation == n.mint.creation) ≡ c → nat_lt n.mint.pids p.id ≡ d → nat_lt (n.mint.pids + 1) p.id ≡ e
+    → (p.serial == 0) ≡ g
     → ((((not a || b) || (c && e)) || f) || not g) ≡ ((((not a || b) || (c && d)) || f) || not g)
-never_by n p new false b c d e f g ha hc hd he hg = refl
-never_by n p new true true c d e f g ha hc hd he hg = refl
-never_by n p new true false false d e f g ha hc hd he hg = refl
-never_by n p new true false true true true f g ha hc hd he hg = refl
 never_by n p new true false true false true f g ha hc hd he hg = let k : true ≡ false = sym he ∙ later_id n.mint.pids p.id hd in cc
-never_by n p new true false true false false f g ha hc hd he hg = refl
-never_by n p new true false true true false true g ha hc hd he hg = refl
-never_by n p new true false true true false false false ha hc hd he hg = refl
 never_by n p new true false true true false false true ha hc hd he hg =
     let nm : p.node ≡ n.mint.name = same_name_true p.node n.mint.name ha in
     let cr : p.creation ≡ n.mint.creation = is_same _ _ hc in
@@ -162,9 +233,13 @@ never_by n p new true false true true false false true ha hc hd he hg =
     let se : p.serial ≡ 0 = is_same _ _ hg in
     let eq : p ≡ next_pid n = λ i. record { node = nm i; creation = cr i; id = id i; serial = se i } in
     let k : true ≡ false = sym (same_pid_is p (next_pid n) eq) ∙ new in cc
+never_by n p new _ _ _ _ _ _ _ ha hc hd he hg = refl
 
-pub spawned_never : (n : Node) (p : Pid) → same_pid p (next_pid n) ≡ false → is_stranger ((spawned_at n (next_pid n)).node) p ≡ is_stranger n p
-spawned_never n p new = never_by n p new (same_name p.node n.mint.name) (nat_lt n.mint.creation p.creation) (p.creation == n.mint.creation) (nat_lt n.mint.pids p.id) (nat_lt (n.mint.pids + 1) p.id) (p.id == 0) (p.serial == 0) refl refl refl refl refl
+pub spawned_never : (n : Node) (p : Pid) → same_pid p (next_pid n) ≡ false
+    → is_stranger ((spawned_at n (next_pid n)).node) p ≡ is_stranger n p
+spawned_never n p new =
+    never_by n p new (same_name p.node n.mint.name) (nat_lt n.mint.creation p.creation) (p.creation == n.mint.creation)
+    (nat_lt n.mint.pids p.id) (nat_lt (n.mint.pids + 1) p.id) (p.id == 0) (p.serial == 0) refl refl refl refl refl
 
 not_less : (x : ℕ) → nat_lt x x ≡ false
 not_less x = grind arith
@@ -178,20 +253,20 @@ next_never n =
     let b = not_less n.mint.creation in
     let d = not_less (n.mint.pids + 1) in
     let f = not_zero n.mint.pids in
-    go (same_name n.mint.name n.mint.name) a (nat_lt n.mint.creation n.mint.creation) b (n.mint.creation == n.mint.creation) (nat_lt (n.mint.pids + 1) (n.mint.pids + 1)) d (n.mint.pids + 1 == 0) f
+    go (same_name n.mint.name n.mint.name) a (nat_lt n.mint.creation n.mint.creation) b (n.mint.creation == n.mint.creation)
+    (nat_lt (n.mint.pids + 1) (n.mint.pids + 1)) d (n.mint.pids + 1 == 0) f
   where
-    go : (a : Bool) → a ≡ true → (b : Bool) → b ≡ false → (c : Bool) → (d : Bool) → d ≡ false → (f : Bool) → f ≡ false → (((not a || b) || (c && d)) || f || false) ≡ false
-    go true ha true hb c d hd f hf = cc
-    go true ha false hb c true hd f hf = cc
-    go true ha false hb true false hd true hf = cc
-    go true ha false hb false false hd true hf = cc
+    go : (a : Bool) → a ≡ true → (b : Bool) → b ≡ false → (c : Bool) → (d : Bool) → d ≡ false → (f : Bool) → f ≡ false
+        → (((not a || b) || (c && d)) || f || false) ≡ false
     go true ha false hb true false hd false hf = refl
     go true ha false hb false false hd false hf = refl
-    go false ha b hb c d hd f hf = cc
+    go _ ha _ hb _ _ hd _ hf = cc
 
 next_was_never : (n : Node) → is_stranger n (next_pid n) ≡ true
 next_was_never n =
-    go (same_name n.mint.name n.mint.name) (same_name_refl n.mint.name) (nat_lt n.mint.creation n.mint.creation) (n.mint.creation == n.mint.creation) (same_nat n.mint.creation) (nat_lt n.mint.pids (n.mint.pids + 1)) (less_next n.mint.pids) (n.mint.pids + 1 == 0)
+    go (same_name n.mint.name n.mint.name) (same_name_refl n.mint.name) (nat_lt n.mint.creation n.mint.creation)
+    (n.mint.creation == n.mint.creation) (same_nat n.mint.creation) (nat_lt n.mint.pids (n.mint.pids + 1))
+    (less_next n.mint.pids) (n.mint.pids + 1 == 0)
   where
     same_nat : (x : ℕ) → (x == x) ≡ true
     same_nat x = grind arith
@@ -199,12 +274,11 @@ next_was_never n =
     less_next : (x : ℕ) → nat_lt x (x + 1) ≡ true
     less_next x = grind arith
 
-    go : (a : Bool) → a ≡ true → (b : Bool) (c : Bool) → c ≡ true → (d : Bool) → d ≡ true → (f : Bool) → (((not a || b) || (c && d)) || f || false) ≡ true
+    go : (a : Bool) → a ≡ true → (b : Bool) (c : Bool) → c ≡ true → (d : Bool) → d ≡ true → (f : Bool)
+        → (((not a || b) || (c && d)) || f || false) ≡ true
     go true ha true c hc d hd f = refl
     go true ha false true hc true hd f = refl
-    go true ha false true hc false hd f = cc
-    go true ha false false hc d hd f = cc
-    go false ha b c hc d hd f = cc
+    go _ ha _ _ hc _ hd f = cc
 
 -- a Bool fact by the two cases of a test
 pub by_test : (P : Type 0) (b : Bool) → (b ≡ true → P) → (b ≡ false → P) → P
@@ -220,7 +294,8 @@ pub by_trunk : (P : Type 0) (t u : TrunkId) → (t ≡ u → P) → ((t ≡ u �
 by_trunk P t u a b = by_test P (same_trunk t u) (λ h. a (same_trunk_true t u h))
     (λ h. b (λ e. let c : true ≡ false = sym (same_trunk_is t u e) ∙ h in cc))
 
-pub spawned_living : (n : Node) (p : Pid) → living ((spawned_at n (next_pid n)).node) p ≡ is_living_life (cond (same_pid p (next_pid n)) (Some (Living false [])) (fm.get n.lives p))
+pub spawned_living : (n : Node) (p : Pid) → living ((spawned_at n (next_pid n)).node) p
+    ≡ is_living_life (cond (same_pid p (next_pid n)) (Some (Living false [])) (fm.get n.lives p))
 spawned_living n p = ap is_living_life (fm.get-insert pid_total n.lives (next_pid n) (Living false []) p)
 
 born_cond_true : (b : Bool) (l : Option Life) → b ≡ true → is_living_life (cond b (Some (Living false [])) l) ≡ true
@@ -240,18 +315,25 @@ spawned_over : (n : Node) (p : Pid) → over ((spawned_at n (next_pid n)).node) 
 spawned_over n p = by_test _ (same_pid p (next_pid n))
     (λ h.
     let e : p ≡ next_pid n = same_pid_true p (next_pid n) h in
-    let a : over ((spawned_at n (next_pid n)).node) p ≡ false = ap (λ v. not v && not (is_stranger ((spawned_at n (next_pid n)).node) p)) (spawned_living n p ∙ born_cond_true (same_pid p (next_pid n)) (fm.get n.lives p) h) in
+    let a : over ((spawned_at n (next_pid n)).node) p ≡ false =
+    ap (λ v. not v && not (is_stranger ((spawned_at n (next_pid n)).node) p))
+    (spawned_living n p ∙ born_cond_true (same_pid p (next_pid n)) (fm.get n.lives p) h) in
     let c : over n p ≡ false = and_not_true (not (living n p)) (is_stranger n p) (ap (is_stranger n) e ∙ next_was_never n) in
     a ∙ sym c)
-    (λ h. ap (λ v. not v && not (is_stranger ((spawned_at n (next_pid n)).node) p)) (spawned_living n p ∙ born_cond_false (same_pid p (next_pid n)) (fm.get n.lives p) h)
+    (λ h. ap (λ v. not v && not (is_stranger ((spawned_at n (next_pid n)).node) p))
+    (spawned_living n p ∙ born_cond_false (same_pid p (next_pid n)) (fm.get n.lives p) h)
     ∙ ap (λ v. not (living n p) && not v) (spawned_never n p h))
 
 pub spawned_stays_living : (n : Node) (p : Pid) → living n p ≡ true → living ((spawned_at n (next_pid n)).node) p ≡ true
-spawned_stays_living n p l = by_test _ (same_pid p (next_pid n)) (λ h. spawned_living n p ∙ born_cond_true (same_pid p (next_pid n)) (fm.get n.lives p) h)
+spawned_stays_living n p l =
+    by_test _ (same_pid p (next_pid n)) (λ h. spawned_living n p ∙ born_cond_true (same_pid p (next_pid n)) (fm.get n.lives p) h)
     (λ h. spawned_living n p ∙ born_cond_false (same_pid p (next_pid n)) (fm.get n.lives p) h ∙ l)
 
 pub spawned_stays_born : (n : Node) (p : Pid) → is_stranger n p ≡ false → is_stranger ((spawned_at n (next_pid n)).node) p ≡ false
-spawned_stays_born n p h = by_test _ (same_pid p (next_pid n)) (λ e. ap (is_stranger ((spawned_at n (next_pid n)).node)) (same_pid_true p (next_pid n) e) ∙ next_never n) (λ e. spawned_never n p e ∙ h)
+spawned_stays_born n p h =
+    by_test _ (same_pid p (next_pid n))
+    (λ e. ap (is_stranger ((spawned_at n (next_pid n)).node)) (same_pid_true p (next_pid n) e) ∙ next_never n)
+    (λ e. spawned_never n p e ∙ h)
 
 home_along : (f g : Pid → Bool) (xs : List Item) → ((p : Pid) → f p ≡ false → g p ≡ false) → Homely f xs → Homely g xs
 home_along f g [] h k = tt
@@ -263,76 +345,100 @@ spawns n = record {
   dialed = refl;
   name = refl;
   keeps = λ k. record {
-    born = λ p l. by_test _ (same_pid p (next_pid n)) (λ h. ap (is_stranger ((spawned_at n (next_pid n)).node)) (same_pid_true p (next_pid n) h) ∙ next_never n)
-        (λ h. spawned_never n p h ∙ k.born p (sym (spawned_living n p ∙ born_cond_false (same_pid p (next_pid n)) (fm.get n.lives p) h) ∙ l));
-    rooted = λ p q e. let r = k.rooted p q e in (spawned_stays_living n p r.0, r.1, λ i. let d = r.2 i in (spawned_stays_born n q d.0, d.1));
+    born = λ p l. by_test _ (same_pid p (next_pid n))
+        (λ h. ap (is_stranger ((spawned_at n (next_pid n)).node)) (same_pid_true p (next_pid n) h) ∙ next_never n)
+        (λ h. spawned_never n p h
+        ∙ k.born p (sym (spawned_living n p ∙ born_cond_false (same_pid p (next_pid n)) (fm.get n.lives p) h) ∙ l));
+    rooted =
+        λ p q e. let r = k.rooted p q e in (spawned_stays_living n p r.0, r.1, λ i. let d = r.2 i in (spawned_stays_born n q d.0, d.1));
   };
   grows = λ p h. spawned_over n p ∙ h;
   draws = omega arith;
   routed = λ a. a;
   nevers = λ p h. spawned_stays_born n p h;
-  home = λ k h. home_along (λ p. is_stranger n p) (λ p. is_stranger ((spawned_at n (next_pid n)).node) p) n.local (λ p e. spawned_stays_born n p e) h;
-  views = λ k b p q c r t. subst (λ a. Kept a c) (sym (side_path (view b (spawned_at n (next_pid n)) p q) (view b (at_work n) p q) refl (spawned_over n p) refl refl)) t;
+  home = λ k h.
+      home_along (λ p. is_stranger n p) (λ p. is_stranger ((spawned_at n (next_pid n)).node) p) n.local (λ p e. spawned_stays_born n p e) h;
+  views = λ k b p q c r t. subst (λ a. Kept a c)
+      (sym (side_path (view b (spawned_at n (next_pid n)) p q) (view b (at_work n) p q) refl (spawned_over n p) refl refl)) t;
 }
 
-living_trapping : (l : Option Life) (b : Bool) → is_living_life (trapping l b) ≡ is_living_life l
-living_trapping None b = refl
+pub living_trapping : (l : Option Life) (b : Bool) → is_living_life (trapping l b) ≡ is_living_life l
 living_trapping (Some (Living t m)) b = refl
-living_trapping (Some (Ended r)) b = refl
+living_trapping _ b = refl
 
-living_without : (l : Option Life) → is_living_life (without_first l) ≡ is_living_life l
-living_without None = refl
+pub living_without : (l : Option Life) → is_living_life (without_first l) ≡ is_living_life l
 living_without (Some (Living t [])) = refl
-living_without (Some (Living t (m ∷ ms))) = refl
-living_without (Some (Ended r)) = refl
+living_without _ = refl
 
 sets_life : (n : Node) (p : Pid) (l : Option Life) → is_living_life l ≡ living n p → Moves (at_work n) (with_life n p l)
-sets_life n p l h = same_lives (at_work n) (set_life n.lives p l) (λ x. set_life_living n.lives p l x (λ e. h ∙ ap (living n) (sym (same_pid_true x p e))))
+sets_life n p l h =
+    same_lives (at_work n) (set_life n.lives p l) (λ x. set_life_living n.lives p l x (λ e. h ∙ ap (living n) (sym (same_pid_true x p e))))
 
 demonitors : (v : Option Monitor) (p : Pid) (k : Reference) (o : Work) → IfGoes (demonitor_by v p k o) (Moves o)
 demonitors None p k o = tt
-demonitors (Some v) p k o = if_cond (same_pid v.owner p) _ Refusal.NotTheOwner (Moves o) (λ h. then o (unwatch k o) _ (unwatches_one k o) (posts_other v.target.node (Signalled (Signal.Demonitor p v.target k)) (unwatch k o) (λ a b. refl)))
+demonitors (Some v) p k o =
+    if_cond (same_pid v.owner p) _ Refusal.NotTheOwner (Moves o) (λ h. then o (unwatch k o) _ (unwatches_one k o)
+    (posts_other v.target.node (Signalled (Signal.Demonitor p v.target k)) (unwatch k o) (λ a b. refl)))
 
 unlinks_by : (e : End) (p q : Pid) (o : Work) → end_of o.node p q ≡ e → living o.node p ≡ true → IfGoes (unlink_by e p q o) (Moves o)
-unlinks_by End.None p q o h l = stays o
 unlinks_by End.Active p q o h l = if_drawn (id_of o.node.mint kind.UnlinkId) _ (Moves o) (λ id e.
     let d = unlink_drawn o.node.mint id e in
-    subst (λ m. Moves o (post (Signal.UnlinkId id p q) (set_end p q (End.Pending id) (record o { node = record (o.node) { mint = m } })))) (sym d.0) (unlinks_as p q o id l h d.1))
-unlinks_by (End.Pending i) p q o h l = stays o
-
-forged_not : (a b : Bool) → (a && b) ≡ false → a ≡ true → b ≡ false
-forged_not true b h e = h
-forged_not false b h e = cc
+    subst
+    (λ m. Moves o (post (Signal.UnlinkId id p q) (set_end p q (End.Pending id) (record o { node = record (o.node) { mint = m } }))))
+    (sym d.0) (unlinks_as p q o id l h d.1))
+unlinks_by _ p q o h l = stays o
 
 pub if_not_known : (b : Bool) (k : Outcome) (j : Refusal) (P : Work → Type 0) → (b ≡ false → IfGoes k P) → IfGoes (cond b (Refuses j) k) P
 if_not_known true k j P h = tt
 if_not_known false k j P h = h refl
 
-acts_known : (n : Node) (p q : Pid) (k : Outcome) → (living n p ≡ true → (same_name q.node n.mint.name ≡ true → is_stranger n q ≡ false) → IfGoes k (Moves (at_work n))) → IfGoes (acting n p (toward n q k)) (Moves (at_work n))
-acts_known n p q k h = if_cond (living n p) (toward n q k) Refusal.NoSuchProcess (Moves (at_work n)) (λ l. if_not_known (same_name q.node n.mint.name && is_stranger n q) k Refusal.Forged (Moves (at_work n)) (λ v. h l (forged_not (same_name q.node n.mint.name) (is_stranger n q) v)))
+acts_known : (n : Node) (p q : Pid) (k : Outcome)
+    → (living n p ≡ true → (same_name q.node n.mint.name ≡ true → is_stranger n q ≡ false) → IfGoes k (Moves (at_work n)))
+    → IfGoes (acting n p (toward n q k)) (Moves (at_work n))
+acts_known n p q k h =
+    if_cond (living n p) (toward n q k) Refusal.NoSuchProcess (Moves (at_work n)) (λ l. if_not_known
+    (same_name q.node n.mint.name && is_stranger n q) k Refusal.Forged (Moves (at_work n))
+    (λ v. h l (and_second (same_name q.node n.mint.name) (is_stranger n q) v)))
 
-acts : (n : Node) (p q : Pid) (k : Outcome) → (living n p ≡ true → IfGoes k (Moves (at_work n))) → IfGoes (acting n p (toward n q k)) (Moves (at_work n))
-acts n p q k h = if_cond (living n p) (toward n q k) Refusal.NoSuchProcess (Moves (at_work n)) (λ l. if_not (same_name q.node n.mint.name && is_stranger n q) k Refusal.Forged (Moves (at_work n)) (h l))
+acts : (n : Node) (p q : Pid) (k : Outcome) → (living n p ≡ true → IfGoes k (Moves (at_work n)))
+    → IfGoes (acting n p (toward n q k)) (Moves (at_work n))
+acts n p q k h =
+    if_cond (living n p) (toward n q k) Refusal.NoSuchProcess (Moves (at_work n))
+    (λ l. if_not (same_name q.node n.mint.name && is_stranger n q) k Refusal.Forged (Moves (at_work n)) (h l))
 
 -- whatever a call does, no pair is hurt
 pub calls : (n : Node) (c : Command) → IfGoes (call n c) (Moves (at_work n))
 calls n Command.Spawn = if_drawn (id_of n.mint kind.Pid) _ (Moves (at_work n)) (λ id h.
     let d = pid_drawn n.mint id h in
     subst (λ j. Moves (at_work n) (spawn_life n (pid_of n.mint j))) (sym d.1)
-    (subst (λ m. Moves (at_work n) (at_work (record n { mint = m; lives = fm.insert n.lives (next_pid n) (Living false []) }))) (sym d.0) (spawns n)))
-calls n (Command.Send p q t) = acts n p q _ (λ l. if_cond (fits t) _ Refusal.TooLong (Moves (at_work n)) (λ f. posts_other q.node (Signalled (Signal.Send q t)) (at_work n) (λ a b. refl)))
+    (subst
+    (λ m. Moves (at_work n) (at_work (record n { mint = m; lives = fm.insert n.lives (next_pid n) (Living false []) })))
+    (sym d.0) (spawns n)))
+calls n (Command.Send p q t) =
+    acts n p q _ (λ l. if_cond (fits t) _ Refusal.TooLong (Moves (at_work n))
+    (λ f. posts_other q.node (Signalled (Signal.Send q t)) (at_work n) (λ a b. refl)))
 calls n (Command.Link p q) = acts_known n p q _ (λ l v. links p q (at_work n) v l)
 calls n (Command.Unlink p q) = acts n p q _ (λ l. unlinks_by (end_of n p q) p q (at_work n) refl l)
 calls n (Command.Monitor p q) = acts n p q _ (λ l. if_drawn (id_of n.mint kind.Reference) _ (Moves (at_work n)) (λ count h.
     let o = draw kind.Reference (at_work n) in
     let k = reference_of n.mint count in
     then (at_work n) o (monitor k p q o) (draws_reference (at_work n)) (moves_cond (reaches o.node q.node) o _ _
-    (λ r. then o (watch k (monitor_of p q) o) _ (watches_one k (monitor_of p q) o) (posts_other q.node (Signalled (Signal.Monitor p q k)) (watch k (monitor_of p q) o) (λ a b. refl)))
+    (λ r. then o (watch k (monitor_of p q) o) _ (watches_one k (monitor_of p q) o)
+    (posts_other q.node (Signalled (Signal.Monitor p q k)) (watch k (monitor_of p q) o) (λ a b. refl)))
     (λ r. puts p (down_term k q noconnection) o))))
-calls n (Command.Demonitor p k) = if_cond (living n p) _ Refusal.NoSuchProcess (Moves (at_work n)) (λ l. demonitors (fm.get n.watches k) p k (at_work n))
-calls n (Command.Trap p b) = if_cond (living n p) _ Refusal.NoSuchProcess (Moves (at_work n)) (λ l. sets_life n p (trapping (fm.get n.lives p) b) (living_trapping (fm.get n.lives p) b))
-calls n (Command.ExitTo p q r) = acts n p q _ (λ l. if_cond (fits r) _ Refusal.TooLong (Moves (at_work n)) (λ f. posts_other q.node (Signalled (Signal.Exit2 p q r)) (at_work n) (λ a b. refl)))
-calls n (Command.ExitSelf p r) = if_cond (living n p) _ Refusal.NoSuchProcess (Moves (at_work n)) (λ l. if_cond (fits r) _ Refusal.TooLong (Moves (at_work n)) (λ f. finishes p r (at_work n) l))
-calls n (Command.Receive p) = if_cond (living n p) _ Refusal.NoSuchProcess (Moves (at_work n)) (λ l. sets_life n p (without_first (fm.get n.lives p)) (living_without (fm.get n.lives p)))
+calls n (Command.Demonitor p k) =
+    if_cond (living n p) _ Refusal.NoSuchProcess (Moves (at_work n)) (λ l. demonitors (fm.get n.watches k) p k (at_work n))
+calls n (Command.Trap p b) =
+    if_cond (living n p) _ Refusal.NoSuchProcess (Moves (at_work n))
+    (λ l. sets_life n p (trapping (fm.get n.lives p) b) (living_trapping (fm.get n.lives p) b))
+calls n (Command.ExitTo p q r) =
+    acts n p q _ (λ l. if_cond (fits r) _ Refusal.TooLong (Moves (at_work n))
+    (λ f. posts_other q.node (Signalled (Signal.Exit2 p q r)) (at_work n) (λ a b. refl)))
+calls n (Command.ExitSelf p r) =
+    if_cond (living n p) _ Refusal.NoSuchProcess (Moves (at_work n))
+    (λ l. if_cond (fits r) _ Refusal.TooLong (Moves (at_work n)) (λ f. finishes p r (at_work n) l))
+calls n (Command.Receive p) =
+    if_cond (living n p) _ Refusal.NoSuchProcess (Moves (at_work n))
+    (λ l. sets_life n p (without_first (fm.get n.lives p)) (living_without (fm.get n.lives p)))
 calls n (Command.LinksOf p) = if_cond (living n p) _ Refusal.NoSuchProcess (Moves (at_work n)) (λ l. stays (at_work n))
 calls n (Command.IsAlive p) = stays (at_work n)

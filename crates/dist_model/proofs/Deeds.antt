@@ -1,25 +1,28 @@
 -- What each event does, in the words of what is known.
 use Rattle.dist_model.proofs.Envelopes.{mere}
-use Rattle.dist_model.proofs.Seeing.{end_at, living_at, reached_at}
+use Rattle.dist_model.proofs.Seen.{end_at, living_at, reached_at}
 use Rattle.erl_handshake.specs.declared.message.ShakeMsg.{ShakeMsg}
-use Rattle.std.proofs.Common.{◌==◌, nat_lt, ◌≡◌, ◌≤◌, Bool, true, false, cond, not, List, [], ◌∷◌, refl, sym, ap, ◌∙◌, subst, arith, ◌&&◌, ◌||◌, Some, ◌⊎◌, inl, inr, Contains}
+use Rattle.std.proofs.Common.{◌==◌, nat_lt, ◌≡◌, ◌≤◌, Bool, true, false, cond, not, List, [], ◌∷◌}
+use Rattle.std.proofs.Common.{refl, sym, ap, ◌∙◌, subst, arith, ◌&&◌, ◌||◌, Some, ◌⊎◌, inl, inr}
 use Rattle.std.proofs.lemmas.List.Elements.{All-nil, All-weaker}
+use Rattle.std.proofs.lemmas.Bool.{or_parts, not-true, and_parts}
 use Rattle.std.specs.List.{All}
 use Rattle.std.specs.Option.{is_some}
 use Rattle.std.specs.FinMap as fm
-use Rattle.dist_model.proofs.Aging.{Aging, ageless, aging_side}
-use Rattle.dist_model.proofs.Founding.{FoundedSignal, True, carried_by, founded_by, old_now, true_closed, true_side, true_wrote}
-use Rattle.dist_model.proofs.Handshaking.{Turned}
+use Rattle.dist_model.proofs.SideAges.{Aging, ageless, aging_side}
+use Rattle.dist_model.proofs.Founded.{FoundedSignal, True, carried_by, founded_by, old_now, true_closed, true_side, true_wrote}
+use Rattle.dist_model.proofs.HandshakeParts.{Turned}
 use Rattle.dist_model.proofs.Home.{never_own}
-use Rattle.dist_model.proofs.Homing.{Homed, Says, TargetsIn, home_closed, home_side, home_wrote, targets_by}
-use Rattle.dist_model.proofs.Keys.{and_both, same_name_true}
-use Rattle.dist_model.proofs.Moves.{NodeKept}
+use Rattle.dist_model.proofs.HomeMonitors.{Homed, Says, TargetsIn, home_closed, home_side, home_wrote, targets_by}
+use Rattle.dist_model.proofs.Keys.{same_name_true}
+use Rattle.dist_model.proofs.Posts.{NodeKept}
 use Rattle.dist_model.proofs.Parts.{Closed, Rules}
 use Rattle.dist_model.proofs.Routes.{node_of_name}
-use Rattle.dist_model.proofs.Table.{Good}
+use Rattle.dist_model.proofs.Trunks.{Good}
 use Rattle.dist_model.proofs.Told.{Called, Course, Deed, Downs, Drawn, IsFounded, Leaves, Off, Old, Sound, Stays}
-use Rattle.dist_model.proofs.Turning.{Core, Fate, Left, Same, Spent, Turns, core_closed, turns_side, turns_wrote}
+use Rattle.dist_model.proofs.MonitorMoves.{Core, Fate, Left, Same, Spent, Turns, core_closed, turns_side, turns_wrote}
 use Rattle.dist_model.proofs.Views.{over}
+use Rattle.dist_model.proofs.Truths.{none_within}
 use Rattle.dist_model.specs.Causes.{HadEnded, NoConnection, NoProcess, TrueCause}
 use Rattle.dist_model.specs.declared.report.Answer.{Answer}
 use Rattle.dist_model.specs.declared.command.Command.{Command}
@@ -27,7 +30,6 @@ use Rattle.dist_model.specs.Downs.{Monitored, downs_by, downs_in, is_answered, i
 use Rattle.dist_model.specs.Handshake.{with_side, write}
 use Rattle.dist_model.specs.Histories.{History}
 use Rattle.dist_model.specs.Items.{Item}
-use Rattle.dist_model.specs.Links.{noconnection, noproc}
 use Rattle.dist_model.specs.Names.{Name, same_name}
 use Rattle.dist_model.specs.Node.{Node, end_of, living, is_stranger, reaches, route}
 use Rattle.dist_model.specs.Seen.{end_between, is_reached}
@@ -39,27 +41,25 @@ use Rattle.erl_names.specs.declared.trunk.TrunkId.{TrunkId}
 use Rattle.erl_term.specs.Data.{Data}
 use Rattle.erl_term.specs.declared.term.Pid.{Pid}
 use Rattle.erl_term.specs.declared.term.Reference.{Reference}
+use Rattle.link_core.specs.News.{noconnection, noproc}
 use Rattle.link_core.specs.declared.end.End.{End}
 use Rattle.monitor_core.specs.declared.monitor.Monitor.{Monitor}
 
-pub never_same : (m n : Node) → m.mint.name ≡ n.mint.name → m.mint.creation ≡ n.mint.creation → m.mint.pids ≡ n.mint.pids → (p : Pid) → is_stranger m p ≡ is_stranger n p
-never_same m n a b c p = λ i. not (same_name p.node (a i)) || nat_lt (b i) p.creation || (p.creation == b i && nat_lt (c i) p.id) || p.id == 0 || not (p.serial == 0)
-
-not_true : (b : Bool) → not b ≡ true → b ≡ false
-not_true true h = cc
-not_true false h = refl
+pub never_same : (m n : Node) → m.mint.name ≡ n.mint.name → m.mint.creation ≡ n.mint.creation → m.mint.pids ≡ n.mint.pids
+    → (p : Pid) → is_stranger m p ≡ is_stranger n p
+never_same m n a b c p =
+    λ i. not (same_name p.node (a i)) || nat_lt (b i) p.creation || (p.creation == b i && nat_lt (c i) p.id) || p.id == 0
+    || not (p.serial == 0)
 
 pub over_parts : (n : Node) (p : Pid) → over n p ≡ true → (living n p ≡ false) × (is_stranger n p ≡ false)
-over_parts n p h = let v = and_both (not (living n p)) (not (is_stranger n p)) h in (not_true (living n p) v.0, not_true (is_stranger n p) v.1)
+over_parts n p h =
+    let v = and_parts (not (living n p)) (not (is_stranger n p)) h in (not-true (living n p) v.0, not-true (is_stranger n p) v.1)
 
 pub over_of : (n : Node) (p : Pid) → living n p ≡ false → is_stranger n p ≡ false → over n p ≡ true
 over_of n p l v = ap (λ b. not b && not (is_stranger n p)) l ∙ ap not v
 
-or_none : (a b : Bool) → (a || b) ≡ false → (a ≡ false) × (b ≡ false)
-or_none true b h = cc
-or_none false b h = (refl, h)
-
-pub drawn_along : (m n : Node) (k : Reference) → n.mint.creation ≡ m.mint.creation → m.mint.references ≤ n.mint.references → Drawn m k → Drawn n k
+pub drawn_along : (m n : Node) (k : Reference) → n.mint.creation ≡ m.mint.creation → m.mint.references ≤ n.mint.references
+    → Drawn m k → Drawn n k
 drawn_along m n k c r (inl h) = inl (omega (arith, c))
 drawn_along m n k c r (inr h) = let d = h.1 in let l : d.0 ≤ m.mint.references = d.2 in inr (h.0 ∙ sym c, (d.0, d.1, omega (arith, r, l)))
 
@@ -67,9 +67,7 @@ drawn_along m n k c r (inr h) = let d = h.1 in let l : d.0 ≤ m.mint.references
 pub downs_mere : (k : Reference) (fs : List (Effect Item)) → downs_in k (mere fs) ≡ []
 downs_mere k [] = refl
 downs_mere k (Effect.Sent t y x ∷ fs) = downs_mere k fs
-downs_mere k (Effect.Put p m ∷ fs) = downs_mere k fs
-downs_mere k (Effect.Ended p r ∷ fs) = downs_mere k fs
-downs_mere k (Effect.LinkExit p q r ∷ fs) = downs_mere k fs
+downs_mere k (_ ∷ fs) = downs_mere k fs
 
 downs_cond : (k : Reference) (b : Bool) (fs : List (Effect Item)) → downs_in k (cond b (mere fs) fs) ≡ cond b [] (downs_in k fs)
 downs_cond k true fs = downs_mere k fs
@@ -77,7 +75,8 @@ downs_cond k false fs = refl
 
 -- what is true of p and q, told to p
 abbrev pub Right : World → History → Event → Pid → Pid → Data → Type 0
-Right w h e p q z = ((end_between w p q ≡ End.Active) ⊎ ((e ≡ Call p.node (Command.Link p q)) × (is_reached w p q.node ≡ false))) × TrueCause h w p q z
+Right w h e p q z =
+    ((end_between w p q ≡ End.Active) ⊎ ((e ≡ Call p.node (Command.Link p q)) × (is_reached w p q.node ≡ false))) × TrueCause h w p q z
 
 pub old_cause : (w : World) (h : History) (p q : Pid) (z : Data) → Old w h q z → TrueCause h w p q z
 old_cause w h p q z (inl i) = HadEnded i
@@ -96,8 +95,12 @@ module _ (w : World) (h : History) (x : Name) (n : Node) (hx : node_of w.nodes x
   pub node_here : (p : Pid) → is_stranger n p ≡ false → node_of w.nodes p.node ≡ Some n
   node_here p v = subst (λ z. node_of w.nodes z ≡ Some n) (sym (at_pid p v)) hx
 
-  pub unreached : (p : Pid) (y : Name) → is_stranger n p ≡ false → reaches n y ≡ false → (same_name y p.node ≡ false) × (is_reached w p y ≡ false)
-  unreached p y v r = (ap (same_name y) (at_pid p v ∙ sym nm) ∙ (or_none (same_name y n.mint.name) (is_some (route n y)) r).0, ap (λ o. reached_at o y) (node_here p v) ∙ r)
+  pub unreached : (p : Pid) (y : Name) → is_stranger n p ≡ false → reaches n y ≡ false → (same_name y p.node ≡ false)
+      × (is_reached w p y ≡ false)
+  unreached p y v r = (
+    ap (same_name y) (at_pid p v ∙ sym nm) ∙ (or_parts (same_name y n.mint.name) (is_some (route n y)) r).0,
+    ap (λ o. reached_at o y) (node_here p v) ∙ r,
+  )
 
   pub no_connection : (p q : Pid) → is_stranger n p ≡ false → reaches n q.node ≡ false → TrueCause h w p q noconnection
   no_connection p q v r = let u = unreached p q.node v r in NoConnection refl u.0 u.1
@@ -105,17 +108,14 @@ module _ (w : World) (h : History) (x : Name) (n : Node) (hx : node_of w.nodes x
   pub dead_now : (p : Pid) → living n p ≡ false → is_stranger n p ≡ false → Old w h p noproc
   dead_now p l v = inr (refl, (n, node_here p v, over_of n p l v))
 
-  pub held_active : (e : Event) (p q : Pid) (z : Data) → living n p ≡ true → end_of n p q ≡ End.Active → TrueCause h w p q z → Right w h e p q z
+  pub held_active : (e : Event) (p q : Pid) (z : Data) → living n p ≡ true → end_of n p q ≡ End.Active → TrueCause h w p q z
+      → Right w h e p q z
   held_active e p q z l a c = (inl (ap (λ o. end_at o p q) (node_here p (kn.born p l)) ∙ a), c)
 
   pub were : (k : Reference) (u : Monitor) → fm.get n.registered k ≡ Some u → living n u.target ≡ true
   were k u j = (g.enrolled x n k u hx j).0
 
   module _ (e : Event) (xs : List Item) where
-    -- the node, its own list shortened where an item of it was taken
-    abbrev pub base : Node
-    base = record n { local = xs }
-
     abbrev pub Tells : Reference → Monitor → Data → Type 0
     Tells k u z = TrueCause h w u.owner u.target z
 
@@ -162,15 +162,22 @@ module _ (w : World) (h : History) (x : Name) (n : Node) (hx : node_of w.nodes x
         record {
           plain = λ s i. (a.plain s i, c.plain s i);
           posted = λ s o i k. record { truth = a.posted s o i.0 k.truth; core = b.posted s o tt k.core; home = c.posted s o i.1 k.home };
-          end_set = λ p q v o l k. record { truth = a.end_set p q v o l k.truth; core = b.end_set p q v o l k.core; home = c.end_set p q v o l k.home };
+          end_set = λ p q v o l k.
+              record { truth = a.end_set p q v o l k.truth; core = b.end_set p q v o l k.core; home = c.end_set p q v o l k.home };
           drew = λ o k. record { truth = a.drew o k.truth; core = b.drew o k.core; home = c.drew o k.home };
-          life_set = λ p l o i k. record { truth = a.life_set p l o i k.truth; core = b.life_set p l o i k.core; home = c.life_set p l o i k.home };
-          message = λ p m o i k. record { truth = a.message p m o i k.truth; core = b.message p m o i k.core; home = c.message p m o i k.home };
-          reacted = λ p q z o i k. record { truth = a.reacted p q z o i k.truth; core = b.reacted p q z o tt k.core; home = c.reacted p q z o tt k.home };
+          life_set = λ p l o i k.
+              record { truth = a.life_set p l o i k.truth; core = b.life_set p l o i k.core; home = c.life_set p l o i k.home };
+          message =
+              λ p m o i k. record { truth = a.message p m o i k.truth; core = b.message p m o i k.core; home = c.message p m o i k.home };
+          reacted = λ p q z o i k.
+              record { truth = a.reacted p q z o i k.truth; core = b.reacted p q z o tt k.core; home = c.reacted p q z o tt k.home };
           finished = λ p z o k. record { truth = a.finished p z o k.truth; core = b.finished p z o k.core; home = c.finished p z o k.home };
-          registers = λ r m o l i k. record { truth = a.registers r m o l i k.truth; core = b.registers r m o l i k.core; home = c.registers r m o l tt k.home };
-          unregisters = λ r m o j i k. record { truth = a.unregisters r m o j tt k.truth; core = b.unregisters r m o j i k.core; home = c.unregisters r m o j tt k.home };
-          ended = λ r m z o j i k. record { truth = a.ended r m z o j tt k.truth; core = b.ended r m z o j i k.core; home = c.ended r m z o j tt k.home };
+          registers = λ r m o l i k.
+              record { truth = a.registers r m o l i k.truth; core = b.registers r m o l i k.core; home = c.registers r m o l tt k.home };
+          unregisters = λ r m o j i k. record
+              { truth = a.unregisters r m o j tt k.truth; core = b.unregisters r m o j i k.core; home = c.unregisters r m o j tt k.home };
+          ended = λ r m z o j i k.
+              record { truth = a.ended r m z o j tt k.truth; core = b.ended r m z o j i k.core; home = c.ended r m z o j tt k.home };
         }
 
     -- while its sides change
@@ -202,8 +209,12 @@ module _ (w : World) (h : History) (x : Name) (n : Node) (hx : node_of w.nodes x
     pub begins : All (IsFounded w h) xs → All (TargetsIn Spawned) xs → Whole (at_work (record n { local = xs }))
     begins fs ts = record {
       truth = record {
-        carried = record { local = All-weaker (IsFounded w h) _ (old_now (record n { local = xs }) (Old w h) (Right w h e) (Called h) (Off w h) (at_work (record n { local = xs }))) xs fs; sent = All-nil _ };
-        acts = λ p q z c. absurd (nothing (Effect.LinkExit p q z) c);
+        carried = record {
+          local = All-weaker (IsFounded w h) _
+              (old_now (record n { local = xs }) (Old w h) (Right w h e) (Called h) (Off w h) (at_work (record n { local = xs }))) xs fs;
+          sent = All-nil _;
+        };
+        acts = λ p q z c. absurd (none_within (Effect.LinkExit p q z) c);
         watched = λ k u j. j;
         enrolled = λ k u j. (g.enrolled x n k u hx j).1;
       };
@@ -224,9 +235,6 @@ module _ (w : World) (h : History) (x : Name) (n : Node) (hx : node_of w.nodes x
       };
       home = record { local = ts; name = refl };
     }
-      where
-        nothing : (f : Effect Item) → Contains [] f → ⊥
-        nothing f c = let lt = c.1 in omega arith
 
     -- what counts of a work: where a sent message is taken, what was sent alone
     abbrev pub counted : Answer → Work → Work
@@ -235,13 +243,16 @@ module _ (w : World) (h : History) (x : Name) (n : Node) (hx : node_of w.nodes x
     downs_counted : (a : Answer) (o : Work) (k : Reference) → downs_by k e (Reported a o.effects) ≡ downs_in k ((counted a o).effects)
     downs_counted a o k = sym (downs_cond k (takes_message e (Reported a o.effects)) o.effects)
 
-    pub deed : (a : Answer) (o : Work) → ((k : Reference) → is_answered k e (Reported a o.effects) ≡ false) → ((k : Reference) → is_demonitored k e (Reported a o.effects) ≡ false) → T o → U (counted a o) → H o → Deed w h x n e a o
+    pub deed : (a : Answer) (o : Work) → ((k : Reference) → is_answered k e (Reported a o.effects) ≡ false)
+        → ((k : Reference) → is_demonitored k e (Reported a o.effects) ≡ false) → T o → U (counted a o) → H o
+        → Deed w h x n e a o
     deed a o na nd t u k = record {
       name = u.name ∙ nm;
       nevers = λ p v. nv p ∙ v;
       grows = older;
       carries = carried_by _ _ o (founded_by _ _ _ _ _ _ (λ q z c. c) (λ p q r m. inr m) (λ r c. c)) t.carried;
-      homes = All-weaker (TargetsIn Spawned) (TargetsIn (λ q. is_stranger o.node q ≡ false)) (targets_by Spawned (λ q. is_stranger o.node q ≡ false) (λ q v. nv q ∙ v)) o.node.local k.local;
+      homes = All-weaker (TargetsIn Spawned) (TargetsIn (λ q. is_stranger o.node q ≡ false))
+          (targets_by Spawned (λ q. is_stranger o.node q ≡ false) (λ q v. nv q ∙ v)) o.node.local k.local;
       enrolled = λ r m j. let v = u.enrolled r m j in (v.0, joins r m v.1);
       owners = λ r m j. u.owners r m j;
       drawn = λ r d. drawn_along n o.node r u.creation (omega (arith, u.references)) d;
@@ -258,7 +269,8 @@ module _ (w : World) (h : History) (x : Name) (n : Node) (hx : node_of w.nodes x
         joins r m (inl j) = (g.enrolled x n r m hx j).1
         joins r m (inr j) = j
 
-        fate : (r : Reference) → Fate (record n { local = xs }) Tells Joins Drops were (counted a o) r → Course w h n x e (Reported a o.effects) o r
+        fate : (r : Reference) → Fate (record n { local = xs }) Tells Joins Drops were (counted a o) r
+            → Course w h n x e (Reported a o.effects) o r
         fate r (Same b c) = Stays b (downs_counted a o r ∙ c) (na r) (nd r)
         fate r (Left m b c l d) =
             let v = kn.born m.owner (g.watching x n r m hx b).4 in

@@ -1,16 +1,16 @@
 -- What stands first in a list is due: one trunk by itself.
-use Rattle.std.proofs.Common.{◌≡◌, Bool, true, false, cond, not, ℕ, List, [], ◌∷◌, ◌++◌, refl, sym, ap, ◌∙◌, subst, ◌&&◌, ◌||◌, Option, Some, None}
-use Rattle.dist_model.specs.Items.{Handshake, Item, Signalled, Tick}
-use Rattle.dist_model.specs.Sides.{Accepting, Asked, AwaitsAck, AwaitsChallenge, AwaitsStatus, Gone, is_over, is_up, Losing, Parked, State, TrunkSide, Up}
+use Rattle.std.proofs.Common.{◌≡◌, Bool, true, false, cond, not, ℕ, List, [], ◌∷◌, ◌++◌}
+use Rattle.std.proofs.Common.{refl, sym, ap, ◌∙◌, subst, ◌&&◌, ◌||◌, Option, Some, None}
+use Rattle.std.proofs.lemmas.Bool.{or_right, not-false, and_parts, not_from_false, and_from, not-true, or_parts, or_from}
+use Rattle.dist_model.specs.Items.{Handshake, Item}
+use Rattle.dist_model.specs.Sides.{Accepting, Asked, AwaitsAck, AwaitsChallenge, AwaitsStatus}
+use Rattle.dist_model.specs.Sides.{Gone, is_over, is_up, Losing, Parked, State, TrunkSide, Up}
 use Rattle.erl_handshake.specs.declared.message.ShakeMsg.{ShakeMsg}
 use Rattle.dist_model.specs.Due.{due_in, is_handshake, of_role, shakes_for}
-use Rattle.dist_model.proofs.Table.{has, is_accept, is_early, is_reply, role_state, up_once}
-use Rattle.dist_model.proofs.Sides.{holds, or_true, up_holds}
-use Rattle.dist_model.proofs.Lists.{none_of_or, or_none}
-use Rattle.dist_model.proofs.Keys.{and_both}
+use Rattle.dist_model.proofs.Trunks.{has, is_accept, is_early, is_reply, role_state, up_once}
+use Rattle.dist_model.proofs.Sides.{holds, up_holds}
 use Rattle.dist_model.proofs.Primitives.{has-push}
-use Rattle.erl_control.proofs.Fitting.{and, not_false}
-use Rattle.dist_model.proofs.NewSides.{not_not}
+use Rattle.dist_model.proofs.Truths.{not_both}
 
 -- ---- items
 
@@ -19,8 +19,7 @@ is_word i = not (is_handshake i)
 
 abbrev pub strays : Bool → Item → Bool
 strays dials (Handshake m) = not (of_role dials m)
-strays dials (Signalled s) = false
-strays dials Tick = false
+strays dials _ = false
 
 -- ---- lists
 
@@ -34,15 +33,11 @@ abbrev pub guarded : List Item → Bool
 guarded [] = true
 guarded (x ∷ xs) = is_accept x || (is_handshake x && guarded xs)
 
-none_not : (b : Bool) → b ≡ false → not b ≡ true
-none_not true h = cc
-none_not false h = refl
-
 has-tail : (f : Item → Bool) (i : Item) (l : List Item) → has f (i ∷ l) ≡ false → has f l ≡ false
-has-tail f i l h = (none_of_or (f i) (has f l) h).1
+has-tail f i l h = (or_parts (f i) (has f l) h).1
 
 has-head : (f : Item → Bool) (i : Item) (l : List Item) → has f (i ∷ l) ≡ false → f i ≡ false
-has-head f i l h = (none_of_or (f i) (has f l) h).0
+has-head f i l h = (or_parts (f i) (has f l) h).0
 
 has-last : (f : Item → Bool) (l : List Item) (i : Item) → f i ≡ true → has f (l ++ i ∷ []) ≡ true
 has-last f [] i k = ap (λ b. b || false) k
@@ -68,8 +63,8 @@ settled-none f [] i h = go (f i)
     go true = refl
     go false = refl
 settled-none f (x ∷ xs) i h =
-    let v = none_of_or (f x) (has f xs) h in
-    and (cond (f x) (not (has is_handshake (xs ++ i ∷ []))) true) (settled f (xs ++ i ∷ []))
+    let v = or_parts (f x) (has f xs) h in
+    and_from (cond (f x) (not (has is_handshake (xs ++ i ∷ []))) true) (settled f (xs ++ i ∷ []))
     (ap (λ a. cond a (not (has is_handshake (xs ++ i ∷ []))) true) v.0) (settled-none f xs i v.1)
 
 settled-word : (f : Item → Bool) (l : List Item) (i : Item) → settled f l ≡ true → is_handshake i ≡ false → settled f (l ++ i ∷ []) ≡ true
@@ -79,28 +74,27 @@ settled-word f [] i h k = go (f i)
     go true = refl
     go false = refl
 settled-word f (x ∷ xs) i h k =
-    and (cond (f x) (not (has is_handshake (xs ++ i ∷ []))) true) (settled f (xs ++ i ∷ []))
-    (go (f x) (and_both (cond (f x) (not (has is_handshake xs)) true) (settled f xs) h).0)
-    (settled-word f xs i (and_both (cond (f x) (not (has is_handshake xs)) true) (settled f xs) h).1 k)
+    and_from (cond (f x) (not (has is_handshake (xs ++ i ∷ []))) true) (settled f (xs ++ i ∷ []))
+    (go (f x) (and_parts (cond (f x) (not (has is_handshake xs)) true) (settled f xs) h).0)
+    (settled-word f xs i (and_parts (cond (f x) (not (has is_handshake xs)) true) (settled f xs) h).1 k)
   where
     go : (a : Bool) → cond a (not (has is_handshake xs)) true ≡ true → cond a (not (has is_handshake (xs ++ i ∷ []))) true ≡ true
-    go true h = none_not (has is_handshake (xs ++ i ∷ [])) (has-push is_handshake xs i (not_false (has is_handshake xs) h) k)
+    go true h = not_from_false (has is_handshake (xs ++ i ∷ [])) (has-push is_handshake xs i (not-true (has is_handshake xs) h) k)
     go false h = refl
 
 settled-tail : (f : Item → Bool) (i : Item) (l : List Item) → settled f (i ∷ l) ≡ true → settled f l ≡ true
-settled-tail f i l h = (and_both (cond (f i) (not (has is_handshake l)) true) (settled f l) h).1
+settled-tail f i l h = (and_parts (cond (f i) (not (has is_handshake l)) true) (settled f l) h).1
 
 settled-head : (f : Item → Bool) (i : Item) (l : List Item) → settled f (i ∷ l) ≡ true → f i ≡ true → has is_handshake l ≡ false
-settled-head f i l h k = not_false (has is_handshake l) (sym (ap (λ a. cond a (not (has is_handshake l)) true) k)
-    ∙ (and_both (cond (f i) (not (has is_handshake l)) true) (settled f l) h).0)
+settled-head f i l h k = not-true (has is_handshake l) (sym (ap (λ a. cond a (not (has is_handshake l)) true) k)
+    ∙ (and_parts (cond (f i) (not (has is_handshake l)) true) (settled f l) h).0)
 
 guarded-shake : (l : List Item) (i : Item) → guarded l ≡ true → is_handshake i ≡ true → guarded (l ++ i ∷ []) ≡ true
 guarded-shake [] i h k = go (is_accept i) (is_handshake i) k
   where
     go : (a b : Bool) → b ≡ true → (a || (b && true)) ≡ true
-    go true b k = refl
-    go false true k = refl
     go false false k = cc
+    go _ _ k = refl
 guarded-shake (x ∷ xs) i h k = go (is_accept x) (is_handshake x) (λ j. guarded-shake xs i j k) h
   where
     go : (a b : Bool) → (guarded xs ≡ true → guarded (xs ++ i ∷ []) ≡ true) → (a || (b && guarded xs)) ≡ true
@@ -123,9 +117,8 @@ guarded-tail : (i : Item) (l : List Item) → guarded (i ∷ l) ≡ true → is_
 guarded-tail i l h k = go (is_accept i) (is_handshake i) k h
   where
     go : (a b : Bool) → a ≡ false → (a || (b && guarded l)) ≡ true → guarded l ≡ true
-    go true b k h = cc
     go false true k h = h
-    go false false k h = cc
+    go _ _ k h = cc
 
 has-past : (f : Item → Bool) (i : Item) (l : List Item) → has f (i ∷ l) ≡ true → f i ≡ false → has f l ≡ true
 has-past f i l h k = sym (ap (λ a. a || has f l) k) ∙ h
@@ -133,15 +126,8 @@ has-past f i l h k = sym (ap (λ a. a || has f l) k) ∙ h
 -- ---- states
 
 abbrev pub awaits_ack : State → Bool
-awaits_ack (AwaitsStatus w) = false
-awaits_ack (AwaitsChallenge w) = false
 awaits_ack (AwaitsAck w) = true
-awaits_ack (Asked w) = false
-awaits_ack (Parked w) = false
-awaits_ack (Accepting w) = false
-awaits_ack Up = false
-awaits_ack Losing = false
-awaits_ack Gone = false
+awaits_ack _ = false
 
 abbrev pub dials : State → Bool
 dials v = is_early v || awaits_ack v
@@ -174,39 +160,21 @@ pub record DueRow (v : State) (o : Option State) (D A : List Item) : Type 0 wher
   pub guard : dials v ≡ true → guarded D ≡ true
   pub acked : awaits_ack v ≡ true → of_far holds o ≡ true → has is_accept D ≡ true
 
-no : {P : Type 0} (b : Bool) → b ≡ true → b ≡ false → P
-no true h k = cc
-no false h k = cc
-
-early_dials : (v : State) → is_early v ≡ true → dials v ≡ true
-early_dials v h = ap (λ b. b || awaits_ack v) h
-
 far_up_holds : (o : Option State) → of_far is_up o ≡ true → of_far holds o ≡ true
 far_up_holds None h = cc
 far_up_holds (Some a) h = (up_holds a h).0
 
 pub ends_kind : (v : State) → is_over v ≡ true → (is_early v ≡ false) × (awaits_ack v ≡ false) × (is_up v ≡ false) × (up_once v ≡ true)
-ends_kind (AwaitsStatus w) h = cc
-ends_kind (AwaitsChallenge w) h = cc
-ends_kind (AwaitsAck w) h = cc
-ends_kind (Asked w) h = cc
-ends_kind (Parked w) h = cc
-ends_kind (Accepting w) h = cc
-ends_kind Up h = cc
 ends_kind Losing h = (refl, refl, refl, refl)
 ends_kind Gone h = (refl, refl, refl, refl)
+ends_kind _ h = cc
 
 -- before its acceptor is up
 young_kind : (a : State) → up_once a ≡ false → (holds a ≡ false) × (is_up a ≡ false)
-young_kind (AwaitsStatus w) h = (refl, refl)
-young_kind (AwaitsChallenge w) h = (refl, refl)
-young_kind (AwaitsAck w) h = (refl, refl)
-young_kind (Asked w) h = (refl, refl)
-young_kind (Parked w) h = (refl, refl)
-young_kind (Accepting w) h = (refl, refl)
 young_kind Up h = cc
 young_kind Losing h = cc
 young_kind Gone h = cc
+young_kind _ h = (refl, refl)
 
 -- one list or the other
 pub row_with : (v : State) (o p : Option State) (D E A B : List Item) → o ≡ p → D ≡ E → A ≡ B → DueRow v o D A → DueRow v p E B
@@ -227,7 +195,7 @@ taken_by_dialer v o i D A k r = record {
   dialer_up = λ h. has-tail is_handshake i D (r.dialer_up h);
   acceptor_up = r.acceptor_up;
   guard = λ h. guarded-tail i D (r.guard h) (k h);
-  acked = λ h j. has-past is_accept i D (r.acked h j) (k (or_true (is_early v) (awaits_ack v) h));
+  acked = λ h j. has-past is_accept i D (r.acked h j) (k (or_right (is_early v) (awaits_ack v) h));
 }
 
 pub taken_by_acceptor : (v : State) (o : Option State) (i : Item) (D A : List Item) → DueRow v o D (i ∷ A) → DueRow v o D A
@@ -249,29 +217,29 @@ pub dialer_ends : (v u : State) (o : Option State) (D A : List Item) → is_over
     → DueRow v o D A → DueRow u o D A
 dialer_ends v u o D A e k r = let z = ends_kind u e in record {
   before = λ h. let b = r.before h in (k b.0, b.1, b.2, b.3);
-  early = λ h. no (is_early u) h z.0;
+  early = λ h. not_both (is_early u) h z.0;
   to_dialer = r.to_dialer;
   to_acceptor = r.to_acceptor;
   last_ack = r.last_ack;
   last_reply = r.last_reply;
-  dialer_up = λ h. no (is_up u) h z.2;
+  dialer_up = λ h. not_both (is_up u) h z.2;
   acceptor_up = r.acceptor_up;
-  guard = λ h. no (dials u) h (or_none (is_early u) (awaits_ack u) z.0 z.1);
-  acked = λ h j. no (awaits_ack u) h z.1;
+  guard = λ h. not_both (dials u) h (or_from (is_early u) (awaits_ack u) z.0 z.1);
+  acked = λ h j. not_both (awaits_ack u) h z.1;
 }
 
 -- the acceptor's
 pub acceptor_ends : (v u : State) (o : Option State) (D A : List Item) → is_over u ≡ true → (of_far holds o ≡ false → holds u ≡ false)
     → (holds u ≡ true → of_far holds o ≡ true) → DueRow v o D A → DueRow v (Some u) D A
 acceptor_ends v u o D A e k l r = let z = ends_kind u e in record {
-  before = λ h. no (up_once u) z.3 h;
+  before = λ h. not_both (up_once u) z.3 h;
   early = λ h. let b = r.early h in (k b.0, b.1, b.2);
   to_dialer = r.to_dialer;
   to_acceptor = r.to_acceptor;
   last_ack = r.last_ack;
   last_reply = r.last_reply;
   dialer_up = r.dialer_up;
-  acceptor_up = λ h. no (is_up u) h z.2;
+  acceptor_up = λ h. not_both (is_up u) h z.2;
   guard = r.guard;
   acked = λ h j. r.acked h (l j);
 }
@@ -287,9 +255,9 @@ acceptor_goes v u o D A e f r = let z = young_kind u f in record {
   last_ack = r.last_ack;
   last_reply = r.last_reply;
   dialer_up = r.dialer_up;
-  acceptor_up = λ h. no (is_up u) h z.1;
+  acceptor_up = λ h. not_both (is_up u) h z.1;
   guard = r.guard;
-  acked = λ h j. no (holds u) j z.0;
+  acked = λ h j. not_both (holds u) j z.0;
 }
 
 -- a status or the challenge is sent, before the acceptor is up
@@ -302,7 +270,7 @@ says_to_dialer v o m D A e f n r = let b = r.before e in record {
   to_acceptor = r.to_acceptor;
   last_ack = settled-none is_accept D (Handshake m) b.1;
   last_reply = r.last_reply;
-  dialer_up = λ h. no (holds v) (up_holds v h).0 b.0;
+  dialer_up = λ h. not_both (holds v) (up_holds v h).0 b.0;
   acceptor_up = r.acceptor_up;
   guard = λ h. guarded-shake D (Handshake m) (r.guard h) refl;
   acked = λ h j. has-kept is_accept D (Handshake m) (r.acked h j);
@@ -319,7 +287,7 @@ says_to_acceptor v o m D A e f n r = let b = r.early e in record {
   last_ack = r.last_ack;
   last_reply = settled-none is_reply A (Handshake m) b.1;
   dialer_up = r.dialer_up;
-  acceptor_up = λ h. no (of_far holds o) (far_up_holds o h) b.0;
+  acceptor_up = λ h. not_both (of_far holds o) (far_up_holds o h) b.0;
   guard = r.guard;
   acked = r.acked;
 }
@@ -350,16 +318,16 @@ dialer_replies w u k d o D A r = let b = r.early refl in record {
   last_ack = r.last_ack;
   last_reply = settled-none is_reply A (Handshake (ShakeMsg.ChallengeReply k d)) b.1;
   dialer_up = λ h. cc;
-  acceptor_up = λ h. no (of_far holds o) (far_up_holds o h) b.0;
+  acceptor_up = λ h. not_both (of_far holds o) (far_up_holds o h) b.0;
   guard = r.guard;
-  acked = λ h j. no (of_far holds o) j b.0;
+  acked = λ h j. not_both (of_far holds o) j b.0;
 }
 
 -- the acknowledgement has come
 pub dialer_comes_up : (w : ℕ) (o : Option State) (i : Item) (D A : List Item) → is_accept i ≡ true → DueRow (AwaitsAck w) o (i ∷ D) A
     → DueRow Up o D A
 dialer_comes_up w o i D A e r = record {
-  before = λ h. no (is_accept i) e (has-head is_accept i D (r.before h).1);
+  before = λ h. not_both (is_accept i) e (has-head is_accept i D (r.before h).1);
   early = λ h. cc;
   to_dialer = has-tail (strays true) i D r.to_dialer;
   to_acceptor = r.to_acceptor;
@@ -376,12 +344,12 @@ pub acceptor_comes_up : (v : State) (w : ℕ) (i : Item) (d : List ℕ) (D A : L
     → DueRow v (Some (Accepting w)) D (i ∷ A) → DueRow v (Some Up) (D ++ Handshake (ShakeMsg.ChallengeAck d) ∷ []) A
 acceptor_comes_up v w i d D A e r = let b = r.before refl in record {
   before = λ h. cc;
-  early = λ h. no (is_reply i) e (has-head is_reply i A (r.early h).1);
+  early = λ h. not_both (is_reply i) e (has-head is_reply i A (r.early h).1);
   to_dialer = has-push (strays true) D (Handshake (ShakeMsg.ChallengeAck d)) r.to_dialer refl;
   to_acceptor = has-tail (strays false) i A r.to_acceptor;
   last_ack = settled-none is_accept D (Handshake (ShakeMsg.ChallengeAck d)) b.1;
   last_reply = settled-tail is_reply i A r.last_reply;
-  dialer_up = λ h. no (holds v) (up_holds v h).0 b.0;
+  dialer_up = λ h. not_both (holds v) (up_holds v h).0 b.0;
   acceptor_up = λ h. settled-head is_reply i A r.last_reply e;
   guard = λ h. guarded-shake D (Handshake (ShakeMsg.ChallengeAck d)) (r.guard h) refl;
   acked = λ h j. has-last is_accept D (Handshake (ShakeMsg.ChallengeAck d)) refl;
@@ -420,7 +388,7 @@ acceptor_signals v i D A e f n r = record {
   where
     go : (a : Bool) → is_early v ≡ a → (b : Bool) → awaits_ack v ≡ b → (a || b) ≡ true → guarded (D ++ i ∷ []) ≡ true
     go true p b q h = let c : true ≡ false = (r.early p).0 in cc
-    go false p true q h = guarded-behind D i (r.guard (or_true (is_early v) (awaits_ack v) q)) (r.acked q refl)
+    go false p true q h = guarded-behind D i (r.guard (or_right (is_early v) (awaits_ack v) q)) (r.acked q refl)
     go false p false q h = cc
 
 -- a new attempt
@@ -441,14 +409,12 @@ dialed w f c n = record {
 -- ---- what stands first is due
 
 shake_due : (b : Bool) (i : Item) → is_handshake i ≡ true → strays b i ≡ false → shakes_for b i ≡ true
-shake_due b (Handshake m) h k = not_not (of_role b m) k
-shake_due b (Signalled s) h k = cc
-shake_due b Tick h k = cc
+shake_due b (Handshake m) h k = not-false (of_role b m) k
+shake_due b _ h k = cc
 
 guarded_first : (i : Item) (l : List Item) → guarded (i ∷ l) ≡ true → is_handshake i ≡ true
 guarded_first (Handshake m) l h = refl
-guarded_first (Signalled s) l h = cc
-guarded_first Tick l h = cc
+guarded_first _ l h = cc
 
 dialing_due : (v : State) (o : Option State) (i : Item) (D A : List Item) → dials v ≡ true → DueRow v o (i ∷ D) A → shakes_for true i ≡ true
 dialing_due v o i D A h r = shake_due true i (guarded_first i D (r.guard h)) (has-head (strays true) i D r.to_dialer)
@@ -458,26 +424,22 @@ pub dialer_due : (v : State) (o : Option State) (i : Item) (D A : List Item) →
 dialer_due (AwaitsStatus w) o i D A k r = dialing_due (AwaitsStatus w) o i D A refl r
 dialer_due (AwaitsChallenge w) o i D A k r = dialing_due (AwaitsChallenge w) o i D A refl r
 dialer_due (AwaitsAck w) o i D A k r = dialing_due (AwaitsAck w) o i D A refl r
-dialer_due (Asked w) o i D A k r = cc
-dialer_due (Parked w) o i D A k r = cc
-dialer_due (Accepting w) o i D A k r = cc
-dialer_due Up o i D A k r = none_not (is_handshake i) (has-head is_handshake i D (r.dialer_up refl))
+dialer_due Up o i D A k r = not_from_false (is_handshake i) (has-head is_handshake i D (r.dialer_up refl))
 dialer_due Losing o i D A k r = refl
 dialer_due Gone o i D A k r = refl
+dialer_due _ o i D A k r = cc
 
 pub young_due : (v : State) (o : Option State) (i : Item) (D A : List Item) → of_far up_once o ≡ false → DueRow v o D (i ∷ A)
     → shakes_for false i ≡ true
-young_due v o i D A h r = shake_due false i (not_not (is_handshake i) (has-head is_word i A (r.before h).3))
+young_due v o i D A h r = shake_due false i (not-false (is_handshake i) (has-head is_word i A (r.before h).3))
     (has-head (strays false) i A r.to_acceptor)
 
 pub acceptor_due : (v u : State) (i : Item) (D A : List Item) → role_state false u ≡ true → DueRow v (Some u) D (i ∷ A)
     → due_in false u i ≡ true
-acceptor_due v (AwaitsStatus w) i D A k r = cc
-acceptor_due v (AwaitsChallenge w) i D A k r = cc
-acceptor_due v (AwaitsAck w) i D A k r = cc
 acceptor_due v (Asked w) i D A k r = young_due v (Some (Asked w)) i D A refl r
 acceptor_due v (Parked w) i D A k r = young_due v (Some (Parked w)) i D A refl r
 acceptor_due v (Accepting w) i D A k r = young_due v (Some (Accepting w)) i D A refl r
-acceptor_due v Up i D A k r = none_not (is_handshake i) (has-head is_handshake i A (r.acceptor_up refl))
+acceptor_due v Up i D A k r = not_from_false (is_handshake i) (has-head is_handshake i A (r.acceptor_up refl))
 acceptor_due v Losing i D A k r = refl
 acceptor_due v Gone i D A k r = refl
+acceptor_due v _ i D A k r = cc

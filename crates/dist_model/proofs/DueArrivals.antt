@@ -2,19 +2,22 @@
 use Rattle.std.proofs.Common.{◌≡◌, ℕ, Bool, true, false, cond, List, [], ◌∷◌, ◌++◌, refl, sym, ap, ◌∙◌, subst, Option, Some, inl, inr}
 use Rattle.std.specs.FinMap as fm
 use Rattle.std.specs.FinMap.{FinMap}
+use Rattle.std.proofs.lemmas.Bool.{or_from}
 use Rattle.conn_core.specs.declared.arrival.Fault.{Fault}
 use Rattle.erl_handshake.specs.declared.fault.ShakeFault.{ShakeFault}
 use Rattle.dist_model.proofs.Calls.{IfGoes, by_test}
-use Rattle.dist_model.proofs.Due.{acceptor_comes_up, acceptor_ends, awaits_ack as waits_ack, dialer_comes_up, dialer_ends, dialer_goes, dialer_replies, dials, DueRow, ends_kind, row_with, says_to_acceptor, state_in, taken_by_acceptor, taken_by_dialer}
+use Rattle.dist_model.proofs.Due.{acceptor_comes_up, acceptor_ends, awaits_ack as waits_ack, dialer_comes_up}
+use Rattle.dist_model.proofs.Due.{dialer_ends, dialer_goes, dialer_replies, dials, DueRow, ends_kind}
+use Rattle.dist_model.proofs.Due.{row_with, says_to_acceptor, state_in, taken_by_acceptor, taken_by_dialer}
 use Rattle.dist_model.proofs.DueSteps.{lost_ends}
 use Rattle.dist_model.proofs.DueWork.{put_away, put_other, put_same}
 use Rattle.dist_model.proofs.DueWorld.{Due, due_acceptor, due_dialer, Whose}
 use Rattle.dist_model.proofs.Keys.{same_name_is, same_name_true}
 use Rattle.dist_model.proofs.Pairs.{Met}
-use Rattle.dist_model.proofs.Reside.{side_after_other, side_after_same, with_side_at}
+use Rattle.dist_model.proofs.SideChanges.{side_after_other, side_after_same, with_side_at}
 use Rattle.dist_model.proofs.Rules.{awaits_ack, awaits_challenge, awaits_reply, awaits_status}
 use Rattle.dist_model.proofs.Sides.{side_at}
-use Rattle.dist_model.proofs.Table.{is_accept, is_early, is_reply, role_state}
+use Rattle.dist_model.proofs.Trunks.{is_accept, is_early, is_reply, role_state}
 use Rattle.dist_model.specs.Commands.{Outcome}
 use Rattle.dist_model.specs.Handshake.{fault}
 use Rattle.dist_model.specs.Items.{Handshake, Item}
@@ -29,11 +32,10 @@ use Rattle.erl_handshake.specs.Roles.{is_answered, is_same}
 use Rattle.erl_handshake.specs.declared.message.ShakeMsg.{ShakeMsg}
 use Rattle.erl_handshake.specs.declared.status.Status.{Status}
 use Rattle.erl_names.specs.declared.trunk.TrunkId.{TrunkId}
-use Rattle.dist_model.proofs.Lists.{or_none}
 use Rattle.dist_model.proofs.Handshake.{as_state}
 
 dials_not : (v : State) → is_over v ≡ true → dials v ≡ true → is_accept (Handshake (ShakeMsg.Status Status.Ok)) ≡ true
-dials_not v e h = let k = ends_kind v e in let c : true ≡ false = sym h ∙ or_none (is_early v) (waits_ack v) k.0 k.1 in cc
+dials_not v e h = let k = ends_kind v e in let c : true ≡ false = sym h ∙ or_from (is_early v) (waits_ack v) k.0 k.1 in cc
 
 module _ (ns : List Node) (m : FinMap place_cmp (List Item)) (x : Name) (n : Node) (t : TrunkId) (v : TrunkSide) (i : Item)
     (rest : List Item) (hx : node_of ns x ≡ Some n) (nx : n.mint.name ≡ x)
@@ -131,12 +133,7 @@ module _ (ns : List Node) (m : FinMap place_cmp (List Item)) (x : Name) (n : Nod
       (status_row u e (ap is_accept j) p A r))
   on_status u e (ShakeMsg.Status Status.Nok) j = bad (Fault.Shake ShakeFault.Nok)
   on_status u e (ShakeMsg.Status Status.NotAllowed) j = bad (Fault.Shake ShakeFault.Nok)
-  on_status u e (ShakeMsg.Status Status.True) j = bad (Fault.Shake ShakeFault.BadMessage)
-  on_status u e (ShakeMsg.Status Status.False) j = bad (Fault.Shake ShakeFault.BadMessage)
-  on_status u e (ShakeMsg.SendName a b c) j = bad (Fault.Shake ShakeFault.BadMessage)
-  on_status u e (ShakeMsg.Challenge a b c d) j = bad (Fault.Shake ShakeFault.BadMessage)
-  on_status u e (ShakeMsg.ChallengeReply a b) j = bad (Fault.Shake ShakeFault.BadMessage)
-  on_status u e (ShakeMsg.ChallengeAck a) j = bad (Fault.Shake ShakeFault.BadMessage)
+  on_status u e _ j = bad (Fault.Shake ShakeFault.BadMessage)
 
   pub on_challenge : (u : ℕ) → v.state ≡ AwaitsChallenge u → (l : ShakeMsg) → i ≡ Handshake l → Fin (awaits_challenge t v u l (at_work n))
   on_challenge u e (ShakeMsg.Challenge f w c y) j = unless (is_same y v.peer) _ (Fault.Shake ShakeFault.Forged)
@@ -145,26 +142,17 @@ module _ (ns : List Node) (m : FinMap place_cmp (List Item)) (x : Name) (n : Nod
       (Handshake (ShakeMsg.ChallengeReply u (digest_of n.cookie w))) refl
       (λ p A r. dialer_replies u u u (digest_of n.cookie w) p rest A
       (taken_by_dialer (AwaitsChallenge u) p i rest A (λ d. ap is_accept j) (subst (λ z. DueRow z p (i ∷ rest) A) e r)))))
-  on_challenge u e (ShakeMsg.Status s) j = bad (Fault.Shake ShakeFault.BadMessage)
-  on_challenge u e (ShakeMsg.SendName a b c) j = bad (Fault.Shake ShakeFault.BadMessage)
-  on_challenge u e (ShakeMsg.ChallengeReply a b) j = bad (Fault.Shake ShakeFault.BadMessage)
-  on_challenge u e (ShakeMsg.ChallengeAck a) j = bad (Fault.Shake ShakeFault.BadMessage)
+  on_challenge u e _ j = bad (Fault.Shake ShakeFault.BadMessage)
 
   pub on_ack : (u : ℕ) → v.state ≡ AwaitsAck u → (l : ShakeMsg) → i ≡ Handshake l → Fin (awaits_ack t v u l (at_work n))
   on_ack u e (ShakeMsg.ChallengeAck d) j = unless (is_answered n.cookie u d) _ (Fault.Shake ShakeFault.BadDigest)
       (dialer_takes (is_dialer (ap (role_state false) e)) (as_state v Up) refl
       (λ p A r. dialer_comes_up u p i rest A (ap is_accept j) (subst (λ z. DueRow z p (i ∷ rest) A) e r)))
-  on_ack u e (ShakeMsg.Status s) j = bad (Fault.Shake ShakeFault.BadMessage)
-  on_ack u e (ShakeMsg.SendName a b c) j = bad (Fault.Shake ShakeFault.BadMessage)
-  on_ack u e (ShakeMsg.Challenge a b c d) j = bad (Fault.Shake ShakeFault.BadMessage)
-  on_ack u e (ShakeMsg.ChallengeReply a b) j = bad (Fault.Shake ShakeFault.BadMessage)
+  on_ack u e _ j = bad (Fault.Shake ShakeFault.BadMessage)
 
   pub on_reply : (u : ℕ) → v.state ≡ Accepting u → (l : ShakeMsg) → i ≡ Handshake l → Fin (awaits_reply t v u l (at_work n))
   on_reply u e (ShakeMsg.ChallengeReply w d) j = let k = is_acceptor (ap (role_state true) e) in unless (is_answered n.cookie u d) _
       (Fault.Shake ShakeFault.BadDigest)
       (acceptor_answers k.0 k.2 k.1 (as_state v Up) (Handshake (ShakeMsg.ChallengeAck (digest_of n.cookie w)))
       (λ y D r. acceptor_comes_up y u i (digest_of n.cookie w) D rest (ap is_reply j) (subst (λ z. DueRow y (Some z) D (i ∷ rest)) e r)))
-  on_reply u e (ShakeMsg.Status s) j = bad (Fault.Shake ShakeFault.BadMessage)
-  on_reply u e (ShakeMsg.SendName a b c) j = bad (Fault.Shake ShakeFault.BadMessage)
-  on_reply u e (ShakeMsg.Challenge a b c d) j = bad (Fault.Shake ShakeFault.BadMessage)
-  on_reply u e (ShakeMsg.ChallengeAck a) j = bad (Fault.Shake ShakeFault.BadMessage)
+  on_reply u e _ j = bad (Fault.Shake ShakeFault.BadMessage)

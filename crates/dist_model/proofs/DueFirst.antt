@@ -1,17 +1,18 @@
 -- What stands first in a list is due at the side that it comes to.
 use Rattle.std.proofs.Common.{◌≡◌, true, false, ◌∷◌, refl, sym, ap, ◌∙◌, Option, Some, None, ◌⊎◌, inl, inr}
+use Rattle.std.proofs.lemmas.Option.{same_Some}
 use Rattle.std.specs.FinMap as fm
 use Rattle.dist_model.proofs.Calls.{by_name, by_test}
 use Rattle.dist_model.proofs.Due.{acceptor_due, dialer_due, DueRow, of_far, row_with, state_in, young_due}
 use Rattle.dist_model.proofs.DueLaw.{due_step}
 use Rattle.dist_model.proofs.DueWorld.{Due, far_in}
 use Rattle.dist_model.proofs.Keys.{same_name_is, same_name_true}
-use Rattle.dist_model.proofs.Routes.{node_of_name, some_same}
+use Rattle.dist_model.proofs.Routes.{node_of_name}
 use Rattle.dist_model.proofs.Run.{always_kept, good_step_at}
 use Rattle.dist_model.proofs.Primitives.{some_listed}
 use Rattle.dist_model.proofs.Safety.{good_opening, none_at}
 use Rattle.dist_model.proofs.Sides.{side_at}
-use Rattle.dist_model.proofs.Table.{Good, Posted, role_state, up_once}
+use Rattle.dist_model.proofs.Trunks.{Good, Posted, role_state, up_once}
 use Rattle.dist_model.specs.Due.{DueFirst, due_at}
 use Rattle.dist_model.specs.Names.{same_name}
 use Rattle.dist_model.specs.Node.{Node}
@@ -25,7 +26,7 @@ first_due w g u t x n i l hx hl = go (g.posted t x (some_listed (fm.get w.lists 
     dialer : (s : TrunkSide) (d : Node) → node_of w.nodes t.dialer ≡ Some d → side_at d t ≡ Some s → t.dialer ≡ x
         → due_at (same_name t.dialer x) (side_at n t) i ≡ true
     dialer s d hd hs e =
-        let dn : d ≡ n = some_same d n (sym hd ∙ ap (node_of w.nodes) e ∙ hx) in
+        let dn : d ≡ n = same_Some d n (sym hd ∙ ap (node_of w.nodes) e ∙ hx) in
         let at : side_at n t ≡ Some s = ap (λ z. side_at z t) (sym dn) ∙ hs in
         let nx = node_of_name w.nodes x n hx in
         let b : same_name t.dialer x ≡ true = same_name_is t.dialer x e in

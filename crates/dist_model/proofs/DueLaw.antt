@@ -1,14 +1,16 @@
 -- What stands first in a list is due, in every run.
-use Rattle.std.proofs.Common.{◌≡◌, ℕ, Bool, true, false, cond, not, List, [], ◌∷◌, ◌++◌, refl, sym, ap, ◌∙◌, subst, arith, Option, Some, None, ◌+◌, ◌^◌, nat_lt}
+use Rattle.std.proofs.Common.{◌≡◌, ℕ, Bool, true, false, cond, not, List, [], ◌∷◌, ◌++◌, refl}
+use Rattle.std.proofs.Common.{sym, ap, ◌∙◌, subst, arith, Option, Some, None, ◌+◌, ◌^◌, nat_lt}
+use Rattle.std.proofs.lemmas.Option.{same_Some, none-some}
 use Rattle.std.specs.Option.{is_some}
 use Rattle.std.specs.FinMap as fm
 use Rattle.std.specs.FinMap.{FinMap}
-use Rattle.dist_model.proofs.Closing.{gone_side, gone_sides}
+use Rattle.dist_model.proofs.ClosedSides.{gone_side, gone_sides}
 use Rattle.dist_model.proofs.Due.{acceptor_ends, dialed, dialer_ends, DueRow, row_with, state_in}
 use Rattle.dist_model.proofs.DueWork.{put_away, put_other, put_same}
 use Rattle.dist_model.proofs.DueRun.{calls_due, comes_due, local_due, lose_due, stranger, sweep_due}
-use Rattle.dist_model.proofs.Reside.{side_after_other, side_after_same, with_side_at}
-use Rattle.dist_model.proofs.Table.{Good}
+use Rattle.dist_model.proofs.SideChanges.{side_after_other, side_after_same, with_side_at}
+use Rattle.dist_model.proofs.Trunks.{Good}
 use Rattle.erl_handshake.specs.Flags.{mandatory}
 use Rattle.erl_handshake.specs.declared.message.ShakeMsg.{ShakeMsg}
 use Rattle.erl_term.specs.declared.refusal.Refusal.{Refusal}
@@ -20,19 +22,20 @@ use Rattle.dist_model.specs.Incarnations.{start, started, stopped}
 use Rattle.dist_model.specs.Work.{at_work}
 use Rattle.dist_model.proofs.DueWorld.{Due, due_new, far_in, here, there}
 use Rattle.dist_model.proofs.Keys.{same_name_is}
-use Rattle.dist_model.proofs.Routes.{node_of_name, node_of_set_other, none_some, some_same}
+use Rattle.dist_model.proofs.Routes.{node_of_name, node_of_set_other}
 use Rattle.dist_model.proofs.Sides.{side_at}
 use Rattle.dist_model.specs.Items.{Handshake, Item}
 use Rattle.dist_model.specs.Names.{Name, place_cmp, same_name}
 use Rattle.dist_model.specs.Node.{Node, side_where}
 use Rattle.dist_model.specs.NodeEvents.{if_up}
 use Rattle.dist_model.specs.Sides.{AwaitsStatus, Gone, State, TrunkSide, is_gone}
-use Rattle.dist_model.specs.World.{Arrive, Call, Dial, Event, Local, Lose, Start, Stepped, Stop, Sweep, World, came_of, list_to, node_name, node_of, set_node, step_at}
+use Rattle.dist_model.specs.World.{Arrive, Call, Dial, Event, Local, Lose, Start, Stepped, Stop, Sweep}
+use Rattle.dist_model.specs.World.{World, came_of, list_to, node_name, node_of, set_node, step_at}
 use Rattle.erl_names.specs.declared.trunk.TrunkId.{TrunkId}
 use Rattle.dist_model.proofs.NewSides.{list_none, option_none}
 use Rattle.dist_model.proofs.Handshake.{as_state}
 use Rattle.dist_model.proofs.Calls.{by_name}
-use Rattle.dist_model.proofs.Stepping.{while_up}
+use Rattle.dist_model.proofs.OneStep.{while_up}
 
 -- a node stops or starts: all its sides are gone
 module _ (ns : List Node) (m : FinMap place_cmp (List Item)) (x : Name) (n n' : Node) (hx : node_of ns x ≡ Some n) (nn : n'.mint.name ≡ x)
@@ -45,7 +48,7 @@ module _ (ns : List Node) (m : FinMap place_cmp (List Item)) (x : Name) (n n' : 
   pub due_cleared : Due ns m → Due (set_node ns x n') m
   due_cleared g t d s hd hs = by_name _ x t.dialer
       (λ e.
-      let nd : n' ≡ d = some_same n' d (sym (here ns m x n n' hx nn) ∙ ap (node_of (set_node ns x n')) e ∙ hd) in
+      let nd : n' ≡ d = same_Some n' d (sym (here ns m x n n' hx nn) ∙ ap (node_of (set_node ns x n')) e ∙ hd) in
       mine (ap (node_of ns) (sym e) ∙ hx) (side_at n t) refl (sym (gone t) ∙ ap (λ z. side_at z t) nd ∙ hs))
       (λ e. let hd0 : node_of ns t.dialer ≡ Some d = sym (there ns m x n n' hx nn t.dialer e) ∙ hd in by_name _ x s.peer
       (λ j.
@@ -57,9 +60,9 @@ module _ (ns : List Node) (m : FinMap place_cmp (List Item)) (x : Name) (n n' : 
     where
       mine : node_of ns t.dialer ≡ Some n → (p : Option TrunkSide) → side_at n t ≡ p → gone_side p ≡ Some s
           → DueRow s.state (far_in (node_of (set_node ns x n') s.peer) t) (list_to m t t.dialer) (list_to m t s.peer)
-      mine h None i j = absurd (none_some s j)
+      mine h None i j = absurd (none-some s j)
       mine h (Some v) i j =
-          let vs : as_state v Gone ≡ s = some_same (as_state v Gone) s j in
+          let vs : as_state v Gone ≡ s = same_Some (as_state v Gone) s j in
           subst (λ (z : TrunkSide). DueRow z.state (far_in (node_of (set_node ns x n') z.peer) t) (list_to m t t.dialer)
           (list_to m t z.peer)) vs
           (row_with Gone _ _ _ _ _ _ (ap (λ o. far_in o t) (sym (there ns m x n n' hx nn v.peer (λ e. stranger t v i (sym e))))) refl refl
@@ -81,8 +84,8 @@ module _ (w : World) (x : Name) (n : Node) (hx : node_of w.nodes x ≡ Some n) (
       (λ s h. let c = (g.home x n hx).counts (next_trunk n) s h refl in absurd (omega arith)) in
       let keyless : (z : Name) → is_some (fm.get w.lists (next_trunk n, z)) ≡ true → ⊥ = λ z j.
       let p = g.posted (next_trunk n) z j in
-      let same : p.1 ≡ n = some_same p.1 n (sym p.2 ∙ ap (node_of w.nodes) nx ∙ hx) in
-      none_some p.0 (sym none ∙ ap (λ v. side_at v (next_trunk n)) (sym same) ∙ p.3) in
+      let same : p.1 ≡ n = same_Some p.1 n (sym p.2 ∙ ap (node_of w.nodes) nx ∙ hx) in
+      none-some p.0 (sym none ∙ ap (λ v. side_at v (next_trunk n)) (sym same) ∙ p.3) in
       let empty : (z : Name) → list_to w.lists (next_trunk n) z ≡ [] = λ z. list_none (fm.get w.lists (next_trunk n, z)) (keyless z) in
       let item : Item = Handshake (ShakeMsg.SendName mandatory n.mint.creation n.mint.name) in
       let n2 = with_side_at (draw_trunk n) (next_trunk n) (record { peer = y; peer_creation = 0; state = AwaitsStatus k }) in
@@ -101,8 +104,8 @@ module _ (w : World) (x : Name) (n : Node) (hx : node_of w.nodes x ≡ Some n) (
       strange None h none = refl
       strange (Some a) h none = ap state_in (option_none (side_at a (next_trunk n)) (λ v hv.
           let q = g.core.met y a (next_trunk n) v h hv (λ i. d (sym i ∙ nx)) in
-          let same : q.dialer ≡ n = some_same q.dialer n (sym q.at ∙ ap (node_of w.nodes) nx ∙ hx) in
-          none_some q.side (sym none ∙ ap (λ z. side_at z (next_trunk n)) (sym same) ∙ q.there)))
+          let same : q.dialer ≡ n = same_Some q.dialer n (sym q.at ∙ ap (node_of w.nodes) nx ∙ hx) in
+          none-some q.side (sym none ∙ ap (λ z. side_at z (next_trunk n)) (sym same) ∙ q.there)))
 
   dial_due : (y : Name) (k : ℕ) → Due w.nodes w.lists → Due ((came_of w x w.lists (dial w.names n y k)).world.nodes)
       ((came_of w x w.lists (dial w.names n y k)).world.lists)
@@ -117,11 +120,8 @@ module _ (w : World) (x : Name) (n : Node) (hx : node_of w.nodes x ≡ Some n) (
           (with_side (next_trunk n) (record { peer = y; peer_creation = 0; state = AwaitsStatus k }) (at_work (draw_trunk n)))))))))).world
 
       go : (a : Bool) → same_name y n.mint.name ≡ a → (b c e : Bool) → Due ((tested a b c e).nodes) ((tested a b c e).lists)
-      go true ea b c e = u
-      go false ea true c e = u
-      go false ea false true e = u
-      go false ea false false true = u
       go false ea false false false = dials_due y k (λ i. let c : true ≡ false = sym (same_name_is y n.mint.name (i ∙ sym nx)) ∙ ea in cc) u
+      go _ ea _ _ _ = u
 
   start_due : Due w.nodes w.lists → Due ((came_of w x w.lists (start n)).world.nodes) ((came_of w x w.lists (start n)).world.lists)
   start_due u = go n.up (nat_lt (n.mint.creation + 1) (2 ^ 32))
@@ -130,9 +130,8 @@ module _ (w : World) (x : Name) (n : Node) (hx : node_of w.nodes x ≡ Some n) (
           (cond b (Accepts (Answer.Started (n.mint.creation + 1)) (at_work (started n))) (Refuses Refusal.IdsUsedUp)))).world.nodes)
           ((came_of w x w.lists (cond a (Refuses Refusal.NodeUp)
           (cond b (Accepts (Answer.Started (n.mint.creation + 1)) (at_work (started n))) (Refuses Refusal.IdsUsedUp)))).world.lists)
-      go true b = u
       go false true = due_cleared w.nodes w.lists x n (started n) hx nx (λ t. gone_sides n t) (stranger w x n hx g) u
-      go false false = u
+      go _ _ = u
 
   stop_due : Due w.nodes w.lists → Due (set_node w.nodes x (stopped n)) w.lists
   stop_due u = due_cleared w.nodes w.lists x n (stopped n) hx nx (λ t. gone_sides n t) (stranger w x n hx g) u

@@ -1,19 +1,22 @@
 -- What stands first in a list is due: signals are sent on the trunks that are up.
-use Rattle.std.proofs.Common.{◌≡◌, Bool, true, false, cond, List, [], ◌∷◌, ◌++◌, refl, sym, ap, ◌∙◌, subst, Option, Some, None, inl, inr, ◌&&◌, append-nil, append_assoc}
+use Rattle.std.proofs.Common.{◌≡◌, Bool, true, false, cond, List, [], ◌∷◌, ◌++◌, refl, sym, ap, ◌∙◌}
+use Rattle.std.proofs.Common.{subst, Option, Some, None, inl, inr, ◌&&◌, append-nil, append_assoc}
+use Rattle.std.proofs.lemmas.Option.{same_Some, none-some}
 use Rattle.std.specs.FinMap.{FinMap}
 use Rattle.dist_model.proofs.Calls.{by_test}
 use Rattle.dist_model.proofs.Due.{acceptor_signals, dialer_signals, DueRow, row_with, state_in, strays}
 use Rattle.dist_model.proofs.DueWorld.{dialer_kept, Due, far_in, far_kept, Whose}
 use Rattle.dist_model.proofs.Envelopes.{Envelope, outgoing}
 use Rattle.dist_model.proofs.Keys.{same_trunk}
-use Rattle.dist_model.proofs.Moves.{AllRouted}
+use Rattle.dist_model.proofs.Posts.{AllRouted}
 use Rattle.dist_model.proofs.Pairs.{Met}
-use Rattle.dist_model.proofs.Routes.{at_place, list_to_carried, none_some, some_same}
+use Rattle.dist_model.proofs.Routes.{at_place, list_to_carried}
 use Rattle.dist_model.proofs.Sides.{side_at, SidesKept, up_is}
 use Rattle.dist_model.proofs.Steps.{own_none}
-use Rattle.dist_model.proofs.Table.{is_accept, unsent}
+use Rattle.dist_model.proofs.Trunks.{is_accept}
+use Rattle.dist_model.proofs.TrunksStay.{unsent}
 use Rattle.std.specs.FinMap as fm
-use Rattle.dist_model.specs.Items.{Handshake, Item, Signalled, Tick}
+use Rattle.dist_model.specs.Items.{Handshake, Item}
 use Rattle.dist_model.specs.Names.{Name, place_cmp, same_name}
 use Rattle.dist_model.specs.Node.{Node}
 use Rattle.dist_model.specs.Sides.{State, TrunkSide, Up, is_up}
@@ -44,8 +47,7 @@ words_at t y (e ∷ es) a = go (same_trunk t e.trunk && same_name y e.target) (w
 
 word_strays : (b : Bool) (i : Item) → is_handshake i ≡ false → (strays b i ≡ false) × (is_accept i ≡ false)
 word_strays b (Handshake m) h = cc
-word_strays b (Signalled s) h = (refl, refl)
-word_strays b Tick h = (refl, refl)
+word_strays b _ h = (refl, refl)
 
 dialer_words : (l : List Item) (o : Option State) (D A : List Item) → Words l → DueRow Up o D A → DueRow Up o D (A ++ l)
 dialer_words [] o D A h r = row_with Up o o D D A (A ++ []) refl refl (sym (append-nil A)) r
@@ -104,8 +106,8 @@ module _ (ns : List Node) (m : FinMap place_cmp (List Item)) (x : Name) (n : Nod
       mine : (v : TrunkSide) → side_at n t ≡ Some v → v.state ≡ Up → t.dialer ≡ x
           → DueRow s.state (far_in (node_of (set_node ns x o.node) s.peer) t) (list_to m' t t.dialer) (list_to m' t s.peer)
       mine v hv u e =
-          let en : was.0 ≡ n = some_same was.0 n (sym was.1 ∙ ap (node_of ns) e ∙ hx) in
-          let sv : v ≡ s = some_same v s (sym hv ∙ ap (λ z. side_at z t) (sym en) ∙ was.2) in
+          let en : was.0 ≡ n = same_Some was.0 n (sym was.1 ∙ ap (node_of ns) e ∙ hx) in
+          let sv : v ≡ s = same_Some v s (sym hv ∙ ap (λ z. side_at z t) (sym en) ∙ was.2) in
           let su : s.state ≡ Up = ap (λ (z : TrunkSide). z.state) (sym sv) ∙ u in
           row_with s.state _ _ _ _ _ _ (sym (far_same s.peer t)) (none_added t t.dialer (ap (λ z. at_place t z (outgoing o)) e ∙ own))
           (sym (added t s.peer))
@@ -118,8 +120,8 @@ module _ (ns : List Node) (m : FinMap place_cmp (List Item)) (x : Name) (n : Nod
       theirs : (v : TrunkSide) → side_at n t ≡ Some v → v.state ≡ Up → Met ns t x
           → DueRow s.state (far_in (node_of (set_node ns x o.node) s.peer) t) (list_to m' t t.dialer) (list_to m' t s.peer)
       theirs v hv u q =
-          let dq : q.dialer ≡ was.0 = some_same q.dialer was.0 (sym q.at ∙ was.1) in
-          let sq : q.side ≡ s = some_same q.side s (sym q.there ∙ ap (λ z. side_at z t) dq ∙ was.2) in
+          let dq : q.dialer ≡ was.0 = same_Some q.dialer was.0 (sym q.at ∙ was.1) in
+          let sq : q.side ≡ s = same_Some q.side s (sym q.there ∙ ap (λ z. side_at z t) dq ∙ was.2) in
           let sx : s.peer ≡ x = ap (λ (z : TrunkSide). z.peer) (sym sq) ∙ q.peer in
           let fu : far_in (node_of ns s.peer) t ≡ Some Up = ap (λ z. far_in z t) (ap (node_of ns) sx ∙ hx) ∙ ap state_in hv ∙ ap Some u in
           row_with s.state _ _ _ _ _ _ (sym fu ∙ sym (far_same s.peer t)) (sym (added t t.dialer))
@@ -134,6 +136,6 @@ module _ (ns : List Node) (m : FinMap place_cmp (List Item)) (x : Name) (n : Nod
 
       go : (p : Option TrunkSide) → side_at n t ≡ p → DueRow s.state (far_in (node_of (set_node ns x o.node) s.peer) t)
           (list_to m' t t.dialer) (list_to m' t s.peer)
-      go None e = calm (λ v hv. absurd (none_some v (sym e ∙ hv)))
+      go None e = calm (λ v hv. absurd (none-some v (sym e ∙ hv)))
       go (Some v) e = by_test _ (is_up v.state) (λ u. up v e (up_is v.state u) (told t v e))
-          (λ u. calm (λ z hz. ap (λ (y : TrunkSide). is_up y.state) (some_same z v (sym hz ∙ e)) ∙ u))
+          (λ u. calm (λ z hz. ap (λ (y : TrunkSide). is_up y.state) (same_Some z v (sym hz ∙ e)) ∙ u))

@@ -4,8 +4,8 @@ use Rattle.std.proofs.Common.{◌≡◌, Bool, true, false, cond, List, [], ◌�
 use Rattle.std.specs.FinMap as fm
 use Rattle.dist_model.proofs.Calls.{IfGoes, if_cond, if_drawn, if_not}
 use Rattle.dist_model.proofs.DueMoves.{AllWords, Sent, words-push}
-use Rattle.dist_model.proofs.Founding.{posts_keep}
-use Rattle.dist_model.proofs.Moves.{AllRouted, post_routed}
+use Rattle.dist_model.proofs.Founded.{posts_keep}
+use Rattle.dist_model.proofs.Posts.{AllRouted, post_routed}
 use Rattle.dist_model.proofs.Parts.{Closed, Rules, call_kept, item_kept, link_swept}
 use Rattle.dist_model.proofs.Entries.{registered_found, watch_found}
 use Rattle.dist_model.proofs.Records.{sweep_link}
@@ -152,16 +152,7 @@ module _ (n : Node) where
       (record { sides = refl; name = refl; routed = tt; words = tt }))
       (record { sides = refl; name = refl; routed = tt; words = tt }))))
   sent_call (Command.Demonitor p r) = if_cond (living n p) _ Refusal.NoSuchProcess (Sent n) (λ l. demonitored (fm.get n.watches r) p r)
-  sent_call Command.Spawn = apart Command.Spawn (λ p q e. cc) (λ p r e. cc)
-  sent_call (Command.Send p q m) = apart (Command.Send p q m) (λ a b e. cc) (λ a b e. cc)
-  sent_call (Command.Link p q) = apart (Command.Link p q) (λ a b e. cc) (λ a b e. cc)
-  sent_call (Command.Unlink p q) = apart (Command.Unlink p q) (λ a b e. cc) (λ a b e. cc)
-  sent_call (Command.Trap p b) = apart (Command.Trap p b) (λ a c e. cc) (λ a c e. cc)
-  sent_call (Command.ExitTo p q x) = apart (Command.ExitTo p q x) (λ a b e. cc) (λ a b e. cc)
-  sent_call (Command.ExitSelf p x) = apart (Command.ExitSelf p x) (λ a b e. cc) (λ a b e. cc)
-  sent_call (Command.Receive p) = apart (Command.Receive p) (λ a b e. cc) (λ a b e. cc)
-  sent_call (Command.LinksOf p) = apart (Command.LinksOf p) (λ a b e. cc) (λ a b e. cc)
-  sent_call (Command.IsAlive p) = apart (Command.IsAlive p) (λ a b e. cc) (λ a b e. cc)
+  sent_call c = apart c (λ a b e. cc) (λ a b e. cc)
 
   -- a record is swept
   pub sent_sweep : (y : Name) → Sent n (sweep_link (link_to y (fm.entries n.ends)) y (at_work n))

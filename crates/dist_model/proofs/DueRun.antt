@@ -12,13 +12,13 @@ use Rattle.dist_model.proofs.DueParts.{sent_call, sent_item, sent_start, sent_sw
 use Rattle.dist_model.proofs.DueSteps.{asked, bad_name, loses_at, named, sweeps}
 use Rattle.dist_model.proofs.DueWork.{Going, put_away, put_other, put_same}
 use Rattle.dist_model.proofs.DueWorld.{Due, due_acceptor, due_dialer, Whose}
-use Rattle.dist_model.proofs.Greeting.{set_self}
+use Rattle.dist_model.proofs.FreshSide.{set_self}
 use Rattle.dist_model.proofs.Keys.{same_name_is}
 use Rattle.dist_model.proofs.Pairs.{Met}
 use Rattle.dist_model.proofs.Routes.{node_of_name}
 use Rattle.dist_model.proofs.Rules.{awaits_true, handshake_as, handshake_by, name_as}
 use Rattle.dist_model.proofs.Sides.{side_at}
-use Rattle.dist_model.proofs.Table.{Good, Posted, role_state}
+use Rattle.dist_model.proofs.Trunks.{Good, Posted, role_state}
 use Rattle.dist_model.specs.Arrivals.{arrive_at, arrive_fresh, handshake_in, is_good, on_up, signal_at, take_local}
 use Rattle.dist_model.specs.Calls.{call}
 use Rattle.dist_model.specs.Commands.{Accepts, Outcome, Refuses}
@@ -28,14 +28,15 @@ use Rattle.dist_model.specs.Handshake.{fault}
 use Rattle.dist_model.specs.Items.{Handshake, Item, kind_of}
 use Rattle.dist_model.specs.Names.{Name, place_cmp, same_name}
 use Rattle.dist_model.specs.Node.{Node, side_where}
-use Rattle.dist_model.specs.Sides.{Accepting, Asked, AwaitsAck, AwaitsChallenge, AwaitsStatus, Gone, Losing, Parked, State, TrunkSide, Up, is_losing, is_up, unheard}
+use Rattle.dist_model.specs.Sides.{Accepting, Asked, AwaitsAck, AwaitsChallenge, AwaitsStatus}
+use Rattle.dist_model.specs.Sides.{State, TrunkSide, Up, is_losing, is_up, unheard}
 use Rattle.dist_model.specs.Taking.{take_item}
 use Rattle.dist_model.specs.Work.{at_work}
 use Rattle.dist_model.specs.World.{Arrive, Stepped, World, came_of, carried, list_to, node_of, set_node, step_at}
 use Rattle.dist_model.proofs.Records.{least_as, sweep_link}
-use Rattle.dist_model.proofs.Stepping.{arrives}
+use Rattle.dist_model.proofs.OneStep.{arrives}
 use Rattle.dist_model.specs.Losses.{any_side, link_to, lose, lose_at, sweep, sweep_by, close_if_swept}
-use Rattle.dist_model.proofs.Closing.{any_found}
+use Rattle.dist_model.proofs.ClosedSides.{any_found}
 use Rattle.erl_handshake.specs.declared.message.ShakeMsg.{ShakeMsg}
 use Rattle.erl_handshake.specs.declared.status.Status.{Status}
 use Rattle.erl_names.specs.declared.trunk.TrunkId.{TrunkId}
@@ -124,15 +125,7 @@ module _ (w : World) (x : Name) (n : Node) (hx : node_of w.nodes x ≡ Some n) (
           go (inr d) = (asked w.nodes popped x n hx t d.0 d.2 v (sym d.1) k (at_work n) (side_where is_up v.peer (fm.entries n.sides)) refl
               h e (going popped (acceptor_pops d.0 d.2))).due
       true_comes k e (ShakeMsg.Status Status.False) = broken (Fault.Shake ShakeFault.Nok)
-      true_comes k e (ShakeMsg.Status Status.Ok) = broken (Fault.Shake ShakeFault.BadMessage)
-      true_comes k e (ShakeMsg.Status Status.OkSimultaneous) = broken (Fault.Shake ShakeFault.BadMessage)
-      true_comes k e (ShakeMsg.Status Status.Nok) = broken (Fault.Shake ShakeFault.BadMessage)
-      true_comes k e (ShakeMsg.Status Status.NotAllowed) = broken (Fault.Shake ShakeFault.BadMessage)
-      true_comes k e (ShakeMsg.Status Status.Alive) = broken (Fault.Shake ShakeFault.BadMessage)
-      true_comes k e (ShakeMsg.SendName a b c) = broken (Fault.Shake ShakeFault.BadMessage)
-      true_comes k e (ShakeMsg.Challenge a b c d) = broken (Fault.Shake ShakeFault.BadMessage)
-      true_comes k e (ShakeMsg.ChallengeReply a b) = broken (Fault.Shake ShakeFault.BadMessage)
-      true_comes k e (ShakeMsg.ChallengeAck a) = broken (Fault.Shake ShakeFault.BadMessage)
+      true_comes k e _ = broken (Fault.Shake ShakeFault.BadMessage)
 
       by_rule : (a : State) → v.state ≡ a → (l : ShakeMsg) → i ≡ Handshake l → Fin (handshake_by a t v l (at_work n))
       by_rule (AwaitsStatus k) e l j = on_status w.nodes w.lists x n t v i rest hx nx h (stranger t v h) (whose t v h) (role t v h) first u
@@ -142,23 +135,13 @@ module _ (w : World) (x : Name) (n : Node) (hx : node_of w.nodes x ≡ Some n) (
       by_rule (AwaitsAck k) e l j = on_ack w.nodes w.lists x n t v i rest hx nx h (stranger t v h) (whose t v h) (role t v h) first u k e l
           j
       by_rule (Asked k) e l j = true_comes k e l
-      by_rule (Parked k) e l j = broken (Fault.Shake ShakeFault.BadMessage)
       by_rule (Accepting k) e l j = on_reply w.nodes w.lists x n t v i rest hx nx h (stranger t v h) (whose t v h) (role t v h) first u k e
           l j
-      by_rule Up e l j = broken (Fault.Shake ShakeFault.BadMessage)
-      by_rule Losing e l j = broken (Fault.Shake ShakeFault.BadMessage)
-      by_rule Gone e l j = broken (Fault.Shake ShakeFault.BadMessage)
+      by_rule _ e l j = broken (Fault.Shake ShakeFault.BadMessage)
 
       pub by_signal : (a : State) → v.state ≡ a → Fin (signal_at a t v i (at_work n))
-      by_signal (AwaitsStatus k) e = broken (Fault.Shake ShakeFault.BadMessage)
-      by_signal (AwaitsChallenge k) e = broken (Fault.Shake ShakeFault.BadMessage)
-      by_signal (AwaitsAck k) e = broken (Fault.Shake ShakeFault.BadMessage)
-      by_signal (Asked k) e = broken (Fault.Shake ShakeFault.BadMessage)
-      by_signal (Parked k) e = broken (Fault.Shake ShakeFault.BadMessage)
-      by_signal (Accepting k) e = broken (Fault.Shake ShakeFault.BadMessage)
       by_signal Up e = goes_up e
-      by_signal Losing e = broken (Fault.Shake ShakeFault.BadMessage)
-      by_signal Gone e = broken (Fault.Shake ShakeFault.BadMessage)
+      by_signal _ e = broken (Fault.Shake ShakeFault.BadMessage)
 
       pub by_kind : (o : Option ShakeMsg) → handshake_in i ≡ o → Fin (arrive_at o t v i (at_work n))
       by_kind None k = by_signal v.state refl
@@ -174,13 +157,9 @@ module _ (w : World) (x : Name) (n : Node) (hx : node_of w.nodes x ≡ Some n) (
       due_of (Accepts a o) h = h.due
 
       pub fresh : (o : Option ShakeMsg) (z : ℕ) → Fin (arrive_fresh o t z (at_work n))
-      fresh None z = bad_one
       fresh (Some (ShakeMsg.SendName f c y)) z = subst Fin (sym (name_as t (ShakeMsg.SendName f c y) z (at_work n)))
           (due_of _ (named w.nodes popped x n hx t far k z f c y (at_work n) none (going popped (acceptor_pops far k))))
-      fresh (Some (ShakeMsg.Status s)) z = bad_one
-      fresh (Some (ShakeMsg.Challenge a b c d)) z = bad_one
-      fresh (Some (ShakeMsg.ChallengeReply a b)) z = bad_one
-      fresh (Some (ShakeMsg.ChallengeAck a)) z = bad_one
+      fresh _ z = bad_one
 
   -- ---- events of x
 

@@ -1,26 +1,27 @@
 -- What stands first in a list is due: new sides, the dialer's word that it goes on, losses and sweeps.
 use Rattle.std.proofs.Common.{◌≡◌, ℕ, Bool, true, false, cond, List, refl, sym, ap, ◌∙◌, subst, Option, Some, None, inl, inr, ◌||◌, nat_lt}
+use Rattle.std.proofs.lemmas.Option.{same_Some, none-some}
 use Rattle.std.specs.Ordering.{is_gt}
 use Rattle.std.specs.FinMap as fm
 use Rattle.std.specs.FinMap.{FinMap}
-use Rattle.dist_model.proofs.Calls.{IfGoes}
+use Rattle.dist_model.proofs.Calls.{IfGoes, if_either}
 use Rattle.dist_model.proofs.DueWork.{Going, ends_side, sets_side, tells, tells_more}
 use Rattle.dist_model.proofs.Keys.{same_name_is}
 use Rattle.dist_model.proofs.Pairs.{Met}
-use Rattle.dist_model.proofs.Reside.{side_after_other, side_after_same}
-use Rattle.dist_model.proofs.Routes.{none_some, side_where_found, some_same}
+use Rattle.dist_model.proofs.SideChanges.{side_after_other, side_after_same}
+use Rattle.dist_model.proofs.Routes.{side_where_found}
 use Rattle.dist_model.proofs.Rules.{accepts, awaits_name, greet, greet_dialing, greet_up, greet_waiting}
 use Rattle.dist_model.proofs.Sides.{holds, side_at, up_is}
-use Rattle.dist_model.proofs.Table.{role_gone, role_state, up_once}
+use Rattle.dist_model.proofs.Trunks.{role_gone, role_state, up_once}
 use Rattle.dist_model.specs.Admission.{give_up}
-use Rattle.dist_model.specs.Commands.{Outcome}
 use Rattle.dist_model.specs.Handshake.{challenge, up_is_lost, challenge_or_park, send_challenge_or_park, set_state, write}
 use Rattle.dist_model.specs.Items.{Handshake, Item}
 use Rattle.dist_model.proofs.Records.{has_records}
 use Rattle.dist_model.specs.Losses.{close_side, lose_at, released_by, release_parked, close_if_swept}
 use Rattle.dist_model.specs.Names.{Name, place_cmp, same_name}
 use Rattle.dist_model.specs.Node.{Node, side_where}
-use Rattle.dist_model.specs.Sides.{Accepting, Asked, AwaitsAck, AwaitsChallenge, AwaitsStatus, Gone, Losing, Parked, State, TrunkSide, Up, is_dialing, is_losing, is_over, is_parked, is_up, is_waiting, lost}
+use Rattle.dist_model.specs.Sides.{Accepting, Asked, AwaitsStatus, Gone, Losing, Parked, State, TrunkSide}
+use Rattle.dist_model.specs.Sides.{Up, is_dialing, is_losing, is_over, is_parked, is_up, is_waiting, lost}
 use Rattle.dist_model.specs.Work.{Work}
 use Rattle.dist_model.specs.World.{node_of}
 use Rattle.erl_handshake.specs.Flags.{has_all_of, mandatory}
@@ -34,15 +35,9 @@ use Rattle.dist_model.proofs.DueWorld.{Whose}
 
 pub lost_ends : (v : State) → (is_over (lost v) ≡ true) × (holds v ≡ false → holds (lost v) ≡ false)
     × (holds (lost v) ≡ true → holds v ≡ true)
-lost_ends (AwaitsStatus w) = (refl, λ i. refl, λ i. cc)
-lost_ends (AwaitsChallenge w) = (refl, λ i. refl, λ i. cc)
-lost_ends (AwaitsAck w) = (refl, λ i. refl, λ i. cc)
-lost_ends (Asked w) = (refl, λ i. refl, λ i. cc)
-lost_ends (Parked w) = (refl, λ i. refl, λ i. cc)
-lost_ends (Accepting w) = (refl, λ i. refl, λ i. cc)
 lost_ends Up = (refl, λ i. cc, λ i. refl)
 lost_ends Losing = (refl, λ i. cc, λ i. refl)
-lost_ends Gone = (refl, λ i. refl, λ i. cc)
+lost_ends _ = (refl, λ i. refl, λ i. cc)
 
 module _ (ns : List Node) (m : FinMap place_cmp (List Item)) (x : Name) (n : Node) (hx : node_of ns x ≡ Some n) where
   abbrev X : Work → Type 0
@@ -62,11 +57,7 @@ module _ (ns : List Node) (m : FinMap place_cmp (List Item)) (x : Name) (n : Nod
 
   still_new : (o : Work) (t : TrunkId) (e : TrunkId × TrunkSide) (u : State) → side_at o.node e.0 ≡ Some e.1 → side_at o.node t ≡ None
       → side_at ((set_state e.0 e.1 u o).node) t ≡ None
-  still_new o t e u h none = side_after_other o.node e.0 _ t (λ i. none_some e.1 (sym none ∙ ap (side_at o.node) i ∙ h)) ∙ none
-
-  either : (b : Bool) (p q : Outcome) → IfGoes p X → IfGoes q X → IfGoes (cond b p q) X
-  either true p q h k = h
-  either false p q h k = k
+  still_new o t e u h none = side_after_other o.node e.0 _ t (λ i. none-some e.1 (sym none ∙ ap (side_at o.node) i ∙ h)) ∙ none
 
   -- ---- a new side
 
@@ -95,7 +86,7 @@ module _ (ns : List Node) (m : FinMap place_cmp (List Item)) (x : Name) (n : Nod
         → IfGoes (greet_dialing d t (new c) w i o) X
     greets_dialing c w i o None j h g = accepted c w Status.Ok i o h g
     greets_dialing c w i o (Some e) j h g = let f = there_of is_dialing t.dialer o e j in
-        either (is_gt (name_cmp t.dialer o.node.mint.name)) _ _
+        if_either (is_gt (name_cmp t.dialer o.node.mint.name)) _ _ X
         (accepted c w Status.OkSimultaneous i (give_up (Some e) o) (still_new o t e Gone f.0 h) (gone_side o e.0 e.1 f.0 g))
         (refused c o h g)
 
@@ -113,12 +104,13 @@ module _ (ns : List Node) (m : FinMap place_cmp (List Item)) (x : Name) (n : Nod
         → IfGoes (greet_waiting d t (new c) w i o) X
     greets_waiting c w i o None j h g = greets c w i o h g
     greets_waiting c w i o (Some e) j h g = let f = there_of is_waiting t.dialer o e j in
-        either (nat_lt e.0.count t.count) _ _ (greets c w i (give_up (Some e) o) (still_new o t e Gone f.0 h) (gone_side o e.0 e.1 f.0 g))
+        if_either (nat_lt e.0.count t.count) _ _ X
+        (greets c w i (give_up (Some e) o) (still_new o t e Gone f.0 h) (gone_side o e.0 e.1 f.0 g))
         (refused c o h g)
 
     pub named : (w : ℕ) (f c : ℕ) (y : List ℕ) (o : Work) → side_at o.node t ≡ None → X o
         → IfGoes (awaits_name t (ShakeMsg.SendName f c y) w o) X
-    named w f c y o h g = either (is_same y t.dialer) _ _ (either (has_all_of f mandatory) _ _
+    named w f c y o h g = if_either (is_same y t.dialer) _ _ X (if_either (has_all_of f mandatory) _ _ X
         (greets_waiting c w (Handshake (ShakeMsg.SendName f c y)) o (side_where is_waiting t.dialer (fm.entries o.node.sides)) refl h g)
         (new_gone c o h g)) (new_gone c o h g)
 
@@ -140,7 +132,7 @@ module _ (ns : List Node) (m : FinMap place_cmp (List Item)) (x : Name) (n : Nod
         let f = there_of is_up s.peer o e j in
         let u = up_is e.1.state f.1 in
         let apart : t ≡ e.0 → ⊥ = λ i.
-        let q : s ≡ e.1 = some_same s e.1 (sym h ∙ ap (side_at o.node) i ∙ f.0) in
+        let q : s ≡ e.1 = same_Some s e.1 (sym h ∙ ap (side_at o.node) i ∙ f.0) in
         let z : Asked w ≡ Up = sym a ∙ ap (λ (y : TrunkSide). y.state) q ∙ u in cc in
         let o1 = up_is_lost (Some e) o in
         went_on o1 (side_where is_losing s.peer (fm.entries o1.node.sides)) (side_after_other o.node e.0 _ t apart ∙ h) (ap up_once a)
@@ -152,15 +144,10 @@ module _ (ns : List Node) (m : FinMap place_cmp (List Item)) (x : Name) (n : Nod
 
   pub loses_at : (o : Work) (t : TrunkId) (s : TrunkSide) → side_at o.node t ≡ Some s → X o → (v : State) → s.state ≡ v
       → IfGoes (lose_at v t s o) X
-  loses_at o t s h g (AwaitsStatus w) e = gone_side o t s h g
-  loses_at o t s h g (AwaitsChallenge w) e = gone_side o t s h g
-  loses_at o t s h g (AwaitsAck w) e = gone_side o t s h g
-  loses_at o t s h g (Asked w) e = gone_side o t s h g
-  loses_at o t s h g (Parked w) e = gone_side o t s h g
-  loses_at o t s h g (Accepting w) e = gone_side o t s h g
   loses_at o t s h g Up e = subst (λ v. X (set_state t s v o)) (ap lost e) (loses o t s h g)
   loses_at o t s h g Losing e = tt
   loses_at o t s h g Gone e = tt
+  loses_at o t s h g _ e = gone_side o t s h g
 
   -- ---- a sweep
 
@@ -176,13 +163,7 @@ module _ (ns : List Node) (m : FinMap place_cmp (List Item)) (x : Name) (n : Nod
       go b i (inr d) = tells ns m x n hx t d.0 d.2 s (sym d.1) o (Some s) (Accepting w) (challenge o.node w) g h (ap up_once e) (ap holds e)
           (inr refl) refl refl refl
   unparks_by o t s h g (AwaitsStatus w) e = g
-  unparks_by o t s h g (AwaitsChallenge w) e = g
-  unparks_by o t s h g (AwaitsAck w) e = g
-  unparks_by o t s h g (Asked w) e = g
-  unparks_by o t s h g (Accepting w) e = g
-  unparks_by o t s h g Up e = g
-  unparks_by o t s h g Losing e = g
-  unparks_by o t s h g Gone e = g
+  unparks_by o t s h g _ e = g
 
   unparks : (o : Work) (y : Name) (d : Option (TrunkId × TrunkSide)) → side_where is_parked y (fm.entries o.node.sides) ≡ d → X o
       → X (release_parked d o)

@@ -1,17 +1,20 @@
 -- What stands first in a list is due: a node in the midst of an event.
-use Rattle.std.proofs.Common.{◌≡◌, Bool, true, false, cond, List, [], ◌∷◌, ◌++◌, refl, sym, ap, ◌∙◌, subst, Option, Some, ◌⊎◌, inl, inr, ◌&&◌}
+use Rattle.std.proofs.Common.{◌≡◌, Bool, true, false, cond, List, [], ◌∷◌, ◌++◌, refl}
+use Rattle.std.proofs.Common.{sym, ap, ◌∙◌, subst, Option, Some, ◌⊎◌, inl, inr, ◌&&◌}
+use Rattle.std.proofs.lemmas.Bool.{and_parts}
+use Rattle.std.proofs.lemmas.Option.{same_Some}
 use Rattle.std.specs.FinMap as fm
 use Rattle.std.specs.FinMap.{FinMap}
 use Rattle.dist_model.proofs.Calls.{by_test, by_trunk}
 use Rattle.dist_model.proofs.Due.{acceptor_ends, acceptor_goes, dialer_ends, DueRow, of_far, row_with, says_to_dialer, state_in}
 use Rattle.dist_model.proofs.DueWorld.{Due, due_acceptor, due_dialer, Whose}
-use Rattle.dist_model.proofs.Keys.{and_both, same_name_true, same_trunk, same_trunk_refl, same_trunk_true, same_name_refl}
+use Rattle.dist_model.proofs.Keys.{same_name_true, same_trunk, same_trunk_refl, same_trunk_true, same_name_refl}
 use Rattle.dist_model.proofs.NewSides.{set_twice}
 use Rattle.dist_model.proofs.Pairs.{Met}
-use Rattle.dist_model.proofs.Reside.{side_after_other, side_after_same, with_side_at}
-use Rattle.dist_model.proofs.Routes.{list_to_insert, node_of_set_other, node_of_set_same, some_same}
+use Rattle.dist_model.proofs.SideChanges.{side_after_other, side_after_same, with_side_at}
+use Rattle.dist_model.proofs.Routes.{list_to_insert, node_of_set_other, node_of_set_same}
 use Rattle.dist_model.proofs.Sides.{holds, side_at}
-use Rattle.dist_model.proofs.Table.{is_accept, role_state, up_once}
+use Rattle.dist_model.proofs.Trunks.{is_accept, role_state, up_once}
 use Rattle.dist_model.specs.Handshake.{set_state, write}
 use Rattle.dist_model.specs.Items.{Handshake, Item}
 use Rattle.dist_model.specs.Names.{Name, place_cmp, same_name}
@@ -23,7 +26,7 @@ use Rattle.dist_model.specs.declared.report.Effect.{Effect}
 use Rattle.erl_handshake.specs.declared.message.ShakeMsg.{ShakeMsg}
 use Rattle.erl_names.specs.declared.trunk.TrunkId.{TrunkId}
 use Rattle.dist_model.specs.Due.{of_role}
-use Rattle.dist_model.proofs.Closing.{carried-push}
+use Rattle.dist_model.proofs.ClosedSides.{carried-push}
 use Rattle.dist_model.proofs.Handshake.{as_state}
 
 -- a list is replaced
@@ -34,13 +37,13 @@ put_same m t y l = list_to_insert m t y l t y ∙ ap (λ b. cond b l (list_to m 
 pub put_other : (m : FinMap place_cmp (List Item)) (t : TrunkId) (y : Name) (l : List Item) (z : Name) → (z ≡ y → ⊥)
     → list_to (fm.insert m (t, y) l) t z ≡ list_to m t z
 put_other m t y l z d = list_to_insert m t y l t z ∙ by_test _ (same_trunk t t && same_name z y)
-    (λ h. absurd (d (same_name_true z y (and_both (same_trunk t t) (same_name z y) h).1)))
+    (λ h. absurd (d (same_name_true z y (and_parts (same_trunk t t) (same_name z y) h).1)))
     (λ h. ap (λ b. cond b l (list_to m t z)) h)
 
 pub put_away : (m : FinMap place_cmp (List Item)) (t : TrunkId) (y : Name) (l : List Item) (u : TrunkId) (z : Name) → (u ≡ t → ⊥)
     → list_to (fm.insert m (t, y) l) u z ≡ list_to m u z
 put_away m t y l u z d = list_to_insert m t y l u z ∙ by_test _ (same_trunk u t && same_name z y)
-    (λ h. absurd (d (same_trunk_true u t (and_both (same_trunk u t) (same_name z y) h).0)))
+    (λ h. absurd (d (same_trunk_true u t (and_parts (same_trunk u t) (same_name z y) h).0)))
     (λ h. ap (λ b. cond b l (list_to m u z)) h)
 
 module _ (ns : List Node) (m : FinMap place_cmp (List Item)) (x : Name) (n : Node) (hx : node_of ns x ≡ Some n) where
@@ -72,7 +75,7 @@ module _ (ns : List Node) (m : FinMap place_cmp (List Item)) (x : Name) (n : Nod
       → side_at (with_side_at o.node t s) u ≡ Some v → Told u v
   told_set o t s g k u v h = by_trunk _ u t
       (λ e.
-      let sv : s ≡ v = some_same s v (sym (side_after_same o.node t s) ∙ ap (side_at (with_side_at o.node t s)) (sym e) ∙ h) in
+      let sv : s ≡ v = same_Some s v (sym (side_after_same o.node t s) ∙ ap (side_at (with_side_at o.node t s)) (sym e) ∙ h) in
       subst (λ z. Told z v) (sym e) (subst (λ z. Told t z) sv k))
       (λ d. g.told u v (sym (side_after_other o.node t s u d) ∙ h))
 

@@ -1,9 +1,10 @@
 -- What stands first in a list is due: the trunks of a world.
 use Rattle.std.proofs.Common.{◌≡◌, List, sym, ap, ◌∙◌, subst, Option, Some, None, ◌⊎◌}
+use Rattle.std.proofs.lemmas.Option.{same_Some}
 use Rattle.std.specs.FinMap.{FinMap}
 use Rattle.dist_model.proofs.Due.{DueRow, row_with, state_in}
 use Rattle.dist_model.proofs.Pairs.{Met}
-use Rattle.dist_model.proofs.Routes.{node_of_set_other, node_of_set_same, some_same}
+use Rattle.dist_model.proofs.Routes.{node_of_set_other, node_of_set_same}
 use Rattle.dist_model.proofs.Sides.{side_at}
 use Rattle.dist_model.specs.Items.{Item}
 use Rattle.dist_model.specs.Names.{Name, place_cmp}
@@ -46,7 +47,7 @@ module _ (ns : List Node) (m : FinMap place_cmp (List Item)) (x : Name) (n n' : 
         → (e : Node) × (node_of ns t.dialer ≡ Some e) × (side_at e t ≡ Some s)
     dialer_kept t d s same hd hs = by_name _ x t.dialer
         (λ e.
-        let nd : n' ≡ d = some_same n' d (sym here ∙ ap (node_of (set_node ns x n')) e ∙ hd) in
+        let nd : n' ≡ d = same_Some n' d (sym here ∙ ap (node_of (set_node ns x n')) e ∙ hd) in
         (n, ap (node_of ns) (sym e) ∙ hx, sym same ∙ ap (λ z. side_at z t) nd ∙ hs))
         (λ e. (d, sym (there t.dialer e) ∙ hd, hs))
 
@@ -69,8 +70,8 @@ module _ (ns : List Node) (m : FinMap place_cmp (List Item)) (x : Name) (n n' : 
       due_dialer ux v s0 hv hs0 pe px f g t d s hd hs = by_trunk _ t u
           (λ e.
           let dx : t.dialer ≡ x = ap (λ (z : TrunkId). z.dialer) e ∙ ux in
-          let nd : n' ≡ d = some_same n' d (sym here ∙ ap (node_of (set_node ns x n')) (sym dx) ∙ hd) in
-          let ss : s0 ≡ s = some_same s0 s (sym hs0 ∙ ap (side_at n') (sym e) ∙ ap (λ z. side_at z t) nd ∙ hs) in
+          let nd : n' ≡ d = same_Some n' d (sym here ∙ ap (node_of (set_node ns x n')) (sym dx) ∙ hd) in
+          let ss : s0 ≡ s = same_Some s0 s (sym hs0 ∙ ap (side_at n') (sym e) ∙ ap (λ z. side_at z t) nd ∙ hs) in
           let old : DueRow v.state (far_in (node_of ns v.peer) u) (list_to m u u.dialer) (list_to m u v.peer) = g u n v
           (ap (node_of ns) ux ∙ hx) hv in
           let old2 : DueRow v.state (far_in (node_of ns s0.peer) u) (list_to m u x) (list_to m u s0.peer) =
@@ -99,8 +100,8 @@ module _ (ns : List Node) (m : FinMap place_cmp (List Item)) (x : Name) (n n' : 
           (λ e.
           let dx : x ≡ t.dialer → ⊥ = λ i. ux (ap (λ (z : TrunkId). z.dialer) (sym e) ∙ sym i) in
           let hd0 : node_of ns u.dialer ≡ Some d = ap (λ (z : TrunkId). node_of ns z.dialer) (sym e) ∙ sym (there t.dialer dx) ∙ hd in
-          let md : met.dialer ≡ d = some_same met.dialer d (sym met.at ∙ hd0) in
-          let ms : met.side ≡ s = some_same met.side s (sym met.there ∙ ap (λ z. side_at z u) md ∙ ap (side_at d) (sym e) ∙ hs) in
+          let md : met.dialer ≡ d = same_Some met.dialer d (sym met.at ∙ hd0) in
+          let ms : met.side ≡ s = same_Some met.side s (sym met.there ∙ ap (λ z. side_at z u) md ∙ ap (side_at d) (sym e) ∙ hs) in
           let sx : s.peer ≡ x = ap (λ (z : TrunkSide). z.peer) (sym ms) ∙ met.peer in
           let old : DueRow s.state (far_in (node_of ns s.peer) u) (list_to m u u.dialer) (list_to m u s.peer) = g u d s hd0
           (ap (side_at d) (sym e) ∙ hs) in
@@ -123,9 +124,9 @@ module _ (ns : List Node) (m : FinMap place_cmp (List Item)) (x : Name) (n n' : 
           → Due (set_node ns x n') m'
       due_new ux s0 hs0 r g t d s hd hs = by_trunk _ t u
           (λ e.
-          let nd : n' ≡ d = some_same n' d (sym here ∙ ap (node_of (set_node ns x n')) (sym (ap (λ (z : TrunkId). z.dialer) e ∙ ux)) ∙ hd)
+          let nd : n' ≡ d = same_Some n' d (sym here ∙ ap (node_of (set_node ns x n')) (sym (ap (λ (z : TrunkId). z.dialer) e ∙ ux)) ∙ hd)
           in
-          let ss : s0 ≡ s = some_same s0 s (sym hs0 ∙ ap (side_at n') (sym e) ∙ ap (λ z. side_at z t) nd ∙ hs) in
+          let ss : s0 ≡ s = same_Some s0 s (sym hs0 ∙ ap (side_at n') (sym e) ∙ ap (λ z. side_at z t) nd ∙ hs) in
           subst (λ (z : TrunkSide). DueRow z.state (far_in (node_of (set_node ns x n') z.peer) t) (list_to m' t t.dialer)
           (list_to m' t z.peer))
           ss

@@ -1,15 +1,15 @@
 -- What stands in the entries of a map.
-use Rattle.std.proofs.Common.{◌≡◌, Bool, true, false, cond, List, [], ◌∷◌, refl, sym, ap, ◌∙◌, subst, ◌&&◌, Option, Some, None, T, Contains}
-use Rattle.std.proofs.lemmas.List.Elements.{All-cons, All-contains, All-nil, All-weaker, Contains-append_right, Contains-push}
+use Rattle.std.proofs.Common.{◌≡◌, Bool, true, false, cond, List, [], ◌∷◌, refl, sym, ap, ◌∙◌, subst, Option, Some, None, T, Contains}
+use Rattle.std.proofs.lemmas.List.Elements.{All-cons, All-contains, All-nil, All-weaker}
+use Rattle.std.proofs.lemmas.List.Elements.{Contains-append_right, Contains-push, Contains-append_left}
+use Rattle.std.proofs.lemmas.Option.{same_Some, none-some}
 use Rattle.std.specs.List.{All}
-use Rattle.std.specs.declared.cmp.Ordering.{Ordering}
-use Rattle.std.specs.declared.cmp.Ordering.TheVariants.{Less, Equal, Greater}
-use Rattle.std.specs.Ordering.{is_eq, is_lt}
+use Rattle.std.specs.Ordering.{is_eq}
 use Rattle.std.specs.Cmp.{tied_itself}
 use Rattle.std.specs.FinMap as fm
 use Rattle.std.specs.FinMap.Entries.{below_all, find, is_sorted}
-use Rattle.dist_model.proofs.Keys.{same_name_true}
-use Rattle.dist_model.proofs.Routes.{none_some, some_same}
+use Rattle.sorted_map.specs.Facts.{both_pass}
+use Rattle.dist_model.proofs.Keys.{same_name_true, is_equal, below_key}
 use Rattle.dist_model.specs.Downs.{same_reference}
 use Rattle.dist_model.specs.Losses.{registered_by, watch_to}
 use Rattle.dist_model.specs.Names.{Name, same_name}
@@ -19,89 +19,82 @@ use Rattle.monitor_core.specs.Monitors.{MonitorMap}
 use Rattle.monitor_core.specs.Order.{reference_cmp}
 use Rattle.monitor_core.specs.declared.monitor.Monitor.{Monitor}
 
-is_equal : (r : Ordering) → is_eq r ≡ true → r ≡ Equal
-is_equal Less h = cc
-is_equal Equal h = refl
-is_equal Greater h = cc
-
-T_and : (a b : Bool) → T (a && b) → T a × T b
-T_and true b h = (tt, h)
-T_and false b h = absurd h
-
-T_less : (r : Ordering) → T (is_lt r) → is_eq r ≡ false
-T_less Less h = refl
-T_less Equal h = absurd h
-T_less Greater h = absurd h
-
 pub same_reference_true : (a b : Reference) → same_reference a b ≡ true → a ≡ b
 same_reference_true a b h = reference_cmp_exact a b (is_equal (reference_cmp a b) h)
 
 pub same_reference_refl : (a : Reference) → same_reference a a ≡ true
 same_reference_refl a = ap is_eq (tied_itself reference_cmp_total a)
 
-pub same_reference_is : (a b : Reference) → a ≡ b → same_reference a b ≡ true
-same_reference_is a b h = subst (λ c. same_reference a c ≡ true) h (same_reference_refl a)
-
--- a key of the rest isn't the first key
-below : (k u : Reference) (v : Monitor) (es : List (Reference × Monitor)) → T (below_all reference_cmp u es) → find reference_cmp k es ≡ Some v → same_reference k u ≡ false
-below k u v [] b h = absurd (none_some v h)
-below k u v (f ∷ fs) b h = go (same_reference k f.0) refl h (below k u v fs (T_and (is_lt (reference_cmp u f.0)) (below_all reference_cmp u fs) b).1)
-  where
-    pick : (d : Bool) → same_reference k u ≡ d → k ≡ f.0 → same_reference u f.0 ≡ false → same_reference k u ≡ false
-    pick true j a c = let n : true ≡ false = sym (same_reference_is u f.0 (sym (same_reference_true k u j) ∙ a)) ∙ c in cc
-    pick false j a c = j
-
-    go : (c : Bool) → same_reference k f.0 ≡ c → cond c (Some f.1) (find reference_cmp k fs) ≡ Some v → (find reference_cmp k fs ≡ Some v → same_reference k u ≡ false) → same_reference k u ≡ false
-    go true i h g = pick (same_reference k u) refl (same_reference_true k f.0 i) (T_less (reference_cmp u f.0) (T_and (is_lt (reference_cmp u f.0)) (below_all reference_cmp u fs) b).0)
-    go false i h g = g h
-
 all_found : (es : List (Reference × Monitor)) → T (is_sorted reference_cmp es) → All (λ e. find reference_cmp e.0 es ≡ Some e.1) es
 all_found [] s = All-nil (λ e. find reference_cmp e.0 [] ≡ Some e.1)
 all_found (d ∷ es) s =
-    let v = T_and (below_all reference_cmp d.0 es) (is_sorted reference_cmp es) s in
-    All-cons (λ e. find reference_cmp e.0 (d ∷ es) ≡ Some e.1) d es (ap (λ b. cond b (Some d.1) (find reference_cmp d.0 es)) (same_reference_refl d.0))
+    let v = both_pass (below_all reference_cmp d.0 es) (is_sorted reference_cmp es) s in
+    All-cons (λ e. find reference_cmp e.0 (d ∷ es) ≡ Some e.1) d es
+    (ap (λ b. cond b (Some d.1) (find reference_cmp d.0 es)) (same_reference_refl d.0))
     (All-weaker (λ e. find reference_cmp e.0 es ≡ Some e.1) (λ e. find reference_cmp e.0 (d ∷ es) ≡ Some e.1)
-    (λ e h. ap (λ b. cond b (Some d.1) (find reference_cmp e.0 es)) (below e.0 d.0 e.1 es v.0 h) ∙ h) es (all_found es v.1))
+    (λ e h. ap (λ b. cond b (Some d.1) (find reference_cmp e.0 es)) (below_key reference_cmp reference_cmp_exact e.0 d.0 e.1 es v.0 h) ∙ h)
+    es (all_found es v.1))
 
 -- each entry is what its reference has
 pub each_entry : (m : MonitorMap) → All (λ e. fm.get m e.0 ≡ Some e.1) (fm.entries m)
-each_entry m = All-weaker (λ e. find reference_cmp e.0 (fm.entries m) ≡ Some e.1) (λ e. fm.get m e.0 ≡ Some e.1) (λ e h. fm.get-entries m e.0 ∙ h) (fm.entries m) (all_found (fm.entries m) (fm.entries_sorted m))
+each_entry m =
+    All-weaker (λ e. find reference_cmp e.0 (fm.entries m) ≡ Some e.1) (λ e. fm.get m e.0 ≡ Some e.1)
+    (λ e h. fm.get-entries m e.0 ∙ h) (fm.entries m) (all_found (fm.entries m) (fm.entries_sorted m))
 
 first_in : {X : Type 0} (x : X) (xs : List X) → Contains (x ∷ xs) x
-first_in x xs = Rattle.std.proofs.lemmas.List.Elements.Contains-append_left (x ∷ []) xs x (Contains-push [] x)
+first_in x xs = Contains-append_left (x ∷ []) xs x (Contains-push [] x)
 
 pub found_in : (k : Reference) (v : Monitor) (es : List (Reference × Monitor)) → find reference_cmp k es ≡ Some v → Contains es (k, v)
-found_in k v [] h = absurd (none_some v h)
+found_in k v [] h = absurd (none-some v h)
 found_in k v (e ∷ es) h = go (same_reference k e.0) refl h (found_in k v es)
   where
-    go : (b : Bool) → same_reference k e.0 ≡ b → cond b (Some e.1) (find reference_cmp k es) ≡ Some v → (find reference_cmp k es ≡ Some v → Contains es (k, v)) → Contains (e ∷ es) (k, v)
-    go true i h f = let a : k ≡ e.0 = same_reference_true k e.0 i in let c : e.1 ≡ v = some_same e.1 v h in subst (λ z. Contains (e ∷ es) z) (λ j. (sym a j, c j)) (first_in e es)
+    go : (b : Bool) → same_reference k e.0 ≡ b → cond b (Some e.1) (find reference_cmp k es) ≡ Some v
+        → (find reference_cmp k es ≡ Some v → Contains es (k, v)) → Contains (e ∷ es) (k, v)
+    go true i h f =
+        let a : k ≡ e.0 = same_reference_true k e.0 i in let c : e.1 ≡ v = same_Some e.1 v h in
+        subst (λ z. Contains (e ∷ es) z) (λ j. (sym a j, c j)) (first_in e es)
     go false i h f = Contains-append_right (e ∷ []) es (k, v) (f h)
 
-watch_in : (y : Name) (es : List (Reference × Monitor)) (e : Reference × Monitor) → watch_to y es ≡ Some e → Contains es e × (e.1.target.node ≡ y)
-watch_in y [] e h = absurd (none_some e h)
+watch_in : (y : Name) (es : List (Reference × Monitor)) (e : Reference × Monitor) → watch_to y es ≡ Some e → Contains es e
+    × (e.1.target.node ≡ y)
+watch_in y [] e h = absurd (none-some e h)
 watch_in y (d ∷ es) e h = go (same_name d.1.target.node y) refl h (watch_in y es e)
   where
-    go : (b : Bool) → same_name d.1.target.node y ≡ b → cond b (Some d) (watch_to y es) ≡ Some e → (watch_to y es ≡ Some e → Contains es e × (e.1.target.node ≡ y)) → Contains (d ∷ es) e × (e.1.target.node ≡ y)
-    go true i h f = let same : d ≡ e = some_same d e h in (subst (λ z. Contains (d ∷ es) z) same (first_in d es), ap (λ (z : Reference × Monitor). z.1.target.node) (sym same) ∙ same_name_true d.1.target.node y i)
+    go : (b : Bool) → same_name d.1.target.node y ≡ b → cond b (Some d) (watch_to y es) ≡ Some e
+        → (watch_to y es ≡ Some e → Contains es e × (e.1.target.node ≡ y)) → Contains (d ∷ es) e × (e.1.target.node ≡ y)
+    go true i h f =
+        let same : d ≡ e = same_Some d e h in (
+          subst (λ z. Contains (d ∷ es) z) same (first_in d es),
+          ap (λ (z : Reference × Monitor). z.1.target.node) (sym same) ∙ same_name_true d.1.target.node y i,
+        )
     go false i h f = let r = f h in (Contains-append_right (d ∷ []) es e r.0, r.1)
 
-registered_in : (y : Name) (es : List (Reference × Monitor)) (e : Reference × Monitor) → registered_by y es ≡ Some e → Contains es e × (e.1.owner.node ≡ y)
-registered_in y [] e h = absurd (none_some e h)
+registered_in : (y : Name) (es : List (Reference × Monitor)) (e : Reference × Monitor) → registered_by y es ≡ Some e
+    → Contains es e × (e.1.owner.node ≡ y)
+registered_in y [] e h = absurd (none-some e h)
 registered_in y (d ∷ es) e h = go (same_name d.1.owner.node y) refl h (registered_in y es e)
   where
-    go : (b : Bool) → same_name d.1.owner.node y ≡ b → cond b (Some d) (registered_by y es) ≡ Some e → (registered_by y es ≡ Some e → Contains es e × (e.1.owner.node ≡ y)) → Contains (d ∷ es) e × (e.1.owner.node ≡ y)
-    go true i h f = let same : d ≡ e = some_same d e h in (subst (λ z. Contains (d ∷ es) z) same (first_in d es), ap (λ (z : Reference × Monitor). z.1.owner.node) (sym same) ∙ same_name_true d.1.owner.node y i)
+    go : (b : Bool) → same_name d.1.owner.node y ≡ b → cond b (Some d) (registered_by y es) ≡ Some e
+        → (registered_by y es ≡ Some e → Contains es e × (e.1.owner.node ≡ y)) → Contains (d ∷ es) e × (e.1.owner.node ≡ y)
+    go true i h f =
+        let same : d ≡ e = same_Some d e h in (
+          subst (λ z. Contains (d ∷ es) z) same (first_in d es),
+          ap (λ (z : Reference × Monitor). z.1.owner.node) (sym same) ∙ same_name_true d.1.owner.node y i,
+        )
     go false i h f = let r = f h in (Contains-append_right (d ∷ []) es e r.0, r.1)
 
 -- the least record towards y
-pub watch_found : (y : Name) (m : MonitorMap) (e : Reference × Monitor) → watch_to y (fm.entries m) ≡ Some e → (fm.get m e.0 ≡ Some e.1) × (e.1.target.node ≡ y)
-watch_found y m e h = let v = watch_in y (fm.entries m) e h in (All-contains (λ d. fm.get m d.0 ≡ Some d.1) (fm.entries m) e (each_entry m) v.0, v.1)
+pub watch_found : (y : Name) (m : MonitorMap) (e : Reference × Monitor) → watch_to y (fm.entries m) ≡ Some e
+    → (fm.get m e.0 ≡ Some e.1) × (e.1.target.node ≡ y)
+watch_found y m e h =
+    let v = watch_in y (fm.entries m) e h in (All-contains (λ d. fm.get m d.0 ≡ Some d.1) (fm.entries m) e (each_entry m) v.0, v.1)
 
-pub registered_found : (y : Name) (m : MonitorMap) (e : Reference × Monitor) → registered_by y (fm.entries m) ≡ Some e → (fm.get m e.0 ≡ Some e.1) × (e.1.owner.node ≡ y)
-registered_found y m e h = let v = registered_in y (fm.entries m) e h in (All-contains (λ d. fm.get m d.0 ≡ Some d.1) (fm.entries m) e (each_entry m) v.0, v.1)
+pub registered_found : (y : Name) (m : MonitorMap) (e : Reference × Monitor) → registered_by y (fm.entries m) ≡ Some e
+    → (fm.get m e.0 ≡ Some e.1) × (e.1.owner.node ≡ y)
+registered_found y m e h =
+    let v = registered_in y (fm.entries m) e h in (All-contains (λ d. fm.get m d.0 ≡ Some d.1) (fm.entries m) e (each_entry m) v.0, v.1)
 
 -- where the one has none, neither has what has no more
 pub none_by : {X : Type 0} (v w : Option X) → ((m : X) → w ≡ Some m → v ≡ Some m) → v ≡ None → w ≡ None
 none_by v None f h = refl
-none_by v (Some m) f h = absurd (none_some m (sym h ∙ f m refl))
+none_by v (Some m) f h = absurd (none-some m (sym h ∙ f m refl))

@@ -37,16 +37,12 @@ sent_in-silent fs f h = sent_in-push fs f ∙ ap (λ l. sent_in fs ++ l) h ∙ a
 abbrev pub mere : List (Effect Item) → List (Effect Item)
 mere [] = []
 mere (Effect.Sent t y x ∷ fs) = Effect.Sent t y x ∷ mere fs
-mere (Effect.Put p m ∷ fs) = mere fs
-mere (Effect.Ended p r ∷ fs) = mere fs
-mere (Effect.LinkExit p q r ∷ fs) = mere fs
+mere (_ ∷ fs) = mere fs
 
 pub sent_mere : (fs : List (Effect Item)) → sent_in (mere fs) ≡ sent_in fs
 sent_mere [] = refl
 sent_mere (Effect.Sent t y x ∷ fs) = ap (λ l. sent_by (Effect.Sent t y x) ++ l) (sent_mere fs)
-sent_mere (Effect.Put p m ∷ fs) = sent_mere fs
-sent_mere (Effect.Ended p r ∷ fs) = sent_mere fs
-sent_mere (Effect.LinkExit p q r ∷ fs) = sent_mere fs
+sent_mere (_ ∷ fs) = sent_mere fs
 
 pub sent_merely : (b : Bool) (fs : List (Effect Item)) → sent_in (cond b (mere fs) fs) ≡ sent_in fs
 sent_merely true fs = sent_mere fs

@@ -1,23 +1,29 @@
 -- Calls, and the end of an incarnation, in the words of what is known.
 use Rattle.erl_names.specs.Draw as kind
-use Rattle.std.proofs.Common.{nat_lt, ◌≡◌, ℕ, ◌+◌, ◌≤◌, Bool, true, false, cond, List, [], ◌∷◌, refl, sym, ap, ◌∙◌, subst, arith, ◌&&◌, Option, Some, None, ◌⊎◌, inl, inr, Contains, append-nil}
+use Rattle.std.proofs.Common.{nat_lt, ◌≡◌, ℕ, ◌+◌, ◌≤◌, Bool, true, false, cond, List, [], ◌∷◌, refl, sym, ap}
+use Rattle.std.proofs.Common.{◌∙◌, subst, arith, ◌&&◌, Option, Some, None, ◌⊎◌, inl, inr, Contains, append-nil}
 use Rattle.std.proofs.lemmas.List.Elements.{All-nil, All-weaker, Contains-push_cases}
+use Rattle.std.proofs.lemmas.Option.{same_Some, none-some}
 use Rattle.std.specs.FinMap as fm
 use Rattle.dist_model.proofs.Envelopes.{mere, sent_mere}
-use Rattle.dist_model.proofs.Aging.{Aging, ageless}
-use Rattle.dist_model.proofs.Calls.{IfGoes, by_test, next_pid, none_number, pid_drawn, some_number, spawned_at, spawned_stays_born, spawned_stays_living, spawns}
-use Rattle.dist_model.proofs.Deeds.{T, U, H, Right, Shaken, Whole, at_pid, begins, counted, deed, drawn_along, kn, nm, no_connection, over_of, over_parts, rules, shaken, unreached, whole_closed}
+use Rattle.dist_model.proofs.SideAges.{Aging, ageless}
+use Rattle.dist_model.proofs.Calls.{IfGoes, by_test, next_pid, none_number, pid_drawn}
+use Rattle.dist_model.proofs.Calls.{spawned_at, spawned_stays_born, spawned_stays_living, spawns}
+use Rattle.dist_model.proofs.Deeds.{T, U, H, Right, Shaken, Whole, at_pid, begins, counted, deed, drawn_along, kn}
+use Rattle.dist_model.proofs.Deeds.{nm, no_connection, over_of, over_parts, rules, shaken, unreached, whole_closed}
 use Rattle.dist_model.proofs.Entries.{same_reference_refl, same_reference_true}
-use Rattle.dist_model.proofs.Founding.{EndedBefore, Founded, Nothing, OffNow, carried_post, founded_by, posts_keep, quietly_acts, quietly_post}
-use Rattle.dist_model.proofs.Homing.{Homed, TargetsIn, homed_post, targets_by}
+use Rattle.dist_model.proofs.Founded.{EndedBefore, Founded, Nothing, OffNow, carried_post}
+use Rattle.dist_model.proofs.Founded.{founded_by, posts_keep, quietly_acts, quietly_post}
+use Rattle.dist_model.proofs.HomeMonitors.{Homed, TargetsIn, homed_post, targets_by}
 use Rattle.dist_model.proofs.Keys.{same_pid_true}
-use Rattle.dist_model.proofs.Moves.{NodeKept}
 use Rattle.dist_model.proofs.Parts.{call_kept}
-use Rattle.dist_model.proofs.Routes.{none_some, some_same}
 use Rattle.dist_model.proofs.Sides.{side_at}
-use Rattle.dist_model.proofs.Table.{Good, has}
+use Rattle.dist_model.proofs.Trunks.{Good, has}
 use Rattle.dist_model.proofs.Told.{Begins, Called, Deed, Drawn, IsFounded, Off, Old, Revoked, Sound, Stays}
-use Rattle.dist_model.proofs.Turning.{Lands, down, down_said, is_end, local_grows, quietly_downs}
+use Rattle.dist_model.proofs.Lands.{Lands, down, down_said, is_end, local_grows, quietly_downs}
+use Rattle.dist_model.proofs.Truths.{and_second}
+use Rattle.dist_model.proofs.Routes.{at_place}
+use Rattle.dist_model.proofs.Moves.{set_life_living}
 use Rattle.dist_model.specs.Calls.{call, spawn_life}
 use Rattle.dist_model.specs.Commands.{Accepts, Outcome, Refuses, with_id}
 use Rattle.dist_model.specs.declared.report.Answer.{Answer}
@@ -25,10 +31,9 @@ use Rattle.dist_model.specs.declared.command.Command.{Command}
 use Rattle.dist_model.specs.Downs.{Monitored, down_in, downs_in, is_answered, is_demonitored, same_reference, takes_message}
 use Rattle.dist_model.specs.Histories.{History}
 use Rattle.dist_model.specs.Items.{Item, Signalled}
-use Rattle.dist_model.specs.Links.{noconnection}
 use Rattle.dist_model.specs.Monitoring.{demonitor_by, monitor, unwatch, watch}
 use Rattle.dist_model.specs.Names.{Name, same_name, same_pid}
-use Rattle.dist_model.specs.Node.{Node, is_living_life, living, is_stranger, reaches}
+use Rattle.dist_model.specs.Node.{Node, is_living_life, living, is_stranger, reaches, Life, Living}
 use Rattle.dist_model.specs.Sides.{TrunkSide, is_over}
 use Rattle.dist_model.specs.Work.{Work, at_work, draw, post, put, delivered}
 use Rattle.dist_model.specs.declared.report.Effect.{Effect}
@@ -42,6 +47,7 @@ use Rattle.erl_term.specs.declared.refusal.Refusal.{Refusal}
 use Rattle.erl_term.specs.declared.term.Pid.{Pid}
 use Rattle.erl_term.specs.declared.term.Reference.{Reference}
 use Rattle.exit_core.specs.Messages.{down_term}
+use Rattle.link_core.specs.News.{noconnection}
 use Rattle.monitor_core.proofs.Order.{reference_cmp_total}
 use Rattle.monitor_core.specs.Monitors.{monitor_of}
 use Rattle.monitor_core.specs.declared.monitor.Monitor.{Monitor}
@@ -59,11 +65,13 @@ pub go_not : (b : Bool) (k : Outcome) (j : Refusal) (P : Answer → Work → Typ
 go_not true k j P h = tt
 go_not false k j P h = h refl
 
-pub go_drawn : (o : Option ℕ) (k : ℕ → Outcome) (P : Answer → Work → Type 0) → ((id : ℕ) → o ≡ Some id → AllGo (k id) P) → AllGo (with_id o k) P
+pub go_drawn : (o : Option ℕ) (k : ℕ → Outcome) (P : Answer → Work → Type 0) → ((id : ℕ) → o ≡ Some id → AllGo (k id) P)
+    → AllGo (with_id o k) P
 go_drawn None k P f = tt
 go_drawn (Some id) k P f = f id refl
 
-pub all_go : (P : Work → Type 0) (Q : Answer → Work → Type 0) (k : Outcome) → ((a : Answer) (o : Work) → P o → Q a o) → IfGoes k P → AllGo k Q
+pub all_go : (P : Work → Type 0) (Q : Answer → Work → Type 0) (k : Outcome) → ((a : Answer) (o : Work) → P o → Q a o)
+    → IfGoes k P → AllGo k Q
 all_go P Q (Refuses j) f h = tt
 all_go P Q (Accepts a o) f h = f a o h
 
@@ -71,11 +79,13 @@ all_go P Q (Accepts a o) f h = f a o h
 abbrev pub AllOver : Node → Type 0
 AllOver m = ((t : TrunkId) (s : TrunkSide) → side_at m t ≡ Some s → is_over s.state ≡ true) × ((k : Reference) → fm.get m.watches k ≡ None)
 
-reference_drawn : (m : Minted) (id : ℕ) → id_of m kind.Reference ≡ Some id → (id ≡ m.references + 1) × (risen m.references (last kind.Reference) ≡ m.references + 1)
+reference_drawn : (m : Minted) (id : ℕ) → id_of m kind.Reference ≡ Some id → (id ≡ m.references + 1)
+    × (risen m.references (last kind.Reference) ≡ m.references + 1)
 reference_drawn m id h = go (nat_lt m.references (last kind.Reference)) refl h
   where
-    go : (b : Bool) → nat_lt m.references (last kind.Reference) ≡ b → cond b (Some (m.references + 1)) None ≡ Some id → (id ≡ m.references + 1) × (cond b (m.references + 1) m.references ≡ m.references + 1)
-    go true e j = (sym (some_number (m.references + 1) id j), refl)
+    go : (b : Bool) → nat_lt m.references (last kind.Reference) ≡ b → cond b (Some (m.references + 1)) None ≡ Some id
+        → (id ≡ m.references + 1) × (cond b (m.references + 1) m.references ≡ m.references + 1)
+    go true e j = (sym (same_Some (m.references + 1) id j), refl)
     go false e j = none_number _ id j
 
 module _ (w : World) (h : History) (x : Name) (n : Node) (hx : node_of w.nodes x ≡ Some n) (gw : Good w) (g : Sound w h) where
@@ -86,11 +96,14 @@ module _ (w : World) (h : History) (x : Name) (n : Node) (hx : node_of w.nodes x
     pub aging : Aging n o.node
     pub local : (f : Item → Bool) → has f xs ≡ true → (has f o.node.local ≡ true) ⊎ ((k : Reference) → fm.get o.node.watches k ≡ None)
     pub leaving : (k : Reference) (u : Monitor) → fm.get n.registered k ≡ Some u
-        → (fm.get o.node.registered k ≡ Some u) ⊎ ((Lands (is_end k) n u.owner.node o ⊎ (Off w h k ⊎ (reaches n u.owner.node ≡ false))) ⊎ AllOver o.node)
+        → (fm.get o.node.registered k ≡ Some u)
+        ⊎ ((Lands (is_end k) n u.owner.node o ⊎ (Off w h k ⊎ (reaches n u.owner.node ≡ false))) ⊎ AllOver o.node)
 
   module _ (e : Event) (xs : List Item) where
-    pub done : (a : Answer) (o : Work) → ((k : Reference) → is_answered k e (Reported a o.effects) ≡ false) → ((k : Reference) → is_demonitored k e (Reported a o.effects) ≡ false)
-        → T w h x n hx gw g e xs o → U w h x n hx gw g e xs (counted w h x n hx gw g e xs a o) → H w h x n hx gw g e xs o → Aging n o.node → Done e xs a o
+    pub done : (a : Answer) (o : Work) → ((k : Reference) → is_answered k e (Reported a o.effects) ≡ false)
+        → ((k : Reference) → is_demonitored k e (Reported a o.effects) ≡ false)
+        → T w h x n hx gw g e xs o → U w h x n hx gw g e xs (counted w h x n hx gw g e xs a o) → H w h x n hx gw g e xs o
+        → Aging n o.node → Done e xs a o
     done a o na nd t u k ag = record {
       deed = deed w h x n hx gw g e xs a o na nd t u k;
       acts = t.acts;
@@ -99,22 +112,30 @@ module _ (w : World) (h : History) (x : Name) (n : Node) (hx : node_of w.nodes x
       leaving = λ r m j. leave r m (u.leaving r m j);
     }
       where
-        lands : (b : Bool) (f : Item → Bool) (y : Name) → Lands f n y (record { node = o.node; effects = cond b (mere o.effects) o.effects }) → Lands f n y o
-        lands true f y l = (l.0, λ t i c. ap (λ z. has f (Rattle.dist_model.proofs.Routes.at_place t y z)) (sym (sent_mere o.effects)) ∙ l.1 t i c)
+        lands : (b : Bool) (f : Item → Bool) (y : Name)
+            → Lands f n y (record { node = o.node; effects = cond b (mere o.effects) o.effects }) → Lands f n y o
+        lands true f y l = (l.0, λ t i c. ap (λ z. has f (at_place t y z)) (sym (sent_mere o.effects)) ∙ l.1 t i c)
         lands false f y l = l
 
-        leave : (r : Reference) (m : Monitor) → (fm.get o.node.registered r ≡ Some m) ⊎ (Lands (is_end r) n m.owner.node (counted w h x n hx gw g e xs a o) ⊎ (Off w h r ⊎ (reaches n m.owner.node ≡ false)))
-            → (fm.get o.node.registered r ≡ Some m) ⊎ ((Lands (is_end r) n m.owner.node o ⊎ (Off w h r ⊎ (reaches n m.owner.node ≡ false))) ⊎ AllOver o.node)
+        leave : (r : Reference) (m : Monitor) → (fm.get o.node.registered r ≡ Some m)
+            ⊎ (Lands (is_end r) n m.owner.node (counted w h x n hx gw g e xs a o) ⊎ (Off w h r ⊎ (reaches n m.owner.node ≡ false)))
+            → (fm.get o.node.registered r ≡ Some m)
+            ⊎ ((Lands (is_end r) n m.owner.node o ⊎ (Off w h r ⊎ (reaches n m.owner.node ≡ false))) ⊎ AllOver o.node)
         leave r m (inl j) = inl j
         leave r m (inr (inl j)) = inr (inl (inl (lands (takes_message e (Reported a o.effects)) (is_end r) m.owner.node j)))
         leave r m (inr (inr j)) = inr (inl (inr j))
 
     -- where no sent message is taken
-    pub done_shaken : (a : Answer) (o : Work) → ((k : Reference) → is_answered k e (Reported a o.effects) ≡ false) → ((k : Reference) → is_demonitored k e (Reported a o.effects) ≡ false)
+    pub done_shaken : (a : Answer) (o : Work) → ((k : Reference) → is_answered k e (Reported a o.effects) ≡ false)
+        → ((k : Reference) → is_demonitored k e (Reported a o.effects) ≡ false)
         → takes_message e (Reported a o.effects) ≡ false → Shaken w h x n hx gw g e xs o → Done e xs a o
-    done_shaken a o na nd tm k = done a o na nd k.truth (subst (λ b. U w h x n hx gw g e xs (record { node = o.node; effects = cond b (mere o.effects) o.effects })) (sym tm) k.turns) k.home k.aging
+    done_shaken a o na nd tm k =
+        done a o na nd k.truth
+        (subst (λ b. U w h x n hx gw g e xs (record { node = o.node; effects = cond b (mere o.effects) o.effects })) (sym tm) k.turns)
+        k.home k.aging
 
-    pub done_whole : (a : Answer) (o : Work) → ((k : Reference) → is_answered k e (Reported a o.effects) ≡ false) → ((k : Reference) → is_demonitored k e (Reported a o.effects) ≡ false)
+    pub done_whole : (a : Answer) (o : Work) → ((k : Reference) → is_answered k e (Reported a o.effects) ≡ false)
+        → ((k : Reference) → is_demonitored k e (Reported a o.effects) ≡ false)
         → takes_message e (Reported a o.effects) ≡ false → Whole w h x n hx gw g e xs o → Done e xs a o
     done_whole a o na nd tm k = done_shaken a o na nd tm (shaken w h x n hx gw g e xs o k)
 
@@ -123,49 +144,37 @@ module _ (w : World) (h : History) (x : Name) (n : Node) (hx : node_of w.nodes x
   start : (e : Event) → Whole w h x n hx gw g e n.local (at_work n)
   start e = begins w h x n hx gw g e n.local (g.locals x n hx) (g.homes x n hx)
 
-  apart_answers : (c : Command) → ((p q : Pid) → c ≡ Command.Monitor p q → ⊥) → (k : Reference) (a : Answer) (fs : List (Effect Item)) → is_answered k (Call x c) (Reported a fs) ≡ false
-  apart_answers Command.Spawn f k a fs = refl
-  apart_answers (Command.Send p q m) f k a fs = refl
-  apart_answers (Command.Link p q) f k a fs = refl
-  apart_answers (Command.Unlink p q) f k a fs = refl
+  apart_answers : (c : Command) → ((p q : Pid) → c ≡ Command.Monitor p q → ⊥)
+      → (k : Reference) (a : Answer) (fs : List (Effect Item)) → is_answered k (Call x c) (Reported a fs) ≡ false
   apart_answers (Command.Monitor p q) f k a fs = absurd (f p q refl)
-  apart_answers (Command.Demonitor p r) f k a fs = refl
-  apart_answers (Command.Trap p b) f k a fs = refl
-  apart_answers (Command.ExitTo p q z) f k a fs = refl
-  apart_answers (Command.ExitSelf p z) f k a fs = refl
-  apart_answers (Command.Receive p) f k a fs = refl
-  apart_answers (Command.LinksOf p) f k a fs = refl
-  apart_answers (Command.IsAlive p) f k a fs = refl
+  apart_answers _ f k a fs = refl
 
-  apart_demonitors : (c : Command) → ((p : Pid) (r : Reference) → c ≡ Command.Demonitor p r → ⊥) → (k : Reference) (a : Answer) (fs : List (Effect Item)) → is_demonitored k (Call x c) (Reported a fs) ≡ false
-  apart_demonitors Command.Spawn f k a fs = refl
-  apart_demonitors (Command.Send p q m) f k a fs = refl
-  apart_demonitors (Command.Link p q) f k a fs = refl
-  apart_demonitors (Command.Unlink p q) f k a fs = refl
-  apart_demonitors (Command.Monitor p q) f k a fs = refl
+  apart_demonitors : (c : Command) → ((p : Pid) (r : Reference) → c ≡ Command.Demonitor p r → ⊥)
+      → (k : Reference) (a : Answer) (fs : List (Effect Item)) → is_demonitored k (Call x c) (Reported a fs) ≡ false
   apart_demonitors (Command.Demonitor p r) f k a fs = absurd (f p r refl)
-  apart_demonitors (Command.Trap p b) f k a fs = refl
-  apart_demonitors (Command.ExitTo p q z) f k a fs = refl
-  apart_demonitors (Command.ExitSelf p z) f k a fs = refl
-  apart_demonitors (Command.Receive p) f k a fs = refl
-  apart_demonitors (Command.LinksOf p) f k a fs = refl
-  apart_demonitors (Command.IsAlive p) f k a fs = refl
+  apart_demonitors _ f k a fs = refl
 
-  plain_call : (c : Command) → (c ≡ Command.Spawn → ⊥) → ((p q : Pid) → c ≡ Command.Monitor p q → ⊥) → ((p : Pid) (r : Reference) → c ≡ Command.Demonitor p r → ⊥) → AllGo (call n c) (Done (Call x c) n.local)
+  plain_call : (c : Command) → (c ≡ Command.Spawn → ⊥) → ((p q : Pid) → c ≡ Command.Monitor p q → ⊥)
+      → ((p : Pid) (r : Reference) → c ≡ Command.Demonitor p r → ⊥) → AllGo (call n c) (Done (Call x c) n.local)
   plain_call c ns nm1 ne = all_go (Whole w h x n hx gw g (Call x c) n.local) (Done (Call x c) n.local) (call n c)
-      (λ a o k. done_whole (Call x c) n.local a o (λ r. apart_answers c nm1 r a o.effects) (λ r. apart_demonitors c ne r a o.effects) refl k)
-      (call_kept (rules w h x n hx gw g (Call x c) n.local) (Whole w h x n hx gw g (Call x c) n.local) (whole_closed w h x n hx gw g (Call x c) n.local) n (start (Call x c)) c (nm1, ne) (λ id s. absurd (ns s))
+      (λ a o k.
+      done_whole (Call x c) n.local a o (λ r. apart_answers c nm1 r a o.effects) (λ r. apart_demonitors c ne r a o.effects) refl k)
+      (call_kept (rules w h x n hx gw g (Call x c) n.local) (Whole w h x n hx gw g (Call x c) n.local)
+      (whole_closed w h x n hx gw g (Call x c) n.local) n (start (Call x c)) c (nm1, ne) (λ id s. absurd (ns s))
       (λ p q i l r. own p q i l r))
     where
       own : (p q : Pid) → c ≡ Command.Link p q → living n p ≡ true → reaches n q.node ≡ false → Right w h (Call x c) p q noconnection
       own p q i l r =
-          let b = (kn w h x n hx gw g).born p l in
-          (inr ((λ j. Call (sym (at_pid w h x n hx gw g p b) j) (i j)), (unreached w h x n hx gw g p q.node b r).1), no_connection w h x n hx gw g p q b r)
+          let b = (kn w h x n hx gw g).born p l in (
+            inr ((λ j. Call (sym (at_pid w h x n hx gw g p b) j) (i j)), (unreached w h x n hx gw g p q.node b r).1),
+            no_connection w h x n hx gw g p q b r,
+          )
 
   -- ---- a new process
 
   quiet : (fs : List (Effect Item)) (p q : Pid) (z : Data) → fs ≡ [] → Contains fs (Effect.LinkExit p q z) → ⊥
-  quiet fs p q z i c = let d : Contains [] (Effect.LinkExit p q z) = subst (λ l. Contains l (Effect.LinkExit p q z)) i c in let lt = d.1 in omega arith
+  quiet fs p q z i c =
+      let d : Contains [] (Effect.LinkExit p q z) = subst (λ l. Contains l (Effect.LinkExit p q z)) i c in let lt = d.1 in omega arith
 
   spawned_done : (a : Answer) → Done (Call x Command.Spawn) n.local a (spawned_at n (next_pid n))
   spawned_done a =
@@ -178,10 +187,12 @@ module _ (w : World) (h : History) (x : Name) (n : Node) (hx : node_of w.nodes x
           nevers = λ p v. spawned_stays_born n p v;
           grows = mv.grows;
           carries = record {
-            local = All-weaker (IsFounded w h) _ (founded_by _ _ _ _ _ _ (λ q z c. inl c) (λ p q r m. inr m) (λ r c. inl c)) n.local (g.locals x n hx);
+            local = All-weaker (IsFounded w h) _
+                (founded_by _ _ _ _ _ _ (λ q z c. inl c) (λ p q r m. inr m) (λ r c. inl c)) n.local (g.locals x n hx);
             sent = All-nil _;
           };
-          homes = All-weaker (TargetsIn (λ q. is_stranger n q ≡ false)) (TargetsIn (λ q. is_stranger o.node q ≡ false)) (targets_by _ _ (λ q v. spawned_stays_born n q v)) n.local (g.homes x n hx);
+          homes = All-weaker (TargetsIn (λ q. is_stranger n q ≡ false)) (TargetsIn (λ q. is_stranger o.node q ≡ false))
+              (targets_by _ _ (λ q v. spawned_stays_born n q v)) n.local (g.homes x n hx);
           enrolled = λ k u j. let v = g.enrolled x n k u hx j in (spawned_stays_living n u.target v.0, v.1);
           owners = λ k u j. spawned_stays_living n u.owner (g.watching x n k u hx j).4;
           drawn = λ k d. d;
@@ -197,20 +208,14 @@ module _ (w : World) (h : History) (x : Name) (n : Node) (hx : node_of w.nodes x
   spawn_done = go_drawn (id_of n.mint kind.Pid) _ (Done (Call x Command.Spawn) n.local) (λ id i.
       let d = pid_drawn n.mint id i in
       subst (λ j. Done (Call x Command.Spawn) n.local (Answer.Pid (pid_of n.mint j)) (spawn_life n (pid_of n.mint j))) (sym d.1)
-      (subst (λ m. Done (Call x Command.Spawn) n.local (Answer.Pid (next_pid n)) (at_work (record n { mint = m; lives = fm.insert n.lives (next_pid n) (Rattle.dist_model.specs.Node.Living false []) }))) (sym d.0) (spawned_done (Answer.Pid (next_pid n)))))
+      (subst (λ m. Done (Call x Command.Spawn) n.local (Answer.Pid (next_pid n))
+      (at_work (record n { mint = m; lives = fm.insert n.lives (next_pid n) (Living false []) }))) (sym d.0) (spawned_done
+      (Answer.Pid (next_pid n)))))
 
   -- ---- a process monitors another
 
-  module _ (p q : Pid) (l : living n p ≡ true) (known : (same_name q.node n.mint.name && is_stranger n q) ≡ false) (id : ℕ) (hid : id_of n.mint kind.Reference ≡ Some id) where
-    abbrev r0 : Reference
-    r0 = reference_of n.mint id
-
-    abbrev e0 : Event
-    e0 = Call x (Command.Monitor p q)
-
-    abbrev o0 : Work
-    o0 = draw kind.Reference (at_work n)
-
+  module _ (p q : Pid) (l : living n p ≡ true) (known : (same_name q.node n.mint.name && is_stranger n q) ≡ false) (id : ℕ)
+      (hid : id_of n.mint kind.Reference ≡ Some id) where
     born : is_stranger n p ≡ false
     born = (kn w h x n hx gw g).born p l
 
@@ -218,10 +223,13 @@ module _ (w : World) (h : History) (x : Name) (n : Node) (hx : node_of w.nodes x
     asked = ap (λ y. Call y (Command.Monitor p q)) (sym (at_pid w h x n hx gw g p born))
 
     undrawn : (k : Reference) → same_reference k (reference_of n.mint id) ≡ true → Drawn n k → ⊥
-    undrawn k i (inl d) = let c : k.creation ≡ n.mint.creation = ap (λ (z : Reference). z.creation) (same_reference_true k (reference_of n.mint id) i) in absurd (omega (arith, c, d))
+    undrawn k i (inl d) =
+        let c : k.creation ≡ n.mint.creation = ap (λ (z : Reference). z.creation) (same_reference_true k (reference_of n.mint id) i) in
+        absurd (omega (arith, c, d))
     undrawn k i (inr d) =
         let b = d.1 in
-        let same : b.0 ∷ 0 ∷ 0 ∷ [] ≡ id ∷ 0 ∷ 0 ∷ [] = sym b.1 ∙ ap (λ (z : Reference). z.words) (same_reference_true k (reference_of n.mint id) i) in
+        let same : b.0 ∷ 0 ∷ 0 ∷ [] ≡ id ∷ 0 ∷ 0 ∷ [] =
+        sym b.1 ∙ ap (λ (z : Reference). z.words) (same_reference_true k (reference_of n.mint id) i) in
         let c : b.0 ≡ id = cc in
         let le : b.0 ≤ n.mint.references = b.2 in
         absurd (omega (arith, c, (reference_drawn n.mint id hid).0, le))
@@ -236,17 +244,25 @@ module _ (w : World) (h : History) (x : Name) (n : Node) (hx : node_of w.nodes x
     stays_drawn : (k : Reference) → Drawn n k → Drawn (draw kind.Reference (at_work n)).node k
     stays_drawn k = drawn_along n ((draw kind.Reference (at_work n)).node) k refl (omega (arith, (reference_drawn n.mint id hid).1))
 
-    answered : (k : Reference) (b : Bool) (fs : List (Effect Item)) → same_reference k (reference_of n.mint id) ≡ b → is_answered k (Call x (Command.Monitor p q)) (Reported (Answer.Reference (reference_of n.mint id)) fs) ≡ b
+    answered : (k : Reference) (b : Bool) (fs : List (Effect Item)) → same_reference k (reference_of n.mint id) ≡ b
+        → is_answered k (Call x (Command.Monitor p q)) (Reported (Answer.Reference (reference_of n.mint id)) fs) ≡ b
     answered k b fs i = i
 
     -- what is told of both ways
     abbrev Asks : Work → Type 0
     Asks o = Done (Call x (Command.Monitor p q)) n.local (Answer.Reference (reference_of n.mint id)) o
 
-    old_items : (o : Work) (i : Item) → IsFounded w h i → Founded (EndedBefore n (Old w h) (λ a b z. Unit {0}) (Called h) (Off w h) o) (λ a b k. Monitored k a b ((record { event = Call x (Command.Monitor p q); report = Reported (Answer.Reference (reference_of n.mint id)) o.effects }) ∷ h)) (OffNow n (Old w h) (λ a b z. Unit {0}) (Called h) (Off w h) o) i
+    old_items : (o : Work) (i : Item) → IsFounded w h i
+        → Founded (EndedBefore n (Old w h) (λ a b z. Unit {0}) (Called h) (Off w h) o) (λ a b k. Monitored k a b ((record {
+          event = Call x
+              (Command.Monitor p q);
+          report = Reported
+              (Answer.Reference (reference_of n.mint id)) o.effects;
+        }) ∷ h)) (OffNow n (Old w h) (λ a b z. Unit {0}) (Called h) (Off w h) o) i
     old_items o = founded_by _ _ _ _ _ _ (λ a z c. inl c) (λ a b k m. inr m) (λ k c. inl c)
 
-    reaching : Asks (post (Signal.Monitor p q (reference_of n.mint id)) (watch (reference_of n.mint id) (monitor_of p q) (draw kind.Reference (at_work n))))
+    reaching : Asks (post (Signal.Monitor p q (reference_of n.mint id))
+        (watch (reference_of n.mint id) (monitor_of p q) (draw kind.Reference (at_work n))))
     reaching =
         let o1 = watch (reference_of n.mint id) (monitor_of p q) (draw kind.Reference (at_work n)) in
         let s = Signal.Monitor p q (reference_of n.mint id) in
@@ -256,27 +272,45 @@ module _ (w : World) (h : History) (x : Name) (n : Node) (hx : node_of w.nodes x
         let mt : o.node.mint ≡ o1.node.mint = posts_keep (λ m. m.mint) (λ m z. refl) q.node (Signalled s) o1 in
         let rs : o.node.registered ≡ n.registered = posts_keep (λ m. m.registered) (λ m z. refl) q.node (Signalled s) o1 in
         let lv : (a : Pid) → living o.node a ≡ living n a = λ a. posts_keep (λ m. living m a) (λ m z. refl) q.node (Signalled s) o1 in
-        let nv : (a : Pid) → is_stranger o.node a ≡ is_stranger n a = λ a. posts_keep (λ m. is_stranger m a) (λ m z. refl) q.node (Signalled s) o1 in
+        let nv : (a : Pid) → is_stranger o.node a ≡ is_stranger n a =
+        λ a. posts_keep (λ m. is_stranger m a) (λ m z. refl) q.node (Signalled s) o1 in
         let sd : o.node.sides ≡ n.sides = posts_keep (λ m. m.sides) (λ m z. refl) q.node (Signalled s) o1 in
-        let got : (k : Reference) → fm.get o.node.watches k ≡ cond (same_reference k (reference_of n.mint id)) (Some (monitor_of p q)) (fm.get n.watches k) = λ k. ap (λ z. fm.get z k) ws ∙ fm.get-insert reference_cmp_total n.watches (reference_of n.mint id) (monitor_of p q) k in
-        let hp : Homed n (λ a. is_stranger n a ≡ false) o = homed_post n (λ a. is_stranger n a ≡ false) s o1 (λ i. forged (same_name q.node n.mint.name) (is_stranger n q) known i) (record { local = g.homes x n hx; name = refl }) in
+        let got : (k : Reference) → fm.get o.node.watches k
+        ≡ cond (same_reference k (reference_of n.mint id)) (Some (monitor_of p q)) (fm.get n.watches k) = λ k. ap (λ z. fm.get z k) ws
+        ∙ fm.get-insert reference_cmp_total n.watches (reference_of n.mint id) (monitor_of p q) k in
+        let hp : Homed n (λ a. is_stranger n a ≡ false) o =
+        homed_post n (λ a. is_stranger n a ≡ false) s o1
+        (λ i. and_second (same_name q.node n.mint.name) (is_stranger n q) known i)
+        (record { local = g.homes x n hx; name = refl }) in
         let dn : (k : Reference) → downs_in k o.effects ≡ [] = λ k. quietly_downs k [] o.effects quietly in
-        let cp = carried_post (Founded (EndedBefore n (Old w h) (λ a b z. Unit {0}) (Called h) (Off w h) o) (λ a b k. Monitored k a b ((record { event = Call x (Command.Monitor p q); report = Reported (Answer.Reference (reference_of n.mint id)) o.effects }) ∷ h)) (OffNow n (Old w h) (λ a b z. Unit {0}) (Called h) (Off w h) o))
-        q.node (Signalled s) o1 (inl (asked, same_reference_refl (reference_of n.mint id))) (record { local = All-weaker (IsFounded w h) _ (old_items o) n.local (g.locals x n hx); sent = All-nil _ }) in
+        let cp =
+        carried_post
+        (Founded (EndedBefore n (Old w h) (λ a b z. Unit {0}) (Called h) (Off w h) o) (λ a b k. Monitored k a b ((record {
+          event = Call
+              x (Command.Monitor p q);
+          report = Reported (Answer.Reference (reference_of n.mint id))
+              o.effects;
+        }) ∷ h)) (OffNow n (Old w h) (λ a b z. Unit {0}) (Called h) (Off w h) o))
+        q.node (Signalled s) o1 (inl (asked, same_reference_refl (reference_of n.mint id)))
+        (record { local = All-weaker (IsFounded w h) _ (old_items o) n.local (g.locals x n hx); sent = All-nil _ }) in
         record {
           deed = record {
             name = ap (λ (m : Minted). m.name) mt ∙ nm w h x n hx gw g;
             nevers = λ a v. nv a ∙ v;
             grows = λ a v. let b = over_parts n a v in over_of o.node a (lv a ∙ b.0) (nv a ∙ b.1);
             carries = cp;
-            homes = All-weaker (TargetsIn (λ a. is_stranger n a ≡ false)) (TargetsIn (λ a. is_stranger o.node a ≡ false)) (targets_by _ _ (λ a v. nv a ∙ v)) o.node.local hp.local;
+            homes = All-weaker (TargetsIn (λ a. is_stranger n a ≡ false)) (TargetsIn (λ a. is_stranger o.node a ≡ false))
+                (targets_by _ _ (λ a v. nv a ∙ v)) o.node.local hp.local;
             enrolled = λ k u j. let v = g.enrolled x n k u hx (ap (λ z. fm.get z k) (sym rs) ∙ j) in (lv u.target ∙ v.0, v.1);
             owners = λ k u j. lv u.owner ∙ owner k u (same_reference k (reference_of n.mint id)) (sym (got k) ∙ j);
             drawn = λ k d. subst (λ m. Drawn (record n { mint = m }) k) (sym mt) (stays_drawn k d);
             course = λ k. by_test _ (same_reference k (reference_of n.mint id))
-                (λ i. Begins p q asked (answered k true o.effects i) refl (ap (λ (z : Reference). z.node) (same_reference_true k (reference_of n.mint id) i) ∙ nm w h x n hx gw g) (undrawn k i) (subst (λ m. Drawn (record n { mint = m }) k) (sym mt) (now_drawn k i)) (lv p ∙ l)
+                (λ i. Begins p q asked (answered k true o.effects i) refl
+                (ap (λ (z : Reference). z.node) (same_reference_true k (reference_of n.mint id) i) ∙ nm w h x n hx gw g)
+                (undrawn k i) (subst (λ m. Drawn (record n { mint = m }) k) (sym mt) (now_drawn k i)) (lv p ∙ l)
                 (inl (got k ∙ ap (λ b. cond b (Some (monitor_of p q)) (fm.get n.watches k)) i, dn k)))
-                (λ i. Stays (got k ∙ ap (λ b. cond b (Some (monitor_of p q)) (fm.get n.watches k)) i) (dn k) (answered k false o.effects i) refl);
+                (λ i. Stays (got k ∙ ap (λ b. cond b (Some (monitor_of p q)) (fm.get n.watches k)) i) (dn k)
+                (answered k false o.effects i) refl);
           };
           acts = λ a b z c. absurd (quiet [] a b z refl (quietly_acts [] o.effects quietly a b z c));
           aging = ageless n o.node sd;
@@ -284,20 +318,24 @@ module _ (w : World) (h : History) (x : Name) (n : Node) (hx : node_of w.nodes x
           leaving = λ k u j. inl (ap (λ z. fm.get z k) rs ∙ j);
         }
       where
-        forged : (a b : Bool) → (a && b) ≡ false → a ≡ true → b ≡ false
-        forged true b h e = h
-        forged false b h e = cc
-
-        owner : (k : Reference) (u : Monitor) (b : Bool) → cond b (Some (monitor_of p q)) (fm.get n.watches k) ≡ Some u → living n u.owner ≡ true
-        owner k u true j = subst (λ (v : Monitor). living n v.owner ≡ true) (some_same (monitor_of p q) u j) l
+        owner : (k : Reference) (u : Monitor) (b : Bool) → cond b (Some (monitor_of p q)) (fm.get n.watches k) ≡ Some u
+            → living n u.owner ≡ true
+        owner k u true j = subst (λ (v : Monitor). living n v.owner ≡ true) (same_Some (monitor_of p q) u j) l
         owner k u false j = (g.watching x n k u hx j).4
 
-    unreaching : reaches n q.node ≡ false → Asks (put p (down_term (reference_of n.mint id) q noconnection) (draw kind.Reference (at_work n)))
+    unreaching : reaches n q.node ≡ false
+        → Asks (put p (down_term (reference_of n.mint id) q noconnection) (draw kind.Reference (at_work n)))
     unreaching far =
         let o1 = draw kind.Reference (at_work n) in
         let o = put p (down_term (reference_of n.mint id) q noconnection) o1 in
-        let lv : (a : Pid) → living o.node a ≡ living n a = λ a. Rattle.dist_model.proofs.Moves.set_life_living n.lives p (delivered (fm.get n.lives p) (down_term (reference_of n.mint id) q noconnection)) a (λ i. delivered_living (fm.get n.lives p) ∙ ap (living n) (sym (same_pid_true a p i))) in
-        let dn : (k : Reference) → downs_in k o.effects ≡ cond (same_reference k (reference_of n.mint id)) (down (monitor_of p q) noconnection ∷ []) [] = λ k. append-nil (down_in k p (down_term (reference_of n.mint id) q noconnection)) ∙ down_said k (reference_of n.mint id) p q noconnection in
+        let lv : (a : Pid) → living o.node a ≡ living n a =
+        λ a. set_life_living n.lives p
+        (delivered (fm.get n.lives p) (down_term (reference_of n.mint id) q noconnection)) a
+        (λ i. delivered_living (fm.get n.lives p) ∙ ap (living n) (sym (same_pid_true a p i))) in
+        let dn : (k : Reference) → downs_in k o.effects
+        ≡ cond (same_reference k (reference_of n.mint id)) (down (monitor_of p q) noconnection ∷ []) [] = λ k.
+        append-nil (down_in k p (down_term (reference_of n.mint id) q noconnection))
+        ∙ down_said k (reference_of n.mint id) p q noconnection in
         record {
           deed = record {
             name = nm w h x n hx gw g;
@@ -309,35 +347,49 @@ module _ (w : World) (h : History) (x : Name) (n : Node) (hx : node_of w.nodes x
             owners = λ k u j. lv u.owner ∙ (g.watching x n k u hx j).4;
             drawn = λ k d. stays_drawn k d;
             course = λ k. by_test _ (same_reference k (reference_of n.mint id))
-                (λ i. Begins p q asked (answered k true o.effects i) refl (ap (λ (z : Reference). z.node) (same_reference_true k (reference_of n.mint id) i) ∙ nm w h x n hx gw g) (undrawn k i) (now_drawn k i) (lv p ∙ l)
-                (inr (refl, noconnection, no_connection w h x n hx gw g p q born far, dn k ∙ ap (λ b. cond b (down (monitor_of p q) noconnection ∷ []) []) i)))
-                (λ i. Stays refl (dn k ∙ ap (λ b. cond b (down (monitor_of p q) noconnection ∷ []) []) i) (answered k false o.effects i) refl);
+                (λ i. Begins p q asked (answered k true o.effects i) refl
+                (ap (λ (z : Reference). z.node) (same_reference_true k (reference_of n.mint id) i) ∙ nm w h x n hx gw g)
+                (undrawn k i) (now_drawn k i) (lv p ∙ l)
+                (inr (
+                  refl,
+                  noconnection,
+                  no_connection w h x n hx gw g p q born far,
+                  dn k ∙ ap (λ b. cond b (down (monitor_of p q) noconnection ∷ []) []) i,
+                )))
+                (λ i. Stays refl (dn k ∙ ap (λ b. cond b (down (monitor_of p q) noconnection ∷ []) []) i)
+                (answered k false o.effects i) refl);
           };
-          acts = λ a b z c. absurd (no_act a b z (Contains-push_cases [] (Effect.Put p (down_term (reference_of n.mint id) q noconnection)) (Effect.LinkExit a b z) c));
+          acts = λ a b z c. absurd (no_act a b z
+              (Contains-push_cases [] (Effect.Put p (down_term (reference_of n.mint id) q noconnection)) (Effect.LinkExit a b z) c));
           aging = ageless n o.node refl;
           local = λ f j. inl j;
           leaving = λ k u j. inl j;
         }
       where
-        delivered_living : (v : Option Rattle.dist_model.specs.Node.Life) → is_living_life (delivered v (down_term (reference_of n.mint id) q noconnection)) ≡ is_living_life v
-        delivered_living None = refl
-        delivered_living (Some (Rattle.dist_model.specs.Node.Living t b)) = refl
-        delivered_living (Some (Rattle.dist_model.specs.Node.Ended z)) = refl
+        delivered_living : (v : Option Life)
+            → is_living_life (delivered v (down_term (reference_of n.mint id) q noconnection)) ≡ is_living_life v
+        delivered_living (Some (Living t b)) = refl
+        delivered_living _ = refl
 
-        no_act : (a b : Pid) (z : Data) → Contains {X = Effect Item} [] (Effect.LinkExit a b z) ⊎ (◌≡◌ {A = Effect Item} (Effect.Put p (down_term (reference_of n.mint id) q noconnection)) (Effect.LinkExit a b z)) → ⊥
+        no_act : (a b : Pid) (z : Data) → Contains {X = Effect Item} [] (Effect.LinkExit a b z)
+            ⊎ (◌≡◌ {A = Effect Item} (Effect.Put p (down_term (reference_of n.mint id) q noconnection)) (Effect.LinkExit a b z))
+            → ⊥
         no_act a b z (inl c) = quiet [] a b z refl c
         no_act a b z (inr c) = cc
 
     monitor_done : Asks (monitor (reference_of n.mint id) p q (draw kind.Reference (at_work n)))
     monitor_done = go (reaches n q.node) refl
       where
-        go : (b : Bool) → reaches n q.node ≡ b → Asks (cond b (post (Signal.Monitor p q (reference_of n.mint id)) (watch (reference_of n.mint id) (monitor_of p q) (draw kind.Reference (at_work n)))) (put p (down_term (reference_of n.mint id) q noconnection) (draw kind.Reference (at_work n))))
+        go : (b : Bool) → reaches n q.node ≡ b → Asks (cond b (post (Signal.Monitor p q (reference_of n.mint id))
+            (watch (reference_of n.mint id) (monitor_of p q) (draw kind.Reference (at_work n)))) (put p
+            (down_term (reference_of n.mint id) q noconnection) (draw kind.Reference (at_work n))))
         go true i = reaching
         go false i = unreaching i
 
   -- ---- a process takes a monitor back
 
-  demonitor_done : (p : Pid) (r : Reference) (v : Option Monitor) → fm.get n.watches r ≡ v → AllGo (demonitor_by v p r (at_work n)) (Done (Call x (Command.Demonitor p r)) n.local)
+  demonitor_done : (p : Pid) (r : Reference) (v : Option Monitor) → fm.get n.watches r ≡ v
+      → AllGo (demonitor_by v p r (at_work n)) (Done (Call x (Command.Demonitor p r)) n.local)
   demonitor_done p r None i = tt
   demonitor_done p r (Some m) i = go_cond (same_pid m.owner p) _ Refusal.NotTheOwner (Done (Call x (Command.Demonitor p r)) n.local) (λ own.
       let o1 = unwatch r (at_work n) in
@@ -349,26 +401,42 @@ module _ (w : World) (h : History) (x : Name) (n : Node) (hx : node_of w.nodes x
       let mt : o.node.mint ≡ n.mint = posts_keep (λ z. z.mint) (λ z y. refl) m.target.node (Signalled s) o1 in
       let rs : o.node.registered ≡ n.registered = posts_keep (λ z. z.registered) (λ z y. refl) m.target.node (Signalled s) o1 in
       let lv : (a : Pid) → living o.node a ≡ living n a = λ a. posts_keep (λ z. living z a) (λ z y. refl) m.target.node (Signalled s) o1 in
-      let nv : (a : Pid) → is_stranger o.node a ≡ is_stranger n a = λ a. posts_keep (λ z. is_stranger z a) (λ z y. refl) m.target.node (Signalled s) o1 in
+      let nv : (a : Pid) → is_stranger o.node a ≡ is_stranger n a =
+      λ a. posts_keep (λ z. is_stranger z a) (λ z y. refl) m.target.node (Signalled s) o1 in
       let sd : o.node.sides ≡ n.sides = posts_keep (λ z. z.sides) (λ z y. refl) m.target.node (Signalled s) o1 in
-      let got : (k : Reference) → fm.get o.node.watches k ≡ cond (same_reference k r) None (fm.get n.watches k) = λ k. ap (λ z. fm.get z k) ws ∙ fm.get-remove reference_cmp_total n.watches r k in
-      let hp : Homed n (λ a. is_stranger n a ≡ false) o = homed_post n (λ a. is_stranger n a ≡ false) s o1 (λ j. tt) (record { local = g.homes x n hx; name = refl }) in
+      let got : (k : Reference) → fm.get o.node.watches k ≡ cond (same_reference k r) None (fm.get n.watches k) =
+      λ k. ap (λ z. fm.get z k) ws ∙ fm.get-remove reference_cmp_total n.watches r k in
+      let hp : Homed n (λ a. is_stranger n a ≡ false) o =
+      homed_post n (λ a. is_stranger n a ≡ false) s o1 (λ j. tt) (record { local = g.homes x n hx; name = refl }) in
       let dn : (k : Reference) → downs_in k o.effects ≡ [] = λ k. quietly_downs k [] o.effects quietly in
-      let cp = carried_post (Founded (EndedBefore n (Old w h) (λ a b z. Unit {0}) (Called h) (Off w h) o) (λ a b k. Monitored k a b ((record { event = Call x (Command.Demonitor p r); report = Reported Rattle.dist_model.specs.declared.report.Answer.TheVariants.Done o.effects }) ∷ h)) (OffNow n (Old w h) (λ a b z. Unit {0}) (Called h) (Off w h) o))
+      let cp =
+      carried_post
+      (Founded (EndedBefore n (Old w h) (λ a b z. Unit {0}) (Called h) (Off w h) o) (λ a b k. Monitored k a b ((record {
+        event = Call
+            x (Command.Demonitor p r);
+        report = Reported Rattle.dist_model.specs.declared.report.Answer.TheVariants.Done
+            o.effects;
+      }) ∷ h)) (OffNow n (Old w h) (λ a b z. Unit {0}) (Called h) (Off w h) o))
       m.target.node (Signalled s) o1 (inr ((m, i), got r ∙ ap (λ b. cond b None (fm.get n.watches r)) (same_reference_refl r)))
-      (record { local = All-weaker (IsFounded w h) _ (founded_by _ _ _ _ _ _ (λ a z c. inl c) (λ a b k c. inr c) (λ k c. inl c)) n.local (g.locals x n hx); sent = All-nil _ }) in
+      (record {
+        local = All-weaker (IsFounded w h) _
+            (founded_by _ _ _ _ _ _ (λ a z c. inl c) (λ a b k c. inr c) (λ k c. inl c)) n.local (g.locals x n hx);
+        sent = All-nil _;
+      }) in
       record {
         deed = record {
           name = ap (λ (z : Minted). z.name) mt ∙ nm w h x n hx gw g;
           nevers = λ a v. nv a ∙ v;
           grows = λ a v. let b = over_parts n a v in over_of o.node a (lv a ∙ b.0) (nv a ∙ b.1);
           carries = cp;
-          homes = All-weaker (TargetsIn (λ a. is_stranger n a ≡ false)) (TargetsIn (λ a. is_stranger o.node a ≡ false)) (targets_by _ _ (λ a v. nv a ∙ v)) o.node.local hp.local;
+          homes = All-weaker (TargetsIn (λ a. is_stranger n a ≡ false)) (TargetsIn (λ a. is_stranger o.node a ≡ false))
+              (targets_by _ _ (λ a v. nv a ∙ v)) o.node.local hp.local;
           enrolled = λ k u j. let v = g.enrolled x n k u hx (ap (λ z. fm.get z k) (sym rs) ∙ j) in (lv u.target ∙ v.0, v.1);
           owners = λ k u j. lv u.owner ∙ (g.watching x n k u hx (left k u (same_reference k r) (sym (got k) ∙ j))).4;
           drawn = λ k d. subst (λ z. Drawn (record n { mint = z }) k) (sym mt) d;
           course = λ k. by_test _ (same_reference k r)
-              (λ j. Revoked m (ap (fm.get n.watches) (same_reference_true k r j) ∙ i) (got k ∙ ap (λ b. cond b None (fm.get n.watches k)) j) (dn k) refl j)
+              (λ j. Revoked m (ap (fm.get n.watches) (same_reference_true k r j) ∙ i)
+              (got k ∙ ap (λ b. cond b None (fm.get n.watches k)) j) (dn k) refl j)
               (λ j. Stays (got k ∙ ap (λ b. cond b None (fm.get n.watches k)) j) (dn k) refl j);
         };
         acts = λ a b z c. absurd (quiet [] a b z refl (quietly_acts [] o.effects quietly a b z c));
@@ -378,23 +446,17 @@ module _ (w : World) (h : History) (x : Name) (n : Node) (hx : node_of w.nodes x
       })
     where
       left : (k : Reference) (u : Monitor) (b : Bool) → cond b None (fm.get n.watches k) ≡ Some u → fm.get n.watches k ≡ Some u
-      left k u true j = absurd (none_some u j)
+      left k u true j = absurd (none-some u j)
       left k u false j = j
 
   -- ---- any call
 
   pub call_done : (c : Command) → AllGo (call n c) (Done (Call x c) n.local)
   call_done Command.Spawn = spawn_done
-  call_done (Command.Send p q m) = plain_call (Command.Send p q m) (λ i. cc) (λ a b i. cc) (λ a b i. cc)
-  call_done (Command.Link p q) = plain_call (Command.Link p q) (λ i. cc) (λ a b i. cc) (λ a b i. cc)
-  call_done (Command.Unlink p q) = plain_call (Command.Unlink p q) (λ i. cc) (λ a b i. cc) (λ a b i. cc)
   call_done (Command.Monitor p q) = go_cond (living n p) _ Refusal.NoSuchProcess (Done (Call x (Command.Monitor p q)) n.local) (λ l.
       go_not (same_name q.node n.mint.name && is_stranger n q) _ Refusal.Forged (Done (Call x (Command.Monitor p q)) n.local) (λ f.
       go_drawn (id_of n.mint kind.Reference) _ (Done (Call x (Command.Monitor p q)) n.local) (λ id i. monitor_done p q l f id i)))
-  call_done (Command.Demonitor p r) = go_cond (living n p) _ Refusal.NoSuchProcess (Done (Call x (Command.Demonitor p r)) n.local) (λ l. demonitor_done p r (fm.get n.watches r) refl)
-  call_done (Command.Trap p b) = plain_call (Command.Trap p b) (λ i. cc) (λ a c i. cc) (λ a c i. cc)
-  call_done (Command.ExitTo p q z) = plain_call (Command.ExitTo p q z) (λ i. cc) (λ a b i. cc) (λ a b i. cc)
-  call_done (Command.ExitSelf p z) = plain_call (Command.ExitSelf p z) (λ i. cc) (λ a b i. cc) (λ a b i. cc)
-  call_done (Command.Receive p) = plain_call (Command.Receive p) (λ i. cc) (λ a b i. cc) (λ a b i. cc)
-  call_done (Command.LinksOf p) = plain_call (Command.LinksOf p) (λ i. cc) (λ a b i. cc) (λ a b i. cc)
-  call_done (Command.IsAlive p) = plain_call (Command.IsAlive p) (λ i. cc) (λ a b i. cc) (λ a b i. cc)
+  call_done (Command.Demonitor p r) =
+      go_cond (living n p) _ Refusal.NoSuchProcess (Done (Call x (Command.Demonitor p r)) n.local)
+      (λ l. demonitor_done p r (fm.get n.watches r) refl)
+  call_done c = plain_call c (λ i. cc) (λ a b i. cc) (λ a b i. cc)

@@ -1,14 +1,15 @@
 -- A node's ends and monitors are of living processes, whatever event comes to it.
 use Rattle.std.proofs.Common.{◌≡◌, ◌≢◌, Bool, true, false, cond, not, [], refl, sym, ap, ◌∙◌, ◌&&◌, Some, None, ◌⊎◌, inl, inr}
+use Rattle.std.proofs.lemmas.Bool.{and_parts, not-true}
+use Rattle.std.proofs.lemmas.Option.{same_Some, none-some}
 use Rattle.std.specs.FinMap as fm
 use Rattle.std.specs.FinMap.{FinMap}
-use Rattle.dist_model.proofs.Ending.{last_posts}
-use Rattle.dist_model.proofs.Founding.{added_some, all_posts_keep, posts_keep, registered_left, removed_some, retained, watches_left}
+use Rattle.dist_model.proofs.EndOfProcess.{last_posts, is_living_kept}
+use Rattle.dist_model.proofs.Founded.{added_some, all_posts_keep, posts_keep, registered_left, removed_some, retained, watches_left}
 use Rattle.dist_model.proofs.KeepParts.{Parts}
-use Rattle.dist_model.proofs.Keys.{and_both, pid_total, same_pid_true}
-use Rattle.dist_model.proofs.Moves.{cond_absent, cond_end_kept, cond_life_kept, end_set, finish_end, finish_living, put_living, set_life_living}
-use Rattle.dist_model.proofs.Routes.{none_some, some_same}
-use Rattle.dist_model.proofs.Seeing.{end_in}
+use Rattle.dist_model.proofs.Keys.{pid_total, same_pid_true}
+use Rattle.dist_model.proofs.Moves.{cond_absent, cond_end_kept, end_set, finish_end, finish_living, put_living, set_life_living}
+use Rattle.dist_model.proofs.Seen.{end_in}
 use Rattle.dist_model.specs.Downs.{same_reference}
 use Rattle.dist_model.specs.Exits.{end_process, is_owned, is_target}
 use Rattle.dist_model.specs.Items.{Signalled}
@@ -17,6 +18,7 @@ use Rattle.dist_model.specs.Monitoring.{register, watch}
 use Rattle.dist_model.specs.Names.{pair_cmp, same_pid}
 use Rattle.dist_model.specs.Node.{Life, Living, Node, end_of, is_living_life, living}
 use Rattle.dist_model.specs.Work.{Work, post_all, set_end}
+use Rattle.dist_model.specs.Calls.{spawn_life}
 use Rattle.erl_term.specs.Data.{Data}
 use Rattle.erl_term.specs.Order.{pid_cmp}
 use Rattle.erl_term.specs.declared.term.Pid.{Pid}
@@ -56,7 +58,7 @@ ends_set x y v o l k = record {
     go : (p q : Pid) (b : Bool) → (same_pid p x && same_pid q y) ≡ b
         → (cond (same_pid p x && same_pid q y) v (end_of o.node p q) ≢ End.None)
         → (living o.node x ≡ true) ⊎ (v ≡ End.None) → living o.node p ≡ true
-    go p q true e h (inl j) = ap (living o.node) (same_pid_true p x (and_both (same_pid p x) (same_pid q y) e).0) ∙ j
+    go p q true e h (inl j) = ap (living o.node) (same_pid_true p x (and_parts (same_pid p x) (same_pid q y) e).0) ∙ j
     go p q true e h (inr j) = absurd (h (ap (λ b. cond b v (end_of o.node p q)) e ∙ j))
     go p q false e h j = k.ends p q (λ i. h (ap (λ b. cond b v (end_of o.node p q)) e ∙ i))
 
@@ -65,22 +67,18 @@ ends_with : (x : Pid) (r : Data) (o : Work) → Alive o.node → Alive ((end_pro
 ends_with x r o k = record {
   ends = λ p q h. left_end p q (λ j. h (finish_end x r o p q ∙ j));
   owners = λ c m h. let v = retained _ _ m (sym (watches_left x o1.node.watches c) ∙ h) in
-      stays m.owner (not_that (same_pid m.owner x) (sym (ap (λ z. not (is_owned x z)) v.1) ∙ v.0))
+      stays m.owner (not-true (same_pid m.owner x) (sym (ap (λ z. not (is_owned x z)) v.1) ∙ v.0))
       (k.owners c m (ap (λ z. fm.get z c) (sym (all_posts_keep (λ n. n.watches) (λ n l. refl) (last_posts x r o) o)) ∙ v.1));
   targets = λ c m h. let v = retained _ _ m (sym (registered_left x o1.node.registered c) ∙ h) in
-      stays m.target (not_that (same_pid m.target x) (sym (ap (λ z. not (is_target x z)) v.1) ∙ v.0))
+      stays m.target (not-true (same_pid m.target x) (sym (ap (λ z. not (is_target x z)) v.1) ∙ v.0))
       (k.targets c m (ap (λ z. fm.get z c) (sym (all_posts_keep (λ n. n.registered) (λ n l. refl) (last_posts x r o) o)) ∙ v.1));
 }
   where
     o1 : Work
     o1 = post_all (last_posts x r o) o
 
-    not_that : (b : Bool) → not b ≡ true → b ≡ false
-    not_that true h = cc
-    not_that false h = refl
-
     stays : (p : Pid) → same_pid p x ≡ false → living o.node p ≡ true → living ((end_process x r o).node) p ≡ true
-    stays p e l = finish_living x r o p ∙ cond_life_kept (same_pid p x) r (fm.get ((post_all (last_posts x r o) o).node.lives) p) e
+    stays p e l = finish_living x r o p ∙ is_living_kept (same_pid p x) r (fm.get ((post_all (last_posts x r o) o).node.lives) p) e
         ∙ ap (λ z. is_living_life (fm.get z p)) (all_posts_keep (λ n. n.lives) (λ n l. refl) (last_posts x r o) o) ∙ l
 
     left_end : (p q : Pid)
@@ -102,7 +100,7 @@ watched c m o l k = record {
     go : (r : Reference) (v : Monitor) (b : Bool) → same_reference r c ≡ b
         → cond (same_reference r c) (Some m) (fm.get o.node.watches r) ≡ Some v → living o.node v.owner ≡ true
     go r v true e h =
-        let new : m ≡ v = some_same m v (sym (ap (λ b. cond b (Some m) (fm.get o.node.watches r)) e) ∙ h) in
+        let new : m ≡ v = same_Some m v (sym (ap (λ b. cond b (Some m) (fm.get o.node.watches r)) e) ∙ h) in
         ap (λ (z : Monitor). living o.node z.owner) (sym new) ∙ l
     go r v false e h = k.owners r v (sym (ap (λ b. cond b (Some m) (fm.get o.node.watches r)) e) ∙ h)
 
@@ -128,7 +126,7 @@ alive_parts = record {
       same o.node _ (posts_keep (λ m. m.lives) (λ m l. refl) y (Signalled s) o) (posts_keep (λ m. m.ends) (λ m l. refl) y (Signalled s) o)
       (posts_keep (λ m. m.watches) (λ m l. refl) y (Signalled s) o) (posts_keep (λ m. m.registered) (λ m l. refl) y (Signalled s) o) k;
   end_set = λ p q e o l k. ends_set p q e o l k;
-  drew = λ d o k. record { ends = k.ends; owners = k.owners; targets = k.targets };
+  drew = λ d o h k. record { ends = k.ends; owners = k.owners; targets = k.targets };
   life_set = λ p l o h k. along o.node _
       (λ x j. set_life_living o.node.lives p l x (λ e. h ∙ ap (living o.node) (sym (same_pid_true x p e))) ∙ j)
       refl (λ r v j. j) (λ r v j. j) k;
@@ -139,15 +137,17 @@ alive_parts = record {
   unregisters = λ c o k. along o.node _ (λ x j. j) refl (λ r v j. j) (λ r v j. removed_some o.node.registered c r v j) k;
   watches = λ r m o l k. watched r m o l k;
   unwatches = λ c o k. along o.node _ (λ x j. j) refl (λ r v j. removed_some o.node.watches c r v j) (λ r v j. j) k;
-  spawned = λ n p k. along n _ (λ x j. born n.lives p x j) refl (λ r v j. j) (λ r v j. j) k;
 }
+
+pub alive_spawned : (n : Node) (p : Pid) → Alive n → Alive ((spawn_life n p).node)
+alive_spawned n p k = along n _ (λ x j. born n.lives p x j) refl (λ r v j. j) (λ r v j. j) k
 
 -- nobody is left
 pub all_alive : (m : Node) → m.ends ≡ fm.empty → m.watches ≡ fm.empty → m.registered ≡ fm.empty → Alive m
 all_alive m e w g = record {
   ends = λ p q h. absurd (h (ap (λ z. end_in (fm.get z (p, q))) e ∙ ap end_in (fm.get-empty pair_cmp (p, q))));
-  owners = λ r v h. absurd (none_some v (sym (ap (λ z. fm.get z r) w ∙ fm.get-empty reference_cmp r) ∙ h));
-  targets = λ r v h. absurd (none_some v (sym (ap (λ z. fm.get z r) g ∙ fm.get-empty reference_cmp r) ∙ h));
+  owners = λ r v h. absurd (none-some v (sym (ap (λ z. fm.get z r) w ∙ fm.get-empty reference_cmp r) ∙ h));
+  targets = λ r v h. absurd (none-some v (sym (ap (λ z. fm.get z r) g ∙ fm.get-empty reference_cmp r) ∙ h));
 }
 
 -- another state of the sides, of the own list, or of what was drawn

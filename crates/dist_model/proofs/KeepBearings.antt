@@ -1,18 +1,20 @@
 -- A node keeps its name, its sides and their peers, whatever event comes to it.
 use Rattle.erl_names.specs.Draw as kind
 use Rattle.erl_names.specs.Draw.{Draw}
-use Rattle.std.proofs.Common.{◌≡◌, ℕ, Bool, true, false, cond, List, [], ◌∷◌, refl, sym, ap, ◌∙◌, subst, arith, Option, Some, None, ◌⊎◌, inl, inr, Contains}
+use Rattle.std.proofs.Common.{◌≡◌, ℕ, Bool, true, false, cond, List, [], ◌∷◌, refl, sym}
+use Rattle.std.proofs.Common.{ap, ◌∙◌, subst, Option, Some, None, ◌⊎◌, inl, inr, Contains}
 use Rattle.std.proofs.lemmas.List.Elements.{Contains-push_cases}
+use Rattle.std.proofs.lemmas.Option.{same_Some, none-some}
 use Rattle.std.specs.FinMap as fm
 use Rattle.dist_model.proofs.Calls.{IfGoes, by_test}
-use Rattle.dist_model.proofs.Closing.{gone_side, gone_sides}
-use Rattle.dist_model.proofs.Ending.{last_posts}
-use Rattle.dist_model.proofs.Handshaking.{Aged, Fresh, Roomy, Shut, TurnedBy, Unparks, as_state, fresh_kept, parked_ages, set_at}
+use Rattle.dist_model.proofs.ClosedSides.{gone_side, gone_sides}
+use Rattle.dist_model.proofs.EndOfProcess.{last_posts}
+use Rattle.dist_model.proofs.HandshakeParts.{Aged, Fresh, Roomy, Shut, TurnedBy, Unparks, as_state, fresh_kept, parked_ages, set_at}
 use Rattle.dist_model.proofs.KeepEvents.{Rest, at_node_keeps, dial_goes}
 use Rattle.dist_model.proofs.KeepParts.{Parts}
 use Rattle.dist_model.proofs.Keys.{same_name_is, same_trunk, same_trunk_is, same_trunk_true}
-use Rattle.dist_model.proofs.Routes.{none_some, some_same}
 use Rattle.dist_model.proofs.Sides.{route_from, side_at}
+use Rattle.dist_model.proofs.Truths.{none_within}
 use Rattle.dist_model.specs.Arrivals.{handshake_in}
 use Rattle.dist_model.specs.Commands.{Accepts, Outcome}
 use Rattle.dist_model.specs.Dialing.{draw_trunk, next_trunk}
@@ -24,7 +26,7 @@ use Rattle.erl_control.specs.Ends.{receiver_of}
 use Rattle.dist_model.specs.Keeping.{Bearings, Comes, Dials, Towards}
 use Rattle.dist_model.specs.Names.{Name, same_name}
 use Rattle.dist_model.specs.Node.{Node, route}
-use Rattle.dist_model.specs.NodeEvents.{Arrive, Call, Dial, Local, Lose, NodeEvent, Start, Stop, Sweep, at_node}
+use Rattle.dist_model.specs.NodeEvents.{Arrive, Dial, Local, NodeEvent, Start, Stop, at_node, Call}
 use Rattle.dist_model.specs.Sides.{Accepting, AwaitsStatus, Gone, Losing, TrunkSide}
 use Rattle.dist_model.specs.Work.{Work, at_work, keep_local, post, post_all, post_to, put, report, send_on}
 use Rattle.dist_model.specs.declared.report.Answer.{Answer}
@@ -51,20 +53,16 @@ towards_turned New t s o c u y v = by_test _ (same_trunk u t)
     at b e = set_at o t s u ∙ ap (λ b. cond b (Some s) (side_at o.node u)) e
 
     is_that : (a : TrunkSide) → u ≡ t → side_at o.node t ≡ Some a → a.peer ≡ y
-    is_that a e h = ap (λ (z : TrunkSide). z.peer) (some_same a v.side (sym h ∙ ap (side_at o.node) (sym e) ∙ v.there)) ∙ v.peer
+    is_that a e h = ap (λ (z : TrunkSide). z.peer) (same_Some a v.side (sym h ∙ ap (side_at o.node) (sym e) ∙ v.there)) ∙ v.peer
 
     same : u ≡ t → TurnedBy New o.node t s → s.peer ≡ y
-    same e (Fresh q h) = absurd (none_some v.side (sym h ∙ ap (side_at o.node) (sym e) ∙ v.there))
+    same e (Fresh q h) = absurd (none-some v.side (sym h ∙ ap (side_at o.node) (sym e) ∙ v.there))
     same e (Aged a h g) = g.peer ∙ is_that a e h
     same e (Shut a h p g r) = p ∙ is_that a e h
 
-nothing : (f : Effect Item) → Contains [] f → ⊥
-nothing f c = let lt = c.1 in omega arith
-
 drawn_name : (m : Minted) (d : Draw) → (drawn m d).name ≡ m.name
 drawn_name m kind.Pid = refl
-drawn_name m kind.Reference = refl
-drawn_name m kind.UnlinkId = refl
+drawn_name m _ = refl
 
 module _ (n : Node) (e : NodeEvent) where
   abbrev New : TrunkId → Name → Type 0
@@ -122,7 +120,8 @@ module _ (n : Node) (e : NodeEvent) where
     where
       challenge_or_park : (r : Option TrunkId) → route o.node y ≡ r → X (send_on r y x o)
       challenge_or_park None h = k
-      challenge_or_park (Some t) h = let r = route_from o.node y t h in sends t y x o (record { side = r.found; there = r.there; peer = r.peer }) k
+      challenge_or_park (Some t) h =
+          let r = route_from o.node y t h in sends t y x o (record { side = r.found; there = r.there; peer = r.peer }) k
 
       go : (b : Bool) → X (cond b (keep_local x o) (send_on (route o.node y) y x o))
       go true = kept_local x o k
@@ -150,7 +149,7 @@ module _ (n : Node) (e : NodeEvent) where
   parts = record {
     posted = λ s o k. posts (receiver_of s).node (Signalled s) o k;
     end_set = λ p q v o l k. within o _ refl refl k;
-    drew = λ d o k. within o _ (drawn_name o.node.mint d) refl k;
+    drew = λ d o h k. within o _ (drawn_name o.node.mint d) refl k;
     life_set = λ p l o h k. within o _ refl refl k;
     message = puts;
     reacted = λ p q x o k. silent (Effect.LinkExit p q x) o (λ t y i z. cc) k;
@@ -159,7 +158,6 @@ module _ (n : Node) (e : NodeEvent) where
     unregisters = λ r o k. within o _ refl refl k;
     watches = λ r m o l k. within o _ refl refl k;
     unwatches = λ r o k. within o _ refl refl k;
-    spawned = λ m p k. within (at_work m) _ refl refl k;
   }
 
   towards_kept : (t : TrunkId) (s : TrunkSide) (o : Work) → TurnedBy New o.node t s → X o → X (with_side t s o)
@@ -168,7 +166,7 @@ module _ (n : Node) (e : NodeEvent) where
     stays = λ u y h. still u y (k.stays u y h);
     sent = λ u y i h. towards_turned New t s o c u y (k.sent u y i h);
     new = λ u a h j. by_test _ (same_trunk u t)
-        (λ i. here u a (same_trunk_true u t i) h (some_same s a (sym (at u true i) ∙ j)) c)
+        (λ i. here u a (same_trunk_true u t i) h (same_Some s a (sym (at u true i) ∙ j)) c)
         (λ i. k.new u a h (sym (at u false i) ∙ j));
   }
     where
@@ -202,8 +200,8 @@ module _ (n : Node) (e : NodeEvent) where
   idle m nm sd = record {
     name = nm;
     stays = λ t y h. inl (towards_along n m sd t y h);
-    sent = λ t y i c. absurd (nothing (Effect.Sent (Some t) y i) c);
-    new = λ t s h j. absurd (none_some s (sym h ∙ ap (λ z. fm.get z t) (sym sd) ∙ j));
+    sent = λ t y i c. absurd (none_within (Effect.Sent (Some t) y i) c);
+    new = λ t s h j. absurd (none-some s (sym h ∙ ap (λ z. fm.get z t) (sym sd) ∙ j));
   }
 
   -- every side is gone
@@ -215,8 +213,8 @@ module _ (n : Node) (e : NodeEvent) where
       there = at t ∙ ap gone_side h.there;
       peer = h.peer;
     });
-    sent = λ t y i c. absurd (nothing (Effect.Sent (Some t) y i) c);
-    new = λ t s h j. absurd (none_some s (sym (at t ∙ ap gone_side h) ∙ j));
+    sent = λ t y i c. absurd (none_within (Effect.Sent (Some t) y i) c);
+    new = λ t s h j. absurd (none-some s (sym (at t ∙ ap gone_side h) ∙ j));
   }
     where
       at : (t : TrunkId) → side_at m t ≡ gone_side (side_at n t)
@@ -247,10 +245,10 @@ module _ (n : Node) (e : NodeEvent) where
       stays = λ u z v. by_test _ (same_trunk u t0)
           (λ i. inr (y, dials_it u i, record { side = s0; there = at u true i; peer = refl }))
           (λ i. inl (record { side = v.side; there = at u false i ∙ v.there; peer = v.peer }));
-      sent = λ u z i c. absurd (nothing (Effect.Sent (Some u) z i) c);
+      sent = λ u z i c. absurd (none_within (Effect.Sent (Some u) z i) c);
       new = λ u a v j. by_test _ (same_trunk u t0)
-          (λ i. inr (subst (λ (z : TrunkSide). Dials n e u z.peer) (some_same s0 a (sym (at u true i) ∙ j)) (dials_it u i)))
-          (λ i. absurd (none_some a (sym v ∙ sym (at u false i) ∙ j)));
+          (λ i. inr (subst (λ (z : TrunkSide). Dials n e u z.peer) (same_Some s0 a (sym (at u true i) ∙ j)) (dials_it u i)))
+          (λ i. absurd (none-some a (sym v ∙ sym (at u false i) ∙ j)));
     }
 
     dialed : X (write t0 y (send_name (identity n)) o0)
@@ -265,16 +263,14 @@ bearings_kept names n e = at_node_keeps (New n e) (Bearings n e) (parts n e) (tu
   where
     rest : (d : NodeEvent) → e ≡ d → Rest (New n e) (Bearings n e) (parts n e) (turned n e)
         (wrote n e) (opens n e) names n (idle n e n refl refl) d
-    rest (Call c) h = tt
-    rest (Arrive t None w) h = tt
+    rest (Call d) h = λ s p. within n e (at_work n) _ refl refl (idle n e n refl refl)
     rest (Arrive t (Some i) w) h = λ at. fresh_kept (New n e) (Bearings n e) (turned n e) (wrote n e) t (inl ((i, w, h), refl))
         (handshake_in i) w (at_work n) at (idle n e n refl refl)
     rest Local h = λ l. idle n e (record n { local = l }) refl refl
-    rest (Lose t) h = tt
-    rest Sweep h = tt
     rest (Dial y w) h = dial_goes (Bearings n e) names n y w (λ ny busy. dialed n e y w h ny)
     rest Stop h = clears n e (stopped n) refl refl
     rest Start h = clears n e (started n) refl refl
+    rest _ h = tt
 
 -- of an outcome that is accepted
 pub if_accepted : (X : Work → Type 0) (k : Outcome) (a : Answer) (o : Work) → k ≡ Accepts a o → IfGoes k X → X o

@@ -1,11 +1,11 @@
 -- A node has dialed each trunk of its own that it has a side of, so that the next one that it dials is new to it.
 use Rattle.std.proofs.Common.{◌≡◌, ◌+◌, ◌≤◌, ℕ, List, refl, sym, ap, ◌∙◌, arith, Option, Some, None, ◌⊎◌, inl, inr}
+use Rattle.std.proofs.lemmas.Option.{none-some}
 use Rattle.std.specs.FinMap as fm
 use Rattle.dist_model.proofs.Calls.{IfGoes, if_cond}
-use Rattle.dist_model.proofs.Handshaking.{Roomy, Turned, Unparks, fresh_kept}
+use Rattle.dist_model.proofs.HandshakeParts.{Roomy, Turned, Unparks, fresh_kept}
 use Rattle.dist_model.proofs.KeepBearings.{bearings_kept, if_accepted}
 use Rattle.dist_model.proofs.KeepEvents.{Rest, at_node_keeps, dial_goes, outer_parts}
-use Rattle.dist_model.proofs.Routes.{none_some}
 use Rattle.dist_model.proofs.Sides.{side_at}
 use Rattle.dist_model.specs.Arrivals.{handshake_in}
 use Rattle.dist_model.specs.Commands.{Accepts}
@@ -15,7 +15,7 @@ use Rattle.dist_model.specs.Handshake.{set_state, with_side, write}
 use Rattle.dist_model.specs.Keeping.{Bearings, Comes, ComesOfOthers, CountsOwn, Dials, Towards}
 use Rattle.dist_model.specs.Names.{Name}
 use Rattle.dist_model.specs.Node.{Node}
-use Rattle.dist_model.specs.NodeEvents.{Arrive, Call, Dial, Local, Lose, NodeEvent, Start, Stop, Sweep, at_node}
+use Rattle.dist_model.specs.NodeEvents.{Arrive, Dial, Local, NodeEvent, Start, Stop, at_node, Call}
 use Rattle.dist_model.specs.Runs.{new_node}
 use Rattle.dist_model.specs.Sides.{Gone, Losing, TrunkSide}
 use Rattle.dist_model.specs.Work.{Work, at_work}
@@ -47,15 +47,13 @@ module _ (names : List Name) (n : Node) where
   start = omega arith
 
   rest : (d : NodeEvent) → Rest AnyNew X (outer_parts (λ m c. n.dialed ≤ c)) turned wrote opens names n start d
-  rest (Call c) = tt
-  rest (Arrive t None w) = tt
+  rest (Call d) = λ s p. start
   rest (Arrive t (Some i) w) = λ at. fresh_kept AnyNew X turned wrote t tt (handshake_in i) w (at_work n) at start
   rest Local = λ l. start
-  rest (Lose t) = tt
-  rest Sweep = tt
   rest (Dial y w) = dial_goes X names n y w (λ i j. omega arith)
   rest Stop = start
   rest Start = start
+  rest _ = tt
 
   rises : (e : NodeEvent) → IfGoes (at_node names n e) X
   rises e = at_node_keeps AnyNew X (outer_parts (λ m c. n.dialed ≤ c)) turned wrote opens names n start e (rest e)
@@ -96,4 +94,4 @@ module _ (names : List Name) (n : Node) where
         go (inr j) = absurd (omega (arith, next_count t j.1.1, k t v.side v.there (ap (λ (z : TrunkId). z.dialer) j.1.1)))
 
 pub counted_new : (x : Name) (cookie : List ℕ) → CountsOwn (new_node x cookie)
-counted_new x cookie t s h d = absurd (none_some s (sym (fm.get-empty trunk_cmp t) ∙ h))
+counted_new x cookie t s h d = absurd (none-some s (sym (fm.get-empty trunk_cmp t) ∙ h))

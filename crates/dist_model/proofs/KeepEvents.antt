@@ -1,13 +1,16 @@
 -- What every part of an event keeps is kept by the event, at any node.
-use Rattle.std.proofs.Common.{◌≡◌, ◌+◌, ◌^◌, nat_lt, ℕ, Bool, true, false, cond, not, List, [], ◌∷◌, refl, sym, ap, ◌∙◌, subst, Option, Some, None}
+use Rattle.erl_term.specs.declared.term.Pid.{Pid}
+use Rattle.dist_model.specs.declared.command.Command.{Command}
+use Rattle.std.proofs.Common.{◌≡◌, ◌+◌, ◌^◌, nat_lt, ℕ, Bool, true, false, cond, not, List}
+use Rattle.std.proofs.Common.{[], ◌∷◌, refl, sym, ap, ◌∙◌, subst, Option, Some, None}
 use Rattle.std.specs.Option.{is_some}
 use Rattle.std.specs.FinMap as fm
 use Rattle.std.specs.FinMap.{FinMap}
 use Rattle.dist_model.proofs.Calls.{IfGoes, if_cond, if_not, if_not_known}
-use Rattle.dist_model.proofs.Closing.{any_found, losing_is}
-use Rattle.dist_model.proofs.Ending.{last_posts}
-use Rattle.dist_model.proofs.Founding.{all_posts_keep, posts_keep}
-use Rattle.dist_model.proofs.Handshaking.{Roomy, TurnedBy, Unparks, known_kept, lose_kept, swept_kept}
+use Rattle.dist_model.proofs.ClosedSides.{any_found, losing_is}
+use Rattle.dist_model.proofs.EndOfProcess.{last_posts}
+use Rattle.dist_model.proofs.Founded.{all_posts_keep, posts_keep}
+use Rattle.dist_model.proofs.HandshakeParts.{Roomy, TurnedBy, Unparks, known_kept, lose_kept, swept_kept}
 use Rattle.dist_model.proofs.KeepParts.{Parts, call_keeps, item_keeps, record_keeps}
 use Rattle.dist_model.proofs.Sides.{side_at}
 use Rattle.dist_model.specs.Arrivals.{arrive, arrive_first, arrive_fresh, handshake_in, take_local}
@@ -24,6 +27,7 @@ use Rattle.dist_model.specs.Node.{Node, side_where}
 use Rattle.dist_model.specs.NodeEvents.{Arrive, Call, Dial, Local, Lose, NodeEvent, Start, Stop, Sweep, at_node}
 use Rattle.dist_model.specs.Sides.{AwaitsStatus, Gone, Losing, TrunkSide, is_gone, is_losing, is_over}
 use Rattle.dist_model.specs.Work.{Work, at_work}
+use Rattle.dist_model.specs.Calls.{spawn_life}
 use Rattle.erl_handshake.specs.Roles.{send_name}
 use Rattle.erl_handshake.specs.declared.message.ShakeMsg.{ShakeMsg}
 use Rattle.erl_names.specs.Order.{trunk_cmp}
@@ -37,7 +41,7 @@ outer_parts P = record {
       let y = (receiver_of s).node in
       along (posts_keep (λ m. m.sides) (λ m l. refl) y (Signalled s) o) (posts_keep (λ m. m.dialed) (λ m l. refl) y (Signalled s) o) k;
   end_set = λ p q e o l k. k;
-  drew = λ d o k. k;
+  drew = λ d o h k. k;
   life_set = λ p l o h k. k;
   message = λ p m o k. k;
   reacted = λ p q x o k. k;
@@ -47,7 +51,6 @@ outer_parts P = record {
   unregisters = λ r o k. k;
   watches = λ r m o l k. k;
   unwatches = λ r o k. k;
-  spawned = λ n p k. k;
 }
   where
     along : {a b : FinMap trunk_cmp TrunkSide} {c d : ℕ} → a ≡ b → c ≡ d → P b d → P a c
@@ -72,6 +75,7 @@ module _ (New : TrunkId → Name → Type 0) (X : Work → Type 0) (c : Parts X)
     (names : List Name) (n : Node) (k : X (at_work n)) where
   -- what isn't made of such parts alone
   abbrev pub Rest : NodeEvent → Type 0
+  Rest (Call d) = d ≡ Command.Spawn → (p : Pid) → X (spawn_life n p)
   Rest (Arrive t (Some i) w) = side_at n t ≡ None → IfGoes (arrive_fresh (handshake_in i) t w (at_work n)) X
   Rest Local = (rest : List Item) → X (at_work (record n { local = rest }))
   Rest (Dial y w) = IfGoes (dial names n y w) X
@@ -111,11 +115,10 @@ module _ (New : TrunkId → Name → Type 0) (X : Work → Type 0) (c : Parts X)
       swept_kept New X side wrote d.0 d.1 o at (opens d.0 d.1 o at (losing_is d.1.state f.1) kept) kept
 
   pub at_node_keeps : (e : NodeEvent) → Rest e → IfGoes (at_node names n e) X
-  at_node_keeps (Call d) r = if_cond n.up _ Refusal.NodeDown X (λ u. call_keeps X c n d k)
+  at_node_keeps (Call d) r = if_cond n.up _ Refusal.NodeDown X (λ u. call_keeps X c n d r k)
   at_node_keeps (Arrive t first w) r = if_cond n.up _ Refusal.NodeDown X (λ u. arrives t first w r)
   at_node_keeps Local r = if_cond n.up _ Refusal.NodeDown X (λ u. takes n.local r)
   at_node_keeps (Lose t) r = if_cond n.up _ Refusal.NodeDown X (λ u. lose_kept New X side wrote n t (fm.get n.sides t) refl k)
   at_node_keeps Sweep r = if_cond n.up _ Refusal.NodeDown X (λ u. sweeps (any_side is_losing (fm.entries n.sides)) refl)
-  at_node_keeps (Dial y w) r = if_cond n.up _ Refusal.NodeDown X (λ u. r)
-  at_node_keeps Stop r = if_cond n.up _ Refusal.NodeDown X (λ u. r)
   at_node_keeps Start r = if_not n.up _ Refusal.NodeUp X (if_cond (nat_lt (n.mint.creation + 1) (2 ^ 32)) _ Refusal.IdsUsedUp X (λ u. r))
+  at_node_keeps _ r = if_cond n.up _ Refusal.NodeDown X (λ u. r)

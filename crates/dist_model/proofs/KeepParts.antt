@@ -11,7 +11,6 @@ use Rattle.dist_model.specs.Calls.{call, spawn_life}
 use Rattle.dist_model.specs.declared.command.Command.{Command}
 use Rattle.dist_model.specs.Exits.{end_process}
 use Rattle.dist_model.specs.Items.{Item}
-use Rattle.dist_model.specs.Links.{noconnection}
 use Rattle.dist_model.specs.Losses.{least_record, link_to, sweep_record}
 use Rattle.dist_model.specs.Monitoring.{demonitor_by, register, unregister, unwatch, watch}
 use Rattle.dist_model.specs.Names.{Name, same_pid}
@@ -27,6 +26,7 @@ use Rattle.erl_term.specs.declared.refusal.Refusal.{Refusal}
 use Rattle.erl_term.specs.declared.term.Pid.{Pid}
 use Rattle.erl_term.specs.declared.term.Reference.{Reference}
 use Rattle.exit_core.specs.Messages.{down_term}
+use Rattle.link_core.specs.News.{noconnection}
 use Rattle.link_core.specs.declared.end.End.{End}
 use Rattle.monitor_core.specs.Monitors.{monitor_of}
 use Rattle.monitor_core.specs.declared.monitor.Monitor.{Monitor}
@@ -35,7 +35,7 @@ use Rattle.monitor_core.specs.declared.monitor.Monitor.{Monitor}
 pub record Parts (X : Work → Type 0) : Type 0 where
   pub posted : (s : Signal) (o : Work) → X o → X (post s o)
   pub end_set : (p q : Pid) (e : End) (o : Work) → (living o.node p ≡ true) ⊎ (e ≡ End.None) → X o → X (set_end p q e o)
-  pub drew : (d : Draw) (o : Work) → X o → X (draw d o)
+  pub drew : (d : Draw) (o : Work) → (d ≡ kind.Pid → ⊥) → X o → X (draw d o)
   pub life_set : (p : Pid) (l : Option Life) (o : Work) → is_living_life l ≡ living o.node p → X o
       → X (record o { node = record (o.node) { lives = set_life o.node.lives p l } })
   pub message : (p : Pid) (m : Data) (o : Work) → X o → X (put p m o)
@@ -45,7 +45,6 @@ pub record Parts (X : Work → Type 0) : Type 0 where
   pub unregisters : (r : Reference) (o : Work) → X o → X (unregister r o)
   pub watches : (r : Reference) (m : Monitor) (o : Work) → living o.node m.owner ≡ true → X o → X (watch r m o)
   pub unwatches : (r : Reference) (o : Work) → X o → X (unwatch r o)
-  pub spawned : (n : Node) (p : Pid) → X (at_work n) → X (spawn_life n p)
 
 abbrev any_rules : Rules
 any_rules = record {
@@ -62,7 +61,7 @@ module _ (X : Work → Type 0) (c : Parts X) where
     plain = λ s h. tt;
     posted = λ s o h k. c.posted s o k;
     end_set = c.end_set;
-    drew = λ o k. c.drew kind.UnlinkId o k;
+    drew = λ o k. c.drew kind.UnlinkId o (λ e. cc) k;
     life_set = c.life_set;
     message = λ p m o h k. c.message p m o k;
     reacted = λ p q x o h k. c.reacted p q x o k;
@@ -89,8 +88,8 @@ module _ (X : Work → Type 0) (c : Parts X) where
       let r = reference_of n.mint id in
       cond_kept any_rules X closed (reaches o.node q.node) _ _
       (λ e. c.posted (Signal.Monitor p q r) (watch r (monitor_of p q) o) (c.watches r (monitor_of p q) o l (c.drew kind.Reference
-      (at_work n) k)))
-      (λ e. c.message p (down_term r q noconnection) o (c.drew kind.Reference (at_work n) k))))
+      (at_work n) (λ e. cc) k)))
+      (λ e. c.message p (down_term r q noconnection) o (c.drew kind.Reference (at_work n) (λ e. cc) k))))
 
   demonitors : (v : Option Monitor) (p : Pid) (r : Reference) (o : Work) → X o → IfGoes (demonitor_by v p r o) X
   demonitors None p r o k = tt
@@ -99,23 +98,15 @@ module _ (X : Work → Type 0) (c : Parts X) where
 
   others : (n : Node) (d : Command) → ((p q : Pid) → d ≡ Command.Monitor p q → ⊥) → ((p : Pid) (r : Reference)
       → d ≡ Command.Demonitor p r → ⊥)
-      → X (at_work n) → IfGoes (call n d) X
-  others n d a b k = call_kept any_rules X closed n k d (a, b) (λ id e h. c.spawned n (pid_of n.mint id) k) (λ p q e l r. tt)
+      → (d ≡ Command.Spawn → (p : Pid) → X (spawn_life n p)) → X (at_work n) → IfGoes (call n d) X
+  others n d a b s k = call_kept any_rules X closed n k d (a, b) (λ id e h. s e (pid_of n.mint id)) (λ p q e l r. tt)
 
-  pub call_keeps : (n : Node) (d : Command) → X (at_work n) → IfGoes (call n d) X
-  call_keeps n (Command.Monitor p q) k = monitors n p q k
-  call_keeps n (Command.Demonitor p r) k = if_cond (living n p) _ Refusal.NoSuchProcess X
+  -- what a process begins with is for each X to say
+  pub call_keeps : (n : Node) (d : Command) → (d ≡ Command.Spawn → (p : Pid) → X (spawn_life n p)) → X (at_work n) → IfGoes (call n d) X
+  call_keeps n (Command.Monitor p q) s k = monitors n p q k
+  call_keeps n (Command.Demonitor p r) s k = if_cond (living n p) _ Refusal.NoSuchProcess X
       (λ l. demonitors (fm.get n.watches r) p r (at_work n) k)
-  call_keeps n Command.Spawn k = if_drawn (id_of n.mint kind.Pid) _ X (λ id h. c.spawned n (pid_of n.mint id) k)
-  call_keeps n (Command.Send p q m) k = others n (Command.Send p q m) (λ a b e. cc) (λ a r e. cc) k
-  call_keeps n (Command.Link p q) k = others n (Command.Link p q) (λ a b e. cc) (λ a r e. cc) k
-  call_keeps n (Command.Unlink p q) k = others n (Command.Unlink p q) (λ a b e. cc) (λ a r e. cc) k
-  call_keeps n (Command.Trap p b) k = others n (Command.Trap p b) (λ a b e. cc) (λ a r e. cc) k
-  call_keeps n (Command.ExitTo p q x) k = others n (Command.ExitTo p q x) (λ a b e. cc) (λ a r e. cc) k
-  call_keeps n (Command.ExitSelf p x) k = others n (Command.ExitSelf p x) (λ a b e. cc) (λ a r e. cc) k
-  call_keeps n (Command.Receive p) k = others n (Command.Receive p) (λ a b e. cc) (λ a r e. cc) k
-  call_keeps n (Command.LinksOf p) k = others n (Command.LinksOf p) (λ a b e. cc) (λ a r e. cc) k
-  call_keeps n (Command.IsAlive p) k = others n (Command.IsAlive p) (λ a b e. cc) (λ a r e. cc) k
+  call_keeps n d s k = others n d (λ a b e. cc) (λ a r e. cc) s k
 
   -- the least record towards a peer
   pub record_keeps : (y : Name) (o : Work) → X o → X (sweep_record (least_record y o.node) o)

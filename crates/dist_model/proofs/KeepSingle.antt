@@ -1,20 +1,22 @@
 -- Of the sides towards one peer there is one, or one that waits for the end of another, whatever event comes to the node.
-use Rattle.std.proofs.Common.{◌≡◌, nat_lt, ℕ, Bool, true, false, cond, not, refl, sym, ap, ◌∙◌, ◌&&◌, ◌||◌, Option, Some, None, ◌⊎◌, inl, inr, subst, List}
+use Rattle.std.proofs.Common.{◌≡◌, nat_lt, ℕ, Bool, true, false, not, refl, sym, ap, ◌∙◌, Option, Some, None, ◌⊎◌, inl, inr, subst, List}
+use Rattle.std.proofs.lemmas.Bool.{not-false}
+use Rattle.std.proofs.lemmas.Option.{same_Some, none-some}
+use Rattle.std.proofs.Math.Bool.{or-false}
 use Rattle.std.specs.Ordering.{is_gt}
 use Rattle.std.specs.FinMap as fm
 use Rattle.conn_core.specs.declared.arrival.Fault.{Fault}
-use Rattle.dist_model.proofs.Calls.{IfGoes}
-use Rattle.dist_model.proofs.Closing.{gone_side, gone_sides}
-use Rattle.dist_model.proofs.Handshaking.{Aged, Fresh, Roomy, Shut, TurnedBy, Unparks, as_state, asks_beside}
+use Rattle.dist_model.proofs.Calls.{IfGoes, if_either}
+use Rattle.dist_model.proofs.ClosedSides.{gone_side, gone_sides}
+use Rattle.dist_model.proofs.HandshakeParts.{Aged, Fresh, Roomy, Shut, TurnedBy, Unparks, as_state, asks_beside}
 use Rattle.dist_model.proofs.KeepEvents.{dial_goes}
-use Rattle.dist_model.proofs.NewSides.{all_none, none_case, not_not}
-use Rattle.dist_model.proofs.Reside.{if_trunk, side_after_other, side_after_same, single_after}
-use Rattle.dist_model.proofs.Routes.{Found, none_some, side_where_found, some_same}
+use Rattle.dist_model.proofs.NewSides.{all_none, none_case}
+use Rattle.dist_model.proofs.SideChanges.{if_trunk, side_after_other, side_after_same, single_after}
+use Rattle.dist_model.proofs.Routes.{Found, side_where_found}
 use Rattle.dist_model.proofs.Rules.{accepts, awaits_name, greet, greet_dialing, greet_up, greet_waiting, name_as}
-use Rattle.dist_model.proofs.Sides.{Single, asks, beside, holds, holds_kinds, side_at}
+use Rattle.dist_model.proofs.Sides.{Single, asks, beside, holds, holds_kinds, side_at, asks_waits, unheld_beside}
 use Rattle.dist_model.specs.Admission.{give_up}
 use Rattle.dist_model.specs.Arrivals.{arrive_fresh}
-use Rattle.dist_model.specs.Commands.{Outcome}
 use Rattle.dist_model.specs.Dialing.{dial, draw_trunk, next_trunk}
 use Rattle.dist_model.specs.Handshake.{fault, set_state, with_side, write}
 use Rattle.dist_model.specs.Incarnations.{stopped}
@@ -22,7 +24,8 @@ use Rattle.dist_model.specs.Items.{Handshake, Item}
 use Rattle.dist_model.specs.Keeping.{Towards}
 use Rattle.dist_model.specs.Names.{Name}
 use Rattle.dist_model.specs.Node.{Node, side_where}
-use Rattle.dist_model.specs.Sides.{Accepting, Asked, AwaitsAck, AwaitsChallenge, AwaitsStatus, Gone, Losing, Parked, State, TrunkSide, Up, is_dialing, is_gone, is_waiting}
+use Rattle.dist_model.specs.Sides.{Accepting, Asked, AwaitsAck, AwaitsChallenge, AwaitsStatus, Gone}
+use Rattle.dist_model.specs.Sides.{Losing, Parked, State, TrunkSide, Up, is_dialing, is_gone, is_waiting}
 use Rattle.dist_model.specs.Work.{Work}
 use Rattle.erl_handshake.specs.Flags.{has_all_of, mandatory}
 use Rattle.erl_handshake.specs.Roles.{is_same}
@@ -35,88 +38,33 @@ use Rattle.erl_names.specs.declared.trunk.TrunkId.{TrunkId}
 -- ---- states
 
 holds_beside : (x y : State) → holds x ≡ true → beside x y ≡ true → asks y ≡ true
-holds_beside Up y h b = or_left (asks y) b
-  where
-    or_left : (p : Bool) → (p || false) ≡ true → p ≡ true
-    or_left true b = refl
-    or_left false b = cc
-holds_beside Losing y h b = or_left (asks y) b
-  where
-    or_left : (p : Bool) → (p || false) ≡ true → p ≡ true
-    or_left true b = refl
-    or_left false b = cc
-holds_beside (AwaitsStatus w) y h b = cc
-holds_beside (AwaitsChallenge w) y h b = cc
-holds_beside (AwaitsAck w) y h b = cc
-holds_beside (Asked w) y h b = cc
-holds_beside (Parked w) y h b = cc
-holds_beside (Accepting w) y h b = cc
-holds_beside Gone y h b = cc
+holds_beside Up y h b = sym (or-false (asks y)) ∙ b
+holds_beside Losing y h b = sym (or-false (asks y)) ∙ b
+holds_beside _ y h b = cc
 
 dialing_alone : (x y : State) → is_dialing x ≡ true → beside x y ≡ true → ⊥
 dialing_alone (AwaitsStatus w) y h b = cc
-dialing_alone (AwaitsChallenge w) y h b = cc
-dialing_alone (AwaitsAck w) y h b = cc
-dialing_alone (Asked w) y h b = cc
-dialing_alone (Parked w) y h b = cc
-dialing_alone (Accepting w) y h b = cc
-dialing_alone Up y h b = cc
-dialing_alone Losing y h b = cc
-dialing_alone Gone y h b = cc
+dialing_alone _ y h b = cc
 
 dialing_there : (x : State) → is_dialing x ≡ true → is_gone x ≡ false
 dialing_there (AwaitsStatus w) h = refl
 dialing_there (AwaitsChallenge w) h = refl
 dialing_there (AwaitsAck w) h = refl
-dialing_there (Asked w) h = cc
-dialing_there (Parked w) h = cc
-dialing_there (Accepting w) h = cc
-dialing_there Up h = cc
-dialing_there Losing h = cc
-dialing_there Gone h = cc
+dialing_there _ h = cc
 
 waiting_kinds : (x : State) → is_waiting x ≡ true → (is_gone x ≡ false) × (holds x ≡ false)
 waiting_kinds (Asked w) h = (refl, refl)
 waiting_kinds (Parked w) h = (refl, refl)
 waiting_kinds (Accepting w) h = (refl, refl)
-waiting_kinds (AwaitsStatus w) h = cc
-waiting_kinds (AwaitsChallenge w) h = cc
-waiting_kinds (AwaitsAck w) h = cc
-waiting_kinds Up h = cc
-waiting_kinds Losing h = cc
-waiting_kinds Gone h = cc
-
-asks_waits : (x : State) → asks x ≡ true → is_waiting x ≡ true
-asks_waits (Asked w) h = refl
-asks_waits (Parked w) h = refl
-asks_waits (AwaitsStatus w) h = cc
-asks_waits (AwaitsChallenge w) h = cc
-asks_waits (AwaitsAck w) h = cc
-asks_waits (Accepting w) h = cc
-asks_waits Up h = cc
-asks_waits Losing h = cc
-asks_waits Gone h = cc
+waiting_kinds _ h = cc
 
 -- two that wait for one dialer don't stand beside one another
 waiting_beside : (x y : State) → is_waiting x ≡ true → is_waiting y ≡ true → beside x y ≡ true → ⊥
-waiting_beside x y h k b = no (holds x) (asks y) (asks x) (holds y) (waiting_kinds x h).1 (waiting_kinds y k).1 b
-  where
-    no : (p q r w : Bool) → p ≡ false → w ≡ false → ((p && q) || (r && w)) ≡ true → ⊥
-    no true q r w h k b = cc
-    no false q r true h k b = cc
-    no false q true false h k b = cc
-    no false q false false h k b = cc
+waiting_beside x y h k b = unheld_beside x y (waiting_kinds x h).1 (waiting_kinds y k).1 b
 
 only_gone : (x : State) → is_waiting x ≡ false → holds x ≡ false → is_dialing x ≡ false → is_gone x ≡ true
 only_gone Gone h k d = refl
-only_gone (AwaitsStatus w) h k d = cc
-only_gone (AwaitsChallenge w) h k d = cc
-only_gone (AwaitsAck w) h k d = cc
-only_gone (Asked w) h k d = cc
-only_gone (Parked w) h k d = cc
-only_gone (Accepting w) h k d = cc
-only_gone Up h k d = cc
-only_gone Losing h k d = cc
+only_gone _ h k d = cc
 
 -- ---- one side is set
 
@@ -155,7 +103,7 @@ opens t s o at los k u b w f p i j = single_after ((set_state t s Gone o).node) 
         → (x ≡ t → ⊥) × (side_at o.node x ≡ Some v)
     was x v h hv = if_trunk t _ x
         (λ e.
-        let c : as_state s Gone ≡ v = some_same (as_state s Gone) v (sym (side_after_same o.node t (as_state s Gone))
+        let c : as_state s Gone ≡ v = same_Some (as_state s Gone) v (sym (side_after_same o.node t (as_state s Gone))
         ∙ ap (side_at ((set_state t s Gone o).node)) (sym e) ∙ h) in
         let z : true ≡ false = sym hv ∙ ap (λ (r : TrunkSide). holds r.state) (sym c) in cc)
         (λ d. (d, sym (side_after_other o.node t (as_state s Gone) x d) ∙ h))
@@ -189,7 +137,7 @@ no_side test y o h = all_none test y o.node h
 still : (e : TrunkId × TrunkSide) (o : Work) (u : TrunkId) (v : TrunkSide) → side_at ((give_up (Some e) o).node) u ≡ Some v
     → (v.state ≡ Gone) ⊎ ((u ≡ e.0 → ⊥) × (side_at o.node u ≡ Some v))
 still e o u v h = if_trunk e.0 _ u
-    (λ i. inl (ap (λ (z : TrunkSide). z.state) (sym (some_same (as_state e.1 Gone) v
+    (λ i. inl (ap (λ (z : TrunkSide). z.state) (sym (same_Some (as_state e.1 Gone) v
     (sym (side_after_same o.node e.0 (as_state e.1 Gone)) ∙ ap (side_at ((give_up (Some e) o).node)) (sym i) ∙ h)))))
     (λ d. inr (d, sym (side_after_other o.node e.0 (as_state e.1 Gone) u d) ∙ h))
 
@@ -223,10 +171,6 @@ none_still test y e o g n u v hv p = pick (still e o u v hv)
     pick (inl i) = ap test i ∙ g
     pick (inr i) = n u v i.1 p
 
-if_either : (b : Bool) (x y : Outcome) → IfGoes x X → IfGoes y X → IfGoes (cond b x y) X
-if_either true x y h k = h
-if_either false x y h k = k
-
 module _ (t : TrunkId) (s : TrunkSide) (w : ℕ) where
   accepted : (m : ShakeMsg) (x : Item) (o : Work) → NoSide is_waiting s.peer o → NoSide holds s.peer o → NoSide is_dialing s.peer o
       → X o → IfGoes (accepts t s w m x o) X
@@ -236,7 +180,7 @@ module _ (t : TrunkId) (s : TrunkSide) (w : ℕ) where
   dialed_by : (d : Option (TrunkId × TrunkSide)) (x : Item) (o : Work) → side_where is_dialing s.peer (fm.entries o.node.sides) ≡ d
       → NoSide is_waiting s.peer o → NoSide holds s.peer o → X o → IfGoes (greet_dialing d t s w x o) X
   dialed_by None x o h a b k = accepted (ShakeMsg.Status Status.Ok) x o a b (no_side is_dialing s.peer o h) k
-  dialed_by (Some e) x o h a b k = if_either (is_gt (name_cmp t.dialer o.node.mint.name)) _ _
+  dialed_by (Some e) x o h a b k = if_either (is_gt (name_cmp t.dialer o.node.mint.name)) _ _ X
       (accepted (ShakeMsg.Status Status.OkSimultaneous) x (give_up (Some e) o) (none_still is_waiting s.peer e o refl a)
       (none_still holds s.peer e o refl b)
       (none_left is_dialing s.peer e o refl dialing_there (λ p q i j. dialing_alone p q i) h k)
@@ -256,7 +200,7 @@ module _ (t : TrunkId) (s : TrunkSide) (w : ℕ) where
 
       pick : (u : TrunkId) (v : TrunkSide) → side_at o.node u ≡ Some v → v.peer ≡ s.peer
           → (e.0 ≡ u) ⊎ (beside e.1.state v.state ≡ true) → holds v.state ≡ true
-      pick u v hv p (inl i) = ap (λ (z : TrunkSide). holds z.state) (some_same v e.1 (sym hv ∙ ap (side_at o.node) (sym i) ∙ at)) ∙ f.passes
+      pick u v hv p (inl i) = ap (λ (z : TrunkSide). holds z.state) (same_Some v e.1 (sym hv ∙ ap (side_at o.node) (sym i) ∙ at)) ∙ f.passes
       pick u v hv p (inr i) =
           let c : true ≡ false = sym (asks_waits v.state (holds_beside e.1.state v.state f.passes i)) ∙ a u v hv p in cc
 
@@ -270,7 +214,7 @@ module _ (t : TrunkId) (s : TrunkSide) (w : ℕ) where
   waited_by : (d : Option (TrunkId × TrunkSide)) (x : Item) (o : Work) → side_where is_waiting s.peer (fm.entries o.node.sides) ≡ d → X o
       → IfGoes (greet_waiting d t s w x o) X
   waited_by None x o h k = greeted x o (no_side is_waiting s.peer o h) k
-  waited_by (Some e) x o h k = if_either (nat_lt e.0.count t.count) _ _
+  waited_by (Some e) x o h k = if_either (nat_lt e.0.count t.count) _ _ X
       (greeted x (give_up (Some e) o) (none_left is_waiting s.peer e o refl (λ v i. (waiting_kinds v i).0) waiting_beside h k)
       (goes e.0 (as_state e.1 Gone) o refl k))
       (goes t (as_state s Gone) o refl k)
@@ -283,21 +227,13 @@ named : (t : TrunkId) (m : ShakeMsg) (w : ℕ) (o : Work) → X o → IfGoes (aw
 named t (ShakeMsg.SendName flags creation name) w o k =
     let s : TrunkSide = record { peer = t.dialer; peer_creation = creation; state = Gone } in
     let x = Handshake (ShakeMsg.SendName flags creation name) in
-    if_either (is_same name t.dialer) _ _
-    (if_either (has_all_of flags mandatory) _ _
+    if_either (is_same name t.dialer) _ _ X
+    (if_either (has_all_of flags mandatory) _ _ X
     (waited_by t s w (side_where is_waiting t.dialer (fm.entries o.node.sides)) x o refl k)
     (goes t (as_state s Gone) o refl k))
     (goes t (as_state s Gone) o refl k)
 named t (ShakeMsg.Status Status.Ok) w o k = no_name t o k
-named t (ShakeMsg.Status Status.OkSimultaneous) w o k = no_name t o k
-named t (ShakeMsg.Status Status.Nok) w o k = no_name t o k
-named t (ShakeMsg.Status Status.NotAllowed) w o k = no_name t o k
-named t (ShakeMsg.Status Status.Alive) w o k = no_name t o k
-named t (ShakeMsg.Status Status.True) w o k = no_name t o k
-named t (ShakeMsg.Status Status.False) w o k = no_name t o k
-named t (ShakeMsg.Challenge a b c d) w o k = no_name t o k
-named t (ShakeMsg.ChallengeReply a b) w o k = no_name t o k
-named t (ShakeMsg.ChallengeAck a) w o k = no_name t o k
+named t _ w o k = no_name t o k
 
 pub single_fresh : (m : Option ShakeMsg) (t : TrunkId) (w : ℕ) (o : Work) → X o → IfGoes (arrive_fresh m t w o) X
 single_fresh None t w o k = no_name t o k
@@ -309,12 +245,12 @@ pub single_dial : (names : List Name) (n : Node) (y : Name) (w : ℕ) → Single
 single_dial names n y w k = dial_goes X names n y w (λ i busy.
     single_after (draw_trunk n) (next_trunk n) (record { peer = y; peer_creation = 0; state = AwaitsStatus w }) k
     (λ u v h p d gs gv.
-    let g = not_not (is_gone v.state) (all_none (λ v. not (is_gone v)) y n (none_case _ busy) u v h p) in
+    let g = not-false (is_gone v.state) (all_none (λ v. not (is_gone v)) y n (none_case _ busy) u v h p) in
     let c : true ≡ false = sym g ∙ gv in cc))
 
 pub single_stopped : (n : Node) → Single ((stopped n).sides)
 single_stopped n t u s v hs hv p gs gv = absurd (go (side_at n t) (sym (gone_sides n t) ∙ hs))
   where
     go : (a : Option TrunkSide) → gone_side a ≡ Some s → ⊥
-    go None i = none_some s i
-    go (Some a) i = let c : true ≡ false = ap (λ (z : TrunkSide). is_gone z.state) (some_same (as_state a Gone) s i) ∙ gs in cc
+    go None i = none-some s i
+    go (Some a) i = let c : true ≡ false = ap (λ (z : TrunkSide). is_gone z.state) (same_Some (as_state a Gone) s i) ∙ gs in cc

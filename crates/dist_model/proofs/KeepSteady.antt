@@ -1,15 +1,15 @@
 -- A node stays steady, whatever event comes to it.
-use Rattle.std.proofs.Common.{◌≡◌, Bool, true, false, not, List, refl, sym, ap, ◌∙◌, ◌&&◌, ◌||◌, Some, None, ◌⊎◌, inl, inr, ℕ}
+use Rattle.std.proofs.Common.{◌≡◌, Bool, true, false, not, List, refl, sym, ap, ◌∙◌, ◌&&◌, ◌||◌, Some, ◌⊎◌, inl, inr, ℕ}
+use Rattle.std.proofs.lemmas.Option.{none-some}
 use Rattle.std.specs.FinMap as fm
 use Rattle.dist_model.proofs.Calls.{IfGoes}
-use Rattle.dist_model.proofs.Handshaking.{Roomy, Turned, Unparks, as_state, fresh_kept}
-use Rattle.dist_model.proofs.KeepAlive.{Alive, alive_aside, alive_parts, all_alive}
+use Rattle.dist_model.proofs.HandshakeParts.{Roomy, Turned, Unparks, as_state, fresh_kept}
+use Rattle.dist_model.proofs.KeepAlive.{Alive, alive_aside, alive_parts, all_alive, alive_spawned}
 use Rattle.dist_model.proofs.KeepBearings.{if_accepted}
 use Rattle.dist_model.proofs.KeepEvents.{Rest, at_node_keeps, dial_goes, outer_parts}
 use Rattle.dist_model.proofs.KeepParts.{Parts}
 use Rattle.dist_model.proofs.KeepSingle
 use Rattle.dist_model.proofs.KeepSingle.{NoNew, single_dial, single_fresh, single_stopped}
-use Rattle.dist_model.proofs.Routes.{none_some}
 use Rattle.dist_model.proofs.Sides.{Single, asks, beside, holds, holds_kinds, side_at}
 use Rattle.dist_model.specs.Arrivals.{handshake_in}
 use Rattle.dist_model.specs.Commands.{Accepts}
@@ -20,9 +20,9 @@ use Rattle.dist_model.specs.Incarnations.{started, stopped}
 use Rattle.dist_model.specs.Keeping.{Steady, Towards, is_attempt, is_engaged}
 use Rattle.dist_model.specs.Names.{Name}
 use Rattle.dist_model.specs.Node.{Node}
-use Rattle.dist_model.specs.NodeEvents.{Arrive, Call, Dial, Local, Lose, NodeEvent, Start, Stop, Sweep, at_node}
+use Rattle.dist_model.specs.NodeEvents.{Arrive, Dial, Local, NodeEvent, Start, Stop, at_node, Call}
 use Rattle.dist_model.specs.Runs.{new_node}
-use Rattle.dist_model.specs.Sides.{Accepting, Asked, AwaitsAck, AwaitsChallenge, AwaitsStatus, Gone, Losing, Parked, State, TrunkSide, Up, is_gone}
+use Rattle.dist_model.specs.Sides.{Accepting, Asked, AwaitsStatus, Gone, Losing, Parked, State, TrunkSide, Up, is_gone}
 use Rattle.dist_model.specs.Work.{Work, at_work}
 use Rattle.erl_handshake.specs.declared.message.ShakeMsg.{ShakeMsg}
 use Rattle.erl_names.specs.Order.{trunk_cmp}
@@ -31,48 +31,24 @@ use Rattle.erl_names.specs.declared.trunk.TrunkId.{TrunkId}
 -- ---- the two tests of a state are one that stands beside
 
 engaged_asks : (x : State) → is_gone x ≡ false → is_engaged x ≡ not (asks x)
-engaged_asks (AwaitsStatus w) h = refl
-engaged_asks (AwaitsChallenge w) h = refl
-engaged_asks (AwaitsAck w) h = refl
-engaged_asks (Asked w) h = refl
-engaged_asks (Parked w) h = refl
-engaged_asks (Accepting w) h = refl
-engaged_asks Up h = refl
-engaged_asks Losing h = refl
 engaged_asks Gone h = cc
+engaged_asks _ h = refl
 
 attempt_holds : (x : State) → is_gone x ≡ false → is_attempt x ≡ not (holds x)
-attempt_holds (AwaitsStatus w) h = refl
-attempt_holds (AwaitsChallenge w) h = refl
-attempt_holds (AwaitsAck w) h = refl
-attempt_holds (Asked w) h = refl
-attempt_holds (Parked w) h = refl
-attempt_holds (Accepting w) h = refl
-attempt_holds Up h = refl
-attempt_holds Losing h = refl
 attempt_holds Gone h = cc
+attempt_holds _ h = refl
 
 engaged_there : (x : State) → is_engaged x ≡ true → is_gone x ≡ false
 engaged_there Gone h = cc
-engaged_there (AwaitsStatus w) h = refl
-engaged_there (AwaitsChallenge w) h = refl
-engaged_there (AwaitsAck w) h = refl
 engaged_there (Asked w) h = cc
 engaged_there (Parked w) h = cc
-engaged_there (Accepting w) h = refl
-engaged_there Up h = refl
-engaged_there Losing h = refl
+engaged_there _ h = refl
 
 attempt_there : (x : State) → is_attempt x ≡ true → is_gone x ≡ false
 attempt_there Gone h = cc
-attempt_there (AwaitsStatus w) h = refl
-attempt_there (AwaitsChallenge w) h = refl
-attempt_there (AwaitsAck w) h = refl
-attempt_there (Asked w) h = refl
-attempt_there (Parked w) h = refl
-attempt_there (Accepting w) h = refl
 attempt_there Up h = cc
 attempt_there Losing h = cc
+attempt_there _ h = refl
 
 none_asks : (p q r w : Bool) → not r ≡ true → not q ≡ true → ((p && q) || (r && w)) ≡ true → ⊥
 none_asks p q true w h k b = cc
@@ -81,10 +57,9 @@ none_asks true false false w h k b = cc
 none_asks false false false w h k b = cc
 
 none_holds : (p q r w : Bool) → not p ≡ true → not w ≡ true → ((p && q) || (r && w)) ≡ true → ⊥
-none_holds true q r w h k b = cc
-none_holds false q r true h k b = cc
 none_holds false q true false h k b = cc
 none_holds false q false false h k b = cc
+none_holds _ q r _ h k b = cc
 
 engaged_apart : (x y : State) → is_engaged x ≡ true → is_engaged y ≡ true → beside x y ≡ true → ⊥
 engaged_apart x y h k b = none_asks (holds x) (asks y) (asks x) (holds y)
@@ -124,8 +99,7 @@ single_of n k t u s v hs hv p gs gv = go (asks s.state) (asks v.state) (holds s.
     go a b false false i j x y = inl (attempts x y)
     go true b true d i j x y = let z : true ≡ false = sym i ∙ (holds_kinds s.state x).1 in cc
     go a true c true i j x y = let z : true ≡ false = sym j ∙ (holds_kinds v.state y).1 in cc
-    go true false false true i j x y = inr (λ o. (x o && j o) || (i o && y o))
-    go false true true false i j x y = inr (λ o. (x o && j o) || (i o && y o))
+    go _ _ _ _ i j x y = inr (λ o. (x o && j o) || (i o && y o))
 
 -- ---- the sides
 
@@ -137,15 +111,13 @@ single_kept names n e k =
     at_node_keeps NoNew KeepSingle.X single_parts KeepSingle.turned KeepSingle.wrote KeepSingle.opens names n k e (rest e)
   where
     rest : (d : NodeEvent) → Rest NoNew KeepSingle.X single_parts KeepSingle.turned KeepSingle.wrote KeepSingle.opens names n k d
-    rest (Call c) = tt
-    rest (Arrive t None w) = tt
+    rest (Call d) = λ s p. k
     rest (Arrive t (Some i) w) = λ at. single_fresh (handshake_in i) t w (at_work n) k
     rest Local = λ l. k
-    rest (Lose t) = tt
-    rest Sweep = tt
     rest (Dial y w) = single_dial names n y w k
     rest Stop = single_stopped n
     rest Start = single_stopped n
+    rest _ = tt
 
 -- ---- the living
 
@@ -172,17 +144,15 @@ alive_kept : (names : List Name) (n : Node) (e : NodeEvent) → Alive n → IfGo
 alive_kept names n e k = at_node_keeps AnyNew Y alive_parts turned wrote opens names n k e (rest e)
   where
     rest : (d : NodeEvent) → Rest AnyNew Y alive_parts turned wrote opens names n k d
-    rest (Call c) = tt
-    rest (Arrive t None w) = tt
+    rest (Call d) = λ s p. alive_spawned n p k
     rest (Arrive t (Some i) w) = λ at. fresh_kept AnyNew Y turned wrote t tt (handshake_in i) w (at_work n) at k
     rest Local = λ l. alive_aside n (record n { local = l }) refl refl refl refl k
-    rest (Lose t) = tt
-    rest Sweep = tt
     rest (Dial y w) = dial_goes Y names n y w (λ i j.
         aside (next_trunk n) (record { peer = y; peer_creation = 0; state = AwaitsStatus w }) (at_work (draw_trunk n))
         (alive_aside n (draw_trunk n) refl refl refl refl k))
     rest Stop = all_alive (stopped n) refl refl refl
     rest Start = all_alive (started n) refl refl refl
+    rest _ = tt
 
 pub steady_kept : (names : List Name) (n : Node) (e : NodeEvent) (a : Answer) (o : Work) → Steady n → at_node names n e ≡ Accepts a o
     → Steady o.node
@@ -192,4 +162,4 @@ steady_kept names n e a o k h = steady_of o.node
 
 pub steady_new : (x : Name) (cookie : List ℕ) → Steady (new_node x cookie)
 steady_new x cookie = steady_of (new_node x cookie)
-    (λ t u s v hs hv p gs gv. absurd (none_some s (sym (fm.get-empty trunk_cmp t) ∙ hs))) (all_alive (new_node x cookie) refl refl refl)
+    (λ t u s v hs hv p gs gv. absurd (none-some s (sym (fm.get-empty trunk_cmp t) ∙ hs))) (all_alive (new_node x cookie) refl refl refl)

@@ -13,7 +13,7 @@ use Rattle.dist_model.specs.Keeping.{IsAccepted}
 use Rattle.dist_model.specs.Names.{Name}
 use Rattle.dist_model.specs.Node.{Node}
 use Rattle.dist_model.specs.NodeEvents.{Arrive, at_node}
-use Rattle.dist_model.specs.Sides.{Accepting, Asked, AwaitsAck, AwaitsChallenge, AwaitsStatus, Gone, Losing, Parked, State, TrunkSide, Up, is_over}
+use Rattle.dist_model.specs.Sides.{Asked, Gone, Losing, Parked, State, TrunkSide, Up, is_over}
 use Rattle.dist_model.specs.Taking.{take_item}
 use Rattle.dist_model.specs.Work.{Work, at_work}
 use Rattle.erl_handshake.specs.declared.message.ShakeMsg.{ShakeMsg}
@@ -23,39 +23,27 @@ use Rattle.erl_term.specs.declared.refusal.Refusal.{Refusal}
 after_taken : (v : Progress) (t : TrunkId) (s r : TrunkSide) (m : ShakeMsg) (d : Option ShakeMsg) (o : Work)
     → IsAccepted (on_verdict v t s r m d o)
 after_taken verdict.Go t s r m d o = (_, _, refl)
-after_taken verdict.Done t s r m d o = (_, _, refl)
-after_taken (verdict.Ended j) t s r m d o = (_, _, refl)
+after_taken _ t s r m d o = (_, _, refl)
 
 answer_taken : (v : Progress) (t : TrunkId) (s : TrunkSide) (w : ℕ) (m : ShakeMsg) (o : Work) → IsAccepted (after_answer v t s w m o)
 answer_taken verdict.Go t s w m o = (_, _, refl)
-answer_taken verdict.Done t s w m o = (_, _, refl)
-answer_taken (verdict.Ended j) t s w m o = (_, _, refl)
+answer_taken _ t s w m o = (_, _, refl)
 
 message_taken : (v : State) (t : TrunkId) (s : TrunkSide) (m : ShakeMsg) (o : Work) → IsAccepted (handshake_at v t s m o)
-message_taken (AwaitsStatus w) t s m o = after_taken _ t s _ m _ o
-message_taken (AwaitsChallenge w) t s m o = after_taken _ t s _ m _ o
-message_taken (AwaitsAck w) t s m o = after_taken _ t s _ m _ o
 message_taken (Asked w) t s m o = answer_taken _ t s w m o
 message_taken (Parked w) t s m o = (_, _, refl)
-message_taken (Accepting w) t s m o = after_taken _ t s _ m _ o
 message_taken Up t s m o = (_, _, refl)
 message_taken Losing t s m o = (_, _, refl)
 message_taken Gone t s m o = (_, _, refl)
+message_taken _ t s m o = after_taken _ t s _ m _ o
 
 signal_taken : (v : State) (t : TrunkId) (s : TrunkSide) (i : Item) (o : Work) → IsAccepted (signal_at v t s i o)
-signal_taken (AwaitsStatus w) t s i o = (_, _, refl)
-signal_taken (AwaitsChallenge w) t s i o = (_, _, refl)
-signal_taken (AwaitsAck w) t s i o = (_, _, refl)
-signal_taken (Asked w) t s i o = (_, _, refl)
-signal_taken (Parked w) t s i o = (_, _, refl)
-signal_taken (Accepting w) t s i o = (_, _, refl)
 signal_taken Up t s i o = go (is_good o.node s i)
   where
     go : (b : Bool) → IsAccepted (cond b (Accepts (Answer.Took (kind_of i)) (take_item i o)) (fault Fault.Forged t s o))
     go true = (_, _, refl)
     go false = (_, _, refl)
-signal_taken Losing t s i o = (_, _, refl)
-signal_taken Gone t s i o = (_, _, refl)
+signal_taken _ t s i o = (_, _, refl)
 
 item_taken : (m : Option ShakeMsg) (t : TrunkId) (s : TrunkSide) (i : Item) (o : Work) → IsAccepted (arrive_at m t s i o)
 item_taken None t s i o = signal_taken s.state t s i o

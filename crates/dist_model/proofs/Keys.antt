@@ -1,14 +1,19 @@
 -- The laws of the orders, and of an end in the table.
-use Rattle.std.proofs.Common.{◌≡◌, Bool, true, false, cond, refl, ap, ◌∙◌, subst, ◌&&◌, Option, Some, None}
+use Rattle.std.proofs.Common.{◌≡◌, List, Bool, true, false, cond, refl, sym, ap, ◌∙◌, subst, ◌&&◌, Option, Some, None, T}
 use Rattle.std.specs.declared.cmp.Ordering.{Ordering}
-use Rattle.std.specs.declared.cmp.Ordering.TheVariants.{Less, Equal, Greater}
+use Rattle.std.specs.declared.cmp.Ordering.TheVariants.{Less, Equal}
 use Rattle.std.specs.Ordering.{is_eq, ordering_then, eq_by_cmp, nat_cmp}
 use Rattle.std.specs.Cmp.{IsTotalOrder, nat_cmp_total, tied_itself}
 use Rattle.std.specs.Cmp.Lexicographic.{slice_cmp}
 use Rattle.std.proofs.lemmas.Cmp.{on_total, then_total, nat_list_cmp_total}
 use Rattle.std.proofs.lemmas.Map.Lookups.{exact_unsigned, exact_bytes}
+use Rattle.std.proofs.lemmas.Bool.{false_from_ne_true}
+use Rattle.std.proofs.lemmas.Option.{none-some}
 use Rattle.std.specs.FinMap as fm
-use Rattle.dist_model.proofs.Seeing.{end_in}
+use Rattle.std.specs.FinMap.Entries.{below_all, find}
+use Rattle.sorted_map.specs.Facts.{find_below_all}
+pub use Rattle.monitor_core.proofs.Order.{pid_cmp_total as pid_total, pid_cmp_exact as pid_exact}
+use Rattle.dist_model.proofs.Seen.{end_in}
 use Rattle.dist_model.specs.Names.{Name, pair_cmp, place_cmp, same_name, same_pid}
 use Rattle.dist_model.specs.Work.{set_in}
 use Rattle.erl_names.specs.Order.{name_cmp, trunk_cmp}
@@ -24,32 +29,22 @@ name_total = nat_list_cmp_total
 pub name_exact : (a b : Name) → name_cmp a b ≡ Equal → a ≡ b
 name_exact a b h = exact_bytes a b h
 
-pub pid_total : IsTotalOrder pid_cmp
-pid_total = then_total (on_total (λ (p : Pid). p.node) nat_list_cmp_total) (then_total (on_total (λ (p : Pid). p.creation) nat_cmp_total) (then_total (on_total (λ (p : Pid). p.id) nat_cmp_total) (on_total (λ (p : Pid). p.serial) nat_cmp_total)))
-
 pub then_equal : (a b : Ordering) → ordering_then a b ≡ Equal → (a ≡ Equal) × (b ≡ Equal)
-then_equal Less b h = cc
 then_equal Equal b h = (refl, h)
-then_equal Greater b h = cc
-
-pub pid_exact : (a b : Pid) → pid_cmp a b ≡ Equal → a ≡ b
-pid_exact a b h =
-    let x = then_equal (slice_cmp nat_cmp a.node b.node) _ h in
-    let y = then_equal (nat_cmp a.creation b.creation) _ x.1 in
-    let z = then_equal (nat_cmp a.id b.id) _ y.1 in
-    let n : a.node ≡ b.node = exact_bytes _ _ x.0 in
-    let c : a.creation ≡ b.creation = exact_unsigned _ _ y.0 in
-    let i : a.id ≡ b.id = exact_unsigned _ _ z.0 in
-    let s : a.serial ≡ b.serial = exact_unsigned _ _ z.1 in
-    λ k. record { node = n k; creation = c k; id = i k; serial = s k }
+then_equal _ b h = cc
 
 pub pair_total : IsTotalOrder pair_cmp
 pair_total = then_total (on_total (λ (v : Pid × Pid). v.0) pid_total) (on_total (λ (v : Pid × Pid). v.1) pid_total)
 
-is_equal : (r : Ordering) → is_eq r ≡ true → r ≡ Equal
-is_equal Less h = cc
+pub is_equal : (r : Ordering) → is_eq r ≡ true → r ≡ Equal
 is_equal Equal h = refl
-is_equal Greater h = cc
+is_equal _ h = cc
+
+-- a key of the rest isn't the first key
+pub below_key : {K V : Type 0} (cmp : K → K → Ordering) → ((a b : K) → cmp a b ≡ Equal → a ≡ b)
+    → (k u : K) (v : V) (es : List (K × V)) → T (below_all cmp u es) → find cmp k es ≡ Some v → eq_by_cmp cmp k u ≡ false
+below_key cmp exact k u v es b h =
+    false_from_ne_true _ (λ e. none-some v (sym (find_below_all cmp u es b) ∙ ap (λ z. find cmp z es) (sym (exact k u (is_equal _ e))) ∙ h))
 
 pub same_pid_true : (p q : Pid) → same_pid p q ≡ true → p ≡ q
 same_pid_true p q h = pid_exact p q (is_equal _ h)
@@ -71,15 +66,10 @@ same_name_is x y h = subst (λ z. same_name x z ≡ true) h (same_name_refl x)
 
 then_is_eq : (a b : Ordering) → is_eq (ordering_then a b) ≡ (is_eq a && is_eq b)
 then_is_eq Less b = refl
-then_is_eq Equal b = refl
-then_is_eq Greater b = refl
+then_is_eq _ b = refl
 
 pub same_pair : (p q x y : Pid) → eq_by_cmp pair_cmp (p, q) (x, y) ≡ (same_pid p x && same_pid q y)
 same_pair p q x y = then_is_eq (pid_cmp p x) (pid_cmp q y)
-
-pub and_both : (a b : Bool) → (a && b) ≡ true → (a ≡ true) × (b ≡ true)
-and_both true b h = (refl, h)
-and_both false b h = cc
 
 end_of_set : (b : Bool) (e : End) (o : Option End) → end_in (cond b (Some e) o) ≡ cond b e (end_in o)
 end_of_set true e o = refl
@@ -90,16 +80,13 @@ end_of_removed true o = refl
 end_of_removed false o = refl
 
 -- an end after one was set
-pub set_in-get : (m : FinMap pair_cmp End) (k : Pid × Pid) (e : End) (q : Pid × Pid) → end_in (fm.get (set_in m k e) q) ≡ cond (eq_by_cmp pair_cmp q k) e (end_in (fm.get m q))
+pub set_in-get : (m : FinMap pair_cmp End) (k : Pid × Pid) (e : End) (q : Pid × Pid)
+    → end_in (fm.get (set_in m k e) q) ≡ cond (eq_by_cmp pair_cmp q k) e (end_in (fm.get m q))
 set_in-get m k End.None q = ap end_in (fm.get-remove pair_total m k q) ∙ end_of_removed (eq_by_cmp pair_cmp q k) (fm.get m q)
-set_in-get m k End.Active q = ap end_in (fm.get-insert pair_total m k End.Active q) ∙ end_of_set (eq_by_cmp pair_cmp q k) End.Active (fm.get m q)
-set_in-get m k (End.Pending i) q = ap end_in (fm.get-insert pair_total m k (End.Pending i) q) ∙ end_of_set (eq_by_cmp pair_cmp q k) (End.Pending i) (fm.get m q)
+set_in-get m k e q = ap end_in (fm.get-insert pair_total m k e q) ∙ end_of_set (eq_by_cmp pair_cmp q k) e (fm.get m q)
 
 pub end_set_same : (m : FinMap pair_cmp End) (p q : Pid) (e : End) → end_in (fm.get (set_in m (p, q) e) (p, q)) ≡ e
 end_set_same m p q e = set_in-get m (p, q) e (p, q) ∙ ap (λ r. cond (is_eq r) e (end_in (fm.get m (p, q)))) (tied_itself pair_total (p, q))
-
-pub end_set_other : (m : FinMap pair_cmp End) (p q x y : Pid) (e : End) → (same_pid x p && same_pid y q) ≡ false → end_in (fm.get (set_in m (p, q) e) (x, y)) ≡ end_in (fm.get m (x, y))
-end_set_other m p q x y e h = set_in-get m (p, q) e (x, y) ∙ ap (λ b. cond b e (end_in (fm.get m (x, y)))) (same_pair x y p q ∙ h)
 
 pub pair_exact : (a b : Pid × Pid) → pair_cmp a b ≡ Equal → a ≡ b
 pair_exact a b h =

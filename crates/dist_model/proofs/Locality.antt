@@ -1,8 +1,9 @@
 -- An event changes its own node alone.
 use Rattle.std.proofs.Common.{◌≡◌, refl, sym, ap, ◌∙◌, subst, Option, Some, None}
+use Rattle.std.proofs.lemmas.Option.{same_Some, none-some}
 use Rattle.dist_model.proofs.Calls.{IfGoes}
 use Rattle.dist_model.proofs.KeepBearings.{bearings_kept}
-use Rattle.dist_model.proofs.Routes.{node_of_name, node_of_set_other, node_of_set_same, none_some, some_same}
+use Rattle.dist_model.proofs.Routes.{node_of_name, node_of_set_other, node_of_set_same}
 use Rattle.dist_model.specs.Claims.{EventIsLocal, IsOf}
 use Rattle.dist_model.specs.Commands.{Accepts, Outcome, Refuses}
 use Rattle.dist_model.specs.Keeping.{Bearings}
@@ -18,13 +19,15 @@ module _ (w : World) (e : Event) where
   apart : (x : Name) → (x ≡ node_name e → ⊥) → node_name e ≡ x → ⊥
   apart x d h = d (sym h)
 
-  goes : (n : Node) (o : Outcome) → node_of w.nodes (node_name e) ≡ Some n → IfGoes o (Bearings n (met w e)) → at_node w.names n (met w e) ≡ o → IsOf w e (came_of w (node_name e) (left w e) o)
+  goes : (n : Node) (o : Outcome) → node_of w.nodes (node_name e) ≡ Some n → IfGoes o (Bearings n (met w e))
+      → at_node w.names n (met w e) ≡ o → IsOf w e (came_of w (node_name e) (left w e) o)
   goes n (Refuses k) hx h c = record {
     names = refl;
     others = λ x d. refl;
-    nobody = λ z. absurd (none_some n (sym z ∙ hx));
-    refuses = λ m why hm r. ap (refused w) (same_refusal k why (sym c ∙ ap (λ v. at_node w.names v (met w e)) (some_same n m (sym hx ∙ hm)) ∙ r));
-    accepts = λ m a o hm r. absurd (not_both k a o (sym c ∙ ap (λ v. at_node w.names v (met w e)) (some_same n m (sym hx ∙ hm)) ∙ r));
+    nobody = λ z. absurd (none-some n (sym z ∙ hx));
+    refuses =
+        λ m why hm r. ap (refused w) (same_refusal k why (sym c ∙ ap (λ v. at_node w.names v (met w e)) (same_Some n m (sym hx ∙ hm)) ∙ r));
+    accepts = λ m a o hm r. absurd (not_both k a o (sym c ∙ ap (λ v. at_node w.names v (met w e)) (same_Some n m (sym hx ∙ hm)) ∙ r));
   }
     where
       same_refusal : (j k : Refusal) → Refuses j ≡ Refuses k → j ≡ k
@@ -37,10 +40,11 @@ module _ (w : World) (e : Event) where
       record {
         names = refl;
         others = λ x d. node_of_set_other w.nodes (node_name e) x o.node nm (apart x d);
-        nobody = λ z. absurd (none_some n (sym z ∙ hx));
-        refuses = λ m why hm r. absurd (not_both why a o (sym r ∙ sym (ap (λ v. at_node w.names v (met w e)) (some_same n m (sym hx ∙ hm))) ∙ c));
+        nobody = λ z. absurd (none-some n (sym z ∙ hx));
+        refuses =
+            λ m why hm r. absurd (not_both why a o (sym r ∙ sym (ap (λ v. at_node w.names v (met w e)) (same_Some n m (sym hx ∙ hm))) ∙ c));
         accepts = λ m b p hm r.
-            let same : Accepts a o ≡ Accepts b p = sym c ∙ ap (λ v. at_node w.names v (met w e)) (some_same n m (sym hx ∙ hm)) ∙ r in
+            let same : Accepts a o ≡ Accepts b p = sym c ∙ ap (λ v. at_node w.names v (met w e)) (same_Some n m (sym hx ∙ hm)) ∙ r in
             let sa : a ≡ b = cc in
             let so : o ≡ p = cc in (
               λ i. Reported (sa i) ((so i).effects),
@@ -57,8 +61,8 @@ module _ (w : World) (e : Event) where
     names = refl;
     others = λ x d. refl;
     nobody = λ z. refl;
-    refuses = λ m why hm r. absurd (none_some m (sym h ∙ hm));
-    accepts = λ m a o hm r. absurd (none_some m (sym h ∙ hm));
+    refuses = λ m why hm r. absurd (none-some m (sym h ∙ hm));
+    accepts = λ m a o hm r. absurd (none-some m (sym h ∙ hm));
   }
   at (Some n) h = goes n (at_node w.names n (met w e)) h (bearings_kept w.names n (met w e)) refl
 

@@ -1,11 +1,12 @@
 -- What each part of an event keeps, but for its handshakes, is kept by the whole event.
-use Rattle.dist_model.proofs.Seeing.{replies}
 use Rattle.erl_names.specs.Draw as kind
 use Rattle.std.proofs.Common.{◌≡◌, ℕ, Bool, true, false, cond, not, List, [], ◌∷◌, refl, ap, ◌&&◌, ◌⊎◌, inl, inr, Option, Some, None}
+use Rattle.std.proofs.lemmas.Bool.{and_parts}
 use Rattle.std.specs.Prelude.{codes}
 use Rattle.std.specs.FinMap as fm
-use Rattle.dist_model.proofs.Calls.{IfGoes, if_cond, if_drawn, if_not}
-use Rattle.dist_model.proofs.Keys.{and_both, same_pid_true}
+use Rattle.dist_model.proofs.Seen.{replies}
+use Rattle.dist_model.proofs.Calls.{IfGoes, if_cond, if_drawn, if_not, living_trapping, living_without}
+use Rattle.dist_model.proofs.Keys.{same_pid_true}
 use Rattle.dist_model.specs.Calls.{acting, call, spawn_life, toward, trapping, without_first}
 use Rattle.dist_model.specs.Commands.{Outcome}
 use Rattle.dist_model.specs.declared.command.Command.{Command}
@@ -14,12 +15,11 @@ use Rattle.dist_model.specs.Exits.{carry_out, end_process, link_exit, linked_exi
 use Rattle.erl_control.specs.Fits.{fits}
 use Rattle.dist_model.specs.Items.{Handshake, Item, Signalled, Tick}
 use Rattle.dist_model.specs.Linking.{exit_follows, link_by, link_new, take_link, take_link_by, unlink_by}
-use Rattle.dist_model.specs.Links.{Exited, LinkNews, Signals, heard, noconnection, noproc, reply}
 use Rattle.dist_model.proofs.Records.{sweep_link, sweep_registered, sweep_watch}
 use Rattle.dist_model.specs.Losses.{registered_by, sweep_end, watch_to}
 use Rattle.dist_model.specs.Monitoring.{register, unregister, unwatch}
 use Rattle.dist_model.specs.Names.{Name, same_name, same_pid}
-use Rattle.dist_model.specs.Node.{Life, Living, Node, end_of, is_living_life, living, is_stranger, reaches, traps_life}
+use Rattle.dist_model.specs.Node.{Life, Node, end_of, is_living_life, living, is_stranger, reaches, traps_life}
 use Rattle.dist_model.specs.Taking.{take_item}
 use Rattle.dist_model.specs.Work.{Work, at_work, draw, post, post_all, put, report, set_end, set_life}
 use Rattle.dist_model.specs.declared.report.Effect.{Effect}
@@ -34,6 +34,7 @@ use Rattle.exit_core.specs.Messages.{down_term, exit_term}
 use Rattle.exit_core.specs.Reaction.{is_atom, reaction}
 use Rattle.exit_core.specs.declared.reaction.ExitSignal.{ExitSignal}
 use Rattle.exit_core.specs.declared.reaction.Reaction.{Reaction}
+use Rattle.link_core.specs.News.{Exited, LinkNews, Signals, heard, noconnection, noproc, reply}
 use Rattle.link_core.specs.declared.end.End.{End}
 use Rattle.link_core.specs.declared.end.LinkSignal.{LinkSignal}
 use Rattle.monitor_core.specs.Monitors.{is_held, is_this, monitor_of}
@@ -41,15 +42,11 @@ use Rattle.monitor_core.specs.declared.monitor.Monitor.{Monitor}
 
 -- a signal that founds no claim
 abbrev pub is_plain : Signal → Bool
-is_plain (Signal.Link p q) = true
-is_plain (Signal.Send q m) = true
 is_plain (Signal.Exit p q r) = false
-is_plain (Signal.Exit2 p q r) = true
 is_plain (Signal.Monitor p q r) = false
 is_plain (Signal.Demonitor p q r) = false
 is_plain (Signal.MonitorExit p q r x) = false
-is_plain (Signal.UnlinkId i p q) = true
-is_plain (Signal.UnlinkIdAck i p q) = true
+is_plain _ = true
 
 -- what may be said, why a process may react to an exit, why a monitor may end, and why a registration may come and go
 pub record Rules : Type 1 where
@@ -64,28 +61,35 @@ pub record Closed (rules : Rules) (X : Work → Type 0) : Type 0 where
   pub posted : (s : Signal) (o : Work) → rules.Says s → X o → X (post s o)
   pub end_set : (p q : Pid) (e : End) (o : Work) → (living o.node p ≡ true) ⊎ (e ≡ End.None) → X o → X (set_end p q e o)
   pub drew : (o : Work) → X o → X (draw kind.UnlinkId o)
-  pub life_set : (p : Pid) (l : Option Life) (o : Work) → is_living_life l ≡ living o.node p → X o → X (record o { node = record (o.node) { lives = set_life o.node.lives p l } })
+  pub life_set : (p : Pid) (l : Option Life) (o : Work) → is_living_life l ≡ living o.node p → X o
+      → X (record o { node = record (o.node) { lives = set_life o.node.lives p l } })
   pub message : (p : Pid) (m : Data) (o : Work) → ((r : Reference) → down_in r p m ≡ []) → X o → X (put p m o)
   pub reacted : (p q : Pid) (x : Data) (o : Work) → rules.Reacts p q x → X o → X (report (Effect.LinkExit p q x) o)
   pub finished : (p : Pid) (x : Data) (o : Work) → X o → X (end_process p x o)
   pub registers : (r : Reference) (m : Monitor) (o : Work) → living o.node m.target ≡ true → rules.Joins r m → X o → X (register r m o)
-  pub unregisters : (r : Reference) (m : Monitor) (o : Work) → fm.get o.node.registered r ≡ Some m → rules.Drops r m → X o → X (unregister r o)
-  pub ended : (r : Reference) (m : Monitor) (x : Data) (o : Work) → fm.get o.node.watches r ≡ Some m → rules.Tells r m x → X o → X (put m.owner (down_term r m.target x) (unwatch r o))
+  pub unregisters : (r : Reference) (m : Monitor) (o : Work) → fm.get o.node.registered r ≡ Some m → rules.Drops r m → X o
+      → X (unregister r o)
+  pub ended : (r : Reference) (m : Monitor) (x : Data) (o : Work) → fm.get o.node.watches r ≡ Some m → rules.Tells r m x → X o
+      → X (put m.owner (down_term r m.target x) (unwatch r o))
 
 -- why an item may be taken
 pub record Reasons (rules : Rules) (X : Work → Type 0) (i : Item) (o : Work) : Type 0 where
   pub gone : (p q : Pid) → i ≡ Signalled (Signal.Link q p) → living o.node p ≡ false → rules.Says (Signal.Exit p q noproc)
-  pub acts : (p q : Pid) (x : Data) → i ≡ Signalled (Signal.Exit q p x) → living o.node p ≡ true → end_of o.node p q ≡ End.Active → rules.Reacts p q x
+  pub acts : (p q : Pid) (x : Data) → i ≡ Signalled (Signal.Exit q p x) → living o.node p ≡ true
+      → end_of o.node p q ≡ End.Active → rules.Reacts p q x
   pub sent : (p : Pid) (m : Data) → i ≡ Signalled (Signal.Send p m) → X (put p m o)
-  pub nobody : (p q : Pid) (r : Reference) → i ≡ Signalled (Signal.Monitor p q r) → living o.node q ≡ false → rules.Says (Signal.MonitorExit q p r noproc)
+  pub nobody : (p q : Pid) (r : Reference) → i ≡ Signalled (Signal.Monitor p q r) → living o.node q ≡ false
+      → rules.Says (Signal.MonitorExit q p r noproc)
   pub joins : (p q : Pid) (r : Reference) → i ≡ Signalled (Signal.Monitor p q r) → living o.node q ≡ true → rules.Joins r (monitor_of p q)
-  pub drops : (p q : Pid) (r : Reference) → i ≡ Signalled (Signal.Demonitor p q r) → fm.get o.node.registered r ≡ Some (monitor_of p q) → rules.Drops r (monitor_of p q)
-  pub tells : (p q : Pid) (r : Reference) (x : Data) → i ≡ Signalled (Signal.MonitorExit q p r x) → fm.get o.node.watches r ≡ Some (monitor_of p q) → rules.Tells r (monitor_of p q) x
+  pub drops : (p q : Pid) (r : Reference) → i ≡ Signalled (Signal.Demonitor p q r)
+      → fm.get o.node.registered r ≡ Some (monitor_of p q) → rules.Drops r (monitor_of p q)
+  pub tells : (p q : Pid) (r : Reference) (x : Data) → i ≡ Signalled (Signal.MonitorExit q p r x)
+      → fm.get o.node.watches r ≡ Some (monitor_of p q) → rules.Tells r (monitor_of p q) x
 
 pub held_is : (v : Option Monitor) (p q : Pid) → is_this v (monitor_of p q) ≡ true → v ≡ Some (monitor_of p q)
 held_is None p q h = cc
 held_is (Some v) p q h =
-    let b = and_both (same_pid v.owner p) (same_pid v.target q) h in
+    let b = and_parts (same_pid v.owner p) (same_pid v.target q) h in
     let x : v.owner ≡ p = same_pid_true v.owner p b.0 in
     let y : v.target ≡ q = same_pid_true v.target q b.1 in
     λ i. Some (record { owner = x i; target = y i })
@@ -100,35 +104,39 @@ module _ (rules : Rules) (X : Work → Type 0) (c : Closed rules X) where
   post_all_kept (s ∷ ss) o h k = post_all_kept ss (post s o) h.1 (c.posted s o h.0 k)
 
   reaction_kept : (a b d e : Bool) (q : Pid) (x : Data) (p : Pid) (o : Work) → X o
-      → X (carry_out (cond a Reaction.Ignore (cond b (Reaction.End (atom (codes "killed"))) (cond d (Reaction.Put (exit_term q x)) (cond e Reaction.Ignore (Reaction.End x))))) p o)
-  reaction_kept true b d e q x p o k = k
+      → X (carry_out (cond a Reaction.Ignore (cond b (Reaction.End (atom (codes "killed")))
+      (cond d (Reaction.Put (exit_term q x)) (cond e Reaction.Ignore (Reaction.End x))))) p o)
   reaction_kept false true d e q x p o k = c.finished p (atom (codes "killed")) o k
   reaction_kept false false true e q x p o k = c.message p (exit_term q x) o (λ r. refl) k
-  reaction_kept false false false true q x p o k = k
   reaction_kept false false false false q x p o k = c.finished p x o k
+  reaction_kept _ _ _ _ q x p o k = k
 
   exit_kept : (trap : Bool) (s : ExitSignal) (p : Pid) (o : Work) → X o → X (carry_out (reaction trap s) p o)
-  exit_kept trap s p o k = reaction_kept (s.link && not s.is_active) (not s.link && is_atom (codes "kill") s.reason) trap (is_atom (codes "normal") s.reason && not s.is_own) s.sender s.reason p o k
+  exit_kept trap s p o k =
+      reaction_kept (s.link && not s.is_active) (not s.link && is_atom (codes "kill") s.reason) trap
+      (is_atom (codes "normal") s.reason && not s.is_own) s.sender s.reason p o k
 
   link_exit_kept : (p q : Pid) (x : Data) (o : Work) → rules.Reacts p q x → X o → X (link_exit p q x o)
-  link_exit_kept p q x o h k = exit_kept (traps_life (fm.get o.node.lives p)) (linked_exit p q x) p (report (Effect.LinkExit p q x) o) (c.reacted p q x o h k)
+  link_exit_kept p q x o h k =
+      exit_kept (traps_life (fm.get o.node.lives p)) (linked_exit p q x) p (report (Effect.LinkExit p q x) o) (c.reacted p q x o h k)
 
   -- a word of a link is heard
-  follows_kept : (e : End) (s : LinkNews) (p q : Pid) (o : Work) → ((x : Data) → s ≡ Exited x → e ≡ End.Active → rules.Reacts p q x) → X o → X (exit_follows e s p q o)
+  follows_kept : (e : End) (s : LinkNews) (p q : Pid) (o : Work)
+      → ((x : Data) → s ≡ Exited x → e ≡ End.Active → rules.Reacts p q x) → X o → X (exit_follows e s p q o)
   follows_kept e (Signals s) p q o h k = k
-  follows_kept End.None (Exited x) p q o h k = k
   follows_kept End.Active (Exited x) p q o h k = link_exit_kept p q x o (h x refl refl) k
-  follows_kept (End.Pending i) (Exited x) p q o h k = k
+  follows_kept _ _ p q o h k = k
 
-  replies_said : (g : Bool) (s : LinkNews) (p q : Pid) → (g ≡ true → s ≡ Signals LinkSignal.Link → rules.Says (Signal.Exit p q noproc)) → AllSaid (replies p q (reply g s))
+  replies_said : (g : Bool) (s : LinkNews) (p q : Pid)
+      → (g ≡ true → s ≡ Signals LinkSignal.Link → rules.Says (Signal.Exit p q noproc)) → AllSaid (replies p q (reply g s))
   replies_said true (Signals LinkSignal.Link) p q h = (h refl refl, tt)
-  replies_said false (Signals LinkSignal.Link) p q h = tt
   replies_said g (Signals (LinkSignal.Unlink i)) p q h = (c.plain (Signal.UnlinkIdAck i p q) refl, tt)
-  replies_said g (Signals (LinkSignal.Ack i)) p q h = tt
-  replies_said g (Exited x) p q h = tt
+  replies_said _ _ p q h = tt
 
-  take_link_kept : (p q : Pid) (s : LinkNews) (o : Work) → (s ≡ Signals LinkSignal.Link → living o.node p ≡ false → rules.Says (Signal.Exit p q noproc))
-      → ((x : Data) → s ≡ Exited x → living o.node p ≡ true → end_of o.node p q ≡ End.Active → rules.Reacts p q x) → X o → X (take_link p q s o)
+  take_link_kept : (p q : Pid) (s : LinkNews) (o : Work)
+      → (s ≡ Signals LinkSignal.Link → living o.node p ≡ false → rules.Says (Signal.Exit p q noproc))
+      → ((x : Data) → s ≡ Exited x → living o.node p ≡ true → end_of o.node p q ≡ End.Active → rules.Reacts p q x) → X o
+      → X (take_link p q s o)
   take_link_kept p q s o gone acts k = go (living o.node p) refl
     where
       go : (b : Bool) → living o.node p ≡ b → X (take_link_by b p q s o)
@@ -145,7 +153,8 @@ module _ (rules : Rules) (X : Work → Type 0) (c : Closed rules X) where
 
   pub item_kept : (i : Item) (o : Work) → Reasons rules X i o → X o → X (take_item i o)
   item_kept (Signalled (Signal.Link q p)) o h k = take_link_kept p q (Signals LinkSignal.Link) o (λ e. h.gone p q refl) (λ x e. cc) k
-  item_kept (Signalled (Signal.Exit q p x)) o h k = take_link_kept p q (Exited x) o (λ e. cc) (λ z e. h.acts p q z (ap (λ w. Signalled (Signal.Exit q p (reason_in x w))) e)) k
+  item_kept (Signalled (Signal.Exit q p x)) o h k =
+      take_link_kept p q (Exited x) o (λ e. cc) (λ z e. h.acts p q z (ap (λ w. Signalled (Signal.Exit q p (reason_in x w))) e)) k
     where
       reason_in : Data → LinkNews → Data
       reason_in d (Signals s) = d
@@ -153,12 +162,16 @@ module _ (rules : Rules) (X : Work → Type 0) (c : Closed rules X) where
   item_kept (Signalled (Signal.UnlinkId i q p)) o h k = take_link_kept p q (Signals (LinkSignal.Unlink i)) o (λ e. cc) (λ x e. cc) k
   item_kept (Signalled (Signal.UnlinkIdAck i q p)) o h k = take_link_kept p q (Signals (LinkSignal.Ack i)) o (λ e. cc) (λ x e. cc) k
   item_kept (Signalled (Signal.Send p m)) o h k = cond_kept (living o.node p) _ o (λ l. h.sent p m refl) (λ l. k)
-  item_kept (Signalled (Signal.Exit2 q p x)) o h k = cond_kept (living o.node p) _ o (λ l. exit_kept (traps_life (fm.get o.node.lives p)) (sent_exit p q x) p o k) (λ l. k)
-  item_kept (Signalled (Signal.Monitor p q r)) o h k = cond_kept (living o.node q) _ _ (λ l. c.registers r (monitor_of p q) o l (h.joins p q r refl l) k) (λ l. c.posted (Signal.MonitorExit q p r noproc) o (h.nobody p q r refl l) k)
+  item_kept (Signalled (Signal.Exit2 q p x)) o h k =
+      cond_kept (living o.node p) _ o (λ l. exit_kept (traps_life (fm.get o.node.lives p)) (sent_exit p q x) p o k) (λ l. k)
+  item_kept (Signalled (Signal.Monitor p q r)) o h k =
+      cond_kept (living o.node q) _ _ (λ l. c.registers r (monitor_of p q) o l (h.joins p q r refl l) k)
+      (λ l. c.posted (Signal.MonitorExit q p r noproc) o (h.nobody p q r refl l) k)
   item_kept (Signalled (Signal.Demonitor p q r)) o h k = cond_kept (is_held o.node.registered r (monitor_of p q)) _ o
       (λ l. let e = held_is (fm.get o.node.registered r) p q l in c.unregisters r (monitor_of p q) o e (h.drops p q r refl e) k) (λ l. k)
   item_kept (Signalled (Signal.MonitorExit q p r x)) o h k = cond_kept (living o.node p && is_held o.node.watches r (monitor_of p q)) _ o
-      (λ l. let e = held_is (fm.get o.node.watches r) p q (and_both (living o.node p) _ l).1 in c.ended r (monitor_of p q) x o e (h.tells p q r x refl e) k) (λ l. k)
+      (λ l. let e = held_is (fm.get o.node.watches r) p q (and_parts (living o.node p) _ l).1 in
+      c.ended r (monitor_of p q) x o e (h.tells p q r x refl e) k) (λ l. k)
   item_kept (Handshake m) o h k = k
   item_kept Tick o h k = k
 
@@ -172,68 +185,74 @@ module _ (rules : Rules) (X : Work → Type 0) (c : Closed rules X) where
 
   link_by_kept : (e : End) (p q : Pid) (o : Work) → living o.node p ≡ true → (reaches o.node q.node ≡ false
       → rules.Reacts p q noconnection) → X o → X (link_by e p q o)
-  link_by_kept End.None p q o l own k = link_new_kept (reaches o.node q.node) p q o l own k
   link_by_kept End.Active p q o l own k = k
-  link_by_kept (End.Pending i) p q o l own k = link_new_kept (reaches o.node q.node) p q o l own k
+  link_by_kept _ p q o l own k = link_new_kept (reaches o.node q.node) p q o l own k
 
   unlink_by_kept : (e : End) (p q : Pid) (o : Work) → living o.node p ≡ true → X o → IfGoes (unlink_by e p q o) X
-  unlink_by_kept End.None p q o l k = k
   unlink_by_kept End.Active p q o l k = if_drawn (id_of o.node.mint kind.UnlinkId) _ X (λ id h.
       c.posted (Signal.UnlinkId id p q) (set_end p q (End.Pending id) (draw kind.UnlinkId o)) (c.plain (Signal.UnlinkId id p q) refl)
       (c.end_set p q (End.Pending id) (draw kind.UnlinkId o) (inl l) (c.drew o k)))
-  unlink_by_kept (End.Pending i) p q o l k = k
+  unlink_by_kept _ p q o l k = k
 
   abbrev pub Apart : Command → Type 0
   Apart d = ((p q : Pid) → d ≡ Command.Monitor p q → ⊥) × ((p : Pid) (r : Reference) → d ≡ Command.Demonitor p r → ⊥)
 
   module _ (n : Node) (k : X (at_work n)) where
     pub acts_kept : (p q : Pid) (o : Outcome) → (living n p ≡ true → IfGoes o X) → IfGoes (acting n p (toward n q o)) X
-    acts_kept p q o h = if_cond (living n p) (toward n q o) Refusal.NoSuchProcess X (λ l. if_not (same_name q.node n.mint.name && is_stranger n q) o Refusal.Forged X (h l))
+    acts_kept p q o h =
+        if_cond (living n p) (toward n q o) Refusal.NoSuchProcess X
+        (λ l. if_not (same_name q.node n.mint.name && is_stranger n q) o Refusal.Forged X (h l))
 
-    living_trapped : (l : Option Life) (b : Bool) → is_living_life (trapping l b) ≡ is_living_life l
-    living_trapped None b = refl
-    living_trapped (Some (Living t m)) b = refl
-    living_trapped (Some (Rattle.dist_model.specs.Node.Ended r)) b = refl
-
-    living_received : (l : Option Life) → is_living_life (without_first l) ≡ is_living_life l
-    living_received None = refl
-    living_received (Some (Living t [])) = refl
-    living_received (Some (Living t (m ∷ ms))) = refl
-    living_received (Some (Rattle.dist_model.specs.Node.Ended r)) = refl
-
-    pub call_kept : (d : Command) → Apart d → ((id : ℕ) → d ≡ Command.Spawn → id_of n.mint kind.Pid ≡ Some id → X (spawn_life n (pid_of n.mint id)))
-        → ((p q : Pid) → d ≡ Command.Link p q → living n p ≡ true → reaches n q.node ≡ false → rules.Reacts p q noconnection) → IfGoes (call n d) X
+    pub call_kept : (d : Command) → Apart d
+        → ((id : ℕ) → d ≡ Command.Spawn → id_of n.mint kind.Pid ≡ Some id → X (spawn_life n (pid_of n.mint id)))
+        → ((p q : Pid) → d ≡ Command.Link p q → living n p ≡ true → reaches n q.node ≡ false → rules.Reacts p q noconnection)
+        → IfGoes (call n d) X
     call_kept Command.Spawn a s own = if_drawn (id_of n.mint kind.Pid) _ X (λ id h. s id refl h)
-    call_kept (Command.Send p q m) a s own = acts_kept p q _ (λ l. if_cond (fits m) _ Refusal.TooLong X (λ f. c.posted (Signal.Send q m) (at_work n) (c.plain (Signal.Send q m) refl) k))
+    call_kept (Command.Send p q m) a s own =
+        acts_kept p q _
+        (λ l. if_cond (fits m) _ Refusal.TooLong X (λ f. c.posted (Signal.Send q m) (at_work n) (c.plain (Signal.Send q m) refl) k))
     call_kept (Command.Link p q) a s own = acts_kept p q _ (λ l. cond_kept (same_pid p q) (at_work n) _ (λ e. k)
         (λ e. link_by_kept (end_of n p q) p q (at_work n) l (own p q refl l) k))
     call_kept (Command.Unlink p q) a s own = acts_kept p q _ (λ l. unlink_by_kept (end_of n p q) p q (at_work n) l k)
     call_kept (Command.Monitor p q) a s own = absurd (a.0 p q refl)
     call_kept (Command.Demonitor p r) a s own = absurd (a.1 p r refl)
-    call_kept (Command.Trap p b) a s own = if_cond (living n p) _ Refusal.NoSuchProcess X (λ l. c.life_set p (trapping (fm.get n.lives p) b) (at_work n) (living_trapped (fm.get n.lives p) b) k)
-    call_kept (Command.ExitTo p q x) a s own = acts_kept p q _ (λ l. if_cond (fits x) _ Refusal.TooLong X (λ f. c.posted (Signal.Exit2 p q x) (at_work n) (c.plain (Signal.Exit2 p q x) refl) k))
-    call_kept (Command.ExitSelf p x) a s own = if_cond (living n p) _ Refusal.NoSuchProcess X (λ l. if_cond (fits x) _ Refusal.TooLong X (λ f. c.finished p x (at_work n) k))
-    call_kept (Command.Receive p) a s own = if_cond (living n p) _ Refusal.NoSuchProcess X (λ l. c.life_set p (without_first (fm.get n.lives p)) (at_work n) (living_received (fm.get n.lives p)) k)
+    call_kept (Command.Trap p b) a s own =
+        if_cond (living n p) _ Refusal.NoSuchProcess X
+        (λ l. c.life_set p (trapping (fm.get n.lives p) b) (at_work n) (living_trapping (fm.get n.lives p) b) k)
+    call_kept (Command.ExitTo p q x) a s own =
+        acts_kept p q _
+        (λ l. if_cond (fits x) _ Refusal.TooLong X (λ f. c.posted (Signal.Exit2 p q x) (at_work n) (c.plain (Signal.Exit2 p q x) refl) k))
+    call_kept (Command.ExitSelf p x) a s own =
+        if_cond (living n p) _ Refusal.NoSuchProcess X (λ l. if_cond (fits x) _ Refusal.TooLong X (λ f. c.finished p x (at_work n) k))
+    call_kept (Command.Receive p) a s own =
+        if_cond (living n p) _ Refusal.NoSuchProcess X
+        (λ l. c.life_set p (without_first (fm.get n.lives p)) (at_work n) (living_without (fm.get n.lives p)) k)
     call_kept (Command.LinksOf p) a s own = if_cond (living n p) _ Refusal.NoSuchProcess X (λ l. k)
     call_kept (Command.IsAlive p) a s own = k
 
   -- a sweep of records towards y
   end_swept : (e : End) (p q : Pid) (o : Work) → (e ≡ End.Active → rules.Reacts p q noconnection) → X o → X (sweep_end e p q o)
-  end_swept End.None p q o h k = c.end_set p q End.None o (inr refl) k
   end_swept End.Active p q o h k = link_exit_kept p q noconnection (set_end p q End.None o) (h refl) (c.end_set p q End.None o (inr refl) k)
-  end_swept (End.Pending i) p q o h k = c.end_set p q End.None o (inr refl) k
+  end_swept _ p q o h k = c.end_set p q End.None o (inr refl) k
 
-  registered_swept : (d : Option (Reference × Monitor)) (o : Work) → ((e : Reference × Monitor) → d ≡ Some e → (fm.get o.node.registered e.0 ≡ Some e.1) × rules.Drops e.0 e.1) → X o → X (sweep_registered d o)
+  registered_swept : (d : Option (Reference × Monitor)) (o : Work)
+      → ((e : Reference × Monitor) → d ≡ Some e → (fm.get o.node.registered e.0 ≡ Some e.1) × rules.Drops e.0 e.1) → X o
+      → X (sweep_registered d o)
   registered_swept None o h k = k
   registered_swept (Some e) o h k = let v = h e refl in c.unregisters e.0 e.1 o v.0 v.1 k
 
-  watch_swept : (d : Option (Reference × Monitor)) (y : Name) (o : Work) → ((e : Reference × Monitor) → d ≡ Some e → (fm.get o.node.watches e.0 ≡ Some e.1) × rules.Tells e.0 e.1 noconnection)
-      → ((e : Reference × Monitor) → registered_by y (fm.entries o.node.registered) ≡ Some e → (fm.get o.node.registered e.0 ≡ Some e.1) × rules.Drops e.0 e.1) → X o → X (sweep_watch d y o)
+  watch_swept : (d : Option (Reference × Monitor)) (y : Name) (o : Work)
+      → ((e : Reference × Monitor) → d ≡ Some e → (fm.get o.node.watches e.0 ≡ Some e.1) × rules.Tells e.0 e.1 noconnection)
+      → ((e : Reference × Monitor) → registered_by y (fm.entries o.node.registered) ≡ Some e
+      → (fm.get o.node.registered e.0 ≡ Some e.1) × rules.Drops e.0 e.1) → X o → X (sweep_watch d y o)
   watch_swept None y o h j k = registered_swept (registered_by y (fm.entries o.node.registered)) o j k
   watch_swept (Some e) y o h j k = let v = h e refl in c.ended e.0 e.1 noconnection o v.0 v.1 k
 
-  pub link_swept : (d : Option ((Pid × Pid) × End)) (y : Name) (o : Work) → ((e : (Pid × Pid) × End) → d ≡ Some e → e.1 ≡ End.Active → rules.Reacts e.0.0 e.0.1 noconnection)
-      → ((e : Reference × Monitor) → watch_to y (fm.entries o.node.watches) ≡ Some e → (fm.get o.node.watches e.0 ≡ Some e.1) × rules.Tells e.0 e.1 noconnection)
-      → ((e : Reference × Monitor) → registered_by y (fm.entries o.node.registered) ≡ Some e → (fm.get o.node.registered e.0 ≡ Some e.1) × rules.Drops e.0 e.1) → X o → X (sweep_link d y o)
+  pub link_swept : (d : Option ((Pid × Pid) × End)) (y : Name) (o : Work)
+      → ((e : (Pid × Pid) × End) → d ≡ Some e → e.1 ≡ End.Active → rules.Reacts e.0.0 e.0.1 noconnection)
+      → ((e : Reference × Monitor) → watch_to y (fm.entries o.node.watches) ≡ Some e → (fm.get o.node.watches e.0 ≡ Some e.1)
+      × rules.Tells e.0 e.1 noconnection)
+      → ((e : Reference × Monitor) → registered_by y (fm.entries o.node.registered) ≡ Some e
+      → (fm.get o.node.registered e.0 ≡ Some e.1) × rules.Drops e.0 e.1) → X o → X (sweep_link d y o)
   link_swept None y o h i j k = watch_swept (watch_to y (fm.entries o.node.watches)) y o i j k
   link_swept (Some e) y o h i j k = end_swept e.1 e.0.0 e.0.1 o (h e refl) k

@@ -2,8 +2,8 @@
 use Rattle.std.proofs.Common.{◌≡◌, Bool, false, refl, Option, Some, None}
 use Rattle.std.specs.Option.{is_some, option_map, option_or}
 use Rattle.std.specs.FinMap as fm
-use Rattle.dist_model.specs.Links.{noconnection}
-use Rattle.dist_model.specs.Losses.{OfLink, OfRegistration, OfWatch, Record, least_record, link_to, registered_by, sweep_end, sweep_record, watch_to}
+use Rattle.dist_model.specs.Losses.{OfLink, OfRegistration, OfWatch, Record, least_record}
+use Rattle.dist_model.specs.Losses.{link_to, registered_by, sweep_end, sweep_record, watch_to}
 use Rattle.dist_model.specs.Monitoring.{unregister, unwatch}
 use Rattle.dist_model.specs.Names.{Name}
 use Rattle.dist_model.specs.Node.{Node}
@@ -11,6 +11,7 @@ use Rattle.dist_model.specs.Work.{Work, put}
 use Rattle.erl_term.specs.declared.term.Pid.{Pid}
 use Rattle.erl_term.specs.declared.term.Reference.{Reference}
 use Rattle.exit_core.specs.Messages.{down_term}
+use Rattle.link_core.specs.News.{noconnection}
 use Rattle.link_core.specs.declared.end.End.{End}
 use Rattle.monitor_core.specs.declared.monitor.Monitor.{Monitor}
 
@@ -40,11 +41,14 @@ least_as y o = linked (link_to y (fm.entries o.node.ends))
     registered None = refl
     registered (Some e) = refl
 
-    watched : (m : Option (Reference × Monitor)) → sweep_record (least_of None m (registered_by y (fm.entries o.node.registered))) o ≡ sweep_watch m y o
+    watched : (m : Option (Reference × Monitor))
+        → sweep_record (least_of None m (registered_by y (fm.entries o.node.registered))) o ≡ sweep_watch m y o
     watched None = registered (registered_by y (fm.entries o.node.registered))
     watched (Some e) = refl
 
-    linked : (l : Option ((Pid × Pid) × End)) → sweep_record (least_of l (watch_to y (fm.entries o.node.watches)) (registered_by y (fm.entries o.node.registered))) o ≡ sweep_link l y o
+    linked : (l : Option ((Pid × Pid) × End))
+        → sweep_record (least_of l (watch_to y (fm.entries o.node.watches)) (registered_by y (fm.entries o.node.registered))) o
+        ≡ sweep_link l y o
     linked None = watched (watch_to y (fm.entries o.node.watches))
     linked (Some e) = refl
 
@@ -52,10 +56,11 @@ abbrev pub has_records : Name → Node → Bool
 has_records y n = is_some (least_record y n)
 
 -- no link, and no monitor
-pub no_records : (y : Name) (n : Node) → has_records y n ≡ false → (link_to y (fm.entries n.ends) ≡ None) × (is_some (watch_to y (fm.entries n.watches)) ≡ false)
+pub no_records : (y : Name) (n : Node) → has_records y n ≡ false → (link_to y (fm.entries n.ends) ≡ None)
+    × (is_some (watch_to y (fm.entries n.watches)) ≡ false)
 no_records y n h = go (link_to y (fm.entries n.ends)) (watch_to y (fm.entries n.watches)) h
   where
-    go : (l : Option ((Pid × Pid) × End)) (m : Option (Reference × Monitor)) → is_some (least_of l m (registered_by y (fm.entries n.registered))) ≡ false → (l ≡ None) × (is_some m ≡ false)
+    go : (l : Option ((Pid × Pid) × End)) (m : Option (Reference × Monitor))
+        → is_some (least_of l m (registered_by y (fm.entries n.registered))) ≡ false → (l ≡ None) × (is_some m ≡ false)
     go None None h = (refl, refl)
-    go None (Some e) h = cc
-    go (Some e) m h = cc
+    go _ _ h = cc

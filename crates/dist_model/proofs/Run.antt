@@ -1,40 +1,41 @@
 -- Every step keeps the world good.
-use Rattle.std.proofs.Common.{◌++◌}
-use Rattle.std.proofs.Common.{inr}
-use Rattle.std.proofs.Common.{subst}
-use Rattle.std.proofs.Common.{inl}
-use Rattle.std.proofs.Common.{◌≡◌, ℕ, ◌+◌, Bool, true, false, cond, List, [], ◌∷◌, refl, sym, ap, ◌∙◌, ◌&&◌, Option, Some, None, nat_lt, ◌^◌}
+use Rattle.std.proofs.Common.{◌++◌, inr, subst, inl, ◌≡◌, ℕ, ◌+◌, Bool, true, false, cond, List}
+use Rattle.std.proofs.Common.{[], ◌∷◌, refl, sym, ap, ◌∙◌, ◌&&◌, Option, Some, None, nat_lt, ◌^◌}
+use Rattle.std.proofs.lemmas.Option.{same_Some, none-some}
 use Rattle.std.specs.Option.{is_some}
 use Rattle.std.specs.FinMap as fm
 use Rattle.conn_core.specs.declared.arrival.Fault.{Fault}
 use Rattle.erl_handshake.specs.declared.fault.ShakeFault.{ShakeFault}
 use Rattle.dist_model.specs.NodeEvents.{at_node, if_up}
-use Rattle.dist_model.proofs.Stepping.{arrives, while_up}
-use Rattle.dist_model.proofs.Arrivals.{acceptance_comes, broken, challenge_comes, good_awaits_reply, good_awaits_status, good_lose, good_on_up, unless}
+use Rattle.dist_model.proofs.OneStep.{arrives, while_up}
+use Rattle.dist_model.proofs.Arrivals.{acceptance_comes, broken, challenge_comes, good_awaits_reply}
+use Rattle.dist_model.proofs.Arrivals.{good_awaits_status, good_lose, good_on_up, unless}
 use Rattle.dist_model.proofs.Calls.{IfGoes, by_test}
-use Rattle.dist_model.proofs.Closing.{good_started, good_stopped, good_sweep}
-use Rattle.dist_model.proofs.Fresh.{asked_on, fresh_fault, fresh_hello}
+use Rattle.dist_model.proofs.ClosedSides.{good_started, good_stopped, good_sweep}
+use Rattle.dist_model.proofs.FirstMessage.{asked_on, fresh_fault, fresh_hello}
 use Rattle.dist_model.proofs.Keys.{place_total, same_name_refl, same_place, same_trunk_refl, same_name_true}
 use Rattle.dist_model.proofs.NewSides.{good_dial}
 use Rattle.dist_model.proofs.Primitives.{good_popped, some_listed}
-use Rattle.dist_model.proofs.Routes.{node_of_name, none_some, some_same}
+use Rattle.dist_model.proofs.Routes.{node_of_name}
 use Rattle.dist_model.proofs.Rules.{awaits_ack, awaits_challenge, awaits_true, handshake_as, handshake_by, name_as}
 use Rattle.dist_model.proofs.Sides.{side_at}
 use Rattle.dist_model.proofs.Signals.{good_local}
-use Rattle.dist_model.proofs.Table.{Good, good_call}
+use Rattle.dist_model.proofs.Trunks.{Good}
+use Rattle.dist_model.proofs.TrunksStay.{good_call}
 use Rattle.dist_model.specs.Arrivals.{arrive_at, arrive_fresh, handshake_in, signal_at, take_local}
 use Rattle.dist_model.specs.Commands.{Accepts, Outcome, Refuses}
 use Rattle.dist_model.specs.declared.report.Answer.{Answer}
 use Rattle.dist_model.specs.Handshake.{fault, handshake_at}
 use Rattle.dist_model.specs.Incarnations.{start, started}
-use Rattle.dist_model.specs.Items.{Handshake, Item, Signalled, Tick}
+use Rattle.dist_model.specs.Items.{Handshake, Item}
 use Rattle.dist_model.specs.Losses.{lose}
 use Rattle.dist_model.specs.Names.{Name, place_cmp, same_name}
 use Rattle.dist_model.specs.Node.{Node}
 use Rattle.dist_model.specs.Runs.{Always, Goes, Runs, opening, run}
-use Rattle.dist_model.specs.Sides.{Accepting, Asked, AwaitsAck, AwaitsChallenge, AwaitsStatus, Gone, Losing, Parked, State, TrunkSide, Up, is_up}
+use Rattle.dist_model.specs.Sides.{Accepting, Asked, AwaitsAck, AwaitsChallenge, AwaitsStatus, Gone, State, TrunkSide, Up, is_up}
 use Rattle.dist_model.specs.Work.{at_work}
-use Rattle.dist_model.specs.World.{Arrive, Call, Dial, Event, Local, Lose, Refused, Report, Start, Stepped, Stop, Sweep, World, carried, came_of, left, list_to, met, node_name, node_of, set_node, step, step_at}
+use Rattle.dist_model.specs.World.{Arrive, Call, Dial, Event, Local, Lose, Refused, Report, Start, Stepped, Stop, Sweep}
+use Rattle.dist_model.specs.World.{World, carried, came_of, left, list_to, met, node_name, node_of, set_node, step, step_at}
 use Rattle.erl_handshake.specs.Digest.{digest_of}
 use Rattle.erl_handshake.specs.Flags.{has_all_of, mandatory}
 use Rattle.erl_handshake.specs.Roles.{is_answered, is_same}
@@ -44,100 +45,82 @@ use Rattle.erl_names.specs.declared.trunk.TrunkId.{TrunkId}
 use Rattle.erl_term.specs.declared.refusal.Refusal.{Refusal}
 use Rattle.std.specs.FinMap.{FinMap}
 
-popped_world : World → TrunkId → Name → List Item → World
-popped_world w t x rest = record { names = w.names; nodes = w.nodes; lists = fm.insert w.lists (t, x) rest }
-
 pub handshake_is : (i : Item) (m : ShakeMsg) → handshake_in i ≡ Some m → i ≡ Handshake m
-handshake_is (Handshake l) m h = ap Handshake (some_same l m h)
-handshake_is (Signalled s) m h = absurd (none_some m h)
-handshake_is Tick m h = absurd (none_some m h)
+handshake_is (Handshake l) m h = ap Handshake (same_Some l m h)
+handshake_is _ m h = absurd (none-some m h)
 
-module _ (w : World) (x : Name) (n : Node) (t : TrunkId) (v : TrunkSide) (rest : List Item) (hx : node_of w.nodes x ≡ Some n) (h : side_at n t ≡ Some v) (g : Good w) where
+module _ (w : World) (x : Name) (n : Node) (t : TrunkId) (v : TrunkSide) (rest : List Item) (hx : node_of w.nodes x ≡ Some n)
+    (h : side_at n t ≡ Some v) (g : Good w) where
   abbrev To : Item → Outcome → Type 0
-  To i o = list_to w.lists t x ≡ i ∷ rest → IfGoes o (λ p. Good (record { names = w.names; nodes = set_node w.nodes x p.node; lists = carried (fm.insert w.lists (t, x) rest) p.effects }))
+  To i o =
+      list_to w.lists t x ≡ i ∷ rest → IfGoes o
+      (λ p. Good (record { names = w.names; nodes = set_node w.nodes x p.node; lists = carried (fm.insert w.lists (t, x) rest) p.effects }))
 
-  good_awaits_challenge_item : (u : ℕ) → v.state ≡ AwaitsChallenge u → (m : ShakeMsg) → To (Handshake m) (awaits_challenge t v u m (at_work n))
-  good_awaits_challenge_item u s (ShakeMsg.Challenge c d b a) e = unless w x n t v rest hx h g (is_same a v.peer) (Handshake (ShakeMsg.Challenge c d b a)) _ (Fault.Shake ShakeFault.Forged)
-      (λ _ f. unless w x n t v rest hx h g (has_all_of c mandatory) (Handshake (ShakeMsg.Challenge c d b a)) _ (Fault.Shake ShakeFault.FlagsMissing)
-      (λ _ k. challenge_comes w x n t v (Handshake (ShakeMsg.Challenge c d b a)) rest hx h g k u b (digest_of n.cookie d) s refl (λ p q. refl)) f) e
-  good_awaits_challenge_item u s (ShakeMsg.Status Status.Ok) e = broken w x n t v rest hx h g (Fault.Shake ShakeFault.BadMessage) (Handshake (ShakeMsg.Status Status.Ok)) e
-  good_awaits_challenge_item u s (ShakeMsg.Status Status.OkSimultaneous) e = broken w x n t v rest hx h g (Fault.Shake ShakeFault.BadMessage) (Handshake (ShakeMsg.Status Status.OkSimultaneous)) e
-  good_awaits_challenge_item u s (ShakeMsg.Status Status.Alive) e = broken w x n t v rest hx h g (Fault.Shake ShakeFault.BadMessage) (Handshake (ShakeMsg.Status Status.Alive)) e
-  good_awaits_challenge_item u s (ShakeMsg.Status Status.Nok) e = broken w x n t v rest hx h g (Fault.Shake ShakeFault.BadMessage) (Handshake (ShakeMsg.Status Status.Nok)) e
-  good_awaits_challenge_item u s (ShakeMsg.Status Status.NotAllowed) e = broken w x n t v rest hx h g (Fault.Shake ShakeFault.BadMessage) (Handshake (ShakeMsg.Status Status.NotAllowed)) e
-  good_awaits_challenge_item u s (ShakeMsg.SendName c b a) e = broken w x n t v rest hx h g (Fault.Shake ShakeFault.BadMessage) (Handshake (ShakeMsg.SendName c b a)) e
-  good_awaits_challenge_item u s (ShakeMsg.Status Status.True) e = broken w x n t v rest hx h g (Fault.Shake ShakeFault.BadMessage) (Handshake (ShakeMsg.Status Status.True)) e
-  good_awaits_challenge_item u s (ShakeMsg.Status Status.False) e = broken w x n t v rest hx h g (Fault.Shake ShakeFault.BadMessage) (Handshake (ShakeMsg.Status Status.False)) e
-  good_awaits_challenge_item u s (ShakeMsg.ChallengeReply a b) e = broken w x n t v rest hx h g (Fault.Shake ShakeFault.BadMessage) (Handshake (ShakeMsg.ChallengeReply a b)) e
-  good_awaits_challenge_item u s (ShakeMsg.ChallengeAck a) e = broken w x n t v rest hx h g (Fault.Shake ShakeFault.BadMessage) (Handshake (ShakeMsg.ChallengeAck a)) e
+  good_awaits_challenge_item : (u : ℕ) → v.state ≡ AwaitsChallenge u → (m : ShakeMsg)
+      → To (Handshake m) (awaits_challenge t v u m (at_work n))
+  good_awaits_challenge_item u s (ShakeMsg.Challenge c d b a) e =
+      unless w x n t v rest hx h g (is_same a v.peer) (Handshake (ShakeMsg.Challenge c d b a)) _ (Fault.Shake ShakeFault.Forged)
+      (λ _ f. unless w x n t v rest hx h g (has_all_of c mandatory) (Handshake (ShakeMsg.Challenge c d b a)) _
+      (Fault.Shake ShakeFault.FlagsMissing)
+      (λ _ k. challenge_comes w x n t v (Handshake (ShakeMsg.Challenge c d b a)) rest hx h g k u b
+      (digest_of n.cookie d) s refl (λ p q. refl)) f) e
+  good_awaits_challenge_item u s (ShakeMsg.Status Status.Ok) e =
+      broken w x n t v rest hx h g (Fault.Shake ShakeFault.BadMessage) (Handshake (ShakeMsg.Status Status.Ok)) e
+  good_awaits_challenge_item u s m e = broken w x n t v rest hx h g (Fault.Shake ShakeFault.BadMessage) (Handshake m) e
 
   good_awaits_ack_item : (u : ℕ) → v.state ≡ AwaitsAck u → (m : ShakeMsg) → To (Handshake m) (awaits_ack t v u m (at_work n))
-  good_awaits_ack_item u s (ShakeMsg.ChallengeAck a) e = unless w x n t v rest hx h g (is_answered n.cookie u a) (Handshake (ShakeMsg.ChallengeAck a)) _ (Fault.Shake ShakeFault.BadDigest)
+  good_awaits_ack_item u s (ShakeMsg.ChallengeAck a) e =
+      unless w x n t v rest hx h g (is_answered n.cookie u a) (Handshake (ShakeMsg.ChallengeAck a)) _ (Fault.Shake ShakeFault.BadDigest)
       (λ _ k. acceptance_comes w x n t v (Handshake (ShakeMsg.ChallengeAck a)) rest hx h g k u s refl (λ p q. refl)) e
-  good_awaits_ack_item u s (ShakeMsg.Status Status.Ok) e = broken w x n t v rest hx h g (Fault.Shake ShakeFault.BadMessage) (Handshake (ShakeMsg.Status Status.Ok)) e
-  good_awaits_ack_item u s (ShakeMsg.Status Status.OkSimultaneous) e = broken w x n t v rest hx h g (Fault.Shake ShakeFault.BadMessage) (Handshake (ShakeMsg.Status Status.OkSimultaneous)) e
-  good_awaits_ack_item u s (ShakeMsg.Status Status.Alive) e = broken w x n t v rest hx h g (Fault.Shake ShakeFault.BadMessage) (Handshake (ShakeMsg.Status Status.Alive)) e
-  good_awaits_ack_item u s (ShakeMsg.Status Status.Nok) e = broken w x n t v rest hx h g (Fault.Shake ShakeFault.BadMessage) (Handshake (ShakeMsg.Status Status.Nok)) e
-  good_awaits_ack_item u s (ShakeMsg.Status Status.NotAllowed) e = broken w x n t v rest hx h g (Fault.Shake ShakeFault.BadMessage) (Handshake (ShakeMsg.Status Status.NotAllowed)) e
-  good_awaits_ack_item u s (ShakeMsg.SendName c b a) e = broken w x n t v rest hx h g (Fault.Shake ShakeFault.BadMessage) (Handshake (ShakeMsg.SendName c b a)) e
-  good_awaits_ack_item u s (ShakeMsg.Status Status.True) e = broken w x n t v rest hx h g (Fault.Shake ShakeFault.BadMessage) (Handshake (ShakeMsg.Status Status.True)) e
-  good_awaits_ack_item u s (ShakeMsg.Status Status.False) e = broken w x n t v rest hx h g (Fault.Shake ShakeFault.BadMessage) (Handshake (ShakeMsg.Status Status.False)) e
-  good_awaits_ack_item u s (ShakeMsg.Challenge c d b a) e = broken w x n t v rest hx h g (Fault.Shake ShakeFault.BadMessage) (Handshake (ShakeMsg.Challenge c d b a)) e
-  good_awaits_ack_item u s (ShakeMsg.ChallengeReply a b) e = broken w x n t v rest hx h g (Fault.Shake ShakeFault.BadMessage) (Handshake (ShakeMsg.ChallengeReply a b)) e
+  good_awaits_ack_item u s (ShakeMsg.Status Status.Ok) e =
+      broken w x n t v rest hx h g (Fault.Shake ShakeFault.BadMessage) (Handshake (ShakeMsg.Status Status.Ok)) e
+  good_awaits_ack_item u s m e = broken w x n t v rest hx h g (Fault.Shake ShakeFault.BadMessage) (Handshake m) e
 
   good_awaits_true_item : (u : ℕ) → v.state ≡ Asked u → (m : ShakeMsg) → To (Handshake m) (awaits_true t v u m (at_work n))
-  good_awaits_true_item u s (ShakeMsg.Status Status.True) e = asked_on (record { names = w.names; nodes = w.nodes; lists = fm.insert w.lists (t, x) rest }) x n hx (good_popped w t x (Handshake (ShakeMsg.Status Status.True)) rest g e (λ m b hm hb j p q. refl)) t v u h s
-  good_awaits_true_item u s (ShakeMsg.Status Status.Ok) e = broken w x n t v rest hx h g (Fault.Shake ShakeFault.BadMessage) (Handshake (ShakeMsg.Status Status.Ok)) e
-  good_awaits_true_item u s (ShakeMsg.Status Status.OkSimultaneous) e = broken w x n t v rest hx h g (Fault.Shake ShakeFault.BadMessage) (Handshake (ShakeMsg.Status Status.OkSimultaneous)) e
-  good_awaits_true_item u s (ShakeMsg.Status Status.Alive) e = broken w x n t v rest hx h g (Fault.Shake ShakeFault.BadMessage) (Handshake (ShakeMsg.Status Status.Alive)) e
-  good_awaits_true_item u s (ShakeMsg.Status Status.Nok) e = broken w x n t v rest hx h g (Fault.Shake ShakeFault.BadMessage) (Handshake (ShakeMsg.Status Status.Nok)) e
-  good_awaits_true_item u s (ShakeMsg.Status Status.NotAllowed) e = broken w x n t v rest hx h g (Fault.Shake ShakeFault.BadMessage) (Handshake (ShakeMsg.Status Status.NotAllowed)) e
-  good_awaits_true_item u s (ShakeMsg.SendName c b a) e = broken w x n t v rest hx h g (Fault.Shake ShakeFault.BadMessage) (Handshake (ShakeMsg.SendName c b a)) e
-  good_awaits_true_item u s (ShakeMsg.Status Status.False) e = broken w x n t v rest hx h g (Fault.Shake ShakeFault.Nok) (Handshake (ShakeMsg.Status Status.False)) e
-  good_awaits_true_item u s (ShakeMsg.Challenge c d b a) e = broken w x n t v rest hx h g (Fault.Shake ShakeFault.BadMessage) (Handshake (ShakeMsg.Challenge c d b a)) e
-  good_awaits_true_item u s (ShakeMsg.ChallengeReply a b) e = broken w x n t v rest hx h g (Fault.Shake ShakeFault.BadMessage) (Handshake (ShakeMsg.ChallengeReply a b)) e
-  good_awaits_true_item u s (ShakeMsg.ChallengeAck a) e = broken w x n t v rest hx h g (Fault.Shake ShakeFault.BadMessage) (Handshake (ShakeMsg.ChallengeAck a)) e
+  good_awaits_true_item u s (ShakeMsg.Status Status.True) e =
+      asked_on (record { names = w.names; nodes = w.nodes; lists = fm.insert w.lists (t, x) rest }) x n hx
+      (good_popped w t x (Handshake (ShakeMsg.Status Status.True)) rest g e (λ m b hm hb j p q. refl)) t v u h s
+  good_awaits_true_item u s (ShakeMsg.Status Status.False) e =
+      broken w x n t v rest hx h g (Fault.Shake ShakeFault.Nok) (Handshake (ShakeMsg.Status Status.False)) e
+  good_awaits_true_item u s m e = broken w x n t v rest hx h g (Fault.Shake ShakeFault.BadMessage) (Handshake m) e
 
   by_rule : (a : State) → v.state ≡ a → (m : ShakeMsg) → To (Handshake m) (handshake_by a t v m (at_work n))
   by_rule (AwaitsStatus u) s m = good_awaits_status w x n t v rest hx h g u s m
   by_rule (AwaitsChallenge u) s m = good_awaits_challenge_item u s m
   by_rule (AwaitsAck u) s m = good_awaits_ack_item u s m
   by_rule (Asked u) s m = good_awaits_true_item u s m
-  by_rule (Parked u) s m = broken w x n t v rest hx h g (Fault.Shake ShakeFault.BadMessage) (Handshake m)
   by_rule (Accepting u) s m = good_awaits_reply w x n t v rest hx h g u s m
-  by_rule Up s m = broken w x n t v rest hx h g (Fault.Shake ShakeFault.BadMessage) (Handshake m)
-  by_rule Losing s m = broken w x n t v rest hx h g (Fault.Shake ShakeFault.BadMessage) (Handshake m)
-  by_rule Gone s m = broken w x n t v rest hx h g (Fault.Shake ShakeFault.BadMessage) (Handshake m)
+  by_rule _ s m = broken w x n t v rest hx h g (Fault.Shake ShakeFault.BadMessage) (Handshake m)
 
   by_handshake : (a : State) → v.state ≡ a → (m : ShakeMsg) → To (Handshake m) (handshake_at a t v m (at_work n))
   by_handshake a s m = subst (λ z. To (Handshake m) z) (sym (handshake_as a t v m (at_work n))) (by_rule a s m)
 
   by_signal : (a : State) → v.state ≡ a → (i : Item) → To i (signal_at a t v i (at_work n))
-  by_signal (AwaitsStatus u) s i = broken w x n t v rest hx h g (Fault.Shake ShakeFault.BadMessage) i
-  by_signal (AwaitsChallenge u) s i = broken w x n t v rest hx h g (Fault.Shake ShakeFault.BadMessage) i
-  by_signal (AwaitsAck u) s i = broken w x n t v rest hx h g (Fault.Shake ShakeFault.BadMessage) i
-  by_signal (Asked u) s i = broken w x n t v rest hx h g (Fault.Shake ShakeFault.BadMessage) i
-  by_signal (Parked u) s i = broken w x n t v rest hx h g (Fault.Shake ShakeFault.BadMessage) i
-  by_signal (Accepting u) s i = broken w x n t v rest hx h g (Fault.Shake ShakeFault.BadMessage) i
   by_signal Up s i = λ e. good_on_up w x n t v i rest hx h g e (ap is_up s)
-  by_signal Losing s i = broken w x n t v rest hx h g (Fault.Shake ShakeFault.BadMessage) i
-  by_signal Gone s i = broken w x n t v rest hx h g (Fault.Shake ShakeFault.BadMessage) i
+  by_signal _ s i = broken w x n t v rest hx h g (Fault.Shake ShakeFault.BadMessage) i
 
   by_kind : (o : Option ShakeMsg) (i : Item) → handshake_in i ≡ o → To i (arrive_at o t v i (at_work n))
   by_kind None i k = by_signal v.state refl i
   by_kind (Some m) i k = λ e. by_handshake v.state refl m (e ∙ ap (λ z. z ∷ rest) (handshake_is i m k))
 
 -- what goes through leads to a good world
-ends_well : (w : World) (x : Name) (m : FinMap place_cmp (List Item)) (o : Outcome) → Good w → IfGoes o (λ p. Good (record { names = w.names; nodes = set_node w.nodes x p.node; lists = carried m p.effects })) → Good ((came_of w x m o).world)
+ends_well : (w : World) (x : Name) (m : FinMap place_cmp (List Item)) (o : Outcome) → Good w
+    → IfGoes o (λ p. Good (record { names = w.names; nodes = set_node w.nodes x p.node; lists = carried m p.effects }))
+    → Good ((came_of w x m o).world)
 ends_well w x m (Refuses k) g h = g
 ends_well w x m (Accepts a o) g h = h
 
-first_known : (w : World) (x : Name) (n : Node) (t : TrunkId) (v : TrunkSide) (k : ℕ) (i : Item) (rest : List Item) → node_of w.nodes x ≡ Some n → side_at n t ≡ Some v → Good w → list_to w.lists t x ≡ i ∷ rest
+first_known : (w : World) (x : Name) (n : Node) (t : TrunkId) (v : TrunkSide) (k : ℕ) (i : Item) (rest : List Item)
+    → node_of w.nodes x ≡ Some n → side_at n t ≡ Some v → Good w → list_to w.lists t x ≡ i ∷ rest
     → Good ((came_of w x (fm.insert w.lists (t, x) rest) (arrive_at (handshake_in i) t v i (at_work n))).world)
-first_known w x n t v k i rest hx h g e = ends_well w x (fm.insert w.lists (t, x) rest) (arrive_at (handshake_in i) t v i (at_work n)) g (by_kind w x n t v rest hx h g (handshake_in i) i refl e)
+first_known w x n t v k i rest hx h g e =
+    ends_well w x (fm.insert w.lists (t, x) rest) (arrive_at (handshake_in i) t v i (at_work n)) g
+    (by_kind w x n t v rest hx h g (handshake_in i) i refl e)
 
 -- a fresh side, any item
-module _ (w : World) (x : Name) (n : Node) (hx : node_of w.nodes x ≡ Some n) (g : Good w) (t : TrunkId) (far : same_name t.dialer n.mint.name ≡ false) (key : is_some (fm.get w.lists (t, x)) ≡ true) (none : side_at n t ≡ None) where
+module _ (w : World) (x : Name) (n : Node) (hx : node_of w.nodes x ≡ Some n) (g : Good w) (t : TrunkId)
+    (far : same_name t.dialer n.mint.name ≡ false) (key : is_some (fm.get w.lists (t, x)) ≡ true)
+    (none : side_at n t ≡ None) where
   abbrev Well : Outcome → Type 0
   Well o = IfGoes o (λ p. Good (record { names = w.names; nodes = set_node w.nodes x p.node; lists = carried w.lists p.effects }))
 
@@ -145,63 +128,64 @@ module _ (w : World) (x : Name) (n : Node) (hx : node_of w.nodes x ≡ Some n) (
   bad = fresh_fault w x n hx g t 0 far key none (Fault.Shake ShakeFault.BadMessage)
 
   fresh_item : (o : Option ShakeMsg) (k : ℕ) → Well (arrive_fresh o t k (at_work n))
-  fresh_item None z = bad
-  fresh_item (Some (ShakeMsg.SendName c b a)) k = subst Well (sym (name_as t (ShakeMsg.SendName c b a) k (at_work n))) (fresh_hello w x n hx g t b far key none a c k)
+  fresh_item (Some (ShakeMsg.SendName c b a)) k =
+      subst Well (sym (name_as t (ShakeMsg.SendName c b a) k (at_work n))) (fresh_hello w x n hx g t b far key none a c k)
   fresh_item (Some (ShakeMsg.Status Status.Ok)) z = bad
-  fresh_item (Some (ShakeMsg.Status Status.OkSimultaneous)) z = bad
-  fresh_item (Some (ShakeMsg.Status Status.Nok)) z = bad
-  fresh_item (Some (ShakeMsg.Status Status.NotAllowed)) z = bad
-  fresh_item (Some (ShakeMsg.Status Status.Alive)) z = bad
-  fresh_item (Some (ShakeMsg.Status Status.True)) z = bad
-  fresh_item (Some (ShakeMsg.Status Status.False)) z = bad
-  fresh_item (Some (ShakeMsg.Challenge c d b a)) z = bad
-  fresh_item (Some (ShakeMsg.ChallengeReply a b)) z = bad
-  fresh_item (Some (ShakeMsg.ChallengeAck a)) z = bad
+  fresh_item _ z = bad
 
 -- what travels is on a trunk that its dialer has: so one whose side isn't there was dialed by another
-first_fresh : (w : World) (x : Name) (n : Node) (t : TrunkId) (k : ℕ) (i : Item) (rest : List Item) → node_of w.nodes x ≡ Some n → side_at n t ≡ None → Good w → same_name t.dialer x ≡ false → list_to w.lists t x ≡ i ∷ rest
+first_fresh : (w : World) (x : Name) (n : Node) (t : TrunkId) (k : ℕ) (i : Item) (rest : List Item)
+    → node_of w.nodes x ≡ Some n → side_at n t ≡ None → Good w → same_name t.dialer x ≡ false → list_to w.lists t x ≡ i ∷ rest
     → Good ((came_of w x (fm.insert w.lists (t, x) rest) (arrive_fresh (handshake_in i) t k (at_work n))).world)
 first_fresh w x n t k i rest hx none g far e =
     ends_well w x (fm.insert w.lists (t, x) rest) (arrive_fresh (handshake_in i) t k (at_work n)) g
     (fresh_item (record { names = w.names; nodes = w.nodes; lists = fm.insert w.lists (t, x) rest }) x n hx
     (good_popped w t x i rest g e (λ m b hm hb j p q.
-    let nm : n ≡ m = some_same n m (sym hx ∙ hm) in
-    let z : false ≡ true = sym (ap is_some none) ∙ ap is_some (ap (λ y. side_at y t) nm ∙ hb) in absurd (let y : true ≡ false = sym z in cc)))
+    let nm : n ≡ m = same_Some n m (sym hx ∙ hm) in
+    let z : false ≡ true =
+    sym (ap is_some none) ∙ ap is_some (ap (λ y. side_at y t) nm ∙ hb) in absurd (let y : true ≡ false = sym z in cc)))
     t (ap (same_name t.dialer) (node_of_name w.nodes x n hx) ∙ far)
-    (ap is_some (fm.get-insert place_total w.lists (t, x) rest (t, x)) ∙ ap (λ b. is_some (cond b (Some rest) (fm.get w.lists (t, x)))) (same_place t t x x ∙ ap (λ b. b && same_name x x) (same_trunk_refl t) ∙ same_name_refl x))
+    (ap is_some (fm.get-insert place_total w.lists (t, x) rest (t, x)) ∙ ap
+    (λ b. is_some (cond b (Some rest) (fm.get w.lists (t, x))))
+    (same_place t t x x ∙ ap (λ b. b && same_name x x) (same_trunk_refl t) ∙ same_name_refl x))
     none (handshake_in i) k)
 
-pub not_own : (w : World) (x : Name) (n : Node) (t : TrunkId) (i : Item) (rest : List Item) → node_of w.nodes x ≡ Some n → side_at n t ≡ None → Good w → list_to w.lists t x ≡ i ∷ rest → same_name t.dialer x ≡ false
+pub not_own : (w : World) (x : Name) (n : Node) (t : TrunkId) (i : Item) (rest : List Item) → node_of w.nodes x ≡ Some n
+    → side_at n t ≡ None → Good w → list_to w.lists t x ≡ i ∷ rest → same_name t.dialer x ≡ false
 not_own w x n t i rest hx none g e = by_test _ (same_name t.dialer x)
     (λ c.
     let p = g.posted t x (some_listed (fm.get w.lists (t, x)) i rest e) in
-    let same : p.1 ≡ n = some_same p.1 n (sym p.2 ∙ ap (node_of w.nodes) (same_name_true t.dialer x c) ∙ hx) in
-    absurd (none_some p.0 (sym none ∙ ap (λ m. side_at m t) (sym same) ∙ p.3)))
+    let same : p.1 ≡ n = same_Some p.1 n (sym p.2 ∙ ap (node_of w.nodes) (same_name_true t.dialer x c) ∙ hx) in
+    absurd (none-some p.0 (sym none ∙ ap (λ m. side_at m t) (sym same) ∙ p.3)))
     (λ c. c)
 
-good_arrives : (w : World) (x : Name) (n : Node) (t : TrunkId) (k : ℕ) → node_of w.nodes x ≡ Some n → Good w → Good ((step_at w (Some n) (Arrive t x k)).world)
+good_arrives : (w : World) (x : Name) (n : Node) (t : TrunkId) (k : ℕ) → node_of w.nodes x ≡ Some n → Good w
+    → Good ((step_at w (Some n) (Arrive t x k)).world)
 good_arrives w x n t k hx g = arrives w x n (λ s. Good s.world) (λ r. g) t k
     (λ i is h j. first_fresh w x n t k i is hx j g (not_own w x n t i is hx j g h) h)
     (λ i is s h j v. first_known w x n t s k i is hx j g h)
 
-good_local_list : (w : World) (x : Name) (n : Node) (l : List Item) → node_of w.nodes x ≡ Some n → n.local ≡ l → Good w → Good ((came_of w x w.lists (take_local n l)).world)
+good_local_list : (w : World) (x : Name) (n : Node) (l : List Item) → node_of w.nodes x ≡ Some n → n.local ≡ l → Good w
+    → Good ((came_of w x w.lists (take_local n l)).world)
 good_local_list w x n [] hx e g = g
 good_local_list w x n (i ∷ xs) hx e g = good_local w x n i xs hx g e
 
-good_lose_any : (w : World) (x : Name) (n : Node) (t : TrunkId) (o : Option TrunkSide) → node_of w.nodes x ≡ Some n → side_at n t ≡ o → Good w → Good ((came_of w x w.lists (lose n t o)).world)
+good_lose_any : (w : World) (x : Name) (n : Node) (t : TrunkId) (o : Option TrunkSide) → node_of w.nodes x ≡ Some n
+    → side_at n t ≡ o → Good w → Good ((came_of w x w.lists (lose n t o)).world)
 good_lose_any w x n t None hx h g = g
 good_lose_any w x n t (Some v) hx h g = good_lose w x n t v hx h g
 
-runs_well : (w : World) (x : Name) (n : Node) (o : Outcome) → Good w → Good ((came_of w x w.lists o).world) → Good ((came_of w x w.lists (if_up n o)).world)
+runs_well : (w : World) (x : Name) (n : Node) (o : Outcome) → Good w → Good ((came_of w x w.lists o).world)
+    → Good ((came_of w x w.lists (if_up n o)).world)
 runs_well w x n o g h = while_up w x n (λ s. Good s.world) (λ r. g) w.lists o h
 
 good_start : (w : World) (x : Name) (n : Node) → node_of w.nodes x ≡ Some n → Good w → Good ((came_of w x w.lists (start n)).world)
 good_start w x n hx g = go n.up (nat_lt (n.mint.creation + 1) (2 ^ 32))
   where
-    go : (a b : Bool) → Good ((came_of w x w.lists (cond a (Refuses Refusal.NodeUp) (cond b (Accepts (Answer.Started (n.mint.creation + 1)) (at_work (started n))) (Refuses Refusal.IdsUsedUp)))).world)
-    go true b = g
+    go : (a b : Bool) → Good ((came_of w x w.lists (cond a (Refuses Refusal.NodeUp)
+        (cond b (Accepts (Answer.Started (n.mint.creation + 1)) (at_work (started n))) (Refuses Refusal.IdsUsedUp)))).world)
     go false true = good_started w x n hx g
-    go false false = g
+    go _ _ = g
 
 pub good_step_at : (w : World) (o : Option Node) (e : Event) → node_of w.nodes (node_name e) ≡ o → Good w → Good ((step_at w o e).world)
 good_step_at w None e h g = g
@@ -226,9 +210,8 @@ module _ (P : World → Type 0) (steps : (w : World) (e : Event) → P w → P (
 
   runs : (w : World) (es : List Event) (rs : List Report) (v : World) → P w → Runs w es rs v → P v
   runs w [] [] v g h = subst P (sym h) g
-  runs w [] (r ∷ rs) v g h = absurd h
-  runs w (e ∷ es) [] v g h = absurd h
   runs w (e ∷ es) (r ∷ rs) v g h = runs h.0 es rs v (comes w e r h.0 g h.1) h.2
+  runs w _ _ v g h = absurd h
 
   pub always_kept : (Holds : World → Type 0) → ((cs : List (Name × List ℕ)) → P (opening cs)) → ((w : World) → P w → Holds w) → Always Holds
   always_kept Holds opens f cs es rs w h = f w (runs (opening cs) es rs w (opens cs) h)
@@ -242,7 +225,8 @@ events_run (e ∷ es) w =
     let r = events_run es ((step w e).world) in
     ((step w e).report ∷ r.0, ((step w e).world, inl (refl, refl), r.1))
 
-pub moments : (es fs : List Event) (rs : List Report) (w v : World) → Runs w (es ++ fs) rs v → (earlier : List Report) × (later : List Report) × (now : World) × (rs ≡ earlier ++ later) × Runs w es earlier now × Runs now fs later v
+pub moments : (es fs : List Event) (rs : List Report) (w v : World) → Runs w (es ++ fs) rs v → (earlier : List Report)
+    × (later : List Report) × (now : World) × (rs ≡ earlier ++ later) × Runs w es earlier now × Runs now fs later v
 moments [] fs rs w v h = ([], rs, w, refl, refl, h)
 moments (e ∷ es) fs [] w v h = absurd h
 moments (e ∷ es) fs (r ∷ rs) w v h =

@@ -1,23 +1,23 @@
 -- What travels can be sent: each signal is one that erl_control writes a frame of.
 use Rattle.erl_handshake.specs.declared.message.ShakeMsg.{ShakeMsg}
 use Rattle.erl_names.specs.Draw as kind
-use Rattle.std.proofs.Common.{◌≡◌, ℕ, ◌+◌, ◌^◌, ◌<◌, Bool, true, false, cond, not, List, [], ◌∷◌, ◌++◌, refl, sym, ap, ◌∙◌, subst, arith, Option, Some, None, ◌&&◌, Contains, nat_lt, ◌≤◌, length}
+use Rattle.std.proofs.Common.{◌≡◌, ℕ, ◌+◌, ◌^◌, ◌<◌, Bool, true, false, cond, not, List, [], ◌∷◌, ◌++◌, refl, sym}
+use Rattle.std.proofs.Common.{ap, ◌∙◌, subst, arith, Option, Some, None, ◌&&◌, Contains, nat_lt, ◌≤◌, length}
 use Rattle.std.proofs.lemmas.List.Elements.{All-append, All-cons, All-contains, All-head, All-nil, All-tail}
 use Rattle.std.specs.List.{All}
 use Rattle.std.specs.Option.{is_some}
 use Rattle.std.specs.Prelude.{codes}
 use Rattle.std.specs.FinMap as fm
 use Rattle.std.specs.FinMap.{FinMap}
-use Rattle.dist_model.proofs.Calls.{IfGoes, if_cond, if_drawn, if_not, some_number}
-use Rattle.dist_model.proofs.Closing.{any_found}
+use Rattle.dist_model.proofs.Calls.{IfGoes, if_cond, if_drawn, if_not}
+use Rattle.dist_model.proofs.ClosedSides.{any_found}
 use Rattle.dist_model.proofs.DueParts.{sent_sweep}
 use Rattle.erl_control.proofs.Fitting.{all_from, fits_test}
-use Rattle.dist_model.proofs.Founding.{Carried, carried_all, carried_lists, carried_post, carried_write, popped_lists}
-use Rattle.dist_model.proofs.Handshaking.{fresh_kept, known_kept, lose_kept, swept_kept, Turned, Aged, as_state, parked_ages}
-use Rattle.dist_model.proofs.Routes.{none_some, some_same}
+use Rattle.dist_model.proofs.Founded.{Carried, carried_all, carried_lists, carried_post, carried_write, popped_lists}
+use Rattle.dist_model.proofs.HandshakeParts.{fresh_kept, known_kept, lose_kept, swept_kept, Turned, Aged, as_state, parked_ages}
 use Rattle.dist_model.proofs.Run.{always_kept}
-use Rattle.dist_model.proofs.Stepping.{arrives, while_up}
-use Rattle.dist_model.proofs.Seeing.{list_in, local_at, new_nodes, replies}
+use Rattle.dist_model.proofs.OneStep.{arrives, while_up}
+use Rattle.dist_model.proofs.Seen.{list_in, local_at, new_nodes, replies}
 use Rattle.dist_model.proofs.Sides.{side_at}
 use Rattle.dist_model.specs.Arrivals.{arrive_at, arrive_fresh, handshake_in, take_local}
 use Rattle.dist_model.specs.Calls.{acting, call, toward}
@@ -29,10 +29,9 @@ use Rattle.dist_model.specs.Exits.{carry_out, demonitors, exit_for, exits, end_p
 use Rattle.erl_control.specs.Fits.{are_below, fits}
 use Rattle.dist_model.specs.Handshake.{identity, with_side, write, set_state}
 use Rattle.dist_model.specs.Incarnations.{start, stop, stopped}
-use Rattle.dist_model.specs.Items.{Handshake, Item, Signalled, Tick, telling}
+use Rattle.dist_model.specs.Items.{Item, Signalled, telling}
 use Rattle.erl_control.specs.Ends.{receiver_of}
 use Rattle.dist_model.specs.Linking.{exit_follows, link_by, link_new, take_link, take_link_by, unlink_by}
-use Rattle.dist_model.specs.Links.{Exited, LinkNews, Signals, heard, noconnection, noproc, reply}
 use Rattle.dist_model.specs.Losses.{any_side, link_to, lose, registered_by, sweep, sweep_by, sweep_end, watch_to}
 use Rattle.dist_model.proofs.Records.{least_as, sweep_link, sweep_registered, sweep_watch}
 use Rattle.dist_model.specs.Monitoring.{demonitor_by, register, unregister, unwatch, watch}
@@ -45,7 +44,8 @@ use Rattle.dist_model.specs.Sides.{AwaitsStatus, is_gone, is_losing, TrunkSide, 
 use Rattle.dist_model.specs.Taking.{take_item}
 use Rattle.dist_model.specs.Work.{Work, at_work, draw, post, post_all, put, report, set_end}
 use Rattle.dist_model.specs.declared.report.Effect.{Effect}
-use Rattle.dist_model.specs.World.{Arrive, Call, Dial, Event, Local, Lose, Start, Stop, Sweep, World, came_of, list_to, node_name, node_of, set_node, step_at}
+use Rattle.dist_model.specs.World.{Arrive, Call, Dial, Event, Local, Lose, Start, Stop, Sweep}
+use Rattle.dist_model.specs.World.{World, came_of, list_to, node_name, node_of, set_node, step_at}
 use Rattle.erl_control.specs.Control.{Fits, IsSendable, IsUnlinkId}
 use Rattle.erl_control.specs.declared.signal.Signal.{Signal}
 use Rattle.erl_names.specs.Ids.{reference_of}
@@ -59,6 +59,7 @@ use Rattle.exit_core.specs.Messages.{down_term, exit_term}
 use Rattle.exit_core.specs.Reaction.{is_atom, reaction}
 use Rattle.exit_core.specs.declared.reaction.ExitSignal.{ExitSignal}
 use Rattle.exit_core.specs.declared.reaction.Reaction.{Reaction}
+use Rattle.link_core.specs.News.{Exited, LinkNews, Signals, heard, noconnection, noproc, reply}
 use Rattle.link_core.specs.declared.end.End.{End}
 use Rattle.link_core.specs.declared.end.LinkSignal.{LinkSignal}
 use Rattle.monitor_core.specs.Monitors.{is_held, monitor_of}
@@ -68,11 +69,11 @@ use Rattle.erl_term.specs.Canonical.{canonical_atom}
 use Rattle.erl_term.specs.Text.{IsAtomText}
 use Rattle.std.proofs.lemmas.Str.{IsUtf8-from_ascii, chars-IsAscii}
 use Rattle.std.proofs.lemmas.Str.Ascii.{IsAscii-from_all}
+use Rattle.std.proofs.lemmas.Option.{same_Some, none-some}
 
 abbrev pub Sendable : Item → Type 0
 Sendable (Signalled s) = IsSendable s
-Sendable (Handshake m) = Unit {0}
-Sendable Tick = Unit {0}
+Sendable _ = Unit {0}
 
 abbrev One : Signal → Type 0
 One s = Sendable (Signalled s)
@@ -106,7 +107,7 @@ drawn_id : (m : Minted) (id : ℕ) → id_of m kind.UnlinkId ≡ Some id → IsU
 drawn_id m id h = go (nat_lt m.unlink_ids (last kind.UnlinkId)) refl h
   where
     go : (b : Bool) → nat_lt m.unlink_ids (last kind.UnlinkId) ≡ b → cond b (Some (m.unlink_ids + 1)) None ≡ Some id → IsUnlinkId id
-    go true e j = next_id m.unlink_ids id e (some_number (m.unlink_ids + 1) id j)
+    go true e j = next_id m.unlink_ids id e (same_Some (m.unlink_ids + 1) id j)
     go false e j = cc
 
 -- ---- a node in the midst of an event
@@ -142,8 +143,7 @@ exits_sendable p x (e ∷ es) f = All-append One (exit_for p x e.0 e.1) (exits p
   where
     go : (d : End) → AllSendable (exit_for p x e.0 d)
     go End.Active = one_or_none true (Signal.Exit p e.0 x) (tt, f)
-    go End.None = All-nil One
-    go (End.Pending i) = All-nil One
+    go _ = All-nil One
 
 monitor_exits_sendable : (p : Pid) (x : Data) (es : List (Reference × Monitor)) → Fits x → AllSendable (monitor_exits p x es)
 monitor_exits_sendable p x [] f = All-nil One
@@ -173,11 +173,10 @@ reacted trap s p o f k = go (s.link && not s.is_active) (not s.link && is_atom (
     go : (a b c d : Bool) → X (carry_out (cond a Reaction.Ignore
         (cond b (Reaction.End (atom (codes "killed"))) (cond c (Reaction.Put (exit_term s.sender s.reason))
         (cond d Reaction.Ignore (Reaction.End s.reason))))) p o)
-    go true b c d = k
     go false true c d = finished p (atom (codes "killed")) o killed_fits k
     go false false true d = silent o (put p (exit_term s.sender s.reason) o) (Effect.Put p (exit_term s.sender s.reason)) refl refl refl k
-    go false false false true = k
     go false false false false = finished p s.reason o f k
+    go _ _ _ _ = k
 
 link_exited : (p q : Pid) (x : Data) (o : Work) → Fits x → X o → X (link_exit p q x o)
 link_exited p q x o f k = reacted (traps_life (fm.get o.node.lives p)) (linked_exit p q x) p (report (Effect.LinkExit p q x) o) f
@@ -187,16 +186,13 @@ link_exited p q x o f k = reacted (traps_life (fm.get o.node.lives p)) (linked_e
 
 replied : (gone : Bool) (p q : Pid) (s : LinkNews) → IsSendable (telling q p s) → AllSendable (replies p q (reply gone s))
 replied true p q (Signals LinkSignal.Link) h = one_or_none true (Signal.Exit p q noproc) (tt, noproc_fits)
-replied false p q (Signals LinkSignal.Link) h = All-nil One
 replied gone p q (Signals (LinkSignal.Unlink i)) h = one_or_none true (Signal.UnlinkIdAck i p q) h
-replied gone p q (Signals (LinkSignal.Ack i)) h = All-nil One
-replied gone p q (Exited x) h = All-nil One
+replied _ p q _ h = All-nil One
 
 followed : (e : End) (s : LinkNews) (p q : Pid) (o : Work) → IsSendable (telling q p s) → X o → X (exit_follows e s p q o)
 followed e (Signals s) p q o h k = k
-followed End.None (Exited x) p q o h k = k
 followed End.Active (Exited x) p q o h k = link_exited p q x o h.1 k
-followed (End.Pending i) (Exited x) p q o h k = k
+followed _ _ p q o h k = k
 
 link_taken : (p q : Pid) (s : LinkNews) (o : Work) → IsSendable (telling q p s) → X o → X (take_link p q s o)
 link_taken p q s o h k = go (living o.node p)
@@ -223,8 +219,7 @@ taken (Signalled (Signal.Demonitor p q r)) o h k = either (is_held o.node.regist
     (same o (unregister r o) refl refl k) k
 taken (Signalled (Signal.MonitorExit q p r x)) o h k = either (living o.node p && is_held o.node.watches r (monitor_of p q)) _ o
     (silent o (put p (down_term r q x) (unwatch r o)) (Effect.Put p (down_term r q x)) refl refl refl k) k
-taken (Handshake m) o h k = k
-taken Tick o h k = k
+taken _ o h k = k
 
 -- ---- a call
 
@@ -234,16 +229,14 @@ linked_new false p q o k = link_exited p q noconnection (set_end p q End.None o)
     (same o (set_end p q End.None o) refl refl k)
 
 linked_by : (e : End) (p q : Pid) (o : Work) → X o → X (link_by e p q o)
-linked_by End.None p q o k = linked_new (reaches o.node q.node) p q o k
 linked_by End.Active p q o k = k
-linked_by (End.Pending i) p q o k = linked_new (reaches o.node q.node) p q o k
+linked_by _ p q o k = linked_new (reaches o.node q.node) p q o k
 
 unlinked_by : (e : End) (p q : Pid) (o : Work) → X o → IfGoes (unlink_by e p q o) X
-unlinked_by End.None p q o k = k
 unlinked_by End.Active p q o k = if_drawn (id_of o.node.mint kind.UnlinkId) _ X (λ id h.
     let o1 = set_end p q (End.Pending id) (draw kind.UnlinkId o) in posted (Signal.UnlinkId id p q) o1 (drawn_id o.node.mint id h, tt)
     (same o o1 refl refl k))
-unlinked_by (End.Pending i) p q o k = k
+unlinked_by _ p q o k = k
 
 demonitored : (v : Option Monitor) (p : Pid) (r : Reference) (o : Work) → X o → IfGoes (demonitor_by v p r o) X
 demonitored None p r o k = tt
@@ -291,10 +284,9 @@ wrote t y m o k = carried_write Sendable t y m o tt k
 
 -- a sweep
 end_swept : (e : End) (p q : Pid) (o : Work) → X o → X (sweep_end e p q o)
-end_swept End.None p q o k = same o (set_end p q End.None o) refl refl k
 end_swept End.Active p q o k = link_exited p q noconnection (set_end p q End.None o) noconnection_fits
     (same o (set_end p q End.None o) refl refl k)
-end_swept (End.Pending i) p q o k = same o (set_end p q End.None o) refl refl k
+end_swept _ p q o k = same o (set_end p q End.None o) refl refl k
 
 registered_swept : (d : Option (Reference × Monitor)) (o : Work) → X o → X (sweep_registered d o)
 registered_swept None o k = k
@@ -319,7 +311,8 @@ close_if_swept n k = go (any_side is_losing (fm.entries n.sides)) refl
         ∙ (any_found is_losing (fm.entries n.sides) d (fm.entries_sorted n.sides) e).0 in
         let o = sweep_link (link_to d.1.peer (fm.entries n.ends)) d.1.peer (at_work n) in
         subst (λ z. X (Rattle.dist_model.specs.Losses.close_if_swept d.0 d.1 z)) (sym (least_as d.1.peer (at_work n)))
-        (swept_kept (λ u y. Unit {0}) X (λ u s o c r. side u s o c) (λ u y m o v. wrote u y m o) d.0 d.1 o (ap (λ l. fm.get l d.0) (sent_sweep n d.1.peer).sides ∙ at)
+        (swept_kept (λ u y. Unit {0}) X (λ u s o c r. side u s o c) (λ u y m o v. wrote u y m o) d.0 d.1 o
+        (ap (λ l. fm.get l d.0) (sent_sweep n d.1.peer).sides ∙ at)
         (λ u b v f p e z. side u (as_state b (Accepting v)) (set_state d.0 d.1 Gone o) (Aged b f (parked_ages b v e)) z)
         (link_swept (link_to d.1.peer (fm.entries n.ends)) d.1.peer (at_work n) k))
 
@@ -342,11 +335,11 @@ Locals [] = Unit {0}
 Locals (n ∷ ns) = All Sendable n.local × Locals ns
 
 local_of : (ns : List Node) (x : Name) (n : Node) → node_of ns x ≡ Some n → Locals ns → All Sendable n.local
-local_of [] x n h k = absurd (none_some n h)
+local_of [] x n h k = absurd (none-some n h)
 local_of (m ∷ ns) x n h k = go (same_name m.mint.name x) h (λ e. local_of ns x n e k.1)
   where
     go : (b : Bool) → cond b (Some m) (node_of ns x) ≡ Some n → (node_of ns x ≡ Some n → All Sendable n.local) → All Sendable n.local
-    go true e later = subst (λ (z : Node). All Sendable z.local) (some_same m n e) k.0
+    go true e later = subst (λ (z : Node). All Sendable z.local) (same_Some m n e) k.0
     go false e later = later e
 
 local_set : (ns : List Node) (x : Name) (n : Node) → All Sendable n.local → Locals ns → Locals (set_node ns x n)
@@ -377,7 +370,8 @@ module _ (w : World) (x : Name) (g : Travels w) where
     arrived : (t : TrunkId) (z : ℕ) → Travels ((step_at w (Some n) (Arrive t x z)).world)
     arrived t z = arrives w x n (λ s. Travels s.world) (λ r. g) t z
         (λ i rest first at. ends (fm.insert w.lists (t, x) rest) (arrive_fresh (handshake_in i) t z (at_work n))
-        (popped_lists Sendable w.lists t x i rest first g.lists) (fresh_kept (λ u y. Unit {0}) X (λ u s o c r. side u s o c) (λ u y m o v. wrote u y m o) t tt (handshake_in i) z (at_work n) at (begins n k)))
+        (popped_lists Sendable w.lists t x i rest first g.lists) (fresh_kept (λ u y. Unit {0}) X (λ u s o c r. side u s o c)
+        (λ u y m o v. wrote u y m o) t tt (handshake_in i) z (at_work n) at (begins n k)))
         (λ i rest v first at over. ends (fm.insert w.lists (t, x) rest) (arrive_at (handshake_in i) t v i (at_work n))
         (popped_lists Sendable w.lists t x i rest first g.lists)
         (known_kept (λ u y. Unit {0}) X (λ u s o c r. side u s o c) (λ u y m o v. wrote u y m o) t v (at_work n) at (begins n k) i
@@ -401,7 +395,8 @@ travels_at w (Some n) (Local x) h g =
     while_up w x n (λ s. Travels s.world) (λ r. g) w.lists (take_local n n.local) (local_taken w x g n k n.local refl)
 travels_at w (Some n) (Lose t x) h g =
     let k = local_of w.nodes x n h g.locals in
-    while_up_ends w x g n (lose n t (fm.get n.sides t)) (lose_kept (λ u y. Unit {0}) X (λ u s o c r. side u s o c) (λ u y m o v. wrote u y m o) n t (fm.get n.sides t) refl (begins n k))
+    while_up_ends w x g n (lose n t (fm.get n.sides t))
+    (lose_kept (λ u y. Unit {0}) X (λ u s o c r. side u s o c) (λ u y m o v. wrote u y m o) n t (fm.get n.sides t) refl (begins n k))
 travels_at w (Some n) (Sweep x) h g =
     let k = local_of w.nodes x n h g.locals in while_up_ends w x g n (sweep n) (close_if_swept n (begins n k))
 travels_at w (Some n) (Dial x y z) h g =

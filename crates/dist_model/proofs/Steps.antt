@@ -1,37 +1,44 @@
 -- What the steps keep.
-use Rattle.std.proofs.Common.{◌≡◌, ◌≤◌, Bool, true, false, cond, not, List, [], ◌∷◌, ◌++◌, refl, sym, ap, ◌∙◌, subst, ◌&&◌, ◌||◌, Some, ◌⊎◌, inl, inr, append-nil}
+use Rattle.std.proofs.Common.{◌≡◌, ◌≤◌, Bool, true, false, cond, not, List, [], ◌∷◌, ◌++◌}
+use Rattle.std.proofs.Common.{refl, sym, ap, ◌∙◌, subst, ◌&&◌, Some, ◌⊎◌, inl, inr, append-nil}
+use Rattle.std.proofs.lemmas.Bool.{and_right, and_parts}
+use Rattle.std.proofs.lemmas.Option.{same_Some}
 use Rattle.std.specs.FinMap as fm
 use Rattle.dist_model.proofs.Envelopes.{outgoing}
 use Rattle.dist_model.proofs.Calls.{IfGoes, by_test, calls, takes_other}
-use Rattle.dist_model.proofs.Kept.{Kept}
-use Rattle.dist_model.proofs.Keys.{and_both, same_name_refl, same_name_true, same_pid_is, same_pid_true, same_trunk, same_trunk_is, same_trunk_true}
-use Rattle.dist_model.proofs.Moves.{AllRouted, Moves, NodeKept, Takes, held, reach_held, takes_link, with_sent}
-use Rattle.dist_model.proofs.Pair.{Side}
+use Rattle.dist_model.proofs.Keys.{same_name_refl, same_name_true, same_pid_is, same_pid_true, same_trunk, same_trunk_is, same_trunk_true}
+use Rattle.dist_model.proofs.Moves.{Moves, reach_held}
+use Rattle.dist_model.proofs.Posts.{AllRouted, NodeKept, held}
+use Rattle.dist_model.proofs.Takes.{Takes, takes_link, with_sent}
 use Rattle.dist_model.proofs.Pairs.{WorldKept, changed}
-use Rattle.dist_model.proofs.Routes.{at_place, list_to_carried, list_to_insert, node_of_name, some_same}
-use Rattle.dist_model.proofs.Sides.{SidesKept, asks, at_place_none, beside, half, holds, joined, joined_not_gone, not_own, reach_up, route_from, side_at, up_half, up_holds, up_not_gone}
+use Rattle.dist_model.proofs.Routes.{at_place, list_to_carried, list_to_insert, node_of_name}
+use Rattle.dist_model.proofs.Sides.{SidesKept, asks, at_place_none, beside, half, joined, joined_not_gone, not_own}
+use Rattle.dist_model.proofs.Sides.{reach_up, route_from, side_at, up_half, up_holds, up_not_gone, not_beside}
 use Rattle.dist_model.proofs.Views.{news-append, over, side_of, telling_news, view}
 use Rattle.dist_model.specs.Arrivals.{is_from, is_good, is_to}
 use Rattle.dist_model.specs.Calls.{call}
 use Rattle.dist_model.specs.Commands.{Accepts, Outcome, Refuses}
 use Rattle.dist_model.specs.declared.command.Command.{Command}
-use Rattle.dist_model.specs.Items.{Handshake, Item, Signalled, Tick, news, news_in, telling}
+use Rattle.dist_model.specs.Items.{Item, Signalled, news, news_in, telling}
 use Rattle.dist_model.specs.Linking.{take_link}
-use Rattle.dist_model.specs.Links.{Exited, LinkNews, Signals}
 use Rattle.dist_model.specs.Names.{Name, place_cmp, same_name, same_pid}
 use Rattle.dist_model.specs.Node.{Node, is_stranger, reaches, route_in}
-use Rattle.dist_model.specs.Sides.{Accepting, Asked, AwaitsAck, AwaitsChallenge, AwaitsStatus, Gone, Losing, Parked, State, TrunkSide, Up, is_up}
+use Rattle.dist_model.specs.Sides.{AwaitsAck, State, TrunkSide, Up, is_up}
 use Rattle.dist_model.specs.Taking.{take, take_item}
 use Rattle.dist_model.specs.Work.{Work, at_work}
 use Rattle.dist_model.specs.World.{World, carried, came_of, list_to, node_of, set_node}
 use Rattle.erl_control.specs.declared.signal.Signal.{Signal}
 use Rattle.erl_names.specs.declared.trunk.TrunkId.{TrunkId}
 use Rattle.erl_term.specs.declared.term.Pid.{Pid}
+use Rattle.link_core.proofs.Kept.{Kept}
+use Rattle.link_core.specs.News.{Exited, LinkNews, Signals}
+use Rattle.link_core.specs.Pair.{Side}
 use Rattle.link_core.specs.declared.end.LinkSignal.{LinkSignal}
 use Rattle.std.specs.FinMap.{FinMap}
 
 -- nothing is sent to the own node on a trunk
-pub own_none : (n : Node) (o : Work) (x : Name) (t : TrunkId) → SidesKept n → n.mint.name ≡ x → o.node.sides ≡ n.sides → AllRouted o.node.sides (outgoing o) → at_place t x (outgoing o) ≡ []
+pub own_none : (n : Node) (o : Work) (x : Name) (t : TrunkId) → SidesKept n → n.mint.name ≡ x → o.node.sides ≡ n.sides
+    → AllRouted o.node.sides (outgoing o) → at_place t x (outgoing o) ≡ []
 own_none n o x t k e sd ro = at_place_none o.node.sides (outgoing o) t x ro (λ r.
     let u = route_from n x t (ap (λ l. route_in (fm.entries l) x) (sym sd) ∙ r) in
     k.other t u.found u.there (u.peer ∙ sym e))
@@ -49,17 +56,22 @@ moved w x n o hx f k =
     let nm : n.mint.name ≡ x = node_of_name w.nodes x n hx in
     changed w x n o (carried w.lists o.effects) hx f.sides f.name (f.keeps kn) ro (λ t y d. list_to_carried w.lists o.effects t y)
     (λ t s fs j b p q pn qn old.
-    let same : list_to (carried w.lists o.effects) t x ≡ list_to w.lists t x = list_to_carried w.lists o.effects t x ∙ ap (λ l. list_to w.lists t x ++ l) (own_none n o x t sk nm f.sides ro) ∙ append-nil (list_to w.lists t x) in
-    let more : news p q (list_to (carried w.lists o.effects) t s.peer) ≡ news p q (list_to w.lists t s.peer) ++ news p q (at_place t s.peer (outgoing o)) =
+    let same : list_to (carried w.lists o.effects) t x ≡ list_to w.lists t x =
+    list_to_carried w.lists o.effects t x ∙ ap (λ l. list_to w.lists t x ++ l) (own_none n o x t sk nm f.sides ro)
+    ∙ append-nil (list_to w.lists t x) in
+    let more : news p q (list_to (carried w.lists o.effects) t s.peer) ≡ news p q (list_to w.lists t s.peer)
+    ++ news p q (at_place t s.peer (outgoing o)) =
     two_parts p q (list_to w.lists t s.peer) (at_place t s.peer (outgoing o)) _ (list_to_carried w.lists o.effects t s.peer) in
     subst (λ l. Kept (side_of o.node p q (news p q (list_to (carried w.lists o.effects) t s.peer))) (side_of b q p (news q p l))) (sym same)
     (subst (λ l. Kept (side_of o.node p q l) (side_of b q p (news q p (list_to w.lists t x)))) (sym more)
-    (half n o f.sides f.name kn (f.keeps kn) f.grows f.draws ro sk t s fs j p q qn (list_to w.lists t s.peer) (side_of b q p (news q p (list_to w.lists t x)))
+    (half n o f.sides f.name kn (f.keeps kn) f.grows f.draws ro sk t s fs j p q qn (list_to w.lists t s.peer)
+    (side_of b q p (news q p (list_to w.lists t x)))
     (λ l r. f.views kn l p q (side_of b q p (news q p (list_to w.lists t x))) r) old)))
     k
 
 -- any call
-pub call_kept : (w : World) (x : Name) (n : Node) (c : Command) → node_of w.nodes x ≡ Some n → WorldKept w → WorldKept ((came_of w x w.lists (call n c)).world)
+pub call_kept : (w : World) (x : Name) (n : Node) (c : Command) → node_of w.nodes x ≡ Some n → WorldKept w
+    → WorldKept ((came_of w x w.lists (call n c)).world)
 call_kept w x n c hx k = go (call n c) (calls n c)
   where
     go : (o : Outcome) → IfGoes o (Moves (at_work n)) → WorldKept ((came_of w x w.lists o).world)
@@ -70,28 +82,10 @@ call_kept w x n c hx k = go (call n c) (calls n c)
 not_same : (x y : Name) → (y ≡ x → ⊥) → same_name y x ≡ false
 not_same x y d = by_test _ (same_name y x) (λ h. absurd (d (same_name_true y x h))) (λ h. h)
 
-and_no : (a b : Bool) → b ≡ false → (a && b) ≡ false
-and_no true b h = h
-and_no false b h = refl
-
 joined_asks : (v : State) → joined v ≡ true → asks v ≡ false
 joined_asks (AwaitsAck w) h = refl
 joined_asks Up h = refl
-joined_asks (AwaitsStatus w) h = cc
-joined_asks (AwaitsChallenge w) h = cc
-joined_asks (Asked w) h = cc
-joined_asks (Parked w) h = cc
-joined_asks (Accepting w) h = cc
-joined_asks Losing h = cc
-joined_asks Gone h = cc
-
-pub not_beside : (a b : State) → asks a ≡ false → asks b ≡ false → beside a b ≡ true → ⊥
-not_beside a b ha hb h = let n : true ≡ false = sym h ∙ go (holds a) (asks b) (asks a) (holds b) ha hb in cc
-  where
-    go : (p q r s : Bool) → r ≡ false → q ≡ false → ((p && q) || (r && s)) ≡ false
-    go true q false s hr hq = ap (λ v. v || false) hq
-    go false q false s hr hq = refl
-    go p q true s hr hq = cc
+joined_asks _ h = cc
 
 pub signal_miss : (a b q p : Pid) (s : LinkNews) → (same_pid a q && same_pid b p) ≡ false → news_in q p (Signalled (telling a b s)) ≡ []
 signal_miss a b q p s h = telling_news a b q p s ∙ ap (λ t. cond t (s ∷ []) []) h
@@ -99,13 +93,17 @@ signal_miss a b q p s h = telling_news a b q p s ∙ ap (λ t. cond t (s ∷ [])
 pub signal_hit : (a b q p : Pid) (s : LinkNews) → (same_pid a q && same_pid b p) ≡ true → news_in q p (Signalled (telling a b s)) ≡ s ∷ []
 signal_hit a b q p s h = telling_news a b q p s ∙ ap (λ t. cond t (s ∷ []) []) h
 
-module _ (w : World) (x : Name) (n : Node) (t0 : TrunkId) (s0 : TrunkSide) (i : Item) (rest : List Item) (o : Work) (hx : node_of w.nodes x ≡ Some n)
+module _ (w : World) (x : Name) (n : Node) (t0 : TrunkId) (s0 : TrunkSide) (i : Item) (rest : List Item) (o : Work)
+    (hx : node_of w.nodes x ≡ Some n)
     (h0 : side_at n t0 ≡ Some s0) (u0 : is_up s0.state ≡ true) (first : list_to w.lists t0 x ≡ i ∷ rest) (k : WorldKept w)
     (sd : o.node.sides ≡ n.sides) (nm : o.node.mint.name ≡ n.mint.name) (ko : NodeKept o.node)
-    (gr : (p : Pid) → over n p ≡ true → over o.node p ≡ true) (dr : n.mint.unlink_ids ≤ o.node.mint.unlink_ids) (ro : AllRouted o.node.sides (outgoing o))
+    (gr : (p : Pid) → over n p ≡ true → over o.node p ≡ true) (dr : n.mint.unlink_ids ≤ o.node.mint.unlink_ids)
+    (ro : AllRouted o.node.sides (outgoing o))
     -- what it does to each pair: at a pair that it is about, the signal is taken
-    (views : (p q : Pid) (b : List LinkNews) (c : Side) → news_in q p i ≡ [] → reaches n q.node ≡ true → Kept (view b (at_work n) p q) c → Kept (view b o p q) c)
-    (taking : (p q : Pid) (b : List LinkNews) (c : Side) (s : LinkNews) (L : List LinkNews) → news_in q p i ≡ s ∷ [] → reaches n q.node ≡ true → Kept (view b (at_work n) p q) (with_sent c (s ∷ L)) → Kept (view b o p q) (with_sent c L))
+    (views : (p q : Pid) (b : List LinkNews) (c : Side) → news_in q p i ≡ [] → reaches n q.node ≡ true
+    → Kept (view b (at_work n) p q) c → Kept (view b o p q) c)
+    (taking : (p q : Pid) (b : List LinkNews) (c : Side) (s : LinkNews) (L : List LinkNews) → news_in q p i ≡ s ∷ []
+    → reaches n q.node ≡ true → Kept (view b (at_work n) p q) (with_sent c (s ∷ L)) → Kept (view b o p q) (with_sent c L))
     (about : (p q : Pid) → (news_in q p i ≡ []) ⊎ ((s : LinkNews) × (news_in q p i ≡ s ∷ []) × (q.node ≡ s0.peer))) where
   m1 : FinMap place_cmp (List Item)
   m1 = fm.insert w.lists (t0, x) rest
@@ -119,14 +117,18 @@ module _ (w : World) (x : Name) (n : Node) (t0 : TrunkId) (s0 : TrunkSide) (i : 
   sk : SidesKept n
   sk = k.sides x n hx
 
-  others_stay : (t : TrunkId) (y : Name) → (y ≡ x → ⊥) → list_to (carried m1 o.effects) t y ≡ list_to w.lists t y ++ at_place t y (outgoing o)
+  others_stay : (t : TrunkId) (y : Name) → (y ≡ x → ⊥)
+      → list_to (carried m1 o.effects) t y ≡ list_to w.lists t y ++ at_place t y (outgoing o)
   unfolding m1
   others_stay t y d = list_to_carried m1 o.effects t y ∙ ap (λ l. l ++ at_place t y (outgoing o))
-      (list_to_insert w.lists t0 x rest t y ∙ ap (λ b. cond b rest (list_to w.lists t y)) (and_no (same_trunk t t0) (same_name y x) (not_same x y d)))
+      (list_to_insert w.lists t0 x rest t y
+      ∙ ap (λ b. cond b rest (list_to w.lists t y)) (and_right (same_trunk t t0) (same_name y x) (not_same x y d)))
 
   own_list : (t : TrunkId) → list_to (carried m1 o.effects) t x ≡ cond (same_trunk t t0 && same_name x x) rest (list_to w.lists t x)
   unfolding m1
-  own_list t = list_to_carried m1 o.effects t x ∙ ap (λ l. list_to m1 t x ++ l) (own_none n o x t sk nx sd ro) ∙ append-nil (list_to m1 t x) ∙ list_to_insert w.lists t0 x rest t x
+  own_list t =
+      list_to_carried m1 o.effects t x ∙ ap (λ l. list_to m1 t x ++ l) (own_none n o x t sk nx sd ro)
+      ∙ append-nil (list_to m1 t x) ∙ list_to_insert w.lists t0 x rest t x
 
   -- only the trunk itself leads to the sender's node
   same_one : (t : TrunkId) (s : TrunkSide) → side_at n t ≡ Some s → joined s.state ≡ true → s.peer ≡ s0.peer → t ≡ t0
@@ -138,36 +140,47 @@ module _ (w : World) (x : Name) (n : Node) (t0 : TrunkId) (s0 : TrunkSide) (i : 
 
   halves : (t : TrunkId) (s : TrunkSide) → side_at n t ≡ Some s → joined s.state ≡ true → (p q : Pid) → q.node ≡ s.peer → (c : Side)
       → ((b : List LinkNews) → reaches n q.node ≡ true → Kept (view b (at_work n) p q) c → Kept (view b o p q) c)
-      → Kept (side_of n p q (news p q (list_to w.lists t s.peer))) c → Kept (side_of o.node p q (news p q (list_to (carried m1 o.effects) t s.peer))) c
+      → Kept (side_of n p q (news p q (list_to w.lists t s.peer))) c
+      → Kept (side_of o.node p q (news p q (list_to (carried m1 o.effects) t s.peer))) c
   halves t s fs j p q qn c vs old =
       let d : s.peer ≡ x → ⊥ = λ e. sk.other t s fs (e ∙ sym nx) in
-      subst (λ l. Kept (side_of o.node p q l) c) (sym (two_parts p q (list_to w.lists t s.peer) (at_place t s.peer (outgoing o)) _ (others_stay t s.peer d)))
+      subst (λ l. Kept (side_of o.node p q l) c)
+      (sym (two_parts p q (list_to w.lists t s.peer) (at_place t s.peer (outgoing o)) _ (others_stay t s.peer d)))
       (half n o sd nm kn ko gr dr ro sk t s fs j p q qn (list_to w.lists t s.peer) c vs old)
 
-  mover : (t : TrunkId) (s : TrunkSide) → side_at n t ≡ Some s → joined s.state ≡ true → (b : Node) (p q : Pid) → p.node ≡ x → q.node ≡ s.peer
+  mover : (t : TrunkId) (s : TrunkSide) → side_at n t ≡ Some s → joined s.state ≡ true → (b : Node) (p q : Pid) → p.node ≡ x
+      → q.node ≡ s.peer
       → Kept (side_of n p q (news p q (list_to w.lists t s.peer))) (side_of b q p (news q p (list_to w.lists t x)))
-      → Kept (side_of o.node p q (news p q (list_to (carried m1 o.effects) t s.peer))) (side_of b q p (news q p (list_to (carried m1 o.effects) t x)))
+      → Kept (side_of o.node p q (news p q (list_to (carried m1 o.effects) t s.peer)))
+      (side_of b q p (news q p (list_to (carried m1 o.effects) t x)))
   mover t s fs j b p q pn qn old = by_test _ (same_trunk t t0)
       (λ e.
       let te : t ≡ t0 = same_trunk_true t t0 e in
-      let se : s ≡ s0 = some_same s s0 (sym fs ∙ ap (side_at n) te ∙ h0) in
+      let se : s ≡ s0 = same_Some s s0 (sym fs ∙ ap (side_at n) te ∙ h0) in
       let us : is_up s.state ≡ true = ap (λ (v : TrunkSide). is_up v.state) se ∙ u0 in
-      let l1 : list_to (carried m1 o.effects) t x ≡ rest = own_list t ∙ ap (λ v. cond (v && same_name x x) rest (list_to w.lists t x)) e ∙ ap (λ v. cond v rest (list_to w.lists t x)) (same_name_refl x) in
+      let l1 : list_to (carried m1 o.effects) t x ≡ rest =
+      own_list t ∙ ap (λ v. cond (v && same_name x x) rest (list_to w.lists t x)) e
+      ∙ ap (λ v. cond v rest (list_to w.lists t x)) (same_name_refl x) in
       let l0 : list_to w.lists t x ≡ i ∷ rest = ap (λ v. list_to w.lists v x) te ∙ first in
       let old2 : Kept (side_of n p q (news p q (list_to w.lists t s.peer))) (side_of b q p (news_in q p i ++ news q p rest)) =
       subst (λ l. Kept (side_of n p q (news p q (list_to w.lists t s.peer))) (side_of b q p (news q p l))) l0 old in
       subst (λ l. Kept (side_of o.node p q (news p q (list_to (carried m1 o.effects) t s.peer))) (side_of b q p (news q p l))) (sym l1)
       (on_it t s fs j us b p q qn old2 (about p q)))
       (λ e.
-      let l1 : list_to (carried m1 o.effects) t x ≡ list_to w.lists t x = own_list t ∙ ap (λ v. cond (v && same_name x x) rest (list_to w.lists t x)) e in
+      let l1 : list_to (carried m1 o.effects) t x ≡ list_to w.lists t x =
+      own_list t ∙ ap (λ v. cond (v && same_name x x) rest (list_to w.lists t x)) e in
       subst (λ l. Kept (side_of o.node p q (news p q (list_to (carried m1 o.effects) t s.peer))) (side_of b q p (news q p l))) (sym l1)
-      (halves t s fs j p q qn (side_of b q p (news q p (list_to w.lists t x))) (λ l r. views p q l _ (not_about t s fs j p q qn e (about p q)) r) old))
+      (halves t s fs j p q qn (side_of b q p (news q p (list_to w.lists t x)))
+      (λ l r. views p q l _ (not_about t s fs j p q qn e (about p q)) r) old))
     where
-      not_about : (t : TrunkId) (s : TrunkSide) → side_at n t ≡ Some s → joined s.state ≡ true → (p q : Pid) → q.node ≡ s.peer → same_trunk t t0 ≡ false → (news_in q p i ≡ []) ⊎ ((s : LinkNews) × (news_in q p i ≡ s ∷ []) × (q.node ≡ s0.peer)) → news_in q p i ≡ []
+      not_about : (t : TrunkId) (s : TrunkSide) → side_at n t ≡ Some s → joined s.state ≡ true → (p q : Pid) → q.node ≡ s.peer
+          → same_trunk t t0 ≡ false → (news_in q p i ≡ []) ⊎ ((s : LinkNews) × (news_in q p i ≡ s ∷ []) × (q.node ≡ s0.peer))
+          → news_in q p i ≡ []
       not_about t s fs j p q qn e (inl h) = h
       not_about t s fs j p q qn e (inr h) = let c : true ≡ false = sym (same_trunk_is t t0 (same_one t s fs j (sym qn ∙ h.2))) ∙ e in cc
 
-      on_it : (t : TrunkId) (s : TrunkSide) → side_at n t ≡ Some s → joined s.state ≡ true → is_up s.state ≡ true → (b : Node) (p q : Pid) → q.node ≡ s.peer
+      on_it : (t : TrunkId) (s : TrunkSide) → side_at n t ≡ Some s → joined s.state ≡ true → is_up s.state ≡ true
+          → (b : Node) (p q : Pid) → q.node ≡ s.peer
           → Kept (side_of n p q (news p q (list_to w.lists t s.peer))) (side_of b q p (news_in q p i ++ news q p rest))
           → (news_in q p i ≡ []) ⊎ ((s : LinkNews) × (news_in q p i ≡ s ∷ []) × (q.node ≡ s0.peer))
           → Kept (side_of o.node p q (news p q (list_to (carried m1 o.effects) t s.peer))) (side_of b q p (news q p rest))
@@ -175,21 +188,24 @@ module _ (w : World) (x : Name) (n : Node) (t0 : TrunkId) (s0 : TrunkSide) (i : 
           (subst (λ l. Kept (side_of n p q (news p q (list_to w.lists t s.peer))) (side_of b q p (l ++ news q p rest))) h old)
       on_it t s fs j us b p q qn old (inr h) =
           let d : s.peer ≡ x → ⊥ = λ e. sk.other t s fs (e ∙ sym nx) in
-          subst (λ l. Kept (side_of o.node p q l) (side_of b q p (news q p rest))) (sym (two_parts p q (list_to w.lists t s.peer) (at_place t s.peer (outgoing o)) _ (others_stay t s.peer d)))
-          (up_half n o sd nm kn ko gr dr ro sk t s fs us p q qn (list_to w.lists t s.peer) (side_of b q p (h.0 ∷ news q p rest)) (side_of b q p (news q p rest))
+          subst (λ l. Kept (side_of o.node p q l) (side_of b q p (news q p rest)))
+          (sym (two_parts p q (list_to w.lists t s.peer) (at_place t s.peer (outgoing o)) _ (others_stay t s.peer d)))
+          (up_half n o sd nm kn ko gr dr ro sk t s fs us p q qn (list_to w.lists t s.peer)
+          (side_of b q p (h.0 ∷ news q p rest)) (side_of b q p (news q p rest))
           (λ l r. taking p q l (side_of b q p (news q p rest)) h.0 (news q p rest) h.1 r)
           (subst (λ l. Kept (side_of n p q (news p q (list_to w.lists t s.peer))) (side_of b q p (l ++ news q p rest))) h.1 old))
 
-  pub arrived : WorldKept (record { names = w.names; nodes = set_node w.nodes x o.node; lists = carried (fm.insert w.lists (t0, x) rest) o.effects })
+  pub arrived : WorldKept
+      (record { names = w.names; nodes = set_node w.nodes x o.node; lists = carried (fm.insert w.lists (t0, x) rest) o.effects })
   unfolding m1
   arrived = changed w x n o (carried m1 o.effects) hx sd nm ko ro others_stay mover k
 
 -- any signal on a trunk that is up
 pub is_from_peer : (s : TrunkSide) (q : Pid) → is_from s q ≡ true → q.node ≡ s.peer
-is_from_peer s q h = same_name_true q.node s.peer (and_both (same_name q.node s.peer) _ h).0
+is_from_peer s q h = same_name_true q.node s.peer (and_parts (same_name q.node s.peer) _ h).0
 
 pub not_never : (n : Node) (p : Pid) → is_to n p ≡ true → is_stranger n p ≡ false
-not_never n p h = go (is_stranger n p) (and_both (same_name p.node n.mint.name) (not (is_stranger n p)) h).1
+not_never n p h = go (is_stranger n p) (and_parts (same_name p.node n.mint.name) (not (is_stranger n p)) h).1
   where
     go : (b : Bool) → not b ≡ true → b ≡ false
     go true h = cc
@@ -198,15 +214,11 @@ not_never n p h = go (is_stranger n p) (and_both (same_name p.node n.mint.name) 
 -- who takes it
 pub taken_link : (q p : Pid) (s : LinkNews) (o : Work) → take (telling q p s) o ≡ take_link p q s o
 taken_link q p (Signals LinkSignal.Link) o = refl
-taken_link q p (Signals (LinkSignal.Unlink i)) o = refl
-taken_link q p (Signals (LinkSignal.Ack i)) o = refl
-taken_link q p (Exited r) o = refl
+taken_link q p _ o = refl
 
 pub good_link : (n : Node) (v : TrunkSide) (q p : Pid) (s : LinkNews) → is_good n v (Signalled (telling q p s)) ≡ (is_from v q && is_to n p)
 good_link n v q p (Signals LinkSignal.Link) = refl
-good_link n v q p (Signals (LinkSignal.Unlink i)) = refl
-good_link n v q p (Signals (LinkSignal.Ack i)) = refl
-good_link n v q p (Exited r) = refl
+good_link n v q p _ = refl
 
 -- about a link, or not
 pub kind : (i : Item) → ((p q : Pid) → news_in p q i ≡ []) ⊎ ((q : Pid) × (p : Pid) × (s : LinkNews) × (i ≡ Signalled (telling q p s)))
@@ -214,18 +226,16 @@ kind (Signalled (Signal.Link q p)) = inr (q, p, Signals LinkSignal.Link, refl)
 kind (Signalled (Signal.Exit q p r)) = inr (q, p, Exited r, refl)
 kind (Signalled (Signal.UnlinkId i q p)) = inr (q, p, Signals (LinkSignal.Unlink i), refl)
 kind (Signalled (Signal.UnlinkIdAck i q p)) = inr (q, p, Signals (LinkSignal.Ack i), refl)
-kind (Signalled (Signal.Send p t)) = inl (λ a b. refl)
-kind (Signalled (Signal.Exit2 q p r)) = inl (λ a b. refl)
-kind (Signalled (Signal.Monitor q p r)) = inl (λ a b. refl)
-kind (Signalled (Signal.Demonitor q p r)) = inl (λ a b. refl)
-kind (Signalled (Signal.MonitorExit q p r e)) = inl (λ a b. refl)
-kind (Handshake m) = inl (λ a b. refl)
-kind Tick = inl (λ a b. refl)
+kind _ = inl (λ a b. refl)
 
 module _ (w : World) (x : Name) (n : Node) (t0 : TrunkId) (s0 : TrunkSide) (rest : List Item) (hx : node_of w.nodes x ≡ Some n)
     (h0 : side_at n t0 ≡ Some s0) (u0 : is_up s0.state ≡ true) (k : WorldKept w) where
   plain : (i : Item) → list_to w.lists t0 x ≡ i ∷ rest → ((p q : Pid) → news_in p q i ≡ [])
-      → WorldKept (record { names = w.names; nodes = set_node w.nodes x ((take_item i (at_work n)).node); lists = carried (fm.insert w.lists (t0, x) rest) ((take_item i (at_work n)).effects) })
+      → WorldKept (record {
+        names = w.names;
+        nodes = set_node w.nodes x ((take_item i (at_work n)).node);
+        lists = carried (fm.insert w.lists (t0, x) rest) ((take_item i (at_work n)).effects);
+      })
   plain i first none =
       let f = takes_other i (at_work n) none in
       let kn = k.nodes x n hx in
@@ -235,45 +245,68 @@ module _ (w : World) (x : Name) (n : Node) (t0 : TrunkId) (s0 : TrunkSide) (rest
       (λ p q. inl (none q p))
 
   linking : (q0 p0 : Pid) (s : LinkNews) → list_to w.lists t0 x ≡ Signalled (telling q0 p0 s) ∷ rest → (is_from s0 q0 && is_to n p0) ≡ true
-      → WorldKept (record { names = w.names; nodes = set_node w.nodes x ((take_link p0 q0 s (at_work n)).node); lists = carried (fm.insert w.lists (t0, x) rest) ((take_link p0 q0 s (at_work n)).effects) })
+      → WorldKept (record {
+        names = w.names;
+        nodes = set_node w.nodes x ((take_link p0 q0 s (at_work n)).node);
+        lists = carried (fm.insert w.lists (t0, x) rest) ((take_link p0 q0 s (at_work n)).effects);
+      })
   linking q0 p0 s first good =
-      let g = and_both (is_from s0 q0) (is_to n p0) good in
+      let g = and_parts (is_from s0 q0) (is_to n p0) good in
       let from : q0.node ≡ s0.peer = is_from_peer s0 q0 g.0 in
-      let f = takes_link p0 q0 s (at_work n) (λ e. absurd (let c : true ≡ false = sym e ∙ ap (λ y. same_name y n.mint.name) from ∙ not_own n t0 s0 (k.sides x n hx) h0 in cc)) (not_never n p0 g.1) in
+      let f =
+      takes_link p0 q0 s (at_work n)
+      (λ e. absurd (let c : true ≡ false = sym e ∙ ap (λ y. same_name y n.mint.name) from ∙ not_own n t0 s0 (k.sides x n hx) h0 in cc))
+      (not_never n p0 g.1) in
       let kn = k.nodes x n hx in
       let hd : held n q0.node ≡ true = ap (held n) from ∙ reach_held n s0.peer (reach_up n t0 s0 (k.sides x n hx) h0 u0) in
-      arrived w x n t0 s0 (Signalled (telling q0 p0 s)) rest (take_link p0 q0 s (at_work n)) hx h0 u0 first k f.sides f.name (f.keeps kn hd) f.grows f.draws (f.routed tt)
+      arrived w x n t0 s0 (Signalled (telling q0 p0 s)) rest (take_link p0 q0 s (at_work n)) hx h0 u0 first k f.sides f.name
+      (f.keeps kn hd) f.grows f.draws (f.routed tt)
       (λ p q b c e r. f.others kn hd b p q c r (miss p q e))
       (λ p q b c u l e r. hit p q b c u l e r f kn hd)
       (λ p q. by_test _ (same_pid q0 q && same_pid p0 p)
-      (λ h. inr (s, signal_hit q0 p0 q p s h, ap (λ (v : Pid). v.node) (sym (same_pid_true q0 q (and_both (same_pid q0 q) (same_pid p0 p) h).0)) ∙ from))
+      (λ h. inr (
+        s,
+        signal_hit q0 p0 q p s h,
+        ap (λ (v : Pid). v.node) (sym (same_pid_true q0 q (and_parts (same_pid q0 q) (same_pid p0 p) h).0)) ∙ from,
+      ))
       (λ h. inl (signal_miss q0 p0 q p s h)))
     where
       miss : (p q : Pid) → news_in q p (Signalled (telling q0 p0 s)) ≡ [] → (same_pid p p0 && same_pid q q0) ≡ false
       miss p q e = by_test _ (same_pid p p0 && same_pid q q0)
           (λ h.
-          let v = and_both (same_pid p p0) (same_pid q q0) h in
-          let c : (same_pid q0 q && same_pid p0 p) ≡ true = ap (λ t. t && same_pid p0 p) (same_pid_is q0 q (sym (same_pid_true q q0 v.1))) ∙ same_pid_is p0 p (sym (same_pid_true p p0 v.0)) in
+          let v = and_parts (same_pid p p0) (same_pid q q0) h in
+          let c : (same_pid q0 q && same_pid p0 p) ≡ true =
+          ap (λ t. t && same_pid p0 p) (same_pid_is q0 q (sym (same_pid_true q q0 v.1)))
+          ∙ same_pid_is p0 p (sym (same_pid_true p p0 v.0)) in
           let z : s ∷ [] ≡ [] = sym (signal_hit q0 p0 q p s c) ∙ e in cc)
           (λ h. h)
 
-      hit : (p q : Pid) (b : List LinkNews) (c : Side) (u : LinkNews) (l : List LinkNews) → news_in q p (Signalled (telling q0 p0 s)) ≡ u ∷ [] → reaches n q.node ≡ true → Takes p0 q0 s (at_work n) (take_link p0 q0 s (at_work n)) → NodeKept n → held n q0.node ≡ true
+      hit : (p q : Pid) (b : List LinkNews) (c : Side) (u : LinkNews) (l : List LinkNews)
+          → news_in q p (Signalled (telling q0 p0 s)) ≡ u ∷ [] → reaches n q.node ≡ true
+          → Takes p0 q0 s (at_work n) (take_link p0 q0 s (at_work n)) → NodeKept n → held n q0.node ≡ true
           → Kept (view b (at_work n) p q) (with_sent c (u ∷ l)) → Kept (view b (take_link p0 q0 s (at_work n)) p q) (with_sent c l)
       hit p q b c u l e r f kn hd old = by_test _ (same_pid q0 q && same_pid p0 p)
           (λ h.
-          let v = and_both (same_pid q0 q) (same_pid p0 p) h in
+          let v = and_parts (same_pid q0 q) (same_pid p0 p) h in
           let qe : q0 ≡ q = same_pid_true q0 q v.0 in
           let pe : p0 ≡ p = same_pid_true p0 p v.1 in
           let both : s ∷ [] ≡ u ∷ [] = sym (signal_hit q0 p0 q p s h) ∙ e in
           let ue : u ≡ s = cc in
-          subst (λ z. Kept (view b (take_link p0 q0 s (at_work n)) z q) (with_sent c l)) pe (subst (λ z. Kept (view b (take_link p0 q0 s (at_work n)) p0 z) (with_sent c l)) qe
+          subst (λ z. Kept (view b (take_link p0 q0 s (at_work n)) z q) (with_sent c l)) pe
+          (subst (λ z. Kept (view b (take_link p0 q0 s (at_work n)) p0 z) (with_sent c l)) qe
           (f.here kn hd b c l (ap (λ (z : Pid). reaches n z.node) qe ∙ r)
-          (subst (λ z. Kept (view b (at_work n) p0 z) (with_sent c (s ∷ l))) (sym qe) (subst (λ z. Kept (view b (at_work n) z q) (with_sent c (s ∷ l))) (sym pe)
+          (subst (λ z. Kept (view b (at_work n) p0 z) (with_sent c (s ∷ l))) (sym qe)
+          (subst (λ z. Kept (view b (at_work n) z q) (with_sent c (s ∷ l))) (sym pe)
           (subst (λ z. Kept (view b (at_work n) p q) (with_sent c (z ∷ l))) ue old))))))
           (λ h. let z : u ∷ [] ≡ [] = sym e ∙ signal_miss q0 p0 q p s h in cc)
 
   abbrev taken : Item → Type 0
-  taken i = WorldKept (record { names = w.names; nodes = set_node w.nodes x ((take_item i (at_work n)).node); lists = carried (fm.insert w.lists (t0, x) rest) ((take_item i (at_work n)).effects) })
+  taken i =
+      WorldKept (record {
+        names = w.names;
+        nodes = set_node w.nodes x ((take_item i (at_work n)).node);
+        lists = carried (fm.insert w.lists (t0, x) rest) ((take_item i (at_work n)).effects);
+      })
 
   -- an item that passes the checks
   pub good_item : (i : Item) → list_to w.lists t0 x ≡ i ∷ rest → is_good n s0 i ≡ true → taken i
@@ -282,5 +315,9 @@ module _ (w : World) (x : Name) (n : Node) (t0 : TrunkId) (s0 : TrunkSide) (rest
       go : ((p q : Pid) → news_in p q i ≡ []) ⊎ ((q : Pid) × (p : Pid) × (s : LinkNews) × (i ≡ Signalled (telling q p s))) → taken i
       go (inl h) = plain i first h
       go (inr h) = subst (λ z. taken z) (sym h.3)
-          (subst (λ (z : Work). WorldKept (record { names = w.names; nodes = set_node w.nodes x z.node; lists = carried (fm.insert w.lists (t0, x) rest) z.effects })) (sym (taken_link h.0 h.1 h.2 (at_work n)))
+          (subst (λ (z : Work). WorldKept (record {
+            names = w.names;
+            nodes = set_node w.nodes x z.node;
+            lists = carried (fm.insert w.lists (t0, x) rest) z.effects;
+          })) (sym (taken_link h.0 h.1 h.2 (at_work n)))
           (linking h.0 h.1 h.2 (first ∙ ap (λ z. z ∷ rest) h.3) (sym (good_link n s0 h.0 h.1 h.2) ∙ sym (ap (is_good n s0) h.3) ∙ good)))

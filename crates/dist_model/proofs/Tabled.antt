@@ -24,35 +24,29 @@ module _ (n : Node) (p q : Pid) where
       post_keeps (λ m. end_of m p q) (λ m l. refl) (receiver_of s).node (Signalled s) (set_end p q e o) ∙ end_set_same o.node.ends p q e
 
   link_made : reaches n q.node ≡ true → (e : End) → link_by e p q (at_work n) ≡ links_by_table e p q (at_work n)
-  link_made r End.None = ap (λ b. link_new b p q (at_work n)) r
   link_made r End.Active = refl
-  link_made r (End.Pending i) = ap (λ b. link_new b p q (at_work n)) r
+  link_made r _ = ap (λ b. link_new b p q (at_work n)) r
 
   linked_made : (e : End) → end_of n p q ≡ e → end_of ((links_by_table e p q (at_work n)).node) p q ≡ linked e
-  linked_made End.None h = set_and_posted End.Active (Signal.Link p q) (at_work n)
   linked_made End.Active h = h
-  linked_made (End.Pending i) h = set_and_posted End.Active (Signal.Link p q) (at_work n)
+  linked_made _ h = set_and_posted End.Active (Signal.Link p q) (at_work n)
 
   unlink_made : (id : ℕ) → id_of n.mint kind.UnlinkId ≡ Some id → (e : End)
       → unlink_by e p q (at_work n) ≡ Accepts Answer.Done (unlinks_by_table e id p q (at_work n))
-  unlink_made id h End.None = refl
   unlink_made id h End.Active = ap (λ o. with_id o (λ i. Accepts Answer.Done (unlink_as i p q (at_work n)))) h
-  unlink_made id h (End.Pending i) = refl
+  unlink_made id h _ = refl
 
   unlinked_made : (id : ℕ) (e : End) → end_of n p q ≡ e → end_of ((unlinks_by_table e id p q (at_work n)).node) p q ≡ unlinked e id
-  unlinked_made id End.None h = h
   unlinked_made id End.Active h = set_and_posted (End.Pending id) (Signal.UnlinkId id p q) (draw kind.UnlinkId (at_work n))
-  unlinked_made id (End.Pending i) h = h
+  unlinked_made id _ h = h
 
   unlink_stays : (e : End) → is_active e ≡ false → unlink_by e p q (at_work n) ≡ Accepts Answer.Done (at_work n)
-  unlink_stays End.None h = refl
   unlink_stays End.Active h = cc
-  unlink_stays (End.Pending i) h = refl
+  unlink_stays _ h = refl
 
   unlink_refused : (e : End) → e ≡ End.Active → id_of n.mint kind.UnlinkId ≡ None → unlink_by e p q (at_work n) ≡ Refuses Refusal.IdsUsedUp
-  unlink_refused End.None a h = cc
   unlink_refused End.Active a h = ap (λ o. with_id o (λ i. Accepts Answer.Done (unlink_as i p q (at_work n)))) h
-  unlink_refused (End.Pending i) a h = cc
+  unlink_refused _ a h = cc
 
   pub link_follows : reaches n q.node ≡ true → link_by (end_of n p q) p q (at_work n) ≡ links_by_table (end_of n p q) p q (at_work n)
   link_follows r = link_made r (end_of n p q)

@@ -76,4 +76,5 @@ after_name _ trunk side word work = admit trunk side word work
 -- the acceptor's turn says whether it is the dialer's name, with the flags. The word becomes the side's challenge
 abbrev pub hears_name : TrunkId → ShakeMsg → ℕ → Work → Outcome
 hears_name trunk message word work =
-    after_name (acceptor_turn (identity work.node) trunk.dialer AcceptorState.AwaitsName message word).next.progress trunk (new_side trunk message) word work
+    after_name (acceptor_turn (identity work.node) trunk.dialer AcceptorState.AwaitsName message word).next.progress trunk
+    (new_side trunk message) word work

@@ -69,7 +69,8 @@ arrive_first (Some item) trunk side work = arrive_at (handshake_in item) trunk s
 abbrev pub arrive : Node → TrunkId → Option TrunkSide → (first : Option Item) → ℕ → Outcome
 arrive node trunk None None word = Refuses Refusal.NotLive
 arrive node trunk None (Some item) word = arrive_fresh (handshake_in item) trunk word (at_work node)
-arrive node trunk (Some side) first word = if is_over side.state then Refuses Refusal.NotLive else arrive_first first trunk side (at_work node)
+arrive node trunk (Some side) first word =
+    if is_over side.state then Refuses Refusal.NotLive else arrive_first first trunk side (at_work node)
 
 -- ---- the first item of the own list comes
 

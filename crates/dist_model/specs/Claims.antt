@@ -3,7 +3,6 @@ use Rattle.std.specs.Prelude.{if◌then◌else◌, List, [], ◌∷◌, ◌++◌
 use Rattle.std.specs.Ordering.{eq_by_cmp}
 use Rattle.std.specs.FinMap as fm
 use Rattle.dist_model.specs.Items.{Item, Signalled, news}
-use Rattle.dist_model.specs.Links.{Signals, drained, last_said}
 use Rattle.dist_model.specs.Names.{Name, place_cmp}
 use Rattle.dist_model.specs.NodeEvents.{at_node}
 use Rattle.dist_model.specs.Commands.{Accepts, Refuses}
@@ -15,12 +14,14 @@ use Rattle.dist_model.specs.Node.{Node, living, is_stranger, Ended}
 use Rattle.dist_model.specs.Quiet.{Quiet}
 use Rattle.dist_model.specs.Seen.{AreConnected, HasSide, end_between, is_connected, is_living, local_list}
 use Rattle.dist_model.specs.Sides.{is_losing, is_up}
-use Rattle.dist_model.specs.World.{Arrive, Event, Refused, Report, Reported, Stepped, World, list_to, met, node_name, node_of, refused, step, Local, Start}
+use Rattle.dist_model.specs.World.{Arrive, Event, Refused, Report, Reported, Stepped, World}
+use Rattle.dist_model.specs.World.{list_to, met, node_name, node_of, refused, step, Local, Start}
 use Rattle.erl_control.specs.Control.{IsSendable}
 use Rattle.erl_control.specs.declared.signal.Signal.{Signal}
 use Rattle.erl_names.specs.declared.trunk.TrunkId.{TrunkId}
 use Rattle.erl_term.specs.Data.{Data}
 use Rattle.erl_term.specs.declared.term.Pid.{Pid}
+use Rattle.link_core.specs.News.{Signals, drained, last_said}
 use Rattle.link_core.specs.declared.end.End.{End}
 use Rattle.link_core.specs.declared.end.LinkSignal.{LinkSignal}
 

@@ -30,7 +30,8 @@ exits p reason = flat_map (λ link. exit_for p reason link.0 link.1)
 
 -- MONITOR_P_EXIT to the owner of each monitor that others have of it
 abbrev pub monitor_exits : Pid → Data → List (Reference × Monitor) → List Signal
-monitor_exits p reason = flat_map (λ entry. if same_pid entry.1.target p then Signal.MonitorExit p entry.1.owner entry.0 reason ∷ [] else [])
+monitor_exits p reason =
+    flat_map (λ entry. if same_pid entry.1.target p then Signal.MonitorExit p entry.1.owner entry.0 reason ∷ [] else [])
 
 -- DEMONITOR_P for each of its own monitors
 abbrev pub demonitors : Pid → List (Reference × Monitor) → List Signal

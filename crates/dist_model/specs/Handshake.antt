@@ -10,7 +10,8 @@ use Rattle.dist_model.specs.declared.report.Answer.{Answer}
 use Rattle.dist_model.specs.Items.{Handshake, kind_of}
 use Rattle.dist_model.specs.Names.{Name}
 use Rattle.dist_model.specs.Node.{Node, side_where}
-use Rattle.dist_model.specs.Sides.{Accepting, Asked, AwaitsAck, AwaitsChallenge, AwaitsStatus, Gone, Losing, Parked, State, TrunkSide, Up, in_state, is_losing, is_up, lost}
+use Rattle.dist_model.specs.Sides.{Accepting, Asked, AwaitsAck, AwaitsChallenge, AwaitsStatus, Gone}
+use Rattle.dist_model.specs.Sides.{Losing, Parked, State, TrunkSide, Up, in_state, is_losing, is_up, lost}
 use Rattle.dist_model.specs.Work.{Work, send_on}
 use Rattle.conn_core.specs.declared.arrival.Fault.{Fault}
 use Rattle.erl_handshake.specs.declared.fault.ShakeFault.{ShakeFault}
@@ -101,7 +102,8 @@ challenge_or_park None trunk side word work = send_challenge trunk side word wor
 challenge_or_park (Some losing) trunk side word work = set_state trunk side (Parked word) work
 
 abbrev pub send_challenge_or_park : TrunkId → TrunkSide → ℕ → Work → Work
-send_challenge_or_park trunk side word work = challenge_or_park (side_where is_losing side.peer (fm.entries work.node.sides)) trunk side word work
+send_challenge_or_park trunk side word work =
+    challenge_or_park (side_where is_losing side.peer (fm.entries work.node.sides)) trunk side word work
 
 abbrev pub after_answer : Verdict → TrunkId → TrunkSide → ℕ → ShakeMsg → Work → Outcome
 after_answer (verdict.Ended why) trunk side word message work = fault (Fault.Shake why) trunk side work
@@ -120,5 +122,6 @@ handshake_at (AwaitsStatus word) trunk side message work = dialer_hears trunk si
 handshake_at (AwaitsChallenge word) trunk side message work = dialer_hears trunk side (DialerState.AwaitsChallenge word) message work
 handshake_at (AwaitsAck word) trunk side message work = dialer_hears trunk side (DialerState.AwaitsAck word side.peer_creation) message work
 handshake_at (Asked word) trunk side message work = hears_answer trunk side word message work
-handshake_at (Accepting word) trunk side message work = acceptor_hears trunk side (AcceptorState.AwaitsReply word side.peer_creation) message work
+handshake_at (Accepting word) trunk side message work =
+    acceptor_hears trunk side (AcceptorState.AwaitsReply word side.peer_creation) message work
 handshake_at _ trunk side message work = fault (Fault.Shake ShakeFault.BadMessage) trunk side work

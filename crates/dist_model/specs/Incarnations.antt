@@ -1,7 +1,6 @@
 -- A node stops, and starts again in another incarnation.
 -- (ERTS User's Guide, Distribution Protocol, Distribution Handshake, on creations.)
-use Rattle.std.specs.Prelude.{map}
-use Rattle.std.specs.Prelude.{◌+◌, ◌^◌, true, false, if◌then◌else◌, List, [], nat_lt}
+use Rattle.std.specs.Prelude.{map, ◌+◌, ◌^◌, true, false, if◌then◌else◌, List, [], nat_lt}
 use Rattle.std.specs.FinMap as fm
 use Rattle.dist_model.specs.Commands.{Accepts, Outcome, Refuses}
 use Rattle.dist_model.specs.declared.report.Answer.{Answer}

@@ -2,12 +2,12 @@
 -- (ERTS User's Guide, Distribution Protocol.)
 use Rattle.std.specs.List.{flat_map}
 use Rattle.std.specs.Prelude.{if◌then◌else◌, ◌&&◌, List, [], ◌∷◌}
-use Rattle.dist_model.specs.Links.{Exited, LinkNews, Signals}
 use Rattle.dist_model.specs.Names.{same_pid}
 use Rattle.dist_model.specs.declared.report.Kind.{Kind}
 use Rattle.erl_control.specs.declared.signal.Signal.{Signal}
 use Rattle.erl_handshake.specs.declared.message.ShakeMsg.{ShakeMsg}
 use Rattle.erl_term.specs.declared.term.Pid.{Pid}
+use Rattle.link_core.specs.News.{Exited, LinkNews, Signals}
 use Rattle.link_core.specs.declared.end.LinkSignal.{LinkSignal}
 
 pub data Item : Type 0 where

@@ -1,5 +1,4 @@
 pub mod Names
-pub mod Links
 pub mod Items
 pub mod Sides
 pub mod Node

@@ -6,13 +6,13 @@ use Rattle.dist_model.specs.Commands.{Accepts, Outcome, with_id}
 use Rattle.dist_model.specs.declared.report.Answer.{Answer}
 use Rattle.dist_model.specs.Exits.{link_exit}
 use Rattle.dist_model.specs.Items.{telling}
-use Rattle.dist_model.specs.Links.{Exited, LinkNews, Signals, heard, noconnection, reply}
 use Rattle.dist_model.specs.Names.{same_pid}
 use Rattle.dist_model.specs.Node.{end_of, living, reaches}
 use Rattle.dist_model.specs.Work.{Work, draw, post, post_all, set_end}
 use Rattle.erl_control.specs.declared.signal.Signal.{Signal}
 use Rattle.erl_names.specs.Minted.{id_of}
 use Rattle.erl_term.specs.declared.term.Pid.{Pid}
+use Rattle.link_core.specs.News.{Exited, LinkNews, Signals, heard, noconnection, reply}
 use Rattle.link_core.specs.Table.{is_active}
 use Rattle.link_core.specs.declared.end.End.{End}
 
@@ -36,7 +36,8 @@ unlink_as id p q work = post (Signal.UnlinkId id p q) (set_end p q (End.Pending 
 
 abbrev pub unlink_by : End → Pid → Pid → Work → Outcome
 unlink_by end p q work =
-    if is_active end then with_id (id_of work.node.mint kind.UnlinkId) (λ id. Accepts Answer.Done (unlink_as id p q work)) else Accepts Answer.Done work
+    if is_active end then with_id (id_of work.node.mint kind.UnlinkId)
+    (λ id. Accepts Answer.Done (unlink_as id p q work)) else Accepts Answer.Done work
 
 -- ---- p hears news of q about their link
 

@@ -8,7 +8,6 @@ use Rattle.dist_model.specs.declared.report.Answer.{Answer}
 use Rattle.dist_model.specs.declared.report.Swept.{Swept}
 use Rattle.dist_model.specs.Exits.{link_exit}
 use Rattle.dist_model.specs.Handshake.{send_challenge, set_state}
-use Rattle.dist_model.specs.Links.{noconnection}
 use Rattle.dist_model.specs.Monitoring.{unregister, unwatch}
 use Rattle.dist_model.specs.Names.{Name, same_name}
 use Rattle.dist_model.specs.Node.{Node, first_where, side_where}
@@ -19,6 +18,7 @@ use Rattle.erl_term.specs.declared.refusal.Refusal.{Refusal}
 use Rattle.erl_term.specs.declared.term.Pid.{Pid}
 use Rattle.erl_term.specs.declared.term.Reference.{Reference}
 use Rattle.exit_core.specs.Messages.{down_term}
+use Rattle.link_core.specs.News.{noconnection}
 use Rattle.link_core.specs.Table.{is_active}
 use Rattle.link_core.specs.declared.end.End.{End}
 use Rattle.monitor_core.specs.declared.monitor.Monitor.{Monitor}

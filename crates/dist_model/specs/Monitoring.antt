@@ -4,7 +4,6 @@ use Rattle.std.specs.Prelude.{Option, None, Some, if◌then◌else◌, ◌&&◌}
 use Rattle.std.specs.FinMap as fm
 use Rattle.dist_model.specs.Commands.{Accepts, Outcome, Refuses}
 use Rattle.dist_model.specs.declared.report.Answer.{Answer}
-use Rattle.dist_model.specs.Links.{noconnection, noproc}
 use Rattle.dist_model.specs.Names.{same_pid}
 use Rattle.dist_model.specs.Node.{living, reaches}
 use Rattle.dist_model.specs.Work.{Work, post, put}
@@ -14,6 +13,7 @@ use Rattle.erl_term.specs.declared.refusal.Refusal.{Refusal}
 use Rattle.erl_term.specs.declared.term.Pid.{Pid}
 use Rattle.erl_term.specs.declared.term.Reference.{Reference}
 use Rattle.exit_core.specs.Messages.{down_term}
+use Rattle.link_core.specs.News.{noconnection, noproc}
 use Rattle.monitor_core.specs.Monitors.{added, is_held, monitor_of}
 use Rattle.monitor_core.specs.declared.monitor.Monitor.{Monitor}
 
@@ -33,13 +33,15 @@ unregister r work = record work { node = record (work.node) { registered = fm.re
 -- p monitors q under a new reference. Where q's node isn't reached it gets DOWN at once
 abbrev pub monitor : Reference → Pid → Pid → Work → Work
 monitor r p q work =
-    if reaches work.node q.node then post (Signal.Monitor p q r) (watch r (monitor_of p q) work) else put p (down_term r q noconnection) work
+    if reaches work.node q.node then post (Signal.Monitor p q r) (watch r (monitor_of p q) work) else put p
+    (down_term r q noconnection) work
 
 -- p takes a monitor back: it has to be its own
 abbrev pub demonitor_by : Option Monitor → Pid → Reference → Work → Outcome
 demonitor_by None p r work = Refuses Refusal.NotTheOwner
 demonitor_by (Some monitor) p r work =
-    if same_pid monitor.owner p then Accepts Answer.Done (post (Signal.Demonitor p monitor.target r) (unwatch r work)) else Refuses Refusal.NotTheOwner
+    if same_pid monitor.owner p then Accepts Answer.Done
+    (post (Signal.Demonitor p monitor.target r) (unwatch r work)) else Refuses Refusal.NotTheOwner
 
 -- MONITOR_P comes to q
 abbrev pub take_monitor : Pid → Pid → Reference → Work → Work

@@ -1,5 +1,6 @@
 -- One node: what it keeps of its processes, their links and monitors, and its connections.
-use Rattle.std.specs.Prelude.{unwrap_or, Option, Some, is_some, ℕ, Bool, true, false, not, if◌then◌else◌, List, [], ◌∷◌, ◌==◌, nat_lt, ◌&&◌, ◌||◌}
+use Rattle.std.specs.Prelude.{unwrap_or, Option, Some, is_some, ℕ, Bool, true, false, not}
+use Rattle.std.specs.Prelude.{if◌then◌else◌, List, [], ◌∷◌, ◌==◌, nat_lt, ◌&&◌, ◌||◌}
 use Rattle.std.specs.FinMap as fm
 use Rattle.std.specs.List.{flat_map}
 use Rattle.std.specs.Option.{option_map}

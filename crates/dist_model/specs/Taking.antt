@@ -4,11 +4,11 @@ use Rattle.std.specs.Prelude.{if◌then◌else◌}
 use Rattle.dist_model.specs.Exits.{other_exit}
 use Rattle.dist_model.specs.Items.{Handshake, Item, Signalled, Tick}
 use Rattle.dist_model.specs.Linking.{take_link}
-use Rattle.dist_model.specs.Links.{Exited, Signals}
 use Rattle.dist_model.specs.Monitoring.{take_demonitor, take_monitor, take_monitor_exit}
 use Rattle.dist_model.specs.Node.{living}
 use Rattle.dist_model.specs.Work.{Work, put}
 use Rattle.erl_control.specs.declared.signal.Signal.{Signal}
+use Rattle.link_core.specs.News.{Exited, Signals}
 use Rattle.link_core.specs.declared.end.LinkSignal.{LinkSignal}
 
 abbrev pub take : Signal → Work → Work

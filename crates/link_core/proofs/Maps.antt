@@ -1,5 +1,6 @@
 -- What a partner's end is after an edit, of any map of ends and of one that records make.
-use Rattle.std.proofs.Common.{◌≡◌, ◌≢◌, Bool, true, false, cond, not, [], ◌∷◌, Option, None, Some, Result, Ok, Err, OnErr, IsSome, is_some, unwrap_or, refl, sym, ap, subst, ◌∙◌}
+use Rattle.std.proofs.Common.{◌≡◌, ◌≢◌, Bool, true, false, cond, not, [], ◌∷◌, Option, None, Some, Result}
+use Rattle.std.proofs.Common.{Ok, Err, OnErr, IsSome, is_some, unwrap_or, refl, sym, ap, subst, ◌∙◌}
 use Rattle.std.specs.declared.cmp.Ordering.{Ordering}
 use Rattle.std.specs.declared.cmp.Ordering.TheVariants.{Less, Equal, Greater}
 use Rattle.std.specs.Ordering.{is_eq, eq_by_cmp}
@@ -28,14 +29,24 @@ other_pid q p n = go (pid_cmp q p) refl
     go Greater e = refl
 
 pub end_of_this : (m : EndMap) (p : Pid) (e : End) → end_of (with_end m p e) p ≡ e
-end_of_this m p End.None = ap (λ o. unwrap_or o End.None) (map.get-remove pid_cmp_total m p p ∙ ap (λ b. cond b None (map.get m p)) (same_pid p))
-end_of_this m p End.Active = ap (λ o. unwrap_or o End.None) (map.get-insert pid_cmp_total m p End.Active p ∙ ap (λ b. cond b (Some End.Active) (map.get m p)) (same_pid p))
-end_of_this m p (End.Pending i) = ap (λ o. unwrap_or o End.None) (map.get-insert pid_cmp_total m p (End.Pending i) p ∙ ap (λ b. cond b (Some (End.Pending i)) (map.get m p)) (same_pid p))
+end_of_this m p End.None =
+    ap (λ o. unwrap_or o End.None) (map.get-remove pid_cmp_total m p p ∙ ap (λ b. cond b None (map.get m p)) (same_pid p))
+end_of_this m p End.Active =
+    ap (λ o. unwrap_or o End.None)
+    (map.get-insert pid_cmp_total m p End.Active p ∙ ap (λ b. cond b (Some End.Active) (map.get m p)) (same_pid p))
+end_of_this m p (End.Pending i) =
+    ap (λ o. unwrap_or o End.None)
+    (map.get-insert pid_cmp_total m p (End.Pending i) p ∙ ap (λ b. cond b (Some (End.Pending i)) (map.get m p)) (same_pid p))
 
 pub end_of_other : (m : EndMap) (p : Pid) (e : End) (q : Pid) → q ≢ p → end_of (with_end m p e) q ≡ end_of m q
-end_of_other m p End.None q n = ap (λ o. unwrap_or o End.None) (map.get-remove pid_cmp_total m p q ∙ ap (λ b. cond b None (map.get m q)) (other_pid q p n))
-end_of_other m p End.Active q n = ap (λ o. unwrap_or o End.None) (map.get-insert pid_cmp_total m p End.Active q ∙ ap (λ b. cond b (Some End.Active) (map.get m q)) (other_pid q p n))
-end_of_other m p (End.Pending i) q n = ap (λ o. unwrap_or o End.None) (map.get-insert pid_cmp_total m p (End.Pending i) q ∙ ap (λ b. cond b (Some (End.Pending i)) (map.get m q)) (other_pid q p n))
+end_of_other m p End.None q n =
+    ap (λ o. unwrap_or o End.None) (map.get-remove pid_cmp_total m p q ∙ ap (λ b. cond b None (map.get m q)) (other_pid q p n))
+end_of_other m p End.Active q n =
+    ap (λ o. unwrap_or o End.None)
+    (map.get-insert pid_cmp_total m p End.Active q ∙ ap (λ b. cond b (Some End.Active) (map.get m q)) (other_pid q p n))
+end_of_other m p (End.Pending i) q n =
+    ap (λ o. unwrap_or o End.None)
+    (map.get-insert pid_cmp_total m p (End.Pending i) q ∙ ap (λ b. cond b (Some (End.Pending i)) (map.get m q)) (other_pid q p n))
 
 -- a link is put by an insertion
 pub with_link : (m : EndMap) (p : Pid) (e : End) → IsLink e → with_end m p e ≡ map.insert m p e
@@ -58,7 +69,8 @@ equal_pid q p h = go (pid_cmp q p) refl h
 
 insert_same : (m : EndMap) (p : Pid) (e : End) → map.get m p ≡ Some e → map.insert m p e ≡ m
 insert_same m p e h = map.same_map pid_cmp_total pid_cmp_exact _ _ (λ q.
-    map.get-insert pid_cmp_total m p e q ∙ same_at (Some e) (map.get m q) (eq_by_cmp pid_cmp q p) (λ t. ap (map.get m) (equal_pid q p t) ∙ h))
+    map.get-insert pid_cmp_total m p e q
+    ∙ same_at (Some e) (map.get m q) (eq_by_cmp pid_cmp q p) (λ t. ap (map.get m) (equal_pid q p t) ∙ h))
 
 remove_same : (m : EndMap) (p : Pid) → map.get m p ≡ None → map.remove m p ≡ m
 remove_same m p h = map.same_map pid_cmp_total pid_cmp_exact _ _ (λ q.
@@ -79,7 +91,8 @@ link_found (r ∷ rest) q l e h = go (eq_by_cmp pid_cmp q r.0) refl (link_found 
     go true t k = subst (λ o. IsLink (unwrap_or o r.1)) (sym (ap (λ b. cond b (Some r.1) (find pid_cmp q rest)) t) ∙ h) l.0
     go false t k = k (sym (ap (λ b. cond b (Some r.1) (find pid_cmp q rest)) t) ∙ h)
 
-own_end : (m : EndMap) (q : Pid) (o : Option End) → map.get m q ≡ o → ((e : End) → o ≡ Some e → IsLink e) → with_end m q (unwrap_or o End.None) ≡ m
+own_end : (m : EndMap) (q : Pid) (o : Option End) → map.get m q ≡ o → ((e : End) → o ≡ Some e → IsLink e)
+    → with_end m q (unwrap_or o End.None) ≡ m
 own_end m q None h l = remove_same m q h
 own_end m q (Some e) h l = with_link m q e (l e refl) ∙ insert_same m q e h
 
@@ -103,7 +116,8 @@ links_put : (rs : Records) (p : Pid) (e : End) → AreLinks rs → IsLink e → 
 links_put [] p e l h = (h, tt)
 links_put (r ∷ rest) p e l h = go (pid_cmp p r.0) (links_put rest p e l.1 h)
   where
-    go : (o : Ordering) → AreLinks (put pid_cmp p e rest) → AreLinks (by_order o ((p, e) ∷ r ∷ rest) ((r.0, e) ∷ rest) (r ∷ put pid_cmp p e rest))
+    go : (o : Ordering) → AreLinks (put pid_cmp p e rest)
+        → AreLinks (by_order o ((p, e) ∷ r ∷ rest) ((r.0, e) ∷ rest) (r ∷ put pid_cmp p e rest))
     go Less k = (h, l)
     go Equal k = (h, l.1)
     go Greater k = (l.0, k)
@@ -125,10 +139,13 @@ links_changed rs p e l h = go (is_some (find pid_cmp p rs))
 pub records_changed : (rs : Records) (p : Pid) (e : End) → AreRecords rs → IsLink e → AreRecords (changed pid_cmp p e rs)
 records_changed rs p e k h = record { sorted = sorted_changed pid_cmp_total p e rs k.sorted; links = links_changed rs p e k.links h }
 
-pub ends_changed : (rs : Records) (p : Pid) (e : End) → AreRecords rs → IsLink e → end_of (map_of rs) p ≢ End.None → map_of (changed pid_cmp p e rs) ≡ with_end (map_of rs) p e
-ends_changed rs p e k h some = map_changed pid_cmp_total p e rs k.sorted ∙ go (map.get (map_of rs) p) some ∙ sym (with_link (map_of rs) p e h)
+pub ends_changed : (rs : Records) (p : Pid) (e : End) → AreRecords rs → IsLink e → end_of (map_of rs) p ≢ End.None
+    → map_of (changed pid_cmp p e rs) ≡ with_end (map_of rs) p e
+ends_changed rs p e k h some =
+    map_changed pid_cmp_total p e rs k.sorted ∙ go (map.get (map_of rs) p) some ∙ sym (with_link (map_of rs) p e h)
   where
-    go : (o : Option End) → unwrap_or o End.None ≢ End.None → cond (is_some o) (map.insert (map_of rs) p e) (map_of rs) ≡ map.insert (map_of rs) p e
+    go : (o : Option End) → unwrap_or o End.None ≢ End.None
+        → cond (is_some o) (map.insert (map_of rs) p e) (map_of rs) ≡ map.insert (map_of rs) p e
     go None n = absurd (n refl)
     go (Some x) n = refl
 

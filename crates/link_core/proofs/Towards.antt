@@ -1,5 +1,6 @@
 -- The partners at one node lie beside one another, in the order of pids.
-use Rattle.std.proofs.Common.{◌≡◌, Bor, nat_lt, ℕ, zero, suc, ◌<◌, ◌≤◌, Bool, true, false, cond, T, List, [], ◌∷◌, length, get_or, Option, None, Some, refl, sym, ap, ◌∙◌, arith}
+use Rattle.std.proofs.Common.{◌≡◌, Bor, nat_lt, ℕ, zero, suc, ◌<◌, ◌≤◌, Bool, true, false, cond, T, List}
+use Rattle.std.proofs.Common.{[], ◌∷◌, length, get_or, Option, None, Some, refl, sym, ap, ◌∙◌, arith}
 use Rattle.std.specs.declared.cmp.Ordering.{Ordering}
 use Rattle.std.specs.declared.cmp.Ordering.TheVariants.{Less, Equal, Greater}
 use Rattle.std.specs.Ordering.{is_eq, is_lt, nat_cmp, ordering_reverse, ordering_then}
@@ -26,7 +27,9 @@ rest_less : (p q : Pid) (o : Ordering) → name_cmp p.node q.node ≡ o → pid_
 rest_less p q Less e h g = cc
 rest_less p q Equal e h g = cc
 rest_less p q Greater e h g =
-    let c : Greater ≡ Less = sym (ap (λ x. ordering_then x (ordering_then (nat_cmp p.creation q.creation) (ordering_then (nat_cmp p.id q.id) (nat_cmp p.serial q.serial)))) e) ∙ h in
+    let c : Greater ≡ Less =
+    sym (ap (λ x. ordering_then x
+    (ordering_then (nat_cmp p.creation q.creation) (ordering_then (nat_cmp p.id q.id) (nat_cmp p.serial q.serial)))) e) ∙ h in
     cc
 
 before : (p q : Pid) (n : List ℕ) → pid_cmp p q ≡ Less → name_cmp q.node n ≡ Less → name_cmp p.node n ≡ Less
@@ -61,7 +64,8 @@ module _ (n : List ℕ) where
   lesser Equal h = cc
   lesser Greater h = cc
 
-  above_at : (p : Pid) (rs : Records) (j : ℕ) (d : Pid × End) → T (below_all pid_cmp p rs) → j < length rs → pid_cmp p (get_or rs j d).0 ≡ Less
+  above_at : (p : Pid) (rs : Records) (j : ℕ) (d : Pid × End) → T (below_all pid_cmp p rs) → j < length rs
+      → pid_cmp p (get_or rs j d).0 ≡ Less
   above_at p [] j d s l = absurd (omega arith)
   above_at p (r ∷ rest) zero d s l = less _ (both_pass _ _ s).0
   above_at p (r ∷ rest) (suc j) d s l = above_at p rest j d (both_pass _ _ s).1 (omega arith)
@@ -99,12 +103,14 @@ module _ (n : List ℕ) where
   skipped : (r : Pid × End) (rest : Records) → is_before r ≡ true → first_at (r ∷ rest) ≡ first_at rest
   skipped r rest h = ap (λ o. cond (is_eq o) (Some r) (first_at rest)) (lesser _ h)
 
-  pub first_is : (rs : Records) (i : ℕ) → AreSorted rs → i ≤ length rs → AllWithin (λ r. is_before r ≡ true) rs 0 i → AllWithin (λ r. is_before r ≡ false) rs i (length rs)
+  pub first_is : (rs : Records) (i : ℕ) → AreSorted rs → i ≤ length rs → AllWithin (λ r. is_before r ≡ true) rs 0 i
+      → AllWithin (λ r. is_before r ≡ false) rs i (length rs)
       → this_node (slice_get rs i) ≡ first_at rs
   first_is [] i s le before_i from_i = refl
   first_is (r ∷ rest) zero s le before_i from_i = sym (here r rest (both_pass _ _ s).0 (from_i 0 r (omega arith) (omega arith)))
   first_is (r ∷ rest) (suc i) s le before_i from_i =
-      first_is rest i (both_pass _ _ s).1 (omega arith) (λ k d a b. before_i (suc k) d (omega arith) (omega arith)) (λ k d a b. from_i (suc k) d (omega arith) (omega arith))
+      first_is rest i (both_pass _ _ s).1 (omega arith) (λ k d a b. before_i (suc k) d (omega arith) (omega arith))
+      (λ k d a b. from_i (suc k) d (omega arith) (omega arith))
       ∙ sym (skipped r rest (before_i 0 r (omega arith) (omega arith)))
 
 -- ---- what is read at a place

@@ -25,4 +25,5 @@ pub record Held : Type 0 where
   pub room : ℕ
 
 abbrev pub held_code : Coded Pid → Coded End → Coded Held
-held_code pid end = code_by (EndMap × ℕ) (coded× (map.code pid end) coded_ℕ) (λ k. (k.ends, k.room)) (λ p. record { ends = p.0; room = p.1 }) (λ _. refl)
+held_code pid end =
+    code_by (EndMap × ℕ) (coded× (map.code pid end) coded_ℕ) (λ k. (k.ends, k.room)) (λ p. record { ends = p.0; room = p.1 }) (λ _. refl)

@@ -1,4 +1,5 @@
 pub mod Table
+pub mod News
 pub mod Ends
 pub mod Records
 pub mod Pair

@@ -1,6 +1,6 @@
 -- What becomes of one end of a link, and what is sent, by the rules of the New Link Protocol.
 -- (ERTS User's Guide, Distribution Protocol, New Link Protocol; a cell for each end and cause.)
-use Rattle.std.specs.Prelude.{ℕ, ◌==◌, if◌then◌else◌, Bool, true, false, List, [], ◌∷◌, Option, None, Some}
+use Rattle.std.specs.Prelude.{ℕ, ◌==◌, if◌then◌else◌, Bool, true, false, Option, None, Some}
 use Rattle.link_core.specs.declared.end.End.{End}
 use Rattle.link_core.specs.declared.end.LinkSignal.{LinkSignal}
 use Rattle.link_core.specs.declared.end.LinkSignal.TheVariants.{Link, Unlink, Ack}
@@ -53,8 +53,3 @@ abbrev pub answered : LinkSignal → Option LinkSignal
 answered Link = None
 answered (Unlink id) = Some (Ack id)
 answered (Ack id) = None
-
--- what an end becomes once all that travels to it has come
-abbrev pub drained : End → List LinkSignal → End
-drained end [] = end
-drained end (signal ∷ signals) = drained (received end signal) signals

@@ -1,5 +1,5 @@
 use Rattle.dist_model.proofs.laws.connection_comes_again.Goals as goal
-use Rattle.dist_model.proofs.Happening.{connected_here, connected_quiet, connected_there, swept_here, swept_there}
+use Rattle.dist_model.proofs.ExampleLinks.{connected_here, connected_quiet, connected_there, swept_here, swept_there}
 
 pub returns-clause-connected : goal.returns-clause-connected
 returns-clause-connected c = λ cookie own other. (connected_here cookie own other, connected_there cookie own other)

@@ -1,5 +1,5 @@
 use Rattle.dist_model.proofs.laws.dial_waits.Goals as goal
-use Rattle.dist_model.proofs.Witnesses.{kept_there, parked_there, up_here, up_there}
+use Rattle.dist_model.proofs.ExampleWait.{kept_there, parked_there, up_here, up_there}
 
 pub returns-clause-parked : goal.returns-clause-parked
 returns-clause-parked c = parked_there

@@ -1,7 +1,9 @@
 use Rattle.dist_model.proofs.laws.every_run_is_safe.Goals as goal
-use Rattle.dist_model.proofs.Histories.{Tale, answered_once, down_once, down_to_the_owner, downs_tell_true_cause, exits_tell_true_cause, exits_tell_true_cause_within, no_down_where_demonitored, reacts_for_true_cause, throughout}
-use Rattle.dist_model.proofs.Resting.{down_or_registered}
-use Rattle.dist_model.proofs.Safety.{agreement, agreement_in_quiet, agreement_within, no_link_to_itself, no_link_to_the_dead, no_up_beside_losing, one_trunk, pending, pending_within}
+use Rattle.dist_model.proofs.Histories.{Tale, answered_once, down_once, down_to_the_owner, downs_tell_true_cause, exits_tell_true_cause}
+use Rattle.dist_model.proofs.Histories.{exits_tell_true_cause_within, no_down_where_demonitored, reacts_for_true_cause, throughout}
+use Rattle.dist_model.proofs.QuietMonitors.{down_or_registered}
+use Rattle.dist_model.proofs.Safety.{agreement, agreement_in_quiet, agreement_within, no_link_to_itself}
+use Rattle.dist_model.proofs.Safety.{no_link_to_the_dead, no_up_beside_losing, one_trunk, pending, pending_within}
 use Rattle.dist_model.specs.Histories.{History}
 use Rattle.dist_model.specs.Safety.{Safe}
 use Rattle.dist_model.specs.World.{World}

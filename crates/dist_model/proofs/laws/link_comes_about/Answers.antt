@@ -1,5 +1,5 @@
 use Rattle.dist_model.proofs.laws.link_comes_about.Goals as goal
-use Rattle.dist_model.proofs.Happening.{linked_here, linked_quiet, linked_there}
+use Rattle.dist_model.proofs.ExampleLinks.{linked_here, linked_quiet, linked_there}
 
 pub returns-clause-here : goal.returns-clause-here
 returns-clause-here c = linked_here

@@ -1,5 +1,5 @@
 use Rattle.dist_model.proofs.laws.living_means.Goals as goal
-use Rattle.dist_model.proofs.Peopling.{down_holds_nothing, living_means, spawned_lives_or_ended}
+use Rattle.dist_model.proofs.Peopled.{down_holds_nothing, living_means, spawned_lives_or_ended}
 
 pub returns-clause-living : goal.returns-clause-living
 returns-clause-living c = living_means

@@ -1,6 +1,7 @@
 use Rattle.dist_model.proofs.laws.monitors.Goals as goal
-use Rattle.dist_model.proofs.Histories.{answered_once, down_once, down_to_the_owner, downs_tell_true_cause, no_down_where_demonitored, throughout}
-use Rattle.dist_model.proofs.Resting.{down_or_registered}
+use Rattle.dist_model.proofs.Histories.{answered_once, down_once, down_to_the_owner}
+use Rattle.dist_model.proofs.Histories.{downs_tell_true_cause, no_down_where_demonitored, throughout}
+use Rattle.dist_model.proofs.QuietMonitors.{down_or_registered}
 use Rattle.dist_model.specs.Fates.{AnsweredOnce, DownOnce, DownOrRegistered, DownToTheOwner, DownsTellTrueCause, NoDownWhereDemonitored}
 
 pub returns-clause-answered : goal.returns-clause-answered

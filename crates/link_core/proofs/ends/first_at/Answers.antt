@@ -9,7 +9,9 @@ returns-in_err-record c =
     let n = c.args.node.now in
     let rs = c.args.records.now in
     let at = c.partition_point-at.result in
-    let point = IsPartitionPoint-from_clause (is_before n) rs at c.partition_point-at.ensures.partitioned (lesser_first n rs c.requires) (λ a r q k. search rules) in
+    let point =
+    IsPartitionPoint-from_clause (is_before n) rs at c.partition_point-at.ensures.partitioned
+    (lesser_first n rs c.requires) (λ a r q k. search rules) in
     ap option_copied c.from_residual.ensures ∙ ap (this_node n) (read_at rs at None c.in_err-record.ensures.lookup)
     ∙ first_is n rs at c.requires c.partition_point-at.ensures.bound point.0 point.1
 
@@ -18,7 +20,9 @@ returns-then-is_eq c =
     let n = c.args.node.now in
     let rs = c.args.records.now in
     let at = c.partition_point-at.result in
-    let point = IsPartitionPoint-from_clause (is_before n) rs at c.partition_point-at.ensures.partitioned (lesser_first n rs c.requires) (λ a r q k. search rules) in
+    let point =
+    IsPartitionPoint-from_clause (is_before n) rs at c.partition_point-at.ensures.partitioned
+    (lesser_first n rs c.requires) (λ a r q k. search rules) in
     let here : this_node n (Some c.in_ok-record.record.now) ≡ Some c.in_ok-record.record.now = search rules in
     sym here ∙ ap (this_node n) (read_at rs at (Some c.in_ok-record.record) c.in_ok-record.ensures.lookup)
     ∙ first_is n rs at c.requires c.partition_point-at.ensures.bound point.0 point.1
@@ -28,7 +32,9 @@ returns-else-is_eq c =
     let n = c.args.node.now in
     let rs = c.args.records.now in
     let at = c.partition_point-at.result in
-    let point = IsPartitionPoint-from_clause (is_before n) rs at c.partition_point-at.ensures.partitioned (lesser_first n rs c.requires) (λ a r q k. search rules) in
+    let point =
+    IsPartitionPoint-from_clause (is_before n) rs at c.partition_point-at.ensures.partitioned
+    (lesser_first n rs c.requires) (λ a r q k. search rules) in
     let here : this_node n (Some c.in_ok-record.record.now) ≡ None = search rules in
     sym here ∙ ap (this_node n) (read_at rs at (Some c.in_ok-record.record) c.in_ok-record.ensures.lookup)
     ∙ first_is n rs at c.requires c.partition_point-at.ensures.bound point.0 point.1

@@ -7,5 +7,7 @@ use Rattle.link_core.proofs.ends.Ends.first_towards.Goals as goal
 
 pub returns : goal.returns
 returns c =
-    let here = c.entries.ensures.entries ∙ sym (map.entries-from_sorted pid_cmp _ c.self.invariant.sorted) ∙ ap (λ (k : Held). map.entries k.ends) c.self.view_is in
+    let here =
+    c.entries.ensures.entries ∙ sym (map.entries-from_sorted pid_cmp _ c.self.invariant.sorted)
+    ∙ ap (λ (k : Held). map.entries k.ends) c.self.view_is in
     c.first_at.ensures ∙ ap (first_at c.args.node.now) here

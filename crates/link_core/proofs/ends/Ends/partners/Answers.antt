@@ -5,4 +5,6 @@ use Rattle.link_core.specs.Ends.{Held}
 use Rattle.link_core.proofs.ends.Ends.partners.Goals as goal
 
 pub returns : goal.returns
-returns c = c.entries.ensures.entries ∙ sym (map.entries-from_sorted pid_cmp _ c.self.invariant.sorted) ∙ ap (λ (k : Held). map.entries k.ends) c.self.view_is
+returns c =
+    c.entries.ensures.entries ∙ sym (map.entries-from_sorted pid_cmp _ c.self.invariant.sorted)
+    ∙ ap (λ (k : Held). map.entries k.ends) c.self.view_is

@@ -10,7 +10,10 @@ returns-in_err-insert-clause-only_new c =
     on_err _ c.from_residual.result (ap (λ (k : Held). end_of k.ends c.args.partner) (sym c.self.view_is) ∙ none)
 
 pub invariant_of-self-2 : goal.invariant_of-self-2
-invariant_of-self-2 c = subst AreRecords (sym c.in_ok-insert.ensures.entries) (records_put _ c.args.partner c.args.end c.self.invariant c.requires)
+invariant_of-self-2 c =
+    subst AreRecords (sym c.in_ok-insert.ensures.entries) (records_put _ c.args.partner c.args.end c.self.invariant c.requires)
 
 pub returns-clause-ok : goal.returns-clause-ok
-returns-clause-ok c = rw c.in_ok-insert.ensures.entries (ends_put _ c.args.partner c.args.end c.self.invariant c.requires) ∙ ap (λ (k : Held). with_end k.ends c.args.partner c.args.end) c.self.view_is
+returns-clause-ok c =
+    rw c.in_ok-insert.ensures.entries (ends_put _ c.args.partner c.args.end c.self.invariant c.requires)
+    ∙ ap (λ (k : Held). with_end k.ends c.args.partner c.args.end) c.self.view_is

@@ -9,4 +9,6 @@ pub invariant_of-self : goal.invariant_of-self
 invariant_of-self c = subst AreRecords (sym c.remove.ensures.entries) (records_without _ c.args.partner.now c.self.invariant)
 
 pub returns-clause-ends : goal.returns-clause-ends
-returns-clause-ends c = rw c.remove.ensures.entries (ends_without _ c.args.partner.now c.self.invariant) ∙ ap (λ (k : Held). with_end k.ends c.args.partner.now End.None) c.self.view_is
+returns-clause-ends c =
+    rw c.remove.ensures.entries (ends_without _ c.args.partner.now c.self.invariant)
+    ∙ ap (λ (k : Held). with_end k.ends c.args.partner.now End.None) c.self.view_is

@@ -1,0 +1,438 @@
+-- What is known of watched monitors is kept by every event.
+use Rattle.erl_handshake.specs.declared.message.ShakeMsg.{ShakeMsg}
+use Rattle.erl_names.specs.Draw as kind
+use Rattle.std.proofs.Common.{◌≡◌, ℕ, Bool, true, false, cond, List, [], ◌∷◌, refl, sym, ap}
+use Rattle.std.proofs.Common.{◌∙◌, subst, ◌&&◌, ◌||◌, Option, Some, None, ◌⊎◌, inl, inr}
+use Rattle.std.proofs.lemmas.List.Elements.{All-head}
+use Rattle.std.proofs.lemmas.Bool.{and_parts}
+use Rattle.std.proofs.lemmas.Option.{same_Some, none-some}
+use Rattle.std.specs.List.{All}
+use Rattle.std.specs.Option.{is_some}
+use Rattle.std.specs.FinMap as fm
+use Rattle.conn_core.specs.declared.arrival.Fault.{Fault}
+use Rattle.erl_handshake.specs.declared.fault.ShakeFault.{ShakeFault}
+use Rattle.dist_model.specs.NodeEvents.{if_up}
+use Rattle.dist_model.proofs.OneStep.{arrives, while_up}
+use Rattle.dist_model.proofs.Envelopes.{outgoing}
+use Rattle.dist_model.proofs.Calls.{by_test}
+use Rattle.dist_model.proofs.Comings.{dial_done, fresh_comes, known_comes, local_done, lose_done, start_done, stop_done, sweep_done}
+use Rattle.dist_model.proofs.Entries.{same_reference_refl, same_reference_true}
+use Rattle.dist_model.proofs.Events.{AllGo, Done, call_done, go_cond, go_drawn, go_not}
+use Rattle.dist_model.proofs.Founded.{posts_keep}
+use Rattle.dist_model.proofs.HandshakeParts.{as_state, lost_over, set_at}
+use Rattle.dist_model.proofs.Keys.{same_name_is, same_name_true, same_pid_is, same_trunk, same_trunk_refl, same_trunk_true}
+use Rattle.dist_model.proofs.WatchKnown.{Linked, NewWatch, TakenCall, linked_after, owner_at}
+use Rattle.dist_model.proofs.Routes.{list_to_insert, node_of_name, at_place}
+use Rattle.dist_model.proofs.Sides.{not_own, route_from, route_up, side_at, up_holds, holds}
+use Rattle.dist_model.proofs.Steps.{is_from_peer}
+use Rattle.dist_model.proofs.Trunks.{Good, has}
+use Rattle.dist_model.proofs.Told.{Begins, Course, Downs, IsFounded, Leaves, Revoked, Sound, Stays, monitored_one}
+use Rattle.dist_model.proofs.Lands.{Lands, is_call, is_end, lands_one}
+use Rattle.dist_model.specs.Arrivals.{arrive_at, arrive_fresh, handshake_in, is_from, is_good, is_to, on_up, signal_at, take_local}
+use Rattle.dist_model.specs.Calls.{call}
+use Rattle.dist_model.specs.Commands.{Accepts, Outcome, Refuses}
+use Rattle.dist_model.specs.declared.report.Answer.{Answer}
+use Rattle.dist_model.specs.declared.command.Command.{Command}
+use Rattle.dist_model.specs.Dialing.{dial}
+use Rattle.dist_model.specs.Downs.{is_answered, same_reference, Monitored}
+use Rattle.dist_model.specs.Handshake.{fault, set_state}
+use Rattle.dist_model.specs.Histories.{History}
+use Rattle.dist_model.specs.Incarnations.{start, stop}
+use Rattle.dist_model.specs.Items.{Handshake, Item, Signalled, kind_of}
+use Rattle.dist_model.specs.Losses.{any_side, lose, sweep}
+use Rattle.dist_model.specs.Monitoring.{monitor, register, unwatch, watch}
+use Rattle.dist_model.specs.Names.{Name, same_name, same_pid}
+use Rattle.dist_model.specs.Node.{Node, living, is_stranger, reaches, route}
+use Rattle.dist_model.specs.Sides.{Gone, State, TrunkSide, Up, is_losing, is_up, is_over, lost}
+use Rattle.dist_model.specs.Taking.{take_item}
+use Rattle.dist_model.specs.Work.{Work, at_work, draw, post, put}
+use Rattle.dist_model.specs.World.{Arrive, Call, Dial, Event, Local, Lose, Report, Reported, Start}
+use Rattle.dist_model.specs.World.{Stop, Sweep, World, came_of, list_to, node_name, node_of, step_at}
+use Rattle.erl_control.specs.declared.signal.Signal.{Signal}
+use Rattle.erl_names.specs.Ids.{reference_of}
+use Rattle.erl_names.specs.Minted.{id_of}
+use Rattle.erl_names.specs.declared.trunk.TrunkId.{TrunkId}
+use Rattle.erl_term.specs.declared.refusal.Refusal.{Refusal}
+use Rattle.erl_term.specs.declared.term.Pid.{Pid}
+use Rattle.erl_term.specs.declared.term.Reference.{Reference}
+use Rattle.exit_core.specs.Messages.{down_term}
+use Rattle.link_core.specs.News.{noconnection, noproc}
+use Rattle.monitor_core.proofs.Order.{reference_cmp_total}
+use Rattle.monitor_core.specs.Monitors.{added, is_held, is_this, monitor_of, MonitorMap}
+use Rattle.monitor_core.specs.declared.monitor.Monitor.{Monitor}
+
+pub any_go : (P : Answer → Work → Type 0) (k : Outcome) → ((a : Answer) (o : Work) → P a o) → AllGo k P
+any_go P (Refuses j) f = tt
+any_go P (Accepts a o) f = f a o
+
+no_signal : (i : Item) (m : ShakeMsg) (k : Reference) → handshake_in i ≡ Some m → (is_end k i ≡ false) × (is_call k i ≡ false)
+no_signal (Handshake l) m k h = (refl, refl)
+no_signal _ m k h = absurd (none-some m h)
+
+added_there : (b : Bool) (m : MonitorMap) (r : Reference) (v : Monitor) → fm.contains_key m r ≡ b → (c : Monitor)
+    × (fm.get (cond b m (fm.insert m r v)) r ≡ Some c)
+added_there false m r v h = (v, fm.get-insert reference_cmp_total m r v r ∙ ap (λ b. cond b (Some v) (fm.get m r)) (same_reference_refl r))
+added_there true m r v h = go (fm.get m r) refl
+  where
+    go : (o : Option Monitor) → fm.get m r ≡ o → (c : Monitor) × (fm.get m r ≡ Some c)
+    go None j = let z : false ≡ true = sym (ap is_some j) ∙ h in cc
+    go (Some c) j = (c, j)
+
+module _ (w : World) (h : History) (x : Name) (n : Node) (hx : node_of w.nodes x ≡ Some n) (gw : Good w) (g : Sound w h) where
+  -- what a signal names is what its reference was answered for
+  names : (y : Name) (v : Node) (k r : Reference) (u : Monitor) (p q : Pid) → node_of w.nodes y ≡ Some v
+      → fm.get v.watches k ≡ Some u → same_reference k r ≡ true → Monitored r p q h → (p ≡ u.owner) × (q ≡ u.target)
+  names y v k r u p q hv i e c =
+      monitored_one k p q u.owner u.target h (g.one k) (subst (λ z. Monitored z p q h) (sym (same_reference_true k r e)) c)
+      (g.watching y v k u hv i).1
+
+  -- ---- an item is taken, from a trunk or from the own list
+
+  module _ (xs : List Item) where
+    -- a MONITOR_P_EXIT ends its watch
+    end_taken : (i : Item) → IsFounded w h i → (k : Reference) (u : Monitor) → is_end k i ≡ true → fm.get n.watches k ≡ Some u
+        → fm.get ((take_item i (at_work (record n { local = xs }))).node.watches) k ≡ Some u → ⊥
+    end_taken (Signalled (Signal.MonitorExit q p r z)) f k u e j s =
+        let one = names x n k r u p q hx j e f.1 in
+        let kr : k ≡ r = same_reference_true k r e in
+        let at : fm.get n.watches r ≡ Some u = ap (fm.get n.watches) (sym kr) ∙ j in
+        let held : is_held n.watches r (monitor_of p q) ≡ true =
+        ap (λ v. is_this v (monitor_of p q)) at ∙ ap (λ b. b && same_pid u.target q) (same_pid_is u.owner p (sym one.0))
+        ∙ same_pid_is u.target q (sym one.1) in
+        let alive : living n p ≡ true = subst (λ v. living n v ≡ true) (sym one.0) (g.watching x n k u hx j).4 in
+        let both : (living n p && is_held n.watches r (monitor_of p q)) ≡ true =
+        ap (λ b. b && is_held n.watches r (monitor_of p q)) alive ∙ held in
+        let gone : fm.get ((cond (living n p && is_held n.watches r (monitor_of p q))
+        (put p (down_term r q z) (unwatch r (at_work (record n { local = xs }))))
+        (at_work (record n { local = xs }))).node.watches) k ≡ None =
+        ap (λ b. fm.get ((cond b (put p (down_term r q z) (unwatch r (at_work (record n { local = xs }))))
+        (at_work (record n { local = xs }))).node.watches) k) both
+        ∙ fm.get-remove reference_cmp_total n.watches r k ∙ ap (λ b. cond b None (fm.get n.watches k)) e in
+        none-some u (sym gone ∙ s)
+    end_taken _ f k u e j s = cc
+
+    -- a MONITOR_P is registered, or answered
+    abbrev Answered : Item → Reference → Monitor → Work → Type 0
+    Answered i k u o = ((b : Monitor) × (fm.get o.node.registered k ≡ Some b)) ⊎ Lands (is_end k) n u.owner.node o
+
+    call_taken : (i : Item) → IsFounded w h i → (y : Name) (v : Node) (k : Reference) (u : Monitor)
+        → node_of w.nodes y ≡ Some v → fm.get v.watches k ≡ Some u → is_call k i ≡ true
+        → Answered i k u (take_item i (at_work (record n { local = xs })))
+    call_taken (Signalled (Signal.Monitor p q r)) f y v k u hv j e = go (living n q)
+      where
+        one : (p ≡ u.owner) × (q ≡ u.target)
+        one = names y v k r u p q hv j e f
+
+        kr : r ≡ k
+        kr = sym (same_reference_true k r e)
+
+        go : (b : Bool) → Answered (Signalled (Signal.Monitor p q r)) k u (cond b
+            (register r (monitor_of p q) (at_work (record n { local = xs })))
+            (post (Signal.MonitorExit q p r noproc) (at_work (record n { local = xs }))))
+        go true =
+            inl (subst (λ z. (b : Monitor) × (fm.get (added n.registered r (monitor_of p q)) z ≡ Some b)) kr
+            (added_there (fm.contains_key n.registered r) n.registered r (monitor_of p q) refl))
+        go false =
+            inr (subst
+            (λ (z : Pid). Lands (is_end k) n z.node (post (Signal.MonitorExit q p r noproc) (at_work (record n { local = xs })))) one.0
+            (lands_one (is_end k) n (Signal.MonitorExit q p r noproc) (at_work (record n { local = xs })) refl refl e))
+    call_taken (Signalled (Signal.MonitorExit q p r z)) f y v k u hv j e = cc
+    call_taken _ f y v k u hv j e = cc
+
+    -- taking one leaves the sides
+    sides_taken : (i : Item) → (k : Reference) → is_call k i ≡ true → (take_item i (at_work (record n { local = xs }))).node.sides ≡ n.sides
+    sides_taken (Signalled (Signal.Monitor p q r)) k e = go (living n q)
+      where
+        go : (b : Bool) → (cond b (register r (monitor_of p q) (at_work (record n { local = xs })))
+            (post (Signal.MonitorExit q p r noproc) (at_work (record n { local = xs })))).node.sides ≡ n.sides
+        go true = refl
+        go false =
+            posts_keep (λ m. m.sides) (λ m l. refl) p.node (Signalled (Signal.MonitorExit q p r noproc)) (at_work (record n { local = xs }))
+    sides_taken _ k e = cc
+
+  -- whom a MONITOR_P that passes is from
+  call_from : (v : TrunkSide) (i : Item) → is_good n v i ≡ true → IsFounded w h i
+      → (y : Name) (m : Node) (k : Reference) (u : Monitor) → node_of w.nodes y ≡ Some m → fm.get m.watches k ≡ Some u
+      → is_call k i ≡ true → u.owner.node ≡ v.peer
+  call_from v (Signalled (Signal.Monitor p q r)) good f y m k u hm j e =
+      ap (λ (z : Pid). z.node) (sym (names y m k r u p q hm j e f).0) ∙ is_from_peer v p (and_parts (is_from v p) (is_to n q) good).0
+  call_from v _ good f y m k u hm j e = cc
+
+  -- ---- what comes on a trunk
+
+  module _ (t : TrunkId) (k0 : ℕ) (i : Item) (fi : IsFounded w h i) where
+    pub record Facts (a : Answer) (o : Work) : Type 0 where
+      pub ends : (k : Reference) (u : Monitor) → is_end k i ≡ true → fm.get n.watches k ≡ Some u
+          → fm.get o.node.watches k ≡ Some u → (b : TrunkSide) → side_at o.node t ≡ Some b → is_over b.state ≡ true
+      pub calls : (k : Reference) (y : Name) (v : Node) (u : Monitor) → is_call k i ≡ true → (x ≡ y → ⊥)
+          → node_of w.nodes y ≡ Some v → fm.get v.watches k ≡ Some u → TakenCall o t y k
+
+    at_fault : (s : TrunkSide) → side_at ((set_state t s (lost s.state) (at_work n)).node) t ≡ Some (as_state s (lost s.state))
+    at_fault s =
+        set_at (at_work n) t (as_state s (lost s.state)) t
+        ∙ ap (λ b. cond b (Some (as_state s (lost s.state))) (side_at n t)) (same_trunk_refl t)
+
+    fault_facts : (j : Fault) (s : TrunkSide) → AllGo (fault j t s (at_work n)) Facts
+    fault_facts j s = record {
+      ends = λ k u e b c z q. ap (λ (v : TrunkSide). is_over v.state) (sym (same_Some (as_state s (lost s.state)) z (sym (at_fault s) ∙ q)))
+          ∙ lost_over s.state;
+      calls = λ k y v u e dy hv c. inl (as_state s (lost s.state), at_fault s, lost_over s.state);
+    }
+
+    -- a message of the handshake is about no monitor
+    other_facts : (m : ShakeMsg) → handshake_in i ≡ Some m → (o : Outcome) → AllGo o Facts
+    other_facts m e o = any_go Facts o (λ a p. record {
+      ends = λ k u c. let z : true ≡ false = sym c ∙ (no_signal i m k e).0 in cc;
+      calls = λ k y v u c. let z : true ≡ false = sym c ∙ (no_signal i m k e).1 in cc;
+    })
+
+    fresh_facts : (c : Option ShakeMsg) → handshake_in i ≡ c → AllGo (arrive_fresh c t k0 (at_work n)) Facts
+    fresh_facts None e = fault_facts (Fault.Shake ShakeFault.BadMessage) (record { peer = t.dialer; peer_creation = 0; state = Gone })
+    fresh_facts (Some m) e = other_facts m e (arrive_fresh (Some m) t k0 (at_work n))
+
+    module _ (v : TrunkSide) (at : side_at n t ≡ Some v) where
+      taken_facts : is_up v.state ≡ true → is_good n v i ≡ true → Facts (Answer.Took (kind_of i)) (take_item i (at_work n))
+      taken_facts up good = record {
+        ends = λ k u e b c z q. absurd (end_taken n.local i fi k u e b c);
+        calls = λ k y m u e dy hm c. calls k y m u e dy hm c (call_taken n.local i fi y m k u hm c e);
+      }
+        where
+          calls : (k : Reference) (y : Name) (m : Node) (u : Monitor) → is_call k i ≡ true → (x ≡ y → ⊥)
+              → node_of w.nodes y ≡ Some m → fm.get m.watches k ≡ Some u
+              → ((b : Monitor) × (fm.get ((take_item i (at_work n)).node.registered) k ≡ Some b))
+              ⊎ Lands (is_end k) n u.owner.node (take_item i (at_work n)) → TakenCall (take_item i (at_work n)) t y k
+          calls k y m u e dy hm c (inl b) = inr (inl (v, b.0, ap (λ z. fm.get z t) (sides_taken n.local i k e) ∙ at, up, b.1))
+          calls k y m u e dy hm c (inr z) =
+              let from : u.owner.node ≡ v.peer = call_from v i good fi y m k u hm c e in
+              let own : same_name u.owner.node n.mint.name ≡ false =
+              ap (λ b. same_name b n.mint.name) from ∙ not_own n t v (gw.core.sides x n hx) at in
+              let way : route n u.owner.node ≡ Some t = ap (route n) from ∙ route_up n t v (gw.core.sides x n hx) at up in
+              inr (inr (subst (λ b. has (is_end k) (at_place t b (outgoing (take_item i (at_work n)))) ≡ true)
+              (owner_at w h gw g y m k u hm c) (z.1 t own way)))
+
+      up_facts : is_up v.state ≡ true → AllGo (on_up t v i (at_work n)) Facts
+      up_facts up = go (is_good n v i) refl
+        where
+          go : (b : Bool) → is_good n v i ≡ b
+              → AllGo (cond b (Accepts (Answer.Took (kind_of i)) (take_item i (at_work n))) (fault Fault.Forged t v (at_work n))) Facts
+          go true good = taken_facts up good
+          go false good = fault_facts Fault.Forged v
+
+      signal_facts : (a : State) → v.state ≡ a → AllGo (signal_at a t v i (at_work n)) Facts
+      signal_facts Up s = up_facts (ap is_up s)
+      signal_facts _ s = fault_facts (Fault.Shake ShakeFault.BadMessage) v
+
+      known_facts : (c : Option ShakeMsg) → handshake_in i ≡ c → AllGo (arrive_at c t v i (at_work n)) Facts
+      known_facts None e = signal_facts v.state refl
+      known_facts (Some m) e = other_facts m e (arrive_at (Some m) t v i (at_work n))
+
+  -- ---- a call of Monitor
+
+  abbrev pub Fresh : Answer → Work → Type 0
+  Fresh a o = (k : Reference) (u : Monitor) → fm.get n.watches k ≡ None → fm.get o.node.watches k ≡ Some u → NewWatch n o k u
+
+  monitor_fresh : (p q : Pid) (id : ℕ)
+      → Fresh (Answer.Reference (reference_of n.mint id)) (monitor (reference_of n.mint id) p q (draw kind.Reference (at_work n)))
+  monitor_fresh p q id = go (reaches n q.node) refl
+    where
+      reached : reaches n q.node ≡ true → Fresh (Answer.Reference (reference_of n.mint id)) (post
+          (Signal.Monitor p q (reference_of n.mint id))
+          (watch (reference_of n.mint id) (monitor_of p q) (draw kind.Reference (at_work n))))
+      reached far k u i j =
+          pick (same_reference k (reference_of n.mint id)) refl
+          (sym (ap (λ z. fm.get z k) ws ∙ fm.get-insert reference_cmp_total n.watches (reference_of n.mint id) (monitor_of p q) k) ∙ j)
+        where
+          ws : (post (Signal.Monitor p q (reference_of n.mint id))
+              (watch (reference_of n.mint id) (monitor_of p q) (draw kind.Reference (at_work n)))).node.watches ≡ (watch
+              (reference_of n.mint id) (monitor_of p q) (draw kind.Reference (at_work n))).node.watches
+          ws = posts_keep (λ m. m.watches) (λ m z. refl) q.node (Signalled (Signal.Monitor p q (reference_of n.mint id)))
+              (watch (reference_of n.mint id) (monitor_of p q) (draw kind.Reference (at_work n)))
+
+          sd : (post (Signal.Monitor p q (reference_of n.mint id))
+              (watch (reference_of n.mint id) (monitor_of p q) (draw kind.Reference (at_work n)))).node.sides ≡ n.sides
+          sd = posts_keep (λ m. m.sides) (λ m z. refl) q.node (Signalled (Signal.Monitor p q (reference_of n.mint id)))
+              (watch (reference_of n.mint id) (monitor_of p q) (draw kind.Reference (at_work n)))
+
+          routed : (c : Option TrunkId) → route n q.node ≡ c → same_name q.node n.mint.name ≡ false → (t : TrunkId)
+              × (route n q.node ≡ Some t)
+          routed None r own = let z : true ≡ false = sym far ∙ ap (λ b. b || is_some (route n q.node)) own ∙ ap is_some r in cc
+          routed (Some t) r own = (t, r)
+
+          pick : (b : Bool) → same_reference k (reference_of n.mint id) ≡ b → cond b (Some (monitor_of p q)) (fm.get n.watches k) ≡ Some u
+              → NewWatch n (post (Signal.Monitor p q (reference_of n.mint id))
+              (watch (reference_of n.mint id) (monitor_of p q) (draw kind.Reference (at_work n)))) k u
+          pick false e c = absurd (none-some u (sym i ∙ c))
+          pick true e c =
+              subst (λ z. NewWatch n (post (Signal.Monitor p q (reference_of n.mint id))
+              (watch (reference_of n.mint id) (monitor_of p q) (draw kind.Reference (at_work n)))) k z) (same_Some (monitor_of p q) u c)
+              (let ld = lands_one (is_call k) n (Signal.Monitor p q (reference_of n.mint id))
+              (watch (reference_of n.mint id) (monitor_of p q) (draw kind.Reference (at_work n))) refl refl e in (
+                λ own. ld.0 own,
+                λ own. let r =
+                    routed (route n q.node) refl own in let s = route_from n q.node r.0 r.1 in
+                    (r.0, s.found, ap (λ z. fm.get z r.0) sd ∙ s.there, s.peer, up_holding s.found s.up, ld.1 r.0 own r.1),
+              ))
+            where
+              up_holding : (s : TrunkSide) → is_up s.state ≡ true → holds s.state ≡ true
+              up_holding s up = (up_holds s.state up).0
+
+      go : (b : Bool) → reaches n q.node ≡ b → Fresh (Answer.Reference (reference_of n.mint id)) (cond b (post
+          (Signal.Monitor p q (reference_of n.mint id))
+          (watch (reference_of n.mint id) (monitor_of p q) (draw kind.Reference (at_work n)))) (put p
+          (down_term (reference_of n.mint id) q noconnection) (draw kind.Reference (at_work n))))
+      go true far = reached far
+      go false far = λ k u i j. absurd (none-some u (sym i ∙ j))
+
+  make_fresh : (p q : Pid) → AllGo (call n (Command.Monitor p q)) Fresh
+  make_fresh p q =
+      go_cond (living n p) _ Refusal.NoSuchProcess Fresh (λ l. go_not
+      (same_name q.node n.mint.name && is_stranger n q) _ Refusal.Forged Fresh
+      (λ f. go_drawn (id_of n.mint kind.Reference) _ Fresh (λ id i. monitor_fresh p q id)))
+
+  -- every other event begins no monitor
+  none_begun : (e : Event) (xs : List Item) (a : Answer) (o : Work)
+      → ((k : Reference) → is_answered k e (Reported a o.effects) ≡ false) → Done w h x n hx gw g e xs a o → Fresh a o
+  none_begun e xs a o na d k u i j = go (d.deed.course k)
+    where
+      go : Course w h n x e (Reported a o.effects) o k → NewWatch n o k u
+      go (Stays b c nb nd) = absurd (none-some u (sym (b ∙ i) ∙ j))
+      go (Leaves v b c l ux dn nb nd) = absurd (none-some v (sym i ∙ b))
+      go (Downs v z b c t dn nb nd) = absurd (none-some v (sym i ∙ b))
+      go (Begins p q ev nb nd kx nr dr l c) = let z : true ≡ false = sym nb ∙ na k in cc
+      go (Revoked v b c dn nb nd) = absurd (none-some v (sym i ∙ b))
+
+  other_fresh : (c : Command) → ((k : Reference) (r : Report) → is_answered k (Call x c) r ≡ false)
+      → AllGo (call n c) (λ a o. Done w h x n hx gw g (Call x c) n.local a o → Fresh a o)
+  other_fresh c na =
+      any_go (λ a o. Done w h x n hx gw g (Call x c) n.local a o → Fresh a o) (call n c)
+      (λ a o d. none_begun (Call x c) n.local a o (λ k. na k (Reported a o.effects)) d)
+
+  call_fresh : (c : Command) → AllGo (call n c) (λ a o. Done w h x n hx gw g (Call x c) n.local a o → Fresh a o)
+  call_fresh (Command.Monitor p q) = weaker (call n (Command.Monitor p q)) (make_fresh p q)
+    where
+      weaker : (k : Outcome) → AllGo k Fresh → AllGo k (λ a o. Done w h x n hx gw g (Call x (Command.Monitor p q)) n.local a o → Fresh a o)
+      weaker (Refuses j) f = tt
+      weaker (Accepts a o) f = λ d. f
+  call_fresh (Command.Demonitor p r) = other_fresh (Command.Demonitor p r) (λ k r. refl)
+  call_fresh c = other_fresh c (λ k r. refl)
+
+  -- ---- the world after
+
+  module _ (l : Linked w) where
+    -- nothing is taken off a list
+    ends_linked : (e : Event) (k : Outcome) → AllGo k (Done w h x n hx gw g e n.local)
+        → AllGo k (λ a o. Done w h x n hx gw g e n.local a o → Fresh a o) → Linked ((came_of w x w.lists k).world)
+    ends_linked e (Refuses j) d f = l
+    ends_linked e (Accepts a o) d f =
+        linked_after w h x n hx gw g l e n.local a o d w.lists (λ t q. ⊥) (λ q t y i. inl i) (λ t k u b. absurd b) (λ t k y v u b. absurd b)
+        (λ q. ⊥) (λ q i. inl i) (λ k u b. absurd b) (λ k u b. absurd b) (f d)
+
+    plain_linked : (e : Event) (k : Outcome) → ((r : Reference) (z : Report) → is_answered r e z ≡ false)
+        → AllGo k (Done w h x n hx gw g e n.local) → Linked ((came_of w x w.lists k).world)
+    plain_linked e k na d = ends_linked e k d (any_go _ k (λ a o v. none_begun e n.local a o (λ r. na r (Reported a o.effects)) v))
+
+    -- the first item of a trunk
+    module _ (t : TrunkId) (k0 : ℕ) (i : Item) (rest : List Item) (first : list_to w.lists t x ≡ i ∷ rest) where
+      came : IsFounded w h i
+      came = All-head (IsFounded w h) i rest (subst (λ z. All (IsFounded w h) z) first (g.lists t x))
+
+      pop : (f : Item → Bool) (u : TrunkId) (y : Name) → has f (list_to w.lists u y) ≡ true
+          → (has f (list_to (fm.insert w.lists (t, x) rest) u y) ≡ true) ⊎ ((y ≡ x) × ((u ≡ t) × (f i ≡ true)))
+      pop f u y j = by_test _ (same_trunk u t && same_name y x)
+          (λ e. let v = and_parts (same_trunk u t) (same_name y x) e in
+          let ut : u ≡ t = same_trunk_true u t v.0 in
+          let yx : y ≡ x = same_name_true y x v.1 in
+          hit e ut yx (f i) refl (sym (ap (has f) ((λ q. list_to w.lists (ut q) (yx q)) ∙ first)) ∙ j))
+          (λ e. inl (ap (has f) (list_to_insert w.lists t x rest u y ∙ ap (λ b. cond b rest (list_to w.lists u y)) e) ∙ j))
+        where
+          hit : (same_trunk u t && same_name y x) ≡ true → u ≡ t → y ≡ x → (b : Bool) → f i ≡ b → (b || has f rest) ≡ true
+              → (has f (list_to (fm.insert w.lists (t, x) rest) u y) ≡ true) ⊎ ((y ≡ x) × ((u ≡ t) × (f i ≡ true)))
+          hit e ut yx true q z = inr (yx, (ut, q))
+          hit e ut yx false q z = inl (ap (has f) (list_to_insert w.lists t x rest u y ∙ ap (λ b. cond b rest (list_to w.lists u y)) e) ∙ z)
+
+      comes_linked : (k : Outcome) → AllGo k (Done w h x n hx gw g (Arrive t x k0) n.local) → AllGo k (Facts t k0 i came)
+          → Linked ((came_of w x (fm.insert w.lists (t, x) rest) k).world)
+      comes_linked (Refuses j) d f = l
+      comes_linked (Accepts a o) d f =
+          linked_after w h x n hx gw g l (Arrive t x k0) n.local a o d (fm.insert w.lists (t, x) rest) (λ u q. (u ≡ t) × (q i ≡ true)) pop
+          (λ u k m b c z s q. f.ends k m b.1 c z s (ap (side_at o.node) (sym b.0) ∙ q))
+          (λ u k y v m b dy hv c ex. subst (λ z. TakenCall o z y k) (sym b.0) (f.calls k y v m b.1 dy hv c))
+          (λ q. ⊥) (λ q j. inl j) (λ k u b. absurd b) (λ k u b. absurd b) (none_begun (Arrive t x k0) n.local a o (λ k. refl) d)
+
+      fresh_linked : side_at n t ≡ None
+          → Linked ((came_of w x (fm.insert w.lists (t, x) rest) (arrive_fresh (handshake_in i) t k0 (at_work n))).world)
+      fresh_linked at =
+          comes_linked (arrive_fresh (handshake_in i) t k0 (at_work n)) (fresh_comes w h x n hx gw g t k0 i rest first at)
+          (fresh_facts t k0 i came (handshake_in i) refl)
+
+      known_linked : (v : TrunkSide) → side_at n t ≡ Some v
+          → Linked ((came_of w x (fm.insert w.lists (t, x) rest) (arrive_at (handshake_in i) t v i (at_work n))).world)
+      known_linked v at =
+          comes_linked (arrive_at (handshake_in i) t v i (at_work n))
+          (known_comes w h x n hx gw g t k0 i rest first v at (handshake_in i))
+          (known_facts t k0 i came v at (handshake_in i) refl)
+
+    arrive_linked : (t : TrunkId) (k : ℕ) → Linked ((step_at w (Some n) (Arrive t x k)).world)
+    arrive_linked t k =
+        arrives w x n (λ s. Linked s.world) (λ r. l) t k (λ i is first at. fresh_linked t k i is first at)
+        (λ i is v first at over. known_linked t k i is first v at)
+
+    -- the first item of the own list
+    local_linked : (is : List Item) → n.local ≡ is → Linked ((came_of w x w.lists (take_local n is)).world)
+    local_linked [] j = l
+    local_linked (i ∷ xs) j =
+        linked_after w h x n hx gw g l (Local x) xs (Answer.Took (kind_of i))
+        (take_item i (at_work (record n { local = xs }))) d w.lists (λ t q. ⊥) (λ q t y z. inl z) (λ t k u b. absurd b)
+        (λ t k y v u b. absurd b)
+        (λ q. q i ≡ true) pop_home (λ k u b c z. end_taken xs i fi k u b c z) home_call
+        (none_begun (Local x) xs (Answer.Took (kind_of i)) (take_item i (at_work (record n { local = xs }))) (λ k. refl) d)
+      where
+        d : Done w h x n hx gw g (Local x) xs (Answer.Took (kind_of i)) (take_item i (at_work (record n { local = xs })))
+        d = local_done w h x n hx gw g (i ∷ xs) j i xs refl
+
+        fi : IsFounded w h i
+        fi = All-head (IsFounded w h) i xs (subst (λ z. All (IsFounded w h) z) j (g.locals x n hx))
+
+        pop_home : (f : Item → Bool) → has f n.local ≡ true → (has f xs ≡ true) ⊎ (f i ≡ true)
+        pop_home f c = go (f i) refl (sym (ap (has f) j) ∙ c)
+          where
+            go : (b : Bool) → f i ≡ b → (b || has f xs) ≡ true → (has f xs ≡ true) ⊎ (f i ≡ true)
+            go true e z = inr e
+            go false e z = inl z
+
+        home_call : (k : Reference) (u : Monitor) → is_call k i ≡ true → fm.get n.watches k ≡ Some u
+            → ((b : Monitor) × (fm.get ((take_item i (at_work (record n { local = xs }))).node.registered) k ≡ Some b))
+            ⊎ (has (is_end k) ((take_item i (at_work (record n { local = xs }))).node.local) ≡ true)
+        home_call k u e c = go (call_taken xs i fi x n k u hx c e)
+          where
+            go : ((b : Monitor) × (fm.get ((take_item i (at_work (record n { local = xs }))).node.registered) k ≡ Some b))
+                ⊎ Lands (is_end k) n u.owner.node (take_item i (at_work (record n { local = xs })))
+                → ((b : Monitor) × (fm.get ((take_item i (at_work (record n { local = xs }))).node.registered) k ≡ Some b))
+                ⊎ (has (is_end k) ((take_item i (at_work (record n { local = xs }))).node.local) ≡ true)
+            go (inl b) = inl b
+            go (inr z) =
+                inr (z.0 (same_name_is u.owner.node n.mint.name (owner_at w h gw g x n k u hx c ∙ sym (node_of_name w.nodes x n hx))))
+
+up_linked : (w : World) (x : Name) (n : Node) (o : Outcome) → Linked w → Linked ((came_of w x w.lists o).world)
+    → Linked ((came_of w x w.lists (if_up n o)).world)
+up_linked w x n o l k = while_up w x n (λ s. Linked s.world) (λ r. l) w.lists o k
+
+pub linked_step : (w : World) (h : History) (gw : Good w) (g : Sound w h) (l : Linked w) (o : Option Node) (e : Event)
+    → node_of w.nodes (node_name e) ≡ o → Linked ((step_at w o e).world)
+linked_step w h gw g l None e i = l
+linked_step w h gw g l (Some n) (Call x c) i =
+    up_linked w x n _ l (ends_linked w h x n i gw g l (Call x c) (call n c) (call_done w h x n i gw g c) (call_fresh w h x n i gw g c))
+linked_step w h gw g l (Some n) (Arrive t x k) i = arrive_linked w h x n i gw g l t k
+linked_step w h gw g l (Some n) (Local x) i = up_linked w x n _ l (local_linked w h x n i gw g l n.local refl)
+linked_step w h gw g l (Some n) (Lose t x) i =
+    up_linked w x n _ l (plain_linked w h x n i gw g l (Lose t x) (lose n t (fm.get n.sides t)) (λ r z. refl)
+    (lose_done w h x n i gw g t (fm.get n.sides t) refl))
+linked_step w h gw g l (Some n) (Sweep x) i =
+    up_linked w x n _ l (plain_linked w h x n i gw g l (Sweep x) (sweep n) (λ r z. refl)
+    (sweep_done w h x n i gw g (any_side is_losing (fm.entries n.sides)) refl))
+linked_step w h gw g l (Some n) (Dial x y k) i =
+    up_linked w x n _ l
+    (plain_linked w h x n i gw g l (Dial x y k) (dial w.names n y k) (λ r z. refl) (dial_done w h x n i gw g w.names y k))
+linked_step w h gw g l (Some n) (Stop x) i =
+    up_linked w x n _ l (plain_linked w h x n i gw g l (Stop x) (stop n) (λ r z. refl) (stop_done w h x n i gw g))
+linked_step w h gw g l (Some n) (Start x) i = plain_linked w h x n i gw g l (Start x) (start n) (λ r z. refl) (start_done w h x n i gw g)
