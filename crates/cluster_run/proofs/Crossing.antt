@@ -46,16 +46,33 @@ use Rattle.wire_core.specs.contracts.offer.Offer as an_offer
 use Rattle.world_events.specs.contracts.event.NodeEvent as event
 
 payload_send : IsSend payload.the_row
-payload_send = search (Crossing.crosses, TheKnot.crosses, atom.the_send, pid.the_field_send, reference.the_field_send, sendable) depth 60 fits 20000
+payload_send =
+    search (Crossing.crosses, TheKnot.crosses, atom.the_send, pid.the_field_send, reference.the_field_send, sendable) depth 60 fits 20000
 
 entry_send : IsSend entry.the_row
-entry_send = search (payload_send, refusal.the_send, name.the_send, trunk.the_send, frame.the_send, links.the_send, Crossing.crosses, TheKnot.crosses, pid.the_field_send, reference.the_field_send, sendable) depth 60 fits 20000
+entry_send = search (
+  payload_send,
+  refusal.the_send,
+  name.the_send,
+  trunk.the_send,
+  frame.the_send,
+  links.the_send,
+  Crossing.crosses,
+  TheKnot.crosses,
+  pid.the_field_send,
+  reference.the_field_send,
+  sendable,
+) depth 60 fits 20000
 
 history_field : IsSend history.the_field.row
-history_field = search (entry_send, Crossing.crosses, TheKnot.crosses, atom.the_send, pid.the_field_send, reference.the_field_send, sendable) depth 60 fits 20000
+history_field = search
+    (entry_send, Crossing.crosses, TheKnot.crosses, atom.the_send, pid.the_field_send, reference.the_field_send, sendable)
+    depth 60 fits 20000
 
 book_send : IsSend book.the_row
-book_send = search (history_field, name.the_send, cookie.the_send, outlet.the_send, left.the_send, Crossing.crosses, TheKnot.crosses, sendable) depth 60 fits 20000
+book_send = search
+    (history_field, name.the_send, cookie.the_send, outlet.the_send, left.the_send, Crossing.crosses, TheKnot.crosses, sendable)
+    depth 60 fits 20000
 
 lock_send : IsSend (lock.the_field).row
 lock_send = search (book_send, Crossing.crosses, TheKnot.crosses, sendable) depth 60 fits 20000
@@ -66,13 +83,28 @@ lock_sync = search (book_send, Crossing.crosses, TheKnot.crosses, sendable) dept
 -- ---- a caller may be in any thread
 
 receipt_send : IsSend (receipt.the_field).row
-receipt_send = search (payload_send, refusal.the_send, name.the_send, trunk.the_send, frame.the_send, links.the_send, Crossing.crosses, TheKnot.crosses, pid.the_field_send, reference.the_field_send, sendable) depth 60 fits 20000
+receipt_send = search (
+  payload_send,
+  refusal.the_send,
+  name.the_send,
+  trunk.the_send,
+  frame.the_send,
+  links.the_send,
+  Crossing.crosses,
+  TheKnot.crosses,
+  pid.the_field_send,
+  reference.the_field_send,
+  sendable,
+) depth 60 fits 20000
 
 event_send : IsSend (event.the_field).row
-event_send = search (payload_send, name.the_send, Crossing.crosses, TheKnot.crosses, pid.the_field_send, reference.the_field_send, sendable) depth 60 fits 20000
+event_send = search
+    (payload_send, name.the_send, Crossing.crosses, TheKnot.crosses, pid.the_field_send, reference.the_field_send, sendable)
+    depth 60 fits 20000
 
 asked_send : IsSend asked.the_row
-asked_send = recorded_send (asked.the_field).row _ _ (asked.the_type).to_one (struct_send (shape asked.the_type) (event_send, (receipt_send, tt)))
+asked_send =
+    recorded_send (asked.the_field).row _ _ (asked.the_type).to_one (struct_send (shape asked.the_type) (event_send, (receipt_send, tt)))
 
 pub seat_field : IsSend (seat.the_field).row
 seat_field = struct_send (shape seat.the_type) (
@@ -86,10 +118,12 @@ seat_send = recorded_send (seat.the_field).row _ _ (seat.the_type).to_one seat_f
 -- ---- what the threads share
 
 pub bell_send : IsSend (a_sender.the_row Builtin.unit the_global.the_row TheImpl.ghosts)
-bell_send = sender.the_send Builtin.unit the_global.the_row TheImpl.ghosts (plain_send _ _ _ _ _) global.the_send global.the_sync heap.the_frees
+bell_send =
+    sender.the_send Builtin.unit the_global.the_row TheImpl.ghosts (plain_send _ _ _ _ _) global.the_send global.the_sync heap.the_frees
 
 bell_sync : IsSync (a_sender.the_row Builtin.unit the_global.the_row TheImpl.ghosts)
-bell_sync = sender.the_sync Builtin.unit the_global.the_row TheImpl.ghosts (plain_send _ _ _ _ _) global.the_send global.the_sync heap.the_frees
+bell_sync =
+    sender.the_sync Builtin.unit the_global.the_row TheImpl.ghosts (plain_send _ _ _ _ _) global.the_send global.the_sync heap.the_frees
 
 box_send : IsSend (a_sender.the_row an_offer.the_row the_global.the_row TheImpl.ghosts)
 box_send = sender.the_send an_offer.the_row the_global.the_row TheImpl.ghosts offer.the_send global.the_send global.the_sync heap.the_frees
@@ -98,13 +132,16 @@ box_sync : IsSync (a_sender.the_row an_offer.the_row the_global.the_row TheImpl.
 box_sync = sender.the_sync an_offer.the_row the_global.the_row TheImpl.ghosts offer.the_send global.the_send global.the_sync heap.the_frees
 
 ended_sync : IsSync (a_receiver.the_row Builtin.unit the_global.the_row TheImpl.ghosts)
-ended_sync = receiver.the_sync Builtin.unit the_global.the_row TheImpl.ghosts (plain_send _ _ _ _ _) global.the_send global.the_sync heap.the_frees
+ended_sync =
+    receiver.the_sync Builtin.unit the_global.the_row TheImpl.ghosts (plain_send _ _ _ _ _) global.the_send global.the_sync heap.the_frees
 
 desk_send : IsSend desk.the_row
-desk_send = recorded_send (desk.the_field).row _ _ (desk.the_type).to_one (struct_send (shape desk.the_type) (lock_send, (bell_send, (box_send, (number.the_send, tt)))))
+desk_send = recorded_send (desk.the_field).row _ _ (desk.the_type).to_one
+    (struct_send (shape desk.the_type) (lock_send, (bell_send, (box_send, (number.the_send, tt)))))
 
 desk_sync : IsSync desk.the_row
-desk_sync = recorded_sync (desk.the_field).row _ _ (desk.the_type).to_one (struct_sync (shape desk.the_type) (lock_sync, (bell_sync, (box_sync, (number.the_sync, tt)))))
+desk_sync = recorded_sync (desk.the_field).row _ _ (desk.the_type).to_one
+    (struct_sync (shape desk.the_type) (lock_sync, (bell_sync, (box_sync, (number.the_sync, tt)))))
 
 module _ (G : RattleType) where
   shared_send : IsSend G → IsSend (shared.the_row G)
@@ -129,11 +166,13 @@ module _ (G : RattleType) where
 
   pub arc_send : IsSend G → IsSync G → IsSend (an_arc.the_row (shared.the_row G) the_global.the_row TheImpl.ghosts)
   arc_send send sync =
-      arc.the_send (shared.the_row G) the_global.the_row TheImpl.ghosts (shared_send send) global.the_send (shared_sync sync) global.the_sync heap.the_frees
+      arc.the_send (shared.the_row G) the_global.the_row TheImpl.ghosts (shared_send send) global.the_send
+      (shared_sync sync) global.the_sync heap.the_frees
 
   pub arc_sync : IsSend G → IsSync G → IsSync (an_arc.the_row (shared.the_row G) the_global.the_row TheImpl.ghosts)
   arc_sync send sync =
-      arc.the_sync (shared.the_row G) the_global.the_row TheImpl.ghosts (shared_send send) global.the_send (shared_sync sync) global.the_sync heap.the_frees
+      arc.the_sync (shared.the_row G) the_global.the_row TheImpl.ghosts (shared_send send) global.the_send
+      (shared_sync sync) global.the_sync heap.the_frees
 
   -- any thread may call the nodes by a reference to their cluster
   pub cluster_sync : IsSend G → IsSync G → IsSync (cluster.the_row G)

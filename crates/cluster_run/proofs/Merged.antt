@@ -39,7 +39,8 @@ module _ (entries : List Placed) (own nodes lent_nodes : Nodes) (books lent_book
     pub finished_in : IfOk r (λ t. IsTrace lent_books t.entries.items) → IfOk r (λ t. AreARun lent_nodes lent_books t.entries.items)
         → IfOk r (λ t. AreReceipts lent_books lent_seats) → (nodes ≡ own) × IsFinished own books seats entries
     finished_in t run receipts =
-        finished (at_trace (IsTrace lent_books) t) (at_trace (AreARun lent_nodes lent_books) run) (at_trace (λ es. AreReceipts lent_books lent_seats) receipts)
+        finished (at_trace (IsTrace lent_books) t) (at_trace (AreARun lent_nodes lent_books) run)
+        (at_trace (λ es. AreReceipts lent_books lent_seats) receipts)
 
 -- the world at the end of their run
 module _ (entries : List Placed) (nodes lent_nodes : Nodes) (books lent_books : List BookSeen) (r : Result World Refusal) where

@@ -1,31 +1,30 @@
--- A book with one entry more is kept, and so is one in which parcels have moved.
-use Rattle.std.proofs.Common.{◌≡◌, ◌≢◌, ℕ, ◌<◌, ◌+◌, Bool, true, false, Option, None, Some, List, [], ◌∷◌, ◌++◌, inl, inr, if◌then◌else◌, length, refl, sym, ap, ◌∙◌, subst, append_assoc, append-nil, arith, Contains}
+-- A book with one entry more is kept.
+use Rattle.std.proofs.Common.{◌≡◌, ◌≢◌, ℕ, ◌<◌, ◌+◌, Bool, true, false, Option, None, Some, List, [], ◌∷◌, ◌++◌, inl, inr}
+use Rattle.std.proofs.Common.{if◌then◌else◌, length, refl, sym, ap, ◌∙◌, subst, append_assoc, append-nil, arith, Contains}
 use Rattle.std.specs.FinMap as fm
 use Rattle.std.proofs.lemmas.List.Elements.{All-push, Contains-append_left, Contains-append_right, Contains-push}
-use Rattle.dist_books.proofs.Numbers.{new_books_are_kept}
 use Rattle.dist_books.proofs.Senders.{no_front}
 use Rattle.dist_books.proofs.Steps.{KeepsBearings, same_way_is, same_way_self}
-use Rattle.dist_books.specs.Acting.{Acts, EventsAreLines, IsMet, Nodes, Way, meets, name_at, names_of, next_of, on_ways, opened_at, report_of, same_way, sent_in, taken_in, takes}
-use Rattle.dist_books.specs.Books.{Book, IsPort, Log, Port, Replays, Rise, Stamped, new_book, outbox_to, put_to, slot_of, taken_by}
-use Rattle.dist_books.specs.Growing.{BooksGrow, BooksRest, Enters, Follows, HasPorts, IsTowards, Leaves, Moves, NewBooksFollow, Rests, SentToPeers, comes_to, effects_in}
+use Rattle.dist_books.specs.Acting.{Acts, EventsAreLines, IsMet, Nodes, Way, meets, name_at, names_of, next_of}
+use Rattle.dist_books.specs.Acting.{on_ways, opened_at, report_of, same_way, sent_in, taken_in, takes}
+use Rattle.dist_books.specs.Books.{Book, IsPort, Log, Port, Replays, Rise, Stamped, outbox_to, put_to, slot_of, taken_by}
+use Rattle.dist_books.specs.Growing.{BooksGrow, Enters, Follows, HasPorts, IsTowards, Leaves, SentToPeers, comes_to, effects_in}
 use Rattle.dist_model.proofs.Keys.{same_name_is, same_name_true}
 use Rattle.dist_model.specs.Commands.{Accepts, Outcome, Refuses}
-use Rattle.dist_model.specs.Dialing.{next_trunk}
 use Rattle.dist_model.specs.Items.{Item}
 use Rattle.dist_model.specs.Keeping as keeping
-use Rattle.dist_model.specs.Keeping.{Bearings, CountsOwn, Dials, Towards}
+use Rattle.dist_model.specs.Keeping.{CountsOwn, Dials, Towards}
 use Rattle.dist_model.specs.Names.{Name, same_name}
 use Rattle.dist_model.specs.NodeEvents as met
-use Rattle.dist_model.specs.NodeEvents.{NodeEvent, at_node}
+use Rattle.dist_model.specs.NodeEvents.{NodeEvent}
 use Rattle.dist_model.specs.Sides.{TrunkSide}
 use Rattle.dist_model.specs.Work.{Work}
 use Rattle.dist_model.specs.World.{Arrive, Call, Dial, Event, Local, Lose, Report, Start, Stop, Sweep, node_name}
 use Rattle.dist_model.specs.declared.report.Answer.{Answer}
 use Rattle.dist_model.specs.declared.report.Effect.{Effect}
-use Rattle.erl_names.specs.Order.{trunk_cmp}
 use Rattle.erl_names.specs.declared.trunk.TrunkId.{TrunkId}
 use Rattle.merging.proofs.Growing.{lead_grows, sent_grows, took_grows}
-use Rattle.merging.specs.Logs.{Entry, Line, TakesEarlier, bare, bare_took, entries_of, off, on, sent_on, stamped, took_on}
+use Rattle.merging.specs.Logs.{Entry, Line, TakesEarlier, bare, bare_took, entries_of, off, on, stamped, took_on}
 
 -- ---- lists
 
@@ -58,10 +57,12 @@ sent_nothing : (c : Way) (effects : List (Effect Item)) → ((item : Item) → C
 sent_nothing c [] none = refl
 sent_nothing c (Effect.Sent (Some trunk) peer item ∷ rest) none =
     go (same_way c (trunk, peer)) refl
-    (sent_nothing c rest (λ i h. none i (Contains-append_right (Effect.Sent (Some trunk) peer item ∷ []) rest (Effect.Sent (Some c.0) c.1 i) h)))
+    (sent_nothing c rest
+    (λ i h. none i (Contains-append_right (Effect.Sent (Some trunk) peer item ∷ []) rest (Effect.Sent (Some c.0) c.1 i) h)))
   where
     here : Contains (Effect.Sent (Some trunk) peer item ∷ rest) (Effect.Sent (Some trunk) peer item)
-    here = Contains-append_left (Effect.Sent (Some trunk) peer item ∷ []) rest (Effect.Sent (Some trunk) peer item) (Contains-push [] (Effect.Sent (Some trunk) peer item))
+    here = Contains-append_left (Effect.Sent (Some trunk) peer item ∷ []) rest (Effect.Sent (Some trunk) peer item)
+        (Contains-push [] (Effect.Sent (Some trunk) peer item))
 
     go : (b : Bool) → same_way c (trunk, peer) ≡ b → on same_way c (on_ways rest) ≡ []
         → (if b then item ∷ [] else []) ++ on same_way c (on_ways rest) ≡ []
@@ -80,7 +81,8 @@ sent_nothing c (Effect.LinkExit p q r ∷ rest) none =
 
 -- ---- an item that comes to a new side is taken off its way
 
-came : (name : Name) (event : Event) (first : Option Item) (trunk : TrunkId) → node_name event ≡ name → keeping.Comes (meets event first) trunk
+came : (name : Name) (event : Event) (first : Option Item) (trunk : TrunkId) → node_name event ≡ name
+    → keeping.Comes (meets event first) trunk
     → (item : Item) × (takes event first ≡ Some ((trunk, name), item ∷ []))
 came name (Call n c) first trunk named comes =
     absurd (let h : met.Call c ≡ met.Arrive trunk (Some comes.0) comes.1 = comes.2 in cc)
@@ -125,7 +127,8 @@ off_way c (Some taken) item is none =
 
 module _ (lines : EventsAreLines) (bearings : KeepsBearings) (nodes : Nodes) (k : ℕ) (event : Event) (first : Option Item) (book : Book)
     (took : Option (Way × List Stamped)) (stamp : ℕ) (next : Book) (below : k < length nodes) (named : node_name event ≡ name_at nodes k)
-    (met : IsMet event first) (counts : CountsOwn book.node) (f : Follows nodes k book) (e : Enters nodes k event first book took stamp next) where
+    (met : IsMet event first) (counts : CountsOwn book.node) (f : Follows nodes k book)
+    (e : Enters nodes k event first book took stamp next) where
   abbrev own : Name
   own = name_at nodes k
 
@@ -197,18 +200,22 @@ module _ (lines : EventsAreLines) (bearings : KeepsBearings) (nodes : Nodes) (k 
   keeps_towards trunk peer (Some old) (Some new) l is = l.peer ∙ is
 
   -- an item was taken where there is a port, which is towards the dialer unless this node has a side there
-  arrived_towards : (trunk : TrunkId) (old new : Option Port) → book.ports trunk ≡ old → Leaves own sent took stamp trunk book.node next.node now old new
+  arrived_towards : (trunk : TrunkId) (old new : Option Port) → book.ports trunk ≡ old
+      → Leaves own sent took stamp trunk book.node next.node now old new
       → (off same_way (trunk, own) took ≡ [] → ⊥) → fm.get book.node.sides trunk ≡ None
       → IsPort own trunk old (took_on same_way (trunk, own) f.log) → IsTowards new trunk.dialer
   arrived_towards trunk None None at l some none is = absurd (some l)
   arrived_towards trunk None (Some new) at l some none is = absurd (some l.0)
   arrived_towards trunk (Some old) None at l some none is = l
   arrived_towards trunk (Some old) (Some new) at l some none is = elim is [
-    | inl d ↦ absurd (let t = f.ports.dialed trunk old d.0 at in let no : ◌≡◌ {A = Option TrunkSide} None (Some t.side) = sym none ∙ t.there in cc)
+    | inl d ↦
+        absurd
+        (let t = f.ports.dialed trunk old d.0 at in let no : ◌≡◌ {A = Option TrunkSide} None (Some t.side) = sym none ∙ t.there in cc)
     | inr d ↦ l.peer ∙ d.1
   ]
 
-  some_taken : (trunk : TrunkId) (item : Item) → takes event first ≡ Some ((trunk, own), item ∷ []) → taken_in event first due ≡ takes event first
+  some_taken : (trunk : TrunkId) (item : Item) → takes event first ≡ Some ((trunk, own), item ∷ [])
+      → taken_in event first due ≡ takes event first
       → off same_way (trunk, own) took ≡ [] → ⊥
   some_taken trunk item t same none = off_way (trunk, own) took item (e.takes ∙ same ∙ t) none
 
@@ -218,7 +225,8 @@ module _ (lines : EventsAreLines) (bearings : KeepsBearings) (nodes : Nodes) (k 
       go : Origin trunk peer → IsTowards (next.ports trunk) peer
       go (Was t) = keeps_towards trunk peer (book.ports trunk) (next.ports trunk) (leaves trunk) (f.ports.there trunk peer t)
       go (Came item t same none to) = subst (λ p. IsTowards (next.ports trunk) p) (sym to)
-          (arrived_towards trunk (book.ports trunk) (next.ports trunk) refl (leaves trunk) (some_taken trunk item t same) none (f.replays.port trunk))
+          (arrived_towards trunk (book.ports trunk) (next.ports trunk) refl (leaves trunk) (some_taken trunk item t same) none
+          (f.replays.port trunk))
       go (Dialed d) = e.opened trunk peer d is
 
   took_now : (trunk : TrunkId) → took_on same_way (trunk, own) log ≡ took_on same_way (trunk, own) f.log ++ off same_way (trunk, own) took
@@ -242,7 +250,8 @@ module _ (lines : EventsAreLines) (bearings : KeepsBearings) (nodes : Nodes) (k 
       let count : trunk.count ≡ book.node.dialed + 1 = ap (λ (x : TrunkId). x.count) d.1 in
       omega (arith, most, count)
 
-  stays_in : (o : Outcome) → due ≡ o → (trunk : TrunkId) (peer : Name) → Towards book.node trunk peer → Towards (next_of book.node o) trunk peer
+  stays_in : (o : Outcome) → due ≡ o → (trunk : TrunkId) (peer : Name) → Towards book.node trunk peer
+      → Towards (next_of book.node o) trunk peer
   stays_in (Refuses why) is trunk peer t = t
   stays_in (Accepts said work) is trunk peer t = elim ((bearings (names_of nodes) book.node now said work is).stays trunk peer t) [
     | inl n ↦ n
@@ -260,7 +269,8 @@ module _ (lines : EventsAreLines) (bearings : KeepsBearings) (nodes : Nodes) (k 
   dialed_at trunk port by (Some old) None was is l = absurd l
   dialed_at trunk port by (Some old) (Some new) was is l =
       let same : new ≡ port = cc in
-      subst (λ p. Towards next.node trunk p) (sym l.peer ∙ ap (λ (p : Port). p.peer) same) (stays trunk old.peer (f.ports.dialed trunk old by was))
+      subst (λ p. Towards next.node trunk p) (sym l.peer ∙ ap (λ (p : Port). p.peer) same)
+      (stays trunk old.peer (f.ports.dialed trunk old by was))
 
   name_in : (o : Outcome) → due ≡ o → (next_of book.node o).mint.name ≡ book.node.mint.name
   name_in (Refuses why) is = refl
@@ -280,7 +290,8 @@ module _ (lines : EventsAreLines) (bearings : KeepsBearings) (nodes : Nodes) (k 
       → on same_way (trunk, peer) (sent_in o) ≡ []
   unsent_in (Refuses why) is trunk peer none = refl
   unsent_in (Accepts said work) is trunk peer none =
-      sent_nothing (trunk, peer) work.effects (λ item c. none ((bearings (names_of nodes) book.node now said work is).sent trunk peer item c))
+      sent_nothing (trunk, peer) work.effects
+      (λ item c. none ((bearings (names_of nodes) book.node now said work is).sent trunk peer item c))
 
   unsent : (trunk : TrunkId) (peer : Name) → (Towards next.node trunk peer → ⊥) → stamped stamp (on same_way (trunk, peer) sent) ≡ []
   unsent trunk peer none =
@@ -322,7 +333,8 @@ module _ (lines : EventsAreLines) (bearings : KeepsBearings) (nodes : Nodes) (k 
 
   -- ---- what came
 
-  ins : (trunk : TrunkId) (old new : Option Port) (log_took : List Stamped) → Leaves own sent took stamp trunk book.node next.node now old new
+  ins : (trunk : TrunkId) (old new : Option Port) (log_took : List Stamped)
+      → Leaves own sent took stamp trunk book.node next.node now old new
       → taken_by old ≡ log_took ++ slot_of old → taken_by new ≡ (log_took ++ off same_way (trunk, own) took) ++ slot_of new
   ins trunk None None log_took l is = is ∙ ap (λ x. log_took ++ x) (sym l) ∙ sym (append-nil _)
   ins trunk None (Some new) log_took l is =
@@ -357,9 +369,11 @@ module _ (lines : EventsAreLines) (bearings : KeepsBearings) (nodes : Nodes) (k 
     rise = subst (λ h. Rise 0 h next.last) (sym e.history) (subst (λ n. Rise 0 (book.history ++ line.entry ∷ []) n) (sym e.last)
         (rise_snoc 0 book.history line.entry book.last f.replays.rise e.rises));
     earlier = All-push (λ (l : Line Event Report Way Item). TakesEarlier l.entry.stamp l.took) f.log line f.replays.earlier e.earlier;
-    out = λ trunk peer. sent_grows same_way (trunk, peer) f.log line ∙ ap (λ l. l ++ stamped stamp (on same_way (trunk, peer) sent)) (f.replays.out trunk peer)
+    out = λ trunk peer. sent_grows same_way (trunk, peer) f.log line
+        ∙ ap (λ l. l ++ stamped stamp (on same_way (trunk, peer) sent)) (f.replays.out trunk peer)
         ∙ outs trunk peer (book.ports trunk) (next.ports trunk) (leaves trunk) (there trunk peer);
-    into = λ trunk. ins trunk (book.ports trunk) (next.ports trunk) (took_on same_way (trunk, own) f.log) (leaves trunk) (f.replays.into trunk)
+    into =
+        λ trunk. ins trunk (book.ports trunk) (next.ports trunk) (took_on same_way (trunk, own) f.log) (leaves trunk) (f.replays.into trunk)
         ∙ ap (λ l. l ++ slot_of (next.ports trunk)) (sym (took_now trunk));
     port = λ trunk. is_port trunk (book.ports trunk) (next.ports trunk) (leaves trunk) (f.replays.port trunk);
   }
@@ -376,7 +390,8 @@ pub sent_to_peers : EventsAreLines → KeepsBearings → SentToPeers
 sent_to_peers lines bearings nodes k event first book took stamp next below named met counts f e trunk peer item sent =
     go (comes_to nodes k event first book) refl sent
   where
-    go : (o : Outcome) → comes_to nodes k event first book ≡ o → Contains (effects_in o) (Effect.Sent (Some trunk) peer item) → IsTowards (next.ports trunk) peer
+    go : (o : Outcome) → comes_to nodes k event first book ≡ o → Contains (effects_in o) (Effect.Sent (Some trunk) peer item)
+        → IsTowards (next.ports trunk) peer
     go (Refuses why) is c = let lt = c.1 in absurd (omega arith)
     go (Accepts said work) is c =
         there lines bearings nodes k event first book took stamp next below named met counts f e trunk peer
@@ -386,115 +401,3 @@ sent_to_peers lines bearings nodes k event first book took stamp next below name
 pub books_grow : EventsAreLines → KeepsBearings → BooksGrow
 books_grow lines bearings nodes k event first book took stamp next below named met counts f e =
     grown lines bearings nodes k event first book took stamp next below named met counts f e
-
--- ---- parcels move
-
-module _ (nodes : Nodes) (k : ℕ) (book next : Book) (f : Follows nodes k book) (r : Rests (name_at nodes k) book next) where
-  abbrev here : Name
-  here = name_at nodes k
-
-  moved_towards : (trunk : TrunkId) (peer : Name) (old new : Option Port) → Moves here trunk old new → IsTowards old peer → IsTowards new peer
-  moved_towards trunk peer None new m is = absurd is
-  moved_towards trunk peer (Some old) None m is = m
-  moved_towards trunk peer (Some old) (Some new) m is = m.peer ∙ is
-
-  moved_dialed : (trunk : TrunkId) (port : Port) → trunk.dialer ≡ here → (old new : Option Port) → book.ports trunk ≡ old → new ≡ Some port
-      → Moves here trunk old new → Towards book.node trunk port.peer
-  moved_dialed trunk port by None None was is m = absurd (let no : None ≡ Some port = is in cc)
-  moved_dialed trunk port by None (Some new) was is m = absurd (m.other by)
-  moved_dialed trunk port by (Some old) None was is m = absurd m
-  moved_dialed trunk port by (Some old) (Some new) was is m =
-      let same : new ≡ port = cc in
-      subst (λ p. Towards book.node trunk p) (sym m.peer ∙ ap (λ (p : Port). p.peer) same) (f.ports.dialed trunk old by was)
-
-  by_peer : (old new : Port) (b c : Bool) → b ≡ c → new.put ++ new.outbox ≡ old.put ++ old.outbox
-      → (if b then old.put else []) ++ (if b then old.outbox else []) ≡ (if c then new.put else []) ++ (if c then new.outbox else [])
-  by_peer old new true true is same = sym same
-  by_peer old new false false is same = refl
-  by_peer old new true false is same = absurd (cc)
-  by_peer old new false true is same = absurd (cc)
-
-  fresh : (new : Port) (b : Bool) → new.put ++ new.outbox ≡ [] → [] ≡ (if b then new.put else []) ++ (if b then new.outbox else [])
-  fresh new true none = sym none
-  fresh new false none = refl
-
-  moved_out : (trunk : TrunkId) (peer : Name) (old new : Option Port) → Moves here trunk old new
-      → put_to peer old ++ outbox_to peer old ≡ put_to peer new ++ outbox_to peer new
-  moved_out trunk peer None None m = refl
-  moved_out trunk peer None (Some new) m = fresh new (same_name new.peer peer) m.out
-  moved_out trunk peer (Some old) None m = absurd m
-  moved_out trunk peer (Some old) (Some new) m =
-      by_peer old new (same_name old.peer peer) (same_name new.peer peer) (ap (λ p. same_name p peer) (sym m.peer)) m.out
-
-  moved_in : (trunk : TrunkId) (old new : Option Port) (taken : List Stamped) → Moves here trunk old new
-      → taken_by old ≡ taken ++ slot_of old → taken_by new ≡ taken ++ slot_of new
-  moved_in trunk None None taken m is = is
-  moved_in trunk None (Some new) taken m is = m.taken ∙ is ∙ ap (λ l. taken ++ l) (sym m.slot)
-  moved_in trunk (Some old) None taken m is = absurd m
-  moved_in trunk (Some old) (Some new) taken m is =
-      m.taken ∙ ap (λ l. l ++ m.more) is ∙ append_assoc taken old.slot m.more ∙ ap (λ l. taken ++ l) (sym m.slot)
-
-  moved_port : (trunk : TrunkId) (old new : Option Port) → Moves here trunk old new → IsPort here trunk old (took_on same_way (trunk, here) f.log)
-      → IsPort here trunk new (took_on same_way (trunk, here) f.log)
-  moved_port trunk None None m is = tt
-  moved_port trunk None (Some new) m is = inr (m.other, m.peer, λ none. m.out)
-  moved_port trunk (Some old) None m is = absurd m
-  moved_port trunk (Some old) (Some new) m is = elim is [
-    | inl d ↦ inl (d.0, λ h. d.1 (sym m.peer ∙ h))
-    | inr d ↦ inr (d.0, m.peer ∙ d.1, λ none. m.out ∙ d.2 none)
-  ]
-
-  towards : (trunk : TrunkId) (peer : Name) → Towards next.node trunk peer → Towards book.node trunk peer
-  towards trunk peer t = subst (λ n. Towards n trunk peer) r.node t
-
-  rested : Follows nodes k next
-  rested = record {
-    log = f.log;
-    replays = record {
-      history = r.history ∙ f.replays.history;
-      leads = subst (λ n. Rattle.merging.specs.Logs.Leads (Acts nodes) k (opened_at nodes k) f.log n) (sym r.node) f.replays.leads;
-      rise = subst (λ h. Rise 0 h next.last) (sym r.history) (subst (λ n. Rise 0 book.history n) (sym r.last) f.replays.rise);
-      earlier = f.replays.earlier;
-      out = λ trunk peer. f.replays.out trunk peer ∙ moved_out trunk peer (book.ports trunk) (next.ports trunk) (r.ports trunk);
-      into = λ trunk. moved_in trunk (book.ports trunk) (next.ports trunk) (took_on same_way (trunk, here) f.log) (r.ports trunk) (f.replays.into trunk);
-      port = λ trunk. moved_port trunk (book.ports trunk) (next.ports trunk) (r.ports trunk) (f.replays.port trunk);
-    };
-    ports = record {
-      name = ap (λ n. n.mint.name) r.node ∙ f.ports.name;
-      there = λ trunk peer t. moved_towards trunk peer (book.ports trunk) (next.ports trunk) (r.ports trunk) (f.ports.there trunk peer (towards trunk peer t));
-      heard = λ trunk peer t. f.ports.heard trunk peer (towards trunk peer t);
-      dialed = λ trunk port by is. subst (λ n. Towards n trunk port.peer) (sym r.node)
-          (moved_dialed trunk port by (book.ports trunk) (next.ports trunk) refl is (r.ports trunk));
-    };
-  }
-
-pub books_rest : BooksRest
-books_rest nodes k book next f r = rested nodes k book next f r
-
--- ---- a new book
-
-pub new_books_follow : NewBooksFollow
-new_books_follow nodes k = record {
-  log = (new_books_are_kept nodes k).0;
-  replays = (new_books_are_kept nodes k).1;
-  ports = record {
-    name = refl;
-    there = λ trunk peer t. absurd (no_side trunk t.side t.there);
-    heard = λ trunk peer t others none. no_side trunk t.side t.there;
-    dialed = λ trunk port by is. absurd (let no : ◌≡◌ {A = Option Port} None (Some port) = is in cc);
-  };
-}
-  where
-    no_side : (trunk : TrunkId) (side : TrunkSide) → fm.get (new_book (opened_at nodes k)).node.sides trunk ≡ Some side → ⊥
-    no_side trunk side h = let no : ◌≡◌ {A = Option TrunkSide} None (Some side) = sym (fm.get-empty trunk_cmp trunk) ∙ h in cc
-
--- what the node dials next has no port yet
-pub next_is_new : (nodes : Nodes) (k : ℕ) (book : Book) → Follows nodes k book → CountsOwn book.node → book.ports (next_trunk book.node) ≡ None
-next_is_new nodes k book f counts = go (book.ports (next_trunk book.node)) refl
-  where
-    go : (o : Option Port) → book.ports (next_trunk book.node) ≡ o → book.ports (next_trunk book.node) ≡ None
-    go None is = is
-    go (Some port) is =
-        let t = f.ports.dialed (next_trunk book.node) port f.ports.name is in
-        let most = counts (next_trunk book.node) t.side t.there refl in
-        absurd (omega (arith, most))

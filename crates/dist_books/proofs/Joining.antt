@@ -1,11 +1,13 @@
 -- Books are one run of the world.
-use Rattle.std.proofs.Common.{◌≡◌, ◌≢◌, ℕ, ◌<◌, ◌≤◌, Option, None, Some, List, [], ◌∷◌, ◌++◌, inl, inr, length, drop, slice_index_or, refl, sym, ap, ◌∙◌, subst, append_assoc, arith}
+use Rattle.std.proofs.Common.{◌≡◌, ◌≢◌, ℕ, ◌<◌, ◌≤◌, Option, None, Some, List, [], ◌∷◌, ◌++◌, inl, inr}
+use Rattle.std.proofs.Common.{length, drop, slice_index_or, refl, sym, ap, ◌∙◌, subst, append_assoc, arith}
 use Rattle.std.proofs.Math.Seq.{drop-append_seam}
 use Rattle.dist_books.proofs.Numbers.{book_beyond, each_kept, known_or_not, number_there}
 use Rattle.dist_books.proofs.Senders.{none_sent, peer_sends, took_elsewhere}
 use Rattle.dist_books.proofs.Steps.{IsLocal, KeepsBearings, opened, runs}
 use Rattle.dist_books.specs.Acting.{Acts, Nodes, Way, name_at, opened_at, same_way}
-use Rattle.dist_books.specs.Books.{Book, Kept, Log, Port, Stamped, book_at, number_of, on_the_way, outbox_to, port_of, put_to, sender, slot_of, taken_by}
+use Rattle.dist_books.specs.Books.{Book, Kept, Log, Port, Stamped, book_at, number_of, on_the_way}
+use Rattle.dist_books.specs.Books.{outbox_to, port_of, put_to, sender, slot_of, taken_by}
 use Rattle.dist_books.specs.Merged.{AreBooks, BooksAreARun, BooksAreSafe, IsMerged, Placed, Precedes, events_of, reports_of}
 use Rattle.dist_model.specs.Histories.{Throughout}
 use Rattle.dist_model.specs.Items.{Item}

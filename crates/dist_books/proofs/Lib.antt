@@ -4,4 +4,5 @@ pub mod Steps
 pub mod Senders
 pub mod Joining
 pub mod Growing
+pub mod ParcelsMove
 pub mod Sorted

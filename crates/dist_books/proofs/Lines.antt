@@ -3,7 +3,8 @@ use Rattle.erl_handshake.specs.declared.turn.Progress.{Progress}
 use Rattle.erl_handshake.specs.declared.turn.Progress.TheVariants as progress
 use Rattle.std.proofs.Common.{◌≡◌, ℕ, Bool, true, false, cond, Option, None, Some, List, inl, inr, ◌⊎◌, refl, sym, ap, ◌∙◌}
 use Rattle.std.specs.FinMap as fm
-use Rattle.dist_books.specs.Acting.{AcceptsWhatComes, EventsAreLines, IsMet, RefusesWhateverComes, meets, names_of, next_of, report_of, sent_in, taken_in}
+use Rattle.dist_books.specs.Acting.{AcceptsWhatComes, EventsAreLines, IsMet, RefusesWhateverComes}
+use Rattle.dist_books.specs.Acting.{meets, names_of, next_of, report_of, sent_in, taken_in}
 use Rattle.dist_model.specs.Admission.{after_name}
 use Rattle.dist_model.specs.Arrivals.{arrive, arrive_fresh, handshake_in}
 use Rattle.dist_model.specs.Commands.{Accepts, Outcome, Refuses}
@@ -15,7 +16,7 @@ use Rattle.dist_model.specs.NodeEvents as met
 use Rattle.dist_model.specs.NodeEvents.{at_node}
 use Rattle.dist_model.specs.Sides.{TrunkSide, is_over}
 use Rattle.dist_model.specs.Work.{Work, at_work}
-use Rattle.dist_model.specs.World.{Arrive, Call, Dial, Event, Local, Lose, Start, Stop, Sweep}
+use Rattle.dist_model.specs.World.{Arrive, Event}
 use Rattle.erl_handshake.specs.declared.message.ShakeMsg.{ShakeMsg}
 use Rattle.erl_names.specs.declared.trunk.TrunkId.{TrunkId}
 use Rattle.erl_term.specs.declared.refusal.Refusal.{Refusal}
@@ -32,8 +33,7 @@ clash outcome why taken refused = let no : Accepts taken.0 taken.1 ≡ Refuses w
 -- of a trunk that the node has no side of yet, an item is never refused
 name_taken : (p : Progress) (trunk : TrunkId) (side : TrunkSide) (word : ℕ) (work : Work) → IsAccepted (after_name p trunk side word work)
 name_taken progress.Go trunk side word work = (_, _, refl)
-name_taken progress.Done trunk side word work = (_, _, refl)
-name_taken (progress.Ended why) trunk side word work = (_, _, refl)
+name_taken _ trunk side word work = (_, _, refl)
 
 fresh_taken : (message : Option ShakeMsg) (trunk : TrunkId) (word : ℕ) (work : Work) → IsAccepted (arrive_fresh message trunk word work)
 fresh_taken None trunk word work = (_, _, refl)
@@ -77,15 +77,9 @@ module _ (is_taken : ArrivalIsTaken) (names : List Name) (node : Node) where
   refused_whatever : (event : Event) (first : Option Item) (why : Refusal) → IsMet event first
       → at_node names node (meets event first) ≡ Refuses why
       → (other : Option Item) → at_node names node (meets event other) ≡ Refuses why
-  refused_whatever (Call name command) first why met refused other = refused
   refused_whatever (Arrive trunk name word) None why met refused other = absurd (met refl)
   refused_whatever (Arrive trunk name word) (Some item) why met refused other = refused_once trunk word node.up why item refl refused other
-  refused_whatever (Local name) first why met refused other = refused
-  refused_whatever (Lose trunk name) first why met refused other = refused
-  refused_whatever (Sweep name) first why met refused other = refused
-  refused_whatever (Dial name peer word) first why met refused other = refused
-  refused_whatever (Stop name) first why met refused other = refused
-  refused_whatever (Start name) first why met refused other = refused
+  refused_whatever event first why met refused other = refused
 
   line_of : (event : Event) (first : Option Item) → IsMet event first → (outcome : Outcome)
       → at_node names node (meets event first) ≡ outcome

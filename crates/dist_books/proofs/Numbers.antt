@@ -1,5 +1,6 @@
 -- Nodes by their numbers and names, and books by their numbers.
-use Rattle.std.proofs.Common.{◌≡◌, ℕ, zero, suc, ◌<◌, ◌≤◌, Bool, true, false, Some, List, [], ◌∷◌, ◌⊎◌, inl, inr, if◌then◌else◌, map, length, refl, sym, ap, ◌∙◌, subst, arith, slice_index_or}
+use Rattle.std.proofs.Common.{◌≡◌, ℕ, zero, suc, ◌<◌, ◌≤◌, Bool, true, false, Some, List, [], ◌∷◌, ◌⊎◌, inl}
+use Rattle.std.proofs.Common.{inr, if◌then◌else◌, map, length, refl, sym, ap, ◌∙◌, subst, arith, slice_index_or}
 use Rattle.std.proofs.lemmas.Bool.Decides.{leb_tells}
 use Rattle.std.proofs.lemmas.List.Elements.{All-nil}
 use Rattle.dist_books.specs.Acting.{Nodes, name_at, opened_at}

@@ -1,15 +1,17 @@
 -- Who sends and who takes on a way, by the logs of the books.
-use Rattle.std.proofs.Common.{◌≡◌, ◌≢◌, ℕ, ◌<◌, Bool, true, false, Option, None, Some, List, [], ◌∷◌, ◌++◌, inl, inr, if◌then◌else◌, length, refl, sym, ap, ◌∙◌, subst}
+use Rattle.std.proofs.Common.{◌≡◌, ◌≢◌, ℕ, ◌<◌, Bool, true, false, Option, None, Some, List, []}
+use Rattle.std.proofs.Common.{◌∷◌, ◌++◌, inl, inr, if◌then◌else◌, length, refl, sym, ap, ◌∙◌, subst}
 use Rattle.dist_books.proofs.Numbers.{book_beyond, in_or_out, number_there}
 use Rattle.dist_books.proofs.Steps.{same_way_is}
 use Rattle.dist_books.specs.Acting.{Acts, Nodes, Way, name_at, same_way, takes}
-use Rattle.dist_books.specs.Books.{Book, IsPort, Log, Port, Replays, Stamped, book_at, number_of, outbox_to, peer_in, port_of, put_to, sender, slot_of, taken_by}
+use Rattle.dist_books.specs.Books.{Book, IsPort, Log, Port, Replays, Stamped, book_at, number_of}
+use Rattle.dist_books.specs.Books.{outbox_to, peer_in, port_of, put_to, sender, slot_of, taken_by}
 use Rattle.dist_books.specs.Merged.{AreBooks}
 use Rattle.dist_model.proofs.Keys.{same_name_is, same_name_true}
 use Rattle.dist_model.specs.Items.{Item}
 use Rattle.dist_model.specs.Names.{Name, same_name}
 use Rattle.dist_model.specs.Node.{Node}
-use Rattle.dist_model.specs.World.{Arrive, Call, Dial, Event, Local, Lose, Report, Start, Stop, Sweep, node_name}
+use Rattle.dist_model.specs.World.{Arrive, Event, Report, node_name}
 use Rattle.erl_names.specs.declared.trunk.TrunkId.{TrunkId}
 use Rattle.merging.specs.Logs.{Leads, Line, bare, bare_took, off, took_on}
 
@@ -22,16 +24,10 @@ no_front (x ∷ xs) ys h = absurd (cc)
 -- an event takes off a way to its own node
 takes_own : (event : Event) (first : Option Item) (way : Way) (items : List Item) → Some (way, items) ≡ takes event first
     → way.1 ≡ node_name event
-takes_own (Call name command) first way items is = absurd (cc)
 takes_own (Arrive trunk name word) None way items is = absurd (cc)
 takes_own (Arrive trunk name word) (Some item) way items is =
     let same : ◌≡◌ {A = Way × List Item} (way, items) ((trunk, name), item ∷ []) = cc in ap (λ (taken : Way × List Item). taken.0.1) same
-takes_own (Local name) first way items is = absurd (cc)
-takes_own (Lose trunk name) first way items is = absurd (cc)
-takes_own (Sweep name) first way items is = absurd (cc)
-takes_own (Dial name peer word) first way items is = absurd (cc)
-takes_own (Stop name) first way items is = absurd (cc)
-takes_own (Start name) first way items is = absurd (cc)
+takes_own event first way items is = absurd (cc)
 
 module _ (nodes : Nodes) (k : ℕ) (c : Way) (elsewhere : k < length nodes → c.1 ≢ name_at nodes k) where
   none_off : (node next : Node) (line : Line Event Report Way Item) (took : Option (Way × List Stamped)) → line.took ≡ took

@@ -41,6 +41,8 @@ sorts_merge nodes books merged one_each kept same sorted =
     λ k. (let h = each_kept nodes books one_each kept k in rises 0 (book_at books k).history (book_at books k).last h.1.rise) in
     let all : All (λ (book : Book). Rises stamp_of book.history) books =
     λ k d below. subst (λ (book : Book). Rises stamp_of book.history) (sym (same_book books k d below)) (rise k) in
-    let h = sort_merges stamp_of (map (λ (book : Book). book.history) books) merged (All-map (Rises stamp_of) (λ (book : Book). book.history) books all)
+    let h =
+    sort_merges stamp_of (map (λ (book : Book). book.history) books) merged
+    (All-map (Rises stamp_of) (λ (book : Book). book.history) books all)
     same sorted in
     record { each = λ k. h.0 k ∙ history_at books k; sorted = h.1 }

@@ -1,15 +1,18 @@
 -- What moves nodes with their lists moves the world.
-use Rattle.std.proofs.Common.{◌≡◌, ℕ, ◌<◌, Bool, true, false, cond, Option, None, Some, List, [], ◌∷◌, ◌++◌, inl, inr, if◌then◌else◌, length, refl, sym, ap, ◌∙◌, subst, append-nil}
+use Rattle.std.proofs.Common.{◌≡◌, ℕ, ◌<◌, Bool, true, false, cond, Option, None, Some, List, [], ◌∷◌}
+use Rattle.std.proofs.Common.{◌++◌, inl, inr, if◌then◌else◌, length, refl, sym, ap, ◌∙◌, subst, append-nil}
 use Rattle.std.specs.FinMap as fm
 use Rattle.std.specs.FinMap.{FinMap}
 use Rattle.std.specs.Option.{unwrap_or}
 use Rattle.std.proofs.lemmas.Bool.Decides.{eqb_tells}
+use Rattle.std.proofs.lemmas.Bool.{and_parts}
 use Rattle.dist_books.proofs.Numbers.{opened_there}
-use Rattle.dist_books.specs.Acting.{AcceptsWhatComes, Acts, Nodes, RefusesWhateverComes, Way, meets, name_at, names_of, on_ways, opened_at, same_way, takes}
+use Rattle.dist_books.specs.Acting.{AcceptsWhatComes, Acts, Nodes, RefusesWhateverComes, Way}
+use Rattle.dist_books.specs.Acting.{meets, name_at, names_of, on_ways, opened_at, same_way, takes}
 use Rattle.dist_books.specs.Books.{AreDistinct}
 use Rattle.dist_books.specs.Merged.{Placed, events_of, reports_of}
 use Rattle.dist_model.proofs.Envelopes as envelopes
-use Rattle.dist_model.proofs.Keys.{and_both, same_name_refl, same_name_true, same_place, same_trunk, same_trunk_refl, same_trunk_true}
+use Rattle.dist_model.proofs.Keys.{same_name_refl, same_name_true, same_place, same_trunk, same_trunk_refl, same_trunk_true}
 use Rattle.dist_model.proofs.Routes.{at_place, list_to_carried, list_to_insert, node_of_name}
 use Rattle.dist_model.specs.Arrivals.{arrive, arrive_first}
 use Rattle.dist_model.specs.Claims.{EventIsLocal}
@@ -24,7 +27,8 @@ use Rattle.dist_model.specs.Runs.{Goes, Runs, opening}
 use Rattle.dist_model.specs.Sides.{TrunkSide, is_over}
 use Rattle.dist_model.specs.Work.{Work, at_work}
 use Rattle.dist_model.specs.World as model
-use Rattle.dist_model.specs.World.{Arrive, Call, Dial, Event, Local, Lose, Report, Start, Stop, Sweep, World, came_of, carried, first_of, list_to, met, node_name, node_of, refused, rest_of, step, step_at}
+use Rattle.dist_model.specs.World.{Arrive, Event, Report, World, came_of, carried, first_of, list_to}
+use Rattle.dist_model.specs.World.{met, node_name, node_of, refused, rest_of, step, step_at}
 use Rattle.dist_model.specs.declared.report.Answer.{Answer}
 use Rattle.dist_model.specs.declared.report.Effect.{Effect}
 use Rattle.erl_names.specs.declared.trunk.TrunkId.{TrunkId}
@@ -48,7 +52,7 @@ same_way_self c = same_place c.0 c.0 c.1 c.1 ∙ rw (same_trunk_refl c.0) (same_
 
 pub same_way_is : (c d : Way) → same_way c d ≡ true → c ≡ d
 same_way_is c d h =
-    let both = and_both (same_trunk c.0 d.0) (same_name c.1 d.1) (sym (same_place c.0 d.0 c.1 d.1) ∙ h) in
+    let both = and_parts (same_trunk c.0 d.0) (same_name c.1 d.1) (sym (same_place c.0 d.0 c.1 d.1) ∙ h) in
     let a : c.0 ≡ d.0 = same_trunk_true c.0 d.0 both.0 in
     let b : c.1 ≡ d.1 = same_name_true c.1 d.1 both.1 in
     λ i. (a i, b i)
@@ -59,10 +63,7 @@ sent_is c [] = refl
 sent_is c (Effect.Sent (Some trunk) peer item ∷ rest) =
     ap (λ b. cond b (item ∷ []) [] ++ at_place c.0 c.1 (envelopes.sent_in rest)) (sym (same_place c.0 trunk c.1 peer))
     ∙ ap (λ l. (if same_way c (trunk, peer) then item ∷ [] else []) ++ l) (sent_is c rest)
-sent_is c (Effect.Sent None peer item ∷ rest) = sent_is c rest
-sent_is c (Effect.Put p m ∷ rest) = sent_is c rest
-sent_is c (Effect.Ended p r ∷ rest) = sent_is c rest
-sent_is c (Effect.LinkExit p q r ∷ rest) = sent_is c rest
+sent_is c (effect ∷ rest) = sent_is c rest
 
 -- an arrival with nothing is refused
 nothing_refused : (names : List Name) (node : Node) (trunk : TrunkId) (word : ℕ) (said : Answer) (work : Work)
@@ -113,27 +114,15 @@ module _ (w : World) (left : Way → List Item) where
 
   is_taken : (names : List Name) (node : Node) (e : Event) (first : Option Item) (said : Answer) (work : Work)
       → at_node names node (meets e first) ≡ Accepts said work → Begin (takes e first) → IsTaken e first
-  is_taken names node (Call name command) first said work accepted begin = (refl, begin)
   is_taken names node (Arrive trunk name word) None said work accepted begin =
       absurd (nothing_refused names node trunk word said work accepted)
   is_taken names node (Arrive trunk name word) (Some item) said work accepted begin = first_taken trunk name word item begin
-  is_taken names node (Local name) first said work accepted begin = (refl, begin)
-  is_taken names node (Lose trunk name) first said work accepted begin = (refl, begin)
-  is_taken names node (Sweep name) first said work accepted begin = (refl, begin)
-  is_taken names node (Dial name peer word) first said work accepted begin = (refl, begin)
-  is_taken names node (Stop name) first said work accepted begin = (refl, begin)
-  is_taken names node (Start name) first said work accepted begin = (refl, begin)
+  is_taken names node e first said work accepted begin = (refl, begin)
 
 -- whatever comes first
 met_some : (w : World) (e : Event) → (first : Option Item) × (met w e ≡ meets e first)
-met_some w (Call name command) = (None, refl)
 met_some w (Arrive trunk name word) = (first_of (list_to w.lists trunk name), refl)
-met_some w (Local name) = (None, refl)
-met_some w (Lose trunk name) = (None, refl)
-met_some w (Sweep name) = (None, refl)
-met_some w (Dial name peer word) = (None, refl)
-met_some w (Stop name) = (None, refl)
-met_some w (Start name) = (None, refl)
+met_some w e = (None, refl)
 
 -- ---- one step, and all
 

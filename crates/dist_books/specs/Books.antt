@@ -1,5 +1,6 @@
 -- The book of a node, which its thread keeps: the node, the history of its events, and of each trunk what went through its wire end.
-use Rattle.std.specs.Prelude.{◌≡◌, ◌≢◌, ◌⊎◌, ℕ, suc, ◌<◌, Option, None, Some, List, [], ◌∷◌, ◌++◌, drop, length, slice_index_or, if◌then◌else◌}
+use Rattle.std.specs.Prelude.{◌≡◌, ◌≢◌, ◌⊎◌, ℕ, suc, ◌<◌, Option, None, Some, List, []}
+use Rattle.std.specs.Prelude.{◌∷◌, ◌++◌, drop, length, slice_index_or, if◌then◌else◌}
 use Rattle.dist_books.specs.Acting.{Acts, Nodes, Way, name_at, opened_at, same_way}
 use Rattle.dist_model.specs.Items.{Item}
 use Rattle.dist_model.specs.Names.{Name, same_name}

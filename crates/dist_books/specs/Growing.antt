@@ -73,13 +73,15 @@ module _ (nodes : Nodes) (k : ℕ) (event : Event) (first : Option Item) where
     pub node : next.node ≡ next_of book.node (comes_to book)
     pub history : next.history ≡ book.history ++ record { stamp = stamp; event = event; answer = report_of (comes_to book) } ∷ []
     pub ports : (trunk : TrunkId)
-        → Leaves (name_at nodes k) (sent_in (comes_to book)) took stamp trunk book.node next.node (meets event first) (book.ports trunk) (next.ports trunk)
+        → Leaves (name_at nodes k) (sent_in (comes_to book)) took stamp trunk book.node next.node (meets event first)
+        (book.ports trunk) (next.ports trunk)
     -- what the node dials on has a port
     pub opened : (trunk : TrunkId) (peer : Name) → Dials book.node (meets event first) trunk peer → Towards next.node trunk peer
         → IsTowards (next.ports trunk) peer
 
 abbrev pub BooksGrow : Type 0
-BooksGrow = (nodes : Nodes) (k : ℕ) (event : Event) (first : Option Item) (book : Book) (took : Option (Way × List Stamped)) (stamp : ℕ) (next : Book)
+BooksGrow = (nodes : Nodes) (k : ℕ) (event : Event) (first : Option Item) (book : Book) (took : Option (Way × List Stamped))
+    (stamp : ℕ) (next : Book)
     → k < length nodes → node_name event ≡ name_at nodes k → IsMet event first → CountsOwn book.node
     → Follows nodes k book → Enters nodes k event first book took stamp next → Follows nodes k next
 
@@ -131,8 +133,10 @@ effects_in (Accepts said work) = work.effects
 
 -- what is sent goes to the peer of a port
 abbrev pub SentToPeers : Type 0
-SentToPeers = (nodes : Nodes) (k : ℕ) (event : Event) (first : Option Item) (book : Book) (took : Option (Way × List Stamped)) (stamp : ℕ) (next : Book)
+SentToPeers = (nodes : Nodes) (k : ℕ) (event : Event) (first : Option Item) (book : Book) (took : Option (Way × List Stamped))
+    (stamp : ℕ) (next : Book)
     → k < length nodes → node_name event ≡ name_at nodes k → IsMet event first → CountsOwn book.node
     → Follows nodes k book → Enters nodes k event first book took stamp next
-    → (trunk : TrunkId) (peer : Name) (item : Item) → Contains (effects_in (comes_to nodes k event first book)) (Effect.Sent (Some trunk) peer item)
+    → (trunk : TrunkId) (peer : Name) (item : Item)
+    → Contains (effects_in (comes_to nodes k event first book)) (Effect.Sent (Some trunk) peer item)
     → IsTowards (next.ports trunk) peer

@@ -1,5 +1,7 @@
 -- Where what each book took begins what was put to it, the wires of the model's books agree.
-use Rattle.std.proofs.Common.{◌≡◌, ℕ, suc, ◌<◌, Bool, true, false, Option, Some, None, List, [], ◌∷◌, get_or, inl, inr, if◌then◌else◌, length, refl, sym, ap, ◌∙◌, subst, arith}
+use Rattle.std.proofs.Common.{◌≡◌, ℕ, suc, ◌<◌, Bool, true, false, Option, Some, None, List, [], ◌∷◌}
+use Rattle.std.proofs.Common.{get_or, inl, inr, if◌then◌else◌, length, refl, sym, ap, ◌∙◌, subst, arith}
+use Rattle.std.proofs.lemmas.Option.{same_Some}
 use Rattle.std.specs.List.{All}
 use Rattle.std.specs.Ordering.{eq_by_cmp}
 use Rattle.dist_books.proofs.Numbers.{in_or_out}
@@ -65,10 +67,7 @@ fed trunk entries None None port h e = absurd (cc)
 fed trunk entries None (Some p) port h e = absurd h
 fed trunk entries (Some o) None port h e = absurd h
 fed trunk entries (Some o) (Some p) port h e =
-    let same : p ≡ port = some_is p port e in record { end = o; is = refl; feeds = subst (λ q. Feeds trunk entries o q) same h }
-  where
-    some_is : (p q : Port) → ◌≡◌ {A = Option Port} (Some p) (Some q) → p ≡ q
-    some_is p q e = cc
+    let same : p ≡ port = same_Some p port e in record { end = o; is = refl; feeds = subst (λ q. Feeds trunk entries o q) same h }
 
 port_peer : (trunk : TrunkId) (entries : List Entry) (outlet : Outlet) (port : Port) → Feeds trunk entries outlet port
     → port.peer ≡ outlet.port.peer
@@ -105,12 +104,9 @@ outlet_there trunk P [] outlet all e = absurd (let no : ◌≡◌ {A = Option Ou
 outlet_there trunk P (o ∷ os) outlet all e =
     by_test (eq_by_cmp trunk_cmp trunk o.port.trunk) (outlet_there trunk P os outlet (λ k d below. all (suc k) d (omega arith))) e
   where
-    some_is : (p q : Outlet) → ◌≡◌ {A = Option Outlet} (Some p) (Some q) → p ≡ q
-    some_is p q e = cc
-
     by_test : (c : Bool) → (outlet_of trunk os ≡ Some outlet → P outlet) → (if c then Some o else outlet_of trunk os) ≡ Some outlet
         → P outlet
-    by_test true later e = subst P (some_is o outlet e) (all 0 o (omega arith))
+    by_test true later e = subst P (same_Some o outlet e) (all 0 o (omega arith))
     by_test false later e = later e
 
 -- ---- all wires

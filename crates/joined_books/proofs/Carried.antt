@@ -1,5 +1,6 @@
 -- Parcels that say what others begin with carry the items that those begin with.
-use Rattle.std.proofs.Common.{◌≡◌, ℕ, suc, ◌<◌, Option, Some, List, [], ◌∷◌, ◌++◌, length, refl, sym, ap, ap₂, ◌∙◌, arith, slice_get}
+use Rattle.std.proofs.Common.{◌≡◌, ℕ, suc, ◌<◌, List, [], ◌∷◌, ◌++◌, length, refl, sym, ap, ap₂, ◌∙◌, arith, slice_get}
+use Rattle.std.proofs.lemmas.Option.{same_Some}
 use Rattle.std.specs.List.{AllZip}
 use Rattle.std.specs.Option.{option_map}
 use Rattle.dist_books.specs.Books.{Stamped}
@@ -7,9 +8,6 @@ use Rattle.dist_model.specs.Items.{Item}
 use Rattle.node_frames.specs.Frames.{IsSpelled, bytes_of}
 use Rattle.node_ports.specs.Standing.{Carries, CarryAll}
 use Rattle.wire_core.specs.declared.parcel.Parcel.{Parcel}
-
-some_is : {W : Type 0} (a b : W) → ◌≡◌ {A = Option W} (Some a) (Some b) → a ≡ b
-some_is a b h = cc
 
 abbrev pub BeginsSaid : {P W : Type 0} → (P → W) → (taken put : List P) → Type 0
 BeginsSaid said taken put = (place : ℕ) → place < length taken
@@ -24,7 +22,7 @@ items_begin said R one (q ∷ taken) put [] xs t p h = absurd t
 items_begin said R one (q ∷ taken) [] (y ∷ ys) xs t p h = absurd (let e = h 0 (omega arith) in cc)
 items_begin said R one (q ∷ taken) (o ∷ put) (y ∷ ys) [] t p h = absurd p
 items_begin said R one (q ∷ taken) (o ∷ put) (y ∷ ys) (x ∷ xs) t p h =
-    let same : x ≡ y = one o q x y p.0 t.0 (some_is (said o) (said q) (h 0 (omega arith))) in
+    let same : x ≡ y = one o q x y p.0 t.0 (same_Some (said o) (said q) (h 0 (omega arith))) in
     let rest = items_begin said R one taken put ys xs t.1 p.1 (λ place below. h (suc place) (omega arith)) in
     (rest.0, ap (λ z. z ∷ xs) same ∙ ap (λ l. y ∷ l) rest.1)
 

@@ -1,5 +1,6 @@
 -- Where no place has more than it may, and there are as many as there may be, each place has as many as it may.
-use Rattle.std.proofs.Common.{◌≡◌, ℕ, zero, suc, ◌+◌, ◌<◌, ◌≤◌, Bool, false, List, [], ◌∷◌, ◌++◌, ◌==◌, inl, inr, if◌then◌else◌, refl, sym, ap, ◌∙◌, subst, arith, length, slice_index_or}
+use Rattle.std.proofs.Common.{◌≡◌, ℕ, zero, suc, ◌+◌, ◌<◌, ◌≤◌, Bool, false, List, [], ◌∷◌, ◌++◌, ◌==◌, inl}
+use Rattle.std.proofs.Common.{inr, if◌then◌else◌, refl, sym, ap, ◌∙◌, subst, arith, length, slice_index_or}
 use Rattle.std.specs.List.{count_by}
 use Rattle.std.proofs.lemmas.Bool.Decides.{eqb_tells, leb_tells}
 use Rattle.std.proofs.lemmas.List.Sums.{sum_by-append, sum_by-cons}

@@ -1,5 +1,6 @@
 -- The bytes of an item tell the item, and parcels that say the same carry the same.
-use Rattle.std.proofs.Common.{◌≡◌, ℕ, Option, Some, List, [], ◌++◌, refl, sym, ap, ◌∙◌, subst, arith}
+use Rattle.std.proofs.Common.{◌≡◌, ℕ, List, [], ◌++◌, refl, sym, ap, ◌∙◌, subst, arith}
+use Rattle.std.proofs.lemmas.Option.{same_Some}
 use Rattle.dist_model.specs.Items.{Handshake, Item, Signalled, Tick, kind_of}
 use Rattle.dist_model.specs.declared.report.Kind.{Kind}
 use Rattle.erl_control.specs.Canonical.{canonical_frame}
@@ -21,11 +22,8 @@ OneFrame = (i j : Framed) (a b x y : List ℕ) → IsFramed i a → IsFramed j b
 
 -- ---- of one kind
 
-some_is : (a b : Kind) → ◌≡◌ {A = Option Kind} (Some a) (Some b) → a ≡ b
-some_is a b h = cc
-
 same_kind : (x y : Item) → IsSpelled x → IsSpelled y → bytes_of x ≡ bytes_of y → kind_of x ≡ kind_of y
-same_kind x y p q e = some_is (kind_of x) (kind_of y) (sym (kind_is_told x p) ∙ ap kind_in e ∙ kind_is_told y q)
+same_kind x y p q e = same_Some (kind_of x) (kind_of y) (sym (kind_is_told x p) ∙ ap kind_in e ∙ kind_is_told y q)
 
 abbrev group : Kind → ℕ
 group Kind.SendName = 1
@@ -38,21 +36,11 @@ group _ = 0
 
 signal_group : (s : Signal) → group (kind_of (Signalled s)) ≡ 0
 signal_group (Signal.Link from to) = refl
-signal_group (Signal.Send to message) = refl
-signal_group (Signal.Exit from to reason) = refl
-signal_group (Signal.Exit2 from to reason) = refl
-signal_group (Signal.Monitor from to r) = refl
-signal_group (Signal.Demonitor from to r) = refl
-signal_group (Signal.MonitorExit from to r reason) = refl
-signal_group (Signal.UnlinkId id from to) = refl
-signal_group (Signal.UnlinkIdAck id from to) = refl
+signal_group s = refl
 
 message_group : (m : ShakeMsg) → group (kind_of (Handshake m)) ≡ 1
-message_group (ShakeMsg.SendName flags creation name) = refl
 message_group (ShakeMsg.Status status) = refl
-message_group (ShakeMsg.Challenge flags challenge creation name) = refl
-message_group (ShakeMsg.ChallengeReply challenge digest) = refl
-message_group (ShakeMsg.ChallengeAck digest) = refl
+message_group m = refl
 
 abbrev reader_of : Kind → Role
 reader_of Kind.SendName = Acceptor
@@ -60,10 +48,8 @@ reader_of _ = Dialer
 
 read_by : (m : ShakeMsg) → IsFor (reader_of (kind_of (Handshake m))) m
 read_by (ShakeMsg.SendName flags creation name) = refl
-read_by (ShakeMsg.Status status) = tt
 read_by (ShakeMsg.Challenge flags challenge creation name) = refl
-read_by (ShakeMsg.ChallengeReply challenge digest) = tt
-read_by (ShakeMsg.ChallengeAck digest) = tt
+read_by _ = tt
 
 -- ---- the item
 

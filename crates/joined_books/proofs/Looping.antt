@@ -1,5 +1,6 @@
 -- One element more, in a loop.
-use Rattle.std.proofs.Common.{◌≡◌, ℕ, zero, suc, ◌+◌, ◌<◌, Bool, List, [], ◌∷◌, ◌++◌, get_or, length, map, refl, sym, ap, ◌∙◌, add-one, arith, drop, take}
+use Rattle.std.proofs.Common.{◌≡◌, ℕ, zero, suc, ◌+◌, ◌<◌, Bool, List, [], ◌∷◌, ◌++◌, get_or}
+use Rattle.std.proofs.Common.{length, map, refl, sym, ap, ◌∙◌, add-one, arith, drop, take}
 use Rattle.std.specs.List.{AllWithin, count_by}
 use Rattle.std.proofs.lemmas.List.{take_more}
 use Rattle.std.proofs.lemmas.List.Elements.{AllWithin-more, at_read}

@@ -1,5 +1,6 @@
 -- A sort of the places of all entries has each history in its order.
-use Rattle.std.proofs.Common.{◌≡◌, ℕ, zero, suc, ◌+◌, ◌<◌, ◌==◌, Bool, true, false, List, [], ◌∷◌, ◌++◌, filter, get_or, length, map, refl, sym, ap, ◌∙◌, subst, append-nil, append_assoc, arith, slice_index_or, if◌then◌else◌, IsPermutation}
+use Rattle.std.proofs.Common.{◌≡◌, ℕ, zero, suc, ◌+◌, ◌<◌, ◌==◌, Bool, true, false, List, [], ◌∷◌, ◌++◌, filter, get_or, length, map}
+use Rattle.std.proofs.Common.{refl, sym, ap, ◌∙◌, subst, append-nil, append_assoc, arith, slice_index_or, if◌then◌else◌, IsPermutation}
 use Rattle.std.specs.List.{All, AllPairs}
 use Rattle.std.proofs.Math.ListN.{get_or-map}
 use Rattle.std.proofs.lemmas.List.{length-map}

@@ -1,5 +1,7 @@
 -- Receipts of seats, one seat more.
-use Rattle.std.proofs.Common.{◌≡◌, ◌≢◌, ℕ, zero, suc, ◌+◌, ◌<◌, ◌≤◌, Bool, true, false, Option, Some, None, List, [], ◌∷◌, ◌++◌, get_or, inl, inr, if◌then◌else◌, length, length-append, map, refl, sym, ap, ◌∙◌, subst, arith, append_assoc, append-nil, drop, take, slice_get, slice_index_or}
+use Rattle.std.proofs.Common.{◌≡◌, ◌≢◌, ℕ, zero, suc, ◌+◌, ◌<◌, ◌≤◌, Bool, true, false, Option, Some, None, List, []}
+use Rattle.std.proofs.Common.{◌∷◌, ◌++◌, get_or, inl, inr, if◌then◌else◌, length, length-append, map, refl, sym, ap}
+use Rattle.std.proofs.Common.{◌∙◌, subst, arith, append_assoc, append-nil, drop, take, slice_get, slice_index_or}
 use Rattle.std.specs.List.{All, Contains, count_by}
 use Rattle.std.proofs.lemmas.Bool.Decides.{eqb_tells}
 use Rattle.std.proofs.lemmas.List.Elements.{All-nil, Contains-append_left, Contains-append_right}
@@ -10,7 +12,8 @@ use Rattle.joined_books.proofs.Marking.{all_marked, none_marked, strange_more}
 use Rattle.joined_books.proofs.Zipped.{part_beyond, part_of}
 use Rattle.joined_books.specs.Marks.{AreMarked, IsStrange}
 use Rattle.joined_books.specs.Parts.{entries_at}
-use Rattle.joined_books.specs.Receipts.{AllStand, AreReceipts, HasReceipts, IsShort, StandAll, StandsIn, acts_of, own_receipts, position_of, receipts_of}
+use Rattle.joined_books.specs.Receipts.{AllStand, AreReceipts, HasReceipts, IsShort, StandAll}
+use Rattle.joined_books.specs.Receipts.{StandsIn, acts_of, own_receipts, position_of, receipts_of}
 use Rattle.node_book.specs.Seen.{BookSeen}
 use Rattle.node_history.specs.Acts.{is_act}
 use Rattle.node_history.specs.declared.entry.Entry.{Entry}

@@ -1,7 +1,10 @@
 -- The entries of a run, gone through once more.
-use Rattle.std.proofs.Common.{◌≡◌, ◌≢◌, ◌⊎◌, ℕ, zero, suc, ◌+◌, ◌<◌, ◌≤◌, Bool, true, false, not, ◌||◌, ◌&&◌, Option, None, Some, Ok, Err, List, [], ◌∷◌, drop, get_or, inl, inr, length, refl, sym, ap, ◌∙◌, subst, arith}
+use Rattle.std.proofs.Common.{◌≡◌, ◌≢◌, ◌⊎◌, ℕ, zero, suc, ◌+◌, ◌<◌, ◌≤◌, Bool, true, false, not, ◌&&◌, Option, None, Some}
+use Rattle.std.proofs.Common.{Ok, Err, List, [], ◌∷◌, drop, get_or, inl, inr, length, refl, sym, ap, ◌∙◌, subst, arith}
 use Rattle.std.specs.List.{AllZip, slice_get}
 use Rattle.std.proofs.lemmas.List.{drop_all, drop_more}
+use Rattle.std.proofs.lemmas.Bool.{not-false, or_cases}
+use Rattle.std.proofs.lemmas.Option.{same_Some}
 use Rattle.dist_books.specs.Acting.{Nodes, names_of}
 use Rattle.dist_books.specs.Acting as books
 use Rattle.dist_books.specs.Books.{AreDistinct}
@@ -62,7 +65,8 @@ tells_wanting (Err e) (Refused why) h is = ap (λ x. Refused x) (sym h ∙ same 
     same : (a b : Refusal) → ◌≡◌ {A = Answered} (Err a) (Err b) → a ≡ b
     same a b e = cc
 
-pub tells_other : (answer : Answered) (r : model.Report) → Tells answer r → answer ≢ Err Refusal.OutOfMemory → r ≢ Refused Refusal.OutOfMemory
+pub tells_other : (answer : Answered) (r : model.Report) → Tells answer r → answer ≢ Err Refusal.OutOfMemory
+    → r ≢ Refused Refusal.OutOfMemory
 tells_other (Ok report) (Reported answer effects) h other is = absurd (cc)
 tells_other (Ok report) (Refused why) h other is = h
 tells_other (Err e) (Reported answer effects) h other is = h
@@ -101,9 +105,6 @@ module _ (nodes : Nodes) (all : List BookSeen) where
       over [] h runs = subst (Stands world) (sym runs) g.stands
       over (x ∷ xs) h runs = absurd h
 
-  some_is : (a b : Entry) → ◌≡◌ {A = Option Entry} (Some a) (Some b) → a ≡ b
-  some_is a b e = cc
-
   -- the first of the rest is an entry of the books
   there : (placed : Placed) (rest : List Placed) (end : model.World) (world : World) → Going (placed ∷ rest) end world
       → slice_get (entries_at all placed.node) placed.position ≢ None
@@ -122,17 +123,19 @@ module _ (nodes : Nodes) (all : List BookSeen) where
           → Runs g.m (run.events_of merged) (run.reports_of merged) end → Going rest end new
       over [] h runs = absurd h
       over (x ∷ xs) h runs =
-          let same : h.0.entry ≡ entry = some_is h.0.entry entry (sym h.0.there ∙ is) in
+          let same : h.0.entry ≡ entry = same_Some h.0.entry entry (sym h.0.there ∙ is) in
           let next = runs.0 in
           record {
             m = next;
             names = goes_names g.m x.1.event x.1.answer next runs.1 ∙ g.names;
             stands = elim (again g.m g.stands) [
               | inl w ↦ (
-                  let r = tells_wanting entry.answer x.1.answer (subst (λ (e : Entry). Tells e.answer x.1.answer) same h.0.tells.answer) w.0 in
+                  let r =
+                  tells_wanting entry.answer x.1.answer (subst (λ (e : Entry). Tells e.answer x.1.answer) same h.0.tells.answer) w.0 in
                   subst (Stands new) (sym (goes_wanting g.m x.1.event x.1.answer next runs.1 r)) w.1)
               | inr w ↦ (
-                  let r = tells_other entry.answer x.1.answer (subst (λ (e : Entry). Tells e.answer x.1.answer) same h.0.tells.answer) w.0 in
+                  let r =
+                  tells_other entry.answer x.1.answer (subst (λ (e : Entry). Tells e.answer x.1.answer) same h.0.tells.answer) w.0 in
                   let event : x.1.event ≡ event_at (name_at g.m.names placed.node) entry.event =
                   h.0.tells.event ∙ ap (λ (e : Entry). event_at (books.name_at nodes placed.node) e.event) same
                   ∙ ap (λ n. event_at n entry.event)
@@ -171,14 +174,6 @@ module _ (nodes : Nodes) (all : List BookSeen) where
 
 -- ---- names that are distinct
 
-not_true : (b : Bool) → not b ≡ false → b ≡ true
-not_true true h = refl
-not_true false h = cc
-
-either : (a b : Bool) → (a || b) ≡ true → (a ≡ true) ⊎ (b ≡ true)
-either true b h = inl refl
-either false b h = inr h
-
 one_false : (a b : Bool) → (a && b) ≡ false → (a ≡ false) ⊎ (b ≡ false)
 one_false true b h = inr h
 one_false false b h = inl refl
@@ -190,7 +185,7 @@ record IsAt (nodes : Nodes) (name : Name) : Type 0 where
 
 found : (nodes : Nodes) (name : Name) → has_name name (names_of nodes) ≡ true → IsAt nodes name
 found [] name h = cc
-found (node ∷ nodes) name h = elim (either (same_name name node.0) (has_name name (names_of nodes)) h) [
+found (node ∷ nodes) name h = elim (or_cases (same_name name node.0) (has_name name (names_of nodes)) h) [
   | inl e ↦ record { place = 0; within = omega arith; is = sym (same_name_true name node.0 e) }
   | inr e ↦ (
       let at = found nodes name e in
@@ -202,7 +197,7 @@ pub repeated : (nodes : Nodes) → AreDistinct nodes → are_distinct (names_of 
 repeated [] d h = cc
 repeated (node ∷ nodes) d h = elim (one_false (not (has_name node.0 (names_of nodes))) (are_distinct (names_of nodes)) h) [
   | inl e ↦ (
-      let at = found nodes node.0 (not_true (has_name node.0 (names_of nodes)) e) in
+      let at = found nodes node.0 (not-false (has_name node.0 (names_of nodes)) e) in
       let same : 0 ≡ suc at.place = d 0 (suc at.place) (omega arith) (let w = at.within in omega arith) (sym at.is) in omega (arith, same))
   | inr e ↦ repeated nodes (λ j k below also is. (let s = d (suc j) (suc k) (omega arith) (omega arith) is in omega (arith, s))) e
 ]

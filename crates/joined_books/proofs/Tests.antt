@@ -15,12 +15,6 @@ is_so h = (λ t. h, λ x. refl)
 pub is_not : {H : Type 0} → (H → ⊥) → IsTrue false ↔ H
 is_not no_h = (λ t. absurd (let e : false ≡ true = t in cc), λ h. absurd (no_h h))
 
-pub holds : (b : Bool) {H : Type 0} → (IsTrue b ↔ H) → b ≡ true → H
-holds b h e = h.0 e
-
-pub fails : (b : Bool) {H : Type 0} → (IsTrue b ↔ H) → b ≡ false → H → ⊥
-fails b h e x = let t : b ≡ true = h.1 x in let no : false ≡ true = sym e ∙ t in cc
-
 pub other_name : (x y : Name) → same_name x y ≡ false → x ≢ y
 other_name x y e same = let t = same_name_is x y same in let no : false ≡ true = sym e ∙ t in cc
 

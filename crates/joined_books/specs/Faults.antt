@@ -13,6 +13,7 @@ use Rattle.node_lock.specs.declared.seat.Seat.{Seat}
 abbrev pub IsFault : Nodes → List BookSeen → List Seat → FinishError → Type 0
 IsFault nodes books seats (StrangeBook node) = IsStrangeBook nodes books node
 IsFault nodes books seats (Torn trunk seq) = AreInPlace nodes books × IsTorn books trunk seq
-IsFault nodes books seats (StrangeReceipt node position) = AreInPlace nodes books × AreWhole books × IsStrangeReceipt books seats node position
+IsFault nodes books seats (StrangeReceipt node position) =
+    AreInPlace nodes books × AreWhole books × IsStrangeReceipt books seats node position
 IsFault nodes books seats (SeatsMissing node) = AreInPlace nodes books × AreWhole books × AllStand books seats × IsMissing books seats node
 IsFault nodes books seats OutOfMemory = Unit {0}

@@ -1,5 +1,6 @@
 -- Receipts that are the acts of the books, each once.
-use Rattle.std.specs.Prelude.{◌≡◌, ◌≢◌, ℕ, ◌<◌, Bool, false, List, [], ◌∷◌, ◌++◌, All, ◌==◌, count_by, length, map, slice_get, slice_index_or, if◌then◌else◌}
+use Rattle.std.specs.Prelude.{◌≡◌, ◌≢◌, ℕ, ◌<◌, Bool, false, List, [], ◌∷◌, ◌++◌, All, ◌==◌}
+use Rattle.std.specs.Prelude.{count_by, length, map, slice_get, slice_index_or, if◌then◌else◌}
 use Rattle.joined_books.specs.Marks.{AreMarked, IsStrange, how_many}
 use Rattle.joined_books.specs.Parts.{entries_at}
 use Rattle.node_book.specs.Seen.{BookSeen}

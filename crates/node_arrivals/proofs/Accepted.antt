@@ -4,7 +4,8 @@ use Rattle.dist_model.specs.Admission.{after_name, new_side}
 use Rattle.conn_core.specs.declared.arrival.Fault.{Fault}
 use Rattle.dist_model.specs.Arrivals.{arrive_fresh, is_good, on_up}
 use Rattle.dist_model.specs.Commands.{Accepts, Outcome}
-use Rattle.dist_model.specs.Handshake.{acceptor_hears, acceptor_side, after_answer, dialer_hears, dialer_side, fault, handshake_at, identity, on_verdict}
+use Rattle.dist_model.specs.Handshake.{acceptor_hears, acceptor_side, after_answer, dialer_hears}
+use Rattle.dist_model.specs.Handshake.{dialer_side, fault, handshake_at, identity, on_verdict}
 use Rattle.dist_model.specs.Items.{Item, kind_of}
 use Rattle.dist_model.specs.Keeping.{IsAccepted}
 use Rattle.dist_model.specs.Sides.{Accepting, Asked, AwaitsAck, AwaitsChallenge, AwaitsStatus, Gone, Losing, Parked, State, TrunkSide, Up}
@@ -22,27 +23,27 @@ use Rattle.erl_term.specs.declared.refusal.Refusal.{Refusal}
 use Rattle.node_plans.proofs.Outcomes.{lacks}
 use Rattle.node_plans.specs.Planned.{IsRefused}
 
-pub fresh_accepted : (message : Option ShakeMsg) (trunk : TrunkId) (word : ℕ) (work : Work) → IsAccepted (arrive_fresh message trunk word work)
+pub fresh_accepted : (message : Option ShakeMsg) (trunk : TrunkId) (word : ℕ) (work : Work)
+    → IsAccepted (arrive_fresh message trunk word work)
 fresh_accepted None trunk word work = (_, _, refl)
 fresh_accepted (Some message) trunk word work =
-    by_progress (acceptor_turn (identity work.node) trunk.dialer AcceptorState.AwaitsName message word).next.progress (new_side trunk message)
+    by_progress (acceptor_turn (identity work.node) trunk.dialer AcceptorState.AwaitsName message word).next.progress
+    (new_side trunk message)
   where
     by_progress : (p : Progress) (side : TrunkSide) → IsAccepted (after_name p trunk side word work)
     by_progress progress.Go side = (_, _, refl)
-    by_progress progress.Done side = (_, _, refl)
-    by_progress (progress.Ended why) side = (_, _, refl)
+    by_progress _ side = (_, _, refl)
 
 -- so is a message of the handshake at a side that isn't over, and a signal at one that is up
 module _ (trunk : TrunkId) (message : ShakeMsg) (work : Work) where
-  verdict_accepted : (p : Progress) (old new : TrunkSide) (send : Option ShakeMsg) → IsAccepted (on_verdict p trunk old new message send work)
+  verdict_accepted : (p : Progress) (old new : TrunkSide) (send : Option ShakeMsg)
+      → IsAccepted (on_verdict p trunk old new message send work)
   verdict_accepted progress.Go old new send = (_, _, refl)
-  verdict_accepted progress.Done old new send = (_, _, refl)
-  verdict_accepted (progress.Ended why) old new send = (_, _, refl)
+  verdict_accepted _ old new send = (_, _, refl)
 
   answer_accepted : (p : Progress) (side : TrunkSide) (word : ℕ) → IsAccepted (after_answer p trunk side word message work)
   answer_accepted progress.Go side word = (_, _, refl)
-  answer_accepted progress.Done side word = (_, _, refl)
-  answer_accepted (progress.Ended why) side word = (_, _, refl)
+  answer_accepted _ side word = (_, _, refl)
 
   dialer_accepted : (side : TrunkSide) (state : DialerState) → IsAccepted (dialer_hears trunk side state message work)
   dialer_accepted side state =
@@ -59,17 +60,17 @@ module _ (trunk : TrunkId) (message : ShakeMsg) (work : Work) where
   heard_accepted (AwaitsChallenge word) side = dialer_accepted side (DialerState.AwaitsChallenge word)
   heard_accepted (AwaitsAck word) side = dialer_accepted side (DialerState.AwaitsAck word side.peer_creation)
   heard_accepted (Asked word) side =
-      answer_accepted (acceptor_turn (identity work.node) side.peer (AcceptorState.AwaitsAnswer word side.peer_creation) message 0).next.progress side word
-  heard_accepted (Parked word) side = (_, _, refl)
+      answer_accepted
+      (acceptor_turn (identity work.node) side.peer (AcceptorState.AwaitsAnswer word side.peer_creation) message 0).next.progress
+      side word
   heard_accepted (Accepting word) side = acceptor_accepted side (AcceptorState.AwaitsReply word side.peer_creation)
-  heard_accepted Up side = (_, _, refl)
-  heard_accepted Losing side = (_, _, refl)
-  heard_accepted Gone side = (_, _, refl)
+  heard_accepted _ side = (_, _, refl)
 
 pub taken_accepted : (trunk : TrunkId) (side : TrunkSide) (item : Item) (work : Work) → IsAccepted (on_up trunk side item work)
 taken_accepted trunk side item work = by_test (is_good work.node side item)
   where
-    by_test : (good : Bool) → IsAccepted (cond good (Accepts (Answer.Took (kind_of item)) (take_item item work)) (fault Fault.Forged trunk side work))
+    by_test : (good : Bool)
+        → IsAccepted (cond good (Accepts (Answer.Took (kind_of item)) (take_item item work)) (fault Fault.Forged trunk side work))
     by_test true = (_, _, refl)
     by_test false = (_, _, refl)
 

@@ -19,17 +19,10 @@ use Rattle.node_sides.specs.Standings.{is_settled, standing_side, state_of}
 
 pub over : (st : Standing) (bytes : List ℕ) → is_settled st ≡ true → table.listens (table.state_of st) ≡ false
     → (is_over (state_of st) ≡ true) × IsFrontIn (state_of st) bytes Begins
-over (standing.Dialing d) bytes h l = cc
-over (standing.Accepting acceptor.AwaitsName) bytes h l = cc
-over (standing.Accepting (acceptor.AwaitsAdmission w n)) bytes h l = cc
-over (standing.Accepting (acceptor.AwaitsAnswer w n)) bytes h l = cc
-over (standing.Accepting (acceptor.AwaitsTurn w n)) bytes h l = cc
-over (standing.Accepting (acceptor.AwaitsReply w n)) bytes h l = cc
-over (standing.Accepting (acceptor.Done n)) bytes h l = cc
-over (standing.Accepting acceptor.Over) bytes h l = cc
-over (standing.Up n) bytes h l = cc
 over (standing.Losing n) bytes h l = (refl, tt)
 over standing.Gone bytes h l = (refl, tt)
+over (standing.Accepting acceptor.Over) bytes h l = cc
+over st bytes h l = cc
 
 pub record Wanted (m : Node) (trunk : TrunkId) (peer : List ℕ) (st : Standing) (bytes : List ℕ) (word : ℕ) : Type 0 where
   pub front : Front
@@ -39,24 +32,53 @@ pub record Wanted (m : Node) (trunk : TrunkId) (peer : List ℕ) (st : Standing)
 module _ (m : Node) (trunk : TrunkId) (peer : List ℕ) (bytes : List ℕ) (word : ℕ) where
   pub wanted : (st : Standing) → is_settled st ≡ true → TakesMemory st bytes → Wanted m trunk peer st bytes word
   wanted (standing.Dialing (dialer.AwaitsStatus w)) h (message, n, due) =
-      record { front = Holds (Handshake message) n; is = due; accepted = heard_accepted trunk message (at_work m) (state_of (standing.Dialing (dialer.AwaitsStatus w))) (standing_side peer (standing.Dialing (dialer.AwaitsStatus w))) }
+      record {
+        front = Holds (Handshake message) n;
+        is = due;
+        accepted = heard_accepted trunk message (at_work m) (state_of (standing.Dialing (dialer.AwaitsStatus w)))
+            (standing_side peer (standing.Dialing (dialer.AwaitsStatus w)));
+      }
   wanted (standing.Dialing (dialer.AwaitsChallenge w)) h (message, n, due) =
-      record { front = Holds (Handshake message) n; is = due; accepted = heard_accepted trunk message (at_work m) (state_of (standing.Dialing (dialer.AwaitsChallenge w))) (standing_side peer (standing.Dialing (dialer.AwaitsChallenge w))) }
+      record {
+        front = Holds (Handshake message) n;
+        is = due;
+        accepted = heard_accepted trunk message (at_work m) (state_of (standing.Dialing (dialer.AwaitsChallenge w)))
+            (standing_side peer (standing.Dialing (dialer.AwaitsChallenge w)));
+      }
   wanted (standing.Dialing (dialer.AwaitsAck w c)) h (message, n, due) =
-      record { front = Holds (Handshake message) n; is = due; accepted = heard_accepted trunk message (at_work m) (state_of (standing.Dialing (dialer.AwaitsAck w c))) (standing_side peer (standing.Dialing (dialer.AwaitsAck w c))) }
-  wanted (standing.Dialing (dialer.Done c)) h x = cc
-  wanted (standing.Dialing dialer.Over) h x = cc
-  wanted (standing.Accepting acceptor.AwaitsName) h x = cc
-  wanted (standing.Accepting (acceptor.AwaitsAdmission w c)) h x = cc
+      record {
+        front = Holds (Handshake message) n;
+        is = due;
+        accepted = heard_accepted trunk message (at_work m) (state_of (standing.Dialing (dialer.AwaitsAck w c)))
+            (standing_side peer (standing.Dialing (dialer.AwaitsAck w c)));
+      }
   wanted (standing.Accepting (acceptor.AwaitsAnswer w c)) h (message, n, due) =
-      record { front = Holds (Handshake message) n; is = due; accepted = heard_accepted trunk message (at_work m) (state_of (standing.Accepting (acceptor.AwaitsAnswer w c))) (standing_side peer (standing.Accepting (acceptor.AwaitsAnswer w c))) }
+      record {
+        front = Holds (Handshake message) n;
+        is = due;
+        accepted = heard_accepted trunk message (at_work m) (state_of (standing.Accepting (acceptor.AwaitsAnswer w c)))
+            (standing_side peer (standing.Accepting (acceptor.AwaitsAnswer w c)));
+      }
   wanted (standing.Accepting (acceptor.AwaitsTurn w c)) h (message, n, due) =
-      record { front = Holds (Handshake message) n; is = due; accepted = heard_accepted trunk message (at_work m) (state_of (standing.Accepting (acceptor.AwaitsTurn w c))) (standing_side peer (standing.Accepting (acceptor.AwaitsTurn w c))) }
+      record {
+        front = Holds (Handshake message) n;
+        is = due;
+        accepted = heard_accepted trunk message (at_work m) (state_of (standing.Accepting (acceptor.AwaitsTurn w c)))
+            (standing_side peer (standing.Accepting (acceptor.AwaitsTurn w c)));
+      }
   wanted (standing.Accepting (acceptor.AwaitsReply w c)) h (message, n, due) =
-      record { front = Holds (Handshake message) n; is = due; accepted = heard_accepted trunk message (at_work m) (state_of (standing.Accepting (acceptor.AwaitsReply w c))) (standing_side peer (standing.Accepting (acceptor.AwaitsReply w c))) }
-  wanted (standing.Accepting (acceptor.Done c)) h x = cc
-  wanted (standing.Accepting acceptor.Over) h x = cc
+      record {
+        front = Holds (Handshake message) n;
+        is = due;
+        accepted = heard_accepted trunk message (at_work m) (state_of (standing.Accepting (acceptor.AwaitsReply w c)))
+            (standing_side peer (standing.Accepting (acceptor.AwaitsReply w c)));
+      }
   wanted (standing.Up c) h (signal, n, due) =
-      record { front = Holds (Signalled signal) n; is = due; accepted = taken_accepted trunk (standing_side peer (standing.Up c)) (Signalled signal) (at_work m) }
+      record {
+        front = Holds (Signalled signal) n;
+        is = due;
+        accepted = taken_accepted trunk (standing_side peer (standing.Up c)) (Signalled signal) (at_work m);
+      }
   wanted (standing.Losing c) h x = absurd x
   wanted standing.Gone h x = absurd x
+  wanted st h x = cc

@@ -6,7 +6,8 @@ use Rattle.conn_core.specs.declared.arrival.Taken.TheVariants as taken
 use Rattle.conn_core.specs.declared.standing.Standing.{Standing}
 use Rattle.dist_model.specs.Items.{Signalled}
 use Rattle.dist_model.specs.Sides.{Up}
-use Rattle.erl_control.proofs.Fitting.{and, fits_test}
+use Rattle.std.proofs.lemmas.Bool.{and_from}
+use Rattle.erl_control.proofs.Fitting.{fits_test}
 use Rattle.erl_control.proofs.Sent.{due_sendable}
 use Rattle.erl_control.specs.Control.{IsSendable, IsUnlinkId}
 use Rattle.erl_control.specs.declared.signal.Item.{Item}
@@ -18,20 +19,19 @@ use Rattle.node_sides.specs.Standings.{state_of}
 use Rattle.node_frames.specs.Sendable.{is_sendable}
 
 an_id : (id : ℕ) → IsUnlinkId id → (nat_le 1 id && nat_lt id (2 ^ 64)) ≡ true
-an_id id h = let some = h.0 in let low = h.1 in and (nat_le 1 id) (nat_lt id (2 ^ 64)) (search (rules, some)) (search (rules, low))
+an_id id h = let some = h.0 in let low = h.1 in and_from (nat_le 1 id) (nat_lt id (2 ^ 64)) (search (rules, some)) (search (rules, low))
 
 sendable_from : (signal : Signal) → IsSendable signal → is_sendable signal ≡ true
-sendable_from (Signal.Link from to) h = refl
 sendable_from (Signal.Send to message) h = (fits_test message).1 h.1
 sendable_from (Signal.Exit from to reason) h = (fits_test reason).1 h.1
 sendable_from (Signal.Exit2 from to reason) h = (fits_test reason).1 h.1
-sendable_from (Signal.Monitor from to r) h = refl
-sendable_from (Signal.Demonitor from to r) h = refl
 sendable_from (Signal.MonitorExit from to r reason) h = (fits_test reason).1 h.1
-sendable_from (Signal.UnlinkId id from to) h = and _ true (an_id id h.0) refl
-sendable_from (Signal.UnlinkIdAck id from to) h = and _ true (an_id id h.0) refl
+sendable_from (Signal.UnlinkId id from to) h = and_from _ true (an_id id h.0) refl
+sendable_from (Signal.UnlinkIdAck id from to) h = and_from _ true (an_id id h.0) refl
+sendable_from _ h = refl
 
-pub item_sent : (st : Standing) (bytes : List ℕ) (item : Item) (len : ℕ) → state_of st ≡ Up → IsFrontIn (state_of st) bytes (Holds (item_of item) len) → CanBeSent item
+pub item_sent : (st : Standing) (bytes : List ℕ) (item : Item) (len : ℕ) → state_of st ≡ Up
+    → IsFrontIn (state_of st) bytes (Holds (item_of item) len) → CanBeSent item
 item_sent st bytes (frame.Signal signal) len up front =
     sendable_from signal (due_sendable signal bytes len (subst (λ s. IsFrontIn s bytes (Holds (Signalled signal) len)) up front))
 item_sent st bytes frame.Tick len up front = tt

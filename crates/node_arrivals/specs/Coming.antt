@@ -37,7 +37,8 @@ PlansFront m outcome front plan (Ok len) = IsPlanned m outcome plan × (len ≡ 
 PlansFront m outcome front plan (Err e) = IsRefused outcome e
 
 -- the bytes have such a front, and the plan, or the refusal, is what is due at it
-pub record PlansBytes (m : Node) (side : Option TrunkSide) (bytes : List ℕ) (due : Front → Outcome) (plan : Plan) (result : Result ℕ Refusal) : Type 0 where
+pub record PlansBytes (m : Node) (side : Option TrunkSide) (bytes : List ℕ) (due : Front → Outcome) (plan : Plan)
+    (result : Result ℕ Refusal) : Type 0 where
   pub front : Front
   pub is : IsFront side bytes front
   pub plans : PlansFront m (due front) front plan result
@@ -56,7 +57,8 @@ abbrev pub IsItemSent : Taken → Type 0
 IsItemSent (taken.Item item) = CanBeSent item
 IsItemSent _ = Unit {0}
 
-pub record PlansArrival (m : Node) (side : TrunkSide) (bytes : List ℕ) (due : Front → Outcome) (len : ℕ) (plan : Plan) (result : Result (Unit {0}) Refusal) : Type 0 where
+pub record PlansArrival (m : Node) (side : TrunkSide) (bytes : List ℕ) (due : Front → Outcome) (len : ℕ) (plan : Plan)
+    (result : Result (Unit {0}) Refusal) : Type 0 where
   pub front : Front
   pub is : IsFrontIn side.state bytes front
   pub plans : Plans m (due front) plan result

@@ -1,5 +1,6 @@
 -- What comes, and what a dial comes to, as the code tells it.
-use Rattle.std.proofs.Common.{◌≡◌, ℕ, Bool, true, false, cond, ◌||◌, Option, None, Some, List, [], ◌∷◌, Result, Ok, Err, inr, slice_get, refl, sym, ap, ◌∙◌, subst}
+use Rattle.std.proofs.Common.{◌≡◌, ℕ, Bool, true, false, cond, ◌||◌, Option, None, Some, List, []}
+use Rattle.std.proofs.Common.{◌∷◌, Result, Ok, Err, inr, slice_get, refl, sym, ap, ◌∙◌, subst}
 use Rattle.std.specs.Option.{option_map}
 use Rattle.dist_model.proofs.Keys.{same_name_refl}
 use Rattle.dist_model.specs.Dialing.{has_name}
@@ -31,18 +32,23 @@ first_there : (parcel : Parcel) (l : List Parcel) → Some parcel ≡ first_of l
 first_there parcel [] h = absurd (let no : ◌≡◌ {A = Option Parcel} (Some parcel) None = h in cc)
 first_there parcel (p ∷ ps) h = (ps, let e : parcel ≡ p = cc in ap (λ x. x ∷ ps) (sym e))
 
-module _ (old new : History) (o : Outlet) (trunk : TrunkId) (word : ℕ) (parcel : Parcel) (r : Result ℕ Refusal) (piece : SpellsItem parcel.bytes)
+module _ (old new : History) (o : Outlet) (trunk : TrunkId) (word : ℕ) (parcel : Parcel) (r : Result ℕ Refusal)
+    (piece : SpellsItem parcel.bytes)
     (slot : Some parcel ≡ first_of o.port.slot) (here : comes_here (model_of old.node) trunk parcel.bytes ≡ true)
     (arrives : (names : List Name) (item : Item) → parcel.bytes ≡ bytes_of item → CanCome (model_of old.node) trunk item
-    → Tries (at_node names (model_of old.node) (model.Arrive trunk (Some item) word)) (event.Arrive trunk word) parcel.stamp old new r) where
+    → Tries (at_node names (model_of old.node) (model.Arrive trunk (Some item) word))
+    (event.Arrive trunk word) parcel.stamp old new r) where
   comes : (names : List Name) (item : Item) → IsSpelled item → parcel.bytes ≡ bytes_of item
       → Tries (at_node names (model_of old.node) (model.Arrive trunk (Some item) word)) (event.Arrive trunk word) parcel.stamp old new r
-  comes names item s b = arrives names item b (can_come (model_of old.node) trunk item s (subst (λ bs. comes_here (model_of old.node) trunk bs ≡ true) b here))
+  comes names item s b =
+      arrives names item b (can_come (model_of old.node) trunk item s (subst (λ bs. comes_here (model_of old.node) trunk bs ≡ true) b here))
 
-  abbrev some : Tries (at_node [] (model_of old.node) (model.Arrive trunk (Some piece.item) word)) (event.Arrive trunk word) parcel.stamp old new r
+  abbrev some : Tries (at_node [] (model_of old.node) (model.Arrive trunk (Some piece.item) word))
+      (event.Arrive trunk word) parcel.stamp old new r
   some = comes [] piece.item piece.spelled (sym piece.written)
 
-  tries_at : (due : _) (q : Result ℕ Refusal) → r ≡ q → Tries due (event.Arrive trunk word) parcel.stamp old new r → Tries due (event.Arrive trunk word) parcel.stamp old new q
+  tries_at : (due : _) (q : Result ℕ Refusal) → r ≡ q → Tries due (event.Arrive trunk word) parcel.stamp old new r
+      → Tries due (event.Arrive trunk word) parcel.stamp old new q
   tries_at due q is h = subst (Tries due (event.Arrive trunk word) parcel.stamp old new) is h
 
   pub came_not : (e : Refusal) → r ≡ Err e → TakesNothing trunk old new o o e
@@ -80,7 +86,8 @@ module _ (old new : History) (before after : List Outlet) (is_known : Bool) (pee
       subst (Tries (at_node n.0 (model_of old.node) (model.Dial peer word)) (event.Dial peer word) 0 old new) is (dials n.0 n.1)
 
   pub dialed_out : (greatest place : ℕ) (own to : Name) (count : Option ℕ) → r ≡ Ok place → own ≡ (model_of old.node).mint.name → to ≡ peer
-      → count ≡ option_map (λ (t : TrunkId). t.count) (trunk_in (slice_get new.entries.items place)) → after ≡ with_opened greatest own to place count before
+      → count ≡ option_map (λ (t : TrunkId). t.count) (trunk_in (slice_get new.entries.items place))
+      → after ≡ with_opened greatest own to place count before
       → DialsOut greatest is_known peer word old new before after place
   dialed_out greatest place own to count is o t c h =
       let n = some_names peer is_known in
@@ -89,6 +96,7 @@ module _ (old new : History) (before after : List Outlet) (is_known : Bool) (pee
       record {
         enters = λ names k. (at names k).0;
         place_is = (at n.0 n.1).1;
-        opened = h ∙ ap (λ x. with_opened greatest x to place count before) o ∙ ap (λ x. with_opened greatest (model_of old.node).mint.name x place count before) t
+        opened = h ∙ ap (λ x. with_opened greatest x to place count before) o
+            ∙ ap (λ x. with_opened greatest (model_of old.node).mint.name x place count before) t
             ∙ ap (λ x. with_opened greatest (model_of old.node).mint.name peer place x before) c;
       }

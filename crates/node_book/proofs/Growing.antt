@@ -1,5 +1,6 @@
 -- A book with one entry more stands for one with one more.
-use Rattle.std.proofs.Common.{◌≡◌, ℕ, ◌<◌, Option, None, Some, List, [], ◌∷◌, ◌++◌, Ok, Err, length, refl, sym, ap, ◌∙◌, subst, append_assoc, arith}
+use Rattle.std.proofs.Common.{◌≡◌, ℕ, ◌<◌, Option, None, Some, List, [], ◌∷◌, ◌++◌, Ok}
+use Rattle.std.proofs.Common.{Err, length, refl, sym, ap, ◌∙◌, subst, append_assoc, arith}
 use Rattle.dist_books.specs.Acting as acting
 use Rattle.dist_books.specs.Acting.{IsMet, Nodes, Way, meets, name_at, names_of, next_of, on_ways, report_of, same_way, taken_in, takes}
 use Rattle.dist_books.specs.Books.{Book, Port, Stamped}
@@ -10,7 +11,7 @@ use Rattle.dist_model.specs.Keeping.{CountsOwn, Dials, Towards}
 use Rattle.dist_model.specs.Names.{Name}
 use Rattle.dist_model.specs.Node as model
 use Rattle.dist_model.specs.NodeEvents.{at_node}
-use Rattle.dist_model.specs.World.{Event, Report, node_name}
+use Rattle.dist_model.specs.World.{Event, Report}
 use Rattle.erl_names.specs.declared.trunk.TrunkId.{TrunkId}
 use Rattle.merging.specs.Logs as merging
 use Rattle.merging.specs.Logs.{TakesEarlier, bare_took, on, stamped}
@@ -24,6 +25,7 @@ use Rattle.node_book.specs.Standing.{Feeds, FeedsAt, Stands, TellEntries, TellsE
 use Rattle.node_book.specs.Waiting.{AreFramesOf, effects_of, sent_in, waiting}
 use Rattle.node_book.specs.declared.outlet.Outlet.{Outlet}
 use Rattle.world_core.specs.Ran.{Tells, event_at}
+use Rattle.world_core.proofs.Stepped.{event_named}
 use Rattle.world_events.specs.Events.{met as met_by}
 use Rattle.world_events.specs.declared.event.NodeEvent.{NodeEvent}
 use Rattle.world_events.specs.declared.event.NodeEvent.TheVariants as event
@@ -33,23 +35,7 @@ use Rattle.world_lists.specs.Lists.{sent_at}
 
 meets_is : (own : Name) (what : NodeEvent) (first : Option Item) → meets (event_at own what) first ≡ met_by what first
 meets_is own (event.Call command) first = refl
-meets_is own (event.Arrive trunk word) first = refl
-meets_is own event.Local first = refl
-meets_is own (event.Lose trunk) first = refl
-meets_is own event.Sweep first = refl
-meets_is own (event.Dial peer word) first = refl
-meets_is own event.Stop first = refl
-meets_is own event.Start first = refl
-
-name_is : (own : Name) (what : NodeEvent) → node_name (event_at own what) ≡ own
-name_is own (event.Call command) = refl
-name_is own (event.Arrive trunk word) = refl
-name_is own event.Local = refl
-name_is own (event.Lose trunk) = refl
-name_is own event.Sweep = refl
-name_is own (event.Dial peer word) = refl
-name_is own event.Stop = refl
-name_is own event.Start = refl
+meets_is own what first = refl
 
 module _ (o : Outcome) (m n : model.Node) where
   tells : (answer : Answer) → Ends o m n answer → Tells answer (report_of o)
@@ -63,8 +49,12 @@ module _ (o : Outcome) (m n : model.Node) where
   sent_frames : (stamp : ℕ) (way : Way) (answer : Answer) → Ends o m n answer
       → AreFramesOf (stamped stamp (sent_at way.0 way.1 (effects_of answer))) (stamped stamp (on same_way way (acting.sent_in o)))
   sent_frames stamp way (Ok report) d =
-      subst (λ x. AreFramesOf (stamped stamp (sent_at way.0 way.1 report.effects.items)) (stamped stamp (on same_way way (acting.sent_in x)))) (sym d.accepts)
-      (subst (λ es. AreFramesOf (stamped stamp (sent_at way.0 way.1 es)) (stamped stamp (on same_way way (on_ways d.work.effects)))) (sym d.effects)
+      subst
+      (λ x. AreFramesOf (stamped stamp (sent_at way.0 way.1 report.effects.items)) (stamped stamp (on same_way way (acting.sent_in x))))
+      (sym d.accepts)
+      (subst
+      (λ es. AreFramesOf (stamped stamp (sent_at way.0 way.1 es)) (stamped stamp (on same_way way (on_ways d.work.effects))))
+      (sym d.effects)
       (frames_of_sent stamp way d.work.effects d.spelled))
   sent_frames stamp way (Err why) d =
       subst (λ x. AreFramesOf [] (stamped stamp (on same_way way (acting.sent_in x)))) (sym d.0) tt
@@ -98,7 +88,8 @@ feeds_more t es e o p more f h =
 
 -- ---- one entry more
 
-module _ (grow : BooksGrow) (place : ℕ) (nodes : Nodes) (old new : History) (what : NodeEvent) (first : Option Item) (above : ℕ) (outlets : List Outlet)
+module _ (grow : BooksGrow) (place : ℕ) (nodes : Nodes) (old new : History) (what : NodeEvent) (first : Option Item)
+    (above : ℕ) (outlets : List Outlet)
     (below : place < length nodes) (s : Stands place old outlets nodes)
     (e : Enters (at_node (names_of nodes) (model_of old.node) (met_by what first)) what above old new) where
   abbrev pub own : Name
@@ -124,7 +115,9 @@ module _ (grow : BooksGrow) (place : ℕ) (nodes : Nodes) (old new : History) (w
   pub ends : Ends due s.book.node (model_of new.node) e.answer
   ends =
       subst (λ o. Ends o s.book.node (model_of new.node) e.answer) due_is
-      (subst (λ (m : model.Node). Ends (at_node (names_of nodes) (model_of old.node) (met_by what first)) m (model_of new.node) e.answer) (sym s.is.node) e.ends)
+      (subst
+      (λ (m : model.Node). Ends (at_node (names_of nodes) (model_of old.node) (met_by what first)) m (model_of new.node) e.answer)
+      (sym s.is.node) e.ends)
 
   pub more : (t : TrunkId) (peer : Name) → AreFramesOf (sent_in (t, peer) entry) (stamped new.last (on same_way (t, peer) sent))
   more t peer = sent_frames due s.book.node (model_of new.node) new.last (t, peer) e.answer ends
@@ -154,11 +147,12 @@ module _ (grow : BooksGrow) (place : ℕ) (nodes : Nodes) (old new : History) (w
       node = sym (becomes due s.book.node (model_of new.node) e.answer ends);
       last = refl;
       entries = subst (λ es. TellEntries own es (next ports).history) (sym e.entries)
-          (tell_snoc own old.entries.items s.book.history entry (record { stamp = new.last; event = now; answer = report_of due }) s.is.entries
+          (tell_snoc own old.entries.items s.book.history entry
+          (record { stamp = new.last; event = now; answer = report_of due }) s.is.entries
           (record { stamp = refl; event = refl; answer = tells due s.book.node (model_of new.node) e.answer ends }));
       ports = λ t. subst (λ es. FeedsAt t es (outlet_of t outlets') (ports t)) (sym e.entries) (feeds t);
     };
-    follows = grow nodes place now first s.book took new.last (next ports) below (name_is own what) is_met
+    follows = grow nodes place now first s.book took new.last (next ports) below (event_named own what) is_met
         (subst CountsOwn (sym s.is.node) (counts_of old.node)) s.follows
         (record {
           takes = takes;
@@ -203,7 +197,8 @@ module _ (grow : BooksGrow) (place : ℕ) (nodes : Nodes) (old new : History) (w
   -- ---- an event at which nothing is taken and no port is opened
 
   pub entered_plainly : IsMet now first → taken_in now first due ≡ None
-      → ((t : TrunkId) (peer : Name) → Dials s.book.node (meets now first) t peer → Towards next_node t peer → IsTowards (s.book.ports t) peer)
+      → ((t : TrunkId) (peer : Name) → Dials s.book.node (meets now first) t peer → Towards next_node t peer
+      → IsTowards (s.book.ports t) peer)
       → Stands place new outlets nodes
   entered_plainly is_met none opened =
       entered None (λ t. grown t (s.book.ports t)) outlets is_met (sym none) tt (λ t. leaves_grown t (s.book.ports t))
@@ -214,4 +209,5 @@ module _ (grow : BooksGrow) (place : ℕ) (nodes : Nodes) (old new : History) (w
   pub entered_refused : IsMet now first → (why : _) → due ≡ Refuses why → Stands place new outlets nodes
   entered_refused is_met why refuses =
       entered_plainly is_met (ap (λ o. taken_in now first o) refuses)
-      (λ t peer d h. s.follows.ports.there t peer (subst (λ (m : model.Node). Towards m t peer) (ap (λ o. next_of s.book.node o) refuses) h))
+      (λ t peer d h.
+      s.follows.ports.there t peer (subst (λ (m : model.Node). Towards m t peer) (ap (λ o. next_of s.book.node o) refuses) h))

@@ -9,5 +9,6 @@ pub mod Taking
 pub mod Opening
 pub mod Moving
 pub mod Booking
+pub mod BookedCalls
 pub mod Coming
 pub mod Placing

@@ -1,5 +1,6 @@
 -- What moves at an outlet: into its outbox, onto its wire, and off its other wire.
-use Rattle.std.proofs.Common.{◌≡◌, ℕ, ◌+◌, ◌<◌, Bool, true, false, Result, Ok, Err, OnErr, List, [], ◌∷◌, ◌++◌, if◌then◌else◌, inl, inr, length, nat_lt, refl, sym, ap, ◌∙◌, subst, append_assoc, append-nil}
+use Rattle.std.proofs.Common.{◌≡◌, ℕ, ◌+◌, ◌<◌, Bool, true, false, Result, Ok, Err, OnErr, List, [], ◌∷◌, ◌++◌}
+use Rattle.std.proofs.Common.{if◌then◌else◌, inl, inr, length, nat_lt, refl, sym, ap, ◌∙◌, subst, append_assoc, append-nil}
 use Rattle.std.specs.declared.alloc.AllocError.{AllocError}
 use Rattle.dist_books.specs.Books.{Port, Stamped}
 use Rattle.dist_books.specs.Growing.{Shifts}
@@ -13,14 +14,16 @@ use Rattle.node_book.specs.declared.outlet.Outlet.{Outlet}
 use Rattle.node_frames.specs.Frames.{Framed}
 use Rattle.node_ports.specs.Fetching.{Fetches}
 use Rattle.node_ports.specs.Ports.{PortSeen, flushed, next_piece, sending}
-use Rattle.node_ports.specs.Standing.{Carries, CarryAll, FetchShifts, FlushShifts, ShiftsTo}
+use Rattle.node_ports.specs.Standing.{FetchShifts, FlushShifts, ShiftsTo}
+use Rattle.node_ports.proofs.Carrying.{carry_snoc}
 use Rattle.wire_core.specs.Pieces.{PieceSeen}
 use Rattle.wire_core.specs.Spellings.{SpellsItem}
 use Rattle.wire_core.specs.declared.parcel.Parcel.{Parcel}
 
 -- ---- the port moves, and the place stays
 
-module _ (t : TrunkId) (es : List Entry) (o : Outlet) (p : Port) (f : Feeds t es o p) (new : PortSeen) (trunk : new.trunk ≡ o.port.trunk) (peer : new.peer ≡ o.port.peer) where
+module _ (t : TrunkId) (es : List Entry) (o : Outlet) (p : Port) (f : Feeds t es o p) (new : PortSeen)
+    (trunk : new.trunk ≡ o.port.trunk) (peer : new.peer ≡ o.port.peer) where
   pub shifted : ShiftsTo new f.staged → FeedsShifted t es (record o { port = new }) p
   shifted h =
       let n = h.next in
@@ -46,7 +49,8 @@ module _ (t : TrunkId) (es : List Entry) (o : Outlet) (p : Port) (f : Feeds t es
         });
       }
 
-flushed_trunk : (seen : PortSeen) (waiting : List Parcel) → ((flushed seen waiting).trunk ≡ seen.trunk) × ((flushed seen waiting).peer ≡ seen.peer)
+flushed_trunk : (seen : PortSeen) (waiting : List Parcel) → ((flushed seen waiting).trunk ≡ seen.trunk)
+    × ((flushed seen waiting).peer ≡ seen.peer)
 flushed_trunk seen [] = (refl, refl)
 flushed_trunk seen (x ∷ xs) = go (nat_lt (seen.begun + seen.greatest) (length x.bytes))
   where
@@ -54,8 +58,10 @@ flushed_trunk seen (x ∷ xs) = go (nat_lt (seen.begun + seen.greatest) (length 
     pieces = seen.pieces ++ next_piece seen x ∷ []
 
     go : (is_part : Bool)
-        → ((if is_part then record seen { pieces = pieces; begun = seen.begun + seen.greatest } else record seen { pieces = pieces; begun = 0; put = seen.put ++ x ∷ []; outbox = xs }).trunk ≡ seen.trunk)
-        × ((if is_part then record seen { pieces = pieces; begun = seen.begun + seen.greatest } else record seen { pieces = pieces; begun = 0; put = seen.put ++ x ∷ []; outbox = xs }).peer ≡ seen.peer)
+        → ((if is_part then record seen { pieces = pieces; begun = seen.begun + seen.greatest } else record seen
+        { pieces = pieces; begun = 0; put = seen.put ++ x ∷ []; outbox = xs }).trunk ≡ seen.trunk)
+        × ((if is_part then record seen { pieces = pieces; begun = seen.begun + seen.greatest } else record seen
+        { pieces = pieces; begun = 0; put = seen.put ++ x ∷ []; outbox = xs }).peer ≡ seen.peer)
     go true = (refl, refl)
     go false = (refl, refl)
 
@@ -70,12 +76,17 @@ fetched_trunk old new f = elim f.comes [
   | inr g ↦ (ap (λ (p : PortSeen). p.trunk) g.becomes, ap (λ (p : PortSeen). p.peer) g.becomes)
 ]
 
-pub fetch_keeps : FetchShifts → (es : List Entry) (o : Outlet) (new : PortSeen) → Fetches o.port new → KeepsFeeding es o (record o { port = new })
+pub fetch_keeps : FetchShifts → (es : List Entry) (o : Outlet) (new : PortSeen) → Fetches o.port new
+    → KeepsFeeding es o (record o { port = new })
 fetch_keeps law es o new h t p f = let w = fetched_trunk o.port new h in shifted t es o p f new w.0 w.1 (law o.port new f.staged h f.stands)
 
 pub nothing_keeps : (es : List Entry) (o : Outlet) → KeepsFeeding es o o
 nothing_keeps es o t p f =
-    record { next = p; feeds = f; shifts = record { peer = refl; out = refl; more = []; taken = sym (append-nil p.taken); slot = sym (append-nil p.slot) } }
+    record {
+      next = p;
+      feeds = f;
+      shifts = record { peer = refl; out = refl; more = []; taken = sym (append-nil p.taken); slot = sym (append-nil p.slot) };
+    }
 
 pub both_keep : (es : List Entry) (o n m : Outlet) → KeepsFeeding es o n → KeepsFeeding es n m → KeepsFeeding es o m
 both_keep es o n m a b t p f =
@@ -97,13 +108,6 @@ both_keep es o n m a b t p f =
 
 -- ---- what the history sent next comes into the outbox
 
-carry_snoc : (parcels : List Parcel) (sent : List Stamped) (parcel : Parcel) (x : Stamped) → CarryAll parcels sent → Carries parcel x
-    → CarryAll (parcels ++ parcel ∷ []) (sent ++ x ∷ [])
-carry_snoc [] [] parcel x h c = (c, tt)
-carry_snoc [] (y ∷ sent) parcel x h c = absurd h
-carry_snoc (p ∷ parcels) [] parcel x h c = absurd h
-carry_snoc (p ∷ parcels) (y ∷ sent) parcel x h c = (h.0, carry_snoc parcels sent parcel x h.1 c)
-
 first_item : (frame : ℕ × Framed) (fs : List (ℕ × Framed)) (rest : List Stamped) → AreFramesOf (frame ∷ fs) rest
     → (x : Stamped) × (xs : List Stamped) × (rest ≡ x ∷ xs) × IsFrameOf frame x × AreFramesOf fs xs
 first_item frame fs [] h = absurd h
@@ -116,8 +120,11 @@ pub staged_keeps : (es : List Entry) (o : Outlet) (parcel : Parcel) (stamp : ℕ
 staged_keeps es o parcel stamp frame entry effects next stamp_is bytes_are within t p f =
     let S = f.staged in
     let there : waiting (t, o.port.peer) o.entry o.effects es ≡ (stamp, frame) ∷ waiting (t, o.port.peer) entry effects es =
-    subst (λ u. waiting (u, o.port.peer) o.entry o.effects es ≡ (stamp, frame) ∷ waiting (u, o.port.peer) entry effects es) f.trunk_is next in
-    let g = first_item (stamp, frame) (waiting (t, o.port.peer) entry effects es) f.rest (subst (λ fs. AreFramesOf fs f.rest) there f.to_come) in
+    subst
+    (λ u. waiting (u, o.port.peer) o.entry o.effects es ≡ (stamp, frame) ∷ waiting (u, o.port.peer) entry effects es) f.trunk_is next in
+    let g =
+    first_item (stamp, frame) (waiting (t, o.port.peer) entry effects es) f.rest
+    (subst (λ fs. AreFramesOf fs f.rest) there f.to_come) in
     let x = g.0 in
     let xs = g.1 in
     let is = g.3 in
@@ -147,7 +154,8 @@ staged_keeps es o parcel stamp frame entry effects next stamp_is bytes_are withi
 pub passed_keeps : (es : List Entry) (o : Outlet) → waiting (o.port.trunk, o.port.peer) o.entry o.effects es ≡ []
     → KeepsFeeding es o (record o { entry = length es; effects = 0 })
 passed_keeps es o none t p f =
-    let there : waiting (t, o.port.peer) o.entry o.effects es ≡ [] = subst (λ u. waiting (u, o.port.peer) o.entry o.effects es ≡ []) f.trunk_is none in
+    let there : waiting (t, o.port.peer) o.entry o.effects es ≡ [] =
+    subst (λ u. waiting (u, o.port.peer) o.entry o.effects es ≡ []) f.trunk_is none in
     record {
       next = p;
       feeds = record {
@@ -195,15 +203,18 @@ fetched_keeps law es o port (Err e) taken none err = same_keeps es o port err
 pub flushed_keeps : FlushShifts → (es : List Entry) (o : Outlet) (port : PortSeen) (r : Moved)
     → (r ≡ Ok true → port ≡ flushed o.port o.port.outbox) → (r ≡ Ok false → port ≡ o.port) → OnErr r (port ≡ o.port)
     → KeepsFeeding es o (record o { port = port })
-flushed_keeps law es o port (Ok true) put none err = subst (λ x. KeepsFeeding es o (record o { port = x })) (sym (put refl)) (flush_keeps law es o)
+flushed_keeps law es o port (Ok true) put none err =
+    subst (λ x. KeepsFeeding es o (record o { port = x })) (sym (put refl)) (flush_keeps law es o)
 flushed_keeps law es o port (Ok false) put none err = same_keeps es o port (none refl)
 flushed_keeps law es o port (Err e) put none err = same_keeps es o port err
 
 module _ (es : List Entry) (o : Outlet) (t : TrunkId) (x : List ℕ) (trunk : t ≡ o.port.trunk) (peer : x ≡ o.port.peer) where
   at_port : (l : List (ℕ × Framed)) → waiting (t, x) o.entry o.effects es ≡ l → waiting (o.port.trunk, o.port.peer) o.entry o.effects es ≡ l
-  at_port l h = subst (λ u. waiting (u, o.port.peer) o.entry o.effects es ≡ l) trunk (subst (λ y. waiting (t, y) o.entry o.effects es ≡ l) peer h)
+  at_port l h =
+      subst (λ u. waiting (u, o.port.peer) o.entry o.effects es ≡ l) trunk (subst (λ y. waiting (t, y) o.entry o.effects es ≡ l) peer h)
 
-  pub piece_at : (stamp : ℕ) (frame : Framed) (rest : List (ℕ × Framed)) → Fed es o → waiting (t, x) o.entry o.effects es ≡ (stamp, frame) ∷ rest → SpellsItem frame.bytes
+  pub piece_at : (stamp : ℕ) (frame : Framed) (rest : List (ℕ × Framed)) → Fed es o
+      → waiting (t, x) o.entry o.effects es ≡ (stamp, frame) ∷ rest → SpellsItem frame.bytes
   piece_at stamp frame rest fed h = next_spells es o stamp frame rest fed (at_port ((stamp, frame) ∷ rest) h)
 
   pub passed_at : waiting (t, x) o.entry o.effects es ≡ [] → KeepsFeeding es o (record o { entry = length es; effects = 0 })
@@ -214,7 +225,8 @@ module _ (es : List Entry) (o : Outlet) (t : TrunkId) (x : List ℕ) (trunk : t 
       → parcel.stamp ≡ stamp → parcel.bytes ≡ frame.bytes → entry < length es → port ≡ sending o.port parcel
       → KeepsFeeding es o (record { port = port; entry = entry; effects = effects })
   staged_at port parcel stamp frame entry effects h s b within is =
-      let there = subst (λ u. waiting (u, o.port.peer) o.entry o.effects es ≡ (stamp, frame) ∷ waiting (u, o.port.peer) entry effects es) trunk
+      let there =
+      subst (λ u. waiting (u, o.port.peer) o.entry o.effects es ≡ (stamp, frame) ∷ waiting (u, o.port.peer) entry effects es) trunk
       (subst (λ y. waiting (t, y) o.entry o.effects es ≡ (stamp, frame) ∷ waiting (t, y) entry effects es) peer h) in
       subst (λ y. KeepsFeeding es o (record { port = y; entry = entry; effects = effects })) (sym is)
       (staged_keeps es o parcel stamp frame entry effects there s b within)

@@ -1,6 +1,8 @@
 -- A node dials: the entry of its event, and a port of the new connection.
-use Rattle.std.proofs.Common.{◌≡◌, ℕ, ◌+◌, ◌<◌, ◌^◌, Bool, true, false, cond, not, nat_lt, Option, None, Some, List, [], ◌∷◌, ◌++◌, inr, is_some, length, refl, sym, ap, ◌∙◌, subst}
+use Rattle.std.proofs.Common.{◌≡◌, ℕ, ◌+◌, ◌<◌, ◌^◌, Bool, true, false, cond, not, nat_lt, Option, None}
+use Rattle.std.proofs.Common.{Some, List, [], ◌∷◌, ◌++◌, inr, is_some, length, refl, sym, ap, ◌∙◌, subst}
 use Rattle.std.specs.FinMap as fm
+use Rattle.world_core.proofs.Stepped.{refused_or}
 use Rattle.dist_books.specs.Acting as acting
 use Rattle.dist_books.specs.Acting.{Nodes, Way, meets, name_at, names_of, same_way}
 use Rattle.dist_books.specs.Books.{Port, Stamped}
@@ -45,15 +47,13 @@ abbrev dialed_side : (peer : Name) (word : ℕ) → TrunkSide
 dialed_side peer word = record { peer = peer; peer_creation = 0; state = AwaitsStatus word }
 
 abbrev dialed_work : model.Node → Name → ℕ → Work
-dialed_work m peer word = write (next_trunk m) peer (send_name (identity m)) (with_side (next_trunk m) (dialed_side peer word) (at_work (draw_trunk m)))
+dialed_work m peer word =
+    write (next_trunk m) peer (send_name (identity m)) (with_side (next_trunk m) (dialed_side peer word) (at_work (draw_trunk m)))
 
 pub record Dialed (m : model.Node) (peer : Name) (word : ℕ) (said : Answer) (work : Work) : Type 0 where
   pub stranger : peer ≡ m.mint.name → ⊥
   pub answer : said ≡ Answer.Trunk (next_trunk m)
   pub side : Towards work.node (next_trunk m) peer
-
-refused_or : (why : Refusal) (a : Answer) (w : Work) {A : Type 0} → Refuses why ≡ Accepts a w → A
-refused_or why a w h = cc
 
 same_answer : (a b : Answer) (w v : Work) → Accepts a w ≡ Accepts b v → a ≡ b
 same_answer a b w v h = cc
@@ -80,7 +80,8 @@ accepted_dial names m peer word said work h = by_up m.up h
     }
 
     by_tests : (a b c d : Bool) → same_name peer m.mint.name ≡ a
-        → cond a (Refuses Refusal.SelfDial) (cond b (Refuses Refusal.NothingThere) (cond c (Refuses Refusal.Busy) (cond d (Refuses Refusal.IdsUsedUp) (Accepts (Answer.Trunk t0) w0)))) ≡ Accepts said work
+        → cond a (Refuses Refusal.SelfDial) (cond b (Refuses Refusal.NothingThere)
+        (cond c (Refuses Refusal.Busy) (cond d (Refuses Refusal.IdsUsedUp) (Accepts (Answer.Trunk t0) w0)))) ≡ Accepts said work
         → Dialed m peer word said work
     by_tests true b c d s e = refused_or Refusal.SelfDial said work e
     by_tests false true c d s e = refused_or Refusal.NothingThere said work e
@@ -107,7 +108,8 @@ same_peer p q w v h = cc
 some_port : (p : Port) {A : Type 0} → ◌≡◌ {A = Option Port} None (Some p) → A
 some_port p h = cc
 
-module _ (grow : BooksGrow) (new_next : NextIsNew) (place : ℕ) (nodes : Nodes) (old new : History) (peer : Name) (word greatest : ℕ) (outlets : List Outlet)
+module _ (grow : BooksGrow) (new_next : NextIsNew) (place : ℕ) (nodes : Nodes) (old new : History) (peer : Name)
+    (word greatest : ℕ) (outlets : List Outlet)
     (below : place < length nodes) (s : Stands place old outlets nodes)
     (e : Enters (at_node (names_of nodes) (model_of old.node) (met_by (event.Dial peer word) None)) (event.Dial peer word) 0 old new) where
   abbrev own : Name
@@ -155,7 +157,9 @@ module _ (grow : BooksGrow) (new_next : NextIsNew) (place : ℕ) (nodes : Nodes)
     ports t = cond (same_trunk t t0) (Some opened) (grown t (s.book.ports t))
 
     abbrev LeavesAt : TrunkId → Option Port → Option Port → Type 0
-    LeavesAt t = Leaves own (acting.sent_in due) None new.last t s.book.node (growing.next_node grow place nodes old new (event.Dial peer word) None 0 outlets below s e)
+    LeavesAt t =
+        Leaves own (acting.sent_in due) None new.last t s.book.node
+        (growing.next_node grow place nodes old new (event.Dial peer word) None 0 outlets below s e)
         (meets (growing.now grow place nodes old new (event.Dial peer word) None 0 outlets below s e) None)
 
     leaves_here : LeavesAt t0 None (Some opened)
@@ -178,7 +182,8 @@ module _ (grow : BooksGrow) (new_next : NextIsNew) (place : ℕ) (nodes : Nodes)
 
     towards : (t : TrunkId) (q : Name) → Dials s.book.node (met.Dial peer word) t q → IsTowards (ports t) q
     towards t q d =
-        subst (λ b. IsTowards (cond b (Some opened) (grown t (s.book.ports t))) q) (sym (same_trunk_is t t0 d.1)) (same_peer peer q word d.0.0 d.0.1)
+        subst (λ b. IsTowards (cond b (Some opened) (grown t (s.book.ports t))) q) (sym (same_trunk_is t t0 d.1))
+        (same_peer peer q word d.0.0 d.0.1)
 
     fed_here : Feeds t0 es outlet opened
     fed_here = record {
@@ -194,14 +199,19 @@ module _ (grow : BooksGrow) (new_next : NextIsNew) (place : ℕ) (nodes : Nodes)
       place = place_snoc (length old.entries.items) 0 old.entries.items entry (inr (refl, refl));
     }
 
-    fed : (t : TrunkId) (b : Bool) → same_trunk t t0 ≡ b → FeedsAt t es (cond b (Some outlet) (outlet_of t outlets)) (cond b (Some opened) (grown t (s.book.ports t)))
+    fed : (t : TrunkId) (b : Bool) → same_trunk t t0 ≡ b
+        → FeedsAt t es (cond b (Some outlet) (outlet_of t outlets)) (cond b (Some opened) (grown t (s.book.ports t)))
     fed t true same = subst (λ u. FeedsAt u es (Some outlet) (Some opened)) (sym (same_trunk_true t t0 same)) fed_here
-    fed t false same = feeds_grown grow place nodes old new (event.Dial peer word) None 0 outlets below s e t (outlet_of t outlets) (s.book.ports t) (s.is.ports t)
+    fed t false same =
+        feeds_grown grow place nodes old new (event.Dial peer word) None 0 outlets below s e t (outlet_of t outlets)
+        (s.book.ports t) (s.is.ports t)
 
     pub entered_dialing : Stands place new (outlets ++ outlet ∷ []) nodes
     entered_dialing =
         entered grow place nodes old new (event.Dial peer word) None 0 outlets below s e None ports (outlets ++ outlet ∷ [])
-        tt (sym (ap (λ d. acting.taken_in (growing.now grow place nodes old new (event.Dial peer word) None 0 outlets below s e) None d) accepted)) tt
+        tt (sym (ap
+        (λ d. acting.taken_in (growing.now grow place nodes old new (event.Dial peer word) None 0 outlets below s e) None d)
+        accepted)) tt
         (λ t. leaves t (same_trunk t t0) refl)
         (λ t q d h. towards t q d)
         (λ t. subst (λ q. FeedsAt t es q (ports t)) (sym (outlet_push t outlets outlet none)) (fed t (same_trunk t t0) refl))

@@ -1,5 +1,6 @@
 -- How long pieces may be is set at all ends of connections.
-use Rattle.std.proofs.Common.{◌≡◌, ℕ, zero, suc, ◌+◌, ◌<◌, Bool, true, false, Option, None, Some, List, [], ◌∷◌, ◌++◌, drop, get_or, if◌then◌else◌, length, map, set, take, refl, sym, ap, ◌∙◌, arith}
+use Rattle.std.proofs.Common.{◌≡◌, ℕ, zero, suc, ◌+◌, ◌<◌, Bool, true, false, Option, None, Some, List, [], ◌∷◌}
+use Rattle.std.proofs.Common.{◌++◌, drop, get_or, if◌then◌else◌, length, map, set, take, refl, sym, ap, ◌∙◌, arith}
 use Rattle.std.specs.Ordering.{eq_by_cmp}
 use Rattle.dist_books.specs.Books.{Port}
 use Rattle.dist_model.specs.Names.{Name}
@@ -53,11 +54,13 @@ module _ (greatest : ℕ) (t : TrunkId) (es : List Entry) where
     place = h.place;
   }
 
-  all_fed : (os : List Outlet) (p : Option Port) → FeedsAt t es (outlet_of t os) p → FeedsAt t es (outlet_of t (map (with_piece greatest) os)) p
+  all_fed : (os : List Outlet) (p : Option Port) → FeedsAt t es (outlet_of t os) p
+      → FeedsAt t es (outlet_of t (map (with_piece greatest) os)) p
   all_fed [] p h = h
   all_fed (o ∷ os) p h = go (λ k. all_fed os p k) (eq_by_cmp trunk_cmp t o.port.trunk) h
     where
-      go : (FeedsAt t es (outlet_of t os) p → FeedsAt t es (outlet_of t (map (with_piece greatest) os)) p) → (b : Bool) → FeedsAt t es (if b then Some o else outlet_of t os) p
+      go : (FeedsAt t es (outlet_of t os) p → FeedsAt t es (outlet_of t (map (with_piece greatest) os)) p) → (b : Bool)
+          → FeedsAt t es (if b then Some o else outlet_of t os) p
           → FeedsAt t es (if b then Some (with_piece greatest o) else outlet_of t (map (with_piece greatest) os)) p
       go others true k = fed o p k
       go others false k = others k

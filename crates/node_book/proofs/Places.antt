@@ -1,6 +1,8 @@
 -- The outlet of a connection, by its place among all.
-use Rattle.std.proofs.Common.{◌≡◌, ℕ, zero, suc, ◌+◌, ◌<◌, Bool, true, false, cond, Option, None, Some, List, [], ◌∷◌, ◌++◌, length, get_or, set, refl, sym, ap, ◌∙◌, subst, arith}
+use Rattle.std.proofs.Common.{◌≡◌, ℕ, zero, suc, ◌+◌, ◌<◌, Bool, true, false, cond, Option, None, Some}
+use Rattle.std.proofs.Common.{List, [], ◌∷◌, ◌++◌, length, get_or, set, refl, sym, ap, ◌∙◌, subst, arith}
 use Rattle.std.proofs.lemmas.Iterator.Adapters.{position_from-zero}
+use Rattle.std.proofs.lemmas.Option.{same_Some}
 use Rattle.std.specs.List.{position, position_from}
 use Rattle.dist_model.proofs.Keys.{same_trunk, same_trunk_true}
 use Rattle.erl_names.specs.declared.trunk.TrunkId.{TrunkId}
@@ -21,20 +23,19 @@ pub record Found (trunk : TrunkId) (i j : ℕ) (os : List Outlet) : Type 0 where
   pub is : j ≡ i + k
   pub first : IsFirst trunk k os
 
-some_is : (a b : ℕ) → ◌≡◌ {A = Option ℕ} (Some a) (Some b) → a ≡ b
-some_is a b h = cc
-
 found : (trunk : TrunkId) (i j : ℕ) (os : List Outlet) → position_from (at trunk) i os ≡ Some j → Found trunk i j os
 found trunk i j [] h = absurd (let no : ◌≡◌ {A = Option ℕ} None (Some j) = h in cc)
 found trunk i j (o ∷ os) h = by_test (found trunk (i + 1) j os) (at trunk o) refl h
   where
     by_test : (position_from (at trunk) (i + 1) os ≡ Some j → Found trunk (i + 1) j os)
         → (b : Bool) → at trunk o ≡ b → cond b (Some i) (position_from (at trunk) (i + 1) os) ≡ Some j → Found trunk i j (o ∷ os)
-    by_test later true t e = let s = some_is i j e in record { k = 0; is = omega (arith, s); first = t }
+    by_test later true t e = let s = same_Some i j e in record { k = 0; is = omega (arith, s); first = t }
     by_test later false t e = let f = later e in record { k = suc f.k; is = omega (arith, f.is); first = (t, f.first) }
 
 pub is_first : (trunk : TrunkId) (j : ℕ) (os : List Outlet) → position (at trunk) os ≡ Some j → IsFirst trunk j os
-is_first trunk j os h = let f = found trunk 0 j os (sym (position_from-zero (at trunk) os) ∙ h) in subst (λ n. IsFirst trunk n os) (let e : f.k ≡ j = omega (arith, f.is) in e) f.first
+is_first trunk j os h =
+    let f = found trunk 0 j os (sym (position_from-zero (at trunk) os) ∙ h) in
+    subst (λ n. IsFirst trunk n os) (let e : f.k ≡ j = omega (arith, f.is) in e) f.first
 
 pub first_below : (trunk : TrunkId) (k : ℕ) (os : List Outlet) → IsFirst trunk k os → k < length os
 first_below trunk k [] h = absurd h
@@ -51,7 +52,8 @@ nowhere trunk i [] h = refl
 nowhere trunk i (o ∷ os) h = by_test (nowhere trunk (i + 1) os) (at trunk o) refl h
   where
     by_test : (position_from (at trunk) (i + 1) os ≡ None → outlet_of trunk os ≡ None)
-        → (b : Bool) → at trunk o ≡ b → cond b (Some i) (position_from (at trunk) (i + 1) os) ≡ None → cond (at trunk o) (Some o) (outlet_of trunk os) ≡ None
+        → (b : Bool) → at trunk o ≡ b → cond b (Some i) (position_from (at trunk) (i + 1) os) ≡ None
+        → cond (at trunk o) (Some o) (outlet_of trunk os) ≡ None
     by_test later true t e = absurd (let no : ◌≡◌ {A = Option ℕ} (Some i) None = e in cc)
     by_test later false t e = ap (λ b. cond b (Some o) (outlet_of trunk os)) t ∙ later e
 
@@ -68,7 +70,8 @@ outlet_set u trunk zero (o ∷ os) new h n = go (same_trunk u trunk) refl
     is : o.port.trunk ≡ trunk
     is = sym (same_trunk_true trunk o.port.trunk h)
 
-    go : (b : Bool) → same_trunk u trunk ≡ b → cond (at u new) (Some new) (outlet_of u os) ≡ cond b (Some new) (cond (at u o) (Some o) (outlet_of u os))
+    go : (b : Bool) → same_trunk u trunk ≡ b
+        → cond (at u new) (Some new) (outlet_of u os) ≡ cond b (Some new) (cond (at u o) (Some o) (outlet_of u os))
     go true t = ap (λ c. cond c (Some new) (outlet_of u os)) (ap (λ x. same_trunk u x) n ∙ t)
     go false t =
         ap (λ c. cond c (Some new) (outlet_of u os)) (ap (λ x. same_trunk u x) n ∙ t)
@@ -81,7 +84,9 @@ outlet_set u trunk (suc k) (o ∷ os) new h n = go (outlet_set u trunk k os new 
         let no : true ≡ false = sym t ∙ ap (λ x. at x o) (same_trunk_true u trunk s) ∙ h.0 in cc
     other t false s = refl
 
-    go : outlet_of u (set os k new) ≡ cond (same_trunk u trunk) (Some new) (outlet_of u os) → (b : Bool) → at u o ≡ b → cond (at u o) (Some o) (outlet_of u (set os k new)) ≡ cond (same_trunk u trunk) (Some new) (cond (at u o) (Some o) (outlet_of u os))
+    go : outlet_of u (set os k new) ≡ cond (same_trunk u trunk) (Some new) (outlet_of u os) → (b : Bool) → at u o ≡ b
+        → cond (at u o) (Some o) (outlet_of u (set os k new))
+        ≡ cond (same_trunk u trunk) (Some new) (cond (at u o) (Some o) (outlet_of u os))
     go rest true t =
         ap (λ b. cond b (Some o) (outlet_of u (set os k new))) t
         ∙ ap (λ c. cond c (Some new) (Some o)) (sym (other t (same_trunk u trunk) refl))
@@ -98,7 +103,9 @@ outlet_push u [] new none = refl
 outlet_push u (o ∷ os) new none = go (outlet_push u os new) (at u o) refl
   where
     here : (b : Bool) → at new.port.trunk o ≡ b → (b ≡ false) × (outlet_of new.port.trunk os ≡ None)
-    here true t = absurd (let no : ◌≡◌ {A = Option Outlet} (Some o) None = ap (λ b. cond b (Some o) (outlet_of new.port.trunk os)) (sym t) ∙ none in cc)
+    here true t =
+        absurd
+        (let no : ◌≡◌ {A = Option Outlet} (Some o) None = ap (λ b. cond b (Some o) (outlet_of new.port.trunk os)) (sym t) ∙ none in cc)
     here false t = (refl, ap (λ b. cond b (Some o) (outlet_of new.port.trunk os)) (sym t) ∙ none)
 
     apart : at new.port.trunk o ≡ false
@@ -109,7 +116,9 @@ outlet_push u (o ∷ os) new none = go (outlet_push u os new) (at u o) refl
         let no : true ≡ false = sym t ∙ ap (λ x. at x o) (same_trunk_true u new.port.trunk s) ∙ apart in cc
     other t false s = refl
 
-    go : (outlet_of new.port.trunk os ≡ None → outlet_of u (os ++ new ∷ []) ≡ cond (same_trunk u new.port.trunk) (Some new) (outlet_of u os)) → (b : Bool) → at u o ≡ b → cond (at u o) (Some o) (outlet_of u (os ++ new ∷ [])) ≡ cond (same_trunk u new.port.trunk) (Some new) (cond (at u o) (Some o) (outlet_of u os))
+    go : (outlet_of new.port.trunk os ≡ None → outlet_of u (os ++ new ∷ []) ≡ cond (same_trunk u new.port.trunk) (Some new)
+        (outlet_of u os)) → (b : Bool) → at u o ≡ b → cond (at u o) (Some o) (outlet_of u
+        (os ++ new ∷ [])) ≡ cond (same_trunk u new.port.trunk) (Some new) (cond (at u o) (Some o) (outlet_of u os))
     go later true t =
         ap (λ b. cond b (Some o) (outlet_of u (os ++ new ∷ []))) t
         ∙ ap (λ c. cond c (Some new) (Some o)) (sym (other t (same_trunk u new.port.trunk) refl))

@@ -33,15 +33,10 @@ err_of_placed (Err e) P h = h
 
 -- nothing is to be known of the names where none is dialed
 nothing_known : (what : NodeEvent) (names : List Name) → is_plain what ≡ true → Knows names what false
-nothing_known (event.Call command) names h = tt
-nothing_known (event.Arrive trunk word) names h = tt
-nothing_known event.Local names h = tt
-nothing_known (event.Lose trunk) names h = tt
-nothing_known event.Sweep names h = tt
 nothing_known (event.Dial peer word) names h = absurd (let no : false ≡ true = h in cc)
-nothing_known event.Stop names h = tt
-nothing_known event.Start names h = tt
+nothing_known what names h = tt
 
 pub known_plainly : (what : NodeEvent) (old new : History) (r : Result ℕ Refusal) → is_plain what ≡ true
-    → ((names : List Name) → Knows names what false → Tries (at_node names (model_of old.node) (met what None)) what 0 old new r) → HappensAt what old new r
+    → ((names : List Name) → Knows names what false → Tries (at_node names (model_of old.node) (met what None)) what 0 old new r)
+    → HappensAt what old new r
 known_plainly what old new r plain h = λ names. h names (nothing_known what names plain)

@@ -1,8 +1,9 @@
 -- Between two entries parcels move, and ports come.
-use Rattle.std.proofs.Common.{◌≡◌, ℕ, Bool, true, false, cond, Option, None, Some, List, [], ◌∷◌, ◌++◌, set, refl, sym, subst, append-nil}
+use Rattle.std.proofs.Common.{◌≡◌, ℕ, Bool, true, false, cond, Option, None, Some, List, [], ◌∷◌, ◌++◌, set, refl, sym, subst}
+use Rattle.node_ports.proofs.Carrying.{nothing_more}
 use Rattle.dist_books.specs.Acting.{Nodes, name_at, opened_at}
 use Rattle.dist_books.specs.Books.{Book, Port, new_book}
-use Rattle.dist_books.specs.Growing.{BooksRest, Comes, Moves, NewBooksFollow, Shifts}
+use Rattle.dist_books.specs.Growing.{BooksRest, Comes, Moves, NewBooksFollow}
 use Rattle.dist_model.proofs.Keys.{same_trunk, same_trunk_true}
 use Rattle.dist_model.specs.Names.{Name}
 use Rattle.erl_names.specs.declared.trunk.TrunkId.{TrunkId}
@@ -14,14 +15,12 @@ use Rattle.node_book.specs.Feeding.{KeepsFeeding}
 use Rattle.node_book.specs.Standing.{Feeds, FeedsAt, Stands, TellEntries, outlet_of}
 use Rattle.node_book.specs.declared.outlet.Outlet.{Outlet}
 
-shifts_not : (p : Port) → Shifts p p
-shifts_not p = record { peer = refl; out = refl; more = []; taken = sym (append-nil p.taken); slot = sym (append-nil p.slot) }
-
 moves_not : (own : Name) (t : TrunkId) (o : Option Port) → Moves own t o o
 moves_not own t None = tt
-moves_not own t (Some p) = shifts_not p
+moves_not own t (Some p) = nothing_more p
 
-module _ (rest : BooksRest) (place : ℕ) (nodes : Nodes) (history : History) (outlets : List Outlet) (s : Stands place history outlets nodes) where
+module _ (rest : BooksRest) (place : ℕ) (nodes : Nodes) (history : History) (outlets : List Outlet)
+    (s : Stands place history outlets nodes) where
   abbrev own : Name
   own = name_at nodes place
 
@@ -61,17 +60,20 @@ module _ (rest : BooksRest) (place : ℕ) (nodes : Nodes) (history : History) (o
     moves t true is = subst (λ x. Moves own x (s.book.ports x) here.0) (sym (same_trunk_true t trunk is)) here.1
     moves t false is = moves_not own t (s.book.ports t)
 
-    feeds : (t : TrunkId) (b : Bool) → same_trunk t trunk ≡ b → FeedsAt t es (cond b (Some new) (outlet_of t outlets)) (cond b here.0 (s.book.ports t))
+    feeds : (t : TrunkId) (b : Bool) → same_trunk t trunk ≡ b
+        → FeedsAt t es (cond b (Some new) (outlet_of t outlets)) (cond b here.0 (s.book.ports t))
     feeds t true is = subst (λ x. FeedsAt x es (Some new) here.0) (sym (same_trunk_true t trunk is)) here.2
     feeds t false is = s.is.ports t
 
     pub shifted : Stands place history (set outlets k new) nodes
     shifted = rested ports (set outlets k new) (λ t. moves t (same_trunk t trunk) refl)
-        (λ t. subst (λ o. FeedsAt t es o (ports t)) (sym (outlet_set t trunk k outlets new first (fed_trunk here.0 here.2))) (feeds t (same_trunk t trunk) refl))
+        (λ t. subst (λ o. FeedsAt t es o (ports t)) (sym (outlet_set t trunk k outlets new first (fed_trunk here.0 here.2)))
+        (feeds t (same_trunk t trunk) refl))
 
   -- ---- a port comes, of a connection that another node has dialed
 
-  module _ (new : Outlet) (p : Port) (none : outlet_of new.port.trunk outlets ≡ None) (comes : Comes own new.port.trunk p) (is : Feeds new.port.trunk es new p) where
+  module _ (new : Outlet) (p : Port) (none : outlet_of new.port.trunk outlets ≡ None) (comes : Comes own new.port.trunk p)
+      (is : Feeds new.port.trunk es new p) where
     abbrev trunk : TrunkId
     trunk = new.port.trunk
 
@@ -91,7 +93,8 @@ module _ (rest : BooksRest) (place : ℕ) (nodes : Nodes) (history : History) (o
         (subst (λ o. Moves own trunk o (Some p)) (sym was_none) comes)
     comes_at t false same = moves_not own t (s.book.ports t)
 
-    feeds_new : (t : TrunkId) (b : Bool) → same_trunk t trunk ≡ b → FeedsAt t es (cond b (Some new) (outlet_of t outlets)) (cond b (Some p) (s.book.ports t))
+    feeds_new : (t : TrunkId) (b : Bool) → same_trunk t trunk ≡ b
+        → FeedsAt t es (cond b (Some new) (outlet_of t outlets)) (cond b (Some p) (s.book.ports t))
     feeds_new t true same = subst (λ x. FeedsAt x es (Some new) (Some p)) (sym (same_trunk_true t trunk same)) is
     feeds_new t false same = s.is.ports t
 

@@ -1,5 +1,6 @@
 -- An item has come that was taken off the wire: the entry of its event, and the slot without it.
-use Rattle.std.proofs.Common.{◌≡◌, ℕ, ◌<◌, All, Bool, true, false, cond, Option, None, Some, List, [], ◌∷◌, ◌++◌, if◌then◌else◌, get_or, length, set, ◌&&◌, refl, sym, ap, ◌∙◌, subst, append_assoc, arith}
+use Rattle.std.proofs.Common.{◌≡◌, ℕ, ◌<◌, All, Bool, true, false, cond, Option, None, Some, List, [], ◌∷◌, ◌++◌}
+use Rattle.std.proofs.Common.{if◌then◌else◌, get_or, length, set, ◌&&◌, refl, sym, ap, ◌∙◌, subst, append_assoc, arith}
 use Rattle.dist_books.proofs.Steps.{same_way_self}
 use Rattle.dist_books.specs.Acting as acting
 use Rattle.dist_books.specs.Acting.{Nodes, Way, meets, name_at, names_of, same_way, taken_in}
@@ -68,7 +69,8 @@ carry_behind [] (x ∷ xs) h = absurd h
 carry_behind (p ∷ ps) [] h = absurd h
 carry_behind (p ∷ ps) (x ∷ xs) h = h.1
 
-feeds_taken : (t : TrunkId) (es : List Entry) (o : Outlet) (p : Port) → Feeds t es o p → Feeds t es (without_next o) (record p { slot = behind p.slot })
+feeds_taken : (t : TrunkId) (es : List Entry) (o : Outlet) (p : Port) → Feeds t es o p
+    → Feeds t es (without_next o) (record p { slot = behind p.slot })
 feeds_taken t es o p f = record {
   staged = record (f.staged) { slot = behind f.staged.slot };
   rest = f.rest;
@@ -91,12 +93,15 @@ one P x h k d lt = let z : 0 ≡ k = omega arith in subst (λ n. P (get_or (x �
 pub some_not_none : (item : Item) → ◌≡◌ {A = Option Item} (Some item) None → ⊥
 some_not_none item h = cc
 
-arrival_no_dial : (trunk : TrunkId) (first : Option Item) (word : ℕ) (peer : Name) → ((w : ℕ) × (met.Arrive trunk first word ≡ met.Dial peer w)) → ⊥
+arrival_no_dial : (trunk : TrunkId) (first : Option Item) (word : ℕ) (peer : Name)
+    → ((w : ℕ) × (met.Arrive trunk first word ≡ met.Dial peer w)) → ⊥
 arrival_no_dial trunk first word peer h = let no : met.Arrive trunk first word ≡ met.Dial peer h.0 = h.1 in cc
 
-module _ (grow : BooksGrow) (place : ℕ) (nodes : Nodes) (old new : History) (trunk : TrunkId) (word : ℕ) (x : Stamped) (outlets : List Outlet)
+module _ (grow : BooksGrow) (place : ℕ) (nodes : Nodes) (old new : History) (trunk : TrunkId) (word : ℕ) (x : Stamped)
+    (outlets : List Outlet)
     (below : place < length nodes) (s : Stands place old outlets nodes)
-    (e : Enters (at_node (names_of nodes) (model_of old.node) (met_by (event.Arrive trunk word) (Some x.1))) (event.Arrive trunk word) x.0 old new) where
+    (e : Enters (at_node (names_of nodes) (model_of old.node) (met_by (event.Arrive trunk word) (Some x.1)))
+    (event.Arrive trunk word) x.0 old new) where
   abbrev own : Name
   own = name_at nodes place
 
@@ -122,7 +127,9 @@ module _ (grow : BooksGrow) (place : ℕ) (nodes : Nodes) (old new : History) (t
     ports t = cond (same_trunk t trunk) (emptied (grown t (s.book.ports t))) (grown t (s.book.ports t))
 
     abbrev LeavesAt : TrunkId → Option Port → Option Port → Type 0
-    LeavesAt t = Leaves own (acting.sent_in due) took new.last t s.book.node (growing.next_node grow place nodes old new (event.Arrive trunk word) (Some x.1) x.0 outlets below s e)
+    LeavesAt t =
+        Leaves own (acting.sent_in due) took new.last t s.book.node
+        (growing.next_node grow place nodes old new (event.Arrive trunk word) (Some x.1) x.0 outlets below s e)
         (meets (growing.now grow place nodes old new (event.Arrive trunk word) (Some x.1) x.0 outlets below s e) (Some x.1))
 
     off_here : off same_way (trunk, own) took ≡ x ∷ []
@@ -156,23 +163,30 @@ module _ (grow : BooksGrow) (place : ℕ) (nodes : Nodes) (old new : History) (t
     leaves t false is = leaves_there t (s.book.ports t) is
 
     fed_here : FeedsAt trunk es (Some (without_next o)) (emptied (grown trunk (Some p)))
-    fed_here = feeds_taken trunk es o (record p { outbox = p.outbox ++ stamped new.last (on same_way (trunk, p.peer) (acting.sent_in due)) })
+    fed_here =
+        feeds_taken trunk es o (record p { outbox = p.outbox ++ stamped new.last (on same_way (trunk, p.peer) (acting.sent_in due)) })
         (feeds_grown grow place nodes old new (event.Arrive trunk word) (Some x.1) x.0 outlets below s e trunk (Some o) (Some p) feeds)
 
     fed : (t : TrunkId) (b : Bool) → same_trunk t trunk ≡ b
-        → FeedsAt t es (cond b (Some (without_next o)) (outlet_of t outlets)) (cond b (emptied (grown t (s.book.ports t))) (grown t (s.book.ports t)))
+        → FeedsAt t es (cond b (Some (without_next o)) (outlet_of t outlets))
+        (cond b (emptied (grown t (s.book.ports t))) (grown t (s.book.ports t)))
     fed t true is =
         subst (λ u. FeedsAt u es (Some (without_next o)) (emptied (grown u (s.book.ports u)))) (sym (same_trunk_true t trunk is))
         (subst (λ q. FeedsAt trunk es (Some (without_next o)) (emptied (grown trunk q))) (sym port_is) fed_here)
     fed t false is =
-        feeds_grown grow place nodes old new (event.Arrive trunk word) (Some x.1) x.0 outlets below s e t (outlet_of t outlets) (s.book.ports t) (s.is.ports t)
+        feeds_grown grow place nodes old new (event.Arrive trunk word) (Some x.1) x.0 outlets below s e t
+        (outlet_of t outlets) (s.book.ports t) (s.is.ports t)
 
     pub entered_taking : Stands place new (set outlets k (without_next o)) nodes
     entered_taking =
-        entered grow place nodes old new (event.Arrive trunk word) (Some x.1) x.0 outlets below s e took ports (set outlets k (without_next o))
+        entered grow place nodes old new (event.Arrive trunk word) (Some x.1) x.0 outlets below s e took ports
+        (set outlets k (without_next o))
         (λ h. some_not_none x.1 h)
-        (sym (ap (λ d. taken_in (growing.now grow place nodes old new (event.Arrive trunk word) (Some x.1) x.0 outlets below s e) (Some x.1) d) accepted))
+        (sym (ap
+        (λ d. taken_in (growing.now grow place nodes old new (event.Arrive trunk word) (Some x.1) x.0 outlets below s e) (Some x.1) d)
+        accepted))
         (one (λ y. y.0 < new.last) x (omega (arith, e.stamp)))
         (λ t. leaves t (same_trunk t trunk) refl)
         (λ t peer d h. absurd (arrival_no_dial trunk (Some x.1) word peer d.0))
-        (λ t. subst (λ q. FeedsAt t es q (ports t)) (sym (outlet_set t trunk k outlets (without_next o) first trunk_is)) (fed t (same_trunk t trunk) refl))
+        (λ t. subst (λ q. FeedsAt t es q (ports t)) (sym (outlet_set t trunk k outlets (without_next o) first trunk_is))
+        (fed t (same_trunk t trunk) refl))

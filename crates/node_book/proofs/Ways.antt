@@ -1,5 +1,6 @@
 -- What the history has sent on a way, from a place on.
-use Rattle.std.proofs.Common.{◌≡◌, ℕ, zero, suc, ◌+◌, ◌<◌, ◌≤◌, Bool, true, false, None, Some, List, [], ◌∷◌, ◌++◌, inl, inr, if◌then◌else◌, drop, length, map, get_or, refl, sym, ap, ◌∙◌, subst, append_assoc, append-nil, arith, length-append}
+use Rattle.std.proofs.Common.{◌≡◌, ℕ, zero, suc, ◌+◌, ◌<◌, ◌≤◌, Bool, true, false, None, Some, List, [], ◌∷◌, ◌++◌, inl, inr, if◌then◌else◌}
+use Rattle.std.proofs.Common.{drop, length, map, get_or, refl, sym, ap, ◌∙◌, subst, append_assoc, append-nil, arith, length-append}
 use Rattle.dist_books.specs.Acting.{Way, on_ways, same_way}
 use Rattle.dist_books.specs.Books.{Stamped}
 use Rattle.dist_model.specs.Items.{Item}
@@ -53,28 +54,30 @@ whole_entries way [] = refl
 whole_entries way (x ∷ es) = refl
 
 pub waiting_here : (way : Way) (i j : ℕ) (es : List Entry) (d : Entry) → i < length es
-    → waiting way i j es ≡ stamped (get_or es i d).stamp (sent_at way.0 way.1 (drop j (effects_of (get_or es i d).answer))) ++ waiting way (i + 1) 0 es
+    → waiting way i j es ≡ stamped (get_or es i d).stamp (sent_at way.0 way.1 (drop j (effects_of (get_or es i d).answer)))
+    ++ waiting way (i + 1) 0 es
 waiting_here way i j [] d h = absurd (omega arith)
 waiting_here way zero j (x ∷ es) d h =
     ap (λ l. stamped x.stamp (sent_at way.0 way.1 (drop j (effects_of x.answer))) ++ l) (sym (whole_entries way es))
 waiting_here way (suc i) j (x ∷ es) d h =
     let e : suc i + 1 ≡ suc (i + 1) = omega arith in
     waiting_here way i j es d (omega arith)
-    ∙ ap (λ n. stamped (get_or es i d).stamp (sent_at way.0 way.1 (drop j (effects_of (get_or es i d).answer))) ++ waiting way n 0 (x ∷ es)) (sym e)
+    ∙ ap
+    (λ n. stamped (get_or es i d).stamp (sent_at way.0 way.1 (drop j (effects_of (get_or es i d).answer))) ++ waiting way n 0 (x ∷ es))
+    (sym e)
 
 -- ---- what effects send
 
-pub sent_cons : (t : TrunkId) (x : Name) (e : Effect Framed) (es : List (Effect Framed)) → sent_at t x (e ∷ es) ≡ sent_at t x (e ∷ []) ++ sent_at t x es
+pub sent_cons : (t : TrunkId) (x : Name) (e : Effect Framed) (es : List (Effect Framed))
+    → sent_at t x (e ∷ es) ≡ sent_at t x (e ∷ []) ++ sent_at t x es
 sent_cons t x (Effect.Sent (Some on) peer frame) es =
     ap (λ l. l ++ sent_at t x es) (sym (append-nil (if same_way (t, x) (on, peer) then frame ∷ [] else [])))
-sent_cons t x (Effect.Sent None peer frame) es = refl
-sent_cons t x (Effect.Put to message) es = refl
-sent_cons t x (Effect.Ended process reason) es = refl
-sent_cons t x (Effect.LinkExit process partner reason) es = refl
+sent_cons t x effect es = refl
 
 -- ---- frames of items
 
-pub frames_append : (fs gs : List (ℕ × Framed)) (xs ys : List Stamped) → AreFramesOf fs xs → AreFramesOf gs ys → AreFramesOf (fs ++ gs) (xs ++ ys)
+pub frames_append : (fs gs : List (ℕ × Framed)) (xs ys : List Stamped) → AreFramesOf fs xs → AreFramesOf gs ys
+    → AreFramesOf (fs ++ gs) (xs ++ ys)
 frames_append [] gs [] ys h k = k
 frames_append [] gs (x ∷ xs) ys h k = absurd h
 frames_append (f ∷ fs) gs [] ys h k = absurd h
@@ -90,11 +93,9 @@ pub frames_of_sent : (stamp : ℕ) (way : Way) (effects : List (Effect Item)) �
     → AreFramesOf (stamped stamp (sent_at way.0 way.1 (map shown effects))) (stamped stamp (on same_way way (on_ways effects)))
 frames_of_sent stamp way [] s = tt
 frames_of_sent stamp way (Effect.Sent (Some trunk) peer item ∷ rest) s =
-    one_more stamp (same_way way (trunk, peer)) item (sent_at way.0 way.1 (map shown rest)) (on same_way way (on_ways rest)) (s.0, tt) (frames_of_sent stamp way rest s.1)
-frames_of_sent stamp way (Effect.Sent None peer item ∷ rest) s = frames_of_sent stamp way rest s.1
-frames_of_sent stamp way (Effect.Put to message ∷ rest) s = frames_of_sent stamp way rest s.1
-frames_of_sent stamp way (Effect.Ended process reason ∷ rest) s = frames_of_sent stamp way rest s.1
-frames_of_sent stamp way (Effect.LinkExit process partner reason ∷ rest) s = frames_of_sent stamp way rest s.1
+    one_more stamp (same_way way (trunk, peer)) item (sent_at way.0 way.1 (map shown rest)) (on same_way way (on_ways rest))
+    (s.0, tt) (frames_of_sent stamp way rest s.1)
+frames_of_sent stamp way (effect ∷ rest) s = frames_of_sent stamp way rest s.1
 
 -- ---- effect by effect, and entry by entry
 
@@ -123,7 +124,8 @@ waiting_passed way i j es d h none =
 
 -- one that sends something more
 pub waiting_found : (way : Way) (i j k : ℕ) (es : List Entry) (d : Entry) (frame : Framed) → i < length es
-    → sent_at way.0 way.1 (drop j (effects_of (get_or es i d).answer)) ≡ frame ∷ sent_at way.0 way.1 (drop k (effects_of (get_or es i d).answer))
+    → sent_at way.0 way.1 (drop j (effects_of (get_or es i d).answer)) ≡ frame
+    ∷ sent_at way.0 way.1 (drop k (effects_of (get_or es i d).answer))
     → waiting way i j es ≡ ((get_or es i d).stamp, frame) ∷ waiting way i k es
 waiting_found way i j k es d frame h some =
     waiting_here way i j es d h ∙ ap (λ l. stamped (get_or es i d).stamp l ++ waiting way (i + 1) 0 es) some

@@ -56,7 +56,8 @@ pub record Takes (trunk : TrunkId) (word : ℕ) (old new : History) (before afte
   pub slot : before.port.slot ≡ parcel ∷ rest
   pub piece : SpellsItem parcel.bytes
   pub enters : (names : List Name) (item : Item) → IsSpelled item → parcel.bytes ≡ bytes_of item
-      → Enters (at_node names (model_of old.node) (met (event.Arrive trunk word) (Some item))) (event.Arrive trunk word) parcel.stamp old new
+      → Enters (at_node names (model_of old.node) (met (event.Arrive trunk word) (Some item)))
+      (event.Arrive trunk word) parcel.stamp old new
   pub place_is : place ≡ length old.entries.items
   pub left : after ≡ (if is_accepted (slice_get new.entries.items place) then without_next before else before)
 
@@ -73,7 +74,8 @@ with_opened greatest own peer place None outlets = outlets
 with_opened greatest own peer place (Some count) outlets =
     outlets ++ new_outlet greatest (record { dialer = own; count = count }) peer place ∷ []
 
-pub record DialsOut (greatest : ℕ) (is_known : Bool) (peer : Name) (word : ℕ) (old new : History) (before after : List Outlet) (place : ℕ) : Type 0 where
+pub record DialsOut (greatest : ℕ) (is_known : Bool) (peer : Name) (word : ℕ) (old new : History) (before after : List Outlet)
+    (place : ℕ) : Type 0 where
   pub enters : (names : List Name) → has_name peer names ≡ is_known
       → Enters (at_node names (model_of old.node) (met (event.Dial peer word) None)) (event.Dial peer word) 0 old new
   pub place_is : place ≡ length old.entries.items

@@ -42,7 +42,8 @@ pub record Puts (entries : List Entry) (old new : Outlet) (count : ℕ) : Type 0
   pub few : length moved ≤ count
   pub put : new.port.put ≡ old.port.put ++ moved
   pub waited : waits entries old ≡ map said moved ++ waits entries new
-  pub bytes : begun_marks old.port.begun old.port.outbox ++ marks_of cut ≡ marks_of_parcels moved ++ begun_marks new.port.begun new.port.outbox
+  pub bytes : begun_marks old.port.begun old.port.outbox ++ marks_of cut ≡ marks_of_parcels moved
+      ++ begun_marks new.port.begun new.port.outbox
 
 -- nothing waits, or the wire was full at some moment
 abbrev pub IsStill : List Entry → Outlet → Type 0

@@ -17,6 +17,8 @@ pub record BookSeen : Type 0 where
 abbrev pub book_code : Coded History → Coded Outlet → Coded BookSeen
 book_code history outlet =
     code_by (List (List ℕ) × (ℕ × (List ℕ × (History × (List Outlet × ℕ)))))
-    (coded× (coded_list (coded_list coded_ℕ)) (coded× coded_ℕ (coded× (coded_list coded_ℕ) (coded× history (coded× (coded_list outlet) coded_ℕ)))))
+    (coded× (coded_list (coded_list coded_ℕ))
+    (coded× coded_ℕ (coded× (coded_list coded_ℕ) (coded× history (coded× (coded_list outlet) coded_ℕ)))))
     (λ b. (b.names, (b.place, (b.cookie, (b.history, (b.outlets, b.greatest))))))
-    (λ p. record { names = p.0; place = p.1.0; cookie = p.1.1.0; history = p.1.1.1.0; outlets = p.1.1.1.1.0; greatest = p.1.1.1.1.1 }) (λ _. refl)
+    (λ p. record { names = p.0; place = p.1.0; cookie = p.1.1.0; history = p.1.1.1.0; outlets = p.1.1.1.1.0; greatest = p.1.1.1.1.1 })
+    (λ _. refl)

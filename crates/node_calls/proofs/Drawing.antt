@@ -1,5 +1,6 @@
 -- A number that is drawn is the next of its kind.
-use Rattle.std.proofs.Common.{◌≡◌, ℕ, ◌+◌, ◌<◌, Bool, true, false, cond, nat_lt, Option, Some, None, Result, Ok, Err, refl, sym, ap, ◌∙◌, rules}
+use Rattle.std.proofs.Common.{◌≡◌, ℕ, ◌+◌, ◌<◌, Bool, true, false, cond, nat_lt, Option}
+use Rattle.std.proofs.Common.{Some, None, Result, Ok, Err, refl, sym, ap, ◌∙◌, rules}
 use Rattle.std.specs.Option.{ok_or}
 use Rattle.erl_names.specs.Draw.{Draw}
 use Rattle.erl_names.specs.Minted.{Minted, count, id_of, last}
@@ -31,10 +32,12 @@ next_is m kind e id h = go (nat_lt (count m kind) (last kind)) refl h
     }
     go false t h = cc
 
-pub used_up : (m : Minted) (kind : Draw) (e : Refusal) → ok_or (id_of m kind) Refusal.IdsUsedUp ≡ Err e → (id_of m kind ≡ None) × (e ≡ Refusal.IdsUsedUp)
+pub used_up : (m : Minted) (kind : Draw) (e : Refusal) → ok_or (id_of m kind) Refusal.IdsUsedUp ≡ Err e
+    → (id_of m kind ≡ None) × (e ≡ Refusal.IdsUsedUp)
 used_up m kind e h = go (id_of m kind) refl h
   where
-    go : (o : Option ℕ) → id_of m kind ≡ o → ◌≡◌ {A = Result ℕ Refusal} (ok_or o Refusal.IdsUsedUp) (Err e) → (id_of m kind ≡ None) × (e ≡ Refusal.IdsUsedUp)
+    go : (o : Option ℕ) → id_of m kind ≡ o → ◌≡◌ {A = Result ℕ Refusal} (ok_or o Refusal.IdsUsedUp) (Err e)
+        → (id_of m kind ≡ None) × (e ≡ Refusal.IdsUsedUp)
     go None i h = (i, sym (ap (λ r. error_of r) h))
       where
         error_of : Result ℕ Refusal → Refusal

@@ -19,7 +19,7 @@ ghost use Rattle.node_changes.specs.declared.change.Change.TheVariants as change
 use crate::acting::{acts, aims_at, reaches};
 use erl_term::{Pid, Refusal};
 use link_core::LinkSignal;
-use node_endings::{is_active, link_exit, no_connection};
+use node_endings::{break_link, is_active};
 use node_frames::same_pid;
 use node_plans::{Node, Plan, or_refuse};
 use node_tables::EndChange;
@@ -42,24 +42,6 @@ fn link_reached(
     plan.tell(alloc, node, process, partner, LinkSignal::Link)
 }
 
-// The node of its partner isn't reached, so the link is lost at once.
-fn link_lost(
-    alloc: Global,
-    node: &Node,
-    plan: &mut Plan,
-    process: &Pid,
-    partner: &Pid,
-) -> Result<(), AllocError>
-    requires blank { IsBlank plan.old }
-    requires living { model.living (seen node.now) process.now ≡ true }
-    ensures carries { (work : Work) → CarriesOut plan.old (seen node.now) work → Carries (seen node.now) (linking.link_new false process.now partner.now work) plan.new result }
-    ensures told { (m : TheNode) → told plan.new m ≡ told plan.old m }
-{
-    let reason = no_connection(alloc)?;
-    plan.change_end(process, partner, EndChange::Exits)?;
-    link_exit(plan, alloc, node, process, partner, reason)
-}
-
 // It links itself to a process to which it isn't linked.
 fn link_new(
     alloc: Global,
@@ -76,7 +58,7 @@ fn link_new(
     if reaches(node, &partner.node) {
         link_reached(alloc, node, plan, process, partner)
     } else {
-        link_lost(alloc, node, plan, process, partner)
+        break_link(alloc, node, plan, process, partner)
     }
 }
 

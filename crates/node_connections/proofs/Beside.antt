@@ -1,5 +1,7 @@
 -- A side and the others towards its peer.
 use Rattle.std.proofs.Common.{◌≡◌, ℕ, Bool, true, false, cond, Option, Some, None, refl, sym, ap, ◌∙◌}
+use Rattle.std.proofs.lemmas.Option.{same_Some}
+use Rattle.std.proofs.lemmas.Bool.{false_from_ne_true}
 use Rattle.std.specs.FinMap as fm
 use Rattle.std.specs.Option.{option_map}
 use Rattle.std.specs.FinMap.{FinMap}
@@ -7,7 +9,7 @@ use Rattle.conn_core.specs.Side.{lost}
 use Rattle.conn_core.specs.declared.standing.Standing.{Standing}
 use Rattle.conn_core.specs.declared.standing.Standing.TheVariants as standing
 use Rattle.dist_model.proofs.Keys.{same_trunk, same_trunk_is, same_trunk_true, trunk_total}
-use Rattle.dist_model.proofs.Routes.{side_where_found, side_where_none, some_same}
+use Rattle.dist_model.proofs.Routes.{side_where_found, side_where_none}
 use Rattle.dist_model.specs.Handshake.{challenge_or_park, identity, send_challenge_or_park, set_state, up_is_lost}
 use Rattle.dist_model.specs.Keeping.{AtMostOne, is_attempt, is_engaged}
 use Rattle.dist_model.specs.Losses.{close_side, release_parked, released_by}
@@ -36,35 +38,29 @@ same_identity plan m work h = let names = named_after plan.change plan.draws m.m
 -- ---- of the sides towards one peer one is engaged
 
 up_engaged : (s : State) → is_up s ≡ true → is_engaged s ≡ true
-up_engaged model.Up h = refl
-up_engaged (model.AwaitsStatus w) h = refl
-up_engaged (model.AwaitsChallenge w) h = refl
-up_engaged (model.AwaitsAck w) h = refl
-up_engaged (model.Accepting w) h = refl
 up_engaged (model.Asked w) h = cc
 up_engaged (model.Parked w) h = cc
-up_engaged model.Losing h = refl
 up_engaged model.Gone h = cc
+up_engaged s h = refl
 
-pub alone : (n : Node) (t : TrunkId) (s : TrunkSide) → AtMostOne is_engaged n → fm.get n.sides t ≡ Some s → is_engaged s.state ≡ true → NoOtherUp n.sides t s.peer
+pub alone : (n : Node) (t : TrunkId) (s : TrunkSide) → AtMostOne is_engaged n → fm.get n.sides t ≡ Some s
+    → is_engaged s.state ≡ true → NoOtherUp n.sides t s.peer
 alone n t s engaged there own other side e p u = engaged other t side s e there p (up_engaged side.state u) own
 
 -- ---- another side changes
 
 other_trunk : (t u : TrunkId) → (t ≡ u → ⊥) → same_trunk t u ≡ false
-other_trunk t u d = go (same_trunk t u) refl
-  where
-    go : (b : Bool) → same_trunk t u ≡ b → same_trunk t u ≡ false
-    go true e = absurd (d (same_trunk_true t u e))
-    go false e = e
+other_trunk t u d = false_from_ne_true (same_trunk t u) (λ e. d (same_trunk_true t u e))
 
-pub get_other : (sides : FinMap trunk_cmp TrunkSide) (u : TrunkId) (s : TrunkSide) (t : TrunkId) → (t ≡ u → ⊥) → fm.get (fm.insert sides u s) t ≡ fm.get sides t
+pub get_other : (sides : FinMap trunk_cmp TrunkSide) (u : TrunkId) (s : TrunkSide) (t : TrunkId) → (t ≡ u → ⊥)
+    → fm.get (fm.insert sides u s) t ≡ fm.get sides t
 get_other sides u s t d = fm.get-insert trunk_total sides u s t ∙ ap (λ b. cond b (Some s) (fm.get sides t)) (other_trunk t u d)
 
 pub get_same : (sides : FinMap trunk_cmp TrunkSide) (u : TrunkId) (s : TrunkSide) → fm.get (fm.insert sides u s) u ≡ Some s
 get_same sides u s = fm.get-insert trunk_total sides u s u ∙ ap (λ b. cond b (Some s) (fm.get sides u)) (same_trunk_is u u refl)
 
-pub towards_kept : (sides : FinMap trunk_cmp TrunkSide) (u t : TrunkId) (s v : TrunkSide) (y : Name) → fm.get sides u ≡ Some s → v.peer ≡ s.peer → IsTowards y (fm.get sides t) → IsTowards y (fm.get (fm.insert sides u v) t)
+pub towards_kept : (sides : FinMap trunk_cmp TrunkSide) (u t : TrunkId) (s v : TrunkSide) (y : Name) → fm.get sides u ≡ Some s
+    → v.peer ≡ s.peer → IsTowards y (fm.get sides t) → IsTowards y (fm.get (fm.insert sides u v) t)
 towards_kept sides u t s v y there p h = go (same_trunk t u) refl
   where
     peer_of : Option TrunkSide → Option Name
@@ -72,34 +68,32 @@ towards_kept sides u t s v y there p h = go (same_trunk t u) refl
 
     go : (b : Bool) → same_trunk t u ≡ b → IsTowards y (fm.get (fm.insert sides u v) t)
     go true e = let i : t ≡ u = same_trunk_true t u e in
-        ap (λ x. peer_of (fm.get (fm.insert sides u v) x)) i ∙ ap peer_of (get_same sides u v) ∙ ap Some p ∙ ap peer_of (sym there) ∙ ap (λ x. peer_of (fm.get sides x)) (sym i) ∙ h
+        ap (λ x. peer_of (fm.get (fm.insert sides u v) x)) i ∙ ap peer_of (get_same sides u v) ∙ ap Some p
+        ∙ ap peer_of (sym there) ∙ ap (λ x. peer_of (fm.get sides x)) (sym i) ∙ h
     go false e = ap peer_of (fm.get-insert trunk_total sides u v t ∙ ap (λ b. cond b (Some v) (fm.get sides t)) e) ∙ h
 
 -- ---- the older connection is lost
 
 pub lost_up : (y : Name) (st : Standing) → is_up (state_of st) ≡ true → standing_side y (lost st) ≡ in_state Losing (standing_side y st)
-lost_up y (standing.Dialing (dialer.AwaitsStatus w)) h = cc
-lost_up y (standing.Dialing (dialer.AwaitsChallenge w)) h = cc
-lost_up y (standing.Dialing (dialer.AwaitsAck w creation)) h = cc
-lost_up y (standing.Dialing (dialer.Done creation)) h = cc
-lost_up y (standing.Dialing dialer.Over) h = cc
-lost_up y (standing.Accepting acceptor.AwaitsName) h = cc
-lost_up y (standing.Accepting (acceptor.AwaitsAdmission w creation)) h = cc
-lost_up y (standing.Accepting (acceptor.AwaitsAnswer w creation)) h = cc
-lost_up y (standing.Accepting (acceptor.AwaitsTurn w creation)) h = cc
-lost_up y (standing.Accepting (acceptor.AwaitsReply w creation)) h = cc
-lost_up y (standing.Accepting (acceptor.Done creation)) h = cc
-lost_up y (standing.Accepting acceptor.Over) h = cc
 lost_up y (standing.Up creation) h = refl
-lost_up y (standing.Losing creation) h = cc
-lost_up y standing.Gone h = cc
+lost_up y (standing.Dialing dialer.Over) h = cc
+lost_up y (standing.Accepting acceptor.Over) h = cc
+lost_up y st h = cc
 
-pub found_in : (test : State → Bool) (y : Name) (n : Node) (e : TrunkId × TrunkSide) → side_where test y (fm.entries n.sides) ≡ Some e → (fm.get n.sides e.0 ≡ Some e.1) × (e.1.peer ≡ y) × (test e.1.state ≡ true)
-found_in test y n e h = let f = side_where_found test y (fm.entries n.sides) e (fm.entries_sorted n.sides) h in (fm.get-entries n.sides e.0 ∙ f.there, f.peer, f.passes)
+pub found_in : (test : State → Bool) (y : Name) (n : Node) (e : TrunkId × TrunkSide)
+    → side_where test y (fm.entries n.sides) ≡ Some e → (fm.get n.sides e.0 ≡ Some e.1) × (e.1.peer ≡ y)
+    × (test e.1.state ≡ true)
+found_in test y n e h =
+    let f = side_where_found test y (fm.entries n.sides) e (fm.entries_sorted n.sides) h in
+    (fm.get-entries n.sides e.0 ∙ f.there, f.peer, f.passes)
 
-pub parks_behind : (t : TrunkId) (s : TrunkSide) (w : ℕ) (n : Node) (e : TrunkId × TrunkSide) → side_where is_up s.peer (fm.entries n.sides) ≡ Some e
-    → send_challenge_or_park t s w (up_is_lost (side_where is_up s.peer (fm.entries n.sides)) (at_work n)) ≡ set_state t s (Parked w) (set_state e.0 e.1 Losing (at_work n))
-parks_behind t s w n e h = ap (λ o. send_challenge_or_park t s w (up_is_lost o (at_work n))) h ∙ go (side_where is_losing s.peer (fm.entries after.node.sides)) refl
+pub parks_behind : (t : TrunkId) (s : TrunkSide) (w : ℕ) (n : Node) (e : TrunkId × TrunkSide)
+    → side_where is_up s.peer (fm.entries n.sides) ≡ Some e
+    → send_challenge_or_park t s w (up_is_lost (side_where is_up s.peer (fm.entries n.sides)) (at_work n))
+    ≡ set_state t s (Parked w) (set_state e.0 e.1 Losing (at_work n))
+parks_behind t s w n e h =
+    ap (λ o. send_challenge_or_park t s w (up_is_lost o (at_work n))) h
+    ∙ go (side_where is_losing s.peer (fm.entries after.node.sides)) refl
   where
     after : Work
     after = set_state e.0 e.1 Losing (at_work n)
@@ -109,107 +103,88 @@ parks_behind t s w n e h = ap (λ o. send_challenge_or_park t s w (up_is_lost o 
     go (Some l) i = ap (λ o. challenge_or_park o t s w after) i
     go None i =
         let f = found_in is_up s.peer n e h in
-        let c : is_losing Losing ≡ false = side_where_none is_losing s.peer (fm.entries after.node.sides) e.0 (in_state Losing e.1) i (sym (fm.get-entries after.node.sides e.0) ∙ get_same n.sides e.0 (in_state Losing e.1)) f.1 in cc
+        let c : is_losing Losing ≡ false =
+        side_where_none is_losing s.peer (fm.entries after.node.sides) e.0 (in_state Losing e.1) i
+        (sym (fm.get-entries after.node.sides e.0) ∙ get_same n.sides e.0 (in_state Losing e.1)) f.1 in cc
 
 -- ---- what the side waits for
 
-pub asked_is : (st : Standing) (w creation : ℕ) → asked_in st ≡ Some (w, creation) → st ≡ standing.Accepting (acceptor.AwaitsAnswer w creation)
-asked_is (standing.Dialing d) w creation h = cc
-asked_is (standing.Accepting acceptor.AwaitsName) w creation h = cc
-asked_is (standing.Accepting (acceptor.AwaitsAdmission v c)) w creation h = cc
-asked_is (standing.Accepting (acceptor.AwaitsAnswer v c)) w creation h = let e = some_same (v, c) (w, creation) h in (λ i. standing.Accepting (acceptor.AwaitsAnswer ((e i).0) ((e i).1)))
-asked_is (standing.Accepting (acceptor.AwaitsTurn v c)) w creation h = cc
-asked_is (standing.Accepting (acceptor.AwaitsReply v c)) w creation h = cc
-asked_is (standing.Accepting (acceptor.Done c)) w creation h = cc
-asked_is (standing.Accepting acceptor.Over) w creation h = cc
-asked_is (standing.Up c) w creation h = cc
-asked_is (standing.Losing c) w creation h = cc
-asked_is standing.Gone w creation h = cc
+pub asked_is : (st : Standing) (w creation : ℕ) → asked_in st ≡ Some (w, creation)
+    → st ≡ standing.Accepting (acceptor.AwaitsAnswer w creation)
+asked_is (standing.Accepting (acceptor.AwaitsAnswer v c)) w creation h =
+    let e = same_Some (v, c) (w, creation) h in (λ i. standing.Accepting (acceptor.AwaitsAnswer ((e i).0) ((e i).1)))
+asked_is st w creation h = cc
 
-pub parked_is : (st : Standing) (w creation : ℕ) → parked_in st ≡ Some (w, creation) → st ≡ standing.Accepting (acceptor.AwaitsTurn w creation)
-parked_is (standing.Dialing d) w creation h = cc
-parked_is (standing.Accepting acceptor.AwaitsName) w creation h = cc
-parked_is (standing.Accepting (acceptor.AwaitsAdmission v c)) w creation h = cc
-parked_is (standing.Accepting (acceptor.AwaitsAnswer v c)) w creation h = cc
-parked_is (standing.Accepting (acceptor.AwaitsTurn v c)) w creation h = let e = some_same (v, c) (w, creation) h in (λ i. standing.Accepting (acceptor.AwaitsTurn ((e i).0) ((e i).1)))
-parked_is (standing.Accepting (acceptor.AwaitsReply v c)) w creation h = cc
-parked_is (standing.Accepting (acceptor.Done c)) w creation h = cc
-parked_is (standing.Accepting acceptor.Over) w creation h = cc
-parked_is (standing.Up c) w creation h = cc
-parked_is (standing.Losing c) w creation h = cc
-parked_is standing.Gone w creation h = cc
+pub parked_is : (st : Standing) (w creation : ℕ) → parked_in st ≡ Some (w, creation)
+    → st ≡ standing.Accepting (acceptor.AwaitsTurn w creation)
+parked_is (standing.Accepting (acceptor.AwaitsTurn v c)) w creation h =
+    let e = same_Some (v, c) (w, creation) h in (λ i. standing.Accepting (acceptor.AwaitsTurn ((e i).0) ((e i).1)))
+parked_is st w creation h = cc
 
-pub not_parked : (st : Standing) (t : TrunkId) (s : TrunkSide) (work : Work) → parked_in st ≡ None → released_by (state_of st) t s work ≡ work
-not_parked (standing.Dialing (dialer.AwaitsStatus w)) t s work h = refl
-not_parked (standing.Dialing (dialer.AwaitsChallenge w)) t s work h = refl
-not_parked (standing.Dialing (dialer.AwaitsAck w creation)) t s work h = refl
-not_parked (standing.Dialing (dialer.Done creation)) t s work h = refl
-not_parked (standing.Dialing dialer.Over) t s work h = refl
-not_parked (standing.Accepting acceptor.AwaitsName) t s work h = refl
-not_parked (standing.Accepting (acceptor.AwaitsAdmission w creation)) t s work h = refl
-not_parked (standing.Accepting (acceptor.AwaitsAnswer w creation)) t s work h = refl
+pub not_parked : (st : Standing) (t : TrunkId) (s : TrunkSide) (work : Work) → parked_in st ≡ None
+    → released_by (state_of st) t s work ≡ work
 not_parked (standing.Accepting (acceptor.AwaitsTurn w creation)) t s work h = cc
-not_parked (standing.Accepting (acceptor.AwaitsReply w creation)) t s work h = refl
-not_parked (standing.Accepting (acceptor.Done creation)) t s work h = refl
-not_parked (standing.Accepting acceptor.Over) t s work h = refl
-not_parked (standing.Up creation) t s work h = refl
-not_parked (standing.Losing creation) t s work h = refl
-not_parked standing.Gone t s work h = refl
+not_parked (standing.Dialing dialer.Over) t s work h = refl
+not_parked st t s work h = refl
 
 -- ---- a side that was lost is gone: the attempt that waited is what it was
 
 parked_attempt : (s : State) → is_parked s ≡ true → (is_attempt s ≡ true) × (is_losing s ≡ false)
 parked_attempt (model.Parked w) h = (refl, refl)
-parked_attempt model.Up h = cc
-parked_attempt (model.AwaitsStatus w) h = cc
-parked_attempt (model.AwaitsChallenge w) h = cc
-parked_attempt (model.AwaitsAck w) h = cc
-parked_attempt (model.Accepting w) h = cc
-parked_attempt (model.Asked w) h = cc
-parked_attempt model.Losing h = cc
-parked_attempt model.Gone h = cc
+parked_attempt s h = cc
 
-module _ (n : Node) (t : TrunkId) (s : TrunkSide) (attempts : AtMostOne is_attempt n) (there : fm.get n.sides t ≡ Some s) (losing : is_losing s.state ≡ true) where
+module _ (n : Node) (t : TrunkId) (s : TrunkSide) (attempts : AtMostOne is_attempt n) (there : fm.get n.sides t ≡ Some s)
+    (losing : is_losing s.state ≡ true) where
   abbrev after : Node
   after = record n { sides = fm.insert n.sides t (in_state Gone s) }
 
   -- a parked side is another
   before_other : (u : TrunkId) (v : TrunkSide) → fm.get n.sides u ≡ Some v → is_parked v.state ≡ true → u ≡ t → ⊥
   before_other u v h p e =
-      let i : v ≡ s = some_same v s (sym h ∙ ap (fm.get n.sides) e ∙ there) in
+      let i : v ≡ s = same_Some v s (sym h ∙ ap (fm.get n.sides) e ∙ there) in
       let c : true ≡ false = sym losing ∙ ap (λ (x : TrunkSide). is_losing x.state) (sym i) ∙ (parked_attempt v.state p).1 in cc
 
   after_other : (u : TrunkId) (v : TrunkSide) → fm.get after.sides u ≡ Some v → is_parked v.state ≡ true → u ≡ t → ⊥
   after_other u v h p e =
-      let i : v ≡ in_state Gone s = some_same v (in_state Gone s) (sym h ∙ ap (fm.get after.sides) e ∙ get_same n.sides t (in_state Gone s)) in
+      let i : v ≡ in_state Gone s =
+      same_Some v (in_state Gone s) (sym h ∙ ap (fm.get after.sides) e ∙ get_same n.sides t (in_state Gone s)) in
       let c : true ≡ false = sym p ∙ ap (λ (x : TrunkSide). is_parked x.state) i in cc
 
   pub parked_same : (y : Name) → side_where is_parked y (fm.entries after.sides) ≡ side_where is_parked y (fm.entries n.sides)
   parked_same y = go (side_where is_parked y (fm.entries after.sides)) (side_where is_parked y (fm.entries n.sides)) refl refl
     where
-      go : (a b : Option (TrunkId × TrunkSide)) → side_where is_parked y (fm.entries after.sides) ≡ a → side_where is_parked y (fm.entries n.sides) ≡ b → a ≡ b
+      go : (a b : Option (TrunkId × TrunkSide)) → side_where is_parked y (fm.entries after.sides) ≡ a
+          → side_where is_parked y (fm.entries n.sides) ≡ b → a ≡ b
       go None None h k = refl
       go None (Some e) h k =
           let f = found_in is_parked y n e k in
           let there : fm.get after.sides e.0 ≡ Some e.1 = get_other n.sides t (in_state Gone s) e.0 (before_other e.0 e.1 f.0 f.2) ∙ f.0 in
-          let c : true ≡ false = sym f.2 ∙ side_where_none is_parked y (fm.entries after.sides) e.0 e.1 h (sym (fm.get-entries after.sides e.0) ∙ there) f.1 in cc
+          let c : true ≡ false =
+          sym f.2 ∙ side_where_none is_parked y (fm.entries after.sides) e.0 e.1 h (sym (fm.get-entries after.sides e.0) ∙ there) f.1 in
+          cc
       go (Some e) None h k =
           let f = found_in is_parked y after e h in
           let there : fm.get n.sides e.0 ≡ Some e.1 = sym (get_other n.sides t (in_state Gone s) e.0 (after_other e.0 e.1 f.0 f.2)) ∙ f.0 in
-          let c : true ≡ false = sym f.2 ∙ side_where_none is_parked y (fm.entries n.sides) e.0 e.1 k (sym (fm.get-entries n.sides e.0) ∙ there) f.1 in cc
+          let c : true ≡ false =
+          sym f.2 ∙ side_where_none is_parked y (fm.entries n.sides) e.0 e.1 k (sym (fm.get-entries n.sides e.0) ∙ there) f.1 in cc
       go (Some e) (Some d) h k =
           let f = found_in is_parked y after e h in
           let g = found_in is_parked y n d k in
           let there : fm.get n.sides e.0 ≡ Some e.1 = sym (get_other n.sides t (in_state Gone s) e.0 (after_other e.0 e.1 f.0 f.2)) ∙ f.0 in
-          let same : e.0 ≡ d.0 = attempts e.0 d.0 e.1 d.1 there g.0 (f.1 ∙ sym g.1) (parked_attempt e.1.state f.2).0 (parked_attempt d.1.state g.2).0 in
-          let side : e.1 ≡ d.1 = some_same e.1 d.1 (sym there ∙ ap (fm.get n.sides) same ∙ g.0) in
+          let same : e.0 ≡ d.0 =
+          attempts e.0 d.0 e.1 d.1 there g.0 (f.1 ∙ sym g.1) (parked_attempt e.1.state f.2).0 (parked_attempt d.1.state g.2).0 in
+          let side : e.1 ≡ d.1 = same_Some e.1 d.1 (sym there ∙ ap (fm.get n.sides) same ∙ g.0) in
           (λ i. Some (same i, side i))
 
-  pub closes : (work : Work) → work.node.sides ≡ n.sides → close_side t s work ≡ release_parked (side_where is_parked s.peer (fm.entries n.sides)) (set_state t s Gone work)
-  closes work e = ap (λ sides. release_parked (side_where is_parked s.peer (fm.entries (fm.insert sides t (in_state Gone s)))) (set_state t s Gone work)) e
+  pub closes : (work : Work) → work.node.sides ≡ n.sides
+      → close_side t s work ≡ release_parked (side_where is_parked s.peer (fm.entries n.sides)) (set_state t s Gone work)
+  closes work e =
+      ap
+      (λ sides. release_parked (side_where is_parked s.peer (fm.entries (fm.insert sides t (in_state Gone s)))) (set_state t s Gone work)) e
       ∙ ap (λ o. release_parked o (set_state t s Gone work)) (parked_same s.peer)
 
-  pub parked_towards : (work : Work) (e : TrunkId × TrunkSide) → work.node.sides ≡ n.sides → side_where is_parked s.peer (fm.entries n.sides) ≡ Some e
+  pub parked_towards : (work : Work) (e : TrunkId × TrunkSide) → work.node.sides ≡ n.sides
+      → side_where is_parked s.peer (fm.entries n.sides) ≡ Some e
       → IsTowards e.1.peer (fm.get (set_state t s Gone work).node.sides e.0)
   parked_towards work e i h =
       let f = found_in is_parked s.peer n e h in

@@ -1,5 +1,6 @@
 -- A node that may dial does, and its connection is a new one.
-use Rattle.std.proofs.Common.{◌≡◌, ℕ, ◌+◌, ◌<◌, ◌≤◌, ◌-◌, ◌^◌, true, false, cond, not, nat_lt, List, Option, Some, None, refl, ap, ◌∙◌, arith, rules}
+use Rattle.std.proofs.Common.{◌≡◌, ℕ, ◌+◌, ◌<◌, ◌≤◌, ◌-◌, ◌^◌, true, false, cond, not}
+use Rattle.std.proofs.Common.{nat_lt, List, Option, Some, None, refl, ap, ◌∙◌, arith, rules}
 use Rattle.std.specs.Option.{is_some, option_map}
 use Rattle.std.specs.FinMap as fm
 use Rattle.dist_model.specs.Commands.{Accepts, Outcome, Refuses}
@@ -27,8 +28,12 @@ pub dials : (names : List Name) (n : Node) (y : Name) (word : ℕ) → same_name
     → is_some (side_where (λ state. not (is_gone state)) y (fm.entries n.sides)) ≡ false → nat_lt (n.dialed + 1) (2 ^ 64) ≡ true
     → dial names n y word ≡ Accepts (Answer.Trunk (next_trunk n)) (dialed_on n y word)
 dials names n y word own known free left =
-    ap (λ b. cond b (Refuses Refusal.SelfDial) (cond (not (has_name y names)) (Refuses Refusal.NothingThere) (cond (is_some (side_where (λ state. not (is_gone state)) y (fm.entries n.sides))) (Refuses Refusal.Busy) (cond (not (nat_lt (n.dialed + 1) (2 ^ 64))) (Refuses Refusal.IdsUsedUp) goes)))) own
-    ∙ ap (λ b. cond (not b) (Refuses Refusal.NothingThere) (cond (is_some (side_where (λ state. not (is_gone state)) y (fm.entries n.sides))) (Refuses Refusal.Busy) (cond (not (nat_lt (n.dialed + 1) (2 ^ 64))) (Refuses Refusal.IdsUsedUp) goes))) known
+    ap (λ b. cond b (Refuses Refusal.SelfDial) (cond (not (has_name y names)) (Refuses Refusal.NothingThere) (cond
+    (is_some (side_where (λ state. not (is_gone state)) y (fm.entries n.sides))) (Refuses Refusal.Busy)
+    (cond (not (nat_lt (n.dialed + 1) (2 ^ 64))) (Refuses Refusal.IdsUsedUp) goes)))) own
+    ∙ ap (λ b. cond (not b) (Refuses Refusal.NothingThere) (cond
+    (is_some (side_where (λ state. not (is_gone state)) y (fm.entries n.sides))) (Refuses Refusal.Busy)
+    (cond (not (nat_lt (n.dialed + 1) (2 ^ 64))) (Refuses Refusal.IdsUsedUp) goes))) known
     ∙ ap (λ b. cond b (Refuses Refusal.Busy) (cond (not (nat_lt (n.dialed + 1) (2 ^ 64))) (Refuses Refusal.IdsUsedUp) goes)) free
     ∙ ap (λ b. cond (not b) (Refuses Refusal.IdsUsedUp) goes) left
   where

@@ -8,7 +8,8 @@ use Rattle.conn_core.specs.declared.arrival.Taken.TheVariants as taken
 use Rattle.conn_core.specs.declared.standing.Standing.{Standing}
 use Rattle.conn_core.specs.declared.standing.Standing.TheVariants as standing
 use Rattle.dist_model.specs.Commands.{Accepts, Outcome}
-use Rattle.dist_model.specs.Handshake.{acceptor_side, after_answer, dialer_side, fault, handshake_at, identity, on_verdict, send_challenge_or_park, up_is_lost, with_side, write_if}
+use Rattle.dist_model.specs.Handshake.{acceptor_side, after_answer, dialer_side, fault, handshake_at, identity}
+use Rattle.dist_model.specs.Handshake.{on_verdict, send_challenge_or_park, up_is_lost, with_side, write_if}
 use Rattle.dist_model.specs.Items.{Handshake, kind_of}
 use Rattle.dist_model.specs.Keeping.{is_engaged}
 use Rattle.dist_model.specs.Names.{Name}
@@ -43,20 +44,25 @@ verdict_goes progress.Done t old new message said sent send work h =
     let a : message ≡ said = cc in let b : sent ≡ send = cc in (λ i. went_on t old.peer new (a i) (b i) work)
 verdict_goes (progress.Ended why) t old new message said sent send work h = cc
 
-verdict_breaks : (p : Progress) (t : TrunkId) (old new : TrunkSide) (message : ShakeMsg) (sent : Option ShakeMsg) (why : Fault) (work : Work)
+verdict_breaks : (p : Progress) (t : TrunkId) (old new : TrunkSide) (message : ShakeMsg) (sent : Option ShakeMsg)
+    (why : Fault) (work : Work)
     → taken_by p message sent ≡ taken.Broken why → on_verdict p t old new message sent work ≡ fault why t old work
 verdict_breaks progress.Go t old new message sent why work h = cc
 verdict_breaks progress.Done t old new message sent why work h = cc
 verdict_breaks (progress.Ended e) t old new message sent why work h = let a : Fault.Shake e ≡ why = cc in ap (λ f. fault f t old work) a
 
 answer_goes : (p : Progress) (t : TrunkId) (side : TrunkSide) (w : ℕ) (message said : ShakeMsg) (sent send : Option ShakeMsg) (work : Work)
-    → taken_by p message sent ≡ taken.Message said send → after_answer p t side w message work ≡ Accepts (Answer.Took (kind_of (Handshake said)))
+    → taken_by p message sent ≡ taken.Message said send
+    → after_answer p t side w message work ≡ Accepts (Answer.Took (kind_of (Handshake said)))
     (send_challenge_or_park t side w (up_is_lost (side_where is_up side.peer (fm.entries work.node.sides)) work))
-answer_goes progress.Go t side w message said sent send work h = let a : message ≡ said = cc in ap (λ x. after_answer progress.Go t side w x work) a
-answer_goes progress.Done t side w message said sent send work h = let a : message ≡ said = cc in ap (λ x. after_answer progress.Done t side w x work) a
+answer_goes progress.Go t side w message said sent send work h =
+    let a : message ≡ said = cc in ap (λ x. after_answer progress.Go t side w x work) a
+answer_goes progress.Done t side w message said sent send work h =
+    let a : message ≡ said = cc in ap (λ x. after_answer progress.Done t side w x work) a
 answer_goes (progress.Ended why) t side w message said sent send work h = cc
 
-answer_breaks : (p : Progress) (t : TrunkId) (side : TrunkSide) (w : ℕ) (message : ShakeMsg) (sent : Option ShakeMsg) (why : Fault) (work : Work)
+answer_breaks : (p : Progress) (t : TrunkId) (side : TrunkSide) (w : ℕ) (message : ShakeMsg) (sent : Option ShakeMsg)
+    (why : Fault) (work : Work)
     → taken_by p message sent ≡ taken.Broken why → after_answer p t side w message work ≡ fault why t side work
 answer_breaks progress.Go t side w message sent why work h = cc
 answer_breaks progress.Done t side w message sent why work h = cc
@@ -64,31 +70,22 @@ answer_breaks (progress.Ended e) t side w message sent why work h = let a : Faul
 
 taken_no_item : (p : Progress) (message : ShakeMsg) (sent : Option ShakeMsg) (item : Item) → taken_by p message sent ≡ taken.Item item → ⊥
 taken_no_item progress.Go message sent item h = cc
-taken_no_item progress.Done message sent item h = cc
-taken_no_item (progress.Ended e) message sent item h = cc
+taken_no_item _ message sent item h = cc
 
 -- ---- how the side stands after it
 
-dialer_stands : (y : Name) (was : State) (d : DialerState) → standing_side y (of_dialer d) ≡ dialer_side (record { peer = y; peer_creation = 0; state = was }) d
+dialer_stands : (y : Name) (was : State) (d : DialerState)
+    → standing_side y (of_dialer d) ≡ dialer_side (record { peer = y; peer_creation = 0; state = was }) d
 dialer_stands y was (dialer.AwaitsStatus w) = refl
-dialer_stands y was (dialer.AwaitsChallenge w) = refl
-dialer_stands y was (dialer.AwaitsAck w creation) = refl
-dialer_stands y was (dialer.Done creation) = refl
-dialer_stands y was dialer.Over = refl
+dialer_stands y was d = refl
 
 dialer_settled : (d : DialerState) → is_settled (of_dialer d) ≡ true
 dialer_settled (dialer.AwaitsStatus w) = refl
-dialer_settled (dialer.AwaitsChallenge w) = refl
-dialer_settled (dialer.AwaitsAck w creation) = refl
-dialer_settled (dialer.Done creation) = refl
-dialer_settled dialer.Over = refl
+dialer_settled d = refl
 
 ack_stands : (own : Identity) (y : Name) (w creation : ℕ) (message : ShakeMsg)
-    → standing_side y (of_dialer (awaits_ack own w creation message).state) ≡ dialer_side (standing_side y (standing.Dialing (dialer.AwaitsAck w creation))) (awaits_ack own w creation message).state
-ack_stands own y w creation (ShakeMsg.SendName flags c name) = refl
-ack_stands own y w creation (ShakeMsg.Status s) = refl
-ack_stands own y w creation (ShakeMsg.Challenge flags challenge c name) = refl
-ack_stands own y w creation (ShakeMsg.ChallengeReply challenge digest) = refl
+    → standing_side y (of_dialer (awaits_ack own w creation message).state)
+    ≡ dialer_side (standing_side y (standing.Dialing (dialer.AwaitsAck w creation))) (awaits_ack own w creation message).state
 ack_stands own y w creation (ShakeMsg.ChallengeAck digest) = go (is_answered own.cookie w digest) refl
   where
     turn : Bool → DialerState
@@ -98,24 +95,24 @@ ack_stands own y w creation (ShakeMsg.ChallengeAck digest) = go (is_answered own
     side = standing_side y (standing.Dialing (dialer.AwaitsAck w creation))
 
     go : (b : Bool) → is_answered own.cookie w digest ≡ b
-        → standing_side y (of_dialer (awaits_ack own w creation (ShakeMsg.ChallengeAck digest)).state) ≡ dialer_side side (awaits_ack own w creation (ShakeMsg.ChallengeAck digest)).state
+        → standing_side y (of_dialer (awaits_ack own w creation (ShakeMsg.ChallengeAck digest)).state)
+        ≡ dialer_side side (awaits_ack own w creation (ShakeMsg.ChallengeAck digest)).state
     go true e = rw e refl
     go false e = rw e refl
+ack_stands own y w creation message = refl
 
 pub record Settles (own : Identity) (y : Name) (w creation : ℕ) (message : ShakeMsg) : Type 0 where
   pub settled : is_settled (of_acceptor (awaits_reply own w creation message).state) ≡ true
-  pub stands : standing_side y (of_acceptor (awaits_reply own w creation message).state) ≡ acceptor_side (standing_side y (standing.Accepting (acceptor.AwaitsReply w creation))) (awaits_reply own w creation message).state
+  pub stands : standing_side y (of_acceptor (awaits_reply own w creation message).state)
+      ≡ acceptor_side (standing_side y (standing.Accepting (acceptor.AwaitsReply w creation))) (awaits_reply own w creation message).state
 
 reply_settles : (own : Identity) (y : Name) (w creation : ℕ) (message : ShakeMsg) → Settles own y w creation message
-reply_settles own y w creation (ShakeMsg.SendName flags c name) = record { settled = refl; stands = refl }
-reply_settles own y w creation (ShakeMsg.Status s) = record { settled = refl; stands = refl }
-reply_settles own y w creation (ShakeMsg.Challenge flags challenge c name) = record { settled = refl; stands = refl }
-reply_settles own y w creation (ShakeMsg.ChallengeAck digest) = record { settled = refl; stands = refl }
 reply_settles own y w creation (ShakeMsg.ChallengeReply challenge digest) = go (is_answered own.cookie w digest) refl
   where
     go : (b : Bool) → is_answered own.cookie w digest ≡ b → Settles own y w creation (ShakeMsg.ChallengeReply challenge digest)
     go true e = record { settled = rw e refl; stands = rw e refl }
     go false e = record { settled = rw e refl; stands = rw e refl }
+reply_settles own y w creation message = record { settled = refl; stands = refl }
 
 -- ---- a message that is due
 
@@ -132,7 +129,9 @@ module _ (t : TrunkId) (y : Name) (message said : ShakeMsg) (word len : ℕ) (se
   due st = (on_message own y st message word len).standing
 
   pub goes_dialing : (d : DialerState) → let turn = dialer_turn own y d message in
-      handshake_at (state_of (standing.Dialing d)) t (standing_side y (standing.Dialing d)) message work ≡ on_verdict turn.next.progress t (standing_side y (standing.Dialing d)) (dialer_side (standing_side y (standing.Dialing d)) turn.state) message turn.next.send work
+      handshake_at (state_of (standing.Dialing d)) t (standing_side y (standing.Dialing d)) message work
+      ≡ on_verdict turn.next.progress t (standing_side y (standing.Dialing d))
+      (dialer_side (standing_side y (standing.Dialing d)) turn.state) message turn.next.send work
       → standing_side y (of_dialer turn.state) ≡ dialer_side (standing_side y (standing.Dialing d)) turn.state
       → taken_by turn.next.progress message turn.next.send ≡ taken.Message said send → is_engaged (state_of (standing.Dialing d)) ≡ true
       → Goes t y (standing.Dialing d) (of_dialer turn.state) message said send work
@@ -141,20 +140,21 @@ module _ (t : TrunkId) (y : Name) (message said : ShakeMsg) (word len : ℕ) (se
       record {
         settled = dialer_settled turn.state;
         engaged = λ u. e;
-        goes = at ∙ verdict_goes turn.next.progress t (standing_side y (standing.Dialing d)) (dialer_side (standing_side y (standing.Dialing d)) turn.state) message said turn.next.send send work h
+        goes = at ∙ verdict_goes turn.next.progress t (standing_side y (standing.Dialing d))
+            (dialer_side (standing_side y (standing.Dialing d)) turn.state) message said turn.next.send send work h
             ∙ ap (λ s. went_on t y s said send work) (sym stands);
       }
 
-  pub heard_goes : (st : Standing) → is_settled st ≡ true → asked_in st ≡ None → (on_message own y st message word len).was ≡ taken.Message said send → Goes t y st (due st) message said send work
-  heard_goes (standing.Dialing (dialer.AwaitsStatus w)) k a h = goes_dialing (dialer.AwaitsStatus w) refl (dialer_stands y (AwaitsStatus w) (dialer_turn own y (dialer.AwaitsStatus w) message).state) h refl
-  heard_goes (standing.Dialing (dialer.AwaitsChallenge w)) k a h = goes_dialing (dialer.AwaitsChallenge w) refl (dialer_stands y (AwaitsChallenge w) (dialer_turn own y (dialer.AwaitsChallenge w) message).state) h refl
-  heard_goes (standing.Dialing (dialer.AwaitsAck w creation)) k a h = goes_dialing (dialer.AwaitsAck w creation) refl (ack_stands own y w creation message) h refl
-  heard_goes (standing.Dialing (dialer.Done creation)) k a h = cc
-  heard_goes (standing.Dialing dialer.Over) k a h = cc
-  heard_goes (standing.Accepting acceptor.AwaitsName) k a h = cc
-  heard_goes (standing.Accepting (acceptor.AwaitsAdmission w creation)) k a h = cc
-  heard_goes (standing.Accepting (acceptor.AwaitsAnswer w creation)) k a h = cc
-  heard_goes (standing.Accepting (acceptor.AwaitsTurn w creation)) k a h = cc
+  pub heard_goes : (st : Standing) → is_settled st ≡ true → asked_in st ≡ None
+      → (on_message own y st message word len).was ≡ taken.Message said send → Goes t y st (due st) message said send work
+  heard_goes (standing.Dialing (dialer.AwaitsStatus w)) k a h =
+      goes_dialing (dialer.AwaitsStatus w) refl
+      (dialer_stands y (AwaitsStatus w) (dialer_turn own y (dialer.AwaitsStatus w) message).state) h refl
+  heard_goes (standing.Dialing (dialer.AwaitsChallenge w)) k a h =
+      goes_dialing (dialer.AwaitsChallenge w) refl
+      (dialer_stands y (AwaitsChallenge w) (dialer_turn own y (dialer.AwaitsChallenge w) message).state) h refl
+  heard_goes (standing.Dialing (dialer.AwaitsAck w creation)) k a h =
+      goes_dialing (dialer.AwaitsAck w creation) refl (ack_stands own y w creation message) h refl
   heard_goes (standing.Accepting (acceptor.AwaitsReply w creation)) k a h =
       let turn = acceptor_turn own y (acceptor.AwaitsReply w creation) message 0 in
       let side = standing_side y (standing.Accepting (acceptor.AwaitsReply w creation)) in
@@ -165,22 +165,22 @@ module _ (t : TrunkId) (y : Name) (message said : ShakeMsg) (word len : ℕ) (se
         goes = verdict_goes turn.next.progress t side (acceptor_side side turn.state) message said turn.next.send send work h
             ∙ ap (λ s. went_on t y s said send work) (sym s.stands);
       }
-  heard_goes (standing.Accepting (acceptor.Done creation)) k a h = cc
-  heard_goes (standing.Accepting acceptor.Over) k a h = cc
-  heard_goes (standing.Up creation) k a h = cc
-  heard_goes (standing.Losing creation) k a h = cc
-  heard_goes standing.Gone k a h = cc
+  heard_goes st k a h = cc
 
-  pub asked_goes : (w creation : ℕ) → let st = standing.Accepting (acceptor.AwaitsAnswer w creation) in (on_message own y st message word len).was ≡ taken.Message said send
+  pub asked_goes : (w creation : ℕ) → let st = standing.Accepting (acceptor.AwaitsAnswer w creation) in
+      (on_message own y st message word len).was ≡ taken.Message said send
       → handshake_at (state_of st) t (standing_side y st) message work ≡ Accepts (Answer.Took (kind_of (Handshake said)))
       (send_challenge_or_park t (standing_side y st) w (up_is_lost (side_where is_up y (fm.entries work.node.sides)) work))
   asked_goes w creation h =
       let turn = acceptor_turn own y (acceptor.AwaitsAnswer w creation) message 0 in
-      answer_goes turn.next.progress t (standing_side y (standing.Accepting (acceptor.AwaitsAnswer w creation))) w message said turn.next.send send work h
+      answer_goes turn.next.progress t
+      (standing_side y (standing.Accepting (acceptor.AwaitsAnswer w creation))) w message said turn.next.send send work h
 
-  pub asked_heard : (st : Standing) (w creation : ℕ) → st ≡ standing.Accepting (acceptor.AwaitsAnswer w creation) → (on_message own y st message word len).was ≡ taken.Message said send
+  pub asked_heard : (st : Standing) (w creation : ℕ) → st ≡ standing.Accepting (acceptor.AwaitsAnswer w creation)
+      → (on_message own y st message word len).was ≡ taken.Message said send
       → handshake_at (state_of st) t (standing_side y st) message work ≡ Accepts (Answer.Took (kind_of (Handshake said)))
-      (send_challenge_or_park t (standing_side y (standing.Accepting (acceptor.AwaitsAnswer w creation))) w (up_is_lost (side_where is_up y (fm.entries work.node.sides)) work))
+      (send_challenge_or_park t (standing_side y (standing.Accepting (acceptor.AwaitsAnswer w creation))) w
+      (up_is_lost (side_where is_up y (fm.entries work.node.sides)) work))
   asked_heard st w creation e h =
       let P : Standing → Type 0 = λ x. (on_message own y x message word len).was ≡ taken.Message said send in
       ap (λ x. handshake_at (state_of x) t (standing_side y x) message work) e ∙ asked_goes w creation (subst P e h)
@@ -198,39 +198,42 @@ module _ (t : TrunkId) (y : Name) (message : ShakeMsg) (word len : ℕ) (work : 
       → fault (Fault.Shake ShakeFault.BadMessage) t (standing_side y st) work ≡ fault why t (standing_side y st) work
   bad st why h = let a : Fault.Shake ShakeFault.BadMessage ≡ why = cc in ap (λ f. fault f t (standing_side y st) work) a
 
-  pub heard_breaks : (st : Standing) (why : Fault) → is_settled st ≡ true → (on_message here y st message word len).was ≡ taken.Broken why → hears st ≡ fault why t (standing_side y st) work
+  pub heard_breaks : (st : Standing) (why : Fault) → is_settled st ≡ true
+      → (on_message here y st message word len).was ≡ taken.Broken why → hears st ≡ fault why t (standing_side y st) work
   heard_breaks (standing.Dialing (dialer.AwaitsStatus w)) why k h =
       let turn = dialer_turn here y (dialer.AwaitsStatus w) message in let s = standing_side y (standing.Dialing (dialer.AwaitsStatus w)) in
       verdict_breaks turn.next.progress t s (dialer_side s turn.state) message turn.next.send why work h
   heard_breaks (standing.Dialing (dialer.AwaitsChallenge w)) why k h =
-      let turn = dialer_turn here y (dialer.AwaitsChallenge w) message in let s = standing_side y (standing.Dialing (dialer.AwaitsChallenge w)) in
+      let turn =
+      dialer_turn here y (dialer.AwaitsChallenge w) message in let s = standing_side y (standing.Dialing (dialer.AwaitsChallenge w)) in
       verdict_breaks turn.next.progress t s (dialer_side s turn.state) message turn.next.send why work h
   heard_breaks (standing.Dialing (dialer.AwaitsAck w creation)) why k h =
-      let turn = dialer_turn here y (dialer.AwaitsAck w creation) message in let s = standing_side y (standing.Dialing (dialer.AwaitsAck w creation)) in
+      let turn =
+      dialer_turn here y (dialer.AwaitsAck w creation) message in
+      let s = standing_side y (standing.Dialing (dialer.AwaitsAck w creation)) in
       verdict_breaks turn.next.progress t s (dialer_side s turn.state) message turn.next.send why work h
-  heard_breaks (standing.Dialing (dialer.Done creation)) why k h = cc
-  heard_breaks (standing.Dialing dialer.Over) why k h = cc
-  heard_breaks (standing.Accepting acceptor.AwaitsName) why k h = cc
-  heard_breaks (standing.Accepting (acceptor.AwaitsAdmission w creation)) why k h = cc
   heard_breaks (standing.Accepting (acceptor.AwaitsAnswer w creation)) why k h =
       let turn = acceptor_turn here y (acceptor.AwaitsAnswer w creation) message 0 in
-      answer_breaks turn.next.progress t (standing_side y (standing.Accepting (acceptor.AwaitsAnswer w creation))) w message turn.next.send why work h
-  heard_breaks (standing.Accepting (acceptor.AwaitsTurn w creation)) why k h = bad (standing.Accepting (acceptor.AwaitsTurn w creation)) why h
+      answer_breaks turn.next.progress t
+      (standing_side y (standing.Accepting (acceptor.AwaitsAnswer w creation))) w message turn.next.send why work h
+  heard_breaks (standing.Accepting (acceptor.AwaitsTurn w creation)) why k h =
+      bad (standing.Accepting (acceptor.AwaitsTurn w creation)) why h
   heard_breaks (standing.Accepting (acceptor.AwaitsReply w creation)) why k h =
-      let turn = acceptor_turn here y (acceptor.AwaitsReply w creation) message 0 in let s = standing_side y (standing.Accepting (acceptor.AwaitsReply w creation)) in
+      let turn =
+      acceptor_turn here y (acceptor.AwaitsReply w creation) message 0 in
+      let s = standing_side y (standing.Accepting (acceptor.AwaitsReply w creation)) in
       verdict_breaks turn.next.progress t s (acceptor_side s turn.state) message turn.next.send why work h
-  heard_breaks (standing.Accepting (acceptor.Done creation)) why k h = cc
-  heard_breaks (standing.Accepting acceptor.Over) why k h = cc
   heard_breaks (standing.Up creation) why k h = bad (standing.Up creation) why h
   heard_breaks (standing.Losing creation) why k h = bad (standing.Losing creation) why h
   heard_breaks standing.Gone why k h = bad standing.Gone why h
+  heard_breaks st why k h = cc
 
   pub heard_no_item : (st : Standing) (item : Item) → (on_message here y st message word len).was ≡ taken.Item item → ⊥
-  heard_no_item (standing.Dialing d) item h = let turn = dialer_turn here y d message in taken_no_item turn.next.progress message turn.next.send item h
-  heard_no_item (standing.Accepting a) item h = let turn = acceptor_turn here y a message word in taken_no_item turn.next.progress message turn.next.send item h
-  heard_no_item (standing.Up creation) item h = cc
-  heard_no_item (standing.Losing creation) item h = cc
-  heard_no_item standing.Gone item h = cc
+  heard_no_item (standing.Dialing d) item h =
+      let turn = dialer_turn here y d message in taken_no_item turn.next.progress message turn.next.send item h
+  heard_no_item (standing.Accepting a) item h =
+      let turn = acceptor_turn here y a message word in taken_no_item turn.next.progress message turn.next.send item h
+  heard_no_item _ item h = cc
 
 pub broken_same : (a b : Fault) → taken.Broken a ≡ taken.Broken b → a ≡ b
 broken_same a b h = cc

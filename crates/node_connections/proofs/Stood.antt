@@ -1,12 +1,12 @@
 -- How a side stands, in the node's words and in the model's.
 use Rattle.std.proofs.Common.{◌≡◌, ℕ, true, false, Option, Some, None, refl, ap}
+use Rattle.std.proofs.lemmas.Option.{same_Some}
 use Rattle.std.specs.FinMap as fm
 use Rattle.std.specs.Option.{option_map}
 use Rattle.std.specs.FinMap.{FinMap}
 use Rattle.conn_core.specs.Side.{lost, state_of as name_of, is_live}
 use Rattle.conn_core.specs.declared.standing.Standing.{Standing}
 use Rattle.conn_core.specs.declared.standing.Standing.TheVariants as standing
-use Rattle.dist_model.proofs.Routes.{some_same}
 use Rattle.dist_model.specs.Commands.{Accepts, Refuses}
 use Rattle.dist_model.specs.Handshake.{set_state, with_side}
 use Rattle.dist_model.specs.Losses.{lose_at}
@@ -27,44 +27,42 @@ use Rattle.node_sides.specs.declared.change.SideChange.TheVariants as change
 
 -- ---- the side of a connection stands so
 
-stood_towards : (sides : FinMap trunk_cmp TrunkSide) (t : TrunkId) (st : Standing) (y : Name) (o : Option TrunkSide) → IsTowards y o → stood_at sides t st o ≡ fm.insert sides t (standing_side y st)
+stood_towards : (sides : FinMap trunk_cmp TrunkSide) (t : TrunkId) (st : Standing) (y : Name) (o : Option TrunkSide)
+    → IsTowards y o → stood_at sides t st o ≡ fm.insert sides t (standing_side y st)
 stood_towards sides t st y None h = cc
-stood_towards sides t st y (Some s) h = ap (λ z. fm.insert sides t (standing_side z st)) (some_same s.peer y h)
+stood_towards sides t st y (Some s) h = ap (λ z. fm.insert sides t (standing_side z st)) (same_Some s.peer y h)
 
-pub stands : (t : TrunkId) (st : Standing) (y : Name) (work : Work) → IsTowards y (fm.get work.node.sides t) → sided (change.Stands t st) work ≡ with_side t (standing_side y st) work
-stands t st y work h = ap (λ sides. record work { node = record (work.node) { sides = sides } }) (stood_towards work.node.sides t st y (fm.get work.node.sides t) h)
+pub stands : (t : TrunkId) (st : Standing) (y : Name) (work : Work) → IsTowards y (fm.get work.node.sides t)
+    → sided (change.Stands t st) work ≡ with_side t (standing_side y st) work
+stands t st y work h =
+    ap (λ sides. record work { node = record (work.node) { sides = sides } })
+    (stood_towards work.node.sides t st y (fm.get work.node.sides t) h)
 
-pub comes_up : (t : TrunkId) (z y : Name) (creation : ℕ) (work : Work) → IsTowards y (fm.get work.node.sides t) → sided (change.ComesUp t z creation) work ≡ with_side t (standing_side y (standing.Up creation)) work
-comes_up t z y creation work h = ap (λ sides. record work { node = record (work.node) { sides = sides } }) (stood_towards work.node.sides t (standing.Up creation) y (fm.get work.node.sides t) h)
+pub comes_up : (t : TrunkId) (z y : Name) (creation : ℕ) (work : Work) → IsTowards y (fm.get work.node.sides t)
+    → sided (change.ComesUp t z creation) work ≡ with_side t (standing_side y (standing.Up creation)) work
+comes_up t z y creation work h =
+    ap (λ sides. record work { node = record (work.node) { sides = sides } })
+    (stood_towards work.node.sides t (standing.Up creation) y (fm.get work.node.sides t) h)
 
-pub towards : (sides : FinMap trunk_cmp TrunkSide) (t : TrunkId) (s : TrunkSide) → fm.get sides t ≡ Some s → IsTowards s.peer (fm.get sides t)
+pub towards : (sides : FinMap trunk_cmp TrunkSide) (t : TrunkId) (s : TrunkSide) → fm.get sides t ≡ Some s
+    → IsTowards s.peer (fm.get sides t)
 towards sides t s h = ap (λ o. option_map (λ (v : TrunkSide). v.peer) o) h
 
 -- ---- it is lost
 
 pub lost_down : (st : Standing) → IsDown (lost st)
 lost_down (standing.Dialing d) = (refl, refl)
-lost_down (standing.Accepting a) = (refl, refl)
-lost_down (standing.Up creation) = (refl, refl)
-lost_down (standing.Losing creation) = (refl, refl)
-lost_down standing.Gone = (refl, refl)
+lost_down st = (refl, refl)
 
-pub lost_stands : (y : Name) (st : Standing) → is_settled st ≡ true → standing_side y (lost st) ≡ in_state (model.lost (state_of st)) (standing_side y st)
-lost_stands y (standing.Dialing (dialer.AwaitsStatus w)) h = refl
-lost_stands y (standing.Dialing (dialer.AwaitsChallenge w)) h = refl
-lost_stands y (standing.Dialing (dialer.AwaitsAck w creation)) h = refl
+pub lost_stands : (y : Name) (st : Standing) → is_settled st ≡ true
+    → standing_side y (lost st) ≡ in_state (model.lost (state_of st)) (standing_side y st)
 lost_stands y (standing.Dialing (dialer.Done creation)) h = cc
 lost_stands y (standing.Dialing dialer.Over) h = cc
 lost_stands y (standing.Accepting acceptor.AwaitsName) h = cc
 lost_stands y (standing.Accepting (acceptor.AwaitsAdmission w creation)) h = cc
-lost_stands y (standing.Accepting (acceptor.AwaitsAnswer w creation)) h = refl
-lost_stands y (standing.Accepting (acceptor.AwaitsTurn w creation)) h = refl
-lost_stands y (standing.Accepting (acceptor.AwaitsReply w creation)) h = refl
 lost_stands y (standing.Accepting (acceptor.Done creation)) h = cc
 lost_stands y (standing.Accepting acceptor.Over) h = cc
-lost_stands y (standing.Up creation) h = refl
-lost_stands y (standing.Losing creation) h = refl
-lost_stands y standing.Gone h = refl
+lost_stands y st h = refl
 
 -- where there is something to lose
 pub loses : (st : Standing) (t : TrunkId) (s : TrunkSide) (work : Work) → is_settled st ≡ true → is_live (name_of st) ≡ true
@@ -72,28 +70,15 @@ pub loses : (st : Standing) (t : TrunkId) (s : TrunkSide) (work : Work) → is_s
 loses (standing.Dialing (dialer.AwaitsStatus w)) t s work h l = refl
 loses (standing.Dialing (dialer.AwaitsChallenge w)) t s work h l = refl
 loses (standing.Dialing (dialer.AwaitsAck w creation)) t s work h l = refl
-loses (standing.Dialing (dialer.Done creation)) t s work h l = cc
-loses (standing.Dialing dialer.Over) t s work h l = cc
-loses (standing.Accepting acceptor.AwaitsName) t s work h l = cc
-loses (standing.Accepting (acceptor.AwaitsAdmission w creation)) t s work h l = cc
 loses (standing.Accepting (acceptor.AwaitsAnswer w creation)) t s work h l = refl
 loses (standing.Accepting (acceptor.AwaitsTurn w creation)) t s work h l = refl
 loses (standing.Accepting (acceptor.AwaitsReply w creation)) t s work h l = refl
-loses (standing.Accepting (acceptor.Done creation)) t s work h l = cc
-loses (standing.Accepting acceptor.Over) t s work h l = cc
 loses (standing.Up creation) t s work h l = refl
-loses (standing.Losing creation) t s work h l = cc
-loses standing.Gone t s work h l = cc
+loses st t s work h l = cc
 
-pub keeps_none : (st : Standing) (t : TrunkId) (s : TrunkSide) (work : Work) → is_settled st ≡ true → is_live (name_of st) ≡ false → lose_at (state_of st) t s work ≡ Refuses Refusal.NotLive
-keeps_none (standing.Dialing d) t s work h l = cc
-keeps_none (standing.Accepting acceptor.AwaitsName) t s work h l = cc
-keeps_none (standing.Accepting (acceptor.AwaitsAdmission w creation)) t s work h l = cc
-keeps_none (standing.Accepting (acceptor.AwaitsAnswer w creation)) t s work h l = cc
-keeps_none (standing.Accepting (acceptor.AwaitsTurn w creation)) t s work h l = cc
-keeps_none (standing.Accepting (acceptor.AwaitsReply w creation)) t s work h l = cc
-keeps_none (standing.Accepting (acceptor.Done creation)) t s work h l = cc
-keeps_none (standing.Accepting acceptor.Over) t s work h l = cc
-keeps_none (standing.Up creation) t s work h l = cc
+pub keeps_none : (st : Standing) (t : TrunkId) (s : TrunkSide) (work : Work) → is_settled st ≡ true
+    → is_live (name_of st) ≡ false → lose_at (state_of st) t s work ≡ Refuses Refusal.NotLive
 keeps_none (standing.Losing creation) t s work h l = refl
 keeps_none standing.Gone t s work h l = refl
+keeps_none (standing.Accepting acceptor.Over) t s work h l = cc
+keeps_none st t s work h l = cc

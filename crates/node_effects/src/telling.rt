@@ -1,8 +1,8 @@
 //! The signals by which a process tells another of their link, or of a monitor.
 ghost use Rattle.std.specs.Prelude.{◌≡◌, IfOk};
 ghost use Rattle.dist_model.specs.Items.{telling};
-ghost use Rattle.dist_model.specs.Links.{Signals};
 ghost use Rattle.erl_control.specs.declared.signal.Signal.TheVariants as signals;
+ghost use Rattle.link_core.specs.News.{Signals};
 
 use erl_control::Signal;
 use erl_term::{Pid, Reference};

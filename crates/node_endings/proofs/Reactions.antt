@@ -4,7 +4,6 @@ use Rattle.std.proofs.lemmas.Str.{IsUtf8-from_ascii}
 use Rattle.std.proofs.lemmas.Str.Ascii.{IsAscii-from_all}
 use Rattle.std.specs.FinMap as fm
 use Rattle.dist_model.specs.Exits.{carry_out, link_exit, linked_exit, other_exit, sent_exit}
-use Rattle.dist_model.specs.Links.{noconnection, noproc}
 use Rattle.dist_model.specs.Names.{same_pid}
 use Rattle.dist_model.specs.Node.{Node, traps, traps_life}
 use Rattle.dist_model.specs.Work.{Work, report}
@@ -19,6 +18,7 @@ use Rattle.exit_core.proofs.Names.{short_name}
 use Rattle.exit_core.specs.Messages.{exit_term}
 use Rattle.exit_core.specs.Reaction.{is_atom, reaction}
 use Rattle.exit_core.specs.declared.reaction.Reaction.{Reaction}
+use Rattle.link_core.specs.News.{noconnection, noproc}
 use Rattle.node_plans.specs.Carried.{CarriesOut, IsFree}
 use Rattle.node_endings.specs.Exiting.{FitsWhereEnds}
 use Rattle.node_plans.specs.declared.plan.Plan.{Plan}
@@ -56,7 +56,8 @@ linked_fits false p q reason h = go (is_atom (codes "normal") reason && not (sam
 pub sent_fits : (trap : Bool) (p q : Pid) (reason : Data) → fits reason ≡ true → FitsWhereEnds (reaction trap (sent_exit p q reason))
 sent_fits trap p q reason h = go (is_atom (codes "kill") reason) trap (is_atom (codes "normal") reason && not (same_pid q p))
   where
-    go : (a b c : Bool) → FitsWhereEnds (cond a (Reaction.End (atom (codes "killed"))) (cond b (Reaction.Put (exit_term q reason)) (cond c Reaction.Ignore (Reaction.End reason))))
+    go : (a b c : Bool) → FitsWhereEnds (cond a (Reaction.End (atom (codes "killed")))
+        (cond b (Reaction.Put (exit_term q reason)) (cond c Reaction.Ignore (Reaction.End reason))))
     go true b c = killed_fits
     go false true c = tt
     go false false true = tt
@@ -65,15 +66,18 @@ sent_fits trap p q reason h = go (is_atom (codes "kill") reason) trap (is_atom (
 -- ---- it reacts as it is in the node before
 
 same_trap : (plan : Plan) (m : Node) (w : Work) (p : Pid) → CarriesOut plan m w → IsFree plan.change p → traps w.node p ≡ traps m p
-same_trap plan m w p h f = ap (λ (n : Node). traps n p) h.node ∙ ap (λ l. traps_life (fm.get l p)) (lives_free plan.change p m.mint m.lives f)
+same_trap plan m w p h f =
+    ap (λ (n : Node). traps n p) h.node ∙ ap (λ l. traps_life (fm.get l p)) (lives_free plan.change p m.mint m.lives f)
 
-pub reacts : (plan : Plan) (m : Node) (w : Work) (p q : Pid) (reason : Data) (r : Reaction) → CarriesOut plan m w → IsFree plan.change p → r ≡ reaction (traps m p) (linked_exit p q reason)
+pub reacts : (plan : Plan) (m : Node) (w : Work) (p q : Pid) (reason : Data) (r : Reaction) → CarriesOut plan m w
+    → IsFree plan.change p → r ≡ reaction (traps m p) (linked_exit p q reason)
     → link_exit p q reason w ≡ carry_out r p (report (Effect.LinkExit p q reason) w)
 reacts plan m w p q reason r h f is =
     ap (λ b. carry_out (reaction b (linked_exit p q reason)) p (report (Effect.LinkExit p q reason) w)) (same_trap plan m w p h f)
     ∙ ap (λ x. carry_out x p (report (Effect.LinkExit p q reason) w)) (sym is)
 
-pub reacts_to_other : (plan : Plan) (m : Node) (w : Work) (p q : Pid) (reason : Data) (r : Reaction) → CarriesOut plan m w → IsFree plan.change p → r ≡ reaction (traps m p) (sent_exit p q reason)
+pub reacts_to_other : (plan : Plan) (m : Node) (w : Work) (p q : Pid) (reason : Data) (r : Reaction) → CarriesOut plan m w
+    → IsFree plan.change p → r ≡ reaction (traps m p) (sent_exit p q reason)
     → other_exit p q reason w ≡ carry_out r p w
 reacts_to_other plan m w p q reason r h f is =
     ap (λ b. carry_out (reaction b (sent_exit p q reason)) p w) (same_trap plan m w p h f) ∙ ap (λ x. carry_out x p w) (sym is)

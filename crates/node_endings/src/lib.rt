@@ -5,4 +5,4 @@ mod ending;
 mod reacting;
 
 pub use ending::{finish, is_active};
-pub use reacting::{link_exit, no_connection, no_process, other_exit};
+pub use reacting::{break_link, link_exit, no_connection, no_process, other_exit};

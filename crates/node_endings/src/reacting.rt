@@ -1,13 +1,14 @@
 //! An exit signal comes to a process, and what it does to it.
 ghost use Rattle.std.specs.Prelude.{◌≡◌, true, IfOk};
 ghost use Rattle.dist_model.specs.Exits.{carry_out, link_exit, other_exit};
-ghost use Rattle.dist_model.specs.Links.{noconnection, noproc};
 ghost use Rattle.dist_model.specs.Node.{Node as TheNode, living, traps};
-ghost use Rattle.dist_model.specs.Work.{Work, put};
+ghost use Rattle.dist_model.specs.Work.{Work, put, set_end};
 ghost use Rattle.erl_control.specs.Fits.{fits};
 ghost use Rattle.exit_core.specs.Reaction.{reaction};
+ghost use Rattle.link_core.specs.News.{noconnection, noproc};
+ghost use Rattle.link_core.specs.declared.end.End.TheVariants as the_end;
 ghost use Rattle.node_changes.specs.Parts.{link_in};
-ghost use Rattle.node_plans.specs.Carried.{Carries, CarriesOut, IsFree};
+ghost use Rattle.node_plans.specs.Carried.{Carries, CarriesOut, IsBlank, IsFree};
 ghost use Rattle.node_endings.specs.Exiting.{FitsWhereEnds, OnlyExits};
 ghost use Rattle.node_plans.specs.Plans.{told};
 ghost use Rattle.node_plans.specs.Seen.{seen};
@@ -21,7 +22,7 @@ use erl_term::{Payload, Pid};
 use exit_core::{ExitSignal, Reaction, named};
 use node_frames::same_pid;
 use node_plans::{Node, Plan};
-use node_tables::Life;
+use node_tables::{EndChange, Life};
 use std::alloc::{AllocError, Global};
 
 /// The reason noproc: there is no such process. (Reference Manual, Processes, Links and Monitors.)
@@ -96,6 +97,29 @@ pub fn link_exit(
     };
     let reaction = react(alloc, node, process, signal)?;
     carry_out(plan, alloc, node, process, reaction)
+}
+
+/// A link that is active breaks, and its process gets the exit signal noconnection. (Reference Manual,
+/// Processes, Links.)
+///
+/// # Errors
+/// Where there is no memory for it.
+pub fn break_link(
+    alloc: Global,
+    node: &Node,
+    plan: &mut Plan,
+    process: &Pid,
+    partner: &Pid,
+) -> Result<(), AllocError>
+    requires blank { IsBlank plan.old }
+    requires living { living (seen node.now) process.now ≡ true }
+    ensures carries { (work : Work) → CarriesOut plan.old (seen node.now) work →
+        Carries (seen node.now) (link_exit process.now partner.now noconnection (set_end process.now partner.now the_end.None work)) plan.new result }
+    ensures told { (m : TheNode) → told plan.new m ≡ told plan.old m }
+{
+    let reason = no_connection(alloc)?;
+    plan.change_end(process, partner, EndChange::Exits)?;
+    link_exit(plan, alloc, node, process, partner, reason)
 }
 
 /// An exit signal comes to a process as another, or it itself, sent it. (Reference Manual,

@@ -1,5 +1,6 @@
 -- What is planned of an arrival can be carried out, and the node still keeps what any node does.
-use Rattle.std.proofs.Common.{◌≡◌, ℕ, Bool, true, false, cond, OnOk, Option, None, Some, List, [], Result, Ok, Err, refl, sym, ap, subst, ◌∙◌}
+use Rattle.std.proofs.Common.{◌≡◌, ℕ, Bool, true, false, cond, OnOk, Option, None, Some}
+use Rattle.std.proofs.Common.{List, [], Result, Ok, Err, refl, sym, ap, subst, ◌∙◌}
 use Rattle.std.specs.FinMap as fm
 use Rattle.std.specs.Prelude.{MatchResult}
 use Rattle.std.specs.Result.{result_unwrap_or}
@@ -69,7 +70,8 @@ module _ (m : Node) (plan : Plan) (steady : Steady m) (counts : CountsOwn m) (up
   }
 
   module _ (trunk : TrunkId) (word : ℕ) where
-    others : (item : Item) (side : Option TrunkSide) → fm.get m.sides trunk ≡ side → is_undialed m trunk side ≡ false → ComesOfOthers m (Arrive trunk (Some item) word)
+    others : (item : Item) (side : Option TrunkSide) → fm.get m.sides trunk ≡ side → is_undialed m trunk side ≡ false
+        → ComesOfOthers m (Arrive trunk (Some item) word)
     others item side e dialed = λ t comes own none.
         let same = same_trunk trunk t (Some item) (Some comes.0) word comes.1 comes.2 in
         let missing : fm.get m.sides trunk ≡ None = subst (λ u. fm.get m.sides u ≡ None) (sym same) none in
@@ -80,15 +82,9 @@ module _ (m : Node) (plan : Plan) (steady : Steady m) (counts : CountsOwn m) (up
     loses : (why : Fault) (side : TrunkSide) (s : State) (a : Answer) (w : Work)
         → cond (is_over s) (Refuses Refusal.NotLive) (Accepts (Answer.Broken why) (set_state trunk side (lost s) (at_work m))) ≡ Accepts a w
         → lose_at s trunk side (at_work m) ≡ Accepts Answer.Done w
-    loses why side (state.AwaitsStatus v) a w h = ap (Accepts Answer.Done) (accepted _ _ _ _ h)
-    loses why side (state.AwaitsChallenge v) a w h = ap (Accepts Answer.Done) (accepted _ _ _ _ h)
-    loses why side (state.AwaitsAck v) a w h = ap (Accepts Answer.Done) (accepted _ _ _ _ h)
-    loses why side (state.Asked v) a w h = ap (Accepts Answer.Done) (accepted _ _ _ _ h)
-    loses why side (state.Parked v) a w h = ap (Accepts Answer.Done) (accepted _ _ _ _ h)
-    loses why side (state.Accepting v) a w h = ap (Accepts Answer.Done) (accepted _ _ _ _ h)
-    loses why side state.Up a w h = ap (Accepts Answer.Done) (accepted _ _ _ _ h)
     loses why side state.Losing a w h = cc
     loses why side state.Gone a w h = cc
+    loses why side _ a w h = ap (Accepts Answer.Done) (accepted _ _ _ _ h)
 
     pub stays_at : (front : Front) (side : Option TrunkSide) → fm.get m.sides trunk ≡ side → is_undialed m trunk side ≡ false
         → IsPlanned m (comes m trunk side front word) plan → Stays plan m
@@ -100,7 +96,8 @@ module _ (m : Node) (plan : Plan) (steady : Steady m) (counts : CountsOwn m) (up
         (runs _ ∙ ap (λ d. arrive m trunk d (Some item) word) e ∙ h.accepts)
     stays_at (Spoils why) None e dialed h =
         stays_as (Arrive trunk (Some Tick) word) (Answer.Broken (Fault.Shake ShakeFault.BadMessage)) _ (others Tick None e dialed) h
-        (runs _ ∙ ap (λ d. arrive m trunk d (Some Tick) word) e ∙ ap (Accepts (Answer.Broken (Fault.Shake ShakeFault.BadMessage))) (accepted _ _ _ _ h.accepts))
+        (runs _ ∙ ap (λ d. arrive m trunk d (Some Tick) word) e
+        ∙ ap (Accepts (Answer.Broken (Fault.Shake ShakeFault.BadMessage))) (accepted _ _ _ _ h.accepts))
     stays_at (Spoils why) (Some side) e dialed h =
         stays_as (Lose trunk) Answer.Done _ (comes_of_none m (Lose trunk) (not_lost trunk)) h
         (runs _ ∙ ap (λ d. lose m trunk d) e ∙ loses why side side.state h.answer h.work h.accepts)
@@ -108,7 +105,8 @@ module _ (m : Node) (plan : Plan) (steady : Steady m) (counts : CountsOwn m) (up
     -- an arrival that was planned
     pub stays_taken : (bytes : List ℕ) (taken : Result ℕ Refusal)
         → (is_undialed m trunk (fm.get m.sides trunk) ≡ true → taken ≡ Err Refusal.NotLive)
-        → (is_undialed m trunk (fm.get m.sides trunk) ≡ false → PlansBytes m (fm.get m.sides trunk) bytes (λ front. comes m trunk (fm.get m.sides trunk) front word) plan taken)
+        → (is_undialed m trunk (fm.get m.sides trunk) ≡ false
+        → PlansBytes m (fm.get m.sides trunk) bytes (λ front. comes m trunk (fm.get m.sides trunk) front word) plan taken)
         → OnOk (without_len taken) (Stays plan m)
     stays_taken bytes (Err e) undialed came = tt
     stays_taken bytes (Ok len) undialed came = go (is_undialed m trunk (fm.get m.sides trunk)) refl
@@ -121,7 +119,8 @@ module _ (m : Node) (plan : Plan) (steady : Steady m) (counts : CountsOwn m) (up
 pub by_up : (m : Node) (trunk : TrunkId) (bytes : List ℕ) (word : ℕ) (plan : Plan) (taken : Result ℕ Refusal) → Steady m → CountsOwn m
     → (m.up ≡ false → taken ≡ Err Refusal.NodeDown)
     → (m.up ≡ true → is_undialed m trunk (fm.get m.sides trunk) ≡ true → taken ≡ Err Refusal.NotLive)
-    → (m.up ≡ true → is_undialed m trunk (fm.get m.sides trunk) ≡ false → PlansBytes m (fm.get m.sides trunk) bytes (λ front. comes m trunk (fm.get m.sides trunk) front word) plan taken)
+    → (m.up ≡ true → is_undialed m trunk (fm.get m.sides trunk) ≡ false
+    → PlansBytes m (fm.get m.sides trunk) bytes (λ front. comes m trunk (fm.get m.sides trunk) front word) plan taken)
     → OnOk (without_len taken) (Stays plan m)
 by_up m trunk bytes word plan taken steady counts down undialed came = go m.up refl
   where
@@ -139,14 +138,29 @@ module _ (m : Node) (trunk : TrunkId) (bytes : List ℕ) (word : ℕ) (plan : Pl
   abbrev due : Front → Outcome
   due front = comes m trunk (fm.get m.sides trunk) front word
 
-  at_running : (front : Front) (planned : Result (Unit {0}) Refusal) → Plans m (due front) plan planned → Plans m (arrives m trunk front word) plan planned
-  at_running front planned h = let P : Outcome → Type 0 = (λ x. Plans m x plan planned) in subst P (sym (ap (λ b. cond b (due front) (Refuses Refusal.NodeDown)) up)) h
+  at_running : (front : Front) (planned : Result (Unit {0}) Refusal) → Plans m (due front) plan planned
+      → Plans m (arrives m trunk front word) plan planned
+  at_running front planned h =
+      let P : Outcome → Type 0 = (λ x. Plans m x plan planned) in
+      subst P (sym (ap (λ b. cond b (due front) (Refuses Refusal.NodeDown)) up)) h
 
   pub arrived : (taken : Result ℕ Refusal) (settled : Result Planned Refusal) → PlansBytes m (fm.get m.sides trunk) bytes due plan taken
       → ((x : Outcome) → Plans m x plan (without_len taken) → MatchResult settled (λ p. IsPlanned m x p.plan) (IsRefused x))
       → ((e : Refusal) → without_len taken ≡ Err e → settled ≡ Err e)
       → PlansArrived m trunk bytes word (with_len settled (result_unwrap_or taken 0))
-  arrived (Ok len) (Ok new) h s r = record { front = h.front; is = h.is; plans = (s (arrives m trunk h.front word) (at_running h.front (Ok tt) h.plans.0), h.plans.1) }
-  arrived (Ok len) (Err f) h s r = record { front = h.front; is = h.is; plans = s (arrives m trunk h.front word) (at_running h.front (Ok tt) h.plans.0) }
+  arrived (Ok len) (Ok new) h s r = record {
+    front = h.front;
+    is = h.is;
+    plans = (s (arrives m trunk h.front word) (at_running h.front (Ok tt) h.plans.0), h.plans.1);
+  }
+  arrived (Ok len) (Err f) h s r = record {
+    front = h.front;
+    is = h.is;
+    plans = s (arrives m trunk h.front word) (at_running h.front (Ok tt) h.plans.0);
+  }
   arrived (Err e) (Ok new) h s r = absurd (no_plan new e (r e refl))
-  arrived (Err e) (Err f) h s r = record { front = h.front; is = h.is; plans = s (arrives m trunk h.front word) (at_running h.front (Err e) h.plans) }
+  arrived (Err e) (Err f) h s r = record {
+    front = h.front;
+    is = h.is;
+    plans = s (arrives m trunk h.front word) (at_running h.front (Err e) h.plans);
+  }

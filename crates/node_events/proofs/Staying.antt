@@ -14,7 +14,8 @@ use Rattle.node_plans.specs.Planned.{IsPlanned, Plans}
 use Rattle.node_plans.specs.declared.plan.Plan.{Plan}
 
 -- an event at which no item of a trunk comes
-pub comes_of_none : (m : Node) (event : NodeEvent) → ((t : TrunkId) (item : Item) (word : ℕ) → event ≡ Arrive t (Some item) word → ⊥) → ComesOfOthers m event
+pub comes_of_none : (m : Node) (event : NodeEvent)
+    → ((t : TrunkId) (item : Item) (word : ℕ) → event ≡ Arrive t (Some item) word → ⊥) → ComesOfOthers m event
 comes_of_none m event no_item = λ t c d. absurd (no_item t c.0 c.1 c.2)
 
 pub stays_by : (names : List Name) (m : Node) (event : NodeEvent) (plan : Plan)

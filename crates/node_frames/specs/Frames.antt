@@ -38,7 +38,9 @@ pub record Framed : Type 0 where
   pub between : Option (Pid × Pid)
 
 abbrev pub framed_code : Coded Pid → Coded Framed
-framed_code pid = code_by (List ℕ × Option (Pid × Pid)) (coded× (coded_list coded_ℕ) (coded_option (coded× pid pid))) (λ f. (f.bytes, f.between)) (λ p. record { bytes = p.0; between = p.1 }) (λ _. refl)
+framed_code pid =
+    code_by (List ℕ × Option (Pid × Pid)) (coded× (coded_list coded_ℕ) (coded_option (coded× pid pid)))
+    (λ f. (f.bytes, f.between)) (λ p. record { bytes = p.0; between = p.1 }) (λ _. refl)
 
 abbrev pub framed : Item → Framed
 framed item = record { bytes = bytes_of item; between = between_of item }

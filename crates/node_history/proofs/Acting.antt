@@ -1,5 +1,6 @@
 -- What a caller asks for is answered twice, and written down once.
-use Rattle.std.proofs.Common.{◌≡◌, ℕ, ◌+◌, ◌^◌, Bool, true, false, ◌||◌, nat_lt, if◌then◌else◌, OnOk, None, Some, List, [], ◌∷◌, ◌++◌, length, slice_get, map, Result, Ok, Err, IfOk, MatchResult, inl, inr, refl, sym, ap, ◌∙◌, subst}
+use Rattle.std.proofs.Common.{◌≡◌, ℕ, ◌+◌, ◌^◌, Bool, true, false, ◌||◌, nat_lt, if◌then◌else◌, OnOk, None, Some, List, [], ◌∷◌}
+use Rattle.std.proofs.Common.{◌++◌, length, slice_get, map, Result, Ok, Err, IfOk, MatchResult, inl, inr, refl, sym, ap, ◌∙◌, subst}
 use Rattle.std.specs.Result.{IsErrAnd}
 use Rattle.std.specs.declared.alloc.AllocError.{AllocError}
 use Rattle.std.specs.Global.{Vec}
@@ -45,10 +46,12 @@ use Rattle.world_events.specs.declared.event.NodeEvent.TheVariants as event
 accepted : (spare : Spare) (due : Outcome) (a : Said) (w : Work) → Fills spare due → due ≡ Accepts a w → filled spare a ≡ a
 accepted spare due a w h is = subst (Fills spare) is h
 
-both_said : (a b : Said) (xs ys : List (Effect Framed)) → a ≡ b → xs ≡ ys → ◌≡◌ {A = Result (Said × List (Effect Framed)) Refusal} (Ok (a, xs)) (Ok (b, ys))
+both_said : (a b : Said) (xs ys : List (Effect Framed)) → a ≡ b → xs ≡ ys
+    → ◌≡◌ {A = Result (Said × List (Effect Framed)) Refusal} (Ok (a, xs)) (Ok (b, ys))
 both_said a b xs ys h k = λ i. Ok (h i, k i)
 
-pub carried : (m new : model.Node) (due : Outcome) (spare : Spare) (plan : Plan) (report : Report Framed) (answer : Said) (effects : Vec (Effect Framed)) → IsPlanned m due plan
+pub carried : (m new : model.Node) (due : Outcome) (spare : Spare) (plan : Plan) (report : Report Framed) (answer : Said)
+    (effects : Vec (Effect Framed)) → IsPlanned m due plan
     → new ≡ committed plan m → report.answer ≡ told plan m → report.effects ≡ plan.effects → answer ≡ filled spare report.answer
     → effects.items ≡ plan.effects.items → Fills spare due
     → IsTwice due m new (record { answer = Ok report; copy = Ok (record { answer = answer; effects = effects }) })
@@ -85,7 +88,8 @@ module _ (what : NodeEvent) (names : List Name) (spare : Spare) (m0 m1 m2 new : 
 
   pub twice_at : (planned : Result Planned Refusal) (r : Result Twice AllocError) → m2 ≡ m1 → Fills spare (due_at m0)
       → MatchResult planned (λ p. IsPlanned m1 (due_at m1) p.plan) (IsRefused (due_at m1))
-      → ((due : Outcome) → Fills spare due → MatchResult planned (λ p. IsPlanned m2 due p.plan) (IsRefused due) → IfOk r (IsTwice due m2 new))
+      → ((due : Outcome) → Fills spare due → MatchResult planned (λ p. IsPlanned m2 due p.plan) (IsRefused due)
+      → IfOk r (IsTwice due m2 new))
       → IfOk r (IsTwice (due_at m0) m0 new)
   twice_at planned r second fills plan carry =
       let there : MatchResult planned (λ p. IsPlanned m2 (due_at m0) p.plan) (IsRefused (due_at m0)) =
@@ -93,7 +97,8 @@ module _ (what : NodeEvent) (names : List Name) (spare : Spare) (m0 m1 m2 new : 
       (subst (λ o. MatchResult planned (λ p. IsPlanned m1 o p.plan) (IsRefused o)) (ap due_at first) plan) in
       subst (λ m. IfOk r (IsTwice (due_at m0) m new)) (second ∙ first) (carry (due_at m0) fills there)
 
-  pub plain_twice : (answer copy : Answer) → Fills spare (due_at m0) → ((m : model.Node) → NoEffects (due_at m)) → Does (due_at m1) m1 new answer → IsPlainCopy spare answer copy
+  pub plain_twice : (answer copy : Answer) → Fills spare (due_at m0) → ((m : model.Node) → NoEffects (due_at m))
+      → Does (due_at m1) m1 new answer → IsPlainCopy spare answer copy
       → IsTwice (due_at m0) m0 new (record { answer = answer; copy = copy })
   plain_twice (Ok report) copy fills none does plain =
       let d : Did (due_at m0) new report = subst (λ m. Did (due_at m) new report) first does in
@@ -110,40 +115,39 @@ module _ (what : NodeEvent) (names : List Name) (spare : Spare) (m0 m1 m2 new : 
   }
 
 -- the same of the event as it is told
-pub twice_as : (what given : NodeEvent) (names : List Name) (spare : Spare) (m0 m1 m2 new : model.Node) (planned : Result Planned Refusal) (r : Result Twice AllocError) → what ≡ given
+pub twice_as : (what given : NodeEvent) (names : List Name) (spare : Spare) (m0 m1 m2 new : model.Node)
+    (planned : Result Planned Refusal) (r : Result Twice AllocError) → what ≡ given
     → m1 ≡ m0 → m2 ≡ m1 → Fills spare (at_node names m0 (met given None))
     → MatchResult planned (λ p. IsPlanned m1 (at_node names m1 (met what None)) p.plan) (IsRefused (at_node names m1 (met what None)))
     → ((due : Outcome) → Fills spare due → MatchResult planned (λ p. IsPlanned m2 due p.plan) (IsRefused due) → IfOk r (IsTwice due m2 new))
     → IfOk r (IsTwice (at_node names m0 (met given None)) m0 new)
 twice_as what given names spare m0 m1 m2 new planned r is first second fills plan carry =
     subst (λ w. IfOk r (IsTwice (at_node names m0 (met w None)) m0 new)) is
-    (twice_at what names spare m0 m1 m2 new first planned r second (subst (λ w. Fills spare (at_node names m0 (met w None))) (sym is) fills) plan carry)
+    (twice_at what names spare m0 m1 m2 new first planned r second
+    (subst (λ w. Fills spare (at_node names m0 (met w None))) (sym is) fills) plan carry)
 
-pub plain_as : (what here : NodeEvent) (names : List Name) (spare : Spare) (m0 m1 new : model.Node) (given answer copy : Answer) → what ≡ here → m1 ≡ m0 → answer ≡ given
+pub plain_as : (what here : NodeEvent) (names : List Name) (spare : Spare) (m0 m1 new : model.Node) (given answer copy : Answer)
+    → what ≡ here → m1 ≡ m0 → answer ≡ given
     → Fills spare (at_node names m0 (met here None)) → ((m : model.Node) → NoEffects (at_node names m (met what None)))
     → Does (at_node names m1 (met what None)) m1 new given → IsPlainCopy spare given copy
     → IsTwice (at_node names m0 (met here None)) m0 new (record { answer = answer; copy = copy })
 plain_as what here names spare m0 m1 new given answer copy is first same fills none does plain =
     subst (λ w. IsTwice (at_node names m0 (met w None)) m0 new (record { answer = answer; copy = copy })) is
     (subst (λ a. IsTwice (at_node names m0 (met what None)) m0 new (record { answer = a; copy = copy })) (sym same)
-    (plain_twice what names spare m0 m1 m1 new first given copy (subst (λ w. Fills spare (at_node names m0 (met w None))) (sym is) fills) none does plain))
+    (plain_twice what names spare m0 m1 m1 new first given copy
+    (subst (λ w. Fills spare (at_node names m0 (met w None))) (sym is) fills) none does plain))
 
 -- there are names of which what is told is so
 pub knowing : (what : NodeEvent) (is_known : Bool) → (names : List Name) × Knows names what is_known
-knowing (event.Call command) k = ([], tt)
-knowing (event.Arrive trunk word) k = ([], tt)
-knowing event.Local k = ([], tt)
-knowing (event.Lose trunk) k = ([], tt)
-knowing event.Sweep k = ([], tt)
 knowing (event.Dial peer word) true = (peer ∷ [], ap (λ b. b || false) (same_name_refl peer))
 knowing (event.Dial peer word) false = ([], refl)
-knowing event.Stop k = ([], tt)
-knowing event.Start k = ([], tt)
+knowing _ k = ([], tt)
 
 -- ---- a look that is refused
 
 pub not_looked : (r : Result (List (Pid × End)) Refusal) (m : model.Node) (p q : Pid) (e : Refusal) → p ≡ q
-    → IsRefused (at_node [] m (events.Call (command.LinksOf p))) e → OnOk r (e ≡ Refusal.OutOfMemory → ⊥) → IfOk r (λ links. AreLinksOf links m (command.LinksOf q))
+    → IsRefused (at_node [] m (events.Call (command.LinksOf p))) e → OnOk r (e ≡ Refusal.OutOfMemory → ⊥)
+    → IfOk r (λ links. AreLinksOf links m (command.LinksOf q))
 not_looked (Err x) m p q e same h n = tt
 not_looked (Ok links) m p q e same (inl h) n = subst (λ z. AreLinksOf links m (command.LinksOf z)) same (looks_not [] m p e h links)
 not_looked (Ok links) m p q e same (inr h) n = absurd (n h.is)
@@ -154,7 +158,8 @@ pub err_is : (r : Result Told Refusal) (e : Refusal) → IsErrAnd r (λ x. x ≡
 err_is (Ok x) e h = absurd h
 err_is (Err x) e h = ap (λ y. Err y) h
 
-pub not_entered : (due : Outcome) (event : NodeEvent) (old new : History) (r : Result Told Refusal) (e : Refusal) → r ≡ Err e → new.node ≡ old.node → new.last ≡ old.last
+pub not_entered : (due : Outcome) (event : NodeEvent) (old new : History) (r : Result Told Refusal) (e : Refusal) → r ≡ Err e
+    → new.node ≡ old.node → new.last ≡ old.last
     → new.entries.items ≡ old.entries.items → IsWanting old.last 0 e → Tries due event 0 old new (placed r)
 not_entered due event old new r e is n l es w =
     subst (λ x. Tries due event 0 old new (placed x)) (sym is) (record { node = ap model_of n; last = l; entries = es }, w)
@@ -165,7 +170,8 @@ slice_last : (es : List Entry) (e : Entry) → slice_get (es ++ e ∷ []) (lengt
 slice_last [] e = refl
 slice_last (x ∷ es) e = slice_last es e
 
-pub told_of : (stamp : ℕ) (event : NodeEvent) (answer copy : Answer) (old new : History) (place : ℕ) → Writes stamp event answer old new (Ok place) → said copy ≡ said answer
+pub told_of : (stamp : ℕ) (event : NodeEvent) (answer copy : Answer) (old new : History) (place : ℕ)
+    → Writes stamp event answer old new (Ok place) → said copy ≡ said answer
     → IsTold new.entries.items (record { place = place; answer = copy })
 told_of stamp event answer copy old new place w same =
     let there : slice_get new.entries.items place ≡ Some (record { stamp = stamp; event = event; answer = answer }) =

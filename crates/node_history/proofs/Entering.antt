@@ -1,5 +1,6 @@
 -- What the node has answered is written down, or memory was wanting and nothing has changed.
-use Rattle.std.proofs.Common.{◌≡◌, ℕ, ◌+◌, ◌^◌, ◌<◌, max, true, false, List, [], ◌∷◌, ◌++◌, length, Result, Ok, Err, inl, inr, sym, ap, ◌∙◌, subst}
+use Rattle.std.proofs.Common.{◌≡◌, ℕ, ◌+◌, ◌^◌, ◌<◌, max, true, false, List, [], ◌∷◌, ◌++◌}
+use Rattle.std.proofs.Common.{length, Result, Ok, Err, inl, inr, sym, ap, ◌∙◌, subst}
 use Rattle.dist_model.specs.Commands.{Outcome, Refuses}
 use Rattle.dist_model.specs.Names.{Name}
 use Rattle.dist_model.specs.Node as model
@@ -31,7 +32,8 @@ pub stays : (old new : History) → new.node ≡ old.node → new.last ≡ old.l
 stays old new n l e = record { node = ap model_of n; last = l; entries = e }
 
 -- a copy that there is no memory for
-pub lacks : (last above stamp : ℕ) → stamp ≡ max last above + 1 → stamp < 2 ^ 64 → (e : Refusal) → e ≡ Refusal.OutOfMemory → IsWanting last above e
+pub lacks : (last above stamp : ℕ) → stamp ≡ max last above + 1 → stamp < 2 ^ 64 → (e : Refusal) → e ≡ Refusal.OutOfMemory
+    → IsWanting last above e
 lacks last above stamp is fits e h = inr (h, subst (λ n. n < 2 ^ 64) is fits)
 
 module _ (due : Outcome) (event : NodeEvent) (above stamp : ℕ) (old mid new : History) (node : Node) (answer : Answer)
@@ -40,7 +42,8 @@ module _ (due : Outcome) (event : NodeEvent) (above stamp : ℕ) (old mid new : 
   abbrev entry : ℕ → Entry
   entry s = record { stamp = s; event = event; answer = answer }
 
-  pub tried : (result : Result ℕ Refusal) → Writes stamp event answer (record mid { node = node }) new result → Tries due event above old new result
+  pub tried : (result : Result ℕ Refusal) → Writes stamp event answer (record mid { node = node }) new result
+      → Tries due event above old new result
   tried (Ok place) w = (
     record {
       answer = answer;
@@ -61,10 +64,12 @@ module _ (due : Outcome) (event : NodeEvent) (above stamp : ℕ) (old mid new : 
   )
 
 -- the same of an event at the node, which was moved meanwhile
-pub tried_at : (names : List Name) (what : met.NodeEvent) (event : NodeEvent) (above stamp : ℕ) (old mid new : History) (node : Node) (answer : Answer)
+pub tried_at : (names : List Name) (what : met.NodeEvent) (event : NodeEvent) (above stamp : ℕ) (old mid new : History)
+    (node : Node) (answer : Answer)
     → mid.node ≡ old.node → mid.last ≡ old.last → mid.entries.items ≡ old.entries.items → stamp ≡ max old.last above + 1 → stamp < 2 ^ 64
     → Does (at_node names (model_of mid.node) what) (model_of mid.node) (model_of node) answer → (result : Result ℕ Refusal)
-    → Writes stamp event answer (record mid { node = node }) new result → Tries (at_node names (model_of old.node) what) event above old new result
+    → Writes stamp event answer (record mid { node = node }) new result
+    → Tries (at_node names (model_of old.node) what) event above old new result
 tried_at names what event above stamp old mid new node answer n l e s f does result w =
     tried (at_node names (model_of old.node) what) event above stamp old mid new node answer n l e s f
     (subst (λ (x : Node). Does (at_node names (model_of x) what) (model_of x) (model_of node) answer) n does) result w

@@ -1,5 +1,6 @@
 -- What an act answers is there before, but for what takes no memory.
-use Rattle.std.proofs.Common.{◌≡◌, ℕ, Option, None, Some, Bool, true, false, not, is_some, List, nat_lt, ◌+◌, ◌^◌, ◌&&◌, if◌then◌else◌, refl, sym, ap}
+use Rattle.std.proofs.Common.{◌≡◌, ℕ, Option, None, Some, Bool, true, false, not, is_some}
+use Rattle.std.proofs.Common.{List, nat_lt, ◌+◌, ◌^◌, ◌&&◌, if◌then◌else◌, refl, sym, ap}
 use Rattle.std.specs.FinMap as fm
 use Rattle.dist_model.specs.Calls.{call}
 use Rattle.dist_model.specs.Commands.{Accepts, Outcome, Refuses, with_id}
@@ -61,15 +62,9 @@ module _ (spare : Spare) where
   watched (Some monitor) p r work = only_if (same_pid monitor.owner p) Refusal.NotTheOwner _ refl
 
   lost_at : (state : State) (trunk : TrunkId) (s : TrunkSide) (work : Work) → Fills spare (lose_at state trunk s work)
-  lost_at (side.AwaitsStatus word) trunk s work = refl
-  lost_at (side.AwaitsChallenge word) trunk s work = refl
-  lost_at (side.AwaitsAck word) trunk s work = refl
-  lost_at (side.Asked word) trunk s work = refl
-  lost_at (side.Parked word) trunk s work = refl
-  lost_at (side.Accepting word) trunk s work = refl
-  lost_at side.Up trunk s work = refl
   lost_at side.Losing trunk s work = tt
   lost_at side.Gone trunk s work = tt
+  lost_at _ trunk s work = refl
 
   lost : (m : Node) (trunk : TrunkId) (s : Option TrunkSide) → Fills spare (lose m trunk s)
   lost m trunk None = tt
@@ -80,18 +75,22 @@ module _ (spare : Spare) where
     acted p o h = only_if (living m p) Refusal.NoSuchProcess o h
 
     towards : (p q : Pid) (o : Outcome) → Fills spare o
-        → Fills spare (if living m p then (if same_name q.node m.mint.name && is_stranger m q then Refuses Refusal.Forged else o) else Refuses Refusal.NoSuchProcess)
+        → Fills spare (if living m p then
+        (if same_name q.node m.mint.name && is_stranger m q then Refuses Refusal.Forged else o) else Refuses Refusal.NoSuchProcess)
     towards p q o h = acted p _ (unless (same_name q.node m.mint.name && is_stranger m q) Refusal.Forged o h)
 
-    called : (asked : Command) → spare.message ≡ message_of m asked → AreLinksOf spare.links m asked → m.up ≡ true → Fills spare (call m asked)
+    called : (asked : Command) → spare.message ≡ message_of m asked → AreLinksOf spare.links m asked → m.up ≡ true
+        → Fills spare (call m asked)
     called command.Spawn message links up =
-        by_id (id_of m.mint kind.Pid) _ (λ id. ap (λ n. Answer.Pid (record { node = n; creation = m.mint.creation; id = id; serial = 0 })) atom)
+        by_id (id_of m.mint kind.Pid) _
+        (λ id. ap (λ n. Answer.Pid (record { node = n; creation = m.mint.creation; id = id; serial = 0 })) atom)
     called (command.Send p q term) message links up = towards p q _ (only_if (fits term) Refusal.TooLong _ refl)
     called (command.Link p q) message links up = towards p q _ refl
     called (command.Unlink p q) message links up =
         towards p q _ (either_way (is_active (end_of m p q)) _ _ (by_id (id_of m.mint kind.UnlinkId) _ (λ id. refl)) refl)
     called (command.Monitor p q) message links up =
-        towards p q _ (by_id (id_of m.mint kind.Reference) _ (λ count. ap (λ n. Answer.Reference (record (reference_of m.mint count) { node = n })) atom))
+        towards p q _ (by_id (id_of m.mint kind.Reference) _
+        (λ count. ap (λ n. Answer.Reference (record (reference_of m.mint count) { node = n })) atom))
     called (command.Demonitor p r) message links up = acted p _ (watched (fm.get m.watches r) p r (at_work m))
     called (command.Trap p on) message links up = acted p _ refl
     called (command.ExitTo p q reason) message links up = towards p q _ (only_if (fits reason) Refusal.TooLong _ refl)
@@ -105,13 +104,11 @@ module _ (spare : Spare) where
     if_up true o is h = h is
     if_up false o is h = tt
 
-    pub fills : (names : List Name) (what : NodeEvent) → is_act what ≡ true → spare.message ≡ message_for m what → AreLinksFor spare.links m what
+    pub fills : (names : List Name) (what : NodeEvent) → is_act what ≡ true → spare.message ≡ message_for m what
+        → AreLinksFor spare.links m what
         → Fills spare (at_node names m (met what None))
     fills names (event.Call asked) act message links = if_up m.up _ refl (called asked message links)
-    fills names (event.Arrive trunk word) act message links = absurd (let no : false ≡ true = act in cc)
-    fills names event.Local act message links = absurd (let no : false ≡ true = act in cc)
     fills names (event.Lose trunk) act message links = if_up m.up _ refl (λ up. lost m trunk (fm.get m.sides trunk))
-    fills names event.Sweep act message links = absurd (let no : false ≡ true = act in cc)
     fills names (event.Dial peer word) act message links = if_up m.up _ refl (λ up.
         unless (same_name peer m.mint.name) Refusal.SelfDial _
         (unless (not (has_name peer names)) Refusal.NothingThere _
@@ -121,11 +118,13 @@ module _ (spare : Spare) where
     fills names event.Stop act message links = if_up m.up _ refl (λ up. refl)
     fills names event.Start act message links =
         unless m.up Refusal.NodeUp _ (only_if (nat_lt (m.mint.creation + 1) (2 ^ 32)) Refusal.IdsUsedUp _ refl)
+    fills names _ act message links = absurd (let no : false ≡ true = act in cc)
 
 -- ---- a look at the links of a process changes nothing
 
 looked : (m : Node) (p : Pid) (up alive : Bool) (said : Answer) (work : Work)
-    → (if up then (if alive then Accepts (Answer.Links (ends_of m p)) (at_work m) else Refuses Refusal.NoSuchProcess) else Refuses Refusal.NodeDown) ≡ Accepts said work
+    → (if up then (if alive then Accepts (Answer.Links (ends_of m p)) (at_work m) else Refuses Refusal.NoSuchProcess) else
+    Refuses Refusal.NodeDown) ≡ Accepts said work
     → (work.node ≡ m) × (said ≡ Answer.Links (ends_of m p))
 looked m p true true said work h =
     let a : at_work m ≡ work = cc in let b : Answer.Links (ends_of m p) ≡ said = cc in (sym (ap (λ (w : Work). w.node) a), sym b)
@@ -138,7 +137,8 @@ looks names m p said work h = looked m p m.up (living m p) said work h
 
 -- where it is refused, the node is down or the process isn't living
 refused_looks : (m : Node) (p : Pid) (up alive : Bool) (e : Refusal)
-    → (if up then (if alive then Accepts (Answer.Links (ends_of m p)) (at_work m) else Refuses Refusal.NoSuchProcess) else Refuses Refusal.NodeDown) ≡ Refuses e
+    → (if up then (if alive then Accepts (Answer.Links (ends_of m p)) (at_work m) else Refuses Refusal.NoSuchProcess) else
+    Refuses Refusal.NodeDown) ≡ Refuses e
     → up ≡ true → alive ≡ true → ⊥
 refused_looks m p true true e h u a = cc
 refused_looks m p true false e h u a = let no : false ≡ true = a in cc

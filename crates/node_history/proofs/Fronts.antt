@@ -32,7 +32,8 @@ module _ (names : List Name) (m new : Node) (trunk : TrunkId) (bytes : List ℕ)
   abbrev due : Outcome
   due = at_node names m (Arrive trunk (Some item) word)
 
-  does_front : (front : Front) (r : Result Arrived Refusal) → arrives m trunk front word ≡ due → DoesFront (arrives m trunk front word) front m new r
+  does_front : (front : Front) (r : Result Arrived Refusal) → arrives m trunk front word ≡ due
+      → DoesFront (arrives m trunk front word) front m new r
       → Does due m new (answer_in r)
   does_front front (Ok arrived) e h = subst (λ o. Did o new arrived.report) e h.0
   does_front front (Err why) e h = subst (λ o. IsRefused o why × (new ≡ m)) e h
@@ -46,6 +47,10 @@ module _ (names : List Name) (m new : Node) (trunk : TrunkId) (bytes : List ℕ)
       go : (u : Bool) → m.up ≡ u → Does due m new (answer_in result)
       go true u =
           let d = came u can.theirs in
-          does_front d.front result (ap (if_up m) (item_comes one again bytes are m trunk word (fm.get m.sides trunk) item d.front can.read can.spelled is d.is)) d.does
+          does_front d.front result
+          (ap (if_up m) (item_comes one again bytes are m trunk word (fm.get m.sides trunk) item d.front can.read can.spelled is d.is))
+          d.does
       go false u =
-          refused Refusal.NodeDown result (down u).0 (ap (λ b. cond b (arrive m trunk (fm.get m.sides trunk) (Some item) word) (Refuses Refusal.NodeDown)) u) (down u).1
+          refused Refusal.NodeDown result (down u).0
+          (ap (λ b. cond b (arrive m trunk (fm.get m.sides trunk) (Some item) word) (Refuses Refusal.NodeDown)) u)
+          (down u).1

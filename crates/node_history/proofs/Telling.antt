@@ -24,14 +24,7 @@ IsNoMessage kind = (is_for_dialer kind ≡ false) × (is_for_acceptor kind ≡ f
 
 signal_is_none : (signal : Signal) → IsNoMessage (Some (kind_of (Signalled signal)))
 signal_is_none (Signal.Link from to) = (refl, refl, refl)
-signal_is_none (Signal.Send to message) = (refl, refl, refl)
-signal_is_none (Signal.Exit from to reason) = (refl, refl, refl)
-signal_is_none (Signal.Exit2 from to reason) = (refl, refl, refl)
-signal_is_none (Signal.Monitor from to r) = (refl, refl, refl)
-signal_is_none (Signal.Demonitor from to r) = (refl, refl, refl)
-signal_is_none (Signal.MonitorExit from to r reason) = (refl, refl, refl)
-signal_is_none (Signal.UnlinkId id from to) = (refl, refl, refl)
-signal_is_none (Signal.UnlinkIdAck id from to) = (refl, refl, refl)
+signal_is_none _ = (refl, refl, refl)
 
 -- what a message is written to, by its kind
 abbrev IsMessage : ShakeMsg → Type 0
@@ -42,10 +35,7 @@ IsMessage message =
 
 message_is : (message : ShakeMsg) → IsMessage message
 message_is (ShakeMsg.SendName flags creation name) = (refl, refl, refl)
-message_is (ShakeMsg.Status status) = (refl, refl, refl)
-message_is (ShakeMsg.Challenge flags word creation name) = (refl, refl, refl)
-message_is (ShakeMsg.ChallengeReply word digest) = (refl, refl, refl)
-message_is (ShakeMsg.ChallengeAck digest) = (refl, refl, refl)
+message_is _ = (refl, refl, refl)
 
 by_dialer : (item : Item) → shakes_for true item ≡ is_for_dialer (Some (kind_of item))
 by_dialer (Handshake message) = (message_is message).0
@@ -63,15 +53,13 @@ by_frames (Signalled signal) = sym (ap not (signal_is_none signal).2)
 by_frames Tick = refl
 
 by_state : (st : State) (item : Item) → reads st item ≡ reads_kind st (Some (kind_of item))
-by_state (state.AwaitsStatus w) item = by_dialer item
-by_state (state.AwaitsChallenge w) item = by_dialer item
-by_state (state.AwaitsAck w) item = by_dialer item
 by_state (state.Asked w) item = by_acceptor item
 by_state (state.Parked w) item = by_acceptor item
 by_state (state.Accepting w) item = by_acceptor item
 by_state state.Up item = by_frames item
 by_state state.Losing item = refl
 by_state state.Gone item = refl
+by_state _ item = by_dialer item
 
 by_kind : (side : Option TrunkSide) (item : Item) → reads_at side item ≡ reads_kind_at side (Some (kind_of item))
 by_kind None item = by_acceptor item
@@ -82,7 +70,8 @@ both true b h = absurd (let no : false ≡ true = h in cc)
 both false b h = (refl, h)
 
 -- an item of these bytes can come where they are read
-pub can_come : (m : Node) (trunk : TrunkId) (item : Item) → IsSpelled item → comes_here m trunk (bytes_of item) ≡ true → CanCome m trunk item
+pub can_come : (m : Node) (trunk : TrunkId) (item : Item) → IsSpelled item → comes_here m trunk (bytes_of item) ≡ true
+    → CanCome m trunk item
 can_come m trunk item h c =
     let side = fm.get m.sides trunk in
     let here = both (is_undialed m trunk side) (reads_kind_at side (kind_in (bytes_of item))) c in
@@ -94,4 +83,5 @@ can_come m trunk item h c =
 
 pub read_is_whole : OneFrame → FrameAgain → (bytes : List ℕ) → AreBytes bytes → ReadIsWhole bytes
 read_is_whole one again bytes are m trunk item s b h =
-    whole_at one again bytes are (fm.get m.sides trunk) item (can_come m trunk item s (subst (λ bs. comes_here m trunk bs ≡ true) b h)).read s b
+    whole_at one again bytes are (fm.get m.sides trunk) item
+    (can_come m trunk item s (subst (λ bs. comes_here m trunk bs ≡ true) b h)).read s b

@@ -4,9 +4,9 @@ use Rattle.std.specs.Prelude.{IsTrue, ◌↔◌}
 use Rattle.erl_term.specs.declared.refusal.Refusal.{Refusal}
 use Rattle.node_book.specs.Books.{Applies, IsUnapplied}
 use Rattle.node_book.specs.Seen.{BookSeen}
+use Rattle.node_book.proofs.Booking.{slice_last}
 use Rattle.node_history.specs.Acts.{is_act}
 use Rattle.node_history.specs.Telling.{Answers, IsTold}
-use Rattle.node_history.specs.declared.entry.Entry.{Entry}
 use Rattle.node_history.specs.declared.entry.Told.{Told}
 use Rattle.node_lock.specs.Acts.{event_of}
 use Rattle.node_lock.specs.Calling.{Calls, IsAtHome, IsUncalled, stamp_at, stamp_in}
@@ -16,10 +16,6 @@ use Rattle.node_lock.specs.declared.seat.Asked.{Asked}
 use Rattle.node_lock.specs.declared.seat.Seat.{Seat}
 use Rattle.same_events.specs.Said.{said}
 use Rattle.world_events.specs.declared.event.NodeEvent.{NodeEvent}
-
-slice_last : (es : List Entry) (e : Entry) → slice_get (es ++ e ∷ []) (length es) ≡ Some e
-slice_last [] e = refl
-slice_last (x ∷ es) e = slice_last es e
 
 -- the entry that was added
 there : (what : NodeEvent) (book next : BookSeen) (place : ℕ) (a : Applies what book next place)
@@ -37,19 +33,23 @@ pub away : (b : Bool) {H : Type 0} → (IsTrue b ↔ H) → b ≡ false → H �
 away b h is home = let no : false ≡ true = sym is ∙ h.1 home in cc
 
 module _ (act : Act) (book : BookSeen) (seat : Seat) where
-  module _ (next : BookSeen) (after : Seat) (asked : Asked) (told : Told) (what : NodeEvent) (mid : List Asked) (place : ℕ) (home : IsAtHome book seat) (is : what ≡ event_of act)
+  module _ (next : BookSeen) (after : Seat) (asked : Asked) (told : Told) (what : NodeEvent) (mid : List Asked) (place : ℕ)
+      (home : IsAtHome book seat) (is : what ≡ event_of act)
       (applies : Applies what book next told.place) where
     stamp : asked.receipt.stamp ≡ stamp_at next.history.entries.items told.place → asked.receipt.stamp ≡ next.history.last
     stamp h = h ∙ ap stamp_in (there what book next told.place applies)
 
-    stands : IsTold next.history.entries.items told → is_act what ≡ true → asked.event ≡ what → asked.receipt.stamp ≡ next.history.last → asked.receipt.answer ≡ told.answer
+    stands : IsTold next.history.entries.items told → is_act what ≡ true → asked.event ≡ what
+        → asked.receipt.stamp ≡ next.history.last → asked.receipt.answer ≡ told.answer
         → StandsAs asked (slice_get next.history.entries.items told.place)
     stands t acts e s a =
-        let same : said told.answer ≡ said applies.enters.answer = subst (Answers told.answer) (there what book next told.place applies) t in
+        let same : said told.answer ≡ said applies.enters.answer =
+        subst (Answers told.answer) (there what book next told.place applies) t in
         subst (StandsAs asked) (sym (there what book next told.place applies)) (sym s, acts, sym e, sym same ∙ ap said (sym a))
 
     pub called : IsTold next.history.entries.items told → is_act what ≡ true → asked.event ≡ what → asked.receipt.position ≡ told.place
-        → asked.receipt.stamp ≡ stamp_at next.history.entries.items told.place → asked.receipt.node ≡ next.place → asked.receipt.answer ≡ told.answer → after.node ≡ seat.node
+        → asked.receipt.stamp ≡ stamp_at next.history.entries.items told.place → asked.receipt.node ≡ next.place
+        → asked.receipt.answer ≡ told.answer → after.node ≡ seat.node
         → mid ≡ seat.receipts.items → after.receipts.items ≡ mid ++ asked ∷ [] → place ≡ length mid → Calls act book next seat after place
     called t acts e p s n a same m receipts at = record {
       home = home;
@@ -84,7 +84,8 @@ module _ (act : Act) (book : BookSeen) (seat : Seat) where
     why = inr (home, inl refl);
   }
 
-  pub unapplied : (next : BookSeen) (after : Seat) (what : NodeEvent) (e : Refusal) → IsAtHome book seat → what ≡ event_of act → IsUnapplied what book next e
+  pub unapplied : (next : BookSeen) (after : Seat) (what : NodeEvent) (e : Refusal) → IsAtHome book seat → what ≡ event_of act
+      → IsUnapplied what book next e
       → after.node ≡ seat.node → after.receipts.items ≡ seat.receipts.items → IsUncalled act book next seat after e
   unapplied next after what e home is h n r =
       let u = subst (λ w. IsUnapplied w book next e) is h in

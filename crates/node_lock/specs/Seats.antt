@@ -9,7 +9,8 @@ use Rattle.same_events.specs.Said.{said}
 abbrev pub StandsAs : Asked → Option Entry → Type 0
 StandsAs asked None = ⊥
 StandsAs asked (Some entry) =
-    (entry.stamp ≡ asked.receipt.stamp) × (is_act entry.event ≡ true) × (entry.event ≡ asked.event) × (said entry.answer ≡ said asked.receipt.answer)
+    (entry.stamp ≡ asked.receipt.stamp) × (is_act entry.event ≡ true) × (entry.event ≡ asked.event)
+    × (said entry.answer ≡ said asked.receipt.answer)
 
 abbrev pub last_of : List Asked → Option Asked
 last_of receipts = slice_get receipts (length receipts - 1)

@@ -13,8 +13,8 @@ use Rattle.dist_model.specs.declared.report.Effect.{Effect}
 use Rattle.erl_term.specs.Data.{Data}
 use Rattle.erl_term.specs.declared.term.Pid.{Pid}
 use Rattle.monitor_core.specs.Left.{without_owner, without_target}
-use Rattle.node_changes.specs.Changed.{drawn_by, end_after, ends_after, lives_after, registered, spawned_by, watched}
-use Rattle.node_changes.specs.Changed.{watchers_left, watches_left}
+use Rattle.node_changes.specs.Changed.{drawn_by, end_after, ends_after, lives_after, registered}
+use Rattle.node_changes.specs.Changed.{spawned_by, watched, watchers_left, watches_left}
 use Rattle.node_changes.specs.Parts.{link_in}
 use Rattle.node_changes.specs.declared.change.Change.{Change}
 use Rattle.node_changes.specs.declared.change.Change.TheVariants as change
@@ -36,11 +36,7 @@ by_cases : (P : Change → Type 0) (c : Change) (p : Pid) → IsFree c p
     → P change.None → ((e : LinkChange) → P (change.Of p e life.Stays)) → P c
 by_cases P change.None p f none of = none
 by_cases P (change.Of own e life.Stays) p f none of = subst (λ q. P (change.Of q e life.Stays)) (sym f) (of e)
-by_cases P (change.Of own e (life.Gets message)) p f none of = absurd f
-by_cases P (change.Of own e (life.Ends reason)) p f none of = absurd f
-by_cases P (change.Of own e (life.Traps on)) p f none of = absurd f
-by_cases P (change.Of own e life.TakesFirst) p f none of = absurd f
-by_cases P change.Spawns p f none of = absurd f
+by_cases P c p f none of = absurd f
 
 module _ (plan : Plan) (m : Node) (work : Work) (p : Pid) (h : CarriesOut plan m work) (free : IsFree plan.change p) where
   mint_is : work.node.mint ≡ drawn_by plan.draws m.mint

@@ -1,5 +1,6 @@
 -- A plan in which no side changes makes what it carries out.
-use Rattle.std.proofs.Common.{◌≡◌, Bool, true, false, List, sym, subst}
+use Rattle.std.proofs.Common.{List, sym, subst}
+use Rattle.std.proofs.lemmas.Bool.{both_ways}
 use Rattle.dist_model.specs.Node.{Node}
 use Rattle.dist_model.specs.Work.{Work}
 use Rattle.node_plans.specs.Carried.{CarriesOut, Makes}
@@ -7,14 +8,11 @@ use Rattle.node_changes.specs.Suits.{LetsAll}
 use Rattle.node_plans.specs.declared.plan.Plan.{Plan}
 use Rattle.node_sides.specs.declared.change.SideChange.{SideChange}
 
-not_both : {A : Type 0} (b : Bool) → b ≡ false → b ≡ true → A
-not_both b h k = cc
-
 pub makes_it : (plan : Plan) (m : Node) (work : Work) → CarriesOut plan m work → Makes plan m work
 makes_it plan m work h = record {
   sound = h.sound;
   sides = (let P : List SideChange → Type 0 = (λ xs. LetsAll xs m.sides) in subst P (sym h.still) tt);
-  dials = (λ e. not_both plan.dials h.calm e);
+  dials = (λ e. absurd (both_ways plan.dials h.calm e));
   node = h.node;
   effects = h.effects;
   spelled = h.spelled;

@@ -7,6 +7,8 @@ use Rattle.erl_control.specs.declared.signal.Signal.{Signal}
 use Rattle.erl_term.specs.declared.term.Pid.{Pid}
 
 pub all_pass : (p q : Pid) (signals : List Signal)
-    → list_all (λ s. not (is_signal_of p q (Signalled s) || is_signal_of q p (Signalled s))) signals ≡ nothing_between p q (map Signalled signals)
+    → list_all (λ s. not (is_signal_of p q (Signalled s) || is_signal_of q p (Signalled s))) signals
+    ≡ nothing_between p q (map Signalled signals)
 all_pass p q [] = refl
-all_pass p q (signal ∷ rest) = ap (λ b. not (is_signal_of p q (Signalled signal) || is_signal_of q p (Signalled signal)) && b) (all_pass p q rest)
+all_pass p q (signal ∷ rest) =
+    ap (λ b. not (is_signal_of p q (Signalled signal) || is_signal_of q p (Signalled signal)) && b) (all_pass p q rest)

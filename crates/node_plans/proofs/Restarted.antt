@@ -18,12 +18,20 @@ running m = record m { up = true }
 
 pub steady_stopped : (m : Node) → Steady m → Steady (stopped m)
 steady_stopped m s =
-    let runs : Steady (running m) = record { engaged = s.engaged; attempts = s.attempts; ends = s.ends; owners = s.owners; targets = s.targets } in
+    let runs : Steady (running m) = record {
+      engaged = s.engaged;
+      attempts = s.attempts;
+      ends = s.ends;
+      owners = s.owners;
+      targets = s.targets;
+    } in
     let t : Steady (stopped (running m)) = steady_kept [] (running m) event.Stop Answer.Stopped (at_work (stopped (running m))) runs refl in
     record { engaged = t.engaged; attempts = t.attempts; ends = t.ends; owners = t.owners; targets = t.targets }
 
 pub steady_started : (m : Node) → Steady m → Steady (started m)
-steady_started m s = let t = steady_stopped m s in record { engaged = t.engaged; attempts = t.attempts; ends = t.ends; owners = t.owners; targets = t.targets }
+steady_started m s =
+    let t = steady_stopped m s in
+    record { engaged = t.engaged; attempts = t.attempts; ends = t.ends; owners = t.owners; targets = t.targets }
 
 comes_of_none : (m : Node) → ComesOfOthers m event.Stop
 comes_of_none m t c d = no_item t c.0 c.1 c.2
@@ -32,7 +40,8 @@ comes_of_none m t c d = no_item t c.0 c.1 c.2
     no_item t item word h = cc
 
 pub counted_stopped : (m : Node) → CountsOwn m → CountsOwn (stopped m)
-counted_stopped m k = counted_kept [] (running m) event.Stop Answer.Stopped (at_work (stopped (running m))) refl k (comes_of_none (running m))
+counted_stopped m k =
+    counted_kept [] (running m) event.Stop Answer.Stopped (at_work (stopped (running m))) refl k (comes_of_none (running m))
 
 pub counted_started : (m : Node) → CountsOwn m → CountsOwn (started m)
 counted_started m k = counted_stopped m k

@@ -3,7 +3,8 @@ use Rattle.std.specs.Prelude.{ℕ, ◌+◌, Bool, if◌then◌else◌, ◌++◌,
 use Rattle.dist_model.specs.Items.{Signalled}
 use Rattle.dist_model.specs.Node.{Node}
 use Rattle.dist_model.specs.declared.report.Answer.{Answer}
-use Rattle.node_changes.specs.Changed.{drawn_by, ends_after, lives_after, popped, registered, sides_after, spawned_by, told_by, watched, watchers_left, watches_left}
+use Rattle.node_changes.specs.Changed.{drawn_by, ends_after, lives_after, popped, registered, sides_after}
+use Rattle.node_changes.specs.Changed.{spawned_by, told_by, watched, watchers_left, watches_left}
 use Rattle.node_plans.specs.declared.plan.Plan.{Plan}
 
 abbrev pub dialed_after : Bool → ℕ → ℕ

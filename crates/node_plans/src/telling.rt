@@ -1,10 +1,10 @@
 //! A process tells another of their link, or of a monitor.
 ghost use Rattle.std.specs.Prelude.{◌≡◌, true};
 ghost use Rattle.dist_model.specs.Items.{telling};
-ghost use Rattle.dist_model.specs.Links.{Signals};
 ghost use Rattle.dist_model.specs.Node.{Node as TheNode};
 ghost use Rattle.dist_model.specs.Work.{Work, post};
 ghost use Rattle.erl_control.specs.declared.signal.Signal.TheVariants as signals;
+ghost use Rattle.link_core.specs.News.{Signals};
 ghost use Rattle.node_plans.specs.Carried.{Carries, CarriesOut};
 ghost use Rattle.node_frames.specs.Sendable.{is_sendable};
 ghost use Rattle.node_plans.specs.Plans.{told};

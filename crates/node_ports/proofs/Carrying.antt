@@ -1,5 +1,6 @@
 -- Parcels that move stay those of the same items.
-use Rattle.std.proofs.Common.{◌≡◌, ℕ, ◌+◌, Bool, true, false, List, [], ◌∷◌, ◌++◌, inl, inr, length, nat_lt, if◌then◌else◌, refl, sym, subst, append_assoc, append-nil}
+use Rattle.std.proofs.Common.{◌≡◌, ℕ, ◌+◌, Bool, true, false, List, [], ◌∷◌, ◌++◌, inl, inr, length}
+use Rattle.std.proofs.Common.{nat_lt, if◌then◌else◌, refl, sym, subst, append_assoc, append-nil}
 use Rattle.dist_books.specs.Books.{Port, Stamped}
 use Rattle.dist_books.specs.Growing.{Shifts}
 use Rattle.node_ports.specs.Ports.{PortSeen, fetched, flushed, next_piece, with_gathered}
@@ -8,7 +9,7 @@ use Rattle.wire_core.specs.Pieces.{PieceSeen}
 use Rattle.wire_core.specs.Spellings.{SpellsItem}
 use Rattle.wire_core.specs.declared.parcel.Parcel.{Parcel}
 
-carry_snoc : (parcels : List Parcel) (sent : List Stamped) (parcel : Parcel) (x : Stamped) → CarryAll parcels sent → Carries parcel x
+pub carry_snoc : (parcels : List Parcel) (sent : List Stamped) (parcel : Parcel) (x : Stamped) → CarryAll parcels sent → Carries parcel x
     → CarryAll (parcels ++ parcel ∷ []) (sent ++ x ∷ [])
 carry_snoc [] [] parcel x h c = (c, tt)
 carry_snoc [] (y ∷ sent) parcel x h c = absurd h
@@ -18,12 +19,13 @@ carry_snoc (p ∷ parcels) (y ∷ sent) parcel x h c = (h.0, carry_snoc parcels 
 pub fresh_stands : FreshStands
 fresh_stands trunk peer = record { peer = refl; put = tt; outbox = tt; taken = tt; slot = tt }
 
-nothing_more : (port : Port) → Shifts port port
+pub nothing_more : (port : Port) → Shifts port port
 nothing_more port = record { peer = refl; out = refl; more = []; taken = sym (append-nil port.taken); slot = sym (append-nil port.slot) }
 
 module _ (seen : PortSeen) (port : Port) (s : StandsFor seen port) where
   -- a piece of the first that waits is put: the parcel stays where it is, or is put
-  flush_first : (is_part : Bool) (parcel : Parcel) (rest : List Parcel) (pieces : List PieceSeen) (begun : ℕ) (x : Stamped) (xs : List Stamped)
+  flush_first : (is_part : Bool) (parcel : Parcel) (rest : List Parcel) (pieces : List PieceSeen) (begun : ℕ) (x : Stamped)
+      (xs : List Stamped)
       → port.outbox ≡ x ∷ xs → seen.outbox ≡ parcel ∷ rest → Carries parcel x × CarryAll rest xs
       → ShiftsTo (if is_part then record seen { pieces = pieces; begun = begun }
       else record seen { pieces = pieces; begun = 0; put = seen.put ++ parcel ∷ []; outbox = rest }) port
@@ -56,7 +58,8 @@ pub flush_shifts : FlushShifts
 flush_shifts seen port s = flush_in seen port s seen.outbox port.outbox refl refl s.outbox
 
 -- a parcel has come
-ends_item : (seen : PortSeen) (port : Port) (parcel : Parcel) → SpellsItem parcel.bytes → StandsFor seen port → ShiftsTo (fetched seen parcel) port
+ends_item : (seen : PortSeen) (port : Port) (parcel : Parcel) → SpellsItem parcel.bytes → StandsFor seen port
+    → ShiftsTo (fetched seen parcel) port
 ends_item seen port parcel is s =
     let x : Stamped = (parcel.stamp, is.item) in
     let c : Carries parcel x = record { stamp = refl; bytes = sym is.written; spelled = is.spelled } in

@@ -5,9 +5,8 @@ use Rattle.wire_core.specs.declared.parcel.Parcel.{Parcel}
 
 drop_suc : (n : ℕ) (l : List Parcel) → drop (suc n) l ≡ behind_first (drop n l)
 drop_suc zero [] = refl
-drop_suc zero (x ∷ l) = refl
-drop_suc (suc n) [] = refl
 drop_suc (suc n) (x ∷ l) = drop_suc n l
+drop_suc _ _ = refl
 
 pub drop_next : (n : ℕ) (l : List Parcel) → drop (n + 1) l ≡ behind_first (drop n l)
 drop_next n l = let e : n + 1 ≡ suc n = omega arith in ap (λ m. drop m l) e ∙ drop_suc n l

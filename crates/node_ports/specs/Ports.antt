@@ -23,7 +23,18 @@ pub record PortSeen : Type 0 where
 -- nothing went through it yet
 abbrev pub fresh : TrunkId → List ℕ → PortSeen
 fresh trunk peer =
-    record { trunk = trunk; peer = peer; put = []; outbox = []; taken = []; slot = []; pieces = []; begun = 0; gathered = []; greatest = 512 }
+    record {
+      trunk = trunk;
+      peer = peer;
+      put = [];
+      outbox = [];
+      taken = [];
+      slot = [];
+      pieces = [];
+      begun = 0;
+      gathered = [];
+      greatest = 512;
+    }
 
 -- a parcel more waits, behind the others
 abbrev pub sending : PortSeen → Parcel → PortSeen

@@ -1,5 +1,6 @@
 -- Each side is gone.
-use Rattle.std.proofs.Common.{◌≡◌, ℕ, zero, suc, true, false, ◌&&◌, List, [], ◌∷◌, ◌++◌, length, get_or, map, set, take, refl, sym, ap, ◌∙◌, arith}
+use Rattle.std.proofs.Common.{◌≡◌, ℕ, zero, suc, true, false, ◌&&◌, List, [], ◌∷◌, ◌++◌}
+use Rattle.std.proofs.Common.{length, get_or, map, set, take, refl, sym, ap, ◌∙◌, arith, drop}
 use Rattle.std.specs.List.{filter}
 use Rattle.std.specs.Ordering.{is_lt}
 use Rattle.std.specs.FinMap as fm
@@ -15,7 +16,8 @@ use Rattle.node_sides.specs.Standings.{all_settled, entries_of, entry_of, gone, 
 
 -- ---- one after the other
 
-pub gone_up_to : (l : List Side) (i : ℕ) (y : Side) → map gone (take i l) ≡ take i l → map gone (take (suc i) (set l i (gone y))) ≡ take (suc i) (set l i (gone y))
+pub gone_up_to : (l : List Side) (i : ℕ) (y : Side) → map gone (take i l) ≡ take i l
+    → map gone (take (suc i) (set l i (gone y))) ≡ take (suc i) (set l i (gone y))
 gone_up_to [] i y h = refl
 gone_up_to (x ∷ xs) zero y h = refl
 gone_up_to (x ∷ xs) (suc i) y h =
@@ -36,6 +38,10 @@ take_whole [] ys zero h = refl
 take_whole [] ys (suc n) h = absurd (omega arith)
 take_whole (x ∷ xs) ys zero h = absurd (omega arith)
 take_whole (x ∷ xs) ys (suc n) h = ap (λ l. x ∷ l) (take_whole xs ys n (omega arith))
+
+pub all_now : (new was held : List Side) (n : ℕ) → length new ≡ n → was ≡ held → new ≡ map gone was
+    → take n (new ++ drop (length new) held) ≡ map gone held
+all_now new was held n len same each = take_whole new (drop (length new) held) n len ∙ each ∙ ap (map gone) same
 
 pub none_kept : {A : Type 0} (xs : List A) → filter (λ x. false) xs ≡ []
 none_kept [] = refl
@@ -65,7 +71,8 @@ entries_gone : (held : List Side) → entries_of (map gone held) ≡ all_gone (e
 entries_gone [] = refl
 entries_gone (x ∷ xs) = ap (λ l. entry_of (gone x) ∷ l) (entries_gone xs)
 
-pub gone_sides : (held fs : List Side) → fs ≡ map gone held → IsSorted held → sides_in fs ≡ fm.from_entries (all_gone (fm.entries (sides_in held)))
+pub gone_sides : (held fs : List Side) → fs ≡ map gone held → IsSorted held
+    → sides_in fs ≡ fm.from_entries (all_gone (fm.entries (sides_in held)))
 gone_sides held fs e s = fm.same_map trunk_total trunk_exact _ _ (λ q.
     get_side fs q (gone_sorted held fs e s) ∙ ap (λ l. find trunk_cmp q (entries_of l)) e ∙ ap (find trunk_cmp q) (entries_gone held)
     ∙ sym (fm.get-from_entries trunk_total _ q ∙ ap (λ es. find trunk_cmp q (all_gone es)) (entries_side held s)))

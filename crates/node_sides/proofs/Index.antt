@@ -1,9 +1,11 @@
 -- The places of the sides that aren't gone stay right when sides come and stand otherwise.
-use Rattle.std.proofs.Common.{◌≡◌, ℕ, zero, suc, ◌+◌, ◌-◌, ◌<◌, ◌≤◌, nat_lt, ◌==◌, Bool, true, false, cond, not, ◌&&◌, List, [], ◌∷◌, ◌⊎◌, inl, inr, Bor, length, get_or, map, set, Option, None, Some, is_some, Result, Ok, Err, IfOk, IfErr, refl, sym, ap, subst, ◌∙◌, arith, tests, add-one}
+use Rattle.std.proofs.Common.{◌≡◌, ℕ, zero, suc, ◌+◌, ◌-◌, ◌<◌, ◌≤◌, nat_lt, ◌==◌, Bool, true, false, cond, not, ◌&&◌}
+use Rattle.std.proofs.Common.{List, [], ◌∷◌, ◌⊎◌, inl, inr, Bor, length, get_or, map, set, Option, None, Some}
+use Rattle.std.proofs.Common.{is_some, Result, Ok, Err, IfOk, IfErr, refl, sym, ap, subst, ◌∙◌, arith, tests, add-one}
 use Rattle.std.specs.declared.cmp.Ordering.{Ordering}
 use Rattle.std.specs.declared.cmp.Ordering.TheVariants.{Less, Equal, Greater}
 use Rattle.std.specs.Ordering.{eq_by_cmp, is_eq, is_lt, nat_cmp, ordering_index, ordering_then}
-use Rattle.std.specs.Cmp.{IsTotalOrder, nat_cmp_is, nat_cmp_total}
+use Rattle.std.specs.Cmp.{Equal-is, IsTotalOrder, nat_cmp_is, nat_cmp_total}
 use Rattle.std.specs.Cmp.Lexicographic.{options_total}
 use Rattle.std.specs.FinMap.{find, put, is_sorted}
 use Rattle.std.specs.FinMap.Entries.{below_all, find-put, find-where_key}
@@ -28,7 +30,8 @@ use Rattle.sorted_map.proofs.Places.{finds, finds_none, found_in_range, gap_in_r
 use Rattle.sorted_map.specs.Entries.{without, IsFoundAt, IsGapAt}
 use Rattle.sorted_map.specs.Maps.{sorted_put, sorted_without}
 use Rattle.node_sides.proofs.Placed.{holds, is_true}
-use Rattle.node_sides.specs.Index.{AreIndexed, IsChanged, IsGrown, is_open, keyed, moved_up, not_gone, open_at, passes_in, peer_at, place_cmp}
+use Rattle.node_sides.specs.Index.{AreIndexed, IsChanged, IsGrown, is_open, keyed, moved_up}
+use Rattle.node_sides.specs.Index.{not_gone, open_at, passes_in, peer_at, place_cmp}
 use Rattle.node_sides.specs.Standings.{gone}
 
 abbrev pub peer_cmp : Option Name → Option Name → Ordering
@@ -43,16 +46,12 @@ place_total held = then_total (on_total (peer_at held) peer_total) nat_cmp_total
 place_exact : (held : List Side) (i j : ℕ) → place_cmp held i j ≡ Equal → i ≡ j
 place_exact held i j h = exact_unsigned i j (then_equal (peer_cmp (peer_at held i) (peer_at held j)) (nat_cmp i j) h).1
 
-is_equal : (r : Ordering) → is_eq r ≡ true → r ≡ Equal
-is_equal Less h = cc
-is_equal Equal h = refl
-is_equal Greater h = cc
-
 pub one_place : (held : List Side) (q at : ℕ) → eq_by_cmp (place_cmp held) q at ≡ true → q ≡ at
-one_place held q at h = place_exact held q at (is_equal _ h)
+one_place held q at h = place_exact held q at ((Equal-is _).0 h)
 
 other_place : (held : List Side) (q at : ℕ) → eq_by_cmp (place_cmp held) q at ≡ false → q ≡ at → ⊥
-other_place held q at h e = absurd (no (sym (ap is_eq (tied_itself (place_total held) at)) ∙ sym (ap (λ n. eq_by_cmp (place_cmp held) n at) e) ∙ h))
+other_place held q at h e =
+    absurd (no (sym (ap is_eq (tied_itself (place_total held) at)) ∙ sym (ap (λ n. eq_by_cmp (place_cmp held) n at) e) ∙ h))
   where
     no : true ≡ false → ⊥
     no k = cc
@@ -78,11 +77,9 @@ set_there (x ∷ xs) zero y l = refl
 set_there (x ∷ xs) (suc at) y l = set_there xs at y (omega arith)
 
 set_beside : (held : List Side) (at q : ℕ) (y : Side) → (q ≡ at → ⊥) → slice_get (set held at y) q ≡ slice_get held q
-set_beside [] at q y n = refl
 set_beside (x ∷ xs) zero zero y n = absurd (n refl)
-set_beside (x ∷ xs) zero (suc q) y n = refl
-set_beside (x ∷ xs) (suc at) zero y n = refl
 set_beside (x ∷ xs) (suc at) (suc q) y n = set_beside xs at q y (λ e. n (ap suc e))
+set_beside _ _ _ y n = refl
 
 insert_there : (held : List Side) (at : ℕ) (y : Side) → at ≤ length held → slice_get (insert held at y) at ≡ Some y
 insert_there held zero y l = refl
@@ -95,7 +92,8 @@ insert_below [] (suc at) q y l b = absurd (omega arith)
 insert_below (x ∷ xs) (suc at) zero y l b = refl
 insert_below (x ∷ xs) (suc at) (suc q) y l b = insert_below xs at q y (omega arith) (omega arith)
 
-insert_above : (held : List Side) (at q : ℕ) (y : Side) → at ≤ length held → at ≤ q → slice_get (insert held at y) (suc q) ≡ slice_get held q
+insert_above : (held : List Side) (at q : ℕ) (y : Side) → at ≤ length held → at ≤ q
+    → slice_get (insert held at y) (suc q) ≡ slice_get held q
 insert_above held zero q y l b = refl
 insert_above [] (suc at) q y l b = absurd (omega arith)
 insert_above (x ∷ xs) (suc at) zero y l b = absurd (omega arith)
@@ -103,10 +101,12 @@ insert_above (x ∷ xs) (suc at) (suc q) y l b = insert_above xs at q y (omega a
 
 -- ---- the side at a place stands otherwise
 
-module _ (held fs : List Side) (at : ℕ) (y : Side) (places : List ℕ) (is : fs ≡ set held at y) (l : at < length held) (peer : peer_at held at ≡ Some y.peer) (h : AreIndexed held places) where
+module _ (held fs : List Side) (at : ℕ) (y : Side) (places : List ℕ) (is : fs ≡ set held at y) (l : at < length held)
+    (peer : peer_at held at ≡ Some y.peer) (h : AreIndexed held places) where
   peers_stay : (q : ℕ) → peer_at fs q ≡ peer_at held q
   peers_stay q = ap (λ s. peer_at s q) is ∙ by_test _ (eq_by_cmp (place_cmp held) q at)
-      (λ t. subst (λ n. peer_at (set held at y) n ≡ peer_at held n) (sym (one_place held q at t)) (ap (option_map (λ (s : Side). s.peer)) (set_there held at y l) ∙ sym peer))
+      (λ t. subst (λ n. peer_at (set held at y) n ≡ peer_at held n) (sym (one_place held q at t))
+      (ap (option_map (λ (s : Side). s.peer)) (set_there held at y l) ∙ sym peer))
       (λ t. ap (option_map (λ (s : Side). s.peer)) (set_beside held at q y (other_place held q at t)))
 
   pub order_stays : place_cmp fs ≡ place_cmp held
@@ -137,13 +137,16 @@ module _ (held fs : List Side) (at : ℕ) (y : Side) (places : List ℕ) (is : f
     count = let a = counted in let b = ap as_number same in let c = h.count in omega (arith, a, b, c);
   }
 
-  pub put_indexed : (new : List ℕ) → open_at held at ≡ false → is_open y ≡ true → keyed new ≡ put (place_cmp fs) at tt (keyed places) → length new ≡ length places + 1 → AreIndexed fs new
+  pub put_indexed : (new : List ℕ) → open_at held at ≡ false → is_open y ≡ true
+      → keyed new ≡ put (place_cmp fs) at tt (keyed places) → length new ≡ length places + 1 → AreIndexed fs new
   put_indexed new shut opens e n = record {
-    rising = ap (λ cmp. is_sorted cmp (keyed new)) order_stays ∙ ap (is_sorted (place_cmp held)) puts ∙ is_true _ (sorted_put (place_total held) at tt (keyed places) (holds _ h.rising));
+    rising = ap (λ cmp. is_sorted cmp (keyed new)) order_stays ∙ ap (is_sorted (place_cmp held)) puts
+        ∙ is_true _ (sorted_put (place_total held) at tt (keyed places) (holds _ h.rising));
     exact = λ q.
         ap (λ cmp. is_some (find cmp q (keyed new))) order_stays ∙ ap (λ es. is_some (find (place_cmp held) q es)) puts
         ∙ ap is_some (find-put (place_cmp held) (place_total held) q at tt (keyed places)) ∙ by_test _ (eq_by_cmp (place_cmp held) q at)
-        (λ t. ap (λ b. is_some (cond b (Some tt) (find (place_cmp held) q (keyed places)))) t ∙ sym (ap (open_at fs) (one_place held q at t) ∙ open_there ∙ opens))
+        (λ t. ap (λ b. is_some (cond b (Some tt) (find (place_cmp held) q (keyed places)))) t
+        ∙ sym (ap (open_at fs) (one_place held q at t) ∙ open_there ∙ opens))
         (λ t. ap (λ b. is_some (cond b (Some tt) (find (place_cmp held) q (keyed places)))) t ∙ h.exact q ∙ sym (open_beside q t));
     count = let a = counted in let b = ap as_number shut in let c = ap as_number opens in let d = h.count in omega (arith, a, b, c, d, n);
   }
@@ -151,14 +154,18 @@ module _ (held fs : List Side) (at : ℕ) (y : Side) (places : List ℕ) (is : f
       puts : keyed new ≡ put (place_cmp held) at tt (keyed places)
       puts = e ∙ ap (λ cmp. put cmp at tt (keyed places)) order_stays
 
-  pub taken_indexed : (new : List ℕ) → open_at held at ≡ true → is_open y ≡ false → keyed new ≡ without (place_cmp fs) at (keyed places) → length new + 1 ≡ length places → AreIndexed fs new
+  pub taken_indexed : (new : List ℕ) → open_at held at ≡ true → is_open y ≡ false
+      → keyed new ≡ without (place_cmp fs) at (keyed places) → length new + 1 ≡ length places → AreIndexed fs new
   taken_indexed new opens shut e n = record {
-    rising = ap (λ cmp. is_sorted cmp (keyed new)) order_stays ∙ ap (is_sorted (place_cmp held)) takes ∙ is_true _ (sorted_without (place_total held) (place_exact held) at (keyed places) (holds _ h.rising));
+    rising = ap (λ cmp. is_sorted cmp (keyed new)) order_stays ∙ ap (is_sorted (place_cmp held)) takes
+        ∙ is_true _ (sorted_without (place_total held) (place_exact held) at (keyed places) (holds _ h.rising));
     exact = λ q.
         ap (λ cmp. is_some (find cmp q (keyed new))) order_stays ∙ ap (λ es. is_some (find (place_cmp held) q es)) takes
-        ∙ ap is_some (find-where_key (place_cmp held) (λ k. not (eq_by_cmp (place_cmp held) at k)) q (λ x t. ap (λ k. not (eq_by_cmp (place_cmp held) at k)) (sym (place_exact held q x t))) (keyed places))
+        ∙ ap is_some (find-where_key (place_cmp held) (λ k. not (eq_by_cmp (place_cmp held) at k)) q
+        (λ x t. ap (λ k. not (eq_by_cmp (place_cmp held) at k)) (sym (place_exact held q x t))) (keyed places))
         ∙ by_test _ (eq_by_cmp (place_cmp held) at q)
-        (λ t. ap (λ b. is_some (cond (not b) (find (place_cmp held) q (keyed places)) None)) t ∙ sym (ap (open_at fs) (sym (one_place held at q t)) ∙ open_there ∙ shut))
+        (λ t. ap (λ b. is_some (cond (not b) (find (place_cmp held) q (keyed places)) None)) t
+        ∙ sym (ap (open_at fs) (sym (one_place held at q t)) ∙ open_there ∙ shut))
         (λ t. ap (λ b. is_some (cond (not b) (find (place_cmp held) q (keyed places)) None)) t ∙ h.exact q
         ∙ sym (ap (λ s. open_at s q) is ∙ ap (passes_in not_gone) (set_beside held at q y (λ k. other_place held at q t (sym k)))));
     count = let a = counted in let b = ap as_number shut in let c = ap as_number opens in let d = h.count in omega (arith, a, b, c, d, n);
@@ -171,11 +178,13 @@ module _ (held fs : List Side) (at : ℕ) (y : Side) (places : List ℕ) (is : f
 pub no_more : (held : List Side) (places : List ℕ) → AreIndexed held places → length places ≤ length held
 no_more held places h = let a = count_by-le-length is_open held in let b = h.count in omega (arith, a, b)
 
-pub fewer : (held : List Side) (at : ℕ) (y : Side) (places : List ℕ) → AreIndexed held places → at < length held → open_at held at ≡ false → length places < length held
+pub fewer : (held : List Side) (at : ℕ) (y : Side) (places : List ℕ) → AreIndexed held places → at < length held
+    → open_at held at ≡ false → length places < length held
 fewer held at y places h l shut =
     let opened : Side = record y { standing = Up 0 } in
     let a = sum_by-set (λ s. as_number (is_open s)) held at opened y l in
-    let b : as_number (is_open (get_or held at y)) ≡ 0 = ap (λ o. as_number (passes_in not_gone o)) (sym (slice_get-get_or held at y l)) ∙ ap as_number shut in
+    let b : as_number (is_open (get_or held at y)) ≡ 0 =
+    ap (λ o. as_number (passes_in not_gone o)) (sym (slice_get-get_or held at y l)) ∙ ap as_number shut in
     let c = count_by-le-length is_open (set held at opened) in
     let d = length-set held at opened in
     let e = h.count in
@@ -205,11 +214,16 @@ module _ (held : List Side) (at : ℕ) (was : Bool) (places : List ℕ) (g : IsC
     pub changed_stays : is ≡ was → AreIndexed held places
     changed_stays same = still_indexed g.before held at g.side places g.is g.within g.peer g.index (g.stood ∙ sym same ∙ e ∙ changed_side d)
 
-    pub changed_put : (new : List ℕ) → was ≡ false → is ≡ true → keyed new ≡ put (place_cmp held) at tt (keyed places) → length new ≡ length places + 1 → AreIndexed held new
-    changed_put new shut opens = put_indexed g.before held at g.side places g.is g.within g.peer g.index new (g.stood ∙ shut) (sym (changed_side d) ∙ sym e ∙ opens)
+    pub changed_put : (new : List ℕ) → was ≡ false → is ≡ true → keyed new ≡ put (place_cmp held) at tt (keyed places)
+        → length new ≡ length places + 1 → AreIndexed held new
+    changed_put new shut opens =
+        put_indexed g.before held at g.side places g.is g.within g.peer g.index new (g.stood ∙ shut) (sym (changed_side d) ∙ sym e ∙ opens)
 
-    pub changed_take : (new : List ℕ) → was ≡ true → is ≡ false → keyed new ≡ without (place_cmp held) at (keyed places) → length new + 1 ≡ length places → AreIndexed held new
-    changed_take new opens shut = taken_indexed g.before held at g.side places g.is g.within g.peer g.index new (g.stood ∙ opens) (sym (changed_side d) ∙ sym e ∙ shut)
+    pub changed_take : (new : List ℕ) → was ≡ true → is ≡ false → keyed new ≡ without (place_cmp held) at (keyed places)
+        → length new + 1 ≡ length places → AreIndexed held new
+    changed_take new opens shut =
+        taken_indexed g.before held at g.side places g.is g.within g.peer g.index new (g.stood ∙ opens)
+        (sym (changed_side d) ∙ sym e ∙ shut)
 
 -- ---- a side came in at a place
 
@@ -253,7 +267,10 @@ module _ (held : List Side) (at : ℕ) (y : Side) (l : at ≤ length held) where
   ]
 
   order_up : (i j : ℕ) → place_cmp grown (up i) (up j) ≡ place_cmp held i j
-  order_up i j = λ k. ordering_then (peer_cmp (option_map (λ (s : Side). s.peer) (get_up i k)) (option_map (λ (s : Side). s.peer) (get_up j k))) (cmp_up at i j k)
+  order_up i j =
+      λ k. ordering_then
+      (peer_cmp (option_map (λ (s : Side). s.peer) (get_up i k)) (option_map (λ (s : Side). s.peer) (get_up j k)))
+      (cmp_up at i j k)
 
   below_up : (x : ℕ) (xs : List ℕ) → below_all (place_cmp grown) (up x) (keyed (map up xs)) ≡ below_all (place_cmp held) x (keyed xs)
   below_up x [] = refl
@@ -284,8 +301,11 @@ module _ (held : List Side) (at : ℕ) (y : Side) (l : at ≤ length held) where
     right q = by_test _ (nat_lt q at)
         (λ t. subst IsRight (ap (λ b. cond b q (q + 1)) t) (moved_right q))
         (λ t. by_test _ (q == at)
-        (λ e. let same : at ≡ q = grind (arith, tests) in subst IsRight same (ap is_some (find_new places) ∙ sym (ap (passes_in not_gone) (insert_there held at y l) ∙ shut)))
-        (λ e. let back : moved_up at (q - 1) ≡ q = elim (moves at (q - 1)) [ inl p ↦ absurd (grind (arith, tests)) | inr p ↦ p.1 ∙ grind (arith, tests) ] in subst IsRight back (moved_right (q - 1))))
+        (λ e. let same : at ≡ q = grind (arith, tests) in
+        subst IsRight same (ap is_some (find_new places) ∙ sym (ap (passes_in not_gone) (insert_there held at y l) ∙ shut)))
+        (λ e. let back : moved_up at (q - 1)
+        ≡ q = elim (moves at (q - 1)) [ inl p ↦ absurd (grind (arith, tests)) | inr p ↦ p.1 ∙ grind (arith, tests) ] in
+        subst IsRight back (moved_right (q - 1))))
 
     pub grown_indexed : AreIndexed grown (map up places)
     grown_indexed = record {
@@ -305,7 +325,8 @@ pub none_indexed : AreIndexed [] []
 none_indexed = record { rising = refl; exact = λ q. refl; count = refl }
 
 pub gone_indexed : (held fs : List Side) → fs ≡ map gone held → AreIndexed fs []
-gone_indexed held fs e = subst (λ l. AreIndexed l []) (sym e) (record { rising = refl; exact = λ q. sym (shut held q); count = sym (none held) })
+gone_indexed held fs e =
+    subst (λ l. AreIndexed l []) (sym e) (record { rising = refl; exact = λ q. sym (shut held q); count = sym (none held) })
   where
     shut : (held : List Side) (q : ℕ) → open_at (map gone held) q ≡ false
     shut [] q = refl
@@ -341,12 +362,12 @@ keyed_insert (x ∷ xs) (suc i) n = ap (λ l. (x, tt) ∷ l) (keyed_insert xs i 
 
 keyed_remove : (xs : List ℕ) (i : ℕ) → keyed (remove xs i) ≡ remove (keyed xs) i
 keyed_remove [] zero = refl
-keyed_remove (x ∷ xs) zero = refl
-keyed_remove [] (suc i) = refl
 keyed_remove (x ∷ xs) (suc i) = ap (λ l. (x, tt) ∷ l) (keyed_remove xs i)
+keyed_remove _ _ = refl
 
 module _ (held : List Side) (places : List ℕ) (at : ℕ) (s : is_sorted (place_cmp held) (keyed places) ≡ true) where
-  pub searched_places : (r : Result ℕ ℕ) → IsSearchInRange r (length places) → IsBinarySearchResult (λ place. place_cmp held place at) places r
+  pub searched_places : (r : Result ℕ ℕ) → IsSearchInRange r (length places)
+      → IsBinarySearchResult (λ place. place_cmp held place at) places r
       → record { found : IfOk r (IsFoundAt (place_cmp held) (keyed places) at); gap : IfErr r (IsGapAt (place_cmp held) (keyed places) at) }
   searched_places (Ok i) bound h =
       searched (place_total held) (keyed places) at (Ok i) (holds _ s) (subst (λ n. i < n) (sym (keyed_length places)) bound)
@@ -355,11 +376,15 @@ module _ (held : List Side) (places : List ℕ) (at : ℕ) (s : is_sorted (place
       searched (place_total held) (keyed places) at (Err i) (holds _ s) (subst (λ n. i ≤ n) (sym (keyed_length places)) bound)
       (λ rise.
       let parted = h (λ a b d le l.
-      subst (λ (y : Key). ordering_index (place_cmp held (get_or places a d) at) ≤ ordering_index (place_cmp held y.0 at)) (key_at places b d)
-      (subst (λ (x : Key). ordering_index (place_cmp held x.0 at) ≤ ordering_index (place_cmp held (get_or (keyed places) b (d, tt)).0 at)) (key_at places a d)
+      subst (λ (y : Key). ordering_index (place_cmp held (get_or places a d) at) ≤ ordering_index (place_cmp held y.0 at))
+      (key_at places b d)
+      (subst
+      (λ (x : Key). ordering_index (place_cmp held x.0 at) ≤ ordering_index (place_cmp held (get_or (keyed places) b (d, tt)).0 at))
+      (key_at places a d)
       (rise a b (d, tt) le (subst (λ n. b < n) (sym (keyed_length places)) l)))) in (
         λ k d le lt. at_key (λ n. place_cmp held n at ≡ Less) places k d (omega (arith, bound)) (λ e. parted.0 k e le lt),
-        λ k d le lt. let l : k < length places = subst (λ n. k < n) (keyed_length places) lt in at_key (λ n. place_cmp held n at ≡ Greater) places k d l (λ e. parted.1 k e le l),
+        λ k d le lt. let l : k < length places = subst (λ n. k < n) (keyed_length places) lt in
+            at_key (λ n. place_cmp held n at ≡ Greater) places k d l (λ e. parted.1 k e le l),
       ))
 
   module _ (i : ℕ) (g : IsGapAt (place_cmp held) (keyed places) at i) where
@@ -384,12 +409,14 @@ module _ (held : List Side) (places : List ℕ) (at : ℕ) (s : is_sorted (place
 
 -- ---- each is the place of a side
 
-pub has_at : (cmp : ℕ → ℕ → Ordering) → ((q : ℕ) → cmp q q ≡ Equal) → (xs : List ℕ) (k d : ℕ) → k < length xs → is_some (find cmp (get_or xs k d) (keyed xs)) ≡ true
+pub has_at : (cmp : ℕ → ℕ → Ordering) → ((q : ℕ) → cmp q q ≡ Equal) → (xs : List ℕ) (k d : ℕ) → k < length xs
+    → is_some (find cmp (get_or xs k d) (keyed xs)) ≡ true
 has_at cmp tied [] k d l = absurd (omega arith)
 has_at cmp tied (x ∷ xs) zero d l = ap (λ o. is_some (cond (is_eq o) (Some tt) (find cmp x (keyed xs)))) (tied x)
 has_at cmp tied (x ∷ xs) (suc k) d l = go (eq_by_cmp cmp (get_or xs k d) x) (has_at cmp tied xs k d (omega arith))
   where
-    go : (b : Bool) → is_some (find cmp (get_or xs k d) (keyed xs)) ≡ true → is_some (cond b (Some tt) (find cmp (get_or xs k d) (keyed xs))) ≡ true
+    go : (b : Bool) → is_some (find cmp (get_or xs k d) (keyed xs)) ≡ true
+        → is_some (cond b (Some tt) (find cmp (get_or xs k d) (keyed xs))) ≡ true
     go true h = refl
     go false h = h
 
@@ -405,7 +432,9 @@ pub has_rest : (held : List Side) (y q : ℕ) (ys : List ℕ) → eq_by_cmp (pla
 has_rest held y q ys e h = sym (ap (λ b. is_some (cond b (Some tt) (find (place_cmp held) q (keyed ys)))) e) ∙ h
 
 pub all_within : (held : List Side) (places : List ℕ) → AreIndexed held places → All (λ place. place < length held) places
-all_within held places h k d l = open_within held (get_or places k d) (sym (h.exact (get_or places k d)) ∙ has_at (place_cmp held) (tied_itself (place_total held)) places k d l)
+all_within held places h k d l =
+    open_within held (get_or places k d)
+    (sym (h.exact (get_or places k d)) ∙ has_at (place_cmp held) (tied_itself (place_total held)) places k d l)
 
 pub grown_within : (held : List Side) (at : ℕ) (places : List ℕ) → IsGrown held at places → All (λ place. place < length held) places
 grown_within held at places g k d l =
@@ -420,7 +449,8 @@ set_inserted xs zero y z l = refl
 set_inserted [] (suc at) y z l = absurd (omega arith)
 set_inserted (x ∷ xs) (suc at) y z l = ap (λ l. x ∷ l) (set_inserted xs at y z (omega arith))
 
-pub grown_changed : (held : List Side) (at : ℕ) (places : List ℕ) → IsGrown held at places → IsChanged held at false (map (moved_up at) places)
+pub grown_changed : (held : List Side) (at : ℕ) (places : List ℕ) → IsGrown held at places
+    → IsChanged held at false (map (moved_up at) places)
 grown_changed held at places g =
     let there = insert_there g.others at (gone g.new) g.within in
     record {

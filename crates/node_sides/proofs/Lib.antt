@@ -1,4 +1,5 @@
 pub mod Placed
+pub mod Stood
 pub mod Routing
 pub mod Ended
 pub mod Lost

@@ -1,16 +1,18 @@
 -- Where a side lies, and what an edit there makes of the map.
-use Rattle.std.proofs.Common.{◌≡◌, ℕ, zero, suc, ◌<◌, ◌≤◌, Bool, true, false, cond, ◌&&◌, T, List, [], ◌∷◌, length, get_or, set, None, Some, Result, Ok, Err, IfOk, IfErr, OnOk, IsOk, refl, sym, ap, subst, ◌∙◌, arith}
+use Rattle.std.proofs.Common.{◌≡◌, ℕ, zero, suc, ◌<◌, ◌≤◌, Bool, true, false, cond, T, List, [], ◌∷◌, length, get_or, set}
+use Rattle.std.proofs.Common.{None, Some, Result, Ok, Err, IfOk, IfErr, OnOk, IsOk, refl, sym, ap, subst, ◌∙◌, arith}
 use Rattle.std.specs.List.{insert}
 use Rattle.std.proofs.lemmas.List.{map-set}
+use Rattle.std.proofs.lemmas.Bool.{and_parts}
 use Rattle.std.specs.List.Sorted.{IsSearchInRange, IsBinarySearchResult}
 use Rattle.std.specs.declared.cmp.Ordering.TheVariants.{Less, Equal, Greater}
 use Rattle.std.specs.Ordering.{ordering_index}
 use Rattle.std.specs.Result.{is_ok}
 use Rattle.std.specs.FinMap as fm
-use Rattle.std.specs.FinMap.{FinMap}
+use Rattle.std.specs.FinMap.{FinMap, find, put, is_sorted}
 use Rattle.conn_core.specs.declared.standing.Standing.{Standing}
 use Rattle.node_sides.specs.Changes.{stood, stood_at}
-use Rattle.std.specs.FinMap.{find, put, is_sorted}
+use Rattle.std.specs.Cmp.Derive.{both_true}
 use Rattle.conn_core.specs.declared.side.Side.{Side}
 use Rattle.dist_model.proofs.Keys.{trunk_exact, trunk_total}
 use Rattle.dist_model.specs.Sides.{TrunkSide}
@@ -46,12 +48,14 @@ entry_at [] i d = refl
 entry_at (x ∷ xs) zero d = refl
 entry_at (x ∷ xs) (suc i) d = entry_at xs i d
 
-at_entry : (P : Entry → Type 0) (held : List Side) (i : ℕ) (d : Entry) → i < length held → ((e : Side) → P (entry_of (get_or held i e))) → P (get_or (entries_of held) i d)
+at_entry : (P : Entry → Type 0) (held : List Side) (i : ℕ) (d : Entry) → i < length held
+    → ((e : Side) → P (entry_of (get_or held i e))) → P (get_or (entries_of held) i d)
 at_entry P [] i d l h = absurd (omega arith)
 at_entry P (x ∷ xs) zero d l h = h x
 at_entry P (x ∷ xs) (suc i) d l h = at_entry P xs i d (omega arith) h
 
-pub searched_sides : (held : List Side) (q : TrunkId) (r : Result ℕ ℕ) → IsSorted held → IsSearchInRange r (length held) → IsBinarySearchResult (λ s. trunk_cmp s.trunk q) held r
+pub searched_sides : (held : List Side) (q : TrunkId) (r : Result ℕ ℕ) → IsSorted held → IsSearchInRange r (length held)
+    → IsBinarySearchResult (λ s. trunk_cmp s.trunk q) held r
     → record { found : IfOk r (IsFoundAt trunk_cmp (entries_of held) q); gap : IfErr r (IsGapAt trunk_cmp (entries_of held) q) }
 searched_sides held q (Ok at) s bound h =
     searched trunk_total (entries_of held) q (Ok at) (holds _ s) (subst (λ n. at < n) (sym (entries_length held)) bound)
@@ -61,10 +65,13 @@ searched_sides held q (Err at) s bound h =
     (λ rise.
     let parted = h (λ i j d le l.
     subst (λ (b : Entry). ordering_index (trunk_cmp (get_or held i d).trunk q) ≤ ordering_index (trunk_cmp b.0 q)) (entry_at held j d)
-    (subst (λ (a : Entry). ordering_index (trunk_cmp a.0 q) ≤ ordering_index (trunk_cmp (get_or (entries_of held) j (entry_of d)).0 q)) (entry_at held i d)
+    (subst
+    (λ (a : Entry). ordering_index (trunk_cmp a.0 q) ≤ ordering_index (trunk_cmp (get_or (entries_of held) j (entry_of d)).0 q))
+    (entry_at held i d)
     (rise i j (entry_of d) le (subst (λ n. j < n) (sym (entries_length held)) l)))) in (
       λ k d le lt. at_entry (λ e. trunk_cmp e.0 q ≡ Less) held k d (omega (arith, bound)) (λ e. parted.0 k e le lt),
-      λ k d le lt. let l : k < length held = subst (λ n. k < n) (entries_length held) lt in at_entry (λ e. trunk_cmp e.0 q ≡ Greater) held k d l (λ e. parted.1 k e le l),
+      λ k d le lt. let l : k < length held = subst (λ n. k < n) (entries_length held) lt in
+          at_entry (λ e. trunk_cmp e.0 q ≡ Greater) held k d l (λ e. parted.1 k e le l),
     ))
 
 -- ---- what a place holds
@@ -80,7 +87,8 @@ place_found held q at h = subst (λ n. at < n) (entries_length held) (found_in_r
 pub place_gap : (held : List Side) (q : TrunkId) (at : ℕ) → IsGapAt trunk_cmp (entries_of held) q at → at ≤ length held
 place_gap held q at h = subst (λ n. at ≤ n) (entries_length held) (gap_in_range trunk_total (entries_of held) q at h)
 
-module _ (held : List Side) (q : TrunkId) (at : ℕ) (x : Side) (is : x ≡ get_or held at x) (h : IsFoundAt trunk_cmp (entries_of held) q at) where
+module _ (held : List Side) (q : TrunkId) (at : ℕ) (x : Side) (is : x ≡ get_or held at x)
+    (h : IsFoundAt trunk_cmp (entries_of held) q at) where
   here : get_or (entries_of held) at (entry_of x) ≡ entry_of x
   here = entry_at held at x ∙ ap entry_of (sym is)
 
@@ -100,7 +108,8 @@ entries_insert held zero y = refl
 entries_insert [] (suc at) y = refl
 entries_insert (x ∷ xs) (suc at) y = ap (λ l. entry_of x ∷ l) (entries_insert xs at y)
 
-pub insert_puts : (held : List Side) (at : ℕ) (y : Side) → IsGapAt trunk_cmp (entries_of held) y.trunk at → entries_of (insert held at y) ≡ put trunk_cmp y.trunk (side_of y) (entries_of held)
+pub insert_puts : (held : List Side) (at : ℕ) (y : Side) → IsGapAt trunk_cmp (entries_of held) y.trunk at
+    → entries_of (insert held at y) ≡ put trunk_cmp y.trunk (side_of y) (entries_of held)
 insert_puts held at y h = entries_insert held at y ∙ sym (put_gap trunk_total (entries_of held) y.trunk (side_of y) at h)
 
 -- ---- the map
@@ -113,7 +122,8 @@ pub entries_side : (held : List Side) → IsSorted held → fm.entries (sides_in
 unfolding sides_in
 entries_side held s = fm.entries-from_sorted trunk_cmp (entries_of held) (holds _ s)
 
-module _ (held fs : List Side) (q : TrunkId) (v : TrunkSide) (s : IsSorted held) (e : entries_of fs ≡ put trunk_cmp q v (entries_of held)) where
+module _ (held fs : List Side) (q : TrunkId) (v : TrunkSide) (s : IsSorted held)
+    (e : entries_of fs ≡ put trunk_cmp q v (entries_of held)) where
   pub put_sides : sides_in fs ≡ fm.insert (sides_in held) q v
   unfolding sides_in
   put_sides = ap fm.from_sorted e ∙ map_put trunk_total q v (entries_of held) (holds _ s)
@@ -123,45 +133,41 @@ module _ (held fs : List Side) (q : TrunkId) (v : TrunkSide) (s : IsSorted held)
 
 -- ---- each is settled
 
-and_true : (a b : Bool) → a ≡ true → b ≡ true → (a && b) ≡ true
-and_true a b h k = ap (λ x. x && b) h ∙ k
-
-and_both : (a b : Bool) → (a && b) ≡ true → (a ≡ true) × (b ≡ true)
-and_both true b h = (refl, h)
-and_both false b h = cc
-
-pub settled_at : (held : List Side) (at : ℕ) (x : Side) → at < length held → x ≡ get_or held at x → all_settled held ≡ true → is_settled x.standing ≡ true
+pub settled_at : (held : List Side) (at : ℕ) (x : Side) → at < length held → x ≡ get_or held at x → all_settled held ≡ true
+    → is_settled x.standing ≡ true
 settled_at held at x l is h = ap (λ (s : Side). is_settled s.standing) is ∙ go held at x l h
   where
-    go : (held : List Side) (at : ℕ) (x : Side) → at < length held → all_settled held ≡ true → is_settled ((get_or held at x).standing) ≡ true
+    go : (held : List Side) (at : ℕ) (x : Side) → at < length held → all_settled held ≡ true
+        → is_settled ((get_or held at x).standing) ≡ true
     go [] at x l h = absurd (omega arith)
-    go (y ∷ ys) zero x l h = (and_both _ _ h).0
-    go (y ∷ ys) (suc at) x l h = go ys at x (omega arith) (and_both (is_settled y.standing) _ h).1
+    go (y ∷ ys) zero x l h = (and_parts _ _ h).0
+    go (y ∷ ys) (suc at) x l h = go ys at x (omega arith) (and_parts (is_settled y.standing) _ h).1
 
-pub settled_set : (held : List Side) (at : ℕ) (x : Side) → is_settled x.standing ≡ true → all_settled held ≡ true → all_settled (set held at x) ≡ true
+pub settled_set : (held : List Side) (at : ℕ) (x : Side) → is_settled x.standing ≡ true → all_settled held ≡ true
+    → all_settled (set held at x) ≡ true
 settled_set [] at x s h = refl
-settled_set (y ∷ ys) zero x s h = and_true _ _ s (and_both (is_settled y.standing) _ h).1
-settled_set (y ∷ ys) (suc at) x s h = let t = and_both (is_settled y.standing) _ h in and_true _ _ t.0 (settled_set ys at x s t.1)
+settled_set (y ∷ ys) zero x s h = both_true s (and_parts (is_settled y.standing) _ h).1
+settled_set (y ∷ ys) (suc at) x s h = let t = and_parts (is_settled y.standing) _ h in both_true t.0 (settled_set ys at x s t.1)
 
-pub settled_insert : (held : List Side) (at : ℕ) (x : Side) → is_settled x.standing ≡ true → all_settled held ≡ true → all_settled (insert held at x) ≡ true
-settled_insert held zero x s h = and_true _ _ s h
-settled_insert [] (suc at) x s h = and_true _ _ s refl
-settled_insert (y ∷ ys) (suc at) x s h = let t = and_both (is_settled y.standing) _ h in and_true _ _ t.0 (settled_insert ys at x s t.1)
+pub settled_insert : (held : List Side) (at : ℕ) (x : Side) → is_settled x.standing ≡ true → all_settled held ≡ true
+    → all_settled (insert held at x) ≡ true
+settled_insert held zero x s h = both_true s h
+settled_insert [] (suc at) x s h = both_true s refl
+settled_insert (y ∷ ys) (suc at) x s h = let t = and_parts (is_settled y.standing) _ h in both_true t.0 (settled_insert ys at x s t.1)
 
 pub no_sides : sides_in [] ≡ fm.empty
 unfolding sides_in
 no_sides = fm.empty_of_len _ (fm.len-entries _ ∙ ap length (fm.entries-from_sorted trunk_cmp [] tt))
 
-pub none_found : (held : List Side) (q : TrunkId) (at : ℕ) → IsSorted held → IsGapAt trunk_cmp (entries_of held) q at → find trunk_cmp q (entries_of held) ≡ None
+pub none_found : (held : List Side) (q : TrunkId) (at : ℕ) → IsSorted held → IsGapAt trunk_cmp (entries_of held) q at
+    → find trunk_cmp q (entries_of held) ≡ None
 none_found held q at s h = finds_none trunk_total (entries_of held) q at (holds _ s) h
 
 pub no_some : {A : Type 0} (x : A) → Some x ≡ None → ⊥
 no_some x h = cc
 
-pub same_some : {A : Type 0} (x y : A) → Some x ≡ Some y → x ≡ y
-same_some x y h = cc
-
-pub not_there : (held : List Side) (q : TrunkId) (at : ℕ) → IsFoundAt trunk_cmp (entries_of held) q at → find trunk_cmp q (entries_of held) ≡ None → ⊥
+pub not_there : (held : List Side) (q : TrunkId) (at : ℕ) → IsFoundAt trunk_cmp (entries_of held) q at
+    → find trunk_cmp q (entries_of held) ≡ None → ⊥
 not_there [] q at h n = absurd h
 not_there (x ∷ xs) q at h n = no_some _ (sym (finds trunk_total (entries_of (x ∷ xs)) q at (entry_of x) h) ∙ n)
 
@@ -177,7 +183,8 @@ done (Err v) P h p = cc
 
 -- ---- a side stands otherwise
 
-pub stood_there : (m : FinMap trunk_cmp TrunkSide) (q : TrunkId) (standing : Standing) (x : TrunkSide) → fm.get m q ≡ Some x → stood m q standing ≡ fm.insert m q (standing_side x.peer standing)
+pub stood_there : (m : FinMap trunk_cmp TrunkSide) (q : TrunkId) (standing : Standing) (x : TrunkSide) → fm.get m q ≡ Some x
+    → stood m q standing ≡ fm.insert m q (standing_side x.peer standing)
 stood_there m q standing x h = ap (stood_at m q standing) h
 
 pub stood_none : (m : FinMap trunk_cmp TrunkSide) (q : TrunkId) (standing : Standing) → fm.get m q ≡ None → stood m q standing ≡ m

@@ -39,7 +39,8 @@ IsTowards peer side = option_map (λ (s : TrunkSide). s.peer) side ≡ Some peer
 
 -- but for this trunk none is up towards the peer
 abbrev pub NoOtherUp : FinMap trunk_cmp TrunkSide → TrunkId → Name → Type 0
-NoOtherUp sides trunk peer = (other : TrunkId) (side : TrunkSide) → fm.get sides other ≡ Some side → side.peer ≡ peer → is_up side.state ≡ true → other ≡ trunk
+NoOtherUp sides trunk peer =
+    (other : TrunkId) (side : TrunkSide) → fm.get sides other ≡ Some side → side.peer ≡ peer → is_up side.state ≡ true → other ≡ trunk
 
 abbrev pub SideFits : SideChange → Sides → Type 0
 SideFits (Adds side) it = (fm.get (sides it) side.trunk ≡ None) × IsDown side.standing × HasSideRoom 1 it

@@ -1,5 +1,6 @@
 -- The places of the sides that aren't gone, by the names of their peers.
-use Rattle.std.specs.Prelude.{◌≡◌, ℕ, Bool, true, false, not, List, [], ◌∷◌, map, length, set, Option, None, Some, is_some, count_by, nat_lt, if◌then◌else◌, ◌+◌, ◌<◌, ◌≤◌}
+use Rattle.std.specs.Prelude.{◌≡◌, ℕ, Bool, true, false, not, List, [], ◌∷◌, map, length, set, Option}
+use Rattle.std.specs.Prelude.{None, Some, is_some, count_by, nat_lt, if◌then◌else◌, ◌+◌, ◌<◌, ◌≤◌}
 use Rattle.std.specs.declared.cmp.Ordering.{Ordering}
 use Rattle.std.specs.FinMap.{find, is_sorted}
 use Rattle.std.specs.List.{All, Contains, insert, slice_get}

@@ -95,4 +95,5 @@ is_up_to peer None = false
 is_up_to peer (Some side) = same_name side.peer peer && is_up side.state
 
 abbrev pub AreRouted : List (Name × TrunkId) → List Side → Type 0
-AreRouted routes held = (peer : Name) (trunk : TrunkId) → leads_to trunk (find name_cmp peer routes) ≡ is_up_to peer (find trunk_cmp trunk (entries_of held))
+AreRouted routes held =
+    (peer : Name) (trunk : TrunkId) → leads_to trunk (find name_cmp peer routes) ≡ is_up_to peer (find trunk_cmp trunk (entries_of held))

@@ -1,12 +1,12 @@
 //! A signal about a monitor comes to the process that it names.
 ghost use Rattle.std.specs.Prelude.{◌≡◌, true, IfOk};
-ghost use Rattle.dist_model.specs.Links.{noproc};
 ghost use Rattle.dist_model.specs.Monitoring as monitoring;
 ghost use Rattle.dist_model.specs.Node as model;
 ghost use Rattle.dist_model.specs.Node.{Node as TheNode};
 ghost use Rattle.dist_model.specs.Work.{Work, post, put};
 ghost use Rattle.erl_control.specs.declared.signal.Signal.TheVariants as signal;
 ghost use Rattle.exit_core.specs.Messages.{down_term};
+ghost use Rattle.link_core.specs.News.{noproc};
 ghost use Rattle.monitor_core.specs.Monitors.{is_this, monitor_of};
 ghost use Rattle.node_plans.specs.Carried.{Carries, CarriesOut, IsBlank};
 ghost use Rattle.node_plans.specs.Plans.{told};

@@ -1,6 +1,8 @@
 -- Where a sweep begins, and the first link behind a place.
-use Rattle.std.proofs.Common.{◌≡◌, ℕ, ◌<◌, ◌≤◌, Bool, true, false, List, Option, None, Some, IfNone, IfSome, nat_lt, refl, sym, subst, arith}
+use Rattle.std.proofs.Common.{◌≡◌, ℕ, ◌<◌, ◌≤◌, Bool, true, false, List, Option, None}
+use Rattle.std.proofs.Common.{Some, IfNone, IfSome, nat_lt, refl, sym, subst, arith}
 use Rattle.std.proofs.lemmas.Bool.Decides.{nat_tests}
+use Rattle.std.proofs.lemmas.Bool.{both_ways}
 use Rattle.std.specs.FinMap as fm
 use Rattle.std.specs.Option.{option_map}
 use Rattle.std.specs.Ordering.{is_lt}
@@ -45,9 +47,6 @@ from_beginning node peer s b =
 
 -- ---- the first link of the processes behind one
 
-not_both : {A : Type 0} (b : Bool) → b ≡ true → b ≡ false → A
-not_both b h k = cc
-
 either : {A : Type 0} (id after : ℕ) → (id ≤ after → A) → (after < id → A) → A
 either {A} id after f g = go (nat_lt after id) refl
   where
@@ -61,18 +60,23 @@ either {A} id after f g = go (nat_lt after id) refl
     go true h = g (below h)
     go false h = f (above h)
 
-pub link_is : (m : Minted) (lives : List Life) (peer : Name) (after : ℕ) (r : Option FoundLink) → NoneLinkedUpTo peer after (ends_in m lives)
+pub link_is : (m : Minted) (lives : List Life) (peer : Name) (after : ℕ) (r : Option FoundLink)
+    → NoneLinkedUpTo peer after (ends_in m lives)
     → IfSome r (λ f. fm.get (ends_in m lives) (pid_of m f.id, f.partner.now) ≡ Some f.end)
     → IfSome r (λ f. same_name f.partner.now.node peer ≡ true)
-    → IfSome r (λ f. (p q : Pid) (e : End) → fm.get (ends_in m lives) (p, q) ≡ Some e → after < p.id → same_name q.node peer ≡ true → is_lt (pair_cmp (p, q) (pid_of m f.id, f.partner.now)) ≡ false)
+    → IfSome r (λ f. (p q : Pid) (e : End) → fm.get (ends_in m lives) (p, q) ≡ Some e → after < p.id
+    → same_name q.node peer ≡ true → is_lt (pair_cmp (p, q) (pid_of m f.id, f.partner.now)) ≡ false)
     → IfNone r ((p q : Pid) (e : End) → fm.get (ends_in m lives) (p, q) ≡ Some e → after < p.id → same_name q.node peer ≡ false)
     → option_map (link_entry m) r ≡ link_to peer (fm.entries (ends_in m lives))
 link_is m lives peer after None before found towards least none =
     sym (none_is pair_total pair_exact (λ pair end. same_name pair.1.node peer) (ends_in m lives)
     (λ pair e h. either pair.0.id after (before pair.0 pair.1 e h) (none pair.0 pair.1 e h)))
 link_is m lives peer after (Some f) before found towards least none =
-    sym (first_is pair_total pair_exact (λ pair end. same_name pair.1.node peer) (ends_in m lives) (pid_of m f.id, f.partner.now) f.end (record {
+    sym (first_is pair_total pair_exact (λ pair end. same_name pair.1.node peer) (ends_in m lives)
+    (pid_of m f.id, f.partner.now) f.end (record {
       held = found;
       passing = towards;
-      least = λ pair e h t. either pair.0.id after (λ l. not_both (same_name pair.1.node peer) t (before pair.0 pair.1 e h l)) (λ l. least pair.0 pair.1 e h l t);
+      least = λ pair e h t. either pair.0.id after
+          (λ l. absurd (both_ways (same_name pair.1.node peer) (before pair.0 pair.1 e h l) t))
+          (λ l. least pair.0 pair.1 e h l t);
     }))

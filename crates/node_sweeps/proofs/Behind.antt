@@ -27,7 +27,8 @@ module _ (m : Minted) (lives : List Life) (peer : Name) (link : FoundLink)
   abbrev NoneBehind : Type 0
   NoneBehind = (p q : Pid) (e : End) → fm.get (ends_in m lives) (p, q) ≡ Some e → link.id < p.id → same_name q.node peer ≡ false
 
-  pub parted_by : (r : Option FoundLink) (b : Bool) → b ≡ is_some r → IfSome r IsHeld → IfSome r IsTowards → IfSome r (λ f. link.id < f.id) → IfNone r NoneBehind
+  pub parted_by : (r : Option FoundLink) (b : Bool) → b ≡ is_some r → IfSome r IsHeld → IfSome r IsTowards
+      → IfSome r (λ f. link.id < f.id) → IfNone r NoneBehind
       → b ≡ has_link peer (parted (pid_of m link.id) link.partner.now (ends_in m lives))
   parted_by None b is held towards behind none = is ∙ sym (parted_none m lives peer link.id link.partner.now link.end first none)
   parted_by (Some f) b is held towards behind none =
@@ -38,17 +39,21 @@ module _ (m : Minted) (lives : List Life) (peer : Name) (link : FoundLink)
     is_left x = has_link peer (unlinked x link.partner.now (ends_in m lives))
 
     pub beside_by : (b : Bool) → b ≡ true
-        → (q : Pid) × (e : End) × (fm.get (ends_in m lives) (p, q) ≡ Some e) × (same_name q.node peer ≡ true) × (is_lt (pid_cmp link.partner.now q) ≡ true)
+        → (q : Pid) × (e : End) × (fm.get (ends_in m lives) (p, q) ≡ Some e) × (same_name q.node peer ≡ true)
+        × (is_lt (pid_cmp link.partner.now q) ≡ true)
         → b ≡ is_left p
     beside_by b is h =
         is ∙ sym (ap is_left same ∙ unlinked_beside m lives peer link.id link.partner.now link.end first h.0 h.1
         (ap (λ x. fm.get (ends_in m lives) (x, h.0)) (sym same) ∙ h.2) h.3 h.4)
 
-    pub behind_by : ((q : Pid) (e : End) → fm.get (ends_in m lives) (p, q) ≡ Some e → is_lt (pid_cmp link.partner.now q) ≡ true → same_name q.node peer ≡ false)
-        → (r : Option FoundLink) (b : Bool) → b ≡ is_some r → IfSome r IsHeld → IfSome r IsTowards → IfSome r (λ f. link.id < f.id) → IfNone r NoneBehind
+    pub behind_by : ((q : Pid) (e : End) → fm.get (ends_in m lives) (p, q) ≡ Some e
+        → is_lt (pid_cmp link.partner.now q) ≡ true → same_name q.node peer ≡ false)
+        → (r : Option FoundLink) (b : Bool) → b ≡ is_some r → IfSome r IsHeld → IfSome r IsTowards
+        → IfSome r (λ f. link.id < f.id) → IfNone r NoneBehind
         → b ≡ is_left p
     behind_by beside None b is held towards behind none =
         is ∙ sym (ap is_left same ∙ unlinked_none m lives peer link.id link.partner.now link.end first none
         (λ y f h l. beside y f (ap (λ x. fm.get (ends_in m lives) (x, y)) same ∙ h) l))
     behind_by beside (Some f) b is held towards behind none =
-        is ∙ sym (ap is_left same ∙ unlinked_behind m lives peer link.id link.partner.now link.end first f.id f.partner.now f.end behind held towards)
+        is ∙ sym (ap is_left same
+        ∙ unlinked_behind m lives peer link.id link.partner.now link.end first f.id f.partner.now f.end behind held towards)

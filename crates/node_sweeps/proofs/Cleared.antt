@@ -1,5 +1,6 @@
 -- A plan that carries a sweep out leaves the sides as they are.
 use Rattle.std.proofs.Common.{◌≡◌, ℕ, Bool, true, false, OnOk, Option, None, Some, Result, Ok, Err, refl, ap, subst, ◌∙◌}
+use Rattle.std.proofs.lemmas.Bool.{both_ways}
 use Rattle.std.specs.FinMap as fm
 use Rattle.std.specs.Option.{option_map, option_or}
 use Rattle.std.specs.Ordering.{is_lt}
@@ -36,7 +37,8 @@ on_done (Err e) x = tt
 
 -- ---- the process of the first link is living
 
-pub first_lives : (it : TheNode) (peer : Name) (id : ℕ) (q : Pid) (e : End) → link_to peer (fm.entries (seen it).ends) ≡ Some ((pid_of (seen it).mint id, q), e)
+pub first_lives : (it : TheNode) (peer : Name) (id : ℕ) (q : Pid) (e : End)
+    → link_to peer (fm.entries (seen it).ends) ≡ Some ((pid_of (seen it).mint id, q), e)
     → living (seen it) (pid_of (seen it).mint id) ≡ true
 first_lives it peer id q e h =
     let f = found pair_total pair_exact (λ pair end. same_name pair.1.node peer) (seen it).ends ((pid_of (seen it).mint id, q), e) h in
@@ -44,10 +46,8 @@ first_lives it peer id q e h =
 
 -- ---- no monitor before the first is towards the peer
 
-not_both : {A : Type 0} (b : Bool) → b ≡ true → b ≡ false → A
-not_both b h k = cc
-
-pub watched_from : (peer : Name) (m : MonitorMap) (r : Reference) (w : Monitor) → watch_to peer (fm.entries m) ≡ Some (r, w) → NoneWatchedBefore peer (Some r) m
+pub watched_from : (peer : Name) (m : MonitorMap) (r : Reference) (w : Monitor) → watch_to peer (fm.entries m) ≡ Some (r, w)
+    → NoneWatchedBefore peer (Some r) m
 watched_from peer m r w h other its g less = go (same_name its.target.node peer) refl
   where
     f : Found reference_cmp_total reference_cmp_exact (λ key value. same_name value.target.node peer) m r w
@@ -55,9 +55,10 @@ watched_from peer m r w h other its g less = go (same_name its.target.node peer)
 
     go : (b : Bool) → same_name its.target.node peer ≡ b → b ≡ false
     go false t = refl
-    go true t = not_both (is_lt (reference_cmp other r)) (ap is_lt less) (f.least other its g t)
+    go true t = absurd (both_ways (is_lt (reference_cmp other r)) (f.least other its g t) (ap is_lt less))
 
-pub owned_from : (peer : Name) (m : MonitorMap) (r : Reference) (w : Monitor) → registered_by peer (fm.entries m) ≡ Some (r, w) → NoneOwnedBefore peer (Some r) m
+pub owned_from : (peer : Name) (m : MonitorMap) (r : Reference) (w : Monitor)
+    → registered_by peer (fm.entries m) ≡ Some (r, w) → NoneOwnedBefore peer (Some r) m
 owned_from peer m r w h other its g less = go (same_name its.owner.node peer) refl
   where
     f : Found reference_cmp_total reference_cmp_exact (λ key value. same_name value.owner.node peer) m r w
@@ -65,16 +66,19 @@ owned_from peer m r w h other its g less = go (same_name its.owner.node peer) re
 
     go : (b : Bool) → same_name its.owner.node peer ≡ b → b ≡ false
     go false t = refl
-    go true t = not_both (is_lt (reference_cmp other r)) (ap is_lt less) (f.least other its g t)
+    go true t = absurd (both_ways (is_lt (reference_cmp other r)) (f.least other its g t) (ap is_lt less))
 
 -- where the least record is one of those that others have, none of these is before it
-pub registered_from : (peer : Name) (m : Node) (r : Reference) → least_record peer m ≡ Some (OfRegistration r) → NoneOwnedBefore peer (Some r) m.registered
-registered_from peer m r h = go (link_to peer (fm.entries m.ends)) (watch_to peer (fm.entries m.watches)) (registered_by peer (fm.entries m.registered)) refl h
+pub registered_from : (peer : Name) (m : Node) (r : Reference) → least_record peer m ≡ Some (OfRegistration r)
+    → NoneOwnedBefore peer (Some r) m.registered
+registered_from peer m r h =
+    go (link_to peer (fm.entries m.ends)) (watch_to peer (fm.entries m.watches)) (registered_by peer (fm.entries m.registered)) refl h
   where
     go : (l : Option ((Pid × Pid) × End)) (w k : Option (Reference × Monitor)) → registered_by peer (fm.entries m.registered) ≡ k
-        → option_or (option_map (λ (e : (Pid × Pid) × End). OfLink e.0.0 e.0.1 e.1) l) (option_or (option_map (λ (e : Reference × Monitor). OfWatch e.0 e.1) w) (option_map (λ (e : Reference × Monitor). OfRegistration e.0) k)) ≡ Some (OfRegistration r)
+        → option_or (option_map (λ (e : (Pid × Pid) × End). OfLink e.0.0 e.0.1 e.1) l) (option_or
+        (option_map (λ (e : Reference × Monitor). OfWatch e.0 e.1) w)
+        (option_map (λ (e : Reference × Monitor). OfRegistration e.0) k)) ≡ Some (OfRegistration r)
         → NoneOwnedBefore peer (Some r) m.registered
-    go (Some l) w k i h = cc
-    go None (Some w) k i h = cc
-    go None None None i h = cc
-    go None None (Some e) i h = let same : e.0 ≡ r = cc in subst (λ x. NoneOwnedBefore peer (Some x) m.registered) same (owned_from peer m.registered e.0 e.1 i)
+    go None None (Some e) i h =
+        let same : e.0 ≡ r = cc in subst (λ x. NoneOwnedBefore peer (Some x) m.registered) same (owned_from peer m.registered e.0 e.1 i)
+    go _ _ _ i h = cc

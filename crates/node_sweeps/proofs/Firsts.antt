@@ -1,5 +1,7 @@
 -- The first entry of a map that passes, by look-ups.
 use Rattle.std.proofs.Common.{◌≡◌, Bool, true, false, Option, None, Some, refl, sym, ap, ◌∙◌}
+use Rattle.std.proofs.lemmas.Option.{same_Some}
+use Rattle.std.proofs.lemmas.Bool.{both_ways}
 use Rattle.std.specs.declared.cmp.Ordering.{Ordering}
 use Rattle.std.specs.declared.cmp.Ordering.TheVariants.{Less, Equal, Greater}
 use Rattle.std.specs.Cmp.{IsTotalOrder}
@@ -7,14 +9,12 @@ use Rattle.std.specs.FinMap as fm
 use Rattle.std.specs.FinMap.{FinMap, IsAntisymmetric}
 use Rattle.std.specs.Option.{is_some}
 use Rattle.std.specs.Ordering.{is_lt, ordering_reverse}
-use Rattle.dist_model.proofs.Routes.{some_same}
+use Rattle.node_tables.proofs.Truths.{not_less}
 use Rattle.sorted_map.specs.Entries.{first_where}
 use Rattle.sorted_map.specs.First.{first_held, first_least, first_none, first_passes}
 
-not_both : {A : Type 0} (b : Bool) → b ≡ true → b ≡ false → A
-not_both b h k = cc
-
-module _ {K V : Type 0} {R : K → K → Ordering} (order : IsTotalOrder R) (exact : IsAntisymmetric R) (passes : K → V → Bool) (m : FinMap R V) where
+module _ {K V : Type 0} {R : K → K → Ordering} (order : IsTotalOrder R) (exact : IsAntisymmetric R) (passes : K → V → Bool)
+    (m : FinMap R V) where
   -- where none is less, it is the first
   abbrev pub IsLeast : K → Type 0
   IsLeast k = (key : K) (value : V) → fm.get m key ≡ Some value → passes key value ≡ true → is_lt (R key k) ≡ false
@@ -27,16 +27,12 @@ module _ {K V : Type 0} {R : K → K → Ordering} (order : IsTotalOrder R) (exa
     pub passing : passes k v ≡ true
     pub least : IsLeast k
 
-  not_less : (a : Ordering) → (a ≡ Less → ⊥) → is_lt a ≡ false
-  not_less Less h = absurd (h refl)
-  not_less Equal h = refl
-  not_less Greater h = refl
-
   pub found : (e : K × V) → first_where passes (fm.entries m) ≡ Some e → Found e.0 e.1
   found e h = record {
     held = fm.get-entries m e.0 ∙ first_held order exact passes (fm.entries m) e (fm.entries_sorted m) h;
     passing = first_passes order exact passes (fm.entries m) e h;
-    least = λ key value g p. not_less (R key e.0) (first_least order exact passes (fm.entries m) e key value (fm.entries_sorted m) h (sym (fm.get-entries m key) ∙ g) p);
+    least = λ key value g p. not_less (R key e.0)
+        (first_least order exact passes (fm.entries m) e key value (fm.entries_sorted m) h (sym (fm.get-entries m key) ∙ g) p);
   }
 
   pub none_found : first_where passes (fm.entries m) ≡ None → NonePasses
@@ -46,31 +42,32 @@ module _ {K V : Type 0} {R : K → K → Ordering} (order : IsTotalOrder R) (exa
   first_is k v f = go (first_where passes (fm.entries m)) refl
     where
       go : (o : Option (K × V)) → first_where passes (fm.entries m) ≡ o → o ≡ Some (k, v)
-      go None h = not_both (passes k v) f.passing (none_found h k v f.held)
+      go None h = absurd (both_ways (passes k v) (none_found h k v f.held) f.passing)
       go (Some e) h = same (R e.0 k) refl
         where
           g : Found e.0 e.1
           g = found e h
 
           both : e.0 ≡ k → Some e ≡ Some (k, v)
-          both x = let y : e.1 ≡ v = some_same e.1 v (sym g.held ∙ ap (fm.get m) x ∙ f.held) in λ i. Some (x i, y i)
+          both x = let y : e.1 ≡ v = same_Some e.1 v (sym g.held ∙ ap (fm.get m) x ∙ f.held) in λ i. Some (x i, y i)
 
           same : (a : Ordering) → R e.0 k ≡ a → Some e ≡ Some (k, v)
-          same Less h = not_both (is_lt (R e.0 k)) (ap is_lt h) (f.least e.0 e.1 g.held g.passing)
+          same Less h = absurd (both_ways (is_lt (R e.0 k)) (f.least e.0 e.1 g.held g.passing) (ap is_lt h))
           same Equal h = both (exact e.0 k h)
-          same Greater h = not_both (is_lt (R k e.0)) (ap is_lt (order.antisymm k e.0 ∙ ap ordering_reverse h)) (g.least k v f.held f.passing)
+          same Greater h =
+              absurd (both_ways (is_lt (R k e.0)) (g.least k v f.held f.passing) (ap is_lt (order.antisymm k e.0 ∙ ap ordering_reverse h)))
 
   pub none_is : NonePasses → first_where passes (fm.entries m) ≡ None
   none_is n = go (first_where passes (fm.entries m)) refl
     where
       go : (o : Option (K × V)) → first_where passes (fm.entries m) ≡ o → o ≡ None
       go None h = refl
-      go (Some e) h = let g = found e h in not_both (passes e.0 e.1) g.passing (n e.0 e.1 g.held)
+      go (Some e) h = let g = found e h in absurd (both_ways (passes e.0 e.1) (n e.0 e.1 g.held) g.passing)
 
   -- whether there is one
   pub is_there : (k : K) (v : V) → fm.get m k ≡ Some v → passes k v ≡ true → is_some (first_where passes (fm.entries m)) ≡ true
   is_there k v g p = go (first_where passes (fm.entries m)) refl
     where
       go : (o : Option (K × V)) → first_where passes (fm.entries m) ≡ o → is_some o ≡ true
-      go None h = not_both (passes k v) p (none_found h k v g)
+      go None h = absurd (both_ways (passes k v) (none_found h k v g) p)
       go (Some e) h = refl

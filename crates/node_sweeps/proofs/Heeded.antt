@@ -1,11 +1,13 @@
 -- What is behind a sweep stays gone, where a plan adds no record towards its peer.
-use Rattle.std.proofs.Common.{◌≡◌, ◌≤◌, ◌⊎◌, inl, inr, ℕ, Bool, true, false, cond, ◌&&◌, ◌||◌, not, Option, None, Some, unwrap_or, refl, sym, ap, subst, ◌∙◌}
-use Rattle.std.specs.Cmp.{IsTotalOrder}
+use Rattle.std.proofs.Common.{◌≡◌, ◌≤◌, ◌⊎◌, inl, inr, ℕ, Bool, true, false, cond, ◌&&◌}
+use Rattle.std.proofs.Common.{not, Option, None, Some, unwrap_or, refl, sym, ap, subst, ◌∙◌}
+use Rattle.std.proofs.lemmas.Bool.{or_parts}
+use Rattle.std.proofs.lemmas.Option.{none-some, same_Some}
+use Rattle.std.specs.Cmp.{Equal-is, IsTotalOrder}
 use Rattle.std.specs.FinMap as fm
 use Rattle.std.specs.FinMap.{FinMap, IsAntisymmetric}
-use Rattle.std.specs.Ordering.{eq_by_cmp, is_eq}
+use Rattle.std.specs.Ordering.{eq_by_cmp}
 use Rattle.std.specs.declared.cmp.Ordering.{Ordering}
-use Rattle.std.specs.declared.cmp.Ordering.TheVariants.{Less, Equal, Greater}
 use Rattle.dist_model.proofs.Keys.{pair_exact, pair_total}
 use Rattle.dist_model.specs.Names.{Name, pair_cmp, same_name, same_pid}
 use Rattle.dist_model.specs.Node.{Node}
@@ -36,36 +38,18 @@ use Rattle.node_tables.specs.Becomes.{becomes, end_changed}
 use Rattle.node_tables.specs.declared.end_change.EndChange.{EndChange}
 use Rattle.node_tables.specs.declared.end_change.EndChange.TheVariants.{Links, Unlinks, Receives, Exits}
 
-none_is_some : {A B : Type 0} (x : A) → ◌≡◌ {A = Option A} None (Some x) → B
-none_is_some x h = cc
-
-same_some : {A : Type 0} (x y : A) → Some x ≡ Some y → x ≡ y
-same_some x y h = ap (λ o. unwrap_or o x) h
-
-not_both : {A : Type 0} (b : Bool) → b ≡ true → b ≡ false → A
-not_both b h k = cc
-
-neither : (a b : Bool) → (a || b) ≡ false → (a ≡ false) × (b ≡ false)
-neither true b h = cc
-neither false b h = (refl, h)
-
 second : (a b : Bool) → (a && b) ≡ false → a ≡ true → b ≡ false
 second true b h t = h
 second false b h t = cc
 
 -- ---- what a changed map holds, the old one held
 
-tied : {K : Type 0} {R : K → K → Ordering} → IsAntisymmetric R → (a b : K) (o : Ordering) → R a b ≡ o → is_eq o ≡ true → a ≡ b
-tied exact a b Less e h = cc
-tied exact a b Equal e h = exact a b e
-tied exact a b Greater e h = cc
-
 module _ {K V : Type 0} {R : K → K → Ordering} (order : IsTotalOrder R) (exact : IsAntisymmetric R) where
   removed_held : (m : FinMap R V) (k q : K) (v : V) → fm.get (fm.remove m k) q ≡ Some v → fm.get m q ≡ Some v
   removed_held m k q v h = go (eq_by_cmp R q k) (sym (fm.get-remove order m k q) ∙ h)
     where
       go : (b : Bool) → cond b None (fm.get m q) ≡ Some v → fm.get m q ≡ Some v
-      go true k = none_is_some v k
+      go true k = absurd (none-some v k)
       go false k = k
 
   retained_held : (m : FinMap R V) (p : K → Bool) (q : K) (v : V) → fm.get (fm.retain_keys m p) q ≡ Some v → fm.get m q ≡ Some v
@@ -73,13 +57,14 @@ module _ {K V : Type 0} {R : K → K → Ordering} (order : IsTotalOrder R) (exa
     where
       go : (b : Bool) → cond b (fm.get m q) None ≡ Some v → fm.get m q ≡ Some v
       go true k = k
-      go false k = none_is_some v k
+      go false k = absurd (none-some v k)
 
-  inserted_held : (m : FinMap R V) (k : K) (w : V) (q : K) (v : V) → fm.get (fm.insert m k w) q ≡ Some v → ((q ≡ k) × (w ≡ v)) ⊎ (fm.get m q ≡ Some v)
+  inserted_held : (m : FinMap R V) (k : K) (w : V) (q : K) (v : V) → fm.get (fm.insert m k w) q ≡ Some v → ((q ≡ k) × (w ≡ v))
+      ⊎ (fm.get m q ≡ Some v)
   inserted_held m k w q v h = go (eq_by_cmp R q k) refl (sym (fm.get-insert order m k w q) ∙ h)
     where
       go : (b : Bool) → eq_by_cmp R q k ≡ b → cond b (Some w) (fm.get m q) ≡ Some v → ((q ≡ k) × (w ≡ v)) ⊎ (fm.get m q ≡ Some v)
-      go true t e = inl (tied exact q k _ refl t, same_some w v e)
+      go true t e = inl (exact q k ((Equal-is _).0 t), same_Some w v e)
       go false t e = inr e
 
 -- ---- links
@@ -91,14 +76,16 @@ module _ (peer : Name) (id : ℕ) where
   removed_kept : (ends : FinMap pair_cmp End) (k : Pid × Pid) → Unlinked ends → Unlinked (fm.remove ends k)
   removed_kept ends k h p q e f l = h p q e (removed_held pair_total pair_exact ends k (p, q) e f) l
 
-  inserted_kept : (ends : FinMap pair_cmp End) (p q : Pid) (v : End) → (p.id ≤ id → same_name q.node peer ≡ false) → Unlinked ends → Unlinked (fm.insert ends (p, q) v)
+  inserted_kept : (ends : FinMap pair_cmp End) (p q : Pid) (v : End) → (p.id ≤ id → same_name q.node peer ≡ false)
+      → Unlinked ends → Unlinked (fm.insert ends (p, q) v)
   inserted_kept ends p q v at h x y e f l = go (inserted_held pair_total pair_exact ends (p, q) v (x, y) e f)
     where
       go : (◌≡◌ {A = Pid × Pid} (x, y) (p, q) × (v ≡ e)) ⊎ (fm.get ends (x, y) ≡ Some e) → same_name y.node peer ≡ false
       go (inl s) = ap (λ (k : Pid × Pid). same_name k.1.node peer) s.0 ∙ at (subst (λ (k : Pid × Pid). k.0.id ≤ id) s.0 l)
       go (inr g) = h x y e g l
 
-  set_kept : (ends : FinMap pair_cmp End) (p q : Pid) (v : End) → (p.id ≤ id → same_name q.node peer ≡ false) → Unlinked ends → Unlinked (set_in ends (p, q) v)
+  set_kept : (ends : FinMap pair_cmp End) (p q : Pid) (v : End) → (p.id ≤ id → same_name q.node peer ≡ false) → Unlinked ends
+      → Unlinked (set_in ends (p, q) v)
   set_kept ends p q End.None at h = removed_kept ends (p, q) h
   set_kept ends p q End.Active at h = inserted_kept ends p q End.Active at h
   set_kept ends p q (End.Pending n) at h = inserted_kept ends p q (End.Pending n) at h
@@ -106,18 +93,17 @@ module _ (peer : Name) (id : ℕ) where
   -- where there was no end, none comes
   stays_none : (how : EndChange) → is_new how ≡ false → becomes how End.None ≡ End.None
   stays_none Links h = cc
-  stays_none (Unlinks n) h = refl
   stays_none (Receives signal.Link) h = cc
-  stays_none (Receives (signal.Unlink n)) h = refl
-  stays_none (Receives (signal.Ack n)) h = refl
-  stays_none Exits h = refl
+  stays_none _ h = refl
 
-  old_kept : (ends : FinMap pair_cmp End) (p q : Pid) (how : EndChange) (was : Option End) → fm.get ends (p, q) ≡ was → is_new how ≡ false → Unlinked ends
+  old_kept : (ends : FinMap pair_cmp End) (p q : Pid) (how : EndChange) (was : Option End) → fm.get ends (p, q) ≡ was
+      → is_new how ≡ false → Unlinked ends
       → Unlinked (set_in ends (p, q) (becomes how (unwrap_or was End.None)))
   old_kept ends p q how None g new h = subst (λ v. Unlinked (set_in ends (p, q) v)) (sym (stays_none how new)) (removed_kept ends (p, q) h)
   old_kept ends p q how (Some e) g new h = set_kept ends p q (becomes how e) (λ l. h p q e g l) h
 
-  end_kept : (e : LinkChange) (p : Pid) (ends : FinMap pair_cmp End) → links_towards peer e ≡ false → Unlinked ends → Unlinked (end_after e p ends)
+  end_kept : (e : LinkChange) (p : Pid) (ends : FinMap pair_cmp End) → links_towards peer e ≡ false → Unlinked ends
+      → Unlinked (end_after e p ends)
   end_kept link.Stays p ends t h = h
   end_kept (link.Becomes q how) p ends t h = go (is_new how) refl
     where
@@ -126,11 +112,9 @@ module _ (peer : Name) (id : ℕ) where
       go false n = old_kept ends p q how (fm.get ends (p, q)) refl n h
 
   left_kept : (l : LifeChange) (p : Pid) (ends : FinMap pair_cmp End) → Unlinked ends → Unlinked (ends_left l p ends)
-  left_kept life.Stays p ends h = h
-  left_kept (life.Gets message) p ends h = h
-  left_kept (life.Ends reason) p ends h = λ x y e f l. h x y e (retained_held pair_total pair_exact ends (λ pair. not (same_pid pair.0 p)) (x, y) e f) l
-  left_kept (life.Traps on) p ends h = h
-  left_kept life.TakesFirst p ends h = h
+  left_kept (life.Ends reason) p ends h =
+      λ x y e f l. h x y e (retained_held pair_total pair_exact ends (λ pair. not (same_pid pair.0 p)) (x, y) e f) l
+  left_kept _ p ends h = h
 
   links_kept : (c : Change) (ends : FinMap pair_cmp End) → changes_towards peer c ≡ false → Unlinked ends → Unlinked (ends_after c ends)
   links_kept change.None ends t h = h
@@ -164,30 +148,22 @@ module _ (bound : Option Reference) (passes : Monitor → Bool) where
   rest_kept monitors keep h r w f b = h r w (retained_held reference_cmp_total reference_cmp_exact monitors keep r w f) b
 
   owned_left : (c : Change) (monitors : MonitorMap) → Passed monitors → Passed (watches_left c monitors)
-  owned_left change.None monitors h = h
-  owned_left change.Spawns monitors h = h
-  owned_left (change.Of p e life.Stays) monitors h = h
-  owned_left (change.Of p e (life.Gets message)) monitors h = h
   owned_left (change.Of p e (life.Ends reason)) monitors h = rest_kept monitors (λ r. not (is_owned p (fm.get monitors r))) h
-  owned_left (change.Of p e (life.Traps on)) monitors h = h
-  owned_left (change.Of p e life.TakesFirst) monitors h = h
+  owned_left c monitors h = h
 
   targets_left : (c : Change) (monitors : MonitorMap) → Passed monitors → Passed (watchers_left c monitors)
-  targets_left change.None monitors h = h
-  targets_left change.Spawns monitors h = h
-  targets_left (change.Of p e life.Stays) monitors h = h
-  targets_left (change.Of p e (life.Gets message)) monitors h = h
   targets_left (change.Of p e (life.Ends reason)) monitors h = rest_kept monitors (λ r. not (is_target p (fm.get monitors r))) h
-  targets_left (change.Of p e (life.Traps on)) monitors h = h
-  targets_left (change.Of p e life.TakesFirst) monitors h = h
+  targets_left c monitors h = h
 
 module _ (peer : Name) (bound : Option Reference) where
-  watches_kept : (c : MonitorChange) (monitors : MonitorMap) → watches_towards peer c ≡ false → NoneWatchedBefore peer bound monitors → NoneWatchedBefore peer bound (watched c monitors)
+  watches_kept : (c : MonitorChange) (monitors : MonitorMap) → watches_towards peer c ≡ false
+      → NoneWatchedBefore peer bound monitors → NoneWatchedBefore peer bound (watched c monitors)
   watches_kept monitor.Stays monitors t h = h
   watches_kept (monitor.Adds r m) monitors t h = with_kept bound (λ w. same_name w.target.node peer) monitors r m t h
   watches_kept (monitor.Removes r) monitors t h = without_kept bound (λ w. same_name w.target.node peer) monitors r h
 
-  registered_kept : (c : MonitorChange) (monitors : MonitorMap) → registers_towards peer c ≡ false → NoneOwnedBefore peer bound monitors → NoneOwnedBefore peer bound (registered c monitors)
+  registered_kept : (c : MonitorChange) (monitors : MonitorMap) → registers_towards peer c ≡ false
+      → NoneOwnedBefore peer bound monitors → NoneOwnedBefore peer bound (registered c monitors)
   registered_kept monitor.Stays monitors t h = h
   registered_kept (monitor.Adds r m) monitors t h = added_kept bound (λ w. same_name w.owner.node peer) monitors r m t h
   registered_kept (monitor.Removes r) monitors t h = without_kept bound (λ w. same_name w.owner.node peer) monitors r h
@@ -197,10 +173,13 @@ module _ (peer : Name) (bound : Option Reference) where
 pub still_behind : (peer : Name) (id : ℕ) (watch registration : Option Reference) (plan : Plan) (m : Node) → adds_towards peer plan ≡ false
     → IsBehindAll peer id watch registration m → IsBehindAll peer id watch registration (committed plan m)
 still_behind peer id watch registration plan m t h =
-    let a = neither (changes_towards peer plan.change) _ t in
-    let b = neither (watches_towards peer plan.watches) _ a.1 in
+    let a = or_parts (changes_towards peer plan.change) _ t in
+    let b = or_parts (watches_towards peer plan.watches) _ a.1 in
     record {
       links = links_kept peer id plan.change m.ends a.0 h.links;
-      watches = owned_left watch (λ w. same_name w.target.node peer) plan.change (watched plan.watches m.watches) (watches_kept peer watch plan.watches m.watches b.0 h.watches);
-      registrations = targets_left registration (λ w. same_name w.owner.node peer) plan.change (registered plan.watchers m.registered) (registered_kept peer registration plan.watchers m.registered b.1 h.registrations);
+      watches = owned_left watch (λ w. same_name w.target.node peer) plan.change (watched plan.watches m.watches)
+          (watches_kept peer watch plan.watches m.watches b.0 h.watches);
+      registrations = targets_left registration (λ w. same_name w.owner.node peer) plan.change
+          (registered plan.watchers m.registered)
+          (registered_kept peer registration plan.watchers m.registered b.1 h.registrations);
     }

@@ -1,5 +1,6 @@
 -- Whether a monitor is left once some are gone: those behind the first are gone through.
-use Rattle.std.proofs.Common.{◌≡◌, ℕ, zero, suc, ◌≤◌, Bool, true, false, cond, not, ◌&&◌, ◌||◌, List, [], ◌∷◌, length, drop, get_or, Option, None, Some, refl, sym, ap, subst, ◌∙◌, arith}
+use Rattle.std.proofs.Common.{◌≡◌, ℕ, zero, suc, ◌≤◌, Bool, true, false, cond, not, ◌&&◌, ◌||◌, List, [], ◌∷◌}
+use Rattle.std.proofs.Common.{length, drop, get_or, Option, None, Some, refl, sym, ap, subst, ◌∙◌, arith}
 use Rattle.std.specs.Cmp.{IsTotalOrder}
 use Rattle.std.specs.FinMap as fm
 use Rattle.std.specs.FinMap.{FinMap, IsAntisymmetric}
@@ -48,26 +49,32 @@ module _ {K V : Type 0} {R : K → K → Ordering} (order : IsTotalOrder R) (exa
 -- ---- one of them passes
 
 module _ {K V : Type 0} (R : K → K → Ordering) (keep : K → Bool) (passes : K → V → Bool) (f : K × V → Bool) where
-  step : (e : K × V) (es : List (K × V)) (k p b : Bool) → passes e.0 e.1 ≡ p → f e ≡ (p && k) → b ≡ is_some (first_where passes (where_key R keep es))
+  step : (e : K × V) (es : List (K × V)) (k p b : Bool) → passes e.0 e.1 ≡ p → f e ≡ (p && k)
+      → b ≡ is_some (first_where passes (where_key R keep es))
       → (f e || b) ≡ is_some (first_where passes (cond k (e ∷ where_key R keep es) (where_key R keep es)))
   step e es true true b h g r = ap (λ x. x || b) g ∙ sym (ap (λ x. is_some (cond x (Some e) (first_where passes (where_key R keep es)))) h)
-  step e es true false b h g r = ap (λ x. x || b) g ∙ r ∙ sym (ap (λ x. is_some (cond x (Some e) (first_where passes (where_key R keep es)))) h)
+  step e es true false b h g r =
+      ap (λ x. x || b) g ∙ r ∙ sym (ap (λ x. is_some (cond x (Some e) (first_where passes (where_key R keep es)))) h)
   step e es false true b h g r = ap (λ x. x || b) g ∙ r
   step e es false false b h g r = ap (λ x. x || b) g ∙ r
 
   skip : (e : K × V) (es : List (K × V)) (k : Bool) → passes e.0 e.1 ≡ false
-      → is_some (first_where passes (where_key R keep es)) ≡ is_some (first_where passes (cond k (e ∷ where_key R keep es) (where_key R keep es)))
+      → is_some (first_where passes (where_key R keep es))
+      ≡ is_some (first_where passes (cond k (e ∷ where_key R keep es) (where_key R keep es)))
   skip e es true h = sym (ap (λ x. is_some (cond x (Some e) (first_where passes (where_key R keep es)))) h)
   skip e es false h = refl
 
-  pub any_kept : (es : List (K × V)) (at : ℕ) → at ≤ length es → All (λ e. f e ≡ (passes e.0 e.1 && keep e.0)) es → AllWithin (λ e. passes e.0 e.1 ≡ false) es 0 at
+  pub any_kept : (es : List (K × V)) (at : ℕ) → at ≤ length es → All (λ e. f e ≡ (passes e.0 e.1 && keep e.0)) es
+      → AllWithin (λ e. passes e.0 e.1 ≡ false) es 0 at
       → list_any f (drop at es) ≡ is_some (first_where passes (where_key R keep es))
   any_kept [] zero l g n = refl
   any_kept [] (suc at) l g n = refl
   any_kept (e ∷ es) zero l g n =
-      step e es (keep e.0) (passes e.0 e.1) (list_any f es) refl (g 0 e (omega arith)) (any_kept es zero (omega arith) (λ k d a. g (suc k) d (omega arith)) (λ k d a b. absurd (omega arith)))
+      step e es (keep e.0) (passes e.0 e.1) (list_any f es) refl (g 0 e (omega arith))
+      (any_kept es zero (omega arith) (λ k d a. g (suc k) d (omega arith)) (λ k d a b. absurd (omega arith)))
   any_kept (e ∷ es) (suc at) l g n =
-      any_kept es at (omega arith) (λ k d a. g (suc k) d (omega arith)) (λ k d a b. n (suc k) d (omega arith) (omega arith)) ∙ skip e es (keep e.0) (n 0 e (omega arith) (omega arith))
+      any_kept es at (omega arith) (λ k d a. g (suc k) d (omega arith)) (λ k d a b. n (suc k) d (omega arith) (omega arith))
+      ∙ skip e es (keep e.0) (n 0 e (omega arith) (omega arith))
 
 -- ---- of monitors
 
@@ -103,7 +110,8 @@ module _ (m : MonitorMap) (bound : Option Reference) (passes : Reference → Mon
 
 -- ---- of monitors that were read from a place on
 
-module _ (m n : MonitorMap) (es : List (Reference × Monitor)) (same : m ≡ n) (is : es ≡ fm.entries m) (bound : Option Reference) (passes : Reference → Monitor → Bool)
+module _ (m n : MonitorMap) (es : List (Reference × Monitor)) (same : m ≡ n) (is : es ≡ fm.entries m)
+    (bound : Option Reference) (passes : Reference → Monitor → Bool)
     (f : Reference × Monitor → Bool) (at : ℕ) (within : at ≤ length es) (before : AllWithin (λ e. IsBefore e.0 bound) es 0 at)
     (none : (r : Reference) (w : Monitor) → fm.get n r ≡ Some w → IsBefore r bound → passes r w ≡ false) where
   here : es ≡ fm.entries n

@@ -3,7 +3,7 @@ use Rattle.std.proofs.Common.{◌≡◌, Some, true, ◌∙◌}
 use Rattle.std.specs.FinMap as fm
 use Rattle.std.specs.FinMap.{FinMap}
 use Rattle.conn_core.specs.declared.side.Side.{Side}
-use Rattle.dist_model.proofs.Closing.{any_found}
+use Rattle.dist_model.proofs.ClosedSides.{any_found}
 use Rattle.dist_model.specs.Losses.{any_side}
 use Rattle.dist_model.specs.Sides.{TrunkSide, is_losing}
 use Rattle.erl_names.specs.Order.{trunk_cmp}
@@ -13,7 +13,8 @@ pub record Losing (sides : FinMap trunk_cmp TrunkSide) (side : Side) : Type 0 wh
   pub there : fm.get sides side.trunk ≡ Some (side_of side)
   pub losing : is_losing (state_of side.standing) ≡ true
 
-pub loses : (sides : FinMap trunk_cmp TrunkSide) (side : Side) → any_side is_losing (fm.entries sides) ≡ Some (entry_of side) → Losing sides side
+pub loses : (sides : FinMap trunk_cmp TrunkSide) (side : Side) → any_side is_losing (fm.entries sides) ≡ Some (entry_of side)
+    → Losing sides side
 loses sides side h =
     let f = any_found is_losing (fm.entries sides) (entry_of side) (fm.entries_sorted sides) h in
     record { there = fm.get-entries sides side.trunk ∙ f.0; losing = f.1 }

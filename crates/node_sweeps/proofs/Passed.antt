@@ -1,15 +1,13 @@
 -- A search that begins behind monitors of which none passes.
-use Rattle.std.proofs.Common.{◌≡◌, Bor, nat_lt, ℕ, zero, suc, ◌<◌, ◌≤◌, Bool, true, false, cond, T, List, [], ◌∷◌, length, get_or, take, drop, Option, None, Some, refl, sym, ap, subst, ◌∙◌, arith}
-use Rattle.std.proofs.lemmas.Option.{slice_get_past, slice_get-get_or}
+use Rattle.std.proofs.Common.{◌≡◌, ℕ, zero, suc, ◌<◌, ◌≤◌, Bool, true, false, cond, T, List, [], ◌∷◌, length}
+use Rattle.std.proofs.Common.{get_or, take, drop, Option, None, Some, refl, sym, ap, subst, ◌∙◌, arith}
 use Rattle.std.specs.FinMap as fm
 use Rattle.std.specs.FinMap.Entries.{below_all, is_sorted}
-use Rattle.std.specs.List.{AllWithin, slice_get}
+use Rattle.std.specs.List.{AllWithin}
 use Rattle.std.specs.List.Sorted.{IsPartitionedBy}
-use Rattle.std.specs.Option.{option_copied}
 use Rattle.std.specs.Ordering.{is_lt}
-use Rattle.std.specs.Slice.{IsItemAt}
-use Rattle.std.specs.declared.cmp.Ordering.{Ordering}
-use Rattle.std.specs.declared.cmp.Ordering.TheVariants.{Less, Equal, Greater}
+use Rattle.std.specs.declared.cmp.Ordering.TheVariants.{Less}
+use Rattle.node_tables.proofs.Truths.{lesser}
 use Rattle.dist_model.proofs.Entries.{each_entry}
 use Rattle.erl_term.specs.declared.term.Reference.{Reference}
 use Rattle.monitor_core.proofs.Order.{reference_cmp_total}
@@ -26,16 +24,12 @@ Records = List (Reference × Monitor)
 
 -- ---- those under lesser references come first
 
-lesser : (o : Ordering) → is_lt o ≡ true → o ≡ Less
-lesser Less h = refl
-lesser Equal h = cc
-lesser Greater h = cc
-
 module _ (bound : Reference) where
   abbrev pub is_lesser : Reference × Monitor → Bool
   is_lesser e = is_lt (reference_cmp e.0 bound)
 
-  above_at : (r : Reference) (es : Records) (j : ℕ) (d : Reference × Monitor) → T (below_all reference_cmp r es) → j < length es → reference_cmp r (get_or es j d).0 ≡ Less
+  above_at : (r : Reference) (es : Records) (j : ℕ) (d : Reference × Monitor) → T (below_all reference_cmp r es)
+      → j < length es → reference_cmp r (get_or es j d).0 ≡ Less
   above_at r [] j d s l = absurd (omega arith)
   above_at r (e ∷ rest) zero d s l = less _ (both_pass _ _ s).0
   above_at r (e ∷ rest) (suc j) d s l = above_at r rest j d (both_pass _ _ s).1 (omega arith)
@@ -44,16 +38,19 @@ module _ (bound : Reference) where
   lesser_first [] s i j d le l h = absurd (omega arith)
   lesser_first (e ∷ rest) s zero zero d le l h = h
   lesser_first (e ∷ rest) s zero (suc j) d le l h =
-      ap is_lt (reference_cmp_total.trans e.0 (get_or rest j d).0 bound (above_at e.0 rest j d (both_pass _ _ s).0 (omega arith)) (lesser _ h))
+      ap is_lt
+      (reference_cmp_total.trans e.0 (get_or rest j d).0 bound (above_at e.0 rest j d (both_pass _ _ s).0 (omega arith)) (lesser _ h))
   lesser_first (e ∷ rest) s (suc i) zero d le l h = absurd (omega arith)
   lesser_first (e ∷ rest) s (suc i) (suc j) d le l h = lesser_first rest (both_pass _ _ s).1 i j d (omega arith) (omega arith) h
 
-  pub are_before : (es : Records) (at : ℕ) → AllWithin (λ e. is_lesser e ≡ true) es 0 at → AllWithin (λ e. IsBefore e.0 (Some bound)) es 0 at
+  pub are_before : (es : Records) (at : ℕ) → AllWithin (λ e. is_lesser e ≡ true) es 0 at
+      → AllWithin (λ e. IsBefore e.0 (Some bound)) es 0 at
   are_before es at h = λ k d a b. lesser _ (h k d a b)
 
 -- ---- none of them passes, so the search goes on behind them
 
-pub none_taken : (f : Reference → Monitor → Bool) (es : Records) (at : ℕ) → at ≤ length es → AllWithin (λ e. f e.0 e.1 ≡ false) es 0 at → first_where f (take at es) ≡ None
+pub none_taken : (f : Reference → Monitor → Bool) (es : Records) (at : ℕ) → at ≤ length es
+    → AllWithin (λ e. f e.0 e.1 ≡ false) es 0 at → first_where f (take at es) ≡ None
 none_taken f es zero l h = refl
 none_taken f [] (suc at) l h = refl
 none_taken f (e ∷ es) (suc at) l h =
@@ -62,36 +59,30 @@ none_taken f (e ∷ es) (suc at) l h =
 
 -- of each that is passed, the monitor is one of the map
 pub passed_over : (m : MonitorMap) (bound : Option Reference) (f : Reference → Monitor → Bool) (at : ℕ) → at ≤ length (fm.entries m)
-    → AllWithin (λ e. IsBefore e.0 bound) (fm.entries m) 0 at → ((r : Reference) (w : Monitor) → fm.get m r ≡ Some w → IsBefore r bound → f r w ≡ false)
+    → AllWithin (λ e. IsBefore e.0 bound) (fm.entries m) 0 at
+    → ((r : Reference) (w : Monitor) → fm.get m r ≡ Some w → IsBefore r bound → f r w ≡ false)
     → AllWithin (λ e. f e.0 e.1 ≡ false) (fm.entries m) 0 at
-passed_over m bound f at l before none = λ k d a b. none (get_or (fm.entries m) k d).0 (get_or (fm.entries m) k d).1 (each_entry m k d (omega (arith, l, b))) (before k d a b)
+passed_over m bound f at l before none =
+    λ k d a b. none (get_or (fm.entries m) k d).0 (get_or (fm.entries m) k d).1 (each_entry m k d (omega (arith, l, b))) (before k d a b)
 
 pub found_behind : (m : MonitorMap) (bound : Option Reference) (f : Reference → Monitor → Bool) (at : ℕ) → at ≤ length (fm.entries m)
-    → AllWithin (λ e. IsBefore e.0 bound) (fm.entries m) 0 at → ((r : Reference) (w : Monitor) → fm.get m r ≡ Some w → IsBefore r bound → f r w ≡ false)
+    → AllWithin (λ e. IsBefore e.0 bound) (fm.entries m) 0 at
+    → ((r : Reference) (w : Monitor) → fm.get m r ≡ Some w → IsBefore r bound → f r w ≡ false)
     → first_where f (fm.entries m) ≡ first_where f (drop at (fm.entries m))
-found_behind m bound f at l before none = goes_on f at (fm.entries m) (none_taken f (fm.entries m) at l (passed_over m bound f at l before none))
-
--- ---- what is read at a place
-
-inside : (i n : ℕ) → true ≡ nat_lt i n → i < n
-inside i n h = grind arith
-
-outside : (i n : ℕ) → false ≡ nat_lt i n → n ≤ i
-outside i n h = grind arith
-
-pub read_at : (es : Records) (i : ℕ) (o : Option (Bor (Reference × Monitor))) → IsItemAt es i o → option_copied o ≡ slice_get es i
-read_at es i None item = sym (slice_get_past es i (outside i (length es) item.0))
-read_at es i (Some x) item = ap Some item.1 ∙ sym (slice_get-get_or es i x.now (inside i (length es) item.0))
+found_behind m bound f at l before none =
+    goes_on f at (fm.entries m) (none_taken f (fm.entries m) at l (passed_over m bound f at l before none))
 
 -- ---- of monitors that were read
 
 pub sorted_of : (m n : MonitorMap) (es : Records) → m ≡ n → es ≡ fm.entries m → T (is_sorted reference_cmp es)
 sorted_of m n es same is = subst (λ l. T (is_sorted reference_cmp l)) (sym is) (fm.entries_sorted m)
 
-pub first_by : (m n : MonitorMap) (es : Records) → m ≡ n → es ≡ fm.entries m → (bound : Option Reference) (f : Reference → Monitor → Bool) (at : ℕ) → at ≤ length es
+pub first_by : (m n : MonitorMap) (es : Records) → m ≡ n → es ≡ fm.entries m
+    → (bound : Option Reference) (f : Reference → Monitor → Bool) (at : ℕ) → at ≤ length es
     → AllWithin (λ e. IsBefore e.0 bound) es 0 at → ((r : Reference) (w : Monitor) → fm.get n r ≡ Some w → IsBefore r bound → f r w ≡ false)
     → (o : Option ℕ) → at_place (fm.entries m) o ≡ first_where f (drop at (fm.entries m)) → at_place es o ≡ first_where f (fm.entries n)
 first_by m n es same is bound f at within before none o found =
     let e : es ≡ fm.entries n = is ∙ ap fm.entries same in
     ap (λ l. at_place l o) e ∙ subst (λ k. at_place (fm.entries k) o ≡ first_where f (drop at (fm.entries k))) same found
-    ∙ sym (found_behind n bound f at (subst (λ l. at ≤ length l) e within) (subst (λ l. AllWithin (λ x. IsBefore x.0 bound) l 0 at) e before) none)
+    ∙ sym (found_behind n bound f at (subst (λ l. at ≤ length l) e within)
+    (subst (λ l. AllWithin (λ x. IsBefore x.0 bound) l 0 at) e before) none)

@@ -22,7 +22,8 @@ use Rattle.node_sweeps.specs.Ahead.{IsBehindAll, NoneLinkedUpTo, NoneOwnedBefore
 no_links : (peer : Name) (m : Node) (id : ℕ) → link_to peer (fm.entries m.ends) ≡ None → NoneLinkedUpTo peer id m.ends
 no_links peer m id h p q e g l = none_found pair_total pair_exact (λ pair end. same_name pair.1.node peer) m.ends h (p, q) e g
 
-pub watch_stands : (peer : Name) (m : Node) (id : ℕ) (r : Reference) (w : Monitor) → link_to peer (fm.entries m.ends) ≡ None → watch_to peer (fm.entries m.watches) ≡ Some (r, w)
+pub watch_stands : (peer : Name) (m : Node) (id : ℕ) (r : Reference) (w : Monitor) → link_to peer (fm.entries m.ends) ≡ None
+    → watch_to peer (fm.entries m.watches) ≡ Some (r, w)
     → IsBehindAll peer id (Some r) None m
 watch_stands peer m id r w links h = record {
   links = no_links peer m id links;
@@ -30,22 +31,27 @@ watch_stands peer m id r w links h = record {
   registrations = λ s x g b. absurd b;
 }
 
-pub registration_stands : (peer : Name) (m : Node) (id : ℕ) (bound : Option Reference) (r : Reference) → link_to peer (fm.entries m.ends) ≡ None
+pub registration_stands : (peer : Name) (m : Node) (id : ℕ) (bound : Option Reference) (r : Reference)
+    → link_to peer (fm.entries m.ends) ≡ None
     → watch_to peer (fm.entries m.watches) ≡ None → NoneOwnedBefore peer (Some r) m.registered → IsBehindAll peer id bound (Some r) m
 registration_stands peer m id bound r links watches h = record {
   links = no_links peer m id links;
-  watches = λ s x g b. none_found reference_cmp_total reference_cmp_exact (λ key value. same_name value.target.node peer) m.watches watches s x g;
+  watches =
+      λ s x g b. none_found reference_cmp_total reference_cmp_exact (λ key value. same_name value.target.node peer) m.watches watches s x g;
   registrations = h;
 }
 
-module _ (it : TheNode) (peer : Name) (id : ℕ) (q : Pid) (e : End) (first : link_to peer (fm.entries (seen it).ends) ≡ Some ((pid_of (seen it).mint id, q), e)) where
+module _ (it : TheNode) (peer : Name) (id : ℕ) (q : Pid) (e : End)
+    (first : link_to peer (fm.entries (seen it).ends) ≡ Some ((pid_of (seen it).mint id, q), e)) where
   pub is_drawn : 1 ≤ id
   is_drawn =
-      let f = found pair_total pair_exact (λ pair end. same_name pair.1.node peer) (seen it).ends ((pid_of (seen it).mint id, q), e) first in
+      let f =
+      found pair_total pair_exact (λ pair end. same_name pair.1.node peer) (seen it).ends ((pid_of (seen it).mint id, q), e) first in
       let o = owner it.incarnation.mint it.incarnation.held.items (pid_of (seen it).mint id) q e f.held in
       omega (arith, o.positive)
 
-  before_it : (x y : Pid) (f : End) → fm.get (seen it).ends (x, y) ≡ Some f → x.id ≤ id - 1 → (b : Bool) → same_name y.node peer ≡ b → b ≡ false
+  before_it : (x y : Pid) (f : End) → fm.get (seen it).ends (x, y) ≡ Some f → x.id ≤ id - 1 → (b : Bool)
+      → same_name y.node peer ≡ b → b ≡ false
   before_it x y f h l false t = refl
   before_it x y f h l true t =
       let d = is_drawn in

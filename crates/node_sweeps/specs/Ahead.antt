@@ -24,11 +24,13 @@ NoneLinkedUpTo peer id ends = (p q : Pid) (e : End) → fm.get ends (p, q) ≡ S
 
 -- no monitor under a lesser reference is of a process at the peer
 abbrev pub NoneWatchedBefore : Name → Option Reference → MonitorMap → Type 0
-NoneWatchedBefore peer bound monitors = (r : Reference) (w : Monitor) → fm.get monitors r ≡ Some w → IsBefore r bound → same_name w.target.node peer ≡ false
+NoneWatchedBefore peer bound monitors =
+    (r : Reference) (w : Monitor) → fm.get monitors r ≡ Some w → IsBefore r bound → same_name w.target.node peer ≡ false
 
 -- and none is owned by one
 abbrev pub NoneOwnedBefore : Name → Option Reference → MonitorMap → Type 0
-NoneOwnedBefore peer bound monitors = (r : Reference) (w : Monitor) → fm.get monitors r ≡ Some w → IsBefore r bound → same_name w.owner.node peer ≡ false
+NoneOwnedBefore peer bound monitors =
+    (r : Reference) (w : Monitor) → fm.get monitors r ≡ Some w → IsBefore r bound → same_name w.owner.node peer ≡ false
 
 -- links of the processes up to this id, and monitors under lesser references
 pub record IsBehindAll (peer : Name) (id : ℕ) (watch registration : Option Reference) (m : Node) : Type 0 where

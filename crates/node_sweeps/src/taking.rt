@@ -1,14 +1,12 @@
 //! A record goes, as it is planned.
 ghost use Rattle.std.specs.Prelude.{◌≡◌, true, IfOk};
-ghost use Rattle.dist_model.specs.Exits.{link_exit};
-ghost use Rattle.dist_model.specs.Links.{noconnection};
 ghost use Rattle.dist_model.specs.Losses.{sweep_end};
 ghost use Rattle.dist_model.specs.Monitoring.{unregister, unwatch};
 ghost use Rattle.dist_model.specs.Node as model;
 ghost use Rattle.dist_model.specs.Node.{Node as TheNode};
-ghost use Rattle.dist_model.specs.Work.{Work, put, set_end};
+ghost use Rattle.dist_model.specs.Work.{Work, put};
 ghost use Rattle.exit_core.specs.Messages.{down_term};
-ghost use Rattle.link_core.specs.declared.end.End.TheVariants as the_end;
+ghost use Rattle.link_core.specs.News.{noconnection};
 ghost use Rattle.node_plans.specs.Carried.{Carries, CarriesOut, IsBlank};
 ghost use Rattle.node_plans.specs.Plans.{told};
 ghost use Rattle.node_plans.specs.Seen.{seen};
@@ -17,29 +15,10 @@ use erl_term::{Payload, Pid, Reference};
 use exit_core::down_message;
 use link_core::End;
 use monitor_core::Monitor;
-use node_endings::{is_active, link_exit, no_connection};
+use node_endings::{break_link, is_active, no_connection};
 use node_plans::{Node, Plan, copied};
 use node_tables::EndChange;
 use std::alloc::{AllocError, Global};
-
-// A link that is active goes, and its process gets the exit signal.
-fn break_link(
-    alloc: Global,
-    node: &Node,
-    plan: &mut Plan,
-    process: &Pid,
-    partner: &Pid,
-) -> Result<(), AllocError>
-    requires blank { IsBlank plan.old }
-    requires living { model.living (seen node.now) process.now ≡ true }
-    ensures carries { (work : Work) → CarriesOut plan.old (seen node.now) work →
-        Carries (seen node.now) (link_exit process.now partner.now noconnection (set_end process.now partner.now the_end.None work)) plan.new result }
-    ensures told { (m : TheNode) → told plan.new m ≡ told plan.old m }
-{
-    let reason = no_connection(alloc)?;
-    plan.change_end(process, partner, EndChange::Exits)?;
-    link_exit(plan, alloc, node, process, partner, reason)
-}
 
 /// A link to a process that isn't reached any more goes, also one that waits for its acknowledgement.
 /// (Reference Manual, Processes, Links.)

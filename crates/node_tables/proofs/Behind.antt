@@ -1,5 +1,6 @@
 -- The links behind a partner that are to processes at a node, in the order of pids.
-use Rattle.std.proofs.Common.{◌≡◌, Bor, nat_lt, ℕ, zero, suc, ◌<◌, ◌≤◌, Bool, true, false, cond, ◌||◌, T, List, [], ◌∷◌, length, get_or, Option, None, Some, unwrap_or, refl, sym, ap, subst, ◌∙◌, arith}
+use Rattle.std.proofs.Common.{◌≡◌, ℕ, zero, suc, ◌<◌, ◌≤◌, Bool, true, false, cond, ◌||◌, T, List, []}
+use Rattle.std.proofs.Common.{◌∷◌, length, get_or, Option, None, Some, refl, sym, ap, subst, ◌∙◌, arith}
 use Rattle.std.specs.declared.cmp.Ordering.{Ordering}
 use Rattle.std.specs.declared.cmp.Ordering.TheVariants.{Less, Equal, Greater}
 use Rattle.std.specs.Ordering.{is_eq, is_le, is_lt, nat_cmp, ordering_reverse, ordering_then}
@@ -10,16 +11,17 @@ use Rattle.std.specs.FinMap.{find, is_sorted}
 use Rattle.std.specs.FinMap.Entries.{below_all}
 use Rattle.std.specs.List.{AllWithin, slice_get}
 use Rattle.std.specs.List.Sorted.{IsPartitionedBy}
-use Rattle.std.specs.Option.{option_and_then, option_copied}
-use Rattle.std.specs.Slice.{IsItemAt}
-use Rattle.std.proofs.lemmas.Option.{slice_get_past, slice_get-get_or}
+use Rattle.std.specs.Option.{option_and_then}
+use Rattle.std.proofs.lemmas.Option.{none-some}
+use Rattle.std.proofs.lemmas.Bool.{both_ways, or_left, or_parts, or_right}
 use Rattle.sorted_map.specs.Facts.{both_pass, less}
-use Rattle.dist_model.proofs.Keys.{pid_exact, pid_total}
+use Rattle.dist_model.proofs.Keys.{pid_exact, pid_total, same_pid_true}
 use Rattle.dist_model.specs.Names.{Name, same_name}
 use Rattle.erl_term.specs.Order.{pid_cmp}
 use Rattle.erl_term.specs.declared.term.Pid.{Pid}
 use Rattle.link_core.specs.declared.end.End.{End}
 use Rattle.node_tables.proofs.Lookups.{links_held}
+use Rattle.node_tables.proofs.Truths.{lesser}
 use Rattle.node_tables.specs.Lives.{end_at, links_of}
 use Rattle.node_tables.specs.declared.life.Life.{Life}
 
@@ -35,7 +37,9 @@ rest_less : (p q : Pid) (o : Ordering) → name_cmp p.node q.node ≡ o → pid_
 rest_less p q Less e h g = cc
 rest_less p q Equal e h g = cc
 rest_less p q Greater e h g =
-    let c : Greater ≡ Less = sym (ap (λ x. ordering_then x (ordering_then (nat_cmp p.creation q.creation) (ordering_then (nat_cmp p.id q.id) (nat_cmp p.serial q.serial)))) e) ∙ h in
+    let c : Greater ≡ Less =
+    sym (ap (λ x. ordering_then x
+    (ordering_then (nat_cmp p.creation q.creation) (ordering_then (nat_cmp p.id q.id) (nat_cmp p.serial q.serial)))) e) ∙ h in
     cc
 
 before : (p q : Pid) (n : Name) → pid_cmp p q ≡ Less → name_cmp q.node n ≡ Less → name_cmp p.node n ≡ Less
@@ -58,58 +62,28 @@ behind p q n h g = go (name_cmp p.node q.node) refl
 
 -- ---- orderings
 
-lesser : (o : Ordering) → is_lt o ≡ true → o ≡ Less
-lesser Less h = refl
-lesser Equal h = cc
-lesser Greater h = cc
-
 not_le : (o : Ordering) → is_le o ≡ false → o ≡ Greater
-not_le Less h = cc
-not_le Equal h = cc
 not_le Greater h = refl
+not_le o h = cc
 
 le_of_less : (o : Ordering) → o ≡ Less → is_le o ≡ true
 le_of_less o h = ap is_le h
-
-neither : (a b : Bool) → (a || b) ≡ false → (a ≡ false) × (b ≡ false)
-neither true b h = cc
-neither false b h = (refl, h)
 
 either : {A : Type 0} (a b : Bool) → (a || b) ≡ true → (a ≡ true → A) → (b ≡ true → A) → A
 either true b h f g = f refl
 either false b h f g = g h
 
-or_first : (a b : Bool) → a ≡ true → (a || b) ≡ true
-or_first a b h = cc
-
-or_second : (a b : Bool) → b ≡ true → (a || b) ≡ true
-or_second true b h = refl
-or_second false b h = h
-
-not_both : {A : Type 0} (b : Bool) → b ≡ true → b ≡ false → A
-not_both b h k = cc
-
-none_is_some : {A B : Type 0} (x : A) → ◌≡◌ {A = Option A} None (Some x) → B
-none_is_some x h = cc
-
-same_some : {A : Type 0} (x y : A) → Some x ≡ Some y → x ≡ y
-same_some x y h = ap (λ o. unwrap_or o x) h
-
-tied : (p q : Pid) (o : Ordering) → pid_cmp p q ≡ o → is_eq o ≡ true → p ≡ q
-tied p q Less e h = cc
-tied p q Equal e h = pid_exact p q e
-tied p q Greater e h = cc
-
 -- a record of the list is its first, or one of the rest
-here_or_later : (r : Pid × End) (rest : Links) (q : Pid) (e : End) (P : Type 0) → find pid_cmp q (r ∷ rest) ≡ Some e → (q ≡ r.0 → P) → (find pid_cmp q rest ≡ Some e → P) → P
+here_or_later : (r : Pid × End) (rest : Links) (q : Pid) (e : End) (P : Type 0) → find pid_cmp q (r ∷ rest) ≡ Some e
+    → (q ≡ r.0 → P) → (find pid_cmp q rest ≡ Some e → P) → P
 here_or_later r rest q e P f here later = go (is_eq (pid_cmp q r.0)) refl
   where
     go : (b : Bool) → is_eq (pid_cmp q r.0) ≡ b → P
-    go true t = here (tied q r.0 _ refl t)
+    go true t = here (same_pid_true q r.0 t)
     go false t = later (sym (ap (λ b. cond b (Some r.1) (find pid_cmp q rest)) t) ∙ f)
 
 found_above : (p q : Pid) (rs : Links) (e : End) → T (below_all pid_cmp p rs) → find pid_cmp q rs ≡ Some e → pid_cmp p q ≡ Less
-found_above p q [] e s f = none_is_some e f
+found_above p q [] e s f = absurd (none-some e f)
 found_above p q (r ∷ rest) e s f =
     let t = both_pass _ _ s in
     here_or_later r rest q e (pid_cmp p q ≡ Less) f (λ same. ap (pid_cmp p) same ∙ less _ t.0) (λ later. found_above p q rest e t.1 later)
@@ -119,7 +93,8 @@ module _ (partner : Pid) (n : Name) where
   abbrev pub is_passed : Pid × End → Bool
   is_passed r = is_le (pid_cmp r.0 partner) || is_lt (name_cmp r.0.node n)
 
-  above_at : (p : Pid) (rs : Links) (j : ℕ) (d : Pid × End) → T (below_all pid_cmp p rs) → j < length rs → pid_cmp p (get_or rs j d).0 ≡ Less
+  above_at : (p : Pid) (rs : Links) (j : ℕ) (d : Pid × End) → T (below_all pid_cmp p rs) → j < length rs
+      → pid_cmp p (get_or rs j d).0 ≡ Less
   above_at p [] j d s l = absurd (omega arith)
   above_at p (r ∷ rest) zero d s l = less _ (both_pass _ _ s).0
   above_at p (r ∷ rest) (suc j) d s l = above_at p rest j d (both_pass _ _ s).1 (omega arith)
@@ -134,13 +109,14 @@ module _ (partner : Pid) (n : Name) where
 
   passed_before : (r s : Pid × End) → pid_cmp r.0 s.0 ≡ Less → is_passed s ≡ true → is_passed r ≡ true
   passed_before r s h p = either (is_le (pid_cmp s.0 partner)) (is_lt (name_cmp s.0.node n)) p
-      (λ l. or_first _ _ (up_to r.0 s.0 h l))
-      (λ l. or_second (is_le (pid_cmp r.0 partner)) _ (ap is_lt (before r.0 s.0 n h (lesser _ l))))
+      (λ l. or_left _ _ (up_to r.0 s.0 h l))
+      (λ l. or_right (is_le (pid_cmp r.0 partner)) _ (ap is_lt (before r.0 s.0 n h (lesser _ l))))
 
   pub passed_first : (rs : Links) → T (is_sorted pid_cmp rs) → IsPartitionedBy is_passed rs
   passed_first [] s i j d le l h = absurd (omega arith)
   passed_first (r ∷ rest) s zero zero d le l h = h
-  passed_first (r ∷ rest) s zero (suc j) d le l h = passed_before r (get_or rest j d) (above_at r.0 rest j d (both_pass _ _ s).0 (omega arith)) h
+  passed_first (r ∷ rest) s zero (suc j) d le l h =
+      passed_before r (get_or rest j d) (above_at r.0 rest j d (both_pass _ _ s).0 (omega arith)) h
   passed_first (r ∷ rest) s (suc i) zero d le l h = absurd (omega arith)
   passed_first (r ∷ rest) s (suc i) (suc j) d le l h = passed_first rest (both_pass _ _ s).1 i j d (omega arith) (omega arith) h
 
@@ -162,7 +138,7 @@ module _ (partner : Pid) (n : Name) where
     r.1,
     ap (λ o. cond (is_eq o) (Some r.1) (find pid_cmp r.0 rest)) (tied_itself pid_total r.0),
     t,
-    ap is_lt (pid_total.antisymm partner r.0 ∙ ap ordering_reverse (not_le _ (neither _ _ h).0)),
+    ap is_lt (pid_total.antisymm partner r.0 ∙ ap ordering_reverse (not_le _ (or_parts _ _ h).0)),
   )
 
   above : (r : Pid × End) (rest : Links) → T (below_all pid_cmp r.0 rest) → IsOne rest → IsOne (r ∷ rest)
@@ -171,8 +147,9 @@ module _ (partner : Pid) (n : Name) where
       let greater : pid_cmp h.0 r.0 ≡ Greater = pid_total.antisymm h.0 r.0 ∙ ap ordering_reverse less_is in
       (h.0, h.1, ap (λ o. cond (is_eq o) (Some r.1) (find pid_cmp h.0 rest)) greater ∙ h.2, h.3, h.4)
 
-  pub has : (rs : Links) (i : ℕ) → T (is_sorted pid_cmp rs) → AllWithin (λ r. is_passed r ≡ false) rs i (length rs) → is_there (slice_get rs i) ≡ true → IsOne rs
-  has [] i s h t = not_both false t refl
+  pub has : (rs : Links) (i : ℕ) → T (is_sorted pid_cmp rs) → AllWithin (λ r. is_passed r ≡ false) rs i (length rs)
+      → is_there (slice_get rs i) ≡ true → IsOne rs
+  has [] i s h t = absurd (both_ways false refl t)
   has (r ∷ rest) zero s h t = at_place r rest (h 0 r (omega arith) (omega arith)) t
   has (r ∷ rest) (suc i) s h t =
       let u : T (below_all pid_cmp r.0 rest) × T (is_sorted pid_cmp rest) = both_pass _ _ s in
@@ -182,18 +159,19 @@ module _ (partner : Pid) (n : Name) where
   greater_is r h t = go (name_cmp r.0.node n) refl
     where
       go : (o : Ordering) → name_cmp r.0.node n ≡ o → o ≡ Greater
-      go Less e = not_both (is_lt (name_cmp r.0.node n)) (ap is_lt e) (neither (is_le (pid_cmp r.0 partner)) _ h).1
-      go Equal e = not_both (same_name r.0.node n) (ap is_eq e) t
+      go Less e = absurd (both_ways (is_lt (name_cmp r.0.node n)) (or_parts (is_le (pid_cmp r.0 partner)) _ h).1 (ap is_lt e))
+      go Equal e = absurd (both_ways (same_name r.0.node n) t (ap is_eq e))
       go Greater e = refl
 
   passed_isnt : (q : Pid) (e : End) → is_passed (q, e) ≡ true → is_lt (pid_cmp partner q) ≡ true → same_name q.node n ≡ false
   passed_isnt q e h l = either (is_le (pid_cmp q partner)) (is_lt (name_cmp q.node n)) h
-      (λ k. not_both (is_le (pid_cmp q partner)) k (ap is_le (pid_total.antisymm q partner ∙ ap ordering_reverse (lesser _ l))))
+      (λ k. absurd (both_ways (is_le (pid_cmp q partner)) (ap is_le (pid_total.antisymm q partner ∙ ap ordering_reverse (lesser _ l))) k))
       (λ k. ap is_eq (lesser _ k))
 
-  pub none : (rs : Links) (i : ℕ) → T (is_sorted pid_cmp rs) → AllWithin (λ r. is_passed r ≡ true) rs 0 i → AllWithin (λ r. is_passed r ≡ false) rs i (length rs) → i ≤ length rs
+  pub none : (rs : Links) (i : ℕ) → T (is_sorted pid_cmp rs) → AllWithin (λ r. is_passed r ≡ true) rs 0 i
+      → AllWithin (λ r. is_passed r ≡ false) rs i (length rs) → i ≤ length rs
       → is_there (slice_get rs i) ≡ false → IsNone rs
-  none [] i s b h le t = λ q e f l. none_is_some e f
+  none [] i s b h le t = λ q e f l. absurd (none-some e f)
   none (r ∷ rest) zero s b h le t = λ q e f l.
       let u : T (below_all pid_cmp r.0 rest) × T (is_sorted pid_cmp rest) = both_pass _ _ s in
       here_or_later r rest q e (same_name q.node n ≡ false) f (λ same. ap (λ (x : Pid). same_name x.node n) same ∙ t)
@@ -202,19 +180,8 @@ module _ (partner : Pid) (n : Name) where
       let u : T (below_all pid_cmp r.0 rest) × T (is_sorted pid_cmp rest) = both_pass _ _ s in
       here_or_later r rest q e (same_name q.node n ≡ false) f
       (λ same. passed_isnt q r.1 (subst (λ (x : Pid). is_passed (x, r.1) ≡ true) (sym same) (b 0 r (omega arith) (omega arith))) l)
-      (λ later. none rest i u.1 (λ k d x y. b (suc k) d (omega arith) (omega (arith, y))) (λ k d x y. h (suc k) d (omega (arith, x)) (omega (arith, y))) (omega (arith, le)) t q e later l)
-
--- ---- what is read at a place
-
-inside : (i n : ℕ) → true ≡ nat_lt i n → i < n
-inside i n h = grind arith
-
-outside : (i n : ℕ) → false ≡ nat_lt i n → n ≤ i
-outside i n h = grind arith
-
-pub read_at : (rs : Links) (i : ℕ) (o : Option (Bor (Pid × End))) → IsItemAt rs i o → option_copied o ≡ slice_get rs i
-read_at rs i None item = sym (slice_get_past rs i (outside i (length rs) item.0))
-read_at rs i (Some x) item = ap Some item.1 ∙ sym (slice_get-get_or rs i x.now (inside i (length rs) item.0))
+      (λ later. none rest i u.1 (λ k d x y. b (suc k) d (omega arith) (omega (arith, y)))
+      (λ k d x y. h (suc k) d (omega (arith, x)) (omega (arith, y))) (omega (arith, le)) t q e later l)
 
 pub sorted_is : (rs : Links) → is_sorted pid_cmp rs ≡ true → T (is_sorted pid_cmp rs)
 sorted_is rs h = subst T (sym h) tt

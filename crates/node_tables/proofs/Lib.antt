@@ -1,3 +1,4 @@
+pub mod Truths
 pub mod Texts
 pub mod Lookups
 pub mod Own

@@ -1,15 +1,18 @@
 -- What the processes of an incarnation are as maps: look-ups, and an edit at one place.
-use Rattle.std.proofs.Common.{◌≡◌, ◌≢◌, ℕ, zero, suc, ◌+◌, ◌<◌, Bool, true, false, cond, nat_eq, ◌&&◌, T, List, [], ◌∷◌, ◌++◌, append-nil, append_assoc, length, Option, None, Some, refl, sym, ap, subst, ◌∙◌, arith}
+use Rattle.std.proofs.Common.{◌≡◌, ℕ, zero, suc, ◌+◌, ◌<◌, Bool, true, false, cond, nat_eq, ◌&&◌, T, List, [], ◌∷◌, ◌++◌}
+use Rattle.std.proofs.Common.{append-nil, append_assoc, length, Option, None, Some, refl, sym, ap, subst, ◌∙◌, arith}
 use Rattle.std.proofs.lemmas.Bool.Decides.{nat_tests}
+use Rattle.std.proofs.lemmas.Bool.{eq-eqb, eqb-true, ne_eqb}
 use Rattle.std.specs.Option.{option_map, option_and_then, option_or}
 use Rattle.std.specs.List.{slice_get}
 use Rattle.std.specs.declared.cmp.Ordering.{Ordering}
-use Rattle.std.specs.declared.cmp.Ordering.TheVariants.{Less, Equal, Greater}
+use Rattle.std.specs.declared.cmp.Ordering.TheVariants.{Less, Equal}
 use Rattle.std.specs.Ordering.{is_eq, is_lt, ordering_then, nat_cmp, eq_by_cmp}
-use Rattle.std.specs.Cmp.{eq_by_cmp_equiv, nat_cmp_total, tied_itself, unsigned_ties}
+use Rattle.std.specs.Cmp.{eq_by_cmp_equiv, nat_cmp_total, tied_itself, tied_then, unsigned_ties}
 use Rattle.std.specs.Cmp.Lexicographic.{slice_cmp}
 use Rattle.std.specs.FinMap as fm
 use Rattle.std.specs.FinMap.Entries.{find, below_all, is_sorted}
+use Rattle.sorted_map.specs.Facts.{both_pass, joined}
 use Rattle.dist_model.specs.Names.{pair_cmp, same_name, same_pid}
 use Rattle.dist_model.specs.Node.{links_in}
 use Rattle.dist_model.proofs.Keys.{name_total, pid_total, same_pair}
@@ -21,37 +24,20 @@ use Rattle.link_core.specs.declared.end.End.{End}
 use Rattle.node_tables.specs.declared.life.Life.{Life}
 use Rattle.node_tables.specs.Lives.{is_own, by_id, life_in, life_of, links_of, lives_from, owned, ends_from, lives_in, ends_in, end_at}
 
-then_is_eq : (a b : Ordering) → is_eq (ordering_then a b) ≡ (is_eq a && is_eq b)
-then_is_eq Less b = refl
-then_is_eq Equal b = refl
-then_is_eq Greater b = refl
-
-pub eq_of : (a b : ℕ) → nat_eq a b ≡ true → a ≡ b
-eq_of a b h = grind (arith, nat_tests)
-
-pub ne_of : (a b : ℕ) → nat_eq a b ≡ false → a ≢ b
-ne_of a b h = grind (arith, nat_tests)
-
-pub is_eq_of : (a b : ℕ) → a ≡ b → nat_eq a b ≡ true
-is_eq_of a b h = grind (arith, nat_tests)
-
-pub ne_is : (a b : ℕ) → a ≢ b → nat_eq a b ≡ false
-ne_is a b h = grind (arith, nat_tests)
-
 shuffled : (a b c d : Bool) → (a && (b && (c && d))) ≡ ((a && (b && d)) && c)
 shuffled false b c d = refl
-shuffled true false c d = refl
 shuffled true true true true = refl
-shuffled true true true false = refl
 shuffled true true false true = refl
-shuffled true true false false = refl
+shuffled true b c d = refl
 
 -- the pid of an id
 pub at_id : (m : Minted) (n : ℕ) (p : Pid) → same_pid p (pid_of m n) ≡ (is_own m p && nat_eq p.id n)
 at_id m n p =
-    then_is_eq (slice_cmp nat_cmp p.node m.name) _
-    ∙ ap (λ b. same_name p.node m.name && b) (then_is_eq (nat_cmp p.creation m.creation) _ ∙ ap (λ b. is_eq (nat_cmp p.creation m.creation) && b) (then_is_eq (nat_cmp p.id n) (nat_cmp p.serial 0)))
-    ∙ ap (λ b. same_name p.node m.name && b) (λ i. sym (unsigned_ties p.creation m.creation) i && (sym (unsigned_ties p.id n) i && sym (unsigned_ties p.serial 0) i))
+    sym (tied_then (slice_cmp nat_cmp p.node m.name) _)
+    ∙ ap (λ b. same_name p.node m.name && b) (sym (tied_then (nat_cmp p.creation m.creation) _)
+    ∙ ap (λ b. is_eq (nat_cmp p.creation m.creation) && b) (sym (tied_then (nat_cmp p.id n) (nat_cmp p.serial 0))))
+    ∙ ap (λ b. same_name p.node m.name && b)
+    (λ i. sym (unsigned_ties p.creation m.creation) i && (sym (unsigned_ties p.id n) i && sym (unsigned_ties p.serial 0) i))
     ∙ shuffled (same_name p.node m.name) (nat_eq p.creation m.creation) (nat_eq p.id n) (nat_eq p.serial 0)
 
 -- ---- the entry of an id, where the first entry has another id than 1
@@ -62,15 +48,17 @@ from_id (e ∷ es) n id = cond (nat_eq id n) (Some e) (from_id es (suc n) id)
 before_id : (es : List Life) (n id : ℕ) → id < n → from_id es n id ≡ None
 unfolding from_id
 before_id [] n id l = refl
-before_id (e ∷ es) n id l = ap (λ b. cond b (Some e) (from_id es (suc n) id)) (ne_is id n (omega arith)) ∙ before_id es (suc n) id (omega arith)
+before_id (e ∷ es) n id l =
+    ap (λ b. cond b (Some e) (from_id es (suc n) id)) (ne_eqb id n (omega arith)) ∙ before_id es (suc n) id (omega arith)
 
 from_place : (es : List Life) (n k : ℕ) → from_id es n (n + k) ≡ slice_get es k
 unfolding from_id
 from_place [] n k = refl
-from_place (e ∷ es) n zero = ap (λ b. cond b (Some e) (from_id es (suc n) (n + 0))) (is_eq_of (n + 0) n (omega arith))
+from_place (e ∷ es) n zero = ap (λ b. cond b (Some e) (from_id es (suc n) (n + 0))) (eq-eqb (n + 0) n (omega arith))
 from_place (e ∷ es) n (suc k) =
     let same : n + suc k ≡ suc n + k = omega arith in
-    ap (λ b. cond b (Some e) (from_id es (suc n) (n + suc k))) (ne_is (n + suc k) n (omega arith)) ∙ ap (from_id es (suc n)) same ∙ from_place es (suc n) k
+    ap (λ b. cond b (Some e) (from_id es (suc n) (n + suc k))) (ne_eqb (n + suc k) n (omega arith))
+    ∙ ap (from_id es (suc n)) same ∙ from_place es (suc n) k
 
 from_one : (es : List Life) (id : ℕ) → from_id es 1 id ≡ by_id es id
 from_one es zero = before_id es 1 0 (omega arith)
@@ -78,12 +66,13 @@ from_one es (suc k) = let same : suc k ≡ 1 + k = omega arith in ap (from_id es
 
 -- ---- look-ups
 
-found_life : (o i : Bool) (e : Life) (rest : Option Life) → cond (o && i) (Some (life_of e)) (option_map life_of (cond o rest None)) ≡ option_map life_of (cond o (cond i (Some e) rest) None)
+found_life : (o i : Bool) (e : Life) (rest : Option Life)
+    → cond (o && i) (Some (life_of e)) (option_map life_of (cond o rest None)) ≡ option_map life_of (cond o (cond i (Some e) rest) None)
 found_life true true e rest = refl
-found_life true false e rest = refl
-found_life false i e rest = refl
+found_life _ _ e rest = refl
 
-find_life : (m : Minted) (es : List Life) (n : ℕ) (p : Pid) → find pid_cmp p (lives_from m n es) ≡ option_map life_of (cond (is_own m p) (from_id es n p.id) None)
+find_life : (m : Minted) (es : List Life) (n : ℕ) (p : Pid)
+    → find pid_cmp p (lives_from m n es) ≡ option_map life_of (cond (is_own m p) (from_id es n p.id) None)
 unfolding from_id
 find_life m [] n p = go (is_own m p)
   where
@@ -97,7 +86,7 @@ find_life m (e ∷ es) n p =
 
 -- ---- they are in the order of their keys
 
-pub less_id : (m : Minted) (n k : ℕ) → n < k → is_lt (pid_cmp (pid_of m n) (pid_of m k)) ≡ true
+pub less_id : (m : Minted) (n k : ℕ) → n < k → pid_cmp (pid_of m n) (pid_of m k) ≡ Less
 less_id m n k l =
     let name : slice_cmp nat_cmp m.name m.name ≡ Equal = tied_itself name_total m.name in
     let creation : nat_cmp m.creation m.creation ≡ Equal = tied_itself nat_cmp_total m.creation in
@@ -113,15 +102,11 @@ both false b h k = cc
 
 lives_above : (m : Minted) (n k : ℕ) (es : List Life) → n < k → T (below_all pid_cmp (pid_of m n) (lives_from m k es))
 lives_above m n k [] l = tt
-lives_above m n k (e ∷ es) l = both _ _ (less_id m n k l) (lives_above m n (suc k) es (omega arith))
+lives_above m n k (e ∷ es) l = both _ _ (ap is_lt (less_id m n k l)) (lives_above m n (suc k) es (omega arith))
 
 pub lives_sorted : (m : Minted) (n : ℕ) (es : List Life) → T (is_sorted pid_cmp (lives_from m n es))
 lives_sorted m n [] = tt
-lives_sorted m n (e ∷ es) = pair _ _ (lives_above m n (suc n) es (omega arith)) (lives_sorted m (suc n) es)
-  where
-    pair : (a b : Bool) → T a → T b → T (a && b)
-    pair true b h k = k
-    pair false b h k = absurd h
+lives_sorted m n (e ∷ es) = joined _ _ (lives_above m n (suc n) es (omega arith)) (lives_sorted m (suc n) es)
 
 pub get_life : (m : Minted) (es : List Life) (p : Pid) → fm.get (lives_in m es) p ≡ option_map life_of (life_in m es p)
 unfolding lives_in
@@ -157,7 +142,8 @@ or_none : {A : Type 0} (o : Option A) → option_or o None ≡ o
 or_none None = refl
 or_none (Some x) = refl
 
-find_end : (m : Minted) (es : List Life) (n : ℕ) (p q : Pid) → find pair_cmp (p, q) (ends_from m n es) ≡ option_and_then (end_at q) (cond (is_own m p) (from_id es n p.id) None)
+find_end : (m : Minted) (es : List Life) (n : ℕ) (p q : Pid)
+    → find pair_cmp (p, q) (ends_from m n es) ≡ option_and_then (end_at q) (cond (is_own m p) (from_id es n p.id) None)
 unfolding from_id
 find_end m [] n p q = go (is_own m p)
   where
@@ -166,63 +152,60 @@ find_end m [] n p q = go (is_own m p)
     go false = refl
 find_end m (e ∷ es) n p q =
     find_or pair_cmp (p, q) (owned (pid_of m n) (fm.entries (links_of e))) (ends_from m (suc n) es)
-    ∙ ap (λ x. option_or x (find pair_cmp (p, q) (ends_from m (suc n) es))) (find_owned (pid_of m n) p q (fm.entries (links_of e)) ∙ ap (λ b. cond b (find pid_cmp q (fm.entries (links_of e))) None) (at_id m n p))
+    ∙ ap (λ x. option_or x (find pair_cmp (p, q) (ends_from m (suc n) es))) (find_owned (pid_of m n) p q (fm.entries (links_of e))
+    ∙ ap (λ b. cond b (find pid_cmp q (fm.entries (links_of e))) None) (at_id m n p))
     ∙ ap (option_or (cond (is_own m p && nat_eq p.id n) (find pid_cmp q (fm.entries (links_of e))) None)) (find_end m es (suc n) p q)
     ∙ go (is_own m p) (nat_eq p.id n) refl
   where
     here : find pid_cmp q (fm.entries (links_of e)) ≡ end_at q e
     here = sym (fm.get-entries (links_of e) q)
 
-    go : (o i : Bool) → nat_eq p.id n ≡ i → option_or (cond (o && i) (find pid_cmp q (fm.entries (links_of e))) None) (option_and_then (end_at q) (cond o (from_id es (suc n) p.id) None))
+    go : (o i : Bool) → nat_eq p.id n ≡ i → option_or (cond (o && i) (find pid_cmp q (fm.entries (links_of e))) None)
+        (option_and_then (end_at q) (cond o (from_id es (suc n) p.id) None))
         ≡ option_and_then (end_at q) (cond o (cond i (Some e) (from_id es (suc n) p.id)) None)
     go false i h = refl
     go true false h = refl
     go true true h =
-        let same : p.id ≡ n = eq_of p.id n h in
-        ap (λ o. option_or (find pid_cmp q (fm.entries (links_of e))) (option_and_then (end_at q) o)) (before_id es (suc n) p.id (omega arith))
+        let same : p.id ≡ n = eqb-true p.id n h in
+        ap (λ o. option_or (find pid_cmp q (fm.entries (links_of e))) (option_and_then (end_at q) o))
+        (before_id es (suc n) p.id (omega arith))
         ∙ or_none _ ∙ here
 
 -- the keys of a later part are greater
-T_both : (a b : Bool) → T a → T b → T (a && b)
-T_both true b h k = k
-T_both false b h k = absurd h
 
-T_first : (a b : Bool) → T (a && b) → T a
-T_first true b h = tt
-T_first false b h = absurd h
+lt_pair : (P Q x y : Pid) → pid_cmp P Q ≡ Less → is_lt (pair_cmp (P, x) (Q, y)) ≡ true
+lt_pair P Q x y h = ap (λ o. is_lt (ordering_then o (pid_cmp x y))) h
 
-T_second : (a b : Bool) → T (a && b) → T b
-T_second true b h = h
-T_second false b h = absurd h
-
-lt_pair : (P Q x y : Pid) → is_lt (pid_cmp P Q) ≡ true → is_lt (pair_cmp (P, x) (Q, y)) ≡ true
-lt_pair P Q x y h = go (pid_cmp P Q) h
-  where
-    go : (o : Ordering) → is_lt o ≡ true → is_lt (ordering_then o (pid_cmp x y)) ≡ true
-    go Less h = refl
-    go Equal h = cc
-    go Greater h = cc
-
-below_owned : (P Q x : Pid) (ys : List (Pid × End)) (rest : List ((Pid × Pid) × End)) → is_lt (pid_cmp P Q) ≡ true → T (below_all pair_cmp (P, x) rest) → T (below_all pair_cmp (P, x) (owned Q ys ++ rest))
+below_owned : (P Q x : Pid) (ys : List (Pid × End)) (rest : List ((Pid × Pid) × End)) → pid_cmp P Q ≡ Less
+    → T (below_all pair_cmp (P, x) rest) → T (below_all pair_cmp (P, x) (owned Q ys ++ rest))
 below_owned P Q x [] rest h k = k
 below_owned P Q x (y ∷ ys) rest h k = both _ _ (lt_pair P Q x y.0 h) (below_owned P Q x ys rest h k)
 
 ends_above : (m : Minted) (n k : ℕ) (es : List Life) (x : Pid) → n < k → T (below_all pair_cmp (pid_of m n, x) (ends_from m k es))
 ends_above m n k [] x l = tt
-ends_above m n k (e ∷ es) x l = below_owned (pid_of m n) (pid_of m k) x (fm.entries (links_of e)) (ends_from m (suc k) es) (less_id m n k l) (ends_above m n (suc k) es x (omega arith))
+ends_above m n k (e ∷ es) x l =
+    below_owned (pid_of m n) (pid_of m k) x (fm.entries (links_of e)) (ends_from m (suc k) es) (less_id m n k l)
+    (ends_above m n (suc k) es x (omega arith))
 
-own_below : (P x : Pid) (ys : List (Pid × End)) (rest : List ((Pid × Pid) × End)) → T (below_all pid_cmp x ys) → T (below_all pair_cmp (P, x) rest) → T (below_all pair_cmp (P, x) (owned P ys ++ rest))
+own_below : (P x : Pid) (ys : List (Pid × End)) (rest : List ((Pid × Pid) × End)) → T (below_all pid_cmp x ys)
+    → T (below_all pair_cmp (P, x) rest) → T (below_all pair_cmp (P, x) (owned P ys ++ rest))
 own_below P x [] rest h k = k
 own_below P x (y ∷ ys) rest h k =
-    T_both _ _ (subst (λ o. T (is_lt (ordering_then o (pid_cmp x y.0)))) (sym (tied_itself pid_total P)) (T_first _ _ h)) (own_below P x ys rest (T_second _ _ h) k)
+    joined _ _ (subst (λ o. T (is_lt (ordering_then o (pid_cmp x y.0)))) (sym (tied_itself pid_total P)) (both_pass _ _ h).0)
+    (own_below P x ys rest (both_pass _ _ h).1 k)
 
-own_sorted : (P : Pid) (xs : List (Pid × End)) (rest : List ((Pid × Pid) × End)) → T (is_sorted pid_cmp xs) → T (is_sorted pair_cmp rest) → ((x : Pid) → T (below_all pair_cmp (P, x) rest)) → T (is_sorted pair_cmp (owned P xs ++ rest))
+own_sorted : (P : Pid) (xs : List (Pid × End)) (rest : List ((Pid × Pid) × End)) → T (is_sorted pid_cmp xs)
+    → T (is_sorted pair_cmp rest) → ((x : Pid) → T (below_all pair_cmp (P, x) rest))
+    → T (is_sorted pair_cmp (owned P xs ++ rest))
 own_sorted P [] rest h k l = k
-own_sorted P (x ∷ xs) rest h k l = T_both _ _ (own_below P x.0 xs rest (T_first _ _ h) (l x.0)) (own_sorted P xs rest (T_second _ _ h) k l)
+own_sorted P (x ∷ xs) rest h k l =
+    joined _ _ (own_below P x.0 xs rest (both_pass _ _ h).0 (l x.0)) (own_sorted P xs rest (both_pass _ _ h).1 k l)
 
 pub ends_sorted : (m : Minted) (n : ℕ) (es : List Life) → T (is_sorted pair_cmp (ends_from m n es))
 ends_sorted m n [] = tt
-ends_sorted m n (e ∷ es) = own_sorted (pid_of m n) (fm.entries (links_of e)) (ends_from m (suc n) es) (fm.entries_sorted (links_of e)) (ends_sorted m (suc n) es) (λ x. ends_above m n (suc n) es x (omega arith))
+ends_sorted m n (e ∷ es) =
+    own_sorted (pid_of m n) (fm.entries (links_of e)) (ends_from m (suc n) es) (fm.entries_sorted (links_of e))
+    (ends_sorted m (suc n) es) (λ x. ends_above m n (suc n) es x (omega arith))
 
 pub get_end : (m : Minted) (es : List Life) (p q : Pid) → fm.get (ends_in m es) (p, q) ≡ option_and_then (end_at q) (life_in m es p)
 unfolding ends_in
@@ -256,7 +239,8 @@ links_owned p P (x ∷ xs) =
     go true = refl
     go false = refl
 
-links_from : (m : Minted) (es : List Life) (n : ℕ) (p : Pid) → links_in (ends_from m n es) p ≡ links_held (cond (is_own m p) (from_id es n p.id) None)
+links_from : (m : Minted) (es : List Life) (n : ℕ) (p : Pid)
+    → links_in (ends_from m n es) p ≡ links_held (cond (is_own m p) (from_id es n p.id) None)
 unfolding from_id
 links_from m [] n p = go (is_own m p)
   where
@@ -265,7 +249,8 @@ links_from m [] n p = go (is_own m p)
     go false = refl
 links_from m (e ∷ es) n p =
     links_both p (owned (pid_of m n) (fm.entries (links_of e))) (ends_from m (suc n) es)
-    ∙ ap (λ l. l ++ links_in (ends_from m (suc n) es) p) (links_owned p (pid_of m n) (fm.entries (links_of e)) ∙ ap (λ b. cond b (fm.entries (links_of e)) []) (at_id m n p))
+    ∙ ap (λ l. l ++ links_in (ends_from m (suc n) es) p)
+    (links_owned p (pid_of m n) (fm.entries (links_of e)) ∙ ap (λ b. cond b (fm.entries (links_of e)) []) (at_id m n p))
     ∙ ap (λ l. cond (is_own m p && nat_eq p.id n) (fm.entries (links_of e)) [] ++ l) (links_from m es (suc n) p)
     ∙ go (is_own m p) (nat_eq p.id n) refl
   where
@@ -274,7 +259,7 @@ links_from m (e ∷ es) n p =
     go false i h = refl
     go true false h = refl
     go true true h =
-        let same : p.id ≡ n = eq_of p.id n h in
+        let same : p.id ≡ n = eqb-true p.id n h in
         ap (λ o. fm.entries (links_of e) ++ links_held o) (before_id es (suc n) p.id (omega arith)) ∙ append-nil _
 
 pub get_links : (m : Minted) (es : List Life) (p : Pid) → links_in (fm.entries (ends_in m es)) p ≡ links_held (life_in m es p)

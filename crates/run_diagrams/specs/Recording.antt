@@ -1,5 +1,6 @@
 -- What of an event stands in the row that is made of it: each item that it sent, on the queue of its way, and whether the row takes one.
-use Rattle.std.specs.Prelude.{◌≡◌, ℕ, Bool, ◌==◌, ◌&&◌, ◌||◌, not, nat_lt, if◌then◌else◌, List, [], ◌∷◌, ◌++◌, length, Option, None, Some, is_none, Result, Ok, Err}
+use Rattle.std.specs.Prelude.{◌≡◌, ℕ, Bool, ◌==◌, ◌&&◌, ◌||◌, not, nat_lt, if◌then◌else◌, List}
+use Rattle.std.specs.Prelude.{[], ◌∷◌, ◌++◌, length, Option, None, Some, is_none, Result, Ok, Err}
 use Rattle.std.specs.List.{flat_map}
 use Rattle.diagram.specs.declared.rows.Mark.{Mark}
 use Rattle.diagram.specs.declared.rows.Mark.TheVariants as mark
@@ -81,7 +82,8 @@ abbrev pub with_row : List Row → Row → List Row
 with_row rows row = if is_blank row || is_full rows then rows else rows ++ row ∷ []
 
 -- an event has a row of its own
-pub record IsRecorded (node : Name) (trunk : Option TrunkId) (came : Result (Report Framed) Refusal) (old new : List Row) (all : List Way) : Type 0 where
+pub record IsRecorded (node : Name) (trunk : Option TrunkId) (came : Result (Report Framed) Refusal) (old new : List Row)
+    (all : List Way) : Type 0 where
   pub row : Row
   pub behind : new ≡ with_row old row
   pub is : IsRowFor node trunk came all row

@@ -20,7 +20,8 @@ same_items (x ∷ xs) (y ∷ ys) h =
     let first : x ≡ y = cc in
     ap (λ z. z ∷ xs) first ∙ ap (λ zs. y ∷ zs) (same_items xs ys rest)
 
-pub same_tuples : (a b : Term) (v w : Vec Term) (xs ys : List Term) (r : Bool) → a ≡ term.Tuple v → b ≡ term.Tuple w → xs ≡ v.items → ys ≡ w.items
+pub same_tuples : (a b : Term) (v w : Vec Term) (xs ys : List Term) (r : Bool) → a ≡ term.Tuple v → b ≡ term.Tuple w
+    → xs ≡ v.items → ys ≡ w.items
     → (IsTrue r ↔ (map view xs ≡ map view ys)) → (IsTrue r ↔ (view a ≡ view b))
 same_tuples a b v w xs ys r is bis x y h =
     let va = view-tuple a v is in
@@ -58,14 +59,16 @@ same_parts a b v w (Some x) (Some y) is bis e =
     let tails : view x.value ≡ view y.value = cc in
     (same_items _ _ same, ap (λ d. Some d) tails)
 
-pub other_items : (a b : Term) (v w : Vec Term) (o p : Option (Box Term Global)) (xs ys : List Term) (r : Bool) → a ≡ term.List v o → b ≡ term.List w p → xs ≡ v.items
+pub other_items : (a b : Term) (v w : Vec Term) (o p : Option (Box Term Global)) (xs ys : List Term) (r : Bool)
+    → a ≡ term.List v o → b ≡ term.List w p → xs ≡ v.items
     → ys ≡ w.items → r ≡ false → (IsTrue r ↔ (map view xs ≡ map view ys)) → (IsTrue r ↔ (view a ≡ view b))
 other_items a b v w o p xs ys r is bis x y not_these h = (
   (λ t. let f : false ≡ true = subst (λ q. IsTrue q) not_these t in absurd cc),
   (λ e. h.1 (ap (map view) x ∙ (same_parts a b v w o p is bis e).0 ∙ ap (map view) (sym y))),
 )
 
-pub not_at : (xs ys : List Term) (k : ℕ) (x y : Term) (r : Bool) → x ≡ get_or xs k x → y ≡ get_or ys k y → k < length xs → k < length ys → r ≡ false
+pub not_at : (xs ys : List Term) (k : ℕ) (x y : Term) (r : Bool) → x ≡ get_or xs k x → y ≡ get_or ys k y → k < length xs
+    → k < length ys → r ≡ false
     → (IsTrue r ↔ (view x ≡ view y)) → (IsTrue false ↔ (map view xs ≡ map view ys))
 not_at xs ys k x y r i j lx ly not_these h =
     ((λ t. let f : false ≡ true = t in absurd cc), (λ e. subst (λ q. IsTrue q) not_these (h.1 (at_place view xs ys k x y i j lx ly e))))

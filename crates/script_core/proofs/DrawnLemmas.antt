@@ -16,12 +16,11 @@ ends_so r old new outcome.OutOfMemory a = tt
 ends_so r old new outcome.Unmerged a = a
 ends_so r old new outcome.Failed a = tt
 
-pub drawn : (drawing : List ℕ) (old new : Option (List ℕ)) (o : Outcome) → (o ≡ outcome.OutOfMemory → ⊥) → IsDocument drawing → Appends old new drawing → Draws old new o
-drawn drawing old new outcome.Ran n d a = record { drawing = drawing; document = d; appended = a }
-drawn drawing old new (outcome.BadLine number reason) n d a = record { drawing = drawing; document = d; appended = a }
+pub drawn : (drawing : List ℕ) (old new : Option (List ℕ)) (o : Outcome) → (o ≡ outcome.OutOfMemory → ⊥) → IsDocument drawing
+    → Appends old new drawing → Draws old new o
 drawn drawing old new outcome.OutOfMemory n d a = absurd (n refl)
-drawn drawing old new outcome.Unmerged n d a = record { drawing = drawing; document = d; appended = a }
 drawn drawing old new outcome.Failed n d a = record { drawing = drawing; document = d; front = front_whole drawing old new a }
+drawn drawing old new _ n d a = record { drawing = drawing; document = d; appended = a }
 
 pub ends_all : (known : Option (List ℕ)) (r : List ℕ → Run) (old new : Option (List ℕ)) (o : Outcome)
     → IfSome known (λ input. Answers (r input) old new o) → IfSome known (λ input. Ends (r input).verdict o)

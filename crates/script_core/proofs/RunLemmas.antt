@@ -21,8 +21,11 @@ pick false x y h k = k
 lines_led : Leads → (number : ℕ) (state : State) (lines : List (List ℕ)) → IsLed state → IsLed (runs_lines number state lines).state
 lines_led leads number state [] h = h
 lines_led leads number state (line ∷ lines) h =
-    pick (ltb 1048576 number) (stops TooManyLines state) (runs_step number state (line_does state line) (λ (after : State). runs_lines (number + 1) after lines)) h
-    (stepped number state (line_does state line) (λ (after : State). runs_lines (number + 1) after lines) h (leads state line h) (λ after a. lines_led leads (number + 1) after lines a))
+    pick (ltb 1048576 number) (stops TooManyLines state)
+    (runs_step number state (line_does state line) (λ (after : State). runs_lines (number + 1) after lines)) h
+    (stepped number state (line_does state line) (λ (after : State). runs_lines (number + 1) after lines) h
+    (leads state line h) (λ after a. lines_led leads (number + 1) after lines a))
 
-pub script_led : ((trace : Bool) (word : ℕ) → IsLed (fresh_state trace word)) → Leads → (trace : Bool) (seed : ℕ) (input : List ℕ) → IsLed (script trace seed input).state
+pub script_led : ((trace : Bool) (word : ℕ) → IsLed (fresh_state trace word)) → Leads
+    → (trace : Bool) (seed : ℕ) (input : List ℕ) → IsLed (script trace seed input).state
 script_led fresh leads trace seed input = lines_led leads 1 (fresh_state trace seed) (lines_of input) (fresh trace seed)

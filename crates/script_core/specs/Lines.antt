@@ -6,14 +6,16 @@ use Rattle.script_session.specs.declared.session.Stop.{Stop}
 use Rattle.script_session.specs.declared.session.Stop.TheVariants as stop
 
 -- it was run, and what it prints is put behind the text
-pub record Steps {S : Type 0} (stands : S → State → Type 0) (does : Result Step Reason) (new : S) (old_text new_text : List ℕ) : Type 0 where
+pub record Steps {S : Type 0} (stands : S → State → Type 0) (does : Result Step Reason) (new : S)
+    (old_text new_text : List ℕ) : Type 0 where
   pub step : Step
   pub says : does ≡ Ok step
   pub state : stands new step.state
   pub text : new_text ≡ old_text ++ step.text
 
 -- or it is a bad line, or memory is wanting
-abbrev pub Heeds : {S : Type 0} → (S → State → Type 0) → Result Step Reason → S → (old_text new_text : List ℕ) → Result (Unit {0}) Stop → Type 0
+abbrev pub Heeds : {S : Type 0} → (S → State → Type 0) → Result Step Reason → S → (old_text new_text : List ℕ)
+    → Result (Unit {0}) Stop → Type 0
 Heeds stands does new old_text new_text (Ok x) = Steps stands does new old_text new_text
 Heeds stands does new old_text new_text (Err (stop.Bad reason)) = does ≡ Err reason
 Heeds stands does new old_text new_text (Err stop.OutOfMemory) = Unit {0}

@@ -1,5 +1,6 @@
 -- What running a script answers and writes, and where a run stands whose script has come in part.
-use Rattle.std.specs.Prelude.{◌≡◌, ◌≤◌, ℕ, ◌==◌, false, nat_lt, if◌then◌else◌, List, [], ◌++◌, length, All, Option, None, Some, Result, Ok, Err}
+use Rattle.std.specs.Prelude.{◌≡◌, ◌≤◌, ℕ, ◌==◌, false, nat_lt, if◌then◌else◌, List, []}
+use Rattle.std.specs.Prelude.{◌++◌, length, All, Option, None, Some, Result, Ok, Err}
 use Rattle.std.specs.Io.KnownBytes.{Appends}
 use Rattle.script_core.specs.declared.script.Outcome.{Outcome}
 use Rattle.script_core.specs.declared.script.Outcome.TheVariants.{Ran, BadLine, OutOfMemory, Unmerged, Failed}
@@ -23,7 +24,8 @@ pub record AppendsFront (text : List ℕ) (old new : Option (List ℕ)) : Type 0
   pub parts : text ≡ front ++ rest
   pub appended : Appends old new front
 
--- The answer to a script whose run this is, and what was written. Reading, writing and memory may fail at any place, and then a beginning of the text was written.
+-- The answer to a script whose run this is, and what was written. Reading, writing and memory may fail at any
+-- place, and then a beginning of the text was written.
 abbrev pub Answers : Run → Option (List ℕ) → Option (List ℕ) → Outcome → Type 0
 Answers r old new Ran = (r.verdict ≡ Whole) × Appends old new r.text
 Answers r old new (BadLine number reason) = (r.verdict ≡ AtBadLine number reason) × Appends old new r.text
@@ -72,7 +74,8 @@ Took p bytes is_at old new (Ok x) = Reaches p bytes is_at old new
 Took p bytes is_at old new (Err outcome) = (rest : List ℕ) → Answers (rest_of p (bytes ++ rest)) old new outcome
 
 -- what has been read of the input was taken
-pub record Progress (from : State) (input : List ℕ) (remaining : Option (List ℕ)) (is_at : Position → Type 0) (old new : Option (List ℕ)) : Type 0 where
+pub record Progress (from : State) (input : List ℕ) (remaining : Option (List ℕ)) (is_at : Position → Type 0)
+    (old new : Option (List ℕ)) : Type 0 where
   pub bytes : List ℕ
   pub left : List ℕ
   pub remains : remaining ≡ Some left

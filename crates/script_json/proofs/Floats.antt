@@ -39,24 +39,13 @@ in_links [] = refl
 in_links (link ∷ links) = in_links links
 
 in_answer : (a : Answer) → has_float (answer_data a) ≡ false
-in_answer answer.Done = refl
-in_answer (answer.Pid p) = refl
-in_answer (answer.Reference r) = refl
 in_answer (answer.Message message) = ap (λ b. b || false) (in_message message)
 in_answer (answer.Links links) = ap (λ b. b || false) (in_links links)
-in_answer (answer.Alive living) = refl
-in_answer (answer.Trunk trunk) = refl
-in_answer (answer.Took kind) = refl
-in_answer (answer.Broken fault) = refl
-in_answer (answer.Swept swept) = refl
-in_answer answer.Stopped = refl
-in_answer (answer.Started creation) = refl
+in_answer _ = refl
 
 in_effect : (effect : Effect Framed) → has_float (effect_data effect) ≡ false
-in_effect (Effect.Put to message) = refl
-in_effect (Effect.Ended p reason) = refl
-in_effect (Effect.LinkExit p partner reason) = refl
 in_effect (Effect.Sent trunk peer frame) = ap₂ (λ b c. b || (c || false)) (in_kind (kind_in frame.bytes)) (in_trunk trunk)
+in_effect _ = refl
 
 in_effects : (effects : List (Effect Framed)) → items_have_float (items_of (map effect_data effects)) ≡ false
 in_effects [] = refl
@@ -68,27 +57,12 @@ in_came (Err refusal) = refl
 
 in_command : (c : Command) → has_float (command_data c) ≡ false
 in_command command.Spawn = refl
-in_command (command.Send from to message) = refl
-in_command (command.Link from to) = refl
-in_command (command.Unlink from to) = refl
-in_command (command.Monitor owner target) = refl
-in_command (command.Demonitor owner reference) = refl
-in_command (command.Trap p on) = refl
-in_command (command.ExitTo from to reason) = refl
-in_command (command.ExitSelf p reason) = refl
-in_command (command.Receive p) = refl
-in_command (command.LinksOf p) = refl
-in_command (command.IsAlive p) = refl
+in_command _ = refl
 
 in_event : (e : NodeEvent) → has_float (event_data e) ≡ false
 in_event (event.Call c) = in_command c
-in_event (event.Arrive trunk word) = refl
-in_event event.Local = refl
-in_event (event.Lose trunk) = refl
-in_event event.Sweep = refl
-in_event (event.Dial peer word) = refl
-in_event event.Stop = refl
-in_event event.Start = refl
+in_event _ = refl
 
-pub in_line : (node : List ℕ) (e : NodeEvent) (came : Result (Report Framed) Refusal) → has_float (line_data node (event_data e) came) ≡ false
+pub in_line : (node : List ℕ) (e : NodeEvent) (came : Result (Report Framed) Refusal)
+    → has_float (line_data node (event_data e) came) ≡ false
 in_line node e came = rw (in_came came, in_effects (brought came), in_event e) refl

@@ -13,9 +13,11 @@ command_data (command.Send from to message) =
     object (member (codes "from") (process from) (member (codes "kind") (string (codes "send"))
     (member (codes "message") (payload message) (member (codes "to") (process to) no_members))))
 command_data (command.Link from to) =
-    object (member (codes "from") (process from) (member (codes "kind") (string (codes "link")) (member (codes "to") (process to) no_members)))
+    object
+    (member (codes "from") (process from) (member (codes "kind") (string (codes "link")) (member (codes "to") (process to) no_members)))
 command_data (command.Unlink from to) =
-    object (member (codes "from") (process from) (member (codes "kind") (string (codes "unlink")) (member (codes "to") (process to) no_members)))
+    object (member (codes "from") (process from)
+    (member (codes "kind") (string (codes "unlink")) (member (codes "to") (process to) no_members)))
 command_data (command.Monitor owner target) =
     object (member (codes "kind") (string (codes "monitor")) (member (codes "owner") (process owner)
     (member (codes "target") (process target) no_members)))
@@ -23,24 +25,30 @@ command_data (command.Demonitor owner reference) =
     object (member (codes "kind") (string (codes "demonitor")) (member (codes "owner") (process owner)
     (member (codes "reference") (monitor reference) no_members)))
 command_data (command.Trap p on) =
-    object (member (codes "kind") (string (codes "trap")) (member (codes "on") (boolean on) (member (codes "process") (process p) no_members)))
+    object
+    (member (codes "kind") (string (codes "trap")) (member (codes "on") (boolean on) (member (codes "process") (process p) no_members)))
 command_data (command.ExitTo from to reason) =
     object (member (codes "from") (process from) (member (codes "kind") (string (codes "exit"))
     (member (codes "reason") (payload reason) (member (codes "to") (process to) no_members))))
 command_data (command.ExitSelf p reason) =
-    object (member (codes "kind") (string (codes "die")) (member (codes "process") (process p) (member (codes "reason") (payload reason) no_members)))
-command_data (command.Receive p) = object (member (codes "kind") (string (codes "receive")) (member (codes "process") (process p) no_members))
+    object (member (codes "kind") (string (codes "die"))
+    (member (codes "process") (process p) (member (codes "reason") (payload reason) no_members)))
+command_data (command.Receive p) =
+    object (member (codes "kind") (string (codes "receive")) (member (codes "process") (process p) no_members))
 command_data (command.LinksOf p) = object (member (codes "kind") (string (codes "links")) (member (codes "process") (process p) no_members))
 command_data (command.IsAlive p) = object (member (codes "kind") (string (codes "alive")) (member (codes "process") (process p) no_members))
 
 -- the challenge of an arrival is of use where the connection is new, and isn't told
 abbrev pub event_data : NodeEvent → Data
 event_data (event.Call command) = command_data command
-event_data (event.Arrive trunk word) = object (member (codes "kind") (string (codes "arrive")) (member (codes "trunk") (connection trunk) no_members))
+event_data (event.Arrive trunk word) =
+    object (member (codes "kind") (string (codes "arrive")) (member (codes "trunk") (connection trunk) no_members))
 event_data event.Local = object (member (codes "kind") (string (codes "local")) no_members)
-event_data (event.Lose trunk) = object (member (codes "kind") (string (codes "lose")) (member (codes "trunk") (connection trunk) no_members))
+event_data (event.Lose trunk) =
+    object (member (codes "kind") (string (codes "lose")) (member (codes "trunk") (connection trunk) no_members))
 event_data event.Sweep = object (member (codes "kind") (string (codes "sweep")) no_members)
 event_data (event.Dial peer word) =
-    object (member (codes "challenge") (number (unsigned word)) (member (codes "kind") (string (codes "dial")) (member (codes "peer") (string peer) no_members)))
+    object (member (codes "challenge") (number (unsigned word))
+    (member (codes "kind") (string (codes "dial")) (member (codes "peer") (string peer) no_members)))
 event_data event.Stop = object (member (codes "kind") (string (codes "stop")) no_members)
 event_data event.Start = object (member (codes "kind") (string (codes "start")) no_members)

@@ -1,9 +1,11 @@
 -- A line for a node comes only before any other command.
-use Rattle.std.proofs.Common.{◌≡◌, ◌&&◌, ℕ, eqb, Bool, true, false, cond, not, List, [], ◌∷◌, length, nat_lt, Option, None, Some, Result, Ok, Err, refl, sym, ap, subst, ◌∙◌}
+use Rattle.std.proofs.Common.{◌≡◌, ◌&&◌, ℕ, eqb, Bool, true, false, cond, not, List, [], ◌∷◌, length}
+use Rattle.std.proofs.Common.{nat_lt, Option, None, Some, Result, Ok, Err, refl, sym, ap, subst, ◌∙◌}
 use Rattle.std.specs.Str.{is_utf8}
 use Rattle.erl_term.specs.Reading.{◌>>=◌}
 use Rattle.script_lines.specs.Commands.{verb_named}
-use Rattle.script_lines.specs.Lines.{found, line_says, node_in, nodes_in, placed, process_in, process_and_term_in, processes_in, processes_and_term_in, verb_says, words_say}
+use Rattle.script_lines.specs.Lines.{found, line_says, node_in, nodes_in, placed, process_in, process_and_term_in}
+use Rattle.script_lines.specs.Lines.{processes_in, processes_and_term_in, verb_says, words_say}
 use Rattle.script_lines.specs.Naming.{demonitor_named, monitor_named, node_formed, process_named, spawn_formed, switch_named}
 use Rattle.script_lines.specs.Said.{Said}
 use Rattle.script_lines.specs.Said as says
@@ -27,13 +29,15 @@ bind (Err reason) f h = tt
 late : (may : MayCome) (look : Look) (v : Verb) (rest : List ℕ) → may.node ≡ false → IsOther (verb_says may look v rest)
 late may look verb.Node rest e = bind (two_words rest) _ (λ words. never words)
   where
-    never : (words : List ℕ × List ℕ) → IsOther (placed may.node >>= λ _. node_formed words.0 words.1 >>= λ _. Ok (says.Node words.0 words.1))
+    never : (words : List ℕ × List ℕ)
+        → IsOther (placed may.node >>= λ _. node_formed words.0 words.1 >>= λ _. Ok (says.Node words.0 words.1))
     never words = subst (λ b. IsOther (placed b >>= λ _. node_formed words.0 words.1 >>= λ _. Ok (says.Node words.0 words.1))) (sym e) tt
 late may look verb.Pair rest e = bind (no_words rest) _ (λ _. bind (placed may.pair) _ (λ _. refl))
 late may look verb.Spawn rest e = bind (two_words rest) _ (λ words. bind (spawn_formed look words.0 words.1) _ (λ _. refl))
 late may look verb.Monitor rest e = bind (three_words rest) _ (λ words. bind (monitor_named look words.0 words.1 words.2) _ (λ pids. refl))
 late may look verb.Demonitor rest e = bind (two_words rest) _ (λ words. bind (demonitor_named look words.0 words.1) _ (λ ids. refl))
-late may look verb.Trap rest e = bind (two_words rest) _ (λ words. bind (switch_named words.1) _ (λ on. bind (process_named look words.0) _ (λ p. refl)))
+late may look verb.Trap rest e =
+    bind (two_words rest) _ (λ words. bind (switch_named words.1) _ (λ on. bind (process_named look words.0) _ (λ p. refl)))
 late may look verb.Send rest e = bind (processes_and_term_in look rest) _ (λ it. refl)
 late may look verb.Exit rest e = bind (processes_and_term_in look rest) _ (λ it. refl)
 late may look verb.Die rest e = bind (process_and_term_in look rest) _ (λ it. refl)
@@ -43,17 +47,13 @@ late may look verb.Ends rest e = bind (processes_in look rest) _ (λ pids. refl)
 late may look verb.Receive rest e = bind (process_in look rest) _ (λ p. refl)
 late may look verb.Links rest e = bind (process_in look rest) _ (λ p. refl)
 late may look verb.Alive rest e = bind (process_in look rest) _ (λ p. refl)
-late may look verb.Dial rest e = bind (nodes_in rest) _ (λ nodes. refl)
-late may look verb.Route rest e = bind (nodes_in rest) _ (λ nodes. refl)
-late may look verb.Lose rest e = bind (nodes_in rest) _ (λ nodes. refl)
-late may look verb.Cut rest e = bind (nodes_in rest) _ (λ nodes. refl)
-late may look verb.Deliver rest e = bind (nodes_in rest) _ (λ nodes. refl)
 late may look verb.Stop rest e = bind (node_in rest) _ (λ node. refl)
 late may look verb.Start rest e = bind (node_in rest) _ (λ node. refl)
 late may look verb.Local rest e = bind (node_in rest) _ (λ node. refl)
 late may look verb.Sweep rest e = bind (node_in rest) _ (λ node. refl)
 late may look verb.Settle rest e = bind (no_words rest) _ (λ _. refl)
 late may look verb.Show rest e = bind (no_words rest) _ (λ _. refl)
+late may look v rest e = bind (nodes_in rest) _ (λ nodes. refl)
 
 -- the same of a line, which may be passed over
 abbrev IsOtherLine : Result (Option Said) Reason → Type 0
@@ -65,7 +65,8 @@ one : (r : Result Said Reason) → IsOther r → IsOtherLine (r >>= λ it. Ok (S
 one (Ok said) h = h
 one (Err reason) h = tt
 
-verbs : (may : MayCome) (look : Look) (v : Option Verb) (rest : List ℕ) → may.node ≡ false → IsOtherLine (found v >>= λ v. verb_says may look v rest >>= λ it. Ok (Some it))
+verbs : (may : MayCome) (look : Look) (v : Option Verb) (rest : List ℕ) → may.node ≡ false
+    → IsOtherLine (found v >>= λ v. verb_says may look v rest >>= λ it. Ok (Some it))
 verbs may look None rest e = tt
 verbs may look (Some v) rest e = one (verb_says may look v rest) (late may look v rest e)
 
@@ -80,12 +81,14 @@ words may look (c ∷ cs) rest e = go (eqb c 35)
 other_line : (may : MayCome) (look : Look) (line : List ℕ) → may.node ≡ false → IsOtherLine (line_says may look line)
 other_line may look line e = go (nat_lt 65536 (length line)) (is_utf8 line)
   where
-    go : (a b : Bool) → IsOtherLine (cond a (Err Reason.TooLong) (cond b (words_say may look (word_of line) (behind_word line)) (Err Reason.NotText)))
+    go : (a b : Bool)
+        → IsOtherLine (cond a (Err Reason.TooLong) (cond b (words_say may look (word_of line) (behind_word line)) (Err Reason.NotText)))
     go true b = tt
     go false true = words may look (word_of line) (behind_word line) e
     go false false = tt
 
-pub node_comes_early : (state : State) (line : List ℕ) (said : Said) → line_says (may_come state) state.names line ≡ Ok (Some said) → starts said ≡ false → state.started ≡ false
+pub node_comes_early : (state : State) (line : List ℕ) (said : Said)
+    → line_says (may_come state) state.names line ≡ Ok (Some said) → starts said ≡ false → state.started ≡ false
 node_comes_early state line said h s = go state.started refl
   where
     go : (b : Bool) → state.started ≡ b → b ≡ false

@@ -1,5 +1,6 @@
 -- Some events lead to the world after each line.
-use Rattle.std.proofs.Common.{◌≡◌, ℕ, zero, suc, Bool, true, false, cond, List, [], ◌∷◌, ◌++◌, Option, None, Some, Result, Ok, Err, IfOk, refl, sym, ap, subst, ◌∙◌, inl}
+use Rattle.std.proofs.Common.{◌≡◌, ℕ, zero, suc, Bool, true, false, cond, List, [], ◌∷◌, ◌++◌, Option}
+use Rattle.std.proofs.Common.{None, Some, Result, Ok, Err, IfOk, refl, sym, ap, subst, ◌∙◌, inl}
 use Rattle.std.proofs.lemmas.List.{map-append}
 use Rattle.std.specs.FinMap as fm
 use Rattle.dist_model.specs.Names.{Name}
@@ -14,9 +15,11 @@ use Rattle.script_lines.specs.Said.{Said}
 use Rattle.script_lines.specs.Said as says
 use Rattle.script_lines.specs.declared.reason.Reason.{Reason}
 use Rattle.script_session.specs.Connections as connections
-use Rattle.script_session.specs.Connections.{Lost, arrives, coming_to, cuts, delivers, lose, lose_all, lose_at, lose_live, lose_on, live_sides, is_any, loses, routes}
+use Rattle.script_session.specs.Connections.{Lost, arrives, coming_to, cuts, delivers, lose, lose_all}
+use Rattle.script_session.specs.Connections.{lose_at, lose_live, lose_on, live_sides, is_any, loses, routes}
 use Rattle.script_session.specs.Pairs.{pair_nodes, pair_plays, pair_stage}
-use Rattle.script_session.specs.Session.{State, asks, does, is_taken, joined, line_does, may_come, moves, plays, plays_as, says_does, starts}
+use Rattle.script_session.specs.Session.{State, asks, does, is_taken, joined, line_does}
+use Rattle.script_session.specs.Session.{may_come, moves, plays, plays_as, says_does, starts}
 use Rattle.script_session.specs.Stage as stage
 use Rattle.script_session.specs.Stage.{Scene, Stage, after, happens, play}
 use Rattle.script_session.specs.Stands.{IsLed, IsOpening}
@@ -44,11 +47,14 @@ opening_led : (world : World) → IsOpening world → IsReached world
 opening_led world o = record { nodes = o.0; events = []; reports = []; runs = o.1 }
 
 pair_led : (word : ℕ) → Led (pair_stage word)
-pair_led word = play_led pair_plays (record { world = opening pair_nodes; word = word; trace = true }) (opening_led (opening pair_nodes) (pair_nodes, refl))
+pair_led word =
+    play_led pair_plays (record { world = opening pair_nodes; word = word; trace = true })
+    (opening_led (opening pair_nodes) (pair_nodes, refl))
 
 -- ---- turns
 
-turn_led : (next : Option Event) (it : Stage) (rest : Stage → Scene) → Led it → ((now : Stage) → Led now → Led (rest now).stage) → Led (takes_turn next it rest).stage
+turn_led : (next : Option Event) (it : Stage) (rest : Stage → Scene) → Led it
+    → ((now : Stage) → Led now → Led (rest now).stage) → Led (takes_turn next it rest).stage
 turn_led None it rest h k = h
 turn_led (Some event) it rest h k = k (after it event) (after_led it event h)
 
@@ -122,7 +128,6 @@ moves_led : (said : Said) (it : Stage) → Led it → (starts said ≡ false →
 moves_led (says.Node name cookie) it h o = opening_led _ (joined_opens it.world name cookie (o refl))
 moves_led says.Pair it h o = pair_led it.word
 moves_led (says.Spawn node name) it h o = after_led it (Call node Command.Spawn) h
-moves_led (says.Ends p q) it h o = h
 moves_led (says.Dial node peer) it h o = after_led it (Dial node peer it.word) h
 moves_led (says.Route node peer) it h o = route_led (node_of it.world.nodes node) peer it h
 moves_led (says.Lose node peer) it h o = lose_led node peer it h
@@ -133,18 +138,7 @@ moves_led (says.Deliver node peer) it h o = arrives_led (coming_to it.world node
 moves_led (says.Local node) it h o = after_led it (Local node) h
 moves_led (says.Sweep node) it h o = after_led it (Sweep node) h
 moves_led says.Settle it h o = settles_led 1000000 it h
-moves_led says.Show it h o = h
-moves_led (says.Send from to term) it h o = h
-moves_led (says.Link from to) it h o = h
-moves_led (says.Unlink from to) it h o = h
-moves_led (says.Monitor owner target name) it h o = h
-moves_led (says.Demonitor owner reference) it h o = h
-moves_led (says.Trap process on) it h o = h
-moves_led (says.Exit from to term) it h o = h
-moves_led (says.Die process term) it h o = h
-moves_led (says.Receive process) it h o = h
-moves_led (says.Links process) it h o = h
-moves_led (says.Alive process) it h o = h
+moves_led said it h o = h
 
 plays_led : (look : Look) (said : Said) (it : Stage) → Led it → (starts said ≡ false → IsOpening it.world) → Led (plays look said it).stage
 plays_led look said it h o = go (asks look said)
@@ -154,33 +148,10 @@ plays_led look said it h o = go (asks look said)
     go (Some asked) = after_led it (Call asked.0 asked.1) h
 
 -- a line for a node leaves an opening world
-pub plays_opens : (look : Look) (said : Said) (it : Stage) → starts said ≡ false → IsOpening it.world → IsOpening (plays look said it).stage.world
+pub plays_opens : (look : Look) (said : Said) (it : Stage) → starts said ≡ false → IsOpening it.world
+    → IsOpening (plays look said it).stage.world
 plays_opens look (says.Node name cookie) it s o = joined_opens it.world name cookie o
-plays_opens look says.Pair it s o = cc
-plays_opens look (says.Spawn node name) it s o = cc
-plays_opens look (says.Ends p q) it s o = cc
-plays_opens look (says.Dial node peer) it s o = cc
-plays_opens look (says.Route node peer) it s o = cc
-plays_opens look (says.Lose node peer) it s o = cc
-plays_opens look (says.Cut node peer) it s o = cc
-plays_opens look (says.Stop node) it s o = cc
-plays_opens look (says.Start node) it s o = cc
-plays_opens look (says.Deliver node peer) it s o = cc
-plays_opens look (says.Local node) it s o = cc
-plays_opens look (says.Sweep node) it s o = cc
-plays_opens look says.Settle it s o = cc
-plays_opens look says.Show it s o = cc
-plays_opens look (says.Send from to term) it s o = cc
-plays_opens look (says.Link from to) it s o = cc
-plays_opens look (says.Unlink from to) it s o = cc
-plays_opens look (says.Monitor owner target name) it s o = cc
-plays_opens look (says.Demonitor owner reference) it s o = cc
-plays_opens look (says.Trap process on) it s o = cc
-plays_opens look (says.Exit from to term) it s o = cc
-plays_opens look (says.Die process term) it s o = cc
-plays_opens look (says.Receive process) it s o = cc
-plays_opens look (says.Links process) it s o = cc
-plays_opens look (says.Alive process) it s o = cc
+plays_opens look said it s o = cc
 
 does_led : (said : Said) (state : State) → IsLed state → (starts said ≡ false → state.started ≡ false) → IsLed (does said state).state
 does_led said state h early = record {
@@ -191,7 +162,8 @@ does_led said state h early = record {
 pub line_led : (state : State) (line : List ℕ) → IsLed state → IfOk (line_does state line) (λ step. IsLed step.state)
 line_led state line h = go (line_says (may_come state) state.names line) refl
   where
-    go : (r : Result (Option Said) Reason) → line_says (may_come state) state.names line ≡ r → IfOk (says_does state r) (λ step. IsLed step.state)
+    go : (r : Result (Option Said) Reason) → line_says (may_come state) state.names line ≡ r
+        → IfOk (says_does state r) (λ step. IsLed step.state)
     go (Ok None) e = h
     go (Err reason) e = tt
     go (Ok (Some said)) e = free (is_taken said state.stage.world.names)

@@ -23,9 +23,14 @@ unfolding play
 no_more it = refl
 
 -- one of them happens
-pub goes_on : (all : List (ℕ → Event)) (from : TheStage) (event : ℕ → Event) (rest : List (ℕ → Event)) (self new : Stage) → Playing all from (event ∷ rest) self
+pub goes_on : (all : List (ℕ → Event)) (from : TheStage) (event : ℕ → Event) (rest : List (ℕ → Event)) (self new : Stage)
+    → Playing all from (event ∷ rest) self
     → ((now : TheStage) → IsStage self now → IsStage new (after now (event now.word))) → Playing all from rest new
-goes_on all from event rest self new p h = record { now = after p.now (event p.now.word); stage = h p.now p.stage; goes = p.goes ∙ one_more event rest p.now }
+goes_on all from event rest self new p h = record {
+  now = after p.now (event p.now.word);
+  stage = h p.now p.stage;
+  goes = p.goes ∙ one_more event rest p.now;
+}
 
 -- all have
 pub ends : (all : List (ℕ → Event)) (from : TheStage) (new : Stage) → Playing all from [] new → IsStage new (play all from)

@@ -3,37 +3,28 @@ use Rattle.std.proofs.Common.{◌≡◌, Bool, true, false, cond, ℕ, List, [],
 use Rattle.std.specs.List.{flat_map}
 use Rattle.dist_model.specs.Names.{Name}
 use Rattle.dist_model.specs.Runs.{Goes}
-use Rattle.dist_model.specs.World.{Event, Refused, Report, Reported, World, node_name, step}
+use Rattle.dist_model.specs.World.{Event, Refused, Report, Reported, World, step}
 use Rattle.dist_model.specs.declared.report.Effect.{Effect}
 use Rattle.dist_model.specs.declared.report.Report.{Report as Told}
 use Rattle.erl_term.specs.declared.refusal.Refusal.{Refusal}
 use Rattle.node_frames.specs.Frames.{Framed}
-use Rattle.script_session.specs.Stage.{sent_in, sents}
-use Rattle.script_session.specs.Stage.{Stage as TheStage}
+use Rattle.script_session.specs.Stage.{sent_in, sents, Stage as TheStage}
 use Rattle.script_session.specs.declared.stage.Stage.{Stage}
 use Rattle.script_session.specs.Stands.{Moved, Tells as TellsAnswer}
 use Rattle.world_core.specs.Ran.{Answered, Came, Tells, event_at}
 use Rattle.world_core.specs.Stands.{Stands}
 use Rattle.world_core.specs.declared.world.World.{World as Code}
+use Rattle.world_core.proofs.Stepped.{event_named}
 use Rattle.world_events.specs.declared.event.NodeEvent.{NodeEvent}
 use Rattle.world_events.specs.declared.event.NodeEvent.TheVariants as event
-
-pub named : (name : Name) (e : NodeEvent) → node_name (event_at name e) ≡ name
-named name (event.Call command) = refl
-named name (event.Arrive trunk word) = refl
-named name event.Local = refl
-named name (event.Lose trunk) = refl
-named name event.Sweep = refl
-named name (event.Dial peer word) = refl
-named name event.Stop = refl
-named name event.Start = refl
 
 -- the world stands for the model's, and the answer tells its report
 pub record Stepped (new : Code) (m : World) (e : Event) (answer : Answered) : Type 0 where
   pub stands : Stands new (step m e).world
   pub tells : Tells answer (step m e).report
 
-wanting : (answer : Answered) (report : Report) → Tells answer report → report ≡ Refused Refusal.OutOfMemory → answer ≡ Err Refusal.OutOfMemory
+wanting : (answer : Answered) (report : Report) → Tells answer report → report ≡ Refused Refusal.OutOfMemory
+    → answer ≡ Err Refusal.OutOfMemory
 wanting (Ok told) (Refused why) t e = absurd t
 wanting (Ok told) (Reported a effects) t e = cc
 wanting (Err why) (Refused other) t e = ap (λ w. Err w) (t ∙ refused_same other Refusal.OutOfMemory e)
@@ -42,7 +33,8 @@ wanting (Err why) (Refused other) t e = ap (λ w. Err w) (t ∙ refused_same oth
     refused_same a b h = cc
 wanting (Err why) (Reported a effects) t e = absurd t
 
-pub stepped : (new : Code) (m : World) (e : Event) (answer : Answered) → Came new m e answer → (answer ≡ Err Refusal.OutOfMemory → ⊥) → Stepped new m e answer
+pub stepped : (new : Code) (m : World) (e : Event) (answer : Answered) → Came new m e answer
+    → (answer ≡ Err Refusal.OutOfMemory → ⊥) → Stepped new m e answer
 stepped new m e answer c some = go c.goes
   where
     go : Goes m e c.report c.next → Stepped new m e answer
@@ -51,7 +43,8 @@ stepped new m e answer c some = go c.goes
 
 -- what was told of an event that was accepted
 pub accepted : (told : Told Framed) (report : Report) → Tells (Ok told) report
-    → TellsAnswer (Ok told.answer) report × ((trace : Bool) (node : Name) → sents trace node report ≡ cond trace (flat_map (sent_in node) told.effects.items) [])
+    → TellsAnswer (Ok told.answer) report
+    × ((trace : Bool) (node : Name) → sents trace node report ≡ cond trace (flat_map (sent_in node) told.effects.items) [])
 accepted told (Refused why) t = absurd t
 accepted told (Reported a effects) t = (t.0, both)
   where
@@ -64,8 +57,11 @@ not_wanting told (Ok x) h e = cc
 not_wanting told (Err why) h e = cc
 
 -- an accepted event, with what was printed of it
-pub moved : (it : TheStage) (new : Stage) (name : Name) (e : NodeEvent) (answer : Answered) (told : Told Framed) (before out : List ℕ) → Came new.world it.world (event_at name e) answer → answer ≡ Ok told
-    → new.word ≡ it.word → new.trace ≡ it.trace → out ≡ before ++ cond it.trace (flat_map (sent_in name) told.effects.items) [] → Moved (event_at name e) it new before out (Ok told.answer)
+pub moved : (it : TheStage) (new : Stage) (name : Name) (e : NodeEvent) (answer : Answered) (told : Told Framed) (before out : List ℕ)
+    → Came new.world it.world (event_at name e) answer → answer ≡ Ok told
+    → new.word ≡ it.word → new.trace ≡ it.trace
+    → out ≡ before ++ cond it.trace (flat_map (sent_in name) told.effects.items) []
+    → Moved (event_at name e) it new before out (Ok told.answer)
 moved it new name e answer told before out c is word trace text =
     let s = stepped new.world it.world (event_at name e) answer c (not_wanting told answer is) in
     let report : Report = (step it.world (event_at name e)).report in
@@ -74,11 +70,13 @@ moved it new name e answer told before out c is word trace text =
       world = s.stands;
       word = word;
       trace = trace;
-      text = text ∙ ap (λ (sent : List ℕ). before ++ sent) (sym (ap (λ n. sents it.trace n report) (named name e) ∙ t.1 it.trace name));
+      text =
+          text ∙ ap (λ (sent : List ℕ). before ++ sent) (sym (ap (λ n. sents it.trace n report) (event_named name e) ∙ t.1 it.trace name));
       tells = t.0;
     }
 
 -- what is printed, said of equal things
-pub printed : (before out node name : List ℕ) (trace other : Bool) (effects items : List (Effect Framed)) → out ≡ before ++ cond trace (flat_map (sent_in node) effects) [] → trace ≡ other → node ≡ name → effects ≡ items
+pub printed : (before out node name : List ℕ) (trace other : Bool) (effects items : List (Effect Framed))
+    → out ≡ before ++ cond trace (flat_map (sent_in node) effects) [] → trace ≡ other → node ≡ name → effects ≡ items
     → out ≡ before ++ cond other (flat_map (sent_in name) items) []
 printed before out node name trace other effects items e t n k = e ∙ (λ i. before ++ cond (t i) (flat_map (sent_in (n i)) (k i)) [])

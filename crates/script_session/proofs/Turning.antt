@@ -1,5 +1,6 @@
 -- Turn by turn, what is left to settle is what the rest of the turns does.
-use Rattle.std.proofs.Common.{◌≡◌, ℕ, suc, Bool, true, not, is_some, List, [], ◌++◌, Option, None, Some, Result, Ok, Err, OnOk, append_assoc, append-nil, refl, sym, ap, subst, ◌∙◌}
+use Rattle.std.proofs.Common.{◌≡◌, ℕ, suc, Bool, true, not, is_some, List, [], ◌++◌, Option, None, Some}
+use Rattle.std.proofs.Common.{Result, Ok, Err, OnOk, append_assoc, append-nil, refl, sym, ap, subst, ◌∙◌}
 use Rattle.dist_model.specs.World.{Event}
 use Rattle.script_session.specs.Stage.{Scene, Stage as TheStage, after, says, sents_of}
 use Rattle.script_session.specs.Stands.{IsStage, Plays}
@@ -15,7 +16,8 @@ behind text scene = record { stage = scene.stage; text = text ++ scene.text; mad
 behind_both : (a b : List ℕ) (scene : Scene) → behind a (behind b scene) ≡ behind (a ++ b) scene
 behind_both a b scene = λ i. record { stage = scene.stage; text = sym (append_assoc a b scene.text) i; made = scene.made }
 
-one_turn : (most : ℕ) (it : TheStage) (event : Event) → turn it ≡ Some event → settles (suc most) it ≡ behind (sents_of it event) (settles most (after it event))
+one_turn : (most : ℕ) (it : TheStage) (event : Event) → turn it ≡ Some event
+    → settles (suc most) it ≡ behind (sents_of it event) (settles most (after it event))
 unfolding settles
 one_turn most it event h = ap (λ (next : Option Event). takes_turn next it (settles most)) h
 
@@ -38,7 +40,8 @@ pub record Going (most : ℕ) (it : TheStage) (left : ℕ) (self : Stage) (befor
 pub begins : (most : ℕ) (it : TheStage) (self : Stage) (out : List ℕ) → IsStage self it → Going most it most self out out
 begins most it self out h = record { now = it; done = []; stage = h; text = sym (append-nil out); goes = refl }
 
-pub goes_on : (most : ℕ) (it : TheStage) (left rest : ℕ) (self new : Stage) (before out more : List ℕ) (event : Event) (g : Going most it left self before out) → left ≡ suc rest → turn g.now ≡ Some event
+pub goes_on : (most : ℕ) (it : TheStage) (left rest : ℕ) (self new : Stage) (before out more : List ℕ) (event : Event)
+    (g : Going most it left self before out) → left ≡ suc rest → turn g.now ≡ Some event
     → IsStage new (after g.now event) → more ≡ out ++ sents_of g.now event → Going most it rest new before more
 goes_on most it left rest self new before out more event g l t s m =
     let sent = sents_of g.now event in
@@ -47,23 +50,27 @@ goes_on most it left rest self new before out more event g l t s m =
       done = g.done ++ sent;
       stage = s;
       text = m ∙ ap (λ (w : List ℕ). w ++ sent) g.text ∙ append_assoc before g.done sent;
-      goes = g.goes ∙ ap (λ (n : ℕ). behind g.done (settles n g.now)) l ∙ ap (behind g.done) (one_turn rest g.now event t) ∙ behind_both g.done sent (settles rest (after g.now event));
+      goes = g.goes ∙ ap (λ (n : ℕ). behind g.done (settles n g.now)) l ∙ ap (behind g.done) (one_turn rest g.now event t)
+          ∙ behind_both g.done sent (settles rest (after g.now event));
     }
 
-ended : (most : ℕ) (it : TheStage) (left : ℕ) (self : Stage) (before out more text : List ℕ) (g : Going most it left self before out) → settles left g.now ≡ says text g.now
+ended : (most : ℕ) (it : TheStage) (left : ℕ) (self : Stage) (before out more text : List ℕ) (g : Going most it left self before out)
+    → settles left g.now ≡ says text g.now
     → more ≡ out ++ text → Plays (settles most it) self before more Nothing
 ended most it left self before out more text g e m =
     subst (λ scene. Plays scene self before more Nothing) (sym (g.goes ∙ ap (behind g.done) e))
     (record { stage = g.stage; text = m ∙ ap (λ (w : List ℕ). w ++ text) g.text ∙ append_assoc before g.done text; made = refl })
 
 -- no turn is left at the stage
-pub settled : (most : ℕ) (it : TheStage) (left rest : ℕ) (self : Stage) (before out more : List ℕ) (g : Going most it left self before out) → left ≡ suc rest → turn g.now ≡ None
+pub settled : (most : ℕ) (it : TheStage) (left rest : ℕ) (self : Stage) (before out more : List ℕ) (g : Going most it left self before out)
+    → left ≡ suc rest → turn g.now ≡ None
     → more ≡ out ++ settled_text true → Plays (settles most it) self before more Nothing
 settled most it left rest self before out more g l t m =
     ended most it left self before out more (settled_text true) g (ap (λ (n : ℕ). settles n g.now) l ∙ no_turn rest g.now t) m
 
 -- all turns were taken
-pub used_up : (most : ℕ) (it : TheStage) (left : ℕ) (self : Stage) (before out more : List ℕ) (is_settled : Bool) (g : Going most it left self before out) → left ≡ 0
+pub used_up : (most : ℕ) (it : TheStage) (left : ℕ) (self : Stage) (before out more : List ℕ) (is_settled : Bool)
+    (g : Going most it left self before out) → left ≡ 0
     → is_settled ≡ not (is_some (turn g.now)) → more ≡ out ++ settled_text is_settled → Plays (settles most it) self before more Nothing
 used_up most it left self before out more is_settled g l s m =
     ended most it left self before out more (settled_text is_settled) g

@@ -53,7 +53,11 @@ abbrev pub side_on : (State → Bool) → Name → Node → Option TrunkId
 side_on test peer node = option_map (λ entry. entry.0) (side_where test peer (fm.entries node.sides))
 
 abbrev pub live_sides : Node → (peer : Name) → Live
-live_sides node peer = record { dialing = side_on is_dialing peer node; waiting = side_on is_waiting peer node; up = side_on is_up peer node }
+live_sides node peer = record {
+  dialing = side_on is_dialing peer node;
+  waiting = side_on is_waiting peer node;
+  up = side_on is_up peer node;
+}
 
 abbrev pub is_any : Live → Bool
 is_any live = is_some live.dialing || (is_some live.waiting || is_some live.up)
@@ -75,7 +79,8 @@ abbrev pub unlost : Refusal → Stage → Lost
 unlost why stage = record { stage = stage; refusal = Some why }
 
 abbrev pub lose_live : Name → Live → Stage → Lost
-lose_live name live stage = if is_any live then record { stage = lose_all name live stage; refusal = None } else unlost Refusal.NotLive stage
+lose_live name live stage =
+    if is_any live then record { stage = lose_all name live stage; refusal = None } else unlost Refusal.NotLive stage
 
 abbrev pub lose_at : Option Node → (name peer : Name) → Stage → Lost
 lose_at None name peer stage = unlost Refusal.NothingThere stage

@@ -1,5 +1,6 @@
 -- What each line of a script does, and what it prints.
-use Rattle.std.specs.Prelude.{Option, None, Some, ℕ, Bool, true, false, not, ◌==◌, ◌&&◌, nat_lt, if◌then◌else◌, List, [], ◌∷◌, ◌++◌, length, Result, Ok, Err}
+use Rattle.std.specs.Prelude.{Option, None, Some, ℕ, Bool, true, false, not, ◌==◌, ◌&&◌, nat_lt}
+use Rattle.std.specs.Prelude.{if◌then◌else◌, List, [], ◌∷◌, ◌++◌, length, Result, Ok, Err}
 use Rattle.std.specs.Option.{option_or}
 use Rattle.dist_model.specs.Dialing.{has_name}
 use Rattle.dist_model.specs.Names.{Name}
@@ -49,7 +50,11 @@ read look text = term_in (term_of look text)
 
 -- a node more, in its first incarnation
 abbrev pub joined : World → Name → (cookie : List ℕ) → World
-joined world name cookie = record { names = world.names ++ name ∷ []; nodes = world.nodes ++ new_node name cookie ∷ []; lists = world.lists }
+joined world name cookie = record {
+  names = world.names ++ name ∷ [];
+  nodes = world.nodes ++ new_node name cookie ∷ [];
+  lists = world.lists;
+}
 
 abbrev pub joins : Name → (cookie : List ℕ) → Stage → Scene
 joins name cookie it = record {

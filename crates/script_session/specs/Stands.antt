@@ -7,8 +7,7 @@ use Rattle.dist_model.specs.declared.report.Answer.{Answer}
 use Rattle.erl_term.specs.declared.refusal.Refusal.{Refusal}
 use Rattle.script_lines.specs.declared.reason.Reason.{Reason}
 use Rattle.script_session.specs.Session.{State, Step}
-use Rattle.script_session.specs.Stage.{Scene, after, sents_of}
-use Rattle.script_session.specs.Stage.{Stage as TheStage}
+use Rattle.script_session.specs.Stage.{Scene, after, sents_of, Stage as TheStage}
 use Rattle.script_session.specs.declared.made.Made.{Made}
 use Rattle.script_session.specs.declared.session.Session.{Session}
 use Rattle.script_session.specs.declared.session.Stop.{Stop}

@@ -29,7 +29,8 @@ turn stage = first_turn stage.world stage.word stage.world.nodes
 
 -- what an event sends is printed before what is printed of the rest
 abbrev pub goes_on : Event → Stage → (Stage → Scene) → Scene
-goes_on event stage rest = let scene = rest (after stage event) in record { stage = scene.stage; text = sents_of stage event ++ scene.text; made = scene.made }
+goes_on event stage rest =
+    let scene = rest (after stage event) in record { stage = scene.stage; text = sents_of stage event ++ scene.text; made = scene.made }
 
 abbrev pub takes_turn : Option Event → Stage → (Stage → Scene) → Scene
 takes_turn None stage rest = says (settled_text true) stage

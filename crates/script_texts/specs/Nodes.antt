@@ -33,5 +33,6 @@ waiting_at messages place = waiting (slice_get messages place)
 
 abbrev pub life_text : Pid → Life → List ℕ
 life_text p (Living trap mailbox) =
-    codes "proc " ++ pid_text p ++ codes " alive " ++ trap_text trap ++ codes " " ++ decimal (length mailbox) ++ codes "\n" ++ flat_map waiting_text mailbox
+    codes "proc " ++ pid_text p ++ codes " alive " ++ trap_text trap ++ codes " " ++ decimal (length mailbox) ++ codes "\n"
+    ++ flat_map waiting_text mailbox
 life_text p (Ended reason) = codes "proc " ++ pid_text p ++ codes " ended " ++ term_text reason ++ codes "\n"

@@ -1,5 +1,6 @@
 -- What a line that is read comes to.
-use Rattle.std.proofs.Common.{◌≡◌, ◌&&◌, ℕ, eqb, Bool, true, false, cond, not, List, [], nat_lt, Option, Some, Result, Ok, Err, sym, ap, subst, ◌∙◌}
+use Rattle.std.proofs.Common.{◌≡◌, ◌&&◌, ℕ, eqb, Bool, true, false, cond, not, List, []}
+use Rattle.std.proofs.Common.{nat_lt, Option, Some, Result, Ok, Err, sym, ap, subst, ◌∙◌}
 use Rattle.std.proofs.lemmas.List.{length-map}
 use Rattle.std.specs.FinMap as fm
 use Rattle.dist_books.specs.Acting.{names_of}
@@ -27,29 +28,39 @@ state_of known = record {
 }
 
 same_lines : (known : Known) → may_come known ≡ session.may_come (state_of known)
-same_lines known = ap (λ (n : ℕ). record { pair = not known.started && eqb n 0; node = not known.started && nat_lt n 64 }) (sym (length-map known.nodes (λ (node : Name × List ℕ). node.0)))
+same_lines known =
+    ap (λ (n : ℕ). record { pair = not known.started && eqb n 0; node = not known.started && nat_lt n 64 })
+    (sym (length-map known.nodes (λ (node : Name × List ℕ). node.0)))
 
 -- a command that isn't there says nothing
-there : (may : MayCome) (known : Known) (line : List ℕ) (it : Said) → says may known.look line ≡ Ok (Some it) → line_says may known.look line ≡ Ok (Some it)
+there : (may : MayCome) (known : Known) (line : List ℕ) (it : Said) → says may known.look line ≡ Ok (Some it)
+    → line_says may known.look line ≡ Ok (Some it)
 there may known line it e = go (is_missing (verb_in line)) e
   where
-    go : (b : Bool) → cond b (Err Reason.UnknownCommand) (line_says may known.look line) ≡ Ok (Some it) → line_says may known.look line ≡ Ok (Some it)
+    go : (b : Bool) → cond b (Err Reason.UnknownCommand) (line_says may known.look line) ≡ Ok (Some it)
+        → line_says may known.look line ≡ Ok (Some it)
     go true e = absurd cc
     go false e = e
 
 -- what was read, of a line that may come as it stands
-pub reads : (known : Known) (may : MayCome) (line : List ℕ) (read result : Result (Option Line) Reason) → may ≡ may_come known → read ≡ result → ReadsSome (says may known.look line) read
+pub reads : (known : Known) (may : MayCome) (line : List ℕ) (read result : Result (Option Line) Reason) → may ≡ may_come known
+    → read ≡ result → ReadsSome (says may known.look line) read
     → ReadsSome (says (may_come known) known.look line) result
-reads known may line read result m r h = subst (ReadsSome (says (may_come known) known.look line)) r (subst (λ (x : MayCome). ReadsSome (says x known.look line) read) m h)
+reads known may line read result m r h =
+    subst (ReadsSome (says (may_come known) known.look line)) r (subst (λ (x : MayCome). ReadsSome (says x known.look line) read) m h)
 
 -- a line for a node comes before any other command
-pub early : (it : ThreadedSession) (known : Known) (line : List ℕ) (said : Said) → IsKnown it known → says (may_come known) known.look line ≡ Ok (Some said) → starts said ≡ false → is_idle it.threads.cast ≡ true
+pub early : (it : ThreadedSession) (known : Known) (line : List ℕ) (said : Said) → IsKnown it known
+    → says (may_come known) known.look line ≡ Ok (Some said) → starts said ≡ false → is_idle it.threads.cast ≡ true
 early it known line said h e s =
-    h.idle (node_comes_early (state_of known) line said (subst (λ (x : MayCome). line_says x known.look line ≡ Ok (Some said)) (same_lines known) (there (may_come known) known line said e)) s)
+    h.idle (node_comes_early (state_of known) line said (subst (λ (x : MayCome). line_says x known.look line ≡ Ok (Some said))
+    (same_lines known) (there (may_come known) known line said e)) s)
 
 -- a line that is run
-pub runs : (known : Known) (line : List ℕ) (said : Said) → says (may_come known) known.look line ≡ Ok (Some said) → is_taken said (names_of known.nodes) ≡ false → says_of known line ≡ Ok (Some said)
-runs known line said e free = ap (unless_taken (names_of known.nodes)) e ∙ ap (λ (b : Bool). cond b (Err Reason.NameTaken) (Ok (Some said))) free
+pub runs : (known : Known) (line : List ℕ) (said : Said) → says (may_come known) known.look line ≡ Ok (Some said)
+    → is_taken said (names_of known.nodes) ≡ false → says_of known line ≡ Ok (Some said)
+runs known line said e free =
+    ap (unless_taken (names_of known.nodes)) e ∙ ap (λ (b : Bool). cond b (Err Reason.NameTaken) (Ok (Some said))) free
 
 pub ran : (session new : ThreadedSession) (known : Known) (it : Said) (name : List ℕ) (made : Made) → IsKnown session known
     → nodes_of new.threads.cast ≡ nodes_after it (nodes_of session.threads.cast) → (starts it ≡ false → is_idle new.threads.cast ≡ true)

@@ -1,5 +1,6 @@
 -- What the end of a script says of its nodes.
-use Rattle.std.specs.Prelude.{◌≡◌, Option, None, Some, ℕ, Bool, true, false, ◌==◌, List, [], ◌++◌, length, Result, Ok, Err, if◌then◌else◌, slice_get}
+use Rattle.std.specs.Prelude.{◌≡◌, Option, None, Some, ℕ, Bool, true, false, ◌==◌, List}
+use Rattle.std.specs.Prelude.{[], ◌++◌, length, Result, Ok, Err, if◌then◌else◌, slice_get}
 use Rattle.std.specs.List.{flat_map}
 use Rattle.cluster_run.specs.Finishing.{IsFinished}
 use Rattle.dist_books.specs.Acting.{Nodes}

@@ -1,5 +1,6 @@
 -- What a session stands for: the nodes that the script has named, and what its names stand for.
-use Rattle.std.specs.Prelude.{◌≡◌, Option, None, Some, ℕ, Bool, true, false, not, ◌&&◌, ◌==◌, nat_lt, List, [], ◌∷◌, ◌++◌, length, Result, Ok, Err}
+use Rattle.std.specs.Prelude.{◌≡◌, Option, None, Some, ℕ, Bool, true, false, not, ◌&&◌}
+use Rattle.std.specs.Prelude.{◌==◌, nat_lt, List, [], ◌∷◌, ◌++◌, length, Result, Ok, Err}
 use Rattle.dist_books.specs.Acting.{Nodes, names_of}
 use Rattle.script_lines.specs.Said.{Said}
 use Rattle.script_lines.specs.Said as says
@@ -69,7 +70,8 @@ nodes_after _ nodes = nodes
 -- what it made, which the nodes have decided, has the name that it gave
 pub record Ran (said : Said) (known : Known) (new : ThreadedSession) : Type 0 where
   pub made : Made
-  pub after : IsKnown new (record { nodes = nodes_after said known.nodes; look = binds (new_name said) made known.look; started = starts said })
+  pub after : IsKnown new
+      (record { nodes = nodes_after said known.nodes; look = binds (new_name said) made known.look; started = starts said })
 
 abbrev pub Goes : Option Said → Known → ThreadedSession → (old_text new_text : List ℕ) → Type 0
 Goes None known new old_text new_text = IsKnown new known × (new_text ≡ old_text)

@@ -13,7 +13,8 @@ cut_front a b h = record { items = h.items; spelled = h.spelled; rest = b ++ h.r
 
 pub marks_append : (a b : List PieceSeen) → marks_of (a ++ b) ≡ marks_of a ++ marks_of b
 marks_append [] b = refl
-marks_append (p ∷ a) b = ap (λ l. marked p.stamp p.bytes ++ l) (marks_append a b) ∙ sym (append_assoc (marked p.stamp p.bytes) (marks_of a) (marks_of b))
+marks_append (p ∷ a) b =
+    ap (λ l. marked p.stamp p.bytes ++ l) (marks_append a b) ∙ sym (append_assoc (marked p.stamp p.bytes) (marks_of a) (marks_of b))
 
 -- ---- bytes under a stamp
 
@@ -37,4 +38,5 @@ same_stamp [] s t [] all some e = absurd (omega arith)
 same_stamp [] s t (x ∷ bytes) [] some e = absurd cc
 same_stamp [] s t (x ∷ bytes) (y ∷ all) some e = let h : ◌≡◌ {A = ℕ × ℕ} (t, x) (s, y) = cc in ap (λ (m : ℕ × ℕ). m.0) h
 same_stamp (m ∷ marks) s t bytes [] some e = absurd cc
-same_stamp (m ∷ marks) s t bytes (y ∷ all) some e = let h : marks ++ marked t bytes ≡ marked s all = cc in same_stamp marks s t bytes all some h
+same_stamp (m ∷ marks) s t bytes (y ∷ all) some e =
+    let h : marks ++ marked t bytes ≡ marked s all = cc in same_stamp marks s t bytes all some h

@@ -1,24 +1,20 @@
 -- The length at the front of an item.
-use Rattle.std.proofs.Common.{◌≡◌, ℕ, suc, ◌+◌, ◌*◌, ◌/◌, ◌%◌, ◌<◌, ◌≤◌, None, Some, true, false, List, [], ◌∷◌, ◌++◌, length, nat_lt, if◌then◌else◌, refl, ap, ◌∙◌, arith, length-append}
+use Rattle.std.proofs.Common.{◌≡◌, ℕ, suc, ◌+◌, ◌*◌, ◌/◌, ◌%◌, ◌<◌, ◌≤◌, None, Some, true, false, List, []}
+use Rattle.std.proofs.Common.{◌∷◌, ◌++◌, length, nat_lt, if◌then◌else◌, refl, ap, ◌∙◌, arith, length-append}
 use Rattle.std.specs.Int.{to_be_bytes, w16}
-use Rattle.std.proofs.lemmas.Bool.Decides.{nat_tests}
+use Rattle.std.proofs.lemmas.Bool.{le-ltb, lt-ltb}
 use Rattle.byteorder.specs.Endian.{big_bytes}
 use Rattle.dist_model.specs.Items.{Handshake, Signalled, Tick}
 use Rattle.erl_control.specs.Canonical.{canonical_frame, canonical_text}
 use Rattle.erl_control.specs.Frame.{IsSignalFrame}
 use Rattle.erl_control.specs.declared.signal.Signal.{Signal}
-use Rattle.erl_handshake.specs.Messages.{HasFields, content, status_text}
+use Rattle.erl_handshake.specs.Messages.{HasFields, content}
 use Rattle.erl_handshake.specs.declared.message.ShakeMsg.{ShakeMsg}
 use Rattle.erl_handshake.specs.declared.status.Status.{Status}
 use Rattle.node_frames.specs.Frames.{bytes_of}
+use Rattle.node_frames.proofs.Statuses.{status_short}
 use Rattle.wire_core.specs.Fronts.{frame_length, front_length}
 use Rattle.wire_core.specs.Gathering.{FrontIsNeeded, FrontIsTold, FrontStays}
-
-is_below : (n k : ℕ) → n < k → nat_lt n k ≡ true
-is_below n k h = grind (arith, nat_tests)
-
-not_below : (n k : ℕ) → k ≤ n → nat_lt n k ≡ false
-not_below n k h = grind (arith, nat_tests)
 
 -- ---- as much of the front as there is tells the same
 
@@ -44,8 +40,8 @@ few (a ∷ []) h = refl
 few (a ∷ b ∷ bytes) h = absurd (omega arith)
 
 few_of_frame : (a b : ℕ) (rest : List ℕ) → 256 * a + b ≤ 1 → length rest < 2 → front_length (a ∷ b ∷ rest) ≡ None
-few_of_frame a b [] low h = ap (λ t. if t then Some (256 * a + b + 2) else None) (not_below 1 (256 * a + b) low)
-few_of_frame a b (c ∷ []) low h = ap (λ t. if t then Some (256 * a + b + 2) else None) (not_below 1 (256 * a + b) low)
+few_of_frame a b [] low h = ap (λ t. if t then Some (256 * a + b + 2) else None) (le-ltb 1 (256 * a + b) low)
+few_of_frame a b (c ∷ []) low h = ap (λ t. if t then Some (256 * a + b + 2) else None) (le-ltb 1 (256 * a + b) low)
 few_of_frame a b (c ∷ d ∷ rest) low h = absurd (omega arith)
 
 pub front_is_needed : FrontIsNeeded
@@ -59,26 +55,20 @@ counted_front bytes rest low high =
     let n = length bytes in
     let number = 256 * (n / 256 % 256) + n % 256 in
     let same : number + 2 ≡ suc (suc n) = omega arith in
-    ap (λ t. if t then Some (number + 2) else frame_length number (bytes ++ rest)) (is_below 1 number (omega arith)) ∙ ap (λ k. Some k) same
+    ap (λ t. if t then Some (number + 2) else frame_length number (bytes ++ rest)) (lt-ltb 1 number (omega arith)) ∙ ap (λ k. Some k) same
 
-status_short : (s : Status) → (1 ≤ length (status_text s)) × (length (status_text s) ≤ 20)
-status_short Status.Ok = (omega arith, omega arith)
-status_short Status.OkSimultaneous = (omega arith, omega arith)
-status_short Status.Nok = (omega arith, omega arith)
-status_short Status.NotAllowed = (omega arith, omega arith)
-status_short Status.Alive = (omega arith, omega arith)
-status_short Status.True = (omega arith, omega arith)
-status_short Status.False = (omega arith, omega arith)
-
-message_front : (m : ShakeMsg) → HasFields m → (rest : List ℕ) → front_length (bytes_of (Handshake m) ++ rest) ≡ Some (length (bytes_of (Handshake m)))
+message_front : (m : ShakeMsg) → HasFields m → (rest : List ℕ)
+    → front_length (bytes_of (Handshake m) ++ rest) ≡ Some (length (bytes_of (Handshake m)))
 message_front (ShakeMsg.SendName flags creation name) h rest =
     let s = h.2.short in counted_front (content (ShakeMsg.SendName flags creation name)) rest (omega arith) (omega arith)
-message_front (ShakeMsg.Status status) h rest = let s = status_short status in counted_front (content (ShakeMsg.Status status)) rest (omega arith) (omega arith)
+message_front (ShakeMsg.Status status) h rest =
+    let s = status_short status in counted_front (content (ShakeMsg.Status status)) rest (omega arith) (omega arith)
 message_front (ShakeMsg.Challenge flags word creation name) h rest =
     let s = h.3.short in counted_front (content (ShakeMsg.Challenge flags word creation name)) rest (omega arith) (omega arith)
 message_front (ShakeMsg.ChallengeReply word digest) h rest =
     let s = h.1 in counted_front (content (ShakeMsg.ChallengeReply word digest)) rest (omega arith) (omega arith)
-message_front (ShakeMsg.ChallengeAck digest) h rest = counted_front (content (ShakeMsg.ChallengeAck digest)) rest (omega arith) (omega arith)
+message_front (ShakeMsg.ChallengeAck digest) h rest =
+    counted_front (content (ShakeMsg.ChallengeAck digest)) rest (omega arith) (omega arith)
 
 -- ---- frames
 
@@ -88,7 +78,7 @@ framed_front n text rest high is =
     let number = 256 * (n / 16777216 % 256) + n / 65536 % 256 in
     let all : ℕ = 65536 * number + (256 * (n / 256 % 256) + n % 256) + 4 in
     let same : all ≡ suc (suc (suc (suc (length text)))) = omega arith in
-    ap (λ t. if t then Some (number + 2) else Some all) (not_below 1 number (omega arith)) ∙ ap (λ k. Some k) same
+    ap (λ t. if t then Some (number + 2) else Some all) (le-ltb 1 number (omega arith)) ∙ ap (λ k. Some k) same
 
 signal_front : (signal : Signal) → IsSignalFrame signal (canonical_frame signal) → (rest : List ℕ)
     → front_length (canonical_frame signal ++ rest) ≡ Some (length (canonical_frame signal))

@@ -1,5 +1,6 @@
 -- Each step keeps the rule of a wire.
-use Rattle.std.proofs.Common.{◌≡◌, ◌≢◌, ℕ, zero, suc, true, true≢false, List, [], ◌∷◌, ◌++◌, length, set, sym, refl, ap, ◌∙◌, subst, ⊎_elim, append_assoc}
+use Rattle.std.proofs.Common.{◌≡◌, ◌≢◌, ℕ, zero, suc, true, true≢false, List, [], ◌∷◌, ◌++◌}
+use Rattle.std.proofs.Common.{length, set, sym, refl, ap, ◌∙◌, subst, ⊎_elim, append_assoc}
 use mathlib.Core.Option.{some, some-ne-none}
 use lib.ListN.{get_elem?}
 use Rattle.crossbeam_queue.specs.Fifo.{Pushes, Pops, Forks, Merges, Learns}
@@ -78,7 +79,8 @@ takes pass v may x items views h at =
     let mine = h.takes pass v at may in
     let whole = h.whole ∙ sym (append_assoc h.taken (x ∷ []) items) in
     let cut : AreCut (h.taken ++ x ∷ []) =
-    cut_front (marks_of (h.taken ++ x ∷ [])) (marks_of items) (subst IsCut (ap marks_of whole ∙ marks_append (h.taken ++ x ∷ []) items) h.cut) in (
+    cut_front (marks_of (h.taken ++ x ∷ [])) (marks_of items)
+    (subst IsCut (ap marks_of whole ∙ marks_append (h.taken ++ x ∷ []) items) h.cut) in (
       w,
       record {
         giving = h.giving;

@@ -18,7 +18,8 @@ items_of (piece ∷ pieces) h =
     record {
       items = (piece.stamp, h.0.item) ∷ r.items;
       spelled = (h.0.spelled, r.spelled);
-      marks = ap (λ l. marked piece.stamp piece.bytes ++ l) r.marks ∙ ap (λ l. marked piece.stamp l ++ marks_of_items r.items) (sym h.0.written);
+      marks = ap (λ l. marked piece.stamp piece.bytes ++ l) r.marks
+          ∙ ap (λ l. marked piece.stamp l ++ marks_of_items r.items) (sym h.0.written);
     }
 
 pub one_more : (pieces : List PieceSeen) (piece : PieceSeen) → AreItems pieces → SpellsItem piece.bytes → AreItems (pieces ++ piece ∷ [])

@@ -26,7 +26,8 @@ pub record Going (w : World) (m : model.World) (all rest : List Event) (answers 
 pub none_yet : (w : World) (m : model.World) (all : List Event) → Stands w m → Going w m all all []
 none_yet w m all h = record { done = []; parts = refl; ran = record { reports = []; next = m; runs = refl; tells = tt; stands = h } }
 
-pub all_done : (w : World) (m : model.World) (all : List Event) (answers : List Answered) → Going w m all [] answers → Ran w m (events_in m.names all) answers
+pub all_done : (w : World) (m : model.World) (all : List Event) (answers : List Answered) → Going w m all [] answers
+    → Ran w m (events_in m.names all) answers
 all_done w m all answers h = subst (λ es. Ran w m (events_in m.names es) answers) (sym (h.parts ∙ append-nil h.done)) h.ran
 
 -- ---- the names of a world stay
@@ -43,13 +44,15 @@ pub goes_names : (m : model.World) (e : model.Event) (r : model.Report) (next : 
 goes_names m e r next (inl h) = ap (λ (w : model.World). w.names) h.1 ∙ step_names_at m e (node_of m.nodes (node_name e))
 goes_names m e r next (inr h) = ap (λ (w : model.World). w.names) h.1
 
-runs_names : (m : model.World) (es : List model.Event) (rs : List model.Report) (next : model.World) → Runs m es rs next → next.names ≡ m.names
+runs_names : (m : model.World) (es : List model.Event) (rs : List model.Report) (next : model.World) → Runs m es rs next
+    → next.names ≡ m.names
 runs_names m [] [] next h = ap (λ (w : model.World). w.names) h
 runs_names m [] (r ∷ rs) next h = absurd h
 runs_names m (e ∷ es) [] next h = absurd h
 runs_names m (e ∷ es) (r ∷ rs) next h = runs_names h.0 es rs next h.2 ∙ goes_names m e r h.0 h.1
 
-tell_more : (answers : List Answered) (reports : List model.Report) (answer : Answered) (report : model.Report) → TellAll answers reports → Tells answer report
+tell_more : (answers : List Answered) (reports : List model.Report) (answer : Answered) (report : model.Report)
+    → TellAll answers reports → Tells answer report
     → TellAll (answers ++ answer ∷ []) (reports ++ report ∷ [])
 tell_more [] [] answer report h k = (k, tt)
 tell_more [] (r ∷ rs) answer report h k = absurd h
@@ -59,14 +62,17 @@ tell_more (a ∷ answers) (r ∷ rs) answer report h k = (h.0, tell_more answers
 -- ---- one more
 
 pub one_more : (w new : World) (m : model.World) (all rest : List Event) (e : Event) (answers after : List Answered) (answer : Answered)
-    → Going w m all (e ∷ rest) answers → ((next : model.World) → Stands w next → Came new next (event_in next.names e) answer) → after ≡ answers ++ answer ∷ []
+    → Going w m all (e ∷ rest) answers → ((next : model.World) → Stands w next → Came new next (event_in next.names e) answer)
+    → after ≡ answers ++ answer ∷ []
     → Going new m all rest after
 one_more w new m all rest e answers after answer h f k =
     let ran = h.ran in
     let came = f ran.next ran.stands in
     let names = runs_names m (events_in m.names h.done) ran.reports ran.next ran.runs in
-    let goes : Goes ran.next (event_in m.names e) came.report came.next = subst (λ ns. Goes ran.next (event_in ns e) came.report came.next) names came.goes in
-    let more : events_in m.names (h.done ++ e ∷ []) ≡ events_in m.names h.done ++ event_in m.names e ∷ [] = map-append (event_in m.names) h.done (e ∷ []) in
+    let goes : Goes ran.next (event_in m.names e) came.report came.next =
+    subst (λ ns. Goes ran.next (event_in ns e) came.report came.next) names came.goes in
+    let more : events_in m.names (h.done ++ e ∷ []) ≡ events_in m.names h.done ++ event_in m.names e ∷ [] =
+    map-append (event_in m.names) h.done (e ∷ []) in
     let P : List model.Event → Type 0 = (λ es. Runs m es (ran.reports ++ came.report ∷ []) came.next) in
     record {
       done = h.done ++ e ∷ [];
@@ -74,8 +80,10 @@ one_more w new m all rest e answers after answer h f k =
       ran = record {
         reports = ran.reports ++ came.report ∷ [];
         next = came.next;
-        runs = subst P (sym more) (runs_then m (events_in m.names h.done) ran.reports ran.next (event_in m.names e) came.report came.next ran.runs goes);
-        tells = subst (λ xs. TellAll xs (ran.reports ++ came.report ∷ [])) (sym k) (tell_more answers ran.reports answer came.report ran.tells came.tells);
+        runs = subst P (sym more)
+            (runs_then m (events_in m.names h.done) ran.reports ran.next (event_in m.names e) came.report came.next ran.runs goes);
+        tells = subst (λ xs. TellAll xs (ran.reports ++ came.report ∷ [])) (sym k)
+            (tell_more answers ran.reports answer came.report ran.tells came.tells);
         stands = came.stands;
       };
     }
@@ -83,7 +91,8 @@ one_more w new m all rest e answers after answer h f k =
 -- ---- and all is safe
 
 module _ (safe : Throughout Safe) where
-  was_safe : (nodes : _) (before behind : List model.Event) (reports : List model.Report) (next : model.World) → Runs (opening nodes) (before ++ behind) reports next
+  was_safe : (nodes : _) (before behind : List model.Event) (reports : List model.Report) (next : model.World)
+      → Runs (opening nodes) (before ++ behind) reports next
       → WasSafe (opening nodes) before reports
   was_safe nodes before behind reports next h =
       let k = moments before behind reports (opening nodes) next h in
@@ -94,5 +103,6 @@ module _ (safe : Throughout Safe) where
   ran_safely new nodes events answers h = record {
     ran = h;
     at_the_end = safe nodes events h.reports h.next h.runs;
-    before_each = λ before behind e. was_safe nodes before behind h.reports h.next (subst (λ es. Runs (opening nodes) es h.reports h.next) e h.runs);
+    before_each =
+        λ before behind e. was_safe nodes before behind h.reports h.next (subst (λ es. Runs (opening nodes) es h.reports h.next) e h.runs);
   }

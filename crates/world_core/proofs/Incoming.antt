@@ -1,14 +1,17 @@
 -- The least connection on which something comes to a node, in code and in the model.
-use Rattle.std.proofs.Common.{◌≡◌, ◌&&◌, Bool, true, false, cond, not, List, [], ◌∷◌, map, T, Option, None, Some, is_some, unwrap_or, refl, sym, ap, subst, ◌∙◌}
+use Rattle.std.proofs.Common.{◌≡◌, ◌&&◌, Bool, true, false, cond, not, List, [], ◌∷◌, map, T}
+use Rattle.std.proofs.Common.{Option, None, Some, is_some, unwrap_or, refl, sym, ap, subst, ◌∙◌}
 use Rattle.std.specs.declared.cmp.Ordering.{Ordering}
 use Rattle.std.specs.declared.cmp.Ordering.TheVariants.{Less, Equal, Greater}
 use Rattle.std.proofs.lemmas.Cmp.{tied_itself}
+use Rattle.std.proofs.lemmas.Bool.{and_parts, both_ways}
 use Rattle.std.specs.FinMap as fm
 use Rattle.std.specs.FinMap.{FinMap, find, is_sorted}
 use Rattle.std.specs.List as list
 use Rattle.std.specs.Option.{option_map}
 use Rattle.std.specs.Ordering.{is_lt, ordering_then}
-use Rattle.dist_model.proofs.Keys.{and_both, name_total, place_total, name_exact, same_name_true, same_name_refl, then_equal, trunk_exact, trunk_total}
+use Rattle.dist_model.proofs.Keys.{name_total, place_total, name_exact, same_name_true}
+use Rattle.dist_model.proofs.Keys.{same_name_refl, then_equal, trunk_exact, trunk_total}
 use Rattle.dist_model.specs.Items.{Item}
 use Rattle.dist_model.specs.Names.{Name, place_cmp, same_name}
 use Rattle.dist_model.specs.Sides.{State, is_gone, is_losing, is_over}
@@ -17,8 +20,7 @@ use Rattle.dist_model.specs.World.{first_of}
 use Rattle.erl_names.specs.Order.{name_cmp, trunk_cmp}
 use Rattle.erl_names.specs.declared.trunk.TrunkId.{TrunkId}
 use Rattle.node_frames.specs.Frames.{Framed, framed}
-use Rattle.node_sweeps.proofs.Firsts.{Found, first_is}
-use Rattle.node_sweeps.proofs.Firsts.{found as found_in}
+use Rattle.node_sweeps.proofs.Firsts.{Found, first_is, found as found_in}
 use Rattle.sorted_map.specs.Entries.{first_where}
 use Rattle.sorted_map.specs.First.{first_held, first_least, first_none, first_passes}
 use Rattle.world_lists.specs.Lists as lists
@@ -26,22 +28,12 @@ use Rattle.world_lists.specs.Lists as lists
 -- a side that is open and isn't lost isn't over
 pub not_over : (s : State) → (not (is_gone s) && not (is_losing s)) ≡ not (is_over s)
 not_over (state.AwaitsStatus w) = refl
-not_over (state.AwaitsChallenge w) = refl
-not_over (state.AwaitsAck w) = refl
-not_over (state.Asked w) = refl
-not_over (state.Parked w) = refl
-not_over (state.Accepting w) = refl
-not_over state.Up = refl
-not_over state.Losing = refl
-not_over state.Gone = refl
+not_over s = refl
 
 place_exact : (a b : TrunkId × Name) → place_cmp a b ≡ Equal → a ≡ b
 place_exact a b h =
     let parts = then_equal (trunk_cmp a.0 b.0) (name_cmp a.1 b.1) h in
     λ i. (trunk_exact a.0 b.0 parts.0 i, name_exact a.1 b.1 parts.1 i)
-
-not_both : {A : Type 0} (b : Bool) → b ≡ true → b ≡ false → A
-not_both b h k = cc
 
 abbrev pub Entry : Type 0
 Entry = TrunkId × List Framed
@@ -62,7 +54,8 @@ turned_less Greater b h e = refl
 
 -- the line to a node of that name, and whether the node takes what comes on a connection
 module _ (name : Name) (line : List Entry) (carried : FinMap place_cmp (List Item)) (takes : TrunkId → Bool)
-    (sorted : T (is_sorted trunk_cmp line)) (same : (t : TrunkId) → unwrap_or (find trunk_cmp t line) [] ≡ map framed (unwrap_or (fm.get carried (t, name)) [])) where
+    (sorted : T (is_sorted trunk_cmp line))
+    (same : (t : TrunkId) → unwrap_or (find trunk_cmp t line) [] ≡ map framed (unwrap_or (fm.get carried (t, name)) [])) where
   abbrev pub here : TrunkId → List Framed → Bool
   here t frames = is_some (lists.first_of frames) && takes t
 
@@ -80,7 +73,7 @@ module _ (name : Name) (line : List Entry) (carried : FinMap place_cmp (List Ite
       go : (o : Option (List Item)) → fm.get carried (t, name) ≡ o → Carried t
       go None g =
           let none : frames ≡ [] = sym (ap (λ o. unwrap_or o []) f) ∙ same t ∙ ap (λ o. map framed (unwrap_or o [])) g in
-          not_both (here t frames) p (ap (here t) none)
+          absurd (both_ways (here t frames) (ap (here t) none) p)
       go (Some items) g =
           let is : frames ≡ map framed items = sym (ap (λ o. unwrap_or o []) f) ∙ same t ∙ ap (λ o. map framed (unwrap_or o [])) g in
           record {
@@ -94,7 +87,8 @@ module _ (name : Name) (line : List Entry) (carried : FinMap place_cmp (List Ite
     found : find trunk_cmp t line ≡ Some frames
     passing : here t frames ≡ true
 
-  is_held : (t : TrunkId) (items : List Item) → fm.get carried (t, name) ≡ Some items → (is_some (first_of items) && takes t) ≡ true → Held t
+  is_held : (t : TrunkId) (items : List Item) → fm.get carried (t, name) ≡ Some items
+      → (is_some (first_of items) && takes t) ≡ true → Held t
   is_held t items g p = go (find trunk_cmp t line) refl
     where
       is : (o : Option (List Framed)) → find trunk_cmp t line ≡ o → unwrap_or o [] ≡ map framed items
@@ -104,7 +98,7 @@ module _ (name : Name) (line : List Entry) (carried : FinMap place_cmp (List Ite
       passes frames e = ap (here t) e ∙ ap (λ b. b && takes t) (some_in items) ∙ p
 
       go : (o : Option (List Framed)) → find trunk_cmp t line ≡ o → Held t
-      go None f = not_both (here t []) (passes [] (is None f)) refl
+      go None f = absurd (both_ways (here t []) refl (passes [] (is None f)))
       go (Some frames) f = record { frames = frames; found = f; passing = passes frames (is (Some frames) f) }
 
   pub arrivals_same : (o : Option Entry) → list.find (λ e. here e.0 e.1) line ≡ o
@@ -115,20 +109,24 @@ module _ (name : Name) (line : List Entry) (carried : FinMap place_cmp (List Ite
       go None k = refl
       go (Some ((t, x), items)) k =
           let f = found_in place_total place_exact there carried ((t, x), items) k in
-          let both = and_both (same_name x name) (is_some (first_of items) && takes t) f.passing in
+          let both = and_parts (same_name x name) (is_some (first_of items) && takes t) f.passing in
           let is : x ≡ name = same_name_true x name both.0 in
           let held = is_held t items (ap (λ y. fm.get carried (t, y)) (sym is) ∙ f.held) both.1 in
-          not_both (here t held.frames) held.passing (first_none trunk_total trunk_exact here line t held.frames (sym (find_first here line) ∙ h) held.found)
+          absurd (both_ways (here t held.frames)
+          (first_none trunk_total trunk_exact here line t held.frames (sym (find_first here line) ∙ h) held.found) held.passing)
   arrivals_same (Some (t, frames)) h =
       let first : first_where here line ≡ Some (t, frames) = sym (find_first here line) ∙ h in
-      let c = is_carried t frames (first_held trunk_total trunk_exact here line (t, frames) sorted first) (first_passes trunk_total trunk_exact here line (t, frames) first) in
+      let c =
+      is_carried t frames (first_held trunk_total trunk_exact here line (t, frames) sorted first)
+      (first_passes trunk_total trunk_exact here line (t, frames) first) in
       sym (ap (option_map (λ e. e.0.0)) (first_is place_total place_exact there carried (t, name) c.items (record {
         held = c.held;
         passing = c.passing;
         least = λ key items g p.
-            let both = and_both (same_name key.1 name) (is_some (first_of items) && takes key.0) p in
+            let both = and_parts (same_name key.1 name) (is_some (first_of items) && takes key.0) p in
             let is : key.1 ≡ name = same_name_true key.1 name both.0 in
             let held = is_held key.0 items (ap (λ y. fm.get carried (key.0, y)) (sym is) ∙ g) both.1 in
-            turned_less (trunk_cmp key.0 t) (name_cmp key.1 name) (first_least trunk_total trunk_exact here line (t, frames) key.0 held.frames sorted first held.found held.passing)
+            turned_less (trunk_cmp key.0 t) (name_cmp key.1 name)
+            (first_least trunk_total trunk_exact here line (t, frames) key.0 held.frames sorted first held.found held.passing)
             (ap (λ y. name_cmp y name) is ∙ tied_itself name_total name);
       })))

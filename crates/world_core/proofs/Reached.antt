@@ -5,7 +5,7 @@ use Rattle.dist_model.proofs.DueFirst.{due_first}
 use Rattle.dist_model.proofs.Routes.{node_of_name}
 use Rattle.dist_model.proofs.Run.{always, not_own}
 use Rattle.dist_model.proofs.Safety.{good_opening}
-use Rattle.dist_model.proofs.Table.{Good, role_state}
+use Rattle.dist_model.proofs.Trunks.{Good, role_state}
 use Rattle.dist_model.specs.Due.{due_at, due_in}
 use Rattle.dist_model.specs.Items.{Item}
 use Rattle.dist_model.specs.Names.{Name, same_name}
@@ -23,24 +23,17 @@ reached_good : (m : World) → IsReached m → Good m
 reached_good m h = always (λ w. Good w) good_opening (λ w g. g) h.nodes h.events h.reports m h.runs
 
 reads_due : (dials : Bool) (st : State) (item : Item) → role_state dials st ≡ true → due_in dials st item ≡ true → reads st item ≡ true
-reads_due true (state.AwaitsStatus w) item r d = d
-reads_due true (state.AwaitsChallenge w) item r d = d
-reads_due true (state.AwaitsAck w) item r d = d
 reads_due true (state.Asked w) item r d = cc
 reads_due true (state.Parked w) item r d = cc
 reads_due true (state.Accepting w) item r d = cc
-reads_due true state.Up item r d = d
 reads_due true state.Losing item r d = refl
 reads_due true state.Gone item r d = refl
 reads_due false (state.AwaitsStatus w) item r d = cc
 reads_due false (state.AwaitsChallenge w) item r d = cc
 reads_due false (state.AwaitsAck w) item r d = cc
-reads_due false (state.Asked w) item r d = d
-reads_due false (state.Parked w) item r d = d
-reads_due false (state.Accepting w) item r d = d
-reads_due false state.Up item r d = d
 reads_due false state.Losing item r d = refl
 reads_due false state.Gone item r d = refl
+reads_due _ _ item r d = d
 
 module _ (m : World) (reached : IsReached m) (x : Name) (node : Node) (t : TrunkId) (item : Item) (rest : List Item)
     (at : node_of m.nodes x ≡ Some node) (first : list_to m.lists t x ≡ item ∷ rest) where
@@ -54,7 +47,9 @@ module _ (m : World) (reached : IsReached m) (x : Name) (node : Node) (t : Trunk
   due = due_first reached.nodes reached.events reached.reports m reached.runs t x node item rest at first
 
   read : (o : Option TrunkSide) → fm.get node.sides t ≡ o → reads_at o item ≡ true
-  read None e = sym (ap (λ b. due_at b None item) (not_own m x node t item rest at e good first)) ∙ ap (λ o. due_at (same_name t.dialer x) o item) (sym e) ∙ due
+  read None e =
+      sym (ap (λ b. due_at b None item) (not_own m x node t item rest at e good first))
+      ∙ ap (λ o. due_at (same_name t.dialer x) o item) (sym e) ∙ due
   read (Some side) e =
       reads_due (same_name t.dialer x) side.state item
       (ap (λ n. role_state (same_name t.dialer n) side.state) (sym name) ∙ (good.home x node at).roles t side e)
@@ -69,7 +64,8 @@ module _ (m : World) (reached : IsReached m) (x : Name) (node : Node) (t : Trunk
 
 -- ---- one event more
 
-pub runs_then : (w : World) (es : List Event) (rs : List Report) (m : World) (e : Event) (r : Report) (next : World) → Runs w es rs m → Goes m e r next
+pub runs_then : (w : World) (es : List Event) (rs : List Report) (m : World) (e : Event) (r : Report) (next : World)
+    → Runs w es rs m → Goes m e r next
     → Runs w (es ++ e ∷ []) (rs ++ r ∷ []) next
 runs_then w [] [] m e r next h g = (next, subst (λ v. Goes v e r next) h g, refl)
 runs_then w [] (q ∷ rs) m e r next h g = absurd h

@@ -1,9 +1,10 @@
 -- Where nothing travels between two processes: the frames say what the items say, and one connection at most is up.
 use Rattle.std.proofs.Common.{◌≡◌, ◌&&◌, ◌||◌, Bool, true, false, not, List, [], ◌∷◌, map, Option, None, Some, T, refl, sym, ap, ◌∙◌}
+use Rattle.std.proofs.lemmas.Bool.{and_parts}
 use Rattle.std.specs.FinMap as fm
 use Rattle.std.specs.FinMap.{find, is_sorted}
 use Rattle.std.specs.Option.{is_some, option_map}
-use Rattle.dist_model.proofs.Keys.{and_both, same_name_is, same_name_true, trunk_exact, trunk_total}
+use Rattle.dist_model.proofs.Keys.{same_name_is, same_name_true, trunk_exact, trunk_total}
 use Rattle.dist_model.proofs.Routes.{side_where_found, side_where_none}
 use Rattle.dist_model.specs.Items.{Handshake, Item, Signalled, Tick}
 use Rattle.dist_model.specs.Keeping.{Steady, is_engaged}
@@ -46,14 +47,7 @@ frames_between p q (item ∷ rest) =
 
 is_up_only : (st : State) → is_up st ≡ true → is_engaged st ≡ true
 is_up_only Up h = refl
-is_up_only (sides.AwaitsStatus w) h = cc
-is_up_only (sides.AwaitsChallenge w) h = cc
-is_up_only (sides.AwaitsAck w) h = cc
-is_up_only (sides.Asked w) h = cc
-is_up_only (sides.Parked w) h = cc
-is_up_only (sides.Accepting w) h = cc
-is_up_only sides.Losing h = cc
-is_up_only sides.Gone h = cc
+is_up_only st h = cc
 
 module _ (m : model.World) (p q : Pid) (node : Node) (steady : Steady node) (sorted : T (is_sorted trunk_cmp (fm.entries node.sides))) where
   abbrev entries : List (TrunkId × TrunkSide)
@@ -66,34 +60,40 @@ module _ (m : model.World) (p q : Pid) (node : Node) (steady : Steady node) (sor
   test None = false
   test (Some t) = there t
 
-  one_up : (a b : TrunkId × TrunkSide) → find trunk_cmp a.0 entries ≡ Some a.1 → find trunk_cmp b.0 entries ≡ Some b.1 → a.1.peer ≡ q.node → b.1.peer ≡ q.node
+  one_up : (a b : TrunkId × TrunkSide) → find trunk_cmp a.0 entries ≡ Some a.1 → find trunk_cmp b.0 entries ≡ Some b.1
+      → a.1.peer ≡ q.node → b.1.peer ≡ q.node
       → is_up a.1.state ≡ true → is_up b.1.state ≡ true → a.0 ≡ b.0
   one_up a b fa fb pa pb ua ub =
-      steady.engaged a.0 b.0 a.1 b.1 (fm.get-entries node.sides a.0 ∙ fa) (fm.get-entries node.sides b.0 ∙ fb) (pa ∙ sym pb) (is_up_only a.1.state ua) (is_up_only b.1.state ub)
+      steady.engaged a.0 b.0 a.1 b.1 (fm.get-entries node.sides a.0 ∙ fa) (fm.get-entries node.sides b.0 ∙ fb) (pa ∙ sym pb)
+      (is_up_only a.1.state ua) (is_up_only b.1.state ub)
 
   together : (a b c d : Bool) → (((a && b) && c) && d) ≡ (a && (b && (c && d)))
   together true true c d = refl
-  together true false c d = refl
-  together false b c d = refl
+  together _ _ c d = refl
 
   on_is : (t : TrunkId) (s : TrunkSide) → is_quiet_on m p q t s ≡ (is_up_to q.node (Some s) && there t)
-  on_is t s = together (is_up_to q.node (Some s)) (is_up_to p.node (side_of_trunk m q.node t)) (nothing_between p q (list_to m.lists t p.node)) (nothing_between p q (list_to m.lists t q.node))
+  on_is t s =
+      together (is_up_to q.node (Some s)) (is_up_to p.node (side_of_trunk m q.node t))
+      (nothing_between p q (list_to m.lists t p.node)) (nothing_between p q (list_to m.lists t q.node))
 
   -- what a side that passes is
-  passing : (a : TrunkId × TrunkSide) → is_quiet_on m p q a.0 a.1 ≡ true → (a.1.peer ≡ q.node) × (is_up a.1.state ≡ true) × (there a.0 ≡ true)
+  passing : (a : TrunkId × TrunkSide) → is_quiet_on m p q a.0 a.1 ≡ true → (a.1.peer ≡ q.node) × (is_up a.1.state ≡ true)
+      × (there a.0 ≡ true)
   passing a h =
-      let u = and_both (is_up_to q.node (Some a.1)) (there a.0) (sym (on_is a.0 a.1) ∙ h) in
-      let v = and_both (same_name a.1.peer q.node) (is_up a.1.state) u.0 in
+      let u = and_parts (is_up_to q.node (Some a.1)) (there a.0) (sym (on_is a.0 a.1) ∙ h) in
+      let v = and_parts (same_name a.1.peer q.node) (is_up a.1.state) u.0 in
       (same_name_true a.1.peer q.node v.0, v.1, u.1)
 
-  none_at : (found : Option (TrunkId × TrunkSide)) → first_where (is_quiet_on m p q) entries ≡ found → side_where is_up q.node entries ≡ None → is_some found ≡ false
+  none_at : (found : Option (TrunkId × TrunkSide)) → first_where (is_quiet_on m p q) entries ≡ found
+      → side_where is_up q.node entries ≡ None → is_some found ≡ false
   none_at None e n = refl
   none_at (Some a) e n =
       let k = passing a (first_passes trunk_total trunk_exact (is_quiet_on m p q) entries a e) in
       let f = first_held trunk_total trunk_exact (is_quiet_on m p q) entries a sorted e in
       let no : true ≡ false = sym k.1 ∙ side_where_none is_up q.node entries a.0 a.1 n f k.0 in cc
 
-  some_at : (up : TrunkId × TrunkSide) (found : Option (TrunkId × TrunkSide)) → first_where (is_quiet_on m p q) entries ≡ found → side_where is_up q.node entries ≡ Some up
+  some_at : (up : TrunkId × TrunkSide) (found : Option (TrunkId × TrunkSide))
+      → first_where (is_quiet_on m p q) entries ≡ found → side_where is_up q.node entries ≡ Some up
       → is_some found ≡ there up.0
   some_at up None e n =
       let f = side_where_found is_up q.node entries up sorted n in
@@ -108,9 +108,14 @@ module _ (m : model.World) (p q : Pid) (node : Node) (steady : Steady node) (sor
   pub over_is : (route : Option TrunkId) → route_in entries q.node ≡ route → is_some (first_where (is_quiet_on m p q) entries) ≡ test route
   over_is route r = go (side_where is_up q.node entries) refl
     where
-      go : (o : Option (TrunkId × TrunkSide)) → side_where is_up q.node entries ≡ o → is_some (first_where (is_quiet_on m p q) entries) ≡ test route
-      go None e = none_at (first_where (is_quiet_on m p q) entries) refl e ∙ ap test (sym (ap (option_map (λ (x : TrunkId × TrunkSide). x.0)) e) ∙ r)
-      go (Some up) e = some_at up (first_where (is_quiet_on m p q) entries) refl e ∙ ap test (sym (ap (option_map (λ (x : TrunkId × TrunkSide). x.0)) e) ∙ r)
+      go : (o : Option (TrunkId × TrunkSide)) → side_where is_up q.node entries ≡ o
+          → is_some (first_where (is_quiet_on m p q) entries) ≡ test route
+      go None e =
+          none_at (first_where (is_quiet_on m p q) entries) refl e
+          ∙ ap test (sym (ap (option_map (λ (x : TrunkId × TrunkSide). x.0)) e) ∙ r)
+      go (Some up) e =
+          some_at up (first_where (is_quiet_on m p q) entries) refl e
+          ∙ ap test (sym (ap (option_map (λ (x : TrunkId × TrunkSide). x.0)) e) ∙ r)
 
 -- ---- what the frames of a world of code say
 
@@ -118,5 +123,6 @@ module _ (w : World) (m : model.World) (h : Stands w m) (p q : Pid) where
   pub on_list : (t : TrunkId) (x : Name) → frames.nothing_between p q (frames.at w.lists t x) ≡ nothing_between p q (list_to m.lists t x)
   on_list t x = ap (frames.nothing_between p q) (h.lists t x) ∙ frames_between p q (list_to m.lists t x)
 
-pub side_there : (m : model.World) (y : Name) (t : TrunkId) (found : Option Node) (is : found ≡ node_of m.nodes y) → side_of_trunk m y t ≡ seen found None (λ node. fm.get node.sides t)
+pub side_there : (m : model.World) (y : Name) (t : TrunkId) (found : Option Node) (is : found ≡ node_of m.nodes y)
+    → side_of_trunk m y t ≡ seen found None (λ node. fm.get node.sides t)
 side_there m y t found is = ap (λ o. seen o None (λ node. fm.get node.sides t)) (sym is)

@@ -1,10 +1,12 @@
 -- What an event of a node comes to is the model's step of the world.
-use Rattle.std.proofs.Common.{◌≡◌, ◌<◌, ◌≤◌, ◌&&◌, ℕ, Bool, true, false, cond, not, List, [], ◌∷◌, ◌++◌, map, length, Option, None, Some, Ok, Err, refl, sym, ap, subst, ◌∙◌, slice_set, slice_index_or, inl, inr}
+use Rattle.std.proofs.Common.{◌≡◌, ◌<◌, ◌≤◌, ◌&&◌, ℕ, Bool, true, false, cond, not, List, [], ◌∷◌, ◌++◌, map, length}
+use Rattle.std.proofs.Common.{Option, None, Some, Ok, Err, refl, sym, ap, subst, ◌∙◌, slice_set, slice_index_or, inl, inr}
 use Rattle.std.specs.FinMap as fm
 use Rattle.std.specs.FinMap.{FinMap}
 use Rattle.std.proofs.lemmas.List.{map-append}
+use Rattle.std.proofs.lemmas.Bool.{and_parts, not-true}
 use Rattle.dist_model.proofs.Envelopes.{sent_in}
-use Rattle.dist_model.proofs.Keys.{and_both, same_name_true, same_place, same_trunk, same_trunk_true}
+use Rattle.dist_model.proofs.Keys.{same_name_true, same_place, same_trunk, same_trunk_true}
 use Rattle.dist_model.proofs.Routes.{at_place, list_to_carried, list_to_insert}
 use Rattle.dist_model.specs.Arrivals.{arrive}
 use Rattle.dist_model.specs.Commands.{Accepts, Outcome, Refuses}
@@ -17,7 +19,8 @@ use Rattle.dist_model.specs.NodeEvents as model
 use Rattle.dist_model.specs.Runs.{Goes}
 use Rattle.dist_model.specs.Sides.{TrunkSide, is_over}
 use Rattle.dist_model.specs.Work.{Work}
-use Rattle.dist_model.specs.World.{Refused, Reported, Stepped, came_of, carried, first_of, list_to, node_of, refused, rest_of, set_node, step, step_at}
+use Rattle.dist_model.specs.World.{Refused, Reported, Stepped, came_of, carried, first_of, list_to}
+use Rattle.dist_model.specs.World.{node_of, refused, rest_of, set_node, step, step_at, node_name}
 use Rattle.dist_model.specs.World as world
 use Rattle.dist_model.specs.declared.report.Answer.{Answer}
 use Rattle.dist_model.specs.declared.report.Effect.{Effect}
@@ -32,7 +35,7 @@ use Rattle.world_core.specs.Names.{are_distinct, name_at, name_of, names_of}
 use Rattle.world_core.specs.Ran.{Answered, Came, event_at}
 use Rattle.world_core.specs.Stands.{AreSpelled, Stands}
 use Rattle.world_core.specs.declared.world.World.{World}
-use Rattle.world_core.proofs.Named.{name_is, names_set, node_at, node_set, nobody_at, nobody_is, not_true, same_models}
+use Rattle.world_core.proofs.Named.{name_is, names_set, node_at, node_set, nobody_at, nobody_is, same_models}
 use Rattle.world_core.proofs.Reached.{can_come, reached_next}
 use Rattle.world_events.proofs.Planning.{name_kept}
 use Rattle.world_events.specs.Coming.{IsNext}
@@ -43,19 +46,18 @@ use Rattle.world_lists.specs.Lists.{at, behind_first, sent_at}
 
 -- ---- what is sent
 
-sent_framed : (t : TrunkId) (x : Name) (effects : List (Effect Item)) → sent_at t x (map shown effects) ≡ map framed (at_place t x (sent_in effects))
+sent_framed : (t : TrunkId) (x : Name) (effects : List (Effect Item))
+    → sent_at t x (map shown effects) ≡ map framed (at_place t x (sent_in effects))
 sent_framed t x [] = refl
 sent_framed t x (Effect.Sent (Some u) y item ∷ rest) =
-    ap (λ b. cond b (framed item ∷ []) [] ++ sent_at t x (map shown rest)) (same_place t u x y) ∙ go (same_trunk t u && same_name x y) (sent_framed t x rest)
+    ap (λ b. cond b (framed item ∷ []) [] ++ sent_at t x (map shown rest)) (same_place t u x y)
+    ∙ go (same_trunk t u && same_name x y) (sent_framed t x rest)
   where
     go : (b : Bool) → sent_at t x (map shown rest) ≡ map framed (at_place t x (sent_in rest))
         → cond b (framed item ∷ []) [] ++ sent_at t x (map shown rest) ≡ map framed (cond b (item ∷ []) [] ++ at_place t x (sent_in rest))
     go true h = ap (λ q. framed item ∷ q) h
     go false h = h
-sent_framed t x (Effect.Sent None y item ∷ rest) = sent_framed t x rest
-sent_framed t x (Effect.Put p m ∷ rest) = sent_framed t x rest
-sent_framed t x (Effect.Ended p r ∷ rest) = sent_framed t x rest
-sent_framed t x (Effect.LinkExit p q r ∷ rest) = sent_framed t x rest
+sent_framed t x (effect ∷ rest) = sent_framed t x rest
 
 spelled_both : (xs ys : List Item) → AreSpelled xs → AreSpelled ys → AreSpelled (xs ++ ys)
 spelled_both [] ys h k = k
@@ -68,16 +70,17 @@ spelled_sent t x (Effect.Sent (Some u) y item ∷ rest) h = go (same_trunk t u &
     go : (b : Bool) → AreSpelled (at_place t x (sent_in rest)) → AreSpelled (cond b (item ∷ []) [] ++ at_place t x (sent_in rest))
     go true k = (h.0, k)
     go false k = k
-spelled_sent t x (Effect.Sent None y item ∷ rest) h = spelled_sent t x rest h.1
-spelled_sent t x (Effect.Put p m ∷ rest) h = spelled_sent t x rest h.1
-spelled_sent t x (Effect.Ended p r ∷ rest) h = spelled_sent t x rest h.1
-spelled_sent t x (Effect.LinkExit p q r ∷ rest) h = spelled_sent t x rest h.1
+spelled_sent t x (effect ∷ rest) h = spelled_sent t x rest h.1
 
 spelled_rest : (xs : List Item) → AreSpelled xs → AreSpelled (rest_of xs)
 spelled_rest [] h = tt
 spelled_rest (x ∷ xs) h = h.1
 
 -- ---- an event of the model by its node
+
+pub event_named : (own : Name) (e : NodeEvent) → node_name (event_at own e) ≡ own
+event_named own (event.Call command) = refl
+event_named own e = refl
 
 module _ (m : world.World) (name : Name) where
   abbrev pub first_for : NodeEvent → Option Item
@@ -90,23 +93,12 @@ module _ (m : world.World) (name : Name) where
 
   by_node : (e : NodeEvent) (o : Option TheNode) → node_of m.nodes name ≡ o → step m (event_at name e) ≡ step_at m o (event_at name e)
   by_node (event.Call command) o h = ap (λ n. step_at m n (event_at name (event.Call command))) h
-  by_node (event.Arrive t word) o h = ap (λ n. step_at m n (event_at name (event.Arrive t word))) h
-  by_node event.Local o h = ap (λ n. step_at m n (event_at name event.Local)) h
-  by_node (event.Lose t) o h = ap (λ n. step_at m n (event_at name (event.Lose t))) h
-  by_node event.Sweep o h = ap (λ n. step_at m n (event_at name event.Sweep)) h
-  by_node (event.Dial peer word) o h = ap (λ n. step_at m n (event_at name (event.Dial peer word))) h
-  by_node event.Stop o h = ap (λ n. step_at m n (event_at name event.Stop)) h
-  by_node event.Start o h = ap (λ n. step_at m n (event_at name event.Start)) h
+  by_node e o h = ap (λ n. step_at m n (event_at name e)) h
 
-  at_it : (e : NodeEvent) (node : TheNode) → step_at m (Some node) (event_at name e) ≡ came_of m name (lists_left e) (at_node m.names node (met e (first_for e)))
+  at_it : (e : NodeEvent) (node : TheNode)
+      → step_at m (Some node) (event_at name e) ≡ came_of m name (lists_left e) (at_node m.names node (met e (first_for e)))
   at_it (event.Call command) node = refl
-  at_it (event.Arrive t word) node = refl
-  at_it event.Local node = refl
-  at_it (event.Lose t) node = refl
-  at_it event.Sweep node = refl
-  at_it (event.Dial peer word) node = refl
-  at_it event.Stop node = refl
-  at_it event.Start node = refl
+  at_it e node = refl
 
   step_is : (e : NodeEvent) (node : TheNode) → node_of m.nodes name ≡ Some node
       → step m (event_at name e) ≡ came_of m name (lists_left e) (at_node m.names node (met e (first_for e)))
@@ -114,35 +106,31 @@ module _ (m : world.World) (name : Name) where
 
 -- ---- the lists after an event: what an accepted arrival takes was there
 
-is_accepted : (why : Refusal) (answer : Answer) (work : Work) {A : Type 0} → Refuses why ≡ Accepts answer work → A
-is_accepted why answer work h = cc
+pub refused_or : (why : Refusal) (answer : Answer) (work : Work) {A : Type 0} → Refuses why ≡ Accepts answer work → A
+refused_or why answer work h = cc
 
-nothing_taken : (node : TheNode) (t : TrunkId) (o : Option TrunkSide) (word : ℕ) (answer : Answer) (work : Work) {A : Type 0} → arrive node t o None word ≡ Accepts answer work → A
-nothing_taken node t None word answer work h = is_accepted Refusal.NotLive answer work h
+nothing_taken : (node : TheNode) (t : TrunkId) (o : Option TrunkSide) (word : ℕ) (answer : Answer) (work : Work) {A : Type 0}
+    → arrive node t o None word ≡ Accepts answer work → A
+nothing_taken node t None word answer work h = refused_or Refusal.NotLive answer work h
 nothing_taken node t (Some side) word answer work {A} h = go (is_over side.state) h
   where
     go : (b : Bool) → cond b (Refuses Refusal.NotLive) (Refuses Refusal.NothingThere) ≡ Accepts answer work → A
-    go true k = is_accepted Refusal.NotLive answer work k
-    go false k = is_accepted Refusal.NothingThere answer work k
+    go true k = refused_or Refusal.NotLive answer work k
+    go false k = refused_or Refusal.NothingThere answer work k
 
-none_taken : (names : List Name) (node : TheNode) (t : TrunkId) (word : ℕ) (answer : Answer) (work : Work) {A : Type 0} → at_node names node (model.Arrive t None word) ≡ Accepts answer work → A
+none_taken : (names : List Name) (node : TheNode) (t : TrunkId) (word : ℕ) (answer : Answer) (work : Work) {A : Type 0}
+    → at_node names node (model.Arrive t None word) ≡ Accepts answer work → A
 none_taken names node t word answer work {A} h = go node.up h
   where
     go : (b : Bool) → cond b (arrive node t (fm.get node.sides t) None word) (Refuses Refusal.NodeDown) ≡ Accepts answer work → A
     go true k = nothing_taken node t (fm.get node.sides t) word answer work k
-    go false k = is_accepted Refusal.NodeDown answer work k
+    go false k = refused_or Refusal.NodeDown answer work k
 
 module _ (m : world.World) (name : Name) (node : TheNode) (names : List Name) (answer : Answer) (work : Work) where
   -- what is left of a list, and what was sent on it
-  moved : (e : NodeEvent) → at_node names node (met e (first_for m name e)) ≡ Accepts answer work → (t : TrunkId) (x : Name) (sent : List Item)
+  moved : (e : NodeEvent) → at_node names node (met e (first_for m name e)) ≡ Accepts answer work
+      → (t : TrunkId) (x : Name) (sent : List Item)
       → taken_at e name t x (map framed (list_to m.lists t x) ++ map framed sent) ≡ map framed (list_to (lists_left m name e) t x ++ sent)
-  moved (event.Call command) h t x sent = sym (map-append framed (list_to m.lists t x) sent)
-  moved event.Local h t x sent = sym (map-append framed (list_to m.lists t x) sent)
-  moved (event.Lose u) h t x sent = sym (map-append framed (list_to m.lists t x) sent)
-  moved event.Sweep h t x sent = sym (map-append framed (list_to m.lists t x) sent)
-  moved (event.Dial peer word) h t x sent = sym (map-append framed (list_to m.lists t x) sent)
-  moved event.Stop h t x sent = sym (map-append framed (list_to m.lists t x) sent)
-  moved event.Start h t x sent = sym (map-append framed (list_to m.lists t x) sent)
   moved (event.Arrive u word) h t x sent =
       ap (λ b. cond b (behind_first (old ++ map framed sent)) (old ++ map framed sent)) (same_place t u x name)
       ∙ go (same_trunk t u && same_name x name) refl
@@ -156,28 +144,26 @@ module _ (m : world.World) (name : Name) (node : TheNode) (names : List Name) (a
       first (i ∷ is) e = sym (map-append framed is sent)
 
       go : (b : Bool) → (same_trunk t u && same_name x name) ≡ b
-          → cond b (behind_first (old ++ map framed sent)) (old ++ map framed sent) ≡ map framed (cond b (rest_of (list_to m.lists u name)) (list_to m.lists t x) ++ sent)
+          → cond b (behind_first (old ++ map framed sent)) (old ++ map framed sent)
+          ≡ map framed (cond b (rest_of (list_to m.lists u name)) (list_to m.lists t x) ++ sent)
       go true e =
-          let v = and_both (same_trunk t u) (same_name x name) e in
+          let v = and_parts (same_trunk t u) (same_name x name) e in
           let a : t ≡ u = same_trunk_true t u v.0 in
           let c : x ≡ name = same_name_true x name v.1 in
           ap (λ l. behind_first (map framed l ++ map framed sent)) (λ i. list_to m.lists (a i) (c i)) ∙ first (list_to m.lists u name) refl
       go false e = sym (map-append framed (list_to m.lists t x) sent)
+  moved e h t x sent = sym (map-append framed (list_to m.lists t x) sent)
 
-  left_spelled : (e : NodeEvent) → ((t : TrunkId) (x : Name) → AreSpelled (list_to m.lists t x)) → (t : TrunkId) (x : Name) → AreSpelled (list_to (lists_left m name e) t x)
-  left_spelled (event.Call command) h t x = h t x
-  left_spelled event.Local h t x = h t x
-  left_spelled (event.Lose u) h t x = h t x
-  left_spelled event.Sweep h t x = h t x
-  left_spelled (event.Dial peer word) h t x = h t x
-  left_spelled event.Stop h t x = h t x
-  left_spelled event.Start h t x = h t x
+  left_spelled : (e : NodeEvent) → ((t : TrunkId) (x : Name) → AreSpelled (list_to m.lists t x)) → (t : TrunkId) (x : Name)
+      → AreSpelled (list_to (lists_left m name e) t x)
   left_spelled (event.Arrive u word) h t x =
-      subst AreSpelled (sym (list_to_insert m.lists u name (rest_of (list_to m.lists u name)) t x)) (go (same_trunk t u && same_name x name))
+      subst AreSpelled (sym (list_to_insert m.lists u name (rest_of (list_to m.lists u name)) t x))
+      (go (same_trunk t u && same_name x name))
     where
       go : (b : Bool) → AreSpelled (cond b (rest_of (list_to m.lists u name)) (list_to m.lists t x))
       go true = spelled_rest (list_to m.lists u name) (h u name)
       go false = h t x
+  left_spelled e h t x = h t x
 
 -- ---- an event at a place of a world of code
 
@@ -186,13 +172,14 @@ module _ (w : World) (m : world.World) (stands : Stands w m) where
   named = ap (λ ns. are_distinct ([] ∷ ns)) (sym stands.names) ∙ stands.distinct
 
   distinct : are_distinct (names_of w.nodes.items) ≡ true
-  distinct = (and_both (not (has_name [] (names_of w.nodes.items))) (are_distinct (names_of w.nodes.items)) named).1
+  distinct = (and_parts (not (has_name [] (names_of w.nodes.items))) (are_distinct (names_of w.nodes.items)) named).1
 
   nobody : has_name [] (names_of w.nodes.items) ≡ false
-  nobody = not_true _ (and_both (not (has_name [] (names_of w.nodes.items))) (are_distinct (names_of w.nodes.items)) named).0
+  nobody = not-true _ (and_parts (not (has_name [] (names_of w.nodes.items))) (are_distinct (names_of w.nodes.items)) named).0
 
   -- there is no node of that name
-  pub no_node : (new : World) (name : Name) (e : NodeEvent) → node_of m.nodes name ≡ None → Stands new m → Came new m (event_at name e) (Err Refusal.NothingThere)
+  pub no_node : (new : World) (name : Name) (e : NodeEvent) → node_of m.nodes name ≡ None → Stands new m
+      → Came new m (event_at name e) (Err Refusal.NothingThere)
   no_node new name e none s =
       let is : step m (event_at name e) ≡ refused m Refusal.NothingThere = by_node m name e None none in
       record {
@@ -208,7 +195,8 @@ module _ (w : World) (m : world.World) (stands : Stands w m) where
       → Came new m (event_at (name_at m.names place) e) (Err Refusal.NothingThere)
   no_place new place e l s =
       let name : name_at m.names place ≡ [] = ap (λ ns. name_at ns place) stands.names ∙ nobody_at (names_of w.nodes.items) place l in
-      no_node new (name_at m.names place) e (ap (node_of m.nodes) name ∙ ap (λ ns. node_of ns []) stands.nodes ∙ nobody_is w.nodes.items nobody) s
+      no_node new (name_at m.names place) e
+      (ap (node_of m.nodes) name ∙ ap (λ ns. node_of ns []) stands.nodes ∙ nobody_is w.nodes.items nobody) s
 
   module _ (place : ℕ) (node new : Node) (l : place < length w.nodes.items) (is : slice_index_or w.nodes.items place node ≡ node) where
     abbrev pub name : Name
@@ -222,38 +210,44 @@ module _ (w : World) (m : world.World) (stands : Stands w m) where
 
     node_there : node_of m.nodes name ≡ Some old
     node_there =
-        (λ i. node_of (stands.nodes i) (name_at (stands.names i) place)) ∙ node_at node w.nodes.items place l distinct ∙ ap (λ n. Some (model_of n)) is
+        (λ i. node_of (stands.nodes i) (name_at (stands.names i) place)) ∙ node_at node w.nodes.items place l distinct
+        ∙ ap (λ n. Some (model_of n)) is
 
     next_is : (t : TrunkId) (items : List Item) → list_to m.lists t name ≡ items → IsNext old t (map framed items) (first_of items)
     next_is t [] e = refl
-    next_is t (item ∷ rest) e = (map framed rest, refl, can_come m stands.reached name old t item rest node_there e (subst AreSpelled e (stands.spelled t name)))
+    next_is t (item ∷ rest) e =
+        (map framed rest, refl, can_come m stands.reached name old t item rest node_there e (subst AreSpelled e (stands.spelled t name)))
 
     -- what the node is told of the world is so
-    pub meets : (e : NodeEvent) (is_known : Bool) → ((peer : Name) (word : ℕ) → e ≡ event.Dial peer word → has_name peer (names_of w.nodes.items) ≡ is_known)
+    pub meets : (e : NodeEvent) (is_known : Bool)
+        → ((peer : Name) (word : ℕ) → e ≡ event.Dial peer word → has_name peer (names_of w.nodes.items) ≡ is_known)
         → Meets e m.names old w.lists is_known (first_for m name e)
     meets (event.Arrive t word) is_known k =
         subst (λ frames. IsNext old t frames (first_of (list_to m.lists t name)))
         (sym (stands.lists t name) ∙ ap (at w.lists t) name_here)
         (next_is t (list_to m.lists t name) refl)
     meets (event.Dial peer word) is_known k = ap (has_name peer) stands.names ∙ k peer word refl
-    meets (event.Call command) is_known k = tt
-    meets event.Local is_known k = tt
-    meets (event.Lose t) is_known k = tt
-    meets event.Sweep is_known k = tt
-    meets event.Stop is_known k = tt
-    meets event.Start is_known k = tt
+    meets e is_known k = tt
 
     abbrev pub due : NodeEvent → Outcome
     due e = at_node m.names old (met e (first_for m name e))
 
     module _ (after : World) (nodes : after.nodes.items ≡ slice_set w.nodes.items place new) where
-      accepted : (e : NodeEvent) (report : Report Framed) → ComesTo e (due e) old (model_of new) w.lists after.lists (Ok report) → Came after m (event_at name e) (Ok report)
+      accepted : (e : NodeEvent) (report : Report Framed)
+          → ComesTo e (due e) old (model_of new) w.lists after.lists (Ok report) → Came after m (event_at name e) (Ok report)
       accepted e report h =
           let did = h.0 in
-          let is : step m (event_at name e) ≡ came_of m name (lists_left m name e) (Accepts did.answer did.work) = step_is m name e old node_there ∙ ap (came_of m name (lists_left m name e)) did.accepts in
-          let kept : name_of new ≡ name_of (slice_index_or w.nodes.items place node) = name_kept m.names old (model_of new) (met e (first_for m name e)) report did ∙ ap name_of (sym is_node) in
-          let next : world.World = record { names = m.names; nodes = set_node m.nodes name did.work.node; lists = carried (lists_left m name e) did.work.effects } in
-          let goes : Goes m (event_at name e) (Reported did.answer did.work.effects) next = inl (sym (ap (λ (s : Stepped). s.report) is), sym (ap (λ (s : Stepped). s.world) is)) in
+          let is : step m (event_at name e) ≡ came_of m name (lists_left m name e) (Accepts did.answer did.work) =
+          step_is m name e old node_there ∙ ap (came_of m name (lists_left m name e)) did.accepts in
+          let kept : name_of new ≡ name_of (slice_index_or w.nodes.items place node) =
+          name_kept m.names old (model_of new) (met e (first_for m name e)) report did ∙ ap name_of (sym is_node) in
+          let next : world.World = record {
+            names = m.names;
+            nodes = set_node m.nodes name did.work.node;
+            lists = carried (lists_left m name e) did.work.effects;
+          } in
+          let goes : Goes m (event_at name e) (Reported did.answer did.work.effects) next =
+          inl (sym (ap (λ (s : Stepped). s.report) is), sym (ap (λ (s : Stepped). s.world) is)) in
           record {
             report = Reported did.answer did.work.effects;
             next = next;
@@ -273,7 +267,8 @@ module _ (w : World) (m : world.World) (stands : Stands w m) where
               spelled = λ t x.
                   subst AreSpelled (sym (list_to_carried (lists_left m name e) did.work.effects t x))
                   (spelled_both (list_to (lists_left m name e) t x) (at_place t x (sent_in did.work.effects))
-                  (left_spelled m name old m.names did.answer did.work e stands.spelled t x) (spelled_sent t x did.work.effects did.spelled));
+                  (left_spelled m name old m.names did.answer did.work e stands.spelled t x)
+                  (spelled_sent t x did.work.effects did.spelled));
               reached = reached_next m next (event_at name e) (Reported did.answer did.work.effects) stands.reached goes;
             };
           }
@@ -285,7 +280,8 @@ module _ (w : World) (m : world.World) (stands : Stands w m) where
       unchanged n s =
           let same : model_of new ≡ model_of (slice_index_or w.nodes.items place node) = n ∙ ap model_of (sym is) in
           record {
-            names = stands.names ∙ sym (names_set w.nodes.items place new node l (ap (λ (k : TheNode). k.mint.name) same)) ∙ ap names_of (sym nodes);
+            names = stands.names ∙ sym (names_set w.nodes.items place new node l (ap (λ (k : TheNode). k.mint.name) same))
+                ∙ ap names_of (sym nodes);
             distinct = stands.distinct;
             nodes = stands.nodes ∙ sym (same_models w.nodes.items place new node l same) ∙ ap (map model_of) (sym nodes);
             lists = λ t x. s t x ∙ stands.lists t x;
@@ -295,7 +291,8 @@ module _ (w : World) (m : world.World) (stands : Stands w m) where
 
       not_accepted : (e : NodeEvent) (why : Refusal) → Stands after m → IsRefused (due e) why → Came after m (event_at name e) (Err why)
       not_accepted e why s (inl r) =
-          let is : step m (event_at name e) ≡ refused m why = step_is m name e old node_there ∙ ap (came_of m name (lists_left m name e)) r in
+          let is : step m (event_at name e) ≡ refused m why =
+          step_is m name e old node_there ∙ ap (came_of m name (lists_left m name e)) r in
           record {
             report = Refused why;
             next = m;
@@ -305,6 +302,7 @@ module _ (w : World) (m : world.World) (stands : Stands w m) where
           }
       not_accepted e why s (inr r) = record { report = Refused why; next = m; goes = inr (ap Refused r.is, refl); tells = refl; stands = s }
 
-      pub came : (e : NodeEvent) (answer : Answered) → ComesTo e (due e) old (model_of new) w.lists after.lists answer → Came after m (event_at name e) answer
+      pub came : (e : NodeEvent) (answer : Answered) → ComesTo e (due e) old (model_of new) w.lists after.lists answer
+          → Came after m (event_at name e) answer
       came e (Ok report) h = accepted e report h
       came e (Err why) h = not_accepted e why (unchanged h.1 h.2) h.0

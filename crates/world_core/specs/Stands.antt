@@ -4,8 +4,7 @@ use Rattle.std.specs.Prelude.{◌≡◌, ℕ, true, List, [], ◌∷◌, map}
 use Rattle.dist_model.specs.Items.{Item}
 use Rattle.dist_model.specs.Names.{Name}
 use Rattle.dist_model.specs.Runs.{Runs, opening}
-use Rattle.dist_model.specs.World.{Event, Report, list_to}
-use Rattle.dist_model.specs.World.{World as TheWorld}
+use Rattle.dist_model.specs.World.{Event, Report, list_to, World as TheWorld}
 use Rattle.erl_names.specs.declared.trunk.TrunkId.{TrunkId}
 use Rattle.node_core.specs.Model.{model_of}
 use Rattle.node_frames.specs.Frames.{IsSpelled, framed}

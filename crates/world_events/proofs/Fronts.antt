@@ -1,5 +1,6 @@
 -- What was sent is read as what it was.
-use Rattle.std.proofs.Common.{◌≡◌, ℕ, Bool, true, false, cond, not, List, [], ◌++◌, length, Option, None, Some, Result, Ok, Err, refl, sym, ap, subst, ◌∙◌, append-nil, inl, lit<}
+use Rattle.std.proofs.Common.{◌≡◌, ℕ, Bool, true, false, cond, not, List, [], ◌++◌, length, Option, None}
+use Rattle.std.proofs.Common.{Some, Result, Ok, Err, refl, sym, ap, subst, ◌∙◌, append-nil, inl, lit<}
 use Rattle.conn_core.specs.declared.arrival.Fault.{Fault}
 use Rattle.dist_model.specs.Arrivals.{arrive, arrive_first}
 use Rattle.dist_model.specs.Commands.{Refuses}
@@ -70,7 +71,8 @@ err_or_one e x h = cc
 same_read : (x y : ShakeMsg × ℕ) → Ok (Some x) ≡ (let due : ShakeDue = Ok (Some y) in due) → x ≡ y
 same_read x y h = cc
 
-message_front : (dials : Bool) (message : ShakeMsg) (bytes : List ℕ) (front : Front) → of_role dials message ≡ true → HasFields message → bytes ≡ written message
+message_front : (dials : Bool) (message : ShakeMsg) (bytes : List ℕ) (front : Front) → of_role dials message ≡ true
+    → HasFields message → bytes ≡ written message
     → IsMessageFront (reader_of dials) bytes front → (len : ℕ) × (front ≡ Holds (Handshake message) len)
 message_front dials message bytes front f h b d = go front d
   where
@@ -89,7 +91,8 @@ message_front dials message bytes front f h b d = go front d
 
     go : (front : Front) → IsMessageFront reader bytes front → (len : ℕ) × (front ≡ Holds (Handshake message) len)
     go Begins k = none_or_one (message, len) (once (Ok None) k)
-    go (Holds (Handshake other) n) k = (n, ap (λ (x : ShakeMsg × ℕ). Holds (Handshake x.0) n) (same_read (other, n) (message, len) (once (Ok (Some (other, n))) k)))
+    go (Holds (Handshake other) n) k =
+        (n, ap (λ (x : ShakeMsg × ℕ). Holds (Handshake x.0) n) (same_read (other, n) (message, len) (once (Ok (Some (other, n))) k)))
     go (Holds (Signalled signal) n) k = absurd k
     go (Holds Tick n) k = absurd k
     go (Spoils (Fault.Shake ShakeFault.BadMessage)) k = err_or_one Refusal.BadMessage (message, len) (once (Err Refusal.BadMessage) k)
@@ -112,7 +115,8 @@ nothing_begins reader front d = go front d
     go (Holds (Handshake other) n) k = none_or_one (other, n) (sym (once (Ok (Some (other, n))) k))
     go (Holds (Signalled signal) n) k = absurd k
     go (Holds Tick n) k = absurd k
-    go (Spoils (Fault.Shake ShakeFault.BadMessage)) k = (let e : Err Refusal.BadMessage ≡ (let due : ShakeDue = Ok None in due) = once (Err Refusal.BadMessage) k in cc)
+    go (Spoils (Fault.Shake ShakeFault.BadMessage)) k =
+        (let e : Err Refusal.BadMessage ≡ (let due : ShakeDue = Ok None in due) = once (Err Refusal.BadMessage) k in cc)
     go (Spoils (Fault.Shake ShakeFault.FlagsMissing)) k = absurd k
     go (Spoils (Fault.Shake ShakeFault.BadDigest)) k = absurd k
     go (Spoils (Fault.Shake ShakeFault.Nok)) k = absurd k
@@ -136,11 +140,15 @@ same_frame : (x y : FrameItem × ℕ) → Ok (Some x) ≡ (let due : FrameDue = 
 same_frame x y h = cc
 
 -- bytes that are due as one thing are not due as another
-frame_front : (bytes : List ℕ) (item : FrameItem) (len : ℕ) (front : Front) → ((other : FrameDue) → IsFrameDue bytes other → other ≡ Ok (Some (item, len)))
+frame_front : (bytes : List ℕ) (item : FrameItem) (len : ℕ) (front : Front)
+    → ((other : FrameDue) → IsFrameDue bytes other → other ≡ Ok (Some (item, len)))
     → IsFrameFront bytes front → (n : ℕ) × (front ≡ Holds (item_of item) n)
 frame_front bytes item len Begins once k = no_frame (item, len) (once (Ok None) k)
-frame_front bytes item len (Holds (Signalled signal) n) once k =
-    (n, ap (λ (x : FrameItem × ℕ). Holds (item_of x.0) n) (same_frame (frame.Signal signal, n) (item, len) (once (Ok (Some (frame.Signal signal, n))) k)))
+frame_front bytes item len (Holds (Signalled signal) n) once k = (
+  n,
+  ap (λ (x : FrameItem × ℕ). Holds (item_of x.0) n)
+      (same_frame (frame.Signal signal, n) (item, len) (once (Ok (Some (frame.Signal signal, n))) k)),
+)
 frame_front bytes item len (Holds Tick n) once k =
     (n, ap (λ (x : FrameItem × ℕ). Holds (item_of x.0) n) (same_frame (frame.Tick, n) (item, len) (once (Ok (Some (frame.Tick, n))) k)))
 frame_front bytes item len (Holds (Handshake message) n) once k = absurd k
@@ -148,12 +156,15 @@ frame_front bytes item len (Spoils (Fault.Frame why)) once k = bad_frame (error_
 frame_front bytes item len (Spoils (Fault.Shake why)) once k = absurd k
 frame_front bytes item len (Spoils Fault.Forged) once k = absurd k
 
-no_frame_front : (bytes : List ℕ) (front : Front) → ((other : FrameDue) → IsFrameDue bytes other → other ≡ Ok None) → IsFrameFront bytes front → front ≡ Begins
+no_frame_front : (bytes : List ℕ) (front : Front) → ((other : FrameDue) → IsFrameDue bytes other → other ≡ Ok None)
+    → IsFrameFront bytes front → front ≡ Begins
 no_frame_front bytes Begins once k = refl
-no_frame_front bytes (Holds (Signalled signal) n) once k = no_frame (frame.Signal signal, n) (sym (once (Ok (Some (frame.Signal signal, n))) k))
+no_frame_front bytes (Holds (Signalled signal) n) once k =
+    no_frame (frame.Signal signal, n) (sym (once (Ok (Some (frame.Signal signal, n))) k))
 no_frame_front bytes (Holds Tick n) once k = no_frame (frame.Tick, n) (sym (once (Ok (Some (frame.Tick, n))) k))
 no_frame_front bytes (Holds (Handshake message) n) once k = absurd k
-no_frame_front bytes (Spoils (Fault.Frame why)) once k = (let e : Err (error_of why) ≡ (let due : FrameDue = Ok None in due) = once (Err (error_of why)) k in cc)
+no_frame_front bytes (Spoils (Fault.Frame why)) once k =
+    (let e : Err (error_of why) ≡ (let due : FrameDue = Ok None in due) = once (Err (error_of why)) k in cc)
 no_frame_front bytes (Spoils (Fault.Shake why)) once k = absurd k
 no_frame_front bytes (Spoils Fault.Forged) once k = absurd k
 
@@ -161,13 +172,16 @@ module _ (one : OneFrame) (again : FrameAgain) (bytes : List ℕ) (are : AreByte
   as_due : (due : FrameDue) → IsFrameDue bytes due → (other : FrameDue) → IsFrameDue bytes other → other ≡ due
   as_due due d other k = let o = one bytes are in o.2 other k ∙ sym (o.2 due d)
 
-  up_front : (item : Item) (front : Front) → not (is_handshake item) ≡ true → IsSpelled item → bytes ≡ bytes_of item → IsFrameFront bytes front
+  up_front : (item : Item) (front : Front) → not (is_handshake item) ≡ true → IsSpelled item → bytes ≡ bytes_of item
+      → IsFrameFront bytes front
       → (n : ℕ) × (front ≡ Holds item n)
   up_front (Signalled signal) front r s b k =
       let due : IsFrameDue bytes (Ok (Some (frame.Signal signal, length (bytes_of (Signalled signal))))) =
-      subst (λ bs. IsFrameDue bs (Ok (Some (frame.Signal signal, length (bytes_of (Signalled signal)))))) (append-nil (bytes_of (Signalled signal)) ∙ sym b)
+      subst (λ bs. IsFrameDue bs (Ok (Some (frame.Signal signal, length (bytes_of (Signalled signal))))))
+      (append-nil (bytes_of (Signalled signal)) ∙ sym b)
       (again (frame.Signal signal) (bytes_of (Signalled signal)) [] s) in
-      frame_front bytes (frame.Signal signal) (length (bytes_of (Signalled signal))) front (as_due (Ok (Some (frame.Signal signal, length (bytes_of (Signalled signal))))) due) k
+      frame_front bytes (frame.Signal signal) (length (bytes_of (Signalled signal))) front
+      (as_due (Ok (Some (frame.Signal signal, length (bytes_of (Signalled signal))))) due) k
   up_front Tick front r s b k =
       let due : IsFrameDue bytes (Ok (Some (frame.Tick, length (bytes_of Tick)))) =
       subst (λ bs. IsFrameDue bs (Ok (Some (frame.Tick, length (bytes_of Tick))))) (append-nil (bytes_of Tick) ∙ sym b)
@@ -214,10 +228,12 @@ module _ (one : OneFrame) (again : FrameAgain) (bytes : List ℕ) (are : AreByte
         here (Holds item n) = there (Some item)
         here (Spoils why) = ap (λ b. cond b (Refuses Refusal.NotLive) (fault why trunk side (at_work m))) h
 
-    held : (o : Option TrunkSide) (item : Item) (front : Front) → ((n : ℕ) × (front ≡ Holds item n)) → comes m trunk o front word ≡ arrive m trunk o (Some item) word
+    held : (o : Option TrunkSide) (item : Item) (front : Front) → ((n : ℕ) × (front ≡ Holds item n))
+        → comes m trunk o front word ≡ arrive m trunk o (Some item) word
     held o item front h = ap (λ f. comes m trunk o f word) h.1
 
-    side_comes : (side : TrunkSide) (item : Item) (front : Front) (st : State) → side.state ≡ st → reads st item ≡ true → IsSpelled item → bytes ≡ bytes_of item
+    side_comes : (side : TrunkSide) (item : Item) (front : Front) (st : State) → side.state ≡ st → reads st item ≡ true
+        → IsSpelled item → bytes ≡ bytes_of item
         → IsFrontIn st bytes front → comes m trunk (Some side) front word ≡ arrive m trunk (Some side) (Some item) word
     side_comes side item front (state.AwaitsStatus w) e r s b k = held (Some side) item front (shake_front true item front r s b k)
     side_comes side item front (state.AwaitsChallenge w) e r s b k = held (Some side) item front (shake_front true item front r s b k)
@@ -230,7 +246,8 @@ module _ (one : OneFrame) (again : FrameAgain) (bytes : List ℕ) (are : AreByte
     side_comes side item front state.Gone e r s b k = over side front (Some item) (ap is_over e)
 
     -- the item that was sent is what comes
-    pub item_comes : (o : Option TrunkSide) (item : Item) (front : Front) → reads_at o item ≡ true → IsSpelled item → bytes ≡ bytes_of item → IsFront o bytes front
+    pub item_comes : (o : Option TrunkSide) (item : Item) (front : Front) → reads_at o item ≡ true → IsSpelled item
+        → bytes ≡ bytes_of item → IsFront o bytes front
         → comes m trunk o front word ≡ arrive m trunk o (Some item) word
     item_comes None item front r s b k = held None item front (shake_front false item front r s b k)
     item_comes (Some side) item front r s b k = side_comes side item front side.state refl r s b k
@@ -259,6 +276,7 @@ module _ (one : OneFrame) (again : FrameAgain) (bytes : List ℕ) (are : AreByte
     side_begins side front state.Gone e b k = over side front None (ap is_over e)
 
     -- and where nothing travels nothing comes
-    pub nothing_comes : (o : Option TrunkSide) (front : Front) → bytes ≡ [] → IsFront o bytes front → comes m trunk o front word ≡ arrive m trunk o None word
+    pub nothing_comes : (o : Option TrunkSide) (front : Front) → bytes ≡ [] → IsFront o bytes front
+        → comes m trunk o front word ≡ arrive m trunk o None word
     nothing_comes None front b k = begins None front (shake_begins role.Acceptor front b k)
     nothing_comes (Some side) front b k = side_begins side front side.state refl b k

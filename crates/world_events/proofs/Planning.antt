@@ -1,5 +1,6 @@
 -- What comes next on a connection is planned, and what is planned is sent.
-use Rattle.std.proofs.Common.{◌≡◌, ◌+◌, ◌^◌, nat_lt, ℕ, Bool, true, false, cond, List, [], ◌++◌, Option, None, Some, Result, Ok, Err, MatchResult, map, refl, sym, ap, subst, ◌∙◌, inl, inr, append-nil}
+use Rattle.std.proofs.Common.{◌≡◌, ◌+◌, ◌^◌, nat_lt, ℕ, Bool, true, false, cond, List, [], ◌++◌, Option, None, Some}
+use Rattle.std.proofs.Common.{Result, Ok, Err, MatchResult, map, refl, sym, ap, subst, ◌∙◌, inl, inr, append-nil}
 use Rattle.std.specs.FinMap as fm
 use Rattle.std.specs.Ordering.{eq_by_cmp}
 use Rattle.std.specs.declared.alloc.Global.{Global}
@@ -54,30 +55,39 @@ module _ (names : List Name) (m : Node) (trunk : TrunkId) (bytes : List ℕ) (wo
   refused : (first : Option Item) (e : Refusal) → result ≡ Err e → due first ≡ Refuses e → IsPlannedOr m (due first) result
   refused first e r h = subst (IsPlannedOr m (due first)) (sym r) (inl h)
 
-  planned : (first : Option Item) (front : Front) (r : Result PlannedArrival Refusal) → comes m trunk (fm.get m.sides trunk) front word ≡ arrive m trunk (fm.get m.sides trunk) first word
+  planned : (first : Option Item) (front : Front) (r : Result PlannedArrival Refusal)
+      → comes m trunk (fm.get m.sides trunk) front word ≡ arrive m trunk (fm.get m.sides trunk) first word
       → PlansFront m (arrives m trunk front word) front r → IsPlannedOr m (due first) r
   planned first front (Ok arrival) e h = subst (λ o. IsPlanned m o arrival.planned.plan) (ap (if_up m) e) h.0
   planned first front (Err why) e h = subst (λ o. IsRefused o why) (ap (if_up m) e) h
 
   -- the node is up
-  first_comes : (frames : List Framed) (first : Option Item) → m.up ≡ true → is_undialed m trunk (fm.get m.sides trunk) ≡ false → bytes ≡ bytes_in frames → IsNext m trunk frames first
+  first_comes : (frames : List Framed) (first : Option Item) → m.up ≡ true
+      → is_undialed m trunk (fm.get m.sides trunk) ≡ false → bytes ≡ bytes_in frames → IsNext m trunk frames first
       → IsPlannedOr m (due first) result
   first_comes frames None u d b h =
       let p = came u d in
-      planned None p.front result (nothing_comes one again bytes are m trunk word (fm.get m.sides trunk) p.front (b ∙ ap bytes_in h) p.is) p.plans
+      planned None p.front result
+      (nothing_comes one again bytes are m trunk word (fm.get m.sides trunk) p.front (b ∙ ap bytes_in h) p.is) p.plans
   first_comes frames (Some item) u d b h =
       let p = came u d in
-      planned (Some item) p.front result (item_comes one again bytes are m trunk word (fm.get m.sides trunk) item p.front h.2.read h.2.spelled (b ∙ ap bytes_in h.1) p.is) p.plans
+      planned (Some item) p.front result
+      (item_comes one again bytes are m trunk word (fm.get m.sides trunk) item p.front h.2.read h.2.spelled (b ∙ ap bytes_in h.1) p.is)
+      p.plans
 
   -- it would have dialed, and has no side
-  none_comes : (frames : List Framed) (first : Option Item) (o : Option TrunkSide) → fm.get m.sides trunk ≡ o → m.up ≡ true → is_undialed m trunk (fm.get m.sides trunk) ≡ true
+  none_comes : (frames : List Framed) (first : Option Item) (o : Option TrunkSide) → fm.get m.sides trunk ≡ o → m.up ≡ true
+      → is_undialed m trunk (fm.get m.sides trunk) ≡ true
       → IsNext m trunk frames first → IsPlannedOr m (due first) result
   none_comes frames None None s u d h =
-      refused None Refusal.NotLive (undialed u d) (ap (λ b. cond b (arrive m trunk (fm.get m.sides trunk) None word) (Refuses Refusal.NodeDown)) u ∙ ap (λ o. arrive m trunk o None word) s)
+      refused None Refusal.NotLive (undialed u d) (ap
+      (λ b. cond b (arrive m trunk (fm.get m.sides trunk) None word) (Refuses Refusal.NodeDown)) u ∙ ap
+      (λ o. arrive m trunk o None word) s)
   none_comes frames None (Some side) s u d h = let no : false ≡ true = ap (is_undialed m trunk) (sym s) ∙ d in cc
   none_comes frames (Some item) o s u d h = let no : false ≡ true = sym h.2.theirs ∙ d in cc
 
-  pub comes_planned : (frames : List Framed) (first : Option Item) → bytes ≡ bytes_in frames → IsNext m trunk frames first → IsPlannedOr m (due first) result
+  pub comes_planned : (frames : List Framed) (first : Option Item) → bytes ≡ bytes_in frames → IsNext m trunk frames first
+      → IsPlannedOr m (due first) result
   comes_planned frames first b h = go m.up refl
     where
       up : m.up ≡ true → (d : Bool) → is_undialed m trunk (fm.get m.sides trunk) ≡ d → IsPlannedOr m (due first) result
@@ -86,15 +96,19 @@ module _ (names : List Name) (m : Node) (trunk : TrunkId) (bytes : List ℕ) (wo
 
       go : (u : Bool) → m.up ≡ u → IsPlannedOr m (due first) result
       go true u = up u (is_undialed m trunk (fm.get m.sides trunk)) refl
-      go false u = refused first Refusal.NodeDown (down u) (ap (λ b. cond b (arrive m trunk (fm.get m.sides trunk) first word) (Refuses Refusal.NodeDown)) u)
+      go false u =
+          refused first Refusal.NodeDown (down u)
+          (ap (λ b. cond b (arrive m trunk (fm.get m.sides trunk) first word) (Refuses Refusal.NodeDown)) u)
 
 -- ---- what was planned
 
 pub sends_planned : (m new : Node) (due : Outcome) (plan : Plan) (report : Report Framed) (before after : Lines) → IsPlanned m due plan
     → new ≡ committed plan m → report.answer ≡ told plan m → report.effects ≡ plan.effects
     → ((t : TrunkId) (x : Name) → at after t x ≡ at before t x ++ sent_at t x plan.effects.items) → Sends due m new before after (Ok report)
-sends_planned m new due plan report before after h n t e g =
-    (done m new due plan report h n t e, λ u x. g u x ∙ ap (λ (es : Vec (Effect Framed) Global). at before u x ++ sent_at u x es.items) (sym e))
+sends_planned m new due plan report before after h n t e g = (
+  done m new due plan report h n t e,
+  λ u x. g u x ∙ ap (λ (es : Vec (Effect Framed) Global). at before u x ++ sent_at u x es.items) (sym e),
+)
 
 pub lacks : (m new : Node) (due : Outcome) (plan : Plan) (before after : Lines) → IsPlanned m due plan → new ≡ m → Stayed before after
     → Sends due m new before after (Err Refusal.OutOfMemory)
@@ -108,11 +122,13 @@ sends_on m mid new due plan before after result e f h =
 
 -- nothing is sent
 pub silent : (due : Outcome) (old new : Node) (lines : Lines) (result : Result (Report Framed) Refusal)
-    → ((answer : Answer) (work : Work) → due ≡ Accepts answer work → work.effects ≡ []) → Does due old new result → Sends due old new lines lines result
+    → ((answer : Answer) (work : Work) → due ≡ Accepts answer work → work.effects ≡ []) → Does due old new result
+    → Sends due old new lines lines result
 silent due old new lines (Ok report) quiet h = (
   h,
   λ t x.
-      sym (append-nil (at lines t x)) ∙ ap (λ es. at lines t x ++ sent_at t x es) (sym (h.effects ∙ ap (map shown) (quiet h.answer h.work h.accepts))),
+      sym (append-nil (at lines t x))
+      ∙ ap (λ es. at lines t x ++ sent_at t x es) (sym (h.effects ∙ ap (map shown) (quiet h.answer h.work h.accepts))),
 )
 silent due old new lines (Err e) quiet h = (h.0, h.1, λ t x. refl)
 
@@ -132,7 +148,9 @@ stop_is_silent m answer work h = go m.up h
 pub start_is_silent : (m : Node) (answer : Answer) (work : Work) → start m ≡ Accepts answer work → work.effects ≡ []
 start_is_silent m answer work h = go m.up (nat_lt (m.mint.creation + 1) (2 ^ 32)) h
   where
-    go : (b d : Bool) → cond b (Refuses Refusal.NodeUp) (cond d (Accepts (Answer.Started (m.mint.creation + 1)) (at_work (started m))) (Refuses Refusal.IdsUsedUp)) ≡ Accepts answer work
+    go : (b d : Bool) → cond b (Refuses Refusal.NodeUp)
+        (cond d (Accepts (Answer.Started (m.mint.creation + 1)) (at_work (started m))) (Refuses Refusal.IdsUsedUp))
+        ≡ Accepts answer work
         → work.effects ≡ []
     go true d k = refused_or Refusal.NodeUp answer work k
     go false true k = same_work _ answer (at_work (started m)) work k
@@ -140,13 +158,15 @@ start_is_silent m answer work h = go m.up (nat_lt (m.mint.creation + 1) (2 ^ 32)
 
 -- ---- an event that came to something
 
-pub name_kept : (names : List Name) (m new : Node) (event : NodeEvent) (report : Report Framed) → Did (at_node names m event) new report → new.mint.name ≡ m.mint.name
+pub name_kept : (names : List Name) (m new : Node) (event : NodeEvent) (report : Report Framed)
+    → Did (at_node names m event) new report → new.mint.name ≡ m.mint.name
 name_kept names m new event report h =
     ap (λ (n : Node). n.mint.name) h.node
     ∙ (if_accepted (Bearings m event) (at_node names m event) h.answer h.work h.accepts (bearings_kept names m event)).name
 
 -- what has come is gone
-pub arrived : (names : List Name) (m new : Node) (t : TrunkId) (first : Option Item) (word : ℕ) (name : Name) (before sent after : Lines) (report : Report Framed)
+pub arrived : (names : List Name) (m new : Node) (t : TrunkId) (first : Option Item) (word : ℕ) (name : Name)
+    (before sent after : Lines) (report : Report Framed)
     → Sends (at_node names m (Arrive t first word)) m new before sent (Ok report) → name ≡ new.mint.name
     → ((u : TrunkId) (x : Name) → at after u x ≡ cond (eq_by_cmp place_cmp (u, x) (t, name)) (behind_first (at sent u x)) (at sent u x))
     → ComesTo (event.Arrive t word) (at_node names m (Arrive t first word)) m new before after (Ok report)
@@ -154,14 +174,18 @@ arrived names m new t first word name before sent after report h n d = (
   h.0,
   λ u x.
       d u x
-      ∙ ap (λ y. cond (eq_by_cmp place_cmp (u, x) (t, y)) (behind_first (at sent u x)) (at sent u x)) (n ∙ name_kept names m new (Arrive t first word) report h.0)
+      ∙ ap (λ y. cond (eq_by_cmp place_cmp (u, x) (t, y)) (behind_first (at sent u x)) (at sent u x))
+      (n ∙ name_kept names m new (Arrive t first word) report h.0)
       ∙ ap (λ q. cond (eq_by_cmp place_cmp (u, x) (t, m.mint.name)) (behind_first q) q) (h.1 u x),
 )
 
 -- planned for the node as it was
-pub comes_on : (names : List Name) (first : Option Item) (t : TrunkId) (word : ℕ) (m mid new : Node) (plan : Plan) (before after : Lines) (result : Result (Report Framed) Refusal) → mid ≡ m
-    → (IsPlanned mid (at_node names mid (Arrive t first word)) plan → ComesTo (event.Arrive t word) (at_node names mid (Arrive t first word)) mid new before after result)
-    → IsPlanned m (at_node names m (Arrive t first word)) plan → ComesTo (event.Arrive t word) (at_node names m (Arrive t first word)) m new before after result
+pub comes_on : (names : List Name) (first : Option Item) (t : TrunkId) (word : ℕ) (m mid new : Node) (plan : Plan)
+    (before after : Lines) (result : Result (Report Framed) Refusal) → mid ≡ m
+    → (IsPlanned mid (at_node names mid (Arrive t first word)) plan
+    → ComesTo (event.Arrive t word) (at_node names mid (Arrive t first word)) mid new before after result)
+    → IsPlanned m (at_node names m (Arrive t first word)) plan
+    → ComesTo (event.Arrive t word) (at_node names m (Arrive t first word)) m new before after result
 comes_on names first t word m mid new plan before after result e f h =
     subst (λ n. ComesTo (event.Arrive t word) (at_node names n (Arrive t first word)) n new before after result) e
     (f (subst (λ n. IsPlanned n (at_node names n (Arrive t first word)) plan) (sym e) h))
@@ -174,5 +198,6 @@ Happens happens names old new before after is_known result = (first : Option Ite
 pub as_sent : (happens : NodeEventOf) (due : Outcome) (old new : Node) (before after : Lines) (result : Result (Report Framed) Refusal)
     → ((name : Name) (t : TrunkId) (x : Name) (frames : List Framed) → taken_at happens name t x frames ≡ frames)
     → Sends due old new before after result → ComesTo happens due old new before after result
-as_sent happens due old new before after (Ok report) none h = (h.0, λ t x. h.1 t x ∙ sym (none old.mint.name t x (at before t x ++ sent_at t x report.effects.items)))
+as_sent happens due old new before after (Ok report) none h =
+    (h.0, λ t x. h.1 t x ∙ sym (none old.mint.name t x (at before t x ++ sent_at t x report.effects.items)))
 as_sent happens due old new before after (Err e) none h = h

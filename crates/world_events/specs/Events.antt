@@ -47,7 +47,8 @@ taken_at (event.Arrive trunk word) name t x frames = if eq_by_cmp place_cmp (t, 
 taken_at _ name t x frames = frames
 
 abbrev pub Moved : NodeEvent → Name → Lines → Lines → Report Framed → Type 0
-Moved event name before after report = (t : TrunkId) (x : Name) → at after t x ≡ taken_at event name t x (at before t x ++ sent_at t x report.effects.items)
+Moved event name before after report =
+    (t : TrunkId) (x : Name) → at after t x ≡ taken_at event name t x (at before t x ++ sent_at t x report.effects.items)
 
 abbrev pub Stayed : Lines → Lines → Type 0
 Stayed before after = (t : TrunkId) (x : Name) → at after t x ≡ at before t x

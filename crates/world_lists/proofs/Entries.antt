@@ -8,25 +8,29 @@ use Rattle.std.specs.FinMap.{find, put}
 use Rattle.std.specs.FinMap.Entries.{find-put}
 use Rattle.sorted_map.specs.Entries.{changed}
 
-module _ {K V : Type 0} {cmp : K → K → Ordering} (order : IsTotalOrder cmp) (same : (a b : K) → eq_by_cmp cmp a b ≡ true → a ≡ b) (d : V) where
+module _ {K V : Type 0} {cmp : K → K → Ordering} (order : IsTotalOrder cmp)
+    (same : (a b : K) → eq_by_cmp cmp a b ≡ true → a ≡ b) (d : V) where
   abbrev pub at_key : List (K × V) → K → V
   at_key entries key = unwrap_or (find cmp key entries) d
 
-  pub put_at : (entries : List (K × V)) (key : K) (value : V) (x : K) → at_key (put cmp key value entries) x ≡ cond (eq_by_cmp cmp x key) value (at_key entries x)
+  pub put_at : (entries : List (K × V)) (key : K) (value : V) (x : K)
+      → at_key (put cmp key value entries) x ≡ cond (eq_by_cmp cmp x key) value (at_key entries x)
   put_at entries key value x = ap (λ o. unwrap_or o d) (find-put cmp order x key value entries) ∙ go (eq_by_cmp cmp x key)
     where
       go : (b : Bool) → unwrap_or (cond b (Some value) (find cmp x entries)) d ≡ cond b value (at_key entries x)
       go true = refl
       go false = refl
 
-  changed_there : (entries : List (K × V)) (key : K) (held value : V) → find cmp key entries ≡ Some held → changed cmp key value entries ≡ put cmp key value entries
+  changed_there : (entries : List (K × V)) (key : K) (held value : V) → find cmp key entries ≡ Some held
+      → changed cmp key value entries ≡ put cmp key value entries
   changed_there entries key held value h = ap (λ o. cond (is_some o) (put cmp key value entries) entries) h
 
   pub not_changed : (entries : List (K × V)) (key : K) (value : V) → find cmp key entries ≡ None → changed cmp key value entries ≡ entries
   not_changed entries key value h = ap (λ o. cond (is_some o) (put cmp key value entries) entries) h
 
   put_there : (entries : List (K × V)) (key : K) (value : V) → find cmp key (put cmp key value entries) ≡ Some value
-  put_there entries key value = find-put cmp order key key value entries ∙ ap (λ o. cond (is_eq o) (Some value) (find cmp key entries)) (tied_itself order key)
+  put_there entries key value =
+      find-put cmp order key key value entries ∙ ap (λ o. cond (is_eq o) (Some value) (find cmp key entries)) (tied_itself order key)
 
   pub held_at : (entries : List (K × V)) (key : K) (held : V) → find cmp key entries ≡ Some held → at_key entries key ≡ held
   held_at entries key held h = ap (λ o. unwrap_or o d) h
@@ -39,7 +43,8 @@ module _ {K V : Type 0} {cmp : K → K → Ordering} (order : IsTotalOrder cmp) 
   once false one two other = refl
 
   -- out and back again, changed
-  pub swapped : (old new last : List (K × V)) (key : K) (held one two : V) → find cmp key old ≡ Some held → new ≡ changed cmp key one old → last ≡ changed cmp key two new
+  pub swapped : (old new last : List (K × V)) (key : K) (held one two : V) → find cmp key old ≡ Some held
+      → new ≡ changed cmp key one old → last ≡ changed cmp key two new
       → (x : K) → at_key last x ≡ cond (eq_by_cmp cmp x key) two (at_key old x)
   swapped old new last key held one two h m n x =
       let first : new ≡ put cmp key one old = m ∙ changed_there old key held one h in
@@ -51,7 +56,8 @@ module _ {K V : Type 0} {cmp : K → K → Ordering} (order : IsTotalOrder cmp) 
       ∙ once (eq_by_cmp cmp x key) one two (at_key old x)
 
   -- and where it had none
-  pub new_at : (old new last : List (K × V)) (key : K) (one two : V) → find cmp key old ≡ None → new ≡ changed cmp key one old → last ≡ put cmp key two new
+  pub new_at : (old new last : List (K × V)) (key : K) (one two : V) → find cmp key old ≡ None → new ≡ changed cmp key one old
+      → last ≡ put cmp key two new
       → (x : K) → at_key last x ≡ cond (eq_by_cmp cmp x key) two (at_key old x)
   new_at old new last key one two h m n x =
       ap (λ es. at_key es x) (n ∙ ap (put cmp key two) (m ∙ not_changed old key one h)) ∙ put_at old key two x

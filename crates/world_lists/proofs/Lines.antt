@@ -1,5 +1,6 @@
 -- What travels to a node on each connection, once that on one of them changes.
-use Rattle.std.proofs.Common.{◌≡◌, Bool, true, false, cond, List, [], ◌∷◌, ◌++◌, Some, None, Result, Ok, Err, OnOk, OnErr, refl, sym, ap, ◌∙◌, append-nil}
+use Rattle.std.proofs.Common.{◌≡◌, Bool, true, false, cond, List, [], ◌∷◌, ◌++◌, Some, None}
+use Rattle.std.proofs.Common.{Result, Ok, Err, OnOk, OnErr, refl, sym, ap, ◌∙◌, append-nil}
 use Rattle.std.specs.FinMap.{find, put}
 use Rattle.std.specs.declared.alloc.AllocError.{AllocError}
 use Rattle.dist_model.proofs.Keys.{same_trunk, same_trunk_true, trunk_total}
@@ -39,7 +40,8 @@ module _ (seen old new last : Line) (is : old ≡ seen) (u : TrunkId) (held one 
   held_is = ap (λ l. in_line l u) (sym is) ∙ held_at trunk_total same_trunk_true [] old u held h
 
   -- the same is done to the queue of each connection that is this one
-  each : (does : List Framed → List Framed) → two ≡ does held → (t : TrunkId) → in_line last t ≡ cond (same_trunk t u) (does (in_line seen t)) (in_line seen t)
+  each : (does : List Framed → List Framed) → two ≡ does held → (t : TrunkId)
+      → in_line last t ≡ cond (same_trunk t u) (does (in_line seen t)) (in_line seen t)
   each does e t = becomes (does held) e t ∙ go (same_trunk t u) refl
     where
       go : (b : Bool) → same_trunk t u ≡ b → cond b (does held) (in_line seen t) ≡ cond b (does (in_line seen t)) (in_line seen t)
@@ -57,10 +59,12 @@ module _ (seen old new last : Line) (is : old ≡ seen) (u : TrunkId) (held one 
       go false = sym (append-nil (in_line seen t))
 
   -- its first, or its last, is taken out
-  pub first_gone : two ≡ behind_first held → (t : TrunkId) → in_line last t ≡ cond (same_trunk t u) (behind_first (in_line seen t)) (in_line seen t)
+  pub first_gone : two ≡ behind_first held → (t : TrunkId)
+      → in_line last t ≡ cond (same_trunk t u) (behind_first (in_line seen t)) (in_line seen t)
   first_gone e t = each behind_first e t
 
-  pub last_gone : ((rest : List Framed) (frame : Framed) → held ≡ rest ++ frame ∷ [] → two ≡ rest) → (rest : TrunkId → List Framed) (frame : Framed)
+  pub last_gone : ((rest : List Framed) (frame : Framed) → held ≡ rest ++ frame ∷ [] → two ≡ rest)
+      → (rest : TrunkId → List Framed) (frame : Framed)
       → ((t : TrunkId) → in_line seen t ≡ rest t ++ one_if (same_trunk t u) frame) → (t : TrunkId) → in_line last t ≡ rest t
   last_gone gone rest frame e t = becomes two refl t ∙ go (same_trunk t u) refl (e t)
     where
@@ -69,7 +73,8 @@ module _ (seen old new last : Line) (is : old ≡ seen) (u : TrunkId) (held one 
       go false i k = k ∙ append-nil (rest t)
 
 -- a connection on which nothing has travelled
-module _ (seen old new : Line) (is : old ≡ seen) (u : TrunkId) (one : List Framed) (h : find trunk_cmp u old ≡ None) (m : new ≡ changed trunk_cmp u one old) where
+module _ (seen old new : Line) (is : old ≡ seen) (u : TrunkId) (one : List Framed) (h : find trunk_cmp u old ≡ None)
+    (m : new ≡ changed trunk_cmp u one old) where
   nothing_is : in_line seen u ≡ []
   nothing_is = ap (λ l. in_line l u) (sym is) ∙ none_at trunk_total same_trunk_true [] old u h
 
@@ -98,7 +103,8 @@ module _ (seen old new : Line) (is : old ≡ seen) (u : TrunkId) (one : List Fra
       go true i = nothing_at t i ∙ sym (ap behind_first (nothing_at t i))
       go false i = refl
 
-  pub none_last : (rest : TrunkId → List Framed) (frame : Framed) → ((t : TrunkId) → in_line seen t ≡ rest t ++ one_if (same_trunk t u) frame)
+  pub none_last : (rest : TrunkId → List Framed) (frame : Framed)
+      → ((t : TrunkId) → in_line seen t ≡ rest t ++ one_if (same_trunk t u) frame)
       → (t : TrunkId) → in_line new t ≡ rest t
   none_last rest frame e t = unchanged t ∙ go (same_trunk t u) refl (e t)
     where

@@ -18,9 +18,8 @@ by_node t u x y = same_place t u x y ∙ turned (same_trunk t u) (same_name x y)
   where
     turned : (a b : Bool) → (a && b) ≡ (b && a)
     turned true true = refl
-    turned true false = refl
     turned false true = refl
-    turned false false = refl
+    turned _ _ = refl
 
 -- of a line that is this one or another
 of_line : (b : Bool) (two other : Line) (t : TrunkId) → in_line (cond b two other) t ≡ cond b (in_line two t) (in_line other t)
@@ -28,7 +27,8 @@ of_line true two other t = refl
 of_line false two other t = refl
 
 -- one line, out and back again
-module _ (seen old new last : Lines) (is : old ≡ seen) (u : TrunkId) (to : Name) (held one two : Line) (h : find name_cmp to old ≡ Some held)
+module _ (seen old new last : Lines) (is : old ≡ seen) (u : TrunkId) (to : Name) (held one two : Line)
+    (h : find name_cmp to old ≡ Some held)
     (m : new ≡ changed name_cmp to one old) (n : last ≡ changed name_cmp to two new) where
   becomes : (t : TrunkId) (x : Name) → at last t x ≡ cond (same_name x to) (in_line two t) (at seen t x)
   becomes t x =
@@ -57,26 +57,32 @@ module _ (seen old new last : Lines) (is : old ≡ seen) (u : TrunkId) (to : Nam
 
   pub first_gone : ((t : TrunkId) → in_line two t ≡ cond (same_trunk t u) (behind_first (in_line held t)) (in_line held t))
       → (t : TrunkId) (x : Name) → at last t x ≡ cond (eq_by_cmp place_cmp (t, x) (u, to)) (behind_first (at seen t x)) (at seen t x)
-  first_gone e t x = becomes t x ∙ go (same_name x to) refl ∙ ap (λ b. cond b (behind_first (at seen t x)) (at seen t x)) (sym (by_node t u x to))
+  first_gone e t x =
+      becomes t x ∙ go (same_name x to) refl ∙ ap (λ b. cond b (behind_first (at seen t x)) (at seen t x)) (sym (by_node t u x to))
     where
-      go : (b : Bool) → same_name x to ≡ b → cond b (in_line two t) (at seen t x) ≡ cond (b && same_trunk t u) (behind_first (at seen t x)) (at seen t x)
+      go : (b : Bool) → same_name x to ≡ b
+          → cond b (in_line two t) (at seen t x) ≡ cond (b && same_trunk t u) (behind_first (at seen t x)) (at seen t x)
       go true i = e t ∙ ap (λ q. cond (same_trunk t u) (behind_first q) q) (sym (held_is t x i))
       go false i = refl
 
-  pub last_gone : ((rest : TrunkId → List Framed) (frame : Framed) → ((t : TrunkId) → in_line held t ≡ rest t ++ one_if (same_trunk t u) frame) → (t : TrunkId) → in_line two t ≡ rest t)
+  pub last_gone : ((rest : TrunkId → List Framed) (frame : Framed)
+      → ((t : TrunkId) → in_line held t ≡ rest t ++ one_if (same_trunk t u) frame) → (t : TrunkId) → in_line two t ≡ rest t)
       → (rest : TrunkId → Name → List Framed) (frame : Framed)
-      → ((t : TrunkId) (x : Name) → at seen t x ≡ rest t x ++ one_at (t, x) (u, to) frame) → (t : TrunkId) (x : Name) → at last t x ≡ rest t x
+      → ((t : TrunkId) (x : Name) → at seen t x ≡ rest t x ++ one_at (t, x) (u, to) frame) → (t : TrunkId) (x : Name)
+      → at last t x ≡ rest t x
   last_gone gone rest frame e t x = becomes t x ∙ go (same_name x to) refl
     where
       told : (v : TrunkId) → at seen v x ≡ rest v x ++ one_if (same_name x to && same_trunk v u) frame
       told v = e v x ∙ ap (λ b. rest v x ++ one_if b frame) (by_node v u x to)
 
       go : (b : Bool) → same_name x to ≡ b → cond b (in_line two t) (at seen t x) ≡ rest t x
-      go true i = gone (λ v. rest v x) frame (λ v. sym (held_is v x i) ∙ told v ∙ ap (λ b. rest v x ++ one_if (b && same_trunk v u) frame) i) t
+      go true i =
+          gone (λ v. rest v x) frame (λ v. sym (held_is v x i) ∙ told v ∙ ap (λ b. rest v x ++ one_if (b && same_trunk v u) frame) i) t
       go false i = told t ∙ ap (λ b. rest t x ++ one_if (b && same_trunk t u) frame) i ∙ append-nil (rest t x)
 
 -- a node to which nothing has travelled
-module _ (seen old new : Lines) (is : old ≡ seen) (u : TrunkId) (to : Name) (one : Line) (h : find name_cmp to old ≡ None) (m : new ≡ changed name_cmp to one old) where
+module _ (seen old new : Lines) (is : old ≡ seen) (u : TrunkId) (to : Name) (one : Line) (h : find name_cmp to old ≡ None)
+    (m : new ≡ changed name_cmp to one old) where
   nothing_at : (t : TrunkId) (x : Name) → same_name x to ≡ true → at seen t x ≡ []
   nothing_at t x e =
       ap (at seen t) (same_name_true x to e) ∙ ap (λ ls. at ls t to) (sym is)
@@ -85,7 +91,8 @@ module _ (seen old new : Lines) (is : old ≡ seen) (u : TrunkId) (to : Name) (o
   pub unchanged : (t : TrunkId) (x : Name) → at new t x ≡ at seen t x
   unchanged t x = ap (λ ls. at ls t x) (m ∙ not_changed name_total same_name_true [] old to one h ∙ is)
 
-  pub first_more : (last : Lines) (two : Line) (frame : Framed) → last ≡ put name_cmp to two new → ((t : TrunkId) → in_line two t ≡ one_if (same_trunk t u) frame)
+  pub first_more : (last : Lines) (two : Line) (frame : Framed) → last ≡ put name_cmp to two new
+      → ((t : TrunkId) → in_line two t ≡ one_if (same_trunk t u) frame)
       → (t : TrunkId) (x : Name) → at last t x ≡ at seen t x ++ one_at (t, x) (u, to) frame
   first_more last two frame n e t x =
       ap (λ l. in_line l t) (new_at name_total same_name_true [] old new last to one two h m n x)
@@ -96,8 +103,10 @@ module _ (seen old new : Lines) (is : old ≡ seen) (u : TrunkId) (to : Name) (o
       go true i = e t ∙ ap (λ q. q ++ one_if (same_trunk t u) frame) (sym (nothing_at t x i))
       go false i = sym (append-nil (at seen t x))
 
-  pub none_gone : (t : TrunkId) (x : Name) → at new t x ≡ cond (eq_by_cmp place_cmp (t, x) (u, to)) (behind_first (at seen t x)) (at seen t x)
-  none_gone t x = unchanged t x ∙ go (same_name x to) refl ∙ ap (λ b. cond b (behind_first (at seen t x)) (at seen t x)) (sym (by_node t u x to))
+  pub none_gone : (t : TrunkId) (x : Name)
+      → at new t x ≡ cond (eq_by_cmp place_cmp (t, x) (u, to)) (behind_first (at seen t x)) (at seen t x)
+  none_gone t x =
+      unchanged t x ∙ go (same_name x to) refl ∙ ap (λ b. cond b (behind_first (at seen t x)) (at seen t x)) (sym (by_node t u x to))
     where
       nil : (b : Bool) → at seen t x ≡ [] → at seen t x ≡ cond b (behind_first (at seen t x)) (at seen t x)
       nil true e = e ∙ sym (ap behind_first e)
@@ -107,7 +116,8 @@ module _ (seen old new : Lines) (is : old ≡ seen) (u : TrunkId) (to : Name) (o
       go true i = nil (same_trunk t u) (nothing_at t x i)
       go false i = refl
 
-  pub none_last : (rest : TrunkId → Name → List Framed) (frame : Framed) → ((t : TrunkId) (x : Name) → at seen t x ≡ rest t x ++ one_at (t, x) (u, to) frame)
+  pub none_last : (rest : TrunkId → Name → List Framed) (frame : Framed)
+      → ((t : TrunkId) (x : Name) → at seen t x ≡ rest t x ++ one_at (t, x) (u, to) frame)
       → (t : TrunkId) (x : Name) → at new t x ≡ rest t x
   none_last rest frame e t x = unchanged t x ∙ go (eq_by_cmp place_cmp (t, x) (u, to)) refl (e t x)
     where

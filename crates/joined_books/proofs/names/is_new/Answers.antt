@@ -9,7 +9,9 @@ returns-then-same_name c =
     let nodes = c.args.nodes.now in
     let k = c.loop-other.other in
     let within : k < length nodes = omega arith in
-    let same = same_read (name_at nodes k) (name_at nodes c.args.place) (get_or nodes k c.index-nodes-other.result).0 (get_or nodes c.args.place c.index-nodes-place.result).0
+    let same =
+    same_read (name_at nodes k) (name_at nodes c.args.place) (get_or nodes k c.index-nodes-other.result).0
+    (get_or nodes c.args.place c.index-nodes-place.result).0
     c.atom.result.now c.atom-in-loop-other.result.now c.same_name.result
     (name_read nodes k c.index-nodes-other.result within)
     (name_read nodes c.args.place c.index-nodes-place.result c.requires)
@@ -22,7 +24,8 @@ loop-other-preserved c =
     let k = c.loop-other.other in
     let within : k < length nodes = omega arith in
     below_more _ _ c.loop-other.invariant
-    (other_read (name_at nodes k) (name_at nodes c.args.place) (get_or nodes k c.index-nodes-other.result).0 (get_or nodes c.args.place c.index-nodes-place.result).0
+    (other_read (name_at nodes k) (name_at nodes c.args.place) (get_or nodes k c.index-nodes-other.result).0
+    (get_or nodes c.args.place c.index-nodes-place.result).0
     c.atom.result.now c.atom-in-loop-other.result.now c.same_name.result
     (name_read nodes k c.index-nodes-other.result within)
     (name_read nodes c.args.place c.index-nodes-place.result c.requires)

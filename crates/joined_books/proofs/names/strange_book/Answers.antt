@@ -1,6 +1,7 @@
 use Rattle.std.proofs.Common.{ℕ, ◌<◌, arith, inl, length, sym, subst, slice_index_or}
+use Rattle.std.proofs.lemmas.Bool.Decides.{not_from_Decides}
 use borrow.Author.Count.{below_more}
-use Rattle.joined_books.proofs.Tests.{fails, holds, no_more, read}
+use Rattle.joined_books.proofs.Tests.{no_more, read}
 use Rattle.joined_books.specs.Names.{IsInPlace}
 use Rattle.node_book.specs.Seen.{BookSeen}
 use Rattle.joined_books.proofs.names.strange_book.Goals as goal
@@ -11,7 +12,7 @@ returns-then-not-is_in_place c =
       book = c.index-books-place.result;
       within = c.loop-place-test.true;
       is = sym c.index-books-place.is;
-      strange = λ h. fails c.is_in_place.result c.is_in_place.ensures c.if-not-is_in_place.true h;
+      strange = not_from_Decides c.is_in_place.result c.is_in_place.ensures c.if-not-is_in_place.true;
     })
 
 pub loop-place-preserved : goal.loop-place-preserved
@@ -19,8 +20,7 @@ loop-place-preserved c =
     let nodes = c.args.nodes.now in
     let books = c.args.books.now in
     let k = c.loop-place.place in
-    let here : IsInPlace nodes k c.index-books-place.result =
-    holds c.is_in_place.result c.is_in_place.ensures c.if-not-is_in_place.false in
+    let here : IsInPlace nodes k c.index-books-place.result = c.is_in_place.ensures.0 c.if-not-is_in_place.false in
     let P : ℕ → Type 0 = λ j. (d : BookSeen) → IsInPlace nodes j (slice_index_or books j d) in
     below_more P k c.loop-place.invariant
     (λ d. subst (IsInPlace nodes k)

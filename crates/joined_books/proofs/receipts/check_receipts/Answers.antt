@@ -13,7 +13,8 @@ returns-clause-ok c =
 pub returns-clause-err : goal.returns-clause-err
 returns-clause-err c =
     let stand = all_stand c.args.books.now c.args.seats.now c.in_ok-check_nodes.ensures.ok c.in_ok-check_seats.ensures.ok in
-    MatchResult-weaker c.check_counts.result c.check_counts.ensures.err (λ x h. h) (λ e fault nodes places whole. fault nodes places whole stand)
+    MatchResult-weaker c.check_counts.result c.check_counts.ensures.err (λ x h. h)
+    (λ e fault nodes places whole. fault nodes places whole stand)
 
 pub returns-in_err-check_seats-clause-err : goal.returns-in_err-check_seats-clause-err
 returns-in_err-check_seats-clause-err c =

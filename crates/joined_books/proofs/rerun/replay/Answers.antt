@@ -9,11 +9,13 @@ returns-in_err-world-clause-err c = λ run.
     rw (p.1, p.2) (elim c.in_err-world.ensures.err [ inl h ↦ absurd (repeated c.args.nodes.now run.are.distinct h.1) | inr h ↦ h ])
 
 pub loop-at-init : goal.loop-at-init
-loop-at-init c = λ run. begins c.args.nodes.now c.args.books.now c.args.trace.now.entries.items run c.in_ok-world.world c.in_ok-world.ensures.ok
+loop-at-init c =
+    λ run. begins c.args.nodes.now c.args.books.now c.args.trace.now.entries.items run c.in_ok-world.world c.in_ok-world.ensures.ok
 
 pub returns-in-None-clause-err : goal.returns-in-None-clause-err
 returns-in-None-clause-err c = λ run.
-    absurd (there_at c.args.nodes.now c.args.books.now c.args.trace.now.entries.items c.as_slice-entries.result.now c.as_slice-entries.ensures.value
+    absurd (there_at c.args.nodes.now c.args.books.now c.args.trace.now.entries.items c.as_slice-entries.result.now
+    c.as_slice-entries.ensures.value
     c.loop-at.at _ run.run.world c.loop-at.world c.loop-at-test.true (c.loop-at.invariant run)
     (sym c.in-None.ensures))
 

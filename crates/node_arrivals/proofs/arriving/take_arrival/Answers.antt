@@ -34,7 +34,8 @@ at_up m trunk side frame.Tick word up =
     ap (λ state. cond (is_over state) (Refuses Refusal.NotLive) (signal_at state trunk side Tick (at_work m))) (sym up)
 
 neither : {was : Taken} (a : Item) → was ≡ taken.Item a
-    → ((message : ShakeMsg) × (send : Option ShakeMsg) × (was ≡ taken.Message message send)) ⊎ ((why : Fault) × (was ≡ taken.Broken why)) → ⊥
+    → ((message : ShakeMsg) × (send : Option ShakeMsg) × (was ≡ taken.Message message send))
+    ⊎ ((why : Fault) × (was ≡ taken.Broken why)) → ⊥
 neither a h (inl (message, send, e)) = no_message a message send (sym h ∙ e)
   where
     no_message : (a : Item) (message : ShakeMsg) (send : Option ShakeMsg) → taken.Item a ≡ taken.Message message send → ⊥
@@ -42,10 +43,15 @@ neither a h (inl (message, send, e)) = no_message a message send (sym h ∙ e)
 neither a h (inr (why, e)) = no_item a why (sym h ∙ e)
 
 pub returns-in-Item : goal.returns-in-Item
-returns-in-Item c = λ bytes word d. go bytes word (judged (identity (seen c.args.node.now)) c.args.side.now bytes word c.args.arrival.now c.requires.settled d)
+returns-in-Item c =
+    λ bytes word d.
+    go bytes word (judged (identity (seen c.args.node.now)) c.args.side.now bytes word c.args.arrival.now c.requires.settled d)
   where
-    go : (bytes : List ℕ) (word : ℕ) → Judged (identity (seen c.args.node.now)) c.args.side.now.peer c.args.side.now.standing bytes word c.args.arrival.now
-        → PlansArrival (seen c.args.node.now) (side_of c.args.side.now) bytes (λ front. comes (seen c.args.node.now) c.args.side.now.trunk (Some (side_of c.args.side.now)) front word) c.args.arrival.now.len c.take_item.new.plan c.take_item.result
+    go : (bytes : List ℕ) (word : ℕ)
+        → Judged (identity (seen c.args.node.now)) c.args.side.now.peer c.args.side.now.standing bytes word c.args.arrival.now
+        → PlansArrival (seen c.args.node.now) (side_of c.args.side.now) bytes
+        (λ front. comes (seen c.args.node.now) c.args.side.now.trunk (Some (side_of c.args.side.now)) front word)
+        c.args.arrival.now.len c.take_item.new.plan c.take_item.result
     go bytes word (IsItem item len front up is) =
         let m = seen c.args.node.now in
         let side = c.args.side.now in
@@ -54,19 +60,28 @@ returns-in-Item c = λ bytes word d. go bytes word (judged (identity (seen c.arg
         record {
           front = Holds (item_of item) len;
           is = front;
-          plans = subst P (ap (λ i. on_up side.trunk (side_of side) (item_of i) (at_work m)) same ∙ at_up m side.trunk (side_of side) item word up) c.take_item.ensures;
+          plans = subst P
+              (ap (λ i. on_up side.trunk (side_of side) (item_of i) (at_work m)) same ∙ at_up m side.trunk (side_of side) item word up)
+              c.take_item.ensures;
           len_is = ap (λ (a : Arrival). a.len) is;
         }
     go bytes word (IsMessage message len front over is) =
         let side = c.args.side.now in
-        absurd (heard_no_item side.trunk side.peer message word len (at_work (seen c.args.node.now)) side.standing c.in-Item.item (ap (λ (a : Arrival). a.was) (sym is) ∙ c.in-Item.is))
+        absurd (heard_no_item side.trunk side.peer message word len
+        (at_work (seen c.args.node.now)) side.standing c.in-Item.item
+        (ap (λ (a : Arrival). a.was) (sym is) ∙ c.in-Item.is))
     go bytes word (IsBroken why front over is) = absurd (no_item c.in-Item.item why (sym c.in-Item.is ∙ ap (λ (a : Arrival). a.was) is))
 
 pub returns-in-Message : goal.returns-in-Message
-returns-in-Message c = λ bytes word d. go bytes word (judged (identity (seen c.args.node.now)) c.args.side.now bytes word c.args.arrival.now c.requires.settled d)
+returns-in-Message c =
+    λ bytes word d.
+    go bytes word (judged (identity (seen c.args.node.now)) c.args.side.now bytes word c.args.arrival.now c.requires.settled d)
   where
-    go : (bytes : List ℕ) (word : ℕ) → Judged (identity (seen c.args.node.now)) c.args.side.now.peer c.args.side.now.standing bytes word c.args.arrival.now
-        → PlansArrival (seen c.args.node.now) (side_of c.args.side.now) bytes (λ front. comes (seen c.args.node.now) c.args.side.now.trunk (Some (side_of c.args.side.now)) front word) c.args.arrival.now.len c.hear.new.plan c.hear.result
+    go : (bytes : List ℕ) (word : ℕ)
+        → Judged (identity (seen c.args.node.now)) c.args.side.now.peer c.args.side.now.standing bytes word c.args.arrival.now
+        → PlansArrival (seen c.args.node.now) (side_of c.args.side.now) bytes
+        (λ front. comes (seen c.args.node.now) c.args.side.now.trunk (Some (side_of c.args.side.now)) front word)
+        c.args.arrival.now.len c.hear.new.plan c.hear.result
     go bytes word (IsItem item len front up is) =
         let was : c.args.arrival.now.was ≡ taken.Item item = ap (λ (a : Arrival). a.was) is in
         absurd (neither item was (c.in-Message.is))
@@ -77,7 +92,9 @@ returns-in-Message c = λ bytes word d. go bytes word (judged (identity (seen c.
         record {
           front = Holds (Handshake message) len;
           is = front;
-          plans = subst P (ap (λ b. cond b (Refuses Refusal.NotLive) (handshake_at (state_of side.standing) side.trunk (side_of side) message (at_work m))) (sym over)) (c.hear.ensures.message message word len is);
+          plans = subst P (ap
+              (λ b. cond b (Refuses Refusal.NotLive) (handshake_at (state_of side.standing) side.trunk (side_of side) message (at_work m)))
+              (sym over)) (c.hear.ensures.message message word len is);
           len_is = search rules;
         }
     go bytes word (IsBroken why front over is) =
@@ -87,6 +104,8 @@ returns-in-Message c = λ bytes word d. go bytes word (judged (identity (seen c.
         record {
           front = Spoils why;
           is = front;
-          plans = subst P (ap (λ b. cond b (Refuses Refusal.NotLive) (fault why side.trunk (side_of side) (at_work m))) (sym over)) (c.hear.ensures.broken why is);
+          plans = subst P
+              (ap (λ b. cond b (Refuses Refusal.NotLive) (fault why side.trunk (side_of side) (at_work m))) (sym over))
+              (c.hear.ensures.broken why is);
           len_is = ap (λ (a : Arrival). a.len) is;
         }

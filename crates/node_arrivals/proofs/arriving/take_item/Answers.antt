@@ -12,4 +12,6 @@ use Rattle.node_arrivals.proofs.arriving.take_item.Goals as goal
 pub returns-in-Tick : goal.returns-in-Tick
 returns-in-Tick c =
     let m = seen c.args.node.now in
-    planned m _ (Answer.Took Kind.Tick) (at_work m) c.answers.new.self (ap (λ i. on_up c.args.side.now.trunk (side_of c.args.side.now) (item_of i) (at_work m)) c.in-Tick.is) (c.answers.ensures.told m) (c.answers.ensures.carries m (at_work m) c.requires.carries)
+    planned m _ (Answer.Took Kind.Tick) (at_work m) c.answers.new.self
+    (ap (λ i. on_up c.args.side.now.trunk (side_of c.args.side.now) (item_of i) (at_work m)) c.in-Tick.is)
+    (c.answers.ensures.told m) (c.answers.ensures.carries m (at_work m) c.requires.carries)

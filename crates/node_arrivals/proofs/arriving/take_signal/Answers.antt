@@ -21,7 +21,8 @@ returns-then-not-is_good c =
     let item = Signalled c.args.signal.now in
     let bad : is_good m (side_of side) item ≡ false = sym c.is_good.ensures ∙ c.if-not-is_good.true in
     let P : Outcome → Type 0 = λ o. Plans m o c.break_side.new.plan c.break_side.result in
-    subst P (ap (λ b. cond b (Accepts (Answer.Took (kind_of item)) (take c.args.signal.now (at_work m))) (fault Fault.Forged side.trunk (side_of side) (at_work m))) (sym bad))
+    subst P (ap (λ b. cond b (Accepts (Answer.Took (kind_of item)) (take c.args.signal.now (at_work m)))
+    (fault Fault.Forged side.trunk (side_of side) (at_work m))) (sym bad))
     (c.break_side.ensures m (at_work m) c.requires.there (makes_it c.args.plan.now m (at_work m) c.requires.carries))
 
 pub returns : goal.returns

@@ -23,7 +23,8 @@ returns-in-Err-hear_first c =
 
 pub returns-in-Err-OutOfMemory : goal.returns-in-Err-OutOfMemory
 returns-in-Err-OutOfMemory c =
-    let found : (message : ShakeMsg) × (n : ℕ) × IsShakeDue role.Acceptor c.args.bytes.now (Ok (Some (message, n))) = c.read.ensures.memory (search rules) in
+    let found : (message : ShakeMsg) × (n : ℕ) × IsShakeDue role.Acceptor c.args.bytes.now (Ok (Some (message, n))) =
+    c.read.ensures.memory (search rules) in
     record {
       front = Holds (Handshake found.0) found.1;
       is = found.2;

@@ -12,5 +12,8 @@ returns-then-is_read c =
     let trunk = c.args.trunk.now in
     let piece = c.as_slice-bytes.ensures.item in
     let here = reads_here c.is_read.result c.if-is_read.true c.is_read.ensures in
-    let whole = c.whole.ensures.1 (c.what_is_read_is_whole.ensures m trunk piece.item piece.spelled (c.as_slice-bytes.ensures.bytes ∙ sym piece.written) here) in
-    whole ∙ sym here ∙ ap (λ bs. comes_here m trunk bs) c.as_slice-bytes.ensures.bytes ∙ ap (λ o. is_ready m trunk (option_copied o)) (sym c.in-Some.is)
+    let whole =
+    c.whole.ensures.1
+    (c.what_is_read_is_whole.ensures m trunk piece.item piece.spelled (c.as_slice-bytes.ensures.bytes ∙ sym piece.written) here) in
+    whole ∙ sym here ∙ ap (λ bs. comes_here m trunk bs) c.as_slice-bytes.ensures.bytes
+    ∙ ap (λ o. is_ready m trunk (option_copied o)) (sym c.in-Some.is)

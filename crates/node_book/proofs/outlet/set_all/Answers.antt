@@ -11,4 +11,5 @@ loop-at-preserved c =
     let items = c.loop-at.outlets.items in
     let below : c.loop-at.at < length c.args.outlets.now.items = omega (arith, c.len-at-end.ensures) in
     ap (λ (p : PortSeen). set items c.loop-at.at (record x { port = p })) c.set_piece.ensures
-    ∙ set_next (with_piece c.args.greatest.bytes) c.args.outlets.now.items items c.loop-at.at x c.loop-at.invariant below c.index_mut.ensures.value
+    ∙ set_next
+    (with_piece c.args.greatest.bytes) c.args.outlets.now.items items c.loop-at.at x c.loop-at.invariant below c.index_mut.ensures.value

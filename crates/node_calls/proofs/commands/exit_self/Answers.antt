@@ -11,5 +11,8 @@ pub returns : goal.returns
 returns c =
     let m = seen c.args.node.now in
     let work = Rattle.dist_model.specs.Exits.end_process c.args.process.now c.args.reason (at_work m) in
-    let goes = c.in_ok-acts.ensures.due (fitting c.args.reason (Accepts Answer.Done work)) ∙ c.in_ok-fits_in.ensures.due (Accepts Answer.Done work) in
-    rw c.or_refuse.ensures (planned_by m _ Answer.Done work c.finish.new.plan c.finish.result goes (c.finish.ensures.told m ∙ c.requires.told) (c.finish.ensures.carries (at_work m) c.requires.carries))
+    let goes =
+    c.in_ok-acts.ensures.due (fitting c.args.reason (Accepts Answer.Done work))
+    ∙ c.in_ok-fits_in.ensures.due (Accepts Answer.Done work) in
+    rw c.or_refuse.ensures (planned_by m _ Answer.Done work c.finish.new.plan c.finish.result goes
+    (c.finish.ensures.told m ∙ c.requires.told) (c.finish.ensures.carries (at_work m) c.requires.carries))

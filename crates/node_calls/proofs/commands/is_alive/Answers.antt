@@ -10,5 +10,6 @@ pub returns : goal.returns
 returns c =
     let m = seen c.args.node.now in
     let answer = Answer.Alive (living m c.args.process.now) in
-    planned m _ answer (at_work m) c.answers.new.self Rattle.std.proofs.Common.refl (c.answers.ensures.told m ∙ ap Answer.Alive c.is_living.ensures)
+    planned m _ answer (at_work m) c.answers.new.self Rattle.std.proofs.Common.refl
+    (c.answers.ensures.told m ∙ ap Answer.Alive c.is_living.ensures)
     (c.answers.ensures.carries m (at_work m) c.requires.carries)

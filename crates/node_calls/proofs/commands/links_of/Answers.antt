@@ -12,7 +12,8 @@ returns-in-Ok c =
     let m = seen c.args.node.now in
     let answer = Answer.Links (ends_of m c.args.process.now) in
     let links : c.in-Ok.links ≡ ends_of m c.args.process.now = search rules in
-    planned m _ answer (at_work m) c.answers.new.self (c.in_ok-acts.ensures.due (Accepts answer (at_work m))) (c.answers.ensures.told m ∙ ap Answer.Links links)
+    planned m _ answer (at_work m) c.answers.new.self (c.in_ok-acts.ensures.due (Accepts answer (at_work m)))
+    (c.answers.ensures.told m ∙ ap Answer.Links links)
     (c.answers.ensures.carries m (at_work m) c.requires.carries)
 
 pub returns-in-Err : goal.returns-in-Err

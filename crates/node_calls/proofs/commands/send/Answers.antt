@@ -13,5 +13,8 @@ returns c =
     let m = seen c.args.node.now in
     let work = post (Signal.Send c.args.to c.args.message) (at_work m) in
     let end = fitting c.args.message (Accepts Answer.Done work) in
-    let goes = c.in_ok-acts.ensures.due (toward m c.args.to end) ∙ c.in_ok-aims_at.ensures end ∙ c.in_ok-fits_in.ensures.due (Accepts Answer.Done work) in
-    rw c.or_refuse.ensures (planned_by m _ Answer.Done work c.post.new.self c.post.result goes (c.post.ensures.told m ∙ c.requires.told) (c.post.ensures.carries (at_work m) c.requires.carries))
+    let goes =
+    c.in_ok-acts.ensures.due (toward m c.args.to end) ∙ c.in_ok-aims_at.ensures end
+    ∙ c.in_ok-fits_in.ensures.due (Accepts Answer.Done work) in
+    rw c.or_refuse.ensures (planned_by m _ Answer.Done work c.post.new.self c.post.result goes
+    (c.post.ensures.told m ∙ c.requires.told) (c.post.ensures.carries (at_work m) c.requires.carries))

@@ -32,5 +32,7 @@ returns c =
     let due : Option ℕ → Outcome = λ o. with_id o (λ id. Accepts (Answer.Pid (pid_of m.mint id)) (spawn_life m (pid_of m.mint id))) in
     let pid : c.in-Ok.process ≡ pid_of m.mint id = search rules in
     let P : ℕ → Type 0 = λ n. CarriesOut c.spawn.new.self m (spawn_life m (pid_of m.mint n)) in
-    planned m _ (Answer.Pid (pid_of m.mint id)) (spawn_life m (pid_of m.mint id)) c.spawn.new.self (ap due next.drawn) (c.spawn.ensures.told m ∙ c.answers.ensures.told m ∙ ap Answer.Pid pid)
-    (subst P (sym next.is) (c.spawn.ensures.carries m c.requires.up next.below (c.answers.ensures.carries m (at_work m) c.requires.carries)))
+    planned m _ (Answer.Pid (pid_of m.mint id)) (spawn_life m (pid_of m.mint id)) c.spawn.new.self (ap due next.drawn)
+    (c.spawn.ensures.told m ∙ c.answers.ensures.told m ∙ ap Answer.Pid pid)
+    (subst P (sym next.is)
+    (c.spawn.ensures.carries m c.requires.up next.below (c.answers.ensures.carries m (at_work m) c.requires.carries)))

@@ -12,5 +12,6 @@ returns c =
     let m = seen c.args.node.now in
     let p = c.args.process in
     let work = with_life m p (trapping (fm.get m.lives p) c.args.on) in
-    planned m _ Answer.Done work c.trap.new.self (c.in_ok-acts.ensures.due (Accepts Answer.Done work)) (c.trap.ensures.told m ∙ c.requires.told)
+    planned m _ Answer.Done work c.trap.new.self (c.in_ok-acts.ensures.due (Accepts Answer.Done work))
+    (c.trap.ensures.told m ∙ c.requires.told)
     (c.trap.ensures.carries m c.in_ok-acts.ensures.living c.requires.carries)

@@ -28,7 +28,8 @@ returns-then-same_pid c =
     let stays : (same_pid p q || is_active (end_of m p q)) ≡ true = search rules in
     planned m _ Answer.Done (at_work m) c.args.plan.now
     (c.in_ok-acts.ensures.due (toward m q (Accepts Answer.Done work)) ∙ c.in_ok-aims_at.ensures (Accepts Answer.Done work)
-    ∙ ap (Accepts Answer.Done) (nothing (same_pid p q) (is_active (end_of m p q)) (at_work m) (link_new (reaches m q.node) p q (at_work m)) stays))
+    ∙ ap (Accepts Answer.Done)
+    (nothing (same_pid p q) (is_active (end_of m p q)) (at_work m) (link_new (reaches m q.node) p q (at_work m)) stays))
     c.requires.told c.requires.carries
 
 pub returns : goal.returns

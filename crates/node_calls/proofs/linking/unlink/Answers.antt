@@ -24,7 +24,8 @@ returns-then-not-is_active c =
     let none : is_active (end_of m p q) ≡ false = search rules in
     planned m _ Answer.Done (at_work m) c.args.plan.now
     (c.in_ok-acts.ensures.due (toward m q due) ∙ c.in_ok-aims_at.ensures due
-    ∙ ap (λ b. cond b (with_id (id_of m.mint kind.UnlinkId) (λ id. Accepts Answer.Done (unlink_as id p q (at_work m)))) (Accepts Answer.Done (at_work m))) none)
+    ∙ ap (λ b. cond b (with_id (id_of m.mint kind.UnlinkId) (λ id. Accepts Answer.Done (unlink_as id p q (at_work m))))
+    (Accepts Answer.Done (at_work m))) none)
     c.requires.told c.requires.carries
 
 pub returns : goal.returns
@@ -40,5 +41,6 @@ returns c =
     let of : Option ℕ → Outcome = λ o. with_id o (λ id. Accepts Answer.Done (unlink_as id p q (at_work m))) in
     let work = unlink_as id p q (at_work m) in
     rw c.or_refuse.ensures (planned_by m _ Answer.Done work c.unlink_as.new.plan c.unlink_as.result
-    (c.in_ok-acts.ensures.due (toward m q due) ∙ c.in_ok-aims_at.ensures due ∙ ap (λ b. cond b (of (id_of m.mint kind.UnlinkId)) (Accepts Answer.Done (at_work m))) active ∙ ap of next.drawn)
+    (c.in_ok-acts.ensures.due (toward m q due) ∙ c.in_ok-aims_at.ensures due
+    ∙ ap (λ b. cond b (of (id_of m.mint kind.UnlinkId)) (Accepts Answer.Done (at_work m))) active ∙ ap of next.drawn)
     (c.unlink_as.ensures.told m ∙ c.requires.told) (c.unlink_as.ensures.carries (at_work m) c.requires.carries))

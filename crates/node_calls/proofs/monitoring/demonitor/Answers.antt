@@ -22,6 +22,9 @@ returns c =
     let there : fm.get m.watches r ≡ Some held = search rules in
     let own : same_pid held.owner p ≡ true = search rules in
     let work = post (Signal.Demonitor p held.target r) (unwatch r (at_work m)) in
-    let goes = c.in_ok-acts.ensures.due (due (fm.get m.watches r)) ∙ ap due there ∙ ap (λ b. cond b (Accepts Answer.Done work) (Refuses Refusal.NotTheOwner)) own in
-    rw c.or_refuse.ensures (planned_by m _ Answer.Done work c.demonitor_own.new.plan c.demonitor_own.result goes (c.demonitor_own.ensures.told m ∙ c.requires.told)
+    let goes =
+    c.in_ok-acts.ensures.due (due (fm.get m.watches r)) ∙ ap due there
+    ∙ ap (λ b. cond b (Accepts Answer.Done work) (Refuses Refusal.NotTheOwner)) own in
+    rw c.or_refuse.ensures (planned_by m _ Answer.Done work c.demonitor_own.new.plan c.demonitor_own.result goes
+    (c.demonitor_own.ensures.told m ∙ c.requires.told)
     (c.demonitor_own.ensures.carries (at_work m) c.requires.carries))

@@ -32,10 +32,13 @@ returns c =
     let p = c.args.owner.now in
     let q = c.args.target.now in
     let count = c.in_ok-count.count in
-    let of : Option ℕ → Outcome = λ o. with_id o (λ n. Accepts (Answer.Reference (reference_of m.mint n)) (monitor (reference_of m.mint n) p q (draw kind.Reference (at_work m)))) in
+    let of : Option ℕ → Outcome =
+    λ o. with_id o
+    (λ n. Accepts (Answer.Reference (reference_of m.mint n)) (monitor (reference_of m.mint n) p q (draw kind.Reference (at_work m)))) in
     let at : ok_or (id_of m.mint kind.Reference) Refusal.IdsUsedUp ≡ Ok count = search rules in
     let next = next_is m.mint kind.Reference Refusal.IdsUsedUp count at in
     let due = of (id_of m.mint kind.Reference) in
     let work = monitor (reference_of m.mint count) p q (draw kind.Reference (at_work m)) in
     rw c.or_refuse.ensures (told_by m _ (Answer.Reference (reference_of m.mint count)) work c.monitor_under.new.plan c.monitor_under.result
-    (c.in_ok-acts.ensures.due (toward m q due) ∙ c.in_ok-aims_at.ensures due ∙ ap of next.drawn) c.monitor_under.ensures.told (c.monitor_under.ensures.carries c.requires.carries))
+    (c.in_ok-acts.ensures.due (toward m q due) ∙ c.in_ok-aims_at.ensures due ∙ ap of next.drawn) c.monitor_under.ensures.told
+    (c.monitor_under.ensures.carries c.requires.carries))

@@ -17,4 +17,5 @@ returns-clause-carries c = λ w h.
     let between : c.in_ok-monitor.monitor ≡ monitor_of p q = search rules in
     let P : Reference → Monitor → Type 0 = λ r o. CarriesOut c.watch.new.self m (watch r o w) in
     let k = c.watch.ensures.carries m w (same ∙ c.requires.next) c.requires.below h in
-    c.tell_monitor.ensures.carries (watch c.args.reference.now (monitor_of p q) w) (subst (λ r. P r (monitor_of p q)) same (subst (P r) between k))
+    c.tell_monitor.ensures.carries (watch c.args.reference.now (monitor_of p q) w)
+    (subst (λ r. P r (monitor_of p q)) same (subst (P r) between k))

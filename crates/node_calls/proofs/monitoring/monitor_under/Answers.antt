@@ -18,7 +18,9 @@ pub returns-clause-carries : goal.returns-clause-carries
 returns-clause-carries c = λ h.
     let m = seen c.args.node.now in
     let is : c.in_ok-reference.reference ≡ reference_of m.mint c.args.count = search rules in
-    let P : Reference → Type 0 = λ r. Carries m (monitor r c.args.owner.now c.args.target.now (draw kind.Reference (at_work m))) c.monitor_as.new.plan c.monitor_as.result in
+    let P : Reference → Type 0 =
+    λ r. Carries m
+    (monitor r c.args.owner.now c.args.target.now (draw kind.Reference (at_work m))) c.monitor_as.new.plan c.monitor_as.result in
     subst P is (c.monitor_as.ensures.carries (c.answers.ensures.carries m (at_work m) h))
 
 pub returns-clause-told : goal.returns-clause-told

@@ -7,7 +7,8 @@ use Rattle.node_changes.specs.declared.change.LinkChange.{LinkChange}
 use Rattle.node_changes.specs.declared.change.LinkChange.TheVariants as link
 use Rattle.node_changes.proofs.processes.reserve_life.Goals as goal
 
-kept_by : (old new : Option Life) → ((change : EndChange) → LinkFits change old → LinkFits change new) → (l : LinkChange) → EndFits l old → EndFits l new
+kept_by : (old new : Option Life) → ((change : EndChange) → LinkFits change old → LinkFits change new) → (l : LinkChange)
+    → EndFits l old → EndFits l new
 kept_by old new k link.Stays h = tt
 kept_by old new k (link.Becomes q how) h = k how h
 

@@ -10,13 +10,11 @@ use Rattle.node_changes.proofs.sides.change_sides.Goals as goal
 
 side_left : (change : SideChange) (n : ℕ) (it : Sides) → HasSideRoom (suc n) it → HasSideRoom (sides_added change + n) it
 side_left (side.Adds new) n it h = omega (arith, h)
-side_left (side.Stands trunk standing) n it h = omega (arith, h)
-side_left (side.ComesUp trunk peer creation) n it h = omega (arith, h)
+side_left _ n it h = omega (arith, h)
 
 route_left : (change : SideChange) (n : ℕ) (it : Sides) → HasRouteRoom (suc n) it → HasRouteRoom (routes_added change + n) it
 route_left (side.Adds new) n it h = omega (arith, h)
-route_left (side.Stands trunk standing) n it h = omega (arith, h)
-route_left (side.ComesUp trunk peer creation) n it h = omega (arith, h)
+route_left _ n it h = omega (arith, h)
 
 pub loop-change-preserved : goal.loop-change-preserved
 loop-change-preserved c =
@@ -29,7 +27,10 @@ loop-change-preserved c =
     let Q : List SideChange → Type 0 = (λ xs. HasRouteRoom (length xs) before) in
     record {
       lets = subst (LetsAll rest) (sym c.make.ensures.sides) lets.1;
-      side_room = c.make.ensures.side_room (length rest) (side_left change (length rest) before (subst P first c.loop-change.invariant.side_room));
-      route_room = c.make.ensures.route_room (length rest) (route_left change (length rest) before (subst Q first c.loop-change.invariant.route_room));
-      leads = ap (sides_after rest) c.make.ensures.sides ∙ ap (λ xs. sides_after xs (sides before)) (sym first) ∙ c.loop-change.invariant.leads;
+      side_room =
+          c.make.ensures.side_room (length rest) (side_left change (length rest) before (subst P first c.loop-change.invariant.side_room));
+      route_room = c.make.ensures.route_room (length rest)
+          (route_left change (length rest) before (subst Q first c.loop-change.invariant.route_room));
+      leads =
+          ap (sides_after rest) c.make.ensures.sides ∙ ap (λ xs. sides_after xs (sides before)) (sym first) ∙ c.loop-change.invariant.leads;
     }

@@ -22,10 +22,12 @@ returns-clause-makes c = λ one none h.
     let first : Work = give_up_if due.ends_waiting is_waiting y (at_work m) in
     let second : Work = give_up_if due.ends_dialing is_dialing y first in
     let a : Makes c.give_up_if.new.plan m first = c.in_ok-give_up_if.ensures.makes (at_work m) (λ e. refl) h in
-    let b : Makes c.give_up_if-2.new.plan m second = c.in_ok-give_up_if-2.ensures.makes first (λ e. ap (λ b. (give_up_if b is_waiting y (at_work m)).node.sides) (one e)) a in
+    let b : Makes c.give_up_if-2.new.plan m second =
+    c.in_ok-give_up_if-2.ensures.makes first (λ e. ap (λ b. (give_up_if b is_waiting y (at_work m)).node.sides) (one e)) a in
     let told : Work = write t side.peer (ShakeMsg.Status due.status) second in
     let d : Makes c.write.new.self m told = c.in_ok-write.ensures.makes m second b in
     let P : Name → Type 0 = λ z. MakesOr m (stands_after due.status t s c.args.challenge (write t side.peer (ShakeMsg.Status due.status)
     (give_up_if due.ends_dialing is_dialing z (give_up_if due.ends_waiting is_waiting z (at_work m))))) c.settle.new.plan c.settle.result in
     subst P c.atom-dialer.ensures
-    (c.settle.ensures.makes told (none_kept due.ends_dialing is_dialing y t first (none_kept due.ends_waiting is_waiting y t (at_work m) none)) d)
+    (c.settle.ensures.makes told
+    (none_kept due.ends_dialing is_dialing y t first (none_kept due.ends_waiting is_waiting y t (at_work m) none)) d)

@@ -21,5 +21,7 @@ returns-in-Some-clause-makes c = λ work same h.
     let first : side_where test y (fm.entries m.sides) ≡ Some (other.trunk, side_of other) = search rules in
     let found = found_in test y m (other.trunk, side_of other) first in
     let P : Work → Type 0 = λ o. MakesOr m o c.stand_down.new.plan c.stand_down.result in
-    subst P (sym (ap (λ b. give_up_if b test y work) ends ∙ ap (λ sides. give_up (side_where test y (fm.entries sides)) work) (same ends) ∙ ap (λ o. give_up o work) first))
-    (c.stand_down.ensures.makes m work (refl, refl) (towards work.node.sides other.trunk (side_of other) (ap (λ x. fm.get x other.trunk) (same ends) ∙ found.0)) h)
+    subst P (sym (ap (λ b. give_up_if b test y work) ends
+    ∙ ap (λ sides. give_up (side_where test y (fm.entries sides)) work) (same ends) ∙ ap (λ o. give_up o work) first))
+    (c.stand_down.ensures.makes m work (refl, refl)
+    (towards work.node.sides other.trunk (side_of other) (ap (λ x. fm.get x other.trunk) (same ends) ∙ found.0)) h)

@@ -9,5 +9,6 @@ use Rattle.node_connections.proofs.challenging.send_challenge.Goals as goal
 pub returns-clause-makes : goal.returns-clause-makes
 returns-clause-makes c = λ work t h.
     let side = c.args.side.now in
-    let set = with_side side.trunk (standing_side side.peer (standing.Accepting (acceptor.AwaitsReply c.args.challenge c.args.creation))) work in
+    let set =
+    with_side side.trunk (standing_side side.peer (standing.Accepting (acceptor.AwaitsReply c.args.challenge c.args.creation))) work in
     c.write_challenge.ensures.makes set (c.in_ok-stand_down.ensures.makes (seen c.args.node.now) work (refl, refl) t h)

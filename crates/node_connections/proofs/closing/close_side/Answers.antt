@@ -21,10 +21,15 @@ returns-in-Some-clause-makes c = λ work e h.
     let attempts = c.args.node.now.steady.attempts in
     let closed = set_state side.trunk s Gone work in
     let first : side_where is_parked side.peer (fm.entries m.sides) ≡ Some (waiting.trunk, side_of waiting) = search rules in
-    let gone : Makes c.stand_down.new.plan m closed = c.in_ok-stand_down.ensures.makes m work (refl, refl) (towards work.node.sides side.trunk s (ap (λ x. fm.get x side.trunk) e ∙ c.requires.there)) h in
-    let released = c.release.ensures.makes closed (parked_towards m side.trunk s attempts c.requires.there c.requires.losing work (waiting.trunk, side_of waiting) e first) gone in
+    let gone : Makes c.stand_down.new.plan m closed =
+    c.in_ok-stand_down.ensures.makes m work (refl, refl)
+    (towards work.node.sides side.trunk s (ap (λ x. fm.get x side.trunk) e ∙ c.requires.there)) h in
+    let released =
+    c.release.ensures.makes closed
+    (parked_towards m side.trunk s attempts c.requires.there c.requires.losing work (waiting.trunk, side_of waiting) e first) gone in
     let P : Work → Type 0 = λ o. MakesOr m o c.release.new.plan c.release.result in
-    subst P (sym (closes m side.trunk s attempts c.requires.there c.requires.losing work e ∙ ap (λ o. release_parked o closed) first)) released
+    subst P
+    (sym (closes m side.trunk s attempts c.requires.there c.requires.losing work e ∙ ap (λ o. release_parked o closed) first)) released
 
 pub returns-in-None-clause-makes : goal.returns-in-None-clause-makes
 returns-in-None-clause-makes c = λ work e h.
@@ -34,6 +39,8 @@ returns-in-None-clause-makes c = λ work e h.
     let attempts = c.args.node.now.steady.attempts in
     let closed = set_state side.trunk s Gone work in
     let first : side_where is_parked side.peer (fm.entries m.sides) ≡ None = search rules in
-    let gone : Makes c.stand_down.new.plan m closed = c.in_ok-stand_down.ensures.makes m work (refl, refl) (towards work.node.sides side.trunk s (ap (λ x. fm.get x side.trunk) e ∙ c.requires.there)) h in
+    let gone : Makes c.stand_down.new.plan m closed =
+    c.in_ok-stand_down.ensures.makes m work (refl, refl)
+    (towards work.node.sides side.trunk s (ap (λ x. fm.get x side.trunk) e ∙ c.requires.there)) h in
     let P : Work → Type 0 = λ o. Makes c.stand_down.new.plan m o in
     subst P (sym (closes m side.trunk s attempts c.requires.there c.requires.losing work e ∙ ap (λ o. release_parked o closed) first)) gone

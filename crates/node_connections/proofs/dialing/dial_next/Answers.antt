@@ -25,11 +25,13 @@ returns-clause-makes c =
     let new : c.dial-side.result ≡ dialed (next_trunk m) y c.args.word = search rules in
     let said : c.in_ok-send_name.field-0 ≡ send_name (identity m) = search rules in
     let drawn : Work = record { node = draw_trunk m; effects = Rattle.std.proofs.Common.[] } in
-    let dials : Makes c.dial.new.self m drawn = c.dial.ensures.makes m (at_work m) c.requires.below (c.answers.ensures.makes m (at_work m) c.requires.makes) in
+    let dials : Makes c.dial.new.self m drawn =
+    c.dial.ensures.makes m (at_work m) c.requires.below (c.answers.ensures.makes m (at_work m) c.requires.makes) in
     let L : Side → Type 0 = λ s. Lets (change.Adds s) m.sides in
     let lets : L c.dial-side.result = subst L (sym new) (next_is_new m c.args.node.now.counted, (refl, refl)) in
     let adds = c.in_ok-change_side.ensures.makes m drawn lets dials in
-    let P : TrunkId → ShakeMsg → Side → Type 0 = λ u message s. MakesOr m (write u y message (sided (change.Adds s) drawn)) c.write.new.self c.write.result in
+    let P : TrunkId → ShakeMsg → Side → Type 0 =
+    λ u message s. MakesOr m (write u y message (sided (change.Adds s) drawn)) c.write.new.self c.write.result in
     subst (λ u. P u (send_name (identity m)) (dialed (next_trunk m) y c.args.word)) is
     (subst (λ message. P t message (dialed (next_trunk m) y c.args.word)) said
     (subst (P t c.in_ok-send_name.field-0) new (c.write.ensures.makes m (sided (change.Adds c.dial-side.result) drawn) adds)))
@@ -38,4 +40,5 @@ pub returns-clause-told : goal.returns-clause-told
 returns-clause-told c =
     let m = seen c.args.node.now in
     let is : c.in_ok-clone-4.field-0 ≡ next_trunk m = search rules in
-    on_ok c.write.result (c.write.ensures.told m ∙ c.in_ok-change_side.ensures.told m ∙ c.dial.ensures.told m ∙ c.answers.ensures.told m ∙ ap Answer.Trunk is)
+    on_ok c.write.result (c.write.ensures.told m ∙ c.in_ok-change_side.ensures.told m ∙ c.dial.ensures.told m
+    ∙ c.answers.ensures.told m ∙ ap Answer.Trunk is)

@@ -28,7 +28,9 @@ returns-in-Some-clause-makes c = λ h.
     let lose = set_state up.trunk (side_of up) Losing (at_work m) in
     let P : TrunkSide → Type 0 = λ v. Makes c.stand_down.new.plan m (with_side up.trunk v (at_work m)) in
     let loses : Makes c.stand_down.new.plan m lose = subst P (ap (standing_side up.peer) is ∙ lost_up up.peer up.standing found.2)
-    (c.in_ok-stand_down.ensures.makes m (at_work m) (subst IsDown (sym is) (lost_down up.standing)) (towards m.sides up.trunk (side_of up) found.0) h) in
+    (c.in_ok-stand_down.ensures.makes m (at_work m) (subst IsDown (sym is) (lost_down up.standing))
+    (towards m.sides up.trunk (side_of up) found.0) h) in
     let Q : Work → Type 0 = λ o. MakesOr m o c.stand_down-in-Some.new.plan c.stand_down-in-Some.result in
     subst Q (sym (parks_behind side.trunk s w m (up.trunk, side_of up) first))
-    (c.stand_down-in-Some.ensures.makes m lose (refl, refl) (towards_kept m.sides up.trunk side.trunk (side_of up) (in_state Losing (side_of up)) side.peer found.0 refl c.requires) loses)
+    (c.stand_down-in-Some.ensures.makes m lose (refl, refl)
+    (towards_kept m.sides up.trunk side.trunk (side_of up) (in_state Losing (side_of up)) side.peer found.0 refl c.requires) loses)

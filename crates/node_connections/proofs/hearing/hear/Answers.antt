@@ -17,7 +17,8 @@ returns-in-Broken-clause-message c = λ message word len e.
     let m = seen c.args.node.now in
     let side = c.args.side.now in
     let why = c.in-Broken.why in
-    let was : (on_message (identity m) side.peer side.standing message word len).was ≡ taken.Broken why = ap (λ (a : Arrival). a.was) (sym e) ∙ c.in-Broken.is in
+    let was : (on_message (identity m) side.peer side.standing message word len).was ≡ taken.Broken why =
+    ap (λ (a : Arrival). a.was) (sym e) ∙ c.in-Broken.is in
     let P : Outcome → Type 0 = λ o. Plans m o c.break_side.new.plan c.break_side.result in
     subst P (sym (heard_breaks side.trunk side.peer message word len (at_work m) side.standing why c.requires.settled was))
     (c.break_side.ensures m (at_work m) c.requires.there c.requires.makes)
@@ -34,4 +35,5 @@ pub returns-in-Item-clause-message : goal.returns-in-Item-clause-message
 returns-in-Item-clause-message c = λ message word len e.
     let m = seen c.args.node.now in
     let side = c.args.side.now in
-    absurd (heard_no_item side.trunk side.peer message word len (at_work m) side.standing c.in-Item.field-0 (ap (λ (a : Arrival). a.was) (sym e) ∙ c.in-Item.is))
+    absurd (heard_no_item side.trunk side.peer message word len (at_work m) side.standing c.in-Item.field-0
+    (ap (λ (a : Arrival). a.was) (sym e) ∙ c.in-Item.is))

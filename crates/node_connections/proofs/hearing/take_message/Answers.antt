@@ -38,12 +38,15 @@ returns-in-None c = λ came word len was stands.
     let side = c.args.side.now in
     let st = c.args.standing in
     let asked : asked_in side.standing ≡ None = search rules in
-    let g = heard_goes side.trunk side.peer came c.args.message.now word len c.args.send.now (at_work m) side.standing c.requires.settled asked was in
+    let g =
+    heard_goes side.trunk side.peer came c.args.message.now word len c.args.send.now
+    (at_work m) side.standing c.requires.settled asked was in
     let settled : is_settled st ≡ true = ap is_settled (sym stands) ∙ g.settled in
     let due = write_if side.trunk side.peer c.args.send.now (with_side side.trunk (standing_side side.peer st) (at_work m)) in
     rw c.or_refuse-in-None.ensures (made_by m _ (Answer.Took (kind_of (Handshake c.args.message.now))) due c.take.new.plan c.take.result
     (g.goes ∙ ap (λ x. went_on side.trunk side.peer (standing_side side.peer x) c.args.message.now c.args.send.now (at_work m)) stands)
     (c.take.ensures.told m ∙ c.answers.ensures.told m ∙ ap Answer.Took c.kind.ensures)
     (c.take.ensures.makes m (at_work m) settled (towards m.sides side.trunk (side_of side) c.requires.there)
-    (λ u. alone m side.trunk (side_of side) c.args.node.now.steady.engaged c.requires.there (g.engaged (ap (λ x. is_up (state_of x)) stands ∙ u)))
+    (λ u. alone m side.trunk (side_of side) c.args.node.now.steady.engaged c.requires.there
+    (g.engaged (ap (λ x. is_up (state_of x)) stands ∙ u)))
     (c.answers.ensures.makes m (at_work m) c.requires.makes)))

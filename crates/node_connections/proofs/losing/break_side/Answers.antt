@@ -1,4 +1,4 @@
-use Rattle.std.proofs.Common.{◌≡◌, sym, ap, subst, ◌∙◌}
+use Rattle.std.proofs.Common.{◌≡◌, sym, ap, subst, ◌∙◌, refl}
 use Rattle.dist_model.specs.Handshake.{set_state, with_side}
 use Rattle.dist_model.specs.Sides as model
 use Rattle.dist_model.specs.Sides.{TrunkSide}
@@ -9,7 +9,6 @@ use Rattle.node_plans.proofs.Outcomes.{made_by}
 use Rattle.node_plans.specs.Carried.{MakesOr}
 use Rattle.node_sides.specs.Changes.{IsDown}
 use Rattle.node_sides.specs.Standings.{side_of, standing_side, state_of}
-use Rattle.std.proofs.Common.{refl}
 use Rattle.node_connections.proofs.losing.break_side.Goals as goal
 
 pub returns : goal.returns
@@ -18,7 +17,9 @@ returns c = λ m work there h.
     let t = side.trunk in
     let Q : TrunkSide → Type 0 = λ s. MakesOr m (with_side t s work) c.stand_down.new.plan c.stand_down.result in
     let is : c.lost.result ≡ lost side.standing = c.lost.ensures in
-    rw c.or_refuse.ensures (made_by m _ (Answer.Broken c.args.why) (set_state t (side_of side) (model.lost (state_of side.standing)) work) c.stand_down.new.plan c.stand_down.result
+    rw c.or_refuse.ensures (made_by m _ (Answer.Broken c.args.why)
+    (set_state t (side_of side) (model.lost (state_of side.standing)) work) c.stand_down.new.plan c.stand_down.result
     refl (c.stand_down.ensures.told m ∙ c.answers.ensures.told m)
     (subst Q (ap (standing_side side.peer) is ∙ lost_stands side.peer side.standing c.requires.settled)
-    (c.stand_down.ensures.makes m work (subst IsDown (sym is) (lost_down side.standing)) (towards work.node.sides t (side_of side) there) (c.answers.ensures.makes m work h))))
+    (c.stand_down.ensures.makes m work (subst IsDown (sym is) (lost_down side.standing))
+    (towards work.node.sides t (side_of side) there) (c.answers.ensures.makes m work h))))

@@ -33,4 +33,5 @@ returns c =
     (c.stand_down.ensures.told m ∙ c.requires.told)
     (subst (λ u. Q u (in_state (model.lost (state_of side.standing)) (side_of side))) same
     (subst (Q side.trunk) (ap (standing_side side.peer) is ∙ lost_stands side.peer side.standing settled)
-    (c.stand_down.ensures.makes m (at_work m) (subst IsDown (sym is) (lost_down side.standing)) (towards m.sides side.trunk (side_of side) (ap (fm.get m.sides) same ∙ there)) c.requires.makes))))
+    (c.stand_down.ensures.makes m (at_work m) (subst IsDown (sym is) (lost_down side.standing))
+    (towards m.sides side.trunk (side_of side) (ap (fm.get m.sides) same ∙ there)) c.requires.makes))))

@@ -14,7 +14,9 @@ returns-clause-makes c = λ m work t alone h.
     let from : own ≡ c.args.side.now.trunk = search rules in
     let to : c.in_ok-peer.peer ≡ c.args.side.now.peer = search rules in
     let P : TrunkId → Name → Type 0 = λ u y. Lets (change.ComesUp u y c.args.creation) work.node.sides in
-    let lets : P own c.in_ok-peer.peer = subst (λ u. P u c.in_ok-peer.peer) (sym from) (subst (P c.args.side.now.trunk) (sym to) (t, alone)) in
+    let lets : P own c.in_ok-peer.peer =
+    subst (λ u. P u c.in_ok-peer.peer) (sym from) (subst (P c.args.side.now.trunk) (sym to) (t, alone)) in
     let Q : Work → Type 0 = λ w. MakesOr m w c.change_side.new.self c.change_side.result in
-    subst Q (ap (λ u. sided (change.ComesUp u c.in_ok-peer.peer c.args.creation) work) from ∙ comes_up c.args.side.now.trunk c.in_ok-peer.peer c.args.side.now.peer c.args.creation work t)
+    subst Q (ap (λ u. sided (change.ComesUp u c.in_ok-peer.peer c.args.creation) work) from
+    ∙ comes_up c.args.side.now.trunk c.in_ok-peer.peer c.args.side.now.peer c.args.creation work t)
     (c.change_side.ensures.makes m work lets h)

@@ -17,7 +17,11 @@ returns-clause-carries c = λ w h.
     let x = c.args.reason in
     let planned = link_in c.args.plan.now.change in
     let told = post_all (exits_to planned p x (ends_of m p)) w in
-    let one : CarriesOut c.post_exits.new.plan m told = subst (λ (links : List (Pid × End)). CarriesOut c.post_exits.new.plan m (post_all (exits_to planned p x links) w)) c.links.ensures (c.in_ok-post_exits.ensures.carries w h) in
+    let one : CarriesOut c.post_exits.new.plan m told =
+    subst
+    (λ (links : List (Pid × End)). CarriesOut c.post_exits.new.plan m (post_all (exits_to planned p x links) w)) c.links.ensures
+    (c.in_ok-post_exits.ensures.carries w h) in
     subst (λ v. Carries m v c.bury.new.self c.bury.result)
     (sym (finishes c.args.plan.now m w p x h c.requires.free c.requires.link c.requires.watches c.requires.watchers))
-    (c.bury.ensures.carries m _ c.requires.living (c.in_ok-post_demonitors.ensures.carries _ (c.in_ok-post_monitor_exits.ensures.carries told one)))
+    (c.bury.ensures.carries m _ c.requires.living
+    (c.in_ok-post_demonitors.ensures.carries _ (c.in_ok-post_monitor_exits.ensures.carries told one)))

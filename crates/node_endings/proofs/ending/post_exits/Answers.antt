@@ -20,12 +20,16 @@ loop-partner-preserved c =
     let planned = link_in c.args.plan.now.change in
     let i = c.loop-partner.partner-index in
     let item = c.loop-partner-item.result in
-    let more : take (i + 1) all ≡ take i all ++ item ∷ [] = take_more all i item (omega arith) ∙ ap (λ (z : Pid × End). take i all ++ z ∷ []) (sym c.loop-partner-item.is)
+    let more : take (i + 1) all ≡ take i all ++ item ∷ [] =
+    take_more all i item (omega arith) ∙ ap (λ (z : Pid × End). take i all ++ z ∷ []) (sym c.loop-partner-item.is)
     in record {
       told = λ w h.
           let before = post_all (exits_to planned p x (take i all)) w in
-          let one : CarriesOut c.post_exit.new.plan m (post_all (exit_to (link_in c.loop-partner.plan.change) p x item.0 item.1) before) = c.in_ok-post_exit.ensures.carries before (c.loop-partner.invariant.told w h) in
-          subst (CarriesOut c.post_exit.new.plan m) (ap (λ (l : LinkChange). post_all (exit_to l p x item.0 item.1) before) (ap link_in c.loop-partner.invariant.change) ∙ sym (post_more (λ y. exit_to planned p x y.0 y.1) (take i all) (take (i + 1) all) item w more)) one;
+          let one : CarriesOut c.post_exit.new.plan m (post_all (exit_to (link_in c.loop-partner.plan.change) p x item.0 item.1) before) =
+          c.in_ok-post_exit.ensures.carries before (c.loop-partner.invariant.told w h) in
+          subst (CarriesOut c.post_exit.new.plan m) (ap (λ (l : LinkChange). post_all (exit_to l p x item.0 item.1) before)
+          (ap link_in c.loop-partner.invariant.change) ∙ sym
+          (post_more (λ y. exit_to planned p x y.0 y.1) (take i all) (take (i + 1) all) item w more)) one;
       answer = c.in_ok-post_exit.ensures.answer ∙ c.loop-partner.invariant.answer;
       change = c.in_ok-post_exit.ensures.change ∙ c.loop-partner.invariant.change;
       watches = c.in_ok-post_exit.ensures.watches ∙ c.loop-partner.invariant.watches;

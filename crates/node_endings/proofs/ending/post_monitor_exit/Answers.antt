@@ -14,6 +14,9 @@ returns-clause-carries c = λ w h.
     let to : c.in_ok-clone-2.field-0 ≡ c.args.monitor.now.owner = search rules in
     let reference : c.in_ok-clone-3.field-0 ≡ c.args.reference.now = search rules in
     let reason : ◌≡◌ {A = Data} c.in_ok-copy.field-0 c.args.reason.now = c.in_ok-copy.ensures in
-    subst (λ b. Carries m (post_all (cond b (Signal.MonitorExit c.args.process.now c.args.monitor.now.owner c.args.reference.now c.args.reason.now ∷ []) []) w) c.post.new.self c.post.result) (sym is)
-    (subst (λ (signal : Signal). Carries m (post_all (signal ∷ []) w) c.post.new.self c.post.result) (λ i. Signal.MonitorExit (from i) (to i) (reference i) (reason i))
+    subst (λ b. Carries m (post_all
+    (cond b (Signal.MonitorExit c.args.process.now c.args.monitor.now.owner c.args.reference.now c.args.reason.now ∷ []) [])
+    w) c.post.new.self c.post.result) (sym is)
+    (subst (λ (signal : Signal). Carries m (post_all (signal ∷ []) w) c.post.new.self c.post.result)
+    (λ i. Signal.MonitorExit (from i) (to i) (reference i) (reason i))
     (c.post.ensures.carries w h))

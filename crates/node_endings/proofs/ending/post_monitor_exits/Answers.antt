@@ -26,12 +26,18 @@ loop-place-preserved c =
     let place = get_or places i 0 in
     let item = c.index-entries-place.result in
     let told_of = (λ (e : Reference × Monitor). cond (same_pid e.1.target p) (Signal.MonitorExit p e.1.owner e.0 x ∷ []) []) in
-    let within : place < length all = subst (λ (l : List (Reference × Monitor)). place < length l) (sym c.entries-entries.ensures) (c.targeting-place-items.ensures.places i 0 c.loop-place-test.true) in
-    let more = picked_more all (take i places) (take (i + 1) places) place item (take_more places i 0 c.loop-place-test.true) within c.index-entries-place.is
+    let within : place < length all =
+    subst (λ (l : List (Reference × Monitor)). place < length l) (sym c.entries-entries.ensures)
+    (c.targeting-place-items.ensures.places i 0 c.loop-place-test.true) in
+    let more =
+    picked_more all (take i places) (take (i + 1) places) place item
+    (take_more places i 0 c.loop-place-test.true) within c.index-entries-place.is
     in record {
       told = λ w h.
-          subst (CarriesOut c.post_monitor_exit.new.plan m) (sym (post_more told_of (picked all (take i places)) (picked all (take (i + 1) places)) item w more))
-          (c.in_ok-post_monitor_exit.ensures.carries (post_all (monitor_exits p x (picked all (take i places))) w) (c.loop-place.invariant.told w h));
+          subst (CarriesOut c.post_monitor_exit.new.plan m)
+          (sym (post_more told_of (picked all (take i places)) (picked all (take (i + 1) places)) item w more))
+          (c.in_ok-post_monitor_exit.ensures.carries (post_all (monitor_exits p x (picked all (take i places))) w)
+          (c.loop-place.invariant.told w h));
       answer = c.in_ok-post_monitor_exit.ensures.answer ∙ c.loop-place.invariant.answer;
       change = c.in_ok-post_monitor_exit.ensures.change ∙ c.loop-place.invariant.change;
       watches = c.in_ok-post_monitor_exit.ensures.watches ∙ c.loop-place.invariant.watches;
@@ -48,8 +54,14 @@ returns-clause-carries c = λ w h.
     let i = c.loop-place.place-index in
     let entries = fm.entries m.registered in
     let whole : i ≡ length places = omega (arith, c.loop-place-test.false, c.loop-place.auto.place-index-end) in
-    let found = ap (λ n. picked all (take n places)) whole ∙ ap (picked all) (take-length places) ∙ ap (λ (l : List (Reference × Monitor)). picked l places) c.entries-entries.ensures ∙ c.targeting-place-items.ensures.found ∙ ap (λ (monitors : MonitorMap). filter (λ (e : Reference × Monitor). same_pid e.1.target p) (fm.entries monitors)) c.watchers-watchers.ensures in
+    let found =
+    ap (λ n. picked all (take n places)) whole ∙ ap (picked all) (take-length places) ∙ ap
+    (λ (l : List (Reference × Monitor)). picked l places) c.entries-entries.ensures
+    ∙ c.targeting-place-items.ensures.found ∙ ap
+    (λ (monitors : MonitorMap). filter (λ (e : Reference × Monitor). same_pid e.1.target p) (fm.entries monitors))
+    c.watchers-watchers.ensures in
     subst (CarriesOut c.loop-place.plan m)
     (ap (λ (l : List (Reference × Monitor)). post_all (monitor_exits p x l) w) found
-    ∙ ap (λ (signals : List Signal). post_all signals w) (flat_passing (λ (e : Reference × Monitor). same_pid e.1.target p) (λ (e : Reference × Monitor). Signal.MonitorExit p e.1.owner e.0 x ∷ []) entries))
+    ∙ ap (λ (signals : List Signal). post_all signals w) (flat_passing (λ (e : Reference × Monitor). same_pid e.1.target p)
+    (λ (e : Reference × Monitor). Signal.MonitorExit p e.1.owner e.0 x ∷ []) entries))
     (c.loop-place.invariant.told w h)

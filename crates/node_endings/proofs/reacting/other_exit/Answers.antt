@@ -27,7 +27,8 @@ returns-clause-carries c = λ w h.
     let r = c.in_ok-reaction.reaction in
     let from : c.in_ok-clone.field-0 ≡ q = search rules in
     let is : r ≡ reaction (traps m p) (sent_exit p q x) = c.in_ok-reaction.ensures
-    ∙ (λ i. reaction (traps m p) (record { sender = from i; reason = x; link = false; is_active = false; is_own = c.same_pid.ensures i })) in
+    ∙ (λ i.
+    reaction (traps m p) (record { sender = from i; reason = x; link = false; is_active = false; is_own = c.same_pid.ensures i })) in
     let free : IsFree c.args.plan.now.change p = subst (λ (planned : Change). IsFree planned p) (sym c.requires.none) tt in
     subst (λ v. Carries m v c.carry_out.new.plan c.carry_out.result) (sym (reacts_to_other c.args.plan.now m w p q x r h free is))
     (c.carry_out.ensures.carries w h)

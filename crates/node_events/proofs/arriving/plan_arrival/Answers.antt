@@ -23,27 +23,38 @@ pub settle-requires-clause-stays : goal.settle-requires-clause-stays
 settle-requires-clause-stays c =
     let node = c.args.node.now in
     let P : Result (Unit {0}) Refusal → Type 0 = (λ r. OnOk r (Stays c.arrive_if_up-taken.new.plan (seen node))) in
-    subst P (sym c.without_len.ensures) (by_up (seen node) c.args.trunk.now c.args.bytes.now c.args.word c.arrive_if_up-taken.new.plan c.arrive_if_up-taken.result node.steady node.counted
+    subst P (sym c.without_len.ensures) (by_up (seen node) c.args.trunk.now c.args.bytes.now c.args.word
+    c.arrive_if_up-taken.new.plan c.arrive_if_up-taken.result node.steady node.counted
     c.arrive_if_up-taken.ensures.down c.arrive_if_up-taken.ensures.undialed c.arrive_if_up-taken.ensures.came)
 
 pub returns-in-Ok-clause-down : goal.returns-in-Ok-clause-down
-returns-in-Ok-clause-down c = λ down. absurd (no_plan Planned c.in-Ok.planned Refusal.NodeDown (sym c.in-Ok.is ∙ c.settle.ensures.refused Refusal.NodeDown (c.without_len.ensures ∙ ap without_len (c.arrive_if_up-taken.ensures.down down))))
+returns-in-Ok-clause-down c =
+    λ down. absurd (no_plan Planned c.in-Ok.planned Refusal.NodeDown (sym c.in-Ok.is
+    ∙ c.settle.ensures.refused Refusal.NodeDown (c.without_len.ensures ∙ ap without_len (c.arrive_if_up-taken.ensures.down down))))
 
 pub returns-in-Ok-clause-undialed : goal.returns-in-Ok-clause-undialed
-returns-in-Ok-clause-undialed c = λ up own. absurd (no_plan Planned c.in-Ok.planned Refusal.NotLive (sym c.in-Ok.is ∙ c.settle.ensures.refused Refusal.NotLive (c.without_len.ensures ∙ ap without_len (c.arrive_if_up-taken.ensures.undialed up own))))
+returns-in-Ok-clause-undialed c =
+    λ up own. absurd (no_plan Planned c.in-Ok.planned Refusal.NotLive (sym c.in-Ok.is
+    ∙ c.settle.ensures.refused Refusal.NotLive (c.without_len.ensures ∙ ap without_len (c.arrive_if_up-taken.ensures.undialed up own))))
 
 pub returns-in-Err-clause-down : goal.returns-in-Err-clause-down
-returns-in-Err-clause-down c = λ down. ap Err (same_refusal Planned c.in-Err.e Refusal.NodeDown (sym c.in-Err.is ∙ c.settle.ensures.refused Refusal.NodeDown (c.without_len.ensures ∙ ap without_len (c.arrive_if_up-taken.ensures.down down))))
+returns-in-Err-clause-down c =
+    λ down. ap Err (same_refusal Planned c.in-Err.e Refusal.NodeDown (sym c.in-Err.is
+    ∙ c.settle.ensures.refused Refusal.NodeDown (c.without_len.ensures ∙ ap without_len (c.arrive_if_up-taken.ensures.down down))))
 
 pub returns-in-Err-clause-undialed : goal.returns-in-Err-clause-undialed
-returns-in-Err-clause-undialed c = λ up own. ap Err (same_refusal Planned c.in-Err.e Refusal.NotLive (sym c.in-Err.is ∙ c.settle.ensures.refused Refusal.NotLive (c.without_len.ensures ∙ ap without_len (c.arrive_if_up-taken.ensures.undialed up own))))
+returns-in-Err-clause-undialed c =
+    λ up own. ap Err (same_refusal Planned c.in-Err.e Refusal.NotLive (sym c.in-Err.is
+    ∙ c.settle.ensures.refused Refusal.NotLive (c.without_len.ensures ∙ ap without_len (c.arrive_if_up-taken.ensures.undialed up own))))
 
 pub returns-in-Ok-clause-came : goal.returns-in-Ok-clause-came
 returns-in-Ok-clause-came c = λ up dialed.
     let m = seen c.args.node.now in
     let P : Result PlannedArrival Refusal → Type 0 = (λ r. PlansArrived m c.args.trunk.now c.args.bytes.now c.args.word r) in
-    subst P (ap (λ r. with_len r (result_unwrap_or c.arrive_if_up-taken.result 0)) c.in-Ok.is ∙ ap (λ n. with_len (Ok c.in-Ok.planned) n) (sym c.unwrap_or-len.ensures))
-    (arrived m c.args.trunk.now c.args.bytes.now c.args.word c.arrive_if_up-taken.new.plan up c.arrive_if_up-taken.result c.settle.result (c.arrive_if_up-taken.ensures.came up dialed)
+    subst P (ap (λ r. with_len r (result_unwrap_or c.arrive_if_up-taken.result 0)) c.in-Ok.is
+    ∙ ap (λ n. with_len (Ok c.in-Ok.planned) n) (sym c.unwrap_or-len.ensures))
+    (arrived m c.args.trunk.now c.args.bytes.now c.args.word c.arrive_if_up-taken.new.plan up c.arrive_if_up-taken.result c.settle.result
+    (c.arrive_if_up-taken.ensures.came up dialed)
     (λ x h. c.settle.ensures.plan x (subst (λ r. Plans m x c.arrive_if_up-taken.new.plan r) (sym c.without_len.ensures) h))
     (λ e h. c.settle.ensures.refused e (c.without_len.ensures ∙ h)))
 
@@ -52,6 +63,7 @@ returns-in-Err-clause-came c = λ up dialed.
     let m = seen c.args.node.now in
     let P : Result PlannedArrival Refusal → Type 0 = (λ r. PlansArrived m c.args.trunk.now c.args.bytes.now c.args.word r) in
     subst P (ap (λ r. with_len r (result_unwrap_or c.arrive_if_up-taken.result 0)) c.in-Err.is)
-    (arrived m c.args.trunk.now c.args.bytes.now c.args.word c.arrive_if_up-taken.new.plan up c.arrive_if_up-taken.result c.settle.result (c.arrive_if_up-taken.ensures.came up dialed)
+    (arrived m c.args.trunk.now c.args.bytes.now c.args.word c.arrive_if_up-taken.new.plan up c.arrive_if_up-taken.result c.settle.result
+    (c.arrive_if_up-taken.ensures.came up dialed)
     (λ x h. c.settle.ensures.plan x (subst (λ r. Plans m x c.arrive_if_up-taken.new.plan r) (sym c.without_len.ensures) h))
     (λ e h. c.settle.ensures.refused e (c.without_len.ensures ∙ h)))

@@ -24,4 +24,5 @@ settle-requires-clause-stays c =
     stays [] (seen node) e _ _ node.steady node.counted (comes_of_none (seen node) e (no_item c.args.command)) c.obey_if_up-planned.ensures
 
 pub returns-clause-plan : goal.returns-clause-plan
-returns-clause-plan c = λ names. c.settle.ensures.plan (at_node names (seen c.args.node.now) (event.Call c.args.command)) c.obey_if_up-planned.ensures
+returns-clause-plan c =
+    λ names. c.settle.ensures.plan (at_node names (seen c.args.node.now) (event.Call c.args.command)) c.obey_if_up-planned.ensures

@@ -40,4 +40,6 @@ settle-requires-clause-stays c =
     (c.dial_if_up-planned.ensures names (has_it c.args.is_known c.args.peer.now))
 
 pub returns-clause-plan : goal.returns-clause-plan
-returns-clause-plan c = λ names h. c.settle.ensures.plan (at_node names (seen c.args.node.now) (event.Dial c.args.peer.now c.args.word)) (c.dial_if_up-planned.ensures names h)
+returns-clause-plan c =
+    λ names h. c.settle.ensures.plan (at_node names (seen c.args.node.now) (event.Dial c.args.peer.now c.args.word))
+    (c.dial_if_up-planned.ensures names h)

@@ -19,7 +19,9 @@ returns-in-Ok c = λ names.
     let next = m.mint.creation + 1 in
     let due = Accepts (Answer.Started next) (at_work (started m)) in
     let down : m.up ≡ false = search rules in
-    let number : c.number.result ≡ next = c.number.ensures.number ∙ c.creation.ensures ∙ ap (λ (x : Minted). x.creation) c.mint.ensures ∙ ap (λ (n : Node). n.mint.creation) c.in-Ok.ensures.node in
+    let number : c.number.result ≡ next =
+    c.number.ensures.number ∙ c.creation.ensures ∙ ap (λ (x : Minted). x.creation) c.mint.ensures
+    ∙ ap (λ (n : Node). n.mint.creation) c.in-Ok.ensures.node in
     let within : c.number.result < 2 ^ 32 = search rules in
     let below : nat_lt next (2 ^ 32) ≡ true = is_below next (2 ^ 32) (subst (λ n. n < 2 ^ 32) number within) in
     let tested : Bool → Outcome = λ b. cond b due (Refuses Refusal.IdsUsedUp) in

@@ -22,7 +22,9 @@ pub settle-requires-clause-stays : goal.settle-requires-clause-stays
 settle-requires-clause-stays c =
     let node = c.args.node.now in
     let e = event.Lose c.args.trunk.now in
-    stays [] (seen node) e _ _ node.steady node.counted (comes_of_none (seen node) e (no_item c.args.trunk.now)) c.lose_if_up-planned.ensures
+    stays [] (seen node) e _ _ node.steady node.counted
+    (comes_of_none (seen node) e (no_item c.args.trunk.now)) c.lose_if_up-planned.ensures
 
 pub returns-clause-plan : goal.returns-clause-plan
-returns-clause-plan c = λ names. c.settle.ensures.plan (at_node names (seen c.args.node.now) (event.Lose c.args.trunk.now)) c.lose_if_up-planned.ensures
+returns-clause-plan c =
+    λ names. c.settle.ensures.plan (at_node names (seen c.args.node.now) (event.Lose c.args.trunk.now)) c.lose_if_up-planned.ensures

@@ -16,7 +16,8 @@ take_first_if_up-planned-requires-clause-taken c = λ first rest h. c.new-plan.e
 pub settle-requires-clause-stays : goal.settle-requires-clause-stays
 settle-requires-clause-stays c =
     let node = c.args.node.now in
-    stays [] (seen node) event.Local _ _ node.steady node.counted (comes_of_none (seen node) event.Local no_item) c.take_first_if_up-planned.ensures
+    stays [] (seen node) event.Local _ _ node.steady node.counted
+    (comes_of_none (seen node) event.Local no_item) c.take_first_if_up-planned.ensures
 
 pub returns-clause-plan : goal.returns-clause-plan
 returns-clause-plan c = λ names. c.settle.ensures.plan (at_node names (seen c.args.node.now) event.Local) c.take_first_if_up-planned.ensures

@@ -20,7 +20,8 @@ pub settle-requires-clause-stays : goal.settle-requires-clause-stays
 settle-requires-clause-stays c =
     let node = c.args.node.now in
     let P : Result (Unit {0}) Refusal → Type 0 = (λ r. OnOk r (Stays c.sweep_if_up-swept.new.plan (seen node))) in
-    subst P (sym c.parted-planned.ensures.planned) (stays [] (seen node) event.Sweep _ _ node.steady node.counted (comes_of_none (seen node) event.Sweep no_item) c.sweep_if_up-swept.ensures.plans)
+    subst P (sym c.parted-planned.ensures.planned) (stays [] (seen node) event.Sweep _ _ node.steady node.counted
+    (comes_of_none (seen node) event.Sweep no_item) c.sweep_if_up-swept.ensures.plans)
 
 pub returns-clause-plan : goal.returns-clause-plan
 returns-clause-plan c = λ names.

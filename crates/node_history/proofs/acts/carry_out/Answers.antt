@@ -8,6 +8,7 @@ pub returns-in-Ok-copied_effects-clause-ok : goal.returns-in-Ok-copied_effects-c
 returns-in-Ok-copied_effects-clause-ok c = λ due fills plan.
     let m = model_of c.args.node.now in
     let e = c.commit-report.ensures in
-    carried m (model_of c.commit-report.new.self) due c.args.spare c.in-Ok.planned.plan c.commit-report.result c.again-answer.result c.in-Ok-copied_effects.effects
+    carried m (model_of c.commit-report.new.self) due c.args.spare c.in-Ok.planned.plan c.commit-report.result
+    c.again-answer.result c.in-Ok-copied_effects.effects
     (subst (λ r. MatchResult r (λ p. IsPlanned m due p.plan) (IsRefused due)) c.in-Ok.is plan)
     e.node e.answer e.effects c.again-answer.ensures (c.in-Ok-copied_effects.ensures ∙ c.effects.ensures) fills

@@ -11,7 +11,8 @@ returns-in-Ok c = λ names item is can.
     let new = model_of c.arrive.new.self in
     let e = c.arrive.ensures in
     subst (λ r. Does (at_node names m (Arrive c.args.trunk.now (Some item) c.args.word)) m new (answer_in r)) c.in-Ok.is
-    (arrives_does names m new c.args.trunk.now c.args.bytes.now c.args.word item c.arrive.result c.one_answer.ensures c.read_again.ensures c.are_bytes.ensures is can e.down e.came)
+    (arrives_does names m new c.args.trunk.now c.args.bytes.now c.args.word item c.arrive.result c.one_answer.ensures
+    c.read_again.ensures c.are_bytes.ensures is can e.down e.came)
 
 pub returns-in-Err : goal.returns-in-Err
 returns-in-Err c = λ names item is can.
@@ -19,4 +20,5 @@ returns-in-Err c = λ names item is can.
     let new = model_of c.arrive.new.self in
     let e = c.arrive.ensures in
     subst (λ r. Does (at_node names m (Arrive c.args.trunk.now (Some item) c.args.word)) m new (answer_in r)) c.in-Err.is
-    (arrives_does names m new c.args.trunk.now c.args.bytes.now c.args.word item c.arrive.result c.one_answer.ensures c.read_again.ensures c.are_bytes.ensures is can e.down e.came)
+    (arrives_does names m new c.args.trunk.now c.args.bytes.now c.args.word item c.arrive.result c.one_answer.ensures
+    c.read_again.ensures c.are_bytes.ensures is can e.down e.came)

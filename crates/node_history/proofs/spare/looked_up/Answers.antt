@@ -24,4 +24,5 @@ returns-in-Err-clause-same c = (c.in-Err.ensures []).1
 pub returns-in-Err-clause-links : goal.returns-in-Err-clause-links
 returns-in-Err-clause-links c =
     let same : c.in_ok-clone.field-0 ≡ c.args.process.now = search rules in
-    not_looked c.unless_wanting.result (model_of c.args.node.now) c.in_ok-clone.field-0 c.args.process.now c.in-Err.e same (c.in-Err.ensures []).0 c.unless_wanting.ensures.ok
+    not_looked c.unless_wanting.result (model_of c.args.node.now) c.in_ok-clone.field-0 c.args.process.now c.in-Err.e same
+    (c.in-Err.ensures []).0 c.unless_wanting.ensures.ok

@@ -3,7 +3,8 @@ use Rattle.node_lock.proofs.Called.{at_home, away, called, no_room, strange, una
 use Rattle.node_lock.proofs.calling.call.Goals as goal
 
 pub returns-then-not-is_at_home-clause-err : goal.returns-then-not-is_at_home-clause-err
-returns-then-not-is_at_home-clause-err c = strange c.args.act c.args.book.now c.args.seat.now (away c.is_at_home.result c.is_at_home.ensures c.if-not-is_at_home.true)
+returns-then-not-is_at_home-clause-err c =
+    strange c.args.act c.args.book.now c.args.seat.now (away c.is_at_home.result c.is_at_home.ensures c.if-not-is_at_home.true)
 
 pub returns-then-is_err-clause-err : goal.returns-then-is_err-clause-err
 returns-then-is_err-clause-err c =
@@ -17,8 +18,10 @@ returns-in-Err-clause-err c =
 
 pub returns-in-Err-act-clause-err : goal.returns-in-Err-act-clause-err
 returns-in-Err-act-clause-err c =
-    unapplied c.args.act c.args.book.now c.args.seat.now c.act.new.self (record (c.args.seat.now) { receipts = c.reserve.new.self }) c.into_event-event.result c.in-Err-act.e
-    (at_home c.is_at_home.result c.is_at_home.ensures c.if-not-is_at_home.false) c.into_event-event.ensures.event c.in-Err-act.ensures.err refl c.reserve.ensures.items
+    unapplied c.args.act c.args.book.now c.args.seat.now c.act.new.self
+    (record (c.args.seat.now) { receipts = c.reserve.new.self }) c.into_event-event.result c.in-Err-act.e
+    (at_home c.is_at_home.result c.is_at_home.ensures c.if-not-is_at_home.false) c.into_event-event.ensures.event
+    c.in-Err-act.ensures.err refl c.reserve.ensures.items
 
 pub returns-clause-ok : goal.returns-clause-ok
 returns-clause-ok c =
@@ -26,8 +29,12 @@ returns-clause-ok c =
     let v = c.reserve.new.self in
     let at : c.len-place.result ≡ length v.items = omega (arith, c.len-place.ensures, v.ok) in
     called c.args.act c.args.book.now c.args.seat.now c.act.new.self (record (c.args.seat.now) { receipts = c.push_reserved.new.self })
-    (record { event = c.in-Ok.kept; receipt = record { node = c.place.result; position = told.place; stamp = c.stamp_at.result; answer = told.answer } })
+    (record {
+      event = c.in-Ok.kept;
+      receipt = record { node = c.place.result; position = told.place; stamp = c.stamp_at.result; answer = told.answer };
+    })
     told c.into_event-event.result c.reserve.new.self.items c.len-place.result
     (at_home c.is_at_home.result c.is_at_home.ensures c.if-not-is_at_home.false) c.into_event-event.ensures.event c.in-Ok-act.ensures.ok
-    c.in-Ok-act.ensures.told c.into_event-event.ensures.act c.in-Ok.ensures refl c.stamp_at.ensures c.place.ensures refl refl c.reserve.ensures.items
+    c.in-Ok-act.ensures.told c.into_event-event.ensures.act c.in-Ok.ensures refl c.stamp_at.ensures c.place.ensures refl refl
+    c.reserve.ensures.items
     c.push_reserved.ensures.items at

@@ -9,5 +9,7 @@ use Rattle.node_sides.proofs.lookup.place_in.Goals as goal
 pub returns : goal.returns
 returns c =
     let facts = c.binary_search_by.ensures in
-    let by_trunk = facts.position (λ (side : Side). trunk_cmp side.trunk c.args.trunk.now) (always_returns_same _ _ _ (λ a r f' called. (search rules, search rules))) in
+    let by_trunk =
+    facts.position (λ (side : Side). trunk_cmp side.trunk c.args.trunk.now)
+    (always_returns_same _ _ _ (λ a r f' called. (search rules, search rules))) in
     searched_sides c.args.held.now c.args.trunk.now _ c.requires facts.bound by_trunk

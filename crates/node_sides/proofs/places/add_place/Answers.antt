@@ -14,5 +14,7 @@ pub keep_place-requires-clause-changed : goal.keep_place-requires-clause-changed
 keep_place-requires-clause-changed c =
     let places = c.args.places.now in
     let len : length c.move_up.new.places ≡ places.len = c.move_up.auto.places ∙ c.deref_mut.ensures.len in
-    let now = take_whole c.move_up.new.places (drop (length c.move_up.new.places) places.items) places.len len ∙ c.move_up.ensures ∙ ap (map (moved_up c.args.at)) c.deref_mut.ensures.value in
+    let now =
+    take_whole c.move_up.new.places (drop (length c.move_up.new.places) places.items) places.len len ∙ c.move_up.ensures
+    ∙ ap (map (moved_up c.args.at)) c.deref_mut.ensures.value in
     subst (IsChanged c.args.held.now c.args.at false) (sym now) (grown_changed c.args.held.now c.args.at places.items c.requires.grown)

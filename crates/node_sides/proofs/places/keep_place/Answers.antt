@@ -1,5 +1,6 @@
 use Rattle.std.proofs.Common.{◌≡◌, ◌+◌, length, ◌∙◌, arith}
-use Rattle.node_sides.proofs.Index.{changed_here, changed_put, changed_rising, changed_room, changed_stays, changed_take, none_some, one_test, turned_off, turned_on}
+use Rattle.node_sides.proofs.Index.{changed_here, changed_put, changed_rising, changed_room, changed_stays}
+use Rattle.node_sides.proofs.Index.{changed_take, none_some, one_test, turned_off, turned_on}
 use Rattle.node_sides.proofs.places.keep_place.Goals as goal
 
 pub put_in-requires-clause-rising : goal.put_in-requires-clause-rising
@@ -7,11 +8,14 @@ put_in-requires-clause-rising c = changed_rising c.args.held.now c.args.at c.arg
 
 pub put_in-requires-clause-none : goal.put_in-requires-clause-none
 put_in-requires-clause-none c =
-    none_some _ (changed_here c.args.held.now c.args.at c.args.was c.args.places.now.items c.requires.changed ∙ turned_off _ c.args.was c.if-is-was.false c.if-is.true)
+    none_some _ (changed_here c.args.held.now c.args.at c.args.was c.args.places.now.items c.requires.changed
+    ∙ turned_off _ c.args.was c.if-is-was.false c.if-is.true)
 
 pub put_in-requires-clause-room : goal.put_in-requires-clause-room
 put_in-requires-clause-room c =
-    let less = changed_room c.args.held.now c.args.at c.args.was c.args.places.now.items c.requires.changed (turned_off _ c.args.was c.if-is-was.false c.if-is.true) in
+    let less =
+    changed_room c.args.held.now c.args.at c.args.was c.args.places.now.items c.requires.changed
+    (turned_off _ c.args.was c.if-is-was.false c.if-is.true) in
     omega (arith, less, c.requires.room, c.args.places.now.ok.0)
 
 pub take_out-requires-clause-rising : goal.take_out-requires-clause-rising
@@ -19,11 +23,13 @@ take_out-requires-clause-rising c = changed_rising c.args.held.now c.args.at c.a
 
 pub take_out-requires-clause-there : goal.take_out-requires-clause-there
 take_out-requires-clause-there c =
-    changed_here c.args.held.now c.args.at c.args.was c.args.places.now.items c.requires.changed ∙ turned_on _ c.args.was c.if-is-was.false c.if-is.false
+    changed_here c.args.held.now c.args.at c.args.was c.args.places.now.items c.requires.changed
+    ∙ turned_on _ c.args.was c.if-is-was.false c.if-is.false
 
 pub returns-then-is-was-clause-index : goal.returns-then-is-was-clause-index
 returns-then-is-was-clause-index c =
-    changed_stays c.args.held.now c.args.at c.args.was c.args.places.now.items c.requires.changed _ c.index-held-at.result c.is_open-is.ensures (one_test _ c.args.was c.if-is-was.true)
+    changed_stays c.args.held.now c.args.at c.args.was c.args.places.now.items c.requires.changed _ c.index-held-at.result
+    c.is_open-is.ensures (one_test _ c.args.was c.if-is-was.true)
 
 pub returns-then-is-clause-index : goal.returns-then-is-clause-index
 returns-then-is-clause-index c =

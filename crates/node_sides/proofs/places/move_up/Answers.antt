@@ -11,4 +11,5 @@ loop-place-preserved c =
     let i = c.loop-place.place-index in
     let x = get_or ys i 0 in
     let within : i < length ys = omega (arith, c.loop-place.auto.places, c.loop-place-test.true) in
-    ap (set ys i) c.moved_up.ensures ∙ map_over_more (moved_up c.args.at) xs ys i x c.loop-place-test.true c.loop-place.invariant (get_or_default ys i 0 x within)
+    ap (set ys i) c.moved_up.ensures
+    ∙ map_over_more (moved_up c.args.at) xs ys i x c.loop-place-test.true c.loop-place.invariant (get_or_default ys i 0 x within)

@@ -9,5 +9,7 @@ pub returns : goal.returns
 returns c =
     let facts = c.binary_search_by.ensures in
     let held = c.args.held.now in
-    let by_place = facts.position (λ (place : ℕ). place_cmp held place c.args.at) (always_returns_same _ _ _ (λ a r f' called. (search rules, search rules))) in
+    let by_place =
+    facts.position (λ (place : ℕ). place_cmp held place c.args.at)
+    (always_returns_same _ _ _ (λ a r f' called. (search rules, search rules))) in
     searched_places held c.args.places.now c.args.at c.requires _ facts.bound by_place

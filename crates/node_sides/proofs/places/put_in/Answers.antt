@@ -9,7 +9,8 @@ unreachable-requires c =
     let held = c.args.held.now in
     let places = c.args.places.now.items in
     let at = c.args.at in
-    let found = subst (λ (l : List ℕ). IsFoundAt (place_cmp held) (keyed l) at c.in-Ok.field-0) c.deref.ensures.value c.in-Ok.ensures.found in
+    let found =
+    subst (λ (l : List ℕ). IsFoundAt (place_cmp held) (keyed l) at c.in-Ok.field-0) c.deref.ensures.value c.in-Ok.ensures.found in
     some_none _ (found_some held places at c.requires.rising c.in-Ok.field-0 found) c.requires.none
 
 pub insert-requires : goal.insert-requires

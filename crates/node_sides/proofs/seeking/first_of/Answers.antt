@@ -12,8 +12,10 @@ returns-then-passes c =
     let i = c.loop-place.place-index in
     let test = passes_in (passes c.args.which) in
     let x = c.index-held-place.result in
-    let there = slice_get_read held (length held) (get_or places i 0) x refl (c.requires i 0 c.loop-place-test.true) c.index-held-place.is in
-    sym there ∙ sym (first_here test held places i 0 c.loop-place-test.true (ap test there ∙ sym c.if-passes.ensures)) ∙ c.loop-place.invariant
+    let there =
+    slice_get_read held (length held) (get_or places i 0) x refl (c.requires i 0 c.loop-place-test.true) c.index-held-place.is in
+    sym there ∙ sym (first_here test held places i 0 c.loop-place-test.true (ap test there ∙ sym c.if-passes.ensures))
+    ∙ c.loop-place.invariant
 
 pub loop-place-preserved : goal.loop-place-preserved
 loop-place-preserved c =
@@ -22,5 +24,6 @@ loop-place-preserved c =
     let i = c.loop-place.place-index in
     let test = passes_in (passes c.args.which) in
     let x = c.index-held-place.result in
-    let there = slice_get_read held (length held) (get_or places i 0) x refl (c.requires i 0 c.loop-place-test.true) c.index-held-place.is in
+    let there =
+    slice_get_read held (length held) (get_or places i 0) x refl (c.requires i 0 c.loop-place-test.true) c.index-held-place.is in
     rw add-one (first_later test held places i 0 c.loop-place-test.true (ap test there ∙ sym c.if-passes.ensures) ∙ c.loop-place.invariant)

@@ -15,9 +15,13 @@ slice_bounds-first_of-count c =
     let places = c.args.places.now in
     let from = c.partition_point-from.result in
     let to = c.partition_point-to.result in
-    let rise = parts_rise held c.args.which peer places from to c.requires c.partition_point-from.ensures.bound c.partition_point-to.ensures.bound
-    (IsPartitionPoint-from_clause (λ place. is_lt (order held peer place)) places from c.partition_point-from.ensures.partitioned (parts_lt held peer places c.requires.rising) (λ a r f' k. search rules))
-    (IsPartitionPoint-from_clause (λ place. is_le (order held peer place)) places to c.partition_point-to.ensures.partitioned (parts_le held peer places c.requires.rising) (λ a r f' k. search rules)) in
+    let rise =
+    parts_rise held c.args.which peer places from to c.requires c.partition_point-from.ensures.bound c.partition_point-to.ensures.bound
+    (IsPartitionPoint-from_clause
+    (λ place. is_lt (order held peer place)) places from c.partition_point-from.ensures.partitioned
+    (parts_lt held peer places c.requires.rising) (λ a r f' k. search rules))
+    (IsPartitionPoint-from_clause (λ place. is_le (order held peer place)) places to c.partition_point-to.ensures.partitioned
+    (parts_le held peer places c.requires.rising) (λ a r f' k. search rules)) in
     omega (arith, rise)
 
 pub slice_bounds-first_of-start : goal.slice_bounds-first_of-start
@@ -27,16 +31,21 @@ slice_bounds-first_of-start c =
     let places = c.args.places.now in
     let from = c.partition_point-from.result in
     let to = c.partition_point-to.result in
-    let rise = parts_rise held c.args.which peer places from to c.requires c.partition_point-from.ensures.bound c.partition_point-to.ensures.bound
-    (IsPartitionPoint-from_clause (λ place. is_lt (order held peer place)) places from c.partition_point-from.ensures.partitioned (parts_lt held peer places c.requires.rising) (λ a r f' k. search rules))
-    (IsPartitionPoint-from_clause (λ place. is_le (order held peer place)) places to c.partition_point-to.ensures.partitioned (parts_le held peer places c.requires.rising) (λ a r f' k. search rules)) in
+    let rise =
+    parts_rise held c.args.which peer places from to c.requires c.partition_point-from.ensures.bound c.partition_point-to.ensures.bound
+    (IsPartitionPoint-from_clause
+    (λ place. is_lt (order held peer place)) places from c.partition_point-from.ensures.partitioned
+    (parts_lt held peer places c.requires.rising) (λ a r f' k. search rules))
+    (IsPartitionPoint-from_clause (λ place. is_le (order held peer place)) places to c.partition_point-to.ensures.partitioned
+    (parts_le held peer places c.requires.rising) (λ a r f' k. search rules)) in
     omega (arith, rise)
 
 pub first_of-requires : goal.first_of-requires
 first_of-requires c =
     let places = c.args.places.now in
     let from = c.partition_point-from.result in
-    All-take (λ place. place < length c.args.held.now) (c.partition_point-to.result - from) (drop from places) (All-drop (λ place. place < length c.args.held.now) from places (all_within c.args.held.now places c.requires))
+    All-take (λ place. place < length c.args.held.now) (c.partition_point-to.result - from) (drop from places)
+    (All-drop (λ place. place < length c.args.held.now) from places (all_within c.args.held.now places c.requires))
 
 pub returns : goal.returns
 returns c =
@@ -47,5 +56,8 @@ returns c =
     let to = c.partition_point-to.result in
     ap (option_map entry_of) c.first_of.ensures
     ∙ first_is held c.args.which peer places from to c.requires c.partition_point-from.ensures.bound c.partition_point-to.ensures.bound
-    (IsPartitionPoint-from_clause (λ place. is_lt (order held peer place)) places from c.partition_point-from.ensures.partitioned (parts_lt held peer places c.requires.rising) (λ a r f' k. search rules))
-    (IsPartitionPoint-from_clause (λ place. is_le (order held peer place)) places to c.partition_point-to.ensures.partitioned (parts_le held peer places c.requires.rising) (λ a r f' k. search rules))
+    (IsPartitionPoint-from_clause
+    (λ place. is_lt (order held peer place)) places from c.partition_point-from.ensures.partitioned
+    (parts_lt held peer places c.requires.rising) (λ a r f' k. search rules))
+    (IsPartitionPoint-from_clause (λ place. is_le (order held peer place)) places to c.partition_point-to.ensures.partitioned
+    (parts_le held peer places c.requires.rising) (λ a r f' k. search rules))

@@ -1,10 +1,10 @@
 use Rattle.std.proofs.Common.{◌≡◌, map, false, sym, subst, rules}
 use Rattle.dist_model.specs.Items.{telling}
 use Rattle.dist_model.specs.Linking.{exit_follows}
-use Rattle.dist_model.specs.Links.{Signals, heard, reply}
 use Rattle.dist_model.specs.Node.{end_of}
 use Rattle.dist_model.specs.Work.{Work, post_all, set_end}
 use Rattle.erl_term.specs.declared.term.Pid.{Pid}
+use Rattle.link_core.specs.News.{Signals, heard, reply}
 use Rattle.link_core.specs.declared.end.End.{End}
 use Rattle.link_core.specs.declared.end.LinkSignal.{LinkSignal}
 use Rattle.node_plans.specs.Carried.{Carries, CarriesOut}
@@ -13,7 +13,9 @@ use Rattle.node_signals.proofs.Unchanged.{same_end}
 use Rattle.node_signals.proofs.taking.take_at_living.Goals as goal
 
 abbrev taken : Pid → Pid → End → LinkSignal → Work → Work
-taken p q was told w = exit_follows was (Signals told) p q (post_all (map (telling p q) (reply false (Signals told))) (set_end p q (heard was (Signals told)) w))
+taken p q was told w =
+    exit_follows was (Signals told) p q
+    (post_all (map (telling p q) (reply false (Signals told))) (set_end p q (heard was (Signals told)) w))
 
 pub returns-in-Unlink-clause-carries : goal.returns-in-Unlink-clause-carries
 returns-in-Unlink-clause-carries c = λ w h.

@@ -1,6 +1,6 @@
 use Rattle.std.proofs.Common.{◌≡◌, rules, ap, ◌∙◌}
-use Rattle.dist_model.specs.Links.{noproc}
 use Rattle.erl_control.specs.declared.signal.Signal.{Signal}
+use Rattle.link_core.specs.News.{noproc}
 use Rattle.node_frames.specs.Sendable.{is_sendable}
 use Rattle.node_endings.proofs.Reactions.{noproc_fits}
 use Rattle.node_signals.proofs.taking.tell_no_process.Goals as goal

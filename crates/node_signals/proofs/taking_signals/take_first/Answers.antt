@@ -33,4 +33,5 @@ returns c =
     let work = take signal (at_work before) in
     rw c.or_refuse.ensures (planned_by m _ answer work c.take.new.plan c.take.result (ap (take_local m) there)
     (c.take.ensures.told m ∙ c.answers.ensures.told m ∙ ap Answer.Took c.kind.ensures)
-    (c.take.ensures.carries (at_work before) (c.answers.ensures.carries m (at_work before) (c.requires.taken (Signalled signal) rest there))))
+    (c.take.ensures.carries (at_work before)
+    (c.answers.ensures.carries m (at_work before) (c.requires.taken (Signalled signal) rest there))))

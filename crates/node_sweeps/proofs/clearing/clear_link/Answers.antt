@@ -27,10 +27,15 @@ returns-clause-makes c =
     let p = c.in_ok-process.process in
     let work = sweep_end link.end p link.partner.now (at_work m) in
     let same : p ≡ pid_of m.mint link.id = search rules in
-    let h : CarriesOut c.take_link.new.plan m work = c.in_ok-take_link.ensures.carries (at_work m) (c.answers.ensures.carries m (at_work m) c.requires.carries) in
-    let left : c.link_leaves-left.result ≡ has_records side.peer work.node = c.link_leaves-left.ensures ∙ ap (λ y. has_records y work.node) c.atom.ensures in
-    let P : Pid → Type 0 = λ x. MakesOr m (close_if_swept side.trunk (side_of side) (sweep_end link.end x link.partner.now (at_work m))) c.close_unless.new.plan c.close_unless.result in
-    subst P same (c.close_unless.ensures.makes work (same_sides c.take_link.new.plan m work h) left (makes_it c.take_link.new.plan m work h))
+    let h : CarriesOut c.take_link.new.plan m work =
+    c.in_ok-take_link.ensures.carries (at_work m) (c.answers.ensures.carries m (at_work m) c.requires.carries) in
+    let left : c.link_leaves-left.result ≡ has_records side.peer work.node =
+    c.link_leaves-left.ensures ∙ ap (λ y. has_records y work.node) c.atom.ensures in
+    let P : Pid → Type 0 =
+    λ x. MakesOr m (close_if_swept side.trunk (side_of side) (sweep_end link.end x link.partner.now (at_work m)))
+    c.close_unless.new.plan c.close_unless.result in
+    subst P same
+    (c.close_unless.ensures.makes work (same_sides c.take_link.new.plan m work h) left (makes_it c.take_link.new.plan m work h))
 
 pub returns-clause-told : goal.returns-clause-told
 returns-clause-told c =

@@ -1,6 +1,6 @@
 use Rattle.std.proofs.Common.{Option, refl, sym, subst, ◌∙◌}
 use Rattle.std.specs.Option.{is_some}
-use Rattle.dist_model.proofs.Seeing.{close_if}
+use Rattle.dist_model.proofs.Seen.{close_if}
 use Rattle.dist_model.specs.Losses.{Record, close_side}
 use Rattle.dist_model.specs.Work.{at_work}
 use Rattle.node_plans.proofs.Making.{makes_it}
@@ -14,7 +14,8 @@ returns-clause-makes c =
     let m = seen c.args.node.now in
     let side = c.args.side.now in
     let h : Makes c.close_side.new.plan m (close_side side.trunk (side_of side) (at_work m)) =
-    c.in_ok-close_side.ensures.makes (at_work m) refl (c.answers.ensures.makes m (at_work m) (makes_it c.args.plan.now m (at_work m) c.requires.carries)) in
+    c.in_ok-close_side.ensures.makes (at_work m) refl
+    (c.answers.ensures.makes m (at_work m) (makes_it c.args.plan.now m (at_work m) c.requires.carries)) in
     let P : Option Record → Type 0 = λ o. Makes c.close_side.new.plan m (close_if (is_some o) side.trunk (side_of side) (at_work m)) in
     subst P (sym c.requires.none) h
 

@@ -31,7 +31,8 @@ returns-in-Ok-clause-plans c =
     let first : any_side is_losing (fm.entries m.sides) ≡ Some (entry_of side) = search rules in
     let least = least_record side.peer m in
     let work = close_if_swept side.trunk (side_of side) (sweep_record least (at_work m)) in
-    made m (sweep m) (Answer.Swept (swept_kind least)) work c.sweep_side.new.plan (ap (λ o. sweep_by o (at_work m)) first) c.in-Ok.ensures.told c.in-Ok.ensures.makes
+    made m (sweep m) (Answer.Swept (swept_kind least)) work c.sweep_side.new.plan
+    (ap (λ o. sweep_by o (at_work m)) first) c.in-Ok.ensures.told c.in-Ok.ensures.makes
 
 pub returns-clause-plans : goal.returns-clause-plans
 returns-clause-plans c =

@@ -10,7 +10,9 @@ use Rattle.node_sweeps.proofs.Passed.{sorted_of}
 use Rattle.node_sweeps.proofs.left.has_another_watch.Goals as goal
 
 pub place_of-at-requires : goal.place_of-at-requires
-place_of-at-requires c = sorted_of c.watches.result.now.monitors (seen c.args.node.now).watches c.entries-entries.result.now c.watches.ensures c.entries-entries.ensures
+place_of-at-requires c =
+    sorted_of c.watches.result.now.monitors
+    (seen c.args.node.now).watches c.entries-entries.result.now c.watches.ensures c.entries-entries.ensures
 
 pub returns : goal.returns
 returns c =
@@ -19,5 +21,7 @@ returns c =
     let at = c.place_of-at.result in
     let test = λ (e : Reference × Monitor). same_name e.1.target.node peer && not (same_reference e.0 c.args.gone.now) in
     let is : c.any_under_another.result ≡ list_any test (slice_range es at (length es)) = c.any_under_another.ensures in
-    is ∙ any_but c.watches.result.now.monitors (seen c.args.node.now).watches es c.watches.ensures c.entries-entries.ensures (Some c.args.gone.now)
-    (λ r w. same_name w.target.node peer) test at c.place_of-at.ensures.within c.place_of-at.ensures.before c.requires c.args.gone.now (λ e. refl)
+    is ∙ any_but c.watches.result.now.monitors (seen c.args.node.now).watches es c.watches.ensures c.entries-entries.ensures
+    (Some c.args.gone.now)
+    (λ r w. same_name w.target.node peer) test at c.place_of-at.ensures.within c.place_of-at.ensures.before c.requires c.args.gone.now
+    (λ e. refl)

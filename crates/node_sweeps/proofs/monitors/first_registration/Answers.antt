@@ -1,21 +1,29 @@
 use Rattle.std.proofs.Common.{None, Some, ap, ◌∙◌}
 use Rattle.std.specs.Option.{option_copied}
+use Rattle.node_tables.proofs.Truths.{read_at}
 use Rattle.dist_model.specs.Names.{same_name}
 use Rattle.node_plans.specs.Seen.{seen}
-use Rattle.node_sweeps.proofs.Passed.{first_by, read_at, sorted_of}
+use Rattle.node_sweeps.proofs.Passed.{first_by, sorted_of}
 use Rattle.node_sweeps.proofs.monitors.first_registration.Goals as goal
 
 pub place_of-requires : goal.place_of-requires
-place_of-requires c = sorted_of c.watchers-watchers.result.now.monitors (seen c.args.node.now).registered c.entries-entries.result.now c.watchers-watchers.ensures c.entries-entries.ensures
+place_of-requires c =
+    sorted_of c.watchers-watchers.result.now.monitors
+    (seen c.args.node.now).registered c.entries-entries.result.now c.watchers-watchers.ensures c.entries-entries.ensures
 
 pub returns-in_err-at : goal.returns-in_err-at
 returns-in_err-at c =
     ap option_copied c.from_residual.ensures
-    ∙ first_by c.watchers-watchers.result.now.monitors (seen c.args.node.now).registered c.entries-entries.result.now c.watchers-watchers.ensures c.entries-entries.ensures
-    (option_copied c.args.from) (λ r w. same_name w.owner.node c.args.peer.now) c.place_of.result c.place_of.ensures.within c.place_of.ensures.before c.requires None c.in_err-at.ensures.found
+    ∙ first_by c.watchers-watchers.result.now.monitors
+    (seen c.args.node.now).registered c.entries-entries.result.now c.watchers-watchers.ensures c.entries-entries.ensures
+    (option_copied c.args.from) (λ r w. same_name w.owner.node c.args.peer.now) c.place_of.result c.place_of.ensures.within
+    c.place_of.ensures.before c.requires None c.in_err-at.ensures.found
 
 pub returns : goal.returns
 returns c =
     read_at c.entries-entries.result.now c.in_ok-at.at c.get.result c.get.ensures.lookup
-    ∙ first_by c.watchers-watchers.result.now.monitors (seen c.args.node.now).registered c.entries-entries.result.now c.watchers-watchers.ensures c.entries-entries.ensures
-    (option_copied c.args.from) (λ r w. same_name w.owner.node c.args.peer.now) c.place_of.result c.place_of.ensures.within c.place_of.ensures.before c.requires (Some c.in_ok-at.at) c.in_ok-at.ensures.found
+    ∙ first_by c.watchers-watchers.result.now.monitors
+    (seen c.args.node.now).registered c.entries-entries.result.now c.watchers-watchers.ensures c.entries-entries.ensures
+    (option_copied c.args.from)
+    (λ r w. same_name w.owner.node c.args.peer.now) c.place_of.result c.place_of.ensures.within c.place_of.ensures.before c.requires
+    (Some c.in_ok-at.at) c.in_ok-at.ensures.found

@@ -8,5 +8,7 @@ returns-clause-before c =
     let bound = c.args.bound.now in
     let es = c.args.entries.now in
     let at = c.partition_point.result in
-    let point = IsPartitionPoint-from_clause (is_lesser bound) es at c.partition_point.ensures.partitioned (lesser_first bound es c.requires) (λ a r q k. search rules) in
+    let point =
+    IsPartitionPoint-from_clause (is_lesser bound) es at c.partition_point.ensures.partitioned
+    (lesser_first bound es c.requires) (λ a r q k. search rules) in
     are_before bound es at point.0

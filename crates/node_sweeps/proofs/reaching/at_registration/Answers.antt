@@ -1,5 +1,5 @@
 use Rattle.std.proofs.Common.{◌≡◌, Some, rules, sym, subst, ◌∙◌}
-use Rattle.dist_model.proofs.Routes.{some_same}
+use Rattle.std.proofs.lemmas.Option.{same_Some}
 use Rattle.dist_model.specs.Names.{Name}
 use Rattle.erl_term.specs.declared.term.Reference.{Reference}
 use Rattle.node_plans.specs.Seen.{seen}
@@ -15,5 +15,5 @@ returns c =
     let clone : c.in_ok-clone.field-0 ≡ c.args.peer.now = search rules in
     let same : c.in_ok-copied.field-0 ≡ registration = search rules in
     let P : Name → Reference → Type 0 = λ y r. IsBehindAll y c.pids.result bound (Some r) m in
-    λ peer is. subst (λ y. P y c.in_ok-copied.field-0) (sym clone ∙ some_same _ peer is) (subst (P c.args.peer.now) (sym same)
+    λ peer is. subst (λ y. P y c.in_ok-copied.field-0) (sym clone ∙ same_Some _ peer is) (subst (P c.args.peer.now) (sym same)
     (registration_stands c.args.peer.now m c.pids.result bound registration c.requires.links c.requires.watches c.requires.first))

@@ -1,10 +1,10 @@
 use Rattle.std.proofs.Common.{◌≡◌, subst, rules}
-use Rattle.dist_model.specs.Links.{noconnection}
 use Rattle.dist_model.specs.Monitoring.{unwatch}
 use Rattle.dist_model.specs.Work.{put}
 use Rattle.erl_term.specs.Data.{Data}
 use Rattle.erl_term.specs.declared.term.Reference.{Reference}
 use Rattle.exit_core.specs.Messages.{down_term}
+use Rattle.link_core.specs.News.{noconnection}
 use Rattle.node_plans.specs.Carried.{Carries, CarriesOut}
 use Rattle.node_sweeps.proofs.taking.take_watch.Goals as goal
 

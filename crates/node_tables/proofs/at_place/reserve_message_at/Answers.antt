@@ -1,44 +1,31 @@
-use Rattle.std.proofs.Common.{◌≡◌, suc, Some, OnOk, sym, ap, subst, ◌∙◌, rules, Option}
+use Rattle.std.proofs.Common.{◌≡◌, Some, OnOk, sym, ap, subst, ◌∙◌, rules, Option}
 use Rattle.std.proofs.lemmas.Option.{slice_get_read}
 use Rattle.std.specs.List.{slice_get}
 use Rattle.dist_model.specs.Node.{is_living_life}
 use Rattle.node_tables.specs.Room.{LinkFits, MessageFits}
 use Rattle.node_tables.specs.declared.life.Life.{Life}
-use Rattle.node_tables.proofs.Edited.{set_puts, set_same}
-use Rattle.node_tables.proofs.Changed.{ends_stay, life_was, lives_put_again, placed}
+use Rattle.node_tables.proofs.Edited.{set_same}
+use Rattle.node_tables.proofs.Changed.{life_at, same_ends_at, same_lives_at}
 use Rattle.node_tables.proofs.at_place.reserve_message_at.Goals as goal
 
 pub returns-clause-lives : goal.returns-clause-lives
 returns-clause-lives c =
-    let m = c.args.mint.now in
-    let es = c.args.held.now.items in
-    let i = c.args.place in
-    let old = c.index_mut.result.now in
-    let new = c.reserve_message.new.self in
-    let at : slice_get es i ≡ Some old = search (rules, slice_get_read) in
-    lives_put_again m es _ (suc i) old new (set_puts m es i new c.requires) (placed m es i old at) c.reserve_message.ensures.life
+    same_lives_at c.args.mint.now c.args.held.now.items c.args.place c.index_mut.result.now c.reserve_message.new.self c.requires
+    (search (rules, slice_get_read)) c.reserve_message.ensures.life
 
 pub returns-clause-ends : goal.returns-clause-ends
 returns-clause-ends c =
-    let m = c.args.mint.now in
-    let es = c.args.held.now.items in
-    let i = c.args.place in
-    let old = c.index_mut.result.now in
-    let new = c.reserve_message.new.self in
-    let at : slice_get es i ≡ Some old = search (rules, slice_get_read) in
-    ends_stay m es _ (suc i) old new (set_puts m es i new c.requires) (placed m es i old at) c.reserve_message.ensures.links
+    same_ends_at c.args.mint.now c.args.held.now.items c.args.place c.index_mut.result.now c.reserve_message.new.self c.requires
+    (search (rules, slice_get_read)) c.reserve_message.ensures.links
 
 pub returns-clause-fits : goal.returns-clause-fits
 returns-clause-fits c living =
-    let m = c.args.mint.now in
     let es = c.args.held.now.items in
     let i = c.args.place in
-    let old = c.index_mut.result.now in
-    let new = c.reserve_message.new.self in
-    let at : slice_get es i ≡ Some old = search (rules, slice_get_read) in
-    let was = life_was m es _ (suc i) old new (set_puts m es i new c.requires) (placed m es i old at) in
+    let was = life_at c.args.mint.now es i c.index_mut.result.now (search (rules, slice_get_read)) in
     let P : Option Life → Type 0 = λ o. OnOk c.reserve_message.result (MessageFits o) in
-    subst P (sym (set_same es i new c.requires)) (c.reserve_message.ensures.fits (ap is_living_life (sym was) ∙ living))
+    subst P (sym (set_same es i c.reserve_message.new.self c.requires))
+    (c.reserve_message.ensures.fits (ap is_living_life (sym was) ∙ living))
 
 pub returns-clause-succeeds : goal.returns-clause-succeeds
 returns-clause-succeeds c fits =

@@ -1,27 +1,15 @@
-use Rattle.std.proofs.Common.{◌≡◌, suc, Some, rules}
+use Rattle.std.proofs.Common.{rules}
 use Rattle.std.proofs.lemmas.Option.{slice_get_read}
-use Rattle.std.specs.List.{slice_get}
 use Rattle.dist_model.specs.Calls.{trapping}
-use Rattle.node_tables.proofs.Edited.{set_puts}
-use Rattle.node_tables.proofs.Changed.{ends_stay, lives_changed, placed}
+use Rattle.node_tables.proofs.Changed.{lives_at, same_ends_at}
 use Rattle.node_tables.proofs.at_place.trap_at.Goals as goal
 
 pub returns-clause-lives : goal.returns-clause-lives
 returns-clause-lives c =
-    let m = c.args.mint.now in
-    let es = c.args.held.now.items in
-    let i = c.args.place in
-    let old = c.index_mut.result.now in
-    let new = c.trap.new.self in
-    let at : slice_get es i ≡ Some old = search (rules, slice_get_read) in
-    lives_changed m es _ (suc i) old new (set_puts m es i new c.requires) (placed m es i old at) (λ life. trapping life c.args.on) c.trap.ensures.life
+    lives_at c.args.mint.now c.args.held.now.items c.args.place c.index_mut.result.now c.trap.new.self c.requires
+    (search (rules, slice_get_read)) (λ life. trapping life c.args.on) c.trap.ensures.life
 
 pub returns-clause-ends : goal.returns-clause-ends
 returns-clause-ends c =
-    let m = c.args.mint.now in
-    let es = c.args.held.now.items in
-    let i = c.args.place in
-    let old = c.index_mut.result.now in
-    let new = c.trap.new.self in
-    let at : slice_get es i ≡ Some old = search (rules, slice_get_read) in
-    ends_stay m es _ (suc i) old new (set_puts m es i new c.requires) (placed m es i old at) c.trap.ensures.links
+    same_ends_at c.args.mint.now c.args.held.now.items c.args.place c.index_mut.result.now c.trap.new.self c.requires
+    (search (rules, slice_get_read)) c.trap.ensures.links

@@ -7,6 +7,11 @@ returns c =
     record {
       safe = λ trace seed input.
           let led = script_led c.events_lead_to_every_line.ensures.fresh c.events_lead_to_every_line.ensures.line trace seed input in
-          let r = led.reached in
-          (r.nodes, r.events, r.reports, r.runs, c.every_run_is_safe.ensures.safe r.nodes r.events r.reports (script trace seed input).state.stage.world r.runs);
+          let r = led.reached in (
+            r.nodes,
+            r.events,
+            r.reports,
+            r.runs,
+            c.every_run_is_safe.ensures.safe r.nodes r.events r.reports (script trace seed input).state.stage.world r.runs,
+          );
     }

@@ -15,7 +15,8 @@ returns-in-Ok-write_whole-clause-draws g c =
 pub returns-in-Ok-write_whole-clause-ends : goal.returns-in-Ok-write_whole-clause-ends
 returns-in-Ok-write_whole-clause-ends g c =
     let at = fresh_state c.args.options.now.trace c.args.options.now.seed in
-    ends_all (g.R.Read.remaining c.args.reader.now) (script c.args.options.now.trace c.args.options.now.seed) None None c.read_all-outcome.result
+    ends_all (g.R.Read.remaining c.args.reader.now)
+    (script c.args.options.now.trace c.args.options.now.seed) None None c.read_all-outcome.result
     (let opened = c.new-script.ensures.at at c.new-session.ensures in
     c.read_all-outcome.ensures at (record {
       session = c.draw_picture.ensures at opened.session;

@@ -5,4 +5,5 @@ use Rattle.script_session.specs.Shown.{shown_node}
 use Rattle.script_session.proofs.showing.put_all.Given as goal
 
 abbrev pub invariant-loop-node : goal.invariant-loop-node
-invariant-loop-node l = string_bytes l.out ≡ string_bytes l.fn.out ++ flat_map (λ node. shown_node (model_of node)) (take l.node-index l.nodes)
+invariant-loop-node l =
+    string_bytes l.out ≡ string_bytes l.fn.out ++ flat_map (λ node. shown_node (model_of node)) (take l.node-index l.nodes)

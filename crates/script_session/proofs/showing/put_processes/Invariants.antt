@@ -5,4 +5,5 @@ use Rattle.script_session.specs.Shown.{pids_of, process_text}
 use Rattle.script_session.proofs.showing.put_processes.Given as goal
 
 abbrev pub invariant-loop-before : goal.invariant-loop-before
-invariant-loop-before l = string_bytes l.out ≡ string_bytes l.fn.out ++ flat_map (process_text (model_of l.node)) (pids_of (model_of l.node).mint l.before)
+invariant-loop-before l =
+    string_bytes l.out ≡ string_bytes l.fn.out ++ flat_map (process_text (model_of l.node)) (pids_of (model_of l.node).mint l.before)

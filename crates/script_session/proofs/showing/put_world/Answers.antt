@@ -8,4 +8,5 @@ use Rattle.script_session.proofs.showing.put_world.Goals as goal
 pub returns : goal.returns
 returns c = λ m h.
     subst (λ (text : List ℕ). OnOk c.put_all.result (string_bytes c.put_all.new.out ≡ string_bytes c.args.out.now ++ text))
-    (ap (flat_map (λ node. shown_node (model_of node))) c.nodes.ensures ∙ nodes_shown c.args.world.now.nodes.items ∙ ap (flat_map shown_node) (sym h.nodes)) c.put_all.ensures
+    (ap (flat_map (λ node. shown_node (model_of node))) c.nodes.ensures ∙ nodes_shown c.args.world.now.nodes.items
+    ∙ ap (flat_map shown_node) (sym h.nodes)) c.put_all.ensures

@@ -11,7 +11,8 @@ returns-in-Ok-clause-plan c = λ names first h.
     let t = c.args.trunk.now in
     let e = c.plan_arrival.ensures in
     subst (IsPlannedOr m (at_node names m (Arrive t first c.args.word))) c.in-Ok.is
-    (comes_planned names m t c.next_bytes-bytes.result.now c.args.word c.plan_arrival.result c.one_answer.ensures c.read_again.ensures c.are_bytes.ensures e.down e.undialed e.came
+    (comes_planned names m t c.next_bytes-bytes.result.now c.args.word c.plan_arrival.result c.one_answer.ensures
+    c.read_again.ensures c.are_bytes.ensures e.down e.undialed e.came
     (at c.args.lists.now t m.mint.name) first c.next_bytes-bytes.ensures h)
 
 pub returns-in-Err-clause-plan : goal.returns-in-Err-clause-plan
@@ -20,5 +21,6 @@ returns-in-Err-clause-plan c = λ names first h.
     let t = c.args.trunk.now in
     let e = c.plan_arrival.ensures in
     subst (IsPlannedOr m (at_node names m (Arrive t first c.args.word))) c.in-Err.is
-    (comes_planned names m t c.next_bytes-bytes.result.now c.args.word c.plan_arrival.result c.one_answer.ensures c.read_again.ensures c.are_bytes.ensures e.down e.undialed e.came
+    (comes_planned names m t c.next_bytes-bytes.result.now c.args.word c.plan_arrival.result c.one_answer.ensures
+    c.read_again.ensures c.are_bytes.ensures e.down e.undialed e.came
     (at c.args.lists.now t m.mint.name) first c.next_bytes-bytes.ensures h)

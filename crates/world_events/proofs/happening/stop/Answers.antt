@@ -3,4 +3,6 @@ use Rattle.world_events.proofs.Planning.{silent, stop_is_silent}
 use Rattle.world_events.proofs.happening.stop.Goals as goal
 
 pub returns : goal.returns
-returns c = λ names. silent _ (model_of c.args.node.now) (model_of c.stop.new.self) c.args.lists.now c.stop.result (stop_is_silent (model_of c.args.node.now)) (c.stop.ensures names)
+returns c =
+    λ names. silent _ (model_of c.args.node.now) (model_of c.stop.new.self) c.args.lists.now c.stop.result
+    (stop_is_silent (model_of c.args.node.now)) (c.stop.ensures names)

@@ -1,16 +1,22 @@
 use Rattle.std.proofs.Common.{ap, inl, inr, refl}
-use Rattle.node_book.proofs.Booking.{feeds_at, moved_kept}
+use Rattle.node_book.proofs.BookedCalls.{feeds_at, moved_kept}
 use Rattle.node_book.proofs.Putting.{nowhere, ok_is, on_err, puts_at, still_at}
 use Rattle.node_book.specs.Seen.{BookSeen}
 use Rattle.node_book.proofs.book.Book.flush.Goals as goal
 
 pub invariant_of-self : goal.invariant_of-self
-invariant_of-self g c = let b = c.self.inside in moved_kept b.names.items b.place b.cookie b.history b.outlets.items c.args.trunk.now c.in-Some.at c.index_mut.result.now c.flush.new.self c.entries.result.now
-    c.deref.result.now c.deref.ensures.value c.in-Some.ensures c.index_mut.ensures.value c.entries.ensures c.self.invariant c.books_grow.ensures.rest c.flush.ensures.feeds
+invariant_of-self g c =
+    let b = c.self.inside in moved_kept b.names.items b.place b.cookie b.history b.outlets.items c.args.trunk.now c.in-Some.at
+    c.index_mut.result.now c.flush.new.self c.entries.result.now
+    c.deref.result.now c.deref.ensures.value c.in-Some.ensures c.index_mut.ensures.value c.entries.ensures c.self.invariant
+    c.books_grow.ensures.rest c.flush.ensures.feeds
 
 pub invariant_of-self-in-Some : goal.invariant_of-self-in-Some
-invariant_of-self-in-Some g c = let b = c.self.inside in moved_kept b.names.items b.place b.cookie b.history b.outlets.items c.args.trunk.now c.in-Some.at c.index_mut.result.now c.flush.new.self c.entries.result.now
-    c.deref.result.now c.deref.ensures.value c.in-Some.ensures c.index_mut.ensures.value c.entries.ensures c.self.invariant c.books_grow.ensures.rest c.flush.ensures.feeds
+invariant_of-self-in-Some g c =
+    let b = c.self.inside in moved_kept b.names.items b.place b.cookie b.history b.outlets.items c.args.trunk.now c.in-Some.at
+    c.index_mut.result.now c.flush.new.self c.entries.result.now
+    c.deref.result.now c.deref.ensures.value c.in-Some.ensures c.index_mut.ensures.value c.entries.ensures c.self.invariant
+    c.books_grow.ensures.rest c.flush.ensures.feeds
 
 pub flush-requires : goal.flush-requires
 flush-requires g c =
@@ -21,20 +27,26 @@ flush-requires g c =
 
 pub returns-in_ok-flush-in-Some-clause-puts : goal.returns-in_ok-flush-in-Some-clause-puts
 returns-in_ok-flush-in-Some-clause-puts g c = let b = c.self.inside in
-    inr (puts_at c.args.trunk.now c.args.self.now b.history b.outlets.items c.deref.result.now c.entries.result.now c.in-Some.at c.index_mut.result.now c.flush.new.self
-    (ap (λ (s : BookSeen). s.history) c.self.view_is) (ap (λ (s : BookSeen). s.outlets) c.self.view_is) c.deref.ensures.value c.in-Some.ensures c.index_mut.ensures.value c.entries.ensures
+    inr (puts_at c.args.trunk.now c.args.self.now b.history b.outlets.items c.deref.result.now c.entries.result.now
+    c.in-Some.at c.index_mut.result.now c.flush.new.self
+    (ap (λ (s : BookSeen). s.history) c.self.view_is) (ap (λ (s : BookSeen). s.outlets) c.self.view_is) c.deref.ensures.value
+    c.in-Some.ensures c.index_mut.ensures.value c.entries.ensures
     c.in_ok-flush-in-Some.field-0 c.in_ok-flush-in-Some.ensures.puts)
 
 pub returns-in_ok-flush-in-Some-clause-still : goal.returns-in_ok-flush-in-Some-clause-still
 returns-in_ok-flush-in-Some-clause-still g c = λ is. let b = c.self.inside in
-    inr (still_at c.args.trunk.now c.args.self.now b.history b.outlets.items c.deref.result.now c.entries.result.now c.in-Some.at c.index_mut.result.now c.flush.new.self
-    (ap (λ (s : BookSeen). s.history) c.self.view_is) (ap (λ (s : BookSeen). s.outlets) c.self.view_is) c.deref.ensures.value c.in-Some.ensures c.index_mut.ensures.value c.entries.ensures
+    inr (still_at c.args.trunk.now c.args.self.now b.history b.outlets.items c.deref.result.now c.entries.result.now
+    c.in-Some.at c.index_mut.result.now c.flush.new.self
+    (ap (λ (s : BookSeen). s.history) c.self.view_is) (ap (λ (s : BookSeen). s.outlets) c.self.view_is) c.deref.ensures.value
+    c.in-Some.ensures c.index_mut.ensures.value c.entries.ensures
     (c.in_ok-flush-in-Some.ensures.still (ok_is c.in_ok-flush-in-Some.field-0 0 is)))
 
 pub returns-in_err-flush-in-Some-clause-err : goal.returns-in_err-flush-in-Some-clause-err
 returns-in_err-flush-in-Some-clause-err g c = let b = c.self.inside in
-    on_err c.from_residual.result (puts_at c.args.trunk.now c.args.self.now b.history b.outlets.items c.deref.result.now c.entries.result.now c.in-Some.at c.index_mut.result.now c.flush.new.self
-    (ap (λ (s : BookSeen). s.history) c.self.view_is) (ap (λ (s : BookSeen). s.outlets) c.self.view_is) c.deref.ensures.value c.in-Some.ensures c.index_mut.ensures.value c.entries.ensures
+    on_err c.from_residual.result (puts_at c.args.trunk.now c.args.self.now b.history b.outlets.items c.deref.result.now
+    c.entries.result.now c.in-Some.at c.index_mut.result.now c.flush.new.self
+    (ap (λ (s : BookSeen). s.history) c.self.view_is) (ap (λ (s : BookSeen). s.outlets) c.self.view_is) c.deref.ensures.value
+    c.in-Some.ensures c.index_mut.ensures.value c.entries.ensures
     0 c.in_err-flush-in-Some.ensures.err)
 
 pub returns-in-None-clause-puts : goal.returns-in-None-clause-puts

@@ -1,6 +1,6 @@
 use Rattle.std.proofs.Common.{ap, sym, subst, ◌∙◌}
 use Rattle.dist_model.specs.Runs.{new_node}
-use Rattle.node_book.proofs.Booking.{copied_name, new_kept}
+use Rattle.node_book.proofs.BookedCalls.{copied_name, new_kept}
 use Rattle.node_book.specs.Standing.{IsBook}
 use Rattle.node_core.specs.Model.{model_of}
 use Rattle.node_book.proofs.book.Book.new.Goals as goal

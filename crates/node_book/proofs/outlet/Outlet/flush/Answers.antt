@@ -5,13 +5,16 @@ use Rattle.node_book.specs.Passing.{Puts}
 use Rattle.node_book.proofs.outlet.Outlet.flush.Goals as goal
 
 pub returns-in-Ok-false-clause-feeds : goal.returns-in-Ok-false-clause-feeds
-returns-in-Ok-false-clause-feeds g c = both_keep c.args.entries.now c.args.self.now c.loop-count.self c.put_one.new.self c.loop-count.invariant.1 c.put_one.ensures.feeds
+returns-in-Ok-false-clause-feeds g c =
+    both_keep c.args.entries.now c.args.self.now c.loop-count.self c.put_one.new.self c.loop-count.invariant.1 c.put_one.ensures.feeds
 
 pub returns-then-count-eq0-clause-feeds : goal.returns-then-count-eq0-clause-feeds
-returns-then-count-eq0-clause-feeds g c = both_keep c.args.entries.now c.args.self.now c.loop-count.self c.put_one.new.self c.loop-count.invariant.1 c.put_one.ensures.feeds
+returns-then-count-eq0-clause-feeds g c =
+    both_keep c.args.entries.now c.args.self.now c.loop-count.self c.put_one.new.self c.loop-count.invariant.1 c.put_one.ensures.feeds
 
 pub returns-in-Err-clause-feeds : goal.returns-in-Err-clause-feeds
-returns-in-Err-clause-feeds g c = both_keep c.args.entries.now c.args.self.now c.loop-count.self c.put_one.new.self c.loop-count.invariant.1 c.put_one.ensures.feeds
+returns-in-Err-clause-feeds g c =
+    both_keep c.args.entries.now c.args.self.now c.loop-count.self c.put_one.new.self c.loop-count.invariant.1 c.put_one.ensures.feeds
 
 pub loop-count-preserved : goal.loop-count-preserved
 loop-count-preserved g c = (
@@ -27,4 +30,5 @@ loop-count-init g c = (c.requires, nothing_keeps c.args.entries.now c.args.self.
 pub returns-in-Err-clause-puts : goal.returns-in-Err-clause-puts
 returns-in-Err-clause-puts g c =
     subst (Puts c.args.entries.now c.args.self.now c.put_one.new.self) (add-zero c.loop-count.count)
-    (puts_both c.args.entries.now c.args.self.now c.loop-count.self c.put_one.new.self c.loop-count.count 0 c.loop-count.invariant.2 c.in-Err.ensures.err)
+    (puts_both c.args.entries.now c.args.self.now c.loop-count.self c.put_one.new.self c.loop-count.count 0
+    c.loop-count.invariant.2 c.in-Err.ensures.err)

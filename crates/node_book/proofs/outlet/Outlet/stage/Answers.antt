@@ -22,12 +22,17 @@ returns-in_err-send-in-Some-clause-puts c = puts_same c.args.entries.now c.args.
 pub returns-in_ok-send-in-Some : goal.returns-in_ok-send-in-Some
 returns-in_ok-send-in-Some c = record {
   feeds = staged_at c.args.entries.now c.args.self.now c.trunk.result.now c.peer.result.now c.trunk.ensures c.peer.ensures
-      c.send.new.self c.in_ok-parcel-in-Some.parcel c.in-Some.next.stamp c.in-Some.next.frame.now c.in-Some.next.entry c.in-Some.next.effects
-      c.in-Some.ensures.some c.in_ok-parcel-in-Some.ensures.stamp c.in_ok-parcel-in-Some.ensures.bytes c.in-Some.ensures.within c.in_ok-send-in-Some.ensures.ok;
-  puts = puts_staged_at c.args.entries.now c.args.self.now c.trunk.result.now c.peer.result.now c.trunk.ensures c.peer.ensures c.is_idle.ensures.begun
-      c.send.new.self c.in_ok-parcel-in-Some.parcel c.in-Some.next.stamp c.in-Some.next.frame.now c.in-Some.next.entry c.in-Some.next.effects
+      c.send.new.self c.in_ok-parcel-in-Some.parcel c.in-Some.next.stamp c.in-Some.next.frame.now c.in-Some.next.entry
+      c.in-Some.next.effects
+      c.in-Some.ensures.some c.in_ok-parcel-in-Some.ensures.stamp c.in_ok-parcel-in-Some.ensures.bytes
+      c.in-Some.ensures.within c.in_ok-send-in-Some.ensures.ok;
+  puts = puts_staged_at c.args.entries.now c.args.self.now c.trunk.result.now c.peer.result.now c.trunk.ensures c.peer.ensures
+      c.is_idle.ensures.begun
+      c.send.new.self c.in_ok-parcel-in-Some.parcel c.in-Some.next.stamp c.in-Some.next.frame.now c.in-Some.next.entry
+      c.in-Some.next.effects
       c.in-Some.ensures.some c.in_ok-parcel-in-Some.ensures.stamp c.in_ok-parcel-in-Some.ensures.bytes c.in_ok-send-in-Some.ensures.ok;
-  ready = λ empty. absurd (staged_waits c.args.self.now c.send.new.self c.in_ok-parcel-in-Some.parcel c.in_ok-send-in-Some.ensures.ok empty);
+  ready =
+      λ empty. absurd (staged_waits c.args.self.now c.send.new.self c.in_ok-parcel-in-Some.parcel c.in_ok-send-in-Some.ensures.ok empty);
 }
 
 pub returns-then-not-is_idle : goal.returns-then-not-is_idle
@@ -39,4 +44,5 @@ returns-then-not-is_idle c = record {
 
 pub returns-in-None-clause-puts : goal.returns-in-None-clause-puts
 returns-in-None-clause-puts c =
-    puts_past_at c.args.entries.now c.args.self.now c.trunk.result.now c.peer.result.now c.trunk.ensures c.peer.ensures c.in-None.ensures.none
+    puts_past_at c.args.entries.now c.args.self.now c.trunk.result.now c.peer.result.now c.trunk.ensures c.peer.ensures
+    c.in-None.ensures.none

@@ -15,7 +15,8 @@ returns-in-Ok-clause-came c = λ up dialed.
       is = h.is;
       does = (
         done m (model_of c.commit.new.self) (arrives m c.args.trunk.now h.front c.args.word) plan c.commit.result h.plans.0
-            (c.commit.ensures.node ∙ ap (committed plan) c.in-Ok.ensures.same) (c.commit.ensures.answer ∙ ap (told plan) c.in-Ok.ensures.same) c.commit.ensures.effects,
+            (c.commit.ensures.node ∙ ap (committed plan) c.in-Ok.ensures.same)
+            (c.commit.ensures.answer ∙ ap (told plan) c.in-Ok.ensures.same) c.commit.ensures.effects,
         h.plans.1,
       );
     }

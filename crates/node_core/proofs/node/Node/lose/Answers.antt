@@ -9,8 +9,10 @@ pub returns-in-Ok : goal.returns-in-Ok
 returns-in-Ok c = λ names.
     let m = model_of c.args.self.now in
     let plan = c.in-Ok.planned.plan in
-    done m (model_of c.commit.new.self) (event.at_node names m (event.Lose c.args.trunk.now)) plan c.commit.result (c.in-Ok.ensures.plan names)
-    (c.commit.ensures.node ∙ ap (committed plan) c.in-Ok.ensures.same) (c.commit.ensures.answer ∙ ap (told plan) c.in-Ok.ensures.same) c.commit.ensures.effects
+    done m (model_of c.commit.new.self) (event.at_node names m (event.Lose c.args.trunk.now)) plan c.commit.result
+    (c.in-Ok.ensures.plan names)
+    (c.commit.ensures.node ∙ ap (committed plan) c.in-Ok.ensures.same)
+    (c.commit.ensures.answer ∙ ap (told plan) c.in-Ok.ensures.same) c.commit.ensures.effects
 
 pub returns-in-Err : goal.returns-in-Err
 returns-in-Err c = λ names. (c.in-Err.ensures.plan names, c.in-Err.ensures.same)

@@ -21,7 +21,8 @@ invariant_of-result c =
     let own : Identity = record { name = c.in_ok-clone.field-0; creation = c.first.result; flags = c.mandatory.result; cookie = cookie } in
     let mint = c.new.ensures.mint ∙ ap (nothing_drawn name) c.first-2.ensures in
     let local = ap (map Signalled) c.new-5.ensures.items in
-    let is : seen_of c.new.result own 0 c.new-2.result c.new-3.result c.new-4.result c.new-5.result.items ≡ new_node name cookie = (λ i. record {
+    let is : seen_of c.new.result own 0 c.new-2.result c.new-3.result c.new-4.result c.new-5.result.items ≡ new_node name cookie =
+    (λ i. record {
       mint = mint i;
       cookie = cookie;
       up = c.new.ensures.up i;
@@ -35,8 +36,13 @@ invariant_of-result c =
     }) in
     let same : c.in_ok-clone.field-0 ≡ name = search rules in
     record {
-      introduces = record { name = same ∙ sym (ap (λ (m : Minted). m.name) mint); creation = c.first.ensures ∙ sym (ap (λ (m : Minted). m.creation) mint); flags = c.mandatory.ensures };
-      drawn = λ count l. ap (λ (watches : MonitorMap). fm.get watches (reference_of c.new.result.mint count)) c.new-2.ensures ∙ fm.get-empty reference_cmp (reference_of c.new.result.mint count);
+      introduces = record {
+        name = same ∙ sym (ap (λ (m : Minted). m.name) mint);
+        creation = c.first.ensures ∙ sym (ap (λ (m : Minted). m.creation) mint);
+        flags = c.mandatory.ensures;
+      };
+      drawn = λ count l. ap (λ (watches : MonitorMap). fm.get watches (reference_of c.new.result.mint count)) c.new-2.ensures
+          ∙ fm.get-empty reference_cmp (reference_of c.new.result.mint count);
       sendable = ap are_sendable c.new-5.ensures.items;
       steady = subst Steady (sym is) (steady_new name cookie);
       counted = subst CountsOwn (sym is) (counted_new name cookie);

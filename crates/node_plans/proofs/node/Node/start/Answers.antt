@@ -19,8 +19,14 @@ invariant_of-self-2 c =
     let old = c.args.self.now in
     let m = seen old in
     let mint = c.in_ok-start.ensures.mint in
-    let own : Identity = record { name = old.own.name; creation = c.creation-self.result; flags = old.own.flags; cookie = old.own.cookie } in
-    let is : seen_of c.start.new.self own old.dialed c.new.result c.new-2.result c.all_gone.new.self c.clear.new.self.items ≡ started m = (λ i. record {
+    let own : Identity = record {
+      name = old.own.name;
+      creation = c.creation-self.result;
+      flags = old.own.flags;
+      cookie = old.own.cookie;
+    } in
+    let is : seen_of c.start.new.self own old.dialed c.new.result c.new-2.result c.all_gone.new.self c.clear.new.self.items ≡ started m =
+    (λ i. record {
       mint = mint i;
       cookie = old.own.cookie;
       up = c.in_ok-start.ensures.up i;
@@ -33,8 +39,13 @@ invariant_of-self-2 c =
       local = ap (map Signalled) c.clear.ensures.items i;
     }) in
     record {
-      introduces = record { name = old.introduces.name ∙ sym (ap (λ (m : Minted). m.name) mint); creation = c.creation-self.ensures ∙ ap (λ (m : Minted). m.creation) c.mint.ensures; flags = old.introduces.flags };
-      drawn = λ count l. ap (λ (watches : MonitorMap). fm.get watches (reference_of c.start.new.self.mint count)) c.new.ensures ∙ fm.get-empty reference_cmp (reference_of c.start.new.self.mint count);
+      introduces = record {
+        name = old.introduces.name ∙ sym (ap (λ (m : Minted). m.name) mint);
+        creation = c.creation-self.ensures ∙ ap (λ (m : Minted). m.creation) c.mint.ensures;
+        flags = old.introduces.flags;
+      };
+      drawn = λ count l. ap (λ (watches : MonitorMap). fm.get watches (reference_of c.start.new.self.mint count)) c.new.ensures
+          ∙ fm.get-empty reference_cmp (reference_of c.start.new.self.mint count);
       sendable = ap are_sendable c.clear.ensures.items;
       steady = subst Steady (sym is) (steady_started m old.steady);
       counted = subst CountsOwn (sym is) (counted_started m old.counted);

@@ -17,7 +17,8 @@ invariant_of-self c =
     let old = c.args.self.now in
     let m = seen old in
     let mint = c.stop.ensures.mint in
-    let is : seen_of c.stop.new.self old.own old.dialed c.new.result c.new-2.result c.all_gone.new.self old.local.items ≡ stopped m = (λ i. record {
+    let is : seen_of c.stop.new.self old.own old.dialed c.new.result c.new-2.result c.all_gone.new.self old.local.items ≡ stopped m =
+    (λ i. record {
       mint = mint i;
       cookie = old.own.cookie;
       up = c.stop.ensures.up i;
@@ -30,8 +31,13 @@ invariant_of-self c =
       local = map Signalled old.local.items;
     }) in
     record {
-      introduces = record { name = old.introduces.name ∙ sym (ap (λ (m : Minted). m.name) mint); creation = old.introduces.creation ∙ sym (ap (λ (m : Minted). m.creation) mint); flags = old.introduces.flags };
-      drawn = λ count l. ap (λ (watches : MonitorMap). fm.get watches (reference_of c.stop.new.self.mint count)) c.new.ensures ∙ fm.get-empty reference_cmp (reference_of c.stop.new.self.mint count);
+      introduces = record {
+        name = old.introduces.name ∙ sym (ap (λ (m : Minted). m.name) mint);
+        creation = old.introduces.creation ∙ sym (ap (λ (m : Minted). m.creation) mint);
+        flags = old.introduces.flags;
+      };
+      drawn = λ count l. ap (λ (watches : MonitorMap). fm.get watches (reference_of c.stop.new.self.mint count)) c.new.ensures
+          ∙ fm.get-empty reference_cmp (reference_of c.stop.new.self.mint count);
       sendable = old.sendable;
       steady = subst Steady (sym is) (steady_stopped m old.steady);
       counted = subst CountsOwn (sym is) (counted_stopped m old.counted);

@@ -13,7 +13,8 @@ use Rattle.node_plans.proofs.node.Node.way.Goals as goal
 some_none : (o : Option TrunkSide) (s : TrunkSide) → o ≡ None → o ≡ Some s → ⊥
 some_none o s h k = cc
 
-peer_is : (found : Option (Bor Side)) (y : List ℕ) (s : TrunkSide) → option_map side_of (option_copied found) ≡ Some s → s.peer ≡ y → IfSome found (λ side. side.now.peer ≡ y)
+peer_is : (found : Option (Bor Side)) (y : List ℕ) (s : TrunkSide) → option_map side_of (option_copied found) ≡ Some s
+    → s.peer ≡ y → IfSome found (λ side. side.now.peer ≡ y)
 peer_is None y s h e = cc
 peer_is (Some side) y s h e = ap (λ o. peer_in o) h ∙ e
   where
@@ -27,7 +28,8 @@ returns-clause-none c h =
     let t = c.in_ok-trunk.trunk.now in
     let up : route n c.args.peer.now ≡ Some t = search rules in
     let f = route_from n c.args.peer.now t up in
-    absurd (some_none (fm.get (sides c.args.self.now.sides) t) f.found (sym c.get.ensures.side ∙ ap (λ o. option_map side_of (option_copied o)) h) f.there)
+    absurd (some_none (fm.get (sides c.args.self.now.sides) t) f.found
+    (sym c.get.ensures.side ∙ ap (λ o. option_map side_of (option_copied o)) h) f.there)
 
 pub returns-clause-peer : goal.returns-clause-peer
 returns-clause-peer c =

@@ -12,8 +12,10 @@ new-requires g c =
     let gathered_are = c.in_ok-extend_from_slice.ensures.items ∙ (λ i. c.reserve-2.ensures.items i ++ c.as_slice.ensures.bytes i) in
     let front = subst IsWhole c.as_slice-2.ensures.value (c.is_whole.ensures.0 c.if-is_whole.true) in
     subst SpellsItem (sym c.take_all-bytes.ensures.bytes)
-    (spells c.front_is_told.ensures.told laws.behind laws.whole p.into.pieces c.take.new.self.pieces p.taken.items c.reserve.new.self.items p.gathered.items c.extend_from_slice.new.self.items
-    c.in-Some.piece c.self.invariant.1 c.as_slice.ensures.length c.in-Some.ensures.taken c.in-Some.ensures.cut c.reserve.ensures.items gathered_are front)
+    (spells c.front_is_told.ensures.told laws.behind laws.whole p.into.pieces c.take.new.self.pieces p.taken.items
+    c.reserve.new.self.items p.gathered.items c.extend_from_slice.new.self.items
+    c.in-Some.piece c.self.invariant.1 c.as_slice.ensures.length c.in-Some.ensures.taken c.in-Some.ensures.cut
+    c.reserve.ensures.items gathered_are front)
 
 pub invariant_of-self-then-is_whole : goal.invariant_of-self-then-is_whole
 invariant_of-self-then-is_whole g c =
@@ -25,10 +27,13 @@ invariant_of-self-then-is_whole g c =
     let bytes = c.new.ensures ∙ c.take_all-bytes.ensures.bytes in
     let none = c.take_all-bytes.ensures.none in (
       c.self.invariant.0,
-      whole_taken c.front_is_told.ensures.told laws.behind laws.whole p.into.pieces c.take.new.self.pieces p.taken.items c.reserve.new.self.items p.gathered.items c.extend_from_slice.new.self.items
-          c.in-Some.piece c.self.invariant.1 c.as_slice.ensures.length c.in-Some.ensures.taken c.in-Some.ensures.cut c.reserve.ensures.items gathered_are front
+      whole_taken c.front_is_told.ensures.told laws.behind laws.whole p.into.pieces c.take.new.self.pieces p.taken.items
+          c.reserve.new.self.items p.gathered.items c.extend_from_slice.new.self.items
+          c.in-Some.piece c.self.invariant.1 c.as_slice.ensures.length c.in-Some.ensures.taken c.in-Some.ensures.cut
+          c.reserve.ensures.items gathered_are front
           _ c.stamp.ensures bytes c.push_reserved.new.self.items all c.take_all-bytes.new.gathered.items none,
-      subst (λ (l : List Parcel). p.handled ≤ length l) (sym all) (handled_more p.handled c.reserve.new.self.items _ (subst (λ (l : List Parcel). p.handled ≤ length l) (sym c.reserve.ensures.items) c.self.invariant.2)),
+      subst (λ (l : List Parcel). p.handled ≤ length l) (sym all) (handled_more p.handled c.reserve.new.self.items _
+          (subst (λ (l : List Parcel). p.handled ≤ length l) (sym c.reserve.ensures.items) c.self.invariant.2)),
       c.self.invariant.3,
     )
 
@@ -38,8 +43,10 @@ invariant_of-self-else-is_whole g c =
     let laws = c.pieces_are_gathered.ensures in
     let gathered_are = c.in_ok-extend_from_slice.ensures.items ∙ (λ i. c.reserve-2.ensures.items i ++ c.as_slice.ensures.bytes i) in (
       c.self.invariant.0,
-      part_taken c.front_is_told.ensures.told laws.behind laws.whole p.into.pieces c.take.new.self.pieces p.taken.items c.reserve.new.self.items p.gathered.items c.extend_from_slice.new.self.items
-          c.in-Some.piece c.self.invariant.1 c.as_slice.ensures.length c.in-Some.ensures.taken c.in-Some.ensures.cut c.reserve.ensures.items gathered_are,
+      part_taken c.front_is_told.ensures.told laws.behind laws.whole p.into.pieces c.take.new.self.pieces p.taken.items
+          c.reserve.new.self.items p.gathered.items c.extend_from_slice.new.self.items
+          c.in-Some.piece c.self.invariant.1 c.as_slice.ensures.length c.in-Some.ensures.taken c.in-Some.ensures.cut
+          c.reserve.ensures.items gathered_are,
       subst (λ (l : List Parcel). p.handled ≤ length l) (sym c.reserve.ensures.items) c.self.invariant.2,
       c.self.invariant.3,
     )

@@ -13,7 +13,8 @@ returns-clause-next c =
     let is_last = c.next_bytes-is_last.result.1 in
     let same = c.as_slice.ensures.bytes in
     subst (λ (port : PortSeen). IsNext port c.new.result is_last) c.self.view_is
-    (next_of c.front_is_told.ensures.told _ c.new.result first (behind_first p.outbox.items) c.in_ok-bytes.bytes.items is_last c.new.ensures c.self.invariant.0
+    (next_of c.front_is_told.ensures.told _ c.new.result first
+    (behind_first p.outbox.items) c.in_ok-bytes.bytes.items is_last c.new.ensures c.self.invariant.0
     (first_in p.outbox.items first e.item.3.0 e.lookup)
     (c.in_ok-bytes.ensures.items ∙ b.next ∙ ap (λ (l : List ℕ). take p.greatest (drop p.begun l)) same)
     (λ is. subst (λ (l : List ℕ). length l ≤ p.begun + p.greatest) same (b.last is))

@@ -1,5 +1,5 @@
 use Rattle.std.proofs.Common.{◌≡◌, false, None, Some, sym, ap, subst, ◌∙◌}
-use Rattle.dist_model.proofs.Routes.{some_same}
+use Rattle.std.proofs.lemmas.Option.{same_Some}
 use Rattle.dist_model.specs.Names.{Name}
 use Rattle.node_plans.specs.Adding.{adds_towards}
 use Rattle.node_sweeps.proofs.Heeded.{still_behind}
@@ -13,7 +13,7 @@ returns-in-Some c = λ t m h.
     let s = c.args.self.now in
     let none = sym (ap (λ n. adds_towards n c.args.plan.now) c.atom.ensures) ∙ sym c.adds_towards.ensures ∙ t in
     λ peer is.
-    let same = some_same c.in-Some.peer peer (sym c.in-Some.is ∙ is) in
+    let same = same_Some c.in-Some.peer peer (sym c.in-Some.is ∙ is) in
     let P : Name → Type 0 = (λ n. adds_towards n c.args.plan.now ≡ false) in
     still_behind peer s.id s.watch s.registration c.args.plan.now m (subst P same none) (h peer is)
 

@@ -1,6 +1,6 @@
-use Rattle.std.proofs.Common.{◌≡◌, ℕ, ◌+◌, suc, false, ◌<◌, IfNone, Option, None, Some, List, length, unwrap_or, sym, ap, subst, ◌∙◌, arith}
+use Rattle.std.proofs.Common.{◌≡◌, ℕ, ◌+◌, suc, false, ◌<◌, IfNone, Some, List, length, sym, ap, subst, ◌∙◌, arith}
 use Rattle.std.specs.FinMap as fm
-use Rattle.std.proofs.lemmas.Option.{slice_get-get_or}
+use Rattle.std.proofs.lemmas.Option.{none-some, same_Some, slice_get-get_or}
 use Rattle.std.specs.List.{slice_get}
 use Rattle.std.specs.Ordering.{is_lt}
 use Rattle.dist_model.specs.Names.{pair_cmp, same_name}
@@ -17,35 +17,34 @@ pub returns-in_err-place-clause-none : goal.returns-in_err-place-clause-none
 returns-in_err-place-clause-none c =
     let it = c.args.self.now in
     let P : List Life → Type 0 = (λ l. NoneLinked c.args.node.now l c.args.after (length l)) in
-    subst (λ r. IfNone r ((p q : Pid) (e : End) → fm.get (ends it) (p, q) ≡ Some e → c.args.after < p.id → same_name q.node c.args.node.now ≡ false)) (sym c.from_residual.ensures)
+    subst (λ r. IfNone r
+    ((p q : Pid) (e : End) → fm.get (ends it) (p, q) ≡ Some e → c.args.after < p.id → same_name q.node c.args.node.now ≡ false)) (sym
+    c.from_residual.ensures)
     (none_found it.mint it.held.items c.args.node.now c.args.after (subst P c.deref.ensures.value c.in_err-place.ensures.none))
 
 one_more : (n : ℕ) → suc n ≡ n + 1
 one_more n = omega arith
-
-none_is_some : {A B : Type 0} (x : A) → ◌≡◌ {A = Option A} None (Some x) → B
-none_is_some x h = cc
-
-same_life : (a b : Life) → ◌≡◌ {A = Option Life} (Some a) (Some b) → a ≡ b
-same_life a b h = ap (λ o. unwrap_or o a) h
 
 pub returns-in_err-partner-clause-none : goal.returns-in_err-partner-clause-none
 returns-in_err-partner-clause-none c =
     let it = c.args.self.now in
     let x = c.index.result.now in
     let place = c.in_ok-place.place in
-    let within : place < length it.held.items = subst (λ (l : List Life). place < length l) c.deref.ensures.value c.in_ok-place.ensures.within in
+    let within : place < length it.held.items =
+    subst (λ (l : List Life). place < length l) c.deref.ensures.value c.in_ok-place.ensures.within in
     let there : slice_get it.held.items place ≡ Some x = slice_get-get_or it.held.items place x within ∙ ap Some (sym c.index.ensures) in
-    let first : IsFirstLinked c.args.node.now it.held.items c.args.after place = subst (λ (l : List Life). IsFirstLinked c.args.node.now l c.args.after place) c.deref.ensures.value c.in_ok-place.ensures.at in
-    let same : first.life ≡ x = same_life first.life x (sym first.there ∙ there) in
-    none_is_some first.link (c.in_err-partner.ensures ∙ ap (link_at c.args.node.now) (sym same) ∙ first.linked)
+    let first : IsFirstLinked c.args.node.now it.held.items c.args.after place =
+    subst (λ (l : List Life). IsFirstLinked c.args.node.now l c.args.after place) c.deref.ensures.value c.in_ok-place.ensures.at in
+    let same : first.life ≡ x = same_Some first.life x (sym first.there ∙ there) in
+    absurd (none-some first.link (c.in_err-partner.ensures ∙ ap (link_at c.args.node.now) (sym same) ∙ first.linked))
 
 pub returns-clause-found : goal.returns-clause-found
 returns-clause-found c =
     let it = c.args.self.now in
     let x = c.index.result.now in
     let place = c.in_ok-place.place in
-    let within : place < length it.held.items = subst (λ (l : List Life). place < length l) c.deref.ensures.value c.in_ok-place.ensures.within in
+    let within : place < length it.held.items =
+    subst (λ (l : List Life). place < length l) c.deref.ensures.value c.in_ok-place.ensures.within in
     let there : slice_get it.held.items place ≡ Some x = slice_get-get_or it.held.items place x within ∙ ap Some (sym c.index.ensures) in
     let linked : link_at c.args.node.now x ≡ Some c.in_ok-partner.field-0.now = sym c.in_ok-partner.ensures in
     let one : suc place ≡ place + 1 = one_more place in
@@ -58,7 +57,8 @@ returns-clause-towards c =
     let it = c.args.self.now in
     let x = c.index.result.now in
     let place = c.in_ok-place.place in
-    let within : place < length it.held.items = subst (λ (l : List Life). place < length l) c.deref.ensures.value c.in_ok-place.ensures.within in
+    let within : place < length it.held.items =
+    subst (λ (l : List Life). place < length l) c.deref.ensures.value c.in_ok-place.ensures.within in
     let there : slice_get it.held.items place ≡ Some x = slice_get-get_or it.held.items place x within ∙ ap Some (sym c.index.ensures) in
     let linked : link_at c.args.node.now x ≡ Some c.in_ok-partner.field-0.now = sym c.in_ok-partner.ensures in
     towards it.mint it.held.items c.args.node.now place x c.in_ok-partner.field-0.now there linked
@@ -68,11 +68,13 @@ returns-clause-least c = λ p q e f l t.
     let it = c.args.self.now in
     let x = c.index.result.now in
     let place = c.in_ok-place.place in
-    let within : place < length it.held.items = subst (λ (l : List Life). place < length l) c.deref.ensures.value c.in_ok-place.ensures.within in
+    let within : place < length it.held.items =
+    subst (λ (l : List Life). place < length l) c.deref.ensures.value c.in_ok-place.ensures.within in
     let there : slice_get it.held.items place ≡ Some x = slice_get-get_or it.held.items place x within ∙ ap Some (sym c.index.ensures) in
     let linked : link_at c.args.node.now x ≡ Some c.in_ok-partner.field-0.now = sym c.in_ok-partner.ensures in
     let one : suc place ≡ place + 1 = one_more place in
     let next : suc place ≡ c.id_at.result = one ∙ sym c.id_at.ensures in
-    let first : IsFirstLinked c.args.node.now it.held.items c.args.after place = subst (λ (l : List Life). IsFirstLinked c.args.node.now l c.args.after place) c.deref.ensures.value c.in_ok-place.ensures.at in
+    let first : IsFirstLinked c.args.node.now it.held.items c.args.after place =
+    subst (λ (l : List Life). IsFirstLinked c.args.node.now l c.args.after place) c.deref.ensures.value c.in_ok-place.ensures.at in
     subst (λ n. is_lt (pair_cmp (p, q) (pid_of it.mint n, c.in_ok-partner.field-0.now.0)) ≡ false) next
     (least it.mint it.held.items c.args.node.now place x c.in_ok-partner.field-0.now there linked c.args.after first.before p q e f l t)

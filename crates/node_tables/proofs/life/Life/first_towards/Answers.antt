@@ -7,4 +7,6 @@ use Rattle.node_tables.specs.Lives.{links_of}
 use Rattle.node_tables.proofs.life.Life.first_towards.Goals as goal
 
 pub returns-in-Ended : goal.returns-in-Ended
-returns-in-Ended c = sym (ap (first_where (λ partner end. same_name partner.node c.args.node.now)) (ap (λ l. fm.entries (links_of l)) c.in-Ended.is ∙ no_links))
+returns-in-Ended c =
+    sym
+    (ap (first_where (λ partner end. same_name partner.node c.args.node.now)) (ap (λ l. fm.entries (links_of l)) c.in-Ended.is ∙ no_links))

@@ -5,4 +5,5 @@ use Rattle.script_core.proofs.lines.SessionLines.line.Goals as goal
 
 pub returns : goal.returns
 returns c = λ state h.
-    obeys_heeds (line_does state c.args.line.now) c.line.new.self (string_bytes c.args.out.now) (string_bytes c.line.new.out) c.line.result (c.line.ensures state h)
+    obeys_heeds (line_does state c.args.line.now) c.line.new.self (string_bytes c.args.out.now)
+    (string_bytes c.line.new.out) c.line.result (c.line.ensures state h)

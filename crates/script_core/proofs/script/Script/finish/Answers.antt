@@ -12,8 +12,10 @@ returns-in-Ok g c = λ p at.
     let n = some_pending _ (sym c.if-is_empty.false ∙ c.is_empty.ensures) in
     let len = ap length at.pending in
     let some : 0 < length p.pending = omega arith in
-    let t : Reaches p (10 ∷ []) (IsAt g.S.Lines.stands c.run_line.new.self) old new = subst (Took p (10 ∷ []) (IsAt g.S.Lines.stands c.run_line.new.self) old new) c.in-Ok.is (c.run_line.ensures.took p at) in
-    ran_to_end p (IsAt g.S.Lines.stands c.run_line.new.self) old new some at.one_line t (sym t.at.pending ∙ IfOk-at_ok _ c.in-Ok.is c.run_line.ensures.next)
+    let t : Reaches p (10 ∷ []) (IsAt g.S.Lines.stands c.run_line.new.self) old new =
+    subst (Took p (10 ∷ []) (IsAt g.S.Lines.stands c.run_line.new.self) old new) c.in-Ok.is (c.run_line.ensures.took p at) in
+    ran_to_end p (IsAt g.S.Lines.stands c.run_line.new.self) old new some at.one_line t
+    (sym t.at.pending ∙ IfOk-at_ok _ c.in-Ok.is c.run_line.ensures.next)
 
 pub returns-in-Err : goal.returns-in-Err
 returns-in-Err g c = λ p at.

@@ -13,7 +13,10 @@ use Rattle.script_core.proofs.script.Script.run_line.Goals as goal
 pub returns-in-Err-Bad-clause-took : goal.returns-in-Err-Bad-clause-took
 returns-in-Err-Bad-clause-took g c = λ p at rest.
     let held = g.W.Write.contents c.args.writer.now in
-    let does = heeds_bad g.S.Lines.stands (line_does p.state c.deref.result.now) c.line.new.self (string_bytes c.new-out.result) (string_bytes c.line.new.out) c.line.result c.in-Err-Bad.field-0 c.in-Err-Bad.reason c.in-Err-Bad.is c.in-Err-Bad.field-0-is (c.line.ensures p.state at.session) in
+    let does =
+    heeds_bad g.S.Lines.stands (line_does p.state c.deref.result.now) c.line.new.self (string_bytes c.new-out.result)
+    (string_bytes c.line.new.out) c.line.result c.in-Err-Bad.field-0 c.in-Err-Bad.reason c.in-Err-Bad.is c.in-Err-Bad.field-0-is
+    (c.line.ensures p.state at.session) in
     let same : c.deref.result.now ≡ p.pending = c.deref.ensures.value ∙ at.pending in
     let within : p.number ≤ 1048576 = let n = at.number in let m = c.if-self-gt-LINES.false in omega arith in
     subst (λ (o : Outcome). Answers (rest_of p (10 ∷ rest)) held held o)
@@ -22,10 +25,13 @@ returns-in-Err-Bad-clause-took g c = λ p at rest.
 
 pub returns-clause-took : goal.returns-clause-took
 returns-clause-took g c = λ p at.
-    let st = heeds_ok g.S.Lines.stands (line_does p.state c.deref.result.now) c.line.new.self (string_bytes c.new-out.result) (string_bytes c.line.new.out) c.line.result c.in-Ok.field-0 c.in-Ok.is (c.line.ensures p.state at.session) in
+    let st =
+    heeds_ok g.S.Lines.stands (line_does p.state c.deref.result.now) c.line.new.self (string_bytes c.new-out.result)
+    (string_bytes c.line.new.out) c.line.result c.in-Ok.field-0 c.in-Ok.is (c.line.ensures p.state at.session) in
     let same : c.deref.result.now ≡ p.pending = c.deref.ensures.value ∙ at.pending in
     let within : p.number ≤ 1048576 = let n = at.number in let m = c.if-self-gt-LINES.false in omega arith in
-    let text : c.as_bytes.result.now ≡ st.step.text = c.as_bytes.ensures.value ∙ st.text ∙ ap (λ (w : List ℕ). w ++ st.step.text) c.new-out.ensures.bytes in
+    let text : c.as_bytes.result.now ≡ st.step.text =
+    c.as_bytes.ensures.value ∙ st.text ∙ ap (λ (w : List ℕ). w ++ st.step.text) c.new-out.ensures.bytes in
     record {
       to = record { number = p.number + 1; state = st.step.state; pending = [] };
       text = st.step.text;
@@ -37,21 +43,28 @@ returns-clause-took g c = λ p at.
         short = omega arith;
       };
       goes = λ rest. one_line p st.step rest within at.one_line (ap (line_does p.state) (sym same) ∙ st.says);
-      appended = subst (λ (w : List ℕ). Appends (g.W.Write.contents c.args.writer.now) (g.W.Write.contents c.write_bytes.new.writer) w) text c.in_ok-write_bytes.ensures.ok;
+      appended = subst
+          (λ (w : List ℕ). Appends (g.W.Write.contents c.args.writer.now) (g.W.Write.contents c.write_bytes.new.writer) w)
+          text c.in_ok-write_bytes.ensures.ok;
     }
 
 pub returns-in_err-write_bytes-clause-took : goal.returns-in_err-write_bytes-clause-took
 returns-in_err-write_bytes-clause-took g c = λ p at.
     let old = g.W.Write.contents c.args.writer.now in
     let new = g.W.Write.contents c.write_bytes.new.writer in
-    let st = heeds_ok g.S.Lines.stands (line_does p.state c.deref.result.now) c.line.new.self (string_bytes c.new-out.result) (string_bytes c.line.new.out) c.line.result c.in-Ok.field-0 c.in-Ok.is (c.line.ensures p.state at.session) in
+    let st =
+    heeds_ok g.S.Lines.stands (line_does p.state c.deref.result.now) c.line.new.self (string_bytes c.new-out.result)
+    (string_bytes c.line.new.out) c.line.result c.in-Ok.field-0 c.in-Ok.is (c.line.ensures p.state at.session) in
     let same : c.deref.result.now ≡ p.pending = c.deref.ensures.value ∙ at.pending in
     let within : p.number ≤ 1048576 = let n = at.number in let m = c.if-self-gt-LINES.false in omega arith in
-    let text : c.as_bytes.result.now ≡ st.step.text = c.as_bytes.ensures.value ∙ st.text ∙ ap (λ (w : List ℕ). w ++ st.step.text) c.new-out.ensures.bytes in
+    let text : c.as_bytes.result.now ≡ st.step.text =
+    c.as_bytes.ensures.value ∙ st.text ∙ ap (λ (w : List ℕ). w ++ st.step.text) c.new-out.ensures.bytes in
     let failed = c.in_err-write_bytes.ensures.err in
     let front : AppendsFront st.step.text old new = subst (λ (w : List ℕ). AppendsFront w old new) text failed.1 in
     let stopped : (rest : List ℕ) → Answers (rest_of p (10 ∷ rest)) old new c.in_err-write_bytes.field-0.0 = λ rest.
     subst (λ (o : Outcome). Answers (rest_of p (10 ∷ rest)) old new o) (sym failed.0)
-    (subst (λ (run : Run). AppendsFront run.text old new) (sym (one_line p st.step rest within at.one_line (ap (line_does p.state) (sym same) ∙ st.says))) (front_more st.step.text _ old new front)) in
+    (subst (λ (run : Run). AppendsFront run.text old new)
+    (sym (one_line p st.step rest within at.one_line (ap (line_does p.state) (sym same) ∙ st.says)))
+    (front_more st.step.text _ old new front)) in
     let r = err_from_is_err_and c.from_residual.result c.from_residual.ensures.1 in
     rw (r.1, r.2) stopped

@@ -15,9 +15,11 @@ loop-left-preserved c = λ it h.
     let test = c.loop-left-test.true in
     let one : left ≡ suc (left - 1) = omega arith in
     let event = event_at c.in-Some.node c.in-Some.event in
-    let turned : turn g.now ≡ Some event = sym (c.in_ok-node.ensures g.now g.stage) ∙ ap (option_map (λ next. event_at next.0 next.1)) c.in-Some.is in
+    let turned : turn g.now ≡ Some event =
+    sym (c.in_ok-node.ensures g.now g.stage) ∙ ap (option_map (λ next. event_at next.0 next.1)) c.in-Some.is in
     let m = c.in_ok-happen-in-Some.ensures g.now g.stage in
-    goes_on 1000000 it left (left - 1) c.loop-left.self c.happen.new.self (string_bytes c.args.out.now) (string_bytes c.loop-left.out) (string_bytes c.happen.new.out) event g one turned m.stage m.text
+    goes_on 1000000 it left (left - 1) c.loop-left.self c.happen.new.self (string_bytes c.args.out.now)
+    (string_bytes c.loop-left.out) (string_bytes c.happen.new.out) event g one turned m.stage m.text
 
 pub returns-in-None : goal.returns-in-None
 returns-in-None c = λ it h.
@@ -25,8 +27,10 @@ returns-in-None c = λ it h.
     let left = c.loop-left.left in
     let test = c.loop-left-test.true in
     let one : left ≡ suc (left - 1) = omega arith in
-    let turned : turn g.now ≡ None = sym (c.in_ok-node.ensures g.now g.stage) ∙ ap (option_map (λ next. event_at next.0 next.1)) c.in-None.is in
-    on_ok c.put_settled.result (settled 1000000 it left (left - 1) c.loop-left.self (string_bytes c.args.out.now) (string_bytes c.loop-left.out) (string_bytes c.put_settled.new.out) g one turned) c.put_settled.ensures
+    let turned : turn g.now ≡ None =
+    sym (c.in_ok-node.ensures g.now g.stage) ∙ ap (option_map (λ next. event_at next.0 next.1)) c.in-None.is in
+    on_ok c.put_settled.result (settled 1000000 it left (left - 1) c.loop-left.self (string_bytes c.args.out.now)
+    (string_bytes c.loop-left.out) (string_bytes c.put_settled.new.out) g one turned) c.put_settled.ensures
 
 pub returns : goal.returns
 returns c = λ it h.
@@ -35,5 +39,7 @@ returns c = λ it h.
     let test = c.loop-left-test.false in
     let none : left ≡ 0 = omega arith in
     on_ok c.put_settled-2.result
-    (used_up 1000000 it left c.loop-left.self (string_bytes c.args.out.now) (string_bytes c.loop-left.out) (string_bytes c.put_settled-2.new.out) c.in_ok-is_settled.is_settled g none (c.in_ok-is_settled.ensures g.now g.stage))
+    (used_up 1000000 it left c.loop-left.self (string_bytes c.args.out.now) (string_bytes c.loop-left.out)
+    (string_bytes c.put_settled-2.new.out) c.in_ok-is_settled.is_settled g none
+    (c.in_ok-is_settled.ensures g.now g.stage))
     c.put_settled-2.ensures

@@ -7,8 +7,10 @@ use Rattle.script_threads.proofs.session.ThreadedSession.finish.Goals as goal
 pub returns-in-Running : goal.returns-in-Running
 returns-in-Running g c =
     on_ok c.finish_running.result
-    (tells_end c.args.trace c.args.self.threads.cast (cast.Running c.in-Running.running) (string_bytes c.args.out.now) (string_bytes c.finish_running.new.out)
-    (sym (ap nodes_of c.in-Running.is) ∙ c.in_ok-cast.ensures.nodes) (λ idle. sym c.in-Running.is ∙ c.in_ok-cast.ensures.same idle) c.finish_running.ensures.some)
+    (tells_end c.args.trace c.args.self.threads.cast (cast.Running c.in-Running.running) (string_bytes c.args.out.now)
+    (string_bytes c.finish_running.new.out)
+    (sym (ap nodes_of c.in-Running.is) ∙ c.in_ok-cast.ensures.nodes)
+    (λ idle. sym c.in-Running.is ∙ c.in_ok-cast.ensures.same idle) c.finish_running.ensures.some)
     c.finish_running.ensures.merged
 
 pub returns : goal.returns

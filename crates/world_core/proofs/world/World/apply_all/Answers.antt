@@ -11,7 +11,8 @@ loop-event-init c =
       going = λ m h.
           let P : List Event → Type 0 = (λ es. Going c.args.self.now m c.args.events.items es c.args.answers.now.items) in
           let Q : List Answered → Type 0 = (λ xs. Going c.args.self.now m c.args.events.items c.args.events.items xs) in
-          subst P (sym c.into_iter-event-iterator.ensures.into_iter_gives.0) (subst Q (sym c.requires.empty) (none_yet c.args.self.now m c.args.events.items h));
+          subst P (sym c.into_iter-event-iterator.ensures.into_iter_gives.0)
+          (subst Q (sym c.requires.empty) (none_yet c.args.self.now m c.args.events.items h));
     }
 
 pub loop-event-preserved : goal.loop-event-preserved
@@ -23,6 +24,7 @@ loop-event-preserved c =
       room = search (arith, rules, first);
       going = λ m h.
           let P : List Event → Type 0 = (λ es. Going c.loop-event.self m c.args.events.items es c.loop-event.answers.items) in
-          one_more c.loop-event.self c.apply.new.self m c.args.events.items rest e c.loop-event.answers.items c.push_reserved.new.self.items c.apply.result
+          one_more c.loop-event.self c.apply.new.self m c.args.events.items rest e c.loop-event.answers.items
+          c.push_reserved.new.self.items c.apply.result
           (subst P first (c.loop-event.invariant.going m h)) c.apply.ensures c.push_reserved.ensures.items;
     }

@@ -17,12 +17,15 @@ returns-then-not-has_nothing_between c = λ m h.
     let p = c.args.p.now in
     let q = c.args.q.now in
     let there = model_of c.in-Some.there.now in
-    let at : node_of m.nodes q.node ≡ Some there = sym (c.node.ensures m h) ∙ ap (λ o. option_map model_of (option_copied o)) c.in-Some.is in
+    let at : node_of m.nodes q.node ≡ Some there =
+    sym (c.node.ensures m h) ∙ ap (λ o. option_map model_of (option_copied o)) c.in-Some.is in
     let side : side_of_trunk m q.node t ≡ fm.get there.sides t = ap (λ o. seen o None (λ (n : Node). fm.get n.sides t)) at in
     let is : c.is_up_to.result ≡ true = search rules in
-    let up : is_up_to p.node (side_of_trunk m q.node t) ≡ true = ap (is_up_to p.node) (side ∙ sym c.side.ensures) ∙ sym c.is_up_to.ensures ∙ is in
+    let up : is_up_to p.node (side_of_trunk m q.node t) ≡ true =
+    ap (is_up_to p.node) (side ∙ sym c.side.ensures) ∙ sym c.is_up_to.ensures ∙ is in
     let no : c.has_nothing_between.result ≡ false = search rules in
-    let first : nothing_between p q (list_to m.lists t c.args.name.now) ≡ false = sym (on_list w m h p q t c.args.name.now) ∙ sym c.has_nothing_between.ensures ∙ no in
+    let first : nothing_between p q (list_to m.lists t c.args.name.now) ≡ false =
+    sym (on_list w m h p q t c.args.name.now) ∙ sym c.has_nothing_between.ensures ∙ no in
     sym (λ i. up i && (first i && nothing_between p q (list_to m.lists t q.node)))
 
 pub returns : goal.returns
@@ -32,12 +35,15 @@ returns c = λ m h.
     let p = c.args.p.now in
     let q = c.args.q.now in
     let there = model_of c.in-Some.there.now in
-    let at : node_of m.nodes q.node ≡ Some there = sym (c.node.ensures m h) ∙ ap (λ o. option_map model_of (option_copied o)) c.in-Some.is in
+    let at : node_of m.nodes q.node ≡ Some there =
+    sym (c.node.ensures m h) ∙ ap (λ o. option_map model_of (option_copied o)) c.in-Some.is in
     let side : side_of_trunk m q.node t ≡ fm.get there.sides t = ap (λ o. seen o None (λ (n : Node). fm.get n.sides t)) at in
     let is : c.is_up_to.result ≡ true = search rules in
-    let up : is_up_to p.node (side_of_trunk m q.node t) ≡ true = ap (is_up_to p.node) (side ∙ sym c.side.ensures) ∙ sym c.is_up_to.ensures ∙ is in
+    let up : is_up_to p.node (side_of_trunk m q.node t) ≡ true =
+    ap (is_up_to p.node) (side ∙ sym c.side.ensures) ∙ sym c.is_up_to.ensures ∙ is in
     let yes : c.has_nothing_between.result ≡ true = search rules in
-    let first : nothing_between p q (list_to m.lists t c.args.name.now) ≡ true = sym (on_list w m h p q t c.args.name.now) ∙ sym c.has_nothing_between.ensures ∙ yes in
+    let first : nothing_between p q (list_to m.lists t c.args.name.now) ≡ true =
+    sym (on_list w m h p q t c.args.name.now) ∙ sym c.has_nothing_between.ensures ∙ yes in
     c.has_nothing_between-2.ensures ∙ on_list w m h p q t c.name.result.now
     ∙ ap (λ y. nothing_between p q (list_to m.lists t y)) (c.name.ensures ∙ node_of_name m.nodes q.node there at)
     ∙ sym (λ i. up i && (first i && nothing_between p q (list_to m.lists t q.node)))

@@ -21,7 +21,8 @@ returns-in-Some-route c = λ m h.
     let t = c.in-Some-route.trunk.now in
     c.is_quiet_on.ensures m h
     ∙ ap (λ x. is_quiet_there m x p q t) (c.name.ensures ∙ node_of_name m.nodes p.node here at)
-    ∙ sym (over_is m p q here node.state.steady (fm.entries_sorted here.sides) (Some t) (sym c.route.ensures ∙ ap option_copied c.in-Some-route.is))
+    ∙ sym (over_is m p q here node.state.steady (fm.entries_sorted here.sides) (Some t)
+    (sym c.route.ensures ∙ ap option_copied c.in-Some-route.is))
     ∙ sym (ap (λ o. is_some (first_where (is_quiet_on m p q) (seen o [] (λ (n : Node). fm.entries n.sides)))) at)
 
 pub returns-in-None : goal.returns-in-None

@@ -16,16 +16,24 @@ pub returns-in-Some : goal.returns-in-Some
 returns-in-Some c = λ m h.
     let node = model_of c.args.node.now in
     let from = option_copied c.args.from in
-    let same : (t : TrunkId) → unwrap_or (find trunk_cmp t c.line.result.now) [] ≡ map framed (unwrap_or (fm.get m.lists (t, node.mint.name)) []) = (λ t.
-    ap (λ line. unwrap_or (find trunk_cmp t line) []) (c.line.ensures.line ∙ ap (line_to c.args.self.now.lists) c.name.ensures) ∙ h.lists t node.mint.name) in
+    let same : (t : TrunkId)
+    → unwrap_or (find trunk_cmp t c.line.result.now) [] ≡ map framed (unwrap_or (fm.get m.lists (t, node.mint.name)) []) = (λ t.
+    ap (λ line. unwrap_or (find trunk_cmp t line) []) (c.line.ensures.line ∙ ap (line_to c.args.self.now.lists) c.name.ensures)
+    ∙ h.lists t node.mint.name) in
     ap (λ o. option_map (λ e. e.0) (option_copied o)) (sym c.in-Some.is)
-    ∙ arrivals_same node.mint.name c.line.result.now m.lists (λ t. takes_from from t (fm.get node.sides t)) c.line.ensures.sorted same (option_copied c.first_in.result) (sym c.first_in.ensures)
+    ∙ arrivals_same node.mint.name c.line.result.now m.lists
+    (λ t. takes_from from t (fm.get node.sides t)) c.line.ensures.sorted same (option_copied c.first_in.result)
+    (sym c.first_in.ensures)
 
 pub returns-in-None : goal.returns-in-None
 returns-in-None c = λ m h.
     let node = model_of c.args.node.now in
     let from = option_copied c.args.from in
-    let same : (t : TrunkId) → unwrap_or (find trunk_cmp t c.line.result.now) [] ≡ map framed (unwrap_or (fm.get m.lists (t, node.mint.name)) []) = (λ t.
-    ap (λ line. unwrap_or (find trunk_cmp t line) []) (c.line.ensures.line ∙ ap (line_to c.args.self.now.lists) c.name.ensures) ∙ h.lists t node.mint.name) in
+    let same : (t : TrunkId)
+    → unwrap_or (find trunk_cmp t c.line.result.now) [] ≡ map framed (unwrap_or (fm.get m.lists (t, node.mint.name)) []) = (λ t.
+    ap (λ line. unwrap_or (find trunk_cmp t line) []) (c.line.ensures.line ∙ ap (line_to c.args.self.now.lists) c.name.ensures)
+    ∙ h.lists t node.mint.name) in
     ap (λ o. option_map (λ e. e.0) (option_copied o)) (sym c.in-None.is)
-    ∙ arrivals_same node.mint.name c.line.result.now m.lists (λ t. takes_from from t (fm.get node.sides t)) c.line.ensures.sorted same (option_copied c.first_in.result) (sym c.first_in.ensures)
+    ∙ arrivals_same node.mint.name c.line.result.now m.lists
+    (λ t. takes_from from t (fm.get node.sides t)) c.line.ensures.sorted same (option_copied c.first_in.result)
+    (sym c.first_in.ensures)

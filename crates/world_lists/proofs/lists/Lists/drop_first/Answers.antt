@@ -3,7 +3,13 @@ use Rattle.world_lists.proofs.Nodes.{first_gone, none_gone}
 use Rattle.world_lists.proofs.lists.Lists.drop_first.Goals as goal
 
 pub returns-in-Some : goal.returns-in-Some
-returns-in-Some c = first_gone c.args.self.now c.self.inside.lines.entries c.change.new.self.entries c.change-in-Some.new.self.entries c.self.view_is c.args.trunk.now c.args.to.now c.in-Some.line c.new.result c.drop_first.new.self (sym c.change.ensures.before ∙ c.in-Some.is) c.change.ensures.entries c.change-in-Some.ensures.entries c.drop_first.ensures
+returns-in-Some c =
+    first_gone c.args.self.now c.self.inside.lines.entries c.change.new.self.entries c.change-in-Some.new.self.entries
+    c.self.view_is c.args.trunk.now c.args.to.now c.in-Some.line c.new.result c.drop_first.new.self
+    (sym c.change.ensures.before ∙ c.in-Some.is) c.change.ensures.entries c.change-in-Some.ensures.entries
+    c.drop_first.ensures
 
 pub returns-in_default : goal.returns-in_default
-returns-in_default c = none_gone c.args.self.now c.self.inside.lines.entries c.change.new.self.entries c.self.view_is c.args.trunk.now c.args.to.now c.new.result (sym c.change.ensures.before ∙ c.in_default.is) c.change.ensures.entries
+returns-in_default c =
+    none_gone c.args.self.now c.self.inside.lines.entries c.change.new.self.entries c.self.view_is c.args.trunk.now
+    c.args.to.now c.new.result (sym c.change.ensures.before ∙ c.in_default.is) c.change.ensures.entries

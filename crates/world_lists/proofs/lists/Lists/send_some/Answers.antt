@@ -13,7 +13,8 @@ loop-sent-preserved c =
     let all = c.args.effects.now in
     let i = c.loop-sent.sent in
     let item = c.index-effects-sent.result in
-    let more : take (i + 1) all ≡ take i all ++ item ∷ [] = take_more all i item (omega arith) ∙ ap (λ (z : Effect Framed). take i all ++ z ∷ []) (sym c.index-effects-sent.is) in
+    let more : take (i + 1) all ≡ take i all ++ item ∷ [] =
+    take_more all i item (omega arith) ∙ ap (λ (z : Effect Framed). take i all ++ z ∷ []) (sym c.index-effects-sent.is) in
     let one : (t : TrunkId) (x : Name) → at c.send_one.new.self t x ≡ at c.loop-sent.self t x ++ sent_at t x (item ∷ []) = search rules in
     record {
       some = omega arith;

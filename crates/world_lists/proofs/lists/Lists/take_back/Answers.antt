@@ -12,7 +12,8 @@ loop-left-preserved c =
     let i = c.loop-left.left - 1 in
     let item = c.index-effects-left.result in
     let next : i + 1 ≡ c.loop-left.left = omega arith in
-    let more : take (i + 1) all ≡ take i all ++ item ∷ [] = take_more all i item (omega arith) ∙ ap (λ (z : Effect Framed). take i all ++ z ∷ []) (sym c.index-effects-left.is) in
+    let more : take (i + 1) all ≡ take i all ++ item ∷ [] =
+    take_more all i item (omega arith) ∙ ap (λ (z : Effect Framed). take i all ++ z ∷ []) (sym c.index-effects-left.is) in
     record {
       some = omega arith;
       sent = λ rest h. c.take_one_back.ensures (λ t x. rest t x ++ sent_at t x (take i all)) (λ t x.

@@ -11,4 +11,5 @@ returns-in-Sent-Some-default-default c = λ rest h.
     let frame = c.in-Sent-Some-default-default.item in
     let is : c.args.effect.now ≡ Effect.Sent (Some u) y frame = search rules in
     c.drop_last.ensures rest frame (λ t x.
-    h t x ∙ ap (λ (e : Effect Framed). rest t x ++ sent_at t x (e ∷ [])) is ∙ ap (λ q. rest t x ++ q) (append-nil (one_at (t, x) (u, y) frame)))
+    h t x ∙ ap (λ (e : Effect Framed). rest t x ++ sent_at t x (e ∷ [])) is
+    ∙ ap (λ q. rest t x ++ q) (append-nil (one_at (t, x) (u, y) frame)))

@@ -1,14 +1,14 @@
 use Rattle.std.proofs.Common.{◌≡◌, subst, rules, ap, ◌∙◌}
 use Rattle.dist_model.specs.Exits.{link_exit}
-use Rattle.dist_model.specs.Links.{noconnection}
 use Rattle.dist_model.specs.Work.{set_end}
 use Rattle.erl_control.specs.Fits.{fits}
 use Rattle.erl_term.specs.Data.{Data}
+use Rattle.link_core.specs.News.{noconnection}
 use Rattle.link_core.specs.declared.end.End.{End}
 use Rattle.node_plans.specs.Carried.{Carries}
 use Rattle.node_plans.specs.Seen.{seen}
 use Rattle.node_endings.proofs.Reactions.{noconnection_fits}
-use Rattle.node_sweeps.proofs.taking.break_link.Goals as goal
+use Rattle.node_endings.proofs.reacting.break_link.Goals as goal
 
 pub link_exit-requires-clause-fits : goal.link_exit-requires-clause-fits
 link_exit-requires-clause-fits c =
