@@ -100,7 +100,7 @@ pub fn plan_arrival(
     let mut plan = Plan::new(alloc, false);
     let taken = arrive_if_up(alloc, node, &mut plan, trunk, bytes, word);
     let len = taken.unwrap_or(0);
-    match settle(node, plan, None, without_len(taken)) {
+    match settle(alloc, node, plan, None, without_len(taken)) {
         Ok(planned) => Ok(PlannedArrival { planned, len }),
         Err(e) => Err(e),
     }

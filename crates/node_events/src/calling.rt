@@ -43,5 +43,5 @@ pub fn plan_call(alloc: Global, node: &mut Node, command: Command) -> Result<Pla
 {
     let mut plan = Plan::new(alloc, false);
     let planned = obey_if_up(alloc, node, &mut plan, command);
-    settle(node, plan, None, planned)
+    settle(alloc, node, plan, None, planned)
 }

@@ -55,5 +55,5 @@ pub fn plan_dial(
 {
     let mut plan = Plan::new(alloc, false);
     let planned = dial_if_up(alloc, node, &mut plan, is_known, peer, word);
-    settle(node, plan, None, planned)
+    settle(alloc, node, plan, None, planned)
 }

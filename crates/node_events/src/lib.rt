@@ -2,6 +2,7 @@
 #![tactic(auto)]
 
 mod arriving;
+mod boxed;
 mod calling;
 mod dialing;
 mod incarnations;
@@ -12,6 +13,7 @@ mod settling;
 mod sweeping;
 
 pub use arriving::{Arrived, PlannedArrival, plan_arrival};
+pub use boxed::Boxed;
 pub use calling::plan_call;
 pub use dialing::plan_dial;
 pub use incarnations::{start, stop};

@@ -42,5 +42,5 @@ pub fn plan_loss(alloc: Global, node: &mut Node, trunk: &TrunkId) -> Result<Plan
 {
     let mut plan = Plan::new(alloc, false);
     let planned = lose_if_up(node, &mut plan, trunk);
-    settle(node, plan, None, planned)
+    settle(alloc, node, plan, None, planned)
 }

@@ -40,5 +40,5 @@ pub fn plan_local(alloc: Global, node: &mut Node) -> Result<Planned, Refusal>
 {
     let mut plan = Plan::new(alloc, true);
     let planned = take_first_if_up(alloc, node, &mut plan);
-    settle(node, plan, None, planned)
+    settle(alloc, node, plan, None, planned)
 }

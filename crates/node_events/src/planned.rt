@@ -1,6 +1,7 @@
 //! What was planned of an event.
 ghost use Rattle.std.specs.Prelude.{◌≡◌};
 
+use crate::boxed::Boxed;
 use dist_model::Effect;
 use node_frames::Frame;
 use node_plans::Plan;
@@ -10,7 +11,7 @@ use node_sweeps::Sweeping;
 #[derive(Drop)]
 pub struct Planned {
     /// What is to be done to what the node keeps.
-    pub plan: Plan,
+    pub plan: Boxed<Plan>,
     /// How far a sweep has come by then, where the event is one.
     pub sweeping: Option<Sweeping>,
 }
@@ -20,6 +21,6 @@ impl Planned {
     pub fn effects(&self) -> &[Effect<Frame>]
         ensures { result.now ≡ self.now.plan.effects.items }
     {
-        self.plan.effects()
+        self.plan.get().effects()
     }
 }

@@ -7,16 +7,19 @@ ghost use Rattle.node_events.specs.Suiting.{IsAheadIfAny, Suits};
 ghost use Rattle.node_plans.specs.Planned.{IsPlanned, IsRefused, Plans};
 ghost use Rattle.node_plans.specs.Seen.{seen};
 
+use crate::boxed::Boxed;
 use crate::planned::Planned;
 use erl_term::Refusal;
 use node_plans::{Node, Plan};
 use node_sweeps::Sweeping;
+use std::alloc::Global;
 
-/// Makes room at a node for a plan, where one was made. The node stays as it is but for its room.
+/// Makes room at a node for a plan, where one was made, and puts it on the heap. The node stays as it is but for its room.
 ///
 /// # Errors
 /// Why none was made, and [`Refusal::OutOfMemory`].
 pub fn settle(
+    alloc: Global,
     node: &mut Node,
     plan: Plan,
     sweeping: Option<Sweeping>,
@@ -38,10 +41,14 @@ pub fn settle(
         }
     }
     match node.reserve(&plan) {
-        Ok(()) => Ok(Planned { plan, sweeping }),
+        Ok(()) => {}
         Err(_) => {
             drop(plan);
-            Err(Refusal::OutOfMemory)
+            return Err(Refusal::OutOfMemory);
         }
+    }
+    match Boxed::new(alloc, plan) {
+        Ok(plan) => Ok(Planned { plan, sweeping }),
+        Err(_) => Err(Refusal::OutOfMemory),
     }
 }

@@ -61,5 +61,5 @@ pub fn plan_sweep(alloc: Global, node: &mut Node, so_far: &Sweeping) -> Result<P
     let mut plan = Plan::new(alloc, false);
     let swept = sweep_if_up(alloc, node, &mut plan, so_far);
     let (planned, sweeping) = parted(swept);
-    settle(node, plan, sweeping, planned)
+    settle(alloc, node, plan, sweeping, planned)
 }

@@ -1,12 +1,23 @@
-use Rattle.std.proofs.Common.{Result, subst}
+use Rattle.std.proofs.Common.{◌≡◌, Ok, Result, subst}
+use Rattle.dist_model.specs.Commands.{Outcome}
+use Rattle.dist_model.specs.Node.{Node}
 use Rattle.erl_term.specs.declared.refusal.Refusal.{Refusal}
 use Rattle.node_plans.proofs.Outcomes.{lacks}
-use Rattle.node_plans.specs.Planned.{Plans}
+use Rattle.node_plans.specs.Planned.{IsRefused, Plans}
 use Rattle.node_plans.specs.Seen.{seen}
+use Rattle.node_plans.specs.declared.plan.Plan.{Plan}
 use Rattle.node_events.proofs.settling.settle.Goals as goal
 
-pub returns-in-Err-reserve-clause-plan : goal.returns-in-Err-reserve-clause-plan
-returns-in-Err-reserve-clause-plan c = λ due h.
-    let P : Result (Unit {0}) Refusal → Type 0 = (λ r. Plans (seen c.args.node.now) due c.args.plan r) in
-    let k = subst P c.in-Ok.is h in
+-- what was planned is refused where memory is wanting
+wanting : (m : Node) (plan : Plan) (planned : Result (Unit {0}) Refusal) (u : Unit {0}) → planned ≡ Ok u → (due : Outcome)
+    → Plans m due plan planned → IsRefused due Refusal.OutOfMemory
+wanting m plan planned u is due h =
+    let P : Result (Unit {0}) Refusal → Type 0 = (λ r. Plans m due plan r) in
+    let k = subst P is h in
     lacks due k.answer k.work k.accepts
+
+pub returns-in-Err-reserve-clause-plan : goal.returns-in-Err-reserve-clause-plan
+returns-in-Err-reserve-clause-plan c = wanting (seen c.args.node.now) c.args.plan c.args.planned c.in-Ok.field-0 c.in-Ok.is
+
+pub returns-in-Err-new-clause-plan : goal.returns-in-Err-new-clause-plan
+returns-in-Err-new-clause-plan c = wanting (seen c.args.node.now) c.args.plan c.args.planned c.in-Ok.field-0 c.in-Ok.is
