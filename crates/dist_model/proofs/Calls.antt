@@ -35,7 +35,7 @@ use Rattle.exit_core.specs.Reaction.{reaction}
 use Rattle.link_core.specs.News.{Exited, LinkNews, Signals, noconnection, noproc}
 use Rattle.link_core.specs.declared.end.End.{End}
 use Rattle.link_core.specs.declared.end.LinkSignal.{LinkSignal}
-use Rattle.monitor_core.specs.Monitors.{is_held, monitor_of}
+use Rattle.monitor_core.specs.Monitors.{MonitorMap, added, is_held, monitor_of}
 use Rattle.monitor_core.specs.declared.monitor.Monitor.{Monitor}
 use Rattle.std.specs.FinMap.{FinMap}
 use Rattle.erl_names.specs.declared.trunk.TrunkId.{TrunkId}
@@ -76,9 +76,10 @@ same_lives o m h = record {
       (ap (λ v. not v && not (is_stranger o.node p)) (h p)) refl refl)) k;
 }
 
--- neither a life nor an end nor a side
-pub registers : (k : Reference) (v : Monitor) (o : Work) → Moves o (register k v o)
-registers k v o = record {
+-- neither a life nor an end nor a side: monitors alone
+monitors_move : (o : Work) (watches registered : MonitorMap)
+    → Moves o (record o { node = record (o.node) { watches = watches; registered = registered } })
+monitors_move o watches registered = record {
   sides = refl;
   dialed = refl;
   name = refl;
@@ -91,48 +92,19 @@ registers k v o = record {
   views = λ n b p q c r k. k;
 }
 
+pub registers : (k : Reference) (v : Monitor) (o : Work) → Moves o (register k v o)
+registers k v o = monitors_move o o.node.watches (added o.node.registered k v)
+
 pub unregisters : (k : Reference) (o : Work) → Moves o (unregister k o)
-unregisters k o = record {
-  sides = refl;
-  dialed = refl;
-  name = refl;
-  keeps = λ n. record { born = n.born; rooted = n.rooted };
-  grows = λ p h. h;
-  draws = omega arith;
-  routed = λ a. a;
-  nevers = λ p h. h;
-  home = λ k h. h;
-  views = λ n b p q c r t. t;
-}
+unregisters k o = monitors_move o o.node.watches (fm.remove o.node.registered k)
 
 pub unwatches_one : (k : Reference) (o : Work) → Moves o (unwatch k o)
-unwatches_one k o = record {
-  sides = refl;
-  dialed = refl;
-  name = refl;
-  keeps = λ n. record { born = n.born; rooted = n.rooted };
-  grows = λ p h. h;
-  draws = omega arith;
-  routed = λ a. a;
-  nevers = λ p h. h;
-  home = λ k h. h;
-  views = λ n b p q c r t. t;
-}
+unwatches_one k o = monitors_move o (fm.remove o.node.watches k) o.node.registered
 
 pub watches_one : (k : Reference) (v : Monitor) (o : Work) → Moves o (watch k v o)
-watches_one k v o = record {
-  sides = refl;
-  dialed = refl;
-  name = refl;
-  keeps = λ n. record { born = n.born; rooted = n.rooted };
-  grows = λ p h. h;
-  draws = omega arith;
-  routed = λ a. a;
-  nevers = λ p h. h;
-  home = λ k h. h;
-  views = λ n b p q c r t. t;
-}
+watches_one k v o = monitors_move o (fm.insert o.node.watches k v) o.node.registered
 
+-- nor by the number of a reference
 pub draws_reference : (o : Work) → Moves o (draw kind.Reference o)
 draws_reference o = record {
   sides = refl;
@@ -144,7 +116,7 @@ draws_reference o = record {
   routed = λ a. a;
   nevers = λ p h. h;
   home = λ k h. h;
-  views = λ n b p q c r t. t;
+  views = λ n b p q c r k. k;
 }
 
 moves_cond : (b : Bool) (o x y : Work) → (b ≡ true → Moves o x) → (b ≡ false → Moves o y) → Moves o (cond b x y)

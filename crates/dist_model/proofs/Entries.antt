@@ -8,6 +8,7 @@ use Rattle.std.specs.Ordering.{is_eq}
 use Rattle.std.specs.Cmp.{tied_itself}
 use Rattle.std.specs.FinMap as fm
 use Rattle.std.specs.FinMap.Entries.{below_all, find, is_sorted}
+use Rattle.sorted_map.specs.Entries.{first_where}
 use Rattle.sorted_map.specs.Facts.{both_pass}
 use Rattle.dist_model.proofs.Keys.{same_name_true, is_equal, below_key}
 use Rattle.dist_model.specs.Downs.{same_reference}
@@ -55,44 +56,36 @@ found_in k v (e ∷ es) h = go (same_reference k e.0) refl h (found_in k v es)
         subst (λ z. Contains (e ∷ es) z) (λ j. (sym a j, c j)) (first_in e es)
     go false i h f = Contains-append_right (e ∷ []) es (k, v) (f h)
 
-watch_in : (y : Name) (es : List (Reference × Monitor)) (e : Reference × Monitor) → watch_to y es ≡ Some e → Contains es e
-    × (e.1.target.node ≡ y)
-watch_in y [] e h = absurd (none-some e h)
-watch_in y (d ∷ es) e h = go (same_name d.1.target.node y) refl h (watch_in y es e)
+-- the first entry that passes
+first_passes : (test : Reference → Monitor → Bool) (es : List (Reference × Monitor)) (e : Reference × Monitor) → first_where test es ≡ Some e
+    → Contains es e × (test e.0 e.1 ≡ true)
+first_passes test [] e h = absurd (none-some e h)
+first_passes test (d ∷ es) e h = go (test d.0 d.1) refl h (first_passes test es e)
   where
-    go : (b : Bool) → same_name d.1.target.node y ≡ b → cond b (Some d) (watch_to y es) ≡ Some e
-        → (watch_to y es ≡ Some e → Contains es e × (e.1.target.node ≡ y)) → Contains (d ∷ es) e × (e.1.target.node ≡ y)
+    go : (b : Bool) → test d.0 d.1 ≡ b → cond b (Some d) (first_where test es) ≡ Some e
+        → (first_where test es ≡ Some e → Contains es e × (test e.0 e.1 ≡ true)) → Contains (d ∷ es) e × (test e.0 e.1 ≡ true)
     go true i h f =
         let same : d ≡ e = same_Some d e h in (
           subst (λ z. Contains (d ∷ es) z) same (first_in d es),
-          ap (λ (z : Reference × Monitor). z.1.target.node) (sym same) ∙ same_name_true d.1.target.node y i,
+          ap (λ (z : Reference × Monitor). test z.0 z.1) (sym same) ∙ i,
         )
     go false i h f = let r = f h in (Contains-append_right (d ∷ []) es e r.0, r.1)
 
-registered_in : (y : Name) (es : List (Reference × Monitor)) (e : Reference × Monitor) → registered_by y es ≡ Some e
-    → Contains es e × (e.1.owner.node ≡ y)
-registered_in y [] e h = absurd (none-some e h)
-registered_in y (d ∷ es) e h = go (same_name d.1.owner.node y) refl h (registered_in y es e)
-  where
-    go : (b : Bool) → same_name d.1.owner.node y ≡ b → cond b (Some d) (registered_by y es) ≡ Some e
-        → (registered_by y es ≡ Some e → Contains es e × (e.1.owner.node ≡ y)) → Contains (d ∷ es) e × (e.1.owner.node ≡ y)
-    go true i h f =
-        let same : d ≡ e = same_Some d e h in (
-          subst (λ z. Contains (d ∷ es) z) same (first_in d es),
-          ap (λ (z : Reference × Monitor). z.1.owner.node) (sym same) ∙ same_name_true d.1.owner.node y i,
-        )
-    go false i h f = let r = f h in (Contains-append_right (d ∷ []) es e r.0, r.1)
+first_found : (test : Reference → Monitor → Bool) (m : MonitorMap) (e : Reference × Monitor) → first_where test (fm.entries m) ≡ Some e
+    → (fm.get m e.0 ≡ Some e.1) × (test e.0 e.1 ≡ true)
+first_found test m e h =
+    let v = first_passes test (fm.entries m) e h in (All-contains (λ d. fm.get m d.0 ≡ Some d.1) (fm.entries m) e (each_entry m) v.0, v.1)
 
 -- the least record towards y
 pub watch_found : (y : Name) (m : MonitorMap) (e : Reference × Monitor) → watch_to y (fm.entries m) ≡ Some e
     → (fm.get m e.0 ≡ Some e.1) × (e.1.target.node ≡ y)
 watch_found y m e h =
-    let v = watch_in y (fm.entries m) e h in (All-contains (λ d. fm.get m d.0 ≡ Some d.1) (fm.entries m) e (each_entry m) v.0, v.1)
+    let v = first_found (λ r monitor. same_name monitor.target.node y) m e h in (v.0, same_name_true e.1.target.node y v.1)
 
 pub registered_found : (y : Name) (m : MonitorMap) (e : Reference × Monitor) → registered_by y (fm.entries m) ≡ Some e
     → (fm.get m e.0 ≡ Some e.1) × (e.1.owner.node ≡ y)
 registered_found y m e h =
-    let v = registered_in y (fm.entries m) e h in (All-contains (λ d. fm.get m d.0 ≡ Some d.1) (fm.entries m) e (each_entry m) v.0, v.1)
+    let v = first_found (λ r monitor. same_name monitor.owner.node y) m e h in (v.0, same_name_true e.1.owner.node y v.1)
 
 -- where the one has none, neither has what has no more
 pub none_by : {X : Type 0} (v w : Option X) → ((m : X) → w ≡ Some m → v ≡ Some m) → v ≡ None → w ≡ None

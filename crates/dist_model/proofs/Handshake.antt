@@ -39,6 +39,12 @@ fits_state n t v s k h e ng mono hold = record {
     pick u b d (inl i) = absurd (d (sym i))
     pick u b d (inr i) = mono b.state i
 
+-- one that stands beside none
+fits_alone : (n : Node) (t : TrunkId) (v s : TrunkSide) → SidesKept n → side_at n t ≡ Some v → v.peer ≡ s.peer → is_gone v.state ≡ false
+    → holds v.state ≡ false → asks v.state ≡ false → Fits n t s
+fits_alone n t v s k h e ng nh na =
+    fits_state n t v s k h e ng (λ b i. absurd (beside_neither v.state b nh na i)) (λ i j. let c : true ≡ false = sym i ∙ nh in cc)
+
 pub fits_gone : (n : Node) (t : TrunkId) (v s : TrunkSide) → SidesKept n → side_at n t ≡ Some v → v.peer ≡ s.peer → is_gone s.state ≡ true
     → (holds v.state ≡ true → (p q : Pid) → q.node ≡ s.peer → end_of n p q ≡ End.None) → Fits n t s
 fits_gone n t v s k h e gone hold = record {
@@ -205,10 +211,7 @@ pub good_awaits_challenge : (w : World) (x : Name) (n : Node) (t : TrunkId) (v :
     → node_of w.nodes x ≡ Some n → side_at n t ≡ Some v → v.state ≡ AwaitsStatus u → Good w
     → Good (in_state w x n t (as_state v (AwaitsChallenge u)))
 good_awaits_challenge w x n t v u hx h e g =
-    let f =
-    fits_state n t v (as_state v (AwaitsChallenge u)) (g.core.sides x n hx) h refl (ap is_gone e)
-    (λ b i. absurd (beside_neither v.state b (ap holds e) (ap asks e) i))
-    (λ i j. let c : true ≡ false = sym i ∙ ap holds e in cc) in
+    let f = fits_alone n t v (as_state v (AwaitsChallenge u)) (g.core.sides x n hx) h refl (ap is_gone e) (ap holds e) (ap asks e) in
     good_state w x n t v (as_state v (AwaitsChallenge u)) hx h refl f g
     (drops w x n t v (as_state v (AwaitsChallenge u)) hx h refl refl f g.core)
     (role_is _ v.state (AwaitsChallenge u) ((g.home x n hx).roles t v h) (ap (role_state false) e) refl) (
@@ -222,10 +225,7 @@ pub good_awaits_ack : (w : World) (x : Name) (n : Node) (t : TrunkId) (v s : Tru
     → side_at n t ≡ Some v → v.state ≡ AwaitsChallenge u → v.peer ≡ s.peer → s.state ≡ AwaitsAck u → Good w
     → Good (in_state w x n t s)
 good_awaits_ack w x n t v s u hx h e pe se g =
-    let f =
-    fits_state n t v s (g.core.sides x n hx) h pe (ap is_gone e)
-    (λ b i. absurd (beside_neither v.state b (ap holds e) (ap asks e) i))
-    (λ i j. let c : true ≡ false = sym i ∙ ap holds e in cc) in
+    let f = fits_alone n t v s (g.core.sides x n hx) h pe (ap is_gone e) (ap holds e) (ap asks e) in
     let rl = (g.home x n hx).roles t v h in
     let di : t.dialer ≡ x =
     same_name_true t.dialer n.mint.name (role_is_dialer _ v.state rl (ap (role_state false) e)) ∙ node_of_name w.nodes x n hx in
@@ -257,10 +257,7 @@ pub good_dialer_up : (w : World) (x : Name) (n : Node) (t : TrunkId) (v : TrunkS
     → side_at n t ≡ Some v → v.state ≡ AwaitsAck u → has is_accept (list_to w.lists t x) ≡ true → Good w
     → Good (in_state w x n t (as_state v Up))
 good_dialer_up w x n t v u hx h e got g =
-    let f =
-    fits_state n t v (as_state v Up) (g.core.sides x n hx) h refl (ap is_gone e)
-    (λ b i. absurd (beside_neither v.state b (ap holds e) (ap asks e) i))
-    (λ i j. let c : true ≡ false = sym i ∙ ap holds e in cc) in
+    let f = fits_alone n t v (as_state v Up) (g.core.sides x n hx) h refl (ap is_gone e) (ap holds e) (ap asks e) in
     let rl = (g.home x n hx).roles t v h in
     let nx : n.mint.name ≡ x = node_of_name w.nodes x n hx in
     let di : t.dialer ≡ x = same_name_true t.dialer n.mint.name (role_is_dialer _ v.state rl (ap (role_state false) e)) ∙ nx in
@@ -287,10 +284,7 @@ pub good_acceptor_up : (w : World) (x : Name) (n : Node) (t : TrunkId) (v : Trun
     → side_at n t ≡ Some v → v.state ≡ Accepting u → has is_reply (list_to w.lists t x) ≡ true → Good w
     → Good (in_state w x n t (as_state v Up))
 good_acceptor_up w x n t v u hx h e got g =
-    let f =
-    fits_state n t v (as_state v Up) (g.core.sides x n hx) h refl (ap is_gone e)
-    (λ b i. absurd (beside_neither v.state b (ap holds e) (ap asks e) i))
-    (λ i j. let c : true ≡ false = sym i ∙ ap holds e in cc) in
+    let f = fits_alone n t v (as_state v Up) (g.core.sides x n hx) h refl (ap is_gone e) (ap holds e) (ap asks e) in
     let rl = (g.home x n hx).roles t v h in
     let nx : n.mint.name ≡ x = node_of_name w.nodes x n hx in
     let nd : t.dialer ≡ x → ⊥ =

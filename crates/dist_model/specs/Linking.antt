@@ -36,8 +36,9 @@ unlink_as id p q work = post (Signal.UnlinkId id p q) (set_end p q (End.Pending 
 
 abbrev pub unlink_by : End → Pid → Pid → Work → Outcome
 unlink_by end p q work =
-    if is_active end then with_id (id_of work.node.mint kind.UnlinkId)
-    (λ id. Accepts Answer.Done (unlink_as id p q work)) else Accepts Answer.Done work
+    if is_active end
+    then with_id (id_of work.node.mint kind.UnlinkId) (λ id. Accepts Answer.Done (unlink_as id p q work))
+    else Accepts Answer.Done work
 
 -- ---- p hears news of q about their link
 

@@ -33,15 +33,17 @@ unregister r work = record work { node = record (work.node) { registered = fm.re
 -- p monitors q under a new reference. Where q's node isn't reached it gets DOWN at once
 abbrev pub monitor : Reference → Pid → Pid → Work → Work
 monitor r p q work =
-    if reaches work.node q.node then post (Signal.Monitor p q r) (watch r (monitor_of p q) work) else put p
-    (down_term r q noconnection) work
+    if reaches work.node q.node
+    then post (Signal.Monitor p q r) (watch r (monitor_of p q) work)
+    else put p (down_term r q noconnection) work
 
 -- p takes a monitor back: it has to be its own
 abbrev pub demonitor_by : Option Monitor → Pid → Reference → Work → Outcome
 demonitor_by None p r work = Refuses Refusal.NotTheOwner
 demonitor_by (Some monitor) p r work =
-    if same_pid monitor.owner p then Accepts Answer.Done
-    (post (Signal.Demonitor p monitor.target r) (unwatch r work)) else Refuses Refusal.NotTheOwner
+    if same_pid monitor.owner p
+    then Accepts Answer.Done (post (Signal.Demonitor p monitor.target r) (unwatch r work))
+    else Refuses Refusal.NotTheOwner
 
 -- MONITOR_P comes to q
 abbrev pub take_monitor : Pid → Pid → Reference → Work → Work
