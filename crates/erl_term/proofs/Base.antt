@@ -11,7 +11,7 @@ use Rattle.erl_term.specs.declared.error.TermError.{TermError}
 use Rattle.erl_term.specs.declared.error.TermError.TheVariants.{Cut}
 use Rattle.erl_term.specs.Numbers.{AreBytes}
 use Rattle.erl_term.specs.Spelling.{IsNumber}
-use Rattle.erl_term.specs.Reading.{Read, ◌>>=◌, any_at, number_at}
+use Rattle.erl_term.specs.Reading.{Read, ◌>>=◌, read_number, read_bounded}
 use Rattle.erl_term.proofs.Fields.{big_from-agree}
 use Rattle.erl_term.proofs.Readers.{Takes, Begins, Reads, Known, known, is_ok, is_err, err_of_bind, ok_of_bind, and_then}
 
@@ -90,7 +90,7 @@ big_from-nil i (suc n) =
     let e = big_from-nil (suc i) n in let z : get_or {A = ℕ} [] i 0 ≡ 0 = get_or_past [] i 0 (omega arith) in
     rw (z, e) (omega (arith, zero-mul (256 ^ n)))
 
-pub any_takes : (n : ℕ) (bytes : List ℕ) (k : ℕ) (rest : List ℕ) → AreBytes bytes → any_at n bytes ≡ Ok (k, rest)
+pub any_takes : (n : ℕ) (bytes : List ℕ) (k : ℕ) (rest : List ℕ) → AreBytes bytes → read_number n bytes ≡ Ok (k, rest)
     → (n ≤ length bytes) × IsNumber n k (take n bytes) × (rest ≡ drop n bytes) × (k ≡ big_number n bytes)
 any_takes n bytes k rest h e =
     let g = guard_ok (ltb (length bytes) n) Cut (Ok (big_number n bytes, drop n bytes)) (k, rest) e in
@@ -104,13 +104,13 @@ any_takes n bytes k rest h e =
       sym k-is,
     )
 
-any_again : (n k : ℕ) (text rest : List ℕ) → IsNumber n k text → any_at n (text ++ rest) ≡ Ok (k, rest)
+any_again : (n k : ℕ) (text rest : List ℕ) → IsNumber n k text → read_number n (text ++ rest) ≡ Ok (k, rest)
 any_again n k text rest s =
     let long : ltb (length (text ++ rest)) n ≡ false = le-ltb _ _ (omega (arith, length-append text rest, s.len)) in
     let says : big_number n (text ++ rest) ≡ k = big_number-front n text rest (omega (arith, s.len)) ∙ s.says in
     rw (long, says, drop_at text rest n s.len) refl
 
-pub any_cut : (n : ℕ) (bytes : List ℕ) (e : TermError) → any_at n bytes ≡ Err e → (length bytes < n) × (e ≡ Cut)
+pub any_cut : (n : ℕ) (bytes : List ℕ) (e : TermError) → read_number n bytes ≡ Err e → (length bytes < n) × (e ≡ Cut)
 any_cut n bytes e h =
     elim (guard_err (ltb (length bytes) n) Cut (Ok (big_number n bytes, drop n bytes)) e h) [
       | inl p ↦ (ltb-true _ _ p.0, sym p.1)
@@ -125,7 +125,7 @@ any_begins n bytes h lt = record {
   says = big_number-padded n bytes (n - length bytes);
 }
 
-pub Reads-any : (n : ℕ) → Reads (IsNumber n) (any_at n)
+pub Reads-any : (n : ℕ) → Reads (IsNumber n) (read_number n)
 Reads-any n = record {
   takes = λ bytes k rest h e. let t = any_takes n bytes k rest h e in record
       { text = take n bytes; is_text = t.1; parts = sym (take-append-drop n bytes) ∙ ap (λ (r : List ℕ). take n bytes ++ r) (sym t.2) };
@@ -141,18 +141,18 @@ pub record IsNumberTo (most width n : ℕ) (b : List ℕ) : Type 0 where
   pub number : IsNumber width n b
   pub bound : n ≤ most
 
-pub number_err : (fault : TermError) (most n : ℕ) (bytes : List ℕ) (e : TermError) → number_at fault most n bytes ≡ Err e
+pub number_err : (fault : TermError) (most n : ℕ) (bytes : List ℕ) (e : TermError) → read_bounded fault most n bytes ≡ Err e
     → ((most < big_number n bytes) × (fault ≡ e)) ⊎ ((big_number n bytes ≤ most) × (length bytes < n) × (e ≡ Cut))
 number_err fault most n bytes e h =
-    elim (guard_err (ltb most (big_number n bytes)) fault (any_at n bytes) e h) [
+    elim (guard_err (ltb most (big_number n bytes)) fault (read_number n bytes) e h) [
       | inl p ↦ inl (ltb-true _ _ p.0, p.1)
       | inr p ↦ let c = any_cut n bytes e p.1 in inr (ltb-false _ _ p.0, c.0, c.1)
     ]
 
-pub Reads-number : (fault : TermError) (most n : ℕ) → fault ≢ Cut → Reads (IsNumberTo most n) (number_at fault most n)
+pub Reads-number : (fault : TermError) (most n : ℕ) → fault ≢ Cut → Reads (IsNumberTo most n) (read_bounded fault most n)
 Reads-number fault most n c = record {
   takes = λ bytes k rest h e.
-      let g = guard_ok (ltb most (big_number n bytes)) fault (any_at n bytes) (k, rest) e in
+      let g = guard_ok (ltb most (big_number n bytes)) fault (read_number n bytes) (k, rest) e in
       let t = any_takes n bytes k rest h g.1 in
       let le : big_number n bytes ≤ most = ltb-false _ _ g.0 in
       record {
@@ -165,7 +165,7 @@ Reads-number fault most n c = record {
       let low : ltb most (big_number n (text ++ rest)) ≡ false = le-ltb _ _ (omega (arith, says, s.bound)) in
       rw low (any_again n k text rest s.number);
   stable = λ bytes more e h nc k.
-      elim (number_err fault most n bytes e k) as (λ _. number_at fault most n (bytes ++ more) ≡ Err e) [
+      elim (number_err fault most n bytes e k) as (λ _. read_bounded fault most n (bytes ++ more) ≡ Err e) [
         | inl p ↦
             let high : ltb most (big_number n (bytes ++ more)) ≡ true = lt-ltb _ _ (omega (arith, p.0, big_number-grows n bytes more)) in
             rw (high, p.1) refl
@@ -190,7 +190,7 @@ Reads-number fault most n c = record {
 -- ---- a byte that passes a test
 
 abbrev pub byte_where : (ℕ → Bool) → (ℕ → TermError) → List ℕ → Read ℕ
-byte_where test fault bytes = any_at 1 bytes >>= λ b. cond (test b.0) (Ok (b.0, b.1)) (Err (fault b.0))
+byte_where test fault bytes = read_number 1 bytes >>= λ b. cond (test b.0) (Ok (b.0, b.1)) (Err (fault b.0))
 
 pub record IsByteWhere (test : ℕ → Bool) (k : ℕ) (b : List ℕ) : Type 0 where
   pub passes : test k ≡ true
@@ -208,10 +208,10 @@ abbrev pub judged : (ℕ → Bool) → (ℕ → TermError) → ℕ × List ℕ �
 judged test fault b = cond (test b.0) (Ok (b.0, b.1)) (Err (fault b.0))
 
 where_takes : (test : ℕ → Bool) (fault : ℕ → TermError) (bytes : List ℕ) (k : ℕ) (rest : List ℕ) → AreBytes bytes
-    → Known (any_at 1 bytes) → byte_where test fault bytes ≡ Ok (k, rest) → Takes (IsByteWhere test) bytes k rest
-where_takes test fault bytes k rest h (is_err e p) eq = absurd (let x = err_of_bind (any_at 1 bytes) (judged test fault) e p in cc)
+    → Known (read_number 1 bytes) → byte_where test fault bytes ≡ Ok (k, rest) → Takes (IsByteWhere test) bytes k rest
+where_takes test fault bytes k rest h (is_err e p) eq = absurd (let x = err_of_bind (read_number 1 bytes) (judged test fault) e p in cc)
 where_takes test fault bytes k rest h (is_ok x p) eq =
-    let l = sym (ok_of_bind (any_at 1 bytes) (judged test fault) x p) ∙ eq in
+    let l = sym (ok_of_bind (read_number 1 bytes) (judged test fault) x p) ∙ eq in
     let g = chosen_ok (test x.0) (x.0, x.1) (fault x.0) (k, rest) l in
     let k-is : x.0 ≡ k = ap (λ (q : ℕ × List ℕ). q.0) g.1 in
     let rest-is : x.1 ≡ rest = ap (λ (q : ℕ × List ℕ). q.1) g.1 in
@@ -225,14 +225,14 @@ where_takes test fault bytes k rest h (is_ok x p) eq =
 where_again : (test : ℕ → Bool) (fault : ℕ → TermError) (k : ℕ) (text rest : List ℕ) → IsByteWhere test k text
     → byte_where test fault (text ++ rest) ≡ Ok (k, rest)
 where_again test fault k text rest s =
-    ok_of_bind (any_at 1 (text ++ rest)) (judged test fault) (k, rest) ((Reads-any 1).again k text rest s.number) ∙ rw s.passes refl
+    ok_of_bind (read_number 1 (text ++ rest)) (judged test fault) (k, rest) ((Reads-any 1).again k text rest s.number) ∙ rw s.passes refl
 
-pub where_err : (test : ℕ → Bool) (fault : ℕ → TermError) (bytes : List ℕ) (e : TermError) → Known (any_at 1 bytes)
-    → byte_where test fault bytes ≡ Err e → (any_at 1 bytes ≡ Err e)
-    ⊎ ((x : ℕ × List ℕ) × (any_at 1 bytes ≡ Ok x) × (test x.0 ≡ false) × (fault x.0 ≡ e))
-where_err test fault bytes e (is_err f p) eq = let x = err_of_bind (any_at 1 bytes) (judged test fault) f p in inl (p ∙ cc)
+pub where_err : (test : ℕ → Bool) (fault : ℕ → TermError) (bytes : List ℕ) (e : TermError) → Known (read_number 1 bytes)
+    → byte_where test fault bytes ≡ Err e → (read_number 1 bytes ≡ Err e)
+    ⊎ ((x : ℕ × List ℕ) × (read_number 1 bytes ≡ Ok x) × (test x.0 ≡ false) × (fault x.0 ≡ e))
+where_err test fault bytes e (is_err f p) eq = let x = err_of_bind (read_number 1 bytes) (judged test fault) f p in inl (p ∙ cc)
 where_err test fault bytes e (is_ok x p) eq =
-    let l = sym (ok_of_bind (any_at 1 bytes) (judged test fault) x p) ∙ eq in
+    let l = sym (ok_of_bind (read_number 1 bytes) (judged test fault) x p) ∙ eq in
     let g = chosen_err (test x.0) (x.0, x.1) (fault x.0) e l in
     inr (x, p, g.0, g.1)
 
@@ -243,25 +243,25 @@ AreBytes-one k lt (suc i) = let e : get_or {A = ℕ} [] i 0 ≡ 0 = get_or_past 
 pub Reads-where : (test : ℕ → Bool) (fault : ℕ → TermError) → ((k : ℕ) → fault k ≢ Cut) → (k : ℕ) → test k ≡ true → k < 256
     → Reads (IsByteWhere test) (byte_where test fault)
 Reads-where test fault c some passes low = record {
-  takes = λ bytes k rest h e. where_takes test fault bytes k rest h (known (any_at 1 bytes)) e;
+  takes = λ bytes k rest h e. where_takes test fault bytes k rest h (known (read_number 1 bytes)) e;
   again = where_again test fault;
   stable = λ bytes more e h nc k.
-      elim (where_err test fault bytes e (known (any_at 1 bytes)) k) as (λ _. byte_where test fault (bytes ++ more) ≡ Err e) [
-        | inl p ↦ err_of_bind (any_at 1 (bytes ++ more)) (judged test fault) e ((Reads-any 1).stable bytes more e h nc p)
+      elim (where_err test fault bytes e (known (read_number 1 bytes)) k) as (λ _. byte_where test fault (bytes ++ more) ≡ Err e) [
+        | inl p ↦ err_of_bind (read_number 1 (bytes ++ more)) (judged test fault) e ((Reads-any 1).stable bytes more e h nc p)
         | inr p ↦
             let t = (Reads-any 1).takes bytes p.0.0 p.0.1 h p.1 in
-            let there : any_at 1 (bytes ++ more) ≡ Ok (p.0.0, p.0.1 ++ more) =
-            ap (any_at 1) (ap (λ (r : List ℕ). r ++ more) t.parts ∙ append_assoc t.text p.0.1 more)
+            let there : read_number 1 (bytes ++ more) ≡ Ok (p.0.0, p.0.1 ++ more) =
+            ap (read_number 1) (ap (λ (r : List ℕ). r ++ more) t.parts ∙ append_assoc t.text p.0.1 more)
             ∙ (Reads-any 1).again p.0.0 t.text (p.0.1 ++ more) t.is_text in
-            ok_of_bind (any_at 1 (bytes ++ more)) (judged test fault) (p.0.0, p.0.1 ++ more) there ∙ rw (p.2, p.3) refl
+            ok_of_bind (read_number 1 (bytes ++ more)) (judged test fault) (p.0.0, p.0.1 ++ more) there ∙ rw (p.2, p.3) refl
       ];
   goes_on = λ bytes h k.
-      elim (where_err test fault bytes Cut (known (any_at 1 bytes)) k) as (λ _. Begins (IsByteWhere test) bytes) [
+      elim (where_err test fault bytes Cut (known (read_number 1 bytes)) k) as (λ _. Begins (IsByteWhere test) bytes) [
         | inl p ↦ starts_with bytes (any_cut 1 bytes Cut p).0
         | inr p ↦ absurd (c p.0.0 p.3)
       ];
   starts = λ e k.
-      elim (where_err test fault [] e (known (any_at 1 [])) k) as (λ _. e ≡ Cut) [
+      elim (where_err test fault [] e (known (read_number 1 [])) k) as (λ _. e ≡ Cut) [
         | inl p ↦ (any_cut 1 [] e p).1
         | inr p ↦ absurd (let q = p.1 in cc)
       ];
@@ -282,12 +282,12 @@ judged_then test fault row k rest true e never = rw e refl
 judged_then test fault row k rest false e never = rw e (never k rest e)
 
 bind_where_at : {A : Type 0} (test : ℕ → Bool) (fault : ℕ → TermError) (row : ℕ → List ℕ → Read A) (bytes : List ℕ)
-    → ((j : ℕ) (more : List ℕ) → test j ≡ false → row j more ≡ Err (fault j)) → Known (any_at 1 bytes)
-    → and_then (any_at 1) row bytes ≡ and_then (byte_where test fault) row bytes
+    → ((j : ℕ) (more : List ℕ) → test j ≡ false → row j more ≡ Err (fault j)) → Known (read_number 1 bytes)
+    → and_then (read_number 1) row bytes ≡ and_then (byte_where test fault) row bytes
 bind_where_at test fault row bytes never (is_err e p) = rw p refl
 bind_where_at test fault row bytes never (is_ok x p) = rw p (judged_then test fault row x.0 x.1 _ refl never)
 
 pub bind_where : {A : Type 0} (test : ℕ → Bool) (fault : ℕ → TermError) (row : ℕ → List ℕ → Read A) (bytes : List ℕ)
     → ((j : ℕ) (more : List ℕ) → test j ≡ false → row j more ≡ Err (fault j))
-    → and_then (any_at 1) row bytes ≡ and_then (byte_where test fault) row bytes
-bind_where test fault row bytes never = bind_where_at test fault row bytes never (known (any_at 1 bytes))
+    → and_then (read_number 1) row bytes ≡ and_then (byte_where test fault) row bytes
+bind_where test fault row bytes never = bind_where_at test fault row bytes never (known (read_number 1 bytes))

@@ -1,19 +1,18 @@
 -- Terms behind lists with no elements.
 use Rattle.std.proofs.lemmas.Bool.{true≢false}
-use Rattle.std.proofs.Common.{◌≡◌, ℕ, zero, suc, ◌+◌, ◌<◌, true, false, eqb, List, [], ◌∷◌, ◌++◌, length, get_or, take}
+use Rattle.std.proofs.Common.{◌≡◌, ℕ, zero, suc, ◌+◌, true, false, eqb, List, [], ◌∷◌, ◌++◌, length, take}
 use Rattle.std.proofs.Common.{drop, Option, Some, None, Bor, refl, sym, ap, subst, ◌∙◌, append_assoc, arith, inl, inr}
-use Rattle.std.specs.Prelude.{ℤ, IfSome, nat_eq}
+use Rattle.std.specs.Prelude.{IfSome, nat_eq}
+use Rattle.std.specs.Str.{chars}
 use Rattle.std.specs.Cmp.Lexicographic.{pointwise, same_text}
 use Rattle.std.proofs.lemmas.List.{take-append-drop}
 use Rattle.byteorder.specs.Endian.{big_number}
-use Rattle.erl_term.specs.declared.term.Pid.{Pid}
-use Rattle.erl_term.specs.declared.term.Reference.{Reference}
 use Rattle.erl_term.specs.Data.{Data, int, atom, tuple, list, improper, binary, pid, reference, Items, no_items, item, count, joined}
 use Rattle.erl_term.specs.Canonical.{is_list}
-use Rattle.erl_term.specs.Spelling.{IsNumber, SpellAll, SpellsBy, Spells, IsPid, IsReference}
+use Rattle.erl_term.specs.Spelling.{IsNumber, SpellAll, SpellsBy, Spells}
 use Rattle.erl_term.specs.declared.parts.TupleHead.{TupleHead}
-use Rattle.erl_term.specs.Parts.{lists, Behind, PassesOver, IsHead, IsTupleHead, IsIntegerText, Takes, ReadsFront}
-use Rattle.erl_term.proofs.Readers.{AreBytes-nil}
+use Rattle.erl_term.specs.Parts.{lists, Behind, PassesOver, IsHead, IsTupleHead, Takes, ReadsFront}
+use Rattle.erl_term.proofs.Canonical.{four_bytes}
 
 -- no such list is at the front
 abbrev pub Stands : List ℕ → Type 0
@@ -90,25 +89,13 @@ reads_same S T bytes answer to back r = record {
 
 -- ---- a term that is no list
 
-joined_none : (t : Data) → joined no_items t ≡ t
-joined_none (int z) = refl
-joined_none (atom a) = refl
-joined_none (tuple ts) = refl
+pub joined_none : (t : Data) → joined no_items t ≡ t
 joined_none (list ts) = refl
-joined_none (improper ts t) = refl
-joined_none (binary a) = refl
-joined_none (pid p) = refl
-joined_none (reference r) = refl
+joined_none t = refl
 
 joined_some : (x : Data) (xs : Items) (t : Data) → is_list (joined (item x xs) t) ≡ true
-joined_some x xs (int z) = refl
-joined_some x xs (atom a) = refl
-joined_some x xs (tuple ts) = refl
 joined_some x xs (list ts) = refl
-joined_some x xs (improper ts t) = refl
-joined_some x xs (binary a) = refl
-joined_some x xs (pid p) = refl
-joined_some x xs (reference r) = refl
+joined_some x xs t = refl
 
 no_items_by : (ts : Items) (last t : Data) → is_list t ≡ false → t ≡ joined ts last → ts ≡ no_items
 no_items_by no_items last t e v = refl
@@ -116,10 +103,6 @@ no_items_by (item x xs) last t e v =
     absurd (let a = joined_some x xs last in let b : is_list (joined (item x xs) last) ≡ false = ap is_list (sym v) ∙ e in cc)
 
 pub zero_is : (len : List ℕ) → IsNumber 4 0 len → len ≡ 0 ∷ 0 ∷ 0 ∷ 0 ∷ []
-zero_is [] s = absurd (let l = s.len in omega arith)
-zero_is (a ∷ []) s = absurd (let l = s.len in omega arith)
-zero_is (a ∷ b ∷ []) s = absurd (let l = s.len in omega arith)
-zero_is (a ∷ b ∷ c ∷ []) s = absurd (let l = s.len in omega arith)
 zero_is (a ∷ b ∷ c ∷ d ∷ []) s =
     let e : big_number 4 (a ∷ b ∷ c ∷ d ∷ []) ≡ 0 = s.says in
     let a0 : a ≡ 0 = omega arith in
@@ -127,14 +110,7 @@ zero_is (a ∷ b ∷ c ∷ d ∷ []) s =
     let c0 : c ≡ 0 = omega arith in
     let d0 : d ≡ 0 = omega arith in
     rw (a0, b0, c0, d0) refl
-zero_is (a ∷ b ∷ c ∷ d ∷ x ∷ l) s = absurd (let k = s.len in omega arith)
-
-zero_bytes : (i : ℕ) → get_or (0 ∷ 0 ∷ 0 ∷ 0 ∷ []) i 0 < 256
-zero_bytes zero = omega arith
-zero_bytes (suc zero) = omega arith
-zero_bytes (suc (suc zero)) = omega arith
-zero_bytes (suc (suc (suc zero))) = omega arith
-zero_bytes (suc (suc (suc (suc i)))) = AreBytes-nil i
+zero_is len s = absurd (let l = s.len in omega arith)
 
 -- a term by its own rows
 abbrev pub Own : Data → ℕ → List ℕ → Type 0
@@ -151,7 +127,7 @@ from_behind t (suc k) below levels text b s d e =
       len = 0 ∷ 0 ∷ 0 ∷ 0 ∷ [];
       elements = [];
       tail = lists k ++ text;
-      number = record { len = refl; bytes = zero_bytes; says = refl };
+      number = four_bytes 0 (omega arith);
       spelled = refl;
       is_tail = from_behind t k below (k + suc below) text (lists k ++ text) s refl refl;
       value = sym (joined_none t);
@@ -183,9 +159,9 @@ spelled_behind t (suc below) b e (inr s) =
     ∙ ap (λ (w : List ℕ). 108 ∷ 0 ∷ 0 ∷ 0 ∷ 0 ∷ (w ++ s.tail)) elements)
     (spelled_behind t below s.tail e (subst (λ (u : Data). Spells below u s.tail) last s.is_tail))
 
--- ---- integers, pids and references
+-- ---- what stands at the front of such a term's own rows
 
-head_same : (a b : ℕ) (x y : List ℕ) → a ∷ x ≡ b ∷ y → a ≡ b
+pub head_same : (a b : ℕ) (x y : List ℕ) → a ∷ x ≡ b ∷ y → a ≡ b
 head_same a b x y e = cc
 
 other_tag : (tag : ℕ) (back text rest : List ℕ) → eqb tag 108 ≡ false → text ≡ tag ∷ back → Stands (text ++ rest)
@@ -195,16 +171,22 @@ other_tag tag back text rest not e more q =
     let y : eqb tag 108 ≡ true = rw k refl in
     absurd (true≢false (sym y ∙ not))
 
-integer_stands : (z : ℤ) (below : ℕ) (text rest : List ℕ) → IsIntegerText z text → Stands (text ++ rest)
-integer_stands z below text rest (inl s) = other_tag 97 s.field text rest refl s.bytes
-integer_stands z below text rest (inr (inl s)) = other_tag 98 s.field text rest refl s.bytes
-integer_stands z below text rest (inr (inr s)) = other_tag 110 (length s.magnitude ∷ s.sign ∷ s.magnitude) text rest refl s.bytes
-
-pid_stands : (p : Pid) (below : ℕ) (text rest : List ℕ) → IsPid p text → Stands (text ++ rest)
-pid_stands p below text rest s = other_tag 88 (s.node ++ (s.id ++ (s.serial ++ s.creation))) text rest refl s.bytes
-
-reference_stands : (r : Reference) (below : ℕ) (text rest : List ℕ) → IsReference r text → Stands (text ++ rest)
-reference_stands r below text rest s = other_tag 90 (s.len ++ (s.node ++ (s.creation ++ s.words))) text rest refl s.bytes
+own_stands : (t : Data) (below : ℕ) (text rest : List ℕ) → is_list t ≡ false → Own t below text → Stands (text ++ rest)
+own_stands (int z) below text rest e (inl s) = other_tag 97 s.field text rest refl s.bytes
+own_stands (int z) below text rest e (inr (inl s)) = other_tag 98 s.field text rest refl s.bytes
+own_stands (int z) below text rest e (inr (inr s)) =
+    other_tag 110 (length s.magnitude ∷ s.sign ∷ s.magnitude) text rest refl s.bytes
+own_stands (atom a) below text rest e (inl s) = other_tag 119 (s.len ++ a) text rest refl s.bytes
+own_stands (atom a) below text rest e (inr (inl s)) = other_tag 118 (s.len ++ a) text rest refl s.bytes
+own_stands (atom a) below text rest e (inr (inr (inl s))) = other_tag 115 (s.len ++ chars a) text rest refl s.bytes
+own_stands (atom a) below text rest e (inr (inr (inr s))) = other_tag 100 (s.len ++ chars a) text rest refl s.bytes
+own_stands (tuple ts) below text rest e (inl s) = other_tag 104 (s.arity ++ s.elements) text rest refl s.bytes
+own_stands (tuple ts) below text rest e (inr s) = other_tag 105 (s.arity ++ s.elements) text rest refl s.bytes
+own_stands (list ts) below text rest e s = absurd (true≢false e)
+own_stands (improper ts t) below text rest e s = absurd s
+own_stands (binary a) below text rest e s = other_tag 109 (s.len ++ a) text rest refl s.bytes
+own_stands (pid p) below text rest e s = other_tag 88 (s.node ++ (s.id ++ (s.serial ++ s.creation))) text rest refl s.bytes
+own_stands (reference r) below text rest e s = other_tag 90 (s.len ++ (s.node ++ (s.creation ++ s.words))) text rest refl s.bytes
 
 head_stands : (x : TupleHead) (below : ℕ) (text rest : List ℕ) → (x.levels ≡ below) × IsHead x.arity text → Stands (text ++ rest)
 head_stands x below text rest (s, inl h) = other_tag 104 h.arity text rest refl h.bytes
@@ -214,48 +196,29 @@ abbrev Passed : ℕ → List ℕ → ℕ → List ℕ → Type 0
 Passed levels bytes below inner =
     (k : ℕ) × (levels ≡ k + suc below) × (bytes ≡ lists k ++ inner) × ((rest : List ℕ) → inner ≡ lists 1 ++ rest → ⊥)
 
-pub integer_behind : (levels below : ℕ) (bytes inner : List ℕ) (answer : Option (ℤ × Bor (List ℕ)))
-    → Passed levels bytes below inner → ReadsFront IsIntegerText inner answer
-    → ReadsFront (λ z b. Spells levels (int z) b) bytes answer
-integer_behind levels below bytes inner answer p r =
-    reads_same (λ z b. Behind (Own (int z)) levels b) (λ z b. Spells levels (int z) b) bytes answer
-    (λ z b s. behind_spelled (int z) levels b s) (λ z b s. spelled_behind (int z) levels b refl s)
-    (reads_behind (λ z below b. Own (int z) below b) integer_stands levels below p.0 bytes inner answer p.1 p.2 p.3 r)
+-- ---- terms of one kind, which has no lists: integers, pids, references
 
-pub no_integer : (levels : ℕ) (bytes rest : List ℕ) → bytes ≡ lists levels ++ rest → ReadsFront (λ z b. Spells levels (int z) b) bytes None
-no_integer levels bytes rest e =
-    reads_same (λ z b. Behind (Own (int z)) levels b) (λ z b. Spells levels (int z) b) bytes None
-    (λ z b s. behind_spelled (int z) levels b s) (λ z b s. spelled_behind (int z) levels b refl s)
-    (none_behind (λ z below b. Own (int z) below b) integer_stands levels bytes rest e)
+module _ {A : Type 0} (made : A → Data) (plain : (a : A) → is_list (made a) ≡ false) where
+  abbrev OwnRows : A → ℕ → List ℕ → Type 0
+  OwnRows a below b = Own (made a) below b
 
-pub pid_behind : (levels below : ℕ) (bytes inner : List ℕ) (answer : Option (Pid × Bor (List ℕ)))
-    → Passed levels bytes below inner → ReadsFront IsPid inner answer
-    → ReadsFront (λ p b. Spells levels (pid p) b) bytes answer
-pid_behind levels below bytes inner answer q r =
-    reads_same (λ p b. Behind (Own (pid p)) levels b) (λ p b. Spells levels (pid p) b) bytes answer
-    (λ p b s. behind_spelled (pid p) levels b s) (λ p b s. spelled_behind (pid p) levels b refl s)
-    (reads_behind (λ p below b. Own (pid p) below b) pid_stands levels below q.0 bytes inner answer q.1 q.2 q.3 r)
+  starts : (a : A) (below : ℕ) (text rest : List ℕ) → OwnRows a below text → Stands (text ++ rest)
+  starts a below text rest s = own_stands (made a) below text rest (plain a) s
 
-pub no_pid : (levels : ℕ) (bytes rest : List ℕ) → bytes ≡ lists levels ++ rest → ReadsFront (λ p b. Spells levels (pid p) b) bytes None
-no_pid levels bytes rest e =
-    reads_same (λ p b. Behind (Own (pid p)) levels b) (λ p b. Spells levels (pid p) b) bytes None
-    (λ p b s. behind_spelled (pid p) levels b s) (λ p b s. spelled_behind (pid p) levels b refl s)
-    (none_behind (λ p below b. Own (pid p) below b) pid_stands levels bytes rest e)
+  spelled : (levels : ℕ) (bytes : List ℕ) (answer : Option (A × Bor (List ℕ)))
+      → ReadsFront (λ a b. Behind (OwnRows a) levels b) bytes answer → ReadsFront (λ a b. Spells levels (made a) b) bytes answer
+  spelled levels bytes answer r =
+      reads_same (λ a b. Behind (OwnRows a) levels b) (λ a b. Spells levels (made a) b) bytes answer
+      (λ a b s. behind_spelled (made a) levels b s) (λ a b s. spelled_behind (made a) levels b (plain a) s) r
 
-pub reference_behind : (levels below : ℕ) (bytes inner : List ℕ) (answer : Option (Reference × Bor (List ℕ)))
-    → Passed levels bytes below inner → ReadsFront IsReference inner answer
-    → ReadsFront (λ r b. Spells levels (reference r) b) bytes answer
-reference_behind levels below bytes inner answer q r =
-    reads_same (λ p b. Behind (Own (reference p)) levels b) (λ p b. Spells levels (reference p) b) bytes answer
-    (λ p b s. behind_spelled (reference p) levels b s) (λ p b s. spelled_behind (reference p) levels b refl s)
-    (reads_behind (λ p below b. Own (reference p) below b) reference_stands levels below q.0 bytes inner answer q.1 q.2 q.3 r)
+  pub term_behind : (levels below : ℕ) (bytes inner : List ℕ) (answer : Option (A × Bor (List ℕ))) → Passed levels bytes below inner
+      → ReadsFront (λ a b. OwnRows a below b) inner answer → ReadsFront (λ a b. Spells levels (made a) b) bytes answer
+  term_behind levels below bytes inner answer p r =
+      spelled levels bytes answer (reads_behind OwnRows starts levels below p.0 bytes inner answer p.1 p.2 p.3 r)
 
-pub no_reference : (levels : ℕ) (bytes rest : List ℕ) → bytes ≡ lists levels ++ rest
-    → ReadsFront (λ r b. Spells levels (reference r) b) bytes None
-no_reference levels bytes rest e =
-    reads_same (λ p b. Behind (Own (reference p)) levels b) (λ p b. Spells levels (reference p) b) bytes None
-    (λ p b s. behind_spelled (reference p) levels b s) (λ p b s. spelled_behind (reference p) levels b refl s)
-    (none_behind (λ p below b. Own (reference p) below b) reference_stands levels bytes rest e)
+  pub no_term : (levels : ℕ) (bytes rest : List ℕ) → bytes ≡ lists levels ++ rest
+      → ReadsFront (λ a b. Spells levels (made a) b) bytes None
+  no_term levels bytes rest e = spelled levels bytes None (none_behind OwnRows starts levels bytes rest e)
 
 -- ---- the head of a tuple
 

@@ -202,25 +202,11 @@ binary_spelled a h lt = record { len = big_bytes 4 (length a); are_bytes = h; nu
 
 byte_is : (t : Data) → is_byte t ≡ true → t ≡ int (pos (byte_of t))
 byte_is (int (pos n)) e = refl
-byte_is (int (negsuc n)) e = absurd cc
-byte_is (atom a) e = absurd cc
-byte_is (tuple ts) e = absurd cc
-byte_is (list ts) e = absurd cc
-byte_is (improper ts t) e = absurd cc
-byte_is (binary a) e = absurd cc
-byte_is (pid p) e = absurd cc
-byte_is (reference r) e = absurd cc
+byte_is t e = absurd cc
 
 byte_fits : (t : Data) → is_byte t ≡ true → byte_of t < 256
 byte_fits (int (pos n)) e = ltb-true n 256 e
-byte_fits (int (negsuc n)) e = absurd cc
-byte_fits (atom a) e = absurd cc
-byte_fits (tuple ts) e = absurd cc
-byte_fits (list ts) e = absurd cc
-byte_fits (improper ts t) e = absurd cc
-byte_fits (binary a) e = absurd cc
-byte_fits (pid p) e = absurd cc
-byte_fits (reference r) e = absurd cc
+byte_fits t e = absurd cc
 
 string_items : (ts : Items) → are_byte_items ts ≡ true → ts ≡ byte_items (bytes_of ts)
 string_items no_items e = refl
@@ -295,28 +281,17 @@ joined_list ts = ap list (append_none ts)
 
 pub joined_improper : (ts : Items) (t : Data) → 0 < count ts → is_list t ≡ false → joined ts t ≡ improper ts t
 joined_improper no_items t some e = absurd (omega arith)
-joined_improper (item u ts) (int z) some e = refl
-joined_improper (item u ts) (atom a) some e = refl
-joined_improper (item u ts) (tuple us) some e = refl
 joined_improper (item u ts) (list us) some e = absurd cc
 joined_improper (item u ts) (improper us t) some e = absurd cc
-joined_improper (item u ts) (binary a) some e = refl
-joined_improper (item u ts) (pid p) some e = refl
-joined_improper (item u ts) (reference r) some e = refl
+joined_improper (item u ts) t some e = refl
 
 pub some_levels : (t : Data) → 1 ≤ levels_of t
-some_levels (int z) = omega arith
-some_levels (atom a) = omega arith
-some_levels (tuple ts) = omega arith
 some_levels (list ts) = by (is_string ts) refl
   where
     by : (b : Bool) → is_string ts ≡ b → 1 ≤ levels_of (list ts)
     by true e = rw e (omega arith)
     by false e = rw e (omega arith)
-some_levels (improper ts t) = omega arith
-some_levels (binary a) = omega arith
-some_levels (pid p) = omega arith
-some_levels (reference r) = omega arith
+some_levels t = omega arith
 
 -- the items of a list lie at most a level below it
 list_levels : (ts : Items) → levels_of (list ts) ≤ suc (most_levels ts)
@@ -342,18 +317,8 @@ joined_levels : (ts : Items) (t : Data) → levels_of (joined ts t) ≤ suc (max
 joined_levels ts (list us) =
     let a = list_levels (append_items ts us) in let b = append_levels ts us in let c = items_levels us in omega arith
 joined_levels ts (improper us t) = let b = append_levels ts us in omega arith
-joined_levels no_items (int z) = omega arith
-joined_levels no_items (atom a) = omega arith
-joined_levels no_items (tuple us) = omega arith
-joined_levels no_items (binary a) = omega arith
-joined_levels no_items (pid p) = omega arith
-joined_levels no_items (reference r) = omega arith
-joined_levels (item u ts) (int z) = omega arith
-joined_levels (item u ts) (atom a) = omega arith
-joined_levels (item u ts) (tuple us) = omega arith
-joined_levels (item u ts) (binary a) = omega arith
-joined_levels (item u ts) (pid p) = omega arith
-joined_levels (item u ts) (reference r) = omega arith
+joined_levels no_items t = omega arith
+joined_levels (item u ts) t = omega arith
 
 cells_spelled : (below : ℕ) (t : Data) (ts : Items) (last : Data) (elements tail : List ℕ) → count ts < 2 ^ 32
     → SpellAll (Spells below) ts elements → Spells below last tail → t ≡ joined ts last
@@ -423,8 +388,6 @@ items_least levels least no_items b s = omega arith
 items_least levels least (item t ts) b s = let one = least t s.0 s.2 in let more = items_least levels least ts s.1 s.3 in omega arith
 
 row_least : (below : ℕ) → Least below → (t : Data) (b : List ℕ) → SpellsBy (Spells below) t b → levels_of t ≤ suc below
-row_least below least (int z) b s = omega arith
-row_least below least (atom a) b s = omega arith
 row_least below least (tuple ts) b (inl s) = let l = items_least below least ts s.elements s.spelled in omega arith
 row_least below least (tuple ts) b (inr s) = let l = items_least below least ts s.elements s.spelled in omega arith
 row_least below least (list ts) b (inl s) = let e : levels_of (list ts) ≡ 1 = ap (λ us. levels_of (list us)) s.0 in omega arith
@@ -432,9 +395,7 @@ row_least below least (list ts) b (inr s) =
     let e : levels_of (list ts) ≡ 1 = cond-true (is_string ts) 1 (suc (most_levels ts))
     (letters_string ts s.letters s.value s.are_bytes (number_2 (length s.letters) s.len s.number)) in omega arith
 row_least below least (improper ts t) b s = absurd s
-row_least below least (binary a) b s = omega arith
-row_least below least (pid p) b s = omega arith
-row_least below least (reference r) b s = omega arith
+row_least below least t b s = omega arith
 
 cells_least : (below : ℕ) → Least below → (t : Data) (b : List ℕ) → IsList (Spells below) t b → levels_of t ≤ suc below
 cells_least below least t b s =

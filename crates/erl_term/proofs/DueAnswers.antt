@@ -11,7 +11,7 @@ use Rattle.erl_term.specs.Spelling.{IsSpelling}
 use Rattle.erl_term.specs.Faults.{IsInside, IsAtFront, HasFault}
 use Rattle.std.specs.Prelude.{IsErrOf, IfOk, IfErr}
 use Rattle.erl_term.specs.declared.term.Term.{Term}
-use Rattle.erl_term.specs.Reading.{spelling_at}
+use Rattle.erl_term.specs.Reading.{read_spelling}
 use Rattle.erl_term.specs.Answer.{limit, IsDue}
 use Rattle.erl_term.specs.Limited.{limited, answer_at, taken_of}
 use Rattle.erl_term.specs.Skipping.{rest_of}
@@ -22,29 +22,29 @@ use Rattle.erl_term.proofs.WhyRows.{Explains-spelling, kind_of}
 use Rattle.erl_term.proofs.FaultKinds.{kind_is, kind_answer}
 use Rattle.erl_term.proofs.Errors.{IsReadError, read_error}
 
-pub rest_short : (bytes : List ℕ) (t : Data) (rest : List ℕ) → AreBytes bytes → spelling_at bytes ≡ Ok (t, rest)
+pub rest_short : (bytes : List ℕ) (t : Data) (rest : List ℕ) → AreBytes bytes → read_spelling bytes ≡ Ok (t, rest)
     → length rest ≤ length bytes
 rest_short bytes t rest h e =
     let k = Reads-spelling.takes bytes t rest h e in let l = ap length k.parts in omega (arith, length-append k.text rest)
 
 -- where the reader is cut the bytes end inside a spelling
-pub cut_inside : (bytes : List ℕ) → AreBytes bytes → spelling_at bytes ≡ Err Cut → IsInside 64 bytes
+pub cut_inside : (bytes : List ℕ) → AreBytes bytes → read_spelling bytes ≡ Err Cut → IsInside 64 bytes
 cut_inside bytes h e = record {
   begins = Reads-spelling.goes_on bytes h e;
-  open_end = position.cut_open cut_or (IsSpelling 64) spelling_at Reads-spelling bytes e;
+  open_end = position.cut_open cut_or (IsSpelling 64) read_spelling Reads-spelling bytes e;
 }
 
 -- and nowhere else
-pub inside_cut : (bytes : List ℕ) → AreBytes bytes → IsInside 64 bytes → spelling_at bytes ≡ Err Cut
-inside_cut bytes h i = position.inside_is_cut cut_or (IsSpelling 64) spelling_at Reads-spelling bytes h i.begins i.open_end
+pub inside_cut : (bytes : List ℕ) → AreBytes bytes → IsInside 64 bytes → read_spelling bytes ≡ Err Cut
+inside_cut bytes h i = position.inside_is_cut cut_or (IsSpelling 64) read_spelling Reads-spelling bytes h i.begins i.open_end
 
 last_byte : (front : List ℕ) (byte : ℕ) → AreBytes (front ++ byte ∷ []) → byte < 256
 last_byte front byte h = AreBytes-rest front (byte ∷ []) h 0
 
 -- any other error is a first fault
-pub fault_first : (bytes : List ℕ) (e : TermError) → AreBytes bytes → spelling_at bytes ≡ Err e → e ≢ Cut → HasFault bytes e
+pub fault_first : (bytes : List ℕ) (e : TermError) → AreBytes bytes → read_spelling bytes ≡ Err e → e ≢ Cut → HasFault bytes e
 fault_first bytes e h err not =
-    let f = position.fails_at cut_or (IsSpelling 64) spelling_at Reads-spelling bytes e h err not in
+    let f = position.fails_at cut_or (IsSpelling 64) read_spelling Reads-spelling bytes e h err not in
     let split = f.parts ∙ sym (append_assoc f.front (f.byte ∷ []) f.rest) in
     let fits : AreBytes (f.front ++ f.byte ∷ []) = position.AreBytes-front (f.front ++ f.byte ∷ []) f.rest (subst AreBytes split h) in
     let front_fits : AreBytes f.front = position.AreBytes-front f.front (f.byte ∷ []) fits in
@@ -55,14 +55,14 @@ fault_first bytes e h err not =
         rest = f.rest;
         parts = f.parts;
         inside = cut_inside f.front front_fits f.before;
-        stops = λ b. position.begins_none cut_or (IsSpelling 64) spelling_at Reads-spelling (f.front ++ f.byte ∷ []) e fits f.after not b;
+        stops = λ b. position.begins_none cut_or (IsSpelling 64) read_spelling Reads-spelling (f.front ++ f.byte ∷ []) e fits f.after not b;
       };
       why = kind_is f.front f.byte e fits (last_byte f.front f.byte fits) not f.after
           (kind_of f.front f.byte e (Explains-spelling.why f.front f.byte e fits not f.before f.after fits));
     }
 
 -- and each first fault is an error of its kind
-pub fault_answer : (bytes : List ℕ) (kind : TermError) → AreBytes bytes → HasFault bytes kind → spelling_at bytes ≡ Err kind
+pub fault_answer : (bytes : List ℕ) (kind : TermError) → AreBytes bytes → HasFault bytes kind → read_spelling bytes ≡ Err kind
 fault_answer bytes kind h w =
     let f = w.first in
     let split = f.parts ∙ sym (append_assoc w.front (w.byte ∷ []) f.rest) in
@@ -70,15 +70,15 @@ fault_answer bytes kind h w =
     let front_fits : AreBytes w.front = position.AreBytes-front w.front (w.byte ∷ []) fits in
     let k =
     position.fault_fails cut_or
-    (IsSpelling 64) spelling_at Reads-spelling w.front w.byte fits f.inside.begins f.inside.open_end f.stops in
+    (IsSpelling 64) read_spelling Reads-spelling w.front w.byte fits f.inside.begins f.inside.open_end f.stops in
     let before = inside_cut w.front front_fits f.inside in
     let same : k.0 ≡ kind =
     kind_answer w.front w.byte k.0 kind fits (last_byte w.front w.byte fits) k.1 k.2
     (kind_of w.front w.byte k.0 (Explains-spelling.why w.front w.byte k.0 fits k.1 before k.2 fits)) w.why in
-    ap spelling_at split ∙ Reads-spelling.stable (w.front ++ w.byte ∷ []) f.rest k.0 fits k.1 k.2 ∙ ap (λ (e : TermError). Err e) same
+    ap read_spelling split ∙ Reads-spelling.stable (w.front ++ w.byte ∷ []) f.rest k.0 fits k.1 k.2 ∙ ap (λ (e : TermError). Err e) same
 
 -- what is read stands at the front, and takes the bytes that are gone
-pub read_front : (bytes : List ℕ) (t : Data) (rest : List ℕ) → AreBytes bytes → spelling_at bytes ≡ Ok (t, rest)
+pub read_front : (bytes : List ℕ) (t : Data) (rest : List ℕ) → AreBytes bytes → read_spelling bytes ≡ Ok (t, rest)
     → IsAtFront bytes t (length bytes - length rest)
 read_front bytes t rest h e =
     let k = Reads-spelling.takes bytes t rest h e in
@@ -89,20 +89,20 @@ read_front bytes t rest h e =
     record { within = omega arith; is_text = subst (IsSpelling 64 t) (sym front) k.is_text }
 
 -- and what stands there is read
-pub front_read : (bytes : List ℕ) (t : Data) (n : ℕ) → IsAtFront bytes t n → spelling_at bytes ≡ Ok (t, drop n bytes)
-front_read bytes t n f = ap spelling_at (sym (take-append-drop n bytes)) ∙ Reads-spelling.again t (take n bytes) (drop n bytes) f.is_text
+pub front_read : (bytes : List ℕ) (t : Data) (n : ℕ) → IsAtFront bytes t n → read_spelling bytes ≡ Ok (t, drop n bytes)
+front_read bytes t n f = ap read_spelling (sym (take-append-drop n bytes)) ∙ Reads-spelling.again t (take n bytes) (drop n bytes) f.is_text
 
-due_ok : (bytes : List ℕ) (x : Data × List ℕ) (b : Bool) → AreBytes bytes → spelling_at bytes ≡ Ok x
+due_ok : (bytes : List ℕ) (x : Data × List ℕ) (b : Bool) → AreBytes bytes → read_spelling bytes ≡ Ok x
     → ltb limit (length bytes - length x.1) ≡ b → IsDue bytes (cond b (Err TooLong) (Ok (x.0, length bytes - length x.1)))
 due_ok bytes x true h e l = inr (x.0, length bytes - length x.1, ltb-true limit (length bytes - length x.1) l, read_front bytes x.0 x.1 h e)
 due_ok bytes x false h e l = (read_front bytes x.0 x.1 h e, ltb-false limit (length bytes - length x.1) l)
 
-due_cut : (bytes : List ℕ) (b : Bool) → AreBytes bytes → spelling_at bytes ≡ Err Cut → ltb limit (length bytes) ≡ b
+due_cut : (bytes : List ℕ) (b : Bool) → AreBytes bytes → read_spelling bytes ≡ Err Cut → ltb limit (length bytes) ≡ b
     → IsDue bytes (cond b (Err TooLong) (Err Cut))
 due_cut bytes true h e l = inl (ltb-true limit (length bytes) l, cut_inside bytes h e)
 due_cut bytes false h e l = (cut_inside bytes h e, ltb-false limit (length bytes) l)
 
-due_err : (bytes : List ℕ) (e : TermError) → AreBytes bytes → IsReadError e → spelling_at bytes ≡ Err e
+due_err : (bytes : List ℕ) (e : TermError) → AreBytes bytes → IsReadError e → read_spelling bytes ≡ Err e
     → IsDue bytes (limited (length bytes) (Err e))
 due_err bytes Cut h k e = due_cut bytes _ h e refl
 due_err bytes Malformed h k e = fault_first bytes Malformed h e (λ q. cc)
@@ -111,14 +111,14 @@ due_err bytes TooDeep h k e = fault_first bytes TooDeep h e (λ q. cc)
 due_err bytes TooLong h k e = absurd k
 due_err bytes OutOfMemory h k e = absurd k
 
-due_known : (bytes : List ℕ) → AreBytes bytes → Known (spelling_at bytes) → IsDue bytes (answer_at bytes)
+due_known : (bytes : List ℕ) → AreBytes bytes → Known (read_spelling bytes) → IsDue bytes (answer_at bytes)
 unfolding answer_at
 due_known bytes h (is_ok x e) = rw e (due_ok bytes x _ h e refl)
 due_known bytes h (is_err f e) = rw e (due_err bytes f h (read_error bytes f e) e)
 
 -- what the reader from the left answers is due
 pub answer_due : (bytes : List ℕ) → AreBytes bytes → IsDue bytes (answer_at bytes)
-answer_due bytes h = due_known bytes h (known (spelling_at bytes))
+answer_due bytes h = due_known bytes h (known (read_spelling bytes))
 
 -- and nothing else is
 pub due_answer : (bytes : List ℕ) (a : Result (Data × ℕ) TermError) → AreBytes bytes → IsDue bytes a → answer_at bytes ≡ a
@@ -152,17 +152,17 @@ only_read bytes a due h d e = sym (due_answer bytes due h d) ∙ e
 
 -- ---- with the pass that keeps no value
 
-pub skipped_short : (bytes rest : List ℕ) → AreBytes bytes → rest_of (spelling_at bytes) ≡ Ok rest → length rest ≤ length bytes
-skipped_short bytes rest h e = by (known (spelling_at bytes))
+pub skipped_short : (bytes rest : List ℕ) → AreBytes bytes → rest_of (read_spelling bytes) ≡ Ok rest → length rest ≤ length bytes
+skipped_short bytes rest h e = by (known (read_spelling bytes))
   where
-    by : Known (spelling_at bytes) → length rest ≤ length bytes
+    by : Known (read_spelling bytes) → length rest ≤ length bytes
     by (is_ok x k) =
-        let q : rest_of (spelling_at bytes) ≡ Ok x.1 = ap rest_of k in
+        let q : rest_of (read_spelling bytes) ≡ Ok x.1 = ap rest_of k in
         let same : x.1 ≡ rest = cc in
         let l = rest_short bytes x.0 x.1 h k in
         let m = ap length same in
         omega arith
-    by (is_err f k) = absurd (let q : rest_of (spelling_at bytes) ≡ Err f = ap rest_of k in cc)
+    by (is_err f k) = absurd (let q : rest_of (read_spelling bytes) ≡ Err f = ap rest_of k in cc)
 
 scan_err : (a : Result (Data × ℕ) TermError) (e : TermError) → taken_of a ≡ Err e → a ≡ Err e
 scan_err (Ok x) e h = absurd cc

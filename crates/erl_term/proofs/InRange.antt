@@ -1,19 +1,18 @@
 -- What bytes spell is a value of the profile.
 use Rattle.erl_term.proofs.Bytes.{number_1, number_4}
 use Rattle.erl_term.proofs.Canonical.{letters_count}
-use Rattle.std.proofs.Common.{◌≡◌, ◌^◌, ◌<◌, ◌≤◌, ◌+◌, inl, inr, ℕ, zero, suc, true, false}
+use Rattle.std.proofs.Common.{◌≡◌, ◌^◌, ◌<◌, ◌≤◌, ◌+◌, inl, inr, ℕ, zero, suc, false}
 use Rattle.std.proofs.Common.{get_or, List, [], ◌∷◌, ◌++◌, length, sym, ap, subst, arith, refl}
 use Rattle.std.specs.Prelude.{ℤ, pos, negsuc, FitsSigned, All}
 use Rattle.std.specs.Int.{w32, w128, cast_signed}
 use Rattle.std.proofs.Math.Facts.{sfits_to_z}
 use Rattle.std.proofs.lemmas.List.{length-append}
-use Rattle.byteorder.specs.Endian.{big_number}
 use Rattle.erl_term.specs.Canonical.{AreInRange, IsInRange, IsPidInRange, IsReferenceInRange, is_list}
 use Rattle.erl_term.specs.Data.{Data, int, atom, tuple, list, improper, binary, pid}
 use Rattle.erl_term.specs.Data.{reference, Items, no_items, item, append_items, count, joined}
 use Rattle.erl_term.specs.Numbers.{AreBytes, low_first, signed}
-use Rattle.erl_term.specs.Spelling.{AreWords, IsAtom, IsLatinAtom, IsBinary, IsInteger, IsList, IsNumber, IsPid, IsReference, IsSmallBig}
-use Rattle.erl_term.specs.Spelling.{IsSmallInteger, IsSpelling, IsString, IsTuple, SpellAll, Spells, SpellsAtom, SpellsBy, byte_items}
+use Rattle.erl_term.specs.Spelling.{AreWords, IsList, IsPid, IsReference}
+use Rattle.erl_term.specs.Spelling.{IsSpelling, IsTuple, SpellAll, Spells, SpellsAtom, SpellsBy, byte_items}
 use Rattle.erl_term.specs.Text.{IsAtomText}
 use Rattle.erl_term.specs.declared.term.Pid.{Pid}
 use Rattle.erl_term.specs.declared.term.Reference.{Reference}
@@ -103,18 +102,8 @@ joined_fine ts (list us) l len h f lt short =
 joined_fine ts (improper us t) l len h f lt short =
     let e = count-append ts us in let s = f.some in let some = f.range.0 in
     record { range = (omega arith, omega arith, f.range.2, append_range ts us h f.range.3, f.range.4); some = omega arith }
-joined_fine no_items (int z) l len h f lt short = record { range = f.range; some = omega arith }
-joined_fine no_items (atom a) l len h f lt short = record { range = f.range; some = omega arith }
-joined_fine no_items (tuple us) l len h f lt short = record { range = f.range; some = omega arith }
-joined_fine no_items (binary a) l len h f lt short = record { range = f.range; some = omega arith }
-joined_fine no_items (pid p) l len h f lt short = record { range = f.range; some = omega arith }
-joined_fine no_items (reference r) l len h f lt short = record { range = f.range; some = omega arith }
-joined_fine (item u us) (int z) l len h f lt short = behind u us (int z) len h f.range refl (omega arith) short
-joined_fine (item u us) (atom a) l len h f lt short = behind u us (atom a) len h f.range refl (omega arith) short
-joined_fine (item u us) (tuple vs) l len h f lt short = behind u us (tuple vs) len h f.range refl (omega arith) short
-joined_fine (item u us) (binary a) l len h f lt short = behind u us (binary a) len h f.range refl (omega arith) short
-joined_fine (item u us) (pid p) l len h f lt short = behind u us (pid p) len h f.range refl (omega arith) short
-joined_fine (item u us) (reference r) l len h f lt short = behind u us (reference r) len h f.range refl (omega arith) short
+joined_fine no_items t l len h f lt short = record { range = f.range; some = omega arith }
+joined_fine (item u us) t l len h f lt short = behind u us t len h f.range refl (omega arith) short
 
 -- ---- any term, from those that stand in it
 

@@ -1,11 +1,11 @@
 -- What is left of some room behind the parts of a term.
 use Rattle.std.proofs.Common.{true, false, get_or, take, ◌-◌, ◌^◌, ◌≡◌, ℕ, zero, suc}
 use Rattle.std.proofs.Common.{◌+◌, ◌<◌, ◌≤◌, List, [], ◌∷◌, length, sym, subst, arith}
-use Rattle.std.specs.Prelude.{Option, Some, None, SomeIff, pos, negsuc}
+use Rattle.std.specs.Prelude.{Option, Some, None, SomeIff, pos}
 use Rattle.std.proofs.lemmas.Bool.{cond-true, cond-false, and_parts, ltb-true}
 use Rattle.std.proofs.lemmas.List.{length-append}
 use Rattle.erl_term.specs.declared.term.Term.{Term}
-use Rattle.erl_term.specs.Data.{Data, int, atom, tuple, list, improper, binary, pid, reference, Items, no_items, item, count}
+use Rattle.erl_term.specs.Data.{Data, int, tuple, list, improper, Items, no_items, item, count}
 use Rattle.erl_term.specs.View.{view, items_view}
 use Rattle.erl_term.specs.Canonical.{canonical_head, canonical_list, canonical_items, canonical_term, is_byte}
 use Rattle.erl_term.specs.Canonical.{are_byte_items, is_string, is_list, levels_of, most_levels, IsInRange, AreInRange}
@@ -106,14 +106,7 @@ byte_range (item t ts) e = let p = and_parts (is_byte t) (are_byte_items ts) e i
   where
     at : (u : Data) → is_byte u ≡ true → IsInRange u
     at (int (pos n)) b = let lt = ltb-true n 256 b in search arith
-    at (int (negsuc n)) b = absurd cc
-    at (atom a) b = absurd cc
-    at (tuple us) b = absurd cc
-    at (list us) b = absurd cc
-    at (improper us v) b = absurd cc
-    at (binary a) b = absurd cc
-    at (pid p) b = absurd cc
-    at (reference r) b = absurd cc
+    at u b = absurd cc
 
 pub string_leaves : (below room : ℕ) (ts : List Term) (r : Option ℕ) → 0 < length ts → is_string (items_view ts) ≡ true
     → SomeIff r (length ts + 3 ≤ room) (room - (length ts + 3)) → Leaves (below + 1) room (list (items_view ts)) r

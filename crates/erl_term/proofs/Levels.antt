@@ -3,7 +3,7 @@ use Rattle.std.proofs.Common.{ℕ, suc, ◌+◌, ◌-◌, ◌^◌, ◌≡◌, �
 use Rattle.std.specs.Prelude.{ℤ, pos, negsuc}
 use Rattle.std.proofs.lemmas.List.{length-append}
 use Rattle.byteorder.specs.Endian.{big_bytes}
-use Rattle.erl_term.specs.Data.{Data, int, atom, tuple, list, improper, binary, pid, reference, Items, no_items, item, count}
+use Rattle.erl_term.specs.Data.{Data, int, atom, tuple, list, improper, Items, no_items, item, count}
 use Rattle.erl_term.specs.Canonical.{canonical_big, canonical_int, canonical_atom, canonical_head, canonical_pid}
 use Rattle.erl_term.specs.Canonical.{canonical_reference, canonical_binary, canonical_cells, canonical_list}
 use Rattle.erl_term.specs.Canonical.{bytes_of, is_string, levels_of, most_levels, canonical_term, canonical_items}
@@ -64,9 +64,7 @@ mutual
   levels_fit (list ts) = list_levels ts (canonical_items ts) (most_fit ts)
   levels_fit (improper ts t) =
       let m = most_fit ts in let n = levels_fit t in let l = length-cells (count ts) (canonical_items ts) (canonical_term t) in omega arith
-  levels_fit (binary a) = omega arith
-  levels_fit (pid p) = omega arith
-  levels_fit (reference r) = omega arith
+  levels_fit t = omega arith
 
   most_fit : (ts : Items) → most_levels ts ≤ length (canonical_items ts)
   most_fit no_items = omega arith

@@ -5,7 +5,7 @@ use Rattle.std.proofs.lemmas.List.{append-nil, take_more_set}
 use Rattle.erl_term.specs.declared.error.TermError.{TermError}
 use Rattle.erl_term.specs.Data.{Data, Items, no_items, item}
 use Rattle.erl_term.specs.View.{items_of}
-use Rattle.erl_term.specs.Reading.{◌>>=◌, Read, Fails, any_at, words_at, items_with}
+use Rattle.erl_term.specs.Reading.{◌>>=◌, Read, Fails, read_number, read_words, items_with}
 
 abbrev pub put_front : List Data → Items → Items
 put_front [] ts = ts
@@ -69,30 +69,30 @@ regroup_words front w (Ok x) = ap (λ (ws : List ℕ). Ok (ws, x.1)) (sym (appen
 regroup_words front w (Err e) = refl
 
 pub word_goes_on : (words : List ℕ) (count i w : ℕ) (bytes after : List ℕ) (total : Read (List ℕ)) → i < count
-    → i < length words → any_at 4 bytes ≡ Ok (w, after)
-    → with_words (take i words) (words_at (count - i) bytes) ≡ total
-    → with_words (take (i + 1) (set words i w)) (words_at (count - (i + 1)) after) ≡ total
-unfolding words_at
+    → i < length words → read_number 4 bytes ≡ Ok (w, after)
+    → with_words (take i words) (read_words (count - i) bytes) ≡ total
+    → with_words (take (i + 1) (set words i w)) (read_words (count - (i + 1)) after) ≡ total
+unfolding read_words
 word_goes_on words count i w bytes after total lt room h so_far =
     let k : count - i ≡ suc (count - (i + 1)) = omega arith in
     let front : take (i + 1) (set words i w) ≡ take i words ++ w ∷ [] = take_more_set words i w room in
-    let e : with_words (take i words) (words_at (count - i) bytes) ≡ with_words (take i words ++ w ∷ [])
-    (words_at (count - (i + 1)) after) = rw (k, h) (regroup_words (take i words) w (words_at (count - (i + 1)) after)) in
-    ap (λ (f : List ℕ). with_words f (words_at (count - (i + 1)) after)) front ∙ sym e ∙ so_far
+    let e : with_words (take i words) (read_words (count - i) bytes) ≡ with_words (take i words ++ w ∷ [])
+    (read_words (count - (i + 1)) after) = rw (k, h) (regroup_words (take i words) w (read_words (count - (i + 1)) after)) in
+    ap (λ (f : List ℕ). with_words f (read_words (count - (i + 1)) after)) front ∙ sym e ∙ so_far
 
 pub word_ends : (front : List ℕ) (count i : ℕ) (e : TermError) (bytes : List ℕ) (total : Read (List ℕ)) → i < count
-    → any_at 4 bytes ≡ Err e → with_words front (words_at (count - i) bytes) ≡ total → total ≡ Err e
-unfolding words_at
+    → read_number 4 bytes ≡ Err e → with_words front (read_words (count - i) bytes) ≡ total → total ≡ Err e
+unfolding read_words
 word_ends front count i e bytes total lt h so_far =
     let k : count - i ≡ suc (count - (i + 1)) = omega arith in
-    let all : with_words front (words_at (count - i) bytes) ≡ Err e = rw (k, h) refl in
+    let all : with_words front (read_words (count - i) bytes) ≡ Err e = rw (k, h) refl in
     sym so_far ∙ all
 
 pub words_done : (words : List ℕ) (count i : ℕ) (bytes : List ℕ) (total : Read (List ℕ)) → i ≡ count
-    → with_words (take i words) (words_at (count - i) bytes) ≡ total → total ≡ Ok (take count words, bytes)
-unfolding words_at
+    → with_words (take i words) (read_words (count - i) bytes) ≡ total → total ≡ Ok (take count words, bytes)
+unfolding read_words
 words_done words count i bytes total same so_far =
     let k : count - i ≡ 0 = omega arith in
-    let all : with_words (take i words) (words_at (count - i) bytes) ≡ Ok (take i words, bytes) =
+    let all : with_words (take i words) (read_words (count - i) bytes) ≡ Ok (take i words, bytes) =
     rw k (ap (λ (ws : List ℕ). Ok (ws, bytes)) (append-nil (take i words))) in
     sym so_far ∙ all ∙ ap (λ (n : ℕ). Ok (take n words, bytes)) same

@@ -15,8 +15,8 @@ use Rattle.erl_term.specs.Data.{Data, list, binary}
 use Rattle.erl_term.specs.Numbers.{AreBytes}
 use Rattle.erl_term.specs.Text.{latin_text}
 use Rattle.erl_term.specs.Spelling.{IsNumber, IsLatinAtom, IsString, IsBinary, AreWords, byte_items}
-use Rattle.erl_term.specs.Reading.{Read, ◌>>=◌, any_at, number_at, part_at, letters_at}
-use Rattle.erl_term.specs.Reading.{latin_at, string_at, binary_at, word_count_at, words_at}
+use Rattle.erl_term.specs.Reading.{Read, ◌>>=◌, read_number, read_bounded, read_part, read_letters}
+use Rattle.erl_term.specs.Reading.{read_latin, read_string, read_binary, read_word_count, read_words}
 use Rattle.readers.specs.Laws.{IsOnly}
 use Rattle.erl_term.proofs.Readers.{Takes, Begins, Reads, Then, and_then, Known, known, is_ok, is_err, err_of_bind}
 use Rattle.erl_term.proofs.Readers.{ok_of_bind, AreBytes-nil, Reads-then, Reads-same, Mapped, Reads-map, Reads-only}
@@ -31,7 +31,7 @@ pub record IsPart (n : ℕ) (a b : List ℕ) : Type 0 where
   pub len : length a ≡ n
   pub are_bytes : AreBytes a
 
-part_takes : (n : ℕ) (bytes a rest : List ℕ) → AreBytes bytes → part_at n bytes ≡ Ok (a, rest) → Takes (IsPart n) bytes a rest
+part_takes : (n : ℕ) (bytes a rest : List ℕ) → AreBytes bytes → read_part n bytes ≡ Ok (a, rest) → Takes (IsPart n) bytes a rest
 part_takes n bytes a rest h e =
     let g = guard_ok (ltb (length bytes) n) Cut (Ok (take n bytes, drop n bytes)) (a, rest) e in
     let long : n ≤ length bytes = ltb-false _ _ g.0 in
@@ -48,20 +48,20 @@ part_takes n bytes a rest h e =
       parts = sym (take-append-drop n bytes) ∙ ap (λ (r : List ℕ). take n bytes ++ r) rest-is;
     }
 
-part_again : (n : ℕ) (a text rest : List ℕ) → IsPart n a text → part_at n (text ++ rest) ≡ Ok (a, rest)
+part_again : (n : ℕ) (a text rest : List ℕ) → IsPart n a text → read_part n (text ++ rest) ≡ Ok (a, rest)
 part_again n a text rest s =
     let len : length text ≡ n = ap length s.same ∙ s.len in
     let long : ltb (length (text ++ rest)) n ≡ false = le-ltb _ _ (omega (arith, length-append text rest)) in
     rw (long, take_at text rest n len, drop_at text rest n len, s.same) refl
 
-pub part_cut : (n : ℕ) (bytes : List ℕ) (e : TermError) → part_at n bytes ≡ Err e → (length bytes < n) × (e ≡ Cut)
+pub part_cut : (n : ℕ) (bytes : List ℕ) (e : TermError) → read_part n bytes ≡ Err e → (length bytes < n) × (e ≡ Cut)
 part_cut n bytes e h =
     elim (guard_err (ltb (length bytes) n) Cut (Ok (take n bytes, drop n bytes)) e h) [
       | inl p ↦ (ltb-true _ _ p.0, sym p.1)
       | inr p ↦ absurd (let q = p.1 in cc)
     ]
 
-pub Reads-part : (n : ℕ) → Reads (IsPart n) (part_at n)
+pub Reads-part : (n : ℕ) → Reads (IsPart n) (read_part n)
 Reads-part n = record {
   takes = part_takes n;
   again = part_again n;
@@ -86,18 +86,18 @@ Reads-part n = record {
 abbrev pub Letters : ℕ → List ℕ → List ℕ → Type 0
 Letters width = Then (IsNumberTo 255 width) IsPart
 
-pub Reads-letters : (width : ℕ) → Reads (Letters width) (letters_at width)
-unfolding letters_at
+pub Reads-letters : (width : ℕ) → Reads (Letters width) (read_letters width)
+unfolding read_letters
 Reads-letters width =
-    Reads-then (IsNumberTo 255 width) IsPart (number_at Malformed 255 width) part_at
+    Reads-then (IsNumberTo 255 width) IsPart (read_bounded Malformed 255 width) read_part
     (Reads-number Malformed 255 width (λ e. cc)) (λ n text s. Reads-part n)
 
 abbrev pub LatinText : ℕ → List ℕ → List ℕ → Type 0
 LatinText width = Mapped latin_text (Letters width)
 
-pub Reads-latin : (width : ℕ) → Reads (LatinText width) (latin_at width)
-unfolding latin_at
-Reads-latin width = Reads-map latin_text (Letters width) (letters_at width) (Reads-letters width)
+pub Reads-latin : (width : ℕ) → Reads (LatinText width) (read_latin width)
+unfolding read_latin
+Reads-latin width = Reads-map latin_text (Letters width) (read_letters width) (Reads-letters width)
 
 letters_scalars : (letters : List ℕ) → AreBytes letters → scalars letters ≡ true
 letters_scalars [] h = refl
@@ -171,23 +171,23 @@ abbrev pub Sized : {A : Type 0} → ℕ → (List ℕ → A) → A → List ℕ 
 Sized width f = Then (IsNumber width) (λ n. Mapped f (IsPart n))
 
 abbrev pub sized_at : {A : Type 0} → ℕ → (List ℕ → A) → List ℕ → Read A
-sized_at width f = and_then (any_at width) (λ n bytes. part_at n bytes >>= λ part. Ok (f part.0, part.1))
+sized_at width f = and_then (read_number width) (λ n bytes. read_part n bytes >>= λ part. Ok (f part.0, part.1))
 
 pub Reads-sized : {A : Type 0} (width : ℕ) (f : List ℕ → A) → Reads (Sized width f) (sized_at width f)
 Reads-sized width f =
-    Reads-then (IsNumber width) (λ n. Mapped f (IsPart n)) (any_at width)
-    (λ n bytes. part_at n bytes >>= λ part. Ok (f part.0, part.1)) (Reads-any width)
-    (λ n text s. Reads-map f (IsPart n) (part_at n) (Reads-part n))
+    Reads-then (IsNumber width) (λ n. Mapped f (IsPart n)) (read_number width)
+    (λ n bytes. read_part n bytes >>= λ part. Ok (f part.0, part.1)) (Reads-any width)
+    (λ n text s. Reads-map f (IsPart n) (read_part n) (Reads-part n))
 
 abbrev pub listed : List ℕ → Data
 listed letters = list (byte_items letters)
 
-pub Reads-string : Reads (Sized 2 listed) string_at
-unfolding string_at
+pub Reads-string : Reads (Sized 2 listed) read_string
+unfolding read_string
 Reads-string = Reads-sized 2 listed
 
-pub Reads-binary : Reads (Sized 4 binary) binary_at
-unfolding binary_at
+pub Reads-binary : Reads (Sized 4 binary) read_binary
+unfolding read_binary
 Reads-binary = Reads-sized 4 binary
 
 pub string_to : (t : Data) (back b : List ℕ) → b ≡ 107 ∷ back → Sized 2 listed t back → (letters : List ℕ)
@@ -244,11 +244,11 @@ judged n = cond (eqb n.0 0) (Err Malformed) (Ok n)
 
 -- how it answers, by cases
 data Counts (bytes : List ℕ) (r : Read ℕ) : Type 0 where
-  counts_err : (e : TermError) → number_at Malformed 5 2 bytes ≡ Err e → r ≡ Err e → Counts bytes r
-  counts_none : (rest : List ℕ) → number_at Malformed 5 2 bytes ≡ Ok (0, rest) → r ≡ Err Malformed → Counts bytes r
-  counts : (n : ℕ) (rest : List ℕ) → number_at Malformed 5 2 bytes ≡ Ok (n, rest) → 1 ≤ n → r ≡ Ok (n, rest) → Counts bytes r
+  counts_err : (e : TermError) → read_bounded Malformed 5 2 bytes ≡ Err e → r ≡ Err e → Counts bytes r
+  counts_none : (rest : List ℕ) → read_bounded Malformed 5 2 bytes ≡ Ok (0, rest) → r ≡ Err Malformed → Counts bytes r
+  counts : (n : ℕ) (rest : List ℕ) → read_bounded Malformed 5 2 bytes ≡ Ok (n, rest) → 1 ≤ n → r ≡ Ok (n, rest) → Counts bytes r
 
-counts_by : (bytes : List ℕ) (n : ℕ) (rest : List ℕ) (b : Bool) → eqb n 0 ≡ b → number_at Malformed 5 2 bytes ≡ Ok (n, rest)
+counts_by : (bytes : List ℕ) (n : ℕ) (rest : List ℕ) (b : Bool) → eqb n 0 ≡ b → read_bounded Malformed 5 2 bytes ≡ Ok (n, rest)
     → Counts bytes (cond b (Err Malformed) (Ok (n, rest)))
 counts_by bytes n rest true e k = counts_none rest (k ∙ ap (λ (m : ℕ). Ok (m, rest)) (eqb-true n 0 e)) refl
 counts_by bytes n rest false e k = counts n rest k (some n e) refl
@@ -257,20 +257,20 @@ counts_by bytes n rest false e k = counts n rest k (some n e) refl
     some zero e = absurd cc
     some (suc n) e = omega arith
 
-counts_of : (bytes : List ℕ) → Known (number_at Malformed 5 2 bytes) → Counts bytes (word_count_at bytes)
-unfolding word_count_at
-counts_of bytes (is_err e k) = counts_err e k (err_of_bind (number_at Malformed 5 2 bytes) judged e k)
+counts_of : (bytes : List ℕ) → Known (read_bounded Malformed 5 2 bytes) → Counts bytes (read_word_count bytes)
+unfolding read_word_count
+counts_of bytes (is_err e k) = counts_err e k (err_of_bind (read_bounded Malformed 5 2 bytes) judged e k)
 counts_of bytes (is_ok x k) =
-    subst (Counts bytes) (sym (ok_of_bind (number_at Malformed 5 2 bytes) judged x k)) (counts_by bytes x.0 x.1 _ refl k)
+    subst (Counts bytes) (sym (ok_of_bind (read_bounded Malformed 5 2 bytes) judged x k)) (counts_by bytes x.0 x.1 _ refl k)
 
-count_is : (bytes : List ℕ) → Counts bytes (word_count_at bytes)
-count_is bytes = counts_of bytes (known (number_at Malformed 5 2 bytes))
+count_is : (bytes : List ℕ) → Counts bytes (read_word_count bytes)
+count_is bytes = counts_of bytes (known (read_bounded Malformed 5 2 bytes))
 
-Reads-to5 : Reads (IsNumberTo 5 2) (number_at Malformed 5 2)
+Reads-to5 : Reads (IsNumberTo 5 2) (read_bounded Malformed 5 2)
 Reads-to5 = Reads-number Malformed 5 2 (λ e. cc)
 
-count_takes : (bytes : List ℕ) (n : ℕ) (rest : List ℕ) → AreBytes bytes → Counts bytes (word_count_at bytes)
-    → word_count_at bytes ≡ Ok (n, rest) → Takes IsWordCount bytes n rest
+count_takes : (bytes : List ℕ) (n : ℕ) (rest : List ℕ) → AreBytes bytes → Counts bytes (read_word_count bytes)
+    → read_word_count bytes ≡ Ok (n, rest) → Takes IsWordCount bytes n rest
 count_takes bytes n rest h (counts_err e k r) eq = absurd cc
 count_takes bytes n rest h (counts_none s k r) eq = absurd cc
 count_takes bytes n rest h (counts m s k some r) eq =
@@ -279,29 +279,29 @@ count_takes bytes n rest h (counts m s k some r) eq =
     let t = Reads-to5.takes bytes n rest h (k ∙ ap (λ (q : ℕ × List ℕ). Ok q) same) in
     record { text = t.text; is_text = record { number = t.is_text.number; some = omega arith; few = t.is_text.bound }; parts = t.parts }
 
-count_again : (n : ℕ) (text rest : List ℕ) → IsWordCount n text → word_count_at (text ++ rest) ≡ Ok (n, rest)
-unfolding word_count_at
+count_again : (n : ℕ) (text rest : List ℕ) → IsWordCount n text → read_word_count (text ++ rest) ≡ Ok (n, rest)
+unfolding read_word_count
 count_again n text rest s =
     let k = Reads-to5.again n text rest (record { number = s.number; bound = s.few }) in
-    ok_of_bind (number_at Malformed 5 2 (text ++ rest)) judged (n, rest) k ∙ some n s.some
+    ok_of_bind (read_bounded Malformed 5 2 (text ++ rest)) judged (n, rest) k ∙ some n s.some
   where
     some : (n : ℕ) → 1 ≤ n → judged (n, rest) ≡ Ok (n, rest)
     some zero le = absurd (omega arith)
     some (suc n) le = rw (suc_not n) refl
 
-count_stable : (bytes more : List ℕ) (e : TermError) → AreBytes bytes → e ≢ Cut → Counts bytes (word_count_at bytes)
-    → word_count_at bytes ≡ Err e → word_count_at (bytes ++ more) ≡ Err e
-unfolding word_count_at
+count_stable : (bytes more : List ℕ) (e : TermError) → AreBytes bytes → e ≢ Cut → Counts bytes (read_word_count bytes)
+    → read_word_count bytes ≡ Err e → read_word_count (bytes ++ more) ≡ Err e
+unfolding read_word_count
 count_stable bytes more e h c (counts n rest k some r) eq = absurd cc
 count_stable bytes more e h c (counts_err f k r) eq =
-    let k2 : number_at Malformed 5 2 bytes ≡ Err e = k ∙ sym r ∙ eq in
-    err_of_bind (number_at Malformed 5 2 (bytes ++ more)) judged e (Reads-to5.stable bytes more e h c k2)
+    let k2 : read_bounded Malformed 5 2 bytes ≡ Err e = k ∙ sym r ∙ eq in
+    err_of_bind (read_bounded Malformed 5 2 (bytes ++ more)) judged e (Reads-to5.stable bytes more e h c k2)
 count_stable bytes more e h c (counts_none rest k r) eq =
     let t = Reads-to5.takes bytes 0 rest h k in
-    let k2 : number_at Malformed 5 2 (bytes ++ more) ≡ Ok (0, rest ++ more) =
-    ap (number_at Malformed 5 2) (ap (λ (w : List ℕ). w ++ more) t.parts ∙ append_assoc t.text rest more)
+    let k2 : read_bounded Malformed 5 2 (bytes ++ more) ≡ Ok (0, rest ++ more) =
+    ap (read_bounded Malformed 5 2) (ap (λ (w : List ℕ). w ++ more) t.parts ∙ append_assoc t.text rest more)
     ∙ Reads-to5.again 0 t.text (rest ++ more) t.is_text in
-    ok_of_bind (number_at Malformed 5 2 (bytes ++ more)) judged (0, rest ++ more) k2 ∙ sym r ∙ eq
+    ok_of_bind (read_bounded Malformed 5 2 (bytes ++ more)) judged (0, rest ++ more) k2 ∙ sym r ∙ eq
 
 one_word : (b : List ℕ) → b ≡ 0 ∷ 1 ∷ [] → IsWordCount 1 b
 one_word b e =
@@ -319,7 +319,7 @@ count_begins (b ∷ []) lt le =
     let z : b ≡ 0 = omega arith in record { value = 1; more = 1 ∷ []; is_text = one_word (b ∷ 1 ∷ []) (ap (λ (j : ℕ). j ∷ 1 ∷ []) z) }
 count_begins (b ∷ c ∷ bytes) lt le = absurd (omega arith)
 
-count_goes_on : (bytes : List ℕ) → Counts bytes (word_count_at bytes) → word_count_at bytes ≡ Err Cut → Begins IsWordCount bytes
+count_goes_on : (bytes : List ℕ) → Counts bytes (read_word_count bytes) → read_word_count bytes ≡ Err Cut → Begins IsWordCount bytes
 count_goes_on bytes (counts n rest k some r) eq = absurd cc
 count_goes_on bytes (counts_none rest k r) eq = absurd (let q : Err Malformed ≡ Err Cut = sym r ∙ eq in cc)
 count_goes_on bytes (counts_err f k r) eq =
@@ -328,12 +328,12 @@ count_goes_on bytes (counts_err f k r) eq =
       | inr p ↦ count_begins bytes p.1 p.0
     ]
 
-count_starts : (e : TermError) → Counts [] (word_count_at []) → word_count_at [] ≡ Err e → e ≡ Cut
+count_starts : (e : TermError) → Counts [] (read_word_count []) → read_word_count [] ≡ Err e → e ≡ Cut
 count_starts e (counts n rest k some r) eq = absurd cc
 count_starts e (counts_none rest k r) eq = let z : Err Cut ≡ Ok (0, rest) = k in absurd cc
 count_starts e (counts_err f k r) eq = Reads-to5.starts e (k ∙ sym r ∙ eq)
 
-pub Reads-word_count : Reads IsWordCount word_count_at
+pub Reads-word_count : Reads IsWordCount read_word_count
 Reads-word_count = record {
   takes = λ bytes n rest h e. count_takes bytes n rest h (count_is bytes) e;
   again = count_again;
@@ -343,10 +343,10 @@ Reads-word_count = record {
 }
 
 -- why it is at fault
-pub word_count_why : (bytes : List ℕ) (e : TermError) → e ≢ Cut → word_count_at bytes ≡ Err e → e ≡ Malformed
+pub word_count_why : (bytes : List ℕ) (e : TermError) → e ≢ Cut → read_word_count bytes ≡ Err e → e ≡ Malformed
 word_count_why bytes e c eq = by (count_is bytes)
   where
-    by : Counts bytes (word_count_at bytes) → e ≡ Malformed
+    by : Counts bytes (read_word_count bytes) → e ≡ Malformed
     by (counts n rest k some r) = absurd cc
     by (counts_none rest k r) = let q : Err e ≡ Err Malformed = sym eq ∙ r in cc
     by (counts_err f k r) =
@@ -381,15 +381,15 @@ words_back n (w ∷ ws) b s =
     }
 
 abbrev pub words_after : ℕ → ℕ → List ℕ → Read (List ℕ)
-words_after n w bytes = words_at n bytes >>= λ ws. Ok (w ∷ ws.0, ws.1)
+words_after n w bytes = read_words n bytes >>= λ ws. Ok (w ∷ ws.0, ws.1)
 
-pub Reads-words : (n : ℕ) → Reads (Counted n) (words_at n)
-unfolding words_at
+pub Reads-words : (n : ℕ) → Reads (Counted n) (read_words n)
+unfolding read_words
 Reads-words zero =
     Reads-same (IsOnly []) (Counted 0) (λ bytes. Ok ([], bytes))
     (λ ws b s. subst (λ us. Counted 0 us b) (sym s.0) (refl, s.1)) no_words (Reads-only [])
 Reads-words (suc n) =
     Reads-same (Then (IsNumber 4) (λ w. Mapped (λ (us : List ℕ). w ∷ us) (Counted n))) (Counted (suc n))
-    (and_then (any_at 4) (words_after n)) (words_to n) (words_back n)
-    (Reads-then (IsNumber 4) (λ w. Mapped (λ (us : List ℕ). w ∷ us) (Counted n)) (any_at 4) (words_after n) (Reads-any 4)
-    (λ w text s. Reads-map (λ (us : List ℕ). w ∷ us) (Counted n) (words_at n) (Reads-words n)))
+    (and_then (read_number 4) (words_after n)) (words_to n) (words_back n)
+    (Reads-then (IsNumber 4) (λ w. Mapped (λ (us : List ℕ). w ∷ us) (Counted n)) (read_number 4) (words_after n) (Reads-any 4)
+    (λ w text s. Reads-map (λ (us : List ℕ). w ∷ us) (Counted n) (read_words n) (Reads-words n)))

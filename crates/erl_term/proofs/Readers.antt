@@ -8,7 +8,7 @@ pub use Rattle.readers.proofs.Sequence.{err_of_bind, ok_of_bind, Reads-then, Rea
 pub use Rattle.readers.proofs.Places.{AreBytes-front}
 pub use Rattle.readers.proofs.Reasons.{Explains-weaker, Explains-by, Explains-then, Explains-map, map_read}
 use Rattle.erl_term.specs.declared.error.TermError.{TermError}
-use Rattle.erl_term.specs.declared.error.TermError.TheVariants.{Cut, Malformed, OutOfProfile, TooDeep, TooLong, OutOfMemory}
+use Rattle.erl_term.specs.declared.error.TermError.TheVariants.{Cut}
 use Rattle.erl_term.specs.Reading.{Read}
 
 abbrev pub Reads : {A : Type 0} → (A → List ℕ → Type 0) → (List ℕ → Read A) → Type 0
@@ -19,8 +19,4 @@ Explains W read = ExplainsWith Cut W read
 
 pub cut_or : (e : TermError) → (e ≡ Cut) ⊎ (e ≢ Cut)
 cut_or Cut = inl refl
-cut_or Malformed = inr (λ e. cc)
-cut_or (OutOfProfile tag) = inr (λ e. cc)
-cut_or TooDeep = inr (λ e. cc)
-cut_or TooLong = inr (λ e. cc)
-cut_or OutOfMemory = inr (λ e. cc)
+cut_or e = inr (λ q. cc)

@@ -13,8 +13,8 @@ use Rattle.erl_term.specs.declared.error.TermError.TheVariants.{Cut, Malformed, 
 use Rattle.erl_term.specs.Data.{Data, int, tuple, Items, no_items, item, count}
 use Rattle.erl_term.specs.Numbers.{AreBytes, low_first, signed}
 use Rattle.erl_term.specs.Spelling.{IsNumber, SpellAll}
-use Rattle.erl_term.specs.Reading.{Read, ◌>>=◌, any_at, number_at, part_at, small_at, integer_at}
-use Rattle.erl_term.specs.Reading.{big_at, text_at, atom_at, items_with, arities, tuple_with}
+use Rattle.erl_term.specs.Reading.{Read, ◌>>=◌, read_number, read_bounded, read_part, read_small, read_integer}
+use Rattle.erl_term.specs.Reading.{read_big, read_text, read_atom, items_with, arities, tuple_with}
 use Rattle.erl_term.proofs.Readers.{Takes, Begins, Reads, Then, and_then, Reads-then, Reads-same, Mapped, Reads-map, Reads-only}
 use Rattle.readers.specs.Laws.{IsOnly}
 use Rattle.erl_term.proofs.Base.{ok_is, padded_at, AreBytes-padded, AreBytes-take, Reads-any, IsNumberTo, Reads-number}
@@ -22,20 +22,20 @@ use Rattle.erl_term.proofs.TextReader.{IsText, Reads-text}
 
 -- ---- integers
 
-pub Reads-small : Reads (Mapped (λ n. int (pos n)) (IsNumber 1)) small_at
-unfolding small_at
-Reads-small = Reads-map (λ n. int (pos n)) (IsNumber 1) (any_at 1) (Reads-any 1)
+pub Reads-small : Reads (Mapped (λ n. int (pos n)) (IsNumber 1)) read_small
+unfolding read_small
+Reads-small = Reads-map (λ n. int (pos n)) (IsNumber 1) (read_number 1) (Reads-any 1)
 
-pub Reads-integer : Reads (Mapped (λ n. int (cast_signed w32 n)) (IsNumber 4)) integer_at
-unfolding integer_at
-Reads-integer = Reads-map (λ n. int (cast_signed w32 n)) (IsNumber 4) (any_at 4) (Reads-any 4)
+pub Reads-integer : Reads (Mapped (λ n. int (cast_signed w32 n)) (IsNumber 4)) read_integer
+unfolding read_integer
+Reads-integer = Reads-map (λ n. int (cast_signed w32 n)) (IsNumber 4) (read_number 4) (Reads-any 4)
 
 -- ---- atoms
 
-pub Reads-atom : (width : ℕ) → Reads (Then (IsNumberTo 1020 width) IsText) (atom_at width)
-unfolding atom_at
+pub Reads-atom : (width : ℕ) → Reads (Then (IsNumberTo 1020 width) IsText) (read_atom width)
+unfolding read_atom
 Reads-atom width =
-    Reads-then (IsNumberTo 1020 width) IsText (number_at Malformed 1020 width) text_at
+    Reads-then (IsNumberTo 1020 width) IsText (read_bounded Malformed 1020 width) read_text
     (Reads-number Malformed 1020 width (λ e. cc)) (λ n text s. Reads-text n s.bound)
 
 -- ---- so many terms
@@ -84,20 +84,21 @@ Reads-items Spell one (suc n) r =
 
 -- ---- tuples
 
+-- a tuple with elements has a level below it
+pub some_below : (below n : ℕ) → n ≤ arities below → 0 < n → 0 < below
+some_below zero n le lt = absurd (omega arith)
+some_below (suc b) n le lt = omega arith
+
 pub Reads-tuple : (below : ℕ) (Spell : Data → List ℕ → Type 0) (one : List ℕ → Read Data) (width : ℕ)
     → (0 < below → Reads Spell one)
     → Reads (Then (IsNumberTo (arities below) width) (λ n. Mapped tuple (AreItems Spell n))) (tuple_with below one width)
 unfolding tuple_with
 Reads-tuple below Spell one width r =
     Reads-then (IsNumberTo (arities below) width) (λ n. Mapped tuple (AreItems Spell n))
-    (number_at TooDeep (arities below) width) (λ n bytes. items_with one n bytes >>= λ ts. Ok (tuple ts.0, ts.1))
+    (read_bounded TooDeep (arities below) width) (λ n bytes. items_with one n bytes >>= λ ts. Ok (tuple ts.0, ts.1))
     (Reads-number TooDeep (arities below) width (λ e. cc))
     (λ n text s.
-    Reads-map tuple (AreItems Spell n) (items_with one n) (Reads-items Spell one n (λ some. r (below_some below n s.bound some))))
-  where
-    below_some : (below n : ℕ) → n ≤ arities below → 0 < n → 0 < below
-    below_some zero n le lt = absurd (omega arith)
-    below_some (suc b) n le lt = omega arith
+    Reads-map tuple (AreItems Spell n) (items_with one n) (Reads-items Spell one n (λ some. r (some_below below n s.bound some))))
 
 -- ---- big integers
 
@@ -111,7 +112,7 @@ abbrev pub judged_magnitude : ℕ → List ℕ × List ℕ → Read Data
 judged_magnitude sign m = cond (ltb (low_first m.0) (2 ^ 127 + sign)) (Ok (int (signed sign (low_first m.0)), m.1)) (Err (OutOfProfile 110))
 
 abbrev pub magnitude_at : ℕ → ℕ → List ℕ → Read Data
-magnitude_at n sign bytes = part_at n bytes >>= judged_magnitude sign
+magnitude_at n sign bytes = read_part n bytes >>= judged_magnitude sign
 
 -- how it answers, by cases
 pub data Weighs (n sign : ℕ) (bytes : List ℕ) (r : Read Data) : Type 0 where
@@ -214,10 +215,10 @@ Reads-magnitude n sign le = record {
   starts = λ e k. magnitude_starts n sign e (weighs n sign []) k;
 }
 
-pub Reads-big : Reads (Then (IsNumberTo 16 1) (λ n. Then (IsNumberTo 1 1) (IsMagnitude n))) big_at
-unfolding big_at
+pub Reads-big : Reads (Then (IsNumberTo 16 1) (λ n. Then (IsNumberTo 1 1) (IsMagnitude n))) read_big
+unfolding read_big
 Reads-big =
-    Reads-then (IsNumberTo 16 1) (λ n. Then (IsNumberTo 1 1) (IsMagnitude n)) (number_at (OutOfProfile 110) 16 1)
-    (λ n. and_then (number_at Malformed 1 1) (magnitude_at n)) (Reads-number (OutOfProfile 110) 16 1 (λ e. cc))
-    (λ n text s. Reads-then (IsNumberTo 1 1) (IsMagnitude n) (number_at Malformed 1 1) (magnitude_at n)
+    Reads-then (IsNumberTo 16 1) (λ n. Then (IsNumberTo 1 1) (IsMagnitude n)) (read_bounded (OutOfProfile 110) 16 1)
+    (λ n. and_then (read_bounded Malformed 1 1) (magnitude_at n)) (Reads-number (OutOfProfile 110) 16 1 (λ e. cc))
+    (λ n text s. Reads-then (IsNumberTo 1 1) (IsMagnitude n) (read_bounded Malformed 1 1) (magnitude_at n)
     (Reads-number Malformed 1 1 (λ e. cc)) (λ sign more z. Reads-magnitude n sign s.bound))

@@ -3,7 +3,7 @@ use Rattle.erl_term.proofs.Why.{count-append}
 use Rattle.std.proofs.Math.Bool.{and-true}
 use Rattle.std.proofs.Common.{◌≡◌, ℕ, suc, ◌+◌, ◌^◌, ◌<◌, ◌≤◌, min, max, Bool, true, false}
 use Rattle.std.proofs.Common.{ltb, List, [], ◌∷◌, length, refl, sym, ap, ◌∙◌, arith}
-use Rattle.std.specs.Prelude.{ℤ, pos, negsuc, ◌&&◌}
+use Rattle.std.specs.Prelude.{ℤ, pos, ◌&&◌}
 use Rattle.std.proofs.lemmas.List.{length-append}
 use Rattle.std.proofs.lemmas.Bool.{false≢true, ltb-true, ltb-false, lt-ltb, le-ltb, and_left, and_right, and_from, cond-true, cond-false}
 use Rattle.byteorder.specs.Endian.{big_bytes}
@@ -22,6 +22,7 @@ use Rattle.erl_term.specs.Canonical.{canonical_binary, canonical_list, bytes_of,
 use Rattle.erl_term.specs.Canonical.{is_list, canonical_term, canonical_items, levels_of, most_levels}
 use Rattle.erl_term.specs.Size.{capped, size_of, run_of, measure_of}
 use Rattle.erl_term.proofs.Canonical.{string_count, append_levels, joined_improper, letters_count, letters_bytes}
+use Rattle.erl_term.proofs.Behind.{joined_none}
 use Rattle.erl_term.proofs.Lengths.{length-cells}
 
 abbrev pub sized : ℕ → ℕ → Size
@@ -83,13 +84,9 @@ int_kind z false e = no_list e refl (cond-false (is_byte (int z)) Byte (Other (s
 pub kind_of : (t : Data) → Kind t
 unfolding measure_of
 kind_of (int z) = int_kind z (is_byte (int z)) refl
-kind_of (atom a) = no_list refl refl refl
-kind_of (tuple ts) = no_list refl refl refl
 kind_of (list ts) = proper ts refl refl
 kind_of (improper ts t) = with_tail ts t refl refl
-kind_of (binary a) = no_list refl refl refl
-kind_of (pid p) = no_list refl refl refl
-kind_of (reference r) = no_list refl refl refl
+kind_of t = no_list refl refl refl
 
 -- ---- terms that hold no other
 
@@ -300,14 +297,7 @@ many_items_size ts r len levels e le f g =
 
 byte_takes : (t : Data) → is_byte t ≡ true → sized 2 1 ≡ size_of t
 byte_takes (int (pos n)) e = let l = byte_len n (ltb-true n 256 e) in size_is (int (pos n)) 2 1 (omega arith) refl
-byte_takes (int (negsuc n)) e = absurd (false≢true e)
-byte_takes (atom a) e = absurd (false≢true e)
-byte_takes (tuple ts) e = absurd (false≢true e)
-byte_takes (list ts) e = absurd (false≢true e)
-byte_takes (improper ts t) e = absurd (false≢true e)
-byte_takes (binary a) e = absurd (false≢true e)
-byte_takes (pid p) e = absurd (false≢true e)
-byte_takes (reference r) e = absurd (false≢true e)
+byte_takes t e = absurd (false≢true e)
 
 pub size_byte : (t : Data) (m : Measure) → m ≡ measure_of t → m ≡ Byte → (sized 2 1 ≡ size_of t) × (is_byte t ≡ true)
 size_byte t m e f =
@@ -378,17 +368,7 @@ join_improper ts t r more all s m e f g then =
 
 pub join_alone : (ts : Items) (t : Data) (r : Run) (m : Measure) → r ≡ run_of ts → m ≡ measure_of t → r.count ≡ 0
     → is_list t ≡ false → m ≡ measure_of (joined ts t)
-join_alone no_items t r m e f z l = f ∙ ap measure_of (sym (alone t l))
-  where
-    alone : (u : Data) → is_list u ≡ false → joined no_items u ≡ u
-    alone (int z) k = refl
-    alone (atom a) k = refl
-    alone (tuple us) k = refl
-    alone (list us) k = absurd (false≢true (sym k))
-    alone (improper us v) k = absurd (false≢true (sym k))
-    alone (binary a) k = refl
-    alone (pid p) k = refl
-    alone (reference q) k = refl
+join_alone no_items t r m e f z l = f ∙ ap measure_of (sym (joined_none t))
 join_alone (item u ts) t r m e f z l = absurd (let x = run_parts (item u ts) r e in let n = x.count_is in omega arith)
 
 pub join_behind : (ts : Items) (t : Data) (r : Run) (s : Size) → r ≡ run_of ts → s ≡ size_of t → 0 < r.count

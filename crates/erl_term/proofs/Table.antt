@@ -10,7 +10,8 @@ use Rattle.erl_term.specs.Data.{Data, int, atom, tuple, list, improper, binary, 
 use Rattle.erl_term.specs.Numbers.{low_first, signed}
 use Rattle.erl_term.specs.Spelling.{IsNumber, IsSmallBig, SpellAll, IsTuple, SpellsBy, Spells, IsSpelling}
 use Rattle.erl_term.specs.Faults.{tags, is_tag}
-use Rattle.erl_term.specs.Reading.{Read, atom_at, latin_at, pid_at, reference_at, list_with, arities, row_with, term_at, spelling_at}
+use Rattle.erl_term.specs.Reading.{Read, read_atom, read_latin, read_pid, read_reference, list_with}
+use Rattle.erl_term.specs.Reading.{arities, row_with, read_term, read_spelling}
 use Rattle.readers.specs.Laws.{IsOnly}
 use Rattle.erl_term.proofs.Readers.{Reads, Then, and_then, Reads-then, Reads-same, Reads-by, Mapped, Reads-map, Reads-only}
 use Rattle.erl_term.proofs.Bytes.{one_byte, byte_number, number_1, number_4}
@@ -129,13 +130,13 @@ tag_rows below Spell one r k s = each_found (RowReads below Spell one) tags (
     (
       λ h. Reads-big,
       (
-        λ h. Reads-map atom (AtomText 1) (atom_at 1) (Reads-atom 1),
+        λ h. Reads-map atom (AtomText 1) (read_atom 1) (Reads-atom 1),
         (
-          λ h. Reads-map atom (AtomText 2) (atom_at 2) (Reads-atom 2),
+          λ h. Reads-map atom (AtomText 2) (read_atom 2) (Reads-atom 2),
           (
-            λ h. Reads-map atom (LatinText 1) (latin_at 1) (Reads-latin 1),
+            λ h. Reads-map atom (LatinText 1) (read_latin 1) (Reads-latin 1),
             (
-              λ h. Reads-map atom (LatinText 2) (latin_at 2) (Reads-latin 2),
+              λ h. Reads-map atom (LatinText 2) (read_latin 2) (Reads-latin 2),
               (
                 λ h. Reads-tuple below Spell one 1 r,
                 (
@@ -150,8 +151,8 @@ tag_rows below Spell one r k s = each_found (RowReads below Spell one) tags (
                         (
                           λ h. Reads-binary,
                           (
-                            λ h. Reads-map pid PidText pid_at Reads-pid,
-                            (λ h. Reads-map reference ReferenceText reference_at Reads-reference, tt),
+                            λ h. Reads-map pid PidText read_pid Reads-pid,
+                            (λ h. Reads-map reference ReferenceText read_reference Reads-reference, tt),
                           ),
                         ),
                       ),
@@ -384,23 +385,23 @@ term_back below t b (inr s) =
     let m = list_back below t b s in tagged below 108 t m.0 b refl (λ q. some_below below s.last s.tail s.is_tail) (omega arith) m.1 m.2
 
 pub term_same : (below : ℕ) (bytes : List ℕ)
-    → term_at (suc below) bytes ≡ and_then (byte_where (may_stand below) tag_fault) (row_with below (term_at below)) bytes
-unfolding term_at
-term_same below bytes = bind_where (may_stand below) tag_fault (row_with below (term_at below)) bytes (tag_fails below (term_at below))
+    → read_term (suc below) bytes ≡ and_then (byte_where (may_stand below) tag_fault) (row_with below (read_term below)) bytes
+unfolding read_term
+term_same below bytes = bind_where (may_stand below) tag_fault (row_with below (read_term below)) bytes (tag_fails below (read_term below))
 
 pub Reads-tag : (below : ℕ) → Reads (IsByteWhere (may_stand below)) (byte_where (may_stand below) tag_fault)
 Reads-tag below = Reads-where (may_stand below) tag_fault fault_not_cut 97 refl (omega arith)
 
-pub Reads-term : (levels : ℕ) → 0 < levels → Reads (Spells levels) (term_at levels)
+pub Reads-term : (levels : ℕ) → 0 < levels → Reads (Spells levels) (read_term levels)
 Reads-term zero lt = absurd (omega arith)
 Reads-term (suc below) lt =
-    Reads-by (Spells (suc below)) (and_then (byte_where (may_stand below) tag_fault) (row_with below (term_at below)))
-    (term_at (suc below)) (term_same below)
+    Reads-by (Spells (suc below)) (and_then (byte_where (may_stand below) tag_fault) (row_with below (read_term below)))
+    (read_term (suc below)) (term_same below)
     (Reads-same (Tagged below) (Spells (suc below))
-    (and_then (byte_where (may_stand below) tag_fault) (row_with below (term_at below))) (term_to below) (term_back below)
+    (and_then (byte_where (may_stand below) tag_fault) (row_with below (read_term below))) (term_to below) (term_back below)
     (Reads-then (IsByteWhere (may_stand below)) (AfterTag below (Spells below)) (byte_where (may_stand below) tag_fault)
-    (row_with below (term_at below)) (Reads-tag below)
-    (λ k b s. tag_rows below (Spells below) (term_at below) (Reads-term below) k (stands below k s.passes))))
+    (row_with below (read_term below)) (Reads-tag below)
+    (λ k b s. tag_rows below (Spells below) (read_term below) (Reads-term below) k (stands below k s.passes))))
 
 -- ---- with the version byte
 
@@ -408,7 +409,7 @@ abbrev pub is_version : ℕ → Bool
 is_version k = k == 131
 
 abbrev pub version_row : ℕ → ℕ → List ℕ → Read Data
-version_row levels k bytes = cond (k == 131) (term_at levels bytes) (Err Malformed)
+version_row levels k bytes = cond (k == 131) (read_term levels bytes) (Err Malformed)
 
 pub version_fails : (levels k : ℕ) (bytes : List ℕ) → is_version k ≡ false → version_row levels k bytes ≡ Err Malformed
 version_fails levels k bytes e = rw e refl
@@ -437,10 +438,10 @@ versioned_back levels t b s = record {
   parts = s.bytes;
 }
 
-pub Reads-spelling : Reads (IsSpelling 64) spelling_at
-unfolding spelling_at
+pub Reads-spelling : Reads (IsSpelling 64) read_spelling
+unfolding read_spelling
 Reads-spelling =
-    Reads-by (IsSpelling 64) (and_then (byte_where is_version (λ k. Malformed)) (version_row 64)) spelling_at
+    Reads-by (IsSpelling 64) (and_then (byte_where is_version (λ k. Malformed)) (version_row 64)) read_spelling
     (λ bytes. bind_where is_version (λ k. Malformed) (version_row 64) bytes (version_fails 64))
     (Reads-same (Versioned 64) (IsSpelling 64) (and_then (byte_where is_version (λ k. Malformed)) (version_row 64))
     (versioned_to 64) (versioned_back 64)

@@ -9,8 +9,8 @@ use Rattle.erl_term.specs.declared.term.Pid.{Pid}
 use Rattle.erl_term.specs.declared.term.Reference.{Reference}
 use Rattle.erl_term.specs.Data.{Data, int, atom, tuple, Items, count, joined}
 use Rattle.erl_term.specs.Spelling.{IsNumber, IsAtom, SpellsAtom, IsList, IsPid, IsReference, Spells}
-use Rattle.erl_term.specs.Reading.{Read, ◌>>=◌, any_at, atom_at, latin_at, node_at, pid_at}
-use Rattle.erl_term.specs.Reading.{word_count_at, words_at, reference_at, items_with, list_with, arities}
+use Rattle.erl_term.specs.Reading.{Read, ◌>>=◌, read_number, read_atom, read_latin, read_node, read_pid}
+use Rattle.erl_term.specs.Reading.{read_word_count, read_words, read_reference, items_with, list_with, arities}
 use Rattle.erl_term.proofs.Readers.{Reads, Then, and_then, Reads-then, Reads-same, Reads-by, Mapped, Reads-map}
 use Rattle.erl_term.proofs.Bytes.{one_byte, byte_number}
 use Rattle.erl_term.proofs.Tags.{each_found, none_found, suc_not}
@@ -54,8 +54,8 @@ AfterNode k a b =
 
 abbrev pub node_row : ℕ → List ℕ → Read (List ℕ)
 node_row k bytes =
-    cond (k == 119) (atom_at 1 bytes)
-    (cond (k == 118) (atom_at 2 bytes) (cond (k == 115) (latin_at 1 bytes) (cond (k == 100) (latin_at 2 bytes) (Err Malformed))))
+    cond (k == 119) (read_atom 1 bytes)
+    (cond (k == 118) (read_atom 2 bytes) (cond (k == 115) (read_latin 1 bytes) (cond (k == 100) (read_latin 2 bytes) (Err Malformed))))
 
 pub node_rows : (k : ℕ) → is_node k ≡ true → Reads (AfterNode k) (node_row k)
 node_rows k e =
@@ -64,8 +64,8 @@ node_rows k e =
 node_fails : (k : ℕ) (bytes : List ℕ) → is_node k ≡ false → node_row k bytes ≡ Err Malformed
 node_fails k bytes e = let p = none_found node_tags k e in rw (p.0, p.1.0, p.1.1.0, p.1.1.1.0) refl
 
-pub node_same : (bytes : List ℕ) → node_at bytes ≡ and_then (byte_where is_node (λ k. Malformed)) node_row bytes
-unfolding node_at
+pub node_same : (bytes : List ℕ) → read_node bytes ≡ and_then (byte_where is_node (λ k. Malformed)) node_row bytes
+unfolding read_node
 node_same bytes = bind_where is_node (λ k. Malformed) node_row bytes node_fails
 
 pub atom_to : (tag width : ℕ) (a back b : List ℕ) → b ≡ tag ∷ back → AtomText width a back → IsAtom tag width a b
@@ -129,9 +129,9 @@ node_back a b (inr (inl s)) = let t = atom_back 118 2 a b s in noded 118 a t.0 b
 node_back a b (inr (inr (inl s))) = let t = latin_back 115 1 a b s in noded 115 a t.0 b refl (omega arith) t.1 t.2
 node_back a b (inr (inr (inr s))) = let t = latin_back 100 2 a b s in noded 100 a t.0 b refl (omega arith) t.1 t.2
 
-pub Reads-node : Reads SpellsAtom node_at
+pub Reads-node : Reads SpellsAtom read_node
 Reads-node =
-    Reads-by SpellsAtom (and_then (byte_where is_node (λ k. Malformed)) node_row) node_at node_same
+    Reads-by SpellsAtom (and_then (byte_where is_node (λ k. Malformed)) node_row) read_node node_same
     (Reads-same (Then (IsByteWhere is_node) AfterNode) SpellsAtom
     (and_then (byte_where is_node (λ k. Malformed)) node_row) node_to node_back
     (Reads-then (IsByteWhere is_node) AfterNode (byte_where is_node (λ k. Malformed)) node_row
@@ -145,20 +145,21 @@ made_pid node id serial creation = record { node = node; id = id; serial = seria
 abbrev pub PidText : Pid → List ℕ → Type 0
 PidText = Then SpellsAtom (λ node. Then (IsNumber 4) (λ id. Then (IsNumber 4) (λ serial. Mapped (made_pid node id serial) (IsNumber 4))))
 
-pub Reads-pid : Reads PidText pid_at
-unfolding pid_at
+pub Reads-pid : Reads PidText read_pid
+unfolding read_pid
 Reads-pid =
     Reads-then SpellsAtom
-    (λ node. Then (IsNumber 4) (λ id. Then (IsNumber 4) (λ serial. Mapped (made_pid node id serial) (IsNumber 4)))) node_at
-    (λ node. and_then (any_at 4) (λ id. and_then (any_at 4)
-    (λ serial bytes. any_at 4 bytes >>= λ creation. Ok (made_pid node id serial creation.0, creation.1)))) Reads-node
+    (λ node. Then (IsNumber 4) (λ id. Then (IsNumber 4) (λ serial. Mapped (made_pid node id serial) (IsNumber 4)))) read_node
+    (λ node. and_then (read_number 4) (λ id. and_then (read_number 4)
+    (λ serial bytes. read_number 4 bytes >>= λ creation. Ok (made_pid node id serial creation.0, creation.1)))) Reads-node
     (λ node t s. Reads-then (IsNumber 4) (λ id. Then (IsNumber 4) (λ serial. Mapped (made_pid node id serial) (IsNumber 4)))
-    (any_at 4)
-    (λ id. and_then (any_at 4) (λ serial bytes. any_at 4 bytes >>= λ creation. Ok (made_pid node id serial creation.0, creation.1)))
+    (read_number 4)
+    (λ id. and_then (read_number 4)
+    (λ serial bytes. read_number 4 bytes >>= λ creation. Ok (made_pid node id serial creation.0, creation.1)))
     (Reads-any 4)
-    (λ id u v. Reads-then (IsNumber 4) (λ serial. Mapped (made_pid node id serial) (IsNumber 4)) (any_at 4)
-    (λ serial bytes. any_at 4 bytes >>= λ creation. Ok (made_pid node id serial creation.0, creation.1)) (Reads-any 4)
-    (λ serial w x. Reads-map (made_pid node id serial) (IsNumber 4) (any_at 4) (Reads-any 4))))
+    (λ id u v. Reads-then (IsNumber 4) (λ serial. Mapped (made_pid node id serial) (IsNumber 4)) (read_number 4)
+    (λ serial bytes. read_number 4 bytes >>= λ creation. Ok (made_pid node id serial creation.0, creation.1)) (Reads-any 4)
+    (λ serial w x. Reads-map (made_pid node id serial) (IsNumber 4) (read_number 4) (Reads-any 4))))
 
 pub pid_to : (p : Pid) (b text : List ℕ) → text ≡ 88 ∷ b → PidText p b → IsPid p text
 pid_to p b text e s =
@@ -217,32 +218,32 @@ ReferenceText =
     Then IsWordCount (λ n. Then SpellsAtom (λ node. Then (IsNumber 4) (λ creation. Mapped (made_reference node creation) (Counted n))))
 
 abbrev pub reference_words : ℕ → List ℕ → ℕ → List ℕ → Read Reference
-reference_words n node creation bytes = words_at n bytes >>= λ words. Ok (made_reference node creation words.0, words.1)
+reference_words n node creation bytes = read_words n bytes >>= λ words. Ok (made_reference node creation words.0, words.1)
 
 pub Reads-reference_words : (n : ℕ) (node : List ℕ) (creation : ℕ)
     → Reads (Mapped (made_reference node creation) (Counted n)) (reference_words n node creation)
-Reads-reference_words n node creation = Reads-map (made_reference node creation) (Counted n) (words_at n) (Reads-words n)
+Reads-reference_words n node creation = Reads-map (made_reference node creation) (Counted n) (read_words n) (Reads-words n)
 
 pub Reads-reference_creation : (n : ℕ) (node : List ℕ) → Reads
     (Then (IsNumber 4) (λ creation. Mapped (made_reference node creation) (Counted n)))
-    (and_then (any_at 4) (reference_words n node))
+    (and_then (read_number 4) (reference_words n node))
 Reads-reference_creation n node =
-    Reads-then (IsNumber 4) (λ creation. Mapped (made_reference node creation) (Counted n)) (any_at 4)
+    Reads-then (IsNumber 4) (λ creation. Mapped (made_reference node creation) (Counted n)) (read_number 4)
     (reference_words n node) (Reads-any 4) (λ creation t s. Reads-reference_words n node creation)
 
 pub Reads-reference_node : (n : ℕ) → Reads
     (Then SpellsAtom (λ node. Then (IsNumber 4) (λ creation. Mapped (made_reference node creation) (Counted n))))
-    (and_then node_at (λ node. and_then (any_at 4) (reference_words n node)))
+    (and_then read_node (λ node. and_then (read_number 4) (reference_words n node)))
 Reads-reference_node n =
-    Reads-then SpellsAtom (λ node. Then (IsNumber 4) (λ creation. Mapped (made_reference node creation) (Counted n))) node_at
-    (λ node. and_then (any_at 4) (reference_words n node)) Reads-node (λ node t s. Reads-reference_creation n node)
+    Reads-then SpellsAtom (λ node. Then (IsNumber 4) (λ creation. Mapped (made_reference node creation) (Counted n))) read_node
+    (λ node. and_then (read_number 4) (reference_words n node)) Reads-node (λ node t s. Reads-reference_creation n node)
 
-pub Reads-reference : Reads ReferenceText reference_at
-unfolding reference_at
+pub Reads-reference : Reads ReferenceText read_reference
+unfolding read_reference
 Reads-reference =
     Reads-then IsWordCount
-    (λ n. Then SpellsAtom (λ node. Then (IsNumber 4) (λ creation. Mapped (made_reference node creation) (Counted n)))) word_count_at
-    (λ n. and_then node_at (λ node. and_then (any_at 4) (reference_words n node))) Reads-word_count
+    (λ n. Then SpellsAtom (λ node. Then (IsNumber 4) (λ creation. Mapped (made_reference node creation) (Counted n)))) read_word_count
+    (λ n. and_then read_node (λ node. and_then (read_number 4) (reference_words n node))) Reads-word_count
     (λ n t s. Reads-reference_node n)
 
 pub reference_to : (r : Reference) (back b : List ℕ) → b ≡ 90 ∷ back → ReferenceText r back → IsReference r b
@@ -304,7 +305,7 @@ abbrev pub tail_after : (List ℕ → Read Data) → Items → List ℕ → Read
 tail_after one ts bytes = one bytes >>= λ t. Ok (joined ts t.0, t.1)
 
 abbrev pub cells_at : (List ℕ → Read Data) → List ℕ → Read Data
-cells_at one = and_then (any_at 4) (λ n. and_then (items_with one n) (tail_after one))
+cells_at one = and_then (read_number 4) (λ n. and_then (items_with one n) (tail_after one))
 
 pub Reads-tail : (Spell : Data → List ℕ → Type 0) (one : List ℕ → Read Data) → Reads Spell one → (n : ℕ)
     → Reads (Then (AreItems Spell n) (λ ts. Mapped (joined ts) Spell)) (and_then (items_with one n) (tail_after one))
@@ -314,7 +315,7 @@ Reads-tail Spell one r n =
 
 pub Reads-cells : (Spell : Data → List ℕ → Type 0) (one : List ℕ → Read Data) → Reads Spell one → Reads (ListText Spell) (cells_at one)
 Reads-cells Spell one r =
-    Reads-then (IsNumber 4) (λ n. Then (AreItems Spell n) (λ ts. Mapped (joined ts) Spell)) (any_at 4)
+    Reads-then (IsNumber 4) (λ n. Then (AreItems Spell n) (λ ts. Mapped (joined ts) Spell)) (read_number 4)
     (λ n. and_then (items_with one n) (tail_after one)) (Reads-any 4) (λ n t s. Reads-tail Spell one r n)
 
 pub list_same : (below : ℕ) (one : List ℕ → Read Data) (bytes : List ℕ) → 0 < below → list_with below one bytes ≡ cells_at one bytes

@@ -10,7 +10,7 @@ use Rattle.erl_term.specs.Data.{Data}
 use Rattle.erl_term.specs.Spelling.{Spells}
 use Rattle.erl_term.specs.Canonical.{canonical, levels_of}
 use Rattle.erl_term.specs.Parts.{ReadsFront}
-use Rattle.erl_term.specs.Reading.{Read, term_at}
+use Rattle.erl_term.specs.Reading.{Read, read_term}
 use Rattle.erl_term.specs.Size.{size_of, measure_of, seen_by}
 use Rattle.erl_term.specs.TermAt.{data_in, size_in}
 use Rattle.erl_term.proofs.Base.{ok_is}
@@ -20,32 +20,32 @@ use Rattle.erl_term.proofs.Sizes.{size_parts}
 use Rattle.erl_term.proofs.Measured.{seen_ok, seen_err}
 
 again : (levels : ℕ) (bytes : List ℕ) (t : Data) (text rest : List ℕ) → Spells levels t text → bytes ≡ text ++ rest
-    → term_at levels bytes ≡ Ok (t, rest)
+    → read_term levels bytes ≡ Ok (t, rest)
 again zero bytes t text rest s e = absurd s
-again (suc below) bytes t text rest s e = ap (term_at (suc below)) e ∙ (Reads-term (suc below) (omega arith)).again t text rest s
+again (suc below) bytes t text rest s e = ap (read_term (suc below)) e ∙ (Reads-term (suc below) (omega arith)).again t text rest s
 
 term_some : (levels : ℕ) (bytes : List ℕ) (x : Data × Bor (List ℕ)) → AreBytes bytes
-    → term_at levels bytes ≡ Ok (x.0, x.1.now) → ReadsFront (Spells levels) bytes (Some x)
-unfolding term_at
+    → read_term levels bytes ≡ Ok (x.0, x.1.now) → ReadsFront (Spells levels) bytes (Some x)
+unfolding read_term
 term_some zero bytes x h e = absurd cc
 term_some (suc below) bytes x h e =
-    front_some (λ (t : Data). t) (Spells (suc below)) (term_at (suc below) bytes) bytes x (λ a b q. q) e
+    front_some (λ (t : Data). t) (Spells (suc below)) (read_term (suc below) bytes) bytes x (λ a b q. q) e
     ((Reads-term (suc below) (omega arith)).takes bytes x.0 x.1.now h e) (again (suc below) bytes)
 
 -- what was measured is the term that is read
 pub measured_front : (levels : ℕ) (bytes : List ℕ) (m : Measure) (rest : Bor (List ℕ)) → AreBytes bytes
-    → seen_by measure_of (term_at levels bytes) ≡ Ok (m, rest.now)
-    → ReadsFront (Spells levels) bytes (Some (data_in (term_at levels bytes), rest))
+    → seen_by measure_of (read_term levels bytes) ≡ Ok (m, rest.now)
+    → ReadsFront (Spells levels) bytes (Some (data_in (read_term levels bytes), rest))
 measured_front levels bytes m rest h e =
-    let s = seen_ok measure_of (term_at levels bytes) m rest.now e in
-    let same : data_in (term_at levels bytes) ≡ s.value = ap data_in s.is_read in
-    term_some levels bytes (data_in (term_at levels bytes), rest) h (s.is_read ∙ ap (λ (t : Data). Ok (t, rest.now)) (sym same))
+    let s = seen_ok measure_of (read_term levels bytes) m rest.now e in
+    let same : data_in (read_term levels bytes) ≡ s.value = ap data_in s.is_read in
+    term_some levels bytes (data_in (read_term levels bytes), rest) h (s.is_read ∙ ap (λ (t : Data). Ok (t, rest.now)) (sym same))
 
-pub measured_none : (levels : ℕ) (bytes : List ℕ) (d : TermError) → seen_by measure_of (term_at levels bytes) ≡ Err d
+pub measured_none : (levels : ℕ) (bytes : List ℕ) (d : TermError) → seen_by measure_of (read_term levels bytes) ≡ Err d
     → ReadsFront (Spells levels) bytes None
 measured_none levels bytes d e =
-    front_none (λ (t : Data). t) (Spells levels) (term_at levels bytes) bytes d
-    (seen_err measure_of (term_at levels bytes) d e) (again levels bytes)
+    front_none (λ (t : Data). t) (Spells levels) (read_term levels bytes) bytes d
+    (seen_err measure_of (read_term levels bytes) d e) (again levels bytes)
 
 pub measured_size : (read : Read Data) (m : Measure) (rest : List ℕ) (size : Size) → seen_by measure_of read ≡ Ok (m, rest)
     → ((t : Data) → m ≡ measure_of t → size ≡ size_of t) → size_in read ≡ Ok size

@@ -220,11 +220,8 @@ fill (suc (suc (suc (suc r)))) = 65536 ∷ fill r
 
 fill_scalars : (r : ℕ) → scalars (fill r) ≡ true
 unfolding fill
-fill_scalars zero = refl
-fill_scalars (suc zero) = refl
-fill_scalars (suc (suc zero)) = refl
-fill_scalars (suc (suc (suc zero))) = refl
 fill_scalars (suc (suc (suc (suc r)))) = fill_scalars r
+fill_scalars r = refl
 
 fill_len : (r : ℕ) → length (encodes (fill r)) ≡ r
 unfolding fill
@@ -237,11 +234,8 @@ fill_len (suc (suc (suc (suc r)))) =
 
 fill_count : (r : ℕ) → 4 * length (fill r) ≤ r + 3
 unfolding fill
-fill_count zero = omega arith
-fill_count (suc zero) = omega arith
-fill_count (suc (suc zero)) = omega arith
-fill_count (suc (suc (suc zero))) = omega arith
 fill_count (suc (suc (suc (suc r)))) = let k = fill_count r in omega arith
+fill_count r = omega arith
 
 valid_up_to_utf8 : (bs : List ℕ) (n : ℕ) → IsUtf8 (take (valid_len_up_to bs n) bs)
 valid_up_to_utf8 bs zero = IsUtf8-nil

@@ -1,15 +1,16 @@
 -- Why the reader is at fault with a byte, of bytes that it was inside of before.
-use Rattle.std.proofs.Common.{◌≡◌, ◌≢◌, ℕ, zero, suc, ◌+◌, ◌<◌, Bool, false, List, [], ◌∷◌, ◌++◌}
+use Rattle.std.proofs.Common.{◌≡◌, ◌≢◌, ℕ, zero, suc, ◌+◌, ◌-◌, ◌<◌, Bool, false, List, [], ◌∷◌, ◌++◌}
 use Rattle.std.proofs.Common.{length, Ok, Err, refl, sym, ap, subst, ◌∙◌, append_assoc, arith, inl, inr}
 use Rattle.std.specs.Prelude.{pos}
+use Rattle.std.proofs.lemmas.List.{nil_from_length}
 use Rattle.byteorder.specs.Endian.{big_number}
 use Rattle.erl_term.specs.declared.error.TermError.{TermError}
 use Rattle.erl_term.specs.declared.error.TermError.TheVariants.{Cut, Malformed, OutOfProfile, TooDeep}
 use Rattle.erl_term.specs.Numbers.{AreBytes}
-use Rattle.erl_term.specs.Data.{Data, int, atom, tuple, list, improper, binary, pid, reference, Items, no_items, item, count, append_items}
+use Rattle.erl_term.specs.Data.{Data, int, tuple, Items, no_items, item, count, append_items}
 use Rattle.erl_term.specs.Spelling.{SpellAll, IsTuple, IsList, SpellsBy, Spells}
 use Rattle.erl_term.specs.Faults.{is_tag, Nested, IsBadBig}
-use Rattle.erl_term.specs.Reading.{any_at, number_at, items_with, term_at}
+use Rattle.erl_term.specs.Reading.{read_number, read_bounded, items_with, read_term}
 use Rattle.erl_term.proofs.Readers.{Begins, Reads, AreBytes-nil, known, Mapped, Reads-map, Explains, Explains-then, Explains-map, map_read}
 use Rattle.erl_term.proofs.Base.{ok_is, any_cut, number_err, where_err, byte_where}
 use Rattle.erl_term.proofs.Rows.{AreItems, Reads-items}
@@ -48,15 +49,9 @@ list_more S T to t b s = record {
 
 row_more : (S T : Data → List ℕ → Type 0) → ((t : Data) (b : List ℕ) → S t b → T t b) → (t : Data) (b : List ℕ)
     → SpellsBy S t b → SpellsBy T t b
-row_more S T to (int z) b s = s
-row_more S T to (atom a) b s = s
 row_more S T to (tuple ts) b (inl s) = inl (tuple_more S T to 104 1 ts b s)
 row_more S T to (tuple ts) b (inr s) = inr (tuple_more S T to 105 4 ts b s)
-row_more S T to (list ts) b s = s
-row_more S T to (improper ts t) b s = s
-row_more S T to (binary a) b s = s
-row_more S T to (pid p) b s = s
-row_more S T to (reference r) b s = s
+row_more S T to t b s = s
 
 pub one_more : (levels : ℕ) (t : Data) (b : List ℕ) → Spells levels t b → Spells (suc levels) t b
 one_more zero t b s = absurd s
@@ -88,6 +83,13 @@ unfolding zero_items
 zero_count zero = refl
 zero_count (suc n) = let e = zero_count n in omega arith
 
+-- how many there are, once zeros stand for those that are missing
+pub filled_count : (before : Items) (t : Data) (n : ℕ) → count before < n
+    → count (append_items before (item t (zero_items (n - (count before + 1))))) ≡ n
+filled_count before t n lt =
+    let a = count-append before (item t (zero_items (n - (count before + 1)))) in
+    let b = zero_count (n - (count before + 1)) in omega arith
+
 zero_byte : AreBytes (0 ∷ [])
 zero_byte zero = omega arith
 zero_byte (suc i) = AreBytes-nil i
@@ -112,7 +114,7 @@ Nothing front byte e = ⊥
 abbrev pub IsOnly : TermError → List ℕ → ℕ → TermError → Type 0
 IsOnly f front byte e = e ≡ f
 
-pub Explains-any : (n : ℕ) → Explains Nothing (any_at n)
+pub Explains-any : (n : ℕ) → Explains Nothing (read_number n)
 Explains-any n = record { why = λ front byte e h c k l. absurd (c (any_cut n (front ++ byte ∷ []) e l).1) }
 
 pub record TooMuch (most n : ℕ) (fault : TermError) (front : List ℕ) (byte : ℕ) (e : TermError) : Type 0 where
@@ -120,7 +122,7 @@ pub record TooMuch (most n : ℕ) (fault : TermError) (front : List ℕ) (byte :
   pub high : most < big_number n (front ++ byte ∷ [])
   pub short : length front < n
 
-pub Explains-number : (fault : TermError) (most n : ℕ) → fault ≢ Cut → Explains (TooMuch most n fault) (number_at fault most n)
+pub Explains-number : (fault : TermError) (most n : ℕ) → fault ≢ Cut → Explains (TooMuch most n fault) (read_bounded fault most n)
 Explains-number fault most n c0 = record {
   why = λ front byte e h c k l.
       elim (number_err fault most n (front ++ byte ∷ []) e l) as (λ _. TooMuch most n fault front byte e) [
@@ -141,25 +143,21 @@ pub Explains-where : (test : ℕ → Bool) (fault : ℕ → TermError) → ((k :
     → Explains (IsUnknown test fault) (byte_where test fault)
 Explains-where test fault c0 = record {
   why = λ front byte e h c k l.
-      elim (where_err test fault front Cut (known (any_at 1 front)) k) as (λ _. IsUnknown test fault front byte e) [
+      elim (where_err test fault front Cut (known (read_number 1 front)) k) as (λ _. IsUnknown test fault front byte e) [
         | inl p ↦
-            let none : front ≡ [] = nil_if_short front (any_cut 1 front Cut p).0 in
+            let short = (any_cut 1 front Cut p).0 in let none = nil_from_length front (omega arith) in
             at_start byte e front none c (subst (λ (w : List ℕ). byte_where test fault (w ++ byte ∷ []) ≡ Err e) none l)
         | inr p ↦ absurd (c0 p.0.0 p.3)
       ];
 }
   where
-    nil_if_short : (l : List ℕ) → length l < 1 → l ≡ []
-    nil_if_short [] h = refl
-    nil_if_short (x ∷ l) h = absurd (omega arith)
-
     at_start : (byte : ℕ) (e : TermError) (front : List ℕ) → front ≡ [] → e ≢ Cut → byte_where test fault (byte ∷ []) ≡ Err e
         → IsUnknown test fault front byte e
     at_start byte e front none c l =
-        elim (where_err test fault (byte ∷ []) e (known (any_at 1 (byte ∷ []))) l) as (λ _. IsUnknown test fault front byte e) [
+        elim (where_err test fault (byte ∷ []) e (known (read_number 1 (byte ∷ []))) l) as (λ _. IsUnknown test fault front byte e) [
           | inl p ↦ absurd (c (any_cut 1 (byte ∷ []) e p).1)
           | inr p ↦
-              let one : any_at 1 (byte ∷ []) ≡ Ok (big_number 1 (byte ∷ []), []) = refl in
+              let one : read_number 1 (byte ∷ []) ≡ Ok (big_number 1 (byte ∷ []), []) = refl in
               let same : (big_number 1 (byte ∷ []), []) ≡ p.0 = ok_is _ _ (sym one ∙ p.1) in
               let n : p.0.0 ≡ byte =
               let q : big_number 1 (byte ∷ []) ≡ p.0.0 = ap (λ (z : ℕ × List ℕ). z.0) same in
@@ -185,18 +183,18 @@ pub record WhyItems (below n : ℕ) (front : List ℕ) (byte : ℕ) (e : TermErr
   pub parts : front ≡ elements ++ inner
   pub why : Why below inner byte e
 
-pub Explains-items : (below n : ℕ) → (0 < n → Reads (Spells below) (term_at below) × Explains (Why below) (term_at below))
-    → Explains (WhyItems below n) (items_with (term_at below) n)
+pub Explains-items : (below n : ℕ) → (0 < n → Reads (Spells below) (read_term below) × Explains (Why below) (read_term below))
+    → Explains (WhyItems below n) (items_with (read_term below) n)
 unfolding items_with
 Explains-items below zero r = record { why = λ front byte e h c k l. absurd cc }
 Explains-items below (suc n) r =
     let both = r (omega arith) in
-    Explains-then (Spells below) (λ t. Mapped (item t) (AreItems (Spells below) n)) (term_at below)
-    (λ t bytes. map_read (item t) (items_with (term_at below) n bytes)) both.0
-    (λ t text s. Reads-map (item t) (AreItems (Spells below) n) (items_with (term_at below) n)
-    (Reads-items (Spells below) (term_at below) n (λ some. both.0)))
+    Explains-then (Spells below) (λ t. Mapped (item t) (AreItems (Spells below) n)) (read_term below)
+    (λ t bytes. map_read (item t) (items_with (read_term below) n bytes)) both.0
+    (λ t text s. Reads-map (item t) (AreItems (Spells below) n) (items_with (read_term below) n)
+    (Reads-items (Spells below) (read_term below) n (λ some. both.0)))
     (Why below) (λ t. WhyItems below n) (WhyItems below (suc n)) both.1
-    (λ t text s. Explains-map (item t) (WhyItems below n) (items_with (term_at below) n) (Explains-items below n (λ some. both)))
+    (λ t text s. Explains-map (item t) (WhyItems below n) (items_with (read_term below) n) (Explains-items below n (λ some. both)))
     (λ front byte e w.
     record { before = no_items; elements = []; inner = front; spelled = refl; left = omega arith; parts = refl; why = w })
     (λ t text inner byte e s w. record {

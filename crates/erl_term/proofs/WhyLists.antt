@@ -6,13 +6,13 @@ use Rattle.erl_term.specs.declared.error.TermError.{TermError}
 use Rattle.erl_term.specs.Data.{Data, list, Items, no_items, item, count, append_items, joined}
 use Rattle.erl_term.specs.Spelling.{IsNumber, SpellAll, IsList, Spells}
 use Rattle.erl_term.specs.Faults.{Nested, IsBadBig}
-use Rattle.erl_term.specs.Reading.{any_at, items_with, term_at}
+use Rattle.erl_term.specs.Reading.{read_number, items_with, read_term}
 use Rattle.erl_term.proofs.Readers.{Begins, Reads, and_then, Then, Mapped, Reads-map, Explains, Explains-then, Explains-map}
 use Rattle.erl_term.proofs.Base.{Reads-any}
 use Rattle.erl_term.proofs.Rows.{AreItems, Reads-items}
 use Rattle.erl_term.proofs.TableRows.{tail_after, cells_at, Reads-tail}
 use Rattle.erl_term.proofs.Why.{Nothing, Explains-any, Why, unknown, in_big, by_levels, elsewhere, WhyItems, Explains-items}
-use Rattle.erl_term.proofs.Why.{one_more, all_more, count-append, spell_append, zero_items, zero_bytes, zero_count, zero_spelled}
+use Rattle.erl_term.proofs.Why.{one_more, all_more, filled_count, spell_append, zero_items, zero_bytes, zero_spelled}
 
 -- so many items, of which some are whole, and then an item or the tail that isn't
 pub record WhyCells (below n : ℕ) (front : List ℕ) (byte : ℕ) (e : TermError) : Type 0 where
@@ -35,7 +35,7 @@ item_filled m n len elements inner more before t num s u lt = record {
   len = len;
   elements = elements ++ ((inner ++ more) ++ zero_bytes (n - (count before + 1)));
   tail = 106 ∷ [];
-  number = subst (λ (j : ℕ). IsNumber 4 j len) (sym total) num;
+  number = subst (λ (j : ℕ). IsNumber 4 j len) (sym (filled_count before t n lt)) num;
   spelled = spell_append (Spells (suc m)) before (item t (zero_items (n - (count before + 1)))) elements
       ((inner ++ more) ++ zero_bytes (n - (count before + 1))) s
       (inner ++ more, zero_bytes (n - (count before + 1)), u, zero_spelled m (n - (count before + 1)), refl);
@@ -43,10 +43,6 @@ item_filled m n len elements inner more before t num s u lt = record {
   value = refl;
   bytes = ap (λ (w : List ℕ). 108 ∷ w) (simp append_assoc);
 }
-  where
-    total : count (append_items before (item t (zero_items (n - (count before + 1))))) ≡ n
-    total = let a = count-append before (item t (zero_items (n - (count before + 1)))) in
-        let b = zero_count (n - (count before + 1)) in omega arith
 
 -- and one with all its items and a tail that was begun
 tail_filled : (m n : ℕ) (len elements inner more : List ℕ) (before : Items) (t : Data) → IsNumber 4 n len
@@ -123,18 +119,18 @@ cells_why below n len inner byte e num w =
     (cells_by below n len w.elements w.inner w.before byte e num w.spelled w.left w.why)
 
 -- why the reader of a list is at fault, behind its tag
-pub Explains-cells : (below : ℕ) → Reads (Spells below) (term_at below) → Explains (Why below) (term_at below)
-    → Explains (λ front byte e. Why (suc below) (108 ∷ front) byte e) (cells_at (term_at below))
+pub Explains-cells : (below : ℕ) → Reads (Spells below) (read_term below) → Explains (Why below) (read_term below)
+    → Explains (λ front byte e. Why (suc below) (108 ∷ front) byte e) (cells_at (read_term below))
 Explains-cells below r x =
-    Explains-then (IsNumber 4) (λ n. Then (AreItems (Spells below) n) (λ ts. Mapped (joined ts) (Spells below))) (any_at 4)
-    (λ n. and_then (items_with (term_at below) n) (tail_after (term_at below))) (Reads-any 4)
-    (λ n t s. Reads-tail (Spells below) (term_at below) r n)
+    Explains-then (IsNumber 4) (λ n. Then (AreItems (Spells below) n) (λ ts. Mapped (joined ts) (Spells below))) (read_number 4)
+    (λ n. and_then (items_with (read_term below) n) (tail_after (read_term below))) (Reads-any 4)
+    (λ n t s. Reads-tail (Spells below) (read_term below) r n)
     Nothing (WhyCells below) (λ front byte e. Why (suc below) (108 ∷ front) byte e) (Explains-any 4)
     (λ n t s. Explains-then (AreItems (Spells below) n) (λ ts. Mapped (joined ts) (Spells below))
-    (items_with (term_at below) n) (tail_after (term_at below)) (Reads-items (Spells below) (term_at below) n (λ some. r))
-    (λ ts u v. Reads-map (joined ts) (Spells below) (term_at below) r)
+    (items_with (read_term below) n) (tail_after (read_term below)) (Reads-items (Spells below) (read_term below) n (λ some. r))
+    (λ ts u v. Reads-map (joined ts) (Spells below) (read_term below) r)
     (WhyItems below n) (λ ts. Why below) (WhyCells below n) (Explains-items below n (λ some. (r, x)))
-    (λ ts u v. Explains-map (joined ts) (Why below) (term_at below) x)
+    (λ ts u v. Explains-map (joined ts) (Why below) (read_term below) x)
     (λ front byte e w. record {
       before = w.before;
       elements = w.elements;

@@ -1,7 +1,7 @@
 -- Why each row of the table is at fault.
 use Rattle.std.proofs.Common.{[], ◌≡◌, ◌≢◌, ℕ, zero, suc, ◌+◌, ◌-◌, ◌^◌, ◌<◌, ◌≤◌, Bool, true, false, cond, List, ◌∷◌}
 use Rattle.std.proofs.Common.{◌++◌, length, get_or, Err, refl, sym, ap, subst, ◌∙◌, append_assoc, arith, ◌⊎◌, inl, inr}
-use Rattle.std.specs.Prelude.{pos, nat_lt, ◌==◌, replicate, slice_index}
+use Rattle.std.specs.Prelude.{pos, nat_lt, ◌==◌, replicate}
 use Rattle.std.specs.Int.{w32, cast_signed}
 use Rattle.std.proofs.lemmas.List.{length-append, length-replicate}
 use Rattle.std.proofs.lemmas.Bool.{eqb-true}
@@ -12,15 +12,16 @@ use Rattle.erl_term.specs.Numbers.{AreBytes}
 use Rattle.erl_term.specs.Data.{Data, int, atom, tuple, list, binary, pid, reference, Items, no_items, item, count, append_items}
 use Rattle.erl_term.specs.Spelling.{IsNumber, SpellAll, IsTuple, Spells}
 use Rattle.erl_term.specs.Faults.{tags, is_tag, Nested, IsBadBig, IsTooDeep, IsOutOfProfile}
-use Rattle.erl_term.specs.Reading.{Read, any_at, number_at, small_at, integer_at, big_at, atom_at, latin_at, pid_at, reference_at}
-use Rattle.erl_term.specs.Reading.{string_at, binary_at, items_with, arities, tuple_with, list_with, row_with, term_at, spelling_at}
-use Rattle.erl_term.proofs.Readers.{AreBytes-nil, AreBytes-split, Begins, Reads, and_then, Mapped, Reads-map}
+use Rattle.erl_term.specs.Reading.{Read, read_number, read_bounded, read_small, read_integer, read_big}
+use Rattle.erl_term.specs.Reading.{read_atom, read_latin, read_pid, read_reference}
+use Rattle.erl_term.specs.Reading.{read_string, read_binary, items_with, arities, tuple_with, list_with, row_with, read_term, read_spelling}
+use Rattle.erl_term.proofs.Readers.{AreBytes-split, Begins, Reads, and_then, Mapped, Reads-map}
 use Rattle.erl_term.proofs.Readers.{Explains, Explains-weaker, Explains-by, Explains-then, Explains-map, map_read}
 use Rattle.erl_term.proofs.Base.{AreBytes-padded, big_number-padded, byte_where, bind_where}
 use Rattle.erl_term.proofs.Base.{IsByteWhere, Reads-where, IsNumberTo, Reads-number}
-use Rattle.erl_term.proofs.TextReader.{says}
-use Rattle.erl_term.proofs.Rows.{AreItems, Reads-items}
+use Rattle.erl_term.proofs.Rows.{AreItems, Reads-items, some_below}
 use Rattle.erl_term.proofs.Bytes.{one_byte}
+use Rattle.erl_term.proofs.Canonical.{four_bytes}
 use Rattle.erl_term.proofs.Tags.{each_found}
 use Rattle.erl_term.proofs.Pieces.{listed}
 use Rattle.erl_term.proofs.Table.{tag_rows, term_same, AfterTag, may_stand, tag_fault, fault_not_cut, Reads-tag}
@@ -29,7 +30,7 @@ use Rattle.erl_term.proofs.TableRows.{cells_at, list_same}
 use Rattle.erl_term.proofs.WhyLists.{Explains-cells}
 use Rattle.erl_term.proofs.Why.{Nothing, IsOnly, Explains-any, TooMuch, Explains-number, IsUnknown, Explains-where}
 use Rattle.erl_term.proofs.Why.{Why, unknown, in_big, by_levels, elsewhere, WhyItems, Explains-items, one_more}
-use Rattle.erl_term.proofs.Why.{all_more, count-append, spell_append, zero_items, zero_bytes, zero_count, zero_spelled}
+use Rattle.erl_term.proofs.Why.{all_more, filled_count, spell_append, zero_items, zero_bytes, zero_count, zero_spelled}
 use Rattle.erl_term.proofs.WhyValues.{Explains-atom, Explains-latin, Explains-pid, Explains-sized, Explains-reference, BigWhy, Explains-big}
 
 -- ---- tuples
@@ -51,16 +52,12 @@ tuple_filled : (m width n : ℕ) (k : ℕ) (arity elements inner more : List ℕ
 tuple_filled m width n k arity elements inner more before t num s u lt = record {
   arity = arity;
   elements = elements ++ ((inner ++ more) ++ zero_bytes (n - (count before + 1)));
-  number = subst (λ (j : ℕ). IsNumber width j arity) (sym total) num;
+  number = subst (λ (j : ℕ). IsNumber width j arity) (sym (filled_count before t n lt)) num;
   spelled = spell_append (Spells (suc m)) before (item t (zero_items (n - (count before + 1)))) elements
       ((inner ++ more) ++ zero_bytes (n - (count before + 1))) s
       (inner ++ more, zero_bytes (n - (count before + 1)), u, zero_spelled m (n - (count before + 1)), refl);
   bytes = ap (λ (w : List ℕ). k ∷ w) (simp append_assoc);
 }
-  where
-    total : count (append_items before (item t (zero_items (n - (count before + 1))))) ≡ n
-    total = let a = count-append before (item t (zero_items (n - (count before + 1)))) in
-        let b = zero_count (n - (count before + 1)) in omega arith
 
 -- one whose arity was begun too
 arity_filled : (m width k : ℕ) (bytes : List ℕ) → AreBytes bytes → length bytes ≤ width
@@ -152,32 +149,28 @@ number_why below k width front byte e r h w =
     })
 
 tuple_why : (below k width : ℕ) → Row k width
-    → (0 < below → Reads (Spells below) (term_at below) × Explains (Why below) (term_at below))
+    → (0 < below → Reads (Spells below) (read_term below) × Explains (Why below) (read_term below))
     → (front : List ℕ) (byte : ℕ) (e : TermError) → AreBytes (front ++ byte ∷ []) → e ≢ Cut
-    → tuple_with below (term_at below) width front ≡ Err Cut
-    → tuple_with below (term_at below) width (front ++ byte ∷ []) ≡ Err e → Why (suc below) (k ∷ front) byte e
+    → tuple_with below (read_term below) width front ≡ Err Cut
+    → tuple_with below (read_term below) width (front ++ byte ∷ []) ≡ Err e → Why (suc below) (k ∷ front) byte e
 unfolding tuple_with
 tuple_why below k width r both front byte e h c l m =
     (Explains-then (IsNumberTo (arities below) width) (λ n. Mapped tuple (AreItems (Spells below) n))
-    (number_at TooDeep (arities below) width) (λ n bytes. map_read tuple (items_with (term_at below) n bytes))
+    (read_bounded TooDeep (arities below) width) (λ n bytes. map_read tuple (items_with (read_term below) n bytes))
     (Reads-number TooDeep (arities below) width (λ e. cc))
-    (λ n text s. Reads-map tuple (AreItems (Spells below) n) (items_with (term_at below) n)
-    (Reads-items (Spells below) (term_at below) n (λ some. (both (some_below below n s.bound some)).0)))
+    (λ n text s. Reads-map tuple (AreItems (Spells below) n) (items_with (read_term below) n)
+    (Reads-items (Spells below) (read_term below) n (λ some. (both (some_below below n s.bound some)).0)))
     (λ front byte e. AreBytes (front ++ byte ∷ []) → TooMuch (arities below) width TooDeep front byte e)
     (λ n. WhyItems below n) (λ front byte e. AreBytes (front ++ byte ∷ []) → Why (suc below) (k ∷ front) byte e)
     (Explains-weaker (TooMuch (arities below) width TooDeep)
     (λ front byte e. AreBytes (front ++ byte ∷ []) → TooMuch (arities below) width TooDeep front byte e)
-    (number_at TooDeep (arities below) width) (λ front byte e w h. w)
+    (read_bounded TooDeep (arities below) width) (λ front byte e w h. w)
     (Explains-number TooDeep (arities below) width (λ e. cc)))
-    (λ n text s. Explains-map tuple (WhyItems below n) (items_with (term_at below) n)
+    (λ n text s. Explains-map tuple (WhyItems below n) (items_with (read_term below) n)
     (Explains-items below n (λ some. both (some_below below n s.bound some))))
     (λ front byte e w h. number_why below k width front byte e r h (w h))
     (λ n text inner byte e s w h. items_why below k width n text inner byte e r s.number w w.before w.elements w.inner
     w.spelled w.left w.parts w.why)).why front byte e h c l m h
-  where
-    some_below : (below n : ℕ) → n ≤ arities below → 0 < n → 0 < below
-    some_below zero n le lt = absurd (omega arith)
-    some_below (suc b) n le lt = omega arith
 
 -- ---- the table
 
@@ -200,39 +193,39 @@ big_row : (below : ℕ) (front : List ℕ) (byte : ℕ) (e : TermError) → BigW
 big_row below front byte e (inl w) h = elsewhere w
 big_row below front byte e (inr w) h = in_big w.0 (inl w.1)
 
-list_row : (below : ℕ) → (0 < below → Reads (Spells below) (term_at below) × Explains (Why below) (term_at below)) → 0 < below
-    → Explains (RowWhy below 108) (list_with below (term_at below))
+list_row : (below : ℕ) → (0 < below → Reads (Spells below) (read_term below) × Explains (Why below) (read_term below)) → 0 < below
+    → Explains (RowWhy below 108) (list_with below (read_term below))
 list_row below both lt =
     let b = both lt in
     Explains-weaker (λ front byte e. Why (suc below) (108 ∷ front) byte e) (RowWhy below 108)
-    (list_with below (term_at below)) (λ front byte e w h. w)
-    (Explains-by (λ front byte e. Why (suc below) (108 ∷ front) byte e) (cells_at (term_at below))
-    (list_with below (term_at below)) (λ bytes. list_same below (term_at below) bytes lt) (Explains-cells below b.0 b.1))
+    (list_with below (read_term below)) (λ front byte e w h. w)
+    (Explains-by (λ front byte e. Why (suc below) (108 ∷ front) byte e) (cells_at (read_term below))
+    (list_with below (read_term below)) (λ bytes. list_same below (read_term below) bytes lt) (Explains-cells below b.0 b.1))
 
 quiet_row : (below k : ℕ) (read : List ℕ → Read Data) → Explains Nothing read → Explains (RowWhy below k) read
 quiet_row below k read x = Explains-weaker Nothing (RowWhy below k) read (λ front byte e w h. absurd w) x
 
 abbrev Explained : ℕ → ℕ → Type 0
-Explained below k = (k ≡ 108 → 0 < below) → Explains (RowWhy below k) (row_with below (term_at below) k)
+Explained below k = (k ≡ 108 → 0 < below) → Explains (RowWhy below k) (row_with below (read_term below) k)
 
 row_why : (below k : ℕ) → Stands below k
-    → (0 < below → Reads (Spells below) (term_at below) × Explains (Why below) (term_at below))
-    → Explains (RowWhy below k) (row_with below (term_at below) k)
-unfolding row_with small_at integer_at string_at binary_at
+    → (0 < below → Reads (Spells below) (read_term below) × Explains (Why below) (read_term below))
+    → Explains (RowWhy below k) (row_with below (read_term below) k)
+unfolding row_with read_small read_integer read_string read_binary
 row_why below k s both = each_found (Explained below) tags (
-  λ h. nothing_why (λ n. int (pos n)) below 97 (any_at 1) (Explains-any 1),
+  λ h. nothing_why (λ n. int (pos n)) below 97 (read_number 1) (Explains-any 1),
   (
-    λ h. nothing_why (λ n. int (cast_signed w32 n)) below 98 (any_at 4) (Explains-any 4),
+    λ h. nothing_why (λ n. int (cast_signed w32 n)) below 98 (read_number 4) (Explains-any 4),
     (
-      λ h. Explains-weaker BigWhy (RowWhy below 110) big_at (big_row below) Explains-big,
+      λ h. Explains-weaker BigWhy (RowWhy below 110) read_big (big_row below) Explains-big,
       (
-        λ h. malformed_why atom below 119 (atom_at 1) (Explains-atom 1),
+        λ h. malformed_why atom below 119 (read_atom 1) (Explains-atom 1),
         (
-          λ h. malformed_why atom below 118 (atom_at 2) (Explains-atom 2),
+          λ h. malformed_why atom below 118 (read_atom 2) (Explains-atom 2),
           (
-            λ h. malformed_why atom below 115 (latin_at 1) (Explains-latin 1),
+            λ h. malformed_why atom below 115 (read_latin 1) (Explains-latin 1),
             (
-              λ h. malformed_why atom below 100 (latin_at 2) (Explains-latin 2),
+              λ h. malformed_why atom below 100 (read_latin 2) (Explains-latin 2),
               (
                 λ h. record { why = λ front byte f h c l m g. tuple_why below 104 1 (row104 refl refl) both front byte f h c l m },
                 (
@@ -240,14 +233,14 @@ row_why below k s both = each_found (Explained below) tags (
                   (
                     λ h. record { why = λ front byte f h c l m g. absurd cc },
                     (
-                      λ h. quiet_row below 107 string_at (Explains-sized 2 listed),
+                      λ h. quiet_row below 107 read_string (Explains-sized 2 listed),
                       (
                         λ h. list_row below both (h refl),
                         (
-                          λ h. quiet_row below 109 binary_at (Explains-sized 4 binary),
+                          λ h. quiet_row below 109 read_binary (Explains-sized 4 binary),
                           (
-                            λ h. malformed_why pid below 88 pid_at Explains-pid,
-                            (λ h. malformed_why reference below 90 reference_at Explains-reference, tt),
+                            λ h. malformed_why pid below 88 read_pid Explains-pid,
+                            (λ h. malformed_why reference below 90 read_reference Explains-reference, tt),
                           ),
                         ),
                       ),
@@ -277,23 +270,13 @@ list_begins below byte e = record {
     len = 0 ∷ 0 ∷ 0 ∷ 0 ∷ [];
     elements = [];
     tail = 106 ∷ [];
-    number = four_bytes 0;
+    number = four_bytes 0 (omega arith);
     spelled = refl;
     is_tail = inl (inl (refl, refl));
     value = refl;
     bytes = ap (λ (j : ℕ). j ∷ 0 ∷ 0 ∷ 0 ∷ 0 ∷ 106 ∷ []) e;
   });
 }
-  where
-    zeros : (i : ℕ) → slice_index (0 ∷ 0 ∷ 0 ∷ 0 ∷ []) i < 256
-    zeros zero = omega arith
-    zeros (suc zero) = omega arith
-    zeros (suc (suc zero)) = omega arith
-    zeros (suc (suc (suc zero))) = omega arith
-    zeros (suc (suc (suc (suc i)))) = AreBytes-nil i
-
-    four_bytes : (n : ℕ) → IsNumber 4 0 (0 ∷ 0 ∷ 0 ∷ 0 ∷ [])
-    four_bytes n = record { len = refl; bytes = zeros; says = refl }
 
 unknown_why : (below : ℕ) (front : List ℕ) (byte : ℕ) (e : TermError) → IsUnknown (may_stand below) tag_fault front byte e
     → TermWhy (suc below) front byte e
@@ -314,16 +297,16 @@ tagged_why below k text inner byte e s w h =
     let fits : AreBytes (inner ++ byte ∷ []) = AreBytes-split ((text ++ inner) ++ byte ∷ []) (k ∷ []) (inner ++ byte ∷ []) h split in
     subst (λ (v : List ℕ). Why (suc below) (v ++ inner) byte e) (sym t) (w fits)
 
-pub Explains-term : (levels : ℕ) → 0 < levels → Explains (TermWhy levels) (term_at levels)
+pub Explains-term : (levels : ℕ) → 0 < levels → Explains (TermWhy levels) (read_term levels)
 Explains-term zero lt = absurd (omega arith)
 Explains-term (suc below) lt =
-    let both : 0 < below → Reads (Spells below) (term_at below) × Explains (Why below) (term_at below) =
+    let both : 0 < below → Reads (Spells below) (read_term below) × Explains (Why below) (read_term below) =
     λ some. (Reads-term below some, record { why = λ front byte e h c k l. (Explains-term below some).why front byte e h c k l h }) in
-    Explains-by (TermWhy (suc below)) (and_then (byte_where (may_stand below) tag_fault) (row_with below (term_at below)))
-    (term_at (suc below)) (term_same below)
+    Explains-by (TermWhy (suc below)) (and_then (byte_where (may_stand below) tag_fault) (row_with below (read_term below)))
+    (read_term (suc below)) (term_same below)
     (Explains-then (IsByteWhere (may_stand below)) (AfterTag below (Spells below)) (byte_where (may_stand below) tag_fault)
-    (row_with below (term_at below)) (Reads-tag below)
-    (λ k b s. tag_rows below (Spells below) (term_at below) (Reads-term below) k (stands below k s.passes))
+    (row_with below (read_term below)) (Reads-tag below)
+    (λ k b s. tag_rows below (Spells below) (read_term below) (Reads-term below) k (stands below k s.passes))
     (IsUnknown (may_stand below) tag_fault) (RowWhy below) (TermWhy (suc below))
     (Explains-where (may_stand below) tag_fault fault_not_cut) (λ k b s. row_why below k (stands below k s.passes) both)
     (unknown_why below) (tagged_why below))
@@ -350,11 +333,11 @@ spell_within k text inner byte e s w h =
     let fits : AreBytes (inner ++ byte ∷ []) = AreBytes-split ((text ++ inner) ++ byte ∷ []) (k ∷ []) (inner ++ byte ∷ []) h split in
     within inner (ap (λ (v : List ℕ). v ++ inner) t131) (w fits)
 
-pub Explains-spelling : Explains (λ front byte e. AreBytes (front ++ byte ∷ []) → SpellWhy front byte e) spelling_at
-unfolding spelling_at
+pub Explains-spelling : Explains (λ front byte e. AreBytes (front ++ byte ∷ []) → SpellWhy front byte e) read_spelling
+unfolding read_spelling
 Explains-spelling =
     Explains-by (λ front byte e. AreBytes (front ++ byte ∷ []) → SpellWhy front byte e)
-    (and_then (byte_where is_version (λ k. Malformed)) (version_row 64)) spelling_at
+    (and_then (byte_where is_version (λ k. Malformed)) (version_row 64)) read_spelling
     (λ bytes. bind_where is_version (λ k. Malformed) (version_row 64) bytes (version_fails 64))
     (Explains-then (IsByteWhere is_version) (λ k. Spells 64) (byte_where is_version (λ k. Malformed)) (version_row 64)
     (Reads-where is_version (λ k. Malformed) (λ k e. cc) 131 refl (omega arith))

@@ -3,7 +3,7 @@ use Rattle.std.specs.Prelude.{ℕ, ◌-◌, List, length, Result, Ok, Err, nat_l
 use Rattle.erl_term.specs.declared.error.TermError.{TermError}
 use Rattle.erl_term.specs.declared.error.TermError.TheVariants.{Cut, TooLong}
 use Rattle.erl_term.specs.Data.{Data}
-use Rattle.erl_term.specs.Reading.{spelling_at}
+use Rattle.erl_term.specs.Reading.{read_spelling}
 use Rattle.erl_term.specs.Answer.{limit}
 
 -- what is too long is no answer
@@ -13,7 +13,7 @@ limited n (Err Cut) = if nat_lt limit n then Err TooLong else Err Cut
 limited n (Err e) = Err e
 
 unfoldable pub answer_at : List ℕ → Result (Data × ℕ) TermError
-answer_at bytes = limited (length bytes) (spelling_at bytes)
+answer_at bytes = limited (length bytes) (read_spelling bytes)
 
 -- the bytes that it takes, with no term
 abbrev pub taken_of : Result (Data × ℕ) TermError → Result ℕ TermError

@@ -8,7 +8,7 @@ use Rattle.erl_term.specs.declared.term.Pid.{Pid}
 use Rattle.erl_term.specs.declared.term.Reference.{Reference}
 use Rattle.erl_term.specs.Data.{Data}
 use Rattle.erl_term.specs.Spelling.{IsNumber, IsSmallInteger, IsInteger, IsSmallBig}
-use Rattle.erl_term.specs.Reading.{Read, ◌>>=◌, any_at, small_at, integer_at, big_at, pid_at, reference_at}
+use Rattle.erl_term.specs.Reading.{Read, ◌>>=◌, read_number, read_small, read_integer, read_big, read_pid, read_reference}
 
 -- so many lists with no elements, each in the tail of the one before it. Such a list stands for its tail
 abbrev pub lists : ℕ → List ℕ
@@ -56,21 +56,21 @@ pub record ReadsFront {A : Type 0} (S : A → List ℕ → Type 0) (bytes : List
 
 unfoldable pub head_part_at : List ℕ → Read ℕ
 head_part_at bytes =
-    any_at 1 bytes >>= λ tag.
-    if tag.0 == 104 then any_at 1 tag.1 else (if tag.0 == 105 then any_at 4 tag.1 else Err Malformed)
+    read_number 1 bytes >>= λ tag.
+    if tag.0 == 104 then read_number 1 tag.1 else (if tag.0 == 105 then read_number 4 tag.1 else Err Malformed)
 
 unfoldable pub integer_part_at : List ℕ → Read Data
 integer_part_at bytes =
-    any_at 1 bytes >>= λ tag.
+    read_number 1 bytes >>= λ tag.
     if tag.0
-    == 97 then small_at tag.1 else (if tag.0 == 98 then integer_at tag.1 else (if tag.0 == 110 then big_at tag.1 else Err Malformed))
+    == 97 then read_small tag.1 else (if tag.0 == 98 then read_integer tag.1 else (if tag.0 == 110 then read_big tag.1 else Err Malformed))
 
 unfoldable pub pid_part_at : List ℕ → Read Pid
 pid_part_at bytes =
-    any_at 1 bytes >>= λ tag.
-    if tag.0 == 88 then pid_at tag.1 else Err Malformed
+    read_number 1 bytes >>= λ tag.
+    if tag.0 == 88 then read_pid tag.1 else Err Malformed
 
 unfoldable pub reference_part_at : List ℕ → Read Reference
 reference_part_at bytes =
-    any_at 1 bytes >>= λ tag.
-    if tag.0 == 90 then reference_at tag.1 else Err Malformed
+    read_number 1 bytes >>= λ tag.
+    if tag.0 == 90 then read_reference tag.1 else Err Malformed

@@ -10,7 +10,7 @@ ghost use Rattle.erl_term.specs.View.{view};
 
 use crate::error::TermError;
 use crate::reading::spelling_of;
-use crate::sizing::skip_spelling;
+use crate::skim::skip_spelling;
 use crate::term::Term;
 use std::alloc::Global;
 

@@ -1,14 +1,14 @@
 //! The fields of a term, read from the front of the bytes.
 ghost use Rattle.std.specs.Prelude.{◌≡◌, ◌≤◌, length, IfOk};
 ghost use Rattle.byteorder.specs.Endian.{big_number};
-ghost use Rattle.erl_term.specs.Reading.{Answers, part_at, any_at, number_at};
+ghost use Rattle.erl_term.specs.Reading.{Answers, read_part, read_number, read_bounded};
 
 use crate::error::TermError;
 use byteorder::{BigEndian, ByteOrder};
 
 /// The first byte.
 pub(crate) fn byte_of(bytes: &[u8]) -> Result<(u8, &[u8]), TermError>
-    ensures { Answers (λ x. (x.0, x.1.now)) result (any_at 1 bytes.now) }
+    ensures { Answers (λ x. (x.0, x.1.now)) result (read_number 1 bytes.now) }
 {
     match bytes {
         [] => Err(TermError::Cut),
@@ -18,7 +18,7 @@ pub(crate) fn byte_of(bytes: &[u8]) -> Result<(u8, &[u8]), TermError>
 
 /// The number of 32 bits in the first four bytes.
 pub(crate) fn word_of(bytes: &[u8]) -> Result<(u32, &[u8]), TermError>
-    ensures { Answers (λ x. (x.0, x.1.now)) result (any_at 4 bytes.now) }
+    ensures { Answers (λ x. (x.0, x.1.now)) result (read_number 4 bytes.now) }
 {
     if bytes.len() < 4 {
         return Err(TermError::Cut);
@@ -29,7 +29,7 @@ pub(crate) fn word_of(bytes: &[u8]) -> Result<(u32, &[u8]), TermError>
 
 /// The number of 16 bits in the first two bytes.
 pub(crate) fn half_of(bytes: &[u8]) -> Result<(u16, &[u8]), TermError>
-    ensures { Answers (λ x. (x.0, x.1.now)) result (any_at 2 bytes.now) }
+    ensures { Answers (λ x. (x.0, x.1.now)) result (read_number 2 bytes.now) }
 {
     if bytes.len() < 2 {
         return Err(TermError::Cut);
@@ -63,7 +63,7 @@ pub(crate) fn number_of(
 ) -> Result<(u64, &[u8]), TermError>
     requires low { 1 ≤ width }
     requires high { width ≤ 8 }
-    ensures value { Answers (λ x. (x.0, x.1.now)) result (number_at fault most width bytes.now) }
+    ensures value { Answers (λ x. (x.0, x.1.now)) result (read_bounded fault most width bytes.now) }
     ensures bound { IfOk result (λ x. x.0 ≤ most) }
 {
     let number = number_begun(bytes, width);
@@ -79,7 +79,7 @@ pub(crate) fn number_of(
 
 /// The first `len` bytes.
 pub(crate) fn part_of(bytes: &[u8], len: usize) -> Result<(&[u8], &[u8]), TermError>
-    ensures value { Answers (λ x. (x.0.now, x.1.now)) result (part_at len bytes.now) }
+    ensures value { Answers (λ x. (x.0.now, x.1.now)) result (read_part len bytes.now) }
     ensures length { IfOk result (λ x. length x.0.now ≡ len) }
 {
     if bytes.len() < len {

@@ -11,6 +11,9 @@
 //! and signals are made of these terms elsewhere. [`Refusal`] is here because each crate above names
 //! it.
 //!
+//! A reader of what stands at the front answers with the first fault if its name ends in `_of`, and
+//! with an `Option` if it ends in `_at`.
+//!
 //! Know first: [`Term`], [`Atom`], whose value in a contract is its UTF-8 bytes, and [`Pid`].
 #![tactic(auto)]
 
@@ -23,14 +26,15 @@ mod field;
 mod laws;
 mod lists;
 mod magnitude;
-mod measuring;
+mod part_len;
 mod parts;
 mod payload;
+mod profile;
 mod reading;
 mod refusal;
 mod room;
 mod size;
-mod sizing;
+mod skim;
 mod tag;
 mod term;
 mod term_ref;
@@ -46,7 +50,7 @@ pub use error::TermError;
 pub use laws::{
     canonical_is_spelling, one_answer, one_spelling, order_of_pids, read_again, short_parts,
 };
-pub use measuring::{integer_len, pid_len, reference_len, tuple_head_len};
+pub use part_len::{integer_len, pid_len, reference_len, tuple_head_len};
 pub use parts::{
     AtomRef, PidRef, ReferenceRef, TupleHead, integer_at, pid_at, reference_at, tuple_head_at,
 };

@@ -5,7 +5,7 @@
 ghost use Rattle.std.specs.Prelude.{◌≡◌, ◌≤◌, ◌↔◌, List, ℕ, length, IsTrue, OnOk};
 ghost use Rattle.erl_term.specs.Data.{int, pid, reference};
 ghost use Rattle.erl_term.specs.Spelling.{IsPid, IsReference, Spells};
-ghost use Rattle.erl_term.specs.Reading.{Answers, small_at, integer_at, text_at, atom_at, letters_at, latin_at, node_at, pid_at, word_count_at, words_at, reference_at};
+ghost use Rattle.erl_term.specs.Reading.{Answers, read_small, read_integer, read_text, read_atom, read_letters, read_latin, read_node, read_pid, read_word_count, read_words, read_reference};
 ghost use Rattle.erl_term.specs.Parts.{ReadsFront, PassesOver, IsHead, IsTupleHead, IsIntegerText, head_part_at, integer_part_at, pid_part_at, reference_part_at};
 
 use crate::atom::Atom;
@@ -253,7 +253,7 @@ fn own_head_at(bytes: &[u8]) -> Option<(u32, &[u8])>
     }
 }
 
-#[tactic(auto, unfolding(crate::specs::Parts::integer_part_at, crate::specs::Reading::small_at, crate::specs::Reading::integer_at))]
+#[tactic(auto, unfolding(crate::specs::Parts::integer_part_at, crate::specs::Reading::read_small, crate::specs::Reading::read_integer))]
 fn integer_of(bytes: &[u8]) -> Result<(i128, &[u8]), TermError>
     ensures { Answers (λ x. (int x.0, x.1.now)) result (integer_part_at bytes.now) }
 {
@@ -291,9 +291,9 @@ fn own_integer_at(bytes: &[u8]) -> Option<(i128, &[u8])>
     }
 }
 
-#[tactic(auto, unfolding(crate::specs::Reading::text_at))]
+#[tactic(auto, unfolding(crate::specs::Reading::read_text))]
 fn text_ref_of(len: usize, bytes: &[u8]) -> Result<(&str, &[u8]), TermError>
-    ensures value { Answers (λ x. (x.0.now, x.1.now)) result (text_at len bytes.now) }
+    ensures value { Answers (λ x. (x.0.now, x.1.now)) result (read_text len bytes.now) }
     ensures fits { IfOk result (λ x. length (chars x.0.now) ≤ 255) }
 {
     if bytes.len() < len {
@@ -312,11 +312,11 @@ fn text_ref_of(len: usize, bytes: &[u8]) -> Result<(&str, &[u8]), TermError>
 ghost use Rattle.std.specs.Str.{chars};
 
 /// The text of an atom whose length, in so many bytes, comes next.
-#[tactic(auto, unfolding(crate::specs::Reading::atom_at))]
+#[tactic(auto, unfolding(crate::specs::Reading::read_atom))]
 pub(crate) fn atom_ref_of(width: usize, bytes: &[u8]) -> Result<(&str, &[u8]), TermError>
     requires low { 1 ≤ width }
     requires high { width ≤ 8 }
-    ensures value { Answers (λ x. (x.0.now, x.1.now)) result (atom_at width bytes.now) }
+    ensures value { Answers (λ x. (x.0.now, x.1.now)) result (read_atom width bytes.now) }
     ensures fits { IfOk result (λ x. length (chars x.0.now) ≤ 255) }
 {
     let (len, rest) = number_of(bytes, width, 1020, TermError::Malformed)?;
@@ -324,11 +324,11 @@ pub(crate) fn atom_ref_of(width: usize, bytes: &[u8]) -> Result<(&str, &[u8]), T
 }
 
 /// The letters of an atom in Latin-1 whose length, in so many bytes, comes next.
-#[tactic(auto, unfolding(crate::specs::Reading::letters_at))]
+#[tactic(auto, unfolding(crate::specs::Reading::read_letters))]
 pub(crate) fn letters_of(width: usize, bytes: &[u8]) -> Result<(&[u8], &[u8]), TermError>
     requires low { 1 ≤ width }
     requires high { width ≤ 8 }
-    ensures value { Answers (λ x. (x.0.now, x.1.now)) result (letters_at width bytes.now) }
+    ensures value { Answers (λ x. (x.0.now, x.1.now)) result (read_letters width bytes.now) }
     ensures fits { IfOk result (λ x. length x.0.now ≤ 255) }
 {
     let (len, rest) = number_of(bytes, width, 255, TermError::Malformed)?;
@@ -339,7 +339,7 @@ pub(crate) fn letters_of(width: usize, bytes: &[u8]) -> Result<(&[u8], &[u8]), T
 pub(crate) fn utf8_ref_of(width: usize, bytes: &[u8]) -> Result<(AtomRef<'_>, &[u8]), TermError>
     requires low { 1 ≤ width }
     requires high { width ≤ 8 }
-    ensures { Answers (λ x. (x.0, x.1.now)) result (atom_at width bytes.now) }
+    ensures { Answers (λ x. (x.0, x.1.now)) result (read_atom width bytes.now) }
 {
     let (text, rest) = atom_ref_of(width, bytes)?;
     let atom = AtomRef {
@@ -349,11 +349,11 @@ pub(crate) fn utf8_ref_of(width: usize, bytes: &[u8]) -> Result<(AtomRef<'_>, &[
 }
 
 /// The atom in Latin-1 whose length, in so many bytes, and letters come next.
-#[tactic(auto, unfolding(crate::specs::Reading::latin_at))]
+#[tactic(auto, unfolding(crate::specs::Reading::read_latin))]
 pub(crate) fn latin_ref_of(width: usize, bytes: &[u8]) -> Result<(AtomRef<'_>, &[u8]), TermError>
     requires low { 1 ≤ width }
     requires high { width ≤ 8 }
-    ensures { Answers (λ x. (x.0, x.1.now)) result (latin_at width bytes.now) }
+    ensures { Answers (λ x. (x.0, x.1.now)) result (read_latin width bytes.now) }
 {
     let (letters, rest) = letters_of(width, bytes)?;
     let atom = AtomRef {
@@ -362,9 +362,9 @@ pub(crate) fn latin_ref_of(width: usize, bytes: &[u8]) -> Result<(AtomRef<'_>, &
     Ok((atom, rest))
 }
 
-#[tactic(auto, unfolding(crate::specs::Reading::node_at))]
+#[tactic(auto, unfolding(crate::specs::Reading::read_node))]
 fn node_ref_of(bytes: &[u8]) -> Result<(AtomRef<'_>, &[u8]), TermError>
-    ensures { Answers (λ x. (x.0, x.1.now)) result (node_at bytes.now) }
+    ensures { Answers (λ x. (x.0, x.1.now)) result (read_node bytes.now) }
 {
     let (tag, rest) = byte_of(bytes)?;
     match tag {
@@ -388,9 +388,9 @@ fn pid_ref_of(bytes: &[u8]) -> Result<(PidRef<'_>, &[u8]), TermError>
 }
 
 /// The process identifier whose fields come next, behind its tag.
-#[tactic(auto, unfolding(crate::specs::Reading::pid_at))]
+#[tactic(auto, unfolding(crate::specs::Reading::read_pid))]
 pub(crate) fn pid_fields_of(bytes: &[u8]) -> Result<(PidRef<'_>, &[u8]), TermError>
-    ensures { Answers (λ x. (x.0, x.1.now)) result (pid_at bytes.now) }
+    ensures { Answers (λ x. (x.0, x.1.now)) result (read_pid bytes.now) }
 {
     let (node, rest) = node_ref_of(bytes)?;
     let (id, rest) = word_of(rest)?;
@@ -425,9 +425,9 @@ fn own_pid_at(bytes: &[u8]) -> Option<(PidRef<'_>, &[u8])>
 }
 
 /// How many words a reference has.
-#[tactic(auto, unfolding(crate::specs::Reading::word_count_at))]
+#[tactic(auto, unfolding(crate::specs::Reading::read_word_count))]
 fn word_count_of(bytes: &[u8]) -> Result<(usize, &[u8]), TermError>
-    ensures value { Answers (λ x. (x.0, x.1.now)) result (word_count_at bytes.now) }
+    ensures value { Answers (λ x. (x.0, x.1.now)) result (read_word_count bytes.now) }
     ensures some { IfOk result (λ x. 1 ≤ x.0) }
     ensures few { IfOk result (λ x. x.0 ≤ 5) }
 {
@@ -442,7 +442,7 @@ fn word_count_of(bytes: &[u8]) -> Result<(usize, &[u8]), TermError>
 fn words_of(count: usize, bytes: &[u8]) -> Result<(ReferenceWords, &[u8]), TermError>
     requires some { 1 ≤ count }
     requires few { count ≤ 5 }
-    ensures { Answers (λ x. (x.0, x.1.now)) result (words_at count bytes.now) }
+    ensures { Answers (λ x. (x.0, x.1.now)) result (read_words count bytes.now) }
 {
     let mut words = [0; MOST];
     let mut rest = bytes;
@@ -455,9 +455,9 @@ fn words_of(count: usize, bytes: &[u8]) -> Result<(ReferenceWords, &[u8]), TermE
 }
 
 /// The reference whose fields come next, behind its tag.
-#[tactic(auto, unfolding(crate::specs::Reading::reference_at))]
+#[tactic(auto, unfolding(crate::specs::Reading::read_reference))]
 pub(crate) fn reference_fields_of(bytes: &[u8]) -> Result<(ReferenceRef<'_>, &[u8]), TermError>
-    ensures { Answers (λ x. (x.0, x.1.now)) result (reference_at bytes.now) }
+    ensures { Answers (λ x. (x.0, x.1.now)) result (read_reference bytes.now) }
 {
     let (count, rest) = word_count_of(bytes)?;
     let (node, rest) = node_ref_of(rest)?;

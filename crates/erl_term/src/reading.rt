@@ -1,6 +1,6 @@
 //! Reading a term from the left, up to the first fault.
 ghost use Rattle.std.specs.Prelude.{◌≡◌, ◌≤◌};
-ghost use Rattle.erl_term.specs.Reading.{Gives, Answers, seen, small_at, integer_at, big_at, atom_at, latin_at, pid_at, reference_at, string_at, binary_at, items_with, tuple_with, list_with, row_with, term_at, spelling_at};
+ghost use Rattle.erl_term.specs.Reading.{Gives, Answers, seen, read_small, read_integer, read_big, read_atom, read_latin, read_pid, read_reference, read_string, read_binary, items_with, tuple_with, list_with, row_with, read_term, read_spelling};
 ghost use Rattle.erl_term.specs.Data.{int, atom, pid, reference};
 ghost use Rattle.erl_term.specs.View.{view, items_view};
 
@@ -16,9 +16,9 @@ use crate::text::latin_text;
 use std::alloc::Global;
 
 /// The term whose spelling stands at the front, and the bytes after it.
-#[tactic(auto, unfolding(crate::specs::Reading::spelling_at))]
+#[tactic(auto, unfolding(crate::specs::Reading::read_spelling))]
 pub(crate) fn spelling_of(alloc: Global, bytes: &[u8]) -> Result<(Term, &[u8]), TermError>
-    ensures { Gives (λ x. (view x.0, x.1.now)) result (spelling_at bytes.now) }
+    ensures { Gives (λ x. (view x.0, x.1.now)) result (read_spelling bytes.now) }
 {
     let (version, rest) = byte_of(bytes)?;
     if version != tag::VERSION {
@@ -29,9 +29,9 @@ pub(crate) fn spelling_of(alloc: Global, bytes: &[u8]) -> Result<(Term, &[u8]), 
 
 /// The term of at most so many levels at the front, and the bytes after it.
 #[cycle(reader)]
-#[tactic(auto, unfolding(crate::specs::Reading::term_at, crate::specs::Reading::row_with))]
+#[tactic(auto, unfolding(crate::specs::Reading::read_term, crate::specs::Reading::row_with))]
 pub(crate) fn term_of(alloc: Global, levels: u32, bytes: &[u8]) -> Result<(Term, &[u8]), TermError>
-    ensures { Gives (λ x. (view x.0, x.1.now)) result (term_at levels bytes.now) }
+    ensures { Gives (λ x. (view x.0, x.1.now)) result (read_term levels bytes.now) }
 {
     let Some(below) = levels.checked_sub(1) else {
         return Err(TermError::TooDeep);
@@ -57,25 +57,25 @@ pub(crate) fn term_of(alloc: Global, levels: u32, bytes: &[u8]) -> Result<(Term,
     }
 }
 
-#[tactic(auto, unfolding(crate::specs::Reading::small_at))]
+#[tactic(auto, unfolding(crate::specs::Reading::read_small))]
 fn small_of(bytes: &[u8]) -> Result<(Term, &[u8]), TermError>
-    ensures { Gives (λ x. (view x.0, x.1.now)) result (small_at bytes.now) }
+    ensures { Gives (λ x. (view x.0, x.1.now)) result (read_small bytes.now) }
 {
     let (n, rest) = byte_of(bytes)?;
     Ok((Term::Int(i128::from(n)), rest))
 }
 
-#[tactic(auto, unfolding(crate::specs::Reading::integer_at))]
+#[tactic(auto, unfolding(crate::specs::Reading::read_integer))]
 fn integer_of(bytes: &[u8]) -> Result<(Term, &[u8]), TermError>
-    ensures { Gives (λ x. (view x.0, x.1.now)) result (integer_at bytes.now) }
+    ensures { Gives (λ x. (view x.0, x.1.now)) result (read_integer bytes.now) }
 {
     let (n, rest) = word_of(bytes)?;
     Ok((Term::Int(i128::from(n.cast_signed())), rest))
 }
 
-#[tactic(auto, unfolding(crate::specs::Reading::big_at))]
+#[tactic(auto, unfolding(crate::specs::Reading::read_big))]
 pub(crate) fn big_value_of(bytes: &[u8]) -> Result<(i128, &[u8]), TermError>
-    ensures { Answers (λ x. (int x.0, x.1.now)) result (big_at bytes.now) }
+    ensures { Answers (λ x. (int x.0, x.1.now)) result (read_big bytes.now) }
 {
     let (len, rest) = number_of(bytes, 1, 16, TermError::OutOfProfile(tag::SMALL_BIG))?;
     let (sign, rest) = number_of(rest, 1, 1, TermError::Malformed)?;
@@ -88,7 +88,7 @@ pub(crate) fn big_value_of(bytes: &[u8]) -> Result<(i128, &[u8]), TermError>
 }
 
 fn big_of(bytes: &[u8]) -> Result<(Term, &[u8]), TermError>
-    ensures { Gives (λ x. (view x.0, x.1.now)) result (big_at bytes.now) }
+    ensures { Gives (λ x. (view x.0, x.1.now)) result (read_big bytes.now) }
 {
     let (n, rest) = big_value_of(bytes)?;
     Ok((Term::Int(n), rest))
@@ -98,18 +98,18 @@ fn big_of(bytes: &[u8]) -> Result<(Term, &[u8]), TermError>
 fn atom_of(alloc: Global, width: usize, bytes: &[u8]) -> Result<(Atom, &[u8]), TermError>
     requires low { 1 ≤ width }
     requires high { width ≤ 8 }
-    ensures { Gives (λ x. (x.0, x.1.now)) result (atom_at width bytes.now) }
+    ensures { Gives (λ x. (x.0, x.1.now)) result (read_atom width bytes.now) }
 {
     let (text, rest) = atom_ref_of(width, bytes)?;
     Ok((Atom::new(String::from_str(alloc, text)?), rest))
 }
 
 /// The atom in Latin-1 whose length, in so many bytes, and letters come next.
-#[tactic(auto, unfolding(crate::specs::Reading::latin_at))]
+#[tactic(auto, unfolding(crate::specs::Reading::read_latin))]
 fn latin_of(alloc: Global, width: usize, bytes: &[u8]) -> Result<(Atom, &[u8]), TermError>
     requires low { 1 ≤ width }
     requires high { width ≤ 8 }
-    ensures { Gives (λ x. (x.0, x.1.now)) result (latin_at width bytes.now) }
+    ensures { Gives (λ x. (x.0, x.1.now)) result (read_latin width bytes.now) }
 {
     let (letters, rest) = letters_of(width, bytes)?;
     Ok((Atom::new(latin_text(alloc, letters)?), rest))
@@ -118,7 +118,7 @@ fn latin_of(alloc: Global, width: usize, bytes: &[u8]) -> Result<(Atom, &[u8]), 
 fn atom_term_of(alloc: Global, width: usize, bytes: &[u8]) -> Result<(Term, &[u8]), TermError>
     requires low { 1 ≤ width }
     requires high { width ≤ 8 }
-    ensures { Gives (λ x. (view x.0, x.1.now)) result (seen atom (atom_at width bytes.now)) }
+    ensures { Gives (λ x. (view x.0, x.1.now)) result (seen atom (read_atom width bytes.now)) }
 {
     let (atom, rest) = atom_of(alloc, width, bytes)?;
     Ok((Term::Atom(atom), rest))
@@ -127,38 +127,38 @@ fn atom_term_of(alloc: Global, width: usize, bytes: &[u8]) -> Result<(Term, &[u8
 fn latin_term_of(alloc: Global, width: usize, bytes: &[u8]) -> Result<(Term, &[u8]), TermError>
     requires low { 1 ≤ width }
     requires high { width ≤ 8 }
-    ensures { Gives (λ x. (view x.0, x.1.now)) result (seen atom (latin_at width bytes.now)) }
+    ensures { Gives (λ x. (view x.0, x.1.now)) result (seen atom (read_latin width bytes.now)) }
 {
     let (atom, rest) = latin_of(alloc, width, bytes)?;
     Ok((Term::Atom(atom), rest))
 }
 
 fn pid_term_of(alloc: Global, bytes: &[u8]) -> Result<(Term, &[u8]), TermError>
-    ensures { Gives (λ x. (view x.0, x.1.now)) result (seen pid (pid_at bytes.now)) }
+    ensures { Gives (λ x. (view x.0, x.1.now)) result (seen pid (read_pid bytes.now)) }
 {
     let (pid, rest) = pid_fields_of(bytes)?;
     Ok((Term::Pid(pid.to_pid(alloc)?), rest))
 }
 
 fn reference_term_of(alloc: Global, bytes: &[u8]) -> Result<(Term, &[u8]), TermError>
-    ensures { Gives (λ x. (view x.0, x.1.now)) result (seen reference (reference_at bytes.now)) }
+    ensures { Gives (λ x. (view x.0, x.1.now)) result (seen reference (read_reference bytes.now)) }
 {
     let (reference, rest) = reference_fields_of(bytes)?;
     Ok((Term::Reference(reference.to_reference(alloc)?), rest))
 }
 
-#[tactic(auto, unfolding(crate::specs::Reading::string_at))]
+#[tactic(auto, unfolding(crate::specs::Reading::read_string))]
 fn string_of(alloc: Global, bytes: &[u8]) -> Result<(Term, &[u8]), TermError>
-    ensures { Gives (λ x. (view x.0, x.1.now)) result (string_at bytes.now) }
+    ensures { Gives (λ x. (view x.0, x.1.now)) result (read_string bytes.now) }
 {
     let (len, rest) = half_of(bytes)?;
     let (letters, rest) = part_of(rest, usize::from(len))?;
     Ok((Term::list(byte_list(alloc, letters)?), rest))
 }
 
-#[tactic(auto, unfolding(crate::specs::Reading::binary_at))]
+#[tactic(auto, unfolding(crate::specs::Reading::read_binary))]
 fn binary_of(alloc: Global, bytes: &[u8]) -> Result<(Term, &[u8]), TermError>
-    ensures { Gives (λ x. (view x.0, x.1.now)) result (binary_at bytes.now) }
+    ensures { Gives (λ x. (view x.0, x.1.now)) result (read_binary bytes.now) }
 {
     let (len, rest) = word_of(bytes)?;
     let (part, rest) = part_of(rest, len as usize)?;
@@ -168,7 +168,7 @@ fn binary_of(alloc: Global, bytes: &[u8]) -> Result<(Term, &[u8]), TermError>
 #[cycle(reader)]
 #[tactic(auto, unfolding(crate::specs::Reading::list_with))]
 fn list_of(alloc: Global, below: u32, bytes: &[u8]) -> Result<(Term, &[u8]), TermError>
-    ensures { Gives (λ x. (view x.0, x.1.now)) result (list_with below (term_at below) bytes.now) }
+    ensures { Gives (λ x. (view x.0, x.1.now)) result (list_with below (read_term below) bytes.now) }
 {
     if below == 0 {
         return Err(TermError::TooDeep);
@@ -189,9 +189,9 @@ fn tuple_of(
 ) -> Result<(Term, &[u8]), TermError>
     requires low { 1 ≤ width }
     requires high { width ≤ 8 }
-    ensures { Gives (λ x. (view x.0, x.1.now)) result (tuple_with below (term_at below) width bytes.now) }
+    ensures { Gives (λ x. (view x.0, x.1.now)) result (tuple_with below (read_term below) width bytes.now) }
 {
-    let most = if below == 0 { 0 } else { 4294967295 };
+    let most = if below == 0 { 0 } else { u64::from(u32::MAX) };
     let (arity, rest) = number_of(bytes, width, most, TermError::TooDeep)?;
     let (items, rest) = items_of(alloc, below, arity, rest)?;
     Ok((Term::Tuple(items), rest))
@@ -204,7 +204,7 @@ fn items_of(
     count: u64,
     bytes: &[u8],
 ) -> Result<(Vec<Term>, &[u8]), TermError>
-    ensures { Gives (λ x. (items_view x.0.items, x.1.now)) result (items_with (term_at below) count bytes.now) }
+    ensures { Gives (λ x. (items_view x.0.items, x.1.now)) result (items_with (read_term below) count bytes.now) }
 {
     // Each item takes a byte at least.
     let mut items = Vec::with_capacity(alloc, bytes.len().min(count as usize))?;

@@ -6,10 +6,8 @@ ghost use Rattle.erl_term.specs.Room.{Leaves, LeavesOfItems};
 ghost use Rattle.erl_term.specs.View.{view, items_view};
 
 use crate::lists::is_string;
-use crate::measuring::{
-    atom_len, binary_len, can_end, has_count, integer_len, is_binary, pid_len, reference_len,
-    tuple_head_len,
-};
+use crate::part_len::{atom_len, binary_len, integer_len, pid_len, reference_len, tuple_head_len};
+use crate::profile::{can_end, has_count, is_binary};
 use crate::term::Term;
 
 /// How many bytes the canonical spelling takes, its version byte included. None where the term is

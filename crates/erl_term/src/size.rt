@@ -8,7 +8,7 @@ ghost use Rattle.erl_term.specs.Spelling.{byte_items};
 ghost use Rattle.erl_term.specs.Size.{size_of, run_of, measure_of};
 
 use crate::lists::is_byte;
-use crate::measuring::{integer_len, tuple_head_len};
+use crate::part_len::{integer_len, tuple_head_len};
 use crate::parts::{AtomRef, PidRef, ReferenceRef};
 
 /// What the canonical spelling of a term takes.

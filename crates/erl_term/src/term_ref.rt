@@ -7,7 +7,7 @@ ghost use Rattle.erl_term.specs.View.{view};
 
 use crate::reading::term_of;
 use crate::size::Size;
-use crate::sizing::measure_at;
+use crate::skim::term_measure_of;
 use crate::term::Term;
 use std::alloc::{AllocError, Global};
 use std::marker::Model;
@@ -27,16 +27,16 @@ impl<'a> Model for TermRef<'a> {
     ghost use Rattle.std.specs.Prelude.{◌≡◌, Ok};
     ghost use Rattle.erl_term.specs.Code.{data_code};
     ghost use Rattle.erl_term.specs.Data.{Data};
-    ghost use Rattle.erl_term.specs.Reading.{term_at as read_at};
+    ghost use Rattle.erl_term.specs.Reading.{read_term};
     ghost use Rattle.erl_term.specs.TermAt.{data_in, size_in};
 
     ghost Value = { Data };
 
     ghost coded = { data_code };
 
-    ghost view = { λ t. data_in (read_at t.levels t.bytes.now) };
+    ghost view = { λ t. data_in (read_term t.levels t.bytes.now) };
 
-    ghost invariant = { λ t. size_in (read_at t.levels t.bytes.now) ≡ Ok t.size };
+    ghost invariant = { λ t. size_in (read_term t.levels t.bytes.now) ≡ Ok t.size };
 }
 
 impl<'a> TermRef<'a> {
@@ -66,7 +66,7 @@ impl<'a> TermRef<'a> {
 pub fn term_at(levels: u32, bytes: &[u8]) -> Option<(TermRef<'_>, &[u8])>
     ensures { ReadsFront (λ t b. Spells levels t b) bytes.now result }
 {
-    match measure_at(levels, bytes) {
+    match term_measure_of(levels, bytes) {
         Ok((measure, rest)) => {
             let term = TermRef {
                 levels,

@@ -1,9 +1,13 @@
-use Rattle.erl_term.proofs.Behind.{pid_behind, no_pid}
+use Rattle.std.proofs.Common.{refl}
+use Rattle.erl_term.specs.Data.{pid}
+use Rattle.erl_term.proofs.Behind.{term_behind, no_term}
 use Rattle.erl_term.proofs.parts.pid_at.Goals as goal
 
 pub returns-in_err-bytes : goal.returns-in_err-bytes
-returns-in_err-bytes c = let p = c.in_err-bytes.ensures in rw c.from_residual.ensures (no_pid c.args.levels c.args.bytes.now p.0 p.1)
+returns-in_err-bytes c =
+    let p = c.in_err-bytes.ensures in rw c.from_residual.ensures (no_term pid (λ x. refl) c.args.levels c.args.bytes.now p.0 p.1)
 
 pub returns : goal.returns
 returns c =
-    pid_behind c.args.levels _ c.args.bytes.now c.in_ok-bytes.bytes.now c.own_pid_at.result c.in_ok-bytes.ensures c.own_pid_at.ensures
+    term_behind pid (λ x. refl) c.args.levels _ c.args.bytes.now c.in_ok-bytes.bytes.now c.own_pid_at.result
+    c.in_ok-bytes.ensures c.own_pid_at.ensures

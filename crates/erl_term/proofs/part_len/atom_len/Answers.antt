@@ -1,6 +1,6 @@
 use Rattle.std.proofs.Common.{◌≤◌, arith, length}
 use Rattle.erl_term.proofs.Utf8.{atom_bytes}
-use Rattle.erl_term.proofs.measuring.atom_len.Goals as goal
+use Rattle.erl_term.proofs.part_len.atom_len.Goals as goal
 
 pub returns-else-len-lt256-clause-bound : goal.returns-else-len-lt256-clause-bound
 returns-else-len-lt256-clause-bound c =

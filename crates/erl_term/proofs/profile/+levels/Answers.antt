@@ -5,7 +5,7 @@ use Rattle.std.proofs.lemmas.List.Elements.{All-more, All-same}
 use Rattle.erl_term.specs.Canonical.{levels_of}
 use Rattle.erl_term.specs.View.{view}
 use Rattle.erl_term.proofs.Terms.{tuple_levels, list_levels, improper_levels, improper_no_levels, view-tuple, view-list, view-improper}
-use Rattle.erl_term.proofs.measuring.+levels.Goals as goal
+use Rattle.erl_term.proofs.profile.+levels.Goals as goal
 
 pub have_levels-loop-item-preserved : goal.have_levels-loop-item-preserved
 have_levels-loop-item-preserved t c =

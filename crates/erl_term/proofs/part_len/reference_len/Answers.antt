@@ -1,6 +1,6 @@
 use Rattle.std.proofs.Common.{length, arith, ap}
 use Rattle.erl_term.proofs.Lengths.{length-reference}
-use Rattle.erl_term.proofs.measuring.reference_len.Goals as goal
+use Rattle.erl_term.proofs.part_len.reference_len.Goals as goal
 
 pub returns-clause-len : goal.returns-clause-len
 returns-clause-len c =
@@ -11,8 +11,8 @@ returns-clause-len c =
 
 pub returns-clause-in_range : goal.returns-clause-in_range
 returns-clause-in_range c = record {
-  node = c.text.ensures.fits;
-  creation = c.are_words.ensures.id;
+  node = c.atom_len.ensures.in_range;
+  creation = omega arith;
   some = c.have_words.ensures.some;
   few = c.have_words.ensures.few;
   words = c.have_words.ensures.words;

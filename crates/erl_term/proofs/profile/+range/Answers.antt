@@ -5,8 +5,8 @@ use Rattle.std.proofs.lemmas.List.Elements.{All-more, All-same}
 use Rattle.erl_term.specs.Canonical.{IsInRange}
 use Rattle.erl_term.specs.View.{view}
 use Rattle.erl_term.proofs.Terms.{can_stand, cannot_stand, improper_in_range, improper_not_end, improper_not_stand, view-improper}
-use Rattle.erl_term.proofs.measuring.+range.Goals as goal
-use Rattle.erl_term.proofs.measuring.+range.Goals.{is_in_range-then-can_end, is_in_range-else-can_end}
+use Rattle.erl_term.proofs.profile.+range.Goals as goal
+use Rattle.erl_term.proofs.profile.+range.Goals.{is_in_range-then-can_end, is_in_range-else-can_end}
 
 pub are_in_range-loop-item-preserved : goal.are_in_range-loop-item-preserved
 are_in_range-loop-item-preserved t c =
