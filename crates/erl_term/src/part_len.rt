@@ -1,5 +1,5 @@
 //! How many bytes the canonical spelling of each part of a term takes.
-ghost use Rattle.std.specs.Prelude.{◌≡◌, ◌≤◌, ◌<◌, ◌^◌, ◌+◌, length, All, FitsSigned};
+ghost use Rattle.std.specs.Prelude.{◌≡◌, ◌≤◌, ◌+◌, length, FitsSigned};
 ghost use Rattle.std.specs.Int.{w128};
 ghost use Rattle.erl_term.specs.Canonical.{canonical_int, canonical_atom, canonical_head, canonical_pid, canonical_reference, canonical_binary, magnitude, IsPidInRange, IsReferenceInRange};
 ghost use Rattle.erl_term.specs.Text.{IsAtomText};
@@ -7,7 +7,6 @@ ghost use Rattle.erl_term.specs.Text.{IsAtomText};
 use crate::atom::Atom;
 use crate::magnitude::digits_of;
 use crate::term::{Pid, Reference};
-use crate::words::ReferenceWords;
 
 /// How many bytes an atom is written in.
 #[tactic(auto, unfolding(crate::specs::Canonical::canonical_atom))]
@@ -72,25 +71,8 @@ pub fn reference_len(reference: &Reference) -> usize
     ensures bound { result ≤ 1050 }
     ensures in_range { IsReferenceInRange reference.now }
 {
-    have_words(&reference.words);
     atom_len(&reference.node) + 4 * reference.words.as_slice().len() + 7
 }
-
-/// What the type of the words keeps. The prover has the range of a word only where the word is read,
-/// so each is read here.
-pub(crate) fn have_words(words: &ReferenceWords)
-    ensures some { 1 ≤ length words.now }
-    ensures few { length words.now ≤ 5 }
-    ensures words { All (λ w. w < 2 ^ 32) words.now }
-{
-    for word in words.as_slice() {
-        is_word(*word);
-    }
-}
-
-pub(crate) fn is_word(word: u32)
-    ensures { word < 2 ^ 32 }
-{}
 
 /// How many bytes a binary is written in.
 #[tactic(auto, unfolding(crate::specs::Canonical::canonical_binary))]

@@ -1,20 +1,17 @@
 //! Which terms are values of the profile, and how many levels their canonical spelling has.
 //!
-//! The types keep an integer, an atom, a pid and a reference in the profile. What can be outside it
-//! is a count of items or bytes, and a tail.
-ghost use Rattle.std.specs.Prelude.{◌≡◌, ◌≤◌, ◌<◌, ◌^◌, ◌↔◌, false, length, IsTrue, All, FitsSigned};
-ghost use Rattle.std.specs.Int.{w128};
-ghost use Rattle.erl_term.specs.Canonical.{levels_of, IsPidInRange, IsReferenceInRange, IsInRange, AreInRange};
+//! The types keep an integer, an atom, a pid and a reference in the profile, as the contracts of their
+//! measures say. What can be outside it is a count of items or bytes, and a tail.
+ghost use Rattle.std.specs.Prelude.{◌≡◌, ◌≤◌, ◌<◌, ◌^◌, ◌↔◌, false, length, IsTrue, All};
+ghost use Rattle.erl_term.specs.Canonical.{levels_of, IsInRange, AreInRange};
 ghost use Rattle.erl_term.specs.Canonical as canonical;
 ghost use Rattle.erl_term.specs.Data.{count};
 ghost use Rattle.erl_term.specs.Numbers.{AreBytes};
-ghost use Rattle.erl_term.specs.Text.{IsAtomText};
 ghost use Rattle.erl_term.specs.View.{view, items_view};
 
-use crate::atom::Atom;
 use crate::lists::{is_list, is_string};
-use crate::part_len::{have_words, is_word};
-use crate::term::{Pid, Reference, Term};
+use crate::part_len::{atom_len, integer_len, pid_len, reference_len};
+use crate::term::Term;
 
 /// Whether the term is a value of the profile.
 #[cycle(range)]
@@ -23,49 +20,28 @@ pub(crate) fn is_in_range(term: &Term) -> bool
 {
     match term {
         Term::Tuple(items) => can_stand(items),
-        Term::Int(n) => is_integer(*n),
-        Term::Atom(atom) => is_text(atom),
+        Term::Int(n) => {
+            integer_len(*n);
+            true
+        }
+        Term::Atom(atom) => {
+            atom_len(atom);
+            true
+        }
         Term::List { items, tail } => match tail {
             None => can_stand(items),
             Some(tail) => can_end(items, tail) && can_stand(items) && is_in_range(tail),
         },
         Term::Binary(bytes) => is_binary(bytes),
-        Term::Pid(pid) => is_pid(pid),
-        Term::Reference(reference) => is_reference(reference),
+        Term::Pid(pid) => {
+            pid_len(pid);
+            true
+        }
+        Term::Reference(reference) => {
+            reference_len(reference);
+            true
+        }
     }
-}
-
-// Each of these is so by its type, and the prover has the range of a part only where the part is
-// read, so they read it. They run only where a term is refused.
-
-fn is_integer(n: i128) -> bool
-    ensures { IsTrue result ↔ FitsSigned w128 n }
-{
-    true
-}
-
-fn is_text(atom: &Atom) -> bool
-    ensures { IsTrue result ↔ IsAtomText atom.now }
-{
-    atom.text();
-    true
-}
-
-fn is_pid(pid: &Pid) -> bool
-    ensures { IsTrue result ↔ IsPidInRange pid.now }
-{
-    is_word(pid.id);
-    is_word(pid.serial);
-    is_word(pid.creation);
-    is_text(&pid.node)
-}
-
-fn is_reference(reference: &Reference) -> bool
-    ensures { IsTrue result ↔ IsReferenceInRange reference.now }
-{
-    is_word(reference.creation);
-    have_words(&reference.words);
-    is_text(&reference.node)
 }
 
 /// Whether the tail can stand behind the items.

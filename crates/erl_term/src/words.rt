@@ -1,5 +1,5 @@
 //! The words of a reference.
-ghost use Rattle.std.specs.Prelude.{◌≡◌, ◌≤◌, ◌&&◌, ℕ, Some, IfSome, length, is_some, refl, nat_eq, nat_le, take};
+ghost use Rattle.std.specs.Prelude.{◌≡◌, ◌≤◌, ◌<◌, ◌^◌, ◌&&◌, ℕ, Some, IfSome, All, length, is_some, refl, nat_eq, nat_le, take};
 ghost use Rattle.std.specs.Ordering.{nat_cmp};
 ghost use Rattle.std.specs.Cmp.{partial_equiv_from_equiv};
 ghost use Rattle.std.specs.Cmp.Lexicographic.{pointwise, slice_cmp, nat_list_eq_equiv, nat_list_cmp_total, texts_po, texts_ties};
@@ -22,13 +22,13 @@ pub struct ReferenceWords {
 }
 
 impl Model for ReferenceWords {
-    ghost use Rattle.std.specs.Prelude.{List, ℕ, length, take, ◌≤◌, ◌≡◌};
+    ghost use Rattle.std.specs.Prelude.{List, ℕ, All, length, take, ◌≤◌, ◌<◌, ◌^◌, ◌≡◌};
 
     ghost Value = { List ℕ };
 
     ghost view = { λ w. take w.count w.words };
 
-    ghost invariant = { λ w. (1 ≤ w.count) × (w.count ≤ 5) × (length w.words ≡ 5) };
+    ghost invariant = { λ w. (1 ≤ w.count) × (w.count ≤ 5) × (length w.words ≡ 5) × All (λ word. word < 2 ^ 32) (take w.count w.words) };
 }
 
 impl ReferenceWords {
@@ -65,6 +65,7 @@ impl ReferenceWords {
         ensures words { result.now ≡ self.now }
         ensures some { 1 ≤ length self.now }
         ensures few { length self.now ≤ 5 }
+        ensures range { All (λ w. w < 2 ^ 32) self.now }
     {
         &self.words[..usize::from(self.count)]
     }

@@ -13,7 +13,7 @@ pub returns-clause-in_range : goal.returns-clause-in_range
 returns-clause-in_range c = record {
   node = c.atom_len.ensures.in_range;
   creation = omega arith;
-  some = c.have_words.ensures.some;
-  few = c.have_words.ensures.few;
-  words = c.have_words.ensures.words;
+  some = c.as_slice.ensures.some;
+  few = c.as_slice.ensures.few;
+  words = c.as_slice.ensures.range;
 }
