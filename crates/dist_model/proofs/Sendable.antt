@@ -12,7 +12,7 @@ use Rattle.std.specs.FinMap.{FinMap}
 use Rattle.dist_model.proofs.Calls.{IfGoes, if_cond, if_drawn, if_not}
 use Rattle.dist_model.proofs.ClosedSides.{any_found}
 use Rattle.dist_model.proofs.DueParts.{sent_sweep}
-use Rattle.erl_control.proofs.Fitting.{all_from, fits_test}
+use Rattle.erl_control.proofs.FitsTest.{all_from, fits_test}
 use Rattle.dist_model.proofs.Founded.{Carried, carried_all, carried_lists, carried_post, carried_write, popped_lists}
 use Rattle.dist_model.proofs.HandshakeParts.{fresh_kept, known_kept, lose_kept, swept_kept, Turned, Aged, as_state, parked_ages}
 use Rattle.dist_model.proofs.Run.{always_kept}

@@ -1,19 +1,17 @@
 -- The frame that is written is a frame.
-use Rattle.erl_term.proofs.Canonical.{AreBytes-cons, byte_low, high_bytes, four_bytes}
-use Rattle.std.proofs.Common.{◌≡◌, ℕ, zero, suc, ◌+◌, ◌^◌, ◌<◌, ◌≤◌, ◌↔◌, Bool, true}
+use Rattle.erl_term.proofs.Canonical.{four_bytes}
+use Rattle.std.proofs.Common.{◌≡◌, ℕ, suc, ◌+◌, ◌<◌, ◌≤◌, ◌↔◌, Bool, true}
 use Rattle.std.proofs.Common.{false, cond, List, [], ◌∷◌, ◌++◌, length, refl, rules, arith}
 use Rattle.std.proofs.lemmas.List.{length-append}
 use Rattle.std.proofs.lemmas.Str.{IsUtf8-nil, chars-nil}
 use Rattle.std.proofs.lemmas.Int.{ints}
 use Rattle.std.specs.Prelude.{ℤ, pos, FitsSigned}
-use Rattle.std.specs.Int.{byte_at, w128}
+use Rattle.std.specs.Int.{w128}
 use Rattle.byteorder.specs.Endian.{big_bytes}
-use Rattle.readers.specs.Reading.{AreBytes}
-use Rattle.readers.proofs.Sequence.{AreBytes-nil}
 use Rattle.erl_term.specs.declared.term.Pid.{Pid}
 use Rattle.erl_term.specs.declared.term.Reference.{Reference}
 use Rattle.erl_term.specs.Data.{Data, int, atom, tuple, pid, reference, Items, no_items, item, count}
-use Rattle.erl_term.specs.Spelling.{IsNumber, IsSpelling}
+use Rattle.erl_term.specs.Spelling.{IsSpelling}
 use Rattle.erl_term.specs.Text.{IsAtomText}
 use Rattle.erl_term.specs.Canonical.{canonical, canonical_term, canonical_head, canonical_int, canonical_atom, canonical_pid}
 use Rattle.erl_term.specs.Canonical.{canonical_reference, canonical_items, levels_of, IsInRange, IsPidInRange, IsReferenceInRange}

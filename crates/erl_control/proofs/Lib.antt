@@ -8,4 +8,4 @@ pub mod Rows
 pub mod Texts
 pub mod Frames
 pub mod Canonical
-pub mod Fitting
+pub mod FitsTest

@@ -1,13 +1,13 @@
 -- What a frame carries can be sent on.
-use Rattle.std.proofs.Common.{◌≡◌, ◌^◌, ◌<◌, ℕ, suc, List, length, Option, Some, Ok, take, ap, arith}
+use Rattle.std.proofs.Common.{◌^◌, ◌<◌, ℕ, List, length, Some, Ok, take, ap, arith}
 use Rattle.std.proofs.lemmas.List.{length-append}
 use Rattle.erl_control.specs.Answer.{IsFrameDue}
 use Rattle.erl_control.specs.Control.{Carries, Fits, IsFit, IsSendable, control_term}
 use Rattle.erl_control.specs.Frame.{IsFramed, IsSignalText}
 use Rattle.erl_control.specs.declared.signal.Item.TheVariants.{Signal as SignalItem}
 use Rattle.erl_control.specs.declared.signal.Signal.{Signal}
-use Rattle.erl_control.specs.declared.signal.Signal.TheVariants.{Link, Send, Exit, Exit2, Monitor, Demonitor}
-use Rattle.erl_control.specs.declared.signal.Signal.TheVariants.{MonitorExit, UnlinkId, UnlinkIdAck}
+use Rattle.erl_control.specs.declared.signal.Signal.TheVariants.{Send, Exit, Exit2}
+use Rattle.erl_control.specs.declared.signal.Signal.TheVariants.{MonitorExit}
 use Rattle.erl_term.specs.Canonical.{IsInRange}
 use Rattle.erl_term.proofs.InRange.{spelled_in_range}
 

@@ -5,6 +5,9 @@ use Rattle.erl_term.specs.declared.term.Pid.{Pid}
 use Rattle.erl_term.specs.Data.{Data, int, tuple, pid, reference}
 use Rattle.erl_term.specs.View.{items_of}
 use Rattle.erl_term.specs.Canonical.{canonical, levels_of, IsWithin}
+use Rattle.erl_control.specs.declared.fit.TheConstants.{MOST_PAYLOAD_LEVELS, MOST_PAYLOAD_BYTES}
+use Rattle.erl_control.specs.declared.tags.TheConstants.{LINK, SEND, EXIT, EXIT2, MONITOR_P, DEMONITOR_P}
+use Rattle.erl_control.specs.declared.tags.TheConstants.{MONITOR_P_EXIT, UNLINK_ID, UNLINK_ID_ACK}
 use Rattle.erl_control.specs.declared.signal.Signal.{Signal}
 use Rattle.erl_control.specs.declared.signal.Signal.TheVariants.{Link, Send, Exit, Exit2, Monitor, Demonitor}
 use Rattle.erl_control.specs.declared.signal.Signal.TheVariants.{MonitorExit, UnlinkId, UnlinkIdAck}
@@ -14,19 +17,19 @@ row tag fields = tuple (items_of (int (pos tag) ∷ fields))
 
 -- SEND has a field that nobody uses: any term
 abbrev pub send_term : Data → Pid → Data
-send_term unused to = row 2 (unused ∷ pid to ∷ [])
+send_term unused to = row SEND (unused ∷ pid to ∷ [])
 
 -- the table
 abbrev pub control_term : Data → Signal → Data
-control_term unused (Link from to) = row 1 (pid from ∷ pid to ∷ [])
+control_term unused (Link from to) = row LINK (pid from ∷ pid to ∷ [])
 control_term unused (Send to message) = send_term unused to
-control_term unused (Exit from to reason) = row 3 (pid from ∷ pid to ∷ reason ∷ [])
-control_term unused (Exit2 from to reason) = row 8 (pid from ∷ pid to ∷ reason ∷ [])
-control_term unused (Monitor from to r) = row 19 (pid from ∷ pid to ∷ reference r ∷ [])
-control_term unused (Demonitor from to r) = row 20 (pid from ∷ pid to ∷ reference r ∷ [])
-control_term unused (MonitorExit from to r reason) = row 21 (pid from ∷ pid to ∷ reference r ∷ reason ∷ [])
-control_term unused (UnlinkId id from to) = row 35 (int (pos id) ∷ pid from ∷ pid to ∷ [])
-control_term unused (UnlinkIdAck id from to) = row 36 (int (pos id) ∷ pid from ∷ pid to ∷ [])
+control_term unused (Exit from to reason) = row EXIT (pid from ∷ pid to ∷ reason ∷ [])
+control_term unused (Exit2 from to reason) = row EXIT2 (pid from ∷ pid to ∷ reason ∷ [])
+control_term unused (Monitor from to r) = row MONITOR_P (pid from ∷ pid to ∷ reference r ∷ [])
+control_term unused (Demonitor from to r) = row DEMONITOR_P (pid from ∷ pid to ∷ reference r ∷ [])
+control_term unused (MonitorExit from to r reason) = row MONITOR_P_EXIT (pid from ∷ pid to ∷ reference r ∷ reason ∷ [])
+control_term unused (UnlinkId id from to) = row UNLINK_ID (int (pos id) ∷ pid from ∷ pid to ∷ [])
+control_term unused (UnlinkIdAck id from to) = row UNLINK_ID_ACK (int (pos id) ∷ pid from ∷ pid to ∷ [])
 
 -- the term behind the control term
 abbrev pub message_of : Signal → Option Data
@@ -50,13 +53,13 @@ HasId (UnlinkId id from to) = IsUnlinkId id
 HasId (UnlinkIdAck id from to) = IsUnlinkId id
 HasId signal = Unit {0}
 
--- what can be carried: at most 60 levels, and 60,000 bytes of canonical spelling
+-- what can be carried, by the levels and the bytes of its canonical spelling
 abbrev pub IsFit : Data → Type 0
-IsFit t = (levels_of t ≤ 60) × (length (canonical t) ≤ 60000)
+IsFit t = (levels_of t ≤ MOST_PAYLOAD_LEVELS) × (length (canonical t) ≤ MOST_PAYLOAD_BYTES)
 
 -- the same of a value of the profile
 abbrev pub Fits : Data → Type 0
-Fits t = IsWithin 60 60000 t
+Fits t = IsWithin MOST_PAYLOAD_LEVELS MOST_PAYLOAD_BYTES t
 
 -- which signals are sent
 abbrev pub IsSendable : Signal → Type 0

@@ -1,7 +1,7 @@
 -- Which terms a signal can carry, as its message or its reason: `Fits` of Control, as a test.
--- (own: at most 60 levels, and 60,000 bytes of the canonical spelling.)
 use Rattle.erl_term.specs.Data.{Data, int, atom, tuple, list, improper, binary, pid, reference, Items, no_items, item, count}
 use Rattle.std.specs.Prelude.{ℕ, ℤ, pos, negsuc, ◌^◌, Bool, true, not, ◌&&◌, nat_lt, nat_le, List, [], ◌∷◌, length}
+use Rattle.erl_control.specs.declared.fit.TheConstants.{MOST_PAYLOAD_LEVELS, MOST_PAYLOAD_BYTES}
 use Rattle.erl_term.specs.Text.{is_atom_text}
 use Rattle.erl_term.specs.Canonical.{canonical, levels_of, is_list}
 use Rattle.erl_term.specs.declared.term.Pid.{Pid}
@@ -41,4 +41,4 @@ abbrev mutual
   are_in_range (item t ts) = is_in_range t && are_in_range ts
 
 unfoldable pub fits : Data → Bool
-fits t = is_in_range t && (nat_le (levels_of t) 60 && nat_le (length (canonical t)) 60000)
+fits t = is_in_range t && (nat_le (levels_of t) MOST_PAYLOAD_LEVELS && nat_le (length (canonical t)) MOST_PAYLOAD_BYTES)

@@ -3,6 +3,7 @@
 use Rattle.std.specs.Prelude.{◌≡◌, ℕ, suc, ◌≤◌, List, [], ◌∷◌, ◌++◌, length, Option, Some, None}
 use Rattle.erl_term.specs.Data.{Data}
 use Rattle.erl_term.specs.Spelling.{IsNumber, IsSpelling}
+use Rattle.erl_control.specs.declared.unframing.TheConstants.{FRAME_LIMIT}
 use Rattle.erl_control.specs.declared.signal.Signal.{Signal as TheSignal}
 use Rattle.erl_control.specs.declared.signal.Item.{Item}
 use Rattle.erl_control.specs.declared.signal.Item.TheVariants.{Tick, Signal}
@@ -10,7 +11,7 @@ use Rattle.erl_control.specs.Control.{control_term, message_of, HasId, Carries, 
 
 -- the most bytes of a frame after its length
 abbrev pub limit : ℕ
-limit = 65536
+limit = FRAME_LIMIT
 
 abbrev pub SpellsMessage : Option Data → List ℕ → Type 0
 SpellsMessage None b = b ≡ []

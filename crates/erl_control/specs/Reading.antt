@@ -6,6 +6,10 @@ use Rattle.erl_term.specs.declared.term.Reference.{Reference}
 use Rattle.erl_term.specs.Data.{Data, int, pid, reference}
 use Rattle.erl_term.specs.Spelling.{Spells, IsSpelling}
 use Rattle.erl_term.specs.Parts.{IsTupleHead}
+use Rattle.erl_control.specs.declared.tags.TheConstants.{LINK, SEND, EXIT, EXIT2, MONITOR_P, DEMONITOR_P}
+use Rattle.erl_control.specs.declared.tags.TheConstants.{MONITOR_P_EXIT, UNLINK_ID, UNLINK_ID_ACK}
+use Rattle.erl_control.specs.declared.tags.TheConstants.{LINK_ARITY, SEND_ARITY, EXIT_ARITY, EXIT2_ARITY, MONITOR_P_ARITY}
+use Rattle.erl_control.specs.declared.tags.TheConstants.{DEMONITOR_P_ARITY, MONITOR_P_EXIT_ARITY, UNLINK_ID_ARITY, UNLINK_ID_ACK_ARITY}
 use Rattle.erl_control.specs.declared.signal.Signal.{Signal}
 use Rattle.erl_control.specs.declared.signal.Signal.TheVariants as signal
 use Rattle.erl_control.specs.declared.signal_ref.SignalRef.{SignalRef}
@@ -93,26 +97,26 @@ IsSendText x text = IsSpelling 64 (send_term x.0 x.1) text
 -- ---- rows
 
 abbrev pub tag_of : Signal → ℕ
-tag_of (signal.Link from to) = 1
-tag_of (signal.Send to message) = 2
-tag_of (signal.Exit from to reason) = 3
-tag_of (signal.Exit2 from to reason) = 8
-tag_of (signal.Monitor from to r) = 19
-tag_of (signal.Demonitor from to r) = 20
-tag_of (signal.MonitorExit from to r reason) = 21
-tag_of (signal.UnlinkId id from to) = 35
-tag_of (signal.UnlinkIdAck id from to) = 36
+tag_of (signal.Link from to) = LINK
+tag_of (signal.Send to message) = SEND
+tag_of (signal.Exit from to reason) = EXIT
+tag_of (signal.Exit2 from to reason) = EXIT2
+tag_of (signal.Monitor from to r) = MONITOR_P
+tag_of (signal.Demonitor from to r) = DEMONITOR_P
+tag_of (signal.MonitorExit from to r reason) = MONITOR_P_EXIT
+tag_of (signal.UnlinkId id from to) = UNLINK_ID
+tag_of (signal.UnlinkIdAck id from to) = UNLINK_ID_ACK
 
 abbrev pub arity_of : Signal → ℕ
-arity_of (signal.Link from to) = 3
-arity_of (signal.Send to message) = 3
-arity_of (signal.Exit from to reason) = 4
-arity_of (signal.Exit2 from to reason) = 4
-arity_of (signal.Monitor from to r) = 4
-arity_of (signal.Demonitor from to r) = 4
-arity_of (signal.MonitorExit from to r reason) = 5
-arity_of (signal.UnlinkId id from to) = 4
-arity_of (signal.UnlinkIdAck id from to) = 4
+arity_of (signal.Link from to) = LINK_ARITY
+arity_of (signal.Send to message) = SEND_ARITY
+arity_of (signal.Exit from to reason) = EXIT_ARITY
+arity_of (signal.Exit2 from to reason) = EXIT2_ARITY
+arity_of (signal.Monitor from to r) = MONITOR_P_ARITY
+arity_of (signal.Demonitor from to r) = DEMONITOR_P_ARITY
+arity_of (signal.MonitorExit from to r reason) = MONITOR_P_EXIT_ARITY
+arity_of (signal.UnlinkId id from to) = UNLINK_ID_ARITY
+arity_of (signal.UnlinkIdAck id from to) = UNLINK_ID_ACK_ARITY
 
 -- what stands behind the tag, each element of so many levels at most, and the message
 abbrev pub AreFields : ℕ → Signal → List ℕ → Type 0

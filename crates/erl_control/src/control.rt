@@ -15,39 +15,43 @@ use crate::fields::{
 };
 use crate::signal::Signal;
 use crate::signal_ref::SignalRef;
+use crate::tags::{
+    DEMONITOR_P, EXIT, EXIT2, LINK, MONITOR_P, MONITOR_P_EXIT, SEND, SEND_ARITY, UNLINK_ID,
+    UNLINK_ID_ACK,
+};
 use erl_term::{PidRef, TermRef, term_len};
 use std::alloc::Global;
 
 fn link_at(levels: u32, fields: &[u8]) -> Option<(SignalRef<'_>, &[u8])>
-    ensures { ReadsFront (HasFields levels 1) fields.now result }
+    ensures { ReadsFront (HasFields levels LINK) fields.now result }
 {
     let ((from, to), rest) = pids_at(levels, fields)?;
     Some((SignalRef::Link { from, to }, rest))
 }
 
 fn message_at(levels: u32, fields: &[u8]) -> Option<(SignalRef<'_>, &[u8])>
-    ensures { ReadsFront (HasFields levels 2) fields.now result }
+    ensures { ReadsFront (HasFields levels SEND) fields.now result }
 {
     let (((_, to), message), rest) = send_and_message_at(levels, fields)?;
     Some((SignalRef::Send { to, message }, rest))
 }
 
 fn exit_at(levels: u32, fields: &[u8]) -> Option<(SignalRef<'_>, &[u8])>
-    ensures { ReadsFront (HasFields levels 3) fields.now result }
+    ensures { ReadsFront (HasFields levels EXIT) fields.now result }
 {
     let (((from, to), reason), rest) = pids_and_reason_at(levels, fields)?;
     Some((SignalRef::Exit { from, to, reason }, rest))
 }
 
 fn exit2_at(levels: u32, fields: &[u8]) -> Option<(SignalRef<'_>, &[u8])>
-    ensures { ReadsFront (HasFields levels 8) fields.now result }
+    ensures { ReadsFront (HasFields levels EXIT2) fields.now result }
 {
     let (((from, to), reason), rest) = pids_and_reason_at(levels, fields)?;
     Some((SignalRef::Exit2 { from, to, reason }, rest))
 }
 
 fn monitor_at(levels: u32, fields: &[u8]) -> Option<(SignalRef<'_>, &[u8])>
-    ensures { ReadsFront (HasFields levels 19) fields.now result }
+    ensures { ReadsFront (HasFields levels MONITOR_P) fields.now result }
 {
     let (((from, to), reference), rest) = pids_and_reference_at(levels, fields)?;
     let signal = SignalRef::Monitor {
@@ -59,7 +63,7 @@ fn monitor_at(levels: u32, fields: &[u8]) -> Option<(SignalRef<'_>, &[u8])>
 }
 
 fn demonitor_at(levels: u32, fields: &[u8]) -> Option<(SignalRef<'_>, &[u8])>
-    ensures { ReadsFront (HasFields levels 20) fields.now result }
+    ensures { ReadsFront (HasFields levels DEMONITOR_P) fields.now result }
 {
     let (((from, to), reference), rest) = pids_and_reference_at(levels, fields)?;
     let signal = SignalRef::Demonitor {
@@ -71,7 +75,7 @@ fn demonitor_at(levels: u32, fields: &[u8]) -> Option<(SignalRef<'_>, &[u8])>
 }
 
 fn monitor_exit_at(levels: u32, fields: &[u8]) -> Option<(SignalRef<'_>, &[u8])>
-    ensures { ReadsFront (HasFields levels 21) fields.now result }
+    ensures { ReadsFront (HasFields levels MONITOR_P_EXIT) fields.now result }
 {
     let ((((from, to), reference), reason), rest) = pids_reference_and_reason_at(levels, fields)?;
     let signal = SignalRef::MonitorExit {
@@ -84,14 +88,14 @@ fn monitor_exit_at(levels: u32, fields: &[u8]) -> Option<(SignalRef<'_>, &[u8])>
 }
 
 fn unlink_id_at(levels: u32, fields: &[u8]) -> Option<(SignalRef<'_>, &[u8])>
-    ensures { ReadsFront (HasFields levels 35) fields.now result }
+    ensures { ReadsFront (HasFields levels UNLINK_ID) fields.now result }
 {
     let ((id, (from, to)), rest) = id_and_pids_at(levels, fields)?;
     Some((SignalRef::UnlinkId { id, from, to }, rest))
 }
 
 fn unlink_id_ack_at(levels: u32, fields: &[u8]) -> Option<(SignalRef<'_>, &[u8])>
-    ensures { ReadsFront (HasFields levels 36) fields.now result }
+    ensures { ReadsFront (HasFields levels UNLINK_ID_ACK) fields.now result }
 {
     let ((id, (from, to)), rest) = id_and_pids_at(levels, fields)?;
     Some((SignalRef::UnlinkIdAck { id, from, to }, rest))
@@ -102,15 +106,15 @@ fn fields_at(tag: u64, levels: u32, fields: &[u8]) -> Option<(SignalRef<'_>, &[u
     ensures { ReadsFront (HasFields levels tag) fields.now result }
 {
     match tag {
-        1 => link_at(levels, fields),
-        2 => message_at(levels, fields),
-        3 => exit_at(levels, fields),
-        8 => exit2_at(levels, fields),
-        19 => monitor_at(levels, fields),
-        20 => demonitor_at(levels, fields),
-        21 => monitor_exit_at(levels, fields),
-        35 => unlink_id_at(levels, fields),
-        36 => unlink_id_ack_at(levels, fields),
+        LINK => link_at(levels, fields),
+        SEND => message_at(levels, fields),
+        EXIT => exit_at(levels, fields),
+        EXIT2 => exit2_at(levels, fields),
+        MONITOR_P => monitor_at(levels, fields),
+        DEMONITOR_P => demonitor_at(levels, fields),
+        MONITOR_P_EXIT => monitor_exit_at(levels, fields),
+        UNLINK_ID => unlink_id_at(levels, fields),
+        UNLINK_ID_ACK => unlink_id_ack_at(levels, fields),
         _ => None,
     }
 }
@@ -132,7 +136,7 @@ fn send_term_at(text: &[u8]) -> Option<((TermRef<'_>, PidRef<'_>), &[u8])>
     ensures { ReadsFront IsSendText text.now result }
 {
     let ((head, tag), fields) = row_head_at(text)?;
-    if head.arity != 3 || tag != 2 {
+    if head.arity != SEND_ARITY || tag != SEND {
         return None;
     }
     send_at(head.levels, fields)

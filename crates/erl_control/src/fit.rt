@@ -28,7 +28,7 @@ pub fn payload_len(payload: &Payload) -> Option<usize>
     ensures none { IfNone result (¬ control.Fits payload.now) }
     ensures fits { IfSome result (λ _. control.Fits payload.now) }
     ensures len { IfSome result (λ n. n ≡ length (canonical_term payload.now)) }
-    ensures bound { IfSome result (λ n. n < 60000) }
+    ensures bound { IfSome result (λ n. n < MOST_PAYLOAD_BYTES) }
 {
     let len = size_within(payload.term(), MOST_PAYLOAD_LEVELS, MOST_PAYLOAD_BYTES)?;
     Some(len - 1)

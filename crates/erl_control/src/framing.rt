@@ -17,6 +17,7 @@ use crate::fit::payload_len;
 use crate::laws::canonical_is_framed;
 use crate::signal::Signal;
 use crate::signal_parts::SignalParts;
+use crate::tags;
 use erl_term::{
     Payload, Pid, Reference, integer_len, pid_len, reference_len, tuple_head_len, write_integer,
     write_pid, write_reference, write_term, write_tuple_head,
@@ -42,11 +43,55 @@ fn has_id(signal: SignalParts<'_>) -> bool
 }
 
 /// How many bytes the version byte, the head of the tuple and its first element take.
-fn opening_len(arity: usize, tag: u8) -> usize
+fn opening_len(arity: u32, tag: u64) -> usize
     ensures len { result ≡ length (131 ∷ (canonical_head arity ++ canonical_int (pos tag))) }
     ensures bound { result ≤ 25 }
 {
-    1 + tuple_head_len(arity) + integer_len(i128::from(tag))
+    1 + tuple_head_len(arity as usize) + integer_len(i128::from(tag))
+}
+
+/// How many bytes a row of From, To and Reason takes, where the reason fits.
+fn exit_len(tag: u64, from: &Pid, to: &Pid, reason: &Payload) -> Option<usize>
+    ensures none { IfNone result (¬ Fits reason.now) }
+    ensures fits { IfSome result (λ _. Fits reason.now) }
+    ensures len { IfSome result (λ n. n ≡ length (canonical (row tag (term.pid from.now ∷ term.pid to.now ∷ reason.now ∷ [])))) }
+    ensures bound { IfSome result (λ n. n < 65536) }
+    ensures in_range { IfSome result (λ _. IsInRange (row tag (term.pid from.now ∷ term.pid to.now ∷ reason.now ∷ []))) }
+{
+    let len = payload_len(reason)?;
+    Some(opening_len(tags::EXIT_ARITY, tag) + pid_len(from) + pid_len(to) + len)
+}
+
+/// How many bytes a row of From, To and Ref takes.
+fn monitor_len(tag: u64, from: &Pid, to: &Pid, reference: &Reference) -> usize
+    ensures len { result ≡ length (canonical (row tag (term.pid from.now ∷ term.pid to.now ∷ term.reference reference.now ∷ []))) }
+    ensures bound { result < 65536 }
+    ensures in_range { IsInRange (row tag (term.pid from.now ∷ term.pid to.now ∷ term.reference reference.now ∷ [])) }
+{
+    let len = reference_len(reference);
+    opening_len(tags::MONITOR_P_ARITY, tag) + pid_len(from) + pid_len(to) + len
+}
+
+/// How many bytes the text of MONITOR_P_EXIT takes, where the reason fits.
+fn monitor_exit_len(from: &Pid, to: &Pid, reference: &Reference, reason: &Payload) -> Option<usize>
+    ensures none { IfNone result (¬ Fits reason.now) }
+    ensures fits { IfSome result (λ _. Fits reason.now) }
+    ensures len { IfSome result (λ n. n ≡ length (canonical_text (variant.MonitorExit from.now to.now reference.now reason.now))) }
+    ensures bound { IfSome result (λ n. n < 65536) }
+    ensures in_range { IfSome result (λ _. IsInRange (control_term (atom []) (variant.MonitorExit from.now to.now reference.now reason.now))) }
+{
+    let len = payload_len(reason)? + reference_len(reference) + pid_len(from) + pid_len(to);
+    Some(opening_len(tags::MONITOR_P_EXIT_ARITY, tags::MONITOR_P_EXIT) + len)
+}
+
+/// How many bytes a row of Id, From and To takes.
+fn unlink_len(tag: u64, id: u64, from: &Pid, to: &Pid) -> usize
+    ensures len { result ≡ length (canonical (row tag (term.int (pos id) ∷ term.pid from.now ∷ term.pid to.now ∷ []))) }
+    ensures bound { result < 65536 }
+    ensures in_range { IsInRange (row tag (term.int (pos id) ∷ term.pid from.now ∷ term.pid to.now ∷ [])) }
+{
+    let len = integer_len(i128::from(id));
+    opening_len(tags::UNLINK_ID_ARITY, tag) + len + pid_len(from) + pid_len(to)
 }
 
 /// How many bytes the text of the signal takes, where what it carries fits.
@@ -58,60 +103,48 @@ fn text_len(signal: SignalParts<'_>) -> Option<usize>
     ensures in_range { IfSome result (λ _. IsInRange (control_term (atom []) (signal_of signal.entry))) }
 {
     match signal {
-        SignalParts::Link { from, to } => Some(opening_len(3, 1) + pid_len(from) + pid_len(to)),
+        SignalParts::Link { from, to } => {
+            Some(opening_len(tags::LINK_ARITY, tags::LINK) + pid_len(from) + pid_len(to))
+        }
         SignalParts::Send { to, message } => {
-            let len = payload_len(message)?;
-            Some(opening_len(3, 2) + EMPTY_ATOM.len() + pid_len(to) + 1 + len)
+            let len = EMPTY_ATOM.len() + pid_len(to) + 1 + payload_len(message)?;
+            Some(opening_len(tags::SEND_ARITY, tags::SEND) + len)
         }
-        SignalParts::Exit { from, to, reason } => {
-            let len = payload_len(reason)?;
-            Some(opening_len(4, 3) + pid_len(from) + pid_len(to) + len)
-        }
-        SignalParts::Exit2 { from, to, reason } => {
-            let len = payload_len(reason)?;
-            Some(opening_len(4, 8) + pid_len(from) + pid_len(to) + len)
-        }
+        SignalParts::Exit { from, to, reason } => exit_len(tags::EXIT, from, to, reason),
+        SignalParts::Exit2 { from, to, reason } => exit_len(tags::EXIT2, from, to, reason),
         SignalParts::Monitor {
             from,
             to,
             reference,
-        } => { Some(opening_len(4, 19) + pid_len(from) + pid_len(to) + reference_len(reference)) }
+        } => Some(monitor_len(tags::MONITOR_P, from, to, reference)),
         SignalParts::Demonitor {
             from,
             to,
             reference,
-        } => { Some(opening_len(4, 20) + pid_len(from) + pid_len(to) + reference_len(reference)) }
+        } => Some(monitor_len(tags::DEMONITOR_P, from, to, reference)),
         SignalParts::MonitorExit {
             from,
             to,
             reference,
             reason,
-        } => {
-            let len = payload_len(reason)? + reference_len(reference);
-            Some(opening_len(5, 21) + pid_len(from) + pid_len(to) + len)
-        }
-        SignalParts::UnlinkId { id, from, to } => {
-            let len = integer_len(i128::from(id));
-            Some(opening_len(4, 35) + len + pid_len(from) + pid_len(to))
-        }
+        } => monitor_exit_len(from, to, reference, reason),
+        SignalParts::UnlinkId { id, from, to } => Some(unlink_len(tags::UNLINK_ID, id, from, to)),
         SignalParts::UnlinkIdAck { id, from, to } => {
-            let len = integer_len(i128::from(id));
-            Some(opening_len(4, 36) + len + pid_len(from) + pid_len(to))
+            Some(unlink_len(tags::UNLINK_ID_ACK, id, from, to))
         }
     }
 }
 
 // What follows writes where there is room for it.
 
-fn write_opening(out: &mut Vec<u8>, arity: usize, tag: u8)
-    requires arity { arity < 2 ^ 32 }
+fn write_opening(out: &mut Vec<u8>, arity: u32, tag: u64)
     requires room { vec_len out.old + length (131 ∷ (canonical_head arity ++ canonical_int (pos tag))) ≤ vec_capacity out.old }
     ensures items { out.new.items ≡ out.old.items ++ 131 ∷ (canonical_head arity ++ canonical_int (pos tag)) }
     ensures len { vec_len out.new ≡ vec_len out.old + length (131 ∷ (canonical_head arity ++ canonical_int (pos tag))) }
     ensures capacity { vec_capacity out.old ≤ vec_capacity out.new }
 {
     out.push_reserved(131);
-    write_tuple_head(out, arity);
+    write_tuple_head(out, arity as usize);
     write_integer(out, i128::from(tag));
 }
 
@@ -140,7 +173,7 @@ fn write_send(out: &mut Vec<u8>, to: &Pid, message: &Payload)
     requires room { vec_len out.old + length (canonical_text (variant.Send to.now message.now)) ≤ vec_capacity out.old }
     ensures items { out.new.items ≡ out.old.items ++ canonical_text (variant.Send to.now message.now) }
 {
-    write_opening(out, 3, 2);
+    write_opening(out, tags::SEND_ARITY, tags::SEND);
     out.extend_from_slice(&EMPTY_ATOM).unwrap();
     write_pid(out, to);
     out.push_reserved(131);
@@ -148,32 +181,50 @@ fn write_send(out: &mut Vec<u8>, to: &Pid, message: &Payload)
 }
 
 /// Writes From, To and Reason behind the tag of their row.
-fn write_exit(out: &mut Vec<u8>, tag: u8, from: &Pid, to: &Pid, reason: &Payload)
+fn write_exit(out: &mut Vec<u8>, tag: u64, from: &Pid, to: &Pid, reason: &Payload)
     requires in_range { IsInRange reason.now }
     requires room { vec_len out.old + length (canonical (row tag (term.pid from.now ∷ term.pid to.now ∷ reason.now ∷ []))) ≤ vec_capacity out.old }
     ensures items { out.new.items ≡ out.old.items ++ canonical (row tag (term.pid from.now ∷ term.pid to.now ∷ reason.now ∷ [])) }
 {
-    write_opening(out, 4, tag);
+    write_opening(out, tags::EXIT_ARITY, tag);
     write_pids(out, from, to);
     write_payload(out, reason);
 }
 
 /// Writes From, To and Ref behind the head of their row.
-fn write_monitor(out: &mut Vec<u8>, tag: u8, from: &Pid, to: &Pid, reference: &Reference)
+fn write_monitor(out: &mut Vec<u8>, tag: u64, from: &Pid, to: &Pid, reference: &Reference)
     requires room { vec_len out.old + length (canonical (row tag (term.pid from.now ∷ term.pid to.now ∷ term.reference reference.now ∷ []))) ≤ vec_capacity out.old }
     ensures items { out.new.items ≡ out.old.items ++ canonical (row tag (term.pid from.now ∷ term.pid to.now ∷ term.reference reference.now ∷ [])) }
 {
-    write_opening(out, 4, tag);
+    write_opening(out, tags::MONITOR_P_ARITY, tag);
     write_pids(out, from, to);
     write_reference(out, reference);
 }
 
+/// Writes the text of MONITOR_P_EXIT.
+fn write_monitor_exit(
+    out: &mut Vec<u8>,
+    from: &Pid,
+    to: &Pid,
+    reference: &Reference,
+    reason: &Payload,
+)
+    requires in_range { IsInRange reason.now }
+    requires room { vec_len out.old + length (canonical_text (variant.MonitorExit from.now to.now reference.now reason.now)) ≤ vec_capacity out.old }
+    ensures items { out.new.items ≡ out.old.items ++ canonical_text (variant.MonitorExit from.now to.now reference.now reason.now) }
+{
+    write_opening(out, tags::MONITOR_P_EXIT_ARITY, tags::MONITOR_P_EXIT);
+    write_pids(out, from, to);
+    write_reference(out, reference);
+    write_payload(out, reason);
+}
+
 /// Writes Id, From and To behind the head of their row.
-fn write_unlink(out: &mut Vec<u8>, tag: u8, id: u64, from: &Pid, to: &Pid)
+fn write_unlink(out: &mut Vec<u8>, tag: u64, id: u64, from: &Pid, to: &Pid)
     requires room { vec_len out.old + length (canonical (row tag (term.int (pos id) ∷ term.pid from.now ∷ term.pid to.now ∷ []))) ≤ vec_capacity out.old }
     ensures items { out.new.items ≡ out.old.items ++ canonical (row tag (term.int (pos id) ∷ term.pid from.now ∷ term.pid to.now ∷ [])) }
 {
-    write_opening(out, 4, tag);
+    write_opening(out, tags::UNLINK_ID_ARITY, tag);
     write_integer(out, i128::from(id));
     write_pids(out, from, to);
 }
@@ -186,35 +237,36 @@ fn write_text(out: &mut Vec<u8>, signal: SignalParts<'_>)
 {
     match signal {
         SignalParts::Link { from, to } => {
-            write_opening(out, 3, 1);
+            write_opening(out, tags::LINK_ARITY, tags::LINK);
             write_pids(out, from, to);
         }
         SignalParts::Send { to, message } => write_send(out, to, message),
-        SignalParts::Exit { from, to, reason } => write_exit(out, 3, from, to, reason),
-        SignalParts::Exit2 { from, to, reason } => write_exit(out, 8, from, to, reason),
+        SignalParts::Exit { from, to, reason } => write_exit(out, tags::EXIT, from, to, reason),
+        SignalParts::Exit2 { from, to, reason } => write_exit(out, tags::EXIT2, from, to, reason),
         SignalParts::Monitor {
             from,
             to,
             reference,
-        } => write_monitor(out, 19, from, to, reference),
+        } => write_monitor(out, tags::MONITOR_P, from, to, reference),
         SignalParts::Demonitor {
             from,
             to,
             reference,
-        } => write_monitor(out, 20, from, to, reference),
+        } => write_monitor(out, tags::DEMONITOR_P, from, to, reference),
         SignalParts::MonitorExit {
             from,
             to,
             reference,
             reason,
-        } => {
-            write_opening(out, 5, 21);
-            write_pids(out, from, to);
-            write_reference(out, reference);
-            write_payload(out, reason);
-        }
-        SignalParts::UnlinkId { id, from, to } => write_unlink(out, 35, id, from, to),
-        SignalParts::UnlinkIdAck { id, from, to } => write_unlink(out, 36, id, from, to),
+        } => write_monitor_exit(out, from, to, reference, reason),
+        SignalParts::UnlinkId { id, from, to } => write_unlink(out, tags::UNLINK_ID, id, from, to),
+        SignalParts::UnlinkIdAck { id, from, to } => write_unlink(
+            out,
+            tags::UNLINK_ID_ACK,
+            id,
+            from,
+            to,
+        ),
     }
 }
 

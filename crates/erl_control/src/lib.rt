@@ -19,6 +19,7 @@ mod laws;
 mod signal;
 mod signal_parts;
 mod signal_ref;
+mod tags;
 mod unframing;
 
 pub use error::{FrameError, FrameFault};

@@ -9,7 +9,8 @@ ghost use Rattle.erl_control.specs.Reading.{arity_of};
 
 use crate::fit::{MOST_PAYLOAD_BYTES, MOST_PAYLOAD_LEVELS};
 use crate::signal::{Item, Signal};
-use erl_term::{Payload, Pid, PidRef, ReferenceRef, TermRef};
+use crate::tags;
+use erl_term::{Payload, Pid, PidRef, Reference, ReferenceRef, TermRef};
 use std::alloc::{AllocError, Global};
 
 /// A signal whose parts still lie in the bytes that were read. (ERTS User's Guide, Distribution
@@ -125,14 +126,15 @@ impl<'a> SignalRef<'a> {
         ensures { result ≡ arity_of (signal_in self.now) }
     {
         match self {
-            SignalRef::Link { .. } | SignalRef::Send { .. } => 3,
-            SignalRef::Exit { .. }
-            | SignalRef::Exit2 { .. }
-            | SignalRef::Monitor { .. }
-            | SignalRef::Demonitor { .. }
-            | SignalRef::UnlinkId { .. }
-            | SignalRef::UnlinkIdAck { .. } => 4,
-            SignalRef::MonitorExit { .. } => 5,
+            SignalRef::Link { .. } => tags::LINK_ARITY,
+            SignalRef::Send { .. } => tags::SEND_ARITY,
+            SignalRef::Exit { .. } => tags::EXIT_ARITY,
+            SignalRef::Exit2 { .. } => tags::EXIT2_ARITY,
+            SignalRef::Monitor { .. } => tags::MONITOR_P_ARITY,
+            SignalRef::Demonitor { .. } => tags::DEMONITOR_P_ARITY,
+            SignalRef::MonitorExit { .. } => tags::MONITOR_P_EXIT_ARITY,
+            SignalRef::UnlinkId { .. } => tags::UNLINK_ID_ARITY,
+            SignalRef::UnlinkIdAck { .. } => tags::UNLINK_ID_ACK_ARITY,
         }
     }
 
@@ -220,6 +222,30 @@ fn send_of(alloc: Global, to: &PidRef<'_>, message: &TermRef<'_>) -> Result<Sign
     })
 }
 
+fn pids_and_reason_of(
+    alloc: Global,
+    from: &PidRef<'_>,
+    to: &PidRef<'_>,
+    reason: &TermRef<'_>,
+) -> Result<(Pid, Pid, Payload), AllocError>
+    ensures { IfOk result (λ x. (x.0 ≡ from.now) × (x.1 ≡ to.now) × (x.2 ≡ reason.now)) }
+{
+    let (from, to) = pids_of(alloc, from, to)?;
+    Ok((from, to, payload_of(alloc, reason)?))
+}
+
+fn pids_and_reference_of(
+    alloc: Global,
+    from: &PidRef<'_>,
+    to: &PidRef<'_>,
+    reference: &ReferenceRef<'_>,
+) -> Result<(Pid, Pid, Reference), AllocError>
+    ensures { IfOk result (λ x. (x.0 ≡ from.now) × (x.1 ≡ to.now) × (x.2 ≡ reference.now)) }
+{
+    let (from, to) = pids_of(alloc, from, to)?;
+    Ok((from, to, reference.to_reference(alloc)?))
+}
+
 fn exit_of(
     alloc: Global,
     from: &PidRef<'_>,
@@ -228,8 +254,7 @@ fn exit_of(
 ) -> Result<Signal, AllocError>
     ensures { IfOk result (λ s. s ≡ variant.Exit from.now to.now reason.now) }
 {
-    let (from, to) = pids_of(alloc, from, to)?;
-    let reason = payload_of(alloc, reason)?;
+    let (from, to, reason) = pids_and_reason_of(alloc, from, to, reason)?;
     Ok(Signal::Exit { from, to, reason })
 }
 
@@ -241,8 +266,7 @@ fn exit2_of(
 ) -> Result<Signal, AllocError>
     ensures { IfOk result (λ s. s ≡ variant.Exit2 from.now to.now reason.now) }
 {
-    let (from, to) = pids_of(alloc, from, to)?;
-    let reason = payload_of(alloc, reason)?;
+    let (from, to, reason) = pids_and_reason_of(alloc, from, to, reason)?;
     Ok(Signal::Exit2 { from, to, reason })
 }
 
@@ -254,8 +278,7 @@ fn monitor_of(
 ) -> Result<Signal, AllocError>
     ensures { IfOk result (λ s. s ≡ variant.Monitor from.now to.now reference.now) }
 {
-    let (from, to) = pids_of(alloc, from, to)?;
-    let reference = reference.to_reference(alloc)?;
+    let (from, to, reference) = pids_and_reference_of(alloc, from, to, reference)?;
     Ok(Signal::Monitor {
         from,
         to,
@@ -271,8 +294,7 @@ fn demonitor_of(
 ) -> Result<Signal, AllocError>
     ensures { IfOk result (λ s. s ≡ variant.Demonitor from.now to.now reference.now) }
 {
-    let (from, to) = pids_of(alloc, from, to)?;
-    let reference = reference.to_reference(alloc)?;
+    let (from, to, reference) = pids_and_reference_of(alloc, from, to, reference)?;
     Ok(Signal::Demonitor {
         from,
         to,
@@ -289,8 +311,7 @@ fn monitor_exit_of(
 ) -> Result<Signal, AllocError>
     ensures { IfOk result (λ s. s ≡ variant.MonitorExit from.now to.now reference.now reason.now) }
 {
-    let (from, to) = pids_of(alloc, from, to)?;
-    let reference = reference.to_reference(alloc)?;
+    let (from, to, reference) = pids_and_reference_of(alloc, from, to, reference)?;
     let reason = payload_of(alloc, reason)?;
     Ok(Signal::MonitorExit {
         from,

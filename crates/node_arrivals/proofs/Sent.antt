@@ -7,7 +7,7 @@ use Rattle.conn_core.specs.declared.standing.Standing.{Standing}
 use Rattle.dist_model.specs.Items.{Signalled}
 use Rattle.dist_model.specs.Sides.{Up}
 use Rattle.std.proofs.lemmas.Bool.{and_from}
-use Rattle.erl_control.proofs.Fitting.{fits_test}
+use Rattle.erl_control.proofs.FitsTest.{fits_test}
 use Rattle.erl_control.proofs.Sent.{due_sendable}
 use Rattle.erl_control.specs.Control.{IsSendable, IsUnlinkId}
 use Rattle.erl_control.specs.declared.signal.Item.{Item}

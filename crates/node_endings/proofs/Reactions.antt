@@ -8,7 +8,7 @@ use Rattle.dist_model.specs.Names.{same_pid}
 use Rattle.dist_model.specs.Node.{Node, traps, traps_life}
 use Rattle.dist_model.specs.Work.{Work, report}
 use Rattle.dist_model.specs.declared.report.Effect.{Effect}
-use Rattle.erl_control.proofs.Fitting.{all_from, fits_test}
+use Rattle.erl_control.proofs.FitsTest.{all_from, fits_test}
 use Rattle.erl_control.specs.Fits.{are_below, fits}
 use Rattle.erl_term.specs.Canonical.{canonical_atom}
 use Rattle.erl_term.specs.Data.{Data, atom}

@@ -1,7 +1,7 @@
 -- Signals that have a frame.
 use Rattle.std.proofs.Common.{◌≡◌, ◌^◌, ℕ, true, ◌&&◌, nat_lt, nat_le, rules}
 use Rattle.std.proofs.lemmas.Bool.{and_parts}
-use Rattle.erl_control.proofs.Fitting.{fits_test}
+use Rattle.erl_control.proofs.FitsTest.{fits_test}
 use Rattle.erl_control.specs.Control.{IsSendable, IsUnlinkId}
 use Rattle.erl_control.specs.declared.signal.Signal.{Signal}
 use Rattle.node_frames.specs.Sendable.{is_sendable}

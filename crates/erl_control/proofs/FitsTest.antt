@@ -1,7 +1,7 @@
--- Which terms fit: the test and_from the relation.
+-- The test that a term fits, `fits`, decides whether it does, `Fits`.
 use Rattle.std.proofs.lemmas.Bool.{and_from, and_parts, not-true}
 use Rattle.erl_term.specs.Data.{Data, int, atom, tuple, list, improper, binary, pid, reference, Items, no_items, item, count}
-use Rattle.std.proofs.Common.{◌≡◌, ℕ, zero, suc, ◌<◌, ◌≤◌, ◌^◌, Bool, true, false, not, ◌&&◌}
+use Rattle.std.proofs.Common.{◌≡◌, ℕ, zero, suc, ◌<◌, ◌≤◌, ◌^◌, true, not, ◌&&◌}
 use Rattle.std.proofs.Common.{nat_lt, nat_le, List, [], ◌∷◌, length, refl, ap, arith, ◌↔◌, get_or}
 use Rattle.std.specs.Prelude.{ℤ, pos, negsuc, FitsSigned, All}
 use Rattle.std.specs.Int.{w128}
