@@ -32,7 +32,7 @@ use Rattle.erl_names.specs.declared.trunk.TrunkId.{TrunkId}
 use Rattle.erl_term.specs.Order.{pid_cmp}
 use Rattle.erl_term.specs.declared.term.Pid.{Pid}
 use Rattle.link_core.proofs.Kept.{Kept, blank}
-use Rattle.link_core.proofs.Travelling.{has_link}
+use Rattle.link_core.proofs.Drained.{has_link}
 use Rattle.link_core.specs.News.{Exited, LinkNews, Signals, drained, last_said}
 use Rattle.link_core.specs.declared.end.End.{End}
 use Rattle.link_core.specs.declared.end.LinkSignal.{LinkSignal}

@@ -13,11 +13,11 @@ use Rattle.link_core.specs.declared.end.LinkSignal.TheVariants.{Link, Unlink, Ac
 use Rattle.link_core.specs.News.{Exited, LinkNews, Signals, drained, heard, last_said, noproc, reply}
 use Rattle.link_core.specs.Pair.{Side, farewell, ended}
 use Rattle.link_core.specs.Claims.{Agree, PendingTravels}
-use Rattle.link_core.proofs.Travelling.{acks_in, acks_of, acks_in-push, active_wins_any, by_a_link_any, drained-push}
-use Rattle.link_core.proofs.Travelling.{drained_by_word, first_or_later, has_exit, has_exit-push, has_link, has_link-push, is_exit}
-use Rattle.link_core.proofs.Travelling.{last_said-push, one_if_same, stays_pending, unlinks_in, unlinks_in-push, unlinks_of}
-use Rattle.link_core.proofs.Hearing.{counted, exit_not_active, heard_ack_active, heard_other_ack, heard_pending}
-use Rattle.link_core.proofs.Hearing.{heard_unlink_active, link_agrees, outcome_not_pending, past_link, past_unlink}
+use Rattle.link_core.proofs.Drained.{acks_in, acks_of, acks_in-push, active_wins_any, by_a_link_any, drained-push}
+use Rattle.link_core.proofs.Drained.{drained_by_word, first_or_later, has_exit, has_exit-push, has_link, has_link-push, is_exit}
+use Rattle.link_core.proofs.Drained.{last_said-push, one_if_same, stays_pending, unlinks_in, unlinks_in-push, unlinks_of}
+use Rattle.link_core.proofs.Heard.{counted, exit_not_active, heard_ack_active, heard_other_ack, heard_pending}
+use Rattle.link_core.proofs.Heard.{heard_unlink_active, link_agrees, outcome_not_pending, past_link, past_unlink}
 
 abbrev pub settled : Side → Side → End
 settled a b = drained a.end b.sent

@@ -1,7 +1,6 @@
-pub mod Travelling
-pub mod Hearing
+pub mod Drained
+pub mod Heard
 pub mod Kept
 pub mod Runs
-pub mod Order
 pub mod Maps
 pub mod Towards

@@ -15,7 +15,7 @@ use Rattle.link_core.specs.declared.end.End.{End}
 use Rattle.erl_term.specs.Order.{pid_cmp}
 use Rattle.link_core.specs.Ends.{EndMap, end_of, with_end}
 use Rattle.link_core.specs.Records.{Records, AreRecords, AreLinks, IsLink}
-use Rattle.link_core.proofs.Order.{pid_cmp_total, pid_cmp_exact}
+use Rattle.erl_term.proofs.Order.{pid_cmp_total, pid_cmp_exact}
 
 same_pid : (p : Pid) → eq_by_cmp pid_cmp p p ≡ true
 same_pid p = ap is_eq (tied_itself pid_cmp_total p)

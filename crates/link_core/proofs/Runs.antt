@@ -10,7 +10,7 @@ use Rattle.link_core.specs.News.{LinkNews, drained}
 use Rattle.link_core.specs.Pair.{Side, Pair, Act, Links, Unlinks, Exits, Takes, Event, Here, There, followed_by, links, unlinks}
 use Rattle.link_core.specs.Pair.{unlinks_above, ended, exits, first_comes, acts, swap, happens, run, is_end, ends_here, ends_there, start}
 use Rattle.link_core.specs.Claims.{LinkTravels, ExitOfEnded, IsAtRest}
-use Rattle.link_core.proofs.Travelling.{exit_tested, has_exit, has_link, link_there}
+use Rattle.link_core.proofs.Drained.{exit_tested, has_exit, has_link, link_there}
 use Rattle.link_core.proofs.Kept.{Kept, activates, blank, deactivates, keeps_ended, kept_swap, settled, takes_at}
 
 keeps_links : (a b : Side) → Kept a b → Kept (links a) b

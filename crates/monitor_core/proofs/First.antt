@@ -1,12 +1,12 @@
 -- A search from the front finds the first record that passes.
-use Rattle.std.proofs.Common.{◌≡◌, nat_lt, Bor, ℕ, zero, suc, ◌<◌, Bool, true, false, cond, [], ◌∷◌, ◌+◌, ◌⊎◌, inl, inr}
+use Rattle.std.proofs.Common.{◌≡◌, Bor, ℕ, zero, suc, ◌<◌, Bool, true, false, cond, [], ◌∷◌, ◌+◌, ◌⊎◌, inl, inr}
 use Rattle.std.proofs.Common.{List, length, take, drop, subst, Option, None, Some, IfSome, IfNone, refl, sym, ap, ◌∙◌, arith}
 use Rattle.std.specs.Option.{MatchOption, option_copied}
 use Rattle.std.specs.Slice.{IsItemAt}
-use Rattle.std.proofs.lemmas.Option.{slice_get-get_or}
 use Rattle.std.specs.List.{AllWithin, HoldsAt, slice_get, slice_range}
 use Rattle.std.proofs.Math.Seq.{take-length}
 use Rattle.std.proofs.lemmas.List.{length-drop}
+use Rattle.sorted_map.proofs.Slices.{read_at as item_at, slice_get_behind}
 use Rattle.sorted_map.specs.Entries.{first_where}
 use Rattle.erl_term.specs.declared.term.Reference.{Reference}
 use Rattle.monitor_core.specs.declared.monitor.Monitor.{Monitor}
@@ -47,25 +47,16 @@ passes_in_range p [] at h = absurd h
 passes_in_range p (e ∷ rest) zero h = omega arith
 passes_in_range p (e ∷ rest) (suc at) h = omega (arith, passes_in_range p rest at h.1)
 
-no_item : (m n : ℕ) → false ≡ nat_lt m n → m < n → ⊥
-no_item m n h l = grind arith
-
 -- the record that is read there
 pub read_at : (p : Test) (rs : Records) (at : ℕ) (o : Option (Bor (Reference × Monitor))) → PassesFirstAt p rs at
     → IsItemAt rs at o → option_copied o ≡ found p rs
-read_at p rs at None h item = absurd (no_item at (length rs) item.0 (passes_in_range p rs at h))
-read_at p rs at (Some x) h item = ap Some item.1 ∙ sym (slice_get-get_or rs at x.now (passes_in_range p rs at h)) ∙ found_at p rs at h
+read_at p rs at o h item = item_at rs at o item ∙ found_at p rs at h
 
 pub found_none : (p : Test) (rs : Records) → NonePasses p rs → None ≡ found p rs
 found_none p [] h = refl
 found_none p (e ∷ rest) h = found_none p rest h.1 ∙ sym (ap (λ b. cond b (Some e) (found p rest)) h.0)
 
 -- a search from a place on
-slice_get_behind : {A : Type 0} (n : ℕ) (xs : List A) (i : ℕ) → slice_get (drop n xs) i ≡ slice_get xs (n + i)
-slice_get_behind zero xs i = let e : i ≡ 0 + i = omega arith in ap (slice_get xs) e
-slice_get_behind (suc n) [] i = refl
-slice_get_behind (suc n) (x ∷ xs) i = let e : suc (n + i) ≡ suc n + i = omega arith in slice_get_behind n xs i ∙ ap (slice_get (x ∷ xs)) e
-
 behind_in_range : {A : Type 0} (n : ℕ) (xs : List A) (i : ℕ) → i < length (drop n xs) → n + i < length xs
 behind_in_range zero xs i l = omega (arith, l)
 behind_in_range (suc n) [] i l = absurd (omega arith)

@@ -11,7 +11,7 @@ use Rattle.erl_term.specs.declared.term.Pid.{Pid}
 use Rattle.erl_term.specs.Order.{pid_cmp}
 use Rattle.monitor_core.specs.declared.monitor.Monitor.{Monitor}
 use Rattle.monitor_core.specs.Monitors.{monitor_of, is_this}
-use Rattle.monitor_core.proofs.Order.{pid_cmp_total, pid_cmp_exact}
+use Rattle.erl_term.proofs.Order.{pid_cmp_total, pid_cmp_exact}
 
 same_tied : (p q : Pid) → p ≡ q → eq_by_cmp pid_cmp p q ≡ true
 same_tied p q h = subst (λ x. eq_by_cmp pid_cmp p x ≡ true) h (ap is_eq (tied_itself pid_cmp_total p))

@@ -1,5 +1,5 @@
 -- The places stay those of all records, in their order, when records come and go.
-use Rattle.std.proofs.Common.{◌≡◌, ℕ, zero, suc, ◌+◌, ◌-◌, ◌<◌, ◌≤◌, Bool, true, false, cond, not, ◌&&◌, ◌==◌, List, [], ◌∷◌, ◌++◌}
+use Rattle.std.proofs.Common.{◌≡◌, ℕ, zero, suc, ◌+◌, ◌-◌, ◌<◌, ◌≤◌, Bool, true, false, cond, not, ◌&&◌, List, [], ◌∷◌, ◌++◌}
 use Rattle.std.proofs.Common.{map, length, take, drop, get_or, nat_lt, Option, None, Some, refl, sym, ap, subst, ◌∙◌, arith, tests}
 use Rattle.std.specs.List.{filter, insert, remove, slice_range}
 use Rattle.std.specs.Cmp.{both_ways, IsTotalOrder, nat_cmp_total, alike_right, tied_back}
@@ -23,7 +23,8 @@ use Rattle.monitor_core.specs.Records.{Records}
 use Rattle.monitor_core.specs.Index.{Each, Rises, counted, tally, picked, process_at, place_cmp}
 use Rattle.monitor_core.specs.Index.{order_at, IsRising, IsIndex, IsGrown, IsParted, moved_up, sunk}
 use Rattle.sorted_map.specs.Facts.{stays_le, stays_less}
-use Rattle.monitor_core.proofs.Order.{pid_cmp_total}
+use Rattle.sorted_map.proofs.Orderings.{equal_of, less_nat, then_equal, turned}
+use Rattle.erl_term.proofs.Order.{pid_cmp_total}
 use Rattle.monitor_core.proofs.Tallies.{Test, plus_if, same, same_is, same_itself, below, below_lt, below_is, is_below, each_weaker}
 use Rattle.monitor_core.proofs.Tallies.{each_both, each_append, each_left, each_right, each_map, rises_map, rises_weaker, rises_left}
 use Rattle.monitor_core.proofs.Tallies.{rises_right, rises_around, rises_with, counted_append, counted_with, counted_map}
@@ -45,19 +46,11 @@ nat_less i j h = ranked i j Less (sym h)
 nat_equal : (i j : ℕ) → nat_cmp i j ≡ Equal → i ≡ j
 nat_equal i j h = ranked i j Equal (sym h)
 
-less_nat : (i j : ℕ) → i < j → nat_cmp i j ≡ Less
-less_nat i j l = ap (λ b. cond b Less (cond (i == j) Equal Greater)) (below_lt i j ∙ is_below i j l)
-
 -- what a lexicographic answer says
 then_less : (c d e : Ordering) → (d ≡ Less → e ≡ Less) → ordering_then c d ≡ Less → ordering_then c e ≡ Less
 then_less Less d e f h = refl
 then_less Equal d e f h = f h
 then_less Greater d e f h = cc
-
-then_equal : (c d : Ordering) → ordering_then c d ≡ Equal → (c ≡ Equal) × (d ≡ Equal)
-then_equal Less d h = cc
-then_equal Equal d h = (refl, h)
-then_equal Greater d h = cc
 
 tied_less : (c d : Ordering) → c ≡ Equal → ordering_then c d ≡ Less → d ≡ Less
 tied_less Less d e h = cc
@@ -414,10 +407,6 @@ module _ (of : Monitor → Pid) (process : Pid) where
   left_others (r ∷ rs) =
       ap (λ l. cond (is_its r) l (r ∷ l)) (left_others rs)
       ∙ turned (is_its r) (filter (λ e. not (is_its e)) rs) (r ∷ filter (λ e. not (is_its e)) rs)
-    where
-      turned : {A : Type 0} (b : Bool) (x y : A) → cond b x y ≡ cond (not b) y x
-      turned true x y = refl
-      turned false x y = refl
 
   pub none_its : (rs : Records) → filter is_its rs ≡ [] → filter (λ e. not (is_its e)) rs ≡ rs
   none_its [] h = refl
@@ -434,13 +423,8 @@ left_at of rs at =
     left_same (λ x. is_eq (order_at of rs (At at) x)) (λ x. same x at) rs (λ x. both_ways _ _ (λ h. to x h) (λ h. from x h))
     ∙ left_one at rs
   where
-    equal : (o : Ordering) → is_eq o ≡ true → o ≡ Equal
-    equal Less h = cc
-    equal Equal h = refl
-    equal Greater h = cc
-
     to : (x : ℕ) → is_eq (place_cmp of rs x at) ≡ true → same x at ≡ true
-    to x h = subst (λ n. same x n ≡ true) (nat_equal x at (then_equal _ (nat_cmp x at) (equal _ h)).1) (same_itself x)
+    to x h = subst (λ n. same x n ≡ true) (nat_equal x at (then_equal _ (nat_cmp x at) (equal_of _ h)).1) (same_itself x)
 
     from : (x : ℕ) → same x at ≡ true → is_eq (place_cmp of rs x at) ≡ true
     from x h = subst (λ n. is_eq (place_cmp of rs n at) ≡ true) (sym (same_is x at h)) (ap is_eq (tied_itself (place_total of rs) at))

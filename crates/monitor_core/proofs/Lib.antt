@@ -2,7 +2,7 @@ pub mod Order
 pub mod Maps
 pub mod Held
 pub mod First
-pub mod Leaving
+pub mod Departures
 mod Tallies
 mod Shifts
 mod Parts

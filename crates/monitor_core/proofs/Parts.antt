@@ -7,7 +7,12 @@ use Rattle.std.specs.declared.cmp.Ordering.{Ordering}
 use Rattle.std.specs.declared.cmp.Ordering.TheVariants.{Less, Equal, Greater}
 use Rattle.std.specs.Ordering.{is_lt, is_le}
 use Rattle.std.proofs.lemmas.List.{get_or-drop}
-use Rattle.monitor_core.specs.Index.{Each, Rises, counted, IsParted}
+use Rattle.sorted_map.proofs.Orderings.{greater_of, less_of, never_both}
+use Rattle.erl_term.specs.declared.term.Pid.{Pid}
+use Rattle.monitor_core.specs.declared.monitor.Monitor.{Monitor}
+use Rattle.monitor_core.specs.declared.places.Point.{Point}
+use Rattle.monitor_core.specs.Records.{Records}
+use Rattle.monitor_core.specs.Index.{Each, Rises, counted, order_at, IsParted}
 use Rattle.monitor_core.proofs.Tallies.{Test, plus_if}
 
 pub each_take : (P : ℕ → Type 0) (xs : List ℕ) (i : ℕ) → AllWithin P xs 0 i → i ≤ length xs → Each P (take i xs)
@@ -83,24 +88,10 @@ pub below_front : (n : ℕ) (xs : List ℕ) (i : ℕ) → i ≤ length xs
 below_front n xs i l h = counted_front (λ x. nat_lt x n) xs i l h.0 h.1
 
 -- the two searches for a part
-less_by : (o : Ordering) → is_lt o ≡ true → o ≡ Less
-less_by Less h = refl
-less_by Equal h = cc
-less_by Greater h = cc
-
-greater_by : (o : Ordering) → is_le o ≡ false → o ≡ Greater
-greater_by Less h = cc
-greater_by Equal h = cc
-greater_by Greater h = refl
-
 equal_by : (o : Ordering) → is_lt o ≡ false → is_le o ≡ true → o ≡ Equal
 equal_by Less h k = cc
 equal_by Equal h k = refl
 equal_by Greater h k = cc
-
-never_both : (o : Ordering) → is_lt o ≡ true → is_le o ≡ false → ⊥
-never_both Less h k = cc
-never_both _ h k = cc
 
 in_order : (order : ℕ → Ordering) (xs : List ℕ) (from to : ℕ) → from ≤ length xs
     → IsPartitionPoint (λ x. is_lt (order x) ≡ true) (λ x. is_lt (order x) ≡ false) xs from
@@ -119,7 +110,14 @@ pub parted : (order : ℕ → Ordering) (xs : List ℕ) (from to : ℕ) → from
 parted order xs from to l m p q = record {
   rising = in_order order xs from to l p q;
   within = m;
-  before = each_take (λ x. order x ≡ Less) xs from (λ k d a b. less_by _ (p.0 k d a b)) l;
+  before = each_take (λ x. order x ≡ Less) xs from (λ k d a b. less_of _ (p.0 k d a b)) l;
   here = each_between (λ x. order x ≡ Equal) xs from to m (λ k d a b. equal_by _ (p.1 k d a (omega arith)) (q.0 k d (omega arith) b));
-  behind = each_drop (λ x. order x ≡ Greater) xs to (λ k d a b. greater_by _ (q.1 k d a b));
+  behind = each_drop (λ x. order x ≡ Greater) xs to (λ k d a b. greater_of _ (q.1 k d a b));
 }
+
+-- and of what the records and the places are
+pub parted_as : (of : Monitor → Pid) (point : Point) (us rs : Records) (xs places : List ℕ) (from to : ℕ) → us ≡ rs → xs ≡ places
+    → IsParted (order_at of us point) xs from to → IsParted (order_at of rs point) places from to
+parted_as of point us rs xs places from to same list h =
+    subst (λ (vs : Records). IsParted (order_at of vs point) places from to) same
+    (subst (λ ys. IsParted (order_at of us point) ys from to) list h)

@@ -1,6 +1,6 @@
 -- The places of the sides that aren't gone stay right when sides come and stand otherwise.
 use Rattle.std.proofs.Common.{◌≡◌, ℕ, zero, suc, ◌+◌, ◌-◌, ◌<◌, ◌≤◌, nat_lt, ◌==◌, Bool, true, false, cond, not, ◌&&◌}
-use Rattle.std.proofs.Common.{List, [], ◌∷◌, ◌⊎◌, inl, inr, Bor, length, get_or, map, set, Option, None, Some}
+use Rattle.std.proofs.Common.{List, [], ◌∷◌, ◌⊎◌, inl, inr, length, get_or, map, set, Option, None, Some}
 use Rattle.std.proofs.Common.{is_some, Result, Ok, Err, IfOk, IfErr, refl, sym, ap, subst, ◌∙◌, arith, tests, add-one}
 use Rattle.std.specs.declared.cmp.Ordering.{Ordering}
 use Rattle.std.specs.declared.cmp.Ordering.TheVariants.{Less, Equal, Greater}
@@ -11,14 +11,13 @@ use Rattle.std.specs.FinMap.{find, put, is_sorted}
 use Rattle.std.specs.FinMap.Entries.{below_all, find-put, find-where_key}
 use Rattle.std.specs.List.{All, count_by, insert, remove, slice_get}
 use Rattle.std.specs.List.Sorted.{IsBinarySearchResult, IsSearchInRange}
-use Rattle.std.specs.Option.{option_cmp, option_copied, option_map}
-use Rattle.std.specs.Slice.{IsItemAt}
+use Rattle.std.specs.Option.{option_cmp, option_map}
 use Rattle.std.proofs.lemmas.Cmp.{on_total, then_total, tied_itself, ranked}
 use Rattle.std.proofs.lemmas.List.{get_or-set_same, length-map, length-set}
 use Rattle.std.proofs.lemmas.List.Edits.{length-insert}
 use Rattle.std.proofs.lemmas.List.Sums.{count_by-le-length, sum_by-cons, sum_by-insert, sum_by-set}
 use Rattle.std.proofs.lemmas.Map.Lookups.{exact_unsigned}
-use Rattle.std.proofs.lemmas.Option.{slice_get-get_or, slice_get_past, slice_get_read}
+use Rattle.std.proofs.lemmas.Option.{slice_get-get_or}
 use mathlib.Core.Bool.{beq}
 use Rattle.conn_core.specs.declared.side.Side.{Side}
 use Rattle.conn_core.specs.declared.standing.Standing.TheVariants.{Up}
@@ -29,7 +28,8 @@ use Rattle.erl_names.specs.Order.{name_cmp}
 use Rattle.sorted_map.proofs.Places.{finds, finds_none, found_in_range, gap_in_range, put_gap, searched, without_found}
 use Rattle.sorted_map.specs.Entries.{without, IsFoundAt, IsGapAt}
 use Rattle.sorted_map.specs.Maps.{sorted_put, sorted_without}
-use Rattle.node_sides.proofs.Placed.{holds, is_true}
+use Rattle.node_sides.proofs.Placed.{holds}
+use Rattle.sorted_map.proofs.Orderings.{is_true}
 use Rattle.node_sides.specs.Index.{AreIndexed, IsChanged, IsGrown, is_open, keyed, moved_up}
 use Rattle.node_sides.specs.Index.{not_gone, open_at, passes_in, peer_at, place_cmp}
 use Rattle.node_sides.specs.Standings.{gone}
@@ -65,11 +65,7 @@ some_none o h e = no (sym h ∙ ap is_some e)
 abbrev as_number : Bool → ℕ
 as_number b = cond b 1 0
 
--- ---- what is read at a place
-
-pub read_at : (held : List Side) (at : ℕ) (o : Option (Bor Side)) → IsItemAt held at o → option_copied o ≡ slice_get held at
-read_at held at None h = sym (slice_get_past held at (grind (arith, tests)))
-read_at held at (Some x) h = let l : at < length held = grind (arith, tests) in sym (slice_get_read held (length held) at x.now refl l h.1)
+-- ---- what stands at a place
 
 set_there : (held : List Side) (at : ℕ) (y : Side) → at < length held → slice_get (set held at y) at ≡ Some y
 set_there [] at y l = absurd (omega arith)

@@ -18,6 +18,7 @@ use Rattle.dist_model.proofs.Keys.{trunk_exact, trunk_total}
 use Rattle.dist_model.specs.Sides.{TrunkSide}
 use Rattle.erl_names.specs.Order.{trunk_cmp}
 use Rattle.erl_names.specs.declared.trunk.TrunkId.{TrunkId}
+use Rattle.sorted_map.proofs.Orderings.{is_true}
 use Rattle.sorted_map.proofs.Places.{found_in_range, finds, finds_none, gap_in_range, put_found, put_gap, searched}
 use Rattle.sorted_map.specs.Entries.{IsFoundAt, IsGapAt}
 use Rattle.sorted_map.specs.Maps.{map_put, sorted_put}
@@ -32,10 +33,6 @@ IsSorted held = is_sorted trunk_cmp (entries_of held) ≡ true
 pub holds : (b : Bool) → b ≡ true → T b
 holds true h = tt
 holds false h = cc
-
-pub is_true : (b : Bool) → T b → b ≡ true
-is_true true h = refl
-is_true false h = absurd h
 
 -- ---- the entry of a side at a place
 

@@ -20,6 +20,7 @@ use Rattle.dist_model.specs.Names.{Name, same_name}
 use Rattle.dist_model.specs.Node.{side_where}
 use Rattle.dist_model.specs.Sides as model
 use Rattle.dist_model.specs.Sides.{State}
+use Rattle.sorted_map.proofs.Orderings.{never_both}
 use Rattle.sorted_map.specs.Facts.{both_pass, less, stays_le, stays_less}
 use Rattle.node_sides.proofs.Index.{Has, has_rest, one_place, peer_cmp, peer_total, place_total}
 use Rattle.node_sides.proofs.Placed.{holds, no_some}
@@ -300,10 +301,5 @@ module _ (held : List Side) (which : Which) (peer : Name) (places : List ℕ) (f
   pub parts_rise : from ≤ to
   parts_rise = by_test _ (nat_lt to from)
       (λ t. let k : to < from = grind (arith, tests) in
-      absurd (both (order held peer (get_or places to 0)) (p.0 to 0 (omega arith) k) (q.1 to 0 (omega arith) (omega (arith, k, l)))))
+      absurd (never_both (order held peer (get_or places to 0)) (p.0 to 0 (omega arith) k) (q.1 to 0 (omega arith) (omega (arith, k, l)))))
       (λ t. grind (arith, tests))
-    where
-      both : (c : Ordering) → is_lt c ≡ true → is_le c ≡ false → ⊥
-      both Less h k = true≢false k
-      both Equal h k = true≢false (sym h)
-      both Greater h k = true≢false (sym h)

@@ -9,7 +9,7 @@ use Rattle.std.specs.FinMap as fm
 use Rattle.std.specs.FinMap.{FinMap, IsAntisymmetric}
 use Rattle.std.specs.Option.{is_some}
 use Rattle.std.specs.Ordering.{is_lt, ordering_reverse}
-use Rattle.node_tables.proofs.Truths.{not_less}
+use Rattle.sorted_map.proofs.Orderings.{not_less}
 use Rattle.sorted_map.specs.Entries.{first_where}
 use Rattle.sorted_map.specs.First.{first_held, first_least, first_none, first_passes}
 

@@ -22,11 +22,8 @@ use Rattle.monitor_core.specs.Order.{reference_cmp}
 use Rattle.monitor_core.specs.declared.monitor.Monitor.{Monitor}
 use Rattle.node_sweeps.specs.Ahead.{IsBefore}
 use Rattle.node_sweeps.proofs.Passed.{passed_over}
+use Rattle.sorted_map.proofs.Orderings.{turned}
 use Rattle.sorted_map.specs.Entries.{first_where}
-
-turned : {A : Type 0} (b : Bool) (x y : A) → cond b x y ≡ cond (not b) y x
-turned true x y = refl
-turned false x y = refl
 
 -- ---- the entries that are kept
 

@@ -22,7 +22,7 @@ use Rattle.node_sweeps.proofs.Owned.{is_of, owner}
 use Rattle.node_sweeps.specs.Records.{has_link, parted, unlinked}
 use Rattle.node_tables.specs.Lives.{ends_in}
 use Rattle.node_tables.specs.declared.life.Life.{Life}
-use Rattle.node_tables.proofs.Lookups.{less_id}
+use Rattle.node_tables.proofs.Lookups.{less_id, lt_pair}
 
 -- ---- pids of one incarnation are in the order of their ids
 
@@ -30,9 +30,6 @@ other_id : (m : Minted) (n k : ℕ) → n < k → same_pid (pid_of m k) (pid_of 
 other_id m n k l =
     false_from_ne_true (same_pid (pid_of m k) (pid_of m n))
     (λ h. let same : k ≡ n = ap (λ (p : Pid). p.id) (same_pid_true (pid_of m k) (pid_of m n) h) in omega arith)
-
-pair_less : (P Q x y : Pid) → pid_cmp P Q ≡ Less → is_lt (pair_cmp (P, x) (Q, y)) ≡ true
-pair_less P Q x y h = ap (λ o. is_lt (ordering_then o (pid_cmp x y))) h
 
 partner_order : (P x y : Pid) → pair_cmp (P, x) (P, y) ≡ pid_cmp x y
 partner_order P x y = ap (λ o. ordering_then o (pid_cmp x y)) (tied_itself pid_total P)
@@ -64,7 +61,7 @@ module _ (m : Minted) (lives : List Life) (peer : Name) (id : ℕ) (q : Pid) (e 
       go : (id ≡ x.id) ⊎ ((id < x.id) ⊎ (x.id < id)) → (id < x.id) ⊎ (x ≡ p)
       go (inr (inr l)) =
           absurd (both_ways (is_lt (pair_cmp (x, y) (p, q))) least
-          (subst (λ z. is_lt (pair_cmp (z, y) (p, q)) ≡ true) is (pair_less (pid_of m x.id) p y q (less_id m x.id id l))))
+          (subst (λ z. is_lt (pair_cmp (z, y) (p, q)) ≡ true) is (lt_pair (pid_of m x.id) p y q (less_id m x.id id l))))
       go (inl s) = inr (sym is ∙ ap (pid_of m) (sym s))
       go (inr (inl l)) = inl l
 

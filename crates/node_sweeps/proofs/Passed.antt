@@ -1,13 +1,13 @@
 -- A search that begins behind monitors of which none passes.
-use Rattle.std.proofs.Common.{◌≡◌, ℕ, zero, suc, ◌<◌, ◌≤◌, Bool, true, false, cond, T, List, [], ◌∷◌, length}
+use Rattle.std.proofs.Common.{◌≡◌, ℕ, zero, suc, ◌≤◌, Bool, true, false, cond, T, List, [], ◌∷◌, length}
 use Rattle.std.proofs.Common.{get_or, take, drop, Option, None, Some, refl, sym, ap, subst, ◌∙◌, arith}
 use Rattle.std.specs.FinMap as fm
-use Rattle.std.specs.FinMap.Entries.{below_all, is_sorted}
+use Rattle.std.specs.FinMap.Entries.{is_sorted}
 use Rattle.std.specs.List.{AllWithin}
 use Rattle.std.specs.List.Sorted.{IsPartitionedBy}
 use Rattle.std.specs.Ordering.{is_lt}
-use Rattle.std.specs.declared.cmp.Ordering.TheVariants.{Less}
-use Rattle.node_tables.proofs.Truths.{lesser}
+use Rattle.sorted_map.proofs.Orderings.{less_of}
+use Rattle.sorted_map.proofs.Places.{passing_first}
 use Rattle.dist_model.proofs.Entries.{each_entry}
 use Rattle.erl_term.specs.declared.term.Reference.{Reference}
 use Rattle.monitor_core.proofs.Order.{reference_cmp_total}
@@ -16,7 +16,6 @@ use Rattle.monitor_core.specs.Order.{reference_cmp}
 use Rattle.monitor_core.specs.declared.monitor.Monitor.{Monitor}
 use Rattle.node_sweeps.specs.Ahead.{IsBefore}
 use Rattle.sorted_map.specs.Entries.{at_place, first_where}
-use Rattle.sorted_map.specs.Facts.{both_pass, less}
 use Rattle.sorted_map.specs.First.{goes_on}
 
 abbrev Records : Type 0
@@ -28,24 +27,13 @@ module _ (bound : Reference) where
   abbrev pub is_lesser : Reference × Monitor → Bool
   is_lesser e = is_lt (reference_cmp e.0 bound)
 
-  above_at : (r : Reference) (es : Records) (j : ℕ) (d : Reference × Monitor) → T (below_all reference_cmp r es)
-      → j < length es → reference_cmp r (get_or es j d).0 ≡ Less
-  above_at r [] j d s l = absurd (omega arith)
-  above_at r (e ∷ rest) zero d s l = less _ (both_pass _ _ s).0
-  above_at r (e ∷ rest) (suc j) d s l = above_at r rest j d (both_pass _ _ s).1 (omega arith)
-
   pub lesser_first : (es : Records) → T (is_sorted reference_cmp es) → IsPartitionedBy is_lesser es
-  lesser_first [] s i j d le l h = absurd (omega arith)
-  lesser_first (e ∷ rest) s zero zero d le l h = h
-  lesser_first (e ∷ rest) s zero (suc j) d le l h =
-      ap is_lt
-      (reference_cmp_total.trans e.0 (get_or rest j d).0 bound (above_at e.0 rest j d (both_pass _ _ s).0 (omega arith)) (lesser _ h))
-  lesser_first (e ∷ rest) s (suc i) zero d le l h = absurd (omega arith)
-  lesser_first (e ∷ rest) s (suc i) (suc j) d le l h = lesser_first rest (both_pass _ _ s).1 i j d (omega arith) (omega arith) h
+  lesser_first =
+      passing_first reference_cmp_total is_lesser (λ d e l h. ap is_lt (reference_cmp_total.trans d.0 e.0 bound l (less_of _ h)))
 
   pub are_before : (es : Records) (at : ℕ) → AllWithin (λ e. is_lesser e ≡ true) es 0 at
       → AllWithin (λ e. IsBefore e.0 (Some bound)) es 0 at
-  are_before es at h = λ k d a b. lesser _ (h k d a b)
+  are_before es at h = λ k d a b. less_of _ (h k d a b)
 
 -- ---- none of them passes, so the search goes on behind them
 

@@ -1,11 +1,10 @@
 -- The links behind a partner that are to processes at a node, in the order of pids.
-use Rattle.std.proofs.Common.{◌≡◌, ℕ, zero, suc, ◌<◌, ◌≤◌, Bool, true, false, cond, ◌||◌, T, List, []}
-use Rattle.std.proofs.Common.{◌∷◌, length, get_or, Option, None, Some, refl, sym, ap, subst, ◌∙◌, arith}
+use Rattle.std.proofs.Common.{◌≡◌, ℕ, zero, suc, ◌≤◌, Bool, true, false, cond, ◌||◌, T, List, []}
+use Rattle.std.proofs.Common.{◌∷◌, length, Option, None, Some, refl, sym, ap, subst, ◌∙◌, arith}
 use Rattle.std.specs.declared.cmp.Ordering.{Ordering}
 use Rattle.std.specs.declared.cmp.Ordering.TheVariants.{Less, Equal, Greater}
-use Rattle.std.specs.Ordering.{is_eq, is_le, is_lt, nat_cmp, ordering_reverse, ordering_then}
+use Rattle.std.specs.Ordering.{is_eq, is_le, is_lt, ordering_reverse}
 use Rattle.std.specs.Cmp.{tied_itself}
-use Rattle.std.specs.Cmp.Lexicographic.{slice_cmp, nat_list_cmp_total}
 use Rattle.std.specs.FinMap as fm
 use Rattle.std.specs.FinMap.{find, is_sorted}
 use Rattle.std.specs.FinMap.Entries.{below_all}
@@ -14,60 +13,21 @@ use Rattle.std.specs.List.Sorted.{IsPartitionedBy}
 use Rattle.std.specs.Option.{option_and_then}
 use Rattle.std.proofs.lemmas.Option.{none-some}
 use Rattle.std.proofs.lemmas.Bool.{both_ways, or_left, or_parts, or_right}
+use Rattle.sorted_map.proofs.Orderings.{greater_of, is_true, less_of}
+use Rattle.sorted_map.proofs.Places.{passing_first}
 use Rattle.sorted_map.specs.Facts.{both_pass, less}
 use Rattle.dist_model.proofs.Keys.{pid_exact, pid_total, same_pid_true}
 use Rattle.dist_model.specs.Names.{Name, same_name}
+use Rattle.erl_term.proofs.Order.{name_cmp, node_before, node_behind}
 use Rattle.erl_term.specs.Order.{pid_cmp}
 use Rattle.erl_term.specs.declared.term.Pid.{Pid}
 use Rattle.link_core.specs.declared.end.End.{End}
 use Rattle.node_tables.proofs.Lookups.{links_held}
-use Rattle.node_tables.proofs.Truths.{lesser}
 use Rattle.node_tables.specs.Lives.{end_at, links_of}
 use Rattle.node_tables.specs.declared.life.Life.{Life}
 
-abbrev name_cmp : Name → Name → Ordering
-name_cmp = slice_cmp nat_cmp
-
 abbrev pub Links : Type 0
 Links = List (Pid × End)
-
--- ---- a greater pid isn't of a lesser node
-
-rest_less : (p q : Pid) (o : Ordering) → name_cmp p.node q.node ≡ o → pid_cmp p q ≡ Less → o ≡ Greater → ⊥
-rest_less p q Less e h g = cc
-rest_less p q Equal e h g = cc
-rest_less p q Greater e h g =
-    let c : Greater ≡ Less =
-    sym (ap (λ x. ordering_then x
-    (ordering_then (nat_cmp p.creation q.creation) (ordering_then (nat_cmp p.id q.id) (nat_cmp p.serial q.serial)))) e) ∙ h in
-    cc
-
-before : (p q : Pid) (n : Name) → pid_cmp p q ≡ Less → name_cmp q.node n ≡ Less → name_cmp p.node n ≡ Less
-before p q n h l = go (name_cmp p.node q.node) refl
-  where
-    go : (o : Ordering) → name_cmp p.node q.node ≡ o → name_cmp p.node n ≡ Less
-    go Less e = nat_list_cmp_total.trans p.node q.node n e l
-    go Equal e = nat_list_cmp_total.congr p.node q.node n e ∙ l
-    go Greater e = absurd (rest_less p q Greater e h refl)
-
-behind : (p q : Pid) (n : Name) → pid_cmp p q ≡ Less → name_cmp p.node n ≡ Greater → name_cmp q.node n ≡ Greater
-behind p q n h g = go (name_cmp p.node q.node) refl
-  where
-    go : (o : Ordering) → name_cmp p.node q.node ≡ o → name_cmp q.node n ≡ Greater
-    go Less e =
-        let under : name_cmp n p.node ≡ Less = nat_list_cmp_total.antisymm n p.node ∙ ap ordering_reverse g in
-        nat_list_cmp_total.antisymm q.node n ∙ ap ordering_reverse (nat_list_cmp_total.trans n p.node q.node under e)
-    go Equal e = sym (nat_list_cmp_total.congr p.node q.node n e) ∙ g
-    go Greater e = absurd (rest_less p q Greater e h refl)
-
--- ---- orderings
-
-not_le : (o : Ordering) → is_le o ≡ false → o ≡ Greater
-not_le Greater h = refl
-not_le o h = cc
-
-le_of_less : (o : Ordering) → o ≡ Less → is_le o ≡ true
-le_of_less o h = ap is_le h
 
 either : {A : Type 0} (a b : Bool) → (a || b) ≡ true → (a ≡ true → A) → (b ≡ true → A) → A
 either true b h f g = f refl
@@ -93,12 +53,6 @@ module _ (partner : Pid) (n : Name) where
   abbrev pub is_passed : Pid × End → Bool
   is_passed r = is_le (pid_cmp r.0 partner) || is_lt (name_cmp r.0.node n)
 
-  above_at : (p : Pid) (rs : Links) (j : ℕ) (d : Pid × End) → T (below_all pid_cmp p rs) → j < length rs
-      → pid_cmp p (get_or rs j d).0 ≡ Less
-  above_at p [] j d s l = absurd (omega arith)
-  above_at p (r ∷ rest) zero d s l = less _ (both_pass _ _ s).0
-  above_at p (r ∷ rest) (suc j) d s l = above_at p rest j d (both_pass _ _ s).1 (omega arith)
-
   up_to : (p q : Pid) → pid_cmp p q ≡ Less → is_le (pid_cmp q partner) ≡ true → is_le (pid_cmp p partner) ≡ true
   up_to p q h l = go (pid_cmp q partner) refl l
     where
@@ -110,15 +64,10 @@ module _ (partner : Pid) (n : Name) where
   passed_before : (r s : Pid × End) → pid_cmp r.0 s.0 ≡ Less → is_passed s ≡ true → is_passed r ≡ true
   passed_before r s h p = either (is_le (pid_cmp s.0 partner)) (is_lt (name_cmp s.0.node n)) p
       (λ l. or_left _ _ (up_to r.0 s.0 h l))
-      (λ l. or_right (is_le (pid_cmp r.0 partner)) _ (ap is_lt (before r.0 s.0 n h (lesser _ l))))
+      (λ l. or_right (is_le (pid_cmp r.0 partner)) _ (ap is_lt (node_before r.0 s.0 n h (less_of _ l))))
 
   pub passed_first : (rs : Links) → T (is_sorted pid_cmp rs) → IsPartitionedBy is_passed rs
-  passed_first [] s i j d le l h = absurd (omega arith)
-  passed_first (r ∷ rest) s zero zero d le l h = h
-  passed_first (r ∷ rest) s zero (suc j) d le l h =
-      passed_before r (get_or rest j d) (above_at r.0 rest j d (both_pass _ _ s).0 (omega arith)) h
-  passed_first (r ∷ rest) s (suc i) zero d le l h = absurd (omega arith)
-  passed_first (r ∷ rest) s (suc i) (suc j) d le l h = passed_first rest (both_pass _ _ s).1 i j d (omega arith) (omega arith) h
+  passed_first = passing_first pid_total is_passed passed_before
 
   -- ---- what stands at the first place that isn't passed
 
@@ -138,7 +87,7 @@ module _ (partner : Pid) (n : Name) where
     r.1,
     ap (λ o. cond (is_eq o) (Some r.1) (find pid_cmp r.0 rest)) (tied_itself pid_total r.0),
     t,
-    ap is_lt (pid_total.antisymm partner r.0 ∙ ap ordering_reverse (not_le _ (or_parts _ _ h).0)),
+    ap is_lt (pid_total.antisymm partner r.0 ∙ ap ordering_reverse (greater_of _ (or_parts _ _ h).0)),
   )
 
   above : (r : Pid × End) (rest : Links) → T (below_all pid_cmp r.0 rest) → IsOne rest → IsOne (r ∷ rest)
@@ -165,7 +114,7 @@ module _ (partner : Pid) (n : Name) where
 
   passed_isnt : (q : Pid) (e : End) → is_passed (q, e) ≡ true → is_lt (pid_cmp partner q) ≡ true → same_name q.node n ≡ false
   passed_isnt q e h l = either (is_le (pid_cmp q partner)) (is_lt (name_cmp q.node n)) h
-      (λ k. absurd (both_ways (is_le (pid_cmp q partner)) (ap is_le (pid_total.antisymm q partner ∙ ap ordering_reverse (lesser _ l))) k))
+      (λ k. absurd (both_ways (is_le (pid_cmp q partner)) (ap is_le (pid_total.antisymm q partner ∙ ap ordering_reverse (less_of _ l))) k))
       (λ k. ap is_eq (lesser _ k))
 
   pub none : (rs : Links) (i : ℕ) → T (is_sorted pid_cmp rs) → AllWithin (λ r. is_passed r ≡ true) rs 0 i
@@ -175,7 +124,7 @@ module _ (partner : Pid) (n : Name) where
   none (r ∷ rest) zero s b h le t = λ q e f l.
       let u : T (below_all pid_cmp r.0 rest) × T (is_sorted pid_cmp rest) = both_pass _ _ s in
       here_or_later r rest q e (same_name q.node n ≡ false) f (λ same. ap (λ (x : Pid). same_name x.node n) same ∙ t)
-      (λ later. ap is_eq (behind r.0 q n (found_above r.0 q rest e u.0 later) (greater_is r (h 0 r (omega arith) (omega arith)) t)))
+      (λ later. ap is_eq (node_behind r.0 q n (found_above r.0 q rest e u.0 later) (greater_is r (h 0 r (omega arith) (omega arith)) t)))
   none (r ∷ rest) (suc i) s b h le t = λ q e f l.
       let u : T (below_all pid_cmp r.0 rest) × T (is_sorted pid_cmp rest) = both_pass _ _ s in
       here_or_later r rest q e (same_name q.node n ≡ false) f
@@ -188,13 +137,9 @@ sorted_is rs h = subst T (sym h) tt
 
 -- ---- the links of one process
 
-holds : (b : Bool) → T b → b ≡ true
-holds true h = refl
-holds false h = absurd h
-
 pub links_sorted : (o : Option Life) → is_sorted pid_cmp (links_held o) ≡ true
 links_sorted None = refl
-links_sorted (Some life) = holds _ (fm.entries_sorted (links_of life))
+links_sorted (Some life) = is_true _ (fm.entries_sorted (links_of life))
 
 pub find_held : (o : Option Life) (q : Pid) → find pid_cmp q (links_held o) ≡ option_and_then (end_at q) o
 find_held None q = refl

@@ -1,6 +1,6 @@
 -- The first link to a process at a node, by look-ups.
 use Rattle.std.proofs.Common.{◌≡◌, ◌≢◌, ℕ, zero, suc, ◌+◌, ◌-◌, ◌<◌, ◌≤◌, ◌⊎◌, inl, inr, Bool, true, false, cond}
-use Rattle.std.proofs.Common.{T, List, [], ◌∷◌, length, drop, Option, None, Some, refl, sym, ap, subst, ◌∙◌, arith}
+use Rattle.std.proofs.Common.{List, length, drop, Option, None, Some, refl, sym, ap, subst, ◌∙◌, arith}
 use Rattle.std.proofs.lemmas.List.{length-drop}
 use Rattle.std.proofs.lemmas.Option.{none-some, same_Some, slice_get_within}
 use Rattle.std.proofs.Math.Seq.{take-length}
@@ -20,17 +20,13 @@ use Rattle.erl_term.specs.Order.{pid_cmp}
 use Rattle.erl_term.specs.declared.term.Pid.{Pid}
 use Rattle.link_core.specs.declared.end.End.{End}
 use Rattle.node_tables.proofs.Lookups.{at_id, get_end, less_id}
-use Rattle.node_tables.proofs.Truths.{not_less}
+use Rattle.sorted_map.proofs.Orderings.{not_less}
+use Rattle.sorted_map.proofs.Slices.{slice_get_behind}
 use Rattle.node_tables.specs.Linked.{IsFirstLinked, NoneLinked, link_at}
 use Rattle.node_tables.specs.Lives.{by_id, end_at, ends_in, is_own, life_in, links_of}
 use Rattle.node_tables.specs.declared.life.Life.{Life}
 
 -- ---- a search from a place on
-
-slice_get_behind : {A : Type 0} (n : ℕ) (xs : List A) (i : ℕ) → slice_get (drop n xs) i ≡ slice_get xs (n + i)
-slice_get_behind zero xs i = let e : i ≡ 0 + i = omega arith in ap (slice_get xs) e
-slice_get_behind (suc n) [] i = refl
-slice_get_behind (suc n) (x ∷ xs) i = let e : suc (n + i) ≡ suc n + i = omega arith in slice_get_behind n xs i ∙ ap (slice_get (x ∷ xs)) e
 
 rest_at : (from k : ℕ) → from ≤ k → k ≡ from + (k - from)
 rest_at from k l = omega (arith, l)

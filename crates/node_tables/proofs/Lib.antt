@@ -1,4 +1,3 @@
-pub mod Truths
 pub mod Texts
 pub mod Lookups
 pub mod Own

@@ -1,7 +1,6 @@
 -- What the processes of an incarnation are as maps: look-ups, and an edit at one place.
 use Rattle.std.proofs.Common.{◌≡◌, ℕ, zero, suc, ◌+◌, ◌<◌, Bool, true, false, cond, nat_eq, ◌&&◌, T, List, [], ◌∷◌, ◌++◌}
 use Rattle.std.proofs.Common.{append-nil, append_assoc, length, Option, None, Some, refl, sym, ap, subst, ◌∙◌, arith}
-use Rattle.std.proofs.lemmas.Bool.Decides.{nat_tests}
 use Rattle.std.proofs.lemmas.Bool.{eq-eqb, eqb-true, ne_eqb}
 use Rattle.std.specs.Option.{option_map, option_and_then, option_or}
 use Rattle.std.specs.List.{slice_get}
@@ -90,11 +89,8 @@ pub less_id : (m : Minted) (n k : ℕ) → n < k → pid_cmp (pid_of m n) (pid_o
 less_id m n k l =
     let name : slice_cmp nat_cmp m.name m.name ≡ Equal = tied_itself name_total m.name in
     let creation : nat_cmp m.creation m.creation ≡ Equal = tied_itself nat_cmp_total m.creation in
-    let id : nat_cmp n k ≡ Less = less n k l in
+    let id : nat_cmp n k ≡ Less = less_nat n k l in
     rw (name, creation, id) refl
-  where
-    less : (a b : ℕ) → a < b → nat_cmp a b ≡ Less
-    less a b h = grind (arith, nat_tests)
 
 both : (a b : Bool) → a ≡ true → T b → T (a && b)
 both true b h k = k
@@ -173,7 +169,7 @@ find_end m (e ∷ es) n p q =
 
 -- the keys of a later part are greater
 
-lt_pair : (P Q x y : Pid) → pid_cmp P Q ≡ Less → is_lt (pair_cmp (P, x) (Q, y)) ≡ true
+pub lt_pair : (P Q x y : Pid) → pid_cmp P Q ≡ Less → is_lt (pair_cmp (P, x) (Q, y)) ≡ true
 lt_pair P Q x y h = ap (λ o. is_lt (ordering_then o (pid_cmp x y))) h
 
 below_owned : (P Q x : Pid) (ys : List (Pid × End)) (rest : List ((Pid × Pid) × End)) → pid_cmp P Q ≡ Less

@@ -1,1 +1,3 @@
+pub mod Orderings
+pub mod Slices
 pub mod Places

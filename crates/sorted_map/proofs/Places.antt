@@ -6,7 +6,7 @@ use Rattle.std.specs.declared.cmp.Ordering.TheVariants.{Less, Equal, Greater}
 use Rattle.std.specs.Ordering.{is_lt, is_eq, ordering_reverse, ordering_index, eq_by_cmp}
 use Rattle.std.specs.List.{insert, remove, items_where_true}
 use Rattle.std.specs.Cmp.{IsTotalOrder, alike_right}
-use Rattle.std.specs.List.Sorted.{IsSearchInRange, IsBinarySearchResult, IsNonDecreasingBy}
+use Rattle.std.specs.List.Sorted.{IsSearchInRange, IsBinarySearchResult, IsNonDecreasingBy, IsPartitionedBy}
 use Rattle.std.specs.FinMap.{find, put, is_sorted}
 use Rattle.std.specs.FinMap.Entries.{by_order, below_all, is_sorted-where_key, is_sorted-put}
 use Rattle.sorted_map.specs.Facts.{both_pass, joined, less, find_below_all}
@@ -61,6 +61,16 @@ module _ {K V : Type 0} {cmp : K → K → Ordering} (order : IsTotalOrder cmp) 
   rises q (e ∷ rest) h zero (suc j) d le l = index_rises order e.0 _ q (later_greater e.0 rest j d (both_pass _ _ h).0 (omega arith))
   rises q (e ∷ rest) h (suc i) zero d le l = absurd (omega arith)
   rises q (e ∷ rest) h (suc i) (suc j) d le l = rises q rest (both_pass _ _ h).1 i j d (omega arith) (omega arith)
+
+  -- where a lesser entry passes with a greater one, those that pass stand in front
+  pub passing_first : (p : K × V → Bool) → ((x y : K × V) → cmp x.0 y.0 ≡ Less → p y ≡ true → p x ≡ true)
+      → (es : List (K × V)) → T (is_sorted cmp es) → IsPartitionedBy p es
+  passing_first p m [] s i j d le l h = absurd (omega arith)
+  passing_first p m (e ∷ rest) s zero zero d le l h = h
+  passing_first p m (e ∷ rest) s zero (suc j) d le l h =
+      m e (get_or rest j d) (later_greater e.0 rest j d (both_pass _ _ s).0 (omega arith)) h
+  passing_first p m (e ∷ rest) s (suc i) zero d le l h = absurd (omega arith)
+  passing_first p m (e ∷ rest) s (suc i) (suc j) d le l h = passing_first p m rest (both_pass _ _ s).1 i j d (omega arith) (omega arith) h
 
   pub found_in_range : (es : List (K × V)) (q : K) (at : ℕ) → IsFoundAt cmp es q at → at < length es
   found_in_range [] q at h = absurd h

@@ -1,7 +1,8 @@
 use Rattle.std.proofs.Common.{◌≡◌, Some, None, sym, ap, ◌∙◌, rules}
 use Rattle.std.specs.Option.{option_copied}
 use Rattle.std.proofs.lemmas.List.Sorted.{IsPartitionPoint-from_clause}
-use Rattle.link_core.proofs.Towards.{first_is, is_before, lesser_first, read_at, this_node}
+use Rattle.sorted_map.proofs.Slices.{read_at}
+use Rattle.link_core.proofs.Towards.{first_is, is_before, lesser_first, this_node}
 use Rattle.link_core.proofs.ends.first_at.Goals as goal
 
 pub returns-in_err-record : goal.returns-in_err-record

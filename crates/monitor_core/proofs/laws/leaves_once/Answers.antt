@@ -1,5 +1,5 @@
 use Rattle.std.proofs.Common.{arith}
-use Rattle.monitor_core.proofs.Leaving.{get_removed, from_nothing, gone, gone_by_end}
+use Rattle.monitor_core.proofs.Departures.{get_removed, from_nothing, gone, gone_by_end}
 use Rattle.monitor_core.proofs.laws.leaves_once.Goals as goal
 
 pub returns-clause-once : goal.returns-clause-once

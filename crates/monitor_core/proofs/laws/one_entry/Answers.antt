@@ -1,4 +1,4 @@
-use Rattle.monitor_core.proofs.Leaving.{get_added, added_held, get_removed, ended_held, not_ended, taken_by_end, others_kept}
+use Rattle.monitor_core.proofs.Departures.{get_added, added_held, get_removed, ended_held, not_ended, taken_by_end, others_kept}
 use Rattle.monitor_core.proofs.laws.one_entry.Goals as goal
 
 pub returns-clause-added : goal.returns-clause-added

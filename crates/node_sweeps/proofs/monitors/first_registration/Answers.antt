@@ -1,6 +1,6 @@
 use Rattle.std.proofs.Common.{None, Some, ap, ◌∙◌}
 use Rattle.std.specs.Option.{option_copied}
-use Rattle.node_tables.proofs.Truths.{read_at}
+use Rattle.sorted_map.proofs.Slices.{read_at}
 use Rattle.dist_model.specs.Names.{same_name}
 use Rattle.node_plans.specs.Seen.{seen}
 use Rattle.node_sweeps.proofs.Passed.{first_by, sorted_of}

@@ -1,7 +1,7 @@
 use Rattle.std.proofs.Common.{None, Some, sym, ap, ◌∙◌, rules}
 use Rattle.std.proofs.lemmas.List.Sorted.{IsPartitionPoint-from_clause}
 use Rattle.node_tables.proofs.Behind.{has, is_passed, is_there, none, passed_first, sorted_is}
-use Rattle.node_tables.proofs.Truths.{read_at}
+use Rattle.sorted_map.proofs.Slices.{read_at}
 use Rattle.node_tables.proofs.seeking.is_one_behind.Goals as goal
 
 pub returns-in-Some-clause-has : goal.returns-in-Some-clause-has

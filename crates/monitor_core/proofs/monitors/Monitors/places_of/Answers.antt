@@ -3,11 +3,11 @@ use Rattle.std.specs.List.{All, filter, slice_range}
 use Rattle.std.specs.FinMap as map
 use Rattle.monitor_core.specs.Order.{reference_cmp}
 use Rattle.monitor_core.specs.Monitors.{Sided}
-use Rattle.monitor_core.specs.Index.{IsParted, order_at, picked, process_of}
+use Rattle.monitor_core.specs.Index.{picked, process_of}
 use Rattle.monitor_core.specs.Records.{Records}
 use Rattle.monitor_core.specs.declared.places.Point.TheVariants.{Of}
 use Rattle.monitor_core.specs.declared.places.Side.{Side}
-use Rattle.monitor_core.proofs.Parts.{all_from_each}
+use Rattle.monitor_core.proofs.Parts.{all_from_each, parted_as}
 use Rattle.monitor_core.proofs.Indexed.{is_its, passing_its, picked_gone, gone_within}
 use Rattle.monitor_core.proofs.monitors.Monitors.places_of.Goals as goal
 
@@ -23,8 +23,7 @@ returns-clause-found c =
     sym (map.entries-from_sorted reference_cmp rs c.self.invariant.sorted)
     ∙ ap (λ (k : Sided). map.entries k.monitors) c.self.view_is in
     let parted =
-    subst (λ (us : Records). IsParted (order_at of us point) places from to) c.entries.ensures.entries
-    (subst (λ xs. IsParted (order_at of c.entries.result.now point) xs from to) c.deref.ensures.value c.part-from.ensures) in
+    parted_as of point c.entries.result.now rs _ places from to c.entries.ensures.entries c.deref.ensures.value c.part-from.ensures in
     ap (λ xs. picked (map.entries c.args.self.now.monitors) (slice_range xs from to)) c.deref-2.ensures.value
     ∙ ap (λ (us : Records). picked us (slice_range places from to)) (sym here)
     ∙ picked_gone of rs point places from to c.self.invariant.index parted ∙ passing_its of c.args.process.now rs
@@ -44,8 +43,7 @@ returns-clause-places c =
     sym (map.entries-from_sorted reference_cmp rs c.self.invariant.sorted)
     ∙ ap (λ (k : Sided). map.entries k.monitors) c.self.view_is in
     let parted =
-    subst (λ (us : Records). IsParted (order_at of us point) places from to) c.entries.ensures.entries
-    (subst (λ xs. IsParted (order_at of c.entries.result.now point) xs from to) c.deref.ensures.value c.part-from.ensures) in
+    parted_as of point c.entries.result.now rs _ places from to c.entries.ensures.entries c.deref.ensures.value c.part-from.ensures in
     subst (λ xs. All (λ place. place < length (map.entries c.args.self.now.monitors)) (slice_range xs from to))
     (sym c.deref-2.ensures.value)
     (subst (λ (us : Records). All (λ place. place < length us) (slice_range places from to)) here (all_from_each

@@ -4,11 +4,12 @@ use Rattle.sorted_map.specs.Maps.{sorted_without, map_without}
 use Rattle.sorted_map.proofs.Places.{finds_none, without_found}
 use Rattle.monitor_core.specs.Monitors.{Sided}
 use Rattle.monitor_core.specs.Records.{Records, AreSorted}
-use Rattle.monitor_core.specs.Index.{IsIndex, IsParted, order_at, process_of}
+use Rattle.monitor_core.specs.Index.{IsIndex, process_of}
 use Rattle.monitor_core.specs.declared.places.Point.TheVariants.{At}
 use Rattle.monitor_core.proofs.Order.{reference_cmp_total, reference_cmp_exact}
 use Rattle.monitor_core.proofs.Maps.{get_here, remove_same, none_of, on_true}
 use Rattle.monitor_core.proofs.Indexed.{closed_index, gone_up, left_at, within_places}
+use Rattle.monitor_core.proofs.Parts.{parted_as}
 use Rattle.monitor_core.proofs.monitors.Monitors.remove.Goals as goal
 
 pub returns-in-Err-clause-answer : goal.returns-in-Err-clause-answer
@@ -42,8 +43,7 @@ close-requires-clause-gone c =
     let from = c.part-from.result.0 in
     let to = c.part-from.result.1 in
     let parted =
-    subst (λ (us : Records). IsParted (order_at of us point) places from to) c.entries.ensures.entries
-    (subst (λ xs. IsParted (order_at of c.entries.result.now point) xs from to) c.deref.ensures.value c.part-from.ensures) in
+    parted_as of point c.entries.result.now rs _ places from to c.entries.ensures.entries c.deref.ensures.value c.part-from.ensures in
     gone_up of rs point places from to c.self.invariant.index parted
 
 pub invariant_of-self : goal.invariant_of-self
@@ -55,8 +55,7 @@ invariant_of-self c =
     let from = c.part-from.result.0 in
     let to = c.part-from.result.1 in
     let parted =
-    subst (λ (us : Records). IsParted (order_at of us point) places from to) c.entries.ensures.entries
-    (subst (λ xs. IsParted (order_at of c.entries.result.now point) xs from to) c.deref.ensures.value c.part-from.ensures) in
+    parted_as of point c.entries.result.now rs _ places from to c.entries.ensures.entries c.deref.ensures.value c.part-from.ensures in
     let gone =
     left_at of rs c.in-Ok.at ∙ sym (c.remove.ensures.entries
     ∙ without_found reference_cmp_total rs c.args.reference.now c.in-Ok.at c.self.invariant.sorted c.in-Ok.ensures.found) in

@@ -12,9 +12,10 @@ use Rattle.monitor_core.specs.declared.places.Point.TheVariants.{Of}
 use Rattle.monitor_core.specs.Left.{is_of, without}
 use Rattle.monitor_core.specs.Monitors.{Sided}
 use Rattle.monitor_core.specs.Records.{Records, AreSorted}
-use Rattle.monitor_core.specs.Index.{IsIndex, IsParted, order_at, picked, process_of}
+use Rattle.monitor_core.specs.Index.{IsIndex, picked, process_of}
 use Rattle.monitor_core.proofs.Order.{reference_cmp_total, reference_cmp_exact}
 use Rattle.monitor_core.proofs.Indexed.{closed_index, gone_up, left_others, none_its, passing_its, picked_gone, within_places}
+use Rattle.monitor_core.proofs.Parts.{parted_as}
 use Rattle.monitor_core.proofs.monitors.Monitors.remove_of.Goals as goal
 
 pub returns-then-from-to-clause-monitors : goal.returns-then-from-to-clause-monitors
@@ -26,8 +27,7 @@ returns-then-from-to-clause-monitors c =
     let from = c.part-from.result.0 in
     let to = c.part-from.result.1 in
     let parted =
-    subst (λ (us : Records). IsParted (order_at of us point) places from to) c.entries.ensures.entries
-    (subst (λ xs. IsParted (order_at of c.entries.result.now point) xs from to) c.deref.ensures.value c.part-from.ensures) in
+    parted_as of point c.entries.result.now rs _ places from to c.entries.ensures.entries c.deref.ensures.value c.part-from.ensures in
     let same : to ≡ from = search rules in
     let empty : slice_range places from to ≡ [] = ap (slice_range places from) same ∙ between_none places from in
     let none =
@@ -51,8 +51,7 @@ close-requires-clause-gone c =
     let from = c.part-from.result.0 in
     let to = c.part-from.result.1 in
     let parted =
-    subst (λ (us : Records). IsParted (order_at of us point) places from to) c.entries.ensures.entries
-    (subst (λ xs. IsParted (order_at of c.entries.result.now point) xs from to) c.deref.ensures.value c.part-from.ensures) in
+    parted_as of point c.entries.result.now rs _ places from to c.entries.ensures.entries c.deref.ensures.value c.part-from.ensures in
     gone_up of rs point places from to c.self.invariant.index parted
 
 pub invariant_of-self : goal.invariant_of-self
@@ -64,8 +63,7 @@ invariant_of-self c =
     let from = c.part-from.result.0 in
     let to = c.part-from.result.1 in
     let parted =
-    subst (λ (us : Records). IsParted (order_at of us point) places from to) c.entries.ensures.entries
-    (subst (λ xs. IsParted (order_at of c.entries.result.now point) xs from to) c.deref.ensures.value c.part-from.ensures) in
+    parted_as of point c.entries.result.now rs _ places from to c.entries.ensures.entries c.deref.ensures.value c.part-from.ensures in
     let goes = λ (m : Monitor). eq_by_cmp pid_cmp (of m) c.args.process.now in
     let kept =
     filter_same _ (λ (e : Reference × Monitor). not (goes e.1)) _

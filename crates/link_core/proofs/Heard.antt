@@ -8,7 +8,7 @@ use Rattle.link_core.specs.declared.end.End.{End}
 use Rattle.link_core.specs.declared.end.LinkSignal.{LinkSignal}
 use Rattle.link_core.specs.declared.end.LinkSignal.TheVariants.{Link, Unlink, Ack}
 use Rattle.link_core.specs.News.{Exited, LinkNews, Signals, drained, heard, last_said}
-use Rattle.link_core.proofs.Travelling.{drained-push, outcome, unlinks_in}
+use Rattle.link_core.proofs.Drained.{drained-push, outcome, unlinks_in}
 
 -- an end that waits has waited, and its acknowledgement hasn't come
 pub heard_pending : (x : End) (s : LinkNews) (i : ℕ) → heard x s ≡ End.Pending i → (x ≡ End.Pending i) × (s ≢ Signals (Ack i))
