@@ -1,8 +1,8 @@
 -- An arrow ends below the row in which it begins.
-use Rattle.std.proofs.Common.{◌≡◌, ℕ, ◌+◌, ◌<◌, ◌≤◌, Bool, true, false, eqb, cond, ◌&&◌, List, [], ◌∷◌}
+use Rattle.std.proofs.Common.{◌≡◌, ℕ, ◌+◌, ◌<◌, ◌≤◌, Bool, true, false, eqb, cond, List, [], ◌∷◌}
 use Rattle.std.proofs.Common.{◌++◌, length, Option, None, Some, is_none, nat_lt, refl, subst, arith, All}
 use Rattle.std.specs.List.{AllByRecursion}
-use Rattle.std.proofs.lemmas.Bool.Decides.{nat_tests}
+use Rattle.std.proofs.lemmas.Bool.{and_parts, ltb-true}
 use Rattle.std.proofs.lemmas.List.Elements.{All-from_recursion}
 use Rattle.diagram.specs.Arrows.{arrows_of, pairs, untaken}
 use Rattle.diagram.specs.Claims.{EndsBelow, GoesDown}
@@ -81,10 +81,6 @@ wider n seen h = record {
 
 -- ---- each step keeps it
 
-second : (a b : Bool) → (a && b) ≡ true → b ≡ true
-second true b h = h
-second false b h = cc
-
 took_if : (n : ℕ) (seen : Seen) (b : Bool) → (b ≡ true → length seen.taken < length seen.sent) → Fine n seen
     → Fine (n + 1) (cond b (record { sent = seen.sent; taken = seen.taken ++ n ∷ []; lost = seen.lost }) seen)
 took_if n seen true l h = record {
@@ -95,13 +91,10 @@ took_if n seen true l h = record {
 }
 took_if n seen false l h = wider n seen h
 
-waits : (taken sent : ℕ) → nat_lt taken sent ≡ true → taken < sent
-waits taken sent h = grind (arith, nat_tests)
-
 took_fine : (n : ℕ) (seen : Seen) → Fine n seen → Fine (n + 1) (took n seen)
 took_fine n seen h =
     took_if n seen (has_next seen)
-    (λ t. waits (length seen.taken) (length seen.sent) (second (is_none seen.lost) (nat_lt (length seen.taken) (length seen.sent)) t)) h
+    (λ t. ltb-true (length seen.taken) (length seen.sent) (and_parts (is_none seen.lost) (nat_lt (length seen.taken) (length seen.sent)) t).1) h
 
 took_or_not : (n : ℕ) (seen : Seen) (b : Bool) → Fine n seen → Fine (n + 1) (changed (took n) b seen)
 took_or_not n seen true h = took_fine n seen h

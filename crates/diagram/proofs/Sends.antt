@@ -1,8 +1,8 @@
 -- The marks that send on a queue, the rows that take from it, and what the queue sees of them.
 use Rattle.std.proofs.Common.{◌≡◌, ℕ, ◌+◌, Bool, true, false, eqb, cond, ◌||◌, List, [], ◌∷◌, ◌++◌, map, Option}
-use Rattle.std.proofs.Common.{None, Some, append_assoc, append-nil, is_none, refl, sym, ap, ◌∙◌, inl, inr}
+use Rattle.std.proofs.Common.{None, Some, append_assoc, append-nil, is_none, refl, sym, ap, ◌∙◌}
 use Rattle.std.specs.List.{list_any}
-use Rattle.std.proofs.lemmas.Bool.{cases_Bool, cond-true, cond-false}
+use Rattle.std.proofs.lemmas.Bool.{cond-true}
 use Rattle.diagram.specs.Arrows.{arrows_of, pairs}
 use Rattle.diagram.specs.Claims.{IsFed, giving_up, sends, sends_at, sends_in, start_of, takes, takes_from}
 use Rattle.diagram.specs.Queues.{Seen, after_row, changed, given_up, has_next, losing, nothing}
@@ -21,33 +21,26 @@ starts lost (place ∷ sent) (row ∷ taken) = ap (λ (rest : List Place). place
 
 -- ---- what each step leaves of what was sent
 
+kept_if : {A : Type 0} (of : Seen → A) (b : Bool) (other seen : Seen) → of other ≡ of seen → of (cond b other seen) ≡ of seen
+kept_if of true other seen h = h
+kept_if of false other seen h = refl
+
 kept_by : {A : Type 0} (of : Seen → A) (change : Seen → Seen) (b : Bool) (seen : Seen) → of (change seen) ≡ of seen
     → of (changed change b seen) ≡ of seen
-kept_by of change true seen h = h
-kept_by of change false seen h = refl
+kept_by of change b seen h = kept_if of b (change seen) seen h
 
-took_sent : (row : ℕ) (seen : Seen) → (took row seen).sent ≡ seen.sent
-took_sent row seen =
-    elim (cases_Bool (has_next seen)) [
-      | inl t ↦
-          ap (λ (s : Seen). s.sent)
-          (cond-true (has_next seen) (record { sent = seen.sent; taken = seen.taken ++ row ∷ []; lost = seen.lost }) seen t)
-      | inr f ↦
-          ap (λ (s : Seen). s.sent)
-          (cond-false (has_next seen) (record { sent = seen.sent; taken = seen.taken ++ row ∷ []; lost = seen.lost }) seen f)
-    ]
-
-taking_sent : (queue row : ℕ) (from : Option ℕ) (seen : Seen) → (taking queue row from seen).sent ≡ seen.sent
-taking_sent queue row None seen = refl
-taking_sent queue row (Some other) seen = kept_by (λ (s : Seen). s.sent) (took row) (eqb other queue) seen (took_sent row seen)
+-- a row that takes changes nothing but what is taken
+taking_keeps : {A : Type 0} (of : Seen → A) (queue row : ℕ) (from : Option ℕ) (seen : Seen)
+    → of (record { sent = seen.sent; taken = seen.taken ++ row ∷ []; lost = seen.lost }) ≡ of seen → of (taking queue row from seen) ≡ of seen
+taking_keeps of queue row None seen h = refl
+taking_keeps of queue row (Some other) seen h =
+    kept_by of (took row) (eqb other queue) seen
+    (kept_if of (has_next seen) (record { sent = seen.sent; taken = seen.taken ++ row ∷ []; lost = seen.lost }) seen h)
 
 given_up_is : {A : Type 0} (of : Seen → A) (row : ℕ) (seen : Seen)
     → of (record { sent = seen.sent; taken = seen.taken; lost = Some row }) ≡ of seen → of (given_up row seen) ≡ of seen
 given_up_is of row seen h =
-    elim (cases_Bool (is_none seen.lost)) [
-      | inl t ↦ ap of (cond-true (is_none seen.lost) (record { sent = seen.sent; taken = seen.taken; lost = Some row }) seen t) ∙ h
-      | inr f ↦ ap of (cond-false (is_none seen.lost) (record { sent = seen.sent; taken = seen.taken; lost = Some row }) seen f)
-    ]
+    kept_if of (is_none seen.lost) (record { sent = seen.sent; taken = seen.taken; lost = Some row }) seen h
 
 losing_sent : (queue row : ℕ) (others : List ℕ) (seen : Seen) → (losing queue row others seen).sent ≡ seen.sent
 losing_sent queue row [] seen = refl
@@ -101,7 +94,7 @@ after_sent : (queue at : ℕ) (row : Row) (seen : Seen)
 after_sent queue at row seen =
     losing_sent queue at row.gave_up.items (sending queue at 0 row.marks.items (taking queue at row.took seen))
     ∙ sending_sent queue at 0 row.marks.items (taking queue at row.took seen)
-    ∙ ap (λ (sent : List Place). sent ++ sends_in queue at 0 row.marks.items) (taking_sent queue at row.took seen)
+    ∙ ap (λ (sent : List Place). sent ++ sends_in queue at 0 row.marks.items) (taking_keeps (λ (s : Seen). s.sent) queue at row.took seen refl)
 
 traffic_sent : (queue at : ℕ) (rows : List Row) (seen : Seen) → (traffic queue at rows seen).sent ≡ seen.sent ++ sends queue at rows
 traffic_sent queue at [] seen = sym (append-nil seen.sent)
@@ -162,21 +155,6 @@ abbrev or_else : Option ℕ → Option ℕ → Option ℕ
 or_else None other = other
 or_else (Some row) other = Some row
 
-took_lost : (row : ℕ) (seen : Seen) → (took row seen).lost ≡ seen.lost
-took_lost row seen =
-    elim (cases_Bool (has_next seen)) [
-      | inl t ↦
-          ap (λ (s : Seen). s.lost)
-          (cond-true (has_next seen) (record { sent = seen.sent; taken = seen.taken ++ row ∷ []; lost = seen.lost }) seen t)
-      | inr f ↦
-          ap (λ (s : Seen). s.lost)
-          (cond-false (has_next seen) (record { sent = seen.sent; taken = seen.taken ++ row ∷ []; lost = seen.lost }) seen f)
-    ]
-
-taking_lost : (queue row : ℕ) (from : Option ℕ) (seen : Seen) → (taking queue row from seen).lost ≡ seen.lost
-taking_lost queue row None seen = refl
-taking_lost queue row (Some other) seen = kept_by (λ (s : Seen). s.lost) (took row) (eqb other queue) seen (took_lost row seen)
-
 given_up_lost : (row : ℕ) (sent : List Place) (taken : List ℕ) (lost : Option ℕ)
     → (given_up row (record { sent = sent; taken = taken; lost = lost })).lost ≡ or_else lost (Some row)
 given_up_lost row sent taken None = refl
@@ -218,7 +196,7 @@ after_lost : (queue at : ℕ) (row : Row) (seen : Seen)
 after_lost queue at row seen =
     losing_lost queue at row.gave_up.items (sending queue at 0 row.marks.items (taking queue at row.took seen))
     ∙ ap (λ (lost : Option ℕ). or_else lost (cond (list_any (λ other. eqb other queue) row.gave_up.items) (Some at) None))
-    (sending_lost queue at 0 row.marks.items (taking queue at row.took seen) ∙ taking_lost queue at row.took seen)
+    (sending_lost queue at 0 row.marks.items (taking queue at row.took seen) ∙ taking_keeps (λ (s : Seen). s.lost) queue at row.took seen refl)
 
 given_step : (b : Bool) (at : ℕ) (rest : Option ℕ) → or_else (cond b (Some at) None) rest ≡ cond b (Some at) rest
 given_step true at rest = refl

@@ -1,12 +1,12 @@
 -- The bodies of messages: what a body with a letter in front is, and that a body is of one message.
-use Rattle.std.proofs.Common.{Bool, true, false, ◌||◌, ◌&&◌, ◌==◌, nat_le, get_or, rules, if◌then◌else◌, codes, ◌≡◌, ℕ, ◌<◌, ◌≤◌}
+use Rattle.std.proofs.Common.{Bool, true, ◌||◌, ◌==◌, nat_le, get_or, rules, if◌then◌else◌, codes, ◌≡◌, ℕ, ◌<◌, ◌≤◌}
 use Rattle.std.proofs.Common.{◌^◌, List, [], ◌∷◌, ◌++◌, length, drop, ap, sym, refl, subst, ◌∙◌, append_assoc, arith, ◌⊎◌, inl, inr}
 use Rattle.std.proofs.lemmas.List.{append-nil}
 use Rattle.std.specs.Str.{bytes_eq, IsUtf8, IsAscii}
 use Rattle.std.proofs.lemmas.Str.{IsUtf8-from_ascii, IsAscii-append}
 use Rattle.std.specs.Int.{to_be_bytes, w32, w64, is_in_range}
 use Rattle.std.specs.Char.{is_ascii_alphanumeric}
-use Rattle.std.proofs.lemmas.Bool.{eqb-true, leb-true, or_cases}
+use Rattle.std.proofs.lemmas.Bool.{and_parts, eqb-true, leb-true, or_cases}
 use Rattle.std.proofs.lemmas.Str.Ascii.{IsAscii-from_all}
 use Rattle.erl_names.specs.Name.{IsNodeName, IsWord, is_name_byte, is_host_byte}
 use Rattle.erl_handshake.specs.declared.status.Status.{Status as TheStatus}
@@ -239,12 +239,8 @@ one_name tail a b p q = (one_counted a b p.rest q.rest (short_name a p.is_name) 
 
 -- ---- names
 
-second : (a b : Bool) → (a && b) ≡ true → b ≡ true
-second true b e = e
-second false b e = cc
-
 range_low : (lo hi c : ℕ) → is_in_range lo hi c ≡ true → c ≤ hi
-range_low lo hi c e = leb-true c hi (second (nat_le lo c) (nat_le c hi) e)
+range_low lo hi c e = leb-true c hi (and_parts (nat_le lo c) (nat_le c hi) e).1
 
 alphanumeric_low : (c : ℕ) → is_ascii_alphanumeric c ≡ true → c < 128
 alphanumeric_low c e =

@@ -160,57 +160,70 @@ number_4_fits bytes h =
     let a = f 0 in let b = f 1 in let c = f 2 in let d = f 3 in
     omega arith
 
+-- the flags, a number of 32 bits and what is behind them
+record Flagged (bytes : List ℕ) : Type 0 where
+  flags : ℕ
+  number : ℕ
+  tail : List ℕ
+  flags_fit : flags < 2 ^ 64
+  number_fits : number < 2 ^ 32
+  are_bytes : AreBytes tail
+  len : 12 + length tail ≡ length bytes
+  parts : bytes ≡ to_be_bytes w64 flags ++ (to_be_bytes w32 number ++ tail)
+
+flagged : (bytes : List ℕ) → AreBytes bytes → 12 ≤ length bytes → Flagged bytes
+flagged bytes h le =
+    let rest = drop 8 bytes in
+    let h8 = bytes_rest bytes 8 h in
+    let le4 : 4 ≤ length rest = omega (arith, length-drop 8 bytes) in
+    record {
+      flags = number_8 bytes;
+      number = number_4 rest;
+      tail = drop 4 rest;
+      flags_fit = number_8_fits bytes h;
+      number_fits = number_4_fits rest h8;
+      are_bytes = bytes_rest rest 4 h8;
+      len = omega (arith, length-drop 8 bytes, length-drop 4 rest);
+      parts = parts_8 bytes h (omega arith) ∙ ap (λ (w : List ℕ). to_be_bytes w64 (number_8 bytes) ++ w) (parts_4 rest h8 le4);
+    }
+
 send_name_or_not : (bytes : List ℕ) → AreBytes bytes → Decided (HasMessage Acceptor (78 ∷ bytes))
-send_name_or_not bytes h = elim (cases_lt (length bytes) 12) [ inl few ↦ inr (short few) | inr le ↦ by le ]
+send_name_or_not bytes h = elim (cases_lt (length bytes) 12) [ inl few ↦ inr (short few) | inr le ↦ by (flagged bytes h le) ]
   where
     short : length bytes < 12 → HasMessage Acceptor (78 ∷ bytes) → ⊥
     short few x = let s = send_name_is x.0 bytes x.1 in let l = ap length s.parts in absurd (omega arith)
 
-    by : 12 ≤ length bytes → Decided (HasMessage Acceptor (78 ∷ bytes))
-    by le =
-        let flags = number_8 bytes in
-        let rest = drop 8 bytes in
-        let creation = number_4 rest in
-        let tail = drop 4 rest in
-        let h8 = bytes_rest bytes 8 h in
-        let le4 : 4 ≤ length rest = omega (arith, length-drop 8 bytes) in
-        let parts : bytes ≡ to_be_bytes w64 flags ++ (to_be_bytes w32 creation ++ tail) =
-        parts_8 bytes h (omega arith) ∙ ap (λ (w : List ℕ). to_be_bytes w64 flags ++ w) (parts_4 rest h8 le4) in
-        let p = number_8_fits bytes h in
-        let q = number_4_fits rest h8 in
-        elim (front_name tail (bytes_rest rest 4 h8)) [
-          | inl n ↦ inl (SendName flags creation n.0, send_name_body flags creation n.0 tail bytes p q n.1 parts)
-          | inr never ↦ inr (λ x. never (send_name_named flags creation tail bytes p q parts x.0 x.1))
+    by : Flagged bytes → Decided (HasMessage Acceptor (78 ∷ bytes))
+    by f =
+        elim (front_name f.tail f.are_bytes) [
+          | inl n ↦ inl
+              (SendName f.flags f.number n.0, send_name_body f.flags f.number n.0 f.tail bytes f.flags_fit f.number_fits n.1 f.parts)
+          | inr never ↦ inr
+              (λ x. never (send_name_named f.flags f.number f.tail bytes f.flags_fit f.number_fits f.parts x.0 x.1))
         ]
 
 challenge_or_not : (bytes : List ℕ) → AreBytes bytes → Decided (HasMessage Dialer (78 ∷ bytes))
-challenge_or_not bytes h = elim (cases_lt (length bytes) 16) [ inl few ↦ inr (short few) | inr le ↦ by le ]
+challenge_or_not bytes h =
+    elim (cases_lt (length bytes) 16) [ inl few ↦ inr (short few) | inr le ↦ by le (flagged bytes h (omega arith)) ]
   where
     short : length bytes < 16 → HasMessage Dialer (78 ∷ bytes) → ⊥
     short few x = let s = challenge_is x.0 bytes x.1 in let l = ap length s.parts in absurd (omega arith)
 
-    by : 16 ≤ length bytes → Decided (HasMessage Dialer (78 ∷ bytes))
-    by le =
-        let flags = number_8 bytes in
-        let rest = drop 8 bytes in
-        let challenge = number_4 rest in
-        let last = drop 4 rest in
-        let creation = number_4 last in
-        let tail = drop 4 last in
-        let h8 = bytes_rest bytes 8 h in
-        let h4 = bytes_rest rest 4 h8 in
-        let le8 : 8 ≤ length rest = omega (arith, length-drop 8 bytes) in
-        let le4 : 4 ≤ length last = omega (arith, length-drop 4 rest) in
-        let parts : bytes ≡ to_be_bytes w64 flags ++ (to_be_bytes w32 challenge ++ (to_be_bytes w32 creation ++ tail)) =
-        parts_8 bytes h (omega arith)
-        ∙ ap (λ (w : List ℕ). to_be_bytes w64 flags ++ w) (parts_4 rest h8 (omega arith))
-        ∙ ap (λ (w : List ℕ). to_be_bytes w64 flags ++ (to_be_bytes w32 challenge ++ w)) (parts_4 last h4 le4) in
-        let p = number_8_fits bytes h in
-        let q = number_4_fits rest h8 in
-        let r = number_4_fits last h4 in
-        elim (front_name tail (bytes_rest last 4 h4)) [
-          | inl n ↦ inl (Challenge flags challenge creation n.0, challenge_body flags challenge creation n.0 tail bytes p q r n.1 parts)
-          | inr never ↦ inr (λ x. never (challenge_named flags challenge creation tail bytes p q r parts x.0 x.1))
+    by : 16 ≤ length bytes → Flagged bytes → Decided (HasMessage Dialer (78 ∷ bytes))
+    by le f =
+        let creation = number_4 f.tail in
+        let tail = drop 4 f.tail in
+        let le4 : 4 ≤ length f.tail = omega (arith, le, f.len) in
+        let fits = number_4_fits f.tail f.are_bytes in
+        let parts : bytes ≡ to_be_bytes w64 f.flags ++ (to_be_bytes w32 f.number ++ (to_be_bytes w32 creation ++ tail)) =
+        f.parts ∙ ap (λ (w : List ℕ). to_be_bytes w64 f.flags ++ (to_be_bytes w32 f.number ++ w)) (parts_4 f.tail f.are_bytes le4) in
+        elim (front_name tail (bytes_rest f.tail 4 f.are_bytes)) [
+          | inl n ↦ inl (
+            Challenge f.flags f.number creation n.0,
+            challenge_body f.flags f.number creation n.0 tail bytes f.flags_fit f.number_fits fits n.1 parts,
+          )
+          | inr never ↦ inr
+              (λ x. never (challenge_named f.flags f.number creation tail bytes f.flags_fit f.number_fits fits parts x.0 x.1))
         ]
 
 n_or_not : (role : Role) (bytes : List ℕ) → AreBytes bytes → Decided (HasMessage role (78 ∷ bytes))

@@ -3,7 +3,7 @@ use Rattle.std.proofs.Common.{lit<, nat_lt, get_or, zero-mul, one-mul, ◌≡◌
 use Rattle.std.proofs.Common.{false, min, max, [], ◌∷◌, bit_and, bit_or, ap, sym, refl, subst, ◌∙◌, arith, inl, inr}
 use Rattle.std.specs.List.{AllPass}
 use Rattle.std.specs.Int.{IsBitSet, bit_at}
-use Rattle.std.proofs.lemmas.Bool.{ltb-true, eqb-true, eqb-false, cases_eq, cases_lt}
+use Rattle.std.proofs.lemmas.Bool.{ltb-true, eqb-true, eq-eqb, cases_eq, cases_lt}
 use Rattle.std.proofs.lemmas.Nat.{pow_pos}
 use Rattle.std.proofs.lemmas.Nat.Bits.{bit_at-lt, bit_at_and, bit_at_or, bit_at-pow_other, and_pow, same_from_bits}
 use Rattle.std.proofs.lemmas.List.Elements.{All-nil, All-cons}
@@ -44,18 +44,11 @@ bit_same word required k c = elim (cases_lt (bit_at required k) 1) [
       omega arith
 ]
 
-eqb-same : (n : ℕ) → (n == n) ≡ true
-eqb-same n = by (n == n) refl
-  where
-    by : (b : Bool) → (n == n) ≡ b → b ≡ true
-    by true e = refl
-    by false e = absurd (eqb-false n n e refl)
-
 pub has_all : (word required : ℕ) → Covers word required → has_all_of word required ≡ true
 has_all word required c =
     let same : bit_and word required ≡ required =
     same_from_bits (bit_and word required) required (λ k. bit_at_and word required k ∙ bit_same word required k c) in
-    rw same (eqb-same required)
+    rw same (eq-eqb required required refl)
 
 -- ---- the mandatory flags
 

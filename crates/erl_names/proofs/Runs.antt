@@ -11,7 +11,7 @@ use Rattle.erl_names.specs.Minted.{Minted, count, last, risen, drawn, id_of, und
 abbrev pub IsAbove : Minted → Draw × ℕ → Type 0
 IsAbove m id = count m id.0 < id.1
 
-risen-le : (n highest : ℕ) → n ≤ risen n highest
+pub risen-le : (n highest : ℕ) → n ≤ risen n highest
 risen-le n highest = elim (nat_lt n highest) as (λ b. n ≤ (if b then n + 1 else n)) [ true ↦ omega arith | false ↦ omega arith ]
 
 count-drawn : (m : Minted) (kind other : Draw) → count m other ≤ count (drawn m kind) other

@@ -2,7 +2,7 @@
 use Rattle.std.proofs.Common.{◌≡◌, ℕ, suc, ◌+◌, ◌<◌, ◌==◌, Bool, true, false, Some, List, [], ◌∷◌, filter, get_or, length}
 use Rattle.std.proofs.Common.{map, inl, inr, refl, sym, ap, ◌∙◌, subst, arith, slice_get, slice_index_or, if◌then◌else◌}
 use Rattle.std.specs.List.{All, AllPairs, AllZip}
-use Rattle.std.proofs.lemmas.Bool.Decides.{eqb_tells}
+use Rattle.std.proofs.lemmas.Bool.{eq-eqb}
 use Rattle.std.proofs.lemmas.List.{length-map}
 use Rattle.std.proofs.lemmas.List as lists
 use Rattle.std.proofs.lemmas.List.Elements.{All-cons, All-head, All-nil, All-tail}
@@ -16,13 +16,10 @@ all_from_nodes : (Q : Placed → Type 0) (items : List Placed) → ((k : ℕ) �
 all_from_nodes Q [] h = All-nil Q
 all_from_nodes Q (item ∷ items) h =
     let own : All Q (item ∷ filter (λ placed. item.node == placed.node) items) =
-    by_test (item.node == item.node) (same item.node) (h item.node) in
+    by_test (item.node == item.node) (eq-eqb item.node item.node refl) (h item.node) in
     All-cons Q item items (All-head Q item (filter (λ placed. item.node == placed.node) items) own)
     (all_from_nodes Q items (λ k. rest k (k == item.node) (h k)))
   where
-    same : (k : ℕ) → (k == k) ≡ true
-    same k = elim (eqb_tells k k) [ inl t ↦ t.0 | inr t ↦ absurd (t.1 refl) ]
-
     by_test : (b : Bool) → b ≡ true
         → All Q (if b then item ∷ filter (λ placed. item.node == placed.node) items else filter (λ placed. item.node == placed.node) items)
         → All Q (item ∷ filter (λ placed. item.node == placed.node) items)

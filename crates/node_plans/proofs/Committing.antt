@@ -1,11 +1,12 @@
 -- What a node keeps, once a plan is carried out.
-use Rattle.std.proofs.Common.{◌≡◌, ℕ, ◌<◌, ◌≤◌, ◌+◌, ◌-◌, ◌^◌, Bool, true, false, cond, not, rules, nat_lt}
+use Rattle.std.proofs.Common.{◌≡◌, ℕ, ◌<◌, ◌+◌, ◌-◌, ◌^◌, Bool, true, false, cond, not, rules, nat_lt}
 use Rattle.std.proofs.Common.{List, [], ◌∷◌, ◌++◌, map, Option, None, Some, refl, sym, ap, ◌∙◌, arith}
 use Rattle.std.proofs.lemmas.List.{map-append}
 use Rattle.std.proofs.lemmas.Bool.{and_parts}
 use Rattle.std.specs.FinMap as fm
 use Rattle.std.specs.Cmp.Derive.{both_true}
 use Rattle.erl_control.specs.declared.signal.Signal.{Signal}
+use Rattle.erl_names.proofs.Runs.{risen-le}
 use Rattle.erl_names.specs.Ids.{reference_of}
 use Rattle.erl_names.specs.Minted.{Minted, risen}
 use Rattle.erl_term.specs.declared.term.Reference.{Reference}
@@ -59,18 +60,11 @@ named_after change.Spawns draws.Nothing m = (refl, refl)
 named_after (change.Of p e l) draws.Nothing m = (refl, refl)
 named_after c d m = (refl, refl)
 
-not_less : (n highest : ℕ) → n ≤ risen n highest
-not_less n highest = go (nat_lt n highest)
-  where
-    go : (b : Bool) → n ≤ cond b (n + 1) n
-    go true = omega arith
-    go false = omega arith
-
 behind : (d : Draws) (c : Change) (m : Minted) (count : ℕ) → (drawn_by d (spawned_by c m)).references < count → m.references < count
 behind draws.Nothing c m count l = let e = same_references c m in omega (arith, e, l)
 behind draws.UnlinkId c m count l = let e = same_references c m in omega (arith, e, l)
 behind draws.Reference c m count l =
-    let e = same_references c m in let k = not_less (spawned_by c m).references (2 ^ 18 - 1) in omega (arith, e, k, l)
+    let e = same_references c m in let k = risen-le (spawned_by c m).references (2 ^ 18 - 1) in omega (arith, e, k, l)
 
 -- nothing drawn later has a monitor
 left_none : (c : Change) (watches : MonitorMap) (r : Reference) → fm.get watches r ≡ None → fm.get (watches_left c watches) r ≡ None

@@ -1,7 +1,7 @@
 -- A term that is printed is read again.
 use Rattle.std.proofs.Common.{◌≡◌, ℕ, zero, suc, ◌≤◌, ◌<◌, max, Bool, true, false, eqb, ltb, leb, cond, List, []}
 use Rattle.std.proofs.Common.{◌∷◌, ◌++◌, codes, length, drop, append_assoc, append-nil, length-append, Ok, refl}
-use Rattle.std.proofs.Common.{sym, ap, ◌∙◌, arith, decimal, le-leb, chars, ◌^◌, rules, tests, ℤ, pos, negsuc}
+use Rattle.std.proofs.Common.{sym, ap, ◌∙◌, arith, decimal, le-leb, chars, ◌^◌, ℤ, pos, negsuc}
 use Rattle.std.specs.List.{list_all, flat_map, take_while, prefix_len}
 use Rattle.std.specs.Fmt.{signed_decimal}
 use Rattle.std.proofs.lemmas.Bool.{and_parts, and_from}
@@ -12,6 +12,7 @@ use Rattle.erl_term.specs.Numbers.{AreBytes}
 use Rattle.erl_term.specs.Text.{IsAtomText, is_atom_text}
 use Rattle.erl_term.specs.Canonical.{is_list, is_byte, is_string, are_byte_items, levels_of, most_levels}
 use Rattle.erl_term.proofs.Texts.{is_atom_text-holds}
+use Rattle.erl_term.proofs.Tags.{suc_not}
 use Rattle.script_terms.specs.Words.{is_lower, is_digit, is_atom_byte, is_bare}
 use Rattle.script_terms.specs.Binding.{Look}
 use Rattle.script_terms.specs.Printing.{escaped, atom_text, numbers_text, commas_text, binary_text, term_text, items_text, more_text}
@@ -22,7 +23,7 @@ use Rattle.script_terms.proofs.Runs.{stops, run_is, run_rest}
 use Rattle.script_terms.proofs.Numerals.{Begins, decimal_begins, integer_again, byte_again}
 use Rattle.script_terms.proofs.Quotes.{quoted_again}
 use Rattle.script_terms.proofs.Leaves.{leaf_quoted, leaf_binary, leaf_bare, leaf_int, term_leaf}
-use Rattle.script_terms.proofs.Shapes.{joined_is_improper}
+use Rattle.erl_term.proofs.Canonical.{joined_improper}
 
 -- ---- in a row, with commas between
 
@@ -339,7 +340,7 @@ module _ (one : List ℕ → Read Data) where
       let e = h (124 ∷ (term_text u ++ 93 ∷ rest)) refl in
       let next = next_front u f (93 ∷ rest) in
       let last = k (93 ∷ rest) refl in
-      rw (e, next, f.opens other, last) (ap (λ (d : Data). Ok (d, rest)) (joined_is_improper (item t no_items) u (omega arith) other))
+      rw (e, next, f.opens other, last) (ap (λ (d : Data). Ok (d, rest)) (joined_improper (item t no_items) u (omega arith) other))
   tail_again t (item v vs) u f (suc most) rest h hs k other le =
       let e = h (44 ∷ (term_text v ++ (more_text vs ++ 124 ∷ (term_text u ++ 93 ∷ rest)))) refl in
       let more = tail_again v vs u f most rest hs.0 hs.1 k other (omega arith) in
@@ -448,17 +449,14 @@ mutual
   few_each no_items = omega arith
   few_each (item t ts) = let one = few_brackets t in let more = few_each ts in omega arith
 
-some_brackets : (n : ℕ) → eqb (suc n) 0 ≡ false
-some_brackets n = search (rules, tests)
-
 opens_tuple : (look : Look) (n : ℕ) (bytes : List ℕ) → term_at look (suc n) (123 ∷ bytes) ≡ tuple_at (term_at look n) bytes
 unfolding term_at term_with
-opens_tuple look n bytes = rw (some_brackets n) refl
+opens_tuple look n bytes = rw (suc_not n) refl
 
 opens_list : (look : Look) (n : ℕ) (bytes : List ℕ)
     → term_at look (suc n) (91 ∷ bytes) ≡ list_at (cells_at (term_at look n) (length bytes)) bytes
 unfolding term_at term_with
-opens_list look n bytes = rw (some_brackets n) refl
+opens_list look n bytes = rw (suc_not n) refl
 
 mutual
   term_again : (look : Look) (t : Data) (n : ℕ) → IsValue t → is_literal t ≡ true → brackets_of t ≤ n → Again (term_at look n) term_text t

@@ -10,7 +10,8 @@ use Rattle.script_terms.specs.declared.fault.ReadError.{ReadError}
 use Rattle.script_terms.specs.declared.fault.ReadError.TheVariants.{Fault, OutOfMemory}
 use Rattle.script_terms.specs.Checking.{Fails}
 use Rattle.script_terms.proofs.Cells.{and_one}
-use Rattle.script_terms.proofs.Shapes.{joined_is_improper, count_and_one}
+use Rattle.erl_term.proofs.Canonical.{joined_improper}
+use Rattle.script_terms.proofs.Shapes.{count_and_one}
 
 pub items_push : (ts new : List Term) (t : Term) → new ≡ ts ++ t ∷ [] → items_view new ≡ and_one (items_view ts) (view t)
 items_push ts new t e = ap items_view e ∙ by ts
@@ -32,5 +33,5 @@ pub improper_is : (ts new : List Term) (t : Term) (u : Data) → new ≡ ts ++ t
     → joined (and_one (items_view ts) (view t)) u ≡ improper (items_view new) u
 improper_is ts new t u e other =
     let k = count_and_one (items_view ts) (view t) in
-    joined_is_improper (and_one (items_view ts) (view t)) u (omega arith) other
+    joined_improper (and_one (items_view ts) (view t)) u (omega arith) other
     ∙ ap (λ (us : Items). improper us u) (sym (items_push ts new t e))

@@ -1,8 +1,9 @@
 -- What a term is, by its first byte.
 use Rattle.std.proofs.Common.{◌≡◌, ℕ, zero, suc, ◌-◌, ◌<◌, true, false, eqb, leb, List}
-use Rattle.std.proofs.Common.{length, Ok, Err, refl, sym, ap, ◌∙◌, arith, rules, tests}
+use Rattle.std.proofs.Common.{length, Ok, Err, refl, sym, ap, ◌∙◌, arith}
 use Rattle.erl_term.specs.Data.{int, atom, binary}
 use Rattle.std.specs.Prelude.{ℤ}
+use Rattle.erl_term.proofs.Tags.{suc_not}
 use Rattle.script_terms.specs.declared.fault.TermFault.{TermFault}
 use Rattle.script_terms.specs.declared.fault.TermFault.TheVariants.{BadTerm}
 use Rattle.script_terms.specs.declared.names.Named.{Named}
@@ -63,21 +64,18 @@ unfolding term_at term_with
 term_none_list look zero bytes first rest z h a b = rw (h, a, b) refl
 term_none_list look (suc n) bytes first rest z h a b = absurd (omega arith)
 
-some_brackets : (n : ℕ) → eqb (suc n) 0 ≡ false
-some_brackets n = search (rules, tests)
-
 pub term_tuple : (look : Look) (n : ℕ) (bytes : List ℕ) (first : ℕ) (rest : List ℕ) → 0 < n → next_at bytes ≡ Ok (first, rest)
     → eqb first 123 ≡ true → term_at look n bytes ≡ tuple_at (term_at look (n - 1)) rest
 unfolding term_at term_with
 term_tuple look zero bytes first rest some h a = absurd (omega arith)
-term_tuple look (suc n) bytes first rest some h a = let e : suc n - 1 ≡ n = omega arith in rw (h, a, some_brackets n, e) refl
+term_tuple look (suc n) bytes first rest some h a = let e : suc n - 1 ≡ n = omega arith in rw (h, a, suc_not n, e) refl
 
 pub term_list : (look : Look) (n : ℕ) (bytes : List ℕ) (first : ℕ) (rest : List ℕ) → 0 < n → next_at bytes ≡ Ok (first, rest)
     → eqb first 123 ≡ false → eqb first 91 ≡ true
     → term_at look n bytes ≡ list_at (cells_at (term_at look (n - 1)) (length rest)) rest
 unfolding term_at term_with
 term_list look zero bytes first rest some h a b = absurd (omega arith)
-term_list look (suc n) bytes first rest some h a b = let e : suc n - 1 ≡ n = omega arith in rw (h, a, b, some_brackets n, e) refl
+term_list look (suc n) bytes first rest some h a b = let e : suc n - 1 ≡ n = omega arith in rw (h, a, b, suc_not n, e) refl
 
 -- ---- what is told, as reading gives it
 

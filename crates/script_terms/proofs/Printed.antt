@@ -1,9 +1,10 @@
 -- Items as they are printed, one after the other.
-use Rattle.std.proofs.Common.{◌≡◌, ℕ, zero, suc, ◌+◌, ◌<◌, eqb, false, rules, tests, List, [], ◌∷◌}
+use Rattle.std.proofs.Common.{◌≡◌, ℕ, zero, suc, ◌+◌, ◌<◌, eqb, false, List, [], ◌∷◌}
 use Rattle.std.proofs.Common.{◌++◌, codes, length, get_or, take, append_assoc, sym, ap, ◌∙◌, arith}
 use Rattle.std.proofs.lemmas.List.{take_more, append-nil, length-take}
 use Rattle.erl_term.specs.declared.term.Term.{Term}
 use Rattle.erl_term.specs.View.{view, items_view}
+use Rattle.erl_term.proofs.Tags.{suc_not}
 use Rattle.script_terms.specs.Printing.{comma_before, term_text, items_text, more_text}
 
 more_more : (ts : List Term) (x : Term)
@@ -14,16 +15,13 @@ more_more (t ∷ ts) x =
     ∙ ap (λ (bs : List ℕ). codes "," ++ bs)
     (sym (append_assoc (term_text (view t)) (more_text (items_view ts)) (codes "," ++ term_text (view x))))
 
-lt-ne-eqb : (i : ℕ) → eqb (suc i) 0 ≡ false
-lt-ne-eqb i = search (rules, tests)
-
 items_push : (ts : List Term) (i : ℕ) (x : Term) → length ts ≡ i
     → items_text (items_view (ts ++ x ∷ [])) ≡ items_text (items_view ts) ++ (comma_before i ++ term_text (view x))
 items_push [] zero x e = append-nil (term_text (view x))
 items_push [] (suc i) x e = absurd (omega arith)
 items_push (t ∷ ts) zero x e = absurd (omega arith)
 items_push (t ∷ ts) (suc i) x e =
-    let later : eqb (suc i) 0 ≡ false = lt-ne-eqb i in
+    let later : eqb (suc i) 0 ≡ false = suc_not i in
     rw later (ap (λ (bs : List ℕ). term_text (view t) ++ bs) (more_more ts x)
     ∙ sym (append_assoc (term_text (view t)) (more_text (items_view ts)) (codes "," ++ term_text (view x))))
 

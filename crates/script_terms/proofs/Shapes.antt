@@ -3,9 +3,10 @@ use Rattle.std.proofs.Math.Bool.{and-true}
 use Rattle.std.proofs.Common.{◌≡◌, ℕ, suc, ◌+◌, ◌<◌, ◌^◌, Bool, true, false, cond, ◌&&◌, ◌||◌}
 use Rattle.std.proofs.Common.{leb, ltb, List, [], ◌∷◌, ◌++◌, refl, sym, ap, ◌∙◌, arith, max}
 use Rattle.std.proofs.lemmas.Bool.{leb-true, leb-false, le-leb, lt-leb, lt-ltb, le-ltb, ltb-true, ltb-false}
-use Rattle.erl_term.specs.Data.{Data, int, atom, tuple, list, improper, binary, pid, reference, Items, no_items, item, count, joined}
+use Rattle.erl_term.specs.Data.{Data, tuple, list, Items, no_items, item, count, joined}
 use Rattle.erl_term.specs.View.{items_of}
 use Rattle.erl_term.specs.Canonical.{is_byte, are_byte_items, is_string, is_list, levels_of, most_levels}
+use Rattle.erl_term.proofs.Canonical.{joined_improper}
 use Rattle.script_terms.proofs.Cells.{and_one}
 
 -- ---- tests
@@ -94,27 +95,13 @@ list_fits ts n i fit bytes e f c =
     ∙ ap (λ (z : Bool). leb (most_levels ts) n || (are_byte_items ts && z)) (few i (count ts) c)
     ∙ sym (one_level (most_levels ts) n (is_string ts))
 
-joined_other : (ts : Items) (u : Data) → 0 < count ts → is_list u ≡ false → joined ts u ≡ improper ts u
-joined_other no_items u some e = absurd (omega arith)
-joined_other (item t ts) (int z) some e = refl
-joined_other (item t ts) (atom a) some e = refl
-joined_other (item t ts) (tuple us) some e = refl
-joined_other (item t ts) (list us) some e = absurd cc
-joined_other (item t ts) (improper us u) some e = absurd cc
-joined_other (item t ts) (binary a) some e = refl
-joined_other (item t ts) (pid p) some e = refl
-joined_other (item t ts) (reference r) some e = refl
-
 pub improper_fits : (ts : Items) (u : Data) (n : ℕ) (a b : Bool) → 0 < count ts → is_list u ≡ false
     → a ≡ leb (most_levels ts) n → b ≡ leb (levels_of u) n → (a && b) ≡ leb (levels_of (joined ts u)) (n + 1)
 improper_fits ts u n a b some other e f =
     ap (λ (x : Bool). x && b) e ∙ ap (λ (y : Bool). leb (most_levels ts) n && y) f ∙ sym (le_max _ _ n)
     ∙ sym (le_suc (max (most_levels ts) (levels_of u)) n)
-    ∙ ap (λ (d : Data). leb (levels_of d) (n + 1)) (sym (joined_other ts u some other))
-
-pub joined_is_improper : (ts : Items) (u : Data) → 0 < count ts → is_list u ≡ false → joined ts u ≡ improper ts u
-joined_is_improper = joined_other
+    ∙ ap (λ (d : Data). leb (levels_of d) (n + 1)) (sym (joined_improper ts u some other))
 
 -- a list is no byte
 pub joined_no_byte : (ts : Items) (u : Data) → 0 < count ts → is_list u ≡ false → is_byte (joined ts u) ≡ false
-joined_no_byte ts u some other = ap is_byte (joined_other ts u some other)
+joined_no_byte ts u some other = ap is_byte (joined_improper ts u some other)

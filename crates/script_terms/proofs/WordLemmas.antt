@@ -1,4 +1,5 @@
 -- Words, by their first byte and the rest.
+use Rattle.std.proofs.lemmas.Bool.{and_parts}
 use Rattle.std.proofs.lemmas.Bool.Decides.{nat_tests}
 use Rattle.std.specs.Str.{IsAscii}
 use Rattle.std.proofs.Common.{◌≡◌, ◌≤◌, ◌<◌, ◌-◌, ℕ, zero, suc, lit<, Bool, true, false, List, [], ◌∷◌}
@@ -9,14 +10,6 @@ use Rattle.script_terms.specs.Words.{is_lower, is_name_byte, is_atom_byte, is_na
 anded : (a b : Bool) → a ≡ true → (a && b) ≡ b
 anded true b e = refl
 anded false b e = absurd cc
-
-both-left : (a b : Bool) → (a && b) ≡ true → a ≡ true
-both-left true b e = refl
-both-left false b e = e
-
-both-right : (a b : Bool) → (a && b) ≡ true → b ≡ true
-both-right true b e = e
-both-right false b e = absurd cc
 
 pub name_of_parts : (xs : List ℕ) → 1 ≤ length xs → is_lower (get_or xs 0 0) ≡ true
     → is_name xs ≡ list_all is_name_byte (take (length xs - 1) (drop 1 xs))
@@ -38,10 +31,10 @@ lower_ascii c e = grind (arith, nat_tests)
 
 bytes_ascii : (cs : List ℕ) → list_all is_name_byte cs ≡ true → IsAscii cs
 bytes_ascii [] e i = lit< tt
-bytes_ascii (c ∷ cs) e zero = name_byte_ascii c (both-left _ _ e)
-bytes_ascii (c ∷ cs) e (suc i) = bytes_ascii cs (both-right _ _ e) i
+bytes_ascii (c ∷ cs) e zero = name_byte_ascii c (and_parts _ _ e).0
+bytes_ascii (c ∷ cs) e (suc i) = bytes_ascii cs (and_parts _ _ e).1 i
 
 pub name_ascii : (cs : List ℕ) → is_name cs ≡ true → IsAscii cs
 name_ascii [] e i = lit< tt
-name_ascii (c ∷ cs) e zero = lower_ascii c (both-left _ _ e)
-name_ascii (c ∷ cs) e (suc i) = bytes_ascii cs (both-right _ _ e) i
+name_ascii (c ∷ cs) e zero = lower_ascii c (and_parts _ _ e).0
+name_ascii (c ∷ cs) e (suc i) = bytes_ascii cs (and_parts _ _ e).1 i

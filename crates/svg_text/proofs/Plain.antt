@@ -1,10 +1,9 @@
 -- Texts that are written as they are.
-use Rattle.std.proofs.Common.{◌≡◌, ℕ, zero, suc, ◌+◌, ◌%◌, ◌<◌, ◌≤◌, ◌^◌, Bool, true, false, ◌&&◌, nat_lt, List, []}
+use Rattle.std.proofs.Common.{◌≡◌, ℕ, zero, suc, ◌+◌, ◌%◌, ◌<◌, ◌≤◌, ◌^◌, Bool, true, ◌&&◌, nat_lt, List, []}
 use Rattle.std.proofs.Common.{◌∷◌, ◌++◌, Option, None, Some, is_none, refl, ap, ◌∙◌, arith, codes, decimal, encode_utf8}
 use Rattle.std.specs.List.{flat_map, list_all}
 use Rattle.std.specs.Str.{IsAscii}
-use Rattle.std.proofs.lemmas.Bool.Decides.{nat_tests}
-use Rattle.std.proofs.lemmas.Bool.{cond-true}
+use Rattle.std.proofs.lemmas.Bool.{and_parts, cond-true, ltb-true}
 use Rattle.std.proofs.lemmas.Fmt.{decimal_by_steps}
 use Rattle.std.proofs.lemmas.List.Folds.{list_all-append}
 use Rattle.std.proofs.lemmas.Str.{chars-IsAscii, encode_ascii}
@@ -15,41 +14,30 @@ use Rattle.svg_text.specs.Escaping.{by_reference, escaped, escaped_text, is_allo
 abbrev pub is_itself : ℕ → Bool
 is_itself c = nat_lt c 128 && (is_allowed c && is_none (reference_to c))
 
-first : (a b : Bool) → (a && b) ≡ true → a ≡ true
-first true b h = refl
-first false b h = h
-
-second : (a b : Bool) → (a && b) ≡ true → b ≡ true
-second true b h = h
-second false b h = cc
-
-below : (c : ℕ) → nat_lt c 128 ≡ true → c < 128
-below c h = grind (arith, nat_tests)
-
 none_is : (o : Option (List ℕ)) → is_none o ≡ true → o ≡ None
 none_is None h = refl
 none_is (Some x) h = cc
 
 itself_ascii : (c : ℕ) → is_itself c ≡ true → c < 128
-itself_ascii c h = below c (first (nat_lt c 128) (is_allowed c && is_none (reference_to c)) h)
+itself_ascii c h = ltb-true c 128 (and_parts (nat_lt c 128) (is_allowed c && is_none (reference_to c)) h).0
 
 itself_escaped : (c : ℕ) → is_itself c ≡ true → escaped c ≡ c ∷ []
 itself_escaped c h =
-    let rest = second (nat_lt c 128) (is_allowed c && is_none (reference_to c)) h in
-    ap (λ (o : Option (List ℕ)). by_reference o c) (none_is (reference_to c) (second (is_allowed c) (is_none (reference_to c)) rest))
-    ∙ ap encode_utf8 (cond-true (is_allowed c) c 65533 (first (is_allowed c) (is_none (reference_to c)) rest))
+    let rest = and_parts (is_allowed c) (is_none (reference_to c)) (and_parts (nat_lt c 128) (is_allowed c && is_none (reference_to c)) h).1 in
+    ap (λ (o : Option (List ℕ)). by_reference o c) (none_is (reference_to c) rest.1)
+    ∙ ap encode_utf8 (cond-true (is_allowed c) c 65533 rest.0)
     ∙ encode_ascii c (itself_ascii c h)
 
 all_escaped : (bytes : List ℕ) → list_all is_itself bytes ≡ true → flat_map escaped bytes ≡ bytes
 all_escaped [] h = refl
 all_escaped (c ∷ cs) h =
-    ap (λ (text : List ℕ). text ++ flat_map escaped cs) (itself_escaped c (first (is_itself c) (list_all is_itself cs) h))
-    ∙ ap (λ (text : List ℕ). c ∷ text) (all_escaped cs (second (is_itself c) (list_all is_itself cs) h))
+    ap (λ (text : List ℕ). text ++ flat_map escaped cs) (itself_escaped c (and_parts (is_itself c) (list_all is_itself cs) h).0)
+    ∙ ap (λ (text : List ℕ). c ∷ text) (all_escaped cs (and_parts (is_itself c) (list_all is_itself cs) h).1)
 
 all_ascii : (bytes : List ℕ) → list_all is_itself bytes ≡ true → IsAscii bytes
 all_ascii [] h i = omega arith
-all_ascii (c ∷ cs) h zero = itself_ascii c (first (is_itself c) (list_all is_itself cs) h)
-all_ascii (c ∷ cs) h (suc i) = all_ascii cs (second (is_itself c) (list_all is_itself cs) h) i
+all_ascii (c ∷ cs) h zero = itself_ascii c (and_parts (is_itself c) (list_all is_itself cs) h).0
+all_ascii (c ∷ cs) h (suc i) = all_ascii cs (and_parts (is_itself c) (list_all is_itself cs) h).1 i
 
 -- such a text is written as it is
 pub plain_text : (bytes : List ℕ) → list_all is_itself bytes ≡ true → escaped_text bytes ≡ bytes
