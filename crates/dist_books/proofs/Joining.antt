@@ -14,7 +14,7 @@ use Rattle.dist_model.specs.Items.{Item}
 use Rattle.dist_model.specs.Runs.{Runs, opening}
 use Rattle.dist_model.specs.Safety.{Safe}
 use Rattle.dist_model.specs.World.{World}
-use Rattle.merging.proofs.Merging.{logs_are_a_run}
+use Rattle.merging.proofs.OneRun.{logs_are_a_run}
 use Rattle.merging.specs.Logs.{sent_on, took_on}
 use Rattle.merging.specs.Runs as merging
 use Rattle.merging.specs.Runs.{AreLogs}

@@ -7,7 +7,7 @@ use Rattle.dist_books.proofs.Numbers.{each_kept}
 use Rattle.dist_books.specs.Books.{Book, Rise, book_at}
 use Rattle.dist_books.specs.Merged.{SortsMerge}
 use Rattle.dist_model.specs.World.{Event, Report}
-use Rattle.merging.proofs.Sorting.{sort_merges}
+use Rattle.merging.proofs.Sorted.{sort_merges}
 use Rattle.merging.specs.Logs.{Entry}
 use Rattle.merging.specs.Sorting.{Rises}
 

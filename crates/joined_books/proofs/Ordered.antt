@@ -8,9 +8,10 @@ use Rattle.std.proofs.lemmas.List as lists
 use Rattle.std.proofs.lemmas.List.Elements.{All-cons, All-head, All-nil, All-tail}
 use Rattle.std.proofs.lemmas.List.Kept.{AllPairs-cons}
 use Rattle.std.proofs.lemmas.List.Sorted.{IsPermutation-map}
+use Rattle.merging.proofs.Sorted.{no_pairs}
 use Rattle.joined_books.specs.Places.{IsByStampAndNode, IsOrdered, all_places, places_from}
 use Rattle.joined_books.specs.declared.trace.Placed.{Placed}
-use Rattle.merging.proofs.Sorting.{sort_merges}
+use Rattle.merging.proofs.Sorted.{sort_merges}
 use Rattle.merging.specs.Runs.{of_node}
 use Rattle.merging.specs.Sorting.{IsInOrder, Rises, placed_from}
 use Rattle.merging.specs.Sorting as merging
@@ -51,9 +52,6 @@ list_at node (stamps ∷ histories) zero = ap (λ n. places_from n 0 stamps) (le
 list_at node (stamps ∷ histories) (suc k) =
     list_at (suc node) histories k ∙ ap (λ n. places_from n 0 (slice_index_or histories k []))
     (let e : suc node + k ≡ node + suc k = omega arith in e)
-
-no_pairs : {A : Type 0} (R : A → A → Type 0) → AllPairs R []
-no_pairs R i j d before below = absurd (omega arith)
 
 above : (n node position : ℕ) (stamps : List ℕ) → All (λ x. n < x) stamps → All (λ x. n < stamp_of x) (places_from node position stamps)
 above n node position [] h = All-nil (λ x. n < stamp_of x)

@@ -1,5 +1,5 @@
-pub mod Growing
-pub mod Merging
+pub mod Growth
+pub mod OneRun
 pub mod Permuted
-pub mod Sorting
+pub mod Sorted
 pub mod Unsorted

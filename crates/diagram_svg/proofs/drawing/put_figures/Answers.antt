@@ -1,4 +1,4 @@
-use Rattle.diagram_svg.proofs.Appending.{appends_more}
+use Rattle.diagram_svg.proofs.Appended.{appends_more}
 use Rattle.diagram_svg.proofs.drawing.put_figures.Goals as goal
 
 pub returns : goal.returns

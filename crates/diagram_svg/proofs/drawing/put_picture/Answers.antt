@@ -1,4 +1,4 @@
-use Rattle.diagram_svg.proofs.Appending.{appends_whole}
+use Rattle.diagram_svg.proofs.Appended.{appends_whole}
 use Rattle.diagram_svg.proofs.drawing.put_picture.Goals as goal
 
 pub returns : goal.returns

@@ -1,5 +1,5 @@
 use Rattle.std.proofs.Common.{string_bytes}
-use Rattle.diagram_svg.proofs.Appending.{appends_nothing}
+use Rattle.diagram_svg.proofs.Appended.{appends_nothing}
 use Rattle.diagram_svg.proofs.rows.put_mark.Goals as goal
 
 pub returns-in-Sent : goal.returns-in-Sent

@@ -1,4 +1,4 @@
-use Rattle.merging.proofs.Growing.{lead_grows, sent_grows, took_grows}
+use Rattle.merging.proofs.Growth.{lead_grows, sent_grows, took_grows}
 use Rattle.merging.proofs.laws.log_grows.Goals as goal
 
 pub returns-clause-leads : goal.returns-clause-leads

@@ -1,4 +1,4 @@
-use Rattle.merging.proofs.Merging.{logs_are_a_run}
+use Rattle.merging.proofs.OneRun.{logs_are_a_run}
 use Rattle.merging.proofs.laws.logs_are_a_run.Goals as goal
 
 pub returns : goal.returns

@@ -1,4 +1,4 @@
-use Rattle.merging.proofs.Sorting.{sort_merges}
+use Rattle.merging.proofs.Sorted.{sort_merges}
 use Rattle.merging.proofs.laws.sort_merges.Goals as goal
 
 pub returns : goal.returns

@@ -2,7 +2,7 @@ use Rattle.std.proofs.Common.{ap, Err}
 use Rattle.std.proofs.lemmas.Result.{IfOk-weaker}
 use Rattle.erl_term.specs.View.{view}
 use Rattle.term_vectors.specs.Vectors.{IsRespelled}
-use Rattle.term_vectors.proofs.Answering.{whole_answer, part_answer, error_answer, only_memory}
+use Rattle.term_vectors.proofs.Answered.{whole_answer, part_answer, error_answer, only_memory}
 use Rattle.term_vectors.proofs.vectors.respelled.Goals as goal
 
 pub returns-in-Err : goal.returns-in-Err

@@ -1,6 +1,6 @@
 use Rattle.std.proofs.lemmas.Result.{IfOk-weaker}
 use Rattle.term_vectors.specs.Vectors.{IsRead}
-use Rattle.term_vectors.proofs.Answering.{whole_answer, part_answer, error_answer}
+use Rattle.term_vectors.proofs.Answered.{whole_answer, part_answer, error_answer}
 use Rattle.term_vectors.proofs.vectors.verdict.Goals as goal
 
 pub returns-in-Err : goal.returns-in-Err

@@ -12,10 +12,10 @@ use Rattle.std.proofs.lemmas.List.Kept.{AllPairs-cons}
 use Rattle.std.proofs.lemmas.List.Sorted.{IsPermutation-map, ranks_by, sorted_far}
 use Rattle.merging.specs.Runs.{of_node}
 use Rattle.merging.specs.Sorting.{IsInOrder, Precedes, Rises, SortMerges, placed_from}
-use Rattle.merging.proofs.Merging.{own_first}
+use Rattle.merging.proofs.OneRun.{own_first}
 use Rattle.merging.proofs.Permuted.{filter_permuted, one_order, pair_first, pair_rest}
 
-no_pairs : {A : Type 0} (R : A → A → Type 0) → AllPairs R []
+pub no_pairs : {A : Type 0} (R : A → A → Type 0) → AllPairs R []
 no_pairs R i j d before below = absurd (omega arith)
 
 -- ---- the entries of one node
