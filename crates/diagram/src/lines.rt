@@ -25,10 +25,7 @@ fn count_on(lane: usize, marks: &[Mark]) -> usize
 pub(crate) fn sum(a: usize, b: usize) -> Result<usize, AllocError>
     ensures { IfOk result (λ sum. sum ≡ a + b) }
 {
-    match a.checked_add(b) {
-        Some(sum) => Ok(sum),
-        None => Err(AllocError),
-    }
+    a.checked_add(b).ok_or(AllocError)
 }
 
 // The first line of a row on which a mark stands.

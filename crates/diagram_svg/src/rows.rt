@@ -217,10 +217,11 @@ fn put_mark(
 
 /// The line of a mark in its row.
 pub(crate) fn line_of(layout: &Layout, row: usize, mark: usize) -> usize {
-    match layout.lines.get(row) {
-        Some(lines) => lines.get(mark).copied().unwrap_or(0),
-        None => 0,
-    }
+    let lines = layout.lines.get(row);
+    lines
+        .and_then(|lines| lines.get(mark))
+        .copied()
+        .unwrap_or(0)
 }
 
 fn put_row_notes(

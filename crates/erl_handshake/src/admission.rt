@@ -74,8 +74,5 @@ pub(crate) fn admission_of(count: u64, said: Status, others: OtherConnections) -
 fn is_superseded(count: u64, others: OtherConnections) -> bool
     ensures { result ≡ rule.is_superseded count others.waiting }
 {
-    match others.waiting {
-        Some(other) => other >= count,
-        None => false,
-    }
+    others.waiting.is_some_and(|other| other >= count)
 }

@@ -57,11 +57,7 @@ impl Creation {
         ensures last { IsErr result ↔ (self ≡ 2 ^ 32 - 1) }
         ensures only { IsOkUnless result Refusal.IdsUsedUp }
     {
-        if self.number == u32::MAX {
-            return Err(Refusal::IdsUsedUp);
-        }
-        Ok(Creation {
-            number: self.number + 1,
-        })
+        let number = self.number.checked_add(1).ok_or(Refusal::IdsUsedUp)?;
+        Ok(Creation { number })
     }
 }

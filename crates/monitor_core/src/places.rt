@@ -91,6 +91,7 @@ impl Side {
     {
         make_way(places, at);
         let (before, _) = self.part(records, places, &Point::At(at));
+        // There is room, so the place goes in; a match tells the prover.
         match places.insert(before, at) {
             Ok(()) => {}
             Err(_) => {}
