@@ -94,7 +94,8 @@ took_if n seen false l h = wider n seen h
 took_fine : (n : ℕ) (seen : Seen) → Fine n seen → Fine (n + 1) (took n seen)
 took_fine n seen h =
     took_if n seen (has_next seen)
-    (λ t. ltb-true (length seen.taken) (length seen.sent) (and_parts (is_none seen.lost) (nat_lt (length seen.taken) (length seen.sent)) t).1) h
+    (λ t. let waits = and_parts (is_none seen.lost) (nat_lt (length seen.taken) (length seen.sent)) t in
+    ltb-true (length seen.taken) (length seen.sent) waits.1) h
 
 took_or_not : (n : ℕ) (seen : Seen) (b : Bool) → Fine n seen → Fine (n + 1) (changed (took n) b seen)
 took_or_not n seen true h = took_fine n seen h

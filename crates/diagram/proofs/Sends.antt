@@ -31,7 +31,8 @@ kept_by of change b seen h = kept_if of b (change seen) seen h
 
 -- a row that takes changes nothing but what is taken
 taking_keeps : {A : Type 0} (of : Seen → A) (queue row : ℕ) (from : Option ℕ) (seen : Seen)
-    → of (record { sent = seen.sent; taken = seen.taken ++ row ∷ []; lost = seen.lost }) ≡ of seen → of (taking queue row from seen) ≡ of seen
+    → of (record { sent = seen.sent; taken = seen.taken ++ row ∷ []; lost = seen.lost }) ≡ of seen
+    → of (taking queue row from seen) ≡ of seen
 taking_keeps of queue row None seen h = refl
 taking_keeps of queue row (Some other) seen h =
     kept_by of (took row) (eqb other queue) seen
@@ -94,7 +95,8 @@ after_sent : (queue at : ℕ) (row : Row) (seen : Seen)
 after_sent queue at row seen =
     losing_sent queue at row.gave_up.items (sending queue at 0 row.marks.items (taking queue at row.took seen))
     ∙ sending_sent queue at 0 row.marks.items (taking queue at row.took seen)
-    ∙ ap (λ (sent : List Place). sent ++ sends_in queue at 0 row.marks.items) (taking_keeps (λ (s : Seen). s.sent) queue at row.took seen refl)
+    ∙ ap (λ (sent : List Place). sent ++ sends_in queue at 0 row.marks.items)
+    (taking_keeps (λ (s : Seen). s.sent) queue at row.took seen refl)
 
 traffic_sent : (queue at : ℕ) (rows : List Row) (seen : Seen) → (traffic queue at rows seen).sent ≡ seen.sent ++ sends queue at rows
 traffic_sent queue at [] seen = sym (append-nil seen.sent)
@@ -196,7 +198,8 @@ after_lost : (queue at : ℕ) (row : Row) (seen : Seen)
 after_lost queue at row seen =
     losing_lost queue at row.gave_up.items (sending queue at 0 row.marks.items (taking queue at row.took seen))
     ∙ ap (λ (lost : Option ℕ). or_else lost (cond (list_any (λ other. eqb other queue) row.gave_up.items) (Some at) None))
-    (sending_lost queue at 0 row.marks.items (taking queue at row.took seen) ∙ taking_keeps (λ (s : Seen). s.lost) queue at row.took seen refl)
+    (sending_lost queue at 0 row.marks.items (taking queue at row.took seen)
+    ∙ taking_keeps (λ (s : Seen). s.lost) queue at row.took seen refl)
 
 given_step : (b : Bool) (at : ℕ) (rest : Option ℕ) → or_else (cond b (Some at) None) rest ≡ cond b (Some at) rest
 given_step true at rest = refl

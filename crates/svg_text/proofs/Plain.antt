@@ -23,7 +23,8 @@ itself_ascii c h = ltb-true c 128 (and_parts (nat_lt c 128) (is_allowed c && is_
 
 itself_escaped : (c : ℕ) → is_itself c ≡ true → escaped c ≡ c ∷ []
 itself_escaped c h =
-    let rest = and_parts (is_allowed c) (is_none (reference_to c)) (and_parts (nat_lt c 128) (is_allowed c && is_none (reference_to c)) h).1 in
+    let both = and_parts (nat_lt c 128) (is_allowed c && is_none (reference_to c)) h in
+    let rest = and_parts (is_allowed c) (is_none (reference_to c)) both.1 in
     ap (λ (o : Option (List ℕ)). by_reference o c) (none_is (reference_to c) rest.1)
     ∙ ap encode_utf8 (cond-true (is_allowed c) c 65533 rest.0)
     ∙ encode_ascii c (itself_ascii c h)
