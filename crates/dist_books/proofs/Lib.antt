@@ -2,7 +2,7 @@ pub mod Lines
 pub mod Numbers
 pub mod Steps
 pub mod Senders
-pub mod Joining
-pub mod Growing
+pub mod OneRun
+pub mod OneEntryMore
 pub mod ParcelsMove
 pub mod Sorted

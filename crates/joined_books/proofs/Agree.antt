@@ -13,7 +13,7 @@ use Rattle.dist_model.specs.Names.{Name, same_name}
 use Rattle.erl_names.specs.Order.{trunk_cmp}
 use Rattle.erl_names.specs.declared.trunk.TrunkId.{TrunkId}
 use Rattle.joined_books.proofs.Carried.{BytesTell, carried, carry_one, items_begin}
-use Rattle.joined_books.proofs.Naming.{some_of}
+use Rattle.joined_books.proofs.NodeNames.{some_of}
 use Rattle.joined_books.proofs.Zipped.{Chosen, part_beyond, part_of, past}
 use Rattle.joined_books.specs.Parts.{part_at}
 use Rattle.joined_books.specs.Parcels.{Begins, said}

@@ -20,7 +20,7 @@ use Rattle.node_history.specs.Entering.{IsWanting, Stays}
 use Rattle.node_history.specs.declared.entry.Entry.{Entry}
 use Rattle.node_history.specs.declared.history.History.{History}
 use Rattle.node_book.proofs.Places.{IsFirst, first_is, is_first, none_is}
-use Rattle.node_book.proofs.Resting.{installed, new_stands, shifted}
+use Rattle.node_book.proofs.BetweenEntries.{installed, new_stands, shifted}
 use Rattle.node_book.proofs.Ways.{none_behind}
 use Rattle.node_book.specs.Answers.{is_plain}
 use Rattle.node_book.specs.Books.{Applies, IsUnapplied, IsUnready, is_ready_on, wants}
@@ -37,7 +37,7 @@ use Rattle.wire_core.specs.Spellings.{SpellsItem}
 use Rattle.wire_core.specs.declared.parcel.Parcel.{Parcel}
 use Rattle.world_events.specs.declared.event.NodeEvent.{NodeEvent}
 use Rattle.world_events.specs.declared.event.NodeEvent.TheVariants as event
-use Rattle.node_book.proofs.Booking.{is_below, set_first, still_kept, HappensAt, taken, not_taken, dialed}
+use Rattle.node_book.proofs.KeptByEvents.{is_below, set_first, still_kept, HappensAt, taken, not_taken, dialed}
 
 -- ---- between two entries
 

@@ -24,7 +24,7 @@ use Rattle.erl_handshake.specs.declared.dialer.DialerState.TheVariants as dialer
 use Rattle.erl_names.specs.Order.{trunk_cmp}
 use Rattle.erl_names.specs.declared.trunk.TrunkId.{TrunkId}
 use Rattle.node_connections.specs.Waiting.{asked_in, parked_in}
-use Rattle.node_plans.proofs.Committing.{named_after}
+use Rattle.node_plans.proofs.KeptAfter.{named_after}
 use Rattle.node_plans.specs.Carried.{Makes}
 use Rattle.node_plans.specs.declared.plan.Plan.{Plan}
 use Rattle.node_sides.specs.Changes.{IsTowards, NoOtherUp}

@@ -1,3 +1,3 @@
 pub mod Free
-pub mod Leaving
+pub mod LastSignals
 pub mod Reactions

@@ -25,7 +25,7 @@ use Rattle.erl_names.specs.declared.trunk.TrunkId.{TrunkId}
 use Rattle.erl_term.specs.declared.refusal.Refusal.{Refusal}
 use Rattle.node_arrivals.specs.Coming.{PlansBytes, comes}
 use Rattle.node_arrivals.specs.Fronts.{Front, Begins, Holds, Spoils}
-use Rattle.node_events.proofs.Staying.{comes_of_none}
+use Rattle.node_events.proofs.NodeKept.{comes_of_none}
 use Rattle.node_events.specs.Arrived.{PlansArrived, arrives, is_undialed, without_len}
 use Rattle.node_events.specs.declared.arriving.PlannedArrival.{PlannedArrival}
 use Rattle.node_events.specs.declared.planned.Planned.{Planned}

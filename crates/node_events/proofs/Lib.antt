@@ -1,3 +1,3 @@
-pub mod Doing
-pub mod Staying
+pub mod PlanDone
+pub mod NodeKept
 pub mod Fronted

@@ -1,5 +1,5 @@
-pub mod Entering
-pub mod Telling
+pub mod WrittenDown
+pub mod ReadByBytes
 pub mod Fronts
-pub mod Filling
-pub mod Acting
+pub mod ThereBefore
+pub mod AnsweredTwice

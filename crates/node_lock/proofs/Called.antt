@@ -4,7 +4,7 @@ use Rattle.std.specs.Prelude.{IsTrue, ◌↔◌}
 use Rattle.erl_term.specs.declared.refusal.Refusal.{Refusal}
 use Rattle.node_book.specs.Books.{Applies, IsUnapplied}
 use Rattle.node_book.specs.Seen.{BookSeen}
-use Rattle.node_book.proofs.Booking.{slice_last}
+use Rattle.node_book.proofs.KeptByEvents.{slice_last}
 use Rattle.node_history.specs.Acts.{is_act}
 use Rattle.node_history.specs.Telling.{Answers, IsTold}
 use Rattle.node_history.specs.declared.entry.Told.{Told}

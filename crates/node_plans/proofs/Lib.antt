@@ -1,8 +1,8 @@
-pub mod Committing
+pub mod KeptAfter
 pub mod Posted
-pub mod Making
+pub mod PlanMakes
 pub mod Outcomes
 pub mod Sided
 pub mod Restarted
 pub mod Quieted
-pub mod Changing
+pub mod ProcessChanges

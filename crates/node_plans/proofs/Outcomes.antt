@@ -7,7 +7,7 @@ use Rattle.dist_model.specs.Work.{Work}
 use Rattle.dist_model.specs.declared.report.Answer.{Answer}
 use Rattle.erl_term.specs.declared.refusal.Refusal.{Refusal}
 use Rattle.node_plans.specs.Planned.{IsPlanned, IsRefused, Plans, refused}
-use Rattle.node_plans.proofs.Making.{makes_it}
+use Rattle.node_plans.proofs.PlanMakes.{makes_it}
 use Rattle.node_plans.specs.Carried.{Carries, CarriesOut, Makes, MakesOr}
 use Rattle.node_plans.specs.Plans.{told}
 use Rattle.node_plans.specs.declared.plan.Plan.{Plan}

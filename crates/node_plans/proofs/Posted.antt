@@ -20,7 +20,7 @@ use Rattle.node_frames.specs.Frames.{AllSpelled, Framed, IsSpelled, SendsSpelled
 use Rattle.node_frames.specs.Sendable.{are_sendable, is_sendable}
 use Rattle.node_changes.specs.Changed.{popped, sides_after}
 use Rattle.node_plans.specs.declared.plan.Plan.{Plan}
-use Rattle.node_plans.proofs.Committing.{named_after, sendable_both}
+use Rattle.node_plans.proofs.KeptAfter.{named_after, sendable_both}
 
 pub map_push : {A B : Type 0} (f : A → B) (xs : List A) (x : A) → map f (xs ++ x ∷ []) ≡ map f xs ++ f x ∷ []
 map_push f [] x = refl

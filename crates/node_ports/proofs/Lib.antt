@@ -1,4 +1,4 @@
 pub mod Slots
-pub mod Carrying
-pub mod Streaming
+pub mod SameItems
+pub mod StreamsKept
 pub mod Full

@@ -5,7 +5,7 @@ ghost use Rattle.node_ports.specs.Standing.{FetchShifts, FlushShifts, FreshStand
 /// is taken (`fetch`), it stands for a port that has shifted as a book's may between two entries: what was
 /// put and then the outbox is what it was, and what was taken is in the slot behind what was there. In the
 /// midst of a parcel nothing shifts.
-#[tactic(auto, using(crate::proofs::Carrying::fresh_stands, crate::proofs::Carrying::flush_shifts, crate::proofs::Carrying::fetch_shifts))]
+#[tactic(auto, using(crate::proofs::SameItems::fresh_stands, crate::proofs::SameItems::flush_shifts, crate::proofs::SameItems::fetch_shifts))]
 pub fn ports_shift()
     ensures fresh { FreshStands }
     ensures flush { FlushShifts }

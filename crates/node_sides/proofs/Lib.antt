@@ -1,6 +1,6 @@
 pub mod Placed
 pub mod Stood
-pub mod Routing
+pub mod RoutesKept
 pub mod Ended
 pub mod Lost
 pub mod Index

@@ -5,7 +5,7 @@ pub mod Firsts
 pub mod Heeded
 pub mod Kept
 pub mod Later
-pub mod Losing
+pub mod SideLoses
 pub mod Owned
 pub mod Passed
 pub mod Stands

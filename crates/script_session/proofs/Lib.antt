@@ -1,7 +1,7 @@
-pub mod Coming
-pub mod Leading
-pub mod Pairing
-pub mod Running
+pub mod NodesFirst
+pub mod EventsLead
+pub mod PairStages
+pub mod LineOutcomes
 pub mod Shows
-pub mod Stepping
-pub mod Turning
+pub mod EventOutcomes
+pub mod Turns

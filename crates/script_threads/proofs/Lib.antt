@@ -1,4 +1,4 @@
 pub mod Lines
 pub mod Named
-pub mod Ending
-pub mod Asking
+pub mod EndTold
+pub mod Asked

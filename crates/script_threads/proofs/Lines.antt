@@ -10,7 +10,7 @@ use Rattle.script_lines.specs.Said.{Said}
 use Rattle.script_lines.specs.declared.line.Line.{Line}
 use Rattle.script_lines.specs.declared.reading.MayCome.{MayCome}
 use Rattle.script_lines.specs.declared.reason.Reason.{Reason}
-use Rattle.script_session.proofs.Coming.{node_comes_early}
+use Rattle.script_session.proofs.NodesFirst.{node_comes_early}
 use Rattle.script_session.specs.Session.{State, binds, is_taken, new_name, starts}
 use Rattle.script_session.specs.Session as session
 use Rattle.script_threads.specs.Reading.{is_missing, says, unless_taken}

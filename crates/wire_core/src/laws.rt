@@ -12,7 +12,7 @@ pub fn front_is_told()
 
 /// By that length what was cut from items is put together again as it was: behind the items that were put
 /// together stands what is cut from the others, and it is an item once it is as long as it says.
-#[tactic(auto, using(crate::proofs::Gathering::cut_behind, crate::proofs::Gathering::whole_item))]
+#[tactic(auto, using(crate::proofs::WholeItems::cut_behind, crate::proofs::WholeItems::whole_item))]
 pub fn pieces_are_gathered()
     ensures behind { IsCutBehind }
     ensures whole { IsWholeByFront }

@@ -1,5 +1,5 @@
-pub mod Incoming
-pub mod Going
+pub mod LeastArrival
+pub mod Happened
 pub mod Named
 pub mod Opened
 pub mod Reached

@@ -37,7 +37,7 @@ use Rattle.world_core.specs.Stands.{AreSpelled, Stands}
 use Rattle.world_core.specs.declared.world.World.{World}
 use Rattle.world_core.proofs.Named.{name_is, names_set, node_at, node_set, nobody_at, nobody_is, same_models}
 use Rattle.world_core.proofs.Reached.{can_come, reached_next}
-use Rattle.world_events.proofs.Planning.{name_kept}
+use Rattle.world_events.proofs.Planned.{name_kept}
 use Rattle.world_events.specs.Coming.{IsNext}
 use Rattle.world_events.specs.Events.{ComesTo, Meets, met, taken_at}
 use Rattle.world_events.specs.declared.event.NodeEvent.{NodeEvent}

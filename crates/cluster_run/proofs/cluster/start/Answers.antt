@@ -1,5 +1,5 @@
 use denote.Param.Send.{sendable}
-use Rattle.cluster_run.proofs.Crossing.{arc_send, bell_send}
+use Rattle.cluster_run.proofs.ThreadSafe.{arc_send, bell_send}
 use Rattle.cluster_run.proofs.worker.Worker.TheSendSync as worker
 use Rattle.cluster_run.proofs.cluster.start.Goals as goal
 

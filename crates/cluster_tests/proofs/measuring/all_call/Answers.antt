@@ -1,6 +1,6 @@
 use denote.Param.Send.{sendable}
-use Rattle.cluster_run.proofs.Crossing.{seat_field}
-use Rattle.cluster_tests.proofs.Crossing.{nodes_sync}
+use Rattle.cluster_run.proofs.ThreadSafe.{seat_field}
+use Rattle.cluster_tests.proofs.ThreadSafe.{nodes_sync}
 use Rattle.cluster_tests.proofs.measuring.Work.TheSendSync as work
 use Rattle.erl_term.proofs.term.Pid.TheSendSync as pid
 use Rattle.std.proofs.Crossing

@@ -1,6 +1,6 @@
 use denote.Param.Send.{sendable}
-use Rattle.cluster_run.proofs.Crossing.{seat_field}
-use Rattle.cluster_tests.proofs.Crossing.{nodes_sync}
+use Rattle.cluster_run.proofs.ThreadSafe.{seat_field}
+use Rattle.cluster_tests.proofs.ThreadSafe.{nodes_sync}
 use Rattle.std.proofs.Crossing
 use Rattle.cluster_tests.proofs.stories.all_read.Goals as goal
 

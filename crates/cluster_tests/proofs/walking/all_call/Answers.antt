@@ -1,6 +1,6 @@
 use denote.Param.Send.{sendable}
-use Rattle.cluster_run.proofs.Crossing.{seat_send}
-use Rattle.cluster_tests.proofs.Crossing.{nodes_sync}
+use Rattle.cluster_run.proofs.ThreadSafe.{seat_send}
+use Rattle.cluster_tests.proofs.ThreadSafe.{nodes_sync}
 use Rattle.std.proofs.Crossing
 use Rattle.std.proofs.alloc.Global.TheSendSync as global
 use Rattle.cluster_tests.proofs.walking.all_call.Goals as goal

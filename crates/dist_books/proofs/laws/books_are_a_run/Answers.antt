@@ -1,4 +1,4 @@
-use Rattle.dist_books.proofs.Joining.{books_are_a_run, books_are_safe}
+use Rattle.dist_books.proofs.OneRun.{books_are_a_run, books_are_safe}
 use Rattle.dist_books.proofs.Sorted.{sorts_merge}
 use Rattle.dist_books.proofs.laws.books_are_a_run.Goals as goal
 

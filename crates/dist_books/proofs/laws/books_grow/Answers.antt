@@ -1,4 +1,4 @@
-use Rattle.dist_books.proofs.Growing.{books_grow, sent_to_peers}
+use Rattle.dist_books.proofs.OneEntryMore.{books_grow, sent_to_peers}
 use Rattle.dist_books.proofs.ParcelsMove.{books_rest, new_books_follow, next_is_new}
 use Rattle.dist_books.proofs.laws.books_grow.Goals as goal
 

@@ -1,5 +1,5 @@
 use Rattle.std.proofs.Common.{arith}
-use Rattle.joined_books.proofs.Looping.{all_next}
+use Rattle.joined_books.proofs.OneMore.{all_next}
 use Rattle.joined_books.specs.Joined.{Replays}
 use Rattle.joined_books.proofs.merge.all_replay.Goals as goal
 

@@ -1,5 +1,5 @@
 use Rattle.std.proofs.lemmas.Result.{err_from_is_err_and}
-use Rattle.joined_books.proofs.Joining.{joined}
+use Rattle.joined_books.proofs.JoinedRun.{joined}
 use Rattle.joined_books.proofs.merge.merge_books.Goals as goal
 
 pub returns-in_err-check_names-clause-fault : goal.returns-in_err-check_names-clause-fault

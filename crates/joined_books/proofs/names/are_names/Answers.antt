@@ -2,7 +2,7 @@ use Rattle.std.proofs.Common.{◌≡◌, ◌<◌, ◌∙◌, [], ap, arith, get_
 use Rattle.std.proofs.lemmas.List.{length-map}
 use borrow.Author.Count.{below_more}
 use Rattle.dist_books.specs.Acting.{name_at, names_of}
-use Rattle.joined_books.proofs.Naming.{name_is}
+use Rattle.joined_books.proofs.NodeNames.{name_is}
 use Rattle.joined_books.proofs.Tests.{is_not, is_so, list_from_places, name_read, other_read, read, same_read}
 use Rattle.joined_books.proofs.names.are_names.Goals as goal
 

@@ -1,4 +1,4 @@
-use Rattle.joined_books.proofs.Filling.{node_next}
+use Rattle.joined_books.proofs.AllPlaces.{node_next}
 use Rattle.joined_books.proofs.order.all_places.Goals as goal
 
 pub loop-node-preserved : goal.loop-node-preserved

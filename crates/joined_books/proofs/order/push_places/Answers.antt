@@ -1,5 +1,5 @@
 use Rattle.std.proofs.Common.{ap, slice_index_or, sym}
-use Rattle.joined_books.proofs.Filling.{place_next}
+use Rattle.joined_books.proofs.AllPlaces.{place_next}
 use Rattle.node_history.specs.declared.entry.Entry.{Entry}
 use Rattle.joined_books.proofs.order.push_places.Goals as goal
 

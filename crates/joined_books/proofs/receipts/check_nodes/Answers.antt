@@ -1,7 +1,7 @@
 use Rattle.std.proofs.Common.{Bool, List, Option, length, subst, sym, ℕ}
 use Rattle.std.specs.Option.{MatchOption}
 use borrow.Author.Count.{below_more}
-use Rattle.joined_books.proofs.Receipting.{entries_are}
+use Rattle.joined_books.proofs.SeatReceipts.{entries_are}
 use Rattle.joined_books.specs.Marks.{AreMarked, IsStrange}
 use Rattle.joined_books.specs.Receipts.{StandAll, StandsIn, position_of, receipts_of}
 use Rattle.node_history.specs.declared.entry.Entry.{Entry}

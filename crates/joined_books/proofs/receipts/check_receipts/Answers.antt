@@ -1,5 +1,5 @@
 use Rattle.std.proofs.lemmas.Result.{IfOk-weaker, MatchResult-weaker, err_from_is_err_and}
-use Rattle.joined_books.proofs.Receipting.{all_stand, are_receipts}
+use Rattle.joined_books.proofs.SeatReceipts.{all_stand, are_receipts}
 use Rattle.joined_books.specs.Receipts.{AreReceipts}
 use Rattle.joined_books.proofs.receipts.check_receipts.Goals as goal
 

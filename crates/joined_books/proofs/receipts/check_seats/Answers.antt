@@ -1,6 +1,6 @@
 use Rattle.std.proofs.Common.{◌≡◌, ◌∙◌, List, arith, subst, sym}
 use Rattle.std.specs.List.{Contains}
-use Rattle.joined_books.proofs.Receipting.{strange_seat}
+use Rattle.joined_books.proofs.SeatReceipts.{strange_seat}
 use Rattle.node_lock.specs.declared.seat.Asked.{Asked}
 use Rattle.joined_books.proofs.receipts.check_seats.Goals as goal
 

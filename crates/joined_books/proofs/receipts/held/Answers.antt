@@ -1,5 +1,5 @@
 use Rattle.std.proofs.Common.{ap, arith, length, List}
-use Rattle.joined_books.proofs.Receipting.{held_beyond, held_next}
+use Rattle.joined_books.proofs.SeatReceipts.{held_beyond, held_next}
 use Rattle.node_lock.specs.declared.seat.Asked.{Asked}
 use Rattle.joined_books.proofs.receipts.held.Goals as goal
 

@@ -1,6 +1,6 @@
 use Rattle.std.proofs.Common.{◌∙◌, ◌++◌, List, arith, length, refl, subst}
 use Rattle.std.proofs.lemmas.List.{take_all}
-use Rattle.joined_books.proofs.Marking.{marks_more, strange_here}
+use Rattle.joined_books.proofs.Marks.{marks_more, strange_here}
 use Rattle.joined_books.specs.Marks.{AreMarked}
 use Rattle.joined_books.specs.Receipts.{StandsIn, position_of}
 use Rattle.node_lock.specs.declared.seat.Asked.{Asked}

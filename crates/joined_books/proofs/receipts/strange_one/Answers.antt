@@ -1,5 +1,5 @@
 use Rattle.std.proofs.Common.{◌++◌, List, length, sym, subst, take}
-use Rattle.joined_books.proofs.Receipting.{seat_next, strange_in}
+use Rattle.joined_books.proofs.SeatReceipts.{seat_next, strange_in}
 use Rattle.joined_books.specs.Marks.{AreMarked, IsStrange}
 use Rattle.joined_books.specs.Receipts.{StandsIn, position_of, receipts_of}
 use Rattle.node_lock.specs.declared.seat.Asked.{Asked}

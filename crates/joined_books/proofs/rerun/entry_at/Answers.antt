@@ -1,6 +1,6 @@
 use Rattle.std.proofs.Common.{◌≡◌, ◌∙◌, List, [], ap, arith, sym}
 use Rattle.std.specs.List.{slice_get}
-use Rattle.joined_books.proofs.Receipting.{entries_are}
+use Rattle.joined_books.proofs.SeatReceipts.{entries_are}
 use Rattle.joined_books.proofs.Zipped.{part_beyond}
 use Rattle.joined_books.specs.Parts.{entries_at}
 use Rattle.node_book.specs.Seen.{BookSeen}

@@ -1,6 +1,6 @@
 use Rattle.std.proofs.Common.{arith, inl, inr, sym}
 use Rattle.std.proofs.lemmas.Result.{err_from_is_err_and}
-use Rattle.joined_books.proofs.Replaying.{begins, ends_at, goes_at, repeated, there_at}
+use Rattle.joined_books.proofs.Replayed.{begins, ends_at, goes_at, repeated, there_at}
 use Rattle.joined_books.proofs.rerun.replay.Goals as goal
 
 pub returns-in_err-world-clause-err : goal.returns-in_err-world-clause-err

@@ -1,5 +1,5 @@
 use Rattle.std.proofs.Common.{drop}
-use Rattle.joined_books.proofs.Replaying.{Going}
+use Rattle.joined_books.proofs.Replayed.{Going}
 use Rattle.joined_books.specs.Joined.{AreARun}
 use Rattle.joined_books.proofs.rerun.replay.Given as goal
 

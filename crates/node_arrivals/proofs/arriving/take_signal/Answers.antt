@@ -7,7 +7,7 @@ use Rattle.dist_model.specs.Items.{Signalled, kind_of}
 use Rattle.dist_model.specs.Taking.{take}
 use Rattle.dist_model.specs.Work.{at_work}
 use Rattle.dist_model.specs.declared.report.Answer.{Answer}
-use Rattle.node_plans.proofs.Making.{makes_it}
+use Rattle.node_plans.proofs.PlanMakes.{makes_it}
 use Rattle.node_plans.proofs.Outcomes.{planned_by}
 use Rattle.node_plans.specs.Planned.{Plans}
 use Rattle.node_plans.specs.Seen.{seen}

@@ -1,5 +1,5 @@
 use Rattle.std.proofs.Common.{◌∙◌, ap, option_copied, sym}
-use Rattle.node_book.proofs.Coming.{reads_here}
+use Rattle.node_book.proofs.ResultsTold.{reads_here}
 use Rattle.node_book.specs.Applying.{is_ready}
 use Rattle.node_core.specs.Model.{model_of}
 use Rattle.node_history.specs.Kinds.{comes_here}

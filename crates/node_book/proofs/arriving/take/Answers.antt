@@ -1,6 +1,6 @@
 use Rattle.std.proofs.Common.{cond, ap, sym, ◌∙◌, slice_get}
 use Rattle.node_core.specs.Model.{model_of}
-use Rattle.node_book.proofs.Coming.{came, came_not, reads_here}
+use Rattle.node_book.proofs.ResultsTold.{came, came_not, reads_here}
 use Rattle.node_book.specs.Answers.{is_accepted}
 use Rattle.node_book.specs.Applying.{without_next}
 use Rattle.node_book.specs.declared.outlet.Outlet.{Outlet}

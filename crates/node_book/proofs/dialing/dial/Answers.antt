@@ -5,7 +5,7 @@ use Rattle.node_book.specs.Answers.{trunk_in}
 use Rattle.node_book.specs.Applying.{with_opened}
 use Rattle.std.proofs.Common.{slice_get, ap, ◌∙◌}
 use Rattle.node_history.specs.Telling.{placed}
-use Rattle.node_book.proofs.Coming.{dialed_not, dialed_out}
+use Rattle.node_book.proofs.ResultsTold.{dialed_not, dialed_out}
 use Rattle.node_book.proofs.dialing.dial.Goals as goal
 
 pub returns-in-Err-clause-history : goal.returns-in-Err-clause-history

@@ -10,7 +10,7 @@ use Rattle.erl_names.specs.Minted.{id_of}
 use Rattle.erl_term.specs.declared.refusal.Refusal.{Refusal}
 use Rattle.node_plans.specs.Carried.{CarriesOut}
 use Rattle.node_plans.specs.Seen.{seen}
-use Rattle.node_calls.proofs.Drawing.{next_is}
+use Rattle.node_calls.proofs.NextNumber.{next_is}
 use Rattle.node_plans.proofs.Outcomes.{lacks, planned}
 use Rattle.node_calls.proofs.commands.spawn.Goals as goal
 

@@ -11,7 +11,7 @@ use Rattle.erl_names.specs.Minted.{id_of}
 use Rattle.erl_term.specs.declared.refusal.Refusal.{Refusal}
 use Rattle.link_core.specs.Table.{is_active}
 use Rattle.node_plans.specs.Seen.{seen}
-use Rattle.node_calls.proofs.Drawing.{next_is}
+use Rattle.node_calls.proofs.NextNumber.{next_is}
 use Rattle.node_plans.proofs.Outcomes.{planned, planned_by}
 use Rattle.node_calls.proofs.linking.unlink.Goals as goal
 

@@ -11,7 +11,7 @@ use Rattle.erl_names.specs.Minted.{id_of}
 use Rattle.erl_term.specs.declared.refusal.Refusal.{Refusal}
 use Rattle.node_plans.specs.Seen.{seen}
 use Rattle.node_plans.proofs.Outcomes.{told_by}
-use Rattle.node_calls.proofs.Drawing.{next_is}
+use Rattle.node_calls.proofs.NextNumber.{next_is}
 use Rattle.node_calls.proofs.monitoring.monitor.Goals as goal
 
 pub monitor_under-requires-clause-next : goal.monitor_under-requires-clause-next

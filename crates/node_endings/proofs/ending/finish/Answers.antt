@@ -7,7 +7,7 @@ use Rattle.node_plans.specs.Carried.{Carries, CarriesOut}
 use Rattle.node_changes.specs.Parts.{link_in}
 use Rattle.node_endings.specs.Exiting.{exits_to}
 use Rattle.node_plans.specs.Seen.{seen}
-use Rattle.node_endings.proofs.Leaving.{finishes}
+use Rattle.node_endings.proofs.LastSignals.{finishes}
 use Rattle.node_endings.proofs.ending.finish.Goals as goal
 
 pub returns-clause-carries : goal.returns-clause-carries

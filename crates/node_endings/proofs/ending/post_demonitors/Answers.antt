@@ -12,7 +12,7 @@ use Rattle.monitor_core.specs.Monitors.{MonitorMap}
 use Rattle.monitor_core.specs.declared.monitor.Monitor.{Monitor}
 use Rattle.node_plans.specs.Carried.{CarriesOut}
 use Rattle.node_plans.specs.Seen.{seen}
-use Rattle.node_endings.proofs.Leaving.{flat_passing, picked_more, post_more}
+use Rattle.node_endings.proofs.LastSignals.{flat_passing, picked_more, post_more}
 use Rattle.node_endings.proofs.ending.post_demonitors.Goals as goal
 
 pub loop-place-preserved : goal.loop-place-preserved

@@ -8,7 +8,7 @@ use Rattle.node_changes.specs.Parts.{link_in}
 use Rattle.node_endings.specs.Exiting.{exit_to, exits_to}
 use Rattle.node_plans.specs.Seen.{seen}
 use Rattle.node_changes.specs.declared.change.LinkChange.{LinkChange}
-use Rattle.node_endings.proofs.Leaving.{post_more}
+use Rattle.node_endings.proofs.LastSignals.{post_more}
 use Rattle.node_endings.proofs.ending.post_exits.Goals as goal
 
 pub loop-partner-preserved : goal.loop-partner-preserved

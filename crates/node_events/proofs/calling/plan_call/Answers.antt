@@ -5,7 +5,7 @@ use Rattle.erl_names.specs.declared.trunk.TrunkId.{TrunkId}
 use Rattle.dist_model.specs.NodeEvents as event
 use Rattle.dist_model.specs.NodeEvents.{at_node}
 use Rattle.node_plans.specs.Seen.{seen}
-use Rattle.node_events.proofs.Staying.{comes_of_none, stays}
+use Rattle.node_events.proofs.NodeKept.{comes_of_none, stays}
 use Rattle.node_events.proofs.calling.plan_call.Goals as goal
 
 no_item : (command : Command) (t : TrunkId) (item : Item) (word : ℕ) → event.Call command ≡ event.Arrive t (Some item) word → ⊥

@@ -5,8 +5,8 @@ use Rattle.erl_names.specs.declared.trunk.TrunkId.{TrunkId}
 use Rattle.dist_model.specs.NodeEvents as event
 use Rattle.dist_model.specs.NodeEvents.{at_node}
 use Rattle.node_plans.specs.Seen.{seen}
-use Rattle.node_plans.proofs.Making.{makes_it}
-use Rattle.node_events.proofs.Staying.{comes_of_none, stays}
+use Rattle.node_plans.proofs.PlanMakes.{makes_it}
+use Rattle.node_events.proofs.NodeKept.{comes_of_none, stays}
 use Rattle.node_events.proofs.losing.plan_loss.Goals as goal
 
 no_item : (trunk t : TrunkId) (item : Item) (word : ℕ) → event.Lose trunk ≡ event.Arrive t (Some item) word → ⊥

@@ -7,7 +7,7 @@ use Rattle.erl_term.specs.declared.refusal.Refusal.{Refusal}
 use Rattle.node_plans.specs.Planned.{Plans}
 use Rattle.node_plans.specs.Seen.{seen}
 use Rattle.node_events.specs.Staying.{Stays}
-use Rattle.node_events.proofs.Staying.{comes_of_none, stays}
+use Rattle.node_events.proofs.NodeKept.{comes_of_none, stays}
 use Rattle.node_events.proofs.sweeping.plan_sweep.Goals as goal
 
 no_item : (t : TrunkId) (item : Item) (word : ℕ) → event.Sweep ≡ event.Arrive t (Some item) word → ⊥

@@ -1,6 +1,6 @@
 use Rattle.std.proofs.Common.{MatchResult, subst, ◌∙◌}
 use Rattle.node_core.specs.Model.{model_of}
-use Rattle.node_history.proofs.Acting.{carried}
+use Rattle.node_history.proofs.AnsweredTwice.{carried}
 use Rattle.node_plans.specs.Planned.{IsPlanned, IsRefused}
 use Rattle.node_history.proofs.acts.carry_out.Goals as goal
 

@@ -1,4 +1,4 @@
-use Rattle.node_history.proofs.Telling.{read_is_whole}
+use Rattle.node_history.proofs.ReadByBytes.{read_is_whole}
 use Rattle.node_history.proofs.kinds.what_is_read_is_whole.Goals as goal
 
 pub returns : goal.returns

@@ -1,8 +1,8 @@
 use Rattle.std.proofs.Common.{◌≡◌, [], ap, rules, ◌∙◌}
 use Rattle.dist_model.specs.Node.{ends_of}
 use Rattle.node_core.specs.Model.{model_of}
-use Rattle.node_history.proofs.Acting.{not_looked}
-use Rattle.node_history.proofs.Filling.{looks}
+use Rattle.node_history.proofs.AnsweredTwice.{not_looked}
+use Rattle.node_history.proofs.ThereBefore.{looks}
 use Rattle.node_history.proofs.spare.looked_up.Goals as goal
 
 pub returns-in-Ok-clause-same : goal.returns-in-Ok-clause-same

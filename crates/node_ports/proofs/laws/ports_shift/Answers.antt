@@ -1,4 +1,4 @@
-use Rattle.node_ports.proofs.Carrying.{fetch_shifts}
+use Rattle.node_ports.proofs.SameItems.{fetch_shifts}
 use Rattle.node_ports.proofs.laws.ports_shift.Goals as goal
 
 pub returns-clause-fetch : goal.returns-clause-fetch

@@ -4,7 +4,7 @@ use Rattle.dist_model.specs.Node.{living}
 use Rattle.dist_model.specs.Work.{at_work}
 use Rattle.erl_names.specs.Ids.{pid_of}
 use Rattle.erl_term.specs.declared.term.Pid.{Pid}
-use Rattle.node_plans.proofs.Making.{makes_it}
+use Rattle.node_plans.proofs.PlanMakes.{makes_it}
 use Rattle.node_plans.specs.Carried.{CarriesOut, MakesOr}
 use Rattle.node_plans.specs.Seen.{seen}
 use Rattle.node_sides.specs.Standings.{side_of}

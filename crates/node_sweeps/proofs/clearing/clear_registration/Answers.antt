@@ -1,7 +1,7 @@
 use Rattle.std.proofs.Common.{◌≡◌, ap, ◌∙◌}
 use Rattle.dist_model.specs.Monitoring.{unregister}
 use Rattle.dist_model.specs.Work.{Work, at_work}
-use Rattle.node_plans.proofs.Making.{makes_it}
+use Rattle.node_plans.proofs.PlanMakes.{makes_it}
 use Rattle.node_plans.specs.Carried.{CarriesOut}
 use Rattle.node_plans.specs.Seen.{seen}
 use Rattle.node_sweeps.proofs.Cleared.{on_done, same_sides}

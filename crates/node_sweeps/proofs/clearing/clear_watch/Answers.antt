@@ -6,7 +6,7 @@ use Rattle.dist_model.specs.Node.{living}
 use Rattle.dist_model.specs.Work.{Work, at_work, put}
 use Rattle.exit_core.specs.Messages.{down_term}
 use Rattle.link_core.specs.News.{noconnection}
-use Rattle.node_plans.proofs.Making.{makes_it}
+use Rattle.node_plans.proofs.PlanMakes.{makes_it}
 use Rattle.node_plans.specs.Carried.{CarriesOut}
 use Rattle.node_plans.specs.Seen.{seen}
 use Rattle.node_sweeps.proofs.Cleared.{on_done, same_sides, watched_from}

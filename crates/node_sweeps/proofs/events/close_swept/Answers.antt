@@ -3,7 +3,7 @@ use Rattle.std.specs.Option.{is_some}
 use Rattle.dist_model.proofs.Seen.{close_if}
 use Rattle.dist_model.specs.Losses.{Record, close_side}
 use Rattle.dist_model.specs.Work.{at_work}
-use Rattle.node_plans.proofs.Making.{makes_it}
+use Rattle.node_plans.proofs.PlanMakes.{makes_it}
 use Rattle.node_plans.specs.Carried.{Makes}
 use Rattle.node_plans.specs.Seen.{seen}
 use Rattle.node_sides.specs.Standings.{side_of}

@@ -7,7 +7,7 @@ use Rattle.dist_model.specs.declared.report.Answer.{Answer}
 use Rattle.node_plans.proofs.Outcomes.{lacks, made}
 use Rattle.node_plans.specs.Seen.{seen}
 use Rattle.node_sides.specs.Standings.{entry_of, side_of}
-use Rattle.node_sweeps.proofs.Losing.{loses}
+use Rattle.node_sweeps.proofs.SideLoses.{loses}
 use Rattle.node_sweeps.proofs.events.sweep.Goals as goal
 
 pub sweep_side-requires-clause-there : goal.sweep_side-requires-clause-there

@@ -1,6 +1,6 @@
 use Rattle.std.proofs.Common.{subst, sym, take}
 use Rattle.run_diagrams.specs.Recording.{way_in, ways_of}
-use Rattle.run_diagrams.proofs.Recording.{Recorded, more_recorded, ways_next}
+use Rattle.run_diagrams.proofs.MarksAdded.{Recorded, more_recorded, ways_next}
 use Rattle.run_diagrams.proofs.events.put_effects.Goals as goal
 
 pub loop-effect-preserved : goal.loop-effect-preserved

@@ -1,6 +1,6 @@
 use Rattle.std.proofs.Common.{take}
 use Rattle.run_diagrams.specs.Recording.{ways_of}
-use Rattle.run_diagrams.proofs.Recording.{Recorded}
+use Rattle.run_diagrams.proofs.MarksAdded.{Recorded}
 use Rattle.run_diagrams.proofs.events.put_effects.Given as goal
 
 abbrev pub invariant-loop-effect : goal.invariant-loop-effect

@@ -1,6 +1,6 @@
 use Rattle.std.proofs.Common.{◌∷◌, [], refl, ◌∙◌, ap}
 use Rattle.run_diagrams.specs.Recording.{queues_of}
-use Rattle.run_diagrams.proofs.Recording.{queues_behind}
+use Rattle.run_diagrams.proofs.MarksAdded.{queues_behind}
 use Rattle.run_diagrams.proofs.events.put_item.Goals as goal
 
 pub returns-clause-adds : goal.returns-clause-adds

@@ -1,5 +1,5 @@
 use Rattle.std.proofs.Common.{[], refl}
-use Rattle.script_session.proofs.Leading.{line_led}
+use Rattle.script_session.proofs.EventsLead.{line_led}
 use Rattle.script_session.proofs.laws.events_lead_to_every_line.Goals as goal
 
 pub returns-clause-fresh : goal.returns-clause-fresh

@@ -1,5 +1,5 @@
 use Rattle.std.proofs.Common.{string_bytes, arith}
-use Rattle.script_texts.proofs.Waiting.{waiting_more}
+use Rattle.script_texts.proofs.MessagesWait.{waiting_more}
 use Rattle.script_texts.proofs.nodes.put_waiting.Goals as goal
 
 pub loop-place-preserved : goal.loop-place-preserved

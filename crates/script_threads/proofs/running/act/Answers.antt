@@ -1,5 +1,5 @@
 use Rattle.std.proofs.Common.{string_bytes}
-use Rattle.script_threads.proofs.Asking.{entered, last_asked}
+use Rattle.script_threads.proofs.Asked.{entered, last_asked}
 use Rattle.script_threads.proofs.running.act.Goals as goal
 
 pub returns-in-Ok : goal.returns-in-Ok

@@ -2,7 +2,7 @@ use Rattle.std.proofs.Common.{subst}
 use Rattle.dist_model.specs.NodeEvents.{Arrive, at_node}
 use Rattle.node_core.specs.Model.{model_of}
 use Rattle.world_lists.specs.Lists.{at}
-use Rattle.world_events.proofs.Planning.{IsPlannedOr, comes_planned}
+use Rattle.world_events.proofs.Planned.{IsPlannedOr, comes_planned}
 use Rattle.world_events.proofs.arriving.plan.Goals as goal
 
 pub returns-in-Ok-clause-plan : goal.returns-in-Ok-clause-plan

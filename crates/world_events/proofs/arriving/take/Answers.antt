@@ -2,7 +2,7 @@ use Rattle.std.proofs.Common.{subst}
 use Rattle.dist_model.specs.NodeEvents.{Arrive, at_node}
 use Rattle.node_core.specs.Model.{model_of}
 use Rattle.world_events.specs.Events.{Sends}
-use Rattle.world_events.proofs.Planning.{arrived}
+use Rattle.world_events.proofs.Planned.{arrived}
 use Rattle.world_events.proofs.arriving.take.Goals as goal
 
 pub returns-in-Ok : goal.returns-in-Ok

@@ -1,7 +1,7 @@
 use Rattle.std.proofs.Common.{◌++◌, refl, ap, ◌∙◌}
 use Rattle.node_core.specs.Model.{model_of}
 use Rattle.world_lists.specs.Lists.{at, sent_at}
-use Rattle.world_events.proofs.Planning.{lacks, sends_planned}
+use Rattle.world_events.proofs.Planned.{lacks, sends_planned}
 use Rattle.world_events.proofs.finishing.finish.Goals as goal
 
 pub returns-in-Ok : goal.returns-in-Ok

@@ -1,7 +1,7 @@
 use Rattle.std.proofs.Common.{refl, subst, sym}
 use Rattle.node_core.specs.Model.{model_of}
 use Rattle.world_events.specs.declared.event.NodeEvent.TheVariants as event
-use Rattle.world_events.proofs.Planning.{Happens, as_sent}
+use Rattle.world_events.proofs.Planned.{Happens, as_sent}
 use Rattle.world_events.proofs.happening.happen.Goals as goal
 
 pub returns-in-Call : goal.returns-in-Call

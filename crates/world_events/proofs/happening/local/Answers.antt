@@ -1,6 +1,6 @@
 use Rattle.std.proofs.Common.{refl}
 use Rattle.node_core.specs.Model.{model_of}
-use Rattle.world_events.proofs.Planning.{sends_on}
+use Rattle.world_events.proofs.Planned.{sends_on}
 use Rattle.world_events.proofs.happening.local.Goals as goal
 
 pub returns-in-Ok : goal.returns-in-Ok

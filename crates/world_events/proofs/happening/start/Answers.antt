@@ -1,5 +1,5 @@
 use Rattle.node_core.specs.Model.{model_of}
-use Rattle.world_events.proofs.Planning.{silent, start_is_silent}
+use Rattle.world_events.proofs.Planned.{silent, start_is_silent}
 use Rattle.world_events.proofs.happening.start.Goals as goal
 
 pub returns : goal.returns

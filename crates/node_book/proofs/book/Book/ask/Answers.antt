@@ -1,6 +1,6 @@
-use Rattle.node_book.proofs.Booking.{happened}
+use Rattle.node_book.proofs.KeptByEvents.{happened}
 use Rattle.node_book.proofs.BookedCalls.{plainly, plainly_not}
-use Rattle.node_book.proofs.Placing.{err_placed, known_plainly, ok_placed}
+use Rattle.node_book.proofs.EntryPlaces.{err_placed, known_plainly, ok_placed}
 use Rattle.node_history.specs.Telling.{placed}
 use Rattle.node_book.proofs.book.Book.ask.Goals as goal
 

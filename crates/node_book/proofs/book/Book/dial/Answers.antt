@@ -1,7 +1,7 @@
 use Rattle.std.proofs.Common.{ap, sym, ◌∙◌}
 use Rattle.dist_model.specs.Dialing.{has_name}
 use Rattle.node_book.proofs.BookedCalls.{dial_kept}
-use Rattle.node_book.proofs.Placing.{err_of_placed, ok_of_placed}
+use Rattle.node_book.proofs.EntryPlaces.{err_of_placed, ok_of_placed}
 use Rattle.node_history.specs.Telling.{placed}
 use Rattle.node_book.proofs.book.Book.dial.Goals as goal
 

@@ -1,6 +1,6 @@
 use Rattle.std.proofs.Common.{ap, true}
 use Rattle.node_book.proofs.BookedCalls.{moved_kept}
-use Rattle.node_book.proofs.Putting.{moved_at, ok_is}
+use Rattle.node_book.proofs.PutAtOutlet.{moved_at, ok_is}
 use Rattle.node_book.specs.Passing.{Takes}
 use Rattle.node_book.specs.Seen.{BookSeen}
 use Rattle.node_book.proofs.book.Book.fetch.Goals as goal

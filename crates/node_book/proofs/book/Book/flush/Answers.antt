@@ -1,6 +1,6 @@
 use Rattle.std.proofs.Common.{ap, inl, inr, refl}
 use Rattle.node_book.proofs.BookedCalls.{feeds_at, moved_kept}
-use Rattle.node_book.proofs.Putting.{nowhere, ok_is, on_err, puts_at, still_at}
+use Rattle.node_book.proofs.PutAtOutlet.{nowhere, ok_is, on_err, puts_at, still_at}
 use Rattle.node_book.specs.Seen.{BookSeen}
 use Rattle.node_book.proofs.book.Book.flush.Goals as goal
 

@@ -1,5 +1,5 @@
 use Rattle.std.proofs.Common.{refl}
-use Rattle.node_book.proofs.Booking.{happened}
+use Rattle.node_book.proofs.KeptByEvents.{happened}
 use Rattle.node_book.proofs.BookedCalls.{plainly, plainly_not}
 use Rattle.world_events.specs.declared.event.NodeEvent.TheVariants as event
 use Rattle.node_book.proofs.book.Book.sweep.Goals as goal

@@ -1,6 +1,6 @@
 use Rattle.std.proofs.Common.{ap}
-use Rattle.node_book.proofs.Moving.{fetched_keeps}
-use Rattle.node_book.proofs.Putting.{taken_one, unchanged_err}
+use Rattle.node_book.proofs.OutletMoves.{fetched_keeps}
+use Rattle.node_book.proofs.PutAtOutlet.{taken_one, unchanged_err}
 use Rattle.node_ports.specs.Ports.{PortSeen}
 use Rattle.node_book.proofs.outlet.Outlet.fetch.Goals as goal
 

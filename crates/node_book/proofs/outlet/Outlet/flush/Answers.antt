@@ -1,6 +1,6 @@
 use Rattle.std.proofs.Common.{add-zero, ap, Ok, subst, ◌∙◌}
-use Rattle.node_book.proofs.Moving.{both_keep, fed_after, nothing_keeps}
-use Rattle.node_book.proofs.Putting.{puts_both, puts_none}
+use Rattle.node_book.proofs.OutletMoves.{both_keep, fed_after, nothing_keeps}
+use Rattle.node_book.proofs.PutAtOutlet.{puts_both, puts_none}
 use Rattle.node_book.specs.Passing.{Puts}
 use Rattle.node_book.proofs.outlet.Outlet.flush.Goals as goal
 

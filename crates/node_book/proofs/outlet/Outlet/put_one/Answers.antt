@@ -1,5 +1,5 @@
-use Rattle.node_book.proofs.Moving.{both_keep, flushed_keeps}
-use Rattle.node_book.proofs.Putting.{none_put_err, one_put, still}
+use Rattle.node_book.proofs.OutletMoves.{both_keep, flushed_keeps}
+use Rattle.node_book.proofs.PutAtOutlet.{none_put_err, one_put, still}
 use Rattle.node_book.proofs.outlet.Outlet.put_one.Goals as goal
 
 pub returns : goal.returns

@@ -1,5 +1,5 @@
-use Rattle.node_book.proofs.Moving.{nothing_keeps, piece_at, same_keeps, staged_at}
-use Rattle.node_book.proofs.Putting.{puts_none, puts_past_at, puts_same, puts_staged_at, some_waits, staged_waits}
+use Rattle.node_book.proofs.OutletMoves.{nothing_keeps, piece_at, same_keeps, staged_at}
+use Rattle.node_book.proofs.PutAtOutlet.{puts_none, puts_past_at, puts_same, puts_staged_at, some_waits, staged_waits}
 use Rattle.node_book.proofs.outlet.Outlet.stage.Goals as goal
 
 pub parcel-requires : goal.parcel-requires

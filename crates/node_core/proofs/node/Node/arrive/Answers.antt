@@ -1,5 +1,5 @@
 use Rattle.std.proofs.Common.{ap, ◌∙◌}
-use Rattle.node_events.proofs.Doing.{done}
+use Rattle.node_events.proofs.PlanDone.{done}
 use Rattle.node_events.specs.Arrived.{arrives}
 use Rattle.node_core.specs.Model.{model_of}
 use Rattle.node_plans.specs.Plans.{committed, told}

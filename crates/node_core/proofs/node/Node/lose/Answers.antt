@@ -1,7 +1,7 @@
 use Rattle.std.proofs.Common.{ap, ◌∙◌}
 use Rattle.dist_model.specs.NodeEvents as event
 use Rattle.node_plans.specs.Plans.{committed, told}
-use Rattle.node_events.proofs.Doing.{done}
+use Rattle.node_events.proofs.PlanDone.{done}
 use Rattle.node_core.specs.Model.{model_of}
 use Rattle.node_core.proofs.node.Node.lose.Goals as goal
 

@@ -1,8 +1,8 @@
 use Rattle.std.proofs.Common.{None, Ok, arith}
 use Rattle.dist_model.specs.NodeEvents.{at_node}
 use Rattle.node_core.specs.Model.{model_of}
-use Rattle.node_history.proofs.Acting.{err_is, knowing, not_entered, told_of}
-use Rattle.node_history.proofs.Entering.{tried_at}
+use Rattle.node_history.proofs.AnsweredTwice.{err_is, knowing, not_entered, told_of}
+use Rattle.node_history.proofs.WrittenDown.{tried_at}
 use Rattle.world_events.specs.Events.{met}
 use Rattle.node_history.proofs.history.History.act.Goals as goal
 

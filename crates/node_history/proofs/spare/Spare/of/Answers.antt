@@ -1,6 +1,6 @@
 use Rattle.std.proofs.Common.{◌∙◌}
 use Rattle.node_core.specs.Model.{model_of}
-use Rattle.node_history.proofs.Filling.{fills}
+use Rattle.node_history.proofs.ThereBefore.{fills}
 use Rattle.node_history.proofs.spare.Spare.of.Goals as goal
 
 pub returns-clause-fills : goal.returns-clause-fills

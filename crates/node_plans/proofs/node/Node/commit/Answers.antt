@@ -8,7 +8,7 @@ use Rattle.node_plans.specs.SeenOf.{seen_of}
 use Rattle.erl_names.specs.Minted.{Minted}
 use Rattle.monitor_core.specs.Monitors.{MonitorMap}
 use Rattle.node_plans.specs.Keeps.{AreDrawn}
-use Rattle.node_plans.proofs.Committing.{drawn_after, fresh_next, map_popped, named_after, sendable_after}
+use Rattle.node_plans.proofs.KeptAfter.{drawn_after, fresh_next, map_popped, named_after, sendable_after}
 use Rattle.node_plans.proofs.node.Node.commit.Goals as goal
 
 pub invariant_of-self : goal.invariant_of-self

@@ -1,6 +1,6 @@
 use Rattle.std.proofs.Common.{◌≡◌, rules, ◌++◌, ◌∷◌, []}
 use Rattle.dist_model.specs.declared.report.Effect.{Effect}
-use Rattle.node_plans.proofs.Changing.{carries_bury}
+use Rattle.node_plans.proofs.ProcessChanges.{carries_bury}
 use Rattle.node_plans.proofs.plan.Plan.bury.Goals as goal
 
 pub returns-in-Ok-clause-carries : goal.returns-in-Ok-clause-carries

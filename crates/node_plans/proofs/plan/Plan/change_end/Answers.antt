@@ -1,4 +1,4 @@
-use Rattle.node_plans.proofs.Changing.{carries_end}
+use Rattle.node_plans.proofs.ProcessChanges.{carries_end}
 use Rattle.node_plans.proofs.plan.Plan.change_end.Goals as goal
 
 pub returns-clause-carries : goal.returns-clause-carries

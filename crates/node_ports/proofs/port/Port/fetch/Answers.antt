@@ -1,6 +1,6 @@
 use Rattle.std.proofs.Common.{◌≤◌, ◌++◌, ◌∙◌, List, length, true≢false, sym, inr, subst, drop}
 use Rattle.node_ports.specs.Fetching.{IsWhole}
-use Rattle.node_ports.proofs.Streaming.{handled_more, part_taken, spells, whole_taken}
+use Rattle.node_ports.proofs.StreamsKept.{handled_more, part_taken, spells, whole_taken}
 use Rattle.wire_core.specs.Spellings.{SpellsItem}
 use Rattle.wire_core.specs.declared.parcel.Parcel.{Parcel}
 use Rattle.node_ports.proofs.port.Port.fetch.Goals as goal

@@ -1,6 +1,6 @@
 use Rattle.std.proofs.Common.{◌≡◌, ◌+◌, ◌^◌, ◌<◌, ◌∙◌, List, [], ◌∷◌, ◌++◌, refl, sym, ap, inr, subst, arith}
 use Rattle.node_ports.proofs.Full.{came_back, some_is, went}
-use Rattle.node_ports.proofs.Streaming.{last_put, part_put}
+use Rattle.node_ports.proofs.StreamsKept.{last_put, part_put}
 use Rattle.node_ports.specs.Ports.{EndsFull, PortSeen}
 use Rattle.node_ports.specs.Streams.{IsNext}
 use Rattle.wire_core.specs.declared.parcel.Parcel.{Parcel}

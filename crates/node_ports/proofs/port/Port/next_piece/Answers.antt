@@ -1,5 +1,5 @@
 use Rattle.std.proofs.Common.{ℕ, ◌+◌, ◌<◌, ◌≤◌, List, drop, length, take, ap, subst, ◌∙◌}
-use Rattle.node_ports.proofs.Streaming.{first_in, next_of}
+use Rattle.node_ports.proofs.StreamsKept.{first_in, next_of}
 use Rattle.node_ports.specs.Ports.{PortSeen, behind_first}
 use Rattle.node_ports.specs.Streams.{IsNext}
 use Rattle.node_ports.proofs.port.Port.next_piece.Goals as goal

@@ -1,5 +1,5 @@
 use Rattle.std.proofs.Common.{List, subst, sym}
-use Rattle.node_ports.proofs.Streaming.{more_waits}
+use Rattle.node_ports.proofs.StreamsKept.{more_waits}
 use Rattle.node_ports.specs.Streams.{PutInPieces}
 use Rattle.wire_core.specs.declared.parcel.Parcel.{Parcel}
 use Rattle.node_ports.proofs.port.Port.send.Goals as goal

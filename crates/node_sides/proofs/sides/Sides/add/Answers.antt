@@ -5,7 +5,7 @@ use Rattle.erl_names.specs.Order.{trunk_cmp}
 use Rattle.sorted_map.specs.Entries.{IsFoundAt, IsGapAt}
 use Rattle.node_sides.proofs.Lost.{least_kept}
 use Rattle.node_sides.proofs.Placed.{get_side, insert_puts, none_found, not_there, place_gap, put_sides, put_sorted, settled_insert, taken}
-use Rattle.node_sides.proofs.Routing.{down_routed}
+use Rattle.node_sides.proofs.RoutesKept.{down_routed}
 use Rattle.node_sides.specs.Standings.{all_settled, entries_of, is_up_to, side_of}
 use Rattle.node_sides.proofs.sides.Sides.add.Goals as goal
 

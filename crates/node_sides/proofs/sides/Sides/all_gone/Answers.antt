@@ -5,7 +5,7 @@ use Rattle.erl_names.specs.declared.trunk.TrunkId.{TrunkId}
 use Rattle.node_sides.proofs.Ended.{all_now, gone_settled, gone_sides, gone_sorted, none_kept}
 use Rattle.node_sides.proofs.Index.{gone_indexed}
 use Rattle.node_sides.proofs.Lost.{gone_not_lost}
-use Rattle.node_sides.proofs.Routing.{gone_routed}
+use Rattle.node_sides.proofs.RoutesKept.{gone_routed}
 use Rattle.node_sides.specs.Index.{AreIndexed}
 use Rattle.node_sides.proofs.sides.Sides.all_gone.Goals as goal
 

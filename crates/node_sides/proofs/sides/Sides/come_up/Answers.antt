@@ -10,7 +10,7 @@ use Rattle.std.specs.Option.{option_map}
 use Rattle.dist_model.specs.Sides.{TrunkSide}
 use Rattle.node_sides.proofs.Lost.{least_kept}
 use Rattle.node_sides.proofs.Placed.{done, get_side, no_some, none_found, place_found, set_puts, settled_set, there_found}
-use Rattle.node_sides.proofs.Routing.{up_routed}
+use Rattle.node_sides.proofs.RoutesKept.{up_routed}
 use Rattle.node_sides.proofs.Stood.{changed, stood_sides, stood_sorted}
 use Rattle.node_sides.specs.Standings.{entries_of, side_of}
 use Rattle.node_sides.proofs.sides.Sides.come_up.Goals as goal

@@ -1,7 +1,7 @@
 use Rattle.std.proofs.Common.{sym, ap, ◌∙◌}
 use Rattle.dist_model.specs.Node.{route_in}
 use Rattle.node_sides.proofs.Placed.{entries_side}
-use Rattle.node_sides.proofs.Routing.{routed_is}
+use Rattle.node_sides.proofs.RoutesKept.{routed_is}
 use Rattle.node_sides.proofs.sides.Sides.route.Goals as goal
 
 pub returns : goal.returns

@@ -4,7 +4,7 @@ use Rattle.erl_names.specs.Order.{trunk_cmp}
 use Rattle.sorted_map.specs.Entries.{IsFoundAt, IsGapAt}
 use Rattle.node_sides.proofs.Lost.{least_kept}
 use Rattle.node_sides.proofs.Placed.{get_side, none_found, place_found, set_puts, settled_set, stood_none, there_found}
-use Rattle.node_sides.proofs.Routing.{stood_routed}
+use Rattle.node_sides.proofs.RoutesKept.{stood_routed}
 use Rattle.node_sides.proofs.Stood.{changed, stood_sides, stood_sorted}
 use Rattle.node_sides.specs.Standings.{entries_of, side_of, sides_in}
 use Rattle.node_sides.proofs.sides.Sides.stand.Goals as goal

@@ -1,5 +1,5 @@
 use Rattle.std.specs.Option.{option_copied}
-use Rattle.run_diagrams.proofs.Recording.{recorded_row}
+use Rattle.run_diagrams.proofs.MarksAdded.{recorded_row}
 use Rattle.std.proofs.lemmas.Result.{on_ok_weaker}
 use Rattle.run_diagrams.proofs.recorder.Recorder.happened.Goals as goal
 

@@ -2,7 +2,7 @@ use Rattle.std.proofs.Common.{Ok, Some, None, Option, ap, string_bytes, sym, ◌
 use Rattle.script_lines.specs.Said.{said}
 use Rattle.script_lines.specs.declared.line.Line.{Line}
 use Rattle.script_session.specs.Session.{does, is_taken}
-use Rattle.script_session.proofs.Running.{early, passed, ran, reads, runs}
+use Rattle.script_session.proofs.LineOutcomes.{early, passed, ran, reads, runs}
 use Rattle.script_session.proofs.session.Session.line.Goals as goal
 
 pub returns-in-Ok-None : goal.returns-in-Ok-None

@@ -6,7 +6,7 @@ use Rattle.dist_model.specs.declared.command.Command.{Command}
 use Rattle.script_session.specs.Pairs.{first, pair_nodes, pair_plays, second, trunk}
 use Rattle.script_session.specs.Stage.{Stage as TheStage, after}
 use Rattle.script_session.specs.Stands.{IsStage}
-use Rattle.script_session.proofs.Pairing.{begins, ends, goes_on}
+use Rattle.script_session.proofs.PairStages.{begins, ends, goes_on}
 use Rattle.script_session.proofs.stage.Stage.pair.Goals as goal
 
 pub returns : goal.returns

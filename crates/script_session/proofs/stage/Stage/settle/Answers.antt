@@ -1,7 +1,7 @@
 use Rattle.std.proofs.Common.{◌≡◌, ◌-◌, ◌∙◌, suc, Some, None, ap, arith, string_bytes, sym}
 use Rattle.std.specs.Option.{option_map}
 use Rattle.script_session.specs.Turns.{turn}
-use Rattle.script_session.proofs.Turning.{begins, goes_on, on_ok, settled, used_up}
+use Rattle.script_session.proofs.Turns.{begins, goes_on, on_ok, settled, used_up}
 use Rattle.script_session.proofs.stage.Stage.settle.Goals as goal
 use Rattle.world_core.specs.Ran.{event_at}
 

@@ -1,7 +1,7 @@
 use Rattle.std.proofs.Common.{string_bytes}
 use Rattle.script_session.specs.Stage.{Stage as TheStage}
 use Rattle.script_session.specs.Stands.{IsStage}
-use Rattle.script_session.proofs.Turning.{Going}
+use Rattle.script_session.proofs.Turns.{Going}
 use Rattle.script_session.proofs.stage.Stage.settle.Given as goal
 
 abbrev pub invariant-loop-left : goal.invariant-loop-left

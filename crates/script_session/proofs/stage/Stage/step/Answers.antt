@@ -1,5 +1,5 @@
 use Rattle.std.proofs.Common.{string_bytes}
-use Rattle.script_session.proofs.Stepping.{moved, printed}
+use Rattle.script_session.proofs.EventOutcomes.{moved, printed}
 use Rattle.script_session.proofs.stage.Stage.step.Goals as goal
 
 pub returns-in_ok-put_sents_if-in-Ok : goal.returns-in_ok-put_sents_if-in-Ok

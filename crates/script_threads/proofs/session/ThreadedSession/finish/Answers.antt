@@ -1,5 +1,5 @@
 use Rattle.std.proofs.Common.{ap, string_bytes, sym, ◌∙◌}
-use Rattle.script_threads.proofs.Ending.{on_ok, tells_end, tells_nothing}
+use Rattle.script_threads.proofs.EndTold.{on_ok, tells_end, tells_nothing}
 use Rattle.script_threads.specs.Standing.{has_started, nodes_of}
 use Rattle.script_threads.specs.declared.threads.Cast.TheVariants as cast
 use Rattle.script_threads.proofs.session.ThreadedSession.finish.Goals as goal

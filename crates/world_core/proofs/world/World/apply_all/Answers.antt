@@ -1,7 +1,7 @@
 use Rattle.std.proofs.Common.{◌≡◌, ◌∷◌, List, arith, rules, subst, sym}
 use Rattle.world_core.specs.declared.event.Event.{Event}
 use Rattle.world_core.specs.Ran.{Answered}
-use Rattle.world_core.proofs.Going.{Going, none_yet, one_more}
+use Rattle.world_core.proofs.Happened.{Going, none_yet, one_more}
 use Rattle.world_core.proofs.world.World.apply_all.Goals as goal
 
 pub loop-event-init : goal.loop-event-init

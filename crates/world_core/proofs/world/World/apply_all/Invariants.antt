@@ -2,7 +2,7 @@ use Rattle.std.proofs.Common.{◌≤◌, ◌+◌, length}
 use Rattle.std.specs.Vec.{vec_capacity, vec_len}
 use Rattle.dist_model.specs.World.{World as TheWorld}
 use Rattle.world_core.specs.Stands.{Stands}
-use Rattle.world_core.proofs.Going.{Going}
+use Rattle.world_core.proofs.Happened.{Going}
 use Rattle.world_core.proofs.world.World.apply_all.Given as goal
 
 -- the events so far are answered, and there is room for the answers to the others

@@ -8,7 +8,7 @@ use Rattle.erl_names.specs.declared.trunk.TrunkId.{TrunkId}
 use Rattle.node_core.specs.Model.{model_of}
 use Rattle.node_frames.specs.Frames.{framed}
 use Rattle.world_core.specs.Coming.{takes_from}
-use Rattle.world_core.proofs.Incoming.{arrivals_same}
+use Rattle.world_core.proofs.LeastArrival.{arrivals_same}
 use Rattle.world_core.proofs.world.World.next_arrival.Goals as goal
 use Rattle.world_lists.specs.Lists.{at, line_to}
 

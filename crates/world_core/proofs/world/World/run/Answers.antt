@@ -1,4 +1,4 @@
-use Rattle.world_core.proofs.Going.{ran_safely}
+use Rattle.world_core.proofs.Happened.{ran_safely}
 use Rattle.dist_model.specs.Runs.{opening}
 use Rattle.world_core.specs.Ran.{events_in}
 use Rattle.world_core.proofs.world.World.run.Goals as goal

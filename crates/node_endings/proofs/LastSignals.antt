@@ -28,6 +28,7 @@ use Rattle.node_changes.specs.declared.change.LinkChange.TheVariants as link
 use Rattle.node_changes.specs.declared.change.MonitorChange.TheVariants as monitor
 use Rattle.node_plans.specs.declared.plan.Plan.{Plan}
 use Rattle.node_endings.proofs.Free.{ends_free, watchers_free, watches_free}
+use Rattle.sorted_map.proofs.Orderings.{turned}
 
 -- ---- signals sent in a row
 
@@ -89,10 +90,6 @@ entries_removed ends k =
     ∙ find-where_key pair_cmp (λ y. not (eq_by_cmp pair_cmp y k)) x
     (λ y t. ap (λ z. not (eq_by_cmp pair_cmp z k)) (sym (pair_exact x y t))) (fm.entries ends))) in
     ap fm.entries same ∙ fm.entries-from_sorted pair_cmp (where_key pair_cmp (λ x. not (eq_by_cmp pair_cmp x k)) (fm.entries ends)) sorted
-  where
-    turned : {A : Type 0} (b : Bool) (x y : A) → cond b x y ≡ cond (not b) y x
-    turned true x y = refl
-    turned false x y = refl
 
 first_told : (f : Pid × End → List Signal) (b : Bool) (x : Pid × End) (rest : List (Pid × End))
     → flat_map f (cond b (x ∷ []) [] ++ rest) ≡ cond b (f x) [] ++ flat_map f rest

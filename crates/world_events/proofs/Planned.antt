@@ -23,7 +23,7 @@ use Rattle.erl_names.specs.declared.trunk.TrunkId.{TrunkId}
 use Rattle.erl_term.specs.declared.refusal.Refusal.{Refusal}
 use Rattle.node_arrivals.specs.Coming.{comes}
 use Rattle.node_arrivals.specs.Fronts.{Front}
-use Rattle.node_events.proofs.Doing.{done}
+use Rattle.node_events.proofs.PlanDone.{done}
 use Rattle.node_events.specs.Arrived.{PlansArrived, PlansFront, arrives, is_undialed}
 use Rattle.node_events.specs.Done.{Did, Does}
 use Rattle.node_events.specs.declared.arriving.PlannedArrival.{PlannedArrival}

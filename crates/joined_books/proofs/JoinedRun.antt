@@ -10,9 +10,9 @@ use Rattle.dist_books.specs.Merged as model
 use Rattle.dist_model.specs.Names.{Name}
 use Rattle.dist_model.specs.World.{Event, Report}
 use Rattle.joined_books.proofs.Agree.{IsModelOf, agree}
-use Rattle.joined_books.proofs.Assembling.{IsPlace, assembled, histories_rise, stamp_of}
+use Rattle.joined_books.proofs.OneRun.{IsPlace, assembled, histories_rise, stamp_of}
 use Rattle.joined_books.proofs.Carried.{BytesTell}
-use Rattle.joined_books.proofs.Naming.{distinct, name_is, part_mapped, some_of}
+use Rattle.joined_books.proofs.NodeNames.{distinct, name_is, part_mapped, some_of}
 use Rattle.joined_books.proofs.Ordered.{Rise, ordered}
 use Rattle.joined_books.proofs.Zipped.{Chosen, choose, part_beyond, part_of, past, zip_maps, zip_weaker}
 use Rattle.joined_books.specs.Joined.{AllReplay, AreARun, IsTrace, Shows}

@@ -13,7 +13,7 @@ use Rattle.erl_names.specs.Order.{trunk_cmp}
 use Rattle.erl_names.specs.declared.trunk.TrunkId.{TrunkId}
 use Rattle.erl_term.specs.declared.refusal.Refusal.{Refusal}
 use Rattle.node_book.proofs.BookedCalls.{found_first}
-use Rattle.node_book.proofs.Moving.{Moved}
+use Rattle.node_book.proofs.OutletMoves.{Moved}
 use Rattle.node_book.proofs.Places.{IsFirst, first_is, none_is}
 use Rattle.node_book.proofs.Ways.{none_behind}
 use Rattle.node_book.specs.Passing.{AtOutlet, IsStill, Puts, Takes, said, waits, with_outlet}
@@ -24,7 +24,7 @@ use Rattle.node_book.specs.declared.outlet.Outlet.{Outlet}
 use Rattle.node_history.specs.declared.entry.Entry.{Entry}
 use Rattle.node_history.specs.declared.history.History.{History}
 use Rattle.node_frames.specs.Frames.{Framed}
-use Rattle.node_ports.proofs.Streaming.{none_begun, parcels_append, take_all, take_more}
+use Rattle.node_ports.proofs.StreamsKept.{none_begun, parcels_append, take_all, take_more}
 use Rattle.node_ports.specs.Fetching.{Fetches}
 use Rattle.node_ports.specs.Ports.{EndsFull, PortSeen, first_of, flushed, next_piece, sending}
 use Rattle.node_ports.specs.Streams.{begun_marks, marks_of_parcels}

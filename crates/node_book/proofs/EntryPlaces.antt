@@ -3,7 +3,7 @@ use Rattle.std.proofs.Common.{◌≡◌, ℕ, false, true, List, None, Result, O
 use Rattle.dist_model.specs.Names.{Name}
 use Rattle.dist_model.specs.NodeEvents.{at_node}
 use Rattle.erl_term.specs.declared.refusal.Refusal.{Refusal}
-use Rattle.node_book.proofs.Booking.{HappensAt}
+use Rattle.node_book.proofs.KeptByEvents.{HappensAt}
 use Rattle.node_book.specs.Answers.{is_plain}
 use Rattle.node_core.specs.Model.{model_of}
 use Rattle.node_history.specs.Acts.{Knows}

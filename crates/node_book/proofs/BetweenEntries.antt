@@ -1,6 +1,6 @@
 -- Between two entries parcels move, and ports come.
 use Rattle.std.proofs.Common.{◌≡◌, ℕ, Bool, true, false, cond, Option, None, Some, List, [], ◌∷◌, ◌++◌, set, refl, sym, subst}
-use Rattle.node_ports.proofs.Carrying.{nothing_more}
+use Rattle.node_ports.proofs.SameItems.{nothing_more}
 use Rattle.dist_books.specs.Acting.{Nodes, name_at, opened_at}
 use Rattle.dist_books.specs.Books.{Book, Port, new_book}
 use Rattle.dist_books.specs.Growing.{BooksRest, Comes, Moves, NewBooksFollow}

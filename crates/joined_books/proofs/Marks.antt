@@ -8,7 +8,7 @@ use Rattle.std.proofs.lemmas.Grind.{get_or-set_at}
 use Rattle.std.proofs.lemmas.List.{get_or-set_other, take_more}
 use Rattle.std.proofs.lemmas.List.Elements.{All-append, All-contains, All-cons, All-nil}
 use Rattle.std.proofs.lemmas.List.Elements.{Contains-append_left, Contains-append_right, Contains-push}
-use Rattle.joined_books.proofs.Counting.{bit, count_append, count_cons, each_once, times}
+use Rattle.joined_books.proofs.EachOnce.{bit, count_append, count_cons, each_once, times}
 use Rattle.joined_books.specs.Marks.{AreMarked, IsStrange}
 
 module _ {X : Type 0} (place : X → ℕ) (Stands : X → Type 0) where

@@ -4,7 +4,7 @@ use Rattle.std.proofs.Common.{length, map, refl, sym, ap, ◌∙◌, add-one, ar
 use Rattle.std.specs.List.{AllWithin, count_by}
 use Rattle.std.proofs.lemmas.List.{take_more}
 use Rattle.std.proofs.lemmas.List.Elements.{AllWithin-more, at_read}
-use Rattle.joined_books.proofs.Counting.{bit, count_append, count_cons}
+use Rattle.joined_books.proofs.EachOnce.{bit, count_append, count_cons}
 
 module _ {X : Type 0} where
   pub all_next : (P : X → Type 0) (xs : List X) (i : ℕ) (x : X) → i < length xs → x ≡ get_or xs i x → AllWithin P xs 0 i → P x

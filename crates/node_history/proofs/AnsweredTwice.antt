@@ -16,14 +16,14 @@ use Rattle.dist_model.specs.declared.report.Answer.{Answer as Said}
 use Rattle.dist_model.specs.declared.report.Effect.{Effect}
 use Rattle.dist_model.specs.declared.report.Report.{Report}
 use Rattle.erl_term.specs.declared.refusal.Refusal.{Refusal}
-use Rattle.node_events.proofs.Doing.{done}
+use Rattle.node_events.proofs.PlanDone.{done}
 use Rattle.node_events.specs.Done.{Did, Does}
 use Rattle.node_core.specs.Model.{model_of}
 use Rattle.node_events.specs.declared.planned.Planned.{Planned}
 use Rattle.node_history.specs.Acts.{Knows}
 use Rattle.erl_term.specs.declared.term.Pid.{Pid}
 use Rattle.link_core.specs.declared.end.End.{End}
-use Rattle.node_history.proofs.Filling.{looks_not}
+use Rattle.node_history.proofs.ThereBefore.{looks_not}
 use Rattle.node_history.specs.Entering.{Answer, IsWanting, Tries, Writes}
 use Rattle.node_history.specs.Spares.{AreLinksOf, Fills, filled}
 use Rattle.node_history.specs.Telling.{Answers, IsPlainCopy, IsTold, IsTwice, placed}

@@ -15,7 +15,7 @@ use Rattle.node_frames.specs.Frames.{Framed}
 use Rattle.node_ports.specs.Fetching.{Fetches}
 use Rattle.node_ports.specs.Ports.{PortSeen, flushed, next_piece, sending}
 use Rattle.node_ports.specs.Standing.{FetchShifts, FlushShifts, ShiftsTo}
-use Rattle.node_ports.proofs.Carrying.{carry_snoc}
+use Rattle.node_ports.proofs.SameItems.{carry_snoc}
 use Rattle.wire_core.specs.Pieces.{PieceSeen}
 use Rattle.wire_core.specs.Spellings.{SpellsItem}
 use Rattle.wire_core.specs.declared.parcel.Parcel.{Parcel}

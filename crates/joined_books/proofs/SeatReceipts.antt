@@ -6,9 +6,9 @@ use Rattle.std.specs.List.{All, Contains, count_by}
 use Rattle.std.proofs.lemmas.Bool.Decides.{eqb_tells}
 use Rattle.std.proofs.lemmas.List.Elements.{All-nil, Contains-append_left, Contains-append_right}
 use Rattle.dist_books.proofs.Numbers.{in_or_out}
-use Rattle.joined_books.proofs.Counting.{count_cons}
-use Rattle.joined_books.proofs.Looping.{split_next, take_next}
-use Rattle.joined_books.proofs.Marking.{all_marked, none_marked, strange_more}
+use Rattle.joined_books.proofs.EachOnce.{count_cons}
+use Rattle.joined_books.proofs.OneMore.{split_next, take_next}
+use Rattle.joined_books.proofs.Marks.{all_marked, none_marked, strange_more}
 use Rattle.joined_books.proofs.Zipped.{part_beyond, part_of}
 use Rattle.joined_books.specs.Marks.{AreMarked, IsStrange}
 use Rattle.joined_books.specs.Parts.{entries_at}

@@ -20,8 +20,8 @@ use Rattle.node_core.specs.Model.{model_of}
 use Rattle.node_history.specs.Entering.{Enters}
 use Rattle.node_history.specs.declared.entry.Entry.{Entry}
 use Rattle.node_history.specs.declared.history.History.{History}
-use Rattle.node_book.proofs.Growing as growing
-use Rattle.node_book.proofs.Growing.{entered, feeds_grown, feeds_more, leaves_grown}
+use Rattle.node_book.proofs.OneEntryMore as one_more
+use Rattle.node_book.proofs.OneEntryMore.{entered, feeds_grown, feeds_more, leaves_grown}
 use Rattle.node_book.proofs.Places.{IsFirst, outlet_set}
 use Rattle.node_book.specs.Applying.{without_next}
 use Rattle.node_book.specs.Standing.{Feeds, FeedsAt, Stands, outlet_of}
@@ -106,16 +106,16 @@ module _ (grow : BooksGrow) (place : ℕ) (nodes : Nodes) (old new : History) (t
   own = name_at nodes place
 
   abbrev due : Outcome
-  due = growing.due grow place nodes old new (event.Arrive trunk word) (Some x.1) x.0 outlets below s e
+  due = one_more.due grow place nodes old new (event.Arrive trunk word) (Some x.1) x.0 outlets below s e
 
   abbrev took : Option (Way × List Stamped)
   took = Some ((trunk, own), x ∷ [])
 
   abbrev grown : TrunkId → Option Port → Option Port
-  grown = growing.grown grow place nodes old new (event.Arrive trunk word) (Some x.1) x.0 outlets below s e
+  grown = one_more.grown grow place nodes old new (event.Arrive trunk word) (Some x.1) x.0 outlets below s e
 
   abbrev entry : Entry
-  entry = growing.entry grow place nodes old new (event.Arrive trunk word) (Some x.1) x.0 outlets below s e
+  entry = one_more.entry grow place nodes old new (event.Arrive trunk word) (Some x.1) x.0 outlets below s e
 
   abbrev es : List Entry
   es = old.entries.items ++ entry ∷ []
@@ -129,8 +129,8 @@ module _ (grow : BooksGrow) (place : ℕ) (nodes : Nodes) (old new : History) (t
     abbrev LeavesAt : TrunkId → Option Port → Option Port → Type 0
     LeavesAt t =
         Leaves own (acting.sent_in due) took new.last t s.book.node
-        (growing.next_node grow place nodes old new (event.Arrive trunk word) (Some x.1) x.0 outlets below s e)
-        (meets (growing.now grow place nodes old new (event.Arrive trunk word) (Some x.1) x.0 outlets below s e) (Some x.1))
+        (one_more.next_node grow place nodes old new (event.Arrive trunk word) (Some x.1) x.0 outlets below s e)
+        (meets (one_more.now grow place nodes old new (event.Arrive trunk word) (Some x.1) x.0 outlets below s e) (Some x.1))
 
     off_here : off same_way (trunk, own) took ≡ x ∷ []
     off_here = ap (λ b. if b then x ∷ [] else []) (same_way_self (trunk, own))
@@ -183,7 +183,7 @@ module _ (grow : BooksGrow) (place : ℕ) (nodes : Nodes) (old new : History) (t
         (set outlets k (without_next o))
         (λ h. some_not_none x.1 h)
         (sym (ap
-        (λ d. taken_in (growing.now grow place nodes old new (event.Arrive trunk word) (Some x.1) x.0 outlets below s e) (Some x.1) d)
+        (λ d. taken_in (one_more.now grow place nodes old new (event.Arrive trunk word) (Some x.1) x.0 outlets below s e) (Some x.1) d)
         accepted))
         (one (λ y. y.0 < new.last) x (omega (arith, e.stamp)))
         (λ t. leaves t (same_trunk t trunk) refl)

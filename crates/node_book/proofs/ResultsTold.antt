@@ -14,7 +14,7 @@ use Rattle.node_book.specs.Answers.{is_accepted, trunk_in}
 use Rattle.node_book.specs.Applying.{DialsOut, Takes, TakesNothing, with_opened, without_next}
 use Rattle.node_book.specs.declared.outlet.Outlet.{Outlet}
 use Rattle.node_core.specs.Model.{model_of}
-use Rattle.node_history.proofs.Telling.{can_come}
+use Rattle.node_history.proofs.ReadByBytes.{can_come}
 use Rattle.node_history.specs.Entering.{IsWanting, Stays, Tries}
 use Rattle.node_history.specs.Kinds.{comes_here}
 use Rattle.node_history.specs.declared.history.History.{History}

@@ -5,8 +5,8 @@ use Rattle.script_lines.specs.Said.{Said}
 use Rattle.script_lines.specs.declared.line.Line.{Line}
 use Rattle.script_lines.specs.declared.reading.MayCome.{MayCome}
 use Rattle.script_lines.specs.declared.reason.Reason.{Reason}
-use Rattle.script_session.proofs.Coming.{node_comes_early}
-use Rattle.script_session.proofs.Leading.{plays_opens}
+use Rattle.script_session.proofs.NodesFirst.{node_comes_early}
+use Rattle.script_session.proofs.EventsLead.{plays_opens}
 use Rattle.script_session.specs.Session.{State, binds, does, is_taken, line_does, may_come, new_name, plays, says_does, starts}
 use Rattle.script_session.specs.Stands.{IsOpening, IsState, Plays, Steps}
 use Rattle.script_session.specs.declared.made.Made.{Made}

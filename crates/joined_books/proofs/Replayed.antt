@@ -25,7 +25,7 @@ use Rattle.joined_books.specs.Replayed.{HappensAgain}
 use Rattle.joined_books.specs.declared.trace.Placed.{Placed}
 use Rattle.node_book.specs.Seen.{BookSeen}
 use Rattle.node_history.specs.declared.entry.Entry.{Entry}
-use Rattle.world_core.proofs.Going.{goes_names}
+use Rattle.world_core.proofs.Happened.{goes_names}
 use Rattle.world_core.specs.Names.{are_distinct, name_at}
 use Rattle.world_core.specs.Ran.{Answered, Tells, event_at}
 use Rattle.world_core.specs.Stands.{Stands}

@@ -25,7 +25,7 @@ use Rattle.script_session.specs.Stage.{Scene, Stage, after, happens, play}
 use Rattle.script_session.specs.Stands.{IsLed, IsOpening}
 use Rattle.script_session.specs.Turns.{settles, takes_turn, turn}
 use Rattle.script_session.specs.declared.connections.Live.{Live}
-use Rattle.script_session.proofs.Coming.{node_comes_early}
+use Rattle.script_session.proofs.NodesFirst.{node_comes_early}
 use Rattle.script_terms.specs.Binding.{Look}
 use Rattle.script_texts.specs.Texts.{route_text}
 use Rattle.world_core.proofs.Reached.{reached_next}

@@ -17,11 +17,11 @@ use Rattle.node_core.specs.Model.{model_of}
 use Rattle.node_history.specs.Entering.{Answer, Ends, Enters, Stays, Tries}
 use Rattle.node_history.specs.declared.entry.Entry.{Entry}
 use Rattle.node_history.specs.declared.history.History.{History}
-use Rattle.node_book.proofs.Growing as growing
-use Rattle.node_book.proofs.Growing.{ends, entered_plainly, entered_refused}
-use Rattle.node_book.proofs.Opening.{accepted_dial, entered_dialing, opened_outlet}
+use Rattle.node_book.proofs.OneEntryMore as one_more
+use Rattle.node_book.proofs.OneEntryMore.{ends, entered_plainly, entered_refused}
+use Rattle.node_book.proofs.Dialed.{accepted_dial, entered_dialing, opened_outlet}
 use Rattle.node_book.proofs.Places.{IsFirst, first_is}
-use Rattle.node_book.proofs.Taking.{Waits, entered_taking, some_not_none, waits}
+use Rattle.node_book.proofs.ItemTaken.{Waits, entered_taking, some_not_none, waits}
 use Rattle.node_book.specs.Answers.{is_accepted, is_plain, trunk_answered, trunk_in, trunk_said}
 use Rattle.node_book.specs.Applying.{DialsOut, Takes, TakesNothing, with_opened, without_next}
 use Rattle.node_book.specs.Standing.{AreNodes, FeedsAt, IsBook, Stands, TellEntries, outlet_of}
@@ -111,7 +111,7 @@ happened grow names place cookie old new outlets what (Ok at) plain h kept = (
       let below = is_below names place cookie nodes a kept.0 in
       let s = kept.1 nodes a in
       entered_plainly grow place nodes old new what None 0 outlets below s e (plain_met own what plain)
-      (plain_takes own what (growing.due grow place nodes old new what None 0 outlets below s e))
+      (plain_takes own what (one_more.due grow place nodes old new what None 0 outlets below s e))
       (λ t peer d to. absurd (plain_dials own what peer d.0.0 plain d.0.1)),
 )
 happened grow names place cookie old new outlets what (Err e) plain h kept =
@@ -149,7 +149,7 @@ module _ (grow : BooksGrow) (names : List Name) (place : ℕ) (cookie : List ℕ
         (h.enters (names_of nodes) w.x.1 w.carries.spelled w.carries.bytes)
 
     abbrev due : Outcome
-    due = growing.due grow place nodes old new (event.Arrive trunk word) (Some w.x.1) w.x.0 outlets below s e
+    due = one_more.due grow place nodes old new (event.Arrive trunk word) (Some w.x.1) w.x.0 outlets below s e
 
     abbrev entry : Entry
     entry = record { stamp = new.last; event = event.Arrive trunk word; answer = e.answer }
@@ -205,7 +205,7 @@ module _ (grow : BooksGrow) (new_next : NextIsNew) (names : List Name) (place : 
     e2 = h.enters (names_of nodes) (ap (λ (l : List Name). has_name peer l) a.named ∙ known)
 
     abbrev due2 : Outcome
-    due2 = growing.due grow place nodes old new (event.Dial peer word) None 0 outlets below2 s2 e2
+    due2 = one_more.due grow place nodes old new (event.Dial peer word) None 0 outlets below2 s2 e2
 
     abbrev own : Name
     own = (model_of old.node).mint.name

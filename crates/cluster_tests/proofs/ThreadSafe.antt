@@ -1,6 +1,6 @@
 -- Any thread may call the nodes of a test.
 use denote.Param.Send.{IsSync, sendable}
-use Rattle.cluster_run.proofs.Crossing.{cluster_sync}
+use Rattle.cluster_run.proofs.ThreadSafe.{cluster_sync}
 use Rattle.cluster_run.specs.contracts.cluster.Cluster as cluster
 use Rattle.cluster_run.specs.contracts.gate.Open as ungated
 use Rattle.std.proofs.Crossing

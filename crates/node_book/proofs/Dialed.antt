@@ -29,8 +29,8 @@ use Rattle.node_history.specs.Entering.{Enters}
 use Rattle.node_history.specs.declared.entry.Entry.{Entry}
 use Rattle.node_history.specs.declared.history.History.{History}
 use Rattle.node_book.proofs.Counted.{counts_of}
-use Rattle.node_book.proofs.Growing as growing
-use Rattle.node_book.proofs.Growing.{entered, feeds_grown, grown_towards, leaves_grown, more}
+use Rattle.node_book.proofs.OneEntryMore as one_more
+use Rattle.node_book.proofs.OneEntryMore.{entered, feeds_grown, grown_towards, leaves_grown, more}
 use Rattle.node_book.proofs.Places.{outlet_push}
 use Rattle.node_book.proofs.Ways.{none_behind, place_snoc, waiting_snoc}
 use Rattle.node_book.specs.Standing.{Feeds, FeedsAt, Stands, outlet_of}
@@ -116,13 +116,13 @@ module _ (grow : BooksGrow) (new_next : NextIsNew) (place : ℕ) (nodes : Nodes)
   own = name_at nodes place
 
   abbrev due : Outcome
-  due = growing.due grow place nodes old new (event.Dial peer word) None 0 outlets below s e
+  due = one_more.due grow place nodes old new (event.Dial peer word) None 0 outlets below s e
 
   abbrev grown : TrunkId → Option Port → Option Port
-  grown = growing.grown grow place nodes old new (event.Dial peer word) None 0 outlets below s e
+  grown = one_more.grown grow place nodes old new (event.Dial peer word) None 0 outlets below s e
 
   abbrev entry : Entry
-  entry = growing.entry grow place nodes old new (event.Dial peer word) None 0 outlets below s e
+  entry = one_more.entry grow place nodes old new (event.Dial peer word) None 0 outlets below s e
 
   abbrev es : List Entry
   es = old.entries.items ++ entry ∷ []
@@ -159,8 +159,8 @@ module _ (grow : BooksGrow) (new_next : NextIsNew) (place : ℕ) (nodes : Nodes)
     abbrev LeavesAt : TrunkId → Option Port → Option Port → Type 0
     LeavesAt t =
         Leaves own (acting.sent_in due) None new.last t s.book.node
-        (growing.next_node grow place nodes old new (event.Dial peer word) None 0 outlets below s e)
-        (meets (growing.now grow place nodes old new (event.Dial peer word) None 0 outlets below s e) None)
+        (one_more.next_node grow place nodes old new (event.Dial peer word) None 0 outlets below s e)
+        (meets (one_more.now grow place nodes old new (event.Dial peer word) None 0 outlets below s e) None)
 
     leaves_here : LeavesAt t0 None (Some opened)
     leaves_here = (
@@ -210,7 +210,7 @@ module _ (grow : BooksGrow) (new_next : NextIsNew) (place : ℕ) (nodes : Nodes)
     entered_dialing =
         entered grow place nodes old new (event.Dial peer word) None 0 outlets below s e None ports (outlets ++ outlet ∷ [])
         tt (sym (ap
-        (λ d. acting.taken_in (growing.now grow place nodes old new (event.Dial peer word) None 0 outlets below s e) None d)
+        (λ d. acting.taken_in (one_more.now grow place nodes old new (event.Dial peer word) None 0 outlets below s e) None d)
         accepted)) tt
         (λ t. leaves t (same_trunk t t0) refl)
         (λ t q d h. towards t q d)

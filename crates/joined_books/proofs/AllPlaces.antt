@@ -1,7 +1,7 @@
 -- The places of all entries, one more, and those of one node more.
 use Rattle.std.proofs.Common.{◌≡◌, ℕ, ◌+◌, ◌<◌, ◌≤◌, List, [], ◌∷◌, ◌++◌, get_or, length, map, sym, ap, ◌∙◌, append_assoc, arith, take}
 use Rattle.std.proofs.lemmas.List.{length-map, length-take-le}
-use Rattle.joined_books.proofs.Looping.{map_push, take_next}
+use Rattle.joined_books.proofs.OneMore.{map_push, take_next}
 use Rattle.joined_books.proofs.Ordered.{all_push, places_push}
 use Rattle.joined_books.specs.Parts.{stamps_in, stamps_of}
 use Rattle.joined_books.specs.Places.{all_places, places_from}
