@@ -27,7 +27,7 @@ use Rattle.dist_model.specs.Runs.{Goes, Runs, opening}
 use Rattle.dist_model.specs.Sides.{TrunkSide, is_over}
 use Rattle.dist_model.specs.Work.{Work, at_work}
 use Rattle.dist_model.specs.World as model
-use Rattle.dist_model.specs.World.{Arrive, Event, Report, World, came_of, carried, first_of, list_to}
+use Rattle.dist_model.specs.World.{Arrive, Event, Report, World, came_of, first_of, list_to}
 use Rattle.dist_model.specs.World.{met, node_name, node_of, refused, rest_of, step, step_at}
 use Rattle.dist_model.specs.declared.report.Answer.{Answer}
 use Rattle.dist_model.specs.declared.report.Effect.{Effect}

@@ -1,6 +1,6 @@
 //! What an item is, told by its bytes.
-ghost use Rattle.std.specs.Prelude.{◌≡◌, if◌then◌else◌};
-ghost use Rattle.item_kinds.specs.Kinds.{byte_at, frame_kind, is_message, kind_in, message_kind, named_kind, number_at, signal_kind};
+ghost use Rattle.std.specs.Prelude.{◌≡◌};
+ghost use Rattle.item_kinds.specs.Kinds.{byte_at, frame_kind, kind_in, message_kind, named_kind, number_at, signal_kind};
 
 use dist_model::Kind;
 

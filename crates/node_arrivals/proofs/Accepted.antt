@@ -8,7 +8,7 @@ use Rattle.dist_model.specs.Handshake.{acceptor_hears, acceptor_side, after_answ
 use Rattle.dist_model.specs.Handshake.{dialer_side, fault, handshake_at, identity, on_verdict}
 use Rattle.dist_model.specs.Items.{Item, kind_of}
 use Rattle.dist_model.specs.Keeping.{IsAccepted}
-use Rattle.dist_model.specs.Sides.{Accepting, Asked, AwaitsAck, AwaitsChallenge, AwaitsStatus, Gone, Losing, Parked, State, TrunkSide, Up}
+use Rattle.dist_model.specs.Sides.{Accepting, Asked, AwaitsAck, AwaitsChallenge, AwaitsStatus, State, TrunkSide}
 use Rattle.dist_model.specs.Taking.{take_item}
 use Rattle.dist_model.specs.Work.{Work}
 use Rattle.dist_model.specs.declared.report.Answer.{Answer}

@@ -2,7 +2,7 @@
 ghost use Rattle.std.specs.Prelude.{◌≡◌};
 ghost use Rattle.dist_model.specs.Arrivals as arrivals;
 ghost use Rattle.dist_model.specs.Items.{Signalled};
-ghost use Rattle.erl_control.specs.Ends.{receiver_of, sender_of};
+ghost use Rattle.erl_control.specs.Ends.{sender_of};
 ghost use Rattle.node_plans.specs.Seen.{seen};
 ghost use Rattle.node_sides.specs.Standings.{side_of};
 

@@ -4,7 +4,7 @@ use Rattle.std.proofs.Common.{Some, List, [], ◌∷◌, ◌++◌, inr, is_some,
 use Rattle.std.specs.FinMap as fm
 use Rattle.world_core.proofs.Stepped.{refused_or}
 use Rattle.dist_books.specs.Acting as acting
-use Rattle.dist_books.specs.Acting.{Nodes, Way, meets, name_at, names_of, same_way}
+use Rattle.dist_books.specs.Acting.{Nodes, meets, name_at, names_of, same_way}
 use Rattle.dist_books.specs.Books.{Port, Stamped}
 use Rattle.dist_books.specs.Growing.{BooksGrow, IsTowards, Leaves, NextIsNew}
 use Rattle.dist_model.proofs.Keys.{same_name_is, same_trunk, same_trunk_is, same_trunk_refl, same_trunk_true, trunk_total}
@@ -30,7 +30,7 @@ use Rattle.node_history.specs.declared.entry.Entry.{Entry}
 use Rattle.node_history.specs.declared.history.History.{History}
 use Rattle.node_book.proofs.Counted.{counts_of}
 use Rattle.node_book.proofs.OneEntryMore as one_more
-use Rattle.node_book.proofs.OneEntryMore.{entered, feeds_grown, grown_towards, leaves_grown, more}
+use Rattle.node_book.proofs.OneEntryMore.{entered, feeds_grown, leaves_grown, more}
 use Rattle.node_book.proofs.Places.{outlet_push}
 use Rattle.node_book.proofs.Ways.{none_behind, place_snoc, waiting_snoc}
 use Rattle.node_book.specs.Standing.{Feeds, FeedsAt, Stands, outlet_of}

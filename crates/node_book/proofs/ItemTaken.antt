@@ -21,7 +21,7 @@ use Rattle.node_history.specs.Entering.{Enters}
 use Rattle.node_history.specs.declared.entry.Entry.{Entry}
 use Rattle.node_history.specs.declared.history.History.{History}
 use Rattle.node_book.proofs.OneEntryMore as one_more
-use Rattle.node_book.proofs.OneEntryMore.{entered, feeds_grown, feeds_more, leaves_grown}
+use Rattle.node_book.proofs.OneEntryMore.{entered, feeds_grown}
 use Rattle.node_book.proofs.Places.{IsFirst, outlet_set}
 use Rattle.node_book.specs.Applying.{without_next}
 use Rattle.node_book.specs.Standing.{Feeds, FeedsAt, Stands, outlet_of}

@@ -1,5 +1,5 @@
 //! A process links itself to another, and takes its link back.
-ghost use Rattle.std.specs.Prelude.{◌≡◌, ◌≤◌, true, false};
+ghost use Rattle.std.specs.Prelude.{◌≡◌, ◌≤◌, true};
 ghost use Rattle.dist_model.specs.Calls.{call};
 ghost use Rattle.dist_model.specs.Linking as linking;
 ghost use Rattle.dist_model.specs.Node as model;
@@ -8,7 +8,6 @@ ghost use Rattle.dist_model.specs.Work.{Work, at_work};
 ghost use Rattle.dist_model.specs.declared.command.Command.TheVariants as command;
 ghost use Rattle.dist_model.specs.declared.report.Answer.TheVariants as answer;
 ghost use Rattle.erl_names.specs.Draw as kind;
-ghost use Rattle.erl_names.specs.Minted.{id_of};
 ghost use Rattle.link_core.specs.Table.{is_active};
 ghost use Rattle.node_plans.specs.Planned.{Plans};
 ghost use Rattle.node_plans.specs.Carried.{Carries, CarriesOut, IsBlank};

@@ -1,5 +1,5 @@
 //! A process monitors another, and takes that back.
-ghost use Rattle.std.specs.Prelude.{◌≡◌, ◌+◌, ◌-◌, ◌^◌, ◌<◌, true, IfOk, OnOk};
+ghost use Rattle.std.specs.Prelude.{◌≡◌, ◌+◌, ◌-◌, ◌^◌, ◌<◌, true, OnOk};
 ghost use Rattle.dist_model.specs.Calls.{call};
 ghost use Rattle.dist_model.specs.Monitoring as monitoring;
 ghost use Rattle.dist_model.specs.Node.{Node as TheNode};

@@ -17,7 +17,7 @@ use Rattle.dist_model.specs.Losses.{lose, lose_at}
 use Rattle.dist_model.specs.Node.{Node}
 use Rattle.dist_model.specs.NodeEvents.{Arrive, Lose, NodeEvent, at_node, if_up}
 use Rattle.dist_model.specs.Sides as state
-use Rattle.dist_model.specs.Sides.{State, TrunkSide, is_over, lost, unheard}
+use Rattle.dist_model.specs.Sides.{State, TrunkSide, is_over, lost}
 use Rattle.dist_model.specs.Work.{Work, at_work}
 use Rattle.dist_model.specs.declared.report.Answer.{Answer}
 use Rattle.erl_handshake.specs.declared.fault.ShakeFault.{ShakeFault}

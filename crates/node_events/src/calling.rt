@@ -1,9 +1,9 @@
 //! A caller's command is planned.
-ghost use Rattle.std.specs.Prelude.{◌≡◌, IfOk, List, MatchResult, true};
+ghost use Rattle.std.specs.Prelude.{◌≡◌, IfOk, List, MatchResult};
 ghost use Rattle.dist_model.specs.Calls.{call};
 ghost use Rattle.dist_model.specs.Names.{Name};
 ghost use Rattle.dist_model.specs.NodeEvents as event;
-ghost use Rattle.dist_model.specs.NodeEvents.{NodeEvent, at_node, if_up};
+ghost use Rattle.dist_model.specs.NodeEvents.{at_node, if_up};
 ghost use Rattle.dist_model.specs.Work.{at_work};
 ghost use Rattle.dist_model.specs.declared.report.Answer.TheVariants as answer;
 ghost use Rattle.node_events.specs.Suiting.{Suits};

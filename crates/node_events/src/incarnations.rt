@@ -1,5 +1,5 @@
 //! A node stops, and starts again.
-ghost use Rattle.std.specs.Prelude.{◌≡◌, List};
+ghost use Rattle.std.specs.Prelude.{List};
 ghost use Rattle.dist_model.specs.Names.{Name};
 ghost use Rattle.dist_model.specs.NodeEvents as event;
 ghost use Rattle.dist_model.specs.NodeEvents.{at_node};

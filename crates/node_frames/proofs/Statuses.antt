@@ -1,5 +1,5 @@
 -- The text of a status is short.
-use Rattle.std.proofs.Common.{ℕ, ◌≤◌, length, arith}
+use Rattle.std.proofs.Common.{◌≤◌, length, arith}
 use Rattle.erl_handshake.specs.Messages.{status_text}
 use Rattle.erl_handshake.specs.declared.status.Status.{Status}
 

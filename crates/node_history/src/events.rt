@@ -1,5 +1,5 @@
 //! What the thread of a node does is written down.
-ghost use Rattle.std.specs.Prelude.{◌≡◌, List};
+ghost use Rattle.std.specs.Prelude.{List};
 ghost use Rattle.dist_model.specs.Names.{Name};
 ghost use Rattle.dist_model.specs.NodeEvents as model;
 ghost use Rattle.dist_model.specs.NodeEvents.{at_node};

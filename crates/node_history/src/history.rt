@@ -1,5 +1,5 @@
 //! A node with its history.
-ghost use Rattle.std.specs.Prelude.{◌≡◌, ◌+◌, ◌<◌, IfOk, IfErr, OnOk, max, vec_len, vec_capacity, [], true};
+ghost use Rattle.std.specs.Prelude.{◌≡◌, ◌+◌, ◌<◌, IfOk, IfErr, OnOk, max, vec_len, vec_capacity, []};
 ghost use Rattle.node_core.specs.Model.{model_of};
 ghost use Rattle.node_history.specs.Entering.{IsWanting, Writes, is_unwritten};
 

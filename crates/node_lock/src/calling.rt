@@ -1,5 +1,5 @@
 //! What a caller asks for.
-ghost use Rattle.std.specs.Prelude.{◌≡◌, ◌↔◌, ◌++◌, ◌∷◌, [], IfErr, IfOk, IsTrue};
+ghost use Rattle.std.specs.Prelude.{◌≡◌, ◌↔◌, IfErr, IfOk, IsTrue};
 ghost use Rattle.node_lock.specs.Calling.{Calls, IsAtHome, IsUncalled, stamp_at};
 
 use crate::act::Act;

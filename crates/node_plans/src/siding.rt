@@ -1,5 +1,5 @@
 //! What is planned of the sides.
-ghost use Rattle.std.specs.Prelude.{◌≡◌, ◌<◌, ◌-◌, ◌^◌, Some, false};
+ghost use Rattle.std.specs.Prelude.{◌≡◌, ◌<◌, ◌-◌, ◌^◌, false};
 ghost use Rattle.dist_model.specs.Dialing.{draw_trunk};
 ghost use Rattle.dist_model.specs.Handshake.{write};
 ghost use Rattle.dist_model.specs.Node.{Node as TheNode};

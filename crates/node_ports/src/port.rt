@@ -1,5 +1,5 @@
 //! A node's end of a connection.
-ghost use Rattle.std.specs.Prelude.{◌≡◌, ◌⊎◌, ◌+◌, ◌<◌, ◌^◌, ◌≤◌, ◌↔◌, [], ◌∷◌, ◌++◌, IfOk, IfErr, IfSome, IsTrue, OnErr, Some, None, drop, length, take, is_none, true, false, Ok};
+ghost use Rattle.std.specs.Prelude.{◌≡◌, ◌⊎◌, ◌+◌, ◌<◌, ◌^◌, ◌≤◌, ◌↔◌, [], IfOk, IfSome, IsTrue, OnErr, Some, None, drop, length, take, is_none, true, false, Ok};
 ghost use Rattle.std.specs.Option.{option_copied};
 ghost use Rattle.node_ports.specs.Fetching.{Fetches, IsWhole};
 ghost use Rattle.node_ports.specs.Ports.{EndsFull, behind_first, first_of, flushed, fresh, sending, with_greatest, with_slot};

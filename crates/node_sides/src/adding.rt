@@ -1,5 +1,5 @@
 //! A side comes, or stands otherwise.
-ghost use Rattle.std.specs.Prelude.{◌≡◌, ◌+◌, ◌≤◌, ℕ, suc, true, false, None};
+ghost use Rattle.std.specs.Prelude.{◌≡◌, ◌≤◌, ℕ, suc, true, false, None};
 ghost use Rattle.std.specs.FinMap as fm;
 ghost use Rattle.conn_core.specs.declared.standing.Standing.TheVariants as standing;
 ghost use Rattle.dist_model.specs.Sides.{is_up as is_up_state};

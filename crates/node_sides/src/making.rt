@@ -1,5 +1,5 @@
 //! A change of the sides is made.
-ghost use Rattle.std.specs.Prelude.{◌≡◌, ◌+◌, ◌≤◌, ℕ};
+ghost use Rattle.std.specs.Prelude.{◌≡◌, ◌+◌, ℕ};
 ghost use Rattle.node_sides.specs.Changes.{routes_added, side_changed, sides_added, SideFits};
 ghost use Rattle.node_sides.specs.Sides.{sides, HasRouteRoom, HasSideRoom};
 

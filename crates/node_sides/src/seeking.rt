@@ -1,5 +1,5 @@
 //! The first side that is sought.
-ghost use Rattle.std.specs.Prelude.{◌≡◌, ◌<◌, ◌≤◌, length, filter, All};
+ghost use Rattle.std.specs.Prelude.{◌≡◌, ◌<◌, length, filter, All};
 ghost use Rattle.std.specs.List.{slice_get};
 ghost use Rattle.std.specs.Option.{option_copied, option_map};
 ghost use Rattle.dist_model.specs.Node.{side_where};

@@ -1,5 +1,5 @@
 //! A node stops.
-ghost use Rattle.std.specs.Prelude.{◌≡◌, ◌+◌, ◌≤◌, ℕ, [], map};
+ghost use Rattle.std.specs.Prelude.{◌≡◌, ℕ, map};
 ghost use Rattle.std.specs.FinMap as fm;
 ghost use Rattle.dist_model.specs.Incarnations.{all_gone};
 ghost use Rattle.node_sides.specs.Sides.{sides, HasRouteRoom, HasSideRoom};

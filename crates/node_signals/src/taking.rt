@@ -17,7 +17,7 @@ ghost use Rattle.node_plans.specs.Plans.{told};
 ghost use Rattle.node_plans.specs.Seen.{seen};
 
 use erl_control::Signal;
-use erl_term::{Payload, Pid, Reference};
+use erl_term::{Payload, Pid};
 use exit_core::down_message;
 use link_core::LinkSignal;
 use monitor_core::Monitor;

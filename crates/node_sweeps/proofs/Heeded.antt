@@ -36,7 +36,7 @@ use Rattle.node_plans.specs.declared.plan.Plan.{Plan}
 use Rattle.node_sweeps.specs.Ahead.{IsBefore, IsBehindAll, NoneLinkedUpTo, NoneOwnedBefore, NoneWatchedBefore}
 use Rattle.node_tables.specs.Becomes.{becomes, end_changed}
 use Rattle.node_tables.specs.declared.end_change.EndChange.{EndChange}
-use Rattle.node_tables.specs.declared.end_change.EndChange.TheVariants.{Links, Unlinks, Receives, Exits}
+use Rattle.node_tables.specs.declared.end_change.EndChange.TheVariants.{Links, Receives}
 
 second : (a b : Bool) → (a && b) ≡ false → a ≡ true → b ≡ false
 second true b h t = h

@@ -1,9 +1,9 @@
 //! A record is swept, and its side closed once none is left.
 ghost use Rattle.std.specs.Prelude.{◌≡◌, None, Some, true, OnOk};
 ghost use Rattle.std.specs.FinMap as fm;
-ghost use Rattle.dist_model.specs.Losses.{close_if_swept, link_to, sweep_end, sweep_record, watch_to};
+ghost use Rattle.dist_model.specs.Losses.{close_if_swept, link_to, sweep_record, watch_to};
 ghost use Rattle.dist_model.specs.Losses as model_record;
-ghost use Rattle.dist_model.specs.Node.{Node as TheNode, living};
+ghost use Rattle.dist_model.specs.Node.{Node as TheNode};
 ghost use Rattle.dist_model.specs.Sides.{is_losing};
 ghost use Rattle.dist_model.specs.Work.{Work, at_work};
 ghost use Rattle.dist_model.specs.declared.report.Answer.TheVariants as the_answer;

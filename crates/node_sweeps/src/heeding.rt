@@ -1,5 +1,5 @@
 //! What a plan does to a sweep that is under way.
-ghost use Rattle.std.specs.Prelude.{◌≡◌, true, false};
+ghost use Rattle.std.specs.Prelude.{◌≡◌, false};
 ghost use Rattle.dist_model.specs.Node.{Node as TheNode};
 ghost use Rattle.node_plans.specs.Plans.{committed};
 ghost use Rattle.node_sweeps.specs.Ahead.{IsAhead};

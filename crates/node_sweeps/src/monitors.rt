@@ -1,5 +1,5 @@
 //! The first monitors towards a peer.
-ghost use Rattle.std.specs.Prelude.{◌≡◌, Some, false};
+ghost use Rattle.std.specs.Prelude.{◌≡◌};
 ghost use Rattle.std.specs.FinMap as fm;
 ghost use Rattle.std.specs.Option.{option_copied};
 ghost use Rattle.dist_model.specs.Losses.{registered_by, watch_to};

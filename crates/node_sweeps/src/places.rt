@@ -1,5 +1,5 @@
 //! Places among monitors in the order of their references.
-ghost use Rattle.std.specs.Prelude.{◌≡◌, ◌≤◌, T, length};
+ghost use Rattle.std.specs.Prelude.{◌≤◌, T, length};
 ghost use Rattle.std.specs.FinMap as fm;
 ghost use Rattle.std.specs.List.{AllWithin};
 ghost use Rattle.std.specs.Option.{option_copied};

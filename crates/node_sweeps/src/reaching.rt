@@ -1,7 +1,6 @@
 //! How far a sweep has come once a record is swept.
 ghost use Rattle.std.specs.Prelude.{◌≡◌, Some, None, IfOk};
 ghost use Rattle.std.specs.FinMap as fm;
-ghost use Rattle.std.specs.Option.{option_copied};
 ghost use Rattle.dist_model.specs.Losses.{link_to, watch_to};
 ghost use Rattle.node_plans.specs.Seen.{seen};
 ghost use Rattle.node_sweeps.specs.Ahead.{IsAhead, NoneOwnedBefore};

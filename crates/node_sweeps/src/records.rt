@@ -1,5 +1,5 @@
 //! The records towards a peer, and the least of them.
-ghost use Rattle.std.specs.Prelude.{◌≡◌, ◌≤◌, true, false, Some};
+ghost use Rattle.std.specs.Prelude.{◌≡◌, true, Some};
 ghost use Rattle.std.specs.FinMap as fm;
 ghost use Rattle.std.specs.Option.{option_map};
 ghost use Rattle.dist_model.specs.Losses.{least_record, link_to};

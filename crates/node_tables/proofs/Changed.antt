@@ -6,12 +6,11 @@ use Rattle.std.specs.List.{slice_get}
 use Rattle.std.specs.Option.{option_map, option_and_then}
 use Rattle.erl_names.specs.Draw.{Draw}
 use Rattle.erl_names.specs.Draw as draw
-use Rattle.std.specs.Ordering.{is_eq, eq_by_cmp}
 use Rattle.std.specs.FinMap as fm
 use Rattle.std.specs.FinMap.{FinMap}
 use Rattle.dist_model.proofs.Keys.{pid_exact, pid_total, pair_exact, pair_total, same_pair, same_name_refl, same_pid_true}
 use Rattle.dist_model.specs.Names.{pair_cmp, same_pid}
-use Rattle.dist_model.specs.Node.{Life as ModelLife, is_living_life}
+use Rattle.dist_model.specs.Node.{Life as ModelLife}
 use Rattle.dist_model.specs.Node as model
 use Rattle.dist_model.specs.Work.{set_in, set_life}
 use Rattle.erl_names.specs.Ids.{pid_of}

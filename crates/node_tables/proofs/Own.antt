@@ -1,8 +1,7 @@
 -- The pid of a process that is there is one of this incarnation.
-use Rattle.std.proofs.Common.{◌≡◌, ◌≢◌, ℕ, zero, suc, ◌<◌, ◌≤◌, ◌-◌, ◌+◌, Bool, true, cond}
-use Rattle.std.proofs.Common.{List, Option, None, ◌∷◌, [], length, refl, sym, ap, ◌∙◌, arith}
+use Rattle.std.proofs.Common.{◌≡◌, ℕ, zero, suc, ◌<◌, ◌-◌, Bool, true, cond}
+use Rattle.std.proofs.Common.{List, None, length, refl, sym, arith}
 use Rattle.std.proofs.lemmas.Bool.{and_parts, eqb-true}
-use Rattle.std.specs.List.{slice_get}
 use Rattle.dist_model.proofs.Keys.{same_name_true}
 use Rattle.std.proofs.lemmas.Option.{slice_get_past}
 use Rattle.erl_names.specs.Minted.{Minted}

@@ -11,7 +11,6 @@ ghost use Rattle.erl_term.specs.declared.term.Pid.{Pid as ThePid};
 ghost use Rattle.link_core.specs.declared.end.End.{End as TheEnd};
 ghost use Rattle.node_tables.specs.Held.{ends};
 ghost use Rattle.node_tables.specs.Linked.{IsFirstLinked, NoneLinked, link_at};
-ghost use Rattle.node_tables.specs.Lives.{links_of};
 
 use crate::incarnation::Incarnation;
 use crate::life::Life;

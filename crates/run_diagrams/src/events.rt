@@ -6,7 +6,7 @@ ghost use Rattle.run_diagrams.specs.Recording.{Adds, IsRecorded, IsRowFor, IsRow
 
 use crate::labels::put_label;
 use crate::names::ProcessNames;
-use crate::notes::{lost, of_answer, of_effect, of_reply};
+use crate::notes::{lost, of_answer, of_effect};
 use crate::queues::Ways;
 use crate::recorder::{Recorder, place_of};
 use crate::row::{put_refusal, put_reply, put_words};

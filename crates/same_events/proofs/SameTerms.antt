@@ -3,7 +3,7 @@ use Rattle.std.proofs.Common.{◌≡◌, ℕ, ◌<◌, length, get_or, List, [],
 use Rattle.std.specs.Prelude.{Bool, Option, Some, None, Box, IsTrue, ◌↔◌}
 use Rattle.std.specs.declared.alloc.Global.{Global}
 use Rattle.std.specs.Global.{Vec}
-use Rattle.erl_term.specs.Data.{Data, Items, improper, item, list, no_items, tuple}
+use Rattle.erl_term.specs.Data.{Data, improper, list, tuple}
 use Rattle.erl_term.specs.View.{items_of, items_view, view}
 use Rattle.erl_term.specs.declared.term.Term.{Term}
 use Rattle.erl_term.specs.declared.term.Term.TheVariants as term

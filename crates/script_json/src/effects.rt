@@ -1,5 +1,5 @@
 //! What an event brought about, in JSON.
-ghost use Rattle.std.specs.Prelude.{◌≡◌, IfOk, map};
+ghost use Rattle.std.specs.Prelude.{◌≡◌, IfOk};
 ghost use Rattle.std.specs.Option.{option_copied};
 ghost use Rattle.dist_model.specs.declared.report.Effect.{Effect as TheEffect};
 ghost use Rattle.item_kinds.specs.Kinds.{kind_in};

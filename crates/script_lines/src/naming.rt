@@ -1,6 +1,5 @@
 //! What the words of a line name.
-ghost use Rattle.std.specs.Prelude.{◌≡◌, ◌&&◌, Option};
-ghost use Rattle.std.specs.Option.{option_copied};
+ghost use Rattle.std.specs.Prelude.{◌≡◌, ◌&&◌};
 ghost use Rattle.script_lines.specs.Naming.{demonitor_named, formed, free_in, is_cookie, is_cookie_length, is_printable, monitor_named, node_formed, nodes_formed, process_in, process_named, processes_named, reference_in, spawn_formed, switch_named, term_read};
 ghost use Rattle.script_lines.specs.Words.{Answers};
 ghost use Rattle.script_terms.specs.Binding.{Look, Knows};

@@ -15,13 +15,13 @@ use Rattle.script_lines.specs.Said.{Said}
 use Rattle.script_lines.specs.Said as says
 use Rattle.script_lines.specs.declared.reason.Reason.{Reason}
 use Rattle.script_session.specs.Connections as connections
-use Rattle.script_session.specs.Connections.{Lost, arrives, coming_to, cuts, delivers, lose, lose_all}
-use Rattle.script_session.specs.Connections.{lose_at, lose_live, lose_on, live_sides, is_any, loses, routes}
+use Rattle.script_session.specs.Connections.{arrives, coming_to, lose, lose_all}
+use Rattle.script_session.specs.Connections.{lose_at, lose_live, lose_on, live_sides, is_any}
 use Rattle.script_session.specs.Pairs.{pair_nodes, pair_plays, pair_stage}
 use Rattle.script_session.specs.Session.{State, asks, does, is_taken, joined, line_does}
 use Rattle.script_session.specs.Session.{may_come, moves, plays, plays_as, says_does, starts}
 use Rattle.script_session.specs.Stage as stage
-use Rattle.script_session.specs.Stage.{Scene, Stage, after, happens, play}
+use Rattle.script_session.specs.Stage.{Scene, Stage, after, play}
 use Rattle.script_session.specs.Stands.{IsLed, IsOpening}
 use Rattle.script_session.specs.Turns.{settles, takes_turn, turn}
 use Rattle.script_session.specs.declared.connections.Live.{Live}

@@ -1,5 +1,5 @@
 //! What there is to see of the nodes and their processes.
-ghost use Rattle.std.specs.Prelude.{◌≡◌, ◌++◌, List, OnOk, map, string_bytes};
+ghost use Rattle.std.specs.Prelude.{◌≡◌, ◌++◌, OnOk, string_bytes};
 ghost use Rattle.std.specs.FinMap as fm;
 ghost use Rattle.std.specs.List.{flat_map};
 ghost use Rattle.std.specs.Option.{option_copied, option_map};
@@ -7,7 +7,7 @@ ghost use Rattle.dist_model.specs.World.{World as TheWorld};
 ghost use Rattle.erl_names.specs.Ids.{pid_of};
 ghost use Rattle.node_core.specs.Model.{model_of};
 ghost use Rattle.node_tables.specs.Lives.{life_of};
-ghost use Rattle.script_session.specs.Shown.{pids_of, process_text, processes_text, shown_life, shown_node, shown_world};
+ghost use Rattle.script_session.specs.Shown.{pids_of, process_text, shown_life, shown_node, shown_world};
 ghost use Rattle.world_core.specs.Stands.{Stands};
 
 use erl_term::Pid;

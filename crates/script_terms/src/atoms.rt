@@ -1,5 +1,5 @@
 //! Atoms: bare words, and texts between quotes.
-ghost use Rattle.std.specs.Prelude.{◌≡◌, ◌≤◌, true, ◌++◌, IfSome, IfOk, is_some, length, encode_utf8};
+ghost use Rattle.std.specs.Prelude.{◌≡◌, ◌≤◌, true, IfSome, IfOk, is_some, length, encode_utf8};
 ghost use Rattle.std.specs.Str.{chars};
 ghost use Rattle.erl_term.specs.Text.{is_atom_text};
 ghost use Rattle.std.specs.Str.Parse.{digits_value};

@@ -1,5 +1,4 @@
 //! The next byte of a text.
-ghost use Rattle.std.specs.Prelude.{◌≡◌};
 ghost use Rattle.script_terms.specs.Reading.{Answers, next_at, mark_at};
 
 use crate::fault::TermFault;

@@ -1,5 +1,4 @@
 //! Lists: what stands behind an item.
-ghost use Rattle.std.specs.Prelude.{◌≡◌};
 ghost use Rattle.script_terms.specs.Reading.{Answers};
 ghost use Rattle.script_terms.specs.Steps.{step_at, tail_step_at, marks_at};
 

@@ -1,5 +1,5 @@
 //! The names of a script.
-ghost use Rattle.std.specs.Prelude.{◌≡◌, ◌≤◌, ◌<◌, ◌+◌, None, OnOk, OnErr, IsOk, option_copied};
+ghost use Rattle.std.specs.Prelude.{◌≡◌, ◌≤◌, ◌<◌, None, OnOk, OnErr, option_copied};
 ghost use Rattle.std.specs.String.{string_bytes};
 ghost use Rattle.script_terms.specs.Binding.{Look, Knows, with_name, room};
 ghost use Rattle.script_terms.specs.Reading.{Answers, named_at};

@@ -1,5 +1,5 @@
 //! Reading a term from a text.
-ghost use Rattle.std.specs.Prelude.{◌≡◌, ◌^◌, ◌<◌, true, IfOk, MatchResult, Ok, length, map};
+ghost use Rattle.std.specs.Prelude.{◌≡◌, ◌<◌, true, IfOk, MatchResult, Ok, length, map};
 ghost use Rattle.erl_term.specs.Data.{atom};
 ghost use Rattle.erl_term.specs.Text.{is_atom_text};
 ghost use Rattle.erl_term.specs.Data as terms;

@@ -1,7 +1,7 @@
 //! Words: the runs of letters and digits in a term.
 ghost use Rattle.std.specs.Prelude.{◌≡◌, drop};
 ghost use Rattle.std.specs.List.{take_while, prefix_len};
-ghost use Rattle.script_terms.specs.Words.{is_of_kind, is_lower, is_digit, is_name_byte, is_atom_byte, is_name, is_bare};
+ghost use Rattle.script_terms.specs.Words.{is_of_kind, is_name_byte, is_atom_byte, is_name, is_bare};
 
 /// What a word is made of.
 #[derive(Clone, Copy, Debug)]

@@ -4,7 +4,6 @@ use Rattle.std.proofs.lemmas.List.{length-append}
 use Rattle.std.specs.Prelude.{IfOk, OnOk, Ok, Err, Result}
 use Rattle.node_book.proofs.KeptByEvents.{slice_last}
 use Rattle.dist_model.specs.Names.{Name}
-use Rattle.node_lock.specs.Calling.{IsSameSeat}
 use Rattle.node_lock.specs.Calling as lock
 use Rattle.node_lock.specs.Seats.{last_of}
 use Rattle.node_lock.specs.declared.act.Act.{Act}

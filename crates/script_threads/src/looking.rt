@@ -1,5 +1,5 @@
 //! What is seen of nodes in threads.
-ghost use Rattle.std.specs.Prelude.{◌≡◌, IfOk, OnOk, string_bytes, true};
+ghost use Rattle.std.specs.Prelude.{◌≡◌, IfOk, string_bytes, true};
 ghost use Rattle.dist_model.specs.Node.{route};
 ghost use Rattle.node_core.specs.Model.{model_of};
 ghost use Rattle.script_session.specs.Connections.{is_any, live_sides};

@@ -1,5 +1,5 @@
 //! Books, and what is asked of them.
-ghost use Rattle.std.specs.Prelude.{◌<◌, length};
+ghost use Rattle.std.specs.Prelude.{◌<◌};
 
 use crate::rows::{Ask, Kept, Named, Process};
 use dist_model::Command;

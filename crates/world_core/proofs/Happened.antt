@@ -10,7 +10,7 @@ use Rattle.dist_model.specs.NodeEvents.{at_node}
 use Rattle.dist_model.specs.Runs.{Goes, Runs, opening}
 use Rattle.dist_model.specs.Safety.{Safe}
 use Rattle.dist_model.specs.World as model
-use Rattle.dist_model.specs.World.{came_of, left, met, node_name, node_of, step, step_at}
+use Rattle.dist_model.specs.World.{came_of, left, met, node_name, node_of, step_at}
 use Rattle.world_core.specs.Ran.{Answered, Came, Ran, RanSafely, TellAll, Tells, WasSafe, event_in, events_in}
 use Rattle.world_core.specs.Stands.{Stands}
 use Rattle.world_core.specs.declared.event.Event.{Event}

@@ -1,6 +1,6 @@
 -- The least connection on which something comes to a node, in code and in the model.
 use Rattle.std.proofs.Common.{◌≡◌, ◌&&◌, Bool, true, false, cond, not, List, [], ◌∷◌, map, T}
-use Rattle.std.proofs.Common.{Option, None, Some, is_some, unwrap_or, refl, sym, ap, subst, ◌∙◌}
+use Rattle.std.proofs.Common.{Option, None, Some, is_some, unwrap_or, refl, sym, ap, ◌∙◌}
 use Rattle.std.specs.declared.cmp.Ordering.{Ordering}
 use Rattle.std.specs.declared.cmp.Ordering.TheVariants.{Less, Equal, Greater}
 use Rattle.std.proofs.lemmas.Cmp.{tied_itself}
@@ -20,7 +20,7 @@ use Rattle.dist_model.specs.World.{first_of}
 use Rattle.erl_names.specs.Order.{name_cmp, trunk_cmp}
 use Rattle.erl_names.specs.declared.trunk.TrunkId.{TrunkId}
 use Rattle.node_frames.specs.Frames.{Framed, framed}
-use Rattle.node_sweeps.proofs.Firsts.{Found, first_is, found as found_in}
+use Rattle.node_sweeps.proofs.Firsts.{first_is, found as found_in}
 use Rattle.sorted_map.specs.Entries.{first_where}
 use Rattle.sorted_map.specs.First.{first_held, first_least, first_none, first_passes}
 use Rattle.world_lists.specs.Lists as lists

@@ -14,7 +14,7 @@ use Rattle.dist_model.specs.Dialing.{has_name}
 use Rattle.dist_model.specs.Items.{Item}
 use Rattle.dist_model.specs.Names.{Name, place_cmp, same_name}
 use Rattle.dist_model.specs.Node.{Node as TheNode}
-use Rattle.dist_model.specs.NodeEvents.{at_node, if_up}
+use Rattle.dist_model.specs.NodeEvents.{at_node}
 use Rattle.dist_model.specs.NodeEvents as model
 use Rattle.dist_model.specs.Runs.{Goes}
 use Rattle.dist_model.specs.Sides.{TrunkSide, is_over}

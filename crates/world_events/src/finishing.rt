@@ -1,5 +1,4 @@
 //! What was planned is sent, and carried out.
-ghost use Rattle.std.specs.Prelude.{◌≡◌, List};
 ghost use Rattle.dist_model.specs.Commands.{Outcome};
 ghost use Rattle.node_core.specs.Model.{IsFor, model_of};
 ghost use Rattle.node_plans.specs.Planned.{IsPlanned};

@@ -1,4 +1,4 @@
-use Rattle.std.proofs.Common.{◌≡◌, sym, ap, ◌∙◌, rules, true}
+use Rattle.std.proofs.Common.{ap, ◌∙◌}
 use Rattle.dist_model.specs.Node.{living}
 use Rattle.dist_model.specs.Work.{at_work}
 use Rattle.dist_model.specs.declared.report.Answer.{Answer}

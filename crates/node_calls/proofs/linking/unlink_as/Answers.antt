@@ -1,4 +1,4 @@
-use Rattle.std.proofs.Common.{◌≡◌, true, sym, ap, subst}
+use Rattle.std.proofs.Common.{◌≡◌, true, subst}
 use Rattle.dist_model.specs.Items.{telling}
 use Rattle.dist_model.specs.Node.{end_of}
 use Rattle.dist_model.specs.Work.{draw, post, set_end}

@@ -1,4 +1,4 @@
-use Rattle.std.proofs.Common.{◌≡◌, refl, sym, ap, subst, ◌∙◌, rules}
+use Rattle.std.proofs.Common.{◌≡◌, sym, ap, subst, ◌∙◌}
 use Rattle.dist_model.specs.Items.{Signalled}
 use Rattle.dist_model.specs.Keeping.{CountsOwn, Steady}
 use Rattle.node_plans.specs.Plans.{committed}

@@ -2,7 +2,6 @@ use Rattle.std.proofs.Common.{◌≡◌, ◌∙◌, ap, map, sym, unwrap_or, []}
 use Rattle.std.specs.FinMap as fm
 use Rattle.std.specs.FinMap.{find}
 use Rattle.std.specs.Option.{option_copied, option_map}
-use Rattle.dist_model.specs.World.{World as TheWorld}
 use Rattle.erl_names.specs.Order.{trunk_cmp}
 use Rattle.erl_names.specs.declared.trunk.TrunkId.{TrunkId}
 use Rattle.node_core.specs.Model.{model_of}
@@ -10,7 +9,7 @@ use Rattle.node_frames.specs.Frames.{framed}
 use Rattle.world_core.specs.Coming.{takes_from}
 use Rattle.world_core.proofs.LeastArrival.{arrivals_same}
 use Rattle.world_core.proofs.world.World.next_arrival.Goals as goal
-use Rattle.world_lists.specs.Lists.{at, line_to}
+use Rattle.world_lists.specs.Lists.{line_to}
 
 pub returns-in-Some : goal.returns-in-Some
 returns-in-Some c = λ m h.
