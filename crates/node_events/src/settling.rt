@@ -14,7 +14,8 @@ use node_plans::{Node, Plan};
 use node_sweeps::Sweeping;
 use std::alloc::Global;
 
-/// Makes room at a node for a plan, where one was made, and puts it on the heap. The node stays as it is but for its room.
+/// Makes room at a node for a plan, where one was made, and puts it on the heap. The node stays as
+/// it is but for its room.
 ///
 /// # Errors
 /// Why none was made, and [`Refusal::OutOfMemory`].

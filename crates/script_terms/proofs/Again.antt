@@ -15,86 +15,16 @@ use Rattle.erl_term.proofs.Texts.{is_atom_text-holds}
 use Rattle.erl_term.proofs.Tags.{suc_not}
 use Rattle.script_terms.specs.Words.{is_lower, is_digit, is_atom_byte, is_bare}
 use Rattle.script_terms.specs.Binding.{Look}
-use Rattle.script_terms.specs.Printing.{escaped, atom_text, numbers_text, commas_text, binary_text, term_text, items_text, more_text}
+use Rattle.script_terms.specs.Printing.{escaped, atom_text, commas_text, binary_text, term_text, items_text, more_text}
 use Rattle.script_terms.specs.Values.{IsValue, AreValues, is_literal, are_literals}
-use Rattle.script_terms.specs.Reading.{Read, next_at, bare_at, byte_at, separated_at, binary_at}
+use Rattle.script_terms.specs.Reading.{Read, next_at, bare_at, separated_at}
 use Rattle.script_terms.specs.Reading.{tuple_at, list_at, cells_at, term_with, term_at, term_of}
 use Rattle.script_terms.proofs.Runs.{stops, run_is, run_rest}
-use Rattle.script_terms.proofs.Numerals.{Begins, decimal_begins, integer_again, byte_again}
+use Rattle.script_terms.proofs.Numerals.{Begins, decimal_begins, integer_again}
 use Rattle.script_terms.proofs.Quotes.{quoted_again}
 use Rattle.script_terms.proofs.Leaves.{leaf_quoted, leaf_binary, leaf_bare, leaf_int, term_leaf}
 use Rattle.erl_term.proofs.Canonical.{joined_improper}
-
--- ---- in a row, with commas between
-
--- what is read as x, whatever mark follows
-abbrev Again : {A : Type 0} → (List ℕ → Read A) → (A → List ℕ) → A → Type 0
-Again one text x = (rest : List ℕ) → stops is_atom_byte rest ≡ true → one (text x ++ rest) ≡ Ok (x, rest)
-
-abbrev AllAgain : {A : Type 0} → (List ℕ → Read A) → (A → List ℕ) → List A → Type 0
-AllAgain one text [] = Unit {0}
-AllAgain one text (x ∷ xs) = Again one text x × AllAgain one text xs
-
--- each behind a comma
-abbrev behind_commas : {A : Type 0} → (A → List ℕ) → List A → List ℕ
-behind_commas text xs = flat_map (λ x. 44 ∷ text x) xs
-
-module _ {A : Type 0} (one : List ℕ → Read A) (text : A → List ℕ) (close : ℕ) where
-  row_again : (x : A) (xs : List A) (most : ℕ) (rest : List ℕ) → eqb close 44 ≡ false
-      → stops is_atom_byte (close ∷ rest) ≡ true → Again one text x → AllAgain one text xs → length xs < most
-      → separated_at one close most (text x ++ (behind_commas text xs ++ close ∷ rest)) ≡ Ok (x ∷ xs, rest)
-  unfolding separated_at
-  row_again x xs zero rest other s h hs le = absurd (omega arith)
-  row_again x [] (suc most) rest other s h hs le =
-      let e = h (close ∷ rest) s in
-      let same : eqb close close ≡ true = grind (arith, nat_tests) in
-      rw (e, other, same) refl
-  row_again x (y ∷ ys) (suc most) rest other s h hs le =
-      let e = h (44 ∷ (text y ++ (behind_commas text ys ++ close ∷ rest))) refl in
-      let more = row_again y ys most rest other s hs.0 hs.1 (omega arith) in
-      rw (append_assoc (text y) (behind_commas text ys) (close ∷ rest), e, more) refl
-
-commas_len : {A : Type 0} (text : A → List ℕ) (xs : List A) → length xs ≤ length (behind_commas text xs)
-commas_len text [] = omega arith
-commas_len text (x ∷ xs) = let more = commas_len text xs in omega (arith, length-append (text x) (behind_commas text xs))
-
-digit_stops : (rest : List ℕ) → stops is_atom_byte rest ≡ true → stops is_digit rest ≡ true
-digit_stops [] s = refl
-digit_stops (c ∷ cs) s = grind (arith, nat_tests)
-
--- ---- binaries, behind the first <
-
-numbers_again : (ns : List ℕ) → AreBytes ns → AllAgain byte_at decimal ns
-numbers_again [] h = tt
-numbers_again (n ∷ ns) h = (λ rest s. byte_again n rest (h 0) (digit_stops rest s), numbers_again ns (λ i. h (suc i)))
-
-binary_none : (rest : List ℕ) → binary_at (60 ∷ 62 ∷ 62 ∷ rest) ≡ Ok ([], rest)
-unfolding binary_at
-binary_none rest = refl
-
-binary_by : (first : ℕ) (more bytes ns rest : List ℕ) → next_at bytes ≡ Ok (first, more) → eqb first 62 ≡ false
-    → separated_at byte_at 62 (length bytes) bytes ≡ Ok (ns, 62 ∷ rest) → binary_at (60 ∷ bytes) ≡ Ok (ns, rest)
-unfolding binary_at
-binary_by first more bytes ns rest e other h = rw (e, other, h) refl
-
-digit_no_angle : (c : ℕ) → is_digit c ≡ true → eqb c 62 ≡ false
-digit_no_angle c h = grind (arith, nat_tests)
-
-binary_again : (a rest : List ℕ) → AreBytes a → binary_at (60 ∷ ((commas_text a ++ codes ">>") ++ rest)) ≡ Ok (a, rest)
-binary_again [] rest h = binary_none rest
-binary_again (n ∷ ns) rest h =
-    let b = decimal_begins n (let k = h 0 in omega arith) in
-    let all = numbers_again (n ∷ ns) h in
-    let bytes = decimal n ++ (numbers_text 44 ns ++ 62 ∷ 62 ∷ rest) in
-    let same : ((decimal n ++ numbers_text 44 ns) ++ codes ">>") ++ rest ≡ bytes =
-    append_assoc (decimal n ++ numbers_text 44 ns) (codes ">>") rest ∙ append_assoc (decimal n) (numbers_text 44 ns) (62 ∷ 62 ∷ rest) in
-    let len = commas_len decimal ns in
-    let row =
-    row_again byte_at decimal 62 n ns (length bytes) (62 ∷ rest) refl refl all.0 all.1 (omega
-    (arith, length-append (decimal n) (numbers_text 44 ns ++ 62 ∷ 62 ∷ rest), length-append (numbers_text 44 ns) (62 ∷ 62 ∷ rest))) in
-    rw same (binary_by b.first (b.more ++ (numbers_text 44 ns ++ 62 ∷ 62 ∷ rest)) bytes (n ∷ ns) rest
-    (ap (λ (bs : List ℕ). next_at (bs ++ (numbers_text 44 ns ++ 62 ∷ 62 ∷ rest))) b.bytes)
-    (digit_no_angle b.first b.passes) row)
+use Rattle.script_terms.proofs.Rows.{Again, AllAgain, behind_commas, binary_again, commas_len, digit_stops, row_again}
 
 -- ---- the first byte
 

@@ -16,5 +16,6 @@ pub mod Runs
 pub mod Shown
 pub mod Numerals
 pub mod Quotes
+pub mod Rows
 pub mod Again
 pub mod Given
