@@ -1,7 +1,8 @@
 //! How often a world does in a second what callers ask for most.
 use crate::events::world;
 use crate::stage::act;
-use crate::told::{Process, Reason, Step, Trunk};
+use crate::stories::{A1, P, Q};
+use crate::told::{Process, Reason, Step};
 use anyhow::Result;
 use erl_term::Refusal;
 use std::alloc::Global;
@@ -13,24 +14,6 @@ const SIZES: [u32; 3] = [1_000, 10_000, 100_000];
 
 /// So often messages are sent, and pairs of calls made.
 const ROUNDS: u32 = 200_000;
-
-/// The first process of each of two nodes, and the connection that the first node dials.
-const P: Process = Process {
-    place: 0,
-    creation: 1,
-    id: 1,
-};
-
-const Q: Process = Process {
-    place: 1,
-    creation: 1,
-    id: 1,
-};
-
-const DIALED: Trunk = Trunk {
-    dialer: 0,
-    count: 1,
-};
 
 /// What is measured: of one node with processes that take turns, or of two.
 #[derive(Clone, Copy)]
@@ -108,8 +91,8 @@ impl Subject {
         let q = nth(number.saturating_add(1), size);
         let word = number.saturating_add(1);
         let own = Step::Local(0);
-        let there = Step::Come(1, DIALED);
-        let back = Step::Come(0, DIALED);
+        let there = Step::Come(1, A1);
+        let back = Step::Come(0, A1);
         match self {
             Subject::Spawns => [Some(Step::Spawn(0)), None, None, None, None],
             Subject::OwnMessages => three(Step::Send(p, q), own, Step::Receive(q)),
@@ -162,7 +145,7 @@ fn connect(alloc: Global, world: &mut World) -> Result<(), Refusal> {
     act(alloc, world, Step::Spawn(1))?;
     act(alloc, world, Step::Dial(0, 1))?;
     for place in [1, 0, 0, 1, 0] {
-        act(alloc, world, Step::Come(place, DIALED))?;
+        act(alloc, world, Step::Come(place, A1))?;
     }
     Ok(())
 }
@@ -182,7 +165,7 @@ fn lose_all(alloc: Global, world: &mut World, size: u32) -> Result<(), Refusal> 
     for place in 0..size {
         act(alloc, world, Step::Link(nth(place, size), Q))?;
     }
-    act(alloc, world, Step::Lose(0, DIALED))?;
+    act(alloc, world, Step::Lose(0, A1))?;
     Ok(())
 }
 

@@ -15,7 +15,8 @@ use dist_model::{Kind, Swept};
 use erl_term::Refusal;
 use link_core::End::{Active, None as No, Pending};
 
-const P: Process = Process {
+/// The first process of a@h.
+pub const P: Process = Process {
     place: 0,
     creation: 1,
     id: 1,
@@ -39,7 +40,8 @@ const P9: Process = Process {
     id: 9,
 };
 
-const Q: Process = Process {
+/// The first one of b@h.
+pub const Q: Process = Process {
     place: 1,
     creation: 1,
     id: 1,
@@ -58,7 +60,7 @@ const R: Process = Process {
 };
 
 /// The first connection that each node dials.
-const A1: Trunk = Trunk {
+pub const A1: Trunk = Trunk {
     dialer: 0,
     count: 1,
 };
