@@ -1,6 +1,7 @@
 -- What a book says of its calls, between two entries and at the node alone.
 use Rattle.std.proofs.Common.{◌≡◌, ◌⊎◌, ℕ, zero, suc, ◌<◌, Bool, true, false, Option, None, Some, List, [], ◌∷◌, ◌++◌, Result, Ok, Err}
 use Rattle.std.proofs.Common.{IfOk, IfErr, inl, inr, ⊎_elim, is_none, not, ◌&&◌, get_or, length, map, set, refl, sym, ap, ◌∙◌, subst, arith}
+use Rattle.std.proofs.lemmas.Bool.{and_parts, not-true}
 use Rattle.std.specs.List.{position}
 use Rattle.std.specs.Ordering.{eq_by_cmp}
 use Rattle.dist_books.specs.Acting.{Nodes, name_at, names_of}
@@ -299,10 +300,6 @@ wants_is m trunk os os' b other same h =
     h ∙ ap (λ l. is_none (position (λ o. eq_by_cmp trunk_cmp trunk o.port.trunk) l)) same ∙ none_same trunk os
     ∙ ap (λ x. not x && is_none (outlet_of trunk os)) (sym other)
 
-wanted : (a b : Bool) → (not a && b) ≡ true → (a ≡ false) × (b ≡ true)
-wanted true b h = absurd (let no : false ≡ true = h in cc)
-wanted false b h = (refl, h)
-
 no_outlet : (o : Option Outlet) → is_none o ≡ true → o ≡ None
 no_outlet None h = refl
 no_outlet (Some o) h = absurd (let no : false ≡ true = h in cc)
@@ -313,11 +310,12 @@ pub installed_as : BooksRest → (greatest : ℕ) (names : List Name) (place : �
     → new ≡ new_outlet greatest trunk dialer (length history.entries.items) → dialer ≡ trunk.dialer
     → IsBook names place cookie history outlets → IsBook names place cookie history after
 installed_as rest greatest names place cookie history outlets mid after trunk dialer new w m a is d kept =
-    let t = wanted (same_name trunk.dialer (model_of history.node).mint.name) (is_none (outlet_of trunk outlets)) w in
+    let t = and_parts (not (same_name trunk.dialer (model_of history.node).mint.name)) (is_none (outlet_of trunk outlets)) w in
     let is_new : new ≡ installed_outlet greatest trunk history.entries.items =
     is ∙ ap (λ x. new_outlet greatest trunk x (length history.entries.items)) d in
     subst (λ l. IsBook names place cookie history l) (sym (a ∙ ap (λ l. l ++ new ∷ []) m ∙ ap (λ o. outlets ++ o ∷ []) is_new))
-    (install_kept rest greatest names place cookie history outlets trunk t.0 (no_outlet (outlet_of trunk outlets) t.1) kept)
+    (install_kept rest greatest names place cookie history outlets trunk
+    (not-true (same_name trunk.dialer (model_of history.node).mint.name) t.0) (no_outlet (outlet_of trunk outlets) t.1) kept)
 
 pub copied_name : (names : List Name) (place : ℕ) (name held : Name) → name ≡ held → held ≡ get_or names place held
     → name ≡ get_or names place name

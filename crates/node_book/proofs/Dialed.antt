@@ -2,7 +2,6 @@
 use Rattle.std.proofs.Common.{◌≡◌, ℕ, ◌+◌, ◌<◌, ◌^◌, Bool, true, false, cond, not, nat_lt, Option, None}
 use Rattle.std.proofs.Common.{Some, List, [], ◌∷◌, ◌++◌, inr, is_some, length, refl, sym, ap, ◌∙◌, subst}
 use Rattle.std.specs.FinMap as fm
-use Rattle.world_core.proofs.Stepped.{refused_or}
 use Rattle.dist_books.specs.Acting as acting
 use Rattle.dist_books.specs.Acting.{Nodes, meets, name_at, names_of, same_way}
 use Rattle.dist_books.specs.Books.{Port, Stamped}
@@ -38,6 +37,7 @@ use Rattle.node_book.specs.Waiting.{AreFramesOf, sent_in}
 use Rattle.node_book.specs.declared.outlet.Outlet.{Outlet}
 use Rattle.node_book.specs.Passing.{new_outlet}
 use Rattle.node_ports.specs.Standing.{no_port}
+use Rattle.world_events.proofs.Planned.{refused_or, same_work}
 use Rattle.world_events.specs.Events.{met as met_by}
 use Rattle.world_events.specs.declared.event.NodeEvent.TheVariants as event
 
@@ -57,9 +57,6 @@ pub record Dialed (m : model.Node) (peer : Name) (word : ℕ) (said : Answer) (w
 
 same_answer : (a b : Answer) (w v : Work) → Accepts a w ≡ Accepts b v → a ≡ b
 same_answer a b w v h = cc
-
-same_work : (a b : Answer) (w v : Work) → Accepts a w ≡ Accepts b v → w ≡ v
-same_work a b w v h = cc
 
 pub accepted_dial : (names : List Name) (m : model.Node) (peer : Name) (word : ℕ) (said : Answer) (work : Work)
     → at_node names m (met.Dial peer word) ≡ Accepts said work → Dialed m peer word said work

@@ -209,7 +209,8 @@ flushed_keeps law es o port (Ok false) put none err = same_keeps es o port (none
 flushed_keeps law es o port (Err e) put none err = same_keeps es o port err
 
 module _ (es : List Entry) (o : Outlet) (t : TrunkId) (x : List ℕ) (trunk : t ≡ o.port.trunk) (peer : x ≡ o.port.peer) where
-  at_port : (l : List (ℕ × Framed)) → waiting (t, x) o.entry o.effects es ≡ l → waiting (o.port.trunk, o.port.peer) o.entry o.effects es ≡ l
+  pub at_port : (l : List (ℕ × Framed)) → waiting (t, x) o.entry o.effects es ≡ l
+      → waiting (o.port.trunk, o.port.peer) o.entry o.effects es ≡ l
   at_port l h =
       subst (λ u. waiting (u, o.port.peer) o.entry o.effects es ≡ l) trunk (subst (λ y. waiting (t, y) o.entry o.effects es ≡ l) peer h)
 

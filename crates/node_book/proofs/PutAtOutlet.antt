@@ -13,7 +13,7 @@ use Rattle.erl_names.specs.Order.{trunk_cmp}
 use Rattle.erl_names.specs.declared.trunk.TrunkId.{TrunkId}
 use Rattle.erl_term.specs.declared.refusal.Refusal.{Refusal}
 use Rattle.node_book.proofs.BookedCalls.{found_first}
-use Rattle.node_book.proofs.OutletMoves.{Moved}
+use Rattle.node_book.proofs.OutletMoves.{Moved, at_port}
 use Rattle.node_book.proofs.Places.{IsFirst, first_is, none_is}
 use Rattle.node_book.proofs.Ways.{none_behind}
 use Rattle.node_book.specs.Passing.{AtOutlet, IsStill, Puts, Takes, said, waits, with_outlet}
@@ -215,10 +215,6 @@ pub puts_same : (es : List Entry) (o : Outlet) (port : PortSeen) → port ≡ o.
 puts_same es o port is = subst (λ x. Puts es o (record o { port = x }) 0) (sym is) (puts_none es o)
 
 module _ (es : List Entry) (o : Outlet) (t : TrunkId) (x : List ℕ) (trunk : t ≡ o.port.trunk) (peer : x ≡ o.port.peer) where
-  at_port : (l : List (ℕ × Framed)) → waiting (t, x) o.entry o.effects es ≡ l → waiting (o.port.trunk, o.port.peer) o.entry o.effects es ≡ l
-  at_port l h =
-      subst (λ u. waiting (u, o.port.peer) o.entry o.effects es ≡ l) trunk (subst (λ y. waiting (t, y) o.entry o.effects es ≡ l) peer h)
-
   pub puts_staged_at : (o.port.outbox ≡ [] → o.port.begun ≡ 0)
       → (port : PortSeen) (parcel : Parcel) (stamp : ℕ) (frame : Framed) (entry effects : ℕ)
       → waiting (t, x) o.entry o.effects es ≡ (stamp, frame) ∷ waiting (t, x) entry effects es
@@ -227,10 +223,11 @@ module _ (es : List Entry) (o : Outlet) (t : TrunkId) (x : List ℕ) (trunk : t 
   puts_staged_at begun port parcel stamp frame entry effects h s b is =
       subst (λ y. Puts es o (record { port = y; entry = entry; effects = effects }) 0) (sym is)
       (puts_staged es o parcel stamp frame entry effects
-      (at_port _ h ∙ ap (λ (way : Way). (stamp, frame) ∷ waiting way entry effects es) (λ i. (trunk i, peer i))) s b begun)
+      (at_port es o t x trunk peer _ h
+      ∙ ap (λ (way : Way). (stamp, frame) ∷ waiting way entry effects es) (λ i. (trunk i, peer i))) s b begun)
 
   pub puts_past_at : waiting (t, x) o.entry o.effects es ≡ [] → Puts es o (record o { entry = length es; effects = 0 }) 0
-  puts_past_at h = puts_past es o (length es) (at_port [] h ∙ sym (none_behind (o.port.trunk, o.port.peer) es))
+  puts_past_at h = puts_past es o (length es) (at_port es o t x trunk peer [] h ∙ sym (none_behind (o.port.trunk, o.port.peer) es))
 
 pub staged_waits : (o : Outlet) (port : PortSeen) (parcel : Parcel) → port ≡ sending o.port parcel → port.outbox ≡ [] → ⊥
 staged_waits o port parcel is empty = snoc_is_some o.port.outbox parcel (sym (ap (λ (p : PortSeen). p.outbox) is) ∙ empty)

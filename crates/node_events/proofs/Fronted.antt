@@ -33,8 +33,8 @@ use Rattle.node_events.specs.Staying.{Stays}
 use Rattle.node_plans.specs.Planned.{IsPlanned, IsRefused, Plans}
 use Rattle.node_plans.specs.declared.plan.Plan.{Plan}
 
-accepted : (a b : Answer) (v w : Work) → Accepts a v ≡ Accepts b w → v ≡ w
-accepted a b v w h = cc
+pub same_work : (a b : Answer) (v w : Work) → Accepts a v ≡ Accepts b w → v ≡ w
+same_work a b v w h = cc
 
 same_trunk : (t u : TrunkId) (x y : Option Item) (v w : ℕ) → Arrive t x v ≡ Arrive u y w → t ≡ u
 same_trunk t u x y v w h = cc
@@ -84,7 +84,7 @@ module _ (m : Node) (plan : Plan) (steady : Steady m) (counts : CountsOwn m) (up
         → lose_at s trunk side (at_work m) ≡ Accepts Answer.Done w
     loses why side state.Losing a w h = cc
     loses why side state.Gone a w h = cc
-    loses why side _ a w h = ap (Accepts Answer.Done) (accepted _ _ _ _ h)
+    loses why side _ a w h = ap (Accepts Answer.Done) (same_work _ _ _ _ h)
 
     pub stays_at : (front : Front) (side : Option TrunkSide) → fm.get m.sides trunk ≡ side → is_undialed m trunk side ≡ false
         → IsPlanned m (comes m trunk side front word) plan → Stays plan m
@@ -97,7 +97,7 @@ module _ (m : Node) (plan : Plan) (steady : Steady m) (counts : CountsOwn m) (up
     stays_at (Spoils why) None e dialed h =
         stays_as (Arrive trunk (Some Tick) word) (Answer.Broken (Fault.Shake ShakeFault.BadMessage)) _ (others Tick None e dialed) h
         (runs _ ∙ ap (λ d. arrive m trunk d (Some Tick) word) e
-        ∙ ap (Accepts (Answer.Broken (Fault.Shake ShakeFault.BadMessage))) (accepted _ _ _ _ h.accepts))
+        ∙ ap (Accepts (Answer.Broken (Fault.Shake ShakeFault.BadMessage))) (same_work _ _ _ _ h.accepts))
     stays_at (Spoils why) (Some side) e dialed h =
         stays_as (Lose trunk) Answer.Done _ (comes_of_none m (Lose trunk) (not_lost trunk)) h
         (runs _ ∙ ap (λ d. lose m trunk d) e ∙ loses why side side.state h.answer h.work h.accepts)

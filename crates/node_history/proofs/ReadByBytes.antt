@@ -1,5 +1,6 @@
 -- The bytes of an item tell whether it is read.
-use Rattle.std.proofs.Common.{◌≡◌, ℕ, List, Option, None, Some, Bool, true, false, not, ◌&&◌, refl, sym, ap, subst, ◌∙◌}
+use Rattle.std.proofs.Common.{◌≡◌, ℕ, List, Option, None, Some, true, false, not, refl, sym, ap, subst, ◌∙◌}
+use Rattle.std.proofs.lemmas.Bool.{and_parts, not-true}
 use Rattle.std.specs.FinMap as fm
 use Rattle.dist_model.specs.Due.{is_handshake, shakes_for}
 use Rattle.dist_model.specs.Items.{Handshake, Item, Signalled, Tick, kind_of}
@@ -65,20 +66,16 @@ by_kind : (side : Option TrunkSide) (item : Item) → reads_at side item ≡ rea
 by_kind None item = by_acceptor item
 by_kind (Some side) item = by_state side.state item
 
-both : (a b : Bool) → (not a && b) ≡ true → (a ≡ false) × (b ≡ true)
-both true b h = absurd (let no : false ≡ true = h in cc)
-both false b h = (refl, h)
-
 -- an item of these bytes can come where they are read
 pub can_come : (m : Node) (trunk : TrunkId) (item : Item) → IsSpelled item → comes_here m trunk (bytes_of item) ≡ true
     → CanCome m trunk item
 can_come m trunk item h c =
     let side = fm.get m.sides trunk in
-    let here = both (is_undialed m trunk side) (reads_kind_at side (kind_in (bytes_of item))) c in
+    let here = and_parts (not (is_undialed m trunk side)) (reads_kind_at side (kind_in (bytes_of item))) c in
     record {
       spelled = h;
       read = by_kind side item ∙ sym (ap (λ kind. reads_kind_at side kind) (kind_is_told item h)) ∙ here.1;
-      theirs = here.0;
+      theirs = not-true (is_undialed m trunk side) here.0;
     }
 
 pub read_is_whole : OneFrame → FrameAgain → (bytes : List ℕ) → AreBytes bytes → ReadIsWhole bytes

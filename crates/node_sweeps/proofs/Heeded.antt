@@ -1,5 +1,5 @@
 -- What is behind a sweep stays gone, where a plan adds no record towards its peer.
-use Rattle.std.proofs.Common.{◌≡◌, ◌≤◌, ◌⊎◌, inl, inr, ℕ, Bool, true, false, cond, ◌&&◌}
+use Rattle.std.proofs.Common.{◌≡◌, ◌≤◌, ◌⊎◌, inl, inr, ℕ, Bool, true, false, cond}
 use Rattle.std.proofs.Common.{not, Option, None, Some, unwrap_or, refl, sym, ap, subst, ◌∙◌}
 use Rattle.std.proofs.lemmas.Bool.{or_parts}
 use Rattle.std.proofs.lemmas.Option.{none-some, same_Some}
@@ -9,6 +9,7 @@ use Rattle.std.specs.FinMap.{FinMap, IsAntisymmetric}
 use Rattle.std.specs.Ordering.{eq_by_cmp}
 use Rattle.std.specs.declared.cmp.Ordering.{Ordering}
 use Rattle.dist_model.proofs.Keys.{pair_exact, pair_total}
+use Rattle.dist_model.proofs.Truths.{and_second}
 use Rattle.dist_model.specs.Names.{Name, pair_cmp, same_name, same_pid}
 use Rattle.dist_model.specs.Node.{Node}
 use Rattle.dist_model.specs.Work.{set_in}
@@ -37,10 +38,6 @@ use Rattle.node_sweeps.specs.Ahead.{IsBefore, IsBehindAll, NoneLinkedUpTo, NoneO
 use Rattle.node_tables.specs.Becomes.{becomes, end_changed}
 use Rattle.node_tables.specs.declared.end_change.EndChange.{EndChange}
 use Rattle.node_tables.specs.declared.end_change.EndChange.TheVariants.{Links, Receives}
-
-second : (a b : Bool) → (a && b) ≡ false → a ≡ true → b ≡ false
-second true b h t = h
-second false b h t = cc
 
 -- ---- what a changed map holds, the old one held
 
@@ -108,7 +105,7 @@ module _ (peer : Name) (id : ℕ) where
   end_kept (link.Becomes q how) p ends t h = go (is_new how) refl
     where
       go : (b : Bool) → is_new how ≡ b → Unlinked (end_changed ends (p, q) how)
-      go true n = set_kept ends p q _ (λ l. second (is_new how) _ t n) h
+      go true n = set_kept ends p q _ (λ l. and_second (is_new how) _ t n) h
       go false n = old_kept ends p q how (fm.get ends (p, q)) refl n h
 
   left_kept : (l : LifeChange) (p : Pid) (ends : FinMap pair_cmp End) → Unlinked ends → Unlinked (ends_left l p ends)

@@ -37,7 +37,7 @@ use Rattle.world_core.specs.Stands.{AreSpelled, Stands}
 use Rattle.world_core.specs.declared.world.World.{World}
 use Rattle.world_core.proofs.Named.{name_is, names_set, node_at, node_set, nobody_at, nobody_is, same_models}
 use Rattle.world_core.proofs.Reached.{can_come, reached_next}
-use Rattle.world_events.proofs.Planned.{name_kept}
+use Rattle.world_events.proofs.Planned.{name_kept, refused_or}
 use Rattle.world_events.specs.Coming.{IsNext}
 use Rattle.world_events.specs.Events.{ComesTo, Meets, met, taken_at}
 use Rattle.world_events.specs.declared.event.NodeEvent.{NodeEvent}
@@ -105,9 +105,6 @@ module _ (m : world.World) (name : Name) where
   step_is e node h = by_node e (Some node) h ∙ at_it e node
 
 -- ---- the lists after an event: what an accepted arrival takes was there
-
-pub refused_or : (why : Refusal) (answer : Answer) (work : Work) {A : Type 0} → Refuses why ≡ Accepts answer work → A
-refused_or why answer work h = cc
 
 nothing_taken : (node : TheNode) (t : TrunkId) (o : Option TrunkSide) (word : ℕ) (answer : Answer) (work : Work) {A : Type 0}
     → arrive node t o None word ≡ Accepts answer work → A

@@ -23,6 +23,7 @@ use Rattle.erl_names.specs.declared.trunk.TrunkId.{TrunkId}
 use Rattle.erl_term.specs.declared.refusal.Refusal.{Refusal}
 use Rattle.node_arrivals.specs.Coming.{comes}
 use Rattle.node_arrivals.specs.Fronts.{Front}
+pub use Rattle.node_events.proofs.Fronted.{same_work}
 use Rattle.node_events.proofs.PlanDone.{done}
 use Rattle.node_events.specs.Arrived.{PlansArrived, PlansFront, arrives, is_undialed}
 use Rattle.node_events.specs.Done.{Did, Does}
@@ -132,17 +133,14 @@ silent due old new lines (Ok report) quiet h = (
 )
 silent due old new lines (Err e) quiet h = (h.0, h.1, λ t x. refl)
 
-same_work : (a b : Answer) (w v : Work) → Accepts a w ≡ Accepts b v → v.effects ≡ w.effects
-same_work a b w v h = cc
-
-refused_or : (why : Refusal) (a : Answer) (w : Work) {A : Type 0} → Refuses why ≡ Accepts a w → A
+pub refused_or : (why : Refusal) (a : Answer) (w : Work) {A : Type 0} → Refuses why ≡ Accepts a w → A
 refused_or why a w h = cc
 
 pub stop_is_silent : (m : Node) (answer : Answer) (work : Work) → if_up m (stop m) ≡ Accepts answer work → work.effects ≡ []
 stop_is_silent m answer work h = go m.up h
   where
     go : (b : Bool) → cond b (stop m) (Refuses Refusal.NodeDown) ≡ Accepts answer work → work.effects ≡ []
-    go true k = same_work _ answer (at_work (stopped m)) work k
+    go true k = ap (λ (w : Work). w.effects) (same_work answer _ work (at_work (stopped m)) (sym k))
     go false k = refused_or Refusal.NodeDown answer work k
 
 pub start_is_silent : (m : Node) (answer : Answer) (work : Work) → start m ≡ Accepts answer work → work.effects ≡ []
@@ -153,7 +151,7 @@ start_is_silent m answer work h = go m.up (nat_lt (m.mint.creation + 1) (2 ^ 32)
         ≡ Accepts answer work
         → work.effects ≡ []
     go true d k = refused_or Refusal.NodeUp answer work k
-    go false true k = same_work _ answer (at_work (started m)) work k
+    go false true k = ap (λ (w : Work). w.effects) (same_work answer _ work (at_work (started m)) (sym k))
     go false false k = refused_or Refusal.IdsUsedUp answer work k
 
 -- ---- an event that came to something

@@ -1,4 +1,4 @@
-use Rattle.std.proofs.Common.{◌≡◌, ◌+◌, rules, refl, sym, ap, subst, ◌∙◌, OnOk, Result, Ok, Err}
+use Rattle.std.proofs.Common.{◌≡◌, ◌+◌, rules, refl, sym, ap, subst, ◌∙◌}
 use Rattle.conn_core.specs.Happenings.{dialed}
 use Rattle.conn_core.specs.declared.side.Side.{Side}
 use Rattle.dist_model.specs.Dialing.{draw_trunk, next_trunk}

@@ -1,4 +1,4 @@
-use Rattle.std.proofs.Common.{refl, sym, ap, ◌∙◌, rules}
+use Rattle.std.proofs.Common.{refl, rules}
 use Rattle.world_core.proofs.Opened.{joins, on_err, stays}
 use Rattle.world_core.proofs.world.World.join.Goals as goal
 
