@@ -16,7 +16,7 @@ use Rattle.dist_model.specs.Items.{Item}
 use Rattle.dist_model.specs.Names.{Name, place_cmp, same_name}
 use Rattle.dist_model.specs.Sides.{State, is_gone, is_losing, is_over}
 use Rattle.dist_model.specs.Sides as state
-use Rattle.dist_model.specs.World.{first_of}
+use Rattle.dist_model.specs.World.{first_of, list_to}
 use Rattle.erl_names.specs.Order.{name_cmp, trunk_cmp}
 use Rattle.erl_names.specs.declared.trunk.TrunkId.{TrunkId}
 use Rattle.node_frames.specs.Frames.{Framed, framed}
@@ -51,6 +51,12 @@ turned_less : (a b : Ordering) → (a ≡ Less → ⊥) → b ≡ Equal → is_l
 turned_less Less b h e = absurd (h refl)
 turned_less Equal b h e = ap is_lt e
 turned_less Greater b h e = refl
+
+-- the frames of a line to a node are those of what travels to it
+pub line_is : (name : Name) (line : List Entry) (sent : lists.Lines) (carried : FinMap place_cmp (List Item))
+    → line ≡ lists.line_to sent name → ((t : TrunkId) (x : Name) → lists.at sent t x ≡ map framed (list_to carried t x)) → (t : TrunkId)
+    → unwrap_or (find trunk_cmp t line) [] ≡ map framed (unwrap_or (fm.get carried (t, name)) [])
+line_is name line sent carried is same t = ap (λ l. unwrap_or (find trunk_cmp t l) []) is ∙ same t name
 
 -- the line to a node of that name, and whether the node takes what comes on a connection
 module _ (name : Name) (line : List Entry) (carried : FinMap place_cmp (List Item)) (takes : TrunkId → Bool)

@@ -1,13 +1,9 @@
-use Rattle.std.proofs.Common.{◌≡◌, ◌∙◌, ap, map, sym, unwrap_or, []}
+use Rattle.std.proofs.Common.{◌∙◌, ap, sym}
 use Rattle.std.specs.FinMap as fm
-use Rattle.std.specs.FinMap.{find}
 use Rattle.std.specs.Option.{option_copied, option_map}
-use Rattle.erl_names.specs.Order.{trunk_cmp}
-use Rattle.erl_names.specs.declared.trunk.TrunkId.{TrunkId}
 use Rattle.node_core.specs.Model.{model_of}
-use Rattle.node_frames.specs.Frames.{framed}
 use Rattle.world_core.specs.Coming.{takes_from}
-use Rattle.world_core.proofs.LeastArrival.{arrivals_same}
+use Rattle.world_core.proofs.LeastArrival.{arrivals_same, line_is}
 use Rattle.world_core.proofs.world.World.next_arrival.Goals as goal
 use Rattle.world_lists.specs.Lists.{line_to}
 
@@ -15,10 +11,8 @@ pub returns-in-Some : goal.returns-in-Some
 returns-in-Some c = λ m h.
     let node = model_of c.args.node.now in
     let from = option_copied c.args.from in
-    let same : (t : TrunkId)
-    → unwrap_or (find trunk_cmp t c.line.result.now) [] ≡ map framed (unwrap_or (fm.get m.lists (t, node.mint.name)) []) = (λ t.
-    ap (λ line. unwrap_or (find trunk_cmp t line) []) (c.line.ensures.line ∙ ap (line_to c.args.self.now.lists) c.name.ensures)
-    ∙ h.lists t node.mint.name) in
+    let sent = c.args.self.now.lists in
+    let same = line_is node.mint.name c.line.result.now sent m.lists (c.line.ensures.line ∙ ap (line_to sent) c.name.ensures) h.lists in
     ap (λ o. option_map (λ e. e.0) (option_copied o)) (sym c.in-Some.is)
     ∙ arrivals_same node.mint.name c.line.result.now m.lists
     (λ t. takes_from from t (fm.get node.sides t)) c.line.ensures.sorted same (option_copied c.first_in.result)
@@ -28,10 +22,8 @@ pub returns-in-None : goal.returns-in-None
 returns-in-None c = λ m h.
     let node = model_of c.args.node.now in
     let from = option_copied c.args.from in
-    let same : (t : TrunkId)
-    → unwrap_or (find trunk_cmp t c.line.result.now) [] ≡ map framed (unwrap_or (fm.get m.lists (t, node.mint.name)) []) = (λ t.
-    ap (λ line. unwrap_or (find trunk_cmp t line) []) (c.line.ensures.line ∙ ap (line_to c.args.self.now.lists) c.name.ensures)
-    ∙ h.lists t node.mint.name) in
+    let sent = c.args.self.now.lists in
+    let same = line_is node.mint.name c.line.result.now sent m.lists (c.line.ensures.line ∙ ap (line_to sent) c.name.ensures) h.lists in
     ap (λ o. option_map (λ e. e.0) (option_copied o)) (sym c.in-None.is)
     ∙ arrivals_same node.mint.name c.line.result.now m.lists
     (λ t. takes_from from t (fm.get node.sides t)) c.line.ensures.sorted same (option_copied c.first_in.result)
