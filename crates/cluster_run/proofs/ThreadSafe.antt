@@ -49,8 +49,8 @@ payload_send : IsSend payload.the_row
 payload_send =
     search (Crossing.crosses, TheKnot.crosses, atom.the_send, pid.the_field_send, reference.the_field_send, sendable) depth 60 fits 20000
 
-entry_send : IsSend entry.the_row
-entry_send = search (
+-- what an entry tells, and a receipt, is of these
+ruleset of_told = (
   payload_send,
   refusal.the_send,
   name.the_send,
@@ -62,7 +62,10 @@ entry_send = search (
   pid.the_field_send,
   reference.the_field_send,
   sendable,
-) depth 60 fits 20000
+)
+
+entry_send : IsSend entry.the_row
+entry_send = search of_told depth 60 fits 20000
 
 history_field : IsSend history.the_field.row
 history_field = search
@@ -83,19 +86,7 @@ lock_sync = search (book_send, Crossing.crosses, TheKnot.crosses, sendable) dept
 -- ---- a caller may be in any thread
 
 receipt_send : IsSend (receipt.the_field).row
-receipt_send = search (
-  payload_send,
-  refusal.the_send,
-  name.the_send,
-  trunk.the_send,
-  frame.the_send,
-  links.the_send,
-  Crossing.crosses,
-  TheKnot.crosses,
-  pid.the_field_send,
-  reference.the_field_send,
-  sendable,
-) depth 60 fits 20000
+receipt_send = search of_told depth 60 fits 20000
 
 event_send : IsSend (event.the_field).row
 event_send = search
