@@ -11,7 +11,7 @@ use Rattle.joined_books.specs.declared.trace.Placed.{Placed}
 use Rattle.joined_books.specs.declared.trace.Trace.{Trace}
 use Rattle.node_book.specs.Seen.{BookSeen}
 use Rattle.node_lock.specs.declared.seat.Seat.{Seat}
-use Rattle.world_core.specs.Stands.{Stands}
+use Rattle.world_core.specs.Stands.{StandsFor}
 use Rattle.world_core.specs.declared.world.World.{World}
 
 -- of nodes, books and seats that were lent
@@ -45,7 +45,7 @@ module _ (entries : List Placed) (own nodes lent_nodes : Nodes) (books lent_book
 -- the world at the end of their run
 module _ (entries : List Placed) (nodes lent_nodes : Nodes) (books lent_books : List BookSeen) (r : Result World Refusal) where
   abbrev pub IsItsWorld : Nodes → List BookSeen → Type 0
-  IsItsWorld ns bs = (run : AreARun ns bs entries) → IfOk r (λ world. Stands world run.run.world)
+  IsItsWorld ns bs = (run : AreARun ns bs entries) → IfOk r (λ world. StandsFor world run.run.world)
 
   pub lent : lent_nodes ≡ nodes → lent_books ≡ books → IsItsWorld lent_nodes lent_books → IsItsWorld nodes books
   lent nodes_are books_are is =

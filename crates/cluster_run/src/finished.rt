@@ -2,7 +2,7 @@
 ghost use Rattle.std.specs.Prelude.{◌≡◌, IfErr, IfOk};
 ghost use Rattle.erl_term.specs.declared.refusal.Refusal.TheVariants.{OutOfMemory};
 ghost use Rattle.joined_books.specs.Joined.{AreARun};
-ghost use Rattle.world_core.specs.Stands.{Stands};
+ghost use Rattle.world_core.specs.Stands.{StandsFor};
 
 use erl_handshake::Cookie;
 use erl_names::NodeName;
@@ -47,7 +47,7 @@ impl Finished {
     /// [`Cluster::finish`](crate::Cluster::finish), [`Refusal::OutOfMemory`] alone.
     pub fn world(&self, alloc: Global) -> Result<World, Refusal>
         ensures ok { (run : AreARun self.now.nodes.items self.now.books.items self.now.trace.entries.items) →
-            IfOk result (λ world. Stands world run.run.world) }
+            IfOk result (λ world. StandsFor world run.run.world) }
         ensures err { AreARun self.now.nodes.items self.now.books.items self.now.trace.entries.items → IfErr result (λ e. e ≡ OutOfMemory) }
     {
         replay(alloc, &self.nodes, &self.books, &self.trace)

@@ -11,7 +11,7 @@ use Rattle.std.proofs.lemmas.List.Elements.{Contains-append_left, Contains-appen
 use Rattle.joined_books.proofs.EachOnce.{bit, count_append, count_cons, each_once, times}
 use Rattle.joined_books.specs.Marks.{AreMarked, IsStrange}
 
-module _ {X : Type 0} (place : X → ℕ) (Stands : X → Type 0) where
+module _ {X : Type 0} (place : X → ℕ) (IsThere : X → Type 0) where
   abbrev at_place : ℕ → X → Bool
   at_place at x = place x == at
 
@@ -21,12 +21,12 @@ module _ {X : Type 0} (place : X → ℕ) (Stands : X → Type 0) where
   push_times : (at : ℕ) (xs : List X) (x : X) → times place at (xs ++ x ∷ []) ≡ times place at xs + bit (place x == at)
   push_times at xs x = let a = count_append (at_place at) xs (x ∷ []) in let c = one_times at x in omega arith
 
-  pub marked_next : (size : ℕ) (marks new : List Bool) (xs : List X) (x : X) → AreMarked place Stands size marks xs → Stands x
+  pub marked_next : (size : ℕ) (marks new : List Bool) (xs : List X) (x : X) → AreMarked place IsThere size marks xs → IsThere x
       → place x < length marks → slice_index_or marks (place x) false ≡ false → new ≡ slice_set marks (place x) true
-      → AreMarked place Stands size new (xs ++ x ∷ [])
+      → AreMarked place IsThere size new (xs ++ x ∷ [])
   marked_next size marks new xs x marked stands within free is = record {
     lens = ap (λ l. length l) is ∙ length-set marks (place x) true ∙ marked.lens;
-    stand = All-append Stands xs (x ∷ []) marked.stand (All-cons Stands x [] stands (All-nil Stands));
+    stand = All-append IsThere xs (x ∷ []) marked.stand (All-cons IsThere x [] stands (All-nil IsThere));
     marked = λ at. push_times at xs x ∙
         elim (eqb_tells (place x) at) [
           | inl e ↦ (
@@ -47,8 +47,8 @@ module _ {X : Type 0} (place : X → ℕ) (Stands : X → Type 0) where
         ];
   }
 
-  pub strange_next : (size : ℕ) (marks : List Bool) (xs : List X) (x : X) → AreMarked place Stands size marks xs
-      → (Stands x → ⊥) ⊎ (slice_index_or marks (place x) false ≡ true) → IsStrange place Stands (xs ++ x ∷ []) (place x)
+  pub strange_next : (size : ℕ) (marks : List Bool) (xs : List X) (x : X) → AreMarked place IsThere size marks xs
+      → (IsThere x → ⊥) ⊎ (slice_index_or marks (place x) false ≡ true) → IsStrange place IsThere (xs ++ x ∷ []) (place x)
   strange_next size marks xs x marked why = record {
     one = x;
     there = Contains-push xs x;
@@ -63,7 +63,7 @@ module _ {X : Type 0} (place : X → ℕ) (Stands : X → Type 0) where
     ];
   }
 
-  pub strange_more : (xs ys : List X) (at : ℕ) → IsStrange place Stands xs at → IsStrange place Stands (xs ++ ys) at
+  pub strange_more : (xs ys : List X) (at : ℕ) → IsStrange place IsThere xs at → IsStrange place IsThere (xs ++ ys) at
   strange_more xs ys at h = record {
     one = h.one;
     there = Contains-append_left xs ys h.one h.there;
@@ -77,11 +77,11 @@ module _ {X : Type 0} (place : X → ℕ) (Stands : X → Type 0) where
   -- ---- a loop over some of them, behind others
 
   pub marks_more : (size : ℕ) (marks new : List Bool) (before xs : List X) (i : ℕ) (x : X) → i < length xs → x ≡ slice_index_or xs i x
-      → AreMarked place Stands size marks (before ++ take i xs) → Stands x
+      → AreMarked place IsThere size marks (before ++ take i xs) → IsThere x
       → place x < length marks → slice_index_or marks (place x) false ≡ false → new ≡ slice_set marks (place x) true
-      → AreMarked place Stands size new (before ++ take (i + 1) xs)
+      → AreMarked place IsThere size new (before ++ take (i + 1) xs)
   marks_more size marks new before xs i x below is marked stands within free set =
-      subst (λ l. AreMarked place Stands size new l) (pushed before xs i x below is)
+      subst (λ l. AreMarked place IsThere size new l) (pushed before xs i x below is)
       (marked_next size marks new (before ++ take i xs) x marked stands within free set)
     where
       pushed : (before xs : List X) (i : ℕ) (x : X) → i < length xs → x ≡ slice_index_or xs i x
@@ -90,10 +90,10 @@ module _ {X : Type 0} (place : X → ℕ) (Stands : X → Type 0) where
           append_assoc before (take i xs) (x ∷ []) ∙ ap (λ l. before ++ l) (ap (λ y. take i xs ++ y ∷ []) is ∙ sym (take_more xs i x below))
 
   pub strange_here : (size : ℕ) (marks : List Bool) (before xs : List X) (i : ℕ) (x : X) → i < length xs → x ≡ slice_index_or xs i x
-      → AreMarked place Stands size marks (before ++ take i xs) → (Stands x → ⊥) ⊎ (slice_index_or marks (place x) false ≡ true)
-      → IsStrange place Stands (before ++ xs) (place x)
+      → AreMarked place IsThere size marks (before ++ take i xs) → (IsThere x → ⊥) ⊎ (slice_index_or marks (place x) false ≡ true)
+      → IsStrange place IsThere (before ++ xs) (place x)
   strange_here size marks before xs i x below is marked why =
-      subst (λ l. IsStrange place Stands l (place x)) (split before xs i x below is)
+      subst (λ l. IsStrange place IsThere l (place x)) (split before xs i x below is)
       (strange_more ((before ++ take i xs) ++ x ∷ []) (drop (suc i) xs) (place x)
       (strange_next size marks (before ++ take i xs) x marked why))
     where
@@ -111,8 +111,8 @@ module _ {X : Type 0} (place : X → ℕ) (Stands : X → Type 0) where
   -- ---- none yet, and all
 
   pub none_marked : (size : ℕ) (marks : List Bool) → length marks ≡ size → ((p : ℕ) → slice_index_or marks p false ≡ false)
-      → AreMarked place Stands size marks []
-  none_marked size marks lens free = record { lens = lens; stand = All-nil Stands; marked = λ at. sym (ap bit (free at)) }
+      → AreMarked place IsThere size marks []
+  none_marked size marks lens free = record { lens = lens; stand = All-nil IsThere; marked = λ at. sym (ap bit (free at)) }
 
   contained : (at : ℕ) (xs : List X) → 0 < times place at xs → (x : X) × Contains xs x × (place x ≡ at)
   contained at [] some = absurd (omega arith)
@@ -127,8 +127,8 @@ module _ {X : Type 0} (place : X → ℕ) (Stands : X → Type 0) where
       ]
 
   -- where each that stands is at one of the places that there may be, and there are as many, each of these places has one
-  pub all_marked : (size : ℕ) (marks may : List Bool) (xs : List X) → AreMarked place Stands size marks xs
-      → ((x : X) → Stands x → slice_index_or may (place x) false ≡ true) → length xs ≡ count_by (λ b. b) may
+  pub all_marked : (size : ℕ) (marks may : List Bool) (xs : List X) → AreMarked place IsThere size marks xs
+      → ((x : X) → IsThere x → slice_index_or may (place x) false ≡ true) → length xs ≡ count_by (λ b. b) may
       → (at : ℕ) → times place at xs ≡ bit (slice_index_or may at false)
   all_marked size marks may xs marked standing as_many =
       each_once place may xs (λ at. most at (slice_index_or may at false) refl (slice_index_or marks at false) refl) as_many
@@ -147,4 +147,4 @@ module _ {X : Type 0} (place : X → ℕ) (Stands : X → Type 0) where
           let one = ap bit marks_are in
           let h = contained at xs (omega arith) in
           absurd (let no : false ≡ true =
-          sym is ∙ ap (λ n. slice_index_or may n false) (sym h.2) ∙ standing h.0 (All-contains Stands xs h.0 marked.stand h.1) in cc)
+          sym is ∙ ap (λ n. slice_index_or may n false) (sym h.2) ∙ standing h.0 (All-contains IsThere xs h.0 marked.stand h.1) in cc)

@@ -28,7 +28,7 @@ use Rattle.node_history.specs.declared.entry.Entry.{Entry}
 use Rattle.world_core.proofs.Happened.{goes_names}
 use Rattle.world_core.specs.Names.{are_distinct, name_at}
 use Rattle.world_core.specs.Ran.{Answered, Tells, event_at}
-use Rattle.world_core.specs.Stands.{Stands}
+use Rattle.world_core.specs.Stands.{StandsFor}
 use Rattle.world_core.specs.declared.world.World.{World}
 
 -- ---- a step
@@ -87,22 +87,22 @@ module _ (nodes : Nodes) (all : List BookSeen) where
   pub record Going (rest : List Placed) (end : model.World) (world : World) : Type 0 where
     pub m : model.World
     pub names : m.names ≡ names_of nodes
-    pub stands : Stands world m
+    pub stands : StandsFor world m
     pub merged : List run.Placed
     pub shown : AllZip (Shows all nodes) rest merged
     pub runs : Runs m (run.events_of merged) (run.reports_of merged) end
 
-  pub begins : (entries : List Placed) (r : AreARun nodes all entries) (world : World) → Stands world (opening nodes)
+  pub begins : (entries : List Placed) (r : AreARun nodes all entries) (world : World) → StandsFor world (opening nodes)
       → Going entries r.run.world world
   begins entries r world stands =
       record { m = opening nodes; names = refl; stands = stands; merged = r.merged; shown = r.shown; runs = r.run.runs }
 
-  ends : (end : model.World) (world : World) → Going [] end world → Stands world end
+  ends : (end : model.World) (world : World) → Going [] end world → StandsFor world end
   ends end world g = over g.merged g.shown g.runs
     where
       over : (merged : List run.Placed) → AllZip (Shows all nodes) [] merged → Runs g.m (run.events_of merged) (run.reports_of merged) end
-          → Stands world end
-      over [] h runs = subst (Stands world) (sym runs) g.stands
+          → StandsFor world end
+      over [] h runs = subst (StandsFor world) (sym runs) g.stands
       over (x ∷ xs) h runs = absurd h
 
   -- the first of the rest is an entry of the books
@@ -116,7 +116,7 @@ module _ (nodes : Nodes) (all : List BookSeen) where
 
   goes : (placed : Placed) (rest : List Placed) (end : model.World) (world new : World) (entry : Entry)
       → slice_get (entries_at all placed.node) placed.position ≡ Some entry → Going (placed ∷ rest) end world
-      → ((m : model.World) → Stands world m → HappensAgain m placed.node entry new) → Going rest end new
+      → ((m : model.World) → StandsFor world m → HappensAgain m placed.node entry new) → Going rest end new
   goes placed rest end world new entry is g again = over g.merged g.shown g.runs
     where
       over : (merged : List run.Placed) → AllZip (Shows all nodes) (placed ∷ rest) merged
@@ -132,7 +132,7 @@ module _ (nodes : Nodes) (all : List BookSeen) where
               | inl w ↦ (
                   let r =
                   tells_wanting entry.answer x.1.answer (subst (λ (e : Entry). Tells e.answer x.1.answer) same h.0.tells.answer) w.0 in
-                  subst (Stands new) (sym (goes_wanting g.m x.1.event x.1.answer next runs.1 r)) w.1)
+                  subst (StandsFor new) (sym (goes_wanting g.m x.1.event x.1.answer next runs.1 r)) w.1)
               | inr w ↦ (
                   let r =
                   tells_other entry.answer x.1.answer (subst (λ (e : Entry). Tells e.answer x.1.answer) same h.0.tells.answer) w.0 in
@@ -140,7 +140,7 @@ module _ (nodes : Nodes) (all : List BookSeen) where
                   h.0.tells.event ∙ ap (λ (e : Entry). event_at (books.name_at nodes placed.node) e.event) same
                   ∙ ap (λ n. event_at n entry.event)
                   (sym (ap (λ (l : List Name). name_at l placed.node) g.names ∙ same_place nodes placed.node)) in
-                  subst (Stands new)
+                  subst (StandsFor new)
                   (ap (λ e. (step g.m e).world) (sym event) ∙ sym (goes_on g.m x.1.event x.1.answer next runs.1 r)) w.1)
             ];
             merged = xs;
@@ -162,13 +162,13 @@ module _ (nodes : Nodes) (all : List BookSeen) where
 
     pub goes_at : (new : World) (entry : Entry) → slice_get (entries_at all placed.node) placed.position ≡ Some entry
         → Going (drop i entries) end world
-        → ((m : model.World) → Stands world m → HappensAgain m placed.node entry new) → Going (drop (i + 1) entries) end new
+        → ((m : model.World) → StandsFor world m → HappensAgain m placed.node entry new) → Going (drop (i + 1) entries) end new
     goes_at new entry is g again =
         subst (λ l. Going (drop (i + 1) l) end new) same
         (goes placed (drop (i + 1) read) end world new entry is (from_place g) again)
 
   pub ends_at : (entries read : List Placed) → read ≡ entries → (i : ℕ) → length read ≤ i → (end : model.World) (world : World)
-      → Going (drop i entries) end world → Stands world end
+      → Going (drop i entries) end world → StandsFor world end
   ends_at entries read same i past end world g =
       ends end world (subst (λ l. Going l end world) (drop_all i entries (subst (λ l. length l ≤ i) same past)) g)
 

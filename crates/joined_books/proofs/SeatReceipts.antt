@@ -12,12 +12,12 @@ use Rattle.joined_books.proofs.Marks.{all_marked, none_marked, strange_more}
 use Rattle.joined_books.proofs.Zipped.{part_beyond, part_of}
 use Rattle.joined_books.specs.Marks.{AreMarked, IsStrange}
 use Rattle.joined_books.specs.Parts.{entries_at}
-use Rattle.joined_books.specs.Receipts.{AllStand, AreReceipts, HasReceipts, IsShort, StandAll}
-use Rattle.joined_books.specs.Receipts.{StandsIn, acts_of, own_receipts, position_of, receipts_of}
+use Rattle.joined_books.specs.Receipts.{AllEntered, AreEnteredApart, AreReceipts, HasReceipts, IsShort}
+use Rattle.joined_books.specs.Receipts.{IsEnteredIn, acts_of, own_receipts, position_of, receipts_of}
 use Rattle.node_book.specs.Seen.{BookSeen}
 use Rattle.node_history.specs.Acts.{is_act}
 use Rattle.node_history.specs.declared.entry.Entry.{Entry}
-use Rattle.node_lock.specs.Seats.{StandsAs}
+use Rattle.node_lock.specs.Seats.{IsEnteredAs}
 use Rattle.node_lock.specs.declared.seat.Asked.{Asked}
 use Rattle.node_lock.specs.declared.seat.Seat.{Seat}
 
@@ -55,17 +55,17 @@ module _ (node : ℕ) (seats : List Seat) (i : ℕ) (x : Seat) (below : i < leng
       omega arith
 
   -- a strange one among those of this seat
-  pub strange_in : (Stands : Asked → Type 0) (at : ℕ)
-      → IsStrange position_of Stands (receipts_of node (take i seats) ++ own_receipts node x) at
-      → IsStrange position_of Stands (receipts_of node seats) at
-  strange_in Stands at h =
-      subst (λ l. IsStrange position_of Stands l at) (sym seats_split)
-      (strange_more position_of Stands (receipts_of node (take i seats) ++ own_receipts node x) (receipts_of node (drop (i + 1) seats)) at
+  pub strange_in : (IsThere : Asked → Type 0) (at : ℕ)
+      → IsStrange position_of IsThere (receipts_of node (take i seats) ++ own_receipts node x) at
+      → IsStrange position_of IsThere (receipts_of node seats) at
+  strange_in IsThere at h =
+      subst (λ l. IsStrange position_of IsThere l at) (sym seats_split)
+      (strange_more position_of IsThere (receipts_of node (take i seats) ++ own_receipts node x) (receipts_of node (drop (i + 1) seats)) at
       h)
 
 -- ---- a seat of no node
 
-no_entry : (asked : Asked) → StandsIn [] asked → ⊥
+no_entry : (asked : Asked) → IsEnteredIn [] asked → ⊥
 no_entry asked h = h
 
 own_are : (node : ℕ) (x : Seat) → node ≡ x.node → own_receipts node x ≡ x.receipts.items
@@ -77,7 +77,7 @@ own_are node x e = elim (eqb_tells x.node node) [
 pub strange_seat : (books : List BookSeen) (seats : List Seat) (i : ℕ) (x : Seat) (node : ℕ) (asked : Asked) → i < length seats
     → x ≡ get_or seats i x
     → node ≡ x.node → length books ≤ node → Contains x.receipts.items asked
-    → IsStrange position_of (StandsIn (entries_at books node)) (receipts_of node seats) asked.receipt.position
+    → IsStrange position_of (IsEnteredIn (entries_at books node)) (receipts_of node seats) asked.receipt.position
 strange_seat books seats i x node asked below is e beyond there = record {
   one = asked;
   there = subst (λ l. Contains l asked) (sym (seats_split node seats i x below is))
@@ -86,7 +86,7 @@ strange_seat books seats i x node asked below is e beyond there = record {
       (subst (λ l. Contains l asked) (sym (own_are node x e)) there)));
   place_is = refl;
   strange = inl (λ s. no_entry asked
-      (subst (λ l. StandsIn l asked) (part_beyond (λ (b : BookSeen). b.history.entries.items) books node [] (omega arith)) s));
+      (subst (λ l. IsEnteredIn l asked) (part_beyond (λ (b : BookSeen). b.history.entries.items) books node [] (omega arith)) s));
 }
 
 none_of : (node : ℕ) (seats : List Seat)
@@ -117,7 +117,7 @@ bit_at f [] p = refl
 bit_at f (e ∷ es) zero = refl
 bit_at f (e ∷ es) (suc p) = bit_at f es p
 
-act_in : (asked : Asked) (o : Option Entry) → StandsAs asked o → is_some_act (λ (entry : Entry). is_act entry.event) o ≡ true
+act_in : (asked : Asked) (o : Option Entry) → IsEnteredAs asked o → is_some_act (λ (entry : Entry). is_act entry.event) o ≡ true
 unfolding is_some_act
 act_in asked None h = absurd h
 act_in asked (Some entry) h = h.1
@@ -131,11 +131,11 @@ count_map f (e ∷ es) =
     omega arith
 
 has_all : (entries : List Entry) (marks : List Bool) (receipts : List Asked)
-    → AreMarked position_of (StandsIn entries) (length entries) marks receipts
+    → AreMarked position_of (IsEnteredIn entries) (length entries) marks receipts
     → length receipts ≡ count_by (λ (entry : Entry). is_act entry.event) entries → HasReceipts entries receipts
 has_all entries marks receipts marked as_many = record {
   stand = marked.stand;
-  once = all_marked position_of (StandsIn entries) (length entries) marks (acts_of entries) receipts marked
+  once = all_marked position_of (IsEnteredIn entries) (length entries) marks (acts_of entries) receipts marked
       (λ asked s. bit_at (λ (entry : Entry). is_act entry.event) entries asked.receipt.position
       ∙ act_in asked (slice_get entries asked.receipt.position) s)
       (as_many ∙ sym (count_map (λ (entry : Entry). is_act entry.event) entries));
@@ -146,13 +146,13 @@ has_none entries receipts none nothing =
     subst (λ l. HasReceipts l receipts) (sym none) (subst (λ l. HasReceipts [] l) (sym nothing) empty)
   where
     empty : HasReceipts [] []
-    empty = record { stand = All-nil (StandsIn []); once = λ position. refl }
+    empty = record { stand = All-nil (IsEnteredIn []); once = λ position. refl }
 
 same_number : (m n : ℕ) → (m ≢ n → ⊥) → m ≡ n
 same_number m n h = elim (eqb_tells m n) [ inl t ↦ t.1 | inr t ↦ absurd (h t.1) ]
 
-pub all_stand : (books : List BookSeen) (seats : List Seat) → ((node : ℕ) → node < length books → StandAll books seats node)
-    → All (λ (seat : Seat). length books ≤ seat.node → seat.receipts.items ≡ []) seats → AllStand books seats
+pub all_stand : (books : List BookSeen) (seats : List Seat) → ((node : ℕ) → node < length books → AreEnteredApart books seats node)
+    → All (λ (seat : Seat). length books ≤ seat.node → seat.receipts.items ≡ []) seats → AllEntered books seats
 all_stand books seats stand nowhere node = elim (in_or_out node (length books)) [
   | inl within ↦ stand node within
   | inr beyond ↦ (
@@ -164,13 +164,13 @@ all_stand books seats stand nowhere node = elim (in_or_out node (length books)) 
 ]
   where
     nothing : (entries : List Entry) (receipts : List Asked) → entries ≡ [] → receipts ≡ []
-        → AreMarked position_of (StandsIn entries) (length entries) [] receipts
+        → AreMarked position_of (IsEnteredIn entries) (length entries) [] receipts
     nothing entries receipts none no_more =
-        let P : List Entry → Type 0 = λ l. AreMarked position_of (StandsIn l) (length l) [] receipts in
-        let Q : List Asked → Type 0 = λ l. AreMarked position_of (StandsIn []) 0 [] l in
-        subst P (sym none) (subst Q (sym no_more) (none_marked position_of (StandsIn []) 0 [] refl (λ p. refl)))
+        let P : List Entry → Type 0 = λ l. AreMarked position_of (IsEnteredIn l) (length l) [] receipts in
+        let Q : List Asked → Type 0 = λ l. AreMarked position_of (IsEnteredIn []) 0 [] l in
+        subst P (sym none) (subst Q (sym no_more) (none_marked position_of (IsEnteredIn []) 0 [] refl (λ p. refl)))
 
-pub are_receipts : (books : List BookSeen) (seats : List Seat) → ((node : ℕ) → node < length books → StandAll books seats node)
+pub are_receipts : (books : List BookSeen) (seats : List Seat) → ((node : ℕ) → node < length books → AreEnteredApart books seats node)
     → All (λ (seat : Seat). length books ≤ seat.node → seat.receipts.items ≡ []) seats
     → ((node : ℕ) → node < length books → IsShort (entries_at books node) (receipts_of node seats) → ⊥) → AreReceipts books seats
 are_receipts books seats stand nowhere enough node = elim (in_or_out node (length books)) [

@@ -2,7 +2,7 @@
 use Rattle.std.specs.Prelude.{List}
 use Rattle.dist_books.specs.Acting.{Nodes}
 use Rattle.joined_books.specs.Names.{AreInPlace, IsStrangeBook}
-use Rattle.joined_books.specs.Receipts.{AllStand, IsMissing, IsStrangeReceipt}
+use Rattle.joined_books.specs.Receipts.{AllEntered, IsMissing, IsStrangeReceipt}
 use Rattle.joined_books.specs.Wires.{AreWhole, IsTorn}
 use Rattle.joined_books.specs.declared.error.FinishError.{FinishError}
 use Rattle.joined_books.specs.declared.error.FinishError.TheVariants.{OutOfMemory, SeatsMissing, StrangeBook, StrangeReceipt, Torn}
@@ -15,5 +15,6 @@ IsFault nodes books seats (StrangeBook node) = IsStrangeBook nodes books node
 IsFault nodes books seats (Torn trunk seq) = AreInPlace nodes books × IsTorn books trunk seq
 IsFault nodes books seats (StrangeReceipt node position) =
     AreInPlace nodes books × AreWhole books × IsStrangeReceipt books seats node position
-IsFault nodes books seats (SeatsMissing node) = AreInPlace nodes books × AreWhole books × AllStand books seats × IsMissing books seats node
+IsFault nodes books seats (SeatsMissing node) =
+    AreInPlace nodes books × AreWhole books × AllEntered books seats × IsMissing books seats node
 IsFault nodes books seats OutOfMemory = Unit {0}

@@ -5,11 +5,11 @@ use Rattle.std.specs.Prelude.{◌≡◌, ◌⊎◌, ℕ, ◌<◌, Bool, false, L
 abbrev pub how_many : {X : Type 0} → (X → ℕ) → ℕ → List X → ℕ
 how_many place at xs = count_by (λ x. place x == at) xs
 
-module _ {X : Type 0} (place : X → ℕ) (Stands : X → Type 0) where
+module _ {X : Type 0} (place : X → ℕ) (IsThere : X → Type 0) where
   -- all stand, each at another of so many places, and theirs are marked
   pub record AreMarked (size : ℕ) (marks : List Bool) (xs : List X) : Type 0 where
     pub lens : length marks ≡ size
-    pub stand : All Stands xs
+    pub stand : All IsThere xs
     pub marked : (at : ℕ) → how_many place at xs ≡ (if slice_index_or marks at false then 1 else 0)
 
   -- one of them at this place doesn't stand, or isn't alone there
@@ -17,4 +17,4 @@ module _ {X : Type 0} (place : X → ℕ) (Stands : X → Type 0) where
     pub one : X
     pub there : Contains xs one
     pub place_is : place one ≡ at
-    pub strange : (Stands one → ⊥) ⊎ (1 < how_many place at xs)
+    pub strange : (IsThere one → ⊥) ⊎ (1 < how_many place at xs)

@@ -6,14 +6,14 @@ use Rattle.erl_term.specs.declared.refusal.Refusal.{Refusal}
 use Rattle.node_history.specs.declared.entry.Entry.{Entry}
 use Rattle.world_core.specs.Names.{are_distinct, name_at}
 use Rattle.world_core.specs.Ran.{event_at}
-use Rattle.world_core.specs.Stands.{Stands}
+use Rattle.world_core.specs.Stands.{StandsFor}
 use Rattle.world_core.specs.declared.world.World.{World}
 
 -- Its event happens at the node of this place, and memory isn't wanting; where memory was, nothing happens.
 abbrev pub HappensAgain : (m : model.World) (node : ℕ) (entry : Entry) (new : World) → Type 0
 HappensAgain m node entry new =
-    ((entry.answer ≡ Err Refusal.OutOfMemory) × Stands new m)
-    ⊎ ((entry.answer ≢ Err Refusal.OutOfMemory) × Stands new ((model.step m (event_at (name_at m.names node) entry.event)).world))
+    ((entry.answer ≡ Err Refusal.OutOfMemory) × StandsFor new m)
+    ⊎ ((entry.answer ≢ Err Refusal.OutOfMemory) × StandsFor new ((model.step m (event_at (name_at m.names node) entry.event)).world))
 
 -- no world has these nodes, since two have one name; or memory was wanting
 abbrev pub IsUnopened : Nodes → Refusal → Type 0

@@ -5,7 +5,7 @@ ghost use Rattle.joined_books.specs.Faults.{IsFault};
 ghost use Rattle.joined_books.specs.Marks.{AreMarked, IsStrange};
 ghost use Rattle.joined_books.specs.Names.{AreInPlace};
 ghost use Rattle.joined_books.specs.Parts.{entries_at};
-ghost use Rattle.joined_books.specs.Receipts.{AllStand, AreReceipts, IsShort, StandAll, StandsIn, own_receipts, position_of, receipts_of};
+ghost use Rattle.joined_books.specs.Receipts.{AllEntered, AreEnteredApart, AreReceipts, IsEnteredIn, IsShort, own_receipts, position_of, receipts_of};
 ghost use Rattle.joined_books.specs.Wires.{AreWhole};
 ghost use Rattle.node_history.specs.Acts.{is_act};
 ghost use Rattle.node_lock.specs.declared.seat.Asked.{Asked as TheAsked};
@@ -20,12 +20,12 @@ use std::alloc::{AllocError, Global};
 fn mark(marks: &mut Vec<bool>, entries: &[Entry], asked: &Asked) -> bool
     requires { length marks.old.items ≡ length entries.now }
     ensures len { length marks.new.items ≡ length marks.old.items }
-    ensures stands { IsTrue result → StandsIn entries.now asked.now }
+    ensures stands { IsTrue result → IsEnteredIn entries.now asked.now }
     ensures within { IsTrue result → position_of asked.now < length marks.old.items }
     ensures free { IsTrue result → slice_index_or marks.old.items (position_of asked.now) false ≡ false }
     ensures marked { IsTrue result → marks.new.items ≡ slice_set marks.old.items (position_of asked.now) true }
     ensures refused { result ≡ false →
-        (StandsIn entries.now asked.now → ⊥) ⊎ (slice_index_or marks.old.items (position_of asked.now) false ≡ true) }
+        (IsEnteredIn entries.now asked.now → ⊥) ⊎ (slice_index_or marks.old.items (position_of asked.now) false ≡ true) }
 {
     let at = asked.receipt.position;
     if at >= entries.len() || !stands_as(asked, entries.get(at)) || marks[at] {
@@ -38,9 +38,9 @@ fn mark(marks: &mut Vec<bool>, entries: &[Entry], asked: &Asked) -> bool
 // The same of several. Answers the position of the first that is refused.
 fn mark_all(marks: &mut Vec<bool>, entries: &[Entry], receipts: &[Asked]) -> Option<usize>
     requires { length marks.old.items ≡ length entries.now }
-    ensures marked { (before : List TheAsked) → AreMarked position_of (StandsIn entries.now) (length entries.now) marks.old.items before →
-        MatchOption result (AreMarked position_of (StandsIn entries.now) (length entries.now) marks.new.items (before ++ receipts.now))
-        (IsStrange position_of (StandsIn entries.now) (before ++ receipts.now)) }
+    ensures marked { (before : List TheAsked) → AreMarked position_of (IsEnteredIn entries.now) (length entries.now) marks.old.items before →
+        MatchOption result (AreMarked position_of (IsEnteredIn entries.now) (length entries.now) marks.new.items (before ++ receipts.now))
+        (IsStrange position_of (IsEnteredIn entries.now) (before ++ receipts.now)) }
     ensures len { length marks.new.items ≡ length marks.old.items }
 {
     for asked in receipts {
@@ -70,8 +70,8 @@ fn strange_one(
     seats: &[Seat],
 ) -> Result<Option<usize>, AllocError>
     ensures { IfOk result (λ strange. MatchOption strange
-        ((marks : List Bool) × AreMarked position_of (StandsIn entries.now) (length entries.now) marks (receipts_of node seats.now))
-        (IsStrange position_of (StandsIn entries.now) (receipts_of node seats.now))) }
+        ((marks : List Bool) × AreMarked position_of (IsEnteredIn entries.now) (length entries.now) marks (receipts_of node seats.now))
+        (IsStrange position_of (IsEnteredIn entries.now) (receipts_of node seats.now))) }
 {
     let mut marks = Vec::from_elem(alloc, false, entries.len())?;
     for seat in seats {
@@ -84,7 +84,7 @@ fn strange_one(
 
 // Whether the receipts of all seats stand, each at another position.
 fn check_nodes(alloc: Global, books: &[Book], seats: &[Seat]) -> Result<(), FinishError>
-    ensures ok { IfOk result (λ _. (node : ℕ) → node < length books.now → StandAll books.now seats.now node) }
+    ensures ok { IfOk result (λ _. (node : ℕ) → node < length books.now → AreEnteredApart books.now seats.now node) }
     ensures err { IfErr result (λ e. (opening : Nodes) → AreInPlace opening books.now → AreWhole books.now → IsFault opening books.now seats.now e) }
 {
     for node in 0..books.len() {
@@ -155,7 +155,7 @@ fn is_short(node: usize, entries: &[Entry], seats: &[Seat]) -> bool
 fn check_counts(books: &[Book], seats: &[Seat]) -> Result<(), FinishError>
     ensures ok { IfOk result (λ _. (node : ℕ) → node < length books.now →
         IsShort (entries_at books.now node) (receipts_of node seats.now) → ⊥) }
-    ensures err { IfErr result (λ e. (opening : Nodes) → AreInPlace opening books.now → AreWhole books.now → AllStand books.now seats.now →
+    ensures err { IfErr result (λ e. (opening : Nodes) → AreInPlace opening books.now → AreWhole books.now → AllEntered books.now seats.now →
         IsFault opening books.now seats.now e) }
 {
     for node in 0..books.len() {

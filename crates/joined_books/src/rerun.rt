@@ -7,7 +7,7 @@ ghost use Rattle.erl_term.specs.declared.refusal.Refusal.TheVariants.{OutOfMemor
 ghost use Rattle.joined_books.specs.Joined.{AreARun};
 ghost use Rattle.joined_books.specs.Parts.{entries_at};
 ghost use Rattle.joined_books.specs.Replayed.{HappensAgain, IsUnopened};
-ghost use Rattle.world_core.specs.Stands.{Stands};
+ghost use Rattle.world_core.specs.Stands.{StandsFor};
 
 use crate::trace::{Placed, Trace};
 use erl_handshake::Cookie;
@@ -34,7 +34,7 @@ fn copied(
 
 // The world of these nodes before anything has happened.
 fn opened(alloc: Global, nodes: &[(NodeName, Cookie)]) -> Result<World, Refusal>
-    ensures ok { IfOk result (λ world. Stands world (opening nodes.now)) }
+    ensures ok { IfOk result (λ world. StandsFor world (opening nodes.now)) }
     ensures err { IfErr result (IsUnopened nodes.now) }
 {
     if !World::can_open(nodes) {
@@ -62,7 +62,7 @@ fn entry_at<'a>(books: &'a [Book], placed: &Placed) -> Option<&'a Entry>
 
 // What an entry tells happens in a world, at the node of a place.
 fn happens(alloc: Global, world: &mut World, node: usize, entry: &Entry) -> Result<(), Refusal>
-    ensures ok { (m : TheWorld) → Stands world.old m → OnOk result (HappensAgain m node entry.now world.new) }
+    ensures ok { (m : TheWorld) → StandsFor world.old m → OnOk result (HappensAgain m node entry.now world.new) }
     ensures err { IfErr result (λ e. e ≡ OutOfMemory) }
 {
     if matches!(&entry.answer, Err(Refusal::OutOfMemory)) {
@@ -88,7 +88,7 @@ pub fn replay(
     books: &[Book],
     trace: &Trace,
 ) -> Result<World, Refusal>
-    ensures ok { (run : AreARun nodes.now books.now trace.now.entries.items) → IfOk result (λ world. Stands world run.run.world) }
+    ensures ok { (run : AreARun nodes.now books.now trace.now.entries.items) → IfOk result (λ world. StandsFor world run.run.world) }
     ensures err { AreARun nodes.now books.now trace.now.entries.items → IfErr result (λ e. e ≡ OutOfMemory) }
 {
     let mut world = opened(alloc, nodes)?;

@@ -12,7 +12,7 @@ use Rattle.node_history.specs.declared.entry.Entry.{Entry}
 use Rattle.node_history.specs.declared.history.History.{History}
 use Rattle.node_book.proofs.Places.{IsFirst, outlet_push, outlet_set}
 use Rattle.node_book.specs.Feeding.{KeepsFeeding}
-use Rattle.node_book.specs.Standing.{Feeds, FeedsAt, Stands, TellEntries, outlet_of}
+use Rattle.node_book.specs.Standing.{Feeds, FeedsAt, HasBook, TellEntries, outlet_of}
 use Rattle.node_book.specs.declared.outlet.Outlet.{Outlet}
 
 moves_not : (own : Name) (t : TrunkId) (o : Option Port) → Moves own t o o
@@ -20,7 +20,7 @@ moves_not own t None = tt
 moves_not own t (Some p) = nothing_more p
 
 module _ (rest : BooksRest) (place : ℕ) (nodes : Nodes) (history : History) (outlets : List Outlet)
-    (s : Stands place history outlets nodes) where
+    (s : HasBook place history outlets nodes) where
   abbrev own : Name
   own = name_at nodes place
 
@@ -31,7 +31,7 @@ module _ (rest : BooksRest) (place : ℕ) (nodes : Nodes) (history : History) (o
   next ports = record { node = s.book.node; last = s.book.last; history = s.book.history; ports = ports }
 
   pub rested : (ports : TrunkId → Option Port) (outlets' : List Outlet) → ((t : TrunkId) → Moves own t (s.book.ports t) (ports t))
-      → ((t : TrunkId) → FeedsAt t es (outlet_of t outlets') (ports t)) → Stands place history outlets' nodes
+      → ((t : TrunkId) → FeedsAt t es (outlet_of t outlets') (ports t)) → HasBook place history outlets' nodes
   rested ports outlets' moves feeds = record {
     book = next ports;
     is = record { node = s.is.node; last = s.is.last; entries = s.is.entries; ports = feeds };
@@ -65,7 +65,7 @@ module _ (rest : BooksRest) (place : ℕ) (nodes : Nodes) (history : History) (o
     feeds t true is = subst (λ x. FeedsAt x es (Some new) here.0) (sym (same_trunk_true t trunk is)) here.2
     feeds t false is = s.is.ports t
 
-    pub shifted : Stands place history (set outlets k new) nodes
+    pub shifted : HasBook place history (set outlets k new) nodes
     shifted = rested ports (set outlets k new) (λ t. moves t (same_trunk t trunk) refl)
         (λ t. subst (λ o. FeedsAt t es o (ports t)) (sym (outlet_set t trunk k outlets new first (fed_trunk here.0 here.2)))
         (feeds t (same_trunk t trunk) refl))
@@ -98,14 +98,14 @@ module _ (rest : BooksRest) (place : ℕ) (nodes : Nodes) (history : History) (o
     feeds_new t true same = subst (λ x. FeedsAt x es (Some new) (Some p)) (sym (same_trunk_true t trunk same)) is
     feeds_new t false same = s.is.ports t
 
-    pub installed : Stands place history (outlets ++ new ∷ []) nodes
+    pub installed : HasBook place history (outlets ++ new ∷ []) nodes
     installed = rested with_port (outlets ++ new ∷ []) (λ t. comes_at t (same_trunk t trunk) refl)
         (λ t. subst (λ o. FeedsAt t es o (with_port t)) (sym (outlet_push t outlets new none)) (feeds_new t (same_trunk t trunk) refl))
 
 -- ---- a new book
 
 pub new_stands : (follow : NewBooksFollow) (place : ℕ) (nodes : Nodes) (history : History) → model_of history.node ≡ opened_at nodes place
-    → history.last ≡ 0 → history.entries.items ≡ [] → Stands place history [] nodes
+    → history.last ≡ 0 → history.entries.items ≡ [] → HasBook place history [] nodes
 new_stands follow place nodes history node last entries = record {
   book = new_book (opened_at nodes place);
   is = record {

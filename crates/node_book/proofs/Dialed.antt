@@ -32,7 +32,7 @@ use Rattle.node_book.proofs.OneEntryMore as one_more
 use Rattle.node_book.proofs.OneEntryMore.{entered, feeds_grown, leaves_grown, more}
 use Rattle.node_book.proofs.Places.{outlet_push}
 use Rattle.node_book.proofs.Ways.{none_behind, place_snoc, waiting_snoc}
-use Rattle.node_book.specs.Standing.{Feeds, FeedsAt, Stands, outlet_of}
+use Rattle.node_book.specs.Standing.{Feeds, FeedsAt, HasBook, outlet_of}
 use Rattle.node_book.specs.Waiting.{AreFramesOf, sent_in}
 use Rattle.node_book.specs.declared.outlet.Outlet.{Outlet}
 use Rattle.node_book.specs.Passing.{new_outlet}
@@ -107,7 +107,7 @@ some_port p h = cc
 
 module _ (grow : BooksGrow) (new_next : NextIsNew) (place : ℕ) (nodes : Nodes) (old new : History) (peer : Name)
     (word greatest : ℕ) (outlets : List Outlet)
-    (below : place < length nodes) (s : Stands place old outlets nodes)
+    (below : place < length nodes) (s : HasBook place old outlets nodes)
     (e : Enters (at_node (names_of nodes) (model_of old.node) (met_by (event.Dial peer word) None)) (event.Dial peer word) 0 old new) where
   abbrev own : Name
   own = name_at nodes place
@@ -203,7 +203,7 @@ module _ (grow : BooksGrow) (new_next : NextIsNew) (place : ℕ) (nodes : Nodes)
         feeds_grown grow place nodes old new (event.Dial peer word) None 0 outlets below s e t (outlet_of t outlets)
         (s.book.ports t) (s.is.ports t)
 
-    pub entered_dialing : Stands place new (outlets ++ outlet ∷ []) nodes
+    pub entered_dialing : HasBook place new (outlets ++ outlet ∷ []) nodes
     entered_dialing =
         entered grow place nodes old new (event.Dial peer word) None 0 outlets below s e None ports (outlets ++ outlet ∷ [])
         tt (sym (ap

@@ -24,7 +24,7 @@ use Rattle.node_book.proofs.OneEntryMore as one_more
 use Rattle.node_book.proofs.OneEntryMore.{entered, feeds_grown}
 use Rattle.node_book.proofs.Places.{IsFirst, outlet_set}
 use Rattle.node_book.specs.Applying.{without_next}
-use Rattle.node_book.specs.Standing.{Feeds, FeedsAt, Stands, outlet_of}
+use Rattle.node_book.specs.Standing.{Feeds, FeedsAt, HasBook, outlet_of}
 use Rattle.node_book.specs.declared.outlet.Outlet.{Outlet}
 use Rattle.node_ports.specs.Ports.{behind_first}
 use Rattle.node_ports.specs.Standing.{Carries, CarryAll}
@@ -99,7 +99,7 @@ arrival_no_dial trunk first word peer h = let no : met.Arrive trunk first word �
 
 module _ (grow : BooksGrow) (place : ℕ) (nodes : Nodes) (old new : History) (trunk : TrunkId) (word : ℕ) (x : Stamped)
     (outlets : List Outlet)
-    (below : place < length nodes) (s : Stands place old outlets nodes)
+    (below : place < length nodes) (s : HasBook place old outlets nodes)
     (e : Enters (at_node (names_of nodes) (model_of old.node) (met_by (event.Arrive trunk word) (Some x.1)))
     (event.Arrive trunk word) x.0 old new) where
   abbrev own : Name
@@ -177,7 +177,7 @@ module _ (grow : BooksGrow) (place : ℕ) (nodes : Nodes) (old new : History) (t
         feeds_grown grow place nodes old new (event.Arrive trunk word) (Some x.1) x.0 outlets below s e t
         (outlet_of t outlets) (s.book.ports t) (s.is.ports t)
 
-    pub entered_taking : Stands place new (set outlets k (without_next o)) nodes
+    pub entered_taking : HasBook place new (set outlets k (without_next o)) nodes
     entered_taking =
         entered grow place nodes old new (event.Arrive trunk word) (Some x.1) x.0 outlets below s e took ports
         (set outlets k (without_next o))

@@ -24,7 +24,7 @@ use Rattle.node_book.proofs.Places.{IsFirst, first_is}
 use Rattle.node_book.proofs.ItemTaken.{Waits, entered_taking, some_not_none, waits}
 use Rattle.node_book.specs.Answers.{is_accepted, is_plain, trunk_answered, trunk_in, trunk_said}
 use Rattle.node_book.specs.Applying.{DialsOut, Takes, TakesNothing, with_opened, without_next}
-use Rattle.node_book.specs.Standing.{AreNodes, FeedsAt, IsBook, Stands, TellEntries, outlet_of}
+use Rattle.node_book.specs.Standing.{AreNodes, FeedsAt, IsBook, HasBook, TellEntries, outlet_of}
 use Rattle.node_book.specs.declared.outlet.Outlet.{Outlet}
 use Rattle.world_core.specs.Ran.{event_at}
 use Rattle.world_events.specs.Events.{met as met_by}
@@ -62,9 +62,9 @@ set_first trunk (suc k) (o ∷ os) d h = ap (λ l. o ∷ l) (set_first trunk k o
 -- ---- nothing has changed
 
 pub stands_still : (place : ℕ) (old new : History) (outlets outlets' : List Outlet) (nodes : Nodes) → Stays old new → outlets' ≡ outlets
-    → Stands place old outlets nodes → Stands place new outlets' nodes
+    → HasBook place old outlets nodes → HasBook place new outlets' nodes
 stands_still place old new outlets outlets' nodes st same s =
-    subst (λ os. Stands place new os nodes) (sym same) (record {
+    subst (λ os. HasBook place new os nodes) (sym same) (record {
       book = s.book;
       is = record {
         node = s.is.node ∙ sym st.node;
@@ -129,7 +129,7 @@ module _ (grow : BooksGrow) (names : List Name) (place : ℕ) (cookie : List ℕ
   there = first_is trunk k outlets d first
 
   module _ (at : ℕ) (h : Takes trunk word old new before after at) (nodes : Nodes) (a : AreNodes names place cookie nodes) where
-    s : Stands place old outlets nodes
+    s : HasBook place old outlets nodes
     s = kept.1 nodes a
 
     below : place < length nodes
@@ -163,18 +163,18 @@ module _ (grow : BooksGrow) (names : List Name) (place : ℕ) (cookie : List ℕ
         ∙ ap (λ x. cond (is_ok x) (without_next before) before) is
 
     by_answer : (answer : Answer) → e.answer ≡ answer → Ends due s.book.node (model_of new.node) answer
-        → Stands place new (set outlets k after) nodes
+        → HasBook place new (set outlets k after) nodes
     by_answer (Ok report) is q =
-        subst (λ o. Stands place new (set outlets k o) nodes) (sym (answered (Ok report) is))
+        subst (λ o. HasBook place new (set outlets k o) nodes) (sym (answered (Ok report) is))
         (entered_taking grow place nodes old new trunk word w.x outlets below s e q.answer q.work q.accepts k before first
         there w.feeds.trunk_is w.port w.is w.feeds w.xs w.slot)
     by_answer (Err why) is q =
-        subst (λ o. Stands place new (set outlets k o) nodes) (sym (answered (Err why) is))
-        (subst (λ os. Stands place new os nodes) (sym (set_first trunk k outlets d first))
+        subst (λ o. HasBook place new (set outlets k o) nodes) (sym (answered (Err why) is))
+        (subst (λ os. HasBook place new os nodes) (sym (set_first trunk k outlets d first))
         (entered_refused grow place nodes old new (event.Arrive trunk word) (Some w.x.1) w.x.0 outlets below s e
         (λ no. some_not_none w.x.1 no) why q.0))
 
-    pub taken_stands : Stands place new (set outlets k after) nodes
+    pub taken_stands : HasBook place new (set outlets k after) nodes
     taken_stands = by_answer e.answer refl (ends grow place nodes old new (event.Arrive trunk word) (Some w.x.1) w.x.0 outlets below s e)
 
   pub taken : (at : ℕ) → Takes trunk word old new before after at → IsBook names place cookie new (set outlets k after)
@@ -192,7 +192,7 @@ module _ (grow : BooksGrow) (new_next : NextIsNew) (names : List Name) (place : 
     (peer : Name) (word greatest : ℕ) (known : has_name peer names ≡ is_known) (kept : IsBook names place cookie old outlets) where
   module _ (at : ℕ) (h : DialsOut greatest is_known peer word old new outlets after at) (nodes : Nodes)
       (a : AreNodes names place cookie nodes) where
-    s2 : Stands place old outlets nodes
+    s2 : HasBook place old outlets nodes
     s2 = kept.1 nodes a
 
     below2 : place < length nodes
@@ -228,20 +228,20 @@ module _ (grow : BooksGrow) (new_next : NextIsNew) (names : List Name) (place : 
         ap (λ (n : Name). with_opened greatest n peer at (Some (s2.book.node.dialed + 1)) outlets) is
         ∙ ap (λ (n : ℕ). with_opened greatest s2.book.node.mint.name peer n (Some (s2.book.node.dialed + 1)) outlets) h.place_is
 
-    by_reply : (answer : Answer) → e2.answer ≡ answer → Ends due2 s2.book.node (model_of new.node) answer → Stands place new after nodes
+    by_reply : (answer : Answer) → e2.answer ≡ answer → Ends due2 s2.book.node (model_of new.node) answer → HasBook place new after nodes
     by_reply (Ok report) is d =
         let dialed = accepted_dial (names_of nodes) s2.book.node peer word d.answer d.work d.accepts in
         let said : count_of (trunk_answered (Ok report)) ≡ Some (s2.book.node.dialed + 1) =
         ap (λ (x : Said). count_of (trunk_said x)) (d.told ∙ dialed.answer) in
-        subst (λ os. Stands place new os nodes)
+        subst (λ os. HasBook place new os nodes)
         (sym (opened_by (Ok report) is ∙ ap (λ c. with_opened greatest own peer at c outlets) said
         ∙ same_outlet own (ap (λ (m : model.Node). m.mint.name) (sym s2.is.node))))
         (entered_dialing grow new_next place nodes old new peer word greatest outlets below2 s2 e2 d.answer d.work d.accepts)
     by_reply (Err why) is d =
-        subst (λ os. Stands place new os nodes) (sym (opened_by (Err why) is))
+        subst (λ os. HasBook place new os nodes) (sym (opened_by (Err why) is))
         (entered_refused grow place nodes old new (event.Dial peer word) None 0 outlets below2 s2 e2 tt why d.0)
 
-    pub dialed_stands : Stands place new after nodes
+    pub dialed_stands : HasBook place new after nodes
     dialed_stands = by_reply e2.answer refl (ends grow place nodes old new (event.Dial peer word) None 0 outlets below2 s2 e2)
 
   pub dialed : (at : ℕ) → DialsOut greatest is_known peer word old new outlets after at → IsBook names place cookie new after

@@ -21,7 +21,7 @@ use Rattle.node_history.specs.declared.entry.Entry.{Entry}
 use Rattle.node_history.specs.declared.history.History.{History}
 use Rattle.node_book.proofs.Counted.{counts_of}
 use Rattle.node_book.proofs.Ways.{frames_append, frames_of_sent, place_snoc, waiting_snoc}
-use Rattle.node_book.specs.Standing.{Feeds, FeedsAt, Stands, TellEntries, TellsEntry, outlet_of}
+use Rattle.node_book.specs.Standing.{Feeds, FeedsAt, HasBook, TellEntries, TellsEntry, outlet_of}
 use Rattle.node_book.specs.Waiting.{AreFramesOf, effects_of, sent_in, waiting}
 use Rattle.node_book.specs.declared.outlet.Outlet.{Outlet}
 use Rattle.world_core.specs.Ran.{Tells, event_at}
@@ -90,7 +90,7 @@ feeds_more t es e o p more f h =
 
 module _ (grow : BooksGrow) (place : ℕ) (nodes : Nodes) (old new : History) (what : NodeEvent) (first : Option Item)
     (above : ℕ) (outlets : List Outlet)
-    (below : place < length nodes) (s : Stands place old outlets nodes)
+    (below : place < length nodes) (s : HasBook place old outlets nodes)
     (e : Enters (at_node (names_of nodes) (model_of old.node) (met_by what first)) what above old new) where
   abbrev pub own : Name
   own = name_at nodes place
@@ -140,7 +140,7 @@ module _ (grow : BooksGrow) (place : ℕ) (nodes : Nodes) (old new : History) (w
       → ((t : TrunkId) → Leaves own sent took new.last t s.book.node next_node (meets now first) (s.book.ports t) (ports t))
       → ((t : TrunkId) (peer : Name) → Dials s.book.node (meets now first) t peer → Towards next_node t peer → IsTowards (ports t) peer)
       → ((t : TrunkId) → FeedsAt t (old.entries.items ++ entry ∷ []) (outlet_of t outlets') (ports t))
-      → Stands place new outlets' nodes
+      → HasBook place new outlets' nodes
   entered took ports outlets' is_met takes earlier leaves opened feeds = record {
     book = next ports;
     is = record {
@@ -199,14 +199,14 @@ module _ (grow : BooksGrow) (place : ℕ) (nodes : Nodes) (old new : History) (w
   pub entered_plainly : IsMet now first → taken_in now first due ≡ None
       → ((t : TrunkId) (peer : Name) → Dials s.book.node (meets now first) t peer → Towards next_node t peer
       → IsTowards (s.book.ports t) peer)
-      → Stands place new outlets nodes
+      → HasBook place new outlets nodes
   entered_plainly is_met none opened =
       entered None (λ t. grown t (s.book.ports t)) outlets is_met (sym none) tt (λ t. leaves_grown t (s.book.ports t))
       (λ t peer d h. grown_towards t (s.book.ports t) peer (opened t peer d h))
       (λ t. feeds_grown t (outlet_of t outlets) (s.book.ports t) (s.is.ports t))
 
   -- it is refused, so nothing is taken, and the sides are as they were
-  pub entered_refused : IsMet now first → (why : _) → due ≡ Refuses why → Stands place new outlets nodes
+  pub entered_refused : IsMet now first → (why : _) → due ≡ Refuses why → HasBook place new outlets nodes
   entered_refused is_met why refuses =
       entered_plainly is_met (ap (λ o. taken_in now first o) refuses)
       (λ t peer d h.

@@ -65,11 +65,11 @@ pub record AreNodes (names : List Name) (place : ℕ) (cookie : List ℕ) (nodes
   pub secret : (slice_index_or nodes place ([], [])).1 ≡ cookie
 
 -- it stands for a book of which all holds that a thread keeps: a log replays it from the new node
-pub record Stands (place : ℕ) (history : History) (outlets : List Outlet) (nodes : Nodes) : Type 0 where
+pub record HasBook (place : ℕ) (history : History) (outlets : List Outlet) (nodes : Nodes) : Type 0 where
   pub book : Book
   pub is : IsBookOf (name_at nodes place) history outlets book
   pub follows : Follows nodes place book
 
 abbrev pub IsBook : (names : List Name) (place : ℕ) (cookie : List ℕ) → History → List Outlet → Type 0
 IsBook names place cookie history outlets =
-    (place < length names) × ((nodes : Nodes) → AreNodes names place cookie nodes → Stands place history outlets nodes)
+    (place < length names) × ((nodes : Nodes) → AreNodes names place cookie nodes → HasBook place history outlets nodes)

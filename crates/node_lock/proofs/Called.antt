@@ -10,7 +10,7 @@ use Rattle.node_history.specs.Telling.{Answers, IsTold}
 use Rattle.node_history.specs.declared.entry.Told.{Told}
 use Rattle.node_lock.specs.Acts.{event_of}
 use Rattle.node_lock.specs.Calling.{Calls, IsAtHome, IsUncalled, stamp_at, stamp_in}
-use Rattle.node_lock.specs.Seats.{StandsAs}
+use Rattle.node_lock.specs.Seats.{IsEnteredAs}
 use Rattle.node_lock.specs.declared.act.Act.{Act}
 use Rattle.node_lock.specs.declared.seat.Asked.{Asked}
 use Rattle.node_lock.specs.declared.seat.Seat.{Seat}
@@ -41,11 +41,11 @@ module _ (act : Act) (book : BookSeen) (seat : Seat) where
 
     stands : IsTold next.history.entries.items told → is_act what ≡ true → asked.event ≡ what
         → asked.receipt.stamp ≡ next.history.last → asked.receipt.answer ≡ told.answer
-        → StandsAs asked (slice_get next.history.entries.items told.place)
+        → IsEnteredAs asked (slice_get next.history.entries.items told.place)
     stands t acts e s a =
         let same : said told.answer ≡ said applies.enters.answer =
         subst (Answers told.answer) (there what book next told.place applies) t in
-        subst (StandsAs asked) (sym (there what book next told.place applies)) (sym s, acts, sym e, sym same ∙ ap said (sym a))
+        subst (IsEnteredAs asked) (sym (there what book next told.place applies)) (sym s, acts, sym e, sym same ∙ ap said (sym a))
 
     pub called : IsTold next.history.entries.items told → is_act what ≡ true → asked.event ≡ what → asked.receipt.position ≡ told.place
         → asked.receipt.stamp ≡ stamp_at next.history.entries.items told.place → asked.receipt.node ≡ next.place
@@ -62,7 +62,7 @@ module _ (act : Act) (book : BookSeen) (seat : Seat) where
       };
       applies = subst (λ k. Applies (event_of act) book next k) (sym p) (subst (λ w. Applies w book next told.place) is applies);
       stamp = stamp s;
-      stands = subst (λ k. StandsAs asked (slice_get next.history.entries.items k)) (sym p) (stands t acts e (stamp s) a);
+      stands = subst (λ k. IsEnteredAs asked (slice_get next.history.entries.items k)) (sym p) (stands t acts e (stamp s) a);
     }
 
   pub strange : (IsAtHome book seat → ⊥) → IsUncalled act book book seat seat Refusal.StrangeSeat

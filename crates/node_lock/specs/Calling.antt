@@ -6,7 +6,7 @@ use Rattle.node_book.specs.Seen.{BookSeen}
 use Rattle.node_history.specs.Entering.{Stays}
 use Rattle.node_history.specs.declared.entry.Entry.{Entry}
 use Rattle.node_lock.specs.Acts.{event_of}
-use Rattle.node_lock.specs.Seats.{LastStands, StandsAs, last_of}
+use Rattle.node_lock.specs.Seats.{IsEnteredAs, LastIsEntered, last_of}
 use Rattle.node_lock.specs.declared.act.Act.{Act}
 use Rattle.node_lock.specs.declared.seat.Asked.{Asked}
 use Rattle.node_lock.specs.declared.seat.Seat.{Seat}
@@ -20,7 +20,7 @@ stamp_at entries place = stamp_in (slice_get entries place)
 
 -- the book is of the seat's node, and the seat's last receipt stands in it
 abbrev pub IsAtHome : BookSeen → Seat → Type 0
-IsAtHome book seat = (seat.node ≡ book.place) × LastStands (last_of seat.receipts.items) book.history.entries.items
+IsAtHome book seat = (seat.node ≡ book.place) × LastIsEntered (last_of seat.receipts.items) book.history.entries.items
 
 pub record AddsReceipt (old new : Seat) (asked : Asked) : Type 0 where
   pub node : new.node ≡ old.node
@@ -44,7 +44,7 @@ pub record Calls (act : Act) (book next : BookSeen) (seat after : Seat) (place :
   pub asks : Asks act seat after place
   pub applies : Applies (event_of act) book next asks.asked.receipt.position
   pub stamp : asks.asked.receipt.stamp ≡ next.history.last
-  pub stands : StandsAs asks.asked (slice_get next.history.entries.items asks.asked.receipt.position)
+  pub stands : IsEnteredAs asks.asked (slice_get next.history.entries.items asks.asked.receipt.position)
 
 pub record IsUncalled (act : Act) (book next : BookSeen) (seat after : Seat) (e : Refusal) : Type 0 where
   pub stays : IsSameSeat seat after

@@ -6,9 +6,9 @@ use Rattle.node_lock.specs.declared.seat.Asked.{Asked}
 use Rattle.same_events.specs.Said.{said}
 
 -- the entry is what a caller has asked for: it has the receipt's stamp, its act's event and its answer
-abbrev pub StandsAs : Asked → Option Entry → Type 0
-StandsAs asked None = ⊥
-StandsAs asked (Some entry) =
+abbrev pub IsEnteredAs : Asked → Option Entry → Type 0
+IsEnteredAs asked None = ⊥
+IsEnteredAs asked (Some entry) =
     (entry.stamp ≡ asked.receipt.stamp) × (is_act entry.event ≡ true) × (entry.event ≡ asked.event)
     × (said entry.answer ≡ said asked.receipt.answer)
 
@@ -16,6 +16,6 @@ abbrev pub last_of : List Asked → Option Asked
 last_of receipts = slice_get receipts (length receipts - 1)
 
 -- the receipt that came last, if there is one, stands at its place
-abbrev pub LastStands : Option Asked → List Entry → Type 0
-LastStands None entries = Unit {0}
-LastStands (Some asked) entries = StandsAs asked (slice_get entries asked.receipt.position)
+abbrev pub LastIsEntered : Option Asked → List Entry → Type 0
+LastIsEntered None entries = Unit {0}
+LastIsEntered (Some asked) entries = IsEnteredAs asked (slice_get entries asked.receipt.position)

@@ -1,7 +1,7 @@
 //! Who calls a node, and the receipts of what was asked for.
 ghost use Rattle.std.specs.Prelude.{◌≡◌, ◌↔◌, IsTrue, []};
 ghost use Rattle.std.specs.Option.{option_copied};
-ghost use Rattle.node_lock.specs.Seats.{LastStands, StandsAs, last_of};
+ghost use Rattle.node_lock.specs.Seats.{IsEnteredAs, LastIsEntered, last_of};
 
 use node_history::{Answered, Entry, is_act};
 use same_events::{is_same_answer, is_same_event};
@@ -74,7 +74,7 @@ impl Seat {
 
 /// Whether an entry is what a receipt is of: it has its stamp, its act's event and its answer.
 pub fn stands_as(asked: &Asked, entry: Option<&Entry>) -> bool
-    ensures { IsTrue result ↔ StandsAs asked.now (option_copied entry.entry) }
+    ensures { IsTrue result ↔ IsEnteredAs asked.now (option_copied entry.entry) }
 {
     match entry {
         Some(entry) => {
@@ -89,7 +89,7 @@ pub fn stands_as(asked: &Asked, entry: Option<&Entry>) -> bool
 
 /// Whether the last receipt of a seat stands at its place in a history.
 pub(crate) fn last_stands(receipts: &[Asked], entries: &[Entry]) -> bool
-    ensures { IsTrue result ↔ LastStands (last_of receipts.now) entries.now }
+    ensures { IsTrue result ↔ LastIsEntered (last_of receipts.now) entries.now }
 {
     match receipts.last() {
         Some(asked) => stands_as(asked, entries.get(asked.receipt.position)),

@@ -3,13 +3,13 @@ use Rattle.std.proofs.Common.{ℕ, List, Result, Ok, Err}
 use Rattle.script_core.specs.Lines.{Heeds}
 use Rattle.script_lines.specs.declared.reason.Reason.{Reason}
 use Rattle.script_session.specs.Session.{Step}
-use Rattle.script_session.specs.Stands.{IsState, Obeys}
+use Rattle.script_session.specs.Stands.{IsSession, Obeys}
 use Rattle.script_session.specs.declared.session.Session.{Session}
 use Rattle.script_session.specs.declared.session.Stop.{Stop}
 use Rattle.script_session.specs.declared.session.Stop.TheVariants as stop
 
 pub obeys_heeds : (does : Result Step Reason) (session : Session) (old new : List ℕ) (r : Result (Unit {0}) Stop)
-    → Obeys does session old new r → Heeds IsState does session old new r
+    → Obeys does session old new r → Heeds IsSession does session old new r
 obeys_heeds does session old new (Ok x) o = record { step = o.step; says = o.says; state = o.state; text = o.text }
 obeys_heeds does session old new (Err (stop.Bad reason)) o = o.0
 obeys_heeds does session old new (Err stop.OutOfMemory) o = tt

@@ -29,9 +29,9 @@ pub(crate) trait Lines: Drop {
 }
 
 impl Lines for Session {
-    ghost use Rattle.script_session.specs.Stands.{IsState};
+    ghost use Rattle.script_session.specs.Stands.{IsSession};
 
-    ghost stands = { IsState };
+    ghost stands = { IsSession };
 
     fn line(&mut self, alloc: Global, line: &[u8], out: &mut String) -> Result<(), Stop> {
         Session::line(self, alloc, line, out)

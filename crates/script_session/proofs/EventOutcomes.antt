@@ -12,7 +12,7 @@ use Rattle.script_session.specs.Stage.{sent_in, sents, Stage as TheStage}
 use Rattle.script_session.specs.declared.stage.Stage.{Stage}
 use Rattle.script_session.specs.Stands.{Moved, Tells as TellsAnswer}
 use Rattle.world_core.specs.Ran.{Answered, Came, Tells, event_at}
-use Rattle.world_core.specs.Stands.{Stands}
+use Rattle.world_core.specs.Stands.{StandsFor}
 use Rattle.world_core.specs.declared.world.World.{World as Code}
 use Rattle.world_core.proofs.Stepped.{event_named}
 use Rattle.world_events.specs.declared.event.NodeEvent.{NodeEvent}
@@ -20,7 +20,7 @@ use Rattle.world_events.specs.declared.event.NodeEvent.TheVariants as event
 
 -- the world stands for the model's, and the answer tells its report
 pub record Stepped (new : Code) (m : World) (e : Event) (answer : Answered) : Type 0 where
-  pub stands : Stands new (step m e).world
+  pub stands : StandsFor new (step m e).world
   pub tells : Tells answer (step m e).report
 
 wanting : (answer : Answered) (report : Report) → Tells answer report → report ≡ Refused Refusal.OutOfMemory
@@ -38,7 +38,7 @@ pub stepped : (new : Code) (m : World) (e : Event) (answer : Answered) → Came 
 stepped new m e answer c some = go c.goes
   where
     go : Goes m e c.report c.next → Stepped new m e answer
-    go (inl h) = record { stands = subst (Stands new) h.1 c.stands; tells = subst (Tells answer) h.0 c.tells }
+    go (inl h) = record { stands = subst (StandsFor new) h.1 c.stands; tells = subst (Tells answer) h.0 c.tells }
     go (inr h) = absurd (some (wanting answer c.report c.tells h.0))
 
 -- what was told of an event that was accepted

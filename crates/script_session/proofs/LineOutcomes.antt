@@ -8,7 +8,7 @@ use Rattle.script_lines.specs.declared.reason.Reason.{Reason}
 use Rattle.script_session.proofs.NodesFirst.{node_comes_early}
 use Rattle.script_session.proofs.EventsLead.{plays_opens}
 use Rattle.script_session.specs.Session.{State, binds, does, is_taken, line_does, may_come, new_name, plays, says_does, starts}
-use Rattle.script_session.specs.Stands.{IsOpening, IsState, Plays, Steps}
+use Rattle.script_session.specs.Stands.{IsOpening, IsSession, Plays, Steps}
 use Rattle.script_session.specs.declared.made.Made.{Made}
 use Rattle.script_session.specs.declared.session.Session.{Session}
 use Rattle.script_terms.specs.Binding.{Knows}
@@ -21,7 +21,7 @@ reads state may bytes read result m r h =
     subst (ReadsSome (line_says (may_come state) state.names bytes)) r (subst (λ x. ReadsSome (line_says x state.names bytes) read) m h)
 
 -- a line that is passed over
-pub passed : (session : Session) (state : State) (bytes out : List ℕ) → IsState session state
+pub passed : (session : Session) (state : State) (bytes out : List ℕ) → IsSession session state
     → line_says (may_come state) state.names bytes ≡ Ok None → Steps (line_does state bytes) session out out
 passed session state bytes out h says = record {
   step = record { state = state; text = [] };
@@ -36,12 +36,12 @@ pub runs : (state : State) (bytes : List ℕ) (it : Said) → line_says (may_com
 runs state bytes it says free = ap (says_does state) says ∙ ap (λ b. cond b (Err Reason.NameTaken) (Ok (does it state))) free
 
 -- a node comes where nothing has happened
-pub early : (session : Session) (state : State) (bytes : List ℕ) (it : Said) → IsState session state
+pub early : (session : Session) (state : State) (bytes : List ℕ) (it : Said) → IsSession session state
     → line_says (may_come state) state.names bytes ≡ Ok (Some it) → starts it ≡ false → IsOpening state.stage.world
 early session state bytes it h says s = h.opening (node_comes_early state bytes it says s)
 
 pub ran : (session new : Session) (state : State) (bytes : List ℕ) (it : Said) (name : List ℕ) (made : Made) (before out : List ℕ)
-    → IsState session state
+    → IsSession session state
     → line_says (may_come state) state.names bytes ≡ Ok (Some it) → is_taken it state.stage.world.names ≡ false
     → Plays (plays state.names it state.stage) new.stage before out made
     → name ≡ new_name it → Knows new.names (binds name made state.names) → new.started ≡ starts it

@@ -14,17 +14,17 @@ use Rattle.script_session.specs.declared.session.Stop.{Stop}
 use Rattle.script_session.specs.declared.session.Stop.TheVariants as stop
 use Rattle.script_session.specs.declared.stage.Stage.{Stage}
 use Rattle.script_terms.specs.Binding.{Knows}
-use Rattle.world_core.specs.Stands.{IsReached, Stands}
+use Rattle.world_core.specs.Stands.{IsReached, StandsFor}
 
 pub record IsStage (stage : Stage) (it : TheStage) : Type 0 where
-  pub world : Stands stage.world it.world
+  pub world : StandsFor stage.world it.world
   pub word : stage.word ≡ it.word
   pub trace : stage.trace ≡ it.trace
 
 abbrev pub IsOpening : World → Type 0
 IsOpening world = (nodes : List (Name × List ℕ)) × (world ≡ opening nodes)
 
-pub record IsState (session : Session) (state : State) : Type 0 where
+pub record IsSession (session : Session) (state : State) : Type 0 where
   pub stage : IsStage session.stage state.stage
   pub names : Knows session.names state.names
   pub started : session.started ≡ state.started
@@ -40,7 +40,7 @@ Tells _ _ = ⊥
 
 -- what it sends was printed, and what it came to is told. The challenge isn't taken yet
 pub record Moved (event : Event) (it : TheStage) (new : Stage) (old_text new_text : List ℕ) (came : Result Answer Refusal) : Type 0 where
-  pub world : Stands new.world (step it.world event).world
+  pub world : StandsFor new.world (step it.world event).world
   pub word : new.word ≡ it.word
   pub trace : new.trace ≡ it.trace
   pub text : new_text ≡ old_text ++ sents_of it event
@@ -61,7 +61,7 @@ pub record Plays (scene : Scene) (new : Stage) (old_text new_text : List ℕ) (a
 pub record Steps (does : Result Step Reason) (new : Session) (old_text new_text : List ℕ) : Type 0 where
   pub step : Step
   pub says : does ≡ Ok step
-  pub state : IsState new step.state
+  pub state : IsSession new step.state
   pub text : new_text ≡ old_text ++ step.text
 
 -- a line was run, or is a bad line; memory may want only where it is none

@@ -6,7 +6,7 @@ ghost use Rattle.dist_model.specs.declared.command.Command.{Command as TheComman
 ghost use Rattle.script_session.specs.Pairs.{first_process, pair_nodes, pair_stage, trunk};
 ghost use Rattle.script_session.specs.Stage.{Stage as TheStage, after};
 ghost use Rattle.script_session.specs.Stands.{IsStage};
-ghost use Rattle.world_core.specs.Stands.{Stands};
+ghost use Rattle.world_core.specs.Stands.{StandsFor};
 
 use crate::stage::Stage;
 use dist_model::Command;
@@ -62,7 +62,7 @@ pub(crate) fn first_process(alloc: Global, node: &str) -> Result<Pid, AllocError
 
 // The two nodes of a pair, on which nothing has happened yet.
 fn pair_world(alloc: Global) -> Result<World, AllocError>
-    ensures { IfOk result (λ world. Stands world (opening pair_nodes)) }
+    ensures { IfOk result (λ world. StandsFor world (opening pair_nodes)) }
 {
     let mut nodes = Vec::new(alloc);
     nodes.push((node_name(alloc, FIRST)?, cookie(alloc, COOKIE)?))?;

@@ -3,7 +3,7 @@ ghost use Rattle.std.specs.Prelude.{◌≡◌, [], false, IfOk, OnOk, string_byt
 ghost use Rattle.script_lines.specs.Said.{said};
 ghost use Rattle.script_session.specs.Session.{State, binds, fresh_state, is_taken, line_does, may_come, new_name, plays, starts};
 ghost use Rattle.script_session.specs.Stage.{Stage as TheStage};
-ghost use Rattle.script_session.specs.Stands.{IsOpening, IsStage, IsState, Obeys, Plays};
+ghost use Rattle.script_session.specs.Stands.{IsOpening, IsStage, IsSession, Obeys, Plays};
 ghost use Rattle.script_terms.specs.Binding.{Knows, Look};
 ghost use Rattle.world_core.specs.Names.{names_of};
 
@@ -88,7 +88,7 @@ impl Session {
     /// Before the first line. Each frame that is sent is printed where that is asked for; the first
     /// challenge of a handshake is the seed, and each next one greater by 1. Takes no memory.
     pub fn new(alloc: Global, trace: bool, seed: u32) -> Session
-        ensures { IsState result (fresh_state trace seed) }
+        ensures { IsSession result (fresh_state trace seed) }
     {
         Session {
             stage: Stage {
@@ -104,7 +104,7 @@ impl Session {
 
     // Which of the lines may still come that stand at the beginning alone.
     fn may_come(&self) -> MayCome
-        ensures { (state : State) → IsState self.now state → result ≡ may_come state }
+        ensures { (state : State) → IsSession self.now state → result ≡ may_come state }
     {
         let nodes = self.stage.world.nodes().len();
         MayCome {
@@ -120,7 +120,7 @@ impl Session {
     /// [`Stop::Bad`] where the line is no command, or may not come here, before anything happens;
     /// [`Stop::OutOfMemory`] only where it is one.
     pub fn line(&mut self, alloc: Global, line: &[u8], out: &mut String) -> Result<(), Stop>
-        ensures { (state : State) → IsState self.old state → Obeys (line_does state line.now) self.new (string_bytes out.old) (string_bytes out.new) result }
+        ensures { (state : State) → IsSession self.old state → Obeys (line_does state line.now) self.new (string_bytes out.old) (string_bytes out.new) result }
     {
         let text = line;
         let line = match read_line(self.may_come(), &self.names, text) {
@@ -145,7 +145,7 @@ impl Session {
 
     /// From now on each event is told, in a line of JSON.
     pub fn tell_events(&mut self)
-        ensures { (state : State) → IsState self.old state → IsState self.new state }
+        ensures { (state : State) → IsSession self.old state → IsSession self.new state }
     {
         self.stage.telling.is_on = true;
     }
@@ -155,7 +155,7 @@ impl Session {
     /// # Errors
     /// Where memory is wanting.
     pub fn draw_picture(&mut self, alloc: Global) -> Result<(), AllocError>
-        ensures { (state : State) → IsState self.old state → IsState self.new state }
+        ensures { (state : State) → IsSession self.old state → IsSession self.new state }
     {
         self.stage.telling.picture.begin(alloc)
     }
@@ -165,7 +165,7 @@ impl Session {
     /// # Errors
     /// Where memory is wanting.
     pub fn picture(&mut self, alloc: Global) -> Result<Diagram, AllocError>
-        ensures { (state : State) → IsState self.old state → IsState self.new state }
+        ensures { (state : State) → IsSession self.old state → IsSession self.new state }
     {
         self.stage.telling.picture.taken(alloc)
     }
@@ -180,7 +180,7 @@ impl Session {
 
     /// Those were taken.
     pub fn clear_events(&mut self)
-        ensures state { (state : State) → IsState self.old state → IsState self.new state }
+        ensures state { (state : State) → IsSession self.old state → IsSession self.new state }
         ensures cleared { string_bytes self.new.stage.telling.lines ≡ [] }
     {
         self.stage.telling.lines.clear();

@@ -8,7 +8,7 @@ ghost use Rattle.erl_names.specs.Ids.{pid_of};
 ghost use Rattle.node_core.specs.Model.{model_of};
 ghost use Rattle.node_tables.specs.Lives.{life_of};
 ghost use Rattle.script_session.specs.Shown.{pids_of, process_text, shown_life, shown_node, shown_world};
-ghost use Rattle.world_core.specs.Stands.{Stands};
+ghost use Rattle.world_core.specs.Stands.{StandsFor};
 
 use erl_term::Pid;
 use script_texts::{put_ended, put_living, put_node};
@@ -84,7 +84,7 @@ fn put_all(out: &mut String, nodes: &[Node]) -> Result<(), AllocError>
 /// # Errors
 /// Where memory is wanting.
 pub(crate) fn put_world(out: &mut String, world: &World) -> Result<(), AllocError>
-    ensures { (m : TheWorld) → Stands world.now m → OnOk result (string_bytes out.new ≡ string_bytes out.old ++ shown_world m) }
+    ensures { (m : TheWorld) → StandsFor world.now m → OnOk result (string_bytes out.new ≡ string_bytes out.old ++ shown_world m) }
 {
     put_all(out, world.nodes())
 }

@@ -12,7 +12,7 @@ use Rattle.dist_model.specs.Safety.{Safe}
 use Rattle.dist_model.specs.World as model
 use Rattle.dist_model.specs.World.{came_of, left, met, node_name, node_of, step_at}
 use Rattle.world_core.specs.Ran.{Answered, Came, Ran, RanSafely, TellAll, Tells, WasSafe, event_in, events_in}
-use Rattle.world_core.specs.Stands.{Stands}
+use Rattle.world_core.specs.Stands.{StandsFor}
 use Rattle.world_core.specs.declared.event.Event.{Event}
 use Rattle.world_core.specs.declared.world.World.{World}
 use Rattle.world_core.proofs.Reached.{runs_then}
@@ -23,7 +23,7 @@ pub record Going (w : World) (m : model.World) (all rest : List Event) (answers 
   pub parts : all ≡ done ++ rest
   pub ran : Ran w m (events_in m.names done) answers
 
-pub none_yet : (w : World) (m : model.World) (all : List Event) → Stands w m → Going w m all all []
+pub none_yet : (w : World) (m : model.World) (all : List Event) → StandsFor w m → Going w m all all []
 none_yet w m all h = record { done = []; parts = refl; ran = record { reports = []; next = m; runs = refl; tells = tt; stands = h } }
 
 pub all_done : (w : World) (m : model.World) (all : List Event) (answers : List Answered) → Going w m all [] answers
@@ -62,7 +62,7 @@ tell_more (a ∷ answers) (r ∷ rs) answer report h k = (h.0, tell_more answers
 -- ---- one more
 
 pub one_more : (w new : World) (m : model.World) (all rest : List Event) (e : Event) (answers after : List Answered) (answer : Answered)
-    → Going w m all (e ∷ rest) answers → ((next : model.World) → Stands w next → Came new next (event_in next.names e) answer)
+    → Going w m all (e ∷ rest) answers → ((next : model.World) → StandsFor w next → Came new next (event_in next.names e) answer)
     → after ≡ answers ++ answer ∷ []
     → Going new m all rest after
 one_more w new m all rest e answers after answer h f k =

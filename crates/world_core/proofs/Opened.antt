@@ -18,7 +18,7 @@ use Rattle.node_core.specs.declared.node.Node.{Node}
 use Rattle.node_frames.specs.Frames.{framed}
 use Rattle.world_core.proofs.Named.{turned}
 use Rattle.world_core.specs.Names.{are_distinct, name_of, names_of}
-use Rattle.world_core.specs.Stands.{AreSpelled, Stands}
+use Rattle.world_core.specs.Stands.{AreSpelled, StandsFor}
 use Rattle.world_core.specs.declared.world.World.{World}
 use Rattle.world_lists.specs.Lists.{at}
 
@@ -72,7 +72,7 @@ nothing_on t x = ap list_in (fm.get-empty place_cmp (t, x))
 
 pub opens : (w : World) (nodes : List Named) → map model_of w.nodes.items ≡ map (λ node. new_node node.0 node.1) nodes
     → w.lists ≡ [] → has_name [] (map name_in nodes) ≡ false
-    → are_distinct (map name_in nodes) ≡ true → Stands w (opening nodes)
+    → are_distinct (map name_in nodes) ≡ true → StandsFor w (opening nodes)
 opens w nodes made none named distinct = record {
   names = sym (names_made w.nodes.items nodes made);
   distinct = ap (λ b. not b && are_distinct (map name_in nodes)) named ∙ distinct;
@@ -105,10 +105,10 @@ more_distinct (y ∷ rest) x d h =
     let k = or_parts (same_name x y) (has_name x rest) h in
     (λ i. not (has_more y x rest (not-true _ t.0) (turned x y k.0) i) && more_distinct rest x t.1 k.1 i)
 
-pub joins : (w new : World) (nodes : List Named) (node : Node) (name : Name) (cookie : List ℕ) → Stands w (opening nodes)
+pub joins : (w new : World) (nodes : List Named) (node : Node) (name : Name) (cookie : List ℕ) → StandsFor w (opening nodes)
     → new.nodes.items ≡ w.nodes.items ++ node ∷ [] → new.lists ≡ w.lists
     → model_of node ≡ new_node name cookie → has_name name (names_of w.nodes.items) ≡ false → IsNodeName name
-    → Stands new (opening (nodes ++ (name, cookie) ∷ []))
+    → StandsFor new (opening (nodes ++ (name, cookie) ∷ []))
 joins w new nodes node name cookie h items lists model free form =
     let f : Named → TheNode = (λ n. new_node n.0 n.1) in
     let one : List Named = (name, cookie) ∷ [] in
@@ -127,7 +127,7 @@ joins w new nodes node name cookie h items lists model free form =
 
 -- ---- as many nodes
 
-pub stays : (w new : World) (m : TheWorld) → Stands w m → new.nodes.items ≡ w.nodes.items → new.lists ≡ w.lists → Stands new m
+pub stays : (w new : World) (m : TheWorld) → StandsFor w m → new.nodes.items ≡ w.nodes.items → new.lists ≡ w.lists → StandsFor new m
 stays w new m h items lists = record {
   names = h.names ∙ ap names_of (sym items);
   distinct = h.distinct;

@@ -23,7 +23,7 @@ use Rattle.erl_term.specs.declared.term.Pid.{Pid}
 use Rattle.node_frames.specs.Frames.{between_of, framed, named}
 use Rattle.sorted_map.specs.First.{first_held, first_none, first_passes}
 use Rattle.world_core.specs.Quiet.{is_quiet_there}
-use Rattle.world_core.specs.Stands.{Stands}
+use Rattle.world_core.specs.Stands.{StandsFor}
 use Rattle.world_core.specs.declared.world.World.{World}
 use Rattle.world_lists.specs.Lists as frames
 
@@ -119,7 +119,7 @@ module _ (m : model.World) (p q : Pid) (node : Node) (steady : Steady node) (sor
 
 -- ---- what the frames of a world of code say
 
-module _ (w : World) (m : model.World) (h : Stands w m) (p q : Pid) where
+module _ (w : World) (m : model.World) (h : StandsFor w m) (p q : Pid) where
   pub on_list : (t : TrunkId) (x : Name) → frames.nothing_between p q (frames.at w.lists t x) ≡ nothing_between p q (list_to m.lists t x)
   on_list t x = ap (frames.nothing_between p q) (h.lists t x) ∙ frames_between p q (list_to m.lists t x)
 

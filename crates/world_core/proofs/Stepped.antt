@@ -33,7 +33,7 @@ use Rattle.node_frames.specs.Frames.{AllSpelled, Framed, framed, shown}
 use Rattle.node_plans.specs.Planned.{IsRefused}
 use Rattle.world_core.specs.Names.{are_distinct, name_at, name_of, names_of}
 use Rattle.world_core.specs.Ran.{Answered, Came, event_at}
-use Rattle.world_core.specs.Stands.{AreSpelled, Stands}
+use Rattle.world_core.specs.Stands.{AreSpelled, StandsFor}
 use Rattle.world_core.specs.declared.world.World.{World}
 use Rattle.world_core.proofs.Named.{name_is, names_set, node_at, node_set, nobody_at, nobody_is, same_models}
 use Rattle.world_core.proofs.Reached.{can_come, reached_next}
@@ -164,7 +164,7 @@ module _ (m : world.World) (name : Name) (node : TheNode) (names : List Name) (a
 
 -- ---- an event at a place of a world of code
 
-module _ (w : World) (m : world.World) (stands : Stands w m) where
+module _ (w : World) (m : world.World) (stands : StandsFor w m) where
   named : are_distinct ([] ∷ names_of w.nodes.items) ≡ true
   named = ap (λ ns. are_distinct ([] ∷ ns)) (sym stands.names) ∙ stands.distinct
 
@@ -175,7 +175,7 @@ module _ (w : World) (m : world.World) (stands : Stands w m) where
   nobody = not-true _ (and_parts (not (has_name [] (names_of w.nodes.items))) (are_distinct (names_of w.nodes.items)) named).0
 
   -- there is no node of that name
-  pub no_node : (new : World) (name : Name) (e : NodeEvent) → node_of m.nodes name ≡ None → Stands new m
+  pub no_node : (new : World) (name : Name) (e : NodeEvent) → node_of m.nodes name ≡ None → StandsFor new m
       → Came new m (event_at name e) (Err Refusal.NothingThere)
   no_node new name e none s =
       let is : step m (event_at name e) ≡ refused m Refusal.NothingThere = by_node m name e None none in
@@ -188,7 +188,7 @@ module _ (w : World) (m : world.World) (stands : Stands w m) where
       }
 
   -- there is no such place
-  pub no_place : (new : World) (place : ℕ) (e : NodeEvent) → length (names_of w.nodes.items) ≤ place → Stands new m
+  pub no_place : (new : World) (place : ℕ) (e : NodeEvent) → length (names_of w.nodes.items) ≤ place → StandsFor new m
       → Came new m (event_at (name_at m.names place) e) (Err Refusal.NothingThere)
   no_place new place e l s =
       let name : name_at m.names place ≡ [] = ap (λ ns. name_at ns place) stands.names ∙ nobody_at (names_of w.nodes.items) place l in
@@ -273,7 +273,7 @@ module _ (w : World) (m : world.World) (stands : Stands w m) where
           is_node : slice_index_or w.nodes.items place node ≡ node
           is_node = is
 
-      unchanged : model_of new ≡ old → ((t : TrunkId) (x : Name) → at after.lists t x ≡ at w.lists t x) → Stands after m
+      unchanged : model_of new ≡ old → ((t : TrunkId) (x : Name) → at after.lists t x ≡ at w.lists t x) → StandsFor after m
       unchanged n s =
           let same : model_of new ≡ model_of (slice_index_or w.nodes.items place node) = n ∙ ap model_of (sym is) in
           record {
@@ -286,7 +286,7 @@ module _ (w : World) (m : world.World) (stands : Stands w m) where
             reached = stands.reached;
           }
 
-      not_accepted : (e : NodeEvent) (why : Refusal) → Stands after m → IsRefused (due e) why → Came after m (event_at name e) (Err why)
+      not_accepted : (e : NodeEvent) (why : Refusal) → StandsFor after m → IsRefused (due e) why → Came after m (event_at name e) (Err why)
       not_accepted e why s (inl r) =
           let is : step m (event_at name e) ≡ refused m why =
           step_is m name e old node_there ∙ ap (came_of m name (lists_left m name e)) r in

@@ -9,7 +9,7 @@ use Rattle.dist_model.specs.declared.report.Report.{Report}
 use Rattle.erl_term.specs.declared.refusal.Refusal.{Refusal}
 use Rattle.node_frames.specs.Frames.{Framed, shown}
 use Rattle.world_core.specs.Names.{name_at}
-use Rattle.world_core.specs.Stands.{Stands}
+use Rattle.world_core.specs.Stands.{StandsFor}
 use Rattle.world_core.specs.declared.event.Event.{Event}
 use Rattle.world_core.specs.declared.world.World.{World}
 use Rattle.world_events.specs.declared.event.NodeEvent.{NodeEvent}
@@ -52,7 +52,7 @@ pub record Came (new : World) (m : model.World) (event : model.Event) (answer : 
   pub next : model.World
   pub goes : Goes m event report next
   pub tells : Tells answer report
-  pub stands : Stands new next
+  pub stands : StandsFor new next
 
 -- a list of events: a run of the model
 pub record Ran (new : World) (m : model.World) (events : List model.Event) (answers : List Answered) : Type 0 where
@@ -60,7 +60,7 @@ pub record Ran (new : World) (m : model.World) (events : List model.Event) (answ
   pub next : model.World
   pub runs : Runs m events reports next
   pub tells : TellAll answers reports
-  pub stands : Stands new next
+  pub stands : StandsFor new next
 
 -- before some of the events nothing was unsafe either
 pub record WasSafe (m : model.World) (before : List model.Event) (reports : List model.Report) : Type 0 where

@@ -24,7 +24,7 @@ AreSpelled [] = Unit {0}
 AreSpelled (item ∷ rest) = IsSpelled item × AreSpelled rest
 
 -- the same nodes by the same names, and on each connection to each node the frames of what travels there
-pub record Stands (w : World) (m : TheWorld) : Type 0 where
+pub record StandsFor (w : World) (m : TheWorld) : Type 0 where
   pub names : m.names ≡ names_of w.nodes.items
   -- no two have one name, and each has one
   pub distinct : are_distinct ([] ∷ m.names) ≡ true

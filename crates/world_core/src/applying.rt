@@ -6,7 +6,7 @@ ghost use Rattle.dist_model.specs.Names.{Name, same_name};
 ghost use Rattle.dist_model.specs.World.{World as TheWorld};
 ghost use Rattle.world_core.specs.Names.{name_of, names_of};
 ghost use Rattle.world_core.specs.Ran.{Came, event_in};
-ghost use Rattle.world_core.specs.Stands.{Stands};
+ghost use Rattle.world_core.specs.Stands.{StandsFor};
 ghost use Rattle.world_events.specs.declared.event.NodeEvent.TheVariants as happens;
 
 use crate::event::Event;
@@ -46,7 +46,7 @@ impl World {
     /// [`Refusal::NothingThere`] where there is no node at the place, and else as the node refuses the
     /// event; behind these [`Refusal::OutOfMemory`]. Then nothing has changed.
     pub fn apply(&mut self, alloc: Global, event: Event) -> Result<Report<Frame>, Refusal>
-        ensures { (m : TheWorld) → Stands self.old m → Came self.new m (event_in m.names event) result }
+        ensures { (m : TheWorld) → StandsFor self.old m → Came self.new m (event_in m.names event) result }
     {
         let Event { node, event } = event;
         let is_known = is_known(&self.nodes, &event);

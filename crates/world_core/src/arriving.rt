@@ -7,7 +7,7 @@ ghost use Rattle.dist_model.specs.World.{World as TheWorld};
 ghost use Rattle.node_core.specs.Model.{model_of};
 ghost use Rattle.node_sides.specs.Standings.{side_of};
 ghost use Rattle.world_core.specs.Coming.{is_from, next_arrival, peer_on, takes, takes_from};
-ghost use Rattle.world_core.specs.Stands.{Stands};
+ghost use Rattle.world_core.specs.Stands.{StandsFor};
 ghost use Rattle.world_lists.specs.Lists.{first_of};
 
 use crate::world::World;
@@ -73,7 +73,7 @@ impl World {
     /// or from any. (ERTS User's Guide, Distribution Protocol; Reference Manual, Processes, Delivery of
     /// Signals.)
     pub fn next_arrival(&self, node: &Node, from: Option<&Atom>) -> Option<&TrunkId>
-        ensures { (m : TheWorld) → Stands self.now m → option_copied result ≡ next_arrival m (model_of node.now) (option_copied from.entry) }
+        ensures { (m : TheWorld) → StandsFor self.now m → option_copied result ≡ next_arrival m (model_of node.now) (option_copied from.entry) }
     {
         match first_in(self.lists.line(node.name()), node, from) {
             Some((trunk, _)) => Some(trunk),

@@ -7,7 +7,7 @@ ghost use Rattle.dist_model.specs.Names.{same_name};
 ghost use Rattle.dist_model.specs.World.{World as TheWorld};
 ghost use Rattle.world_core.specs.Names.{name_of, names_of};
 ghost use Rattle.world_core.specs.Ran.{Came, event_at};
-ghost use Rattle.world_core.specs.Stands.{Stands};
+ghost use Rattle.world_core.specs.Stands.{StandsFor};
 
 use crate::event::Event;
 use crate::world::World;
@@ -52,7 +52,7 @@ impl World {
         name: &Atom,
         event: NodeEvent,
     ) -> Result<Report<Frame>, Refusal>
-        ensures { (m : TheWorld) → Stands self.old m → Came self.new m (event_at name.now event) result }
+        ensures { (m : TheWorld) → StandsFor self.old m → Came self.new m (event_at name.now event) result }
     {
         match place_of(&self.nodes, name) {
             Some(node) => self.apply(alloc, Event { node, event }),

@@ -7,7 +7,7 @@ ghost use Rattle.dist_model.specs.Runs.{new_node, opening};
 ghost use Rattle.dist_model.specs.World.{World as TheWorld};
 ghost use Rattle.node_core.specs.Model.{model_of};
 ghost use Rattle.world_core.specs.Names.{are_distinct, names_of};
-ghost use Rattle.world_core.specs.Stands.{Stands};
+ghost use Rattle.world_core.specs.Stands.{StandsFor};
 
 use crate::world::World;
 use erl_handshake::Cookie;
@@ -65,7 +65,7 @@ impl World {
     /// Where there is no memory for it.
     pub fn new(alloc: Global, nodes: Vec<(NodeName, Cookie)>) -> Result<World, AllocError>
         requires { are_distinct (map (λ node. node.0) nodes.items) ≡ true }
-        ensures { IfOk result (λ world. Stands world (opening nodes.items)) }
+        ensures { IfOk result (λ world. StandsFor world (opening nodes.items)) }
     {
         let mut made = Vec::new(alloc);
         match make(alloc, &mut made, nodes) {
@@ -82,7 +82,7 @@ impl World {
 
     /// A world of no nodes. Takes no memory.
     pub fn empty(alloc: Global) -> World
-        ensures { Stands result (opening []) }
+        ensures { StandsFor result (opening []) }
     {
         World {
             nodes: Vec::new(alloc),
@@ -96,8 +96,8 @@ impl World {
     /// Where there is no memory for it. Then nothing has changed.
     pub fn join(&mut self, alloc: Global, name: NodeName, cookie: Cookie) -> Result<(), AllocError>
         requires { has_name name (names_of self.old.nodes.items) ≡ false }
-        ensures ok { (nodes : List (Name × List ℕ)) → Stands self.old (opening nodes) → OnOk result (Stands self.new (opening (nodes ++ (name, cookie) ∷ []))) }
-        ensures err { (m : TheWorld) → Stands self.old m → OnErr result (Stands self.new m) }
+        ensures ok { (nodes : List (Name × List ℕ)) → StandsFor self.old (opening nodes) → OnOk result (StandsFor self.new (opening (nodes ++ (name, cookie) ∷ []))) }
+        ensures err { (m : TheWorld) → StandsFor self.old m → OnErr result (StandsFor self.new m) }
     {
         name.text();
         self.nodes.push(Node::new(alloc, name, cookie)?)?;

@@ -11,7 +11,7 @@ ghost use Rattle.node_core.specs.Model.{model_of};
 ghost use Rattle.node_sides.specs.Standings.{side_of};
 ghost use Rattle.world_core.specs.Names.{name_of};
 ghost use Rattle.world_core.specs.Quiet.{is_quiet_over, is_quiet_there};
-ghost use Rattle.world_core.specs.Stands.{Stands};
+ghost use Rattle.world_core.specs.Stands.{StandsFor};
 
 use crate::world::World;
 use conn_core::{Side, Standing};
@@ -56,7 +56,7 @@ impl World {
 
     /// The node of a name.
     pub fn node(&self, name: &Atom) -> Option<&Node>
-        ensures { (m : TheWorld) → Stands self.now m → option_map model_of (option_copied result) ≡ node_of m.nodes name.now }
+        ensures { (m : TheWorld) → StandsFor self.now m → option_map model_of (option_copied result) ≡ node_of m.nodes name.now }
     {
         find(&self.nodes, name)
     }
@@ -64,7 +64,7 @@ impl World {
     /// The end that a process has of its link with another. (ERTS User's Guide, Distribution Protocol, New
     /// Link Protocol.)
     pub fn end(&self, process: &Pid, partner: &Pid) -> End
-        ensures { (m : TheWorld) → Stands self.now m → result ≡ end_between m process.now partner.now }
+        ensures { (m : TheWorld) → StandsFor self.now m → result ≡ end_between m process.now partner.now }
     {
         match self.node(&process.node) {
             Some(node) => node.end(process, partner),
@@ -74,7 +74,7 @@ impl World {
 
     // Whether the node of a name has a connection to a peer that is up, or lost and not yet swept.
     fn is_connected(&self, name: &Atom, peer: &Atom) -> bool
-        ensures { (m : TheWorld) → Stands self.now m → result ≡ is_connected m name.now peer.now }
+        ensures { (m : TheWorld) → StandsFor self.now m → result ≡ is_connected m name.now peer.now }
     {
         match self.node(name) {
             Some(node) => node.is_connected(peer),
@@ -85,7 +85,7 @@ impl World {
     // Whether a connection is up at the other process's node too, and nothing travels on it between the two.
     // The first process's node has this name.
     fn is_quiet_on(&self, trunk: &TrunkId, name: &NodeName, p: &Pid, q: &Pid) -> bool
-        ensures { (m : TheWorld) → Stands self.now m → result ≡ is_quiet_there m name.now p.now q.now trunk.now }
+        ensures { (m : TheWorld) → StandsFor self.now m → result ≡ is_quiet_there m name.now p.now q.now trunk.now }
     {
         let Some(there) = self.node(&q.node) else {
             return false;
@@ -101,7 +101,7 @@ impl World {
 
     // Whether a connection is up between the nodes of two processes, and nothing travels on it between them.
     fn is_quiet_over(&self, p: &Pid, q: &Pid) -> bool
-        ensures { (m : TheWorld) → Stands self.now m → result ≡ is_quiet_over m p.now q.now }
+        ensures { (m : TheWorld) → StandsFor self.now m → result ≡ is_quiet_over m p.now q.now }
     {
         let Some(here) = self.node(&p.node) else {
             return false;
@@ -114,7 +114,7 @@ impl World {
 
     // The same of two processes of one node.
     fn is_quiet_within(&self, p: &Pid, q: &Pid) -> bool
-        ensures { (m : TheWorld) → Stands self.now m → result ≡ nothing_between p.now q.now (local_list m p.now.node) }
+        ensures { (m : TheWorld) → StandsFor self.now m → result ≡ nothing_between p.now q.now (local_list m p.now.node) }
     {
         match self.node(&p.node) {
             Some(node) => node.has_nothing_between(p, q),
@@ -126,7 +126,7 @@ impl World {
     /// up at both nodes; or because the nodes aren't connected. (Reference Manual, Processes, Delivery of
     /// Signals.)
     pub fn is_quiet(&self, p: &Pid, q: &Pid) -> bool
-        ensures { (m : TheWorld) → Stands self.now m → result ≡ is_quiet m p.now q.now }
+        ensures { (m : TheWorld) → StandsFor self.now m → result ≡ is_quiet m p.now q.now }
     {
         if same_name(&p.node, &q.node) {
             return self.is_quiet_within(p, q);

@@ -5,7 +5,7 @@ ghost use Rattle.dist_model.specs.Names.{Name};
 ghost use Rattle.dist_model.specs.Runs.{opening};
 ghost use Rattle.dist_model.specs.World.{World as TheWorld};
 ghost use Rattle.world_core.specs.Ran.{Ran, RanSafely, events_in};
-ghost use Rattle.world_core.specs.Stands.{Stands};
+ghost use Rattle.world_core.specs.Stands.{StandsFor};
 
 use crate::event::Event;
 use crate::world::World;
@@ -22,7 +22,7 @@ impl World {
     fn apply_all(&mut self, alloc: Global, answers: &mut Vec<Answered>, events: Vec<Event>)
         requires empty { answers.old.items ≡ [] }
         requires room { length events.items ≤ vec_capacity answers.old }
-        ensures { (m : TheWorld) → Stands self.old m → Ran self.new m (events_in m.names events.items) answers.new.items }
+        ensures { (m : TheWorld) → StandsFor self.old m → Ran self.new m (events_in m.names events.items) answers.new.items }
     {
         for event in events {
             answers.push_reserved(self.apply(alloc, event));
@@ -35,8 +35,8 @@ impl World {
     /// # Errors
     /// Where there is no memory for the answers. Then nothing has happened.
     pub fn run(&mut self, alloc: Global, events: Vec<Event>) -> Result<Vec<Answered>, AllocError>
-        ensures ran { (m : TheWorld) → Stands self.old m → IfOk result (λ answers. Ran self.new m (events_in m.names events.items) answers.items) }
-        ensures safe { (nodes : List (Name × List ℕ)) → let m = opening nodes in Stands self.old m →
+        ensures ran { (m : TheWorld) → StandsFor self.old m → IfOk result (λ answers. Ran self.new m (events_in m.names events.items) answers.items) }
+        ensures safe { (nodes : List (Name × List ℕ)) → let m = opening nodes in StandsFor self.old m →
             IfOk result (λ answers. RanSafely self.new m (events_in m.names events.items) answers.items) }
         ensures err { OnErr result (self.new ≡ self.old) }
     {
