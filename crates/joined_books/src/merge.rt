@@ -7,7 +7,7 @@ ghost use Rattle.joined_books.specs.Receipts.{AreReceipts};
 ghost use Rattle.node_lock.specs.declared.seat.Seat.{Seat as TheSeat};
 
 use crate::error::FinishError;
-use crate::laws::bytes_tell_items;
+use crate::laws;
 use crate::names::strange_book;
 use crate::order::sorted;
 use crate::receipts::check_receipts;
@@ -66,7 +66,7 @@ pub fn merge_books(
     ensures fault { IfErr result (IsFault nodes.now books.now seats.now) }
 {
     dist_books::books_are_a_run();
-    bytes_tell_items();
+    laws::bytes_tell_items();
     all_replay(books);
     check_names(nodes, books)?;
     check_wires(books)?;

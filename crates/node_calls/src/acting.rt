@@ -6,7 +6,6 @@ ghost use Rattle.dist_model.specs.Node as model;
 ghost use Rattle.erl_control.specs.Fits.{fits};
 ghost use Rattle.node_plans.specs.Seen.{seen};
 
-use erl_control::fits_test;
 use erl_term::{Atom, Payload, Pid, Refusal};
 use node_frames::same_name;
 use node_plans::Node;
@@ -42,7 +41,7 @@ pub(crate) fn fits_in(payload: &Payload) -> Result<(), Refusal>
     ensures due { (outcome : Outcome) → let due = calls.fitting payload.now outcome in
         MatchResult result (λ _. due ≡ outcome) (λ e. due ≡ Refuses e) }
 {
-    fits_test();
+    erl_control::fits_test();
     if erl_control::fits(payload.term()) {
         Ok(())
     } else {

@@ -14,8 +14,7 @@ use std::marker::Model;
 use std::mem::replace;
 use std::sync::Wait;
 use wire_core::{
-    Direction, LONGEST, Offer, Parcel, Piece, Spelling, WireIn, WireOut, front_is_told,
-    front_length, pieces_are_gathered,
+    Direction, LONGEST, Offer, Parcel, Piece, Spelling, WireIn, WireOut, front_length,
 };
 
 /// A node's end of a connection. Contracts see the connection and the peer, what was put on the wire to
@@ -190,7 +189,7 @@ impl Port {
         ensures ok { IfOk result (λ _. self.new ≡ sending self.old parcel) }
         ensures err { OnErr result (self.new ≡ self.old) }
     {
-        front_is_told();
+        wire_core::front_is_told();
         parcel.bytes.as_slice();
         self.outbox.push_back(parcel)?;
         Ok(())
@@ -225,7 +224,7 @@ impl Port {
         ensures next { IfOk result (λ next. IfSome next (λ n. IsNext self.now n.0 n.1)) }
         ensures none { result ≡ Ok None → self.now.outbox ≡ [] }
     {
-        front_is_told();
+        wire_core::front_is_told();
         let Some(first) = self.outbox.front() else {
             return Ok(None);
         };
@@ -247,7 +246,7 @@ impl Port {
         ensures full { result ≡ Ok false → (self.old.outbox ≡ []) ⊎ EndsFull self.old.pieces }
         ensures err { OnErr result (self.new ≡ self.old) }
     {
-        front_is_told();
+        wire_core::front_is_told();
         let Some((piece, is_last)) = self.next_piece()? else {
             return Ok(false);
         };
@@ -278,8 +277,8 @@ impl Port {
         ensures unchanged { result ≡ Ok false → self.new ≡ self.old }
         ensures err { OnErr result (self.new ≡ self.old) }
     {
-        front_is_told();
-        pieces_are_gathered();
+        wire_core::front_is_told();
+        wire_core::pieces_are_gathered();
         if self.handled < self.taken.len() {
             return Ok(false);
         }
