@@ -133,8 +133,6 @@ pub(crate) fn atom_text(bytes: &[u8]) -> Option<&str>
     ensures text { IfSome result (λ t. t.now ≡ bytes.now) }
     ensures fits { IfSome result (λ t. length (chars t.now) ≤ 255) }
 {
-    match str::from_utf8(bytes) {
-        Ok(text) => { if Atom::fits(text) { Some(text) } else { None } }
-        Err(_) => None,
-    }
+    let text = str::from_utf8(bytes).ok()?;
+    Atom::fits(text).then_some(text)
 }
