@@ -1,11 +1,9 @@
 -- Whatever comes of an event at a node is a line of its log.
-use Rattle.erl_handshake.specs.declared.turn.Progress.{Progress}
 use Rattle.erl_handshake.specs.declared.turn.Progress.TheVariants as progress
 use Rattle.std.proofs.Common.{◌≡◌, ℕ, Bool, true, false, cond, Option, None, Some, List, inl, inr, ◌⊎◌, refl, sym, ap, ◌∙◌}
 use Rattle.std.specs.FinMap as fm
 use Rattle.dist_books.specs.Acting.{AcceptsWhatComes, EventsAreLines, IsMet, RefusesWhateverComes}
 use Rattle.dist_books.specs.Acting.{meets, names_of, next_of, report_of, sent_in, taken_in}
-use Rattle.dist_model.specs.Admission.{after_name}
 use Rattle.dist_model.specs.Arrivals.{arrive, arrive_fresh, handshake_in}
 use Rattle.dist_model.specs.Commands.{Accepts, Outcome, Refuses}
 use Rattle.dist_model.specs.Items.{Item}
@@ -15,11 +13,11 @@ use Rattle.dist_model.specs.Node.{Node}
 use Rattle.dist_model.specs.NodeEvents as met
 use Rattle.dist_model.specs.NodeEvents.{at_node}
 use Rattle.dist_model.specs.Sides.{TrunkSide, is_over}
-use Rattle.dist_model.specs.Work.{Work, at_work}
+use Rattle.dist_model.specs.Work.{at_work}
 use Rattle.dist_model.specs.World.{Arrive, Event}
-use Rattle.erl_handshake.specs.declared.message.ShakeMsg.{ShakeMsg}
 use Rattle.erl_names.specs.declared.trunk.TrunkId.{TrunkId}
 use Rattle.erl_term.specs.declared.refusal.Refusal.{Refusal}
+use Rattle.dist_model.proofs.KeepTaken.{fresh_taken}
 
 -- what the law of the model says of an arrival
 abbrev pub ArrivalIsTaken : Type 0
@@ -29,15 +27,6 @@ ArrivalIsTaken = (names : List Name) (node : Node) (trunk : TrunkId) (side : Tru
 
 clash : {X : Type 0} (outcome : Outcome) (why : Refusal) → IsAccepted outcome → outcome ≡ Refuses why → X
 clash outcome why taken refused = let no : Accepts taken.0 taken.1 ≡ Refuses why = sym taken.2 ∙ refused in absurd (cc)
-
--- of a trunk that the node has no side of yet, an item is never refused
-name_taken : (p : Progress) (trunk : TrunkId) (side : TrunkSide) (word : ℕ) (work : Work) → IsAccepted (after_name p trunk side word work)
-name_taken progress.Go trunk side word work = (_, _, refl)
-name_taken _ trunk side word work = (_, _, refl)
-
-fresh_taken : (message : Option ShakeMsg) (trunk : TrunkId) (word : ℕ) (work : Work) → IsAccepted (arrive_fresh message trunk word work)
-fresh_taken None trunk word work = (_, _, refl)
-fresh_taken (Some message) trunk word work = name_taken _ trunk _ word work
 
 module _ (is_taken : ArrivalIsTaken) (names : List Name) (node : Node) where
   module _ (trunk : TrunkId) (word : ℕ) where

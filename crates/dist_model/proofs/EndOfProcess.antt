@@ -9,7 +9,8 @@ use Rattle.std.specs.FinMap.Entries.{find, is_sorted, below_all}
 use Rattle.sorted_map.specs.Facts.{both_pass, less}
 use Rattle.dist_model.proofs.Envelopes.{sent_in-silent}
 use Rattle.dist_model.specs.declared.report.Effect.{Effect}
-use Rattle.dist_model.proofs.Keys.{pair_exact, pid_total, same_pair, same_pid_is, same_pid_refl, same_pid_true, is_equal}
+use Rattle.dist_model.proofs.Keys.{pair_exact, pid_total, same_pair, same_pid_is, same_pid_refl, same_pid_true}
+use Rattle.sorted_map.proofs.Orderings.{equal_of}
 use Rattle.dist_model.proofs.Seen.{end_in}
 use Rattle.dist_model.proofs.Views.{silent_lines, AllSuit, AllSuit-append, line, linking_suits, over}
 use Rattle.dist_model.proofs.Views.{post_all_keeps, post_all_view, posted, posted-append, signal_other, view}
@@ -96,7 +97,7 @@ exits_by : (b : Bool) (p q : Pid) (r : Data) (e : (Pid × Pid) × End) (es : Lis
     → posted p q (exits_in p r es) ≡ farewell (end_in (find pair_cmp (p, q) es)) r
     → posted p q (exits_in p r (e ∷ es)) ≡ farewell (end_in (cond b (Some e.1) (find pair_cmp (p, q) es))) r
 exits_by true p q r e es h s ih =
-    let k : e.0 ≡ (p, q) = sym (pair_exact (p, q) e.0 (is_equal (pair_cmp (p, q) e.0) h)) in
+    let k : e.0 ≡ (p, q) = sym (pair_exact (p, q) e.0 (equal_of (pair_cmp (p, q) e.0) h)) in
     head_step p q r e es (farewell e.1 r) (head_hit p q r e.0 e.1 k)
     ∙ ap (λ l. farewell e.1 r ++ l) (exits_below p q r es (subst (λ v. T (below_all pair_cmp v es)) k s)) ∙ append-nil _
 exits_by false p q r e es h s ih =

@@ -10,7 +10,8 @@ use Rattle.std.specs.FinMap as fm
 use Rattle.std.specs.FinMap.Entries.{below_all, find, is_sorted}
 use Rattle.sorted_map.specs.Entries.{first_where}
 use Rattle.sorted_map.specs.Facts.{both_pass}
-use Rattle.dist_model.proofs.Keys.{same_name_true, is_equal, below_key}
+use Rattle.dist_model.proofs.Keys.{same_name_true, below_key}
+use Rattle.sorted_map.proofs.Orderings.{equal_of}
 use Rattle.dist_model.specs.Downs.{same_reference}
 use Rattle.dist_model.specs.Losses.{registered_by, watch_to}
 use Rattle.dist_model.specs.Names.{Name, same_name}
@@ -21,7 +22,7 @@ use Rattle.monitor_core.specs.Order.{reference_cmp}
 use Rattle.monitor_core.specs.declared.monitor.Monitor.{Monitor}
 
 pub same_reference_true : (a b : Reference) → same_reference a b ≡ true → a ≡ b
-same_reference_true a b h = reference_cmp_exact a b (is_equal (reference_cmp a b) h)
+same_reference_true a b h = reference_cmp_exact a b (equal_of (reference_cmp a b) h)
 
 pub same_reference_refl : (a : Reference) → same_reference a a ≡ true
 same_reference_refl a = ap is_eq (tied_itself reference_cmp_total a)
@@ -57,8 +58,8 @@ found_in k v (e ∷ es) h = go (same_reference k e.0) refl h (found_in k v es)
     go false i h f = Contains-append_right (e ∷ []) es (k, v) (f h)
 
 -- the first entry that passes
-first_passes : (test : Reference → Monitor → Bool) (es : List (Reference × Monitor)) (e : Reference × Monitor) → first_where test es ≡ Some e
-    → Contains es e × (test e.0 e.1 ≡ true)
+first_passes : (test : Reference → Monitor → Bool) (es : List (Reference × Monitor)) (e : Reference × Monitor)
+    → first_where test es ≡ Some e → Contains es e × (test e.0 e.1 ≡ true)
 first_passes test [] e h = absurd (none-some e h)
 first_passes test (d ∷ es) e h = go (test d.0 d.1) refl h (first_passes test es e)
   where

@@ -20,21 +20,21 @@ use Rattle.erl_names.specs.declared.trunk.TrunkId.{TrunkId}
 use Rattle.erl_term.specs.declared.term.Pid.{Pid}
 use Rattle.link_core.specs.declared.end.End.{End}
 
+role_kept : (t : TrunkId) (x y z : Name) → y ≡ z → (t.dialer ≡ x) ⊎ (t.dialer ≡ y) → (t.dialer ≡ x) ⊎ (t.dialer ≡ z)
+role_kept t x y z e (inl i) = inl i
+role_kept t x y z e (inr i) = inr (i ∙ e)
+
 -- a side of n that gets another state
 pub fits_state : (n : Node) (t : TrunkId) (v s : TrunkSide) → SidesKept n → side_at n t ≡ Some v → v.peer ≡ s.peer → is_gone v.state ≡ false
     → ((b : State) → beside v.state b ≡ true → beside s.state b ≡ true) → (holds v.state ≡ true → holds s.state ≡ false → ⊥) → Fits n t s
 fits_state n t v s k h e ng mono hold = record {
   stranger = λ i. k.other t v h (e ∙ i);
-  role = role (k.mine t v h);
+  role = role_kept t n.mint.name v.peer s.peer e (k.mine t v h);
   peer_stays = λ u hu. ap (λ (z : TrunkSide). z.peer) (same_Some u v (sym hu ∙ h)) ∙ e;
   room = λ u b hb eb d gs gb. pick u b d (k.one t u v b h hb (e ∙ sym eb) ng gb);
   empty = λ u hu hh nh p q i. absurd (hold (ap (λ (z : TrunkSide). holds z.state) (same_Some v u (sym h ∙ hu)) ∙ hh) nh);
 }
   where
-    role : (t.dialer ≡ n.mint.name) ⊎ (t.dialer ≡ v.peer) → (t.dialer ≡ n.mint.name) ⊎ (t.dialer ≡ s.peer)
-    role (inl i) = inl i
-    role (inr i) = inr (i ∙ e)
-
     pick : (u : TrunkId) (b : TrunkSide) → (u ≡ t → ⊥) → (t ≡ u) ⊎ (beside v.state b.state ≡ true) → beside s.state b.state ≡ true
     pick u b d (inl i) = absurd (d (sym i))
     pick u b d (inr i) = mono b.state i
@@ -49,15 +49,11 @@ pub fits_gone : (n : Node) (t : TrunkId) (v s : TrunkSide) → SidesKept n → s
     → (holds v.state ≡ true → (p q : Pid) → q.node ≡ s.peer → end_of n p q ≡ End.None) → Fits n t s
 fits_gone n t v s k h e gone hold = record {
   stranger = λ i. k.other t v h (e ∙ i);
-  role = role (k.mine t v h);
+  role = role_kept t n.mint.name v.peer s.peer e (k.mine t v h);
   peer_stays = λ u hu. ap (λ (z : TrunkSide). z.peer) (same_Some u v (sym hu ∙ h)) ∙ e;
   room = λ u b hb eb d gs gb. let c : true ≡ false = sym gone ∙ gs in cc;
   empty = λ u hu hh nh p q i. hold (ap (λ (z : TrunkSide). holds z.state) (same_Some v u (sym h ∙ hu)) ∙ hh) p q i;
 }
-  where
-    role : (t.dialer ≡ n.mint.name) ⊎ (t.dialer ≡ v.peer) → (t.dialer ≡ n.mint.name) ⊎ (t.dialer ≡ s.peer)
-    role (inl i) = inl i
-    role (inr i) = inr (i ∙ e)
 
 -- the rows on which a side of x stands
 abbrev pub RowsKeep : World → Name → TrunkId → TrunkSide → TrunkSide → Type 0

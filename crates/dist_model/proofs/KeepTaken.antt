@@ -4,7 +4,7 @@ use Rattle.erl_handshake.specs.declared.turn.Progress.TheVariants as verdict
 use Rattle.std.proofs.Common.{◌≡◌, ℕ, Bool, true, false, cond, refl, subst, sym, Option, Some, None, List}
 use Rattle.std.specs.FinMap as fm
 use Rattle.conn_core.specs.declared.arrival.Fault.{Fault}
-use Rattle.dist_model.specs.Arrivals.{arrive, arrive_at, handshake_in, is_good, signal_at}
+use Rattle.dist_model.specs.Arrivals.{arrive, arrive_at, arrive_fresh, handshake_in, is_good, signal_at}
 use Rattle.dist_model.specs.Commands.{Accepts, Refuses}
 use Rattle.dist_model.specs.declared.report.Answer.{Answer}
 use Rattle.dist_model.specs.Handshake.{on_verdict, after_answer, fault, handshake_at}
@@ -19,6 +19,7 @@ use Rattle.dist_model.specs.Work.{Work, at_work}
 use Rattle.erl_handshake.specs.declared.message.ShakeMsg.{ShakeMsg}
 use Rattle.erl_names.specs.declared.trunk.TrunkId.{TrunkId}
 use Rattle.erl_term.specs.declared.refusal.Refusal.{Refusal}
+use Rattle.dist_model.specs.Admission.{after_name}
 
 after_taken : (v : Progress) (t : TrunkId) (s r : TrunkSide) (m : ShakeMsg) (d : Option ShakeMsg) (o : Work)
     → IsAccepted (on_verdict v t s r m d o)
@@ -48,6 +49,15 @@ signal_taken _ t s i o = (_, _, refl)
 item_taken : (m : Option ShakeMsg) (t : TrunkId) (s : TrunkSide) (i : Item) (o : Work) → IsAccepted (arrive_at m t s i o)
 item_taken None t s i o = signal_taken s.state t s i o
 item_taken (Some m) t s i o = message_taken s.state t s m o
+
+-- of a trunk that the node has no side of yet, what comes is never refused
+name_taken : (v : Progress) (t : TrunkId) (s : TrunkSide) (w : ℕ) (o : Work) → IsAccepted (after_name v t s w o)
+name_taken verdict.Go t s w o = (_, _, refl)
+name_taken _ t s w o = (_, _, refl)
+
+pub fresh_taken : (m : Option ShakeMsg) (t : TrunkId) (w : ℕ) (o : Work) → IsAccepted (arrive_fresh m t w o)
+fresh_taken None t w o = (_, _, refl)
+fresh_taken (Some m) t w o = name_taken _ t _ w o
 
 pub arrival_taken : (names : List Name) (n : Node) (t : TrunkId) (s : TrunkSide) (i : Item) (w : ℕ) → n.up ≡ true
     → fm.get n.sides t ≡ Some s

@@ -7,12 +7,13 @@ use Rattle.std.specs.Cmp.{IsTotalOrder, nat_cmp_total, tied_itself}
 use Rattle.std.specs.Cmp.Lexicographic.{slice_cmp}
 use Rattle.std.proofs.lemmas.Cmp.{on_total, then_total, nat_list_cmp_total}
 use Rattle.std.proofs.lemmas.Map.Lookups.{exact_unsigned, exact_bytes}
-use Rattle.std.proofs.lemmas.Bool.{false_from_ne_true}
+use Rattle.std.proofs.lemmas.Bool.{both_ways, false_from_ne_true}
 use Rattle.std.proofs.lemmas.Option.{none-some}
 use Rattle.std.specs.FinMap as fm
 use Rattle.std.specs.FinMap.Entries.{below_all, find}
 use Rattle.sorted_map.specs.Facts.{find_below_all}
-pub use Rattle.monitor_core.proofs.Order.{pid_cmp_total as pid_total, pid_cmp_exact as pid_exact}
+pub use Rattle.erl_term.proofs.Order.{pid_cmp_total as pid_total, pid_cmp_exact as pid_exact}
+use Rattle.sorted_map.proofs.Orderings.{equal_of, then_equal}
 use Rattle.dist_model.proofs.Seen.{end_in}
 use Rattle.dist_model.specs.Names.{Name, pair_cmp, place_cmp, same_name, same_pid}
 use Rattle.dist_model.specs.Work.{set_in}
@@ -29,25 +30,17 @@ name_total = nat_list_cmp_total
 pub name_exact : (a b : Name) → name_cmp a b ≡ Equal → a ≡ b
 name_exact a b h = exact_bytes a b h
 
-pub then_equal : (a b : Ordering) → ordering_then a b ≡ Equal → (a ≡ Equal) × (b ≡ Equal)
-then_equal Equal b h = (refl, h)
-then_equal _ b h = cc
-
 pub pair_total : IsTotalOrder pair_cmp
 pair_total = then_total (on_total (λ (v : Pid × Pid). v.0) pid_total) (on_total (λ (v : Pid × Pid). v.1) pid_total)
-
-pub is_equal : (r : Ordering) → is_eq r ≡ true → r ≡ Equal
-is_equal Equal h = refl
-is_equal _ h = cc
 
 -- a key of the rest isn't the first key
 pub below_key : {K V : Type 0} (cmp : K → K → Ordering) → ((a b : K) → cmp a b ≡ Equal → a ≡ b)
     → (k u : K) (v : V) (es : List (K × V)) → T (below_all cmp u es) → find cmp k es ≡ Some v → eq_by_cmp cmp k u ≡ false
 below_key cmp exact k u v es b h =
-    false_from_ne_true _ (λ e. none-some v (sym (find_below_all cmp u es b) ∙ ap (λ z. find cmp z es) (sym (exact k u (is_equal _ e))) ∙ h))
+    false_from_ne_true _ (λ e. none-some v (sym (find_below_all cmp u es b) ∙ ap (λ z. find cmp z es) (sym (exact k u (equal_of _ e))) ∙ h))
 
 pub same_pid_true : (p q : Pid) → same_pid p q ≡ true → p ≡ q
-same_pid_true p q h = pid_exact p q (is_equal _ h)
+same_pid_true p q h = pid_exact p q (equal_of _ h)
 
 pub same_pid_refl : (p : Pid) → same_pid p p ≡ true
 same_pid_refl p = ap is_eq (tied_itself pid_total p)
@@ -56,7 +49,7 @@ pub same_pid_is : (p q : Pid) → p ≡ q → same_pid p q ≡ true
 same_pid_is p q h = subst (λ x. same_pid p x ≡ true) h (same_pid_refl p)
 
 pub same_name_true : (x y : Name) → same_name x y ≡ true → x ≡ y
-same_name_true x y h = name_exact x y (is_equal _ h)
+same_name_true x y h = name_exact x y (equal_of _ h)
 
 pub same_name_refl : (x : Name) → same_name x x ≡ true
 same_name_refl x = ap is_eq (tied_itself name_total x)
@@ -115,10 +108,16 @@ pub same_place : (t u : TrunkId) (x y : Name) → eq_by_cmp place_cmp (t, x) (u,
 same_place t u x y = then_is_eq (trunk_cmp t u) (name_cmp x y)
 
 pub same_trunk_true : (t u : TrunkId) → same_trunk t u ≡ true → t ≡ u
-same_trunk_true t u h = trunk_exact t u (is_equal (trunk_cmp t u) h)
+same_trunk_true t u h = trunk_exact t u (equal_of (trunk_cmp t u) h)
 
 pub same_trunk_refl : (t : TrunkId) → same_trunk t t ≡ true
 same_trunk_refl t = ap is_eq (tied_itself trunk_total t)
 
 pub same_trunk_is : (t u : TrunkId) → t ≡ u → same_trunk t u ≡ true
 same_trunk_is t u h = subst (λ x. same_trunk t x ≡ true) h (same_trunk_refl t)
+
+pub other_trunk : (t u : TrunkId) → (t ≡ u → ⊥) → same_trunk t u ≡ false
+other_trunk t u d = false_from_ne_true (same_trunk t u) (λ e. d (same_trunk_true t u e))
+
+pub name_turned : (x y : Name) → same_name x y ≡ false → same_name y x ≡ false
+name_turned x y h = false_from_ne_true (same_name y x) (λ e. both_ways (same_name x y) h (same_name_is x y (sym (same_name_true y x e))))

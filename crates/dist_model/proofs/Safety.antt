@@ -6,7 +6,7 @@ use Rattle.std.proofs.lemmas.Option.{same_Some}
 use Rattle.std.specs.Option.{is_some}
 use Rattle.std.specs.FinMap as fm
 use Rattle.dist_model.proofs.Calls.{by_test}
-use Rattle.dist_model.proofs.Keys.{same_name_is, same_name_true, same_pid_refl, same_pid_true}
+use Rattle.dist_model.proofs.Keys.{name_turned, same_name_is, same_name_true, same_pid_refl, same_pid_true}
 use Rattle.dist_model.proofs.Moves.{not_over}
 use Rattle.dist_model.proofs.Posts.{NodeKept}
 use Rattle.dist_model.proofs.Pairs.{up_joined}
@@ -137,10 +137,6 @@ module _ (w : World) (g : Good w) where
           (λ i. let z : true
           ≡ false = sym (same_name_is p.node q.node (sym (node_of_name w.nodes p.node a h) ∙ sym (same_name_true q.node a.mint.name i)))
           ∙ n in cc) (λ i. i)) c)
-
-  name_turned : (x y : Name) → same_name x y ≡ false → same_name y x ≡ false
-  name_turned x y h =
-      by_test _ (same_name y x) (λ i. let z : true ≡ false = sym (same_name_is x y (sym (same_name_true y x i))) ∙ h in cc) (λ i. i)
 
   pub agreement_in_quiet : AgreementInQuiet w
   agreement_in_quiet p q (Within e s) lp lq =

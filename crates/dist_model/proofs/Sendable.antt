@@ -2,7 +2,7 @@
 use Rattle.erl_handshake.specs.declared.message.ShakeMsg.{ShakeMsg}
 use Rattle.erl_names.specs.Draw as kind
 use Rattle.std.proofs.Common.{◌≡◌, ℕ, ◌+◌, ◌^◌, ◌<◌, Bool, true, false, cond, not, List, [], ◌∷◌, ◌++◌, refl, sym}
-use Rattle.std.proofs.Common.{ap, ◌∙◌, subst, arith, Option, Some, None, ◌&&◌, Contains, nat_lt, ◌≤◌, length}
+use Rattle.std.proofs.Common.{ap, ◌∙◌, subst, arith, Option, Some, None, ◌&&◌, Contains, nat_lt}
 use Rattle.std.proofs.lemmas.List.Elements.{All-append, All-cons, All-contains, All-head, All-nil, All-tail}
 use Rattle.std.specs.List.{All}
 use Rattle.std.specs.Option.{is_some}
@@ -12,7 +12,7 @@ use Rattle.std.specs.FinMap.{FinMap}
 use Rattle.dist_model.proofs.Calls.{IfGoes, if_cond, if_drawn, if_not}
 use Rattle.dist_model.proofs.ClosedSides.{any_found}
 use Rattle.dist_model.proofs.DueParts.{sent_sweep}
-use Rattle.erl_control.proofs.FitsTest.{all_from, fits_test}
+use Rattle.erl_control.proofs.FitsTest.{ascii_text, fits_test}
 use Rattle.dist_model.proofs.Founded.{Carried, carried_all, carried_lists, carried_post, carried_write, popped_lists}
 use Rattle.dist_model.proofs.HandshakeParts.{fresh_kept, known_kept, lose_kept, swept_kept, Turned, Aged, as_state, parked_ages}
 use Rattle.dist_model.proofs.Run.{always_kept}
@@ -26,7 +26,7 @@ use Rattle.dist_model.specs.Commands.{Accepts, Outcome, Refuses}
 use Rattle.dist_model.specs.declared.command.Command.{Command}
 use Rattle.dist_model.specs.Dialing.{dial, draw_trunk, has_name, next_trunk}
 use Rattle.dist_model.specs.Exits.{carry_out, demonitors, exit_for, exits, end_process, link_exit, linked_exit, monitor_exits, sent_exit}
-use Rattle.erl_control.specs.Fits.{are_below, fits}
+use Rattle.erl_control.specs.Fits.{fits}
 use Rattle.dist_model.specs.Handshake.{identity, with_side, write, set_state}
 use Rattle.dist_model.specs.Incarnations.{start, stop, stopped}
 use Rattle.dist_model.specs.Items.{Item, Signalled, telling}
@@ -66,9 +66,6 @@ use Rattle.monitor_core.specs.Monitors.{is_held, monitor_of}
 use Rattle.monitor_core.specs.declared.monitor.Monitor.{Monitor}
 use Rattle.erl_handshake.specs.Roles.{send_name}
 use Rattle.erl_term.specs.Canonical.{canonical_atom}
-use Rattle.erl_term.specs.Text.{IsAtomText}
-use Rattle.std.proofs.lemmas.Str.{IsUtf8-from_ascii, chars-IsAscii}
-use Rattle.std.proofs.lemmas.Str.Ascii.{IsAscii-from_all}
 use Rattle.std.proofs.lemmas.Option.{same_Some, none-some}
 
 abbrev pub Sendable : Item → Type 0
@@ -82,11 +79,6 @@ abbrev AllSendable : List Signal → Type 0
 AllSendable ss = All One ss
 
 -- ---- the reasons that nodes give themselves
-
-ascii_text : (text : List ℕ) → are_below 128 text ≡ true → length text ≤ 255 → IsAtomText text
-ascii_text text a s =
-    let h = IsAscii-from_all text (all_from 128 text a) in
-    record { utf8 = IsUtf8-from_ascii text h; short = omega (arith, ap length (chars-IsAscii text h), s) }
 
 killed_fits : Fits (atom (codes "killed"))
 unfolding canonical_atom

@@ -5,7 +5,7 @@ use Rattle.std.proofs.lemmas.Bool.{or_left, or_right}
 use Rattle.std.specs.Option.{is_some}
 use Rattle.std.specs.FinMap as fm
 use Rattle.dist_model.proofs.Calls.{by_name, by_test, by_trunk}
-use Rattle.dist_model.proofs.Keys.{same_name_true, same_trunk, same_trunk_is, same_trunk_refl, same_trunk_true, trunk_total}
+use Rattle.dist_model.proofs.Keys.{other_trunk, same_name_true, same_trunk, same_trunk_is, same_trunk_refl, same_trunk_true, trunk_total}
 use Rattle.dist_model.proofs.Posts.{NodeKept, held}
 use Rattle.dist_model.proofs.Pairs.{Met, TrunkPairs, WorldKept, up_joined}
 use Rattle.dist_model.proofs.Routes.{node_of_name, node_of_set_other, node_of_set_same, side_where_found, side_where_none}
@@ -37,12 +37,9 @@ cond_false : {A : Type 0} (b : Bool) (x y : A) → b ≡ false → cond b x y �
 cond_false true x y h = cc
 cond_false false x y h = refl
 
-apart_trunk : (t u : TrunkId) → (t ≡ u → ⊥) → same_trunk t u ≡ false
-apart_trunk t u d = by_test _ (same_trunk t u) (λ h. absurd (d (same_trunk_true t u h))) (λ h. h)
-
 pub side_after_other : (n : Node) (t0 : TrunkId) (s : TrunkSide) (t : TrunkId) → (t ≡ t0 → ⊥)
     → side_at (with_side_at n t0 s) t ≡ side_at n t
-side_after_other n t0 s t d = side_after n t0 s t ∙ cond_false (same_trunk t t0) (Some s) (side_at n t) (apart_trunk t t0 d)
+side_after_other n t0 s t d = side_after n t0 s t ∙ cond_false (same_trunk t t0) (Some s) (side_at n t) (other_trunk t t0 d)
 
 -- what a new state of a side has to meet at its own node
 pub record Fits (n : Node) (t0 : TrunkId) (s : TrunkSide) : Type 0 where

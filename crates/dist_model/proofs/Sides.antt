@@ -27,6 +27,7 @@ use Rattle.link_core.specs.News.{LinkNews, noproc}
 use Rattle.link_core.specs.Pair.{Side}
 use Rattle.link_core.specs.declared.end.End.{End}
 use Rattle.std.specs.FinMap.{FinMap}
+use Rattle.dist_model.specs.Keeping.{is_engaged}
 
 abbrev pub asks : State → Bool
 asks (Asked w) = true
@@ -293,3 +294,7 @@ sides_kept n m sd nm k = record {
     pick : (t : TrunkId) (s : TrunkSide) → (t.dialer ≡ n.mint.name) ⊎ (t.dialer ≡ s.peer) → (t.dialer ≡ m.mint.name) ⊎ (t.dialer ≡ s.peer)
     pick t s (inl e) = inl (e ∙ sym nm)
     pick t s (inr e) = inr e
+
+pub up_engaged : (s : State) → is_up s ≡ true → is_engaged s ≡ true
+up_engaged Up h = refl
+up_engaged _ h = cc

@@ -10,7 +10,8 @@ use Rattle.std.specs.FinMap.Entries.{find, is_sorted, below_all}
 use Rattle.std.specs.Cmp.{tied_itself}
 use Rattle.dist_model.proofs.Calls.{by_test, unregisters, unwatches_one}
 use Rattle.dist_model.proofs.Handshake.{as_state, fits_gone, good_state, in_state, role_is_acceptor, rows_gone}
-use Rattle.dist_model.proofs.Keys.{pair_exact, pair_total, same_name_is, same_name_true, is_equal, below_key}
+use Rattle.dist_model.proofs.Keys.{pair_exact, pair_total, same_name_is, same_name_true, below_key}
+use Rattle.sorted_map.proofs.Orderings.{equal_of}
 use Rattle.dist_model.proofs.Moves.{Moves, link_exits, puts, stays, then}
 use Rattle.dist_model.proofs.LinkMoves.{removes_unreached}
 use Rattle.dist_model.proofs.Posts.{NodeKept, held}
@@ -86,7 +87,7 @@ link_none y (d ∷ es) h p q e =
       | true ↦ λ i j. let c : true ≡ false = ap is_some j in cc
       | false ↦ λ i j. by_test _ (eq_by_cmp pair_cmp (p, q) d.0)
           (λ m.
-          let k : (p, q) ≡ d.0 = pair_exact (p, q) d.0 (is_equal (pair_cmp (p, q) d.0) m) in
+          let k : (p, q) ≡ d.0 = pair_exact (p, q) d.0 (equal_of (pair_cmp (p, q) d.0) m) in
           let c : true ≡ false = sym (same_name_is d.0.1.node y (ap (λ (z : Pid × Pid). z.1.node) (sym k) ∙ e)) ∙ i in cc)
           (λ m. ap (λ b. cond b (Some d.1) (find pair_cmp (p, q) es)) m ∙ link_none y es j p q e)
     ] refl h

@@ -7,8 +7,10 @@ use Rattle.std.specs.Prelude.{ℤ, pos, negsuc, FitsSigned, All}
 use Rattle.std.specs.Int.{w128}
 use Rattle.std.proofs.lemmas.List.{get_or_past}
 use Rattle.std.proofs.lemmas.List.Elements.{All-nil, All-cons, All-head, All-tail}
+use Rattle.std.proofs.lemmas.Str.{IsUtf8-from_ascii, chars-IsAscii}
+use Rattle.std.proofs.lemmas.Str.Ascii.{IsAscii-from_all}
 use Rattle.erl_term.specs.Numbers.{AreBytes}
-use Rattle.erl_term.specs.Text.{is_atom_text}
+use Rattle.erl_term.specs.Text.{IsAtomText, is_atom_text}
 use Rattle.erl_term.specs.Canonical.{IsPidInRange, IsReferenceInRange, IsInRange, AreInRange, canonical, levels_of, is_list}
 use Rattle.erl_term.proofs.TextReader.{IsAtomText-from, is_atom_text-from}
 use Rattle.erl_control.specs.Control.{Fits}
@@ -40,6 +42,12 @@ pub all_from : (bound : ℕ) (ns : List ℕ) → are_below bound ns ≡ true →
 all_from bound [] h = All-nil (λ n. n < bound)
 all_from bound (n ∷ ns) h =
     let v = and_parts (nat_lt n bound) (are_below bound ns) h in All-cons (λ n. n < bound) n ns (below n bound v.0) (all_from bound ns v.1)
+
+-- a short text of ASCII can be an atom
+pub ascii_text : (text : List ℕ) → are_below 128 text ≡ true → length text ≤ 255 → IsAtomText text
+ascii_text text a s =
+    let h = IsAscii-from_all text (all_from 128 text a) in
+    record { utf8 = IsUtf8-from_ascii text h; short = omega (arith, ap length (chars-IsAscii text h), s) }
 
 all_is : (bound : ℕ) (ns : List ℕ) → All (λ n. n < bound) ns → are_below bound ns ≡ true
 all_is bound [] h = refl

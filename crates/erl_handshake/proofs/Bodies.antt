@@ -1,6 +1,6 @@
 -- The bodies of messages: what a body with a letter in front is, and that a body is of one message.
 use Rattle.std.proofs.Common.{Bool, true, ◌||◌, ◌==◌, nat_le, get_or, rules, if◌then◌else◌, codes, ◌≡◌, ℕ, ◌<◌, ◌≤◌}
-use Rattle.std.proofs.Common.{◌^◌, List, [], ◌∷◌, ◌++◌, length, drop, ap, sym, refl, subst, ◌∙◌, append_assoc, arith, ◌⊎◌, inl, inr}
+use Rattle.std.proofs.Common.{◌^◌, List, [], ◌∷◌, ◌++◌, length, drop, ap, sym, refl, subst, ◌∙◌, append_assoc, arith, inl, inr}
 use Rattle.std.proofs.lemmas.List.{append-nil}
 use Rattle.std.specs.Str.{bytes_eq, IsUtf8, IsAscii}
 use Rattle.std.proofs.lemmas.Str.{IsUtf8-from_ascii, IsAscii-append}
@@ -19,6 +19,7 @@ use Rattle.erl_handshake.specs.Messages.{status_text, counted, IsBody}
 use Rattle.erl_handshake.specs.Answer.{HasBody}
 use Rattle.erl_handshake.specs.Reading.{BeginsWithName}
 use Rattle.erl_handshake.proofs.Bytes.{one_number_4, one_number_8, one_counted}
+use Rattle.erl_term.proofs.Behind.{head_same}
 
 -- ---- what stands behind a letter
 
@@ -64,9 +65,6 @@ pub record IsAck (message : ShakeMsg) (bytes : List ℕ) : Type 0 where
   pub len : length bytes ≡ 16
   pub message_is : message ≡ ChallengeAck bytes
 
-pub same_letter : (x y : ℕ) (a b : List ℕ) → x ∷ a ≡ y ∷ b → x ≡ y
-same_letter x y a b e = cc
-
 behind : {x y : ℕ} (a b : List ℕ) → x ∷ a ≡ y ∷ b → a ≡ b
 behind a b e = cc
 
@@ -88,14 +86,14 @@ send_name_is (SendName flags creation name) bytes b = record {
   parts = behind bytes _ b.parts ∙ three (to_be_bytes w64 flags) (to_be_bytes w32 creation) (counted name) b.rest;
   message_is = refl;
 }
-send_name_is (Status s) bytes b = absurd (let e : 78 ≡ 115 = same_letter 78 115 bytes _ b.parts in omega arith)
+send_name_is (Status s) bytes b = absurd (let e : 78 ≡ 115 = head_same 78 115 bytes _ b.parts in omega arith)
 send_name_is (Challenge flags challenge creation name) bytes b = absurd (let e = b.is_for in cc)
-send_name_is (ChallengeReply challenge digest) bytes b = absurd (let e : 78 ≡ 114 = same_letter 78 114 bytes _ b.parts in omega arith)
-send_name_is (ChallengeAck digest) bytes b = absurd (let e : 78 ≡ 97 = same_letter 78 97 bytes _ b.parts in omega arith)
+send_name_is (ChallengeReply challenge digest) bytes b = absurd (let e : 78 ≡ 114 = head_same 78 114 bytes _ b.parts in omega arith)
+send_name_is (ChallengeAck digest) bytes b = absurd (let e : 78 ≡ 97 = head_same 78 97 bytes _ b.parts in omega arith)
 
 pub challenge_is : (message : ShakeMsg) (bytes : List ℕ) → IsBody Dialer message (78 ∷ bytes) → IsChallenge message bytes
 challenge_is (SendName flags creation name) bytes b = absurd (let e = b.is_for in cc)
-challenge_is (Status s) bytes b = absurd (let e : 78 ≡ 115 = same_letter 78 115 bytes _ b.parts in omega arith)
+challenge_is (Status s) bytes b = absurd (let e : 78 ≡ 115 = head_same 78 115 bytes _ b.parts in omega arith)
 challenge_is (Challenge flags challenge creation name) bytes b = record {
   flags = flags;
   challenge = challenge;
@@ -110,29 +108,29 @@ challenge_is (Challenge flags challenge creation name) bytes b = record {
       behind bytes _ b.parts ∙ four (to_be_bytes w64 flags) (to_be_bytes w32 challenge) (to_be_bytes w32 creation) (counted name) b.rest;
   message_is = refl;
 }
-challenge_is (ChallengeReply challenge digest) bytes b = absurd (let e : 78 ≡ 114 = same_letter 78 114 bytes _ b.parts in omega arith)
-challenge_is (ChallengeAck digest) bytes b = absurd (let e : 78 ≡ 97 = same_letter 78 97 bytes _ b.parts in omega arith)
+challenge_is (ChallengeReply challenge digest) bytes b = absurd (let e : 78 ≡ 114 = head_same 78 114 bytes _ b.parts in omega arith)
+challenge_is (ChallengeAck digest) bytes b = absurd (let e : 78 ≡ 97 = head_same 78 97 bytes _ b.parts in omega arith)
 
 with_none : (a rest : List ℕ) → rest ≡ [] → a ++ rest ≡ a
 with_none a rest e = ap (λ (w : List ℕ). a ++ w) e ∙ append-nil a
 
 pub status_is : (role : Role) (message : ShakeMsg) (bytes : List ℕ) → IsBody role message (115 ∷ bytes) → IsStatus message bytes
-status_is role (SendName flags creation name) bytes b = absurd (let e : 115 ≡ 78 = same_letter 115 78 bytes _ b.parts in omega arith)
+status_is role (SendName flags creation name) bytes b = absurd (let e : 115 ≡ 78 = head_same 115 78 bytes _ b.parts in omega arith)
 status_is role (Status s) bytes b = record {
   status = s;
   parts = behind bytes _ b.parts ∙ with_none (status_text s) b.rest b.may_follow;
   message_is = refl;
 }
 status_is role (Challenge flags challenge creation name) bytes b =
-    absurd (let e : 115 ≡ 78 = same_letter 115 78 bytes _ b.parts in omega arith)
-status_is role (ChallengeReply challenge digest) bytes b = absurd (let e : 115 ≡ 114 = same_letter 115 114 bytes _ b.parts in omega arith)
-status_is role (ChallengeAck digest) bytes b = absurd (let e : 115 ≡ 97 = same_letter 115 97 bytes _ b.parts in omega arith)
+    absurd (let e : 115 ≡ 78 = head_same 115 78 bytes _ b.parts in omega arith)
+status_is role (ChallengeReply challenge digest) bytes b = absurd (let e : 115 ≡ 114 = head_same 115 114 bytes _ b.parts in omega arith)
+status_is role (ChallengeAck digest) bytes b = absurd (let e : 115 ≡ 97 = head_same 115 97 bytes _ b.parts in omega arith)
 
 pub reply_is : (role : Role) (message : ShakeMsg) (bytes : List ℕ) → IsBody role message (114 ∷ bytes) → IsReply message bytes
-reply_is role (SendName flags creation name) bytes b = absurd (let e : 114 ≡ 78 = same_letter 114 78 bytes _ b.parts in omega arith)
-reply_is role (Status s) bytes b = absurd (let e : 114 ≡ 115 = same_letter 114 115 bytes _ b.parts in omega arith)
+reply_is role (SendName flags creation name) bytes b = absurd (let e : 114 ≡ 78 = head_same 114 78 bytes _ b.parts in omega arith)
+reply_is role (Status s) bytes b = absurd (let e : 114 ≡ 115 = head_same 114 115 bytes _ b.parts in omega arith)
 reply_is role (Challenge flags challenge creation name) bytes b =
-    absurd (let e : 114 ≡ 78 = same_letter 114 78 bytes _ b.parts in omega arith)
+    absurd (let e : 114 ≡ 78 = head_same 114 78 bytes _ b.parts in omega arith)
 reply_is role (ChallengeReply challenge digest) bytes b = record {
   challenge = challenge;
   digest = digest;
@@ -141,13 +139,13 @@ reply_is role (ChallengeReply challenge digest) bytes b = record {
   parts = behind bytes _ b.parts ∙ with_none (to_be_bytes w32 challenge ++ digest) b.rest b.may_follow;
   message_is = refl;
 }
-reply_is role (ChallengeAck digest) bytes b = absurd (let e : 114 ≡ 97 = same_letter 114 97 bytes _ b.parts in omega arith)
+reply_is role (ChallengeAck digest) bytes b = absurd (let e : 114 ≡ 97 = head_same 114 97 bytes _ b.parts in omega arith)
 
 pub ack_is : (role : Role) (message : ShakeMsg) (bytes : List ℕ) → IsBody role message (97 ∷ bytes) → IsAck message bytes
-ack_is role (SendName flags creation name) bytes b = absurd (let e : 97 ≡ 78 = same_letter 97 78 bytes _ b.parts in omega arith)
-ack_is role (Status s) bytes b = absurd (let e : 97 ≡ 115 = same_letter 97 115 bytes _ b.parts in omega arith)
-ack_is role (Challenge flags challenge creation name) bytes b = absurd (let e : 97 ≡ 78 = same_letter 97 78 bytes _ b.parts in omega arith)
-ack_is role (ChallengeReply challenge digest) bytes b = absurd (let e : 97 ≡ 114 = same_letter 97 114 bytes _ b.parts in omega arith)
+ack_is role (SendName flags creation name) bytes b = absurd (let e : 97 ≡ 78 = head_same 97 78 bytes _ b.parts in omega arith)
+ack_is role (Status s) bytes b = absurd (let e : 97 ≡ 115 = head_same 97 115 bytes _ b.parts in omega arith)
+ack_is role (Challenge flags challenge creation name) bytes b = absurd (let e : 97 ≡ 78 = head_same 97 78 bytes _ b.parts in omega arith)
+ack_is role (ChallengeReply challenge digest) bytes b = absurd (let e : 97 ≡ 114 = head_same 97 114 bytes _ b.parts in omega arith)
 ack_is role (ChallengeAck digest) bytes b =
     let same : bytes ≡ digest = behind bytes _ b.parts ∙ with_none digest b.rest b.may_follow in
     record { len = ap length same ∙ b.has_fields; message_is = ap (λ (w : List ℕ). ChallengeAck w) (sym same) }

@@ -21,7 +21,8 @@ use Rattle.erl_handshake.specs.Reading.{BeginsWithName}
 use Rattle.erl_handshake.proofs.Bytes.{split_4, split_8, bytes_front, bytes_rest, begun_or_not, begun_or_whole}
 use Rattle.erl_handshake.proofs.Bodies.{status_in, status_back, send_name_is, challenge_is, status_is, reply_is, ack_is}
 use Rattle.erl_handshake.proofs.Bodies.{send_name_body, challenge_body, status_body, reply_body, ack_body, send_name_named}
-use Rattle.erl_handshake.proofs.Bodies.{challenge_named, no_name, with_name, short_name, with_letter, same_letter}
+use Rattle.erl_handshake.proofs.Bodies.{challenge_named, no_name, with_name, short_name, with_letter}
+use Rattle.erl_term.proofs.Behind.{head_same}
 
 -- P holds, or it doesn't
 abbrev Decided : Type 0 → Type 0
@@ -304,7 +305,7 @@ message_or_not role (l ∷ bytes) h =
                         | inl e ↦ moved role l 97 bytes e (ack_or_not role bytes)
                         | inr a ↦
                             inr (λ x. other_letter x.0 l n s r a
-                            (same_letter l (letter x.0) bytes (drop 1 (l ∷ bytes)) (letter_is role x.0 (l ∷ bytes) x.1)))
+                            (head_same l (letter x.0) bytes (drop 1 (l ∷ bytes)) (letter_is role x.0 (l ∷ bytes) x.1)))
                       ]
                 ]
           ]

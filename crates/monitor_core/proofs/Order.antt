@@ -7,7 +7,6 @@ use Rattle.std.specs.FinMap.{IsAntisymmetric}
 use Rattle.std.proofs.lemmas.Cmp.{on_total, then_total}
 use Rattle.std.proofs.lemmas.Map.Lookups.{exact_pairs, exact_unsigned, exact_bytes}
 use Rattle.erl_term.specs.declared.term.Reference.{Reference}
-pub use Rattle.erl_term.proofs.Order.{pid_cmp_total, pid_cmp_exact}
 use Rattle.monitor_core.specs.Order.{reference_cmp}
 
 pub reference_cmp_total : IsTotalOrder reference_cmp

@@ -1,8 +1,7 @@
 -- What comes on a new connection is accepted, so only want of memory can refuse it.
-use Rattle.std.proofs.Common.{ℕ, Bool, true, false, cond, Option, Some, None, refl}
-use Rattle.dist_model.specs.Admission.{after_name, new_side}
+use Rattle.std.proofs.Common.{ℕ, Bool, true, false, cond, Option, refl}
 use Rattle.conn_core.specs.declared.arrival.Fault.{Fault}
-use Rattle.dist_model.specs.Arrivals.{arrive_fresh, is_good, on_up}
+use Rattle.dist_model.specs.Arrivals.{is_good, on_up}
 use Rattle.dist_model.specs.Commands.{Accepts, Outcome}
 use Rattle.dist_model.specs.Handshake.{acceptor_hears, acceptor_side, after_answer, dialer_hears}
 use Rattle.dist_model.specs.Handshake.{dialer_side, fault, handshake_at, identity, on_verdict}
@@ -22,17 +21,6 @@ use Rattle.erl_names.specs.declared.trunk.TrunkId.{TrunkId}
 use Rattle.erl_term.specs.declared.refusal.Refusal.{Refusal}
 use Rattle.node_plans.proofs.Outcomes.{lacks}
 use Rattle.node_plans.specs.Planned.{IsRefused}
-
-pub fresh_accepted : (message : Option ShakeMsg) (trunk : TrunkId) (word : ℕ) (work : Work)
-    → IsAccepted (arrive_fresh message trunk word work)
-fresh_accepted None trunk word work = (_, _, refl)
-fresh_accepted (Some message) trunk word work =
-    by_progress (acceptor_turn (identity work.node) trunk.dialer AcceptorState.AwaitsName message word).next.progress
-    (new_side trunk message)
-  where
-    by_progress : (p : Progress) (side : TrunkSide) → IsAccepted (after_name p trunk side word work)
-    by_progress progress.Go side = (_, _, refl)
-    by_progress _ side = (_, _, refl)
 
 -- so is a message of the handshake at a side that isn't over, and a signal at one that is up
 module _ (trunk : TrunkId) (message : ShakeMsg) (work : Work) where

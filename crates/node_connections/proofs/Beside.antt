@@ -1,14 +1,13 @@
 -- A side and the others towards its peer.
 use Rattle.std.proofs.Common.{◌≡◌, ℕ, Bool, true, false, cond, Option, Some, None, refl, sym, ap, ◌∙◌}
 use Rattle.std.proofs.lemmas.Option.{same_Some}
-use Rattle.std.proofs.lemmas.Bool.{false_from_ne_true}
 use Rattle.std.specs.FinMap as fm
 use Rattle.std.specs.Option.{option_map}
 use Rattle.std.specs.FinMap.{FinMap}
 use Rattle.conn_core.specs.Side.{lost}
 use Rattle.conn_core.specs.declared.standing.Standing.{Standing}
 use Rattle.conn_core.specs.declared.standing.Standing.TheVariants as standing
-use Rattle.dist_model.proofs.Keys.{same_trunk, same_trunk_is, same_trunk_true, trunk_total}
+use Rattle.dist_model.proofs.Keys.{other_trunk, same_trunk, same_trunk_is, same_trunk_true, trunk_total}
 use Rattle.dist_model.proofs.Routes.{side_where_found, side_where_none}
 use Rattle.dist_model.specs.Handshake.{challenge_or_park, identity, send_challenge_or_park, set_state, up_is_lost}
 use Rattle.dist_model.specs.Keeping.{AtMostOne, is_attempt, is_engaged}
@@ -29,6 +28,7 @@ use Rattle.node_plans.specs.Carried.{Makes}
 use Rattle.node_plans.specs.declared.plan.Plan.{Plan}
 use Rattle.node_sides.specs.Changes.{IsTowards, NoOtherUp}
 use Rattle.node_sides.specs.Standings.{standing_side, state_of}
+use Rattle.dist_model.proofs.Sides.{up_engaged}
 
 -- a plan leaves the node what it introduces itself as
 pub same_identity : (plan : Plan) (m : Node) (work : Work) → Makes plan m work → identity work.node ≡ identity m
@@ -37,20 +37,11 @@ same_identity plan m work h = let names = named_after plan.change plan.draws m.m
 
 -- ---- of the sides towards one peer one is engaged
 
-up_engaged : (s : State) → is_up s ≡ true → is_engaged s ≡ true
-up_engaged (model.Asked w) h = cc
-up_engaged (model.Parked w) h = cc
-up_engaged model.Gone h = cc
-up_engaged s h = refl
-
 pub alone : (n : Node) (t : TrunkId) (s : TrunkSide) → AtMostOne is_engaged n → fm.get n.sides t ≡ Some s
     → is_engaged s.state ≡ true → NoOtherUp n.sides t s.peer
 alone n t s engaged there own other side e p u = engaged other t side s e there p (up_engaged side.state u) own
 
 -- ---- another side changes
-
-other_trunk : (t u : TrunkId) → (t ≡ u → ⊥) → same_trunk t u ≡ false
-other_trunk t u d = false_from_ne_true (same_trunk t u) (λ e. d (same_trunk_true t u e))
 
 pub get_other : (sides : FinMap trunk_cmp TrunkSide) (u : TrunkId) (s : TrunkSide) (t : TrunkId) → (t ≡ u → ⊥)
     → fm.get (fm.insert sides u s) t ≡ fm.get sides t

@@ -1,20 +1,16 @@
 -- What a process does at an exit signal.
-use Rattle.std.proofs.Common.{◌≡◌, ◌≤◌, ℕ, List, length, lit≤, Bool, true, false, not, ◌&&◌, cond, refl, sym, ap, ◌∙◌, codes}
-use Rattle.std.proofs.lemmas.Str.{IsUtf8-from_ascii}
-use Rattle.std.proofs.lemmas.Str.Ascii.{IsAscii-from_all}
+use Rattle.std.proofs.Common.{◌≡◌, ◌≤◌, lit≤, Bool, true, false, not, ◌&&◌, cond, refl, sym, ap, ◌∙◌, codes}
 use Rattle.std.specs.FinMap as fm
 use Rattle.dist_model.specs.Exits.{carry_out, link_exit, linked_exit, other_exit, sent_exit}
 use Rattle.dist_model.specs.Names.{same_pid}
 use Rattle.dist_model.specs.Node.{Node, traps, traps_life}
 use Rattle.dist_model.specs.Work.{Work, report}
 use Rattle.dist_model.specs.declared.report.Effect.{Effect}
-use Rattle.erl_control.proofs.FitsTest.{all_from, fits_test}
-use Rattle.erl_control.specs.Fits.{are_below, fits}
+use Rattle.erl_control.proofs.FitsTest.{ascii_text, fits_test}
+use Rattle.erl_control.specs.Fits.{fits}
 use Rattle.erl_term.specs.Canonical.{canonical_atom}
 use Rattle.erl_term.specs.Data.{Data, atom}
-use Rattle.erl_term.specs.Text.{IsAtomText}
 use Rattle.erl_term.specs.declared.term.Pid.{Pid}
-use Rattle.exit_core.proofs.Names.{short_name}
 use Rattle.exit_core.specs.Messages.{exit_term}
 use Rattle.exit_core.specs.Reaction.{is_atom, reaction}
 use Rattle.exit_core.specs.declared.reaction.Reaction.{Reaction}
@@ -26,22 +22,17 @@ use Rattle.node_endings.proofs.Free.{lives_free}
 
 -- ---- the reasons of the node's own
 
-short_ascii : (name : List ℕ) → are_below 128 name ≡ true → length name ≤ 255 → IsAtomText name
-short_ascii name a s =
-    let h = IsAscii-from_all name (all_from 128 name a) in
-    record { utf8 = IsUtf8-from_ascii name h; short = short_name name h s }
-
 pub noproc_fits : fits noproc ≡ true
 unfolding canonical_atom
-noproc_fits = (fits_test noproc).1 (short_ascii (codes "noproc") refl (lit≤ tt), lit≤ tt, lit≤ tt)
+noproc_fits = (fits_test noproc).1 (ascii_text (codes "noproc") refl (lit≤ tt), lit≤ tt, lit≤ tt)
 
 pub noconnection_fits : fits noconnection ≡ true
 unfolding canonical_atom
-noconnection_fits = (fits_test noconnection).1 (short_ascii (codes "noconnection") refl (lit≤ tt), lit≤ tt, lit≤ tt)
+noconnection_fits = (fits_test noconnection).1 (ascii_text (codes "noconnection") refl (lit≤ tt), lit≤ tt, lit≤ tt)
 
 killed_fits : fits (atom (codes "killed")) ≡ true
 unfolding canonical_atom
-killed_fits = (fits_test (atom (codes "killed"))).1 (short_ascii (codes "killed") refl (lit≤ tt), lit≤ tt, lit≤ tt)
+killed_fits = (fits_test (atom (codes "killed"))).1 (ascii_text (codes "killed") refl (lit≤ tt), lit≤ tt, lit≤ tt)
 
 -- ---- where it ends, the reason fits
 

@@ -22,14 +22,14 @@ use mathlib.Core.Bool.{beq}
 use Rattle.conn_core.specs.declared.side.Side.{Side}
 use Rattle.conn_core.specs.declared.standing.Standing.TheVariants.{Up}
 use Rattle.dist_model.proofs.Calls.{by_test}
-use Rattle.dist_model.proofs.Keys.{name_total, then_equal}
+use Rattle.dist_model.proofs.Keys.{name_total}
 use Rattle.dist_model.specs.Names.{Name}
 use Rattle.erl_names.specs.Order.{name_cmp}
 use Rattle.sorted_map.proofs.Places.{finds, finds_none, found_in_range, gap_in_range, put_gap, searched, without_found}
 use Rattle.sorted_map.specs.Entries.{without, IsFoundAt, IsGapAt}
 use Rattle.sorted_map.specs.Maps.{sorted_put, sorted_without}
 use Rattle.node_sides.proofs.Placed.{holds}
-use Rattle.sorted_map.proofs.Orderings.{is_true}
+use Rattle.sorted_map.proofs.Orderings.{is_true, then_equal}
 use Rattle.node_sides.specs.Index.{AreIndexed, IsChanged, IsGrown, is_open, keyed, moved_up}
 use Rattle.node_sides.specs.Index.{not_gone, open_at, passes_in, peer_at, place_cmp}
 use Rattle.node_sides.specs.Standings.{gone}

@@ -115,7 +115,7 @@ module _ (partner : Pid) (n : Name) where
   passed_isnt : (q : Pid) (e : End) → is_passed (q, e) ≡ true → is_lt (pid_cmp partner q) ≡ true → same_name q.node n ≡ false
   passed_isnt q e h l = either (is_le (pid_cmp q partner)) (is_lt (name_cmp q.node n)) h
       (λ k. absurd (both_ways (is_le (pid_cmp q partner)) (ap is_le (pid_total.antisymm q partner ∙ ap ordering_reverse (less_of _ l))) k))
-      (λ k. ap is_eq (lesser _ k))
+      (λ k. ap is_eq (less_of _ k))
 
   pub none : (rs : Links) (i : ℕ) → T (is_sorted pid_cmp rs) → AllWithin (λ r. is_passed r ≡ true) rs 0 i
       → AllWithin (λ r. is_passed r ≡ false) rs i (length rs) → i ≤ length rs

@@ -22,6 +22,7 @@ use Rattle.erl_term.specs.declared.term.Pid.{Pid}
 use Rattle.link_core.specs.declared.end.End.{End}
 use Rattle.node_tables.specs.declared.life.Life.{Life}
 use Rattle.node_tables.specs.Lives.{is_own, by_id, life_in, life_of, links_of, lives_from, owned, ends_from, lives_in, ends_in, end_at}
+use Rattle.sorted_map.proofs.Orderings.{less_nat}
 
 shuffled : (a b c d : Bool) → (a && (b && (c && d))) ≡ ((a && (b && d)) && c)
 shuffled false b c d = refl

@@ -9,6 +9,7 @@ use Rattle.script_terms.specs.declared.fault.TermFault.{TermFault}
 use Rattle.script_terms.specs.declared.fault.TermFault.TheVariants.{BadTerm}
 use Rattle.script_terms.specs.Reading.{Read, mark_at, tail_at, cells_at}
 use Rattle.script_terms.specs.Steps.{step_at, tail_step_at, marks_at}
+use Rattle.erl_term.proofs.Behind.{joined_none}
 
 append_append : (ts us vs : Items) → append_items ts (append_items us vs) ≡ append_items (append_items ts us) vs
 append_append no_items us vs = refl
@@ -187,16 +188,6 @@ module _ (one : List ℕ → Read Data) where
   unfolding marks_at
   cells_start n bytes = let e : n - 0 ≡ n = omega arith in rw e (by (cells_at one n bytes))
     where
-      alone : (u : Data) → joined no_items u ≡ u
-      alone (list us) = refl
-      alone (improper us u) = refl
-      alone (int z) = refl
-      alone (atom a) = refl
-      alone (tuple us) = refl
-      alone (binary a) = refl
-      alone (pid p) = refl
-      alone (reference r) = refl
-
       by : (r : Read Data) → wrapped no_items 0 r ≡ r
-      by (Ok u) = ap (λ (d : Data). Ok (d, u.1)) (alone u.0)
+      by (Ok u) = ap (λ (d : Data). Ok (d, u.1)) (joined_none u.0)
       by (Err e) = refl

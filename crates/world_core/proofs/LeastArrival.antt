@@ -11,7 +11,8 @@ use Rattle.std.specs.List as list
 use Rattle.std.specs.Option.{option_map}
 use Rattle.std.specs.Ordering.{is_lt, ordering_then}
 use Rattle.dist_model.proofs.Keys.{name_total, place_total, name_exact, same_name_true}
-use Rattle.dist_model.proofs.Keys.{same_name_refl, then_equal, trunk_exact, trunk_total}
+use Rattle.dist_model.proofs.Keys.{same_name_refl, trunk_exact, trunk_total}
+use Rattle.sorted_map.proofs.Orderings.{then_equal}
 use Rattle.dist_model.specs.Items.{Item}
 use Rattle.dist_model.specs.Names.{Name, place_cmp, same_name}
 use Rattle.dist_model.specs.Sides.{State, is_gone, is_losing, is_over}

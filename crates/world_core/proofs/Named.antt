@@ -3,12 +3,12 @@ use Rattle.std.proofs.Common.{◌≡◌, ◌<◌, ◌≤◌, ◌||◌, ℕ, zero
 use Rattle.std.proofs.Common.{None, Some, refl, sym, ap, ◌∙◌, slice_set, slice_index_or, get_or, nat_lt, bytes_eq, arith}
 use Rattle.std.proofs.lemmas.List.Folds.{find_at}
 use Rattle.std.proofs.lemmas.List.Quantifiers.{position-Some}
-use Rattle.std.proofs.lemmas.Bool.{ltb-false, and_parts, both_ways, false_from_ne_true, not-true, or_parts}
+use Rattle.std.proofs.lemmas.Bool.{ltb-false, and_parts, not-true, or_parts}
 use Rattle.std.proofs.lemmas.Map.Text.{is_eq-slice_cmp}
 use Rattle.std.proofs.lemmas.Option.{slice_get_past}
 use Rattle.std.specs.List.{find, list_any, position, position_or_len, slice_get}
 use Rattle.std.specs.Option.{option_map}
-use Rattle.dist_model.proofs.Keys.{same_name_is, same_name_true}
+use Rattle.dist_model.proofs.Keys.{name_turned, same_name_is, same_name_true}
 use Rattle.dist_model.specs.Dialing.{has_name}
 use Rattle.dist_model.specs.Names.{Name, same_name}
 use Rattle.dist_model.specs.World.{node_of, set_node}
@@ -20,9 +20,6 @@ use Rattle.world_events.specs.declared.event.NodeEvent.TheVariants as happens
 pub has_node : (name : Name) (nodes : List Node) → has_name name (names_of nodes) ≡ list_any (λ node. same_name name (name_of node)) nodes
 has_node name [] = refl
 has_node name (node ∷ rest) = ap (λ b. same_name name (name_of node) || b) (has_node name rest)
-
-pub turned : (a b : Name) → same_name a b ≡ false → same_name b a ≡ false
-turned a b h = false_from_ne_true (same_name b a) (λ e. both_ways (same_name a b) h (same_name_is a b (sym (same_name_true b a e))))
 
 -- a name that is none of the others, at a place of these
 not_at : (name : Name) (nodes : List Node) (place : ℕ) → place < length nodes → has_name name (names_of nodes) ≡ false
@@ -75,7 +72,7 @@ pub nobody_is : (nodes : List Node) → has_name [] (names_of nodes) ≡ false �
 nobody_is [] h = refl
 nobody_is (node ∷ rest) h =
     let t = or_parts (same_name [] (name_of node)) (has_name [] (names_of rest)) h in
-    ap (λ b. cond b (Some (model_of node)) (node_of (map model_of rest) [])) (turned [] (name_of node) t.0) ∙ nobody_is rest t.1
+    ap (λ b. cond b (Some (model_of node)) (node_of (map model_of rest) [])) (name_turned [] (name_of node) t.0) ∙ nobody_is rest t.1
 
 -- ---- one node changes, and keeps its name
 

@@ -16,11 +16,11 @@ use Rattle.erl_names.specs.declared.trunk.TrunkId.{TrunkId}
 use Rattle.node_core.specs.Model.{model_of}
 use Rattle.node_core.specs.declared.node.Node.{Node}
 use Rattle.node_frames.specs.Frames.{framed}
-use Rattle.world_core.proofs.Named.{turned}
 use Rattle.world_core.specs.Names.{are_distinct, name_of, names_of}
 use Rattle.world_core.specs.Stands.{AreSpelled, StandsFor}
 use Rattle.world_core.specs.declared.world.World.{World}
 use Rattle.world_lists.specs.Lists.{at}
+use Rattle.dist_model.proofs.Keys.{name_turned}
 
 abbrev Named : Type 0
 Named = Name × List ℕ
@@ -103,7 +103,7 @@ more_distinct [] x d h = refl
 more_distinct (y ∷ rest) x d h =
     let t = and_parts (not (has_name y rest)) (are_distinct rest) d in
     let k = or_parts (same_name x y) (has_name x rest) h in
-    (λ i. not (has_more y x rest (not-true _ t.0) (turned x y k.0) i) && more_distinct rest x t.1 k.1 i)
+    (λ i. not (has_more y x rest (not-true _ t.0) (name_turned x y k.0) i) && more_distinct rest x t.1 k.1 i)
 
 pub joins : (w new : World) (nodes : List Named) (node : Node) (name : Name) (cookie : List ℕ) → StandsFor w (opening nodes)
     → new.nodes.items ≡ w.nodes.items ++ node ∷ [] → new.lists ≡ w.lists

@@ -7,11 +7,11 @@ use Rattle.std.specs.Option.{is_some, option_map}
 use Rattle.dist_model.proofs.Keys.{same_name_is, same_name_true, trunk_exact, trunk_total}
 use Rattle.dist_model.proofs.Routes.{side_where_found, side_where_none}
 use Rattle.dist_model.specs.Items.{Handshake, Item, Signalled, Tick}
-use Rattle.dist_model.specs.Keeping.{Steady, is_engaged}
+use Rattle.dist_model.specs.Keeping.{Steady}
 use Rattle.dist_model.specs.Names.{Name, same_name, same_pid}
 use Rattle.dist_model.specs.Node.{Node, first_where, route_in, side_where}
 use Rattle.dist_model.specs.Quiet.{is_quiet_on, is_signal_of, names_sender, is_up_to, nothing_between}
-use Rattle.dist_model.specs.Sides.{State, TrunkSide, Up, is_up}
+use Rattle.dist_model.specs.Sides.{TrunkSide, is_up}
 use Rattle.dist_model.specs.Sides as sides
 use Rattle.dist_model.specs.Seen.{seen, side_of_trunk}
 use Rattle.dist_model.specs.World as model
@@ -26,6 +26,7 @@ use Rattle.world_core.specs.Quiet.{is_quiet_there}
 use Rattle.world_core.specs.Stands.{StandsFor}
 use Rattle.world_core.specs.declared.world.World.{World}
 use Rattle.world_lists.specs.Lists as frames
+use Rattle.dist_model.proofs.Sides.{up_engaged}
 
 -- ---- frames
 
@@ -45,10 +46,6 @@ frames_between p q (item ∷ rest) =
 
 -- ---- the connection that is up
 
-is_up_only : (st : State) → is_up st ≡ true → is_engaged st ≡ true
-is_up_only Up h = refl
-is_up_only st h = cc
-
 module _ (m : model.World) (p q : Pid) (node : Node) (steady : Steady node) (sorted : T (is_sorted trunk_cmp (fm.entries node.sides))) where
   abbrev entries : List (TrunkId × TrunkSide)
   entries = fm.entries node.sides
@@ -65,7 +62,7 @@ module _ (m : model.World) (p q : Pid) (node : Node) (steady : Steady node) (sor
       → is_up a.1.state ≡ true → is_up b.1.state ≡ true → a.0 ≡ b.0
   one_up a b fa fb pa pb ua ub =
       steady.engaged a.0 b.0 a.1 b.1 (fm.get-entries node.sides a.0 ∙ fa) (fm.get-entries node.sides b.0 ∙ fb) (pa ∙ sym pb)
-      (is_up_only a.1.state ua) (is_up_only b.1.state ub)
+      (up_engaged a.1.state ua) (up_engaged b.1.state ub)
 
   together : (a b c d : Bool) → (((a && b) && c) && d) ≡ (a && (b && (c && d)))
   together true true c d = refl

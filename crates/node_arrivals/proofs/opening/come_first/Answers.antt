@@ -5,7 +5,8 @@ use Rattle.erl_handshake.specs.Answer.{IsShakeDue}
 use Rattle.erl_handshake.specs.declared.message.Role.TheVariants as role
 use Rattle.erl_handshake.specs.declared.message.ShakeMsg.{ShakeMsg}
 use Rattle.erl_term.specs.declared.refusal.Refusal.{Refusal}
-use Rattle.node_arrivals.proofs.Accepted.{fresh_accepted, wants_memory}
+use Rattle.dist_model.proofs.KeepTaken.{fresh_taken}
+use Rattle.node_arrivals.proofs.Accepted.{wants_memory}
 use Rattle.node_arrivals.proofs.Judged.{bad}
 use Rattle.node_arrivals.specs.Fronts.{Holds, Spoils}
 use Rattle.node_plans.specs.Seen.{seen}
@@ -28,7 +29,7 @@ returns-in-Err-OutOfMemory c =
     record {
       front = Holds (Handshake found.0) found.1;
       is = found.2;
-      plans = wants_memory _ (fresh_accepted (Some found.0) c.args.trunk.now c.args.word (at_work (seen c.args.node.now)));
+      plans = wants_memory _ (fresh_taken (Some found.0) c.args.trunk.now c.args.word (at_work (seen c.args.node.now)));
     }
 
 pub returns-in-Ok-spoil_first : goal.returns-in-Ok-spoil_first

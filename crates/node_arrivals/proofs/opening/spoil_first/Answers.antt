@@ -4,13 +4,14 @@ use Rattle.conn_core.specs.declared.side.Side.{Side}
 use Rattle.dist_model.specs.Arrivals.{arrive_fresh}
 use Rattle.dist_model.specs.Work.{at_work}
 use Rattle.erl_names.specs.declared.trunk.TrunkId.{TrunkId}
-use Rattle.node_arrivals.proofs.Accepted.{fresh_accepted, wants_memory}
+use Rattle.dist_model.proofs.KeepTaken.{fresh_taken}
+use Rattle.node_arrivals.proofs.Accepted.{wants_memory}
 use Rattle.node_plans.specs.Planned.{Plans}
 use Rattle.node_plans.specs.Seen.{seen}
 use Rattle.node_arrivals.proofs.opening.spoil_first.Goals as goal
 
 pub returns-in_default : goal.returns-in_default
-returns-in_default c = λ word. wants_memory _ (fresh_accepted None c.args.trunk.now word (at_work (seen c.args.node.now)))
+returns-in_default c = λ word. wants_memory _ (fresh_taken None c.args.trunk.now word (at_work (seen c.args.node.now)))
 
 pub returns : goal.returns
 returns c = λ word.
