@@ -8,7 +8,6 @@
 mod ground;
 mod measuring;
 mod meeting;
-mod random;
 mod replaying;
 mod stories;
 mod walking;

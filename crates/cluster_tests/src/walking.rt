@@ -1,7 +1,6 @@
 //! Threads that call all nodes at random.
 
 use crate::ground::{Machine, Nodes, cluster, name, settles};
-use crate::random::Random;
 use crate::stories::{Wrong, check, check_trace, finish_with};
 use anyhow::Result;
 use cluster_run::Open;
@@ -9,6 +8,7 @@ use dist_model::Command;
 use erl_names::TrunkId;
 use erl_term::{Payload, Pid, Refusal, Term};
 use node_lock::{Act, Seat};
+use random_numbers::Random;
 use std::alloc::Global;
 use std::sync::Wait;
 use std::thread::for_each_mut;

@@ -25,7 +25,7 @@ use Rattle.dist_model.specs.Taking.{take_item}
 use Rattle.dist_model.specs.Work.{Work, at_work, draw, post, put, set_end, set_life}
 use Rattle.erl_control.specs.declared.signal.Signal.{Signal}
 use Rattle.erl_names.specs.Ids.{pid_of, reference_of}
-use Rattle.erl_names.specs.Minted.{Minted, drawn, id_of, last}
+use Rattle.erl_names.specs.Minted.{Minted, drawn, id_of, last, risen}
 use Rattle.erl_term.specs.Order.{pid_cmp}
 use Rattle.erl_term.specs.declared.refusal.Refusal.{Refusal}
 use Rattle.erl_term.specs.declared.term.Pid.{Pid}
@@ -76,10 +76,11 @@ same_lives o m h = record {
       (ap (λ v. not v && not (is_stranger o.node p)) (h p)) refl refl)) k;
 }
 
--- neither a life nor an end nor a side: monitors alone
-monitors_move : (o : Work) (watches registered : MonitorMap)
-    → Moves o (record o { node = record (o.node) { watches = watches; registered = registered } })
-monitors_move o watches registered = record {
+-- neither a life nor an end nor a side: monitors and their references alone
+monitors_move : (o : Work) (references : ℕ) (watches registered : MonitorMap) → Moves o (record o {
+  node = record (o.node) { mint = record (o.node.mint) { references = references }; watches = watches; registered = registered };
+})
+monitors_move o references watches registered = record {
   sides = refl;
   dialed = refl;
   name = refl;
@@ -93,31 +94,20 @@ monitors_move o watches registered = record {
 }
 
 pub registers : (k : Reference) (v : Monitor) (o : Work) → Moves o (register k v o)
-registers k v o = monitors_move o o.node.watches (added o.node.registered k v)
+registers k v o = monitors_move o o.node.mint.references o.node.watches (added o.node.registered k v)
 
 pub unregisters : (k : Reference) (o : Work) → Moves o (unregister k o)
-unregisters k o = monitors_move o o.node.watches (fm.remove o.node.registered k)
+unregisters k o = monitors_move o o.node.mint.references o.node.watches (fm.remove o.node.registered k)
 
 pub unwatches_one : (k : Reference) (o : Work) → Moves o (unwatch k o)
-unwatches_one k o = monitors_move o (fm.remove o.node.watches k) o.node.registered
+unwatches_one k o = monitors_move o o.node.mint.references (fm.remove o.node.watches k) o.node.registered
 
 pub watches_one : (k : Reference) (v : Monitor) (o : Work) → Moves o (watch k v o)
-watches_one k v o = monitors_move o (fm.insert o.node.watches k v) o.node.registered
+watches_one k v o = monitors_move o o.node.mint.references (fm.insert o.node.watches k v) o.node.registered
 
--- nor by the number of a reference
 pub draws_reference : (o : Work) → Moves o (draw kind.Reference o)
-draws_reference o = record {
-  sides = refl;
-  dialed = refl;
-  name = refl;
-  keeps = λ n. record { born = n.born; rooted = n.rooted };
-  grows = λ p h. h;
-  draws = omega arith;
-  routed = λ a. a;
-  nevers = λ p h. h;
-  home = λ k h. h;
-  views = λ n b p q c r k. k;
-}
+draws_reference o =
+    monitors_move o (risen o.node.mint.references (last kind.Reference)) o.node.watches o.node.registered
 
 moves_cond : (b : Bool) (o x y : Work) → (b ≡ true → Moves o x) → (b ≡ false → Moves o y) → Moves o (cond b x y)
 moves_cond true o x y f g = f refl

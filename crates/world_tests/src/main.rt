@@ -12,7 +12,6 @@ mod answers;
 mod claims;
 mod events;
 mod measuring;
-mod random;
 mod stage;
 mod stories;
 mod told;

@@ -2,11 +2,11 @@
 use crate::answers::{message, process, told};
 use crate::claims::{all_agree, have_one_trunk_each, is_living};
 use crate::events::{event, pid, place_of, world};
-use crate::random::Random;
 use crate::told::{Message, Place, Process, Reason, Step, Told, Trunk};
 use anyhow::Result;
 use dist_model::{Effect, Kind, Report};
 use erl_term::{Pid, Refusal};
+use random_numbers::Random;
 use std::alloc::Global;
 use world_core::{Frame, World};
 

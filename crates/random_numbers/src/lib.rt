@@ -1,12 +1,15 @@
-//! Numbers at random from a seed.
+//! Numbers at random from a seed, for walks that can be gone once more. They are no secrets.
+#![tactic(auto)]
 
-/// A sequence of numbers, by Marsaglia's xorshift.
+/// A sequence of numbers, by Marsaglia's xorshift. A seed gives the same sequence each time; 0 stands
+/// for 1, since the sequence of 0 has nothing else.
 #[derive(Clone, Copy)]
 pub struct Random {
     state: u64,
 }
 
 impl Random {
+    /// The sequence of a seed.
     pub fn new(seed: u64) -> Random {
         Random { state: seed.max(1) }
     }
@@ -18,7 +21,7 @@ impl Random {
         self.state
     }
 
-    /// A number below this one, or 0 where that is 0.
+    /// The next number, below this one; 0 where that is 0.
     pub fn below(&mut self, end: usize) -> usize {
         let number = self.next() >> 16;
         if end == 0 {
