@@ -452,6 +452,7 @@ fn front_in(
             let taken = bytes.get(..*taken).unwrap_or(&[]);
             front_of_signal(alloc, signal, taken, wanted)
         }
+        Err(FrameError::OutOfMemory) => Err(AllocError.into()),
         Err(error) => Ok(Front::Refused(*error)),
     }
 }
