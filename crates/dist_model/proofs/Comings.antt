@@ -62,14 +62,13 @@ use Rattle.dist_model.specs.World.{Arrive, Dial, Event, Local, Lose, Report, Rep
 use Rattle.erl_control.specs.declared.signal.Signal.{Signal}
 use Rattle.erl_names.specs.declared.trunk.TrunkId.{TrunkId}
 use Rattle.erl_term.specs.Data.{Data}
-use Rattle.erl_term.specs.Order.{pid_cmp}
+use Rattle.erl_term.specs.Order.{pid_cmp, reference_cmp}
 use Rattle.erl_term.specs.declared.refusal.Refusal.{Refusal}
 use Rattle.erl_term.specs.declared.term.Pid.{Pid}
 use Rattle.erl_term.specs.declared.term.Reference.{Reference}
 use Rattle.link_core.specs.News.{Signals, noconnection}
 use Rattle.link_core.specs.declared.end.End.{End}
 use Rattle.link_core.specs.declared.end.LinkSignal.{LinkSignal}
-use Rattle.monitor_core.specs.Order.{reference_cmp}
 use Rattle.monitor_core.specs.declared.monitor.Monitor.{Monitor}
 
 -- a message that was sent, or not

@@ -6,7 +6,7 @@ use Rattle.erl_term.specs.Data.{Data}
 use Rattle.erl_term.specs.declared.term.Pid.{Pid}
 use Rattle.erl_term.specs.declared.term.Reference.{Reference}
 use Rattle.exit_core.specs.Messages.{down_term}
-use Rattle.monitor_core.proofs.Order.{reference_cmp_total}
+use Rattle.erl_term.proofs.Order.{reference_cmp_total}
 use Rattle.dist_model.specs.Downs.{down_in}
 
 pub told : (r : Reference) (owner target : Pid) (info : Data)

@@ -16,9 +16,9 @@ use Rattle.dist_model.specs.Downs.{same_reference}
 use Rattle.dist_model.specs.Losses.{registered_by, watch_to}
 use Rattle.dist_model.specs.Names.{Name, same_name}
 use Rattle.erl_term.specs.declared.term.Reference.{Reference}
-use Rattle.monitor_core.proofs.Order.{reference_cmp_exact, reference_cmp_total}
+use Rattle.erl_term.proofs.Order.{reference_cmp_exact, reference_cmp_total}
 use Rattle.monitor_core.specs.Monitors.{MonitorMap}
-use Rattle.monitor_core.specs.Order.{reference_cmp}
+use Rattle.erl_term.specs.Order.{reference_cmp}
 use Rattle.monitor_core.specs.declared.monitor.Monitor.{Monitor}
 
 pub same_reference_true : (a b : Reference) → same_reference a b ≡ true → a ≡ b

@@ -48,7 +48,7 @@ use Rattle.erl_term.specs.declared.term.Pid.{Pid}
 use Rattle.erl_term.specs.declared.term.Reference.{Reference}
 use Rattle.exit_core.specs.Messages.{down_term}
 use Rattle.link_core.specs.News.{noconnection}
-use Rattle.monitor_core.proofs.Order.{reference_cmp_total}
+use Rattle.erl_term.proofs.Order.{reference_cmp_total}
 use Rattle.monitor_core.specs.Monitors.{monitor_of}
 use Rattle.monitor_core.specs.declared.monitor.Monitor.{Monitor}
 

@@ -9,12 +9,11 @@ use Rattle.std.specs.FinMap.Entries.{put}
 use Rattle.std.specs.declared.cmp.Ordering.{Ordering}
 use Rattle.std.specs.Ordering.{eq_by_cmp}
 use Rattle.erl_term.specs.declared.term.Pid.{Pid}
-use Rattle.erl_term.specs.Order.{pid_cmp}
+use Rattle.erl_term.specs.Order.{pid_cmp, reference_cmp}
 use Rattle.erl_names.specs.declared.trunk.TrunkId.{TrunkId}
 use Rattle.erl_names.specs.Order.{trunk_cmp}
 use Rattle.link_core.specs.declared.end.End.{End}
 use Rattle.monitor_core.specs.declared.monitor.Monitor.{Monitor}
-use Rattle.monitor_core.specs.Order.{reference_cmp}
 use Rattle.dist_model.specs.Names.{Name, pair_cmp, place_cmp}
 use Rattle.dist_model.specs.Items.{Item}
 use Rattle.dist_model.specs.Sides.{TrunkSide}

@@ -4,7 +4,7 @@ use Rattle.std.specs.FinMap as fm
 use Rattle.std.specs.FinMap.{FinMap}
 use Rattle.std.specs.FinMap.Entries.{put}
 use Rattle.std.specs.Ordering.{eq_by_cmp}
-use Rattle.monitor_core.proofs.Order.{reference_cmp_exact, reference_cmp_total}
+use Rattle.erl_term.proofs.Order.{reference_cmp_exact, reference_cmp_total}
 use Rattle.dist_model.proofs.EndOfProcess.{alike}
 use Rattle.dist_model.proofs.ExampleMaps.{of_maps}
 use Rattle.dist_model.proofs.Histories.{down_once, throughout}
@@ -21,12 +21,11 @@ use Rattle.dist_model.specs.Schedules.{first, second}
 use Rattle.dist_model.specs.Sides.{TrunkSide}
 use Rattle.dist_model.specs.World.{Event, World, step}
 use Rattle.erl_names.specs.Order.{trunk_cmp}
-use Rattle.erl_term.specs.Order.{pid_cmp}
+use Rattle.erl_term.specs.Order.{pid_cmp, reference_cmp}
 use Rattle.erl_term.specs.declared.term.Pid.{Pid}
 use Rattle.erl_term.specs.declared.term.Reference.{Reference}
 use Rattle.link_core.specs.declared.end.End.{End}
 use Rattle.monitor_core.specs.Monitors.{MonitorMap}
-use Rattle.monitor_core.specs.Order.{reference_cmp}
 use Rattle.monitor_core.specs.declared.monitor.Monitor.{Monitor}
 
 pub get_monitor : (m : MonitorMap) (k : Reference) (v : Monitor) (q : Reference)

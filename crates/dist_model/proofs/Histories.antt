@@ -47,7 +47,7 @@ use Rattle.erl_term.specs.declared.refusal.Refusal.{Refusal}
 use Rattle.erl_term.specs.declared.term.Pid.{Pid}
 use Rattle.erl_term.specs.declared.term.Reference.{Reference}
 use Rattle.monitor_core.specs.Monitors.{monitor_of}
-use Rattle.monitor_core.specs.Order.{reference_cmp}
+use Rattle.erl_term.specs.Order.{reference_cmp}
 use Rattle.dist_model.proofs.Founded.{popped_lists, founded_by}
 use Rattle.dist_model.proofs.HomeMonitors.{TargetsIn}
 

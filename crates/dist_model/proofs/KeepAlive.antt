@@ -20,12 +20,11 @@ use Rattle.dist_model.specs.Node.{Life, Living, Node, end_of, is_living_life, li
 use Rattle.dist_model.specs.Work.{Work, post_all, set_end}
 use Rattle.dist_model.specs.Calls.{spawn_life}
 use Rattle.erl_term.specs.Data.{Data}
-use Rattle.erl_term.specs.Order.{pid_cmp}
+use Rattle.erl_term.specs.Order.{pid_cmp, reference_cmp}
 use Rattle.erl_term.specs.declared.term.Pid.{Pid}
 use Rattle.erl_term.specs.declared.term.Reference.{Reference}
 use Rattle.link_core.specs.declared.end.End.{End}
-use Rattle.monitor_core.proofs.Order.{reference_cmp_total}
-use Rattle.monitor_core.specs.Order.{reference_cmp}
+use Rattle.erl_term.proofs.Order.{reference_cmp_total}
 use Rattle.monitor_core.specs.declared.monitor.Monitor.{Monitor}
 
 pub record Alive (node : Node) : Type 0 where

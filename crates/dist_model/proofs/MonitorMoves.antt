@@ -37,7 +37,7 @@ use Rattle.erl_term.specs.Data.{Data}
 use Rattle.erl_term.specs.declared.term.Pid.{Pid}
 use Rattle.erl_term.specs.declared.term.Reference.{Reference}
 use Rattle.exit_core.specs.Messages.{down_term}
-use Rattle.monitor_core.proofs.Order.{reference_cmp_total}
+use Rattle.erl_term.proofs.Order.{reference_cmp_total}
 use Rattle.monitor_core.specs.Monitors.{added}
 use Rattle.monitor_core.specs.declared.monitor.Monitor.{Monitor}
 use Rattle.dist_model.proofs.Lands.{Lands, all_local_grows, all_sent_grows, any_to, any_to_append, at_place_append, down}

@@ -13,7 +13,7 @@ use Rattle.dist_model.specs.World.{Arrive, Call, Event, Local, Refused, Report, 
 use Rattle.erl_term.specs.Data.{Data, atom, item, no_items, pid, reference, tuple}
 use Rattle.erl_term.specs.declared.term.Pid.{Pid}
 use Rattle.erl_term.specs.declared.term.Reference.{Reference}
-use Rattle.monitor_core.specs.Order.{reference_cmp}
+use Rattle.erl_term.specs.Order.{reference_cmp}
 
 abbrev pub same_reference : Reference → Reference → Bool
 same_reference r s = eq_by_cmp reference_cmp r s

@@ -1,4 +1,4 @@
--- The order of pids: it is total, pids that compare alike are one, and those at one node lie beside one another.
+-- The orders of pids and of references: they are total, what compares alike is one, and the pids of one node lie beside one another.
 use Rattle.std.proofs.Common.{◌≡◌, ℕ, List, refl, sym, ap, ◌∙◌}
 use Rattle.std.specs.declared.cmp.Ordering.{Ordering}
 use Rattle.std.specs.declared.cmp.Ordering.TheVariants.{Less, Equal, Greater}
@@ -9,7 +9,8 @@ use Rattle.std.specs.FinMap.{IsAntisymmetric}
 use Rattle.std.proofs.lemmas.Cmp.{on_total, then_total}
 use Rattle.std.proofs.lemmas.Map.Lookups.{exact_pairs, exact_unsigned, exact_bytes}
 use Rattle.erl_term.specs.declared.term.Pid.{Pid}
-use Rattle.erl_term.specs.Order.{pid_cmp}
+use Rattle.erl_term.specs.declared.term.Reference.{Reference}
+use Rattle.erl_term.specs.Order.{pid_cmp, reference_cmp}
 
 pub pid_cmp_total : IsTotalOrder pid_cmp
 pid_cmp_total = then_total (on_total (λ p. p.node) nat_list_cmp_total) (then_total (on_total (λ p. p.creation) nat_cmp_total)
@@ -23,6 +24,18 @@ pid_cmp_exact a b h =
     ap pid_of (exact_pairs (slice_cmp nat_cmp) _ exact_bytes
     (exact_pairs nat_cmp _ exact_unsigned (exact_pairs nat_cmp nat_cmp exact_unsigned exact_unsigned))
     (a.node, (a.creation, (a.id, a.serial))) (b.node, (b.creation, (b.id, b.serial))) h)
+
+pub reference_cmp_total : IsTotalOrder reference_cmp
+reference_cmp_total = then_total (on_total (λ r. r.node) nat_list_cmp_total)
+    (then_total (on_total (λ r. r.creation) nat_cmp_total) (on_total (λ r. r.words) nat_list_cmp_total))
+
+abbrev reference_from : List ℕ × (ℕ × List ℕ) → Reference
+reference_from r = record { node = r.0; creation = r.1.0; words = r.1.1 }
+
+pub reference_cmp_exact : IsAntisymmetric reference_cmp
+reference_cmp_exact a b h =
+    ap reference_from (exact_pairs (slice_cmp nat_cmp) _ exact_bytes (exact_pairs nat_cmp _ exact_unsigned exact_bytes)
+    (a.node, (a.creation, a.words)) (b.node, (b.creation, b.words)) h)
 
 -- ---- a greater pid isn't of a lesser node
 

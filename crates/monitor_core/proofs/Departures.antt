@@ -8,10 +8,10 @@ use Rattle.std.proofs.lemmas.Cmp.{tied_itself}
 use Rattle.std.specs.FinMap as map
 use Rattle.erl_term.specs.declared.term.Reference.{Reference}
 use Rattle.monitor_core.specs.declared.monitor.Monitor.{Monitor}
-use Rattle.monitor_core.specs.Order.{reference_cmp}
+use Rattle.erl_term.specs.Order.{reference_cmp}
 use Rattle.monitor_core.specs.Monitors.{MonitorMap, added, is_held}
 use Rattle.monitor_core.specs.Runs.{Call, Adds, Removes, Ends, takes, called, reference_of, is_add, additions, departures}
-use Rattle.monitor_core.proofs.Order.{reference_cmp_total, reference_cmp_exact}
+use Rattle.erl_term.proofs.Order.{reference_cmp_total, reference_cmp_exact}
 use Rattle.monitor_core.proofs.Maps.{equal_reference}
 use Rattle.monitor_core.proofs.Held.{this_held, held_this}
 

@@ -1,4 +1,3 @@
-pub mod Order
 pub mod Maps
 pub mod Held
 pub mod First

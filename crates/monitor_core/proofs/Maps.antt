@@ -10,10 +10,10 @@ use Rattle.std.specs.FinMap.{find, put}
 use Rattle.sorted_map.specs.Maps.{map_put}
 use Rattle.erl_term.specs.declared.term.Reference.{Reference}
 use Rattle.monitor_core.specs.declared.monitor.Monitor.{Monitor}
-use Rattle.monitor_core.specs.Order.{reference_cmp}
+use Rattle.erl_term.specs.Order.{reference_cmp}
 use Rattle.monitor_core.specs.Monitors.{MonitorMap, added}
 use Rattle.monitor_core.specs.Records.{Records, AreSorted}
-use Rattle.monitor_core.proofs.Order.{reference_cmp_total, reference_cmp_exact}
+use Rattle.erl_term.proofs.Order.{reference_cmp_total, reference_cmp_exact}
 
 abbrev pub map_of : Records → MonitorMap
 map_of rs = map.from_sorted rs
@@ -35,6 +35,10 @@ pub remove_same : (m : MonitorMap) (r : Reference) → map.get m r ≡ None → 
 remove_same m r h = map.same_map reference_cmp_total reference_cmp_exact _ _ (λ q.
     map.get-remove reference_cmp_total m r q
     ∙ same_at None (map.get m q) (eq_by_cmp reference_cmp q r) (λ t. ap (map.get m) (equal_reference q r t) ∙ h))
+
+-- the entries of what the records stand for are the records
+pub entries_here : (rs : Records) (m : MonitorMap) → AreSorted rs → map_of rs ≡ m → rs ≡ map.entries m
+entries_here rs m h is = sym (map.entries-from_sorted reference_cmp rs h) ∙ ap map.entries is
 
 pub get_here : (rs : Records) (r : Reference) → AreSorted rs → map.get (map_of rs) r ≡ find reference_cmp r rs
 get_here rs r h = map.get-from_sorted reference_cmp rs r h

@@ -6,10 +6,9 @@ use Rattle.std.specs.Ordering.{eq_by_cmp}
 use Rattle.std.specs.FinMap as map
 use Rattle.erl_term.specs.declared.term.Pid.{Pid}
 use Rattle.erl_term.specs.declared.term.Reference.{Reference}
-use Rattle.erl_term.specs.Order.{pid_cmp}
+use Rattle.erl_term.specs.Order.{pid_cmp, reference_cmp}
 use Rattle.monitor_core.specs.declared.monitor.Monitor.{Monitor}
 use Rattle.monitor_core.specs.declared.places.Side.{Side}
-use Rattle.monitor_core.specs.Order.{reference_cmp}
 
 abbrev pub MonitorMap : Type 0
 MonitorMap = map.FinMap reference_cmp Monitor

@@ -12,7 +12,7 @@ use Rattle.erl_names.specs.Minted.{Minted, risen}
 use Rattle.erl_term.specs.declared.term.Reference.{Reference}
 use Rattle.dist_model.proofs.Entries.{same_reference_true}
 use Rattle.dist_model.specs.Downs.{same_reference}
-use Rattle.monitor_core.proofs.Order.{reference_cmp_exact, reference_cmp_total}
+use Rattle.erl_term.proofs.Order.{reference_cmp_exact, reference_cmp_total}
 use Rattle.monitor_core.specs.Left.{is_owned}
 use Rattle.monitor_core.specs.Monitors.{MonitorMap}
 use Rattle.monitor_core.specs.declared.monitor.Monitor.{Monitor}

@@ -17,7 +17,7 @@ use Rattle.erl_term.specs.declared.term.Pid.{Pid}
 use Rattle.erl_term.specs.declared.term.Reference.{Reference}
 use Rattle.link_core.specs.declared.end.End.{End}
 use Rattle.link_core.specs.declared.end.LinkSignal.TheVariants as signal
-use Rattle.monitor_core.proofs.Order.{reference_cmp_exact, reference_cmp_total}
+use Rattle.erl_term.proofs.Order.{reference_cmp_exact, reference_cmp_total}
 use Rattle.monitor_core.specs.Left.{is_owned, is_target}
 use Rattle.monitor_core.specs.Monitors.{MonitorMap, added}
 use Rattle.monitor_core.specs.declared.monitor.Monitor.{Monitor}

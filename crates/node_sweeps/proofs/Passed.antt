@@ -10,9 +10,9 @@ use Rattle.sorted_map.proofs.Orderings.{less_of}
 use Rattle.sorted_map.proofs.Places.{passing_first}
 use Rattle.dist_model.proofs.Entries.{each_entry}
 use Rattle.erl_term.specs.declared.term.Reference.{Reference}
-use Rattle.monitor_core.proofs.Order.{reference_cmp_total}
+use Rattle.erl_term.proofs.Order.{reference_cmp_total}
 use Rattle.monitor_core.specs.Monitors.{MonitorMap}
-use Rattle.monitor_core.specs.Order.{reference_cmp}
+use Rattle.erl_term.specs.Order.{reference_cmp}
 use Rattle.monitor_core.specs.declared.monitor.Monitor.{Monitor}
 use Rattle.node_sweeps.specs.Ahead.{IsBefore}
 use Rattle.sorted_map.specs.Entries.{at_place, first_where}

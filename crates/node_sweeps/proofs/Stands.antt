@@ -9,7 +9,7 @@ use Rattle.erl_names.specs.Ids.{pid_of}
 use Rattle.erl_term.specs.declared.term.Pid.{Pid}
 use Rattle.erl_term.specs.declared.term.Reference.{Reference}
 use Rattle.link_core.specs.declared.end.End.{End}
-use Rattle.monitor_core.proofs.Order.{reference_cmp_exact, reference_cmp_total}
+use Rattle.erl_term.proofs.Order.{reference_cmp_exact, reference_cmp_total}
 use Rattle.monitor_core.specs.declared.monitor.Monitor.{Monitor}
 use Rattle.node_plans.specs.Seen.{seen}
 use Rattle.node_plans.specs.declared.node.Node.{Node as TheNode}

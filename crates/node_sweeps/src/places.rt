@@ -3,7 +3,7 @@ ghost use Rattle.std.specs.Prelude.{◌≤◌, T, length};
 ghost use Rattle.std.specs.FinMap as fm;
 ghost use Rattle.std.specs.List.{AllWithin};
 ghost use Rattle.std.specs.Option.{option_copied};
-ghost use Rattle.monitor_core.specs.Order.{reference_cmp};
+ghost use Rattle.erl_term.specs.Order.{reference_cmp};
 ghost use Rattle.node_sweeps.specs.Ahead.{IsBefore};
 
 use erl_term::Reference;

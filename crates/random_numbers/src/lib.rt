@@ -1,6 +1,8 @@
 //! Numbers at random from a seed, for walks that can be gone once more. They are no secrets.
 #![tactic(auto)]
 
+ghost use Rattle.random_numbers.specs.Below.{IsBelow};
+
 /// A sequence of numbers, by Marsaglia's xorshift. A seed gives the same sequence each time; 0 stands
 /// for 1, since the sequence of 0 has nothing else.
 #[derive(Clone, Copy)]
@@ -22,7 +24,9 @@ impl Random {
     }
 
     /// The next number, below this one; 0 where that is 0.
-    pub fn below(&mut self, end: usize) -> usize {
+    pub fn below(&mut self, end: usize) -> usize
+        ensures { IsBelow result end }
+    {
         let number = self.next() >> 16;
         if end == 0 {
             0

@@ -5,7 +5,7 @@ use Rattle.sorted_map.specs.First.{first_held, first_passes, first_least, first_
 use Rattle.erl_term.specs.declared.term.Reference.{Reference}
 use Rattle.monitor_core.specs.declared.monitor.Monitor.{Monitor}
 use Rattle.monitor_core.specs.Monitors.{MonitorMap, IsFirst}
-use Rattle.monitor_core.proofs.Order.{reference_cmp_total, reference_cmp_exact}
+use Rattle.erl_term.proofs.Order.{reference_cmp_total, reference_cmp_exact}
 use Rattle.monitor_core.proofs.laws.first_is_least.Goals as goal
 
 is_first : (monitors : MonitorMap) (passes : Monitor → Bool) (found : Option (Reference × Monitor))

@@ -5,7 +5,7 @@ use Rattle.sorted_map.proofs.Places.{finds, finds_none, put_gap, gap_in_range}
 use Rattle.monitor_core.specs.Monitors.{Sided, added}
 use Rattle.monitor_core.specs.Records.{AreSorted}
 use Rattle.monitor_core.specs.Index.{IsIndex, process_of}
-use Rattle.monitor_core.proofs.Order.{reference_cmp_total}
+use Rattle.erl_term.proofs.Order.{reference_cmp_total}
 use Rattle.monitor_core.proofs.Maps.{get_here, added_new, added_again, map_of}
 use Rattle.monitor_core.proofs.Held.{at_refusal}
 use Rattle.monitor_core.proofs.monitors.Monitors.add.Goals as goal

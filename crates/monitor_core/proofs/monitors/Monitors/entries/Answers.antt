@@ -1,6 +1,6 @@
 use Rattle.std.proofs.Common.{sym, ap, ◌∙◌}
 use Rattle.std.specs.FinMap as map
-use Rattle.monitor_core.specs.Order.{reference_cmp}
+use Rattle.erl_term.specs.Order.{reference_cmp}
 use Rattle.monitor_core.specs.Monitors.{Sided}
 use Rattle.monitor_core.proofs.monitors.Monitors.entries.Goals as goal
 

@@ -1,6 +1,6 @@
 use Rattle.std.proofs.Common.{ap, ◌∙◌, [], length}
 use Rattle.std.specs.FinMap as map
-use Rattle.monitor_core.specs.Order.{reference_cmp}
+use Rattle.erl_term.specs.Order.{reference_cmp}
 use Rattle.monitor_core.proofs.monitors.Monitors.new.Goals as goal
 
 pub returns-clause-monitors : goal.returns-clause-monitors

@@ -2,7 +2,7 @@ use Rattle.std.proofs.Common.{◌<◌, ◌+◌, length, drop, sym, ap, subst, �
 use Rattle.std.specs.FinMap as map
 use Rattle.std.specs.List.{slice_get}
 use Rattle.sorted_map.specs.Entries.{at_place}
-use Rattle.monitor_core.specs.Order.{reference_cmp}
+use Rattle.erl_term.specs.Order.{reference_cmp}
 use Rattle.monitor_core.specs.Monitors.{Sided}
 use Rattle.monitor_core.specs.Sought.{meets}
 use Rattle.monitor_core.proofs.First.{found, found_behind, place_behind, none_behind, none_past, is_past, is_rest}

@@ -6,7 +6,7 @@ use Rattle.monitor_core.specs.Monitors.{Sided}
 use Rattle.monitor_core.specs.Records.{Records, AreSorted}
 use Rattle.monitor_core.specs.Index.{IsIndex, process_of}
 use Rattle.monitor_core.specs.declared.places.Point.TheVariants.{At}
-use Rattle.monitor_core.proofs.Order.{reference_cmp_total, reference_cmp_exact}
+use Rattle.erl_term.proofs.Order.{reference_cmp_total, reference_cmp_exact}
 use Rattle.monitor_core.proofs.Maps.{get_here, remove_same, none_of, on_true}
 use Rattle.monitor_core.proofs.Indexed.{closed_index, gone_up, left_at, within_places}
 use Rattle.monitor_core.proofs.Parts.{parted_as}
@@ -37,14 +37,9 @@ close-requires-clause-within c =
 pub close-requires-clause-gone : goal.close-requires-clause-gone
 close-requires-clause-gone c =
     let of = process_of c.self.inside.side in
-    let rs = c.self.inside.records.entries in
-    let places = c.self.inside.places.items in
     let point = At c.in-Ok.at in
-    let from = c.part-from.result.0 in
-    let to = c.part-from.result.1 in
-    let parted =
-    parted_as of point c.entries.result.now rs _ places from to c.entries.ensures.entries c.deref.ensures.value c.part-from.ensures in
-    gone_up of rs point places from to c.self.invariant.index parted
+    gone_up of _ point _ _ _ c.self.invariant.index
+    (parted_as of point _ _ _ _ _ _ c.entries.ensures.entries c.deref.ensures.value c.part-from.ensures)
 
 pub invariant_of-self : goal.invariant_of-self
 invariant_of-self c =

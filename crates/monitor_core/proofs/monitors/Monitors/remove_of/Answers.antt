@@ -13,7 +13,7 @@ use Rattle.monitor_core.specs.Left.{is_of, without}
 use Rattle.monitor_core.specs.Monitors.{Sided}
 use Rattle.monitor_core.specs.Records.{Records, AreSorted}
 use Rattle.monitor_core.specs.Index.{IsIndex, picked, process_of}
-use Rattle.monitor_core.proofs.Order.{reference_cmp_total, reference_cmp_exact}
+use Rattle.erl_term.proofs.Order.{reference_cmp_total, reference_cmp_exact}
 use Rattle.monitor_core.proofs.Indexed.{closed_index, gone_up, left_others, none_its, passing_its, picked_gone, within_places}
 use Rattle.monitor_core.proofs.Parts.{parted_as}
 use Rattle.monitor_core.proofs.monitors.Monitors.remove_of.Goals as goal
@@ -45,14 +45,9 @@ close-requires-clause-within c =
 pub close-requires-clause-gone : goal.close-requires-clause-gone
 close-requires-clause-gone c =
     let of = process_of c.self.inside.side in
-    let rs = c.self.inside.records.entries in
-    let places = c.self.inside.places.items in
     let point = Of c.args.process in
-    let from = c.part-from.result.0 in
-    let to = c.part-from.result.1 in
-    let parted =
-    parted_as of point c.entries.result.now rs _ places from to c.entries.ensures.entries c.deref.ensures.value c.part-from.ensures in
-    gone_up of rs point places from to c.self.invariant.index parted
+    gone_up of _ point _ _ _ c.self.invariant.index
+    (parted_as of point _ _ _ _ _ _ c.entries.ensures.entries c.deref.ensures.value c.part-from.ensures)
 
 pub invariant_of-self : goal.invariant_of-self
 invariant_of-self c =

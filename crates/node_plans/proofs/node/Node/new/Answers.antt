@@ -9,7 +9,7 @@ use Rattle.erl_handshake.specs.declared.identity.Identity.{Identity}
 use Rattle.erl_names.specs.Ids.{reference_of}
 use Rattle.erl_names.specs.Minted.{Minted, nothing_drawn}
 use Rattle.monitor_core.specs.Monitors.{MonitorMap}
-use Rattle.monitor_core.specs.Order.{reference_cmp}
+use Rattle.erl_term.specs.Order.{reference_cmp}
 use Rattle.node_frames.specs.Sendable.{are_sendable}
 use Rattle.node_plans.specs.SeenOf.{seen_of}
 use Rattle.node_plans.proofs.node.Node.new.Goals as goal

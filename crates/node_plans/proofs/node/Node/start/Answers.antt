@@ -7,7 +7,7 @@ use Rattle.erl_handshake.specs.declared.identity.Identity.{Identity}
 use Rattle.erl_names.specs.Ids.{reference_of}
 use Rattle.erl_names.specs.Minted.{Minted}
 use Rattle.monitor_core.specs.Monitors.{MonitorMap}
-use Rattle.monitor_core.specs.Order.{reference_cmp}
+use Rattle.erl_term.specs.Order.{reference_cmp}
 use Rattle.node_frames.specs.Sendable.{are_sendable}
 use Rattle.node_plans.specs.Seen.{seen}
 use Rattle.node_plans.specs.SeenOf.{seen_of}

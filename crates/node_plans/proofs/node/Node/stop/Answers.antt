@@ -6,7 +6,7 @@ use Rattle.dist_model.specs.Keeping.{CountsOwn, Steady}
 use Rattle.erl_names.specs.Ids.{reference_of}
 use Rattle.erl_names.specs.Minted.{Minted}
 use Rattle.monitor_core.specs.Monitors.{MonitorMap}
-use Rattle.monitor_core.specs.Order.{reference_cmp}
+use Rattle.erl_term.specs.Order.{reference_cmp}
 use Rattle.node_plans.specs.Seen.{seen}
 use Rattle.node_plans.specs.SeenOf.{seen_of}
 use Rattle.node_plans.proofs.Restarted.{counted_stopped, steady_stopped}
