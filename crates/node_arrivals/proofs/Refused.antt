@@ -11,6 +11,7 @@ use Rattle.dist_model.specs.Sides.{is_over}
 use Rattle.dist_model.specs.Work.{at_work}
 use Rattle.erl_handshake.specs.declared.acceptor.AcceptorState.TheVariants as acceptor
 use Rattle.erl_handshake.specs.declared.dialer.DialerState.TheVariants as dialer
+use Rattle.erl_handshake.specs.declared.message.ShakeMsg.{ShakeMsg}
 use Rattle.erl_names.specs.declared.trunk.TrunkId.{TrunkId}
 use Rattle.node_arrivals.proofs.Accepted.{heard_accepted, taken_accepted}
 use Rattle.node_arrivals.specs.Coming.{comes}
@@ -30,49 +31,30 @@ pub record Wanted (m : Node) (trunk : TrunkId) (peer : List ℕ) (st : Standing)
   pub accepted : IsAccepted (comes m trunk (Some (standing_side peer st)) front word)
 
 module _ (m : Node) (trunk : TrunkId) (peer : List ℕ) (bytes : List ℕ) (word : ℕ) where
+  heard : (st : Standing) (message : ShakeMsg) (n : ℕ) → IsFrontIn (state_of st) bytes (Holds (Handshake message) n)
+      → IsAccepted (comes m trunk (Some (standing_side peer st)) (Holds (Handshake message) n) word)
+      → Wanted m trunk peer st bytes word
+  heard st message n is accepted = record { front = Holds (Handshake message) n; is = is; accepted = accepted }
+
   pub wanted : (st : Standing) → is_settled st ≡ true → TakesMemory st bytes → Wanted m trunk peer st bytes word
   wanted (standing.Dialing (dialer.AwaitsStatus w)) h (message, n, due) =
-      record {
-        front = Holds (Handshake message) n;
-        is = due;
-        accepted = heard_accepted trunk message (at_work m) (state_of (standing.Dialing (dialer.AwaitsStatus w)))
-            (standing_side peer (standing.Dialing (dialer.AwaitsStatus w)));
-      }
+      let st = standing.Dialing (dialer.AwaitsStatus w) in
+      heard st message n due (heard_accepted trunk message (at_work m) (state_of st) (standing_side peer st))
   wanted (standing.Dialing (dialer.AwaitsChallenge w)) h (message, n, due) =
-      record {
-        front = Holds (Handshake message) n;
-        is = due;
-        accepted = heard_accepted trunk message (at_work m) (state_of (standing.Dialing (dialer.AwaitsChallenge w)))
-            (standing_side peer (standing.Dialing (dialer.AwaitsChallenge w)));
-      }
+      let st = standing.Dialing (dialer.AwaitsChallenge w) in
+      heard st message n due (heard_accepted trunk message (at_work m) (state_of st) (standing_side peer st))
   wanted (standing.Dialing (dialer.AwaitsAck w c)) h (message, n, due) =
-      record {
-        front = Holds (Handshake message) n;
-        is = due;
-        accepted = heard_accepted trunk message (at_work m) (state_of (standing.Dialing (dialer.AwaitsAck w c)))
-            (standing_side peer (standing.Dialing (dialer.AwaitsAck w c)));
-      }
+      let st = standing.Dialing (dialer.AwaitsAck w c) in
+      heard st message n due (heard_accepted trunk message (at_work m) (state_of st) (standing_side peer st))
   wanted (standing.Accepting (acceptor.AwaitsAnswer w c)) h (message, n, due) =
-      record {
-        front = Holds (Handshake message) n;
-        is = due;
-        accepted = heard_accepted trunk message (at_work m) (state_of (standing.Accepting (acceptor.AwaitsAnswer w c)))
-            (standing_side peer (standing.Accepting (acceptor.AwaitsAnswer w c)));
-      }
+      let st = standing.Accepting (acceptor.AwaitsAnswer w c) in
+      heard st message n due (heard_accepted trunk message (at_work m) (state_of st) (standing_side peer st))
   wanted (standing.Accepting (acceptor.AwaitsTurn w c)) h (message, n, due) =
-      record {
-        front = Holds (Handshake message) n;
-        is = due;
-        accepted = heard_accepted trunk message (at_work m) (state_of (standing.Accepting (acceptor.AwaitsTurn w c)))
-            (standing_side peer (standing.Accepting (acceptor.AwaitsTurn w c)));
-      }
+      let st = standing.Accepting (acceptor.AwaitsTurn w c) in
+      heard st message n due (heard_accepted trunk message (at_work m) (state_of st) (standing_side peer st))
   wanted (standing.Accepting (acceptor.AwaitsReply w c)) h (message, n, due) =
-      record {
-        front = Holds (Handshake message) n;
-        is = due;
-        accepted = heard_accepted trunk message (at_work m) (state_of (standing.Accepting (acceptor.AwaitsReply w c)))
-            (standing_side peer (standing.Accepting (acceptor.AwaitsReply w c)));
-      }
+      let st = standing.Accepting (acceptor.AwaitsReply w c) in
+      heard st message n due (heard_accepted trunk message (at_work m) (state_of st) (standing_side peer st))
   wanted (standing.Up c) h (signal, n, due) =
       record {
         front = Holds (Signalled signal) n;

@@ -1,3 +1,4 @@
 pub mod Ahead
 pub mod Records
 pub mod Done
+pub mod Next

@@ -12,8 +12,9 @@ ghost use Rattle.node_plans.specs.Carried.{CarriesOut, IsBlank, Makes, MakesOr};
 ghost use Rattle.node_plans.specs.Plans.{told};
 ghost use Rattle.node_plans.specs.Seen.{seen};
 ghost use Rattle.node_sides.specs.Standings.{side_of, state_of};
-ghost use Rattle.node_sweeps.specs.Ahead.{NoneOwnedBefore, NoneWatchedBefore};
-ghost use Rattle.node_sweeps.specs.Records.{has_records, link_entry, record_of};
+ghost use Rattle.node_sweeps.specs.Ahead.{NoneOwnedBefore};
+ghost use Rattle.node_sweeps.specs.Next.{IsNextLink};
+ghost use Rattle.node_sweeps.specs.Records.{has_records, record_of};
 ghost use Rattle.node_sweeps.specs.declared.records.Record.TheVariants as the_record;
 
 use crate::leaving::{link_leaves, registration_leaves, watch_leaves};
@@ -58,14 +59,11 @@ pub(crate) fn clear_link(
     from: &Sweeping,
     link: &FoundLink<'_>,
 ) -> Result<(), AllocError>
-    requires up { (seen node.now).up ≡ true }
     requires blank { IsBlank plan.old }
     requires carries { CarriesOut plan.old (seen node.now) (at_work (seen node.now)) }
     requires there { fm.get (seen node.now).sides side.now.trunk ≡ Some (side_of side.now) }
     requires losing { is_losing (state_of side.now.standing) ≡ true }
-    requires first { link_to side.now.peer (fm.entries (seen node.now).ends) ≡ Some (link_entry (seen node.now).mint link.now) }
-    requires watches { NoneWatchedBefore side.now.peer from.now.watch (seen node.now).watches }
-    requires registrations { NoneOwnedBefore side.now.peer from.now.registration (seen node.now).registered }
+    requires next { IsNextLink side.now.peer from.now link.now (seen node.now) }
     ensures makes { let swept = sweep_record (Some (record_of (seen node.now).mint (the_record.Link link.now))) (at_work (seen node.now)) in
         MakesOr (seen node.now) (close_if_swept side.now.trunk (side_of side.now) swept) plan.new result }
     ensures told { OnOk result (told plan.new (seen node.now) ≡ the_answer.Swept the_kind.Link) }

@@ -1,5 +1,5 @@
 //! Whether a sweep of one record leaves another.
-ghost use Rattle.std.specs.Prelude.{◌≡◌, None, Some, true};
+ghost use Rattle.std.specs.Prelude.{◌≡◌, None, Some};
 ghost use Rattle.std.specs.FinMap as fm;
 ghost use Rattle.dist_model.specs.Losses.{link_to, sweep_end, watch_to};
 ghost use Rattle.dist_model.specs.Monitoring.{unregister, unwatch};
@@ -7,7 +7,8 @@ ghost use Rattle.dist_model.specs.Work.{at_work};
 ghost use Rattle.erl_names.specs.Ids.{pid_of};
 ghost use Rattle.node_plans.specs.Seen.{seen};
 ghost use Rattle.node_sweeps.specs.Ahead.{NoneOwnedBefore, NoneWatchedBefore};
-ghost use Rattle.node_sweeps.specs.Records.{has_records, left_by_end, left_by_loss, link_entry};
+ghost use Rattle.node_sweeps.specs.Next.{IsNextLink};
+ghost use Rattle.node_sweeps.specs.Records.{has_records, left_by_end, left_by_loss};
 
 use crate::left::{
     has_another_link, has_another_registration, has_another_watch, has_link_of_another,
@@ -28,11 +29,8 @@ fn leaves_by_end(
     process: &Pid,
     link: &FoundLink<'_>,
 ) -> bool
-    requires up { (seen node.now).up ≡ true }
     requires process { process.now ≡ pid_of (seen node.now).mint link.now.id }
-    requires first { link_to peer.now (fm.entries (seen node.now).ends) ≡ Some (link_entry (seen node.now).mint link.now) }
-    requires watches { NoneWatchedBefore peer.now from.now.watch (seen node.now).watches }
-    requires registrations { NoneOwnedBefore peer.now from.now.registration (seen node.now).registered }
+    requires next { IsNextLink peer.now from.now link.now (seen node.now) }
     ensures { result ≡ has_records peer.now (left_by_end process.now link.now.partner.now (seen node.now)) }
 {
     has_link_of_another(node, peer, link)
@@ -48,11 +46,8 @@ fn leaves_by_loss(
     process: &Pid,
     link: &FoundLink<'_>,
 ) -> bool
-    requires up { (seen node.now).up ≡ true }
     requires process { process.now ≡ pid_of (seen node.now).mint link.now.id }
-    requires first { link_to peer.now (fm.entries (seen node.now).ends) ≡ Some (link_entry (seen node.now).mint link.now) }
-    requires watches { NoneWatchedBefore peer.now from.now.watch (seen node.now).watches }
-    requires registrations { NoneOwnedBefore peer.now from.now.registration (seen node.now).registered }
+    requires next { IsNextLink peer.now from.now link.now (seen node.now) }
     ensures { result ≡ has_records peer.now (left_by_loss process.now link.now.partner.now (seen node.now)) }
 {
     has_another_link(node, peer, process, link)
@@ -70,11 +65,8 @@ pub(crate) fn link_leaves(
     process: &Pid,
     link: &FoundLink<'_>,
 ) -> bool
-    requires up { (seen node.now).up ≡ true }
     requires process { process.now ≡ pid_of (seen node.now).mint link.now.id }
-    requires first { link_to peer.now (fm.entries (seen node.now).ends) ≡ Some (link_entry (seen node.now).mint link.now) }
-    requires watches { NoneWatchedBefore peer.now from.now.watch (seen node.now).watches }
-    requires registrations { NoneOwnedBefore peer.now from.now.registration (seen node.now).registered }
+    requires next { IsNextLink peer.now from.now link.now (seen node.now) }
     ensures { result ≡ has_records peer.now (sweep_end link.now.end process.now link.now.partner.now (at_work (seen node.now))).node }
 {
     if is_active(link.end) && !node.traps(process) {

@@ -17,7 +17,7 @@ take_link-requires-clause-living c =
     let m = seen c.args.node.now in
     let link = c.args.link.now in
     let same : c.in_ok-process.process ≡ pid_of m.mint link.id = search rules in
-    ap (living m) same ∙ first_lives c.args.node.now c.args.side.now.peer link.id link.partner.now link.end c.requires.first
+    ap (living m) same ∙ first_lives c.args.node.now c.args.side.now.peer link.id link.partner.now link.end c.requires.next.first
 
 pub returns-clause-makes : goal.returns-clause-makes
 returns-clause-makes c =
