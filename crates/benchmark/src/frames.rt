@@ -1,9 +1,10 @@
 //! Link signals as frames.
 
 use crate::pids::pid;
-use crate::rate::Rate;
+use crate::printing::print;
 use anyhow::Result;
 use erl_control::{Signal, frame, unframe};
+use rates::Rate;
 use std::hint::black_box;
 use std::time::Instant;
 
@@ -50,6 +51,6 @@ fn measure_signal(rt: &HostRuntime, name: &str, signal: &Signal) -> Result<()> {
         elapsed: start.elapsed(rt)?,
     };
     println!(rt; "{name}, {} bytes", bytes.len())?;
-    framing.print(rt)?;
-    unframing.print(rt)
+    print(rt, &framing)?;
+    print(rt, &unframing)
 }

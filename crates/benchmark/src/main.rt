@@ -5,7 +5,7 @@
 
 mod frames;
 mod pids;
-mod rate;
+mod printing;
 mod terms;
 
 use anyhow::Result;

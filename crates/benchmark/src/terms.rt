@@ -1,10 +1,11 @@
 //! Terms as bytes: small control terms, and one of about a megabyte.
 
 use crate::pids::pid;
-use crate::rate::Rate;
+use crate::printing::print;
 use anyhow::Result;
 use erl_term::{Term, decode, encode};
 use std::alloc::{AllocError, Global};
+use rates::Rate;
 use std::hint::black_box;
 use std::time::Instant;
 
@@ -60,8 +61,8 @@ fn measure_term(rt: &HostRuntime, name: &str, term: &Term, rounds: u64) -> Resul
         elapsed: start.elapsed(rt)?,
     };
     println!(rt; "{name}, {} bytes", bytes.len())?;
-    encoding.print(rt)?;
-    decoding.print(rt)
+    print(rt, &encoding)?;
+    print(rt, &decoding)
 }
 
 // Want of memory is plain here: an error that holds a term is dear to prove at each place.

@@ -1,9 +1,8 @@
 //! What a measurement found.
 
 ghost use Rattle.std.specs.Prelude.{◌≡◌, ◌≤◌, ◌<◌, ◌*◌, ◌/◌, ◌-◌, ◌^◌, max};
-ghost use Rattle.benchmark.specs.Rates.{nanos_of, a_second, megabytes_a_second};
+ghost use Rattle.rates.specs.Rates.{nanos_of, a_second, megabytes_a_second};
 
-use anyhow::Result;
 use std::time::Duration;
 
 /// So many rounds, each over as many bytes, in the time that they took.
@@ -50,12 +49,5 @@ impl Rate<'_> {
         ensures { result ≡ nanos_of self.now.elapsed }
     {
         at_least_one(self.elapsed.as_nanos())
-    }
-
-    /// Prints how many rounds a second has, and how many megabytes of 1,000,000 bytes.
-    pub fn print(&self, rt: &HostRuntime) -> Result<()> {
-        let (a_second, megabytes) = (self.a_second(), self.megabytes());
-        println!(rt; "  {}: {a_second} a second, {megabytes} MB/s", self.name)?;
-        Ok(())
     }
 }
