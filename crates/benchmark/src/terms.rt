@@ -4,8 +4,8 @@ use crate::pids::pid;
 use crate::printing::print;
 use anyhow::Result;
 use erl_term::{Term, decode, encode};
-use std::alloc::{AllocError, Global};
 use rates::Rate;
+use std::alloc::{AllocError, Global};
 use std::hint::black_box;
 use std::time::Instant;
 
