@@ -24,7 +24,9 @@ impl Random {
     }
 
     /// The next number, below this one; 0 where that is 0.
-    pub fn below(&mut self, end: usize) -> usize {
+    pub fn below(&mut self, end: usize) -> usize
+        ensures { result ≤ end - 1 }
+    {
         cut(self.next() >> 16, end)
     }
 }
