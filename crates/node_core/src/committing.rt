@@ -31,7 +31,6 @@ impl Node {
         ensures effects { result.effects ≡ planned.plan.effects }
     {
         let Planned { plan, sweeping } = planned;
-        let plan = plan.into_inner();
         go_on(&mut self.sweeping, sweeping);
         self.sweeping.heed(&plan);
         self.state.commit(alloc, plan)

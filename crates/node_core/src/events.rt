@@ -1,23 +1,25 @@
 //! The events of a node.
-ghost use Rattle.std.specs.Prelude.{◌≡◌, IfOk, List, MatchResult, true, false, Err};
+ghost use Rattle.std.specs.Prelude.{◌≡◌, List, OnOk, true, false, Err};
 ghost use Rattle.std.specs.FinMap as fm;
 ghost use Rattle.dist_model.specs.Dialing.{has_name};
 ghost use Rattle.dist_model.specs.Names.{Name};
 ghost use Rattle.dist_model.specs.NodeEvents as event;
 ghost use Rattle.dist_model.specs.NodeEvents.{at_node};
 ghost use Rattle.erl_term.specs.declared.refusal.Refusal.TheVariants as refusal;
-ghost use Rattle.node_events.specs.Arrived.{DoesArrived, PlansArrived, is_undialed};
+ghost use Rattle.node_arrivals.specs.Coming.{PlansBytes};
+ghost use Rattle.node_events.specs.Arrived.{DoesArrived, arrives, is_undialed};
+ghost use Rattle.node_events.specs.Begun.{IsNew, IsTaking};
 ghost use Rattle.node_events.specs.Done.{Does};
 ghost use Rattle.node_core.specs.Model.{IsFor, model_of};
-ghost use Rattle.node_plans.specs.Planned.{IsPlanned, IsRefused};
+ghost use Rattle.node_plans.specs.Planned.{Plans};
 
 use crate::node::Node;
 use dist_model::{Command, Report};
 use erl_names::{NodeName, TrunkId};
 use erl_term::Refusal;
 use node_events::{
-    Arrived, Planned, PlannedArrival, plan_arrival, plan_call, plan_dial, plan_local, plan_loss,
-    plan_sweep, start, stop,
+    Arrived, Planned, plan_arrival, plan_call, plan_dial, plan_local, plan_loss, plan_sweep, start,
+    stop,
 };
 use node_frames::Frame;
 use node_sweeps::Sweeping;
@@ -29,13 +31,18 @@ impl Node {
     ///
     /// # Errors
     /// As the model refuses the command, and behind that [`Refusal::OutOfMemory`].
-    pub fn plan_call(&mut self, alloc: Global, command: Command) -> Result<Planned, Refusal>
+    pub fn plan_call(
+        &mut self,
+        alloc: Global,
+        planned: &mut Planned,
+        command: Command,
+    ) -> Result<(), Refusal>
+        requires { IsNew planned.old }
         ensures same { model_of self.new ≡ model_of self.old }
-        ensures plan { (names : List Name) → let due = at_node names (model_of self.old) (event.Call command) in
-            MatchResult result (λ p. IsPlanned (model_of self.old) due p.plan) (IsRefused due) }
-        ensures suits { IfOk result (IsFor self.new) }
+        ensures plan { (names : List Name) → Plans (model_of self.old) (at_node names (model_of self.old) (event.Call command)) planned.new.plan result }
+        ensures suits { OnOk result (IsFor self.new planned.new) }
     {
-        plan_call(alloc, &mut self.state, command)
+        plan_call(alloc, &mut self.state, planned, command)
     }
 
     /// A caller's command is planned, and carried out. (Reference Manual, Processes.)
@@ -45,9 +52,13 @@ impl Node {
     pub fn call(&mut self, alloc: Global, command: Command) -> Result<Report<Frame>, Refusal>
         ensures { (names : List Name) → Does (at_node names (model_of self.old) (event.Call command)) (model_of self.old) (model_of self.new) result }
     {
-        match self.plan_call(alloc, command) {
-            Ok(planned) => Ok(self.commit(alloc, planned)),
-            Err(e) => Err(e),
+        let mut planned = Planned::new(alloc);
+        match self.plan_call(alloc, &mut planned, command) {
+            Ok(()) => Ok(self.commit(alloc, planned)),
+            Err(e) => {
+                drop(planned);
+                Err(e)
+            }
         }
     }
 
@@ -57,13 +68,13 @@ impl Node {
     /// # Errors
     /// [`Refusal::NodeDown`] at a node that has stopped, [`Refusal::NothingThere`] where nothing travels,
     /// and behind these [`Refusal::OutOfMemory`].
-    pub fn plan_local(&mut self, alloc: Global) -> Result<Planned, Refusal>
+    pub fn plan_local(&mut self, alloc: Global, planned: &mut Planned) -> Result<(), Refusal>
+        requires { IsTaking planned.old }
         ensures same { model_of self.new ≡ model_of self.old }
-        ensures plan { (names : List Name) → let due = at_node names (model_of self.old) event.Local in
-            MatchResult result (λ p. IsPlanned (model_of self.old) due p.plan) (IsRefused due) }
-        ensures suits { IfOk result (IsFor self.new) }
+        ensures plan { (names : List Name) → Plans (model_of self.old) (at_node names (model_of self.old) event.Local) planned.new.plan result }
+        ensures suits { OnOk result (IsFor self.new planned.new) }
     {
-        plan_local(alloc, &mut self.state)
+        plan_local(alloc, &mut self.state, planned)
     }
 
     /// The first signal that travels from the node to itself comes: planned, and carried out.
@@ -74,9 +85,13 @@ impl Node {
     pub fn local(&mut self, alloc: Global) -> Result<Report<Frame>, Refusal>
         ensures { (names : List Name) → Does (at_node names (model_of self.old) event.Local) (model_of self.old) (model_of self.new) result }
     {
-        match self.plan_local(alloc) {
-            Ok(planned) => Ok(self.commit(alloc, planned)),
-            Err(e) => Err(e),
+        let mut planned = Planned::taking(alloc);
+        match self.plan_local(alloc, &mut planned) {
+            Ok(()) => Ok(self.commit(alloc, planned)),
+            Err(e) => {
+                drop(planned);
+                Err(e)
+            }
         }
     }
 
@@ -86,13 +101,13 @@ impl Node {
     /// # Errors
     /// [`Refusal::NodeDown`] at a node that has stopped, [`Refusal::NotLive`] where there is nothing to
     /// lose, and behind these [`Refusal::OutOfMemory`].
-    pub fn plan_loss(&mut self, alloc: Global, trunk: &TrunkId) -> Result<Planned, Refusal>
+    pub fn plan_loss(&mut self, planned: &mut Planned, trunk: &TrunkId) -> Result<(), Refusal>
+        requires { IsNew planned.old }
         ensures same { model_of self.new ≡ model_of self.old }
-        ensures plan { (names : List Name) → let due = at_node names (model_of self.old) (event.Lose trunk.now) in
-            MatchResult result (λ p. IsPlanned (model_of self.old) due p.plan) (IsRefused due) }
-        ensures suits { IfOk result (IsFor self.new) }
+        ensures plan { (names : List Name) → Plans (model_of self.old) (at_node names (model_of self.old) (event.Lose trunk.now)) planned.new.plan result }
+        ensures suits { OnOk result (IsFor self.new planned.new) }
     {
-        plan_loss(alloc, &mut self.state, trunk)
+        plan_loss(&mut self.state, planned, trunk)
     }
 
     /// The node notices that a connection is lost, or gives an attempt up: planned, and carried out.
@@ -104,9 +119,13 @@ impl Node {
     pub fn lose(&mut self, alloc: Global, trunk: &TrunkId) -> Result<Report<Frame>, Refusal>
         ensures { (names : List Name) → Does (at_node names (model_of self.old) (event.Lose trunk.now)) (model_of self.old) (model_of self.new) result }
     {
-        match self.plan_loss(alloc, trunk) {
-            Ok(planned) => Ok(self.commit(alloc, planned)),
-            Err(e) => Err(e),
+        let mut planned = Planned::new(alloc);
+        match self.plan_loss(&mut planned, trunk) {
+            Ok(()) => Ok(self.commit(alloc, planned)),
+            Err(e) => {
+                drop(planned);
+                Err(e)
+            }
         }
     }
 
@@ -118,13 +137,13 @@ impl Node {
     /// # Errors
     /// [`Refusal::NodeDown`] at a node that has stopped, [`Refusal::NothingThere`] where no connection is
     /// lost, and behind these [`Refusal::OutOfMemory`].
-    pub fn plan_sweep(&mut self, alloc: Global) -> Result<Planned, Refusal>
+    pub fn plan_sweep(&mut self, alloc: Global, planned: &mut Planned) -> Result<(), Refusal>
+        requires { IsNew planned.old }
         ensures same { model_of self.new ≡ model_of self.old }
-        ensures plan { (names : List Name) → let due = at_node names (model_of self.old) event.Sweep in
-            MatchResult result (λ p. IsPlanned (model_of self.old) due p.plan) (IsRefused due) }
-        ensures suits { IfOk result (IsFor self.new) }
+        ensures plan { (names : List Name) → Plans (model_of self.old) (at_node names (model_of self.old) event.Sweep) planned.new.plan result }
+        ensures suits { OnOk result (IsFor self.new planned.new) }
     {
-        plan_sweep(alloc, &mut self.state, &self.sweeping)
+        plan_sweep(alloc, &mut self.state, planned, &self.sweeping)
     }
 
     /// The least record of a lost connection is swept: planned, and carried out. (Reference Manual,
@@ -135,9 +154,13 @@ impl Node {
     pub fn sweep(&mut self, alloc: Global) -> Result<Report<Frame>, Refusal>
         ensures { (names : List Name) → Does (at_node names (model_of self.old) event.Sweep) (model_of self.old) (model_of self.new) result }
     {
-        match self.plan_sweep(alloc) {
-            Ok(planned) => Ok(self.commit(alloc, planned)),
-            Err(e) => Err(e),
+        let mut planned = Planned::new(alloc);
+        match self.plan_sweep(alloc, &mut planned) {
+            Ok(()) => Ok(self.commit(alloc, planned)),
+            Err(e) => {
+                drop(planned);
+                Err(e)
+            }
         }
     }
 
@@ -152,16 +175,18 @@ impl Node {
     pub fn plan_dial(
         &mut self,
         alloc: Global,
+        planned: &mut Planned,
         is_known: bool,
         peer: &NodeName,
         word: u32,
-    ) -> Result<Planned, Refusal>
+    ) -> Result<(), Refusal>
+        requires { IsNew planned.old }
         ensures same { model_of self.new ≡ model_of self.old }
-        ensures plan { (names : List Name) → has_name peer.now names ≡ is_known → let due = at_node names (model_of self.old) (event.Dial peer.now word) in
-            MatchResult result (λ p. IsPlanned (model_of self.old) due p.plan) (IsRefused due) }
-        ensures suits { IfOk result (IsFor self.new) }
+        ensures plan { (names : List Name) → has_name peer.now names ≡ is_known →
+            Plans (model_of self.old) (at_node names (model_of self.old) (event.Dial peer.now word)) planned.new.plan result }
+        ensures suits { OnOk result (IsFor self.new planned.new) }
     {
-        plan_dial(alloc, &mut self.state, is_known, peer, word)
+        plan_dial(alloc, &mut self.state, planned, is_known, peer, word)
     }
 
     /// The node dials another: planned, and carried out. (ERTS User's Guide, Distribution Protocol,
@@ -178,9 +203,13 @@ impl Node {
     ) -> Result<Report<Frame>, Refusal>
         ensures { (names : List Name) → has_name peer.now names ≡ is_known → Does (at_node names (model_of self.old) (event.Dial peer.now word)) (model_of self.old) (model_of self.new) result }
     {
-        match self.plan_dial(alloc, is_known, peer, word) {
-            Ok(planned) => Ok(self.commit(alloc, planned)),
-            Err(e) => Err(e),
+        let mut planned = Planned::new(alloc);
+        match self.plan_dial(alloc, &mut planned, is_known, peer, word) {
+            Ok(()) => Ok(self.commit(alloc, planned)),
+            Err(e) => {
+                drop(planned);
+                Err(e)
+            }
         }
     }
 
@@ -196,18 +225,20 @@ impl Node {
     pub fn plan_arrival(
         &mut self,
         alloc: Global,
+        planned: &mut Planned,
         trunk: &TrunkId,
         bytes: &[u8],
         word: u32,
-    ) -> Result<PlannedArrival, Refusal>
+    ) -> Result<usize, Refusal>
+        requires { IsNew planned.old }
         ensures same { model_of self.new ≡ model_of self.old }
         ensures down { (model_of self.old).up ≡ false → result ≡ Err refusal.NodeDown }
         ensures undialed { let m = model_of self.old in m.up ≡ true → is_undialed m trunk.now (fm.get m.sides trunk.now) ≡ true → result ≡ Err refusal.NotLive }
         ensures came { let m = model_of self.old in m.up ≡ true → is_undialed m trunk.now (fm.get m.sides trunk.now) ≡ false →
-            PlansArrived m trunk.now bytes.now word result }
-        ensures suits { IfOk result (λ arrival. IsFor self.new arrival.planned) }
+            PlansBytes m (fm.get m.sides trunk.now) bytes.now (λ front. arrives m trunk.now front word) planned.new.plan result }
+        ensures suits { OnOk result (IsFor self.new planned.new) }
     {
-        plan_arrival(alloc, &mut self.state, trunk, bytes, word)
+        plan_arrival(alloc, &mut self.state, planned, trunk, bytes, word)
     }
 
     /// What comes on a connection is taken: planned, and carried out. (ERTS User's Guide, Distribution
@@ -228,12 +259,16 @@ impl Node {
         ensures came { let m = model_of self.old in m.up ≡ true → is_undialed m trunk.now (fm.get m.sides trunk.now) ≡ false →
             DoesArrived m (model_of self.new) trunk.now bytes.now word result }
     {
-        match self.plan_arrival(alloc, trunk, bytes, word) {
-            Ok(PlannedArrival { planned, len }) => Ok(Arrived {
+        let mut planned = Planned::new(alloc);
+        match self.plan_arrival(alloc, &mut planned, trunk, bytes, word) {
+            Ok(len) => Ok(Arrived {
                 report: self.commit(alloc, planned),
                 len,
             }),
-            Err(e) => Err(e),
+            Err(e) => {
+                drop(planned);
+                Err(e)
+            }
         }
     }
 

@@ -7,4 +7,4 @@ mod node;
 mod reading;
 
 pub use node::Node;
-pub use node_events::{Arrived, Planned, PlannedArrival};
+pub use node_events::{Arrived, Planned};

@@ -2,8 +2,6 @@
 use Rattle.std.proofs.Common.{◌≡◌, ℕ, Bool, true, false, cond, OnOk, Option, None, Some}
 use Rattle.std.proofs.Common.{List, [], Result, Ok, Err, refl, sym, ap, subst, ◌∙◌}
 use Rattle.std.specs.FinMap as fm
-use Rattle.std.specs.Prelude.{MatchResult}
-use Rattle.std.specs.Result.{result_unwrap_or}
 use Rattle.conn_core.specs.declared.arrival.Fault.{Fault}
 use Rattle.dist_model.proofs.KeepCounted.{counted_kept}
 use Rattle.dist_model.proofs.KeepSteady.{steady_kept}
@@ -26,11 +24,9 @@ use Rattle.erl_term.specs.declared.refusal.Refusal.{Refusal}
 use Rattle.node_arrivals.specs.Coming.{PlansBytes, comes}
 use Rattle.node_arrivals.specs.Fronts.{Front, Begins, Holds, Spoils}
 use Rattle.node_events.proofs.NodeKept.{comes_of_none}
-use Rattle.node_events.specs.Arrived.{PlansArrived, arrives, is_undialed, without_len}
-use Rattle.node_events.specs.declared.arriving.PlannedArrival.{PlannedArrival}
-use Rattle.node_events.specs.declared.planned.Planned.{Planned}
+use Rattle.node_events.specs.Arrived.{arrives, is_undialed, without_len}
 use Rattle.node_events.specs.Staying.{Stays}
-use Rattle.node_plans.specs.Planned.{IsPlanned, IsRefused, Plans}
+use Rattle.node_plans.specs.Planned.{IsPlanned, Plans}
 use Rattle.node_plans.specs.declared.plan.Plan.{Plan}
 
 pub same_work : (a b : Answer) (v w : Work) → Accepts a v ≡ Accepts b w → v ≡ w
@@ -45,8 +41,8 @@ not_both b h k = cc
 no_error : (len : ℕ) → ◌≡◌ {A = Result ℕ Refusal} (Ok len) (Err Refusal.NotLive) → ⊥
 no_error len h = cc
 
-no_plan : (plan : Planned) (e : Refusal) → ◌≡◌ {A = Result Planned Refusal} (Ok plan) (Err e) → ⊥
-no_plan plan e h = cc
+no_plan : (u : Unit {0}) (e : Refusal) → ◌≡◌ {A = Result (Unit {0}) Refusal} (Ok u) (Err e) → ⊥
+no_plan u e h = cc
 
 no_item : (trunk t : TrunkId) (item : Item) (v word : ℕ) → Arrive trunk None v ≡ Arrive t (Some item) word → ⊥
 no_item trunk t item v word h = cc
@@ -130,9 +126,10 @@ by_up m trunk bytes word plan taken steady counts down undialed came = go m.up r
 
 -- ---- what is planned at a node that runs
 
-abbrev pub with_len : Result Planned Refusal → ℕ → Result PlannedArrival Refusal
-with_len (Ok planned) len = Ok (record { planned = planned; len = len })
-with_len (Err e) len = Err e
+-- so many bytes are taken, unless memory was wanting
+abbrev pub with_len : Result (Unit {0}) Refusal → Result ℕ Refusal → Result ℕ Refusal
+with_len (Ok done) taken = taken
+with_len (Err e) taken = Err e
 
 module _ (m : Node) (trunk : TrunkId) (bytes : List ℕ) (word : ℕ) (plan : Plan) (up : m.up ≡ true) where
   abbrev due : Front → Outcome
@@ -144,11 +141,12 @@ module _ (m : Node) (trunk : TrunkId) (bytes : List ℕ) (word : ℕ) (plan : Pl
       let P : Outcome → Type 0 = (λ x. Plans m x plan planned) in
       subst P (sym (ap (λ b. cond b (due front) (Refuses Refusal.NodeDown)) up)) h
 
-  pub arrived : (taken : Result ℕ Refusal) (settled : Result Planned Refusal) → PlansBytes m (fm.get m.sides trunk) bytes due plan taken
-      → ((x : Outcome) → Plans m x plan (without_len taken) → MatchResult settled (λ p. IsPlanned m x p.plan) (IsRefused x))
+  pub arrived : (taken : Result ℕ Refusal) (settled : Result (Unit {0}) Refusal)
+      → PlansBytes m (fm.get m.sides trunk) bytes due plan taken
+      → ((x : Outcome) → Plans m x plan (without_len taken) → Plans m x plan settled)
       → ((e : Refusal) → without_len taken ≡ Err e → settled ≡ Err e)
-      → PlansArrived m trunk bytes word (with_len settled (result_unwrap_or taken 0))
-  arrived (Ok len) (Ok new) h s r = record {
+      → PlansBytes m (fm.get m.sides trunk) bytes (λ front. arrives m trunk front word) plan (with_len settled taken)
+  arrived (Ok len) (Ok done) h s r = record {
     front = h.front;
     is = h.is;
     plans = (s (arrives m trunk h.front word) (at_running h.front (Ok tt) h.plans.0), h.plans.1);
@@ -158,7 +156,7 @@ module _ (m : Node) (trunk : TrunkId) (bytes : List ℕ) (word : ℕ) (plan : Pl
     is = h.is;
     plans = s (arrives m trunk h.front word) (at_running h.front (Ok tt) h.plans.0);
   }
-  arrived (Err e) (Ok new) h s r = absurd (no_plan new e (r e refl))
+  arrived (Err e) (Ok done) h s r = absurd (no_plan done e (r e refl))
   arrived (Err e) (Err f) h s r = record {
     front = h.front;
     is = h.is;

@@ -13,8 +13,7 @@ use Rattle.node_arrivals.specs.Coming.{comes}
 use Rattle.node_arrivals.specs.Fronts.{Front, IsFront, len_of}
 use Rattle.node_events.specs.Done.{Did}
 use Rattle.node_events.specs.declared.arriving.Arrived.{Arrived}
-use Rattle.node_events.specs.declared.arriving.PlannedArrival.{PlannedArrival}
-use Rattle.node_plans.specs.Planned.{IsPlanned, IsRefused}
+use Rattle.node_plans.specs.Planned.{IsRefused}
 
 -- the node would have dialed on this connection, and has no side of it: so nothing comes on it
 abbrev pub is_undialed : Node → TrunkId → Option TrunkSide → Bool
@@ -27,15 +26,6 @@ arrives m trunk front word = if_up m (comes m trunk (fm.get m.sides trunk) front
 abbrev pub without_len : Result ℕ Refusal → Result (Unit {0}) Refusal
 without_len (Ok len) = Ok tt
 without_len (Err e) = Err e
-
-abbrev pub PlansFront : Node → Outcome → Front → Result PlannedArrival Refusal → Type 0
-PlansFront m due front (Ok arrival) = IsPlanned m due arrival.planned.plan × (arrival.len ≡ len_of front)
-PlansFront m due front (Err e) = IsRefused due e
-
-pub record PlansArrived (m : Node) (trunk : TrunkId) (bytes : List ℕ) (word : ℕ) (result : Result PlannedArrival Refusal) : Type 0 where
-  pub front : Front
-  pub is : IsFront (fm.get m.sides trunk) bytes front
-  pub plans : PlansFront m (arrives m trunk front word) front result
 
 -- a refused arrival changes nothing
 abbrev pub DoesFront : Outcome → Front → (old new : Node) → Result Arrived Refusal → Type 0

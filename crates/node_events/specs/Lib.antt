@@ -1,3 +1,4 @@
+pub mod Begun
 pub mod Done
 pub mod Staying
 pub mod Suiting

@@ -1,10 +1,11 @@
 //! Bytes come on a connection.
-ghost use Rattle.std.specs.Prelude.{◌≡◌, false, true, IfOk, Err};
+ghost use Rattle.std.specs.Prelude.{◌≡◌, false, true, Err, OnOk};
 ghost use Rattle.std.specs.FinMap as fm;
 ghost use Rattle.dist_model.specs.Work.{at_work};
 ghost use Rattle.erl_term.specs.declared.refusal.Refusal.TheVariants as refusal;
 ghost use Rattle.node_arrivals.specs.Coming.{PlansBytes, comes};
-ghost use Rattle.node_events.specs.Arrived.{PlansArrived, is_undialed, without_len};
+ghost use Rattle.node_events.specs.Arrived.{arrives, is_undialed, without_len};
+ghost use Rattle.node_events.specs.Begun.{IsNew};
 ghost use Rattle.node_events.specs.Suiting.{Suits};
 ghost use Rattle.node_plans.specs.Carried.{CarriesOut, IsBlank};
 ghost use Rattle.node_plans.specs.Seen.{seen};
@@ -17,15 +18,6 @@ use erl_term::Refusal;
 use node_frames::{Frame, same_name};
 use node_plans::{Node, Plan};
 use std::alloc::Global;
-
-/// What is to be done at what came on a connection.
-#[derive(Drop)]
-pub struct PlannedArrival {
-    /// What is to be done.
-    pub planned: Planned,
-    /// How many bytes are taken.
-    pub len: usize,
-}
 
 /// What a node has done at what came on a connection.
 #[derive(Drop)]
@@ -81,27 +73,27 @@ fn without_len(taken: Result<usize, Refusal>) -> Result<(), Refusal>
     }
 }
 
-/// Plans what a node does at the front of the bytes that come on a connection. The node stays as it is
-/// but for its room.
+/// Plans what a node does at the front of the bytes that come on a connection, and says how many bytes
+/// are taken. The node stays as it is but for its room.
 pub fn plan_arrival(
     alloc: Global,
     node: &mut Node,
+    planned: &mut Planned,
     trunk: &TrunkId,
     bytes: &[u8],
     word: u32,
-) -> Result<PlannedArrival, Refusal>
+) -> Result<usize, Refusal>
+    requires { IsNew planned.old }
     ensures same { seen node.new ≡ seen node.old }
     ensures down { (seen node.old).up ≡ false → result ≡ Err refusal.NodeDown }
     ensures undialed { let m = seen node.old in m.up ≡ true → is_undialed m trunk.now (fm.get m.sides trunk.now) ≡ true → result ≡ Err refusal.NotLive }
     ensures came { let m = seen node.old in m.up ≡ true → is_undialed m trunk.now (fm.get m.sides trunk.now) ≡ false →
-        PlansArrived m trunk.now bytes.now word result }
-    ensures suits { IfOk result (λ arrival. Suits node.new arrival.planned) }
+        PlansBytes m (fm.get m.sides trunk.now) bytes.now (λ front. arrives m trunk.now front word) planned.new.plan result }
+    ensures suits { OnOk result (Suits node.new planned.new) }
 {
-    let mut plan = Plan::new(alloc, false);
-    let taken = arrive_if_up(alloc, node, &mut plan, trunk, bytes, word);
-    let len = taken.unwrap_or(0);
-    match settle(alloc, node, plan, None, without_len(taken)) {
-        Ok(planned) => Ok(PlannedArrival { planned, len }),
+    let taken = arrive_if_up(alloc, node, &mut planned.plan, trunk, bytes, word);
+    match settle(node, planned, without_len(taken)) {
+        Ok(()) => taken,
         Err(e) => Err(e),
     }
 }

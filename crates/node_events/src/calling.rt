@@ -1,14 +1,15 @@
 //! A caller's command is planned.
-ghost use Rattle.std.specs.Prelude.{◌≡◌, IfOk, List, MatchResult};
+ghost use Rattle.std.specs.Prelude.{◌≡◌, List, OnOk};
 ghost use Rattle.dist_model.specs.Calls.{call};
 ghost use Rattle.dist_model.specs.Names.{Name};
 ghost use Rattle.dist_model.specs.NodeEvents as event;
 ghost use Rattle.dist_model.specs.NodeEvents.{at_node, if_up};
 ghost use Rattle.dist_model.specs.Work.{at_work};
 ghost use Rattle.dist_model.specs.declared.report.Answer.TheVariants as answer;
+ghost use Rattle.node_events.specs.Begun.{IsNew};
 ghost use Rattle.node_events.specs.Suiting.{Suits};
 ghost use Rattle.node_plans.specs.Carried.{CarriesOut, IsBlank};
-ghost use Rattle.node_plans.specs.Planned.{IsPlanned, IsRefused, Plans};
+ghost use Rattle.node_plans.specs.Planned.{Plans};
 ghost use Rattle.node_plans.specs.Plans.{told};
 ghost use Rattle.node_plans.specs.Seen.{seen};
 
@@ -35,13 +36,17 @@ fn obey_if_up(alloc: Global, node: &Node, plan: &mut Plan, command: Command) -> 
 }
 
 /// Plans a caller's command at a node, which stays as it is but for its room.
-pub fn plan_call(alloc: Global, node: &mut Node, command: Command) -> Result<Planned, Refusal>
+pub fn plan_call(
+    alloc: Global,
+    node: &mut Node,
+    planned: &mut Planned,
+    command: Command,
+) -> Result<(), Refusal>
+    requires { IsNew planned.old }
     ensures same { seen node.new ≡ seen node.old }
-    ensures plan { (names : List Name) → let due = at_node names (seen node.old) (event.Call command) in
-        MatchResult result (λ p. IsPlanned (seen node.old) due p.plan) (IsRefused due) }
-    ensures suits { IfOk result (Suits node.new) }
+    ensures plan { (names : List Name) → Plans (seen node.old) (at_node names (seen node.old) (event.Call command)) planned.new.plan result }
+    ensures suits { OnOk result (Suits node.new planned.new) }
 {
-    let mut plan = Plan::new(alloc, false);
-    let planned = obey_if_up(alloc, node, &mut plan, command);
-    settle(alloc, node, plan, None, planned)
+    let made = obey_if_up(alloc, node, &mut planned.plan, command);
+    settle(node, planned, made)
 }

@@ -1,13 +1,14 @@
 //! A node dials another.
-ghost use Rattle.std.specs.Prelude.{◌≡◌, IfOk, List, MatchResult, false};
+ghost use Rattle.std.specs.Prelude.{◌≡◌, List, OnOk, false};
 ghost use Rattle.dist_model.specs.Dialing.{dial, has_name};
 ghost use Rattle.dist_model.specs.Names.{Name};
 ghost use Rattle.dist_model.specs.NodeEvents as event;
 ghost use Rattle.dist_model.specs.NodeEvents.{at_node, if_up};
 ghost use Rattle.dist_model.specs.Work.{at_work};
+ghost use Rattle.node_events.specs.Begun.{IsNew};
 ghost use Rattle.node_events.specs.Suiting.{Suits};
 ghost use Rattle.node_plans.specs.Carried.{Makes};
-ghost use Rattle.node_plans.specs.Planned.{IsPlanned, IsRefused, Plans};
+ghost use Rattle.node_plans.specs.Planned.{Plans};
 ghost use Rattle.node_plans.specs.Seen.{seen};
 ghost use Rattle.node_changes.specs.declared.change.Change.TheVariants as change;
 
@@ -44,16 +45,17 @@ fn dial_if_up(
 pub fn plan_dial(
     alloc: Global,
     node: &mut Node,
+    planned: &mut Planned,
     is_known: bool,
     peer: &NodeName,
     word: u32,
-) -> Result<Planned, Refusal>
+) -> Result<(), Refusal>
+    requires { IsNew planned.old }
     ensures same { seen node.new ≡ seen node.old }
-    ensures plan { (names : List Name) → has_name peer.now names ≡ is_known → let due = at_node names (seen node.old) (event.Dial peer.now word) in
-        MatchResult result (λ p. IsPlanned (seen node.old) due p.plan) (IsRefused due) }
-    ensures suits { IfOk result (Suits node.new) }
+    ensures plan { (names : List Name) → has_name peer.now names ≡ is_known →
+        Plans (seen node.old) (at_node names (seen node.old) (event.Dial peer.now word)) planned.new.plan result }
+    ensures suits { OnOk result (Suits node.new planned.new) }
 {
-    let mut plan = Plan::new(alloc, false);
-    let planned = dial_if_up(alloc, node, &mut plan, is_known, peer, word);
-    settle(alloc, node, plan, None, planned)
+    let made = dial_if_up(alloc, node, &mut planned.plan, is_known, peer, word);
+    settle(node, planned, made)
 }

@@ -2,7 +2,6 @@
 #![tactic(auto)]
 
 mod arriving;
-mod boxed;
 mod calling;
 mod dialing;
 mod incarnations;
@@ -12,8 +11,7 @@ mod planned;
 mod settling;
 mod sweeping;
 
-pub use arriving::{Arrived, PlannedArrival, plan_arrival};
-pub use boxed::Boxed;
+pub use arriving::{Arrived, plan_arrival};
 pub use calling::plan_call;
 pub use dialing::plan_dial;
 pub use incarnations::{start, stop};

@@ -1,5 +1,5 @@
 //! A node notices that a connection is lost.
-ghost use Rattle.std.specs.Prelude.{◌≡◌, IfOk, List, MatchResult};
+ghost use Rattle.std.specs.Prelude.{◌≡◌, List, OnOk};
 ghost use Rattle.std.specs.FinMap as fm;
 ghost use Rattle.dist_model.specs.Losses.{lose};
 ghost use Rattle.dist_model.specs.Names.{Name};
@@ -7,9 +7,10 @@ ghost use Rattle.dist_model.specs.NodeEvents as event;
 ghost use Rattle.dist_model.specs.NodeEvents.{at_node, if_up};
 ghost use Rattle.dist_model.specs.Work.{at_work};
 ghost use Rattle.dist_model.specs.declared.report.Answer.TheVariants as answer;
+ghost use Rattle.node_events.specs.Begun.{IsNew};
 ghost use Rattle.node_events.specs.Suiting.{Suits};
 ghost use Rattle.node_plans.specs.Carried.{Makes};
-ghost use Rattle.node_plans.specs.Planned.{IsPlanned, IsRefused, Plans};
+ghost use Rattle.node_plans.specs.Planned.{Plans};
 ghost use Rattle.node_plans.specs.Plans.{told};
 ghost use Rattle.node_plans.specs.Seen.{seen};
 
@@ -18,7 +19,6 @@ use crate::settling::settle;
 use erl_names::TrunkId;
 use erl_term::Refusal;
 use node_plans::{Node, Plan};
-use std::alloc::Global;
 
 // The same at any node.
 fn lose_if_up(node: &Node, plan: &mut Plan, trunk: &TrunkId) -> Result<(), Refusal>
@@ -34,13 +34,12 @@ fn lose_if_up(node: &Node, plan: &mut Plan, trunk: &TrunkId) -> Result<(), Refus
 
 /// Plans that a node notices that a connection is lost, or gives an attempt up. The node stays as it
 /// is but for its room.
-pub fn plan_loss(alloc: Global, node: &mut Node, trunk: &TrunkId) -> Result<Planned, Refusal>
+pub fn plan_loss(node: &mut Node, planned: &mut Planned, trunk: &TrunkId) -> Result<(), Refusal>
+    requires { IsNew planned.old }
     ensures same { seen node.new ≡ seen node.old }
-    ensures plan { (names : List Name) → let due = at_node names (seen node.old) (event.Lose trunk.now) in
-        MatchResult result (λ p. IsPlanned (seen node.old) due p.plan) (IsRefused due) }
-    ensures suits { IfOk result (Suits node.new) }
+    ensures plan { (names : List Name) → Plans (seen node.old) (at_node names (seen node.old) (event.Lose trunk.now)) planned.new.plan result }
+    ensures suits { OnOk result (Suits node.new planned.new) }
 {
-    let mut plan = Plan::new(alloc, false);
-    let planned = lose_if_up(node, &mut plan, trunk);
-    settle(alloc, node, plan, None, planned)
+    let made = lose_if_up(node, &mut planned.plan, trunk);
+    settle(node, planned, made)
 }

@@ -1,5 +1,5 @@
 //! The first item of the own list is planned.
-ghost use Rattle.std.specs.Prelude.{◌≡◌, IfOk, List, ◌∷◌, MatchResult};
+ghost use Rattle.std.specs.Prelude.{◌≡◌, List, OnOk, ◌∷◌};
 ghost use Rattle.dist_model.specs.Names.{Name};
 ghost use Rattle.dist_model.specs.NodeEvents as event;
 ghost use Rattle.dist_model.specs.Arrivals.{take_local};
@@ -7,8 +7,9 @@ ghost use Rattle.dist_model.specs.Items.{Item as TheItem};
 ghost use Rattle.dist_model.specs.NodeEvents.{at_node, if_up};
 ghost use Rattle.dist_model.specs.Work.{at_work};
 ghost use Rattle.node_plans.specs.Carried.{CarriesOut, IsBlank};
+ghost use Rattle.node_events.specs.Begun.{IsTaking};
 ghost use Rattle.node_events.specs.Suiting.{Suits};
-ghost use Rattle.node_plans.specs.Planned.{IsPlanned, IsRefused, Plans};
+ghost use Rattle.node_plans.specs.Planned.{Plans};
 ghost use Rattle.node_plans.specs.Seen.{seen};
 
 use crate::planned::Planned;
@@ -32,13 +33,12 @@ fn take_first_if_up(alloc: Global, node: &Node, plan: &mut Plan) -> Result<(), R
 
 /// Plans that the first signal that travels from a node to itself comes. The node stays as it is but
 /// for its room.
-pub fn plan_local(alloc: Global, node: &mut Node) -> Result<Planned, Refusal>
+pub fn plan_local(alloc: Global, node: &mut Node, planned: &mut Planned) -> Result<(), Refusal>
+    requires { IsTaking planned.old }
     ensures same { seen node.new ≡ seen node.old }
-    ensures plan { (names : List Name) → let due = at_node names (seen node.old) event.Local in
-        MatchResult result (λ p. IsPlanned (seen node.old) due p.plan) (IsRefused due) }
-    ensures suits { IfOk result (Suits node.new) }
+    ensures plan { (names : List Name) → Plans (seen node.old) (at_node names (seen node.old) event.Local) planned.new.plan result }
+    ensures suits { OnOk result (Suits node.new planned.new) }
 {
-    let mut plan = Plan::new(alloc, true);
-    let planned = take_first_if_up(alloc, node, &mut plan);
-    settle(alloc, node, plan, None, planned)
+    let made = take_first_if_up(alloc, node, &mut planned.plan);
+    settle(node, planned, made)
 }

@@ -1,14 +1,15 @@
 //! A record of a lost connection is swept.
-ghost use Rattle.std.specs.Prelude.{◌≡◌, IfOk, List, MatchResult};
+ghost use Rattle.std.specs.Prelude.{◌≡◌, IfOk, List, OnOk};
 ghost use Rattle.dist_model.specs.Losses.{sweep};
 ghost use Rattle.dist_model.specs.Names.{Name};
 ghost use Rattle.dist_model.specs.Node.{Node as TheNode};
 ghost use Rattle.dist_model.specs.NodeEvents as event;
 ghost use Rattle.dist_model.specs.NodeEvents.{at_node, if_up};
 ghost use Rattle.dist_model.specs.Work.{at_work};
+ghost use Rattle.node_events.specs.Begun.{IsNew};
 ghost use Rattle.node_events.specs.Suiting.{IsAheadIfAny, Suits};
 ghost use Rattle.node_plans.specs.Carried.{CarriesOut, IsBlank};
-ghost use Rattle.node_plans.specs.Planned.{IsPlanned, IsRefused, Plans};
+ghost use Rattle.node_plans.specs.Planned.{Plans};
 ghost use Rattle.node_plans.specs.Seen.{seen};
 ghost use Rattle.node_sweeps.specs.Ahead.{IsAhead};
 ghost use Rattle.node_sweeps.specs.Done.{done};
@@ -19,6 +20,7 @@ use erl_term::Refusal;
 use node_plans::{Node, Plan};
 use node_sweeps::{Sweeping, sweep};
 use std::alloc::Global;
+use std::mem;
 
 // The same at any node.
 fn sweep_if_up(
@@ -51,15 +53,20 @@ fn parted(swept: Result<Sweeping, Refusal>) -> (Result<(), Refusal>, Option<Swee
 }
 
 /// Plans that the least record of a lost connection is swept. The node stays as it is but for its room.
-pub fn plan_sweep(alloc: Global, node: &mut Node, so_far: &Sweeping) -> Result<Planned, Refusal>
-    requires { IsAhead so_far.now (seen node.old) }
+pub fn plan_sweep(
+    alloc: Global,
+    node: &mut Node,
+    planned: &mut Planned,
+    so_far: &Sweeping,
+) -> Result<(), Refusal>
+    requires new { IsNew planned.old }
+    requires ahead { IsAhead so_far.now (seen node.old) }
     ensures same { seen node.new ≡ seen node.old }
-    ensures plan { (names : List Name) → let due = at_node names (seen node.old) event.Sweep in
-        MatchResult result (λ p. IsPlanned (seen node.old) due p.plan) (IsRefused due) }
-    ensures suits { IfOk result (Suits node.new) }
+    ensures plan { (names : List Name) → Plans (seen node.old) (at_node names (seen node.old) event.Sweep) planned.new.plan result }
+    ensures suits { OnOk result (Suits node.new planned.new) }
 {
-    let mut plan = Plan::new(alloc, false);
-    let swept = sweep_if_up(alloc, node, &mut plan, so_far);
-    let (planned, sweeping) = parted(swept);
-    settle(alloc, node, plan, sweeping, planned)
+    let swept = sweep_if_up(alloc, node, &mut planned.plan, so_far);
+    let (made, sweeping) = parted(swept);
+    drop(mem::replace(&mut planned.sweeping, sweeping));
+    settle(node, planned, made)
 }

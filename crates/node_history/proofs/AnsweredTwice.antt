@@ -1,6 +1,6 @@
 -- What a caller asks for is answered twice, and written down once.
 use Rattle.std.proofs.Common.{◌≡◌, ℕ, ◌+◌, ◌^◌, Bool, true, false, ◌||◌, nat_lt, if◌then◌else◌, OnOk, None, Some, List, [], ◌∷◌}
-use Rattle.std.proofs.Common.{◌++◌, length, slice_get, map, Result, Ok, Err, IfOk, MatchResult, inl, inr, refl, sym, ap, ◌∙◌, subst}
+use Rattle.std.proofs.Common.{◌++◌, length, slice_get, map, Result, Ok, Err, IfOk, inl, inr, refl, sym, ap, ◌∙◌, subst}
 use Rattle.std.specs.Result.{IsErrAnd}
 use Rattle.std.specs.declared.alloc.AllocError.{AllocError}
 use Rattle.std.specs.Global.{Vec}
@@ -19,7 +19,6 @@ use Rattle.erl_term.specs.declared.refusal.Refusal.{Refusal}
 use Rattle.node_events.proofs.PlanDone.{done}
 use Rattle.node_events.specs.Done.{Did, Does}
 use Rattle.node_core.specs.Model.{model_of}
-use Rattle.node_events.specs.declared.planned.Planned.{Planned}
 use Rattle.node_history.specs.Acts.{Knows}
 use Rattle.erl_term.specs.declared.term.Pid.{Pid}
 use Rattle.link_core.specs.declared.end.End.{End}
@@ -33,7 +32,7 @@ use Rattle.node_history.specs.declared.entry.Told.{Told}
 use Rattle.node_history.specs.declared.history.History.{History}
 use Rattle.node_history.specs.declared.spare.Spare.{Spare}
 use Rattle.node_frames.specs.Frames.{Framed, shown}
-use Rattle.node_plans.specs.Planned.{IsPlanned, IsRefused}
+use Rattle.node_plans.specs.Planned.{IsPlanned, IsRefused, Plans}
 use Rattle.node_plans.specs.Plans.{committed, told}
 use Rattle.node_plans.specs.declared.plan.Plan.{Plan}
 use Rattle.same_events.specs.Said.{said}
@@ -86,15 +85,13 @@ module _ (what : NodeEvent) (names : List Name) (spare : Spare) (m0 m1 m2 new : 
   abbrev due_at : model.Node → Outcome
   due_at m = at_node names m (met what None)
 
-  pub twice_at : (planned : Result Planned Refusal) (r : Result Twice AllocError) → m2 ≡ m1 → Fills spare (due_at m0)
-      → MatchResult planned (λ p. IsPlanned m1 (due_at m1) p.plan) (IsRefused (due_at m1))
-      → ((due : Outcome) → Fills spare due → MatchResult planned (λ p. IsPlanned m2 due p.plan) (IsRefused due)
-      → IfOk r (IsTwice due m2 new))
+  pub twice_at : (plan : Plan) (made : Result (Unit {0}) Refusal) (r : Result Twice AllocError) → m2 ≡ m1 → Fills spare (due_at m0)
+      → Plans m1 (due_at m1) plan made
+      → ((due : Outcome) → Fills spare due → Plans m2 due plan made → IfOk r (IsTwice due m2 new))
       → IfOk r (IsTwice (due_at m0) m0 new)
-  twice_at planned r second fills plan carry =
-      let there : MatchResult planned (λ p. IsPlanned m2 (due_at m0) p.plan) (IsRefused (due_at m0)) =
-      subst (λ m. MatchResult planned (λ p. IsPlanned m (due_at m0) p.plan) (IsRefused (due_at m0))) (sym second)
-      (subst (λ o. MatchResult planned (λ p. IsPlanned m1 o p.plan) (IsRefused o)) (ap due_at first) plan) in
+  twice_at plan made r second fills planned carry =
+      let there : Plans m2 (due_at m0) plan made =
+      subst (λ m. Plans m (due_at m0) plan made) (sym second) (subst (λ o. Plans m1 o plan made) (ap due_at first) planned) in
       subst (λ m. IfOk r (IsTwice (due_at m0) m new)) (second ∙ first) (carry (due_at m0) fills there)
 
   pub plain_twice : (answer copy : Answer) → Fills spare (due_at m0) → ((m : model.Node) → NoEffects (due_at m))
@@ -116,15 +113,15 @@ module _ (what : NodeEvent) (names : List Name) (spare : Spare) (m0 m1 m2 new : 
 
 -- the same of the event as it is told
 pub twice_as : (what given : NodeEvent) (names : List Name) (spare : Spare) (m0 m1 m2 new : model.Node)
-    (planned : Result Planned Refusal) (r : Result Twice AllocError) → what ≡ given
+    (plan : Plan) (made : Result (Unit {0}) Refusal) (r : Result Twice AllocError) → what ≡ given
     → m1 ≡ m0 → m2 ≡ m1 → Fills spare (at_node names m0 (met given None))
-    → MatchResult planned (λ p. IsPlanned m1 (at_node names m1 (met what None)) p.plan) (IsRefused (at_node names m1 (met what None)))
-    → ((due : Outcome) → Fills spare due → MatchResult planned (λ p. IsPlanned m2 due p.plan) (IsRefused due) → IfOk r (IsTwice due m2 new))
+    → Plans m1 (at_node names m1 (met what None)) plan made
+    → ((due : Outcome) → Fills spare due → Plans m2 due plan made → IfOk r (IsTwice due m2 new))
     → IfOk r (IsTwice (at_node names m0 (met given None)) m0 new)
-twice_as what given names spare m0 m1 m2 new planned r is first second fills plan carry =
+twice_as what given names spare m0 m1 m2 new plan made r is first second fills planned carry =
     subst (λ w. IfOk r (IsTwice (at_node names m0 (met w None)) m0 new)) is
-    (twice_at what names spare m0 m1 m2 new first planned r second
-    (subst (λ w. Fills spare (at_node names m0 (met w None))) (sym is) fills) plan carry)
+    (twice_at what names spare m0 m1 m2 new first plan made r second
+    (subst (λ w. Fills spare (at_node names m0 (met w None))) (sym is) fills) planned carry)
 
 pub plain_as : (what here : NodeEvent) (names : List Name) (spare : Spare) (m0 m1 new : model.Node) (given answer copy : Answer)
     → what ≡ here → m1 ≡ m0 → answer ≡ given

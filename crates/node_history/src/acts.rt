@@ -1,5 +1,5 @@
 //! What a caller asks for is written down, and answered.
-ghost use Rattle.std.specs.Prelude.{◌≡◌, IfErr, IfOk, List, MatchResult, None, true};
+ghost use Rattle.std.specs.Prelude.{◌≡◌, IfErr, IfOk, List, None, OnOk, true};
 ghost use Rattle.dist_model.specs.Commands.{Outcome};
 ghost use Rattle.dist_model.specs.Names.{Name};
 ghost use Rattle.dist_model.specs.NodeEvents.{at_node};
@@ -9,7 +9,7 @@ ghost use Rattle.node_history.specs.Acts.{Knows, is_act};
 ghost use Rattle.node_history.specs.Entering.{Tries};
 ghost use Rattle.node_history.specs.Spares.{Fills};
 ghost use Rattle.node_history.specs.Telling.{IsPlainCopy, IsTold, IsTwice, placed};
-ghost use Rattle.node_plans.specs.Planned.{IsPlanned, IsRefused};
+ghost use Rattle.node_plans.specs.Planned.{Plans};
 ghost use Rattle.world_events.specs.Events.{met};
 
 use crate::copying::{copied, copied_effects};
@@ -51,15 +51,16 @@ fn carry_out(
     alloc: Global,
     node: &mut Node,
     spare: Spare,
-    planned: Result<Planned, Refusal>,
+    planned: Planned,
+    made: Result<(), Refusal>,
 ) -> Result<Twice, AllocError>
-    requires { IfOk planned (IsFor node.old) }
-    ensures ok { (due : Outcome) → Fills spare due → MatchResult planned (λ p. IsPlanned (model_of node.old) due p.plan) (IsRefused due) →
+    requires { OnOk made (IsFor node.old planned) }
+    ensures ok { (due : Outcome) → Fills spare due → Plans (model_of node.old) due planned.plan made →
         IfOk result (IsTwice due (model_of node.old) (model_of node.new)) }
     ensures err { IfErr result (λ _. model_of node.new ≡ model_of node.old) }
 {
-    match planned {
-        Ok(planned) => match copied_effects(alloc, planned.effects()) {
+    match made {
+        Ok(()) => match copied_effects(alloc, planned.effects()) {
             Ok(effects) => {
                 let report = node.commit(alloc, planned);
                 let answer = spare.again(&report.answer);
@@ -76,6 +77,7 @@ fn carry_out(
         },
         Err(e) => {
             drop(spare);
+            drop(planned);
             Ok(Twice {
                 answer: Err(e),
                 copy: Err(e),
@@ -119,16 +121,19 @@ fn act_twice(
     match event {
         NodeEvent::Call(command) => {
             let copy = copied(alloc, command)?;
-            let planned = node.plan_call(alloc, copy);
-            Ok(carry_out(alloc, node, spare, planned)?)
+            let mut planned = Planned::new(alloc);
+            let made = node.plan_call(alloc, &mut planned, copy);
+            Ok(carry_out(alloc, node, spare, planned, made)?)
         }
         NodeEvent::Lose(trunk) => {
-            let planned = node.plan_loss(alloc, trunk);
-            Ok(carry_out(alloc, node, spare, planned)?)
+            let mut planned = Planned::new(alloc);
+            let made = node.plan_loss(&mut planned, trunk);
+            Ok(carry_out(alloc, node, spare, planned, made)?)
         }
         NodeEvent::Dial { peer, word } => {
-            let planned = node.plan_dial(alloc, is_known, peer, *word);
-            Ok(carry_out(alloc, node, spare, planned)?)
+            let mut planned = Planned::new(alloc);
+            let made = node.plan_dial(alloc, &mut planned, is_known, peer, *word);
+            Ok(carry_out(alloc, node, spare, planned, made)?)
         }
         NodeEvent::Stop => Ok(told_twice(alloc, spare, node.stop(alloc))),
         NodeEvent::Start => Ok(told_twice(alloc, spare, node.start(alloc))),

@@ -1,6 +1,6 @@
 -- What comes next on a connection is planned, and what is planned is sent.
 use Rattle.std.proofs.Common.{◌≡◌, ◌+◌, ◌^◌, nat_lt, ℕ, Bool, true, false, cond, List, [], ◌++◌, Option, None, Some}
-use Rattle.std.proofs.Common.{Result, Ok, Err, MatchResult, map, refl, sym, ap, subst, ◌∙◌, inl, inr, append-nil}
+use Rattle.std.proofs.Common.{Result, Ok, Err, map, refl, sym, ap, subst, ◌∙◌, inl, inr, append-nil}
 use Rattle.std.specs.FinMap as fm
 use Rattle.std.specs.Ordering.{eq_by_cmp}
 use Rattle.std.specs.declared.alloc.Global.{Global}
@@ -21,15 +21,14 @@ use Rattle.dist_model.specs.declared.report.Effect.{Effect}
 use Rattle.dist_model.specs.declared.report.Report.{Report}
 use Rattle.erl_names.specs.declared.trunk.TrunkId.{TrunkId}
 use Rattle.erl_term.specs.declared.refusal.Refusal.{Refusal}
-use Rattle.node_arrivals.specs.Coming.{comes}
+use Rattle.node_arrivals.specs.Coming.{PlansBytes, PlansFront, comes}
 use Rattle.node_arrivals.specs.Fronts.{Front}
 pub use Rattle.node_events.proofs.Fronted.{same_work}
 use Rattle.node_events.proofs.PlanDone.{done}
-use Rattle.node_events.specs.Arrived.{PlansArrived, PlansFront, arrives, is_undialed}
+use Rattle.node_events.specs.Arrived.{arrives, is_undialed, without_len}
 use Rattle.node_events.specs.Done.{Did, Does}
-use Rattle.node_events.specs.declared.arriving.PlannedArrival.{PlannedArrival}
 use Rattle.node_frames.specs.Frames.{Framed, shown}
-use Rattle.node_plans.specs.Planned.{IsPlanned, IsRefused}
+use Rattle.node_plans.specs.Planned.{IsPlanned, IsRefused, Plans}
 use Rattle.node_plans.specs.Plans.{committed, told}
 use Rattle.node_plans.specs.declared.plan.Plan.{Plan}
 use Rattle.readers.specs.Reading.{AreBytes}
@@ -42,30 +41,28 @@ use Rattle.world_lists.specs.Lists.{Lines, at, behind_first, sent_at}
 
 -- ---- what comes
 
-abbrev pub IsPlannedOr : Node → Outcome → Result PlannedArrival Refusal → Type 0
-IsPlannedOr m due result = MatchResult result (λ a. IsPlanned m due a.planned.plan) (IsRefused due)
-
-module _ (names : List Name) (m : Node) (trunk : TrunkId) (bytes : List ℕ) (word : ℕ) (result : Result PlannedArrival Refusal)
+module _ (names : List Name) (m : Node) (trunk : TrunkId) (bytes : List ℕ) (word : ℕ) (plan : Plan) (result : Result ℕ Refusal)
     (one : OneFrame) (again : FrameAgain) (are : AreBytes bytes)
     (down : m.up ≡ false → result ≡ Err Refusal.NodeDown)
     (undialed : m.up ≡ true → is_undialed m trunk (fm.get m.sides trunk) ≡ true → result ≡ Err Refusal.NotLive)
-    (came : m.up ≡ true → is_undialed m trunk (fm.get m.sides trunk) ≡ false → PlansArrived m trunk bytes word result) where
+    (came : m.up ≡ true → is_undialed m trunk (fm.get m.sides trunk) ≡ false
+    → PlansBytes m (fm.get m.sides trunk) bytes (λ front. arrives m trunk front word) plan result) where
   abbrev due : Option Item → Outcome
   due first = at_node names m (Arrive trunk first word)
 
-  refused : (first : Option Item) (e : Refusal) → result ≡ Err e → due first ≡ Refuses e → IsPlannedOr m (due first) result
-  refused first e r h = subst (IsPlannedOr m (due first)) (sym r) (inl h)
+  refused : (first : Option Item) (e : Refusal) → result ≡ Err e → due first ≡ Refuses e → Plans m (due first) plan (without_len result)
+  refused first e r h = subst (λ r. Plans m (due first) plan (without_len r)) (sym r) (inl h)
 
-  planned : (first : Option Item) (front : Front) (r : Result PlannedArrival Refusal)
+  planned : (first : Option Item) (front : Front) (r : Result ℕ Refusal)
       → comes m trunk (fm.get m.sides trunk) front word ≡ arrive m trunk (fm.get m.sides trunk) first word
-      → PlansFront m (arrives m trunk front word) front r → IsPlannedOr m (due first) r
-  planned first front (Ok arrival) e h = subst (λ o. IsPlanned m o arrival.planned.plan) (ap (if_up m) e) h.0
+      → PlansFront m (arrives m trunk front word) front plan r → Plans m (due first) plan (without_len r)
+  planned first front (Ok len) e h = subst (λ o. IsPlanned m o plan) (ap (if_up m) e) h.0
   planned first front (Err why) e h = subst (λ o. IsRefused o why) (ap (if_up m) e) h
 
   -- the node is up
   first_comes : (frames : List Framed) (first : Option Item) → m.up ≡ true
       → is_undialed m trunk (fm.get m.sides trunk) ≡ false → bytes ≡ bytes_in frames → IsNext m trunk frames first
-      → IsPlannedOr m (due first) result
+      → Plans m (due first) plan (without_len result)
   first_comes frames None u d b h =
       let p = came u d in
       planned None p.front result
@@ -79,7 +76,7 @@ module _ (names : List Name) (m : Node) (trunk : TrunkId) (bytes : List ℕ) (wo
   -- it would have dialed, and has no side
   none_comes : (frames : List Framed) (first : Option Item) (o : Option TrunkSide) → fm.get m.sides trunk ≡ o → m.up ≡ true
       → is_undialed m trunk (fm.get m.sides trunk) ≡ true
-      → IsNext m trunk frames first → IsPlannedOr m (due first) result
+      → IsNext m trunk frames first → Plans m (due first) plan (without_len result)
   none_comes frames None None s u d h =
       refused None Refusal.NotLive (undialed u d) (ap
       (λ b. cond b (arrive m trunk (fm.get m.sides trunk) None word) (Refuses Refusal.NodeDown)) u ∙ ap
@@ -88,14 +85,14 @@ module _ (names : List Name) (m : Node) (trunk : TrunkId) (bytes : List ℕ) (wo
   none_comes frames (Some item) o s u d h = let no : false ≡ true = sym h.2.theirs ∙ d in cc
 
   pub comes_planned : (frames : List Framed) (first : Option Item) → bytes ≡ bytes_in frames → IsNext m trunk frames first
-      → IsPlannedOr m (due first) result
+      → Plans m (due first) plan (without_len result)
   comes_planned frames first b h = go m.up refl
     where
-      up : m.up ≡ true → (d : Bool) → is_undialed m trunk (fm.get m.sides trunk) ≡ d → IsPlannedOr m (due first) result
+      up : m.up ≡ true → (d : Bool) → is_undialed m trunk (fm.get m.sides trunk) ≡ d → Plans m (due first) plan (without_len result)
       up u true d = none_comes frames first (fm.get m.sides trunk) refl u d h
       up u false d = first_comes frames first u d b h
 
-      go : (u : Bool) → m.up ≡ u → IsPlannedOr m (due first) result
+      go : (u : Bool) → m.up ≡ u → Plans m (due first) plan (without_len result)
       go true u = up u (is_undialed m trunk (fm.get m.sides trunk)) refl
       go false u =
           refused first Refusal.NodeDown (down u)

@@ -1,11 +1,12 @@
 //! What comes next on a connection comes.
-ghost use Rattle.std.specs.Prelude.{◌≡◌, IfOk, List, MatchResult, Option, ℕ};
+ghost use Rattle.std.specs.Prelude.{◌≡◌, List, OnOk, Option, ℕ};
 ghost use Rattle.dist_model.specs.Items.{Item};
 ghost use Rattle.dist_model.specs.Names.{Name};
 ghost use Rattle.dist_model.specs.NodeEvents as model;
 ghost use Rattle.dist_model.specs.NodeEvents.{at_node};
 ghost use Rattle.node_core.specs.Model.{IsFor, model_of};
-ghost use Rattle.node_plans.specs.Planned.{IsPlanned, IsRefused};
+ghost use Rattle.node_events.specs.Begun.{IsNew};
+ghost use Rattle.node_plans.specs.Planned.{IsPlanned, Plans};
 ghost use Rattle.readers.specs.Reading.{AreBytes};
 ghost use Rattle.world_events.specs.Coming.{IsNext, bytes_in};
 ghost use Rattle.world_events.specs.Events.{ComesTo};
@@ -16,7 +17,7 @@ use crate::finishing::finish;
 use dist_model::Report;
 use erl_names::TrunkId;
 use erl_term::Refusal;
-use node_core::{Node, Planned, PlannedArrival};
+use node_core::{Node, Planned};
 use node_frames::Frame;
 use std::alloc::Global;
 use world_lists::Lists;
@@ -39,22 +40,23 @@ fn are_bytes(bytes: &[u8])
 fn plan(
     alloc: Global,
     node: &mut Node,
+    planned: &mut Planned,
     lists: &Lists,
     trunk: &TrunkId,
     word: u32,
-) -> Result<Planned, Refusal>
+) -> Result<(), Refusal>
+    requires { IsNew planned.old }
     ensures same { model_of node.new ≡ model_of node.old }
     ensures plan { (names : List Name) (first : Option Item) → IsNext (model_of node.old) trunk.now (at lists.now trunk.now (model_of node.old).mint.name) first →
-        let due = at_node names (model_of node.old) (model.Arrive trunk.now first word) in
-        MatchResult result (λ p. IsPlanned (model_of node.old) due p.plan) (IsRefused due) }
-    ensures suits { IfOk result (IsFor node.new) }
+        Plans (model_of node.old) (at_node names (model_of node.old) (model.Arrive trunk.now first word)) planned.new.plan result }
+    ensures suits { OnOk result (IsFor node.new planned.new) }
 {
     erl_control::one_answer();
     erl_control::read_again();
     let bytes = next_bytes(lists, trunk, node);
     are_bytes(bytes);
-    match node.plan_arrival(alloc, trunk, bytes, word) {
-        Ok(PlannedArrival { planned, .. }) => Ok(planned),
+    match node.plan_arrival(alloc, planned, trunk, bytes, word) {
+        Ok(_) => Ok(()),
         Err(e) => Err(e),
     }
 }
@@ -96,8 +98,12 @@ pub(crate) fn arrive(
     ensures { (names : List Name) (first : Option Item) → IsNext (model_of node.old) trunk.now (at lists.old trunk.now (model_of node.old).mint.name) first →
         ComesTo (event.Arrive trunk.now word) (at_node names (model_of node.old) (model.Arrive trunk.now first word)) (model_of node.old) (model_of node.new) lists.old lists.new result }
 {
-    match plan(alloc, node, lists, trunk, word) {
-        Ok(planned) => take(alloc, node, lists, trunk, planned),
-        Err(e) => Err(e),
+    let mut planned = Planned::new(alloc);
+    match plan(alloc, node, &mut planned, lists, trunk, word) {
+        Ok(()) => take(alloc, node, lists, trunk, planned),
+        Err(e) => {
+            drop(planned);
+            Err(e)
+        }
     }
 }

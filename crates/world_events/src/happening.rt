@@ -14,7 +14,7 @@ use crate::finishing::finish;
 use dist_model::{Command, Report};
 use erl_names::{NodeName, TrunkId};
 use erl_term::Refusal;
-use node_core::Node;
+use node_core::{Node, Planned};
 use node_frames::Frame;
 use std::alloc::Global;
 use world_lists::Lists;
@@ -27,18 +27,26 @@ fn call(
 ) -> Result<Report<Frame>, Refusal>
     ensures { (names : List Name) → Sends (at_node names (model_of node.old) (model.Call command)) (model_of node.old) (model_of node.new) lists.old lists.new result }
 {
-    match node.plan_call(alloc, command) {
-        Ok(planned) => finish(alloc, node, lists, planned),
-        Err(e) => Err(e),
+    let mut planned = Planned::new(alloc);
+    match node.plan_call(alloc, &mut planned, command) {
+        Ok(()) => finish(alloc, node, lists, planned),
+        Err(e) => {
+            drop(planned);
+            Err(e)
+        }
     }
 }
 
 fn local(alloc: Global, node: &mut Node, lists: &mut Lists) -> Result<Report<Frame>, Refusal>
     ensures { (names : List Name) → Sends (at_node names (model_of node.old) model.Local) (model_of node.old) (model_of node.new) lists.old lists.new result }
 {
-    match node.plan_local(alloc) {
-        Ok(planned) => finish(alloc, node, lists, planned),
-        Err(e) => Err(e),
+    let mut planned = Planned::taking(alloc);
+    match node.plan_local(alloc, &mut planned) {
+        Ok(()) => finish(alloc, node, lists, planned),
+        Err(e) => {
+            drop(planned);
+            Err(e)
+        }
     }
 }
 
@@ -50,18 +58,26 @@ fn lose(
 ) -> Result<Report<Frame>, Refusal>
     ensures { (names : List Name) → Sends (at_node names (model_of node.old) (model.Lose trunk.now)) (model_of node.old) (model_of node.new) lists.old lists.new result }
 {
-    match node.plan_loss(alloc, trunk) {
-        Ok(planned) => finish(alloc, node, lists, planned),
-        Err(e) => Err(e),
+    let mut planned = Planned::new(alloc);
+    match node.plan_loss(&mut planned, trunk) {
+        Ok(()) => finish(alloc, node, lists, planned),
+        Err(e) => {
+            drop(planned);
+            Err(e)
+        }
     }
 }
 
 fn sweep(alloc: Global, node: &mut Node, lists: &mut Lists) -> Result<Report<Frame>, Refusal>
     ensures { (names : List Name) → Sends (at_node names (model_of node.old) model.Sweep) (model_of node.old) (model_of node.new) lists.old lists.new result }
 {
-    match node.plan_sweep(alloc) {
-        Ok(planned) => finish(alloc, node, lists, planned),
-        Err(e) => Err(e),
+    let mut planned = Planned::new(alloc);
+    match node.plan_sweep(alloc, &mut planned) {
+        Ok(()) => finish(alloc, node, lists, planned),
+        Err(e) => {
+            drop(planned);
+            Err(e)
+        }
     }
 }
 
@@ -76,9 +92,13 @@ fn dial(
     ensures { (names : List Name) → has_name peer.now names ≡ is_known →
         Sends (at_node names (model_of node.old) (model.Dial peer.now word)) (model_of node.old) (model_of node.new) lists.old lists.new result }
 {
-    match node.plan_dial(alloc, is_known, peer, word) {
-        Ok(planned) => finish(alloc, node, lists, planned),
-        Err(e) => Err(e),
+    let mut planned = Planned::new(alloc);
+    match node.plan_dial(alloc, &mut planned, is_known, peer, word) {
+        Ok(()) => finish(alloc, node, lists, planned),
+        Err(e) => {
+            drop(planned);
+            Err(e)
+        }
     }
 }
 

@@ -25,11 +25,11 @@ unfolding some_names
 has_it true peer = ap (λ b. b || false) (same_name_refl peer)
 has_it false peer = refl
 
-pub dial_if_up-planned-requires-clause-dials : goal.dial_if_up-planned-requires-clause-dials
-dial_if_up-planned-requires-clause-dials c = (c.new-plan.ensures.carries refl (seen c.args.node.now)).calm
+pub dial_if_up-made-requires-clause-dials : goal.dial_if_up-made-requires-clause-dials
+dial_if_up-made-requires-clause-dials c = (c.requires.carries (seen c.args.node.now)).calm
 
-pub dial_if_up-planned-requires-clause-makes : goal.dial_if_up-planned-requires-clause-makes
-dial_if_up-planned-requires-clause-makes c = let m = seen c.args.node.now in makes_it _ m (at_work m) (c.new-plan.ensures.carries refl m)
+pub dial_if_up-made-requires-clause-makes : goal.dial_if_up-made-requires-clause-makes
+dial_if_up-made-requires-clause-makes c = let m = seen c.args.node.now in makes_it _ m (at_work m) (c.requires.carries m)
 
 pub settle-requires-clause-stays : goal.settle-requires-clause-stays
 settle-requires-clause-stays c =
@@ -37,9 +37,9 @@ settle-requires-clause-stays c =
     let e = event.Dial c.args.peer.now c.args.word in
     let names = some_names c.args.is_known c.args.peer.now in
     stays names (seen node) e _ _ node.steady node.counted (comes_of_none (seen node) e (no_item c.args.peer.now c.args.word))
-    (c.dial_if_up-planned.ensures names (has_it c.args.is_known c.args.peer.now))
+    (c.dial_if_up-made.ensures names (has_it c.args.is_known c.args.peer.now))
 
 pub returns-clause-plan : goal.returns-clause-plan
 returns-clause-plan c =
     λ names h. c.settle.ensures.plan (at_node names (seen c.args.node.now) (event.Dial c.args.peer.now c.args.word))
-    (c.dial_if_up-planned.ensures names h)
+    (c.dial_if_up-made.ensures names h)

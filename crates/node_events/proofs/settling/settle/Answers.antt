@@ -9,15 +9,12 @@ use Rattle.node_plans.specs.declared.plan.Plan.{Plan}
 use Rattle.node_events.proofs.settling.settle.Goals as goal
 
 -- what was planned is refused where memory is wanting
-wanting : (m : Node) (plan : Plan) (planned : Result (Unit {0}) Refusal) (u : Unit {0}) → planned ≡ Ok u → (due : Outcome)
-    → Plans m due plan planned → IsRefused due Refusal.OutOfMemory
-wanting m plan planned u is due h =
+wanting : (m : Node) (plan : Plan) (made : Result (Unit {0}) Refusal) (u : Unit {0}) → made ≡ Ok u → (due : Outcome)
+    → Plans m due plan made → IsRefused due Refusal.OutOfMemory
+wanting m plan made u is due h =
     let P : Result (Unit {0}) Refusal → Type 0 = (λ r. Plans m due plan r) in
     let k = subst P is h in
     lacks due k.answer k.work k.accepts
 
 pub returns-in-Err-reserve-clause-plan : goal.returns-in-Err-reserve-clause-plan
-returns-in-Err-reserve-clause-plan c = wanting (seen c.args.node.now) c.args.plan c.args.planned c.in-Ok.field-0 c.in-Ok.is
-
-pub returns-in-Err-new-clause-plan : goal.returns-in-Err-new-clause-plan
-returns-in-Err-new-clause-plan c = wanting (seen c.args.node.now) c.args.plan c.args.planned c.in-Ok.field-0 c.in-Ok.is
+returns-in-Err-reserve-clause-plan c = wanting (seen c.args.node.now) c.args.planned.now.plan c.args.made c.in-Ok.field-0 c.in-Ok.is

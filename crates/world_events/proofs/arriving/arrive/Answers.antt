@@ -6,7 +6,7 @@ use Rattle.world_events.proofs.arriving.arrive.Goals as goal
 pub returns-in-Ok : goal.returns-in-Ok
 returns-in-Ok c = λ names first h.
     comes_on names first c.args.trunk.now c.args.word (model_of c.args.node.now) (model_of c.plan.new.node)
-    (model_of c.take.new.node) c.in-Ok.planned.plan
+    (model_of c.take.new.node) c.plan.new.planned.plan
     c.args.lists.now c.take.new.lists c.take.result c.plan.ensures.same (c.take.ensures names first c.args.word)
     (c.in-Ok.ensures.plan names first h)
 

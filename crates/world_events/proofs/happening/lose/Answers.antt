@@ -6,7 +6,7 @@ use Rattle.world_events.proofs.happening.lose.Goals as goal
 pub returns-in-Ok : goal.returns-in-Ok
 returns-in-Ok c = λ names.
     sends_on (model_of c.args.node.now) (model_of c.plan_loss.new.self)
-    (model_of c.finish.new.node) _ c.in-Ok.planned.plan c.args.lists.now c.finish.new.lists c.finish.result
+    (model_of c.finish.new.node) _ c.plan_loss.new.planned.plan c.args.lists.now c.finish.new.lists c.finish.result
     c.plan_loss.ensures.same (c.finish.ensures _) (c.in-Ok.ensures.plan names)
 
 pub returns-in-Err : goal.returns-in-Err

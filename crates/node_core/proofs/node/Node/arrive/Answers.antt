@@ -8,7 +8,7 @@ use Rattle.node_core.proofs.node.Node.arrive.Goals as goal
 pub returns-in-Ok-clause-came : goal.returns-in-Ok-clause-came
 returns-in-Ok-clause-came c = λ up dialed.
     let m = model_of c.args.self.now in
-    let plan = c.in-Ok.field-0.planned.plan in
+    let plan = c.plan_arrival.new.planned.plan in
     let h = c.in-Ok.ensures.came up dialed in
     record {
       front = h.front;

@@ -8,7 +8,7 @@ use Rattle.node_core.proofs.node.Node.dial.Goals as goal
 pub returns-in-Ok : goal.returns-in-Ok
 returns-in-Ok c = λ names h.
     let m = model_of c.args.self.now in
-    let plan = c.in-Ok.planned.plan in
+    let plan = c.plan_dial.new.planned.plan in
     done m (model_of c.commit.new.self) (event.at_node names m (event.Dial c.args.peer.now c.args.word)) plan c.commit.result
     (c.in-Ok.ensures.plan names h)
     (c.commit.ensures.node ∙ ap (committed plan) c.in-Ok.ensures.same)

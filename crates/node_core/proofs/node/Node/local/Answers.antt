@@ -8,7 +8,7 @@ use Rattle.node_core.proofs.node.Node.local.Goals as goal
 pub returns-in-Ok : goal.returns-in-Ok
 returns-in-Ok c = λ names.
     let m = model_of c.args.self.now in
-    let plan = c.in-Ok.planned.plan in
+    let plan = c.plan_local.new.planned.plan in
     done m (model_of c.commit.new.self) (event.at_node names m event.Local) plan c.commit.result (c.in-Ok.ensures.plan names)
     (c.commit.ensures.node ∙ ap (committed plan) c.in-Ok.ensures.same)
     (c.commit.ensures.answer ∙ ap (told plan) c.in-Ok.ensures.same) c.commit.ensures.effects
