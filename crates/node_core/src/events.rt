@@ -26,8 +26,8 @@ use node_sweeps::Sweeping;
 use std::alloc::Global;
 
 impl Node {
-    /// Plans a caller's command. The node stays as it is but for its room. (Reference Manual,
-    /// Processes.)
+    /// Plans a caller's command, where nothing is planned yet. The node stays as it is but for its room.
+    /// (Reference Manual, Processes.)
     ///
     /// # Errors
     /// As the model refuses the command, and behind that [`Refusal::OutOfMemory`].
@@ -62,8 +62,9 @@ impl Node {
         }
     }
 
-    /// Plans that the first signal that travels from the node to itself comes. The node stays as it is
-    /// but for its room. (Reference Manual, Processes, Delivery of Signals.)
+    /// Plans that the first signal that travels from the node to itself comes, in what
+    /// [`Planned::taking`] has made. The node stays as it is but for its room. (Reference Manual,
+    /// Processes, Delivery of Signals.)
     ///
     /// # Errors
     /// [`Refusal::NodeDown`] at a node that has stopped, [`Refusal::NothingThere`] where nothing travels,
@@ -95,8 +96,8 @@ impl Node {
         }
     }
 
-    /// Plans that the node notices that a connection is lost, or gives an attempt up. The node stays as
-    /// it is but for its room. (Reference Manual, Distributed Erlang.)
+    /// Plans that the node notices that a connection is lost, or gives an attempt up, where nothing is
+    /// planned yet. The node stays as it is but for its room. (Reference Manual, Distributed Erlang.)
     ///
     /// # Errors
     /// [`Refusal::NodeDown`] at a node that has stopped, [`Refusal::NotLive`] where there is nothing to
@@ -130,9 +131,9 @@ impl Node {
     }
 
     /// Plans that the least record of a lost connection is swept: a link, or else a monitor of a process
-    /// there, or else one that a process there has; or, where none is left, that its side is gone. The
-    /// node stays as it is but for its room. (Reference Manual, Processes, Links and Monitors; that
-    /// records go one at a time is own.)
+    /// there, or else one that a process there has; or, where none is left, that its side is gone.
+    /// Nothing may be planned yet. The node stays as it is but for its room. (Reference Manual,
+    /// Processes, Links and Monitors; that records go one at a time is own.)
     ///
     /// # Errors
     /// [`Refusal::NodeDown`] at a node that has stopped, [`Refusal::NothingThere`] where no connection is
@@ -164,9 +165,9 @@ impl Node {
         }
     }
 
-    /// Plans that the node dials another, under this word as its challenge. Whether there is a node of
-    /// the peer's name is told. The node stays as it is but for its room. (ERTS User's Guide,
-    /// Distribution Protocol, Distribution Handshake.)
+    /// Plans that the node dials another, under this word as its challenge, where nothing is planned
+    /// yet. Whether there is a node of the peer's name is told. The node stays as it is but for its
+    /// room. (ERTS User's Guide, Distribution Protocol, Distribution Handshake.)
     ///
     /// # Errors
     /// The first that fits: [`Refusal::NodeDown`] at a node that has stopped, [`Refusal::SelfDial`],
@@ -213,9 +214,10 @@ impl Node {
         }
     }
 
-    /// Plans what the node does at the front of the bytes that come on a connection: an item is taken,
-    /// and what is none breaks the side. The word becomes the challenge of a new side, and is not used
-    /// elsewhere. The node stays as it is but for its room. (ERTS User's Guide, Distribution Protocol.)
+    /// Plans what the node does at the front of the bytes that come on a connection, where nothing is
+    /// planned yet, and says how many bytes are taken: an item, or what is none and breaks the side. The
+    /// word becomes the challenge of a new side, and is not used elsewhere. The node stays as it is but
+    /// for its room. (ERTS User's Guide, Distribution Protocol.)
     ///
     /// # Errors
     /// The first that fits: [`Refusal::NodeDown`] at a node that has stopped; [`Refusal::NotLive`] where
