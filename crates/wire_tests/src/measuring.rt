@@ -1,7 +1,7 @@
 //! How many pieces pass over a wire in a second, and how many calls a node takes.
 use crate::acts::{book, named, pid};
 use crate::passing::{parcels, pass};
-use crate::rows::{Ask, Row};
+use crate::rows::{Ask, Process, Row};
 use crate::stage::{Stage, open};
 use crate::stories::{A, B, CONNECTED, P, Q};
 use crate::telling::Machine;
@@ -21,7 +21,7 @@ use world_events::NodeEvent;
 /// So many pieces pass.
 const PIECES: u64 = 1_000_000;
 
-/// So often a process sends itself a message.
+/// So often a process sends itself a message, or links itself to another and takes that back.
 const ROUNDS: u32 = 200_000;
 
 /// What happens at a node in a round.
@@ -29,10 +29,14 @@ const ROUNDS: u32 = 200_000;
 enum Work {
     /// The process sends itself a message.
     Send,
-    /// The message comes.
+    /// What travels comes.
     Come,
-    /// The process receives it.
+    /// The process receives a message.
     Receive,
+    /// The process links itself to another.
+    Link,
+    /// The process takes its link back.
+    Unlink,
 }
 
 /// What is done over and over.
@@ -40,6 +44,7 @@ enum Work {
 enum Round {
     Send,
     Message,
+    Pair,
 }
 
 impl Round {
@@ -47,6 +52,7 @@ impl Round {
         match self {
             Round::Send => "send",
             Round::Message => "send, come and receive",
+            Round::Pair => "link and unlink",
         }
     }
 
@@ -54,6 +60,7 @@ impl Round {
         match self {
             Round::Send => &[Work::Send],
             Round::Message => &[Work::Send, Work::Come, Work::Receive],
+            Round::Pair => &[Work::Link, Work::Come, Work::Unlink, Work::Come, Work::Come],
         }
     }
 }
@@ -131,7 +138,7 @@ fn comes_in(alloc: Global, book: &mut Option<Book>) -> bool {
     }
 }
 
-// Whether a message comes to a node's own process.
+// Whether what travels from a node to itself comes.
 fn comes<R: Wait>(rt: &R, alloc: Global, subject: &mut Subject) -> bool {
     match subject {
         Subject::Bare(node) => node.local(alloc).is_ok(),
@@ -163,17 +170,41 @@ fn receive(p: &Pid) -> Result<Command, AllocError> {
     })
 }
 
+fn link(p: &Pid, q: &Pid) -> Result<Command, AllocError> {
+    Ok(Command::Link {
+        from: p.clone()?,
+        to: q.clone()?,
+    })
+}
+
+fn unlink(p: &Pid, q: &Pid) -> Result<Command, AllocError> {
+    Ok(Command::Unlink {
+        from: p.clone()?,
+        to: q.clone()?,
+    })
+}
+
+/// Two processes of one node.
+#[derive(Drop)]
+struct Two {
+    first: Pid,
+    second: Pid,
+}
+
 fn works<R: Wait>(
     rt: &R,
     alloc: Global,
     subject: &mut Subject,
-    p: &Pid,
+    two: &Two,
     work: Work,
 ) -> Result<bool, AllocError> {
+    let Two { first, second } = two;
     Ok(match work {
-        Work::Send => obeys(rt, alloc, subject, message(p)?),
+        Work::Send => obeys(rt, alloc, subject, message(first)?),
         Work::Come => comes(rt, alloc, subject),
-        Work::Receive => obeys(rt, alloc, subject, receive(p)?),
+        Work::Receive => obeys(rt, alloc, subject, receive(first)?),
+        Work::Link => obeys(rt, alloc, subject, link(first, second)?),
+        Work::Unlink => obeys(rt, alloc, subject, unlink(first, second)?),
     })
 }
 
@@ -182,12 +213,12 @@ fn go<R: Wait>(
     rt: &R,
     alloc: Global,
     subject: &mut Subject,
-    p: &Pid,
+    two: &Two,
     round: &[Work],
 ) -> Result<bool, AllocError> {
     for _ in 0..ROUNDS {
         for work in round {
-            if !works(rt, alloc, subject, p, *work)? {
+            if !works(rt, alloc, subject, two, *work)? {
                 return Ok(false);
             }
         }
@@ -204,12 +235,13 @@ fn measure_rounds<R: Machine>(
     rt: &R,
     alloc: Global,
     subject: &mut Subject,
-    p: &Pid,
+    two: &Two,
     round: Round,
 ) -> Result<bool> {
-    let spawns = obeys(rt, alloc, subject, Command::Spawn);
+    let spawns = obeys(rt, alloc, subject, Command::Spawn)
+        && obeys(rt, alloc, subject, Command::Spawn);
     let start = Instant::now(rt)?;
-    let goes = go(rt, alloc, subject, p, round.works())?;
+    let goes = go(rt, alloc, subject, two, round.works())?;
     let rate = a_second(u64::from(ROUNDS), start.elapsed(rt)?);
     println!(rt; "  {}: {rate} a second", round.name())?;
     Ok(spawns && goes)
@@ -217,9 +249,12 @@ fn measure_rounds<R: Machine>(
 
 // How often a new node does a round.
 fn measure_calls<R: Machine>(rt: &R, alloc: Global, which: Which, round: Round) -> Result<bool> {
-    let p = pid(alloc, P)?;
+    let two = Two {
+        first: pid(alloc, P)?,
+        second: pid(alloc, Process { id: 2, ..P })?,
+    };
     let mut subject = which.subject(alloc)?;
-    let measured = measure_rounds(rt, alloc, &mut subject, &p, round);
+    let measured = measure_rounds(rt, alloc, &mut subject, &two, round);
     drop(subject);
     measured
 }
@@ -267,13 +302,13 @@ fn measure_wire<R: Machine>(rt: &R, alloc: Global) -> Result<bool> {
     Ok(passed.in_order && passed.left == 0)
 }
 
-/// Prints how many pieces pass in a second, and how often a process sends itself a message, and receives
-/// it. Answers whether all could be done.
+/// Prints how many pieces pass in a second, how often a process sends itself a message, and receives
+/// it, and how often it links itself to another and takes that back. Answers whether all could be done.
 pub fn measure<R: Machine>(rt: &R, alloc: Global) -> Result<bool> {
     let mut all = measure_wire(rt, alloc)?;
     for which in [Which::Bare, Which::Kept, Which::Locked] {
         println!(rt; "{}", which.name())?;
-        for round in [Round::Send, Round::Message] {
+        for round in [Round::Send, Round::Message, Round::Pair] {
             all &= measure_calls(rt, alloc, which, round)?;
         }
     }
