@@ -1,13 +1,17 @@
 //! What was planned is carried out.
-ghost use Rattle.std.specs.Prelude.{◌≡◌};
+ghost use Rattle.std.specs.Prelude.{◌≡◌, OnOk};
+ghost use Rattle.dist_model.specs.Commands.{Outcome};
 ghost use Rattle.dist_model.specs.Node.{Node as TheNode};
 ghost use Rattle.node_core.specs.Model.{IsFor, model_of};
+ghost use Rattle.node_events.specs.Done.{Does};
 ghost use Rattle.node_events.specs.Suiting.{IsAheadIfAny};
+ghost use Rattle.node_plans.specs.Planned.{Plans};
 ghost use Rattle.node_plans.specs.Plans.{committed, told};
 ghost use Rattle.node_sweeps.specs.Ahead.{IsAhead};
 
 use crate::node::Node;
 use dist_model::Report;
+use erl_term::Refusal;
 use node_events::Planned;
 use node_frames::Frame;
 use node_sweeps::Sweeping;
@@ -23,6 +27,28 @@ fn go_on(sweeping: &mut Sweeping, next: Option<Sweeping>)
 }
 
 impl Node {
+    /// Carries out what was planned, where it was.
+    ///
+    /// # Errors
+    /// Why nothing was planned. Then nothing has changed.
+    pub(crate) fn finish(
+        &mut self,
+        alloc: Global,
+        planned: Planned,
+        made: Result<(), Refusal>,
+    ) -> Result<Report<Frame>, Refusal>
+        requires { OnOk made (IsFor self.old planned) }
+        ensures { (due : Outcome) → Plans (model_of self.old) due planned.plan made → Does due (model_of self.old) (model_of self.new) result }
+    {
+        match made {
+            Ok(()) => Ok(self.commit(alloc, planned)),
+            Err(e) => {
+                drop(planned);
+                Err(e)
+            }
+        }
+    }
+
     /// Carries out what was planned for this node as it is. Takes no memory.
     pub fn commit(&mut self, alloc: Global, planned: Planned) -> Report<Frame>
         requires { IsFor self.old planned }

@@ -53,13 +53,8 @@ impl Node {
         ensures { (names : List Name) → Does (at_node names (model_of self.old) (event.Call command)) (model_of self.old) (model_of self.new) result }
     {
         let mut planned = Planned::new(alloc);
-        match self.plan_call(alloc, &mut planned, command) {
-            Ok(()) => Ok(self.commit(alloc, planned)),
-            Err(e) => {
-                drop(planned);
-                Err(e)
-            }
-        }
+        let made = self.plan_call(alloc, &mut planned, command);
+        self.finish(alloc, planned, made)
     }
 
     /// Plans that the first signal that travels from the node to itself comes, in what
@@ -87,13 +82,8 @@ impl Node {
         ensures { (names : List Name) → Does (at_node names (model_of self.old) event.Local) (model_of self.old) (model_of self.new) result }
     {
         let mut planned = Planned::taking(alloc);
-        match self.plan_local(alloc, &mut planned) {
-            Ok(()) => Ok(self.commit(alloc, planned)),
-            Err(e) => {
-                drop(planned);
-                Err(e)
-            }
-        }
+        let made = self.plan_local(alloc, &mut planned);
+        self.finish(alloc, planned, made)
     }
 
     /// Plans that the node notices that a connection is lost, or gives an attempt up, where nothing is
@@ -121,13 +111,8 @@ impl Node {
         ensures { (names : List Name) → Does (at_node names (model_of self.old) (event.Lose trunk.now)) (model_of self.old) (model_of self.new) result }
     {
         let mut planned = Planned::new(alloc);
-        match self.plan_loss(&mut planned, trunk) {
-            Ok(()) => Ok(self.commit(alloc, planned)),
-            Err(e) => {
-                drop(planned);
-                Err(e)
-            }
-        }
+        let made = self.plan_loss(&mut planned, trunk);
+        self.finish(alloc, planned, made)
     }
 
     /// Plans that the least record of a lost connection is swept: a link, or else a monitor of a process
@@ -156,13 +141,8 @@ impl Node {
         ensures { (names : List Name) → Does (at_node names (model_of self.old) event.Sweep) (model_of self.old) (model_of self.new) result }
     {
         let mut planned = Planned::new(alloc);
-        match self.plan_sweep(alloc, &mut planned) {
-            Ok(()) => Ok(self.commit(alloc, planned)),
-            Err(e) => {
-                drop(planned);
-                Err(e)
-            }
-        }
+        let made = self.plan_sweep(alloc, &mut planned);
+        self.finish(alloc, planned, made)
     }
 
     /// Plans that the node dials another, under this word as its challenge, where nothing is planned
@@ -205,13 +185,8 @@ impl Node {
         ensures { (names : List Name) → has_name peer.now names ≡ is_known → Does (at_node names (model_of self.old) (event.Dial peer.now word)) (model_of self.old) (model_of self.new) result }
     {
         let mut planned = Planned::new(alloc);
-        match self.plan_dial(alloc, &mut planned, is_known, peer, word) {
-            Ok(()) => Ok(self.commit(alloc, planned)),
-            Err(e) => {
-                drop(planned);
-                Err(e)
-            }
-        }
+        let made = self.plan_dial(alloc, &mut planned, is_known, peer, word);
+        self.finish(alloc, planned, made)
     }
 
     /// Plans what the node does at the front of the bytes that come on a connection, where nothing is

@@ -1,14 +1,15 @@
 -- A plan that is carried out does what was planned.
-use Rattle.std.proofs.Common.{◌≡◌, sym, ap, ◌∙◌}
+use Rattle.std.proofs.Common.{◌≡◌, Result, sym, ap, subst, ◌∙◌}
 use Rattle.std.specs.declared.alloc.Global.{Global}
 use Rattle.std.specs.declared.vec.Vec.{Vec}
 use Rattle.dist_model.specs.Commands.{Outcome}
 use Rattle.dist_model.specs.Node.{Node}
 use Rattle.dist_model.specs.declared.report.Effect.{Effect}
 use Rattle.dist_model.specs.declared.report.Report.{Report}
-use Rattle.node_events.specs.Done.{Did}
+use Rattle.erl_term.specs.declared.refusal.Refusal.{Refusal}
+use Rattle.node_events.specs.Done.{Did, Does}
 use Rattle.node_frames.specs.Frames.{Framed}
-use Rattle.node_plans.specs.Planned.{IsPlanned}
+use Rattle.node_plans.specs.Planned.{IsPlanned, Plans}
 use Rattle.node_plans.specs.Plans.{committed, told}
 use Rattle.node_plans.specs.declared.plan.Plan.{Plan}
 
@@ -23,3 +24,9 @@ done m new outcome plan report h n t e = record {
   effects = ap (λ (xs : Vec (Effect Framed) Global). xs.items) e ∙ h.makes.effects;
   spelled = h.makes.spelled;
 }
+
+-- planned for the node as it was, whose room has grown
+pub does_on : (m mid new : Node) (due : Outcome) (plan : Plan) (made : Result (Unit {0}) Refusal) (result : Result (Report Framed) Refusal)
+    → mid ≡ m → (Plans mid due plan made → Does due mid new result) → Plans m due plan made → Does due m new result
+does_on m mid new due plan made result e f h =
+    subst (λ n. Does due n new result) e (f (subst (λ n. Plans n due plan made) (sym e) h))

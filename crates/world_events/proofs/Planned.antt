@@ -113,10 +113,11 @@ pub lacks : (m new : Node) (due : Outcome) (plan : Plan) (before after : Lines) 
 lacks m new due plan before after h n s = (inr (record { is = refl; answer = h.answer; work = h.work; accepts = h.accepts }), n, s)
 
 -- planned for the node as it was, whose room has grown
-pub sends_on : (m mid new : Node) (due : Outcome) (plan : Plan) (before after : Lines) (result : Result (Report Framed) Refusal) → mid ≡ m
-    → (IsPlanned mid due plan → Sends due mid new before after result) → IsPlanned m due plan → Sends due m new before after result
-sends_on m mid new due plan before after result e f h =
-    subst (λ n. Sends due n new before after result) e (f (subst (λ n. IsPlanned n due plan) (sym e) h))
+pub sends_on : (m mid new : Node) (due : Outcome) (plan : Plan) (made : Result (Unit {0}) Refusal) (before after : Lines)
+    (result : Result (Report Framed) Refusal) → mid ≡ m → (Plans mid due plan made → Sends due mid new before after result)
+    → Plans m due plan made → Sends due m new before after result
+sends_on m mid new due plan made before after result e f h =
+    subst (λ n. Sends due n new before after result) e (f (subst (λ n. Plans n due plan made) (sym e) h))
 
 -- nothing is sent
 pub silent : (due : Outcome) (old new : Node) (lines : Lines) (result : Result (Report Framed) Refusal)
@@ -176,14 +177,14 @@ arrived names m new t first word name before sent after report h n d = (
 
 -- planned for the node as it was
 pub comes_on : (names : List Name) (first : Option Item) (t : TrunkId) (word : ℕ) (m mid new : Node) (plan : Plan)
-    (before after : Lines) (result : Result (Report Framed) Refusal) → mid ≡ m
-    → (IsPlanned mid (at_node names mid (Arrive t first word)) plan
+    (made : Result (Unit {0}) Refusal) (before after : Lines) (result : Result (Report Framed) Refusal) → mid ≡ m
+    → (Plans mid (at_node names mid (Arrive t first word)) plan made
     → ComesTo (event.Arrive t word) (at_node names mid (Arrive t first word)) mid new before after result)
-    → IsPlanned m (at_node names m (Arrive t first word)) plan
+    → Plans m (at_node names m (Arrive t first word)) plan made
     → ComesTo (event.Arrive t word) (at_node names m (Arrive t first word)) m new before after result
-comes_on names first t word m mid new plan before after result e f h =
+comes_on names first t word m mid new plan made before after result e f h =
     subst (λ n. ComesTo (event.Arrive t word) (at_node names n (Arrive t first word)) n new before after result) e
-    (f (subst (λ n. IsPlanned n (at_node names n (Arrive t first word)) plan) (sym e) h))
+    (f (subst (λ n. Plans n (at_node names n (Arrive t first word)) plan made) (sym e) h))
 
 -- of any event, whatever comes next
 abbrev pub Happens : NodeEventOf → List Name → (old new : Node) → (before after : Lines) → Bool → Result (Report Framed) Refusal → Type 0

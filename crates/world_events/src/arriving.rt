@@ -6,7 +6,7 @@ ghost use Rattle.dist_model.specs.NodeEvents as model;
 ghost use Rattle.dist_model.specs.NodeEvents.{at_node};
 ghost use Rattle.node_core.specs.Model.{IsFor, model_of};
 ghost use Rattle.node_events.specs.Begun.{IsNew};
-ghost use Rattle.node_plans.specs.Planned.{IsPlanned, Plans};
+ghost use Rattle.node_plans.specs.Planned.{Plans};
 ghost use Rattle.readers.specs.Reading.{AreBytes};
 ghost use Rattle.world_events.specs.Coming.{IsNext, bytes_in};
 ghost use Rattle.world_events.specs.Events.{ComesTo};
@@ -61,21 +61,22 @@ fn plan(
     }
 }
 
-// What was planned of what comes next is carried out, and it is gone.
+// What was planned of what comes next, where it was, is carried out, and it is gone.
 fn take(
     alloc: Global,
     node: &mut Node,
     lists: &mut Lists,
     trunk: &TrunkId,
     planned: Planned,
+    made: Result<(), Refusal>,
 ) -> Result<Report<Frame>, Refusal>
-    requires { IsFor node.old planned }
+    requires { OnOk made (IsFor node.old planned) }
     ensures { (names : List Name) (first : Option Item) (word : ℕ) →
         let due = at_node names (model_of node.old) (model.Arrive trunk.now first word) in
-        IsPlanned (model_of node.old) due planned.plan →
+        Plans (model_of node.old) due planned.plan made →
         ComesTo (event.Arrive trunk.now word) due (model_of node.old) (model_of node.new) lists.old lists.new result }
 {
-    match finish(alloc, node, lists, planned) {
+    match finish(alloc, node, lists, planned, made) {
         Ok(report) => {
             lists.drop_first(alloc, trunk, node.name());
             Ok(report)
@@ -99,11 +100,6 @@ pub(crate) fn arrive(
         ComesTo (event.Arrive trunk.now word) (at_node names (model_of node.old) (model.Arrive trunk.now first word)) (model_of node.old) (model_of node.new) lists.old lists.new result }
 {
     let mut planned = Planned::new(alloc);
-    match plan(alloc, node, &mut planned, lists, trunk, word) {
-        Ok(()) => take(alloc, node, lists, trunk, planned),
-        Err(e) => {
-            drop(planned);
-            Err(e)
-        }
-    }
+    let made = plan(alloc, node, &mut planned, lists, trunk, word);
+    take(alloc, node, lists, trunk, planned, made)
 }

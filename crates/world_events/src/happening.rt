@@ -28,26 +28,16 @@ fn call(
     ensures { (names : List Name) → Sends (at_node names (model_of node.old) (model.Call command)) (model_of node.old) (model_of node.new) lists.old lists.new result }
 {
     let mut planned = Planned::new(alloc);
-    match node.plan_call(alloc, &mut planned, command) {
-        Ok(()) => finish(alloc, node, lists, planned),
-        Err(e) => {
-            drop(planned);
-            Err(e)
-        }
-    }
+    let made = node.plan_call(alloc, &mut planned, command);
+    finish(alloc, node, lists, planned, made)
 }
 
 fn local(alloc: Global, node: &mut Node, lists: &mut Lists) -> Result<Report<Frame>, Refusal>
     ensures { (names : List Name) → Sends (at_node names (model_of node.old) model.Local) (model_of node.old) (model_of node.new) lists.old lists.new result }
 {
     let mut planned = Planned::taking(alloc);
-    match node.plan_local(alloc, &mut planned) {
-        Ok(()) => finish(alloc, node, lists, planned),
-        Err(e) => {
-            drop(planned);
-            Err(e)
-        }
-    }
+    let made = node.plan_local(alloc, &mut planned);
+    finish(alloc, node, lists, planned, made)
 }
 
 fn lose(
@@ -59,26 +49,16 @@ fn lose(
     ensures { (names : List Name) → Sends (at_node names (model_of node.old) (model.Lose trunk.now)) (model_of node.old) (model_of node.new) lists.old lists.new result }
 {
     let mut planned = Planned::new(alloc);
-    match node.plan_loss(&mut planned, trunk) {
-        Ok(()) => finish(alloc, node, lists, planned),
-        Err(e) => {
-            drop(planned);
-            Err(e)
-        }
-    }
+    let made = node.plan_loss(&mut planned, trunk);
+    finish(alloc, node, lists, planned, made)
 }
 
 fn sweep(alloc: Global, node: &mut Node, lists: &mut Lists) -> Result<Report<Frame>, Refusal>
     ensures { (names : List Name) → Sends (at_node names (model_of node.old) model.Sweep) (model_of node.old) (model_of node.new) lists.old lists.new result }
 {
     let mut planned = Planned::new(alloc);
-    match node.plan_sweep(alloc, &mut planned) {
-        Ok(()) => finish(alloc, node, lists, planned),
-        Err(e) => {
-            drop(planned);
-            Err(e)
-        }
-    }
+    let made = node.plan_sweep(alloc, &mut planned);
+    finish(alloc, node, lists, planned, made)
 }
 
 fn dial(
@@ -93,13 +73,8 @@ fn dial(
         Sends (at_node names (model_of node.old) (model.Dial peer.now word)) (model_of node.old) (model_of node.new) lists.old lists.new result }
 {
     let mut planned = Planned::new(alloc);
-    match node.plan_dial(alloc, &mut planned, is_known, peer, word) {
-        Ok(()) => finish(alloc, node, lists, planned),
-        Err(e) => {
-            drop(planned);
-            Err(e)
-        }
-    }
+    let made = node.plan_dial(alloc, &mut planned, is_known, peer, word);
+    finish(alloc, node, lists, planned, made)
 }
 
 // Nothing is sent where a node stops or starts.
