@@ -141,7 +141,7 @@ module _ (m : Node) (trunk : TrunkId) (bytes : List ℕ) (word : ℕ) (plan : Pl
       let P : Outcome → Type 0 = (λ x. Plans m x plan planned) in
       subst P (sym (ap (λ b. cond b (due front) (Refuses Refusal.NodeDown)) up)) h
 
-  pub arrived : (taken : Result ℕ Refusal) (settled : Result (Unit {0}) Refusal)
+  arrived : (taken : Result ℕ Refusal) (settled : Result (Unit {0}) Refusal)
       → PlansBytes m (fm.get m.sides trunk) bytes due plan taken
       → ((x : Outcome) → Plans m x plan (without_len taken) → Plans m x plan settled)
       → ((e : Refusal) → without_len taken ≡ Err e → settled ≡ Err e)
@@ -162,3 +162,12 @@ module _ (m : Node) (trunk : TrunkId) (bytes : List ℕ) (word : ℕ) (plan : Pl
     is = h.is;
     plans = s (arrives m trunk h.front word) (at_running h.front (Err e) h.plans);
   }
+
+  -- as it is answered
+  pub came_as : (taken : Result ℕ Refusal) (made settled : Result (Unit {0}) Refusal) (result : Result ℕ Refusal) → made ≡ without_len taken
+      → PlansBytes m (fm.get m.sides trunk) bytes due plan taken → ((x : Outcome) → Plans m x plan made → Plans m x plan settled)
+      → ((e : Refusal) → made ≡ Err e → settled ≡ Err e) → with_len settled taken ≡ result
+      → PlansBytes m (fm.get m.sides trunk) bytes (λ front. arrives m trunk front word) plan result
+  came_as taken made settled result is h s r same =
+      subst (λ q. PlansBytes m (fm.get m.sides trunk) bytes (λ front. arrives m trunk front word) plan q) same
+      (arrived taken settled h (λ x k. s x (subst (λ q. Plans m x plan q) (sym is) k)) (λ e k. r e (is ∙ k)))

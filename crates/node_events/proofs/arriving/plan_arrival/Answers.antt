@@ -1,11 +1,8 @@
-use Rattle.std.proofs.Common.{◌≡◌, ℕ, OnOk, Result, Err, sym, ap, subst, ◌∙◌}
-use Rattle.std.specs.FinMap as fm
+use Rattle.std.proofs.Common.{◌≡◌, OnOk, Result, Err, sym, ap, subst, ◌∙◌}
 use Rattle.erl_term.specs.declared.refusal.Refusal.{Refusal}
-use Rattle.node_arrivals.specs.Coming.{PlansBytes}
-use Rattle.node_events.proofs.Fronted.{arrived, by_up, with_len}
-use Rattle.node_events.specs.Arrived.{arrives, without_len}
+use Rattle.node_events.proofs.Fronted.{by_up, came_as, with_len}
+use Rattle.node_events.specs.Arrived.{without_len}
 use Rattle.node_events.specs.Staying.{Stays}
-use Rattle.node_plans.specs.Planned.{Plans}
 use Rattle.node_plans.specs.Seen.{seen}
 use Rattle.node_events.proofs.arriving.plan_arrival.Goals as goal
 
@@ -35,26 +32,14 @@ returns-in-Err-clause-undialed c =
 
 pub returns-in-Ok-clause-came : goal.returns-in-Ok-clause-came
 returns-in-Ok-clause-came c = λ up dialed.
-    let m = seen c.args.node.now in
-    let trunk = c.args.trunk.now in
-    let plan = c.arrive_if_up-taken.new.plan in
     let taken = c.arrive_if_up-taken.result in
-    let P : Result ℕ Refusal → Type 0 = (λ r. PlansBytes m (fm.get m.sides trunk) c.args.bytes.now (λ front. arrives m trunk front c.args.word) plan r) in
-    subst P (ap (λ r. with_len r taken) c.in-Ok.is)
-    (arrived m trunk c.args.bytes.now c.args.word plan up taken c.settle.result
-    (c.arrive_if_up-taken.ensures.came up dialed)
-    (λ x h. c.settle.ensures.plan x (subst (λ r. Plans m x plan r) (sym c.without_len.ensures) h))
-    (λ e h. c.settle.ensures.refused e (c.without_len.ensures ∙ h)))
+    came_as (seen c.args.node.now) c.args.trunk.now c.args.bytes.now c.args.word c.arrive_if_up-taken.new.plan up
+    taken c.without_len.result c.settle.result taken c.without_len.ensures (c.arrive_if_up-taken.ensures.came up dialed)
+    c.settle.ensures.plan c.settle.ensures.refused (ap (λ r. with_len r taken) c.in-Ok.is)
 
 pub returns-in-Err-clause-came : goal.returns-in-Err-clause-came
 returns-in-Err-clause-came c = λ up dialed.
-    let m = seen c.args.node.now in
-    let trunk = c.args.trunk.now in
-    let plan = c.arrive_if_up-taken.new.plan in
     let taken = c.arrive_if_up-taken.result in
-    let P : Result ℕ Refusal → Type 0 = (λ r. PlansBytes m (fm.get m.sides trunk) c.args.bytes.now (λ front. arrives m trunk front c.args.word) plan r) in
-    subst P (ap (λ r. with_len r taken) c.in-Err.is)
-    (arrived m trunk c.args.bytes.now c.args.word plan up taken c.settle.result
-    (c.arrive_if_up-taken.ensures.came up dialed)
-    (λ x h. c.settle.ensures.plan x (subst (λ r. Plans m x plan r) (sym c.without_len.ensures) h))
-    (λ e h. c.settle.ensures.refused e (c.without_len.ensures ∙ h)))
+    came_as (seen c.args.node.now) c.args.trunk.now c.args.bytes.now c.args.word c.arrive_if_up-taken.new.plan up
+    taken c.without_len.result c.settle.result (Err c.in-Err.e) c.without_len.ensures (c.arrive_if_up-taken.ensures.came up dialed)
+    c.settle.ensures.plan c.settle.ensures.refused (ap (λ r. with_len r taken) c.in-Err.is)
