@@ -12,7 +12,7 @@ pub fn pid(alloc: Global, node: &str, id: u32) -> Result<Pid>
     let node = String::from_str(alloc, node)?;
     ensure!(Atom::fits(node.as_str()), "{node} is too long");
     Ok(Pid {
-        node: Atom::new(node),
+        node: Atom::new(node)?,
         creation: 1,
         id,
         serial: 0,

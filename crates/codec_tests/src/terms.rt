@@ -329,7 +329,7 @@ fn atom(alloc: Global, text: &str) -> Result<Atom, Fail> {
     if !Atom::fits(text.as_str()) {
         return Err(Fail::from("no atom"));
     }
-    Ok(Atom::new(text))
+    Ok(Atom::new(text)?)
 }
 
 fn pid(alloc: Global, (node, creation, id, serial): PidFields) -> Result<Pid, Fail> {

@@ -54,7 +54,7 @@ impl NodeName {
             return Err(Refusal::BadName);
         }
         Ok(NodeName {
-            atom: Atom::new(String::from_str(alloc, text)?),
+            atom: Atom::new(String::from_str(alloc, text)?)?,
         })
     }
 

@@ -1,5 +1,5 @@
 //! Atoms.
-ghost use Rattle.std.specs.Prelude.{◌≡◌, ◌≤◌, ◌↔◌, IsTrue, List, ℕ, Some, length, refl, nat_eq};
+ghost use Rattle.std.specs.Prelude.{◌≡◌, ◌≤◌, ◌↔◌, IfOk, IsTrue, List, ℕ, Some, length, refl, nat_eq};
 ghost use Rattle.std.specs.Ordering.{nat_cmp};
 ghost use Rattle.std.specs.String.{string_bytes};
 ghost use Rattle.std.specs.Str.{chars};
@@ -10,26 +10,27 @@ ghost use Rattle.erl_term.specs.Text.{IsAtomText};
 use std::alloc::AllocError;
 use std::cmp::Ordering;
 use std::marker::Model;
+use std::sync::ArcStr;
 
-/// An atom: a text of 0 to 255 characters. Contracts see its UTF-8 bytes.
+/// An atom: a text of 0 to 255 characters, which its copies share. Contracts see its UTF-8 bytes.
 ///
 /// Atoms are ordered by these bytes. (ERTS User's Guide, External Term Format, ATOM_UTF8_EXT;
 /// Reference Manual, Data Types, Atom.)
 #[derive(Debug, Drop)]
 pub struct Atom {
-    text: String,
+    text: ArcStr,
 }
 
 impl Model for Atom {
     ghost use Rattle.std.specs.Prelude.{List, ℕ, length, ◌≤◌};
-    ghost use Rattle.std.specs.String.{string_bytes};
+    ghost use Rattle.std.specs.Arc.{arc_str_bytes};
     ghost use Rattle.std.specs.Str.{chars};
 
     ghost Value = { List ℕ };
 
-    ghost view = { λ a. string_bytes a.text };
+    ghost view = { λ a. arc_str_bytes a.text };
 
-    ghost invariant = { λ a. length (chars (string_bytes a.text)) ≤ 255 };
+    ghost invariant = { λ a. length (chars (arc_str_bytes a.text)) ≤ 255 };
 }
 
 impl Atom {
@@ -40,12 +41,17 @@ impl Atom {
         text.chars().count() <= 255
     }
 
-    /// The atom of a text that [fits](Atom::fits). It takes no memory.
-    pub fn new(text: String) -> Atom
+    /// The atom of a text that [fits](Atom::fits).
+    ///
+    /// # Errors
+    /// Where there is no memory for it.
+    pub fn new(text: String) -> Result<Atom, AllocError>
         requires { length (chars (string_bytes text)) ≤ 255 }
-        ensures { result ≡ string_bytes text }
+        ensures { IfOk result (λ atom. atom ≡ string_bytes text) }
     {
-        Atom { text }
+        Ok(Atom {
+            text: ArcStr::from_string(text)?,
+        })
     }
 
     /// The text of the atom.

@@ -51,8 +51,8 @@ impl<'a> AtomRef<'a> {
         ensures { IfOk result (λ a. a ≡ self.now) }
     {
         match self.text {
-            Text::Utf8(text) => Ok(Atom::new(String::from_str(alloc, text)?)),
-            Text::Latin(letters) => Ok(Atom::new(latin_text(alloc, letters)?)),
+            Text::Utf8(text) => Atom::new(String::from_str(alloc, text)?),
+            Text::Latin(letters) => Atom::new(latin_text(alloc, letters)?),
         }
     }
 

@@ -101,7 +101,7 @@ fn atom_of(alloc: Global, width: usize, bytes: &[u8]) -> Result<(Atom, &[u8]), T
     ensures { Gives (λ x. (x.0, x.1.now)) result (read_atom width bytes.now) }
 {
     let (text, rest) = atom_ref_of(width, bytes)?;
-    Ok((Atom::new(String::from_str(alloc, text)?), rest))
+    Ok((Atom::new(String::from_str(alloc, text)?)?, rest))
 }
 
 /// The atom in Latin-1 whose length, in so many bytes, and letters come next.
@@ -112,7 +112,7 @@ fn latin_of(alloc: Global, width: usize, bytes: &[u8]) -> Result<(Atom, &[u8]), 
     ensures { Gives (λ x. (x.0, x.1.now)) result (read_latin width bytes.now) }
 {
     let (letters, rest) = letters_of(width, bytes)?;
-    Ok((Atom::new(latin_text(alloc, letters)?), rest))
+    Ok((Atom::new(latin_text(alloc, letters)?)?, rest))
 }
 
 fn atom_term_of(alloc: Global, width: usize, bytes: &[u8]) -> Result<(Term, &[u8]), TermError>

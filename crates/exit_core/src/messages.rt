@@ -59,5 +59,5 @@ fn atom_of(alloc: Global, name: &str) -> Result<Term, AllocError>
     requires { length (chars name.now) ≤ 255 }
     ensures { IfOk result (λ t. view t ≡ atom name.now) }
 {
-    Ok(Term::Atom(Atom::new(String::from_str(alloc, name)?)))
+    Ok(Term::Atom(Atom::new(String::from_str(alloc, name)?)?))
 }

@@ -25,7 +25,7 @@ pub fn atom(alloc: Global, text: &str) -> Result<Atom, Refusal> {
     if !Atom::fits(text) {
         return Err(Refusal::BadName);
     }
-    Ok(Atom::new(String::from_str(alloc, text)?))
+    Ok(Atom::new(String::from_str(alloc, text)?)?)
 }
 
 pub fn pid(alloc: Global, process: Process) -> Result<Pid, Refusal> {

@@ -39,7 +39,7 @@ fn atom(alloc: Global, name: &str) -> Result<Payload, Refusal> {
     if !Atom::fits(text.as_str()) {
         return Err(Refusal::BadName);
     }
-    Ok(Payload::new(Term::Atom(Atom::new(text))))
+    Ok(Payload::new(Term::Atom(Atom::new(text)?)))
 }
 
 fn name_of(term: &Term) -> &str {

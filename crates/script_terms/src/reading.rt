@@ -102,7 +102,7 @@ fn atom_term(alloc: Global, text: &[u8]) -> Result<Term, AllocError>
     ensures { IfOk result (λ t. view t ≡ atom text.now) }
 {
     match atom_text(text) {
-        Some(text) => Ok(Term::Atom(Atom::new(String::from_str(alloc, text)?))),
+        Some(text) => Ok(Term::Atom(Atom::new(String::from_str(alloc, text)?)?)),
         None => unreachable!(),
     }
 }

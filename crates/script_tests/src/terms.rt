@@ -89,7 +89,7 @@ fn atom(alloc: Global, text: &str) -> Result<Atom, Fail> {
     if !Atom::fits(text.as_str()) {
         return Err(Fail::from("an atom has at most 255 characters"));
     }
-    Ok(Atom::new(text))
+    Ok(Atom::new(text)?)
 }
 
 /// The names p and r, of a process and of a reference.

@@ -140,5 +140,5 @@ fn vec_of(alloc: Global, byte: u8, count: usize) -> Result<Vec<u8>, AllocError> 
 fn atom(alloc: Global, text: &str) -> Result<Term> {
     let text = String::from_str(alloc, text)?;
     anyhow::ensure!(Atom::fits(text.as_str()), "{text} is too long");
-    Ok(Term::Atom(Atom::new(text)))
+    Ok(Term::Atom(Atom::new(text)?))
 }

@@ -57,7 +57,7 @@ pub fn atom(alloc: Global, text: &str) -> Result<Atom, Refusal> {
     if !Atom::fits(text.as_str()) {
         return Err(Refusal::BadName);
     }
-    Ok(Atom::new(text))
+    Ok(Atom::new(text)?)
 }
 
 pub fn pid(alloc: Global, process: Process) -> Result<Pid, Refusal> {

@@ -16,7 +16,9 @@ carry_out-requires-clause-fits c =
     let p = c.args.process.now in
     let q = c.args.partner.now in
     let x = c.args.reason in
-    let is : c.in_ok-reaction.reaction ≡ reaction (traps m p) (linked_exit p q x) = search rules in
+    let from : c.in_ok-clone.field-0 ≡ q = search rules in
+    let is : c.in_ok-reaction.reaction ≡ reaction (traps m p) (linked_exit p q x) = c.in_ok-reaction.ensures
+    ∙ (λ i. reaction (traps m p) (record { sender = from i; reason = x; link = true; is_active = true; is_own = c.same_pid.ensures i })) in
     subst FitsWhereEnds (sym is) (linked_fits (traps m p) p q x c.requires.fits)
 
 pub returns-clause-carries : goal.returns-clause-carries
