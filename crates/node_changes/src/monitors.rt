@@ -10,6 +10,7 @@ use std::alloc::AllocError;
 
 /// A monitor of a process here comes or goes, and then those that a process owns which ends. Takes no
 /// memory. (Reference Manual, Processes, Monitors.)
+#[inline(always)]
 pub fn change_watches(watches: &mut Watches, own: MonitorChange, change: &Change)
     requires room { MonitorFits own watches.old }
     requires fresh { IsFresh own watches.old.monitors }
@@ -37,6 +38,7 @@ pub fn change_watches(watches: &mut Watches, own: MonitorChange, change: &Change
 
 /// A monitor that another has comes or goes, and then those that others have of a process which ends.
 /// Takes no memory. (Reference Manual, Processes, Monitors.)
+#[inline(always)]
 pub fn change_watchers(watchers: &mut Watchers, others: MonitorChange, change: &Change)
     requires { MonitorFits others watchers.old }
     ensures { watchers.new.monitors ≡ after.watchers_left change.now (after.registered others watchers.old.monitors) }

@@ -8,6 +8,7 @@ use std::collections::VecDeque;
 
 /// The first signal of the own list goes, if it is taken, and others come behind, in the room that was
 /// made. Takes no memory. (Reference Manual, Processes, Delivery of Signals.)
+#[inline(always)]
 pub fn keep(list: &mut VecDeque<Signal>, pops: bool, signals: Vec<Signal>)
     requires { deque_len list.old + length signals.items ≤ deque_capacity list.old }
     ensures { list.new.items ≡ after.popped pops list.old.items ++ signals.items }

@@ -36,6 +36,7 @@ pub fn draw(incarnation: &mut Incarnation, draws: Draws)
     }
 }
 
+#[inline(always)]
 fn change_link(incarnation: &mut Incarnation, process: &Pid, change: LinkChange)
     requires { EndFits change (held incarnation.old process.now) }
     ensures mint { incarnation.new.mint ≡ incarnation.old.mint }
@@ -51,6 +52,7 @@ fn change_link(incarnation: &mut Incarnation, process: &Pid, change: LinkChange)
 }
 
 // It answers the message that is taken out, and else as it is told to.
+#[inline(always)]
 fn change_life(
     incarnation: &mut Incarnation,
     process: &Pid,
@@ -76,6 +78,7 @@ fn change_life(
 
 /// The processes change, in the room that was made. It answers the message that is taken out, and else
 /// as it is told to. Takes no memory. (Reference Manual, Processes.)
+#[inline(always)]
 pub fn change_processes(
     alloc: Global,
     incarnation: &mut Incarnation,

@@ -50,6 +50,7 @@ impl Node {
     }
 
     /// Carries out what was planned for this node as it is. Takes no memory.
+    #[inline(always)]
     pub fn commit(&mut self, alloc: Global, planned: Planned) -> Report<Frame>
         requires { IsFor self.old planned }
         ensures node { model_of self.new ≡ committed planned.plan (model_of self.old) }

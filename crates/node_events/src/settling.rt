@@ -15,6 +15,7 @@ use node_plans::Node;
 ///
 /// # Errors
 /// Why nothing was planned, and [`Refusal::OutOfMemory`].
+#[inline(always)]
 pub fn settle(node: &mut Node, planned: &Planned, made: Result<(), Refusal>) -> Result<(), Refusal>
     requires stays { OnOk made (Stays planned.now.plan (seen node.old)) }
     requires ahead { IsAheadIfAny planned.now.sweeping (seen node.old) }

@@ -20,6 +20,7 @@ fn dialed_after(dialed: u64, dials: bool) -> u64
 
 impl Node {
     /// Carries a plan out, which was made for this node as it is. Takes no memory.
+    #[inline(always)]
     pub fn commit(&mut self, alloc: Global, plan: Plan) -> Report<Frame>
         requires { Fits self.old plan }
         ensures node { seen self.new ≡ after.committed plan (seen self.old) }

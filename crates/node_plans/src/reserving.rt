@@ -17,6 +17,7 @@ impl Node {
     ///
     /// # Errors
     /// Where there is no memory for it.
+    #[inline(always)]
     pub fn reserve(&mut self, plan: &Plan) -> Result<(), AllocError>
         requires sound { IsSound plan.now (seen self.old) }
         requires lets { LetsAll plan.now.sides.items (seen self.old).sides }
