@@ -11,7 +11,7 @@ use Rattle.erl_term.specs.declared.term.Reference.{Reference}
 use Rattle.exit_core.specs.Messages.{down_term}
 
 -- texts that compare alike are one
-same_text : (a b : List ℕ) → pointwise nat_eq a b ≡ true → a ≡ b
+pub same_text : (a b : List ℕ) → pointwise nat_eq a b ≡ true → a ≡ b
 same_text [] [] h = refl
 same_text (x ∷ a) (y ∷ b) h =
     let v = and_parts (nat_eq x y) (pointwise nat_eq a b) h in

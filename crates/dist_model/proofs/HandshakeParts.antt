@@ -160,13 +160,13 @@ set_there o t s = set_at o t s t ∙ ap (λ b. cond b (Some s) (side_at o.node t
 pub towards_set : (o : Work) (t : TrunkId) (s : TrunkSide) → Towards ((with_side t s o).node) t s.peer
 towards_set o t s = record { side = s; there = set_there o t s; peer = refl }
 
-still_there : (o : Work) (t u : TrunkId) (s v : TrunkSide) → side_at o.node u ≡ Some v → (u ≡ t → ⊥)
+pub still_there : (o : Work) (t u : TrunkId) (s v : TrunkSide) → side_at o.node u ≡ Some v → (u ≡ t → ⊥)
     → side_at ((with_side t s o).node) u ≡ Some v
 still_there o t u s v h d =
     set_at o t s u
     ∙ by_test _ (same_trunk u t) (λ e. absurd (d (same_trunk_true u t e))) (λ e. ap (λ b. cond b (Some s) (side_at o.node u)) e ∙ h)
 
-still_none : (o : Work) (t u : TrunkId) (s v : TrunkSide) → side_at o.node u ≡ None → side_at o.node t ≡ Some v
+pub still_none : (o : Work) (t u : TrunkId) (s v : TrunkSide) → side_at o.node u ≡ None → side_at o.node t ≡ Some v
     → side_at ((with_side t s o).node) u ≡ None
 still_none o t u s v h e =
     set_at o t s u ∙ by_test _ (same_trunk u t)
@@ -178,7 +178,7 @@ abbrev pub Passing : (State → Bool) → Node → Option (TrunkId × TrunkSide)
 Passing test n None = Unit {0}
 Passing test n (Some e) = (side_at n e.0 ≡ Some e.1) × (test e.1.state ≡ true)
 
-found : (test : State → Bool) (y : Name) (n : Node) (d : Option (TrunkId × TrunkSide))
+pub found : (test : State → Bool) (y : Name) (n : Node) (d : Option (TrunkId × TrunkSide))
     → side_where test y (fm.entries n.sides) ≡ d → Passing test n d
 found test y n None h = tt
 found test y n (Some e) h =

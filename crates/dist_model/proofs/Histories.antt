@@ -12,6 +12,9 @@ use Rattle.std.specs.FinMap.{FinMap}
 use Rattle.dist_model.proofs.Comings.{dial_done, fresh_comes, known_comes, local_done, lose_done, start_done, stop_done, sweep_done}
 use Rattle.dist_model.proofs.Deeds.{Right, old_cause}
 use Rattle.dist_model.proofs.Events.{AllGo, Done, call_done}
+use Rattle.dist_model.proofs.Cookies.{by_cookie, known_opening, known_step}
+use Rattle.dist_model.proofs.ShownRun.{Known, known_refused}
+use Rattle.dist_model.specs.Cookies.{ChallengesAreDrawn, ConnectedByCookie, OneChallenge, StrangersStayApart}
 use Rattle.dist_model.proofs.WatchKept.{linked_step}
 use Rattle.dist_model.proofs.WatchKnown.{Linked}
 use Rattle.dist_model.proofs.Run.{good_step_at}
@@ -193,6 +196,7 @@ pub record Tale (w : World) (h : History) : Type 0 where
   pub good : Good w
   pub sound : Sound w h
   pub linked : Linked w
+  pub known : Known w h
 
 one_event : (w : World) (h : History) (e : Event) (r : Report) (v : World) → Tale w h → Goes w e r v
     → Tale v ((record { event = e; report = r }) ∷ h)
@@ -201,12 +205,17 @@ one_event w h e r v t (inl c) = record {
   sound = subst (λ z. Sound z ((record { event = e; report = r }) ∷ h)) (sym c.1)
       (subst (λ z. Sound ((step w e).world) ((record { event = e; report = z }) ∷ h)) (sym c.0) (next w h t.good t.sound e).sound);
   linked = subst Linked (sym c.1) (linked_step w h t.good t.sound t.linked (node_of w.nodes (node_name e)) e refl);
+  known = subst (λ z. Known z ((record { event = e; report = r }) ∷ h)) (sym c.1)
+      (subst (λ z. Known ((step w e).world) ((record { event = e; report = z }) ∷ h)) (sym c.0)
+      (known_step w h (node_of w.nodes (node_name e)) e refl t.good t.known));
 }
 one_event w h e r v t (inr c) = record {
   good = subst Good (sym c.1) t.good;
   sound = subst (λ z. Sound z ((record { event = e; report = r }) ∷ h)) (sym c.1)
       (subst (λ z. Sound w ((record { event = e; report = z }) ∷ h)) (sym c.0) (sound_refused w h t.sound e Refusal.OutOfMemory));
   linked = subst Linked (sym c.1) t.linked;
+  known = subst (λ z. Known z ((record { event = e; report = r }) ∷ h)) (sym c.1)
+      (subst (λ z. Known w ((record { event = e; report = z }) ∷ h)) (sym c.0) (known_refused w h e Refusal.OutOfMemory t.known));
 }
 
 tale_runs : (w : World) (h : History) (es : List Event) (rs : List Report) (v : World) → Tale w h → Runs w es rs v → Tale v (told es rs h)
@@ -243,7 +252,7 @@ linked_opening cs y v k u hv i =
 pub throughout : (Holds : History → World → Type 0) → ((h : History) (w : World) → Tale w h → Holds h w) → Throughout Holds
 throughout Holds f cs es rs w i =
     f (told es rs []) w
-    (tale_runs (opening cs) [] es rs w (record { good = good_opening cs; sound = sound_opening cs; linked = linked_opening cs }) i)
+    (tale_runs (opening cs) [] es rs w (record { good = good_opening cs; sound = sound_opening cs; linked = linked_opening cs; known = known_opening cs }) i)
 
 -- ---- the claims
 
@@ -275,3 +284,15 @@ no_down_where_demonitored h w t = t.sound.none_after
 
 pub downs_tell_true_cause : (h : History) (w : World) → Tale w h → DownsTellTrueCause h w
 downs_tell_true_cause h w t e r d c = (next w h t.good t.sound e).ends r d c
+
+pub connected_by_cookie : (h : History) (w : World) → Tale w h → ConnectedByCookie h w
+connected_by_cookie h w t = by_cookie h w t.known
+
+pub challenges_are_drawn : (h : History) (w : World) → Tale w h → ChallengesAreDrawn h w
+challenges_are_drawn h w t = t.known.drawn
+
+pub one_challenge : (h : History) (w : World) → Tale w h → OneChallenge h w
+one_challenge h w t = t.known.one
+
+pub strangers_stay_apart : (h : History) (w : World) → ConnectedByCookie h w → StrangersStayApart w
+strangers_stay_apart h w k x y t d s = let j = k x y t s in d j.word j.same

@@ -89,6 +89,18 @@ pub mod Sendable
 -- 9. Which processes a node keeps, and in what order its own list grows.
 pub mod Peopled
 pub mod InOrder
+-- 10. Who is connected has shown that it knows the cookie.
+pub mod Shown
+pub mod ShownSteps
+pub mod ShownRun
+pub mod Cookies
+-- 11. What nodes know of creations.
+pub mod Learnt
+pub mod LearntAt
+pub mod Known
+pub mod KnownPeers
+pub mod Asks
+pub mod AskedIn
 -- Runs that are computed, step by step.
 pub mod ExampleMaps
 pub mod ExampleWorlds

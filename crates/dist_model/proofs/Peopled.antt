@@ -370,7 +370,7 @@ module _ (w : World) (g : AllPeopled w.nodes) where
     own u (i ∷ rest) = ends x n w.lists (take_local n (i ∷ rest)) h
         (lasts_well n u (g x n h) rest (take_local n (i ∷ rest)) (own_taken n rest i))
 
-  after : (o : Option Node) (e : Event) → node_of w.nodes (node_name e) ≡ o → After (step_at w o e)
+  pub after : (o : Option Node) (e : Event) → node_of w.nodes (node_name e) ≡ o → After (step_at w o e)
   after None e h = g
   after (Some n) (Call x c) h = up_well x n h _ (λ u. ends x n w.lists (call n c) h (any_call n u (g x n h) c))
   after (Some n) (Arrive t x k) h = comes x n h t k
@@ -402,7 +402,7 @@ peopled_runs w (e ∷ es) (r ∷ rs) v g h = peopled_runs h.0 es rs v (one h.1) 
     one (inl c) = subst (λ (z : World). AllPeopled z.nodes) (sym c.1) (after w g (node_of w.nodes (node_name e)) e refl)
     one (inr c) = subst (λ (z : World). AllPeopled z.nodes) (sym c.1) g
 
-peopled_opening : (cs : List (Name × List ℕ)) → AllPeopled ((opening cs).nodes)
+pub peopled_opening : (cs : List (Name × List ℕ)) → AllPeopled ((opening cs).nodes)
 peopled_opening cs x n h = let k = new_is cs cs x n h in subst Peopled (sym k.2) (new k.0 k.1)
   where
     new : (y : Name) (c : List ℕ) → Peopled (new_node y c)

@@ -208,7 +208,7 @@ module _ (P : World → Type 0) (steps : (w : World) (e : Event) → P w → P (
   comes w e r v g (inl h) = subst P (sym h.1) (steps w e g)
   comes w e r v g (inr h) = subst P (sym h.1) g
 
-  runs : (w : World) (es : List Event) (rs : List Report) (v : World) → P w → Runs w es rs v → P v
+  pub runs : (w : World) (es : List Event) (rs : List Report) (v : World) → P w → Runs w es rs v → P v
   runs w [] [] v g h = subst P (sym h) g
   runs w (e ∷ es) (r ∷ rs) v g h = runs h.0 es rs v (comes w e r h.0 g h.1) h.2
   runs w _ _ v g h = absurd h

@@ -1,22 +1,26 @@
--- What holds of every world that events lead to.
-use Rattle.std.specs.Prelude.{if◌then◌else◌, List, [], ◌∷◌, ◌++◌, ◌≡◌, ◌⊎◌, ◌↔◌, None, Some, ℕ, true, false, Contains}
+-- Claims about every world that a run leads to.
+use Rattle.std.specs.Prelude.{if◌then◌else◌, List, [], ◌∷◌, ◌++◌, ◌≡◌, ◌≤◌, ◌⊎◌, ◌↔◌, None, Some, ℕ, true, false, Contains}
 use Rattle.std.specs.Ordering.{eq_by_cmp}
 use Rattle.std.specs.FinMap as fm
 use Rattle.dist_model.specs.Items.{Item, Signalled, news}
 use Rattle.dist_model.specs.Names.{Name, place_cmp}
 use Rattle.dist_model.specs.NodeEvents.{at_node}
+use Rattle.dist_model.specs.Arrivals.{is_good}
 use Rattle.dist_model.specs.Commands.{Accepts, Refuses}
+use Rattle.dist_model.specs.Creations.{creation_of, goes_on, knows_peer, told_creation}
 use Rattle.dist_model.specs.Work.{Work}
 use Rattle.dist_model.specs.declared.report.Answer.{Answer}
 use Rattle.dist_model.specs.declared.report.Effect.{Effect}
 use Rattle.erl_term.specs.declared.refusal.Refusal.{Refusal}
 use Rattle.dist_model.specs.Node.{Node, living, is_stranger, Ended}
 use Rattle.dist_model.specs.Quiet.{Quiet}
+use Rattle.dist_model.specs.Runs.{Runs}
 use Rattle.dist_model.specs.Seen.{AreConnected, HasSide, end_between, is_connected, is_living, local_list}
 use Rattle.dist_model.specs.Sides.{is_losing, is_up}
 use Rattle.dist_model.specs.World.{Arrive, Event, Refused, Report, Reported, Stepped, World}
 use Rattle.dist_model.specs.World.{list_to, met, node_name, node_of, refused, step, Local, Start}
 use Rattle.erl_control.specs.Control.{IsSendable}
+use Rattle.erl_control.specs.Ends.{sender_of}
 use Rattle.erl_control.specs.declared.signal.Signal.{Signal}
 use Rattle.erl_names.specs.declared.trunk.TrunkId.{TrunkId}
 use Rattle.erl_term.specs.Data.{Data}
@@ -27,7 +31,7 @@ use Rattle.link_core.specs.declared.end.LinkSignal.{LinkSignal}
 
 -- ---- Agreement. (Reference Manual, Processes, Links: a link is of both; ERTS User's Guide, Distribution Protocol, New Link Protocol)
 
--- two living processes of connected nodes: once all that travels has come, both hold their link active, or neither does
+-- two living processes of connected nodes: once everything in flight is delivered, both hold their link active, or neither does
 abbrev pub Agreement : World → Type 0
 Agreement w = (p q : Pid) (t : TrunkId) → AreConnected w p.node t q.node → is_living w p ≡ true → is_living w q ≡ true
     → drained (end_between w p q) (news q p (list_to w.lists t p.node)) ≡ End.Active
@@ -39,15 +43,14 @@ AgreementWithin w = (p q : Pid) → p.node ≡ q.node → is_living w p ≡ true
     → drained (end_between w p q) (news q p (local_list w p.node)) ≡ End.Active
     ↔ drained (end_between w q p) (news p q (local_list w p.node)) ≡ End.Active
 
--- whenever nothing travels between two living processes, both hold their link active, or neither does
+-- while nothing is in flight between two living processes, both hold their link active, or neither does
 abbrev pub AgreementInQuiet : World → Type 0
 AgreementInQuiet w = (p q : Pid) → Quiet w p q → is_living w p ≡ true → is_living w q ≡ true
     → end_between w p q ≡ End.Active ↔ end_between w q p ≡ End.Active
 
 -- ---- Pending. (ERTS User's Guide, Distribution Protocol, New Link Protocol)
 
--- where an end waits for an acknowledgement, its UNLINK_ID is the last LINK or UNLINK_ID on the way to the partner, or the
--- acknowledgement is on its way back
+-- the UNLINK_ID of a pending end is the last LINK or UNLINK_ID in flight to the partner, or the acknowledgement is in flight back
 abbrev pub PendingOnItsWay : World → Type 0
 PendingOnItsWay w = (p q : Pid) (t : TrunkId) (i : ℕ) → AreConnected w p.node t q.node → is_living w p ≡ true → is_living w q ≡ true
     → end_between w p q ≡ End.Pending i
@@ -71,20 +74,19 @@ NoLinkToItself w = (p : Pid) → end_between w p p ≡ End.None
 
 -- ---- Links are of living processes that can reach each other. (Reference Manual, Processes, Links; Distributed Erlang)
 
--- an end that isn't none is that of a living process, towards its own node or one that its node is connected to, or whose records
--- it hasn't swept yet
+-- an end other than none belongs to a living process, towards its own node or a node with a connection that is up or not yet swept
 abbrev pub LinkNeedsConnection : World → Type 0
 LinkNeedsConnection w = (p q : Pid) → (end_between w p q ≡ End.None → ⊥)
     → (is_living w p ≡ true) × ((q.node ≡ p.node) ⊎ (is_connected w p.node q.node ≡ true))
 
 -- ---- Who is living. (Reference Manual, Processes, Process Creation and Termination; ERTS User's Guide, External Term Format, NEW_PID_EXT)
 
--- a process that is living was spawned by the running incarnation
+-- the running incarnation spawned each living process
 abbrev pub LivingMeans : World → Type 0
 LivingMeans w = (name : Name) (node : Node) (p : Pid) → node_of w.nodes name ≡ Some node → living node p ≡ true
     → (node.up ≡ true) × (p.creation ≡ node.mint.creation) × (is_stranger node p ≡ false)
 
--- and each that it has spawned is living, or the node keeps why it ended
+-- each process that it spawned is alive, or the node keeps its exit reason
 abbrev pub SpawnedLivesOrEnded : World → Type 0
 SpawnedLivesOrEnded w = (name : Name) (node : Node) (p : Pid) → node_of w.nodes name ≡ Some node
     → node.up ≡ true → p.creation ≡ node.mint.creation → is_stranger node p ≡ false
@@ -105,9 +107,40 @@ OneTrunk w = (x y : Name) (t u : TrunkId) → HasSide w x t y is_up → HasSide 
 abbrev pub NoUpBesideLosing : World → Type 0
 NoUpBesideLosing w = (x y : Name) (t u : TrunkId) → HasSide w x t y is_up → HasSide w x u y is_losing → ⊥
 
+-- ---- Creations. (ERTS User's Guide, Distribution Protocol, Distribution Handshake, send_name and send_challenge: each node
+-- tells its own creation)
+
+-- while x's side of a trunk is not gone, each item in flight from x carries the creation of x's running incarnation, or none
+abbrev pub CreationsAreTold : World → Type 0
+CreationsAreTold w = (x y : Name) (t : TrunkId) (item : Item) (c : ℕ) → HasSide w x t y goes_on → Contains (list_to w.lists t y) item
+    → told_creation item ≡ Some c → creation_of w x ≡ Some c
+
+-- while x's side is not gone, the peer's side knows the creation of x's running incarnation, or none
+abbrev pub CreationsAreKnown : World → Type 0
+CreationsAreKnown w = (x y : Name) (t : TrunkId) → HasSide w x t y goes_on → (theirs : HasSide w y t x knows_peer)
+    → creation_of w x ≡ Some theirs.side.peer_creation
+
+-- two connected nodes know each other's creation
+abbrev pub ConnectedKnow : World → Type 0
+ConnectedKnow w = (x y : Name) (t : TrunkId) → (both : AreConnected w x t y)
+    → (creation_of w y ≡ Some both.0.side.peer_creation) × (creation_of w x ≡ Some both.1.side.peer_creation)
+
+-- a side accepts no signal from a process of an incarnation that is still to come
+abbrev pub NoneOfTheFuture : World → Type 0
+NoneOfTheFuture w = (x y : Name) (t : TrunkId) (node : Node) (signal : Signal) (p : Pid) → (own : HasSide w x t y is_up)
+    → HasSide w y t x goes_on → is_good node own.side (Signalled signal) ≡ true → sender_of signal ≡ Some p
+    → (c : ℕ) × (creation_of w y ≡ Some c) × (p.node ≡ y) × (p.creation ≤ c)
+
+-- the creation that a side knows stays right in every later world while the peer's side of the trunk is not gone. So the receiver of
+-- an item is of the incarnation that its sender knew when it sent the item
+abbrev pub KnownForGood : World → Type 0
+KnownForGood w = (events : List Event) (reports : List Report) (later : World) → Runs w events reports later
+    → (x y : Name) (t : TrunkId) → (known : HasSide w x t y knows_peer) → HasSide later y t x goes_on
+    → creation_of later y ≡ Some known.side.peer_creation
+
 -- ---- An event is of one node. (own: the threads of nodes rest on it)
 
--- the other nodes stay as they are, and the node becomes what its event makes of it
+-- the other nodes stay unchanged, and the node becomes the result of its own event
 pub record IsOf (w : World) (e : Event) (s : Stepped) : Type 0 where
   pub names : s.world.names ≡ w.names
   pub others : (x : Name) → (x ≡ node_name e → ⊥) → node_of s.world.nodes x ≡ node_of w.nodes x
@@ -133,19 +166,19 @@ sent_to t x [] = []
 sent_to t x (Effect.Sent (Some u) y item ∷ rest) = (if eq_by_cmp place_cmp (t, x) (u, y) then item ∷ [] else []) ++ sent_to t x rest
 sent_to t x (effect ∷ rest) = sent_to t x rest
 
--- whatever comes next, what travels on a trunk to a node keeps its order: what the report says was sent, and nothing else, comes
--- behind it, and the first item is taken only as it comes to that node
+-- whatever happens next, the items in flight on a trunk to a node keep their order. The items that the report says were sent, and no
+-- others, are appended. The first item is removed only when it is delivered to that node
 abbrev pub KeepsOrder : World → Type 0
 KeepsOrder w = (e : Event) (t : TrunkId) (x : Name) → let s = step w e in let sent = sent_to t x (effects_of s.report) in
     (list_to s.world.lists t x ≡ list_to w.lists t x ++ sent)
     ⊎ (((word : ℕ) × (e ≡ Arrive t x word)) × (first : Item) × (rest : List Item) × (list_to w.lists t x ≡ first ∷ rest)
     × (list_to s.world.lists t x ≡ rest ++ sent))
 
--- items come behind those that are on their way
+-- items are appended to those in flight
 abbrev pub Grows : List Item → List Item → Type 0
 Grows old new = (more : List Item) × (new ≡ old ++ more)
 
--- the first one is taken
+-- the first one is removed
 abbrev pub LosesFirst : List Item → List Item → Type 0
 LosesFirst old new = (first : Item) × (rest : List Item) × (old ≡ first ∷ rest) × Grows rest new
 
@@ -153,13 +186,13 @@ LosesFirst old new = (first : Item) × (rest : List Item) × (old ≡ first ∷ 
 abbrev pub OwnListKept : Event → Name → (old new : List Item) → Type 0
 OwnListKept e x old new = Grows old new ⊎ (((e ≡ Local x) × LosesFirst old new) ⊎ ((e ≡ Start x) × (new ≡ [])))
 
--- so does what travels from a node to itself; a node that starts again begins with none
+-- the same for items from a node to itself. A node that restarts begins with none
 abbrev pub KeepsOwnOrder : World → Type 0
 KeepsOwnOrder w = (e : Event) (x : Name) → OwnListKept e x (local_list w x) (local_list ((step w e).world) x)
 
 -- ---- Frames. (ERTS User's Guide, Distribution Protocol, Protocol between Connected Nodes)
 
--- each signal that travels is one that erl_control writes a frame of
+-- erl_control can frame each signal in flight
 abbrev pub EverySignalFits : World → Type 0
 EverySignalFits w = (t : TrunkId) (x : Name) (signal : Signal) → Contains (list_to w.lists t x) (Signalled signal) → IsSendable signal
 

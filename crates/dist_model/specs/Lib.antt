@@ -22,11 +22,14 @@ pub mod Keeping
 pub mod World
 pub mod Runs
 pub mod Seen
+pub mod Creations
 pub mod Quiet
 pub mod Histories
 pub mod Causes
 pub mod Downs
+pub mod Traces
 pub mod Claims
 pub mod Fates
+pub mod Cookies
 pub mod Safety
 pub mod Schedules

@@ -1,6 +1,8 @@
--- What holds of every run, at every moment of it: the six claims together.
+-- The claims that hold at every moment of every run, together.
 use Rattle.dist_model.specs.Claims.{Agreement, AgreementInQuiet, AgreementWithin, NoLinkToItself}
+use Rattle.dist_model.specs.Claims.{ConnectedKnow, CreationsAreKnown, CreationsAreTold, KnownForGood, NoneOfTheFuture}
 use Rattle.dist_model.specs.Claims.{NoLinkToTheDead, NoUpBesideLosing, OneTrunk, PendingOnItsWay, PendingWithin}
+use Rattle.dist_model.specs.Cookies.{ChallengesAreDrawn, ConnectedByCookie, OneChallenge}
 use Rattle.dist_model.specs.Fates.{AnsweredOnce, DownOnce, DownOrRegistered, DownToTheOwner, DownsTellTrueCause}
 use Rattle.dist_model.specs.Fates.{ExitsTellTrueCause, ExitsTellTrueCauseWithin, NoDownWhereDemonitored, ReactsForTrueCause}
 use Rattle.dist_model.specs.Histories.{History}
@@ -11,24 +13,34 @@ pub record Safe (history : History) (world : World) : Type 0 where
   pub agreement_connected : Agreement world
   pub agreement_within : AgreementWithin world
   pub agreement_in_quiet : AgreementInQuiet world
-  -- pending: an end that waits for an acknowledgement will get it
+  -- pending: the acknowledgement that a pending end waits for is in flight, or its UNLINK_ID is
   pub pending_connected : PendingOnItsWay world
   pub pending_within : PendingWithin world
   -- no link to the dead
   pub no_link_to_the_dead : NoLinkToTheDead world
   pub no_link_to_itself : NoLinkToItself world
-  -- reactions: only where it held the link active, and for a true cause, which each EXIT that travels tells
+  -- reactions: only to a link that was active, and for a true cause, which each EXIT in flight carries
   pub reactions : ReactsForTrueCause history world
   pub exits_on_trunks : ExitsTellTrueCause history world
   pub exits_within : ExitsTellTrueCauseWithin history world
-  -- monitors: one answer and one DOWN a reference, to the owner, for the incarnation that it named, with a true cause, and no DOWN
-  -- where the monitor was taken back; and no monitor is forgotten
+  -- monitors: at most one answer and one DOWN for a reference, to the owner, for the incarnation that it named, with a true cause. No
+  -- DOWN after Demonitor, and no monitor is forgotten
   pub answered_once : AnsweredOnce history world
   pub down_once : DownOnce history world
   pub down_to_the_owner : DownToTheOwner history world
   pub downs_tell_true_cause : DownsTellTrueCause history world
   pub no_down_where_demonitored : NoDownWhereDemonitored history world
   pub down_or_registered : DownOrRegistered history world
-  -- one trunk: two nodes are connected by one, and by none while records of a lost connection are left
+  -- one trunk: at most one connects two nodes, and none does while records of a lost connection remain
   pub one_trunk : OneTrunk world
   pub no_up_beside_losing : NoUpBesideLosing world
+  -- cookies: a connected peer has answered the one challenge that was sent to it, with the digest of the node's own cookie
+  pub connected_by_cookie : ConnectedByCookie history world
+  pub challenges_are_drawn : ChallengesAreDrawn history world
+  pub one_challenge : OneChallenge history world
+  -- creations: the creation that a side knows of its peer is the peer's, in any later world too while the peer's side isn't gone
+  pub creations_are_told : CreationsAreTold world
+  pub creations_are_known : CreationsAreKnown world
+  pub connected_know : ConnectedKnow world
+  pub none_of_the_future : NoneOfTheFuture world
+  pub known_for_good : KnownForGood world

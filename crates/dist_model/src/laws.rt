@@ -1,8 +1,9 @@
-//! Laws of the abstract world. Each function does nothing: its contract is the law.
+//! Laws of the abstract world. Each function has an empty body: its contract is the law.
 //!
-//! A law of `Always` is of every world to which any list of events leads, from any opening world,
-//! with or without memory; and so of each moment of every run. The others are of all worlds, or of
-//! the definitions.
+//! `Always` speaks of every world to which any list of events leads, from any opening world, with or
+//! without memory. A run's beginning is a run, so `Always` covers each moment of every run.
+//! `Throughout` adds the events and reports before that moment, and `ThroughoutTraced` their worlds
+//! too. The other laws are about all worlds, or about the definitions themselves.
 ghost use Rattle.std.specs.Prelude.{◌≡◌, ◌↔◌, ℕ, List, [], ◌∷◌, ◌++◌, length, true, false, Some, None};
 ghost use Rattle.std.specs.FinMap as fm;
 ghost use Rattle.erl_term.specs.declared.term.Pid.{Pid};
@@ -42,90 +43,134 @@ ghost use Rattle.dist_model.specs.Keeping.{Bearings, ComesOfOthers, CountsOwn, I
 ghost use Rattle.dist_model.specs.Work.{Work, at_work};
 ghost use Rattle.dist_model.specs.Seen.{end_between, AreConnected};
 ghost use Rattle.dist_model.specs.Schedules as schedule;
-ghost use Rattle.dist_model.specs.Claims.{Agreement, AgreementWithin, AgreementInQuiet, PendingOnItsWay, PendingWithin, NoLinkToTheDead, NoLinkToItself, LinkNeedsConnection, LivingMeans, SpawnedLivesOrEnded, DownHoldsNothing, OneTrunk, NoUpBesideLosing, EventIsLocal, KeepsOrder, KeepsOwnOrder, EverySignalFits, EverySignalFitsWithin};
+ghost use Rattle.dist_model.specs.Claims.{Agreement, AgreementWithin, AgreementInQuiet, PendingOnItsWay, PendingWithin, NoLinkToTheDead, NoLinkToItself, LinkNeedsConnection, LivingMeans, SpawnedLivesOrEnded, DownHoldsNothing, OneTrunk, NoUpBesideLosing, CreationsAreTold, CreationsAreKnown, ConnectedKnow, NoneOfTheFuture, KnownForGood, EventIsLocal, KeepsOrder, KeepsOwnOrder, EverySignalFits, EverySignalFitsWithin};
 ghost use Rattle.dist_model.specs.Histories.{Throughout, told, history};
 ghost use Rattle.dist_model.specs.Causes.{Reacts};
 ghost use Rattle.dist_model.specs.Fates.{ReactsRightly, DownsRightly, ReactsForTrueCause, ExitsTellTrueCause, ExitsTellTrueCauseWithin, AnsweredOnce, DownOnce, DownToTheOwner, NoDownWhereDemonitored, DownsTellTrueCause, DownOrRegistered};
 ghost use Rattle.dist_model.specs.Due.{DueFirst};
+ghost use Rattle.dist_model.specs.Cookies.{ChallengesAreDrawn, ConnectedByCookie, OneChallenge, StrangersStayApart};
+ghost use Rattle.dist_model.specs.Traces.{MonitorsAreTakenAsCalled, MonitorsKnowTheirNode, MonitorsKnowTheirOwnNode, ThroughoutTraced};
 ghost use Rattle.dist_model.specs.Safety.{Safe};
 
-/// Of two living processes both hold their link active, or neither does, once all that travels
-/// between them has come: on one node, over a connection, and whenever nothing travels. (Reference
-/// Manual, Processes, Links; ERTS User's Guide, Distribution Protocol, New Link Protocol.)
+/// Proves agreement: two living processes both hold their link active, or neither does, once
+/// everything in flight between them has been delivered. The clauses cover connected nodes
+/// (`connected`), one node (`within`), and any two processes between which nothing is in flight
+/// (`quiet`). (Reference Manual, Processes, Links; ERTS User's Guide, Distribution Protocol, New
+/// Link Protocol.)
 pub fn agreement()
     ensures connected { Always Agreement }
     ensures within { Always AgreementWithin }
     ensures quiet { Always AgreementInQuiet }
 {}
 
-/// Where an end waits for an acknowledgement, its UNLINK_ID is the last LINK or UNLINK_ID on the way
-/// to the partner, or the acknowledgement is on its way back. (ERTS User's Guide, Distribution
-/// Protocol, New Link Protocol.)
+/// Proves the state of a pending end: its UNLINK_ID is the last LINK or UNLINK_ID in flight to the
+/// partner, or the acknowledgement is in flight back. (ERTS User's Guide, Distribution Protocol,
+/// New Link Protocol.)
 pub fn pending()
     ensures connected { Always PendingOnItsWay }
     ensures within { Always PendingWithin }
 {}
 
-/// Whenever nothing travels, no living process is linked to one that isn't living, and none is
-/// ever linked to itself. (Reference Manual, Processes, Links.)
+/// Proves that no living process holds a link to a dead one while nothing is in flight between
+/// them, and that no process is ever linked to itself. (Reference Manual, Processes, Links.)
 pub fn no_link_to_the_dead()
     ensures quiet { Always NoLinkToTheDead }
     ensures itself { Always NoLinkToItself }
 {}
 
-/// A link, be it one that waits for its acknowledgement, is of a living process, and to a process of
-/// its own node or of one that its node is connected to, or whose records it hasn't swept yet.
-/// (Reference Manual, Processes, Links; Distributed Erlang.)
+/// Proves that each link end, pending ones included, belongs to a living process. Its partner is on
+/// the same node, or on a node with a connection that is up or not yet swept. (Reference Manual,
+/// Processes, Links; Distributed Erlang.)
 pub fn links_need_a_connection()
     ensures connected { Always LinkNeedsConnection }
 {}
 
-/// A process is living only on a node that is up, whose running incarnation has spawned it; and
-/// whoever that has spawned is living, or the node keeps why it ended. A node that is down keeps no
-/// processes, no links and no monitors. (Reference Manual, Processes, Process Creation and
-/// Termination; ERTS User's Guide, External Term Format, NEW_PID_EXT.)
+/// Proves the bookkeeping of processes. A living process was spawned by the running incarnation of
+/// a node that is up. Each process that this incarnation spawned is alive, or the node keeps its
+/// exit reason. A node that is down keeps no processes, links or monitors. (Reference Manual,
+/// Processes, Process Creation and Termination; ERTS User's Guide, External Term Format,
+/// NEW_PID_EXT.)
 pub fn living_means()
     ensures living { Always LivingMeans }
     ensures spawned { Always SpawnedLivesOrEnded }
     ensures down { Always DownHoldsNothing }
 {}
 
-/// Two nodes are connected by one trunk, and by none while records of a lost connection between
-/// them are left. (ERTS User's Guide, Distribution Protocol, Distribution Handshake.)
+/// Proves that two nodes are connected by at most one trunk, and by none while records of a lost
+/// connection between them remain. (ERTS User's Guide, Distribution Protocol, Distribution
+/// Handshake.)
 pub fn one_trunk()
     ensures one { Always OneTrunk }
     ensures swept { Always NoUpBesideLosing }
 {}
 
-/// What stands first on a trunk's list to a node is due at its side: signals and ticks at a side that
-/// is up, messages of the handshake for its role at one that isn't up yet. (ERTS User's Guide,
+/// Proves that a connected peer knows the cookie. Take a node whose side is up, or lost and not yet
+/// swept. It drew a challenge for this trunk and sent it to the peer. After that the peer sent the
+/// digest of the node's cookie over this challenge, which equals the digest of the peer's own
+/// cookie. A node draws at most one challenge for a trunk, and sends only challenges that it drew.
+/// Nodes whose digests differ for every challenge are never connected. (ERTS User's Guide,
 /// Distribution Protocol, Distribution Handshake.)
+pub fn connected_by_cookie()
+    ensures shown { Throughout ConnectedByCookie }
+    ensures drawn { Throughout ChallengesAreDrawn }
+    ensures one { Throughout OneChallenge }
+    ensures apart { Always StrangersStayApart }
+{}
+
+/// Proves that the first item in flight to a side is due there: signals and ticks at a side that is
+/// up, handshake messages for its role at one that is not up yet. (ERTS User's Guide, Distribution
+/// Protocol, Distribution Handshake.)
 pub fn due_first()
     ensures first { Always DueFirst }
 {}
 
-/// Each signal that travels, on a trunk or from a node to itself, is one that erl_control writes a
-/// frame of: what it carries fits, and an id is 1 to 2^64 - 1. (ERTS User's Guide, Distribution
+/// Proves that a side knows its peer's creation. While a node's side is not gone, each creation
+/// that it told on the trunk, in flight or received, is that of its running incarnation. Connected
+/// nodes therefore know each other's creation, and accept no signal from a process of a later
+/// incarnation. The known creation stays right while the peer's side is not gone, in any later
+/// world too. (ERTS User's Guide, Distribution Protocol, Distribution Handshake.)
+pub fn peers_are_known()
+    ensures told { Always CreationsAreTold }
+    ensures known { Always CreationsAreKnown }
+    ensures connected { Always ConnectedKnow }
+    ensures future { Always NoneOfTheFuture }
+    ensures lasting { Always KnownForGood }
+{}
+
+/// Proves that a MONITOR_P reaches the incarnation that its caller's node knew. Take a MONITOR_P in
+/// flight to a node whose side is not gone. When its owner called Monitor, the owner's node knew
+/// the target's node in the creation that it still has. The same holds within one node, and for
+/// each MONITOR_P at the moment of its delivery. (ERTS User's Guide, Distribution Protocol,
+/// Distribution Handshake; Reference Manual, Processes, Monitors.)
+pub fn monitors_know_their_node()
+    ensures travelling { ThroughoutTraced MonitorsKnowTheirNode }
+    ensures within { ThroughoutTraced MonitorsKnowTheirOwnNode }
+    ensures taken { ThroughoutTraced MonitorsAreTakenAsCalled }
+{}
+
+/// Proves that each signal in flight, on a trunk or within a node, is one that erl_control can
+/// frame: its message or reason fits, and its id is 1 to 2^64 - 1. (ERTS User's Guide, Distribution
 /// Protocol, Protocol between Connected Nodes; New Link Protocol.)
 pub fn travelling_signals_fit()
     ensures travelling { Always EverySignalFits }
     ensures within { Always EverySignalFitsWithin }
 {}
 
-/// A process reacts to the exit of a link only where it held it active, or where it links in that
-/// very event towards a node that isn't reached; and only for a true reason, which every EXIT that
-/// travels tells: the partner ended with it, there is no such process, or there is no connection.
-/// (Reference Manual, Processes, Links and Receiving Exit Signals.)
+/// Proves that a process reacts to the exit of a link only if it held that link active, or if it
+/// links in this very event to a node that is not reachable. The reason that it sees is true: the
+/// partner ended with it, no such process exists, or no connection exists. Each EXIT in flight
+/// carries such a reason. (Reference Manual, Processes, Links and Receiving Exit Signals.)
 pub fn reactions()
     ensures cause { Throughout ReactsForTrueCause }
     ensures travelling { Throughout ExitsTellTrueCause }
     ensures within { Throughout ExitsTellTrueCauseWithin }
 {}
 
-/// A reference is the answer of at most one Monitor call, and at most one DOWN comes of it: to the
-/// process that made the call, for the incarnation that it named, and for a true reason. None comes
-/// where the monitor was taken back. Else, whenever nothing travels, the DOWN has come to a living
-/// owner, or the target is living and registered. (Reference Manual, Processes, Monitors.)
+/// Proves the promises of monitors. A reference answers at most one Monitor call. At most one DOWN
+/// carries it: to the process that made the call, for the incarnation that the call named, with a
+/// true reason. No DOWN comes once Demonitor succeeded. Otherwise, while nothing is in flight
+/// between a living owner and its target, the DOWN was delivered, or the target is alive and
+/// registered. (Reference Manual, Processes, Monitors.)
 pub fn monitors()
     ensures answered { Throughout AnsweredOnce }
     ensures once { Throughout DownOnce }
@@ -135,15 +180,16 @@ pub fn monitors()
     ensures quiet { Throughout DownOrRegistered }
 {}
 
-/// The safety of every run: agreement, pending, no link to the dead, reactions, monitors and one
-/// trunk, at each moment of whatever happens, from any opening world, with or without memory.
+/// Proves the safety of every run, `Safe`: agreement, pending, no link to the dead, reactions,
+/// monitors, one trunk, the cookie, and creations. It holds at each moment of whatever happens,
+/// from any opening world, with or without memory.
 pub fn every_run_is_safe()
     ensures safe { Throughout Safe }
 {}
 
-/// Each report of a run is told rightly: the events before it lead to a world, and whatever exit of
-/// a link or DOWN the report tells has a true cause in that world and what had happened by then. A
-/// want of memory tells none. (Reference Manual, Processes, Links and Monitors.)
+/// Proves each report of a run right. The events before it lead to a world. Each exit of a link or
+/// DOWN in the report has a true cause in that world and its history. A report of `OutOfMemory` has
+/// none. (Reference Manual, Processes, Links and Monitors.)
 pub fn every_report_is_safe()
     ensures told { (nodes : List (Name × List ℕ)) (before behind : List Event) (event : Event)
         (earlier later : List Report) (report : Report) (world : World) →
@@ -152,19 +198,19 @@ pub fn every_report_is_safe()
         ReactsRightly (told before earlier []) now event report × DownsRightly (told before earlier []) now event report }
 {}
 
-/// Whether nothing travels between two processes can be tested.
+/// Proves that `is_quiet` decides `Quiet`.
 pub fn quiet_test()
     ensures test { (world : World) (p q : Pid) → (is_quiet world p q ≡ true) ↔ Quiet world p q }
 {}
 
-/// Events lead somewhere, whatever they are: where memory never wants, to the world of their steps.
+/// Proves that every list of events runs: with ample memory it leads to the world of its steps.
 pub fn events_run()
     ensures runs { (events : List Event) (world : World) → (reports : List Report) × Runs world events reports (run events world) }
 {}
 
-/// A process that links itself or takes its link back makes of its end what link_core's table says,
-/// whatever the end was, and sends what the table sends. Where its link isn't active, taking it back
-/// sends nothing and draws no id. (ERTS User's Guide, Distribution Protocol, New Link Protocol.)
+/// Proves that Link and Unlink follow link_core's table, for any end: the end becomes the table's,
+/// and the signal sent is the table's. Unlink of an end that is not active sends nothing and draws
+/// no id. (ERTS User's Guide, Distribution Protocol, New Link Protocol.)
 pub fn calls_follow_the_table()
     ensures link { (node : Node) (p q : Pid) → reaches node q.node ≡ true →
         link_by (end_of node p q) p q (at_work node) ≡ links_by_table (end_of node p q) p q (at_work node) }
@@ -180,25 +226,26 @@ pub fn calls_follow_the_table()
         unlink_by (end_of node p q) p q (at_work node) ≡ Accepts Answer.Done (at_work node) }
 {}
 
-/// An event is of one node: the others stay as they are, and it becomes what its own event makes of
-/// it, which depends on it, on the names and on the first item of the list alone. (own)
+/// Proves that an event changes only its own node. The new node depends on the old one, the names,
+/// and the first item in flight. (own)
 pub fn event_is_local()
     ensures local { (world : World) → EventIsLocal world }
 {}
 
-/// What travels to a node keeps its order, on a trunk and from itself. (Reference Manual, Processes, Delivery of Signals.)
+/// Proves that items to a node keep their order, on a trunk and from itself. (Reference Manual,
+/// Processes, Delivery of Signals.)
 pub fn order_is_kept()
     ensures kept { (world : World) → KeepsOrder world }
     ensures own { (world : World) → KeepsOwnOrder world }
 {}
 
-/// An event that is refused changes nothing.
+/// Proves that a refused event changes nothing.
 pub fn refused_changes_nothing()
     ensures unchanged { (world new : World) (event : Event) (refusal : Refusal) → Goes world event (Refused refusal) new → new ≡ world }
 {}
 
-/// Two nodes of one cookie connect, and a process of each comes to hold a link to the other active.
-/// Then nothing travels between them.
+/// Shows a link: two nodes of one cookie connect, a process of each holds the link active, and then
+/// nothing is in flight between them.
 pub fn link_comes_about()
     ensures here { (cookie : List ℕ) (own other : ℕ) → let w = run (schedule.linked_over_a_trunk own other) (schedule.two_nodes cookie) in
         end_between w schedule.here schedule.there ≡ End.Active }
@@ -208,7 +255,7 @@ pub fn link_comes_about()
         Quiet w schedule.here schedule.there }
 {}
 
-/// One of them takes the link back, and neither holds it.
+/// Shows an unlink: one of the two takes the link back, and neither holds it.
 pub fn link_is_taken_back()
     ensures here { (cookie : List ℕ) (own other : ℕ) → let w = run (schedule.unlinked_over_a_trunk own other) (schedule.two_nodes cookie) in
         end_between w schedule.here schedule.there ≡ End.None }
@@ -216,8 +263,8 @@ pub fn link_is_taken_back()
         end_between w schedule.there schedule.here ≡ End.None }
 {}
 
-/// Their connection is lost and swept, and with it the link; and another connection comes up, on
-/// which nothing travels between them.
+/// Shows a new connection: the old one is lost and swept together with its link, and another comes
+/// up with nothing in flight between the two processes.
 pub fn connection_comes_again()
     ensures connected { (cookie : List ℕ) (own other : ℕ) → let w = run (schedule.connected_again own other) (schedule.two_nodes cookie) in
         AreConnected w schedule.first (schedule.trunk 2) schedule.second }
@@ -229,32 +276,32 @@ pub fn connection_comes_again()
         Quiet w schedule.here schedule.there }
 {}
 
-/// Of two processes that are linked one ends with any reason, and the other reacts to the exit of
-/// its link, with that reason.
+/// Shows an exit signal: one of two linked processes ends with any reason, and the other reacts
+/// with that reason.
 pub fn exit_comes()
     ensures reacts { (cookie : List ℕ) (own other : ℕ) (reason : Data) → fits reason ≡ true →
         let w = run (schedule.linked_to_the_end own other reason) (schedule.two_nodes cookie) in
         Reacts schedule.here schedule.there reason ((step w (Arrive (schedule.trunk 1) schedule.first 0)).report) }
 {}
 
-/// A process monitors one of another node, which ends with any reason, and one DOWN with that reason
-/// comes to it.
+/// Shows a monitor: a process monitors one of another node, which ends with any reason. One DOWN
+/// with that reason is delivered.
 pub fn monitor_tells()
     ensures down { (cookie : List ℕ) (own other : ℕ) (reason : Data) → fits reason ≡ true →
         downs schedule.reference (history (schedule.monitored_to_the_end own other reason) (schedule.two_nodes cookie)) ≡
         (record { owner = schedule.here; target = schedule.there; info = reason }) ∷ [] }
 {}
 
-/// A node stops, starts and spawns a process, and is dialed again. Who then monitors the process that
-/// had the same id in the earlier incarnation gets one DOWN, with noproc.
+/// Shows a restart: a node stops, starts, spawns a process, and is dialed again. A monitor of the
+/// process with the same id in the earlier incarnation gives one DOWN with noproc.
 pub fn restart_tells()
     ensures down { (cookie : List ℕ) (own other : ℕ) →
         downs schedule.reference (history (schedule.monitored_after_a_restart own other) (schedule.two_nodes cookie)) ≡
         (record { owner = schedule.here; target = schedule.there; info = noproc }) ∷ [] }
 {}
 
-/// A process takes its link back, and its partner ends before it hears of that. The partner's EXIT
-/// comes, and isn't reacted to.
+/// Shows a late EXIT: a process takes its link back, and its partner ends before it hears of it.
+/// The partner's EXIT is delivered and ignored.
 pub fn late_exit()
     ensures waiting { (cookie : List ℕ) (reason : Data) → fits reason ≡ true →
         let w = run (schedule.unlinked_before_the_end reason) (schedule.two_nodes cookie) in
@@ -264,14 +311,16 @@ pub fn late_exit()
         (step w (Local schedule.first)).report ≡ Reported (Answer.Took Kind.Exit) [] }
 {}
 
-/// Who links itself to a process of its own node that has ended reacts to an exit with noproc.
+/// Shows a link to a process of the same node that has ended: the caller reacts to an exit with
+/// noproc.
 pub fn dead_partner()
     ensures reacts { (cookie : List ℕ) (reason : Data) → fits reason ≡ true →
         let w = run (schedule.linked_to_the_dead reason) (schedule.two_nodes cookie) in
         Reacts schedule.here schedule.beside noproc ((step w (Local schedule.first)).report) }
 {}
 
-/// A process ends, and its monitor is taken back before the news of that comes. No DOWN is put.
+/// Shows a late MONITOR_P_EXIT: a process ends, and its monitor is taken back before the news is
+/// delivered. No DOWN is put.
 pub fn late_down()
     ensures none { (cookie : List ℕ) (reason : Data) → fits reason ≡ true →
         let w = run (schedule.demonitored_after_the_end reason) (schedule.two_nodes cookie) in
@@ -279,8 +328,8 @@ pub fn late_down()
         Reported (Answer.Took Kind.MonitorExit) [] }
 {}
 
-/// Two nodes dial each other before either hears of it. The attempt of the node with the greater name
-/// comes up, and the other is gone at both.
+/// Shows two crossing dials: the attempt of the node with the greater name comes up, and the other
+/// is gone at both nodes.
 pub fn dials_cross()
     ensures connected { (cookie : List ℕ) (own other word : ℕ) →
         let w = run (schedule.crossing own other word) (schedule.two_nodes cookie) in
@@ -291,8 +340,8 @@ pub fn dials_cross()
         HasSide w schedule.second (schedule.trunk 1) schedule.first is_gone }
 {}
 
-/// A node that alone has noticed a loss dials again. The other's side waits while the old connection's
-/// link is still held, and once that is swept the connection comes up.
+/// Shows a waiting dial: a node that alone noticed a loss dials again. The peer's side waits while
+/// it still holds the old connection's link. Once that is swept, the connection comes up.
 pub fn dial_waits()
     ensures parked { (cookie : List ℕ) (own other : ℕ) →
         let w = run (schedule.waiting_over_a_trunk own other) (schedule.two_nodes cookie) in
@@ -304,8 +353,8 @@ pub fn dial_waits()
         AreConnected w schedule.first (schedule.trunk 2) schedule.second }
 {}
 
-/// The DOWN of a reference is told apart: its owner, its target and its reason; and what is told
-/// apart is such a message. (Reference Manual, Processes, Monitors.)
+/// Proves that a DOWN message yields its owner, target and reason, and that only such a message
+/// does. (Reference Manual, Processes, Monitors.)
 pub fn downs_are_told()
     ensures told { (r : Reference) (owner target : Pid) (info : Data) →
         down_in r owner (down_term r target info) ≡ (record { owner = owner; target = target; info = info }) ∷ [] }
@@ -313,51 +362,52 @@ pub fn downs_are_told()
         (down.owner ≡ owner) × (message ≡ down_term r down.target down.info) }
 {}
 
-/// A beginning of a run is a run: between any two of its events there is a world, to which the events
-/// before lead, and from which those behind do.
+/// Proves that a beginning of a run is a run: between any two of its events lies a world, to which
+/// the earlier events lead, and from which the later events start.
 pub fn moments()
     ensures between { (before behind : List Event) (reports : List Report) (world new : World) → Runs world (before ++ behind) reports new →
         (earlier : List Report) × (later : List Report) × (now : World) × (reports ≡ earlier ++ later) × Runs world before earlier now × Runs now behind later new }
 {}
 
-/// What one process tells another of their link is heard of the signal that tells it, and of no
-/// signal between others.
+/// Proves that a signal between two processes tells their link news, and that a signal between
+/// others tells none.
 pub fn news_is_told()
     ensures told { (p q : Pid) (told : LinkNews) → news_in p q (Signalled (telling p q told)) ≡ told ∷ [] }
     ensures others { (p q from to : Pid) (told : LinkNews) → ((from ≡ p) × (to ≡ q) → ⊥) → news_in p q (Signalled (telling from to told)) ≡ [] }
 {}
 
-/// Whatever comes to a node, it keeps its name, and its sides and their peers, but where it dials on a
-/// trunk that it has a side of. What it sends on a trunk goes to the peer of the trunk's side. A new
-/// side is one that an item comes to, towards the dialer of its trunk, or one that the node dials,
-/// towards another node. (ERTS User's Guide, Distribution Protocol, Distribution Handshake.)
+/// Proves that a node keeps its name, its sides and their peers at every event, unless it dials on
+/// a trunk that it already has a side of. It sends on a trunk only to the peer of that trunk's
+/// side. A new side is one on which an item arrives, towards the trunk's dialer, or one that the
+/// node dials, towards another node. (ERTS User's Guide, Distribution Protocol, Distribution
+/// Handshake.)
 pub fn node_keeps_its_bearings()
     ensures kept { (names : List Name) (node : Node) (now : event.NodeEvent) (answer : Answer) (work : Work) →
         at_node names node now ≡ Accepts answer work → Bearings node now work }
 {}
 
-/// At a node that is up, an item that comes to a side that isn't over is never refused: it is taken,
-/// or it breaks the side.
+/// Proves that a node that is up never refuses an item that arrives at a side that is not over: it
+/// takes the item, or the side breaks.
 pub fn arrival_is_taken()
     ensures taken { (names : List Name) (node : Node) (trunk : TrunkId) (side : TrunkSide) (item : Item) (word : ℕ) →
         node.up ≡ true → fm.get node.sides trunk ≡ Some side → is_over side.state ≡ false →
         IsAccepted (at_node names node (event.Arrive trunk (Some item) word)) }
 {}
 
-/// A new node is steady, and a steady node stays so, whatever comes to it: of its sides towards one
-/// peer at most one dials, has accepted, is up or is losing, and at most one is an attempt that isn't
-/// up yet; and its links, the monitors that it owns and those that others have of its processes are
-/// of living processes. (ERTS User's Guide, Distribution Protocol, Distribution Handshake; Reference
-/// Manual, Processes, Links and Monitors.)
+/// Proves that a new node is steady and that every event keeps it so. Of its sides towards one
+/// peer, at most one dials, has accepted, is up or is losing, and at most one is an attempt that is
+/// not up yet. Its links and its monitors belong to living processes. (ERTS User's Guide,
+/// Distribution Protocol, Distribution Handshake; Reference Manual, Processes, Links and Monitors.)
 pub fn nodes_stay_steady()
     ensures new { (name : Name) (cookie : List ℕ) → Steady (new_node name cookie) }
     ensures kept { (names : List Name) (node : Node) (now : event.NodeEvent) (answer : Answer) (work : Work) →
         Steady node → at_node names node now ≡ Accepts answer work → Steady work.node }
 {}
 
-/// Where a node has dialed each trunk of its own that it has a side of, the next that it dials is new
-/// to it, and so all its sides stay, with their peers. A new node is so, and any node stays so, but
-/// where an item comes of a trunk of its own that it has no side of. (own)
+/// Proves that the next trunk that a node dials is new to it, so all its sides keep their peers.
+/// The premise is that the node dialed each trunk of its own that it has a side of. A new node
+/// meets it. Every event keeps it, except an arrival on a trunk of the node's own that it has no
+/// side of. (own)
 pub fn own_trunks_are_counted()
     ensures new { (name : Name) (cookie : List ℕ) → CountsOwn (new_node name cookie) }
     ensures kept { (names : List Name) (node : Node) (now : event.NodeEvent) (answer : Answer) (work : Work) →
