@@ -1,14 +1,14 @@
--- Opening worlds, and what comes of a list of events.
+-- Opening worlds, and the worlds that a list of events leads to.
 use Rattle.std.specs.Prelude.{map, ◌≡◌, ◌⊎◌, ℕ, true, List, [], ◌∷◌}
 use Rattle.std.specs.FinMap as fm
 use Rattle.dist_model.specs.Names.{Name}
 use Rattle.dist_model.specs.Node.{Node}
 use Rattle.dist_model.specs.Work.{report}
-use Rattle.dist_model.specs.World.{Event, Refused, Report, World, step}
+use Rattle.dist_model.specs.World.{Event, Refused, Report, Reported, World, step}
 use Rattle.erl_names.specs.Minted.{nothing_drawn}
 use Rattle.erl_term.specs.declared.refusal.Refusal.{Refusal}
 
--- a node that is up, in its first incarnation, with nothing done yet
+-- a node that is up, in its first incarnation, before its first event
 abbrev pub new_node : Name → List ℕ → Node
 new_node name cookie = record {
   mint = nothing_drawn name 1;
@@ -23,34 +23,40 @@ new_node name cookie = record {
   local = [];
 }
 
--- of names and cookies
+-- the world of new nodes with these names and cookies
 abbrev pub opening : List (Name × List ℕ) → World
 opening nodes = record { names = map (λ node. node.0) nodes; nodes = map (λ node. new_node node.0 node.1) nodes; lists = fm.empty }
 
--- what an event may come to: its step, or memory was wanting and nothing has changed
+-- the event was not refused
+abbrev pub IsReported : Report → Type 0
+IsReported (Refused why) = ⊥
+IsReported (Reported answer effects) = Unit {0}
+
+-- the result of an event: its step, or OutOfMemory with no change. OutOfMemory comes only for an event that the step does not refuse,
+-- so every other refusal takes precedence
 abbrev pub Goes : World → Event → Report → World → Type 0
 Goes world event report new =
     ((report ≡ (step world event).report) × (new ≡ (step world event).world))
-    ⊎ ((report ≡ Refused Refusal.OutOfMemory) × (new ≡ world))
+    ⊎ ((report ≡ Refused Refusal.OutOfMemory) × (new ≡ world) × IsReported (step world event).report)
 
--- the events lead from one world to the other, with a report of each
+-- the events lead from one world to the other, with a report for each
 abbrev pub Runs : World → List Event → List Report → World → Type 0
 Runs world [] [] new = new ≡ world
 Runs world [] (report ∷ reports) new = ⊥
 Runs world (event ∷ events) [] new = ⊥
 Runs world (event ∷ events) (report ∷ reports) new = (next : World) × Goes world event report next × Runs next events reports new
 
--- the same where memory never wants
+-- the world that the events lead to with ample memory
 abbrev pub run : List Event → World → World
 run [] world = world
 run (event ∷ events) world = run events ((step world event).world)
 
--- and what is reported then
+-- and their reports
 abbrev pub reports_of : List Event → World → List Report
 reports_of [] world = []
 reports_of (event ∷ events) world = (step world event).report ∷ reports_of events ((step world event).world)
 
--- whatever happens, and so at each moment of whatever happens
+-- in every world that a run leads to, and so at each moment of every run
 abbrev pub Always : (World → Type 0) → Type 0
 Always Holds = (nodes : List (Name × List ℕ)) (events : List Event) (reports : List Report) (world : World)
     → Runs (opening nodes) events reports world → Holds world
