@@ -1,3 +1,5 @@
 pub mod Fronts
 pub mod Whole
 pub mod Taken
+pub mod Cut
+pub mod Taking

@@ -8,5 +8,5 @@
 mod laws;
 mod stream_side;
 
-pub use laws::pieces_are_the_stream;
+pub use laws::{fed_in_pieces, pieces_are_the_stream};
 pub use stream_side::StreamSide;

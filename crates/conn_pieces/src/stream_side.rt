@@ -1,8 +1,9 @@
 //! A side of a connection that reads a stream.
-ghost use Rattle.std.specs.Prelude.{◌≡◌, ◌↔◌, ◌++◌, [], false, IfOk, IsErrOf, OnErr, OnOk};
+ghost use Rattle.std.specs.Prelude.{◌≡◌, ◌↔◌, ◌⊎◌, ◌++◌, ◌∷◌, [], false, true, List, IfErr, IfOk, IsErrOf, OnErr, OnOk};
 ghost use Rattle.conn_core.specs.Arrivals.{ArrivalDue, TakesMemory};
 ghost use Rattle.conn_core.specs.Side.{listens, state_of};
-ghost use Rattle.conn_pieces.specs.Streams.{behind, standing_as};
+ghost use Rattle.conn_pieces.specs.Streams.{behind, standing_as, Gives, IsAtRest};
+ghost use Rattle.conn_core.specs.declared.arrival.Arrival.{Arrival};
 ghost use Rattle.erl_term.specs.declared.refusal.Refusal.TheVariants.{NotLive, OutOfMemory};
 
 use conn_core::{Arrival, Side};
@@ -10,18 +11,18 @@ use erl_handshake::Identity;
 use erl_term::Refusal;
 use std::alloc::{AllocError, Global};
 
-/// A side of a connection, and the bytes that have come from the peer, in whatever pieces, and that it
-/// hasn't taken yet. (ERTS User's Guide, Distribution Protocol, Distribution Handshake and Protocol
-/// between Connected Nodes.)
+/// A side of a connection, and the bytes that have come from the peer, in any pieces, and that the
+/// side hasn't taken yet. (ERTS User's Guide, Distribution Protocol, Distribution Handshake and
+/// Protocol between Connected Nodes.)
 #[derive(Debug, Drop)]
 pub struct StreamSide {
-    /// The side. Its node may have it stand otherwise at any time.
+    /// The side. Its node may set its standing at any time.
     pub side: Side,
     kept: Vec<u8>,
 }
 
 impl StreamSide {
-    /// A side from whose peer nothing has come yet. Takes no memory.
+    /// Creates a side to which no byte has come yet. Allocates nothing.
     pub fn new(alloc: Global, side: Side) -> Self
         ensures side { result.side ≡ side }
         ensures kept { result.kept.items ≡ [] }
@@ -32,17 +33,17 @@ impl StreamSide {
         }
     }
 
-    /// The bytes that weren't taken yet.
+    /// Returns the bytes that the side hasn't taken yet.
     pub fn kept(&self) -> &[u8]
         ensures { result.now ≡ self.now.kept.items }
     {
         self.kept.as_slice()
     }
 
-    /// A piece more has come, behind the others.
+    /// Appends a piece of any length.
     ///
     /// # Errors
-    /// Where there is no memory for it. Then nothing has changed.
+    /// [`AllocError`] if there is no memory for it. On error nothing changes.
     pub fn feed(&mut self, piece: &[u8]) -> Result<(), AllocError>
         ensures ok { OnOk result (self.new.kept.items ≡ self.old.kept.items ++ piece.now) }
         ensures err { OnErr result (self.new.kept.items ≡ self.old.kept.items) }
@@ -51,11 +52,12 @@ impl StreamSide {
         self.kept.extend_from_slice(piece)
     }
 
-    /// Takes what stands at the front: what it comes to at the side, as [`Side::judge`] says, which then
-    /// stands so. None where more bytes are needed. Bytes that can't be read break the side, and stay.
+    /// Takes the item at the front, as [`Side::judge`] reads it, and sets the side's standing.
+    /// Returns `None` if more bytes are needed. Malformed bytes break the side, and stay.
     ///
     /// # Errors
-    /// As those of [`Side::judge`]. Then nothing has changed.
+    /// [`Refusal::NotLive`] exactly if the side takes nothing more, else [`Refusal::OutOfMemory`]
+    /// at a whole message or signal. On error nothing changes.
     pub fn next(
         &mut self,
         alloc: Global,
@@ -67,6 +69,7 @@ impl StreamSide {
         ensures stands { IfOk result (λ due. self.new.side ≡ standing_as due self.old.side) }
         ensures not_live { IsErrOf result NotLive ↔ (listens (state_of self.old.side.standing) ≡ false) }
         ensures memory { IsErrOf result OutOfMemory → TakesMemory self.old.side.standing self.old.kept.items }
+        ensures only { IfErr result (λ e. (e ≡ NotLive) ⊎ (e ≡ OutOfMemory)) }
         ensures err { OnErr result (self.new ≡ self.old) }
     {
         let due = self.side.judge(alloc, own, self.kept.as_slice(), word)?;
@@ -75,5 +78,50 @@ impl StreamSide {
             self.side.standing = arrival.standing;
         }
         Ok(due)
+    }
+
+    /// Takes every whole item, in order, as [`StreamSide::next`] does, until more bytes are needed
+    /// or the side takes nothing more. Appends the items to `arrivals`.
+    ///
+    /// # Errors
+    /// [`Refusal::OutOfMemory`]. On error the items taken so far stand in `arrivals`, and the rest
+    /// of the bytes waits.
+    pub fn take_all(
+        &mut self,
+        alloc: Global,
+        own: &Identity,
+        word: u32,
+        arrivals: &mut Vec<Arrival>,
+    ) -> Result<(), Refusal>
+        ensures gives { (given : List Arrival) × (arrivals.new.items ≡ arrivals.old.items ++ given) × Gives own.now word self.old.side self.old.kept.items given self.new.side self.new.kept.items }
+        ensures all { IfOk result (λ _. IsAtRest own.now word self.new.side self.new.kept.items) }
+        ensures only { IfErr result (λ e. e ≡ OutOfMemory) }
+    {
+        'each: while self.take_one(alloc, own, word, arrivals)? {}
+        Ok(())
+    }
+
+    // Takes the item at the front, and returns true if there was one.
+    fn take_one(
+        &mut self,
+        alloc: Global,
+        own: &Identity,
+        word: u32,
+        arrivals: &mut Vec<Arrival>,
+    ) -> Result<bool, Refusal>
+        ensures took { IfOk result (λ took. took ≡ true → (arrival : Arrival) × (arrivals.new.items ≡ arrivals.old.items ++ arrival ∷ []) × Gives own.now word self.old.side self.old.kept.items (arrival ∷ []) self.new.side self.new.kept.items) }
+        ensures none { IfOk result (λ took. took ≡ false → IsAtRest own.now word self.new.side self.new.kept.items × (self.new.side ≡ self.old.side) × (self.new.kept.items ≡ self.old.kept.items)) }
+        ensures unread { IfOk result (λ took. took ≡ false → arrivals.new.items ≡ arrivals.old.items) }
+        ensures err { IfErr result (λ e. (e ≡ OutOfMemory) × (self.new ≡ self.old) × (arrivals.new.items ≡ arrivals.old.items)) }
+    {
+        if !self.side.standing.state().listens() {
+            return Ok(false);
+        }
+        arrivals.reserve(1)?;
+        let Some(arrival) = self.next(alloc, own, word)? else {
+            return Ok(false);
+        };
+        arrivals.push(arrival)?;
+        Ok(true)
     }
 }

@@ -3,7 +3,7 @@ use crate::sides::{
     ACKNOWLEDGES, ALONE, CHALLENGE, CHALLENGES, Held, Kind, LINK, OK, REPLIES, SECRET, SEND_NAME,
     TICK, after, challenge, decided, dialing, fresh, kind_of,
 };
-use conn_pieces::{StreamSide, pieces_are_the_stream};
+use conn_pieces::{StreamSide, fed_in_pieces, pieces_are_the_stream};
 use erl_term::Refusal;
 use std::alloc::Global;
 use std::test::*;
@@ -197,5 +197,33 @@ fn streams_in_pieces(rt: HostRuntime) -> Result<(), Fail> {
         let wrong = wrong_size(rt.alloc(), stream)?;
         assert_eq!(rt; wrong, None, "stream {number}");
     }
+    Ok(())
+}
+
+/// Feeds a dialer's whole stream at once, and returns how many items are taken and how many bytes are left.
+fn taken_at_once(alloc: Global, stream: &Stream) -> Result<(usize, usize), Refusal> {
+    let Held { own, side } = begun(alloc, stream)?;
+    let bytes = joined(alloc, stream.parts)?;
+    let mut reading = StreamSide::new(alloc, side);
+    reading.feed(bytes.as_slice())?;
+    let mut arrivals = Vec::new(alloc);
+    reading.take_all(alloc, &own, CHALLENGE, &mut arrivals)?;
+    Ok((arrivals.len(), reading.kept().len()))
+}
+
+#[test]
+fn streams_at_once(rt: HostRuntime) -> Result<(), Fail> {
+    fed_in_pieces();
+    assert_eq!(rt;
+        taken_at_once(rt.alloc(), &STREAMS[0])?,
+        (6, 0),
+        "all of it"
+    );
+    // a fault keeps its five bytes and the tick behind it
+    assert_eq!(rt;
+        taken_at_once(rt.alloc(), &STREAMS[2])?,
+        (4, 9),
+        "up to the fault"
+    );
     Ok(())
 }
