@@ -30,8 +30,8 @@ fn put_ends(
     first: &Pid,
     second: &Pid,
 ) -> Result<(), AllocError> {
-    let held = world.end(first, second);
-    recorder.ends(alloc, (first, held), (second, world.end(second, first)))
+    let (of_first, of_second) = world.ends(first, second);
+    recorder.ends(alloc, (first, of_first), (second, of_second))
 }
 
 // The connection of a node to a peer that is up, on the lane of the node.

@@ -137,8 +137,8 @@ impl Stage {
         ensures { (it : TheStage) → IsStage self.now it →
             OnOk result (Plays (holds first.now second.now it) self.now (string_bytes out.old) (string_bytes out.new) TheMade.Nothing) }
     {
-        let held = self.world.end(first, second);
-        put_ends(out, held, self.world.end(second, first))
+        let (of_first, of_second) = self.world.ends(first, second);
+        put_ends(out, of_first, of_second)
     }
 
     // All nodes and processes.

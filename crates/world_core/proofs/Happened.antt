@@ -1,9 +1,10 @@
 -- Some events of a list have happened.
-use Rattle.std.proofs.Common.{◌≡◌, List, [], ◌∷◌, ◌++◌, Option, None, Some, refl, sym, ap, subst, ◌∙◌, inl, inr, append-nil, append_assoc}
+use Rattle.std.proofs.Common.{◌≡◌, ℕ, suc, length, List, [], ◌∷◌, ◌++◌, Option, None, Some, refl, sym, ap, subst, ◌∙◌, inl, inr, append-nil, append_assoc}
 use Rattle.std.proofs.lemmas.List.{map-append}
 use Rattle.dist_model.proofs.Run.{moments}
 use Rattle.dist_model.specs.Commands.{Accepts, Outcome, Refuses}
-use Rattle.dist_model.specs.Histories.{Throughout}
+use Rattle.dist_model.specs.Fates.{DownsRightly, ReactsRightly}
+use Rattle.dist_model.specs.Histories.{Throughout, told}
 use Rattle.dist_model.specs.Names.{Name}
 use Rattle.dist_model.specs.Node.{Node}
 use Rattle.dist_model.specs.NodeEvents.{at_node}
@@ -11,7 +12,7 @@ use Rattle.dist_model.specs.Runs.{Goes, Runs, opening}
 use Rattle.dist_model.specs.Safety.{Safe}
 use Rattle.dist_model.specs.World as model
 use Rattle.dist_model.specs.World.{came_of, left, met, node_name, node_of, step_at}
-use Rattle.world_core.specs.Ran.{Answered, Came, Ran, RanSafely, TellAll, Tells, WasSafe, event_in, events_in}
+use Rattle.world_core.specs.Ran.{Answered, Came, Ran, RanSafely, TellAll, Tells, WasRight, WasSafe, event_in, events_in}
 use Rattle.world_core.specs.Stands.{StandsFor}
 use Rattle.world_core.specs.declared.event.Event.{Event}
 use Rattle.world_core.specs.declared.world.World.{World}
@@ -90,7 +91,46 @@ one_more w new m all rest e answers after answer h f k =
 
 -- ---- and all is safe
 
-module _ (safe : Throughout Safe) where
+-- a run of the model has a report for each event
+as_long : (m : model.World) (es : List model.Event) (rs : List model.Report) (next : model.World) → Runs m es rs next
+    → length es ≡ length rs
+as_long m [] [] next h = refl
+as_long m [] (r ∷ rs) next h = absurd h
+as_long m (e ∷ es) [] next h = absurd h
+as_long m (e ∷ es) (r ∷ rs) next h = ap suc (as_long h.0 es rs next h.2)
+
+-- each report of a run is told rightly
+abbrev pub TellsRightly : Type 0
+TellsRightly = (nodes : List (Name × List ℕ)) (before behind : List model.Event) (event : model.Event)
+    (earlier later : List model.Report) (report : model.Report) (world : model.World)
+    → length before ≡ length earlier → Runs (opening nodes) (before ++ event ∷ behind) (earlier ++ report ∷ later) world
+    → (now : model.World) × Runs (opening nodes) before earlier now × ReactsRightly (told before earlier []) now event report
+    × DownsRightly (told before earlier []) now event report
+
+was_right : TellsRightly → (nodes : _) (before behind : List model.Event) (event : model.Event) (reports : List model.Report)
+    (next : model.World) → Runs (opening nodes) (before ++ event ∷ behind) reports next → WasRight (opening nodes) before event reports
+was_right rightly nodes before behind event reports next h =
+    let k = moments before (event ∷ behind) reports (opening nodes) next h in
+    go k.0 k.1 k.2 k.3 k.4 k.5
+  where
+    go : (earlier later : List model.Report) (now : model.World) → reports ≡ earlier ++ later → Runs (opening nodes) before earlier now
+        → Runs now (event ∷ behind) later next → WasRight (opening nodes) before event reports
+    go earlier [] now parts first rest = absurd rest
+    go earlier (report ∷ later) now parts first rest =
+        let whole = subst (λ rs. Runs (opening nodes) (before ++ event ∷ behind) rs next) parts h in
+        let right = rightly nodes before behind event earlier later report next (as_long (opening nodes) before earlier now first) whole in
+        record {
+          earlier = earlier;
+          report = report;
+          later = later;
+          parts = parts;
+          now = right.0;
+          runs = right.1;
+          reacts = right.2;
+          downs = right.3;
+        }
+
+module _ (safe : Throughout Safe) (rightly : TellsRightly) where
   was_safe : (nodes : _) (before behind : List model.Event) (reports : List model.Report) (next : model.World)
       → Runs (opening nodes) (before ++ behind) reports next
       → WasSafe (opening nodes) before reports
@@ -105,4 +145,6 @@ module _ (safe : Throughout Safe) where
     at_the_end = safe nodes events h.reports h.next h.runs;
     before_each =
         λ before behind e. was_safe nodes before behind h.reports h.next (subst (λ es. Runs (opening nodes) es h.reports h.next) e h.runs);
+    each_report = λ before behind event e.
+        was_right rightly nodes before behind event h.reports h.next (subst (λ es. Runs (opening nodes) es h.reports h.next) e h.runs);
   }

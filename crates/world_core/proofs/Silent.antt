@@ -12,7 +12,6 @@ use Rattle.dist_model.specs.Names.{Name, same_name, same_pid}
 use Rattle.dist_model.specs.Node.{Node, first_where, route_in, side_where}
 use Rattle.dist_model.specs.Quiet.{is_quiet_on, is_signal_of, names_sender, is_up_to, nothing_between}
 use Rattle.dist_model.specs.Sides.{TrunkSide, is_up}
-use Rattle.dist_model.specs.Sides as sides
 use Rattle.dist_model.specs.Seen.{seen, side_of_trunk}
 use Rattle.dist_model.specs.World as model
 use Rattle.dist_model.specs.World.{list_to, node_of}

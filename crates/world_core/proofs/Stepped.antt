@@ -16,7 +16,7 @@ use Rattle.dist_model.specs.Names.{Name, place_cmp, same_name}
 use Rattle.dist_model.specs.Node.{Node as TheNode}
 use Rattle.dist_model.specs.NodeEvents.{at_node}
 use Rattle.dist_model.specs.NodeEvents as model
-use Rattle.dist_model.specs.Runs.{Goes}
+use Rattle.dist_model.specs.Runs.{Goes, IsReported}
 use Rattle.dist_model.specs.Sides.{TrunkSide, is_over}
 use Rattle.dist_model.specs.Work.{Work}
 use Rattle.dist_model.specs.World.{Refused, Reported, Stepped, came_of, carried, first_of, list_to}
@@ -297,7 +297,16 @@ module _ (w : World) (m : world.World) (stands : StandsFor w m) where
             tells = refl;
             stands = s;
           }
-      not_accepted e why s (inr r) = record { report = Refused why; next = m; goes = inr (ap Refused r.is, refl); tells = refl; stands = s }
+      not_accepted e why s (inr r) =
+          let is : step m (event_at name e) ≡ came_of m name (lists_left m name e) (Accepts r.answer r.work) =
+          step_is m name e old node_there ∙ ap (came_of m name (lists_left m name e)) r.accepts in
+          record {
+            report = Refused why;
+            next = m;
+            goes = inr (ap Refused r.is, refl, subst (λ (s : Stepped). IsReported s.report) (sym is) tt);
+            tells = refl;
+            stands = s;
+          }
 
       pub came : (e : NodeEvent) (answer : Answered) → ComesTo e (due e) old (model_of new) w.lists after.lists answer
           → Came after m (event_at name e) answer

@@ -1,5 +1,6 @@
--- What events come to in a world of code is what they come to in the model.
+-- The events of a world in code, which lead to the same as in the model.
 use Rattle.std.specs.Prelude.{◌≡◌, ◌++◌, List, [], ◌∷◌, map, Result, Ok, Err}
+use Rattle.dist_model.specs.Fates.{DownsRightly, ReactsRightly}
 use Rattle.dist_model.specs.Histories.{told}
 use Rattle.dist_model.specs.Names.{Name}
 use Rattle.dist_model.specs.Runs.{Goes, Runs}
@@ -15,7 +16,7 @@ use Rattle.world_core.specs.declared.world.World.{World}
 use Rattle.world_events.specs.declared.event.NodeEvent.{NodeEvent}
 use Rattle.world_events.specs.declared.event.NodeEvent.TheVariants as event
 
--- at the node of that name
+-- the model's event at the node of this name
 abbrev pub event_at : Name → NodeEvent → model.Event
 event_at name (event.Call command) = model.Call name command
 event_at name (event.Arrive trunk word) = model.Arrive trunk name word
@@ -35,7 +36,7 @@ events_in names = map (event_in names)
 abbrev pub Answered : Type 0
 Answered = Result (Report Framed) Refusal
 
--- it tells the same, with the frames of what was sent
+-- the answer and the model's report say the same, with the frames of the sent items
 abbrev pub Tells : Answered → model.Report → Type 0
 Tells (Ok report) (model.Reported answer effects) = (report.answer ≡ answer) × (report.effects.items ≡ map shown effects)
 Tells (Err e) (model.Refused why) = e ≡ why
@@ -46,7 +47,7 @@ TellAll [] [] = Unit {0}
 TellAll (answer ∷ answers) (report ∷ reports) = Tells answer report × TellAll answers reports
 TellAll _ _ = ⊥
 
--- one event: the model's step, or want of memory, and the world stands for what it comes to
+-- one event: the model's step, or OutOfMemory where the step refuses nothing. The new world stands for the model's
 pub record Came (new : World) (m : model.World) (event : model.Event) (answer : Answered) : Type 0 where
   pub report : model.Report
   pub next : model.World
@@ -54,7 +55,7 @@ pub record Came (new : World) (m : model.World) (event : model.Event) (answer : 
   pub tells : Tells answer report
   pub stands : StandsFor new next
 
--- a list of events: a run of the model
+-- a list of events: a run of the model, report by report
 pub record Ran (new : World) (m : model.World) (events : List model.Event) (answers : List Answered) : Type 0 where
   pub reports : List model.Report
   pub next : model.World
@@ -62,7 +63,7 @@ pub record Ran (new : World) (m : model.World) (events : List model.Event) (answ
   pub tells : TellAll answers reports
   pub stands : StandsFor new next
 
--- before some of the events nothing was unsafe either
+-- the world between `before` and the events behind it is safe
 pub record WasSafe (m : model.World) (before : List model.Event) (reports : List model.Report) : Type 0 where
   pub earlier : List model.Report
   pub later : List model.Report
@@ -71,8 +72,22 @@ pub record WasSafe (m : model.World) (before : List model.Event) (reports : List
   pub runs : Runs m before earlier now
   pub safe : Safe (told before earlier []) now
 
--- from an opening world all that a run promises holds at its end, and before each of its events
+-- the report of the event behind `before` is right: it tells of an exit of a link only to a process that held this link active, or that
+-- links in this very event to a node that isn't reached, and of an exit or a DOWN only with a reason that is true in the world before it
+pub record WasRight (m : model.World) (before : List model.Event) (event : model.Event) (reports : List model.Report) : Type 0 where
+  pub earlier : List model.Report
+  pub report : model.Report
+  pub later : List model.Report
+  pub parts : reports ≡ earlier ++ report ∷ later
+  pub now : model.World
+  pub runs : Runs m before earlier now
+  pub reacts : ReactsRightly (told before earlier []) now event report
+  pub downs : DownsRightly (told before earlier []) now event report
+
+-- from an opening world: Safe holds at the end and before each event, and each report is right
 pub record RanSafely (new : World) (m : model.World) (events : List model.Event) (answers : List Answered) : Type 0 where
   pub ran : Ran new m events answers
   pub at_the_end : Safe (told events ran.reports []) ran.next
   pub before_each : (before behind : List model.Event) → events ≡ before ++ behind → WasSafe m before ran.reports
+  pub each_report : (before behind : List model.Event) (event : model.Event) → events ≡ before ++ event ∷ behind
+      → WasRight m before event ran.reports

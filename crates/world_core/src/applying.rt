@@ -19,7 +19,7 @@ use node_frames::{Frame, same_name};
 use std::alloc::Global;
 use world_events::{NodeEvent, happen};
 
-// Whether one of the nodes has this name.
+// Returns true if one of the nodes has this name.
 fn has_node(nodes: &[Node], name: &NodeName) -> bool
     ensures { result ≡ list_any (λ node. same_name name.now (name_of node)) nodes.now }
 {
@@ -28,7 +28,7 @@ fn has_node(nodes: &[Node], name: &NodeName) -> bool
         .any(|node| same_name(name.atom(), node.name().atom()))
 }
 
-// Whether there is a node of the name that is dialed, where one is.
+// Returns true unless the event dials a name that no node has.
 fn is_known(nodes: &[Node], event: &NodeEvent) -> bool
     ensures { (peer : Name) (word : ℕ) → event.now ≡ happens.Dial peer word → has_name peer (names_of nodes.now) ≡ result }
 {
@@ -39,12 +39,13 @@ fn is_known(nodes: &[Node], event: &NodeEvent) -> bool
 }
 
 impl World {
-    /// Something happens at a node: it answers, or refuses, and what it sends goes behind what travels.
-    /// (ERTS User's Guide, Distribution Protocol; Reference Manual, Processes; Distributed Erlang.)
+    /// Applies an event at the node of its place: the node reports or refuses, and the items that
+    /// it sends are appended to those in flight. (ERTS User's Guide, Distribution Protocol;
+    /// Reference Manual, Processes; Distributed Erlang.)
     ///
     /// # Errors
-    /// [`Refusal::NothingThere`] where there is no node at the place, and else as the node refuses the
-    /// event; behind these [`Refusal::OutOfMemory`]. Then nothing has changed.
+    /// [`Refusal::NothingThere`] if there is no node at the place, else the node's refusal, else
+    /// [`Refusal::OutOfMemory`]. On error nothing changes.
     pub fn apply(&mut self, alloc: Global, event: Event) -> Result<Report<Frame>, Refusal>
         ensures { (m : TheWorld) → StandsFor self.old m → Came self.new m (event_in m.names event) result }
     {

@@ -1,4 +1,4 @@
-//! What there is to see of a world.
+//! Readers of a world.
 ghost use Rattle.std.specs.Prelude.{◌≡◌};
 ghost use Rattle.std.specs.List.{find};
 ghost use Rattle.std.specs.Option.{option_copied, option_map};
@@ -21,7 +21,7 @@ use link_core::End;
 use node_core::Node;
 use node_frames::same_name;
 
-// The first node of a name.
+// Returns the first node of a name.
 fn find<'a>(nodes: &'a [Node], name: &Atom) -> Option<&'a Node>
     ensures { option_copied result ≡ find (λ node. same_name (name_of node) name.now) nodes.now }
 {
@@ -30,7 +30,7 @@ fn find<'a>(nodes: &'a [Node], name: &Atom) -> Option<&'a Node>
         .find(|node| same_name(node.name().atom(), name))
 }
 
-// Whether there is a side that is up towards a peer.
+// Returns true if there is a side, and it is up towards the peer.
 fn is_up_to(side: Option<&Side>, peer: &Atom) -> bool
     ensures { result ≡ is_up_to peer.now (option_map side_of (option_copied side.entry)) }
 {
@@ -47,23 +47,22 @@ fn is_up(side: &Side) -> bool
 }
 
 impl World {
-    /// The nodes, by their places.
+    /// Returns the nodes, by their places.
     pub fn nodes(&self) -> &[Node]
         ensures { result.now ≡ self.now.nodes.items }
     {
         &self.nodes
     }
 
-    /// The node of a name.
+    /// Returns the node of a name.
     pub fn node(&self, name: &Atom) -> Option<&Node>
         ensures { (m : TheWorld) → StandsFor self.now m → option_map model_of (option_copied result) ≡ node_of m.nodes name.now }
     {
         find(&self.nodes, name)
     }
 
-    /// The end that a process has of its link with another. (ERTS User's Guide, Distribution Protocol, New
-    /// Link Protocol.)
-    pub fn end(&self, process: &Pid, partner: &Pid) -> End
+    // Returns the end of a process towards its partner.
+    fn end(&self, process: &Pid, partner: &Pid) -> End
         ensures { (m : TheWorld) → StandsFor self.now m → result ≡ end_between m process.now partner.now }
     {
         match self.node(&process.node) {
@@ -72,7 +71,16 @@ impl World {
         }
     }
 
-    // Whether the node of a name has a connection to a peer that is up, or lost and not yet swept.
+    /// Returns both ends of the link between `p` and `q`: that of `p`, and that of `q`. (ERTS User's
+    /// Guide, Distribution Protocol, New Link Protocol.)
+    pub fn ends(&self, p: &Pid, q: &Pid) -> (End, End)
+        ensures { (m : TheWorld) → StandsFor self.now m → result ≡ (end_between m p.now q.now, end_between m q.now p.now) }
+    {
+        (self.end(p, q), self.end(q, p))
+    }
+
+    // Returns true if the node of a name has a connection to the peer that is up, or lost and not yet
+    // swept.
     fn is_connected(&self, name: &Atom, peer: &Atom) -> bool
         ensures { (m : TheWorld) → StandsFor self.now m → result ≡ is_connected m name.now peer.now }
     {
@@ -82,8 +90,8 @@ impl World {
         }
     }
 
-    // Whether a connection is up at the other process's node too, and nothing travels on it between the two.
-    // The first process's node has this name.
+    // Returns true if the connection is up at the node of `q` too, and nothing is in flight on it between
+    // the two. `name` is the node of `p`.
     fn is_quiet_on(&self, trunk: &TrunkId, name: &NodeName, p: &Pid, q: &Pid) -> bool
         ensures { (m : TheWorld) → StandsFor self.now m → result ≡ is_quiet_there m name.now p.now q.now trunk.now }
     {
@@ -99,7 +107,8 @@ impl World {
         self.lists.has_nothing_between(trunk, there.name(), p, q)
     }
 
-    // Whether a connection is up between the nodes of two processes, and nothing travels on it between them.
+    // Returns true if a connection is up between the two nodes, and nothing is in flight on it between the
+    // two processes.
     fn is_quiet_over(&self, p: &Pid, q: &Pid) -> bool
         ensures { (m : TheWorld) → StandsFor self.now m → result ≡ is_quiet_over m p.now q.now }
     {
@@ -112,7 +121,7 @@ impl World {
         }
     }
 
-    // The same of two processes of one node.
+    // Returns true if nothing is in flight between two processes of one node.
     fn is_quiet_within(&self, p: &Pid, q: &Pid) -> bool
         ensures { (m : TheWorld) → StandsFor self.now m → result ≡ nothing_between p.now q.now (local_list m p.now.node) }
     {
@@ -122,10 +131,10 @@ impl World {
         }
     }
 
-    /// Whether nothing travels between two processes: in their node's own list; on a connection that is
-    /// up at both nodes; or because the nodes aren't connected. (Reference Manual, Processes, Delivery of
-    /// Signals.)
-    pub fn is_quiet(&self, p: &Pid, q: &Pid) -> bool
+    /// Returns true if nothing is in flight between `p` and `q`: within their node; on the connection
+    /// that is up at both nodes; or because the nodes aren't connected. (Reference Manual, Processes,
+    /// Delivery of Signals.)
+    pub fn quiet(&self, p: &Pid, q: &Pid) -> bool
         ensures { (m : TheWorld) → StandsFor self.now m → result ≡ is_quiet m p.now q.now }
     {
         if same_name(&p.node, &q.node) {

@@ -1,4 +1,4 @@
-//! A list of events, one after the other.
+//! Lists of events.
 ghost use Rattle.std.specs.Prelude.{◌≡◌, ◌≤◌, List, [], ℕ, IfOk, OnErr, length};
 ghost use Rattle.std.specs.Vec.{vec_capacity};
 ghost use Rattle.dist_model.specs.Names.{Name};
@@ -14,11 +14,11 @@ use erl_term::Refusal;
 use node_frames::Frame;
 use std::alloc::{AllocError, Global};
 
-/// What comes of an event: what the node answers and brings about, or why it refuses.
+/// The result of an event: the node's report with the frames that it sent, or its refusal.
 pub type Answered = Result<Report<Frame>, Refusal>;
 
 impl World {
-    // Each event, with room for its answer.
+    // Applies each event, and appends its answer within the capacity.
     fn apply_all(&mut self, alloc: Global, answers: &mut Vec<Answered>, events: Vec<Event>)
         requires empty { answers.old.items ≡ [] }
         requires room { length events.items ≤ vec_capacity answers.old }
@@ -29,11 +29,13 @@ impl World {
         }
     }
 
-    /// The events happen, one after the other, and each is answered or refused. From an opening world
-    /// whatever events there are lead to no unsafe moment: see the clause `safe`.
+    /// Applies `events` in order, and returns their answers in the same order. From an opening
+    /// world no list of events leads to an unsafe moment, and each report tells only true exits
+    /// and DOWNs: clause `safe`.
     ///
     /// # Errors
-    /// Where there is no memory for the answers. Then nothing has happened.
+    /// [`AllocError`] if there is no memory for the answers. On error nothing changes. An event
+    /// for which memory is wanting is answered by `OutOfMemory`, and the later events go on.
     pub fn run(&mut self, alloc: Global, events: Vec<Event>) -> Result<Vec<Answered>, AllocError>
         ensures ran { (m : TheWorld) → StandsFor self.old m → IfOk result (λ answers. Ran self.new m (events_in m.names events.items) answers.items) }
         ensures safe { (nodes : List (Name × List ℕ)) → let m = opening nodes in StandsFor self.old m →
@@ -41,6 +43,7 @@ impl World {
         ensures err { OnErr result (self.new ≡ self.old) }
     {
         dist_model::every_run_is_safe();
+        dist_model::every_report_is_safe();
         let mut answers = match Vec::with_capacity(alloc, events.len()) {
             Ok(answers) => answers,
             Err(e) => {

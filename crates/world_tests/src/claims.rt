@@ -18,11 +18,11 @@ pub fn is_living(world: &World, process: &Pid) -> bool {
 // Where nothing travels between a living process and another, both or neither hold their link active, and
 // there is none with a process that isn't living.
 fn agree(world: &World, p: &Pid, q: &Pid) -> bool {
-    if !world.is_quiet(p, q) {
+    if !world.quiet(p, q) {
         return true;
     }
-    let is_held = is_active(world.end(p, q));
-    is_held == (is_living(world, q) && is_active(world.end(q, p)))
+    let (of_p, of_q) = world.ends(p, q);
+    is_active(of_p) == (is_living(world, q) && is_active(of_q))
 }
 
 /// Whether each of some processes that is living agrees with each of others.

@@ -195,8 +195,8 @@ impl Stage {
 
 fn has_ends(world: &World, p: &Pid, q: &Pid, row: Row) -> bool {
     match row {
-        Row::Ends(_, _, of_p, of_q) => world.end(p, q) == of_p && world.end(q, p) == of_q,
-        Row::Travels(_, _, does) => world.is_quiet(p, q) != does && world.is_quiet(q, p) != does,
+        Row::Ends(_, _, of_p, of_q) => world.ends(p, q) == (of_p, of_q),
+        Row::Travels(_, _, does) => world.quiet(p, q) != does && world.quiet(q, p) != does,
         _ => false,
     }
 }
