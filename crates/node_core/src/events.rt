@@ -1,4 +1,5 @@
-//! The events of a node.
+//! The events of a node. Each `plan_*` call fills a [`Planned`] of the caller and reserves
+//! capacity; [`Node::commit`] applies it. The other calls do both.
 ghost use Rattle.std.specs.Prelude.{◌≡◌, List, OnOk, true, false, Err};
 ghost use Rattle.std.specs.FinMap as fm;
 ghost use Rattle.dist_model.specs.Dialing.{has_name};
@@ -26,11 +27,12 @@ use node_sweeps::Sweeping;
 use std::alloc::Global;
 
 impl Node {
-    /// Plans a caller's command, where nothing is planned yet. The node stays as it is but for its room.
-    /// (Reference Manual, Processes.)
+    /// Plans `command` into the new `planned`. Changes only the node's capacity. (Reference
+    /// Manual, Processes.)
     ///
     /// # Errors
-    /// As the model refuses the command, and behind that [`Refusal::OutOfMemory`].
+    /// The model's refusal of the command, else [`Refusal::OutOfMemory`]. On error the node is
+    /// unchanged but for its capacity, and `planned` can only be dropped.
     pub fn plan_call(
         &mut self,
         alloc: Global,
@@ -45,10 +47,10 @@ impl Node {
         plan_call(alloc, &mut self.state, planned, command)
     }
 
-    /// A caller's command is planned, and carried out. (Reference Manual, Processes.)
+    /// Runs `command`: plans it and commits the plan. (Reference Manual, Processes.)
     ///
     /// # Errors
-    /// As [`Node::plan_call`]. Then nothing has changed.
+    /// Those of [`Node::plan_call`]. On error nothing changes.
     pub fn call(&mut self, alloc: Global, command: Command) -> Result<Report<Frame>, Refusal>
         ensures { (names : List Name) → Does (at_node names (model_of self.old) (event.Call command)) (model_of self.old) (model_of self.new) result }
     {
@@ -57,13 +59,14 @@ impl Node {
         self.finish(alloc, planned, made)
     }
 
-    /// Plans that the first signal that travels from the node to itself comes, in what
-    /// [`Planned::taking`] has made. The node stays as it is but for its room. (Reference Manual,
-    /// Processes, Delivery of Signals.)
+    /// Plans the delivery of the first signal in flight from the node to itself, into a `planned`
+    /// of [`Planned::taking`]. Changes only the node's capacity. (Reference Manual, Processes,
+    /// Delivery of Signals.)
     ///
     /// # Errors
-    /// [`Refusal::NodeDown`] at a node that has stopped, [`Refusal::NothingThere`] where nothing travels,
-    /// and behind these [`Refusal::OutOfMemory`].
+    /// [`Refusal::NodeDown`] if the node is down, else [`Refusal::NothingThere`] if no signal is
+    /// in flight, else [`Refusal::OutOfMemory`]. On error the node is unchanged but for its
+    /// capacity, and `planned` can only be dropped.
     pub fn plan_local(&mut self, alloc: Global, planned: &mut Planned) -> Result<(), Refusal>
         requires { IsTaking planned.old }
         ensures same { model_of self.new ≡ model_of self.old }
@@ -73,11 +76,11 @@ impl Node {
         plan_local(alloc, &mut self.state, planned)
     }
 
-    /// The first signal that travels from the node to itself comes: planned, and carried out.
+    /// Delivers the first signal in flight from the node to itself: plans it and commits the plan.
     /// (Reference Manual, Processes, Delivery of Signals.)
     ///
     /// # Errors
-    /// As [`Node::plan_local`]. Then nothing has changed.
+    /// Those of [`Node::plan_local`]. On error nothing changes.
     pub fn local(&mut self, alloc: Global) -> Result<Report<Frame>, Refusal>
         ensures { (names : List Name) → Does (at_node names (model_of self.old) event.Local) (model_of self.old) (model_of self.new) result }
     {
@@ -86,12 +89,13 @@ impl Node {
         self.finish(alloc, planned, made)
     }
 
-    /// Plans that the node notices that a connection is lost, or gives an attempt up, where nothing is
-    /// planned yet. The node stays as it is but for its room. (Reference Manual, Distributed Erlang.)
+    /// Plans the loss of the connection `trunk`, or the end of the attempt at it, into the new
+    /// `planned`. Changes only the node's capacity. (Reference Manual, Distributed Erlang.)
     ///
     /// # Errors
-    /// [`Refusal::NodeDown`] at a node that has stopped, [`Refusal::NotLive`] where there is nothing to
-    /// lose, and behind these [`Refusal::OutOfMemory`].
+    /// [`Refusal::NodeDown`] if the node is down, else [`Refusal::NotLive`] if there is nothing to
+    /// lose, else [`Refusal::OutOfMemory`]. On error the node is unchanged but for its capacity,
+    /// and `planned` can only be dropped.
     pub fn plan_loss(&mut self, planned: &mut Planned, trunk: &TrunkId) -> Result<(), Refusal>
         requires { IsNew planned.old }
         ensures same { model_of self.new ≡ model_of self.old }
@@ -101,12 +105,12 @@ impl Node {
         plan_loss(&mut self.state, planned, trunk)
     }
 
-    /// The node notices that a connection is lost, or gives an attempt up: planned, and carried out.
-    /// What it has of processes beyond is swept away by [`Node::sweep`], one record at a time.
-    /// (Reference Manual, Distributed Erlang.)
+    /// Notices the loss of the connection `trunk`, or gives up the attempt at it: plans it and
+    /// commits the plan. [`Node::sweep`] then removes the records of the processes beyond, one at
+    /// a time. (Reference Manual, Distributed Erlang.)
     ///
     /// # Errors
-    /// As [`Node::plan_loss`]. Then nothing has changed.
+    /// Those of [`Node::plan_loss`]. On error nothing changes.
     pub fn lose(&mut self, alloc: Global, trunk: &TrunkId) -> Result<Report<Frame>, Refusal>
         ensures { (names : List Name) → Does (at_node names (model_of self.old) (event.Lose trunk.now)) (model_of self.old) (model_of self.new) result }
     {
@@ -115,14 +119,15 @@ impl Node {
         self.finish(alloc, planned, made)
     }
 
-    /// Plans that the least record of a lost connection is swept: a link, or else a monitor of a process
-    /// there, or else one that a process there has; or, where none is left, that its side is gone.
-    /// Nothing may be planned yet. The node stays as it is but for its room. (Reference Manual,
-    /// Processes, Links and Monitors; that records go one at a time is own.)
+    /// Plans the removal of the least record of a lost connection, into the new `planned`: a link,
+    /// else an own monitor, else a monitor of a process here. With no record left, the
+    /// connection's side is closed. Changes only the node's capacity. (Reference Manual,
+    /// Processes, Links and Monitors; one record at a time is own.)
     ///
     /// # Errors
-    /// [`Refusal::NodeDown`] at a node that has stopped, [`Refusal::NothingThere`] where no connection is
-    /// lost, and behind these [`Refusal::OutOfMemory`].
+    /// [`Refusal::NodeDown`] if the node is down, else [`Refusal::NothingThere`] if no connection
+    /// is lost, else [`Refusal::OutOfMemory`]. On error the node is unchanged but for its
+    /// capacity, and `planned` can only be dropped.
     pub fn plan_sweep(&mut self, alloc: Global, planned: &mut Planned) -> Result<(), Refusal>
         requires { IsNew planned.old }
         ensures same { model_of self.new ≡ model_of self.old }
@@ -132,11 +137,11 @@ impl Node {
         plan_sweep(alloc, &mut self.state, planned, &self.sweeping)
     }
 
-    /// The least record of a lost connection is swept: planned, and carried out. (Reference Manual,
-    /// Processes, Links and Monitors; that records go one at a time is own.)
+    /// Removes the least record of a lost connection: plans it and commits the plan. (Reference
+    /// Manual, Processes, Links and Monitors; one record at a time is own.)
     ///
     /// # Errors
-    /// As [`Node::plan_sweep`]. Then nothing has changed.
+    /// Those of [`Node::plan_sweep`]. On error nothing changes.
     pub fn sweep(&mut self, alloc: Global) -> Result<Report<Frame>, Refusal>
         ensures { (names : List Name) → Does (at_node names (model_of self.old) event.Sweep) (model_of self.old) (model_of self.new) result }
     {
@@ -145,14 +150,15 @@ impl Node {
         self.finish(alloc, planned, made)
     }
 
-    /// Plans that the node dials another, under this word as its challenge, where nothing is planned
-    /// yet. Whether there is a node of the peer's name is told. The node stays as it is but for its
-    /// room. (ERTS User's Guide, Distribution Protocol, Distribution Handshake.)
+    /// Plans a dial of the node `peer` into the new `planned`, with `word` as the challenge.
+    /// `is_known` tells if the world has a node of this name. Changes only the node's capacity.
+    /// (ERTS User's Guide, Distribution Protocol, Distribution Handshake.)
     ///
     /// # Errors
-    /// The first that fits: [`Refusal::NodeDown`] at a node that has stopped, [`Refusal::SelfDial`],
-    /// [`Refusal::NothingThere`] where there is no such node, [`Refusal::Busy`] where there is a
-    /// connection or an attempt at one, [`Refusal::IdsUsedUp`], and then [`Refusal::OutOfMemory`].
+    /// The first that fits: [`Refusal::NodeDown`] if the node is down, [`Refusal::SelfDial`],
+    /// [`Refusal::NothingThere`] if `peer` isn't known, [`Refusal::Busy`] if there is a connection
+    /// to it or an attempt at one, [`Refusal::IdsUsedUp`], [`Refusal::OutOfMemory`]. On error the
+    /// node is unchanged but for its capacity, and `planned` can only be dropped.
     pub fn plan_dial(
         &mut self,
         alloc: Global,
@@ -170,11 +176,11 @@ impl Node {
         plan_dial(alloc, &mut self.state, planned, is_known, peer, word)
     }
 
-    /// The node dials another: planned, and carried out. (ERTS User's Guide, Distribution Protocol,
-    /// Distribution Handshake.)
+    /// Dials the node `peer`: plans it and commits the plan. (ERTS User's Guide, Distribution
+    /// Protocol, Distribution Handshake.)
     ///
     /// # Errors
-    /// As [`Node::plan_dial`]. Then nothing has changed.
+    /// Those of [`Node::plan_dial`]. On error nothing changes.
     pub fn dial(
         &mut self,
         alloc: Global,
@@ -189,16 +195,17 @@ impl Node {
         self.finish(alloc, planned, made)
     }
 
-    /// Plans what the node does at the front of the bytes that come on a connection, where nothing is
-    /// planned yet, and says how many bytes are taken: an item, or what is none and breaks the side. The
-    /// word becomes the challenge of a new side, and is not used elsewhere. The node stays as it is but
-    /// for its room. (ERTS User's Guide, Distribution Protocol.)
+    /// Plans the arrival of the item at the front of `bytes` on the connection `trunk`, into the
+    /// new `planned`. Returns the item's length in bytes; a malformed item breaks the side and has
+    /// length 0. `word` is the challenge of a new side. Changes only the node's capacity. (ERTS
+    /// User's Guide, Distribution Protocol.)
     ///
     /// # Errors
-    /// The first that fits: [`Refusal::NodeDown`] at a node that has stopped; [`Refusal::NotLive`] where
-    /// the side is lost or gone, where there is none and no message is whole yet, and where there is none
-    /// and the node itself would have dialed; [`Refusal::NothingThere`] where nothing is whole yet;
-    /// behind these [`Refusal::OutOfMemory`].
+    /// The first that fits: [`Refusal::NodeDown`] if the node is down; [`Refusal::NotLive`] if the
+    /// side is lost or gone, or if there is none and the node itself would have dialed or no
+    /// message is whole yet; [`Refusal::NothingThere`] if no item is whole yet;
+    /// [`Refusal::OutOfMemory`]. On error the node is unchanged but for its capacity, and
+    /// `planned` can only be dropped.
     pub fn plan_arrival(
         &mut self,
         alloc: Global,
@@ -218,11 +225,11 @@ impl Node {
         plan_arrival(alloc, &mut self.state, planned, trunk, bytes, word)
     }
 
-    /// What comes on a connection is taken: planned, and carried out. (ERTS User's Guide, Distribution
-    /// Protocol.)
+    /// Takes the item at the front of `bytes` on the connection `trunk`: plans its arrival and
+    /// commits the plan. (ERTS User's Guide, Distribution Protocol.)
     ///
     /// # Errors
-    /// As [`Node::plan_arrival`]. Then nothing has changed.
+    /// Those of [`Node::plan_arrival`]. On error nothing changes.
     pub fn arrive(
         &mut self,
         alloc: Global,
@@ -249,11 +256,11 @@ impl Node {
         }
     }
 
-    /// The node stops: its processes are gone, and so is each connection. Takes no memory. (ERTS User's
+    /// Stops the node: it drops its processes and its connections. Allocates nothing. (ERTS User's
     /// Guide, Distribution Protocol, Distribution Handshake, on creations.)
     ///
     /// # Errors
-    /// [`Refusal::NodeDown`] at a node that has stopped. Then nothing has changed.
+    /// [`Refusal::NodeDown`] if the node is down. On error nothing changes.
     pub fn stop(&mut self, alloc: Global) -> Result<Report<Frame>, Refusal>
         ensures { (names : List Name) → Does (at_node names (model_of self.old) event.Stop) (model_of self.old) (model_of self.new) result }
     {
@@ -261,13 +268,12 @@ impl Node {
         stop(alloc, &mut self.state)
     }
 
-    /// A node that has stopped starts again, in its next incarnation, of which the answer tells the
-    /// creation. Takes no memory. (ERTS User's Guide, Distribution Protocol, Distribution Handshake, on
-    /// creations.)
+    /// Starts a stopped node in its next incarnation. The answer has the new creation. Allocates
+    /// nothing. (ERTS User's Guide, Distribution Protocol, Distribution Handshake, on creations.)
     ///
     /// # Errors
-    /// [`Refusal::NodeUp`] at a node that runs, and [`Refusal::IdsUsedUp`] behind the last incarnation.
-    /// Then nothing has changed.
+    /// [`Refusal::NodeUp`] if the node is up, else [`Refusal::IdsUsedUp`] after the last
+    /// incarnation. On error nothing changes.
     pub fn start(&mut self, alloc: Global) -> Result<Report<Frame>, Refusal>
         ensures { (names : List Name) → Does (at_node names (model_of self.old) event.Start) (model_of self.old) (model_of self.new) result }
     {

@@ -1,4 +1,4 @@
-//! What was planned of an event.
+//! The plan of an event.
 ghost use Rattle.std.specs.Prelude.{◌≡◌};
 ghost use Rattle.node_events.specs.Begun.{IsNew, IsTaking};
 
@@ -8,18 +8,20 @@ use node_plans::Plan;
 use node_sweeps::Sweeping;
 use std::alloc::Global;
 
-/// What an event is to do to a node: the caller makes it, a node plans in it, and carries it out. Once
-/// that is planned all refusals are behind it, and all its memory is there.
+/// The plan of an event. The caller makes it, a `plan_*` call of a node fills it, and `commit`
+/// applies it. A filled plan has passed every refusal and has all its memory. After a refusal the
+/// plan may be half filled: it can only be dropped, since `plan_*` wants a new one and `commit` a
+/// filled one.
 #[derive(Drop)]
 pub struct Planned {
-    /// What is to be done to what the node keeps.
+    /// The changes to the node's tables, and the effects.
     pub plan: Plan,
-    /// How far a sweep has come by then, where the event is one.
+    /// The position that a sweep has reached, if the event is one.
     pub sweeping: Option<Sweeping>,
 }
 
 impl Planned {
-    /// Nothing is planned yet. Takes no memory.
+    /// Creates an empty plan. Allocates nothing.
     pub fn new(alloc: Global) -> Planned
         ensures { IsNew result }
     {
@@ -29,8 +31,8 @@ impl Planned {
         }
     }
 
-    /// Nothing is planned yet but that the first signal that travels from the node to itself is taken.
-    /// Takes no memory.
+    /// Creates a plan that takes the first signal in flight from the node to itself, and does
+    /// nothing else. Allocates nothing.
     pub fn taking(alloc: Global) -> Planned
         ensures { IsTaking result }
     {
@@ -40,7 +42,8 @@ impl Planned {
         }
     }
 
-    /// What it brings about, in order: what is sent among it, as bytes with its connection.
+    /// Returns the planned effects in their order, sent items among them as bytes with their
+    /// connection.
     pub fn effects(&self) -> &[Effect<Frame>]
         ensures { result.now ≡ self.now.plan.effects.items }
     {
