@@ -50,7 +50,7 @@ fn parcel(alloc: Global, port: &Port, stamp: u64, frame: &Frame) -> Result<Parce
     Ok(Parcel {
         trunk,
         towards: towards(port),
-        seq: port.put().len() as u64,
+        seq: port.put().len() as u64 + 1,
         stamp,
         bytes: Spelling::new(bytes),
     })

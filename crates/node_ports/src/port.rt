@@ -295,7 +295,7 @@ impl Port {
             self.taken.push_reserved(Parcel {
                 towards: away_from(&self.peer, &trunk),
                 trunk,
-                seq: self.taken.len() as u64,
+                seq: self.taken.len() as u64 + 1,
                 stamp: piece.stamp(),
                 bytes: Spelling::new(bytes),
             });

@@ -1,29 +1,29 @@
-//! The items that went through a connection.
+//! The items of a connection.
 
 use crate::spelling::Spelling;
 use erl_names::TrunkId;
 
-/// To which of the two nodes of a connection.
+/// The direction of an item on a connection.
 #[derive(Clone, Copy, Debug, Drop, PartialEq, Eq)]
 pub enum Direction {
-    /// From the node that dialed to the other.
+    /// From the dialer to the acceptor.
     ToAcceptor,
-    /// From the other to the node that dialed.
+    /// From the acceptor to the dialer.
     ToDialer,
 }
 
-/// One item of what one event of the sending node wrote. It goes over a wire in pieces, and is put
-/// together again where they are taken.
+/// One item that one event of the sending node wrote. It goes over a wire in pieces, which the
+/// receiver puts together again.
 #[derive(Clone, Drop)]
 pub struct Parcel {
-    /// Of which connection it is.
+    /// The connection.
     pub trunk: TrunkId,
-    /// To which of its nodes it goes.
+    /// The direction.
     pub towards: Direction,
-    /// Which of the parcels of this connection in this direction it is, from 0 up.
+    /// The number of the item among those of this connection in this direction, from 1.
     pub seq: u64,
-    /// The stamp of the event that sent it, from 1 up.
+    /// The stamp of the event that sent it, from 1.
     pub stamp: u64,
-    /// What it carries.
+    /// The bytes of the item.
     pub bytes: Spelling,
 }
