@@ -12,3 +12,4 @@ pub mod KeptByEvents
 pub mod BookedCalls
 pub mod ResultsTold
 pub mod EntryPlaces
+pub mod StampsRise

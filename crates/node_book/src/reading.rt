@@ -1,4 +1,4 @@
-//! What a book tells whoever compares it with others.
+//! Readers of a book, for its comparison with others.
 ghost use Rattle.std.specs.Prelude.{◌≡◌};
 ghost use Rattle.node_book.specs.Standing.{IsBook};
 
@@ -9,28 +9,36 @@ use erl_names::NodeName;
 use node_ports::Port;
 
 impl Book {
-    /// The names of all nodes, by their places.
+    /// Returns the names of all nodes, by their places.
     pub fn names(&self) -> &[NodeName]
         ensures { result.now ≡ self.now.names }
     {
         self.names.as_slice()
     }
 
-    /// The cookie of its node. (ERTS User's Guide, Distribution Protocol, Distribution Handshake.)
+    /// Returns the cookie of the book's node. (ERTS User's Guide, Distribution Protocol,
+    /// Distribution Handshake.)
     pub fn cookie(&self) -> &Cookie
         ensures { result.now ≡ self.now.cookie }
     {
         &self.cookie
     }
 
-    /// Its node's ends of connections, the oldest first.
+    /// Returns the node's ends of connections, the oldest first.
     pub fn outlets(&self) -> &[Outlet]
         ensures { result.now ≡ self.now.outlets }
     {
         self.outlets.as_slice()
     }
 
-    /// Does nothing. What the type keeps of every book: a log replays it.
+    /// Returns the stamp of the last entry, or 0 of an empty history.
+    pub fn last(&self) -> u64
+        ensures { result ≡ self.now.history.last }
+    {
+        self.history.last()
+    }
+
+    /// Has no effect. Its contract is the invariant of the type: a log replays the book.
     pub fn replays(&self)
         ensures { IsBook self.now.names self.now.place self.now.cookie self.now.history self.now.outlets }
     {
@@ -39,7 +47,7 @@ impl Book {
 }
 
 impl Outlet {
-    /// The end of the connection.
+    /// Returns the end of the connection.
     pub fn port(&self) -> &Port
         ensures { result.now ≡ self.now.port }
     {

@@ -1,17 +1,23 @@
--- What a call adds, or that it changes nothing.
-use Rattle.std.proofs.Common.{◌≡◌, ℕ, ◌++◌, ◌∷◌, Bool, true, false, Some, List, [], inl, inr, length, slice_get, refl, sym, ap, subst, ◌∙◌}
+-- The additions of a call, or that it changes nothing.
+use Rattle.std.proofs.Common.{◌≡◌, ℕ, ◌<◌, ◌≤◌, ◌^◌, ◌+◌, ◌++◌, ◌∷◌, Bool, true, false, Option, Some, None, List, [], inl, inr, length, slice_get, refl, sym, ap, subst, ◌∙◌, arith}
+use Rattle.std.proofs.lemmas.Option.{slice_get_within}
 use Rattle.std.specs.Prelude.{IsTrue, ◌↔◌}
 use Rattle.erl_term.specs.declared.refusal.Refusal.{Refusal}
+use Rattle.node_book.specs.Applying.{IsComing}
 use Rattle.node_book.specs.Books.{Applies, IsUnapplied}
 use Rattle.node_book.specs.Seen.{BookSeen}
 use Rattle.node_book.proofs.KeptByEvents.{slice_last}
+use Rattle.node_book.specs.declared.outlet.Outlet.{Outlet}
 use Rattle.node_history.specs.Acts.{is_act}
+use Rattle.node_history.specs.Entering.{IsWanting}
 use Rattle.node_history.specs.Telling.{Answers, IsTold}
 use Rattle.node_history.specs.declared.entry.Told.{Told}
+use Rattle.node_history.specs.declared.entry.Entry.{Entry}
 use Rattle.node_lock.specs.Acts.{event_of}
 use Rattle.node_lock.specs.Calling.{Calls, IsAtHome, IsUncalled, stamp_at, stamp_in}
-use Rattle.node_lock.specs.Seats.{IsEnteredAs}
+use Rattle.node_lock.specs.Seats.{IsBehind, IsEnteredAs, LastIsEntered, last_of}
 use Rattle.node_lock.specs.declared.act.Act.{Act}
+use Rattle.node_lock.specs.declared.act.Act.TheVariants as asking
 use Rattle.node_lock.specs.declared.seat.Asked.{Asked}
 use Rattle.node_lock.specs.declared.seat.Seat.{Seat}
 use Rattle.same_events.specs.Said.{said}
@@ -32,6 +38,29 @@ at_home b h is = h.0 is
 pub away : (b : Bool) {H : Type 0} → (IsTrue b ↔ H) → b ≡ false → H → ⊥
 away b h is home = let no : false ≡ true = sym is ∙ h.1 home in cc
 
+-- nothing comes from a peer where a caller acts
+idle : (act : Act) (outlets : List Outlet) → IsComing (event_of act) outlets None 0
+idle (asking.Run command) outlets = (refl, refl)
+idle (asking.Dial peer word) outlets = (refl, refl)
+idle (asking.Lose trunk) outlets = (refl, refl)
+idle asking.Stop outlets = (refl, refl)
+idle asking.Start outlets = (refl, refl)
+
+-- the new entry is behind that of the last receipt, which stands in the book
+module _ (entries : List Entry) (last stamp : ℕ) (rise : (k : ℕ) (entry : Entry) → slice_get entries k ≡ Some entry → entry.stamp ≤ last)
+    (above : last < stamp) (asked : Asked) (position : asked.receipt.position ≡ length entries) (is : asked.receipt.stamp ≡ stamp) where
+  is_behind : (before : Option Asked) → LastIsEntered before entries → IsBehind before asked
+  is_behind None h = tt
+  is_behind (Some before) h = go (slice_get entries before.receipt.position) refl h
+    where
+      go : (o : Option Entry) → slice_get entries before.receipt.position ≡ o → IsEnteredAs before o → IsBehind (Some before) asked
+      go None e h = absurd h
+      go (Some entry) e h =
+          let within = slice_get_within entries before.receipt.position entry e in
+          let up = rise before.receipt.position entry e in
+          let same = h.0 in
+          (omega (arith, within, position), omega (arith, up, same, above, is))
+
 module _ (act : Act) (book : BookSeen) (seat : Seat) where
   module _ (next : BookSeen) (after : Seat) (asked : Asked) (told : Told) (what : NodeEvent) (mid : List Asked) (place : ℕ)
       (home : IsAtHome book seat) (is : what ≡ event_of act)
@@ -47,16 +76,20 @@ module _ (act : Act) (book : BookSeen) (seat : Seat) where
         subst (Answers told.answer) (there what book next told.place applies) t in
         subst (IsEnteredAs asked) (sym (there what book next told.place applies)) (sym s, acts, sym e, sym same ∙ ap said (sym a))
 
-    pub called : IsTold next.history.entries.items told → is_act what ≡ true → asked.event ≡ what → asked.receipt.position ≡ told.place
+    pub called : ((k : ℕ) (entry : Entry) → slice_get book.history.entries.items k ≡ Some entry → entry.stamp ≤ book.history.last)
+        → IsTold next.history.entries.items told → is_act what ≡ true → asked.event ≡ what → asked.receipt.position ≡ told.place
         → asked.receipt.stamp ≡ stamp_at next.history.entries.items told.place → asked.receipt.node ≡ next.place
         → asked.receipt.answer ≡ told.answer → after.node ≡ seat.node
         → mid ≡ seat.receipts.items → after.receipts.items ≡ mid ++ asked ∷ [] → place ≡ length mid → Calls act book next seat after place
-    called t acts e p s n a same m receipts at = record {
+    called rise t acts e p s n a same m receipts at = record {
       home = home;
       asks = record {
         asked = asked;
         event = e ∙ is;
         node = n ∙ applies.same.place ∙ sym home.0;
+        behind = is_behind book.history.entries.items book.history.last next.history.last rise
+            (let grown = applies.enters.stamp in omega (arith, grown)) asked (p ∙ applies.place_is) (stamp s)
+            (last_of seat.receipts.items) home.1;
         adds = record { node = same; receipts = receipts ∙ ap (λ l. l ++ asked ∷ []) m };
         place_is = at ∙ ap (λ (l : List Asked). length l) m;
       };
@@ -74,19 +107,32 @@ module _ (act : Act) (book : BookSeen) (seat : Seat) where
     why = inl (refl, away);
   }
 
-  pub no_room : (after : Seat) → IsAtHome book seat → after.node ≡ seat.node → after.receipts.items ≡ seat.receipts.items
-      → IsUncalled act book book seat after Refusal.OutOfMemory
-  no_room after home n r = record {
+  -- there is no memory, or no stamp is left
+  wanting : (e : Refusal) → IsWanting book.history.last 0 e → IsUnapplied (event_of act) book book e
+  wanting e h = record {
+    same = record { names = refl; place = refl; cookie = refl; greatest = refl };
+    history = record { node = refl; last = refl; entries = refl };
+    outlets = refl;
+    why = inr (None, 0, idle act book.outlets, h);
+  }
+
+  not_called : (e : Refusal) → IsWanting book.history.last 0 e → (after : Seat) → IsAtHome book seat → after.node ≡ seat.node
+      → after.receipts.items ≡ seat.receipts.items → IsUncalled act book book seat after e
+  not_called e h after home n r = record {
     stays = record { node = n; receipts = r };
     same = record { names = refl; place = refl; cookie = refl; greatest = refl };
     history = record { node = refl; last = refl; entries = refl };
     outlets = refl;
-    why = inr (home, inl refl);
+    why = inr (home, wanting e h);
   }
+
+  pub no_room : (after : Seat) → IsAtHome book seat → book.history.last + 1 < 2 ^ 64 → after.node ≡ seat.node
+      → after.receipts.items ≡ seat.receipts.items → IsUncalled act book book seat after Refusal.OutOfMemory
+  no_room after home h n r = not_called Refusal.OutOfMemory (inr (refl, omega (arith, h))) after home n r
 
   pub unapplied : (next : BookSeen) (after : Seat) (what : NodeEvent) (e : Refusal) → IsAtHome book seat → what ≡ event_of act
       → IsUnapplied what book next e
       → after.node ≡ seat.node → after.receipts.items ≡ seat.receipts.items → IsUncalled act book next seat after e
   unapplied next after what e home is h n r =
       let u = subst (λ w. IsUnapplied w book next e) is h in
-      record { stays = record { node = n; receipts = r }; same = u.same; history = u.history; outlets = u.outlets; why = inr (home, inr u) }
+      record { stays = record { node = n; receipts = r }; same = u.same; history = u.history; outlets = u.outlets; why = inr (home, u) }

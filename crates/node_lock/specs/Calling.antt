@@ -1,4 +1,4 @@
--- What a call adds to a book and to a seat.
+-- The additions of a call to a book and to a seat.
 use Rattle.std.specs.Prelude.{◌≡◌, ◌⊎◌, ℕ, Option, None, Some, List, [], ◌∷◌, ◌++◌, length, slice_get}
 use Rattle.erl_term.specs.declared.refusal.Refusal.{Refusal}
 use Rattle.node_book.specs.Books.{Applies, IsSameNode, IsUnapplied}
@@ -6,7 +6,7 @@ use Rattle.node_book.specs.Seen.{BookSeen}
 use Rattle.node_history.specs.Entering.{Stays}
 use Rattle.node_history.specs.declared.entry.Entry.{Entry}
 use Rattle.node_lock.specs.Acts.{event_of}
-use Rattle.node_lock.specs.Seats.{IsEnteredAs, LastIsEntered, last_of}
+use Rattle.node_lock.specs.Seats.{IsBehind, IsEnteredAs, LastIsEntered, last_of}
 use Rattle.node_lock.specs.declared.act.Act.{Act}
 use Rattle.node_lock.specs.declared.seat.Asked.{Asked}
 use Rattle.node_lock.specs.declared.seat.Seat.{Seat}
@@ -30,15 +30,16 @@ pub record IsSameSeat (old new : Seat) : Type 0 where
   pub node : new.node ≡ old.node
   pub receipts : new.receipts.items ≡ old.receipts.items
 
--- the seat has the receipt of the act behind the others, where it is told
+-- the seat has one receipt more, at the returned index: of this act at its node, behind the last one in place and stamp
 pub record Asks (act : Act) (seat after : Seat) (place : ℕ) : Type 0 where
   pub asked : Asked
   pub event : asked.event ≡ event_of act
   pub node : asked.receipt.node ≡ seat.node
+  pub behind : IsBehind (last_of seat.receipts.items) asked
   pub adds : AddsReceipt seat after asked
   pub place_is : place ≡ length seat.receipts.items
 
--- the act is applied, and the receipt stands at its entry
+-- the book applies the act, and the receipt stands at its entry
 pub record Calls (act : Act) (book next : BookSeen) (seat after : Seat) (place : ℕ) : Type 0 where
   pub home : IsAtHome book seat
   pub asks : Asks act seat after place
@@ -52,4 +53,4 @@ pub record IsUncalled (act : Act) (book next : BookSeen) (seat after : Seat) (e 
   pub history : Stays book.history next.history
   pub outlets : next.outlets ≡ book.outlets
   pub why : ((e ≡ Refusal.StrangeSeat) × (IsAtHome book seat → ⊥))
-      ⊎ (IsAtHome book seat × ((e ≡ Refusal.OutOfMemory) ⊎ IsUnapplied (event_of act) book next e))
+      ⊎ (IsAtHome book seat × IsUnapplied (event_of act) book next e)

@@ -1,11 +1,11 @@
--- Where a receipt stands.
-use Rattle.std.specs.Prelude.{◌≡◌, ◌-◌, true, Option, None, Some, List, length, slice_get}
+-- The place of a receipt in a history, and the order of a seat's receipts.
+use Rattle.std.specs.Prelude.{◌≡◌, ◌<◌, ◌-◌, true, Option, None, Some, List, length, slice_get}
 use Rattle.node_history.specs.Acts.{is_act}
 use Rattle.node_history.specs.declared.entry.Entry.{Entry}
 use Rattle.node_lock.specs.declared.seat.Asked.{Asked}
 use Rattle.same_events.specs.Said.{said}
 
--- the entry is what a caller has asked for: it has the receipt's stamp, its act's event and its answer
+-- the entry is that of a caller's act: it has the receipt's stamp, the act's event and the receipt's answer
 abbrev pub IsEnteredAs : Asked → Option Entry → Type 0
 IsEnteredAs asked None = ⊥
 IsEnteredAs asked (Some entry) =
@@ -15,7 +15,12 @@ IsEnteredAs asked (Some entry) =
 abbrev pub last_of : List Asked → Option Asked
 last_of receipts = slice_get receipts (length receipts - 1)
 
--- the receipt that came last, if there is one, stands at its place
+-- the last receipt, if there is one, stands at its place
 abbrev pub LastIsEntered : Option Asked → List Entry → Type 0
 LastIsEntered None entries = Unit {0}
 LastIsEntered (Some asked) entries = IsEnteredAs asked (slice_get entries asked.receipt.position)
+
+-- a receipt is behind another one: its entry has a greater place in the history, and a greater stamp
+abbrev pub IsBehind : Option Asked → Asked → Type 0
+IsBehind None asked = Unit {0}
+IsBehind (Some before) asked = (before.receipt.position < asked.receipt.position) × (before.receipt.stamp < asked.receipt.stamp)

@@ -1,4 +1,4 @@
-//! What a caller asks for.
+//! The acts of callers.
 ghost use Rattle.std.specs.Prelude.{◌≡◌, ◌↔◌, IfErr, IfOk, IsTrue};
 ghost use Rattle.node_lock.specs.Calling.{Calls, IsAtHome, IsUncalled, stamp_at};
 
@@ -9,7 +9,7 @@ use node_book::Book;
 use node_history::copied_event;
 use std::alloc::Global;
 
-// The stamp of the entry at a place.
+// Returns the stamp of the entry at a place.
 fn stamp_at(book: &Book, place: usize) -> u64
     ensures { result ≡ stamp_at book.now.history.entries.items place }
 {
@@ -19,19 +19,20 @@ fn stamp_at(book: &Book, place: usize) -> u64
     }
 }
 
-// Whether the book is of the seat's node, and the seat's last receipt stands in it.
+// Returns true if the book is of the seat's node, and has the seat's last receipt.
 fn is_at_home(book: &Book, seat: &Seat) -> bool
     ensures { IsTrue result ↔ IsAtHome book.now seat.now }
 {
     seat.node == book.place() && last_stands(&seat.receipts, book.entries())
 }
 
-/// What a caller asks for is entered in the book of its node. The receipt, with the answer that the
-/// entry has, is added to its seat beside the act, and its place among the seat's receipts is told.
+/// Runs `act` at the node of `book`, records it there, and appends the act with its receipt to
+/// `seat`. Returns the index of the receipt in the seat. The receipt has the place, the stamp and
+/// the answer of the entry.
 ///
 /// # Errors
-/// [`Refusal::StrangeSeat`] where the book isn't of the seat's node, or where the seat's last receipt
-/// doesn't stand at its place in it; and then as those of [`Book::act`]. Then nothing has changed.
+/// [`Refusal::StrangeSeat`] if the book is not of the seat's node, or does not have the seat's
+/// last receipt at its place; else those of [`Book::act`]. On error nothing changes.
 pub fn call(alloc: Global, book: &mut Book, seat: &mut Seat, act: Act) -> Result<usize, Refusal>
     ensures ok { IfOk result (Calls act book.old book.new seat.old seat.new) }
     ensures err { IfErr result (IsUncalled act book.old book.new seat.old seat.new) }
@@ -39,6 +40,11 @@ pub fn call(alloc: Global, book: &mut Book, seat: &mut Seat, act: Act) -> Result
     if !is_at_home(book, seat) {
         drop(act);
         return Err(Refusal::StrangeSeat);
+    }
+    book.replays();
+    if book.last() == u64::MAX {
+        drop(act);
+        return Err(Refusal::IdsUsedUp);
     }
     if seat.receipts.reserve(1).is_err() {
         drop(act);

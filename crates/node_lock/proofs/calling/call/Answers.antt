@@ -1,4 +1,5 @@
 use Rattle.std.proofs.Common.{◌≡◌, length, refl, arith}
+use Rattle.node_book.proofs.StampsRise.{stamps_rise}
 use Rattle.node_lock.proofs.Called.{at_home, away, called, no_room, strange, unapplied}
 use Rattle.node_lock.proofs.calling.call.Goals as goal
 
@@ -9,12 +10,12 @@ returns-then-not-is_at_home-clause-err c =
 pub returns-then-is_err-clause-err : goal.returns-then-is_err-clause-err
 returns-then-is_err-clause-err c =
     no_room c.args.act c.args.book.now c.args.seat.now (record (c.args.seat.now) { receipts = c.reserve.new.self })
-    (at_home c.is_at_home.result c.is_at_home.ensures c.if-not-is_at_home.false) refl c.reserve.ensures.items
+    (at_home c.is_at_home.result c.is_at_home.ensures c.if-not-is_at_home.false) (omega (arith, c.last.ensures, c.if-last-eq18446744073709551615.false, c.last.type_inv)) refl c.reserve.ensures.items
 
 pub returns-in-Err-clause-err : goal.returns-in-Err-clause-err
 returns-in-Err-clause-err c =
     no_room c.args.act c.args.book.now c.args.seat.now (record (c.args.seat.now) { receipts = c.reserve.new.self })
-    (at_home c.is_at_home.result c.is_at_home.ensures c.if-not-is_at_home.false) refl c.reserve.ensures.items
+    (at_home c.is_at_home.result c.is_at_home.ensures c.if-not-is_at_home.false) (omega (arith, c.last.ensures, c.if-last-eq18446744073709551615.false, c.last.type_inv)) refl c.reserve.ensures.items
 
 pub returns-in-Err-act-clause-err : goal.returns-in-Err-act-clause-err
 returns-in-Err-act-clause-err c =
@@ -35,6 +36,8 @@ returns-clause-ok c =
     })
     told c.into_event-event.result c.reserve.new.self.items c.len-place.result
     (at_home c.is_at_home.result c.is_at_home.ensures c.if-not-is_at_home.false) c.into_event-event.ensures.event c.in-Ok-act.ensures.ok
+    (stamps_rise c.args.book.now.names c.args.book.now.place c.args.book.now.cookie c.args.book.now.history c.args.book.now.outlets
+    c.replays.ensures)
     c.in-Ok-act.ensures.told c.into_event-event.ensures.act c.in-Ok.ensures refl c.stamp_at.ensures c.place.ensures refl refl
     c.reserve.ensures.items
     c.push_reserved.ensures.items at
