@@ -1,16 +1,15 @@
 //! `erldist`: Erlang nodes in one process, driven by a script.
 //!
-//! The script comes on standard input, a command a line; what it does goes to standard output.
-//! [`read_options`] reads the command line, and [`run_script`] runs the script; [`run_telling`] and
-//! [`run_drawing`] do where its events or a drawing of them are to be written, and [`run_threads`] where
-//! its nodes are to have threads.
+//! The script comes on standard input, one command a line; its output goes to standard output.
+//! [`read_options`] reads the command line. [`run_script`] runs the script; [`run_telling`] writes its
+//! events instead, [`run_drawing`] a drawing of them, and [`run_threads`] gives its nodes threads.
 #![tactic(auto)]
 
 use clap::Error;
 use clap::error::ErrorKind;
 use script_core::{
-    Form, Machine, Options, Outcome, read_options, run_drawing, run_script, run_telling,
-    run_threads,
+    Form, FusedWriter, Machine, Options, Outcome, read_options, run_drawing, run_script,
+    run_telling, run_threads,
 };
 use std::alloc::Global;
 use std::io::{self, BufWriter};
@@ -19,9 +18,9 @@ use std::process::ExitCode;
 /// The exit status for a bad command line.
 const BAD_COMMAND_LINE: u8 = 2;
 
-/// Runs the script on standard input, and answers the exit status.
+/// Runs the script on standard input, and returns the exit status. Writes nothing after a failed write.
 fn run<R: Input + Print + Eprint + Machine>(rt: &R, alloc: Global, options: &Options) -> u8 {
-    let Ok(mut writer) = BufWriter::new(alloc, io::writer(rt)) else {
+    let Ok(mut writer) = BufWriter::new(alloc, FusedWriter::new(io::writer(rt))) else {
         return Outcome::OutOfMemory.status();
     };
     let mut advice = String::new(alloc);
@@ -42,7 +41,7 @@ fn run<R: Input + Print + Eprint + Machine>(rt: &R, alloc: Global, options: &Opt
     outcome.status()
 }
 
-/// Says why the words of the command line can't be read, and answers the exit status.
+/// Prints the fault for which the command line can't be read, and returns the exit status.
 fn unread<R: Eprint>(rt: &R, fault: &io::Error) -> u8 {
     if fault.kind() == io::ErrorKind::OutOfMemory {
         return Outcome::OutOfMemory.status();
@@ -51,8 +50,7 @@ fn unread<R: Eprint>(rt: &R, fault: &io::Error) -> u8 {
     BAD_COMMAND_LINE
 }
 
-/// Prints the help or the version that was asked for, or what is wrong with the command line, and
-/// answers the exit status.
+/// Prints the help, the version or the fault of the command line, and returns the exit status.
 fn answered<R: Print + Eprint>(rt: &R, fault: &Error) -> u8 {
     if fault.kind() == ErrorKind::OutOfMemory {
         return Outcome::OutOfMemory.status();

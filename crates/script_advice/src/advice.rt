@@ -1,4 +1,4 @@
-//! What is wrong with a line.
+//! The advice on a bad line.
 use crate::usages::{nearest, usage_of};
 use crate::words::put_word;
 use erl_names::NodeName;
@@ -6,11 +6,14 @@ use script_lines::Reason;
 use script_terms::{Named, Names, is_name};
 use std::alloc::{AllocError, Global};
 
-/// Puts what is wrong with a bad line behind what is printed, and the remedy where there is an obvious
-/// one. The names are those that the script has bound before the line.
+/// The remedy for a tab in a line.
+const TABS: &str = "; words are parted by spaces, not by tabs";
+
+/// Appends to `out` the fault of a bad `line`, and the remedy if there is an obvious one. `names` are those
+/// that the script has bound before the line.
 ///
 /// # Errors
-/// Where memory is wanting.
+/// [`AllocError`] if there is no memory.
 pub fn put_advice(
     alloc: Global,
     out: &mut String,
@@ -57,6 +60,9 @@ fn put_unknown_command(alloc: Global, out: &mut String, verb: &str) -> Result<()
     if verb.starts_with('\u{FEFF}') {
         return out.push_str("; the script begins with a byte order mark, which is no part of it");
     }
+    if verb.contains('\t') {
+        return out.push_str(TABS);
+    }
     match nearest(alloc, verb)? {
         Some(command) => write!(out, "; did you mean '{command}'?"),
         None => out.push_str("; --help lists the commands"),
@@ -74,10 +80,13 @@ fn put_wrong_words(out: &mut String, usage: &str, text: &str) -> Result<(), Allo
     if text.contains('#') {
         out.push_str("; a comment stands on a line of its own")?;
     }
+    if text.contains('\t') {
+        out.push_str(TABS)?;
+    }
     put_line_end(out, text)
 }
 
-/// Whether a word has the form that is wanted in its place.
+/// Returns true if a word has the form that is wanted in its place.
 fn has_form(wanted: &str, word: &str) -> bool {
     match wanted {
         "NODE" | "PEER" | "NAME" => NodeName::fits(word),
@@ -118,6 +127,12 @@ fn put_unknown_name(
             break;
         }
         match names.get(word) {
+            Some(Named::Process(_)) if wanted == "name" => {
+                put_word(out, word)?;
+                return out.push_str(
+                    " is the name of a process; 'monitor p q name' names a monitor",
+                );
+            }
             Some(Named::Process(_)) => {}
             Some(Named::Monitor(_)) if wanted == "name" => {}
             Some(Named::Monitor(_)) => {
@@ -132,7 +147,32 @@ fn put_unknown_name(
             }
         }
     }
-    out.push_str("behind a '$' stands what is no name of a process or monitor of the script")
+    put_unbound(out, names, text)
+}
+
+/// Returns the letters, digits and '_' at the front of a text.
+fn word_at(text: &str) -> &str {
+    let is_letter = |c: char| c.is_ascii_alphanumeric() || c == '_';
+    match text.find(|c: char| !is_letter(c)) {
+        Some(end) => text.get(..end).unwrap_or(""),
+        None => text,
+    }
+}
+
+// Puts the first name behind a '$' of a term that no line has given. Text in quotes has no such name.
+fn put_unbound(out: &mut String, names: &Names, text: &str) -> Result<(), AllocError> {
+    for part in text.split('\'').step_by(2) {
+        for behind in part.split('$').skip(1) {
+            let word = word_at(behind);
+            if names.get(word).is_none() {
+                put_word(out, word)?;
+                return out.push_str(
+                    " behind a '$' is no name of a process or a monitor; 'spawn NODE name' names a process, and 'monitor p q name' a monitor",
+                );
+            }
+        }
+    }
+    Ok(())
 }
 
 fn put_name_taken(out: &mut String, usage: &str, text: &str) -> Result<(), AllocError> {
@@ -158,7 +198,7 @@ fn put_bad_term(out: &mut String, text: &str) -> Result<(), AllocError> {
     put_line_end(out, text)
 }
 
-/// Says it of a line that ends with a carriage return.
+/// Puts the remedy for a line that ends with a carriage return.
 fn put_line_end(out: &mut String, text: &str) -> Result<(), AllocError> {
     if text.ends_with('\r') {
         return out.push_str("; the line ends with '\\r': lines end with a line feed alone");

@@ -2,3 +2,4 @@ pub mod RunLemmas
 pub mod ScriptLemmas
 pub mod DrawnLemmas
 pub mod LineLemmas
+pub mod Merging

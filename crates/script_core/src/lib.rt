@@ -1,10 +1,11 @@
-//! Scripts: commands that drive Erlang nodes in one process, and what they print.
+//! Scripts: commands that drive Erlang nodes in one process, and their output.
 //!
-//! [`run_script`] reads a script, a command a line, and writes what it does, over any reader and
-//! writer; in its place [`run_telling`] writes a line of JSON for each event, and [`run_drawing`] a drawing
-//! of them all. [`run_threads`] gives each node of the script a thread. Their [`Outcome`] says how the script ended, and names the line that is bad and the
-//! [`Reason`]. [`read_options`] reads the command line. What the lines do is `script_session`'s matter,
-//! and [`every_script`] is the law that the safety of every run is that of every script.
+//! [`run_script`] reads a script, one command a line, and writes its output, over any reader and writer.
+//! [`run_telling`] writes a line of JSON for each event instead, and [`run_drawing`] a drawing of the run.
+//! [`run_threads`] gives each node of the script a thread. Their [`Outcome`] is the end of the script, with
+//! the number of a bad line and its [`Reason`]. [`read_options`] reads the command line.
+//! [`FusedWriter`] ends the output at the first failed write. `script_session` defines the commands.
+//! [`every_script`] is the law that every script's run is safe.
 #![tactic(auto)]
 
 mod laws;
@@ -12,6 +13,7 @@ mod lines;
 mod options;
 mod script;
 mod threads;
+mod writing;
 
 pub use laws::every_script;
 pub use options::{Form, Options, read_options};
@@ -19,3 +21,4 @@ pub use script::{Outcome, run_drawing, run_script, run_telling};
 pub use script_lines::Reason;
 pub use script_threads::Machine;
 pub use threads::run_threads;
+pub use writing::FusedWriter;

@@ -1,5 +1,5 @@
-//! A script whose nodes have threads.
-ghost use Rattle.script_core.specs.Threaded.{Tells};
+//! Scripts whose nodes have threads.
+ghost use Rattle.script_core.specs.Threaded.{EndsMerged, Tells};
 
 use crate::lines::Lines;
 use crate::options::Options;
@@ -11,7 +11,7 @@ use std::alloc::{AllocError, Global};
 use std::io::{self, Read, Write};
 use std::mem;
 
-/// A session of nodes in threads, and the lines that have come and aren't run yet.
+/// A session of nodes in threads, and the lines that have come and not run yet.
 #[derive(Drop)]
 pub(crate) struct InThreads {
     session: ThreadedSession,
@@ -26,17 +26,17 @@ impl InThreads {
         }
     }
 
-    // The lines that have come.
+    // Takes the lines that have come.
     fn take_lines(&mut self, alloc: Global) -> Vec<Vec<u8>> {
         mem::replace(&mut self.lines, Vec::new(alloc))
     }
 }
 
 impl Lines for InThreads {
-    // what threads do is no function of a line
+    // (a line does not determine the steps of threads)
     ghost stands = { λ _ _. ⊥ };
 
-    // The line waits until who reads the script runs it.
+    // Keeps the line until the reader of the script runs it.
     fn line(&mut self, alloc: Global, line: &[u8], _out: &mut String) -> Result<(), Stop> {
         let Ok(line) = Vec::from_slice(alloc, line) else {
             return Err(Stop::OutOfMemory);
@@ -58,13 +58,14 @@ impl Lines for InThreads {
     }
 }
 
-/// Runs the script that the reader gives, at nodes that have a thread each, and writes what it prints.
-/// Where it runs through, the histories of the nodes that it has named are merged at its end, and a line
-/// tells so, behind the frames that were sent, if the options ask for them.
+/// Runs the script of `reader` with a thread for each node, and writes its output to `writer`. At
+/// the end of a script that has run through, merges the histories of the nodes that it has named
+/// and writes that, behind the frames that were sent if the options ask for them.
 ///
-/// What is written is flushed whenever the reader has given all that it has at hand. After a bad line,
-/// and where memory, reading or writing fails, nothing more is read or written. What is wrong with a bad
-/// line is put behind the advice, as by [`run_script`](crate::run_script).
+/// Returns [`Outcome::Ran`] only if [`ThreadedSession::finish`] has merged them and its text was
+/// written. Flushes the output whenever the reader has given all that it has at hand. After a bad
+/// line, and on a failure of memory, reading or writing, reads and writes nothing more. Appends
+/// the fault of a bad line to `advice`, as [`run_script`](crate::run_script).
 pub fn run_threads<M: Machine, R: Read, W: Write>(
     rt: &M,
     alloc: Global,
@@ -72,12 +73,17 @@ pub fn run_threads<M: Machine, R: Read, W: Write>(
     writer: &mut W,
     options: &Options,
     advice: &mut String,
-) -> Outcome {
+) -> Outcome
+    ensures { EndsMerged options.now.trace (W.contents writer.new) result }
+{
     let outcome = run_to_end(rt, alloc, reader, writer, options, advice);
-    if outcome == Outcome::Failed || writer.flush().is_ok() {
-        return outcome;
+    if outcome == Outcome::Failed {
+        return Outcome::Failed;
     }
-    Outcome::Failed
+    match writer.flush() {
+        Ok(()) => outcome,
+        Err(_) => Outcome::Failed,
+    }
 }
 
 fn run_to_end<M: Machine, R: Read, W: Write>(
@@ -87,7 +93,9 @@ fn run_to_end<M: Machine, R: Read, W: Write>(
     writer: &mut W,
     options: &Options,
     advice: &mut String,
-) -> Outcome {
+) -> Outcome
+    ensures { EndsMerged options.now.trace (W.contents writer.new) result }
+{
     let mut script = Script::new(alloc, InThreads::new(alloc, options.seed));
     let outcome = read_all(rt, alloc, &mut script, reader, writer, advice);
     let InThreads { session, .. } = script.into_session();
@@ -98,8 +106,8 @@ fn run_to_end<M: Machine, R: Read, W: Write>(
     outcome
 }
 
-// Reads on until the script has ended, and answers how it did. What was read at once is run before more
-// is read.
+// Reads on until the script ends, and returns its end. Runs the lines that one read has given before the
+// next read.
 fn read_all<M: Machine, R: Read, W: Write>(
     rt: &M,
     alloc: Global,
@@ -122,7 +130,7 @@ fn read_all<M: Machine, R: Read, W: Write>(
     Outcome::Failed
 }
 
-// Runs the lines that have come, the last of which stands before the one that is being read.
+// Runs the lines that have come. The last of them stands before the line that is being read.
 fn run_lines<M: Machine, W: Write>(
     rt: &M,
     alloc: Global,
@@ -150,7 +158,7 @@ fn run_lines<M: Machine, W: Write>(
     }
 }
 
-// Runs the line of a number.
+// Runs one line, of this number.
 fn run_line<M: Machine, W: Write>(
     rt: &M,
     alloc: Global,
@@ -171,7 +179,7 @@ fn run_line<M: Machine, W: Write>(
     }
 }
 
-/// The threads end, and what is to be said of that is written.
+/// Ends the threads, and writes the text of the merge.
 fn finish<M: Machine, W: Write>(
     rt: &M,
     alloc: Global,

@@ -1,4 +1,4 @@
-//! What is told of each event: for machines, and in a picture.
+//! The telling of events: lines for machines, and a picture.
 ghost use Rattle.std.specs.Prelude.{◌≡◌, ◌++◌, [], true, false, IfOk, OnOk, codes, string_bytes};
 ghost use Rattle.script_json.specs.Reports.{line_text};
 ghost use Rattle.script_session.specs.Telling.{IsTold};
@@ -13,8 +13,8 @@ use serde_json::Value;
 use std::alloc::{AllocError, Global};
 use world_core::{Frame, NodeEvent};
 
-/// A line for each event that has happened since the last were taken, and a picture of them all, where
-/// these are asked for.
+/// The lines of the events since the last were taken, and a picture of all events, if these are
+/// asked for.
 #[derive(Drop)]
 pub(crate) struct Telling {
     pub(crate) lines: String,
@@ -22,16 +22,16 @@ pub(crate) struct Telling {
     pub(crate) picture: Picture,
 }
 
-/// What is about to happen, as far as it is to be told.
+/// An event before it happens, as far as it will be told.
 #[derive(Drop)]
 pub(crate) struct Begun {
-    /// The event, for a line of it.
+    /// The event, for its line.
     pub(crate) event: Option<Value>,
-    /// Its connection, for the picture.
+    /// The event's connection, for the picture.
     trunk: Option<TrunkId>,
 }
 
-// An event, where it is to be told.
+// Returns the event as JSON, if events are told.
 fn told(alloc: Global, is_on: bool, happens: &NodeEvent) -> Result<Option<Value>, AllocError>
     ensures { IfOk result (λ told. IsTold is_on happens.now told) }
 {
@@ -42,7 +42,7 @@ fn told(alloc: Global, is_on: bool, happens: &NodeEvent) -> Result<Option<Value>
 }
 
 impl Telling {
-    /// Nothing is told.
+    /// Creates a telling of nothing.
     pub(crate) fn off(alloc: Global) -> Telling
         ensures { string_bytes result.lines ≡ [] }
     {
@@ -53,7 +53,7 @@ impl Telling {
         }
     }
 
-    /// What is about to happen, where it is to be told.
+    /// Returns the event as it is before it happens, if it will be told.
     pub(crate) fn begin(&self, alloc: Global, happens: &NodeEvent) -> Result<Begun, AllocError>
         ensures { IfOk result (λ begun. IsTold self.now.is_on happens.now begun.event) }
     {
@@ -62,7 +62,11 @@ impl Telling {
         Ok(Begun { event, trunk })
     }
 
-    /// A line of it, once it has happened, and a row of the picture.
+    /// Appends the line of an event with its answer, and a row to the picture.
+    ///
+    /// # Errors
+    /// [`AllocError`] if there is no memory, also if `came` says so of the event: such an event
+    /// has no line.
     pub(crate) fn end(
         &mut self,
         alloc: Global,
@@ -75,6 +79,10 @@ impl Telling {
         ensures off { (happened : TheEvent) → IsTold false happened begun.event → OnOk result (string_bytes self.new.lines ≡ string_bytes self.old.lines) }
         ensures same { self.new.is_on ≡ self.old.is_on }
     {
+        if matches!(came, Err(Refusal::OutOfMemory)) {
+            drop(begun);
+            return Err(AllocError);
+        }
         let Begun { event, trunk } = begun;
         self.picture.happened(alloc, node, trunk.as_ref(), came)?;
         match event {

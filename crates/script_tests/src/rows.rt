@@ -165,7 +165,7 @@ fn many_nodes(rt: HostRuntime) -> Result<(), Fail> {
 }
 
 /// Bad lines of scripts of nodes, and what is said of them.
-const ADVICE: [(&str, &str); 12] = [
+const ADVICE: [(&str, &str); 16] = [
     ("lnk p q", "'lnk'; did you mean 'link'?"),
     ("pair\r", "'pair\\r'; lines end with a line feed alone"),
     (
@@ -198,6 +198,22 @@ const ADVICE: [(&str, &str); 12] = [
     (
         "pair # of nodes",
         "the command is 'pair', alone, and is the first of all; a comment stands on a line of its own",
+    ),
+    (
+        "pair\ndemonitor p q\n",
+        "'q' is the name of a process; 'monitor p q name' names a monitor",
+    ),
+    (
+        "pair\nsend p q {'$none',$nope}\n",
+        "'nope' behind a '$' is no name of a process or a monitor; 'spawn NODE name' names a process, and 'monitor p q name' a monitor",
+    ),
+    (
+        "\tpair\n",
+        "'\\tpair'; words are parted by spaces, not by tabs",
+    ),
+    (
+        "pair\nlink p\tq\n",
+        "the command is 'link p q'; words are parted by spaces, not by tabs",
     ),
 ];
 

@@ -1,9 +1,9 @@
 //! Scripts written by hand, and what they print.
 use script_core::{
-    Form, Options, Outcome, Reason, read_options, run_drawing, run_script, run_telling,
+    Form, FusedWriter, Options, Outcome, Reason, read_options, run_drawing, run_script, run_telling,
 };
 use std::alloc::{AllocError, Global};
-use std::io::{self, ErrorKind, Read, Write};
+use std::io::{self, BufWriter, ErrorKind, Read, Write};
 use std::test::*;
 
 const OPTIONS: Options = Options {
@@ -369,6 +369,64 @@ fn full_writer(rt: HostRuntime) {
             "{writes} writes, {flushes} flushes"
         );
     }
+}
+
+/// A writer that fails at one of its writes, and takes all others.
+#[derive(Drop)]
+struct FailsOnce {
+    taken: Vec<u8>,
+    writes: u64,
+    at: u64,
+}
+
+impl Write for FailsOnce {
+    fn write(&mut self, buf: &[u8]) -> io::Result<usize> {
+        self.writes = self.writes.wrapping_add(1);
+        if self.writes == self.at {
+            return Err(io::Error::from(ErrorKind::WouldBlock));
+        }
+        self.taken.extend_from_slice(buf)?;
+        Ok(buf.len())
+    }
+
+    fn flush(&mut self) -> io::Result<()> {
+        Ok(())
+    }
+}
+
+/// A script that prints four times as much as the buffer of `run_failing` holds.
+const LOSS: &str =
+    "pair\nlink p q\ndeliver b@h a@h\nends p q\ncut a@h b@h\nsettle\nends p q\nshow\n";
+
+/// Runs the script over a writer whose write `at` fails, behind a buffer that writes its rest when it is
+/// dropped. Returns the outcome and the output.
+fn run_failing(alloc: Global, at: u64) -> io::Result<(Outcome, Vec<u8>)> {
+    let mut failing = FailsOnce {
+        taken: Vec::new(alloc),
+        writes: 0,
+        at,
+    };
+    let mut writer = BufWriter::with_capacity(alloc, 64, FusedWriter::new(&mut failing))?;
+    let mut script = LOSS.as_bytes();
+    let mut advice = String::new(alloc);
+    let outcome = run_script(alloc, &mut script, &mut writer, &OPTIONS, &mut advice);
+    drop(writer);
+    Ok((outcome, failing.taken))
+}
+
+#[test]
+fn one_failed_write(rt: HostRuntime) -> Result<(), Fail> {
+    let (outcome, whole) = run_failing(rt.alloc(), 0)?;
+    assert_eq!(rt; outcome, Outcome::Ran);
+    for at in 1..=4 {
+        let (outcome, taken) = run_failing(rt.alloc(), at)?;
+        assert_eq!(rt; outcome, Outcome::Failed, "at write {at}");
+        assert!(rt;
+            whole.starts_with(taken.as_slice()) && taken.len() < whole.len(),
+            "at write {at}"
+        );
+    }
+    Ok(())
 }
 
 #[test]
