@@ -232,8 +232,10 @@ impl Worker {
         self.apply(shared, book, NodeEvent::Local)
     }
 
+    // Sweeps a record, once nothing is in flight from the node to itself: so a node alone does the same
+    // with and without threads.
     fn sweep<G: Gate>(&mut self, shared: &Shared<G>, book: &mut Book) -> Step {
-        if self.is_spent || !has_lost(book.node()) {
+        if self.is_spent || has_local(book.node()) || !has_lost(book.node()) {
             return Step::Nothing;
         }
         self.apply(shared, book, NodeEvent::Sweep)
