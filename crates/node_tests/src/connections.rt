@@ -157,6 +157,21 @@ const SCENARIOS: &[(Start, &[Step])] = &[
             Does(Arrive(OURS, Wire::Later), Broken(20), &[]),
         ],
     ),
+    // So does a signal to a process of another node, or of a creation of this node that is still to come.
+    (
+        Start::Dialed,
+        &[
+            Goes(Spawn, Pid(1)),
+            Does(Arrive(OURS, Wire::ToOtherNode), Broken(20), &[]),
+        ],
+    ),
+    (
+        Start::Dialed,
+        &[
+            Goes(Spawn, Pid(1)),
+            Does(Arrive(OURS, Wire::ToLater), Broken(20), &[]),
+        ],
+    ),
     (
         Start::Dialed,
         &[Does(Arrive(OURS, Wire::NoFrame), Broken(6), &[])],

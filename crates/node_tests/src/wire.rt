@@ -53,6 +53,10 @@ pub enum Wire {
     OtherNode,
     /// LINK to P from a process of b@h in its second creation.
     Later,
+    /// LINK from B to a process of c@h.
+    ToOtherNode,
+    /// LINK from B to a process of a@h in its second creation.
+    ToLater,
     /// A frame that is none.
     NoFrame,
     /// LINK from P to Q, the second process of a@h.
@@ -109,6 +113,10 @@ impl Wire {
                 b"\0\0\0*p\x83h\x03a\x01Xw\x03c@h\0\0\0\x01\0\0\0\0\0\0\0\x01Xw\x03a@h\0\0\0\x01\0\0\0\0\0\0\0\x01",
             Wire::Later =>
                 b"\0\0\0*p\x83h\x03a\x01Xw\x03b@h\0\0\0\x01\0\0\0\0\0\0\0\x02Xw\x03a@h\0\0\0\x01\0\0\0\0\0\0\0\x01",
+            Wire::ToOtherNode =>
+                b"\0\0\0*p\x83h\x03a\x01Xw\x03b@h\0\0\0\x01\0\0\0\0\0\0\0\x01Xw\x03c@h\0\0\0\x01\0\0\0\0\0\0\0\x01",
+            Wire::ToLater =>
+                b"\0\0\0*p\x83h\x03a\x01Xw\x03b@h\0\0\0\x01\0\0\0\0\0\0\0\x01Xw\x03a@h\0\0\0\x01\0\0\0\0\0\0\0\x02",
             Wire::NoFrame => &[0, 0, 0, 1, 111],
             Wire::LinkHome =>
                 b"\0\0\0\x2Ap\x83h\x03a\x01Xw\x03a@h\0\0\0\x01\0\0\0\0\0\0\0\x01Xw\x03a@h\0\0\0\x02\0\0\0\0\0\0\0\x01",
