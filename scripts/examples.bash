@@ -148,13 +148,14 @@ declare -A events_of=(
     [restart]="dial a@h b@h;$handshake;link p q;deliver b@h a@h;stop b@h;start b@h;dial b@h a@h;deliver a@h b@h;deliver b@h a@h;sweep a@h;sweep a@h;deliver a@h b@h;deliver b@h a@h;deliver a@h b@h;deliver b@h a@h"
 )
 
-# Prints a script: the nodes, a beginning of a run, a fault, and then both ends. At the end both nodes are
-# up, lose whatever connects them, and connect again. (An attempt that outlived a stop of its dialer is busy
-# until it is lost, too.)
+# Prints a script: the nodes, a beginning of a run, and a fault. After it both nodes start, lose whatever
+# connects them, and connect again; both ends are asked for before and behind that. (While only one of them
+# has lost the connection, nothing is in flight and yet they aren't quiet. An attempt that outlived a stop of
+# its dialer is busy until it is lost, too.)
 print_fault() {
     printf '%s\n' 'node a@h secret' 'node b@h secret' 'spawn a@h p' 'spawn b@h q' "${@:2}"
-    printf '%s\n' "${1//;/$'\n'}" settle 'ends p q' 'start a@h' 'start b@h' 'cut a@h b@h' settle 'lose a@h b@h' 'lose b@h a@h' settle
-    printf '%s\n' 'ends p q' 'dial a@h b@h' settle 'route a@h b@h' 'route b@h a@h'
+    printf '%s\n' "${1//;/$'\n'}" settle 'start a@h' 'start b@h' 'cut a@h b@h' settle 'lose a@h b@h' 'lose b@h a@h' settle
+    printf '%s\n' 'ends p q' 'dial a@h b@h' settle 'ends p q' 'route a@h b@h' 'route b@h a@h'
 }
 
 # Prints each fault behind a beginning of a run after which the two ends don't agree once nothing is in
