@@ -232,7 +232,7 @@ pub fn full_wire<R: Machine>(rt: &R, alloc: Global) -> Result<(), Wrong> {
 /// What two ports are called for, and what they answer.
 #[derive(Clone, Copy)]
 enum Step {
-    /// The one is to send a parcel of this place in its direction.
+    /// The one is to send a parcel of this number in its direction, from 1.
     Send(u64),
     /// Whether it puts one.
     Flush(bool),
@@ -240,7 +240,7 @@ enum Step {
     HasPut(usize),
     /// Whether the other takes one.
     Fetch(bool),
-    /// The place of the one that comes next there.
+    /// The number of the one that comes next there.
     Next(Option<u64>),
     /// That one has come.
     DropFirst,
@@ -251,25 +251,25 @@ enum Step {
 /// Two parcels, each of which comes when the one before has.
 const STEPS: &[Step] = &[
     Step::Flush(false),
-    Step::Send(0),
     Step::Send(1),
+    Step::Send(2),
     Step::Flush(true),
     Step::Flush(true),
     Step::Flush(false),
     Step::HasPut(2),
     Step::Fetch(true),
     Step::Fetch(false),
-    Step::Next(Some(0)),
+    Step::Next(Some(1)),
     Step::DropFirst,
     Step::Fetch(true),
-    Step::Next(Some(1)),
+    Step::Next(Some(2)),
     Step::DropFirst,
     Step::Fetch(false),
     Step::Next(None),
     Step::HasTaken(2),
 ];
 
-// The place in its direction of the parcel that comes next.
+// Returns the number in its direction of the parcel that comes next.
 fn next(port: &Port) -> Option<u64> {
     match port.first() {
         Some(parcel) => Some(parcel.seq),
