@@ -110,12 +110,8 @@ settle_times() {
 # kept, it is the one that was kept.
 find_sum() {
     local id names stats
-    if [ -n "$keep" ] && read -r sum id 2> /dev/null < "$keep/sources" && [ -f "$keep/names.$id" ] &&
+    if read -r sum id 2> /dev/null < "$keep/sources" && [ -f "$keep/names.$id" ] &&
         status_of "$keep/names.$id" | cmp -s - "$keep/stats.$id"; then
-        return
-    fi
-    if [ -z "$keep" ]; then
-        sum=$(sum_of_sources)
         return
     fi
     id=$(date +%s%N).$$
