@@ -1,16 +1,19 @@
 /* Refuses one allocation of a program, for ./fail-allocations, which preloads it: the one whose number,
-   from 1 on, the variable REFUSED says. A program that ends before that one ends with status 77. */
+   from 1 on, the variable REFUSED says. Where the variable MARK says a size in bytes, it counts from behind
+   the first allocation of that size. A program that ends before that one ends with status 77. */
 #define _GNU_SOURCE
 #include <dlfcn.h>
 #include <stdlib.h>
 #include <unistd.h>
 
-static long met, refused;
+static long met, refused, mark;
 
 __attribute__((constructor)) static void begin(void)
 {
     const char *word = getenv("REFUSED");
     refused = word ? atol(word) : 0;
+    word = getenv("MARK");
+    mark = word ? atol(word) : 0;
     met = 0;
 }
 
@@ -28,8 +31,13 @@ void _exit(int status)
     __builtin_unreachable();
 }
 
-static int is_refused(void)
+static int is_refused(size_t size)
 {
+    if (mark != 0) {
+        if (size == (size_t)mark)
+            mark = 0;
+        return 0;
+    }
     return __atomic_add_fetch(&met, 1, __ATOMIC_SEQ_CST) == refused;
 }
 
@@ -38,7 +46,7 @@ void *malloc(size_t size)
     static void *(*next)(size_t);
     if (!next)
         next = (void *(*)(size_t))dlsym(RTLD_NEXT, "malloc");
-    return is_refused() ? NULL : next(size);
+    return is_refused(size) ? NULL : next(size);
 }
 
 void *realloc(void *old, size_t size)
@@ -46,5 +54,5 @@ void *realloc(void *old, size_t size)
     static void *(*next)(void *, size_t);
     if (!next)
         next = (void *(*)(void *, size_t))dlsym(RTLD_NEXT, "realloc");
-    return is_refused() ? NULL : next(old, size);
+    return is_refused(size) ? NULL : next(old, size);
 }

@@ -4,12 +4,14 @@
 //! of what each has to come to, and of what there is to see then; after each event it is asked whether all
 //! processes agree on their links. `world_tests rows` leaves the long story away, for
 //! `./fail-allocations`: an event for which memory was wanting is tried again, so the rows have to hold
-//! under each allocation that is refused. `world_tests walk SEED NODES EVENTS` has so many events happen at
-//! random, and `world_tests measure` says how often some happen in a second.
+//! under each allocation that is refused. `world_tests ending` has a process with 1,000 links end, and
+//! compares the world with a copy after each refused event. `world_tests walk SEED NODES EVENTS` has so many
+//! events happen at random, and `world_tests measure` says how often some happen in a second.
 #![tactic(auto)]
 
 mod answers;
 mod claims;
+mod ending;
 mod events;
 mod measuring;
 mod stage;
@@ -18,6 +20,7 @@ mod told;
 mod walking;
 
 use anyhow::{Context, Result};
+use ending::tell_ending;
 use measuring::measure;
 use stage::tell_all;
 use std::env;
@@ -25,7 +28,7 @@ use std::process::ExitCode;
 use stories::{ALL, LONG};
 use walking::walk_at_random;
 
-const USAGE: &str = "usage: world_tests [rows | measure | walk SEED NODES EVENTS]";
+const USAGE: &str = "usage: world_tests [rows | ending | measure | walk SEED NODES EVENTS]";
 
 fn number(rt: &HostRuntime, place: usize) -> Result<u64> {
     let word = env::args(rt)?.nth(place).context(USAGE)?;
@@ -36,8 +39,14 @@ fn number(rt: &HostRuntime, place: usize) -> Result<u64> {
 fn run(rt: &HostRuntime) -> Result<bool> {
     let word = env::args(rt)?.nth(1);
     match word.as_ref().map_or("", |word| word.as_str()) {
-        "" => Ok(tell_all(rt, ALL)? && tell_all(rt, LONG)? && walk_at_random(rt, 1, 3, 2000)?),
+        "" => Ok(
+            tell_all(rt, ALL)?
+                && tell_all(rt, LONG)?
+                && tell_ending(rt)?
+                && walk_at_random(rt, 1, 3, 2000)?,
+        ),
         "rows" => tell_all(rt, ALL),
+        "ending" => tell_ending(rt),
         "measure" => {
             measure(rt)?;
             Ok(true)

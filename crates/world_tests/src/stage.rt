@@ -87,7 +87,7 @@ fn open(alloc: Global, cookies: &[&str]) -> Result<Stage, Refusal> {
     }
 }
 
-/// What comes of a step.
+/// Returns what comes of a step.
 pub fn act(alloc: Global, world: &mut World, step: Step) -> Result<Told, Refusal> {
     let event = event(alloc, step)?;
     let report = world.apply(alloc, event)?;
@@ -96,8 +96,8 @@ pub fn act(alloc: Global, world: &mut World, step: Step) -> Result<Told, Refusal
     Ok(told)
 }
 
-// The same. Where memory is wanting, it is tried again.
-fn persist(alloc: Global, world: &mut World, step: Step) -> Told {
+/// Returns what comes of a step. An event for which there was no memory is tried once more.
+pub fn persist(alloc: Global, world: &mut World, step: Step) -> Told {
     let first = act(alloc, world, step);
     let answered = if first == Err(Refusal::OutOfMemory) {
         act(alloc, world, step)
