@@ -21,11 +21,11 @@ abbrev is_other : {K : Type 0} → (K → K → Ordering) → K → K → Bool
 is_other cmp q x = not (eq_by_cmp cmp q x)
 
 module _ {K : Type 0} {cmp : K → K → Ordering} (order : IsTotalOrder cmp) where
-  less_than_tied : (x y q : K) → cmp x y ≡ Less → cmp y q ≡ Equal → cmp x q ≡ Less
+  pub less_than_tied : (x y q : K) → cmp x y ≡ Less → cmp y q ≡ Equal → cmp x q ≡ Less
   less_than_tied x y q l e = sym (alike_right order y q x e) ∙ l
 
   -- a lesser key compares with a third no higher
-  index_rises : (x y q : K) → cmp x y ≡ Less → ordering_index (cmp x q) ≤ ordering_index (cmp y q)
+  pub index_rises : (x y q : K) → cmp x y ≡ Less → ordering_index (cmp x q) ≤ ordering_index (cmp y q)
   index_rises x y q lt = go (cmp y q) refl
     where
       at_most_two : (o : Ordering) → ordering_index o ≤ 2
@@ -38,13 +38,13 @@ module _ {K : Type 0} {cmp : K → K → Ordering} (order : IsTotalOrder cmp) wh
       go Equal e = let l : cmp x q ≡ Less = less_than_tied x y q lt e in rw l (omega arith)
       go Greater e = at_most_two _
 
-  greater_of_less : (x y : K) → cmp x y ≡ Less → cmp y x ≡ Greater
+  pub greater_of_less : (x y : K) → cmp x y ≡ Less → cmp y x ≡ Greater
   greater_of_less x y h = order.antisymm y x ∙ ap ordering_reverse h
 
-  less_of_greater : (x y : K) → cmp x y ≡ Greater → cmp y x ≡ Less
+  pub less_of_greater : (x y : K) → cmp x y ≡ Greater → cmp y x ≡ Less
   less_of_greater x y h = order.antisymm y x ∙ ap ordering_reverse h
 
-  tied_back : (x y : K) → cmp x y ≡ Equal → cmp y x ≡ Equal
+  pub tied_back : (x y : K) → cmp x y ≡ Equal → cmp y x ≡ Equal
   tied_back x y h = order.antisymm y x ∙ ap ordering_reverse h
 
 module _ {K V : Type 0} {cmp : K → K → Ordering} (order : IsTotalOrder cmp) where
@@ -118,14 +118,14 @@ module _ {K V : Type 0} {cmp : K → K → Ordering} (order : IsTotalOrder cmp) 
   finds (e ∷ rest) q (suc at) d h =
       ap (λ o. cond (is_eq o) (Some e.1) (find cmp q rest)) (greater_of_less order e.0 q h.0) ∙ finds rest q at d h.1
 
-  all_greater : (q x : K) (es : List (K × V)) → cmp q x ≡ Less → T (below_all cmp x es) → T (below_all cmp q es)
+  pub all_greater : (q x : K) (es : List (K × V)) → cmp q x ≡ Less → T (below_all cmp x es) → T (below_all cmp q es)
   all_greater q x [] l h = tt
   all_greater q x (e ∷ rest) l h =
       let t = both_pass _ _ h in
       let r : T (below_all cmp q rest) = all_greater q x rest l t.1 in
       subst (λ o. T (is_lt o && below_all cmp q rest)) (sym (order.trans q x e.0 l (less _ t.0))) r
 
-  all_above_tied : (q x : K) (es : List (K × V)) → cmp x q ≡ Equal → T (below_all cmp x es) → T (below_all cmp q es)
+  pub all_above_tied : (q x : K) (es : List (K × V)) → cmp x q ≡ Equal → T (below_all cmp x es) → T (below_all cmp q es)
   all_above_tied q x [] t h = tt
   all_above_tied q x (e ∷ rest) t h =
       let s = both_pass _ _ h in
@@ -159,7 +159,7 @@ module _ {K V : Type 0} {cmp : K → K → Ordering} (order : IsTotalOrder cmp) 
       ap (λ o. by_order o ((q, v) ∷ e ∷ rest) ((e.0, v) ∷ rest) (e ∷ put cmp q v rest)) (greater_of_less order e.0 q h.0)
       ∙ ap (λ l. e ∷ l) (put_gap rest q v at h.1)
 
-  all_others : (q : K) (es : List (K × V)) → T (below_all cmp q es) → without cmp q es ≡ es
+  pub all_others : (q : K) (es : List (K × V)) → T (below_all cmp q es) → without cmp q es ≡ es
   all_others q [] h = refl
   all_others q (e ∷ rest) h =
       let t = both_pass _ _ h in

@@ -1,9 +1,9 @@
 -- A finite map as the list of its entries, in the strict order of their keys.
-use Rattle.std.specs.Prelude.{◌≡◌, ℕ, zero, suc, Bool, not, Option, None, Some, List, [], ◌∷◌, is_some, if◌then◌else◌, refl}
+use Rattle.std.specs.Prelude.{◌≡◌, ℕ, zero, suc, Bool, true, not, Option, None, Some, List, [], ◌∷◌, is_some, if◌then◌else◌, refl}
 use Rattle.std.specs.Coded.{Coded, code_by, coded×, coded_list, coded_ℕ}
 use Rattle.std.specs.declared.cmp.Ordering.{Ordering}
 use Rattle.std.specs.declared.cmp.Ordering.TheVariants.{Less, Equal, Greater}
-use Rattle.std.specs.Ordering.{eq_by_cmp}
+use Rattle.std.specs.Ordering.{eq_by_cmp, is_lt}
 use Rattle.std.specs.List.{slice_get}
 use Rattle.std.specs.FinMap.{find, put}
 use Rattle.std.specs.FinMap.Entries.{where_key}
@@ -28,6 +28,11 @@ abbrev pub at_place : {K V : Type 0} → List (K × V) → Option ℕ → Option
 at_place entries None = None
 at_place entries (Some at) = slice_get entries at
 
+-- the key is greater than this one, if one is given
+abbrev pub is_behind : {K : Type 0} → (K → K → Ordering) → Option K → K → Bool
+is_behind cmp None key = true
+is_behind cmp (Some last) key = is_lt (cmp last key)
+
 module _ {K V : Type 0} (cmp : K → K → Ordering) where
   -- the entries but for that of the key
   abbrev pub without : K → List (K × V) → List (K × V)
@@ -49,3 +54,7 @@ module _ {K V : Type 0} (cmp : K → K → Ordering) where
   IsGapAt [] key (suc at) = ⊥
   IsGapAt (first ∷ rest) key zero = cmp first.0 key ≡ Greater
   IsGapAt (first ∷ rest) key (suc at) = (cmp first.0 key ≡ Less) × IsGapAt rest key at
+
+  -- the entry of the least key behind this one
+  abbrev pub next : Option K → List (K × V) → Option (K × V)
+  next behind entries = first_where (λ key _. is_behind cmp behind key) entries

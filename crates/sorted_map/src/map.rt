@@ -49,7 +49,7 @@ impl<K: Ord, V> SortedMap<K, V> {
         }
     }
 
-    /// The entries, in the order of their keys. Takes no memory.
+    /// Returns the entries, in the order of their keys. Takes no memory.
     pub fn entries(&self) -> &[(K, V)]
         ensures entries { result.now ≡ self.now.entries }
         ensures sorted { T (is_sorted K.cmp self.now.entries) }
@@ -57,7 +57,7 @@ impl<K: Ord, V> SortedMap<K, V> {
         &self.entries
     }
 
-    /// The value of a key, if it has one. Takes no memory.
+    /// Returns the value of a key, if it has one. Takes no memory.
     pub fn get(&self, key: &K) -> Option<&V>
         ensures { option_copied result ≡ find K.cmp key.now self.now.entries }
     {
@@ -67,7 +67,7 @@ impl<K: Ord, V> SortedMap<K, V> {
         }
     }
 
-    /// Where the entry of a key is, or where it would go. Takes no memory.
+    /// Returns the index of a key's entry, or the index at which it would go. Takes no memory.
     pub fn place(&self, key: &K) -> Result<usize, usize>
         ensures found { IfOk result (IsFoundAt K.cmp self.now.entries key.now) }
         ensures gap { IfErr result (IsGapAt K.cmp self.now.entries key.now) }
@@ -75,7 +75,7 @@ impl<K: Ord, V> SortedMap<K, V> {
         place(&self.entries, key)
     }
 
-    /// How many more keys may come without memory.
+    /// Returns the number of keys that may still come without memory.
     pub fn room(&self) -> usize
         ensures { result ≡ self.now.room }
     {
@@ -165,7 +165,7 @@ impl<K: Ord, V> SortedMap<K, V> {
     }
 }
 
-// Where the entry of a key is, or where it would go.
+// Returns the index of a key's entry, or the index at which it would go.
 fn place<K: Ord, V>(entries: &[(K, V)], key: &K) -> Result<usize, usize>
     requires { T (is_sorted K.cmp entries.now) }
     ensures found { IfOk result (IsFoundAt K.cmp entries.now key.now) }
