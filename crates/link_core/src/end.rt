@@ -1,7 +1,7 @@
 //! One end of a link, and the signals between two ends.
 
-/// What a process holds of its link to another process. It is linked only where the end is
-/// active. (ERTS User's Guide, Distribution Protocol, New Link Protocol.)
+/// A process's end of its link to another process. It is linked only where the end is active. (ERTS
+/// User's Guide, Distribution Protocol, New Link Protocol.)
 #[derive(Clone, Copy, Debug, PartialEq, Eq)]
 pub enum End {
     /// There is no link.

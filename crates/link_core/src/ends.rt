@@ -1,19 +1,22 @@
 //! The link records of one process.
 
-ghost use Rattle.std.specs.Prelude.{◌≡◌, ◌≢◌, ◌≤◌, ◌+◌, IfOk, OnOk, OnErr, IsOk, Some};
+ghost use Rattle.std.specs.Prelude.{◌≡◌, ◌≢◌, ◌≤◌, ◌+◌, ◌&&◌, IfOk, OnOk, OnErr, IsOk, Some};
 ghost use Rattle.std.specs.FinMap as map;
 ghost use Rattle.std.specs.Option.{option_copied};
-ghost use Rattle.std.specs.Ordering.{nat_cmp, eq_by_cmp};
+ghost use Rattle.std.specs.List.{slice_get};
+ghost use Rattle.std.specs.Ordering.{nat_cmp, eq_by_cmp, is_lt};
 ghost use Rattle.std.specs.Cmp.Lexicographic.{slice_cmp};
 ghost use Rattle.sorted_map.specs.Entries.{first_where};
 ghost use Rattle.link_core.specs.Table.{linked, link_sent, unlinked, unlink_sent, received, exited, is_active, answered};
 ghost use Rattle.link_core.specs.Ends.{end_of, with_end};
-ghost use Rattle.link_core.specs.Records.{AreSorted, IsLink};
+ghost use Rattle.erl_term.specs.Order.{pid_cmp};
+ghost use Rattle.link_core.specs.Records.{IsLink};
 
 use crate::end::{End, LinkSignal};
 use erl_term::{Atom, Pid};
-use sorted_map::SortedMap;
+use sorted_map::TreeMap;
 use std::alloc::{AllocError, Global};
+use std::cmp::Ordering;
 use std::marker::Model;
 
 /// The ends of the links of one process, by partner. Contracts see the finite map from pids to
@@ -21,7 +24,7 @@ use std::marker::Model;
 /// partner that isn't there has the end [`End::None`].
 #[derive(Drop)]
 pub struct Ends {
-    records: SortedMap<Pid, End>,
+    records: TreeMap<Pid, End>,
 }
 
 impl Model for Ends {
@@ -46,11 +49,11 @@ impl Ends {
         ensures { result.ends ≡ map.empty }
     {
         Ends {
-            records: SortedMap::new(alloc),
+            records: TreeMap::new(alloc),
         }
     }
 
-    /// The end towards a partner.
+    /// Returns the end towards a partner.
     pub fn end(&self, partner: &Pid) -> End
         ensures end { result ≡ end_of self.now.ends partner.now }
         // the end that a partner has, set again, changes nothing
@@ -74,7 +77,7 @@ impl Ends {
         self.records.reserve(additional)
     }
 
-    /// The process links itself to a partner. Answers the signal to be sent to it, if any. (ERTS
+    /// Links the process to a partner. Returns the signal to be sent to it, if any. (ERTS
     /// User's Guide, Distribution Protocol, New Link Protocol.)
     ///
     /// # Errors
@@ -97,7 +100,7 @@ impl Ends {
         Ok(Some(LinkSignal::Link))
     }
 
-    /// The process takes its link to a partner back, under a new unlink id. Answers the signal to
+    /// Takes the link to a partner back, under a new unlink id. Returns the signal to
     /// be sent to the partner, if any. Takes no memory. (ERTS User's Guide, Distribution Protocol,
     /// New Link Protocol.)
     pub fn unlink(&mut self, partner: &Pid, id: u64) -> Option<LinkSignal>
@@ -184,21 +187,53 @@ impl Ends {
         was_active
     }
 
-    /// The partners to which there is a link, active or pending, in the order of pids, and the end
-    /// towards each. Takes no memory.
-    pub fn partners(&self) -> &[(Pid, End)]
-        ensures { result.now ≡ map.entries self.now.ends }
+    /// Returns the first partner to which there is a link, active or pending, in the order of pids, and
+    /// the end towards it. Takes no memory.
+    pub fn first(&self) -> Option<&(Pid, End)>
+        ensures { option_copied result ≡ slice_get (map.entries self.now.ends) 0 }
     {
-        self.records.entries()
+        self.records.first()
     }
 
-    /// The first partner at the node of this name, in the order of pids, and the end towards it. The
-    /// partners at one node lie beside one another, so the search doesn't go over the others. Takes no
-    /// memory.
+    /// Returns the least partner that is greater than this one, of those to which there is a link, active
+    /// or pending, and the end towards it. Takes no memory.
+    pub fn next_behind(&self, partner: &Pid) -> Option<&(Pid, End)>
+        ensures { option_copied result ≡ first_where (λ held end. is_lt (pid_cmp partner.now held)) (map.entries self.now.ends) }
+    {
+        self.records.next_behind(partner)
+    }
+
+    /// Returns the first partner at the node of this name, in the order of pids, and the end towards it.
+    /// The partners at one node lie beside one another, so the search doesn't go over the others. Takes
+    /// no memory.
     pub fn first_towards(&self, node: &Atom) -> Option<&(Pid, End)>
         ensures { option_copied result ≡ first_where (λ partner end. eq_by_cmp (slice_cmp nat_cmp) partner.node node.now) (map.entries self.now.ends) }
     {
-        first_at(self.records.entries(), node)
+        let record = self.records.first_at(|partner| partner.node.cmp(node))?;
+        if record.0.node.cmp(node).is_eq() {
+            Some(record)
+        } else {
+            None
+        }
+    }
+
+    /// Returns the first partner at the node of this name, of those that are greater than a partner, in
+    /// the order of pids, and the end towards it. Takes no memory.
+    pub fn next_towards(&self, node: &Atom, partner: &Pid) -> Option<&(Pid, End)>
+        ensures { option_copied result ≡ first_where (λ held end. is_lt (pid_cmp partner.now held) && eq_by_cmp (slice_cmp nat_cmp) held.node node.now) (map.entries self.now.ends) }
+    {
+        let record = self.records.first_at(|held| {
+            if held.cmp(partner).is_le() || held.node.cmp(node).is_lt() {
+                Ordering::Less
+            } else {
+                Ordering::Equal
+            }
+        })?;
+        if record.0.node.cmp(node).is_eq() {
+            Some(record)
+        } else {
+            None
+        }
     }
 
     // Puts the record of a link, at a partner that has one or as a new one.
@@ -230,19 +265,5 @@ impl Ends {
         ensures room { self.old.room ≤ self.new.room }
     {
         self.records.remove(partner);
-    }
-}
-
-// The first partner at a node, by a binary search.
-fn first_at<'a>(records: &'a [(Pid, End)], node: &Atom) -> Option<&'a (Pid, End)>
-    requires { AreSorted records.now }
-    ensures { option_copied result ≡ first_where (λ partner end. eq_by_cmp (slice_cmp nat_cmp) partner.node node.now) records.now }
-{
-    let at = records.partition_point(|(partner, _)| partner.node.cmp(node).is_lt());
-    let record = records.get(at)?;
-    if record.0.node.cmp(node).is_eq() {
-        Some(record)
-    } else {
-        None
     }
 }

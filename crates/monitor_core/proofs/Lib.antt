@@ -1,8 +1,11 @@
 pub mod Maps
 pub mod Held
-pub mod First
 pub mod Departures
-mod Tallies
-mod Shifts
-mod Parts
-mod Indexed
+mod Lists
+mod Filling
+mod Members
+mod Ranks
+mod Among
+mod Present
+mod Left
+pub mod Walks

@@ -6,17 +6,11 @@ use Rattle.std.specs.declared.cmp.Ordering.{Ordering}
 use Rattle.std.specs.declared.cmp.Ordering.TheVariants.{Less, Equal, Greater}
 use Rattle.std.specs.Ordering.{is_eq, eq_by_cmp}
 use Rattle.std.specs.FinMap as map
-use Rattle.std.specs.FinMap.{find, put}
-use Rattle.sorted_map.specs.Maps.{map_put}
 use Rattle.erl_term.specs.declared.term.Reference.{Reference}
 use Rattle.monitor_core.specs.declared.monitor.Monitor.{Monitor}
 use Rattle.erl_term.specs.Order.{reference_cmp}
 use Rattle.monitor_core.specs.Monitors.{MonitorMap, added}
-use Rattle.monitor_core.specs.Records.{Records, AreSorted}
 use Rattle.erl_term.proofs.Order.{reference_cmp_total, reference_cmp_exact}
-
-abbrev pub map_of : Records → MonitorMap
-map_of rs = map.from_sorted rs
 
 -- what is there already, put again, changes nothing
 same_at : (x : Option Monitor) (y : Option Monitor) (b : Bool) → (b ≡ true → y ≡ x) → cond b x y ≡ y
@@ -35,20 +29,6 @@ pub remove_same : (m : MonitorMap) (r : Reference) → map.get m r ≡ None → 
 remove_same m r h = map.same_map reference_cmp_total reference_cmp_exact _ _ (λ q.
     map.get-remove reference_cmp_total m r q
     ∙ same_at None (map.get m q) (eq_by_cmp reference_cmp q r) (λ t. ap (map.get m) (equal_reference q r t) ∙ h))
-
--- the entries of what the records stand for are the records
-pub entries_here : (rs : Records) (m : MonitorMap) → AreSorted rs → map_of rs ≡ m → rs ≡ map.entries m
-entries_here rs m h is = sym (map.entries-from_sorted reference_cmp rs h) ∙ ap map.entries is
-
-pub get_here : (rs : Records) (r : Reference) → AreSorted rs → map.get (map_of rs) r ≡ find reference_cmp r rs
-get_here rs r h = map.get-from_sorted reference_cmp rs r h
-
--- a reference that has none gets the monitor, and one that has one keeps it
-pub added_new : (rs : Records) (r : Reference) (m : Monitor) → AreSorted rs → find reference_cmp r rs ≡ None
-    → map_of (put reference_cmp r m rs) ≡ added (map_of rs) r m
-added_new rs r m h none =
-    map_put reference_cmp_total r m rs h
-    ∙ sym (ap (λ o. cond (is_some o) (map_of rs) (map.insert (map_of rs) r m)) (get_here rs r h ∙ none))
 
 pub added_again : (m : MonitorMap) (r : Reference) (monitor : Monitor) → is_some (map.get m r) ≡ true → added m r monitor ≡ m
 added_again m r monitor h = ap (λ b. cond b m (map.insert m r monitor)) h

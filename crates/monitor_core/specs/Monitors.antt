@@ -8,7 +8,7 @@ use Rattle.erl_term.specs.declared.term.Pid.{Pid}
 use Rattle.erl_term.specs.declared.term.Reference.{Reference}
 use Rattle.erl_term.specs.Order.{pid_cmp, reference_cmp}
 use Rattle.monitor_core.specs.declared.monitor.Monitor.{Monitor}
-use Rattle.monitor_core.specs.declared.places.Side.{Side}
+use Rattle.monitor_core.specs.declared.orders.Side.{Side}
 
 abbrev pub MonitorMap : Type 0
 MonitorMap = map.FinMap reference_cmp Monitor
@@ -42,12 +42,12 @@ abbrev pub added : MonitorMap → Reference → Monitor → MonitorMap
 added monitors reference monitor =
     if map.contains_key monitors reference then monitors else map.insert monitors reference monitor
 
--- whether there is a monitor, and its owner and target are these
+-- true if there is a monitor, and its owner and target are these
 abbrev pub is_this : Option Monitor → Monitor → Bool
 is_this None monitor = false
 is_this (Some held) monitor = eq_by_cmp pid_cmp held.owner monitor.owner && eq_by_cmp pid_cmp held.target monitor.target
 
--- whether reference, owner and target stand together
+-- true if the reference has the monitor of this owner and target
 abbrev pub is_held : MonitorMap → Reference → Monitor → Bool
 is_held monitors reference monitor = is_this (map.get monitors reference) monitor
 

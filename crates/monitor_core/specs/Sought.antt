@@ -1,14 +1,57 @@
--- Which monitors are sought.
-use Rattle.std.specs.Prelude.{Bool}
-use Rattle.std.specs.Ordering.{nat_cmp, eq_by_cmp}
+-- The entries that a search is for.
+use Rattle.std.specs.Prelude.{◌≡◌, ◌≢◌, ◌&&◌, if◌then◌else◌, ℕ, Bool, true, false, List, Option, None, Some}
+use Rattle.std.specs.declared.cmp.Ordering.{Ordering}
+use Rattle.std.specs.declared.cmp.Ordering.TheVariants.{Less, Equal}
+use Rattle.std.specs.Ordering.{nat_cmp, ordering_then, is_lt, is_eq}
 use Rattle.std.specs.Cmp.Lexicographic.{slice_cmp}
-use Rattle.erl_term.specs.Order.{pid_cmp}
-use Rattle.monitor_core.specs.declared.monitor.Monitor.{Monitor}
-use Rattle.monitor_core.specs.declared.monitors.Sought.{Sought}
-use Rattle.monitor_core.specs.declared.monitors.Sought.TheVariants.{OwnedBy, Targeting, OwnedOn, TargetingOn}
+use Rattle.erl_term.specs.Order.{pid_cmp, reference_cmp}
+use Rattle.erl_term.specs.declared.term.Reference.{Reference}
+use Rattle.monitor_core.specs.declared.orders.Side.{Side}
+use Rattle.monitor_core.specs.declared.orders.By.{By}
+use Rattle.monitor_core.specs.declared.orders.By.TheVariants.{References, Processes, Nodes}
+use Rattle.monitor_core.specs.declared.orders.Sought.{Sought}
+use Rattle.monitor_core.specs.declared.orders.Sought.TheVariants.{Named, OfProcess, OnNode}
+use Rattle.monitor_core.specs.Slots.{Entry, held_at}
+use Rattle.monitor_core.specs.Orders.{process_of, other_side}
 
-abbrev pub meets : Sought → Monitor → Bool
-meets (OwnedBy owner) monitor = eq_by_cmp pid_cmp monitor.owner owner.now
-meets (Targeting target) monitor = eq_by_cmp pid_cmp monitor.target target.now
-meets (OwnedOn node) monitor = eq_by_cmp (slice_cmp nat_cmp) monitor.owner.node node.now
-meets (TargetingOn node) monitor = eq_by_cmp (slice_cmp nat_cmp) monitor.target.node node.now
+-- true if a reference is greater than the bound, or there is no bound
+abbrev pub is_behind : Option Reference → Reference → Bool
+is_behind None reference = true
+is_behind (Some bound) reference = is_lt (reference_cmp bound reference)
+
+-- the order of an entry against those that are sought
+abbrev pub stand : Side → Sought → Entry → Ordering
+stand side (Named reference) entry = reference_cmp entry.0 reference.now
+stand side (OfProcess process) entry = pid_cmp (process_of side entry.1) process.now
+stand side (OnNode node) entry = slice_cmp nat_cmp (process_of (other_side side) entry.1).node node.now
+
+-- the order in which the entries that are sought lie beside one another
+abbrev pub by_of : Side → Sought → By
+by_of side (Named reference) = References
+by_of side (OfProcess process) = Processes side
+by_of side (OnNode node) = Nodes (other_side side)
+
+abbrev pub meets : Side → Sought → Option Reference → Entry → Bool
+meets side sought behind entry = is_behind behind entry.0 && is_eq (stand side sought entry)
+
+-- the order of an entry, or of the entry in a slot, against the first that is sought behind a reference
+abbrev pub entry_place : Side → Sought → Option Reference → Option Entry → Ordering
+entry_place side sought behind None = Less
+entry_place side sought behind (Some entry) =
+    ordering_then (stand side sought entry) (if is_behind behind entry.0 then Equal else Less)
+
+abbrev pub slot_place : Side → Sought → Option Reference → List (Option Entry) → ℕ → Ordering
+slot_place side sought behind slots slot = entry_place side sought behind (held_at slots slot)
+
+-- of the entries that pass, this slot holds the one of the least reference
+pub record IsLeastAt (passes : Entry → Bool) (slots : List (Option Entry)) (found : ℕ) : Type 0 where
+  pub entry : Entry
+  pub held : held_at slots found ≡ Some entry
+  pub passing : passes entry ≡ true
+  pub least : (slot : ℕ) (other : Entry) → held_at slots slot ≡ Some other → passes other ≡ true
+      → reference_cmp other.0 entry.0 ≢ Less
+
+-- the slot of the least reference, or none if no entry passes
+abbrev pub IsNext : (Entry → Bool) → List (Option Entry) → Option ℕ → Type 0
+IsNext passes slots None = (slot : ℕ) (entry : Entry) → held_at slots slot ≡ Some entry → passes entry ≡ false
+IsNext passes slots (Some found) = IsLeastAt passes slots found

@@ -9,7 +9,9 @@
 mod laws;
 mod monitor;
 mod monitors;
-mod places;
+mod orders;
+mod slots;
+mod trees;
 mod watchers;
 mod watches;
 

@@ -1,112 +1,115 @@
-//! Monitors in the order of their references.
+//! Monitors by reference.
 
-ghost use Rattle.std.specs.Prelude.{◌≡◌, ◌↔◌, ◌≤◌, ◌+◌, IsTrue, OnOk, OnErr, IsOk, IfSome, IfNone, None, Some, ◌<◌, length, drop};
+ghost use Rattle.std.specs.Prelude.{◌≡◌, ◌↔◌, ◌≤◌, ◌+◌, ◌-◌, ℕ, IsTrue, IsSome, OnOk, OnErr, IsOk, None, Some};
 ghost use Rattle.std.specs.Bool.{OnFalse};
+ghost use Rattle.std.specs.List.{last_or};
 ghost use Rattle.std.specs.Option.{option_copied};
-ghost use Rattle.std.specs.FinMap as map;
-ghost use Rattle.sorted_map.specs.Entries.{first_where, at_place};
-ghost use Rattle.std.specs.List.{All, filter};
 ghost use Rattle.std.specs.Ordering.{eq_by_cmp};
+ghost use Rattle.std.specs.FinMap as map;
+ghost use Rattle.sorted_map.specs.Entries.{first_where};
 ghost use Rattle.erl_term.specs.Order.{pid_cmp};
-ghost use Rattle.monitor_core.specs.Index.{picked, process_of};
-ghost use Rattle.monitor_core.specs.Left.{without};
+ghost use Rattle.monitor_core.specs.Left.{IsFirstGone, without};
 ghost use Rattle.monitor_core.specs.Monitors.{is_held};
-ghost use Rattle.monitor_core.specs.Sought.{meets};
+ghost use Rattle.monitor_core.specs.Orders.{process_of};
 ghost use Rattle.monitor_core.specs.Runs.{Adds, Removes, Ends, takes, called};
-ghost use Rattle.monitor_core.specs.Records.{PassesFirstAt, NonePasses};
+ghost use Rattle.monitor_core.specs.Slots.{Becomes, IsFresh, WasPut, held_at};
+ghost use Rattle.monitor_core.specs.Sought.{meets};
+ghost use Rattle.monitor_core.specs.Trees.{AreIndexed, HaveRoom};
 
 use crate::monitor::Monitor;
-use crate::places::{Point, Side, close};
-use erl_term::{Atom, Pid, Reference};
-use sorted_map::SortedMap;
+use crate::orders::{Side, Sought};
+use crate::slots::Slots;
+use crate::trees::Trees;
+use erl_term::{Pid, Reference};
 use std::alloc::{AllocError, Global};
 use std::marker::Model;
 
-/// Monitors by reference, with the places of those of each process. Contracts see the finite map from
-/// references to monitors, in the order of references, the room: how many more references may come
-/// without memory, and by which of its processes a monitor is found.
+/// Monitors by reference, found by one of their processes too, and by the node of the other one.
+/// Contracts see the finite map from references to monitors, in the order of references, the room: how
+/// many more references may come without memory, and by which of its processes a monitor is found.
 #[derive(Drop)]
 pub(crate) struct Monitors {
     side: Side,
-    records: SortedMap<Reference, Monitor>,
-    places: Vec<usize>,
+    slots: Slots,
+    trees: Trees,
+    // Each part has this room at least.
+    room: usize,
 }
 
 impl Model for Monitors {
-    ghost use Rattle.std.specs.Prelude.{min, ◌-◌};
-    ghost use Rattle.std.specs.Vec.{vec_len, vec_capacity};
-    ghost use Rattle.std.specs.FinMap as map;
-    ghost use Rattle.monitor_core.specs.Index.{IsKept, process_of};
     ghost use Rattle.monitor_core.specs.Monitors.{Sided, sided_code};
+    ghost use Rattle.monitor_core.specs.Slots.{map_of};
+    ghost use Rattle.monitor_core.specs.Trees.{AreMonitors};
     ghost use Rattle.erl_term.specs.contracts.term.Reference as reference;
     ghost use Rattle.monitor_core.specs.contracts.monitor.Monitor as monitor;
-    ghost use Rattle.monitor_core.specs.contracts.places.Side as the_side;
+    ghost use Rattle.monitor_core.specs.contracts.orders.Side as the_side;
 
     ghost Value = { Sided };
 
     ghost coded = { sided_code reference.the_row.coded monitor.the_row.coded the_side.the_row.coded };
 
-    ghost view = { λ a. record { monitors = map.from_sorted a.records.entries; room = min a.records.room (vec_capacity a.places - vec_len a.places); side = a.side } };
+    ghost view = { λ a. record { monitors = map_of a.slots.slots; room = a.room; side = a.side } };
 
-    ghost invariant = { λ a. IsKept (process_of a.side) a.records.entries a.places.items };
+    ghost invariant = { λ a. AreMonitors a.side a.slots a.trees a.room };
 }
 
-/// Which monitors are sought.
-#[derive(Clone, Copy)]
-pub(crate) enum Sought<'a> {
-    /// Those that the process owns.
-    OwnedBy(&'a Pid),
-    /// Those that watch the process.
-    Targeting(&'a Pid),
-    /// Those whose owner is on a node of the name.
-    OwnedOn(&'a Atom),
-    /// Those whose target is on a node of the name.
-    TargetingOn(&'a Atom),
+// Puts an entry in, whose reference has none. Takes no memory.
+fn put_in(side: Side, slots: &mut Slots, trees: &mut Trees, reference: Reference, monitor: Monitor)
+    requires indexed { AreIndexed side slots.old.slots trees.old }
+    requires fresh { IsFresh slots.old.slots reference }
+    requires slots { 1 ≤ slots.old.room }
+    requires trees { HaveRoom 1 trees.old }
+    ensures indexed { AreIndexed side slots.new.slots trees.new }
+    ensures put { WasPut slots.old.slots slots.new.slots (reference, monitor) }
+    ensures slots { slots.old.room ≤ slots.new.room + 1 }
+    ensures trees { (room : ℕ) → HaveRoom room trees.old → HaveRoom (room - 1) trees.new }
+{
+    let slot = slots.put(reference, monitor);
+    trees.insert(side, slots, slot);
 }
 
-impl Sought<'_> {
-    // Whether the monitor is one of them, by the orders of pids and of names, in which only equals tie.
-    fn is_met_by(&self, monitor: &Monitor) -> bool
-        ensures { result ≡ meets self.now monitor.now }
-    {
-        let order = match self {
-            Sought::OwnedBy(owner) => monitor.owner.cmp(owner),
-            Sought::Targeting(target) => monitor.target.cmp(target),
-            Sought::OwnedOn(node) => monitor.owner.node.cmp(node),
-            Sought::TargetingOn(node) => monitor.target.node.cmp(node),
-        };
-        order.is_eq()
-    }
+// Takes the entry of a slot out. Takes no memory.
+fn take_out(side: Side, slots: &mut Slots, trees: &mut Trees, slot: u32)
+    requires indexed { AreIndexed side slots.old.slots trees.old }
+    requires held { IsSome (held_at slots.old.slots slot) }
+    ensures indexed { AreIndexed side slots.new.slots trees.new }
+    ensures taken { Becomes slots.old.slots slots.new.slots slot None }
+    ensures slots { slots.old.room ≤ slots.new.room }
+    ensures trees { (room : ℕ) → HaveRoom room trees.old → HaveRoom room trees.new }
+{
+    trees.remove(side, slots, slot);
+    slots.take(slot);
 }
 
 impl Monitors {
-    /// No monitors, which are found by this process of theirs. Takes no memory.
+    /// Returns no monitors, which are found by this process of theirs. Takes no memory.
     pub(crate) fn new(alloc: Global, side: Side) -> Monitors
         ensures monitors { result.monitors ≡ map.empty }
         ensures side { result.side ≡ side }
     {
         Monitors {
             side,
-            records: SortedMap::new(alloc),
-            places: Vec::new(alloc),
+            slots: Slots::new(alloc),
+            trees: Trees::new(alloc),
+            room: 0,
         }
     }
 
-    /// The monitor of a reference.
+    /// Returns the monitor of a reference. Takes no memory.
     pub(crate) fn get(&self, reference: &Reference) -> Option<&Monitor>
         ensures { option_copied result ≡ map.get self.now.monitors reference.now }
     {
-        self.records.get(reference)
+        let slot = self
+            .trees
+            .next(self.side, &self.slots, &Sought::Named(reference), None)?;
+        let entry = self.slots.get(slot)?;
+        Some(&entry.1)
     }
 
-    /// The references and their monitors, in the order of references.
-    pub(crate) fn entries(&self) -> &[(Reference, Monitor)]
-        ensures { result.now ≡ map.entries self.now.monitors }
-    {
-        self.records.entries()
-    }
-
-    /// Makes room for so many more references.
+    /// Reserves room for so many more references.
+    ///
+    /// # Errors
+    /// Where there is no memory for it. Then nothing has changed.
     pub(crate) fn reserve(&mut self, additional: usize) -> Result<(), AllocError>
         ensures monitors { self.new.monitors ≡ self.old.monitors }
         ensures room { OnOk result (additional ≤ self.new.room) }
@@ -115,17 +118,19 @@ impl Monitors {
         ensures succeeds { additional ≤ self.old.room → IsOk result }
         ensures side { self.new.side ≡ self.old.side }
     {
-        // The greater room first: where the lesser can't grow then, the room hasn't changed.
-        if self.records.room() < self.places.capacity() - self.places.len() {
-            self.places.reserve(additional)?;
-            self.records.reserve(additional)
-        } else {
-            self.records.reserve(additional)?;
-            self.places.reserve(additional)
+        if additional <= self.room {
+            return Ok(());
         }
+        self.slots.reserve(additional)?;
+        self.trees.reserve(additional)?;
+        self.room = additional;
+        Ok(())
     }
 
     /// Puts a monitor in. A reference that has one keeps it.
+    ///
+    /// # Errors
+    /// Where the reference is new, and there is neither room nor memory. Then nothing has changed.
     pub(crate) fn add(&mut self, reference: Reference, monitor: Monitor) -> Result<(), AllocError>
         ensures monitors { OnOk result (self.new.monitors ≡ called self.old.monitors (Adds reference monitor)) }
         ensures room { self.old.room ≤ self.new.room + 1 }
@@ -134,14 +139,18 @@ impl Monitors {
         ensures succeeds { 1 ≤ self.old.room → IsOk result }
         ensures side { self.new.side ≡ self.old.side }
     {
-        let at = match self.records.place(&reference) {
-            Ok(_) => return Ok(()),
-            Err(at) => at,
-        };
-        self.places.reserve(1)?;
-        let none_before = self.records.insert(reference, monitor)?;
-        drop(none_before);
-        self.side.put(self.records.entries(), &mut self.places, at);
+        if self.get(&reference).is_some() {
+            return Ok(());
+        }
+        self.reserve(1)?;
+        put_in(
+            self.side,
+            &mut self.slots,
+            &mut self.trees,
+            reference,
+            monitor,
+        );
+        self.room -= 1;
         Ok(())
     }
 
@@ -153,15 +162,13 @@ impl Monitors {
         ensures unchanged { OnFalse result (self.new.monitors ≡ self.old.monitors) }
         ensures side { self.new.side ≡ self.old.side }
     {
-        let at = match self.records.place(reference) {
-            Ok(at) => at,
-            Err(_) => return false,
+        let sought = Sought::Named(reference);
+        let slot = match self.trees.next(self.side, &self.slots, &sought, None) {
+            Some(slot) => slot,
+            None => return false,
         };
-        let (from, to) = self
-            .side
-            .part(self.records.entries(), &self.places, &Point::At(at));
-        close(&mut self.places, from, to);
-        self.records.remove(reference).is_some()
+        take_out(self.side, &mut self.slots, &mut self.trees, slot);
+        true
     }
 
     /// Takes a monitor out where its owner and its target are these, and answers whether. Takes no
@@ -181,36 +188,39 @@ impl Monitors {
         ends
     }
 
-    /// Of the monitors that are sought, the one of the least reference.
-    pub(crate) fn first(&self, sought: &Sought<'_>) -> Option<&(Reference, Monitor)>
-        ensures { option_copied result ≡ first_where (λ reference monitor. meets sought.now monitor) (map.entries self.now.monitors) }
+    /// Returns the entry that is sought of the least reference, behind the one that is given. Takes no memory.
+    pub(crate) fn next(
+        &self,
+        sought: &Sought<'_>,
+        behind: Option<&Reference>,
+    ) -> Option<&(Reference, Monitor)>
+        ensures { option_copied result ≡ first_where (λ reference monitor. meets self.now.side sought.now (option_copied behind.entry) (reference, monitor)) (map.entries self.now.monitors) }
     {
-        let records = self.records.entries();
-        let at = first_place(records, sought)?;
-        records.get(at)
+        let slot = self.trees.next(self.side, &self.slots, sought, behind)?;
+        self.slots.get(slot)
     }
 
-    /// The place of the first of the monitors that are sought, of the places from this one on.
-    pub(crate) fn place_from(&self, sought: &Sought<'_>, from: usize) -> Option<usize>
-        ensures found { let entries = map.entries self.now.monitors in
-            at_place entries result ≡ first_where (λ reference monitor. meets sought.now monitor) (drop from entries) }
-        ensures place { IfSome result (λ at. (from ≤ at) × (at < length (map.entries self.now.monitors))) }
+    /// Returns the entry of the greatest reference. Takes no memory.
+    pub(crate) fn last(&self) -> Option<&(Reference, Monitor)>
+        ensures { option_copied result ≡ last_or None (map.entries self.now.monitors) }
     {
-        let rest = self.records.entries().get(from..)?;
-        let at = first_place(rest, sought)?;
-        Some(from + at)
+        let slot = self.trees.by_reference.last()?;
+        self.slots.get(slot)
     }
 
-    /// The places among the entries of the monitors that are found by a process, in their order.
-    pub(crate) fn places_of(&self, process: &Pid) -> &[usize]
-        ensures found { let entries = map.entries self.now.monitors in
-            picked entries result.now ≡ filter (λ entry. eq_by_cmp pid_cmp (process_of self.now.side entry.1) process.now) entries }
-        ensures places { All (λ place. place < length (map.entries self.now.monitors)) result.now }
+    // Takes the one of the least reference out that is found by the process, and answers whether there is one.
+    fn remove_first_of(&mut self, process: &Pid) -> bool
+        ensures monitors { IsFirstGone (first_where (λ reference monitor. eq_by_cmp pid_cmp (process_of self.old.side monitor) process.now) (map.entries self.old.monitors)) self.old.monitors result self.new.monitors }
+        ensures room { self.old.room ≤ self.new.room }
+        ensures side { self.new.side ≡ self.old.side }
     {
-        let (from, to) = self
-            .side
-            .part(self.records.entries(), &self.places, &Point::Of(process));
-        &self.places[from..to]
+        let sought = Sought::OfProcess(process);
+        let slot = match self.trees.next(self.side, &self.slots, &sought, None) {
+            Some(slot) => slot,
+            None => return false,
+        };
+        take_out(self.side, &mut self.slots, &mut self.trees, slot);
+        true
     }
 
     /// Takes those out that are found by a process. Takes no memory.
@@ -219,19 +229,10 @@ impl Monitors {
         ensures room { self.old.room ≤ self.new.room }
         ensures side { self.new.side ≡ self.old.side }
     {
-        let (from, to) = self
-            .side
-            .part(self.records.entries(), &self.places, &Point::Of(process));
-        if from == to {
-            return;
-        }
-        let side = self.side;
-        close(&mut self.places, from, to);
-        self.records
-            .retain(|(_, monitor)| side.process(monitor).cmp(process).is_ne());
+        while self.remove_first_of(process) {}
     }
 
-    // Whether reference, owner and target stand together.
+    // Returns whether reference, owner and target stand together.
     fn holds(&self, reference: &Reference, monitor: &Monitor) -> bool
         ensures answer { result ≡ is_held self.now.monitors reference.now monitor.now }
         ensures together { IsTrue result ↔ (map.get self.now.monitors reference.now ≡ Some monitor.now) }
@@ -243,14 +244,4 @@ impl Monitors {
             None => false,
         }
     }
-}
-
-// The first place of a record that is sought.
-fn first_place(records: &[(Reference, Monitor)], sought: &Sought<'_>) -> Option<usize>
-    ensures at { IfSome result (PassesFirstAt (meets sought.now) records.now) }
-    ensures none { IfNone result (NonePasses (meets sought.now) records.now) }
-{
-    records
-        .iter()
-        .position(|(_, monitor)| sought.is_met_by(monitor))
 }

@@ -1,21 +1,21 @@
 //! The monitors that others own, of the processes of a node.
 
-ghost use Rattle.std.specs.Prelude.{◌≡◌, ◌↔◌, ◌≤◌, ◌+◌, IsTrue, OnOk, OnErr, IsOk, IfSome, None, Some, ◌<◌, length, drop};
+ghost use Rattle.std.specs.Prelude.{◌≡◌, ◌↔◌, ◌≤◌, ◌+◌, IsTrue, OnOk, OnErr, IsOk, ◌&&◌, None, Some};
 ghost use Rattle.std.specs.Bool.{OnFalse};
 ghost use Rattle.std.specs.Option.{option_copied};
 ghost use Rattle.std.specs.Ordering.{nat_cmp, eq_by_cmp};
 ghost use Rattle.std.specs.Cmp.Lexicographic.{slice_cmp};
 ghost use Rattle.std.specs.FinMap as map;
-ghost use Rattle.std.specs.List.{All, filter};
+ghost use Rattle.std.specs.List.{last_or};
 ghost use Rattle.erl_term.specs.Order.{pid_cmp};
-ghost use Rattle.sorted_map.specs.Entries.{first_where, at_place};
-ghost use Rattle.monitor_core.specs.Index.{picked};
+ghost use Rattle.sorted_map.specs.Entries.{first_where};
 ghost use Rattle.monitor_core.specs.Left.{without_target};
 ghost use Rattle.monitor_core.specs.Runs.{Adds, Removes, Ends, takes, called};
+ghost use Rattle.monitor_core.specs.Sought.{is_behind};
 
 use crate::monitor::Monitor;
-use crate::monitors::{Monitors, Sought};
-use crate::places::Side;
+use crate::monitors::Monitors;
+use crate::orders::{Side, Sought};
 use erl_term::{Atom, Pid, Reference};
 use std::alloc::{AllocError, Global};
 use std::marker::Model;
@@ -31,7 +31,7 @@ pub struct Watchers {
 impl Model for Watchers {
     ghost use Rattle.std.specs.Prelude.{◌≡◌};
     ghost use Rattle.monitor_core.specs.Monitors.{Held, held_code};
-    ghost use Rattle.monitor_core.specs.declared.places.Side.TheVariants.{Target};
+    ghost use Rattle.monitor_core.specs.declared.orders.Side.TheVariants.{Target};
     ghost use Rattle.erl_term.specs.contracts.term.Reference as reference;
     ghost use Rattle.monitor_core.specs.contracts.monitor.Monitor as monitor;
 
@@ -45,7 +45,7 @@ impl Model for Watchers {
 }
 
 impl Watchers {
-    /// No monitors. Takes no memory.
+    /// Returns no monitors. Takes no memory.
     pub fn new(alloc: Global) -> Watchers
         ensures { result.monitors ≡ map.empty }
     {
@@ -54,21 +54,15 @@ impl Watchers {
         }
     }
 
-    /// The monitor of a reference. Takes no memory.
+    /// Returns the monitor of a reference. Takes no memory, and about as many steps as the logarithm of how
+    /// many monitors there are.
     pub fn get(&self, reference: &Reference) -> Option<&Monitor>
         ensures { option_copied result ≡ map.get self.now.monitors reference.now }
     {
         self.monitors.get(reference)
     }
 
-    /// The references and their monitors, in the order of references. Takes no memory.
-    pub fn entries(&self) -> &[(Reference, Monitor)]
-        ensures { result.now ≡ map.entries self.now.monitors }
-    {
-        self.monitors.entries()
-    }
-
-    /// Makes room for so many more monitors: as many can't be refused afterwards.
+    /// Reserves room for so many more monitors: as many can't be refused afterwards.
     ///
     /// # Errors
     /// Where there is no memory for it. Then nothing has changed.
@@ -82,7 +76,8 @@ impl Watchers {
         self.monitors.reserve(additional)
     }
 
-    /// MONITOR_P came: a process monitors one of this node. A reference that has a monitor keeps it.
+    /// Inserts the monitor for which MONITOR_P came: a process monitors one of this node. A reference that
+    /// has a monitor keeps it.
     /// (ERTS User's Guide, Distribution Protocol, MONITOR_P.)
     ///
     /// # Errors
@@ -97,7 +92,7 @@ impl Watchers {
         self.monitors.add(reference, monitor)
     }
 
-    /// DEMONITOR_P came: the owner takes its monitor back. Takes it out and answers `true` exactly
+    /// Takes the monitor out for which DEMONITOR_P came: its owner takes it back. Answers `true` exactly
     /// where the reference, the owner and the target stand together here, each of the pids whole.
     /// Takes no memory. (ERTS User's Guide, Distribution Protocol, DEMONITOR_P.)
     pub fn on_demonitor(&mut self, reference: &Reference, monitor: &Monitor) -> bool
@@ -122,8 +117,8 @@ impl Watchers {
         self.monitors.remove(reference)
     }
 
-    /// The target has ended: takes all its monitors out, in one pass, and in none where it has none.
-    /// Takes no memory. (Reference Manual, Processes, Monitors; ERTS User's Guide, Distribution
+    /// Takes all monitors of a target out, which has ended, one after the other. Each takes about as many
+    /// steps as the logarithm of how many monitors there are. Takes no memory. (Reference Manual, Processes, Monitors; ERTS User's Guide, Distribution
     /// Protocol, MONITOR_P_EXIT.)
     pub fn remove_targeting(&mut self, target: &Pid)
         ensures monitors { self.new.monitors ≡ without_target self.old.monitors target.now }
@@ -132,45 +127,55 @@ impl Watchers {
         self.monitors.remove_of(target);
     }
 
-    /// The places among [`Watchers::entries`] of the monitors that watch a process, in the order of
-    /// references. They are found by the process: no other monitors are gone over. Takes no memory.
-    /// (Reference Manual, Processes, Monitors; ERTS User's Guide, Distribution Protocol,
-    /// MONITOR_P_EXIT.)
-    pub fn targeting(&self, target: &Pid) -> &[usize]
-        ensures found { let entries = map.entries self.now.monitors in
-            picked entries result.now ≡ filter (λ entry. eq_by_cmp pid_cmp entry.1.target target.now) entries }
-        ensures places { All (λ place. place < length (map.entries self.now.monitors)) result.now }
-    {
-        self.monitors.places_of(target)
-    }
-
-    /// Of the monitors that watch a process, the one of the least reference. Takes no memory. (Reference
-    /// Manual, Processes, Monitors; ERTS User's Guide, Distribution Protocol, MONITOR_P_EXIT.)
+    /// Returns the monitor of the least reference, of those that watch a process. Takes no memory, and about
+    /// as many steps as the logarithm of how many monitors there are. (Reference Manual, Processes, Monitors; ERTS User's Guide, Distribution
+    /// Protocol, MONITOR_P_EXIT.)
     pub fn first_targeting(&self, target: &Pid) -> Option<&(Reference, Monitor)>
         ensures { option_copied result ≡ first_where (λ reference monitor. eq_by_cmp pid_cmp monitor.target target.now) (map.entries self.now.monitors) }
     {
-        self.monitors.first(&Sought::Targeting(target))
+        self.next_targeting(target, None)
     }
 
-    /// Of the monitors whose owner is on the node of this name, the one of the least reference. Takes no
-    /// memory. (Reference Manual, Processes, Monitors.)
+    /// Returns the monitor of the least reference, of those that watch a process. Where a reference is given,
+    /// only greater ones count. Takes no memory, and about as many steps as the logarithm of how many
+    /// monitors there are. (Reference Manual, Processes, Monitors; ERTS User's Guide, Distribution
+    /// Protocol, MONITOR_P_EXIT.)
+    pub fn next_targeting(
+        &self,
+        target: &Pid,
+        behind: Option<&Reference>,
+    ) -> Option<&(Reference, Monitor)>
+        ensures { option_copied result ≡ first_where (λ reference monitor. is_behind (option_copied behind.entry) reference && eq_by_cmp pid_cmp monitor.target target.now) (map.entries self.now.monitors) }
+    {
+        self.monitors.next(&Sought::OfProcess(target), behind)
+    }
+
+    /// Returns the monitor of the least reference, of those whose owner is on the node of this name.
+    /// Takes no memory, and about as many steps as the logarithm of how many monitors there are.
+    /// (Reference Manual, Processes, Monitors.)
     pub fn first_towards(&self, node: &Atom) -> Option<&(Reference, Monitor)>
         ensures { option_copied result ≡ first_where (λ reference monitor. eq_by_cmp (slice_cmp nat_cmp) monitor.owner.node node.now) (map.entries self.now.monitors) }
     {
-        self.monitors.first(&Sought::OwnedOn(node))
+        self.next_towards(node, None)
     }
 
-    /// The place among [`Watchers::entries`] of the first monitor whose owner is on the node of this name,
-    /// of the places from this one on. Takes no memory.
-    ///
-    /// A sweep of a lost connection goes on from the place where it took the last one out: so it
-    /// passes each monitor of the table once, and not once for each that it takes out. (Reference
-    /// Manual, Processes, Monitors.)
-    pub fn place_towards(&self, node: &Atom, from: usize) -> Option<usize>
-        ensures found { let entries = map.entries self.now.monitors in
-            at_place entries result ≡ first_where (λ reference monitor. eq_by_cmp (slice_cmp nat_cmp) monitor.owner.node node.now) (drop from entries) }
-        ensures place { IfSome result (λ at. (from ≤ at) × (at < length (map.entries self.now.monitors))) }
+    /// Returns the monitor of the least reference, of those whose owner is on the node of this name. Where
+    /// a reference is given, only greater ones count. Takes no memory, and about as many steps as the
+    /// logarithm of how many monitors there are. (Reference Manual, Processes, Monitors.)
+    pub fn next_towards(
+        &self,
+        node: &Atom,
+        behind: Option<&Reference>,
+    ) -> Option<&(Reference, Monitor)>
+        ensures { option_copied result ≡ first_where (λ reference monitor. is_behind (option_copied behind.entry) reference && eq_by_cmp (slice_cmp nat_cmp) monitor.owner.node node.now) (map.entries self.now.monitors) }
     {
-        self.monitors.place_from(&Sought::OwnedOn(node), from)
+        self.monitors.next(&Sought::OnNode(node), behind)
+    }
+
+    /// Returns the monitor of the greatest reference, and its reference. Takes no memory.
+    pub fn last(&self) -> Option<&(Reference, Monitor)>
+        ensures { option_copied result ≡ last_or None (map.entries self.now.monitors) }
+    {
+        self.monitors.last()
     }
 }

@@ -349,12 +349,24 @@ const FIVE: &[(Process, End)] = &[
     (("a@h", 1, 5), End::Active),
 ];
 
+// Counts the partners, each behind the one before.
+fn partners(ends: &Ends) -> usize {
+    let mut found = ends.first();
+    for count in 0..100 {
+        match found {
+            Some((partner, _)) => found = ends.next_behind(partner),
+            None => return count,
+        }
+    }
+    100
+}
+
 /// Each partner has an end of its own.
 #[test]
 fn several_partners(rt: HostRuntime) -> Result<(), Fail> {
     let mut ends = Ends::new(rt.alloc());
     assert_eq!(rt; links_to_five(rt.alloc(), &mut ends)?, LinkSignal::Ack(6));
-    assert_eq!(rt; ends.partners().len(), 9);
+    assert_eq!(rt; partners(&ends), 9);
     for (partner, wanted) in FIVE {
         assert_eq!(rt; end(rt.alloc(), &ends, *partner), Ok(*wanted));
     }

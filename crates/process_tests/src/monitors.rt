@@ -1,6 +1,6 @@
 //! Monitors of processes, put in and taken out call by call.
 use crate::processes::{Process, pid, reference};
-use erl_term::{Pid, Reference, Refusal};
+use erl_term::{Atom, Pid, Reference, Refusal};
 use monitor_core::{Monitor, Watchers, Watches};
 use std::alloc::{AllocError, Global};
 use std::test::*;
@@ -15,7 +15,7 @@ const TARGET_OF_THE_NEXT: Process = ("b@h", 2, 2);
 
 const OWNER_OF_THE_NEXT: Process = ("a@h", 2, 1);
 
-/// What is done with a table of monitors. A reference is given by its word.
+/// A call of a table of monitors. A reference is given by its word.
 #[derive(Clone, Copy)]
 enum Call {
     /// Puts in the monitor of a reference, with its owner and its target.
@@ -28,17 +28,19 @@ enum Call {
     RemoveAll(Process),
     /// The first of a process: of its own monitors, or of those that target it.
     First(Process),
-    /// How many a process has: of its own monitors, or of those that target it.
+    /// The number that a process has: of its own monitors, or of those that target it.
     CountOf(Process),
     /// The last of those.
     LastOf(Process),
     /// The first whose other end is on the node of this process.
     FirstTowards(Process),
-    /// How many there are.
-    Count,
+    /// The number of such monitors.
+    CountTowards(Process),
+    /// The last of all.
+    Last,
 }
 
-/// What the call answers.
+/// The answer of a call.
 #[derive(Clone, Copy, Debug, PartialEq, Eq)]
 enum Answer {
     Done,
@@ -64,12 +66,63 @@ fn found(entry: Option<&(Reference, Monitor)>) -> Answer {
     }
 }
 
-/// The entry at the last of these places.
-fn last(entries: &[(Reference, Monitor)], places: &[usize]) -> Answer {
-    match places.last() {
-        Some(place) => found(entries.get(*place)),
-        None => Answer::NotFound,
+/// A walk has no more entries than that here.
+const MOST: usize = 100;
+
+/// Returns the reference of an entry.
+fn reference_of<'a>(entry: Option<&'a (Reference, Monitor)>) -> Option<&'a Reference> {
+    match entry {
+        Some((reference, _)) => Some(reference),
+        None => None,
     }
+}
+
+/// Returns the number that a process owns, each found behind the one before, and the last of them.
+fn all_owned(watches: &Watches, owner: &Pid) -> (usize, Answer) {
+    let mut last: Option<&(Reference, Monitor)> = None;
+    for count in 0..MOST {
+        match watches.next_owned_by(owner, reference_of(last)) {
+            Some(entry) => last = Some(entry),
+            None => return (count, found(last)),
+        }
+    }
+    (MOST, found(last))
+}
+
+/// Returns the number that target a process, and the last of them.
+fn all_targeting(watchers: &Watchers, target: &Pid) -> (usize, Answer) {
+    let mut last: Option<&(Reference, Monitor)> = None;
+    for count in 0..MOST {
+        match watchers.next_targeting(target, reference_of(last)) {
+            Some(entry) => last = Some(entry),
+            None => return (count, found(last)),
+        }
+    }
+    (MOST, found(last))
+}
+
+/// Returns the number of those whose targets are on the node.
+fn count_of_targets(watches: &Watches, node: &Atom) -> usize {
+    let mut last: Option<&(Reference, Monitor)> = None;
+    for count in 0..MOST {
+        match watches.next_towards(node, reference_of(last)) {
+            Some(entry) => last = Some(entry),
+            None => return count,
+        }
+    }
+    MOST
+}
+
+/// Returns the number of those whose owners are on the node.
+fn count_of_owners(watchers: &Watchers, node: &Atom) -> usize {
+    let mut last: Option<&(Reference, Monitor)> = None;
+    for count in 0..MOST {
+        match watchers.next_towards(node, reference_of(last)) {
+            Some(entry) => last = Some(entry),
+            None => return count,
+        }
+    }
+    MOST
 }
 
 fn monitor_of(owner: Pid, target: Pid) -> Monitor {
@@ -123,11 +176,15 @@ fn call_own(alloc: Global, watches: &mut Watches, call: Call) -> Result<Answer, 
         Call::Has(word) => yes_or_no(watches.get(&reference(alloc, word)?).is_some()),
         Call::Remove(word) => yes_or_no(watches.remove(&reference(alloc, word)?)),
         Call::First(process) => found(watches.first_owned_by(&pid(alloc, process)?)),
-        Call::CountOf(process) => Answer::Count(watches.owned_by(&pid(alloc, process)?).len()),
-        Call::LastOf(process) => last(watches.entries(), watches.owned_by(&pid(alloc, process)?)),
+        Call::CountOf(process) => Answer::Count(all_owned(watches, &pid(alloc, process)?).0),
+        Call::LastOf(process) => all_owned(watches, &pid(alloc, process)?).1,
         Call::RemoveAll(process) => removes_own(alloc, watches, process)?,
         Call::FirstTowards(process) => found(watches.first_towards(&pid(alloc, process)?.node)),
-        Call::Count => Answer::Count(watches.entries().len()),
+        Call::CountTowards(process) => Answer::Count(count_of_targets(
+            watches,
+            &pid(alloc, process)?.node,
+        )),
+        Call::Last => found(watches.last()),
     })
 }
 
@@ -165,16 +222,15 @@ fn call_of_others(alloc: Global, watchers: &mut Watchers, call: Call) -> Result<
         Call::Has(word) => yes_or_no(watchers.get(&reference(alloc, word)?).is_some()),
         Call::Remove(word) => yes_or_no(watchers.remove(&reference(alloc, word)?)),
         Call::First(process) => found(watchers.first_targeting(&pid(alloc, process)?)),
-        Call::CountOf(process) => Answer::Count(watchers.targeting(&pid(alloc, process)?).len()),
-        Call::LastOf(process) => {
-            last(
-                watchers.entries(),
-                watchers.targeting(&pid(alloc, process)?),
-            )
-        }
+        Call::CountOf(process) => Answer::Count(all_targeting(watchers, &pid(alloc, process)?).0),
+        Call::LastOf(process) => all_targeting(watchers, &pid(alloc, process)?).1,
         Call::RemoveAll(process) => removes(alloc, watchers, process)?,
         Call::FirstTowards(process) => found(watchers.first_towards(&pid(alloc, process)?.node)),
-        Call::Count => Answer::Count(watchers.entries().len()),
+        Call::CountTowards(process) => Answer::Count(count_of_owners(
+            watchers,
+            &pid(alloc, process)?.node,
+        )),
+        Call::Last => found(watchers.last()),
     })
 }
 
@@ -202,13 +258,16 @@ const OWN_IN_ORDER: &[(Call, Answer)] = &[
     (Call::First(OWNER), Answer::Found(2)),
     (Call::First(OTHER), Answer::Found(1)),
     (Call::FirstTowards(TARGET), Answer::Found(2)),
+    (Call::CountTowards(TARGET), Answer::Count(2)),
+    (Call::Last, Answer::Found(4)),
     (Call::Remove(2), Answer::Yes),
     (Call::FirstTowards(TARGET), Answer::Found(3)),
     (Call::RemoveAll(OWNER), Answer::Done),
     (Call::First(OWNER), Answer::NotFound),
     (Call::FirstTowards(TARGET), Answer::NotFound),
     (Call::FirstTowards(OWNER), Answer::Found(1)),
-    (Call::Count, Answer::Count(1)),
+    (Call::CountTowards(OWNER), Answer::Count(1)),
+    (Call::Last, Answer::Found(1)),
 ];
 
 /// A process is found with all that it has, whatever came or went before them.
@@ -245,6 +304,7 @@ const OF_OTHERS: &[(Call, Answer)] = &[
     (Call::LastOf(TARGET), Answer::Found(3)),
     (Call::LastOf(OTHER), Answer::Found(4)),
     (Call::FirstTowards(OWNER), Answer::Found(1)),
+    (Call::CountTowards(OWNER), Answer::Count(3)),
     (Call::Ends(1, OWNER, TARGET), Answer::Yes),
     (Call::Remove(1), Answer::No),
     (Call::FirstTowards(OWNER), Answer::Found(2)),
@@ -252,7 +312,8 @@ const OF_OTHERS: &[(Call, Answer)] = &[
     (Call::First(TARGET), Answer::NotFound),
     (Call::LastOf(OTHER), Answer::Found(4)),
     (Call::FirstTowards(OWNER), Answer::NotFound),
-    (Call::Count, Answer::Count(1)),
+    (Call::CountTowards(TARGET), Answer::Count(1)),
+    (Call::Last, Answer::Found(4)),
 ];
 
 /// The place of the first row that doesn't hold.
@@ -279,7 +340,7 @@ fn monitors_of_others(rt: HostRuntime) {
     assert_eq!(rt; first_wrong(rt.alloc(), OF_OTHERS), None);
 }
 
-/// Puts in a monitor, and tells whether its reference has one exactly where it was not refused.
+/// Puts in a monitor. Returns true if its reference has one exactly where it was not refused.
 fn is_put_or_not(alloc: Global, watches: &mut Watches, word: u32) -> Result<bool, Refusal> {
     let put = puts_own(alloc, watches, (word, OWNER, TARGET));
     let has = call_own(alloc, watches, Call::Has(word))?;

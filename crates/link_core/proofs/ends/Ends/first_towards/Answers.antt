@@ -1,13 +1,47 @@
-use Rattle.std.proofs.Common.{sym, ap, ◌∙◌}
+use Rattle.std.proofs.Common.{◌≡◌, Some, None, sym, ap, ◌∙◌, rules}
 use Rattle.std.specs.FinMap as map
+use Rattle.std.specs.Option.{option_copied}
+use Rattle.sorted_map.proofs.Mapped.{rising_parted}
 use Rattle.erl_term.specs.Order.{pid_cmp}
+use Rattle.erl_term.proofs.Order.{name_cmp}
 use Rattle.link_core.specs.Ends.{Held}
-use Rattle.link_core.proofs.Towards.{first_at}
+use Rattle.link_core.proofs.Towards.{first_at, first_is, nodes_rise, this_node}
 use Rattle.link_core.proofs.ends.Ends.first_towards.Goals as goal
 
-pub returns : goal.returns
-returns c =
+pub returns-in_err-record : goal.returns-in_err-record
+returns-in_err-record c =
+    let n = c.args.node.now in
+    let rs = c.self.inside.records.entries in
     let here =
-    c.entries.ensures.entries ∙ sym (map.entries-from_sorted pid_cmp _ c.self.invariant.sorted)
-    ∙ ap (λ (k : Held). map.entries k.ends) c.self.view_is in
-    c.first_at.ensures ∙ ap (first_at c.args.node.now) here
+    sym (map.entries-from_sorted pid_cmp _ c.self.invariant.sorted) ∙ ap (λ (k : Held). map.entries k.ends) c.self.view_is in
+    let found =
+    c.first_at.ensures.first (λ partner. name_cmp partner.node n) (λ partner answer said. search rules)
+    (rising_parted (λ partner. name_cmp partner.node n) (nodes_rise n) rs c.self.invariant.sorted) in
+    ap option_copied c.from_residual.ensures ∙ sym (ap (λ o. this_node n (option_copied o)) c.in_err-record.was)
+    ∙ ap (this_node n) found ∙ first_is n rs c.self.invariant.sorted ∙ ap (first_at n) here
+
+pub returns-then-is_eq : goal.returns-then-is_eq
+returns-then-is_eq c =
+    let n = c.args.node.now in
+    let rs = c.self.inside.records.entries in
+    let here =
+    sym (map.entries-from_sorted pid_cmp _ c.self.invariant.sorted) ∙ ap (λ (k : Held). map.entries k.ends) c.self.view_is in
+    let found =
+    c.first_at.ensures.first (λ partner. name_cmp partner.node n) (λ partner answer said. search rules)
+    (rising_parted (λ partner. name_cmp partner.node n) (nodes_rise n) rs c.self.invariant.sorted) in
+    let at : this_node n (Some c.in_ok-record.record.now) ≡ Some c.in_ok-record.record.now = search rules in
+    sym at ∙ sym (ap (λ o. this_node n (option_copied o)) c.in_ok-record.was)
+    ∙ ap (this_node n) found ∙ first_is n rs c.self.invariant.sorted ∙ ap (first_at n) here
+
+pub returns-else-is_eq : goal.returns-else-is_eq
+returns-else-is_eq c =
+    let n = c.args.node.now in
+    let rs = c.self.inside.records.entries in
+    let here =
+    sym (map.entries-from_sorted pid_cmp _ c.self.invariant.sorted) ∙ ap (λ (k : Held). map.entries k.ends) c.self.view_is in
+    let found =
+    c.first_at.ensures.first (λ partner. name_cmp partner.node n) (λ partner answer said. search rules)
+    (rising_parted (λ partner. name_cmp partner.node n) (nodes_rise n) rs c.self.invariant.sorted) in
+    let at : this_node n (Some c.in_ok-record.record.now) ≡ None = search rules in
+    sym at ∙ sym (ap (λ o. this_node n (option_copied o)) c.in_ok-record.was)
+    ∙ ap (this_node n) found ∙ first_is n rs c.self.invariant.sorted ∙ ap (first_at n) here

@@ -1,0 +1,18 @@
+use Rattle.std.proofs.Common.{Some}
+use Rattle.monitor_core.proofs.Among.{alone_with, trees_before}
+use Rattle.monitor_core.proofs.monitors.put_in.Goals as goal
+
+pub insert-requires-clause-alone : goal.insert-requires-clause-alone
+insert-requires-clause-alone c =
+    alone_with _ _ c.put-slot.result (c.args.reference, c.args.monitor) c.requires.indexed.alone c.requires.fresh c.put-slot.ensures.slots
+
+pub insert-requires-clause-others : goal.insert-requires-clause-others
+insert-requires-clause-others c =
+    trees_before c.args.side _ _ c.put-slot.result (Some (c.args.reference, c.args.monitor)) _ c.put-slot.ensures.empty c.put-slot.ensures.slots
+    c.requires.indexed.ordered
+
+pub returns-clause-indexed : goal.returns-clause-indexed
+returns-clause-indexed c = record {
+  alone = alone_with _ _ c.put-slot.result (c.args.reference, c.args.monitor) c.requires.indexed.alone c.requires.fresh c.put-slot.ensures.slots;
+  ordered = c.insert.ensures.all;
+}

@@ -1,0 +1,15 @@
+use Rattle.std.proofs.Common.{rules, sym, subst}
+use Rattle.monitor_core.specs.Slots.{holds}
+use Rattle.monitor_core.specs.Orders.{slot_cmp}
+use Rattle.monitor_core.specs.Trees.{IsTree}
+use Rattle.monitor_core.proofs.Among.{inserted, slots_parted}
+use Rattle.monitor_core.proofs.orders.By.insert.Goals as goal
+
+pub returns-clause-tree : goal.returns-clause-tree
+returns-clause-tree c =
+    let slots = c.args.slots.now.slots in
+    let tree = c.args.tree.now.slots in
+    subst (IsTree c.args.self slots (holds slots))
+    (sym (c.insert.ensures.slots (λ other. slot_cmp c.args.self slots other c.args.slot) (λ s a fits gives. search rules)
+    (slots_parted c.args.self slots _ tree c.args.slot c.requires.tree)))
+    (inserted c.args.self slots tree c.args.slot c.requires.alone c.requires.held c.requires.tree)

@@ -1,0 +1,137 @@
+//! The slots of entries, in three orders.
+ghost use Rattle.std.specs.Prelude.{◌≡◌, ◌≤◌, ◌+◌, ◌-◌, ℕ, IsSome, OnOk, []};
+ghost use Rattle.std.specs.Option.{option_copied};
+ghost use Rattle.monitor_core.specs.Slots.{IsAlone, held_at, holds, holds_but};
+ghost use Rattle.monitor_core.specs.Sought.{IsNext, meets};
+ghost use Rattle.monitor_core.specs.Trees.{AreTrees, HaveRoom, IsTree, tree_of};
+
+use crate::orders::{By, Side, Sought};
+use crate::slots::Slots;
+use erl_term::Reference;
+use sorted_map::IndexTree;
+use std::alloc::{AllocError, Global};
+
+/// The slots that hold entries, in three orders.
+#[derive(Drop)]
+pub(crate) struct Trees {
+    /// By the reference.
+    pub(crate) by_reference: IndexTree,
+    /// By the process that a table is found by.
+    pub(crate) by_process: IndexTree,
+    /// By the name of the other process's node.
+    pub(crate) by_node: IndexTree,
+}
+
+impl By {
+    // Puts a slot, which holds an entry now, among the others in this order.
+    fn insert(self, tree: &mut IndexTree, slots: &Slots, slot: u32)
+        requires room { 1 ≤ tree.old.room }
+        requires alone { IsAlone slots.now.slots }
+        requires held { IsSome (held_at slots.now.slots slot) }
+        requires tree { IsTree self slots.now.slots (holds_but slots.now.slots slot) tree.old.slots }
+        ensures tree { IsTree self slots.now.slots (holds slots.now.slots) tree.new.slots }
+        ensures room { tree.old.room ≤ tree.new.room + 1 }
+    {
+        tree.insert(slot, |other| self.order(slots, other, slot));
+    }
+
+    // Takes a slot, which holds its entry still, from the others.
+    fn remove(self, tree: &mut IndexTree, slots: &Slots, slot: u32)
+        requires alone { IsAlone slots.now.slots }
+        requires held { IsSome (held_at slots.now.slots slot) }
+        requires tree { IsTree self slots.now.slots (holds slots.now.slots) tree.old.slots }
+        ensures tree { IsTree self slots.now.slots (holds_but slots.now.slots slot) tree.new.slots }
+        ensures room { tree.old.room ≤ tree.new.room }
+    {
+        tree.remove(|other| self.order(slots, other, slot));
+    }
+}
+
+impl Trees {
+    /// Returns no slots. Takes no memory.
+    pub(crate) fn new(alloc: Global) -> Trees
+        ensures references { result.by_reference.slots ≡ [] }
+        ensures processes { result.by_process.slots ≡ [] }
+        ensures nodes { result.by_node.slots ≡ [] }
+    {
+        Trees {
+            by_reference: IndexTree::new(alloc),
+            by_process: IndexTree::new(alloc),
+            by_node: IndexTree::new(alloc),
+        }
+    }
+
+    /// Reserves room for so many more slots.
+    ///
+    /// # Errors
+    /// Where there is no memory for it. Then no slot has changed.
+    pub(crate) fn reserve(&mut self, additional: usize) -> Result<(), AllocError>
+        ensures references { self.new.by_reference.slots ≡ self.old.by_reference.slots }
+        ensures processes { self.new.by_process.slots ≡ self.old.by_process.slots }
+        ensures nodes { self.new.by_node.slots ≡ self.old.by_node.slots }
+        ensures room { OnOk result (HaveRoom additional self.new) }
+        ensures kept { (room : ℕ) → HaveRoom room self.old → HaveRoom room self.new }
+    {
+        self.by_reference.reserve(additional)?;
+        self.by_process.reserve(additional)?;
+        self.by_node.reserve(additional)
+    }
+
+    /// Puts a slot, which holds an entry now, among the others.
+    pub(crate) fn insert(&mut self, side: Side, slots: &Slots, slot: u32)
+        requires room { HaveRoom 1 self.old }
+        requires alone { IsAlone slots.now.slots }
+        requires held { IsSome (held_at slots.now.slots slot) }
+        requires others { AreTrees side slots.now.slots (holds_but slots.now.slots slot) self.old }
+        ensures all { AreTrees side slots.now.slots (holds slots.now.slots) self.new }
+        ensures room { (room : ℕ) → HaveRoom room self.old → HaveRoom (room - 1) self.new }
+    {
+        By::References.insert(&mut self.by_reference, slots, slot);
+        By::Processes(side).insert(&mut self.by_process, slots, slot);
+        By::Nodes(side.other()).insert(&mut self.by_node, slots, slot);
+    }
+
+    /// Takes a slot, which holds its entry still, from the others.
+    pub(crate) fn remove(&mut self, side: Side, slots: &Slots, slot: u32)
+        requires alone { IsAlone slots.now.slots }
+        requires held { IsSome (held_at slots.now.slots slot) }
+        requires all { AreTrees side slots.now.slots (holds slots.now.slots) self.old }
+        ensures others { AreTrees side slots.now.slots (holds_but slots.now.slots slot) self.new }
+        ensures room { (room : ℕ) → HaveRoom room self.old → HaveRoom room self.new }
+    {
+        By::References.remove(&mut self.by_reference, slots, slot);
+        By::Processes(side).remove(&mut self.by_process, slots, slot);
+        By::Nodes(side.other()).remove(&mut self.by_node, slots, slot);
+    }
+
+    // Returns the slots in the order that those that are sought lie in.
+    fn tree(&self, sought: &Sought<'_>) -> &IndexTree
+        ensures { result.now ≡ tree_of sought.now self.now }
+    {
+        match sought {
+            Sought::Named(_) => &self.by_reference,
+            Sought::OfProcess(_) => &self.by_process,
+            Sought::OnNode(_) => &self.by_node,
+        }
+    }
+
+    /// Returns the slot of the entry that is sought, of the least reference behind the one that is given.
+    /// Takes no memory.
+    pub(crate) fn next(
+        &self,
+        side: Side,
+        slots: &Slots,
+        sought: &Sought<'_>,
+        behind: Option<&Reference>,
+    ) -> Option<u32>
+        requires { AreTrees side slots.now.slots (holds slots.now.slots) self.now }
+        ensures { IsNext (meets side sought.now (option_copied behind.entry)) slots.now.slots result }
+    {
+        let found = self
+            .tree(sought)
+            .first_not_less(|slot| sought.place(side, behind, slots, slot))?;
+        let entry = slots.get(found)?;
+        let is_met = sought.is_met(side, behind, entry);
+        if is_met { Some(found) } else { None }
+    }
+}
