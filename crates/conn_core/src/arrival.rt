@@ -8,7 +8,7 @@ use erl_control::{FrameFault, Item};
 use erl_handshake::{Next, Progress, ShakeFault, ShakeMsg};
 use erl_term::Refusal;
 
-/// What breaks a side of a connection.
+/// A fault that breaks a side of a connection.
 #[derive(Clone, Copy, Debug, PartialEq, Eq)]
 pub enum Fault {
     /// The handshake ends, for this reason.
@@ -34,7 +34,7 @@ impl Fault {
     }
 }
 
-/// What bytes from the peer were.
+/// The message or the item that came from the peer, or the fault of its bytes.
 #[derive(Debug, Drop)]
 pub enum Taken {
     /// A message of the handshake, and what is sent back.
@@ -50,7 +50,7 @@ pub enum Taken {
     Broken(Fault),
 }
 
-/// What bytes from the peer come to at a side. Nothing has changed yet: the side takes it by standing
+/// The outcome of bytes from the peer at a side. Nothing has changed yet: the side takes it by standing
 /// so.
 #[derive(Debug, Drop)]
 pub struct Arrival {

@@ -18,7 +18,7 @@ use erl_names::{NodeName, TrunkId};
 use erl_term::Refusal;
 use std::alloc::{AllocError, Global};
 
-/// What one node keeps of a connection, or of an attempt at one.
+/// One node's part of a connection, or of an attempt at one.
 ///
 /// What happens to a side is first judged, by calls that leave it as it is, and then taken by setting
 /// `standing`, which can't be refused. Who the node is, is lent to each call. (ERTS User's Guide,
@@ -61,8 +61,8 @@ impl Side {
         })
     }
 
-    /// What bytes from the peer come to: the message of the handshake at their front, or at a side
-    /// that is up the frame. None asks for more bytes. Changes nothing.
+    /// Returns the arrival of the message of the handshake at the front of the bytes, or of the frame
+    /// if the side is up. None asks for more bytes. Changes nothing.
     ///
     /// The word becomes the challenge of a side that is fresh, and is not used elsewhere. A fault
     /// leaves a side that was up Losing, and any other Gone. (ERTS User's Guide, Distribution
@@ -91,9 +91,9 @@ impl Side {
         }
     }
 
-    /// What a message of the handshake comes to that was read from so many bytes. The word becomes the
-    /// challenge of a side that is fresh, and is not used elsewhere. Changes nothing, and takes no
-    /// memory. (ERTS User's Guide, Distribution Protocol, Distribution Handshake.)
+    /// Returns the arrival of a message of the handshake that was read from `len` bytes. The word
+    /// becomes the challenge of a side that is fresh, and is not used elsewhere. Changes nothing, and
+    /// takes no memory. (ERTS User's Guide, Distribution Protocol, Distribution Handshake.)
     pub fn hear(&self, own: &Identity, message: ShakeMsg, word: u32, len: usize) -> Arrival
         ensures { result ≡ table.on_message own.now self.now.peer self.now.standing message word len }
     {
@@ -110,8 +110,8 @@ impl Side {
         }
     }
 
-    /// What bytes come to that are no message of the handshake. Changes nothing, and takes no memory.
-    /// (ERTS User's Guide, Distribution Protocol, Distribution Handshake.)
+    /// Returns the arrival of bytes that are no message of the handshake. Changes nothing, and takes no
+    /// memory. (ERTS User's Guide, Distribution Protocol, Distribution Handshake.)
     pub fn hear_nothing(&self) -> Arrival
         ensures { result ≡ table.on_no_message self.now.standing }
     {

@@ -25,7 +25,7 @@ pub enum SideState {
 }
 
 impl SideState {
-    /// Whether there is a connection, or an attempt at one, that can be lost.
+    /// Returns true if there is a connection, or an attempt at one, that can be lost.
     pub fn is_live(self) -> bool
         ensures { result ≡ table.is_live self }
     {
@@ -39,7 +39,7 @@ impl SideState {
         }
     }
 
-    /// Whether anything may arrive.
+    /// Returns true if anything may arrive.
     pub fn listens(self) -> bool
         ensures { result ≡ table.listens self }
     {

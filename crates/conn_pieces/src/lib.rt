@@ -1,4 +1,4 @@
-//! What the peer sends, in whatever pieces it comes.
+//! A side that takes its peer's stream in pieces of any length.
 //!
 //! A stream may be cut anywhere, as TCP cuts it. A [`StreamSide`] is a side that keeps the bytes that it
 //! hasn't taken yet. What a side takes of a stream that comes in pieces is what stands, whole, at the front of the

@@ -2,7 +2,7 @@
 
 use erl_term::{Payload, Pid, Reference};
 
-/// What a caller may ask of a node. `Receive`, `LinksOf` and `IsAlive` look at a process from outside.
+/// A request of a caller to a node. `Receive`, `LinksOf` and `IsAlive` look at a process from outside.
 /// (Reference Manual, Processes: Process Creation, Links, Monitors, Error Handling.)
 #[derive(Debug, Drop)]
 pub enum Command {

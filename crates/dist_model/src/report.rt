@@ -5,7 +5,7 @@ use conn_core::Fault;
 use erl_names::{NodeName, TrunkId};
 use erl_term::{Payload, Pid, Reference};
 
-/// What an item is that travels between two nodes. (ERTS User's Guide, Distribution Protocol.)
+/// The kind of an item in flight between two nodes. (ERTS User's Guide, Distribution Protocol.)
 #[derive(Clone, Copy, Debug, PartialEq, Eq)]
 pub enum Kind {
     /// send_name, of the handshake.
@@ -40,7 +40,7 @@ pub enum Kind {
     UnlinkAck,
 }
 
-/// What a sweep takes.
+/// A record that a sweep takes.
 #[derive(Clone, Copy, Debug, PartialEq, Eq)]
 pub enum Swept {
     /// A link to a process beyond the lost connection.
@@ -53,7 +53,7 @@ pub enum Swept {
     Side,
 }
 
-/// What a node answers to an event that it accepts.
+/// The answer of a node to an event that it accepts.
 #[derive(Debug, Drop)]
 pub enum Answer {
     /// It is done.
@@ -82,7 +82,7 @@ pub enum Answer {
     Started(u32),
 }
 
-/// What an event brought about. `Item` is what travels: the item of the model, or its bytes.
+/// An effect of an event. `Item` is what travels: the item of the model, or its bytes.
 #[derive(Debug, Drop)]
 pub enum Effect<Item> {
     /// A message was put into the mailbox of a process.
@@ -119,7 +119,7 @@ pub enum Effect<Item> {
     },
 }
 
-/// What came of an event that a node accepted: its answer, and what it brought about, in order.
+/// The outcome of an event that a node accepted: its answer, and its effects, in order.
 #[derive(Debug, Drop)]
 pub struct Report<Item> {
     /// The answer.

@@ -176,8 +176,8 @@ pub fn signal_at(text: &[u8]) -> Result<SignalRef<'_>, FrameFault>
     Ok(signal)
 }
 
-/// What [`signal_at`] answers, with memory of its own. The signal is made where it was read: it is
-/// large as it lies in the bytes, and moving it out first costs a fifth of the time.
+/// Returns the answer of [`signal_at`], with memory of its own. The signal is made where it was read:
+/// it is large as it lies in the bytes, and moving it out first costs a fifth of the time.
 pub fn signal_of(alloc: Global, text: &[u8]) -> Result<Signal, FrameError>
     ensures ok { IfOk result (λ signal. IsFitText signal text.now) }
     ensures err { IfErr result (λ e. e ≢ FrameError.OutOfMemory → IsTextFault text.now e) }

@@ -75,7 +75,7 @@ impl FrameError {
         }
     }
 
-    /// What is wrong with the frame. None where memory was refused, which says nothing of it.
+    /// Returns the fault of the frame. None where memory was refused, which says nothing of it.
     pub fn fault(self) -> Option<FrameFault>
         ensures { result ≡ fault_of self }
     {

@@ -12,9 +12,9 @@ pub const MOST_PAYLOAD_LEVELS: u32 = 60;
 /// The most bytes of the canonical spelling of a message or a reason, its version byte included.
 pub const MOST_PAYLOAD_BYTES: usize = 60_000;
 
-/// Whether a signal can carry the term as its message or its reason: a value of the profile whose
-/// canonical spelling has at most [`MOST_PAYLOAD_LEVELS`] levels and [`MOST_PAYLOAD_BYTES`] bytes. It takes no
-/// memory.
+/// Returns true if a signal can carry the term as its message or its reason. Such a term is a value of
+/// the profile whose canonical spelling has at most [`MOST_PAYLOAD_LEVELS`] levels and
+/// [`MOST_PAYLOAD_BYTES`] bytes. It takes no memory.
 ///
 /// (ERTS User's Guide, External Term Format.)
 pub fn fits(term: &Term) -> bool

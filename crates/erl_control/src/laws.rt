@@ -40,7 +40,7 @@ pub fn canonical_is_framed()
     erl_term::short_parts();
 }
 
-/// Whether a signal can carry a term can be tested.
+/// Proves that a test decides if a signal can carry a term.
 pub fn fits_test()
     ensures test { (term : Data) → (fits term ≡ true) ↔ Fits term }
 {}

@@ -85,7 +85,7 @@ pub enum Signal {
     },
 }
 
-/// What a frame carries.
+/// The item of a frame.
 #[derive(Debug, Drop)]
 pub enum Item {
     /// Nothing: the peer is there.

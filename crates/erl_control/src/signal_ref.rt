@@ -98,7 +98,7 @@ pub enum SignalRef<'a> {
     },
 }
 
-/// What a frame carries, where it lies in the bytes that were read.
+/// The item of a frame, where it lies in the bytes that were read.
 #[derive(Debug, Drop)]
 pub enum ItemRef<'a> {
     /// Nothing: the peer is there.

@@ -105,8 +105,8 @@ fn answer_of(alloc: Global, bytes: &[u8]) -> Result<Option<(Item, usize)>, Frame
     Ok(Some((made, body.len() + 4)))
 }
 
-/// What [`frame_at`] answers, with memory of its own. Where the frame carries a signal, want of
-/// memory can come in its place.
+/// Returns the answer of [`frame_at`], with memory of its own. Where the frame carries a signal, want
+/// of memory can come in its place.
 pub fn unframe(alloc: Global, bytes: &[u8]) -> Result<Option<(Item, usize)>, FrameError>
     // What is answered is due, unless memory ran out.
     ensures ok { IfOk result (λ x. IsFrameDue bytes.now (Ok x)) }

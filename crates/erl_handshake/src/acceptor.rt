@@ -14,7 +14,8 @@ use crate::turn::Turn;
 use erl_names::{NodeName, TrunkId};
 use std::alloc::AllocError;
 
-/// What an acceptor awaits. Its challenge is what the dialer has to make a digest of.
+/// The state of an acceptor, by the message that it awaits. Its challenge is what the dialer has to
+/// make a digest of.
 ///
 /// An acceptor begins with [`AcceptorState::AwaitsName`]. (ERTS User's Guide, Distribution Protocol,
 /// Distribution Handshake.)

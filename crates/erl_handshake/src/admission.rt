@@ -20,7 +20,7 @@ pub struct OtherConnections {
     pub dialing: bool,
 }
 
-/// What becomes of an attempt, and which others it ends. Of those nothing more is reported.
+/// The decision on an attempt, and the other attempts that it ends. Of those nothing more is reported.
 #[derive(Clone, Copy, Debug, PartialEq, Eq)]
 pub struct Admission {
     /// What is said to the dialer.

@@ -11,7 +11,8 @@ use crate::status::Status;
 use crate::turn::Turn;
 use erl_names::NodeName;
 
-/// What a dialer awaits. Its challenge is what the acceptor has to make a digest of.
+/// The state of a dialer, by the message that it awaits. Its challenge is what the acceptor has to make
+/// a digest of.
 ///
 /// A dialer begins with [`DialerState::AwaitsStatus`], sends
 /// [`Identity::send_name`](crate::Identity::send_name), and then what its steps say. (ERTS User's

@@ -97,14 +97,14 @@ impl Flags {
         self.bits
     }
 
-    /// Whether the flag is among them.
+    /// Returns true if the flag is among them.
     pub fn offers(self, flag: Flag) -> bool
         ensures { result ≡ flags.offers self flag }
     {
         self.bits & flag.value() != 0
     }
 
-    /// Whether all the required flags are among them.
+    /// Returns true if all the required flags are among them.
     pub fn has_all_of(self, required: Flags) -> bool
         ensures { result ≡ flags.has_all_of self required }
     {

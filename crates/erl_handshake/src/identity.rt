@@ -8,7 +8,7 @@ use crate::message::ShakeMsg;
 use erl_names::{Creation, NodeName};
 use std::alloc::AllocError;
 
-/// What a node says of itself in a handshake, and the cookie that it shares with its peers. (ERTS
+/// A node as it introduces itself in a handshake, and the cookie that it shares with its peers. (ERTS
 /// User's Guide, Distribution Protocol, Distribution Handshake.)
 #[derive(Drop)]
 pub struct Identity {

@@ -28,12 +28,12 @@ pub fn read_again()
     ensures { (role : Role) (message : ShakeMsg) (bytes rest : List ℕ) → IsShake role message bytes → IsShakeDue role (bytes ++ rest) (Ok (Some (message, length bytes))) }
 {}
 
-/// What is written is a message of the table, to a reader that the message is for.
+/// Proves that a written message is one of the table, to a reader that it is for.
 pub fn written_is_shake()
     ensures { (role : Role) (message : ShakeMsg) → IsFor role message → HasFields message → IsShake role message (written message) }
 {}
 
-/// What is written takes at most 85 bytes.
+/// Proves that a written message takes at most 85 bytes.
 pub fn short_messages()
     ensures { (message : ShakeMsg) → HasFields message → length (written message) ≤ 85 }
 {}

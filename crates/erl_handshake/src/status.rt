@@ -3,8 +3,8 @@ ghost use Rattle.std.specs.Prelude.{◌≡◌, ◌≢◌, MatchOption};
 ghost use Rattle.erl_handshake.specs.declared.status.Status.{Status as TheStatus};
 ghost use Rattle.erl_handshake.specs.Messages.{status_text};
 
-/// What the acceptor says of a connection attempt, or the dialer's answer to [`Status::Alive`].
-/// (ERTS User's Guide, Distribution Protocol, Distribution Handshake.)
+/// The acceptor's answer to a connection attempt, or the dialer's answer to [`Status::Alive`]. (ERTS
+/// User's Guide, Distribution Protocol, Distribution Handshake.)
 #[derive(Clone, Copy, Debug, PartialEq, Eq)]
 pub enum Status {
     /// The handshake goes on.

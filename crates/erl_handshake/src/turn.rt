@@ -4,7 +4,7 @@ ghost use Rattle.std.specs.Prelude.{◌≡◌, Some, None};
 use crate::fault::ShakeFault;
 use crate::message::ShakeMsg;
 
-/// Whether a handshake goes on.
+/// The progress of a handshake.
 #[derive(Clone, Copy, Debug, PartialEq, Eq)]
 pub enum Progress {
     /// It goes on.
@@ -15,7 +15,7 @@ pub enum Progress {
     Ended(ShakeFault),
 }
 
-/// What a step of a handshake answers. (ERTS User's Guide, Distribution Protocol, Distribution
+/// The answer of a step of a handshake. (ERTS User's Guide, Distribution Protocol, Distribution
 /// Handshake.)
 #[derive(Debug, Drop)]
 pub struct Next {
@@ -25,8 +25,8 @@ pub struct Next {
     pub progress: Progress,
 }
 
-/// What a message does to a role of the handshake: what the role awaits after it, and what the step
-/// answers. (ERTS User's Guide, Distribution Protocol, Distribution Handshake.)
+/// The effect of a message on a role of the handshake: the state of the role after it, and the answer
+/// of the step. (ERTS User's Guide, Distribution Protocol, Distribution Handshake.)
 #[derive(Debug, Drop)]
 pub struct Turn<S> {
     /// What the role awaits.

@@ -14,8 +14,8 @@ use std::marker::Model;
 /// The highest count of a reference.
 const MOST_REFERENCES: u32 = 262_143;
 
-/// What one incarnation of a node has drawn: its name, its creation, and how many pids, references
-/// and unlink ids. A mint has no copy, so no number of a kind comes twice.
+/// The name and creation of one incarnation of a node, and the numbers of pids, references and unlink
+/// ids that it has drawn. A mint has no copy, so no number of a kind comes twice.
 ///
 /// (ERTS User's Guide, External Term Format, NEW_PID_EXT and NEWER_REFERENCE_EXT; Distribution
 /// Protocol, New Link Protocol.)

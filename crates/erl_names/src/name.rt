@@ -30,8 +30,8 @@ impl Model for NodeName {
 }
 
 impl NodeName {
-    /// Whether a text has the form of a name. It takes no memory. (Reference Manual, Distributed Erlang,
-    /// Nodes.)
+    /// Returns true if a text has the form of a name. It takes no memory. (Reference Manual,
+    /// Distributed Erlang, Nodes.)
     pub fn fits(text: &str) -> bool
         ensures form { IsTrue result ↔ IsNodeName text.now }
         ensures test { result ≡ is_node_name text.now }

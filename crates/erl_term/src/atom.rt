@@ -34,7 +34,7 @@ impl Model for Atom {
 }
 
 impl Atom {
-    /// Whether the text has at most 255 characters, as an atom must.
+    /// Returns true if the text has at most 255 characters, as an atom must.
     pub fn fits(text: &str) -> bool
         ensures { IsTrue result ↔ (length (chars text.now) ≤ 255) }
     {

@@ -61,7 +61,7 @@ impl TermError {
         }
     }
 
-    /// Whether memory was wanting.
+    /// Returns true if memory was wanting.
     pub fn is_out_of_memory(self) -> bool
         ensures { IsTrue result ↔ (self ≡ OutOfMemory) }
     {

@@ -20,7 +20,7 @@ pub fn canonical_is_spelling()
     ensures { (t : Data) (levels : ℕ) → IsInRange t → (IsSpelling levels t (canonical t) ↔ (levels_of t ≤ levels)) }
 {}
 
-/// What `encode` writes is what `decode` reads, whatever follows it.
+/// Proves that `decode` reads the bytes that `encode` writes, whatever follows them.
 pub fn read_again()
     ensures { (t : Data) (rest : List ℕ) → IsWritable t → IsDue (canonical t ++ rest) (Ok (t, length (canonical t))) }
 {}

@@ -56,7 +56,7 @@ impl<'a> AtomRef<'a> {
         }
     }
 
-    /// Whether it is this atom. It takes no memory.
+    /// Returns true if it is this atom. It takes no memory.
     pub fn is_same(&self, atom: &Atom) -> bool
         ensures { IsTrue result ↔ (self.now ≡ atom.now) }
     {
@@ -122,7 +122,7 @@ impl<'a> PidRef<'a> {
         })
     }
 
-    /// Whether it names this process. It takes no memory.
+    /// Returns true if it names this process. It takes no memory.
     pub fn is_same(&self, pid: &Pid) -> bool
         ensures { IsTrue result ↔ (self.now ≡ pid.now) }
     {
@@ -171,7 +171,7 @@ impl<'a> ReferenceRef<'a> {
         })
     }
 
-    /// Whether it is this reference. It takes no memory.
+    /// Returns true if it is this reference. It takes no memory.
     pub fn is_same(&self, reference: &Reference) -> bool
         ensures { IsTrue result ↔ (self.now ≡ reference.now) }
     {
@@ -224,7 +224,7 @@ fn pass_over(levels: u32, bytes: &[u8]) -> Option<(u32, &[u8])>
     }
 }
 
-/// What comes before the elements of a tuple of at most so many levels.
+/// The head of a tuple of at most so many levels, in front of its elements.
 #[derive(Clone, Copy, Debug, PartialEq, Eq)]
 pub struct TupleHead {
     /// How many elements the tuple has.

@@ -11,7 +11,7 @@ use crate::lists::is_byte;
 use crate::part_len::{integer_len, tuple_head_len};
 use crate::parts::{AtomRef, PidRef, ReferenceRef};
 
-/// What the canonical spelling of a term takes.
+/// The size of the canonical spelling of a term.
 #[derive(Clone, Copy, Debug, Drop)]
 pub struct Size {
     /// Its bytes.
@@ -20,7 +20,7 @@ pub struct Size {
     pub levels: usize,
 }
 
-/// What the canonical spellings of items take.
+/// The size of the canonical spellings of items.
 #[derive(Clone, Copy, Debug, Drop)]
 pub struct Run {
     /// How many items there are.
@@ -33,7 +33,7 @@ pub struct Run {
     levels: usize,
 }
 
-/// What of a term decides the size of a term that holds it.
+/// The part of a term that decides the size of a term that holds it.
 #[derive(Clone, Copy, Debug, Drop)]
 pub enum Measure {
     /// Of an integer of a byte.

@@ -64,7 +64,7 @@ pub enum Term {
 }
 
 impl Pid {
-    /// Whether the two name one process.
+    /// Returns true if the two name one process.
     pub fn is_same(&self, other: &Pid) -> bool
         ensures { IsTrue result ↔ (self.now ≡ other.now) }
     {

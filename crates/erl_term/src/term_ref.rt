@@ -51,8 +51,8 @@ impl<'a> TermRef<'a> {
         }
     }
 
-    /// Whether its canonical spelling, version byte included, has at most so many levels and bytes.
-    /// It takes no memory.
+    /// Returns true if its canonical spelling, version byte included, has at most so many levels and
+    /// bytes. It takes no memory.
     pub fn is_within(&self, levels: u32, most: usize) -> bool
         ensures { IsTrue result ↔ ((levels_of self.now ≤ levels) × (length (canonical self.now) ≤ most)) }
     {

@@ -1,4 +1,4 @@
-//! What an exit signal does to a process, and the messages that exits become.
+//! The effect of an exit signal on a process, and the messages that exits become.
 //!
 //! A [`Proc`] traps exits or doesn't, and has a [`Mailbox`]. [`Proc::react`] answers what an
 //! [`ExitSignal`] does to it: nothing, a message, or its end. [`exit_message`] and [`down_message`]

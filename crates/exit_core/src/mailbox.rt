@@ -80,7 +80,7 @@ impl Mailbox {
         self.messages.len()
     }
 
-    /// Whether no message waits.
+    /// Returns true if no message waits.
     pub fn is_empty(&self) -> bool
         ensures { IsTrue result ↔ (self.now.messages ≡ []) }
     {

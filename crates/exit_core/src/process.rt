@@ -4,7 +4,7 @@ ghost use Rattle.std.specs.Prelude.{◌≡◌, false, []};
 use crate::mailbox::Mailbox;
 use std::alloc::Global;
 
-/// What exit signals and messages find of a process that lives.
+/// A living process, as exit signals and messages find it.
 #[derive(Debug, Drop)]
 pub struct Proc {
     /// Whether it traps exits: then exit signals become messages. (Reference Manual, Processes,

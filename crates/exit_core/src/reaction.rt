@@ -23,7 +23,7 @@ pub struct ExitSignal {
     pub is_own: bool,
 }
 
-/// What an exit signal does to a process.
+/// The reaction of a process to an exit signal.
 #[derive(Debug, Drop)]
 pub enum Reaction {
     /// Nothing.
@@ -35,7 +35,7 @@ pub enum Reaction {
 }
 
 impl Proc {
-    /// What the exit signal does to the process, which it doesn't change.
+    /// Returns the reaction of the process to the exit signal, and doesn't change the process.
     ///
     /// The first that holds: a signal of a link that isn't active is ignored; the reason kill, not
     /// of a link, ends the process with killed; a process that traps exits gets

@@ -5,7 +5,7 @@ use erl_term::{Atom, Term, decode, encode};
 use sha2::{Digest, Sha256};
 use std::alloc::{AllocError, Global};
 
-/// What a large term is.
+/// A large term.
 #[derive(Clone, Copy)]
 pub enum Large {
     /// A list of so many zeros.

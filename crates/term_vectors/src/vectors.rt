@@ -20,7 +20,7 @@ pub enum Vectors {
 }
 
 impl Vectors {
-    /// What the file is called where its lines are counted.
+    /// Returns the name of the file, by which its lines are counted.
     pub fn name(self) -> &'static str
         ensures { result.now ≡ name_of self }
     {
