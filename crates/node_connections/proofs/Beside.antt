@@ -14,7 +14,7 @@ use Rattle.dist_model.specs.Keeping.{AtMostOne, is_attempt, is_engaged}
 use Rattle.dist_model.specs.Losses.{close_side, release_parked, released_by}
 use Rattle.dist_model.specs.Names.{Name}
 use Rattle.dist_model.specs.Node.{Node, side_where}
-use Rattle.dist_model.specs.Sides.{Gone, Losing, Parked, State, TrunkSide, in_state, is_losing, is_parked, is_up}
+use Rattle.dist_model.specs.Sides.{Gone, Losing, Parked, State, TrunkSide, in_state, is_gone, is_losing, is_parked, is_up}
 use Rattle.dist_model.specs.Sides as model
 use Rattle.dist_model.specs.Work.{Work, at_work}
 use Rattle.erl_handshake.specs.Flags.{mandatory}
@@ -22,12 +22,13 @@ use Rattle.erl_handshake.specs.declared.acceptor.AcceptorState.TheVariants as ac
 use Rattle.erl_handshake.specs.declared.dialer.DialerState.TheVariants as dialer
 use Rattle.erl_names.specs.Order.{trunk_cmp}
 use Rattle.erl_names.specs.declared.trunk.TrunkId.{TrunkId}
+use Rattle.node_connections.proofs.Stood.{not_gone_parked}
 use Rattle.node_connections.specs.Waiting.{asked_in, parked_in}
-use Rattle.node_plans.proofs.KeptAfter.{named_after}
-use Rattle.node_plans.specs.Carried.{Makes}
-use Rattle.node_plans.specs.declared.plan.Plan.{Plan}
-use Rattle.node_sides.specs.Changes.{IsTowards, NoOtherUp}
-use Rattle.node_sides.specs.Standings.{standing_side, state_of}
+use Rattle.node_plan.proofs.KeptAfter.{named_after}
+use Rattle.node_plan.specs.Carried.{Makes}
+use Rattle.node_plan.specs.declared.plan.Plan.{Plan}
+use Rattle.node_tables.specs.Changes.{is_gone_in, IsTowards, NoOtherUp}
+use Rattle.node_tables.specs.Standings.{standing_side, state_of}
 use Rattle.dist_model.proofs.Sides.{up_engaged}
 
 -- a plan leaves the node what it introduces itself as
@@ -62,6 +63,15 @@ towards_kept sides u t s v y there p h = go (same_trunk t u) refl
         ap (λ x. peer_of (fm.get (fm.insert sides u v) x)) i ∙ ap peer_of (get_same sides u v) ∙ ap Some p
         ∙ ap peer_of (sym there) ∙ ap (λ x. peer_of (fm.get sides x)) (sym i) ∙ h
     go false e = ap peer_of (fm.get-insert trunk_total sides u v t ∙ ap (λ b. cond b (Some v) (fm.get sides t)) e) ∙ h
+
+-- and one that isn't gone isn't
+pub there_kept : (sides : FinMap trunk_cmp TrunkSide) (u t : TrunkId) (v : TrunkSide) → is_gone v.state ≡ false
+    → is_gone_in (fm.get sides t) ≡ false → is_gone_in (fm.get (fm.insert sides u v) t) ≡ false
+there_kept sides u t v n h = ap is_gone_in (fm.get-insert trunk_total sides u v t) ∙ go (same_trunk t u)
+  where
+    go : (b : Bool) → is_gone_in (cond b (Some v) (fm.get sides t)) ≡ false
+    go true = n
+    go false = h
 
 -- ---- the older connection is lost
 
@@ -181,3 +191,11 @@ module _ (n : Node) (t : TrunkId) (s : TrunkSide) (attempts : AtMostOne is_attem
       let f = found_in is_parked s.peer n e h in
       ap (λ sides. option_map (λ (x : TrunkSide). x.peer) (fm.get (fm.insert sides t (in_state Gone s)) e.0)) i
       ∙ ap (λ o. option_map (λ (x : TrunkSide). x.peer) o) (get_other n.sides t (in_state Gone s) e.0 (before_other e.0 e.1 f.0 f.2) ∙ f.0)
+
+  pub parked_there : (work : Work) (e : TrunkId × TrunkSide) → work.node.sides ≡ n.sides
+      → side_where is_parked s.peer (fm.entries n.sides) ≡ Some e
+      → is_gone_in (fm.get (set_state t s Gone work).node.sides e.0) ≡ false
+  parked_there work e i h =
+      let f = found_in is_parked s.peer n e h in
+      ap (λ sides. is_gone_in (fm.get (fm.insert sides t (in_state Gone s)) e.0)) i
+      ∙ ap is_gone_in (get_other n.sides t (in_state Gone s) e.0 (before_other e.0 e.1 f.0 f.2) ∙ f.0) ∙ not_gone_parked e.1.state f.2

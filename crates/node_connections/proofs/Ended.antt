@@ -5,11 +5,11 @@ use Rattle.dist_model.specs.Commands.{Accepts, Outcome}
 use Rattle.dist_model.specs.Node.{Node}
 use Rattle.dist_model.specs.Work.{Work}
 use Rattle.dist_model.specs.declared.report.Answer.{Answer}
-use Rattle.node_plans.proofs.Outcomes.{lacks, made}
-use Rattle.node_plans.specs.Carried.{MakesOr}
-use Rattle.node_plans.specs.Planned.{Plans, refused}
-use Rattle.node_plans.specs.Plans.{told}
-use Rattle.node_plans.specs.declared.plan.Plan.{Plan}
+use Rattle.node_plan.proofs.Outcomes.{lacks, made}
+use Rattle.node_plan.specs.Carried.{MakesOr}
+use Rattle.node_plan.specs.Planned.{Plans, refused}
+use Rattle.node_plan.specs.Plans.{told}
+use Rattle.node_plan.specs.declared.plan.Plan.{Plan}
 
 pub on_ok : {P : Type 0} (r : Result (Unit {0}) AllocError) → P → OnOk r P
 on_ok (Ok done) p = p

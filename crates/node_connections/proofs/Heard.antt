@@ -14,7 +14,7 @@ use Rattle.dist_model.specs.Items.{Handshake, kind_of}
 use Rattle.dist_model.specs.Keeping.{is_engaged}
 use Rattle.dist_model.specs.Names.{Name}
 use Rattle.dist_model.specs.Node.{side_where}
-use Rattle.dist_model.specs.Sides.{AwaitsChallenge, AwaitsStatus, State, TrunkSide, is_up}
+use Rattle.dist_model.specs.Sides.{AwaitsChallenge, AwaitsStatus, State, TrunkSide, is_gone, is_up}
 use Rattle.dist_model.specs.Work.{Work}
 use Rattle.dist_model.specs.declared.report.Answer.{Answer}
 use Rattle.erl_control.specs.declared.signal.Item.{Item}
@@ -28,8 +28,9 @@ use Rattle.erl_handshake.specs.declared.message.ShakeMsg.{ShakeMsg}
 use Rattle.erl_handshake.specs.declared.turn.Progress.{Progress}
 use Rattle.erl_handshake.specs.declared.turn.Progress.TheVariants as progress
 use Rattle.erl_names.specs.declared.trunk.TrunkId.{TrunkId}
+use Rattle.node_connections.proofs.Stood.{not_gone_engaged}
 use Rattle.node_connections.specs.Waiting.{asked_in}
-use Rattle.node_sides.specs.Standings.{is_settled, standing_side, state_of}
+use Rattle.node_tables.specs.Standings.{is_settled, standing_side, state_of}
 
 -- ---- whether the handshake goes on
 
@@ -118,6 +119,7 @@ reply_settles own y w creation message = record { settled = refl; stands = refl 
 
 pub record Goes (t : TrunkId) (y : Name) (st new : Standing) (message said : ShakeMsg) (send : Option ShakeMsg) (work : Work) : Type 0 where
   pub settled : is_settled new ≡ true
+  pub there : is_gone (state_of st) ≡ false
   pub engaged : is_up (state_of new) ≡ true → is_engaged (state_of st) ≡ true
   pub goes : handshake_at (state_of st) t (standing_side y st) message work ≡ went_on t y (standing_side y new) said send work
 
@@ -139,6 +141,7 @@ module _ (t : TrunkId) (y : Name) (message said : ShakeMsg) (word len : ℕ) (se
       let turn = dialer_turn own y d message in
       record {
         settled = dialer_settled turn.state;
+        there = not_gone_engaged _ e;
         engaged = λ u. e;
         goes = at ∙ verdict_goes turn.next.progress t (standing_side y (standing.Dialing d))
             (dialer_side (standing_side y (standing.Dialing d)) turn.state) message said turn.next.send send work h
@@ -161,6 +164,7 @@ module _ (t : TrunkId) (y : Name) (message said : ShakeMsg) (word len : ℕ) (se
       let s = reply_settles own y w creation message in
       record {
         settled = s.settled;
+        there = refl;
         engaged = λ u. refl;
         goes = verdict_goes turn.next.progress t side (acceptor_side side turn.state) message said turn.next.send send work h
             ∙ ap (λ s. went_on t y s said send work) (sym s.stands);

@@ -1,5 +1,6 @@
 -- How a side stands, in the node's words and in the model's.
-use Rattle.std.proofs.Common.{◌≡◌, ℕ, true, false, Option, Some, None, refl, ap}
+use Rattle.std.proofs.Common.{◌≡◌, ℕ, true, false, Option, Some, None, refl, sym, ap, ◌∙◌}
+use Rattle.std.proofs.lemmas.Bool.{true≢false}
 use Rattle.std.proofs.lemmas.Option.{same_Some}
 use Rattle.std.specs.FinMap as fm
 use Rattle.std.specs.Option.{option_map}
@@ -11,7 +12,8 @@ use Rattle.dist_model.specs.Commands.{Accepts, Refuses}
 use Rattle.dist_model.specs.Handshake.{set_state, with_side}
 use Rattle.dist_model.specs.Losses.{lose_at}
 use Rattle.dist_model.specs.Names.{Name}
-use Rattle.dist_model.specs.Sides.{TrunkSide, in_state}
+use Rattle.dist_model.specs.Sides.{State, TrunkSide, in_state, is_gone, is_parked, is_up}
+use Rattle.dist_model.specs.Keeping.{is_engaged}
 use Rattle.dist_model.specs.Sides as model
 use Rattle.dist_model.specs.Work.{Work}
 use Rattle.dist_model.specs.declared.report.Answer.{Answer}
@@ -20,10 +22,10 @@ use Rattle.erl_handshake.specs.declared.dialer.DialerState.TheVariants as dialer
 use Rattle.erl_names.specs.Order.{trunk_cmp}
 use Rattle.erl_names.specs.declared.trunk.TrunkId.{TrunkId}
 use Rattle.erl_term.specs.declared.refusal.Refusal.{Refusal}
-use Rattle.node_plans.specs.Carried.{sided}
-use Rattle.node_sides.specs.Changes.{IsDown, IsTowards, stood_at}
-use Rattle.node_sides.specs.Standings.{is_settled, standing_side, state_of}
-use Rattle.node_sides.specs.declared.change.SideChange.TheVariants as change
+use Rattle.node_plan.specs.Carried.{sided}
+use Rattle.node_tables.specs.Changes.{is_gone_in, IsDown, IsTowards, StaysGone, stood_at}
+use Rattle.node_tables.specs.Standings.{is_settled, standing_side, state_of}
+use Rattle.node_tables.specs.declared.change.SideChange.TheVariants as change
 
 -- ---- the side of a connection stands so
 
@@ -82,3 +84,46 @@ keeps_none (standing.Losing creation) t s work h l = refl
 keeps_none standing.Gone t s work h l = refl
 keeps_none (standing.Accepting acceptor.Over) t s work h l = cc
 keeps_none st t s work h l = cc
+
+-- ---- a side that is gone stays gone
+
+pub stays : (st : Standing) (o : Option TrunkSide) → is_gone_in o ≡ false → StaysGone st o
+stays st o h g = absurd (true≢false (sym g ∙ h))
+
+pub there : (sides : FinMap trunk_cmp TrunkSide) (t : TrunkId) (s : TrunkSide) → fm.get sides t ≡ Some s → is_gone s.state ≡ false
+    → is_gone_in (fm.get sides t) ≡ false
+there sides t s h n = ap is_gone_in h ∙ n
+
+lost_gone : (st : Standing) → is_gone (state_of st) ≡ true → is_settled st ≡ true → is_gone (state_of (lost st)) ≡ true
+lost_gone (standing.Dialing d) g k = refl
+lost_gone (standing.Accepting a) g k = refl
+lost_gone (standing.Up creation) g k = cc
+lost_gone (standing.Losing creation) g k = cc
+lost_gone standing.Gone g k = refl
+
+pub lost_stays : (sides : FinMap trunk_cmp TrunkSide) (t : TrunkId) (y : Name) (st : Standing) → is_settled st ≡ true
+    → fm.get sides t ≡ Some (standing_side y st) → StaysGone (lost st) (fm.get sides t)
+lost_stays sides t y st k h g = lost_gone st (sym (ap is_gone_in h) ∙ g) k
+
+-- there is something to lose
+pub live_there : (st : Standing) → is_settled st ≡ true → is_live (name_of st) ≡ true → is_gone (state_of st) ≡ false
+live_there (standing.Dialing (dialer.AwaitsStatus w)) h l = refl
+live_there (standing.Dialing (dialer.AwaitsChallenge w)) h l = refl
+live_there (standing.Dialing (dialer.AwaitsAck w creation)) h l = refl
+live_there (standing.Accepting (acceptor.AwaitsAnswer w creation)) h l = refl
+live_there (standing.Accepting (acceptor.AwaitsTurn w creation)) h l = refl
+live_there (standing.Accepting (acceptor.AwaitsReply w creation)) h l = refl
+live_there (standing.Up creation) h l = refl
+live_there st h l = cc
+
+pub not_gone_up : (state : State) → is_up state ≡ true → is_gone state ≡ false
+not_gone_up model.Gone h = cc
+not_gone_up state h = refl
+
+pub not_gone_parked : (state : State) → is_parked state ≡ true → is_gone state ≡ false
+not_gone_parked model.Gone h = cc
+not_gone_parked state h = refl
+
+pub not_gone_engaged : (state : State) → is_engaged state ≡ true → is_gone state ≡ false
+not_gone_engaged model.Gone h = cc
+not_gone_engaged state h = refl

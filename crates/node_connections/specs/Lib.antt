@@ -1,3 +1,9 @@
 pub mod Dialed
 pub mod Waiting
 pub mod Admitted
+pub mod Fronts
+pub mod Coming
+pub mod Ahead
+pub mod Records
+pub mod Done
+pub mod Next

@@ -9,14 +9,14 @@ ghost use Rattle.dist_model.specs.Handshake.{identity, with_side};
 ghost use Rattle.dist_model.specs.Node.{Node as TheNode};
 ghost use Rattle.dist_model.specs.Work.{Work, at_work};
 ghost use Rattle.erl_handshake.specs.declared.message.ShakeMsg.{ShakeMsg as TheShakeMsg};
-ghost use Rattle.node_plans.specs.Carried.{Makes, MakesOr};
-ghost use Rattle.node_plans.specs.Planned.{Plans};
-ghost use Rattle.node_plans.specs.Plans.{told};
-ghost use Rattle.node_plans.specs.Seen.{seen};
-ghost use Rattle.node_changes.specs.declared.change.Change.TheVariants as change;
-ghost use Rattle.node_sides.specs.Changes.{IsDown};
-ghost use Rattle.node_sides.specs.Passing.{passes};
-ghost use Rattle.node_sides.specs.Standings.{standing_side};
+ghost use Rattle.node_plan.specs.Carried.{Makes, MakesOr};
+ghost use Rattle.node_plan.specs.Planned.{Plans};
+ghost use Rattle.node_plan.specs.Plans.{told};
+ghost use Rattle.node_plan.specs.Seen.{seen};
+ghost use Rattle.node_plan.specs.declared.change.Change.TheVariants as change;
+ghost use Rattle.node_tables.specs.Changes.{IsDown};
+ghost use Rattle.node_tables.specs.Passing.{passes};
+ghost use Rattle.node_tables.specs.Standings.{standing_side};
 ghost use Rattle.node_connections.specs.Admitted.{admitted_by, named_side, sends_challenge};
 ghost use Rattle.node_connections.specs.Waiting.{named_in};
 
@@ -28,8 +28,8 @@ use erl_handshake::{
     AcceptorState, Admission, OtherConnections, Progress, ShakeFault, ShakeMsg, Status,
 };
 use erl_term::{Atom, Refusal};
-use node_plans::{Node, Plan, or_refuse};
-use node_sides::{SideChange, Which};
+use node_plan::{Node, Plan, or_refuse};
+use node_tables::{SideChange, Which};
 use std::alloc::{AllocError, Global};
 
 // The challenge and the dialer's creation, where the dialer has named itself.
@@ -194,9 +194,9 @@ fn admit(
     or_refuse(carry_out(alloc, node, plan, side, due, challenge, creation))
 }
 
-/// What comes on a connection of which the node has no side yet, as a fresh side has judged it under
-/// this word: the dialer's name, or what ends the attempt. (ERTS User's Guide, Distribution Protocol,
-/// Distribution Handshake.)
+/// Plans the first arrival on a connection of which the node has no side, as a fresh side has judged it
+/// under this word. It is the dialer's name, or a fault that ends the attempt. (ERTS User's Guide,
+/// Distribution Protocol, Distribution Handshake.)
 ///
 /// # Errors
 /// Where there is no memory for the plan.

@@ -1,22 +1,22 @@
 //! The challenge is sent to a dialer.
-ghost use Rattle.std.specs.Prelude.{◌≡◌};
+ghost use Rattle.std.specs.Prelude.{◌≡◌, false};
 ghost use Rattle.std.specs.FinMap as fm;
 ghost use Rattle.conn_core.specs.declared.standing.Standing.TheVariants as the_standing;
 ghost use Rattle.dist_model.specs.Handshake.{challenge as challenge_of, with_side, write};
 ghost use Rattle.dist_model.specs.Node.{Node as TheNode};
 ghost use Rattle.dist_model.specs.Work.{Work};
 ghost use Rattle.erl_handshake.specs.declared.acceptor.AcceptorState.TheVariants as acceptor;
-ghost use Rattle.node_plans.specs.Carried.{Makes, MakesOr};
-ghost use Rattle.node_plans.specs.Plans.{told};
-ghost use Rattle.node_plans.specs.Seen.{seen};
-ghost use Rattle.node_sides.specs.Changes.{IsTowards};
-ghost use Rattle.node_sides.specs.Standings.{standing_side};
+ghost use Rattle.node_plan.specs.Carried.{Makes, MakesOr};
+ghost use Rattle.node_plan.specs.Plans.{told};
+ghost use Rattle.node_plan.specs.Seen.{seen};
+ghost use Rattle.node_tables.specs.Changes.{is_gone_in, IsTowards};
+ghost use Rattle.node_tables.specs.Standings.{standing_side};
 
 use crate::standing::stand_down;
 use conn_core::{Side, Standing};
 use erl_handshake::AcceptorState;
 use erl_names::{NodeName, TrunkId};
-use node_plans::{Node, Plan};
+use node_plan::{Node, Plan};
 use std::alloc::{AllocError, Global};
 
 /// The node's challenge is sent on a connection. (ERTS User's Guide, Distribution Protocol,
@@ -47,7 +47,8 @@ pub(crate) fn send_challenge(
     challenge: u32,
     creation: u32,
 ) -> Result<(), AllocError>
-    ensures makes { (work : Work) → IsTowards side.now.peer (fm.get work.node.sides side.now.trunk) → Makes plan.old (seen node.now) work →
+    ensures makes { (work : Work) → IsTowards side.now.peer (fm.get work.node.sides side.now.trunk) →
+        is_gone_in (fm.get work.node.sides side.now.trunk) ≡ false → Makes plan.old (seen node.now) work →
         MakesOr (seen node.now) (write side.now.trunk side.now.peer (challenge_of work.node challenge)
         (with_side side.now.trunk (standing_side side.now.peer (the_standing.Accepting (acceptor.AwaitsReply challenge creation))) work)) plan.new result }
     ensures told { (m : TheNode) → told plan.new m ≡ told plan.old m }

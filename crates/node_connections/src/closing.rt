@@ -1,23 +1,23 @@
 //! A connection is cleared away.
-ghost use Rattle.std.specs.Prelude.{◌≡◌, Some, true};
+ghost use Rattle.std.specs.Prelude.{◌≡◌, Some, true, false};
 ghost use Rattle.std.specs.FinMap as fm;
 ghost use Rattle.dist_model.specs.Losses.{close_side, released_by};
 ghost use Rattle.dist_model.specs.Node.{Node as TheNode};
 ghost use Rattle.dist_model.specs.Sides.{is_losing};
 ghost use Rattle.dist_model.specs.Work.{Work};
-ghost use Rattle.node_plans.specs.Carried.{Makes, MakesOr};
-ghost use Rattle.node_plans.specs.Plans.{told};
-ghost use Rattle.node_plans.specs.Seen.{seen};
-ghost use Rattle.node_sides.specs.Changes.{IsTowards};
-ghost use Rattle.node_sides.specs.Standings.{side_of, state_of};
+ghost use Rattle.node_plan.specs.Carried.{Makes, MakesOr};
+ghost use Rattle.node_plan.specs.Plans.{told};
+ghost use Rattle.node_plan.specs.Seen.{seen};
+ghost use Rattle.node_tables.specs.Changes.{is_gone_in, IsTowards};
+ghost use Rattle.node_tables.specs.Standings.{side_of, state_of};
 ghost use Rattle.node_connections.specs.Waiting.{parked_in};
 
 use crate::challenging::send_challenge;
 use crate::standing::stand_down;
 use conn_core::{Side, Standing};
 use erl_handshake::AcceptorState;
-use node_plans::{Node, Plan};
-use node_sides::Which;
+use node_plan::{Node, Plan};
+use node_tables::Which;
 use std::alloc::{AllocError, Global};
 
 // The challenge and the dialer's creation, where the attempt waits for an older connection's end.
@@ -37,7 +37,8 @@ fn parked(standing: Standing) -> Option<(u32, u32)>
 
 // An attempt that waits goes on.
 fn release(alloc: Global, node: &Node, plan: &mut Plan, side: &Side) -> Result<(), AllocError>
-    ensures makes { (work : Work) → IsTowards side.now.peer (fm.get work.node.sides side.now.trunk) → Makes plan.old (seen node.now) work →
+    ensures makes { (work : Work) → IsTowards side.now.peer (fm.get work.node.sides side.now.trunk) →
+        is_gone_in (fm.get work.node.sides side.now.trunk) ≡ false → Makes plan.old (seen node.now) work →
         MakesOr (seen node.now) (released_by (state_of side.now.standing) side.now.trunk (side_of side.now) work) plan.new result }
     ensures told { (m : TheNode) → told plan.new m ≡ told plan.old m }
 {

@@ -5,19 +5,19 @@ ghost use Rattle.dist_model.specs.Names.{Name};
 ghost use Rattle.dist_model.specs.Work.{at_work};
 ghost use Rattle.dist_model.specs.declared.report.Answer.TheVariants as answer;
 ghost use Rattle.node_connections.specs.Dialed.{dialed_on};
-ghost use Rattle.node_plans.specs.Carried.{Makes, MakesOr};
-ghost use Rattle.node_plans.specs.Planned.{Plans};
-ghost use Rattle.node_plans.specs.Plans.{told};
-ghost use Rattle.node_plans.specs.Seen.{seen};
-ghost use Rattle.node_changes.specs.declared.change.Change.TheVariants as change;
+ghost use Rattle.node_plan.specs.Carried.{Makes, MakesOr};
+ghost use Rattle.node_plan.specs.Planned.{Plans};
+ghost use Rattle.node_plan.specs.Plans.{told};
+ghost use Rattle.node_plan.specs.Seen.{seen};
+ghost use Rattle.node_plan.specs.declared.change.Change.TheVariants as change;
 
 use conn_core::Side;
 use dist_model::Answer;
 use erl_names::{NodeName, TrunkId};
 use erl_term::Refusal;
 use node_frames::same_name;
-use node_plans::{Node, Plan, or_refuse};
-use node_sides::{SideChange, Which};
+use node_plan::{Node, Plan, or_refuse};
+use node_tables::{SideChange, Which};
 use std::alloc::{AllocError, Global};
 
 // It dials on the next connection.

@@ -1,5 +1,5 @@
 //! A message of the handshake comes to a side.
-ghost use Rattle.std.specs.Prelude.{◌≡◌, Some, true, ℕ};
+ghost use Rattle.std.specs.Prelude.{◌≡◌, Some, true, false, ℕ};
 ghost use Rattle.std.specs.FinMap as fm;
 ghost use Rattle.conn_core.specs.Side.{breaks, on_message};
 ghost use Rattle.conn_core.specs.declared.arrival.Fault.{Fault as TheFault};
@@ -11,13 +11,13 @@ ghost use Rattle.dist_model.specs.Sides.{is_up};
 ghost use Rattle.dist_model.specs.Work.{Work, at_work};
 ghost use Rattle.erl_handshake.specs.declared.acceptor.AcceptorState.TheVariants as acceptor;
 ghost use Rattle.erl_handshake.specs.declared.message.ShakeMsg.{ShakeMsg as TheShakeMsg};
-ghost use Rattle.node_plans.specs.Carried.{Makes, MakesOr};
-ghost use Rattle.node_plans.specs.Planned.{Plans};
-ghost use Rattle.node_plans.specs.Plans.{told};
-ghost use Rattle.node_plans.specs.Seen.{seen};
-ghost use Rattle.node_changes.specs.declared.change.Change.TheVariants as change;
-ghost use Rattle.node_sides.specs.Changes.{IsTowards, NoOtherUp};
-ghost use Rattle.node_sides.specs.Standings.{is_settled, side_of, standing_side, state_of};
+ghost use Rattle.node_plan.specs.Carried.{Makes, MakesOr};
+ghost use Rattle.node_plan.specs.Planned.{Plans};
+ghost use Rattle.node_plan.specs.Plans.{told};
+ghost use Rattle.node_plan.specs.Seen.{seen};
+ghost use Rattle.node_plan.specs.declared.change.Change.TheVariants as change;
+ghost use Rattle.node_tables.specs.Changes.{is_gone_in, IsTowards, NoOtherUp};
+ghost use Rattle.node_tables.specs.Standings.{is_settled, side_of, standing_side, state_of};
 ghost use Rattle.node_connections.specs.Waiting.{asked_in};
 
 use crate::answering::kind;
@@ -28,11 +28,11 @@ use conn_core::{Arrival, Side, Standing, Taken};
 use dist_model::Answer;
 use erl_handshake::{AcceptorState, ShakeMsg};
 use erl_term::Refusal;
-use node_plans::{Node, Plan, or_refuse};
-use node_sides::Which;
+use node_plan::{Node, Plan, or_refuse};
+use node_tables::Which;
 use std::alloc::{AllocError, Global};
 
-// The challenge and the dialer's creation, where the dialer was asked whether it goes on.
+// Returns the challenge and the dialer's creation, if the side awaits the dialer's answer.
 fn asked(standing: Standing) -> Option<(u32, u32)>
     ensures { result ≡ asked_in standing }
 {
@@ -56,7 +56,8 @@ fn take(
     send: &Option<ShakeMsg>,
 ) -> Result<(), AllocError>
     ensures makes { (m : TheNode) (work : Work) → is_settled standing ≡ true → IsTowards side.now.peer (fm.get work.node.sides side.now.trunk) →
-        (is_up (state_of standing) ≡ true → NoOtherUp work.node.sides side.now.trunk side.now.peer) → Makes plan.old m work →
+        (is_up (state_of standing) ≡ true → NoOtherUp work.node.sides side.now.trunk side.now.peer) →
+        is_gone_in (fm.get work.node.sides side.now.trunk) ≡ false → Makes plan.old m work →
         MakesOr m (write_if side.now.trunk side.now.peer send.now (with_side side.now.trunk (standing_side side.now.peer standing) work)) plan.new result }
     ensures told { (m : TheNode) → told plan.new m ≡ told plan.old m }
 {
@@ -76,7 +77,8 @@ fn go_on(
     challenge: u32,
     creation: u32,
 ) -> Result<(), AllocError>
-    requires { IsTowards side.now.peer (fm.get (seen node.now).sides side.now.trunk) }
+    requires towards { IsTowards side.now.peer (fm.get (seen node.now).sides side.now.trunk) }
+    requires there { is_gone_in (fm.get (seen node.now).sides side.now.trunk) ≡ false }
     ensures makes { let m = seen node.now in Makes plan.old m (at_work m) →
         MakesOr m (send_challenge_or_park side.now.trunk (standing_side side.now.peer (the_standing.Accepting (acceptor.AwaitsAnswer challenge creation))) challenge
         (up_is_lost (side_where is_up side.now.peer (fm.entries m.sides)) (at_work m))) plan.new result }
@@ -126,8 +128,8 @@ fn take_message(
     }
 }
 
-/// What comes to a side of the node, as the side has judged it: a message of the handshake, or what
-/// breaks the side. (ERTS User's Guide, Distribution Protocol, Distribution Handshake.)
+/// Plans an arrival at a side of the node, as the side has judged it: a message of the handshake, or a
+/// fault that breaks the side. (ERTS User's Guide, Distribution Protocol, Distribution Handshake.)
 ///
 /// # Errors
 /// Where there is no memory for the plan.

@@ -6,19 +6,19 @@ ghost use Rattle.dist_model.specs.Losses.{lose};
 ghost use Rattle.dist_model.specs.Node.{Node as TheNode};
 ghost use Rattle.dist_model.specs.Work.{Work, at_work};
 ghost use Rattle.dist_model.specs.declared.report.Answer.TheVariants as answer;
-ghost use Rattle.node_plans.specs.Carried.{Makes};
-ghost use Rattle.node_plans.specs.Planned.{Plans};
-ghost use Rattle.node_plans.specs.Plans.{told};
-ghost use Rattle.node_plans.specs.Seen.{seen};
-ghost use Rattle.node_changes.specs.declared.change.Change.TheVariants as change;
-ghost use Rattle.node_sides.specs.Standings.{is_settled, side_of};
+ghost use Rattle.node_plan.specs.Carried.{Makes};
+ghost use Rattle.node_plan.specs.Planned.{Plans};
+ghost use Rattle.node_plan.specs.Plans.{told};
+ghost use Rattle.node_plan.specs.Seen.{seen};
+ghost use Rattle.node_plan.specs.declared.change.Change.TheVariants as change;
+ghost use Rattle.node_tables.specs.Standings.{is_settled, side_of};
 
 use crate::standing::stand_down;
 use conn_core::{Fault, Side};
 use dist_model::Answer;
 use erl_names::TrunkId;
 use erl_term::Refusal;
-use node_plans::{Node, Plan, or_refuse};
+use node_plan::{Node, Plan, or_refuse};
 
 /// The node notices that a connection is lost, or gives an attempt up. (Reference Manual, Distributed
 /// Erlang.)
@@ -39,8 +39,8 @@ pub fn lose(node: &Node, plan: &mut Plan, trunk: &TrunkId) -> Result<(), Refusal
     or_refuse(stand_down(plan, side, side.standing.lost()))
 }
 
-/// What comes breaks a side. (ERTS User's Guide, Distribution Protocol, Distribution Handshake and
-/// Protocol between Connected Nodes.)
+/// Plans the break of a side by the bytes that come. (ERTS User's Guide, Distribution Protocol,
+/// Distribution Handshake and Protocol between Connected Nodes.)
 ///
 /// # Errors
 /// Where there is no memory for the plan.

@@ -1,25 +1,25 @@
 //! A side of a connection stands otherwise.
-ghost use Rattle.std.specs.Prelude.{◌≡◌, true};
+ghost use Rattle.std.specs.Prelude.{◌≡◌, true, false};
 ghost use Rattle.std.specs.FinMap as fm;
 ghost use Rattle.conn_core.specs.declared.standing.Standing.TheVariants as the_standing;
 ghost use Rattle.dist_model.specs.Handshake.{with_side};
 ghost use Rattle.dist_model.specs.Node.{Node as TheNode};
 ghost use Rattle.dist_model.specs.Sides.{is_up};
 ghost use Rattle.dist_model.specs.Work.{Work};
-ghost use Rattle.node_plans.specs.Carried.{Makes, MakesOr};
-ghost use Rattle.node_plans.specs.Plans.{told};
-ghost use Rattle.node_sides.specs.Changes.{IsDown, IsTowards, NoOtherUp};
-ghost use Rattle.node_sides.specs.Standings.{is_settled, standing_side, state_of};
+ghost use Rattle.node_plan.specs.Carried.{Makes, MakesOr};
+ghost use Rattle.node_plan.specs.Plans.{told};
+ghost use Rattle.node_tables.specs.Changes.{is_gone_in, IsDown, IsTowards, NoOtherUp, StaysGone};
+ghost use Rattle.node_tables.specs.Standings.{is_settled, standing_side, state_of};
 
 use conn_core::{Side, Standing};
-use node_plans::Plan;
-use node_sides::SideChange;
+use node_plan::Plan;
+use node_tables::SideChange;
 use std::alloc::AllocError;
 
 /// A side stands so, and isn't up. (ERTS User's Guide, Distribution Protocol, Distribution Handshake.)
 pub(crate) fn stand_down(plan: &mut Plan, side: &Side, standing: Standing) -> Result<(), AllocError>
     ensures makes { (m : TheNode) (work : Work) → IsDown standing → IsTowards side.now.peer (fm.get work.node.sides side.now.trunk) →
-        Makes plan.old m work → MakesOr m (with_side side.now.trunk (standing_side side.now.peer standing) work) plan.new result }
+        StaysGone standing (fm.get work.node.sides side.now.trunk) → Makes plan.old m work → MakesOr m (with_side side.now.trunk (standing_side side.now.peer standing) work) plan.new result }
     ensures told { (m : TheNode) → told plan.new m ≡ told plan.old m }
 {
     let trunk = side.trunk.clone()?;
@@ -29,7 +29,7 @@ pub(crate) fn stand_down(plan: &mut Plan, side: &Side, standing: Standing) -> Re
 // A side is up.
 fn come_up(plan: &mut Plan, side: &Side, creation: u32) -> Result<(), AllocError>
     ensures makes { (m : TheNode) (work : Work) → IsTowards side.now.peer (fm.get work.node.sides side.now.trunk) →
-        NoOtherUp work.node.sides side.now.trunk side.now.peer →
+        NoOtherUp work.node.sides side.now.trunk side.now.peer → is_gone_in (fm.get work.node.sides side.now.trunk) ≡ false →
         Makes plan.old m work → MakesOr m (with_side side.now.trunk (standing_side side.now.peer (the_standing.Up creation)) work) plan.new result }
     ensures told { (m : TheNode) → told plan.new m ≡ told plan.old m }
 {
@@ -46,7 +46,7 @@ fn come_up(plan: &mut Plan, side: &Side, creation: u32) -> Result<(), AllocError
 pub(crate) fn stand(plan: &mut Plan, side: &Side, standing: Standing) -> Result<(), AllocError>
     ensures makes { (m : TheNode) (work : Work) → is_settled standing ≡ true → IsTowards side.now.peer (fm.get work.node.sides side.now.trunk) →
         (is_up (state_of standing) ≡ true → NoOtherUp work.node.sides side.now.trunk side.now.peer) →
-        Makes plan.old m work → MakesOr m (with_side side.now.trunk (standing_side side.now.peer standing) work) plan.new result }
+        is_gone_in (fm.get work.node.sides side.now.trunk) ≡ false → Makes plan.old m work → MakesOr m (with_side side.now.trunk (standing_side side.now.peer standing) work) plan.new result }
     ensures told { (m : TheNode) → told plan.new m ≡ told plan.old m }
 {
     match standing {

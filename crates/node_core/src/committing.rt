@@ -3,18 +3,18 @@ ghost use Rattle.std.specs.Prelude.{◌≡◌, OnOk};
 ghost use Rattle.dist_model.specs.Commands.{Outcome};
 ghost use Rattle.dist_model.specs.Node.{Node as TheNode};
 ghost use Rattle.node_core.specs.Model.{IsFor, model_of};
-ghost use Rattle.node_events.specs.Done.{Does};
-ghost use Rattle.node_events.specs.Suiting.{IsAheadIfAny};
-ghost use Rattle.node_plans.specs.Planned.{Plans};
-ghost use Rattle.node_plans.specs.Plans.{committed, told};
-ghost use Rattle.node_sweeps.specs.Ahead.{IsAhead};
+ghost use Rattle.node_core.specs.Done.{Does};
+ghost use Rattle.node_core.specs.Suiting.{IsAheadIfAny};
+ghost use Rattle.node_plan.specs.Planned.{Plans};
+ghost use Rattle.node_plan.specs.Plans.{committed, told};
+ghost use Rattle.node_connections.specs.Ahead.{IsAhead};
 
 use crate::node::Node;
+use crate::planned::Planned;
 use dist_model::Report;
 use erl_term::Refusal;
-use node_events::Planned;
+use node_connections::Sweeping;
 use node_frames::Frame;
-use node_sweeps::Sweeping;
 use std::alloc::Global;
 
 // A sweep has come this far, if it has gone on.

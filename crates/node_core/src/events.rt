@@ -7,23 +7,27 @@ ghost use Rattle.dist_model.specs.Names.{Name};
 ghost use Rattle.dist_model.specs.NodeEvents as event;
 ghost use Rattle.dist_model.specs.NodeEvents.{at_node};
 ghost use Rattle.erl_term.specs.declared.refusal.Refusal.TheVariants as refusal;
-ghost use Rattle.node_arrivals.specs.Coming.{PlansBytes};
-ghost use Rattle.node_events.specs.Arrived.{DoesArrived, arrives, is_undialed};
-ghost use Rattle.node_events.specs.Begun.{IsNew, IsTaking};
-ghost use Rattle.node_events.specs.Done.{Does};
+ghost use Rattle.node_connections.specs.Coming.{PlansBytes};
+ghost use Rattle.node_core.specs.Arrived.{DoesArrived, arrives, is_undialed};
+ghost use Rattle.node_core.specs.Begun.{IsNew, IsTaking};
+ghost use Rattle.node_core.specs.Done.{Does};
 ghost use Rattle.node_core.specs.Model.{IsFor, model_of};
-ghost use Rattle.node_plans.specs.Planned.{Plans};
+ghost use Rattle.node_plan.specs.Planned.{Plans};
 
+use crate::arriving::{Arrived, plan_arrival};
+use crate::calling::plan_call;
+use crate::dialing::plan_dial;
+use crate::incarnations::{start, stop};
+use crate::losing::plan_loss;
 use crate::node::Node;
+use crate::own_list::plan_local;
+use crate::planned::Planned;
+use crate::sweeping::plan_sweep;
 use dist_model::{Command, Report};
 use erl_names::{NodeName, TrunkId};
 use erl_term::Refusal;
-use node_events::{
-    Arrived, Planned, plan_arrival, plan_call, plan_dial, plan_local, plan_loss, plan_sweep, start,
-    stop,
-};
+use node_connections::Sweeping;
 use node_frames::Frame;
-use node_sweeps::Sweeping;
 use std::alloc::Global;
 
 impl Node {

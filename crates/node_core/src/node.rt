@@ -1,9 +1,9 @@
 //! One node.
-ghost use Rattle.node_plans.specs.Seen.{seen};
-ghost use Rattle.node_sweeps.specs.Ahead.{IsAhead};
+ghost use Rattle.node_plan.specs.Seen.{seen};
+ghost use Rattle.node_connections.specs.Ahead.{IsAhead};
 
-use node_plans::Node as State;
-use node_sweeps::Sweeping;
+use node_connections::Sweeping;
+use node_plan::Node as State;
 
 /// One node: its processes with their links and monitors, its connections, and how far the sweep of a
 /// lost one has come. (Reference Manual, Processes; Distributed Erlang.)

@@ -1,4 +1,4 @@
-//! A new node, and what a node says of itself.
+//! A new node, and the queries of a node.
 ghost use Rattle.std.specs.Prelude.{◌≡◌, ◌↔◌, IfOk, IsTrue, is_some};
 ghost use Rattle.std.specs.FinMap as fm;
 ghost use Rattle.std.specs.Option.{option_copied, option_map};
@@ -8,10 +8,10 @@ ghost use Rattle.dist_model.specs.Quiet.{nothing_between};
 ghost use Rattle.dist_model.specs.Runs.{new_node};
 ghost use Rattle.dist_model.specs.Sides.{holds, is_losing};
 ghost use Rattle.dist_model.specs.World.{first_of};
-ghost use Rattle.node_arrivals.specs.Fronts.{IsWhole};
+ghost use Rattle.node_connections.specs.Fronts.{IsWhole};
 ghost use Rattle.node_core.specs.Model.{model_of};
-ghost use Rattle.node_sides.specs.Passing.{passes};
-ghost use Rattle.node_sides.specs.Standings.{side_of};
+ghost use Rattle.node_tables.specs.Passing.{passes};
+ghost use Rattle.node_tables.specs.Standings.{side_of};
 ghost use Rattle.node_tables.specs.Lives.{life_of};
 
 use crate::node::Node;
@@ -20,11 +20,9 @@ use erl_handshake::Cookie;
 use erl_names::{NodeName, TrunkId};
 use erl_term::{Atom, Pid};
 use link_core::End;
-use node_arrivals::is_whole;
-use node_plans::Node as State;
-use node_sides::Which;
-use node_sweeps::Sweeping;
-use node_tables::Life;
+use node_connections::{Sweeping, is_whole};
+use node_plan::Node as State;
+use node_tables::{Life, Which};
 use std::alloc::{AllocError, Global};
 
 impl Node {
@@ -49,7 +47,7 @@ impl Node {
         self.state.name()
     }
 
-    /// Whether the node runs.
+    /// Returns true if the node runs.
     pub fn is_up(&self) -> bool
         ensures { result ≡ (model_of self.now).up }
     {
@@ -64,22 +62,22 @@ impl Node {
         self.state.mint().creation().number()
     }
 
-    /// How many processes its incarnation has spawned: their ids are 1 to this.
+    /// Returns the number of processes that its incarnation has spawned: their ids are 1 to this.
     pub fn spawned(&self) -> u32
         ensures { result ≡ (model_of self.now).mint.pids }
     {
         self.state.mint().pids()
     }
 
-    /// What there is of a process: it lives, has ended for a reason, or there is none. (Reference
-    /// Manual, Processes.)
+    /// Returns the life of a process that is living or has ended for a reason. [`None`] if there is
+    /// none. (Reference Manual, Processes.)
     pub fn life(&self, process: &Pid) -> Option<&Life>
         ensures { fm.get (model_of self.now).lives process.now ≡ option_map life_of (option_copied result) }
     {
         self.state.life(process)
     }
 
-    /// Whether a process is living here.
+    /// Returns true if a process is living here.
     pub fn is_living(&self, process: &Pid) -> bool
         ensures { result ≡ living (model_of self.now) process.now }
     {
@@ -94,24 +92,25 @@ impl Node {
         self.state.end(process, partner)
     }
 
-    /// Whether nothing travels between two processes of the node.
+    /// Returns true if nothing is in flight between two processes of the node.
     pub fn has_nothing_between(&self, p: &Pid, q: &Pid) -> bool
         ensures { result ≡ nothing_between p.now q.now (model_of self.now).local }
     {
         self.state.has_nothing_between(p, q)
     }
 
-    /// The side of a connection. (ERTS User's Guide, Distribution Protocol.)
+    /// Returns the side of a connection. One that is gone stands for others that are gone too, and its own
+    /// connection may be one of those. (ERTS User's Guide, Distribution Protocol.)
     pub fn side(&self, trunk: &TrunkId) -> Option<&Side>
         ensures { option_map side_of (option_copied result) ≡ fm.get (model_of self.now).sides trunk.now }
     {
         self.state.side(trunk)
     }
 
-    /// Whether bytes that come on a connection begin with a whole item of the node's side of it, or with
-    /// what is none, so that [`Node::arrive`] asks for no more of them. A node without a side reads as
-    /// the one that is dialed, and one whose side is lost or gone reads nothing, so it asks for none.
-    /// Takes no memory. (ERTS User's Guide, Distribution Protocol, Distribution Handshake and Protocol
+    /// Returns true if bytes that come on a connection begin with a whole item of the node's side of it, or
+    /// with a front that is none. Then [`Node::arrive`] asks for no more of them. A node without a side
+    /// reads as the one that is dialed. One whose side is lost or gone reads nothing, so it asks for none.
+    /// Allocates nothing. (ERTS User's Guide, Distribution Protocol, Distribution Handshake and Protocol
     /// between Connected Nodes.)
     pub fn whole(&self, trunk: &TrunkId, bytes: &[u8]) -> bool
         ensures { IsTrue result ↔ IsWhole (fm.get (model_of self.now).sides trunk.now) bytes.now }
@@ -136,22 +135,22 @@ impl Node {
         }
     }
 
-    /// Whether a signal travels from the node to itself. (Reference Manual, Processes, Delivery of
-    /// Signals.)
+    /// Returns true if a signal is in flight from the node to itself. (Reference Manual, Processes,
+    /// Delivery of Signals.)
     pub fn has_local(&self) -> bool
         ensures { result ≡ is_some (first_of (model_of self.now).local) }
     {
         self.state.first_local().is_some()
     }
 
-    /// Whether a connection is lost, and what the node keeps of it isn't swept yet.
+    /// Returns true if a connection is lost, and the node's records of it aren't swept yet.
     pub fn is_losing(&self) -> bool
         ensures { result ≡ is_some (any_side is_losing (fm.entries (model_of self.now).sides)) }
     {
         self.state.first_losing().is_some()
     }
 
-    /// Whether there is a connection to a peer that is up, or lost and not yet swept.
+    /// Returns true if there is a connection to a peer that is up, or lost and not yet swept.
     pub fn is_connected(&self, peer: &Atom) -> bool
         ensures { result ≡ is_some (side_where holds peer.now (fm.entries (model_of self.now).sides)) }
     {

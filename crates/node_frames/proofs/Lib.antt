@@ -1,3 +1,4 @@
 pub mod Texts
 pub mod Sendable
 pub mod Statuses
+pub mod Told

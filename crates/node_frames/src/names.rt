@@ -7,7 +7,7 @@ ghost use Rattle.erl_control.specs.Ends.{receiver_of, sender_of};
 use erl_control::Signal;
 use erl_term::{Atom, Pid};
 
-/// Whether the two are one name.
+/// Returns true if the two are one name.
 #[tactic(auto, using(crate::proofs::Texts::same_text))]
 pub fn same_name(a: &Atom, b: &Atom) -> bool
     ensures { result ≡ same_name a.now b.now }
@@ -15,7 +15,7 @@ pub fn same_name(a: &Atom, b: &Atom) -> bool
     a == b
 }
 
-/// Whether the two are one pid.
+/// Returns true if the two are one pid.
 pub fn same_pid(a: &Pid, b: &Pid) -> bool
     ensures { result ≡ same_pid a.now b.now }
 {

@@ -5,3 +5,11 @@ pub mod Edited
 pub mod Changed
 pub mod Found
 pub mod Behind
+pub mod Placed
+pub mod Buried
+pub mod Whole
+pub mod RoutesKept
+pub mod Lost
+pub mod Seen
+pub mod Ended
+pub mod Stood

@@ -3,3 +3,10 @@ pub mod Linked
 pub mod Held
 pub mod Becomes
 pub mod Room
+pub mod Standings
+pub mod Sides
+pub mod Changes
+pub mod Passing
+pub mod Runs
+pub mod Apart
+pub mod Sought

@@ -7,8 +7,8 @@ ghost use Rattle.node_tables.specs.Room.{EndFits};
 use erl_term::Pid;
 use link_core::{Ends, LinkSignal};
 
-/// What becomes of the end that a process has of a link. (ERTS User's Guide, Distribution Protocol,
-/// New Link Protocol.)
+/// A change of a process's end of a link. (ERTS User's Guide, Distribution Protocol, New Link
+/// Protocol.)
 #[derive(Clone, Copy, Debug, PartialEq, Eq)]
 pub enum EndChange {
     /// The process links itself to its partner.

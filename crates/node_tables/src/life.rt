@@ -1,7 +1,10 @@
 //! A process of the running incarnation.
 ghost use Rattle.std.specs.Prelude.{◌≡◌, Some};
 ghost use Rattle.std.specs.FinMap as fm;
+ghost use Rattle.std.specs.Option.{option_copied};
 ghost use Rattle.dist_model.specs.Node.{is_living_life, traps_life};
+ghost use Rattle.sorted_map.specs.Entries.{next};
+ghost use Rattle.erl_term.specs.Order.{pid_cmp};
 ghost use Rattle.link_core.specs.Ends.{end_of};
 ghost use Rattle.node_tables.specs.Lives.{life_of, links_of};
 
@@ -9,7 +12,7 @@ use erl_term::{Payload, Pid};
 use exit_core::Proc;
 use link_core::{End, Ends};
 
-/// What there is of a process that the running incarnation has spawned. (Reference Manual,
+/// The life of a process that the running incarnation has spawned. (Reference Manual,
 /// Processes.)
 #[derive(Drop)]
 pub enum Life {
@@ -25,7 +28,7 @@ pub enum Life {
 }
 
 impl Life {
-    /// Whether it is living.
+    /// Returns true if it is living.
     pub fn is_living(&self) -> bool
         ensures { result ≡ is_living_life (Some (life_of self.now)) }
     {
@@ -35,7 +38,7 @@ impl Life {
         }
     }
 
-    /// Whether it is living and traps exits. (Reference Manual, Processes, Receiving Exit Signals.)
+    /// Returns true if it is living and traps exits. (Reference Manual, Processes, Receiving Exit Signals.)
     pub fn traps(&self) -> bool
         ensures { result ≡ traps_life (Some (life_of self.now)) }
     {
@@ -45,7 +48,7 @@ impl Life {
         }
     }
 
-    /// The end of its link to a partner. One that has ended has no links.
+    /// Returns the end of its link to a partner. One that has ended has no links.
     pub fn end(&self, partner: &Pid) -> End
         ensures { result ≡ end_of (links_of self.now) partner.now }
     {
@@ -55,14 +58,17 @@ impl Life {
         }
     }
 
-    /// Its partners and the end towards each, in the order of the partners. One that has ended has no
-    /// links.
-    pub fn links(&self) -> &[(Pid, End)]
-        ensures { result.now ≡ fm.entries (links_of self.now) }
+    /// Returns the first of its partners behind the one that is given, in the order of the partners, and
+    /// the end towards it. One that has ended has no links. Costs the logarithm of its links.
+    pub fn next_link(&self, behind: Option<&Pid>) -> Option<&(Pid, End)>
+        ensures { option_copied result ≡ next pid_cmp (option_copied behind.entry) (fm.entries (links_of self.now)) }
     {
         match self {
-            Life::Living { ends, .. } => ends.partners(),
-            Life::Ended(_) => &[],
+            Life::Living { ends, .. } => match behind {
+                None => ends.first(),
+                Some(partner) => ends.next_behind(partner),
+            },
+            Life::Ended(_) => None,
         }
     }
 }

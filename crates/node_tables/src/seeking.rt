@@ -1,7 +1,6 @@
 //! Links to processes at another node.
 ghost use Rattle.std.specs.Prelude.{◌≡◌, ◌<◌, ◌+◌, None, Some, true, false, IfSome, IfNone, length};
 ghost use Rattle.std.specs.FinMap as fm;
-ghost use Rattle.std.specs.FinMap.{is_sorted};
 ghost use Rattle.std.specs.Ordering.{is_lt};
 ghost use Rattle.std.specs.Option.{option_copied};
 ghost use Rattle.dist_model.specs.Names.{pair_cmp, same_name};
@@ -10,11 +9,11 @@ ghost use Rattle.erl_term.specs.Order.{pid_cmp};
 ghost use Rattle.erl_term.specs.declared.term.Pid.{Pid as ThePid};
 ghost use Rattle.link_core.specs.declared.end.End.{End as TheEnd};
 ghost use Rattle.node_tables.specs.Held.{ends};
-ghost use Rattle.node_tables.specs.Linked.{IsFirstLinked, NoneLinked, link_at};
+ghost use Rattle.node_tables.specs.Linked.{IsFirstLinked, NoneLinked, link_at, link_behind};
 
 use crate::incarnation::Incarnation;
 use crate::life::Life;
-use crate::lookup::same_name;
+use crate::lookup::life_in;
 use erl_names::Mint;
 use erl_term::{Atom, Pid};
 use link_core::End;
@@ -31,7 +30,7 @@ pub struct FoundLink<'a> {
 }
 
 impl Life {
-    /// The first of its links to a process at a node, in the order of the partners.
+    /// Returns the first of its links to a process at a node, in the order of the partners.
     pub(crate) fn first_towards(&self, node: &Atom) -> Option<&(Pid, End)>
         ensures { option_copied result ≡ link_at node.now self.now }
     {
@@ -40,9 +39,19 @@ impl Life {
             Life::Ended(_) => None,
         }
     }
+
+    // Returns the first of its links to a process at a node, of those behind a partner.
+    fn next_towards(&self, node: &Atom, partner: &Pid) -> Option<&(Pid, End)>
+        ensures { option_copied result ≡ link_behind partner.now node.now self.now }
+    {
+        match self {
+            Life::Living { ends, .. } => ends.next_towards(node, partner),
+            Life::Ended(_) => None,
+        }
+    }
 }
 
-// The place of the first of these processes that is linked to one at a node.
+// Returns the place of the first of these processes that is linked to one at a node.
 fn first_of(lives: &[Life], node: &Atom) -> Option<usize>
     ensures at { IfSome result (IsFirstLinked node.now lives.now 0) }
     ensures none { IfNone result (NoneLinked node.now lives.now 0 (length lives.now)) }
@@ -52,7 +61,7 @@ fn first_of(lives: &[Life], node: &Atom) -> Option<usize>
         .position(|life| life.first_towards(node).is_some())
 }
 
-// The place of the first from this place on.
+// Returns the place of the first such process from a place on.
 fn first_from(lives: &[Life], node: &Atom, from: usize) -> Option<usize>
     ensures at { IfSome result (IsFirstLinked node.now lives.now from) }
     ensures within { IfSome result (λ place. place < length lives.now) }
@@ -63,24 +72,7 @@ fn first_from(lives: &[Life], node: &Atom, from: usize) -> Option<usize>
     Some(from + at)
 }
 
-// Whether there is a link to a process at a node, of those behind this partner.
-fn is_one_behind(links: &[(Pid, End)], node: &Atom, partner: &Pid) -> bool
-    requires { is_sorted pid_cmp links.now ≡ true }
-    ensures has { result ≡ true → (q : ThePid) × (e : TheEnd) × (fm.find pid_cmp q links.now ≡ Some e)
-        × (same_name q.node node.now ≡ true) × (is_lt (pid_cmp partner.now q) ≡ true) }
-    ensures none { result ≡ false → (q : ThePid) (e : TheEnd) → fm.find pid_cmp q links.now ≡ Some e
-        → is_lt (pid_cmp partner.now q) ≡ true → same_name q.node node.now ≡ false }
-{
-    let at = links.partition_point(|(other, _)| {
-        other.cmp(partner).is_le() || other.node.cmp(node).is_lt()
-    });
-    match links.get(at) {
-        Some((other, _)) => same_name(&other.node, node),
-        None => false,
-    }
-}
-
-// The id of the process at a place, counted back from the last: ids are 32 bits wide.
+// Returns the id of the process at a place, counted back from the last: ids are 32 bits wide.
 fn id_at(mint: &Mint, place: usize) -> u32
     requires { place < mint.now.pids }
     ensures { result ≡ place + 1 }
@@ -90,7 +82,7 @@ fn id_at(mint: &Mint, place: usize) -> u32
 }
 
 impl Incarnation {
-    /// The first link to a process at a node, of the processes here whose ids are greater than this one,
+    /// Returns the first link to a process at a node, of the processes here whose ids are greater than `after`,
     /// in the order of the ids. Those that are passed have no links to it. (Reference Manual, Processes,
     /// Links.)
     pub fn first_link_towards(&self, node: &Atom, after: u32) -> Option<FoundLink<'_>>
@@ -112,7 +104,7 @@ impl Incarnation {
         })
     }
 
-    /// Whether a process has a link to one at a node, of those behind this partner in the order of pids.
+    /// Returns true if a process has a link to one at a node that is behind `partner` in the order of pids.
     /// Costs the logarithm of its links. (Reference Manual, Processes, Links.)
     pub fn has_link_behind(&self, process: &Pid, node: &Atom, partner: &Pid) -> bool
         ensures has { result ≡ true → (q : ThePid) × (e : TheEnd) × (fm.get (ends self.now) (process.now, q) ≡ Some e)
@@ -120,6 +112,9 @@ impl Incarnation {
         ensures none { result ≡ false → (q : ThePid) (e : TheEnd) → fm.get (ends self.now) (process.now, q) ≡ Some e
             → is_lt (pid_cmp partner.now q) ≡ true → same_name q.node node.now ≡ false }
     {
-        is_one_behind(self.links(process), node, partner)
+        match life_in(&self.mint, &self.held, process) {
+            Some(life) => life.next_towards(node, partner).is_some(),
+            None => false,
+        }
     }
 }

@@ -6,8 +6,8 @@ use Rattle.erl_handshake.specs.Admission.{admission}
 use Rattle.erl_handshake.specs.declared.admission.Admission.{Admission}
 use Rattle.node_connections.proofs.Named.{one_ends}
 use Rattle.node_connections.specs.Admitted.{admitted_by}
-use Rattle.node_plans.proofs.Outcomes.{made_by}
-use Rattle.node_plans.specs.Seen.{seen}
+use Rattle.node_plan.proofs.Outcomes.{made_by}
+use Rattle.node_plan.specs.Seen.{seen}
 use Rattle.node_connections.proofs.admitting.admit.Goals as goal
 
 pub returns : goal.returns

@@ -7,8 +7,8 @@ use Rattle.dist_model.specs.Work.{Work, at_work}
 use Rattle.erl_handshake.specs.declared.message.ShakeMsg.{ShakeMsg}
 use Rattle.node_connections.proofs.Named.{none_kept}
 use Rattle.node_connections.specs.Admitted.{named_side}
-use Rattle.node_plans.specs.Carried.{Makes, MakesOr}
-use Rattle.node_plans.specs.Seen.{seen}
+use Rattle.node_plan.specs.Carried.{Makes, MakesOr}
+use Rattle.node_plan.specs.Seen.{seen}
 use Rattle.node_connections.proofs.admitting.carry_out.Goals as goal
 
 pub returns-clause-makes : goal.returns-clause-makes

@@ -5,10 +5,10 @@ use Rattle.dist_model.specs.Node.{side_where}
 use Rattle.dist_model.specs.Work.{Work}
 use Rattle.node_connections.proofs.Beside.{found_in}
 use Rattle.node_connections.proofs.Stood.{towards}
-use Rattle.node_plans.specs.Carried.{MakesOr}
-use Rattle.node_plans.specs.Seen.{seen}
-use Rattle.node_sides.specs.Passing.{passes}
-use Rattle.node_sides.specs.Standings.{side_of}
+use Rattle.node_plan.specs.Carried.{MakesOr}
+use Rattle.node_plan.specs.Seen.{seen}
+use Rattle.node_tables.specs.Passing.{passes}
+use Rattle.node_tables.specs.Standings.{side_of}
 use Rattle.node_connections.proofs.admitting.give_up_if.Goals as goal
 
 pub returns-in-Some-clause-makes : goal.returns-in-Some-clause-makes
@@ -24,4 +24,4 @@ returns-in-Some-clause-makes c = λ work same h.
     subst P (sym (ap (λ b. give_up_if b test y work) ends
     ∙ ap (λ sides. give_up (side_where test y (fm.entries sides)) work) (same ends) ∙ ap (λ o. give_up o work) first))
     (c.stand_down.ensures.makes m work (refl, refl)
-    (towards work.node.sides other.trunk (side_of other) (ap (λ x. fm.get x other.trunk) (same ends) ∙ found.0)) h)
+    (towards work.node.sides other.trunk (side_of other) (ap (λ x. fm.get x other.trunk) (same ends) ∙ found.0)) (λ g. refl) h)

@@ -16,10 +16,10 @@ use Rattle.erl_handshake.specs.declared.fault.ShakeFault.{ShakeFault}
 use Rattle.node_connections.proofs.Heard.{broken_same}
 use Rattle.node_connections.proofs.Named.{name_breaks, name_stands}
 use Rattle.node_connections.specs.Waiting.{named_in}
-use Rattle.node_plans.proofs.Outcomes.{made_by}
-use Rattle.node_plans.specs.Carried.{MakesOr}
-use Rattle.node_plans.specs.Seen.{seen}
-use Rattle.node_sides.specs.Standings.{standing_side}
+use Rattle.node_plan.proofs.Outcomes.{made_by}
+use Rattle.node_plan.specs.Carried.{MakesOr}
+use Rattle.node_plan.specs.Seen.{seen}
+use Rattle.node_tables.specs.Standings.{standing_side}
 use Rattle.node_connections.proofs.admitting.open.Goals as goal
 
 pub returns-in-Broken-clause-message : goal.returns-in-Broken-clause-message

@@ -5,9 +5,9 @@ use Rattle.dist_model.specs.Work.{Work}
 use Rattle.erl_handshake.specs.declared.acceptor.AcceptorState.TheVariants as acceptor
 use Rattle.node_connections.proofs.Named.{sent_after}
 use Rattle.node_connections.specs.Admitted.{named_side, sends_challenge}
-use Rattle.node_plans.specs.Carried.{MakesOr}
-use Rattle.node_plans.specs.Seen.{seen}
-use Rattle.node_sides.specs.Standings.{standing_side}
+use Rattle.node_plan.specs.Carried.{MakesOr}
+use Rattle.node_plan.specs.Seen.{seen}
+use Rattle.node_tables.specs.Standings.{standing_side}
 use Rattle.node_connections.proofs.admitting.settle.Goals as goal
 
 pub returns-then-sends_challenge-clause-makes : goal.returns-then-sends_challenge-clause-makes

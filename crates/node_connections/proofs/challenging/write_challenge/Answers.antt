@@ -3,8 +3,8 @@ use Rattle.dist_model.specs.Handshake.{identity, write}
 use Rattle.erl_handshake.specs.Roles.{challenge_of}
 use Rattle.erl_handshake.specs.declared.message.ShakeMsg.{ShakeMsg}
 use Rattle.node_connections.proofs.Beside.{same_identity}
-use Rattle.node_plans.specs.Carried.{MakesOr}
-use Rattle.node_plans.specs.Seen.{seen}
+use Rattle.node_plan.specs.Carried.{MakesOr}
+use Rattle.node_plan.specs.Seen.{seen}
 use Rattle.node_connections.proofs.challenging.write_challenge.Goals as goal
 
 pub returns-clause-makes : goal.returns-clause-makes

@@ -5,11 +5,11 @@ use Rattle.dist_model.specs.Losses.{release_parked}
 use Rattle.dist_model.specs.Node.{side_where}
 use Rattle.dist_model.specs.Sides.{Gone, is_parked}
 use Rattle.dist_model.specs.Work.{Work}
-use Rattle.node_connections.proofs.Beside.{closes, parked_towards}
+use Rattle.node_connections.proofs.Beside.{closes, parked_there, parked_towards}
 use Rattle.node_connections.proofs.Stood.{towards}
-use Rattle.node_plans.specs.Carried.{Makes, MakesOr}
-use Rattle.node_plans.specs.Seen.{seen}
-use Rattle.node_sides.specs.Standings.{side_of}
+use Rattle.node_plan.specs.Carried.{Makes, MakesOr}
+use Rattle.node_plan.specs.Seen.{seen}
+use Rattle.node_tables.specs.Standings.{side_of}
 use Rattle.node_connections.proofs.closing.close_side.Goals as goal
 
 pub returns-in-Some-clause-makes : goal.returns-in-Some-clause-makes
@@ -23,10 +23,11 @@ returns-in-Some-clause-makes c = λ work e h.
     let first : side_where is_parked side.peer (fm.entries m.sides) ≡ Some (waiting.trunk, side_of waiting) = search rules in
     let gone : Makes c.stand_down.new.plan m closed =
     c.in_ok-stand_down.ensures.makes m work (refl, refl)
-    (towards work.node.sides side.trunk s (ap (λ x. fm.get x side.trunk) e ∙ c.requires.there)) h in
+    (towards work.node.sides side.trunk s (ap (λ x. fm.get x side.trunk) e ∙ c.requires.there)) (λ g. refl) h in
     let released =
     c.release.ensures.makes closed
-    (parked_towards m side.trunk s attempts c.requires.there c.requires.losing work (waiting.trunk, side_of waiting) e first) gone in
+    (parked_towards m side.trunk s attempts c.requires.there c.requires.losing work (waiting.trunk, side_of waiting) e first)
+    (parked_there m side.trunk s attempts c.requires.there c.requires.losing work (waiting.trunk, side_of waiting) e first) gone in
     let P : Work → Type 0 = λ o. MakesOr m o c.release.new.plan c.release.result in
     subst P
     (sym (closes m side.trunk s attempts c.requires.there c.requires.losing work e ∙ ap (λ o. release_parked o closed) first)) released
@@ -41,6 +42,6 @@ returns-in-None-clause-makes c = λ work e h.
     let first : side_where is_parked side.peer (fm.entries m.sides) ≡ None = search rules in
     let gone : Makes c.stand_down.new.plan m closed =
     c.in_ok-stand_down.ensures.makes m work (refl, refl)
-    (towards work.node.sides side.trunk s (ap (λ x. fm.get x side.trunk) e ∙ c.requires.there)) h in
+    (towards work.node.sides side.trunk s (ap (λ x. fm.get x side.trunk) e ∙ c.requires.there)) (λ g. refl) h in
     let P : Work → Type 0 = λ o. Makes c.stand_down.new.plan m o in
     subst P (sym (closes m side.trunk s attempts c.requires.there c.requires.losing work e ∙ ap (λ o. release_parked o closed) first)) gone

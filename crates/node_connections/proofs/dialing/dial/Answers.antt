@@ -9,7 +9,7 @@ use Rattle.dist_model.specs.declared.report.Answer.{Answer}
 use Rattle.node_connections.proofs.Dialed.{below_most, dials, some_mapped}
 use Rattle.node_connections.proofs.Ended.{made_or}
 use Rattle.node_connections.specs.Dialed.{dialed_on}
-use Rattle.node_plans.specs.Seen.{seen}
+use Rattle.node_plan.specs.Seen.{seen}
 use Rattle.node_connections.proofs.dialing.dial.Goals as goal
 
 pub returns : goal.returns

@@ -10,10 +10,10 @@ use Rattle.erl_names.specs.declared.trunk.TrunkId.{TrunkId}
 use Rattle.dist_model.specs.declared.report.Answer.{Answer}
 use Rattle.node_connections.proofs.Dialed.{next_is_new}
 use Rattle.node_connections.proofs.Ended.{on_ok}
-use Rattle.node_changes.specs.Suits.{Lets}
-use Rattle.node_plans.specs.Carried.{Makes, MakesOr, sided}
-use Rattle.node_plans.specs.Seen.{seen}
-use Rattle.node_sides.specs.declared.change.SideChange.TheVariants as change
+use Rattle.node_plan.specs.Suits.{Lets}
+use Rattle.node_plan.specs.Carried.{Makes, MakesOr, sided}
+use Rattle.node_plan.specs.Seen.{seen}
+use Rattle.node_tables.specs.declared.change.SideChange.TheVariants as change
 use Rattle.node_connections.proofs.dialing.dial_next.Goals as goal
 
 pub returns-clause-makes : goal.returns-clause-makes

@@ -7,9 +7,9 @@ use Rattle.dist_model.specs.Commands.{Outcome}
 use Rattle.dist_model.specs.Handshake.{fault, identity}
 use Rattle.dist_model.specs.Work.{at_work}
 use Rattle.node_connections.proofs.Heard.{broken_same, heard_breaks, heard_no_item}
-use Rattle.node_plans.specs.Planned.{Plans}
-use Rattle.node_plans.specs.Seen.{seen}
-use Rattle.node_sides.specs.Standings.{side_of}
+use Rattle.node_plan.specs.Planned.{Plans}
+use Rattle.node_plan.specs.Seen.{seen}
+use Rattle.node_tables.specs.Standings.{side_of}
 use Rattle.node_connections.proofs.hearing.hear.Goals as goal
 
 pub returns-in-Broken-clause-message : goal.returns-in-Broken-clause-message

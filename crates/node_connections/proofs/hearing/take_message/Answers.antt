@@ -4,18 +4,26 @@ use Rattle.conn_core.specs.declared.standing.Standing.TheVariants as standing
 use Rattle.dist_model.specs.Handshake.{send_challenge_or_park, up_is_lost, with_side, write_if}
 use Rattle.dist_model.specs.Items.{Handshake, kind_of}
 use Rattle.dist_model.specs.Node.{side_where}
-use Rattle.dist_model.specs.Sides.{is_up}
+use Rattle.dist_model.specs.Sides.{is_gone, is_up}
 use Rattle.dist_model.specs.Work.{at_work}
 use Rattle.dist_model.specs.declared.report.Answer.{Answer}
 use Rattle.erl_handshake.specs.declared.acceptor.AcceptorState.TheVariants as acceptor
 use Rattle.node_connections.proofs.Beside.{alone, asked_is}
 use Rattle.node_connections.proofs.Heard.{asked_heard, heard_goes, went_on}
-use Rattle.node_connections.proofs.Stood.{towards}
+use Rattle.node_connections.proofs.Stood.{there, towards}
 use Rattle.node_connections.specs.Waiting.{asked_in}
-use Rattle.node_plans.proofs.Outcomes.{made_by}
-use Rattle.node_plans.specs.Seen.{seen}
-use Rattle.node_sides.specs.Standings.{is_settled, side_of, standing_side, state_of}
+use Rattle.node_plan.proofs.Outcomes.{made_by}
+use Rattle.node_plan.specs.Seen.{seen}
+use Rattle.node_tables.specs.Standings.{is_settled, side_of, standing_side, state_of}
 use Rattle.node_connections.proofs.hearing.take_message.Goals as goal
+
+pub go_on-requires-clause-there : goal.go_on-requires-clause-there
+go_on-requires-clause-there c =
+    let m = seen c.args.node.now in
+    let side = c.args.side.now in
+    let asked : asked_in side.standing ≡ Some (c.in-Some.challenge, c.in-Some.creation) = search rules in
+    let is = asked_is side.standing c.in-Some.challenge c.in-Some.creation asked in
+    there m.sides side.trunk (side_of side) c.requires.there (ap (λ x. is_gone (state_of x)) is)
 
 pub returns-in-Some : goal.returns-in-Some
 returns-in-Some c = λ came word len was stands.
@@ -49,4 +57,5 @@ returns-in-None c = λ came word len was stands.
     (c.take.ensures.makes m (at_work m) settled (towards m.sides side.trunk (side_of side) c.requires.there)
     (λ u. alone m side.trunk (side_of side) c.args.node.now.steady.engaged c.requires.there
     (g.engaged (ap (λ x. is_up (state_of x)) stands ∙ u)))
+    (there m.sides side.trunk (side_of side) c.requires.there g.there)
     (c.answers.ensures.makes m (at_work m) c.requires.makes)))

@@ -1,8 +1,8 @@
 use Rattle.std.proofs.Common.{ap, ◌∙◌}
-use Rattle.node_events.proofs.PlanDone.{done}
-use Rattle.node_events.specs.Arrived.{arrives}
+use Rattle.node_core.proofs.PlanDone.{done}
+use Rattle.node_core.specs.Arrived.{arrives}
 use Rattle.node_core.specs.Model.{model_of}
-use Rattle.node_plans.specs.Plans.{committed, told}
+use Rattle.node_plan.specs.Plans.{committed, told}
 use Rattle.node_core.proofs.node.Node.arrive.Goals as goal
 
 pub returns-in-Ok-clause-came : goal.returns-in-Ok-clause-came

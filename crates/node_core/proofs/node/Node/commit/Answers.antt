@@ -1,7 +1,7 @@
 use Rattle.std.proofs.Common.{sym, subst}
 use Rattle.dist_model.specs.Node.{Node}
 use Rattle.node_core.specs.Model.{model_of}
-use Rattle.node_sweeps.specs.Ahead.{IsAhead}
+use Rattle.node_connections.specs.Ahead.{IsAhead}
 use Rattle.node_core.proofs.node.Node.commit.Goals as goal
 
 pub invariant_of-self : goal.invariant_of-self

@@ -1,6 +1,6 @@
 use Rattle.dist_model.specs.NodeEvents as event
 use Rattle.node_core.specs.Model.{model_of}
-use Rattle.node_events.proofs.PlanDone.{does_on}
+use Rattle.node_core.proofs.PlanDone.{does_on}
 use Rattle.node_core.proofs.node.Node.dial.Goals as goal
 
 pub returns : goal.returns

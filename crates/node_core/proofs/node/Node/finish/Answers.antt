@@ -1,7 +1,7 @@
 use Rattle.std.proofs.Common.{refl, subst}
 use Rattle.node_core.specs.Model.{model_of}
-use Rattle.node_events.proofs.PlanDone.{done}
-use Rattle.node_plans.specs.Planned.{Plans}
+use Rattle.node_core.proofs.PlanDone.{done}
+use Rattle.node_plan.specs.Planned.{Plans}
 use Rattle.node_core.proofs.node.Node.finish.Goals as goal
 
 pub returns-in-Ok : goal.returns-in-Ok

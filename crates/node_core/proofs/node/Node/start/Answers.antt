@@ -1,4 +1,4 @@
-use Rattle.node_plans.specs.Seen.{seen}
+use Rattle.node_plan.specs.Seen.{seen}
 use Rattle.node_core.proofs.node.Node.start.Goals as goal
 
 pub invariant_of-self : goal.invariant_of-self

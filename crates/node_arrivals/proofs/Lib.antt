@@ -1,4 +1,0 @@
-pub mod Accepted
-pub mod Judged
-pub mod Refused
-pub mod Sent

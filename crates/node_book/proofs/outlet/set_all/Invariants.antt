@@ -1,7 +1,0 @@
-use Rattle.std.proofs.Common.{◌≡◌, ◌++◌, drop, map, take}
-use Rattle.node_book.specs.Passing.{with_piece}
-use Rattle.node_book.proofs.outlet.set_all.Given as goal
-
-abbrev pub invariant-loop-at : goal.invariant-loop-at
-invariant-loop-at l =
-    l.outlets.items ≡ map (with_piece l.greatest.bytes) (take l.at l.initial.outlets.items) ++ drop l.at l.initial.outlets.items

@@ -1,6 +1,0 @@
-use Rattle.std.proofs.Common.{◌≡◌, drop}
-use Rattle.world_lists.specs.Lists.{sent_at}
-use Rattle.node_book.proofs.scanning.first_sent.Given as goal
-
-abbrev pub invariant-loop-place : goal.invariant-loop-place
-invariant-loop-place l = sent_at l.trunk l.peer (drop l.place l.effects) ≡ sent_at l.trunk l.peer (drop l.from l.effects)

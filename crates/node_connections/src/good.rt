@@ -1,0 +1,46 @@
+//! Which signals a connection may bring.
+ghost use Rattle.std.specs.Prelude.{◌≡◌};
+ghost use Rattle.dist_model.specs.Arrivals as arrivals;
+ghost use Rattle.dist_model.specs.Items.{Signalled};
+ghost use Rattle.erl_control.specs.Ends.{sender_of};
+ghost use Rattle.node_plan.specs.Seen.{seen};
+ghost use Rattle.node_tables.specs.Standings.{side_of};
+
+use conn_core::Side;
+use erl_control::Signal;
+use erl_term::Pid;
+use node_frames::{receiver, same_name, sender};
+use node_plan::Node;
+
+// Whether the process is of the peer's, of the incarnation that it named or an earlier one.
+fn is_from(side: &Side, process: &Pid) -> bool
+    ensures { result ≡ arrivals.is_from (side_of side.now) process.now }
+{
+    same_name(&process.node, side.peer.atom())
+        && process.creation <= side.standing.peer_creation().unwrap_or(0)
+}
+
+// Whether the signal is of the peer's. A message names no sender.
+fn is_of_peer(side: &Side, signal: &Signal) -> bool
+    ensures { result ≡ arrivals.from_peer (side_of side.now) (sender_of signal.now) }
+{
+    match sender(signal) {
+        Some(process) => is_from(side, process),
+        None => true,
+    }
+}
+
+// Whether this node has spawned the process.
+fn is_known(node: &Node, process: &Pid) -> bool
+    ensures { result ≡ arrivals.is_to (seen node.now) process.now }
+{
+    same_name(&process.node, node.name().atom()) && !node.is_stranger(process)
+}
+
+/// Whether the signal is from a process of the peer's and to one that this node has spawned. (Reference
+/// Manual, Processes, Delivery of Signals.)
+pub(crate) fn is_good(node: &Node, side: &Side, signal: &Signal) -> bool
+    ensures { result ≡ arrivals.is_good (seen node.now) (side_of side.now) (Signalled signal.now) }
+{
+    is_of_peer(side, signal) && is_known(node, receiver(signal))
+}

@@ -1,5 +1,0 @@
-pub mod Begun
-pub mod Done
-pub mod Staying
-pub mod Suiting
-pub mod Arrived

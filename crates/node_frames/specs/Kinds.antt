@@ -1,0 +1,50 @@
+-- What an item is, told by the bytes in which it is sent: a message of the handshake by its letter, a frame by the tag of its
+-- control term.
+-- (ERTS User's Guide, Distribution Protocol, Distribution Handshake and Protocol between Connected Nodes.)
+use Rattle.std.specs.Prelude.{ℕ, ◌+◌, ◌*◌, Bool, ◌==◌, List, Option, None, Some, length, nat_lt, slice_index_or, if◌then◌else◌}
+use Rattle.dist_model.specs.declared.report.Kind.{Kind}
+use Rattle.dist_model.specs.declared.report.Kind.TheVariants as kind
+
+abbrev pub byte_at : (bytes : List ℕ) → (place : ℕ) → ℕ
+byte_at bytes place = slice_index_or bytes place 0
+
+-- of two bytes
+abbrev pub number_at : (bytes : List ℕ) → (place : ℕ) → ℕ
+number_at bytes place = 256 * byte_at bytes place + byte_at bytes (place + 1)
+
+-- a message begins with its length in two bytes, and has two at least; a frame with its length in four, which is 65,536 at most
+abbrev pub is_message : List ℕ → Bool
+is_message bytes = nat_lt 1 (number_at bytes 0)
+
+-- send_name and send_challenge have one letter: this one has the length of the name behind the flags and two numbers
+abbrev pub named_kind : List ℕ → Kind
+named_kind bytes = if number_at bytes 19 + 21 == length bytes then kind.Challenge else kind.SendName
+
+-- s, r, a and N
+abbrev pub message_kind : (letter : ℕ) → List ℕ → Option Kind
+message_kind letter bytes =
+    if letter == 115 then Some kind.Status
+    else if letter == 114 then Some kind.ChallengeReply
+    else if letter == 97 then Some kind.ChallengeAck
+    else if letter == 78 then Some (named_kind bytes)
+    else None
+
+abbrev pub signal_kind : (tag : ℕ) → Option Kind
+signal_kind tag =
+    if tag == 1 then Some kind.Link
+    else if tag == 2 then Some kind.Send
+    else if tag == 3 then Some kind.Exit
+    else if tag == 8 then Some kind.Exit2
+    else if tag == 19 then Some kind.Monitor
+    else if tag == 20 then Some kind.Demonitor
+    else if tag == 21 then Some kind.MonitorExit
+    else if tag == 35 then Some kind.Unlink
+    else if tag == 36 then Some kind.UnlinkAck
+    else None
+
+-- a tick is a length of 0; the tag stands behind the length, 112, the version and the heads of the tuple and of the tag
+abbrev pub frame_kind : List ℕ → Option Kind
+frame_kind bytes = if length bytes == 4 then Some kind.Tick else signal_kind (byte_at bytes 9)
+
+abbrev pub kind_in : List ℕ → Option Kind
+kind_in bytes = if is_message bytes then message_kind (byte_at bytes 2) bytes else frame_kind bytes

@@ -1,0 +1,16 @@
+pub mod Changed
+pub mod Suits
+pub mod Fresh
+pub mod RoomForChanges
+pub mod Registering
+pub mod Parts
+pub mod SeenOf
+pub mod Keeps
+pub mod Seen
+pub mod Sent
+pub mod Plans
+pub mod Carried
+pub mod Room
+pub mod Planned
+pub mod Gone
+pub mod Adding

@@ -1,0 +1,39 @@
+//! A new node.
+ghost use Rattle.std.specs.Prelude.{◌≡◌, IfOk};
+ghost use Rattle.dist_model.specs.Runs.{new_node};
+ghost use Rattle.node_plan.specs.Seen.{seen};
+
+use crate::node::Node;
+use erl_handshake::{Cookie, Flags, Identity};
+use erl_names::{Creation, NodeName};
+use monitor_core::{Watchers, Watches};
+use node_tables::{Incarnation, Sides};
+use std::alloc::{AllocError, Global};
+use std::collections::VecDeque;
+
+impl Node {
+    /// A node of this name that runs, in its first incarnation. (Reference Manual, Distributed
+    /// Erlang, Nodes.)
+    ///
+    /// # Errors
+    /// Where there is no memory for the name.
+    pub fn new(alloc: Global, name: NodeName, cookie: Cookie) -> Result<Node, AllocError>
+        ensures { IfOk result (λ node. seen node ≡ new_node name cookie) }
+    {
+        let own = Identity {
+            name: name.clone()?,
+            creation: Creation::first(),
+            flags: Flags::mandatory(),
+            cookie,
+        };
+        Ok(Node {
+            incarnation: Incarnation::new(alloc, name, Creation::first()),
+            own,
+            dialed: 0,
+            watches: Watches::new(alloc),
+            watchers: Watchers::new(alloc),
+            sides: Sides::new(alloc),
+            local: VecDeque::new(alloc),
+        })
+    }
+}

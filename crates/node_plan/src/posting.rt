@@ -1,0 +1,93 @@
+//! A signal is sent.
+ghost use Rattle.std.specs.Prelude.{◌≡◌, ◌++◌, [], ◌∷◌, true, None, Some, IfSome, OnOk};
+ghost use Rattle.dist_model.specs.Node as model;
+ghost use Rattle.dist_model.specs.Node.{Node as TheNode};
+ghost use Rattle.node_plan.specs.Plans.{told};
+ghost use Rattle.dist_model.specs.Work.{Work, post};
+ghost use Rattle.node_plan.specs.Carried.{Carries, CarriesOut};
+ghost use Rattle.node_frames.specs.Sendable.{is_sendable};
+ghost use Rattle.node_plan.specs.Seen.{seen};
+ghost use Rattle.node_plan.specs.Sent.{IsSent};
+
+use crate::node::Node;
+use crate::plan::Plan;
+use crate::sending::{push_signal_here, push_signal_there};
+use conn_core::Side;
+use dist_model::Effect;
+use erl_control::Signal;
+use erl_term::Atom;
+use node_frames::{Frame, receiver, same_name};
+use std::alloc::{AllocError, Global};
+
+impl Node {
+    // The side of the connection that is up to a peer.
+    fn way(&self, peer: &Atom) -> Option<&Side>
+        ensures none { result ≡ None → model.route (seen self.now) peer.now ≡ None }
+        ensures trunk { IfSome result (λ side. model.route (seen self.now) peer.now ≡ Some side.now.trunk) }
+        ensures peer { IfSome result (λ side. side.now.peer ≡ peer.now) }
+    {
+        let trunk = self.sides.route(peer)?;
+        self.sides.get(trunk)
+    }
+}
+
+// It comes behind the others.
+fn keep(local: &mut Vec<Signal>, signal: Signal) -> Result<(), AllocError>
+    ensures { OnOk result (local.new.items ≡ local.old.items ++ signal ∷ []) }
+{
+    local.push(signal)?;
+    Ok(())
+}
+
+// A signal comes into the own list or onto the connection that is up, with what is told of it.
+fn send(
+    local: &mut Vec<Signal>,
+    effects: &mut Vec<Effect<Frame>>,
+    alloc: Global,
+    node: &Node,
+    signal: Signal,
+) -> Result<(), AllocError>
+    requires { is_sendable signal ≡ true }
+    ensures { OnOk result (IsSent (seen node.now) signal local.old.items local.new.items effects.old.items effects.new.items) }
+{
+    let target = &receiver(&signal).node;
+    if same_name(target, node.name().atom()) {
+        return match push_signal_here(effects, alloc, node.name(), &signal) {
+            Ok(()) => keep(local, signal),
+            Err(wanting) => {
+                drop(signal);
+                Err(wanting)
+            }
+        };
+    }
+    match node.way(target) {
+        None => {
+            drop(signal);
+            Ok(())
+        }
+        Some(side) => {
+            let sent = push_signal_there(effects, alloc, side, &signal);
+            drop(signal);
+            sent
+        }
+    }
+}
+
+impl Plan {
+    /// A signal is sent to the node of its receiver: into the own list, onto the connection that is
+    /// up, or nowhere. (Reference Manual, Processes, Delivery of Signals.)
+    ///
+    /// # Errors
+    /// Where there is no memory for it.
+    pub fn post(&mut self, alloc: Global, node: &Node, signal: Signal) -> Result<(), AllocError>
+        requires { is_sendable signal ≡ true }
+        ensures carries { (work : Work) → CarriesOut self.old (seen node.now) work → Carries (seen node.now) (post signal work) self.new result }
+        ensures answer { self.new.answer ≡ self.old.answer }
+        ensures told { (m : TheNode) → told self.new m ≡ told self.old m }
+        ensures change { self.new.change ≡ self.old.change }
+        ensures watches { self.new.watches ≡ self.old.watches }
+        ensures watchers { self.new.watchers ≡ self.old.watchers }
+    {
+        send(&mut self.local, &mut self.effects, alloc, node, signal)
+    }
+}

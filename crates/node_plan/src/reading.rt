@@ -1,0 +1,201 @@
+//! The queries of a node and its processes.
+ghost use Rattle.std.specs.Prelude.{◌≡◌, ◌<◌, IfNone, IfSome, Some, T, false, true};
+ghost use Rattle.std.specs.FinMap as fm;
+ghost use Rattle.std.specs.Option.{option_copied, option_map};
+ghost use Rattle.std.specs.Ordering.{is_lt};
+ghost use Rattle.sorted_map.specs.Entries.{next};
+ghost use Rattle.dist_model.specs.Handshake.{identity};
+ghost use Rattle.dist_model.specs.Losses.{any_side};
+ghost use Rattle.dist_model.specs.Names.{pair_cmp, same_name};
+ghost use Rattle.dist_model.specs.Sides.{is_gone, is_losing};
+ghost use Rattle.erl_names.specs.Ids.{pid_of};
+ghost use Rattle.erl_term.specs.Order.{pid_cmp};
+ghost use Rattle.erl_term.specs.declared.term.Pid.{Pid as ThePid};
+ghost use Rattle.link_core.specs.declared.end.End.{End as TheEnd};
+ghost use Rattle.node_tables.specs.Passing.{passes};
+ghost use Rattle.node_tables.specs.Standings.{entry_of, is_settled, side_of, state_of};
+ghost use Rattle.dist_model.specs.Node as model;
+ghost use Rattle.dist_model.specs.Items.{Signalled};
+ghost use Rattle.dist_model.specs.World.{first_of as first_in};
+ghost use Rattle.node_frames.specs.Sendable.{is_sendable};
+ghost use Rattle.node_tables.specs.Lives.{life_of};
+ghost use Rattle.node_plan.specs.Seen.{seen};
+
+use crate::node::Node;
+use conn_core::Side;
+use erl_control::Signal;
+use erl_handshake::Identity;
+use erl_names::{Mint, NodeName, TrunkId};
+use erl_term::{Atom, Pid};
+use link_core::End;
+use monitor_core::{Watchers, Watches};
+use node_frames::same_name;
+use node_tables::{FoundLink, Life, Which};
+
+impl Node {
+    /// The name of the node.
+    pub fn name(&self) -> &NodeName
+        ensures { result.now ≡ (seen self.now).mint.name }
+    {
+        self.incarnation.mint().name()
+    }
+
+    /// Returns the mint of its incarnation.
+    pub fn mint(&self) -> &Mint
+        ensures { result.now ≡ (seen self.now).mint }
+    {
+        self.incarnation.mint()
+    }
+
+    /// Returns true if the node runs.
+    pub fn is_up(&self) -> bool
+        ensures { result ≡ (seen self.now).up }
+    {
+        self.incarnation.is_up()
+    }
+
+    /// The node as it introduces itself. (ERTS User's Guide, Distribution Protocol, Distribution
+    /// Handshake.)
+    pub fn identity(&self) -> &Identity
+        ensures { result.now ≡ identity (seen self.now) }
+    {
+        &self.own
+    }
+
+    /// Returns the number of connections that it has ever dialed.
+    pub fn dialed(&self) -> u64
+        ensures { result ≡ (seen self.now).dialed }
+    {
+        self.dialed
+    }
+
+    /// Returns the side of a connection. One that is gone stands for others that are gone too, and its own
+    /// connection may be one of those.
+    pub fn side(&self, trunk: &TrunkId) -> Option<&Side>
+        ensures side { option_map side_of (option_copied result) ≡ fm.get (seen self.now).sides trunk.now }
+        ensures trunk { IfSome (option_copied result) (λ side. is_gone (state_of side.standing) ≡ false → side.trunk ≡ trunk.now) }
+        ensures settled { IfSome (option_copied result) (λ side. is_settled side.standing ≡ true) }
+    {
+        self.sides.get(trunk)
+    }
+
+    /// The first side towards a peer that is sought.
+    pub fn first_towards(&self, peer: &Atom, which: Which) -> Option<&Side>
+        ensures { option_map entry_of (option_copied result) ≡ model.side_where (passes which) peer.now (fm.entries (seen self.now).sides) }
+    {
+        self.sides.first_towards(peer, which)
+    }
+
+    /// The first side that is lost and isn't cleared away yet.
+    pub fn first_losing(&self) -> Option<&Side>
+        ensures { option_map entry_of (option_copied result) ≡ any_side is_losing (fm.entries (seen self.now).sides) }
+    {
+        self.sides.first_losing()
+    }
+
+    /// The first signal that travels from the node to itself.
+    pub fn first_local(&self) -> Option<&Signal>
+        ensures first { first_in (seen self.now).local ≡ option_map Signalled (option_copied result) }
+        ensures sendable { IfSome (option_copied result) (λ signal. is_sendable signal ≡ true) }
+    {
+        self.local.front()
+    }
+
+    /// The monitors that its processes own.
+    pub fn watches(&self) -> &Watches
+        ensures { result.now.monitors ≡ (seen self.now).watches }
+    {
+        &self.watches
+    }
+
+    /// The monitors that others have of its processes.
+    pub fn watchers(&self) -> &Watchers
+        ensures { result.now.monitors ≡ (seen self.now).registered }
+    {
+        &self.watchers
+    }
+
+    /// Returns the life of a process that is living or has ended. [`None`] if there is none.
+    pub fn life(&self, process: &Pid) -> Option<&Life>
+        ensures { fm.get (seen self.now).lives process.now ≡ option_map life_of (option_copied result) }
+    {
+        self.incarnation.life(process)
+    }
+
+    /// Returns true if a process is living here.
+    pub fn is_living(&self, process: &Pid) -> bool
+        ensures { result ≡ model.living (seen self.now) process.now }
+    {
+        self.incarnation.is_living(process)
+    }
+
+    /// Returns true if no process of the node has had this pid. (Reference Manual, Processes.)
+    pub fn is_stranger(&self, process: &Pid) -> bool
+        ensures { result ≡ model.is_stranger (seen self.now) process.now }
+    {
+        let mint = self.mint();
+        !same_name(&process.node, mint.name().atom())
+            || mint.creation().number() < process.creation
+            || (process.creation == mint.creation().number() && mint.pids() < process.id)
+            || process.id == 0
+            || process.serial != 0
+    }
+
+    /// Returns true if a process is living here and traps exits. (Reference Manual, Processes,
+    /// Receiving Exit Signals.)
+    pub fn traps(&self, process: &Pid) -> bool
+        ensures { result ≡ model.traps (seen self.now) process.now }
+    {
+        self.incarnation.traps(process)
+    }
+
+    /// The end that a process has of its link to a partner.
+    pub fn end(&self, process: &Pid, partner: &Pid) -> End
+        ensures { result ≡ model.end_of (seen self.now) process.now partner.now }
+    {
+        self.incarnation.end(process, partner)
+    }
+
+    /// The connection that is up to a peer.
+    pub fn route(&self, peer: &Atom) -> Option<&TrunkId>
+        ensures { option_copied result ≡ model.route (seen self.now) peer.now }
+    {
+        self.sides.route(peer)
+    }
+
+    /// The first link to a process at a node, of the processes here whose ids are greater than this one,
+    /// in the order of the ids. Those that are passed have no links to it. (Reference Manual, Processes,
+    /// Links.)
+    pub fn first_link_towards(&self, node: &Atom, after: u32) -> Option<FoundLink<'_>>
+        requires { (seen self.now).up ≡ true }
+        ensures found { let m = seen self.now in IfSome result (λ f. fm.get m.ends (pid_of m.mint f.id, f.partner.now) ≡ Some f.end) }
+        ensures towards { IfSome result (λ f. same_name f.partner.now.node node.now ≡ true) }
+        ensures behind { IfSome result (λ f. after < f.id) }
+        // none that would come before it is to one at the node
+        ensures least { let m = seen self.now in IfSome result (λ f. (p q : ThePid) (e : TheEnd) → fm.get m.ends (p, q) ≡ Some e → after < p.id
+            → same_name q.node node.now ≡ true → is_lt (pair_cmp (p, q) (pid_of m.mint f.id, f.partner.now)) ≡ false) }
+        ensures none { let m = seen self.now in IfNone result ((p q : ThePid) (e : TheEnd) → fm.get m.ends (p, q) ≡ Some e → after < p.id → same_name q.node node.now ≡ false) }
+    {
+        self.incarnation.first_link_towards(node, after)
+    }
+
+    /// Returns true if a process has a link to a process at a node that is behind this partner in the order
+    /// of pids. Costs the logarithm of its links. (Reference Manual, Processes, Links.)
+    pub fn has_link_behind(&self, process: &Pid, node: &Atom, partner: &Pid) -> bool
+        ensures has { let m = seen self.now in result ≡ true → (q : ThePid) × (e : TheEnd) × (fm.get m.ends (process.now, q) ≡ Some e)
+            × (same_name q.node node.now ≡ true) × (is_lt (pid_cmp partner.now q) ≡ true) }
+        ensures none { let m = seen self.now in result ≡ false → (q : ThePid) (e : TheEnd) → fm.get m.ends (process.now, q) ≡ Some e
+            → is_lt (pid_cmp partner.now q) ≡ true → same_name q.node node.now ≡ false }
+    {
+        self.incarnation.has_link_behind(process, node, partner)
+    }
+
+    /// Returns the first partner of a process behind the one that is given, in the order of the partners,
+    /// and the end towards it. None where the process isn't living. Costs the logarithm of its links.
+    pub fn next_link(&self, process: &Pid, behind: Option<&Pid>) -> Option<&(Pid, End)>
+        ensures link { option_copied result ≡ next pid_cmp (option_copied behind.entry) (model.ends_of (seen self.now) process.now) }
+        ensures sorted { T (fm.is_sorted pid_cmp (model.ends_of (seen self.now) process.now)) }
+    {
+        self.incarnation.next_link(process, behind)
+    }
+}

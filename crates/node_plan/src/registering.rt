@@ -1,0 +1,59 @@
+//! Records that come.
+ghost use Rattle.std.specs.Prelude.{◌≡◌};
+ghost use Rattle.node_plan.specs.Registering.{changes_towards, is_new, links_towards, registers_towards, watches_towards};
+
+use crate::change::{Change, LinkChange, MonitorChange};
+use erl_term::Atom;
+use link_core::LinkSignal;
+use node_frames::same_name;
+use node_tables::EndChange;
+
+// Whether an end comes where there was none.
+fn is_new(how: &EndChange) -> bool
+    ensures { result ≡ is_new how.now }
+{
+    matches!(
+        how,
+        EndChange::Links | EndChange::Receives(LinkSignal::Link)
+    )
+}
+
+fn links_towards(link: &LinkChange, peer: &Atom) -> bool
+    ensures { result ≡ links_towards peer.now link.now }
+{
+    match link {
+        LinkChange::Stays => false,
+        LinkChange::Becomes(partner, how) => is_new(how) && same_name(&partner.node, peer),
+    }
+}
+
+/// Returns true if a link comes to a process at a peer. (Reference Manual, Processes, Links.)
+pub fn changes_towards(change: &Change, peer: &Atom) -> bool
+    ensures { result ≡ changes_towards peer.now change.now }
+{
+    match change {
+        Change::Of { link, .. } => links_towards(link, peer),
+        Change::None | Change::Spawns => false,
+    }
+}
+
+/// Returns true if a monitor of a process at a peer comes. (Reference Manual, Processes, Monitors.)
+pub fn watches_towards(watches: &MonitorChange, peer: &Atom) -> bool
+    ensures { result ≡ watches_towards peer.now watches.now }
+{
+    match watches {
+        MonitorChange::Adds(_, monitor) => same_name(&monitor.target.node, peer),
+        MonitorChange::Stays | MonitorChange::Removes(_) => false,
+    }
+}
+
+/// Returns true if a monitor comes that a process at a peer has. (Reference Manual, Processes,
+/// Monitors.)
+pub fn registers_towards(watchers: &MonitorChange, peer: &Atom) -> bool
+    ensures { result ≡ registers_towards peer.now watchers.now }
+{
+    match watchers {
+        MonitorChange::Adds(_, monitor) => same_name(&monitor.owner.node, peer),
+        MonitorChange::Stays | MonitorChange::Removes(_) => false,
+    }
+}

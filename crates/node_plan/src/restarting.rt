@@ -1,0 +1,46 @@
+//! A node stops, and starts again.
+ghost use Rattle.std.specs.Prelude.{◌≡◌, ◌↔◌, ◌-◌, ◌^◌, true, false, OnOk, OnErr, IsErr, IsOkUnless};
+ghost use Rattle.dist_model.specs.Incarnations.{started, stopped};
+ghost use Rattle.node_plan.specs.Seen.{seen};
+
+use crate::node::Node;
+use erl_term::Refusal;
+use monitor_core::{Watchers, Watches};
+use std::alloc::Global;
+
+impl Node {
+    /// The node stops: no process is living any more, nothing is sent, and every connection is gone.
+    /// Takes no memory. (ERTS User's Guide, Distribution Protocol, Distribution Handshake, on
+    /// creations.)
+    pub fn stop(&mut self, alloc: Global)
+        requires { (seen self.old).up ≡ true }
+        ensures { seen self.new ≡ stopped (seen self.old) }
+    {
+        self.incarnation.stop();
+        self.watches = Watches::new(alloc);
+        self.watchers = Watchers::new(alloc);
+        self.sides.all_gone();
+    }
+
+    /// The node starts again after it has stopped, in its next incarnation, which has drawn nothing.
+    /// Takes no memory. (ERTS User's Guide, Distribution Protocol, Distribution Handshake, on
+    /// creations.)
+    ///
+    /// # Errors
+    /// [`Refusal::IdsUsedUp`] behind the last incarnation, 2^32 - 1. Then nothing has changed.
+    pub fn start(&mut self, alloc: Global) -> Result<(), Refusal>
+        requires { (seen self.old).up ≡ false }
+        ensures node { OnOk result (seen self.new ≡ started (seen self.old)) }
+        ensures last { IsErr result ↔ ((seen self.old).mint.creation ≡ 2 ^ 32 - 1) }
+        ensures err { OnErr result (seen self.new ≡ seen self.old) }
+        ensures only { IsOkUnless result Refusal.IdsUsedUp }
+    {
+        self.incarnation.start()?;
+        self.own.creation = self.incarnation.mint().creation();
+        self.watches = Watches::new(alloc);
+        self.watchers = Watchers::new(alloc);
+        self.sides.all_gone();
+        self.local.clear();
+        Ok(())
+    }
+}

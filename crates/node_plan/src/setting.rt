@@ -1,0 +1,102 @@
+//! Another change in place of the one before.
+ghost use Rattle.std.specs.Prelude.{◌≡◌, OnErr, OnOk};
+ghost use Rattle.node_plan.specs.Parts.{link_in};
+ghost use Rattle.node_plan.specs.declared.change.Change.TheVariants as the_change;
+ghost use Rattle.node_plan.specs.declared.change.LifeChange.TheVariants as the_life;
+ghost use Rattle.node_plan.specs.declared.change.LinkChange.TheVariants as the_link;
+
+use crate::change::{Change, LifeChange, LinkChange, MonitorChange};
+use erl_term::Pid;
+use node_tables::EndChange;
+use std::alloc::AllocError;
+use std::mem;
+
+impl Change {
+    /// This becomes of the processes. Takes no memory.
+    pub fn set(&mut self, change: Change)
+        ensures { self.new ≡ change }
+    {
+        drop(mem::replace(self, change));
+    }
+
+    /// The end of a process towards a partner changes. (ERTS User's Guide, Distribution Protocol, New
+    /// Link Protocol.)
+    ///
+    /// # Errors
+    /// Where there is no memory for it. Then nothing has changed.
+    pub fn set_end(
+        &mut self,
+        process: &Pid,
+        partner: &Pid,
+        how: EndChange,
+    ) -> Result<(), AllocError>
+        ensures ok { OnOk result (self.new ≡ the_change.Of process.now (the_link.Becomes partner.now how) the_life.Stays) }
+        ensures err { OnErr result (self.new ≡ self.old) }
+    {
+        let changed = Change::Of {
+            process: process.clone()?,
+            link: LinkChange::Becomes(partner.clone()?, how),
+            life: LifeChange::Stays,
+        };
+        self.set(changed);
+        Ok(())
+    }
+
+    // What becomes of an end, taken out.
+    fn take_link(&mut self) -> LinkChange
+        ensures { result ≡ link_in self.old }
+    {
+        match mem::replace(self, Change::None) {
+            Change::Of {
+                process,
+                link,
+                life,
+            } => {
+                drop(process);
+                drop(life);
+                link
+            }
+            Change::None | Change::Spawns => LinkChange::Stays,
+        }
+    }
+
+    fn set_owned_life(&mut self, process: Pid, life: LifeChange)
+        ensures { self.new ≡ the_change.Of process (link_in self.old) life }
+    {
+        let link = self.take_link();
+        self.set(Change::Of {
+            process,
+            link,
+            life,
+        });
+    }
+
+    /// This becomes of a process, and what becomes of an end stays.
+    ///
+    /// # Errors
+    /// Where there is no memory for it. Then nothing has changed.
+    pub fn set_life(&mut self, process: &Pid, life: LifeChange) -> Result<(), AllocError>
+        ensures ok { OnOk result (self.new ≡ the_change.Of process.now (link_in self.old) life) }
+        ensures err { OnErr result (self.new ≡ self.old) }
+    {
+        match process.clone() {
+            Ok(process) => {
+                self.set_owned_life(process, life);
+                Ok(())
+            }
+            Err(wanting) => {
+                drop(life);
+                Err(wanting)
+            }
+        }
+    }
+}
+
+impl MonitorChange {
+    /// This becomes of the monitors. Takes no memory.
+    pub fn set(&mut self, change: MonitorChange)
+        ensures { self.new ≡ change }
+    {
+        drop(mem::replace(self, change));
+    }
+}

@@ -1,0 +1,81 @@
+//! A process tells another of their link, or of a monitor.
+ghost use Rattle.std.specs.Prelude.{◌≡◌, true};
+ghost use Rattle.dist_model.specs.Items.{telling};
+ghost use Rattle.dist_model.specs.Node.{Node as TheNode};
+ghost use Rattle.dist_model.specs.Work.{Work, post};
+ghost use Rattle.erl_control.specs.declared.signal.Signal.TheVariants as signals;
+ghost use Rattle.link_core.specs.News.{Signals};
+ghost use Rattle.node_plan.specs.Carried.{Carries, CarriesOut};
+ghost use Rattle.node_frames.specs.Sendable.{is_sendable};
+ghost use Rattle.node_plan.specs.Plans.{told};
+ghost use Rattle.node_plan.specs.Seen.{seen};
+
+use crate::node::Node;
+use crate::plan::Plan;
+use crate::signals::{demonitor_signal, link_signal, monitor_signal};
+use erl_term::{Pid, Reference};
+use link_core::LinkSignal;
+use std::alloc::{AllocError, Global};
+
+impl Plan {
+    /// A process sends MONITOR_P. (ERTS User's Guide, Distribution Protocol, Protocol between
+    /// Connected Nodes.)
+    ///
+    /// # Errors
+    /// Where there is no memory for it.
+    pub fn tell_monitor(
+        &mut self,
+        alloc: Global,
+        node: &Node,
+        from: &Pid,
+        to: &Pid,
+        reference: &Reference,
+    ) -> Result<(), AllocError>
+        ensures carries { (work : Work) → CarriesOut self.old (seen node.now) work → Carries (seen node.now) (post (signals.Monitor from.now to.now reference.now) work) self.new result }
+        ensures told { (m : TheNode) → told self.new m ≡ told self.old m }
+    {
+        self.post(alloc, node, monitor_signal(from, to, reference)?)
+    }
+
+    /// A process sends DEMONITOR_P. (ERTS User's Guide, Distribution Protocol, Protocol between
+    /// Connected Nodes.)
+    ///
+    /// # Errors
+    /// Where there is no memory for it.
+    pub fn tell_demonitor(
+        &mut self,
+        alloc: Global,
+        node: &Node,
+        from: &Pid,
+        to: &Pid,
+        reference: &Reference,
+    ) -> Result<(), AllocError>
+        ensures carries { (work : Work) → CarriesOut self.old (seen node.now) work → Carries (seen node.now) (post (signals.Demonitor from.now to.now reference.now) work) self.new result }
+        ensures told { (m : TheNode) → told self.new m ≡ told self.old m }
+    {
+        self.post(alloc, node, demonitor_signal(from, to, reference)?)
+    }
+
+    /// A process sends its partner a signal of the New Link Protocol. (ERTS User's Guide, Distribution
+    /// Protocol, New Link Protocol.)
+    ///
+    /// # Errors
+    /// Where there is no memory for it.
+    pub fn tell(
+        &mut self,
+        alloc: Global,
+        node: &Node,
+        from: &Pid,
+        to: &Pid,
+        signal: LinkSignal,
+    ) -> Result<(), AllocError>
+        requires { is_sendable (telling from.now to.now (Signals signal)) ≡ true }
+        ensures carries { (work : Work) → CarriesOut self.old (seen node.now) work → Carries (seen node.now) (post (telling from.now to.now (Signals signal)) work) self.new result }
+        ensures told { (m : TheNode) → told self.new m ≡ told self.old m }
+        ensures change { self.new.change ≡ self.old.change }
+        ensures watches { self.new.watches ≡ self.old.watches }
+        ensures watchers { self.new.watchers ≡ self.old.watchers }
+    {
+        self.post(alloc, node, link_signal(from, to, signal)?)
+    }
+}

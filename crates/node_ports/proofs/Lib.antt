@@ -1,4 +1,0 @@
-pub mod Slots
-pub mod SameItems
-pub mod StreamsKept
-pub mod Full

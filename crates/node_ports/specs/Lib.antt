@@ -1,4 +1,0 @@
-pub mod Ports
-pub mod Fetching
-pub mod Streams
-pub mod Standing

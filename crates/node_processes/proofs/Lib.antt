@@ -1,0 +1,5 @@
+pub mod Free
+pub mod LastSignals
+pub mod Reactions
+pub mod Unchanged
+pub mod NextNumber

@@ -1,0 +1,35 @@
+use Rattle.std.proofs.Common.{◌≡◌, sym, subst, ◌∙◌, true, rules}
+use Rattle.dist_model.specs.Exits.{linked_exit}
+use Rattle.dist_model.specs.Node.{traps}
+use Rattle.dist_model.specs.Work.{report}
+use Rattle.dist_model.specs.declared.report.Effect.{Effect}
+use Rattle.exit_core.specs.Reaction.{reaction}
+use Rattle.node_plan.specs.Carried.{Carries}
+use Rattle.node_processes.specs.Exiting.{FitsWhereEnds}
+use Rattle.node_plan.specs.Seen.{seen}
+use Rattle.node_processes.proofs.Reactions.{linked_fits, reacts}
+use Rattle.node_processes.proofs.reacting.link_exit.Goals as goal
+
+pub carry_out-requires-clause-fits : goal.carry_out-requires-clause-fits
+carry_out-requires-clause-fits c =
+    let m = seen c.args.node.now in
+    let p = c.args.process.now in
+    let q = c.args.partner.now in
+    let x = c.args.reason in
+    let from : c.in_ok-clone.field-0 ≡ q = search rules in
+    let is : c.in_ok-reaction.reaction ≡ reaction (traps m p) (linked_exit p q x) = c.in_ok-reaction.ensures
+    ∙ (λ i. reaction (traps m p) (record { sender = from i; reason = x; link = true; is_active = true; is_own = c.same_pid.ensures i })) in
+    subst FitsWhereEnds (sym is) (linked_fits (traps m p) p q x c.requires.fits)
+
+pub returns-clause-carries : goal.returns-clause-carries
+returns-clause-carries c = λ w h.
+    let m = seen c.args.node.now in
+    let p = c.args.process.now in
+    let q = c.args.partner.now in
+    let x = c.args.reason in
+    let r = c.in_ok-reaction.reaction in
+    let from : c.in_ok-clone.field-0 ≡ q = search rules in
+    let is : r ≡ reaction (traps m p) (linked_exit p q x) = c.in_ok-reaction.ensures
+    ∙ (λ i. reaction (traps m p) (record { sender = from i; reason = x; link = true; is_active = true; is_own = c.same_pid.ensures i })) in
+    subst (λ v. Carries m v c.carry_out.new.plan c.carry_out.result) (sym (reacts c.args.plan.now m w p q x r h c.requires.free is))
+    (c.carry_out.ensures.carries (report (Effect.LinkExit p q x) w) (c.in_ok-reacted.ensures.carries m w h))

@@ -1,0 +1,175 @@
+//! A process monitors another, and takes that back.
+ghost use Rattle.std.specs.Prelude.{◌≡◌, ◌+◌, ◌-◌, ◌^◌, ◌<◌, true, OnOk};
+ghost use Rattle.dist_model.specs.Calls.{call};
+ghost use Rattle.dist_model.specs.Monitoring as monitoring;
+ghost use Rattle.dist_model.specs.Node.{Node as TheNode};
+ghost use Rattle.dist_model.specs.Node as model;
+ghost use Rattle.dist_model.specs.Work.{Work, at_work, draw, post, put};
+ghost use Rattle.dist_model.specs.declared.command.Command.TheVariants as command;
+ghost use Rattle.dist_model.specs.declared.report.Answer.TheVariants as answer;
+ghost use Rattle.erl_control.specs.declared.signal.Signal.TheVariants as signal;
+ghost use Rattle.erl_names.specs.Draw as kind;
+ghost use Rattle.exit_core.specs.Messages.{down_term};
+ghost use Rattle.erl_names.specs.Ids.{reference_of};
+ghost use Rattle.link_core.specs.News.{noconnection};
+ghost use Rattle.monitor_core.specs.Monitors.{monitor_of};
+ghost use Rattle.node_plan.specs.Carried.{Carries, CarriesOut, IsBlank};
+ghost use Rattle.node_plan.specs.Planned.{Plans};
+ghost use Rattle.node_plan.specs.Plans.{told};
+ghost use Rattle.node_plan.specs.Seen.{seen};
+ghost use Rattle.node_plan.specs.declared.change.Change.TheVariants as change;
+ghost use Rattle.node_plan.specs.declared.change.Draws.TheVariants as draws;
+ghost use Rattle.node_plan.specs.declared.change.MonitorChange.TheVariants as stays;
+
+use crate::acting::{acts, aims_at, reaches};
+use crate::reacting::no_connection;
+use dist_model::Answer;
+use erl_term::{Pid, Reference, Refusal};
+use exit_core::down_message;
+use monitor_core::Monitor;
+use node_frames::same_pid;
+use node_plan::{Node, Plan, copied, monitor_between, or_refuse};
+use std::alloc::{AllocError, Global};
+
+// A process monitors another whose node is reached, under the reference that is drawn for this.
+fn monitor_reached(
+    alloc: Global,
+    node: &Node,
+    plan: &mut Plan,
+    owner: &Pid,
+    target: &Pid,
+    reference: &Reference,
+) -> Result<(), AllocError>
+    requires draws { plan.old.draws ≡ draws.Reference }
+    requires change { plan.old.change ≡ change.None }
+    requires watches { plan.old.watches ≡ stays.Stays }
+    requires next { reference.now ≡ reference_of (seen node.now).mint ((seen node.now).mint.references + 1) }
+    requires below { (seen node.now).mint.references < 2 ^ 18 - 1 }
+    ensures carries { (work : Work) → CarriesOut plan.old (seen node.now) work → Carries (seen node.now) (post (signal.Monitor owner.now target.now reference.now) (monitoring.watch reference.now (monitor_of owner.now target.now) work)) plan.new result }
+    ensures told { (m : TheNode) → told plan.new m ≡ told plan.old m }
+{
+    let monitor = monitor_between(owner, target)?;
+    plan.watch(copied(reference)?, monitor);
+    plan.tell_monitor(alloc, node, owner, target, reference)
+}
+
+// The node of the other isn't reached, so DOWN comes at once.
+fn monitor_lost(
+    alloc: Global,
+    plan: &mut Plan,
+    owner: &Pid,
+    target: &Pid,
+    reference: &Reference,
+) -> Result<(), AllocError>
+    requires { plan.old.change ≡ change.None }
+    ensures carries { (m : TheNode) (work : Work) → model.living m owner.now ≡ true → CarriesOut plan.old m work → Carries m (put owner.now (down_term reference.now target.now noconnection) work) plan.new result }
+    ensures told { (m : TheNode) → told plan.new m ≡ told plan.old m }
+{
+    let reason = no_connection(alloc)?;
+    let message = down_message(alloc, copied(reference)?, target.clone()?, reason)?;
+    plan.put(alloc, owner, message)
+}
+
+// A process monitors another under the reference that is drawn for this.
+fn monitor_as(
+    alloc: Global,
+    node: &Node,
+    plan: &mut Plan,
+    owner: &Pid,
+    target: &Pid,
+    reference: &Reference,
+) -> Result<(), AllocError>
+    requires blank { IsBlank plan.old }
+    requires living { model.living (seen node.now) owner.now ≡ true }
+    requires next { reference.now ≡ reference_of (seen node.now).mint ((seen node.now).mint.references + 1) }
+    requires below { (seen node.now).mint.references < 2 ^ 18 - 1 }
+    ensures carries { CarriesOut plan.old (seen node.now) (at_work (seen node.now)) → Carries (seen node.now) (monitoring.monitor reference.now owner.now target.now (draw kind.Reference (at_work (seen node.now)))) plan.new result }
+    ensures told { (m : TheNode) → told plan.new m ≡ told plan.old m }
+{
+    plan.draw_reference();
+    if reaches(node, &target.node) {
+        monitor_reached(alloc, node, plan, owner, target, reference)
+    } else {
+        monitor_lost(alloc, plan, owner, target, reference)
+    }
+}
+
+// A process monitors another under the reference of this count, which is answered.
+fn monitor_under(
+    alloc: Global,
+    node: &Node,
+    plan: &mut Plan,
+    owner: &Pid,
+    target: &Pid,
+    count: u32,
+) -> Result<(), AllocError>
+    requires blank { IsBlank plan.old }
+    requires living { model.living (seen node.now) owner.now ≡ true }
+    requires next { count ≡ (seen node.now).mint.references + 1 }
+    requires below { (seen node.now).mint.references < 2 ^ 18 - 1 }
+    ensures carries { CarriesOut plan.old (seen node.now) (at_work (seen node.now)) → Carries (seen node.now) (monitoring.monitor (reference_of (seen node.now).mint count) owner.now target.now (draw kind.Reference (at_work (seen node.now)))) plan.new result }
+    ensures told { OnOk result (told plan.new (seen node.now) ≡ answer.Reference (reference_of (seen node.now).mint count)) }
+{
+    let reference = node.mint().reference(count)?;
+    let told = copied(&reference)?;
+    plan.answers(Answer::Reference(told));
+    monitor_as(alloc, node, plan, owner, target, &reference)
+}
+
+/// A process monitors another.
+pub(crate) fn monitor(
+    alloc: Global,
+    node: &Node,
+    plan: &mut Plan,
+    owner: &Pid,
+    target: &Pid,
+) -> Result<(), Refusal>
+    requires blank { IsBlank plan.old }
+    requires carries { CarriesOut plan.old (seen node.now) (at_work (seen node.now)) }
+    ensures { Plans (seen node.now) (call (seen node.now) (command.Monitor owner.now target.now)) plan.new result }
+{
+    acts(node, owner)?;
+    aims_at(node, target)?;
+    let count = node.mint().peek_reference()?;
+    or_refuse(monitor_under(alloc, node, plan, owner, target, count))
+}
+
+// A process takes a monitor of its own back.
+fn demonitor_own(
+    alloc: Global,
+    node: &Node,
+    plan: &mut Plan,
+    owner: &Pid,
+    target: &Pid,
+    reference: &Reference,
+) -> Result<(), AllocError>
+    requires { IsBlank plan.old }
+    ensures carries { (work : Work) → CarriesOut plan.old (seen node.now) work → Carries (seen node.now) (post (signal.Demonitor owner.now target.now reference.now) (monitoring.unwatch reference.now work)) plan.new result }
+    ensures told { (m : TheNode) → told plan.new m ≡ told plan.old m }
+{
+    plan.unwatch(copied(reference)?);
+    plan.tell_demonitor(alloc, node, owner, target, reference)
+}
+
+/// A process takes a monitor back.
+pub(crate) fn demonitor(
+    alloc: Global,
+    node: &Node,
+    plan: &mut Plan,
+    owner: &Pid,
+    reference: &Reference,
+) -> Result<(), Refusal>
+    requires blank { IsBlank plan.old }
+    requires told { told plan.old (seen node.now) ≡ answer.Done }
+    requires carries { CarriesOut plan.old (seen node.now) (at_work (seen node.now)) }
+    ensures { Plans (seen node.now) (call (seen node.now) (command.Demonitor owner.now reference.now)) plan.new result }
+{
+    acts(node, owner)?;
+    let Some(monitor) = node.watches().get(reference) else {
+        return Err(Refusal::NotTheOwner);
+    };
+    if !same_pid(&monitor.owner, owner) {
+        return Err(Refusal::NotTheOwner);
+    }
+    or_refuse(demonitor_own(alloc, node, plan, owner, &monitor.target, reference))
+}

@@ -1,0 +1,184 @@
+//! A signal about a monitor comes to the process that it names.
+ghost use Rattle.std.specs.Prelude.{◌≡◌, true, IfOk};
+ghost use Rattle.dist_model.specs.Monitoring as monitoring;
+ghost use Rattle.dist_model.specs.Node as model;
+ghost use Rattle.dist_model.specs.Node.{Node as TheNode};
+ghost use Rattle.dist_model.specs.Work.{Work, post, put};
+ghost use Rattle.erl_control.specs.declared.signal.Signal.TheVariants as signal;
+ghost use Rattle.exit_core.specs.Messages.{down_term};
+ghost use Rattle.link_core.specs.News.{noproc};
+ghost use Rattle.monitor_core.specs.Monitors.{is_this, monitor_of};
+ghost use Rattle.node_plan.specs.Carried.{Carries, CarriesOut, IsBlank};
+ghost use Rattle.node_plan.specs.Plans.{told};
+ghost use Rattle.node_plan.specs.Seen.{seen};
+ghost use Rattle.std.specs.Option.{option_copied};
+
+use crate::reacting::no_process;
+use erl_control::Signal;
+use erl_term::{Payload, Pid, Reference};
+use exit_core::down_message;
+use monitor_core::Monitor;
+use node_frames::same_pid;
+use node_plan::{Node, Plan, copied, monitor_between};
+use std::alloc::{AllocError, Global};
+
+// Whether it is the monitor of this owner and this target.
+fn is_this(held: Option<&Monitor>, owner: &Pid, target: &Pid) -> bool
+    ensures { result ≡ is_this (option_copied held.entry) (monitor_of owner.now target.now) }
+{
+    match held {
+        Some(monitor) => same_pid(&monitor.owner, owner) && same_pid(&monitor.target, target),
+        None => false,
+    }
+}
+
+fn monitor_exit_signal(
+    from: &Pid,
+    to: &Pid,
+    reference: &Reference,
+    reason: Payload,
+) -> Result<Signal, AllocError>
+    ensures { IfOk result (λ s. s ≡ signal.MonitorExit from.now to.now reference.now reason) }
+{
+    Ok(Signal::MonitorExit {
+        from: from.clone()?,
+        to: to.clone()?,
+        reference: reference.clone()?,
+        reason,
+    })
+}
+
+// MONITOR_P comes where the process isn't living.
+fn tell_no_target(
+    alloc: Global,
+    node: &Node,
+    plan: &mut Plan,
+    owner: &Pid,
+    target: &Pid,
+    reference: &Reference,
+) -> Result<(), AllocError>
+    ensures carries { (work : Work) → CarriesOut plan.old (seen node.now) work → Carries (seen node.now) (post (signal.MonitorExit target.now owner.now reference.now noproc) work) plan.new result }
+    ensures told { (m : TheNode) → told plan.new m ≡ told plan.old m }
+{
+    let reason = no_process(alloc)?;
+    plan.post(
+        alloc,
+        node,
+        monitor_exit_signal(target, owner, reference, reason)?,
+    )
+}
+
+// MONITOR_P comes to a living process.
+fn register(
+    plan: &mut Plan,
+    owner: &Pid,
+    target: &Pid,
+    reference: &Reference,
+) -> Result<(), AllocError>
+    requires { IsBlank plan.old }
+    ensures carries { (m : TheNode) (work : Work) → CarriesOut plan.old m work → Carries m (monitoring.register reference.now (monitor_of owner.now target.now) work) plan.new result }
+    ensures told { (m : TheNode) → told plan.new m ≡ told plan.old m }
+{
+    let monitor = monitor_between(owner, target)?;
+    plan.register(copied(reference)?, monitor);
+    Ok(())
+}
+
+/// MONITOR_P comes to a process.
+pub(crate) fn take_monitor(
+    alloc: Global,
+    node: &Node,
+    plan: &mut Plan,
+    owner: &Pid,
+    target: &Pid,
+    reference: &Reference,
+) -> Result<(), AllocError>
+    requires { IsBlank plan.old }
+    ensures carries { (work : Work) → CarriesOut plan.old (seen node.now) work → Carries (seen node.now) (monitoring.take_monitor owner.now target.now reference.now work) plan.new result }
+    ensures told { (m : TheNode) → told plan.new m ≡ told plan.old m }
+{
+    if node.is_living(target) {
+        register(plan, owner, target, reference)
+    } else {
+        tell_no_target(alloc, node, plan, owner, target, reference)
+    }
+}
+
+fn unregister(plan: &mut Plan, reference: &Reference) -> Result<(), AllocError>
+    requires { IsBlank plan.old }
+    ensures carries { (m : TheNode) (work : Work) → CarriesOut plan.old m work → Carries m (monitoring.unregister reference.now work) plan.new result }
+    ensures told { (m : TheNode) → told plan.new m ≡ told plan.old m }
+{
+    plan.unregister(copied(reference)?);
+    Ok(())
+}
+
+/// DEMONITOR_P comes to a process.
+pub(crate) fn take_demonitor(
+    node: &Node,
+    plan: &mut Plan,
+    owner: &Pid,
+    target: &Pid,
+    reference: &Reference,
+) -> Result<(), AllocError>
+    requires { IsBlank plan.old }
+    ensures carries { (work : Work) → CarriesOut plan.old (seen node.now) work → Carries (seen node.now) (monitoring.take_demonitor owner.now target.now reference.now work) plan.new result }
+    ensures told { (m : TheNode) → told plan.new m ≡ told plan.old m }
+{
+    if is_this(node.watchers().get(reference), owner, target) {
+        unregister(plan, reference)
+    } else {
+        Ok(())
+    }
+}
+
+// The monitor of a living process ends: it gets DOWN.
+fn take_down(
+    alloc: Global,
+    plan: &mut Plan,
+    owner: &Pid,
+    target: &Pid,
+    reference: &Reference,
+    reason: &Payload,
+) -> Result<(), AllocError>
+    requires { IsBlank plan.old }
+    ensures carries { (m : TheNode) (work : Work) → model.living m owner.now ≡ true → CarriesOut plan.old m work → Carries m (put owner.now (down_term reference.now target.now reason.now) (monitoring.unwatch reference.now work)) plan.new result }
+    ensures told { (m : TheNode) → told plan.new m ≡ told plan.old m }
+{
+    let message = down(alloc, reference, target, reason)?;
+    plan.unwatch(copied(reference)?);
+    plan.put(alloc, owner, message)
+}
+
+fn down(
+    alloc: Global,
+    reference: &Reference,
+    target: &Pid,
+    reason: &Payload,
+) -> Result<Payload, AllocError>
+    ensures { IfOk result (λ m. m ≡ down_term reference.now target.now reason.now) }
+{
+    let reason = reason.copy(alloc)?;
+    down_message(alloc, copied(reference)?, target.clone()?, reason)
+}
+
+/// MONITOR_P_EXIT of a process comes to the one that monitors it.
+pub(crate) fn take_monitor_exit(
+    alloc: Global,
+    node: &Node,
+    plan: &mut Plan,
+    owner: &Pid,
+    target: &Pid,
+    reference: &Reference,
+    reason: &Payload,
+) -> Result<(), AllocError>
+    requires { IsBlank plan.old }
+    ensures carries { (work : Work) → CarriesOut plan.old (seen node.now) work → Carries (seen node.now) (monitoring.take_monitor_exit target.now owner.now reference.now reason.now work) plan.new result }
+    ensures told { (m : TheNode) → told plan.new m ≡ told plan.old m }
+{
+    if node.is_living(owner) && is_this(node.watches().get(reference), owner, target) {
+        take_down(alloc, plan, owner, target, reference, reason)
+    } else {
+        Ok(())
+    }
+}

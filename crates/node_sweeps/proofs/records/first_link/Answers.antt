@@ -1,8 +1,0 @@
-use Rattle.node_sweeps.proofs.Began.{link_is}
-use Rattle.node_sweeps.proofs.records.first_link.Goals as goal
-
-pub returns : goal.returns
-returns c =
-    let it = c.args.node.now.incarnation in
-    let r = c.first_link_towards.ensures in
-    link_is it.mint it.held.items c.args.peer.now c.args.after c.first_link_towards.result c.requires.none r.found r.towards r.least r.none

@@ -1,5 +1,0 @@
-use Rattle.node_plans.specs.Plans.{committed}
-use Rattle.node_sweeps.proofs.sweeping.Sweeping.heed.Goals as goal
-
-pub returns-then-gets_more : goal.returns-then-gets_more
-returns-then-gets_more c = λ m h. c.new.ensures.ahead (committed c.args.plan.now m)

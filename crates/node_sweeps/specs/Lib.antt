@@ -1,4 +1,0 @@
-pub mod Ahead
-pub mod Records
-pub mod Done
-pub mod Next

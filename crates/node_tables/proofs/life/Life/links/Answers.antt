@@ -1,8 +1,0 @@
-use Rattle.std.proofs.Common.{sym, ap, ◌∙◌}
-use Rattle.std.specs.FinMap as fm
-use Rattle.node_tables.specs.Lives.{links_of}
-use Rattle.node_tables.proofs.Lookups.{no_links}
-use Rattle.node_tables.proofs.life.Life.links.Goals as goal
-
-pub returns-in-Ended : goal.returns-in-Ended
-returns-in-Ended c = sym (ap (λ l. fm.entries (links_of l)) c.in-Ended.is ∙ no_links)
