@@ -1,3 +1,8 @@
+pub mod Growth
+pub mod LogsAreOneRun
+pub mod Permuted
+pub mod SortedLogs
+pub mod Unsorted
 pub mod Lines
 pub mod Numbers
 pub mod Steps

@@ -23,8 +23,8 @@ use Rattle.dist_model.specs.World.{Arrive, Call, Dial, Event, Local, Lose, Repor
 use Rattle.dist_model.specs.declared.report.Answer.{Answer}
 use Rattle.dist_model.specs.declared.report.Effect.{Effect}
 use Rattle.erl_names.specs.declared.trunk.TrunkId.{TrunkId}
-use Rattle.merging.proofs.Growth.{lead_grows, sent_grows, took_grows}
-use Rattle.merging.specs.Logs.{Entry, Line, TakesEarlier, bare, bare_took, entries_of, off, on, stamped, took_on}
+use Rattle.dist_books.proofs.Growth.{lead_grows, sent_grows, took_grows}
+use Rattle.dist_books.specs.Logs.{Entry, Line, TakesEarlier, bare, bare_took, entries_of, off, on, stamped, took_on}
 
 -- ---- lists
 

@@ -14,10 +14,10 @@ use Rattle.dist_model.specs.Items.{Item}
 use Rattle.dist_model.specs.Runs.{Runs, opening}
 use Rattle.dist_model.specs.Safety.{Safe}
 use Rattle.dist_model.specs.World.{World}
-use Rattle.merging.proofs.OneRun.{logs_are_a_run}
-use Rattle.merging.specs.Logs.{sent_on, took_on}
-use Rattle.merging.specs.Runs as merging
-use Rattle.merging.specs.Runs.{AreLogs}
+use Rattle.dist_books.proofs.LogsAreOneRun.{logs_are_a_run}
+use Rattle.dist_books.specs.Logs.{sent_on, took_on}
+use Rattle.dist_books.specs.Runs as merging
+use Rattle.dist_books.specs.Runs.{AreLogs}
 
 balance : (put outbox taken took slot rest sent : List Stamped) → sent ≡ put ++ outbox → taken ≡ took ++ slot → put ≡ taken ++ rest
     → sent ≡ took ++ (slot ++ (drop (length taken) put ++ outbox))

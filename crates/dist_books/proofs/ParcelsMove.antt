@@ -12,7 +12,7 @@ use Rattle.dist_model.specs.Names.{Name, same_name}
 use Rattle.dist_model.specs.Sides.{TrunkSide}
 use Rattle.erl_names.specs.Order.{trunk_cmp}
 use Rattle.erl_names.specs.declared.trunk.TrunkId.{TrunkId}
-use Rattle.merging.specs.Logs.{took_on}
+use Rattle.dist_books.specs.Logs.{took_on}
 
 -- ---- parcels move
 
@@ -81,7 +81,7 @@ module _ (nodes : Nodes) (k : ℕ) (book next : Book) (f : Follows nodes k book)
     log = f.log;
     replays = record {
       history = r.history ∙ f.replays.history;
-      leads = subst (λ n. Rattle.merging.specs.Logs.Leads (Acts nodes) k (opened_at nodes k) f.log n) (sym r.node) f.replays.leads;
+      leads = subst (λ n. Rattle.dist_books.specs.Logs.Leads (Acts nodes) k (opened_at nodes k) f.log n) (sym r.node) f.replays.leads;
       rise = subst (λ h. Rise 0 h next.last) (sym r.history) (subst (λ n. Rise 0 book.history n) (sym r.last) f.replays.rise);
       earlier = f.replays.earlier;
       out = λ trunk peer. f.replays.out trunk peer ∙ moved_out trunk peer (book.ports trunk) (next.ports trunk) (r.ports trunk);

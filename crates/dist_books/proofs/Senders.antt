@@ -13,7 +13,7 @@ use Rattle.dist_model.specs.Names.{Name, same_name}
 use Rattle.dist_model.specs.Node.{Node}
 use Rattle.dist_model.specs.World.{Arrive, Event, Report, node_name}
 use Rattle.erl_names.specs.declared.trunk.TrunkId.{TrunkId}
-use Rattle.merging.specs.Logs.{Leads, Line, bare, bare_took, off, took_on}
+use Rattle.dist_books.specs.Logs.{Leads, Line, bare, bare_took, off, took_on}
 
 pub no_front : (xs ys : List Stamped) → xs ++ ys ≡ [] → xs ≡ []
 no_front [] ys h = refl

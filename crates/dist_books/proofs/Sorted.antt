@@ -7,9 +7,9 @@ use Rattle.dist_books.proofs.Numbers.{each_kept}
 use Rattle.dist_books.specs.Books.{Book, Rise, book_at}
 use Rattle.dist_books.specs.Merged.{SortsMerge}
 use Rattle.dist_model.specs.World.{Event, Report}
-use Rattle.merging.proofs.Sorted.{sort_merges}
-use Rattle.merging.specs.Logs.{Entry}
-use Rattle.merging.specs.Sorting.{Rises}
+use Rattle.dist_books.proofs.SortedLogs.{sort_merges}
+use Rattle.dist_books.specs.Logs.{Entry}
+use Rattle.dist_books.specs.Sorting.{Rises}
 
 abbrev stamp_of : Entry Event Report → ℕ
 stamp_of entry = entry.stamp

@@ -33,9 +33,9 @@ use Rattle.dist_model.specs.declared.report.Answer.{Answer}
 use Rattle.dist_model.specs.declared.report.Effect.{Effect}
 use Rattle.erl_names.specs.declared.trunk.TrunkId.{TrunkId}
 use Rattle.erl_term.specs.declared.refusal.Refusal.{Refusal}
-use Rattle.merging.specs.Logs.{off, on}
-use Rattle.merging.specs.Runs as merging
-use Rattle.merging.specs.Runs.{Moves}
+use Rattle.dist_books.specs.Logs.{off, on}
+use Rattle.dist_books.specs.Runs as merging
+use Rattle.dist_books.specs.Runs.{Moves}
 
 -- what the laws of the model say of one event
 abbrev pub IsLocal : Type 0

@@ -8,7 +8,7 @@ use Rattle.dist_model.specs.Node.{Node}
 use Rattle.dist_model.specs.Runs.{new_node}
 use Rattle.dist_model.specs.World.{Event, Report}
 use Rattle.erl_names.specs.declared.trunk.TrunkId.{TrunkId}
-use Rattle.merging.specs.Logs.{AllTakeEarlier, Entry, Leads, Line, entries_of, sent_on, took_on}
+use Rattle.dist_books.specs.Logs.{AllTakeEarlier, Entry, Leads, Line, entries_of, sent_on, took_on}
 
 -- an item with the stamp of the event that sent it
 abbrev pub Stamped : Type 0

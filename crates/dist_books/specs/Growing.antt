@@ -12,7 +12,7 @@ use Rattle.dist_model.specs.NodeEvents.{NodeEvent, at_node}
 use Rattle.dist_model.specs.World.{Event, node_name}
 use Rattle.dist_model.specs.declared.report.Effect.{Effect}
 use Rattle.erl_names.specs.declared.trunk.TrunkId.{TrunkId}
-use Rattle.merging.specs.Logs.{TakesEarlier, bare_took, off, on, stamped, took_on}
+use Rattle.dist_books.specs.Logs.{TakesEarlier, bare_took, off, on, stamped, took_on}
 
 -- ---- what a book keeps of its node's sides
 

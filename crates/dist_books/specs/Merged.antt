@@ -6,9 +6,9 @@ use Rattle.dist_model.specs.Histories.{told}
 use Rattle.dist_model.specs.Runs.{Runs, opening}
 use Rattle.dist_model.specs.Safety.{Safe}
 use Rattle.dist_model.specs.World.{Event, Report, World, list_to, node_of}
-use Rattle.merging.specs.Logs.{Entry, bare}
-use Rattle.merging.specs.Runs.{of_node}
-use Rattle.merging.specs.Sorting.{IsInOrder, placed_from}
+use Rattle.dist_books.specs.Logs.{Entry, bare}
+use Rattle.dist_books.specs.Runs.{of_node}
+use Rattle.dist_books.specs.Sorting.{IsInOrder, placed_from}
 
 -- an entry with the number of its node
 abbrev pub Placed : Type 0

@@ -18,11 +18,11 @@ use Rattle.joined_books.proofs.Zipped.{Chosen, part_beyond, part_of, past}
 use Rattle.joined_books.specs.Parts.{part_at}
 use Rattle.joined_books.specs.Parcels.{Begins, said}
 use Rattle.joined_books.specs.Wires.{AreWhole, IsWhole, outlets_named, own, put_to}
-use Rattle.node_book.specs.Seen.{BookSeen}
-use Rattle.node_book.specs.Standing.{Feeds, FeedsAt, IsBookOf, outlet_of}
-use Rattle.node_book.specs.declared.outlet.Outlet.{Outlet}
+use Rattle.node_lock.specs.Seen.{BookSeen}
+use Rattle.node_lock.specs.Standing.{Feeds, FeedsAt, IsBookOf, outlet_of}
+use Rattle.node_lock.specs.declared.outlet.Outlet.{Outlet}
 use Rattle.node_history.specs.declared.entry.Entry.{Entry}
-use Rattle.node_ports.specs.Standing.{Carries, CarryAll}
+use Rattle.wire_core.specs.Standing.{Carries, CarryAll}
 use Rattle.wire_core.specs.declared.parcel.Parcel.{Parcel}
 
 -- the model's book of a book

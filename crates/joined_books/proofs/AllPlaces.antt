@@ -6,7 +6,7 @@ use Rattle.joined_books.proofs.Ordered.{all_push, places_push}
 use Rattle.joined_books.specs.Parts.{stamps_in, stamps_of}
 use Rattle.joined_books.specs.Places.{all_places, places_from}
 use Rattle.joined_books.specs.declared.trace.Placed.{Placed}
-use Rattle.node_book.specs.Seen.{BookSeen}
+use Rattle.node_lock.specs.Seen.{BookSeen}
 use Rattle.node_history.specs.declared.entry.Entry.{Entry}
 
 taken : {X Y : Type 0} (f : X → Y) (xs : List X) (i : ℕ) (x : X) → i < length xs → x ≡ get_or xs i x

@@ -6,7 +6,7 @@ use Rattle.std.specs.Option.{option_map}
 use Rattle.dist_books.specs.Books.{Stamped}
 use Rattle.dist_model.specs.Items.{Item}
 use Rattle.node_frames.specs.Frames.{IsSpelled, bytes_of}
-use Rattle.node_ports.specs.Standing.{Carries, CarryAll}
+use Rattle.wire_core.specs.Standing.{Carries, CarryAll}
 use Rattle.wire_core.specs.declared.parcel.Parcel.{Parcel}
 
 abbrev pub BeginsSaid : {P W : Type 0} → (P → W) → (taken put : List P) → Type 0

@@ -13,8 +13,8 @@ use Rattle.erl_handshake.specs.Messages.{IsFor, written}
 use Rattle.erl_handshake.specs.declared.message.Role.{Role}
 use Rattle.erl_handshake.specs.declared.message.Role.TheVariants.{Acceptor, Dialer}
 use Rattle.erl_handshake.specs.declared.message.ShakeMsg.{ShakeMsg}
-use Rattle.item_kinds.proofs.Told.{kind_is_told}
-use Rattle.item_kinds.specs.Kinds.{kind_in}
+use Rattle.node_frames.proofs.Told.{kind_is_told}
+use Rattle.node_frames.specs.Kinds.{kind_in}
 use Rattle.node_frames.specs.Frames.{IsSpelled, bytes_of}
 
 abbrev pub OneFrame : Type 0

@@ -21,9 +21,9 @@ use Rattle.joined_books.specs.Parts.{entries_at, part_at, stamps_of}
 use Rattle.joined_books.specs.Places.{IsByStampAndNode, all_places, places_from}
 use Rattle.joined_books.specs.Wires.{AreWhole, own}
 use Rattle.joined_books.specs.declared.trace.Placed.{Placed}
-use Rattle.merging.specs.Logs.{Entry as Told}
-use Rattle.node_book.specs.Seen.{BookSeen}
-use Rattle.node_book.specs.Standing.{AreNodes, TellEntries, TellsEntry}
+use Rattle.dist_books.specs.Logs.{Entry as Told}
+use Rattle.node_lock.specs.Seen.{BookSeen}
+use Rattle.node_lock.specs.Standing.{AreNodes, TellEntries, TellsEntry}
 use Rattle.node_history.specs.declared.entry.Entry.{Entry}
 use Rattle.std.specs.List.Sorted.{IsPermutation}
 

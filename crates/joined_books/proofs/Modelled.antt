@@ -8,8 +8,8 @@ use Rattle.std.proofs.lemmas.List as lists
 use Rattle.std.proofs.lemmas.List.Elements.{All-cons, All-head, All-nil, All-tail}
 use Rattle.joined_books.specs.Places.{IsOrdered, Precedes, places_from}
 use Rattle.joined_books.specs.declared.trace.Placed.{Placed}
-use Rattle.merging.specs.Runs.{of_node}
-use Rattle.merging.specs.Sorting as merging
+use Rattle.dist_books.specs.Runs.{of_node}
+use Rattle.dist_books.specs.Sorting as merging
 
 -- what holds of the places of each node holds of all
 all_from_nodes : (Q : Placed → Type 0) (items : List Placed) → ((k : ℕ) → All Q (filter (λ placed. k == placed.node) items)) → All Q items

@@ -18,7 +18,7 @@ use Rattle.joined_books.proofs.Ordered.{Rise}
 use Rattle.joined_books.proofs.Zipped.{beside, zip_maps, zip_weaker}
 use Rattle.joined_books.specs.Places.{IsOrdered, places_from}
 use Rattle.joined_books.specs.declared.trace.Placed.{Placed}
-use Rattle.merging.specs.Logs.{Entry}
+use Rattle.dist_books.specs.Logs.{Entry}
 
 abbrev Told : Type 0
 Told = Entry Event Report

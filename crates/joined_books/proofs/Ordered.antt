@@ -8,13 +8,13 @@ use Rattle.std.proofs.lemmas.List as lists
 use Rattle.std.proofs.lemmas.List.Elements.{All-cons, All-head, All-nil, All-tail}
 use Rattle.std.proofs.lemmas.List.Kept.{AllPairs-cons}
 use Rattle.std.proofs.lemmas.List.Sorted.{IsPermutation-map}
-use Rattle.merging.proofs.Sorted.{no_pairs}
+use Rattle.dist_books.proofs.SortedLogs.{no_pairs}
 use Rattle.joined_books.specs.Places.{IsByStampAndNode, IsOrdered, all_places, places_from}
 use Rattle.joined_books.specs.declared.trace.Placed.{Placed}
-use Rattle.merging.proofs.Sorted.{sort_merges}
-use Rattle.merging.specs.Runs.{of_node}
-use Rattle.merging.specs.Sorting.{IsInOrder, Rises, placed_from}
-use Rattle.merging.specs.Sorting as merging
+use Rattle.dist_books.proofs.SortedLogs.{sort_merges}
+use Rattle.dist_books.specs.Runs.{of_node}
+use Rattle.dist_books.specs.Sorting.{IsInOrder, Rises, placed_from}
+use Rattle.dist_books.specs.Sorting as merging
 
 abbrev pub stamp_of : Placed → ℕ
 stamp_of placed = placed.stamp

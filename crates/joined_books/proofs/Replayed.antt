@@ -23,7 +23,7 @@ use Rattle.joined_books.specs.Joined.{AreARun, Shows}
 use Rattle.joined_books.specs.Parts.{entries_at}
 use Rattle.joined_books.specs.Replayed.{HappensAgain}
 use Rattle.joined_books.specs.declared.trace.Placed.{Placed}
-use Rattle.node_book.specs.Seen.{BookSeen}
+use Rattle.node_lock.specs.Seen.{BookSeen}
 use Rattle.node_history.specs.declared.entry.Entry.{Entry}
 use Rattle.world_core.proofs.Happened.{goes_names}
 use Rattle.world_core.specs.Names.{are_distinct, name_at}

@@ -14,7 +14,7 @@ use Rattle.joined_books.specs.Marks.{AreMarked, IsStrange}
 use Rattle.joined_books.specs.Parts.{entries_at}
 use Rattle.joined_books.specs.Receipts.{AllEntered, AreEnteredApart, AreReceipts, HasReceipts, IsShort}
 use Rattle.joined_books.specs.Receipts.{IsEnteredIn, acts_of, own_receipts, position_of, receipts_of}
-use Rattle.node_book.specs.Seen.{BookSeen}
+use Rattle.node_lock.specs.Seen.{BookSeen}
 use Rattle.node_history.specs.Acts.{is_act}
 use Rattle.node_history.specs.declared.entry.Entry.{Entry}
 use Rattle.node_lock.specs.Seats.{IsEnteredAs}

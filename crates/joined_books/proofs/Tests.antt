@@ -6,7 +6,7 @@ use Rattle.dist_books.specs.Acting.{Nodes, name_at}
 use Rattle.dist_model.proofs.Keys.{same_name_is, same_name_true}
 use Rattle.dist_model.specs.Names.{Name, same_name}
 use Rattle.joined_books.specs.Names.{IsInPlace}
-use Rattle.node_book.specs.Seen.{BookSeen}
+use Rattle.node_lock.specs.Seen.{BookSeen}
 
 -- a test that is true, or false, of a fact that holds, or doesn't
 pub is_so : {H : Type 0} → H → IsTrue true ↔ H

@@ -6,7 +6,7 @@ use Rattle.joined_books.specs.Receipts.{AllEntered, IsMissing, IsStrangeReceipt}
 use Rattle.joined_books.specs.Wires.{AreWhole, IsTorn}
 use Rattle.joined_books.specs.declared.error.FinishError.{FinishError}
 use Rattle.joined_books.specs.declared.error.FinishError.TheVariants.{OutOfMemory, SeatsMissing, StrangeBook, StrangeReceipt, Torn}
-use Rattle.node_book.specs.Seen.{BookSeen}
+use Rattle.node_lock.specs.Seen.{BookSeen}
 use Rattle.node_lock.specs.declared.seat.Seat.{Seat}
 
 -- What is wrong is where the error says, and what is looked at before is in order.

@@ -9,8 +9,8 @@ use Rattle.joined_books.specs.Each.{AllAt}
 use Rattle.joined_books.specs.Parts.{entries_at, part_at, stamps_of}
 use Rattle.joined_books.specs.Places.{IsOrdered}
 use Rattle.joined_books.specs.declared.trace.Placed.{Placed}
-use Rattle.node_book.specs.Seen.{BookSeen}
-use Rattle.node_book.specs.Standing.{AreNodes, IsBook, IsBookOf, TellsEntry}
+use Rattle.node_lock.specs.Seen.{BookSeen}
+use Rattle.node_lock.specs.Standing.{AreNodes, IsBook, IsBookOf, TellsEntry}
 use Rattle.node_history.specs.declared.entry.Entry.{Entry}
 
 -- the book of a node, of these names and its cookie, and what the model keeps of it

@@ -2,7 +2,7 @@
 use Rattle.std.specs.Prelude.{◌≡◌, ◌≢◌, ◌⊎◌, ℕ, ◌<◌, List, [], length, slice_index_or}
 use Rattle.dist_books.specs.Acting.{Nodes, name_at, names_of}
 use Rattle.joined_books.specs.Each.{AllAt}
-use Rattle.node_book.specs.Seen.{BookSeen}
+use Rattle.node_lock.specs.Seen.{BookSeen}
 
 -- of these nodes the book is of the one at this place: it has its cookie, and the names of all; and none before has its name
 pub record IsInPlace (nodes : Nodes) (k : ℕ) (book : BookSeen) : Type 0 where

@@ -1,6 +1,6 @@
 -- What the books have, each at its place.
 use Rattle.std.specs.Prelude.{ℕ, List, [], map, slice_index_or}
-use Rattle.node_book.specs.Seen.{BookSeen}
+use Rattle.node_lock.specs.Seen.{BookSeen}
 use Rattle.node_history.specs.declared.entry.Entry.{Entry}
 
 -- of something that each book has: that of this one, or nothing where there is no such book

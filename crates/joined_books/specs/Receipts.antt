@@ -3,7 +3,7 @@ use Rattle.std.specs.Prelude.{◌≡◌, ◌≢◌, ℕ, ◌<◌, Bool, false, L
 use Rattle.std.specs.Prelude.{count_by, length, map, slice_get, slice_index_or, if◌then◌else◌}
 use Rattle.joined_books.specs.Marks.{AreMarked, IsStrange, how_many}
 use Rattle.joined_books.specs.Parts.{entries_at}
-use Rattle.node_book.specs.Seen.{BookSeen}
+use Rattle.node_lock.specs.Seen.{BookSeen}
 use Rattle.node_history.specs.Acts.{is_act}
 use Rattle.node_history.specs.declared.entry.Entry.{Entry}
 use Rattle.node_lock.specs.Seats.{IsEnteredAs}

@@ -3,10 +3,10 @@ use Rattle.std.specs.Prelude.{◌≡◌, ℕ, ◌+◌, Option, None, Some, List,
 use Rattle.dist_model.specs.Names.{Name, same_name}
 use Rattle.erl_names.specs.declared.trunk.TrunkId.{TrunkId}
 use Rattle.joined_books.specs.Parcels.{Begins, IsTornAt}
-use Rattle.node_book.specs.Seen.{BookSeen}
-use Rattle.node_book.specs.Standing.{outlet_of}
-use Rattle.node_book.specs.declared.outlet.Outlet.{Outlet}
-use Rattle.node_ports.specs.Ports.{PortSeen}
+use Rattle.node_lock.specs.Seen.{BookSeen}
+use Rattle.node_lock.specs.Standing.{outlet_of}
+use Rattle.node_lock.specs.declared.outlet.Outlet.{Outlet}
+use Rattle.wire_core.specs.Ports.{PortSeen}
 use Rattle.wire_core.specs.declared.parcel.Parcel.{Parcel}
 
 -- ---- what was put to a node

@@ -1,12 +1,12 @@
 //! What stands in books.
 ghost use Rattle.std.specs.Prelude.{◌≡◌};
 ghost use Rattle.std.specs.Option.{option_copied};
-ghost use Rattle.node_book.specs.Standing.{outlet_of};
+ghost use Rattle.node_lock.specs.Standing.{outlet_of};
 ghost use Rattle.joined_books.specs.Wires.{outlets_named, own};
 
 use erl_names::{NodeName, TrunkId};
-use node_book::{Book, Outlet};
 use node_frames::same_name;
+use node_lock::{Book, Outlet};
 
 /// The name of a book's node.
 pub(crate) fn own(book: &Book) -> &NodeName

@@ -15,8 +15,7 @@ use crate::trace::Trace;
 use crate::wires::check_wires;
 use erl_handshake::Cookie;
 use erl_names::NodeName;
-use node_book::Book;
-use node_lock::Seat;
+use node_lock::{Book, Seat};
 use std::alloc::Global;
 
 // Whether each book is of the node of its place, and each node has one.

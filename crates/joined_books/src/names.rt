@@ -5,8 +5,8 @@ ghost use Rattle.joined_books.specs.Names.{AreInPlace, IsInPlace, IsStrangeBook}
 
 use erl_handshake::Cookie;
 use erl_names::NodeName;
-use node_book::Book;
 use node_frames::same_name;
+use node_lock::Book;
 
 // Whether these are the names of the nodes.
 fn are_names(names: &[NodeName], nodes: &[(NodeName, Cookie)]) -> bool

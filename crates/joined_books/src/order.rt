@@ -4,8 +4,8 @@ ghost use Rattle.joined_books.specs.Parts.{stamps_in, stamps_of};
 ghost use Rattle.joined_books.specs.Places.{IsByStampAndNode, all_places, places_from};
 
 use crate::trace::Placed;
-use node_book::Book;
 use node_history::Entry;
+use node_lock::Book;
 use std::alloc::{AllocError, Global};
 
 // The places of a node's entries come behind the others.

@@ -11,9 +11,8 @@ ghost use Rattle.node_history.specs.Acts.{is_act};
 ghost use Rattle.node_lock.specs.declared.seat.Asked.{Asked as TheAsked};
 
 use crate::error::FinishError;
-use node_book::Book;
 use node_history::{Entry, is_act};
-use node_lock::{Asked, Seat, stands_as};
+use node_lock::{Asked, Book, Seat, stands_as};
 use std::alloc::{AllocError, Global};
 
 // Marks the position of a receipt. Refuses one that doesn't stand there, or whose position is marked.

@@ -13,8 +13,8 @@ use crate::trace::{Placed, Trace};
 use erl_handshake::Cookie;
 use erl_names::NodeName;
 use erl_term::Refusal;
-use node_book::Book;
 use node_history::{Entry, copied_event};
+use node_lock::Book;
 use std::alloc::{AllocError, Global};
 use world_core::{Event, World};
 

@@ -11,10 +11,9 @@ ghost use Rattle.node_lock.specs.declared.seat.Seat.{Seat as TheSeat};
 use crate::error::FinishError;
 use crate::finding::{outlet_of, outlets_named, own};
 use erl_names::{NodeName, TrunkId};
-use node_book::{Book, Outlet};
 use node_frames::same_name;
-use node_ports::Port;
-use wire_core::Parcel;
+use node_lock::{Book, Outlet};
+use wire_core::{Parcel, Port};
 
 // Whether a parcel was put as it was taken.
 fn is_same(put: Option<&Parcel>, taken: &Parcel) -> bool

@@ -16,8 +16,8 @@ use Rattle.dist_model.specs.declared.report.Answer.{Answer as Said}
 use Rattle.dist_model.specs.declared.report.Effect.{Effect}
 use Rattle.dist_model.specs.declared.report.Report.{Report}
 use Rattle.erl_term.specs.declared.refusal.Refusal.{Refusal}
-use Rattle.node_events.proofs.PlanDone.{done}
-use Rattle.node_events.specs.Done.{Did, Does}
+use Rattle.node_core.proofs.PlanDone.{done}
+use Rattle.node_core.specs.Done.{Did, Does}
 use Rattle.node_core.specs.Model.{model_of}
 use Rattle.node_history.specs.Acts.{Knows}
 use Rattle.erl_term.specs.declared.term.Pid.{Pid}
@@ -32,13 +32,13 @@ use Rattle.node_history.specs.declared.entry.Told.{Told}
 use Rattle.node_history.specs.declared.history.History.{History}
 use Rattle.node_history.specs.declared.spare.Spare.{Spare}
 use Rattle.node_frames.specs.Frames.{Framed, shown}
-use Rattle.node_plans.specs.Planned.{IsPlanned, IsRefused, Plans}
-use Rattle.node_plans.specs.Plans.{committed, told}
-use Rattle.node_plans.specs.declared.plan.Plan.{Plan}
-use Rattle.same_events.specs.Said.{said}
-use Rattle.world_events.specs.Events.{met}
-use Rattle.world_events.specs.declared.event.NodeEvent.{NodeEvent}
-use Rattle.world_events.specs.declared.event.NodeEvent.TheVariants as event
+use Rattle.node_plan.specs.Planned.{IsPlanned, IsRefused, Plans}
+use Rattle.node_plan.specs.Plans.{committed, told}
+use Rattle.node_plan.specs.declared.plan.Plan.{Plan}
+use Rattle.node_history.specs.Said.{said}
+use Rattle.world_core.specs.Events.{met}
+use Rattle.world_core.specs.declared.node_event.NodeEvent.{NodeEvent}
+use Rattle.world_core.specs.declared.node_event.NodeEvent.TheVariants as event
 
 -- ---- what was planned is carried out
 

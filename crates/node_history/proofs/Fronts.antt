@@ -9,16 +9,16 @@ use Rattle.dist_model.specs.Node.{Node}
 use Rattle.dist_model.specs.NodeEvents.{Arrive, at_node, if_up}
 use Rattle.erl_names.specs.declared.trunk.TrunkId.{TrunkId}
 use Rattle.erl_term.specs.declared.refusal.Refusal.{Refusal}
-use Rattle.node_arrivals.specs.Fronts.{Front}
-use Rattle.node_events.specs.Arrived.{DoesArrived, DoesFront, arrives, is_undialed}
-use Rattle.node_events.specs.Done.{Did, Does}
-use Rattle.node_events.specs.declared.arriving.Arrived.{Arrived}
+use Rattle.node_connections.specs.Fronts.{Front}
+use Rattle.node_core.specs.Arrived.{DoesArrived, DoesFront, arrives, is_undialed}
+use Rattle.node_core.specs.Done.{Did, Does}
+use Rattle.node_core.specs.declared.arriving.Arrived.{Arrived}
 use Rattle.node_history.specs.Entering.{Answer}
 use Rattle.node_frames.specs.Frames.{bytes_of}
-use Rattle.node_plans.specs.Planned.{IsRefused}
+use Rattle.node_plan.specs.Planned.{IsRefused}
 use Rattle.readers.specs.Reading.{AreBytes}
-use Rattle.world_events.proofs.Fronts.{FrameAgain, OneFrame, item_comes}
-use Rattle.world_events.specs.Coming.{CanCome}
+use Rattle.world_core.proofs.Fronts.{FrameAgain, OneFrame, item_comes}
+use Rattle.world_core.specs.ComingToANode.{CanCome}
 
 -- without the number of bytes
 abbrev pub answer_in : Result Arrived Refusal → Answer

@@ -1,3 +1,5 @@
+pub mod Places
+pub mod SameTerms
 pub mod WrittenDown
 pub mod ReadByBytes
 pub mod Fronts

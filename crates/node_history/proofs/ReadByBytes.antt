@@ -11,14 +11,14 @@ use Rattle.dist_model.specs.declared.report.Kind.{Kind}
 use Rattle.erl_control.specs.declared.signal.Signal.{Signal}
 use Rattle.erl_handshake.specs.declared.message.ShakeMsg.{ShakeMsg}
 use Rattle.erl_names.specs.declared.trunk.TrunkId.{TrunkId}
-use Rattle.item_kinds.proofs.Told.{kind_is_told}
-use Rattle.item_kinds.specs.Kinds.{kind_in}
-use Rattle.node_events.specs.Arrived.{is_undialed}
+use Rattle.node_frames.proofs.Told.{kind_is_told}
+use Rattle.node_frames.specs.Kinds.{kind_in}
+use Rattle.node_core.specs.Arrived.{is_undialed}
 use Rattle.node_history.specs.Kinds.{ReadIsWhole, comes_here, is_for_acceptor, is_for_dialer, is_message, reads_kind, reads_kind_at}
 use Rattle.node_frames.specs.Frames.{IsSpelled, bytes_of}
 use Rattle.readers.specs.Reading.{AreBytes}
-use Rattle.world_events.proofs.Fronts.{FrameAgain, OneFrame, whole_at}
-use Rattle.world_events.specs.Coming.{CanCome, reads, reads_at}
+use Rattle.world_core.proofs.Fronts.{FrameAgain, OneFrame, whole_at}
+use Rattle.world_core.specs.ComingToANode.{CanCome, reads, reads_at}
 
 abbrev IsNoMessage : Option Kind → Type 0
 IsNoMessage kind = (is_for_dialer kind ≡ false) × (is_for_acceptor kind ≡ false) × (is_message kind ≡ false)

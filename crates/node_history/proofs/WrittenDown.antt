@@ -7,14 +7,14 @@ use Rattle.dist_model.specs.Node as model
 use Rattle.dist_model.specs.NodeEvents as met
 use Rattle.dist_model.specs.NodeEvents.{at_node}
 use Rattle.erl_term.specs.declared.refusal.Refusal.{Refusal}
-use Rattle.node_events.specs.Done.{Does}
+use Rattle.node_core.specs.Done.{Does}
 use Rattle.node_core.specs.Model.{model_of}
 use Rattle.node_core.specs.declared.node.Node.{Node}
 use Rattle.node_history.specs.Entering.{Answer, Ends, IsWanting, Stays, Tries, Writes, is_unwritten}
 use Rattle.node_history.specs.declared.entry.Entry.{Entry}
 use Rattle.node_history.specs.declared.history.History.{History}
-use Rattle.node_plans.specs.Planned.{IsRefused}
-use Rattle.world_events.specs.declared.event.NodeEvent.{NodeEvent}
+use Rattle.node_plan.specs.Planned.{IsRefused}
+use Rattle.world_core.specs.declared.node_event.NodeEvent.{NodeEvent}
 
 refuses : (due : Outcome) (e : Refusal) → IsRefused due e → is_unwritten (Err e) ≡ false → due ≡ Refuses e
 refuses due e (inl h) w = h

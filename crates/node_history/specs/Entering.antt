@@ -5,11 +5,11 @@ use Rattle.dist_model.specs.Commands.{Outcome, Refuses}
 use Rattle.dist_model.specs.Node.{Node}
 use Rattle.dist_model.specs.declared.report.Report.{Report}
 use Rattle.erl_term.specs.declared.refusal.Refusal.{Refusal}
-use Rattle.node_events.specs.Done.{Did}
+use Rattle.node_core.specs.Done.{Did}
 use Rattle.node_core.specs.Model.{model_of}
 use Rattle.node_history.specs.declared.history.History.{History}
 use Rattle.node_frames.specs.Frames.{Framed}
-use Rattle.world_events.specs.declared.event.NodeEvent.{NodeEvent}
+use Rattle.world_core.specs.declared.node_event.NodeEvent.{NodeEvent}
 
 abbrev pub Answer : Type 0
 Answer = Result (Report Framed) Refusal

@@ -9,9 +9,9 @@ use Rattle.dist_model.specs.Sides as state
 use Rattle.dist_model.specs.Sides.{State, TrunkSide}
 use Rattle.dist_model.specs.declared.report.Kind.{Kind}
 use Rattle.erl_names.specs.declared.trunk.TrunkId.{TrunkId}
-use Rattle.item_kinds.specs.Kinds.{kind_in}
-use Rattle.node_arrivals.specs.Fronts.{IsWhole}
-use Rattle.node_events.specs.Arrived.{is_undialed}
+use Rattle.node_frames.specs.Kinds.{kind_in}
+use Rattle.node_connections.specs.Fronts.{IsWhole}
+use Rattle.node_core.specs.Arrived.{is_undialed}
 use Rattle.node_frames.specs.Frames.{IsSpelled, bytes_of}
 
 abbrev pub is_message : Option Kind → Bool

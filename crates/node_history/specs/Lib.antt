@@ -1,3 +1,5 @@
+pub mod Tails
+pub mod Said
 pub mod Entering
 pub mod Kinds
 pub mod Acts

@@ -3,14 +3,14 @@ use Rattle.std.specs.Prelude.{◌≡◌, ℕ, Option, None, Some, List, [], Resu
 use Rattle.dist_model.specs.Commands.{Outcome}
 use Rattle.dist_model.specs.Node.{Node}
 use Rattle.erl_term.specs.declared.refusal.Refusal.{Refusal}
-use Rattle.node_events.specs.Done.{Does}
+use Rattle.node_core.specs.Done.{Does}
 use Rattle.node_history.specs.Entering.{Answer}
 use Rattle.node_history.specs.declared.acts.Twice.{Twice}
 use Rattle.node_history.specs.declared.entry.Entry.{Entry}
 use Rattle.node_history.specs.declared.entry.Told.{Told}
 use Rattle.node_history.specs.Spares.{filled}
 use Rattle.node_history.specs.declared.spare.Spare.{Spare}
-use Rattle.same_events.specs.Said.{said}
+use Rattle.node_history.specs.Said.{said}
 
 abbrev pub placed : Result Told Refusal → Result ℕ Refusal
 placed (Ok told) = Ok told.place

@@ -9,8 +9,8 @@ ghost use Rattle.node_history.specs.Acts.{Knows, is_act};
 ghost use Rattle.node_history.specs.Entering.{Tries};
 ghost use Rattle.node_history.specs.Spares.{Fills};
 ghost use Rattle.node_history.specs.Telling.{IsPlainCopy, IsTold, IsTwice, placed};
-ghost use Rattle.node_plans.specs.Planned.{Plans};
-ghost use Rattle.world_events.specs.Events.{met};
+ghost use Rattle.node_plan.specs.Planned.{Plans};
+ghost use Rattle.world_core.specs.Events.{met};
 
 use crate::copying::{copied, copied_effects};
 use crate::entry::{Answered, Told};
@@ -20,9 +20,9 @@ use dist_model::Report;
 use erl_term::Refusal;
 use node_core::{Node, Planned};
 use std::alloc::{AllocError, Global};
-use world_events::NodeEvent;
+use world_core::NodeEvent;
 
-/// Whether an event is what a caller has asked for: a command, a dial, a loss, a stop or a start. All
+/// Returns true if a caller has asked for the event: a command, a dial, a loss, a stop or a start. All
 /// else is the doing of the node's thread.
 pub fn is_act(event: &NodeEvent) -> bool
     ensures { result ≡ is_act event.now }

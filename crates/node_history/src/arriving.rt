@@ -4,13 +4,13 @@ ghost use Rattle.dist_model.specs.Items.{Item};
 ghost use Rattle.dist_model.specs.Names.{Name};
 ghost use Rattle.dist_model.specs.NodeEvents as model;
 ghost use Rattle.dist_model.specs.NodeEvents.{at_node};
-ghost use Rattle.node_events.specs.Done.{Does};
+ghost use Rattle.node_core.specs.Done.{Does};
 ghost use Rattle.node_core.specs.Model.{model_of};
 ghost use Rattle.node_history.specs.Entering.{Tries};
 ghost use Rattle.node_frames.specs.Frames.{bytes_of};
 ghost use Rattle.readers.specs.Reading.{AreBytes};
-ghost use Rattle.world_events.specs.Coming.{CanCome};
-ghost use Rattle.world_events.specs.declared.event.NodeEvent.TheVariants as event;
+ghost use Rattle.world_core.specs.ComingToANode.{CanCome};
+ghost use Rattle.world_core.specs.declared.node_event.NodeEvent.TheVariants as event;
 
 use crate::entry::Answered;
 use crate::history::History;
@@ -18,7 +18,7 @@ use erl_names::TrunkId;
 use erl_term::Refusal;
 use node_core::{Arrived, Node};
 use std::alloc::Global;
-use world_events::NodeEvent;
+use world_core::NodeEvent;
 
 /// Does nothing.
 pub(crate) fn are_bytes(bytes: &[u8])

@@ -7,7 +7,7 @@ use erl_names::TrunkId;
 use erl_term::{Payload, Pid};
 use node_frames::Frame;
 use std::alloc::{AllocError, Global};
-use world_events::NodeEvent;
+use world_core::NodeEvent;
 
 // Copies of two processes.
 fn two(first: &Pid, second: &Pid) -> Result<(Pid, Pid), AllocError>

@@ -3,12 +3,12 @@
 use dist_model::Report;
 use erl_term::Refusal;
 use node_frames::Frame;
-use world_events::NodeEvent;
+use world_core::NodeEvent;
 
-/// What a node answers to an event: its report, or why it refuses.
+/// The answer of a node to an event: its report, or its refusal.
 pub type Answered = Result<Report<Frame>, Refusal>;
 
-/// What is kept of an event at a node.
+/// The entry of an event at a node.
 #[derive(Debug, Drop)]
 pub struct Entry {
     /// When it was, from 1 up: later events of a node have higher stamps, and an item that comes was
@@ -20,7 +20,7 @@ pub struct Entry {
     pub answer: Answered,
 }
 
-/// What a caller is told of what it has asked for.
+/// The reply to a caller.
 #[derive(Debug, Drop)]
 pub struct Told {
     /// The place of the entry in the history, from 0.

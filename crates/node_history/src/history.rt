@@ -7,7 +7,7 @@ use crate::entry::{Answered, Entry};
 use erl_term::Refusal;
 use node_core::Node;
 use std::alloc::Global;
-use world_events::NodeEvent;
+use world_core::NodeEvent;
 
 /// A node, and the history of what has happened at it. Contracts see the node, the stamp of its last
 /// event (0 before the first), and the entries, the first event first.

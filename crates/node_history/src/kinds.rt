@@ -4,17 +4,16 @@ ghost use Rattle.std.specs.Option.{option_copied, option_map};
 ghost use Rattle.node_core.specs.Model.{model_of};
 ghost use Rattle.node_history.specs.Kinds.{ReadIsWhole, comes_here, is_for_acceptor, is_for_dialer, is_message, reads_kind, reads_kind_at};
 ghost use Rattle.conn_core.specs.declared.standing.Standing.TheVariants as standing;
-ghost use Rattle.node_events.specs.Arrived.{is_undialed};
-ghost use Rattle.node_sides.specs.Standings.{side_of, state_of};
+ghost use Rattle.node_core.specs.Arrived.{is_undialed};
+ghost use Rattle.node_tables.specs.Standings.{side_of, state_of};
 
 use crate::arriving::are_bytes;
 use conn_core::{Side, Standing};
 use dist_model::Kind;
 use erl_handshake::{AcceptorState, DialerState};
 use erl_names::TrunkId;
-use item_kinds::kind_in;
 use node_core::Node;
-use node_frames::same_name;
+use node_frames::{kind_in, same_name};
 
 // Whether it is a message of the handshake, and no frame.
 fn is_message(kind: Option<Kind>) -> bool
@@ -113,9 +112,9 @@ fn is_dialed(node: &Node, trunk: &TrunkId, side: Option<&Side>) -> bool
     }
 }
 
-/// Whether an item of these bytes, sent on a connection, is read by the node, or refused by it
-/// whatever it is. Takes no memory. (ERTS User's Guide, Distribution Protocol, Distribution Handshake
-/// and Protocol between Connected Nodes.)
+/// Returns true if the node reads an item of these bytes, sent on a connection, or refuses it whatever
+/// it is. Takes no memory. (ERTS User's Guide, Distribution Protocol, Distribution Handshake and
+/// Protocol between Connected Nodes.)
 pub fn is_read(node: &Node, trunk: &TrunkId, bytes: &[u8]) -> bool
     ensures { result ≡ comes_here (model_of node.now) trunk.now bytes.now }
 {

@@ -12,7 +12,7 @@ ghost use Rattle.erl_term.specs.declared.refusal.Refusal.TheVariants as refusal;
 ghost use Rattle.node_core.specs.Model.{model_of};
 ghost use Rattle.node_history.specs.Spares.{AreLinksFor, AreLinksOf, Fills, filled, message_for, message_of};
 ghost use Rattle.node_history.specs.Acts.{is_act};
-ghost use Rattle.world_events.specs.Events.{met};
+ghost use Rattle.world_core.specs.Events.{met};
 
 use dist_model::{Answer, Command, Links};
 use erl_names::{NodeName, TrunkId};
@@ -20,7 +20,7 @@ use erl_term::{Atom, Payload, Pid, Reference, ReferenceWords, Refusal};
 use node_core::Node;
 use node_tables::Life;
 use std::alloc::{AllocError, Global};
-use world_events::NodeEvent;
+use world_core::NodeEvent;
 
 /// What of a node's answer to an act takes memory: the name of the node, the message that a process
 /// takes, and its links.

@@ -3,11 +3,11 @@ use Rattle.std.proofs.Common.{◌≡◌, ℕ, ◌<◌, ◌≤◌, ◌^◌, ◌+�
 use Rattle.std.proofs.lemmas.Option.{slice_get_within}
 use Rattle.std.specs.Prelude.{IsTrue, ◌↔◌}
 use Rattle.erl_term.specs.declared.refusal.Refusal.{Refusal}
-use Rattle.node_book.specs.Applying.{IsComing}
-use Rattle.node_book.specs.Books.{Applies, IsUnapplied}
-use Rattle.node_book.specs.Seen.{BookSeen}
-use Rattle.node_book.proofs.KeptByEvents.{slice_last}
-use Rattle.node_book.specs.declared.outlet.Outlet.{Outlet}
+use Rattle.node_lock.specs.Applying.{IsComing}
+use Rattle.node_lock.specs.Books.{Applies, IsUnapplied}
+use Rattle.node_lock.specs.Seen.{BookSeen}
+use Rattle.node_lock.proofs.KeptByEvents.{slice_last}
+use Rattle.node_lock.specs.declared.outlet.Outlet.{Outlet}
 use Rattle.node_history.specs.Acts.{is_act}
 use Rattle.node_history.specs.Entering.{IsWanting}
 use Rattle.node_history.specs.Telling.{Answers, IsTold}
@@ -20,8 +20,8 @@ use Rattle.node_lock.specs.declared.act.Act.{Act}
 use Rattle.node_lock.specs.declared.act.Act.TheVariants as asking
 use Rattle.node_lock.specs.declared.seat.Asked.{Asked}
 use Rattle.node_lock.specs.declared.seat.Seat.{Seat}
-use Rattle.same_events.specs.Said.{said}
-use Rattle.world_events.specs.declared.event.NodeEvent.{NodeEvent}
+use Rattle.node_history.specs.Said.{said}
+use Rattle.world_core.specs.declared.node_event.NodeEvent.{NodeEvent}
 
 -- the entry that was added
 there : (what : NodeEvent) (book next : BookSeen) (place : ℕ) (a : Applies what book next place)
@@ -49,7 +49,7 @@ idle asking.Start outlets = (refl, refl)
 -- the new entry is behind that of the last receipt, which stands in the book
 module _ (entries : List Entry) (last stamp : ℕ) (rise : (k : ℕ) (entry : Entry) → slice_get entries k ≡ Some entry → entry.stamp ≤ last)
     (above : last < stamp) (asked : Asked) (position : asked.receipt.position ≡ length entries) (is : asked.receipt.stamp ≡ stamp) where
-  is_behind : (before : Option Asked) → LastIsEntered before entries → IsBehind before asked
+  pub is_behind : (before : Option Asked) → LastIsEntered before entries → IsBehind before asked
   is_behind None h = tt
   is_behind (Some before) h = go (slice_get entries before.receipt.position) refl h
     where
@@ -67,6 +67,15 @@ module _ (act : Act) (book : BookSeen) (seat : Seat) where
       (applies : Applies what book next told.place) where
     stamp : asked.receipt.stamp ≡ stamp_at next.history.entries.items told.place → asked.receipt.stamp ≡ next.history.last
     stamp h = h ∙ ap stamp_in (there what book next told.place applies)
+
+    pub behind : ((k : ℕ) (entry : Entry) → slice_get book.history.entries.items k ≡ Some entry → entry.stamp ≤ book.history.last)
+        → asked.receipt.position ≡ told.place → asked.receipt.stamp ≡ stamp_at next.history.entries.items told.place
+        → mid ≡ seat.receipts.items → IsBehind (last_of mid) asked
+    behind rise p s m =
+        let last = is_behind book.history.entries.items book.history.last next.history.last rise
+        (let grown = applies.enters.stamp in omega (arith, grown)) asked (p ∙ applies.place_is) (stamp s)
+        (last_of seat.receipts.items) home.1 in
+        subst (λ (l : List Asked). IsBehind (last_of l) asked) (sym m) last
 
     stands : IsTold next.history.entries.items told → is_act what ≡ true → asked.event ≡ what
         → asked.receipt.stamp ≡ next.history.last → asked.receipt.answer ≡ told.answer

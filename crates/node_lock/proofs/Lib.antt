@@ -1,1 +1,17 @@
+pub mod Ways
+pub mod Places
+pub mod Counted
+pub mod OneEntryMore
+pub mod PutAtOutlet
+pub mod Pieces
+pub mod BetweenEntries
+pub mod ItemTaken
+pub mod Dialed
+pub mod OutletMoves
+pub mod KeptByEvents
+pub mod BookedCalls
+pub mod ResultsTold
+pub mod EntryPlaces
+pub mod StampsRise
 pub mod Called
+pub mod Rising

@@ -1,8 +1,8 @@
 -- The additions of a call to a book and to a seat.
 use Rattle.std.specs.Prelude.{◌≡◌, ◌⊎◌, ℕ, Option, None, Some, List, [], ◌∷◌, ◌++◌, length, slice_get}
 use Rattle.erl_term.specs.declared.refusal.Refusal.{Refusal}
-use Rattle.node_book.specs.Books.{Applies, IsSameNode, IsUnapplied}
-use Rattle.node_book.specs.Seen.{BookSeen}
+use Rattle.node_lock.specs.Books.{Applies, IsSameNode, IsUnapplied}
+use Rattle.node_lock.specs.Seen.{BookSeen}
 use Rattle.node_history.specs.Entering.{Stays}
 use Rattle.node_history.specs.declared.entry.Entry.{Entry}
 use Rattle.node_lock.specs.Acts.{event_of}

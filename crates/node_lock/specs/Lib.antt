@@ -1,3 +1,11 @@
+pub mod Waiting
+pub mod Standing
+pub mod Feeding
+pub mod Passing
+pub mod Answers
+pub mod Applying
+pub mod Seen
+pub mod Books
 pub mod Acts
 pub mod Seats
 pub mod Calling

@@ -5,9 +5,9 @@ ghost use Rattle.node_history.specs.Acts.{is_act};
 
 use dist_model::Command;
 use erl_names::{NodeName, TrunkId};
-use world_events::NodeEvent;
+use world_core::NodeEvent;
 
-/// What a caller may ask of a node. All else that happens there is the doing of its thread.
+/// A request of a caller to a node. All else that happens there is the doing of its thread.
 #[derive(Debug, Drop)]
 pub enum Act {
     /// A command. (Reference Manual, Processes.)

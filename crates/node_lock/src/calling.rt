@@ -3,9 +3,9 @@ ghost use Rattle.std.specs.Prelude.{◌≡◌, ◌↔◌, IfErr, IfOk, IsTrue};
 ghost use Rattle.node_lock.specs.Calling.{Calls, IsAtHome, IsUncalled, stamp_at};
 
 use crate::act::Act;
+use crate::book::Book;
 use crate::seat::{Asked, Receipt, Seat, last_stands};
 use erl_term::Refusal;
-use node_book::Book;
 use node_history::copied_event;
 use std::alloc::Global;
 
@@ -23,7 +23,7 @@ fn stamp_at(book: &Book, place: usize) -> u64
 fn is_at_home(book: &Book, seat: &Seat) -> bool
     ensures { IsTrue result ↔ IsAtHome book.now seat.now }
 {
-    seat.node == book.place() && last_stands(&seat.receipts, book.entries())
+    seat.node == book.place() && last_stands(seat.receipts.as_slice(), book.entries())
 }
 
 /// Runs `act` at the node of `book`, records it there, and appends the act with its receipt to
@@ -46,7 +46,7 @@ pub fn call(alloc: Global, book: &mut Book, seat: &mut Seat, act: Act) -> Result
         drop(act);
         return Err(Refusal::IdsUsedUp);
     }
-    if seat.receipts.reserve(1).is_err() {
+    if seat.receipts.reserve().is_err() {
         drop(act);
         return Err(Refusal::OutOfMemory);
     }
@@ -71,8 +71,8 @@ pub fn call(alloc: Global, book: &mut Book, seat: &mut Seat, act: Act) -> Result
         stamp: stamp_at(book, told.place),
         answer: told.answer,
     };
-    let place = seat.receipts.len();
-    seat.receipts.push_reserved(Asked {
+    let place = seat.receipts.as_slice().len();
+    seat.receipts.push(Asked {
         event: kept,
         receipt,
     });

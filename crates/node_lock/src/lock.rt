@@ -3,10 +3,10 @@ ghost use Rattle.std.specs.Prelude.{◌≡◌, IfErr, IfOk, []};
 ghost use Rattle.node_lock.specs.Calling.{Asks, IsSameSeat};
 
 use crate::act::Act;
+use crate::book::Book;
 use crate::calling::call;
 use crate::seat::Seat;
 use erl_term::Refusal;
-use node_book::Book;
 use std::alloc::Global;
 use std::sync::{Mutex, MutexGuard, Wait};
 
@@ -56,7 +56,7 @@ impl NodeLock {
         Seat::new(alloc, self.place)
     }
 
-    /// What a caller asks for, in the book as it then is. The place of its receipt among the seat's is
+    /// Does the act of a caller in the book as it then is. The place of its receipt among the seat's is
     /// told.
     ///
     /// # Errors

@@ -1,14 +1,14 @@
-//! Who calls a node, and the receipts of what was asked for.
-ghost use Rattle.std.specs.Prelude.{◌≡◌, ◌↔◌, IsTrue, []};
+//! The callers of a node, and the receipts of their acts.
+ghost use Rattle.std.specs.Prelude.{◌≡◌, ◌↔◌, ◌≤◌, ◌++◌, ◌∷◌, IsTrue, OnOk, []};
 ghost use Rattle.std.specs.Option.{option_copied};
-ghost use Rattle.node_lock.specs.Seats.{IsEnteredAs, LastIsEntered, last_of};
+ghost use Rattle.node_lock.specs.Seats.{IsBehind, IsEnteredAs, LastIsEntered, Rise, last_of};
 
-use node_history::{Answered, Entry, is_act};
-use same_events::{is_same_answer, is_same_event};
-use std::alloc::Global;
-use world_events::NodeEvent;
+use node_history::{Answered, Entry, is_act, is_same_answer, is_same_event};
+use std::alloc::{AllocError, Global};
+use std::marker::Model;
+use world_core::NodeEvent;
 
-/// Where the entry of what a caller has asked for stands, and what the node answered.
+/// The place of an act's entry, and the node's answer.
 #[derive(Debug, Drop)]
 pub struct Receipt {
     /// The place of the node among all nodes, from 0.
@@ -17,11 +17,11 @@ pub struct Receipt {
     pub position: usize,
     /// The stamp of the entry, from 1.
     pub stamp: u64,
-    /// What the node answered.
+    /// The node's answer.
     pub answer: Answered,
 }
 
-/// What a caller has asked for, beside its receipt.
+/// An act of a caller, beside its receipt.
 #[derive(Debug, Drop)]
 pub struct Asked {
     /// The act, as the event at the node.
@@ -30,49 +30,113 @@ pub struct Asked {
     pub receipt: Receipt,
 }
 
-/// A caller of one node: the place of the node among all nodes, and all that was asked for with the
-/// receipts, the first one first.
+/// The receipts of a seat, the first one first. The type keeps that each is behind the one before it:
+/// its entry has a greater place in the history of the node, and a greater stamp. Contracts see them,
+/// and the room: the number of receipts that can come without memory.
+#[derive(Drop)]
+pub struct Receipts {
+    asked: Vec<Asked>,
+}
+
+impl Model for Receipts {
+    ghost use Rattle.std.specs.Prelude.{◌-◌};
+    ghost use Rattle.std.specs.Vec.{vec_capacity, vec_len};
+    ghost use Rattle.node_lock.specs.Seats.{ReceiptsSeen, receipts_code};
+    ghost use Rattle.node_lock.specs.contracts.seat.Asked as an_asked;
+
+    ghost Value = { ReceiptsSeen };
+
+    ghost coded = { receipts_code an_asked.the_row.coded };
+
+    ghost view = { λ r. record { items = r.asked.items; room = vec_capacity r.asked - vec_len r.asked } };
+
+    ghost use Rattle.node_lock.specs.Seats.{Rise};
+
+    ghost invariant = { λ r. Rise r.asked.items };
+}
+
+impl Receipts {
+    // No receipts. Allocates nothing.
+    fn new(alloc: Global) -> Receipts
+        ensures { result.items ≡ [] }
+    {
+        Receipts {
+            asked: Vec::new(alloc),
+        }
+    }
+
+    /// Reserves capacity for one receipt more.
+    ///
+    /// # Errors
+    /// Out of memory. On error nothing changes.
+    pub(crate) fn reserve(&mut self) -> Result<(), AllocError>
+        ensures items { self.new.items ≡ self.old.items }
+        ensures room { OnOk result (1 ≤ self.new.room) }
+    {
+        self.asked.reserve(1)
+    }
+
+    /// Appends a receipt that is behind the last one.
+    pub(crate) fn push(&mut self, asked: Asked)
+        requires room { 1 ≤ self.old.room }
+        requires behind { IsBehind (last_of self.old.items) asked }
+        ensures { self.new.items ≡ self.old.items ++ asked ∷ [] }
+    {
+        self.asked.push_reserved(asked);
+    }
+
+    pub(crate) fn as_slice(&self) -> &[Asked]
+        ensures items { result.now ≡ self.now.items }
+        ensures rise { Rise result.now }
+    {
+        self.asked.as_slice()
+    }
+}
+
+/// A caller of one node: the place of the node among all nodes, and its receipts.
 #[derive(Drop)]
 pub struct Seat {
     pub(crate) node: usize,
-    pub(crate) receipts: Vec<Asked>,
+    pub(crate) receipts: Receipts,
 }
 
 impl Seat {
-    /// A seat at the node of that place, from which nothing was asked for yet. Takes no memory.
+    /// Returns a seat at the node of a place, without receipts. Allocates nothing.
     pub fn new(alloc: Global, node: usize) -> Seat
         ensures node { result.node ≡ node }
         ensures receipts { result.receipts.items ≡ [] }
     {
         Seat {
             node,
-            receipts: Vec::new(alloc),
+            receipts: Receipts::new(alloc),
         }
     }
 
-    /// The place of the node.
+    /// Returns the place of the node.
     pub fn node(&self) -> usize
         ensures { result ≡ self.now.node }
     {
         self.node
     }
 
-    /// What was asked for, with the receipts, the first one first.
+    /// Returns the receipts with their acts, the first one first. Each is behind the one before it in
+    /// place and stamp.
     pub fn receipts(&self) -> &[Asked]
-        ensures { result.now ≡ self.now.receipts.items }
+        ensures items { result.now ≡ self.now.receipts.items }
+        ensures rise { Rise result.now }
     {
         self.receipts.as_slice()
     }
 
-    /// What was asked for last, with its receipt.
+    /// Returns the last receipt with its act.
     pub fn last(&self) -> Option<&Asked>
         ensures { option_copied result ≡ last_of self.now.receipts.items }
     {
-        self.receipts.last()
+        self.receipts.as_slice().last()
     }
 }
 
-/// Whether an entry is what a receipt is of: it has its stamp, its act's event and its answer.
+/// Returns true if an entry is that of a receipt: it has its stamp, its act's event and its answer.
 pub fn stands_as(asked: &Asked, entry: Option<&Entry>) -> bool
     ensures { IsTrue result ↔ IsEnteredAs asked.now (option_copied entry.entry) }
 {
@@ -87,7 +151,7 @@ pub fn stands_as(asked: &Asked, entry: Option<&Entry>) -> bool
     }
 }
 
-/// Whether the last receipt of a seat stands at its place in a history.
+/// Returns true if the last receipt of a seat stands at its place in a history.
 pub(crate) fn last_stands(receipts: &[Asked], entries: &[Entry]) -> bool
     ensures { IsTrue result ↔ LastIsEntered (last_of receipts.now) entries.now }
 {

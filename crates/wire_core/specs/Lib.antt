@@ -5,3 +5,7 @@ pub mod Fronts
 pub mod Passing
 pub mod Ends
 pub mod Gathering
+pub mod Ports
+pub mod Fetching
+pub mod Streams
+pub mod Standing

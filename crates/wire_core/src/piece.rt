@@ -7,8 +7,8 @@ use std::marker::Model;
 /// The most bytes of a piece.
 pub const LONGEST: usize = 512;
 
-/// What travels on a wire: from 1 to 512 bytes of what a node sends to its peer, all of one event, whose
-/// stamp it has. An item may be cut anywhere. Contracts see the stamp and the bytes.
+/// A piece on a wire: 1 to 512 bytes that a node sends to its peer, all of one event, whose stamp it
+/// has. An item may be cut anywhere. Contracts see the stamp and the bytes.
 #[derive(Drop)]
 pub struct Piece {
     stamp: u64,

@@ -5,7 +5,8 @@ use crossbeam_queue::protocol::{Join, Lesson, Outcome, Protocol, Split};
 use crossbeam_queue::{Pass, RuledArrayQueue};
 use std::collections::LinkedList;
 
-/// Whether a pass may put and take, what it has put, and what it has taken. No value of it is made.
+/// The rights of a pass to put and to take, and the pieces that it has put and taken. No value of it is
+/// made.
 pub struct View {
     pub puts: bool,
     pub takes: bool,

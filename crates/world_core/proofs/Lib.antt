@@ -1,3 +1,11 @@
+pub mod Entries
+pub mod Lines
+pub mod More
+pub mod Nodes
+pub mod Fronts
+pub mod Planned
+pub mod Carried
+pub mod StaysOver
 pub mod LeastArrival
 pub mod Happened
 pub mod Named

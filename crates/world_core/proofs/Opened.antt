@@ -15,11 +15,12 @@ use Rattle.erl_names.specs.Name.{IsNodeName}
 use Rattle.erl_names.specs.declared.trunk.TrunkId.{TrunkId}
 use Rattle.node_core.specs.Model.{model_of}
 use Rattle.node_core.specs.declared.node.Node.{Node}
-use Rattle.node_frames.specs.Frames.{framed}
+use Rattle.world_core.proofs.Carried.{none_left_out, same_frames}
+use Rattle.world_core.specs.Coming.{is_taken}
 use Rattle.world_core.specs.Names.{are_distinct, name_of, names_of}
 use Rattle.world_core.specs.Stands.{AreSpelled, StandsFor}
 use Rattle.world_core.specs.declared.world.World.{World}
-use Rattle.world_lists.specs.Lists.{at}
+use Rattle.world_core.specs.Lists.{at}
 use Rattle.dist_model.proofs.Keys.{name_turned}
 
 abbrev Named : Type 0
@@ -77,7 +78,8 @@ opens w nodes made none named distinct = record {
   names = sym (names_made w.nodes.items nodes made);
   distinct = ap (λ b. not b && are_distinct (map name_in nodes)) named ∙ distinct;
   nodes = sym made;
-  lists = λ t x. ap (λ ls. at ls t x) none ∙ ap (map framed) (sym (nothing_on t x));
+  lists = λ t x.
+      record { left_out = []; kept = []; parts = nothing_on t x; are = ap (λ ls. at ls t x) none; whole = λ i. refl };
   spelled = λ t x. subst AreSpelled (sym (nothing_on t x)) tt;
   reached = record { nodes = nodes; events = []; reports = []; runs = refl };
 }
@@ -120,7 +122,9 @@ joins w new nodes node name cookie h items lists model free form =
       distinct = ap (λ (ns : List Name). are_distinct ([] ∷ ns)) (map-append name_in nodes one)
           ∙ more_distinct ([] ∷ map name_in nodes) name h.distinct (λ i. not_empty name form i || (ap (has_name name) h.names ∙ free) i);
       nodes = sym made;
-      lists = λ t x. ap (λ ls. at ls t x) lists ∙ h.lists t x;
+      lists = λ t x.
+          none_left_out (is_taken (opening nodes) t x) (is_taken (opening (nodes ++ one)) t x) (at w.lists t x) (at new.lists t x)
+          (list_to fm.empty t x) (list_to fm.empty t x) (nothing_on t x) (nothing_on t x) (ap (λ ls. at ls t x) lists) (h.lists t x);
       spelled = h.spelled;
       reached = record { nodes = nodes ++ one; events = []; reports = []; runs = refl };
     }
@@ -132,7 +136,8 @@ stays w new m h items lists = record {
   names = h.names ∙ ap names_of (sym items);
   distinct = h.distinct;
   nodes = h.nodes ∙ ap (map model_of) (sym items);
-  lists = λ t x. ap (λ ls. at ls t x) lists ∙ h.lists t x;
+  lists = λ t x.
+      same_frames (is_taken m t x) (at w.lists t x) (at new.lists t x) (list_to m.lists t x) (ap (λ ls. at ls t x) lists) (h.lists t x);
   spelled = h.spelled;
   reached = h.reached;
 }

@@ -15,11 +15,11 @@ use Rattle.dist_model.specs.Sides as state
 use Rattle.dist_model.specs.Sides.{State, TrunkSide}
 use Rattle.dist_model.specs.World.{Event, Report, World, list_to, node_of}
 use Rattle.erl_names.specs.declared.trunk.TrunkId.{TrunkId}
-use Rattle.node_events.specs.Arrived.{is_undialed}
+use Rattle.node_core.specs.Arrived.{is_undialed}
 use Rattle.world_core.specs.Stands.{AreSpelled, IsReached}
-use Rattle.world_events.specs.Coming.{CanCome, reads, reads_at}
+use Rattle.world_core.specs.ComingToANode.{CanCome, reads, reads_at}
 
-reached_good : (m : World) → IsReached m → Good m
+pub reached_good : (m : World) → IsReached m → Good m
 reached_good m h = always (λ w. Good w) good_opening (λ w g. g) h.nodes h.events h.reports m h.runs
 
 reads_due : (dials : Bool) (st : State) (item : Item) → role_state dials st ≡ true → due_in dials st item ≡ true → reads st item ≡ true

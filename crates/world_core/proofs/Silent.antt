@@ -1,6 +1,7 @@
 -- Where nothing travels between two processes: the frames say what the items say, and one connection at most is up.
 use Rattle.std.proofs.Common.{◌≡◌, ◌&&◌, ◌||◌, Bool, true, false, not, List, [], ◌∷◌, map, Option, None, Some, T, refl, sym, ap, ◌∙◌}
 use Rattle.std.proofs.lemmas.Bool.{and_parts}
+use Rattle.std.proofs.lemmas.Option.{none-some, same_Some}
 use Rattle.std.specs.FinMap as fm
 use Rattle.std.specs.FinMap.{find, is_sorted}
 use Rattle.std.specs.Option.{is_some, option_map}
@@ -11,7 +12,7 @@ use Rattle.dist_model.specs.Keeping.{Steady}
 use Rattle.dist_model.specs.Names.{Name, same_name, same_pid}
 use Rattle.dist_model.specs.Node.{Node, first_where, route_in, side_where}
 use Rattle.dist_model.specs.Quiet.{is_quiet_on, is_signal_of, names_sender, is_up_to, nothing_between}
-use Rattle.dist_model.specs.Sides.{TrunkSide, is_up}
+use Rattle.dist_model.specs.Sides.{State, TrunkSide, Up, is_over, is_up}
 use Rattle.dist_model.specs.Seen.{seen, side_of_trunk}
 use Rattle.dist_model.specs.World as model
 use Rattle.dist_model.specs.World.{list_to, node_of}
@@ -21,10 +22,12 @@ use Rattle.erl_names.specs.declared.trunk.TrunkId.{TrunkId}
 use Rattle.erl_term.specs.declared.term.Pid.{Pid}
 use Rattle.node_frames.specs.Frames.{between_of, framed, named}
 use Rattle.sorted_map.specs.First.{first_held, first_none, first_passes}
+use Rattle.world_core.proofs.Carried.{all_frames}
+use Rattle.world_core.specs.Coming.{is_taken, takes}
 use Rattle.world_core.specs.Quiet.{is_quiet_there}
 use Rattle.world_core.specs.Stands.{StandsFor}
 use Rattle.world_core.specs.declared.world.World.{World}
-use Rattle.world_lists.specs.Lists as frames
+use Rattle.world_core.specs.Lists as frames
 use Rattle.dist_model.proofs.Sides.{up_engaged}
 
 -- ---- frames
@@ -113,11 +116,35 @@ module _ (m : model.World) (p q : Pid) (node : Node) (steady : Steady node) (sor
           some_at up (first_where (is_quiet_on m p q) entries) refl e
           ∙ ap test (sym (ap (option_map (λ (x : TrunkId × TrunkSide). x.0)) e) ∙ r)
 
+-- ---- a side that is up takes what comes
+
+up_takes : (state : State) → is_up state ≡ true → not (is_over state) ≡ true
+up_takes Up h = refl
+up_takes _ h = cc
+
+pub up_taken : (y : Name) (side : Option TrunkSide) → is_up_to y side ≡ true → takes side ≡ true
+up_taken y None h = refl
+up_taken y (Some side) h = up_takes side.state (and_parts (same_name side.peer y) (is_up side.state) h).1
+
+pub route_taken : (node : Node) (y : Name) (t : TrunkId) → route_in (fm.entries node.sides) y ≡ Some t → takes (fm.get node.sides t) ≡ true
+route_taken node y t h = go (side_where is_up y (fm.entries node.sides)) refl h
+  where
+    go : (o : Option (TrunkId × TrunkSide)) → side_where is_up y (fm.entries node.sides) ≡ o
+        → option_map (λ (x : TrunkId × TrunkSide). x.0) o ≡ Some t
+        → takes (fm.get node.sides t) ≡ true
+    go None e i = absurd (none-some t i)
+    go (Some up) e i =
+        let f = side_where_found is_up y (fm.entries node.sides) up (fm.entries_sorted node.sides) e in
+        ap (λ u. takes (fm.get node.sides u)) (sym (same_Some up.0 t i))
+        ∙ ap takes (fm.get-entries node.sides up.0 ∙ f.there) ∙ up_takes up.1.state f.passes
+
 -- ---- what the frames of a world of code say
 
 module _ (w : World) (m : model.World) (h : StandsFor w m) (p q : Pid) where
-  pub on_list : (t : TrunkId) (x : Name) → frames.nothing_between p q (frames.at w.lists t x) ≡ nothing_between p q (list_to m.lists t x)
-  on_list t x = ap (frames.nothing_between p q) (h.lists t x) ∙ frames_between p q (list_to m.lists t x)
+  pub on_list : (t : TrunkId) (x : Name) → is_taken m t x ≡ true → frames.nothing_between p q (frames.at w.lists t x) ≡ nothing_between p q (list_to m.lists t x)
+  on_list t x k =
+      ap (frames.nothing_between p q) (all_frames (is_taken m t x) (frames.at w.lists t x) (list_to m.lists t x) (h.lists t x) k)
+      ∙ frames_between p q (list_to m.lists t x)
 
 pub side_there : (m : model.World) (y : Name) (t : TrunkId) (found : Option Node) (is : found ≡ node_of m.nodes y)
     → side_of_trunk m y t ≡ seen found None (λ node. fm.get node.sides t)

@@ -3,22 +3,28 @@ use Rattle.std.proofs.Common.{◌≡◌, ◌<◌, ◌≤◌, ◌&&◌, ℕ, Bool
 use Rattle.std.proofs.Common.{Option, None, Some, Ok, Err, refl, sym, ap, subst, ◌∙◌, slice_set, slice_index_or, inl, inr}
 use Rattle.std.specs.FinMap as fm
 use Rattle.std.specs.FinMap.{FinMap}
+use Rattle.std.specs.Ordering.{eq_by_cmp}
 use Rattle.std.proofs.lemmas.List.{map-append}
-use Rattle.std.proofs.lemmas.Bool.{and_parts, not-true}
+use Rattle.std.proofs.lemmas.Bool.{and_parts, both_ways, not-false, not-true}
 use Rattle.dist_model.proofs.Envelopes.{sent_in}
-use Rattle.dist_model.proofs.Keys.{same_name_true, same_place, same_trunk, same_trunk_true}
-use Rattle.dist_model.proofs.Routes.{at_place, list_to_carried, list_to_insert}
-use Rattle.dist_model.specs.Arrivals.{arrive}
+use Rattle.dist_model.proofs.Calls.{by_test}
+use Rattle.dist_model.proofs.KeepBearings.{bearings_kept, if_accepted}
+use Rattle.dist_model.proofs.Keys.{same_name_is, same_name_true, same_place, same_trunk, same_trunk_true}
+use Rattle.dist_model.proofs.Routes.{at_place, list_to_carried, list_to_insert, node_of_set_other, node_of_set_same}
+use Rattle.dist_model.specs.Arrivals.{arrive, arrive_first}
 use Rattle.dist_model.specs.Commands.{Accepts, Outcome, Refuses}
 use Rattle.dist_model.specs.Dialing.{has_name}
 use Rattle.dist_model.specs.Items.{Item}
+use Rattle.dist_model.specs.Keeping.{Bearings, CountsOwn}
 use Rattle.dist_model.specs.Names.{Name, place_cmp, same_name}
 use Rattle.dist_model.specs.Node.{Node as TheNode}
 use Rattle.dist_model.specs.NodeEvents.{at_node}
 use Rattle.dist_model.specs.NodeEvents as model
 use Rattle.dist_model.specs.Runs.{Goes, IsReported}
-use Rattle.dist_model.specs.Sides.{TrunkSide, is_over}
-use Rattle.dist_model.specs.Work.{Work}
+use Rattle.dist_model.specs.Seen.{seen, side_of_trunk}
+use Rattle.dist_model.specs.Sides as state
+use Rattle.dist_model.specs.Sides.{State, TrunkSide, is_over}
+use Rattle.dist_model.specs.Work.{Work, at_work}
 use Rattle.dist_model.specs.World.{Refused, Reported, Stepped, came_of, carried, first_of, list_to}
 use Rattle.dist_model.specs.World.{node_of, refused, rest_of, set_node, step, step_at, node_name}
 use Rattle.dist_model.specs.World as world
@@ -29,20 +35,24 @@ use Rattle.erl_names.specs.declared.trunk.TrunkId.{TrunkId}
 use Rattle.erl_term.specs.declared.refusal.Refusal.{Refusal}
 use Rattle.node_core.specs.Model.{model_of}
 use Rattle.node_core.specs.declared.node.Node.{Node}
-use Rattle.node_frames.specs.Frames.{AllSpelled, Framed, framed, shown}
-use Rattle.node_plans.specs.Planned.{IsRefused}
+use Rattle.node_core.specs.Arrived.{is_undialed}
+use Rattle.node_frames.specs.Frames.{AllSpelled, Framed, IsSpelled, framed, shown}
+use Rattle.node_plan.specs.Planned.{IsRefused}
 use Rattle.world_core.specs.Names.{are_distinct, name_at, name_of, names_of}
 use Rattle.world_core.specs.Ran.{Answered, Came, event_at}
-use Rattle.world_core.specs.Stands.{AreSpelled, StandsFor}
+use Rattle.world_core.specs.Coming.{is_taken, takes}
+use Rattle.world_core.specs.Stands.{AreFramesOf, AreSpelled, StandsFor}
 use Rattle.world_core.specs.declared.world.World.{World}
+use Rattle.world_core.proofs.Carried.{dropped, kept_all, more_frames, same_frames, spelled_behind}
 use Rattle.world_core.proofs.Named.{name_is, names_set, node_at, node_set, nobody_at, nobody_is, same_models}
-use Rattle.world_core.proofs.Reached.{can_come, reached_next}
-use Rattle.world_events.proofs.Planned.{name_kept, refused_or}
-use Rattle.world_events.specs.Coming.{IsNext}
-use Rattle.world_events.specs.Events.{ComesTo, Meets, met, taken_at}
-use Rattle.world_events.specs.declared.event.NodeEvent.{NodeEvent}
-use Rattle.world_events.specs.declared.event.NodeEvent.TheVariants as event
-use Rattle.world_lists.specs.Lists.{at, behind_first, sent_at}
+use Rattle.world_core.proofs.Reached.{can_come, reached_good, reached_next}
+use Rattle.world_core.proofs.StaysOver.{IsOver, stays_over}
+use Rattle.world_core.proofs.Planned.{name_kept, refused_or}
+use Rattle.world_core.specs.ComingToANode.{CanCome, IsNext, reads, reads_at}
+use Rattle.world_core.specs.Events.{ComesTo, Meets, met, taken_at}
+use Rattle.world_core.specs.declared.node_event.NodeEvent.{NodeEvent}
+use Rattle.world_core.specs.declared.node_event.NodeEvent.TheVariants as event
+use Rattle.world_core.specs.Lists.{at, behind_first, sent_at}
 
 -- ---- what is sent
 
@@ -123,33 +133,113 @@ none_taken names node t word answer work {A} h = go node.up h
     go true k = nothing_taken node t (fm.get node.sides t) word answer work k
     go false k = refused_or Refusal.NodeDown answer work k
 
-module _ (m : world.World) (name : Name) (node : TheNode) (names : List Name) (answer : Answer) (work : Work) where
+-- and by a side that takes it
+arrival_taken : (node : TheNode) (t : TrunkId) (o : Option TrunkSide) (first : Option Item) (word : ℕ) (answer : Answer) (work : Work)
+    → arrive node t o first word ≡ Accepts answer work → takes o ≡ true
+arrival_taken node t None first word answer work h = refl
+arrival_taken node t (Some side) first word answer work h = go (is_over side.state) h
+  where
+    go : (b : Bool) → cond b (Refuses Refusal.NotLive) (arrive_first first t side (at_work node)) ≡ Accepts answer work → not b ≡ true
+    go true k = refused_or Refusal.NotLive answer work k
+    go false k = refl
+
+event_taken : (names : List Name) (node : TheNode) (t : TrunkId) (first : Option Item) (word : ℕ) (answer : Answer) (work : Work)
+    → at_node names node (model.Arrive t first word) ≡ Accepts answer work → takes (fm.get node.sides t) ≡ true
+event_taken names node t first word answer work h = go node.up h
+  where
+    go : (b : Bool) → cond b (arrive node t (fm.get node.sides t) first word) (Refuses Refusal.NodeDown) ≡ Accepts answer work
+        → takes (fm.get node.sides t) ≡ true
+    go true k = arrival_taken node t (fm.get node.sides t) first word answer work k
+    go false k = refused_or Refusal.NodeDown answer work k
+
+-- what isn't taken is refused alike, whatever it is
+arrive_alike : (node : TheNode) (t : TrunkId) (o : Option TrunkSide) (first other : Option Item) (word : ℕ) → takes o ≡ false
+    → arrive node t o first word ≡ arrive node t o other word
+arrive_alike node t None first other word h = cc
+arrive_alike node t (Some side) first other word h =
+    over first ∙ sym (over other)
+  where
+    is : is_over side.state ≡ true
+    is = not-false (is_over side.state) h
+
+    over : (item : Option Item) → arrive node t (Some side) item word ≡ Refuses Refusal.NotLive
+    over item = ap (λ b. cond b (Refuses Refusal.NotLive) (arrive_first item t side (at_work node))) is
+
+alike : (names : List Name) (node : TheNode) (t : TrunkId) (first other : Option Item) (word : ℕ) → takes (fm.get node.sides t) ≡ false
+    → at_node names node (model.Arrive t first word) ≡ at_node names node (model.Arrive t other word)
+alike names node t first other word h =
+    ap (λ o. cond node.up o (Refuses Refusal.NodeDown)) (arrive_alike node t (fm.get node.sides t) first other word h)
+
+-- what isn't taken can be read
+reads_over : (st : State) (item : Item) → is_over st ≡ true → reads st item ≡ true
+reads_over state.Losing item h = refl
+reads_over state.Gone item h = refl
+reads_over _ item h = cc
+
+over_can_come : (node : TheNode) (t : TrunkId) (item : Item) → IsSpelled item → takes (fm.get node.sides t) ≡ false → CanCome node t item
+over_can_come node t item s h = go (fm.get node.sides t) refl h
+  where
+    go : (o : Option TrunkSide) → fm.get node.sides t ≡ o → takes o ≡ false → CanCome node t item
+    go None e k = let no : true ≡ false = k in cc
+    go (Some side) e k = record {
+      spelled = s;
+      read = ap (λ o. reads_at o item) e ∙ reads_over side.state item (not-false (is_over side.state) k);
+      theirs = ap (is_undialed node t) e;
+    }
+
+module _ (m : world.World) (name : Name) (node : TheNode) (there : node_of m.nodes name ≡ Some node) (names : List Name) (answer : Answer)
+    (work : Work) where
+  side_here : (t : TrunkId) → side_of_trunk m name t ≡ fm.get node.sides t
+  side_here t = ap (λ o. seen o None (λ (n : TheNode). fm.get n.sides t)) there
+
   -- what is left of a list, and what was sent on it
   moved : (e : NodeEvent) → at_node names node (met e (first_for m name e)) ≡ Accepts answer work
-      → (t : TrunkId) (x : Name) (sent : List Item)
-      → taken_at e name t x (map framed (list_to m.lists t x) ++ map framed sent) ≡ map framed (list_to (lists_left m name e) t x ++ sent)
-  moved (event.Arrive u word) h t x sent =
-      ap (λ b. cond b (behind_first (old ++ map framed sent)) (old ++ map framed sent)) (same_place t u x name)
-      ∙ go (same_trunk t u && same_name x name) refl
-      ∙ ap (λ l. map framed (l ++ sent)) (sym (list_to_insert m.lists u name (rest_of (list_to m.lists u name)) t x))
+      → (t : TrunkId) (x : Name) (frames : List Framed) (sent : List Item) (taken : Bool) → (taken ≡ true → is_taken m t x ≡ true)
+      → (c : AreFramesOf (is_taken m t x) frames (list_to m.lists t x))
+      → AreFramesOf taken (taken_at e name t x (map framed c.kept ++ map framed sent)) (list_to (lists_left m name e) t x ++ sent)
+  moved (event.Arrive u word) h t x frames sent taken k c =
+      go (same_trunk t u && same_name x name) refl
+      (ap (λ b. cond b (behind_first (map framed c.kept ++ map framed sent)) (map framed c.kept ++ map framed sent)) (same_place t u x name))
+      (list_to_insert m.lists u name (rest_of (list_to m.lists u name)) t x)
     where
-      old : List Framed
-      old = map framed (list_to m.lists t x)
+      taken_there : is_taken m u name ≡ true
+      taken_there = ap takes (side_here u) ∙ event_taken names node u (first_of (list_to m.lists u name)) word answer work h
 
       first : (l : List Item) → list_to m.lists u name ≡ l → behind_first (map framed l ++ map framed sent) ≡ map framed (rest_of l ++ sent)
       first [] e = none_taken names node u word answer work (ap (λ l. at_node names node (model.Arrive u (first_of l) word)) (sym e) ∙ h)
       first (i ∷ is) e = sym (map-append framed is sent)
 
       go : (b : Bool) → (same_trunk t u && same_name x name) ≡ b
-          → cond b (behind_first (old ++ map framed sent)) (old ++ map framed sent)
-          ≡ map framed (cond b (rest_of (list_to m.lists u name)) (list_to m.lists t x) ++ sent)
-      go true e =
+          → taken_at (event.Arrive u word) name t x (map framed c.kept ++ map framed sent)
+          ≡ cond (same_trunk t u && same_name x name) (behind_first (map framed c.kept ++ map framed sent))
+          (map framed c.kept ++ map framed sent)
+          → list_to (lists_left m name (event.Arrive u word)) t x
+          ≡ cond (same_trunk t u && same_name x name) (rest_of (list_to m.lists u name)) (list_to m.lists t x)
+          → AreFramesOf taken (taken_at (event.Arrive u word) name t x (map framed c.kept ++ map framed sent))
+          (list_to (lists_left m name (event.Arrive u word)) t x ++ sent)
+      go true e f l =
           let v = and_parts (same_trunk t u) (same_name x name) e in
           let a : t ≡ u = same_trunk_true t u v.0 in
-          let c : x ≡ name = same_name_true x name v.1 in
-          ap (λ l. behind_first (map framed l ++ map framed sent)) (λ i. list_to m.lists (a i) (c i)) ∙ first (list_to m.lists u name) refl
-      go false e = sym (map-append framed (list_to m.lists t x) sent)
-  moved e h t x sent = sym (map-append framed (list_to m.lists t x) sent)
+          let d : x ≡ name = same_name_true x name v.1 in
+          let all : c.kept ≡ list_to m.lists u name =
+          kept_all (is_taken m t x) frames (list_to m.lists t x) c ((λ i. is_taken m (a i) (d i)) ∙ taken_there)
+          ∙ (λ i. list_to m.lists (a i) (d i)) in
+          record {
+            left_out = [];
+            kept = rest_of (list_to m.lists u name) ++ sent;
+            parts = ap (λ q. q ++ sent) (l ∙ ap (λ b. cond b (rest_of (list_to m.lists u name)) (list_to m.lists t x)) e);
+            are = f ∙ ap (λ b. cond b (behind_first (map framed c.kept ++ map framed sent)) (map framed c.kept ++ map framed sent)) e
+                ∙ ap (λ l. behind_first (map framed l ++ map framed sent)) all ∙ first (list_to m.lists u name) refl;
+            whole = λ i. refl;
+          }
+      go false e f l =
+          subst (λ q. AreFramesOf taken (taken_at (event.Arrive u word) name t x (map framed c.kept ++ map framed sent)) (q ++ sent))
+          (sym (l ∙ ap (λ b. cond b (rest_of (list_to m.lists u name)) (list_to m.lists t x)) e))
+          (more_frames (is_taken m t x) taken frames (taken_at (event.Arrive u word) name t x (map framed c.kept ++ map framed sent))
+          (list_to m.lists t x) sent k c
+          (f ∙ ap (λ b. cond b (behind_first (map framed c.kept ++ map framed sent)) (map framed c.kept ++ map framed sent)) e))
+  moved e h t x frames sent taken k c =
+      more_frames (is_taken m t x) taken frames (map framed c.kept ++ map framed sent) (list_to m.lists t x) sent k c refl
 
   left_spelled : (e : NodeEvent) → ((t : TrunkId) (x : Name) → AreSpelled (list_to m.lists t x)) → (t : TrunkId) (x : Name)
       → AreSpelled (list_to (lists_left m name e) t x)
@@ -161,6 +251,18 @@ module _ (m : world.World) (name : Name) (node : TheNode) (names : List Name) (a
       go true = spelled_rest (list_to m.lists u name) (h u name)
       go false = h t x
   left_spelled e h t x = h t x
+
+-- ---- a side that takes nothing is over
+
+over_of : (t : TrunkId) (node : TheNode) → takes (fm.get node.sides t) ≡ false → IsOver node.sides t
+over_of t node h = go (fm.get node.sides t) refl h
+  where
+    go : (o : Option TrunkSide) → fm.get node.sides t ≡ o → takes o ≡ false → IsOver node.sides t
+    go None e k = let no : true ≡ false = k in cc
+    go (Some side) e k = record { side = side; there = e; over = not-false (is_over side.state) k }
+
+not_taken : (t : TrunkId) (node : TheNode) → IsOver node.sides t → takes (fm.get node.sides t) ≡ false
+not_taken t node h = ap takes h.there ∙ ap not h.over
 
 -- ---- an event at a place of a world of code
 
@@ -210,21 +312,97 @@ module _ (w : World) (m : world.World) (stands : StandsFor w m) where
         (λ i. node_of (stands.nodes i) (name_at (stands.names i) place)) ∙ node_at node w.nodes.items place l distinct
         ∙ ap (λ n. Some (model_of n)) is
 
-    next_is : (t : TrunkId) (items : List Item) → list_to m.lists t name ≡ items → IsNext old t (map framed items) (first_of items)
+    taken_here : (t : TrunkId) → is_taken m t name ≡ takes (fm.get old.sides t)
+    taken_here t = ap (λ o. takes (seen o None (λ (n : TheNode). fm.get n.sides t))) node_there
+
+    -- what the node doesn't take any more is dropped
+    pub refused_dropped : (after : World) → after.nodes.items ≡ w.nodes.items → (u : TrunkId) → ((t : TrunkId) (x : Name)
+        → at after.lists t x
+        ≡ cond (not (takes (fm.get old.sides u)) && eq_by_cmp place_cmp (t, x) (u, old.mint.name)) [] (at w.lists t x))
+        → StandsFor after m
+    refused_dropped after nodes u lists = dropped w after m stands nodes u name (λ t x.
+        lists t x ∙ (λ i. cond (not (sym (taken_here u) i) && eq_by_cmp place_cmp (t, x) (u, sym name_here i)) [] (at w.lists t x)))
+
+    -- the frames that are on their way to the node on a connection
+    abbrev here : (t : TrunkId) → AreFramesOf (is_taken m t name) (at w.lists t name) (list_to m.lists t name)
+    here t = stands.lists t name
+
+    here_is : (t : TrunkId) → takes (fm.get old.sides t) ≡ true → (here t).kept ≡ list_to m.lists t name
+    here_is t k = kept_all (is_taken m t name) (at w.lists t name) (list_to m.lists t name) (here t) (taken_here t ∙ k)
+
+    spelled_here : (t : TrunkId) → AreSpelled (here t).kept
+    spelled_here t = spelled_behind (here t).left_out (here t).kept (subst AreSpelled (here t).parts (stands.spelled t name))
+
+    next_is : (t : TrunkId) (items : List Item) → (here t).kept ≡ items → IsNext old t (map framed items) (first_of items)
     next_is t [] e = refl
-    next_is t (item ∷ rest) e =
-        (map framed rest, refl, can_come m stands.reached name old t item rest node_there e (subst AreSpelled e (stands.spelled t name)))
+    next_is t (item ∷ rest) e = (map framed rest, refl, go (takes (fm.get old.sides t)) refl)
+      where
+        spelled : AreSpelled (item ∷ rest)
+        spelled = subst AreSpelled e (spelled_here t)
+
+        go : (b : Bool) → takes (fm.get old.sides t) ≡ b → CanCome old t item
+        go true k = can_come m stands.reached name old t item rest node_there (sym (here_is t k) ∙ e) spelled
+        go false k = over_can_come old t item spelled.0 k
+
+    -- what comes next of the frames. Where it is taken, it is what comes next in the model
+    abbrev pub next_for : NodeEvent → Option Item
+    next_for (event.Arrive t word) = first_of (here t).kept
+    next_for _ = None
+
+    next_alike : (e : NodeEvent) → at_node m.names old (met e (next_for e)) ≡ at_node m.names old (met e (first_for m name e))
+    next_alike (event.Arrive t word) = go (takes (fm.get old.sides t)) refl
+      where
+        go : (b : Bool) → takes (fm.get old.sides t) ≡ b
+            → at_node m.names old (model.Arrive t (first_of (here t).kept) word)
+            ≡ at_node m.names old (model.Arrive t (first_of (list_to m.lists t name)) word)
+        go true k = ap (λ l. at_node m.names old (model.Arrive t (first_of l) word)) (here_is t k)
+        go false k = alike m.names old t (first_of (here t).kept) (first_of (list_to m.lists t name)) word k
+    next_alike e = refl
 
     -- what the node is told of the world is so
     pub meets : (e : NodeEvent) (is_known : Bool)
         → ((peer : Name) (word : ℕ) → e ≡ event.Dial peer word → has_name peer (names_of w.nodes.items) ≡ is_known)
-        → Meets e m.names old w.lists is_known (first_for m name e)
+        → Meets e m.names old w.lists is_known (next_for e)
     meets (event.Arrive t word) is_known k =
-        subst (λ frames. IsNext old t frames (first_of (list_to m.lists t name)))
-        (sym (stands.lists t name) ∙ ap (at w.lists t) name_here)
-        (next_is t (list_to m.lists t name) refl)
+        subst (λ frames. IsNext old t frames (first_of (here t).kept))
+        (sym (here t).are ∙ ap (at w.lists t) name_here)
+        (next_is t (here t).kept refl)
     meets (event.Dial peer word) is_known k = ap (has_name peer) stands.names ∙ k peer word refl
     meets e is_known k = tt
+
+    -- what is taken afterwards was taken before
+    still_taken : (d : model.NodeEvent) (answer : Answer) (work : Work) → at_node m.names old d ≡ Accepts answer work
+        → (lists : FinMap place_cmp (List Item)) (t : TrunkId) (x : Name)
+        → is_taken (record { names = m.names; nodes = set_node m.nodes name work.node; lists = lists }) t x ≡ true
+        → is_taken m t x ≡ true
+    still_taken d answer work h lists t x k = by_test _ (same_name name x) own other
+      where
+        kept_name : work.node.mint.name ≡ name
+        kept_name = (if_accepted (Bearings old d) (at_node m.names old d) answer work h (bearings_kept m.names old d)).name ∙ sym name_here
+
+        counts : CountsOwn old
+        counts = ((reached_good m stands.reached).home name old node_there).counts
+
+        own_side : takes (fm.get work.node.sides t) ≡ true → (b : Bool) → takes (fm.get old.sides t) ≡ b → takes (fm.get old.sides t) ≡ true
+        own_side j true e = e
+        own_side j false e =
+            let over = stays_over m.names old d answer work counts h t (over_of t old e) in
+            absurd (both_ways (takes (fm.get work.node.sides t)) (not_taken t work.node over) j)
+
+        own : same_name name x ≡ true → is_taken m t x ≡ true
+        own e =
+            let is : name ≡ x = same_name_true name x e in
+            let new : node_of (set_node m.nodes name work.node) x ≡ Some work.node =
+            ap (node_of (set_node m.nodes name work.node)) (sym is) ∙ node_of_set_same m.nodes name old work.node node_there kept_name in
+            let j : takes (fm.get work.node.sides t) ≡ true =
+            ap (λ o. takes (seen o None (λ (n : TheNode). fm.get n.sides t))) (sym new) ∙ k in
+            ap (is_taken m t) (sym is) ∙ taken_here t ∙ own_side j (takes (fm.get old.sides t)) refl
+
+        other : same_name name x ≡ false → is_taken m t x ≡ true
+        other e =
+            ap (λ o. takes (seen o None (λ (n : TheNode). fm.get n.sides t)))
+            (sym (node_of_set_other m.nodes name x work.node kept_name (λ is. both_ways (same_name name x) e (same_name_is name x is))))
+            ∙ k
 
     abbrev pub due : NodeEvent → Outcome
     due e = at_node m.names old (met e (first_for m name e))
@@ -256,15 +434,22 @@ module _ (w : World) (m : world.World) (stands : StandsFor w m) where
               nodes = (λ i. set_node (stands.nodes i) (name_at (stands.names i) place) (sym did.node i))
                   ∙ node_set w.nodes.items place new l distinct ∙ ap (map model_of) (sym nodes);
               lists = λ t x.
-                  h.1 t x
-                  ∙ (λ i. taken_at e (sym name_here i) t x (stands.lists t x i ++ sent_at t x (did.effects i)))
-                  ∙ ap (λ q. taken_at e name t x (map framed (list_to m.lists t x) ++ q)) (sent_framed t x did.work.effects)
-                  ∙ moved m name old m.names did.answer did.work e did.accepts t x (at_place t x (sent_in did.work.effects))
-                  ∙ ap (map framed) (sym (list_to_carried (lists_left m name e) did.work.effects t x));
+                  let c = stands.lists t x in
+                  let sent = at_place t x (sent_in did.work.effects) in
+                  let frames : at after.lists t x ≡ taken_at e name t x (map framed c.kept ++ map framed sent) =
+                  h.1 t x ∙ (λ i. taken_at e (sym name_here i) t x (c.are i ++ sent_at t x (did.effects i)))
+                  ∙ ap (λ q. taken_at e name t x (map framed c.kept ++ q)) (sent_framed t x did.work.effects) in
+                  subst (AreFramesOf (is_taken next t x) (at after.lists t x))
+                  (sym (list_to_carried (lists_left m name e) did.work.effects t x))
+                  (same_frames (is_taken next t x) (taken_at e name t x (map framed c.kept ++ map framed sent)) (at after.lists t x)
+                  (list_to (lists_left m name e) t x ++ sent) frames
+                  (moved m name old node_there m.names did.answer did.work e did.accepts t x (at w.lists t x) sent (is_taken next t x)
+                  (still_taken (met e (first_for m name e)) did.answer did.work did.accepts
+                  (carried (lists_left m name e) did.work.effects) t x) c));
               spelled = λ t x.
                   subst AreSpelled (sym (list_to_carried (lists_left m name e) did.work.effects t x))
                   (spelled_both (list_to (lists_left m name e) t x) (at_place t x (sent_in did.work.effects))
-                  (left_spelled m name old m.names did.answer did.work e stands.spelled t x)
+                  (left_spelled m name old node_there m.names did.answer did.work e stands.spelled t x)
                   (spelled_sent t x did.work.effects did.spelled));
               reached = reached_next m next (event_at name e) (Reported did.answer did.work.effects) stands.reached goes;
             };
@@ -281,7 +466,8 @@ module _ (w : World) (m : world.World) (stands : StandsFor w m) where
                 ∙ ap names_of (sym nodes);
             distinct = stands.distinct;
             nodes = stands.nodes ∙ sym (same_models w.nodes.items place new node l same) ∙ ap (map model_of) (sym nodes);
-            lists = λ t x. s t x ∙ stands.lists t x;
+            lists = λ t x.
+                same_frames (is_taken m t x) (at w.lists t x) (at after.lists t x) (list_to m.lists t x) (s t x) (stands.lists t x);
             spelled = stands.spelled;
             reached = stands.reached;
           }
@@ -308,7 +494,13 @@ module _ (w : World) (m : world.World) (stands : StandsFor w m) where
             stands = s;
           }
 
-      pub came : (e : NodeEvent) (answer : Answered) → ComesTo e (due e) old (model_of new) w.lists after.lists answer
+      came_of_due : (e : NodeEvent) (answer : Answered) → ComesTo e (due e) old (model_of new) w.lists after.lists answer
           → Came after m (event_at name e) answer
-      came e (Ok report) h = accepted e report h
-      came e (Err why) h = not_accepted e why (unchanged h.1 h.2) h.0
+      came_of_due e (Ok report) h = accepted e report h
+      came_of_due e (Err why) h = not_accepted e why (unchanged h.1 h.2) h.0
+
+      pub came : (e : NodeEvent) (answer : Answered)
+          → ComesTo e (at_node m.names old (met e (next_for e))) old (model_of new) w.lists after.lists answer
+          → Came after m (event_at name e) answer
+      came e answer h =
+          came_of_due e answer (subst (λ d. ComesTo e d old (model_of new) w.lists after.lists answer) (next_alike e) h)

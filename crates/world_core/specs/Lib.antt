@@ -1,5 +1,8 @@
+pub mod Lists
+pub mod ComingToANode
+pub mod Events
 pub mod Names
+pub mod Coming
 pub mod Stands
 pub mod Ran
 pub mod Quiet
-pub mod Coming

@@ -13,8 +13,8 @@ use Rattle.world_core.specs.Names.{name_at}
 use Rattle.world_core.specs.Stands.{StandsFor}
 use Rattle.world_core.specs.declared.event.Event.{Event}
 use Rattle.world_core.specs.declared.world.World.{World}
-use Rattle.world_events.specs.declared.event.NodeEvent.{NodeEvent}
-use Rattle.world_events.specs.declared.event.NodeEvent.TheVariants as event
+use Rattle.world_core.specs.declared.node_event.NodeEvent.{NodeEvent}
+use Rattle.world_core.specs.declared.node_event.NodeEvent.TheVariants as event
 
 -- the model's event at the node of this name
 abbrev pub event_at : Name → NodeEvent → model.Event

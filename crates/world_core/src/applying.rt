@@ -7,9 +7,12 @@ ghost use Rattle.dist_model.specs.World.{World as TheWorld};
 ghost use Rattle.world_core.specs.Names.{name_of, names_of};
 ghost use Rattle.world_core.specs.Ran.{Came, event_in};
 ghost use Rattle.world_core.specs.Stands.{StandsFor};
-ghost use Rattle.world_events.specs.declared.event.NodeEvent.TheVariants as happens;
+ghost use Rattle.world_core.specs.declared.node_event.NodeEvent.TheVariants as happens;
 
 use crate::event::Event;
+use crate::forgetting::ended_by;
+use crate::happening::happen;
+use crate::node_event::NodeEvent;
 use crate::world::World;
 use dist_model::Report;
 use erl_names::NodeName;
@@ -17,7 +20,6 @@ use erl_term::Refusal;
 use node_core::Node;
 use node_frames::{Frame, same_name};
 use std::alloc::Global;
-use world_events::{NodeEvent, happen};
 
 // Returns true if one of the nodes has this name.
 fn has_node(nodes: &[Node], name: &NodeName) -> bool
@@ -39,14 +41,8 @@ fn is_known(nodes: &[Node], event: &NodeEvent) -> bool
 }
 
 impl World {
-    /// Applies an event at the node of its place: the node reports or refuses, and the items that
-    /// it sends are appended to those in flight. (ERTS User's Guide, Distribution Protocol;
-    /// Reference Manual, Processes; Distributed Erlang.)
-    ///
-    /// # Errors
-    /// [`Refusal::NothingThere`] if there is no node at the place, else the node's refusal, else
-    /// [`Refusal::OutOfMemory`]. On error nothing changes.
-    pub fn apply(&mut self, alloc: Global, event: Event) -> Result<Report<Frame>, Refusal>
+    // Applies an event. Frames that aren't taken any more stay.
+    fn apply_one(&mut self, alloc: Global, event: Event) -> Result<Report<Frame>, Refusal>
         ensures { (m : TheWorld) → StandsFor self.old m → Came self.new m (event_in m.names event) result }
     {
         let Event { node, event } = event;
@@ -62,5 +58,23 @@ impl World {
             is_known,
             event,
         )
+    }
+
+    /// Applies an event at the node of its place: the node reports or refuses, and the items that
+    /// it sends are appended to those in flight. (ERTS User's Guide, Distribution Protocol;
+    /// Reference Manual, Processes; Distributed Erlang.)
+    ///
+    /// # Errors
+    /// [`Refusal::NothingThere`] if there is no node at the place, else the node's refusal, else
+    /// [`Refusal::OutOfMemory`]. On error nothing changes.
+    pub fn apply(&mut self, alloc: Global, event: Event) -> Result<Report<Frame>, Refusal>
+        ensures { (m : TheWorld) → StandsFor self.old m → Came self.new m (event_in m.names event) result }
+    {
+        let ended = ended_by(&event);
+        let answer = self.apply_one(alloc, event);
+        if let Some((place, trunk)) = ended {
+            self.drop_lost(alloc, place, &trunk);
+        }
+        answer
     }
 }

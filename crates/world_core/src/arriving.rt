@@ -1,26 +1,25 @@
-//! Where something comes to a node from its peers.
-ghost use Rattle.std.specs.Prelude.{◌≡◌, ◌&&◌, is_some};
+//! The connections on which something comes to a node from its peers.
+ghost use Rattle.std.specs.Prelude.{◌≡◌, ◌&&◌};
 ghost use Rattle.std.specs.FinMap as fm;
 ghost use Rattle.std.specs.List.{find};
 ghost use Rattle.std.specs.Option.{option_copied, option_map};
 ghost use Rattle.dist_model.specs.World.{World as TheWorld};
 ghost use Rattle.node_core.specs.Model.{model_of};
-ghost use Rattle.node_sides.specs.Standings.{side_of};
-ghost use Rattle.world_core.specs.Coming.{is_from, next_arrival, peer_on, takes, takes_from};
+ghost use Rattle.node_tables.specs.Standings.{side_of};
+ghost use Rattle.world_core.specs.Coming.{is_from, next_arrival, peer_on, side_in, takes, takes_from};
 ghost use Rattle.world_core.specs.Stands.{StandsFor};
-ghost use Rattle.world_lists.specs.Lists.{first_of};
 
+use crate::queue::Queue;
 use crate::world::World;
 use conn_core::Side;
 use erl_names::TrunkId;
 use erl_term::Atom;
 use node_core::Node;
 use node_frames::same_name;
-use node_sides::Which;
-use world_lists::Queue;
+use node_tables::Which;
 
-// Whether a side takes what comes to it, or is made by it.
-fn takes(side: Option<&Side>) -> bool
+/// Returns true if a side takes frames, or if the first frame is to make it.
+pub(crate) fn takes(side: Option<&Side>) -> bool
     ensures { result ≡ takes (option_map side_of (option_copied side.entry)) }
 {
     match side {
@@ -39,7 +38,7 @@ fn peer_on<'a>(trunk: &'a TrunkId, side: Option<&'a Side>) -> &'a Atom
     }
 }
 
-// Whether a peer is the one that is asked for, if one is.
+// Returns true if a peer is the one that is asked for, if one is.
 fn is_from(from: Option<&Atom>, peer: &Atom) -> bool
     ensures { result ≡ is_from (option_copied from.entry) peer.now }
 {
@@ -49,7 +48,7 @@ fn is_from(from: Option<&Atom>, peer: &Atom) -> bool
     }
 }
 
-// Whether a node takes what comes on a connection, from a certain peer or from any.
+// Returns true if a node takes the frames that come on a connection, from a certain peer or from any.
 fn takes_from(node: &Node, trunk: &TrunkId, from: Option<&Atom>) -> bool
     ensures { result ≡ takes_from (option_copied from.entry) trunk.now (fm.get (model_of node.now).sides trunk.now) }
 {
@@ -57,15 +56,26 @@ fn takes_from(node: &Node, trunk: &TrunkId, from: Option<&Atom>) -> bool
     takes(side) && is_from(from, peer_on(trunk, side))
 }
 
-// The first entry of a line with something that the node takes.
+// Returns true if the side of a node takes frames on a connection. A side that isn't there takes them.
+fn is_taken(own: Option<&Node>, trunk: &TrunkId) -> bool
+    ensures { result ≡ takes (side_in (option_map model_of (option_copied own.entry)) trunk.now) }
+{
+    match own {
+        Some(node) => takes(node.side(trunk)),
+        None => true,
+    }
+}
+
+// Returns the first entry of a line from which the node takes, and the world's node of its name too.
 fn first_in<'a>(
     line: &'a [(TrunkId, Queue)],
+    own: Option<&Node>,
     node: &Node,
     from: Option<&Atom>,
 ) -> Option<&'a (TrunkId, Queue)>
-    ensures { option_copied result ≡ find (λ entry. is_some (first_of entry.1) && takes_from (option_copied from.entry) entry.0 (fm.get (model_of node.now).sides entry.0)) line.now }
+    ensures { option_copied result ≡ find (λ entry. takes (side_in (option_map model_of (option_copied own.entry)) entry.0) && takes_from (option_copied from.entry) entry.0 (fm.get (model_of node.now).sides entry.0)) line.now }
 {
-    line.iter().find(|(trunk, queue)| queue.first().is_some() && takes_from(node, trunk, from))
+    line.iter().find(|(trunk, _)| is_taken(own, trunk) && takes_from(node, trunk, from))
 }
 
 impl World {
@@ -75,7 +85,12 @@ impl World {
     pub fn next_arrival(&self, node: &Node, from: Option<&Atom>) -> Option<&TrunkId>
         ensures { (m : TheWorld) → StandsFor self.now m → option_copied result ≡ next_arrival m (model_of node.now) (option_copied from.entry) }
     {
-        match first_in(self.lists.line(node.name()), node, from) {
+        let line = self.lists.line(node.name());
+        if line.is_empty() {
+            return None;
+        }
+        let own = self.node(node.name().atom());
+        match first_in(line, own, node, from) {
             Some((trunk, _)) => Some(trunk),
             None => None,
         }

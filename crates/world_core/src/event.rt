@@ -1,6 +1,6 @@
 //! What may happen in a world.
 
-use world_events::NodeEvent;
+use crate::node_event::NodeEvent;
 
 /// Something happens at a node of a world.
 #[derive(Debug, Drop)]

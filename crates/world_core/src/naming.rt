@@ -10,23 +10,23 @@ ghost use Rattle.world_core.specs.Ran.{Came, event_at};
 ghost use Rattle.world_core.specs.Stands.{StandsFor};
 
 use crate::event::Event;
+use crate::node_event::NodeEvent;
 use crate::world::World;
 use dist_model::Report;
 use erl_term::{Atom, Refusal};
 use node_core::Node;
 use node_frames::{Frame, same_name};
 use std::alloc::Global;
-use world_events::NodeEvent;
 
-// Whether one of the nodes has the name that a text spells.
+// Returns true if one of the nodes has the name that a text spells.
 fn is_one_named(nodes: &[Node], name: &str) -> bool
     ensures { result ≡ list_any (λ node. bytes_eq name.now (name_of node)) nodes.now }
 {
     nodes.iter().any(|node| name == node.name().text())
 }
 
-// The place of the first node of a name.
-fn place_of(nodes: &[Node], name: &Atom) -> Option<usize>
+/// Returns the place of the first node of a name.
+pub(crate) fn place_of(nodes: &[Node], name: &Atom) -> Option<usize>
     ensures { result ≡ position (λ node. same_name (name_of node) name.now) nodes.now }
 {
     nodes
@@ -35,7 +35,7 @@ fn place_of(nodes: &[Node], name: &Atom) -> Option<usize>
 }
 
 impl World {
-    /// Whether one of the nodes has the name that a text spells. Takes no memory.
+    /// Returns true if one of the nodes has the name that a text spells. Allocates nothing.
     pub fn has_name(&self, name: &str) -> bool
         ensures { result ≡ has_name name.now (names_of self.now.nodes.items) }
     {

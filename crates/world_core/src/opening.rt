@@ -9,15 +9,28 @@ ghost use Rattle.node_core.specs.Model.{model_of};
 ghost use Rattle.world_core.specs.Names.{are_distinct, names_of};
 ghost use Rattle.world_core.specs.Stands.{StandsFor};
 
+use crate::lists::Lists;
 use crate::world::World;
 use erl_handshake::Cookie;
 use erl_names::NodeName;
 use node_core::Node;
 use node_frames::same_name;
 use std::alloc::{AllocError, Global};
-use world_lists::Lists;
 
-// The nodes of these names and cookies come behind those that are made. Each has a name.
+// Appends a new node of the name and the cookie.
+fn push_node(
+    alloc: Global,
+    made: &mut Vec<Node>,
+    name: NodeName,
+    cookie: Cookie,
+) -> Result<(), AllocError>
+    ensures { OnOk result (map model_of made.new.items ≡ map model_of made.old.items ++ (new_node name cookie ∷ [])) }
+{
+    made.push(Node::new(alloc, name, cookie)?)?;
+    Ok(())
+}
+
+// Appends new nodes of these names and cookies. Each has a name.
 fn make(
     alloc: Global,
     made: &mut Vec<Node>,
@@ -28,12 +41,12 @@ fn make(
 {
     for (name, cookie) in nodes {
         name.text();
-        made.push(Node::new(alloc, name, cookie)?)?;
+        push_node(alloc, made, name, cookie)?;
     }
     Ok(())
 }
 
-// Whether one of the nodes has this name.
+// Returns true if one of the nodes has this name.
 fn has_name(nodes: &[(NodeName, Cookie)], name: &NodeName) -> bool
     ensures { result ≡ list_any (λ node. same_name name.now node.0) nodes.now }
 {
@@ -43,7 +56,7 @@ fn has_name(nodes: &[(NodeName, Cookie)], name: &NodeName) -> bool
 }
 
 impl World {
-    /// Whether a world can have these nodes: no two have one name.
+    /// Returns true if a world can have these nodes: no two have one name.
     pub fn can_open(nodes: &[(NodeName, Cookie)]) -> bool
         ensures { result ≡ are_distinct (map (λ node. node.0) nodes.now) }
     {
@@ -93,7 +106,7 @@ impl World {
     /// A node more, before anything has happened: it comes behind the others. None of them has its name.
     ///
     /// # Errors
-    /// Where there is no memory for it. Then nothing has changed.
+    /// [`AllocError`] if out of memory. Then nothing has changed.
     pub fn join(&mut self, alloc: Global, name: NodeName, cookie: Cookie) -> Result<(), AllocError>
         requires { has_name name (names_of self.old.nodes.items) ≡ false }
         ensures ok { (nodes : List (Name × List ℕ)) → StandsFor self.old (opening nodes) → OnOk result (StandsFor self.new (opening (nodes ++ (name, cookie) ∷ []))) }

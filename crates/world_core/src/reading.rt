@@ -1,5 +1,5 @@
 //! Readers of a world.
-ghost use Rattle.std.specs.Prelude.{◌≡◌};
+ghost use Rattle.std.specs.Prelude.{◌≡◌, true};
 ghost use Rattle.std.specs.List.{find};
 ghost use Rattle.std.specs.Option.{option_copied, option_map};
 ghost use Rattle.dist_model.specs.Names.{same_name};
@@ -8,7 +8,8 @@ ghost use Rattle.dist_model.specs.Seen.{end_between, is_connected, local_list};
 ghost use Rattle.dist_model.specs.Sides.{is_up};
 ghost use Rattle.dist_model.specs.World.{World as TheWorld, node_of};
 ghost use Rattle.node_core.specs.Model.{model_of};
-ghost use Rattle.node_sides.specs.Standings.{side_of};
+ghost use Rattle.node_tables.specs.Standings.{side_of};
+ghost use Rattle.world_core.specs.Coming.{is_taken};
 ghost use Rattle.world_core.specs.Names.{name_of};
 ghost use Rattle.world_core.specs.Quiet.{is_quiet_over, is_quiet_there};
 ghost use Rattle.world_core.specs.Stands.{StandsFor};
@@ -91,9 +92,9 @@ impl World {
     }
 
     // Returns true if the connection is up at the node of `q` too, and nothing is in flight on it between
-    // the two. `name` is the node of `p`.
+    // the two. `name` is the node of `p`, which takes the frames that come on it.
     fn is_quiet_on(&self, trunk: &TrunkId, name: &NodeName, p: &Pid, q: &Pid) -> bool
-        ensures { (m : TheWorld) → StandsFor self.now m → result ≡ is_quiet_there m name.now p.now q.now trunk.now }
+        ensures { (m : TheWorld) → StandsFor self.now m → is_taken m trunk.now name.now ≡ true → result ≡ is_quiet_there m name.now p.now q.now trunk.now }
     {
         let Some(there) = self.node(&q.node) else {
             return false;

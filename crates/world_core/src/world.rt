@@ -1,6 +1,6 @@
 //! All nodes, and what travels between them.
+use crate::lists::Lists;
 use node_core::Node;
-use world_lists::Lists;
 
 /// Several nodes, which dial each other, and what travels between them. (Reference Manual, Distributed
 /// Erlang.)

@@ -1,5 +1,5 @@
 use Rattle.std.proofs.Common.{◌≡◌, drop}
-use Rattle.node_book.specs.Standing.{outlet_of}
+use Rattle.node_lock.specs.Standing.{outlet_of}
 use Rattle.joined_books.proofs.finding.outlet_of.Given as goal
 
 abbrev pub invariant-loop-outlet : goal.invariant-loop-outlet

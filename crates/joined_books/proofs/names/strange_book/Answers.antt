@@ -3,7 +3,7 @@ use Rattle.std.proofs.lemmas.Bool.Decides.{not_from_Decides}
 use borrow.Author.Count.{below_more}
 use Rattle.joined_books.proofs.Tests.{no_more, read}
 use Rattle.joined_books.specs.Names.{IsInPlace}
-use Rattle.node_book.specs.Seen.{BookSeen}
+use Rattle.node_lock.specs.Seen.{BookSeen}
 use Rattle.joined_books.proofs.names.strange_book.Goals as goal
 
 pub returns-then-not-is_in_place : goal.returns-then-not-is_in_place

@@ -1,6 +1,6 @@
 use Rattle.std.proofs.Common.{ℕ, ◌<◌, slice_index_or}
 use Rattle.joined_books.specs.Names.{IsInPlace}
-use Rattle.node_book.specs.Seen.{BookSeen}
+use Rattle.node_lock.specs.Seen.{BookSeen}
 use Rattle.joined_books.proofs.names.strange_book.Given as goal
 
 abbrev pub invariant-loop-place : goal.invariant-loop-place

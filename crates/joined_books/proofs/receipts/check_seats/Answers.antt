@@ -14,5 +14,5 @@ returns-in-Some-clause-err c = λ nodes places whole.
       whole,
       strange_seat c.args.books.now c.args.seats.now c.loop-seat.seat-index c.seat-item.result c.node-in-Some.result c.in-Some.asked.now
           c.loop-seat-test.true c.seat-item.is
-          c.node-in-Some.ensures (omega arith) (subst (λ (l : List Asked). Contains l c.in-Some.asked.now) c.receipts.ensures there),
+          c.node-in-Some.ensures (omega arith) (subst (λ (l : List Asked). Contains l c.in-Some.asked.now) c.receipts.ensures.items there),
     )

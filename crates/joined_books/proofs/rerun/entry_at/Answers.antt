@@ -3,7 +3,7 @@ use Rattle.std.specs.List.{slice_get}
 use Rattle.joined_books.proofs.SeatReceipts.{entries_are}
 use Rattle.joined_books.proofs.Zipped.{part_beyond}
 use Rattle.joined_books.specs.Parts.{entries_at}
-use Rattle.node_book.specs.Seen.{BookSeen}
+use Rattle.node_lock.specs.Seen.{BookSeen}
 use Rattle.node_history.specs.declared.entry.Entry.{Entry}
 use Rattle.joined_books.proofs.rerun.entry_at.Goals as goal
 

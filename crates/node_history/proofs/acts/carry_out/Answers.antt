@@ -1,7 +1,7 @@
 use Rattle.std.proofs.Common.{subst, ◌∙◌}
 use Rattle.node_core.specs.Model.{model_of}
 use Rattle.node_history.proofs.AnsweredTwice.{carried}
-use Rattle.node_plans.specs.Planned.{Plans}
+use Rattle.node_plan.specs.Planned.{Plans}
 use Rattle.node_history.proofs.acts.carry_out.Goals as goal
 
 pub returns-in-Ok-copied_effects-clause-ok : goal.returns-in-Ok-copied_effects-clause-ok

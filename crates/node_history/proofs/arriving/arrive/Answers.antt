@@ -1,5 +1,5 @@
 use Rattle.std.proofs.Common.{Some, subst}
-use Rattle.node_events.specs.Done.{Does}
+use Rattle.node_core.specs.Done.{Does}
 use Rattle.node_core.specs.Model.{model_of}
 use Rattle.dist_model.specs.NodeEvents.{Arrive, at_node}
 use Rattle.node_history.proofs.Fronts.{answer_in, arrives_does}

@@ -1,6 +1,6 @@
-use Rattle.std.proofs.Common.{◌≡◌, length, refl, arith}
-use Rattle.node_book.proofs.StampsRise.{stamps_rise}
-use Rattle.node_lock.proofs.Called.{at_home, away, called, no_room, strange, unapplied}
+use Rattle.std.proofs.Common.{ap, length, refl, arith}
+use Rattle.node_lock.proofs.StampsRise.{stamps_rise}
+use Rattle.node_lock.proofs.Called.{at_home, away, behind, called, no_room, strange, unapplied}
 use Rattle.node_lock.proofs.calling.call.Goals as goal
 
 pub returns-then-not-is_at_home-clause-err : goal.returns-then-not-is_at_home-clause-err
@@ -27,17 +27,29 @@ returns-in-Err-act-clause-err c =
 pub returns-clause-ok : goal.returns-clause-ok
 returns-clause-ok c =
     let told = c.in-Ok-act.told in
-    let v = c.reserve.new.self in
-    let at : c.len-place.result ≡ length v.items = omega (arith, c.len-place.ensures, v.ok) in
-    called c.args.act c.args.book.now c.args.seat.now c.act.new.self (record (c.args.seat.now) { receipts = c.push_reserved.new.self })
+    called c.args.act c.args.book.now c.args.seat.now c.act.new.self (record (c.args.seat.now) { receipts = c.push.new.self })
     (record {
       event = c.in-Ok.kept;
       receipt = record { node = c.place.result; position = told.place; stamp = c.stamp_at.result; answer = told.answer };
     })
-    told c.into_event-event.result c.reserve.new.self.items c.len-place.result
+    told c.into_event-event.result c.reserve.new.self.items (length c.as_slice-place.result.now)
     (at_home c.is_at_home.result c.is_at_home.ensures c.if-not-is_at_home.false) c.into_event-event.ensures.event c.in-Ok-act.ensures.ok
     (stamps_rise c.args.book.now.names c.args.book.now.place c.args.book.now.cookie c.args.book.now.history c.args.book.now.outlets
     c.replays.ensures)
     c.in-Ok-act.ensures.told c.into_event-event.ensures.act c.in-Ok.ensures refl c.stamp_at.ensures c.place.ensures refl refl
     c.reserve.ensures.items
-    c.push_reserved.ensures.items at
+    c.push.ensures (ap (λ l. length l) c.as_slice-place.ensures.items)
+
+pub push-requires-clause-behind : goal.push-requires-clause-behind
+push-requires-clause-behind c =
+    let told = c.in-Ok-act.told in
+    behind c.args.act c.args.book.now c.args.seat.now c.act.new.self c.args.seat.now
+    (record {
+      event = c.in-Ok.kept;
+      receipt = record { node = c.place.result; position = told.place; stamp = c.stamp_at.result; answer = told.answer };
+    })
+    told c.into_event-event.result c.reserve.new.self.items 0
+    (at_home c.is_at_home.result c.is_at_home.ensures c.if-not-is_at_home.false) c.into_event-event.ensures.event c.in-Ok-act.ensures.ok
+    (stamps_rise c.args.book.now.names c.args.book.now.place c.args.book.now.cookie c.args.book.now.history c.args.book.now.outlets
+    c.replays.ensures)
+    refl c.stamp_at.ensures c.reserve.ensures.items

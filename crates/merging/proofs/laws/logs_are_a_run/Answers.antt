@@ -1,5 +1,0 @@
-use Rattle.merging.proofs.OneRun.{logs_are_a_run}
-use Rattle.merging.proofs.laws.logs_are_a_run.Goals as goal
-
-pub returns : goal.returns
-returns g c = logs_are_a_run g.N.Nodes.same g.N.Nodes.acts

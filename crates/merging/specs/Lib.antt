@@ -1,4 +1,0 @@
-pub mod Logs
-pub mod Runs
-pub mod Sorting
-pub mod Unsorted

@@ -1,0 +1,6 @@
+use Rattle.std.proofs.Common.{◌≡◌, drop}
+use Rattle.world_core.specs.Lists.{sent_at}
+use Rattle.node_lock.proofs.scanning.first_sent.Given as goal
+
+abbrev pub invariant-loop-place : goal.invariant-loop-place
+invariant-loop-place l = sent_at l.trunk l.peer (drop l.place l.effects) ≡ sent_at l.trunk l.peer (drop l.from l.effects)

@@ -1,0 +1,39 @@
+//! The book of a node.
+
+use crate::dialing::Left;
+use crate::outlet::{Outlet, PieceLength};
+use erl_handshake::Cookie;
+use erl_names::NodeName;
+use node_history::History;
+use std::marker::Model;
+
+/// The book of a node: the names of all nodes and the place of its own among them, its cookie, the node
+/// with its history, its ends of its connections, how long the pieces may be that are put there, and what is
+/// left for other nodes of those that it has dialed. Only who holds its lock may touch it. Contracts see all
+/// but what is left.
+#[derive(Drop)]
+pub struct Book {
+    pub(crate) names: Vec<NodeName>,
+    pub(crate) place: usize,
+    pub(crate) cookie: Cookie,
+    pub(crate) history: History,
+    pub(crate) outlets: Vec<Outlet>,
+    pub(crate) offers: Vec<Left>,
+    pub(crate) greatest: PieceLength,
+}
+
+impl Model for Book {
+    ghost use Rattle.node_lock.specs.Seen.{BookSeen, book_code};
+    ghost use Rattle.node_lock.specs.contracts.outlet.Outlet as an_outlet;
+    ghost use Rattle.node_history.specs.contracts.history.History as a_history;
+
+    ghost Value = { BookSeen };
+
+    ghost coded = { book_code a_history.the_row.coded an_outlet.the_row.coded };
+
+    ghost view = { λ b. record { names = b.names.items; place = b.place; cookie = b.cookie; history = b.history; outlets = b.outlets.items; greatest = b.greatest.bytes } };
+
+    ghost use Rattle.node_lock.specs.Standing.{IsBook};
+
+    ghost invariant = { λ b. IsBook b.names.items b.place b.cookie b.history b.outlets.items };
+}

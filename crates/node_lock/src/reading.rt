@@ -1,0 +1,56 @@
+//! Readers of a book, for its comparison with others.
+ghost use Rattle.std.specs.Prelude.{◌≡◌};
+ghost use Rattle.node_lock.specs.Standing.{IsBook};
+
+use crate::book::Book;
+use crate::outlet::Outlet;
+use erl_handshake::Cookie;
+use erl_names::NodeName;
+use wire_core::Port;
+
+impl Book {
+    /// Returns the names of all nodes, by their places.
+    pub fn names(&self) -> &[NodeName]
+        ensures { result.now ≡ self.now.names }
+    {
+        self.names.as_slice()
+    }
+
+    /// Returns the cookie of the book's node. (ERTS User's Guide, Distribution Protocol,
+    /// Distribution Handshake.)
+    pub fn cookie(&self) -> &Cookie
+        ensures { result.now ≡ self.now.cookie }
+    {
+        &self.cookie
+    }
+
+    /// Returns the node's ends of connections, the oldest first.
+    pub fn outlets(&self) -> &[Outlet]
+        ensures { result.now ≡ self.now.outlets }
+    {
+        self.outlets.as_slice()
+    }
+
+    /// Returns the stamp of the last entry, or 0 of an empty history.
+    pub fn last(&self) -> u64
+        ensures { result ≡ self.now.history.last }
+    {
+        self.history.last()
+    }
+
+    /// Has no effect. Its contract is the invariant of the type: a log replays the book.
+    pub fn replays(&self)
+        ensures { IsBook self.now.names self.now.place self.now.cookie self.now.history self.now.outlets }
+    {
+        let _ = &self.place;
+    }
+}
+
+impl Outlet {
+    /// Returns the end of the connection.
+    pub fn port(&self) -> &Port
+        ensures { result.now ≡ self.now.port }
+    {
+        &self.port
+    }
+}

@@ -1,4 +1,0 @@
-pub mod Entries
-pub mod Lines
-pub mod More
-pub mod Nodes
