@@ -9,7 +9,7 @@ use Rattle.joined_books.specs.Receipts.{AreReceipts}
 use Rattle.joined_books.specs.declared.error.FinishError.{FinishError}
 use Rattle.joined_books.specs.declared.trace.Placed.{Placed}
 use Rattle.joined_books.specs.declared.trace.Trace.{Trace}
-use Rattle.node_book.specs.Seen.{BookSeen}
+use Rattle.node_lock.specs.Seen.{BookSeen}
 use Rattle.node_lock.specs.declared.seat.Seat.{Seat}
 use Rattle.world_core.specs.Stands.{StandsFor}
 use Rattle.world_core.specs.declared.world.World.{World}

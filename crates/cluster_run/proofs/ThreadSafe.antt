@@ -4,6 +4,7 @@ use denote.Param.Send.{IsSend, IsSync, plain_send, plain_sync, recorded_send, re
 use denote.RattleType.{RattleType}
 use denote.Struct.Declared.{shape}
 use Rattle.cluster_run.specs.contracts.cluster.Cluster as cluster
+use Rattle.cluster_run.specs.contracts.cluster.Running as running
 use Rattle.cluster_run.specs.contracts.desk.Desk as desk
 use Rattle.cluster_run.specs.contracts.desk.Shared as shared
 use Rattle.crossbeam_channel.proofs.channel.Receiver.TheSendSync as receiver
@@ -21,9 +22,13 @@ use Rattle.erl_term.proofs.term.Pid.TheSendSync as pid
 use Rattle.erl_term.proofs.term.Reference.TheSendSync as reference
 use Rattle.erl_term.proofs.term.Term.TheLaws.TheKnot
 use Rattle.erl_term.specs.contracts.payload.Payload as payload
-use Rattle.node_book.proofs.dialing.Left.TheSendSync as left
-use Rattle.node_book.proofs.outlet.Outlet.TheSendSync as outlet
-use Rattle.node_book.specs.contracts.book.Book as book
+use Rattle.link_core.specs.contracts.ends.Ends as ends
+use Rattle.monitor_core.specs.contracts.watchers.Watchers as watchers
+use Rattle.monitor_core.specs.contracts.watches.Watches as watches
+use Rattle.node_lock.proofs.dialing.Left.TheSendSync as left
+use Rattle.node_lock.proofs.outlet.Outlet.TheSendSync as outlet
+use Rattle.node_lock.specs.contracts.book.Book as book
+use Rattle.node_core.specs.contracts.node.Node as node
 use Rattle.node_history.specs.contracts.entry.Entry as entry
 use Rattle.node_history.specs.contracts.history.History as history
 use Rattle.node_lock.specs.contracts.lock.NodeLock as lock
@@ -31,6 +36,8 @@ use Rattle.node_lock.specs.contracts.seat.Asked as asked
 use Rattle.node_lock.specs.contracts.seat.Receipt as receipt
 use Rattle.node_lock.specs.contracts.seat.Seat as seat
 use Rattle.node_frames.proofs.frame.Frame.TheSendSync as frame
+use Rattle.sorted_map.proofs.nodes.Node.TheLaws.TheKnot as NodeKnot
+use Rattle.sorted_map.specs.contracts.index_tree.IndexTree as index_tree
 use Rattle.std.below.std_heap.proofs.GlobalAllocator.TheSendSync as heap
 use Rattle.std.proofs.Crossing
 use Rattle.std.proofs.alloc.Global.TheSendSync as global
@@ -41,9 +48,11 @@ use Rattle.std.proofs.vec.Vec.TheSendSync as vec
 use Rattle.std.specs.contracts.alloc.Global as the_global
 use Rattle.std.specs.contracts.impls.GlobalAllocator.TheImpl
 use Rattle.std.specs.contracts.sync.Arc as an_arc
+use Rattle.std.specs.contracts.sync.atomic.AtomicBool as a_flag
+use Rattle.std.specs.contracts.vec.Vec as a_vec
 use Rattle.wire_core.proofs.offer.Offer.TheSendSync as offer
 use Rattle.wire_core.specs.contracts.offer.Offer as an_offer
-use Rattle.world_events.specs.contracts.event.NodeEvent as event
+use Rattle.world_core.specs.contracts.node_event.NodeEvent as event
 
 payload_send : IsSend payload.the_row
 payload_send =
@@ -67,10 +76,35 @@ ruleset of_told = (
 entry_send : IsSend entry.the_row
 entry_send = search of_told depth 60 fits 20000
 
-history_field : IsSend history.the_field.row
-history_field = search
-    (entry_send, Crossing.crosses, TheKnot.crosses, atom.the_send, pid.the_field_send, reference.the_field_send, sendable)
+-- the tables of links and of monitors, which are trees
+ends_send : IsSend ends.the_row
+ends_send = search (NodeKnot.crosses, Crossing.crosses, pid.the_field_send, sendable) depth 60 fits 20000
+
+tree_send : IsSend index_tree.the_row
+tree_send = search (Crossing.crosses, NodeKnot.crosses, sendable) depth 60 fits 20000
+
+watches_send : IsSend watches.the_row
+watches_send = search (tree_send, Crossing.crosses, pid.the_field_send, reference.the_field_send, sendable) depth 60 fits 20000
+
+watchers_send : IsSend watchers.the_row
+watchers_send = search (tree_send, Crossing.crosses, pid.the_field_send, reference.the_field_send, sendable) depth 60 fits 20000
+
+node_field : IsSend node.the_field.row
+node_field = search (
+  ends_send,
+  watches_send,
+  watchers_send,
+  Crossing.crosses,
+  TheKnot.crosses,
+  atom.the_send,
+  pid.the_field_send,
+  reference.the_field_send,
+  sendable,
+)
     depth 60 fits 20000
+
+history_field : IsSend history.the_field.row
+history_field = search (entry_send, node_field, Crossing.crosses, sendable) depth 60 fits 20000
 
 book_send : IsSend book.the_row
 book_send = search
@@ -98,10 +132,7 @@ asked_send =
     recorded_send (asked.the_field).row _ _ (asked.the_type).to_one (struct_send (shape asked.the_type) (event_send, (receipt_send, tt)))
 
 pub seat_field : IsSend (seat.the_field).row
-seat_field = struct_send (shape seat.the_type) (
-  plain_send _ _ _ _ _,
-  (vec.the_send asked.the_row the_global.the_row TheImpl.ghosts asked_send global.the_send heap.the_frees, tt),
-)
+seat_field = search (asked_send, Crossing.crosses, TheKnot.crosses, sendable) depth 60 fits 20000
 
 pub seat_send : IsSend seat.the_row
 seat_send = recorded_send (seat.the_field).row _ _ (seat.the_type).to_one seat_field
@@ -111,10 +142,6 @@ seat_send = recorded_send (seat.the_field).row _ _ (seat.the_type).to_one seat_f
 pub bell_send : IsSend (a_sender.the_row Builtin.unit the_global.the_row TheImpl.ghosts)
 bell_send =
     sender.the_send Builtin.unit the_global.the_row TheImpl.ghosts (plain_send _ _ _ _ _) global.the_send global.the_sync heap.the_frees
-
-bell_sync : IsSync (a_sender.the_row Builtin.unit the_global.the_row TheImpl.ghosts)
-bell_sync =
-    sender.the_sync Builtin.unit the_global.the_row TheImpl.ghosts (plain_send _ _ _ _ _) global.the_send global.the_sync heap.the_frees
 
 box_send : IsSend (a_sender.the_row an_offer.the_row the_global.the_row TheImpl.ghosts)
 box_send = sender.the_send an_offer.the_row the_global.the_row TheImpl.ghosts offer.the_send global.the_send global.the_sync heap.the_frees
@@ -126,13 +153,21 @@ ended_sync : IsSync (a_receiver.the_row Builtin.unit the_global.the_row TheImpl.
 ended_sync =
     receiver.the_sync Builtin.unit the_global.the_row TheImpl.ghosts (plain_send _ _ _ _ _) global.the_send global.the_sync heap.the_frees
 
+marks_send : IsSend (a_vec.the_row a_flag.the_row the_global.the_row TheImpl.ghosts)
+marks_send = vec.the_send a_flag.the_row the_global.the_row TheImpl.ghosts flag.the_send global.the_send heap.the_frees
+
+marks_sync : IsSync (a_vec.the_row a_flag.the_row the_global.the_row TheImpl.ghosts)
+marks_sync = vec.the_sync a_flag.the_row the_global.the_row TheImpl.ghosts flag.the_sync global.the_sync
+
 desk_send : IsSend desk.the_row
 desk_send = recorded_send (desk.the_field).row _ _ (desk.the_type).to_one
-    (struct_send (shape desk.the_type) (lock_send, (bell_send, (box_send, (number.the_send, tt)))))
+    (struct_send (shape desk.the_type)
+    (lock_send, (box_send, (number.the_send, (number.the_send, (number.the_send, (number.the_send, (flag.the_field_send, (flag.the_field_send, (marks_send, tt))))))))))
 
 desk_sync : IsSync desk.the_row
 desk_sync = recorded_sync (desk.the_field).row _ _ (desk.the_type).to_one
-    (struct_sync (shape desk.the_type) (lock_sync, (bell_sync, (box_sync, (number.the_sync, tt)))))
+    (struct_sync (shape desk.the_type)
+    (lock_sync, (box_sync, (number.the_sync, (number.the_sync, (number.the_sync, (number.the_sync, (flag.the_field_sync, (flag.the_field_sync, (marks_sync, tt))))))))))
 
 module _ (G : RattleType) where
   shared_send : IsSend G → IsSend (shared.the_row G)
@@ -141,7 +176,7 @@ module _ (G : RattleType) where
         vec.the_send a_name.the_row the_global.the_row TheImpl.ghosts name.the_send global.the_send heap.the_frees,
         (
           vec.the_send desk.the_row the_global.the_row TheImpl.ghosts desk_send global.the_send heap.the_frees,
-          (number.the_send, (flag.the_field_send, (send, tt))),
+          (flag.the_field_send, (send, tt)),
         ),
       ))
 
@@ -151,7 +186,7 @@ module _ (G : RattleType) where
         vec.the_sync a_name.the_row the_global.the_row TheImpl.ghosts name.the_sync global.the_sync,
         (
           vec.the_sync desk.the_row the_global.the_row TheImpl.ghosts desk_sync global.the_sync,
-          (number.the_sync, (flag.the_field_sync, (sync, tt))),
+          (flag.the_field_sync, (sync, tt)),
         ),
       ))
 
@@ -165,6 +200,9 @@ module _ (G : RattleType) where
       arc.the_sync (shared.the_row G) the_global.the_row TheImpl.ghosts (shared_send send) global.the_send
       (shared_sync sync) global.the_sync heap.the_frees
 
+  running_sync : IsSend G → IsSync G → IsSync (running.the_field G).row
+  running_sync send sync = struct_sync (shape (running.the_type G)) (arc_sync send sync, tt)
+
   -- any thread may call the nodes by a reference to their cluster
   pub cluster_sync : IsSend G → IsSync G → IsSync (cluster.the_row G)
   cluster_sync send sync = recorded_sync (cluster.the_field G).row _ _ (cluster.the_type G).to_one
@@ -172,6 +210,6 @@ module _ (G : RattleType) where
         global.the_field_sync,
         (
           search (name.the_sync, cookie.the_sync, Crossing.crosses, sendable) depth 60 fits 20000,
-          (arc_sync send sync, (plain_sync _ _ _ _ _, (ended_sync, tt))),
+          (running_sync send sync, (plain_sync _ _ _ _ _, (ended_sync, tt))),
         ),
       ))

@@ -4,7 +4,7 @@ use Rattle.dist_books.specs.Acting.{Nodes}
 use Rattle.joined_books.specs.Joined.{AreARun, IsTrace}
 use Rattle.joined_books.specs.Receipts.{AreReceipts}
 use Rattle.joined_books.specs.declared.trace.Placed.{Placed}
-use Rattle.node_book.specs.Seen.{BookSeen}
+use Rattle.node_lock.specs.Seen.{BookSeen}
 use Rattle.node_lock.specs.declared.seat.Seat.{Seat}
 
 -- there is a book for each of these nodes: the entries are all of theirs, by stamp and then by node, and one safe run of the

@@ -1,42 +1,39 @@
-//! What may come to the node of a book.
+//! The events that a node's thread may apply.
 
-use conn_core::Standing;
 use erl_names::TrunkId;
 use node_core::Node;
 
-/// How the node's side of a connection stands to what comes.
+/// The way in which a node takes the items of a connection.
 #[derive(Clone, Copy, Debug, Drop, PartialEq, Eq)]
 pub(crate) enum Hearing {
-    /// There is no side yet, or not any more: what opens one may come.
+    /// There is no side: the item that opens one may come.
     New,
-    /// There is a side, to which something may come.
+    /// There is a side that takes items.
     Open,
-    /// Nothing may: the node is down, or the side is lost or gone.
-    Closed,
+    /// The node is down.
+    Down,
+    /// The side is lost or gone. It takes nothing any more.
+    Over,
 }
 
+/// Returns the way in which the node takes the items of a connection.
 pub(crate) fn hearing_of(node: &Node, trunk: &TrunkId) -> Hearing {
     if !node.is_up() {
-        return Hearing::Closed;
+        return Hearing::Down;
     }
     match node.side(trunk) {
-        Some(side) => match side.standing {
-            Standing::Dialing(_) => Hearing::Open,
-            Standing::Accepting(_) => Hearing::Open,
-            Standing::Up { .. } => Hearing::Open,
-            Standing::Losing { .. } => Hearing::Closed,
-            Standing::Gone => Hearing::Closed,
-        },
+        Some(side) if side.standing.state().listens() => Hearing::Open,
+        Some(_) => Hearing::Over,
         None => Hearing::New,
     }
 }
 
-/// Whether a signal travels from the node to itself, and may come.
+/// Returns true if a signal is in flight from the node to itself, and may come.
 pub(crate) fn has_local(node: &Node) -> bool {
     node.is_up() && node.has_local()
 }
 
-/// Whether a connection is lost, and what the node keeps of it may be swept.
+/// Returns true if a connection is lost and its records may be swept.
 pub(crate) fn has_lost(node: &Node) -> bool {
     node.is_up() && node.is_losing()
 }

@@ -1,4 +1,4 @@
-//! The nodes of a world, and those who call them.
+//! The nodes of a world, and their callers.
 ghost use Rattle.std.specs.Prelude.{◌≡◌, ◌<◌, ◌≤◌, IfErr, IfOk, [], length};
 ghost use Rattle.std.specs.Fn.{FnOnceReturnsAt};
 ghost use Rattle.cluster_run.specs.Finishing.{IsFinished};
@@ -18,9 +18,8 @@ use erl_handshake::Cookie;
 use erl_names::NodeName;
 use erl_term::Refusal;
 use joined_books::{FinishError, merge_books};
-use node_book::Book;
 use node_core::Node;
-use node_lock::{Act, Asked, NodeLock, Seat};
+use node_lock::{Act, Book, NodeLock, Seat};
 use std::alloc::{AllocError, Global};
 use std::sync::atomic::{AtomicBool, AtomicU64, Ordering};
 use std::sync::{Arc, Wait};
@@ -29,36 +28,58 @@ use std::thread::Threads;
 use wire_core::Offer;
 use world_core::World;
 
-// What a node's thread is reached by.
-#[derive(Drop)]
-struct Ears {
-    ear: Receiver<()>,
-    offers: Receiver<Offer>,
+// The state that a cluster shares with its threads. Dropped, it tells them to end.
+struct Running<G> {
+    shared: Arc<Shared<G>>,
 }
 
-/// The nodes of a world, each with a thread of its own. The threads go on until [`Cluster::finish`].
-/// Any thread may call the nodes by a reference to this.
+impl<G: Drop> Drop for Running<G> {
+    fn drop(self) {
+        let Running { shared } = self;
+        shared.end();
+        drop(shared);
+    }
+}
+
+/// The nodes of a world, each with a thread of its own. Any thread may call the nodes by a reference
+/// to this.
+///
+/// The threads go on until [`Cluster::finish`]. A cluster that is dropped tells its threads to end, and
+/// doesn't wait for them.
 #[derive(Drop)]
 pub struct Cluster<G> {
     alloc: Global,
     nodes: Vec<(NodeName, Cookie)>,
-    shared: Arc<Shared<G>>,
-    // How many threads were started, and where each says that it has ended.
+    running: Running<G>,
+    // The number of threads, and the channel on which each says that it has ended.
     started: usize,
     ended: Receiver<()>,
 }
 
-// A node's desk and what its thread is reached by.
-fn desk(alloc: Global, book: Book) -> Result<(Desk, Ears), AllocError> {
-    let (bell, ear) = bounded(alloc, 1)?;
+// Returns a mark for each of so many nodes.
+fn marks(alloc: Global, nodes: usize) -> Result<Vec<AtomicBool>, AllocError> {
+    let mut marks = Vec::new(alloc);
+    for _ in 0..nodes {
+        marks.push(AtomicBool::new(false))?;
+    }
+    Ok(marks)
+}
+
+// Returns the desk of one of so many nodes, and the receiver of the offers to it.
+fn desk(alloc: Global, book: Book, nodes: usize) -> Result<(Desk, Receiver<Offer>), AllocError> {
     let (box_for_offers, offers) = unbounded(alloc)?;
     let desk = Desk {
         lock: NodeLock::new(book),
-        bell,
         box_for_offers,
         shortages: AtomicU64::new(0),
+        calls: AtomicU64::new(0),
+        rings: AtomicU64::new(0),
+        idle: AtomicU64::new(u64::MAX),
+        is_resting: AtomicBool::new(false),
+        wants_room: AtomicBool::new(false),
+        marks: marks(alloc, nodes)?,
     };
-    Ok((desk, Ears { ear, offers }))
+    Ok((desk, offers))
 }
 
 // The names of all nodes.
@@ -74,31 +95,21 @@ fn names_of(alloc: Global, nodes: &[(NodeName, Cookie)]) -> Result<Vec<NodeName>
 fn desks(
     alloc: Global,
     nodes: &[(NodeName, Cookie)],
-) -> Result<(Vec<Desk>, Vec<Ears>), AllocError> {
+) -> Result<(Vec<Desk>, Vec<Receiver<Offer>>), AllocError> {
     let mut desks = Vec::new(alloc);
-    let mut ears = Vec::new(alloc);
+    let mut boxes = Vec::new(alloc);
     for place in 0..nodes.len() {
         let names = names_of(alloc, nodes)?;
         if place >= names.len() {
             break;
         }
         let (_, cookie) = &nodes[place];
-        let (desk, ear) = desk(alloc, Book::new(alloc, names, place, cookie.clone()?)?)?;
+        let book = Book::new(alloc, names, place, cookie.clone()?)?;
+        let (desk, offers) = desk(alloc, book, nodes.len())?;
         desks.push(desk)?;
-        ears.push(ear)?;
+        boxes.push(offers)?;
     }
-    Ok((desks, ears))
-}
-
-// Whether the receipt of a place says that it was done.
-fn is_done(seat: &Seat, place: &Result<usize, Refusal>) -> bool {
-    match place {
-        Ok(place) => match seat.receipts().get(*place) {
-            Some(Asked { receipt, .. }) => receipt.answer.is_ok(),
-            None => false,
-        },
-        Err(_) => false,
-    }
+    Ok((desks, boxes))
 }
 
 // Starts the thread of a node.
@@ -127,13 +138,13 @@ where
     }
 }
 
-// Starts the threads of all nodes, and tells how many, up to the first that can't be started.
+// Starts the threads of all nodes, up to the first that can't be started. Returns the number of threads.
 fn start_all<R, G>(
     rt: &R,
     alloc: Global,
     shared: &Arc<Shared<G>>,
     end: &Sender<()>,
-    ears: Vec<Ears>,
+    boxes: Vec<Receiver<Offer>>,
     seed: u32,
 ) -> (usize, Result<(), Refusal>)
 where
@@ -142,8 +153,8 @@ where
     ensures { IfErr result.1 IsNoThread }
 {
     let mut started = 0usize;
-    for Ears { ear, offers } in ears {
-        let worker = Worker::new(alloc, started, ear, offers, seed);
+    for offers in boxes {
+        let worker = Worker::new(alloc, started, offers, seed);
         if let Err(e) = start(rt, shared, end, worker) {
             return (started, Err(e));
         }
@@ -195,24 +206,23 @@ impl<G: Gate + Send + Sync + Drop + 'static> Cluster<G> {
             return Err(Refusal::BadName);
         }
         let names = names_of(alloc, &nodes)?;
-        let (desks, ears) = desks(alloc, &nodes)?;
+        let (desks, boxes) = desks(alloc, &nodes)?;
         let shared = Arc::new(
             alloc,
             Shared {
                 names,
                 desks,
-                on_their_way: AtomicU64::new(0),
                 is_over: AtomicBool::new(false),
                 gate,
             },
         )?;
         let (end, ended) = bounded(alloc, nodes.len())?;
-        let (started, outcome) = start_all(rt, alloc, &shared, &end, ears, seed);
+        let (started, outcome) = start_all(rt, alloc, &shared, &end, boxes, seed);
         drop(end);
         let cluster = Cluster {
             alloc,
             nodes,
-            shared,
+            running: Running { shared },
             started,
             ended,
         };
@@ -223,26 +233,23 @@ impl<G: Gate + Send + Sync + Drop + 'static> Cluster<G> {
         Ok(cluster)
     }
 
-    // Ends the threads. A handle of a thread can't be shared by threads, so none is kept: what a thread
-    // does last is to say that it has ended.
-    fn halt<R: Wait>(self, rt: &R) -> (Vec<(NodeName, Cookie)>, Arc<Shared<G>>)
+    // Ends the threads. A handle of a thread can't be shared by threads, so none is kept. The last action
+    // of a thread is to say that it has ended.
+    fn halt<R: Wait>(self, rt: &R) -> (Vec<(NodeName, Cookie)>, Running<G>)
         ensures { result.0.items ≡ self.nodes.items }
     {
         let Cluster {
             nodes,
-            shared,
+            running,
             started,
             ended,
             ..
         } = self;
-        shared.is_over.store(true, Ordering::SeqCst);
-        for desk in &shared.desks {
-            desk.ring(rt);
-        }
+        running.shared.end();
         for _ in 0..started {
             let _ = ended.recv(rt);
         }
-        (nodes, shared)
+        (nodes, running)
     }
 
     /// A new seat at a node. Takes no memory.
@@ -262,8 +269,8 @@ impl<G: Gate + Send + Sync + Drop + 'static> Cluster<G> {
         }
     }
 
-    /// What a caller asks for, at the node of its seat as that then is. The place of its receipt among
-    /// the seat's is told. (Reference Manual, Processes; ERTS User's Guide, Distribution Protocol.)
+    /// Does the act of a caller at the node of its seat, as that then is. Returns the place of its receipt
+    /// among the seat's. (Reference Manual, Processes; ERTS User's Guide, Distribution Protocol.)
     ///
     /// # Errors
     /// As those of [`NodeLock::call`]; and [`Refusal::StrangeSeat`] where there is no such node. Then the
@@ -272,23 +279,18 @@ impl<G: Gate + Send + Sync + Drop + 'static> Cluster<G> {
         ensures ok { IfOk result (Asks act seat.old seat.new) }
         ensures err { IfErr result (λ _. IsSameSeat seat.old seat.new) }
     {
-        let Some(desk) = self.shared.desks.get(seat.node()) else {
+        let Some(desk) = self.running.shared.desks.get(seat.node()) else {
             drop(act);
             return Err(Refusal::StrangeSeat);
         };
-        let may_leave = matches!(&act, Act::Dial { .. });
-        if may_leave {
-            self.shared.leaves();
-        }
+        desk.calls.fetch_add(1, Ordering::SeqCst);
         let place = desk.lock.call(rt, self.alloc, seat, act);
-        if may_leave && !is_done(seat, &place) {
-            self.shared.is_there();
-        }
-        desk.ring(rt);
+        desk.ring();
+        desk.calls.fetch_sub(1, Ordering::SeqCst);
         place
     }
 
-    /// What a function says of a node as it then is. The node's lock is held meanwhile.
+    /// Returns the result of a function of a node as it then is. The node's lock is held meanwhile.
     ///
     /// # Errors
     /// [`Refusal::NothingThere`] where there is no such node.
@@ -302,7 +304,7 @@ impl<G: Gate + Send + Sync + Drop + 'static> Cluster<G> {
         ensures ok { IfOk result (λ said. (node : TheNode) × FnOnceReturnsAt F.FnOnce f node said) }
         ensures err { IfErr result (λ e. e ≡ NothingThere) }
     {
-        let Some(desk) = self.shared.desks.get(node) else {
+        let Some(desk) = self.running.shared.desks.get(node) else {
             return Err(Refusal::NothingThere);
         };
         let guard = desk.lock.lock(rt);
@@ -312,8 +314,8 @@ impl<G: Gate + Send + Sync + Drop + 'static> Cluster<G> {
         }
     }
 
-    /// How often a node's thread has found no memory for what it was to do, and tried again later; the
-    /// count stays at its highest, 2^64 - 1.
+    /// Returns the number of times that a node's thread has found no memory for its work, and tried again
+    /// later. The count stays at its highest, 2^64 - 1.
     ///
     /// # Errors
     /// [`Refusal::NothingThere`] where there is no such node.
@@ -324,20 +326,19 @@ impl<G: Gate + Send + Sync + Drop + 'static> Cluster<G> {
         if node >= self.nodes.len() {
             return Err(Refusal::NothingThere);
         }
-        match self.shared.desks.get(node) {
+        match self.running.shared.desks.get(node) {
             Some(desk) => Ok(desk.shortages.load(Ordering::SeqCst)),
             None => Err(Refusal::NothingThere),
         }
     }
 
-    /// Looks whether anything may still happen by itself, so many times at most: no offer of a connection
-    /// is on its way, no node has a signal to itself or something to sweep, and nothing waits on a side
-    /// that isn't lost or gone. It has settled where two looks, one behind the other, find so, and find as
-    /// many entries. Nothing is claimed of this.
+    /// Waits until the cluster has come to rest: at one moment no call was in progress, and no thread had
+    /// anything to do. Looks at most `max_turns` times, and changes nothing. Two looks in a row have to
+    /// find so. Nothing is proved of this.
     pub fn settle<R: Wait>(&self, rt: &R, max_turns: u64) -> Settled {
         let mut last = None;
         for _ in 0..max_turns {
-            let found = look(rt, self.alloc, &self.shared);
+            let found = look(rt, &self.running.shared);
             if !found.is_busy && last == Some(found) {
                 return Settled::Settled;
             }
@@ -360,9 +361,9 @@ impl<G: Gate + Send + Sync + Drop + 'static> Cluster<G> {
         ensures fault { IfErr result (λ it. (it.nodes.items ≡ self.nodes.items) × (it.seats.items ≡ seats.items) × IsFault self.nodes.items it.books.items seats.items it.fault) }
     {
         let alloc = self.alloc;
-        let (nodes, shared) = self.halt(rt);
+        let (nodes, running) = self.halt(rt);
         let mut books = Vec::new(alloc);
-        let merged = match take_books(rt, &shared, &mut books) {
+        let merged = match take_books(rt, &running.shared, &mut books) {
             Ok(()) => merge_books(alloc, &nodes, &books, &seats),
             Err(_) => Err(FinishError::OutOfMemory),
         };

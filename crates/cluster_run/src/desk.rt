@@ -1,4 +1,4 @@
-//! What the threads of all nodes share.
+//! The state that the threads of all nodes share.
 
 use crossbeam_channel::Sender;
 use erl_names::NodeName;
@@ -8,57 +8,106 @@ use std::sync::Wait;
 use std::sync::atomic::{AtomicBool, AtomicU64, Ordering};
 use wire_core::Offer;
 
-/// What stands for a node's thread among the others: the node's book under its lock, the bell that wakes
-/// the thread, its letter box for the halves of new connections, and how often it found no memory.
+/// The part of a node's thread that the other threads reach: the node's book under its lock, its
+/// mailbox for the halves of new connections, and the counts by which it is woken and watched.
 #[derive(Drop)]
 pub(crate) struct Desk {
     pub(crate) lock: NodeLock,
-    pub(crate) bell: Sender<()>,
     pub(crate) box_for_offers: Sender<Offer>,
+    /// The number of times that the thread found no memory.
     pub(crate) shortages: AtomicU64,
+    /// The number of calls in progress.
+    pub(crate) calls: AtomicU64,
+    /// The number of times that the thread was woken. It rests on this word.
+    pub(crate) rings: AtomicU64,
+    /// The number of rings before the last turn in which the thread found nothing to do.
+    pub(crate) idle: AtomicU64,
+    /// The thread rests, or is about to.
+    pub(crate) is_resting: AtomicBool,
+    /// An item of the node waits for room on its wire.
+    pub(crate) wants_room: AtomicBool,
+    /// The nodes, by place, that have put a piece on a wire to this one since the thread last looked.
+    pub(crate) marks: Vec<AtomicBool>,
 }
 
 impl Desk {
-    /// Wakes the node's thread. A bell that rings already wakes it too.
-    pub(crate) fn ring<R: Wait>(&self, rt: &R) {
-        let _ = self.bell.try_send(rt, ());
+    /// Wakes the node's thread. A thread that is awake takes one turn more before it rests.
+    pub(crate) fn ring(&self) {
+        // Counted first: a thread that rests afterwards sees it, and one that rests already has said so.
+        self.rings.fetch_add(1, Ordering::SeqCst);
+        if self.is_resting.load(Ordering::SeqCst) {
+            self.rings.wake_one();
+        }
+    }
+
+    /// Rests until the thread is woken, unless it was since it had been woken so often. May return early.
+    pub(crate) fn rest<R: Wait>(&self, rt: &R, rings: u64) {
+        self.idle.store(rings, Ordering::SeqCst);
+        self.is_resting.store(true, Ordering::SeqCst);
+        self.rings.park(rt, (rings & 0xFFFF_FFFF) as u32);
+        self.is_resting.store(false, Ordering::SeqCst);
+    }
+
+    /// Returns true if the node at a place has put a piece on a wire to this one since this was last asked.
+    pub(crate) fn take_mark(&self, from: usize) -> bool {
+        match self.marks.get(from) {
+            // Taken back before the wire is looked at: a piece that comes later marks again.
+            Some(mark) if mark.load(Ordering::SeqCst) => {
+                mark.store(false, Ordering::SeqCst);
+                true
+            }
+            _ => false,
+        }
     }
 }
 
-/// What the threads of all nodes share.
+/// The state that the threads of all nodes share.
 #[derive(Drop)]
 pub(crate) struct Shared<G> {
-    /// By the places of their nodes.
+    /// The names, by the places of the nodes.
     pub(crate) names: Vec<NodeName>,
     pub(crate) desks: Vec<Desk>,
-    /// How many halves of new connections are on their way, and dials that may make some.
-    pub(crate) on_their_way: AtomicU64,
     pub(crate) is_over: AtomicBool,
     pub(crate) gate: G,
 }
 
 impl<G> Shared<G> {
-    /// The place of the node of a name.
+    /// Returns the place of the node of a name.
     pub(crate) fn place_of(&self, name: &NodeName) -> Option<usize> {
         self.names
             .iter()
             .position(|other| same_name(other.atom(), name.atom()))
     }
 
-    /// Wakes the thread of a node.
-    pub(crate) fn ring<R: Wait>(&self, rt: &R, node: Option<usize>) {
-        if let Some(desk) = node.and_then(|place| self.desks.get(place)) {
-            desk.ring(rt);
+    // Returns the desk of a node.
+    fn desk(&self, node: Option<usize>) -> Option<&Desk> {
+        self.desks.get(node?)
+    }
+
+    /// Wakes the thread of a node, to which the node at the place `from` has put a piece on a wire.
+    pub(crate) fn tell_piece(&self, node: Option<usize>, from: usize) {
+        if let Some(desk) = self.desk(node) {
+            if let Some(mark) = desk.marks.get(from) {
+                mark.store(true, Ordering::SeqCst);
+            }
+            desk.ring();
         }
     }
 
-    /// Half of a new connection, or a dial that may make one, is on its way.
-    pub(crate) fn leaves(&self) {
-        self.on_their_way.fetch_add(1, Ordering::SeqCst);
+    /// Wakes the thread of a node, off whose wire a piece was taken, if it waits for room.
+    pub(crate) fn tell_room(&self, node: Option<usize>) {
+        if let Some(desk) = self.desk(node) {
+            if desk.wants_room.load(Ordering::SeqCst) {
+                desk.ring();
+            }
+        }
     }
 
-    /// One that was on its way is there, or is gone.
-    pub(crate) fn is_there(&self) {
-        self.on_their_way.fetch_sub(1, Ordering::SeqCst);
+    /// Tells all threads to end.
+    pub(crate) fn end(&self) {
+        self.is_over.store(true, Ordering::SeqCst);
+        for desk in &self.desks {
+            desk.ring();
+        }
     }
 }

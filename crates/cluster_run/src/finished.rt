@@ -8,12 +8,11 @@ use erl_handshake::Cookie;
 use erl_names::NodeName;
 use erl_term::Refusal;
 use joined_books::{FinishError, Trace, replay};
-use node_book::Book;
-use node_lock::Seat;
+use node_lock::{Book, Seat};
 use std::alloc::Global;
 use world_core::World;
 
-/// What nodes in threads have come to, once all threads have ended.
+/// The outcome of nodes in threads, once all threads have ended.
 #[derive(Drop)]
 pub struct Finished {
     /// The names and cookies of the nodes.

@@ -1,13 +1,21 @@
-//! What stands in a node's thread, for tests.
+//! Hooks into a node's thread, for tests.
 
-/// What the thread of a node does after each event that it applies, while it still has the node's lock.
-/// It has to take no other lock.
+use wire_core::LONGEST;
+
+/// A hook into the thread of each node, for tests.
 pub trait Gate {
-    /// The node of this place has so many entries now.
+    /// Runs after each event that a node's thread applies, while it holds the node's lock. `node` is the
+    /// place of the node, and `entries` the length of its history. It must take no other lock.
     fn inside(&self, node: usize, entries: u64);
+
+    /// Returns the greatest length of a piece on a wire, in bytes: 1 to 512. Any other number counts as
+    /// 512.
+    fn greatest_piece(&self) -> usize {
+        LONGEST
+    }
 }
 
-/// Does nothing.
+/// A gate that does nothing.
 #[derive(Clone, Copy, Debug, Drop)]
 pub struct Open;
 
