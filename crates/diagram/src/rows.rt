@@ -1,6 +1,6 @@
 //! What a diagram shows.
 
-/// What a diagram shows: its lanes, the first at the left, and its rows, the first on top.
+/// A diagram: its lanes, the first at the left, and its rows, the first on top.
 #[derive(Drop)]
 pub struct Diagram {
     /// What the whole is, in a few words.
@@ -17,7 +17,8 @@ pub struct Lane {
     pub under: Vec<String>,
 }
 
-/// What happens at once. A row first takes an item, then its marks come, and then queues are given up.
+/// The marks and items of one moment. A row first takes an item, then its marks come, and then queues
+/// are given up.
 #[derive(Drop)]
 pub struct Row {
     /// What stands at the left, a line each.
@@ -29,7 +30,7 @@ pub struct Row {
     pub gave_up: Vec<u32>,
 }
 
-/// What stands on a lane.
+/// A mark on a lane.
 #[derive(Drop)]
 pub enum Mark {
     Note(Note),
@@ -57,7 +58,7 @@ pub enum Tone {
     Alarm,
 }
 
-/// What is sent from a lane to another.
+/// An item that is sent from one lane to another.
 #[derive(Drop)]
 pub struct Item {
     pub label: String,

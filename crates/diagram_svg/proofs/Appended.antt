@@ -1,8 +1,8 @@
 -- Content behind content.
 use Rattle.std.proofs.Common.{◌≡◌, ℕ, List, [], ◌++◌, append_assoc, append-nil, ap, sym, ◌∙◌}
-use Rattle.svg_text.specs.Document.{drawing_end, drawing_start}
-use Rattle.svg_text.specs.Markup.{Appends, beside, nothing}
-use Rattle.svg_text.proofs.Content.{document}
+use Rattle.diagram_svg.specs.Document.{drawing_end, drawing_start}
+use Rattle.diagram_svg.specs.Markup.{Appends, beside, nothing}
+use Rattle.diagram_svg.proofs.Content.{document}
 use Rattle.diagram_svg.specs.Drawing.{AppendsDocument}
 
 pub appends_nothing : (old : List ℕ) → Appends old old

@@ -1,1 +1,4 @@
+pub mod Written
+pub mod Plain
+pub mod Content
 pub mod Appended

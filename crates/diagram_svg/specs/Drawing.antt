@@ -1,6 +1,6 @@
 -- A drawing behind a text.
 use Rattle.std.specs.Prelude.{◌≡◌, ℕ, List, ◌++◌}
-use Rattle.svg_text.specs.Markup.{IsDocument}
+use Rattle.diagram_svg.specs.Markup.{IsDocument}
 
 pub record AppendsDocument (old new : List ℕ) : Type 0 where
   pub drawing : List ℕ

@@ -1,1 +1,6 @@
+pub mod Escaping
+pub mod Reading
+pub mod Markup
+pub mod Figures
+pub mod Document
 pub mod Drawing

@@ -1,13 +1,13 @@
 //! The arrows of a drawing.
 ghost use Rattle.std.specs.Prelude.{OnOk, string_bytes};
-ghost use Rattle.svg_text.specs.Markup.{Appends};
+ghost use Rattle.diagram_svg.specs.Markup.{Appends};
 
+use crate::figures::{Point, put_box, put_line, put_words};
 use crate::frame::Frame;
 use crate::rows::line_of;
 use crate::words::shortened;
 use diagram::{Arrow, End, Item, Layout, Mark, Row};
 use std::alloc::{AllocError, Global};
-use svg_text::{Point, put_box, put_line, put_words};
 
 // How many characters of what an item is called have room in a label, and how many with what becomes of it.
 const LABEL: usize = 24;

@@ -1,15 +1,16 @@
 //! A diagram as a drawing in SVG. Where a figure stands is not proved, but for what `lay_out` says.
 ghost use Rattle.std.specs.Prelude.{OnOk, string_bytes};
 ghost use Rattle.diagram_svg.specs.Drawing.{AppendsDocument};
-ghost use Rattle.svg_text.specs.Markup.{Appends};
+ghost use Rattle.diagram_svg.specs.Markup.{Appends};
 
 use crate::arrows::{put_arrows, put_labels};
+use crate::document::{put_end, put_start};
+use crate::figures::{Point, put_box};
 use crate::frame::{Frame, frame_of};
 use crate::rows::{put_lanes, put_notes, put_rows};
 use crate::style::style;
 use diagram::{Diagram, Layout, lay_out};
 use std::alloc::{AllocError, Global};
-use svg_text::{Point, put_box, put_end, put_start};
 
 // What stands in the drawing, from the back to the front.
 fn put_figures(

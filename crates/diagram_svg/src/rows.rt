@@ -1,12 +1,12 @@
 //! The lanes, the words and the notes of a drawing.
 ghost use Rattle.std.specs.Prelude.{OnOk, string_bytes};
-ghost use Rattle.svg_text.specs.Markup.{Appends};
+ghost use Rattle.diagram_svg.specs.Markup.{Appends};
 
+use crate::figures::{Point, put_box, put_line};
 use crate::frame::{Frame, MOST_UNDER, UNDER};
 use crate::words::{put_short, shortened};
 use diagram::{Lane, Layout, Mark, Note, Row, Tone};
 use std::alloc::{AllocError, Global};
-use svg_text::{Point, put_box, put_line};
 
 // How many characters have room at the left, and on a lane.
 const WORDS: usize = 30;

@@ -1,9 +1,9 @@
 //! Words that have to fit into so much room.
 ghost use Rattle.std.specs.Prelude.{OnOk, string_bytes};
-ghost use Rattle.svg_text.specs.Markup.{Appends};
+ghost use Rattle.diagram_svg.specs.Markup.{Appends};
 
+use crate::figures::{Point, put_words};
 use std::alloc::{AllocError, Global};
-use svg_text::{Point, put_words};
 
 /// The first characters of a text, and three dots in place of those behind them.
 pub(crate) fn shortened(alloc: Global, words: &str, most: usize) -> Result<String, AllocError> {

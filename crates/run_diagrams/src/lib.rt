@@ -1,4 +1,4 @@
-//! What happens at nodes, as a sequence diagram.
+//! A run of nodes, as a sequence diagram.
 //!
 //! A [`Recorder`] is told of the nodes and then of each event with what it came to, in the order of the
 //! run, and makes a row of each: items that are sent become arrows on the queue of their connection and

@@ -101,18 +101,18 @@ impl Recorder {
         Ok(())
     }
 
-    /// What is to stand at the left of the next row: a line more.
+    /// Adds a line to the words at the left of the next row.
     pub fn say(&mut self, alloc: Global, text: &str) -> Result<(), AllocError> {
         self.words.push(String::from_str(alloc, text)?)?;
         Ok(())
     }
 
-    /// What was to stand at the left of the next row is not to.
+    /// Drops the words that were to stand at the left of the next row.
     pub fn hush(&mut self) {
         self.words.clear();
     }
 
-    /// What is still to stand at the left of a row stands there in a row of its own.
+    /// Adds a row of its own for the words that still wait for one.
     pub fn rest(&mut self, alloc: Global) -> Result<(), AllocError> {
         if self.words.is_empty() {
             return Ok(());
@@ -170,7 +170,7 @@ impl Recorder {
         Ok(diagram)
     }
 
-    /// What was asked for is refused, and nothing happened.
+    /// Records a refused request, at which nothing happened.
     pub fn refused(&mut self, alloc: Global, why: Refusal) -> Result<(), AllocError> {
         let mut row = self.begin(alloc);
         put_refusal(alloc, &mut row, why)?;

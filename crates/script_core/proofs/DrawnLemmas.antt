@@ -7,7 +7,7 @@ use Rattle.script_core.specs.Script.{Run}
 use Rattle.script_core.specs.declared.script.Outcome.{Outcome}
 use Rattle.script_core.specs.declared.script.Outcome.TheVariants as outcome
 use Rattle.script_core.proofs.ScriptLemmas.{front_whole}
-use Rattle.svg_text.specs.Markup.{IsDocument}
+use Rattle.diagram_svg.specs.Markup.{IsDocument}
 
 pub ends_so : (r : Run) (old new : Option (List ℕ)) (o : Outcome) → Answers r old new o → Ends r.verdict o
 ends_so r old new outcome.Ran a = a.0

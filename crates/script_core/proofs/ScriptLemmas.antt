@@ -3,7 +3,7 @@ use Rattle.std.proofs.Common.{◌≡◌, ◌≤◌, ◌<◌, ℕ, zero, suc, ◌
 use Rattle.std.proofs.Common.{take, drop, All, Option, None, Some, Result, Ok, Err, refl, sym, ap, subst, ◌∙◌, append_assoc, arith}
 use Rattle.std.proofs.lemmas.Bool.{lt-ltb, le-ltb, eqb-true}
 use Rattle.std.proofs.lemmas.List.{append-nil, length-append, take-append-drop}
-use Rattle.std.proofs.lemmas.List.Elements.{All-head, All-tail, All-push}
+use Rattle.std.proofs.lemmas.List.Elements.{All-head, All-tail, All-push, All-append}
 use Rattle.std.proofs.lemmas.List.Splits.{slice_split_at, slice_split_none, slice_split-cons_no}
 use Rattle.std.specs.List.{slice_split, onto_first}
 use Rattle.std.specs.Io.KnownBytes.{Appends, Consumes, Keeps, IsAtEnd, ReadConsumes}
@@ -19,7 +19,7 @@ use Rattle.script_core.specs.Lines.{Heeds, Steps}
 use Rattle.script_core.specs.Script.{Run, TooManyLines, stops, prints, runs_step, runs_lines, runs_from, lines_of, without_empty_last}
 use Rattle.script_core.specs.Outcomes.{AppendsFront, Answers, Position, opening, rest_of, Reaches, Took, Progress, fault_at}
 
-abbrev is_break : ℕ → Bool
+abbrev pub is_break : ℕ → Bool
 is_break c = eqb c 10
 
 -- ---- what is written
@@ -207,6 +207,11 @@ long_line xs ys some h =
 
 -- ---- steps of a run
 
+-- bytes of a line
+pub more_bytes : (p : Position) (text rest : List ℕ)
+    → rest_of p (text ++ rest) ≡ rest_of (record { number = p.number; state = p.state; pending = p.pending ++ text }) rest
+more_bytes p text rest = ap (λ (w : List ℕ). runs_lines p.number p.state (lines_of w)) (sym (append_assoc p.pending text rest))
+
 -- a byte of a line
 pub one_byte : (p : Position) (byte : ℕ) (rest : List ℕ)
     → rest_of p (byte ∷ rest) ≡ rest_of (record { number = p.number; state = p.state; pending = p.pending ++ byte ∷ [] }) rest
@@ -268,6 +273,19 @@ long_byte p byte rest held h b full =
     (sym (one_byte p byte rest ∙ ap (runs_lines p.number p.state) l.2))
     (bad_lines p.number p.state (xs ++ l.0) l.1 TooLong held (too_long p.state (xs ++ l.0) (omega arith)))
 
+-- more bytes than a line has room for
+pub long_text : (p : Position) (text rest : List ℕ) (held : Option (List ℕ)) → All (λ c. is_break c ≡ false) p.pending
+    → All (λ c. is_break c ≡ false) text → 65536 < length p.pending + length text
+    → Answers (rest_of p (text ++ rest)) held held (fault_at p.number TooLong)
+long_text p text rest held h b full =
+    let xs : List ℕ = p.pending ++ text in
+    let longer : length xs ≡ length p.pending + length text = length-append p.pending text in
+    let l = long_line xs rest (omega arith) (All-append (λ (c : ℕ). is_break c ≡ false) p.pending text h b) in
+    let longer_line : length (xs ++ l.0) ≡ length xs + length l.0 = length-append xs l.0 in
+    subst (λ (r : Run). Answers r held held (fault_at p.number TooLong))
+    (sym (more_bytes p text rest ∙ ap (runs_lines p.number p.state) l.2))
+    (bad_lines p.number p.state (xs ++ l.0) l.1 TooLong held (too_long p.state (xs ++ l.0) (omega arith)))
+
 -- the end of the input
 pub at_end : (p : Position) (held : Option (List ℕ)) → p.pending ≡ [] → Answers (rest_of p []) held held outcome.Ran
 at_end p held e =
@@ -312,6 +330,35 @@ pub took_front : (p : Position) (xs ys : List ℕ) (s : Position → Type 0) (ol
     → Took p xs s old new (Err o) → Took p (xs ++ ys) s old new (Err o)
 took_front p xs ys s old new o h =
     λ rest. subst (λ (bytes : List ℕ). Answers (rest_of p bytes) old new o) (sym (append_assoc xs ys rest)) (h (ys ++ rest))
+
+-- of the bytes those before the rest were taken
+pub record TookUpTo (p : Position) (bytes rest : List ℕ) (is_at : Position → Type 0) (old new : Option (List ℕ)) : Type 0 where
+  pub front : List ℕ
+  pub parts : bytes ≡ front ++ rest
+  pub reached : Reaches p front is_at old new
+
+pub took_up_to_none : (p : Position) (bytes : List ℕ) (s : Position → Type 0) (held : Option (List ℕ)) → s p
+    → TookUpTo p bytes bytes s held held
+took_up_to_none p bytes s held at = record { front = []; parts = refl; reached = reaches_none p s held at }
+
+pub took_further : (p : Position) (bytes rest xs ys : List ℕ) (s t : Position → Type 0) (old mid new : Option (List ℕ))
+    → TookUpTo p bytes rest s old mid → rest ≡ xs ++ ys → ((q : Position) → s q → Reaches q xs t mid new)
+    → TookUpTo p bytes ys t old new
+took_further p bytes rest xs ys s t old mid new h e k = record {
+  front = h.front ++ xs;
+  parts = h.parts ∙ ap (λ (w : List ℕ). h.front ++ w) e ∙ sym (append_assoc h.front xs ys);
+  reached = took_both p h.front xs s t old mid new (Ok tt) h.reached k;
+}
+
+-- taking failed
+pub stopped_there : (p : Position) (bytes rest xs ys : List ℕ) (s t : Position → Type 0) (old mid new : Option (List ℕ)) (o : Outcome)
+    → TookUpTo p bytes rest s old mid → rest ≡ xs ++ ys → ((q : Position) → s q → Took q xs t mid new (Err o))
+    → Took p bytes t old new (Err o)
+stopped_there p bytes rest xs ys s t old mid new o h e k =
+    let whole : (h.front ++ xs) ++ ys ≡ bytes =
+    append_assoc h.front xs ys ∙ ap (λ (w : List ℕ). h.front ++ w) (sym e) ∙ sym h.parts in
+    subst (λ (w : List ℕ). Took p w t old new (Err o)) whole
+    (took_front p (h.front ++ xs) ys t old new o (took_both p h.front xs s t old mid new (Err o) h.reached k))
 
 -- ---- the whole input
 

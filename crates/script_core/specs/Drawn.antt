@@ -5,7 +5,7 @@ use Rattle.script_core.specs.Outcomes.{AppendsFront}
 use Rattle.script_core.specs.Script.{AtBadLine, Verdict, Whole}
 use Rattle.script_core.specs.declared.script.Outcome.{Outcome}
 use Rattle.script_core.specs.declared.script.Outcome.TheVariants as outcome
-use Rattle.svg_text.specs.Markup.{IsDocument}
+use Rattle.diagram_svg.specs.Markup.{IsDocument}
 
 -- how a script ends, unless reading, writing or memory fail
 abbrev pub Ends : Verdict → Outcome → Type 0

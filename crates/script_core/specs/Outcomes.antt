@@ -1,4 +1,4 @@
--- What running a script answers and writes, and where a run stands whose script has come in part.
+-- The answer and the output of a run of a script, and the position of a run whose script has come in part.
 use Rattle.std.specs.Prelude.{◌≡◌, ◌≤◌, ℕ, ◌==◌, false, nat_lt, if◌then◌else◌, List, []}
 use Rattle.std.specs.Prelude.{◌++◌, length, All, Option, None, Some, Result, Ok, Err}
 use Rattle.std.specs.Io.KnownBytes.{Appends}
@@ -17,15 +17,15 @@ status_of OutOfMemory = 4
 status_of Unmerged = 5
 status_of Failed = 6
 
--- a beginning of the text was put behind what the writer held
+-- a beginning of the text was put behind the bytes that the writer held
 pub record AppendsFront (text : List ℕ) (old new : Option (List ℕ)) : Type 0 where
   pub front : List ℕ
   pub rest : List ℕ
   pub parts : text ≡ front ++ rest
   pub appended : Appends old new front
 
--- The answer to a script whose run this is, and what was written. Reading, writing and memory may fail at any
--- place, and then a beginning of the text was written.
+-- The answer to a script whose run this is, and the text that was written. Reading, writing and memory may
+-- fail at any place, and then a beginning of the text was written.
 abbrev pub Answers : Run → Option (List ℕ) → Option (List ℕ) → Outcome → Type 0
 Answers r old new Ran = (r.verdict ≡ Whole) × Appends old new r.text
 Answers r old new (BadLine number reason) = (r.verdict ≡ AtBadLine number reason) × Appends old new r.text
@@ -39,7 +39,7 @@ Answers r old new Failed = AppendsFront r.text old new
 abbrev pub fault_at : ℕ → Reason → Outcome
 fault_at number reason = if nat_lt 1048576 number then Failed else BadLine number reason
 
--- the number of the line that comes, the state before it, and what has come of it
+-- the number of the line that comes, the state before it, and the bytes that have come of it
 pub record Position : Type 0 where
   pub number : ℕ
   pub state : State
@@ -48,19 +48,23 @@ pub record Position : Type 0 where
 abbrev pub opening : State → Position
 opening state = record { number = 1; state = state; pending = [] }
 
--- the run of what is still to come
+-- the run of the bytes that are still to come
 abbrev pub rest_of : Position → List ℕ → Run
 rest_of p bytes = runs_lines p.number p.state (lines_of (p.pending ++ bytes))
 
--- what runs its lines stands for the state before the line that comes
+-- no newline is among the bytes
+abbrev pub IsOneLine : List ℕ → Type 0
+IsOneLine bytes = All (λ c. (c == 10) ≡ false) bytes
+
+-- the session that runs its lines stands for the state before the line that comes
 pub record IsAt {S : Type 0} (stands : S → State → Type 0) (s : Script S) (p : Position) : Type 0 where
   pub session : stands s.session p.state
   pub pending : s.pending.items ≡ p.pending
   pub number : s.number ≡ p.number
-  pub one_line : All (λ c. (c == 10) ≡ false) p.pending
+  pub one_line : IsOneLine p.pending
   pub short : length p.pending ≤ 65536
 
--- the bytes were taken, and what they print was written
+-- the bytes were taken, and the text that they print was written
 pub record Reaches (p : Position) (bytes : List ℕ) (is_at : Position → Type 0) (old new : Option (List ℕ)) : Type 0 where
   pub to : Position
   pub text : List ℕ
@@ -73,7 +77,7 @@ abbrev pub Took : Position → List ℕ → (Position → Type 0) → Option (Li
 Took p bytes is_at old new (Ok x) = Reaches p bytes is_at old new
 Took p bytes is_at old new (Err outcome) = (rest : List ℕ) → Answers (rest_of p (bytes ++ rest)) old new outcome
 
--- what has been read of the input was taken
+-- the bytes that have been read of the input were taken
 pub record Progress (from : State) (input : List ℕ) (remaining : Option (List ℕ)) (is_at : Position → Type 0)
     (old new : Option (List ℕ)) : Type 0 where
   pub bytes : List ℕ

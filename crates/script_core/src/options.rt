@@ -16,7 +16,7 @@ pub enum Form {
     Threads,
 }
 
-/// What the command line asks for.
+/// The options of the command line.
 #[derive(Clone, Copy, Debug, PartialEq, Eq)]
 pub struct Options {
     /// Whether each frame that is sent is printed. A script of a pair prints them in any case.

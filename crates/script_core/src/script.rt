@@ -1,17 +1,18 @@
 //! A script, read from any reader and answered on any writer.
 
-ghost use Rattle.std.specs.Prelude.{◌≡◌, ◌≤◌, [], ◌∷◌, length, take, IfSome, IfOk, IfErr, OnOk, Option, List, ℕ, string_bytes};
+ghost use Rattle.std.specs.Prelude.{◌≡◌, ◌≤◌, ◌<◌, ◌+◌, ◌++◌, [], ◌∷◌, drop, length, take, IfNone, IfSome, IfOk, IfErr, OnOk, Option, List, ℕ, string_bytes};
 ghost use Rattle.std.specs.Io.KnownBytes.{Appends};
 ghost use Rattle.script_core.specs.declared.script.Outcome.{Outcome};
 ghost use Rattle.script_core.specs.Drawn.{Draws, Ends};
 ghost use Rattle.script_core.specs.Script.{runs_from, script};
 ghost use Rattle.script_session.specs.Session.{State};
-ghost use Rattle.svg_text.specs.Markup.{IsDocument};
-ghost use Rattle.script_core.specs.Outcomes.{status_of, fault_at, Answers, Position, opening, rest_of, IsAt, Took, Progress, GoesOn, AppendsFront};
+ghost use Rattle.diagram_svg.specs.Markup.{IsDocument};
+ghost use Rattle.script_core.specs.Outcomes.{status_of, fault_at, Answers, Position, opening, rest_of, IsAt, IsOneLine, Took, Progress, GoesOn, AppendsFront};
 
 use crate::lines::Lines;
 use crate::options::Options;
 use diagram_svg::put_picture;
+use memchr::memchr;
 use script_lines::{LINE_LIMIT, Reason};
 use script_session::{Session, Stop};
 use std::alloc::{AllocError, Global};
@@ -20,12 +21,12 @@ use std::io::{self, ErrorKind, Read, Write};
 /// The most lines of a script that are run.
 pub const LINES: u64 = 1_048_576;
 
-/// How a script ended.
+/// The outcome of a script.
 #[derive(Clone, Copy, Debug, PartialEq, Eq)]
 pub enum Outcome {
     /// It ran through, refused commands included.
     Ran,
-    /// A line is bad: its number, from 1, and why. The output of the lines before stays.
+    /// A line is bad: its number, from 1, and the reason. The output of the lines before stays.
     BadLine(u64, Reason),
     /// Memory is wanting, or threads are.
     OutOfMemory,
@@ -50,13 +51,13 @@ impl Outcome {
     }
 }
 
-/// Runs the script that the reader gives, and writes what it prints. What it prints, and how it ends,
-/// is a function of its bytes and the options: see `specs/Script.antt`.
+/// Runs the script that the reader gives, and writes its output. The output and the outcome are functions
+/// of its bytes and the options: see `specs/Script.antt`.
 ///
-/// What is written is flushed whenever the reader has given all that it has at hand. After a bad
-/// line, and where memory, reading or writing fails, nothing more is read or written: what was
-/// written is the beginning of what the script prints. What is wrong with a bad line is put behind the
-/// advice, and the remedy where there is an obvious one, as far as there is memory for it.
+/// The output is flushed whenever the reader has given all that it has at hand. After a bad line, and where
+/// memory, reading or writing fails, nothing more is read or written. The bytes written until then are the
+/// beginning of the script's output. The fault of a bad line is put behind the advice, and the remedy where
+/// there is an obvious one, as far as there is memory for it.
 pub fn run_script<R: Read, W: Write>(
     alloc: Global,
     reader: &mut R,
@@ -89,9 +90,9 @@ fn run_to_end<R: Read, W: Write>(
     outcome
 }
 
-/// Runs the script that the reader gives, and writes in place of what it prints a line of JSON for each
-/// event that comes of it, in the order of the run, refused ones too. How it ends is a function of the
-/// script's bytes and the options, as of [`run_script`].
+/// Runs the script that the reader gives, and writes in place of its output a line of JSON for each event
+/// that comes of it, in the order of the run, refused ones too. The outcome is a function of the script's
+/// bytes and the options, as of [`run_script`].
 ///
 /// Lines are written and flushed whenever the reader has given all that it has at hand. After a bad line,
 /// and where memory, reading or writing fails, nothing more is read; the events before have their lines,
@@ -120,11 +121,11 @@ pub fn run_telling<R: Read, W: Write>(
     Outcome::Failed
 }
 
-/// Runs the script that the reader gives, and writes in place of what it prints a drawing in SVG of all
-/// that happens. How it ends is a function of the script's bytes and the options, as of [`run_script`].
+/// Runs the script that the reader gives, and writes in place of its output a drawing in SVG of all that
+/// happens. The outcome is a function of the script's bytes and the options, as of [`run_script`].
 ///
-/// The drawing is written at the end, behind a bad line too, or where reading has failed: then it is of
-/// what has happened until there. Where memory is wanting nothing is written.
+/// The drawing is written at the end, behind a bad line too, or where reading has failed: then it is of the
+/// events until there. Where memory is wanting nothing is written.
 pub fn run_drawing<R: Read, W: Write>(
     alloc: Global,
     reader: &mut R,
@@ -158,7 +159,7 @@ pub fn run_drawing<R: Read, W: Write>(
 #[derive(Drop)]
 pub(crate) struct Script<S> {
     pub(crate) session: S,
-    /// What has come of the line that is being read.
+    /// The bytes that have come of the line that is being read.
     pending: Vec<u8>,
     /// The number of that line, from 1.
     number: u64,
@@ -177,14 +178,14 @@ impl<S: Lines> Script<S> {
         }
     }
 
-    /// What has run its lines.
+    /// Returns the session that has run its lines.
     pub(crate) fn into_session(self) -> S
         ensures { result ≡ self.session }
     {
         self.session
     }
 
-    /// Reads on until the script has ended, and answers how it did.
+    /// Reads on until the script has ended, and returns its outcome.
     pub(crate) fn read_all<R: Read, W: Write>(
         &mut self,
         alloc: Global,
@@ -202,7 +203,7 @@ impl<S: Lines> Script<S> {
         Outcome::Failed
     }
 
-    /// What is wrong with the line at which it ended, if it is a bad one.
+    /// Puts the fault of the line at which it ended behind the advice, if that line is a bad one.
     pub(crate) fn advise(&self, alloc: Global, outcome: Outcome, advice: &mut String) {
         if let Outcome::BadLine(_, reason) = outcome {
             let _ = self
@@ -218,7 +219,7 @@ impl<S: Lines> Script<S> {
         self.number
     }
 
-    /// Reads once, and takes what was read. The answer is how the script ended, if it did.
+    /// Reads once, and takes the bytes read. Returns the outcome of the script, if it has ended.
     pub(crate) fn read_on<R: Read, W: Write>(
         &mut self,
         alloc: Global,
@@ -240,34 +241,46 @@ impl<S: Lines> Script<S> {
         }
     }
 
-    /// More of the script comes.
+    /// Takes more of the script: runs each line that ends in `bytes`, and keeps the bytes behind the last.
     fn take<W: Write>(&mut self, alloc: Global, bytes: &[u8], writer: &mut W) -> Result<(), Outcome>
         ensures { (p : Position) → IsAt S.stands self.old p → Took p bytes.now (IsAt S.stands self.new) (W.contents writer.old) (W.contents writer.new) result }
     {
-        for byte in bytes {
-            self.take_byte(alloc, *byte, writer)?;
+        let mut rest = bytes;
+        while let Some(parts) = split_line(rest) {
+            let (text, behind) = parts;
+            self.end_line(alloc, text, writer)?;
+            rest = behind;
         }
+        self.take_text(rest)?;
         match writer.flush() {
             Ok(()) => Ok(()),
             Err(_) => Err(Outcome::Failed),
         }
     }
 
-    fn take_byte<W: Write>(
+    /// Takes the last bytes of a line, in front of its newline, and runs the line.
+    fn end_line<W: Write>(
         &mut self,
         alloc: Global,
-        byte: u8,
+        text: &[u8],
         writer: &mut W,
     ) -> Result<(), Outcome>
-        ensures { (p : Position) → IsAt S.stands self.old p → Took p (byte ∷ []) (IsAt S.stands self.new) (W.contents writer.old) (W.contents writer.new) result }
+        requires { IsOneLine text.now }
+        ensures { (p : Position) → IsAt S.stands self.old p → Took p (text.now ++ (10 ∷ [])) (IsAt S.stands self.new) (W.contents writer.old) (W.contents writer.new) result }
     {
-        if byte == b'\n' {
-            return self.run_line(alloc, writer);
-        }
-        if self.pending.len() >= LINE_LIMIT {
+        self.take_text(text)?;
+        self.run_line(alloc, writer)
+    }
+
+    /// Takes bytes of one line. No newline is among them.
+    fn take_text(&mut self, text: &[u8]) -> Result<(), Outcome>
+        requires { IsOneLine text.now }
+        ensures { (p : Position) (held : Option (List ℕ)) → IsAt S.stands self.old p → Took p text.now (IsAt S.stands self.new) held held result }
+    {
+        if text.len() > LINE_LIMIT.saturating_sub(self.pending.len()) {
             return Err(self.fault(Reason::TooLong));
         }
-        match self.pending.push(byte) {
+        match self.pending.extend_from_slice(text) {
             Ok(()) => Ok(()),
             Err(_) => Err(Outcome::OutOfMemory),
         }
@@ -318,7 +331,7 @@ impl<S: Lines> Script<S> {
 }
 
 impl Script<Session> {
-    /// A drawing of what has happened.
+    /// Returns a drawing of the events that have happened.
     fn drawing(&mut self, alloc: Global) -> Result<String, AllocError>
         ensures { IfOk result (λ drawing. IsDocument (string_bytes drawing)) }
     {
@@ -340,6 +353,28 @@ impl Script<Session> {
             Ok(()) => Ok(()),
             Err(_) => Err(Outcome::Failed),
         }
+    }
+}
+
+/// Returns the place of the first newline, if there is one.
+fn newline_in(bytes: &[u8]) -> Option<usize>
+    ensures line { IfSome result (λ at. IsOneLine (take at bytes.now)) }
+    ensures ends { IfSome result (λ at. bytes.now ≡ take at bytes.now ++ (10 ∷ drop (at + 1) bytes.now)) }
+    ensures within { IfSome result (λ at. at < length bytes.now) }
+    ensures none { IfNone result (IsOneLine bytes.now) }
+{
+    memchr(b'\n', bytes)
+}
+
+/// Returns the text before the first newline, and the bytes behind it, if there is one.
+fn split_line(bytes: &[u8]) -> Option<(&[u8], &[u8])>
+    ensures line { IfSome result (λ parts. IsOneLine parts.0.now) }
+    ensures parts { IfSome result (λ parts. bytes.now ≡ parts.0.now ++ (10 ∷ parts.1.now)) }
+    ensures none { IfNone result (IsOneLine bytes.now) }
+{
+    match newline_in(bytes) {
+        Some(at) => Some((&bytes[..at], &bytes[at + 1..])),
+        None => None,
     }
 }
 
@@ -371,7 +406,7 @@ fn write_whole<W: Write>(writer: &mut W, bytes: &[u8]) -> Result<(), Outcome>
     }
 }
 
-/// Writes a beginning of the bytes, and answers how many: none where the writer was interrupted.
+/// Writes a beginning of the bytes, and returns its length: 0 where the writer was interrupted.
 fn write_some<W: Write>(writer: &mut W, bytes: &[u8]) -> Result<usize, Outcome>
     ensures bound { IfOk result (λ len. len ≤ length bytes.now) }
     ensures ok { IfOk result (λ len. Appends (W.contents writer.old) (W.contents writer.new) (take len bytes.now)) }

@@ -14,13 +14,13 @@ use Rattle.erl_term.specs.declared.term.Pid.{Pid}
 use Rattle.link_core.specs.declared.end.End.{End}
 use Rattle.node_frames.specs.Frames.{Framed}
 use Rattle.script_json.specs.Events.{command_data, event_data}
-use Rattle.item_kinds.specs.Kinds.{kind_in}
+use Rattle.node_frames.specs.Kinds.{kind_in}
 use Rattle.script_json.specs.Reports.{answer_data, brought, came_data, effect_data, kind_data, line_data, link_data, message_data}
 use Rattle.script_json.specs.Texts.{connection_if}
 use Rattle.serde_json.specs.View.{items_of}
 use Rattle.serde_json.specs.Written.{has_float, items_have_float}
-use Rattle.world_events.specs.declared.event.NodeEvent.{NodeEvent}
-use Rattle.world_events.specs.declared.event.NodeEvent.TheVariants as event
+use Rattle.world_core.specs.declared.node_event.NodeEvent.{NodeEvent}
+use Rattle.world_core.specs.declared.node_event.NodeEvent.TheVariants as event
 
 in_kind : (kind : Option Kind) → has_float (kind_data kind) ≡ false
 in_kind None = refl

@@ -13,7 +13,7 @@ use Rattle.erl_term.specs.declared.term.Pid.{Pid}
 use Rattle.hex.specs.Hex.{encode_upper}
 use Rattle.link_core.specs.declared.end.End.{End}
 use Rattle.node_frames.specs.Frames.{Framed}
-use Rattle.item_kinds.specs.Kinds.{kind_in}
+use Rattle.node_frames.specs.Kinds.{kind_in}
 use Rattle.script_json.specs.Events.{event_data}
 use Rattle.script_json.specs.Texts.{connection, connection_if, monitor, payload, process}
 use Rattle.script_texts.specs.Texts.{end_text}
@@ -21,7 +21,7 @@ use Rattle.script_texts.specs.Words.{fault_name, kind_name, swept_name}
 use Rattle.serde_json.specs.Data.{Data, array, boolean, member, no_members, null, number, object, string, unsigned}
 use Rattle.serde_json.specs.View.{items_of}
 use Rattle.serde_json.specs.Written.{compact_text}
-use Rattle.world_events.specs.declared.event.NodeEvent.{NodeEvent}
+use Rattle.world_core.specs.declared.node_event.NodeEvent.{NodeEvent}
 
 abbrev pub kind_data : Option Kind → Data
 kind_data None = null

@@ -2,7 +2,7 @@
 ghost use Rattle.std.specs.Prelude.{◌≡◌, IfOk};
 ghost use Rattle.std.specs.Option.{option_copied};
 ghost use Rattle.dist_model.specs.declared.report.Effect.{Effect as TheEffect};
-ghost use Rattle.item_kinds.specs.Kinds.{kind_in};
+ghost use Rattle.node_frames.specs.Kinds.{kind_in};
 ghost use Rattle.script_json.specs.Reports.{effect_data, effects_data, kind_data};
 ghost use Rattle.script_json.specs.Texts.{connection_if};
 ghost use Rattle.serde_json.specs.View.{view};
@@ -12,8 +12,7 @@ use dist_model::Effect;
 use erl_names::{NodeName, TrunkId};
 use erl_term::{Payload, Pid};
 use hex::encode_upper;
-use item_kinds::kind_in;
-use node_frames::Frame;
+use node_frames::{Frame, kind_in};
 use script_texts::kind_name;
 use serde_json::{Value, json};
 use std::alloc::{AllocError, Global};

@@ -4,7 +4,7 @@ ghost use Rattle.script_json.specs.Events.{event_data};
 ghost use Rattle.script_json.specs.Texts.{connection};
 ghost use Rattle.serde_json.specs.Data.{no_members, object, put, string};
 ghost use Rattle.serde_json.specs.View.{view};
-ghost use Rattle.world_events.specs.declared.event.NodeEvent.TheVariants as event;
+ghost use Rattle.world_core.specs.declared.node_event.NodeEvent.TheVariants as event;
 
 use crate::commands::command;
 use crate::objects::{told, told_kind};
@@ -12,7 +12,7 @@ use crate::texts::printed_trunk;
 use erl_names::{NodeName, TrunkId};
 use serde_json::{Value, json};
 use std::alloc::{AllocError, Global};
-use world_events::NodeEvent;
+use world_core::NodeEvent;
 
 fn on(alloc: Global, kind: &str, trunk: &TrunkId) -> Result<Value, AllocError>
     ensures { IfOk result (λ v. view v ≡ object (put (codes "trunk") (connection trunk.now) (put (codes "kind") (string kind.now) no_members))) }
@@ -27,8 +27,8 @@ fn dial(alloc: Global, peer: &NodeName, word: u32) -> Result<Value, AllocError>
     json!(in alloc; {"challenge": word, "kind": "dial", "peer": peer.text()})
 }
 
-/// What happens at a node, with the words of scripts for what a caller asks. It is an object: its member
-/// `kind` says what happens, and the others what it is about.
+/// Returns an event at a node, with the words of scripts for the requests of callers. It is an object:
+/// its member `kind` says what happens, and the others what it is about.
 ///
 /// # Errors
 /// Where memory is wanting.

@@ -1,4 +1,4 @@
--- What the words of a line name, or the first fault.
+-- The things that the words of a line name, or the first fault.
 use Rattle.std.specs.Prelude.{ℕ, ◌&&◌, Bool, true, false, List, length, codes, Option, None, Some, Result, Ok, Err, nat_le, if◌then◌else◌}
 use Rattle.std.specs.List.{list_all}
 use Rattle.std.specs.Str.{bytes_eq}
@@ -11,6 +11,7 @@ use Rattle.script_lines.specs.declared.reason.Reason.{Reason}
 use Rattle.script_lines.specs.declared.reason.Reason.TheVariants.{WrongWords, BadName, UnknownName, NameTaken, BadTerm}
 use Rattle.script_terms.specs.Binding.{Look}
 use Rattle.script_terms.specs.Reading.{term_of}
+use Rattle.script_terms.specs.Unbound.{has_unbound}
 use Rattle.script_terms.specs.Words.{is_name}
 use Rattle.script_terms.specs.declared.fault.TermFault.{TermFault}
 use Rattle.script_terms.specs.declared.fault.TermFault.TheVariants as fault
@@ -32,7 +33,7 @@ is_cookie_length n = nat_le 1 n && nat_le n 255
 abbrev pub is_cookie : List ℕ → Bool
 is_cookie word = is_cookie_length (length word) && list_all is_printable word
 
--- what the name is bound to has to be of the kind
+-- the name has to be bound to a thing of the kind
 abbrev pub process_in : Option Named → Result Pid Reason
 process_in (Some (Process p)) = Ok p
 process_in (Some (Monitor r)) = Err UnknownName
@@ -51,7 +52,7 @@ free_in (Some named) = Err NameTaken
 abbrev pub process_named : Look → List ℕ → Result Pid Reason
 process_named look word = formed (is_name word) >>= λ _. process_in (look word)
 
--- forms come before what the names are bound to
+-- the forms of the names come before their bindings
 abbrev pub processes_named : Look → (first second : List ℕ) → Result (Pid × Pid) Reason
 processes_named look first second =
     formed (is_name first && is_name second) >>= λ _. process_in (look first) >>= λ p. process_in (look second) >>= λ q. Ok (p, q)
@@ -82,9 +83,14 @@ abbrev pub reason_of : TermFault → Reason
 reason_of fault.UnknownName = UnknownName
 reason_of fault.BadTerm = BadTerm
 
-abbrev pub is_term : Result Data TermFault → Result (Unit {0}) Reason
-is_term (Ok t) = Ok tt
-is_term (Err e) = Err (reason_of e)
+-- a name that is bound to nothing decides before any other fault
+abbrev pub fault_in : (has_unbound : Bool) → TermFault → Reason
+fault_in true e = UnknownName
+fault_in false e = reason_of e
+
+abbrev pub is_term : (has_unbound : Bool) → Result Data TermFault → Result (Unit {0}) Reason
+is_term unbound (Ok t) = Ok tt
+is_term unbound (Err e) = Err (fault_in unbound e)
 
 abbrev pub term_read : Look → List ℕ → Result (Unit {0}) Reason
-term_read look text = is_term (term_of look text)
+term_read look text = is_term (has_unbound look text) (term_of look text)

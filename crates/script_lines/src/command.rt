@@ -2,7 +2,7 @@
 ghost use Rattle.std.specs.Prelude.{◌≡◌};
 ghost use Rattle.script_lines.specs.Commands.{verb_named};
 
-/// What a line begins with.
+/// The first word of a line.
 #[derive(Clone, Copy, Debug, PartialEq, Eq)]
 pub enum Verb {
     /// `node`

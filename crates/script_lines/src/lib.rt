@@ -1,17 +1,22 @@
-//! What the lines of a script say.
+//! The lines of a script, the first fault of a bad line, and the advice on it.
 //!
-//! [`read_line`] reads a line: its words, with the names looked up that the script has bound. It takes no
-//! memory, so a bad line is told as such however little memory there is. What a command does is no
-//! matter of this crate.
+//! [`read_line`] reads a line: its words, with the names looked up that the script has bound. It allocates
+//! nothing, so a bad line is told as such however little memory there is. Commands are carried out elsewhere.
+//!
+//! [`put_advice`] tells the wrong part of a bad line, and the remedy where there is an obvious one.
 #![tactic(auto)]
 
+mod advice;
+mod advised_words;
 mod command;
 mod line;
 mod naming;
 mod reading;
 mod reason;
+mod usages;
 mod words;
 
+pub use advice::put_advice;
 pub use command::Verb;
 pub use line::Line;
 pub use reading::{LINE_LIMIT, MayCome, read_line, verb_in};

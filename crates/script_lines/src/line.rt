@@ -2,8 +2,8 @@
 
 use erl_term::{Pid, Reference};
 
-/// What a line says. Words and terms are as they stand in the line: nodes may be unknown, a term is known
-/// to be one.
+/// The meaning of a line. Words and terms are as they stand in the line: nodes may be unknown, a term
+/// is known to be one.
 #[derive(Clone, Copy, Debug)]
 pub enum Line<'a> {
     /// `node NAME COOKIE`

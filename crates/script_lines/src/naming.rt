@@ -1,4 +1,4 @@
-//! What the words of a line name.
+//! The things that the words of a line name.
 ghost use Rattle.std.specs.Prelude.{◌≡◌, ◌&&◌};
 ghost use Rattle.script_lines.specs.Naming.{demonitor_named, formed, free_in, is_cookie, is_cookie_length, is_printable, monitor_named, node_formed, nodes_formed, process_in, process_named, processes_named, reference_in, spawn_formed, switch_named, term_read};
 ghost use Rattle.script_lines.specs.Words.{Answers};
@@ -8,7 +8,7 @@ ghost use Rattle.script_terms.specs.declared.names.Named.{Named};
 use crate::reason::Reason;
 use erl_names::NodeName;
 use erl_term::{Pid, Reference};
-use script_terms::{Named, Names, check_term, is_name};
+use script_terms::{Named, Names, check_term, has_unbound, is_name};
 
 /// Words have to have the forms that they should.
 pub(crate) fn formed(is_formed: bool) -> Result<(), Reason>
@@ -21,7 +21,7 @@ pub(crate) fn formed(is_formed: bool) -> Result<(), Reason>
     }
 }
 
-// Whether a cookie may have so many characters.
+// Returns true if a cookie may have so many characters.
 fn is_cookie_len(len: usize) -> bool
     ensures { result ≡ is_cookie_length len }
 {
@@ -152,12 +152,14 @@ pub(crate) fn switch_named(word: &str) -> Result<bool, Reason>
     }
 }
 
-/// A text has to be a term.
+/// Checks that a text is a term. A name that is bound to nothing is told before any other fault of the
+/// text.
 pub(crate) fn term_read(names: &Names, text: &str) -> Result<(), Reason>
     ensures { (look : Look) → Knows names.now look → result ≡ term_read look text.now }
 {
     match check_term(names, text) {
         Ok(()) => Ok(()),
+        Err(_) if has_unbound(names, text) => Err(Reason::UnknownName),
         Err(fault) => Err(Reason::of(fault)),
     }
 }

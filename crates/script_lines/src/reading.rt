@@ -232,7 +232,8 @@ pub fn verb_in(line: &[u8]) -> Option<Verb>
     }
 }
 
-/// What a line says; None where it is to be passed over. It takes no memory.
+/// Returns the meaning of a line, or [`None`] if the line is to be passed over. None where it is to be
+/// passed over. It takes no memory.
 ///
 /// # Errors
 /// The first reason that fits, where the line is a bad one.

@@ -10,13 +10,12 @@ use Rattle.erl_term.specs.declared.refusal.Refusal.{Refusal}
 use Rattle.node_frames.specs.Frames.{Framed}
 use Rattle.script_session.specs.Stage.{sent_in, sents, Stage as TheStage}
 use Rattle.script_session.specs.declared.stage.Stage.{Stage}
-use Rattle.script_session.specs.Stands.{Moved, Tells as TellsAnswer}
+use Rattle.script_session.specs.Stands.{Moved}
 use Rattle.world_core.specs.Ran.{Answered, Came, Tells, event_at}
 use Rattle.world_core.specs.Stands.{StandsFor}
 use Rattle.world_core.specs.declared.world.World.{World as Code}
 use Rattle.world_core.proofs.Stepped.{event_named}
-use Rattle.world_events.specs.declared.event.NodeEvent.{NodeEvent}
-use Rattle.world_events.specs.declared.event.NodeEvent.TheVariants as event
+use Rattle.world_core.specs.declared.node_event.NodeEvent.{NodeEvent}
 
 -- the world stands for the model's, and the answer tells its report
 pub record Stepped (new : Code) (m : World) (e : Event) (answer : Answered) : Type 0 where
@@ -42,15 +41,11 @@ stepped new m e answer c some = go c.goes
     go (inr h) = absurd (some (wanting answer c.report c.tells h.0))
 
 -- what was told of an event that was accepted
-pub accepted : (told : Told Framed) (report : Report) → Tells (Ok told) report
-    → TellsAnswer (Ok told.answer) report
-    × ((trace : Bool) (node : Name) → sents trace node report ≡ cond trace (flat_map (sent_in node) told.effects.items) [])
-accepted told (Refused why) t = absurd t
-accepted told (Reported a effects) t = (t.0, both)
-  where
-    both : (trace : Bool) (node : Name) → sents trace node (Reported a effects) ≡ cond trace (flat_map (sent_in node) told.effects.items) []
-    both true node = ap (flat_map (sent_in node)) (sym t.1)
-    both false node = refl
+pub accepted : (told : Told Framed) (report : Report) (trace : Bool) (node : Name) → Tells (Ok told) report
+    → sents trace node report ≡ cond trace (flat_map (sent_in node) told.effects.items) []
+accepted told (Refused why) trace node t = absurd t
+accepted told (Reported a effects) true node t = ap (flat_map (sent_in node)) (sym t.1)
+accepted told (Reported a effects) false node t = refl
 
 pub not_wanting : (told : Told Framed) (answer : Answered) → answer ≡ Ok told → answer ≡ Err Refusal.OutOfMemory → ⊥
 not_wanting told (Ok x) h e = cc
@@ -61,18 +56,18 @@ pub moved : (it : TheStage) (new : Stage) (name : Name) (e : NodeEvent) (answer 
     → Came new.world it.world (event_at name e) answer → answer ≡ Ok told
     → new.word ≡ it.word → new.trace ≡ it.trace
     → out ≡ before ++ cond it.trace (flat_map (sent_in name) told.effects.items) []
-    → Moved (event_at name e) it new before out (Ok told.answer)
+    → Moved (event_at name e) it new before out (Ok told)
 moved it new name e answer told before out c is word trace text =
     let s = stepped new.world it.world (event_at name e) answer c (not_wanting told answer is) in
     let report : Report = (step it.world (event_at name e)).report in
-    let t = accepted told report (subst (λ a. Tells a report) is s.tells) in
+    let t = subst (λ a. Tells a report) is s.tells in
     record {
       world = s.stands;
       word = word;
       trace = trace;
       text =
-          text ∙ ap (λ (sent : List ℕ). before ++ sent) (sym (ap (λ n. sents it.trace n report) (event_named name e) ∙ t.1 it.trace name));
-      tells = t.0;
+          text ∙ ap (λ (sent : List ℕ). before ++ sent) (sym (ap (λ n. sents it.trace n report) (event_named name e) ∙ accepted told report it.trace name t));
+      tells = t;
     }
 
 -- what is printed, said of equal things

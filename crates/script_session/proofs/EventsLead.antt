@@ -89,9 +89,9 @@ on_led name (Some trunk) it h = after_led it (Lose trunk name) h
 
 all_led : (name : Name) (live : Live) (it : Stage) → Led it → Led (lose_all name live it)
 all_led name live it h =
-    let first = lose_on name live.dialing it in
-    let second = lose_on name live.waiting first in
-    on_led name live.up second (on_led name live.waiting first (on_led name live.dialing it h))
+    let first = lose_on name live.first it in
+    let second = lose_on name live.second first in
+    on_led name live.third second (on_led name live.second first (on_led name live.first it h))
 
 live_led : (name : Name) (live : Live) (it : Stage) → Led it → Led (lose_live name live it).stage
 live_led name live it h = go (is_any live)

@@ -5,3 +5,5 @@ pub mod LineOutcomes
 pub mod Shows
 pub mod EventOutcomes
 pub mod Turns
+pub mod Idle
+pub mod Untouched

@@ -1,29 +1,31 @@
 -- Commands about the connections of two nodes. A node has to be known, and up.
 -- (ERTS User's Guide, Distribution Protocol; Reference Manual, Distributed Erlang.)
-use Rattle.std.specs.Prelude.{Option, None, Some, is_some, ℕ, Bool, ◌||◌, if◌then◌else◌, List, Result, Ok, Err}
+use Rattle.std.specs.Prelude.{Option, None, Some, is_some, ℕ, Bool, if◌then◌else◌, List, Result, Ok, Err}
 use Rattle.std.specs.FinMap as fm
 use Rattle.std.specs.Option.{option_map}
 use Rattle.dist_model.specs.Names.{Name}
 use Rattle.dist_model.specs.Node.{Node, route, side_where}
 use Rattle.dist_model.specs.Sides.{State, is_dialing, is_up, is_waiting}
 use Rattle.dist_model.specs.World.{Arrive, Lose, World, node_of}
+use Rattle.erl_names.specs.Order.{trunk_cmp}
 use Rattle.erl_names.specs.declared.trunk.TrunkId.{TrunkId}
 use Rattle.erl_term.specs.declared.refusal.Refusal.{Refusal}
 use Rattle.script_session.specs.Stage.{Scene, Stage, after, happens, says}
 use Rattle.script_session.specs.declared.connections.Live.{Live}
 use Rattle.script_texts.specs.Texts.{done_text, refused_text, route_text}
+use Rattle.std.specs.declared.cmp.Ordering.{Ordering}
 use Rattle.world_core.specs.Coming.{next_arrival}
 
 abbrev pub refuses : Refusal → Stage → Scene
 refuses why stage = says (refused_text why) stage
 
--- ---- what comes from a peer
+-- ---- the next item from a peer
 
 abbrev pub or_nothing : Option TrunkId → Result TrunkId Refusal
 or_nothing None = Err Refusal.NothingThere
 or_nothing (Some trunk) = Ok trunk
 
--- on which connection, or why nothing does
+-- the connection on which it comes, or the refusal
 abbrev pub coming_at : World → Option Node → (peer : Name) → Result TrunkId Refusal
 coming_at world None peer = Err Refusal.NothingThere
 coming_at world (Some node) peer = if node.up then or_nothing (next_arrival world node (Some peer)) else Err Refusal.NodeDown
@@ -47,20 +49,37 @@ route_at (Some node) peer stage = if node.up then says (route_text (route node p
 abbrev pub routes : (node peer : Name) → Stage → Scene
 routes node peer stage = route_at (node_of stage.world.nodes node) peer stage
 
--- ---- a node loses its connection to a peer, and gives up its attempts at one. It has at most one of each kind
+-- ---- a node loses its connection to a peer, and gives up its attempts at one, in the order of the connections' names. It
+-- has at most one of each kind
 
 abbrev pub side_on : (State → Bool) → Name → Node → Option TrunkId
 side_on test peer node = option_map (λ entry. entry.0) (side_where test peer (fm.entries node.sides))
 
-abbrev pub live_sides : Node → (peer : Name) → Live
-live_sides node peer = record {
-  dialing = side_on is_dialing peer node;
-  waiting = side_on is_waiting peer node;
-  up = side_on is_up peer node;
-}
+-- the lesser first, and a connection before none
+abbrev pub by_order : Ordering → (trunk other : TrunkId) → Option TrunkId × Option TrunkId
+by_order Ordering.Less trunk other = (Some other, Some trunk)
+by_order Ordering.Equal trunk other = (Some trunk, Some other)
+by_order Ordering.Greater trunk other = (Some trunk, Some other)
 
+abbrev pub in_order : (one other : Option TrunkId) → Option TrunkId × Option TrunkId
+in_order None other = (other, None)
+in_order (Some trunk) None = (Some trunk, None)
+in_order (Some trunk) (Some other) = by_order (trunk_cmp other trunk) trunk other
+
+-- three in order: the greatest goes to the end, and then the first two are put in order
+abbrev pub ordered : (one other third : Option TrunkId) → Live
+ordered one other third =
+    let front = in_order one other in
+    let back = in_order front.1 third in
+    let first = in_order front.0 back.0 in
+    record { first = first.0; second = first.1; third = back.1 }
+
+abbrev pub live_sides : Node → (peer : Name) → Live
+live_sides node peer = ordered (side_on is_dialing peer node) (side_on is_waiting peer node) (side_on is_up peer node)
+
+-- where there is none first, there is none
 abbrev pub is_any : Live → Bool
-is_any live = is_some live.dialing || (is_some live.waiting || is_some live.up)
+is_any live = is_some live.first
 
 -- a loss sends nothing
 abbrev pub lose_on : Name → Option TrunkId → Stage → Stage
@@ -68,9 +87,9 @@ lose_on name None stage = stage
 lose_on name (Some trunk) stage = after stage (Lose trunk name)
 
 abbrev pub lose_all : Name → Live → Stage → Stage
-lose_all name live stage = lose_on name live.up (lose_on name live.waiting (lose_on name live.dialing stage))
+lose_all name live stage = lose_on name live.third (lose_on name live.second (lose_on name live.first stage))
 
--- the stage afterwards, and why it was refused, if it was
+-- the stage afterwards, and the refusal, if there was one
 pub record Lost : Type 0 where
   pub stage : Stage
   pub refusal : Option Refusal
@@ -96,7 +115,7 @@ lost_text (Some why) = refused_text why
 abbrev pub loses : (node peer : Name) → Stage → Scene
 loses node peer stage = let lost = lose node peer stage in says (lost_text lost.refusal) lost.stage
 
--- ---- at both nodes. Where both refuse it, the first says why
+-- ---- at both nodes. If both refuse it, the refusal of the first is told
 
 abbrev pub both_text : Option Refusal → Option Refusal → List ℕ
 both_text None second = done_text

@@ -5,4 +5,5 @@ pub mod Shown
 pub mod Pairs
 pub mod Session
 pub mod Stands
+pub mod Touched
 pub mod Telling

@@ -1,10 +1,8 @@
--- What a stage and a session of code stand for, and what calls of them come to.
+-- The states that a stage and a session of code stand for, and the results of calls of them.
 use Rattle.std.specs.Prelude.{◌≡◌, false, ℕ, List, ◌++◌, Result, Ok, Err}
 use Rattle.dist_model.specs.Names.{Name}
 use Rattle.dist_model.specs.Runs.{opening}
-use Rattle.dist_model.specs.World.{Event, Refused, Report, Reported, World, step}
-use Rattle.dist_model.specs.declared.report.Answer.{Answer}
-use Rattle.erl_term.specs.declared.refusal.Refusal.{Refusal}
+use Rattle.dist_model.specs.World.{Event, World, step}
 use Rattle.script_lines.specs.declared.reason.Reason.{Reason}
 use Rattle.script_session.specs.Session.{State, Step}
 use Rattle.script_session.specs.Stage.{Scene, after, sents_of, Stage as TheStage}
@@ -14,6 +12,7 @@ use Rattle.script_session.specs.declared.session.Stop.{Stop}
 use Rattle.script_session.specs.declared.session.Stop.TheVariants as stop
 use Rattle.script_session.specs.declared.stage.Stage.{Stage}
 use Rattle.script_terms.specs.Binding.{Knows}
+use Rattle.world_core.specs.Ran.{Answered, Tells}
 use Rattle.world_core.specs.Stands.{IsReached, StandsFor}
 
 pub record IsStage (stage : Stage) (it : TheStage) : Type 0 where
@@ -31,27 +30,22 @@ pub record IsSession (session : Session) (state : State) : Type 0 where
   -- before a command has come, nothing has happened in the world
   pub opening : state.started ≡ false → IsOpening state.stage.world
 
--- ---- what an event comes to
+-- ---- the result of an event
 
-abbrev pub Tells : Result Answer Refusal → Report → Type 0
-Tells (Ok answer) (Reported due effects) = answer ≡ due
-Tells (Err e) (Refused why) = e ≡ why
-Tells _ _ = ⊥
-
--- what it sends was printed, and what it came to is told. The challenge isn't taken yet
-pub record Moved (event : Event) (it : TheStage) (new : Stage) (old_text new_text : List ℕ) (came : Result Answer Refusal) : Type 0 where
+-- the frames that it sends were printed, and its outcome is told. The challenge isn't taken yet
+pub record Moved (event : Event) (it : TheStage) (new : Stage) (old_text new_text : List ℕ) (came : Answered) : Type 0 where
   pub world : StandsFor new.world (step it.world event).world
   pub word : new.word ≡ it.word
   pub trace : new.trace ≡ it.trace
   pub text : new_text ≡ old_text ++ sents_of it event
   pub tells : Tells came (step it.world event).report
 
-pub record Happened (event : Event) (it : TheStage) (new : Stage) (old_text new_text : List ℕ) (came : Result Answer Refusal) : Type 0 where
+pub record Happened (event : Event) (it : TheStage) (new : Stage) (old_text new_text : List ℕ) (came : Answered) : Type 0 where
   pub stage : IsStage new (after it event)
   pub text : new_text ≡ old_text ++ sents_of it event
   pub tells : Tells came (step it.world event).report
 
--- ---- what a command and a line come to
+-- ---- the results of a command and of a line
 
 pub record Plays (scene : Scene) (new : Stage) (old_text new_text : List ℕ) (answer : Made) : Type 0 where
   pub stage : IsStage new scene.stage

@@ -4,8 +4,8 @@ ghost use Rattle.std.specs.FinMap as fm;
 ghost use Rattle.std.specs.Option.{option_map};
 ghost use Rattle.dist_model.specs.Node.{side_where};
 ghost use Rattle.node_core.specs.Model.{model_of};
-ghost use Rattle.node_sides.specs.Passing.{passes};
-ghost use Rattle.script_session.specs.Connections.{coming_to, cuts, delivers, is_any, live_sides, lose, lose_all, lose_on, loses, routes};
+ghost use Rattle.node_tables.specs.Passing.{passes};
+ghost use Rattle.script_session.specs.Connections.{coming_to, cuts, delivers, in_order, is_any, live_sides, lose, lose_all, lose_on, loses, routes};
 ghost use Rattle.script_session.specs.Stage.{Stage as TheStage};
 ghost use Rattle.script_session.specs.Stands.{IsStage, Plays};
 ghost use Rattle.script_session.specs.declared.made.Made.{Made as TheMade};
@@ -16,20 +16,37 @@ use crate::pairs::node_name;
 use crate::stage::Stage;
 use erl_names::{NodeName, TrunkId};
 use erl_term::{Atom, Refusal};
-use node_sides::Which;
+use node_tables::Which;
 use script_texts::{put_done, put_refused, put_route};
 use std::alloc::{AllocError, Global};
+use std::cmp::Ordering;
 use world_core::{Node, NodeEvent};
 
-/// The connection of a node to a peer, and its attempts at one.
+/// The connection of a node to a peer, and its attempts at one: at most three, in the order of their
+/// names. None stands behind those that there are.
 #[derive(Debug, Drop)]
 pub struct Live {
-    /// The attempt of the node itself.
-    pub dialing: Option<TrunkId>,
-    /// The attempt of the peer.
-    pub waiting: Option<TrunkId>,
-    /// The connection that is up.
-    pub up: Option<TrunkId>,
+    /// The least of them.
+    pub first: Option<TrunkId>,
+    /// The next one.
+    pub second: Option<TrunkId>,
+    /// The last one.
+    pub third: Option<TrunkId>,
+}
+
+// Puts two connections in order.
+fn in_order(one: Option<TrunkId>, other: Option<TrunkId>) -> (Option<TrunkId>, Option<TrunkId>)
+    ensures { result ≡ in_order one other }
+{
+    erl_names::orders();
+    match (one, other) {
+        (Some(one), Some(other)) => match other.cmp(&one) {
+            Ordering::Less => (Some(other), Some(one)),
+            Ordering::Equal | Ordering::Greater => (Some(one), Some(other)),
+        },
+        (None, other) => (other, None),
+        (one, None) => (one, None),
+    }
 }
 
 // A copy of the first connection to a peer that stands so.
@@ -43,30 +60,36 @@ fn side_on(node: &Node, peer: &Atom, which: Which) -> Result<Option<TrunkId>, Al
 }
 
 impl Live {
-    /// Those of a node, towards a peer.
+    /// Returns those of a node, towards a peer.
     ///
     /// # Errors
-    /// Where memory is wanting.
+    /// Out of memory.
     pub fn of(node: &Node, peer: &Atom) -> Result<Live, AllocError>
         ensures { IfOk result (λ live. live ≡ live_sides (model_of node.now) peer.now) }
     {
+        let dialing = side_on(node, peer, Which::Dialing)?;
+        let waiting = side_on(node, peer, Which::Waiting)?;
+        let up = side_on(node, peer, Which::Up)?;
+        let (least, greater) = in_order(dialing, waiting);
+        let (middle, third) = in_order(greater, up);
+        let (first, second) = in_order(least, middle);
         Ok(Live {
-            dialing: side_on(node, peer, Which::Dialing)?,
-            waiting: side_on(node, peer, Which::Waiting)?,
-            up: side_on(node, peer, Which::Up)?,
+            first,
+            second,
+            third,
         })
     }
 
-    /// Whether there is one.
+    /// Returns true if there is one.
     pub fn is_any(&self) -> bool
         ensures { result ≡ is_any self.now }
     {
-        self.dialing.is_some() || self.waiting.is_some() || self.up.is_some()
+        self.first.is_some()
     }
 }
 
 impl Stage {
-    // What a line asks for is refused before anything happens.
+    // Refuses the request of a line before anything happens.
     fn refuse(&mut self, alloc: Global, out: &mut String, why: Refusal) -> Result<(), AllocError>
         ensures stage { (it : TheStage) → IsStage self.old it → IsStage self.new it }
         ensures text { OnOk result (string_bytes out.new ≡ string_bytes out.old ++ refused_text why) }
@@ -75,7 +98,7 @@ impl Stage {
         put_refused(out, why)
     }
 
-    // The connection on which something comes to a node from a peer, or why nothing does.
+    // Returns the connection on which something comes to a node from a peer, or the refusal.
     fn coming(
         &self,
         node: &NodeName,
@@ -95,7 +118,7 @@ impl Stage {
         }
     }
 
-    /// What comes next to a node from a peer comes.
+    /// Delivers the next item from a peer to a node.
     ///
     /// # Errors
     /// Where memory is wanting.
@@ -164,13 +187,13 @@ impl Stage {
         ensures { (it : TheStage) → IsStage self.old it → OnOk result (IsStage self.new (lose_all node.now live it)) }
     {
         let Live {
-            dialing,
-            waiting,
-            up,
+            first,
+            second,
+            third,
         } = live;
-        self.lose_on(alloc, node, dialing)?;
-        self.lose_on(alloc, node, waiting)?;
-        self.lose_on(alloc, node, up)
+        self.lose_on(alloc, node, first)?;
+        self.lose_on(alloc, node, second)?;
+        self.lose_on(alloc, node, third)
     }
 
     // A node loses its connection to a peer, and gives up its attempts at one, or the refusal.

@@ -1,6 +1,6 @@
-//! A script's commands, over a world of Erlang nodes: what each line does, and what it prints.
+//! A script's commands, over a world of Erlang nodes: the effect of each line, and its output.
 //!
-//! [`Session::line`] runs a line. What it does is told over the steps of `dist_model`'s world: each
+//! [`Session::line`] runs a line. Its effect is told over the steps of `dist_model`'s world: each
 //! command is a list of events, and each text one of their reports.
 #![tactic(auto)]
 
@@ -15,6 +15,7 @@ mod settling;
 mod showing;
 mod stage;
 mod telling;
+mod touching;
 
 pub use connections::Live;
 pub use laws::events_lead_to_every_line;

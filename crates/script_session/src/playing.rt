@@ -67,7 +67,7 @@ pub(crate) fn is_taken(stage: &Stage, line: Line) -> bool
     }
 }
 
-/// Whether behind a line no line for a node may come.
+/// Returns true if no line for a node may come behind this line.
 pub fn starts(line: Line) -> bool
     ensures { result ≡ starts (said line.entry) }
 {
@@ -235,7 +235,8 @@ fn asked_of_one(
     }
 }
 
-/// What a line asks a node for, if it does, and the name of that node: it is the first process's.
+/// Returns the command that a line asks a node for, if it does, and the name of that node: it is the
+/// first process's.
 ///
 /// # Errors
 /// Where memory is wanting.

@@ -13,8 +13,7 @@ use crate::playing::{is_taken, new_name, starts};
 use crate::stage::Stage;
 use crate::telling::Telling;
 use diagram::Diagram;
-use script_advice::put_advice;
-use script_lines::{Line, MayCome, Reason, read_line};
+use script_lines::{Line, MayCome, Reason, put_advice, read_line};
 use script_terms::{Named, Names};
 use std::alloc::{AllocError, Global};
 use world_core::World;
@@ -63,7 +62,7 @@ fn carry_out(
     Ok((name, made))
 }
 
-/// What a command has made gets its name.
+/// Binds a name to the thing that a command has made.
 ///
 /// # Errors
 /// Where memory is wanting.
@@ -160,7 +159,8 @@ impl Session {
         self.stage.telling.picture.begin(alloc)
     }
 
-    /// What has happened since, as a diagram; it is empty where no picture is drawn. Then none is any more.
+    /// Returns a diagram of the events since; it is empty if no picture is drawn. Then none is any
+    /// more.
     ///
     /// # Errors
     /// Where memory is wanting.

@@ -1,14 +1,16 @@
-//! What happens of its own accord.
-ghost use Rattle.std.specs.Prelude.{◌≡◌, IfOk, OnOk, is_some, map, not, string_bytes};
+//! The events that happen of their own accord.
+ghost use Rattle.std.specs.Prelude.{◌≡◌, ◌≤◌, IfOk, OnOk, Some, is_some, map, not, string_bytes, vec_len};
 ghost use Rattle.std.specs.Option.{option_map};
 ghost use Rattle.node_core.specs.Model.{model_of};
 ghost use Rattle.script_session.specs.Stage.{Stage as TheStage};
 ghost use Rattle.script_session.specs.Stands.{IsStage, Plays};
+ghost use Rattle.script_session.specs.Touched.{AreIdle, Turned};
 ghost use Rattle.script_session.specs.Turns.{first_turn, settles, turn, turn_at};
 ghost use Rattle.script_session.specs.declared.made.Made.{Made};
 ghost use Rattle.world_core.specs.Ran.{event_at};
 
 use crate::stage::Stage;
+use crate::touching::count_untouched;
 use erl_term::Atom;
 use script_texts::put_settled;
 use std::alloc::{AllocError, Global};
@@ -18,7 +20,7 @@ use world_core::{Node, NodeEvent};
 const MOST_TURNS: u32 = 1_000_000;
 
 impl Stage {
-    // What may happen at a node.
+    // Returns the event that may happen at a node, if one may.
     fn turn_at(&self, node: &Node) -> Result<Option<NodeEvent>, AllocError>
         ensures { (it : TheStage) → IsStage self.now it →
             IfOk result (λ event. option_map (event_at (model_of node.now).mint.name) event ≡ turn_at it.world it.word (model_of node.now)) }
@@ -41,7 +43,7 @@ impl Stage {
         }
     }
 
-    // What may happen at the first of some nodes at which something may.
+    // Returns the event that may happen at the first of some nodes at which one may.
     fn first_turn(&self, nodes: &[Node]) -> Result<Option<(Atom, NodeEvent)>, AllocError>
         ensures { (it : TheStage) → IsStage self.now it →
             IfOk result (λ found. option_map (λ next. event_at next.0 next.1) found ≡ first_turn it.world it.word (map model_of nodes.now)) }
@@ -54,18 +56,24 @@ impl Stage {
         Ok(None)
     }
 
-    // What may happen at the first node at which something may.
-    fn turn(&self) -> Result<Option<(Atom, NodeEvent)>, AllocError>
-        ensures { (it : TheStage) → IsStage self.now it → IfOk result (λ found. option_map (λ next. event_at next.0 next.1) found ≡ turn it) }
+    // Returns the event that may happen at the first node at which one may. Nothing may happen at the first
+    // `idle` nodes.
+    fn turn(&self, idle: usize) -> Result<Option<(Atom, NodeEvent)>, AllocError>
+        requires { idle ≤ vec_len self.now.world.nodes }
+        ensures { (it : TheStage) → IsStage self.now it → AreIdle it idle →
+            IfOk result (λ found. option_map (λ next. event_at next.0 next.1) found ≡ turn it) }
     {
-        self.first_turn(self.world.nodes())
+        let nodes = self.world.nodes();
+        self.first_turn(&nodes[idle..])
     }
 
-    // Whether nothing may happen any more.
-    fn is_settled(&self) -> Result<bool, AllocError>
-        ensures { (it : TheStage) → IsStage self.now it → IfOk result (λ settled. settled ≡ not (is_some (turn it))) }
+    // Returns true if nothing may happen any more. Nothing may at the first `idle` nodes.
+    fn is_settled(&self, idle: usize) -> Result<bool, AllocError>
+        requires { idle ≤ vec_len self.now.world.nodes }
+        ensures { (it : TheStage) → IsStage self.now it → AreIdle it idle →
+            IfOk result (λ settled. settled ≡ not (is_some (turn it))) }
     {
-        match self.turn()? {
+        match self.turn(idle)? {
             Some((node, event)) => {
                 drop(node);
                 drop(event);
@@ -75,8 +83,28 @@ impl Stage {
         }
     }
 
-    /// What may happen does, one event after the other, until nothing more may, or there were 1,000,000.
-    /// What they send is printed, if the frames are to be, and whether something may happen still.
+    // Applies the next event, and prints the frames that it sends, if frames are to be printed. Returns the
+    // number of nodes before the first one that it touches.
+    fn take_turn(
+        &mut self,
+        alloc: Global,
+        node: &Atom,
+        event: NodeEvent,
+        out: &mut String,
+    ) -> Result<usize, AllocError>
+        ensures turned { (it : TheStage) → IsStage self.old it → turn it ≡ Some (event_at node.now event) →
+            IfOk result (Turned (event_at node.now event) it self.new (string_bytes out.old) (string_bytes out.new)) }
+        ensures within { IfOk result (λ idle. idle ≤ vec_len self.new.world.nodes) }
+    {
+        let came = self.happen(alloc, node, event, out)?;
+        let idle = count_untouched(self.world.nodes(), node, &came);
+        drop(came);
+        Ok(idle)
+    }
+
+    /// Applies the events that may happen, one after the other, until none may any more, or there were
+    /// 1,000,000. Prints the frames that they send, if frames are to be printed, and then `settled`, or
+    /// `busy` if an event may still happen.
     ///
     /// # Errors
     /// Where memory is wanting.
@@ -85,14 +113,16 @@ impl Stage {
             OnOk result (Plays (settles 1000000 it) self.new (string_bytes out.old) (string_bytes out.new) Made.Nothing) }
     {
         let mut left = MOST_TURNS;
+        // Nothing may happen at so many of the first nodes.
+        let mut idle = 0;
         while left > 0 {
-            match self.turn()? {
-                Some((node, event)) => drop(self.happen(alloc, &node, event, out)?),
+            match self.turn(idle)? {
+                Some((node, event)) => idle = self.take_turn(alloc, &node, event, out)?,
                 None => return put_settled(out, true),
             }
             left -= 1;
         }
-        let is_settled = self.is_settled()?;
+        let is_settled = self.is_settled(idle)?;
         put_settled(out, is_settled)
     }
 }

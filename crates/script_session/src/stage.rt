@@ -1,22 +1,22 @@
-//! The stage of a script: its world, and what is printed of an event there.
+//! The stage of a script: its world, and the text that is printed of an event there.
 ghost use Rattle.std.specs.Prelude.{◌≡◌, ◌++◌, [], ℕ, IfOk, OnOk, string_bytes, if◌then◌else◌};
 ghost use Rattle.std.specs.List.{flat_map};
 ghost use Rattle.dist_model.specs.World.{Arrive, Report as TheReport};
 ghost use Rattle.script_session.specs.Stage.{Stage as TheStage, after, came_text, happens, next_word, sent_in, takes_word};
-ghost use Rattle.script_session.specs.Stands.{Happened, IsStage, Moved, Plays, Tells};
-ghost use Rattle.world_core.specs.Ran.{event_at};
+ghost use Rattle.script_session.specs.Stands.{Happened, IsStage, Moved, Plays};
+ghost use Rattle.world_core.specs.Ran.{Tells, event_at};
 
 use crate::made::{Made, made_by};
 use crate::telling::Telling;
-use dist_model::{Answer, Effect, Report};
+use dist_model::Effect;
 use erl_names::TrunkId;
 use erl_term::{Atom, Refusal};
 use script_texts::{put_answer, put_refused, put_sent};
 use std::alloc::{AllocError, Global};
-use world_core::{Frame, NodeEvent, World};
+use world_core::{Answered, Frame, NodeEvent, World};
 
-/// The world of a script, the next challenge, whether each frame that is sent is printed, and what is told
-/// of each event.
+/// The world of a script, the next challenge, the flag to print each frame that is sent, and the telling of
+/// the events.
 #[derive(Drop)]
 pub(crate) struct Stage {
     pub(crate) world: World,
@@ -25,7 +25,7 @@ pub(crate) struct Stage {
     pub(crate) telling: Telling,
 }
 
-// What an effect sends.
+// Prints the item that an effect sends on a connection, if it sends one.
 fn put_sent_in(
     alloc: Global,
     out: &mut String,
@@ -44,7 +44,7 @@ fn put_sent_in(
     }
 }
 
-/// What an event sends, of a node of this name: a line for each item.
+/// Prints the items that an event sends, of a node of this name: a line for each item.
 ///
 /// # Errors
 /// Where memory is wanting.
@@ -62,7 +62,7 @@ pub fn put_sents(
     Ok(())
 }
 
-// The same, if it is to be printed.
+// Prints the same, if it is to be printed.
 fn put_sents_if(
     alloc: Global,
     out: &mut String,
@@ -79,25 +79,25 @@ fn put_sents_if(
     }
 }
 
-// The challenge behind this one, where it is taken.
+// Returns the challenge behind this one if this one is taken, or else this one.
 fn drawn(word: u32, is_taken: bool) -> u32
     ensures { result ≡ (if is_taken then next_word word else word) }
 {
     if is_taken { word.wrapping_add(1) } else { word }
 }
 
-// What an event came to.
-fn put_came(out: &mut String, node: &str, came: &Result<Answer, Refusal>) -> Result<(), AllocError>
+// Prints the outcome of an event.
+fn put_came(out: &mut String, node: &str, came: &Answered) -> Result<(), AllocError>
     ensures { (report : TheReport) → Tells came.now report → OnOk result (string_bytes out.new ≡ string_bytes out.old ++ came_text node.now report) }
 {
     match came {
-        Ok(answer) => put_answer(out, node, answer),
+        Ok(report) => put_answer(out, node, &report.answer),
         Err(why) => put_refused(out, *why),
     }
 }
 
 impl Stage {
-    // Whether a connection is new to a node.
+    // Returns true if a connection is new to a node.
     fn is_new(&self, node: &Atom, trunk: &TrunkId) -> bool
         ensures { (it : TheStage) → IsStage self.now it → (word : ℕ) → result ≡ takes_word it.world (Arrive trunk.now node.now word) }
     {
@@ -107,7 +107,7 @@ impl Stage {
         }
     }
 
-    // Whether an event takes a challenge.
+    // Returns true if an event takes a challenge.
     fn takes_word(&self, node: &Atom, event: &NodeEvent) -> bool
         ensures { (it : TheStage) → IsStage self.now it → result ≡ takes_word it.world (event_at node.now event.now) }
     {
@@ -118,15 +118,15 @@ impl Stage {
         }
     }
 
-    // Something happens at the node of a name, under the challenge that is next, and is told where it is to
-    // be. What it sends is printed, if the frames are to be.
+    // Applies an event at the node of a name, under the next challenge, and tells it, if events are to be
+    // told. Prints the frames that it sends, if frames are to be printed.
     fn step(
         &mut self,
         alloc: Global,
         node: &Atom,
         event: NodeEvent,
         out: &mut String,
-    ) -> Result<Result<Answer, Refusal>, AllocError>
+    ) -> Result<Answered, AllocError>
         ensures { (it : TheStage) → IsStage self.old it →
             IfOk result (Moved (event_at node.now event) it self.new (string_bytes out.old) (string_bytes out.new)) }
     {
@@ -134,16 +134,17 @@ impl Stage {
         let came = self.world.apply_at(alloc, node, event);
         self.telling.end(alloc, node.text(), begun, &came)?;
         match came {
-            Ok(Report { answer, effects }) => {
-                put_sents_if(alloc, out, self.trace, node.text(), &effects)?;
-                Ok(Ok(answer))
+            Ok(report) => {
+                put_sents_if(alloc, out, self.trace, node.text(), &report.effects)?;
+                Ok(Ok(report))
             }
             Err(why) if why == Refusal::OutOfMemory => Err(AllocError),
             Err(why) => Ok(Err(why)),
         }
     }
 
-    /// Something happens at the node of a name, and what it sends is printed, if the frames are to be.
+    /// Applies an event at the node of a name, and prints the frames that it sends, if frames are to be
+    /// printed.
     ///
     /// # Errors
     /// Where memory is wanting.
@@ -153,7 +154,7 @@ impl Stage {
         node: &Atom,
         event: NodeEvent,
         out: &mut String,
-    ) -> Result<Result<Answer, Refusal>, AllocError>
+    ) -> Result<Answered, AllocError>
         ensures { (it : TheStage) → IsStage self.old it →
             IfOk result (Happened (event_at node.now event) it self.new (string_bytes out.old) (string_bytes out.new)) }
     {
@@ -163,7 +164,7 @@ impl Stage {
         Ok(came)
     }
 
-    /// Something happens at the node of a name, of which nothing is printed.
+    /// Applies an event at the node of a name. Prints nothing.
     ///
     /// # Errors
     /// Where memory is wanting.
@@ -180,7 +181,7 @@ impl Stage {
         Ok(())
     }
 
-    /// Something happens at the node of a name, and all of it is printed.
+    /// Applies an event at the node of a name, and prints all of it.
     ///
     /// # Errors
     /// Where memory is wanting.

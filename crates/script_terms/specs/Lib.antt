@@ -7,3 +7,4 @@ pub mod Checking
 pub mod Steps
 pub mod OneLine
 pub mod Values
+pub mod Unbound

@@ -82,7 +82,7 @@ impl Row {
     }
 }
 
-/// Whether the text is a term of a script, and if not why. It takes no memory.
+/// Checks that the text is a term of a script, or returns its fault. It takes no memory.
 ///
 /// The first fault from the left decides. More than 64 levels are looked at last, but that a
 /// bracket is refused where it opens inside 64 others.

@@ -10,16 +10,16 @@ ghost use Rattle.script_terms.specs.Printing.{term_text, pid_text, reference_tex
 ghost use Rattle.script_terms.specs.OneLine.{IsOneLine, IsPrintable, NamesArePrintable};
 ghost use Rattle.script_terms.specs.Values.{IsValue, is_literal};
 
-/// What is printed stands on one line. The name of a node is printed as it is, and so has to be one
-/// line by itself.
+/// Proves that a printed value stands on one line. The name of a node is printed as it is, and so has
+/// to be one line by itself.
 pub fn one_line()
     ensures term { (t : Data) → IsPrintable t → IsOneLine (term_text t) }
     ensures pid { (p : Pid) → IsOneLine p.node → IsOneLine (pid_text p) }
     ensures reference { (r : Reference) → IsOneLine r.node → IsOneLine (reference_text r) }
 {}
 
-/// What is read is a value of at most 64 levels, and printed on one line where the names that are
-/// bound are.
+/// Proves that a term that is read is a value of at most 64 levels. It is printed on one line if the
+/// bound names are.
 pub fn read_values()
     ensures value { (look : Look) (text : List ℕ) (t : Data) → term_of look text ≡ Ok t → IsValue t × (levels_of t ≤ 64) }
     ensures line { (look : Look) (text : List ℕ) (t : Data) → NamesArePrintable look → term_of look text ≡ Ok t → IsPrintable t }

@@ -10,7 +10,7 @@ use erl_term::{Pid, Reference};
 use indexmap::IndexMap;
 use std::alloc::{AllocError, Global};
 
-/// What a name of a script stands for.
+/// The value of a name of a script.
 #[derive(Debug, Drop)]
 pub enum Named {
     /// A process.
@@ -35,7 +35,7 @@ impl Names {
         }
     }
 
-    /// What the name stands for, if it is bound.
+    /// Returns the value of the name, if it is bound.
     pub fn get(&self, name: &str) -> Option<&Named>
         ensures { (look : Look) → Knows self.now look → option_copied result ≡ look name.now }
     {

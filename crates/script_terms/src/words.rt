@@ -42,8 +42,8 @@ pub(crate) fn word_of(kind: Kind, bytes: &[u8]) -> (&[u8], &[u8])
     bytes.split_at(bytes.len())
 }
 
-/// Whether a word has the form of a name of a script: a lower-case ASCII letter, and then lower-case
-/// letters, digits and `_`.
+/// Returns true if a word has the form of a name of a script: a lower-case ASCII letter, and then
+/// lower-case letters, digits and `_`.
 pub fn is_name(word: &str) -> bool
     ensures { result ≡ is_name word.now }
 {

@@ -87,7 +87,7 @@ fn put_alive(out: &mut String, is_living: bool) -> Result<(), AllocError>
     out.push_str(if is_living { "alive\n" } else { "not alive\n" })
 }
 
-/// What a node of this name answered.
+/// Appends the answer of a node of this name.
 pub fn put_answer(out: &mut String, node: &str, answer: &Answer) -> Result<(), AllocError>
     ensures { OnOk result (string_bytes out.new ≡ string_bytes out.old ++ answer_text node.now answer.now) }
 {
@@ -148,7 +148,7 @@ pub fn put_route(out: &mut String, route: Option<&TrunkId>) -> Result<(), AllocE
     }
 }
 
-/// Whether no event is possible any more.
+/// Appends the text that tells if an event is still possible.
 pub fn put_settled(out: &mut String, is_settled: bool) -> Result<(), AllocError>
     ensures { OnOk result (string_bytes out.new ≡ string_bytes out.old ++ settled_text is_settled) }
 {

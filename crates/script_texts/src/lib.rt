@@ -1,4 +1,4 @@
-//! What the program prints: texts of a line each.
+//! The texts that the program prints, a line each.
 //!
 //! [`put_sent`] prints the frames that an event sent, [`put_answer`] and [`put_refused`] what it came to,
 //! and the other calls what there is to see of a node. Each appends its text to a string, and fails for

@@ -5,7 +5,8 @@ ghost use Rattle.script_texts.specs.Texts.{sent_text};
 use hex::encode_upper;
 use std::alloc::{AllocError, Global};
 
-/// What a node of this name sent to its peer, a frame or a message of the handshake, whole and in hex.
+/// Appends the item that a node of this name sent to its peer, a frame or a message of the handshake,
+/// whole and in hex.
 ///
 /// # Errors
 /// Where there is no memory for it.

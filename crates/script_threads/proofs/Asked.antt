@@ -2,7 +2,7 @@
 use Rattle.std.proofs.Common.{◌≡◌, ◌-◌, ◌+◌, ℕ, List, [], ◌∷◌, ◌++◌, Some, length, slice_get, inl, ap, ◌∙◌, arith}
 use Rattle.std.proofs.lemmas.List.{length-append}
 use Rattle.std.specs.Prelude.{IfOk, OnOk, Ok, Err, Result}
-use Rattle.node_book.proofs.KeptByEvents.{slice_last}
+use Rattle.node_lock.proofs.KeptByEvents.{slice_last}
 use Rattle.dist_model.specs.Names.{Name}
 use Rattle.node_lock.specs.Calling as lock
 use Rattle.node_lock.specs.Seats.{last_of}

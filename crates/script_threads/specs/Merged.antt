@@ -8,7 +8,7 @@ use Rattle.dist_model.specs.Names.{Name}
 use Rattle.dist_model.specs.declared.report.Report.{Report}
 use Rattle.erl_term.specs.declared.refusal.Refusal.{Refusal}
 use Rattle.joined_books.specs.declared.trace.Placed.{Placed}
-use Rattle.node_book.specs.Seen.{BookSeen}
+use Rattle.node_lock.specs.Seen.{BookSeen}
 use Rattle.node_history.specs.declared.entry.Entry.{Entry}
 use Rattle.node_lock.specs.declared.seat.Seat.{Seat}
 use Rattle.node_frames.specs.Frames.{Framed}

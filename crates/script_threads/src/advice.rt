@@ -39,6 +39,6 @@ pub(crate) fn put_advice(
     };
     match missing {
         Some(text) => out.push_str(text),
-        None => script_advice::put_advice(alloc, out, names, reason, line),
+        None => script_lines::put_advice(alloc, out, names, reason, line),
     }
 }

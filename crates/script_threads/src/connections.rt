@@ -33,13 +33,13 @@ impl Running {
         ensures { self.new.nodes.items ≡ self.old.nodes.items }
     {
         let Live {
-            dialing,
-            waiting,
-            up,
+            first,
+            second,
+            third,
         } = live;
-        self.lose_on(rt, node, dialing)?;
-        self.lose_on(rt, node, waiting)?;
-        self.lose_on(rt, node, up)
+        self.lose_on(rt, node, first)?;
+        self.lose_on(rt, node, second)?;
+        self.lose_on(rt, node, third)
     }
 
     // A node loses its connection to a peer, and gives up its attempts at one.

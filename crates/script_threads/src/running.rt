@@ -19,7 +19,7 @@ use std::alloc::{AllocError, Global};
 use std::sync::Wait;
 use std::thread::Threads;
 
-/// What threads can be started with.
+/// A runtime that can start threads and wait for them.
 pub trait Machine: Threads + Wait + Copy + Send + Drop + 'static {}
 
 impl<R: Threads + Wait + Copy + Send + Drop + 'static> Machine for R {}

@@ -1,5 +1,5 @@
 use Rattle.std.proofs.Common.{string_bytes}
-use Rattle.svg_text.specs.Markup.{Appends}
+use Rattle.diagram_svg.specs.Markup.{Appends}
 use Rattle.diagram_svg.proofs.arrows.put_parts.Given as goal
 
 abbrev pub invariant-loop-arrows : goal.invariant-loop-arrows

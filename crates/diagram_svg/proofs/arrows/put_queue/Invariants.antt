@@ -1,5 +1,5 @@
 use Rattle.std.proofs.Common.{string_bytes}
-use Rattle.svg_text.specs.Markup.{Appends}
+use Rattle.diagram_svg.specs.Markup.{Appends}
 use Rattle.diagram_svg.proofs.arrows.put_queue.Given as goal
 
 abbrev pub invariant-loop-arrow : goal.invariant-loop-arrow

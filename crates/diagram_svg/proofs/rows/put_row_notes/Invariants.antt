@@ -1,5 +1,5 @@
 use Rattle.std.proofs.Common.{string_bytes}
-use Rattle.svg_text.specs.Markup.{Appends}
+use Rattle.diagram_svg.specs.Markup.{Appends}
 use Rattle.diagram_svg.proofs.rows.put_row_notes.Given as goal
 
 abbrev pub invariant-loop-place : goal.invariant-loop-place

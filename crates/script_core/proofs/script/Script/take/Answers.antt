@@ -1,56 +1,67 @@
-use Rattle.std.proofs.Common.{◌≡◌, arith, rules, take_all, ℕ, ◌+◌, List, [], ◌∷◌, ◌++◌, take, drop, Err, get_or, sym, ap, subst, ◌∙◌}
-use Rattle.std.proofs.lemmas.List.{take-append-drop, take_more}
+use Rattle.std.proofs.Common.{◌≡◌, ℕ, List, [], ◌∷◌, ◌++◌, append_assoc, sym, subst, ◌∙◌}
+use Rattle.std.proofs.lemmas.List.{append-nil}
 use Rattle.std.proofs.lemmas.Result.{err_from_is_err_and}
-use Rattle.script_core.specs.Outcomes.{IsAt, Took, Reaches}
-use Rattle.script_core.proofs.ScriptLemmas.{flushed, reaches_none, took_both, took_front}
+use Rattle.script_core.specs.Outcomes.{IsAt, Took, Position}
+use Rattle.script_core.proofs.ScriptLemmas.{flushed, stopped_there, took_further, took_up_to_none}
 use Rattle.script_core.proofs.script.Script.take.Goals as goal
 
-pub loop-byte-init : goal.loop-byte-init
-loop-byte-init g c = λ p at. reaches_none p (IsAt g.S.Lines.stands c.args.self.now) (g.W.Write.contents c.args.writer.now) at
+pub loop-parts-init : goal.loop-parts-init
+loop-parts-init g c = λ p at.
+    took_up_to_none p c.args.bytes.now (IsAt g.S.Lines.stands c.args.self.now) (g.W.Write.contents c.args.writer.now) at
 
-pub returns-in_err-take_byte : goal.returns-in_err-take_byte
-returns-in_err-take_byte g c = λ p at.
-    let bytes = c.args.bytes.now in
-    let i = c.loop-byte.byte-index in
-    let old = g.W.Write.contents c.args.writer.now in
-    let mid = g.W.Write.contents c.loop-byte.writer in
-    let new = g.W.Write.contents c.take_byte.new.writer in
+pub loop-parts-preserved : goal.loop-parts-preserved
+loop-parts-preserved g c = λ p at.
+    let rest = c.loop-parts.rest.now in
+    let text = c.in-Some.parts.0.now in
+    let behind = c.in-Some.parts.1.now in
+    let line : List ℕ = text ++ 10 ∷ [] in
+    let s = IsAt g.S.Lines.stands c.loop-parts.self in
+    let t = IsAt g.S.Lines.stands c.end_line.new.self in
+    let mid = g.W.Write.contents c.loop-parts.writer in
+    let new = g.W.Write.contents c.end_line.new.writer in
+    took_further p c.args.bytes.now rest line behind s t (g.W.Write.contents c.args.writer.now) mid new
+    (c.loop-parts.invariant p at) (c.in-Some.ensures.parts ∙ sym (append_assoc text (10 ∷ []) behind))
+    (λ q h. subst (Took q line t mid new) c.in_ok-end_line.was (c.end_line.ensures q h))
+
+pub returns-in_err-end_line : goal.returns-in_err-end_line
+returns-in_err-end_line g c = λ p at.
+    let rest = c.loop-parts.rest.now in
+    let text = c.in-Some.parts.0.now in
+    let behind = c.in-Some.parts.1.now in
+    let line : List ℕ = text ++ 10 ∷ [] in
+    let s = IsAt g.S.Lines.stands c.loop-parts.self in
+    let t = IsAt g.S.Lines.stands c.end_line.new.self in
+    let mid = g.W.Write.contents c.loop-parts.writer in
+    let new = g.W.Write.contents c.end_line.new.writer in
     let r = err_from_is_err_and c.from_residual.result c.from_residual.ensures.1 in
-    let byte : List ℕ = get_or bytes i 0 ∷ [] in
-    let both =
-    took_both p (take i bytes) byte (IsAt g.S.Lines.stands c.loop-byte.self)
-    (IsAt g.S.Lines.stands c.take_byte.new.self) old mid new c.take_byte.result
-    (c.loop-byte.invariant p at) c.take_byte.ensures in
-    let stopped = subst (Took p (take i bytes ++ byte) (IsAt g.S.Lines.stands c.take_byte.new.self) old new) c.in_err-take_byte.was both in
-    let whole : (take i bytes ++ byte) ++ drop (i + 1) bytes ≡ bytes =
-    ap (λ (w : List ℕ). w ++ drop (i + 1) bytes) (sym (take_more bytes i 0 c.loop-byte-test.true)) ∙ take-append-drop (i + 1) bytes in
     rw (r.1, r.2)
-    (subst (λ (w : List ℕ). Took p w (IsAt g.S.Lines.stands c.take_byte.new.self) old new
-    (Err c.in_err-take_byte.field-0.0)) whole (took_front p (take i bytes ++ byte) (drop (i + 1) bytes)
-    (IsAt g.S.Lines.stands c.take_byte.new.self) old new c.in_err-take_byte.field-0.0 stopped))
+    (stopped_there p c.args.bytes.now rest line behind s t (g.W.Write.contents c.args.writer.now) mid new
+    c.in_err-end_line.field-0.0 (c.loop-parts.invariant p at)
+    (c.in-Some.ensures.parts ∙ sym (append_assoc text (10 ∷ []) behind))
+    (λ q h. subst (Took q line t mid new) c.in_err-end_line.was (c.end_line.ensures q h)))
 
-pub loop-byte-preserved : goal.loop-byte-preserved
-loop-byte-preserved g c = λ p at.
-    let bytes = c.args.bytes.now in
-    let i = c.loop-byte.byte-index in
-    let old = g.W.Write.contents c.args.writer.now in
-    let mid = g.W.Write.contents c.loop-byte.writer in
-    let new = g.W.Write.contents c.take_byte.new.writer in
-    let both =
-    took_both p (take i bytes) (get_or bytes i 0 ∷ []) (IsAt g.S.Lines.stands c.loop-byte.self)
-    (IsAt g.S.Lines.stands c.take_byte.new.self) old mid new c.take_byte.result
-    (c.loop-byte.invariant p at) c.take_byte.ensures in
-    let done : Reaches p (take i bytes ++ get_or bytes i 0 ∷ []) (IsAt g.S.Lines.stands c.take_byte.new.self) old new =
-    subst
-    (Took p (take i bytes ++ get_or bytes i 0 ∷ []) (IsAt g.S.Lines.stands c.take_byte.new.self) old new) c.in_ok-take_byte.was both in
-    subst (λ (w : List ℕ). Reaches p w (IsAt g.S.Lines.stands c.take_byte.new.self) old new)
-    (sym (take_more bytes i 0 c.loop-byte-test.true)) done
+pub returns-in_err-take_text : goal.returns-in_err-take_text
+returns-in_err-take_text g c = λ p at.
+    let rest = c.loop-parts.rest.now in
+    let s = IsAt g.S.Lines.stands c.loop-parts.self in
+    let t = IsAt g.S.Lines.stands c.take_text.new.self in
+    let mid = g.W.Write.contents c.loop-parts.writer in
+    let r = err_from_is_err_and c.from_residual-in_err-take_text.result c.from_residual-in_err-take_text.ensures.1 in
+    rw (r.1, r.2)
+    (stopped_there p c.args.bytes.now rest rest [] s t (g.W.Write.contents c.args.writer.now) mid mid
+    c.in_err-take_text.field-0.0 (c.loop-parts.invariant p at) (sym (append-nil rest))
+    (λ q h. subst (Took q rest t mid mid) c.in_err-take_text.was (c.take_text.ensures q mid h)))
 
 pub returns-in-Ok : goal.returns-in-Ok
 returns-in-Ok g c = λ p at.
-    let bytes = c.args.bytes.now in
-    let i = c.loop-byte.byte-index in
-    let whole : take i bytes ≡ bytes = take_all i bytes (search (arith, rules)) in
-    flushed p bytes (take i bytes) (IsAt g.S.Lines.stands c.loop-byte.self) (g.W.Write.contents c.args.writer.now)
-    (g.W.Write.contents c.loop-byte.writer) (g.W.Write.contents c.flush.new.self)
-    (c.loop-byte.invariant p at) whole c.flush.ensures.bytes
+    let rest = c.loop-parts.rest.now in
+    let s = IsAt g.S.Lines.stands c.loop-parts.self in
+    let t = IsAt g.S.Lines.stands c.take_text.new.self in
+    let old = g.W.Write.contents c.args.writer.now in
+    let mid = g.W.Write.contents c.loop-parts.writer in
+    let h =
+    took_further p c.args.bytes.now rest rest [] s t old mid mid
+    (c.loop-parts.invariant p at) (sym (append-nil rest))
+    (λ q k. subst (Took q rest t mid mid) c.in_ok-take_text.was (c.take_text.ensures q mid k)) in
+    flushed p c.args.bytes.now h.front t old mid (g.W.Write.contents c.flush.new.self) h.reached
+    (sym (append-nil h.front) ∙ sym h.parts) c.flush.ensures.bytes

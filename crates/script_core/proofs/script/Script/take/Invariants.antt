@@ -1,8 +1,12 @@
-use Rattle.std.proofs.Common.{take}
-use Rattle.script_core.specs.Outcomes.{Position, IsAt, Reaches}
+use Rattle.std.proofs.Common.{length}
+use Rattle.script_core.specs.Outcomes.{Position, IsAt}
+use Rattle.script_core.proofs.ScriptLemmas.{TookUpTo}
 use Rattle.script_core.proofs.script.Script.take.Given as goal
 
-abbrev pub invariant-loop-byte : goal.invariant-loop-byte
-invariant-loop-byte g l =
+abbrev pub invariant-loop-parts : goal.invariant-loop-parts
+invariant-loop-parts g l =
     (p : Position) → IsAt g.S.Lines.stands l.fn.self p
-    → Reaches p (take l.byte-index l.bytes) (IsAt g.S.Lines.stands l.self) (g.W.Write.contents l.fn.writer) (g.W.Write.contents l.writer)
+    → TookUpTo p l.bytes l.rest (IsAt g.S.Lines.stands l.self) (g.W.Write.contents l.fn.writer) (g.W.Write.contents l.writer)
+
+abbrev pub decreases-loop-parts : goal.decreases-loop-parts
+decreases-loop-parts g l = length l.rest

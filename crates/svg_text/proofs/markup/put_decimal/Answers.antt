@@ -1,8 +1,0 @@
-use Rattle.std.proofs.Common.{rules, ◌<◌, ◌^◌, arith}
-use Rattle.svg_text.proofs.Plain.{plain_decimal}
-use Rattle.svg_text.proofs.markup.put_decimal.Goals as goal
-
-pub returns : goal.returns
-returns c =
-    let small : c.args.value < 2 ^ 64 = omega arith in
-    rw (plain_decimal c.args.value small) (search rules)

@@ -1,5 +1,0 @@
-pub mod Escaping
-pub mod Reading
-pub mod Markup
-pub mod Figures
-pub mod Document
