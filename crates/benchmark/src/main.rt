@@ -6,6 +6,7 @@
 mod frames;
 mod pids;
 mod printing;
+mod rate;
 mod terms;
 
 use anyhow::Result;

@@ -1,7 +1,7 @@
 //! What a measurement found, as it is printed.
 
+use crate::rate::Rate;
 use anyhow::Result;
-use rates::Rate;
 
 /// Prints how many rounds a second has, and how many megabytes of 1,000,000 bytes.
 pub fn print(rt: &HostRuntime, rate: &Rate<'_>) -> Result<()> {

@@ -2,9 +2,9 @@
 
 use crate::pids::pid;
 use crate::printing::print;
+use crate::rate::Rate;
 use anyhow::Result;
 use erl_term::{Term, decode, encode};
-use rates::Rate;
 use std::alloc::{AllocError, Global};
 use std::hint::black_box;
 use std::time::Instant;

@@ -2,8 +2,8 @@
 use denote.Param.Send.{IsSync, sendable}
 use Rattle.cluster_run.proofs.ThreadSafe.{cluster_sync}
 use Rattle.cluster_run.specs.contracts.cluster.Cluster as cluster
-use Rattle.cluster_run.specs.contracts.gate.Open as ungated
+use Rattle.cluster_tests.specs.contracts.meeting.Pieces as pieces
 use Rattle.std.proofs.Crossing
 
-pub nodes_sync : IsSync (cluster.the_row ungated.the_row)
-nodes_sync = cluster_sync ungated.the_row (search (Crossing.crosses, sendable)) (search (Crossing.crosses, sendable))
+pub nodes_sync : IsSync (cluster.the_row pieces.the_row)
+nodes_sync = cluster_sync pieces.the_row (search (Crossing.crosses, sendable)) (search (Crossing.crosses, sendable))

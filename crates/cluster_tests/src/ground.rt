@@ -1,6 +1,7 @@
-//! Nodes to test, and what is asked of them.
+//! Nodes to test, and the requests to them.
 
-use cluster_run::{Cluster, Gate, Open, Settled};
+use crate::meeting::Pieces;
+use cluster_run::{Cluster, Gate, Settled};
 use dist_model::{Answer, Command};
 use erl_handshake::Cookie;
 use erl_names::{NodeName, TrunkId};
@@ -13,13 +14,13 @@ use std::rt::Runtime;
 use std::sync::Wait;
 use std::thread::Threads;
 
-/// What the tests run on.
+/// A runtime that the tests run on.
 pub trait Machine: Runtime + Threads + Wait + Copy + Send + Sync + 'static {}
 
 impl<R: Runtime + Threads + Wait + Copy + Send + Sync + 'static> Machine for R {}
 
-/// Nodes with no gate.
-pub type Nodes = Cluster<Open>;
+/// Nodes whose gate sets the length of the pieces on their wires.
+pub type Nodes = Cluster<Pieces>;
 
 /// More looks than any test needs.
 pub const ENOUGH: u64 = 10_000_000;
@@ -53,7 +54,7 @@ where
     Cluster::new(rt, alloc, nodes, gate)
 }
 
-/// What is asked by a seat, and whether the node did it.
+/// Asks a node for an act by a seat. Returns true if the node did it.
 pub fn asks<R: Wait, G>(
     rt: &R,
     cluster: &Cluster<G>,
@@ -90,6 +91,20 @@ where
 {
     cluster.call(rt, seat, Act::Run(Command::Spawn))?;
     pid_told(seat)?.ok_or(Refusal::NothingThere)
+}
+
+/// Returns the count of the connection that the node of the seat has dialed last.
+pub fn count_told(seat: &Seat) -> Option<u64> {
+    match seat.last() {
+        Some(Asked { receipt, .. }) => match &receipt.answer {
+            Ok(report) => match &report.answer {
+                Answer::Trunk(trunk) => Some(trunk.count),
+                _ => None,
+            },
+            Err(_) => None,
+        },
+        None => None,
+    }
 }
 
 /// The node of the seat dials that of a place.
@@ -192,7 +207,7 @@ where
     asks(rt, cluster, seat, Act::Run(command))
 }
 
-/// Whether the process says that it has this link alone, and has it active.
+/// Returns true if the process says that it has this link alone, and has it active.
 pub fn has_link<R: Wait, G>(
     rt: &R,
     cluster: &Cluster<G>,
@@ -224,7 +239,7 @@ fn is_link(links: &[(Pid, End)], partner: &Pid) -> bool {
     }
 }
 
-/// Whether the cluster comes to rest.
+/// Returns true if the cluster comes to rest.
 pub fn settles<R: Wait, G>(rt: &R, cluster: &Cluster<G>) -> bool
 where
     G: Gate + Send + Sync + Drop + 'static,
@@ -232,7 +247,8 @@ where
     cluster.settle(rt, ENOUGH) == Settled::Settled
 }
 
-/// Whether a node is connected to another on the connection that this node has dialed as so-manieth.
+/// Returns true if a node is connected to another on the connection that this node has dialed as
+/// so-manieth.
 pub fn is_up<R: Wait, G>(
     rt: &R,
     alloc: Global,
@@ -252,7 +268,7 @@ where
     cluster.look(rt, node, |node| node.route(peer.atom()) == Some(&trunk))
 }
 
-/// Whether entries stand by stamp and then by node, and those of each node in their order.
+/// Returns true if entries stand by stamp and then by node, and those of each node in their order.
 pub fn is_ordered(trace: &Trace) -> bool {
     let mut last: Option<Placed> = None;
     for next in &trace.entries {

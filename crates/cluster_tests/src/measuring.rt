@@ -1,9 +1,10 @@
-//! How often nodes in threads do in a second what callers ask for most.
+//! The rates at which nodes in threads do the commonest requests of callers.
 
 use crate::ground::{Machine, Nodes, cluster, dials, links, monitors, sends, settles, spawned};
+use crate::meeting::LONG_PIECES;
 use crate::stories::Wrong;
 use anyhow::Result;
-use cluster_run::{Finished, Open};
+use cluster_run::Finished;
 use erl_term::{Pid, Refusal};
 use node_lock::Seat;
 use std::alloc::Global;
@@ -17,10 +18,10 @@ const CALLS: usize = 120_000;
 /// So many threads call.
 const THREADS: usize = 4;
 
-/// How many nodes there are. Two that stand beside one another are connected.
+/// The numbers of nodes. Two that stand beside one another are connected.
 const SIZES: [usize; 6] = [2, 4, 8, 16, 32, 64];
 
-/// What callers ask for.
+/// The work that callers ask for.
 #[derive(Clone, Copy)]
 enum Work {
     /// Messages to a process of the other node.
@@ -41,7 +42,8 @@ impl Work {
     }
 }
 
-/// Who calls a node, the two processes, what is asked for and how often, and how often all was done.
+/// The seat at a node, the two processes, the work, the number of rounds of it, and the number of rounds
+/// done.
 #[derive(Drop)]
 struct Caller {
     seat: Seat,
@@ -53,7 +55,7 @@ struct Caller {
 }
 
 impl Caller {
-    // Whether all is done that is asked for.
+    // Returns true if all is done that is asked for.
     fn asks<R: Wait>(&mut self, rt: &R, cluster: &Nodes) -> Result<bool, Refusal> {
         let Caller { seat, from, to, .. } = self;
         match self.work {
@@ -127,7 +129,7 @@ fn a_second(count: u64, took: Duration) -> u64 {
     u64::try_from(u128::from(count).saturating_mul(1_000_000) / micros).unwrap_or(0)
 }
 
-// The seats of all callers, and how often they got what they asked for.
+// Returns the seats of all callers, and the number of rounds that were done.
 fn seats_of(alloc: Global, callers: Vec<Caller>) -> Result<(Vec<Seat>, u64), Wrong> {
     let mut seats = Vec::new(alloc);
     let mut done = 0u64;
@@ -138,8 +140,8 @@ fn seats_of(alloc: Global, callers: Vec<Caller>) -> Result<(Vec<Seat>, u64), Wro
     Ok((seats, done))
 }
 
-/// How long it took until all calls were answered, and until all that they brought about had happened; and
-/// how many calls there were.
+/// The time until all calls were answered, the time until all that they brought about had happened, and the
+/// number of calls.
 #[derive(Clone, Copy)]
 struct Times {
     called: Duration,
@@ -173,7 +175,7 @@ fn timed<R: Machine>(
     ))
 }
 
-// How many entries the trace has, and how long the books took to merge.
+// Returns the number of entries of the trace, and the time that the books took to merge.
 fn merged<R: Machine>(rt: &R, cluster: Nodes, seats: Vec<Seat>) -> Result<(usize, Duration)> {
     let start = Instant::now(rt)?;
     let Finished { trace, .. } = match cluster.finish(rt, seats) {
@@ -186,7 +188,7 @@ fn merged<R: Machine>(rt: &R, cluster: Nodes, seats: Vec<Seat>) -> Result<(usize
 }
 
 fn tell<R: Machine>(rt: &R, alloc: Global, count: usize, work: Work) -> Result<()> {
-    let cluster = cluster(rt, alloc, count, Open)?;
+    let cluster = cluster(rt, alloc, count, LONG_PIECES)?;
     let (seats, times) = timed(rt, alloc, &cluster, count, work)?;
     let (entries, took) = merged(rt, cluster, seats)?;
     let name = work.name();
@@ -199,7 +201,7 @@ fn tell<R: Machine>(rt: &R, alloc: Global, count: usize, work: Work) -> Result<(
     Ok(())
 }
 
-/// Says how many there are, of each kind, over so many nodes.
+/// Prints the rates of the requests of each kind, over so many nodes.
 pub fn measure<R: Machine>(rt: &R, alloc: Global) -> Result<bool> {
     for count in SIZES {
         tell(rt, alloc, count, Work::Messages)?;

@@ -4,7 +4,7 @@ use crate::ground::is_ordered;
 use crate::stories::Wrong;
 use cluster_run::Finished;
 use erl_term::{Pid, Refusal};
-use node_book::Book;
+use node_lock::Book;
 use std::alloc::Global;
 use world_core::{Life, Node};
 

@@ -1,28 +1,29 @@
-//! What nodes in threads come to.
+//! Stories of nodes in threads, and checks of their outcomes.
 
 use crate::ground::{
-    Machine, Nodes, asks, cluster, dials, has_link, is_up, links, name, named, sends, settles,
-    spawned,
+    Machine, Nodes, asks, cluster, count_told, dials, has_link, is_up, links, name, named, sends,
+    settles, spawned,
 };
-use crate::meeting::{Meet, Meeting};
+use crate::meeting::{LONG_PIECES, Leaving, Meet, Meeting, Pieces, becomes};
 use crate::replaying::is_whole;
 use crate::walking::walk;
 use anyhow::Result;
-use cluster_run::{Cluster, Finished, Open, Settled, Unmerged};
+use cluster_run::{Cluster, Finished, Settled, Unmerged};
 use erl_names::{NodeName, TrunkId};
 use erl_term::{Pid, Refusal};
 use joined_books::FinishError;
 use link_core::End;
 use node_lock::{Act, Seat};
 use std::alloc::{AllocError, AllocFailed, Global};
+use std::sync::atomic::AtomicBool;
 use std::sync::{Arc, Wait};
 use std::thread::for_each_mut;
 use thiserror::Error;
 
-/// Why a test doesn't hold.
+/// The reason that a test doesn't hold.
 #[derive(Clone, Copy, Debug, PartialEq, Eq, Error)]
 pub enum Wrong {
-    /// What was asked for with this number isn't so.
+    /// The check with this number doesn't hold.
     #[error("check {0} doesn't hold")]
     At(u32),
     /// A call was refused.
@@ -54,7 +55,7 @@ impl<T: Drop> From<AllocFailed<T>> for Wrong {
     }
 }
 
-/// Whether what is checked under this number is so.
+/// Returns [`Ok`] if the check with this number holds, or else [`Wrong::At`].
 pub fn check(number: u32, is_so: bool) -> Result<(), Wrong> {
     if is_so {
         Ok(())
@@ -73,8 +74,8 @@ struct Two {
     q: Pid,
 }
 
-fn two_nodes<R: Machine>(rt: &R, alloc: Global) -> Result<Two, Wrong> {
-    let cluster = cluster(rt, alloc, 2, Open)?;
+fn two_nodes<R: Machine>(rt: &R, alloc: Global, pieces: Pieces) -> Result<Two, Wrong> {
+    let cluster = cluster(rt, alloc, 2, pieces)?;
     let mut at_a = cluster.seat(0)?;
     let mut at_b = cluster.seat(1)?;
     let p = spawned(rt, &cluster, &mut at_a)?;
@@ -92,6 +93,7 @@ impl Two {
     // The first node dials the other, and both are connected.
     fn connects<R: Machine>(&mut self, rt: &R, alloc: Global, count: u64) -> Result<(), Wrong> {
         check(1, dials(rt, alloc, &self.cluster, &mut self.at_a, 1)?)?;
+        check(5, count_told(&self.at_a) == Some(count))?;
         check(2, settles(rt, &self.cluster))?;
         check(3, is_up(rt, alloc, &self.cluster, 0, 1, (0, count))?)?;
         check(4, is_up(rt, alloc, &self.cluster, 1, 0, (0, count))?)
@@ -107,7 +109,7 @@ impl Two {
         sends(rt, &self.cluster, &mut self.at_a, &self.p, &self.q)
     }
 
-    // What the two processes have of their link.
+    // Returns the ends that the two processes have of their link.
     fn ends<R: Wait>(&self, rt: &R) -> Result<(End, End), Refusal> {
         let at_p = self.cluster.look(rt, 0, |node| node.end(&self.p, &self.q))?;
         let at_q = self.cluster.look(rt, 1, |node| node.end(&self.q, &self.p))?;
@@ -144,7 +146,7 @@ pub fn finish_with<R: Machine>(
     }
 }
 
-/// How many entries a trace has, if that is known, and that it is whole.
+/// Checks the number of entries of a trace, if that is known, and that the trace is whole.
 pub fn check_trace(
     alloc: Global,
     finished: &Finished,
@@ -231,6 +233,18 @@ fn loss<R: Machine>(rt: &R, alloc: Global, two: &mut Two) -> Result<(), Wrong> {
     check(16, two.ends(rt)? == (End::None, End::None))
 }
 
+/// Both nodes notice twice that their connection is lost, and connect a third time.
+fn losses<R: Machine>(rt: &R, alloc: Global, two: &mut Two) -> Result<(), Wrong> {
+    two.connects(rt, alloc, 1)?;
+    for count in 1..=2 {
+        check(10, loses(rt, alloc, &two.cluster, &mut two.at_a, count)?)?;
+        check(11, loses(rt, alloc, &two.cluster, &mut two.at_b, count)?)?;
+        check(12, settles(rt, &two.cluster))?;
+        two.connects(rt, alloc, count.saturating_add(1))?;
+    }
+    Ok(())
+}
+
 /// Both nodes dial each other before either has heard of it: one connection comes up.
 fn crossed<R: Machine>(rt: &R, alloc: Global, two: &mut Two) -> Result<(), Wrong> {
     check(10, dials(rt, alloc, &two.cluster, &mut two.at_a, 1)?)?;
@@ -251,13 +265,14 @@ fn small<R: Machine>(rt: &R, alloc: Global, two: &mut Two) -> Result<(), Wrong> 
     check(12, two.ends(rt)? == (End::Active, End::Active))
 }
 
-/// What happens at two nodes.
+/// A story of two nodes.
 #[derive(Clone, Copy)]
 enum AtTwo {
     Link,
     Flood,
     Restart,
     Loss,
+    Losses,
     Crossed,
     Small,
 }
@@ -277,7 +292,7 @@ fn unknown(done: Result<(), Wrong>) -> Result<Option<usize>, Wrong> {
 }
 
 impl AtTwo {
-    // How many entries the trace has then, if that is known.
+    // Runs the story. Returns the number of entries that the trace has then, if that is known.
     fn happens<R: Machine>(
         self,
         rt: &R,
@@ -289,14 +304,15 @@ impl AtTwo {
             AtTwo::Flood => known(flood(rt, alloc, two)),
             AtTwo::Restart => unknown(restart(rt, alloc, two)),
             AtTwo::Loss => unknown(loss(rt, alloc, two)),
+            AtTwo::Losses => unknown(losses(rt, alloc, two)),
             AtTwo::Crossed => unknown(crossed(rt, alloc, two)),
             AtTwo::Small => unknown(small(rt, alloc, two)),
         }
     }
 
     // It happens, the threads end, and the trace is whole.
-    fn tell<R: Machine>(self, rt: &R, alloc: Global) -> Result<(), Wrong> {
-        let mut two = two_nodes(rt, alloc)?;
+    fn tell<R: Machine>(self, rt: &R, alloc: Global, pieces: Pieces) -> Result<(), Wrong> {
+        let mut two = two_nodes(rt, alloc, pieces)?;
         let happened = self.happens(rt, alloc, &mut two);
         let finished = two.finishes(rt, alloc)?;
         match happened {
@@ -306,7 +322,7 @@ impl AtTwo {
     }
 }
 
-// Whether the seat of the last node is missing, and all else has come back.
+// Returns true if the seat of the last node is missing, and all else has come back.
 fn is_missing(outcome: &Result<Finished, Unmerged>, last: usize) -> bool {
     match outcome {
         Ok(_) => false,
@@ -325,7 +341,7 @@ fn seat_left_out<R: Machine>(rt: &R, alloc: Global) -> Result<(), Wrong> {
         at_a,
         at_b,
         ..
-    } = two_nodes(rt, alloc)?;
+    } = two_nodes(rt, alloc, LONG_PIECES)?;
     drop(at_b);
     let mut seats = Vec::new(alloc);
     seats.push(at_a)?;
@@ -353,13 +369,13 @@ fn one_name_twice<R: Machine>(rt: &R, alloc: Global) -> Result<(), Wrong> {
     let mut nodes = Vec::new(alloc);
     nodes.push(named(alloc, name(alloc, 0)?)?)?;
     nodes.push(named(alloc, name(alloc, 0)?)?)?;
-    let none = Cluster::new(rt, alloc, nodes, Open);
+    let none = Cluster::new(rt, alloc, nodes, LONG_PIECES);
     check(15, matches!(&none, Err(Refusal::BadName)))
 }
 
 /// There is no node past the last one, and no two have one name.
 fn no_such_node<R: Machine>(rt: &R, alloc: Global) -> Result<(), Wrong> {
-    let cluster = cluster(rt, alloc, 1, Open)?;
+    let cluster = cluster(rt, alloc, 1, LONG_PIECES)?;
     let mut strange = Seat::new(alloc, 1);
     let asked = asks_nowhere(rt, &cluster, &mut strange);
     drop(finish_with(rt, cluster, Vec::new(alloc))?);
@@ -367,41 +383,109 @@ fn no_such_node<R: Machine>(rt: &R, alloc: Global) -> Result<(), Wrong> {
     one_name_twice(rt, alloc)
 }
 
-// A process at each of two nodes sends itself a message.
+// At its node a caller has a process send itself a message, which the node's thread delivers.
+fn sends_itself<R: Machine>(
+    rt: &R,
+    cluster: &Cluster<Meet>,
+    seat: &mut Seat,
+) -> Result<bool, Refusal> {
+    let own = spawned(rt, cluster, seat)?;
+    sends(rt, cluster, seat, &own, &own)
+}
+
+// Returns the length of the node's history right after the seat's last call.
+fn entries_told(seat: &Seat) -> u64 {
+    match seat.last() {
+        Some(asked) => (asked.receipt.position as u64).saturating_add(1),
+        None => u64::MAX,
+    }
+}
+
+fn sends_at<R: Machine>(
+    rt: &R,
+    cluster: &Cluster<Meet>,
+    seats: &mut [Seat],
+    place: usize,
+) -> Result<bool, Refusal> {
+    match seats.get_mut(place) {
+        Some(seat) => sends_itself(rt, cluster, seat),
+        None => Err(Refusal::NothingThere),
+    }
+}
+
+// The second node is called, and its thread goes on, while the first node's thread is inside a step.
 fn both_send<R: Machine>(
     rt: &R,
-    alloc: Global,
     cluster: &Cluster<Meet>,
-) -> Result<Vec<Seat>, Wrong> {
+    meeting: &Meeting,
+    seats: &mut [Seat],
+) -> Result<(), Wrong> {
+    check(10, sends_at(rt, cluster, seats, 0)?)?;
+    check(11, meeting.is_inside_soon())?;
+    check(12, sends_at(rt, cluster, seats, 1)?)?;
+    meeting.was_called(seats.get(1).map_or(u64::MAX, |seat| entries_told(seat)));
+    check(13, settles(rt, cluster))
+}
+
+fn two_seats(alloc: Global, cluster: &Cluster<Meet>) -> Result<Vec<Seat>, Wrong> {
     let mut seats = Vec::new(alloc);
     for place in 0..2 {
-        let mut seat = cluster.seat(place)?;
-        let own = spawned(rt, cluster, &mut seat)?;
-        check(10, sends(rt, cluster, &mut seat, &own, &own)?)?;
-        seats.push(seat)?;
+        seats.push(cluster.seat(place)?)?;
     }
-    check(11, settles(rt, cluster))?;
     Ok(seats)
 }
 
-/// Two nodes' threads are within their events at the same time.
+/// A node's thread goes on, and a call of it is answered, while another's is inside a step.
 fn two_nodes_at_once<R: Machine>(rt: &R, alloc: Global) -> Result<(), Wrong> {
     let meeting = Arc::new(alloc, Meeting::new())?;
     let gate = Meet {
         meeting: Arc::try_clone(&meeting)?,
     };
     let cluster = cluster(rt, alloc, 2, gate)?;
-    let seats = both_send(rt, alloc, &cluster)?;
-    match cluster.finish(rt, seats) {
+    let mut seats = two_seats(alloc, &cluster)?;
+    let sent = both_send(rt, &cluster, &meeting, seats.as_mut_slice());
+    let finished = cluster.finish(rt, seats);
+    sent?;
+    match finished {
         Ok(finished) => {
-            check(12, meeting.have_met())?;
+            check(14, meeting.have_met())?;
             check_trace(alloc, &finished, Some(6))
         }
         Err(_) => Err(Wrong::Unmerged),
     }
 }
 
-/// A seat, and whether its caller read back what it had asked for.
+// The last of three nodes spawns a process.
+fn spawns<R: Machine>(rt: &R, cluster: &Cluster<Leaving>) -> Result<bool, Refusal> {
+    let mut seat = cluster.seat(2)?;
+    let process = spawned(rt, cluster, &mut seat);
+    drop(seat);
+    drop(process?);
+    Ok(settles(rt, cluster))
+}
+
+// The cluster of a gate is used and dropped.
+fn is_used<R: Machine>(rt: &R, alloc: Global, gate: Leaving) -> Result<bool, Refusal> {
+    let cluster = cluster(rt, alloc, 3, gate)?;
+    let is_used = spawns(rt, &cluster);
+    drop(cluster);
+    is_used
+}
+
+/// A cluster that is dropped ends its threads.
+fn dropped<R: Machine>(rt: &R, alloc: Global) -> Result<(), Wrong> {
+    let has_left = Arc::new(alloc, AtomicBool::new(false))?;
+    let gate = Leaving {
+        has_left: Arc::try_clone(&has_left)?,
+    };
+    let is_used = is_used(rt, alloc, gate);
+    let have_ended = becomes(&has_left);
+    drop(has_left);
+    check(10, is_used?)?;
+    check(11, have_ended)
+}
+
+/// A seat, and the flag that its caller has read back the link that it asked for.
 #[derive(Drop)]
 struct Reader {
     seat: Seat,
@@ -429,7 +513,7 @@ fn all_read<R: Machine>(rt: &R, cluster: &Nodes, readers: &mut [Reader]) {
     );
 }
 
-// The seats of four threads, each at a node of its own, which have read back what they have asked for.
+// Returns the seats of four threads, each at a node of its own, which have read back their links.
 fn four_read_back<R: Machine>(rt: &R, alloc: Global, cluster: &Nodes) -> Result<Vec<Seat>, Wrong> {
     let mut readers = Vec::new(alloc);
     for place in 0..4 {
@@ -448,10 +532,10 @@ fn four_read_back<R: Machine>(rt: &R, alloc: Global, cluster: &Nodes) -> Result<
     Ok(seats)
 }
 
-/// Four threads call a node each, and read back what they have asked for. Each node has four calls then, and
-/// the signal of its link, which it sends to itself.
-fn read_back<R: Machine>(rt: &R, alloc: Global) -> Result<(), Wrong> {
-    let cluster = cluster(rt, alloc, 4, Open)?;
+/// Four threads call a node each, and read back their links. Each node has four calls then, and the signal
+/// of its link, which it sends to itself.
+fn read_back<R: Machine>(rt: &R, alloc: Global, pieces: Pieces) -> Result<(), Wrong> {
+    let cluster = cluster(rt, alloc, 4, pieces)?;
     let seats = four_read_back(rt, alloc, &cluster)?;
     let finished = finish_with(rt, cluster, seats)?;
     check_trace(alloc, &finished, Some(20))
@@ -459,7 +543,7 @@ fn read_back<R: Machine>(rt: &R, alloc: Global) -> Result<(), Wrong> {
 
 /// The same, but the last seat is left out.
 fn last_seat_left_out<R: Machine>(rt: &R, alloc: Global) -> Result<(), Wrong> {
-    let cluster = cluster(rt, alloc, 4, Open)?;
+    let cluster = cluster(rt, alloc, 4, LONG_PIECES)?;
     let mut seats = four_read_back(rt, alloc, &cluster)?;
     drop(seats.pop());
     let outcome = cluster.finish(rt, seats);
@@ -471,10 +555,10 @@ fn at_random<R: Machine>(rt: &R, alloc: Global) -> Result<(), Wrong> {
     walk(rt, alloc, 1, 2000)
 }
 
-/// A short run, for the refusal of each allocation in turn: whether it could be done. Where it couldn't,
-/// what was wanting is told.
+/// Tells a short story, for the refusal of each allocation in turn. Returns true if it could be told, and
+/// prints the fault if it couldn't.
 pub fn tell_small<R: Machine>(rt: &R, alloc: Global) -> Result<bool> {
-    match AtTwo::Small.tell(rt, alloc) {
+    match AtTwo::Small.tell(rt, alloc, LONG_PIECES) {
         Ok(()) => {
             println!(rt; "done")?;
             Ok(true)
@@ -495,20 +579,33 @@ enum Story {
     TwoNodesAtOnce,
     ReadBack,
     AtRandom,
+    Dropped,
 }
 
-const ALL: [Story; 11] = [
-    Story::AtTwo(AtTwo::Link),
-    Story::AtTwo(AtTwo::Flood),
-    Story::AtTwo(AtTwo::Restart),
-    Story::AtTwo(AtTwo::Loss),
-    Story::AtTwo(AtTwo::Crossed),
-    Story::SeatLeftOut,
-    Story::NoSuchNode,
-    Story::TwoNodesAtOnce,
-    Story::ReadBack,
-    Story::LastSeatLeftOut,
-    Story::AtRandom,
+const SHORT: Pieces = Pieces { greatest: 7 };
+
+const SHORTEST: Pieces = Pieces { greatest: 1 };
+
+const ALL: &[(Story, Pieces)] = &[
+    (Story::AtTwo(AtTwo::Link), LONG_PIECES),
+    (Story::AtTwo(AtTwo::Link), SHORT),
+    (Story::AtTwo(AtTwo::Link), SHORTEST),
+    (Story::AtTwo(AtTwo::Flood), LONG_PIECES),
+    (Story::AtTwo(AtTwo::Restart), LONG_PIECES),
+    (Story::AtTwo(AtTwo::Restart), SHORT),
+    (Story::AtTwo(AtTwo::Restart), SHORTEST),
+    (Story::AtTwo(AtTwo::Loss), LONG_PIECES),
+    (Story::AtTwo(AtTwo::Losses), LONG_PIECES),
+    (Story::AtTwo(AtTwo::Crossed), LONG_PIECES),
+    (Story::SeatLeftOut, LONG_PIECES),
+    (Story::NoSuchNode, LONG_PIECES),
+    (Story::TwoNodesAtOnce, LONG_PIECES),
+    (Story::ReadBack, LONG_PIECES),
+    (Story::ReadBack, SHORT),
+    (Story::ReadBack, SHORTEST),
+    (Story::LastSeatLeftOut, LONG_PIECES),
+    (Story::AtRandom, LONG_PIECES),
+    (Story::Dropped, LONG_PIECES),
 ];
 
 impl AtTwo {
@@ -518,6 +615,7 @@ impl AtTwo {
             AtTwo::Flood => "more comes than a wire holds",
             AtTwo::Restart => "a node stops and starts",
             AtTwo::Loss => "a connection is lost, and comes again",
+            AtTwo::Losses => "a connection is lost twice, and comes a third time",
             AtTwo::Crossed => "both nodes dial",
             AtTwo::Small => "a short run",
         }
@@ -534,31 +632,43 @@ impl Story {
             Story::TwoNodesAtOnce => "two nodes at once",
             Story::ReadBack => "four threads read back what they asked for",
             Story::AtRandom => "four threads call at random",
+            Story::Dropped => "a cluster is dropped",
         }
     }
 
-    fn tell<R: Machine>(self, rt: &R, alloc: Global) -> Result<(), Wrong> {
+    fn tell<R: Machine>(self, rt: &R, alloc: Global, pieces: Pieces) -> Result<(), Wrong> {
         match self {
-            Story::AtTwo(story) => story.tell(rt, alloc),
+            Story::AtTwo(story) => story.tell(rt, alloc, pieces),
             Story::SeatLeftOut => seat_left_out(rt, alloc),
             Story::LastSeatLeftOut => last_seat_left_out(rt, alloc),
             Story::NoSuchNode => no_such_node(rt, alloc),
             Story::TwoNodesAtOnce => two_nodes_at_once(rt, alloc),
-            Story::ReadBack => read_back(rt, alloc),
+            Story::ReadBack => read_back(rt, alloc, pieces),
             Story::AtRandom => at_random(rt, alloc),
+            Story::Dropped => dropped(rt, alloc),
         }
     }
 }
 
-/// Tells each story, and whether it holds.
+// Returns the words that tell the length of the pieces, where these are short.
+fn length_text(pieces: Pieces) -> &'static str {
+    match pieces.greatest {
+        1 => ", in pieces of 1 byte",
+        7 => ", in pieces of 7 bytes",
+        _ => "",
+    }
+}
+
+/// Tells each story, and if it holds. Returns true if all do.
 pub fn tell_all<R: Machine>(rt: &R, alloc: Global) -> Result<bool> {
     let mut all = true;
-    for story in ALL {
-        match story.tell(rt, alloc) {
-            Ok(()) => println!(rt; "{}: holds", story.name())?,
+    for (story, pieces) in ALL {
+        let length = length_text(*pieces);
+        match story.tell(rt, alloc, *pieces) {
+            Ok(()) => println!(rt; "{}{length}: holds", story.name())?,
             Err(wrong) => {
                 all = false;
-                println!(rt; "{}: {wrong:?}", story.name())?;
+                println!(rt; "{}{length}: {wrong:?}", story.name())?;
             }
         }
     }

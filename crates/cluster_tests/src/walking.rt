@@ -1,9 +1,9 @@
 //! Threads that call all nodes at random.
 
 use crate::ground::{Machine, Nodes, cluster, name, settles};
+use crate::meeting::LONG_PIECES;
 use crate::stories::{Wrong, check, check_trace, finish_with};
 use anyhow::Result;
-use cluster_run::Open;
 use dist_model::Command;
 use erl_names::TrunkId;
 use erl_term::{Payload, Pid, Refusal, Term};
@@ -20,8 +20,8 @@ const THREADS: usize = 4;
 /// A process is one of the last so many of its node.
 const LAST: usize = 3;
 
-/// What a caller has: a seat at each node, numbers at random, how often it is to call, and how often it
-/// was turned away.
+/// A seat of a caller at each node, numbers at random, the number of calls to make, and the number that
+/// were refused.
 #[derive(Drop)]
 struct Caller {
     alloc: Global,
@@ -49,7 +49,7 @@ fn process<R: Wait>(
     })
 }
 
-// What a process does.
+// Returns a command of a process.
 fn command(random: &mut Random, from: Pid, to: Pid) -> Command {
     match random.below(100) {
         0..=29 => Command::Link { from, to },
@@ -81,7 +81,7 @@ fn trunk(alloc: Global, random: &mut Random) -> Result<TrunkId, Refusal> {
     Ok(TrunkId { dialer, count })
 }
 
-// What a process of the node of a place does.
+// Returns a command of a process of the node of a place.
 fn does<R: Wait>(
     rt: &R,
     alloc: Global,
@@ -152,7 +152,7 @@ fn new_caller(alloc: Global, cluster: &Nodes, seed: u64, count: u64) -> Result<C
     })
 }
 
-// Four callers, who have numbers of their own.
+// Returns four callers, with numbers of their own.
 fn new_callers(
     alloc: Global,
     cluster: &Nodes,
@@ -176,7 +176,7 @@ fn all_call<R: Machine>(rt: &R, cluster: &Nodes, callers: &mut [Caller]) {
     );
 }
 
-// The seats of all callers, and how often a call was turned away.
+// Returns the seats of all callers, and the number of calls that were refused.
 fn seats_of(alloc: Global, callers: Vec<Caller>) -> Result<(Vec<Seat>, u64), Wrong> {
     let mut seats = Vec::new(alloc);
     let mut refused = 0u64;
@@ -206,7 +206,7 @@ fn walks<R: Machine>(
 
 /// Four threads call so often each, at random. Then all settles, and the books merge.
 pub fn walk<R: Machine>(rt: &R, alloc: Global, seed: u64, count: u64) -> Result<(), Wrong> {
-    let cluster = cluster(rt, alloc, NODES, Open)?;
+    let cluster = cluster(rt, alloc, NODES, LONG_PIECES)?;
     let seats = walks(rt, alloc, &cluster, seed, count)?;
     let finished = finish_with(rt, cluster, seats)?;
     check_trace(alloc, &finished, None)

@@ -1,10 +1,9 @@
 //! What is written of texts and of whole diagrams.
 
 use crate::building::diagram;
-use diagram_svg::put_picture;
+use diagram_svg::{put_picture, put_text};
 use std::alloc::Global;
 use std::test::Fail;
-use svg_text::put_text;
 
 /// Texts, and how they stand in an XML document.
 const TEXTS: &[(&str, &str)] = &[

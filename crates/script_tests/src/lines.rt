@@ -4,7 +4,7 @@ use script_lines::{MayCome, Reason, read_line};
 use std::test::*;
 
 /// Lines at the beginning of a script in which p is a process and r a reference, and what is wrong with them.
-const LINES: [(&str, Option<Reason>); 43] = [
+const LINES: [(&str, Option<Reason>); 49] = [
     ("", None),
     ("   ", None),
     ("# anything", None),
@@ -26,6 +26,12 @@ const LINES: [(&str, Option<Reason>); 43] = [
     ("send p p", Some(Reason::WrongWords)),
     ("send p p Hi", Some(Reason::BadTerm)),
     ("send p p $q", Some(Reason::UnknownName)),
+    ("send p p {A,$q}", Some(Reason::UnknownName)),
+    ("send p p {$q", Some(Reason::UnknownName)),
+    ("send p p {A,$p}", Some(Reason::BadTerm)),
+    ("send p p {A,'$q'}", Some(Reason::BadTerm)),
+    (r"send p p {A,'\'',$q}", Some(Reason::UnknownName)),
+    (r"send p p {A,'\',$q}", Some(Reason::BadTerm)),
     ("send p q [", Some(Reason::UnknownName)),
     ("send P q [", Some(Reason::BadName)),
     ("link p p", None),

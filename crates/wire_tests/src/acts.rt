@@ -6,8 +6,7 @@ use dist_model::Command;
 use erl_handshake::Cookie;
 use erl_names::{NodeName, TrunkId};
 use erl_term::{Payload, Pid, Refusal, Term};
-use node_book::Book;
-use node_lock::Act;
+use node_lock::{Act, Book};
 use std::alloc::Global;
 
 /// The challenge of each dial.

@@ -8,10 +8,9 @@ use crate::telling::{Machine, Wrong, check};
 use erl_names::{NodeName, TrunkId};
 use erl_term::Refusal;
 use link_core::End::Active;
-use node_ports::Port;
 use std::alloc::Global;
 use std::sync::Wait;
-use wire_core::{LONGEST, Offer, Spelling, WireIn, connect};
+use wire_core::{LONGEST, Offer, Port, Spelling, WireIn, connect};
 
 /// What one node sends to the other, how long its pieces may be, and how long they are.
 struct Cut {

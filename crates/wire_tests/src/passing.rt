@@ -7,13 +7,12 @@ use crate::acts::{name, trunk};
 use crate::telling::{Machine, Wrong, check};
 use erl_names::{NodeName, TrunkId};
 use erl_term::Refusal;
-use node_ports::Port;
 use std::alloc::{AllocError, Global};
 use std::sync::Wait;
 use std::thread::{join, yield_now};
 use wire_core::{
-    CAPACITY, Direction, LONGEST, Offer, Parcel, Piece, Spelling, WireIn, WireOut, audit, connect,
-    wire,
+    CAPACITY, Direction, LONGEST, Offer, Parcel, Piece, Port, Spelling, WireIn, WireOut, audit,
+    connect, wire,
 };
 
 /// So many pieces pass from thread to thread.

@@ -1,4 +1,4 @@
-//! Some books, each with a seat at its node, and what there is to see of them.
+//! Some books, each with a seat at its node, and queries of them.
 use crate::acts::{act, book, nodes, pid, trunk};
 use crate::rows::{Ask, Kept, Named, Process, Range, Row, Told};
 use erl_handshake::Cookie;
@@ -6,12 +6,11 @@ use erl_names::{NodeName, TrunkId};
 use erl_term::Refusal;
 use joined_books::{FinishError, Placed, Trace, merge_books};
 use link_core::End;
-use node_book::{Book, Left};
-use node_lock::{Asked, Seat, call};
+use node_lock::{Asked, Book, Left, Seat, call};
 use std::alloc::Global;
 use std::sync::Wait;
 use wire_core::{LONGEST, Offer, Parcel, Spelling};
-use world_events::NodeEvent;
+use world_core::NodeEvent;
 
 /// More than all that can wait.
 const ENOUGH: u32 = 2000;
@@ -51,7 +50,7 @@ pub fn open(alloc: Global, kept: &[Kept]) -> Result<Stage, Refusal> {
     }
 }
 
-// What came of what a seat asked for.
+// Returns the outcome of an act that a seat has asked for.
 fn told(seat: &Seat, place: usize) -> Result<Told, Refusal> {
     let Some(Asked { receipt, .. }) = seat.receipts().get(place) else {
         return Err(Refusal::NothingThere);
@@ -63,7 +62,7 @@ fn told(seat: &Seat, place: usize) -> Result<Told, Refusal> {
     })
 }
 
-// What comes of what a seat asks of a book.
+// Asks a book for an act of a seat. Returns its outcome.
 fn asked(alloc: Global, book: &mut Book, seat: &mut Seat, ask: Ask) -> Result<Told, Refusal> {
     let act = act(alloc, ask)?;
     match call(alloc, book, seat, act) {
@@ -85,7 +84,7 @@ fn ask_in(
     }
 }
 
-// What has come to a book's node, if anything has, is taken.
+// Takes the item that has come to a book's node. Returns false if none has come.
 fn take(alloc: Global, book: &mut Book, trunk: &TrunkId) -> Result<bool, Refusal> {
     if !book.ready(trunk) {
         return Ok(false);
@@ -95,7 +94,7 @@ fn take(alloc: Global, book: &mut Book, trunk: &TrunkId) -> Result<bool, Refusal
     Ok(true)
 }
 
-// Whether a book takes up its half of a connection. Where memory is wanting, that is tried again.
+// Returns true if a book takes up its half of a connection. If out of memory, that is tried again.
 fn installs(alloc: Global, book: &mut Book, offer: Offer) -> bool {
     match book.install(alloc, offer) {
         Ok(()) => true,
@@ -103,7 +102,7 @@ fn installs(alloc: Global, book: &mut Book, offer: Offer) -> bool {
     }
 }
 
-// What a book has put on its wire, and what it has taken.
+// Returns the parcels that a book has put on its wire, or (`taken`) has taken.
 fn put(book: &Book) -> &[Parcel] {
     match book.outlets().first() {
         Some(outlet) => outlet.port().put(),
@@ -118,7 +117,7 @@ fn taken(book: &Book) -> &[Parcel] {
     }
 }
 
-// Whether this is what the books have merged into.
+// Returns true if the books have merged into this.
 fn is_told(
     alloc: Global,
     merged: &Result<Trace, FinishError>,
@@ -173,7 +172,7 @@ impl Stage {
         }
     }
 
-    // Whether a seat can ask its book for this so often.
+    // Returns true if a seat can ask its book for this so often.
     fn repeats(
         &mut self,
         alloc: Global,
@@ -196,7 +195,7 @@ impl Stage {
         }
     }
 
-    // Whether a book takes up what is left for it in another one.
+    // Returns true if a book takes up the offer that is left for it in another one.
     fn hands(&mut self, alloc: Global, from: usize, to: usize) -> bool {
         match self.offer(from) {
             Some(Left { offer, .. }) => self.takes_up(alloc, to, offer),
@@ -216,14 +215,14 @@ impl Stage {
 
     fn flushes<R: Wait>(&mut self, rt: &R, alloc: Global, place: usize) -> Result<u64, Refusal> {
         match self.books.get_mut(place) {
-            Some(book) => book.flush(rt, alloc, &self.trunk),
+            Some(book) => book.flush(rt, alloc, &self.trunk, 0),
             None => Err(Refusal::NothingThere),
         }
     }
 
     fn fetches<R: Wait>(&mut self, rt: &R, place: usize) -> Result<bool, Refusal> {
         match self.books.get_mut(place) {
-            Some(book) => book.fetch(rt, &self.trunk),
+            Some(book) => book.fetch(rt, &self.trunk, 0),
             None => Err(Refusal::NothingThere),
         }
     }
@@ -253,7 +252,7 @@ impl Stage {
         Ok(self.book(place)?.ready(&self.trunk))
     }
 
-    // Whether a book takes so many pieces, and nothing is ready after any of them.
+    // Returns true if a book takes so many pieces, and nothing is ready after any of them.
     fn gathers<R: Wait>(&mut self, rt: &R, place: usize, times: u32) -> Result<bool, Refusal> {
         for _ in 0..times {
             if !self.fetches(rt, place)? || self.is_ready(place)? {
@@ -263,7 +262,8 @@ impl Stage {
         Ok(true)
     }
 
-    // What waits is put, a piece of it is taken, and what is whole comes. Whether anything moves.
+    // Puts the frames that wait, takes a piece of them, and applies an item that is whole. Returns true if
+    // anything moves.
     fn passes<R: Wait>(
         &mut self,
         rt: &R,
@@ -277,7 +277,7 @@ impl Stage {
         Ok(has_put || has_taken || has_come)
     }
 
-    // Whether all that waits passes, in both directions.
+    // Returns true if all that waits passes, in both directions.
     fn settles<R: Wait>(
         &mut self,
         rt: &R,
@@ -293,7 +293,7 @@ impl Stage {
         Ok(false)
     }
 
-    /// A copy of what a book has put on its wire last.
+    /// Returns a copy of the bytes that a book has put on its wire last.
     pub fn last_put(&self, place: usize) -> Result<Spelling, Refusal> {
         match put(self.book(place)?).last() {
             Some(parcel) => Ok(parcel.bytes.clone()?),
@@ -345,7 +345,7 @@ impl Stage {
         }
     }
 
-    // Whether there is to see what a row says.
+    // Returns true if the books are as a row says.
     fn shows(&self, alloc: Global, of: &[usize], row: Row) -> Result<bool, Refusal> {
         Ok(match row {
             Row::HasPut(book, count) => self.put(at(of, book))? == count,
@@ -364,7 +364,7 @@ impl Stage {
         })
     }
 
-    // Whether a row holds.
+    // Returns true if a row holds.
     fn tries<R: Wait>(
         &mut self,
         rt: &R,
@@ -386,7 +386,7 @@ impl Stage {
         })
     }
 
-    /// Whether a row holds. Where memory was wanting it is tried again, as nothing has changed then.
+    /// Returns true if a row holds. If out of memory, it is tried again, as nothing has changed then.
     pub fn holds<R: Wait>(
         &mut self,
         rt: &R,

@@ -1,7 +1,7 @@
 //! What a measurement found.
 
 ghost use Rattle.std.specs.Prelude.{◌≡◌, ◌≤◌, ◌<◌, ◌*◌, ◌/◌, ◌-◌, ◌^◌, max};
-ghost use Rattle.rates.specs.Rates.{nanos_of, a_second, megabytes_a_second};
+ghost use Rattle.benchmark.specs.Rates.{nanos_of, a_second, megabytes_a_second};
 
 use std::time::Duration;
 
