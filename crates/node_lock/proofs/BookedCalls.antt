@@ -1,6 +1,6 @@
 -- What a book says of its calls, between two entries and at the node alone.
 use Rattle.std.proofs.Common.{◌≡◌, ◌⊎◌, ℕ, zero, suc, ◌<◌, Bool, true, false, Option, None, Some, List, [], ◌∷◌, ◌++◌, Result, Ok, Err}
-use Rattle.std.proofs.Common.{IfOk, IfErr, inl, inr, ⊎_elim, is_none, not, ◌&&◌, get_or, length, map, set, refl, sym, ap, ◌∙◌, subst, arith}
+use Rattle.std.proofs.Common.{IfOk, IfErr, inl, inr, ⊎_elim, is_none, not, ◌&&◌, get_or, length, set, refl, sym, ap, ◌∙◌, subst, arith}
 use Rattle.std.proofs.lemmas.Bool.{and_parts, not-true}
 use Rattle.std.specs.List.{position}
 use Rattle.std.specs.Ordering.{eq_by_cmp}
@@ -36,8 +36,8 @@ use Rattle.wire_core.specs.Ports.{first_of, fresh}
 use Rattle.wire_core.specs.Standing.{no_port}
 use Rattle.wire_core.specs.Spellings.{SpellsItem}
 use Rattle.wire_core.specs.declared.parcel.Parcel.{Parcel}
-use Rattle.world_core.specs.declared.node_event.NodeEvent.{NodeEvent}
-use Rattle.world_core.specs.declared.node_event.NodeEvent.TheVariants as event
+use Rattle.node_core.specs.declared.node_event.NodeEvent.{NodeEvent}
+use Rattle.node_core.specs.declared.node_event.NodeEvent.TheVariants as event
 use Rattle.node_lock.proofs.KeptByEvents.{is_below, set_first, still_kept, those, those_named, those_secret, HappensAt, taken, not_taken, dialed}
 
 -- ---- each outlet feeds some port

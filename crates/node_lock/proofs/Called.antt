@@ -21,7 +21,7 @@ use Rattle.node_lock.specs.declared.act.Act.TheVariants as asking
 use Rattle.node_lock.specs.declared.seat.Asked.{Asked}
 use Rattle.node_lock.specs.declared.seat.Seat.{Seat}
 use Rattle.node_history.specs.Said.{said}
-use Rattle.world_core.specs.declared.node_event.NodeEvent.{NodeEvent}
+use Rattle.node_core.specs.declared.node_event.NodeEvent.{NodeEvent}
 
 -- the entry that was added
 there : (what : NodeEvent) (book next : BookSeen) (place : ℕ) (a : Applies what book next place)

@@ -37,9 +37,9 @@ use Rattle.node_lock.specs.Waiting.{AreFramesOf, sent_in}
 use Rattle.node_lock.specs.declared.outlet.Outlet.{Outlet}
 use Rattle.node_lock.specs.Passing.{new_outlet}
 use Rattle.wire_core.specs.Standing.{no_port}
-use Rattle.world_core.proofs.Planned.{refused_or, same_work}
-use Rattle.world_core.specs.Events.{met as met_by}
-use Rattle.world_core.specs.declared.node_event.NodeEvent.TheVariants as event
+use Rattle.node_core.proofs.Fronted.{refused_or, same_work}
+use Rattle.node_core.specs.NodeEvents.{met as met_by}
+use Rattle.node_core.specs.declared.node_event.NodeEvent.TheVariants as event
 
 -- ---- what a dial comes to that is accepted
 

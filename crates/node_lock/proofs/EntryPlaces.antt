@@ -11,9 +11,9 @@ use Rattle.node_history.specs.Entering.{Tries}
 use Rattle.node_history.specs.Telling.{placed}
 use Rattle.node_history.specs.declared.entry.Told.{Told}
 use Rattle.node_history.specs.declared.history.History.{History}
-use Rattle.world_core.specs.Events.{met}
-use Rattle.world_core.specs.declared.node_event.NodeEvent.{NodeEvent}
-use Rattle.world_core.specs.declared.node_event.NodeEvent.TheVariants as event
+use Rattle.node_core.specs.NodeEvents.{met}
+use Rattle.node_core.specs.declared.node_event.NodeEvent.{NodeEvent}
+use Rattle.node_core.specs.declared.node_event.NodeEvent.TheVariants as event
 
 pub ok_placed : (r : Result Told Refusal) (P : ℕ → Type 0) → IfOk (placed r) P → IfOk r (λ told. P told.place)
 ok_placed (Ok told) P h = h

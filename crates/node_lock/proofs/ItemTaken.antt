@@ -29,8 +29,8 @@ use Rattle.node_lock.specs.declared.outlet.Outlet.{Outlet}
 use Rattle.wire_core.specs.Ports.{behind_first}
 use Rattle.wire_core.specs.Standing.{Carries, CarryAll}
 use Rattle.wire_core.specs.declared.parcel.Parcel.{Parcel}
-use Rattle.world_core.specs.Events.{met as met_by}
-use Rattle.world_core.specs.declared.node_event.NodeEvent.TheVariants as event
+use Rattle.node_core.specs.NodeEvents.{met as met_by}
+use Rattle.node_core.specs.declared.node_event.NodeEvent.TheVariants as event
 
 abbrev pub behind : List Stamped → List Stamped
 behind [] = []

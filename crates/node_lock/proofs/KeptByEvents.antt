@@ -26,10 +26,9 @@ use Rattle.node_lock.specs.Answers.{is_accepted, is_plain, trunk_answered, trunk
 use Rattle.node_lock.specs.Applying.{DialsOut, Takes, TakesNothing, with_opened, without_next}
 use Rattle.node_lock.specs.Standing.{AreApart, AreNodes, FeedsAt, IsBook, HasBook, TellEntries, outlet_of}
 use Rattle.node_lock.specs.declared.outlet.Outlet.{Outlet}
-use Rattle.world_core.specs.Ran.{event_at}
-use Rattle.world_core.specs.Events.{met as met_by}
-use Rattle.world_core.specs.declared.node_event.NodeEvent.{NodeEvent}
-use Rattle.world_core.specs.declared.node_event.NodeEvent.TheVariants as event
+use Rattle.node_core.specs.NodeEvents.{event_at, met as met_by}
+use Rattle.node_core.specs.declared.node_event.NodeEvent.{NodeEvent}
+use Rattle.node_core.specs.declared.node_event.NodeEvent.TheVariants as event
 
 -- ---- nodes by their names
 

@@ -24,12 +24,12 @@ use Rattle.node_lock.proofs.Ways.{frames_append, frames_of_sent, place_snoc, wai
 use Rattle.node_lock.specs.Standing.{Feeds, FeedsAt, HasBook, TellEntries, TellsEntry, outlet_of}
 use Rattle.node_lock.specs.Waiting.{AreFramesOf, effects_of, sent_in, waiting}
 use Rattle.node_lock.specs.declared.outlet.Outlet.{Outlet}
-use Rattle.world_core.specs.Ran.{Tells, event_at}
-use Rattle.world_core.proofs.Stepped.{event_named}
-use Rattle.world_core.specs.Events.{met as met_by}
-use Rattle.world_core.specs.declared.node_event.NodeEvent.{NodeEvent}
-use Rattle.world_core.specs.declared.node_event.NodeEvent.TheVariants as event
-use Rattle.world_core.specs.Lists.{sent_at}
+use Rattle.node_core.specs.Told.{Tells}
+use Rattle.node_core.specs.NodeEvents.{event_at, met as met_by}
+use Rattle.node_core.proofs.EventNamed.{event_named}
+use Rattle.node_core.specs.declared.node_event.NodeEvent.{NodeEvent}
+use Rattle.node_core.specs.declared.node_event.NodeEvent.TheVariants as event
+use Rattle.node_core.specs.SentAt.{sent_at}
 
 -- ---- an event, and what comes of it
 

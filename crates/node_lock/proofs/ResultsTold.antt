@@ -22,8 +22,8 @@ use Rattle.node_frames.specs.Frames.{IsSpelled, bytes_of}
 use Rattle.wire_core.specs.Ports.{first_of}
 use Rattle.wire_core.specs.Spellings.{SpellsItem}
 use Rattle.wire_core.specs.declared.parcel.Parcel.{Parcel}
-use Rattle.world_core.specs.ComingToANode.{CanCome}
-use Rattle.world_core.specs.declared.node_event.NodeEvent.TheVariants as event
+use Rattle.node_core.specs.ComingToANode.{CanCome}
+use Rattle.node_core.specs.declared.node_event.NodeEvent.TheVariants as event
 
 pub reads_here : (b : Bool) {c : Bool} → b ≡ true → b ≡ c → c ≡ true
 reads_here b is h = sym h ∙ is

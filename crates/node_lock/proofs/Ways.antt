@@ -11,7 +11,7 @@ use Rattle.dist_books.specs.Logs.{on, stamped}
 use Rattle.node_history.specs.declared.entry.Entry.{Entry}
 use Rattle.node_lock.specs.Waiting.{AreFramesOf, IsPlace, all_sent, effects_of, sent_behind, sent_in, waiting}
 use Rattle.node_frames.specs.Frames.{AllSpelled, Framed, framed, shown}
-use Rattle.world_core.specs.Lists.{sent_at}
+use Rattle.node_core.specs.SentAt.{sent_at}
 
 -- ---- one entry more
 

@@ -20,9 +20,9 @@ use Rattle.node_lock.specs.Passing.{new_outlet}
 use Rattle.wire_core.specs.Ports.{behind_first, first_of, with_slot}
 use Rattle.wire_core.specs.Spellings.{SpellsItem}
 use Rattle.wire_core.specs.declared.parcel.Parcel.{Parcel}
-use Rattle.world_core.specs.Events.{met}
-use Rattle.world_core.specs.declared.node_event.NodeEvent.{NodeEvent}
-use Rattle.world_core.specs.declared.node_event.NodeEvent.TheVariants as event
+use Rattle.node_core.specs.NodeEvents.{met}
+use Rattle.node_core.specs.declared.node_event.NodeEvent.{NodeEvent}
+use Rattle.node_core.specs.declared.node_event.NodeEvent.TheVariants as event
 
 -- ---- what waits to come
 

@@ -13,9 +13,9 @@ use Rattle.node_lock.specs.Passing.{with_piece}
 use Rattle.node_lock.specs.Seen.{BookSeen}
 use Rattle.node_lock.specs.Standing.{outlet_of}
 use Rattle.node_lock.specs.declared.outlet.Outlet.{Outlet}
-use Rattle.world_core.specs.Events.{met}
-use Rattle.world_core.specs.declared.node_event.NodeEvent.{NodeEvent}
-use Rattle.world_core.specs.declared.node_event.NodeEvent.TheVariants as event
+use Rattle.node_core.specs.NodeEvents.{met}
+use Rattle.node_core.specs.declared.node_event.NodeEvent.{NodeEvent}
+use Rattle.node_core.specs.declared.node_event.NodeEvent.TheVariants as event
 
 abbrev pub is_ready_on : model.Node → TrunkId → List Outlet → Bool
 is_ready_on m trunk outlets = is_ready m trunk (next_at (outlet_of trunk outlets))

@@ -30,6 +30,10 @@ pub record IsSameSeat (old new : Seat) : Type 0 where
   pub node : new.node ≡ old.node
   pub receipts : new.receipts.items ≡ old.receipts.items
 
+-- the refusals of a call itself. Whatever the node refuses is the answer of a receipt
+abbrev pub IsCallRefusal : Refusal → Type 0
+IsCallRefusal e = (e ≡ Refusal.StrangeSeat) ⊎ ((e ≡ Refusal.IdsUsedUp) ⊎ (e ≡ Refusal.OutOfMemory))
+
 -- the seat has one receipt more, at the returned index: of this act at its node, behind the last one in place and stamp
 pub record Asks (act : Act) (seat after : Seat) (place : ℕ) : Type 0 where
   pub asked : Asked

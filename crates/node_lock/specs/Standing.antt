@@ -16,7 +16,8 @@ use Rattle.node_history.specs.declared.history.History.{History}
 use Rattle.node_lock.specs.Waiting.{AreFramesOf, IsPlace, waiting}
 use Rattle.node_lock.specs.declared.outlet.Outlet.{Outlet}
 use Rattle.wire_core.specs.Standing.{StandsFor}
-use Rattle.world_core.specs.Ran.{Tells, event_at}
+use Rattle.node_core.specs.Told.{Tells}
+use Rattle.node_core.specs.NodeEvents.{event_at}
 
 -- ---- the entries
 

@@ -7,7 +7,7 @@ use Rattle.dist_books.specs.Logs.{stamped}
 use Rattle.node_history.specs.Entering.{Answer}
 use Rattle.node_history.specs.declared.entry.Entry.{Entry}
 use Rattle.node_frames.specs.Frames.{Framed, IsSpelled, framed}
-use Rattle.world_core.specs.Lists.{sent_at}
+use Rattle.node_core.specs.SentAt.{sent_at}
 
 abbrev pub effects_of : Answer → List (Effect Framed)
 effects_of (Ok report) = report.effects.items

@@ -5,7 +5,7 @@ ghost use Rattle.node_history.specs.Acts.{is_act};
 
 use dist_model::Command;
 use erl_names::{NodeName, TrunkId};
-use world_core::NodeEvent;
+use node_core::NodeEvent;
 
 /// A request of a caller to a node. All else that happens there is the doing of its thread.
 #[derive(Debug, Drop)]

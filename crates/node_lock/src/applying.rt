@@ -5,7 +5,7 @@ ghost use Rattle.node_lock.specs.Answers.{is_plain};
 ghost use Rattle.node_lock.specs.Books.{Applies, IsFreshBook, IsUnapplied, is_ready_on};
 ghost use Rattle.node_history.specs.Acts.{is_act};
 ghost use Rattle.node_history.specs.Telling.{IsTold, placed};
-ghost use Rattle.world_core.specs.declared.node_event.NodeEvent.TheVariants as event;
+ghost use Rattle.node_core.specs.declared.node_event.NodeEvent.TheVariants as event;
 
 use crate::arriving::{is_ready, take};
 use crate::book::Book;
@@ -15,11 +15,10 @@ use crate::outlet::PieceLength;
 use erl_handshake::Cookie;
 use erl_names::{NodeName, TrunkId};
 use erl_term::Refusal;
-use node_core::Node;
+use node_core::{Node, NodeEvent};
 use node_history::{Entry, History, Told};
 use std::alloc::{AllocError, Global};
 use wire_core::LONGEST;
-use world_core::NodeEvent;
 
 // The place that is told.
 fn placed(told: Result<Told, Refusal>) -> Result<usize, Refusal>

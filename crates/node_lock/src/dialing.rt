@@ -13,11 +13,10 @@ use crate::outlet::{Outlet, PieceLength};
 use dist_model::Answer;
 use erl_names::{NodeName, TrunkId};
 use erl_term::Refusal;
-use node_core::Node;
+use node_core::{Node, NodeEvent};
 use node_history::{Entry, History, Told};
 use std::alloc::{AllocError, Global};
 use wire_core::{Offer, connect};
-use world_core::NodeEvent;
 
 /// The part of a new connection that is left for the other node: its name, and its half.
 #[derive(Drop)]

@@ -1,6 +1,6 @@
 //! A book under its lock.
 ghost use Rattle.std.specs.Prelude.{◌≡◌, IfErr, IfOk, []};
-ghost use Rattle.node_lock.specs.Calling.{Asks, IsSameSeat};
+ghost use Rattle.node_lock.specs.Calling.{Asks, IsCallRefusal, IsSameSeat};
 
 use crate::act::Act;
 use crate::book::Book;
@@ -18,7 +18,7 @@ pub struct NodeLock {
     book: Mutex<Option<Book>>,
 }
 
-// What a caller asks for, where the book is there.
+// Runs `act` in the book, if it is there.
 fn call_in(
     alloc: Global,
     book: &mut Option<Book>,
@@ -27,6 +27,7 @@ fn call_in(
 ) -> Result<usize, Refusal>
     ensures ok { IfOk result (Asks act seat.old seat.new) }
     ensures err { IfErr result (λ _. IsSameSeat seat.old seat.new) }
+    ensures why { IfErr result IsCallRefusal }
 {
     match book {
         Some(book) => call(alloc, book, seat, act),
@@ -38,7 +39,7 @@ fn call_in(
 }
 
 impl NodeLock {
-    /// The book under its lock. Takes no memory.
+    /// Returns a lock over the book. Never allocates.
     pub fn new(book: Book) -> NodeLock
         ensures { result.place ≡ book.place }
     {
@@ -48,7 +49,7 @@ impl NodeLock {
         }
     }
 
-    /// A new seat at the node. Takes no memory.
+    /// Returns a new seat at the node. Never allocates.
     pub fn seat(&self, alloc: Global) -> Seat
         ensures node { result.node ≡ self.now.place }
         ensures receipts { result.receipts.items ≡ [] }
@@ -56,12 +57,13 @@ impl NodeLock {
         Seat::new(alloc, self.place)
     }
 
-    /// Does the act of a caller in the book as it then is. The place of its receipt among the seat's is
-    /// told.
+    /// Runs `act` at the node as it then is, and records it in the book. Returns the index of the receipt in
+    /// `seat`.
     ///
     /// # Errors
-    /// As those of [`call`]; and [`Refusal::StrangeSeat`] where the book was taken out. Then the seat is
-    /// as it was.
+    /// Those of [`call`]: [`Refusal::StrangeSeat`], [`Refusal::IdsUsedUp`] or [`Refusal::OutOfMemory`]. The first
+    /// of them too if the book was taken out. On error the seat does not change. If the node refuses the act,
+    /// the receipt says so.
     pub fn call<R: Wait>(
         &self,
         rt: &R,
@@ -71,16 +73,17 @@ impl NodeLock {
     ) -> Result<usize, Refusal>
         ensures ok { IfOk result (Asks act seat.old seat.new) }
         ensures err { IfErr result (λ _. IsSameSeat seat.old seat.new) }
+        ensures why { IfErr result IsCallRefusal }
     {
         call_in(alloc, &mut self.book.lock(rt), seat, act)
     }
 
-    /// Lends the book to the node's thread, unless it was taken out.
+    /// Lends the book to a thread, unless it was taken out.
     pub fn lock<R: Wait>(&self, rt: &R) -> MutexGuard<'_, Option<Book>> {
         self.book.lock(rt)
     }
 
-    /// Takes the book out, for good. Takes no memory.
+    /// Takes the book out, for good. Never allocates.
     pub fn take<R: Wait>(&self, rt: &R) -> Option<Book> {
         self.book.lock(rt).take()
     }

@@ -1,7 +1,7 @@
 //! What the history has sent on a connection, from a place on.
 ghost use Rattle.std.specs.Prelude.{◌≡◌, ◌<◌, ◌∷◌, [], drop, length, IfNone, IfSome, MatchOption};
 ghost use Rattle.node_lock.specs.Waiting.{effects_of, waiting};
-ghost use Rattle.world_core.specs.Lists.{sent_at};
+ghost use Rattle.node_core.specs.SentAt.{sent_at};
 
 use crate::names::same_trunk;
 use dist_model::Effect;

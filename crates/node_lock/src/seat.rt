@@ -3,10 +3,10 @@ ghost use Rattle.std.specs.Prelude.{◌≡◌, ◌↔◌, ◌≤◌, ◌++◌, �
 ghost use Rattle.std.specs.Option.{option_copied};
 ghost use Rattle.node_lock.specs.Seats.{IsBehind, IsEnteredAs, LastIsEntered, Rise, last_of};
 
+use node_core::NodeEvent;
 use node_history::{Answered, Entry, is_act, is_same_answer, is_same_event};
 use std::alloc::{AllocError, Global};
 use std::marker::Model;
-use world_core::NodeEvent;
 
 /// The place of an act's entry, and the node's answer.
 #[derive(Debug, Drop)]

@@ -1,5 +1,5 @@
 use Rattle.std.proofs.Common.{◌≡◌, drop}
-use Rattle.world_core.specs.Lists.{sent_at}
+use Rattle.node_core.specs.SentAt.{sent_at}
 use Rattle.node_lock.proofs.scanning.first_sent.Given as goal
 
 abbrev pub invariant-loop-place : goal.invariant-loop-place

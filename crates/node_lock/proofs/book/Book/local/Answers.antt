@@ -1,7 +1,7 @@
 use Rattle.std.proofs.Common.{refl}
 use Rattle.node_lock.proofs.KeptByEvents.{happened}
 use Rattle.node_lock.proofs.BookedCalls.{plainly, plainly_not}
-use Rattle.world_core.specs.declared.node_event.NodeEvent.TheVariants as event
+use Rattle.node_core.specs.declared.node_event.NodeEvent.TheVariants as event
 use Rattle.node_lock.proofs.book.Book.local.Goals as goal
 
 pub invariant_of-self : goal.invariant_of-self
