@@ -27,7 +27,8 @@ use Rattle.node_lock.specs.Seen.{BookSeen}
 use Rattle.node_history.specs.declared.entry.Entry.{Entry}
 use Rattle.world_core.proofs.Happened.{goes_names}
 use Rattle.world_core.specs.Names.{are_distinct, name_at}
-use Rattle.world_core.specs.Ran.{Answered, Tells, event_at}
+use Rattle.node_core.specs.Told.{Answered, Tells}
+use Rattle.node_core.specs.NodeEvents.{event_at}
 use Rattle.world_core.specs.Stands.{StandsFor}
 use Rattle.world_core.specs.declared.world.World.{World}
 

@@ -5,7 +5,7 @@ use Rattle.dist_model.specs.World as model
 use Rattle.erl_term.specs.declared.refusal.Refusal.{Refusal}
 use Rattle.node_history.specs.declared.entry.Entry.{Entry}
 use Rattle.world_core.specs.Names.{are_distinct, name_at}
-use Rattle.world_core.specs.Ran.{event_at}
+use Rattle.node_core.specs.NodeEvents.{event_at}
 use Rattle.world_core.specs.Stands.{StandsFor}
 use Rattle.world_core.specs.declared.world.World.{World}
 

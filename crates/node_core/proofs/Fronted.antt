@@ -32,6 +32,9 @@ use Rattle.node_plan.specs.declared.plan.Plan.{Plan}
 pub same_work : (a b : Answer) (v w : Work) → Accepts a v ≡ Accepts b w → v ≡ w
 same_work a b v w h = cc
 
+pub refused_or : (why : Refusal) (a : Answer) (w : Work) {A : Type 0} → Refuses why ≡ Accepts a w → A
+refused_or why a w h = cc
+
 same_trunk : (t u : TrunkId) (x y : Option Item) (v w : ℕ) → Arrive t x v ≡ Arrive u y w → t ≡ u
 same_trunk t u x y v w h = cc
 

@@ -3,4 +3,8 @@ pub mod Done
 pub mod Staying
 pub mod Suiting
 pub mod Arrived
+pub mod ComingToANode
 pub mod Model
+pub mod NodeEvents
+pub mod SentAt
+pub mod Told

@@ -36,9 +36,9 @@ use Rattle.node_plan.specs.Planned.{IsPlanned, IsRefused, Plans}
 use Rattle.node_plan.specs.Plans.{committed, told}
 use Rattle.node_plan.specs.declared.plan.Plan.{Plan}
 use Rattle.node_history.specs.Said.{said}
-use Rattle.world_core.specs.Events.{met}
-use Rattle.world_core.specs.declared.node_event.NodeEvent.{NodeEvent}
-use Rattle.world_core.specs.declared.node_event.NodeEvent.TheVariants as event
+use Rattle.node_core.specs.NodeEvents.{met}
+use Rattle.node_core.specs.declared.node_event.NodeEvent.{NodeEvent}
+use Rattle.node_core.specs.declared.node_event.NodeEvent.TheVariants as event
 
 -- ---- what was planned is carried out
 

@@ -17,8 +17,8 @@ use Rattle.node_history.specs.Entering.{Answer}
 use Rattle.node_frames.specs.Frames.{bytes_of}
 use Rattle.node_plan.specs.Planned.{IsRefused}
 use Rattle.readers.specs.Reading.{AreBytes}
-use Rattle.world_core.proofs.Fronts.{FrameAgain, OneFrame, item_comes}
-use Rattle.world_core.specs.ComingToANode.{CanCome}
+use Rattle.node_core.proofs.Fronts.{FrameAgain, OneFrame, item_comes}
+use Rattle.node_core.specs.ComingToANode.{CanCome}
 
 -- without the number of bytes
 abbrev pub answer_in : Result Arrived Refusal → Answer

@@ -17,8 +17,8 @@ use Rattle.node_core.specs.Arrived.{is_undialed}
 use Rattle.node_history.specs.Kinds.{ReadIsWhole, comes_here, is_for_acceptor, is_for_dialer, is_message, reads_kind, reads_kind_at}
 use Rattle.node_frames.specs.Frames.{IsSpelled, bytes_of}
 use Rattle.readers.specs.Reading.{AreBytes}
-use Rattle.world_core.proofs.Fronts.{FrameAgain, OneFrame, whole_at}
-use Rattle.world_core.specs.ComingToANode.{CanCome, reads, reads_at}
+use Rattle.node_core.proofs.Fronts.{FrameAgain, OneFrame, whole_at}
+use Rattle.node_core.specs.ComingToANode.{CanCome, reads, reads_at}
 
 abbrev IsNoMessage : Option Kind → Type 0
 IsNoMessage kind = (is_for_dialer kind ≡ false) × (is_for_acceptor kind ≡ false) × (is_message kind ≡ false)

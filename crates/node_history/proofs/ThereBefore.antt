@@ -31,9 +31,9 @@ use Rattle.monitor_core.specs.declared.monitor.Monitor.{Monitor}
 use Rattle.node_history.specs.Acts.{is_act}
 use Rattle.node_history.specs.Spares.{AreLinksFor, AreLinksOf, Fills, message_for, message_of}
 use Rattle.node_history.specs.declared.spare.Spare.{Spare}
-use Rattle.world_core.specs.Events.{met}
-use Rattle.world_core.specs.declared.node_event.NodeEvent.{NodeEvent}
-use Rattle.world_core.specs.declared.node_event.NodeEvent.TheVariants as event
+use Rattle.node_core.specs.NodeEvents.{met}
+use Rattle.node_core.specs.declared.node_event.NodeEvent.{NodeEvent}
+use Rattle.node_core.specs.declared.node_event.NodeEvent.TheVariants as event
 
 module _ (spare : Spare) where
   only_if : (b : Bool) (e : Refusal) (o : Outcome) → Fills spare o → Fills spare (if b then o else Refuses e)

@@ -14,7 +14,7 @@ use Rattle.node_history.specs.Entering.{Answer, Ends, IsWanting, Stays, Tries, W
 use Rattle.node_history.specs.declared.entry.Entry.{Entry}
 use Rattle.node_history.specs.declared.history.History.{History}
 use Rattle.node_plan.specs.Planned.{IsRefused}
-use Rattle.world_core.specs.declared.node_event.NodeEvent.{NodeEvent}
+use Rattle.node_core.specs.declared.node_event.NodeEvent.{NodeEvent}
 
 refuses : (due : Outcome) (e : Refusal) → IsRefused due e → is_unwritten (Err e) ≡ false → due ≡ Refuses e
 refuses due e (inl h) w = h

@@ -9,7 +9,7 @@ use Rattle.node_core.specs.Done.{Did}
 use Rattle.node_core.specs.Model.{model_of}
 use Rattle.node_history.specs.declared.history.History.{History}
 use Rattle.node_frames.specs.Frames.{Framed}
-use Rattle.world_core.specs.declared.node_event.NodeEvent.{NodeEvent}
+use Rattle.node_core.specs.declared.node_event.NodeEvent.{NodeEvent}
 
 abbrev pub Answer : Type 0
 Answer = Result (Report Framed) Refusal

@@ -10,7 +10,7 @@ ghost use Rattle.node_history.specs.Entering.{Tries};
 ghost use Rattle.node_history.specs.Spares.{Fills};
 ghost use Rattle.node_history.specs.Telling.{IsPlainCopy, IsTold, IsTwice, placed};
 ghost use Rattle.node_plan.specs.Planned.{Plans};
-ghost use Rattle.world_core.specs.Events.{met};
+ghost use Rattle.node_core.specs.NodeEvents.{met};
 
 use crate::copying::{copied, copied_effects};
 use crate::entry::{Answered, Told};
@@ -18,9 +18,8 @@ use crate::history::History;
 use crate::spare::Spare;
 use dist_model::Report;
 use erl_term::Refusal;
-use node_core::{Node, Planned};
+use node_core::{Node, NodeEvent, Planned};
 use std::alloc::{AllocError, Global};
-use world_core::NodeEvent;
 
 /// Returns true if a caller has asked for the event: a command, a dial, a loss, a stop or a start. All
 /// else is the doing of the node's thread.

@@ -9,16 +9,15 @@ ghost use Rattle.node_core.specs.Model.{model_of};
 ghost use Rattle.node_history.specs.Entering.{Tries};
 ghost use Rattle.node_frames.specs.Frames.{bytes_of};
 ghost use Rattle.readers.specs.Reading.{AreBytes};
-ghost use Rattle.world_core.specs.ComingToANode.{CanCome};
-ghost use Rattle.world_core.specs.declared.node_event.NodeEvent.TheVariants as event;
+ghost use Rattle.node_core.specs.ComingToANode.{CanCome};
+ghost use Rattle.node_core.specs.declared.node_event.NodeEvent.TheVariants as event;
 
 use crate::entry::Answered;
 use crate::history::History;
 use erl_names::TrunkId;
 use erl_term::Refusal;
-use node_core::{Arrived, Node};
+use node_core::{Arrived, Node, NodeEvent};
 use std::alloc::Global;
-use world_core::NodeEvent;
 
 /// Does nothing.
 pub(crate) fn are_bytes(bytes: &[u8])

@@ -5,9 +5,9 @@ ghost use Rattle.std.specs.Option.{option_copied};
 use dist_model::{Command, Effect};
 use erl_names::TrunkId;
 use erl_term::{Payload, Pid};
+use node_core::NodeEvent;
 use node_frames::Frame;
 use std::alloc::{AllocError, Global};
-use world_core::NodeEvent;
 
 // Copies of two processes.
 fn two(first: &Pid, second: &Pid) -> Result<(Pid, Pid), AllocError>

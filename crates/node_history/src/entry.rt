@@ -2,8 +2,8 @@
 
 use dist_model::Report;
 use erl_term::Refusal;
+use node_core::NodeEvent;
 use node_frames::Frame;
-use world_core::NodeEvent;
 
 /// The answer of a node to an event: its report, or its refusal.
 pub type Answered = Result<Report<Frame>, Refusal>;

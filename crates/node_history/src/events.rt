@@ -5,12 +5,12 @@ ghost use Rattle.dist_model.specs.NodeEvents as model;
 ghost use Rattle.dist_model.specs.NodeEvents.{at_node};
 ghost use Rattle.node_core.specs.Model.{model_of};
 ghost use Rattle.node_history.specs.Entering.{Tries};
-ghost use Rattle.world_core.specs.declared.node_event.NodeEvent.TheVariants as event;
+ghost use Rattle.node_core.specs.declared.node_event.NodeEvent.TheVariants as event;
 
 use crate::history::History;
 use erl_term::Refusal;
+use node_core::NodeEvent;
 use std::alloc::Global;
-use world_core::NodeEvent;
 
 impl History {
     /// The first signal that travels from the node to itself comes. The place of the entry is told.

@@ -5,9 +5,8 @@ ghost use Rattle.node_history.specs.Entering.{IsWanting, Writes, is_unwritten};
 
 use crate::entry::{Answered, Entry};
 use erl_term::Refusal;
-use node_core::Node;
+use node_core::{Node, NodeEvent};
 use std::alloc::Global;
-use world_core::NodeEvent;
 
 /// A node, and the history of what has happened at it. Contracts see the node, the stamp of its last
 /// event (0 before the first), and the entries, the first event first.

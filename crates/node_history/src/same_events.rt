@@ -3,7 +3,7 @@ ghost use Rattle.std.specs.Prelude.{◌≡◌, ◌↔◌, IsTrue};
 
 use crate::commands::is_same_command;
 use erl_names::{NodeName, TrunkId};
-use world_core::NodeEvent;
+use node_core::NodeEvent;
 
 pub(crate) fn is_same_trunk(a: &TrunkId, b: &TrunkId) -> bool
     ensures { IsTrue result ↔ (a.now ≡ b.now) }

@@ -12,15 +12,14 @@ ghost use Rattle.erl_term.specs.declared.refusal.Refusal.TheVariants as refusal;
 ghost use Rattle.node_core.specs.Model.{model_of};
 ghost use Rattle.node_history.specs.Spares.{AreLinksFor, AreLinksOf, Fills, filled, message_for, message_of};
 ghost use Rattle.node_history.specs.Acts.{is_act};
-ghost use Rattle.world_core.specs.Events.{met};
+ghost use Rattle.node_core.specs.NodeEvents.{met};
 
 use dist_model::{Answer, Command, Links};
 use erl_names::{NodeName, TrunkId};
 use erl_term::{Atom, Payload, Pid, Reference, ReferenceWords, Refusal};
-use node_core::Node;
+use node_core::{Node, NodeEvent};
 use node_tables::Life;
 use std::alloc::{AllocError, Global};
-use world_core::NodeEvent;
 
 /// What of a node's answer to an act takes memory: the name of the node, the message that a process
 /// takes, and its links.

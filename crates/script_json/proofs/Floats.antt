@@ -19,8 +19,8 @@ use Rattle.script_json.specs.Reports.{answer_data, brought, came_data, effect_da
 use Rattle.script_json.specs.Texts.{connection_if}
 use Rattle.serde_json.specs.View.{items_of}
 use Rattle.serde_json.specs.Written.{has_float, items_have_float}
-use Rattle.world_core.specs.declared.node_event.NodeEvent.{NodeEvent}
-use Rattle.world_core.specs.declared.node_event.NodeEvent.TheVariants as event
+use Rattle.node_core.specs.declared.node_event.NodeEvent.{NodeEvent}
+use Rattle.node_core.specs.declared.node_event.NodeEvent.TheVariants as event
 
 in_kind : (kind : Option Kind) → has_float (kind_data kind) ≡ false
 in_kind None = refl

@@ -4,8 +4,8 @@ use Rattle.dist_model.specs.declared.command.Command.{Command}
 use Rattle.dist_model.specs.declared.command.Command.TheVariants as command
 use Rattle.script_json.specs.Texts.{connection, monitor, payload, process}
 use Rattle.serde_json.specs.Data.{Data, boolean, member, no_members, number, object, string, unsigned}
-use Rattle.world_core.specs.declared.node_event.NodeEvent.{NodeEvent}
-use Rattle.world_core.specs.declared.node_event.NodeEvent.TheVariants as event
+use Rattle.node_core.specs.declared.node_event.NodeEvent.{NodeEvent}
+use Rattle.node_core.specs.declared.node_event.NodeEvent.TheVariants as event
 
 abbrev pub command_data : Command → Data
 command_data command.Spawn = object (member (codes "kind") (string (codes "spawn")) no_members)

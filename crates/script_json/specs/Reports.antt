@@ -21,7 +21,7 @@ use Rattle.script_texts.specs.Words.{fault_name, kind_name, swept_name}
 use Rattle.serde_json.specs.Data.{Data, array, boolean, member, no_members, null, number, object, string, unsigned}
 use Rattle.serde_json.specs.View.{items_of}
 use Rattle.serde_json.specs.Written.{compact_text}
-use Rattle.world_core.specs.declared.node_event.NodeEvent.{NodeEvent}
+use Rattle.node_core.specs.declared.node_event.NodeEvent.{NodeEvent}
 
 abbrev pub kind_data : Option Kind → Data
 kind_data None = null

@@ -4,15 +4,15 @@ ghost use Rattle.script_json.specs.Events.{event_data};
 ghost use Rattle.script_json.specs.Texts.{connection};
 ghost use Rattle.serde_json.specs.Data.{no_members, object, put, string};
 ghost use Rattle.serde_json.specs.View.{view};
-ghost use Rattle.world_core.specs.declared.node_event.NodeEvent.TheVariants as event;
+ghost use Rattle.node_core.specs.declared.node_event.NodeEvent.TheVariants as event;
 
 use crate::commands::command;
 use crate::objects::{told, told_kind};
 use crate::texts::printed_trunk;
 use erl_names::{NodeName, TrunkId};
+use node_core::NodeEvent;
 use serde_json::{Value, json};
 use std::alloc::{AllocError, Global};
-use world_core::NodeEvent;
 
 fn on(alloc: Global, kind: &str, trunk: &TrunkId) -> Result<Value, AllocError>
     ensures { IfOk result (λ v. view v ≡ object (put (codes "trunk") (connection trunk.now) (put (codes "kind") (string kind.now) no_members))) }

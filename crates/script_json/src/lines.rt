@@ -3,7 +3,7 @@ ghost use Rattle.std.specs.Prelude.{◌≡◌, ◌++◌, IfOk, OnOk, codes, stri
 ghost use Rattle.script_json.specs.Events.{event_data};
 ghost use Rattle.script_json.specs.Reports.{brought, came_data, line_data, line_text};
 ghost use Rattle.serde_json.specs.View.{view};
-ghost use Rattle.world_core.specs.declared.node_event.NodeEvent.{NodeEvent};
+ghost use Rattle.node_core.specs.declared.node_event.NodeEvent.{NodeEvent};
 
 use crate::answers::{answer, refusal};
 use crate::effects::effects;

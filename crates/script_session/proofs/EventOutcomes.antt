@@ -11,11 +11,13 @@ use Rattle.node_frames.specs.Frames.{Framed}
 use Rattle.script_session.specs.Stage.{sent_in, sents, Stage as TheStage}
 use Rattle.script_session.specs.declared.stage.Stage.{Stage}
 use Rattle.script_session.specs.Stands.{Moved}
-use Rattle.world_core.specs.Ran.{Answered, Came, Tells, event_at}
+use Rattle.world_core.specs.Ran.{Came}
+use Rattle.node_core.specs.Told.{Answered, Tells}
+use Rattle.node_core.specs.NodeEvents.{event_at}
 use Rattle.world_core.specs.Stands.{StandsFor}
 use Rattle.world_core.specs.declared.world.World.{World as Code}
-use Rattle.world_core.proofs.Stepped.{event_named}
-use Rattle.world_core.specs.declared.node_event.NodeEvent.{NodeEvent}
+use Rattle.node_core.proofs.EventNamed.{event_named}
+use Rattle.node_core.specs.declared.node_event.NodeEvent.{NodeEvent}
 
 -- the world stands for the model's, and the answer tells its report
 pub record Stepped (new : Code) (m : World) (e : Event) (answer : Answered) : Type 0 where

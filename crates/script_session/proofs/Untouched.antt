@@ -19,12 +19,13 @@ use Rattle.script_session.specs.Stands.{Happened, IsStage}
 use Rattle.script_session.specs.Touched.{AreIdle, Turned, effects_of, is_sent_to, is_touched}
 use Rattle.script_session.specs.Turns.{first_turn, turn}
 use Rattle.script_session.specs.declared.stage.Stage.{Stage}
-use Rattle.world_core.proofs.Stepped.{event_named}
+use Rattle.node_core.proofs.EventNamed.{event_named}
 use Rattle.world_core.specs.Names.{name_of, names_of}
-use Rattle.world_core.specs.Ran.{Answered, Tells, event_at}
+use Rattle.node_core.specs.Told.{Answered, Tells}
+use Rattle.node_core.specs.NodeEvents.{event_at}
 use Rattle.world_core.specs.Stands.{StandsFor}
 use Rattle.world_core.specs.declared.world.World.{World as Code}
-use Rattle.world_core.specs.declared.node_event.NodeEvent.{NodeEvent}
+use Rattle.node_core.specs.declared.node_event.NodeEvent.{NodeEvent}
 
 -- an item and its frame are sent to the same node
 sent_same : (name : Name) (effect : Effect Item) → is_sent_to name (shown effect) ≡ is_sent_to name effect

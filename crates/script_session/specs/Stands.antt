@@ -12,7 +12,7 @@ use Rattle.script_session.specs.declared.session.Stop.{Stop}
 use Rattle.script_session.specs.declared.session.Stop.TheVariants as stop
 use Rattle.script_session.specs.declared.stage.Stage.{Stage}
 use Rattle.script_terms.specs.Binding.{Knows}
-use Rattle.world_core.specs.Ran.{Answered, Tells}
+use Rattle.node_core.specs.Told.{Answered, Tells}
 use Rattle.world_core.specs.Stands.{IsReached, StandsFor}
 
 pub record IsStage (stage : Stage) (it : TheStage) : Type 0 where

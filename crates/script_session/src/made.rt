@@ -4,7 +4,7 @@ ghost use Rattle.dist_model.specs.Items.{Item};
 ghost use Rattle.dist_model.specs.World.{Report as TheReport, Reported};
 ghost use Rattle.dist_model.specs.declared.report.Effect.{Effect};
 ghost use Rattle.script_session.specs.Stage.{made_by};
-ghost use Rattle.world_core.specs.Ran.{Tells};
+ghost use Rattle.node_core.specs.Told.{Tells};
 
 use dist_model::{Answer, Report};
 use script_terms::Named;

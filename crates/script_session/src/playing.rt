@@ -9,7 +9,7 @@ ghost use Rattle.script_session.specs.Stands.{IsOpening, IsStage, Plays};
 ghost use Rattle.script_session.specs.declared.made.Made.{Made as TheMade};
 ghost use Rattle.script_terms.specs.Binding.{Knows, Look};
 ghost use Rattle.world_core.specs.Names.{names_of};
-ghost use Rattle.world_core.specs.Ran.{event_at};
+ghost use Rattle.node_core.specs.NodeEvents.{event_at};
 
 use crate::made::Made;
 use crate::pairs::{cookie, node_name};

@@ -7,7 +7,7 @@ ghost use Rattle.script_session.specs.Stands.{IsStage, Plays};
 ghost use Rattle.script_session.specs.Touched.{AreIdle, Turned};
 ghost use Rattle.script_session.specs.Turns.{first_turn, settles, turn, turn_at};
 ghost use Rattle.script_session.specs.declared.made.Made.{Made};
-ghost use Rattle.world_core.specs.Ran.{event_at};
+ghost use Rattle.node_core.specs.NodeEvents.{event_at};
 
 use crate::stage::Stage;
 use crate::touching::count_untouched;

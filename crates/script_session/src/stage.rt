@@ -4,7 +4,8 @@ ghost use Rattle.std.specs.List.{flat_map};
 ghost use Rattle.dist_model.specs.World.{Arrive, Report as TheReport};
 ghost use Rattle.script_session.specs.Stage.{Stage as TheStage, after, came_text, happens, next_word, sent_in, takes_word};
 ghost use Rattle.script_session.specs.Stands.{Happened, IsStage, Moved, Plays};
-ghost use Rattle.world_core.specs.Ran.{Tells, event_at};
+ghost use Rattle.node_core.specs.Told.{Tells};
+ghost use Rattle.node_core.specs.NodeEvents.{event_at};
 
 use crate::made::{Made, made_by};
 use crate::telling::Telling;

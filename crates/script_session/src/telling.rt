@@ -2,7 +2,7 @@
 ghost use Rattle.std.specs.Prelude.{◌≡◌, ◌++◌, [], true, false, IfOk, OnOk, codes, string_bytes};
 ghost use Rattle.script_json.specs.Reports.{line_text};
 ghost use Rattle.script_session.specs.Telling.{IsTold};
-ghost use Rattle.world_core.specs.declared.node_event.NodeEvent.{NodeEvent as TheEvent};
+ghost use Rattle.node_core.specs.declared.node_event.NodeEvent.{NodeEvent as TheEvent};
 
 use crate::picture::Picture;
 use dist_model::Report;

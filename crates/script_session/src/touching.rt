@@ -5,7 +5,7 @@ ghost use Rattle.dist_model.specs.World.{Report as TheReport};
 ghost use Rattle.node_frames.specs.Frames.{shown};
 ghost use Rattle.script_session.specs.Touched.{effects_of, is_sent_to, is_touched};
 ghost use Rattle.world_core.specs.Names.{name_of, names_of};
-ghost use Rattle.world_core.specs.Ran.{Tells};
+ghost use Rattle.node_core.specs.Told.{Tells};
 
 use dist_model::Effect;
 use erl_term::Atom;

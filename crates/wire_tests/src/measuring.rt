@@ -8,14 +8,13 @@ use crate::telling::Machine;
 use anyhow::Result;
 use dist_model::Command;
 use erl_term::{Payload, Pid, Refusal, Term};
-use node_core::Node;
+use node_core::{Node, NodeEvent};
 use node_history::Told;
 use node_lock::{Act, Asked, Book, NodeLock, Seat};
 use std::alloc::{AllocError, Global};
 use std::sync::Wait;
 use std::time::{Duration, Instant};
 use wire_core::Spelling;
-use world_core::NodeEvent;
 
 /// So many pieces pass.
 const PIECES: u64 = 1_000_000;

@@ -6,11 +6,11 @@ use erl_names::{NodeName, TrunkId};
 use erl_term::Refusal;
 use joined_books::{FinishError, Placed, Trace, merge_books};
 use link_core::End;
+use node_core::NodeEvent;
 use node_lock::{Asked, Book, Left, Seat, call};
 use std::alloc::Global;
 use std::sync::Wait;
 use wire_core::{LONGEST, Offer, Parcel, Spelling};
-use world_core::NodeEvent;
 
 /// More than all that can wait.
 const ENOUGH: u32 = 2000;

@@ -12,7 +12,8 @@ use Rattle.node_core.specs.Model.{model_of}
 use Rattle.node_frames.specs.Frames.{Framed, framed}
 use Rattle.world_core.specs.Coming.{is_taken}
 use Rattle.world_core.specs.Names.{names_of}
-use Rattle.world_core.specs.Ran.{Answered, Came}
+use Rattle.world_core.specs.Ran.{Came}
+use Rattle.node_core.specs.Told.{Answered}
 use Rattle.world_core.specs.Stands.{AreFramesOf, AreSpelled, StandsFor}
 use Rattle.world_core.specs.declared.world.World.{World}
 use Rattle.world_core.specs.Lists.{at}

@@ -12,7 +12,8 @@ use Rattle.dist_model.specs.Runs.{Goes, Runs, opening}
 use Rattle.dist_model.specs.Safety.{Safe}
 use Rattle.dist_model.specs.World as model
 use Rattle.dist_model.specs.World.{came_of, left, met, node_name, node_of, step_at}
-use Rattle.world_core.specs.Ran.{Answered, Came, Ran, RanSafely, TellAll, Tells, WasRight, WasSafe, event_in, events_in}
+use Rattle.world_core.specs.Ran.{Came, Ran, RanSafely, TellAll, WasRight, WasSafe, event_in, events_in}
+use Rattle.node_core.specs.Told.{Answered, Tells}
 use Rattle.world_core.specs.Stands.{StandsFor}
 use Rattle.world_core.specs.declared.event.Event.{Event}
 use Rattle.world_core.specs.declared.world.World.{World}

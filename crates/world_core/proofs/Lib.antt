@@ -2,7 +2,6 @@ pub mod Entries
 pub mod Lines
 pub mod More
 pub mod Nodes
-pub mod Fronts
 pub mod Planned
 pub mod Carried
 pub mod StaysOver

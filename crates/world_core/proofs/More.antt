@@ -4,7 +4,7 @@ use Rattle.dist_model.specs.Names.{Name}
 use Rattle.dist_model.specs.declared.report.Effect.{Effect}
 use Rattle.erl_names.specs.declared.trunk.TrunkId.{TrunkId}
 use Rattle.node_frames.specs.Frames.{Framed}
-use Rattle.world_core.specs.Lists.{one_at, sent_at}
+use Rattle.node_core.specs.SentAt.{one_at, sent_at}
 
 pub sent_more : (t : TrunkId) (x : Name) (effects more : List (Effect Framed))
     → sent_at t x (effects ++ more) ≡ sent_at t x effects ++ sent_at t x more

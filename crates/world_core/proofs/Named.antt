@@ -15,7 +15,7 @@ use Rattle.dist_model.specs.World.{node_of, set_node}
 use Rattle.node_core.specs.Model.{model_of}
 use Rattle.node_core.specs.declared.node.Node.{Node}
 use Rattle.world_core.specs.Names.{are_distinct, name_at, name_of, names_of}
-use Rattle.world_core.specs.declared.node_event.NodeEvent.TheVariants as happens
+use Rattle.node_core.specs.declared.node_event.NodeEvent.TheVariants as happens
 
 pub has_node : (name : Name) (nodes : List Node) → has_name name (names_of nodes) ≡ list_any (λ node. same_name name (name_of node)) nodes
 has_node name [] = refl

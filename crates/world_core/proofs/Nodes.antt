@@ -8,7 +8,8 @@ use Rattle.erl_names.specs.Order.{name_cmp}
 use Rattle.erl_names.specs.declared.trunk.TrunkId.{TrunkId}
 use Rattle.node_frames.specs.Frames.{Framed}
 use Rattle.sorted_map.specs.Entries.{changed}
-use Rattle.world_core.specs.Lists.{Line, Lines, at, in_line, line_to, one_at}
+use Rattle.world_core.specs.Lists.{Line, Lines, at, in_line, line_to}
+use Rattle.node_core.specs.SentAt.{one_at}
 use Rattle.world_core.proofs.Entries.{held_at, new_at, none_at, not_changed, swapped}
 use Rattle.world_core.proofs.Lines.{no_end, one_if}
 

@@ -23,7 +23,7 @@ use Rattle.erl_names.specs.declared.trunk.TrunkId.{TrunkId}
 use Rattle.erl_term.specs.declared.refusal.Refusal.{Refusal}
 use Rattle.node_connections.specs.Coming.{PlansBytes, PlansFront, comes}
 use Rattle.node_connections.specs.Fronts.{Front}
-pub use Rattle.node_core.proofs.Fronted.{same_work}
+use Rattle.node_core.proofs.Fronted.{refused_or, same_work}
 use Rattle.node_core.proofs.PlanDone.{done}
 use Rattle.node_core.specs.Arrived.{arrives, is_undialed, without_len}
 use Rattle.node_core.specs.Done.{Did, Does}
@@ -32,12 +32,14 @@ use Rattle.node_plan.specs.Planned.{IsPlanned, IsRefused, Plans}
 use Rattle.node_plan.specs.Plans.{committed, told}
 use Rattle.node_plan.specs.declared.plan.Plan.{Plan}
 use Rattle.readers.specs.Reading.{AreBytes}
-use Rattle.world_core.specs.ComingToANode.{IsNext, bytes_in}
-use Rattle.world_core.specs.Events.{ComesTo, Meets, Sends, Stayed, met, taken_at}
-use Rattle.world_core.specs.declared.node_event.NodeEvent.{NodeEvent as NodeEventOf}
-use Rattle.world_core.specs.declared.node_event.NodeEvent.TheVariants as event
-use Rattle.world_core.proofs.Fronts.{FrameAgain, OneFrame, item_comes, nothing_comes}
-use Rattle.world_core.specs.Lists.{Lines, at, behind_first, sent_at}
+use Rattle.node_core.specs.ComingToANode.{IsNext, bytes_in}
+use Rattle.world_core.specs.Events.{ComesTo, Meets, Sends, Stayed, taken_at}
+use Rattle.node_core.specs.NodeEvents.{met}
+use Rattle.node_core.specs.declared.node_event.NodeEvent.{NodeEvent as NodeEventOf}
+use Rattle.node_core.specs.declared.node_event.NodeEvent.TheVariants as event
+use Rattle.node_core.proofs.Fronts.{FrameAgain, OneFrame, item_comes, nothing_comes}
+use Rattle.world_core.specs.Lists.{Lines, at, behind_first}
+use Rattle.node_core.specs.SentAt.{sent_at}
 
 -- ---- what comes
 
@@ -130,9 +132,6 @@ silent due old new lines (Ok report) quiet h = (
       ∙ ap (λ es. at lines t x ++ sent_at t x es) (sym (h.effects ∙ ap (map shown) (quiet h.answer h.work h.accepts))),
 )
 silent due old new lines (Err e) quiet h = (h.0, h.1, λ t x. refl)
-
-pub refused_or : (why : Refusal) (a : Answer) (w : Work) {A : Type 0} → Refuses why ≡ Accepts a w → A
-refused_or why a w h = cc
 
 pub stop_is_silent : (m : Node) (answer : Answer) (work : Work) → if_up m (stop m) ≡ Accepts answer work → work.effects ≡ []
 stop_is_silent m answer work h = go m.up h

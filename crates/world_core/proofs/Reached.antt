@@ -17,7 +17,7 @@ use Rattle.dist_model.specs.World.{Event, Report, World, list_to, node_of}
 use Rattle.erl_names.specs.declared.trunk.TrunkId.{TrunkId}
 use Rattle.node_core.specs.Arrived.{is_undialed}
 use Rattle.world_core.specs.Stands.{AreSpelled, IsReached}
-use Rattle.world_core.specs.ComingToANode.{CanCome, reads, reads_at}
+use Rattle.node_core.specs.ComingToANode.{CanCome, reads, reads_at}
 
 pub reached_good : (m : World) → IsReached m → Good m
 reached_good m h = always (λ w. Good w) good_opening (λ w g. g) h.nodes h.events h.reports m h.runs

@@ -26,7 +26,7 @@ use Rattle.dist_model.specs.Sides as state
 use Rattle.dist_model.specs.Sides.{State, TrunkSide, is_over}
 use Rattle.dist_model.specs.Work.{Work, at_work}
 use Rattle.dist_model.specs.World.{Refused, Reported, Stepped, came_of, carried, first_of, list_to}
-use Rattle.dist_model.specs.World.{node_of, refused, rest_of, set_node, step, step_at, node_name}
+use Rattle.dist_model.specs.World.{node_of, refused, rest_of, set_node, step, step_at}
 use Rattle.dist_model.specs.World as world
 use Rattle.dist_model.specs.declared.report.Answer.{Answer}
 use Rattle.dist_model.specs.declared.report.Effect.{Effect}
@@ -39,7 +39,9 @@ use Rattle.node_core.specs.Arrived.{is_undialed}
 use Rattle.node_frames.specs.Frames.{AllSpelled, Framed, IsSpelled, framed, shown}
 use Rattle.node_plan.specs.Planned.{IsRefused}
 use Rattle.world_core.specs.Names.{are_distinct, name_at, name_of, names_of}
-use Rattle.world_core.specs.Ran.{Answered, Came, event_at}
+use Rattle.world_core.specs.Ran.{Came}
+use Rattle.node_core.specs.Told.{Answered}
+use Rattle.node_core.specs.NodeEvents.{event_at, met}
 use Rattle.world_core.specs.Coming.{is_taken, takes}
 use Rattle.world_core.specs.Stands.{AreFramesOf, AreSpelled, StandsFor}
 use Rattle.world_core.specs.declared.world.World.{World}
@@ -47,12 +49,14 @@ use Rattle.world_core.proofs.Carried.{dropped, kept_all, more_frames, same_frame
 use Rattle.world_core.proofs.Named.{name_is, names_set, node_at, node_set, nobody_at, nobody_is, same_models}
 use Rattle.world_core.proofs.Reached.{can_come, reached_good, reached_next}
 use Rattle.world_core.proofs.StaysOver.{IsOver, stays_over}
-use Rattle.world_core.proofs.Planned.{name_kept, refused_or}
-use Rattle.world_core.specs.ComingToANode.{CanCome, IsNext, reads, reads_at}
-use Rattle.world_core.specs.Events.{ComesTo, Meets, met, taken_at}
-use Rattle.world_core.specs.declared.node_event.NodeEvent.{NodeEvent}
-use Rattle.world_core.specs.declared.node_event.NodeEvent.TheVariants as event
-use Rattle.world_core.specs.Lists.{at, behind_first, sent_at}
+use Rattle.world_core.proofs.Planned.{name_kept}
+use Rattle.node_core.proofs.Fronted.{refused_or}
+use Rattle.node_core.specs.ComingToANode.{CanCome, IsNext, reads, reads_at}
+use Rattle.world_core.specs.Events.{ComesTo, Meets, taken_at}
+use Rattle.node_core.specs.declared.node_event.NodeEvent.{NodeEvent}
+use Rattle.node_core.specs.declared.node_event.NodeEvent.TheVariants as event
+use Rattle.world_core.specs.Lists.{at, behind_first}
+use Rattle.node_core.specs.SentAt.{sent_at}
 
 -- ---- what is sent
 
@@ -85,12 +89,6 @@ spelled_sent t x (effect ∷ rest) h = spelled_sent t x rest h.1
 spelled_rest : (xs : List Item) → AreSpelled xs → AreSpelled (rest_of xs)
 spelled_rest [] h = tt
 spelled_rest (x ∷ xs) h = h.1
-
--- ---- an event of the model by its node
-
-pub event_named : (own : Name) (e : NodeEvent) → node_name (event_at own e) ≡ own
-event_named own (event.Call command) = refl
-event_named own e = refl
 
 module _ (m : world.World) (name : Name) where
   abbrev pub first_for : NodeEvent → Option Item

@@ -6,28 +6,17 @@ use Rattle.dist_model.specs.Dialing.{has_name}
 use Rattle.dist_model.specs.Items.{Item}
 use Rattle.dist_model.specs.Names.{Name, place_cmp}
 use Rattle.dist_model.specs.Node.{Node}
-use Rattle.dist_model.specs.NodeEvents as model
 use Rattle.dist_model.specs.declared.report.Report.{Report}
 use Rattle.erl_names.specs.declared.trunk.TrunkId.{TrunkId}
 use Rattle.erl_term.specs.declared.refusal.Refusal.{Refusal}
+use Rattle.node_core.specs.ComingToANode.{IsNext}
 use Rattle.node_core.specs.Done.{Did}
+use Rattle.node_core.specs.SentAt.{sent_at}
 use Rattle.node_frames.specs.Frames.{Framed}
 use Rattle.node_plan.specs.Planned.{IsRefused}
-use Rattle.world_core.specs.ComingToANode.{IsNext}
-use Rattle.world_core.specs.declared.node_event.NodeEvent.{NodeEvent}
-use Rattle.world_core.specs.declared.node_event.NodeEvent.TheVariants as event
-use Rattle.world_core.specs.Lists.{Lines, at, behind_first, sent_at}
-
--- as the node of the model meets it, with what comes next on a connection
-abbrev pub met : NodeEvent → Option Item → model.NodeEvent
-met (event.Call command) first = model.Call command
-met (event.Arrive trunk word) first = model.Arrive trunk first word
-met event.Local first = model.Local
-met (event.Lose trunk) first = model.Lose trunk
-met event.Sweep first = model.Sweep
-met (event.Dial peer word) first = model.Dial peer word
-met event.Stop first = model.Stop
-met event.Start first = model.Start
+use Rattle.node_core.specs.declared.node_event.NodeEvent.{NodeEvent}
+use Rattle.node_core.specs.declared.node_event.NodeEvent.TheVariants as event
+use Rattle.world_core.specs.Lists.{Lines, at, behind_first}
 
 -- what is told of the world is so: what comes next on the connection, and whether there is a node of the dialed name
 abbrev pub Meets : NodeEvent → List Name → Node → Lines → (is_known : Bool) → Option Item → Type 0

@@ -1,5 +1,4 @@
 pub mod Lists
-pub mod ComingToANode
 pub mod Events
 pub mod Names
 pub mod Coming

@@ -1,11 +1,9 @@
 -- The frames in flight to each node on each of its connections, as they were sent.
 -- (Reference Manual, Processes, Delivery of Signals.)
-use Rattle.std.specs.Prelude.{◌≢◌, Option, is_some, unwrap_or, None, Some, Bool, false, not, if◌then◌else◌, List, [], ◌∷◌, ◌++◌, ◌&&◌, ◌||◌}
+use Rattle.std.specs.Prelude.{◌≢◌, Option, is_some, unwrap_or, None, Some, Bool, false, not, if◌then◌else◌, List, [], ◌∷◌, ◌&&◌, ◌||◌}
 use Rattle.std.specs.FinMap.{find}
 use Rattle.std.specs.List.{list_all}
-use Rattle.std.specs.Ordering.{eq_by_cmp}
-use Rattle.dist_model.specs.Names.{Name, place_cmp, same_pid}
-use Rattle.dist_model.specs.declared.report.Effect.{Effect}
+use Rattle.dist_model.specs.Names.{Name, same_pid}
 use Rattle.erl_names.specs.Order.{name_cmp, trunk_cmp}
 use Rattle.erl_names.specs.declared.trunk.TrunkId.{TrunkId}
 use Rattle.erl_term.specs.declared.term.Pid.{Pid}
@@ -46,18 +44,6 @@ HoldsAll line = (trunk : TrunkId) → find trunk_cmp trunk line ≢ Some []
 abbrev pub with_queue : TrunkId → List Framed → Line → Line
 with_queue trunk frames line =
     if is_some (first_of frames) then changed trunk_cmp trunk frames line else without trunk_cmp trunk line
-
--- ---- the frames that are sent
-
--- one frame more, at its place
-abbrev pub one_at : TrunkId × Name → TrunkId × Name → Framed → List Framed
-one_at place of frame = if eq_by_cmp place_cmp place of then frame ∷ [] else []
-
--- the frames that are sent on a connection to a node
-abbrev pub sent_at : TrunkId → Name → List (Effect Framed) → List Framed
-sent_at trunk to [] = []
-sent_at trunk to (Effect.Sent (Some on) peer frame ∷ rest) = one_at (trunk, to) (on, peer) frame ++ sent_at trunk to rest
-sent_at trunk to (effect ∷ rest) = sent_at trunk to rest
 
 -- ---- the frames in flight between two processes
 

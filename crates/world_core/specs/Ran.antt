@@ -1,46 +1,23 @@
 -- The events of a world in code, which lead to the same as in the model.
-use Rattle.std.specs.Prelude.{◌≡◌, ◌++◌, List, [], ◌∷◌, map, Result, Ok, Err}
+use Rattle.std.specs.Prelude.{◌≡◌, ◌++◌, List, [], ◌∷◌, map}
 use Rattle.dist_model.specs.Fates.{DownsRightly, ReactsRightly}
 use Rattle.dist_model.specs.Histories.{told}
 use Rattle.dist_model.specs.Names.{Name}
 use Rattle.dist_model.specs.Runs.{Goes, Runs}
 use Rattle.dist_model.specs.Safety.{Safe}
 use Rattle.dist_model.specs.World as model
-use Rattle.dist_model.specs.declared.report.Report.{Report}
-use Rattle.erl_term.specs.declared.refusal.Refusal.{Refusal}
-use Rattle.node_frames.specs.Frames.{Framed, shown}
+use Rattle.node_core.specs.NodeEvents.{event_at}
+use Rattle.node_core.specs.Told.{Answered, Tells}
 use Rattle.world_core.specs.Names.{name_at}
 use Rattle.world_core.specs.Stands.{StandsFor}
 use Rattle.world_core.specs.declared.event.Event.{Event}
 use Rattle.world_core.specs.declared.world.World.{World}
-use Rattle.world_core.specs.declared.node_event.NodeEvent.{NodeEvent}
-use Rattle.world_core.specs.declared.node_event.NodeEvent.TheVariants as event
-
--- the model's event at the node of this name
-abbrev pub event_at : Name → NodeEvent → model.Event
-event_at name (event.Call command) = model.Call name command
-event_at name (event.Arrive trunk word) = model.Arrive trunk name word
-event_at name event.Local = model.Local name
-event_at name (event.Lose trunk) = model.Lose trunk name
-event_at name event.Sweep = model.Sweep name
-event_at name (event.Dial peer word) = model.Dial name peer word
-event_at name event.Stop = model.Stop name
-event_at name event.Start = model.Start name
 
 abbrev pub event_in : List Name → Event → model.Event
 event_in names e = event_at (name_at names e.node) e.event
 
 abbrev pub events_in : List Name → List Event → List model.Event
 events_in names = map (event_in names)
-
-abbrev pub Answered : Type 0
-Answered = Result (Report Framed) Refusal
-
--- the answer and the model's report say the same, with the frames of the sent items
-abbrev pub Tells : Answered → model.Report → Type 0
-Tells (Ok report) (model.Reported answer effects) = (report.answer ≡ answer) × (report.effects.items ≡ map shown effects)
-Tells (Err e) (model.Refused why) = e ≡ why
-Tells _ _ = ⊥
 
 abbrev pub TellAll : List Answered → List model.Report → Type 0
 TellAll [] [] = Unit {0}

@@ -7,17 +7,16 @@ ghost use Rattle.dist_model.specs.World.{World as TheWorld};
 ghost use Rattle.world_core.specs.Names.{name_of, names_of};
 ghost use Rattle.world_core.specs.Ran.{Came, event_in};
 ghost use Rattle.world_core.specs.Stands.{StandsFor};
-ghost use Rattle.world_core.specs.declared.node_event.NodeEvent.TheVariants as happens;
+ghost use Rattle.node_core.specs.declared.node_event.NodeEvent.TheVariants as happens;
 
 use crate::event::Event;
 use crate::forgetting::ended_by;
 use crate::happening::happen;
-use crate::node_event::NodeEvent;
 use crate::world::World;
 use dist_model::Report;
 use erl_names::NodeName;
 use erl_term::Refusal;
-use node_core::Node;
+use node_core::{Node, NodeEvent};
 use node_frames::{Frame, same_name};
 use std::alloc::Global;
 

@@ -1,6 +1,6 @@
 //! What may happen in a world.
 
-use crate::node_event::NodeEvent;
+use node_core::NodeEvent;
 
 /// Something happens at a node of a world.
 #[derive(Debug, Drop)]

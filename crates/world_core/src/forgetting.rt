@@ -14,10 +14,9 @@ use crate::arriving::takes;
 use crate::event::Event;
 use crate::lists::Lists;
 use crate::naming::place_of;
-use crate::node_event::NodeEvent;
 use crate::world::World;
 use erl_names::TrunkId;
-use node_core::Node;
+use node_core::{Node, NodeEvent};
 use std::alloc::Global;
 
 /// Returns the place of an event, and the connection on which it may end a side.

@@ -6,16 +6,16 @@ ghost use Rattle.dist_model.specs.Names.{Name};
 ghost use Rattle.dist_model.specs.NodeEvents as model;
 ghost use Rattle.dist_model.specs.NodeEvents.{at_node};
 ghost use Rattle.node_core.specs.Model.{model_of};
-ghost use Rattle.world_core.specs.Events.{ComesTo, Meets, Sends, met};
+ghost use Rattle.world_core.specs.Events.{ComesTo, Meets, Sends};
+ghost use Rattle.node_core.specs.NodeEvents.{met};
 
 use crate::finishing::finish;
 use crate::lists::Lists;
 use crate::meeting::arrive;
-use crate::node_event::NodeEvent;
 use dist_model::{Command, Report};
 use erl_names::{NodeName, TrunkId};
 use erl_term::Refusal;
-use node_core::{Node, Planned};
+use node_core::{Node, NodeEvent, Planned};
 use node_frames::Frame;
 use std::alloc::Global;
 

@@ -7,7 +7,8 @@ ghost use Rattle.dist_model.specs.Names.{Name, place_cmp};
 ghost use Rattle.erl_names.specs.Order.{trunk_cmp};
 ghost use Rattle.erl_names.specs.declared.trunk.TrunkId.{TrunkId as TheTrunk};
 ghost use Rattle.node_frames.specs.Frames.{Framed};
-ghost use Rattle.world_core.specs.Lists.{HoldsAll, at, behind_first, first_of, line_to, nothing_between, one_at};
+ghost use Rattle.world_core.specs.Lists.{HoldsAll, at, behind_first, first_of, line_to, nothing_between};
+ghost use Rattle.node_core.specs.SentAt.{one_at};
 
 use crate::line::Line;
 use crate::queue::Queue;

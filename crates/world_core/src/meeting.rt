@@ -8,9 +8,9 @@ ghost use Rattle.node_core.specs.Model.{IsFor, model_of};
 ghost use Rattle.node_core.specs.Begun.{IsNew};
 ghost use Rattle.node_plan.specs.Planned.{Plans};
 ghost use Rattle.readers.specs.Reading.{AreBytes};
-ghost use Rattle.world_core.specs.ComingToANode.{IsNext, bytes_in};
+ghost use Rattle.node_core.specs.ComingToANode.{IsNext, bytes_in};
 ghost use Rattle.world_core.specs.Events.{ComesTo};
-ghost use Rattle.world_core.specs.declared.node_event.NodeEvent.TheVariants as event;
+ghost use Rattle.node_core.specs.declared.node_event.NodeEvent.TheVariants as event;
 ghost use Rattle.world_core.specs.Lists.{at};
 
 use crate::finishing::finish;

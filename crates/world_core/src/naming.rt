@@ -6,15 +6,15 @@ ghost use Rattle.dist_model.specs.Dialing.{has_name};
 ghost use Rattle.dist_model.specs.Names.{same_name};
 ghost use Rattle.dist_model.specs.World.{World as TheWorld};
 ghost use Rattle.world_core.specs.Names.{name_of, names_of};
-ghost use Rattle.world_core.specs.Ran.{Came, event_at};
+ghost use Rattle.world_core.specs.Ran.{Came};
+ghost use Rattle.node_core.specs.NodeEvents.{event_at};
 ghost use Rattle.world_core.specs.Stands.{StandsFor};
 
 use crate::event::Event;
-use crate::node_event::NodeEvent;
 use crate::world::World;
 use dist_model::Report;
 use erl_term::{Atom, Refusal};
-use node_core::Node;
+use node_core::{Node, NodeEvent};
 use node_frames::{Frame, same_name};
 use std::alloc::Global;
 

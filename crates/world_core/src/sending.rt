@@ -3,7 +3,8 @@ ghost use Rattle.std.specs.Prelude.{◌≡◌, ◌++◌, ◌∷◌, ◌≤◌, [
 ghost use Rattle.dist_model.specs.Names.{Name};
 ghost use Rattle.erl_names.specs.declared.trunk.TrunkId.{TrunkId as TheTrunk};
 ghost use Rattle.node_frames.specs.Frames.{Framed};
-ghost use Rattle.world_core.specs.Lists.{at, sent_at};
+ghost use Rattle.world_core.specs.Lists.{at};
+ghost use Rattle.node_core.specs.SentAt.{sent_at};
 
 use crate::lists::Lists;
 use dist_model::Effect;

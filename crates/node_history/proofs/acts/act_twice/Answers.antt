@@ -2,7 +2,7 @@ use Rattle.std.proofs.Common.{Ok, ap, subst, sym, ◌∙◌}
 use Rattle.node_core.specs.Model.{model_of}
 use Rattle.node_history.proofs.AnsweredTwice.{plain_as, starts_quietly, stops_quietly, twice_as}
 use Rattle.node_history.specs.Acts.{Knows}
-use Rattle.world_core.specs.declared.node_event.NodeEvent.TheVariants as event
+use Rattle.node_core.specs.declared.node_event.NodeEvent.TheVariants as event
 use Rattle.node_history.proofs.acts.act_twice.Goals as goal
 
 pub returns-in_ok-carry_out-in-Call-clause-ok : goal.returns-in_ok-carry_out-in-Call-clause-ok

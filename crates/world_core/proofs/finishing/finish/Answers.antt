@@ -1,7 +1,8 @@
 use Rattle.std.proofs.Common.{◌++◌, refl, ap, subst, ◌∙◌}
 use Rattle.node_core.specs.Model.{model_of}
 use Rattle.node_plan.specs.Planned.{Plans}
-use Rattle.world_core.specs.Lists.{at, sent_at}
+use Rattle.world_core.specs.Lists.{at}
+use Rattle.node_core.specs.SentAt.{sent_at}
 use Rattle.world_core.proofs.Planned.{lacks, sends_planned}
 use Rattle.world_core.proofs.finishing.finish.Goals as goal
 

@@ -1,6 +1,6 @@
 use Rattle.std.proofs.Common.{refl, subst, sym}
 use Rattle.node_core.specs.Model.{model_of}
-use Rattle.world_core.specs.declared.node_event.NodeEvent.TheVariants as event
+use Rattle.node_core.specs.declared.node_event.NodeEvent.TheVariants as event
 use Rattle.world_core.proofs.Planned.{Happens, as_sent}
 use Rattle.world_core.proofs.happening.happen.Goals as goal
 

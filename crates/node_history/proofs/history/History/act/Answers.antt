@@ -3,7 +3,7 @@ use Rattle.dist_model.specs.NodeEvents.{at_node}
 use Rattle.node_core.specs.Model.{model_of}
 use Rattle.node_history.proofs.AnsweredTwice.{err_is, knowing, not_entered, told_of}
 use Rattle.node_history.proofs.WrittenDown.{tried_at}
-use Rattle.world_core.specs.Events.{met}
+use Rattle.node_core.specs.NodeEvents.{met}
 use Rattle.node_history.proofs.history.History.act.Goals as goal
 
 pub returns-in_err-stamp-clause-tries : goal.returns-in_err-stamp-clause-tries

@@ -1,10 +1,10 @@
 use Rattle.std.proofs.Common.{arith, Some, subst, sym}
 use Rattle.dist_model.specs.NodeEvents as model
 use Rattle.node_history.proofs.WrittenDown.{tried_at}
-use Rattle.world_core.specs.declared.node_event.NodeEvent.TheVariants as event
+use Rattle.node_core.specs.declared.node_event.NodeEvent.TheVariants as event
 use Rattle.node_core.specs.Model.{model_of}
 use Rattle.node_core.specs.declared.node.Node.{Node}
-use Rattle.world_core.specs.ComingToANode.{CanCome}
+use Rattle.node_core.specs.ComingToANode.{CanCome}
 use Rattle.node_history.proofs.history.History.arrive.Goals as goal
 
 pub returns : goal.returns

@@ -1,7 +1,7 @@
 use Rattle.std.proofs.Common.{arith}
 use Rattle.dist_model.specs.NodeEvents as model
 use Rattle.node_history.proofs.WrittenDown.{tried_at}
-use Rattle.world_core.specs.declared.node_event.NodeEvent.TheVariants as event
+use Rattle.node_core.specs.declared.node_event.NodeEvent.TheVariants as event
 use Rattle.node_history.proofs.history.History.local.Goals as goal
 
 pub returns : goal.returns

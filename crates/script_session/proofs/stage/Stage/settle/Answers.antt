@@ -3,7 +3,7 @@ use Rattle.std.specs.Option.{option_map}
 use Rattle.script_session.specs.Turns.{turn}
 use Rattle.script_session.proofs.Turns.{begins, goes_on, on_ok, settled, used_up}
 use Rattle.script_session.proofs.stage.Stage.settle.Goals as goal
-use Rattle.world_core.specs.Ran.{event_at}
+use Rattle.node_core.specs.NodeEvents.{event_at}
 
 pub loop-left-init : goal.loop-left-init
 loop-left-init c = record {

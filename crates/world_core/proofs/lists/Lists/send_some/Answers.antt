@@ -4,7 +4,8 @@ use Rattle.dist_model.specs.Names.{Name}
 use Rattle.dist_model.specs.declared.report.Effect.{Effect}
 use Rattle.erl_names.specs.declared.trunk.TrunkId.{TrunkId}
 use Rattle.node_frames.specs.Frames.{Framed}
-use Rattle.world_core.specs.Lists.{at, sent_at}
+use Rattle.world_core.specs.Lists.{at}
+use Rattle.node_core.specs.SentAt.{sent_at}
 use Rattle.world_core.proofs.More.{behind}
 use Rattle.world_core.proofs.lists.Lists.send_some.Goals as goal
 

@@ -1,7 +1,8 @@
 use Rattle.std.proofs.Common.{length, ◌-◌, ◌≡◌, ◌++◌, ◌≤◌, take}
 use Rattle.dist_model.specs.Names.{Name}
 use Rattle.erl_names.specs.declared.trunk.TrunkId.{TrunkId}
-use Rattle.world_core.specs.Lists.{at, sent_at}
+use Rattle.world_core.specs.Lists.{at}
+use Rattle.node_core.specs.SentAt.{sent_at}
 use Rattle.world_core.proofs.lists.Lists.send_some.Given as goal
 
 -- so many effects are sent

@@ -2,7 +2,7 @@ use Rattle.std.proofs.Common.{◌≡◌, ◌+◌, ◌-◌, ◌++◌, ◌∷◌, 
 use Rattle.std.proofs.lemmas.List.{take_more}
 use Rattle.dist_model.specs.declared.report.Effect.{Effect}
 use Rattle.node_frames.specs.Frames.{Framed}
-use Rattle.world_core.specs.Lists.{sent_at}
+use Rattle.node_core.specs.SentAt.{sent_at}
 use Rattle.world_core.proofs.More.{behind}
 use Rattle.world_core.proofs.lists.Lists.take_back.Goals as goal
 

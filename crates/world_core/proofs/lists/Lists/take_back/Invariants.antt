@@ -2,7 +2,8 @@ use Rattle.std.proofs.Common.{length, ◌≡◌, ◌++◌, ◌≤◌, List, take
 use Rattle.dist_model.specs.Names.{Name}
 use Rattle.erl_names.specs.declared.trunk.TrunkId.{TrunkId}
 use Rattle.node_frames.specs.Frames.{Framed}
-use Rattle.world_core.specs.Lists.{at, sent_at}
+use Rattle.world_core.specs.Lists.{at}
+use Rattle.node_core.specs.SentAt.{sent_at}
 use Rattle.world_core.proofs.lists.Lists.take_back.Given as goal
 
 -- the effects that are left are still sent

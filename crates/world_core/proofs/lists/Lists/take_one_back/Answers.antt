@@ -1,7 +1,7 @@
 use Rattle.std.proofs.Common.{◌≡◌, ◌∷◌, [], ◌++◌, Some, ap, ◌∙◌, append-nil, rules}
 use Rattle.dist_model.specs.declared.report.Effect.{Effect}
 use Rattle.node_frames.specs.Frames.{Framed}
-use Rattle.world_core.specs.Lists.{one_at, sent_at}
+use Rattle.node_core.specs.SentAt.{one_at, sent_at}
 use Rattle.world_core.proofs.lists.Lists.take_one_back.Goals as goal
 
 pub returns-in-Sent-Some-default-default : goal.returns-in-Sent-Some-default-default

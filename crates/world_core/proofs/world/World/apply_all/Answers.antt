@@ -1,6 +1,6 @@
 use Rattle.std.proofs.Common.{◌≡◌, ◌∷◌, List, arith, rules, subst, sym}
 use Rattle.world_core.specs.declared.event.Event.{Event}
-use Rattle.world_core.specs.Ran.{Answered}
+use Rattle.node_core.specs.Told.{Answered}
 use Rattle.world_core.proofs.Happened.{Going, none_yet, one_more}
 use Rattle.world_core.proofs.world.World.apply_all.Goals as goal
 

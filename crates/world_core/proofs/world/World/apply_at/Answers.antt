@@ -4,7 +4,8 @@ use Rattle.dist_model.specs.Names.{same_name}
 use Rattle.dist_model.specs.World.{node_of}
 use Rattle.world_core.proofs.Named.{no_place_is, place_is}
 use Rattle.world_core.proofs.Stepped.{no_node}
-use Rattle.world_core.specs.Ran.{Came, event_at}
+use Rattle.world_core.specs.Ran.{Came}
+use Rattle.node_core.specs.NodeEvents.{event_at}
 use Rattle.world_core.specs.Names.{name_at, name_of}
 use Rattle.world_core.proofs.world.World.apply_at.Goals as goal
 

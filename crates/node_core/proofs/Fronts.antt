@@ -30,7 +30,7 @@ use Rattle.node_connections.specs.Coming.{comes, item_of}
 use Rattle.node_connections.specs.Fronts.{Begins, Front, Holds, IsFrameFront, IsFront, IsFrontIn, IsMessageFront, IsWhole, IsWholeIn, Spoils}
 use Rattle.node_frames.specs.Frames.{IsSpelled, bytes_of}
 use Rattle.readers.specs.Reading.{AreBytes}
-use Rattle.world_core.specs.ComingToANode.{reads, reads_at}
+use Rattle.node_core.specs.ComingToANode.{reads, reads_at}
 
 -- ---- two laws of frames, which the caller has
 
