@@ -3,6 +3,7 @@ use denote.Builtin
 use denote.Param.Send.{IsSend, IsSync, plain_send, plain_sync, recorded_send, recorded_sync, sendable, struct_send, struct_sync}
 use denote.RattleType.{RattleType}
 use denote.Struct.Declared.{shape}
+use Rattle.cluster_run.proofs.worker.Worker.TheSendSync as worker
 use Rattle.cluster_run.specs.contracts.cluster.Cluster as cluster
 use Rattle.cluster_run.specs.contracts.cluster.Running as running
 use Rattle.cluster_run.specs.contracts.desk.Desk as desk
@@ -52,7 +53,7 @@ use Rattle.std.specs.contracts.sync.atomic.AtomicBool as a_flag
 use Rattle.std.specs.contracts.vec.Vec as a_vec
 use Rattle.wire_core.proofs.offer.Offer.TheSendSync as offer
 use Rattle.wire_core.specs.contracts.offer.Offer as an_offer
-use Rattle.world_core.specs.contracts.node_event.NodeEvent as event
+use Rattle.node_core.specs.contracts.node_event.NodeEvent as event
 
 payload_send : IsSend payload.the_row
 payload_send =
@@ -161,13 +162,23 @@ marks_sync = vec.the_sync a_flag.the_row the_global.the_row TheImpl.ghosts flag.
 
 desk_send : IsSend desk.the_row
 desk_send = recorded_send (desk.the_field).row _ _ (desk.the_type).to_one
-    (struct_send (shape desk.the_type)
-    (lock_send, (box_send, (number.the_send, (number.the_send, (number.the_send, (number.the_send, (flag.the_field_send, (flag.the_field_send, (marks_send, tt))))))))))
+    (struct_send (shape desk.the_type) (
+      lock_send,
+      (
+        search (worker.the_send, Crossing.crosses, sendable) depth 60 fits 20000,
+        (box_send, (number.the_send, (number.the_send, (number.the_send, (number.the_send, (flag.the_field_send, (flag.the_field_send, (flag.the_field_send, (marks_send, tt))))))))),
+      ),
+    ))
 
 desk_sync : IsSync desk.the_row
 desk_sync = recorded_sync (desk.the_field).row _ _ (desk.the_type).to_one
-    (struct_sync (shape desk.the_type)
-    (lock_sync, (box_sync, (number.the_sync, (number.the_sync, (number.the_sync, (number.the_sync, (flag.the_field_sync, (flag.the_field_sync, (marks_sync, tt))))))))))
+    (struct_sync (shape desk.the_type) (
+      lock_sync,
+      (
+        search (worker.the_send, Crossing.crosses, sendable) depth 60 fits 20000,
+        (box_sync, (number.the_sync, (number.the_sync, (number.the_sync, (number.the_sync, (flag.the_field_sync, (flag.the_field_sync, (flag.the_field_sync, (marks_sync, tt))))))))),
+      ),
+    ))
 
 module _ (G : RattleType) where
   shared_send : IsSend G → IsSend (shared.the_row G)
@@ -176,7 +187,7 @@ module _ (G : RattleType) where
         vec.the_send a_name.the_row the_global.the_row TheImpl.ghosts name.the_send global.the_send heap.the_frees,
         (
           vec.the_send desk.the_row the_global.the_row TheImpl.ghosts desk_send global.the_send heap.the_frees,
-          (flag.the_field_send, (send, tt)),
+          (flag.the_field_send, (number.the_send, (number.the_send, (send, tt)))),
         ),
       ))
 
@@ -186,7 +197,7 @@ module _ (G : RattleType) where
         vec.the_sync a_name.the_row the_global.the_row TheImpl.ghosts name.the_sync global.the_sync,
         (
           vec.the_sync desk.the_row the_global.the_row TheImpl.ghosts desk_sync global.the_sync,
-          (flag.the_field_sync, (sync, tt)),
+          (flag.the_field_sync, (number.the_sync, (number.the_sync, (sync, tt)))),
         ),
       ))
 

@@ -6,13 +6,14 @@ ghost use Rattle.cluster_run.specs.Starting.{IsNoThread, IsStarted, IsUnstarted}
 ghost use Rattle.erl_term.specs.declared.refusal.Refusal.TheVariants.{NothingThere};
 ghost use Rattle.joined_books.specs.Faults.{IsFault};
 ghost use Rattle.node_core.specs.declared.node.Node.{Node as TheNode};
-ghost use Rattle.node_lock.specs.Calling.{Asks, IsSameSeat};
+ghost use Rattle.node_lock.specs.Calling.{Asks, IsCallRefusal, IsSameSeat};
 
 use crate::desk::{Desk, Shared};
 use crate::finished::{Finished, Unmerged};
 use crate::gate::Gate;
-use crate::settling::{Settled, look};
-use crate::worker::{Worker, work};
+use crate::settling::{Settled, wait};
+use crate::thread_of_node::work;
+use crate::worker::Worker;
 use crossbeam_channel::{Receiver, Sender, bounded, unbounded};
 use erl_handshake::Cookie;
 use erl_names::NodeName;
@@ -22,7 +23,7 @@ use node_core::Node;
 use node_lock::{Act, Book, NodeLock, Seat};
 use std::alloc::{AllocError, Global};
 use std::sync::atomic::{AtomicBool, AtomicU64, Ordering};
-use std::sync::{Arc, Wait};
+use std::sync::{Arc, Mutex, Wait};
 use std::thread;
 use std::thread::Threads;
 use wire_core::Offer;
@@ -65,11 +66,18 @@ fn marks(alloc: Global, nodes: usize) -> Result<Vec<AtomicBool>, AllocError> {
     Ok(marks)
 }
 
-// Returns the desk of one of so many nodes, and the receiver of the offers to it.
-fn desk(alloc: Global, book: Book, nodes: usize) -> Result<(Desk, Receiver<Offer>), AllocError> {
+// Returns the desk of the node at a place, one of so many, whose challenges are counted from a seed.
+fn desk(
+    alloc: Global,
+    book: Book,
+    place: usize,
+    nodes: usize,
+    seed: u32,
+) -> Result<Desk, AllocError> {
     let (box_for_offers, offers) = unbounded(alloc)?;
-    let desk = Desk {
+    Ok(Desk {
         lock: NodeLock::new(book),
+        worker: Mutex::new(Worker::new(alloc, place, offers, seed)),
         box_for_offers,
         shortages: AtomicU64::new(0),
         calls: AtomicU64::new(0),
@@ -77,12 +85,12 @@ fn desk(alloc: Global, book: Book, nodes: usize) -> Result<(Desk, Receiver<Offer
         idle: AtomicU64::new(u64::MAX),
         is_resting: AtomicBool::new(false),
         wants_room: AtomicBool::new(false),
+        is_marked: AtomicBool::new(false),
         marks: marks(alloc, nodes)?,
-    };
-    Ok((desk, offers))
+    })
 }
 
-// The names of all nodes.
+// Returns copies of the names of all nodes.
 fn names_of(alloc: Global, nodes: &[(NodeName, Cookie)]) -> Result<Vec<NodeName>, AllocError> {
     let mut names = Vec::new(alloc);
     for (name, _) in nodes {
@@ -91,13 +99,9 @@ fn names_of(alloc: Global, nodes: &[(NodeName, Cookie)]) -> Result<Vec<NodeName>
     Ok(names)
 }
 
-// The desks of all nodes.
-fn desks(
-    alloc: Global,
-    nodes: &[(NodeName, Cookie)],
-) -> Result<(Vec<Desk>, Vec<Receiver<Offer>>), AllocError> {
+// Returns the desks of all nodes, whose challenges are counted from a seed.
+fn desks(alloc: Global, nodes: &[(NodeName, Cookie)], seed: u32) -> Result<Vec<Desk>, AllocError> {
     let mut desks = Vec::new(alloc);
-    let mut boxes = Vec::new(alloc);
     for place in 0..nodes.len() {
         let names = names_of(alloc, nodes)?;
         if place >= names.len() {
@@ -105,11 +109,9 @@ fn desks(
         }
         let (_, cookie) = &nodes[place];
         let book = Book::new(alloc, names, place, cookie.clone()?)?;
-        let (desk, offers) = desk(alloc, book, nodes.len())?;
-        desks.push(desk)?;
-        boxes.push(offers)?;
+        desks.push(desk(alloc, book, place, nodes.len(), seed)?)?;
     }
-    Ok((desks, boxes))
+    Ok(desks)
 }
 
 // Starts the thread of a node.
@@ -117,7 +119,7 @@ fn start<R, G>(
     rt: &R,
     shared: &Arc<Shared<G>>,
     end: &Sender<()>,
-    worker: Worker,
+    node: usize,
 ) -> Result<(), Refusal>
 where
     R: Threads + Wait + Copy + Send + Drop + 'static,
@@ -128,7 +130,7 @@ where
     let end = end.clone()?;
     let own = *rt;
     let thread = thread::spawn(rt, move || {
-        work(&own, &shared, worker);
+        work(&own, &shared, node);
         drop(shared);
         let _ = end.try_send(&own, ());
     });
@@ -141,32 +143,27 @@ where
 // Starts the threads of all nodes, up to the first that can't be started. Returns the number of threads.
 fn start_all<R, G>(
     rt: &R,
-    alloc: Global,
     shared: &Arc<Shared<G>>,
     end: &Sender<()>,
-    boxes: Vec<Receiver<Offer>>,
-    seed: u32,
 ) -> (usize, Result<(), Refusal>)
 where
     R: Threads + Wait + Copy + Send + Drop + 'static,
     G: Gate + Send + Sync + Drop + 'static,
     ensures { IfErr result.1 IsNoThread }
 {
-    let mut started = 0usize;
-    for offers in boxes {
-        let worker = Worker::new(alloc, started, offers, seed);
-        if let Err(e) = start(rt, shared, end, worker) {
-            return (started, Err(e));
+    let nodes = shared.desks.len();
+    for node in 0..nodes {
+        if let Err(e) = start(rt, shared, end, node) {
+            return (node, Err(e));
         }
-        started = started.wrapping_add(1);
     }
-    (started, Ok(()))
+    (nodes, Ok(()))
 }
 
 impl<G: Gate + Send + Sync + Drop + 'static> Cluster<G> {
-    /// Nodes of these names and cookies, and their threads. Each runs, in its first incarnation.
-    /// Challenges are counted from 1. (Reference Manual, Distributed Erlang; ERTS User's Guide,
-    /// Distribution Protocol.)
+    /// Starts a node of each name and cookie, and its thread. Each node runs, in its first incarnation. Each
+    /// counts its challenges from 1. (Reference Manual, Distributed Erlang; ERTS User's Guide, Distribution
+    /// Protocol.)
     ///
     /// # Errors
     /// [`Refusal::BadName`] where two nodes have one name; [`Refusal::OutOfMemory`]; and
@@ -185,11 +182,12 @@ impl<G: Gate + Send + Sync + Drop + 'static> Cluster<G> {
         Cluster::new_seeded(rt, alloc, nodes, gate, 1)
     }
 
-    /// The same, with challenges counted from a seed: at each node the word of a connection that is new
-    /// to it, where another node has dialed, is the seed, and then one more each time, modulo 2^32.
+    /// Starts the nodes as [`Cluster::new`] does, and has each count its challenges from `seed`. The first
+    /// connection that another node dials gets `seed` as its challenge, and each later one gets one more,
+    /// modulo 2^32.
     ///
     /// # Errors
-    /// As those of [`Cluster::new`].
+    /// Those of [`Cluster::new`].
     pub fn new_seeded<R>(
         rt: &R,
         alloc: Global,
@@ -206,18 +204,20 @@ impl<G: Gate + Send + Sync + Drop + 'static> Cluster<G> {
             return Err(Refusal::BadName);
         }
         let names = names_of(alloc, &nodes)?;
-        let (desks, boxes) = desks(alloc, &nodes)?;
+        let desks = desks(alloc, &nodes, seed)?;
         let shared = Arc::new(
             alloc,
             Shared {
                 names,
                 desks,
                 is_over: AtomicBool::new(false),
+                waiters: AtomicU64::new(0),
+                rests: AtomicU64::new(0),
                 gate,
             },
         )?;
         let (end, ended) = bounded(alloc, nodes.len())?;
-        let (started, outcome) = start_all(rt, alloc, &shared, &end, boxes, seed);
+        let (started, outcome) = start_all(rt, &shared, &end);
         drop(end);
         let cluster = Cluster {
             alloc,
@@ -233,8 +233,7 @@ impl<G: Gate + Send + Sync + Drop + 'static> Cluster<G> {
         Ok(cluster)
     }
 
-    // Ends the threads. A handle of a thread can't be shared by threads, so none is kept. The last action
-    // of a thread is to say that it has ended.
+    // Ends the threads, and waits until each has said that it has ended, which is its last action.
     fn halt<R: Wait>(self, rt: &R) -> (Vec<(NodeName, Cookie)>, Running<G>)
         ensures { result.0.items ≡ self.nodes.items }
     {
@@ -252,7 +251,7 @@ impl<G: Gate + Send + Sync + Drop + 'static> Cluster<G> {
         (nodes, running)
     }
 
-    /// A new seat at a node. Takes no memory.
+    /// Returns a new seat at a node. Never allocates.
     ///
     /// # Errors
     /// [`Refusal::NothingThere`] where there is no such node.
@@ -269,15 +268,16 @@ impl<G: Gate + Send + Sync + Drop + 'static> Cluster<G> {
         }
     }
 
-    /// Does the act of a caller at the node of its seat, as that then is. Returns the place of its receipt
-    /// among the seat's. (Reference Manual, Processes; ERTS User's Guide, Distribution Protocol.)
+    /// Runs `act` at the node of `seat`, and records it in the node's book. Returns the place of the receipt
+    /// among those of `seat`. (Reference Manual, Processes; ERTS User's Guide, Distribution Protocol.)
     ///
     /// # Errors
-    /// As those of [`NodeLock::call`]; and [`Refusal::StrangeSeat`] where there is no such node. Then the
-    /// seat is as it was.
+    /// Those of [`NodeLock::call`]; and [`Refusal::StrangeSeat`] where there is no such node. On error the
+    /// seat does not change.
     pub fn call<R: Wait>(&self, rt: &R, seat: &mut Seat, act: Act) -> Result<usize, Refusal>
         ensures ok { IfOk result (Asks act seat.old seat.new) }
         ensures err { IfErr result (λ _. IsSameSeat seat.old seat.new) }
+        ensures why { IfErr result IsCallRefusal }
     {
         let Some(desk) = self.running.shared.desks.get(seat.node()) else {
             drop(act);
@@ -287,10 +287,11 @@ impl<G: Gate + Send + Sync + Drop + 'static> Cluster<G> {
         let place = desk.lock.call(rt, self.alloc, seat, act);
         desk.ring();
         desk.calls.fetch_sub(1, Ordering::SeqCst);
+        self.running.shared.tell_rest();
         place
     }
 
-    /// Returns the result of a function of a node as it then is. The node's lock is held meanwhile.
+    /// Returns the result of `f` of a node as it then is. Holds the node's lock meanwhile.
     ///
     /// # Errors
     /// [`Refusal::NothingThere`] where there is no such node.
@@ -314,8 +315,8 @@ impl<G: Gate + Send + Sync + Drop + 'static> Cluster<G> {
         }
     }
 
-    /// Returns the number of times that a node's thread has found no memory for its work, and tried again
-    /// later. The count stays at its highest, 2^64 - 1.
+    /// Returns the number of times that a turn of a node has found no memory, and was tried again later. The
+    /// count stays at its highest, 2^64 - 1.
     ///
     /// # Errors
     /// [`Refusal::NothingThere`] where there is no such node.
@@ -332,30 +333,24 @@ impl<G: Gate + Send + Sync + Drop + 'static> Cluster<G> {
         }
     }
 
-    /// Waits until the cluster has come to rest: at one moment no call was in progress, and no thread had
-    /// anything to do. Looks at most `max_turns` times, and changes nothing. Two looks in a row have to
-    /// find so. Nothing is proved of this.
-    pub fn settle<R: Wait>(&self, rt: &R, max_turns: u64) -> Settled {
-        let mut last = None;
-        for _ in 0..max_turns {
-            let found = look(rt, &self.running.shared);
-            if !found.is_busy && last == Some(found) {
-                return Settled::Settled;
-            }
-            last = Some(found);
-            thread::yield_now();
-        }
-        Settled::StillBusy
+    /// Waits until the cluster has come to rest: at one moment no call was in progress, and no node had
+    /// anything to do. Looks at most `max_looks` times, and changes no node. Waits at most 100
+    /// microseconds between two looks. Two looks in a row have to find so. Nothing is proved of this.
+    pub fn settle<R: Wait>(&self, rt: &R, max_looks: u64) -> Settled {
+        let shared = &self.running.shared;
+        shared.waiters.fetch_add(1, Ordering::SeqCst);
+        let settled = wait(rt, shared, max_looks);
+        shared.waiters.fetch_sub(1, Ordering::SeqCst);
+        settled
     }
 
-    /// Ends the threads, and merges the books of all nodes, as [`merge_books`] does: the entries of all
-    /// books, by stamp and then by node, are one safe run of the model's world of the cluster's nodes,
-    /// from its opening, and the receipts of the seats are the acts that were entered. The books are
-    /// given too.
+    /// Ends the threads, and merges the books of all nodes, as [`merge_books`] does. The entries of all
+    /// books, by stamp and then by node, are one safe run of the model's world of the cluster's nodes, from
+    /// its opening. The receipts of the seats are the acts that were entered. Returns the books too.
     ///
     /// # Errors
-    /// As those of [`merge_books`] (`fault`). The nodes, the books and the seats come back with it: of
-    /// these the error is true, and what is looked at before is in order.
+    /// Those of [`merge_books`] (`fault`). The nodes, the books and the seats come back with it. The error is
+    /// true of them, and each test that comes before it passes.
     pub fn finish<R: Threads + Wait>(self, rt: &R, seats: Vec<Seat>) -> Result<Finished, Unmerged>
         ensures ok { IfOk result (λ it. (it.nodes.items ≡ self.nodes.items) × IsFinished self.nodes.items it.books.items seats.items it.trace.entries.items) }
         ensures fault { IfErr result (λ it. (it.nodes.items ≡ self.nodes.items) × (it.seats.items ≡ seats.items) × IsFault self.nodes.items it.books.items seats.items it.fault) }
@@ -383,7 +378,7 @@ impl<G: Gate + Send + Sync + Drop + 'static> Cluster<G> {
     }
 }
 
-// Puts the books out of their locks behind others, up to the first that isn't there.
+// Moves the books out of their locks to the end of `books`, up to the first that isn't there.
 fn take_books<R: Wait, G>(
     rt: &R,
     shared: &Shared<G>,

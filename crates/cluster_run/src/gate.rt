@@ -1,10 +1,10 @@
-//! Hooks into a node's thread, for tests.
+//! Hooks into the turns of nodes, for tests.
 
 use wire_core::LONGEST;
 
-/// A hook into the thread of each node, for tests.
+/// A hook into the turns of each node, for tests.
 pub trait Gate {
-    /// Runs after each event that a node's thread applies, while it holds the node's lock. `node` is the
+    /// Runs after each event that a thread applies at a node, while it holds the node's lock. `node` is the
     /// place of the node, and `entries` the length of its history. It must take no other lock.
     fn inside(&self, node: usize, entries: u64);
 

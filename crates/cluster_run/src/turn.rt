@@ -1,6 +1,6 @@
-//! What a node's thread has done in a turn.
+//! The outcome of a turn that a thread takes for a node.
 
-/// What has come of one thing that a node's thread tried.
+/// The outcome of one thing that was tried in a turn.
 #[derive(Clone, Copy, Debug, Drop, PartialEq, Eq)]
 pub(crate) enum Step {
     /// It is done.
@@ -11,16 +11,17 @@ pub(crate) enum Step {
     Wanting,
 }
 
-/// What has come of all that a node's thread tried in a turn.
+/// The outcome of all that was tried in a turn.
 #[derive(Clone, Copy, Debug, Drop)]
 pub(crate) struct Turn {
     /// Something is done.
     pub(crate) is_done: bool,
-    /// How often there was no memory.
+    /// The number of times that there was no memory.
     pub(crate) shortages: u64,
 }
 
 impl Turn {
+    /// Returns the outcome of a turn in which nothing was tried yet.
     pub(crate) fn new() -> Turn {
         Turn {
             is_done: false,
@@ -28,6 +29,7 @@ impl Turn {
         }
     }
 
+    /// Adds the outcome of one thing.
     pub(crate) fn note(&mut self, step: Step) {
         match step {
             Step::Done => self.is_done = true,
@@ -36,9 +38,20 @@ impl Turn {
         }
     }
 
-    /// What has come of another turn.
+    /// Adds the outcome of another part of the turn.
     pub(crate) fn add(&mut self, other: Turn) {
         self.is_done = self.is_done || other.is_done;
         self.shortages = self.shortages.saturating_add(other.shortages);
+    }
+
+    /// Takes the outcome of a later turn, and adds the shortages of both.
+    pub(crate) fn follow(&mut self, later: Turn) {
+        self.is_done = later.is_done;
+        self.shortages = self.shortages.saturating_add(later.shortages);
+    }
+
+    /// Returns true if nothing is left to do for now.
+    pub(crate) fn is_idle(&self) -> bool {
+        !self.is_done && self.shortages == 0
     }
 }

@@ -1,4 +1,4 @@
-//! The thread of a node.
+//! The turns of a node.
 
 use crate::books::{Hearing, has_local, has_lost, hearing_of};
 use crate::desk::{Desk, Shared};
@@ -8,16 +8,15 @@ use crossbeam_channel::{Receiver, SendError};
 use dist_model::Effect;
 use erl_names::TrunkId;
 use erl_term::Refusal;
+use node_core::NodeEvent;
 use node_history::Entry;
 use node_lock::{Book, Left};
 use std::alloc::{AllocError, Global};
 use std::sync::Wait;
 use std::sync::atomic::Ordering;
-use std::thread;
-use wire_core::{LONGEST, Offer};
-use world_core::NodeEvent;
+use wire_core::Offer;
 
-/// The most turns that a thread takes before it gives up its node's lock.
+/// The most turns that are taken before the node's lock is given up.
 const TURNS: usize = 16;
 
 // A connection at which something may still happen.
@@ -34,7 +33,7 @@ struct Route {
     is_marked: bool,
 }
 
-/// The state that the thread of a node has to itself.
+/// The state in which turns are taken for a node.
 #[derive(Drop)]
 pub(crate) struct Worker {
     alloc: Global,
@@ -47,6 +46,10 @@ pub(crate) struct Worker {
     learned: usize,
     // The number of the book's entries of which it knows the connections on which they have sent.
     read: usize,
+    // An item may wait to be put on the wire of a route.
+    is_waiting: bool,
+    // A piece may be on the wire of a route, or a parcel may wait for its arrival.
+    is_marked: bool,
     // The place of the route that is next asked for its end.
     asked: usize,
     // Halves of connections for which there was no memory, on the way out and on the way in.
@@ -56,9 +59,12 @@ pub(crate) struct Worker {
     word: u32,
     // No higher stamp is left.
     is_spent: bool,
+    // The place of a node that has something to do now, and whose thread rests.
+    owed: Option<usize>,
 }
 
 impl Worker {
+    /// Returns the worker of the node at a place, which counts its challenges from a seed.
     pub(crate) fn new(alloc: Global, node: usize, offers: Receiver<Offer>, seed: u32) -> Worker {
         Worker {
             alloc,
@@ -67,15 +73,27 @@ impl Worker {
             routes: Vec::new(alloc),
             learned: 0,
             read: 0,
+            is_waiting: false,
+            is_marked: false,
             asked: 0,
             unsent: None,
             untaken: None,
             word: seed,
             is_spent: false,
+            owed: None,
         }
     }
 
-    // The half of a connection that the node has dialed goes to the other node's thread.
+    // Notes that the thread of a node rests that has something to do. Wakes that of the one noted before.
+    fn owe<G>(&mut self, shared: &Shared<G>, node: Option<usize>) {
+        if node.is_none() || node == self.owed {
+            return;
+        }
+        shared.wake(self.owed);
+        self.owed = node;
+    }
+
+    // Sends the half of a connection that the node has dialed to the other node.
     fn hand_out<R: Wait, G>(&mut self, rt: &R, shared: &Shared<G>, book: &mut Book) -> Step {
         let next = match self.unsent.take() {
             Some(left) => Some(left),
@@ -84,10 +102,8 @@ impl Worker {
         let Some(Left { peer, offer }) = next else {
             return Step::Nothing;
         };
-        let desk = shared
-            .place_of(&peer)
-            .and_then(|place| shared.desks.get(place));
-        let Some(desk) = desk else {
+        let place = shared.place_of(&peer);
+        let Some(desk) = place.and_then(|place| shared.desks.get(place)) else {
             drop(peer);
             drop(offer);
             return Step::Done;
@@ -95,7 +111,9 @@ impl Worker {
         match desk.box_for_offers.send(rt, offer) {
             Ok(()) => {
                 drop(peer);
-                desk.ring();
+                if desk.count_ring() {
+                    self.owe(shared, place);
+                }
                 Step::Done
             }
             Err(SendError::OutOfMemory(offer)) => {
@@ -110,7 +128,7 @@ impl Worker {
         }
     }
 
-    // The half of a connection that another node has dialed is taken up, where the book wants it.
+    // Takes up the half of a connection that another node has dialed, where the book wants it.
     fn take_up<R: Wait>(&mut self, rt: &R, book: &mut Book) -> Step {
         let next = match self.untaken.take() {
             Some(offer) => Some(offer),
@@ -132,7 +150,7 @@ impl Worker {
         }
     }
 
-    // Learns of the next connection of the book, if there is one that it doesn't know yet.
+    // Adds a route for the next connection of the book, if there is one without a route.
     fn learn_one<G>(&mut self, shared: &Shared<G>, book: &Book) -> Result<bool, AllocError> {
         let Some(outlet) = book.outlets().get(self.learned) else {
             return Ok(false);
@@ -145,11 +163,13 @@ impl Worker {
             is_waiting: true,
             is_marked: true,
         });
+        self.is_waiting = true;
+        self.is_marked = true;
         self.learned = self.learned.saturating_add(1);
         Ok(true)
     }
 
-    // Learns of the connections that the book has opened.
+    // Adds routes for the connections that the book has opened.
     fn learn<G>(&mut self, shared: &Shared<G>, book: &Book) -> Step {
         for _ in self.learned..book.outlets().len() {
             match self.learn_one(shared, book) {
@@ -164,8 +184,10 @@ impl Worker {
     // Notes that an item may wait to be put on the wire of a connection.
     fn note_waiting(&mut self, trunk: &TrunkId) {
         for route in &mut self.routes {
-            if route.trunk == *trunk {
+            if route.trunk.count == trunk.count && route.trunk == *trunk {
                 route.is_waiting = true;
+                self.is_waiting = true;
+                break;
             }
         }
     }
@@ -198,6 +220,10 @@ impl Worker {
 
     // Marks the connections to the nodes that have put a piece on a wire to this one.
     fn take_marks<G>(&mut self, shared: &Shared<G>, desk: &Desk) {
+        if !desk.take_marked() {
+            return;
+        }
+        self.is_marked = true;
         for from in 0..shared.desks.len() {
             if desk.take_mark(from) {
                 for route in &mut self.routes {
@@ -225,7 +251,7 @@ impl Worker {
         }
     }
 
-    // Puts the items that wait on a connection on its wire, and wakes the other node's thread.
+    // Puts the items that wait on a connection on its wire, and rings the other node.
     fn flush<R: Wait, G>(
         &mut self,
         rt: &R,
@@ -245,14 +271,16 @@ impl Worker {
                 Step::Nothing
             }
             Ok(_) => {
-                shared.tell_piece(route.peer, self.node);
+                let peer = route.peer;
+                let node = self.node;
+                self.owe(shared, peer.and_then(|peer| shared.tell_piece(peer, node)));
                 Step::Done
             }
             Err(_) => Step::Wanting,
         }
     }
 
-    // Takes a piece off a wire, and wakes the other node's thread if it waits for room.
+    // Takes a piece off a wire, and rings the other node if it waits for room.
     fn fetch<R: Wait, G>(
         &mut self,
         rt: &R,
@@ -268,7 +296,8 @@ impl Worker {
         }
         match book.fetch(rt, &route.trunk, route.at) {
             Ok(true) => {
-                shared.tell_room(route.peer);
+                let peer = route.peer;
+                self.owe(shared, peer.and_then(|peer| shared.tell_room(peer)));
                 Step::Done
             }
             Ok(false) => {
@@ -279,8 +308,8 @@ impl Worker {
         }
     }
 
-    // Tells what an event has come to, and passes the gate. A node doesn't do at once again what it has
-    // refused.
+    // Returns the outcome of an event, and passes the gate. An event that the node has refused isn't tried
+    // again at once.
     fn applied<G: Gate>(
         &mut self,
         shared: &Shared<G>,
@@ -349,10 +378,10 @@ impl Worker {
         self.applied(shared, book, place)
     }
 
-    // Tells the other nodes' threads if an item of this one waits for room, before the thread rests. From
-    // then on they wake it when they take a piece. A piece that was taken before is seen in one turn more.
+    // Notes if an item of the node waits for room. From then on the other nodes ring it when they take a
+    // piece. One turn more sees a piece that they have taken before.
     fn ask_for_room(&self, desk: &Desk) -> Step {
-        let waits = self.routes.iter().any(|route| route.is_waiting);
+        let waits = self.is_waiting;
         let is_told = desk.wants_room.load(Ordering::SeqCst);
         if waits == is_told {
             return Step::Nothing;
@@ -361,17 +390,33 @@ impl Worker {
         if waits { Step::Done } else { Step::Nothing }
     }
 
-    // Puts on all wires the items that wait, those of the latest entries too.
+    // Puts on all wires the items that wait, with those of the latest entries.
     fn flush_all<R: Wait, G>(&mut self, rt: &R, shared: &Shared<G>, book: &mut Book) -> Turn {
         let mut turn = Turn::new();
         self.read_entries(book);
-        for number in 0..self.routes.len() {
-            turn.note(self.flush(rt, shared, book, number));
+        if self.is_waiting {
+            for number in 0..self.routes.len() {
+                turn.note(self.flush(rt, shared, book, number));
+            }
+            self.is_waiting = self.routes.iter().any(|route| route.is_waiting);
         }
         turn
     }
 
-    // Does one of each thing that can be done now.
+    // Takes a piece off each wire on which one may be, and applies the arrival of each parcel that has come.
+    fn hear_all<R: Wait, G: Gate>(&mut self, rt: &R, shared: &Shared<G>, book: &mut Book) -> Turn {
+        let mut turn = Turn::new();
+        if self.is_marked {
+            for number in 0..self.routes.len() {
+                turn.note(self.fetch(rt, shared, book, number));
+                turn.note(self.arrive(shared, book, number));
+            }
+            self.is_marked = self.routes.iter().any(|route| route.is_marked);
+        }
+        turn
+    }
+
+    // Does one thing of each kind that can be done now.
     fn turn_in<R: Wait, G: Gate>(
         &mut self,
         rt: &R,
@@ -385,21 +430,38 @@ impl Worker {
         turn.note(self.learn(shared, book));
         self.take_marks(shared, desk);
         turn.add(self.flush_all(rt, shared, book));
-        for number in 0..self.routes.len() {
-            turn.note(self.fetch(rt, shared, book, number));
-            turn.note(self.arrive(shared, book, number));
-        }
+        turn.add(self.hear_all(rt, shared, book));
         turn.note(self.local(shared, book));
         turn.note(self.sweep(shared, book));
         turn.add(self.flush_all(rt, shared, book));
-        self.forget_one(book);
-        if !turn.is_done {
+        if turn.is_done {
+            self.forget_one(book);
+        } else {
             turn.note(self.ask_for_room(desk));
         }
         turn
     }
 
-    // Takes turns as long as something is done in them, 16 at most.
+    // Takes a turn. If something is done in it, wakes the thread of the node that was noted before it: that
+    // waits no longer than one turn.
+    fn one_turn<R: Wait, G: Gate>(
+        &mut self,
+        rt: &R,
+        shared: &Shared<G>,
+        desk: &Desk,
+        book: &mut Book,
+    ) -> Turn {
+        let before = self.owed.take();
+        let turn = self.turn_in(rt, shared, desk, book);
+        if turn.is_done {
+            shared.wake(before);
+        } else {
+            self.owe(shared, before);
+        }
+        turn
+    }
+
+    // Takes turns up to the first in which nothing is done, 16 at most.
     fn turns_in<R: Wait, G: Gate>(
         &mut self,
         rt: &R,
@@ -409,8 +471,8 @@ impl Worker {
     ) -> Turn {
         let mut all = Turn::new();
         for _ in 0..TURNS {
-            let turn = self.turn_in(rt, shared, desk, book);
-            all.add(turn);
+            let turn = self.one_turn(rt, shared, desk, book);
+            all.follow(turn);
             if !turn.is_done {
                 break;
             }
@@ -418,8 +480,8 @@ impl Worker {
         all
     }
 
-    // Takes turns under the node's lock.
-    fn turn<R: Wait, G: Gate>(&mut self, rt: &R, shared: &Shared<G>, desk: &Desk) -> Turn {
+    // Takes turns under the lock of the book.
+    fn turns<R: Wait, G: Gate>(&mut self, rt: &R, shared: &Shared<G>, desk: &Desk) -> Turn {
         let mut guard = desk.lock.lock(rt);
         let turn = match &mut *guard {
             Some(book) => self.turns_in(rt, shared, desk, book),
@@ -427,12 +489,29 @@ impl Worker {
         };
         drop(guard);
         if turn.shortages > 0 {
-            // nobody else changes it
+            // Only who holds the worker's lock changes it.
             let before = desk.shortages.load(Ordering::SeqCst);
             let count = before.saturating_add(turn.shortages);
             desk.shortages.store(count, Ordering::SeqCst);
         }
         turn
+    }
+
+    /// Takes turns for its node up to the first in which nothing is done, 16 at most. Counts the rings that
+    /// it has read before as idle, if nothing is left to do. Returns the outcome, and the place of a node
+    /// that has something to do now, and whose thread rests.
+    pub(crate) fn serve<R: Wait, G: Gate>(
+        &mut self,
+        rt: &R,
+        shared: &Shared<G>,
+        desk: &Desk,
+    ) -> (Turn, Option<usize>) {
+        let rings = desk.rings.load(Ordering::SeqCst);
+        let turn = self.turns(rt, shared, desk);
+        if turn.is_idle() {
+            desk.idle.store(rings, Ordering::SeqCst);
+        }
+        (turn, self.owed.take())
     }
 }
 
@@ -449,45 +528,5 @@ fn has_parcel(book: &Book, at: usize) -> bool {
     match book.outlets().get(at) {
         Some(outlet) => outlet.port().first().is_some(),
         None => false,
-    }
-}
-
-// Sets the greatest length of the pieces that a book puts on its wires.
-fn set_piece(book: &mut Book, asked: usize) {
-    if asked == 0 || asked > LONGEST {
-        book.set_piece(LONGEST);
-    } else {
-        book.set_piece(asked);
-    }
-}
-
-// The same for the book of a desk.
-fn set_piece_at<R: Wait, G: Gate>(rt: &R, shared: &Shared<G>, desk: &Desk) {
-    let asked = shared.gate.greatest_piece();
-    let mut guard = desk.lock.lock(rt);
-    if let Some(book) = &mut *guard {
-        set_piece(book, asked);
-    }
-    drop(guard);
-}
-
-/// Runs the thread of a node, until the cluster is over.
-pub(crate) fn work<R: Wait, G: Gate>(rt: &R, shared: &Shared<G>, mut worker: Worker) {
-    let Some(desk) = shared.desks.get(worker.node) else {
-        return;
-    };
-    set_piece_at(rt, shared, desk);
-    for _ in rt.forever() {
-        // Read first: whoever ends the cluster sets its flag, and wakes the thread then.
-        let rings = desk.rings.load(Ordering::SeqCst);
-        if shared.is_over.load(Ordering::SeqCst) {
-            break;
-        }
-        let turn = worker.turn(rt, shared, desk);
-        if turn.shortages > 0 {
-            thread::yield_now();
-        } else if !turn.is_done {
-            desk.rest(rt, rings);
-        }
     }
 }

@@ -1,7 +1,6 @@
 use denote.Param.Send.{sendable}
 use Rattle.cluster_run.proofs.ThreadSafe.{arc_send, bell_send}
-use Rattle.cluster_run.proofs.worker.Worker.TheSendSync as worker
 use Rattle.cluster_run.proofs.cluster.start.Goals as goal
 
 pub spawn-thread-requires-send-F : goal.spawn-thread-requires-send-F
-spawn-thread-requires-send-F g c κs within = search (arc_send, bell_send, worker.the_send, sendable) depth 60 fits 20000
+spawn-thread-requires-send-F g c κs within = search (arc_send, bell_send, sendable) depth 60 fits 20000
