@@ -7,6 +7,8 @@
 //! under each allocation that is refused. `world_tests ending` has a process with 1,000 links end, and
 //! compares the world with a copy after each refused event. `world_tests walk SEED NODES EVENTS` has so many
 //! events happen at random, and `world_tests measure` says how often some happen in a second.
+//! `world_tests reconnect ROUNDS` has two nodes connect and lose their connection so many times, and says
+//! how long each tenth of that takes.
 #![tactic(auto)]
 
 mod answers;
@@ -21,14 +23,15 @@ mod walking;
 
 use anyhow::{Context, Result};
 use ending::tell_ending;
-use measuring::measure;
+use measuring::{measure, reconnect};
 use stage::tell_all;
 use std::env;
 use std::process::ExitCode;
 use stories::{ALL, LONG};
 use walking::walk_at_random;
 
-const USAGE: &str = "usage: world_tests [rows | ending | measure | walk SEED NODES EVENTS]";
+const USAGE: &str =
+    "usage: world_tests [rows | ending | measure | reconnect ROUNDS | walk SEED NODES EVENTS]";
 
 fn number(rt: &HostRuntime, place: usize) -> Result<u64> {
     let word = env::args(rt)?.nth(place).context(USAGE)?;
@@ -49,6 +52,10 @@ fn run(rt: &HostRuntime) -> Result<bool> {
         "ending" => tell_ending(rt),
         "measure" => {
             measure(rt)?;
+            Ok(true)
+        }
+        "reconnect" => {
+            reconnect(rt, number(rt, 2)?)?;
             Ok(true)
         }
         "walk" => walk_at_random(rt, number(rt, 2)?, number(rt, 3)? as usize, number(rt, 4)?),

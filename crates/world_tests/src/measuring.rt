@@ -1,8 +1,8 @@
-//! How often a world does in a second what callers ask for most.
+//! The rate of the commonest events of a world, and the time of rounds of dial and cut.
 use crate::events::world;
 use crate::stage::act;
 use crate::stories::{A1, P, Q};
-use crate::told::{Process, Reason, Step};
+use crate::told::{Process, Reason, Step, Trunk};
 use anyhow::Result;
 use erl_term::Refusal;
 use std::alloc::Global;
@@ -224,4 +224,43 @@ pub fn measure(rt: &HostRuntime) -> Result<()> {
         measure_subject(rt, subject, 1)?;
     }
     Ok(())
+}
+
+// The first node dials the second, they connect, and both lose the connection.
+fn reconnect_once(alloc: Global, world: &mut World, count: u64) -> Result<(), Refusal> {
+    let trunk = Trunk { dialer: 0, count };
+    act(alloc, world, Step::Dial(0, 1))?;
+    for place in [1, 0, 0, 1, 0] {
+        act(alloc, world, Step::Come(place, trunk))?;
+    }
+    for place in [0, 1] {
+        act(alloc, world, Step::Lose(place, trunk))?;
+    }
+    for place in [0, 1] {
+        act(alloc, world, Step::Sweep(place))?;
+    }
+    Ok(())
+}
+
+fn reconnect_in(rt: &HostRuntime, world: &mut World, rounds: u64) -> Result<()> {
+    let part = rounds.checked_div(10).unwrap_or(0);
+    for tenth in 0..10u64 {
+        let start = Instant::now(rt)?;
+        let before = part.saturating_mul(tenth);
+        for number in 0..part {
+            let count = before.saturating_add(number).saturating_add(1);
+            reconnect_once(rt.alloc(), world, count)?;
+        }
+        let elapsed = start.elapsed(rt)?.as_millis();
+        println!(rt; "  after {before} rounds: {part} rounds in {elapsed} ms")?;
+    }
+    Ok(())
+}
+
+/// Prints how long each tenth of `rounds` rounds of dial and cut takes, in one world of two nodes.
+pub fn reconnect(rt: &HostRuntime, rounds: u64) -> Result<()> {
+    let mut world = world(rt.alloc(), &["c", "c"])?;
+    let measured = reconnect_in(rt, &mut world, rounds);
+    drop(world);
+    measured
 }
