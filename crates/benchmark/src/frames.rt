@@ -29,10 +29,10 @@ pub fn measure(rt: &HostRuntime) -> Result<()> {
 /// Writes and reads the frame of the signal so many times.
 fn measure_signal(rt: &HostRuntime, name: &str, signal: &Signal) -> Result<()> {
     let alloc = rt.alloc();
-    let bytes = frame(alloc, signal)?;
+    let bytes = frame(alloc, signal, false)?;
     let start = Instant::now(rt)?;
     for _ in 0..ROUNDS {
-        black_box(frame(alloc, signal)?);
+        black_box(frame(alloc, signal, false)?);
     }
     let framing = Rate {
         name: "frame",

@@ -31,6 +31,9 @@ const NAMES: &[(&str, &str)] = &[
     ("MONITOR_P", "6804 6113"),
     ("DEMONITOR_P", "6804 6114"),
     ("MONITOR_P_EXIT", "6805 6115"),
+    ("PAYLOAD_EXIT", "6803 6118"),
+    ("PAYLOAD_EXIT2", "6803 611A"),
+    ("PAYLOAD_MONITOR_P_EXIT", "6804 611C"),
     ("UNLINK_ID", "6804 6123"),
     ("UNLINK_ID_ACK", "6804 6124"),
 ];

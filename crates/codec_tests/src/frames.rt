@@ -9,7 +9,7 @@ use erl_term::{Payload, Pid, Reference, Term, TermError, decode, pid_at};
 use std::alloc::{AllocError, Global};
 use std::test::*;
 
-/// What a signal says: its name, the nodes of its processes, and what else it has.
+/// The name of a signal, the nodes of its processes, its other fields, and the place of its reason.
 #[derive(Clone, Copy, PartialEq, Eq)]
 struct Told<'a> {
     name: &'a str,
@@ -20,6 +20,8 @@ struct Told<'a> {
     reference: (&'a str, &'a [u32]),
     /// The text of an atom that is carried.
     payload: &'a str,
+    /// True if its frame has the reason behind the control term.
+    behind: bool,
 }
 
 const A_TO_B: Told<'static> = Told {
@@ -29,6 +31,7 @@ const A_TO_B: Told<'static> = Told {
     to: "b@h",
     reference: ("", &[]),
     payload: "",
+    behind: false,
 };
 
 const B_TO_A: Told<'static> = Told {
@@ -38,6 +41,7 @@ const B_TO_A: Told<'static> = Told {
     to: "a@h",
     reference: ("", &[]),
     payload: "",
+    behind: false,
 };
 
 const LINKED: Told<'static> = Told {
@@ -68,11 +72,29 @@ const TRAVELLING: &[(Told<'static>, &str)] = &[
     ),
     (
         Told {
+            name: "EXIT",
+            payload: "noproc",
+            behind: true,
+            ..B_TO_A
+        },
+        "00000033 70 83 PAYLOAD_EXIT B A 83 77066E6F70726F63",
+    ),
+    (
+        Told {
             name: "EXIT2",
             payload: "boom",
             ..A_TO_B
         },
         "00000030 70 83 EXIT2 A B 7704626F6F6D",
+    ),
+    (
+        Told {
+            name: "EXIT2",
+            payload: "boom",
+            behind: true,
+            ..A_TO_B
+        },
+        "00000031 70 83 PAYLOAD_EXIT2 A B 83 7704626F6F6D",
     ),
     (
         Told {
@@ -98,6 +120,31 @@ const TRAVELLING: &[(Told<'static>, &str)] = &[
             ..B_TO_A
         },
         "0000004A 70 83 MONITOR_P_EXIT B A REFERENCE 77066E6F726D616C",
+    ),
+    (
+        Told {
+            name: "MONITOR_P_EXIT",
+            reference: FIRST_OF_A,
+            payload: "normal",
+            behind: true,
+            ..B_TO_A
+        },
+        "0000004B 70 83 PAYLOAD_MONITOR_P_EXIT B A REFERENCE 83 77066E6F726D616C",
+    ),
+    // A signal without a reason has one spelling.
+    (
+        Told {
+            behind: true,
+            ..LINKED
+        },
+        "0000002A 70 83 LINK A B",
+    ),
+    (
+        Told {
+            behind: true,
+            ..HI_SENT
+        },
+        "0000001F 70 83 SEND 7700 B HI",
     ),
     (
         Told {
@@ -173,6 +220,29 @@ const REFUSED: &[(&str, FrameError)] = &[
         FrameError::BadControl,
     ),
     ("MONITOR_P_EXIT A B ONE ATOM", FrameError::BadControl),
+    ("PAYLOAD_EXIT ATOM B 83 ATOM", FrameError::BadControl),
+    ("PAYLOAD_EXIT A ONE 83 ATOM", FrameError::BadControl),
+    ("PAYLOAD_EXIT2 ONE B 83 ATOM", FrameError::BadControl),
+    ("PAYLOAD_EXIT2 A ATOM 83 ATOM", FrameError::BadControl),
+    (
+        "PAYLOAD_MONITOR_P_EXIT REFERENCE B REFERENCE 83 ATOM",
+        FrameError::BadControl,
+    ),
+    (
+        "PAYLOAD_MONITOR_P_EXIT A ONE REFERENCE 83 ATOM",
+        FrameError::BadControl,
+    ),
+    (
+        "PAYLOAD_MONITOR_P_EXIT A B ONE 83 ATOM",
+        FrameError::BadControl,
+    ),
+    // The elements of one spelling under the tag of the other.
+    ("6804 6118 A B ATOM", FrameError::BadControl),
+    ("6804 611A A B ATOM", FrameError::BadControl),
+    ("6805 611C A B REFERENCE ATOM", FrameError::BadControl),
+    ("6803 6103 A B 83 ATOM", FrameError::BadControl),
+    ("6803 6108 A B 83 ATOM", FrameError::BadControl),
+    ("6804 6115 A B REFERENCE 83 ATOM", FrameError::BadControl),
     // A list with an element stands for no pid.
     ("LINK 6C00000001 A 6A B", FrameError::BadControl),
     // Another tag, and none.
@@ -210,6 +280,38 @@ const REFUSED: &[(&str, FrameError)] = &[
         FrameError::Term(TermError::TooDeep),
     ),
     ("SEND ATOM B 83 6A 00", FrameError::BadControl),
+    // A reason behind the control term that doesn't read, or isn't there.
+    ("PAYLOAD_EXIT A B", FrameError::Term(TermError::Cut)),
+    ("PAYLOAD_EXIT2 A B 83", FrameError::Term(TermError::Cut)),
+    (
+        "PAYLOAD_MONITOR_P_EXIT A B REFERENCE 83 7702 68",
+        FrameError::Term(TermError::Cut),
+    ),
+    (
+        "PAYLOAD_EXIT A B ATOM",
+        FrameError::Term(TermError::Malformed),
+    ),
+    (
+        "PAYLOAD_EXIT2 A B 83 46",
+        FrameError::Term(TermError::OutOfProfile(70)),
+    ),
+    (
+        "PAYLOAD_EXIT A B 83 64*6801 6800",
+        FrameError::Term(TermError::TooDeep),
+    ),
+    // The control term comes first, and a row before its reason.
+    (
+        "6803 6118 A 46 83 46",
+        FrameError::Term(TermError::OutOfProfile(70)),
+    ),
+    ("PAYLOAD_EXIT A ATOM 83 46", FrameError::BadControl),
+    // A reason behind a spelling that has one.
+    ("EXIT A B ATOM 83 ATOM", FrameError::BadControl),
+    ("EXIT2 A B ATOM 83 ATOM", FrameError::BadControl),
+    (
+        "MONITOR_P_EXIT A B REFERENCE ATOM 83 ATOM",
+        FrameError::BadControl,
+    ),
     // A reason of 61 levels, and a byte left over, which comes first.
     ("EXIT B A 60*6801 6800", FrameError::TooLong),
     (
@@ -217,6 +319,16 @@ const REFUSED: &[(&str, FrameError)] = &[
         FrameError::TooLong,
     ),
     ("EXIT B A 60*6801 6800 00", FrameError::BadControl),
+    ("PAYLOAD_EXIT B A 83 60*6801 6800", FrameError::TooLong),
+    ("PAYLOAD_EXIT2 B A 83 60*6801 6800", FrameError::TooLong),
+    (
+        "PAYLOAD_MONITOR_P_EXIT B A REFERENCE 83 60*6801 6800",
+        FrameError::TooLong,
+    ),
+    (
+        "PAYLOAD_EXIT B A 83 60*6801 6800 00",
+        FrameError::BadControl,
+    ),
 ];
 
 /// What stands at the front of bytes.
@@ -345,6 +457,7 @@ fn between<'a>(name: &'a str, from: &'a Pid, to: &'a Pid) -> Told<'a> {
         to: to.node.text(),
         reference: ("", &[]),
         payload: "",
+        behind: false,
     }
 }
 
@@ -412,11 +525,11 @@ fn said(signal: &Signal) -> Told<'_> {
     }
 }
 
-/// Whether these bytes are the frame of the signal, by itself and behind another byte.
-fn is_written(alloc: Global, signal: &Signal, wanted: &[u8]) -> Result<bool, Fail> {
+/// Returns true if these bytes are the frame of the signal, by itself and behind another byte.
+fn is_written(alloc: Global, signal: &Signal, payload: bool, wanted: &[u8]) -> Result<bool, Fail> {
     let mut written = vec![in alloc; 9]?;
-    put_frame(&mut written, signal.parts())?;
-    let alone = frame(alloc, signal)?;
+    put_frame(&mut written, signal.parts(), payload)?;
+    let alone = frame(alloc, signal, payload)?;
     Ok(alone.as_slice() == wanted && written.strip_prefix(&[9]) == Some(wanted))
 }
 
@@ -427,10 +540,16 @@ fn front_of_signal(
     bytes: &[u8],
     wanted: &Told<'_>,
 ) -> Result<Front, Fail> {
-    if said(signal) != *wanted {
+    let behind = wanted.behind;
+    if *wanted
+        != (Told {
+            behind,
+            ..said(signal)
+        })
+    {
         return Ok(Front::Other);
     }
-    if is_written(alloc, signal, bytes)? {
+    if is_written(alloc, signal, behind, bytes)? {
         Ok(Front::Frame(bytes.len()))
     } else {
         Ok(Front::Spelling(bytes.len()))
@@ -608,9 +727,14 @@ fn signal_of(alloc: Global, sent: Sent) -> Result<Signal, Fail> {
 /// Why the signal can't be sent, where it can't.
 fn refusal_of(alloc: Global, sent: Sent) -> Result<Option<FrameError>, Fail> {
     let signal = signal_of(alloc, sent)?;
-    let refused = frame(alloc, &signal).err();
+    let refused = frame(alloc, &signal, false).err();
+    let with_payload = frame(alloc, &signal, true).err();
     drop(signal);
-    Ok(refused)
+    if refused == with_payload {
+        Ok(refused)
+    } else {
+        Err("the spellings are refused otherwise".into())
+    }
 }
 
 fn is_fit(alloc: Global, carried: Carried) -> Result<bool, Fail> {

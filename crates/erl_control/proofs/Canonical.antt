@@ -18,7 +18,7 @@ use Rattle.erl_term.specs.Canonical.{canonical_reference, canonical_items, level
 use Rattle.erl_control.specs.declared.signal.Signal.{Signal}
 use Rattle.erl_control.specs.declared.signal.Signal.TheVariants.{Link, Send, Exit, Exit2, Monitor, Demonitor}
 use Rattle.erl_control.specs.declared.signal.Signal.TheVariants.{MonitorExit, UnlinkId, UnlinkIdAck}
-use Rattle.erl_control.specs.Control.{row, control_term, message_of, Carries, Fits, IsFit, IsSendable}
+use Rattle.erl_control.specs.Control.{row, control_in, message_in, Carries, Fits, IsFit, IsSendable}
 use Rattle.erl_control.specs.Frame.{limit, SpellsMessage, IsSignalFrame}
 use Rattle.erl_control.specs.Canonical.{canonical_control, canonical_message, canonical_text, canonical_frame}
 
@@ -33,14 +33,14 @@ empty_atom_len : length (canonical_atom []) ≡ 2
 unfolding canonical_atom
 empty_atom_len = refl
 
-pub send_len : (to : Pid) (m : Data) → length (canonical_text (Send to m))
+pub send_len : (to : Pid) (m : Data) (payload : Bool) → length (canonical_text (Send to m) payload)
     ≡ length (131 ∷ (canonical_head 3 ++ canonical_int (pos 2))) + 2 + length (canonical_pid to) + 1 + length (canonical_term m)
-send_len to m =
+send_len to m payload =
     let pids : List ℕ = canonical_pid to ++ [] in
     let a = empty_atom_len in
     omega (
       arith,
-      length-append (canonical_control (Send to m)) (canonical m),
+      length-append (canonical_control (Send to m) payload) (canonical m),
       length-append (canonical_head 3) (canonical_int (pos 2) ++ (canonical_atom [] ++ pids)),
       length-append (canonical_int (pos 2)) (canonical_atom [] ++ pids),
       length-append (canonical_atom []) pids,
@@ -51,8 +51,8 @@ send_len to m =
 two_fits : FitsSigned w128 (pos 2)
 two_fits = search (rules, ints)
 
-pub send_in_range : (to : Pid) (m : Data) → IsPidInRange to → IsInRange (control_term (atom []) (Send to m))
-send_in_range to m h = (omega arith, (two_fits, (empty_atom, (h, tt))))
+pub send_in_range : (to : Pid) (m : Data) (payload : Bool) → IsPidInRange to → IsInRange (control_in (atom []) (Send to m) payload)
+send_in_range to m payload h = (omega arith, (two_fits, (empty_atom, (h, tt))))
 
 -- ---- lengths
 
@@ -114,56 +114,83 @@ module _ (ints : ShortIntegers) (pids : ShortPids) (references : ShortReferences
       row_short tag 2091 (item (int (pos id)) (item (pid p) (item (pid q) no_items))) ints
       (one_more 19 2072 (int (pos id)) (item (pid p) (item (pid q) no_items)) (ints (pos id)) (two_pids 0 p q no_items h k (omega arith)))
 
+  payload_exit_short : (tag : ℕ) (p q : Pid) → IsPidInRange p → IsPidInRange q
+      → length (canonical (row tag (pid p ∷ pid q ∷ []))) ≤ 2097
+  payload_exit_short tag p q h k =
+      row_short tag 2072 (item (pid p) (item (pid q) no_items)) ints (two_pids 0 p q no_items h k (omega arith))
+
   -- the control term of a signal that carries what fits, and its message
-  text_short : (s : Signal) → Carries Fits s → IsInRange (control_term (atom []) s) → length (canonical_text s) < limit
-  text_short (Link p q) f h =
+  text_short : (s : Signal) (payload : Bool) → Carries Fits s → IsInRange (control_in (atom []) s payload)
+      → length (canonical_text s payload) < limit
+  text_short (Link p q) w f h =
       let a = row_short 1 2072 (item (pid p) (item (pid q) no_items)) ints (two_pids 0 p q no_items h.1.1.0 h.1.1.1.0 (omega arith)) in
-      omega (arith, length-append {A = ℕ} (canonical_control (Link p q)) [])
-  text_short (Send p t) f h =
+      omega (arith, length-append {A = ℕ} (canonical_control (Link p q) w) [])
+  text_short (Send p t) w f h =
       let a = pids p h.1.1.1.0 in
       let b = ints (pos 2) in
       let k = head_short 3 in
       let l = f.2 in
-      let n = send_len p t in
+      let n = send_len p t w in
       omega (arith, length-append (canonical_head 3) (canonical_int (pos 2)))
-  text_short (Exit p q t) f h =
-      let a = exit_short 3 p q t h.1.1.0 h.1.1.1.0 f.2 in omega (arith, length-append {A = ℕ} (canonical_control (Exit p q t)) [])
-  text_short (Exit2 p q t) f h =
-      let a = exit_short 8 p q t h.1.1.0 h.1.1.1.0 f.2 in omega (arith, length-append {A = ℕ} (canonical_control (Exit2 p q t)) [])
-  text_short (Monitor p q r) f h =
+  text_short (Exit p q t) false f h =
+      let a = exit_short 3 p q t h.1.1.0 h.1.1.1.0 f.2 in omega (arith, length-append {A = ℕ} (canonical_control (Exit p q t) false) [])
+  text_short (Exit p q t) true f h =
+      let a = payload_exit_short 24 p q h.1.1.0 h.1.1.1.0 in
+      let l = f.2 in
+      omega (arith, length-append {A = ℕ} (canonical_control (Exit p q t) true) (canonical t))
+  text_short (Exit2 p q t) false f h =
+      let a = exit_short 8 p q t h.1.1.0 h.1.1.1.0 f.2 in omega (arith, length-append {A = ℕ} (canonical_control (Exit2 p q t) false) [])
+  text_short (Exit2 p q t) true f h =
+      let a = payload_exit_short 26 p q h.1.1.0 h.1.1.1.0 in
+      let l = f.2 in
+      omega (arith, length-append {A = ℕ} (canonical_control (Exit2 p q t) true) (canonical t))
+  text_short (Monitor p q r) w f h =
       let a = monitor_short 19 p q r h.1.1.0 h.1.1.1.0 h.1.1.1.1.0 in
-      omega (arith, length-append {A = ℕ} (canonical_control (Monitor p q r)) [])
-  text_short (Demonitor p q r) f h =
+      omega (arith, length-append {A = ℕ} (canonical_control (Monitor p q r) w) [])
+  text_short (Demonitor p q r) w f h =
       let a = monitor_short 20 p q r h.1.1.0 h.1.1.1.0 h.1.1.1.1.0 in
-      omega (arith, length-append {A = ℕ} (canonical_control (Demonitor p q r)) [])
-  text_short (MonitorExit p q r t) f h =
+      omega (arith, length-append {A = ℕ} (canonical_control (Demonitor p q r) w) [])
+  text_short (MonitorExit p q r t) false f h =
       let g = f.2 in
       let last = one_more 60000 0 t no_items (omega arith) (omega arith) in
       let ts =
       two_pids 61050 p q (item (reference r) (item t no_items)) h.1.1.0 h.1.1.1.0
       (one_more 1050 60000 (reference r) (item t no_items) (references r h.1.1.1.1.0) last) in
       let a = row_short 21 63122 (item (pid p) (item (pid q) (item (reference r) (item t no_items)))) ints ts in
-      omega (arith, length-append {A = ℕ} (canonical_control (MonitorExit p q r t)) [])
-  text_short (UnlinkId id p q) f h =
-      let a = unlink_short 35 id p q h.1.1.1.0 h.1.1.1.1.0 in omega (arith, length-append {A = ℕ} (canonical_control (UnlinkId id p q)) [])
-  text_short (UnlinkIdAck id p q) f h =
+      omega (arith, length-append {A = ℕ} (canonical_control (MonitorExit p q r t) false) [])
+  text_short (MonitorExit p q r t) true f h =
+      let a = monitor_short 28 p q r h.1.1.0 h.1.1.1.0 h.1.1.1.1.0 in
+      let l = f.2 in
+      omega (arith, length-append {A = ℕ} (canonical_control (MonitorExit p q r t) true) (canonical t))
+  text_short (UnlinkId id p q) w f h =
+      let a = unlink_short 35 id p q h.1.1.1.0 h.1.1.1.1.0 in omega (arith, length-append {A = ℕ} (canonical_control (UnlinkId id p q) w) [])
+  text_short (UnlinkIdAck id p q) w f h =
       let a = unlink_short 36 id p q h.1.1.1.0 h.1.1.1.1.0 in
-      omega (arith, length-append {A = ℕ} (canonical_control (UnlinkIdAck id p q)) [])
+      omega (arith, length-append {A = ℕ} (canonical_control (UnlinkIdAck id p q) w) [])
 
 -- ---- frames
 
 abbrev pub CanonicalSpells : Type 0
 CanonicalSpells = (t : Data) (levels : ℕ) → IsInRange t → (IsSpelling levels t (canonical t) ↔ (levels_of t ≤ levels))
 
-few_levels : (s : Signal) → Carries Fits s → levels_of (control_term (atom []) s) ≤ 64
-few_levels (Exit p q t) f = let l = f.1 in omega arith
-few_levels (Exit2 p q t) f = let l = f.1 in omega arith
-few_levels (MonitorExit p q r t) f = let l = f.1 in omega arith
-few_levels _ f = omega arith
+few_levels : (s : Signal) (payload : Bool) → Carries Fits s → levels_of (control_in (atom []) s payload) ≤ 64
+few_levels (Exit p q t) false f = let l = f.1 in omega arith
+few_levels (Exit p q t) true f = omega arith
+few_levels (Exit2 p q t) false f = let l = f.1 in omega arith
+few_levels (Exit2 p q t) true f = omega arith
+few_levels (MonitorExit p q r t) false f = let l = f.1 in omega arith
+few_levels (MonitorExit p q r t) true f = omega arith
+few_levels _ w f = omega arith
 
-told : CanonicalSpells → (s : Signal) → Carries Fits s → SpellsMessage (message_of s) (canonical_message (message_of s))
-told spells (Send p t) f = (spells t 64 f.0).1 (let l = f.1 in omega arith)
-told spells s f = refl
+told : CanonicalSpells → (s : Signal) (payload : Bool) → Carries Fits s → SpellsMessage (message_in s payload) (canonical_message (message_in s payload))
+told spells (Send p t) w f = (spells t 64 f.0).1 (let l = f.1 in omega arith)
+told spells (Exit p q t) true f = (spells t 64 f.0).1 (let l = f.1 in omega arith)
+told spells (Exit2 p q t) true f = (spells t 64 f.0).1 (let l = f.1 in omega arith)
+told spells (MonitorExit p q r t) true f = (spells t 64 f.0).1 (let l = f.1 in omega arith)
+told spells (Exit p q t) false f = refl
+told spells (Exit2 p q t) false f = refl
+told spells (MonitorExit p q r t) false f = refl
+told spells s w f = refl
 
 fit_of : (s : Signal) → Carries Fits s → Carries IsFit s
 fit_of (Send p t) f = (f.1, f.2)
@@ -172,24 +199,25 @@ fit_of (Exit2 p q t) f = (f.1, f.2)
 fit_of (MonitorExit p q r t) f = (f.1, f.2)
 fit_of s f = tt
 
-pub canonical_framed : CanonicalSpells → ShortIntegers → ShortPids → ShortReferences → (s : Signal) → IsSendable s
-    → IsInRange (control_term (atom []) s) → IsSignalFrame s (canonical_frame s)
-canonical_framed spells ints pids references s u h =
-    let k = text_short ints pids references s u.1 h in
+pub canonical_framed : CanonicalSpells → ShortIntegers → ShortPids → ShortReferences → (s : Signal) (payload : Bool) → IsSendable s
+    → IsInRange (control_in (atom []) s payload) → IsSignalFrame s (canonical_frame s payload)
+canonical_framed spells ints pids references s payload u h =
+    let k = text_short ints pids references s payload u.1 h in
     record {
-      len = big_bytes 4 (suc (length (canonical_text s)));
-      text = canonical_text s;
+      len = big_bytes 4 (suc (length (canonical_text s payload)));
+      text = canonical_text s payload;
       is_text = record {
+        payload = payload;
         unused = atom [];
-        control = canonical_control s;
-        message = canonical_message (message_of s);
+        control = canonical_control s payload;
+        message = canonical_message (message_in s payload);
         has_id = u.0;
-        spelled = (spells (control_term (atom []) s) 64 h).1 (few_levels s u.1);
-        told = told spells s u.1;
+        spelled = (spells (control_in (atom []) s payload) 64 h).1 (few_levels s payload u.1);
+        told = told spells s payload u.1;
         bytes = refl;
       };
       fit = fit_of s u.1;
-      number = four_bytes (suc (length (canonical_text s))) (omega arith);
+      number = four_bytes (suc (length (canonical_text s payload))) (omega arith);
       short = omega arith;
       bytes = refl;
     }

@@ -1,5 +1,5 @@
 -- The text of a signal, part by part.
-use Rattle.std.proofs.Common.{◌≡◌, ℕ, suc, ◌^◌, ◌<◌, List, [], ◌∷◌, ◌++◌, refl, sym, ap, subst, ◌∙◌, append_assoc, arith}
+use Rattle.std.proofs.Common.{◌≡◌, ℕ, suc, Bool, true, false, ◌^◌, ◌<◌, List, [], ◌∷◌, ◌++◌, refl, sym, ap, subst, ◌∙◌, append_assoc, arith}
 use Rattle.std.proofs.lemmas.List.{append-nil}
 use Rattle.std.specs.Prelude.{pos}
 use Rattle.erl_term.specs.declared.term.Pid.{Pid}
@@ -10,10 +10,11 @@ use Rattle.erl_term.proofs.Behind.{head_of, tuple_opened, tuple_closed}
 use Rattle.erl_control.specs.declared.signal.Signal.{Signal}
 use Rattle.erl_control.specs.declared.signal.Signal.TheVariants.{Link, Send, Exit, Exit2, Monitor, Demonitor}
 use Rattle.erl_control.specs.declared.signal.Signal.TheVariants.{MonitorExit, UnlinkId, UnlinkIdAck}
-use Rattle.erl_control.specs.Control.{control_term, message_of, IsUnlinkId, HasId}
+use Rattle.std.specs.Prelude.{is_some}
+use Rattle.erl_control.specs.Control.{control_in, message_in, IsUnlinkId, HasId}
 use Rattle.erl_control.specs.Frame.{SpellsMessage, IsSignalText}
 use Rattle.erl_control.specs.Reading.{IsRowHead, ArePids, AreIdAndPids, ArePidsAndReason, ArePidsAndReference}
-use Rattle.erl_control.specs.Reading.{AreMonitorExit, AreSend, IsSendText, tag_of, arity_of, AreFields}
+use Rattle.erl_control.specs.Reading.{AreMonitorExit, AreSend, AreBefore, IsFollowedText, tag_of, arity_of, AreFields}
 
 -- ---- fields in a row
 
@@ -76,32 +77,53 @@ pids_to levels p q ts b front back s r e =
 
 -- ---- the fields of a row, and its message
 
-abbrev fields_of : Data → Signal → Items
-fields_of unused (Link p q) = item (pid p) (item (pid q) no_items)
-fields_of unused (Send p t) = item unused (item (pid p) no_items)
-fields_of unused (Exit p q t) = item (pid p) (item (pid q) (item t no_items))
-fields_of unused (Exit2 p q t) = item (pid p) (item (pid q) (item t no_items))
-fields_of unused (Monitor p q r) = item (pid p) (item (pid q) (item (reference r) no_items))
-fields_of unused (Demonitor p q r) = item (pid p) (item (pid q) (item (reference r) no_items))
-fields_of unused (MonitorExit p q r t) = item (pid p) (item (pid q) (item (reference r) (item t no_items)))
-fields_of unused (UnlinkId id p q) = item (int (pos id)) (item (pid p) (item (pid q) no_items))
-fields_of unused (UnlinkIdAck id p q) = item (int (pos id)) (item (pid p) (item (pid q) no_items))
+abbrev pub fields_of : Data → Signal → Bool → Items
+fields_of unused (Link p q) payload = item (pid p) (item (pid q) no_items)
+fields_of unused (Send p t) payload = item unused (item (pid p) no_items)
+fields_of unused (Exit p q t) false = item (pid p) (item (pid q) (item t no_items))
+fields_of unused (Exit p q t) true = item (pid p) (item (pid q) no_items)
+fields_of unused (Exit2 p q t) false = item (pid p) (item (pid q) (item t no_items))
+fields_of unused (Exit2 p q t) true = item (pid p) (item (pid q) no_items)
+fields_of unused (Monitor p q r) payload = item (pid p) (item (pid q) (item (reference r) no_items))
+fields_of unused (Demonitor p q r) payload = item (pid p) (item (pid q) (item (reference r) no_items))
+fields_of unused (MonitorExit p q r t) false = item (pid p) (item (pid q) (item (reference r) (item t no_items)))
+fields_of unused (MonitorExit p q r t) true = item (pid p) (item (pid q) (item (reference r) no_items))
+fields_of unused (UnlinkId id p q) payload = item (int (pos id)) (item (pid p) (item (pid q) no_items))
+fields_of unused (UnlinkIdAck id p q) payload = item (int (pos id)) (item (pid p) (item (pid q) no_items))
 
 -- a row is its tag and its fields
-abbrev by_parts : Data → Signal → Data
-by_parts unused s = tuple (item (int (pos (tag_of s))) (fields_of unused s))
+abbrev by_parts : Data → Signal → Bool → Data
+by_parts unused s payload = tuple (item (int (pos (tag_of s payload))) (fields_of unused s payload))
 
-row_parts : (unused : Data) (s : Signal) → control_term unused s ≡ by_parts unused s
-row_parts unused (Link p q) = refl
-row_parts unused _ = refl
+row_parts : (unused : Data) (s : Signal) (payload : Bool) → control_in unused s payload ≡ by_parts unused s payload
+row_parts unused (Link p q) payload = refl
+row_parts unused (Exit p q t) false = refl
+row_parts unused (Exit p q t) true = refl
+row_parts unused (Exit2 p q t) false = refl
+row_parts unused (Exit2 p q t) true = refl
+row_parts unused (MonitorExit p q r t) false = refl
+row_parts unused (MonitorExit p q r t) true = refl
+row_parts unused _ payload = refl
 
-row_arity : (unused : Data) (s : Signal) → suc (count (fields_of unused s)) ≡ arity_of s
-row_arity unused (Link p q) = refl
-row_arity unused _ = refl
+row_arity : (unused : Data) (s : Signal) (payload : Bool) → suc (count (fields_of unused s payload)) ≡ arity_of s payload
+row_arity unused (Link p q) payload = refl
+row_arity unused (Exit p q t) false = refl
+row_arity unused (Exit p q t) true = refl
+row_arity unused (Exit2 p q t) false = refl
+row_arity unused (Exit2 p q t) true = refl
+row_arity unused (MonitorExit p q r t) false = refl
+row_arity unused (MonitorExit p q r t) true = refl
+row_arity unused _ payload = refl
 
-row_tag : (s : Signal) → tag_of s < 2 ^ 64
-row_tag (Link p q) = omega arith
-row_tag _ = omega arith
+row_tag : (s : Signal) (payload : Bool) → tag_of s payload < 2 ^ 64
+row_tag (Link p q) payload = omega arith
+row_tag (Exit p q t) false = omega arith
+row_tag (Exit p q t) true = omega arith
+row_tag (Exit2 p q t) false = omega arith
+row_tag (Exit2 p q t) true = omega arith
+row_tag (MonitorExit p q r t) false = omega arith
+row_tag (MonitorExit p q r t) true = omega arith
+row_tag _ payload = omega arith
 
 module _ (levels : ℕ) where
   two_pids_from : (p q : Pid) (b : List ℕ) → SpellAll (Spells levels) (item (pid p) (item (pid q) no_items)) b → ArePids levels (p, q) b
@@ -188,33 +210,40 @@ module _ (levels : ℕ) where
   alone : (T : List ℕ → Type 0) (x message : List ℕ) → message ≡ [] → T x → T (x ++ message)
   alone T x message e s = subst T (sym (ap (λ (w : List ℕ). x ++ w) e ∙ append-nil x)) s
 
-  fields_from : (unused : Data) (s : Signal) (x message : List ℕ) → HasId s → SpellAll (Spells levels) (fields_of unused s) x
-      → SpellsMessage (message_of s) message → AreFields levels s (x ++ message)
-  fields_from unused (Link p q) x message h s e = alone (AreFields levels (Link p q)) x message e (two_pids_from p q x s)
-  fields_from unused (Send p t) x message h s e =
+  fields_from : (unused : Data) (s : Signal) (payload : Bool) (x message : List ℕ) → HasId s
+      → SpellAll (Spells levels) (fields_of unused s payload) x
+      → SpellsMessage (message_in s payload) message → AreFields levels s payload (x ++ message)
+  fields_from unused (Link p q) w x message h s e = alone (AreFields levels (Link p q) w) x message e (two_pids_from p q x s)
+  fields_from unused (Send p t) w x message h s e =
       (unused, record { front = x; back = message; is_front = send_from unused p x s; is_back = e; parts = refl })
-  fields_from unused (Exit p q t) x message h s e = alone (AreFields levels (Exit p q t)) x message e (exit_from p q t x s)
-  fields_from unused (Exit2 p q t) x message h s e = alone (AreFields levels (Exit2 p q t)) x message e (exit_from p q t x s)
-  fields_from unused (Monitor p q r) x message h s e = alone (AreFields levels (Monitor p q r)) x message e (monitor_from p q r x s)
-  fields_from unused (Demonitor p q r) x message h s e = alone (AreFields levels (Demonitor p q r)) x message e (monitor_from p q r x s)
-  fields_from unused (MonitorExit p q r t) x message h s e =
-      alone (AreFields levels (MonitorExit p q r t)) x message e (monitor_exit_from p q r t x s)
-  fields_from unused (UnlinkId id p q) x message h s e = alone (AreFields levels (UnlinkId id p q)) x message e (unlink_from id p q x h s)
-  fields_from unused (UnlinkIdAck id p q) x message h s e =
-      alone (AreFields levels (UnlinkIdAck id p q)) x message e (unlink_from id p q x h s)
+  fields_from unused (Exit p q t) false x message h s e = alone (AreFields levels (Exit p q t) false) x message e (exit_from p q t x s)
+  fields_from unused (Exit p q t) true x message h s e =
+      record { front = x; back = message; is_front = two_pids_from p q x s; is_back = e; parts = refl }
+  fields_from unused (Exit2 p q t) false x message h s e = alone (AreFields levels (Exit2 p q t) false) x message e (exit_from p q t x s)
+  fields_from unused (Exit2 p q t) true x message h s e =
+      record { front = x; back = message; is_front = two_pids_from p q x s; is_back = e; parts = refl }
+  fields_from unused (Monitor p q r) w x message h s e = alone (AreFields levels (Monitor p q r) w) x message e (monitor_from p q r x s)
+  fields_from unused (Demonitor p q r) w x message h s e = alone (AreFields levels (Demonitor p q r) w) x message e (monitor_from p q r x s)
+  fields_from unused (MonitorExit p q r t) false x message h s e =
+      alone (AreFields levels (MonitorExit p q r t) false) x message e (monitor_exit_from p q r t x s)
+  fields_from unused (MonitorExit p q r t) true x message h s e =
+      record { front = x; back = message; is_front = monitor_from p q r x s; is_back = e; parts = refl }
+  fields_from unused (UnlinkId id p q) w x message h s e = alone (AreFields levels (UnlinkId id p q) w) x message e (unlink_from id p q x h s)
+  fields_from unused (UnlinkIdAck id p q) w x message h s e =
+      alone (AreFields levels (UnlinkIdAck id p q) w) x message e (unlink_from id p q x h s)
 
-  pub record Fields (s : Signal) (b : List ℕ) : Type 0 where
+  pub record Fields (s : Signal) (payload : Bool) (b : List ℕ) : Type 0 where
     pub unused : Data
     pub elements : List ℕ
     pub message : List ℕ
     pub has_id : HasId s
-    pub spelled : SpellAll (Spells levels) (fields_of unused s) elements
-    pub told : SpellsMessage (message_of s) message
+    pub spelled : SpellAll (Spells levels) (fields_of unused s payload) elements
+    pub told : SpellsMessage (message_in s payload) message
     pub parts : b ≡ elements ++ message
 
-  abbrev lone : (s : Signal) (b : List ℕ) → HasId s → SpellAll (Spells levels) (fields_of (int (pos 0)) s) b
-      → SpellsMessage (message_of s) [] → Fields s b
-  lone s b h all e = record {
+  abbrev lone : (s : Signal) (payload : Bool) (b : List ℕ) → HasId s → SpellAll (Spells levels) (fields_of (int (pos 0)) s payload) b
+      → SpellsMessage (message_in s payload) [] → Fields s payload b
+  lone s payload b h all e = record {
     unused = int (pos 0);
     elements = b;
     message = [];
@@ -224,9 +253,9 @@ module _ (levels : ℕ) where
     parts = sym (append-nil b);
   }
 
-  fields_to : (s : Signal) (b : List ℕ) → AreFields levels s b → Fields s b
-  fields_to (Link p q) b f = lone (Link p q) b tt (two_pids_to p q b f) refl
-  fields_to (Send p t) b f =
+  fields_to : (s : Signal) (payload : Bool) (b : List ℕ) → AreFields levels s payload b → Fields s payload b
+  fields_to (Link p q) w b f = lone (Link p q) w b tt (two_pids_to p q b f) refl
+  fields_to (Send p t) w b f =
       let g = f.1 in
       record {
         unused = f.0;
@@ -237,13 +266,75 @@ module _ (levels : ℕ) where
         told = g.is_back;
         parts = g.parts;
       }
-  fields_to (Exit p q t) b f = lone (Exit p q t) b tt (exit_to p q t b f) refl
-  fields_to (Exit2 p q t) b f = lone (Exit2 p q t) b tt (exit_to p q t b f) refl
-  fields_to (Monitor p q r) b f = lone (Monitor p q r) b tt (monitor_to p q r b f) refl
-  fields_to (Demonitor p q r) b f = lone (Demonitor p q r) b tt (monitor_to p q r b f) refl
-  fields_to (MonitorExit p q r t) b f = lone (MonitorExit p q r t) b tt (monitor_exit_to p q r t b f) refl
-  fields_to (UnlinkId id p q) b f = lone (UnlinkId id p q) b f.is_front.0 (unlink_to id p q b f) refl
-  fields_to (UnlinkIdAck id p q) b f = lone (UnlinkIdAck id p q) b f.is_front.0 (unlink_to id p q b f) refl
+  fields_to (Exit p q t) false b f = lone (Exit p q t) false b tt (exit_to p q t b f) refl
+  fields_to (Exit p q t) true b f = record {
+    unused = int (pos 0);
+    elements = f.front;
+    message = f.back;
+    has_id = tt;
+    spelled = two_pids_to p q f.front f.is_front;
+    told = f.is_back;
+    parts = f.parts;
+  }
+  fields_to (Exit2 p q t) false b f = lone (Exit2 p q t) false b tt (exit_to p q t b f) refl
+  fields_to (Exit2 p q t) true b f = record {
+    unused = int (pos 0);
+    elements = f.front;
+    message = f.back;
+    has_id = tt;
+    spelled = two_pids_to p q f.front f.is_front;
+    told = f.is_back;
+    parts = f.parts;
+  }
+  fields_to (Monitor p q r) w b f = lone (Monitor p q r) w b tt (monitor_to p q r b f) refl
+  fields_to (Demonitor p q r) w b f = lone (Demonitor p q r) w b tt (monitor_to p q r b f) refl
+  fields_to (MonitorExit p q r t) false b f = lone (MonitorExit p q r t) false b tt (monitor_exit_to p q r t b f) refl
+  fields_to (MonitorExit p q r t) true b f = record {
+    unused = int (pos 0);
+    elements = f.front;
+    message = f.back;
+    has_id = tt;
+    spelled = monitor_to p q r f.front f.is_front;
+    told = f.is_back;
+    parts = f.parts;
+  }
+  fields_to (UnlinkId id p q) w b f = lone (UnlinkId id p q) w b f.is_front.0 (unlink_to id p q b f) refl
+  fields_to (UnlinkIdAck id p q) w b f = lone (UnlinkIdAck id p q) w b f.is_front.0 (unlink_to id p q b f) refl
+
+  -- ---- a control term that a message follows
+
+  pub before_to : (unused : Data) (s : Signal) (payload : Bool) (b : List ℕ) → AreBefore levels unused s payload b
+      → SpellAll (Spells levels) (fields_of unused s payload) b
+  before_to unused (Send p t) w b f = send_to unused p b f
+  before_to unused (Exit p q t) true b f = two_pids_to p q b f
+  before_to unused (Exit2 p q t) true b f = two_pids_to p q b f
+  before_to unused (MonitorExit p q r t) true b f = monitor_to p q r b f
+  before_to unused (Exit p q t) false b f = absurd f
+  before_to unused (Exit2 p q t) false b f = absurd f
+  before_to unused (MonitorExit p q r t) false b f = absurd f
+  before_to unused _ w b f = absurd f
+
+  pub before_from : (unused : Data) (s : Signal) (payload : Bool) (b : List ℕ) → is_some (message_in s payload) ≡ true
+      → SpellAll (Spells levels) (fields_of unused s payload) b → AreBefore levels unused s payload b
+  before_from unused (Send p t) w b h f = send_from unused p b f
+  before_from unused (Exit p q t) true b h f = two_pids_from p q b f
+  before_from unused (Exit2 p q t) true b h f = two_pids_from p q b f
+  before_from unused (MonitorExit p q r t) true b h f = monitor_from p q r b f
+  before_from unused (Exit p q t) false b h f = absurd cc
+  before_from unused (Exit2 p q t) false b h f = absurd cc
+  before_from unused (MonitorExit p q r t) false b h f = absurd cc
+  before_from unused _ w b h f = absurd cc
+
+  pub before_followed : (unused : Data) (s : Signal) (payload : Bool) (b : List ℕ) → AreBefore levels unused s payload b
+      → is_some (message_in s payload) ≡ true
+  before_followed unused (Send p t) w b f = refl
+  before_followed unused (Exit p q t) true b f = refl
+  before_followed unused (Exit2 p q t) true b f = refl
+  before_followed unused (MonitorExit p q r t) true b f = refl
+  before_followed unused (Exit p q t) false b f = absurd f
+  before_followed unused (Exit2 p q t) false b f = absurd f
+  before_followed unused (MonitorExit p q r t) false b f = absurd f
+  before_followed unused _ w b f = absurd f
 
 -- ---- rows
 
@@ -296,53 +387,70 @@ row_to tag ts b s =
 -- ---- the text of a signal as the head of a row and what is behind it
 
 pub record Shape (s : Signal) (b : List ℕ) : Type 0 where
+  pub payload : Bool
   pub levels : ℕ
   pub front : List ℕ
   pub fields : List ℕ
-  pub is_front : IsRowHead (head_of (arity_of s) levels, tag_of s) front
-  pub are_fields : AreFields levels s fields
+  pub is_front : IsRowHead (head_of (arity_of s payload) levels, tag_of s payload) front
+  pub are_fields : AreFields levels s payload fields
   pub parts : b ≡ front ++ fields
+
+-- a control term as such a row
+pub control_row : (unused : Data) (s : Signal) (payload : Bool) (b : List ℕ) → IsSpelling 64 (control_in unused s payload) b
+    → Row (tag_of s payload) (fields_of unused s payload) b
+control_row unused s payload b i =
+    row_from (tag_of s payload) (fields_of unused s payload) b (row_tag s payload)
+    (subst (λ (t : Data). IsSpelling 64 t b) (row_parts unused s payload) i)
+
+pub control_unrow : (unused : Data) (s : Signal) (payload : Bool) (b : List ℕ) → Row (tag_of s payload) (fields_of unused s payload) b
+    → IsSpelling 64 (control_in unused s payload) b
+control_unrow unused s payload b row =
+    subst (λ (t : Data). IsSpelling 64 t b) (sym (row_parts unused s payload))
+    (row_to (tag_of s payload) (fields_of unused s payload) b row)
+
+pub row_head : (unused : Data) (s : Signal) (payload : Bool) (levels : ℕ) (front : List ℕ)
+    → IsRowHead (head_of (suc (count (fields_of unused s payload))) levels, tag_of s payload) front
+    → IsRowHead (head_of (arity_of s payload) levels, tag_of s payload) front
+row_head unused s payload levels front h =
+    subst (λ (n : ℕ). IsRowHead (head_of n levels, tag_of s payload) front) (row_arity unused s payload) h
+
+pub row_unhead : (unused : Data) (s : Signal) (payload : Bool) (levels : ℕ) (front : List ℕ)
+    → IsRowHead (head_of (arity_of s payload) levels, tag_of s payload) front
+    → IsRowHead (head_of (suc (count (fields_of unused s payload))) levels, tag_of s payload) front
+row_unhead unused s payload levels front h =
+    subst (λ (n : ℕ). IsRowHead (head_of n levels, tag_of s payload) front) (sym (row_arity unused s payload)) h
 
 pub shape : (s : Signal) (b : List ℕ) → IsSignalText s b → Shape s b
 shape s b i =
-    let w =
-    row_from (tag_of s) (fields_of i.unused s) i.control (row_tag s)
-    (subst (λ (t : Data). IsSpelling 64 t i.control) (row_parts i.unused s) i.spelled) in
+    let w = control_row i.unused s i.payload i.control i.spelled in
     record {
+      payload = i.payload;
       levels = w.levels;
       front = w.front;
       fields = w.fields ++ i.message;
-      is_front = subst (λ (n : ℕ). IsRowHead (head_of n w.levels, tag_of s) w.front) (row_arity i.unused s) w.is_front;
-      are_fields = fields_from w.levels i.unused s w.fields i.message i.has_id w.are_fields i.told;
+      is_front = row_head i.unused s i.payload w.levels w.front w.is_front;
+      are_fields = fields_from w.levels i.unused s i.payload w.fields i.message i.has_id w.are_fields i.told;
       parts = i.bytes ∙ ap (λ (v : List ℕ). v ++ i.message) w.parts ∙ append_assoc w.front w.fields i.message;
     }
 
 pub unshape : (s : Signal) (b : List ℕ) → Shape s b → IsSignalText s b
 unshape s b h =
-    let f = fields_to h.levels s h.fields h.are_fields in
-    let row : Row (tag_of s) (fields_of f.unused s) (h.front ++ f.elements) = record {
+    let f = fields_to h.levels s h.payload h.fields h.are_fields in
+    let row : Row (tag_of s h.payload) (fields_of f.unused s h.payload) (h.front ++ f.elements) = record {
       levels = h.levels;
       front = h.front;
       fields = f.elements;
-      is_front = subst (λ (n : ℕ). IsRowHead (head_of n h.levels, tag_of s) h.front) (sym (row_arity f.unused s)) h.is_front;
+      is_front = row_unhead f.unused s h.payload h.levels h.front h.is_front;
       are_fields = f.spelled;
       parts = refl;
     } in
     record {
+      payload = h.payload;
       unused = f.unused;
       control = h.front ++ f.elements;
       message = f.message;
       has_id = f.has_id;
-      spelled = subst (λ (t : Data). IsSpelling 64 t (h.front ++ f.elements)) (sym (row_parts f.unused s))
-          (row_to (tag_of s) (fields_of f.unused s) (h.front ++ f.elements) row);
+      spelled = control_unrow f.unused s h.payload (h.front ++ f.elements) row;
       told = f.told;
       bytes = h.parts ∙ ap (λ (w : List ℕ). h.front ++ w) f.parts ∙ sym (append_assoc h.front f.elements f.message);
     }
-
--- ---- a SEND's control term
-
-pub send_row : (x : Data × Pid) (b : List ℕ) → IsSendText x b → Row 2 (item x.0 (item (pid x.1) no_items)) b
-send_row x b s = row_from 2 (item x.0 (item (pid x.1) no_items)) b (omega arith) s
-
-pub send_unrow : (x : Data × Pid) (b : List ℕ) → Row 2 (item x.0 (item (pid x.1) no_items)) b → IsSendText x b
-send_unrow x b s = row_to 2 (item x.0 (item (pid x.1) no_items)) b s

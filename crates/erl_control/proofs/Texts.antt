@@ -6,7 +6,7 @@ use Rattle.std.proofs.lemmas.List.{take_at, take-append-drop, length-append, app
 use Rattle.readers.specs.Reading.{AreBytes}
 use Rattle.readers.proofs.Sequence.{AreBytes-rest}
 use Rattle.erl_term.specs.declared.error.TermError.{TermError}
-use Rattle.erl_term.specs.declared.term.Pid.{Pid}
+use Rattle.std.specs.Prelude.{is_some}
 use Rattle.erl_term.specs.Data.{Data}
 use Rattle.erl_term.specs.Spelling.{IsSpelling}
 use Rattle.erl_term.specs.Canonical.{canonical, levels_of}
@@ -15,11 +15,11 @@ use Rattle.erl_control.specs.declared.signal.Signal.{Signal}
 use Rattle.erl_control.specs.declared.signal.Signal.TheVariants.{Send, Exit, Exit2, MonitorExit}
 use Rattle.erl_control.specs.declared.error.FrameError.{FrameError}
 use Rattle.erl_control.specs.declared.error.FrameError.TheVariants.{NotPassThrough, BadControl, TooLong, Term, OutOfMemory}
-use Rattle.erl_control.specs.Control.{send_term, control_term, message_of, HasId, Carries, IsFit}
+use Rattle.erl_control.specs.Control.{control_in, message_in, HasId, Carries, IsFit}
 use Rattle.erl_control.specs.Frame.{limit, SpellsMessage, IsSignalText}
 use Rattle.erl_control.specs.Answer.{IsTermFault, IsMessageFault, IsRow, IsNoRow}
 use Rattle.erl_control.specs.Reading.{IsTextFault, IsFitText}
-use Rattle.erl_control.proofs.Rows.{but_message, row_tells, same_signal, is_row}
+use Rattle.erl_control.proofs.Rows.{but_message, row_tells, followed_tells, same_signal, is_row, with_message, told_signal, told_id, followed_id}
 
 -- one answer is due to any bytes in which a term is looked for
 abbrev pub OneTerm : Type 0
@@ -70,34 +70,26 @@ same_front one t u text a rest n h le s p d =
 
 -- ---- no signal's text begins another
 
-has_message : Option Data → Bool
-has_message (Some t) = true
-has_message None = false
-
 messages : OneSpelling → (o p : Option Data) (m n x y : List ℕ) → SpellsMessage o m → SpellsMessage p n
-    → has_message o ≡ has_message p → m ++ x ≡ n ++ y → (o ≡ p) × (m ≡ n)
-unfolding has_message
+    → is_some o ≡ is_some p → m ++ x ≡ n ++ y → (o ≡ p) × (m ≡ n)
 messages one None None m n x y s r k e = (refl, s ∙ sym r)
 messages one (Some t) (Some u) m n x y s r k e = let q = one t u m n x y s r e in (ap (λ (z : Data). Some z) q.0, q.1)
 messages one None (Some u) m n x y s r k e = absurd cc
 messages one (Some t) None m n x y s r k e = absurd cc
 
-wants_message : (s : Signal) → has_message (message_of s) ≡ has_message (message_of (but_message s))
-unfolding has_message
-wants_message (Send p t) = refl
-wants_message s = refl
-
 -- a text as its control term and what is behind
 pub record Opened (s : Signal) (text rest : List ℕ) : Type 0 where
+  pub payload : Bool
   pub unused : Data
   pub control : List ℕ
   pub message : List ℕ
-  pub spelled : IsSpelling 64 (control_term unused s) control
-  pub told : SpellsMessage (message_of s) message
+  pub spelled : IsSpelling 64 (control_in unused s payload) control
+  pub told : SpellsMessage (message_in s payload) message
   pub parts : text ≡ control ++ (message ++ rest)
 
 abbrev opened : (s : Signal) (text front rest : List ℕ) → IsSignalText s front → text ≡ front ++ rest → Opened s text rest
 opened s text front rest i p = record {
+  payload = i.payload;
   unused = i.unused;
   control = i.control;
   message = i.message;
@@ -112,15 +104,15 @@ one_text one s r text a b x y i j p q =
     let m = opened s text a x i p in
     let n = opened r text b y j q in
     let k =
-    one (control_term m.unused s) (control_term n.unused r) m.control n.control (m.message ++ x)
+    one (control_in m.unused s m.payload) (control_in n.unused r n.payload) m.control n.control (m.message ++ x)
     (n.message ++ y) m.spelled n.spelled (sym m.parts ∙ n.parts) in
-    let same = row_tells m.unused n.unused s r k.0 in
+    let same = row_tells m.unused n.unused s r m.payload n.payload k.0 in
     let behind : m.message ++ x ≡ n.message ++ y =
     append_cancel_left m.control (m.message ++ x) (n.message ++ y)
     (sym m.parts ∙ n.parts ∙ ap (λ (w : List ℕ). w ++ (n.message ++ y)) (sym k.1)) in
-    let wants = wants_message s ∙ ap (λ (z : Signal). has_message (message_of z)) same ∙ sym (wants_message r) in
-    let told = messages one (message_of s) (message_of r) m.message n.message x y m.told n.told wants behind in (
-      same_signal s r same told.0,
+    let wants = followed_tells m.unused n.unused s r m.payload n.payload k.0 in
+    let told = messages one (message_in s m.payload) (message_in r n.payload) m.message n.message x y m.told n.told wants behind in (
+      same_signal s r m.payload n.payload same told.0,
       i.bytes ∙ ap (λ (w : List ℕ). w ++ m.message) k.1 ∙ ap (λ (w : List ℕ). n.control ++ w) told.1 ∙ sym j.bytes,
     )
 
@@ -148,10 +140,10 @@ pub data TextDue (text : List ℕ) (x : Result Signal FrameError) : Type 0 where
   fault : (e : TermError) → IsTermFault text e → x ≡ Err (Term e) → TextDue text x
   other : IsNoRow text → x ≡ Err BadControl → TextDue text x
 
--- a SEND's control term at the front, with no id to have
-send_at_front : (s : Signal) (u v : Data) (to : Pid) → control_term u s ≡ send_term v to → (t : Data) × (s ≡ Send to t)
-send_at_front (Send p t) u v to e = (t, same_signal (Send p t) (Send to t) (row_tells u v (Send p t) (Send to t) e) refl)
-send_at_front s u v to e = absurd (let k = row_tells u v s (Send to u) e in cc)
+-- the message of a signal that has one
+told_some : (o : Option Data) (m : List ℕ) → is_some o ≡ true → SpellsMessage o m → (t : Data) × IsSpelling 64 t m
+told_some (Some t) m e s = (t, s)
+told_some None m e s = absurd cc
 
 module _ (term : OneTerm) (one : OneSpelling) (text : List ℕ) (h : AreBytes text) (le : length text ≤ limit) where
   message_fits : (control message : List ℕ) → text ≡ control ++ message → AreBytes message
@@ -164,37 +156,39 @@ module _ (term : OneTerm) (one : OneSpelling) (text : List ℕ) (h : AreBytes te
   no_message_fault : (s : Signal) (e : TermError) (rest : List ℕ) → Opened s text rest → IsMessageFault text e → ⊥
   no_message_fault s e rest o f =
       let k =
-      one (control_term o.unused s) (send_term f.unused f.to) o.control f.control
+      one (control_in o.unused s o.payload) (control_in f.unused f.signal f.payload) o.control f.control
       (o.message ++ rest) f.message o.spelled f.spelled (sym o.parts ∙ f.parts) in
-      let sent = send_at_front s o.unused f.unused f.to k.0 in
+      let wants = followed_tells o.unused f.unused s f.signal o.payload f.payload k.0 in
       let behind : f.message ≡ o.message ++ rest =
       append_cancel_left f.control f.message (o.message ++ rest)
       (sym f.parts ∙ o.parts ∙ ap (λ (w : List ℕ). w ++ (o.message ++ rest)) k.1) in
-      let told : IsSpelling 64 sent.0 o.message = subst (λ (z : Signal). SpellsMessage (message_of z) o.message) sent.1 o.told in
-      never_fault term sent.0 f.message o.message rest e (message_fits f.control f.message f.parts)
-      (message_short f.control f.message f.parts) told behind f.fault
+      let told = told_some (message_in s o.payload) o.message (wants ∙ f.followed) o.told in
+      never_fault term told.0 f.message o.message rest e (message_fits f.control f.message f.parts)
+      (message_short f.control f.message f.parts) told.1 behind f.fault
 
   no_fault : (s : Signal) (e : TermError) (front rest : List ℕ) → IsSignalText s front → text ≡ front ++ rest → IsTermFault text e → ⊥
   no_fault s e front rest i p (inl d) =
       let o = opened s text front rest i p in
-      never_fault term (control_term o.unused s) text o.control (o.message ++ rest) e h le o.spelled o.parts d
+      never_fault term (control_in o.unused s o.payload) text o.control (o.message ++ rest) e h le o.spelled o.parts d
   no_fault s e front rest i p (inr f) = no_message_fault s e rest (opened s text front rest i p) f
 
   is_a_row : (s : Signal) (front rest : List ℕ) → IsSignalText s front → text ≡ front ++ rest → IsNoRow text → ⊥
   is_a_row s front rest i p d =
       let o = opened s text front rest i p in
-      let same = same_front term (control_term o.unused s) d.0 text o.control (o.message ++ rest) d.1 h le o.spelled o.parts d.2 in
-      d.3 (s, o.unused, i.has_id, sym same)
+      let same = same_front term (control_in o.unused s o.payload) d.0 text o.control (o.message ++ rest) d.1 h le o.spelled o.parts d.2 in
+      d.3 (s, o.payload, o.unused, i.has_id, sym same)
 
   -- the error of a term that doesn't read
   same_fault : (e f : TermError) → IsTermFault text e → IsTermFault text f → e ≡ f
   same_fault e f (inl d) (inl c) = same_err e f (term_once term text h (Err e) (Err f) d c)
-  same_fault e f (inl d) (inr c) = absurd (never_fault term (send_term c.unused c.to) text c.control c.message e h le c.spelled c.parts d)
-  same_fault e f (inr d) (inl c) = absurd (never_fault term (send_term d.unused d.to) text d.control d.message f h le d.spelled d.parts c)
+  same_fault e f (inl d) (inr c) =
+      absurd (never_fault term (control_in c.unused c.signal c.payload) text c.control c.message e h le c.spelled c.parts d)
+  same_fault e f (inr d) (inl c) =
+      absurd (never_fault term (control_in d.unused d.signal d.payload) text d.control d.message f h le d.spelled d.parts c)
   same_fault e f (inr d) (inr c) =
       let k =
-      one (send_term d.unused d.to) (send_term c.unused c.to) d.control c.control d.message c.message d.spelled c.spelled
-      (sym d.parts ∙ c.parts) in
+      one (control_in d.unused d.signal d.payload) (control_in c.unused c.signal c.payload) d.control c.control d.message c.message
+      d.spelled c.spelled (sym d.parts ∙ c.parts) in
       let behind : d.message ≡ c.message =
       append_cancel_left d.control d.message c.message (sym d.parts ∙ c.parts ∙ ap (λ (w : List ℕ). w ++ c.message) (sym k.1)) in
       same_err e f (term_once term c.message (message_fits c.control c.message c.parts) (Err e) (Err f)
@@ -203,8 +197,8 @@ module _ (term : OneTerm) (one : OneSpelling) (text : List ℕ) (h : AreBytes te
   fault_is_row : (e : TermError) → IsTermFault text e → IsNoRow text → ⊥
   fault_is_row e (inl d) c = ok_not_err (c.0, c.1) e (term_once term text h (Ok (c.0, c.1)) (Err e) c.2 d)
   fault_is_row e (inr d) c =
-      let same = same_front term (send_term d.unused d.to) c.0 text d.control d.message c.1 h le d.spelled d.parts c.2 in
-      c.3 (Send d.to d.unused, d.unused, tt, sym same)
+      let same = same_front term (control_in d.unused d.signal d.payload) c.0 text d.control d.message c.1 h le d.spelled d.parts c.2 in
+      c.3 (d.signal, d.payload, d.unused, followed_id d.signal d.payload d.followed, sym same)
 
   pub text_once : (x y : Result Signal FrameError) → TextDue text x → TextDue text y → x ≡ y
   text_once x y (here s a r i p j) (here t b q k m n) =
@@ -264,37 +258,56 @@ judge s text front [] i p (inl c) = (Ok s, (whole_text s text front i p, c))
 judge s text front [] i p (inr f) = (Err TooLong, (s, whole_text s text front i p, f))
 judge s text front (b ∷ rest) i p c = (Err BadControl, inr (s, front, b ∷ rest, i, (λ e. cc), p))
 
+told_none : (o : Option Data) → is_some o ≡ false → SpellsMessage o []
+told_none None e = refl
+told_none (Some t) e = absurd cc
+
 -- a row at the front, and what is behind it
-row_text : OneTerm → (text control rest : List ℕ) (s : Signal) (unused : Data) → AreBytes text → HasId s
-    → IsSpelling 64 (control_term unused s) control → text ≡ control ++ rest → SomeText text
-row_text one text control rest (Send to m) unused h i s p = by (one rest (AreBytes-rest control rest (subst AreBytes p h)))
+row_text : OneTerm → (text control rest : List ℕ) (s : Signal) (payload : Bool) (unused : Data) → AreBytes text → HasId s
+    → IsSpelling 64 (control_in unused s payload) control → text ≡ control ++ rest → (b : Bool) → is_some (message_in s payload) ≡ b
+    → SomeText text
+row_text one text control rest s payload unused h i c p true e = by (one rest (AreBytes-rest control rest (subst AreBytes p h)))
   where
     told : (t : Data) (n : ℕ) → IsDue rest (Ok (t, n)) → SomeText text
     told t n d =
         let split = sym (take-append-drop n rest) in
-        judge (Send to t) text (control ++ take n rest) (drop n rest)
-        (record { unused = unused; control = control; message = take n rest; has_id = tt; spelled = s; told = d.0.is_text; bytes = refl })
+        let k = told_signal s payload t unused e in
+        judge (with_message s (Some t)) text (control ++ take n rest) (drop n rest)
+        (record {
+          payload = payload;
+          unused = unused;
+          control = control;
+          message = take n rest;
+          has_id = told_id s payload t e;
+          spelled = subst (λ (u : Data). IsSpelling 64 u control) (sym k.0) c;
+          told = subst (λ (o : Option Data). SpellsMessage o (take n rest)) (sym k.1) d.0.is_text;
+          bytes = refl;
+        })
         (p ∙ ap (λ (w : List ℕ). control ++ w) split ∙ sym (append_assoc control (take n rest) (drop n rest)))
-        (carries_or_not (Send to t))
+        (carries_or_not (with_message s (Some t)))
 
     on : (due : Result (Data × ℕ) TermError) → IsDue rest due → SomeText text
     on (Ok x) d = told x.0 x.1 d
-    on (Err e) d =
-        (Err (Term e), inr (record { unused = unused; to = to; control = control; message = rest; spelled = s; fault = d; parts = p }))
+    on (Err f) d = (
+      Err (Term f),
+      inr (record
+          { signal = s; payload = payload; unused = unused; control = control; message = rest; spelled = c; followed = e; fault = d; parts = p }),
+    )
 
     by : (due : Result (Data × ℕ) TermError) × IsDue rest due
         × ((other : Result (Data × ℕ) TermError) → IsDue rest other → other ≡ due) → SomeText text
     by d = on d.0 d.1
-row_text one text control rest z unused h i s p =
-    judge z text control rest (record {
+row_text one text control rest s payload unused h i c p false e =
+    judge s text control rest (record {
+      payload = payload;
       unused = unused;
       control = control;
       message = [];
       has_id = i;
-      spelled = s;
-      told = refl;
+      spelled = c;
+      told = told_none (message_in s payload) e;
       bytes = sym (append-nil control);
-    }) p (carries_or_not z)
+    }) p (carries_or_not s)
 
 pub some_text : OneTerm → (text : List ℕ) → AreBytes text → SomeText text
 some_text one text h = by (one text h)
@@ -302,8 +315,9 @@ some_text one text h = by (one text h)
     row : (t : Data) (n : ℕ) → IsDue text (Ok (t, n)) → (IsRow t ⊎ (¬ IsRow t)) → SomeText text
     row t n d (inr free) = (Err BadControl, inl (t, n, d, free))
     row t n d (inl r) =
-        row_text one text (take n text) (drop n text) r.0 r.1 h r.2
-        (subst (λ (u : Data). IsSpelling 64 u (take n text)) r.3 d.0.is_text) (sym (take-append-drop n text))
+        row_text one text (take n text) (drop n text) r.0 r.1 r.2 h r.3
+        (subst (λ (u : Data). IsSpelling 64 u (take n text)) r.4 d.0.is_text) (sym (take-append-drop n text))
+        (is_some (message_in r.0 r.1)) refl
 
     on : (due : Result (Data × ℕ) TermError) → IsDue text due → SomeText text
     on (Ok x) d = row x.0 x.1 d (is_row x.0)

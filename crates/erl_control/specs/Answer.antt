@@ -1,9 +1,8 @@
 -- The answer that is due to bytes of which a frame stands, or begins, at the front.
 -- (ERTS User's Guide, Distribution Protocol, Protocol between Connected Nodes.)
-use Rattle.std.specs.Prelude.{◌≡◌, ◌≢◌, ℕ, ◌+◌, ◌<◌, ◌≤◌, ◌⊎◌, List, [], ◌∷◌, ◌++◌, length, take, Option, Some, None, Result, Ok, Err}
+use Rattle.std.specs.Prelude.{◌≡◌, ◌≢◌, ℕ, ◌+◌, ◌<◌, ◌≤◌, ◌⊎◌, List, [], ◌∷◌, ◌++◌, length, take, Option, Some, None, is_some, Bool, true, Result, Ok, Err}
 use Rattle.byteorder.specs.Endian.{big_number}
 use Rattle.erl_term.specs.declared.error.TermError.{TermError}
-use Rattle.erl_term.specs.declared.term.Pid.{Pid}
 use Rattle.erl_term.specs.Data.{Data}
 use Rattle.erl_term.specs.Spelling.{IsNumber, IsSpelling}
 use Rattle.erl_term.specs.Answer.{IsDue}
@@ -11,7 +10,7 @@ use Rattle.erl_control.specs.declared.error.FrameError.{FrameError}
 use Rattle.erl_control.specs.declared.error.FrameError.TheVariants.{NotPassThrough, BadControl, TooLong, Term, OutOfMemory}
 use Rattle.erl_control.specs.declared.signal.Signal.{Signal}
 use Rattle.erl_control.specs.declared.signal.Item.{Item}
-use Rattle.erl_control.specs.Control.{send_term, control_term, HasId, Carries, IsFit}
+use Rattle.erl_control.specs.Control.{control_in, message_in, HasId, Carries, IsFit}
 use Rattle.erl_control.specs.Frame.{limit, IsSignalText, IsFramed}
 
 -- the frame at the front is whole, and its length is followed by this body
@@ -31,13 +30,15 @@ IsLong bytes = (4 ≤ length bytes) × (limit < big_number 4 bytes)
 
 -- ---- what can be wrong with the text behind pass-through
 
--- the message behind a SEND's control term doesn't read
+-- the message behind a control term doesn't read
 pub record IsMessageFault (text : List ℕ) (e : TermError) : Type 0 where
+  pub signal : Signal
+  pub payload : Bool
   pub unused : Data
-  pub to : Pid
   pub control : List ℕ
   pub message : List ℕ
-  pub spelled : IsSpelling 64 (send_term unused to) control
+  pub spelled : IsSpelling 64 (control_in unused signal payload) control
+  pub followed : is_some (message_in signal payload) ≡ true
   pub fault : IsDue message (Err e)
   pub parts : text ≡ control ++ message
 
@@ -47,7 +48,7 @@ IsTermFault text e = IsDue text (Err e) ⊎ IsMessageFault text e
 
 -- the term is a row of the table
 abbrev pub IsRow : Data → Type 0
-IsRow t = (signal : Signal) × (unused : Data) × HasId signal × (t ≡ control_term unused signal)
+IsRow t = (signal : Signal) × (payload : Bool) × (unused : Data) × HasId signal × (t ≡ control_in unused signal payload)
 
 -- the term at the front is no row of the table
 abbrev pub IsNoRow : List ℕ → Type 0

@@ -1,6 +1,6 @@
 -- The control term of each signal, and the message behind it.
 -- (ERTS User's Guide, Distribution Protocol, Protocol between Connected Nodes; New Link Protocol.)
-use Rattle.std.specs.Prelude.{ℕ, ◌≤◌, ◌<◌, ◌^◌, pos, List, [], ◌∷◌, length, Option, Some, None}
+use Rattle.std.specs.Prelude.{ℕ, ◌≤◌, ◌<◌, ◌^◌, Bool, true, false, pos, List, [], ◌∷◌, length, Option, Some, None}
 use Rattle.erl_term.specs.declared.term.Pid.{Pid}
 use Rattle.erl_term.specs.Data.{Data, int, tuple, pid, reference}
 use Rattle.erl_term.specs.View.{items_of}
@@ -8,6 +8,7 @@ use Rattle.erl_term.specs.Canonical.{canonical, levels_of, IsWithin}
 use Rattle.erl_control.specs.declared.fit.TheConstants.{MOST_PAYLOAD_LEVELS, MOST_PAYLOAD_BYTES}
 use Rattle.erl_control.specs.declared.tags.TheConstants.{LINK, SEND, EXIT, EXIT2, MONITOR_P, DEMONITOR_P}
 use Rattle.erl_control.specs.declared.tags.TheConstants.{MONITOR_P_EXIT, UNLINK_ID, UNLINK_ID_ACK}
+use Rattle.erl_control.specs.declared.tags.TheConstants.{PAYLOAD_EXIT, PAYLOAD_EXIT2, PAYLOAD_MONITOR_P_EXIT}
 use Rattle.erl_control.specs.declared.signal.Signal.{Signal}
 use Rattle.erl_control.specs.declared.signal.Signal.TheVariants.{Link, Send, Exit, Exit2, Monitor, Demonitor}
 use Rattle.erl_control.specs.declared.signal.Signal.TheVariants.{MonitorExit, UnlinkId, UnlinkIdAck}
@@ -35,6 +36,20 @@ control_term unused (UnlinkIdAck id from to) = row UNLINK_ID_ACK (int (pos id) �
 abbrev pub message_of : Signal → Option Data
 message_of (Send to message) = Some message
 message_of signal = None
+
+-- ---- two spellings of three signals: the reason stands in the control term, or behind it (with payload)
+
+abbrev pub control_in : Data → Signal → Bool → Data
+control_in unused (Exit from to reason) true = row PAYLOAD_EXIT (pid from ∷ pid to ∷ [])
+control_in unused (Exit2 from to reason) true = row PAYLOAD_EXIT2 (pid from ∷ pid to ∷ [])
+control_in unused (MonitorExit from to r reason) true = row PAYLOAD_MONITOR_P_EXIT (pid from ∷ pid to ∷ reference r ∷ [])
+control_in unused signal payload = control_term unused signal
+
+abbrev pub message_in : Signal → Bool → Option Data
+message_in (Exit from to reason) true = Some reason
+message_in (Exit2 from to reason) true = Some reason
+message_in (MonitorExit from to r reason) true = Some reason
+message_in signal payload = message_of signal
 
 -- what it carries, the message or the reason, is P
 abbrev pub Carries : (Data → Type 0) → Signal → Type 0

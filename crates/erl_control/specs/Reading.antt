@@ -1,5 +1,5 @@
 -- The parts of a signal's text, as they are read one after the other.
-use Rattle.std.specs.Prelude.{◌≡◌, ◌≢◌, ℕ, ◌<◌, ◌^◌, pos, List, [], ◌∷◌, ◌++◌}
+use Rattle.std.specs.Prelude.{◌≡◌, ◌≢◌, ℕ, ◌<◌, ◌^◌, Bool, true, false, is_some, pos, List, [], ◌∷◌, ◌++◌}
 use Rattle.erl_term.specs.declared.parts.TupleHead.{TupleHead}
 use Rattle.erl_term.specs.declared.term.Pid.{Pid}
 use Rattle.erl_term.specs.declared.term.Reference.{Reference}
@@ -10,6 +10,8 @@ use Rattle.erl_control.specs.declared.tags.TheConstants.{LINK, SEND, EXIT, EXIT2
 use Rattle.erl_control.specs.declared.tags.TheConstants.{MONITOR_P_EXIT, UNLINK_ID, UNLINK_ID_ACK}
 use Rattle.erl_control.specs.declared.tags.TheConstants.{LINK_ARITY, SEND_ARITY, EXIT_ARITY, EXIT2_ARITY, MONITOR_P_ARITY}
 use Rattle.erl_control.specs.declared.tags.TheConstants.{DEMONITOR_P_ARITY, MONITOR_P_EXIT_ARITY, UNLINK_ID_ARITY, UNLINK_ID_ACK_ARITY}
+use Rattle.erl_control.specs.declared.tags.TheConstants.{PAYLOAD_EXIT, PAYLOAD_EXIT2, PAYLOAD_MONITOR_P_EXIT}
+use Rattle.erl_control.specs.declared.tags.TheConstants.{PAYLOAD_EXIT_ARITY, PAYLOAD_EXIT2_ARITY, PAYLOAD_MONITOR_P_EXIT_ARITY}
 use Rattle.erl_control.specs.declared.signal.Signal.{Signal}
 use Rattle.erl_control.specs.declared.signal.Signal.TheVariants as signal
 use Rattle.erl_control.specs.declared.signal_ref.SignalRef.{SignalRef}
@@ -17,7 +19,7 @@ use Rattle.erl_control.specs.declared.signal.Item.{Item}
 use Rattle.erl_control.specs.declared.signal.Item.TheVariants.{Tick, Signal as SignalItem}
 use Rattle.erl_control.specs.declared.error.FrameError.{FrameError}
 use Rattle.erl_control.specs.declared.error.FrameError.TheVariants.{NotPassThrough, BadControl, TooLong, Term, OutOfMemory}
-use Rattle.erl_control.specs.Control.{send_term, IsUnlinkId, Carries, IsFit}
+use Rattle.erl_control.specs.Control.{control_in, message_in, IsUnlinkId, Carries, IsFit}
 use Rattle.erl_control.specs.Parts.{signal_in}
 use Rattle.erl_control.specs.Frame.{IsSignalText}
 use Rattle.erl_control.specs.Answer.{IsTermFault, IsBadControl, IsUnfit}
@@ -90,49 +92,86 @@ AreSend levels = IsPair (IsTermText levels) (IsPidText levels)
 abbrev pub AreSendAndMessage : ℕ → (Data × Pid) × Data → List ℕ → Type 0
 AreSendAndMessage levels = IsPair (AreSend levels) (IsSpelling 64)
 
--- a SEND's control term
-abbrev pub IsSendText : Data × Pid → List ℕ → Type 0
-IsSendText x text = IsSpelling 64 (send_term x.0 x.1) text
+-- From and To, and the reason behind the control term
+abbrev pub ArePidsAndPayload : ℕ → (Pid × Pid) × Data → List ℕ → Type 0
+ArePidsAndPayload levels = IsPair (ArePids levels) (IsSpelling 64)
+
+-- From, To and Ref, and the reason behind the control term
+abbrev pub AreMonitorExitAndPayload : ℕ → ((Pid × Pid) × Reference) × Data → List ℕ → Type 0
+AreMonitorExitAndPayload levels = IsPair (ArePidsAndReference levels) (IsSpelling 64)
 
 -- ---- rows
 
-abbrev pub tag_of : Signal → ℕ
-tag_of (signal.Link from to) = LINK
-tag_of (signal.Send to message) = SEND
-tag_of (signal.Exit from to reason) = EXIT
-tag_of (signal.Exit2 from to reason) = EXIT2
-tag_of (signal.Monitor from to r) = MONITOR_P
-tag_of (signal.Demonitor from to r) = DEMONITOR_P
-tag_of (signal.MonitorExit from to r reason) = MONITOR_P_EXIT
-tag_of (signal.UnlinkId id from to) = UNLINK_ID
-tag_of (signal.UnlinkIdAck id from to) = UNLINK_ID_ACK
+abbrev pub tag_of : Signal → Bool → ℕ
+tag_of (signal.Link from to) payload = LINK
+tag_of (signal.Send to message) payload = SEND
+tag_of (signal.Exit from to reason) false = EXIT
+tag_of (signal.Exit from to reason) true = PAYLOAD_EXIT
+tag_of (signal.Exit2 from to reason) false = EXIT2
+tag_of (signal.Exit2 from to reason) true = PAYLOAD_EXIT2
+tag_of (signal.Monitor from to r) payload = MONITOR_P
+tag_of (signal.Demonitor from to r) payload = DEMONITOR_P
+tag_of (signal.MonitorExit from to r reason) false = MONITOR_P_EXIT
+tag_of (signal.MonitorExit from to r reason) true = PAYLOAD_MONITOR_P_EXIT
+tag_of (signal.UnlinkId id from to) payload = UNLINK_ID
+tag_of (signal.UnlinkIdAck id from to) payload = UNLINK_ID_ACK
 
-abbrev pub arity_of : Signal → ℕ
-arity_of (signal.Link from to) = LINK_ARITY
-arity_of (signal.Send to message) = SEND_ARITY
-arity_of (signal.Exit from to reason) = EXIT_ARITY
-arity_of (signal.Exit2 from to reason) = EXIT2_ARITY
-arity_of (signal.Monitor from to r) = MONITOR_P_ARITY
-arity_of (signal.Demonitor from to r) = DEMONITOR_P_ARITY
-arity_of (signal.MonitorExit from to r reason) = MONITOR_P_EXIT_ARITY
-arity_of (signal.UnlinkId id from to) = UNLINK_ID_ARITY
-arity_of (signal.UnlinkIdAck id from to) = UNLINK_ID_ACK_ARITY
+abbrev pub arity_of : Signal → Bool → ℕ
+arity_of (signal.Link from to) payload = LINK_ARITY
+arity_of (signal.Send to message) payload = SEND_ARITY
+arity_of (signal.Exit from to reason) false = EXIT_ARITY
+arity_of (signal.Exit from to reason) true = PAYLOAD_EXIT_ARITY
+arity_of (signal.Exit2 from to reason) false = EXIT2_ARITY
+arity_of (signal.Exit2 from to reason) true = PAYLOAD_EXIT2_ARITY
+arity_of (signal.Monitor from to r) payload = MONITOR_P_ARITY
+arity_of (signal.Demonitor from to r) payload = DEMONITOR_P_ARITY
+arity_of (signal.MonitorExit from to r reason) false = MONITOR_P_EXIT_ARITY
+arity_of (signal.MonitorExit from to r reason) true = PAYLOAD_MONITOR_P_EXIT_ARITY
+arity_of (signal.UnlinkId id from to) payload = UNLINK_ID_ARITY
+arity_of (signal.UnlinkIdAck id from to) payload = UNLINK_ID_ACK_ARITY
 
 -- what stands behind the tag, each element of so many levels at most, and the message
-abbrev pub AreFields : ℕ → Signal → List ℕ → Type 0
-AreFields levels (signal.Link from to) b = ArePids levels (from, to) b
-AreFields levels (signal.Send to message) b = (unused : Data) × AreSendAndMessage levels ((unused, to), message) b
-AreFields levels (signal.Exit from to reason) b = ArePidsAndReason levels ((from, to), reason) b
-AreFields levels (signal.Exit2 from to reason) b = ArePidsAndReason levels ((from, to), reason) b
-AreFields levels (signal.Monitor from to r) b = ArePidsAndReference levels ((from, to), r) b
-AreFields levels (signal.Demonitor from to r) b = ArePidsAndReference levels ((from, to), r) b
-AreFields levels (signal.MonitorExit from to r reason) b = AreMonitorExit levels (((from, to), r), reason) b
-AreFields levels (signal.UnlinkId id from to) b = AreIdAndPids levels (id, (from, to)) b
-AreFields levels (signal.UnlinkIdAck id from to) b = AreIdAndPids levels (id, (from, to)) b
+abbrev pub AreFields : ℕ → Signal → Bool → List ℕ → Type 0
+AreFields levels (signal.Link from to) payload b = ArePids levels (from, to) b
+AreFields levels (signal.Send to message) payload b = (unused : Data) × AreSendAndMessage levels ((unused, to), message) b
+AreFields levels (signal.Exit from to reason) false b = ArePidsAndReason levels ((from, to), reason) b
+AreFields levels (signal.Exit from to reason) true b = ArePidsAndPayload levels ((from, to), reason) b
+AreFields levels (signal.Exit2 from to reason) false b = ArePidsAndReason levels ((from, to), reason) b
+AreFields levels (signal.Exit2 from to reason) true b = ArePidsAndPayload levels ((from, to), reason) b
+AreFields levels (signal.Monitor from to r) payload b = ArePidsAndReference levels ((from, to), r) b
+AreFields levels (signal.Demonitor from to r) payload b = ArePidsAndReference levels ((from, to), r) b
+AreFields levels (signal.MonitorExit from to r reason) false b = AreMonitorExit levels (((from, to), r), reason) b
+AreFields levels (signal.MonitorExit from to r reason) true b = AreMonitorExitAndPayload levels (((from, to), r), reason) b
+AreFields levels (signal.UnlinkId id from to) payload b = AreIdAndPids levels (id, (from, to)) b
+AreFields levels (signal.UnlinkIdAck id from to) payload b = AreIdAndPids levels (id, (from, to)) b
 
--- the same, of the signals of one tag
-abbrev pub HasFields : ℕ → ℕ → SignalRef → List ℕ → Type 0
-HasFields levels tag s b = (tag_of (signal_in s) ≡ tag) × AreFields levels (signal_in s) b
+-- the same, of the signals of one tag, and how many elements the control term has
+abbrev pub HasFields : ℕ → ℕ → SignalRef × ℕ → List ℕ → Type 0
+HasFields levels tag x b =
+    (payload : Bool) × (tag_of (signal_in x.0) payload ≡ tag) × (arity_of (signal_in x.0) payload ≡ x.1)
+    × AreFields levels (signal_in x.0) payload b
+
+-- ---- a control term that a message follows
+
+-- what stands behind its tag, but for the message
+abbrev pub AreBefore : ℕ → Data → Signal → Bool → List ℕ → Type 0
+AreBefore levels unused (signal.Send to message) payload b = AreSend levels (unused, to) b
+AreBefore levels unused (signal.Exit from to reason) true b = ArePids levels (from, to) b
+AreBefore levels unused (signal.Exit2 from to reason) true b = ArePids levels (from, to) b
+AreBefore levels unused (signal.MonitorExit from to r reason) true b = ArePidsAndReference levels ((from, to), r) b
+AreBefore levels unused s payload b = ⊥
+
+-- the same, of the control terms of one tag and so many elements
+abbrev pub IsBefore : ℕ → ℕ → ℕ → List ℕ → Type 0
+IsBefore levels tag n b =
+    (s : Signal) × (payload : Bool) × (unused : Data) × (tag_of s payload ≡ tag) × (arity_of s payload ≡ n)
+    × AreBefore levels unused s payload b
+
+-- the control term, by its tag
+abbrev pub IsFollowedText : ℕ → List ℕ → Type 0
+IsFollowedText tag text =
+    (s : Signal) × (payload : Bool) × (unused : Data) × (tag_of s payload ≡ tag) × (is_some (message_in s payload) ≡ true)
+    × IsSpelling 64 (control_in unused s payload) text
 
 -- ---- the text of a signal and the body of a frame
 

@@ -6,113 +6,179 @@ ghost use Rattle.erl_control.specs.declared.signal.Signal.{Signal as TheSignal};
 ghost use Rattle.erl_control.specs.declared.error.FrameError.{FrameError};
 ghost use Rattle.erl_control.specs.Numbers.{error_of};
 ghost use Rattle.erl_control.specs.Parts.{signal_in};
-ghost use Rattle.erl_control.specs.Reading.{IsRowHead, HasFields, IsSendText, IsText, HasNoText, IsTextFault, IsFitText};
+ghost use Rattle.erl_control.specs.Reading.{IsRowHead, HasFields, IsBefore, IsFollowedText, IsText, HasNoText, IsTextFault, IsFitText};
 
 use crate::error::{FrameError, FrameFault};
 use crate::fields::{
-    id_and_pids_at, pids_and_reason_at, pids_and_reference_at, pids_at,
-    pids_reference_and_reason_at, row_head_at, send_and_message_at, send_at,
+    id_and_pids_at, pids_and_payload_at, pids_and_reason_at, pids_and_reference_at, pids_at,
+    pids_reference_and_payload_at, pids_reference_and_reason_at, row_head_at, send_and_message_at,
+    send_at,
 };
 use crate::signal::Signal;
 use crate::signal_ref::SignalRef;
 use crate::tags::{
-    DEMONITOR_P, EXIT, EXIT2, LINK, MONITOR_P, MONITOR_P_EXIT, SEND, SEND_ARITY, UNLINK_ID,
-    UNLINK_ID_ACK,
+    DEMONITOR_P, DEMONITOR_P_ARITY, EXIT, EXIT_ARITY, EXIT2, EXIT2_ARITY, LINK, LINK_ARITY,
+    MONITOR_P, MONITOR_P_ARITY, MONITOR_P_EXIT, MONITOR_P_EXIT_ARITY, PAYLOAD_EXIT,
+    PAYLOAD_EXIT_ARITY, PAYLOAD_EXIT2, PAYLOAD_EXIT2_ARITY, PAYLOAD_MONITOR_P_EXIT,
+    PAYLOAD_MONITOR_P_EXIT_ARITY, SEND, SEND_ARITY, UNLINK_ID, UNLINK_ID_ACK, UNLINK_ID_ACK_ARITY,
+    UNLINK_ID_ARITY,
 };
-use erl_term::{PidRef, TermRef, term_len};
+use erl_term::term_len;
 use std::alloc::Global;
 
-fn link_at(levels: u32, fields: &[u8]) -> Option<(SignalRef<'_>, &[u8])>
+fn link_at(levels: u32, fields: &[u8]) -> Option<((SignalRef<'_>, u32), &[u8])>
     ensures { ReadsFront (HasFields levels LINK) fields.now result }
 {
     let ((from, to), rest) = pids_at(levels, fields)?;
-    Some((SignalRef::Link { from, to }, rest))
+    Some(((SignalRef::Link { from, to }, LINK_ARITY), rest))
 }
 
-fn message_at(levels: u32, fields: &[u8]) -> Option<(SignalRef<'_>, &[u8])>
+fn message_at(levels: u32, fields: &[u8]) -> Option<((SignalRef<'_>, u32), &[u8])>
     ensures { ReadsFront (HasFields levels SEND) fields.now result }
 {
     let (((_, to), message), rest) = send_and_message_at(levels, fields)?;
-    Some((SignalRef::Send { to, message }, rest))
+    Some(((SignalRef::Send { to, message }, SEND_ARITY), rest))
 }
 
-fn exit_at(levels: u32, fields: &[u8]) -> Option<(SignalRef<'_>, &[u8])>
+fn exit_at(levels: u32, fields: &[u8]) -> Option<((SignalRef<'_>, u32), &[u8])>
     ensures { ReadsFront (HasFields levels EXIT) fields.now result }
 {
     let (((from, to), reason), rest) = pids_and_reason_at(levels, fields)?;
-    Some((SignalRef::Exit { from, to, reason }, rest))
+    Some(((SignalRef::Exit { from, to, reason }, EXIT_ARITY), rest))
 }
 
-fn exit2_at(levels: u32, fields: &[u8]) -> Option<(SignalRef<'_>, &[u8])>
+fn payload_exit_at(levels: u32, fields: &[u8]) -> Option<((SignalRef<'_>, u32), &[u8])>
+    ensures { ReadsFront (HasFields levels PAYLOAD_EXIT) fields.now result }
+{
+    let (((from, to), reason), rest) = pids_and_payload_at(levels, fields)?;
+    Some((
+        (SignalRef::Exit { from, to, reason }, PAYLOAD_EXIT_ARITY),
+        rest,
+    ))
+}
+
+fn exit2_at(levels: u32, fields: &[u8]) -> Option<((SignalRef<'_>, u32), &[u8])>
     ensures { ReadsFront (HasFields levels EXIT2) fields.now result }
 {
     let (((from, to), reason), rest) = pids_and_reason_at(levels, fields)?;
-    Some((SignalRef::Exit2 { from, to, reason }, rest))
+    Some(((SignalRef::Exit2 { from, to, reason }, EXIT2_ARITY), rest))
 }
 
-fn monitor_at(levels: u32, fields: &[u8]) -> Option<(SignalRef<'_>, &[u8])>
+fn payload_exit2_at(levels: u32, fields: &[u8]) -> Option<((SignalRef<'_>, u32), &[u8])>
+    ensures { ReadsFront (HasFields levels PAYLOAD_EXIT2) fields.now result }
+{
+    let (((from, to), reason), rest) = pids_and_payload_at(levels, fields)?;
+    Some((
+        (SignalRef::Exit2 { from, to, reason }, PAYLOAD_EXIT2_ARITY),
+        rest,
+    ))
+}
+
+fn monitor_at(levels: u32, fields: &[u8]) -> Option<((SignalRef<'_>, u32), &[u8])>
     ensures { ReadsFront (HasFields levels MONITOR_P) fields.now result }
 {
     let (((from, to), reference), rest) = pids_and_reference_at(levels, fields)?;
-    let signal = SignalRef::Monitor {
-        from,
-        to,
-        reference,
-    };
-    Some((signal, rest))
+    Some((
+        (
+            SignalRef::Monitor {
+                from,
+                to,
+                reference,
+            },
+            MONITOR_P_ARITY,
+        ),
+        rest,
+    ))
 }
 
-fn demonitor_at(levels: u32, fields: &[u8]) -> Option<(SignalRef<'_>, &[u8])>
+fn demonitor_at(levels: u32, fields: &[u8]) -> Option<((SignalRef<'_>, u32), &[u8])>
     ensures { ReadsFront (HasFields levels DEMONITOR_P) fields.now result }
 {
     let (((from, to), reference), rest) = pids_and_reference_at(levels, fields)?;
-    let signal = SignalRef::Demonitor {
-        from,
-        to,
-        reference,
-    };
-    Some((signal, rest))
+    Some((
+        (
+            SignalRef::Demonitor {
+                from,
+                to,
+                reference,
+            },
+            DEMONITOR_P_ARITY,
+        ),
+        rest,
+    ))
 }
 
-fn monitor_exit_at(levels: u32, fields: &[u8]) -> Option<(SignalRef<'_>, &[u8])>
+fn monitor_exit_at(levels: u32, fields: &[u8]) -> Option<((SignalRef<'_>, u32), &[u8])>
     ensures { ReadsFront (HasFields levels MONITOR_P_EXIT) fields.now result }
 {
     let ((((from, to), reference), reason), rest) = pids_reference_and_reason_at(levels, fields)?;
-    let signal = SignalRef::MonitorExit {
-        from,
-        to,
-        reference,
-        reason,
-    };
-    Some((signal, rest))
+    Some((
+        (
+            SignalRef::MonitorExit {
+                from,
+                to,
+                reference,
+                reason,
+            },
+            MONITOR_P_EXIT_ARITY,
+        ),
+        rest,
+    ))
 }
 
-fn unlink_id_at(levels: u32, fields: &[u8]) -> Option<(SignalRef<'_>, &[u8])>
+fn payload_monitor_exit_at(levels: u32, fields: &[u8]) -> Option<((SignalRef<'_>, u32), &[u8])>
+    ensures { ReadsFront (HasFields levels PAYLOAD_MONITOR_P_EXIT) fields.now result }
+{
+    let ((((from, to), reference), reason), rest) = pids_reference_and_payload_at(levels, fields)?;
+    Some((
+        (
+            SignalRef::MonitorExit {
+                from,
+                to,
+                reference,
+                reason,
+            },
+            PAYLOAD_MONITOR_P_EXIT_ARITY,
+        ),
+        rest,
+    ))
+}
+
+fn unlink_id_at(levels: u32, fields: &[u8]) -> Option<((SignalRef<'_>, u32), &[u8])>
     ensures { ReadsFront (HasFields levels UNLINK_ID) fields.now result }
 {
     let ((id, (from, to)), rest) = id_and_pids_at(levels, fields)?;
-    Some((SignalRef::UnlinkId { id, from, to }, rest))
+    Some((
+        (SignalRef::UnlinkId { id, from, to }, UNLINK_ID_ARITY),
+        rest,
+    ))
 }
 
-fn unlink_id_ack_at(levels: u32, fields: &[u8]) -> Option<(SignalRef<'_>, &[u8])>
+fn unlink_id_ack_at(levels: u32, fields: &[u8]) -> Option<((SignalRef<'_>, u32), &[u8])>
     ensures { ReadsFront (HasFields levels UNLINK_ID_ACK) fields.now result }
 {
     let ((id, (from, to)), rest) = id_and_pids_at(levels, fields)?;
-    Some((SignalRef::UnlinkIdAck { id, from, to }, rest))
+    Some((
+        (SignalRef::UnlinkIdAck { id, from, to }, UNLINK_ID_ACK_ARITY),
+        rest,
+    ))
 }
 
-/// What stands behind a row's tag, and the message.
-fn fields_at(tag: u64, levels: u32, fields: &[u8]) -> Option<(SignalRef<'_>, &[u8])>
+/// Returns the signal whose fields stand behind a row's tag, the row's arity, and the bytes behind it.
+fn fields_at(tag: u64, levels: u32, fields: &[u8]) -> Option<((SignalRef<'_>, u32), &[u8])>
     ensures { ReadsFront (HasFields levels tag) fields.now result }
 {
     match tag {
         LINK => link_at(levels, fields),
         SEND => message_at(levels, fields),
         EXIT => exit_at(levels, fields),
+        PAYLOAD_EXIT => payload_exit_at(levels, fields),
         EXIT2 => exit2_at(levels, fields),
+        PAYLOAD_EXIT2 => payload_exit2_at(levels, fields),
         MONITOR_P => monitor_at(levels, fields),
         DEMONITOR_P => demonitor_at(levels, fields),
         MONITOR_P_EXIT => monitor_exit_at(levels, fields),
+        PAYLOAD_MONITOR_P_EXIT => payload_monitor_exit_at(levels, fields),
         UNLINK_ID => unlink_id_at(levels, fields),
         UNLINK_ID_ACK => unlink_id_ack_at(levels, fields),
         _ => None,
@@ -124,25 +190,68 @@ fn text_at(text: &[u8]) -> Option<(SignalRef<'_>, &[u8])>
     ensures { ReadsFront IsText text.now result }
 {
     let ((head, tag), fields) = row_head_at(text)?;
-    let (signal, rest) = fields_at(tag, head.levels, fields)?;
-    if signal.arity() != head.arity {
+    let ((signal, arity), rest) = fields_at(tag, head.levels, fields)?;
+    if arity != head.arity {
         return None;
     }
     Some((signal, rest))
 }
 
-/// A SEND's control term at the front: the field that nobody uses, and To.
-fn send_term_at(text: &[u8]) -> Option<((TermRef<'_>, PidRef<'_>), &[u8])>
-    ensures { ReadsFront IsSendText text.now result }
+fn send_before_at(levels: u32, fields: &[u8]) -> Option<(u32, &[u8])>
+    ensures { ReadsFront (IsBefore levels SEND) fields.now result }
 {
-    let ((head, tag), fields) = row_head_at(text)?;
-    if head.arity != SEND_ARITY || tag != SEND {
-        return None;
-    }
-    send_at(head.levels, fields)
+    let (_, rest) = send_at(levels, fields)?;
+    Some((SEND_ARITY, rest))
 }
 
-/// What is wrong with a text at whose front no signal's text stands.
+fn exit_before_at(levels: u32, fields: &[u8]) -> Option<(u32, &[u8])>
+    ensures { ReadsFront (IsBefore levels PAYLOAD_EXIT) fields.now result }
+{
+    let (_, rest) = pids_at(levels, fields)?;
+    Some((PAYLOAD_EXIT_ARITY, rest))
+}
+
+fn exit2_before_at(levels: u32, fields: &[u8]) -> Option<(u32, &[u8])>
+    ensures { ReadsFront (IsBefore levels PAYLOAD_EXIT2) fields.now result }
+{
+    let (_, rest) = pids_at(levels, fields)?;
+    Some((PAYLOAD_EXIT2_ARITY, rest))
+}
+
+fn monitor_exit_before_at(levels: u32, fields: &[u8]) -> Option<(u32, &[u8])>
+    ensures { ReadsFront (IsBefore levels PAYLOAD_MONITOR_P_EXIT) fields.now result }
+{
+    let (_, rest) = pids_and_reference_at(levels, fields)?;
+    Some((PAYLOAD_MONITOR_P_EXIT_ARITY, rest))
+}
+
+/// Returns the arity of a control term that a message follows, and the bytes behind its fields.
+/// `fields` begins behind the term's tag.
+fn before_at(tag: u64, levels: u32, fields: &[u8]) -> Option<(u32, &[u8])>
+    ensures { ReadsFront (IsBefore levels tag) fields.now result }
+{
+    match tag {
+        SEND => send_before_at(levels, fields),
+        PAYLOAD_EXIT => exit_before_at(levels, fields),
+        PAYLOAD_EXIT2 => exit2_before_at(levels, fields),
+        PAYLOAD_MONITOR_P_EXIT => monitor_exit_before_at(levels, fields),
+        _ => None,
+    }
+}
+
+/// Reads a control term at the front that a message follows. Returns its tag and the bytes behind it.
+fn followed_at(text: &[u8]) -> Option<(u64, &[u8])>
+    ensures { ReadsFront IsFollowedText text.now result }
+{
+    let ((head, tag), fields) = row_head_at(text)?;
+    let (arity, rest) = before_at(tag, head.levels, fields)?;
+    if arity != head.arity {
+        return None;
+    }
+    Some((tag, rest))
+}
+
+/// Returns the fault of a text at whose front no signal's text stands.
 fn fault_of(text: &[u8]) -> FrameFault
     requires { HasNoText text.now }
     ensures { IsTextFault text.now (error_of result) }
@@ -150,7 +259,7 @@ fn fault_of(text: &[u8]) -> FrameFault
     if let Err(e) = term_len(text) {
         return FrameFault::Term(e);
     }
-    let Some((_, message)) = send_term_at(text) else {
+    let Some((_, message)) = followed_at(text) else {
         return FrameFault::BadControl;
     };
     match term_len(message) {

@@ -2,7 +2,7 @@
 ghost use Rattle.std.specs.Prelude.{◌≡◌};
 ghost use Rattle.erl_term.specs.Parts.{ReadsFront};
 ghost use Rattle.erl_term.specs.Spelling.{IsSpelling};
-ghost use Rattle.erl_control.specs.Reading.{IsOpening, IsNaturalText, IsRowHead, IsIdText, ArePids, AreIdAndPids, ArePidsAndReason, ArePidsAndReference, AreMonitorExit, AreSend, AreSendAndMessage};
+ghost use Rattle.erl_control.specs.Reading.{IsOpening, IsNaturalText, IsRowHead, IsIdText, ArePids, AreIdAndPids, ArePidsAndReason, ArePidsAndReference, AreMonitorExit, ArePidsAndPayload, AreMonitorExitAndPayload, AreSend, AreSendAndMessage};
 
 use erl_term::{
     PidRef, ReferenceRef, TermRef, TupleHead, integer_at, pid_at, reference_at, term_at,
@@ -137,4 +137,33 @@ pub fn send_and_message_at(
     let (fields, rest) = send_at(levels, bytes)?;
     let (message, rest) = spelling_at(rest)?;
     Some(((fields, message), rest))
+}
+
+/// From and To, and the reason behind the control term.
+pub fn pids_and_payload_at(
+    levels: u32,
+    bytes: &[u8],
+) -> Option<(((PidRef<'_>, PidRef<'_>), TermRef<'_>), &[u8])>
+    ensures { ReadsFront (ArePidsAndPayload levels) bytes.now result }
+{
+    let (pids, rest) = pids_at(levels, bytes)?;
+    let (reason, rest) = spelling_at(rest)?;
+    Some(((pids, reason), rest))
+}
+
+/// From, To and Ref, and the reason behind the control term.
+pub fn pids_reference_and_payload_at(
+    levels: u32,
+    bytes: &[u8],
+) -> Option<
+    (
+        (((PidRef<'_>, PidRef<'_>), ReferenceRef<'_>), TermRef<'_>),
+        &[u8],
+    ),
+>
+    ensures { ReadsFront (AreMonitorExitAndPayload levels) bytes.now result }
+{
+    let (monitor, rest) = pids_and_reference_at(levels, bytes)?;
+    let (reason, rest) = spelling_at(rest)?;
+    Some(((monitor, reason), rest))
 }

@@ -1,5 +1,5 @@
 //! Writing frames.
-ghost use Rattle.std.specs.Prelude.{◌≡◌, ◌≢◌, ◌↔◌, ◌++◌, ◌∷◌, ◌≤◌, ◌+◌, ◌<◌, ◌^◌, [], pos, length, IsTrue, OnOk, OnErr, IfOk, IfErr, IfSome, IfNone, IsErrOf};
+ghost use Rattle.std.specs.Prelude.{◌≡◌, ◌≢◌, ◌↔◌, ◌++◌, true, false, ◌∷◌, ◌≤◌, ◌+◌, ◌<◌, ◌^◌, [], pos, length, IsTrue, OnOk, OnErr, IfOk, IfErr, IfSome, IfNone, IsErrOf};
 ghost use Rattle.std.specs.Vec.{vec_len, vec_capacity};
 ghost use Rattle.erl_term.specs.Data.{atom};
 ghost use Rattle.erl_term.specs.Data as term;
@@ -7,7 +7,8 @@ ghost use Rattle.erl_term.specs.Canonical.{canonical, canonical_term, canonical_
 ghost use Rattle.erl_control.specs.declared.signal.Signal.TheVariants as variant;
 ghost use Rattle.erl_control.specs.declared.signal.Item.{Item};
 ghost use Rattle.erl_control.specs.declared.error.FrameError.{FrameError};
-ghost use Rattle.erl_control.specs.Control.{row, control_term, HasId, Carries, Fits, IsSendable};
+ghost use Rattle.erl_control.specs.declared.tags.TheConstants.{MONITOR_P_EXIT, PAYLOAD_MONITOR_P_EXIT};
+ghost use Rattle.erl_control.specs.Control.{row, control_in, HasId, Carries, Fits, IsSendable};
 ghost use Rattle.erl_control.specs.Frame.{IsFramed};
 ghost use Rattle.erl_control.specs.Canonical.{canonical_text, canonical_frame};
 ghost use Rattle.erl_control.specs.Parts.{signal_of};
@@ -42,7 +43,7 @@ fn has_id(signal: SignalParts<'_>) -> bool
     }
 }
 
-/// How many bytes the version byte, the head of the tuple and its first element take.
+/// Returns the number of bytes of the version byte, the tuple's head and its first element.
 fn opening_len(arity: u32, tag: u64) -> usize
     ensures len { result ≡ length (131 ∷ (canonical_head arity ++ canonical_int (pos tag))) }
     ensures bound { result ≤ 25 }
@@ -50,7 +51,7 @@ fn opening_len(arity: u32, tag: u64) -> usize
     1 + tuple_head_len(arity as usize) + integer_len(i128::from(tag))
 }
 
-/// How many bytes a row of From, To and Reason takes, where the reason fits.
+/// Returns the number of bytes of a row of From, To and Reason, where the reason fits.
 fn exit_len(tag: u64, from: &Pid, to: &Pid, reason: &Payload) -> Option<usize>
     ensures none { IfNone result (¬ Fits reason.now) }
     ensures fits { IfSome result (λ _. Fits reason.now) }
@@ -62,7 +63,7 @@ fn exit_len(tag: u64, from: &Pid, to: &Pid, reason: &Payload) -> Option<usize>
     Some(opening_len(tags::EXIT_ARITY, tag) + pid_len(from) + pid_len(to) + len)
 }
 
-/// How many bytes a row of From, To and Ref takes.
+/// Returns the number of bytes of a row of From, To and Ref.
 fn monitor_len(tag: u64, from: &Pid, to: &Pid, reference: &Reference) -> usize
     ensures len { result ≡ length (canonical (row tag (term.pid from.now ∷ term.pid to.now ∷ term.reference reference.now ∷ []))) }
     ensures bound { result < 65536 }
@@ -72,19 +73,49 @@ fn monitor_len(tag: u64, from: &Pid, to: &Pid, reference: &Reference) -> usize
     opening_len(tags::MONITOR_P_ARITY, tag) + pid_len(from) + pid_len(to) + len
 }
 
-/// How many bytes the text of MONITOR_P_EXIT takes, where the reason fits.
+/// Returns the number of bytes of the text of PAYLOAD_EXIT or PAYLOAD_EXIT2, where the reason fits.
+fn payload_exit_len(tag: u64, from: &Pid, to: &Pid, reason: &Payload) -> Option<usize>
+    ensures none { IfNone result (¬ Fits reason.now) }
+    ensures fits { IfSome result (λ _. Fits reason.now) }
+    ensures len { IfSome result (λ n. n ≡ length (canonical (row tag (term.pid from.now ∷ term.pid to.now ∷ [])) ++ canonical reason.now)) }
+    ensures bound { IfSome result (λ n. n < 65536) }
+    ensures in_range { IfSome result (λ _. IsInRange (row tag (term.pid from.now ∷ term.pid to.now ∷ []))) }
+{
+    let len = payload_len(reason)? + 1;
+    Some(opening_len(tags::PAYLOAD_EXIT_ARITY, tag) + pid_len(from) + pid_len(to) + len)
+}
+
+/// Returns the number of bytes of a row of From, To, Ref and Reason, where the reason fits.
 fn monitor_exit_len(from: &Pid, to: &Pid, reference: &Reference, reason: &Payload) -> Option<usize>
     ensures none { IfNone result (¬ Fits reason.now) }
     ensures fits { IfSome result (λ _. Fits reason.now) }
-    ensures len { IfSome result (λ n. n ≡ length (canonical_text (variant.MonitorExit from.now to.now reference.now reason.now))) }
+    ensures len { IfSome result (λ n. n ≡ length (canonical (row MONITOR_P_EXIT (term.pid from.now ∷ term.pid to.now ∷ term.reference reference.now ∷ reason.now ∷ [])))) }
     ensures bound { IfSome result (λ n. n < 65536) }
-    ensures in_range { IfSome result (λ _. IsInRange (control_term (atom []) (variant.MonitorExit from.now to.now reference.now reason.now))) }
+    ensures in_range { IfSome result (λ _. IsInRange (row MONITOR_P_EXIT (term.pid from.now ∷ term.pid to.now ∷ term.reference reference.now ∷ reason.now ∷ []))) }
 {
     let len = payload_len(reason)? + reference_len(reference) + pid_len(from) + pid_len(to);
     Some(opening_len(tags::MONITOR_P_EXIT_ARITY, tags::MONITOR_P_EXIT) + len)
 }
 
-/// How many bytes a row of Id, From and To takes.
+/// Returns the number of bytes of the text of PAYLOAD_MONITOR_P_EXIT, where the reason fits.
+fn payload_monitor_exit_len(
+    from: &Pid,
+    to: &Pid,
+    reference: &Reference,
+    reason: &Payload,
+) -> Option<usize>
+    ensures none { IfNone result (¬ Fits reason.now) }
+    ensures fits { IfSome result (λ _. Fits reason.now) }
+    ensures len { IfSome result (λ n. n ≡ length (canonical (row PAYLOAD_MONITOR_P_EXIT (term.pid from.now ∷ term.pid to.now ∷ term.reference reference.now ∷ [])) ++ canonical reason.now)) }
+    ensures bound { IfSome result (λ n. n < 65536) }
+    ensures in_range { IfSome result (λ _. IsInRange (row PAYLOAD_MONITOR_P_EXIT (term.pid from.now ∷ term.pid to.now ∷ term.reference reference.now ∷ []))) }
+{
+    let len = payload_len(reason)? + 1 + reference_len(reference) + pid_len(from) + pid_len(to);
+    let tag = tags::PAYLOAD_MONITOR_P_EXIT;
+    Some(opening_len(tags::PAYLOAD_MONITOR_P_EXIT_ARITY, tag) + len)
+}
+
+/// Returns the number of bytes of a row of Id, From and To.
 fn unlink_len(tag: u64, id: u64, from: &Pid, to: &Pid) -> usize
     ensures len { result ≡ length (canonical (row tag (term.int (pos id) ∷ term.pid from.now ∷ term.pid to.now ∷ []))) }
     ensures bound { result < 65536 }
@@ -94,13 +125,13 @@ fn unlink_len(tag: u64, id: u64, from: &Pid, to: &Pid) -> usize
     opening_len(tags::UNLINK_ID_ARITY, tag) + len + pid_len(from) + pid_len(to)
 }
 
-/// How many bytes the text of the signal takes, where what it carries fits.
-fn text_len(signal: SignalParts<'_>) -> Option<usize>
+/// Returns the number of bytes of the signal's text, where its message or reason fits.
+fn text_len(signal: SignalParts<'_>, payload: bool) -> Option<usize>
     ensures none { IfNone result (¬ Carries Fits (signal_of signal.entry)) }
     ensures fits { IfSome result (λ _. Carries Fits (signal_of signal.entry)) }
-    ensures len { IfSome result (λ n. n ≡ length (canonical_text (signal_of signal.entry))) }
+    ensures len { IfSome result (λ n. n ≡ length (canonical_text (signal_of signal.entry) payload)) }
     ensures bound { IfSome result (λ n. n < 65536) }
-    ensures in_range { IfSome result (λ _. IsInRange (control_term (atom []) (signal_of signal.entry))) }
+    ensures in_range { IfSome result (λ _. IsInRange (control_in (atom []) (signal_of signal.entry) payload)) }
 {
     match signal {
         SignalParts::Link { from, to } => {
@@ -110,7 +141,13 @@ fn text_len(signal: SignalParts<'_>) -> Option<usize>
             let len = EMPTY_ATOM.len() + pid_len(to) + 1 + payload_len(message)?;
             Some(opening_len(tags::SEND_ARITY, tags::SEND) + len)
         }
+        SignalParts::Exit { from, to, reason } if payload => {
+            payload_exit_len(tags::PAYLOAD_EXIT, from, to, reason)
+        }
         SignalParts::Exit { from, to, reason } => exit_len(tags::EXIT, from, to, reason),
+        SignalParts::Exit2 { from, to, reason } if payload => {
+            payload_exit_len(tags::PAYLOAD_EXIT2, from, to, reason)
+        }
         SignalParts::Exit2 { from, to, reason } => exit_len(tags::EXIT2, from, to, reason),
         SignalParts::Monitor {
             from,
@@ -127,6 +164,12 @@ fn text_len(signal: SignalParts<'_>) -> Option<usize>
             to,
             reference,
             reason,
+        } if payload => payload_monitor_exit_len(from, to, reference, reason),
+        SignalParts::MonitorExit {
+            from,
+            to,
+            reference,
+            reason,
         } => monitor_exit_len(from, to, reference, reason),
         SignalParts::UnlinkId { id, from, to } => Some(unlink_len(tags::UNLINK_ID, id, from, to)),
         SignalParts::UnlinkIdAck { id, from, to } => {
@@ -135,7 +178,7 @@ fn text_len(signal: SignalParts<'_>) -> Option<usize>
     }
 }
 
-// What follows writes where there is room for it.
+// The functions below write where there is room.
 
 fn write_opening(out: &mut Vec<u8>, arity: u32, tag: u64)
     requires room { vec_len out.old + length (131 ∷ (canonical_head arity ++ canonical_int (pos tag))) ≤ vec_capacity out.old }
@@ -170,8 +213,8 @@ fn write_payload(out: &mut Vec<u8>, payload: &Payload)
 #[tactic(auto, unfolding(erl_term::specs::Canonical::canonical_atom))]
 fn write_send(out: &mut Vec<u8>, to: &Pid, message: &Payload)
     requires in_range { IsInRange message.now }
-    requires room { vec_len out.old + length (canonical_text (variant.Send to.now message.now)) ≤ vec_capacity out.old }
-    ensures items { out.new.items ≡ out.old.items ++ canonical_text (variant.Send to.now message.now) }
+    requires room { vec_len out.old + length (canonical_text (variant.Send to.now message.now) false) ≤ vec_capacity out.old }
+    ensures items { out.new.items ≡ out.old.items ++ canonical_text (variant.Send to.now message.now) false }
 {
     write_opening(out, tags::SEND_ARITY, tags::SEND);
     out.extend_from_slice(&EMPTY_ATOM).unwrap();
@@ -201,6 +244,18 @@ fn write_monitor(out: &mut Vec<u8>, tag: u64, from: &Pid, to: &Pid, reference: &
     write_reference(out, reference);
 }
 
+/// Writes the text of PAYLOAD_EXIT or PAYLOAD_EXIT2.
+fn write_payload_exit(out: &mut Vec<u8>, tag: u64, from: &Pid, to: &Pid, reason: &Payload)
+    requires in_range { IsInRange reason.now }
+    requires room { vec_len out.old + length (canonical (row tag (term.pid from.now ∷ term.pid to.now ∷ [])) ++ canonical reason.now) ≤ vec_capacity out.old }
+    ensures items { out.new.items ≡ out.old.items ++ (canonical (row tag (term.pid from.now ∷ term.pid to.now ∷ [])) ++ canonical reason.now) }
+{
+    write_opening(out, tags::PAYLOAD_EXIT_ARITY, tag);
+    write_pids(out, from, to);
+    out.push_reserved(131);
+    write_payload(out, reason);
+}
+
 /// Writes the text of MONITOR_P_EXIT.
 fn write_monitor_exit(
     out: &mut Vec<u8>,
@@ -210,12 +265,35 @@ fn write_monitor_exit(
     reason: &Payload,
 )
     requires in_range { IsInRange reason.now }
-    requires room { vec_len out.old + length (canonical_text (variant.MonitorExit from.now to.now reference.now reason.now)) ≤ vec_capacity out.old }
-    ensures items { out.new.items ≡ out.old.items ++ canonical_text (variant.MonitorExit from.now to.now reference.now reason.now) }
+    requires room { vec_len out.old + length (canonical_text (variant.MonitorExit from.now to.now reference.now reason.now) false) ≤ vec_capacity out.old }
+    ensures items { out.new.items ≡ out.old.items ++ canonical_text (variant.MonitorExit from.now to.now reference.now reason.now) false }
 {
     write_opening(out, tags::MONITOR_P_EXIT_ARITY, tags::MONITOR_P_EXIT);
     write_pids(out, from, to);
     write_reference(out, reference);
+    write_payload(out, reason);
+}
+
+/// Writes the text of PAYLOAD_MONITOR_P_EXIT.
+fn write_payload_monitor_exit(
+    out: &mut Vec<u8>,
+    from: &Pid,
+    to: &Pid,
+    reference: &Reference,
+    reason: &Payload,
+)
+    requires in_range { IsInRange reason.now }
+    requires room { vec_len out.old + length (canonical_text (variant.MonitorExit from.now to.now reference.now reason.now) true) ≤ vec_capacity out.old }
+    ensures items { out.new.items ≡ out.old.items ++ canonical_text (variant.MonitorExit from.now to.now reference.now reason.now) true }
+{
+    write_opening(
+        out,
+        tags::PAYLOAD_MONITOR_P_EXIT_ARITY,
+        tags::PAYLOAD_MONITOR_P_EXIT,
+    );
+    write_pids(out, from, to);
+    write_reference(out, reference);
+    out.push_reserved(131);
     write_payload(out, reason);
 }
 
@@ -230,10 +308,10 @@ fn write_unlink(out: &mut Vec<u8>, tag: u64, id: u64, from: &Pid, to: &Pid)
 }
 
 /// Writes the text of the signal.
-fn write_text(out: &mut Vec<u8>, signal: SignalParts<'_>)
+fn write_text(out: &mut Vec<u8>, signal: SignalParts<'_>, payload: bool)
     requires fits { Carries Fits (signal_of signal) }
-    requires room { vec_len out.old + length (canonical_text (signal_of signal)) ≤ vec_capacity out.old }
-    ensures items { out.new.items ≡ out.old.items ++ canonical_text (signal_of signal.entry) }
+    requires room { vec_len out.old + length (canonical_text (signal_of signal) payload) ≤ vec_capacity out.old }
+    ensures items { out.new.items ≡ out.old.items ++ canonical_text (signal_of signal.entry) payload }
 {
     match signal {
         SignalParts::Link { from, to } => {
@@ -241,7 +319,13 @@ fn write_text(out: &mut Vec<u8>, signal: SignalParts<'_>)
             write_pids(out, from, to);
         }
         SignalParts::Send { to, message } => write_send(out, to, message),
+        SignalParts::Exit { from, to, reason } if payload => {
+            write_payload_exit(out, tags::PAYLOAD_EXIT, from, to, reason)
+        }
         SignalParts::Exit { from, to, reason } => write_exit(out, tags::EXIT, from, to, reason),
+        SignalParts::Exit2 { from, to, reason } if payload => {
+            write_payload_exit(out, tags::PAYLOAD_EXIT2, from, to, reason)
+        }
         SignalParts::Exit2 { from, to, reason } => write_exit(out, tags::EXIT2, from, to, reason),
         SignalParts::Monitor {
             from,
@@ -253,6 +337,12 @@ fn write_text(out: &mut Vec<u8>, signal: SignalParts<'_>)
             to,
             reference,
         } => write_monitor(out, tags::DEMONITOR_P, from, to, reference),
+        SignalParts::MonitorExit {
+            from,
+            to,
+            reference,
+            reason,
+        } if payload => write_payload_monitor_exit(out, from, to, reference, reason),
         SignalParts::MonitorExit {
             from,
             to,
@@ -271,6 +361,7 @@ fn write_text(out: &mut Vec<u8>, signal: SignalParts<'_>)
 }
 
 /// Writes the frame of the signal behind the bytes of `out`, each term in its canonical spelling.
+/// With `payload` the reason of EXIT, EXIT2 and MONITOR_P_EXIT stands behind the control term.
 /// All room is made before the first byte is written. (ERTS User's Guide, Distribution Protocol,
 /// Protocol between Connected Nodes.)
 ///
@@ -278,22 +369,26 @@ fn write_text(out: &mut Vec<u8>, signal: SignalParts<'_>)
 /// [`FrameError::TooLong`] where the message or the reason doesn't fit ([`fits`](crate::fits)), and
 /// [`FrameError::OutOfMemory`]. No frame of a signal whose payload fits is too long. Where it is
 /// refused `out` stays as it was.
-pub fn put_frame(out: &mut Vec<u8>, signal: SignalParts<'_>) -> Result<(), FrameError>
-    ensures ok { OnOk result (out.new.items ≡ out.old.items ++ canonical_frame (signal_of signal.entry)) }
-    ensures framed { OnOk result (IsFramed (Item.Signal (signal_of signal.entry)) (canonical_frame (signal_of signal.entry))) }
+pub fn put_frame(
+    out: &mut Vec<u8>,
+    signal: SignalParts<'_>,
+    payload: bool,
+) -> Result<(), FrameError>
+    ensures ok { OnOk result (out.new.items ≡ out.old.items ++ canonical_frame (signal_of signal.entry) payload) }
+    ensures framed { OnOk result (IsFramed (Item.Signal (signal_of signal.entry)) (canonical_frame (signal_of signal.entry) payload)) }
     // The refusals, in their order.
     ensures bad_control { IsErrOf result FrameError.BadControl ↔ ¬ HasId (signal_of signal.entry) }
     ensures too_long { IsErrOf result FrameError.TooLong ↔ (HasId (signal_of signal.entry) × (¬ Carries Fits (signal_of signal.entry))) }
     // No other error comes, and memory is asked for only where the signal can be sent and there is
     // no room for its frame.
     ensures memory { IfErr result (λ e. e ≢ FrameError.BadControl → e ≢ FrameError.TooLong → (e ≡ FrameError.OutOfMemory) × IsSendable (signal_of signal.entry)) }
-    ensures room { vec_len out.old + length (canonical_frame (signal_of signal.entry)) ≤ vec_capacity out.old → ¬ IsErrOf result FrameError.OutOfMemory }
+    ensures room { vec_len out.old + length (canonical_frame (signal_of signal.entry) payload) ≤ vec_capacity out.old → ¬ IsErrOf result FrameError.OutOfMemory }
     ensures err { OnErr result (out.new.items ≡ out.old.items) }
 {
     if !has_id(signal) {
         return Err(FrameError::BadControl);
     }
-    let Some(len) = text_len(signal) else {
+    let Some(len) = text_len(signal, payload) else {
         return Err(FrameError::TooLong);
     };
     canonical_is_framed();
@@ -301,14 +396,14 @@ pub fn put_frame(out: &mut Vec<u8>, signal: SignalParts<'_>) -> Result<(), Frame
     out.extend_from_slice(&(len as u32 + 1).to_be_bytes())
         .unwrap();
     out.push_reserved(112);
-    write_text(out, signal);
+    write_text(out, signal, payload);
     Ok(())
 }
 
-/// The frame of the signal: what [`put_frame`] writes, in memory of its own, and refused where that
-/// is.
-pub fn frame(alloc: Global, signal: &Signal) -> Result<Vec<u8>, FrameError>
-    ensures ok { IfOk result (λ frame. frame.items ≡ canonical_frame signal.now) }
+/// Returns the frame that [`put_frame`] writes for the signal, in memory of its own. It is refused
+/// where [`put_frame`] is.
+pub fn frame(alloc: Global, signal: &Signal, payload: bool) -> Result<Vec<u8>, FrameError>
+    ensures ok { IfOk result (λ frame. frame.items ≡ canonical_frame signal.now payload) }
     ensures framed { IfOk result (λ frame. IsFramed (Item.Signal signal.now) frame.items) }
     // The refusals, in their order.
     ensures bad_control { IsErrOf result FrameError.BadControl ↔ ¬ HasId signal.now }
@@ -317,6 +412,6 @@ pub fn frame(alloc: Global, signal: &Signal) -> Result<Vec<u8>, FrameError>
     ensures memory { IfErr result (λ e. e ≢ FrameError.BadControl → e ≢ FrameError.TooLong → (e ≡ FrameError.OutOfMemory) × IsSendable signal.now) }
 {
     let mut out = Vec::new(alloc);
-    put_frame(&mut out, signal.parts())?;
+    put_frame(&mut out, signal.parts(), payload)?;
     Ok(out)
 }

@@ -1,12 +1,12 @@
 //! Laws of the definitions.
-ghost use Rattle.std.specs.Prelude.{◌≡◌, ◌↔◌, ◌++◌, true, List, [], ℕ, length, Option, Some, Result, Ok};
+ghost use Rattle.std.specs.Prelude.{◌≡◌, ◌↔◌, ◌++◌, Bool, true, List, [], ℕ, length, Option, Some, Result, Ok};
 ghost use Rattle.erl_term.specs.Data.{Data, atom};
 ghost use Rattle.erl_term.specs.Numbers.{AreBytes};
 ghost use Rattle.erl_control.specs.declared.signal.Item.{Item};
 ghost use Rattle.erl_control.specs.declared.error.FrameError.{FrameError};
 ghost use Rattle.erl_control.specs.declared.signal.Signal.{Signal};
 ghost use Rattle.erl_term.specs.Canonical.{IsInRange};
-ghost use Rattle.erl_control.specs.Control.{control_term, Fits, IsSendable};
+ghost use Rattle.erl_control.specs.Control.{control_in, Fits, IsSendable};
 ghost use Rattle.erl_control.specs.Canonical.{canonical_frame};
 ghost use Rattle.erl_control.specs.Fits.{fits};
 ghost use Rattle.erl_control.specs.Frame.{IsFramed};
@@ -34,7 +34,7 @@ pub fn read_again()
 
 /// The frame that is written is a frame of its signal.
 pub fn canonical_is_framed()
-    ensures { (signal : Signal) → IsSendable signal → IsInRange (control_term (atom []) signal) → IsFramed (Item.Signal signal) (canonical_frame signal) }
+    ensures { (signal : Signal) (payload : Bool) → IsSendable signal → IsInRange (control_in (atom []) signal payload) → IsFramed (Item.Signal signal) (canonical_frame signal payload) }
 {
     erl_term::canonical_is_spelling();
     erl_term::short_parts();

@@ -5,11 +5,9 @@ ghost use Rattle.erl_control.specs.declared.signal.Item.{Item};
 ghost use Rattle.erl_control.specs.declared.signal.Signal.TheVariants as variant;
 ghost use Rattle.erl_control.specs.Control.{Carries, IsFit};
 ghost use Rattle.erl_control.specs.Parts.{signal_in, item_in};
-ghost use Rattle.erl_control.specs.Reading.{arity_of};
 
 use crate::fit::{MOST_PAYLOAD_BYTES, MOST_PAYLOAD_LEVELS};
 use crate::signal::{Item, Signal};
-use crate::tags;
 use erl_term::{Payload, Pid, PidRef, Reference, ReferenceRef, TermRef};
 use std::alloc::{AllocError, Global};
 
@@ -28,7 +26,7 @@ pub enum SignalRef<'a> {
     Send {
         /// The process that gets the message.
         to: PidRef<'a>,
-        /// What is sent.
+        /// The message.
         message: TermRef<'a>,
     },
     /// EXIT.
@@ -121,24 +119,7 @@ impl<'a> ItemRef<'a> {
 }
 
 impl<'a> SignalRef<'a> {
-    /// How many elements the control term has.
-    pub(crate) fn arity(&self) -> u32
-        ensures { result ≡ arity_of (signal_in self.now) }
-    {
-        match self {
-            SignalRef::Link { .. } => tags::LINK_ARITY,
-            SignalRef::Send { .. } => tags::SEND_ARITY,
-            SignalRef::Exit { .. } => tags::EXIT_ARITY,
-            SignalRef::Exit2 { .. } => tags::EXIT2_ARITY,
-            SignalRef::Monitor { .. } => tags::MONITOR_P_ARITY,
-            SignalRef::Demonitor { .. } => tags::DEMONITOR_P_ARITY,
-            SignalRef::MonitorExit { .. } => tags::MONITOR_P_EXIT_ARITY,
-            SignalRef::UnlinkId { .. } => tags::UNLINK_ID_ARITY,
-            SignalRef::UnlinkIdAck { .. } => tags::UNLINK_ID_ACK_ARITY,
-        }
-    }
-
-    /// Whether the message or the reason fits. It takes no memory.
+    /// Returns true where the message or the reason fits. Never allocates.
     pub(crate) fn is_fit(&self) -> bool
         ensures { IsTrue result ↔ Carries IsFit (signal_in self.now) }
     {

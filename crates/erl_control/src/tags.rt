@@ -46,3 +46,19 @@ pub const UNLINK_ID_ARITY: u32 = 4;
 pub const UNLINK_ID_ACK: u64 = 36;
 /// With its tag.
 pub const UNLINK_ID_ACK_ARITY: u32 = 4;
+
+/// PAYLOAD_EXIT is `{24, From, To}`, and the reason follows it: the second spelling of EXIT.
+pub const PAYLOAD_EXIT: u64 = 24;
+/// With its tag.
+pub const PAYLOAD_EXIT_ARITY: u32 = 3;
+
+/// PAYLOAD_EXIT2 is `{26, From, To}`, and the reason follows it: the second spelling of EXIT2.
+pub const PAYLOAD_EXIT2: u64 = 26;
+/// With its tag.
+pub const PAYLOAD_EXIT2_ARITY: u32 = 3;
+
+/// PAYLOAD_MONITOR_P_EXIT is `{28, From, To, Ref}`, and the reason follows it: the second spelling
+/// of MONITOR_P_EXIT.
+pub const PAYLOAD_MONITOR_P_EXIT: u64 = 28;
+/// With its tag.
+pub const PAYLOAD_MONITOR_P_EXIT_ARITY: u32 = 4;

@@ -66,8 +66,8 @@ behind_all levels room ts left few h = let e = h.2 in ((few, h.0, h.1, omega ari
 
 -- ---- levels
 
-pub below_is : (levels below : ℕ) → (1 ≤ levels) × (below ≡ levels - 1) → levels ≡ below + 1
-below_is levels below h = let le = h.0 in let e = h.1 in omega arith
+pub below_is : (levels : ℕ) → 0 < levels → levels ≡ levels - 1 + 1
+below_is levels some = omega arith
 
 -- ---- tuples
 

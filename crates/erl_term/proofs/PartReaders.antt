@@ -9,14 +9,14 @@ use Rattle.erl_term.specs.declared.term.Pid.{Pid}
 use Rattle.erl_term.specs.Numbers.{AreBytes}
 use Rattle.erl_term.specs.Data.{Data, int, pid}
 use Rattle.erl_term.specs.declared.term.Reference.{Reference}
-use Rattle.erl_term.specs.Spelling.{IsPid, IsReference, SpellsBy, Spells}
+use Rattle.erl_term.specs.Spelling.{IsPid, IsReference, SpellsAtom, SpellsBy, Spells}
 use Rattle.erl_term.specs.Reading.{Read, ◌>>=◌, read_number, read_small, read_integer, read_big}
-use Rattle.erl_term.specs.Reading.{read_pid, read_reference, row_with, read_term}
+use Rattle.erl_term.specs.Reading.{read_node, read_pid, read_reference, row_with, read_term}
 use Rattle.erl_term.specs.Parts.{ReadsFront, IsHeadBy, IsHead, IsIntegerText, head_part_at, integer_part_at, pid_part_at, reference_part_at}
 use Rattle.erl_term.proofs.Readers.{Takes, AreBytes-rest, Known, known, is_ok, is_err, err_of_bind, ok_of_bind}
 use Rattle.erl_term.proofs.Base.{ok_is, Reads-any}
 use Rattle.erl_term.proofs.Bytes.{one_byte, byte_number}
-use Rattle.erl_term.proofs.TableRows.{Reads-reference, reference_to, reference_back}
+use Rattle.erl_term.proofs.TableRows.{Reads-node, Reads-reference, reference_to, reference_back}
 use Rattle.erl_term.proofs.Table.{Reads-term}
 
 -- ---- the tag
@@ -294,3 +294,15 @@ reference_some bytes x h e =
 
 pub reference_none : (bytes : List ℕ) (d : TermError) → reference_part_at bytes ≡ Err d → ReadsFront IsReference bytes None
 reference_none bytes d e = front_none (λ (r : Reference). r) IsReference (reference_part_at bytes) bytes d e (reference_again bytes)
+
+atom_again : (bytes a text rest : List ℕ) → SpellsAtom a text → bytes ≡ text ++ rest → read_node bytes ≡ Ok (a, rest)
+atom_again bytes a text rest s e = ap read_node e ∙ Reads-node.again a text rest s
+
+pub atom_some : (bytes : List ℕ) (x : List ℕ × Bor (List ℕ)) → AreBytes bytes → read_node bytes ≡ Ok (x.0, x.1.now)
+    → ReadsFront SpellsAtom bytes (Some x)
+atom_some bytes x h e =
+    front_some (λ (a : List ℕ). a) SpellsAtom (read_node bytes) bytes x (λ a b q. q) e (Reads-node.takes bytes x.0 x.1.now h e)
+    (atom_again bytes)
+
+pub atom_none : (bytes : List ℕ) (d : TermError) → read_node bytes ≡ Err d → ReadsFront SpellsAtom bytes None
+atom_none bytes d e = front_none (λ (a : List ℕ). a) SpellsAtom (read_node bytes) bytes d e (atom_again bytes)

@@ -1,12 +1,8 @@
 -- What stands behind what was there, after several writes.
 use Rattle.std.proofs.Common.{append_assoc, get_or, take, ◌≡◌, ℕ, zero, suc, ◌+◌, ◌<◌, List, [], ◌∷◌, ◌++◌, length, sym, ap, ◌∙◌, arith}
-use Rattle.std.specs.Prelude.{true, Option, Some, None, IfSome, is_some}
-use Rattle.std.specs.Option.{unwrap_or}
-use Rattle.std.proofs.lemmas.Bool.{false≢true}
 use Rattle.erl_term.specs.declared.term.Term.{Term}
-use Rattle.erl_term.specs.Data.{Data}
 use Rattle.erl_term.specs.View.{view, items_view}
-use Rattle.erl_term.specs.Canonical.{is_byte, byte_of, bytes_of}
+use Rattle.erl_term.specs.Canonical.{byte_of, bytes_of}
 
 pub two : (old mid new head body whole : List ℕ) → mid ≡ old ++ head → whole ≡ head ++ body → new ≡ mid ++ body → new ≡ old ++ whole
 two old mid new head body whole m w p =
@@ -17,11 +13,6 @@ pub behind_cells : (old mid new head body tail : List ℕ) → mid ≡ (old ++ h
 behind_cells old mid new head body tail p q = rw (q, p) (simp append_assoc)
 
 -- ---- the bytes of a STRING
-
-pub byte_got : (r : Option ℕ) (d : Data) → is_some r ≡ is_byte d → IfSome r (λ b. b ≡ byte_of d) → is_byte d ≡ true
-    → unwrap_or r 0 ≡ byte_of d
-byte_got (Some b) d s h e = h
-byte_got None d s h e = absurd (false≢true (s ∙ e))
 
 pub byte_more : (ts : List Term) (i : ℕ) (x : Term) → i < length ts → x ≡ get_or ts i x
     → bytes_of (items_view (take (i + 1) ts)) ≡ bytes_of (items_view (take i ts)) ++ byte_of (view x) ∷ []

@@ -99,7 +99,7 @@ pub fn put_integer(out: &mut Vec<u8>, n: i128) -> Result<(), AllocError>
 /// Writes a tag and the bytes of a word. It isn't inlined, so that these are taken from 32 bits, also
 /// where the word was one of 128.
 #[inline(never)]
-pub(crate) fn put_word(out: &mut Vec<u8>, tag: u8, word: u32) -> Result<(), AllocError>
+fn put_word(out: &mut Vec<u8>, tag: u8, word: u32) -> Result<(), AllocError>
     ensures items { MatchResult result (λ _. out.new.items ≡ out.old.items ++ tag ∷ big_bytes 4 word) (λ _. out.new.items ≡ out.old.items) }
     ensures room { vec_len out.old + 5 ≤ vec_capacity out.old → IsOk result }
     ensures capacity { vec_capacity out.old ≤ vec_capacity out.new }
@@ -109,8 +109,7 @@ pub(crate) fn put_word(out: &mut Vec<u8>, tag: u8, word: u32) -> Result<(), Allo
 }
 
 /// Writes a SMALL_BIG of this sign and magnitude.
-#[inline(never)]
-fn put_big(out: &mut Vec<u8>, sign: u8, n: u128) -> Result<(), AllocError>
+pub(crate) fn put_big(out: &mut Vec<u8>, sign: u8, n: u128) -> Result<(), AllocError>
     ensures items { MatchResult result (λ _. out.new.items ≡ out.old.items ++ canonical_big sign n) (λ _. out.new.items ≡ out.old.items) }
     ensures room { vec_len out.old + length (canonical_big sign n) ≤ vec_capacity out.old → IsOk result }
     ensures capacity { vec_capacity out.old ≤ vec_capacity out.new }

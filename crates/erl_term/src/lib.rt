@@ -50,9 +50,10 @@ pub use error::TermError;
 pub use laws::{
     canonical_is_spelling, one_answer, one_spelling, order_of_pids, read_again, short_parts,
 };
-pub use part_len::{integer_len, pid_len, reference_len, tuple_head_len};
+pub use part_len::{atom_len, integer_len, pid_len, reference_len, tuple_head_len};
 pub use parts::{
-    AtomRef, PidRef, ReferenceRef, TupleHead, integer_at, pid_at, reference_at, tuple_head_at,
+    AtomRef, PidRef, ReferenceRef, TupleHead, atom_at, integer_at, pid_at, reference_at,
+    tuple_head_at,
 };
 pub use payload::Payload;
 pub use refusal::Refusal;
@@ -60,4 +61,6 @@ pub use room::size_within;
 pub use term::{Pid, Reference, Term};
 pub use term_ref::{TermRef, term_at};
 pub use words::ReferenceWords;
-pub use writing::{write_integer, write_pid, write_reference, write_term, write_tuple_head};
+pub use writing::{
+    write_atom, write_integer, write_pid, write_reference, write_term, write_tuple_head,
+};

@@ -1,5 +1,5 @@
 //! Lists: made of what was read, and told by their items.
-ghost use Rattle.std.specs.Prelude.{◌≡◌, IfOk, IfSome, is_some};
+ghost use Rattle.std.specs.Prelude.{◌≡◌, true, IfOk, IfSome, is_some};
 ghost use Rattle.erl_term.specs.Data.{int, list, joined};
 ghost use Rattle.erl_term.specs.Canonical as canonical;
 ghost use Rattle.erl_term.specs.Spelling.{byte_items};
@@ -53,14 +53,14 @@ pub(crate) fn join(alloc: Global, mut items: Vec<Term>, tail: Term) -> Result<Te
     }
 }
 
-/// Whether the term is a list, proper or not.
+/// Returns true where the term is a list, proper or not.
 pub(crate) fn is_list(term: &Term) -> bool
     ensures { result ≡ canonical.is_list (view term.now) }
 {
     matches!(term, Term::List { .. })
 }
 
-/// Whether the integer is one of a byte.
+/// Returns true where the integer is one of a byte.
 pub(crate) fn is_byte(n: i128) -> bool
     ensures { result ≡ canonical.is_byte (int n) }
 {
@@ -78,7 +78,18 @@ pub(crate) fn byte_in(term: &Term) -> Option<u8>
     }
 }
 
-/// Whether a STRING can hold the items.
+/// The integer that the term is, where it is one of a byte.
+pub(crate) fn byte_of(term: &Term) -> u8
+    requires { canonical.is_byte (view term.now) ≡ true }
+    ensures { result ≡ canonical.byte_of (view term.now) }
+{
+    match term {
+        Term::Int(n) => *n as u8,
+        _ => 0,
+    }
+}
+
+/// Returns true where a STRING can hold the items.
 pub(crate) fn is_string(items: &[Term]) -> bool
     ensures { result ≡ canonical.is_string (items_view items.now) }
 {

@@ -31,18 +31,22 @@ pub(crate) fn signed_of(sign: u64, magnitude: u128) -> i128
     }
 }
 
-/// The bytes of the number, the lowest first, in a buffer, and how many there are.
+/// Returns the number of bytes of the number, but for the zeros above them.
+#[tactic(auto, unfolding(crate::specs::Canonical::magnitude))]
+pub(crate) fn digit_count(n: u128) -> usize
+    ensures count { result ≡ length (magnitude n) }
+    ensures bound { result ≤ 16 }
+{
+    if n == 0 {
+        return 0;
+    }
+    n.ilog2() as usize / 8 + 1
+}
+
+/// The bytes of the number, the lowest first, and how many there are but for the zeros above them.
 pub(crate) fn digits_of(n: u128) -> ([u8; 16], usize)
     ensures bound { result.1 ≤ 16 }
     ensures bytes { take result.1 result.0 ≡ magnitude n }
 {
-    let mut bytes = [0u8; 16];
-    let mut len = 0;
-    let mut rest = n;
-    while rest != 0 && len < 16 {
-        bytes[len] = (rest % 256) as u8;
-        rest /= 256;
-        len += 1;
-    }
-    (bytes, len)
+    (n.to_le_bytes(), digit_count(n))
 }

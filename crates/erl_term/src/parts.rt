@@ -1,10 +1,10 @@
 //! Parts of a term, read where they lie: they take no memory.
 //!
-//! What stands at the front of the bytes is read by itself, so that a caller can tell a message
-//! by its shape before it copies anything.
+//! Each reader reads the front of the bytes by itself, so that a caller can tell a message by its
+//! shape before it copies anything.
 ghost use Rattle.std.specs.Prelude.{◌≡◌, ◌≤◌, ◌↔◌, List, ℕ, length, IsTrue, OnOk};
-ghost use Rattle.erl_term.specs.Data.{int, pid, reference};
-ghost use Rattle.erl_term.specs.Spelling.{IsPid, IsReference, Spells};
+ghost use Rattle.erl_term.specs.Data.{atom, int, pid, reference};
+ghost use Rattle.erl_term.specs.Spelling.{IsPid, IsReference, Spells, SpellsAtom};
 ghost use Rattle.erl_term.specs.Reading.{Answers, read_small, read_integer, read_text, read_atom, read_letters, read_latin, read_node, read_pid, read_word_count, read_words, read_reference};
 ghost use Rattle.erl_term.specs.Parts.{ReadsFront, PassesOver, IsHead, IsTupleHead, IsIntegerText, head_part_at, integer_part_at, pid_part_at, reference_part_at};
 
@@ -66,7 +66,7 @@ impl<'a> AtomRef<'a> {
         }
     }
 
-    /// How many bytes the atom is written in.
+    /// Returns the number of bytes of the atom's canonical spelling.
     #[tactic(auto, unfolding(crate::specs::Canonical::canonical_atom))]
     pub(crate) fn written_len(&self) -> usize
         ensures len { result ≡ length (canonical_atom self.now) }
@@ -78,7 +78,7 @@ impl<'a> AtomRef<'a> {
 }
 
 impl<'a> Text<'a> {
-    /// How many bytes the text has in UTF-8.
+    /// Returns the number of bytes of the text in UTF-8.
     fn len(&self) -> usize
         requires { IsShort self.now }
         ensures len { result ≡ length (text_of self.now) }
@@ -132,7 +132,7 @@ impl<'a> PidRef<'a> {
             && self.node.is_same(&pid.node)
     }
 
-    /// How many bytes the process identifier is written in.
+    /// Returns the number of bytes of the pid's canonical spelling.
     #[tactic(auto, unfolding(crate::specs::Canonical::canonical_pid))]
     pub(crate) fn written_len(&self) -> usize
         ensures len { result ≡ length (canonical_pid self.now) }
@@ -180,7 +180,7 @@ impl<'a> ReferenceRef<'a> {
             && self.node.is_same(&reference.node)
     }
 
-    /// How many bytes the reference is written in.
+    /// Returns the number of bytes of the reference's canonical spelling.
     #[tactic(auto, unfolding(crate::specs::Canonical::canonical_reference))]
     pub(crate) fn written_len(&self) -> usize
         ensures len { result ≡ length (canonical_reference self.now) }
@@ -227,9 +227,9 @@ fn pass_over(levels: u32, bytes: &[u8]) -> Option<(u32, &[u8])>
 /// The head of a tuple of at most so many levels, in front of its elements.
 #[derive(Clone, Copy, Debug, PartialEq, Eq)]
 pub struct TupleHead {
-    /// How many elements the tuple has.
+    /// The number of elements.
     pub arity: u32,
-    /// How many levels each element may have.
+    /// The most levels of each element.
     pub levels: u32,
 }
 
@@ -376,6 +376,25 @@ fn node_ref_of(bytes: &[u8]) -> Result<(AtomRef<'_>, &[u8]), TermError>
     }
 }
 
+/// Reads the atom at the front, in any spelling of at most `levels` levels. Returns it with the bytes
+/// behind it, or `None` where no atom of the profile stands there. Never allocates. (ERTS User's Guide,
+/// External Term Format, SMALL_ATOM_UTF8_EXT, ATOM_UTF8_EXT, SMALL_ATOM_EXT and ATOM_EXT.)
+pub fn atom_at(levels: u32, bytes: &[u8]) -> Option<(AtomRef<'_>, &[u8])>
+    ensures { ReadsFront (λ a b. Spells levels (atom a) b) bytes.now result }
+{
+    let (_, bytes) = pass_over(levels, bytes)?;
+    own_atom_at(bytes)
+}
+
+fn own_atom_at(bytes: &[u8]) -> Option<(AtomRef<'_>, &[u8])>
+    ensures { ReadsFront SpellsAtom bytes.now result }
+{
+    match node_ref_of(bytes) {
+        Ok(atom) => Some(atom),
+        Err(_) => None,
+    }
+}
+
 #[tactic(auto, unfolding(crate::specs::Parts::pid_part_at))]
 fn pid_ref_of(bytes: &[u8]) -> Result<(PidRef<'_>, &[u8]), TermError>
     ensures { Answers (λ x. (x.0, x.1.now)) result (pid_part_at bytes.now) }
@@ -424,7 +443,7 @@ fn own_pid_at(bytes: &[u8]) -> Option<(PidRef<'_>, &[u8])>
     }
 }
 
-/// How many words a reference has.
+/// Returns the number of words of a reference, and the bytes after it.
 #[tactic(auto, unfolding(crate::specs::Reading::read_word_count))]
 fn word_count_of(bytes: &[u8]) -> Result<(usize, &[u8]), TermError>
     ensures value { Answers (λ x. (x.0, x.1.now)) result (read_word_count bytes.now) }

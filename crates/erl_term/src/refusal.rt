@@ -49,6 +49,14 @@ pub enum Refusal {
     Forged,
     /// The node is up already.
     NodeUp,
+    /// Another process of the node has the name.
+    NameTaken,
+    /// The process has a name already.
+    HasName,
+    /// The process has no name.
+    NoName,
+    /// The two nodes of the connection haven't both offered the flag that the call needs.
+    NotOffered,
     /// The seat belongs to another node or another history.
     StrangeSeat,
     /// A thread couldn't be started.
@@ -79,6 +87,10 @@ impl Refusal {
             Refusal::NothingThere => 19,
             Refusal::Forged => 20,
             Refusal::NodeUp => 23,
+            Refusal::NameTaken => 25,
+            Refusal::HasName => 26,
+            Refusal::NoName => 27,
+            Refusal::NotOffered => 28,
             Refusal::StrangeSeat => 29,
             Refusal::NoThread => 30,
         }
@@ -107,6 +119,10 @@ impl Refusal {
             Refusal::NothingThere => "NothingThere",
             Refusal::Forged => "Forged",
             Refusal::NodeUp => "NodeUp",
+            Refusal::NameTaken => "NameTaken",
+            Refusal::HasName => "HasName",
+            Refusal::NoName => "NoName",
+            Refusal::NotOffered => "NotOffered",
             Refusal::StrangeSeat => "StrangeSeat",
             Refusal::NoThread => "NoThread",
         }

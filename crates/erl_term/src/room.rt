@@ -1,5 +1,5 @@
-//! How much room the canonical spelling of a term takes, in one pass over the term.
-ghost use Rattle.std.specs.Prelude.{◌≡◌, ◌+◌, length, MatchOption};
+//! The length of a term's canonical spelling, in one pass over the term.
+ghost use Rattle.std.specs.Prelude.{◌≡◌, ◌<◌, ◌+◌, length, MatchOption};
 ghost use Rattle.erl_term.specs.Canonical.{canonical as spelling, IsWithin};
 ghost use Rattle.erl_term.specs.Data.{tuple, list};
 ghost use Rattle.erl_term.specs.Room.{Leaves, LeavesOfItems};
@@ -10,9 +10,9 @@ use crate::part_len::{atom_len, binary_len, integer_len, pid_len, reference_len,
 use crate::profile::{can_end, has_count, is_binary};
 use crate::term::Term;
 
-/// How many bytes the canonical spelling takes, its version byte included. None where the term is
-/// no value of the profile, or where the spelling has more levels or bytes than these. It takes no
-/// memory.
+/// Returns the number of bytes of the canonical spelling, its version byte included. Returns `None`
+/// where the term is no value of the profile, or where the spelling has more levels or bytes than
+/// these. Never allocates.
 ///
 /// (ERTS User's Guide, External Term Format.)
 pub fn size_within(term: &Term, levels: u32, most: usize) -> Option<usize>
@@ -23,27 +23,42 @@ pub fn size_within(term: &Term, levels: u32, most: usize) -> Option<usize>
     Some(most - left)
 }
 
-/// What is left of so many bytes once the canonical spelling of the term stands there, without a
-/// version byte. None where the term is no value of the profile, or where the spelling has more
-/// levels or bytes than these.
+/// Returns the bytes left of `room` behind the canonical spelling of the term, without a version byte.
+/// Returns `None` where the term is no value of the profile, or where the spelling has more levels or
+/// bytes than these.
 #[cycle(room)]
 pub(crate) fn room_after(term: &Term, levels: usize, room: usize) -> Option<usize>
     ensures { Leaves levels room (view term.now) result }
 {
-    let below = levels.checked_sub(1)?;
+    if levels == 0 {
+        return None;
+    }
+    match term {
+        Term::Int(n) => room.checked_sub(integer_len(*n)),
+        _ => room_after_other(term, levels, room),
+    }
+}
+
+/// The same of any term. It isn't inlined: integers don't pay for the rest.
+#[cycle(room)]
+#[inline(never)]
+fn room_after_other(term: &Term, levels: usize, room: usize) -> Option<usize>
+    requires { 0 < levels }
+    ensures { Leaves levels room (view term.now) result }
+{
     match term {
         Term::Int(n) => room.checked_sub(integer_len(*n)),
         Term::Atom(atom) => room.checked_sub(atom_len(atom)),
-        Term::Tuple(items) => room_after_tuple(items, below, room),
+        Term::Tuple(items) => room_after_tuple(items, levels - 1, room),
         Term::List { items, tail } => match tail {
-            None => room_after_list(items, below, room),
+            None => room_after_list(items, levels - 1, room),
             Some(tail) => {
                 if !can_end(items, tail) {
                     return None;
                 }
                 let left = room.checked_sub(5)?;
-                let left = room_after_items(items, below, left)?;
-                room_after(tail, below, left)
+                let left = room_after_items(items, levels - 1, left)?;
+                room_after(tail, levels - 1, left)
             }
         },
         Term::Binary(bytes) => {

@@ -2,15 +2,15 @@
 ghost use Rattle.std.specs.Prelude.{◌≡◌, ◌≤◌, ◌<◌, ◌^◌, ◌+◌, ◌*◌, ◌++◌, ◌∷◌, [], true, length, All};
 ghost use Rattle.std.specs.List.{flat_map};
 ghost use Rattle.std.specs.Vec.{vec_len, vec_capacity};
-ghost use Rattle.erl_term.specs.Canonical.{canonical_int, canonical_atom, canonical_head, canonical_pid, canonical_reference, canonical_binary, words_text, canonical_term, IsInRange};
+ghost use Rattle.erl_term.specs.Canonical.{canonical_int, canonical_big, canonical_atom, canonical_head, canonical_pid, canonical_reference, canonical_binary, words_text, canonical_term, IsInRange};
 ghost use Rattle.erl_term.specs.Canonical as canonical;
 ghost use Rattle.byteorder.specs.Endian.{big_bytes};
 ghost use Rattle.erl_term.specs.Data.{tuple, list};
 ghost use Rattle.erl_term.specs.View.{view, items_view};
 
 use crate::atom::Atom;
-use crate::encoding::{put_integer, put_tuple_head, put_word};
-use crate::lists::{byte_in, is_string};
+use crate::encoding::put_big;
+use crate::lists::{byte_of, is_string};
 use crate::tag;
 use crate::term::{Pid, Reference, Term};
 
@@ -18,6 +18,22 @@ use crate::term::{Pid, Reference, Term};
 /// version byte. (ERTS User's Guide, External Term Format.)
 #[cycle(write)]
 pub fn write_term(out: &mut Vec<u8>, term: &Term)
+    requires range { IsInRange (view term.now) }
+    requires room { vec_len out.old + length (canonical_term (view term.now)) ≤ vec_capacity out.old }
+    ensures items { out.new.items ≡ out.old.items ++ canonical_term (view term.now) }
+    ensures len { vec_len out.new ≡ vec_len out.old + length (canonical_term (view term.now)) }
+    ensures capacity { vec_capacity out.old ≤ vec_capacity out.new }
+{
+    match term {
+        Term::Int(n) => write_integer(out, *n),
+        _ => write_other(out, term),
+    }
+}
+
+/// The same of any term. It isn't inlined: integers don't pay for the rest.
+#[cycle(write)]
+#[inline(never)]
+fn write_other(out: &mut Vec<u8>, term: &Term)
     requires range { IsInRange (view term.now) }
     requires room { vec_len out.old + length (canonical_term (view term.now)) ≤ vec_capacity out.old }
     ensures items { out.new.items ≡ out.old.items ++ canonical_term (view term.now) }
@@ -41,7 +57,7 @@ pub fn write_term(out: &mut Vec<u8>, term: &Term)
     }
 }
 
-// What is longer has a function of its own that isn't inlined: integers and pids don't pay for it.
+// Tuples, lists and binaries have functions of their own, not inlined: short terms don't pay for them.
 
 #[cycle(write)]
 #[inline(never)]
@@ -117,9 +133,9 @@ fn write_string(out: &mut Vec<u8>, items: &[Term])
     ensures capacity { vec_capacity out.old ≤ vec_capacity out.new }
 {
     write_byte(out, tag::STRING);
-    write_bytes(out, &(items.len() as u16).to_be_bytes());
+    write_half(out, items.len() as u16);
     for item in items {
-        write_byte(out, byte_in(item).unwrap_or(0));
+        write_byte(out, byte_of(item));
     }
 }
 
@@ -138,13 +154,34 @@ fn write_binary(out: &mut Vec<u8>, bytes: &[u8])
 
 /// Writes an integer where there is room for it, without a version byte. (ERTS User's Guide,
 /// External Term Format, SMALL_INTEGER_EXT, INTEGER_EXT, SMALL_BIG_EXT.)
+#[tactic(auto, unfolding(crate::specs::Canonical::canonical_int))]
 pub fn write_integer(out: &mut Vec<u8>, n: i128)
     requires { vec_len out.old + length (canonical_int n) ≤ vec_capacity out.old }
     ensures items { out.new.items ≡ out.old.items ++ canonical_int n }
     ensures len { vec_len out.new ≡ vec_len out.old + length (canonical_int n) }
     ensures capacity { vec_capacity out.old ≤ vec_capacity out.new }
 {
-    put_integer(out, n).unwrap();
+    if let Ok(small) = u8::try_from(n) {
+        write_byte(out, tag::SMALL_INTEGER);
+        write_byte(out, small);
+        return;
+    }
+    if let Ok(word) = i32::try_from(n) {
+        write_word(out, tag::INTEGER, word.cast_unsigned());
+        return;
+    }
+    write_big(out, u8::from(n < 0), n.unsigned_abs());
+}
+
+/// Writes a SMALL_BIG of this sign and magnitude. It isn't inlined, so that a smaller integer makes no call.
+#[inline(never)]
+fn write_big(out: &mut Vec<u8>, sign: u8, n: u128)
+    requires { vec_len out.old + length (canonical_big sign n) ≤ vec_capacity out.old }
+    ensures items { out.new.items ≡ out.old.items ++ canonical_big sign n }
+    ensures len { vec_len out.new ≡ vec_len out.old + length (canonical_big sign n) }
+    ensures capacity { vec_capacity out.old ≤ vec_capacity out.new }
+{
+    put_big(out, sign, n).unwrap();
 }
 
 fn write_word(out: &mut Vec<u8>, tag: u8, word: u32)
@@ -153,11 +190,31 @@ fn write_word(out: &mut Vec<u8>, tag: u8, word: u32)
     ensures len { vec_len out.new ≡ vec_len out.old + 5 }
     ensures capacity { vec_capacity out.old ≤ vec_capacity out.new }
 {
-    put_word(out, tag, word).unwrap();
+    let [first, second, third, fourth] = word.to_be_bytes();
+    out.push_reserved(tag);
+    out.push_reserved(first);
+    out.push_reserved(second);
+    out.push_reserved(third);
+    out.push_reserved(fourth);
 }
 
+/// Writes a number of 16 bits, its highest byte first.
+fn write_half(out: &mut Vec<u8>, n: u16)
+    requires { vec_len out.old + 2 ≤ vec_capacity out.old }
+    ensures items { out.new.items ≡ out.old.items ++ big_bytes 2 n }
+    ensures len { vec_len out.new ≡ vec_len out.old + 2 }
+    ensures capacity { vec_capacity out.old ≤ vec_capacity out.new }
+{
+    let [first, second] = n.to_be_bytes();
+    out.push_reserved(first);
+    out.push_reserved(second);
+}
+
+/// Writes an atom where there is room for it, without a version byte. (ERTS User's Guide, External
+/// Term Format, SMALL_ATOM_UTF8_EXT, ATOM_UTF8_EXT.)
+#[inline(never)]
 #[tactic(auto, unfolding(crate::specs::Canonical::canonical_atom))]
-fn write_atom(out: &mut Vec<u8>, atom: &Atom)
+pub fn write_atom(out: &mut Vec<u8>, atom: &Atom)
     requires { vec_len out.old + length (canonical_atom atom.now) ≤ vec_capacity out.old }
     ensures items { out.new.items ≡ out.old.items ++ canonical_atom atom.now }
     ensures len { vec_len out.new ≡ vec_len out.old + length (canonical_atom atom.now) }
@@ -165,16 +222,18 @@ fn write_atom(out: &mut Vec<u8>, atom: &Atom)
 {
     let text = atom.text();
     if text.len() < 256 {
-        write_bytes(out, &[tag::SMALL_ATOM_UTF8, text.len() as u8]);
+        write_byte(out, tag::SMALL_ATOM_UTF8);
+        write_byte(out, text.len() as u8);
     } else {
         write_byte(out, tag::ATOM_UTF8);
-        write_bytes(out, &(text.len() as u16).to_be_bytes());
+        write_half(out, text.len() as u16);
     }
     write_bytes(out, text.as_bytes());
 }
 
 /// Writes what comes before the elements of a tuple, its tag and its arity, where there is room for
 /// it. (ERTS User's Guide, External Term Format, SMALL_TUPLE_EXT, LARGE_TUPLE_EXT.)
+#[tactic(auto, unfolding(crate::specs::Canonical::canonical_head))]
 pub fn write_tuple_head(out: &mut Vec<u8>, count: usize)
     requires count { count < 2 ^ 32 }
     requires room { vec_len out.old + length (canonical_head count) ≤ vec_capacity out.old }
@@ -182,11 +241,17 @@ pub fn write_tuple_head(out: &mut Vec<u8>, count: usize)
     ensures len { vec_len out.new ≡ vec_len out.old + length (canonical_head count) }
     ensures capacity { vec_capacity out.old ≤ vec_capacity out.new }
 {
-    put_tuple_head(out, count).unwrap();
+    if count < 256 {
+        write_byte(out, tag::SMALL_TUPLE);
+        write_byte(out, count as u8);
+        return;
+    }
+    write_word(out, tag::LARGE_TUPLE, count as u32);
 }
 
 /// Writes a pid where there is room for it, without a version byte. (ERTS User's Guide, External
 /// Term Format, NEW_PID_EXT.)
+#[inline(never)]
 #[tactic(auto, unfolding(crate::specs::Canonical::canonical_pid))]
 pub fn write_pid(out: &mut Vec<u8>, pid: &Pid)
     requires { vec_len out.old + length (canonical_pid pid.now) ≤ vec_capacity out.old }
@@ -214,6 +279,7 @@ fn numbers_of(pid: &Pid) -> [u8; 12]
 
 /// Writes a reference where there is room for it, without a version byte. (ERTS User's Guide,
 /// External Term Format, NEWER_REFERENCE_EXT.)
+#[inline(never)]
 #[tactic(auto, unfolding(crate::specs::Canonical::canonical_reference))]
 pub fn write_reference(out: &mut Vec<u8>, reference: &Reference)
     requires { vec_len out.old + length (canonical_reference reference.now) ≤ vec_capacity out.old }
@@ -223,7 +289,7 @@ pub fn write_reference(out: &mut Vec<u8>, reference: &Reference)
 {
     let words = reference.words.as_slice();
     write_byte(out, tag::NEWER_REFERENCE);
-    write_bytes(out, &(words.len() as u16).to_be_bytes());
+    write_half(out, words.len() as u16);
     write_atom(out, &reference.node);
     write_bytes(out, &reference.creation.to_be_bytes());
     write_words(out, words);

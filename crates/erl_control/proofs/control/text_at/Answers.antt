@@ -13,11 +13,11 @@ returns-in_err-signal c =
 pub returns-then-arity-head : goal.returns-then-arity-head
 returns-then-arity-head c =
     other_arity c.args.text.now c.in_ok-head.head.arity c.in_ok-head.head.levels c.in_ok-head.tag c.in_ok-head.fields
-    (c.in_ok-signal.signal, c.in_ok-signal.rest) c.in_ok-head.ensures c.in_ok-signal.ensures
-    (λ e. c.if-arity-head.true (c.arity.ensures ∙ e))
+    ((c.in_ok-signal.signal, c.in_ok-signal.arity), c.in_ok-signal.rest) c.in_ok-head.ensures c.in_ok-signal.ensures
+    c.if-arity-head.true
 
 pub returns : goal.returns
 returns c =
     some_text c.args.text.now c.in_ok-head.head.arity c.in_ok-head.head.levels c.in_ok-head.tag c.in_ok-head.fields
-    (c.in_ok-signal.signal, c.in_ok-signal.rest) c.in_ok-head.ensures c.in_ok-signal.ensures
-    (sym c.arity.ensures ∙ c.if-arity-head.false)
+    ((c.in_ok-signal.signal, c.in_ok-signal.arity), c.in_ok-signal.rest) c.in_ok-head.ensures c.in_ok-signal.ensures
+    c.if-arity-head.false

@@ -1,4 +1,4 @@
-use Rattle.std.proofs.Common.{length, sym, arith, ◌∙◌, ◌+◌, subst, List, refl}
+use Rattle.std.proofs.Common.{length, sym, arith, ◌∙◌, ◌+◌, ◌-◌, subst, List, refl}
 use Rattle.std.proofs.lemmas.Bool.{eqb-true, eqb-false, false≢true}
 use Rattle.std.proofs.lemmas.List.{take_all}
 use Rattle.erl_term.specs.declared.term.Term.{Term}
@@ -10,10 +10,10 @@ use Rattle.erl_term.proofs.room.+room.Goals as goal
 
 -- tuples
 
-pub room_after-returns-in-Tuple : goal.room_after-returns-in-Tuple
-room_after-returns-in-Tuple t c =
+pub room_after_other-returns-in-Tuple : goal.room_after_other-returns-in-Tuple
+room_after_other-returns-in-Tuple t c =
     let a = c.in-Tuple in
-    let e = below_is c.args.levels c.in_ok-below.below c.in_ok-below.ensures in
+    let e = below_is c.args.levels (omega arith) in
     rw (view-tuple c.args.term.now a.items a.is, e) (rw c.deref.ensures.value at c.room_after_tuple.ensures)
 
 pub room_after_tuple-returns-in_err-left : goal.room_after_tuple-returns-in_err-left
@@ -56,33 +56,33 @@ room_after_list-returns t c =
 
 -- lists with a tail
 
-pub room_after-returns-then-not-can_end : goal.room_after-returns-then-not-can_end
-room_after-returns-then-not-can_end t c =
+pub room_after_other-returns-then-not-can_end : goal.room_after_other-returns-then-not-can_end
+room_after_other-returns-then-not-can_end t c =
     let a = c.in-List in
     let b = c.in-Some in
     rw (view-improper c.args.term.now a.items a.tail b.tail a.is b.is)
     (no_end a.items.items (view b.tail.value) c.args.levels c.args.room (λ h.
     false≢true (sym c.if-not-can_end.true ∙ c.can_end.ensures.1 (rw (c.deref-in-Some.ensures.value, c.deref-in-Some-2.ensures) h))))
 
-pub room_after-returns-in_err-left-in-Some-2 : goal.room_after-returns-in_err-left-in-Some-2
-room_after-returns-in_err-left-in-Some-2 t c =
+pub room_after_other-returns-in_err-left-in-Some-2 : goal.room_after_other-returns-in_err-left-in-Some-2
+room_after_other-returns-in_err-left-in-Some-2 t c =
     let a = c.in-List in
     let b = c.in-Some in
     let head = c.in_ok-left-in-Some.ensures in
     rw (view-improper c.args.term.now a.items a.tail b.tail a.is b.is, c.from_residual-in_err-left-in-Some-2.ensures)
     (no_cells_items (items_view a.items.items)
-    (view b.tail.value) c.args.levels c.in_ok-below.below c.args.room c.in_ok-left-in-Some.left
-    (below_is c.args.levels c.in_ok-below.below c.in_ok-below.ensures) head.1
+    (view b.tail.value) c.args.levels (c.args.levels - 1) c.args.room c.in_ok-left-in-Some.left
+    (below_is c.args.levels (omega arith)) head.1
     (rw c.deref-in-Some-3.ensures.value at c.in_err-left-in-Some-2.ensures))
 
-pub room_after-returns-in_ok-left-in-Some-2 : goal.room_after-returns-in_ok-left-in-Some-2
-room_after-returns-in_ok-left-in-Some-2 t c =
+pub room_after_other-returns-in_ok-left-in-Some-2 : goal.room_after_other-returns-in_ok-left-in-Some-2
+room_after_other-returns-in_ok-left-in-Some-2 t c =
     let a = c.in-List in
     let b = c.in-Some in
     let head = c.in_ok-left-in-Some.ensures in
     rw (view-improper c.args.term.now a.items a.tail b.tail a.is b.is)
-    (improper_leaves a.items.items (view b.tail.value) c.args.levels c.in_ok-below.below c.args.room c.in_ok-left-in-Some.left
-    c.in_ok-left-in-Some-2.left c.room_after.result (below_is c.args.levels c.in_ok-below.below c.in_ok-below.ensures)
+    (improper_leaves a.items.items (view b.tail.value) c.args.levels (c.args.levels - 1) c.args.room c.in_ok-left-in-Some.left
+    c.in_ok-left-in-Some-2.left c.room_after.result (below_is c.args.levels (omega arith))
     head.0 head.1
     (rw (c.deref-in-Some.ensures.value, c.deref-in-Some-2.ensures) at (c.can_end.ensures.0 c.if-not-can_end.false))
     (rw c.deref-in-Some-3.ensures.value at c.in_ok-left-in-Some-2.ensures)

@@ -13,8 +13,8 @@ use Rattle.erl_term.proofs.writing.+write.Goals as goal
 
 -- tuples
 
-pub write_term-write_tuple-requires : goal.write_term-write_tuple-requires
-write_term-write_tuple-requires t c =
+pub write_other-write_tuple-requires : goal.write_other-write_tuple-requires
+write_other-write_tuple-requires t c =
     let a = c.in-Tuple in
     let v = view-tuple c.args.term.now a.items a.is in
     let r = items_range a.items.items (subst IsInRange v c.requires.range) in
@@ -37,8 +37,8 @@ write_tuple-returns-clause-len t c = let l = length-tuple c.args.items.now in om
 
 -- proper lists
 
-pub write_term-write_list-requires : goal.write_term-write_list-requires
-write_term-write_list-requires t c =
+pub write_other-write_list-requires : goal.write_other-write_list-requires
+write_other-write_list-requires t c =
     let a = c.in-List in
     let v = view-list c.args.term.now a.items a.tail a.is c.in-None.is in
     let r = items_range a.items.items (subst IsInRange v c.requires.range) in
@@ -105,8 +105,8 @@ write_list-returns-clause-len t c =
 
 -- improper lists
 
-pub write_term-write_cells-requires : goal.write_term-write_cells-requires
-write_term-write_cells-requires t c =
+pub write_other-write_cells-requires : goal.write_other-write_cells-requires
+write_other-write_cells-requires t c =
     let a = c.in-List in
     let v = view-improper c.args.term.now a.items a.tail c.in-Some.tail a.is c.in-Some.is in
     let h = subst IsInRange v c.requires.range in
@@ -115,8 +115,8 @@ write_term-write_cells-requires t c =
     let l = length-improper a.items.items (view c.in-Some.tail.value) in
     (search (rules, the_lemmas), rw c.deref-in-Some.ensures.value (r.0, (r.1, omega arith)))
 
-pub write_term-write_term-requires : goal.write_term-write_term-requires
-write_term-write_term-requires t c =
+pub write_other-write_term-requires : goal.write_other-write_term-requires
+write_other-write_term-requires t c =
     let a = c.in-List in
     let b = c.in-Some in
     let v = view-improper c.args.term.now a.items a.tail b.tail a.is b.is in
@@ -126,8 +126,8 @@ write_term-write_term-requires t c =
     let written = rw c.deref-in-Some.ensures.value at c.write_cells.ensures.len in
     (search (rules, the_lemmas), rw c.deref-in-Some-2.ensures (h.4, omega arith))
 
-pub write_term-returns-in-Some-clause-items : goal.write_term-returns-in-Some-clause-items
-write_term-returns-in-Some-clause-items t c =
+pub write_other-returns-in-Some-clause-items : goal.write_other-returns-in-Some-clause-items
+write_other-returns-in-Some-clause-items t c =
     let a = c.in-List in
     let b = c.in-Some in
     rw (view-improper c.args.term.now a.items a.tail b.tail a.is b.is, improper_text a.items.items (view b.tail.value))
@@ -135,8 +135,8 @@ write_term-returns-in-Some-clause-items t c =
     (rw c.deref-in-Some.ensures.value at c.write_cells.ensures.items)
     (rw c.deref-in-Some-2.ensures at c.write_term.ensures.items))
 
-pub write_term-returns-in-Some-clause-len : goal.write_term-returns-in-Some-clause-len
-write_term-returns-in-Some-clause-len t c =
+pub write_other-returns-in-Some-clause-len : goal.write_other-returns-in-Some-clause-len
+write_other-returns-in-Some-clause-len t c =
     let a = c.in-List in
     let b = c.in-Some in
     let l = length-improper a.items.items (view b.tail.value) in
