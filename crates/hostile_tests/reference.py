@@ -151,6 +151,10 @@ def signal(control):
         return fields[0], fields[1], False
     if operation in (19, 20) and kinds == ["pid", "pid", "reference"]:
         return fields[0], fields[1], False
+    if operation in (24, 26) and kinds == ["pid", "pid"]:
+        return fields[0], fields[1], True
+    if operation == 28 and kinds == ["pid", "pid", "reference"]:
+        return fields[0], fields[1], True
     if operation == 21 and len(kinds) == 4 and kinds[:3] == ["pid", "pid", "reference"]:
         return fields[0], fields[1], False
     if operation in (35, 36) and kinds == ["integer", "pid", "pid"] and 1 <= fields[0][1] < 2**64:

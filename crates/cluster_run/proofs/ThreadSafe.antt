@@ -13,7 +13,7 @@ use Rattle.crossbeam_channel.proofs.channel.Sender.TheSendSync as sender
 use Rattle.crossbeam_channel.specs.contracts.channel.Receiver as a_receiver
 use Rattle.crossbeam_channel.specs.contracts.channel.Sender as a_sender
 use Rattle.dist_model.proofs.links.Links.TheSendSync as links
-use Rattle.erl_handshake.proofs.cookie.Cookie.TheSendSync as cookie
+use Rattle.erl_handshake.proofs.setup.Setup.TheSendSync as setup
 use Rattle.erl_names.proofs.name.NodeName.TheSendSync as name
 use Rattle.erl_names.specs.contracts.name.NodeName as a_name
 use Rattle.erl_names.proofs.trunk.TrunkId.TheSendSync as trunk
@@ -109,7 +109,7 @@ history_field = search (entry_send, node_field, Crossing.crosses, sendable) dept
 
 book_send : IsSend book.the_row
 book_send = search
-    (history_field, name.the_send, cookie.the_send, outlet.the_send, left.the_send, Crossing.crosses, TheKnot.crosses, sendable)
+    (history_field, name.the_send, setup.the_send, outlet.the_send, left.the_send, Crossing.crosses, TheKnot.crosses, sendable)
     depth 60 fits 20000
 
 lock_send : IsSend (lock.the_field).row
@@ -220,7 +220,7 @@ module _ (G : RattleType) where
       (struct_sync (shape (cluster.the_type G)) (
         global.the_field_sync,
         (
-          search (name.the_sync, cookie.the_sync, Crossing.crosses, sendable) depth 60 fits 20000,
+          search (name.the_sync, setup.the_sync, Crossing.crosses, sendable) depth 60 fits 20000,
           (running_sync send sync, (plain_sync _ _ _ _ _, (ended_sync, tt))),
         ),
       ))

@@ -15,7 +15,7 @@ use crate::settling::{Settled, wait};
 use crate::thread_of_node::work;
 use crate::worker::Worker;
 use crossbeam_channel::{Receiver, Sender, bounded, unbounded};
-use erl_handshake::Cookie;
+use erl_handshake::Setup;
 use erl_names::NodeName;
 use erl_term::Refusal;
 use joined_books::{FinishError, merge_books};
@@ -50,7 +50,7 @@ impl<G: Drop> Drop for Running<G> {
 #[derive(Drop)]
 pub struct Cluster<G> {
     alloc: Global,
-    nodes: Vec<(NodeName, Cookie)>,
+    nodes: Vec<(NodeName, Setup)>,
     running: Running<G>,
     // The number of threads, and the channel on which each says that it has ended.
     started: usize,
@@ -91,7 +91,7 @@ fn desk(
 }
 
 // Returns copies of the names of all nodes.
-fn names_of(alloc: Global, nodes: &[(NodeName, Cookie)]) -> Result<Vec<NodeName>, AllocError> {
+fn names_of(alloc: Global, nodes: &[(NodeName, Setup)]) -> Result<Vec<NodeName>, AllocError> {
     let mut names = Vec::new(alloc);
     for (name, _) in nodes {
         names.push(name.clone()?)?;
@@ -100,15 +100,15 @@ fn names_of(alloc: Global, nodes: &[(NodeName, Cookie)]) -> Result<Vec<NodeName>
 }
 
 // Returns the desks of all nodes, whose challenges are counted from a seed.
-fn desks(alloc: Global, nodes: &[(NodeName, Cookie)], seed: u32) -> Result<Vec<Desk>, AllocError> {
+fn desks(alloc: Global, nodes: &[(NodeName, Setup)], seed: u32) -> Result<Vec<Desk>, AllocError> {
     let mut desks = Vec::new(alloc);
     for place in 0..nodes.len() {
         let names = names_of(alloc, nodes)?;
         if place >= names.len() {
             break;
         }
-        let (_, cookie) = &nodes[place];
-        let book = Book::new(alloc, names, place, cookie.clone()?)?;
+        let (_, setup) = &nodes[place];
+        let book = Book::new(alloc, names, place, setup.clone()?)?;
         desks.push(desk(alloc, book, place, nodes.len(), seed)?)?;
     }
     Ok(desks)
@@ -161,7 +161,7 @@ where
 }
 
 impl<G: Gate + Send + Sync + Drop + 'static> Cluster<G> {
-    /// Starts a node of each name and cookie, and its thread. Each node runs, in its first incarnation. Each
+    /// Starts a node of each name and setup, and its thread. Each node runs, in its first incarnation. Each
     /// counts its challenges from 1. (Reference Manual, Distributed Erlang; ERTS User's Guide, Distribution
     /// Protocol.)
     ///
@@ -171,7 +171,7 @@ impl<G: Gate + Send + Sync + Drop + 'static> Cluster<G> {
     pub fn new<R>(
         rt: &R,
         alloc: Global,
-        nodes: Vec<(NodeName, Cookie)>,
+        nodes: Vec<(NodeName, Setup)>,
         gate: G,
     ) -> Result<Cluster<G>, Refusal>
     where
@@ -191,7 +191,7 @@ impl<G: Gate + Send + Sync + Drop + 'static> Cluster<G> {
     pub fn new_seeded<R>(
         rt: &R,
         alloc: Global,
-        nodes: Vec<(NodeName, Cookie)>,
+        nodes: Vec<(NodeName, Setup)>,
         gate: G,
         seed: u32,
     ) -> Result<Cluster<G>, Refusal>
@@ -234,7 +234,7 @@ impl<G: Gate + Send + Sync + Drop + 'static> Cluster<G> {
     }
 
     // Ends the threads, and waits until each has said that it has ended, which is its last action.
-    fn halt<R: Wait>(self, rt: &R) -> (Vec<(NodeName, Cookie)>, Running<G>)
+    fn halt<R: Wait>(self, rt: &R) -> (Vec<(NodeName, Setup)>, Running<G>)
         ensures { result.0.items ≡ self.nodes.items }
     {
         let Cluster {

@@ -4,7 +4,7 @@ ghost use Rattle.erl_term.specs.declared.refusal.Refusal.TheVariants.{OutOfMemor
 ghost use Rattle.joined_books.specs.Joined.{AreARun};
 ghost use Rattle.world_core.specs.Stands.{StandsFor};
 
-use erl_handshake::Cookie;
+use erl_handshake::Setup;
 use erl_names::NodeName;
 use erl_term::Refusal;
 use joined_books::{FinishError, Trace, replay};
@@ -15,8 +15,8 @@ use world_core::World;
 /// The outcome of nodes in threads, once all threads have ended.
 #[derive(Drop)]
 pub struct Finished {
-    /// The names and cookies of the nodes.
-    pub nodes: Vec<(NodeName, Cookie)>,
+    /// The names and setups of the nodes.
+    pub nodes: Vec<(NodeName, Setup)>,
     /// The book of each node, at its place.
     pub books: Vec<Book>,
     /// All entries of all books, by stamp and then by node.
@@ -29,8 +29,8 @@ pub struct Finished {
 pub struct Unmerged {
     /// What is wrong.
     pub fault: FinishError,
-    /// The names and cookies of the nodes.
-    pub nodes: Vec<(NodeName, Cookie)>,
+    /// The names and setups of the nodes.
+    pub nodes: Vec<(NodeName, Setup)>,
     /// The book of each node, at its place. Where memory is wanting, these may be the first alone.
     pub books: Vec<Book>,
     /// The seats of all callers.

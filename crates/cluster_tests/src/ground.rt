@@ -3,7 +3,7 @@
 use crate::meeting::Pieces;
 use cluster_run::{Cluster, Gate, Settled};
 use dist_model::{Answer, Command};
-use erl_handshake::Cookie;
+use erl_handshake::{Cookie, Profile, Setup};
 use erl_names::{NodeName, TrunkId};
 use erl_term::{Payload, Pid, Reference, Refusal, Term};
 use joined_books::{Placed, Trace};
@@ -36,9 +36,13 @@ pub fn name(alloc: Global, place: usize) -> Result<NodeName, Refusal> {
     }
 }
 
-/// A node of this name and of the cookie `c`.
-pub fn named(alloc: Global, name: NodeName) -> Result<(NodeName, Cookie), Refusal> {
-    Ok((name, Cookie::new(Vec::from_slice(alloc, b"c")?)))
+/// Returns a node of this name and of the cookie `c`.
+pub fn named(alloc: Global, name: NodeName) -> Result<(NodeName, Setup), Refusal> {
+    let setup = Setup {
+        cookie: Cookie::new(Vec::from_slice(alloc, b"c")?),
+        profile: Profile::One,
+    };
+    Ok((name, setup))
 }
 
 /// The nodes of the first so many names.

@@ -10,10 +10,11 @@ use Rattle.erl_handshake.specs.declared.status.Status.TheVariants as status
 use Rattle.erl_handshake.specs.declared.message.ShakeMsg.{ShakeMsg}
 use Rattle.erl_handshake.specs.declared.message.ShakeMsg.TheVariants.{SendName, Status, Challenge, ChallengeReply, ChallengeAck}
 use Rattle.erl_handshake.specs.declared.identity.Identity.{Identity}
+use Rattle.erl_handshake.specs.declared.introduction.Introduction.{Introduction}
 use Rattle.erl_handshake.specs.declared.admission.OtherConnections.{OtherConnections}
 use Rattle.erl_handshake.specs.declared.acceptor.AcceptorState.TheVariants as acceptor
 use Rattle.erl_handshake.specs.Admission.{status_due}
-use Rattle.erl_handshake.specs.Roles.{is_same, is_answered, introduction_fault, on_name, on_answer, awaits_reply, after_status}
+use Rattle.erl_handshake.specs.Roles.{is_same, is_answered, introduction_fault, on_name, introduction_by, on_answer, awaits_reply, after_status}
 use Rattle.conn_core.specs.declared.standing.Standing.{Standing}
 use Rattle.conn_core.specs.declared.standing.Standing.TheVariants.{Dialing, Accepting, Up, Losing, Gone}
 use Rattle.conn_core.specs.declared.side.Side.{Side}
@@ -23,14 +24,14 @@ use Rattle.conn_core.specs.Happenings.{Happening, Message, NoMessage, Frame, NoF
 use Rattle.conn_core.specs.Happenings.{Lose, Close, standing_after, after, unheard, IsNamed, IsReplied}
 
 abbrev Kept : Identity → List ℕ → List Happening → Standing → Type 0
-Kept own peer all (Accepting (acceptor.AwaitsAdmission c creation)) = IsNamed peer c all
-Kept own peer all (Accepting (acceptor.AwaitsAnswer c creation)) = IsNamed peer c all
-Kept own peer all (Accepting (acceptor.AwaitsTurn c creation)) = IsNamed peer c all
-Kept own peer all (Accepting (acceptor.AwaitsReply c creation)) = IsNamed peer c all
-Kept own peer all (Accepting (acceptor.Done creation)) = ⊥
+Kept own peer all (Accepting (acceptor.AwaitsAdmission c introduction)) = IsNamed peer c all
+Kept own peer all (Accepting (acceptor.AwaitsAnswer c introduction)) = IsNamed peer c all
+Kept own peer all (Accepting (acceptor.AwaitsTurn c introduction)) = IsNamed peer c all
+Kept own peer all (Accepting (acceptor.AwaitsReply c introduction)) = IsNamed peer c all
+Kept own peer all (Accepting (acceptor.Done introduction)) = ⊥
 Kept own peer all (Accepting acceptor.Over) = ⊥
 Kept own peer all (Dialing d) = ⊥
-Kept own peer all (Up creation) = IsReplied own peer all
+Kept own peer all (Up introduction) = IsReplied own peer all
 Kept own peer all _ = Unit {0}
 
 -- a name without fault is the peer's
@@ -43,7 +44,7 @@ name_is peer name flags false is none =
 
 named : (own : Identity) (peer : List ℕ) (all : List Happening) (fault : Option ShakeFault) (flags creation word : ℕ) (name : List ℕ) →
     introduction_fault peer name flags ≡ fault → Contains all (Message (SendName flags creation name) word) →
-    Kept own peer all (of_acceptor (on_name fault creation word).state)
+    Kept own peer all (of_acceptor (on_name fault (introduction_by creation flags) word).state)
 named own peer all (Some why) flags creation word name e came = tt
 named own peer all None flags creation word name e came =
     record {
@@ -52,22 +53,22 @@ named own peer all None flags creation word name e came =
       came = subst (λ (n : List ℕ). Contains all (Message (SendName flags creation n) word)) (name_is peer name flags _ refl e) came;
     }
 
-answered : (own : Identity) (peer : List ℕ) (all : List Happening) (c creation : ℕ) (s : TheStatus) → IsNamed peer c all
-    → Kept own peer all (of_acceptor (on_answer c creation s).state)
-answered own peer all c creation status.True n = n
-answered own peer all c creation _ n = tt
+answered : (own : Identity) (peer : List ℕ) (all : List Happening) (c : ℕ) (introduction : Introduction) (s : TheStatus) → IsNamed peer c all
+    → Kept own peer all (of_acceptor (on_answer c introduction s).state)
+answered own peer all c introduction status.True n = n
+answered own peer all c introduction _ n = tt
 
-chosen_reply : (own : Identity) (c creation theirs : ℕ) (digest : List ℕ) (b : Bool) → is_answered own.cookie c digest ≡ b →
-    of_acceptor (awaits_reply own c creation (ChallengeReply theirs digest)).state
-    ≡ of_acceptor (if b then acceptor.Done creation else acceptor.Over)
-chosen_reply own c creation theirs digest true is = rw is refl
-chosen_reply own c creation theirs digest false is = rw is refl
+chosen_reply : (own : Identity) (c : ℕ) (introduction : Introduction) (theirs : ℕ) (digest : List ℕ) (b : Bool) → is_answered own.cookie c digest ≡ b →
+    of_acceptor (awaits_reply own c introduction (ChallengeReply theirs digest)).state
+    ≡ of_acceptor (if b then acceptor.Done introduction else acceptor.Over)
+chosen_reply own c introduction theirs digest true is = rw is refl
+chosen_reply own c introduction theirs digest false is = rw is refl
 
-replied : (own : Identity) (peer : List ℕ) (all : List Happening) (c creation theirs word : ℕ) (digest : List ℕ) (b : Bool)
+replied : (own : Identity) (peer : List ℕ) (all : List Happening) (c : ℕ) (introduction : Introduction) (theirs word : ℕ) (digest : List ℕ) (b : Bool)
     → is_answered own.cookie c digest ≡ b → IsNamed peer c all →
     Contains all (Message (ChallengeReply theirs digest) word)
-    → Kept own peer all (of_acceptor (if b then acceptor.Done creation else acceptor.Over))
-replied own peer all c creation theirs word digest true is n came =
+    → Kept own peer all (of_acceptor (if b then acceptor.Done introduction else acceptor.Over))
+replied own peer all c introduction theirs word digest true is n came =
     record {
       challenge = c;
       named = n;
@@ -75,7 +76,7 @@ replied own peer all c creation theirs word digest true is n came =
       word = word;
       came = subst (λ (d : List ℕ). Contains all (Message (ChallengeReply theirs d) word)) (right_digest own c c digest refl is) came;
     }
-replied own peer all c creation theirs word digest false is n came = tt
+replied own peer all c introduction theirs word digest false is n came = tt
 
 message_keeps : (own : Identity) (peer : List ℕ) (all : List Happening) (st : Standing) (message : ShakeMsg) (word : ℕ) →
     Contains all (Message message word) → Kept own peer all st → Kept own peer all (on_message own peer st message word 0).standing
@@ -93,12 +94,12 @@ lost_keeps : (own : Identity) (peer : List ℕ) (all : List Happening) (st : Sta
 lost_keeps own peer all (Dialing d) e = tt
 lost_keeps own peer all _ e = tt
 
-decided : (own : Identity) (peer : List ℕ) (all : List Happening) (s : TheStatus) (c creation : ℕ) → IsNamed peer c all
-    → Kept own peer all (of_acceptor (after_status s c creation))
-decided own peer all status.Ok c creation n = n
-decided own peer all status.OkSimultaneous c creation n = n
-decided own peer all status.Alive c creation n = n
-decided own peer all _ c creation n = tt
+decided : (own : Identity) (peer : List ℕ) (all : List Happening) (s : TheStatus) (c : ℕ) (introduction : Introduction) → IsNamed peer c all
+    → Kept own peer all (of_acceptor (after_status s c introduction))
+decided own peer all status.Ok c introduction n = n
+decided own peer all status.OkSimultaneous c introduction n = n
+decided own peer all status.Alive c introduction n = n
+decided own peer all _ c introduction n = tt
 
 admitted_keeps : (own : Identity) (trunk : TrunkId) (peer : List ℕ) (all : List Happening) (st : Standing) (others : OtherConnections)
     → Kept own peer all st → Kept own peer all (admitted_at own.name trunk st others)
@@ -135,11 +136,11 @@ run_keeps own (h ∷ hs) s all w e =
     run_keeps own hs (record s { standing = standing_after own s h }) all (within_rest h hs all w)
     (step_keeps own s all h (first_within h hs all w) e)
 
-up_replied : (own : Identity) (peer : List ℕ) (creation : ℕ) (all : List Happening) (st : Standing) → st ≡ Up creation
+up_replied : (own : Identity) (peer : List ℕ) (introduction : Introduction) (all : List Happening) (st : Standing) → st ≡ Up introduction
     → Kept own peer all st → IsReplied own peer all
-up_replied own peer creation all st e k = subst (Kept own peer all) e k
+up_replied own peer introduction all st e k = subst (Kept own peer all) e k
 
-pub acceptor_up : (own : Identity) (trunk : TrunkId) (creation : ℕ) (hs : List Happening)
-    → (after own hs (unheard trunk)).standing ≡ Up creation → IsReplied own trunk.dialer hs
-acceptor_up own trunk creation hs e =
-    up_replied own trunk.dialer creation hs _ e (run_keeps own hs (unheard trunk) hs (within_itself hs) tt)
+pub acceptor_up : (own : Identity) (trunk : TrunkId) (introduction : Introduction) (hs : List Happening)
+    → (after own hs (unheard trunk)).standing ≡ Up introduction → IsReplied own trunk.dialer hs
+acceptor_up own trunk introduction hs e =
+    up_replied own trunk.dialer introduction hs _ e (run_keeps own hs (unheard trunk) hs (within_itself hs) tt)

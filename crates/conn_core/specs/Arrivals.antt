@@ -38,8 +38,8 @@ FrameDue standing bytes (Some arrival) =
 abbrev pub DueAt : Standing → Identity → Side → List ℕ → (word : ℕ) → Option Arrival → Type 0
 DueAt (Dialing d) own side bytes word due = MessageDue role.Dialer own side bytes word due
 DueAt (Accepting a) own side bytes word due = MessageDue role.Acceptor own side bytes word due
-DueAt (Up creation) own side bytes word due = FrameDue (Up creation) bytes due
-DueAt (Losing creation) own side bytes word due = ⊥
+DueAt (Up introduction) own side bytes word due = FrameDue (Up introduction) bytes due
+DueAt (Losing introduction) own side bytes word due = ⊥
 DueAt Gone own side bytes word due = ⊥
 
 -- what the bytes come to, or none where more are needed
@@ -57,6 +57,6 @@ FrameTakesMemory bytes = (signal : TheSignal) × (len : ℕ) × IsFrameDue bytes
 abbrev pub TakesMemory : Standing → List ℕ → Type 0
 TakesMemory (Dialing d) bytes = MessageTakesMemory role.Dialer bytes
 TakesMemory (Accepting a) bytes = MessageTakesMemory role.Acceptor bytes
-TakesMemory (Up creation) bytes = FrameTakesMemory bytes
-TakesMemory (Losing creation) bytes = ⊥
+TakesMemory (Up introduction) bytes = FrameTakesMemory bytes
+TakesMemory (Losing introduction) bytes = ⊥
 TakesMemory Gone bytes = ⊥

@@ -7,6 +7,7 @@ use Rattle.erl_control.specs.declared.error.FrameFault.{FrameFault}
 use Rattle.erl_handshake.specs.declared.fault.ShakeFault.TheVariants.{BadMessage}
 use Rattle.erl_handshake.specs.declared.message.ShakeMsg.{ShakeMsg}
 use Rattle.erl_handshake.specs.declared.identity.Identity.{Identity}
+use Rattle.erl_handshake.specs.declared.introduction.Introduction.{Introduction}
 use Rattle.erl_handshake.specs.declared.turn.Next.{Next}
 use Rattle.erl_handshake.specs.declared.turn.Progress.{Progress}
 use Rattle.erl_handshake.specs.declared.turn.Progress.TheVariants.{Go, Done, Ended}
@@ -31,17 +32,17 @@ use Rattle.conn_core.specs.declared.arrival.Arrival.{Arrival}
 abbrev pub of_dialer : DialerState → Standing
 of_dialer (dialer.AwaitsStatus challenge) = Dialing (dialer.AwaitsStatus challenge)
 of_dialer (dialer.AwaitsChallenge challenge) = Dialing (dialer.AwaitsChallenge challenge)
-of_dialer (dialer.AwaitsAck challenge creation) = Dialing (dialer.AwaitsAck challenge creation)
-of_dialer (dialer.Done creation) = Up creation
+of_dialer (dialer.AwaitsAck challenge introduction) = Dialing (dialer.AwaitsAck challenge introduction)
+of_dialer (dialer.Done introduction) = Up introduction
 of_dialer dialer.Over = Gone
 
 abbrev pub of_acceptor : AcceptorState → Standing
 of_acceptor acceptor.AwaitsName = Accepting acceptor.AwaitsName
-of_acceptor (acceptor.AwaitsAdmission challenge creation) = Accepting (acceptor.AwaitsAdmission challenge creation)
-of_acceptor (acceptor.AwaitsAnswer challenge creation) = Accepting (acceptor.AwaitsAnswer challenge creation)
-of_acceptor (acceptor.AwaitsTurn challenge creation) = Accepting (acceptor.AwaitsTurn challenge creation)
-of_acceptor (acceptor.AwaitsReply challenge creation) = Accepting (acceptor.AwaitsReply challenge creation)
-of_acceptor (acceptor.Done creation) = Up creation
+of_acceptor (acceptor.AwaitsAdmission challenge introduction) = Accepting (acceptor.AwaitsAdmission challenge introduction)
+of_acceptor (acceptor.AwaitsAnswer challenge introduction) = Accepting (acceptor.AwaitsAnswer challenge introduction)
+of_acceptor (acceptor.AwaitsTurn challenge introduction) = Accepting (acceptor.AwaitsTurn challenge introduction)
+of_acceptor (acceptor.AwaitsReply challenge introduction) = Accepting (acceptor.AwaitsReply challenge introduction)
+of_acceptor (acceptor.Done introduction) = Up introduction
 of_acceptor acceptor.Over = Gone
 
 -- ---- the eight states by name
@@ -49,45 +50,45 @@ of_acceptor acceptor.Over = Gone
 -- a side is Fresh until the attempt is decided on
 abbrev pub acceptor_state : AcceptorState → SideState
 acceptor_state acceptor.AwaitsName = state.Fresh
-acceptor_state (acceptor.AwaitsAdmission challenge creation) = state.Fresh
-acceptor_state (acceptor.AwaitsAnswer challenge creation) = state.Asked
-acceptor_state (acceptor.AwaitsTurn challenge creation) = state.Parked
+acceptor_state (acceptor.AwaitsAdmission challenge introduction) = state.Fresh
+acceptor_state (acceptor.AwaitsAnswer challenge introduction) = state.Asked
+acceptor_state (acceptor.AwaitsTurn challenge introduction) = state.Parked
 acceptor_state _ = state.Accepting
 
 abbrev pub state_of : Standing → SideState
 state_of (Dialing d) = state.Dialing
 state_of (Accepting a) = acceptor_state a
-state_of (Up creation) = state.Up
-state_of (Losing creation) = state.Losing
+state_of (Up introduction) = state.Up
+state_of (Losing introduction) = state.Losing
 state_of Gone = state.Gone
 
--- ---- the peer's creation, once it has said it
+-- ---- the peer's creation and flags, once it has told them
 
-abbrev pub dialer_peer : DialerState → Option ℕ
-dialer_peer (dialer.AwaitsAck challenge creation) = Some creation
+abbrev pub dialer_peer : DialerState → Option Introduction
+dialer_peer (dialer.AwaitsAck challenge introduction) = Some introduction
 dialer_peer _ = None
 
-abbrev pub acceptor_peer : AcceptorState → Option ℕ
-acceptor_peer (acceptor.AwaitsAdmission challenge creation) = Some creation
-acceptor_peer (acceptor.AwaitsAnswer challenge creation) = Some creation
-acceptor_peer (acceptor.AwaitsTurn challenge creation) = Some creation
-acceptor_peer (acceptor.AwaitsReply challenge creation) = Some creation
+abbrev pub acceptor_peer : AcceptorState → Option Introduction
+acceptor_peer (acceptor.AwaitsAdmission challenge introduction) = Some introduction
+acceptor_peer (acceptor.AwaitsAnswer challenge introduction) = Some introduction
+acceptor_peer (acceptor.AwaitsTurn challenge introduction) = Some introduction
+acceptor_peer (acceptor.AwaitsReply challenge introduction) = Some introduction
 acceptor_peer _ = None
 
-abbrev pub peer_creation : Standing → Option ℕ
-peer_creation (Dialing d) = dialer_peer d
-peer_creation (Accepting a) = acceptor_peer a
-peer_creation (Up creation) = Some creation
-peer_creation (Losing creation) = Some creation
-peer_creation Gone = None
+abbrev pub peer_introduction : Standing → Option Introduction
+peer_introduction (Dialing d) = dialer_peer d
+peer_introduction (Accepting a) = acceptor_peer a
+peer_introduction (Up introduction) = Some introduction
+peer_introduction (Losing introduction) = Some introduction
+peer_introduction Gone = None
 
 -- ---- what is lost, or broken by a fault: a side that is up has to be cleared away, any other is gone
 
 abbrev pub lost : Standing → Standing
 lost (Dialing d) = Gone
 lost (Accepting a) = Gone
-lost (Up creation) = Losing creation
-lost (Losing creation) = Losing creation
+lost (Up introduction) = Losing introduction
+lost (Losing introduction) = Losing introduction
 lost Gone = Gone
 
 -- whether there is something to lose

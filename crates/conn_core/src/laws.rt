@@ -2,7 +2,9 @@
 ghost use Rattle.std.specs.Prelude.{◌≡◌, ◌<◌, ◌^◌, true, ℕ, List, Option};
 ghost use Rattle.readers.specs.Reading.{AreBytes};
 ghost use Rattle.erl_names.specs.declared.trunk.TrunkId.{TrunkId};
+ghost use Rattle.erl_handshake.specs.Roles.{introduction_of};
 ghost use Rattle.erl_handshake.specs.declared.identity.Identity.{Identity};
+ghost use Rattle.erl_handshake.specs.declared.introduction.Introduction.{Introduction};
 ghost use Rattle.conn_core.specs.declared.arrival.Arrival.{Arrival};
 ghost use Rattle.conn_core.specs.declared.side.Side.{Side};
 ghost use Rattle.conn_core.specs.declared.standing.Standing.TheVariants.{Up};
@@ -24,18 +26,18 @@ pub fn one_arrival()
 /// Whatever happens to a side, in whatever order, it is up only after its peer has shown that it
 /// knows the cookie: by the digest of the side's own cookie and its own challenge.
 pub fn up_only_by_digest()
-    ensures dialer { (own : Identity) (trunk : TrunkId) (peer : List ℕ) (challenge creation : ℕ) (happenings : List Happening) →
-        (after own happenings (dialed trunk peer challenge)).standing ≡ Up creation → IsAcknowledged own challenge happenings }
-    ensures acceptor { (own : Identity) (trunk : TrunkId) (creation : ℕ) (happenings : List Happening) →
-        (after own happenings (unheard trunk)).standing ≡ Up creation → IsReplied own trunk.dialer happenings }
+    ensures dialer { (own : Identity) (trunk : TrunkId) (peer : List ℕ) (challenge : ℕ) (introduction : Introduction) (happenings : List Happening) →
+        (after own happenings (dialed trunk peer challenge)).standing ≡ Up introduction → IsAcknowledged own challenge happenings }
+    ensures acceptor { (own : Identity) (trunk : TrunkId) (introduction : Introduction) (happenings : List Happening) →
+        (after own happenings (unheard trunk)).standing ≡ Up introduction → IsReplied own trunk.dialer happenings }
 {}
 
 /// Two nodes that share a cookie and have nothing else between them connect: where each side takes
-/// the bytes that the other sends, both are up at the end, and each knows the other's incarnation. By
-/// [`one_arrival`] nothing else becomes of those bytes.
+/// the bytes that the other sends, both are up at the end. Each then knows the other's incarnation and
+/// flags. By [`one_arrival`] nothing else becomes of those bytes.
 pub fn two_sides_come_up()
     ensures { (dialing accepting : Identity) (count challenge word : ℕ) → CanConnect dialing → CanConnect accepting → dialing.cookie ≡ accepting.cookie → challenge < 2 ^ 32 → word < 2 ^ 32 →
-        Meeting dialing accepting count challenge word (Up accepting.creation) (Up dialing.creation) }
+        Meeting dialing accepting count challenge word (Up (introduction_of accepting)) (Up (introduction_of dialing)) }
 {
     erl_handshake::written_is_shake();
     erl_handshake::read_again();

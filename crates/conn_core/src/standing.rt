@@ -1,11 +1,11 @@
-//! How a side of a connection stands.
+//! The standing of a side of a connection.
 ghost use Rattle.std.specs.Prelude.{◌≡◌};
 ghost use Rattle.conn_core.specs.Side as table;
 
 use crate::state::SideState;
-use erl_handshake::{AcceptorState, DialerState};
+use erl_handshake::{AcceptorState, DialerState, Introduction};
 
-/// How a side of a connection stands. A handshake that is done is Up, and one that is over is Gone:
+/// The standing of a side of a connection. A handshake that is done is Up, and one that is over is Gone:
 /// the roles' own words for these stand in no side. (ERTS User's Guide, Distribution Protocol,
 /// Distribution Handshake.)
 #[derive(Clone, Copy, Debug, PartialEq, Eq)]
@@ -16,13 +16,13 @@ pub enum Standing {
     Accepting(AcceptorState),
     /// The nodes are connected.
     Up {
-        /// The peer's creation.
-        creation: u32,
+        /// The peer's creation and flags.
+        introduction: Introduction,
     },
     /// The connection was up and is lost, and isn't cleared away yet.
     Losing {
-        /// The peer's creation.
-        creation: u32,
+        /// The peer's creation and flags.
+        introduction: Introduction,
     },
     /// There is no connection.
     Gone,
@@ -42,26 +42,26 @@ impl Standing {
         }
     }
 
-    /// The peer's creation, from when the peer has said it until the side is gone.
-    pub fn peer_creation(self) -> Option<u32>
-        ensures { result ≡ table.peer_creation self }
+    /// Returns the peer's creation and flags, from when the peer has told them until the side is gone.
+    pub fn introduction(self) -> Option<Introduction>
+        ensures { result ≡ table.peer_introduction self }
     {
         match self {
             Standing::Dialing(state) => dialer_peer(state),
             Standing::Accepting(state) => acceptor_peer(state),
-            Standing::Up { creation } | Standing::Losing { creation } => Some(creation),
+            Standing::Up { introduction } | Standing::Losing { introduction } => Some(introduction),
             Standing::Gone => None,
         }
     }
 
-    /// How the side stands once its connection is lost, or the attempt given up: Losing where it was
-    /// up, else Gone.
+    /// Returns the standing once the connection is lost, or the attempt given up: Losing where the side
+    /// was up, else Gone.
     pub fn lost(self) -> Standing
         ensures { result ≡ table.lost self }
     {
         match self {
-            Standing::Up { creation } | Standing::Losing { creation } => {
-                Standing::Losing { creation }
+            Standing::Up { introduction } | Standing::Losing { introduction } => {
+                Standing::Losing { introduction }
             }
             Standing::Dialing(_) | Standing::Accepting(_) | Standing::Gone => Standing::Gone,
         }
@@ -73,7 +73,7 @@ impl From<DialerState> for Standing {
 
     fn from(state: DialerState) -> Standing {
         match state {
-            DialerState::Done { creation } => Standing::Up { creation },
+            DialerState::Done { introduction } => Standing::Up { introduction },
             DialerState::Over => Standing::Gone,
             _ => Standing::Dialing(state),
         }
@@ -85,7 +85,7 @@ impl From<AcceptorState> for Standing {
 
     fn from(state: AcceptorState) -> Standing {
         match state {
-            AcceptorState::Done { creation } => Standing::Up { creation },
+            AcceptorState::Done { introduction } => Standing::Up { introduction },
             AcceptorState::Over => Standing::Gone,
             _ => Standing::Accepting(state),
         }
@@ -105,23 +105,23 @@ fn acceptor_state(state: AcceptorState) -> SideState
     }
 }
 
-fn dialer_peer(state: DialerState) -> Option<u32>
+fn dialer_peer(state: DialerState) -> Option<Introduction>
     ensures { result ≡ table.dialer_peer state }
 {
     match state {
-        DialerState::AwaitsAck { creation, .. } => Some(creation),
+        DialerState::AwaitsAck { introduction, .. } => Some(introduction),
         _ => None,
     }
 }
 
-fn acceptor_peer(state: AcceptorState) -> Option<u32>
+fn acceptor_peer(state: AcceptorState) -> Option<Introduction>
     ensures { result ≡ table.acceptor_peer state }
 {
     match state {
-        AcceptorState::AwaitsAdmission { creation, .. }
-        | AcceptorState::AwaitsAnswer { creation, .. }
-        | AcceptorState::AwaitsTurn { creation, .. }
-        | AcceptorState::AwaitsReply { creation, .. } => Some(creation),
+        AcceptorState::AwaitsAdmission { introduction, .. }
+        | AcceptorState::AwaitsAnswer { introduction, .. }
+        | AcceptorState::AwaitsTurn { introduction, .. }
+        | AcceptorState::AwaitsReply { introduction, .. } => Some(introduction),
         AcceptorState::AwaitsName | AcceptorState::Done { .. } | AcceptorState::Over => None,
     }
 }

@@ -60,8 +60,8 @@ pub listens_at : (standing : Standing) (own : Identity) (side : Side) (bytes : L
     → DueAt standing own side bytes word due → listens (state_of standing) ≡ true
 listens_at (Dialing d) own side bytes word due h = refl
 listens_at (Accepting a) own side bytes word due h = acceptor_listens a
-listens_at (Up creation) own side bytes word due h = refl
-listens_at (Losing creation) own side bytes word due h = absurd h
+listens_at (Up introduction) own side bytes word due h = refl
+listens_at (Losing introduction) own side bytes word due h = absurd h
 listens_at Gone own side bytes word due h = absurd h
 
 bytes_behind : (bytes : List ℕ) (n : ℕ) → AreBytes bytes → AreBytes (drop n bytes)

@@ -81,8 +81,8 @@ more_at : (standing : Standing) (own : Identity) (side : Side) (front more : Lis
     → DueAt standing own side front word (Some a) → DueAt standing own side (front ++ more) word (Some a)
 more_at (Dialing d) own side front more word a h = more_message role.Dialer own side front more word a h
 more_at (Accepting d) own side front more word a h = more_message role.Acceptor own side front more word a h
-more_at (Up creation) own side front more word a h = more_frame (Up creation) front more a h
-more_at (Losing creation) own side front more word a h = absurd h
+more_at (Up introduction) own side front more word a h = more_frame (Up introduction) front more a h
+more_at (Losing introduction) own side front more word a h = absurd h
 more_at Gone own side front more word a h = absurd h
 
 pub more_due : (own : Identity) (side : Side) (front more : List ℕ) (word : ℕ) (a : Arrival)

@@ -43,8 +43,8 @@ one_more own word side bytes (b ∷ given) between left a end rest g h =
 lost_deaf : (standing : Standing) → listens (state_of (lost standing)) ≡ false
 lost_deaf (Dialing d) = refl
 lost_deaf (Accepting a) = refl
-lost_deaf (Up creation) = refl
-lost_deaf (Losing creation) = refl
+lost_deaf (Up introduction) = refl
+lost_deaf (Losing introduction) = refl
 lost_deaf Gone = refl
 
 shake_some : (reader : Role) (message : ShakeMsg) (bytes : List ℕ) (len : ℕ) → IsShake reader message (take len bytes) → 0 < len
@@ -61,8 +61,8 @@ message_deaf : (own : Identity) (peer : List ℕ) (standing : Standing) (message
     → (on_message own peer standing message word len).len ≡ 0 → listens (state_of (on_message own peer standing message word len).standing) ≡ false
 message_deaf own peer (Dialing d) message word len some z = absurd (omega arith)
 message_deaf own peer (Accepting a) message word len some z = absurd (omega arith)
-message_deaf own peer (Up creation) message word len some z = refl
-message_deaf own peer (Losing creation) message word len some z = refl
+message_deaf own peer (Up introduction) message word len some z = refl
+message_deaf own peer (Losing introduction) message word len some z = refl
 message_deaf own peer Gone message word len some z = refl
 
 deaf_message : (reader : Role) (own : Identity) (side : Side) (bytes : List ℕ) (word : ℕ) (a : Arrival) → a.len ≡ 0
@@ -85,8 +85,8 @@ deaf_at : (standing : Standing) (own : Identity) (side : Side) (bytes : List ℕ
     → DueAt standing own side bytes word (Some a) → listens (state_of a.standing) ≡ false
 deaf_at (Dialing d) own side bytes word a z h = deaf_message role.Dialer own side bytes word a z h
 deaf_at (Accepting d) own side bytes word a z h = deaf_message role.Acceptor own side bytes word a z h
-deaf_at (Up creation) own side bytes word a z h = deaf_frame (Up creation) bytes a z h
-deaf_at (Losing creation) own side bytes word a z h = absurd h
+deaf_at (Up introduction) own side bytes word a z h = deaf_frame (Up introduction) bytes a z h
+deaf_at (Losing introduction) own side bytes word a z h = absurd h
 deaf_at Gone own side bytes word a z h = absurd h
 
 -- ---- what is left to do

@@ -24,8 +24,8 @@ counts : (own : Identity) (peer : List ℕ) (standing : Standing) (message : Sha
     → Counts own peer standing message word len
 counts own peer (Dialing d) message word len h = refl
 counts own peer (Accepting a) message word len h = refl
-counts own peer (Up creation) message word len h = absurd (omega arith)
-counts own peer (Losing creation) message word len h = absurd (omega arith)
+counts own peer (Up introduction) message word len h = absurd (omega arith)
+counts own peer (Losing introduction) message word len h = absurd (omega arith)
 counts own peer Gone message word len h = absurd (omega arith)
 
 -- ---- at the front of a beginning
@@ -52,8 +52,8 @@ module _ (own : Identity) (side : Side) (front more : List ℕ) (word : ℕ) (a 
       → DueAt standing own side front word (Some a)
   whole_at (Dialing d) fits h = whole_message role.Dialer fits h
   whole_at (Accepting d) fits h = whole_message role.Acceptor fits h
-  whole_at (Up creation) fits h = whole_frame (Up creation) fits h
-  whole_at (Losing creation) fits h = absurd h
+  whole_at (Up introduction) fits h = whole_frame (Up introduction) fits h
+  whole_at (Losing introduction) fits h = absurd h
   whole_at Gone fits h = absurd h
 
 pub whole_due : (own : Identity) (side : Side) (front more : List ℕ) (word : ℕ) (a : Arrival) → 0 < a.len → a.len ≤ length front
@@ -77,8 +77,8 @@ within_at : (standing : Standing) (own : Identity) (side : Side) (bytes : List �
     → DueAt standing own side bytes word (Some a) → a.len ≤ length bytes
 within_at (Dialing d) own side bytes word a some h = message_within role.Dialer own side bytes word a some h
 within_at (Accepting d) own side bytes word a some h = message_within role.Acceptor own side bytes word a some h
-within_at (Up creation) own side bytes word a some h = frame_within (Up creation) bytes a h
-within_at (Losing creation) own side bytes word a some h = absurd h
+within_at (Up introduction) own side bytes word a some h = frame_within (Up introduction) bytes a h
+within_at (Losing introduction) own side bytes word a some h = absurd h
 within_at Gone own side bytes word a some h = absurd h
 
 none_or_within : (n m : ℕ) → (0 < n → n ≤ m) → n ≤ m

@@ -3,8 +3,8 @@ use crate::handshakes::Message::*;
 use crate::handshakes::{CHALLENGE, DIGEST, MANDATORY, Message, made};
 use crate::sides::{SECRET, identity, node_name};
 use erl_handshake::{
-    AcceptorState, Admission, Cookie, DialerState, Identity, Next, OtherConnections, Progress,
-    ShakeFault, ShakeMsg, Status, done_only_by_digest, handshake_comes_about,
+    AcceptorState, Admission, Cookie, DialerState, Identity, Introduction, Next, OtherConnections,
+    Progress, ShakeFault, ShakeMsg, Status, done_only_by_digest, handshake_comes_about,
     later_attempt_goes_on, one_of_two_dials, right_peers_pass,
 };
 use erl_names::{NodeName, TrunkId};
@@ -25,6 +25,12 @@ const NO_V4: u64 = 0x0305_010C;
 const MORE_FLAGS: u64 = 0x8000_0004_0345_010C;
 
 /// What comes from the other node, in its seventh incarnation.
+/// The peer, as it tells of itself.
+const KNOWN: Introduction = Introduction {
+    creation: 7,
+    flags: MANDATORY,
+};
+
 const NAME: Message = SendName(MANDATORY, 7, "a@h");
 
 const OK: Message = SendStatus(Status::Ok);
@@ -257,7 +263,10 @@ fn is_answer(alloc: Global, next: &Next, answer: Answer) -> Result<bool, Refusal
 fn is_dialer_at(state: DialerState, answer: Answer) -> bool {
     match answer {
         Waits | Says(_) => true,
-        Done(_) => state == DialerState::Done { creation: 7 },
+        Done(_) => state
+            == DialerState::Done {
+                introduction: KNOWN,
+            },
         Ends(_) => state == DialerState::Over,
     }
 }
@@ -335,7 +344,10 @@ fn dialers(rt: HostRuntime) -> Result<(), Fail> {
 fn is_acceptor_at(state: AcceptorState, answer: Answer) -> bool {
     match answer {
         Waits | Says(_) => true,
-        Done(_) => state == AcceptorState::Done { creation: 7 },
+        Done(_) => state
+            == AcceptorState::Done {
+                introduction: KNOWN,
+            },
         Ends(_) => state == AcceptorState::Over,
     }
 }

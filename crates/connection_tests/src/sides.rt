@@ -5,8 +5,8 @@ use conn_core::{
 };
 use erl_control::{FrameFault, Item};
 use erl_handshake::{
-    Admission, Cookie, Flags, Identity, OtherConnections, Progress, ShakeFault, ShakeMsg, Status,
-    put, write,
+    Admission, Cookie, Flags, Identity, Introduction, OtherConnections, Progress, ShakeFault,
+    ShakeMsg, Status, put, write,
 };
 use erl_names::{Creation, NodeName, TrunkId};
 use erl_term::{Refusal, TermError};
@@ -59,6 +59,12 @@ const FEWER_FLAGS: &[u8] = b"\0\x12N\0\0\0\x04\x01\x05\x01\x0C\0\0\0\x01\0\x03a@
 const OTHER_LETTER: &[u8] = b"\0\x12n\0\0\0\x04\x03\x05\x01\x0C\0\0\0\x01\0\x03a@h";
 
 const LONG_NAME: &[u8] = b"\0\x14N\0\0\0\x04\x03\x05\x01\x0C\0\0\0\x01\0\x03a@h\0\0";
+
+/// The names of such a peer, as a dialer and as an acceptor.
+const SEND_NAME_OFFERING: &[u8] = b"\0\x12N\x80\0\0\x04\x03\x45\x01\x0C\0\0\0\x02\0\x03a@h";
+
+const CHALLENGES_OFFERING: &[u8] =
+    b"\0\x16N\x80\0\0\x04\x03\x45\x01\x0C\x49\x96\x02\xD2\0\0\0\x02\0\x03b@h";
 
 /// A digest with another last byte.
 const OTHER_DIGEST: &[u8] =
@@ -118,15 +124,27 @@ enum Step {
     RefusesToLose,
     /// The side is cleared away.
     Closes,
-    /// How the side stands, and the peer's creation.
-    Stands(SideState, Option<u32>),
+    /// The side's state, and the peer's creation and flags.
+    Stands(SideState, Option<Introduction>),
 }
 
 use Step::*;
 
+/// A peer in its first incarnation that offers the mandatory flags alone.
+const PLAIN: Option<Introduction> = Some(Introduction {
+    creation: 1,
+    flags: 0x4_0305_010C,
+});
+
+/// A peer in its second incarnation that offers EXIT_PAYLOAD too, and a flag without a name here.
+const OFFERING: Option<Introduction> = Some(Introduction {
+    creation: 2,
+    flags: 0x8000_0004_0345_010C,
+});
+
 const GONE: Step = Stands(SideState::Gone, None);
 
-const LOSING: Step = Stands(SideState::Losing, Some(1));
+const LOSING: Step = Stands(SideState::Losing, PLAIN);
 
 /// A side, and what is done to it first.
 #[derive(Clone, Copy)]
@@ -178,9 +196,9 @@ const SCENARIOS: &[(Start, &[Step])] = &[
             Takes(OK),
             Stands(SideState::Dialing, None),
             Answers(CHALLENGES, REPLIES),
-            Stands(SideState::Dialing, Some(1)),
+            Stands(SideState::Dialing, PLAIN),
             Takes(ACKNOWLEDGES),
-            Stands(SideState::Up, Some(1)),
+            Stands(SideState::Up, PLAIN),
         ],
     ),
     // The handshake of the acceptor.
@@ -191,22 +209,58 @@ const SCENARIOS: &[(Start, &[Step])] = &[
             Takes(SEND_NAME),
             Admits(ALONE, Status::Ok),
             GoesOn(CHALLENGES),
-            Stands(SideState::Accepting, Some(1)),
+            Stands(SideState::Accepting, PLAIN),
             Answers(REPLIES, ACKNOWLEDGES),
-            Stands(SideState::Up, Some(1)),
+            Stands(SideState::Up, PLAIN),
             Ticks,
+        ],
+    ),
+    // Each side keeps the flags and the creation of its peer, and not its own, until it is gone.
+    (
+        DIALING,
+        &[
+            Takes(OK),
+            Answers(CHALLENGES_OFFERING, REPLIES),
+            Stands(SideState::Dialing, OFFERING),
+            Takes(ACKNOWLEDGES),
+            Stands(SideState::Up, OFFERING),
+            Loses,
+            Stands(SideState::Losing, OFFERING),
+            Closes,
+            GONE,
+        ],
+    ),
+    (
+        FRESH,
+        &[
+            Takes(SEND_NAME_OFFERING),
+            Admits(ALONE, Status::Ok),
+            GoesOn(CHALLENGES),
+            Stands(SideState::Accepting, OFFERING),
+            Answers(REPLIES, ACKNOWLEDGES),
+            Stands(SideState::Up, OFFERING),
+        ],
+    ),
+    (
+        FRESH,
+        &[
+            Takes(SEND_NAME_OFFERING),
+            Admits(CONNECTED, Status::Alive),
+            Stands(SideState::Asked, OFFERING),
+            Takes(TRUE),
+            Stands(SideState::Parked, OFFERING),
         ],
     ),
     // There is a connection already: the dialer goes on, and waits until it is cleared away.
     (
         ASKED,
         &[
-            Stands(SideState::Asked, Some(1)),
+            Stands(SideState::Asked, PLAIN),
             RefusesToGoOn,
             Takes(TRUE),
-            Stands(SideState::Parked, Some(1)),
+            Stands(SideState::Parked, PLAIN),
             GoesOn(CHALLENGES),
-            Stands(SideState::Accepting, Some(1)),
+            Stands(SideState::Accepting, PLAIN),
         ],
     ),
     // The other side of that.
@@ -270,7 +324,7 @@ const SCENARIOS: &[(Start, &[Step])] = &[
     (DIALING, &[Loses, GONE]),
     (FRESH, &[RefusesToLose, Stands(SideState::Fresh, None)]),
     // A signal.
-    (UP, &[Signals(LINK), Stands(SideState::Up, Some(1))]),
+    (UP, &[Signals(LINK), Stands(SideState::Up, PLAIN)]),
     // What follows a message is left. A whole message that is none breaks a side, whatever follows.
     (
         FRESH,
@@ -510,9 +564,9 @@ fn closes(held: &mut Held) -> bool {
     true
 }
 
-fn stands(held: &Held, state: SideState, peer_creation: Option<u32>) -> bool {
+fn stands(held: &Held, state: SideState, introduction: Option<Introduction>) -> bool {
     let standing = held.side.standing;
-    standing.state() == state && standing.peer_creation() == peer_creation
+    standing.state() == state && standing.introduction() == introduction
 }
 
 /// Whether the step comes out as it has to.
@@ -534,7 +588,7 @@ fn goes(alloc: Global, held: &mut Held, step: Step) -> Result<bool, Refusal> {
         Loses => Ok(loses(held)),
         RefusesToLose => Ok(!loses(held)),
         Closes => Ok(closes(held)),
-        Stands(state, peer_creation) => Ok(stands(held, state, peer_creation)),
+        Stands(state, introduction) => Ok(stands(held, state, introduction)),
     }
 }
 
@@ -643,7 +697,7 @@ fn shake_hands(alloc: Global, a: &mut Held, b: &mut Held) -> Result<bool, Refusa
 
 /// Whether the side is up, and takes frames.
 fn is_up(alloc: Global, held: &mut Held) -> Result<bool, Refusal> {
-    Ok(stands(held, SideState::Up, Some(1)) && goes(alloc, held, Ticks)?)
+    Ok(stands(held, SideState::Up, PLAIN) && goes(alloc, held, Ticks)?)
 }
 
 /// Whether the sides shake hands, and both come up.

@@ -9,6 +9,8 @@ use Rattle.dist_model.proofs.Keys.{same_name_is, same_name_refl, same_name_true}
 use Rattle.dist_model.specs.Names.{Name, same_name}
 use Rattle.dist_model.specs.Runs.{new_node}
 use Rattle.dist_model.specs.World.{node_of}
+use Rattle.dist_books.specs.Acting.{nowhere}
+use Rattle.erl_handshake.specs.declared.setup.Setup.{Setup}
 
 pub in_or_out : (k n : ℕ) → (k < n) ⊎ (n ≤ k)
 in_or_out k n = elim (leb_tells n k) [ inl h ↦ inr h.1 | inr h ↦ inl (let a = h.1 in omega arith) ]
@@ -88,7 +90,7 @@ new_books_are_kept nodes k = (
 -- nobody's book is kept too
 nobody_kept : (nodes : Nodes) (k : ℕ) → length nodes ≤ k → Kept nodes k no_book
 nobody_kept nodes k out =
-    subst (λ (node : Name × List ℕ). Kept nodes k (new_book (new_node node.0 node.1))) (past_end nodes k ([], []) out)
+    subst (λ (node : Name × Setup). Kept nodes k (new_book (new_node node.0 node.1))) (past_end nodes k nowhere out)
     (new_books_are_kept nodes k)
 
 pub book_beyond : (nodes : Nodes) (books : List Book) → length books ≡ length nodes → (k : ℕ) → length nodes ≤ k → book_at books k ≡ no_book

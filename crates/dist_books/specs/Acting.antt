@@ -14,6 +14,8 @@ use Rattle.dist_model.specs.declared.report.Answer.{Answer}
 use Rattle.dist_model.specs.declared.report.Effect.{Effect}
 use Rattle.erl_names.specs.declared.trunk.TrunkId.{TrunkId}
 use Rattle.erl_term.specs.declared.refusal.Refusal.{Refusal}
+use Rattle.erl_handshake.specs.declared.profile.Profile.{Profile}
+use Rattle.erl_handshake.specs.declared.setup.Setup.{Setup}
 
 -- on a trunk, to one of its nodes
 abbrev pub Way : Type 0
@@ -22,19 +24,23 @@ Way = TrunkId × Name
 abbrev pub same_way : Way → Way → Bool
 same_way = eq_by_cmp place_cmp
 
--- ---- the nodes of a world, by their numbers: names and cookies
+-- ---- the nodes of a world, by their numbers: names and setups
 
 abbrev pub Nodes : Type 0
-Nodes = List (Name × List ℕ)
+Nodes = List (Name × Setup)
+
+-- what stands for a node that there is none
+abbrev pub nowhere : Name × Setup
+nowhere = ([], record { cookie = []; profile = Profile.One })
 
 abbrev pub names_of : Nodes → List Name
 names_of nodes = map (λ node. node.0) nodes
 
 abbrev pub name_at : Nodes → ℕ → Name
-name_at nodes k = (slice_index_or nodes k ([], [])).0
+name_at nodes k = (slice_index_or nodes k nowhere).0
 
 abbrev pub opened_at : Nodes → ℕ → Node
-opened_at nodes k = new_node (name_at nodes k) (slice_index_or nodes k ([], [])).1
+opened_at nodes k = new_node (name_at nodes k) (slice_index_or nodes k nowhere).1
 
 -- ---- what a node does
 

@@ -9,6 +9,7 @@ use Rattle.dist_model.specs.Runs.{new_node}
 use Rattle.dist_model.specs.World.{Event, Report}
 use Rattle.erl_names.specs.declared.trunk.TrunkId.{TrunkId}
 use Rattle.dist_books.specs.Logs.{AllTakeEarlier, Entry, Leads, Line, entries_of, sent_on, took_on}
+use Rattle.dist_books.specs.Acting.{nowhere}
 
 -- an item with the stamp of the event that sent it
 abbrev pub Stamped : Type 0
@@ -93,7 +94,7 @@ NewBooksAreKept = (nodes : Nodes) (k : ℕ) → Kept nodes k (new_book (opened_a
 
 -- of nobody
 abbrev pub no_book : Book
-no_book = new_book (new_node [] [])
+no_book = new_book (new_node [] nowhere.1)
 
 abbrev pub book_at : List Book → ℕ → Book
 book_at books k = slice_index_or books k no_book

@@ -36,6 +36,7 @@ use Rattle.erl_handshake.specs.declared.message.ShakeMsg.{ShakeMsg}
 use Rattle.erl_handshake.specs.declared.status.Status.{Status}
 use Rattle.erl_names.specs.declared.trunk.TrunkId.{TrunkId}
 use Rattle.erl_term.specs.declared.term.Pid.{Pid}
+use Rattle.erl_handshake.specs.declared.introduction.Introduction.{Introduction}
 
 module _ (w : World) (x : Name) (n : Node) (t : TrunkId) (v : TrunkSide) (i : Item) (rest : List Item) (hx : node_of w.nodes x ≡ Some n)
     (h : side_at n t ≡ Some v) (g : Good w) (first : list_to w.lists t x ≡ i ∷ rest) where
@@ -142,11 +143,11 @@ module _ (w : World) (x : Name) (n : Node) (t : TrunkId) (v : TrunkSide) (i : It
       sent_after (as_state v (AwaitsChallenge u)) (ShakeMsg.Status Status.True) refl (status_comes u e none)
       (λ d a s hd hs ha. (λ j. cc, λ j. cc, λ j. cc, λ j. cc)) (λ j. (refl, refl))
 
-  pub challenge_comes : (u c : ℕ) (r : List ℕ) → v.state ≡ AwaitsChallenge u → is_challenge i ≡ true → ((p q : Pid) → news_in p q i ≡ [])
+  pub challenge_comes : (u : ℕ) (c : Introduction) (r : List ℕ) → v.state ≡ AwaitsChallenge u → is_challenge i ≡ true → ((p q : Pid) → news_in p q i ≡ [])
       → Fin (write t v.peer (ShakeMsg.ChallengeReply u r)
-      (set_state t (record { peer = v.peer; peer_creation = c; state = v.state }) (AwaitsAck u) (at_work n)))
+      (set_state t (record { peer = v.peer; introduction = c; state = v.state }) (AwaitsAck u) (at_work n)))
   challenge_comes u c r e ch none =
-      let s : TrunkSide = record { peer = v.peer; peer_creation = c; state = AwaitsAck u } in
+      let s : TrunkSide = record { peer = v.peer; introduction = c; state = AwaitsAck u } in
       let here : node_of (set_node w.nodes x (with_side_at n t s)) x ≡ Some (with_side_at n t s) =
       node_of_set_same w.nodes x n (with_side_at n t s) hx nx in
       let dn : t.dialer ≡ x = dialer_here (role_true ((g.home x n hx).roles t v h)) in

@@ -1,4 +1,4 @@
--- In what creation a monitor's target was known when it was called for.
+-- By what introduction a monitor's target was known when it was called for.
 use Rattle.std.proofs.Common.{Bool, true, false, ◌≡◌, ℕ, true, false, cond, List, [], ◌∷◌, refl, sym, ap, ◌∙◌, subst}
 use Rattle.std.proofs.Common.{Option, Some, None, ◌⊎◌, inl, inr, Contains, nat_lt, ◌+◌, ◌^◌}
 use Rattle.std.proofs.lemmas.List.Elements.{Contains-append_cases}
@@ -20,7 +20,7 @@ use Rattle.dist_model.proofs.Sides.{route_from, side_at}
 use Rattle.dist_model.proofs.Truths.{none_within}
 use Rattle.dist_model.proofs.Calls.{IfGoes, by_name, if_cond, if_not}
 use Rattle.dist_model.proofs.LearntAt.{Learnt, node_learns}
-use Rattle.dist_model.specs.Creations.{creation_of, goes_on}
+use Rattle.dist_model.specs.Introductions.{introduced, goes_on}
 use Rattle.dist_model.specs.Dialing.{next_trunk}
 use Rattle.dist_model.specs.Keeping.{Bearings}
 use Rattle.dist_model.specs.Seen.{seen, is_living}
@@ -42,8 +42,8 @@ use Rattle.dist_model.specs.Node.{Node, route}
 use Rattle.dist_model.specs.NodeEvents as event
 use Rattle.dist_model.specs.NodeEvents.{NodeEvent, at_node}
 use Rattle.dist_model.specs.Runs.{Goes, Runs, opening}
-use Rattle.dist_model.specs.Traces.{CalledIn, MonitorsAreTakenAsCalled, MonitorsKnowTheirNode, MonitorsKnowTheirOwnNode, Taken, TakenAsCalled, Moment, ThroughoutTraced, Trace, WasCalledIn, creation_known}
-use Rattle.dist_model.specs.Traces.{creation_on, creation_said, moment_of, traced}
+use Rattle.dist_model.specs.Traces.{CalledIn, MonitorsAreTakenAsCalled, MonitorsKnowTheirNode, MonitorsKnowTheirOwnNode, Taken, TakenAsCalled, Moment, ThroughoutTraced, Trace, WasCalledIn, introduction_known}
+use Rattle.dist_model.specs.Traces.{said_on, side_said, moment_of, traced}
 use Rattle.dist_model.specs.Work.{Work, at_work}
 use Rattle.dist_model.specs.World.{Arrive, Call, Event, Local, Refused, Report, Reported}
 use Rattle.dist_model.specs.World.{World, came_of, first_of, left, list_to, met, node_name, node_of, set_node, step, step_at}
@@ -52,13 +52,16 @@ use Rattle.erl_names.specs.declared.trunk.TrunkId.{TrunkId}
 use Rattle.erl_term.specs.declared.refusal.Refusal.{Refusal}
 use Rattle.erl_term.specs.declared.term.Pid.{Pid}
 use Rattle.erl_term.specs.declared.term.Reference.{Reference}
+use Rattle.erl_handshake.specs.declared.introduction.Introduction.{Introduction}
+use Rattle.erl_handshake.specs.declared.setup.Setup.{Setup}
+use Rattle.dist_model.specs.Handshake.{introduces}
 
 -- a MONITOR_P of p for q on its way on t to y
 pub record AskedOn (trace : Trace) (w : World) (t : TrunkId) (y : Name) (p q : Pid) (r : Reference) : Type 0 where
-  pub creation : ℕ
-  pub right : Right w.nodes y t creation
+  pub said : Introduction
+  pub right : Right w.nodes y t said
   pub to : y ≡ q.node
-  pub called : WasCalledIn r p q creation trace
+  pub called : WasCalledIn r p q said trace
 
 abbrev AllAskedOn : Trace → World → Type 0
 AllAskedOn trace w = (t : TrunkId) (y : Name) (p q : Pid) (r : Reference) → Contains (list_to w.lists t y) (Signalled (Signal.Monitor p q r))
@@ -66,7 +69,7 @@ AllAskedOn trace w = (t : TrunkId) (y : Name) (p q : Pid) (r : Reference) → Co
 
 -- nothing has come on its way
 later : (trace : Trace) (m : Moment) (w : World) → AllAskedOn trace w → AllAskedOn (m ∷ trace) w
-later trace m w k t y p q r c = let a = k t y p q r c in record { creation = a.creation; right = a.right; to = a.to; called = inr a.called }
+later trace m w k t y p q r c = let a = k t y p q r c in record { said = a.said; right = a.right; to = a.to; called = inr a.called }
 
 -- one that is sent
 module _ (w : World) (g : Fine w) (n : Node) where
@@ -80,17 +83,17 @@ module _ (w : World) (g : Fine w) (n : Node) where
       let nx : p0.node ≡ x = same_name_true p0.node n.mint.name (never_own n p0 ((g.0.core.nodes x n hx).born p0 k.here)) ∙ node_of_name w.nodes x n hx in
       let tr : Trace = moment_of w (Call x (Command.Monitor p0 q0)) (Reported a o.effects) ∷ trace in
       let b : AskedOn tr w t q0.node p0 q0 r = record {
-        creation = v.found.peer_creation;
-        right = subst (λ z. Right w.nodes z t v.found.peer_creation) v.peer
+        said = v.found.introduction;
+        right = subst (λ z. Right w.nodes z t v.found.introduction) v.peer
             (g.1.known x n t v.found hx v.there (up_goes v.found.state v.up).1);
         to = refl;
         called = inl (record {
           call = ap (λ z. Call z (Command.Monitor p0 q0)) (sym nx);
           answered = ap (λ z. is_answered r (Call x (Command.Monitor p0 q0)) (Reported z o.effects)) k.answer ∙ same_reference_refl r;
-          known = ap (λ z. creation_known z q0.node) (ap (node_of w.nodes) nx ∙ hx)
-              ∙ ap (λ b. cond b (Some n.mint.creation) (creation_on n (route n q0.node))) k.away
-              ∙ ap (creation_on n) k.route
-              ∙ ap creation_said v.there;
+          known = ap (λ z. introduction_known z q0.node) (ap (node_of w.nodes) nx ∙ hx)
+              ∙ ap (λ b. cond b (Some (introduces n)) (said_on n (route n q0.node))) k.away
+              ∙ ap (said_on n) k.route
+              ∙ ap side_said v.there;
         });
       } in
       subst (λ z. AskedOn tr w t z p q r) (sym k.to) (subst (λ z. AskedOn tr w t q0.node p z r) k.target
@@ -103,28 +106,28 @@ module _ (w : World) (g : Fine w) (n : Node) where
   -- one that the node keeps for itself
   listed : (e : Event) → node_of w.nodes (node_name e) ≡ Some n → (a : Answer) (o : Work) → at_node w.names n (met w e) ≡ Accepts a o
       → (trace : Trace) (p q : Pid) (r : Reference)
-      → (Contains n.local (Signalled (Signal.Monitor p q r)) → (node_name e ≡ q.node) × WasCalledIn r p q n.mint.creation trace)
+      → (Contains n.local (Signalled (Signal.Monitor p q r)) → (node_name e ≡ q.node) × WasCalledIn r p q (introduces n) trace)
       → Contains o.node.local (Signalled (Signal.Monitor p q r))
-      → (node_name e ≡ q.node) × WasCalledIn r p q n.mint.creation (moment_of w e (Reported a o.effects) ∷ trace)
+      → (node_name e ≡ q.node) × WasCalledIn r p q (introduces n) (moment_of w e (Reported a o.effects) ∷ trace)
   listed (Call x (Command.Monitor p0 q0)) hx a o j trace p q r old c = pick ((call_asks n p0 q0 w.names a o j).1 p q r c)
     where
       pick : Contains n.local (Signalled (Signal.Monitor p q r)) ⊎ AskedHere n p0 q0 a p q r
-          → (x ≡ q.node) × WasCalledIn r p q n.mint.creation (moment_of w (Call x (Command.Monitor p0 q0)) (Reported a o.effects) ∷ trace)
+          → (x ≡ q.node) × WasCalledIn r p q (introduces n) (moment_of w (Call x (Command.Monitor p0 q0)) (Reported a o.effects) ∷ trace)
       pick (inl d) = let v = old d in (v.0, inr v.1)
       pick (inr k) =
           let xn : n.mint.name ≡ x = node_of_name w.nodes x n hx in
           let nx : p0.node ≡ x = same_name_true p0.node n.mint.name (never_own n p0 ((g.0.core.nodes x n hx).born p0 k.here)) ∙ xn in
           let qx : q0.node ≡ x = same_name_true q0.node n.mint.name k.own ∙ xn in
           let m = moment_of w (Call x (Command.Monitor p0 q0)) (Reported a o.effects) in
-          let b : CalledIn r p0 q0 n.mint.creation m = record {
+          let b : CalledIn r p0 q0 (introduces n) m = record {
             call = ap (λ z. Call z (Command.Monitor p0 q0)) (sym nx);
             answered = ap (λ z. is_answered r (Call x (Command.Monitor p0 q0)) (Reported z o.effects)) k.answer ∙ same_reference_refl r;
-            known = ap (λ z. creation_known z q0.node) (ap (node_of w.nodes) nx ∙ hx)
-                ∙ ap (λ b. cond b (Some n.mint.creation) (creation_on n (route n q0.node))) k.own;
+            known = ap (λ z. introduction_known z q0.node) (ap (node_of w.nodes) nx ∙ hx)
+                ∙ ap (λ b. cond b (Some (introduces n)) (said_on n (route n q0.node))) k.own;
           } in (
             sym qx ∙ ap (λ (z : Pid). z.node) k.target,
-            inl (subst (λ z. CalledIn r p z n.mint.creation m) k.target
-                (subst (λ z. CalledIn r z q0 n.mint.creation m) k.owner b)),
+            inl (subst (λ z. CalledIn r p z (introduces n) m) k.target
+                (subst (λ z. CalledIn r z q0 (introduces n) m) k.owner b)),
           )
   listed e hx a o j trace p q r old c =
       let v = old ((if_accepted (UnaskedIn n.local) (at_node w.names n (met w e)) a o j
@@ -133,7 +136,7 @@ module _ (w : World) (g : Fine w) (n : Node) where
 
 -- a node keeps its creation, or its list is empty
 abbrev KeepsOwn : Node → Work → Type 0
-KeepsOwn n o = (o.node.mint.creation ≡ n.mint.creation) ⊎ (o.node.local ≡ [])
+KeepsOwn n o = (introduces o.node ≡ introduces n) ⊎ (o.node.local ≡ [])
 
 keeps_own : (names : List Name) (n : Node) (e : NodeEvent) → side_at n (next_trunk n) ≡ None → IfGoes (at_node names n e) (KeepsOwn n)
 keeps_own names n event.Stop h = if_cond n.up _ Refusal.NodeDown _ (λ u. inl refl)
@@ -152,7 +155,7 @@ asked_step w g trace k None e h = later trace _ w k
 asked_step w g trace k (Some n) e h = go (at_node w.names n (met w e)) refl ((known_step w (Some n) e h g.0).1)
   where
     go : (r : Outcome) → at_node w.names n (met w e) ≡ r
-        → ((z : Name) (t : TrunkId) (c : ℕ) → Right w.nodes z t c → Right ((came_of w (node_name e) (left w e) r).world.nodes) z t c)
+        → ((z : Name) (t : TrunkId) (c : Introduction) → Right w.nodes z t c → Right ((came_of w (node_name e) (left w e) r).world.nodes) z t c)
         → AllAskedOn (moment_of w e ((came_of w (node_name e) (left w e) r).report) ∷ trace) ((came_of w (node_name e) (left w e) r).world)
     go (Refuses why) j f t y p q r c = later trace _ w k t y p q r c
     go (Accepts a o) j f t y p q r c = pick (Contains-append_cases (list_to (left w e) t y) (at_place t y (sent_in o.effects)) i
@@ -167,14 +170,14 @@ asked_step w g trace k (Some n) e h = go (at_node w.names n (met w e)) refl ((kn
             ((came_of w (node_name e) (left w e) (Accepts a o)).world) t y p q r
         pick (inl d) =
             let b = k t y p q r (left_before w e t y (Signalled (Signal.Monitor p q r)) d) in
-            record { creation = b.creation; right = f y t b.creation b.right; to = b.to; called = inr b.called }
+            record { said = b.said; right = f y t b.said b.right; to = b.to; called = inr b.called }
         pick (inr d) =
             let b = sent w g n e h a o j trace t y p q r (sent_at t y o.effects (Signalled (Signal.Monitor p q r)) d) in
-            record { creation = b.creation; right = f y t b.creation b.right; to = b.to; called = b.called }
+            record { said = b.said; right = f y t b.said b.right; to = b.to; called = b.called }
 
 abbrev AllListed : Trace → World → Type 0
 AllListed trace w = (x : Name) (n : Node) (p q : Pid) (r : Reference) → node_of w.nodes x ≡ Some n
-    → Contains n.local (Signalled (Signal.Monitor p q r)) → (x ≡ q.node) × WasCalledIn r p q n.mint.creation trace
+    → Contains n.local (Signalled (Signal.Monitor p q r)) → (x ≡ q.node) × WasCalledIn r p q (introduces n) trace
 
 still_listed : (trace : Trace) (m : Moment) (w : World) → AllListed trace w → AllListed (m ∷ trace) w
 still_listed trace m w k x n p q r h c = let v = k x n p q r h c in (v.0, inr v.1)
@@ -201,18 +204,18 @@ listed_step w g trace k (Some n) e h = go (at_node w.names n (met w e)) refl
         let v = k y b p q r (sym (node_of_set_other w.nodes (node_name e) y o.node nm i) ∙ hy) c in (v.0, inr v.1))
       where
         mine : o.node ≡ b → Contains o.node.local (Signalled (Signal.Monitor p q r))
-            → (node_name e ≡ q.node) × WasCalledIn r p q b.mint.creation (moment_of w e (Reported a o.effects) ∷ trace)
+            → (node_name e ≡ q.node) × WasCalledIn r p q (introduces b) (moment_of w e (Reported a o.effects) ∷ trace)
         mine same d = pick (if_accepted (KeepsOwn n) (at_node w.names n (met w e)) a o j
             (keeps_own w.names n (met w e) (next_none w (node_name e) n h g.0)))
           where
             pick : KeepsOwn n o
-                → (node_name e ≡ q.node) × WasCalledIn r p q b.mint.creation (moment_of w e (Reported a o.effects) ∷ trace)
+                → (node_name e ≡ q.node) × WasCalledIn r p q (introduces b) (moment_of w e (Reported a o.effects) ∷ trace)
             pick (inr f) = absurd (none_within (Signalled (Signal.Monitor p q r)) (subst (λ z. Contains z (Signalled (Signal.Monitor p q r))) f d))
             pick (inl f) =
                 let v = listed w g n e h a o j trace p q r (λ d. k (node_name e) n p q r h d) d in (
                   v.0,
                   subst (λ z. WasCalledIn r p q z (moment_of w e (Reported a o.effects) ∷ trace))
-                      (sym f ∙ ap (λ (z : Node). z.mint.creation) same) v.1,
+                      (sym f ∙ ap (λ (z : Node). introduces z) same) v.1,
                 )
 
 -- and so each run
@@ -258,7 +261,7 @@ took_up names n t s k = answers_if n.up _ Refusal.NodeDown (TookUp n t) (λ u. g
     go (Some v) h = comes v h (is_over v.state)
 
 abbrev Held : Trace → World → Event → Pid → Pid → Reference → Type 0
-Held trace w e p q r = (c : ℕ) × (creation_of w q.node ≡ Some c) × (node_name e ≡ q.node) × WasCalledIn r p q c trace
+Held trace w e p q r = (c : Introduction) × (introduced w q.node ≡ Some c) × (node_name e ≡ q.node) × WasCalledIn r p q c trace
 
 taken_step : (w : World) → Fine w → (trace : Trace) → AllAskedOn trace w → AllListed trace w → (e : Event) (a : Answer)
     (fx : List (Effect Item)) → Reported a fx ≡ (step w e).report → (p q : Pid) (r : Reference)
@@ -273,8 +276,8 @@ taken_step w g trace k l (Arrive t y j) a fx h p q r v = at (node_of w.nodes y) 
 
     up : (n : Node) → node_of w.nodes y ≡ Some n → IsUpAt n t → Held trace w (Arrive t y j) p q r
     up n hx u = (
-      asked.creation,
-      ap (creation_of w) (sym asked.to) ∙ right_is w y u.0.peer t asked.creation (record {
+      asked.said,
+      ap (introduced w) (sym asked.to) ∙ right_is w y u.0.peer t asked.said (record {
         side = u.0;
         there = ap (λ z. side_in z t) hx ∙ u.1;
         peer = refl;
@@ -300,7 +303,7 @@ taken_step w g trace k l (Local y) a fx h p q r v = at (node_of w.nodes y) refl 
     at None hx z = absurd (none-some (Signalled (Signal.Monitor p q r)) z)
     at (Some n) hx z =
         let b = l y n p q r hx (contains_first n.local (Signalled (Signal.Monitor p q r)) z) in
-        (n.mint.creation, ap (creation_of w) (sym b.0) ∙ ap (λ o. seen o None (λ node. Some node.mint.creation)) hx, b.0, b.1)
+        (introduces n, ap (introduced w) (sym b.0) ∙ ap (λ o. seen o None (λ node. Some (introduces node))) hx, b.0, b.1)
 taken_step w g trace k l e a fx h p q r v = absurd (none-some (Signalled (Signal.Monitor p q r)) v.first)
 
 -- of each that was taken
@@ -339,7 +342,7 @@ asked_runs (e ∷ es) (Reported a fx ∷ rs) w v trace g k h = asked_runs es rs 
     next (inr d) = let z = d.0 in cc
 asked_runs _ _ w v trace g k h = absurd h
 
-opening_asks : (cs : List (Name × List ℕ)) → Both [] (opening cs)
+opening_asks : (cs : List (Name × Setup)) → Both [] (opening cs)
 opening_asks cs = (
   λ t y p q r c. absurd (none_within (Signalled (Signal.Monitor p q r))
       (subst (λ l. Contains l (Signalled (Signal.Monitor p q r))) (ap list_in (fm.get-empty place_cmp (t, y))) c)),
@@ -352,18 +355,18 @@ pub monitors_know : ThroughoutTraced MonitorsKnowTheirNode
 monitors_know cs es rs w h t y p q r c side =
     let b = asked_runs es rs (opening cs) w [] (good_opening cs, known_opening cs) (opening_asks cs) h in
     let a = b.0 t y p q r c in
-    (a.creation, right_is w y p.node t a.creation side a.right, a.to, a.called)
+    (a.said, right_is w y p.node t a.said side a.right, a.to, a.called)
 
 pub own_monitors_know : ThroughoutTraced MonitorsKnowTheirOwnNode
 own_monitors_know cs es rs w h x p q r c = go (node_of w.nodes x) refl c
   where
     go : (o : Option Node) → node_of w.nodes x ≡ o → Contains (local_at o) (Signalled (Signal.Monitor p q r))
-        → (c : ℕ) × (creation_of w x ≡ Some c) × (x ≡ q.node) × WasCalledIn r p q c (traced (opening cs) es rs [])
+        → (c : Introduction) × (introduced w x ≡ Some c) × (x ≡ q.node) × WasCalledIn r p q c (traced (opening cs) es rs [])
     go None j d = absurd (none_within (Signalled (Signal.Monitor p q r)) d)
     go (Some n) j d =
         let b = asked_runs es rs (opening cs) w [] (good_opening cs, known_opening cs) (opening_asks cs) h in
         let v = b.1 x n p q r j d in
-        (n.mint.creation, ap (λ o. seen o None (λ node. Some node.mint.creation)) j, v.0, v.1)
+        (introduces n, ap (λ o. seen o None (λ node. Some (introduces node))) j, v.0, v.1)
 
 -- who was living at a node was of its incarnation
 abbrev AllBefore : Trace → Type 0
@@ -379,15 +382,15 @@ peopled_before (e ∷ es) (Reported a fx ∷ rs) w trace g k =
     peopled_before es rs ((step w e).world) (moment_of w e (Reported a fx) ∷ trace)
     (after w g (node_of w.nodes (node_name e)) e refl) (g, k)
 
-holder_is : (w : World) → AllPeopled w.nodes → (y : Name) (c : ℕ) → creation_of w y ≡ Some c → (held : Pid) → held.node ≡ y
-    → is_living w held ≡ true → held.creation ≡ c
+holder_is : (w : World) → AllPeopled w.nodes → (y : Name) (c : Introduction) → introduced w y ≡ Some c → (held : Pid) → held.node ≡ y
+    → is_living w held ≡ true → held.creation ≡ c.creation
 holder_is w g y c h p e l = go (node_of w.nodes y) refl
   where
-    go : (o : Option Node) → node_of w.nodes y ≡ o → p.creation ≡ c
-    go None j = absurd (none-some c (sym (ap (λ o. seen o None (λ node. Some node.mint.creation)) j) ∙ h))
+    go : (o : Option Node) → node_of w.nodes y ≡ o → p.creation ≡ c.creation
+    go None j = absurd (none-some c (sym (ap (λ o. seen o None (λ node. Some (introduces node))) j) ∙ h))
     go (Some n) j =
         ((g y n j).alive p (sym (ap (λ o. living_at o p) (ap (node_of w.nodes) e ∙ j)) ∙ l)).1
-        ∙ same_Some n.mint.creation c (sym (ap (λ o. seen o None (λ node. Some node.mint.creation)) j) ∙ h)
+        ∙ ap (λ (z : Introduction). z.creation) (same_Some (introduces n) c (sym (ap (λ o. seen o None (λ node. Some (introduces node))) j) ∙ h))
 
 taken_as_called : (trace : Trace) → AllHeld trace → AllBefore trace → TakenAsCalled trace
 taken_as_called [] k b = tt

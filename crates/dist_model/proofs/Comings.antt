@@ -70,6 +70,7 @@ use Rattle.link_core.specs.News.{Signals, noconnection}
 use Rattle.link_core.specs.declared.end.End.{End}
 use Rattle.link_core.specs.declared.end.LinkSignal.{LinkSignal}
 use Rattle.monitor_core.specs.declared.monitor.Monitor.{Monitor}
+use Rattle.dist_model.specs.Sides.{untold}
 
 -- a message that was sent, or not
 pub sent_or_not : (i : Item) → ((p : Pid) × (m : Data) × (i ≡ Signalled (Signal.Send p m)))
@@ -325,7 +326,7 @@ module _ (w : World) (h : History) (x : Name) (n : Node) (hx : node_of w.nodes x
       (not (has_name y names)) _ Refusal.NothingThere (D (Dial x y k) n.local)
       (λ b. go_not (is_some (side_where (λ v. not (is_gone v)) y (fm.entries n.sides))) _ Refusal.Busy (D (Dial x y k) n.local)
       (λ c. go_not (not (nat_lt (n.dialed + 1) (2 ^ 64))) _ Refusal.IdsUsedUp (D (Dial x y k) n.local) (λ d.
-      let s : TrunkSide = record { peer = y; peer_creation = 0; state = AwaitsStatus k } in
+      let s : TrunkSide = record { peer = y; introduction = untold; state = AwaitsStatus k } in
       let o : Work = at_work (draw_trunk n) in
       let c0 = calm (Dial x y k) n.local (λ r v. refl) (λ r v. refl) (g.locals x n hx) (g.homes x n hx) in
       let c1 : Calm (Dial x y k) n.local (λ r v. refl) (λ r v. refl) o = record {
@@ -413,7 +414,7 @@ module _ (w : World) (h : History) (x : Name) (n : Node) (hx : node_of w.nodes x
         go : (v : Option TrunkSide) → gone_side v ≡ Some s → is_over s.state ≡ true
         go None i = absurd (none-some s i)
         go (Some a) i =
-            ap (λ (z : TrunkSide). is_over z.state) (sym (same_Some (record { peer = a.peer; peer_creation = 0; state = Gone }) s i))
+            ap (λ (z : TrunkSide). is_over z.state) (sym (same_Some (record { peer = a.peer; introduction = untold; state = Gone }) s i))
 
     pub cleared_done : (a : Answer) → D e n.local a (at_work m)
     cleared_done a = record {
@@ -434,7 +435,7 @@ module _ (w : World) (h : History) (x : Name) (n : Node) (hx : node_of w.nodes x
       };
       acts = λ p q z c. absurd (none_within (Effect.LinkExit p q z) c);
       aging = λ t s j. record {
-        side = record { peer = s.peer; peer_creation = 0; state = Gone };
+        side = record { peer = s.peer; introduction = untold; state = Gone };
         there = side_gone t ∙ ap gone_side j;
         peer = refl;
         holding = inr (λ k u i d. none-some u (sym (unwatched k) ∙ i), refl);

@@ -58,6 +58,8 @@ use Rattle.erl_handshake.specs.Roles.{send_name}
 use Rattle.erl_handshake.specs.declared.message.ShakeMsg.{ShakeMsg}
 use Rattle.erl_names.specs.declared.trunk.TrunkId.{TrunkId}
 use Rattle.erl_term.specs.declared.refusal.Refusal.{Refusal}
+use Rattle.erl_handshake.specs.declared.setup.Setup.{Setup}
+use Rattle.dist_model.specs.Sides.{untold}
 
 -- ---- a node keeps its cookie
 
@@ -189,7 +191,7 @@ module _ (w : World) (h : History) (gw : Good w) (g : Known w h) (x : Name) (n :
     t0 = next_trunk n
 
     abbrev s0 : TrunkSide
-    s0 = record { peer = y; peer_creation = 0; state = AwaitsStatus k }
+    s0 = record { peer = y; introduction = untold; state = AwaitsStatus k }
 
     abbrev o0 : Work
     o0 = at_work (draw_trunk n)
@@ -256,7 +258,7 @@ module _ (w : World) (h : History) (gw : Good w) (g : Known w h) (x : Name) (n :
 
       told : (t : TrunkId) (c : ℕ) → Now w h gw g x n hx (Dial x y k) (Answer.Trunk (next_trunk n)) t c → (side_at n t ≡ None)
           × Tells t (write (next_trunk n) y (send_name (identity n)) (with_side (next_trunk n)
-          (record { peer = y; peer_creation = 0; state = AwaitsStatus k }) (at_work (draw_trunk n))))
+          (record { peer = y; introduction = untold; state = AwaitsStatus k }) (at_work (draw_trunk n))))
       told t c (inr i) = let q : Dial x y k ≡ Arrive t x c = i.0 in cc
       told t c (inl i) =
           let q : next_trunk n ≡ t = cc in (
@@ -265,7 +267,7 @@ module _ (w : World) (h : History) (gw : Good w) (g : Known w h) (x : Name) (n :
               y,
               send_name (identity n),
               subst (λ z. Contains ((write (next_trunk n) y
-                  (send_name (identity n)) (with_side (next_trunk n) (record { peer = y; peer_creation = 0; state = AwaitsStatus k })
+                  (send_name (identity n)) (with_side (next_trunk n) (record { peer = y; introduction = untold; state = AwaitsStatus k })
                   (at_work (draw_trunk n)))).effects) (Effect.Sent (Some z) y (Handshake (send_name (identity n))))) q
                   (Contains-push [] (Effect.Sent (Some (next_trunk n)) y (Handshake (send_name (identity n))))),
             ),
@@ -347,7 +349,7 @@ known_step w h (Some n) e i gw g = go (at_node w.names n (met_by w e)) refl (by_
 
 -- ---- over every run
 
-pub known_opening : (cs : List (Name × List ℕ)) → Known (opening cs) []
+pub known_opening : (cs : List (Name × Setup)) → Known (opening cs) []
 known_opening cs = record {
   words = λ x n t s hx hs. absurd (none_at cs x n t s hx hs);
   shown = λ x n t s hx hs. absurd (none_at cs x n t s hx hs);

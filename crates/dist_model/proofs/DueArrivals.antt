@@ -33,6 +33,7 @@ use Rattle.erl_handshake.specs.declared.message.ShakeMsg.{ShakeMsg}
 use Rattle.erl_handshake.specs.declared.status.Status.{Status}
 use Rattle.erl_names.specs.declared.trunk.TrunkId.{TrunkId}
 use Rattle.dist_model.proofs.Handshake.{as_state}
+use Rattle.erl_handshake.specs.Roles.{introduction_by}
 
 dials_not : (v : State) → is_over v ≡ true → dials v ≡ true → is_accept (Handshake (ShakeMsg.Status Status.Ok)) ≡ true
 dials_not v e h = let k = ends_kind v e in let c : true ≡ false = sym h ∙ or_from (is_early v) (waits_ack v) k.0 k.1 in cc
@@ -138,7 +139,7 @@ module _ (ns : List Node) (m : FinMap place_cmp (List Item)) (x : Name) (n : Nod
   pub on_challenge : (u : ℕ) → v.state ≡ AwaitsChallenge u → (l : ShakeMsg) → i ≡ Handshake l → Fin (awaits_challenge t v u l (at_work n))
   on_challenge u e (ShakeMsg.Challenge f w c y) j = unless (is_same y v.peer) _ (Fault.Shake ShakeFault.Forged)
       (unless (has_all_of f mandatory) _ (Fault.Shake ShakeFault.FlagsMissing)
-      (dialer_answers (is_dialer (ap (role_state false) e)) (record { peer = v.peer; peer_creation = c; state = AwaitsAck u })
+      (dialer_answers (is_dialer (ap (role_state false) e)) (record { peer = v.peer; introduction = introduction_by c f; state = AwaitsAck u })
       (Handshake (ShakeMsg.ChallengeReply u (digest_of n.cookie w))) refl
       (λ p A r. dialer_replies u u u (digest_of n.cookie w) p rest A
       (taken_by_dialer (AwaitsChallenge u) p i rest A (λ d. ap is_accept j) (subst (λ z. DueRow z p (i ∷ rest) A) e r)))))

@@ -11,7 +11,6 @@ use Rattle.dist_model.proofs.DueWork.{put_away, put_other, put_same}
 use Rattle.dist_model.proofs.DueRun.{calls_due, comes_due, local_due, lose_due, stranger, sweep_due}
 use Rattle.dist_model.proofs.SideChanges.{side_after_other, side_after_same, with_side_at}
 use Rattle.dist_model.proofs.Trunks.{Good}
-use Rattle.erl_handshake.specs.Flags.{mandatory}
 use Rattle.erl_handshake.specs.declared.message.ShakeMsg.{ShakeMsg}
 use Rattle.erl_term.specs.declared.refusal.Refusal.{Refusal}
 use Rattle.dist_model.specs.Commands.{Accepts, Outcome, Refuses}
@@ -36,6 +35,7 @@ use Rattle.dist_model.proofs.NewSides.{list_none, option_none}
 use Rattle.dist_model.proofs.Handshake.{as_state}
 use Rattle.dist_model.proofs.Calls.{by_name}
 use Rattle.dist_model.proofs.OneStep.{while_up}
+use Rattle.dist_model.specs.Sides.{untold}
 
 -- a node stops or starts: all its sides are gone
 module _ (ns : List Node) (m : FinMap place_cmp (List Item)) (x : Name) (n n' : Node) (hx : node_of ns x ≡ Some n) (nn : n'.mint.name ≡ x)
@@ -74,12 +74,12 @@ module _ (w : World) (x : Name) (n : Node) (hx : node_of w.nodes x ≡ Some n) (
 
   dials_due : (y : Name) (k : ℕ) → (y ≡ x → ⊥) → Due w.nodes w.lists
       → Due (set_node w.nodes x (with_side_at (draw_trunk n) (next_trunk n)
-      (record { peer = y; peer_creation = 0; state = AwaitsStatus k })))
+      (record { peer = y; introduction = untold; state = AwaitsStatus k })))
       (fm.insert w.lists (next_trunk n, y) (list_to w.lists (next_trunk n) y ++ Handshake
-      (ShakeMsg.SendName mandatory n.mint.creation n.mint.name) ∷ []))
+      (ShakeMsg.SendName n.flags n.mint.creation n.mint.name) ∷ []))
   dials_due y k d u =
       let t = next_trunk n in
-      let s : TrunkSide = record { peer = y; peer_creation = 0; state = AwaitsStatus k } in
+      let s : TrunkSide = record { peer = y; introduction = untold; state = AwaitsStatus k } in
       let none : side_at n (next_trunk n) ≡ None = option_none (side_at n (next_trunk n))
       (λ s h. let c = (g.home x n hx).counts (next_trunk n) s h refl in absurd (omega arith)) in
       let keyless : (z : Name) → is_some (fm.get w.lists (next_trunk n, z)) ≡ true → ⊥ = λ z j.
@@ -87,8 +87,8 @@ module _ (w : World) (x : Name) (n : Node) (hx : node_of w.nodes x ≡ Some n) (
       let same : p.1 ≡ n = same_Some p.1 n (sym p.2 ∙ ap (node_of w.nodes) nx ∙ hx) in
       none-some p.0 (sym none ∙ ap (λ v. side_at v (next_trunk n)) (sym same) ∙ p.3) in
       let empty : (z : Name) → list_to w.lists (next_trunk n) z ≡ [] = λ z. list_none (fm.get w.lists (next_trunk n, z)) (keyless z) in
-      let item : Item = Handshake (ShakeMsg.SendName mandatory n.mint.creation n.mint.name) in
-      let n2 = with_side_at (draw_trunk n) (next_trunk n) (record { peer = y; peer_creation = 0; state = AwaitsStatus k }) in
+      let item : Item = Handshake (ShakeMsg.SendName n.flags n.mint.creation n.mint.name) in
+      let n2 = with_side_at (draw_trunk n) (next_trunk n) (record { peer = y; introduction = untold; state = AwaitsStatus k }) in
       due_new w.nodes w.lists x n n2 hx nx (next_trunk n) (fm.insert w.lists (next_trunk n, y)
       (list_to w.lists (next_trunk n) y ++ item ∷ []))
       (λ v i. side_after_other (draw_trunk n) (next_trunk n) s v i) (λ v z i. put_away w.lists (next_trunk n) y _ v z i) nx s
@@ -98,7 +98,7 @@ module _ (w : World) (x : Name) (n : Node) (hx : node_of w.nodes x ≡ Some n) (
       ∙ strange (node_of w.nodes y) refl none))
       (sym (put_other w.lists (next_trunk n) y _ n.mint.name (λ i. d (sym i ∙ nx)) ∙ empty n.mint.name))
       (sym (put_same w.lists (next_trunk n) y _ ∙ ap (λ l. l ++ item ∷ []) (empty y)))
-      (dialed k mandatory n.mint.creation n.mint.name)) u
+      (dialed k n.flags n.mint.creation n.mint.name)) u
     where
       strange : (o : Option Node) → node_of w.nodes y ≡ o → side_at n (next_trunk n) ≡ None → far_in o (next_trunk n) ≡ None
       strange None h none = refl
@@ -116,8 +116,8 @@ module _ (w : World) (x : Name) (n : Node) (hx : node_of w.nodes x ≡ Some n) (
       tested a b c e = (came_of w x w.lists (cond a (Refuses Refusal.SelfDial)
           (cond b (Refuses Refusal.NothingThere) (cond c (Refuses Refusal.Busy)
           (cond e (Refuses Refusal.IdsUsedUp) (Accepts (Answer.Trunk (next_trunk n))
-          (write (next_trunk n) y (ShakeMsg.SendName mandatory n.mint.creation n.mint.name)
-          (with_side (next_trunk n) (record { peer = y; peer_creation = 0; state = AwaitsStatus k }) (at_work (draw_trunk n)))))))))).world
+          (write (next_trunk n) y (ShakeMsg.SendName n.flags n.mint.creation n.mint.name)
+          (with_side (next_trunk n) (record { peer = y; introduction = untold; state = AwaitsStatus k }) (at_work (draw_trunk n)))))))))).world
 
       go : (a : Bool) → same_name y n.mint.name ≡ a → (b c e : Bool) → Due ((tested a b c e).nodes) ((tested a b c e).lists)
       go false ea false false false = dials_due y k (λ i. let c : true ≡ false = sym (same_name_is y n.mint.name (i ∙ sym nx)) ∙ ea in cc) u

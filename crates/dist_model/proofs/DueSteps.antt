@@ -32,6 +32,9 @@ use Rattle.erl_names.specs.Order.{name_cmp}
 use Rattle.erl_names.specs.declared.trunk.TrunkId.{TrunkId}
 use Rattle.dist_model.proofs.Handshake.{role_lost}
 use Rattle.dist_model.proofs.DueWorld.{Whose}
+use Rattle.erl_handshake.specs.declared.introduction.Introduction.{Introduction}
+use Rattle.erl_handshake.specs.Roles.{introduction_by}
+use Rattle.dist_model.specs.Sides.{untold}
 
 pub lost_ends : (v : State) → (is_over (lost v) ≡ true) × (holds v ≡ false → holds (lost v) ≡ false)
     × (holds (lost v) ≡ true → holds v ≡ true)
@@ -62,26 +65,26 @@ module _ (ns : List Node) (m : FinMap place_cmp (List Item)) (x : Name) (n : Nod
   -- ---- a new side
 
   module _ (t : TrunkId) (far : t.dialer ≡ x → ⊥) (k : Met ns t x) where
-    abbrev new : ℕ → TrunkSide
-    new c = record { peer = t.dialer; peer_creation = c; state = Gone }
+    abbrev new : Introduction → TrunkSide
+    new c = record { peer = t.dialer; introduction = c; state = Gone }
 
-    new_gone : (c : ℕ) (o : Work) → side_at o.node t ≡ None → X o → X (set_state t (new c) Gone o)
+    new_gone : (c : Introduction) (o : Work) → side_at o.node t ≡ None → X o → X (set_state t (new c) Gone o)
     new_gone c o h g = sets_side ns m x n hx t far k (new c) refl o None Gone g h refl refl (inl (refl, refl)) refl
 
-    refused : (c : ℕ) (o : Work) → side_at o.node t ≡ None → X o
+    refused : (c : Introduction) (o : Work) → side_at o.node t ≡ None → X o
         → X (write t t.dialer (ShakeMsg.Status Status.Nok) (set_state t (new c) Gone o))
     refused c o h g = tells ns m x n hx t far k (new c) refl o None Gone (ShakeMsg.Status Status.Nok) g h refl refl (inl (refl, refl)) refl
         refl refl
 
-    accepted : (c w : ℕ) (v : Status) (i : Item) (o : Work) → side_at o.node t ≡ None → X o
+    accepted : (c : Introduction) (w : ℕ) (v : Status) (i : Item) (o : Work) → side_at o.node t ≡ None → X o
         → IfGoes (accepts t (new c) w (ShakeMsg.Status v) i o) X
     accepted c w v i o h g = tells_more ns m x n hx t far k (new c) refl
         (write t t.dialer (ShakeMsg.Status v) (set_state t (new c) (Accepting w) o))
-        (record { peer = t.dialer; peer_creation = c; state = Accepting w }) (challenge o.node w)
+        (record { peer = t.dialer; introduction = c; state = Accepting w }) (challenge o.node w)
         (tells ns m x n hx t far k (new c) refl o None (Accepting w) (ShakeMsg.Status v) g h refl refl (inr refl) refl refl refl)
         (side_after_same o.node t _) refl refl refl
 
-    greets_dialing : (c w : ℕ) (i : Item) (o : Work) (d : Option (TrunkId × TrunkSide))
+    greets_dialing : (c : Introduction) (w : ℕ) (i : Item) (o : Work) (d : Option (TrunkId × TrunkSide))
         → side_where is_dialing t.dialer (fm.entries o.node.sides) ≡ d → side_at o.node t ≡ None → X o
         → IfGoes (greet_dialing d t (new c) w i o) X
     greets_dialing c w i o None j h g = accepted c w Status.Ok i o h g
@@ -90,16 +93,16 @@ module _ (ns : List Node) (m : FinMap place_cmp (List Item)) (x : Name) (n : Nod
         (accepted c w Status.OkSimultaneous i (give_up (Some e) o) (still_new o t e Gone f.0 h) (gone_side o e.0 e.1 f.0 g))
         (refused c o h g)
 
-    greets_up : (c w : ℕ) (i : Item) (o : Work) (d : Option (TrunkId × TrunkSide)) → side_at o.node t ≡ None → X o
+    greets_up : (c : Introduction) (w : ℕ) (i : Item) (o : Work) (d : Option (TrunkId × TrunkSide)) → side_at o.node t ≡ None → X o
         → IfGoes (greet_up d t (new c) w i o) X
     greets_up c w i o None h g = greets_dialing c w i o (side_where is_dialing t.dialer (fm.entries o.node.sides)) refl h g
     greets_up c w i o (Some e) h g = tells ns m x n hx t far k (new c) refl o None (Asked w) (ShakeMsg.Status Status.Alive) g h refl refl
         (inr refl) refl refl refl
 
-    greets : (c w : ℕ) (i : Item) (o : Work) → side_at o.node t ≡ None → X o → IfGoes (greet t (new c) w i o) X
+    greets : (c : Introduction) (w : ℕ) (i : Item) (o : Work) → side_at o.node t ≡ None → X o → IfGoes (greet t (new c) w i o) X
     greets c w i o h g = greets_up c w i o (side_where (λ v. is_up v || is_losing v) t.dialer (fm.entries o.node.sides)) h g
 
-    greets_waiting : (c w : ℕ) (i : Item) (o : Work) (d : Option (TrunkId × TrunkSide))
+    greets_waiting : (c : Introduction) (w : ℕ) (i : Item) (o : Work) (d : Option (TrunkId × TrunkSide))
         → side_where is_waiting t.dialer (fm.entries o.node.sides) ≡ d → side_at o.node t ≡ None → X o
         → IfGoes (greet_waiting d t (new c) w i o) X
     greets_waiting c w i o None j h g = greets c w i o h g
@@ -111,11 +114,11 @@ module _ (ns : List Node) (m : FinMap place_cmp (List Item)) (x : Name) (n : Nod
     pub named : (w : ℕ) (f c : ℕ) (y : List ℕ) (o : Work) → side_at o.node t ≡ None → X o
         → IfGoes (awaits_name t (ShakeMsg.SendName f c y) w o) X
     named w f c y o h g = if_either (is_same y t.dialer) _ _ X (if_either (has_all_of f mandatory) _ _ X
-        (greets_waiting c w (Handshake (ShakeMsg.SendName f c y)) o (side_where is_waiting t.dialer (fm.entries o.node.sides)) refl h g)
-        (new_gone c o h g)) (new_gone c o h g)
+        (greets_waiting (introduction_by c f) w (Handshake (ShakeMsg.SendName f c y)) o (side_where is_waiting t.dialer (fm.entries o.node.sides)) refl h g)
+        (new_gone (introduction_by c f) o h g)) (new_gone (introduction_by c f) o h g)
 
-    pub bad_name : (o : Work) → side_at o.node t ≡ None → X o → X (set_state t (new 0) Gone o)
-    bad_name o h g = new_gone 0 o h g
+    pub bad_name : (o : Work) → side_at o.node t ≡ None → X o → X (set_state t (new untold) Gone o)
+    bad_name o h g = new_gone untold o h g
 
   -- ---- the dialer goes on
 

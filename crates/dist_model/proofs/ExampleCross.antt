@@ -18,6 +18,8 @@ use Rattle.erl_handshake.specs.declared.message.ShakeMsg.{ShakeMsg}
 use Rattle.erl_handshake.specs.declared.status.Status.{Status}
 use Rattle.erl_names.specs.Order.{trunk_cmp}
 use Rattle.dist_model.proofs.ExampleWorlds.{node, of_worlds, world}
+use Rattle.dist_model.proofs.ExampleLinks.{plainly}
+use Rattle.dist_model.specs.Sides.{untold}
 
 module _ (cookie : List ℕ) (own other : ℕ) where
   -- ---- two dials meet
@@ -30,7 +32,7 @@ module _ (cookie : List ℕ) (own other : ℕ) where
         fm.empty
 
     abbrev crossing_sides_of_first_1 : FinMap trunk_cmp TrunkSide
-    crossing_sides_of_first_1 = fm.insert fm.empty (trunk 1) (record { peer = second; peer_creation = 0; state = AwaitsStatus own })
+    crossing_sides_of_first_1 = fm.insert fm.empty (trunk 1) (record { peer = second; introduction = untold; state = AwaitsStatus own })
 
     abbrev crossing_lists_1 : FinMap place_cmp (List Item)
     crossing_lists_1 = fm.insert fm.empty (trunk 1, second) (Handshake (ShakeMsg.SendName mandatory 1 first) ∷ [])
@@ -45,7 +47,7 @@ module _ (cookie : List ℕ) (own other : ℕ) where
     crossing_step_0 = simp of_worlds refl
 
     abbrev crossing_sides_of_second_1 : FinMap trunk_cmp TrunkSide
-    crossing_sides_of_second_1 = fm.insert fm.empty (other_trunk 1) (record { peer = first; peer_creation = 0; state = AwaitsStatus other })
+    crossing_sides_of_second_1 = fm.insert fm.empty (other_trunk 1) (record { peer = first; introduction = untold; state = AwaitsStatus other })
 
     abbrev crossing_lists_2 : FinMap place_cmp (List Item)
     crossing_lists_2 = fm.insert crossing_lists_1 (other_trunk 1, first) (Handshake (ShakeMsg.SendName mandatory 1 second) ∷ [])
@@ -63,7 +65,7 @@ module _ (cookie : List ℕ) (own other : ℕ) where
     crossing_lists_3 = fm.insert crossing_lists_2 (trunk 1, second) []
 
     abbrev crossing_sides_of_second_2 : FinMap trunk_cmp TrunkSide
-    crossing_sides_of_second_2 = fm.insert crossing_sides_of_second_1 (trunk 1) (record { peer = first; peer_creation = 0; state = Gone })
+    crossing_sides_of_second_2 = fm.insert crossing_sides_of_second_1 (trunk 1) (record { peer = first; introduction = untold; state = Gone })
 
     abbrev crossing_lists_4 : FinMap place_cmp (List Item)
     crossing_lists_4 = fm.insert crossing_lists_3 (trunk 1, first) (Handshake (ShakeMsg.Status Status.Nok) ∷ [])
@@ -81,11 +83,11 @@ module _ (cookie : List ℕ) (own other : ℕ) where
     crossing_lists_5 = fm.insert crossing_lists_4 (other_trunk 1, first) []
 
     abbrev crossing_sides_of_first_2 : FinMap trunk_cmp TrunkSide
-    crossing_sides_of_first_2 = fm.insert crossing_sides_of_first_1 (trunk 1) (record { peer = second; peer_creation = 0; state = Gone })
+    crossing_sides_of_first_2 = fm.insert crossing_sides_of_first_1 (trunk 1) (record { peer = second; introduction = untold; state = Gone })
 
     abbrev crossing_sides_of_first_3 : FinMap trunk_cmp TrunkSide
     crossing_sides_of_first_3 = fm.insert crossing_sides_of_first_2 (other_trunk 1)
-        (record { peer = second; peer_creation = 1; state = Accepting word })
+        (record { peer = second; introduction = plainly 1; state = Accepting word })
 
     abbrev crossing_lists_6 : FinMap place_cmp (List Item)
     crossing_lists_6 = fm.insert crossing_lists_5 (other_trunk 1, second) (Handshake (ShakeMsg.Status Status.OkSimultaneous) ∷ [])
@@ -108,7 +110,7 @@ module _ (cookie : List ℕ) (own other : ℕ) where
 
     abbrev crossing_sides_of_second_3 : FinMap trunk_cmp TrunkSide
     crossing_sides_of_second_3 = fm.insert crossing_sides_of_second_2 (other_trunk 1)
-        (record { peer = first; peer_creation = 0; state = AwaitsChallenge other })
+        (record { peer = first; introduction = untold; state = AwaitsChallenge other })
 
     abbrev crossing_world_5 : World
     crossing_world_5 = world
@@ -124,7 +126,7 @@ module _ (cookie : List ℕ) (own other : ℕ) where
 
     abbrev crossing_sides_of_second_4 : FinMap trunk_cmp TrunkSide
     crossing_sides_of_second_4 = fm.insert crossing_sides_of_second_3 (other_trunk 1)
-        (record { peer = first; peer_creation = 1; state = AwaitsAck other })
+        (record { peer = first; introduction = plainly 1; state = AwaitsAck other })
 
     abbrev crossing_lists_10 : FinMap place_cmp (List Item)
     crossing_lists_10 = fm.insert crossing_lists_9 (other_trunk 1, first)
@@ -144,7 +146,7 @@ module _ (cookie : List ℕ) (own other : ℕ) where
 
     abbrev crossing_sides_of_first_4 : FinMap trunk_cmp TrunkSide
     crossing_sides_of_first_4 = fm.insert crossing_sides_of_first_3 (other_trunk 1)
-        (record { peer = second; peer_creation = 1; state = Up })
+        (record { peer = second; introduction = plainly 1; state = Up })
 
     abbrev crossing_lists_12 : FinMap place_cmp (List Item)
     crossing_lists_12 = fm.insert crossing_lists_11 (other_trunk 1, second)
@@ -164,7 +166,7 @@ module _ (cookie : List ℕ) (own other : ℕ) where
 
     abbrev crossing_sides_of_second_5 : FinMap trunk_cmp TrunkSide
     crossing_sides_of_second_5 = fm.insert crossing_sides_of_second_4 (other_trunk 1)
-        (record { peer = first; peer_creation = 1; state = Up })
+        (record { peer = first; introduction = plainly 1; state = Up })
 
     abbrev crossing_world_8 : World
     crossing_world_8 = world
@@ -188,7 +190,7 @@ module _ (cookie : List ℕ) (own other : ℕ) where
 
     pub stays_here : HasSide (run (crossing own other word) (two_nodes cookie)) first (other_trunk 1) second is_up
     stays_here = record {
-      side = record { peer = second; peer_creation = 1; state = Up };
+      side = record { peer = second; introduction = plainly 1; state = Up };
       there = ap
           (λ w. side_in (node_of w.nodes first) (other_trunk 1)) crossing_is ∙ simp of_worlds refl;
       peer = refl;
@@ -197,7 +199,7 @@ module _ (cookie : List ℕ) (own other : ℕ) where
 
     pub stays_there : HasSide (run (crossing own other word) (two_nodes cookie)) second (other_trunk 1) first is_up
     stays_there = record {
-      side = record { peer = first; peer_creation = 1; state = Up };
+      side = record { peer = first; introduction = plainly 1; state = Up };
       there = ap
           (λ w. side_in (node_of w.nodes second) (other_trunk 1)) crossing_is ∙ simp of_worlds refl;
       peer = refl;
@@ -206,7 +208,7 @@ module _ (cookie : List ℕ) (own other : ℕ) where
 
     pub gone_here : HasSide (run (crossing own other word) (two_nodes cookie)) first (trunk 1) second is_gone
     gone_here = record {
-      side = record { peer = second; peer_creation = 0; state = Gone };
+      side = record { peer = second; introduction = untold; state = Gone };
       there = ap
           (λ w. side_in (node_of w.nodes first) (trunk 1)) crossing_is ∙ simp of_worlds refl;
       peer = refl;
@@ -215,7 +217,7 @@ module _ (cookie : List ℕ) (own other : ℕ) where
 
     pub gone_there : HasSide (run (crossing own other word) (two_nodes cookie)) second (trunk 1) first is_gone
     gone_there = record {
-      side = record { peer = first; peer_creation = 0; state = Gone };
+      side = record { peer = first; introduction = untold; state = Gone };
       there = ap
           (λ w. side_in (node_of w.nodes second) (trunk 1)) crossing_is ∙ simp of_worlds refl;
       peer = refl;

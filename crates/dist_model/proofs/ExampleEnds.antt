@@ -17,7 +17,7 @@ use Rattle.dist_model.specs.Items.{Item, Signalled}
 use Rattle.dist_model.specs.Names.{place_cmp, same_pid}
 use Rattle.dist_model.specs.Node.{Ended, Life}
 use Rattle.dist_model.specs.Runs.{run}
-use Rattle.dist_model.specs.Schedules.{connected_over_a_trunk, first, here, linked_over_a_trunk, linked_to_the_end}
+use Rattle.dist_model.specs.Schedules.{plain, connected_over_a_trunk, first, here, linked_over_a_trunk, linked_to_the_end}
 use Rattle.dist_model.specs.Schedules.{monitored_to_the_end, monitoring, reference, second, there, trunk, two_nodes}
 use Rattle.dist_model.specs.declared.report.Effect.{Effect}
 use Rattle.dist_model.specs.World.{Arrive, Call, Reported, World, step}
@@ -105,7 +105,7 @@ module _ (cookie : List ℕ) (own other : ℕ) where
 
     pub monitor_tells : downs reference (history (monitored_to_the_end own other reason) (two_nodes cookie)) ≡
         (record { owner = here; target = there; info = reason }) ∷ []
-    monitor_tells = told_once ((first, cookie) ∷ (second, cookie) ∷ []) (connected_over_a_trunk own other ++ monitoring reason)
+    monitor_tells = told_once ((first, plain cookie) ∷ (second, plain cookie) ∷ []) (connected_over_a_trunk own other ++ monitoring reason)
         (Arrive (trunk 1) first 0) reference _ monitor_down
 
     abbrev exit_world_0 : World

@@ -27,12 +27,20 @@ use Rattle.dist_model.specs.Schedules.{connected_over_a_trunk, first, second, he
 use Rattle.dist_model.specs.Schedules.{losing, connecting, linked_over_a_trunk, unlinked_over_a_trunk, connected_again}
 use Rattle.dist_model.proofs.RunMoments.{passed, run_on}
 use Rattle.dist_model.proofs.ExampleMaps.{knows, of_maps}
+use Rattle.erl_handshake.specs.declared.introduction.Introduction.{Introduction}
+use Rattle.erl_handshake.specs.Roles.{introduction_by}
+use Rattle.dist_model.specs.Sides.{untold}
+
+-- the introduction of a node that offers the mandatory flags alone
+abbrev pub plainly : ℕ → Introduction
+plainly creation = introduction_by creation mandatory
 
 module _ (cookie : List ℕ) (own other : ℕ) where
   abbrev node : Name → (pids unlinks dialed : ℕ) → FinMap pid_cmp Life → FinMap pair_cmp End → FinMap trunk_cmp TrunkSide → Node
   node name pids unlinks dialed lives ends sides = record {
     mint = record { name = name; creation = 1; pids = pids; references = 0; unlink_ids = unlinks };
     cookie = cookie;
+    flags = mandatory;
     up = true;
     dialed = dialed;
     lives = lives;
@@ -74,7 +82,7 @@ module _ (cookie : List ℕ) (own other : ℕ) where
   lives_of_second_1 = fm.insert lives_of_second_0 there (Living true [])
 
   abbrev sides_of_first_0 : FinMap trunk_cmp TrunkSide
-  sides_of_first_0 = fm.insert fm.empty (trunk 1) (record { peer = second; peer_creation = 0; state = AwaitsStatus own })
+  sides_of_first_0 = fm.insert fm.empty (trunk 1) (record { peer = second; introduction = untold; state = AwaitsStatus own })
 
   abbrev lists0 : FinMap place_cmp (List Item)
   lists0 = fm.insert fm.empty (trunk 1, second) (hello ∷ [])
@@ -83,7 +91,7 @@ module _ (cookie : List ℕ) (own other : ℕ) where
   lists1 = fm.insert lists0 (trunk 1, second) ([])
 
   abbrev sides_of_second_0 : FinMap trunk_cmp TrunkSide
-  sides_of_second_0 = fm.insert fm.empty (trunk 1) (record { peer = first; peer_creation = 1; state = Accepting other })
+  sides_of_second_0 = fm.insert fm.empty (trunk 1) (record { peer = first; introduction = plainly 1; state = Accepting other })
 
   abbrev lists2 : FinMap place_cmp (List Item)
   lists2 = fm.insert lists1 (trunk 1, first) (accepted ∷ [])
@@ -95,13 +103,13 @@ module _ (cookie : List ℕ) (own other : ℕ) where
   lists4 = fm.insert lists3 (trunk 1, first) (challenged other ∷ [])
 
   abbrev sides_of_first_1 : FinMap trunk_cmp TrunkSide
-  sides_of_first_1 = fm.insert sides_of_first_0 (trunk 1) (record { peer = second; peer_creation = 0; state = AwaitsChallenge own })
+  sides_of_first_1 = fm.insert sides_of_first_0 (trunk 1) (record { peer = second; introduction = untold; state = AwaitsChallenge own })
 
   abbrev lists5 : FinMap place_cmp (List Item)
   lists5 = fm.insert lists4 (trunk 1, first) ([])
 
   abbrev sides_of_first_2 : FinMap trunk_cmp TrunkSide
-  sides_of_first_2 = fm.insert sides_of_first_1 (trunk 1) (record { peer = second; peer_creation = 1; state = AwaitsAck own })
+  sides_of_first_2 = fm.insert sides_of_first_1 (trunk 1) (record { peer = second; introduction = plainly 1; state = AwaitsAck own })
 
   abbrev lists6 : FinMap place_cmp (List Item)
   lists6 = fm.insert lists5 (trunk 1, second) (replied own other ∷ [])
@@ -110,7 +118,7 @@ module _ (cookie : List ℕ) (own other : ℕ) where
   lists7 = fm.insert lists6 (trunk 1, second) ([])
 
   abbrev pub sides_of_second_1 : FinMap trunk_cmp TrunkSide
-  sides_of_second_1 = fm.insert sides_of_second_0 (trunk 1) (record { peer = first; peer_creation = 1; state = Up })
+  sides_of_second_1 = fm.insert sides_of_second_0 (trunk 1) (record { peer = first; introduction = plainly 1; state = Up })
 
   abbrev lists8 : FinMap place_cmp (List Item)
   lists8 = fm.insert lists7 (trunk 1, first) (acknowledged own ∷ [])
@@ -119,7 +127,7 @@ module _ (cookie : List ℕ) (own other : ℕ) where
   lists9 = fm.insert lists8 (trunk 1, first) ([])
 
   abbrev pub sides_of_first_3 : FinMap trunk_cmp TrunkSide
-  sides_of_first_3 = fm.insert sides_of_first_2 (trunk 1) (record { peer = second; peer_creation = 1; state = Up })
+  sides_of_first_3 = fm.insert sides_of_first_2 (trunk 1) (record { peer = second; introduction = plainly 1; state = Up })
 
   abbrev pub ends_of_first_0 : FinMap pair_cmp End
   ends_of_first_0 = fm.insert fm.empty (here, there) (End.Active)
@@ -155,25 +163,25 @@ module _ (cookie : List ℕ) (own other : ℕ) where
   ends_of_first_2 = fm.remove ends_of_first_1 (here, there)
 
   abbrev sides_of_first_4 : FinMap trunk_cmp TrunkSide
-  sides_of_first_4 = fm.insert sides_of_first_3 (trunk 1) (record { peer = second; peer_creation = 1; state = Losing })
+  sides_of_first_4 = fm.insert sides_of_first_3 (trunk 1) (record { peer = second; introduction = plainly 1; state = Losing })
 
   abbrev sides_of_second_2 : FinMap trunk_cmp TrunkSide
-  sides_of_second_2 = fm.insert sides_of_second_1 (trunk 1) (record { peer = first; peer_creation = 1; state = Losing })
+  sides_of_second_2 = fm.insert sides_of_second_1 (trunk 1) (record { peer = first; introduction = plainly 1; state = Losing })
 
   abbrev lives_of_first_2 : FinMap pid_cmp Life
   lives_of_first_2 = fm.insert lives_of_first_1 here (Living true (exit_term there noconnection ∷ []))
 
   abbrev sides_of_first_5 : FinMap trunk_cmp TrunkSide
-  sides_of_first_5 = fm.insert sides_of_first_4 (trunk 1) (record { peer = second; peer_creation = 0; state = Gone })
+  sides_of_first_5 = fm.insert sides_of_first_4 (trunk 1) (record { peer = second; introduction = untold; state = Gone })
 
   abbrev lives_of_second_2 : FinMap pid_cmp Life
   lives_of_second_2 = fm.insert lives_of_second_1 there (Living true (exit_term here noconnection ∷ []))
 
   abbrev sides_of_second_3 : FinMap trunk_cmp TrunkSide
-  sides_of_second_3 = fm.insert sides_of_second_2 (trunk 1) (record { peer = first; peer_creation = 0; state = Gone })
+  sides_of_second_3 = fm.insert sides_of_second_2 (trunk 1) (record { peer = first; introduction = untold; state = Gone })
 
   abbrev sides_of_first_6 : FinMap trunk_cmp TrunkSide
-  sides_of_first_6 = fm.insert sides_of_first_5 (trunk 2) (record { peer = second; peer_creation = 0; state = AwaitsStatus own })
+  sides_of_first_6 = fm.insert sides_of_first_5 (trunk 2) (record { peer = second; introduction = untold; state = AwaitsStatus own })
 
   abbrev lists16 : FinMap place_cmp (List Item)
   lists16 = fm.insert lists11 (trunk 2, second) (hello ∷ [])
@@ -182,7 +190,7 @@ module _ (cookie : List ℕ) (own other : ℕ) where
   lists17 = fm.insert lists16 (trunk 2, second) ([])
 
   abbrev sides_of_second_4 : FinMap trunk_cmp TrunkSide
-  sides_of_second_4 = fm.insert sides_of_second_3 (trunk 2) (record { peer = first; peer_creation = 1; state = Accepting other })
+  sides_of_second_4 = fm.insert sides_of_second_3 (trunk 2) (record { peer = first; introduction = plainly 1; state = Accepting other })
 
   abbrev lists18 : FinMap place_cmp (List Item)
   lists18 = fm.insert lists17 (trunk 2, first) (accepted ∷ [])
@@ -194,13 +202,13 @@ module _ (cookie : List ℕ) (own other : ℕ) where
   lists20 = fm.insert lists19 (trunk 2, first) (challenged other ∷ [])
 
   abbrev sides_of_first_7 : FinMap trunk_cmp TrunkSide
-  sides_of_first_7 = fm.insert sides_of_first_6 (trunk 2) (record { peer = second; peer_creation = 0; state = AwaitsChallenge own })
+  sides_of_first_7 = fm.insert sides_of_first_6 (trunk 2) (record { peer = second; introduction = untold; state = AwaitsChallenge own })
 
   abbrev lists21 : FinMap place_cmp (List Item)
   lists21 = fm.insert lists20 (trunk 2, first) ([])
 
   abbrev sides_of_first_8 : FinMap trunk_cmp TrunkSide
-  sides_of_first_8 = fm.insert sides_of_first_7 (trunk 2) (record { peer = second; peer_creation = 1; state = AwaitsAck own })
+  sides_of_first_8 = fm.insert sides_of_first_7 (trunk 2) (record { peer = second; introduction = plainly 1; state = AwaitsAck own })
 
   abbrev lists22 : FinMap place_cmp (List Item)
   lists22 = fm.insert lists21 (trunk 2, second) (replied own other ∷ [])
@@ -209,7 +217,7 @@ module _ (cookie : List ℕ) (own other : ℕ) where
   lists23 = fm.insert lists22 (trunk 2, second) ([])
 
   abbrev sides_of_second_5 : FinMap trunk_cmp TrunkSide
-  sides_of_second_5 = fm.insert sides_of_second_4 (trunk 2) (record { peer = first; peer_creation = 1; state = Up })
+  sides_of_second_5 = fm.insert sides_of_second_4 (trunk 2) (record { peer = first; introduction = plainly 1; state = Up })
 
   abbrev lists24 : FinMap place_cmp (List Item)
   lists24 = fm.insert lists23 (trunk 2, first) (acknowledged own ∷ [])
@@ -218,7 +226,7 @@ module _ (cookie : List ℕ) (own other : ℕ) where
   lists25 = fm.insert lists24 (trunk 2, first) ([])
 
   abbrev sides_of_first_9 : FinMap trunk_cmp TrunkSide
-  sides_of_first_9 = fm.insert sides_of_first_8 (trunk 2) (record { peer = second; peer_creation = 1; state = Up })
+  sides_of_first_9 = fm.insert sides_of_first_8 (trunk 2) (record { peer = second; introduction = plainly 1; state = Up })
 
   abbrev pub w0 : World
   w0 = world (node first 0 0 0 (fm.empty) (fm.empty) (fm.empty)) (node second 0 0 0 (fm.empty) (fm.empty) (fm.empty)) fm.empty
@@ -450,7 +458,7 @@ module _ (cookie : List ℕ) (own other : ℕ) where
 
   pub connected_here : HasSide (run (connected_again own other) (two_nodes cookie)) first (trunk 2) second is_up
   connected_here = record {
-    side = record { peer = second; peer_creation = 1; state = Up };
+    side = record { peer = second; introduction = plainly 1; state = Up };
     there = ap (λ w. side_in (node_of w.nodes first) (trunk 2)) again_is ∙ simp of_maps refl;
     peer = refl;
     state = refl;
@@ -458,7 +466,7 @@ module _ (cookie : List ℕ) (own other : ℕ) where
 
   pub connected_there : HasSide (run (connected_again own other) (two_nodes cookie)) second (trunk 2) first is_up
   connected_there = record {
-    side = record { peer = first; peer_creation = 1; state = Up };
+    side = record { peer = first; introduction = plainly 1; state = Up };
     there = ap (λ w. side_in (node_of w.nodes second) (trunk 2)) again_is ∙ simp of_maps refl;
     peer = refl;
     state = refl;
@@ -477,12 +485,12 @@ module _ (cookie : List ℕ) (own other : ℕ) where
 
   pub linked_quiet : Quiet (run (linked_over_a_trunk own other) (two_nodes cookie)) here there
   linked_quiet = subst (λ w. Quiet w here there) (sym linked_is) (quiet_over w12 (trunk 1)
-      (record { side = record { peer = second; peer_creation = 1; state = Up }; there = simp of_maps refl; peer = refl; state = refl })
-      (record { side = record { peer = first; peer_creation = 1; state = Up }; there = simp of_maps refl; peer = refl; state = refl })
+      (record { side = record { peer = second; introduction = plainly 1; state = Up }; there = simp of_maps refl; peer = refl; state = refl })
+      (record { side = record { peer = first; introduction = plainly 1; state = Up }; there = simp of_maps refl; peer = refl; state = refl })
       (simp of_maps refl) (simp of_maps refl))
 
   pub connected_quiet : Quiet (run (connected_again own other) (two_nodes cookie)) here there
   connected_quiet = subst (λ w. Quiet w here there) (sym again_is) (quiet_over l10 (trunk 2)
-      (record { side = record { peer = second; peer_creation = 1; state = Up }; there = simp of_maps refl; peer = refl; state = refl })
-      (record { side = record { peer = first; peer_creation = 1; state = Up }; there = simp of_maps refl; peer = refl; state = refl })
+      (record { side = record { peer = second; introduction = plainly 1; state = Up }; there = simp of_maps refl; peer = refl; state = refl })
+      (record { side = record { peer = first; introduction = plainly 1; state = Up }; there = simp of_maps refl; peer = refl; state = refl })
       (simp of_maps refl) (simp of_maps refl))

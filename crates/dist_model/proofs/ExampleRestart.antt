@@ -13,7 +13,7 @@ use Rattle.dist_model.specs.Items.{Handshake, Item, Signalled}
 use Rattle.dist_model.specs.Names.{place_cmp}
 use Rattle.dist_model.specs.Node.{Life, Living}
 use Rattle.dist_model.specs.Runs.{run}
-use Rattle.dist_model.specs.Schedules.{connected_over_a_trunk, first, here, monitored_after_a_restart}
+use Rattle.dist_model.specs.Schedules.{plain, connected_over_a_trunk, first, here, monitored_after_a_restart}
 use Rattle.dist_model.specs.Schedules.{monitoring_the_former, reference, second, there, trunk, two_nodes}
 use Rattle.dist_model.specs.Sides.{Accepting, AwaitsAck, AwaitsChallenge, AwaitsStatus, Gone, Losing, TrunkSide, Up}
 use Rattle.dist_model.specs.World.{Arrive, Call, Dial, Lose, Start, Stop, Sweep, World, step}
@@ -26,6 +26,8 @@ use Rattle.erl_names.specs.Order.{trunk_cmp}
 use Rattle.erl_term.specs.Order.{pid_cmp}
 use Rattle.monitor_core.specs.Monitors.{MonitorMap, monitor_of}
 use Rattle.dist_model.proofs.ExampleWorlds.{node, of_worlds, told_once, world}
+use Rattle.dist_model.proofs.ExampleLinks.{plainly}
+use Rattle.dist_model.specs.Sides.{untold}
 
 module _ (cookie : List ℕ) (own other : ℕ) where
   -- ---- a process of an incarnation that is over is monitored
@@ -39,7 +41,7 @@ module _ (cookie : List ℕ) (own other : ℕ) where
       (lists9 cookie own other)
 
   abbrev restart_sides_of_second_1 : FinMap trunk_cmp TrunkSide
-  restart_sides_of_second_1 = fm.insert fm.empty (trunk 1) (record { peer = first; peer_creation = 0; state = Gone })
+  restart_sides_of_second_1 = fm.insert fm.empty (trunk 1) (record { peer = first; introduction = untold; state = Gone })
 
   abbrev restart_world_1 : World
   restart_world_1 = world
@@ -76,7 +78,7 @@ module _ (cookie : List ℕ) (own other : ℕ) where
 
   abbrev restart_sides_of_first_1 : FinMap trunk_cmp TrunkSide
   restart_sides_of_first_1 = fm.insert (sides_of_first_3 cookie own other) (trunk 1)
-      (record { peer = second; peer_creation = 1; state = Losing })
+      (record { peer = second; introduction = plainly 1; state = Losing })
 
   abbrev restart_world_4 : World
   restart_world_4 = world
@@ -88,7 +90,7 @@ module _ (cookie : List ℕ) (own other : ℕ) where
   restart_step_3 = simp of_worlds refl
 
   abbrev restart_sides_of_first_2 : FinMap trunk_cmp TrunkSide
-  restart_sides_of_first_2 = fm.insert restart_sides_of_first_1 (trunk 1) (record { peer = second; peer_creation = 0; state = Gone })
+  restart_sides_of_first_2 = fm.insert restart_sides_of_first_1 (trunk 1) (record { peer = second; introduction = untold; state = Gone })
 
   abbrev restart_world_5 : World
   restart_world_5 = world
@@ -101,7 +103,7 @@ module _ (cookie : List ℕ) (own other : ℕ) where
 
   abbrev restart_sides_of_first_3 : FinMap trunk_cmp TrunkSide
   restart_sides_of_first_3 = fm.insert restart_sides_of_first_2 (trunk 2)
-      (record { peer = second; peer_creation = 0; state = AwaitsStatus own })
+      (record { peer = second; introduction = untold; state = AwaitsStatus own })
 
   abbrev restart_lists_1 : FinMap place_cmp (List Item)
   restart_lists_1 = fm.insert (lists9 cookie own other) (trunk 2, second) (Handshake (ShakeMsg.SendName mandatory 1 first) ∷ [])
@@ -120,7 +122,7 @@ module _ (cookie : List ℕ) (own other : ℕ) where
 
   abbrev restart_sides_of_second_2 : FinMap trunk_cmp TrunkSide
   restart_sides_of_second_2 = fm.insert restart_sides_of_second_1 (trunk 2)
-      (record { peer = first; peer_creation = 1; state = Accepting other })
+      (record { peer = first; introduction = plainly 1; state = Accepting other })
 
   abbrev restart_lists_3 : FinMap place_cmp (List Item)
   restart_lists_3 = fm.insert restart_lists_2 (trunk 2, first) (Handshake (ShakeMsg.Status Status.Ok) ∷ [])
@@ -143,7 +145,7 @@ module _ (cookie : List ℕ) (own other : ℕ) where
 
   abbrev restart_sides_of_first_4 : FinMap trunk_cmp TrunkSide
   restart_sides_of_first_4 = fm.insert restart_sides_of_first_3 (trunk 2)
-      (record { peer = second; peer_creation = 0; state = AwaitsChallenge own })
+      (record { peer = second; introduction = untold; state = AwaitsChallenge own })
 
   abbrev restart_world_8 : World
   restart_world_8 = world
@@ -159,7 +161,7 @@ module _ (cookie : List ℕ) (own other : ℕ) where
 
   abbrev restart_sides_of_first_5 : FinMap trunk_cmp TrunkSide
   restart_sides_of_first_5 = fm.insert restart_sides_of_first_4 (trunk 2)
-      (record { peer = second; peer_creation = 2; state = AwaitsAck own })
+      (record { peer = second; introduction = plainly 2; state = AwaitsAck own })
 
   abbrev restart_lists_7 : FinMap place_cmp (List Item)
   restart_lists_7 = fm.insert restart_lists_6 (trunk 2, second) (Handshake (ShakeMsg.ChallengeReply own (digest_of cookie other)) ∷ [])
@@ -177,7 +179,7 @@ module _ (cookie : List ℕ) (own other : ℕ) where
   restart_lists_8 = fm.insert restart_lists_7 (trunk 2, second) []
 
   abbrev restart_sides_of_second_3 : FinMap trunk_cmp TrunkSide
-  restart_sides_of_second_3 = fm.insert restart_sides_of_second_2 (trunk 2) (record { peer = first; peer_creation = 1; state = Up })
+  restart_sides_of_second_3 = fm.insert restart_sides_of_second_2 (trunk 2) (record { peer = first; introduction = plainly 1; state = Up })
 
   abbrev restart_lists_9 : FinMap place_cmp (List Item)
   restart_lists_9 = fm.insert restart_lists_8 (trunk 2, first) (Handshake (ShakeMsg.ChallengeAck (digest_of cookie own)) ∷ [])
@@ -195,7 +197,7 @@ module _ (cookie : List ℕ) (own other : ℕ) where
   restart_lists_10 = fm.insert restart_lists_9 (trunk 2, first) []
 
   abbrev restart_sides_of_first_6 : FinMap trunk_cmp TrunkSide
-  restart_sides_of_first_6 = fm.insert restart_sides_of_first_5 (trunk 2) (record { peer = second; peer_creation = 2; state = Up })
+  restart_sides_of_first_6 = fm.insert restart_sides_of_first_5 (trunk 2) (record { peer = second; introduction = plainly 2; state = Up })
 
   abbrev restart_world_11 : World
   restart_world_11 = world
@@ -277,5 +279,5 @@ module _ (cookie : List ℕ) (own other : ℕ) where
 
   pub restart_tells : downs reference (history (monitored_after_a_restart own other) (two_nodes cookie)) ≡
       (record { owner = here; target = there; info = noproc }) ∷ []
-  restart_tells = told_once ((first, cookie) ∷ (second, cookie) ∷ []) (connected_over_a_trunk own other ++ monitoring_the_former own other)
+  restart_tells = told_once ((first, plain cookie) ∷ (second, plain cookie) ∷ []) (connected_over_a_trunk own other ++ monitoring_the_former own other)
       (Arrive (trunk 2) first 0) reference _ restart_down

@@ -27,6 +27,8 @@ use Rattle.exit_core.specs.Messages.{exit_term}
 use Rattle.link_core.specs.declared.end.End.{End}
 use Rattle.link_core.specs.News.{noconnection}
 use Rattle.dist_model.proofs.ExampleWorlds.{node, of_worlds, world}
+use Rattle.dist_model.proofs.ExampleLinks.{plainly}
+use Rattle.dist_model.specs.Sides.{untold}
 
 module _ (cookie : List ℕ) (own other : ℕ) where
   -- ---- a dial waits for the sweep of an older connection
@@ -41,7 +43,7 @@ module _ (cookie : List ℕ) (own other : ℕ) where
 
   abbrev waiting_sides_of_first_1 : FinMap trunk_cmp TrunkSide
   waiting_sides_of_first_1 = fm.insert (sides_of_first_3 cookie own other) (trunk 1)
-      (record { peer = second; peer_creation = 1; state = Losing })
+      (record { peer = second; introduction = plainly 1; state = Losing })
 
   abbrev waiting_world_1 : World
   waiting_world_1 = world
@@ -58,7 +60,7 @@ module _ (cookie : List ℕ) (own other : ℕ) where
   waiting_lives_of_first_1 = fm.insert (lives_of_first_1 cookie own other) here (Living true (exit_term there noconnection ∷ []))
 
   abbrev waiting_sides_of_first_2 : FinMap trunk_cmp TrunkSide
-  waiting_sides_of_first_2 = fm.insert waiting_sides_of_first_1 (trunk 1) (record { peer = second; peer_creation = 0; state = Gone })
+  waiting_sides_of_first_2 = fm.insert waiting_sides_of_first_1 (trunk 1) (record { peer = second; introduction = untold; state = Gone })
 
   abbrev waiting_world_2 : World
   waiting_world_2 = world
@@ -72,7 +74,7 @@ module _ (cookie : List ℕ) (own other : ℕ) where
 
   abbrev waiting_sides_of_first_3 : FinMap trunk_cmp TrunkSide
   waiting_sides_of_first_3 = fm.insert waiting_sides_of_first_2 (trunk 2)
-      (record { peer = second; peer_creation = 0; state = AwaitsStatus own })
+      (record { peer = second; introduction = untold; state = AwaitsStatus own })
 
   abbrev waiting_lists_1 : FinMap place_cmp (List Item)
   waiting_lists_1 = fm.insert (lists11 cookie own other) (trunk 2, second) (Handshake (ShakeMsg.SendName mandatory 1 first) ∷ [])
@@ -92,7 +94,7 @@ module _ (cookie : List ℕ) (own other : ℕ) where
 
   abbrev waiting_sides_of_second_1 : FinMap trunk_cmp TrunkSide
   waiting_sides_of_second_1 = fm.insert (sides_of_second_1 cookie own other) (trunk 2)
-      (record { peer = first; peer_creation = 1; state = Asked other })
+      (record { peer = first; introduction = plainly 1; state = Asked other })
 
   abbrev waiting_lists_3 : FinMap place_cmp (List Item)
   waiting_lists_3 = fm.insert waiting_lists_2 (trunk 2, first) (Handshake (ShakeMsg.Status Status.Alive) ∷ [])
@@ -112,7 +114,7 @@ module _ (cookie : List ℕ) (own other : ℕ) where
 
   abbrev waiting_sides_of_first_4 : FinMap trunk_cmp TrunkSide
   waiting_sides_of_first_4 = fm.insert waiting_sides_of_first_3 (trunk 2)
-      (record { peer = second; peer_creation = 0; state = AwaitsChallenge own })
+      (record { peer = second; introduction = untold; state = AwaitsChallenge own })
 
   abbrev waiting_lists_5 : FinMap place_cmp (List Item)
   waiting_lists_5 = fm.insert waiting_lists_4 (trunk 2, second) (Handshake (ShakeMsg.Status Status.True) ∷ [])
@@ -131,11 +133,11 @@ module _ (cookie : List ℕ) (own other : ℕ) where
   waiting_lists_6 = fm.insert waiting_lists_5 (trunk 2, second) []
 
   abbrev waiting_sides_of_second_2 : FinMap trunk_cmp TrunkSide
-  waiting_sides_of_second_2 = fm.insert waiting_sides_of_second_1 (trunk 1) (record { peer = first; peer_creation = 1; state = Losing })
+  waiting_sides_of_second_2 = fm.insert waiting_sides_of_second_1 (trunk 1) (record { peer = first; introduction = plainly 1; state = Losing })
 
   abbrev waiting_sides_of_second_3 : FinMap trunk_cmp TrunkSide
   waiting_sides_of_second_3 = fm.insert waiting_sides_of_second_2 (trunk 2)
-      (record { peer = first; peer_creation = 1; state = Parked other })
+      (record { peer = first; introduction = plainly 1; state = Parked other })
 
   abbrev waiting_world_6 : World
   waiting_world_6 = world
@@ -151,11 +153,11 @@ module _ (cookie : List ℕ) (own other : ℕ) where
   waiting_lives_of_second_1 = fm.insert (lives_of_second_1 cookie own other) there (Living true (exit_term here noconnection ∷ []))
 
   abbrev waiting_sides_of_second_4 : FinMap trunk_cmp TrunkSide
-  waiting_sides_of_second_4 = fm.insert waiting_sides_of_second_3 (trunk 1) (record { peer = first; peer_creation = 0; state = Gone })
+  waiting_sides_of_second_4 = fm.insert waiting_sides_of_second_3 (trunk 1) (record { peer = first; introduction = untold; state = Gone })
 
   abbrev waiting_sides_of_second_5 : FinMap trunk_cmp TrunkSide
   waiting_sides_of_second_5 = fm.insert waiting_sides_of_second_4 (trunk 2)
-      (record { peer = first; peer_creation = 1; state = Accepting other })
+      (record { peer = first; introduction = plainly 1; state = Accepting other })
 
   abbrev waiting_lists_7 : FinMap place_cmp (List Item)
   waiting_lists_7 = fm.insert waiting_lists_6 (trunk 2, first) (Handshake (ShakeMsg.Challenge mandatory other 1 second) ∷ [])
@@ -174,7 +176,7 @@ module _ (cookie : List ℕ) (own other : ℕ) where
 
   abbrev waiting_sides_of_first_5 : FinMap trunk_cmp TrunkSide
   waiting_sides_of_first_5 = fm.insert waiting_sides_of_first_4 (trunk 2)
-      (record { peer = second; peer_creation = 1; state = AwaitsAck own })
+      (record { peer = second; introduction = plainly 1; state = AwaitsAck own })
 
   abbrev waiting_lists_9 : FinMap place_cmp (List Item)
   waiting_lists_9 = fm.insert waiting_lists_8 (trunk 2, second) (Handshake (ShakeMsg.ChallengeReply own (digest_of cookie other)) ∷ [])
@@ -192,7 +194,7 @@ module _ (cookie : List ℕ) (own other : ℕ) where
   waiting_lists_10 = fm.insert waiting_lists_9 (trunk 2, second) []
 
   abbrev waiting_sides_of_second_6 : FinMap trunk_cmp TrunkSide
-  waiting_sides_of_second_6 = fm.insert waiting_sides_of_second_5 (trunk 2) (record { peer = first; peer_creation = 1; state = Up })
+  waiting_sides_of_second_6 = fm.insert waiting_sides_of_second_5 (trunk 2) (record { peer = first; introduction = plainly 1; state = Up })
 
   abbrev waiting_lists_11 : FinMap place_cmp (List Item)
   waiting_lists_11 = fm.insert waiting_lists_10 (trunk 2, first) (Handshake (ShakeMsg.ChallengeAck (digest_of cookie own)) ∷ [])
@@ -210,7 +212,7 @@ module _ (cookie : List ℕ) (own other : ℕ) where
   waiting_lists_12 = fm.insert waiting_lists_11 (trunk 2, first) []
 
   abbrev waiting_sides_of_first_6 : FinMap trunk_cmp TrunkSide
-  waiting_sides_of_first_6 = fm.insert waiting_sides_of_first_5 (trunk 2) (record { peer = second; peer_creation = 1; state = Up })
+  waiting_sides_of_first_6 = fm.insert waiting_sides_of_first_5 (trunk 2) (record { peer = second; introduction = plainly 1; state = Up })
 
   abbrev waiting_world_10 : World
   waiting_world_10 = world
@@ -235,7 +237,7 @@ module _ (cookie : List ℕ) (own other : ℕ) where
 
   pub parked_there : HasSide (run (waiting_over_a_trunk own other) (two_nodes cookie)) second (trunk 2) first is_parked
   parked_there = record {
-    side = record { peer = first; peer_creation = 1; state = Parked other };
+    side = record { peer = first; introduction = plainly 1; state = Parked other };
     there = ap
         (λ w. side_in (node_of w.nodes second) (trunk 2)) waiting_is ∙ simp of_worlds refl;
     peer = refl;
@@ -247,7 +249,7 @@ module _ (cookie : List ℕ) (own other : ℕ) where
 
   pub up_here : HasSide (run (gone_on_over_a_trunk own other) (two_nodes cookie)) first (trunk 2) second is_up
   up_here = record {
-    side = record { peer = second; peer_creation = 1; state = Up };
+    side = record { peer = second; introduction = plainly 1; state = Up };
     there = ap
         (λ w. side_in (node_of w.nodes first) (trunk 2)) gone_on_is ∙ simp of_worlds refl;
     peer = refl;
@@ -256,7 +258,7 @@ module _ (cookie : List ℕ) (own other : ℕ) where
 
   pub up_there : HasSide (run (gone_on_over_a_trunk own other) (two_nodes cookie)) second (trunk 2) first is_up
   up_there = record {
-    side = record { peer = first; peer_creation = 1; state = Up };
+    side = record { peer = first; introduction = plainly 1; state = Up };
     there = ap
         (λ w. side_in (node_of w.nodes second) (trunk 2)) gone_on_is ∙ simp of_worlds refl;
     peer = refl;

@@ -27,6 +27,8 @@ use Rattle.erl_term.specs.declared.term.Reference.{Reference}
 use Rattle.link_core.specs.declared.end.End.{End}
 use Rattle.monitor_core.specs.Monitors.{MonitorMap}
 use Rattle.monitor_core.specs.declared.monitor.Monitor.{Monitor}
+use Rattle.erl_handshake.specs.declared.setup.Setup.{Setup}
+use Rattle.erl_handshake.specs.Flags.{mandatory}
 
 pub get_monitor : (m : MonitorMap) (k : Reference) (v : Monitor) (q : Reference)
     → fm.get (fm.insert m k v) q ≡ cond (eq_by_cmp reference_cmp q k) (Some v) (fm.get m q)
@@ -57,7 +59,7 @@ left_watch k v x q = fm.get-retain_keys (one k v) (λ r. not (is_owned x (cond (
 pub ruleset of_worlds = (of_maps, get_monitor, no_monitor, entries_monitor, gone_monitor, left_end, left_watch)
 
 -- a DOWN that the last event tells is the only one
-pub told_once : (nodes : List (Name × List ℕ)) (es : List Event) (e : Event) (r : Reference) (d : Down)
+pub told_once : (nodes : List (Name × Setup)) (es : List Event) (e : Event) (r : Reference) (d : Down)
     → downs_by r e ((step (run es (opening nodes)) e).report) ≡ d ∷ [] → downs r (history (es ++ e ∷ []) (opening nodes)) ≡ d ∷ []
 told_once nodes es e r d h =
     let w = opening nodes in
@@ -77,6 +79,7 @@ abbrev pub node : (cookie : List ℕ) → Name → ℕ → Bool → (pids refere
 node cookie name creation up pids references unlinks dialed lives ends watches registered sides local = record {
   mint = record { name = name; creation = creation; pids = pids; references = references; unlink_ids = unlinks };
   cookie = cookie;
+  flags = mandatory;
   up = up;
   dialed = dialed;
   lives = lives;

@@ -38,12 +38,13 @@ use Rattle.erl_handshake.specs.declared.message.ShakeMsg.{ShakeMsg}
 use Rattle.erl_handshake.specs.declared.status.Status.{Status}
 use Rattle.erl_names.specs.Order.{name_cmp}
 use Rattle.erl_names.specs.declared.trunk.TrunkId.{TrunkId}
+use Rattle.erl_handshake.specs.declared.introduction.Introduction.{Introduction}
 
-module _ (w : World) (x : Name) (n : Node) (hx : node_of w.nodes x ≡ Some n) (g : Good w) (t : TrunkId) (c : ℕ)
+module _ (w : World) (x : Name) (n : Node) (hx : node_of w.nodes x ≡ Some n) (g : Good w) (t : TrunkId) (c : Introduction)
     (far : same_name t.dialer n.mint.name ≡ false)
     (key : is_some (fm.get w.lists (t, x)) ≡ true) (none : side_at n t ≡ None) where
   abbrev s : TrunkSide
-  s = record { peer = t.dialer; peer_creation = c; state = Gone }
+  s = record { peer = t.dialer; introduction = c; state = Gone }
 
   nx : n.mint.name ≡ x
   nx = node_of_name w.nodes x n hx
@@ -150,13 +151,13 @@ module _ (w : World) (x : Name) (n : Node) (hx : node_of w.nodes x ≡ Some n) (
       first_state w x n hx t c far m0 (at_work n) Gone nx none refl refl (inr refl) refl
       (λ u b hb eb gs gb. let z : true ≡ false = gs in cc) (met_in _ (g0.posted t x key)) g0
 
-  pub fresh_hello : (name : Name) (flags k : ℕ) → IfGoes (awaits_name t (ShakeMsg.SendName flags c name) k (at_work n)) Pl
-  fresh_hello name flags k = go (is_same name t.dialer) (has_all_of flags mandatory)
+  pub fresh_hello : (name : Name) (k : ℕ) → IfGoes (awaits_name t (ShakeMsg.SendName c.flags c.creation name) k (at_work n)) Pl
+  fresh_hello name k = go (is_same name t.dialer) (has_all_of c.flags mandatory)
     where
       go : (a b : Bool) → IfGoes (cond a (cond b (greet_waiting (side_where is_waiting t.dialer (fm.entries n.sides)) t s k
-          (Handshake (ShakeMsg.SendName flags c name)) (at_work n)) (fault (Fault.Shake ShakeFault.FlagsMissing) t s
+          (Handshake (ShakeMsg.SendName c.flags c.creation name)) (at_work n)) (fault (Fault.Shake ShakeFault.FlagsMissing) t s
           (at_work n))) (fault (Fault.Shake ShakeFault.Forged) t s (at_work n))) Pl
-      go true true = waits k (Handshake (ShakeMsg.SendName flags c name)) (side_where is_waiting t.dialer (fm.entries n.sides)) refl
+      go true true = waits k (Handshake (ShakeMsg.SendName c.flags c.creation name)) (side_where is_waiting t.dialer (fm.entries n.sides)) refl
       go true false = fresh_fault (Fault.Shake ShakeFault.FlagsMissing)
       go false b = fresh_fault (Fault.Shake ShakeFault.Forged)
 

@@ -27,6 +27,7 @@ use Rattle.dist_model.specs.World.{World, node_of, set_node}
 use Rattle.erl_handshake.specs.declared.message.ShakeMsg.{ShakeMsg}
 use Rattle.erl_handshake.specs.declared.status.Status.{Status}
 use Rattle.erl_names.specs.declared.trunk.TrunkId.{TrunkId}
+use Rattle.erl_handshake.specs.declared.introduction.Introduction.{Introduction}
 
 pub set_self : (ns : List Node) (x : Name) (n : Node) → node_of ns x ≡ Some n → set_node ns x n ≡ ns
 set_self [] x n h = refl
@@ -115,9 +116,9 @@ module _ (w : World) (x : Name) (n : Node) (hx : node_of w.nodes x ≡ Some n) w
           (λ t. absurd (crowd (sk.one d.0 u d.1 b hd i.1 (yd ∙ sym e) (kind d.1.state td).1 (kind b.state t).1) i.0 t))
           (λ t. t)
 
-  module _ (t : TrunkId) (c : ℕ) (far : same_name t.dialer n.mint.name ≡ false) (dialer : Met w.nodes t x) where
+  module _ (t : TrunkId) (c : Introduction) (far : same_name t.dialer n.mint.name ≡ false) (dialer : Met w.nodes t x) where
     abbrev s : TrunkSide
-    s = record { peer = t.dialer; peer_creation = c; state = Gone }
+    s = record { peer = t.dialer; introduction = c; state = Gone }
 
     -- a fresh side in its first state
     pub first_state : (o : Work) (v : State) → o.node.mint.name ≡ x → side_at o.node t ≡ None → joined v ≡ false

@@ -14,7 +14,7 @@ use Rattle.dist_model.specs.Items.{news}
 use Rattle.dist_model.specs.Names.{Name, same_name}
 use Rattle.dist_model.specs.Node.{Node, end_of}
 use Rattle.dist_model.specs.Sides.{Accepting, AwaitsAck, AwaitsChallenge, AwaitsStatus, Gone}
-use Rattle.dist_model.specs.Sides.{Losing, State, TrunkSide, Up, is_gone, is_up, lost, creation_in}
+use Rattle.dist_model.specs.Sides.{Losing, State, TrunkSide, Up, is_gone, is_up, lost, introduction_in}
 use Rattle.dist_model.specs.World.{World, list_to, node_of, set_node}
 use Rattle.erl_names.specs.declared.trunk.TrunkId.{TrunkId}
 use Rattle.erl_term.specs.declared.term.Pid.{Pid}
@@ -155,7 +155,7 @@ hold_beside a b c ha hc h = go (holds a) (asks b) (asks a) (holds b) ((hold_kind
     go _ _ _ s hr _ hu v h = cc
 
 abbrev pub as_state : TrunkSide → State → TrunkSide
-as_state s v = record { peer = s.peer; peer_creation = creation_in v s.peer_creation; state = v }
+as_state s v = record { peer = s.peer; introduction = introduction_in v s.introduction; state = v }
 
 abbrev pub in_state : World → Name → Node → TrunkId → TrunkSide → World
 in_state w x n t s = record { names = w.names; nodes = set_node w.nodes x (with_side_at n t s); lists = w.lists }

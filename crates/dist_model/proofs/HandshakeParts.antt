@@ -29,11 +29,13 @@ use Rattle.dist_model.specs.Losses.{close_side, lose, lose_at, released_by, rele
 use Rattle.dist_model.specs.Names.{Name}
 use Rattle.dist_model.specs.Node.{Node, side_where}
 use Rattle.dist_model.specs.Sides.{Accepting, Asked, AwaitsAck, AwaitsChallenge, AwaitsStatus, Gone, Losing, Parked, State, TrunkSide}
-use Rattle.dist_model.specs.Sides.{Up, is_dialing, is_gone, is_losing, is_parked, is_up, is_waiting, lost, is_over, creation_in}
+use Rattle.dist_model.specs.Sides.{Up, is_dialing, is_gone, is_losing, is_parked, is_up, is_waiting, lost, is_over, introduction_in}
 use Rattle.dist_model.specs.Taking.{take_item}
 use Rattle.dist_model.specs.Work.{Work, at_work}
 use Rattle.erl_names.specs.Order.{name_cmp}
 use Rattle.erl_names.specs.declared.trunk.TrunkId.{TrunkId}
+use Rattle.erl_handshake.specs.Roles.{introduction_by}
+use Rattle.dist_model.specs.Sides.{untold}
 
 -- how a side changes: what holds the peer's records goes on to hold them, and what is over stays so
 pub record Ages (a b : TrunkSide) : Type 0 where
@@ -52,7 +54,7 @@ abbrev pub Turned : Node → TrunkId → TrunkSide → Type 0
 Turned = TurnedBy (λ t y. Unit {0})
 
 abbrev pub as_state : TrunkSide → State → TrunkSide
-as_state s x = record { peer = s.peer; peer_creation = creation_in x s.peer_creation; state = x }
+as_state s x = record { peer = s.peer; introduction = introduction_in x s.introduction; state = x }
 
 -- states that hold nothing and are not over
 abbrev pub is_open : State → Bool
@@ -258,12 +260,12 @@ module _ (New : TrunkId → Name → Type 0) (X : Work → Type 0)
         (told t s Gone (ShakeMsg.Status Status.Nok) o (fresh_state s Gone o i h k))
 
     no_name : (o : Work) → side_at o.node t ≡ None → X o
-        → IfGoes (fault (Fault.Shake ShakeFault.BadMessage) t (record { peer = t.dialer; peer_creation = 0; state = Gone }) o) X
-    no_name o h k = fresh_fault (Fault.Shake ShakeFault.BadMessage) (record { peer = t.dialer; peer_creation = 0; state = Gone }) o refl h k
+        → IfGoes (fault (Fault.Shake ShakeFault.BadMessage) t (record { peer = t.dialer; introduction = untold; state = Gone }) o) X
+    no_name o h k = fresh_fault (Fault.Shake ShakeFault.BadMessage) (record { peer = t.dialer; introduction = untold; state = Gone }) o refl h k
 
     named : (m : ShakeMsg) (w : ℕ) (o : Work) → side_at o.node t ≡ None → X o → IfGoes (awaits_name t m w o) X
     named (ShakeMsg.SendName flags creation name) w o h k =
-        let s : TrunkSide = record { peer = t.dialer; peer_creation = creation; state = Gone } in
+        let s : TrunkSide = record { peer = t.dialer; introduction = introduction_by creation flags; state = Gone } in
         let x = Handshake (ShakeMsg.SendName flags creation name) in
         if_either (is_same name t.dialer) _ _ X
         (if_either (has_all_of flags mandatory) _ _ X
@@ -306,7 +308,7 @@ module _ (New : TrunkId → Name → Type 0) (X : Work → Type 0)
 
     challenged : (v : ℕ) → is_open s.state ≡ true → Lone s.state → (m : ShakeMsg) → IfGoes (awaits_challenge t s v m o) X
     challenged v h r (ShakeMsg.Challenge flags word creation name) =
-        let s1 : TrunkSide = record { peer = s.peer; peer_creation = creation; state = s.state } in
+        let s1 : TrunkSide = record { peer = s.peer; introduction = introduction_by creation flags; state = s.state } in
         if_either (is_same name s.peer) _ _ X (if_either (has_all_of flags mandatory) _ _ X
         (told t s1 (AwaitsAck v) (ShakeMsg.ChallengeReply v (digest_of o.node.cookie word)) o
         (side t (as_state s1 (AwaitsAck v)) o

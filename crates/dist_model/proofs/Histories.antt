@@ -53,6 +53,7 @@ use Rattle.monitor_core.specs.Monitors.{monitor_of}
 use Rattle.erl_term.specs.Order.{reference_cmp}
 use Rattle.dist_model.proofs.Founded.{popped_lists, founded_by}
 use Rattle.dist_model.proofs.HomeMonitors.{TargetsIn}
+use Rattle.erl_handshake.specs.declared.setup.Setup.{Setup}
 
 -- a refused event is no call that went through
 refused_unanswered : (k : Reference) (e : Event) (j : Refusal) → is_answered k e (Refused j) ≡ false
@@ -223,7 +224,7 @@ tale_runs w h [] [] v t i = subst (λ z. Tale z h) (sym i) t
 tale_runs w h (e ∷ es) (r ∷ rs) v t i = tale_runs i.0 ((record { event = e; report = r }) ∷ h) es rs v (one_event w h e r i.0 t i.1) i.2
 tale_runs w h _ _ v t i = absurd i
 
-sound_opening : (cs : List (Name × List ℕ)) → Sound (opening cs) []
+sound_opening : (cs : List (Name × Setup)) → Sound (opening cs) []
 sound_opening cs = record {
   lists = λ t y. subst (λ l. All (IsFounded (opening cs) []) l) (sym (ap list_in (fm.get-empty place_cmp (t, y))))
       (All-nil (IsFounded (opening cs) []));
@@ -244,7 +245,7 @@ sound_opening cs = record {
   waits = λ k p q m d r. absurd m;
 }
 
-linked_opening : (cs : List (Name × List ℕ)) → Linked (opening cs)
+linked_opening : (cs : List (Name × Setup)) → Linked (opening cs)
 linked_opening cs y v k u hv i =
     let m = new_is cs cs y v hv in
     absurd (none-some u (sym (fm.get-empty reference_cmp k) ∙ subst (λ (z : Node). fm.get z.watches k ≡ Some u) m.2 i))

@@ -38,6 +38,7 @@ use Rattle.erl_names.specs.Minted.{Minted, drawn}
 use Rattle.erl_names.specs.declared.trunk.TrunkId.{TrunkId}
 use Rattle.erl_term.specs.Data.{Data}
 use Rattle.erl_term.specs.declared.term.Pid.{Pid}
+use Rattle.dist_model.specs.Sides.{untold}
 
 towards_along : (n m : Node) → m.sides ≡ n.sides → (t : TrunkId) (y : Name) → Towards n t y → Towards m t y
 towards_along n m e t y h = record { side = h.side; there = ap (λ z. fm.get z t) e ∙ h.there; peer = h.peer }
@@ -209,7 +210,7 @@ module _ (n : Node) (e : NodeEvent) where
   clears m nm sd = record {
     name = nm;
     stays = λ t y h. inl (record {
-      side = record { peer = h.side.peer; peer_creation = 0; state = Gone };
+      side = record { peer = h.side.peer; introduction = untold; state = Gone };
       there = at t ∙ ap gone_side h.there;
       peer = h.peer;
     });
@@ -225,7 +226,7 @@ module _ (n : Node) (e : NodeEvent) where
     t0 = next_trunk n
 
     abbrev s0 : TrunkSide
-    s0 = record { peer = y; peer_creation = 0; state = AwaitsStatus w }
+    s0 = record { peer = y; introduction = untold; state = AwaitsStatus w }
 
     abbrev o0 : Work
     o0 = with_side t0 s0 (at_work (draw_trunk n))

@@ -23,6 +23,7 @@ use Rattle.erl_handshake.specs.declared.message.ShakeMsg.{ShakeMsg}
 use Rattle.erl_names.specs.Order.{trunk_cmp}
 use Rattle.erl_names.specs.declared.trunk.TrunkId.{TrunkId}
 use Rattle.erl_term.specs.declared.refusal.Refusal.{Refusal}
+use Rattle.erl_handshake.specs.declared.setup.Setup.{Setup}
 
 -- ---- what was dialed never falls
 
@@ -93,5 +94,5 @@ module _ (names : List Name) (n : Node) where
         go (inl j) = j
         go (inr j) = absurd (omega (arith, next_count t j.1.1, k t v.side v.there (ap (λ (z : TrunkId). z.dialer) j.1.1)))
 
-pub counted_new : (x : Name) (cookie : List ℕ) → CountsOwn (new_node x cookie)
-counted_new x cookie t s h d = absurd (none-some s (sym (fm.get-empty trunk_cmp t) ∙ h))
+pub counted_new : (x : Name) (setup : Setup) → CountsOwn (new_node x setup)
+counted_new x setup t s h d = absurd (none-some s (sym (fm.get-empty trunk_cmp t) ∙ h))

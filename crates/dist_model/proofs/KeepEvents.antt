@@ -33,6 +33,7 @@ use Rattle.erl_handshake.specs.declared.message.ShakeMsg.{ShakeMsg}
 use Rattle.erl_names.specs.Order.{trunk_cmp}
 use Rattle.erl_names.specs.declared.trunk.TrunkId.{TrunkId}
 use Rattle.erl_term.specs.declared.refusal.Refusal.{Refusal}
+use Rattle.dist_model.specs.Sides.{untold}
 
 -- what is of the sides and of what was dialed alone
 pub outer_parts : (P : FinMap trunk_cmp TrunkSide → ℕ → Type 0) → Parts (λ o. P o.node.sides o.node.dialed)
@@ -60,7 +61,7 @@ outer_parts P = record {
 pub dial_goes : (X : Work → Type 0) (names : List Name) (n : Node) (y : Name) (w : ℕ)
     → (same_name y n.mint.name ≡ false → is_some (side_where (λ v. not (is_gone v)) y (fm.entries n.sides)) ≡ false
     → X (write (next_trunk n) y (send_name (identity n))
-    (with_side (next_trunk n) (record { peer = y; peer_creation = 0; state = AwaitsStatus w }) (at_work (draw_trunk n)))))
+    (with_side (next_trunk n) (record { peer = y; introduction = untold; state = AwaitsStatus w }) (at_work (draw_trunk n)))))
     → IfGoes (dial names n y w) X
 dial_goes X names n y w f = if_not_known (same_name y n.mint.name) _ Refusal.SelfDial X (λ i.
     if_not (not (has_name y names)) _ Refusal.NothingThere X

@@ -34,6 +34,8 @@ use Rattle.erl_handshake.specs.declared.message.ShakeMsg.{ShakeMsg}
 use Rattle.erl_handshake.specs.declared.status.Status.{Status}
 use Rattle.erl_names.specs.Order.{name_cmp}
 use Rattle.erl_names.specs.declared.trunk.TrunkId.{TrunkId}
+use Rattle.erl_handshake.specs.Roles.{introduction_by}
+use Rattle.dist_model.specs.Sides.{untold}
 
 -- ---- states
 
@@ -220,12 +222,12 @@ module _ (t : TrunkId) (s : TrunkSide) (w : ℕ) where
       (goes t (as_state s Gone) o refl k)
 
 no_name : (t : TrunkId) (o : Work) → X o
-    → IfGoes (fault (Fault.Shake ShakeFault.BadMessage) t (record { peer = t.dialer; peer_creation = 0; state = Gone }) o) X
-no_name t o k = goes t (record { peer = t.dialer; peer_creation = 0; state = Gone }) o refl k
+    → IfGoes (fault (Fault.Shake ShakeFault.BadMessage) t (record { peer = t.dialer; introduction = untold; state = Gone }) o) X
+no_name t o k = goes t (record { peer = t.dialer; introduction = untold; state = Gone }) o refl k
 
 named : (t : TrunkId) (m : ShakeMsg) (w : ℕ) (o : Work) → X o → IfGoes (awaits_name t m w o) X
 named t (ShakeMsg.SendName flags creation name) w o k =
-    let s : TrunkSide = record { peer = t.dialer; peer_creation = creation; state = Gone } in
+    let s : TrunkSide = record { peer = t.dialer; introduction = introduction_by creation flags; state = Gone } in
     let x = Handshake (ShakeMsg.SendName flags creation name) in
     if_either (is_same name t.dialer) _ _ X
     (if_either (has_all_of flags mandatory) _ _ X
@@ -243,7 +245,7 @@ single_fresh (Some m) t w o k = subst (λ z. IfGoes z X) (sym (name_as t m w o))
 
 pub single_dial : (names : List Name) (n : Node) (y : Name) (w : ℕ) → Single n.sides → IfGoes (dial names n y w) X
 single_dial names n y w k = dial_goes X names n y w (λ i busy.
-    single_after (draw_trunk n) (next_trunk n) (record { peer = y; peer_creation = 0; state = AwaitsStatus w }) k
+    single_after (draw_trunk n) (next_trunk n) (record { peer = y; introduction = untold; state = AwaitsStatus w }) k
     (λ u v h p d gs gv.
     let g = not-false (is_gone v.state) (all_none (λ v. not (is_gone v)) y n (none_case _ busy) u v h p) in
     let c : true ≡ false = sym g ∙ gv in cc))

@@ -27,6 +27,8 @@ use Rattle.dist_model.specs.Work.{Work, at_work}
 use Rattle.erl_handshake.specs.declared.message.ShakeMsg.{ShakeMsg}
 use Rattle.erl_names.specs.Order.{trunk_cmp}
 use Rattle.erl_names.specs.declared.trunk.TrunkId.{TrunkId}
+use Rattle.erl_handshake.specs.declared.setup.Setup.{Setup}
+use Rattle.dist_model.specs.Sides.{untold}
 
 -- ---- the two tests of a state are one that stands beside
 
@@ -148,7 +150,7 @@ alive_kept names n e k = at_node_keeps AnyNew Y alive_parts turned wrote opens n
     rest (Arrive t (Some i) w) = λ at. fresh_kept AnyNew Y turned wrote t tt (handshake_in i) w (at_work n) at k
     rest Local = λ l. alive_aside n (record n { local = l }) refl refl refl refl k
     rest (Dial y w) = dial_goes Y names n y w (λ i j.
-        aside (next_trunk n) (record { peer = y; peer_creation = 0; state = AwaitsStatus w }) (at_work (draw_trunk n))
+        aside (next_trunk n) (record { peer = y; introduction = untold; state = AwaitsStatus w }) (at_work (draw_trunk n))
         (alive_aside n (draw_trunk n) refl refl refl refl k))
     rest Stop = all_alive (stopped n) refl refl refl
     rest Start = all_alive (started n) refl refl refl
@@ -160,6 +162,6 @@ steady_kept names n e a o k h = steady_of o.node
     (if_accepted KeepSingle.X (at_node names n e) a o h (single_kept names n e (single_of n k)))
     (if_accepted Y (at_node names n e) a o h (alive_kept names n e (record { ends = k.ends; owners = k.owners; targets = k.targets })))
 
-pub steady_new : (x : Name) (cookie : List ℕ) → Steady (new_node x cookie)
-steady_new x cookie = steady_of (new_node x cookie)
-    (λ t u s v hs hv p gs gv. absurd (none-some s (sym (fm.get-empty trunk_cmp t) ∙ hs))) (all_alive (new_node x cookie) refl refl refl)
+pub steady_new : (x : Name) (setup : Setup) → Steady (new_node x setup)
+steady_new x setup = steady_of (new_node x setup)
+    (λ t u s v hs hv p gs gv. absurd (none-some s (sym (fm.get-empty trunk_cmp t) ∙ hs))) (all_alive (new_node x setup) refl refl refl)

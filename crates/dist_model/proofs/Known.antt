@@ -21,7 +21,7 @@ use Rattle.dist_model.proofs.Sides.{side_at}
 use Rattle.dist_model.proofs.Trunks.{Good, partners}
 use Rattle.dist_model.proofs.Truths.{none_within}
 use Rattle.dist_model.specs.Commands.{Accepts, Outcome, Refuses}
-use Rattle.dist_model.specs.Creations.{knows_peer, told_creation}
+use Rattle.dist_model.specs.Introductions.{knows_peer, told_by}
 use Rattle.dist_model.specs.declared.report.Answer.{Answer}
 use Rattle.dist_model.specs.declared.report.Effect.{Effect}
 use Rattle.dist_model.specs.Dialing.{next_trunk}
@@ -39,21 +39,24 @@ use Rattle.dist_model.specs.World.{World, came_of, carried, first_of, left, list
 use Rattle.erl_handshake.specs.declared.message.ShakeMsg.{ShakeMsg}
 use Rattle.erl_names.specs.declared.trunk.TrunkId.{TrunkId}
 use Rattle.erl_term.specs.declared.refusal.Refusal.{Refusal}
+use Rattle.erl_handshake.specs.declared.introduction.Introduction.{Introduction}
+use Rattle.dist_model.specs.Handshake.{introduces}
+use Rattle.dist_model.specs.Sides.{untold}
 
 -- x has a side of the trunk, and unless that is gone this is x's creation
-pub record Right (ns : List Node) (x : Name) (t : TrunkId) (c : ℕ) : Type 0 where
+pub record Right (ns : List Node) (x : Name) (t : TrunkId) (c : Introduction) : Type 0 where
   pub node : Node
   pub at : node_of ns x ≡ Some node
   pub side : TrunkSide
   pub there : side_at node t ≡ Some side
-  pub right : is_gone side.state ≡ false → c ≡ node.mint.creation
+  pub right : is_gone side.state ≡ false → c ≡ introduces node
 
 -- what travels tells its sender's creation, and what a side knows is its peer's
 pub record Known (ns : List Node) (m : FinMap place_cmp (List Item)) : Type 0 where
-  pub told : (t : TrunkId) (y : Name) (i : Item) (c : ℕ) → Contains (list_to m t y) i → told_creation i ≡ Some c
+  pub told : (t : TrunkId) (y : Name) (i : Item) (c : Introduction) → Contains (list_to m t y) i → told_by i ≡ Some c
       → Right ns (sender t (side_in (node_of ns y) t)) t c
   pub known : (y : Name) (n : Node) (t : TrunkId) (s : TrunkSide) → node_of ns y ≡ Some n → side_at n t ≡ Some s
-      → knows_peer s.state ≡ true → Right ns s.peer t s.peer_creation
+      → knows_peer s.state ≡ true → Right ns s.peer t s.introduction
 
 -- who has a side of a trunk is the sender of what comes to its peer
 module _ (w : World) (g : Good w) (x : Name) (n : Node) (t : TrunkId) (s : TrunkSide) (hx : node_of w.nodes x ≡ Some n)
@@ -85,14 +88,14 @@ module _ (w : World) (g : Good w) (x : Name) (n : Node) (t : TrunkId) (s : Trunk
 pub record Turned (n : Node) (t : TrunkId) (a : TrunkSide) (o : Work) : Type 0 where
   pub side : TrunkSide
   pub there : side_at o.node t ≡ Some side
-  pub right : is_gone side.state ≡ false → (is_gone a.state ≡ false) × (o.node.mint.creation ≡ n.mint.creation)
+  pub right : is_gone side.state ≡ false → (is_gone a.state ≡ false) × (introduces o.node ≡ introduces n)
 
 pub record Done (lists : FinMap place_cmp (List Item)) (x : Name) (n : Node) (o : Work) : Type 0 where
   pub name : o.node.mint.name ≡ x
   pub stays : (t : TrunkId) (a : TrunkSide) → side_at n t ≡ Some a → Turned n t a o
   pub knows : (t : TrunkId) (s : TrunkSide) → side_at o.node t ≡ Some s → knows_peer s.state ≡ true
-      → ((a : TrunkSide) × (side_at n t ≡ Some a) × (knows_peer a.state ≡ true) × (s.peer_creation ≡ a.peer_creation) × (s.peer ≡ a.peer))
-      ⊎ ((i : Item) × Contains (list_to lists t x) i × (told_creation i ≡ Some s.peer_creation) × (sender t (side_at n t) ≡ s.peer))
+      → ((a : TrunkSide) × (side_at n t ≡ Some a) × (knows_peer a.state ≡ true) × (s.introduction ≡ a.introduction) × (s.peer ≡ a.peer))
+      ⊎ ((i : Item) × Contains (list_to lists t x) i × (told_by i ≡ Some s.introduction) × (sender t (side_at n t) ≡ s.peer))
   pub sent : (t : TrunkId) (y : Name) (m : ShakeMsg) → Contains o.effects (Effect.Sent (Some t) y (Handshake m))
       → Honest o.node m × Towards o.node t y
   pub same : (t : TrunkId) (i : Item) → Contains (list_to lists t x) i → sender t (side_at o.node t) ≡ sender t (side_at n t)
@@ -146,7 +149,7 @@ module _ (w : World) (x : Name) (n : Node) (hx : node_of w.nodes x ≡ Some n) (
   there y e = node_of_set_other w.nodes x y o.node d.name e
 
   -- a creation that was right stays so: a side that goes on has gone on, and its node's creation is the same
-  pub right_kept : (z : Name) (t : TrunkId) (c : ℕ) → Right w.nodes z t c → Right ns' z t c
+  pub right_kept : (z : Name) (t : TrunkId) (c : Introduction) → Right w.nodes z t c → Right ns' z t c
   right_kept z t c r = by_name _ x z
       (λ e.
       let same : r.node ≡ n = same_Some r.node n (sym r.at ∙ ap (node_of w.nodes) (sym e) ∙ hx) in
@@ -156,7 +159,7 @@ module _ (w : World) (x : Name) (n : Node) (hx : node_of w.nodes x ≡ Some n) (
         at = ap (node_of ns') (sym e) ∙ here;
         side = v.side;
         there = v.there;
-        right = λ j. let f = v.right j in r.right f.0 ∙ ap (λ (q : Node). q.mint.creation) same ∙ sym f.1;
+        right = λ j. let f = v.right j in r.right f.0 ∙ ap (λ (q : Node). introduces q) same ∙ sym f.1;
       })
       (λ e. record { node = r.node; at = there z e ∙ r.at; side = r.side; there = r.there; right = r.right })
 
@@ -177,12 +180,12 @@ module _ (w : World) (x : Name) (n : Node) (hx : node_of w.nodes x ≡ Some n) (
     pub known_done : Known ns' (carried m o.effects)
     known_done = record { told = told; known = known }
       where
-        old : (t : TrunkId) (y : Name) (i : Item) (c : ℕ) → Contains (list_to w.lists t y) i → told_creation i ≡ Some c
+        old : (t : TrunkId) (y : Name) (i : Item) (c : Introduction) → Contains (list_to w.lists t y) i → told_by i ≡ Some c
             → Right ns' (sender t (side_in (node_of ns' y) t)) t c
         old t y i c h j = subst (λ z. Right ns' z t c) (sym (same_sender t y i h))
             (right_kept (sender t (side_in (node_of w.nodes y) t)) t c (k.told t y i c h j))
 
-        new : (t : TrunkId) (y : Name) (i : Item) (c : ℕ) → Contains o.effects (Effect.Sent (Some t) y i) → told_creation i ≡ Some c
+        new : (t : TrunkId) (y : Name) (i : Item) (c : Introduction) → Contains o.effects (Effect.Sent (Some t) y i) → told_by i ≡ Some c
             → Right ns' (sender t (side_in (node_of ns' y) t)) t c
         new t y (Handshake l) c h j =
             let v = d.sent t y l h in
@@ -192,7 +195,7 @@ module _ (w : World) (x : Name) (n : Node) (hx : node_of w.nodes x ≡ Some n) (
             (record { node = o.node; at = here; side = v.1.side; there = v.1.there; right = λ q. v.0 c j })
         new t y i c h j = absurd (none-some c j)
 
-        told : (t : TrunkId) (y : Name) (i : Item) (c : ℕ) → Contains (list_to (carried m o.effects) t y) i → told_creation i ≡ Some c
+        told : (t : TrunkId) (y : Name) (i : Item) (c : Introduction) → Contains (list_to (carried m o.effects) t y) i → told_by i ≡ Some c
             → Right ns' (sender t (side_in (node_of ns' y) t)) t c
         told t y i c h j = pick (Contains-append_cases (list_to m t y) (at_place t y (sent_in o.effects)) i
             (subst (λ l. Contains l i) (list_to_carried m o.effects t y) h))
@@ -202,26 +205,26 @@ module _ (w : World) (x : Name) (n : Node) (hx : node_of w.nodes x ≡ Some n) (
             pick (inl q) = old t y i c (before t y i q) j
             pick (inr q) = new t y i c (sent_at t y o.effects i q) j
 
-        mine : (t : TrunkId) (s : TrunkSide) → side_at o.node t ≡ Some s → knows_peer s.state ≡ true → Right ns' s.peer t s.peer_creation
+        mine : (t : TrunkId) (s : TrunkSide) → side_at o.node t ≡ Some s → knows_peer s.state ≡ true → Right ns' s.peer t s.introduction
         mine t s hs ks = pick (d.knows t s hs ks)
           where
-            pick : ((a : TrunkSide) × (side_at n t ≡ Some a) × (knows_peer a.state ≡ true) × (s.peer_creation ≡ a.peer_creation)
+            pick : ((a : TrunkSide) × (side_at n t ≡ Some a) × (knows_peer a.state ≡ true) × (s.introduction ≡ a.introduction)
                 × (s.peer ≡ a.peer))
-                ⊎ ((i : Item) × Contains (list_to w.lists t x) i × (told_creation i ≡ Some s.peer_creation)
-                × (sender t (side_at n t) ≡ s.peer)) → Right ns' s.peer t s.peer_creation
-            pick (inl v) = subst (λ z. Right ns' z t s.peer_creation) (sym v.4)
-                (subst (Right ns' v.0.peer t) (sym v.3) (right_kept v.0.peer t v.0.peer_creation (k.known x n t v.0 hx v.1 v.2)))
-            pick (inr v) = right_kept s.peer t s.peer_creation
-                (subst (λ z. Right w.nodes z t s.peer_creation) (ap (λ z. sender t (side_in z t)) hx ∙ v.3)
-                (k.told t x v.0 s.peer_creation v.1 v.2))
+                ⊎ ((i : Item) × Contains (list_to w.lists t x) i × (told_by i ≡ Some s.introduction)
+                × (sender t (side_at n t) ≡ s.peer)) → Right ns' s.peer t s.introduction
+            pick (inl v) = subst (λ z. Right ns' z t s.introduction) (sym v.4)
+                (subst (Right ns' v.0.peer t) (sym v.3) (right_kept v.0.peer t v.0.introduction (k.known x n t v.0 hx v.1 v.2)))
+            pick (inr v) = right_kept s.peer t s.introduction
+                (subst (λ z. Right w.nodes z t s.introduction) (ap (λ z. sender t (side_in z t)) hx ∙ v.3)
+                (k.told t x v.0 s.introduction v.1 v.2))
 
         known : (y : Name) (b : Node) (t : TrunkId) (s : TrunkSide) → node_of ns' y ≡ Some b → side_at b t ≡ Some s
-            → knows_peer s.state ≡ true → Right ns' s.peer t s.peer_creation
+            → knows_peer s.state ≡ true → Right ns' s.peer t s.introduction
         known y b t s hy hs ks = by_name _ x y
             (λ e.
             let same : o.node ≡ b = same_Some o.node b (sym here ∙ ap (node_of ns') e ∙ hy) in
             mine t s (ap (λ q. side_at q t) same ∙ hs) ks)
-            (λ e. right_kept s.peer t s.peer_creation (k.known y b t s (sym (there y e) ∙ hy) hs ks))
+            (λ e. right_kept s.peer t s.introduction (k.known y b t s (sym (there y e) ∙ hy) hs ks))
 
 -- ---- one event
 
@@ -308,9 +311,9 @@ module _ (w : World) (x : Name) (n : Node) (hx : node_of w.nodes x ≡ Some n) (
 
         knows : (t : TrunkId) (s : TrunkSide) → side_at o.node t ≡ Some s → knows_peer s.state ≡ true → (p : Option TrunkSide)
             → side_at n t ≡ p → Learns e t p s
-            → ((b : TrunkSide) × (side_at n t ≡ Some b) × (knows_peer b.state ≡ true) × (s.peer_creation ≡ b.peer_creation)
+            → ((b : TrunkSide) × (side_at n t ≡ Some b) × (knows_peer b.state ≡ true) × (s.introduction ≡ b.introduction)
             × (s.peer ≡ b.peer))
-            ⊎ ((i : Item) × Contains (list_to w.lists t x) i × (told_creation i ≡ Some s.peer_creation) × (sender t (side_at n t) ≡ s.peer))
+            ⊎ ((i : Item) × Contains (list_to w.lists t x) i × (told_by i ≡ Some s.introduction) × (sender t (side_at n t) ≡ s.peer))
         knows t s hs ks None j v =
             let q = v ks in
             inr (q.0, heard t q.0 q.1 q.2, q.3, ap (sender t) j ∙ sym (new (bears.new t s j hs)))
@@ -320,10 +323,10 @@ module _ (w : World) (x : Name) (n : Node) (hx : node_of w.nodes x ≡ Some n) (
             new (inr c) = let q = v ks in let z = sym q.2 ∙ c.0.1 in cc
         knows t s hs ks (Some b) j v = pick (v.2 ks)
           where
-            pick : ((knows_peer b.state ≡ true) × (s.peer_creation ≡ b.peer_creation)) ⊎ HearsOf e t s.peer_creation
-                → ((b : TrunkSide) × (side_at n t ≡ Some b) × (knows_peer b.state ≡ true) × (s.peer_creation ≡ b.peer_creation)
+            pick : ((knows_peer b.state ≡ true) × (s.introduction ≡ b.introduction)) ⊎ HearsOf e t s.introduction
+                → ((b : TrunkSide) × (side_at n t ≡ Some b) × (knows_peer b.state ≡ true) × (s.introduction ≡ b.introduction)
                 × (s.peer ≡ b.peer))
-                ⊎ ((i : Item) × Contains (list_to w.lists t x) i × (told_creation i ≡ Some s.peer_creation)
+                ⊎ ((i : Item) × Contains (list_to w.lists t x) i × (told_by i ≡ Some s.introduction)
                 × (sender t (side_at n t) ≡ s.peer))
             pick (inl q) = inl (b, j, q.0, q.1, v.0)
             pick (inr q) = inr (q.0, heard t q.0 q.1 q.2, q.3, ap (sender t) j ∙ sym v.0)
@@ -346,7 +349,7 @@ module _ (w : World) (x : Name) (n : Node) (hx : node_of w.nodes x ≡ Some n) (
     cleared = record {
       name = nm;
       stays = λ t b hb. record {
-        side = record { peer = b.peer; peer_creation = 0; state = Gone };
+        side = record { peer = b.peer; introduction = untold; state = Gone };
         there = gone t ∙ ap gone_side hb;
         right = λ q. cc;
       };
@@ -360,12 +363,12 @@ module _ (w : World) (x : Name) (n : Node) (hx : node_of w.nodes x ≡ Some n) (
         same t (Some b) = refl
 
         knows : (t : TrunkId) (s : TrunkSide) → knows_peer s.state ≡ true → (p : Option TrunkSide) → gone_side p ≡ Some s
-            → ((b : TrunkSide) × (side_at n t ≡ Some b) × (knows_peer b.state ≡ true) × (s.peer_creation ≡ b.peer_creation)
+            → ((b : TrunkSide) × (side_at n t ≡ Some b) × (knows_peer b.state ≡ true) × (s.introduction ≡ b.introduction)
             × (s.peer ≡ b.peer))
-            ⊎ ((i : Item) × Contains (list_to w.lists t x) i × (told_creation i ≡ Some s.peer_creation) × (sender t (side_at n t) ≡ s.peer))
+            ⊎ ((i : Item) × Contains (list_to w.lists t x) i × (told_by i ≡ Some s.introduction) × (sender t (side_at n t) ≡ s.peer))
         knows t s ks None j = absurd (none-some s j)
         knows t s ks (Some b) j =
-            let v : TrunkSide = record { peer = b.peer; peer_creation = 0; state = Gone } in
+            let v : TrunkSide = record { peer = b.peer; introduction = untold; state = Gone } in
             let c : false ≡ true = ap (λ (z : TrunkSide). knows_peer z.state) (same_Some v s j) ∙ ks in
             absurd (let z : true ≡ false = sym c in cc)
 
@@ -380,7 +383,7 @@ clears_done w x n hx g _ h = cc
 
 -- a world in which what is known is right, and one in which what was right is right still
 abbrev pub Follows : World → World → Type 0
-Follows w v = (Known w.nodes w.lists → Known v.nodes v.lists) × ((z : Name) (t : TrunkId) (c : ℕ) → Right w.nodes z t c → Right v.nodes z t c)
+Follows w v = (Known w.nodes w.lists → Known v.nodes v.lists) × ((z : Name) (t : TrunkId) (c : Introduction) → Right w.nodes z t c → Right v.nodes z t c)
 
 stays_so : (w : World) → Follows w w
 stays_so w = (λ k. k, λ z t c r. r)

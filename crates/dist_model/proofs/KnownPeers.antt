@@ -12,8 +12,8 @@ use Rattle.dist_model.proofs.Sides.{side_at}
 use Rattle.dist_model.proofs.Trunks.{Good}
 use Rattle.dist_model.proofs.Truths.{none_within}
 use Rattle.dist_model.specs.Arrivals.{from_peer, is_from, is_to}
-use Rattle.dist_model.specs.Claims.{ConnectedKnow, CreationsAreKnown, CreationsAreTold, KnownForGood, NoneOfTheFuture}
-use Rattle.dist_model.specs.Creations.{creation_of, goes_on, knows_peer}
+use Rattle.dist_model.specs.Claims.{ConnectedKnow, IntroductionsAreKnown, IntroductionsAreTold, KnownForGood, NoneOfTheFuture}
+use Rattle.dist_model.specs.Introductions.{introduced, goes_on, knows_peer}
 use Rattle.dist_model.proofs.LearntAt.{sender}
 use Rattle.dist_model.specs.Names.{Name, place_cmp, same_name}
 use Rattle.dist_model.specs.Node.{Node}
@@ -23,6 +23,9 @@ use Rattle.dist_model.specs.Sides.{State, TrunkSide, Up, is_gone, is_up}
 use Rattle.dist_model.specs.World.{World, list_to, node_name, node_of}
 use Rattle.erl_control.specs.Ends.{receiver_of, sender_of}
 use Rattle.erl_names.specs.declared.trunk.TrunkId.{TrunkId}
+use Rattle.erl_handshake.specs.declared.introduction.Introduction.{Introduction}
+use Rattle.erl_handshake.specs.declared.setup.Setup.{Setup}
+use Rattle.dist_model.specs.Handshake.{introduces}
 
 -- the node that has a side
 record At (w : World) (x : Name) (t : TrunkId) (s : TrunkSide) : Type 0 where
@@ -45,29 +48,29 @@ up_goes Up h = (refl, refl)
 up_goes _ h = cc
 
 -- while its side isn't gone
-pub right_is : (w : World) (x y : Name) (t : TrunkId) (c : ℕ) → HasSide w x t y goes_on → Right w.nodes x t c → creation_of w x ≡ Some c
+pub right_is : (w : World) (x y : Name) (t : TrunkId) (c : Introduction) → HasSide w x t y goes_on → Right w.nodes x t c → introduced w x ≡ Some c
 right_is w x y t c h r =
     let a = at_side w x t h.side h.there in
     let same : r.node ≡ a.node = same_Some r.node a.node (sym r.at ∙ a.at) in
     let one : r.side ≡ h.side = same_Some r.side h.side (sym r.there ∙ ap (λ z. side_at z t) same ∙ a.there) in
-    ap (λ o. seen o None (λ node. Some node.mint.creation)) r.at
+    ap (λ o. seen o None (λ node. Some (introduces node))) r.at
     ∙ ap Some (sym (r.right (ap (λ (z : TrunkSide). is_gone z.state) one ∙ not_gone h.side.state h.state)))
 
 abbrev pub Fine : World → Type 0
 Fine w = Good w × Known w.nodes w.lists
 
-pub told_of : (w : World) → Fine w → CreationsAreTold w
+pub told_of : (w : World) → Fine w → IntroductionsAreTold w
 told_of w g x y t i c h j k =
     let a = at_side w x t h.side h.there in
     right_is w x y t c h (subst (λ z. Right w.nodes z t c)
     (ap (λ z. sender t (side_in (node_of w.nodes z) t)) (sym h.peer) ∙ sender_is w g.0 x a.node t h.side a.at a.there)
     (g.1.told t y i c j k))
 
-pub known_of : (w : World) → Fine w → CreationsAreKnown w
+pub known_of : (w : World) → Fine w → IntroductionsAreKnown w
 known_of w g x y t h v =
     let b = at_side w y t v.side v.there in
-    right_is w x y t v.side.peer_creation h
-    (subst (λ z. Right w.nodes z t v.side.peer_creation) v.peer (g.1.known y b.node t v.side b.at b.there v.state))
+    right_is w x y t v.side.introduction h
+    (subst (λ z. Right w.nodes z t v.side.introduction) v.peer (g.1.known y b.node t v.side b.at b.there v.state))
 
 abbrev side_as : (w : World) (x : Name) (t : TrunkId) (y : Name) (f : State → Bool) → (h : HasSide w x t y is_up) → f h.side.state ≡ true
     → HasSide w x t y f
@@ -86,13 +89,13 @@ future_of w g x y t n signal p k other h j =
     let v = and_parts (from_peer k.side (sender_of signal)) (is_to n (receiver_of signal)) h in
     let f : is_from k.side p ≡ true = sym (ap (from_peer k.side) j) ∙ v.0 in
     let u = and_parts (same_name p.node k.side.peer) _ f in (
-      k.side.peer_creation,
+      k.side.introduction,
       known_of w g y x t other (side_as w x t y knows_peer k (up_goes k.side.state k.state).1),
       same_name_true p.node k.side.peer u.0 ∙ k.peer,
-      leb-true p.creation k.side.peer_creation u.1,
+      leb-true p.creation k.side.introduction.creation u.1,
     )
 
-pub known_opening : (cs : List (Name × List ℕ)) → Known (opening cs).nodes (opening cs).lists
+pub known_opening : (cs : List (Name × Setup)) → Known (opening cs).nodes (opening cs).lists
 known_opening cs = record {
   told = λ t y i c h j. absurd (none_within i (subst (λ z. Contains z i) (empty t y) h));
   known = λ y n t s hy hs ks. absurd (none_at cs y n t s hy hs);
@@ -110,20 +113,20 @@ always_fine Holds f = always_kept Fine
 pub lasting_of : (w : World) → Fine w → KnownForGood w
 lasting_of w g es rs v run x y t k h =
     let a = at_side w x t k.side k.there in
-    let r : Right w.nodes y t k.side.peer_creation =
-    subst (λ z. Right w.nodes z t k.side.peer_creation) k.peer (g.1.known x a.node t k.side a.at a.there k.state) in
-    right_is v y x t k.side.peer_creation h (runs (λ u. Good u × Right u.nodes y t k.side.peer_creation)
+    let r : Right w.nodes y t k.side.introduction =
+    subst (λ z. Right w.nodes z t k.side.introduction) k.peer (g.1.known x a.node t k.side a.at a.there k.state) in
+    right_is v y x t k.side.introduction h (runs (λ u. Good u × Right u.nodes y t k.side.introduction)
     (λ u e q. (
       good_step_at u (node_of u.nodes (node_name e)) e refl q.0,
-      (known_step u (node_of u.nodes (node_name e)) e refl q.0).1 y t k.side.peer_creation q.1,
+      (known_step u (node_of u.nodes (node_name e)) e refl q.0).1 y t k.side.introduction q.1,
     ))
     w es rs v (g.0, r) run).1
 
-pub told : Always CreationsAreTold
-told = always_fine CreationsAreTold told_of
+pub told : Always IntroductionsAreTold
+told = always_fine IntroductionsAreTold told_of
 
-pub known : Always CreationsAreKnown
-known = always_fine CreationsAreKnown known_of
+pub known : Always IntroductionsAreKnown
+known = always_fine IntroductionsAreKnown known_of
 
 pub connected : Always ConnectedKnow
 connected = always_fine ConnectedKnow connected_of

@@ -6,7 +6,7 @@ use Rattle.dist_model.proofs.HandshakeParts.{Passing, as_state, found, still_non
 use Rattle.dist_model.proofs.Rules.{accepts, awaits_ack, awaits_challenge, awaits_name, awaits_reply, awaits_status, awaits_true}
 use Rattle.dist_model.proofs.Rules.{greet, greet_dialing, greet_up, greet_waiting, handshake_as, handshake_by, name_as}
 use Rattle.dist_model.specs.Admission.{give_up}
-use Rattle.dist_model.specs.Creations.{knows_peer, told_creation}
+use Rattle.dist_model.specs.Introductions.{knows_peer, told_by}
 use Rattle.dist_model.specs.Handshake.{handshake_at, challenge, up_is_lost, fault, challenge_or_park, set_state, with_side, write}
 use Rattle.erl_handshake.specs.Digest.{digest_of}
 use Rattle.erl_handshake.specs.Flags.{has_all_of, mandatory}
@@ -29,30 +29,34 @@ use Rattle.dist_model.specs.Losses.{close_side, lose, lose_at, released_by, rele
 use Rattle.dist_model.specs.Names.{Name}
 use Rattle.dist_model.specs.Node.{Node, side_where}
 use Rattle.dist_model.specs.Sides.{Accepting, Asked, AwaitsAck, AwaitsChallenge, AwaitsStatus, Gone, Losing, Parked, State, TrunkSide}
-use Rattle.dist_model.specs.Sides.{Up, is_dialing, is_gone, is_losing, is_parked, is_up, is_waiting, lost, creation_in}
+use Rattle.dist_model.specs.Sides.{Up, is_dialing, is_gone, is_losing, is_parked, is_up, is_waiting, lost, introduction_in}
 use Rattle.dist_model.specs.Taking.{take_item}
 use Rattle.dist_model.specs.Work.{Work, at_work}
 use Rattle.erl_names.specs.Order.{name_cmp}
 use Rattle.erl_names.specs.declared.trunk.TrunkId.{TrunkId}
+use Rattle.erl_handshake.specs.declared.introduction.Introduction.{Introduction}
+use Rattle.dist_model.specs.Handshake.{introduces}
+use Rattle.erl_handshake.specs.Roles.{introduction_by}
+use Rattle.dist_model.specs.Sides.{untold}
 
 -- a message tells the creation of the node that writes it, or none
 abbrev pub Honest : Node → ShakeMsg → Type 0
-Honest n m = (c : ℕ) → told_creation (Handshake m) ≡ Some c → c ≡ n.mint.creation
+Honest n m = (c : Introduction) → told_by (Handshake m) ≡ Some c → c ≡ introduces n
 
 -- how a side changes. What it knows of the peer it has known, or hears
-pub data Turns (Heard : ℕ → Type 0) (o : Node) (t : TrunkId) (s : TrunkSide) : Type 0 where
-  Fresh : side_at o t ≡ None → (knows_peer s.state ≡ true → Heard s.peer_creation) → Turns Heard o t s
+pub data Turns (Heard : Introduction → Type 0) (o : Node) (t : TrunkId) (s : TrunkSide) : Type 0 where
+  Fresh : side_at o t ≡ None → (knows_peer s.state ≡ true → Heard s.introduction) → Turns Heard o t s
   Went : (a : TrunkSide) → side_at o t ≡ Some a → s.peer ≡ a.peer → (is_gone s.state ≡ false → is_gone a.state ≡ false)
-      → (knows_peer s.state ≡ true → ((knows_peer a.state ≡ true) × (s.peer_creation ≡ a.peer_creation)) ⊎ Heard s.peer_creation)
+      → (knows_peer s.state ≡ true → ((knows_peer a.state ≡ true) × (s.introduction ≡ a.introduction)) ⊎ Heard s.introduction)
       → Turns Heard o t s
 
 pub known_stays : (v : State) → knows_peer v ≡ true → is_gone v ≡ false
 known_stays Gone h = cc
 known_stays _ h = refl
 
-same_creation : (v : State) (c : ℕ) → is_gone v ≡ false → creation_in v c ≡ c
-same_creation Gone c h = cc
-same_creation _ c h = refl
+same_introduction : (v : State) (c : Introduction) → is_gone v ≡ false → introduction_in v c ≡ c
+same_introduction Gone c h = cc
+same_introduction _ c h = refl
 
 lost_stays : (v : State) → is_gone (lost v) ≡ false → is_gone v ≡ false
 lost_stays Gone h = cc
@@ -63,24 +67,24 @@ lost_knows Up h = refl
 lost_knows Losing h = refl
 lost_knows _ h = cc
 
-silent : (n : Node) (m : ShakeMsg) → told_creation (Handshake m) ≡ None → Honest n m
+silent : (n : Node) (m : ShakeMsg) → told_by (Handshake m) ≡ None → Honest n m
 silent n m h c e = absurd (none-some c (sym h ∙ e))
 
 challenges : (n : Node) (w : ℕ) → Honest n (challenge n w)
-challenges n w c e = sym (same_Some n.mint.creation c e)
+challenges n w c e = sym (same_Some (introduces n) c e)
 
 given_none : (d : Option (TrunkId × TrunkSide)) (test : State → Bool) (o : Work) (t : TrunkId) → Passing test o.node d
     → side_at o.node t ≡ None → side_at ((give_up d o).node) t ≡ None
 given_none None test o t p h = h
 given_none (Some e) test o t p h = still_none o e.0 t (as_state e.1 Gone) e.1 h p.0
 
-module _ (Heard : TrunkId → ℕ → Type 0) (X : Work → Type 0)
+module _ (Heard : TrunkId → Introduction → Type 0) (X : Work → Type 0)
     (side : (t : TrunkId) (s : TrunkSide) (o : Work) → Turns (Heard t) o.node t s → X o → X (with_side t s o))
     (wrote : (t : TrunkId) (y : Name) (m : ShakeMsg) (o : Work) → Honest o.node m → X o → X (write t y m o)) where
   moves : (t : TrunkId) (s : TrunkSide) (v : State) (o : Work) → side_at o.node t ≡ Some s → (is_gone v ≡ false → is_gone s.state ≡ false)
       → (knows_peer v ≡ true → knows_peer s.state ≡ true) → X o → X (set_state t s v o)
   moves t s v o h g q k =
-      side t (as_state s v) o (Went s h refl g (λ e. inl (q e, same_creation v s.peer_creation (known_stays v e)))) k
+      side t (as_state s v) o (Went s h refl g (λ e. inl (q e, same_introduction v s.introduction (known_stays v e)))) k
 
   ends : (t : TrunkId) (s : TrunkSide) (o : Work) → side_at o.node t ≡ Some s → X o → X (set_state t s Gone o)
   ends t s o h k = moves t s Gone o h (λ e. cc) (λ e. cc) k
@@ -95,20 +99,20 @@ module _ (Heard : TrunkId → ℕ → Type 0) (X : Work → Type 0)
 
   -- a new side of this trunk, towards its dialer
   module _ (t : TrunkId) where
-    abbrev new : ℕ → TrunkSide
-    new c = record { peer = t.dialer; peer_creation = c; state = Gone }
+    abbrev new : Introduction → TrunkSide
+    new c = record { peer = t.dialer; introduction = c; state = Gone }
 
-    new_gone : (c : ℕ) (o : Work) → side_at o.node t ≡ None → X o → X (set_state t (new c) Gone o)
+    new_gone : (c : Introduction) (o : Work) → side_at o.node t ≡ None → X o → X (set_state t (new c) Gone o)
     new_gone c o h k = side t (as_state (new c) Gone) o (Fresh h (λ e. cc)) k
 
-    refused : (c : ℕ) (o : Work) → side_at o.node t ≡ None → X o
+    refused : (c : Introduction) (o : Work) → side_at o.node t ≡ None → X o
         → X (write t t.dialer (ShakeMsg.Status Status.Nok) (set_state t (new c) Gone o))
     refused c o h k = wrote t t.dialer (ShakeMsg.Status Status.Nok) (set_state t (new c) Gone o)
         (silent ((set_state t (new c) Gone o).node) (ShakeMsg.Status Status.Nok) refl) (new_gone c o h k)
 
-    module _ (c : ℕ) (heard : Heard t c) where
+    module _ (c : Introduction) (heard : Heard t c) where
       begins : (v : State) (o : Work) → side_at o.node t ≡ None → X o → X (set_state t (new c) v o)
-      begins v o h k = side t (as_state (new c) v) o (Fresh h (λ e. subst (Heard t) (sym (same_creation v c (known_stays v e))) heard)) k
+      begins v o h k = side t (as_state (new c) v) o (Fresh h (λ e. subst (Heard t) (sym (same_introduction v c (known_stays v e))) heard)) k
 
       accepted : (w : ℕ) (u : Status) (x : Item) (o : Work) → side_at o.node t ≡ None → X o
           → IfGoes (accepts t (new c) w (ShakeMsg.Status u) x o) X
@@ -143,21 +147,21 @@ module _ (Heard : TrunkId → ℕ → Type 0) (X : Work → Type 0)
           (refused c o h k)
 
     abbrev Hears : ShakeMsg → Type 0
-    Hears m = (c : ℕ) → told_creation (Handshake m) ≡ Some c → Heard t c
+    Hears m = (c : Introduction) → told_by (Handshake m) ≡ Some c → Heard t c
 
     named : (m : ShakeMsg) (w : ℕ) (o : Work) → Hears m → side_at o.node t ≡ None → X o → IfGoes (awaits_name t m w o) X
     named (ShakeMsg.SendName flags creation name) w o f h k =
         if_either (is_same name t.dialer) _ _ X
         (if_either (has_all_of flags mandatory) _ _ X
-        (greeted_waiting creation (f creation refl) (side_where is_waiting t.dialer (fm.entries o.node.sides)) w
+        (greeted_waiting (introduction_by creation flags) (f (introduction_by creation flags) refl) (side_where is_waiting t.dialer (fm.entries o.node.sides)) w
         (Handshake (ShakeMsg.SendName flags creation name)) o (found is_waiting t.dialer o.node _ refl) h k)
-        (new_gone creation o h k))
-        (new_gone creation o h k)
-    named _ w o f h k = new_gone 0 o h k
+        (new_gone (introduction_by creation flags) o h k))
+        (new_gone (introduction_by creation flags) o h k)
+    named _ w o f h k = new_gone untold o h k
 
     pub fresh_learns : (m : Option ShakeMsg) (w : ℕ) (o : Work) → ((l : ShakeMsg) → m ≡ Some l → Hears l) → side_at o.node t ≡ None → X o
         → IfGoes (arrive_fresh m t w o) X
-    fresh_learns None w o f h k = new_gone 0 o h k
+    fresh_learns None w o f h k = new_gone untold o h k
     fresh_learns (Some m) w o f h k = subst (λ z. IfGoes z X) (sym (name_as t m w o)) (named m w o (f m refl) h k)
 
   module _ (t : TrunkId) (s : TrunkSide) (o : Work) (at : side_at o.node t ≡ Some s) (k : X o) where
@@ -165,7 +169,7 @@ module _ (Heard : TrunkId → ℕ → Type 0) (X : Work → Type 0)
     bad = known_fault (Fault.Shake ShakeFault.BadMessage) t s o at k
 
     -- and is told no creation
-    tells : (v : State) (m : ShakeMsg) → told_creation (Handshake m) ≡ None → (is_gone v ≡ false → is_gone s.state ≡ false)
+    tells : (v : State) (m : ShakeMsg) → told_by (Handshake m) ≡ None → (is_gone v ≡ false → is_gone s.state ≡ false)
         → (knows_peer v ≡ true → knows_peer s.state ≡ true) → X (write t s.peer m (set_state t s v o))
     tells v m e g q = wrote t s.peer m (set_state t s v o) (silent ((set_state t s v o).node) m e) (moves t s v o at g q k)
 
@@ -179,12 +183,12 @@ module _ (Heard : TrunkId → ℕ → Type 0) (X : Work → Type 0)
 
     challenged : (v : ℕ) → s.state ≡ AwaitsChallenge v → (m : ShakeMsg) → Hears t m → IfGoes (awaits_challenge t s v m o) X
     challenged v h (ShakeMsg.Challenge flags word creation name) f =
-        let s1 : TrunkSide = record { peer = s.peer; peer_creation = creation; state = s.state } in
+        let s1 : TrunkSide = record { peer = s.peer; introduction = introduction_by creation flags; state = s.state } in
         let o1 = set_state t s1 (AwaitsAck v) o in
         let reply = ShakeMsg.ChallengeReply v (digest_of o.node.cookie word) in
         if_either (is_same name s.peer) _ _ X (if_either (has_all_of flags mandatory) _ _ X
         (wrote t s.peer reply o1 (silent o1.node reply refl)
-        (side t (as_state s1 (AwaitsAck v)) o (Went s at refl (λ e. ap is_gone h) (λ e. inr (f creation refl))) k))
+        (side t (as_state s1 (AwaitsAck v)) o (Went s at refl (λ e. ap is_gone h) (λ e. inr (f (introduction_by creation flags) refl))) k))
         (known_fault (Fault.Shake ShakeFault.FlagsMissing) t s o at k)) (known_fault (Fault.Shake ShakeFault.Forged) t s o at k)
     challenged v h _ f = bad
 

@@ -19,7 +19,7 @@ use Rattle.dist_model.proofs.Sides.{side_at}
 use Rattle.dist_model.proofs.Truths.{none_within}
 use Rattle.dist_model.specs.Arrivals.{arrive, arrive_first, handshake_in, take_local}
 use Rattle.dist_model.specs.Commands.{Refuses}
-use Rattle.dist_model.specs.Creations.{knows_peer, told_creation}
+use Rattle.dist_model.specs.Introductions.{knows_peer, told_by}
 use Rattle.dist_model.specs.Dialing.{draw_trunk, next_trunk}
 use Rattle.dist_model.specs.Exits.{end_process}
 use Rattle.dist_model.specs.Handshake.{identity, with_side, write}
@@ -40,14 +40,18 @@ use Rattle.erl_names.specs.declared.trunk.TrunkId.{TrunkId}
 use Rattle.erl_term.specs.Data.{Data}
 use Rattle.erl_term.specs.declared.refusal.Refusal.{Refusal}
 use Rattle.erl_term.specs.declared.term.Pid.{Pid}
+use Rattle.erl_handshake.specs.declared.introduction.Introduction.{Introduction}
+use Rattle.dist_model.specs.Handshake.{introduces}
+use Rattle.erl_handshake.specs.Roles.{introduction_by}
+use Rattle.dist_model.specs.Sides.{untold}
 
 drawn_creation : (m : Minted) (d : Draw) → (drawn m d).creation ≡ m.creation
 drawn_creation m kind.Pid = refl
 drawn_creation m _ = refl
 
 -- an item comes that tells this
-abbrev pub HearsOf : NodeEvent → TrunkId → ℕ → Type 0
-HearsOf e t c = (i : Item) × (word : ℕ) × (e ≡ Arrive t (Some i) word) × (told_creation i ≡ Some c)
+abbrev pub HearsOf : NodeEvent → TrunkId → Introduction → Type 0
+HearsOf e t c = (i : Item) × (word : ℕ) × (e ≡ Arrive t (Some i) word) × (told_by i ≡ Some c)
 
 -- who a node without a side takes an item's sender for, and who one with it
 abbrev pub sender : TrunkId → Option TrunkSide → Name
@@ -56,13 +60,13 @@ sender t (Some s) = s.peer
 
 -- a side that isn't gone was there before, or is new and nothing was known of its peer, or hears it
 abbrev pub Learns : NodeEvent → TrunkId → Option TrunkSide → TrunkSide → Type 0
-Learns e t None s = knows_peer s.state ≡ true → HearsOf e t s.peer_creation
+Learns e t None s = knows_peer s.state ≡ true → HearsOf e t s.introduction
 Learns e t (Some a) s = (s.peer ≡ a.peer) × (is_gone s.state ≡ false → is_gone a.state ≡ false)
-    × (knows_peer s.state ≡ true → ((knows_peer a.state ≡ true) × (s.peer_creation ≡ a.peer_creation)) ⊎ HearsOf e t s.peer_creation)
+    × (knows_peer s.state ≡ true → ((knows_peer a.state ≡ true) × (s.introduction ≡ a.introduction)) ⊎ HearsOf e t s.introduction)
 
 -- a node as an event leaves it
 pub record Learnt (n : Node) (e : NodeEvent) (o : Work) : Type 0 where
-  pub own : o.node.mint.creation ≡ n.mint.creation
+  pub own : introduces o.node ≡ introduces n
   pub new : (t : TrunkId) → side_at o.node t ≡ None → side_at n t ≡ None
   pub sides : (t : TrunkId) (s : TrunkSide) → side_at o.node t ≡ Some s → Learns e t (side_at n t) s
   pub sent : (t : Option TrunkId) (y : Name) (m : ShakeMsg) → Contains o.effects (Effect.Sent t y (Handshake m)) → Honest n m
@@ -72,7 +76,7 @@ module _ (n : Node) (e : NodeEvent) where
   X = Learnt n e
 
   -- with the same creation and sides, and what is sent more is no message of the handshake
-  on : (o o' : Work) → o'.node.mint.creation ≡ o.node.mint.creation → o'.node.sides ≡ o.node.sides
+  on : (o o' : Work) → introduces o'.node ≡ introduces o.node → o'.node.sides ≡ o.node.sides
       → ((t : Option TrunkId) (y : Name) (m : ShakeMsg) → Contains o'.effects (Effect.Sent t y (Handshake m)) → Honest n m) → X o → X o'
   on o o' nm sd sent k = record {
     own = nm ∙ k.own;
@@ -95,7 +99,7 @@ module _ (n : Node) (e : NodeEvent) where
   sends t y s o k = reports (Effect.Sent t y (Signalled s)) o (λ u z m h. cc) k
 
   -- the node alone changes
-  within : (o : Work) (m : Node) → m.mint.creation ≡ o.node.mint.creation → m.sides ≡ o.node.sides → X o → X (record o { node = m })
+  within : (o : Work) (m : Node) → introduces m ≡ introduces o.node → m.sides ≡ o.node.sides → X o → X (record o { node = m })
   within o m nm sd k = on o (record o { node = m }) nm sd k.sent k
 
   posts : (s : Signal) (o : Work) → X o → X (post s o)
@@ -130,7 +134,7 @@ module _ (n : Node) (e : NodeEvent) where
   parts = record {
     posted = posts;
     end_set = λ p q v o l k. within o _ refl refl k;
-    drew = λ d o h k. within o _ (drawn_creation o.node.mint d) refl k;
+    drew = λ d o h k. within o _ (ap (λ c. introduction_by c o.node.flags) (drawn_creation o.node.mint d)) refl k;
     life_set = λ p l o h k. within o _ refl refl k;
     message = puts;
     reacted = λ p q x o k. reports (Effect.LinkExit p q x) o (λ t y m h. cc) k;
@@ -162,22 +166,22 @@ module _ (n : Node) (e : NodeEvent) where
 
       -- was it there before
       went : (p : Option TrunkSide) (a : TrunkSide) → Learns e t p a → s.peer ≡ a.peer → (is_gone s.state ≡ false → is_gone a.state ≡ false)
-          → (knows_peer s.state ≡ true → ((knows_peer a.state ≡ true) × (s.peer_creation ≡ a.peer_creation)) ⊎ HearsOf e t s.peer_creation)
+          → (knows_peer s.state ≡ true → ((knows_peer a.state ≡ true) × (s.introduction ≡ a.introduction)) ⊎ HearsOf e t s.introduction)
           → Learns e t p s
       went None a l p g q = λ i. pick (q i)
         where
-          pick : ((knows_peer a.state ≡ true) × (s.peer_creation ≡ a.peer_creation)) ⊎ HearsOf e t s.peer_creation
-              → HearsOf e t s.peer_creation
+          pick : ((knows_peer a.state ≡ true) × (s.introduction ≡ a.introduction)) ⊎ HearsOf e t s.introduction
+              → HearsOf e t s.introduction
           pick (inl f) = subst (HearsOf e t) (sym f.1) (l f.0)
           pick (inr f) = f
       went (Some b) a l p g q = (p ∙ l.0, λ i. l.1 (g i), λ i. pick (q i))
         where
-          pick : ((knows_peer a.state ≡ true) × (s.peer_creation ≡ a.peer_creation)) ⊎ HearsOf e t s.peer_creation
-              → ((knows_peer b.state ≡ true) × (s.peer_creation ≡ b.peer_creation)) ⊎ HearsOf e t s.peer_creation
+          pick : ((knows_peer a.state ≡ true) × (s.introduction ≡ a.introduction)) ⊎ HearsOf e t s.introduction
+              → ((knows_peer b.state ≡ true) × (s.introduction ≡ b.introduction)) ⊎ HearsOf e t s.introduction
           pick (inl f) = again (l.2 f.0)
             where
-              again : ((knows_peer b.state ≡ true) × (a.peer_creation ≡ b.peer_creation)) ⊎ HearsOf e t a.peer_creation
-                  → ((knows_peer b.state ≡ true) × (s.peer_creation ≡ b.peer_creation)) ⊎ HearsOf e t s.peer_creation
+              again : ((knows_peer b.state ≡ true) × (a.introduction ≡ b.introduction)) ⊎ HearsOf e t a.introduction
+                  → ((knows_peer b.state ≡ true) × (s.introduction ≡ b.introduction)) ⊎ HearsOf e t s.introduction
               again (inl v) = inl (v.0, f.1 ∙ v.1)
               again (inr v) = inr (subst (HearsOf e t) (sym f.1) v)
           pick (inr f) = inr f
@@ -193,7 +197,7 @@ module _ (n : Node) (e : NodeEvent) where
               new (Some v) j = absurd (none-some v (sym (k.new t h) ∙ j))
           now (Went b h p g q) = went (side_at n t) b (k.sides t b h) p g q
 
-  idle : (m : Node) → m.mint.creation ≡ n.mint.creation → m.sides ≡ n.sides → X (at_work m)
+  idle : (m : Node) → introduces m ≡ introduces n → m.sides ≡ n.sides → X (at_work m)
   idle m nm sd = record {
     own = nm;
     new = λ t h. ap (λ z. fm.get z t) (sym sd) ∙ h;
@@ -210,9 +214,9 @@ module _ (n : Node) (e : NodeEvent) where
   start : X (at_work n)
   start = idle n refl refl
 
-  learns : (t : TrunkId) (i : Item) (w : ℕ) → e ≡ Arrive t (Some i) w → (l : ShakeMsg) → handshake_in i ≡ Some l → (c : ℕ)
-      → told_creation (Handshake l) ≡ Some c → HearsOf e t c
-  learns t i w h l j c f = (i, w, h, ap told_creation (handshake_is i l j) ∙ f)
+  learns : (t : TrunkId) (i : Item) (w : ℕ) → e ≡ Arrive t (Some i) w → (l : ShakeMsg) → handshake_in i ≡ Some l → (c : Introduction)
+      → told_by (Handshake l) ≡ Some c → HearsOf e t c
+  learns t i w h l j c f = (i, w, h, ap told_by (handshake_is i l j) ∙ f)
 
   arrives : (t : TrunkId) (first : Option Item) (w : ℕ) → e ≡ Arrive t first w → IfGoes (arrive n t (fm.get n.sides t) first w) X
   arrives t first w h = go first h (fm.get n.sides t) refl
@@ -245,11 +249,11 @@ module _ (n : Node) (e : NodeEvent) where
       (record_keeps X parts y (at_work n) start)
 
   dialed : (y : Name) (w : ℕ) → side_at n (next_trunk n) ≡ None → X (write (next_trunk n) y (send_name (identity n))
-      (with_side (next_trunk n) (record { peer = y; peer_creation = 0; state = AwaitsStatus w }) (at_work (draw_trunk n))))
+      (with_side (next_trunk n) (record { peer = y; introduction = untold; state = AwaitsStatus w }) (at_work (draw_trunk n))))
   dialed y w none =
       let t = next_trunk n in
-      let s : TrunkSide = record { peer = y; peer_creation = 0; state = AwaitsStatus w } in
-      wrote t y (send_name (identity n)) (with_side t s (at_work (draw_trunk n))) (λ c i. sym (same_Some n.mint.creation c i))
+      let s : TrunkSide = record { peer = y; introduction = untold; state = AwaitsStatus w } in
+      wrote t y (send_name (identity n)) (with_side t s (at_work (draw_trunk n))) (λ c i. sym (same_Some (introduces n) c i))
       (turned t s (at_work (draw_trunk n)) (Fresh none (λ i. cc)) (idle (draw_trunk n) refl refl))
 
 -- a node stops or starts

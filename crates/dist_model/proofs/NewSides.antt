@@ -28,10 +28,10 @@ use Rattle.dist_model.specs.Node.{Node, side_where}
 use Rattle.dist_model.specs.Sides.{Accepting, AwaitsAck, AwaitsChallenge, AwaitsStatus, Gone, Losing, State, TrunkSide, Up, is_gone, is_up}
 use Rattle.dist_model.specs.Work.{at_work}
 use Rattle.dist_model.specs.World.{World, carried, came_of, list_to, node_of, set_node}
-use Rattle.erl_handshake.specs.Flags.{mandatory}
 use Rattle.erl_handshake.specs.declared.message.ShakeMsg.{ShakeMsg}
 use Rattle.erl_names.specs.declared.trunk.TrunkId.{TrunkId}
 use Rattle.erl_term.specs.declared.refusal.Refusal.{Refusal}
+use Rattle.dist_model.specs.Sides.{untold}
 
 -- a node's place is set twice
 pub set_twice : (ns : List Node) (x : Name) (a b : Node) → a.mint.name ≡ x → set_node (set_node ns x a) x b ≡ set_node ns x b
@@ -141,12 +141,12 @@ dialed : (w : World) (x : Name) (n : Node) (y : Name) (k : ℕ) → node_of w.no
     → Good (record {
       names = w.names;
       nodes = set_node w.nodes x
-          (with_side_at (draw_trunk n) (next_trunk n) (record { peer = y; peer_creation = 0; state = AwaitsStatus k }));
+          (with_side_at (draw_trunk n) (next_trunk n) (record { peer = y; introduction = untold; state = AwaitsStatus k }));
       lists = carried w.lists
-          (Effect.Sent (Some (next_trunk n)) y (Handshake (ShakeMsg.SendName mandatory n.mint.creation n.mint.name)) ∷ []);
+          (Effect.Sent (Some (next_trunk n)) y (Handshake (ShakeMsg.SendName n.flags n.mint.creation n.mint.name)) ∷ []);
     })
 dialed w x n y k hx g ny busy =
-    let s : TrunkSide = record { peer = y; peer_creation = 0; state = AwaitsStatus k } in
+    let s : TrunkSide = record { peer = y; introduction = untold; state = AwaitsStatus k } in
     let t = next_trunk n in
     let nx = node_of_name w.nodes x n hx in
     let w1 : World = record { names = w.names; nodes = set_node w.nodes x (draw_trunk n); lists = w.lists } in
@@ -171,7 +171,7 @@ dialed w x n y k hx g ny busy =
     node_of_set_same w.nodes x n (with_side_at (draw_trunk n) t s) hx nx in
     good_pushed
     (record { names = w.names; nodes = set_node w.nodes x (with_side_at (draw_trunk n) t s); lists = w.lists }) t y
-    (ShakeMsg.SendName mandatory n.mint.creation n.mint.name) g3 (
+    (ShakeMsg.SendName n.flags n.mint.creation n.mint.name) g3 (
       s,
       with_side_at (draw_trunk n) t s,
       ap (node_of (set_node w.nodes x (with_side_at (draw_trunk n) t s))) nx ∙ here,
@@ -197,8 +197,8 @@ good_dial w x n y k hx g =
         (cond a (Refuses Refusal.SelfDial)
         (cond b (Refuses Refusal.NothingThere)
         (cond c (Refuses Refusal.Busy) (cond d (Refuses Refusal.IdsUsedUp) (Accepts (Answer.Trunk (next_trunk
-        n)) (write (next_trunk n) y (ShakeMsg.SendName mandatory n.mint.creation n.mint.name) (with_side
-        (next_trunk n) (record { peer = y; peer_creation = 0; state = AwaitsStatus k })
+        n)) (write (next_trunk n) y (ShakeMsg.SendName n.flags n.mint.creation n.mint.name) (with_side
+        (next_trunk n) (record { peer = y; introduction = untold; state = AwaitsStatus k })
         (at_work (draw_trunk n)))))))))).world)
     go false ea false false ec false = dialed w x n y k hx g ea ec
     go _ ea _ _ ec _ = g

@@ -54,6 +54,7 @@ use Rattle.erl_term.specs.Data.{Data}
 use Rattle.erl_term.specs.Order.{pid_cmp}
 use Rattle.erl_term.specs.declared.refusal.Refusal.{Refusal}
 use Rattle.erl_term.specs.declared.term.Pid.{Pid}
+use Rattle.erl_handshake.specs.declared.setup.Setup.{Setup}
 
 pub record Peopled (n : Node) : Type 0 where
   pub alive : (p : Pid) → living n p ≡ true → (n.up ≡ true) × (p.creation ≡ n.mint.creation)
@@ -402,10 +403,10 @@ peopled_runs w (e ∷ es) (r ∷ rs) v g h = peopled_runs h.0 es rs v (one h.1) 
     one (inl c) = subst (λ (z : World). AllPeopled z.nodes) (sym c.1) (after w g (node_of w.nodes (node_name e)) e refl)
     one (inr c) = subst (λ (z : World). AllPeopled z.nodes) (sym c.1) g
 
-pub peopled_opening : (cs : List (Name × List ℕ)) → AllPeopled ((opening cs).nodes)
+pub peopled_opening : (cs : List (Name × Setup)) → AllPeopled ((opening cs).nodes)
 peopled_opening cs x n h = let k = new_is cs cs x n h in subst Peopled (sym k.2) (new k.0 k.1)
   where
-    new : (y : Name) (c : List ℕ) → Peopled (new_node y c)
+    new : (y : Name) (c : Setup) → Peopled (new_node y c)
     new y c = record {
       alive = λ p l. absurd (nobody (new_node y c) p refl l);
       kept = λ p u i b. absurd

@@ -29,6 +29,8 @@ use Rattle.erl_handshake.specs.declared.message.ShakeMsg.{ShakeMsg}
 use Rattle.erl_handshake.specs.declared.status.Status.{Status}
 use Rattle.erl_names.specs.Order.{name_cmp}
 use Rattle.erl_names.specs.declared.trunk.TrunkId.{TrunkId}
+use Rattle.erl_handshake.specs.Roles.{introduction_by}
+use Rattle.dist_model.specs.Sides.{untold}
 
 -- the dialer awaits the status
 abbrev pub awaits_status : TrunkId → TrunkSide → ℕ → ShakeMsg → Work → Outcome
@@ -50,7 +52,7 @@ awaits_challenge t s v (ShakeMsg.Challenge flags word creation name) o =
     (cond (has_all_of flags mandatory)
     (Accepts (Answer.Took (kind_of (Handshake (ShakeMsg.Challenge flags word creation name)))) (write t s.peer
     (ShakeMsg.ChallengeReply v (digest_of o.node.cookie word))
-    (set_state t (record { peer = s.peer; peer_creation = creation; state = s.state }) (AwaitsAck v) o)))
+    (set_state t (record { peer = s.peer; introduction = introduction_by creation flags; state = s.state }) (AwaitsAck v) o)))
     (fault (Fault.Shake ShakeFault.FlagsMissing) t s o))
     (fault (Fault.Shake ShakeFault.Forged) t s o)
 awaits_challenge t s v _ o = fault (Fault.Shake ShakeFault.BadMessage) t s o
@@ -97,20 +99,20 @@ challenge_as : (t : TrunkId) (s : TrunkSide) (v : ℕ) (m : ShakeMsg) (o : Work)
 challenge_as t s v (ShakeMsg.Challenge f w c n) o =
     elim (is_same n s.peer) as (λ a. handshake_on t s (ShakeMsg.Challenge f w c n) (dialer_side s ((on_challenge
     (cond a (cond (has_all_of f mandatory) None (Some ShakeFault.FlagsMissing)) (Some ShakeFault.Forged))
-    (identity o.node) v w c).state)) ((on_challenge (cond a
+    (identity o.node) v w (introduction_by c f)).state)) ((on_challenge (cond a
     (cond (has_all_of f mandatory) None (Some ShakeFault.FlagsMissing))
-    (Some ShakeFault.Forged)) (identity o.node) v w c).next) o
+    (Some ShakeFault.Forged)) (identity o.node) v w (introduction_by c f)).next) o
     ≡ cond a (cond (has_all_of f mandatory) (Accepts (Answer.Took (kind_of (Handshake (ShakeMsg.Challenge f w c n)))) (write t
     s.peer (ShakeMsg.ChallengeReply v (digest_of o.node.cookie w))
-    (set_state t (record { peer = s.peer; peer_creation = c; state = s.state }) (AwaitsAck v) o))) (fault (Fault.Shake
+    (set_state t (record { peer = s.peer; introduction = introduction_by c f; state = s.state }) (AwaitsAck v) o))) (fault (Fault.Shake
     ShakeFault.FlagsMissing) t s o)) (fault (Fault.Shake ShakeFault.Forged) t s o)) [
       | true ↦
           elim (has_all_of f mandatory) as (λ b. handshake_on t s (ShakeMsg.Challenge f w c n)
-          (dialer_side s ((on_challenge (cond b None (Some ShakeFault.FlagsMissing)) (identity o.node) v w c).state))
-          ((on_challenge (cond b None (Some ShakeFault.FlagsMissing)) (identity o.node) v w c).next) o
+          (dialer_side s ((on_challenge (cond b None (Some ShakeFault.FlagsMissing)) (identity o.node) v w (introduction_by c f)).state))
+          ((on_challenge (cond b None (Some ShakeFault.FlagsMissing)) (identity o.node) v w (introduction_by c f)).next) o
           ≡ cond b (Accepts (Answer.Took (kind_of (Handshake (ShakeMsg.Challenge f w c n)))) (write t s.peer
           (ShakeMsg.ChallengeReply v (digest_of o.node.cookie w))
-          (set_state t (record { peer = s.peer; peer_creation = c; state = s.state }) (AwaitsAck v) o))) (fault (Fault.Shake
+          (set_state t (record { peer = s.peer; introduction = introduction_by c f; state = s.state }) (AwaitsAck v) o))) (fault (Fault.Shake
           ShakeFault.FlagsMissing) t s o)) [ true ↦ refl | false ↦ refl ]
       | false ↦ refl
     ]
@@ -119,9 +121,9 @@ challenge_as t s v _ o = refl
 ack_as : (t : TrunkId) (s : TrunkSide) (v : ℕ) (m : ShakeMsg) (o : Work) → handshake_at (AwaitsAck v) t s m o ≡ awaits_ack t s v m o
 ack_as t s v (ShakeMsg.ChallengeAck d) o =
     elim (is_answered o.node.cookie v d) as (λ a. handshake_on t s (ShakeMsg.ChallengeAck d) (dialer_side s ((cond a
-    (record { state = DialerState.Done s.peer_creation; next = record { send = None; progress = verdict.Done } })
+    (record { state = DialerState.Done s.introduction; next = record { send = None; progress = verdict.Done } })
     (dialer_ends ShakeFault.BadDigest)).state)) ((cond a (record
-    { state = DialerState.Done s.peer_creation; next = record { send = None; progress = verdict.Done } }) (dialer_ends
+    { state = DialerState.Done s.introduction; next = record { send = None; progress = verdict.Done } }) (dialer_ends
     ShakeFault.BadDigest)).next) o
     ≡ cond a (Accepts (Answer.Took (kind_of (Handshake (ShakeMsg.ChallengeAck d)))) (set_state t s Up o))
     (fault (Fault.Shake ShakeFault.BadDigest) t s o)) [ true ↦ refl | false ↦ refl ]
@@ -137,7 +139,7 @@ reply_as t s v (ShakeMsg.ChallengeReply w d) o =
     (λ a.
     handshake_on t s (ShakeMsg.ChallengeReply w d)
     (acceptor_side s ((cond a (record {
-      state = AcceptorState.Done s.peer_creation;
+      state = AcceptorState.Done s.introduction;
       next = record {
         send = Some
             (ShakeMsg.ChallengeAck (digest_of o.node.cookie w));
@@ -145,7 +147,7 @@ reply_as t s v (ShakeMsg.ChallengeReply w d) o =
       };
     }) (acceptor_ends ShakeFault.BadDigest)).state))
     ((cond a (record {
-      state = AcceptorState.Done s.peer_creation;
+      state = AcceptorState.Done s.introduction;
       next = record {
         send = Some
             (ShakeMsg.ChallengeAck (digest_of o.node.cookie w));
@@ -196,12 +198,12 @@ greet_waiting (Some e) t s w x o =
 -- a Fresh side gets its first message
 abbrev pub awaits_name : TrunkId → ShakeMsg → ℕ → Work → Outcome
 awaits_name t (ShakeMsg.SendName flags creation name) w o =
-    let s : TrunkSide = record { peer = t.dialer; peer_creation = creation; state = Gone } in
+    let s : TrunkSide = record { peer = t.dialer; introduction = introduction_by creation flags; state = Gone } in
     cond (is_same name t.dialer)
     (cond (has_all_of flags mandatory) (greet_waiting (side_where is_waiting t.dialer (fm.entries o.node.sides)) t s w
     (Handshake (ShakeMsg.SendName flags creation name)) o) (fault (Fault.Shake ShakeFault.FlagsMissing) t s o))
     (fault (Fault.Shake ShakeFault.Forged) t s o)
-awaits_name t _ w o = fault (Fault.Shake ShakeFault.BadMessage) t (record { peer = t.dialer; peer_creation = 0; state = Gone }) o
+awaits_name t _ w o = fault (Fault.Shake ShakeFault.BadMessage) t (record { peer = t.dialer; introduction = untold; state = Gone }) o
 
 -- what is done once the others are known
 abbrev told_by : OtherConnections → TrunkId → TrunkSide → ℕ → Work → Outcome
@@ -335,13 +337,13 @@ pub name_as : (t : TrunkId) (m : ShakeMsg) (w : ℕ) (o : Work) → hears_name t
 name_as t (ShakeMsg.SendName f c n) w o = go (is_same n t.dialer) (has_all_of f mandatory)
   where
     go : (a b : Bool) → after_name
-        ((on_name (cond a (cond b None (Some ShakeFault.FlagsMissing)) (Some ShakeFault.Forged)) c w).next.progress) t
-        (record { peer = t.dialer; peer_creation = c; state = Gone }) w o
+        ((on_name (cond a (cond b None (Some ShakeFault.FlagsMissing)) (Some ShakeFault.Forged)) (introduction_by c f) w).next.progress) t
+        (record { peer = t.dialer; introduction = introduction_by c f; state = Gone }) w o
         ≡ cond a (cond b (greet_waiting (side_where is_waiting t.dialer (fm.entries o.node.sides)) t
-        (record { peer = t.dialer; peer_creation = c; state = Gone }) w (Handshake (ShakeMsg.SendName f c n)) o)
-        (fault (Fault.Shake ShakeFault.FlagsMissing) t (record { peer = t.dialer; peer_creation = c; state = Gone }) o))
-        (fault (Fault.Shake ShakeFault.Forged) t (record { peer = t.dialer; peer_creation = c; state = Gone }) o)
+        (record { peer = t.dialer; introduction = introduction_by c f; state = Gone }) w (Handshake (ShakeMsg.SendName f c n)) o)
+        (fault (Fault.Shake ShakeFault.FlagsMissing) t (record { peer = t.dialer; introduction = introduction_by c f; state = Gone }) o))
+        (fault (Fault.Shake ShakeFault.Forged) t (record { peer = t.dialer; introduction = introduction_by c f; state = Gone }) o)
     go true true =
-        admit_as t (record { peer = t.dialer; peer_creation = c; state = Gone }) w (Handshake (ShakeMsg.SendName f c n)) o refl refl
+        admit_as t (record { peer = t.dialer; introduction = introduction_by c f; state = Gone }) w (Handshake (ShakeMsg.SendName f c n)) o refl refl
     go _ _ = refl
 name_as t _ w o = refl

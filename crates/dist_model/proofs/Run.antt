@@ -44,6 +44,9 @@ use Rattle.erl_handshake.specs.declared.status.Status.{Status}
 use Rattle.erl_names.specs.declared.trunk.TrunkId.{TrunkId}
 use Rattle.erl_term.specs.declared.refusal.Refusal.{Refusal}
 use Rattle.std.specs.FinMap.{FinMap}
+use Rattle.erl_handshake.specs.declared.setup.Setup.{Setup}
+use Rattle.dist_model.specs.Sides.{untold}
+use Rattle.erl_handshake.specs.Roles.{introduction_by}
 
 pub handshake_is : (i : Item) (m : ShakeMsg) → handshake_in i ≡ Some m → i ≡ Handshake m
 handshake_is (Handshake l) m h = ap Handshake (same_Some l m h)
@@ -62,7 +65,7 @@ module _ (w : World) (x : Name) (n : Node) (t : TrunkId) (v : TrunkSide) (rest :
       unless w x n t v rest hx h g (is_same a v.peer) (Handshake (ShakeMsg.Challenge c d b a)) _ (Fault.Shake ShakeFault.Forged)
       (λ _ f. unless w x n t v rest hx h g (has_all_of c mandatory) (Handshake (ShakeMsg.Challenge c d b a)) _
       (Fault.Shake ShakeFault.FlagsMissing)
-      (λ _ k. challenge_comes w x n t v (Handshake (ShakeMsg.Challenge c d b a)) rest hx h g k u b
+      (λ _ k. challenge_comes w x n t v (Handshake (ShakeMsg.Challenge c d b a)) rest hx h g k u (introduction_by b c)
       (digest_of n.cookie d) s refl (λ p q. refl)) f) e
   good_awaits_challenge_item u s (ShakeMsg.Status Status.Ok) e =
       broken w x n t v rest hx h g (Fault.Shake ShakeFault.BadMessage) (Handshake (ShakeMsg.Status Status.Ok)) e
@@ -124,12 +127,12 @@ module _ (w : World) (x : Name) (n : Node) (hx : node_of w.nodes x ≡ Some n) (
   abbrev Well : Outcome → Type 0
   Well o = IfGoes o (λ p. Good (record { names = w.names; nodes = set_node w.nodes x p.node; lists = carried w.lists p.effects }))
 
-  bad : Well (fault (Fault.Shake ShakeFault.BadMessage) t (record { peer = t.dialer; peer_creation = 0; state = Gone }) (at_work n))
-  bad = fresh_fault w x n hx g t 0 far key none (Fault.Shake ShakeFault.BadMessage)
+  bad : Well (fault (Fault.Shake ShakeFault.BadMessage) t (record { peer = t.dialer; introduction = untold; state = Gone }) (at_work n))
+  bad = fresh_fault w x n hx g t untold far key none (Fault.Shake ShakeFault.BadMessage)
 
   fresh_item : (o : Option ShakeMsg) (k : ℕ) → Well (arrive_fresh o t k (at_work n))
   fresh_item (Some (ShakeMsg.SendName c b a)) k =
-      subst Well (sym (name_as t (ShakeMsg.SendName c b a) k (at_work n))) (fresh_hello w x n hx g t b far key none a c k)
+      subst Well (sym (name_as t (ShakeMsg.SendName c b a) k (at_work n))) (fresh_hello w x n hx g t (introduction_by b c) far key none a k)
   fresh_item (Some (ShakeMsg.Status Status.Ok)) z = bad
   fresh_item _ z = bad
 
@@ -213,10 +216,10 @@ module _ (P : World → Type 0) (steps : (w : World) (e : Event) → P w → P (
   runs w (e ∷ es) (r ∷ rs) v g h = runs h.0 es rs v (comes w e r h.0 g h.1) h.2
   runs w _ _ v g h = absurd h
 
-  pub always_kept : (Holds : World → Type 0) → ((cs : List (Name × List ℕ)) → P (opening cs)) → ((w : World) → P w → Holds w) → Always Holds
+  pub always_kept : (Holds : World → Type 0) → ((cs : List (Name × Setup)) → P (opening cs)) → ((w : World) → P w → Holds w) → Always Holds
   always_kept Holds opens f cs es rs w h = f w (runs (opening cs) es rs w (opens cs) h)
 
-pub always : (Holds : World → Type 0) → ((cs : List (Name × List ℕ)) → Good (opening cs)) → ((w : World) → Good w → Holds w) → Always Holds
+pub always : (Holds : World → Type 0) → ((cs : List (Name × Setup)) → Good (opening cs)) → ((w : World) → Good w → Holds w) → Always Holds
 always = always_kept Good (λ w e g. good_step_at w (node_of w.nodes (node_name e)) e refl g)
 
 pub events_run : (es : List Event) (w : World) → (rs : List Report) × Runs w es rs (run es w)

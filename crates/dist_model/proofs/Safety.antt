@@ -36,6 +36,7 @@ use Rattle.link_core.proofs.Drained.{has_link}
 use Rattle.link_core.specs.News.{Exited, LinkNews, Signals, drained, last_said}
 use Rattle.link_core.specs.declared.end.End.{End}
 use Rattle.link_core.specs.declared.end.LinkSignal.{LinkSignal}
+use Rattle.erl_handshake.specs.declared.setup.Setup.{Setup}
 
 -- a silent list has no signals about a link
 silent_signals : (p q : Pid) (l : List Item) → nothing_between p q l ≡ true → (news p q l ≡ []) × (news q p l ≡ [])
@@ -264,19 +265,19 @@ module _ (w : World) (g : Good w) where
           pick (inr i) = not_beside s.side.state v.side.state ((up_holds s.side.state s.state).1) lk.1 i
 
 -- the opening world
-module _ (cs : List (Name × List ℕ)) where
-  pub new_is : (ds : List (Name × List ℕ)) (x : Name) (n : Node) → node_of (new_nodes ds) x ≡ Some n → (y : Name)
-      × (c : List ℕ) × (n ≡ new_node y c)
+module _ (cs : List (Name × Setup)) where
+  pub new_is : (ds : List (Name × Setup)) (x : Name) (n : Node) → node_of (new_nodes ds) x ≡ Some n → (y : Name)
+      × (c : Setup) × (n ≡ new_node y c)
   new_is [] x n h = let e : false ≡ true = ap is_some h in cc
   new_is (d ∷ ds) x n h = go (same_name d.0 x) h (new_is ds x n)
     where
       go : (b : Bool) → cond b (Some (new_node d.0 d.1)) (node_of (new_nodes ds) x) ≡ Some n
-          → (node_of (new_nodes ds) x ≡ Some n → (y : Name) × (c : List ℕ) × (n ≡ new_node y c)) → (y : Name) × (c : List ℕ)
+          → (node_of (new_nodes ds) x ≡ Some n → (y : Name) × (c : Setup) × (n ≡ new_node y c)) → (y : Name) × (c : Setup)
           × (n ≡ new_node y c)
       go true h f = (d.0, d.1, sym (same_Some (new_node d.0 d.1) n h))
       go false h f = f h
 
-  no_side : (y : Name) (c : List ℕ) (t : TrunkId) → side_at (new_node y c) t ≡ None
+  no_side : (y : Name) (c : Setup) (t : TrunkId) → side_at (new_node y c) t ≡ None
   no_side y c t = fm.get-empty trunk_cmp t
 
   pub none_at : (x : Name) (n : Node) (t : TrunkId) (s : TrunkSide) → node_of (new_nodes cs) x ≡ Some n → side_at n t ≡ Some s → ⊥
@@ -284,13 +285,13 @@ module _ (cs : List (Name × List ℕ)) where
       let k = new_is cs x n h in
       let e : false ≡ true = sym (ap is_some (no_side k.0 k.1 t)) ∙ ap is_some (ap (λ v. side_at v t) (sym k.2) ∙ f) in cc
 
-  new_kept : (y : Name) (c : List ℕ) → NodeKept (new_node y c)
+  new_kept : (y : Name) (c : Setup) → NodeKept (new_node y c)
   new_kept y c = record {
     born = λ p l. let e : false ≡ true = sym (ap is_living_life (fm.get-empty pid_cmp p)) ∙ l in cc;
     rooted = λ p q e. absurd (e (ap end_in (fm.get-empty pair_cmp (p, q))));
   }
 
-  new_end : (y : Name) (c : List ℕ) (p q : Pid) → end_of (new_node y c) p q ≡ End.None
+  new_end : (y : Name) (c : Setup) (p q : Pid) → end_of (new_node y c) p q ≡ End.None
   new_end y c p q = ap end_in (fm.get-empty pair_cmp (p, q))
 
   pub good_opening : Good (opening cs)

@@ -15,6 +15,7 @@ use Rattle.erl_names.specs.declared.trunk.TrunkId.{TrunkId}
 use Rattle.erl_term.specs.declared.term.Pid.{Pid}
 use Rattle.link_core.specs.News.{LinkNews}
 use Rattle.link_core.specs.declared.end.End.{End}
+use Rattle.erl_handshake.specs.declared.setup.Setup.{Setup}
 
 abbrev pub end_in : Option End → End
 end_in o = unwrap_or o End.None
@@ -46,8 +47,8 @@ sides_at o = seen o [] (λ node. fm.entries node.sides)
 abbrev pub replies : Pid → Pid → List LinkNews → List Signal
 replies p q news = map (telling p q) news
 
-abbrev pub new_nodes : List (Name × List ℕ) → List Node
-new_nodes cs = map (λ (c : Name × List ℕ). new_node c.0 c.1) cs
+abbrev pub new_nodes : List (Name × Setup) → List Node
+new_nodes cs = map (λ (c : Name × Setup). new_node c.0 c.1) cs
 
 abbrev pub close_if : Bool → TrunkId → TrunkSide → Work → Work
 close_if kept t s o = cond kept o (close_side t s o)

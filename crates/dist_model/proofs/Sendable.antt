@@ -67,6 +67,8 @@ use Rattle.monitor_core.specs.declared.monitor.Monitor.{Monitor}
 use Rattle.erl_handshake.specs.Roles.{send_name}
 use Rattle.erl_term.specs.Canonical.{canonical_atom}
 use Rattle.std.proofs.lemmas.Option.{same_Some, none-some}
+use Rattle.erl_handshake.specs.declared.setup.Setup.{Setup}
+use Rattle.dist_model.specs.Sides.{untold}
 
 abbrev pub Sendable : Item → Type 0
 Sendable (Signalled s) = IsSendable s
@@ -312,7 +314,7 @@ dialed : (names : List Name) (n : Node) (y : Name) (w : ℕ) → X (at_work n) �
 dialed names n y w k = if_not (same_name y n.mint.name) _ Refusal.SelfDial X (if_not (not (has_name y names)) _ Refusal.NothingThere X
     (if_not (is_some (side_where (λ v. not (is_gone v)) y (fm.entries n.sides))) _ Refusal.Busy X
     (if_not (not (nat_lt (n.dialed + 1) (2 ^ 64))) _ Refusal.IdsUsedUp X
-    (let s : TrunkSide = record { peer = y; peer_creation = 0; state = AwaitsStatus w } in
+    (let s : TrunkSide = record { peer = y; introduction = untold; state = AwaitsStatus w } in
     let o = with_side (next_trunk n) s (at_work (draw_trunk n)) in
     wrote (next_trunk n) y (send_name (identity n)) o (same (at_work n) o refl refl k)))))
 
@@ -397,13 +399,13 @@ travels_at w (Some n) (Stop x) h g =
     let k = local_of w.nodes x n h g.locals in while_up_ends w x g n (stop n) (begins (stopped n) k)
 travels_at w (Some n) (Start x) h g = ends w x g w.lists (start n) g.lists (started n)
 
-opens : (cs : List (Name × List ℕ)) → Travels (opening cs)
+opens : (cs : List (Name × Setup)) → Travels (opening cs)
 opens cs = record {
   lists = λ t x. subst (λ l. All Sendable l) (sym (ap list_in (fm.get-empty place_cmp (t, x)))) (All-nil Sendable);
   locals = go cs;
 }
   where
-    go : (ds : List (Name × List ℕ)) → Locals (new_nodes ds)
+    go : (ds : List (Name × Setup)) → Locals (new_nodes ds)
     go [] = tt
     go (d ∷ ds) = (All-nil Sendable, go ds)
 

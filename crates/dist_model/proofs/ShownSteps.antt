@@ -40,6 +40,9 @@ use Rattle.erl_handshake.specs.declared.message.ShakeMsg.{ShakeMsg}
 use Rattle.erl_handshake.specs.declared.status.Status.{Status}
 use Rattle.erl_names.specs.Order.{name_cmp}
 use Rattle.erl_names.specs.declared.trunk.TrunkId.{TrunkId}
+use Rattle.erl_handshake.specs.declared.introduction.Introduction.{Introduction}
+use Rattle.erl_handshake.specs.Roles.{introduction_by}
+use Rattle.dist_model.specs.Sides.{untold}
 
 lost_bare : (v : State) → word_of (lost v) ≡ None
 lost_bare Up = refl
@@ -155,7 +158,7 @@ module _ (n : Node) (Proven : TrunkId → Name → Type 0) (May : TrunkId → Na
       on_challenge : (u : ℕ) → v.state ≡ AwaitsChallenge u → (m : ShakeMsg) → Heard t v m → IfGoes (awaits_challenge t v u m (at_work n)) X
       on_challenge u e (ShakeMsg.Challenge f w c y) k = unless (is_same y v.peer) _ (Fault.Shake ShakeFault.Forged) (λ i.
           unless (has_all_of f mandatory) _ (Fault.Shake ShakeFault.FlagsMissing) (λ j.
-          let s : TrunkSide = record { peer = v.peer; peer_creation = c; state = v.state } in
+          let s : TrunkSide = record { peer = v.peer; introduction = introduction_by c f; state = v.state } in
           wrote n Proven May Now t v.peer (ShakeMsg.ChallengeReply u (digest_of n.cookie w)) (set_state t s (AwaitsAck u) (at_work n))
           (record {
             word = λ z l. subst (Has t) (same_Some u z l) (same_word u (ap word_of e));
@@ -224,13 +227,13 @@ module _ (n : Node) (Proven : TrunkId → Name → Type 0) (May : TrunkId → Na
     abbrev Any : Work → Type 0
     Any o = (a : Answer) → P a o
 
-    abbrev new : ℕ → TrunkSide
-    new c = record { peer = t.dialer; peer_creation = c; state = Gone }
+    abbrev new : Introduction → TrunkSide
+    new c = record { peer = t.dialer; introduction = c; state = Gone }
 
-    is_gone : (c : ℕ) (o : Work) (a : Answer) → Any o → P a (set_state t (new c) Gone o)
+    is_gone : (c : Introduction) (o : Work) (a : Answer) → Any o → P a (set_state t (new c) Gone o)
     is_gone c o a g = gone (Now a) t (new c) o (g a)
 
-    refused : (c : ℕ) (o : Work) (a : Answer) → Any o → P a (write t t.dialer (ShakeMsg.Status Status.Nok) (set_state t (new c) Gone o))
+    refused : (c : Introduction) (o : Work) (a : Answer) → Any o → P a (write t t.dialer (ShakeMsg.Status Status.Nok) (set_state t (new c) Gone o))
     refused c o a g = wrote n Proven May (Now a) t t.dialer (ShakeMsg.Status Status.Nok) (set_state t (new c) Gone o)
         (plain n Proven May (Now a) t t.dialer (ShakeMsg.Status Status.Nok) refl refl) (is_gone c o a g)
 
@@ -241,31 +244,31 @@ module _ (n : Node) (Proven : TrunkId → Name → Type 0) (May : TrunkId → Na
       has : Drawn n (Now a) t w
       has = inr (none, now)
 
-      begins : (c : ℕ) (u : State) (v : Status) (o : Work) → word_of u ≡ Some w → holds u ≡ false → Any o
+      begins : (c : Introduction) (u : State) (v : Status) (o : Work) → word_of u ≡ Some w → holds u ≡ false → Any o
           → P a (write t t.dialer (ShakeMsg.Status v) (set_state t (new c) u o))
       begins c u v o h k g = wrote n Proven May (Now a) t t.dialer (ShakeMsg.Status v) (set_state t (new c) u o)
           (plain n Proven May (Now a) t t.dialer (ShakeMsg.Status v) refl refl) (goes (Now a) t (new c) u w o h k has (g a))
 
-      accepted : (c : ℕ) (v : Status) (o : Work) → Any o → IfDone (accepts t (new c) w (ShakeMsg.Status v) i o) P
+      accepted : (c : Introduction) (v : Status) (o : Work) → Any o → IfDone (accepts t (new c) w (ShakeMsg.Status v) i o) P
       accepted c v o g = challenges (Now a) t (new c) t.dialer o.node w
           (write t t.dialer (ShakeMsg.Status v) (set_state t (new c) (Accepting w) o)) has (begins c (Accepting w) v o refl refl g)
 
       given_up : (e : TrunkId × TrunkSide) (o : Work) → Any o → Any (give_up (Some e) o)
       given_up e o g b = gone (Now b) e.0 e.1 o (g b)
 
-      greets_dialing : (c : ℕ) (o : Work) (d : Option (TrunkId × TrunkSide)) → Any o → IfDone (greet_dialing d t (new c) w i o) P
+      greets_dialing : (c : Introduction) (o : Work) (d : Option (TrunkId × TrunkSide)) → Any o → IfDone (greet_dialing d t (new c) w i o) P
       greets_dialing c o None g = accepted c Status.Ok o g
       greets_dialing c o (Some e) g = done_either (is_gt (name_cmp t.dialer o.node.mint.name)) _ _ P
           (accepted c Status.OkSimultaneous (give_up (Some e) o) (given_up e o g)) (λ z. refused c o a g)
 
-      greets_up : (c : ℕ) (o : Work) (d : Option (TrunkId × TrunkSide)) → Any o → IfDone (greet_up d t (new c) w i o) P
+      greets_up : (c : Introduction) (o : Work) (d : Option (TrunkId × TrunkSide)) → Any o → IfDone (greet_up d t (new c) w i o) P
       greets_up c o None g = greets_dialing c o (side_where is_dialing t.dialer (fm.entries o.node.sides)) g
       greets_up c o (Some e) g = begins c (Asked w) Status.Alive o refl refl g
 
-      greets : (c : ℕ) (o : Work) → Any o → IfDone (greet t (new c) w i o) P
+      greets : (c : Introduction) (o : Work) → Any o → IfDone (greet t (new c) w i o) P
       greets c o g = greets_up c o (side_where (λ v. is_up v || is_losing v) t.dialer (fm.entries o.node.sides)) g
 
-      greets_waiting : (c : ℕ) (o : Work) (d : Option (TrunkId × TrunkSide)) → Any o → IfDone (greet_waiting d t (new c) w i o) P
+      greets_waiting : (c : Introduction) (o : Work) (d : Option (TrunkId × TrunkSide)) → Any o → IfDone (greet_waiting d t (new c) w i o) P
       greets_waiting c o None g = greets c o g
       greets_waiting c o (Some e) g = done_either (nat_lt e.0.count t.count) _ _ P (greets c (give_up (Some e) o) (given_up e o g))
           (λ z. refused c o _ g)
@@ -273,15 +276,15 @@ module _ (n : Node) (Proven : TrunkId → Name → Type 0) (May : TrunkId → Na
     named : (w f c : ℕ) (y : List ℕ) (o : Work) → Now (Answer.Took (kind_of (Handshake (ShakeMsg.SendName f c y)))) t w → Any o
         → IfDone (awaits_name t (ShakeMsg.SendName f c y) w o) P
     named w f c y o now g = done_either (is_same y t.dialer) _ _ P (done_either (has_all_of f mandatory) _ _ P
-        (greets_waiting (Handshake (ShakeMsg.SendName f c y)) w now c o (side_where is_waiting t.dialer (fm.entries o.node.sides)) g)
-        (λ z. is_gone c o _ g)) (λ z. is_gone c o _ g)
+        (greets_waiting (Handshake (ShakeMsg.SendName f c y)) w now (introduction_by c f) o (side_where is_waiting t.dialer (fm.entries o.node.sides)) g)
+        (λ z. is_gone (introduction_by c f) o _ g)) (λ z. is_gone (introduction_by c f) o _ g)
 
     pub fresh_comes : (m : Option ShakeMsg) (w : ℕ) (o : Work)
         → ((f c : ℕ) (y : List ℕ) → m ≡ Some (ShakeMsg.SendName f c y) → Now (Answer.Took (kind_of (Handshake (ShakeMsg.SendName f c y)))) t w)
         → Any o → IfDone (arrive_fresh m t w o) P
     fresh_comes (Some (ShakeMsg.SendName f c y)) w o now g =
         subst (λ z. IfDone z P) (sym (name_as t (ShakeMsg.SendName f c y) w o)) (named w f c y o (now f c y refl) g)
-    fresh_comes _ w o now g = is_gone 0 o _ g
+    fresh_comes _ w o now g = is_gone untold o _ g
 
 -- ---- a dialer's name is taken by a new side alone, which answers it
 
@@ -368,6 +371,6 @@ module _ (t : TrunkId) where
   pub fresh_opens : (m : Option ShakeMsg) (w : ℕ) (o : Work) → IfDone (arrive_fresh m t w o) Opens
   fresh_opens (Some (ShakeMsg.SendName f c y)) w o = subst (λ z. IfDone z Opens) (sym (name_as t (ShakeMsg.SendName f c y) w o))
       (done_either (is_same y t.dialer) _ _ Opens (done_either (has_all_of f mandatory) _ _ Opens
-      (opens_waiting (side_where is_waiting t.dialer (fm.entries o.node.sides)) (record { peer = t.dialer; peer_creation = c; state = Gone }) w
+      (opens_waiting (side_where is_waiting t.dialer (fm.entries o.node.sides)) (record { peer = t.dialer; introduction = introduction_by c f; state = Gone }) w
       (Handshake (ShakeMsg.SendName f c y)) o) (λ z e. cc)) (λ z e. cc))
   fresh_opens _ w o = λ e. cc

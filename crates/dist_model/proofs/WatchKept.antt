@@ -60,6 +60,7 @@ use Rattle.link_core.specs.News.{noconnection, noproc}
 use Rattle.erl_term.proofs.Order.{reference_cmp_total}
 use Rattle.monitor_core.specs.Monitors.{added, is_held, is_this, monitor_of, MonitorMap}
 use Rattle.monitor_core.specs.declared.monitor.Monitor.{Monitor}
+use Rattle.dist_model.specs.Sides.{untold}
 
 pub any_go : (P : Answer → Work → Type 0) (k : Outcome) → ((a : Answer) (o : Work) → P a o) → AllGo k P
 any_go P (Refuses j) f = tt
@@ -187,7 +188,7 @@ module _ (w : World) (h : History) (x : Name) (n : Node) (hx : node_of w.nodes x
     })
 
     fresh_facts : (c : Option ShakeMsg) → handshake_in i ≡ c → AllGo (arrive_fresh c t k0 (at_work n)) Facts
-    fresh_facts None e = fault_facts (Fault.Shake ShakeFault.BadMessage) (record { peer = t.dialer; peer_creation = 0; state = Gone })
+    fresh_facts None e = fault_facts (Fault.Shake ShakeFault.BadMessage) (record { peer = t.dialer; introduction = untold; state = Gone })
     fresh_facts (Some m) e = other_facts m e (arrive_fresh (Some m) t k0 (at_work n))
 
     module _ (v : TrunkSide) (at : side_at n t ≡ Some v) where

@@ -65,6 +65,7 @@ use Rattle.monitor_core.specs.declared.monitor.Monitor.{Monitor}
 use Rattle.std.specs.FinMap.{FinMap}
 use Rattle.dist_model.proofs.HeldActive.{reacts_in, reacts, told, Calm, calm_send, calm_post, calm_put}
 use Rattle.dist_model.proofs.HeldActive.{calm_finish, exit_of, Held, held_at, calm_cond, item_taken}
+use Rattle.erl_handshake.specs.Roles.{introduction_by}
 
 -- calls
 on_drawn : (o : Option ℕ) (k : ℕ → Outcome) (P : Work → Type 0) → ((id : ℕ) → IfGoes (k id) P) → IfGoes (with_id o k) P
@@ -236,7 +237,7 @@ module _ (n : Node) (t : TrunkId) where
   still_fresh : (m : ShakeMsg) (w : ℕ) → IfGoes (awaits_name t m w (at_work n)) Still
   still_fresh (ShakeMsg.SendName f c a) w = if_either (is_same a t.dialer) _ _ Still
       (if_either (has_all_of f mandatory) _ _ Still (greets_waiting
-      (record { peer = t.dialer; peer_creation = c; state = Gone }) w (Handshake (ShakeMsg.SendName f c a))
+      (record { peer = t.dialer; introduction = introduction_by c f; state = Gone }) w (Handshake (ShakeMsg.SendName f c a))
       (side_where is_waiting t.dialer (fm.entries n.sides)) (at_work n) (λ p q h. h)) (λ p q h. h)) (λ p q h. h)
   still_fresh (ShakeMsg.Status Status.Ok) w = λ p q h. h
   still_fresh _ w = λ p q h. h

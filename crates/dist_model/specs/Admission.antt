@@ -23,6 +23,9 @@ use Rattle.erl_handshake.specs.declared.admission.OtherConnections.{OtherConnect
 use Rattle.erl_handshake.specs.declared.message.ShakeMsg.{ShakeMsg}
 use Rattle.erl_handshake.specs.declared.status.Status.{Status}
 use Rattle.erl_names.specs.declared.trunk.TrunkId.{TrunkId}
+use Rattle.erl_handshake.specs.declared.introduction.Introduction.{Introduction}
+use Rattle.dist_model.specs.Sides.{untold}
+use Rattle.erl_handshake.specs.Roles.{introduction_by}
 
 -- another attempt ends: its side is gone
 abbrev pub give_up : Option (TrunkId × TrunkSide) → Work → Work
@@ -61,13 +64,13 @@ admit trunk side word work =
     (give_up_if due.ends_dialing is_dialing trunk.dialer
     (give_up_if due.ends_waiting is_waiting trunk.dialer work))))
 
--- of the dialer, in the incarnation that it named
-abbrev pub named_creation : ShakeMsg → ℕ
-named_creation (ShakeMsg.SendName flags creation name) = creation
-named_creation _ = 0
+-- of the dialer, with the creation and the flags that it named
+abbrev pub named_introduction : ShakeMsg → Introduction
+named_introduction (ShakeMsg.SendName flags creation name) = introduction_by creation flags
+named_introduction _ = untold
 
 abbrev pub new_side : TrunkId → ShakeMsg → TrunkSide
-new_side trunk message = record (unheard trunk) { peer_creation = named_creation message }
+new_side trunk message = record (unheard trunk) { introduction = named_introduction message }
 
 abbrev pub after_name : Progress → TrunkId → TrunkSide → ℕ → Work → Outcome
 after_name (progress.Ended why) trunk side word work = fault (Fault.Shake why) trunk side work

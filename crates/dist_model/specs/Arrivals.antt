@@ -23,7 +23,7 @@ use Rattle.erl_term.specs.declared.term.Pid.{Pid}
 -- earlier one, and to a process that this node has spawned
 
 abbrev pub is_from : TrunkSide → Pid → Bool
-is_from side p = same_name p.node side.peer && nat_le p.creation side.peer_creation
+is_from side p = same_name p.node side.peer && nat_le p.creation side.introduction.creation
 
 abbrev pub from_peer : TrunkSide → Option Pid → Bool
 from_peer side None = true

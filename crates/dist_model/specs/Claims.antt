@@ -7,7 +7,7 @@ use Rattle.dist_model.specs.Names.{Name, place_cmp}
 use Rattle.dist_model.specs.NodeEvents.{at_node}
 use Rattle.dist_model.specs.Arrivals.{is_good}
 use Rattle.dist_model.specs.Commands.{Accepts, Refuses}
-use Rattle.dist_model.specs.Creations.{creation_of, goes_on, knows_peer, told_creation}
+use Rattle.dist_model.specs.Introductions.{goes_on, introduced, knows_peer, told_by}
 use Rattle.dist_model.specs.Work.{Work}
 use Rattle.dist_model.specs.declared.report.Answer.{Answer}
 use Rattle.dist_model.specs.declared.report.Effect.{Effect}
@@ -22,6 +22,7 @@ use Rattle.dist_model.specs.World.{list_to, met, node_name, node_of, refused, st
 use Rattle.erl_control.specs.Control.{IsSendable}
 use Rattle.erl_control.specs.Ends.{sender_of}
 use Rattle.erl_control.specs.declared.signal.Signal.{Signal}
+use Rattle.erl_handshake.specs.declared.introduction.Introduction.{Introduction}
 use Rattle.erl_names.specs.declared.trunk.TrunkId.{TrunkId}
 use Rattle.erl_term.specs.Data.{Data}
 use Rattle.erl_term.specs.declared.term.Pid.{Pid}
@@ -107,36 +108,36 @@ OneTrunk w = (x y : Name) (t u : TrunkId) → HasSide w x t y is_up → HasSide 
 abbrev pub NoUpBesideLosing : World → Type 0
 NoUpBesideLosing w = (x y : Name) (t u : TrunkId) → HasSide w x t y is_up → HasSide w x u y is_losing → ⊥
 
--- ---- Creations. (ERTS User's Guide, Distribution Protocol, Distribution Handshake, send_name and send_challenge: each node
--- tells its own creation)
+-- ---- Introductions. (ERTS User's Guide, Distribution Protocol, Distribution Handshake, send_name and send_challenge: each node
+-- tells its own creation and flags)
 
--- while x's side of a trunk is not gone, each item in flight from x carries the creation of x's running incarnation, or none
-abbrev pub CreationsAreTold : World → Type 0
-CreationsAreTold w = (x y : Name) (t : TrunkId) (item : Item) (c : ℕ) → HasSide w x t y goes_on → Contains (list_to w.lists t y) item
-    → told_creation item ≡ Some c → creation_of w x ≡ Some c
+-- while x's side of a trunk is not gone, each item in flight from x carries the creation of x's running incarnation and x's flags, or none
+abbrev pub IntroductionsAreTold : World → Type 0
+IntroductionsAreTold w = (x y : Name) (t : TrunkId) (item : Item) (said : Introduction) → HasSide w x t y goes_on
+    → Contains (list_to w.lists t y) item → told_by item ≡ Some said → introduced w x ≡ Some said
 
--- while x's side is not gone, the peer's side knows the creation of x's running incarnation, or none
-abbrev pub CreationsAreKnown : World → Type 0
-CreationsAreKnown w = (x y : Name) (t : TrunkId) → HasSide w x t y goes_on → (theirs : HasSide w y t x knows_peer)
-    → creation_of w x ≡ Some theirs.side.peer_creation
+-- while x's side is not gone, the peer's side knows the creation of x's running incarnation and x's flags, or none
+abbrev pub IntroductionsAreKnown : World → Type 0
+IntroductionsAreKnown w = (x y : Name) (t : TrunkId) → HasSide w x t y goes_on → (theirs : HasSide w y t x knows_peer)
+    → introduced w x ≡ Some theirs.side.introduction
 
--- two connected nodes know each other's creation
+-- two connected nodes know each other's creation and flags
 abbrev pub ConnectedKnow : World → Type 0
 ConnectedKnow w = (x y : Name) (t : TrunkId) → (both : AreConnected w x t y)
-    → (creation_of w y ≡ Some both.0.side.peer_creation) × (creation_of w x ≡ Some both.1.side.peer_creation)
+    → (introduced w y ≡ Some both.0.side.introduction) × (introduced w x ≡ Some both.1.side.introduction)
 
 -- a side accepts no signal from a process of an incarnation that is still to come
 abbrev pub NoneOfTheFuture : World → Type 0
 NoneOfTheFuture w = (x y : Name) (t : TrunkId) (node : Node) (signal : Signal) (p : Pid) → (own : HasSide w x t y is_up)
     → HasSide w y t x goes_on → is_good node own.side (Signalled signal) ≡ true → sender_of signal ≡ Some p
-    → (c : ℕ) × (creation_of w y ≡ Some c) × (p.node ≡ y) × (p.creation ≤ c)
+    → (said : Introduction) × (introduced w y ≡ Some said) × (p.node ≡ y) × (p.creation ≤ said.creation)
 
--- the creation that a side knows stays right in every later world while the peer's side of the trunk is not gone. So the receiver of
+-- the introduction that a side knows stays right in every later world while the peer's side of the trunk is not gone. So the receiver of
 -- an item is of the incarnation that its sender knew when it sent the item
 abbrev pub KnownForGood : World → Type 0
 KnownForGood w = (events : List Event) (reports : List Report) (later : World) → Runs w events reports later
     → (x y : Name) (t : TrunkId) → (known : HasSide w x t y knows_peer) → HasSide later y t x goes_on
-    → creation_of later y ≡ Some known.side.peer_creation
+    → introduced later y ≡ Some known.side.introduction
 
 -- ---- An event is of one node. (own: the threads of nodes rest on it)
 

@@ -13,6 +13,7 @@ use Rattle.dist_model.specs.Work.{at_work}
 use Rattle.erl_handshake.specs.Roles.{send_name}
 use Rattle.erl_names.specs.declared.trunk.TrunkId.{TrunkId}
 use Rattle.erl_term.specs.declared.refusal.Refusal.{Refusal}
+use Rattle.dist_model.specs.Sides.{untold}
 
 abbrev pub has_name : Name → List Name → Bool
 has_name name = list_any (same_name name)
@@ -32,4 +33,4 @@ dial names node peer word =
     (if not (nat_lt (node.dialed + 1) (2 ^ 64)) then Refuses Refusal.IdsUsedUp else
     Accepts (Answer.Trunk (next_trunk node))
     (write (next_trunk node) peer (send_name (identity node))
-    (with_side (next_trunk node) (record { peer = peer; peer_creation = 0; state = AwaitsStatus word }) (at_work (draw_trunk node)))))))
+    (with_side (next_trunk node) (record { peer = peer; introduction = untold; state = AwaitsStatus word }) (at_work (draw_trunk node)))))))

@@ -15,11 +15,11 @@ use Rattle.dist_model.specs.Sides.{Losing, Parked, State, TrunkSide, Up, in_stat
 use Rattle.dist_model.specs.Work.{Work, send_on}
 use Rattle.conn_core.specs.declared.arrival.Fault.{Fault}
 use Rattle.erl_handshake.specs.declared.fault.ShakeFault.{ShakeFault}
-use Rattle.erl_handshake.specs.Flags.{mandatory}
-use Rattle.erl_handshake.specs.Roles.{acceptor_turn, challenge_of, dialer_turn}
+use Rattle.erl_handshake.specs.Roles.{acceptor_turn, challenge_of, dialer_turn, introduction_of}
 use Rattle.erl_handshake.specs.declared.acceptor.AcceptorState.{AcceptorState}
 use Rattle.erl_handshake.specs.declared.dialer.DialerState.{DialerState}
 use Rattle.erl_handshake.specs.declared.identity.Identity.{Identity}
+use Rattle.erl_handshake.specs.declared.introduction.Introduction.{Introduction}
 use Rattle.erl_handshake.specs.declared.message.ShakeMsg.{ShakeMsg}
 use Rattle.erl_handshake.specs.declared.turn.Next.{Next}
 use Rattle.erl_names.specs.declared.trunk.TrunkId.{TrunkId}
@@ -43,7 +43,11 @@ fault why trunk side work = Accepts (Answer.Broken why) (set_state trunk side (l
 
 -- the node as it introduces itself
 abbrev pub identity : Node → Identity
-identity node = record { name = node.mint.name; creation = node.mint.creation; flags = mandatory; cookie = node.cookie }
+identity node = record { name = node.mint.name; creation = node.mint.creation; flags = node.flags; cookie = node.cookie }
+
+-- its creation and its flags
+abbrev pub introduces : Node → Introduction
+introduces node = introduction_of (identity node)
 
 abbrev pub challenge : Node → ℕ → ShakeMsg
 challenge node word = challenge_of (identity node) word
@@ -58,17 +62,17 @@ send_challenge trunk side word work = write trunk side.peer (challenge work.node
 abbrev pub dialer_side : TrunkSide → DialerState → TrunkSide
 dialer_side side (DialerState.AwaitsStatus word) = record side { state = AwaitsStatus word }
 dialer_side side (DialerState.AwaitsChallenge word) = record side { state = AwaitsChallenge word }
-dialer_side side (DialerState.AwaitsAck word creation) = record side { peer_creation = creation; state = AwaitsAck word }
-dialer_side side (DialerState.Done creation) = record side { peer_creation = creation; state = Up }
+dialer_side side (DialerState.AwaitsAck word introduction) = record side { introduction = introduction; state = AwaitsAck word }
+dialer_side side (DialerState.Done introduction) = record side { introduction = introduction; state = Up }
 dialer_side side DialerState.Over = in_state Gone side
 
 abbrev pub acceptor_side : TrunkSide → AcceptorState → TrunkSide
 acceptor_side side AcceptorState.AwaitsName = side
-acceptor_side side (AcceptorState.AwaitsAdmission word creation) = side
-acceptor_side side (AcceptorState.AwaitsAnswer word creation) = record side { peer_creation = creation; state = Asked word }
-acceptor_side side (AcceptorState.AwaitsTurn word creation) = record side { peer_creation = creation; state = Parked word }
-acceptor_side side (AcceptorState.AwaitsReply word creation) = record side { peer_creation = creation; state = Accepting word }
-acceptor_side side (AcceptorState.Done creation) = record side { peer_creation = creation; state = Up }
+acceptor_side side (AcceptorState.AwaitsAdmission word introduction) = side
+acceptor_side side (AcceptorState.AwaitsAnswer word introduction) = record side { introduction = introduction; state = Asked word }
+acceptor_side side (AcceptorState.AwaitsTurn word introduction) = record side { introduction = introduction; state = Parked word }
+acceptor_side side (AcceptorState.AwaitsReply word introduction) = record side { introduction = introduction; state = Accepting word }
+acceptor_side side (AcceptorState.Done introduction) = record side { introduction = introduction; state = Up }
 acceptor_side side AcceptorState.Over = in_state Gone side
 
 -- the role's turn says what is sent, and whether the handshake goes on
@@ -112,7 +116,7 @@ after_answer _ trunk side word message work = Accepts (Answer.Took (kind_of (Han
 
 abbrev pub hears_answer : TrunkId → TrunkSide → ℕ → ShakeMsg → Work → Outcome
 hears_answer trunk side word message work =
-    let turn = acceptor_turn (identity work.node) side.peer (AcceptorState.AwaitsAnswer word side.peer_creation) message 0 in
+    let turn = acceptor_turn (identity work.node) side.peer (AcceptorState.AwaitsAnswer word side.introduction) message 0 in
     after_answer turn.next.progress trunk side word message work
 
 -- ---- a message of the handshake comes to a side. Each state awaits one
@@ -120,8 +124,8 @@ hears_answer trunk side word message work =
 abbrev pub handshake_at : State → TrunkId → TrunkSide → ShakeMsg → Work → Outcome
 handshake_at (AwaitsStatus word) trunk side message work = dialer_hears trunk side (DialerState.AwaitsStatus word) message work
 handshake_at (AwaitsChallenge word) trunk side message work = dialer_hears trunk side (DialerState.AwaitsChallenge word) message work
-handshake_at (AwaitsAck word) trunk side message work = dialer_hears trunk side (DialerState.AwaitsAck word side.peer_creation) message work
+handshake_at (AwaitsAck word) trunk side message work = dialer_hears trunk side (DialerState.AwaitsAck word side.introduction) message work
 handshake_at (Asked word) trunk side message work = hears_answer trunk side word message work
 handshake_at (Accepting word) trunk side message work =
-    acceptor_hears trunk side (AcceptorState.AwaitsReply word side.peer_creation) message work
+    acceptor_hears trunk side (AcceptorState.AwaitsReply word side.introduction) message work
 handshake_at _ trunk side message work = fault (Fault.Shake ShakeFault.BadMessage) trunk side work

@@ -3,6 +3,7 @@ use Rattle.std.specs.Prelude.{List, [], ◌∷◌, ℕ}
 use Rattle.dist_model.specs.Names.{Name}
 use Rattle.dist_model.specs.Runs.{Runs, opening, reports_of}
 use Rattle.dist_model.specs.World.{Event, Report, World}
+use Rattle.erl_handshake.specs.declared.setup.Setup.{Setup}
 
 pub record Happening : Type 0 where
   pub event : Event
@@ -24,5 +25,5 @@ history events world = told events (reports_of events world) []
 
 -- whatever happens, and so at each moment of whatever happens
 abbrev pub Throughout : (History → World → Type 0) → Type 0
-Throughout Holds = (nodes : List (Name × List ℕ)) (events : List Event) (reports : List Report) (world : World)
+Throughout Holds = (nodes : List (Name × Setup)) (events : List Event) (reports : List Report) (world : World)
     → Runs (opening nodes) events reports world → Holds (told events reports []) world

@@ -22,7 +22,7 @@ pub mod Keeping
 pub mod World
 pub mod Runs
 pub mod Seen
-pub mod Creations
+pub mod Introductions
 pub mod Quiet
 pub mod Histories
 pub mod Causes

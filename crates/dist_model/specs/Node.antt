@@ -27,6 +27,8 @@ pub record Node : Type 0 where
   -- its name and creation, and what this incarnation has drawn
   pub mint : Minted
   pub cookie : List ℕ
+  -- the flags that it offers
+  pub flags : ℕ
   pub up : Bool
   -- how many trunks it has ever dialed
   pub dialed : ℕ

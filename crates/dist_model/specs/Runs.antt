@@ -5,14 +5,17 @@ use Rattle.dist_model.specs.Names.{Name}
 use Rattle.dist_model.specs.Node.{Node}
 use Rattle.dist_model.specs.Work.{report}
 use Rattle.dist_model.specs.World.{Event, Refused, Report, Reported, World, step}
+use Rattle.erl_handshake.specs.Flags.{flags_of}
+use Rattle.erl_handshake.specs.declared.setup.Setup.{Setup}
 use Rattle.erl_names.specs.Minted.{nothing_drawn}
 use Rattle.erl_term.specs.declared.refusal.Refusal.{Refusal}
 
 -- a node that is up, in its first incarnation, before its first event
-abbrev pub new_node : Name → List ℕ → Node
-new_node name cookie = record {
+abbrev pub new_node : Name → Setup → Node
+new_node name setup = record {
   mint = nothing_drawn name 1;
-  cookie = cookie;
+  cookie = setup.cookie;
+  flags = flags_of setup.profile;
   up = true;
   dialed = 0;
   lives = fm.empty;
@@ -23,8 +26,8 @@ new_node name cookie = record {
   local = [];
 }
 
--- the world of new nodes with these names and cookies
-abbrev pub opening : List (Name × List ℕ) → World
+-- the world of new nodes with these names, cookies and profiles
+abbrev pub opening : List (Name × Setup) → World
 opening nodes = record { names = map (λ node. node.0) nodes; nodes = map (λ node. new_node node.0 node.1) nodes; lists = fm.empty }
 
 -- the event was not refused
@@ -58,5 +61,5 @@ reports_of (event ∷ events) world = (step world event).report ∷ reports_of e
 
 -- in every world that a run leads to, and so at each moment of every run
 abbrev pub Always : (World → Type 0) → Type 0
-Always Holds = (nodes : List (Name × List ℕ)) (events : List Event) (reports : List Report) (world : World)
+Always Holds = (nodes : List (Name × Setup)) (events : List Event) (reports : List Report) (world : World)
     → Runs (opening nodes) events reports world → Holds world

@@ -1,6 +1,6 @@
 -- The claims that hold at every moment of every run, together.
 use Rattle.dist_model.specs.Claims.{Agreement, AgreementInQuiet, AgreementWithin, NoLinkToItself}
-use Rattle.dist_model.specs.Claims.{ConnectedKnow, CreationsAreKnown, CreationsAreTold, KnownForGood, NoneOfTheFuture}
+use Rattle.dist_model.specs.Claims.{ConnectedKnow, IntroductionsAreKnown, IntroductionsAreTold, KnownForGood, NoneOfTheFuture}
 use Rattle.dist_model.specs.Claims.{NoLinkToTheDead, NoUpBesideLosing, OneTrunk, PendingOnItsWay, PendingWithin}
 use Rattle.dist_model.specs.Cookies.{ChallengesAreDrawn, ConnectedByCookie, OneChallenge}
 use Rattle.dist_model.specs.Fates.{AnsweredOnce, DownOnce, DownOrRegistered, DownToTheOwner, DownsTellTrueCause}
@@ -38,9 +38,10 @@ pub record Safe (history : History) (world : World) : Type 0 where
   pub connected_by_cookie : ConnectedByCookie history world
   pub challenges_are_drawn : ChallengesAreDrawn history world
   pub one_challenge : OneChallenge history world
-  -- creations: the creation that a side knows of its peer is the peer's, in any later world too while the peer's side isn't gone
-  pub creations_are_told : CreationsAreTold world
-  pub creations_are_known : CreationsAreKnown world
+  -- introductions: the creation and the flags that a side knows of its peer are the peer's, in any later world too while the peer's
+  -- side isn't gone
+  pub introductions_are_told : IntroductionsAreTold world
+  pub introductions_are_known : IntroductionsAreKnown world
   pub connected_know : ConnectedKnow world
   pub none_of_the_future : NoneOfTheFuture world
   pub known_for_good : KnownForGood world

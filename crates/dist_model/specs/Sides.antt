@@ -2,6 +2,7 @@
 -- (ERTS User's Guide, Distribution Protocol, Distribution Handshake.)
 use Rattle.std.specs.Prelude.{ℕ, Bool, true, false, ◌||◌}
 use Rattle.dist_model.specs.Names.{Name}
+use Rattle.erl_handshake.specs.declared.introduction.Introduction.{Introduction}
 use Rattle.erl_names.specs.declared.trunk.TrunkId.{TrunkId}
 
 -- the dialer's side awaits the status, the challenge and the acknowledgement. The acceptor's has asked for a
@@ -20,7 +21,8 @@ pub data State : Type 0 where
 
 pub record TrunkSide : Type 0 where
   pub peer : Name
-  pub peer_creation : ℕ
+  -- the creation and the flags that the peer has told
+  pub introduction : Introduction
   pub state : State
 
 abbrev pub is_dialing : State → Bool
@@ -66,14 +68,18 @@ lost Up = Losing
 lost Losing = Losing
 lost _ = Gone
 
--- a side that is gone has forgotten the peer's creation
-abbrev pub creation_in : State → ℕ → ℕ
-creation_in Gone creation = 0
-creation_in _ creation = creation
+-- a peer that has told nothing
+abbrev pub untold : Introduction
+untold = record { creation = 0; flags = 0 }
+
+-- a side that is gone has forgotten the peer's creation and flags
+abbrev pub introduction_in : State → Introduction → Introduction
+introduction_in Gone introduction = untold
+introduction_in _ introduction = introduction
 
 abbrev pub in_state : State → TrunkSide → TrunkSide
-in_state state side = record side { peer_creation = creation_in state side.peer_creation; state = state }
+in_state state side = record side { introduction = introduction_in state side.introduction; state = state }
 
 -- before anything has come from its dialer. A node keeps no such side
 abbrev pub unheard : TrunkId → TrunkSide
-unheard trunk = record { peer = trunk.dialer; peer_creation = 0; state = Gone }
+unheard trunk = record { peer = trunk.dialer; introduction = untold; state = Gone }

@@ -1,9 +1,9 @@
--- A run as a trace: each event with its report and the world before it; and the creation in which the owner's node knew the target's
+-- A run as a trace: each event with its report and the world before it; and the introduction in which the owner's node knew the target's
 -- node when Monitor was called.
 -- (ERTS User's Guide, Distribution Protocol, Distribution Handshake, on creations; Reference Manual, Processes, Monitors.)
 use Rattle.std.specs.Prelude.{◌≡◌, ◌⊎◌, ℕ, true, Option, None, Some, if◌then◌else◌, List, [], ◌∷◌, Contains}
 use Rattle.std.specs.FinMap as fm
-use Rattle.dist_model.specs.Creations.{creation_of, goes_on}
+use Rattle.dist_model.specs.Introductions.{goes_on, introduced}
 use Rattle.dist_model.specs.declared.command.Command.{Command}
 use Rattle.dist_model.specs.Downs.{is_answered}
 use Rattle.dist_model.specs.Histories.{Happening}
@@ -19,8 +19,11 @@ use Rattle.dist_model.specs.World.{Arrive, Call, Event, Local, Refused, Report, 
 use Rattle.dist_model.specs.World.{first_of, list_to, node_name, node_of, step}
 use Rattle.erl_control.specs.declared.signal.Signal.{Signal}
 use Rattle.erl_names.specs.declared.trunk.TrunkId.{TrunkId}
+use Rattle.erl_handshake.specs.declared.introduction.Introduction.{Introduction}
+use Rattle.erl_handshake.specs.declared.setup.Setup.{Setup}
 use Rattle.erl_term.specs.declared.term.Pid.{Pid}
 use Rattle.erl_term.specs.declared.term.Reference.{Reference}
+use Rattle.dist_model.specs.Handshake.{introduces}
 
 pub record Moment : Type 0 where
   pub before : World
@@ -46,45 +49,44 @@ traced world (event ∷ events) (report ∷ reports) before =
 
 -- over every run, and so at each moment of every run
 abbrev pub ThroughoutTraced : (Trace → World → Type 0) → Type 0
-ThroughoutTraced Holds = (nodes : List (Name × List ℕ)) (events : List Event) (reports : List Report) (world : World)
+ThroughoutTraced Holds = (nodes : List (Name × Setup)) (events : List Event) (reports : List Report) (world : World)
     → Runs (opening nodes) events reports world → Holds (traced (opening nodes) events reports []) world
 
--- the creation in which a node knows another: its own, or the one that the peer told on the trunk that is up
-abbrev pub creation_said : Option TrunkSide → Option ℕ
-creation_said None = None
-creation_said (Some side) = Some side.peer_creation
+-- the introduction in which a node knows another: its own, or the one that the peer told on the trunk that is up
+abbrev pub side_said : Option TrunkSide → Option Introduction
+side_said None = None
+side_said (Some side) = Some side.introduction
 
-abbrev pub creation_on : Node → Option TrunkId → Option ℕ
-creation_on node None = None
-creation_on node (Some trunk) = creation_said (fm.get node.sides trunk)
+abbrev pub said_on : Node → Option TrunkId → Option Introduction
+said_on node None = None
+said_on node (Some trunk) = side_said (fm.get node.sides trunk)
 
-abbrev pub creation_known : Option Node → Name → Option ℕ
-creation_known None peer = None
-creation_known (Some node) peer =
-    if same_name peer node.mint.name then Some node.mint.creation else creation_on node (route node peer)
+abbrev pub introduction_known : Option Node → Name → Option Introduction
+introduction_known None peer = None
+introduction_known (Some node) peer = if same_name peer node.mint.name then Some (introduces node) else said_on node (route node peer)
 
--- Monitor answered r in this moment, while the owner's node knew the target's node in this creation
-pub record CalledIn (r : Reference) (p q : Pid) (creation : ℕ) (moment : Moment) : Type 0 where
+-- Monitor answered r in this moment, while the owner's node knew the target's node by this introduction
+pub record CalledIn (r : Reference) (p q : Pid) (said : Introduction) (moment : Moment) : Type 0 where
   pub call : moment.happening.event ≡ Call p.node (Command.Monitor p q)
   pub answered : is_answered r moment.happening.event moment.happening.report ≡ true
-  pub known : creation_known (node_of moment.before.nodes p.node) q.node ≡ Some creation
+  pub known : introduction_known (node_of moment.before.nodes p.node) q.node ≡ Some said
 
-abbrev pub WasCalledIn : Reference → Pid → Pid → ℕ → Trace → Type 0
-WasCalledIn r p q creation [] = ⊥
-WasCalledIn r p q creation (last ∷ before) = CalledIn r p q creation last ⊎ WasCalledIn r p q creation before
+abbrev pub WasCalledIn : Reference → Pid → Pid → Introduction → Trace → Type 0
+WasCalledIn r p q said [] = ⊥
+WasCalledIn r p q said (last ∷ before) = CalledIn r p q said last ⊎ WasCalledIn r p q said before
 
 -- a MONITOR_P is in flight to a node whose side of the trunk is not gone. When its owner called Monitor, the owner's node knew that
--- node in the creation that it has. So its receiver is of the incarnation that the caller's node knew
+-- node by the introduction that it has. So its receiver is of the incarnation that the caller's node knew
 abbrev pub MonitorsKnowTheirNode : Trace → World → Type 0
 MonitorsKnowTheirNode trace world = (t : TrunkId) (y : Name) (p q : Pid) (r : Reference)
     → Contains (list_to world.lists t y) (Signalled (Signal.Monitor p q r)) → HasSide world y t p.node goes_on
-    → (c : ℕ) × (creation_of world y ≡ Some c) × (y ≡ q.node) × WasCalledIn r p q c trace
+    → (said : Introduction) × (introduced world y ≡ Some said) × (y ≡ q.node) × WasCalledIn r p q said trace
 
 -- the same for a MONITOR_P within one node
 abbrev pub MonitorsKnowTheirOwnNode : Trace → World → Type 0
 MonitorsKnowTheirOwnNode trace world = (x : Name) (p q : Pid) (r : Reference)
     → Contains (local_list world x) (Signalled (Signal.Monitor p q r))
-    → (c : ℕ) × (creation_of world x ≡ Some c) × (x ≡ q.node) × WasCalledIn r p q c trace
+    → (said : Introduction) × (introduced world x ≡ Some said) × (x ≡ q.node) × WasCalledIn r p q said trace
 
 -- ---- the delivery of MONITOR_P
 
@@ -103,13 +105,13 @@ pub record Taken (r : Reference) (p q : Pid) (moment : Moment) : Type 0 where
   pub first : comes_first moment.before moment.happening.event ≡ Some (Signalled (Signal.Monitor p q r))
   pub took : answer_of moment.happening.report ≡ Some (Answer.Took Kind.Monitor)
 
--- at each delivery the target's node had the creation in which the owner's node knew it at the call. Each process alive there has
--- this creation
+-- at each delivery the target's node had the introduction by which the owner's node knew it at the call. Each process alive there has
+-- its creation
 abbrev pub TakenAsCalled : Trace → Type 0
 TakenAsCalled [] = Unit {0}
 TakenAsCalled (last ∷ before) = ((p q : Pid) (r : Reference) → Taken r p q last
-    → (c : ℕ) × (creation_of last.before q.node ≡ Some c) × (node_name last.happening.event ≡ q.node) × WasCalledIn r p q c before
-    × ((held : Pid) → held.node ≡ q.node → is_living last.before held ≡ true → held.creation ≡ c))
+    → (said : Introduction) × (introduced last.before q.node ≡ Some said) × (node_name last.happening.event ≡ q.node) × WasCalledIn r p q said before
+    × ((held : Pid) → held.node ≡ q.node → is_living last.before held ≡ true → held.creation ≡ said.creation))
     × TakenAsCalled before
 
 abbrev pub MonitorsAreTakenAsCalled : Trace → World → Type 0

@@ -29,6 +29,7 @@ ghost use Rattle.erl_names.specs.Minted.{id_of};
 ghost use Rattle.dist_model.specs.World.{World, Event, Report, Refused, Reported, Arrive, Local, step};
 ghost use Rattle.dist_model.specs.Quiet.{Quiet, is_quiet};
 ghost use Rattle.dist_model.specs.Runs.{Goes, Runs, run, Always, opening, new_node};
+ghost use Rattle.erl_handshake.specs.declared.setup.Setup.{Setup};
 ghost use Rattle.erl_names.specs.declared.trunk.TrunkId.{TrunkId};
 ghost use Rattle.dist_model.specs.Names.{Name, same_pid};
 ghost use Rattle.dist_model.specs.Node.{Node, end_of, reaches};
@@ -43,7 +44,7 @@ ghost use Rattle.dist_model.specs.Keeping.{Bearings, ComesOfOthers, CountsOwn, I
 ghost use Rattle.dist_model.specs.Work.{Work, at_work};
 ghost use Rattle.dist_model.specs.Seen.{end_between, AreConnected};
 ghost use Rattle.dist_model.specs.Schedules as schedule;
-ghost use Rattle.dist_model.specs.Claims.{Agreement, AgreementWithin, AgreementInQuiet, PendingOnItsWay, PendingWithin, NoLinkToTheDead, NoLinkToItself, LinkNeedsConnection, LivingMeans, SpawnedLivesOrEnded, DownHoldsNothing, OneTrunk, NoUpBesideLosing, CreationsAreTold, CreationsAreKnown, ConnectedKnow, NoneOfTheFuture, KnownForGood, EventIsLocal, KeepsOrder, KeepsOwnOrder, EverySignalFits, EverySignalFitsWithin};
+ghost use Rattle.dist_model.specs.Claims.{Agreement, AgreementWithin, AgreementInQuiet, PendingOnItsWay, PendingWithin, NoLinkToTheDead, NoLinkToItself, LinkNeedsConnection, LivingMeans, SpawnedLivesOrEnded, DownHoldsNothing, OneTrunk, NoUpBesideLosing, IntroductionsAreTold, IntroductionsAreKnown, ConnectedKnow, NoneOfTheFuture, KnownForGood, EventIsLocal, KeepsOrder, KeepsOwnOrder, EverySignalFits, EverySignalFitsWithin};
 ghost use Rattle.dist_model.specs.Histories.{Throughout, told, history};
 ghost use Rattle.dist_model.specs.Causes.{Reacts};
 ghost use Rattle.dist_model.specs.Fates.{ReactsRightly, DownsRightly, ReactsForTrueCause, ExitsTellTrueCause, ExitsTellTrueCauseWithin, AnsweredOnce, DownOnce, DownToTheOwner, NoDownWhereDemonitored, DownsTellTrueCause, DownOrRegistered};
@@ -124,14 +125,14 @@ pub fn due_first()
     ensures first { Always DueFirst }
 {}
 
-/// Proves that a side knows its peer's creation. While a node's side is not gone, each creation
-/// that it told on the trunk, in flight or received, is that of its running incarnation. Connected
-/// nodes therefore know each other's creation, and accept no signal from a process of a later
-/// incarnation. The known creation stays right while the peer's side is not gone, in any later
-/// world too. (ERTS User's Guide, Distribution Protocol, Distribution Handshake.)
+/// Proves that a side knows its peer's creation and flags. While a node's side is not gone, each
+/// creation that it told on the trunk, in flight or received, is that of its running incarnation,
+/// and each flag word its own. Connected nodes therefore know each other's creation and flags, and
+/// accept no signal from a process of a later incarnation. The known introduction stays right while
+/// the peer's side is not gone, in any later world too. (ERTS User's Guide, Distribution Protocol, Distribution Handshake.)
 pub fn peers_are_known()
-    ensures told { Always CreationsAreTold }
-    ensures known { Always CreationsAreKnown }
+    ensures told { Always IntroductionsAreTold }
+    ensures known { Always IntroductionsAreKnown }
     ensures connected { Always ConnectedKnow }
     ensures future { Always NoneOfTheFuture }
     ensures lasting { Always KnownForGood }
@@ -139,7 +140,7 @@ pub fn peers_are_known()
 
 /// Proves that a MONITOR_P reaches the incarnation that its caller's node knew. Take a MONITOR_P in
 /// flight to a node whose side is not gone. When its owner called Monitor, the owner's node knew
-/// the target's node in the creation that it still has. The same holds within one node, and for
+/// the target's node by the creation and flags that it still has. The same holds within one node, and for
 /// each MONITOR_P at the moment of its delivery. (ERTS User's Guide, Distribution Protocol,
 /// Distribution Handshake; Reference Manual, Processes, Monitors.)
 pub fn monitors_know_their_node()
@@ -191,7 +192,7 @@ pub fn every_run_is_safe()
 /// DOWN in the report has a true cause in that world and its history. A report of `OutOfMemory` has
 /// none. (Reference Manual, Processes, Links and Monitors.)
 pub fn every_report_is_safe()
-    ensures told { (nodes : List (Name × List ℕ)) (before behind : List Event) (event : Event)
+    ensures told { (nodes : List (Name × Setup)) (before behind : List Event) (event : Event)
         (earlier later : List Report) (report : Report) (world : World) →
         length before ≡ length earlier → Runs (opening nodes) (before ++ event ∷ behind) (earlier ++ report ∷ later) world →
         (now : World) × Runs (opening nodes) before earlier now ×
@@ -399,7 +400,7 @@ pub fn arrival_is_taken()
 /// not up yet. Its links and its monitors belong to living processes. (ERTS User's Guide,
 /// Distribution Protocol, Distribution Handshake; Reference Manual, Processes, Links and Monitors.)
 pub fn nodes_stay_steady()
-    ensures new { (name : Name) (cookie : List ℕ) → Steady (new_node name cookie) }
+    ensures new { (name : Name) (setup : Setup) → Steady (new_node name setup) }
     ensures kept { (names : List Name) (node : Node) (now : event.NodeEvent) (answer : Answer) (work : Work) →
         Steady node → at_node names node now ≡ Accepts answer work → Steady work.node }
 {}
@@ -409,7 +410,7 @@ pub fn nodes_stay_steady()
 /// meets it. Every event keeps it, except an arrival on a trunk of the node's own that it has no
 /// side of. (own)
 pub fn own_trunks_are_counted()
-    ensures new { (name : Name) (cookie : List ℕ) → CountsOwn (new_node name cookie) }
+    ensures new { (name : Name) (setup : Setup) → CountsOwn (new_node name setup) }
     ensures kept { (names : List Name) (node : Node) (now : event.NodeEvent) (answer : Answer) (work : Work) →
         CountsOwn node → ComesOfOthers node now → at_node names node now ≡ Accepts answer work → CountsOwn work.node }
     ensures stays { (names : List Name) (node : Node) (now : event.NodeEvent) (answer : Answer) (work : Work) →

@@ -1,6 +1,8 @@
--- What a node says that it can do: a word in which each flag has a bit.
+-- The flags by which a node tells its abilities: a word in which each flag has a bit.
 -- (ERTS User's Guide, Distribution Protocol, Distribution Flags.)
 use Rattle.std.specs.Prelude.{ℕ, Bool, not, ◌==◌, List, [], ◌∷◌, bit_and}
+use Rattle.erl_handshake.specs.declared.profile.Profile.{Profile}
+use Rattle.erl_handshake.specs.declared.profile.Profile.TheVariants as profile
 use Rattle.erl_handshake.specs.declared.flags.Flag.{Flag}
 use Rattle.erl_handshake.specs.declared.flags.Flag.TheVariants.{ExtendedReferences, DistMonitor, DistMonitorName, ExtendedPidsPorts}
 use Rattle.erl_handshake.specs.declared.flags.Flag.TheVariants.{Utf8Atoms, BigCreation, ExitPayload, Handshake23, UnlinkId, V4Nc}
@@ -32,3 +34,8 @@ mandatory_flags = ExtendedReferences ∷ DistMonitor ∷ ExtendedPidsPorts ∷ U
 -- the same as a word
 abbrev pub mandatory : ℕ
 mandatory = 0x40305010C
+
+-- what a node of a profile offers: the mandatory flags, and in the second EXIT_PAYLOAD too
+abbrev pub flags_of : Profile → ℕ
+flags_of profile.One = mandatory
+flags_of profile.Two = 0x40345010C

@@ -7,7 +7,7 @@ use crate::admission::{Admission, OtherConnections, admission_of, status_due};
 use crate::digesting::digest;
 use crate::fault::ShakeFault;
 use crate::identity::Identity;
-use crate::introduction::{introduction_fault, is_answered};
+use crate::introduction::{Introduction, introduction_fault, is_answered};
 use crate::message::ShakeMsg;
 use crate::status::Status;
 use crate::turn::Turn;
@@ -27,34 +27,34 @@ pub enum AcceptorState {
     AwaitsAdmission {
         /// The acceptor's challenge.
         challenge: u32,
-        /// The dialer's creation.
-        creation: u32,
+        /// The dialer's creation and flags.
+        introduction: Introduction,
     },
     /// The dialer's answer to the status `alive`.
     AwaitsAnswer {
         /// The acceptor's challenge.
         challenge: u32,
-        /// The dialer's creation.
-        creation: u32,
+        /// The dialer's creation and flags.
+        introduction: Introduction,
     },
     /// The node's word that the challenge may be sent.
     AwaitsTurn {
         /// The acceptor's challenge.
         challenge: u32,
-        /// The dialer's creation.
-        creation: u32,
+        /// The dialer's creation and flags.
+        introduction: Introduction,
     },
     /// The dialer's reply to the challenge.
     AwaitsReply {
         /// The acceptor's challenge.
         challenge: u32,
-        /// The dialer's creation.
-        creation: u32,
+        /// The dialer's creation and flags.
+        introduction: Introduction,
     },
     /// Nothing: the nodes are connected.
     Done {
-        /// The dialer's creation.
-        creation: u32,
+        /// The dialer's creation and flags.
+        introduction: Introduction,
     },
     /// Nothing: the handshake has ended without a connection.
     Over,
@@ -82,12 +82,12 @@ impl AcceptorState {
             AcceptorState::AwaitsName => on_name(dialer, message, word),
             AcceptorState::AwaitsAnswer {
                 challenge,
-                creation,
-            } => on_answer(challenge, creation, message),
+                introduction,
+            } => on_answer(challenge, introduction, message),
             AcceptorState::AwaitsReply {
                 challenge,
-                creation,
-            } => on_reply(own, challenge, creation, message),
+                introduction,
+            } => on_reply(own, challenge, introduction, message),
             AcceptorState::AwaitsAdmission { .. }
             | AcceptorState::AwaitsTurn { .. }
             | AcceptorState::Done { .. }
@@ -115,14 +115,14 @@ impl AcceptorState {
     {
         let AcceptorState::AwaitsAdmission {
             challenge,
-            creation,
+            introduction,
         } = self
         else {
             return None;
         };
         let said = status_due(trunk, own, others);
         Some((
-            after_status(said, challenge, creation),
+            after_status(said, challenge, introduction),
             admission_of(trunk.count, said, others),
         ))
     }
@@ -143,7 +143,7 @@ impl AcceptorState {
     {
         let AcceptorState::AwaitsTurn {
             challenge,
-            creation,
+            introduction,
         } = self
         else {
             return Ok(None);
@@ -151,7 +151,7 @@ impl AcceptorState {
         let message = own.send_challenge(challenge)?;
         let state = AcceptorState::AwaitsReply {
             challenge,
-            creation,
+            introduction,
         };
         Ok(Some((state, message)))
     }
@@ -173,17 +173,20 @@ fn on_name(dialer: &NodeName, message: &ShakeMsg, word: u32) -> Turn<AcceptorSta
     }
     Turn::waits(AcceptorState::AwaitsAdmission {
         challenge: word,
-        creation: *creation,
+        introduction: Introduction {
+            creation: *creation,
+            flags: flags.bits(),
+        },
     })
 }
 
-fn on_answer(challenge: u32, creation: u32, message: &ShakeMsg) -> Turn<AcceptorState>
-    ensures { result ≡ table.awaits_answer challenge creation message.now }
+fn on_answer(challenge: u32, introduction: Introduction, message: &ShakeMsg) -> Turn<AcceptorState>
+    ensures { result ≡ table.awaits_answer challenge introduction message.now }
 {
     match message {
         ShakeMsg::Status(Status::True) => Turn::waits(AcceptorState::AwaitsTurn {
             challenge,
-            creation,
+            introduction,
         }),
         ShakeMsg::Status(Status::False) => ends(ShakeFault::Nok),
         _ => ends(ShakeFault::BadMessage),
@@ -193,10 +196,10 @@ fn on_answer(challenge: u32, creation: u32, message: &ShakeMsg) -> Turn<Acceptor
 fn on_reply(
     own: &Identity,
     challenge: u32,
-    creation: u32,
+    introduction: Introduction,
     message: &ShakeMsg,
 ) -> Turn<AcceptorState>
-    ensures { result ≡ table.awaits_reply own.now challenge creation message.now }
+    ensures { result ≡ table.awaits_reply own.now challenge introduction message.now }
 {
     let ShakeMsg::ChallengeReply {
         challenge: theirs,
@@ -211,7 +214,7 @@ fn on_reply(
     let acknowledgement = ShakeMsg::ChallengeAck {
         digest: digest(own.cookie.as_slice(), *theirs),
     };
-    Turn::done(Some(acknowledgement), AcceptorState::Done { creation })
+    Turn::done(Some(acknowledgement), AcceptorState::Done { introduction })
 }
 
 // The handshake ends.
@@ -221,18 +224,18 @@ fn ends(why: ShakeFault) -> Turn<AcceptorState>
     Turn::ended(why, AcceptorState::Over)
 }
 
-// What the acceptor awaits once it has said this status.
-fn after_status(said: Status, challenge: u32, creation: u32) -> AcceptorState
-    ensures { result ≡ table.after_status said challenge creation }
+// Returns the state of the acceptor once it has said this status.
+fn after_status(said: Status, challenge: u32, introduction: Introduction) -> AcceptorState
+    ensures { result ≡ table.after_status said challenge introduction }
 {
     match said {
         Status::Ok | Status::OkSimultaneous => AcceptorState::AwaitsTurn {
             challenge,
-            creation,
+            introduction,
         },
         Status::Alive => AcceptorState::AwaitsAnswer {
             challenge,
-            creation,
+            introduction,
         },
         Status::Nok | Status::NotAllowed | Status::True | Status::False => AcceptorState::Over,
     }

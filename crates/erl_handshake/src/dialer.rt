@@ -5,7 +5,7 @@ ghost use Rattle.erl_handshake.specs.Roles as table;
 use crate::digesting::digest;
 use crate::fault::ShakeFault;
 use crate::identity::Identity;
-use crate::introduction::{introduction_fault, is_answered};
+use crate::introduction::{Introduction, introduction_fault, is_answered};
 use crate::message::ShakeMsg;
 use crate::status::Status;
 use crate::turn::Turn;
@@ -33,13 +33,13 @@ pub enum DialerState {
     AwaitsAck {
         /// The dialer's challenge.
         challenge: u32,
-        /// The acceptor's creation.
-        creation: u32,
+        /// The acceptor's creation and flags.
+        introduction: Introduction,
     },
     /// Nothing: the nodes are connected.
     Done {
-        /// The acceptor's creation.
-        creation: u32,
+        /// The acceptor's creation and flags.
+        introduction: Introduction,
     },
     /// Nothing: the handshake has ended without a connection.
     Over,
@@ -63,8 +63,8 @@ impl DialerState {
             }
             DialerState::AwaitsAck {
                 challenge,
-                creation,
-            } => on_ack(own, challenge, creation, message),
+                introduction,
+            } => on_ack(own, challenge, introduction, message),
             DialerState::Done { .. } | DialerState::Over => ends(ShakeFault::BadMessage),
         }
     }
@@ -114,13 +114,21 @@ fn on_challenge(
         reply,
         DialerState::AwaitsAck {
             challenge,
-            creation: *creation,
+            introduction: Introduction {
+                creation: *creation,
+                flags: flags.bits(),
+            },
         },
     )
 }
 
-fn on_ack(own: &Identity, challenge: u32, creation: u32, message: &ShakeMsg) -> Turn<DialerState>
-    ensures { result ≡ table.awaits_ack own.now challenge creation message.now }
+fn on_ack(
+    own: &Identity,
+    challenge: u32,
+    introduction: Introduction,
+    message: &ShakeMsg,
+) -> Turn<DialerState>
+    ensures { result ≡ table.awaits_ack own.now challenge introduction message.now }
 {
     let ShakeMsg::ChallengeAck { digest: answer } = message else {
         return ends(ShakeFault::BadMessage);
@@ -128,7 +136,7 @@ fn on_ack(own: &Identity, challenge: u32, creation: u32, message: &ShakeMsg) -> 
     if !is_answered(&own.cookie, challenge, answer) {
         return ends(ShakeFault::BadDigest);
     }
-    Turn::done(None, DialerState::Done { creation })
+    Turn::done(None, DialerState::Done { introduction })
 }
 
 // The handshake ends.

@@ -1,15 +1,18 @@
 //! Laws of the definitions. Each function does nothing: its contract is the law.
-ghost use Rattle.std.specs.Prelude.{◌≡◌, ◌↔◌, ◌<◌, ◌≤◌, ◌^◌, ◌++◌, List, ℕ, length, Option, Some, Result, Ok, IsTrue, codes, decimal, get_or};
+ghost use Rattle.std.specs.Prelude.{◌≡◌, ◌↔◌, ◌<◌, ◌≤◌, ◌^◌, ◌++◌, List, ℕ, length, Option, Some, Result, Ok, IsTrue, true, false, codes, decimal, get_or};
 ghost use Rattle.std.specs.List.{AllPass};
 ghost use Rattle.std.specs.Int.{IsBitSet};
 ghost use Rattle.readers.specs.Reading.{AreBytes};
 ghost use Rattle.erl_term.specs.declared.refusal.Refusal.{Refusal};
 ghost use Rattle.erl_handshake.specs.declared.flags.Flag.{Flag};
+ghost use Rattle.erl_handshake.specs.declared.flags.Flag.TheVariants as Flag;
 ghost use Rattle.erl_handshake.specs.declared.message.Role.{Role};
 ghost use Rattle.erl_handshake.specs.declared.message.ShakeMsg.{ShakeMsg};
+ghost use Rattle.erl_handshake.specs.declared.profile.Profile.{Profile};
+ghost use Rattle.erl_handshake.specs.declared.profile.Profile.TheVariants as profile;
 ghost use Rattle.erl_handshake.specs.Answer.{IsShakeDue};
 ghost use Rattle.erl_handshake.specs.Digest.{digest_of};
-ghost use Rattle.erl_handshake.specs.Flags.{flag_value, offers, has_all_of, mandatory, mandatory_flags};
+ghost use Rattle.erl_handshake.specs.Flags.{flag_value, flags_of, offers, has_all_of, mandatory, mandatory_flags};
 ghost use Rattle.erl_handshake.specs.Messages.{HasFields, IsFor, IsShake, written};
 
 /// To any bytes, and a reader of either role, one answer is due, and no second.
@@ -46,6 +49,15 @@ pub fn flags_by_bits()
     ensures offered { (word : ℕ) (flag : Flag) (k : ℕ) → flag_value flag ≡ 2 ^ k → IsTrue (offers word flag) ↔ IsBitSet word k }
     ensures all { (word required : ℕ) → IsTrue (has_all_of word required) ↔ ((k : ℕ) → IsBitSet required k → IsBitSet word k) }
     ensures mandatory { (word : ℕ) → IsTrue (has_all_of word mandatory) ↔ AllPass (offers word) mandatory_flags }
+{}
+
+/// Proves that each profile has all flags that are mandatory. The second offers EXIT_PAYLOAD, and the
+/// first doesn't; neither offers DIST_MONITOR_NAME.
+pub fn flags_of_profiles()
+    ensures mandatory { (p : Profile) → has_all_of (flags_of p) mandatory ≡ true }
+    ensures no_payload { offers (flags_of profile.One) Flag.ExitPayload ≡ false }
+    ensures payload { offers (flags_of profile.Two) Flag.ExitPayload ≡ true }
+    ensures no_names { (p : Profile) → offers (flags_of p) Flag.DistMonitorName ≡ false }
 {}
 
 /// A digest has 16 bytes. The challenge in decimal is 0, or begins with no 0; and no two challenges

@@ -11,7 +11,8 @@ ghost use Rattle.erl_handshake.specs.declared.dialer.DialerState.TheVariants as 
 ghost use Rattle.erl_handshake.specs.declared.acceptor.AcceptorState.{AcceptorState};
 ghost use Rattle.erl_handshake.specs.declared.acceptor.AcceptorState.TheVariants as acceptor;
 ghost use Rattle.erl_handshake.specs.Digest.{digest_of};
-ghost use Rattle.erl_handshake.specs.Roles.{dialer_turn, acceptor_turn, introduction_fault, is_answered};
+ghost use Rattle.erl_handshake.specs.declared.introduction.Introduction.{Introduction};
+ghost use Rattle.erl_handshake.specs.Roles.{dialer_turn, acceptor_turn, introduction_fault, introduction_of, is_answered};
 ghost use Rattle.erl_handshake.specs.Admission.{is_superseded, status_due};
 ghost use Rattle.erl_handshake.specs.Flags.{has_all_of, mandatory};
 ghost use Rattle.erl_handshake.specs.Exchange.{met};
@@ -21,10 +22,10 @@ ghost use Rattle.erl_handshake.specs.Exchange.{met};
 pub fn done_only_by_digest()
     ensures dialer { (own : Identity) (peer : List ℕ) (was : DialerState) (message : ShakeMsg) →
         (dialer_turn own peer was message).next.progress ≡ Progress.Done →
-        (challenge creation : ℕ) × (was ≡ dialer.AwaitsAck challenge creation) × (message ≡ ChallengeAck (digest_of own.cookie challenge)) }
+        (challenge : ℕ) × (introduction : Introduction) × (was ≡ dialer.AwaitsAck challenge introduction) × (message ≡ ChallengeAck (digest_of own.cookie challenge)) }
     ensures acceptor { (own : Identity) (peer : List ℕ) (was : AcceptorState) (message : ShakeMsg) (word : ℕ) →
         (acceptor_turn own peer was message word).next.progress ≡ Progress.Done →
-        (challenge creation theirs : ℕ) × (was ≡ acceptor.AwaitsReply challenge creation) × (message ≡ ChallengeReply theirs (digest_of own.cookie challenge)) }
+        (challenge theirs : ℕ) × (introduction : Introduction) × (was ≡ acceptor.AwaitsReply challenge introduction) × (message ≡ ChallengeReply theirs (digest_of own.cookie challenge)) }
 {}
 
 /// Of two attempts of one dialer one gives way to the other.
@@ -48,12 +49,12 @@ pub fn right_peers_pass()
 {}
 
 /// Two nodes that have nothing else between them, offer the mandatory flags and share a cookie, are
-/// connected when all that they send has come, and each knows the other's incarnation.
+/// connected when all that they send has come, and each knows the other's incarnation and flags.
 pub fn handshake_comes_about()
     ensures dialer { (own peer : Identity) (count challenge theirs : ℕ) → has_all_of own.flags mandatory ≡ true → has_all_of peer.flags mandatory ≡ true → own.cookie ≡ peer.cookie →
-        (met own peer count challenge theirs).dialer ≡ dialer.Done peer.creation }
+        (met own peer count challenge theirs).dialer ≡ dialer.Done (introduction_of peer) }
     ensures acceptor { (own peer : Identity) (count challenge theirs : ℕ) → has_all_of own.flags mandatory ≡ true → has_all_of peer.flags mandatory ≡ true → own.cookie ≡ peer.cookie →
-        (met own peer count challenge theirs).acceptor ≡ acceptor.Done own.creation }
+        (met own peer count challenge theirs).acceptor ≡ acceptor.Done (introduction_of own) }
 {
     right_peers_pass();
 }

@@ -28,11 +28,11 @@ fn read_as(is_same: Result<bool, Refusal>, len: usize) -> Result<Answer, Refusal
     }
 }
 
-// Returns the bytes of an item: no bytes where it can't be written.
-fn written_frame(alloc: Global, item: &Item) -> Result<Vec<u8>, Refusal> {
+// Returns the bytes of an item: no bytes where it can't be written. `payload` says where its reason stands.
+fn written_frame(alloc: Global, item: &Item, payload: bool) -> Result<Vec<u8>, Refusal> {
     match item {
         Item::Tick => Ok(Vec::from_slice(alloc, &[0, 0, 0, 0])?),
-        Item::Signal(signal) => match frame(alloc, signal) {
+        Item::Signal(signal) => match frame(alloc, signal, payload) {
             Ok(bytes) => Ok(bytes),
             Err(FrameError::OutOfMemory) => Err(Refusal::OutOfMemory),
             Err(_) => Ok(Vec::new(alloc)),
@@ -40,19 +40,19 @@ fn written_frame(alloc: Global, item: &Item) -> Result<Vec<u8>, Refusal> {
     }
 }
 
-// Returns true if an item has these bytes when it is written.
-fn is_written_as(alloc: Global, item: &Item, bytes: &[u8]) -> Result<bool, Refusal> {
-    let written = written_frame(alloc, item)?;
+// Returns true if an item has these bytes when it is written so.
+fn is_written_as(alloc: Global, item: &Item, payload: bool, bytes: &[u8]) -> Result<bool, Refusal> {
+    let written = written_frame(alloc, item, payload)?;
     let is_same = written.as_slice() == bytes;
     drop(written);
     Ok(is_same)
 }
 
-// Returns true if the item in these bytes has the same ones when it is written.
-fn frame_stays(alloc: Global, bytes: &[u8]) -> Result<bool, Refusal> {
+// Returns true if the item in these bytes has the same ones when it is written so.
+fn frame_stays(alloc: Global, payload: bool, bytes: &[u8]) -> Result<bool, Refusal> {
     match unframe(alloc, bytes) {
         Ok(Some((item, _))) => {
-            let is_same = is_written_as(alloc, &item, bytes);
+            let is_same = is_written_as(alloc, &item, payload, bytes);
             drop(item);
             is_same
         }
@@ -61,12 +61,17 @@ fn frame_stays(alloc: Global, bytes: &[u8]) -> Result<bool, Refusal> {
     }
 }
 
-// Returns true if an item stays the same once it was written and read.
-fn item_stays(alloc: Global, item: &Item) -> Result<bool, Refusal> {
-    let written = written_frame(alloc, item)?;
-    let is_same = frame_stays(alloc, written.as_slice());
+// Returns true if an item stays the same once it was written so and read.
+fn spelling_stays(alloc: Global, item: &Item, payload: bool) -> Result<bool, Refusal> {
+    let written = written_frame(alloc, item, payload)?;
+    let is_same = frame_stays(alloc, payload, written.as_slice());
     drop(written);
     is_same
+}
+
+// Returns true if an item stays the same once it was written and read, in both spellings.
+fn item_stays(alloc: Global, item: &Item) -> Result<bool, Refusal> {
+    Ok(spelling_stays(alloc, item, false)? && spelling_stays(alloc, item, true)?)
 }
 
 fn answer_to_frame(alloc: Global, bytes: &[u8]) -> Result<Answer, Refusal> {

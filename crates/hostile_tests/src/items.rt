@@ -154,4 +154,19 @@ pub const ALL: &[Sample] = &[
         reader: Reader::Connected,
         bytes: b"\0\0\0\x2Cp\x83h\x04a\x24a\x01Xw\x03b@h\0\0\0\x01\0\0\0\0\0\0\0\x01Xw\x03a@h\0\0\0\x01\0\0\0\0\0\0\0\x01",
     },
+    Sample {
+        name: "PAYLOAD_EXIT",
+        reader: Reader::Connected,
+        bytes: b"\0\0\0\x31p\x83h\x03a\x18Xw\x03b@h\0\0\0\x01\0\0\0\0\0\0\0\x01Xw\x03a@h\0\0\0\x01\0\0\0\0\0\0\0\x01\x83w\x04boom",
+    },
+    Sample {
+        name: "PAYLOAD_EXIT2",
+        reader: Reader::Connected,
+        bytes: b"\0\0\0\x31p\x83h\x03a\x1AXw\x03b@h\0\0\0\x01\0\0\0\0\0\0\0\x01Xw\x03a@h\0\0\0\x01\0\0\0\0\0\0\0\x01\x83w\x04boom",
+    },
+    Sample {
+        name: "PAYLOAD_MONITOR_P_EXIT",
+        reader: Reader::Connected,
+        bytes: b"\0\0\0Ip\x83h\x04a\x1CXw\x03b@h\0\0\0\x01\0\0\0\0\0\0\0\x01Xw\x03a@h\0\0\0\x01\0\0\0\0\0\0\0\x01Z\0\x03w\x03a@h\0\0\0\x01\0\0\0\x01\0\0\0\0\0\0\0\0\x83w\x04boom",
+    },
 ];

@@ -3,7 +3,7 @@ use crate::due::Due;
 use crate::states::{Dialed, State, Step, WORD};
 use conn_core::{Arrival, Side, SideState, Standing, Taken};
 use dist_model::{Answer, Command};
-use erl_handshake::{Cookie, Flags, Identity};
+use erl_handshake::{Cookie, Flags, Identity, Introduction, Profile, Setup};
 use erl_names::{Creation, NodeName, TrunkId};
 use erl_term::{Atom, Pid, Refusal};
 use link_core::End;
@@ -33,8 +33,8 @@ struct View {
     lives: bool,
     messages: usize,
     end: End,
-    here: Option<(SideState, Option<u32>)>,
-    there: Option<(SideState, Option<u32>)>,
+    here: Option<(SideState, Option<Introduction>)>,
+    there: Option<(SideState, Option<Introduction>)>,
 }
 
 /// A state that was reached.
@@ -127,7 +127,11 @@ fn go(alloc: Global, names: &Names, node: &mut Node, step: Step) -> Result<(), R
 }
 
 fn node_in(alloc: Global, names: &Names, state: State) -> Result<Node, Refusal> {
-    let mut node = Node::new(alloc, name(alloc, "a@h")?, cookie(alloc)?)?;
+    let setup = Setup {
+        cookie: cookie(alloc)?,
+        profile: Profile::One,
+    };
+    let mut node = Node::new(alloc, name(alloc, "a@h")?, setup)?;
     for part in state.steps {
         for step in *part {
             go(alloc, names, &mut node, *step)?;
@@ -136,9 +140,9 @@ fn node_in(alloc: Global, names: &Names, state: State) -> Result<Node, Refusal> 
     Ok(node)
 }
 
-fn side_of(node: &Node, trunk: &TrunkId) -> Option<(SideState, Option<u32>)> {
+fn side_of(node: &Node, trunk: &TrunkId) -> Option<(SideState, Option<Introduction>)> {
     match node.side(trunk) {
-        Some(side) => Some((side.standing.state(), side.standing.peer_creation())),
+        Some(side) => Some((side.standing.state(), side.standing.introduction())),
         None => None,
     }
 }
@@ -234,7 +238,7 @@ impl Machine {
     // The view after the side of the state has broken.
     fn broken(&self, before: View) -> View {
         let lost = self.state.standing.lost();
-        let side = Some((lost.state(), lost.peer_creation()));
+        let side = Some((lost.state(), lost.introduction()));
         match self.state.dialed {
             Dialed::Here => View {
                 here: side,

@@ -1,7 +1,7 @@
 //! The states in which a@h has a side of a connection with b@h, and the ways there.
 use crate::items::{ACK, CHALLENGE, MONITOR, NAME, OK, REPLY, Reader, TRUE};
 use conn_core::{SideState, Standing};
-use erl_handshake::{AcceptorState, DialerState};
+use erl_handshake::{AcceptorState, DialerState, Introduction};
 
 /// The word that each event draws, and so the challenge of each side.
 pub const WORD: u32 = 1234567890;
@@ -99,7 +99,19 @@ const CONNECTS: &[Step] = &[
     Step::Hears(Dialed::Here, ACK),
 ];
 
-const UP_TO_LATER: Standing = Standing::Up { creation: LATER };
+const OF_FIRST: Introduction = Introduction {
+    creation: 1,
+    flags: 0x4_0305_010C,
+};
+
+const OF_LATER: Introduction = Introduction {
+    creation: LATER,
+    flags: 0x4_0305_010C,
+};
+
+const UP_TO_LATER: Standing = Standing::Up {
+    introduction: OF_LATER,
+};
 
 const DIALING: State = State {
     name: "a dialer that awaits the status",
@@ -146,7 +158,7 @@ pub const ALL: &[State] = &[
         awaits: Awaits::Ack,
         standing: Standing::Dialing(DialerState::AwaitsAck {
             challenge: WORD,
-            creation: LATER,
+            introduction: OF_LATER,
         }),
         steps: &[
             DIALS,
@@ -174,7 +186,7 @@ pub const ALL: &[State] = &[
         awaits: Awaits::Answer,
         standing: Standing::Accepting(AcceptorState::AwaitsAnswer {
             challenge: WORD,
-            creation: 1,
+            introduction: OF_FIRST,
         }),
         steps: &[DIALS, CONNECTS, &[Step::Hears(Dialed::There, NAME)]],
         ..FRESH
@@ -184,7 +196,7 @@ pub const ALL: &[State] = &[
         awaits: Awaits::Turn,
         standing: Standing::Accepting(AcceptorState::AwaitsTurn {
             challenge: WORD,
-            creation: 1,
+            introduction: OF_FIRST,
         }),
         steps: &[
             DIALS,
@@ -201,7 +213,7 @@ pub const ALL: &[State] = &[
         awaits: Awaits::Reply,
         standing: Standing::Accepting(AcceptorState::AwaitsReply {
             challenge: WORD,
-            creation: 1,
+            introduction: OF_FIRST,
         }),
         steps: &[&[Step::Spawns, Step::Hears(Dialed::There, NAME)]],
         ..FRESH
@@ -210,7 +222,9 @@ pub const ALL: &[State] = &[
     State {
         name: "connected, as the acceptor",
         dialed: Dialed::There,
-        standing: Standing::Up { creation: 1 },
+        standing: Standing::Up {
+            introduction: OF_FIRST,
+        },
         creation: 1,
         steps: &[&[
             Step::Spawns,
@@ -240,7 +254,9 @@ pub const ALL: &[State] = &[
     State {
         name: "a connection that is lost",
         awaits: Awaits::Nothing,
-        standing: Standing::Losing { creation: LATER },
+        standing: Standing::Losing {
+            introduction: OF_LATER,
+        },
         steps: &[DIALS, CONNECTS, &[Step::Links, Step::Loses(Dialed::Here)]],
         ..UP
     },

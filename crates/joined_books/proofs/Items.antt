@@ -1,5 +1,5 @@
 -- The bytes of an item tell the item, and parcels that say the same carry the same.
-use Rattle.std.proofs.Common.{◌≡◌, ℕ, List, [], ◌++◌, refl, sym, ap, ◌∙◌, subst, arith}
+use Rattle.std.proofs.Common.{◌≡◌, ℕ, List, [], ◌++◌, false, refl, sym, ap, ◌∙◌, subst, arith}
 use Rattle.std.proofs.lemmas.Option.{same_Some}
 use Rattle.dist_model.specs.Items.{Handshake, Item, Signalled, Tick, kind_of}
 use Rattle.dist_model.specs.declared.report.Kind.{Kind}
@@ -58,7 +58,7 @@ apart x y differ e = differ (ap group e)
 
 pub bytes_tell_items : OneFrame → (x y : Item) → IsSpelled x → IsSpelled y → bytes_of x ≡ bytes_of y → x ≡ y
 bytes_tell_items one (Signalled s) (Signalled t) p q e =
-    let h = one (frame.Signal s) (frame.Signal t) (canonical_frame s) (canonical_frame t) [] [] p q (ap (λ b. b ++ []) e) in
+    let h = one (frame.Signal s) (frame.Signal t) (canonical_frame s false) (canonical_frame t false) [] [] p q (ap (λ b. b ++ []) e) in
     let same : s ≡ t = signals s t h.0 in ap Signalled same
   where
     signals : (s t : Signal) → ◌≡◌ {A = Framed} (frame.Signal s) (frame.Signal t) → s ≡ t

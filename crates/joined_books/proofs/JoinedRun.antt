@@ -28,8 +28,8 @@ use Rattle.node_history.specs.declared.entry.Entry.{Entry}
 use Rattle.std.specs.List.Sorted.{IsPermutation}
 
 module _ (nodes : Nodes) (books : List BookSeen) (in_place : AreInPlace nodes books) where
-  are_nodes : (k : ℕ) (d : BookSeen) → k < length books → AreNodes (get_or books k d).names k (get_or books k d).cookie nodes
-  are_nodes k d below = record { named = sym (in_place.each k d below).names; secret = sym (in_place.each k d below).cookie }
+  are_nodes : (k : ℕ) (d : BookSeen) → k < length books → AreNodes (get_or books k d).names k (get_or books k d).setup nodes
+  are_nodes k d below = record { named = sym (in_place.each k d below).names; secret = sym (in_place.each k d below).setup }
 
   owns : (k : ℕ) (d : BookSeen) → k < length books → own (get_or books k d) ≡ name_at nodes k
   owns k d below =
@@ -52,8 +52,8 @@ module _ (nodes : Nodes) (books : List BookSeen) (in_place : AreInPlace nodes bo
       one k d below =
           let book = get_or books k d in
           let place = (in_place.each k d below).place in
-          let named : AreNodes book.names book.place book.cookie nodes =
-          subst (λ n. AreNodes book.names n book.cookie nodes) (sym place) (are_nodes k d below) in
+          let named : AreNodes book.names book.place book.setup nodes =
+          subst (λ n. AreNodes book.names n book.setup nodes) (sym place) (are_nodes k d below) in
           let stands = (replay k d below).1 nodes named in
           (stands.book, subst (λ n. IsModelOf nodes n book stands.book) place (record { is = stands.is; follows = stands.follows }))
 

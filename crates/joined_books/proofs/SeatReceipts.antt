@@ -20,6 +20,7 @@ use Rattle.node_history.specs.declared.entry.Entry.{Entry}
 use Rattle.node_lock.specs.Seats.{IsEnteredAs}
 use Rattle.node_lock.specs.declared.seat.Asked.{Asked}
 use Rattle.node_lock.specs.declared.seat.Seat.{Seat}
+use Rattle.dist_books.specs.Acting.{nowhere}
 
 receipts_append : (node : ℕ) (xs ys : List Seat) → receipts_of node (xs ++ ys) ≡ receipts_of node xs ++ receipts_of node ys
 receipts_append node [] ys = refl

@@ -7,6 +7,8 @@ use Rattle.dist_model.proofs.Keys.{same_name_is, same_name_true}
 use Rattle.dist_model.specs.Names.{Name, same_name}
 use Rattle.joined_books.specs.Names.{IsInPlace}
 use Rattle.node_lock.specs.Seen.{BookSeen}
+use Rattle.dist_books.specs.Acting.{nowhere}
+use Rattle.erl_handshake.specs.declared.setup.Setup.{Setup}
 
 -- a test that is true, or false, of a fact that holds, or doesn't
 pub is_so : {H : Type 0} → H → IsTrue true ↔ H
@@ -35,16 +37,16 @@ read [] k x e below is = absurd (omega arith)
 read (y ∷ ys) zero x e below is = sym is
 read (y ∷ ys) (suc k) x e below is = read ys k x e (omega arith) is
 
--- the name and the cookie of a node that was read
-pub name_read : (nodes : Nodes) (k : ℕ) (d : Name × List ℕ) → k < length nodes → name_at nodes k ≡ (get_or nodes k d).0
+-- the name and the setup of a node that was read
+pub name_read : (nodes : Nodes) (k : ℕ) (d : Name × Setup) → k < length nodes → name_at nodes k ≡ (get_or nodes k d).0
 name_read [] k d below = absurd (omega arith)
 name_read (node ∷ nodes) zero d below = refl
 name_read (node ∷ nodes) (suc k) d below = name_read nodes k d (omega arith)
 
-pub cookie_read : (nodes : Nodes) (k : ℕ) (d : Name × List ℕ) → k < length nodes → (get_or nodes k ([], [])).1 ≡ (get_or nodes k d).1
-cookie_read [] k d below = absurd (omega arith)
-cookie_read (node ∷ nodes) zero d below = refl
-cookie_read (node ∷ nodes) (suc k) d below = cookie_read nodes k d (omega arith)
+pub setup_read : (nodes : Nodes) (k : ℕ) (d : Name × Setup) → k < length nodes → (get_or nodes k nowhere).1 ≡ (get_or nodes k d).1
+setup_read [] k d below = absurd (omega arith)
+setup_read (node ∷ nodes) zero d below = refl
+setup_read (node ∷ nodes) (suc k) d below = setup_read nodes k d (omega arith)
 
 -- no more books than nodes
 pub no_more : (nodes : Nodes) (books : List BookSeen) → ((k : ℕ) → k < length books → (d : BookSeen) → IsInPlace nodes k (get_or books k d))

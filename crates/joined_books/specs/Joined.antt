@@ -13,9 +13,9 @@ use Rattle.node_lock.specs.Seen.{BookSeen}
 use Rattle.node_lock.specs.Standing.{AreNodes, IsBook, IsBookOf, TellsEntry}
 use Rattle.node_history.specs.declared.entry.Entry.{Entry}
 
--- the book of a node, of these names and its cookie, and what the model keeps of it
+-- the book of a node, of these names and its setup, and what the model keeps of it
 pub record StandsFor (nodes : Nodes) (models : List Book) (k : ℕ) (book : BookSeen) : Type 0 where
-  pub named : AreNodes book.names k book.cookie nodes
+  pub named : AreNodes book.names k book.setup nodes
   pub is : IsBookOf (name_at nodes k) book.history book.outlets (book_at models k)
 
 -- the entry at a place, and the same in the model's run
@@ -42,7 +42,7 @@ IsTrace books entries = IsOrdered (part_at stamps_of books) entries
 
 -- a log replays each book
 abbrev pub Replays : BookSeen → Type 0
-Replays book = IsBook book.names book.place book.cookie book.history book.outlets
+Replays book = IsBook book.names book.place book.setup book.history book.outlets
 
 abbrev pub AllReplay : List BookSeen → Type 0
 AllReplay books = All Replays books

@@ -3,13 +3,14 @@ use Rattle.std.specs.Prelude.{◌≡◌, ◌≢◌, ◌⊎◌, ℕ, ◌<◌, Lis
 use Rattle.dist_books.specs.Acting.{Nodes, name_at, names_of}
 use Rattle.joined_books.specs.Each.{AllAt}
 use Rattle.node_lock.specs.Seen.{BookSeen}
+use Rattle.dist_books.specs.Acting.{nowhere}
 
--- of these nodes the book is of the one at this place: it has its cookie, and the names of all; and none before has its name
+-- of these nodes the book is of the one at this place: it has its setup, and the names of all; and none before has its name
 pub record IsInPlace (nodes : Nodes) (k : ℕ) (book : BookSeen) : Type 0 where
   pub within : k < length nodes
   pub place : book.place ≡ k
   pub names : book.names ≡ names_of nodes
-  pub cookie : book.cookie ≡ (slice_index_or nodes k ([], [])).1
+  pub setup : book.setup ≡ (slice_index_or nodes k nowhere).1
   pub once : (j : ℕ) → j < k → name_at nodes j ≢ name_at nodes k
 
 -- each book is, and each node has one

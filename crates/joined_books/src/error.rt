@@ -9,7 +9,7 @@ use thiserror::Error;
 /// Why books and seats don't join. Nodes and positions are counted from 0.
 #[derive(Debug, Drop, Error)]
 pub enum FinishError {
-    /// The book at this place isn't that of the node there: its name, its cookie or its list of names is
+    /// The book at this place isn't that of the node there: its name, its cookie, its profile or its list of names is
     /// another, or a node before has its name. Or the node at this place is the first that has no book.
     #[error("23 StrangeBook {node}")]
     StrangeBook {

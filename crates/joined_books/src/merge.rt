@@ -13,13 +13,13 @@ use crate::order::sorted;
 use crate::receipts::check_receipts;
 use crate::trace::Trace;
 use crate::wires::check_wires;
-use erl_handshake::Cookie;
+use erl_handshake::Setup;
 use erl_names::NodeName;
 use node_lock::{Book, Seat};
 use std::alloc::Global;
 
 // Whether each book is of the node of its place, and each node has one.
-fn check_names(nodes: &[(NodeName, Cookie)], books: &[Book]) -> Result<(), FinishError>
+fn check_names(nodes: &[(NodeName, Setup)], books: &[Book]) -> Result<(), FinishError>
     ensures ok { IfOk result (λ _. AreInPlace nodes.now books.now) }
     ensures err { IfErr result (λ e. (seats : List TheSeat) → IsFault nodes.now books.now seats e) }
 {
@@ -38,7 +38,7 @@ fn all_replay(books: &[Book])
     }
 }
 
-/// Compares the books of all nodes, of these names and cookies, with one another and with the seats of
+/// Compares the books of all nodes, of these names and setups, with one another and with the seats of
 /// all callers, and merges them. Then the trace has all entries of all books, each once, by stamp and then
 /// by node (`trace`). They are one run of the model's world of these nodes, from its opening to the world
 /// of the books, with what was sent and not yet taken on its ways, and the run is safe at each of its
@@ -55,7 +55,7 @@ fn all_replay(books: &[Book])
 /// one of these tests, or for the trace.
 pub fn merge_books(
     alloc: Global,
-    nodes: &[(NodeName, Cookie)],
+    nodes: &[(NodeName, Setup)],
     books: &[Book],
     seats: &[Seat],
 ) -> Result<Trace, FinishError>

@@ -10,7 +10,7 @@ ghost use Rattle.joined_books.specs.Replayed.{HappensAgain, IsUnopened};
 ghost use Rattle.world_core.specs.Stands.{StandsFor};
 
 use crate::trace::{Placed, Trace};
-use erl_handshake::Cookie;
+use erl_handshake::Setup;
 use erl_names::NodeName;
 use erl_term::Refusal;
 use node_history::{Entry, copied_event};
@@ -18,22 +18,19 @@ use node_lock::Book;
 use std::alloc::{AllocError, Global};
 use world_core::{Event, World};
 
-// Copies of names and cookies.
-fn copied(
-    alloc: Global,
-    nodes: &[(NodeName, Cookie)],
-) -> Result<Vec<(NodeName, Cookie)>, AllocError>
+// Copies of names and setups.
+fn copied(alloc: Global, nodes: &[(NodeName, Setup)]) -> Result<Vec<(NodeName, Setup)>, AllocError>
     ensures { IfOk result (λ copies. copies.items ≡ nodes.now) }
 {
     let mut copies = Vec::with_capacity(alloc, nodes.len())?;
-    for (name, cookie) in nodes {
-        copies.push((name.clone()?, cookie.clone()?))?;
+    for (name, setup) in nodes {
+        copies.push((name.clone()?, setup.clone()?))?;
     }
     Ok(copies)
 }
 
 // The world of these nodes before anything has happened.
-fn opened(alloc: Global, nodes: &[(NodeName, Cookie)]) -> Result<World, Refusal>
+fn opened(alloc: Global, nodes: &[(NodeName, Setup)]) -> Result<World, Refusal>
     ensures ok { IfOk result (λ world. StandsFor world (opening nodes.now)) }
     ensures err { IfErr result (IsUnopened nodes.now) }
 {
@@ -84,7 +81,7 @@ fn happens(alloc: Global, world: &mut World, node: usize, entry: &Entry) -> Resu
 /// isn't in the books.
 pub fn replay(
     alloc: Global,
-    nodes: &[(NodeName, Cookie)],
+    nodes: &[(NodeName, Setup)],
     books: &[Book],
     trace: &Trace,
 ) -> Result<World, Refusal>

@@ -46,12 +46,12 @@ module _ (trunk : TrunkId) (message : ShakeMsg) (work : Work) where
   pub heard_accepted : (state : State) (side : TrunkSide) → IsAccepted (handshake_at state trunk side message work)
   heard_accepted (AwaitsStatus word) side = dialer_accepted side (DialerState.AwaitsStatus word)
   heard_accepted (AwaitsChallenge word) side = dialer_accepted side (DialerState.AwaitsChallenge word)
-  heard_accepted (AwaitsAck word) side = dialer_accepted side (DialerState.AwaitsAck word side.peer_creation)
+  heard_accepted (AwaitsAck word) side = dialer_accepted side (DialerState.AwaitsAck word side.introduction)
   heard_accepted (Asked word) side =
       answer_accepted
-      (acceptor_turn (identity work.node) side.peer (AcceptorState.AwaitsAnswer word side.peer_creation) message 0).next.progress
+      (acceptor_turn (identity work.node) side.peer (AcceptorState.AwaitsAnswer word side.introduction) message 0).next.progress
       side word
-  heard_accepted (Accepting word) side = acceptor_accepted side (AcceptorState.AwaitsReply word side.peer_creation)
+  heard_accepted (Accepting word) side = acceptor_accepted side (AcceptorState.AwaitsReply word side.introduction)
   heard_accepted _ side = (_, _, refl)
 
 pub taken_accepted : (trunk : TrunkId) (side : TrunkSide) (item : Item) (work : Work) → IsAccepted (on_up trunk side item work)

@@ -17,7 +17,6 @@ use Rattle.dist_model.specs.Node.{Node, side_where}
 use Rattle.dist_model.specs.Sides.{Gone, Losing, Parked, State, TrunkSide, in_state, is_gone, is_losing, is_parked, is_up}
 use Rattle.dist_model.specs.Sides as model
 use Rattle.dist_model.specs.Work.{Work, at_work}
-use Rattle.erl_handshake.specs.Flags.{mandatory}
 use Rattle.erl_handshake.specs.declared.acceptor.AcceptorState.TheVariants as acceptor
 use Rattle.erl_handshake.specs.declared.dialer.DialerState.TheVariants as dialer
 use Rattle.erl_names.specs.Order.{trunk_cmp}
@@ -30,11 +29,12 @@ use Rattle.node_plan.specs.declared.plan.Plan.{Plan}
 use Rattle.node_tables.specs.Changes.{is_gone_in, IsTowards, NoOtherUp}
 use Rattle.node_tables.specs.Standings.{standing_side, state_of}
 use Rattle.dist_model.proofs.Sides.{up_engaged}
+use Rattle.erl_handshake.specs.declared.introduction.Introduction.{Introduction}
 
 -- a plan leaves the node what it introduces itself as
 pub same_identity : (plan : Plan) (m : Node) (work : Work) → Makes plan m work → identity work.node ≡ identity m
 same_identity plan m work h = let names = named_after plan.change plan.draws m.mint in
-    ap identity h.node ∙ (λ i. record { name = names.0 i; creation = names.1 i; flags = mandatory; cookie = m.cookie })
+    ap identity h.node ∙ (λ i. record { name = names.0 i; creation = names.1 i; flags = m.flags; cookie = m.cookie })
 
 -- ---- of the sides towards one peer one is engaged
 
@@ -76,7 +76,7 @@ there_kept sides u t v n h = ap is_gone_in (fm.get-insert trunk_total sides u v 
 -- ---- the older connection is lost
 
 pub lost_up : (y : Name) (st : Standing) → is_up (state_of st) ≡ true → standing_side y (lost st) ≡ in_state Losing (standing_side y st)
-lost_up y (standing.Up creation) h = refl
+lost_up y (standing.Up introduction) h = refl
 lost_up y (standing.Dialing dialer.Over) h = cc
 lost_up y (standing.Accepting acceptor.Over) h = cc
 lost_up y st h = cc
@@ -110,21 +110,21 @@ parks_behind t s w n e h =
 
 -- ---- what the side waits for
 
-pub asked_is : (st : Standing) (w creation : ℕ) → asked_in st ≡ Some (w, creation)
-    → st ≡ standing.Accepting (acceptor.AwaitsAnswer w creation)
-asked_is (standing.Accepting (acceptor.AwaitsAnswer v c)) w creation h =
-    let e = same_Some (v, c) (w, creation) h in (λ i. standing.Accepting (acceptor.AwaitsAnswer ((e i).0) ((e i).1)))
-asked_is st w creation h = cc
+pub asked_is : (st : Standing) (w : ℕ) (introduction : Introduction) → asked_in st ≡ Some (w, introduction)
+    → st ≡ standing.Accepting (acceptor.AwaitsAnswer w introduction)
+asked_is (standing.Accepting (acceptor.AwaitsAnswer v c)) w introduction h =
+    let e = same_Some (v, c) (w, introduction) h in (λ i. standing.Accepting (acceptor.AwaitsAnswer ((e i).0) ((e i).1)))
+asked_is st w introduction h = cc
 
-pub parked_is : (st : Standing) (w creation : ℕ) → parked_in st ≡ Some (w, creation)
-    → st ≡ standing.Accepting (acceptor.AwaitsTurn w creation)
-parked_is (standing.Accepting (acceptor.AwaitsTurn v c)) w creation h =
-    let e = same_Some (v, c) (w, creation) h in (λ i. standing.Accepting (acceptor.AwaitsTurn ((e i).0) ((e i).1)))
-parked_is st w creation h = cc
+pub parked_is : (st : Standing) (w : ℕ) (introduction : Introduction) → parked_in st ≡ Some (w, introduction)
+    → st ≡ standing.Accepting (acceptor.AwaitsTurn w introduction)
+parked_is (standing.Accepting (acceptor.AwaitsTurn v c)) w introduction h =
+    let e = same_Some (v, c) (w, introduction) h in (λ i. standing.Accepting (acceptor.AwaitsTurn ((e i).0) ((e i).1)))
+parked_is st w introduction h = cc
 
 pub not_parked : (st : Standing) (t : TrunkId) (s : TrunkSide) (work : Work) → parked_in st ≡ None
     → released_by (state_of st) t s work ≡ work
-not_parked (standing.Accepting (acceptor.AwaitsTurn w creation)) t s work h = cc
+not_parked (standing.Accepting (acceptor.AwaitsTurn w introduction)) t s work h = cc
 not_parked (standing.Dialing dialer.Over) t s work h = refl
 not_parked st t s work h = refl
 

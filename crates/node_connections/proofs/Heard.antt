@@ -31,6 +31,8 @@ use Rattle.erl_names.specs.declared.trunk.TrunkId.{TrunkId}
 use Rattle.node_connections.proofs.Stood.{not_gone_engaged}
 use Rattle.node_connections.specs.Waiting.{asked_in}
 use Rattle.node_tables.specs.Standings.{is_settled, standing_side, state_of}
+use Rattle.erl_handshake.specs.declared.introduction.Introduction.{Introduction}
+use Rattle.dist_model.specs.Sides.{untold}
 
 -- ---- whether the handshake goes on
 
@@ -76,7 +78,7 @@ taken_no_item _ message sent item h = cc
 -- ---- how the side stands after it
 
 dialer_stands : (y : Name) (was : State) (d : DialerState)
-    → standing_side y (of_dialer d) ≡ dialer_side (record { peer = y; peer_creation = 0; state = was }) d
+    → standing_side y (of_dialer d) ≡ dialer_side (record { peer = y; introduction = untold; state = was }) d
 dialer_stands y was (dialer.AwaitsStatus w) = refl
 dialer_stands y was d = refl
 
@@ -84,36 +86,36 @@ dialer_settled : (d : DialerState) → is_settled (of_dialer d) ≡ true
 dialer_settled (dialer.AwaitsStatus w) = refl
 dialer_settled d = refl
 
-ack_stands : (own : Identity) (y : Name) (w creation : ℕ) (message : ShakeMsg)
-    → standing_side y (of_dialer (awaits_ack own w creation message).state)
-    ≡ dialer_side (standing_side y (standing.Dialing (dialer.AwaitsAck w creation))) (awaits_ack own w creation message).state
-ack_stands own y w creation (ShakeMsg.ChallengeAck digest) = go (is_answered own.cookie w digest) refl
+ack_stands : (own : Identity) (y : Name) (w : ℕ) (introduction : Introduction) (message : ShakeMsg)
+    → standing_side y (of_dialer (awaits_ack own w introduction message).state)
+    ≡ dialer_side (standing_side y (standing.Dialing (dialer.AwaitsAck w introduction))) (awaits_ack own w introduction message).state
+ack_stands own y w introduction (ShakeMsg.ChallengeAck digest) = go (is_answered own.cookie w digest) refl
   where
     turn : Bool → DialerState
-    turn b = cond b (dialer.Done creation) dialer.Over
+    turn b = cond b (dialer.Done introduction) dialer.Over
 
     side : TrunkSide
-    side = standing_side y (standing.Dialing (dialer.AwaitsAck w creation))
+    side = standing_side y (standing.Dialing (dialer.AwaitsAck w introduction))
 
     go : (b : Bool) → is_answered own.cookie w digest ≡ b
-        → standing_side y (of_dialer (awaits_ack own w creation (ShakeMsg.ChallengeAck digest)).state)
-        ≡ dialer_side side (awaits_ack own w creation (ShakeMsg.ChallengeAck digest)).state
+        → standing_side y (of_dialer (awaits_ack own w introduction (ShakeMsg.ChallengeAck digest)).state)
+        ≡ dialer_side side (awaits_ack own w introduction (ShakeMsg.ChallengeAck digest)).state
     go true e = rw e refl
     go false e = rw e refl
-ack_stands own y w creation message = refl
+ack_stands own y w introduction message = refl
 
-pub record Settles (own : Identity) (y : Name) (w creation : ℕ) (message : ShakeMsg) : Type 0 where
-  pub settled : is_settled (of_acceptor (awaits_reply own w creation message).state) ≡ true
-  pub stands : standing_side y (of_acceptor (awaits_reply own w creation message).state)
-      ≡ acceptor_side (standing_side y (standing.Accepting (acceptor.AwaitsReply w creation))) (awaits_reply own w creation message).state
+pub record Settles (own : Identity) (y : Name) (w : ℕ) (introduction : Introduction) (message : ShakeMsg) : Type 0 where
+  pub settled : is_settled (of_acceptor (awaits_reply own w introduction message).state) ≡ true
+  pub stands : standing_side y (of_acceptor (awaits_reply own w introduction message).state)
+      ≡ acceptor_side (standing_side y (standing.Accepting (acceptor.AwaitsReply w introduction))) (awaits_reply own w introduction message).state
 
-reply_settles : (own : Identity) (y : Name) (w creation : ℕ) (message : ShakeMsg) → Settles own y w creation message
-reply_settles own y w creation (ShakeMsg.ChallengeReply challenge digest) = go (is_answered own.cookie w digest) refl
+reply_settles : (own : Identity) (y : Name) (w : ℕ) (introduction : Introduction) (message : ShakeMsg) → Settles own y w introduction message
+reply_settles own y w introduction (ShakeMsg.ChallengeReply challenge digest) = go (is_answered own.cookie w digest) refl
   where
-    go : (b : Bool) → is_answered own.cookie w digest ≡ b → Settles own y w creation (ShakeMsg.ChallengeReply challenge digest)
+    go : (b : Bool) → is_answered own.cookie w digest ≡ b → Settles own y w introduction (ShakeMsg.ChallengeReply challenge digest)
     go true e = record { settled = rw e refl; stands = rw e refl }
     go false e = record { settled = rw e refl; stands = rw e refl }
-reply_settles own y w creation message = record { settled = refl; stands = refl }
+reply_settles own y w introduction message = record { settled = refl; stands = refl }
 
 -- ---- a message that is due
 
@@ -156,12 +158,12 @@ module _ (t : TrunkId) (y : Name) (message said : ShakeMsg) (word len : ℕ) (se
   heard_goes (standing.Dialing (dialer.AwaitsChallenge w)) k a h =
       goes_dialing (dialer.AwaitsChallenge w) refl
       (dialer_stands y (AwaitsChallenge w) (dialer_turn own y (dialer.AwaitsChallenge w) message).state) h refl
-  heard_goes (standing.Dialing (dialer.AwaitsAck w creation)) k a h =
-      goes_dialing (dialer.AwaitsAck w creation) refl (ack_stands own y w creation message) h refl
-  heard_goes (standing.Accepting (acceptor.AwaitsReply w creation)) k a h =
-      let turn = acceptor_turn own y (acceptor.AwaitsReply w creation) message 0 in
-      let side = standing_side y (standing.Accepting (acceptor.AwaitsReply w creation)) in
-      let s = reply_settles own y w creation message in
+  heard_goes (standing.Dialing (dialer.AwaitsAck w introduction)) k a h =
+      goes_dialing (dialer.AwaitsAck w introduction) refl (ack_stands own y w introduction message) h refl
+  heard_goes (standing.Accepting (acceptor.AwaitsReply w introduction)) k a h =
+      let turn = acceptor_turn own y (acceptor.AwaitsReply w introduction) message 0 in
+      let side = standing_side y (standing.Accepting (acceptor.AwaitsReply w introduction)) in
+      let s = reply_settles own y w introduction message in
       record {
         settled = s.settled;
         there = refl;
@@ -171,23 +173,23 @@ module _ (t : TrunkId) (y : Name) (message said : ShakeMsg) (word len : ℕ) (se
       }
   heard_goes st k a h = cc
 
-  pub asked_goes : (w creation : ℕ) → let st = standing.Accepting (acceptor.AwaitsAnswer w creation) in
+  pub asked_goes : (w : ℕ) (introduction : Introduction) → let st = standing.Accepting (acceptor.AwaitsAnswer w introduction) in
       (on_message own y st message word len).was ≡ taken.Message said send
       → handshake_at (state_of st) t (standing_side y st) message work ≡ Accepts (Answer.Took (kind_of (Handshake said)))
       (send_challenge_or_park t (standing_side y st) w (up_is_lost (side_where is_up y (fm.entries work.node.sides)) work))
-  asked_goes w creation h =
-      let turn = acceptor_turn own y (acceptor.AwaitsAnswer w creation) message 0 in
+  asked_goes w introduction h =
+      let turn = acceptor_turn own y (acceptor.AwaitsAnswer w introduction) message 0 in
       answer_goes turn.next.progress t
-      (standing_side y (standing.Accepting (acceptor.AwaitsAnswer w creation))) w message said turn.next.send send work h
+      (standing_side y (standing.Accepting (acceptor.AwaitsAnswer w introduction))) w message said turn.next.send send work h
 
-  pub asked_heard : (st : Standing) (w creation : ℕ) → st ≡ standing.Accepting (acceptor.AwaitsAnswer w creation)
+  pub asked_heard : (st : Standing) (w : ℕ) (introduction : Introduction) → st ≡ standing.Accepting (acceptor.AwaitsAnswer w introduction)
       → (on_message own y st message word len).was ≡ taken.Message said send
       → handshake_at (state_of st) t (standing_side y st) message work ≡ Accepts (Answer.Took (kind_of (Handshake said)))
-      (send_challenge_or_park t (standing_side y (standing.Accepting (acceptor.AwaitsAnswer w creation))) w
+      (send_challenge_or_park t (standing_side y (standing.Accepting (acceptor.AwaitsAnswer w introduction))) w
       (up_is_lost (side_where is_up y (fm.entries work.node.sides)) work))
-  asked_heard st w creation e h =
+  asked_heard st w introduction e h =
       let P : Standing → Type 0 = λ x. (on_message own y x message word len).was ≡ taken.Message said send in
-      ap (λ x. handshake_at (state_of x) t (standing_side y x) message work) e ∙ asked_goes w creation (subst P e h)
+      ap (λ x. handshake_at (state_of x) t (standing_side y x) message work) e ∙ asked_goes w introduction (subst P e h)
 
 -- ---- and one that breaks the side
 
@@ -211,24 +213,24 @@ module _ (t : TrunkId) (y : Name) (message : ShakeMsg) (word len : ℕ) (work : 
       let turn =
       dialer_turn here y (dialer.AwaitsChallenge w) message in let s = standing_side y (standing.Dialing (dialer.AwaitsChallenge w)) in
       verdict_breaks turn.next.progress t s (dialer_side s turn.state) message turn.next.send why work h
-  heard_breaks (standing.Dialing (dialer.AwaitsAck w creation)) why k h =
+  heard_breaks (standing.Dialing (dialer.AwaitsAck w introduction)) why k h =
       let turn =
-      dialer_turn here y (dialer.AwaitsAck w creation) message in
-      let s = standing_side y (standing.Dialing (dialer.AwaitsAck w creation)) in
+      dialer_turn here y (dialer.AwaitsAck w introduction) message in
+      let s = standing_side y (standing.Dialing (dialer.AwaitsAck w introduction)) in
       verdict_breaks turn.next.progress t s (dialer_side s turn.state) message turn.next.send why work h
-  heard_breaks (standing.Accepting (acceptor.AwaitsAnswer w creation)) why k h =
-      let turn = acceptor_turn here y (acceptor.AwaitsAnswer w creation) message 0 in
+  heard_breaks (standing.Accepting (acceptor.AwaitsAnswer w introduction)) why k h =
+      let turn = acceptor_turn here y (acceptor.AwaitsAnswer w introduction) message 0 in
       answer_breaks turn.next.progress t
-      (standing_side y (standing.Accepting (acceptor.AwaitsAnswer w creation))) w message turn.next.send why work h
-  heard_breaks (standing.Accepting (acceptor.AwaitsTurn w creation)) why k h =
-      bad (standing.Accepting (acceptor.AwaitsTurn w creation)) why h
-  heard_breaks (standing.Accepting (acceptor.AwaitsReply w creation)) why k h =
+      (standing_side y (standing.Accepting (acceptor.AwaitsAnswer w introduction))) w message turn.next.send why work h
+  heard_breaks (standing.Accepting (acceptor.AwaitsTurn w introduction)) why k h =
+      bad (standing.Accepting (acceptor.AwaitsTurn w introduction)) why h
+  heard_breaks (standing.Accepting (acceptor.AwaitsReply w introduction)) why k h =
       let turn =
-      acceptor_turn here y (acceptor.AwaitsReply w creation) message 0 in
-      let s = standing_side y (standing.Accepting (acceptor.AwaitsReply w creation)) in
+      acceptor_turn here y (acceptor.AwaitsReply w introduction) message 0 in
+      let s = standing_side y (standing.Accepting (acceptor.AwaitsReply w introduction)) in
       verdict_breaks turn.next.progress t s (acceptor_side s turn.state) message turn.next.send why work h
-  heard_breaks (standing.Up creation) why k h = bad (standing.Up creation) why h
-  heard_breaks (standing.Losing creation) why k h = bad (standing.Losing creation) why h
+  heard_breaks (standing.Up introduction) why k h = bad (standing.Up introduction) why h
+  heard_breaks (standing.Losing introduction) why k h = bad (standing.Losing introduction) why h
   heard_breaks standing.Gone why k h = bad standing.Gone why h
   heard_breaks st why k h = cc
 

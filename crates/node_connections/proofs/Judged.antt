@@ -22,6 +22,7 @@ use Rattle.erl_handshake.specs.declared.message.ShakeMsg.{ShakeMsg}
 use Rattle.node_connections.specs.Coming.{item_of}
 use Rattle.node_connections.specs.Fronts.{Front, Begins, Holds, Spoils, IsFrameFront, IsFrontIn, IsMessageFront}
 use Rattle.node_tables.specs.Standings.{is_settled, state_of}
+use Rattle.erl_handshake.specs.declared.introduction.Introduction.{Introduction}
 
 -- a message of the handshake, the item of a frame, or neither
 pub data Judged (own : Identity) (peer : List ℕ) (st : Standing) (bytes : List ℕ) (word : ℕ) (arrival : Arrival) : Type 0 where
@@ -52,14 +53,14 @@ module _ (own : Identity) (side : Side) (bytes : List ℕ) (word : ℕ) where
   of_message reader arrival over reads (inl x) = IsMessage x.0 x.1 (reads (Holds (Handshake x.0) x.1) x.2) over x.3
   of_message reader arrival over reads (inr x) = IsBroken bad (reads (Spoils bad) x.0) over x.1
 
-  of_frame : (creation : ℕ) (arrival : Arrival) → side.standing ≡ standing.Up creation
-      → FrameDue (standing.Up creation) bytes (Some arrival)
+  of_frame : (introduction : Introduction) (arrival : Arrival) → side.standing ≡ standing.Up introduction
+      → FrameDue (standing.Up introduction) bytes (Some arrival)
       → Judged own side.peer side.standing bytes word arrival
-  of_frame creation arrival e (inl x) =
-      IsItem x.0 x.1 (at_standing (standing.Up creation) (Holds (item_of x.0) x.1) e (frame_front bytes x.0 x.1 x.2)) (ap state_of e)
+  of_frame introduction arrival e (inl x) =
+      IsItem x.0 x.1 (at_standing (standing.Up introduction) (Holds (item_of x.0) x.1) e (frame_front bytes x.0 x.1 x.2)) (ap state_of e)
       (x.3 ∙ ap (λ s. on_item s x.0 x.1) (sym e))
-  of_frame creation arrival e (inr x) =
-      IsBroken (Fault.Frame x.0) (at_standing (standing.Up creation) (Spoils (Fault.Frame x.0)) e x.1)
+  of_frame introduction arrival e (inr x) =
+      IsBroken (Fault.Frame x.0) (at_standing (standing.Up introduction) (Spoils (Fault.Frame x.0)) e x.1)
       (ap (λ s. is_over (state_of s)) e) (x.2 ∙ ap (λ s. breaks s (Fault.Frame x.0)) (sym e))
 
   by_standing : (st : Standing) (arrival : Arrival) → side.standing ≡ st → is_settled st ≡ true
@@ -83,8 +84,8 @@ module _ (own : Identity) (side : Side) (bytes : List ℕ) (word : ℕ) where
   by_standing (standing.Accepting (acceptor.AwaitsReply w n)) arrival e h d =
       of_message role.Acceptor arrival (ap (λ s. is_over (state_of s)) e)
       (λ front x. at_standing (standing.Accepting (acceptor.AwaitsReply w n)) front e x) d
-  by_standing (standing.Up creation) arrival e h d = of_frame creation arrival e d
-  by_standing (standing.Losing creation) arrival e h d = absurd d
+  by_standing (standing.Up introduction) arrival e h d = of_frame introduction arrival e d
+  by_standing (standing.Losing introduction) arrival e h d = absurd d
   by_standing standing.Gone arrival e h d = absurd d
   by_standing st arrival e h d = cc
 
@@ -100,7 +101,7 @@ module _ (own : Identity) (side : Side) (bytes : List ℕ) (word : ℕ) where
   begun_at (standing.Accepting (acceptor.AwaitsAdmission w n)) h d = cc
   begun_at (standing.Accepting (acceptor.Done n)) h d = cc
   begun_at (standing.Accepting acceptor.Over) h d = cc
-  begun_at (standing.Losing creation) h d = absurd d
+  begun_at (standing.Losing introduction) h d = absurd d
   begun_at standing.Gone h d = absurd d
   begun_at st h d = d
 

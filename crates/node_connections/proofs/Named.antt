@@ -9,7 +9,7 @@ use Rattle.conn_core.specs.declared.arrival.Arrival.{Arrival}
 use Rattle.conn_core.specs.declared.arrival.Fault.{Fault}
 use Rattle.conn_core.specs.declared.arrival.Taken.TheVariants as taken
 use Rattle.conn_core.specs.declared.standing.Standing.TheVariants as standing
-use Rattle.dist_model.specs.Admission.{after_name, give_up, give_up_if, hears_name, named_creation, new_side, others, stands_after}
+use Rattle.dist_model.specs.Admission.{after_name, give_up, give_up_if, hears_name, named_introduction, new_side, others, stands_after}
 use Rattle.dist_model.specs.Handshake.{fault, identity, send_challenge}
 use Rattle.dist_model.specs.Keeping.{AtMostOne, is_attempt}
 use Rattle.dist_model.specs.Names.{Name}
@@ -30,6 +30,7 @@ use Rattle.erl_handshake.specs.declared.turn.Progress.TheVariants as progress
 use Rattle.erl_names.specs.declared.trunk.TrunkId.{TrunkId}
 use Rattle.node_connections.specs.Admitted.{sends_challenge}
 use Rattle.node_connections.proofs.Beside.{found_in, get_other}
+use Rattle.erl_handshake.specs.Roles.{introduction_by}
 
 -- ---- at most one other attempt ends
 
@@ -107,13 +108,13 @@ module _ (t : TrunkId) (message : ShakeMsg) (word len : ℕ) (work : Work) where
 pub name_stands : (own : Identity) (y : Name) (message said : ShakeMsg) (send : Option ShakeMsg) (word len : ℕ)
     → (on_message own y (standing.Accepting acceptor.AwaitsName) message word len).was ≡ taken.Message said send
     → (on_message own y (standing.Accepting acceptor.AwaitsName) message word len).standing
-    ≡ standing.Accepting (acceptor.AwaitsAdmission word (named_creation message))
+    ≡ standing.Accepting (acceptor.AwaitsAdmission word (named_introduction message))
 name_stands own y (ShakeMsg.SendName flags creation name) said send word len h = go (introduction_fault y name flags) h
   where
     go : (o : Option ShakeFault)
-        → taken_by (on_name o creation word).next.progress (ShakeMsg.SendName flags creation name) (on_name o creation word).next.send
+        → taken_by (on_name o (introduction_by creation flags) word).next.progress (ShakeMsg.SendName flags creation name) (on_name o (introduction_by creation flags) word).next.send
         ≡ taken.Message said send
-        → of_acceptor (on_name o creation word).state ≡ standing.Accepting (acceptor.AwaitsAdmission word creation)
+        → of_acceptor (on_name o (introduction_by creation flags) word).state ≡ standing.Accepting (acceptor.AwaitsAdmission word (introduction_by creation flags))
     go None h = refl
     go (Some why) h = cc
 name_stands own y message said send word len h = cc

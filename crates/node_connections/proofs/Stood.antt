@@ -26,6 +26,7 @@ use Rattle.node_plan.specs.Carried.{sided}
 use Rattle.node_tables.specs.Changes.{is_gone_in, IsDown, IsTowards, StaysGone, stood_at}
 use Rattle.node_tables.specs.Standings.{is_settled, standing_side, state_of}
 use Rattle.node_tables.specs.declared.change.SideChange.TheVariants as change
+use Rattle.erl_handshake.specs.declared.introduction.Introduction.{Introduction}
 
 -- ---- the side of a connection stands so
 
@@ -40,11 +41,11 @@ stands t st y work h =
     ap (λ sides. record work { node = record (work.node) { sides = sides } })
     (stood_towards work.node.sides t st y (fm.get work.node.sides t) h)
 
-pub comes_up : (t : TrunkId) (z y : Name) (creation : ℕ) (work : Work) → IsTowards y (fm.get work.node.sides t)
-    → sided (change.ComesUp t z creation) work ≡ with_side t (standing_side y (standing.Up creation)) work
-comes_up t z y creation work h =
+pub comes_up : (t : TrunkId) (z y : Name) (introduction : Introduction) (work : Work) → IsTowards y (fm.get work.node.sides t)
+    → sided (change.ComesUp t z introduction) work ≡ with_side t (standing_side y (standing.Up introduction)) work
+comes_up t z y introduction work h =
     ap (λ sides. record work { node = record (work.node) { sides = sides } })
-    (stood_towards work.node.sides t (standing.Up creation) y (fm.get work.node.sides t) h)
+    (stood_towards work.node.sides t (standing.Up introduction) y (fm.get work.node.sides t) h)
 
 pub towards : (sides : FinMap trunk_cmp TrunkSide) (t : TrunkId) (s : TrunkSide) → fm.get sides t ≡ Some s
     → IsTowards s.peer (fm.get sides t)
@@ -58,11 +59,11 @@ lost_down st = (refl, refl)
 
 pub lost_stands : (y : Name) (st : Standing) → is_settled st ≡ true
     → standing_side y (lost st) ≡ in_state (model.lost (state_of st)) (standing_side y st)
-lost_stands y (standing.Dialing (dialer.Done creation)) h = cc
+lost_stands y (standing.Dialing (dialer.Done introduction)) h = cc
 lost_stands y (standing.Dialing dialer.Over) h = cc
 lost_stands y (standing.Accepting acceptor.AwaitsName) h = cc
-lost_stands y (standing.Accepting (acceptor.AwaitsAdmission w creation)) h = cc
-lost_stands y (standing.Accepting (acceptor.Done creation)) h = cc
+lost_stands y (standing.Accepting (acceptor.AwaitsAdmission w introduction)) h = cc
+lost_stands y (standing.Accepting (acceptor.Done introduction)) h = cc
 lost_stands y (standing.Accepting acceptor.Over) h = cc
 lost_stands y st h = refl
 
@@ -71,16 +72,16 @@ pub loses : (st : Standing) (t : TrunkId) (s : TrunkSide) (work : Work) → is_s
     → lose_at (state_of st) t s work ≡ Accepts Answer.Done (set_state t s (model.lost (state_of st)) work)
 loses (standing.Dialing (dialer.AwaitsStatus w)) t s work h l = refl
 loses (standing.Dialing (dialer.AwaitsChallenge w)) t s work h l = refl
-loses (standing.Dialing (dialer.AwaitsAck w creation)) t s work h l = refl
-loses (standing.Accepting (acceptor.AwaitsAnswer w creation)) t s work h l = refl
-loses (standing.Accepting (acceptor.AwaitsTurn w creation)) t s work h l = refl
-loses (standing.Accepting (acceptor.AwaitsReply w creation)) t s work h l = refl
-loses (standing.Up creation) t s work h l = refl
+loses (standing.Dialing (dialer.AwaitsAck w introduction)) t s work h l = refl
+loses (standing.Accepting (acceptor.AwaitsAnswer w introduction)) t s work h l = refl
+loses (standing.Accepting (acceptor.AwaitsTurn w introduction)) t s work h l = refl
+loses (standing.Accepting (acceptor.AwaitsReply w introduction)) t s work h l = refl
+loses (standing.Up introduction) t s work h l = refl
 loses st t s work h l = cc
 
 pub keeps_none : (st : Standing) (t : TrunkId) (s : TrunkSide) (work : Work) → is_settled st ≡ true
     → is_live (name_of st) ≡ false → lose_at (state_of st) t s work ≡ Refuses Refusal.NotLive
-keeps_none (standing.Losing creation) t s work h l = refl
+keeps_none (standing.Losing introduction) t s work h l = refl
 keeps_none standing.Gone t s work h l = refl
 keeps_none (standing.Accepting acceptor.Over) t s work h l = cc
 keeps_none st t s work h l = cc
@@ -97,8 +98,8 @@ there sides t s h n = ap is_gone_in h ∙ n
 lost_gone : (st : Standing) → is_gone (state_of st) ≡ true → is_settled st ≡ true → is_gone (state_of (lost st)) ≡ true
 lost_gone (standing.Dialing d) g k = refl
 lost_gone (standing.Accepting a) g k = refl
-lost_gone (standing.Up creation) g k = cc
-lost_gone (standing.Losing creation) g k = cc
+lost_gone (standing.Up introduction) g k = cc
+lost_gone (standing.Losing introduction) g k = cc
 lost_gone standing.Gone g k = refl
 
 pub lost_stays : (sides : FinMap trunk_cmp TrunkSide) (t : TrunkId) (y : Name) (st : Standing) → is_settled st ≡ true
@@ -109,11 +110,11 @@ lost_stays sides t y st k h g = lost_gone st (sym (ap is_gone_in h) ∙ g) k
 pub live_there : (st : Standing) → is_settled st ≡ true → is_live (name_of st) ≡ true → is_gone (state_of st) ≡ false
 live_there (standing.Dialing (dialer.AwaitsStatus w)) h l = refl
 live_there (standing.Dialing (dialer.AwaitsChallenge w)) h l = refl
-live_there (standing.Dialing (dialer.AwaitsAck w creation)) h l = refl
-live_there (standing.Accepting (acceptor.AwaitsAnswer w creation)) h l = refl
-live_there (standing.Accepting (acceptor.AwaitsTurn w creation)) h l = refl
-live_there (standing.Accepting (acceptor.AwaitsReply w creation)) h l = refl
-live_there (standing.Up creation) h l = refl
+live_there (standing.Dialing (dialer.AwaitsAck w introduction)) h l = refl
+live_there (standing.Accepting (acceptor.AwaitsAnswer w introduction)) h l = refl
+live_there (standing.Accepting (acceptor.AwaitsTurn w introduction)) h l = refl
+live_there (standing.Accepting (acceptor.AwaitsReply w introduction)) h l = refl
+live_there (standing.Up introduction) h l = refl
 live_there st h l = cc
 
 pub not_gone_up : (state : State) → is_up state ≡ true → is_gone state ≡ false

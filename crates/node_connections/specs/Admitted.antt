@@ -9,10 +9,11 @@ use Rattle.dist_model.specs.Work.{Work}
 use Rattle.erl_handshake.specs.declared.admission.Admission.{Admission}
 use Rattle.erl_handshake.specs.declared.message.ShakeMsg.{ShakeMsg}
 use Rattle.erl_handshake.specs.declared.status.Status.{Status}
+use Rattle.erl_handshake.specs.declared.introduction.Introduction.{Introduction}
 
--- of a dialer that named this creation
-abbrev pub named_side : Side → (creation : ℕ) → TrunkSide
-named_side side creation = record { peer = side.peer; peer_creation = creation; state = Gone }
+-- of a dialer that named this creation and these flags
+abbrev pub named_side : Side → Introduction → TrunkSide
+named_side side introduction = record { peer = side.peer; introduction = introduction; state = Gone }
 
 -- the challenge is sent at once
 abbrev pub sends_challenge : Status → Bool
@@ -21,9 +22,9 @@ sends_challenge Status.OkSimultaneous = true
 sends_challenge _ = false
 
 -- which others end, what the dialer is told, and how the side stands
-abbrev pub admitted_by : Admission → Side → (challenge creation : ℕ) → Work → Work
-admitted_by due side challenge creation work =
-    stands_after due.status side.trunk (named_side side creation) challenge
+abbrev pub admitted_by : Admission → Side → (challenge : ℕ) → Introduction → Work → Work
+admitted_by due side challenge introduction work =
+    stands_after due.status side.trunk (named_side side introduction) challenge
     (write side.trunk side.peer (ShakeMsg.Status due.status)
     (give_up_if due.ends_dialing is_dialing side.trunk.dialer
     (give_up_if due.ends_waiting is_waiting side.trunk.dialer work)))

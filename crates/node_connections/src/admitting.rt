@@ -25,24 +25,25 @@ use crate::standing::stand_down;
 use conn_core::{Arrival, Fault, Side, Standing, Taken};
 use dist_model::{Answer, Kind};
 use erl_handshake::{
-    AcceptorState, Admission, OtherConnections, Progress, ShakeFault, ShakeMsg, Status,
+    AcceptorState, Admission, Introduction, OtherConnections, Progress, ShakeFault, ShakeMsg,
+    Status,
 };
 use erl_term::{Atom, Refusal};
 use node_plan::{Node, Plan, or_refuse};
 use node_tables::{SideChange, Which};
 use std::alloc::{AllocError, Global};
 
-// The challenge and the dialer's creation, where the dialer has named itself.
-fn named(standing: Standing) -> Option<(u32, u32)>
+// The challenge and the dialer's introduction, where the dialer has named itself.
+fn named(standing: Standing) -> Option<(u32, Introduction)>
     ensures { result ≡ named_in standing }
 {
     match standing {
         Standing::Accepting(
             AcceptorState::AwaitsAdmission {
                 challenge,
-                creation,
+                introduction,
             },
-        ) => Some((challenge, creation)),
+        ) => Some((challenge, introduction)),
         _ => None,
     }
 }
@@ -122,16 +123,16 @@ fn settle(
     side: &Side,
     status: Status,
     challenge: u32,
-    creation: u32,
+    introduction: Introduction,
 ) -> Result<(), AllocError>
     ensures makes { (work : Work) → fm.get work.node.sides side.now.trunk ≡ None → Makes plan.old (seen node.now) work →
-        MakesOr (seen node.now) (stands_after status side.now.trunk (named_side side.now creation) challenge work) plan.new result }
+        MakesOr (seen node.now) (stands_after status side.now.trunk (named_side side.now introduction) challenge work) plan.new result }
     ensures told { (m : TheNode) → told plan.new m ≡ told plan.old m }
 {
     if sends_challenge(status) {
         let awaits = AcceptorState::AwaitsReply {
             challenge,
-            creation,
+            introduction,
         };
         add(plan, side, Standing::Accepting(awaits))?;
         return write_challenge(alloc, node, plan, &side.trunk, &side.peer, challenge);
@@ -139,7 +140,7 @@ fn settle(
     if status == Status::Alive {
         let awaits = AcceptorState::AwaitsAnswer {
             challenge,
-            creation,
+            introduction,
         };
         return add(plan, side, Standing::Accepting(awaits));
     }
@@ -154,10 +155,10 @@ fn carry_out(
     side: &Side,
     due: Admission,
     challenge: u32,
-    creation: u32,
+    introduction: Introduction,
 ) -> Result<(), AllocError>
     ensures makes { let m = seen node.now in (due.ends_dialing ≡ true → due.ends_waiting ≡ false) → fm.get m.sides side.now.trunk ≡ None →
-        Makes plan.old m (at_work m) → MakesOr m (admitted_by due side.now challenge creation (at_work m)) plan.new result }
+        Makes plan.old m (at_work m) → MakesOr m (admitted_by due side.now challenge introduction (at_work m)) plan.new result }
     ensures told { (m : TheNode) → told plan.new m ≡ told plan.old m }
 {
     let dialer = side.trunk.dialer.atom();
@@ -165,7 +166,7 @@ fn carry_out(
     give_up_if(node, plan, due.ends_dialing, dialer, Which::Dialing)?;
     let said = ShakeMsg::Status(due.status);
     plan.write(alloc, &side.trunk, &side.peer, &said)?;
-    settle(alloc, node, plan, side, due.status, challenge, creation)
+    settle(alloc, node, plan, side, due.status, challenge, introduction)
 }
 
 // The node decides on the attempt.
@@ -175,23 +176,23 @@ fn admit(
     plan: &mut Plan,
     side: &Side,
     challenge: u32,
-    creation: u32,
+    introduction: Introduction,
 ) -> Result<(), Refusal>
     requires change { plan.old.change ≡ change.None }
     requires makes { Makes plan.old (seen node.now) (at_work (seen node.now)) }
     requires none { fm.get (seen node.now).sides side.now.trunk ≡ None }
-    ensures { Plans (seen node.now) (admit side.now.trunk (named_side side.now creation) challenge (at_work (seen node.now))) plan.new result }
+    ensures { Plans (seen node.now) (admit side.now.trunk (named_side side.now introduction) challenge (at_work (seen node.now))) plan.new result }
 {
     let others = others(node, side.trunk.dialer.atom());
     let awaits = AcceptorState::AwaitsAdmission {
         challenge,
-        creation,
+        introduction,
     };
     let Some((_, due)) = awaits.admit(node.name(), &side.trunk, others) else {
         unreachable!();
     };
     plan.answers(answer_to(due.progress));
-    or_refuse(carry_out(alloc, node, plan, side, due, challenge, creation))
+    or_refuse(carry_out(alloc, node, plan, side, due, challenge, introduction))
 }
 
 /// Plans the first arrival on a connection of which the node has no side, as a fresh side has judged it
@@ -223,7 +224,14 @@ pub fn open(
             or_refuse(add(plan, side, Standing::Gone))
         }
         Taken::Message { .. } => match named(arrival.standing) {
-            Some((challenge, creation)) => admit(alloc, node, plan, side, challenge, creation),
+            Some((challenge, introduction)) => admit(
+                alloc,
+                node,
+                plan,
+                side,
+                challenge,
+                introduction,
+            ),
             None => Ok(()),
         },
         Taken::Item(_) => Ok(()),

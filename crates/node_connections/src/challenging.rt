@@ -14,7 +14,7 @@ ghost use Rattle.node_tables.specs.Standings.{standing_side};
 
 use crate::standing::stand_down;
 use conn_core::{Side, Standing};
-use erl_handshake::AcceptorState;
+use erl_handshake::{AcceptorState, Introduction};
 use erl_names::{NodeName, TrunkId};
 use node_plan::{Node, Plan};
 use std::alloc::{AllocError, Global};
@@ -45,17 +45,17 @@ pub(crate) fn send_challenge(
     plan: &mut Plan,
     side: &Side,
     challenge: u32,
-    creation: u32,
+    introduction: Introduction,
 ) -> Result<(), AllocError>
     ensures makes { (work : Work) → IsTowards side.now.peer (fm.get work.node.sides side.now.trunk) →
         is_gone_in (fm.get work.node.sides side.now.trunk) ≡ false → Makes plan.old (seen node.now) work →
         MakesOr (seen node.now) (write side.now.trunk side.now.peer (challenge_of work.node challenge)
-        (with_side side.now.trunk (standing_side side.now.peer (the_standing.Accepting (acceptor.AwaitsReply challenge creation))) work)) plan.new result }
+        (with_side side.now.trunk (standing_side side.now.peer (the_standing.Accepting (acceptor.AwaitsReply challenge introduction))) work)) plan.new result }
     ensures told { (m : TheNode) → told plan.new m ≡ told plan.old m }
 {
     let awaits = AcceptorState::AwaitsReply {
         challenge,
-        creation,
+        introduction,
     };
     stand_down(plan, side, Standing::Accepting(awaits))?;
     write_challenge(alloc, node, plan, &side.trunk, &side.peer, challenge)

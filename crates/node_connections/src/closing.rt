@@ -15,22 +15,22 @@ ghost use Rattle.node_connections.specs.Waiting.{parked_in};
 use crate::challenging::send_challenge;
 use crate::standing::stand_down;
 use conn_core::{Side, Standing};
-use erl_handshake::AcceptorState;
+use erl_handshake::{AcceptorState, Introduction};
 use node_plan::{Node, Plan};
 use node_tables::Which;
 use std::alloc::{AllocError, Global};
 
-// The challenge and the dialer's creation, where the attempt waits for an older connection's end.
-fn parked(standing: Standing) -> Option<(u32, u32)>
+// The challenge and the dialer's introduction, where the attempt waits for an older connection's end.
+fn parked(standing: Standing) -> Option<(u32, Introduction)>
     ensures { result ≡ parked_in standing }
 {
     match standing {
         Standing::Accepting(
             AcceptorState::AwaitsTurn {
                 challenge,
-                creation,
+                introduction,
             },
-        ) => Some((challenge, creation)),
+        ) => Some((challenge, introduction)),
         _ => None,
     }
 }
@@ -43,7 +43,14 @@ fn release(alloc: Global, node: &Node, plan: &mut Plan, side: &Side) -> Result<(
     ensures told { (m : TheNode) → told plan.new m ≡ told plan.old m }
 {
     match parked(side.standing) {
-        Some((challenge, creation)) => send_challenge(alloc, node, plan, side, challenge, creation),
+        Some((challenge, introduction)) => send_challenge(
+            alloc,
+            node,
+            plan,
+            side,
+            challenge,
+            introduction,
+        ),
         None => Ok(()),
     }
 }

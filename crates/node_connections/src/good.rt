@@ -12,15 +12,24 @@ use erl_term::Pid;
 use node_frames::{receiver, same_name, sender};
 use node_plan::Node;
 
-// Whether the process is of the peer's, of the incarnation that it named or an earlier one.
+// Returns the creation that the peer has told, and 0 before it has told one.
+fn told_creation(side: &Side) -> u32
+    ensures { result ≡ (side_of side.now).introduction.creation }
+{
+    match side.standing.introduction() {
+        Some(introduction) => introduction.creation,
+        None => 0,
+    }
+}
+
+// Returns true if the process is of the peer's, of the incarnation that it named or an earlier one.
 fn is_from(side: &Side, process: &Pid) -> bool
     ensures { result ≡ arrivals.is_from (side_of side.now) process.now }
 {
-    same_name(&process.node, side.peer.atom())
-        && process.creation <= side.standing.peer_creation().unwrap_or(0)
+    same_name(&process.node, side.peer.atom()) && process.creation <= told_creation(side)
 }
 
-// Whether the signal is of the peer's. A message names no sender.
+// Returns true if the signal is of the peer's. A message names no sender.
 fn is_of_peer(side: &Side, signal: &Signal) -> bool
     ensures { result ≡ arrivals.from_peer (side_of side.now) (sender_of signal.now) }
 {
@@ -30,14 +39,14 @@ fn is_of_peer(side: &Side, signal: &Signal) -> bool
     }
 }
 
-// Whether this node has spawned the process.
+// Returns true if this node has spawned the process.
 fn is_known(node: &Node, process: &Pid) -> bool
     ensures { result ≡ arrivals.is_to (seen node.now) process.now }
 {
     same_name(&process.node, node.name().atom()) && !node.is_stranger(process)
 }
 
-/// Whether the signal is from a process of the peer's and to one that this node has spawned. (Reference
+/// Returns true if the signal is from a process of the peer's and to one that this node has spawned. (Reference
 /// Manual, Processes, Delivery of Signals.)
 pub(crate) fn is_good(node: &Node, side: &Side, signal: &Signal) -> bool
     ensures { result ≡ arrivals.is_good (seen node.now) (side_of side.now) (Signalled signal.now) }

@@ -26,23 +26,23 @@ use crate::losing::break_side;
 use crate::standing::{stand, stand_down};
 use conn_core::{Arrival, Side, Standing, Taken};
 use dist_model::Answer;
-use erl_handshake::{AcceptorState, ShakeMsg};
+use erl_handshake::{AcceptorState, Introduction, ShakeMsg};
 use erl_term::Refusal;
 use node_plan::{Node, Plan, or_refuse};
 use node_tables::Which;
 use std::alloc::{AllocError, Global};
 
-// Returns the challenge and the dialer's creation, if the side awaits the dialer's answer.
-fn asked(standing: Standing) -> Option<(u32, u32)>
+// Returns the challenge and the dialer's introduction, if the side awaits the dialer's answer.
+fn asked(standing: Standing) -> Option<(u32, Introduction)>
     ensures { result ≡ asked_in standing }
 {
     match standing {
         Standing::Accepting(
             AcceptorState::AwaitsAnswer {
                 challenge,
-                creation,
+                introduction,
             },
-        ) => Some((challenge, creation)),
+        ) => Some((challenge, introduction)),
         _ => None,
     }
 }
@@ -75,18 +75,18 @@ fn go_on(
     plan: &mut Plan,
     side: &Side,
     challenge: u32,
-    creation: u32,
+    introduction: Introduction,
 ) -> Result<(), AllocError>
     requires towards { IsTowards side.now.peer (fm.get (seen node.now).sides side.now.trunk) }
     requires there { is_gone_in (fm.get (seen node.now).sides side.now.trunk) ≡ false }
     ensures makes { let m = seen node.now in Makes plan.old m (at_work m) →
-        MakesOr m (send_challenge_or_park side.now.trunk (standing_side side.now.peer (the_standing.Accepting (acceptor.AwaitsAnswer challenge creation))) challenge
+        MakesOr m (send_challenge_or_park side.now.trunk (standing_side side.now.peer (the_standing.Accepting (acceptor.AwaitsAnswer challenge introduction))) challenge
         (up_is_lost (side_where is_up side.now.peer (fm.entries m.sides)) (at_work m))) plan.new result }
     ensures told { (m : TheNode) → told plan.new m ≡ told plan.old m }
 {
     let parked = Standing::Accepting(AcceptorState::AwaitsTurn {
         challenge,
-        creation,
+        introduction,
     });
     if let Some(up) = node.first_towards(side.peer.atom(), Which::Up) {
         stand_down(plan, up, up.standing.lost())?;
@@ -98,7 +98,7 @@ fn go_on(
     {
         return stand_down(plan, side, parked);
     }
-    send_challenge(alloc, node, plan, side, challenge, creation)
+    send_challenge(alloc, node, plan, side, challenge, introduction)
 }
 
 // A message comes that the side awaits: the side stands so, and this is sent.
@@ -121,8 +121,8 @@ fn take_message(
 {
     plan.answers(Answer::Took(kind(message)));
     match asked(side.standing) {
-        Some((challenge, creation)) => {
-            or_refuse(go_on(alloc, node, plan, side, challenge, creation))
+        Some((challenge, introduction)) => {
+            or_refuse(go_on(alloc, node, plan, side, challenge, introduction))
         }
         None => or_refuse(take(alloc, plan, side, standing, send)),
     }

@@ -12,6 +12,7 @@ ghost use Rattle.node_tables.specs.Changes.{is_gone_in, IsDown, IsTowards, NoOth
 ghost use Rattle.node_tables.specs.Standings.{is_settled, standing_side, state_of};
 
 use conn_core::{Side, Standing};
+use erl_handshake::Introduction;
 use node_plan::Plan;
 use node_tables::SideChange;
 use std::alloc::AllocError;
@@ -27,10 +28,10 @@ pub(crate) fn stand_down(plan: &mut Plan, side: &Side, standing: Standing) -> Re
 }
 
 // A side is up.
-fn come_up(plan: &mut Plan, side: &Side, creation: u32) -> Result<(), AllocError>
+fn come_up(plan: &mut Plan, side: &Side, introduction: Introduction) -> Result<(), AllocError>
     ensures makes { (m : TheNode) (work : Work) → IsTowards side.now.peer (fm.get work.node.sides side.now.trunk) →
         NoOtherUp work.node.sides side.now.trunk side.now.peer → is_gone_in (fm.get work.node.sides side.now.trunk) ≡ false →
-        Makes plan.old m work → MakesOr m (with_side side.now.trunk (standing_side side.now.peer (the_standing.Up creation)) work) plan.new result }
+        Makes plan.old m work → MakesOr m (with_side side.now.trunk (standing_side side.now.peer (the_standing.Up introduction)) work) plan.new result }
     ensures told { (m : TheNode) → told plan.new m ≡ told plan.old m }
 {
     let trunk = side.trunk.clone()?;
@@ -38,7 +39,7 @@ fn come_up(plan: &mut Plan, side: &Side, creation: u32) -> Result<(), AllocError
     plan.change_side(SideChange::ComesUp {
         trunk,
         peer,
-        creation,
+        introduction,
     })
 }
 
@@ -50,7 +51,7 @@ pub(crate) fn stand(plan: &mut Plan, side: &Side, standing: Standing) -> Result<
     ensures told { (m : TheNode) → told plan.new m ≡ told plan.old m }
 {
     match standing {
-        Standing::Up { creation } => come_up(plan, side, creation),
+        Standing::Up { introduction } => come_up(plan, side, introduction),
         _ => stand_down(plan, side, standing),
     }
 }

@@ -16,7 +16,7 @@ ghost use Rattle.node_tables.specs.Lives.{life_of};
 
 use crate::node::Node;
 use conn_core::Side;
-use erl_handshake::Cookie;
+use erl_handshake::Setup;
 use erl_names::{NodeName, TrunkId};
 use erl_term::{Atom, Pid};
 use link_core::End;
@@ -31,11 +31,11 @@ impl Node {
     ///
     /// # Errors
     /// Where there is no memory for the name.
-    pub fn new(alloc: Global, name: NodeName, cookie: Cookie) -> Result<Node, AllocError>
-        ensures { IfOk result (λ node. model_of node ≡ new_node name cookie) }
+    pub fn new(alloc: Global, name: NodeName, setup: Setup) -> Result<Node, AllocError>
+        ensures { IfOk result (λ node. model_of node ≡ new_node name setup) }
     {
         Ok(Node {
-            state: State::new(alloc, name, cookie)?,
+            state: State::new(alloc, name, setup)?,
             sweeping: Sweeping::new(),
         })
     }

@@ -1,6 +1,6 @@
 -- What travels, as it is sent: its bytes, and whose signal it is.
 -- (ERTS User's Guide, Distribution Protocol.)
-use Rattle.std.specs.Prelude.{Option, None, Some, ℕ, List, [], ◌∷◌, refl}
+use Rattle.std.specs.Prelude.{Option, None, Some, ℕ, List, [], ◌∷◌, false, refl}
 use Rattle.std.specs.Coded.{Coded, code_by, coded×, coded_list, coded_option, coded_ℕ}
 use Rattle.dist_model.specs.Items.{Handshake, Item, Signalled, Tick}
 use Rattle.dist_model.specs.declared.report.Effect.{Effect}
@@ -11,15 +11,15 @@ use Rattle.erl_control.specs.declared.signal.Item.TheVariants as frame
 use Rattle.erl_handshake.specs.Messages.{HasFields, written}
 use Rattle.erl_term.specs.declared.term.Pid.{Pid}
 
--- the one spelling in which it is sent
+-- The one spelling in which it is sent. A reason stands in the control term.
 abbrev pub bytes_of : Item → List ℕ
-bytes_of (Signalled signal) = canonical_frame signal
+bytes_of (Signalled signal) = canonical_frame signal false
 bytes_of (Handshake message) = written message
 bytes_of Tick = 0 ∷ 0 ∷ 0 ∷ 0 ∷ []
 
 -- an item that has this spelling: a reader of frames, or of the handshake, reads it again
 abbrev pub IsSpelled : Item → Type 0
-IsSpelled (Signalled signal) = IsFramed (frame.Signal signal) (canonical_frame signal)
+IsSpelled (Signalled signal) = IsFramed (frame.Signal signal) (canonical_frame signal false)
 IsSpelled (Handshake message) = HasFields message
 IsSpelled Tick = Unit {0}
 

@@ -100,7 +100,7 @@ impl Frame {
         ensures spelled { IfOk result (λ _. IsSpelled (Signalled signal.now)) }
     {
         let between = named(sender(signal), receiver(signal))?;
-        match frame(alloc, signal) {
+        match frame(alloc, signal, false) {
             Ok(bytes) => Ok(Frame { bytes, between }),
             Err(FrameError::OutOfMemory) => Err(AllocError),
             Err(_) => unreachable!(),

@@ -39,6 +39,7 @@ use Rattle.wire_core.specs.declared.parcel.Parcel.{Parcel}
 use Rattle.node_core.specs.declared.node_event.NodeEvent.{NodeEvent}
 use Rattle.node_core.specs.declared.node_event.NodeEvent.TheVariants as event
 use Rattle.node_lock.proofs.KeptByEvents.{is_below, set_first, still_kept, those, those_named, those_secret, HappensAt, taken, not_taken, dialed}
+use Rattle.erl_handshake.specs.declared.setup.Setup.{Setup}
 
 -- ---- each outlet feeds some port
 
@@ -46,25 +47,25 @@ fed_by : (t : TrunkId) (es : List Entry) (o : Outlet) (p : Option Port) → Feed
 fed_by t es o None h = absurd h
 fed_by t es o (Some p) h = (t, p, h)
 
-pub book_feeds : (names : List Name) (place : ℕ) (cookie : List ℕ) (history : History) (outlets : List Outlet)
+pub book_feeds : (names : List Name) (place : ℕ) (setup : Setup) (history : History) (outlets : List Outlet)
     (trunk : TrunkId) (k : ℕ) (d : Outlet)
-    → IsFirst trunk k outlets → IsBook names place cookie history outlets → Fed history.entries.items (get_or outlets k d)
-book_feeds names place cookie history outlets trunk k d first kept =
-    let s = kept.1 (those names cookie) (record { named = those_named names cookie; secret = those_secret names cookie place kept.0 }) in
+    → IsFirst trunk k outlets → IsBook names place setup history outlets → Fed history.entries.items (get_or outlets k d)
+book_feeds names place setup history outlets trunk k d first kept =
+    let s = kept.1 (those names setup) (record { named = those_named names setup; secret = those_secret names setup place kept.0 }) in
     fed_by trunk history.entries.items (get_or outlets k d) (s.book.ports trunk)
     (subst (λ o. FeedsAt trunk history.entries.items o (s.book.ports trunk)) (first_is trunk k outlets d first) (s.is.ports trunk))
 
 -- ---- between two entries
 
-pub shift_kept : BooksRest → (names : List Name) (place : ℕ) (cookie : List ℕ) (history : History) (outlets : List Outlet)
+pub shift_kept : BooksRest → (names : List Name) (place : ℕ) (setup : Setup) (history : History) (outlets : List Outlet)
     (trunk : TrunkId) (k : ℕ) (d after : Outlet)
-    → IsFirst trunk k outlets → KeepsFeeding history.entries.items (get_or outlets k d) after → IsBook names place cookie history outlets
-    → IsBook names place cookie history (set outlets k after)
-shift_kept rest names place cookie history outlets trunk k d after first keeps kept = (
+    → IsFirst trunk k outlets → KeepsFeeding history.entries.items (get_or outlets k d) after → IsBook names place setup history outlets
+    → IsBook names place setup history (set outlets k after)
+shift_kept rest names place setup history outlets trunk k d after first keeps kept = (
   kept.0,
   λ nodes a. shifted rest place nodes history outlets (kept.1 nodes a) trunk k (get_or outlets k d) after first
       (first_is trunk k outlets d first) keeps,
-  let fed = book_feeds names place cookie history outlets trunk k d first kept in
+  let fed = book_feeds names place setup history outlets trunk k d first kept in
       apart_set trunk k outlets after first
       ((keeps fed.0 fed.1 fed.2).feeds.trunk_is ∙ sym fed.2.trunk_is ∙ first_trunk trunk k outlets d first) kept.2,
 )
@@ -73,11 +74,11 @@ abbrev pub installed_outlet : (greatest : ℕ) → TrunkId → List Entry → Ou
 installed_outlet greatest trunk es = fresh_outlet greatest es trunk
 
 pub install_kept : BooksRest
-    → (greatest : ℕ) (names : List Name) (place : ℕ) (cookie : List ℕ) (history : History) (outlets : List Outlet) (trunk : TrunkId)
+    → (greatest : ℕ) (names : List Name) (place : ℕ) (setup : Setup) (history : History) (outlets : List Outlet) (trunk : TrunkId)
     → same_name trunk.dialer (model_of history.node).mint.name ≡ false → outlet_of trunk outlets ≡ None
-    → IsBook names place cookie history outlets
-    → IsBook names place cookie history (outlets ++ installed_outlet greatest trunk history.entries.items ∷ [])
-install_kept rest greatest names place cookie history outlets trunk other none kept = (
+    → IsBook names place setup history outlets
+    → IsBook names place setup history (outlets ++ installed_outlet greatest trunk history.entries.items ∷ [])
+install_kept rest greatest names place setup history outlets trunk other none kept = (
   kept.0,
   λ nodes a.
       let s = kept.1 nodes a in
@@ -112,26 +113,26 @@ name_in [] place d h = absurd (omega arith)
 name_in (n ∷ ns) zero d h = refl
 name_in (n ∷ ns) (suc k) d h = name_in ns k d (omega arith)
 
-pub new_kept : NewBooksFollow → (names : List Name) (place : ℕ) (cookie : List ℕ) (name : Name) (history : History) → place < length names
-    → name ≡ get_or names place name → model_of history.node ≡ new_node name cookie → history.last ≡ 0 → history.entries.items ≡ []
-    → IsBook names place cookie history []
-new_kept follow names place cookie name history h name_is node last entries = (
+pub new_kept : NewBooksFollow → (names : List Name) (place : ℕ) (setup : Setup) (name : Name) (history : History) → place < length names
+    → name ≡ get_or names place name → model_of history.node ≡ new_node name setup → history.last ≡ 0 → history.entries.items ≡ []
+    → IsBook names place setup history []
+new_kept follow names place setup name history h name_is node last entries = (
   h,
   λ nodes a.
-      let below = is_below names place cookie nodes a h in
+      let below = is_below names place setup nodes a h in
       let named : name ≡ name_at nodes place = name_is ∙ ap (λ l. get_or l place name) (sym a.named) ∙ name_in nodes place name below in
       new_stands follow place nodes history
-      (node ∙ ap (λ n. new_node n cookie) named ∙ ap (λ c. new_node (name_at nodes place) c) (sym a.secret)) last entries,
+      (node ∙ ap (λ n. new_node n setup) named ∙ ap (λ c. new_node (name_at nodes place) c) (sym a.secret)) last entries,
   tt,
 )
 
 -- ---- what a book says of an event at the node alone
 
-abbrev pub seen : (names : List Name) (place : ℕ) (cookie : List ℕ) (greatest : ℕ) → History → List Outlet → BookSeen
-seen names place cookie greatest history outlets = record {
+abbrev pub seen : (names : List Name) (place : ℕ) (setup : Setup) (greatest : ℕ) → History → List Outlet → BookSeen
+seen names place setup greatest history outlets = record {
   names = names;
   place = place;
-  cookie = cookie;
+  setup = setup;
   history = history;
   outlets = outlets;
   greatest = greatest;
@@ -141,10 +142,10 @@ plain_comes : (what : NodeEvent) (outlets : List Outlet) → is_plain what ≡ t
 plain_comes (event.Arrive trunk word) outlets h = absurd (let no : false ≡ true = h in cc)
 plain_comes what outlets h = (refl, refl)
 
-module _ (names : List Name) (place : ℕ) (cookie : List ℕ) (greatest : ℕ) (old new : History) (outlets : List Outlet)
+module _ (names : List Name) (place : ℕ) (setup : Setup) (greatest : ℕ) (old new : History) (outlets : List Outlet)
     (what : NodeEvent) (plain : is_plain what ≡ true) where
   pub plainly : (result : Result ℕ Refusal) → HappensAt what old new result
-      → IfOk result (Applies what (seen names place cookie greatest old outlets) (seen names place cookie greatest new outlets))
+      → IfOk result (Applies what (seen names place setup greatest old outlets) (seen names place setup greatest new outlets))
   plainly (Ok at) h =
       let t = h names in
       record {
@@ -153,17 +154,17 @@ module _ (names : List Name) (place : ℕ) (cookie : List ℕ) (greatest : ℕ) 
         comes = plain_comes what outlets plain;
         enters = t.0;
         place_is = t.1;
-        same = record { names = refl; place = refl; cookie = refl; greatest = refl };
+        same = record { names = refl; place = refl; setup = refl; greatest = refl };
       }
   plainly (Err e) h = tt
 
   pub plainly_not : (result : Result ℕ Refusal) → HappensAt what old new result
-      → IfErr result (IsUnapplied what (seen names place cookie greatest old outlets) (seen names place cookie greatest new outlets))
+      → IfErr result (IsUnapplied what (seen names place setup greatest old outlets) (seen names place setup greatest new outlets))
   plainly_not (Ok at) h = tt
   plainly_not (Err e) h =
       let t = h names in
       record {
-        same = record { names = refl; place = refl; cookie = refl; greatest = refl };
+        same = record { names = refl; place = refl; setup = refl; greatest = refl };
         history = t.0;
         outlets = refl;
         why = inr (None, 0, plain_comes what outlets plain, t.1);
@@ -176,22 +177,22 @@ pub found_first : (trunk : TrunkId) (os os' : List Outlet) (at : ℕ) → os' �
 found_first trunk os os' at same h =
     is_first trunk at os (ap (λ l. position (λ o. eq_by_cmp trunk_cmp trunk o.port.trunk) l) (sym same) ∙ sym h)
 
-module _ (names : List Name) (place : ℕ) (cookie : List ℕ) (history : History) (outlets : List Outlet) (trunk : TrunkId)
+module _ (names : List Name) (place : ℕ) (setup : Setup) (history : History) (outlets : List Outlet) (trunk : TrunkId)
     (at : ℕ) (old new : Outlet) (es : List Entry)
     (os' : List Outlet) (same : os' ≡ outlets) (there : Some at ≡ position (λ o. eq_by_cmp trunk_cmp trunk o.port.trunk) os')
     (is : old ≡ get_or outlets at old)
-    (entries : es ≡ history.entries.items) (kept : IsBook names place cookie history outlets) where
-  pub moved_kept : BooksRest → KeepsFeeding es old new → IsBook names place cookie history (set outlets at new)
+    (entries : es ≡ history.entries.items) (kept : IsBook names place setup history outlets) where
+  pub moved_kept : BooksRest → KeepsFeeding es old new → IsBook names place setup history (set outlets at new)
   moved_kept rest keeps =
-      shift_kept rest names place cookie history outlets trunk at old new (found_first trunk outlets os' at same there)
+      shift_kept rest names place setup history outlets trunk at old new (found_first trunk outlets os' at same there)
       (subst (λ o. KeepsFeeding history.entries.items o new) is (subst (λ l. KeepsFeeding l old new) entries keeps)) kept
 
   pub feeds_at : Fed es old
   feeds_at =
       subst (λ l. Fed l old) (sym entries) (subst (λ o. Fed history.entries.items o) (sym is)
-      (book_feeds names place cookie history outlets trunk at old (found_first trunk outlets os' at same there) kept))
+      (book_feeds names place setup history outlets trunk at old (found_first trunk outlets os' at same there) kept))
 
-module _ (names : List Name) (place : ℕ) (cookie : List ℕ) (greatest : ℕ) (old new : History) (outlets : List Outlet)
+module _ (names : List Name) (place : ℕ) (setup : Setup) (greatest : ℕ) (old new : History) (outlets : List Outlet)
     (trunk : TrunkId) (word : ℕ) (at : ℕ) (before after : Outlet)
     (os' : List Outlet) (same : os' ≡ outlets) (there : Some at ≡ position (λ o. eq_by_cmp trunk_cmp trunk o.port.trunk) os')
     (is : before ≡ get_or outlets at before) where
@@ -203,12 +204,12 @@ module _ (names : List Name) (place : ℕ) (cookie : List ℕ) (greatest : ℕ) 
 
   pub arrive_kept : BooksGrow → (result : Result ℕ Refusal) → IfOk result (Takes trunk word old new before after)
       → IfErr result (TakesNothing trunk old new before after)
-      → IsBook names place cookie old outlets → IsBook names place cookie new (set outlets at after)
+      → IsBook names place setup old outlets → IsBook names place setup new (set outlets at after)
   arrive_kept grow (Ok x) ok err kept =
-      taken grow names place cookie old new outlets trunk word at before after first_one kept x
+      taken grow names place setup old new outlets trunk word at before after first_one kept x
       (subst (λ o. Takes trunk word old new o after x) is ok)
   arrive_kept grow (Err e) ok err kept =
-      not_taken grow names place cookie old new outlets trunk word at before after first_one kept e
+      not_taken grow names place setup old new outlets trunk word at before after first_one kept e
       (subst (λ o. TakesNothing trunk old new o after e) is err)
 
   next_is : next_at (outlet_of trunk outlets) ≡ first_of before.port.slot
@@ -219,20 +220,20 @@ module _ (names : List Name) (place : ℕ) (cookie : List ℕ) (greatest : ℕ) 
   of_piece parcel slot piece = subst (λ q. IsOf q piece.item parcel.stamp) (sym (next_is ∙ slot)) (refl, sym piece.written, piece.spelled)
 
   pub arrive_applies : (result : Result ℕ Refusal) → IfOk result (Takes trunk word old new before after)
-      → IfOk result (Applies (event.Arrive trunk word) (seen names place cookie greatest old outlets)
-      (seen names place cookie greatest new (set outlets at after)))
+      → IfOk result (Applies (event.Arrive trunk word) (seen names place setup greatest old outlets)
+      (seen names place setup greatest new (set outlets at after)))
   arrive_applies (Ok x) h = record {
     first = Some h.piece.item;
     sent = h.parcel.stamp;
     comes = of_piece h.parcel (ap (λ l. first_of l) h.slot) h.piece;
     enters = h.enters names h.piece.item h.piece.spelled (sym h.piece.written);
     place_is = h.place_is;
-    same = record { names = refl; place = refl; cookie = refl; greatest = refl };
+    same = record { names = refl; place = refl; setup = refl; greatest = refl };
   }
   arrive_applies (Err e) h = tt
 
   why_not : (e : Refusal) → TakesNothing trunk old new before after e
-      → ((e ≡ Refusal.NothingThere) × IsUnready (event.Arrive trunk word) (seen names place cookie greatest old outlets))
+      → ((e ≡ Refusal.NothingThere) × IsUnready (event.Arrive trunk word) (seen names place setup greatest old outlets))
       ⊎ ((first : Option Item) × (sent : ℕ) × IsComing (event.Arrive trunk word) outlets first sent × IsWanting old.last sent e)
   why_not e h = ⊎_elim
       (λ (x : (e ≡ Refusal.NothingThere) × (is_ready (model_of old.node) trunk (first_of before.port.slot) ≡ false)).
@@ -241,23 +242,23 @@ module _ (names : List Name) (place : ℕ) (cookie : List ℕ) (greatest : ℕ) 
       inr (Some x.2.item, x.0.stamp, of_piece x.0 x.1 x.2, x.3)) h.why
 
   pub arrive_unapplied : (result : Result ℕ Refusal) → IfErr result (TakesNothing trunk old new before after)
-      → IfErr result (IsUnapplied (event.Arrive trunk word) (seen names place cookie greatest old outlets)
-      (seen names place cookie greatest new (set outlets at after)))
+      → IfErr result (IsUnapplied (event.Arrive trunk word) (seen names place setup greatest old outlets)
+      (seen names place setup greatest new (set outlets at after)))
   arrive_unapplied (Ok x) h = tt
   arrive_unapplied (Err e) h = record {
-    same = record { names = refl; place = refl; cookie = refl; greatest = refl };
+    same = record { names = refl; place = refl; setup = refl; greatest = refl };
     history = h.history;
     outlets = ap (λ o. set outlets at o) (h.outlet ∙ is) ∙ set_first trunk at outlets before first_one;
     why = why_not e h;
   }
 
-pub nowhere_unapplied : (names : List Name) (place : ℕ) (cookie : List ℕ) (greatest : ℕ) (history : History)
+pub nowhere_unapplied : (names : List Name) (place : ℕ) (setup : Setup) (greatest : ℕ) (history : History)
     (outlets os' : List Outlet) (trunk : TrunkId) (word : ℕ) → os' ≡ outlets
     → None ≡ position (λ o. eq_by_cmp trunk_cmp trunk o.port.trunk) os'
-    → IsUnapplied (event.Arrive trunk word) (seen names place cookie greatest history outlets)
-    (seen names place cookie greatest history outlets) Refusal.NothingThere
-nowhere_unapplied names place cookie greatest history outlets os' trunk word same h = record {
-  same = record { names = refl; place = refl; cookie = refl; greatest = refl };
+    → IsUnapplied (event.Arrive trunk word) (seen names place setup greatest history outlets)
+    (seen names place setup greatest history outlets) Refusal.NothingThere
+nowhere_unapplied names place setup greatest history outlets os' trunk word same h = record {
+  same = record { names = refl; place = refl; setup = refl; greatest = refl };
   history = record { node = refl; last = refl; entries = refl };
   outlets = refl;
   why = inl (
@@ -267,15 +268,15 @@ nowhere_unapplied names place cookie greatest history outlets os' trunk word sam
   );
 }
 
-pub dial_kept : BooksGrow → NextIsNew → (greatest : ℕ) (names : List Name) (place : ℕ) (cookie : List ℕ) (old new : History)
+pub dial_kept : BooksGrow → NextIsNew → (greatest : ℕ) (names : List Name) (place : ℕ) (setup : Setup) (old new : History)
     (outlets after : List Outlet) (is_known : Bool) (peer : Name) (word : ℕ)
     (result : Result ℕ Refusal) → has_name peer names ≡ is_known → IfOk result (DialsOut greatest is_known peer word old new outlets after)
-    → IfErr result (λ e. Stays old new) → IfErr result (λ e. after ≡ outlets) → IsBook names place cookie old outlets
-    → IsBook names place cookie new after
-dial_kept grow next greatest names place cookie old new outlets after is_known peer word (Ok x) known ok st os kept =
-    dialed grow next names place cookie old new outlets after is_known peer word greatest known kept x ok
-dial_kept grow next greatest names place cookie old new outlets after is_known peer word (Err e) known ok st os kept =
-    still_kept names place cookie old new outlets after st os kept
+    → IfErr result (λ e. Stays old new) → IfErr result (λ e. after ≡ outlets) → IsBook names place setup old outlets
+    → IsBook names place setup new after
+dial_kept grow next greatest names place setup old new outlets after is_known peer word (Ok x) known ok st os kept =
+    dialed grow next names place setup old new outlets after is_known peer word greatest known kept x ok
+dial_kept grow next greatest names place setup old new outlets after is_known peer word (Err e) known ok st os kept =
+    still_kept names place setup old new outlets after st os kept
 
 pub none_same : (trunk : TrunkId) (os : List Outlet)
     → is_none (position (λ o. eq_by_cmp trunk_cmp trunk o.port.trunk) os) ≡ is_none (outlet_of trunk os)
@@ -296,17 +297,17 @@ no_outlet : (o : Option Outlet) → is_none o ≡ true → o ≡ None
 no_outlet None h = refl
 no_outlet (Some o) h = absurd (let no : false ≡ true = h in cc)
 
-pub installed_as : BooksRest → (greatest : ℕ) (names : List Name) (place : ℕ) (cookie : List ℕ) (history : History)
+pub installed_as : BooksRest → (greatest : ℕ) (names : List Name) (place : ℕ) (setup : Setup) (history : History)
     (outlets mid after : List Outlet) (trunk : TrunkId) (dialer : Name)
     (new : Outlet) → wants (model_of history.node) trunk outlets ≡ true → mid ≡ outlets → after ≡ mid ++ new ∷ []
     → new ≡ new_outlet greatest trunk dialer (length history.entries.items) → dialer ≡ trunk.dialer
-    → IsBook names place cookie history outlets → IsBook names place cookie history after
-installed_as rest greatest names place cookie history outlets mid after trunk dialer new w m a is d kept =
+    → IsBook names place setup history outlets → IsBook names place setup history after
+installed_as rest greatest names place setup history outlets mid after trunk dialer new w m a is d kept =
     let t = and_parts (not (same_name trunk.dialer (model_of history.node).mint.name)) (is_none (outlet_of trunk outlets)) w in
     let is_new : new ≡ installed_outlet greatest trunk history.entries.items =
     is ∙ ap (λ x. new_outlet greatest trunk x (length history.entries.items)) d in
-    subst (λ l. IsBook names place cookie history l) (sym (a ∙ ap (λ l. l ++ new ∷ []) m ∙ ap (λ o. outlets ++ o ∷ []) is_new))
-    (install_kept rest greatest names place cookie history outlets trunk
+    subst (λ l. IsBook names place setup history l) (sym (a ∙ ap (λ l. l ++ new ∷ []) m ∙ ap (λ o. outlets ++ o ∷ []) is_new))
+    (install_kept rest greatest names place setup history outlets trunk
     (not-true (same_name trunk.dialer (model_of history.node).mint.name) t.0) (no_outlet (outlet_of trunk outlets) t.1) kept)
 
 pub copied_name : (names : List Name) (place : ℕ) (name held : Name) → name ≡ held → held ≡ get_or names place held

@@ -110,7 +110,7 @@ module _ (act : Act) (book : BookSeen) (seat : Seat) where
   pub strange : (IsAtHome book seat → ⊥) → IsUncalled act book book seat seat Refusal.StrangeSeat
   strange away = record {
     stays = record { node = refl; receipts = refl };
-    same = record { names = refl; place = refl; cookie = refl; greatest = refl };
+    same = record { names = refl; place = refl; setup = refl; greatest = refl };
     history = record { node = refl; last = refl; entries = refl };
     outlets = refl;
     why = inl (refl, away);
@@ -119,7 +119,7 @@ module _ (act : Act) (book : BookSeen) (seat : Seat) where
   -- there is no memory, or no stamp is left
   wanting : (e : Refusal) → IsWanting book.history.last 0 e → IsUnapplied (event_of act) book book e
   wanting e h = record {
-    same = record { names = refl; place = refl; cookie = refl; greatest = refl };
+    same = record { names = refl; place = refl; setup = refl; greatest = refl };
     history = record { node = refl; last = refl; entries = refl };
     outlets = refl;
     why = inr (None, 0, idle act book.outlets, h);
@@ -129,7 +129,7 @@ module _ (act : Act) (book : BookSeen) (seat : Seat) where
       → after.receipts.items ≡ seat.receipts.items → IsUncalled act book book seat after e
   not_called e h after home n r = record {
     stays = record { node = n; receipts = r };
-    same = record { names = refl; place = refl; cookie = refl; greatest = refl };
+    same = record { names = refl; place = refl; setup = refl; greatest = refl };
     history = record { node = refl; last = refl; entries = refl };
     outlets = refl;
     why = inr (home, wanting e h);

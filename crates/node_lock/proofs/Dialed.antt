@@ -40,11 +40,12 @@ use Rattle.wire_core.specs.Standing.{no_port}
 use Rattle.node_core.proofs.Fronted.{refused_or, same_work}
 use Rattle.node_core.specs.NodeEvents.{met as met_by}
 use Rattle.node_core.specs.declared.node_event.NodeEvent.TheVariants as event
+use Rattle.dist_model.specs.Sides.{untold}
 
 -- ---- what a dial comes to that is accepted
 
 abbrev dialed_side : (peer : Name) (word : ℕ) → TrunkSide
-dialed_side peer word = record { peer = peer; peer_creation = 0; state = AwaitsStatus word }
+dialed_side peer word = record { peer = peer; introduction = untold; state = AwaitsStatus word }
 
 abbrev dialed_work : model.Node → Name → ℕ → Work
 dialed_work m peer word =

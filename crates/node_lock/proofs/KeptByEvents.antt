@@ -29,6 +29,8 @@ use Rattle.node_lock.specs.declared.outlet.Outlet.{Outlet}
 use Rattle.node_core.specs.NodeEvents.{event_at, met as met_by}
 use Rattle.node_core.specs.declared.node_event.NodeEvent.{NodeEvent}
 use Rattle.node_core.specs.declared.node_event.NodeEvent.TheVariants as event
+use Rattle.dist_books.specs.Acting.{nowhere}
+use Rattle.erl_handshake.specs.declared.setup.Setup.{Setup}
 
 -- ---- nodes by their names
 
@@ -36,9 +38,9 @@ length_names : (nodes : Nodes) → length (names_of nodes) ≡ length nodes
 length_names [] = refl
 length_names (n ∷ ns) = ap (λ k. suc k) (length_names ns)
 
-pub is_below : (names : List Name) (place : ℕ) (cookie : List ℕ) (nodes : Nodes) → AreNodes names place cookie nodes
+pub is_below : (names : List Name) (place : ℕ) (setup : Setup) (nodes : Nodes) → AreNodes names place setup nodes
     → place < length names → place < length nodes
-is_below names place cookie nodes a h = omega (arith, length_names nodes, ap (λ (l : List Name). length l) a.named)
+is_below names place setup nodes a h = omega (arith, length_names nodes, ap (λ (l : List Name). length l) a.named)
 
 -- ---- the entry that came last
 
@@ -58,20 +60,20 @@ set_first trunk k [] d h = absurd h
 set_first trunk zero (o ∷ os) d h = refl
 set_first trunk (suc k) (o ∷ os) d h = ap (λ l. o ∷ l) (set_first trunk k os d h.1)
 
--- ---- a node of these names and this cookie is there
+-- ---- a node of these names and this setup is there
 
-abbrev pub those : List Name → List ℕ → Nodes
-those names cookie = map (λ (name : Name). (name, cookie)) names
+abbrev pub those : List Name → Setup → Nodes
+those names setup = map (λ (name : Name). (name, setup)) names
 
-pub those_named : (names : List Name) (cookie : List ℕ) → names_of (those names cookie) ≡ names
-those_named [] cookie = refl
-those_named (n ∷ ns) cookie = ap (λ l. n ∷ l) (those_named ns cookie)
+pub those_named : (names : List Name) (setup : Setup) → names_of (those names setup) ≡ names
+those_named [] setup = refl
+those_named (n ∷ ns) setup = ap (λ l. n ∷ l) (those_named ns setup)
 
-pub those_secret : (names : List Name) (cookie : List ℕ) (place : ℕ) → place < length names
-    → (get_or (those names cookie) place ([], [])).1 ≡ cookie
-those_secret [] cookie place h = absurd (omega arith)
-those_secret (n ∷ ns) cookie zero h = refl
-those_secret (n ∷ ns) cookie (suc k) h = those_secret ns cookie k (omega arith)
+pub those_secret : (names : List Name) (setup : Setup) (place : ℕ) → place < length names
+    → (get_or (those names setup) place nowhere).1 ≡ setup
+those_secret [] setup place h = absurd (omega arith)
+those_secret (n ∷ ns) setup zero h = refl
+those_secret (n ∷ ns) setup (suc k) h = those_secret ns setup k (omega arith)
 
 -- ---- nothing has changed
 
@@ -89,10 +91,10 @@ stands_still place old new outlets outlets' nodes st same s =
       follows = s.follows;
     })
 
-pub still_kept : (names : List Name) (place : ℕ) (cookie : List ℕ) (old new : History) (outlets outlets' : List Outlet)
+pub still_kept : (names : List Name) (place : ℕ) (setup : Setup) (old new : History) (outlets outlets' : List Outlet)
     → Stays old new → outlets' ≡ outlets
-    → IsBook names place cookie old outlets → IsBook names place cookie new outlets'
-still_kept names place cookie old new outlets outlets' st same kept =
+    → IsBook names place setup old outlets → IsBook names place setup new outlets'
+still_kept names place setup old new outlets outlets' st same kept =
     (kept.0, λ nodes a. stands_still place old new outlets outlets' nodes st same (kept.1 nodes a), subst AreApart (sym same) kept.2)
 
 -- ---- at the node alone
@@ -114,41 +116,41 @@ module _ (own : Name) where
 abbrev pub HappensAt : NodeEvent → (old new : History) → Result ℕ Refusal → Type 0
 HappensAt what old new result = (names : List Name) → Tries (at_node names (model_of old.node) (met_by what None)) what 0 old new result
 
-pub happened : BooksGrow → (names : List Name) (place : ℕ) (cookie : List ℕ) (old new : History) (outlets : List Outlet)
+pub happened : BooksGrow → (names : List Name) (place : ℕ) (setup : Setup) (old new : History) (outlets : List Outlet)
     (what : NodeEvent) (result : Result ℕ Refusal)
-    → is_plain what ≡ true → HappensAt what old new result → IsBook names place cookie old outlets → IsBook names place cookie new outlets
-happened grow names place cookie old new outlets what (Ok at) plain h kept = (
+    → is_plain what ≡ true → HappensAt what old new result → IsBook names place setup old outlets → IsBook names place setup new outlets
+happened grow names place setup old new outlets what (Ok at) plain h kept = (
   kept.0,
   λ nodes a.
       let own = name_at nodes place in
       let e = (h (names_of nodes)).0 in
-      let below = is_below names place cookie nodes a kept.0 in
+      let below = is_below names place setup nodes a kept.0 in
       let s = kept.1 nodes a in
       entered_plainly grow place nodes old new what None 0 outlets below s e (plain_met own what plain)
       (plain_takes own what (one_more.due grow place nodes old new what None 0 outlets below s e))
       (λ t peer d to. absurd (plain_dials own what peer d.0.0 plain d.0.1)),
   kept.2,
 )
-happened grow names place cookie old new outlets what (Err e) plain h kept =
-    still_kept names place cookie old new outlets outlets (h names).0 refl kept
+happened grow names place setup old new outlets what (Err e) plain h kept =
+    still_kept names place setup old new outlets outlets (h names).0 refl kept
 
 -- ---- an item comes
 
-module _ (grow : BooksGrow) (names : List Name) (place : ℕ) (cookie : List ℕ) (old new : History) (outlets : List Outlet)
+module _ (grow : BooksGrow) (names : List Name) (place : ℕ) (setup : Setup) (old new : History) (outlets : List Outlet)
     (trunk : TrunkId) (word : ℕ) (k : ℕ) (d after : Outlet)
-    (first : IsFirst trunk k outlets) (kept : IsBook names place cookie old outlets) where
+    (first : IsFirst trunk k outlets) (kept : IsBook names place setup old outlets) where
   abbrev before : Outlet
   before = get_or outlets k d
 
   there : outlet_of trunk outlets ≡ Some before
   there = first_is trunk k outlets d first
 
-  module _ (at : ℕ) (h : Takes trunk word old new before after at) (nodes : Nodes) (a : AreNodes names place cookie nodes) where
+  module _ (at : ℕ) (h : Takes trunk word old new before after at) (nodes : Nodes) (a : AreNodes names place setup nodes) where
     s : HasBook place old outlets nodes
     s = kept.1 nodes a
 
     below : place < length nodes
-    below = is_below names place cookie nodes a kept.0
+    below = is_below names place setup nodes a kept.0
 
     here : FeedsAt trunk old.entries.items (Some before) (s.book.ports trunk)
     here = subst (λ o. FeedsAt trunk old.entries.items o (s.book.ports trunk)) there (s.is.ports trunk)
@@ -201,26 +203,26 @@ module _ (grow : BooksGrow) (names : List Name) (place : ℕ) (cookie : List ℕ
       either true = refl
       either false = refl
 
-  pub taken : (at : ℕ) → Takes trunk word old new before after at → IsBook names place cookie new (set outlets k after)
+  pub taken : (at : ℕ) → Takes trunk word old new before after at → IsBook names place setup new (set outlets k after)
   taken at h = (kept.0, λ nodes a. taken_stands at h nodes a, apart_set trunk k outlets after first (same_end at h) kept.2)
 
-  pub not_taken : (e : Refusal) → TakesNothing trunk old new before after e → IsBook names place cookie new (set outlets k after)
+  pub not_taken : (e : Refusal) → TakesNothing trunk old new before after e → IsBook names place setup new (set outlets k after)
   not_taken e h =
-      still_kept names place cookie old new outlets (set outlets k after) h.history
+      still_kept names place setup old new outlets (set outlets k after) h.history
       (ap (λ o. set outlets k o) h.outlet ∙ set_first trunk k outlets d first) kept
 
 -- ---- the node dials
 
-module _ (grow : BooksGrow) (new_next : NextIsNew) (names : List Name) (place : ℕ) (cookie : List ℕ) (old new : History)
+module _ (grow : BooksGrow) (new_next : NextIsNew) (names : List Name) (place : ℕ) (setup : Setup) (old new : History)
     (outlets after : List Outlet) (is_known : Bool)
-    (peer : Name) (word greatest : ℕ) (known : has_name peer names ≡ is_known) (kept : IsBook names place cookie old outlets) where
+    (peer : Name) (word greatest : ℕ) (known : has_name peer names ≡ is_known) (kept : IsBook names place setup old outlets) where
   module _ (at : ℕ) (h : DialsOut greatest is_known peer word old new outlets after at) (nodes : Nodes)
-      (a : AreNodes names place cookie nodes) where
+      (a : AreNodes names place setup nodes) where
     s2 : HasBook place old outlets nodes
     s2 = kept.1 nodes a
 
     below2 : place < length nodes
-    below2 = is_below names place cookie nodes a kept.0
+    below2 = is_below names place setup nodes a kept.0
 
     abbrev outcome : Outcome
     outcome = at_node (names_of nodes) (model_of old.node) (met_by (event.Dial peer word) None)
@@ -283,10 +285,10 @@ module _ (grow : BooksGrow) (new_next : NextIsNew) (names : List Name) (place : 
     pub dialed_stands : HasBook place new after nodes
     dialed_stands = by_reply e2.answer refl (ends grow place nodes old new (event.Dial peer word) None 0 outlets below2 s2 e2)
 
-  pub dialed : (at : ℕ) → DialsOut greatest is_known peer word old new outlets after at → IsBook names place cookie new after
+  pub dialed : (at : ℕ) → DialsOut greatest is_known peer word old new outlets after at → IsBook names place setup new after
   dialed at h = (
     kept.0,
     λ nodes a. dialed_stands at h nodes a,
-    dialed_apart at h (those names cookie)
-        (record { named = those_named names cookie; secret = those_secret names cookie place kept.0 }),
+    dialed_apart at h (those names setup)
+        (record { named = those_named names setup; secret = those_secret names setup place kept.0 }),
   )

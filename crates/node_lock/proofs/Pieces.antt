@@ -12,6 +12,7 @@ use Rattle.node_lock.specs.Passing.{with_piece}
 use Rattle.node_lock.proofs.Places.{apart_in_pieces}
 use Rattle.node_lock.specs.Standing.{FeedsAt, IsBook, outlet_of}
 use Rattle.node_lock.specs.declared.outlet.Outlet.{Outlet}
+use Rattle.erl_handshake.specs.declared.setup.Setup.{Setup}
 
 -- ---- one after the other
 
@@ -66,9 +67,9 @@ module _ (greatest : ℕ) (t : TrunkId) (es : List Entry) where
       go others true k = fed o p k
       go others false k = others k
 
-pub pieces_kept : (greatest : ℕ) (names : List Name) (place : ℕ) (cookie : List ℕ) (history : History) (outlets : List Outlet)
-    → IsBook names place cookie history outlets → IsBook names place cookie history (map (with_piece greatest) outlets)
-pieces_kept greatest names place cookie history outlets kept = (
+pub pieces_kept : (greatest : ℕ) (names : List Name) (place : ℕ) (setup : Setup) (history : History) (outlets : List Outlet)
+    → IsBook names place setup history outlets → IsBook names place setup history (map (with_piece greatest) outlets)
+pieces_kept greatest names place setup history outlets kept = (
   kept.0,
   λ nodes a.
       let s = kept.1 nodes a in

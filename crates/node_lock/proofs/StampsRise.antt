@@ -10,6 +10,8 @@ use Rattle.node_history.specs.declared.entry.Entry.{Entry}
 use Rattle.node_history.specs.declared.history.History.{History}
 use Rattle.node_lock.specs.Standing.{AreNodes, IsBook, TellEntries}
 use Rattle.node_lock.specs.declared.outlet.Outlet.{Outlet}
+use Rattle.dist_books.specs.Acting.{nowhere}
+use Rattle.erl_handshake.specs.declared.setup.Setup.{Setup}
 
 up_to_last : (from : ℕ) (of : List (merging.Entry Event Report)) (last : ℕ) → Rise from of last → from ≤ last
 up_to_last from [] last h = omega (arith, h)
@@ -27,26 +29,26 @@ each_up_to own from (e ∷ es) (o ∷ os) last t r zero entry g =
     omega (arith, is, told, below)
 each_up_to own from (e ∷ es) (o ∷ os) last t r (suc k) entry g = each_up_to own o.stamp es os last t.1 r.1 k entry g
 
--- nodes of these names that all have one cookie
-abbrev of_one_cookie : List ℕ → List Name → Nodes
-of_one_cookie cookie names = map (λ name. (name, cookie)) names
+-- nodes of these names that all have one setup
+abbrev of_one_setup : Setup → List Name → Nodes
+of_one_setup setup names = map (λ name. (name, setup)) names
 
-are_named : (cookie : List ℕ) (names : List Name) → names_of (of_one_cookie cookie names) ≡ names
-are_named cookie [] = refl
-are_named cookie (name ∷ names) = ap (λ rest. name ∷ rest) (are_named cookie names)
+are_named : (setup : Setup) (names : List Name) → names_of (of_one_setup setup names) ≡ names
+are_named setup [] = refl
+are_named setup (name ∷ names) = ap (λ rest. name ∷ rest) (are_named setup names)
 
-has_cookie : (cookie : List ℕ) (names : List Name) (place : ℕ) → place < length names
-    → (slice_index_or (of_one_cookie cookie names) place ([], [])).1 ≡ cookie
-has_cookie cookie [] place below = absurd (omega (arith, below))
-has_cookie cookie (name ∷ names) zero below = refl
-has_cookie cookie (name ∷ names) (suc k) below = has_cookie cookie names k (omega (arith, below))
+has_setup : (setup : Setup) (names : List Name) (place : ℕ) → place < length names
+    → (slice_index_or (of_one_setup setup names) place nowhere).1 ≡ setup
+has_setup setup [] place below = absurd (omega (arith, below))
+has_setup setup (name ∷ names) zero below = refl
+has_setup setup (name ∷ names) (suc k) below = has_setup setup names k (omega (arith, below))
 
-pub stamps_rise : (names : List Name) (place : ℕ) (cookie : List ℕ) (history : History) (outlets : List Outlet)
-    → IsBook names place cookie history outlets
+pub stamps_rise : (names : List Name) (place : ℕ) (setup : Setup) (history : History) (outlets : List Outlet)
+    → IsBook names place setup history outlets
     → (k : ℕ) (entry : Entry) → slice_get history.entries.items k ≡ Some entry → entry.stamp ≤ history.last
-stamps_rise names place cookie history outlets book k entry g =
-    let nodes = of_one_cookie cookie names in
-    let are : AreNodes names place cookie nodes = record { named = are_named cookie names; secret = has_cookie cookie names place book.0 } in
+stamps_rise names place setup history outlets book k entry g =
+    let nodes = of_one_setup setup names in
+    let are : AreNodes names place setup nodes = record { named = are_named setup names; secret = has_setup setup names place book.0 } in
     let has = book.1 nodes are in
     let up = each_up_to (name_at nodes place) 0 history.entries.items has.book.history has.book.last has.is.entries has.follows.replays.rise k entry g in
     let last = has.is.last in

@@ -16,6 +16,7 @@ use Rattle.node_lock.specs.declared.outlet.Outlet.{Outlet}
 use Rattle.node_core.specs.NodeEvents.{met}
 use Rattle.node_core.specs.declared.node_event.NodeEvent.{NodeEvent}
 use Rattle.node_core.specs.declared.node_event.NodeEvent.TheVariants as event
+use Rattle.erl_handshake.specs.declared.setup.Setup.{Setup}
 
 abbrev pub is_ready_on : model.Node → TrunkId → List Outlet → Bool
 is_ready_on m trunk outlets = is_ready m trunk (next_at (outlet_of trunk outlets))
@@ -28,14 +29,14 @@ wants m trunk outlets = not (same_name trunk.dialer m.mint.name) && is_none (out
 pub record IsSameNode (old new : BookSeen) : Type 0 where
   pub names : new.names ≡ old.names
   pub place : new.place ≡ old.place
-  pub cookie : new.cookie ≡ old.cookie
+  pub setup : new.setup ≡ old.setup
   pub greatest : new.greatest ≡ old.greatest
 
 -- of a node to which nothing has happened
-pub record IsFreshBook (names : List Name) (place : ℕ) (cookie : List ℕ) (book : BookSeen) : Type 0 where
+pub record IsFreshBook (names : List Name) (place : ℕ) (setup : Setup) (book : BookSeen) : Type 0 where
   pub names_are : book.names ≡ names
   pub place_is : book.place ≡ place
-  pub cookie_is : book.cookie ≡ cookie
+  pub cookie_is : book.setup ≡ setup
   pub last : book.history.last ≡ 0
   pub entries : book.history.entries.items ≡ []
   pub outlets : book.outlets ≡ []

@@ -18,6 +18,8 @@ use Rattle.node_lock.specs.declared.outlet.Outlet.{Outlet}
 use Rattle.wire_core.specs.Standing.{StandsFor}
 use Rattle.node_core.specs.Told.{Tells}
 use Rattle.node_core.specs.NodeEvents.{event_at}
+use Rattle.dist_books.specs.Acting.{nowhere}
+use Rattle.erl_handshake.specs.declared.setup.Setup.{Setup}
 
 -- ---- the entries
 
@@ -65,10 +67,10 @@ pub record IsBookOf (own : Name) (history : History) (outlets : List Outlet) (bo
   pub entries : TellEntries own history.entries.items book.history
   pub ports : (trunk : TrunkId) → FeedsAt trunk history.entries.items (outlet_of trunk outlets) (book.ports trunk)
 
--- nodes of these names, among which the one at that place has this cookie
-pub record AreNodes (names : List Name) (place : ℕ) (cookie : List ℕ) (nodes : Nodes) : Type 0 where
+-- nodes of these names, among which the one at that place has this setup
+pub record AreNodes (names : List Name) (place : ℕ) (setup : Setup) (nodes : Nodes) : Type 0 where
   pub named : names_of nodes ≡ names
-  pub secret : (slice_index_or nodes place ([], [])).1 ≡ cookie
+  pub secret : (slice_index_or nodes place nowhere).1 ≡ setup
 
 -- it stands for a book of which all holds that a thread keeps: a log replays it from the new node
 pub record HasBook (place : ℕ) (history : History) (outlets : List Outlet) (nodes : Nodes) : Type 0 where
@@ -76,6 +78,6 @@ pub record HasBook (place : ℕ) (history : History) (outlets : List Outlet) (no
   pub is : IsBookOf (name_at nodes place) history outlets book
   pub follows : Follows nodes place book
 
-abbrev pub IsBook : (names : List Name) (place : ℕ) (cookie : List ℕ) → History → List Outlet → Type 0
-IsBook names place cookie history outlets =
-    (place < length names) × ((nodes : Nodes) → AreNodes names place cookie nodes → HasBook place history outlets nodes) × AreApart outlets
+abbrev pub IsBook : (names : List Name) (place : ℕ) (setup : Setup) → History → List Outlet → Type 0
+IsBook names place setup history outlets =
+    (place < length names) × ((nodes : Nodes) → AreNodes names place setup nodes → HasBook place history outlets nodes) × AreApart outlets

@@ -12,7 +12,7 @@ use crate::book::Book;
 use crate::dialing::dial;
 use crate::names::{has_name, place_near, place_of};
 use crate::outlet::PieceLength;
-use erl_handshake::Cookie;
+use erl_handshake::Setup;
 use erl_names::{NodeName, TrunkId};
 use erl_term::Refusal;
 use node_core::{Node, NodeEvent};
@@ -31,7 +31,7 @@ fn placed(told: Result<Told, Refusal>) -> Result<usize, Refusal>
 }
 
 impl Book {
-    /// The book of the node at that place among all nodes, with its cookie. Nothing has happened to it
+    /// The book of the node at that place among all nodes, with its setup. Nothing has happened to it
     /// yet.
     ///
     /// # Errors
@@ -40,18 +40,18 @@ impl Book {
         alloc: Global,
         names: Vec<NodeName>,
         place: usize,
-        cookie: Cookie,
+        setup: Setup,
     ) -> Result<Book, AllocError>
         requires { place < length names.items }
-        ensures { IfOk result (IsFreshBook names.items place cookie) }
+        ensures { IfOk result (IsFreshBook names.items place setup) }
     {
         dist_books::books_grow();
         let name = names[place].clone()?;
-        let node = Node::new(alloc, name, cookie.clone()?)?;
+        let node = Node::new(alloc, name, setup.clone()?)?;
         Ok(Book {
             names,
             place,
-            cookie,
+            setup,
             history: History::new(alloc, node),
             outlets: Vec::new(alloc),
             offers: Vec::new(alloc),

@@ -4,7 +4,7 @@ ghost use Rattle.node_lock.specs.Standing.{IsBook};
 
 use crate::book::Book;
 use crate::outlet::Outlet;
-use erl_handshake::Cookie;
+use erl_handshake::Setup;
 use erl_names::NodeName;
 use wire_core::Port;
 
@@ -16,12 +16,12 @@ impl Book {
         self.names.as_slice()
     }
 
-    /// Returns the cookie of the book's node. (ERTS User's Guide, Distribution Protocol,
+    /// Returns the setup of the book's node. (ERTS User's Guide, Distribution Protocol,
     /// Distribution Handshake.)
-    pub fn cookie(&self) -> &Cookie
-        ensures { result.now ≡ self.now.cookie }
+    pub fn setup(&self) -> &Setup
+        ensures { result.now ≡ self.now.setup }
     {
-        &self.cookie
+        &self.setup
     }
 
     /// Returns the node's ends of connections, the oldest first.
@@ -40,7 +40,7 @@ impl Book {
 
     /// Has no effect. Its contract is the invariant of the type: a log replays the book.
     pub fn replays(&self)
-        ensures { IsBook self.now.names self.now.place self.now.cookie self.now.history self.now.outlets }
+        ensures { IsBook self.now.names self.now.place self.now.setup self.now.history self.now.outlets }
     {
         let _ = &self.place;
     }

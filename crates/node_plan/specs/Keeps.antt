@@ -1,7 +1,6 @@
 -- What a node keeps throughout, besides what dist_model says of any node.
 use Rattle.std.specs.Prelude.{◌≡◌, ◌<◌, ℕ, None}
 use Rattle.std.specs.FinMap as fm
-use Rattle.erl_handshake.specs.Flags.{mandatory}
 use Rattle.erl_handshake.specs.declared.identity.Identity.{Identity}
 use Rattle.erl_names.specs.Ids.{reference_of}
 use Rattle.erl_names.specs.Minted.{Minted}
@@ -15,4 +14,3 @@ AreDrawn watches m = (count : ℕ) → m.references < count → fm.get watches (
 pub record Introduces (own : Identity) (m : Minted) : Type 0 where
   pub name : own.name ≡ m.name
   pub creation : own.creation ≡ m.creation
-  pub flags : own.flags ≡ mandatory

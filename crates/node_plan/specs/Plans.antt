@@ -16,6 +16,7 @@ abbrev pub committed : Plan → Node → Node
 committed plan m = record {
   mint = drawn_by plan.draws (spawned_by plan.change m.mint);
   cookie = m.cookie;
+  flags = m.flags;
   up = m.up;
   dialed = dialed_after plan.dials m.dialed;
   lives = lives_after plan.change m.mint m.lives;

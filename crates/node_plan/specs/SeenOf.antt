@@ -14,6 +14,7 @@ abbrev pub seen_of : Incarnation → Identity → ℕ → (watches watchers : He
 seen_of it own dialed watches watchers held local = record {
   mint = it.mint;
   cookie = own.cookie;
+  flags = own.flags;
   up = it.up;
   dialed = dialed;
   lives = lives it;

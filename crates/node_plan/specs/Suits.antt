@@ -34,7 +34,7 @@ IsNext (monitor.Removes r) draw m = Unit {0}
 abbrev pub Lets : SideChange → FinMap trunk_cmp TrunkSide → Type 0
 Lets (side.Adds new) sides = (fm.get sides new.trunk ≡ None) × IsDown new.standing
 Lets (side.Stands trunk standing) sides = IsDown standing × StaysGone standing (fm.get sides trunk)
-Lets (side.ComesUp trunk peer creation) sides =
+Lets (side.ComesUp trunk peer introduction) sides =
     IsTowards peer (fm.get sides trunk) × NoOtherUp sides trunk peer × (is_gone_in (fm.get sides trunk) ≡ false)
 
 abbrev pub LetsAll : List SideChange → FinMap trunk_cmp TrunkSide → Type 0

@@ -4,7 +4,7 @@ ghost use Rattle.dist_model.specs.Runs.{new_node};
 ghost use Rattle.node_plan.specs.Seen.{seen};
 
 use crate::node::Node;
-use erl_handshake::{Cookie, Flags, Identity};
+use erl_handshake::{Identity, Setup};
 use erl_names::{Creation, NodeName};
 use monitor_core::{Watchers, Watches};
 use node_tables::{Incarnation, Sides};
@@ -12,19 +12,19 @@ use std::alloc::{AllocError, Global};
 use std::collections::VecDeque;
 
 impl Node {
-    /// A node of this name that runs, in its first incarnation. (Reference Manual, Distributed
+    /// Returns a node of this name and setup that runs, in its first incarnation. (Reference Manual, Distributed
     /// Erlang, Nodes.)
     ///
     /// # Errors
     /// Where there is no memory for the name.
-    pub fn new(alloc: Global, name: NodeName, cookie: Cookie) -> Result<Node, AllocError>
-        ensures { IfOk result (λ node. seen node ≡ new_node name cookie) }
+    pub fn new(alloc: Global, name: NodeName, setup: Setup) -> Result<Node, AllocError>
+        ensures { IfOk result (λ node. seen node ≡ new_node name setup) }
     {
         let own = Identity {
             name: name.clone()?,
             creation: Creation::first(),
-            flags: Flags::mandatory(),
-            cookie,
+            flags: setup.profile.flags(),
+            cookie: setup.cookie,
         };
         Ok(Node {
             incarnation: Incarnation::new(alloc, name, Creation::first()),

@@ -174,11 +174,11 @@ open_find (x ∷ xs) q s h f = go (eq_by_cmp trunk_cmp q x.trunk) f (open_find x
     go false k more = more k
 
 pub open_settled : (st : Standing) → not (is_gone (state_of st)) ≡ true → is_settled st ≡ true
-open_settled (standing.Dialing (dialer.Done creation)) h = cc
+open_settled (standing.Dialing (dialer.Done introduction)) h = cc
 open_settled (standing.Dialing dialer.Over) h = cc
 open_settled (standing.Accepting acceptor.AwaitsName) h = cc
-open_settled (standing.Accepting (acceptor.AwaitsAdmission w creation)) h = cc
-open_settled (standing.Accepting (acceptor.Done creation)) h = cc
+open_settled (standing.Accepting (acceptor.AwaitsAdmission w introduction)) h = cc
+open_settled (standing.Accepting (acceptor.Done introduction)) h = cc
 open_settled (standing.Accepting acceptor.Over) h = cc
 open_settled standing.Gone h = cc
 open_settled st h = refl
@@ -186,12 +186,12 @@ open_settled st h = refl
 pub gone_settled : (st : Standing) → is_settled st ≡ true → is_gone (state_of st) ≡ true → st ≡ standing.Gone
 gone_settled (standing.Dialing (dialer.AwaitsStatus w)) h g = cc
 gone_settled (standing.Dialing (dialer.AwaitsChallenge w)) h g = cc
-gone_settled (standing.Dialing (dialer.AwaitsAck w creation)) h g = cc
-gone_settled (standing.Accepting (acceptor.AwaitsAnswer w creation)) h g = cc
-gone_settled (standing.Accepting (acceptor.AwaitsTurn w creation)) h g = cc
-gone_settled (standing.Accepting (acceptor.AwaitsReply w creation)) h g = cc
-gone_settled (standing.Up creation) h g = cc
-gone_settled (standing.Losing creation) h g = cc
+gone_settled (standing.Dialing (dialer.AwaitsAck w introduction)) h g = cc
+gone_settled (standing.Accepting (acceptor.AwaitsAnswer w introduction)) h g = cc
+gone_settled (standing.Accepting (acceptor.AwaitsTurn w introduction)) h g = cc
+gone_settled (standing.Accepting (acceptor.AwaitsReply w introduction)) h g = cc
+gone_settled (standing.Up introduction) h g = cc
+gone_settled (standing.Losing introduction) h g = cc
 gone_settled standing.Gone h g = refl
 gone_settled st h g = cc
 

@@ -26,7 +26,7 @@ stood sides trunk standing = stood_at sides trunk standing (fm.get sides trunk)
 abbrev pub side_changed : SideChange → FinMap trunk_cmp TrunkSide → FinMap trunk_cmp TrunkSide
 side_changed (Adds side) sides = fm.insert sides side.trunk (side_of side)
 side_changed (Stands trunk standing) sides = stood sides trunk standing
-side_changed (ComesUp trunk peer creation) sides = stood sides trunk (Up creation)
+side_changed (ComesUp trunk peer introduction) sides = stood sides trunk (Up introduction)
 
 -- ---- the changes that can be made
 
@@ -53,7 +53,7 @@ StaysGone standing side = is_gone_in side ≡ true → is_gone (state_of standin
 abbrev pub SideFits : SideChange → Sides → Type 0
 SideFits (Adds side) it = (fm.get (sides it) side.trunk ≡ None) × IsDown side.standing × HasSideRoom 1 it
 SideFits (Stands trunk standing) it = IsDown standing × StaysGone standing (fm.get (sides it) trunk)
-SideFits (ComesUp trunk peer creation) it =
+SideFits (ComesUp trunk peer introduction) it =
     IsTowards peer (fm.get (sides it) trunk) × NoOtherUp (sides it) trunk peer × (is_gone_in (fm.get (sides it) trunk) ≡ false)
     × HasRouteRoom 1 it
 
@@ -62,9 +62,9 @@ SideFits (ComesUp trunk peer creation) it =
 abbrev pub sides_added : SideChange → ℕ
 sides_added (Adds side) = 1
 sides_added (Stands trunk standing) = 0
-sides_added (ComesUp trunk peer creation) = 0
+sides_added (ComesUp trunk peer introduction) = 0
 
 abbrev pub routes_added : SideChange → ℕ
 routes_added (Adds side) = 0
 routes_added (Stands trunk standing) = 0
-routes_added (ComesUp trunk peer creation) = 1
+routes_added (ComesUp trunk peer introduction) = 1

@@ -2,12 +2,12 @@
 use Rattle.std.specs.Prelude.{◌≡◌, ℕ, Bool, true, false, not, ◌&&◌, List, [], ◌∷◌, map, position, Option, None, Some, unwrap_or}
 use Rattle.std.specs.FinMap.{find}
 use Rattle.std.specs.Ordering.{eq_by_cmp}
-use Rattle.conn_core.specs.Side.{peer_creation}
+use Rattle.conn_core.specs.Side.{peer_introduction}
 use Rattle.conn_core.specs.declared.side.Side.{Side}
 use Rattle.conn_core.specs.declared.standing.Standing.{Standing}
 use Rattle.conn_core.specs.declared.standing.Standing.TheVariants.{Dialing, Accepting, Up, Losing, Gone}
 use Rattle.dist_model.specs.Names.{Name, same_name}
-use Rattle.dist_model.specs.Sides.{State, TrunkSide, is_gone, is_losing, is_up}
+use Rattle.dist_model.specs.Sides.{State, TrunkSide, untold, is_gone, is_losing, is_up}
 use Rattle.dist_model.specs.Sides as model
 use Rattle.erl_handshake.specs.declared.acceptor.AcceptorState.TheVariants as acceptor
 use Rattle.erl_handshake.specs.declared.dialer.DialerState.TheVariants as dialer
@@ -18,41 +18,41 @@ use Rattle.erl_names.specs.declared.trunk.TrunkId.{TrunkId}
 abbrev pub state_of : Standing → State
 state_of (Dialing (dialer.AwaitsStatus word)) = model.AwaitsStatus word
 state_of (Dialing (dialer.AwaitsChallenge word)) = model.AwaitsChallenge word
-state_of (Dialing (dialer.AwaitsAck word creation)) = model.AwaitsAck word
-state_of (Dialing (dialer.Done creation)) = model.Gone
+state_of (Dialing (dialer.AwaitsAck word introduction)) = model.AwaitsAck word
+state_of (Dialing (dialer.Done introduction)) = model.Gone
 state_of (Dialing dialer.Over) = model.Gone
 state_of (Accepting acceptor.AwaitsName) = model.Gone
-state_of (Accepting (acceptor.AwaitsAdmission word creation)) = model.Gone
-state_of (Accepting (acceptor.AwaitsAnswer word creation)) = model.Asked word
-state_of (Accepting (acceptor.AwaitsTurn word creation)) = model.Parked word
-state_of (Accepting (acceptor.AwaitsReply word creation)) = model.Accepting word
-state_of (Accepting (acceptor.Done creation)) = model.Gone
+state_of (Accepting (acceptor.AwaitsAdmission word introduction)) = model.Gone
+state_of (Accepting (acceptor.AwaitsAnswer word introduction)) = model.Asked word
+state_of (Accepting (acceptor.AwaitsTurn word introduction)) = model.Parked word
+state_of (Accepting (acceptor.AwaitsReply word introduction)) = model.Accepting word
+state_of (Accepting (acceptor.Done introduction)) = model.Gone
 state_of (Accepting acceptor.Over) = model.Gone
-state_of (Up creation) = model.Up
-state_of (Losing creation) = model.Losing
+state_of (Up introduction) = model.Up
+state_of (Losing introduction) = model.Losing
 state_of Gone = model.Gone
 
 -- of those that a node keeps
 abbrev pub is_settled : Standing → Bool
 is_settled (Dialing (dialer.AwaitsStatus word)) = true
 is_settled (Dialing (dialer.AwaitsChallenge word)) = true
-is_settled (Dialing (dialer.AwaitsAck word creation)) = true
-is_settled (Dialing (dialer.Done creation)) = false
+is_settled (Dialing (dialer.AwaitsAck word introduction)) = true
+is_settled (Dialing (dialer.Done introduction)) = false
 is_settled (Dialing dialer.Over) = false
 is_settled (Accepting acceptor.AwaitsName) = false
-is_settled (Accepting (acceptor.AwaitsAdmission word creation)) = false
-is_settled (Accepting (acceptor.AwaitsAnswer word creation)) = true
-is_settled (Accepting (acceptor.AwaitsTurn word creation)) = true
-is_settled (Accepting (acceptor.AwaitsReply word creation)) = true
-is_settled (Accepting (acceptor.Done creation)) = false
+is_settled (Accepting (acceptor.AwaitsAdmission word introduction)) = false
+is_settled (Accepting (acceptor.AwaitsAnswer word introduction)) = true
+is_settled (Accepting (acceptor.AwaitsTurn word introduction)) = true
+is_settled (Accepting (acceptor.AwaitsReply word introduction)) = true
+is_settled (Accepting (acceptor.Done introduction)) = false
 is_settled (Accepting acceptor.Over) = false
-is_settled (Up creation) = true
-is_settled (Losing creation) = true
+is_settled (Up introduction) = true
+is_settled (Losing introduction) = true
 is_settled Gone = true
 
--- a side that stands so towards a peer. Where the peer's creation isn't known it is 0
+-- a side that stands so towards a peer. Before the peer has told its creation and flags, they are 0
 abbrev pub standing_side : Name → Standing → TrunkSide
-standing_side peer standing = record { peer = peer; peer_creation = unwrap_or (peer_creation standing) 0; state = state_of standing }
+standing_side peer standing = record { peer = peer; introduction = unwrap_or (peer_introduction standing) untold; state = state_of standing }
 
 abbrev pub side_of : Side → TrunkSide
 side_of side = standing_side side.peer side.standing

@@ -17,6 +17,7 @@ use crate::seeking_sides::first_lost;
 use crate::sides::Sides;
 use crate::which::{is_open, is_up};
 use conn_core::{Side, Standing};
+use erl_handshake::Introduction;
 use erl_names::TrunkId;
 use erl_term::Atom;
 use sorted_map::SortedMap;
@@ -70,18 +71,18 @@ impl Sides {
 
     /// Sets the side of a connection up. It isn't gone, and no other towards its peer is up. Takes no
     /// memory. (ERTS User's Guide, Distribution Protocol, Distribution Handshake.)
-    pub fn come_up(&mut self, trunk: TrunkId, peer: Atom, creation: u32)
+    pub fn come_up(&mut self, trunk: TrunkId, peer: Atom, introduction: Introduction)
         requires towards { IsTowards peer (fm.get (sides self.old) trunk) }
         requires alone { NoOtherUp (sides self.old) trunk peer }
         requires there { is_gone_in (fm.get (sides self.old) trunk) ≡ false }
         requires room { HasRouteRoom 1 self.old }
-        ensures sides { sides self.new ≡ stood (sides self.old) trunk (standing.Up creation) }
+        ensures sides { sides self.new ≡ stood (sides self.old) trunk (standing.Up introduction) }
         ensures side_room { (more : ℕ) → HasSideRoom more self.old → HasSideRoom more self.new }
         ensures route_room { (more : ℕ) → HasRouteRoom (suc more) self.old → HasRouteRoom more self.new }
     {
         match place_in(&self.held, &trunk) {
             Ok(at) => {
-                self.held[at].standing = Standing::Up { creation };
+                self.held[at].standing = Standing::Up { introduction };
             }
             Err(_) => unreachable!(),
         }

@@ -1,6 +1,7 @@
 //! What becomes of the sides.
 
 use conn_core::{Side, Standing};
+use erl_handshake::Introduction;
 use erl_names::TrunkId;
 use erl_term::Atom;
 
@@ -25,7 +26,7 @@ pub enum SideChange {
         trunk: TrunkId,
         /// The other node's name.
         peer: Atom,
-        /// The other node's creation.
-        creation: u32,
+        /// The other node's creation and flags.
+        introduction: Introduction,
     },
 }

@@ -21,8 +21,8 @@ impl Sides {
             SideChange::ComesUp {
                 trunk,
                 peer,
-                creation,
-            } => self.come_up(trunk, peer, creation),
+                introduction,
+            } => self.come_up(trunk, peer, introduction),
         }
     }
 }

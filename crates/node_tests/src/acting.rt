@@ -1,7 +1,7 @@
 //! The events of the rows.
 use crate::rows::{Event, Process, Said, Trunk};
 use dist_model::{Command, Report};
-use erl_handshake::Cookie;
+use erl_handshake::{Cookie, Profile, Setup};
 use erl_names::{NodeName, TrunkId};
 use erl_term::{Atom, Payload, Pid, Reference, ReferenceWords, Refusal, Term};
 use node_core::{Arrived, Node};
@@ -17,8 +17,11 @@ const WORD: u32 = 1234567890;
 /// The node a@h.
 pub fn node(alloc: Global) -> Result<Node, Refusal> {
     let name = node_name(alloc, "a@h")?;
-    let cookie = Cookie::new(Vec::from_slice(alloc, SECRET)?);
-    Ok(Node::new(alloc, name, cookie)?)
+    let setup = Setup {
+        cookie: Cookie::new(Vec::from_slice(alloc, SECRET)?),
+        profile: Profile::One,
+    };
+    Ok(Node::new(alloc, name, setup)?)
 }
 
 pub fn atom(alloc: Global, text: &str) -> Result<Atom, Refusal> {

@@ -5,7 +5,7 @@
 
 use diagram::{Arrow, Diagram, End, Mark, lay_out};
 use dist_model::Command;
-use erl_handshake::Cookie;
+use erl_handshake::{Cookie, Profile, Setup};
 use erl_names::{NodeName, TrunkId};
 use erl_term::Refusal;
 use run_diagrams::Recorder;
@@ -38,16 +38,17 @@ fn name(alloc: Global, word: &str) -> Result<NodeName, Fail> {
     Ok(NodeName::read(alloc, text)?)
 }
 
+fn setup(alloc: Global) -> Result<Setup, Fail> {
+    Ok(Setup {
+        cookie: Cookie::new(Vec::from_slice(alloc, b"c")?),
+        profile: Profile::One,
+    })
+}
+
 fn opened(alloc: Global) -> Result<World, Fail> {
     let mut nodes = Vec::new(alloc);
-    nodes.push((
-        name(alloc, "a")?,
-        Cookie::new(Vec::from_slice(alloc, b"c")?),
-    ))?;
-    nodes.push((
-        name(alloc, "b")?,
-        Cookie::new(Vec::from_slice(alloc, b"c")?),
-    ))?;
+    nodes.push((name(alloc, "a")?, setup(alloc)?))?;
+    nodes.push((name(alloc, "b")?, setup(alloc)?))?;
     if !World::can_open(&nodes) {
         return Err(Fail::from("one name twice"));
     }

@@ -6,6 +6,7 @@ ghost use Rattle.dist_model.specs.Names.{Name};
 ghost use Rattle.dist_model.specs.Runs.{Runs, opening};
 ghost use Rattle.dist_model.specs.Safety.{Safe};
 ghost use Rattle.dist_model.specs.World.{Event, Report};
+ghost use Rattle.erl_handshake.specs.declared.setup.Setup.{Setup};
 ghost use Rattle.script_core.specs.Script.{script};
 
 use dist_model::every_run_is_safe;
@@ -16,7 +17,7 @@ use script_session::events_lead_to_every_line;
 /// and one trunk. A beginning of a script is a script, so this holds after each of its lines.
 pub fn every_script()
     ensures safe { (trace : Bool) (seed : ℕ) (input : List ℕ) → let world = (script trace seed input).state.stage.world in
-        (nodes : List (Name × List ℕ)) × (events : List Event) × (reports : List Report) ×
+        (nodes : List (Name × Setup)) × (events : List Event) × (reports : List Report) ×
         Runs (opening nodes) events reports world × Safe (told events reports []) world }
 {
     every_run_is_safe();

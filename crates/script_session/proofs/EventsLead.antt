@@ -30,6 +30,8 @@ use Rattle.script_terms.specs.Binding.{Look}
 use Rattle.script_texts.specs.Texts.{route_text}
 use Rattle.world_core.proofs.Reached.{reached_next}
 use Rattle.world_core.specs.Stands.{IsReached}
+use Rattle.script_session.specs.Pairs.{setup_of}
+use Rattle.erl_handshake.specs.declared.setup.Setup.{Setup}
 
 -- of a stage
 abbrev Led : Stage → Type 0
@@ -115,11 +117,11 @@ lose_led node peer it h = go (node_of it.world.nodes node)
 
 pub joined_opens : (world : World) (name cookie : List ℕ) → IsOpening world → IsOpening (joined world name cookie)
 joined_opens world name cookie o = (
-  o.0 ++ (name, cookie) ∷ [],
+  o.0 ++ (name, setup_of cookie) ∷ [],
   ap (λ w. joined w name cookie) o.1
       ∙ (λ i. record {
-        names = sym (map-append (λ (n : Name × List ℕ). n.0) o.0 ((name, cookie) ∷ [])) i;
-        nodes = sym (map-append (λ (n : Name × List ℕ). new_node n.0 n.1) o.0 ((name, cookie) ∷ [])) i;
+        names = sym (map-append (λ (n : Name × Setup). n.0) o.0 ((name, setup_of cookie) ∷ [])) i;
+        nodes = sym (map-append (λ (n : Name × Setup). new_node n.0 n.1) o.0 ((name, setup_of cookie) ∷ [])) i;
         lists = fm.empty;
       }),
 )

@@ -4,6 +4,8 @@ use Rattle.dist_model.specs.Names.{Name}
 use Rattle.dist_model.specs.Runs.{opening}
 use Rattle.dist_model.specs.World.{Arrive, Call, Dial, Event}
 use Rattle.dist_model.specs.declared.command.Command.{Command}
+use Rattle.erl_handshake.specs.declared.profile.Profile.{Profile}
+use Rattle.erl_handshake.specs.declared.setup.Setup.{Setup}
 use Rattle.erl_names.specs.declared.trunk.TrunkId.{TrunkId}
 use Rattle.erl_term.specs.declared.term.Pid.{Pid}
 use Rattle.script_session.specs.Stage.{Stage, play}
@@ -16,8 +18,12 @@ first = codes "a@h"
 abbrev pub second : Name
 second = codes "b@h"
 
-abbrev pub pair_nodes : List (Name × List ℕ)
-pair_nodes = (first, codes "c") ∷ (second, codes "c") ∷ []
+-- of a node with this cookie, which offers the mandatory flags alone
+abbrev pub setup_of : (cookie : List ℕ) → Setup
+setup_of cookie = record { cookie = cookie; profile = Profile.One }
+
+abbrev pub pair_nodes : List (Name × Setup)
+pair_nodes = (first, setup_of (codes "c")) ∷ (second, setup_of (codes "c")) ∷ []
 
 abbrev pub trunk : TrunkId
 trunk = record { dialer = first; count = 1 }

@@ -27,6 +27,7 @@ use Rattle.script_terms.specs.Binding.{Look, with_name}
 use Rattle.script_terms.specs.Reading.{term_of}
 use Rattle.script_terms.specs.declared.fault.TermFault.{TermFault}
 use Rattle.script_texts.specs.Texts.{answer_text, ends_text}
+use Rattle.script_session.specs.Pairs.{setup_of}
 
 pub record State : Type 0 where
   pub stage : Stage
@@ -52,7 +53,7 @@ read look text = term_in (term_of look text)
 abbrev pub joined : World → Name → (cookie : List ℕ) → World
 joined world name cookie = record {
   names = world.names ++ name ∷ [];
-  nodes = world.nodes ++ new_node name cookie ∷ [];
+  nodes = world.nodes ++ new_node name (setup_of cookie) ∷ [];
   lists = world.lists;
 }
 

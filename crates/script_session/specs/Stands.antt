@@ -14,6 +14,7 @@ use Rattle.script_session.specs.declared.stage.Stage.{Stage}
 use Rattle.script_terms.specs.Binding.{Knows}
 use Rattle.node_core.specs.Told.{Answered, Tells}
 use Rattle.world_core.specs.Stands.{IsReached, StandsFor}
+use Rattle.erl_handshake.specs.declared.setup.Setup.{Setup}
 
 pub record IsStage (stage : Stage) (it : TheStage) : Type 0 where
   pub world : StandsFor stage.world it.world
@@ -21,7 +22,7 @@ pub record IsStage (stage : Stage) (it : TheStage) : Type 0 where
   pub trace : stage.trace ≡ it.trace
 
 abbrev pub IsOpening : World → Type 0
-IsOpening world = (nodes : List (Name × List ℕ)) × (world ≡ opening nodes)
+IsOpening world = (nodes : List (Name × Setup)) × (world ≡ opening nodes)
 
 pub record IsSession (session : Session) (state : State) : Type 0 where
   pub stage : IsStage session.stage state.stage

@@ -20,7 +20,7 @@ mod touching;
 pub use connections::Live;
 pub use laws::events_lead_to_every_line;
 pub use made::Made;
-pub use pairs::{cookie, node_name};
+pub use pairs::{node_name, setup};
 pub use playing::{asked, new_name, starts};
 pub use session::{MOST_NODES, Session, Stop, bind};
 pub use showing::put_shown;

@@ -3,14 +3,14 @@ ghost use Rattle.std.specs.Prelude.{◌≡◌, IfOk, OnOk};
 ghost use Rattle.dist_model.specs.Runs.{opening};
 ghost use Rattle.dist_model.specs.World.{Arrive, Call, Dial};
 ghost use Rattle.dist_model.specs.declared.command.Command.{Command as TheCommand};
-ghost use Rattle.script_session.specs.Pairs.{first_process, pair_nodes, pair_stage, trunk};
+ghost use Rattle.script_session.specs.Pairs.{first_process, pair_nodes, pair_stage, setup_of, trunk};
 ghost use Rattle.script_session.specs.Stage.{Stage as TheStage, after};
 ghost use Rattle.script_session.specs.Stands.{IsStage};
 ghost use Rattle.world_core.specs.Stands.{StandsFor};
 
 use crate::stage::Stage;
 use dist_model::Command;
-use erl_handshake::Cookie;
+use erl_handshake::{Cookie, Profile, Setup};
 use erl_names::{NodeName, TrunkId};
 use erl_term::Pid;
 use std::alloc::{AllocError, Global};
@@ -34,14 +34,18 @@ pub fn node_name(alloc: Global, word: &str) -> Result<NodeName, AllocError>
     NodeName::read(alloc, word).map_err(|_| AllocError)
 }
 
-/// A cookie of these characters.
+/// Returns the setup of a node with a cookie of these characters, which offers the mandatory flags
+/// alone.
 ///
 /// # Errors
-/// Where memory is wanting.
-pub fn cookie(alloc: Global, word: &str) -> Result<Cookie, AllocError>
-    ensures { IfOk result (λ cookie. cookie ≡ word.now) }
+/// [`AllocError`] if out of memory.
+pub fn setup(alloc: Global, cookie: &str) -> Result<Setup, AllocError>
+    ensures { IfOk result (λ setup. setup ≡ setup_of cookie.now) }
 {
-    Ok(Cookie::new(String::from_str(alloc, word)?.into_bytes()))
+    Ok(Setup {
+        cookie: Cookie::new(String::from_str(alloc, cookie)?.into_bytes()),
+        profile: Profile::One,
+    })
 }
 
 /// The first process of the first incarnation of a node.
@@ -65,8 +69,8 @@ fn pair_world(alloc: Global) -> Result<World, AllocError>
     ensures { IfOk result (λ world. StandsFor world (opening pair_nodes)) }
 {
     let mut nodes = Vec::new(alloc);
-    nodes.push((node_name(alloc, FIRST)?, cookie(alloc, COOKIE)?))?;
-    nodes.push((node_name(alloc, SECOND)?, cookie(alloc, COOKIE)?))?;
+    nodes.push((node_name(alloc, FIRST)?, setup(alloc, COOKIE)?))?;
+    nodes.push((node_name(alloc, SECOND)?, setup(alloc, COOKIE)?))?;
     World::new(alloc, nodes)
 }
 

@@ -12,7 +12,7 @@ ghost use Rattle.world_core.specs.Names.{names_of};
 ghost use Rattle.node_core.specs.NodeEvents.{event_at};
 
 use crate::made::Made;
-use crate::pairs::{cookie, node_name};
+use crate::pairs::{node_name, setup};
 use crate::showing::put_world;
 use crate::stage::Stage;
 use dist_model::{Answer, Command};
@@ -126,8 +126,8 @@ impl Stage {
         ensures { (it : TheStage) → IsStage self.old it → IsOpening it.world →
             OnOk result (Plays (joins name.now secret.now it) self.new (string_bytes out.old) (string_bytes out.new) TheMade.Nothing) }
     {
-        let secret = cookie(alloc, secret)?;
-        self.world.join(alloc, node_name(alloc, name)?, secret)?;
+        let setup = setup(alloc, secret)?;
+        self.world.join(alloc, node_name(alloc, name)?, setup)?;
         self.telling.picture.join(alloc, name)?;
         put_answer(out, name, &Answer::Started(1))
     }

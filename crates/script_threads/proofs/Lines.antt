@@ -18,6 +18,7 @@ use Rattle.script_session.specs.declared.made.Made.{Made}
 use Rattle.script_terms.specs.Binding.{Knows}
 use Rattle.script_threads.specs.Standing.{IsKnown, Known, Ran, is_idle, may_come, nodes_after, nodes_of, says_of}
 use Rattle.script_threads.specs.declared.session.ThreadedSession.{ThreadedSession}
+use Rattle.erl_handshake.specs.declared.setup.Setup.{Setup}
 
 -- a state without threads in which the same lines may come
 abbrev state_of : Known → State
@@ -30,7 +31,7 @@ state_of known = record {
 same_lines : (known : Known) → may_come known ≡ session.may_come (state_of known)
 same_lines known =
     ap (λ (n : ℕ). record { pair = not known.started && eqb n 0; node = not known.started && nat_lt n 64 })
-    (sym (length-map known.nodes (λ (node : Name × List ℕ). node.0)))
+    (sym (length-map known.nodes (λ (node : Name × Setup). node.0)))
 
 -- a command that isn't there says nothing
 there : (may : MayCome) (known : Known) (line : List ℕ) (it : Said) → says may known.look line ≡ Ok (Some it)

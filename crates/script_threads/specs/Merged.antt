@@ -17,6 +17,7 @@ use Rattle.script_texts.specs.Texts.{merged_text}
 use Rattle.script_threads.specs.Standing.{nodes_of}
 use Rattle.script_threads.specs.declared.threads.Cast.{Cast}
 use Rattle.script_threads.specs.declared.threads.Cast.TheVariants as cast
+use Rattle.erl_handshake.specs.declared.setup.Setup.{Setup}
 
 -- ---- what was sent with an entry
 
@@ -28,7 +29,7 @@ abbrev pub sents_with : Name → Option Entry → List ℕ
 sents_with name None = []
 sents_with name (Some entry) = sents_of name entry.answer
 
-abbrev pub sents_in : Option (Name × List ℕ) → Option BookSeen → ℕ → List ℕ
+abbrev pub sents_in : Option (Name × Setup) → Option BookSeen → ℕ → List ℕ
 sents_in (Some node) (Some book) position = sents_with node.0 (slice_get book.history.entries.items position)
 sents_in _ _ position = []
 

@@ -16,6 +16,7 @@ use Rattle.script_threads.specs.Reading.{unless_taken}
 use Rattle.script_threads.specs.declared.session.ThreadedSession.{ThreadedSession}
 use Rattle.script_threads.specs.declared.threads.Cast.{Cast}
 use Rattle.script_threads.specs.declared.threads.Cast.TheVariants as cast
+use Rattle.script_session.specs.Pairs.{setup_of}
 
 -- ---- the nodes that a script has named, which have threads, or have none yet
 
@@ -64,7 +65,7 @@ says_of known line = unless_taken (names_of known.nodes) (lines.says (may_come k
 -- ---- what a line comes to
 
 abbrev pub nodes_after : Said → Nodes → Nodes
-nodes_after (says.Node name cookie) nodes = nodes ++ (name, cookie) ∷ []
+nodes_after (says.Node name cookie) nodes = nodes ++ (name, setup_of cookie) ∷ []
 nodes_after _ nodes = nodes
 
 -- what it made, which the nodes have decided, has the name that it gave

@@ -11,7 +11,7 @@ use crate::running::{Machine, Running};
 use crate::session::ThreadedSession;
 use crate::threads::{Cast, NodeThreads};
 use cluster_run::Finished;
-use erl_handshake::Cookie;
+use erl_handshake::Setup;
 use erl_names::NodeName;
 use joined_books::{FinishError, Placed};
 use node_history::Entry;
@@ -68,7 +68,7 @@ fn put_entry(
 fn put_placed(
     alloc: Global,
     out: &mut String,
-    nodes: &[(NodeName, Cookie)],
+    nodes: &[(NodeName, Setup)],
     books: &[Book],
     placed: &Placed,
 ) -> Result<(), AllocError>
@@ -86,7 +86,7 @@ fn put_placed(
 fn put_trace(
     alloc: Global,
     out: &mut String,
-    nodes: &[(NodeName, Cookie)],
+    nodes: &[(NodeName, Setup)],
     books: &[Book],
     entries: &[Placed],
 ) -> Result<(), AllocError>
@@ -103,7 +103,7 @@ fn put_end(
     alloc: Global,
     out: &mut String,
     trace: bool,
-    nodes: &[(NodeName, Cookie)],
+    nodes: &[(NodeName, Setup)],
     finished: &Finished,
 ) -> Result<(), AllocError>
     ensures { OnOk result (string_bytes out.new ≡ string_bytes out.old

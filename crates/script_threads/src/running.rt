@@ -7,7 +7,7 @@ ghost use Rattle.script_threads.specs.Asking.{Asks, answered_text, made_by, made
 use crate::nodes::{copies, place_of};
 use cluster_run::{Cluster, Open};
 use dist_model::Answer;
-use erl_handshake::Cookie;
+use erl_handshake::Setup;
 use erl_names::NodeName;
 use erl_term::Refusal;
 use node_history::Answered;
@@ -27,7 +27,7 @@ impl<R: Threads + Wait + Copy + Send + Drop + 'static> Machine for R {}
 /// The nodes of a script in their threads, and a seat at each. There is one node at least.
 #[derive(Drop)]
 pub(crate) struct Running {
-    pub(crate) nodes: Vec<(NodeName, Cookie)>,
+    pub(crate) nodes: Vec<(NodeName, Setup)>,
     pub(crate) cluster: Cluster<Open>,
     pub(crate) seats: Vec<Seat>,
     ghost same: { cluster.nodes.items ≡ nodes.items },
@@ -115,7 +115,7 @@ impl Running {
     pub(crate) fn start<R: Machine>(
         rt: &R,
         alloc: Global,
-        nodes: &[(NodeName, Cookie)],
+        nodes: &[(NodeName, Setup)],
         seed: u32,
     ) -> Result<Running, AllocError>
         requires { 0 < length nodes.now }

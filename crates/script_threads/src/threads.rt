@@ -1,16 +1,17 @@
 //! The nodes of a script, and their threads.
 ghost use Rattle.std.specs.Prelude.{◌≡◌, ◌++◌, ◌∷◌, [], OnOk, false, true};
+ghost use Rattle.script_session.specs.Pairs.{setup_of};
 ghost use Rattle.script_threads.specs.Standing.{has_started, is_idle, nodes_of};
 
 use crate::running::{Machine, Running};
 use cluster_run::Settled;
 use dist_model::Answer;
-use erl_handshake::Cookie;
+use erl_handshake::Setup;
 use erl_names::NodeName;
 use erl_term::{Pid, Refusal};
 use link_core::End;
 use node_lock::Act;
-use script_session::{Made, cookie, node_name};
+use script_session::{Made, node_name, setup};
 use script_texts::{put_answer, put_ends, put_refused, put_settled};
 use std::alloc::{AllocError, Global};
 use std::sync::Wait;
@@ -22,7 +23,7 @@ const MOST_LOOKS: u64 = 1_000_000;
 #[derive(Drop)]
 pub(crate) enum Cast {
     /// They have no threads yet.
-    Named(Vec<(NodeName, Cookie)>),
+    Named(Vec<(NodeName, Setup)>),
     /// They have.
     Running(Running),
 }
@@ -51,7 +52,7 @@ impl NodeThreads {
     }
 
     /// The names and the cookies of the nodes.
-    pub(crate) fn nodes(&self) -> &[(NodeName, Cookie)]
+    pub(crate) fn nodes(&self) -> &[(NodeName, Setup)]
         ensures { result.now ≡ nodes_of self.now.cast }
     {
         match &self.cast {
@@ -90,11 +91,11 @@ impl NodeThreads {
         secret: &str,
         out: &mut String,
     ) -> Result<(), AllocError>
-        ensures nodes { is_idle self.old.cast ≡ true → OnOk result (nodes_of self.new.cast ≡ nodes_of self.old.cast ++ (name.now, secret.now) ∷ []) }
+        ensures nodes { is_idle self.old.cast ≡ true → OnOk result (nodes_of self.new.cast ≡ nodes_of self.old.cast ++ (name.now, setup_of secret.now) ∷ []) }
         ensures idle { is_idle self.new.cast ≡ is_idle self.old.cast }
     {
         if let Cast::Named(nodes) = &mut self.cast {
-            nodes.push((node_name(alloc, name)?, cookie(alloc, secret)?))?;
+            nodes.push((node_name(alloc, name)?, setup(alloc, secret)?))?;
         }
         put_answer(out, name, &Answer::Started(1))
     }

@@ -80,11 +80,11 @@ framed_front n text rest high is =
     let same : all ≡ suc (suc (suc (suc (length text)))) = omega arith in
     ap (λ t. if t then Some (number + 2) else Some all) (le-ltb 1 number (omega arith)) ∙ ap (λ k. Some k) same
 
-signal_front : (signal : Signal) → IsSignalFrame signal (canonical_frame signal) → (rest : List ℕ)
-    → front_length (canonical_frame signal ++ rest) ≡ Some (length (canonical_frame signal))
+signal_front : (signal : Signal) → IsSignalFrame signal (canonical_frame signal false) → (rest : List ℕ)
+    → front_length (canonical_frame signal false ++ rest) ≡ Some (length (canonical_frame signal false))
 signal_front signal is rest =
-    let text = canonical_text signal in
-    let l : length (canonical_frame signal) ≡ length (is.len ++ 112 ∷ is.text) = ap (λ (b : List ℕ). length b) is.bytes in
+    let text = canonical_text signal false in
+    let l : length (canonical_frame signal false) ≡ length (is.len ++ 112 ∷ is.text) = ap (λ (b : List ℕ). length b) is.bytes in
     let n = is.number.len in
     let s = is.short in
     framed_front (suc (length text)) (112 ∷ text) rest (omega (arith, length-append is.len (112 ∷ is.text))) refl

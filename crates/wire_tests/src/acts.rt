@@ -3,7 +3,7 @@ ghost use Rattle.std.specs.Prelude.{◌<◌};
 
 use crate::rows::{Ask, Kept, Named, Process};
 use dist_model::Command;
-use erl_handshake::Cookie;
+use erl_handshake::{Cookie, Profile, Setup};
 use erl_names::{NodeName, TrunkId};
 use erl_term::{Payload, Pid, Refusal, Term};
 use node_lock::{Act, Book};
@@ -28,18 +28,21 @@ pub fn trunk(alloc: Global) -> Result<TrunkId, Refusal> {
     })
 }
 
-fn cookie(alloc: Global, text: &str) -> Result<Cookie, Refusal> {
-    Ok(Cookie::new(Vec::from_slice(alloc, text.as_bytes())?))
+fn setup(alloc: Global, cookie: &str) -> Result<Setup, Refusal> {
+    Ok(Setup {
+        cookie: Cookie::new(Vec::from_slice(alloc, cookie.as_bytes())?),
+        profile: Profile::One,
+    })
 }
 
-/// The name and the cookie of a node.
-pub fn named(alloc: Global, named: Named) -> Result<(NodeName, Cookie), Refusal> {
+/// Returns the name and the setup of a node.
+pub fn named(alloc: Global, named: Named) -> Result<(NodeName, Setup), Refusal> {
     let name = NodeName::read(alloc, named.0)?;
-    Ok((name, cookie(alloc, named.1)?))
+    Ok((name, setup(alloc, named.1)?))
 }
 
 /// Those of some nodes.
-pub fn nodes(alloc: Global, all: &[Named]) -> Result<Vec<(NodeName, Cookie)>, Refusal> {
+pub fn nodes(alloc: Global, all: &[Named]) -> Result<Vec<(NodeName, Setup)>, Refusal> {
     let mut nodes = Vec::new(alloc);
     for one in all {
         nodes.push(named(alloc, *one)?)?;
@@ -57,14 +60,14 @@ fn names(alloc: Global, texts: &[&str]) -> Result<Vec<NodeName>, Refusal> {
 
 /// A new book.
 pub fn book(alloc: Global, kept: Kept) -> Result<Book, Refusal> {
-    let cookie = cookie(alloc, kept.cookie)?;
+    let setup = setup(alloc, kept.cookie)?;
     let names = names(alloc, kept.names)?;
     if kept.place >= names.len() {
         drop(names);
-        drop(cookie);
+        drop(setup);
         return Err(Refusal::NothingThere);
     }
-    Ok(Book::new(alloc, names, kept.place, cookie)?)
+    Ok(Book::new(alloc, names, kept.place, setup)?)
 }
 
 /// The pid of a process.

@@ -1,7 +1,7 @@
 //! Some books, each with a seat at its node, and queries of them.
 use crate::acts::{act, book, nodes, pid, trunk};
 use crate::rows::{Ask, Kept, Named, Process, Range, Row, Told};
-use erl_handshake::Cookie;
+use erl_handshake::Setup;
 use erl_names::{NodeName, TrunkId};
 use erl_term::Refusal;
 use joined_books::{FinishError, Placed, Trace, merge_books};
@@ -138,7 +138,7 @@ fn is_told(
 
 fn merge_as(
     alloc: Global,
-    nodes: &[(NodeName, Cookie)],
+    nodes: &[(NodeName, Setup)],
     books: &[Book],
     seats: &[Seat],
     want: &str,

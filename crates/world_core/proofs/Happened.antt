@@ -18,6 +18,7 @@ use Rattle.world_core.specs.Stands.{StandsFor}
 use Rattle.world_core.specs.declared.event.Event.{Event}
 use Rattle.world_core.specs.declared.world.World.{World}
 use Rattle.world_core.proofs.Reached.{runs_then}
+use Rattle.erl_handshake.specs.declared.setup.Setup.{Setup}
 
 -- those that are left come behind those that were answered
 pub record Going (w : World) (m : model.World) (all rest : List Event) (answers : List Answered) : Type 0 where
@@ -102,7 +103,7 @@ as_long m (e ∷ es) (r ∷ rs) next h = ap suc (as_long h.0 es rs next h.2)
 
 -- each report of a run is told rightly
 abbrev pub TellsRightly : Type 0
-TellsRightly = (nodes : List (Name × List ℕ)) (before behind : List model.Event) (event : model.Event)
+TellsRightly = (nodes : List (Name × Setup)) (before behind : List model.Event) (event : model.Event)
     (earlier later : List model.Report) (report : model.Report) (world : model.World)
     → length before ≡ length earlier → Runs (opening nodes) (before ++ event ∷ behind) (earlier ++ report ∷ later) world
     → (now : model.World) × Runs (opening nodes) before earlier now × ReactsRightly (told before earlier []) now event report

@@ -22,9 +22,10 @@ use Rattle.world_core.specs.Stands.{AreSpelled, StandsFor}
 use Rattle.world_core.specs.declared.world.World.{World}
 use Rattle.world_core.specs.Lists.{at}
 use Rattle.dist_model.proofs.Keys.{name_turned}
+use Rattle.erl_handshake.specs.declared.setup.Setup.{Setup}
 
 abbrev Named : Type 0
-Named = Name × List ℕ
+Named = Name × Setup
 
 abbrev pub name_in : Named → Name
 name_in node = node.0
@@ -107,13 +108,13 @@ more_distinct (y ∷ rest) x d h =
     let k = or_parts (same_name x y) (has_name x rest) h in
     (λ i. not (has_more y x rest (not-true _ t.0) (name_turned x y k.0) i) && more_distinct rest x t.1 k.1 i)
 
-pub joins : (w new : World) (nodes : List Named) (node : Node) (name : Name) (cookie : List ℕ) → StandsFor w (opening nodes)
+pub joins : (w new : World) (nodes : List Named) (node : Node) (name : Name) (setup : Setup) → StandsFor w (opening nodes)
     → new.nodes.items ≡ w.nodes.items ++ node ∷ [] → new.lists ≡ w.lists
-    → model_of node ≡ new_node name cookie → has_name name (names_of w.nodes.items) ≡ false → IsNodeName name
-    → StandsFor new (opening (nodes ++ (name, cookie) ∷ []))
-joins w new nodes node name cookie h items lists model free form =
+    → model_of node ≡ new_node name setup → has_name name (names_of w.nodes.items) ≡ false → IsNodeName name
+    → StandsFor new (opening (nodes ++ (name, setup) ∷ []))
+joins w new nodes node name setup h items lists model free form =
     let f : Named → TheNode = (λ n. new_node n.0 n.1) in
-    let one : List Named = (name, cookie) ∷ [] in
+    let one : List Named = (name, setup) ∷ [] in
     let made : map model_of new.nodes.items ≡ map f (nodes ++ one) =
     ap (map model_of) items ∙ map-append model_of w.nodes.items (node ∷ []) ∙ (λ i. sym h.nodes i ++ model i ∷ [])
     ∙ sym (map-append f nodes one) in

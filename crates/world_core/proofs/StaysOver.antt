@@ -26,6 +26,7 @@ use Rattle.dist_model.specs.declared.report.Answer.{Answer}
 use Rattle.erl_handshake.specs.declared.message.ShakeMsg.{ShakeMsg}
 use Rattle.erl_names.specs.Order.{trunk_cmp}
 use Rattle.erl_names.specs.declared.trunk.TrunkId.{TrunkId}
+use Rattle.dist_model.specs.Sides.{untold}
 
 -- there is such a side, and it is over
 pub record IsOver (sides : FinMap trunk_cmp TrunkSide) (t : TrunkId) : Type 0 where
@@ -99,7 +100,7 @@ module _ (t : TrunkId) where
       rest (Arrive u (Some i) w) = λ at. fresh_kept AnyNew X turned wrote u tt (handshake_in i) w (at_work n) at k
       rest Local = λ l. k
       rest (Dial y w) = dial_goes X names n y w (λ i j.
-          sets (next_trunk n) (record { peer = y; peer_creation = 0; state = AwaitsStatus w }) (at_work (draw_trunk n))
+          sets (next_trunk n) (record { peer = y; introduction = untold; state = AwaitsStatus w }) (at_work (draw_trunk n))
           (Fresh tt (none_next n c)) k)
       rest Stop = ends n k
       rest Start = ends n k

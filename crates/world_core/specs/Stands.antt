@@ -12,10 +12,11 @@ use Rattle.world_core.specs.Coming.{is_taken}
 use Rattle.world_core.specs.Names.{are_distinct, names_of}
 use Rattle.world_core.specs.declared.world.World.{World}
 use Rattle.world_core.specs.Lists.{at}
+use Rattle.erl_handshake.specs.declared.setup.Setup.{Setup}
 
 -- some events lead to it from an opening world
 pub record IsReached (m : TheWorld) : Type 0 where
-  pub nodes : List (Name × List ℕ)
+  pub nodes : List (Name × Setup)
   pub events : List Event
   pub reports : List Report
   pub runs : Runs (opening nodes) events reports m

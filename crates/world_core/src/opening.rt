@@ -11,43 +11,43 @@ ghost use Rattle.world_core.specs.Stands.{StandsFor};
 
 use crate::lists::Lists;
 use crate::world::World;
-use erl_handshake::Cookie;
+use erl_handshake::Setup;
 use erl_names::NodeName;
 use node_core::Node;
 use node_frames::same_name;
 use std::alloc::{AllocError, Global};
 
-// Appends a new node of the name and the cookie.
+// Appends a new node of this name and setup.
 fn push_node(
     alloc: Global,
     made: &mut Vec<Node>,
     name: NodeName,
-    cookie: Cookie,
+    setup: Setup,
 ) -> Result<(), AllocError>
-    ensures { OnOk result (map model_of made.new.items ≡ map model_of made.old.items ++ (new_node name cookie ∷ [])) }
+    ensures { OnOk result (map model_of made.new.items ≡ map model_of made.old.items ++ (new_node name setup ∷ [])) }
 {
-    made.push(Node::new(alloc, name, cookie)?)?;
+    made.push(Node::new(alloc, name, setup)?)?;
     Ok(())
 }
 
-// Appends new nodes of these names and cookies. Each has a name.
+// Appends new nodes of these names and setups. Each has a name.
 fn make(
     alloc: Global,
     made: &mut Vec<Node>,
-    nodes: Vec<(NodeName, Cookie)>,
+    nodes: Vec<(NodeName, Setup)>,
 ) -> Result<(), AllocError>
     ensures made { OnOk result (map model_of made.new.items ≡ map model_of made.old.items ++ map (λ node. new_node node.0 node.1) nodes.items) }
     ensures named { OnOk result (has_name [] (map (λ node. node.0) nodes.items) ≡ false) }
 {
-    for (name, cookie) in nodes {
+    for (name, setup) in nodes {
         name.text();
-        push_node(alloc, made, name, cookie)?;
+        push_node(alloc, made, name, setup)?;
     }
     Ok(())
 }
 
 // Returns true if one of the nodes has this name.
-fn has_name(nodes: &[(NodeName, Cookie)], name: &NodeName) -> bool
+fn has_name(nodes: &[(NodeName, Setup)], name: &NodeName) -> bool
     ensures { result ≡ list_any (λ node. same_name name.now node.0) nodes.now }
 {
     nodes
@@ -57,7 +57,7 @@ fn has_name(nodes: &[(NodeName, Cookie)], name: &NodeName) -> bool
 
 impl World {
     /// Returns true if a world can have these nodes: no two have one name.
-    pub fn can_open(nodes: &[(NodeName, Cookie)]) -> bool
+    pub fn can_open(nodes: &[(NodeName, Setup)]) -> bool
         ensures { result ≡ are_distinct (map (λ node. node.0) nodes.now) }
     {
         let mut at = 0;
@@ -71,12 +71,12 @@ impl World {
         true
     }
 
-    /// A world of nodes of these names and cookies, which are up, in their first incarnations. Nothing
-    /// has happened yet. (Reference Manual, Distributed Erlang, Nodes.)
+    /// Returns a world of nodes of these names and setups, which are up, in their first incarnations.
+    /// Nothing has happened yet. (Reference Manual, Distributed Erlang, Nodes.)
     ///
     /// # Errors
     /// Where there is no memory for it.
-    pub fn new(alloc: Global, nodes: Vec<(NodeName, Cookie)>) -> Result<World, AllocError>
+    pub fn new(alloc: Global, nodes: Vec<(NodeName, Setup)>) -> Result<World, AllocError>
         requires { are_distinct (map (λ node. node.0) nodes.items) ≡ true }
         ensures { IfOk result (λ world. StandsFor world (opening nodes.items)) }
     {
@@ -93,7 +93,7 @@ impl World {
         }
     }
 
-    /// A world of no nodes. Takes no memory.
+    /// Returns a world of no nodes. Never allocates.
     pub fn empty(alloc: Global) -> World
         ensures { StandsFor result (opening []) }
     {
@@ -103,17 +103,17 @@ impl World {
         }
     }
 
-    /// A node more, before anything has happened: it comes behind the others. None of them has its name.
+    /// Appends a node of this name and setup, before anything has happened. No other has its name.
     ///
     /// # Errors
     /// [`AllocError`] if out of memory. Then nothing has changed.
-    pub fn join(&mut self, alloc: Global, name: NodeName, cookie: Cookie) -> Result<(), AllocError>
+    pub fn join(&mut self, alloc: Global, name: NodeName, setup: Setup) -> Result<(), AllocError>
         requires { has_name name (names_of self.old.nodes.items) ≡ false }
-        ensures ok { (nodes : List (Name × List ℕ)) → StandsFor self.old (opening nodes) → OnOk result (StandsFor self.new (opening (nodes ++ (name, cookie) ∷ []))) }
+        ensures ok { (nodes : List (Name × Setup)) → StandsFor self.old (opening nodes) → OnOk result (StandsFor self.new (opening (nodes ++ (name, setup) ∷ []))) }
         ensures err { (m : TheWorld) → StandsFor self.old m → OnErr result (StandsFor self.new m) }
     {
         name.text();
-        self.nodes.push(Node::new(alloc, name, cookie)?)?;
+        self.nodes.push(Node::new(alloc, name, setup)?)?;
         Ok(())
     }
 }

@@ -2,6 +2,7 @@
 ghost use Rattle.std.specs.Prelude.{◌≡◌, ◌≤◌, List, [], ℕ, IfOk, OnErr, length};
 ghost use Rattle.std.specs.Vec.{vec_capacity};
 ghost use Rattle.dist_model.specs.Names.{Name};
+ghost use Rattle.erl_handshake.specs.declared.setup.Setup.{Setup};
 ghost use Rattle.dist_model.specs.Runs.{opening};
 ghost use Rattle.dist_model.specs.World.{World as TheWorld};
 ghost use Rattle.world_core.specs.Ran.{Ran, RanSafely, events_in};
@@ -38,7 +39,7 @@ impl World {
     /// for which memory is wanting is answered by `OutOfMemory`, and the later events go on.
     pub fn run(&mut self, alloc: Global, events: Vec<Event>) -> Result<Vec<Answered>, AllocError>
         ensures ran { (m : TheWorld) → StandsFor self.old m → IfOk result (λ answers. Ran self.new m (events_in m.names events.items) answers.items) }
-        ensures safe { (nodes : List (Name × List ℕ)) → let m = opening nodes in StandsFor self.old m →
+        ensures safe { (nodes : List (Name × Setup)) → let m = opening nodes in StandsFor self.old m →
             IfOk result (λ answers. RanSafely self.new m (events_in m.names events.items) answers.items) }
         ensures err { OnErr result (self.new ≡ self.old) }
     {

@@ -1,7 +1,7 @@
 //! Worlds, and the events of steps.
 use crate::told::{Place, Process, Reason, Step, Trunk};
 use dist_model::Command;
-use erl_handshake::Cookie;
+use erl_handshake::{Cookie, Profile, Setup};
 use erl_names::{NodeName, TrunkId};
 use erl_term::{Atom, Payload, Pid, Reference, ReferenceWords, Refusal, Term};
 use std::alloc::Global;
@@ -32,10 +32,13 @@ pub fn reason_text(reason: Reason) -> &'static str {
     }
 }
 
-fn node(alloc: Global, place: Place, cookie: &str) -> Result<(NodeName, Cookie), Refusal> {
+fn node(alloc: Global, place: Place, cookie: &str) -> Result<(NodeName, Setup), Refusal> {
     let name = NodeName::read(alloc, name(place))?;
-    let cookie = Cookie::new(Vec::from_slice(alloc, cookie.as_bytes())?);
-    Ok((name, cookie))
+    let setup = Setup {
+        cookie: Cookie::new(Vec::from_slice(alloc, cookie.as_bytes())?),
+        profile: Profile::One,
+    };
+    Ok((name, setup))
 }
 
 /// A world of as many nodes as there are cookies, at most four.

@@ -24,8 +24,8 @@ returns c = λ own side bytes word h l. at own side bytes word h side.standing l
         → listens (state_of standing) ≡ true → One (DueAt standing own side bytes word)
     at own side bytes word h (Dialing d) l = shakes role.Dialer own side bytes word h
     at own side bytes word h (Accepting a) l = shakes role.Acceptor own side bytes word h
-    at own side bytes word h (Up creation) l =
+    at own side bytes word h (Up introduction) l =
         let read = c.one_answer-2.ensures bytes h in
-        one_frame (Up creation) bytes read.0 read.1 read.2
-    at own side bytes word h (Losing creation) l = cc
+        one_frame (Up introduction) bytes read.0 read.1 read.2
+    at own side bytes word h (Losing introduction) l = cc
     at own side bytes word h Gone l = cc

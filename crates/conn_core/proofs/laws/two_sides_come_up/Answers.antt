@@ -10,7 +10,7 @@ use Rattle.erl_handshake.specs.declared.identity.Identity.{Identity}
 use Rattle.erl_handshake.specs.Digest.{digest_of}
 use Rattle.erl_handshake.specs.Messages.{HasFields, IsFor, written}
 use Rattle.erl_handshake.specs.Answer.{IsShakeDue}
-use Rattle.erl_handshake.specs.Roles.{send_name, challenge_of, is_answered}
+use Rattle.erl_handshake.specs.Roles.{send_name, challenge_of, introduction_of, is_answered}
 use Rattle.conn_core.specs.declared.standing.Standing.TheVariants.{Dialing, Accepting, Up}
 use Rattle.conn_core.specs.Meeting.{CanConnect, Meeting}
 use Rattle.conn_core.proofs.laws.two_sides_come_up.Goals as goal
@@ -30,7 +30,7 @@ returns c = meets
 
     meets : (dialing accepting : Identity) (count challenge word : ℕ) → CanConnect dialing → CanConnect accepting
         → dialing.cookie ≡ accepting.cookie → challenge < 2 ^ 32 → word < 2 ^ 32 →
-        Meeting dialing accepting count challenge word (Up accepting.creation) (Up dialing.creation)
+        Meeting dialing accepting count challenge word (Up (introduction_of accepting)) (Up (introduction_of dialing))
     meets dialing accepting count challenge word d a e small fresh =
         let name = send_name dialing in
         let asks = challenge_of accepting word in
@@ -39,9 +39,9 @@ returns c = meets
         let digest = c.digests.ensures.length in
         let welcome = c.right_peers_pass.ensures.introduced in
         record {
-          named = Accepting (acceptor.AwaitsAdmission word dialing.creation);
+          named = Accepting (acceptor.AwaitsAdmission word (introduction_of dialing));
           told = Dialing (dialer.AwaitsChallenge challenge);
-          replied = Dialing (dialer.AwaitsAck challenge accepting.creation);
+          replied = Dialing (dialer.AwaitsAck challenge (introduction_of accepting));
           reply = reply;
           acknowledgement = ack;
           hears_name = record {

@@ -6,6 +6,7 @@ use Rattle.dist_model.specs.Histories.{History, told}
 use Rattle.dist_model.specs.Names.{Name}
 use Rattle.dist_model.specs.Runs.{Goes, Runs, opening}
 use Rattle.dist_model.specs.World.{Event, Report, World}
+use Rattle.erl_handshake.specs.declared.setup.Setup.{Setup}
 
 -- a run is parted where its events and its reports are
 parted : (es fs : List Event) (rs ss : List Report) (w v : World) → length es ≡ length rs → Runs w (es ++ fs) (rs ++ ss) v
@@ -23,7 +24,7 @@ downs : (h : History) (w : World) (e : Event) (r : Report) (v : World) → Downs
 downs h w e r v f (inl c) = subst (λ z. DownsRightly h w e z) (sym c.0) (f e)
 downs h w e r v f (inr c) = subst (λ z. DownsRightly h w e z) (sym c.0) (λ k d i. let lt = i.1 in absurd (omega arith))
 
-safe : (nodes : List (Name × List ℕ)) (es fs : List Event) (e : Event) (rs ss : List Report) (r : Report) (v : World)
+safe : (nodes : List (Name × Setup)) (es fs : List Event) (e : Event) (rs ss : List Report) (r : Report) (v : World)
     → length es ≡ length rs
     → Runs (opening nodes) (es ++ e ∷ fs) (rs ++ r ∷ ss) v
     → (now : World) × Runs (opening nodes) es rs now × ReactsRightly (told es rs []) now e r × DownsRightly (told es rs []) now e r

@@ -19,8 +19,8 @@ returns c =
     let is : due ≡ admission t.dialer m.mint.name t.count (others m t.dialer) = search rules in
     let one = one_ends m t.dialer m.mint.name t.count c.args.node.now.steady.attempts in
     rw c.or_refuse.ensures (made_by m _ (answer_to due.progress)
-    (admitted_by due side c.args.challenge c.args.creation (at_work m)) c.carry_out.new.plan c.carry_out.result
-    (ap (λ (d : Admission). Accepts (answer_to d.progress) (admitted_by d side c.args.challenge c.args.creation (at_work m))) (sym is))
+    (admitted_by due side c.args.challenge c.args.introduction (at_work m)) c.carry_out.new.plan c.carry_out.result
+    (ap (λ (d : Admission). Accepts (answer_to d.progress) (admitted_by d side c.args.challenge c.args.introduction (at_work m))) (sym is))
     (c.carry_out.ensures.told m ∙ c.answers.ensures.told m ∙ c.answer_to.ensures)
     (c.carry_out.ensures.makes (subst (λ (d : Admission). d.ends_dialing ≡ true → d.ends_waiting ≡ false) (sym is) one) c.requires.none
     (c.answers.ensures.makes m (at_work m) c.requires.makes)))

@@ -5,7 +5,7 @@ use Rattle.conn_core.specs.declared.arrival.Fault.{Fault}
 use Rattle.conn_core.specs.declared.arrival.Taken.TheVariants as taken
 use Rattle.conn_core.specs.declared.side.Side.{Side}
 use Rattle.conn_core.specs.declared.standing.Standing.TheVariants as standing
-use Rattle.dist_model.specs.Admission.{named_creation}
+use Rattle.dist_model.specs.Admission.{named_introduction}
 use Rattle.dist_model.specs.Commands.{Accepts}
 use Rattle.dist_model.specs.Handshake.{identity, with_side}
 use Rattle.dist_model.specs.Names.{Name}
@@ -71,5 +71,5 @@ returns-in-None-clause-message c = λ message word len e.
     (identity m) t.dialer message c.in-Message.message c.in-Message.send word len
     (ap (λ (a : Arrival). a.was) (sym came) ∙ c.in-Message.is) in
     let none : named_in c.args.arrival.now.standing ≡ None = search rules in
-    let some : named_in c.args.arrival.now.standing ≡ Some (word, named_creation message) = ap named_in stands in
+    let some : named_in c.args.arrival.now.standing ≡ Some (word, named_introduction message) = ap named_in stands in
     absurd (cc (sym none ∙ some))

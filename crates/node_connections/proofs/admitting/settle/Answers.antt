@@ -16,7 +16,7 @@ returns-then-sends_challenge-clause-makes c = λ work none h.
     let side = c.args.side.now in
     let sends : sends_challenge c.args.status ≡ true = search rules in
     let set =
-    with_side side.trunk (standing_side side.peer (standing.Accepting (acceptor.AwaitsReply c.args.challenge c.args.creation))) work in
+    with_side side.trunk (standing_side side.peer (standing.Accepting (acceptor.AwaitsReply c.args.challenge c.args.introduction))) work in
     let P : Work → Type 0 = λ o. MakesOr m o c.write_challenge.new.plan c.write_challenge.result in
-    subst P (sym (sent_after c.args.status side.trunk (named_side side c.args.creation) c.args.challenge work sends))
+    subst P (sym (sent_after c.args.status side.trunk (named_side side c.args.introduction) c.args.challenge work sends))
     (c.write_challenge.ensures.makes set (c.in_ok-add.ensures.makes m work none (refl, refl) h))

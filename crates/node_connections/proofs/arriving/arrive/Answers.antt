@@ -14,12 +14,12 @@ use Rattle.node_connections.proofs.arriving.arrive.Goals as goal
 left : (st : Standing) → is_settled st ≡ true → (st ≡ standing.Gone → ⊥) → is_gone (state_of st) ≡ false
 left (standing.Dialing (dialer.AwaitsStatus w)) h n = refl
 left (standing.Dialing (dialer.AwaitsChallenge w)) h n = refl
-left (standing.Dialing (dialer.AwaitsAck w creation)) h n = refl
-left (standing.Accepting (acceptor.AwaitsAnswer w creation)) h n = refl
-left (standing.Accepting (acceptor.AwaitsTurn w creation)) h n = refl
-left (standing.Accepting (acceptor.AwaitsReply w creation)) h n = refl
-left (standing.Up creation) h n = refl
-left (standing.Losing creation) h n = refl
+left (standing.Dialing (dialer.AwaitsAck w introduction)) h n = refl
+left (standing.Accepting (acceptor.AwaitsAnswer w introduction)) h n = refl
+left (standing.Accepting (acceptor.AwaitsTurn w introduction)) h n = refl
+left (standing.Accepting (acceptor.AwaitsReply w introduction)) h n = refl
+left (standing.Up introduction) h n = refl
+left (standing.Losing introduction) h n = refl
 left standing.Gone h n = absurd (n refl)
 left st h n = cc
 

@@ -11,6 +11,6 @@ pub returns-clause-makes : goal.returns-clause-makes
 returns-clause-makes c = λ work t n h.
     let side = c.args.side.now in
     let set =
-    with_side side.trunk (standing_side side.peer (standing.Accepting (acceptor.AwaitsReply c.args.challenge c.args.creation))) work in
+    with_side side.trunk (standing_side side.peer (standing.Accepting (acceptor.AwaitsReply c.args.challenge c.args.introduction))) work in
     c.write_challenge.ensures.makes set (c.in_ok-stand_down.ensures.makes (seen c.args.node.now) work (refl, refl) t
-    (stays (standing.Accepting (acceptor.AwaitsReply c.args.challenge c.args.creation)) _ n) h)
+    (stays (standing.Accepting (acceptor.AwaitsReply c.args.challenge c.args.introduction)) _ n) h)

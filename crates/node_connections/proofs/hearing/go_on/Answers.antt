@@ -21,7 +21,7 @@ returns-in-Some-clause-makes c = λ h.
     let side = c.args.side.now in
     let up = c.in-Some.up.now in
     let w = c.args.challenge in
-    let s = standing_side side.peer (standing.Accepting (acceptor.AwaitsAnswer w c.args.creation)) in
+    let s = standing_side side.peer (standing.Accepting (acceptor.AwaitsAnswer w c.args.introduction)) in
     let first : side_where is_up side.peer (fm.entries m.sides) ≡ Some (up.trunk, side_of up) = search rules in
     let found = found_in is_up side.peer m (up.trunk, side_of up) first in
     let is : c.lost.result ≡ lost up.standing = c.lost.ensures in
@@ -35,5 +35,5 @@ returns-in-Some-clause-makes c = λ h.
     subst Q (sym (parks_behind side.trunk s w m (up.trunk, side_of up) first))
     (c.stand_down-in-Some.ensures.makes m lose (refl, refl)
     (towards_kept m.sides up.trunk side.trunk (side_of up) (in_state Losing (side_of up)) side.peer found.0 refl c.requires.towards)
-    (stays (standing.Accepting (acceptor.AwaitsTurn w c.args.creation)) _
+    (stays (standing.Accepting (acceptor.AwaitsTurn w c.args.introduction)) _
     (there_kept m.sides up.trunk side.trunk (in_state Losing (side_of up)) refl c.requires.there)) loses)

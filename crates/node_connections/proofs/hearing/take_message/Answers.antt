@@ -21,8 +21,8 @@ pub go_on-requires-clause-there : goal.go_on-requires-clause-there
 go_on-requires-clause-there c =
     let m = seen c.args.node.now in
     let side = c.args.side.now in
-    let asked : asked_in side.standing ≡ Some (c.in-Some.challenge, c.in-Some.creation) = search rules in
-    let is = asked_is side.standing c.in-Some.challenge c.in-Some.creation asked in
+    let asked : asked_in side.standing ≡ Some (c.in-Some.challenge, c.in-Some.introduction) = search rules in
+    let is = asked_is side.standing c.in-Some.challenge c.in-Some.introduction asked in
     there m.sides side.trunk (side_of side) c.requires.there (ap (λ x. is_gone (state_of x)) is)
 
 pub returns-in-Some : goal.returns-in-Some
@@ -30,13 +30,13 @@ returns-in-Some c = λ came word len was stands.
     let m = seen c.args.node.now in
     let side = c.args.side.now in
     let w = c.in-Some.challenge in
-    let creation = c.in-Some.creation in
-    let asked : asked_in side.standing ≡ Some (w, creation) = search rules in
-    let is = asked_is side.standing w creation asked in
-    let s = standing_side side.peer (standing.Accepting (acceptor.AwaitsAnswer w creation)) in
+    let introduction = c.in-Some.introduction in
+    let asked : asked_in side.standing ≡ Some (w, introduction) = search rules in
+    let is = asked_is side.standing w introduction asked in
+    let s = standing_side side.peer (standing.Accepting (acceptor.AwaitsAnswer w introduction)) in
     let due = send_challenge_or_park side.trunk s w (up_is_lost (side_where is_up side.peer (fm.entries m.sides)) (at_work m)) in
     rw c.or_refuse.ensures (made_by m _ (Answer.Took (kind_of (Handshake c.args.message.now))) due c.go_on.new.plan c.go_on.result
-    (asked_heard side.trunk side.peer came c.args.message.now word len c.args.send.now (at_work m) side.standing w creation is was)
+    (asked_heard side.trunk side.peer came c.args.message.now word len c.args.send.now (at_work m) side.standing w introduction is was)
     (c.go_on.ensures.told m ∙ c.answers.ensures.told m ∙ ap Answer.Took c.kind.ensures)
     (c.go_on.ensures.makes (c.answers.ensures.makes m (at_work m) c.requires.makes)))
 

@@ -13,10 +13,10 @@ returns-clause-makes c = λ m work t alone there h.
     let own = c.in_ok-trunk.trunk in
     let from : own ≡ c.args.side.now.trunk = search rules in
     let to : c.in_ok-peer.peer ≡ c.args.side.now.peer = search rules in
-    let P : TrunkId → Name → Type 0 = λ u y. Lets (change.ComesUp u y c.args.creation) work.node.sides in
+    let P : TrunkId → Name → Type 0 = λ u y. Lets (change.ComesUp u y c.args.introduction) work.node.sides in
     let lets : P own c.in_ok-peer.peer =
     subst (λ u. P u c.in_ok-peer.peer) (sym from) (subst (P c.args.side.now.trunk) (sym to) (t, alone, there)) in
     let Q : Work → Type 0 = λ w. MakesOr m w c.change_side.new.self c.change_side.result in
-    subst Q (ap (λ u. sided (change.ComesUp u c.in_ok-peer.peer c.args.creation) work) from
-    ∙ comes_up c.args.side.now.trunk c.in_ok-peer.peer c.args.side.now.peer c.args.creation work t)
+    subst Q (ap (λ u. sided (change.ComesUp u c.in_ok-peer.peer c.args.introduction) work) from
+    ∙ comes_up c.args.side.now.trunk c.in_ok-peer.peer c.args.side.now.peer c.args.introduction work t)
     (c.change_side.ensures.makes m work lets h)

@@ -34,7 +34,7 @@ returns-clause-ok c =
     })
     told c.into_event-event.result c.reserve.new.self.items (length c.as_slice-place.result.now)
     (at_home c.is_at_home.result c.is_at_home.ensures c.if-not-is_at_home.false) c.into_event-event.ensures.event c.in-Ok-act.ensures.ok
-    (stamps_rise c.args.book.now.names c.args.book.now.place c.args.book.now.cookie c.args.book.now.history c.args.book.now.outlets
+    (stamps_rise c.args.book.now.names c.args.book.now.place c.args.book.now.setup c.args.book.now.history c.args.book.now.outlets
     c.replays.ensures)
     c.in-Ok-act.ensures.told c.into_event-event.ensures.act c.in-Ok.ensures refl c.stamp_at.ensures c.place.ensures refl refl
     c.reserve.ensures.items
@@ -50,6 +50,6 @@ push-requires-clause-behind c =
     })
     told c.into_event-event.result c.reserve.new.self.items 0
     (at_home c.is_at_home.result c.is_at_home.ensures c.if-not-is_at_home.false) c.into_event-event.ensures.event c.in-Ok-act.ensures.ok
-    (stamps_rise c.args.book.now.names c.args.book.now.place c.args.book.now.cookie c.args.book.now.history c.args.book.now.outlets
+    (stamps_rise c.args.book.now.names c.args.book.now.place c.args.book.now.setup c.args.book.now.history c.args.book.now.outlets
     c.replays.ensures)
     refl c.stamp_at.ensures c.reserve.ensures.items

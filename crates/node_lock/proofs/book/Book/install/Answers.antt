@@ -10,16 +10,16 @@ use Rattle.node_lock.proofs.book.Book.install.Goals as goal
 
 pub invariant_of-self : goal.invariant_of-self
 invariant_of-self c =
-    let b = c.self.inside in subst (λ os. IsBook b.names.items b.place b.cookie b.history os) (sym c.reserve.ensures.items) c.self.invariant
+    let b = c.self.inside in subst (λ os. IsBook b.names.items b.place b.setup b.history os) (sym c.reserve.ensures.items) c.self.invariant
 
 pub invariant_of-self-in_default : goal.invariant_of-self-in_default
 invariant_of-self-in_default c =
-    let b = c.self.inside in subst (λ os. IsBook b.names.items b.place b.cookie b.history os) (sym c.reserve.ensures.items) c.self.invariant
+    let b = c.self.inside in subst (λ os. IsBook b.names.items b.place b.setup b.history os) (sym c.reserve.ensures.items) c.self.invariant
 
 pub invariant_of-self-2 : goal.invariant_of-self-2
 invariant_of-self-2 c =
     let b = c.self.inside in
-    installed_as c.books_grow.ensures.rest b.greatest.bytes b.names.items b.place b.cookie b.history b.outlets.items
+    installed_as c.books_grow.ensures.rest b.greatest.bytes b.names.items b.place b.setup b.history b.outlets.items
     c.reserve.new.self.items c.push_reserved.new.self.items c.args.offer.trunk c.in-Ok.dialer
     c.new.result
     (ap (λ (s : BookSeen). wants (model_of s.history.node) c.args.offer.trunk s.outlets) c.self.view_is ∙ sym c.wants.ensures

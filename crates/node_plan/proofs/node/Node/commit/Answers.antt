@@ -27,6 +27,7 @@ invariant_of-self c =
     (seen old) = (λ i. record {
       mint = mint i;
       cookie = old.own.cookie;
+      flags = old.own.flags;
       up = up i;
       dialed = c.dialed_after-self.ensures i;
       lives = lives i;
@@ -42,7 +43,6 @@ invariant_of-self c =
             ∙ sym (ap (λ (m : Minted). m.name) mint);
         creation = old.introduces.creation ∙ sym ((named_after plan.change plan.draws old.incarnation.mint).1)
             ∙ sym (ap (λ (m : Minted). m.creation) mint);
-        flags = old.introduces.flags;
       };
       drawn = let P : Minted → Type 0 = AreDrawn c.change_watches.new.watches.monitors in subst P (sym mint)
           (let Q : MonitorMap

@@ -17,14 +17,15 @@ use Rattle.node_plan.proofs.node.Node.new.Goals as goal
 pub invariant_of-result : goal.invariant_of-result
 invariant_of-result c =
     let name = c.args.name in
-    let cookie = c.args.cookie in
-    let own : Identity = record { name = c.in_ok-clone.field-0; creation = c.first.result; flags = c.mandatory.result; cookie = cookie } in
+    let setup = c.args.setup in
+    let own : Identity = record { name = c.in_ok-clone.field-0; creation = c.first.result; flags = c.flags.result; cookie = setup.cookie } in
     let mint = c.new.ensures.mint ∙ ap (nothing_drawn name) c.first-2.ensures in
     let local = ap (map Signalled) c.new-5.ensures.items in
-    let is : seen_of c.new.result own 0 c.new-2.result c.new-3.result c.new-4.result c.new-5.result.items ≡ new_node name cookie =
+    let is : seen_of c.new.result own 0 c.new-2.result c.new-3.result c.new-4.result c.new-5.result.items ≡ new_node name setup =
     (λ i. record {
       mint = mint i;
-      cookie = cookie;
+      cookie = setup.cookie;
+      flags = c.flags.ensures i;
       up = c.new.ensures.up i;
       dialed = 0;
       lives = c.new.ensures.lives i;
@@ -39,11 +40,10 @@ invariant_of-result c =
       introduces = record {
         name = same ∙ sym (ap (λ (m : Minted). m.name) mint);
         creation = c.first.ensures ∙ sym (ap (λ (m : Minted). m.creation) mint);
-        flags = c.mandatory.ensures;
       };
       drawn = λ count l. ap (λ (watches : MonitorMap). fm.get watches (reference_of c.new.result.mint count)) c.new-2.ensures
           ∙ fm.get-empty reference_cmp (reference_of c.new.result.mint count);
       sendable = ap are_sendable c.new-5.ensures.items;
-      steady = subst Steady (sym is) (steady_new name cookie);
-      counted = subst CountsOwn (sym is) (counted_new name cookie);
+      steady = subst Steady (sym is) (steady_new name setup);
+      counted = subst CountsOwn (sym is) (counted_new name setup);
     }

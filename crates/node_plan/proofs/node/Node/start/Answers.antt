@@ -29,6 +29,7 @@ invariant_of-self-2 c =
     (λ i. record {
       mint = mint i;
       cookie = old.own.cookie;
+      flags = old.own.flags;
       up = c.in_ok-start.ensures.up i;
       dialed = old.dialed;
       lives = c.in_ok-start.ensures.lives i;
@@ -42,7 +43,6 @@ invariant_of-self-2 c =
       introduces = record {
         name = old.introduces.name ∙ sym (ap (λ (m : Minted). m.name) mint);
         creation = c.creation-self.ensures ∙ ap (λ (m : Minted). m.creation) c.mint.ensures;
-        flags = old.introduces.flags;
       };
       drawn = λ count l. ap (λ (watches : MonitorMap). fm.get watches (reference_of c.start.new.self.mint count)) c.new.ensures
           ∙ fm.get-empty reference_cmp (reference_of c.start.new.self.mint count);

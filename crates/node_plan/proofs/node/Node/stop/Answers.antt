@@ -21,6 +21,7 @@ invariant_of-self c =
     (λ i. record {
       mint = mint i;
       cookie = old.own.cookie;
+      flags = old.own.flags;
       up = c.stop.ensures.up i;
       dialed = old.dialed;
       lives = c.stop.ensures.lives i;
@@ -34,7 +35,6 @@ invariant_of-self c =
       introduces = record {
         name = old.introduces.name ∙ sym (ap (λ (m : Minted). m.name) mint);
         creation = old.introduces.creation ∙ sym (ap (λ (m : Minted). m.creation) mint);
-        flags = old.introduces.flags;
       };
       drawn = λ count l. ap (λ (watches : MonitorMap). fm.get watches (reference_of c.stop.new.self.mint count)) c.new.ensures
           ∙ fm.get-empty reference_cmp (reference_of c.stop.new.self.mint count);

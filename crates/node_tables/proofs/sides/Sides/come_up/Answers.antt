@@ -45,14 +45,14 @@ invariant_of-self-clause-sorted c =
     let q = c.args.trunk in
     let at = c.in-Ok.at in
     let x = c.index_mut.result.now in
-    let y : Side = record x { standing = standing.Up c.args.creation } in
+    let y : Side = record x { standing = standing.Up c.args.introduction } in
     let found = subst (λ (l : List Side). IsFoundAt trunk_cmp (entries_of l) q at) c.deref.ensures.value c.in-Ok.ensures.found in
     put_sorted held (set held at y) q (side_of y) it.sorted (set_puts held q at x c.index_mut.ensures.value found y refl)
 
 pub invariant_of-self-clause-none_gone : goal.invariant_of-self-clause-none_gone
 invariant_of-self-clause-none_gone c =
     let x = c.index_mut.result.now in
-    open_set c.args.self.now.held.items c.in-Ok.at (record x { standing = standing.Up c.args.creation }) refl c.args.self.now.none_gone
+    open_set c.args.self.now.held.items c.in-Ok.at (record x { standing = standing.Up c.args.introduction }) refl c.args.self.now.none_gone
 
 pub invariant_of-self-clause-routed : goal.invariant_of-self-clause-routed
 invariant_of-self-clause-routed c =
@@ -61,7 +61,7 @@ invariant_of-self-clause-routed c =
     let q = c.args.trunk in
     let at = c.in-Ok.at in
     let x = c.index_mut.result.now in
-    let y : Side = record x { standing = standing.Up c.args.creation } in
+    let y : Side = record x { standing = standing.Up c.args.introduction } in
     let found = subst (λ (l : List Side). IsFoundAt trunk_cmp (entries_of l) q at) c.deref.ensures.value c.in-Ok.ensures.found in
     let puts = set_puts held q at x c.index_mut.ensures.value found y refl in
     let was = there_found held q at x c.index_mut.ensures.value found in
@@ -82,7 +82,7 @@ invariant_of-self-clause-apart c =
     let q = c.args.trunk in
     let at = c.in-Ok.at in
     let x = c.index_mut.result.now in
-    let y : Side = record x { standing = standing.Up c.args.creation } in
+    let y : Side = record x { standing = standing.Up c.args.introduction } in
     let found = subst (λ (l : List Side). IsFoundAt trunk_cmp (entries_of l) q at) c.deref.ensures.value c.in-Ok.ensures.found in
     put_apart held (set held at y) it.gone.items q (side_of y) (set_puts held q at x c.index_mut.ensures.value found y refl) it.apart
     (it.apart q (ap is_some (there_found held q at x c.index_mut.ensures.value found)))
@@ -98,8 +98,8 @@ returns-clause-sides c =
     let q = c.args.trunk in
     let at = c.in-Ok.at in
     let x = c.index_mut.result.now in
-    let y : Side = record x { standing = standing.Up c.args.creation } in
+    let y : Side = record x { standing = standing.Up c.args.introduction } in
     let found = subst (λ (l : List Side). IsFoundAt trunk_cmp (entries_of l) q at) c.deref.ensures.value c.in-Ok.ensures.found in
     let was = there_found held q at x c.index_mut.ensures.value found in
     put_sides held (set held at y) gone q (side_of y) (set_puts held q at x c.index_mut.ensures.value found y refl)
-    ∙ sym (stood_there (sides_in held gone) q (standing.Up c.args.creation) (side_of x) (get_held held gone q (side_of x) was))
+    ∙ sym (stood_there (sides_in held gone) q (standing.Up c.args.introduction) (side_of x) (get_held held gone q (side_of x) was))

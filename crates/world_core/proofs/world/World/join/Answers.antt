@@ -4,7 +4,7 @@ use Rattle.world_core.proofs.world.World.join.Goals as goal
 
 pub returns-clause-ok : goal.returns-clause-ok
 returns-clause-ok c = λ nodes h.
-    joins c.args.self.now _ nodes c.in_ok-new.field-0 c.args.name c.args.cookie h
+    joins c.args.self.now _ nodes c.in_ok-new.field-0 c.args.name c.args.setup h
     (search rules) refl c.in_ok-new.ensures c.requires c.text.ensures.form
 
 pub returns-in_err-new-clause-err : goal.returns-in_err-new-clause-err
