@@ -64,21 +64,22 @@ pub record AskedOn (trace : Trace) (w : World) (t : TrunkId) (y : Name) (p q : P
   pub called : WasCalledIn r p q said trace
 
 abbrev AllAskedOn : Trace → World → Type 0
-AllAskedOn trace w = (t : TrunkId) (y : Name) (p q : Pid) (r : Reference) → Contains (list_to w.lists t y) (Signalled (Signal.Monitor p q r))
+AllAskedOn trace w = (t : TrunkId) (y : Name) (p q : Pid) (r : Reference) (pay : Bool)
+    → Contains (list_to w.lists t y) (Signalled (Signal.Monitor p q r) pay)
     → AskedOn trace w t y p q r
 
 -- nothing has come on its way
 later : (trace : Trace) (m : Moment) (w : World) → AllAskedOn trace w → AllAskedOn (m ∷ trace) w
-later trace m w k t y p q r c = let a = k t y p q r c in record { said = a.said; right = a.right; to = a.to; called = inr a.called }
+later trace m w k t y p q r pay c = let a = k t y p q r pay c in record { said = a.said; right = a.right; to = a.to; called = inr a.called }
 
 -- one that is sent
 module _ (w : World) (g : Fine w) (n : Node) where
   sent : (e : Event) → node_of w.nodes (node_name e) ≡ Some n → (a : Answer) (o : Work) → at_node w.names n (met w e) ≡ Accepts a o
-      → (trace : Trace) (t : TrunkId) (y : Name) (p q : Pid) (r : Reference)
-      → Contains o.effects (Effect.Sent (Some t) y (Signalled (Signal.Monitor p q r)))
+      → (trace : Trace) (t : TrunkId) (y : Name) (p q : Pid) (r : Reference) (pay : Bool)
+      → Contains o.effects (Effect.Sent (Some t) y (Signalled (Signal.Monitor p q r) pay))
       → AskedOn (moment_of w e (Reported a o.effects) ∷ trace) w t y p q r
-  sent (Call x (Command.Monitor p0 q0)) hx a o j trace t y p q r c =
-      let k = (call_asks n p0 q0 w.names a o j).0 t y p q r c in
+  sent (Call x (Command.Monitor p0 q0)) hx a o j trace t y p q r pay c =
+      let k = (call_asks n p0 q0 w.names a o j).0 t y p q r pay c in
       let v = route_from n q0.node t k.route in
       let nx : p0.node ≡ x = same_name_true p0.node n.mint.name (never_own n p0 ((g.0.core.nodes x n hx).born p0 k.here)) ∙ node_of_name w.nodes x n hx in
       let tr : Trace = moment_of w (Call x (Command.Monitor p0 q0)) (Reported a o.effects) ∷ trace in
@@ -98,20 +99,20 @@ module _ (w : World) (g : Fine w) (n : Node) where
       } in
       subst (λ z. AskedOn tr w t z p q r) (sym k.to) (subst (λ z. AskedOn tr w t q0.node p z r) k.target
       (subst (λ z. AskedOn tr w t q0.node z q0 r) k.owner b))
-  sent e hx a o j trace t y p q r c =
-      let z : asks (Signalled (Signal.Monitor p q r)) ≡ false = (if_accepted (UnaskedIn n.local) (at_node w.names n (met w e)) a o j
-      (node_unasked w.names n (met w e) (λ p q i. cc))).0 (Some t) y (Signalled (Signal.Monitor p q r)) c in
+  sent e hx a o j trace t y p q r pay c =
+      let z : asks (Signalled (Signal.Monitor p q r) pay) ≡ false = (if_accepted (UnaskedIn n.local) (at_node w.names n (met w e)) a o j
+      (node_unasked w.names n (met w e) (λ p q i. cc))).0 (Some t) y (Signalled (Signal.Monitor p q r) pay) c in
       let f : true ≡ false = z in cc
 
   -- one that the node keeps for itself
   listed : (e : Event) → node_of w.nodes (node_name e) ≡ Some n → (a : Answer) (o : Work) → at_node w.names n (met w e) ≡ Accepts a o
-      → (trace : Trace) (p q : Pid) (r : Reference)
-      → (Contains n.local (Signalled (Signal.Monitor p q r)) → (node_name e ≡ q.node) × WasCalledIn r p q (introduces n) trace)
-      → Contains o.node.local (Signalled (Signal.Monitor p q r))
+      → (trace : Trace) (p q : Pid) (r : Reference) (pay : Bool)
+      → (Contains n.local (Signalled (Signal.Monitor p q r) pay) → (node_name e ≡ q.node) × WasCalledIn r p q (introduces n) trace)
+      → Contains o.node.local (Signalled (Signal.Monitor p q r) pay)
       → (node_name e ≡ q.node) × WasCalledIn r p q (introduces n) (moment_of w e (Reported a o.effects) ∷ trace)
-  listed (Call x (Command.Monitor p0 q0)) hx a o j trace p q r old c = pick ((call_asks n p0 q0 w.names a o j).1 p q r c)
+  listed (Call x (Command.Monitor p0 q0)) hx a o j trace p q r pay old c = pick ((call_asks n p0 q0 w.names a o j).1 p q r pay c)
     where
-      pick : Contains n.local (Signalled (Signal.Monitor p q r)) ⊎ AskedHere n p0 q0 a p q r
+      pick : Contains n.local (Signalled (Signal.Monitor p q r) pay) ⊎ AskedHere n p0 q0 a p q r
           → (x ≡ q.node) × WasCalledIn r p q (introduces n) (moment_of w (Call x (Command.Monitor p0 q0)) (Reported a o.effects) ∷ trace)
       pick (inl d) = let v = old d in (v.0, inr v.1)
       pick (inr k) =
@@ -129,9 +130,9 @@ module _ (w : World) (g : Fine w) (n : Node) where
             inl (subst (λ z. CalledIn r p z (introduces n) m) k.target
                 (subst (λ z. CalledIn r z q0 (introduces n) m) k.owner b)),
           )
-  listed e hx a o j trace p q r old c =
+  listed e hx a o j trace p q r pay old c =
       let v = old ((if_accepted (UnaskedIn n.local) (at_node w.names n (met w e)) a o j
-      (node_unasked w.names n (met w e) (λ p q i. cc))).1 (Signalled (Signal.Monitor p q r)) refl c) in
+      (node_unasked w.names n (met w e) (λ p q i. cc))).1 (Signalled (Signal.Monitor p q r) pay) refl c) in
       (v.0, inr v.1)
 
 -- a node keeps its creation, or its list is empty
@@ -157,30 +158,30 @@ asked_step w g trace k (Some n) e h = go (at_node w.names n (met w e)) refl ((kn
     go : (r : Outcome) → at_node w.names n (met w e) ≡ r
         → ((z : Name) (t : TrunkId) (c : Introduction) → Right w.nodes z t c → Right ((came_of w (node_name e) (left w e) r).world.nodes) z t c)
         → AllAskedOn (moment_of w e ((came_of w (node_name e) (left w e) r).report) ∷ trace) ((came_of w (node_name e) (left w e) r).world)
-    go (Refuses why) j f t y p q r c = later trace _ w k t y p q r c
-    go (Accepts a o) j f t y p q r c = pick (Contains-append_cases (list_to (left w e) t y) (at_place t y (sent_in o.effects)) i
+    go (Refuses why) j f t y p q r pay c = later trace _ w k t y p q r pay c
+    go (Accepts a o) j f t y p q r pay c = pick (Contains-append_cases (list_to (left w e) t y) (at_place t y (sent_in o.effects)) i
         (subst (λ l. Contains l i) (list_to_carried (left w e) o.effects t y) c))
       where
         i : Item
-        i = Signalled (Signal.Monitor p q r)
+        i = Signalled (Signal.Monitor p q r) pay
 
-        pick : Contains (list_to (left w e) t y) (Signalled (Signal.Monitor p q r))
-            ⊎ Contains (at_place t y (sent_in o.effects)) (Signalled (Signal.Monitor p q r))
+        pick : Contains (list_to (left w e) t y) (Signalled (Signal.Monitor p q r) pay)
+            ⊎ Contains (at_place t y (sent_in o.effects)) (Signalled (Signal.Monitor p q r) pay)
             → AskedOn (moment_of w e (Reported a o.effects) ∷ trace)
             ((came_of w (node_name e) (left w e) (Accepts a o)).world) t y p q r
         pick (inl d) =
-            let b = k t y p q r (left_before w e t y (Signalled (Signal.Monitor p q r)) d) in
+            let b = k t y p q r pay (left_before w e t y (Signalled (Signal.Monitor p q r) pay) d) in
             record { said = b.said; right = f y t b.said b.right; to = b.to; called = inr b.called }
         pick (inr d) =
-            let b = sent w g n e h a o j trace t y p q r (sent_at t y o.effects (Signalled (Signal.Monitor p q r)) d) in
+            let b = sent w g n e h a o j trace t y p q r pay (sent_at t y o.effects (Signalled (Signal.Monitor p q r) pay) d) in
             record { said = b.said; right = f y t b.said b.right; to = b.to; called = b.called }
 
 abbrev AllListed : Trace → World → Type 0
-AllListed trace w = (x : Name) (n : Node) (p q : Pid) (r : Reference) → node_of w.nodes x ≡ Some n
-    → Contains n.local (Signalled (Signal.Monitor p q r)) → (x ≡ q.node) × WasCalledIn r p q (introduces n) trace
+AllListed trace w = (x : Name) (n : Node) (p q : Pid) (r : Reference) (pay : Bool) → node_of w.nodes x ≡ Some n
+    → Contains n.local (Signalled (Signal.Monitor p q r) pay) → (x ≡ q.node) × WasCalledIn r p q (introduces n) trace
 
 still_listed : (trace : Trace) (m : Moment) (w : World) → AllListed trace w → AllListed (m ∷ trace) w
-still_listed trace m w k x n p q r h c = let v = k x n p q r h c in (v.0, inr v.1)
+still_listed trace m w k x n p q r pay h c = let v = k x n p q r pay h c in (v.0, inr v.1)
 
 listed_step : (w : World) → Fine w → (trace : Trace) → AllListed trace w → (o : Option Node) (e : Event) → node_of w.nodes (node_name e) ≡ o
     → AllListed (moment_of w e ((step_at w o e).report) ∷ trace) ((step_at w o e).world)
@@ -189,30 +190,31 @@ listed_step w g trace k (Some n) e h = go (at_node w.names n (met w e)) refl
   where
     go : (r : Outcome) → at_node w.names n (met w e) ≡ r
         → AllListed (moment_of w e ((came_of w (node_name e) (left w e) r).report) ∷ trace) ((came_of w (node_name e) (left w e) r).world)
-    go (Refuses why) j y b p q r hy c = still_listed trace _ w k y b p q r hy c
-    go (Accepts a o) j y b p q r hy c = by_name _ (node_name e) y
+    go (Refuses why) j y b p q r pay hy c = still_listed trace _ w k y b p q r pay hy c
+    go (Accepts a o) j y b p q r pay hy c = by_name _ (node_name e) y
         (λ i.
         let nm : o.node.mint.name ≡ node_name e = (if_accepted (Bearings n (met w e)) (at_node w.names n (met w e)) a o j
         (bearings_kept w.names n (met w e))).name ∙ node_of_name w.nodes (node_name e) n h in
         let same : o.node ≡ b = same_Some o.node b (sym (node_of_set_same w.nodes (node_name e) n o.node h nm)
         ∙ ap (node_of (set_node w.nodes (node_name e) o.node)) i ∙ hy) in
-        let v = mine same (subst (λ (z : Node). Contains z.local (Signalled (Signal.Monitor p q r))) (sym same) c) in
+        let v = mine same (subst (λ (z : Node). Contains z.local (Signalled (Signal.Monitor p q r) pay)) (sym same) c) in
         (sym i ∙ v.0, v.1))
         (λ i.
         let nm : o.node.mint.name ≡ node_name e = (if_accepted (Bearings n (met w e)) (at_node w.names n (met w e)) a o j
         (bearings_kept w.names n (met w e))).name ∙ node_of_name w.nodes (node_name e) n h in
-        let v = k y b p q r (sym (node_of_set_other w.nodes (node_name e) y o.node nm i) ∙ hy) c in (v.0, inr v.1))
+        let v = k y b p q r pay (sym (node_of_set_other w.nodes (node_name e) y o.node nm i) ∙ hy) c in (v.0, inr v.1))
       where
-        mine : o.node ≡ b → Contains o.node.local (Signalled (Signal.Monitor p q r))
+        mine : o.node ≡ b → Contains o.node.local (Signalled (Signal.Monitor p q r) pay)
             → (node_name e ≡ q.node) × WasCalledIn r p q (introduces b) (moment_of w e (Reported a o.effects) ∷ trace)
         mine same d = pick (if_accepted (KeepsOwn n) (at_node w.names n (met w e)) a o j
             (keeps_own w.names n (met w e) (next_none w (node_name e) n h g.0)))
           where
             pick : KeepsOwn n o
                 → (node_name e ≡ q.node) × WasCalledIn r p q (introduces b) (moment_of w e (Reported a o.effects) ∷ trace)
-            pick (inr f) = absurd (none_within (Signalled (Signal.Monitor p q r)) (subst (λ z. Contains z (Signalled (Signal.Monitor p q r))) f d))
+            pick (inr f) = absurd (none_within (Signalled (Signal.Monitor p q r) pay)
+                (subst (λ z. Contains z (Signalled (Signal.Monitor p q r) pay)) f d))
             pick (inl f) =
-                let v = listed w g n e h a o j trace p q r (λ d. k (node_name e) n p q r h d) d in (
+                let v = listed w g n e h a o j trace p q r pay (λ d. k (node_name e) n p q r pay h d) d in (
                   v.0,
                   subst (λ z. WasCalledIn r p q z (moment_of w e (Reported a o.effects) ∷ trace))
                       (sym f ∙ ap (λ (z : Node). introduces z) same) v.1,
@@ -238,25 +240,26 @@ IsUpAt n t = (s : TrunkSide) × (side_at n t ≡ Some s) × (s.state ≡ Up)
 abbrev TookUp : Node → TrunkId → Answer → Work → Type 0
 TookUp n t a o = a ≡ Answer.Took Kind.Monitor → IsUpAt n t
 
-took_up : (names : List Name) (n : Node) (t : TrunkId) (s : Signal) (k : ℕ)
-    → IfAnswers (at_node names n (event.Arrive t (Some (Signalled s)) k)) (TookUp n t)
-took_up names n t s k = answers_if n.up _ Refusal.NodeDown (TookUp n t) (λ u. go (side_at n t) refl)
+took_up : (names : List Name) (n : Node) (t : TrunkId) (s : Signal) (pay : Bool) (k : ℕ)
+    → IfAnswers (at_node names n (event.Arrive t (Some (Signalled s pay)) k)) (TookUp n t)
+took_up names n t s pay k = answers_if n.up _ Refusal.NodeDown (TookUp n t) (λ u. go (side_at n t) refl)
   where
-    at : (v : TrunkSide) → side_at n t ≡ Some v → (x : State) → v.state ≡ x → IfAnswers (signal_at x t v (Signalled s) (at_work n)) (TookUp n t)
-    at v h Up e = good (is_good n v (Signalled s))
+    at : (v : TrunkSide) → side_at n t ≡ Some v → (x : State) → v.state ≡ x
+        → IfAnswers (signal_at x t v (Signalled s pay) (at_work n)) (TookUp n t)
+    at v h Up e = good (is_good n v (Signalled s pay))
       where
-        good : (b : Bool) → IfAnswers (cond b (Accepts (Answer.Took (kind_of (Signalled s))) (take_item (Signalled s) (at_work n)))
+        good : (b : Bool) → IfAnswers (cond b (Accepts (Answer.Took (kind_of (Signalled s pay))) (take_item (Signalled s pay) (at_work n)))
             (fault Fault.Forged t v (at_work n))) (TookUp n t)
         good true = λ z. (v, h, e)
         good false = λ z. (v, h, e)
     at v h _ e = λ z. cc
 
     comes : (v : TrunkSide) → side_at n t ≡ Some v → (b : Bool)
-        → IfAnswers (cond b (Refuses Refusal.NotLive) (arrive_at None t v (Signalled s) (at_work n))) (TookUp n t)
+        → IfAnswers (cond b (Refuses Refusal.NotLive) (arrive_at None t v (Signalled s pay) (at_work n))) (TookUp n t)
     comes v h true = tt
     comes v h false = at v h v.state refl
 
-    go : (v : Option TrunkSide) → side_at n t ≡ v → IfAnswers (arrive n t v (Some (Signalled s)) k) (TookUp n t)
+    go : (v : Option TrunkSide) → side_at n t ≡ v → IfAnswers (arrive n t v (Some (Signalled s pay)) k) (TookUp n t)
     go None h = λ z. cc
     go (Some v) h = comes v h (is_over v.state)
 
@@ -269,10 +272,10 @@ taken_step : (w : World) → Fine w → (trace : Trace) → AllAskedOn trace w �
 taken_step w g trace k l (Arrive t y j) a fx h p q r v = at (node_of w.nodes y) refl h
   where
     i : Item
-    i = Signalled (Signal.Monitor p q r)
+    i = Signalled (Signal.Monitor p q r) v.payload
 
     asked : AskedOn trace w t y p q r
-    asked = k t y p q r (contains_first (list_to w.lists t y) (Signalled (Signal.Monitor p q r)) v.first)
+    asked = k t y p q r v.payload (contains_first (list_to w.lists t y) (Signalled (Signal.Monitor p q r) v.payload) v.first)
 
     up : (n : Node) → node_of w.nodes y ≡ Some n → IsUpAt n t → Held trace w (Arrive t y j) p q r
     up n hx u = (
@@ -290,7 +293,7 @@ taken_step w g trace k l (Arrive t y j) a fx h p q r v = at (node_of w.nodes y) 
     at : (o : Option Node) → node_of w.nodes y ≡ o → Reported a fx ≡ (step_at w o (Arrive t y j)).report → Held trace w (Arrive t y j) p q r
     at None hx z = cc
     at (Some n) hx z = up n hx (out (at_node w.names n (met w (Arrive t y j))) (subst (λ f. IfAnswers (at_node w.names n (event.Arrive t f j)) (TookUp n t))
-        (sym v.first) (took_up w.names n t (Signal.Monitor p q r) j)) z)
+        (sym v.first) (took_up w.names n t (Signal.Monitor p q r) v.payload j)) z)
       where
         out : (o : Outcome) → IfAnswers o (TookUp n t) → Reported a fx ≡ (came_of w y (left w (Arrive t y j)) o).report → IsUpAt n t
         out (Refuses why) f z = cc
@@ -299,12 +302,13 @@ taken_step w g trace k l (Arrive t y j) a fx h p q r v = at (node_of w.nodes y) 
             f (sym ab ∙ same_Some a (Answer.Took Kind.Monitor) v.took)
 taken_step w g trace k l (Local y) a fx h p q r v = at (node_of w.nodes y) refl v.first
   where
-    at : (o : Option Node) → node_of w.nodes y ≡ o → first_of (local_at o) ≡ Some (Signalled (Signal.Monitor p q r)) → Held trace w (Local y) p q r
-    at None hx z = absurd (none-some (Signalled (Signal.Monitor p q r)) z)
+    at : (o : Option Node) → node_of w.nodes y ≡ o → first_of (local_at o) ≡ Some (Signalled (Signal.Monitor p q r) v.payload)
+        → Held trace w (Local y) p q r
+    at None hx z = absurd (none-some (Signalled (Signal.Monitor p q r) v.payload) z)
     at (Some n) hx z =
-        let b = l y n p q r hx (contains_first n.local (Signalled (Signal.Monitor p q r)) z) in
+        let b = l y n p q r v.payload hx (contains_first n.local (Signalled (Signal.Monitor p q r) v.payload) z) in
         (introduces n, ap (introduced w) (sym b.0) ∙ ap (λ o. seen o None (λ node. Some (introduces node))) hx, b.0, b.1)
-taken_step w g trace k l e a fx h p q r v = absurd (none-some (Signalled (Signal.Monitor p q r)) v.first)
+taken_step w g trace k l e a fx h p q r v = absurd (none-some (Signalled (Signal.Monitor p q r) v.payload) v.first)
 
 -- of each that was taken
 abbrev AllHeld : Trace → Type 0
@@ -344,28 +348,28 @@ asked_runs _ _ w v trace g k h = absurd h
 
 opening_asks : (cs : List (Name × Setup)) → Both [] (opening cs)
 opening_asks cs = (
-  λ t y p q r c. absurd (none_within (Signalled (Signal.Monitor p q r))
-      (subst (λ l. Contains l (Signalled (Signal.Monitor p q r))) (ap list_in (fm.get-empty place_cmp (t, y))) c)),
-  λ x n p q r h c. let k = new_is cs cs x n h in absurd (none_within (Signalled (Signal.Monitor p q r))
-      (subst (λ l. Contains l (Signalled (Signal.Monitor p q r))) (ap (λ (z : Node). z.local) k.2) c)),
+  λ t y p q r pay c. absurd (none_within (Signalled (Signal.Monitor p q r) pay)
+      (subst (λ l. Contains l (Signalled (Signal.Monitor p q r) pay)) (ap list_in (fm.get-empty place_cmp (t, y))) c)),
+  λ x n p q r pay h c. let k = new_is cs cs x n h in absurd (none_within (Signalled (Signal.Monitor p q r) pay)
+      (subst (λ l. Contains l (Signalled (Signal.Monitor p q r) pay)) (ap (λ (z : Node). z.local) k.2) c)),
   tt,
 )
 
 pub monitors_know : ThroughoutTraced MonitorsKnowTheirNode
-monitors_know cs es rs w h t y p q r c side =
+monitors_know cs es rs w h t y p q r pay c side =
     let b = asked_runs es rs (opening cs) w [] (good_opening cs, known_opening cs) (opening_asks cs) h in
-    let a = b.0 t y p q r c in
+    let a = b.0 t y p q r pay c in
     (a.said, right_is w y p.node t a.said side a.right, a.to, a.called)
 
 pub own_monitors_know : ThroughoutTraced MonitorsKnowTheirOwnNode
-own_monitors_know cs es rs w h x p q r c = go (node_of w.nodes x) refl c
+own_monitors_know cs es rs w h x p q r pay c = go (node_of w.nodes x) refl c
   where
-    go : (o : Option Node) → node_of w.nodes x ≡ o → Contains (local_at o) (Signalled (Signal.Monitor p q r))
+    go : (o : Option Node) → node_of w.nodes x ≡ o → Contains (local_at o) (Signalled (Signal.Monitor p q r) pay)
         → (c : Introduction) × (introduced w x ≡ Some c) × (x ≡ q.node) × WasCalledIn r p q c (traced (opening cs) es rs [])
-    go None j d = absurd (none_within (Signalled (Signal.Monitor p q r)) d)
+    go None j d = absurd (none_within (Signalled (Signal.Monitor p q r) pay) d)
     go (Some n) j d =
         let b = asked_runs es rs (opening cs) w [] (good_opening cs, known_opening cs) (opening_asks cs) h in
-        let v = b.1 x n p q r j d in
+        let v = b.1 x n p q r pay j d in
         (introduces n, ap (λ o. seen o None (λ node. Some (introduces node))) j, v.0, v.1)
 
 -- who was living at a node was of its incarnation

@@ -23,15 +23,15 @@ use Rattle.dist_model.specs.declared.report.Effect.{Effect}
 use Rattle.dist_model.specs.Exits.{demonitors, end_process, exit_for, exits, monitor_exits}
 use Rattle.dist_model.specs.Handshake.{with_side, write}
 use Rattle.dist_model.specs.Incarnations.{started, stopped}
-use Rattle.dist_model.specs.Items.{Handshake, Item, Signalled}
+use Rattle.dist_model.specs.Items.{Handshake, Item, Signalled, has_reason}
 use Rattle.dist_model.specs.Losses.{any_side, least_record, link_to, sweep_by, sweep_record}
 use Rattle.dist_model.specs.Monitoring.{demonitor_by, monitor, unwatch, watch}
 use Rattle.dist_model.specs.Names.{Name, same_name, same_pid}
-use Rattle.dist_model.specs.Node.{Node, ends_of, is_stranger, living, reaches, route}
+use Rattle.dist_model.specs.Node.{Node, ends_of, is_stranger, living, reaches, route, payload_to}
 use Rattle.dist_model.specs.NodeEvents.{Arrive, Call, Dial, Local, Lose, NodeEvent, Start, Stop, Sweep, at_node}
 use Rattle.dist_model.specs.Sides.{TrunkSide, is_losing, is_over}
 use Rattle.dist_model.specs.Taking.{take_item}
-use Rattle.dist_model.specs.Work.{Work, at_work, draw, keep_local, post, post_all, put, report, send_on}
+use Rattle.dist_model.specs.Work.{Work, at_work, draw, keep_local, post, post_all, put, report, send_on, spelled}
 use Rattle.erl_control.specs.Ends.{receiver_of}
 use Rattle.erl_control.specs.declared.signal.Signal.{Signal}
 use Rattle.erl_handshake.specs.declared.message.ShakeMsg.{ShakeMsg}
@@ -50,7 +50,7 @@ use Rattle.monitor_core.specs.declared.monitor.Monitor.{Monitor}
 
 -- MONITOR_P
 abbrev pub asks : Item → Bool
-asks (Signalled (Signal.Monitor p q r)) = true
+asks (Signalled (Signal.Monitor p q r) pay) = true
 asks _ = false
 
 -- none was sent, and in the own list are those of this list alone
@@ -58,9 +58,13 @@ abbrev pub UnaskedIn : List Item → Work → Type 0
 UnaskedIn l o = ((t : Option TrunkId) (y : Name) (i : Item) → Contains o.effects (Effect.Sent t y i) → asks i ≡ false)
     × ((i : Item) → asks i ≡ true → Contains o.node.local i → Contains l i)
 
+asks_blind : (s : Signal) (pay : Bool) → asks (Signalled s pay) ≡ asks (Signalled s false)
+asks_blind (Signal.Monitor p q r) pay = refl
+asks_blind _ pay = refl
+
 abbrev Quiets : List Signal → Type 0
 Quiets [] = Unit {0}
-Quiets (s ∷ ss) = (asks (Signalled s) ≡ false) × Quiets ss
+Quiets (s ∷ ss) = (asks (Signalled s false) ≡ false) × Quiets ss
 
 quiets-append : (xs ys : List Signal) → Quiets xs → Quiets ys → Quiets (xs ++ ys)
 quiets-append [] ys h k = k
@@ -94,13 +98,13 @@ demonitors_quiet p (e ∷ es) =
     one true = (refl, tt)
     one false = tt
 
-plainly : (s : Signal) → is_plain s ≡ true → asks (Signalled s) ≡ false
+plainly : (s : Signal) → is_plain s ≡ true → asks (Signalled s false) ≡ false
 plainly (Signal.Monitor p q r) h = cc
 plainly _ h = refl
 
 abbrev quiet_rules : Rules
 quiet_rules = record {
-  Says = λ s. asks (Signalled s) ≡ false;
+  Says = λ s. asks (Signalled s false) ≡ false;
   Reacts = λ p q x. Unit {0};
   Tells = λ r m x. Unit {0};
   Joins = λ r m. Unit {0};
@@ -124,22 +128,28 @@ module _ (l : List Item) where
   sends : (t : Option TrunkId) (y : Name) (j : Item) (o : Work) → asks j ≡ false → Unasked o → Unasked (report (Effect.Sent t y j) o)
   sends t y j o h k = reports (Effect.Sent t y j) o (λ u z i q. let e : j ≡ i = cc in sym (ap asks e) ∙ h) k
 
-  posts : (s : Signal) (o : Work) → asks (Signalled s) ≡ false → Unasked o → Unasked (post s o)
+  posts : (s : Signal) (o : Work) → asks (Signalled s false) ≡ false → Unasked o → Unasked (post s o)
   posts s o h k = go (same_name (receiver_of s).node o.node.mint.name)
     where
       y : Name
       y = (receiver_of s).node
 
-      goes : (r : Option TrunkId) → Unasked (send_on r y (Signalled s) o)
-      goes None = k
-      goes (Some t) = sends (Some t) y (Signalled s) o h k
+      still : asks (spelled o.node s) ≡ false
+      still = asks_blind s (has_reason s && payload_to o.node (receiver_of s).node) ∙ h
 
-      go : (b : Bool) → Unasked (cond b (keep_local (Signalled s) o) (send_on (route o.node y) y (Signalled s) o))
-      go true = ((sends None o.node.mint.name (Signalled s) o h k).0, λ i a c. pick i a (Contains-push_cases o.node.local (Signalled s) i c))
+      goes : (r : Option TrunkId) → Unasked (send_on r y (spelled o.node s) o)
+      goes None = k
+      goes (Some t) = sends (Some t) y (spelled o.node s) o still k
+
+      go : (b : Bool) → Unasked (cond b (keep_local (spelled o.node s) o) (send_on (route o.node y) y (spelled o.node s) o))
+      go true = (
+        (sends None o.node.mint.name (spelled o.node s) o still k).0,
+        λ i a c. pick i a (Contains-push_cases o.node.local (spelled o.node s) i c),
+      )
         where
-          pick : (i : Item) → asks i ≡ true → Contains o.node.local i ⊎ (Signalled s ≡ i) → Contains l i
+          pick : (i : Item) → asks i ≡ true → Contains o.node.local i ⊎ (spelled o.node s ≡ i) → Contains l i
           pick i a (inl c) = k.1 i a c
-          pick i a (inr e) = let z : true ≡ false = sym a ∙ ap asks (sym e) ∙ h in cc
+          pick i a (inr e) = let z : true ≡ false = sym a ∙ ap asks (sym e) ∙ still in cc
       go false = goes (route o.node y)
 
   posts_all : (ss : List Signal) (o : Work) → Quiets ss → Unasked o → Unasked (post_all ss o)
@@ -172,13 +182,13 @@ module _ (l : List Item) where
 
   takes_item : (i : Item) (o : Work) → Unasked o → Unasked (take_item i o)
   takes_item i o k = item_kept quiet_rules Unasked quiet_closed i o (record {
-    gone = λ p q e l. refl;
-    acts = λ p q x e l a. tt;
-    sent = λ p m e. reports (Effect.Put p m) o (λ t y j q. cc) k;
-    nobody = λ p q r e l. refl;
-    joins = λ p q r e l. tt;
-    drops = λ p q r e h. tt;
-    tells = λ p q r x e h. tt;
+    gone = λ p q pay e l. refl;
+    acts = λ p q x pay e l a. tt;
+    sent = λ p m pay e. reports (Effect.Put p m) o (λ t y j q. cc) k;
+    nobody = λ p q r pay e l. refl;
+    joins = λ p q r pay e l. tt;
+    drops = λ p q r pay e h. tt;
+    tells = λ p q r x pay e h. tt;
   }) k
 
   turned : (t : TrunkId) (s : TrunkSide) (o : Work) → Turns (λ c. Unit {0}) o.node t s → Unasked o → Unasked (with_side t s o)
@@ -287,10 +297,10 @@ pub record AskedHere (n : Node) (p q : Pid) (a : Answer) (p' q' : Pid) (r : Refe
 
 module _ (n : Node) (p q : Pid) where
   abbrev AllAsked : Answer → Work → Type 0
-  AllAsked a o = ((t : TrunkId) (y : Name) (p' q' : Pid) (r : Reference)
-      → Contains o.effects (Effect.Sent (Some t) y (Signalled (Signal.Monitor p' q' r))) → Asked n p q a t y p' q' r)
-      × ((p' q' : Pid) (r : Reference) → Contains o.node.local (Signalled (Signal.Monitor p' q' r))
-      → Contains n.local (Signalled (Signal.Monitor p' q' r)) ⊎ AskedHere n p q a p' q' r)
+  AllAsked a o = ((t : TrunkId) (y : Name) (p' q' : Pid) (r : Reference) (pay : Bool)
+      → Contains o.effects (Effect.Sent (Some t) y (Signalled (Signal.Monitor p' q' r) pay)) → Asked n p q a t y p' q' r)
+      × ((p' q' : Pid) (r : Reference) (pay : Bool) → Contains o.node.local (Signalled (Signal.Monitor p' q' r) pay)
+      → Contains n.local (Signalled (Signal.Monitor p' q' r) pay) ⊎ AskedHere n p q a p' q' r)
 
   only : {f g : Effect Item} → Contains (f ∷ []) g → f ≡ g
   only {f} {g} c = pick (Contains-push_cases [] f g c)
@@ -301,34 +311,36 @@ module _ (n : Node) (p q : Pid) where
 
   asked : (count : ℕ) → living n p ≡ true → (b : Bool) → same_name q.node n.mint.name ≡ b → (u : Option TrunkId) → route n q.node ≡ u
       → AllAsked (Answer.Reference (reference_of n.mint count)) (cond b
-      (keep_local (Signalled (Signal.Monitor p q (reference_of n.mint count))) (watch (reference_of n.mint count) (monitor_of p q) (draw kind.Reference (at_work n))))
-      (send_on u q.node (Signalled (Signal.Monitor p q (reference_of n.mint count))) (watch (reference_of n.mint count) (monitor_of p q) (draw kind.Reference (at_work n)))))
+      (keep_local (Signalled (Signal.Monitor p q (reference_of n.mint count)) false)
+      (watch (reference_of n.mint count) (monitor_of p q) (draw kind.Reference (at_work n))))
+      (send_on u q.node (Signalled (Signal.Monitor p q (reference_of n.mint count)) false)
+      (watch (reference_of n.mint count) (monitor_of p q) (draw kind.Reference (at_work n)))))
   asked count l true e u h = (
-    λ t y p' q' r c. let z = only c in cc,
-    λ p' q' r c. pick p' q' r (Contains-push_cases n.local (Signalled (Signal.Monitor p q (reference_of n.mint count)))
-        (Signalled (Signal.Monitor p' q' r)) c),
+    λ t y p' q' r pay c. let z = only c in cc,
+    λ p' q' r pay c. pick p' q' r pay (Contains-push_cases n.local (Signalled (Signal.Monitor p q (reference_of n.mint count)) false)
+        (Signalled (Signal.Monitor p' q' r) pay) c),
   )
     where
-      pick : (p' q' : Pid) (r : Reference) → Contains n.local (Signalled (Signal.Monitor p' q' r))
-          ⊎ (◌≡◌ {A = Item} (Signalled (Signal.Monitor p q (reference_of n.mint count))) (Signalled (Signal.Monitor p' q' r)))
-          → Contains n.local (Signalled (Signal.Monitor p' q' r))
+      pick : (p' q' : Pid) (r : Reference) (pay : Bool) → Contains n.local (Signalled (Signal.Monitor p' q' r) pay)
+          ⊎ (◌≡◌ {A = Item} (Signalled (Signal.Monitor p q (reference_of n.mint count)) false) (Signalled (Signal.Monitor p' q' r) pay))
+          → Contains n.local (Signalled (Signal.Monitor p' q' r) pay)
           ⊎ AskedHere n p q (Answer.Reference (reference_of n.mint count)) p' q' r
-      pick p' q' r (inl c) = inl c
-      pick p' q' r (inr z) = inr (record {
+      pick p' q' r pay (inl c) = inl c
+      pick p' q' r pay (inr z) = inr (record {
         owner = cc;
         target = cc;
         answer = let k : reference_of n.mint count ≡ r = cc in ap Answer.Reference k;
         here = l;
         own = e;
       })
-  asked count l false e None h = (λ t y p' q' r c. absurd (none_within _ c), λ p' q' r c. inl c)
-  asked count l false e (Some v) h = (λ t y p' q' r c. one t y p' q' r (only c), λ p' q' r c. inl c)
+  asked count l false e None h = (λ t y p' q' r pay c. absurd (none_within _ c), λ p' q' r pay c. inl c)
+  asked count l false e (Some v) h = (λ t y p' q' r pay c. one t y p' q' r pay (only c), λ p' q' r pay c. inl c)
     where
-      one : (t : TrunkId) (y : Name) (p' q' : Pid) (r : Reference)
-          → ◌≡◌ {A = Effect Item} (Effect.Sent (Some v) q.node (Signalled (Signal.Monitor p q (reference_of n.mint count))))
-          (Effect.Sent (Some t) y (Signalled (Signal.Monitor p' q' r)))
+      one : (t : TrunkId) (y : Name) (p' q' : Pid) (r : Reference) (pay : Bool)
+          → ◌≡◌ {A = Effect Item} (Effect.Sent (Some v) q.node (Signalled (Signal.Monitor p q (reference_of n.mint count)) false))
+          (Effect.Sent (Some t) y (Signalled (Signal.Monitor p' q' r) pay))
           → Asked n p q (Answer.Reference (reference_of n.mint count)) t y p' q' r
-      one t y p' q' r z = record {
+      one t y p' q' r pay z = record {
         owner = cc;
         target = cc;
         answer = let k : reference_of n.mint count ≡ r = cc in ap Answer.Reference k;
@@ -341,9 +353,9 @@ module _ (n : Node) (p q : Pid) where
   without : (f : Effect Item) → ((t : TrunkId) (y : Name) (i : Item) → ◌≡◌ {A = Effect Item} f (Effect.Sent (Some t) y i) → ⊥)
       → (o : Work) → o.effects ≡ f ∷ [] → o.node.local ≡ n.local → (a : Answer) → AllAsked a o
   without f none o e d a = (
-    λ t y p' q' r c. absurd (none t y (Signalled (Signal.Monitor p' q' r))
-        (only (subst (λ l. Contains l (Effect.Sent (Some t) y (Signalled (Signal.Monitor p' q' r)))) e c))),
-    λ p' q' r c. inl (subst (λ l. Contains l (Signalled (Signal.Monitor p' q' r))) d c),
+    λ t y p' q' r pay c. absurd (none t y (Signalled (Signal.Monitor p' q' r) pay)
+        (only (subst (λ l. Contains l (Effect.Sent (Some t) y (Signalled (Signal.Monitor p' q' r) pay))) e c))),
+    λ p' q' r pay c. inl (subst (λ l. Contains l (Signalled (Signal.Monitor p' q' r) pay)) d c),
   )
 
   drawn : living n p ≡ true → (v : Option ℕ) → IfAnswers (with_id v (λ count. Accepts (Answer.Reference (reference_of n.mint count))

@@ -22,7 +22,7 @@ use Rattle.dist_model.specs.Monitoring.{demonitor_by, monitor, register, unregis
 use Rattle.dist_model.specs.Names.{Name, same_name, same_pid}
 use Rattle.dist_model.specs.Node.{Life, Living, Node, end_of, is_living_life, living, is_stranger, reaches, traps_life}
 use Rattle.dist_model.specs.Taking.{take_item}
-use Rattle.dist_model.specs.Work.{Work, at_work, draw, post, put, set_end, set_life}
+use Rattle.dist_model.specs.Work.{Work, at_work, draw, post, put, set_end, set_life, spelled}
 use Rattle.erl_control.specs.declared.signal.Signal.{Signal}
 use Rattle.erl_names.specs.Ids.{pid_of, reference_of}
 use Rattle.erl_names.specs.Minted.{Minted, drawn, id_of, last, risen}
@@ -113,27 +113,27 @@ moves_cond : (b : Bool) (o x y : Work) → (b ≡ true → Moves o x) → (b ≡
 moves_cond true o x y f g = f refl
 moves_cond false o x y f g = g refl
 
-says_something : (q p : Pid) (s : LinkNews) → news_in q p (Signalled (telling q p s)) ≡ [] → ⊥
-says_something q p s h =
-    let n : s ∷ [] ≡ [] = sym (telling_news q p q p s ∙ ap (λ t. cond (t && same_pid p p) (s ∷ []) []) (same_pid_refl q)
+says_something : (q p : Pid) (s : LinkNews) (pay : Bool) → news_in q p (Signalled (telling q p s) pay) ≡ [] → ⊥
+says_something q p s pay h =
+    let n : s ∷ [] ≡ [] = sym (telling_news q p q p s pay ∙ ap (λ t. cond (t && same_pid p p) (s ∷ []) []) (same_pid_refl q)
     ∙ ap (λ t. cond t (s ∷ []) []) (same_pid_refl p)) ∙ h in cc
 
 -- the other signals
 pub takes_other : (x : Item) (o : Work) → ((p q : Pid) → news_in p q x ≡ []) → Moves o (take_item x o)
-takes_other (Signalled (Signal.Link q p)) o h = absurd (says_something q p (Signals LinkSignal.Link) (h q p))
-takes_other (Signalled (Signal.Exit q p r)) o h = absurd (says_something q p (Exited r) (h q p))
-takes_other (Signalled (Signal.UnlinkId i q p)) o h = absurd (says_something q p (Signals (LinkSignal.Unlink i)) (h q p))
-takes_other (Signalled (Signal.UnlinkIdAck i q p)) o h = absurd (says_something q p (Signals (LinkSignal.Ack i)) (h q p))
-takes_other (Signalled (Signal.Send p t)) o h = moves_cond (living o.node p) o (put p t o) o (λ l. puts p t o) (λ l. stays o)
-takes_other (Signalled (Signal.Exit2 q p r)) o h =
+takes_other (Signalled (Signal.Link q p) pay) o h = absurd (says_something q p (Signals LinkSignal.Link) pay (h q p))
+takes_other (Signalled (Signal.Exit q p r) pay) o h = absurd (says_something q p (Exited r) pay (h q p))
+takes_other (Signalled (Signal.UnlinkId i q p) pay) o h = absurd (says_something q p (Signals (LinkSignal.Unlink i)) pay (h q p))
+takes_other (Signalled (Signal.UnlinkIdAck i q p) pay) o h = absurd (says_something q p (Signals (LinkSignal.Ack i)) pay (h q p))
+takes_other (Signalled (Signal.Send p t) pay) o h = moves_cond (living o.node p) o (put p t o) o (λ l. puts p t o) (λ l. stays o)
+takes_other (Signalled (Signal.Exit2 q p r) pay) o h =
     moves_cond (living o.node p) o _ o
     (λ l. carries_out (reaction (traps_life (fm.get o.node.lives p)) (sent_exit p q r)) p o l) (λ l. stays o)
-takes_other (Signalled (Signal.Monitor q p k)) o h =
+takes_other (Signalled (Signal.Monitor q p k) pay) o h =
     moves_cond (living o.node p) o _ _ (λ l. registers k (monitor_of q p) o)
-    (λ l. posts_other q.node (Signalled (Signal.MonitorExit p q k noproc)) o (λ a b. refl))
-takes_other (Signalled (Signal.Demonitor q p k)) o h =
+    (λ l. posts_other q.node (spelled o.node (Signal.MonitorExit p q k noproc)) o (λ a b. refl))
+takes_other (Signalled (Signal.Demonitor q p k) pay) o h =
     moves_cond (is_held o.node.registered k (monitor_of q p)) o _ _ (λ l. unregisters k o) (λ l. stays o)
-takes_other (Signalled (Signal.MonitorExit q p k r)) o h = moves_cond (living o.node p && is_held o.node.watches k (monitor_of p q)) o _ _
+takes_other (Signalled (Signal.MonitorExit q p k r) pay) o h = moves_cond (living o.node p && is_held o.node.watches k (monitor_of p q)) o _ _
     (λ l. then o (unwatch k o) (put p (down_term k q r) (unwatch k o)) (unwatches_one k o) (puts p (down_term k q r) (unwatch k o)))
     (λ l. stays o)
 takes_other _ o h = stays o
@@ -340,7 +340,7 @@ demonitors : (v : Option Monitor) (p : Pid) (k : Reference) (o : Work) → IfGoe
 demonitors None p k o = tt
 demonitors (Some v) p k o =
     if_cond (same_pid v.owner p) _ Refusal.NotTheOwner (Moves o) (λ h. then o (unwatch k o) _ (unwatches_one k o)
-    (posts_other v.target.node (Signalled (Signal.Demonitor p v.target k)) (unwatch k o) (λ a b. refl)))
+    (posts_other v.target.node (Signalled (Signal.Demonitor p v.target k) false) (unwatch k o) (λ a b. refl)))
 
 unlinks_by : (e : End) (p q : Pid) (o : Work) → end_of o.node p q ≡ e → living o.node p ≡ true → IfGoes (unlink_by e p q o) (Moves o)
 unlinks_by End.Active p q o h l = if_drawn (id_of o.node.mint kind.UnlinkId) _ (Moves o) (λ id e.
@@ -378,7 +378,7 @@ calls n Command.Spawn = if_drawn (id_of n.mint kind.Pid) _ (Moves (at_work n)) (
     (sym d.0) (spawns n)))
 calls n (Command.Send p q t) =
     acts n p q _ (λ l. if_cond (fits t) _ Refusal.TooLong (Moves (at_work n))
-    (λ f. posts_other q.node (Signalled (Signal.Send q t)) (at_work n) (λ a b. refl)))
+    (λ f. posts_other q.node (Signalled (Signal.Send q t) false) (at_work n) (λ a b. refl)))
 calls n (Command.Link p q) = acts_known n p q _ (λ l v. links p q (at_work n) v l)
 calls n (Command.Unlink p q) = acts n p q _ (λ l. unlinks_by (end_of n p q) p q (at_work n) refl l)
 calls n (Command.Monitor p q) = acts n p q _ (λ l. if_drawn (id_of n.mint kind.Reference) _ (Moves (at_work n)) (λ count h.
@@ -386,7 +386,7 @@ calls n (Command.Monitor p q) = acts n p q _ (λ l. if_drawn (id_of n.mint kind.
     let k = reference_of n.mint count in
     then (at_work n) o (monitor k p q o) (draws_reference (at_work n)) (moves_cond (reaches o.node q.node) o _ _
     (λ r. then o (watch k (monitor_of p q) o) _ (watches_one k (monitor_of p q) o)
-    (posts_other q.node (Signalled (Signal.Monitor p q k)) (watch k (monitor_of p q) o) (λ a b. refl)))
+    (posts_other q.node (Signalled (Signal.Monitor p q k) false) (watch k (monitor_of p q) o) (λ a b. refl)))
     (λ r. puts p (down_term k q noconnection) o))))
 calls n (Command.Demonitor p k) =
     if_cond (living n p) _ Refusal.NoSuchProcess (Moves (at_work n)) (λ l. demonitors (fm.get n.watches k) p k (at_work n))
@@ -395,7 +395,7 @@ calls n (Command.Trap p b) =
     (λ l. sets_life n p (trapping (fm.get n.lives p) b) (living_trapping (fm.get n.lives p) b))
 calls n (Command.ExitTo p q r) =
     acts n p q _ (λ l. if_cond (fits r) _ Refusal.TooLong (Moves (at_work n))
-    (λ f. posts_other q.node (Signalled (Signal.Exit2 p q r)) (at_work n) (λ a b. refl)))
+    (λ f. posts_other q.node (spelled (at_work n).node (Signal.Exit2 p q r)) (at_work n) (λ a b. refl)))
 calls n (Command.ExitSelf p r) =
     if_cond (living n p) _ Refusal.NoSuchProcess (Moves (at_work n))
     (λ l. if_cond (fits r) _ Refusal.TooLong (Moves (at_work n)) (λ f. finishes p r (at_work n) l))

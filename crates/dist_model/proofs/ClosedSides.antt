@@ -424,29 +424,30 @@ strange f p q (x ∷ xs) h k =
     let v = one x k.0 in
     (ap (λ l. l ++ news p q xs) v.0 ∙ r.0, ap (λ l. l ++ news q p xs) v.1 ∙ r.1)
   where
-    miss : (a b : Pid) → f a ≡ false → f b ≡ false → (s : LinkNews) → (news_in p q (Signalled (telling a b s)) ≡ [])
-        × (news_in q p (Signalled (telling a b s)) ≡ [])
-    miss a b fa fb s = (
+    miss : (a b : Pid) → f a ≡ false → f b ≡ false → (s : LinkNews) (pay : Bool) → (news_in p q (Signalled (telling a b s) pay) ≡ [])
+        × (news_in q p (Signalled (telling a b s) pay) ≡ [])
+    miss a b fa fb s pay = (
       by_test _ (same_pid a p && same_pid b q)
           (λ i. let c : true ≡ false = sym h ∙ ap f (sym (same_pid_true a p (and_parts (same_pid a p) (same_pid b q) i).0)) ∙ fa in
           absurd (let d : true ≡ false = c in cc))
-          (λ i. telling_news a b p q s ∙ ap (λ t. cond t (s ∷ []) []) i),
+          (λ i. telling_news a b p q s pay ∙ ap (λ t. cond t (s ∷ []) []) i),
       by_test _ (same_pid a q && same_pid b p)
           (λ i. let c : true ≡ false = sym h ∙ ap f (sym (same_pid_true b p (and_parts (same_pid a q) (same_pid b p) i).1)) ∙ fb in
           absurd (let d : true ≡ false = c in cc))
-          (λ i. telling_news a b q p s ∙ ap (λ t. cond t (s ∷ []) []) i),
+          (λ i. telling_news a b q p s pay ∙ ap (λ t. cond t (s ∷ []) []) i),
     )
 
     one : (x : Item) → HomeItem f x → (news_in p q x ≡ []) × (news_in q p x ≡ [])
     one x m = pick (kind x)
       where
-        pick : ((p q : Pid) → news_in p q x ≡ []) ⊎ ((q : Pid) × (p : Pid) × (s : LinkNews) × (x ≡ Signalled (telling q p s)))
+        pick : ((p q : Pid) → news_in p q x ≡ [])
+            ⊎ ((q : Pid) × (p : Pid) × (s : LinkNews) × (pay : Bool) × (x ≡ Signalled (telling q p s) pay))
             → (news_in p q x ≡ []) × (news_in q p x ≡ [])
         pick (inl n) = (n p q, n q p)
         pick (inr e) =
-            let v = home_saying f e.0 e.1 e.2 (subst (HomeItem f) e.3 m) in
-            let r = miss e.0 e.1 v.0 v.1 e.2 in
-            (ap (news_in p q) e.3 ∙ r.0, ap (news_in q p) e.3 ∙ r.1)
+            let v = home_saying f e.0 e.1 e.2 e.3 (subst (HomeItem f) e.4 m) in
+            let r = miss e.0 e.1 v.0 v.1 e.2 e.3 in
+            (ap (news_in p q) e.4 ∙ r.0, ap (news_in q p) e.4 ∙ r.1)
 
 module _ (w : World) (x : Name) (n : Node) (hx : node_of w.nodes x ≡ Some n) (g : Good w) where
   no_end : (p q : Pid) → end_of (stopped n) p q ≡ End.None

@@ -73,11 +73,11 @@ use Rattle.monitor_core.specs.declared.monitor.Monitor.{Monitor}
 use Rattle.dist_model.specs.Sides.{untold}
 
 -- a message that was sent, or not
-pub sent_or_not : (i : Item) → ((p : Pid) × (m : Data) × (i ≡ Signalled (Signal.Send p m)))
-    ⊎ (((p : Pid) (m : Data) → i ≡ Signalled (Signal.Send p m) → ⊥) × (is_sent_message (Answer.Took (kind_of i)) ≡ false))
-sent_or_not (Signalled (Signal.Send p m)) = inl (p, m, refl)
-sent_or_not (Handshake (ShakeMsg.SendName c f n)) = inr (λ a b i. cc, refl)
-sent_or_not _ = inr (λ a b i. cc, refl)
+pub sent_or_not : (i : Item) → ((p : Pid) × (m : Data) × (pay : Bool) × (i ≡ Signalled (Signal.Send p m) pay))
+    ⊎ (((p : Pid) (m : Data) (pay : Bool) → i ≡ Signalled (Signal.Send p m) pay → ⊥) × (is_sent_message (Answer.Took (kind_of i)) ≡ false))
+sent_or_not (Signalled (Signal.Send p m) pay) = inl (p, m, pay, refl)
+sent_or_not (Handshake (ShakeMsg.SendName c f n)) = inr (λ a b pay i. cc, refl)
+sent_or_not _ = inr (λ a b pay i. cc, refl)
 
 pub five : (a b c d e : Bool) → (a || b || c || d || e) ≡ false → (a ≡ false) × (b ≡ false) × (c ≡ false) × (d ≡ false) × (e ≡ false)
 five false false false false e h = (refl, refl, refl, refl, h)
@@ -155,23 +155,24 @@ module _ (w : World) (h : History) (x : Name) (n : Node) (hx : node_of w.nodes x
       -- ---- an item is taken
 
       module _ (i : Item) (fi : IsFounded w h i)
-          (link_known : (p q : Pid) → i ≡ Signalled (Signal.Link q p) → is_stranger n p ≡ false)
-          (monitor_known : (p q : Pid) (r : Reference) → i ≡ Signalled (Signal.Monitor p q r) → is_stranger n q ≡ false)
+          (link_known : (p q : Pid) (pay : Bool) → i ≡ Signalled (Signal.Link q p) pay → is_stranger n p ≡ false)
+          (monitor_known : (p q : Pid) (r : Reference) (pay : Bool) → i ≡ Signalled (Signal.Monitor p q r) pay → is_stranger n q ≡ false)
           (counts : (fs : List (Effect Item))
           → takes_message e (Reported (Answer.Took (kind_of i)) fs) ≡ is_sent_message (Answer.Took (kind_of i))) where
-        reasons : ((p : Pid) (m : Data) → i ≡ Signalled (Signal.Send p m) → ⊥)
+        reasons : ((p : Pid) (m : Data) (pay : Bool) → i ≡ Signalled (Signal.Send p m) pay → ⊥)
             → Reasons (rules w h x n hx gw g e xs) (Whole w h x n hx gw g e xs) i (at_work (record n { local = xs }))
         reasons ns = record {
-          gone = λ p q j l. (dead_now w h x n hx gw g p l (link_known p q j), λ s. tt);
-          acts = λ p q z j l a. held_active w h x n hx gw g e p q z l a (old_cause w h p q z (subst (λ v. IsFounded w h v) j fi));
-          sent = λ p m j. absurd (ns p m j);
-          nobody = λ p q r j l. ((dead_now w h x n hx gw g q l (monitor_known p q r j), subst (λ v. IsFounded w h v) j fi), λ s. tt);
-          joins = λ p q r j l. subst (λ v. IsFounded w h v) j fi;
-          drops = λ p q r j c. inl (subst (λ v. IsFounded w h v) j fi);
-          tells = λ p q r z j c. old_cause w h p q z (subst (λ v. IsFounded w h v) j fi).0;
+          gone = λ p q pay j l. (dead_now w h x n hx gw g p l (link_known p q pay j), λ s. tt);
+          acts = λ p q z pay j l a. held_active w h x n hx gw g e p q z l a (old_cause w h p q z (subst (λ v. IsFounded w h v) j fi));
+          sent = λ p m pay j. absurd (ns p m pay j);
+          nobody = λ p q r pay j l.
+              ((dead_now w h x n hx gw g q l (monitor_known p q r pay j), subst (λ v. IsFounded w h v) j fi), λ s. tt);
+          joins = λ p q r pay j l. subst (λ v. IsFounded w h v) j fi;
+          drops = λ p q r pay j c. inl (subst (λ v. IsFounded w h v) j fi);
+          tells = λ p q r z pay j c. old_cause w h p q z (subst (λ v. IsFounded w h v) j fi).0;
         }
 
-        item_done : ((p : Pid) (m : Data) → i ≡ Signalled (Signal.Send p m) → ⊥)
+        item_done : ((p : Pid) (m : Data) (pay : Bool) → i ≡ Signalled (Signal.Send p m) pay → ⊥)
             → is_sent_message (Answer.Took (kind_of i)) ≡ false
             → D e xs (Answer.Took (kind_of i)) (take_item i (at_work (record n { local = xs })))
         item_done ns unsent =
@@ -205,9 +206,9 @@ module _ (w : World) (h : History) (x : Name) (n : Node) (hx : node_of w.nodes x
             (were w h x n hx gw g) o0 o.node refl refl refl lv refl refl refl refl) whole.core.turns))
             (record { local = whole.home.local; name = whole.home.name }) (ageless n o.node refl)
 
-        send_done : (p : Pid) (m : Data) → i ≡ Signalled (Signal.Send p m)
+        send_done : (p : Pid) (m : Data) (pay : Bool) → i ≡ Signalled (Signal.Send p m) pay
             → D e xs (Answer.Took (kind_of i)) (take_item i (at_work (record n { local = xs })))
-        send_done p m j =
+        send_done p m pay j =
             let is_sent : is_sent_message (Answer.Took (kind_of i)) ≡ true = ap (λ v. is_sent_message (Answer.Took (kind_of v))) j in
             subst (λ v. D e xs (Answer.Took (kind_of i)) (take_item v (at_work (record n { local = xs })))) (sym j)
             (go (living n p) is_sent)
@@ -220,10 +221,11 @@ module _ (w : World) (h : History) (x : Name) (n : Node) (hx : node_of w.nodes x
         pub taken_done : D e xs (Answer.Took (kind_of i)) (take_item i (at_work (record n { local = xs })))
         taken_done = go (sent_or_not i)
           where
-            go : ((p : Pid) × (m : Data) × (i ≡ Signalled (Signal.Send p m)))
-                ⊎ (((p : Pid) (m : Data) → i ≡ Signalled (Signal.Send p m) → ⊥) × (is_sent_message (Answer.Took (kind_of i)) ≡ false))
+            go : ((p : Pid) × (m : Data) × (pay : Bool) × (i ≡ Signalled (Signal.Send p m) pay))
+                ⊎ (((p : Pid) (m : Data) (pay : Bool) → i ≡ Signalled (Signal.Send p m) pay → ⊥)
+                × (is_sent_message (Answer.Took (kind_of i)) ≡ false))
                 → D e xs (Answer.Took (kind_of i)) (take_item i (at_work (record n { local = xs })))
-            go (inl s) = send_done s.0 s.1 s.2
+            go (inl s) = send_done s.0 s.1 s.2 s.3
             go (inr s) = item_done s.0 s.1
 
   -- ---- on a trunk
@@ -255,8 +257,8 @@ module _ (w : World) (h : History) (x : Name) (n : Node) (hx : node_of w.nodes x
           (λ r z. refl)) (calm_side (Arrive t x k) n.local (λ r z. refl) (λ r z. refl)) (calm_wrote (Arrive t x k) n.local
           (λ r z. refl) (λ r z. refl)) j t v (at_work n) at calm0)
 
-      received : is_good n v i ≡ true → (s : Signal) → i ≡ Signalled s → is_stranger n (receiver_of s) ≡ false
-      received good s j =
+      received : is_good n v i ≡ true → (s : Signal) (pay : Bool) → i ≡ Signalled s pay → is_stranger n (receiver_of s) ≡ false
+      received good s pay j =
           not_never n (receiver_of s) (and_parts (from_peer v (sender_of s)) (is_to n (receiver_of s)) (sym (ap (is_good n v) j) ∙ good)).1
 
       up_comes : A (on_up t v i (at_work n))
@@ -266,7 +268,7 @@ module _ (w : World) (h : History) (x : Name) (n : Node) (hx : node_of w.nodes x
               → A (cond b (Accepts (Answer.Took (kind_of i)) (take_item i (at_work n))) (fault Fault.Forged t v (at_work n)))
           go true good =
               taken_done (Arrive t x k) n.local (λ r z. refl) (λ r z. refl) (g.locals x n hx) (g.homes x n hx) i came
-              (λ p q j. received good (Signal.Link q p) j) (λ p q r j. received good (Signal.Monitor p q r) j) (λ fs. refl)
+              (λ p q pay j. received good (Signal.Link q p) pay j) (λ p q r pay j. received good (Signal.Monitor p q r) pay j) (λ fs. refl)
           go false good = fails Fault.Forged
 
       signal_comes : (a : State) → A (signal_at a t v i (at_work n))
@@ -289,9 +291,10 @@ module _ (w : World) (h : History) (x : Name) (n : Node) (hx : node_of w.nodes x
       λ i2 xs2 s. subst (λ z. D (Local x) z (Answer.Took (kind_of i)) (take_item i (at_work (record n { local = xs })))) (tail_same s)
       (taken_done (Local x) xs (λ r v. refl) (λ r v. refl) (All-tail (IsFounded w h) i xs fs)
       (All-tail (TargetsIn (λ q. is_stranger n q ≡ false)) i xs ts) i (All-head (IsFounded w h) i xs fs)
-      (λ p q s.
-      (home_saying (λ a. is_stranger n a) q p (Signals LinkSignal.Link) (subst (λ z. HomeItem (λ a. is_stranger n a) z) s hl.0)).1)
-      (λ p q r s. subst (λ z. TargetsIn (λ a. is_stranger n a ≡ false) z) s (All-head (TargetsIn (λ q. is_stranger n q ≡ false)) i xs ts))
+      (λ p q pay s.
+      (home_saying (λ a. is_stranger n a) q p (Signals LinkSignal.Link) pay (subst (λ z. HomeItem (λ a. is_stranger n a) z) s hl.0)).1)
+      (λ p q r pay s. subst (λ z. TargetsIn (λ a. is_stranger n a ≡ false) z) s
+      (All-head (TargetsIn (λ q. is_stranger n q ≡ false)) i xs ts))
       (λ fs. refl))
     where
       fs : All (IsFounded w h) (i ∷ xs)

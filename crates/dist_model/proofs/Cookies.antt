@@ -34,7 +34,7 @@ use Rattle.dist_model.specs.Dialing.{dial, draw_trunk, has_name, next_trunk}
 use Rattle.dist_model.specs.Handshake.{identity, set_state, with_side, write}
 use Rattle.dist_model.specs.Histories.{History}
 use Rattle.dist_model.specs.Incarnations.{started, stopped}
-use Rattle.dist_model.specs.Items.{Handshake, Item, Signalled, kind_of}
+use Rattle.dist_model.specs.Items.{Handshake, Item, kind_of}
 use Rattle.erl_control.specs.Ends.{receiver_of}
 use Rattle.dist_model.specs.Keeping.{Towards}
 use Rattle.dist_model.specs.Losses.{any_side, close_if_swept, link_to, lose, sweep_by}
@@ -46,7 +46,7 @@ use Rattle.dist_model.specs.Runs.{opening}
 use Rattle.dist_model.specs.Seen.{seen}
 use Rattle.dist_model.specs.Sides.{AwaitsStatus, Gone, Losing, TrunkSide, is_gone, is_losing, is_over}
 use Rattle.dist_model.specs.Taking.{take_item}
-use Rattle.dist_model.specs.Work.{Work, at_work}
+use Rattle.dist_model.specs.Work.{Work, at_work, spelled}
 use Rattle.dist_model.specs.World.{Arrive, Call, Dial, Event, Local, Lose, Start, Stepped, Stop, Sweep, World, came_of}
 use Rattle.dist_model.specs.World.{first_of, left, list_to, met as met_by, node_name, node_of, rest_of, step_at}
 use Rattle.dist_model.specs.declared.report.Answer.{Answer}
@@ -72,7 +72,7 @@ module _ (names : List Name) (n : Node) where
 
   parts : Parts C
   parts = record {
-    posted = λ s o k. posts_keep (λ m. m.cookie) (λ m l. refl) (receiver_of s).node (Signalled s) o ∙ k;
+    posted = λ s o k. posts_keep (λ m. m.cookie) (λ m l. refl) (receiver_of s).node (spelled o.node s) o ∙ k;
     end_set = λ p q e o l k. k;
     drew = λ d o h k. k;
     life_set = λ p l o h k. k;

@@ -18,13 +18,13 @@ use Rattle.dist_model.specs.Commands.{Accepts, Refuses}
 use Rattle.dist_model.specs.declared.command.Command.{Command}
 use Rattle.dist_model.specs.declared.report.Answer.{Answer}
 use Rattle.dist_model.specs.Exits.{demonitors, exits, end_process, monitor_exits}
-use Rattle.dist_model.specs.Items.{Item, Signalled}
+use Rattle.dist_model.specs.Items.{Item}
 use Rattle.erl_control.specs.Ends.{receiver_of}
 use Rattle.dist_model.specs.Monitoring.{demonitor_by, unwatch, watch}
 use Rattle.dist_model.specs.Names.{Name, same_name, same_pid}
 use Rattle.dist_model.specs.Node.{Node, living, is_stranger, reaches, route, ends_of}
 use Rattle.dist_model.specs.Taking.{take_item}
-use Rattle.dist_model.specs.Work.{Work, at_work, draw, keep_local, post, post_all, put, report, send_on}
+use Rattle.dist_model.specs.Work.{Work, at_work, draw, keep_local, post, post_all, put, report, send_on, spelled}
 use Rattle.erl_control.specs.declared.signal.Signal.{Signal}
 use Rattle.erl_names.specs.Minted.{id_of}
 use Rattle.erl_names.specs.declared.trunk.TrunkId.{TrunkId}
@@ -39,20 +39,20 @@ use Rattle.monitor_core.specs.declared.monitor.Monitor.{Monitor}
 module _ (n : Node) where
   pub sent_post : (s : Signal) (o : Work) → Sent n o → Sent n (post s o)
   sent_post s o k = record {
-    sides = posts_keep (λ z. z.sides) (λ z l. refl) (receiver_of s).node (Signalled s) o ∙ k.sides;
-    name = posts_keep (λ z. z.mint.name) (λ z l. refl) (receiver_of s).node (Signalled s) o ∙ k.name;
-    routed = post_routed (receiver_of s).node (Signalled s) o k.routed;
+    sides = posts_keep (λ z. z.sides) (λ z l. refl) (receiver_of s).node (spelled o.node s) o ∙ k.sides;
+    name = posts_keep (λ z. z.mint.name) (λ z l. refl) (receiver_of s).node (spelled o.node s) o ∙ k.name;
+    routed = post_routed (receiver_of s).node (spelled o.node s) o k.routed;
     words = go (same_name (receiver_of s).node o.node.mint.name);
   }
     where
-      on : (r : Option TrunkId) → AllWords (outgoing (send_on r (receiver_of s).node (Signalled s) o))
+      on : (r : Option TrunkId) → AllWords (outgoing (send_on r (receiver_of s).node (spelled o.node s) o))
       on None = k.words
-      on (Some t) = subst AllWords (sym (sent_in-push o.effects (Effect.Sent (Some t) (receiver_of s).node (Signalled s))))
-          (words-push (outgoing o) (record { trunk = t; target = (receiver_of s).node; item = Signalled s }) k.words refl)
+      on (Some t) = subst AllWords (sym (sent_in-push o.effects (Effect.Sent (Some t) (receiver_of s).node (spelled o.node s))))
+          (words-push (outgoing o) (record { trunk = t; target = (receiver_of s).node; item = spelled o.node s }) k.words refl)
 
-      go : (b : Bool) → AllWords (outgoing (cond b (keep_local (Signalled s) o)
-          (send_on (route o.node (receiver_of s).node) (receiver_of s).node (Signalled s) o)))
-      go true = subst AllWords (sym (sent_in-silent o.effects (Effect.Sent None o.node.mint.name (Signalled s)) refl)) k.words
+      go : (b : Bool) → AllWords (outgoing (cond b (keep_local (spelled o.node s) o)
+          (send_on (route o.node (receiver_of s).node) (receiver_of s).node (spelled o.node s) o)))
+      go true = subst AllWords (sym (sent_in-silent o.effects (Effect.Sent None o.node.mint.name (spelled o.node s)) refl)) k.words
       go false = on (route o.node (receiver_of s).node)
 
   sent_all : (ss : List Signal) (o : Work) → Sent n o → Sent n (post_all ss o)
@@ -106,13 +106,13 @@ module _ (n : Node) where
   -- an item is taken
   pub sent_item : (i : Item) (o : Work) → Sent n o → Sent n (take_item i o)
   sent_item i o k = item_kept all_rules (Sent n) sent_closed i o (record {
-    gone = λ p q e l. tt;
-    acts = λ p q x e l a. tt;
-    sent = λ p m e. silent o (put p m o) (Effect.Put p m) refl refl refl refl k;
-    nobody = λ p q r e l. tt;
-    joins = λ p q r e l. tt;
-    drops = λ p q r e h. tt;
-    tells = λ p q r x e h. tt;
+    gone = λ p q pay e l. tt;
+    acts = λ p q x pay e l a. tt;
+    sent = λ p m pay e. silent o (put p m o) (Effect.Put p m) refl refl refl refl k;
+    nobody = λ p q r pay e l. tt;
+    joins = λ p q r pay e l. tt;
+    drops = λ p q r pay e h. tt;
+    tells = λ p q r x pay e h. tt;
   }) k
 
   pub sent_start : Sent n (at_work n)

@@ -148,7 +148,7 @@ suits_unwatches p q x (e ∷ es) =
     [ true ↦ (inr refl, suits_unwatches p q x es) | false ↦ suits_unwatches p q x es ]
 
 suits_exit : (p q x y : Pid) (r : Data) (e : End) → AllSuit p q (exit_for x r y e)
-suits_exit p q x y r End.Active = (linking_suits x y p q (Exited r), tt)
+suits_exit p q x y r End.Active = (linking_suits x y p q (Exited r) false, tt)
 suits_exit p q x y r _ = tt
 
 suits_exits : (p q x : Pid) (r : Data) (es : List ((Pid × Pid) × End)) → AllSuit p q (exits_in x r es)

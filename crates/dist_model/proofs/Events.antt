@@ -30,12 +30,12 @@ use Rattle.dist_model.specs.declared.report.Answer.{Answer}
 use Rattle.dist_model.specs.declared.command.Command.{Command}
 use Rattle.dist_model.specs.Downs.{Monitored, down_in, downs_in, is_answered, is_demonitored, same_reference, takes_message}
 use Rattle.dist_model.specs.Histories.{History}
-use Rattle.dist_model.specs.Items.{Item, Signalled}
+use Rattle.dist_model.specs.Items.{Item}
 use Rattle.dist_model.specs.Monitoring.{demonitor_by, monitor, unwatch, watch}
 use Rattle.dist_model.specs.Names.{Name, same_name, same_pid}
 use Rattle.dist_model.specs.Node.{Node, is_living_life, living, is_stranger, reaches, Life, Living}
 use Rattle.dist_model.specs.Sides.{TrunkSide, is_over}
-use Rattle.dist_model.specs.Work.{Work, at_work, draw, post, put, delivered}
+use Rattle.dist_model.specs.Work.{Work, at_work, draw, post, put, delivered, spelled}
 use Rattle.dist_model.specs.declared.report.Effect.{Effect}
 use Rattle.dist_model.specs.World.{Call, Event, Reported, World, node_of}
 use Rattle.erl_control.specs.declared.signal.Signal.{Signal}
@@ -267,14 +267,14 @@ module _ (w : World) (h : History) (x : Name) (n : Node) (hx : node_of w.nodes x
         let o1 = watch (reference_of n.mint id) (monitor_of p q) (draw kind.Reference (at_work n)) in
         let s = Signal.Monitor p q (reference_of n.mint id) in
         let o = post s o1 in
-        let quietly = quietly_post [] q.node (Signalled s) o1 Nothing in
-        let ws : o.node.watches ≡ o1.node.watches = posts_keep (λ m. m.watches) (λ m z. refl) q.node (Signalled s) o1 in
-        let mt : o.node.mint ≡ o1.node.mint = posts_keep (λ m. m.mint) (λ m z. refl) q.node (Signalled s) o1 in
-        let rs : o.node.registered ≡ n.registered = posts_keep (λ m. m.registered) (λ m z. refl) q.node (Signalled s) o1 in
-        let lv : (a : Pid) → living o.node a ≡ living n a = λ a. posts_keep (λ m. living m a) (λ m z. refl) q.node (Signalled s) o1 in
+        let quietly = quietly_post [] q.node (spelled o1.node s) o1 Nothing in
+        let ws : o.node.watches ≡ o1.node.watches = posts_keep (λ m. m.watches) (λ m z. refl) q.node (spelled o1.node s) o1 in
+        let mt : o.node.mint ≡ o1.node.mint = posts_keep (λ m. m.mint) (λ m z. refl) q.node (spelled o1.node s) o1 in
+        let rs : o.node.registered ≡ n.registered = posts_keep (λ m. m.registered) (λ m z. refl) q.node (spelled o1.node s) o1 in
+        let lv : (a : Pid) → living o.node a ≡ living n a = λ a. posts_keep (λ m. living m a) (λ m z. refl) q.node (spelled o1.node s) o1 in
         let nv : (a : Pid) → is_stranger o.node a ≡ is_stranger n a =
-        λ a. posts_keep (λ m. is_stranger m a) (λ m z. refl) q.node (Signalled s) o1 in
-        let sd : o.node.sides ≡ n.sides = posts_keep (λ m. m.sides) (λ m z. refl) q.node (Signalled s) o1 in
+        λ a. posts_keep (λ m. is_stranger m a) (λ m z. refl) q.node (spelled o1.node s) o1 in
+        let sd : o.node.sides ≡ n.sides = posts_keep (λ m. m.sides) (λ m z. refl) q.node (spelled o1.node s) o1 in
         let got : (k : Reference) → fm.get o.node.watches k
         ≡ cond (same_reference k (reference_of n.mint id)) (Some (monitor_of p q)) (fm.get n.watches k) = λ k. ap (λ z. fm.get z k) ws
         ∙ fm.get-insert reference_cmp_total n.watches (reference_of n.mint id) (monitor_of p q) k in
@@ -291,7 +291,7 @@ module _ (w : World) (h : History) (x : Name) (n : Node) (hx : node_of w.nodes x
           report = Reported (Answer.Reference (reference_of n.mint id))
               o.effects;
         }) ∷ h)) (OffNow n (Old w h) (λ a b z. Unit {0}) (Called h) (Off w h) o))
-        q.node (Signalled s) o1 (inl (asked, same_reference_refl (reference_of n.mint id)))
+        q.node (spelled o1.node s) o1 (inl (asked, same_reference_refl (reference_of n.mint id)))
         (record { local = All-weaker (IsFounded w h) _ (old_items o) n.local (g.locals x n hx); sent = All-nil _ }) in
         record {
           deed = record {
@@ -314,7 +314,7 @@ module _ (w : World) (h : History) (x : Name) (n : Node) (hx : node_of w.nodes x
           };
           acts = λ a b z c. absurd (quiet [] a b z refl (quietly_acts [] o.effects quietly a b z c));
           aging = ageless n o.node sd;
-          local = λ f j. inl (local_grows f q.node (Signalled s) o1 j);
+          local = λ f j. inl (local_grows f q.node (spelled o1.node s) o1 j);
           leaving = λ k u j. inl (ap (λ z. fm.get z k) rs ∙ j);
         }
       where
@@ -396,14 +396,15 @@ module _ (w : World) (h : History) (x : Name) (n : Node) (hx : node_of w.nodes x
       let s = Signal.Demonitor p m.target r in
       let o = post s o1 in
       let e = Call x (Command.Demonitor p r) in
-      let quietly = quietly_post [] m.target.node (Signalled s) o1 Nothing in
-      let ws : o.node.watches ≡ o1.node.watches = posts_keep (λ z. z.watches) (λ z y. refl) m.target.node (Signalled s) o1 in
-      let mt : o.node.mint ≡ n.mint = posts_keep (λ z. z.mint) (λ z y. refl) m.target.node (Signalled s) o1 in
-      let rs : o.node.registered ≡ n.registered = posts_keep (λ z. z.registered) (λ z y. refl) m.target.node (Signalled s) o1 in
-      let lv : (a : Pid) → living o.node a ≡ living n a = λ a. posts_keep (λ z. living z a) (λ z y. refl) m.target.node (Signalled s) o1 in
+      let quietly = quietly_post [] m.target.node (spelled o1.node s) o1 Nothing in
+      let ws : o.node.watches ≡ o1.node.watches = posts_keep (λ z. z.watches) (λ z y. refl) m.target.node (spelled o1.node s) o1 in
+      let mt : o.node.mint ≡ n.mint = posts_keep (λ z. z.mint) (λ z y. refl) m.target.node (spelled o1.node s) o1 in
+      let rs : o.node.registered ≡ n.registered = posts_keep (λ z. z.registered) (λ z y. refl) m.target.node (spelled o1.node s) o1 in
+      let lv : (a : Pid) → living o.node a ≡ living n a =
+      λ a. posts_keep (λ z. living z a) (λ z y. refl) m.target.node (spelled o1.node s) o1 in
       let nv : (a : Pid) → is_stranger o.node a ≡ is_stranger n a =
-      λ a. posts_keep (λ z. is_stranger z a) (λ z y. refl) m.target.node (Signalled s) o1 in
-      let sd : o.node.sides ≡ n.sides = posts_keep (λ z. z.sides) (λ z y. refl) m.target.node (Signalled s) o1 in
+      λ a. posts_keep (λ z. is_stranger z a) (λ z y. refl) m.target.node (spelled o1.node s) o1 in
+      let sd : o.node.sides ≡ n.sides = posts_keep (λ z. z.sides) (λ z y. refl) m.target.node (spelled o1.node s) o1 in
       let got : (k : Reference) → fm.get o.node.watches k ≡ cond (same_reference k r) None (fm.get n.watches k) =
       λ k. ap (λ z. fm.get z k) ws ∙ fm.get-remove reference_cmp_total n.watches r k in
       let hp : Homed n (λ a. is_stranger n a ≡ false) o =
@@ -417,7 +418,7 @@ module _ (w : World) (h : History) (x : Name) (n : Node) (hx : node_of w.nodes x
         report = Reported Rattle.dist_model.specs.declared.report.Answer.TheVariants.Done
             o.effects;
       }) ∷ h)) (OffNow n (Old w h) (λ a b z. Unit {0}) (Called h) (Off w h) o))
-      m.target.node (Signalled s) o1 (inr ((m, i), got r ∙ ap (λ b. cond b None (fm.get n.watches r)) (same_reference_refl r)))
+      m.target.node (spelled o1.node s) o1 (inr ((m, i), got r ∙ ap (λ b. cond b None (fm.get n.watches r)) (same_reference_refl r)))
       (record {
         local = All-weaker (IsFounded w h) _
             (founded_by _ _ _ _ _ _ (λ a z c. inl c) (λ a b k c. inr c) (λ k c. inl c)) n.local (g.locals x n hx);
@@ -441,7 +442,7 @@ module _ (w : World) (h : History) (x : Name) (n : Node) (hx : node_of w.nodes x
         };
         acts = λ a b z c. absurd (quiet [] a b z refl (quietly_acts [] o.effects quietly a b z c));
         aging = ageless n o.node sd;
-        local = λ f j. inl (local_grows f m.target.node (Signalled s) o1 j);
+        local = λ f j. inl (local_grows f m.target.node (spelled o1.node s) o1 j);
         leaving = λ k u j. inl (ap (λ z. fm.get z k) rs ∙ j);
       })
     where

@@ -1,5 +1,5 @@
 -- Runs of two nodes, step by step: the end of a process comes to its monitor, and to its link.
-use Rattle.std.proofs.Common.{◌≡◌, ℕ, true, not, List, [], ◌∷◌, ◌++◌, refl, sym, ap, ◌∙◌, arith, subst}
+use Rattle.std.proofs.Common.{◌≡◌, ℕ, true, not, List, [], ◌∷◌, ◌++◌, refl, sym, ap, ◌∙◌, arith, subst, false}
 use Rattle.std.specs.FinMap as fm
 use Rattle.std.specs.FinMap.{FinMap}
 use Rattle.dist_model.proofs.ExampleLinks.{connected_is, ends_of_first_0, ends_of_second_0, linked_is, lists11, lists9}
@@ -44,7 +44,7 @@ module _ (cookie : List ℕ) (own other : ℕ) where
     monitor_watches_of_first_1 = fm.insert fm.empty reference (monitor_of here there)
 
     abbrev monitor_lists_1 : FinMap place_cmp (List Item)
-    monitor_lists_1 = fm.insert (lists9 cookie own other) (trunk 1, second) (Signalled (Signal.Monitor here there reference) ∷ [])
+    monitor_lists_1 = fm.insert (lists9 cookie own other) (trunk 1, second) (Signalled (Signal.Monitor here there reference) false ∷ [])
 
     abbrev monitor_world_1 : World
     monitor_world_1 = world
@@ -78,7 +78,7 @@ module _ (cookie : List ℕ) (own other : ℕ) where
     monitor_lives_of_second_1 = fm.insert (lives_of_second_1 cookie own other) there (Ended reason)
 
     abbrev monitor_lists_3 : FinMap place_cmp (List Item)
-    monitor_lists_3 = fm.insert monitor_lists_2 (trunk 1, first) (Signalled (Signal.MonitorExit there here reference reason) ∷ [])
+    monitor_lists_3 = fm.insert monitor_lists_2 (trunk 1, first) (Signalled (Signal.MonitorExit there here reference reason) false ∷ [])
 
     abbrev monitor_world_3 : World
     monitor_world_3 = world
@@ -120,7 +120,7 @@ module _ (cookie : List ℕ) (own other : ℕ) where
     exit_lives_of_second_1 = fm.insert (lives_of_second_1 cookie own other) there (Ended reason)
 
     abbrev exit_lists_1 : FinMap place_cmp (List Item)
-    exit_lists_1 = fm.insert (lists11 cookie own other) (trunk 1, first) (Signalled (Signal.Exit there here reason) ∷ [])
+    exit_lists_1 = fm.insert (lists11 cookie own other) (trunk 1, first) (Signalled (Signal.Exit there here reason) false ∷ [])
 
     abbrev exit_world_1 : World
     exit_world_1 = world

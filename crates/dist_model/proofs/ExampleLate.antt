@@ -65,7 +65,7 @@ module _ (cookie : List ℕ) where
     abbrev late_exit_world_3 : World
     late_exit_world_3 = world
         (node cookie first 1 true 2 0 0 0 late_exit_lives_of_first_2 late_exit_ends_of_first_1 fm.empty fm.empty fm.empty
-        (Signalled (Signal.Link here beside) ∷ []))
+        (Signalled (Signal.Link here beside) false ∷ []))
         (node cookie second 1 true 0 0 0 0 fm.empty fm.empty fm.empty fm.empty fm.empty [])
         fm.empty
 
@@ -90,7 +90,7 @@ module _ (cookie : List ℕ) where
     abbrev late_exit_world_5 : World
     late_exit_world_5 = world
         (node cookie first 1 true 2 0 1 0 late_exit_lives_of_first_2 late_exit_ends_of_first_3 fm.empty fm.empty fm.empty
-        (Signalled (Signal.UnlinkId 1 here beside) ∷ []))
+        (Signalled (Signal.UnlinkId 1 here beside) false ∷ []))
         (node cookie second 1 true 0 0 0 0 fm.empty fm.empty fm.empty fm.empty fm.empty [])
         fm.empty
 
@@ -113,7 +113,7 @@ module _ (cookie : List ℕ) where
     late_exit_world_6 = world
         (node cookie first 1 true 2 0 1 0 late_exit_lives_of_first_3 late_exit_ends_of_first_4 late_exit_watches_of_first_1
         late_exit_registered_of_first_1 fm.empty
-        (Signalled (Signal.UnlinkId 1 here beside) ∷ Signalled (Signal.Exit beside here reason) ∷ []))
+        (Signalled (Signal.UnlinkId 1 here beside) false ∷ Signalled (Signal.Exit beside here reason) false ∷ []))
         (node cookie second 1 true 0 0 0 0 fm.empty fm.empty fm.empty fm.empty fm.empty [])
         fm.empty
 
@@ -124,7 +124,7 @@ module _ (cookie : List ℕ) where
     late_exit_world_7 = world
         (node cookie first 1 true 2 0 1 0 late_exit_lives_of_first_3 late_exit_ends_of_first_4 late_exit_watches_of_first_1
         late_exit_registered_of_first_1 fm.empty
-        (Signalled (Signal.Exit beside here reason) ∷ Signalled (Signal.UnlinkIdAck 1 beside here) ∷ []))
+        (Signalled (Signal.Exit beside here reason) false ∷ Signalled (Signal.UnlinkIdAck 1 beside here) false ∷ []))
         (node cookie second 1 true 0 0 0 0 fm.empty fm.empty fm.empty fm.empty fm.empty [])
         fm.empty
 
@@ -219,7 +219,7 @@ module _ (cookie : List ℕ) where
     abbrev dead_partner_world_5 : World
     dead_partner_world_5 = world
         (node cookie first 1 true 2 0 0 0 dead_partner_lives_of_first_4 dead_partner_ends_of_first_2 dead_partner_watches_of_first_1
-        dead_partner_registered_of_first_1 fm.empty (Signalled (Signal.Link here beside) ∷ []))
+        dead_partner_registered_of_first_1 fm.empty (Signalled (Signal.Link here beside) false ∷ []))
         (node cookie second 1 true 0 0 0 0 fm.empty fm.empty fm.empty fm.empty fm.empty [])
         fm.empty
 
@@ -229,7 +229,7 @@ module _ (cookie : List ℕ) where
     abbrev dead_partner_world_6 : World
     dead_partner_world_6 = world
         (node cookie first 1 true 2 0 0 0 dead_partner_lives_of_first_4 dead_partner_ends_of_first_2 dead_partner_watches_of_first_1
-        dead_partner_registered_of_first_1 fm.empty (Signalled (Signal.Exit beside here noproc) ∷ []))
+        dead_partner_registered_of_first_1 fm.empty (Signalled (Signal.Exit beside here noproc) false ∷ []))
         (node cookie second 1 true 0 0 0 0 fm.empty fm.empty fm.empty fm.empty fm.empty [])
         fm.empty
 
@@ -287,7 +287,7 @@ module _ (cookie : List ℕ) where
     abbrev late_down_world_3 : World
     late_down_world_3 = world
         (node cookie first 1 true 2 1 0 0 late_down_lives_of_first_2 fm.empty late_down_watches_of_first_1 fm.empty fm.empty
-        (Signalled (Signal.Monitor here beside reference) ∷ []))
+        (Signalled (Signal.Monitor here beside reference) false ∷ []))
         (node cookie second 1 true 0 0 0 0 fm.empty fm.empty fm.empty fm.empty fm.empty [])
         fm.empty
 
@@ -322,7 +322,7 @@ module _ (cookie : List ℕ) where
     abbrev late_down_world_5 : World
     late_down_world_5 = world
         (node cookie first 1 true 2 1 0 0 late_down_lives_of_first_3 late_down_ends_of_first_1 late_down_watches_of_first_2
-        late_down_registered_of_first_2 fm.empty (Signalled (Signal.MonitorExit beside here reference reason) ∷ []))
+        late_down_registered_of_first_2 fm.empty (Signalled (Signal.MonitorExit beside here reference reason) false ∷ []))
         (node cookie second 1 true 0 0 0 0 fm.empty fm.empty fm.empty fm.empty fm.empty [])
         fm.empty
 
@@ -336,7 +336,7 @@ module _ (cookie : List ℕ) where
     late_down_world_6 = world
         (node cookie first 1 true 2 1 0 0 late_down_lives_of_first_3 late_down_ends_of_first_1 late_down_watches_of_first_3
         late_down_registered_of_first_2 fm.empty
-        (Signalled (Signal.MonitorExit beside here reference reason) ∷ Signalled (Signal.Demonitor here beside reference) ∷ []))
+        (Signalled (Signal.MonitorExit beside here reference reason) false ∷ Signalled (Signal.Demonitor here beside reference) false ∷ []))
         (node cookie second 1 true 0 0 0 0 fm.empty fm.empty fm.empty fm.empty fm.empty [])
         fm.empty
 

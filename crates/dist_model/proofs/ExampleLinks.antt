@@ -133,7 +133,7 @@ module _ (cookie : List ℕ) (own other : ℕ) where
   ends_of_first_0 = fm.insert fm.empty (here, there) (End.Active)
 
   abbrev lists10 : FinMap place_cmp (List Item)
-  lists10 = fm.insert lists9 (trunk 1, second) (Signalled (Signal.Link here there) ∷ [])
+  lists10 = fm.insert lists9 (trunk 1, second) (Signalled (Signal.Link here there) false ∷ [])
 
   abbrev pub lists11 : FinMap place_cmp (List Item)
   lists11 = fm.insert lists10 (trunk 1, second) ([])
@@ -145,7 +145,7 @@ module _ (cookie : List ℕ) (own other : ℕ) where
   ends_of_first_1 = fm.insert ends_of_first_0 (here, there) (End.Pending 1)
 
   abbrev lists12 : FinMap place_cmp (List Item)
-  lists12 = fm.insert lists11 (trunk 1, second) (Signalled (Signal.UnlinkId 1 here there) ∷ [])
+  lists12 = fm.insert lists11 (trunk 1, second) (Signalled (Signal.UnlinkId 1 here there) false ∷ [])
 
   abbrev lists13 : FinMap place_cmp (List Item)
   lists13 = fm.insert lists12 (trunk 1, second) ([])
@@ -154,7 +154,7 @@ module _ (cookie : List ℕ) (own other : ℕ) where
   ends_of_second_1 = fm.remove ends_of_second_0 (there, here)
 
   abbrev lists14 : FinMap place_cmp (List Item)
-  lists14 = fm.insert lists13 (trunk 1, first) (Signalled (Signal.UnlinkIdAck 1 there here) ∷ [])
+  lists14 = fm.insert lists13 (trunk 1, first) (Signalled (Signal.UnlinkIdAck 1 there here) false ∷ [])
 
   abbrev lists15 : FinMap place_cmp (List Item)
   lists15 = fm.insert lists14 (trunk 1, first) ([])

@@ -212,7 +212,7 @@ module _ (cookie : List ℕ) (own other : ℕ) where
   restart_watches_of_first_1 = fm.insert fm.empty reference (monitor_of here there)
 
   abbrev restart_lists_11 : FinMap place_cmp (List Item)
-  restart_lists_11 = fm.insert restart_lists_10 (trunk 2, second) (Signalled (Signal.Monitor here there reference) ∷ [])
+  restart_lists_11 = fm.insert restart_lists_10 (trunk 2, second) (Signalled (Signal.Monitor here there reference) false ∷ [])
 
   abbrev restart_world_12 : World
   restart_world_12 = world
@@ -228,7 +228,7 @@ module _ (cookie : List ℕ) (own other : ℕ) where
   restart_lists_12 = fm.insert restart_lists_11 (trunk 2, second) []
 
   abbrev restart_lists_13 : FinMap place_cmp (List Item)
-  restart_lists_13 = fm.insert restart_lists_12 (trunk 2, first) (Signalled (Signal.MonitorExit there here reference noproc) ∷ [])
+  restart_lists_13 = fm.insert restart_lists_12 (trunk 2, first) (Signalled (Signal.MonitorExit there here reference noproc) false ∷ [])
 
   abbrev restart_world_13 : World
   restart_world_13 = world

@@ -18,13 +18,13 @@ use Rattle.dist_model.specs.Downs.{same_reference}
 use Rattle.dist_model.proofs.LastSignals.{exits_in, exits_cons}
 use Rattle.dist_model.specs.Exits.{demonitors, exit_for, end_process, is_owned, is_target, monitor_exits}
 use Rattle.dist_model.specs.Handshake.{with_side, write}
-use Rattle.dist_model.specs.Items.{Handshake, Item, Signalled}
+use Rattle.dist_model.specs.Items.{Handshake, Item, Signalled, has_reason}
 use Rattle.erl_control.specs.Ends.{receiver_of}
 use Rattle.dist_model.specs.Monitoring.{register, unregister, unwatch}
 use Rattle.dist_model.specs.Names.{Name, place_cmp, same_name, same_pid}
-use Rattle.dist_model.specs.Node.{Node, route}
+use Rattle.dist_model.specs.Node.{Node, route, payload_to}
 use Rattle.dist_model.specs.Sides.{TrunkSide}
-use Rattle.dist_model.specs.Work.{Work, draw, keep_local, post, post_all, post_to, put, report, send_on, set_end, set_life}
+use Rattle.dist_model.specs.Work.{Work, draw, keep_local, post, post_all, post_to, put, report, send_on, set_end, set_life, spelled}
 use Rattle.dist_model.specs.declared.report.Effect.{Effect}
 use Rattle.erl_control.specs.declared.signal.Signal.{Signal}
 use Rattle.erl_names.specs.declared.trunk.TrunkId.{TrunkId}
@@ -48,17 +48,17 @@ FoundedSignal E C O (Signal.MonitorExit q p r x) = E q x × C p q r
 FoundedSignal E C O _ = Unit {0}
 
 abbrev pub Founded : (Pid → Data → Type 0) → (Pid → Pid → Reference → Type 0) → (Reference → Type 0) → Item → Type 0
-Founded E C O (Signalled s) = FoundedSignal E C O s
+Founded E C O (Signalled s pay) = FoundedSignal E C O s
 Founded E C O _ = Unit {0}
 
 pub founded_by : (E F : Pid → Data → Type 0) (C D : Pid → Pid → Reference → Type 0) (O P : Reference → Type 0)
     → ((q : Pid) (x : Data) → E q x → F q x) → ((p q : Pid) (r : Reference) → C p q r → D p q r)
     → ((r : Reference) → O r → P r)
     → (i : Item) → Founded E C O i → Founded F D P i
-founded_by E F C D O P e c o (Signalled (Signal.Exit p q x)) h = e p x h
-founded_by E F C D O P e c o (Signalled (Signal.Monitor p q r)) h = c p q r h
-founded_by E F C D O P e c o (Signalled (Signal.Demonitor p q r)) h = o r h
-founded_by E F C D O P e c o (Signalled (Signal.MonitorExit q p r x)) h = (e q x h.0, c p q r h.1)
+founded_by E F C D O P e c o (Signalled (Signal.Exit p q x) pay) h = e p x h
+founded_by E F C D O P e c o (Signalled (Signal.Monitor p q r) pay) h = c p q r h
+founded_by E F C D O P e c o (Signalled (Signal.Demonitor p q r) pay) h = o r h
+founded_by E F C D O P e c o (Signalled (Signal.MonitorExit q p r x) pay) h = (e q x h.0, c p q r h.1)
 founded_by E F C D O P e c o _ h = tt
 
 plain_founded : (E : Pid → Data → Type 0) (C : Pid → Pid → Reference → Type 0) (O : Reference → Type 0) (s : Signal)
@@ -92,12 +92,14 @@ carried_post P y x o h k = go (same_name y o.node.mint.name)
     }
     go false = on (route o.node y)
 
-pub carried_all : (P : Item → Type 0) (ss : List Signal) (o : Work) → All (λ s. P (Signalled s)) ss → Carried P o
-    → Carried P (post_all ss o)
-carried_all P [] o h k = k
-carried_all P (s ∷ ss) o h k =
-    carried_all P ss (post s o) (All-tail (λ z. P (Signalled z)) s ss h)
-    (carried_post P (receiver_of s).node (Signalled s) o (All-head (λ z. P (Signalled z)) s ss h) k)
+pub carried_all : (P : Item → Type 0) → ((s : Signal) (pay : Bool) → P (Signalled s false) → P (Signalled s pay))
+    → (ss : List Signal) (o : Work)
+    → All (λ s. P (Signalled s false)) ss → Carried P o → Carried P (post_all ss o)
+carried_all P blind [] o h k = k
+carried_all P blind (s ∷ ss) o h k =
+    carried_all P blind ss (post s o) (All-tail (λ z. P (Signalled z false)) s ss h)
+    (carried_post P (receiver_of s).node (spelled o.node s) o
+    (blind s (has_reason s && payload_to o.node (receiver_of s).node) (All-head (λ z. P (Signalled z false)) s ss h)) k)
 
 pub carried_by : (P Q : Item → Type 0) (o : Work) → ((i : Item) → P i → Q i) → Carried P o → Carried Q o
 carried_by P Q o f k = record {
@@ -157,7 +159,7 @@ quietly_post fs y x o k = go (same_name y o.node.mint.name)
 
 pub quietly_all : (fs : List (Effect Item)) (ss : List Signal) (o : Work) → Quietly fs o.effects → Quietly fs ((post_all ss o).effects)
 quietly_all fs [] o k = k
-quietly_all fs (s ∷ ss) o k = quietly_all fs ss (post s o) (quietly_post fs (receiver_of s).node (Signalled s) o k)
+quietly_all fs (s ∷ ss) o k = quietly_all fs ss (post s o) (quietly_post fs (receiver_of s).node (spelled o.node s) o k)
 
 pub quietly_more : (fs gs : List (Effect Item)) → Quietly fs gs → (f : Effect Item) → Contains fs f → Contains gs f
 quietly_more fs gs Nothing f h = h
@@ -190,7 +192,7 @@ posts_keep f h y x o = go (same_name y o.node.mint.name)
 pub all_posts_keep : {A : Type 0} (f : Node → A) → ((n : Node) (l : List Item) → f (record n { local = l }) ≡ f n)
     → (ss : List Signal) (o : Work) → f ((post_all ss o).node) ≡ f o.node
 all_posts_keep f h [] o = refl
-all_posts_keep f h (s ∷ ss) o = all_posts_keep f h ss (post s o) ∙ posts_keep f h (receiver_of s).node (Signalled s) o
+all_posts_keep f h (s ∷ ss) o = all_posts_keep f h ss (post s o) ∙ posts_keep f h (receiver_of s).node (spelled o.node s) o
 
 cond_some : (b : Bool) (v : Option Monitor) (m : Monitor) → cond b None v ≡ Some m → v ≡ Some m
 cond_some true v m h = absurd (none-some m h)
@@ -308,7 +310,7 @@ module _ (n : Node) (Old : Pid → Data → Type 0) (Ok : Pid → Pid → Data �
           subst (λ v. Ok v b z) pa (subst (λ v. Ok p v z) qb (subst (λ v. Ok p q v) xz ok))
 
   -- signals that are founded in the end
-  true_posts : (ss : List Signal) (o : Work) → All (λ s. FoundedIn o (Signalled s)) ss → True o → True (post_all ss o)
+  true_posts : (ss : List Signal) (o : Work) → All (λ s. FoundedIn o (Signalled s false)) ss → True o → True (post_all ss o)
   true_posts ss o h k =
       let q = quietly_all o.effects ss o Nothing in
       let ws = all_posts_keep (λ m. m.watches) (λ m l. refl) ss o in
@@ -316,14 +318,15 @@ module _ (n : Node) (Old : Pid → Data → Type 0) (Ok : Pid → Pid → Data �
       record {
         carried = carried_by (FoundedIn o) (FoundedIn (post_all ss o)) (post_all ss o)
             (widen o (post_all ss o) (quietly_more o.effects ((post_all ss o).effects) q) (λ r m e. ap (λ z. fm.get z r) (sym ws) ∙ e))
-            (carried_all (FoundedIn o) ss o h k.carried);
+            (carried_all (FoundedIn o) (λ s pay c. c) ss o h k.carried);
         acts = λ a b x c. k.acts a b x (quietly_acts o.effects ((post_all ss o).effects) q a b x c);
         watched = λ r m e. k.watched r m (ap (λ z. fm.get z r) (sym ws) ∙ e);
         enrolled = λ r m e. k.enrolled r m (ap (λ z. fm.get z r) (sym rs) ∙ e);
       }
 
-  pub true_post : (s : Signal) (o : Work) → FoundedIn o (Signalled s) → True o → True (post s o)
-  true_post s o h k = true_posts (s ∷ []) o (All-cons (λ z. FoundedIn o (Signalled z)) s [] h (All-nil (λ z. FoundedIn o (Signalled z)))) k
+  pub true_post : (s : Signal) (o : Work) → FoundedIn o (Signalled s false) → True o → True (post s o)
+  true_post s o h k =
+      true_posts (s ∷ []) o (All-cons (λ z. FoundedIn o (Signalled z false)) s [] h (All-nil (λ z. FoundedIn o (Signalled z false)))) k
 
   pub old_now : (o : Work) (i : Item) → Founded Old Call Off i → FoundedIn o i
   old_now o = founded_by Old (EndedBefore o) Call Call Off (OffNow o) (λ q x h. inl h) (λ p q r h. h) (λ r h. inl h)
@@ -331,7 +334,7 @@ module _ (n : Node) (Old : Pid → Data → Type 0) (Ok : Pid → Pid → Data �
   -- a process ends
   module _ (p : Pid) (x : Data) (o : Work) (k : True o) where
     abbrev Good : Signal → Type 0
-    Good s = FoundedIn (end_process p x o) (Signalled s)
+    Good s = FoundedIn (end_process p x o) (Signalled s false)
 
     why : EndedBefore (end_process p x o) p x
     why = inr (Contains-push ((post_all (exits_in p x (fm.entries o.node.ends)
@@ -410,7 +413,7 @@ module _ (n : Node) (Old : Pid → Data → Type 0) (Ok : Pid → Pid → Data �
         λ f h. Contains-append_left o1.effects (Effect.Ended p x ∷ []) f (quietly_more o.effects o1.effects q f h) in
         let less : (r : Reference) (m : Monitor) → fm.get (end_process p x o).node.watches r ≡ Some m → fm.get o.node.watches r ≡ Some m =
         λ r m h. (retained (not (is_owned p (fm.get o.node.watches r))) (fm.get o.node.watches r) m (sym (left r) ∙ h)).1 in
-        let c : Carried (FoundedIn (end_process p x o)) o1 = carried_all (FoundedIn (end_process p x o)) ss o
+        let c : Carried (FoundedIn (end_process p x o)) o1 = carried_all (FoundedIn (end_process p x o)) (λ s pay c. c) ss o
         (All-append Good (exits_in p x (fm.entries o.node.ends) ++ monitor_exits p x (fm.entries o.node.registered))
         (demonitors p (fm.entries o.node.watches))
         (All-append Good (exits_in p x (fm.entries o.node.ends)) (monitor_exits p x (fm.entries o.node.registered))
@@ -453,7 +456,7 @@ module _ (n : Node) (Old : Pid → Data → Type 0) (Ok : Pid → Pid → Data �
   pub true_closed : Closed true_rules True
   true_closed = record {
     plain = λ s h. plain_founded Old Call Off s h;
-    posted = λ s o h k. true_post s o (old_now o (Signalled s) h) k;
+    posted = λ s o h k. true_post s o (old_now o (Signalled s false) h) k;
     end_set = λ p q e o l k. true_node o ((set_end p q e o).node) refl refl refl k;
     drew = λ o k. true_node o ((draw kind.UnlinkId o).node) refl refl refl k;
     life_set = λ p l o h k. true_node o (record (o.node) { lives = set_life o.node.lives p l }) refl refl refl k;

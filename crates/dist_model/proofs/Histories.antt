@@ -261,15 +261,16 @@ pub reacts_for_true_cause : (h : History) (w : World) → Tale w h → ReactsFor
 reacts_for_true_cause h w t e p q z r = (next w h t.good t.sound e).acts p q z r
 
 pub exits_tell_true_cause : (h : History) (w : World) → Tale w h → ExitsTellTrueCause h w
-exits_tell_true_cause h w t u y p q z c =
-    old_cause w h p q z (All-contains (IsFounded w h) (list_to w.lists u y) (Signalled (Signal.Exit q p z)) (t.sound.lists u y) c)
+exits_tell_true_cause h w t u y p q z pay c =
+    old_cause w h p q z (All-contains (IsFounded w h) (list_to w.lists u y) (Signalled (Signal.Exit q p z) pay) (t.sound.lists u y) c)
 
 pub exits_tell_true_cause_within : (h : History) (w : World) → Tale w h → ExitsTellTrueCauseWithin h w
-exits_tell_true_cause_within h w t y p q z c = go (node_of w.nodes y) refl c
+exits_tell_true_cause_within h w t y p q z pay c = go (node_of w.nodes y) refl c
   where
-    go : (o : Option Node) → node_of w.nodes y ≡ o → Contains (local_at o) (Signalled (Signal.Exit q p z)) → TrueCause h w p q z
+    go : (o : Option Node) → node_of w.nodes y ≡ o → Contains (local_at o) (Signalled (Signal.Exit q p z) pay) → TrueCause h w p q z
     go None i c = let lt = c.1 in absurd (omega arith)
-    go (Some v) i c = old_cause w h p q z (All-contains (IsFounded w h) v.local (Signalled (Signal.Exit q p z)) (t.sound.locals y v i) c)
+    go (Some v) i c =
+        old_cause w h p q z (All-contains (IsFounded w h) v.local (Signalled (Signal.Exit q p z) pay) (t.sound.locals y v i) c)
 
 pub answered_once : (h : History) (w : World) → Tale w h → AnsweredOnce h w
 answered_once h w t = t.sound.one

@@ -81,7 +81,8 @@ module _ (n : Node) (xs : List Item) (kn : NodeKept n) where
       subst (λ l. Kept (side_of n p q l) (side_of n q p (news q p xs))) (gone p q)
       (subst (λ l. Kept (side_of n p q (news p q n.local)) (side_of n q p l)) (gone q p) (k p q hp hq d)))
 
-  module _ (q0 p0 : Pid) (s : LinkNews) (first : n.local ≡ Signalled (telling q0 p0 s) ∷ xs) (hp0 : is_stranger n p0 ≡ false)
+  module _ (q0 p0 : Pid) (s : LinkNews) (pay : Bool) (first : n.local ≡ Signalled (telling q0 p0 s) pay ∷ xs)
+      (hp0 : is_stranger n p0 ≡ false)
       (hq0 : is_stranger n q0 ≡ false) (own0 : same_name q0.node n.mint.name ≡ true) (two : same_pid p0 q0 ≡ false) where
     o0 : Work
     o0 = at_work (record n { local = xs })
@@ -98,14 +99,14 @@ module _ (n : Node) (xs : List Item) (kn : NodeKept n) where
     hd : held n q0.node ≡ true
     hd = reach_held n q0.node (own_reached n q0.node own0)
 
-    at_local : (x y : Pid) → news x y n.local ≡ news_in x y (Signalled (telling q0 p0 s)) ++ news x y xs
+    at_local : (x y : Pid) → news x y n.local ≡ news_in x y (Signalled (telling q0 p0 s) pay) ++ news x y xs
     at_local x y = ap (news x y) first
 
     miss_at : (x y : Pid) → (same_pid q0 x && same_pid p0 y) ≡ false → news x y n.local ≡ news x y xs
-    miss_at x y h = at_local x y ∙ ap (λ l. l ++ news x y xs) (signal_miss q0 p0 x y s h)
+    miss_at x y h = at_local x y ∙ ap (λ l. l ++ news x y xs) (signal_miss q0 p0 x y s pay h)
 
     hit_at : (x y : Pid) → (same_pid q0 x && same_pid p0 y) ≡ true → news x y n.local ≡ s ∷ news x y xs
-    hit_at x y h = at_local x y ∙ ap (λ l. l ++ news x y xs) (signal_hit q0 p0 x y s h)
+    hit_at x y h = at_local x y ∙ ap (λ l. l ++ news x y xs) (signal_hit q0 p0 x y s pay h)
 
     -- the same test, the other way round
     flip : (x y : Pid) → (same_pid q0 x && same_pid p0 y) ≡ false → (same_pid y p0 && same_pid x q0) ≡ false
@@ -192,12 +193,13 @@ pub local_home : (n : Node) (i : Item) (xs : List Item) → n.local ≡ i ∷ xs
 unfolding o1
 local_home n i xs first kn hm k = go (kind i) (subst (λ l. Homely (λ p. is_stranger n p) l) first hm).0
   where
-    go : ((p q : Pid) → news_in p q i ≡ []) ⊎ ((q : Pid) × (p : Pid) × (s : LinkNews) × (i ≡ Signalled (telling q p s)))
+    go : ((p q : Pid) → news_in p q i ≡ [])
+        ⊎ ((q : Pid) × (p : Pid) × (s : LinkNews) × (pay : Bool) × (i ≡ Signalled (telling q p s) pay))
         → HomeItem (λ p. is_stranger n p) i → HomePairs ((take_item i (at_work (record n { local = xs }))).node)
     go (inl h) m = plain_home n xs kn i first h k
     go (inr h) m =
         let g : (is_stranger n h.0 ≡ false) × (is_stranger n h.1 ≡ false) × (same_pid h.0 h.1 ≡ false) =
-        home_saying (λ p. is_stranger n p) h.0 h.1 h.2 (subst (λ z. HomeItem (λ p. is_stranger n p) z) h.3 m) in
-        subst (λ z. HomePairs ((take_item z (at_work (record n { local = xs }))).node)) (sym h.3)
+        home_saying (λ p. is_stranger n p) h.0 h.1 h.2 h.3 (subst (λ z. HomeItem (λ p. is_stranger n p) z) h.4 m) in
+        subst (λ z. HomePairs ((take_item z (at_work (record n { local = xs }))).node)) (sym h.4)
         (subst (λ (z : Work). HomePairs z.node) (sym (taken_link h.0 h.1 h.2 (at_work (record n { local = xs }))))
-        (linking_home n xs kn h.0 h.1 h.2 (first ∙ ap (λ z. z ∷ xs) h.3) g.1 g.0 (never_own n h.0 g.0) (same_pid_sym h.0 h.1 g.2) k))
+        (linking_home n xs kn h.0 h.1 h.2 h.3 (first ∙ ap (λ z. z ∷ xs) h.4) g.1 g.0 (never_own n h.0 g.0) (same_pid_sym h.0 h.1 g.2) k))

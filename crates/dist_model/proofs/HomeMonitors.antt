@@ -15,7 +15,7 @@ use Rattle.erl_control.specs.Ends.{receiver_of}
 use Rattle.dist_model.specs.Names.{Name, same_name, same_pid}
 use Rattle.dist_model.specs.Node.{Node, route}
 use Rattle.dist_model.specs.Sides.{TrunkSide}
-use Rattle.dist_model.specs.Work.{Work, keep_local, post, post_all, send_on}
+use Rattle.dist_model.specs.Work.{Work, keep_local, post, post_all, send_on, spelled}
 use Rattle.erl_control.specs.declared.signal.Signal.{Signal}
 use Rattle.erl_names.specs.declared.trunk.TrunkId.{TrunkId}
 use Rattle.erl_term.specs.Data.{Data}
@@ -30,11 +30,11 @@ Targets P (Signal.Monitor p q r) = P q
 Targets P _ = Unit {0}
 
 abbrev pub TargetsIn : (Pid → Type 0) → Item → Type 0
-TargetsIn P (Signalled s) = Targets P s
+TargetsIn P (Signalled s pay) = Targets P s
 TargetsIn P _ = Unit {0}
 
 pub targets_by : (P Q : Pid → Type 0) → ((p : Pid) → P p → Q p) → (i : Item) → TargetsIn P i → TargetsIn Q i
-targets_by P Q f (Signalled (Signal.Monitor p q r)) h = f q h
+targets_by P Q f (Signalled (Signal.Monitor p q r) pay) h = f q h
 targets_by P Q f _ h = tt
 
 plain_targets : (P : Pid → Type 0) (s : Signal) → is_plain s ≡ true → Targets P s
@@ -52,17 +52,17 @@ module _ (n : Node) (P : Pid → Type 0) where
   pub homed_post : (s : Signal) (o : Work) → Says s → Homed o → Homed (post s o)
   homed_post s o h k = record {
     local = go (same_name (receiver_of s).node o.node.mint.name) refl;
-    name = posts_keep (λ m. m.mint.name) (λ m l. refl) (receiver_of s).node (Signalled s) o ∙ k.name;
+    name = posts_keep (λ m. m.mint.name) (λ m l. refl) (receiver_of s).node (spelled o.node s) o ∙ k.name;
   }
     where
-      on : (r : Option TrunkId) → All (TargetsIn P) ((send_on r (receiver_of s).node (Signalled s) o).node.local)
+      on : (r : Option TrunkId) → All (TargetsIn P) ((send_on r (receiver_of s).node (spelled o.node s) o).node.local)
       on None = k.local
       on (Some t) = k.local
 
       go : (b : Bool) → same_name (receiver_of s).node o.node.mint.name ≡ b → All (TargetsIn P) ((cond b
-          (keep_local (Signalled s) o)
-          (send_on (route o.node (receiver_of s).node) (receiver_of s).node (Signalled s) o)).node.local)
-      go true e = All-push (TargetsIn P) o.node.local (Signalled s) k.local (h (ap (same_name (receiver_of s).node) (sym k.name) ∙ e))
+          (keep_local (spelled o.node s) o)
+          (send_on (route o.node (receiver_of s).node) (receiver_of s).node (spelled o.node s) o)).node.local)
+      go true e = All-push (TargetsIn P) o.node.local (spelled o.node s) k.local (h (ap (same_name (receiver_of s).node) (sym k.name) ∙ e))
       go false e = on (route o.node (receiver_of s).node)
 
   homed_all : (ss : List Signal) (o : Work) → All (Targets P) ss → Homed o → Homed (post_all ss o)

@@ -12,12 +12,11 @@ use Rattle.dist_model.proofs.Moves.{cond_absent, cond_end_kept, end_set, finish_
 use Rattle.dist_model.proofs.Seen.{end_in}
 use Rattle.dist_model.specs.Downs.{same_reference}
 use Rattle.dist_model.specs.Exits.{end_process, is_owned, is_target}
-use Rattle.dist_model.specs.Items.{Signalled}
 use Rattle.erl_control.specs.Ends.{receiver_of}
 use Rattle.dist_model.specs.Monitoring.{register, watch}
 use Rattle.dist_model.specs.Names.{pair_cmp, same_pid}
 use Rattle.dist_model.specs.Node.{Life, Living, Node, end_of, is_living_life, living}
-use Rattle.dist_model.specs.Work.{Work, post_all, set_end}
+use Rattle.dist_model.specs.Work.{Work, post_all, set_end, spelled}
 use Rattle.dist_model.specs.Calls.{spawn_life}
 use Rattle.erl_term.specs.Data.{Data}
 use Rattle.erl_term.specs.Order.{pid_cmp, reference_cmp}
@@ -122,8 +121,10 @@ pub alive_parts : Parts (λ o. Alive o.node)
 alive_parts = record {
   posted = λ s o k.
       let y = (receiver_of s).node in
-      same o.node _ (posts_keep (λ m. m.lives) (λ m l. refl) y (Signalled s) o) (posts_keep (λ m. m.ends) (λ m l. refl) y (Signalled s) o)
-      (posts_keep (λ m. m.watches) (λ m l. refl) y (Signalled s) o) (posts_keep (λ m. m.registered) (λ m l. refl) y (Signalled s) o) k;
+      same o.node _ (posts_keep (λ m. m.lives) (λ m l. refl) y (spelled o.node s) o)
+      (posts_keep (λ m. m.ends) (λ m l. refl) y (spelled o.node s) o)
+      (posts_keep (λ m. m.watches) (λ m l. refl) y (spelled o.node s) o)
+      (posts_keep (λ m. m.registered) (λ m l. refl) y (spelled o.node s) o) k;
   end_set = λ p q e o l k. ends_set p q e o l k;
   drew = λ d o h k. record { ends = k.ends; owners = k.owners; targets = k.targets };
   life_set = λ p l o h k. along o.node _

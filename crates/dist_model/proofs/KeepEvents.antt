@@ -18,7 +18,7 @@ use Rattle.dist_model.specs.Commands.{Refuses}
 use Rattle.dist_model.specs.Dialing.{dial, draw_trunk, has_name, next_trunk}
 use Rattle.dist_model.specs.Handshake.{identity, set_state, with_side, write}
 use Rattle.dist_model.specs.Incarnations.{started, stopped}
-use Rattle.dist_model.specs.Items.{Item, Signalled}
+use Rattle.dist_model.specs.Items.{Item}
 use Rattle.erl_control.specs.Ends.{receiver_of}
 use Rattle.dist_model.specs.Keeping.{Towards}
 use Rattle.dist_model.specs.Losses.{any_side, least_record, sweep_by, sweep_record}
@@ -26,7 +26,7 @@ use Rattle.dist_model.specs.Names.{Name, same_name}
 use Rattle.dist_model.specs.Node.{Node, side_where}
 use Rattle.dist_model.specs.NodeEvents.{Arrive, Call, Dial, Local, Lose, NodeEvent, Start, Stop, Sweep, at_node}
 use Rattle.dist_model.specs.Sides.{AwaitsStatus, Gone, Losing, TrunkSide, is_gone, is_losing, is_over}
-use Rattle.dist_model.specs.Work.{Work, at_work}
+use Rattle.dist_model.specs.Work.{Work, at_work, spelled}
 use Rattle.dist_model.specs.Calls.{spawn_life}
 use Rattle.erl_handshake.specs.Roles.{send_name}
 use Rattle.erl_handshake.specs.declared.message.ShakeMsg.{ShakeMsg}
@@ -40,7 +40,8 @@ pub outer_parts : (P : FinMap trunk_cmp TrunkSide → ℕ → Type 0) → Parts 
 outer_parts P = record {
   posted = λ s o k.
       let y = (receiver_of s).node in
-      along (posts_keep (λ m. m.sides) (λ m l. refl) y (Signalled s) o) (posts_keep (λ m. m.dialed) (λ m l. refl) y (Signalled s) o) k;
+      along (posts_keep (λ m. m.sides) (λ m l. refl) y (spelled o.node s) o)
+      (posts_keep (λ m. m.dialed) (λ m l. refl) y (spelled o.node s) o) k;
   end_set = λ p q e o l k. k;
   drew = λ d o h k. k;
   life_set = λ p l o h k. k;

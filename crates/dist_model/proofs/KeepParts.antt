@@ -73,13 +73,13 @@ module _ (X : Work → Type 0) (c : Parts X) where
 
   pub item_keeps : (i : Item) (o : Work) → X o → X (take_item i o)
   item_keeps i o k = item_kept any_rules X closed i o (record {
-    gone = λ p q e l. tt;
-    acts = λ p q x e l a. tt;
-    sent = λ p m e. c.message p m o k;
-    nobody = λ p q r e l. tt;
-    joins = λ p q r e l. tt;
-    drops = λ p q r e l. tt;
-    tells = λ p q r x e l. tt;
+    gone = λ p q pay e l. tt;
+    acts = λ p q x pay e l a. tt;
+    sent = λ p m pay e. c.message p m o k;
+    nobody = λ p q r pay e l. tt;
+    joins = λ p q r pay e l. tt;
+    drops = λ p q r pay e l. tt;
+    tells = λ p q r x pay e l. tt;
   }) k
 
   monitors : (n : Node) (p q : Pid) → X (at_work n) → IfGoes (call n (Command.Monitor p q)) X

@@ -1,5 +1,5 @@
 -- A node stays steady, whatever event comes to it.
-use Rattle.std.proofs.Common.{◌≡◌, Bool, true, false, not, List, refl, sym, ap, ◌∙◌, ◌&&◌, ◌||◌, Some, ◌⊎◌, inl, inr, ℕ}
+use Rattle.std.proofs.Common.{◌≡◌, Bool, true, false, not, List, refl, sym, ap, ◌∙◌, ◌&&◌, ◌||◌, Some, ◌⊎◌, inl, inr}
 use Rattle.std.proofs.lemmas.Option.{none-some}
 use Rattle.std.specs.FinMap as fm
 use Rattle.dist_model.proofs.Calls.{IfGoes}

@@ -1,5 +1,5 @@
 -- What nodes know of creations, in every run.
-use Rattle.std.proofs.Common.{◌≡◌, ℕ, Bool, true, false, refl, sym, ap, ◌∙◌, subst, Option, Some, None, Contains, List, []}
+use Rattle.std.proofs.Common.{◌≡◌, Bool, true, false, ◌&&◌, refl, sym, ap, ◌∙◌, subst, Option, Some, None, Contains, List, []}
 use Rattle.std.proofs.lemmas.Bool.{and_parts, leb-true, not-true}
 use Rattle.std.proofs.lemmas.Option.{same_Some, none-some}
 use Rattle.std.specs.FinMap as fm
@@ -13,19 +13,27 @@ use Rattle.dist_model.proofs.Trunks.{Good}
 use Rattle.dist_model.proofs.Truths.{none_within}
 use Rattle.dist_model.specs.Arrivals.{from_peer, is_from, is_to}
 use Rattle.dist_model.specs.Claims.{ConnectedKnow, IntroductionsAreKnown, IntroductionsAreTold, KnownForGood, NoneOfTheFuture}
+use Rattle.dist_model.specs.Claims.{PayloadIsAgreed}
 use Rattle.dist_model.specs.Introductions.{introduced, goes_on, knows_peer}
 use Rattle.dist_model.proofs.LearntAt.{sender}
 use Rattle.dist_model.specs.Names.{Name, place_cmp, same_name}
-use Rattle.dist_model.specs.Node.{Node}
+use Rattle.dist_model.specs.Node.{Node, both_offer}
 use Rattle.dist_model.specs.Runs.{Always, opening}
 use Rattle.dist_model.specs.Seen.{HasSide, seen}
 use Rattle.dist_model.specs.Sides.{State, TrunkSide, Up, is_gone, is_up}
 use Rattle.dist_model.specs.World.{World, list_to, node_name, node_of}
 use Rattle.erl_control.specs.Ends.{receiver_of, sender_of}
 use Rattle.erl_names.specs.declared.trunk.TrunkId.{TrunkId}
+use Rattle.erl_handshake.specs.Flags.{offers}
+use Rattle.erl_handshake.specs.declared.flags.Flag.{Flag}
 use Rattle.erl_handshake.specs.declared.introduction.Introduction.{Introduction}
 use Rattle.erl_handshake.specs.declared.setup.Setup.{Setup}
 use Rattle.dist_model.specs.Handshake.{introduces}
+
+either_order : (a b : Bool) → (a && b) ≡ (b && a)
+either_order true true = refl
+either_order false false = refl
+either_order _ _ = refl
 
 -- the node that has a side
 record At (w : World) (x : Name) (t : TrunkId) (s : TrunkSide) : Type 0 where
@@ -84,8 +92,24 @@ connected_of w g x y t k = (
       (side_as w y t x knows_peer k.1 (up_goes k.1.side.state k.1.state).1),
 )
 
+-- two connected nodes know each other's flags
+agreed_of : (w : World) → Fine w → PayloadIsAgreed w
+agreed_of w g x y t here there both hx hy =
+    let k = connected_of w g x y t both in
+    let same = λ (n : Node) (c : Introduction) (h : Some (introduces n) ≡ Some c).
+    ap (λ (i : Introduction). offers i.flags Flag.ExitPayload) (same_Some (introduces n) c h) in
+    let u : offers there.flags Flag.ExitPayload ≡ offers both.0.side.introduction.flags Flag.ExitPayload =
+    same there both.0.side.introduction (sym (ap (λ o. seen o None (λ node. Some (introduces node))) hy) ∙ k.0) in
+    let v : offers here.flags Flag.ExitPayload ≡ offers both.1.side.introduction.flags Flag.ExitPayload =
+    same here both.1.side.introduction (sym (ap (λ o. seen o None (λ node. Some (introduces node))) hx) ∙ k.1) in
+    ap (both_offer Flag.ExitPayload here) (sym (ap (λ o. side_in o t) hx) ∙ both.0.there)
+    ∙ ap (λ b. offers here.flags Flag.ExitPayload && b) (sym u)
+    ∙ either_order (offers here.flags Flag.ExitPayload) (offers there.flags Flag.ExitPayload)
+    ∙ ap (λ b. offers there.flags Flag.ExitPayload && b) v
+    ∙ sym (ap (both_offer Flag.ExitPayload there) (sym (ap (λ o. side_in o t) hy) ∙ both.1.there))
+
 pub future_of : (w : World) → Fine w → NoneOfTheFuture w
-future_of w g x y t n signal p k other h j =
+future_of w g x y t n signal pay p k other h j =
     let v = and_parts (from_peer k.side (sender_of signal)) (is_to n (receiver_of signal)) h in
     let f : is_from k.side p ≡ true = sym (ap (from_peer k.side) j) ∙ v.0 in
     let u = and_parts (same_name p.node k.side.peer) _ f in (
@@ -130,6 +154,9 @@ known = always_fine IntroductionsAreKnown known_of
 
 pub connected : Always ConnectedKnow
 connected = always_fine ConnectedKnow connected_of
+
+pub agreed : Always PayloadIsAgreed
+agreed = always_fine PayloadIsAgreed agreed_of
 
 pub future : Always NoneOfTheFuture
 future = always_fine NoneOfTheFuture future_of

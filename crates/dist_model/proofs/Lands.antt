@@ -13,11 +13,11 @@ use Rattle.dist_model.proofs.Routes.{at_place}
 use Rattle.dist_model.proofs.Trunks.{has}
 use Rattle.dist_model.specs.Downs.{Down, down_in, downs_in, same_reference}
 use Rattle.dist_model.specs.Exits.{monitor_exits}
-use Rattle.dist_model.specs.Items.{Item, Signalled}
+use Rattle.dist_model.specs.Items.{Item, Signalled, has_reason}
 use Rattle.erl_control.specs.Ends.{receiver_of}
 use Rattle.dist_model.specs.Names.{Name, same_name, same_pid}
-use Rattle.dist_model.specs.Node.{Node, route, route_in}
-use Rattle.dist_model.specs.Work.{Work, keep_local, post, post_all, post_to, send_on}
+use Rattle.dist_model.specs.Node.{Node, route, route_in, payload_to}
+use Rattle.dist_model.specs.Work.{Work, keep_local, post, post_all, post_to, send_on, spelled}
 use Rattle.dist_model.specs.declared.report.Effect.{Effect}
 use Rattle.erl_control.specs.declared.signal.Signal.{Signal}
 use Rattle.erl_names.specs.declared.trunk.TrunkId.{TrunkId}
@@ -33,12 +33,17 @@ down m x = record { owner = m.owner; target = m.target; info = x }
 
 -- MONITOR_P, and MONITOR_P_EXIT, of this reference
 abbrev pub is_call : Reference → Item → Bool
-is_call k (Signalled (Signal.Monitor p q r)) = same_reference k r
+is_call k (Signalled (Signal.Monitor p q r) pay) = same_reference k r
 is_call k _ = false
 
 abbrev pub is_end : Reference → Item → Bool
-is_end k (Signalled (Signal.MonitorExit q p r x)) = same_reference k r
+is_end k (Signalled (Signal.MonitorExit q p r x) pay) = same_reference k r
 is_end k _ = false
+
+-- the payload changes nothing there
+pub end_blind : (k : Reference) (s : Signal) (pay : Bool) → is_end k (Signalled s pay) ≡ is_end k (Signalled s false)
+end_blind k (Signal.MonitorExit q p r x) pay = refl
+end_blind k _ pay = refl
 
 -- lists
 pub has_append : (f : Item → Bool) (xs ys : List Item) → has f (xs ++ ys) ≡ (has f xs || has f ys)
@@ -86,13 +91,13 @@ down_said k r p q x = go (same_reference k r)
 -- a signal that goes to y
 abbrev pub any_to : (Item → Bool) → Name → List Signal → Bool
 any_to f y [] = false
-any_to f y (s ∷ ss) = (f (Signalled s) && same_name y (receiver_of s).node) || any_to f y ss
+any_to f y (s ∷ ss) = (f (Signalled s false) && same_name y (receiver_of s).node) || any_to f y ss
 
 pub any_to_append : (f : Item → Bool) (y : Name) (xs ys : List Signal) → any_to f y (xs ++ ys) ≡ (any_to f y xs || any_to f y ys)
 any_to_append f y [] ys = refl
 any_to_append f y (x ∷ xs) ys =
-    ap (λ b. (f (Signalled x) && same_name y (receiver_of x).node) || b) (any_to_append f y xs ys)
-    ∙ sym (or_assoc (f (Signalled x) && same_name y (receiver_of x).node) (any_to f y xs) (any_to f y ys))
+    ap (λ b. (f (Signalled x false) && same_name y (receiver_of x).node) || b) (any_to_append f y xs ys)
+    ∙ sym (or_assoc (f (Signalled x false) && same_name y (receiver_of x).node) (any_to f y xs) (any_to f y ys))
 
 -- posting keeps what is there
 pub local_grows : (f : Item → Bool) (z : Name) (x : Item) (o : Work) → has f o.node.local ≡ true → has f ((post_to z x o).node.local) ≡ true
@@ -124,12 +129,12 @@ sent_grows f t y z x o h = go (same_name z o.node.mint.name)
 pub all_local_grows : (f : Item → Bool) (ss : List Signal) (o : Work) → has f o.node.local ≡ true
     → has f ((post_all ss o).node.local) ≡ true
 all_local_grows f [] o h = h
-all_local_grows f (s ∷ ss) o h = all_local_grows f ss (post s o) (local_grows f (receiver_of s).node (Signalled s) o h)
+all_local_grows f (s ∷ ss) o h = all_local_grows f ss (post s o) (local_grows f (receiver_of s).node (spelled o.node s) o h)
 
 pub all_sent_grows : (f : Item → Bool) (t : TrunkId) (y : Name) (ss : List Signal) (o : Work)
     → has f (at_place t y (outgoing o)) ≡ true → has f (at_place t y (outgoing (post_all ss o))) ≡ true
 all_sent_grows f t y [] o h = h
-all_sent_grows f t y (s ∷ ss) o h = all_sent_grows f t y ss (post s o) (sent_grows f t y (receiver_of s).node (Signalled s) o h)
+all_sent_grows f t y (s ∷ ss) o h = all_sent_grows f t y ss (post s o) (sent_grows f t y (receiver_of s).node (spelled o.node s) o h)
 
 -- and what is posted comes there
 one_local : (f : Item → Bool) (z : Name) (x : Item) (o : Work) → f x ≡ true → same_name z o.node.mint.name ≡ true
@@ -155,26 +160,28 @@ Lands f n y o =
     × ((t : TrunkId) → same_name y n.mint.name ≡ false → route n y ≡ Some t → has f (at_place t y (outgoing o)) ≡ true)
 
 pub lands_one : (f : Item → Bool) (n : Node) (s : Signal) (o : Work) → o.node.sides ≡ n.sides → o.node.mint.name ≡ n.mint.name
-    → f (Signalled s) ≡ true → Lands f n (receiver_of s).node (post s o)
+    → f (spelled o.node s) ≡ true → Lands f n (receiver_of s).node (post s o)
 lands_one f n s o sd nm h = (
-  λ e. one_local f (receiver_of s).node (Signalled s) o h (ap (same_name (receiver_of s).node) nm ∙ e),
-  λ t e r. one_sent f t (receiver_of s).node (Signalled s) o h (ap (same_name (receiver_of s).node) nm ∙ e)
+  λ e. one_local f (receiver_of s).node (spelled o.node s) o h (ap (same_name (receiver_of s).node) nm ∙ e),
+  λ t e r. one_sent f t (receiver_of s).node (spelled o.node s) o h (ap (same_name (receiver_of s).node) nm ∙ e)
       (ap (λ l. route_in (fm.entries l) (receiver_of s).node) sd ∙ r),
 )
 
-pub lands_all : (f : Item → Bool) (n : Node) (y : Name) (ss : List Signal) (o : Work) → o.node.sides ≡ n.sides
-    → o.node.mint.name ≡ n.mint.name → any_to f y ss ≡ true → Lands f n y (post_all ss o)
-lands_all f n y [] o sd nm h = cc
-lands_all f n y (s ∷ ss) o sd nm h = go (f (Signalled s) && same_name y (receiver_of s).node) refl h
-    (lands_all f n y ss (post s o) (posts_keep (λ m. m.sides) (λ m l. refl) (receiver_of s).node (Signalled s) o ∙ sd)
-    (posts_keep (λ m. m.mint.name) (λ m l. refl) (receiver_of s).node (Signalled s) o ∙ nm))
+pub lands_all : (f : Item → Bool) → ((s : Signal) (pay : Bool) → f (Signalled s pay) ≡ f (Signalled s false)) → (n : Node) (y : Name)
+    (ss : List Signal) (o : Work) → o.node.sides ≡ n.sides → o.node.mint.name ≡ n.mint.name → any_to f y ss ≡ true
+    → Lands f n y (post_all ss o)
+lands_all f blind n y [] o sd nm h = cc
+lands_all f blind n y (s ∷ ss) o sd nm h = go (f (Signalled s false) && same_name y (receiver_of s).node) refl h
+    (lands_all f blind n y ss (post s o) (posts_keep (λ m. m.sides) (λ m l. refl) (receiver_of s).node (spelled o.node s) o ∙ sd)
+    (posts_keep (λ m. m.mint.name) (λ m l. refl) (receiver_of s).node (spelled o.node s) o ∙ nm))
   where
-    go : (b : Bool) → (f (Signalled s) && same_name y (receiver_of s).node) ≡ b → (b || any_to f y ss) ≡ true
+    go : (b : Bool) → (f (Signalled s false) && same_name y (receiver_of s).node) ≡ b → (b || any_to f y ss) ≡ true
         → (any_to f y ss ≡ true → Lands f n y (post_all ss (post s o))) → Lands f n y (post_all ss (post s o))
     go true e h k =
-        let v = and_parts (f (Signalled s)) (same_name y (receiver_of s).node) e in
+        let v = and_parts (f (Signalled s false)) (same_name y (receiver_of s).node) e in
         let l : Lands f n y (post s o) =
-        subst (λ z. Lands f n z (post s o)) (sym (same_name_true y (receiver_of s).node v.1)) (lands_one f n s o sd nm v.0) in
+        subst (λ z. Lands f n z (post s o)) (sym (same_name_true y (receiver_of s).node v.1)) (lands_one f n s o sd nm
+        (blind s (has_reason s && payload_to o.node (receiver_of s).node) ∙ v.0)) in
         (λ i. all_local_grows f ss (post s o) (l.0 i), λ t i r. all_sent_grows f t y ss (post s o) (l.1 t i r))
     go false e h k = k h
 

@@ -2,7 +2,7 @@
 use Rattle.erl_names.specs.Draw as kind
 use Rattle.erl_names.specs.Draw.{Draw}
 use Rattle.std.proofs.Common.{◌≡◌, ℕ, Bool, true, false, cond, List, [], ◌∷◌, refl, sym}
-use Rattle.std.proofs.Common.{ap, ◌∙◌, subst, Option, Some, None, ◌⊎◌, inl, inr, Contains}
+use Rattle.std.proofs.Common.{ap, ◌∙◌, subst, Option, Some, None, ◌⊎◌, inl, inr, Contains, ◌&&◌}
 use Rattle.std.proofs.lemmas.List.Elements.{Contains-push_cases}
 use Rattle.std.proofs.lemmas.Option.{same_Some, none-some}
 use Rattle.std.specs.FinMap as fm
@@ -23,14 +23,14 @@ use Rattle.dist_model.specs.Introductions.{knows_peer, told_by}
 use Rattle.dist_model.specs.Dialing.{draw_trunk, next_trunk}
 use Rattle.dist_model.specs.Exits.{end_process}
 use Rattle.dist_model.specs.Handshake.{identity, with_side, write}
-use Rattle.dist_model.specs.Items.{Handshake, Item, Signalled}
+use Rattle.dist_model.specs.Items.{Handshake, Item, Signalled, has_reason}
 use Rattle.erl_control.specs.Ends.{receiver_of}
 use Rattle.dist_model.specs.Losses.{any_side, least_record, sweep_by, sweep_record}
 use Rattle.dist_model.specs.Names.{Name, same_name}
-use Rattle.dist_model.specs.Node.{Node, route}
+use Rattle.dist_model.specs.Node.{Node, route, payload_to}
 use Rattle.dist_model.specs.NodeEvents.{Arrive, Call, Dial, Local, Lose, NodeEvent, Start, Stop, Sweep, at_node}
 use Rattle.dist_model.specs.Sides.{AwaitsStatus, TrunkSide, is_gone, is_losing, is_over}
-use Rattle.dist_model.specs.Work.{Work, at_work, keep_local, post, post_all, put, report, send_on}
+use Rattle.dist_model.specs.Work.{Work, at_work, keep_local, post, post_all, put, report, send_on, spelled}
 use Rattle.dist_model.specs.declared.report.Effect.{Effect}
 use Rattle.erl_control.specs.declared.signal.Signal.{Signal}
 use Rattle.erl_handshake.specs.Roles.{send_name}
@@ -95,8 +95,8 @@ module _ (n : Node) (e : NodeEvent) where
       pick t y m (inl c) = k.sent t y m c
       pick t y m (inr h) = more t y m h
 
-  sends : (t : Option TrunkId) (y : Name) (s : Signal) (o : Work) → X o → X (report (Effect.Sent t y (Signalled s)) o)
-  sends t y s o k = reports (Effect.Sent t y (Signalled s)) o (λ u z m h. cc) k
+  sends : (t : Option TrunkId) (y : Name) (s : Signal) (pay : Bool) (o : Work) → X o → X (report (Effect.Sent t y (Signalled s pay)) o)
+  sends t y s pay o k = reports (Effect.Sent t y (Signalled s pay)) o (λ u z m h. cc) k
 
   -- the node alone changes
   within : (o : Work) (m : Node) → introduces m ≡ introduces o.node → m.sides ≡ o.node.sides → X o → X (record o { node = m })
@@ -108,13 +108,13 @@ module _ (n : Node) (e : NodeEvent) where
       y : Name
       y = (receiver_of s).node
 
-      goes : (r : Option TrunkId) → X (send_on r y (Signalled s) o)
+      goes : (r : Option TrunkId) → X (send_on r y (spelled o.node s) o)
       goes None = k
-      goes (Some t) = sends (Some t) y s o k
+      goes (Some t) = sends (Some t) y s (has_reason s && payload_to o.node y) o k
 
-      go : (b : Bool) → X (cond b (keep_local (Signalled s) o) (send_on (route o.node y) y (Signalled s) o))
-      go true = within (report (Effect.Sent None o.node.mint.name (Signalled s)) o) ((keep_local (Signalled s) o).node) refl refl
-          (sends None o.node.mint.name s o k)
+      go : (b : Bool) → X (cond b (keep_local (spelled o.node s) o) (send_on (route o.node y) y (spelled o.node s) o))
+      go true = within (report (Effect.Sent None o.node.mint.name (spelled o.node s)) o) ((keep_local (spelled o.node s) o).node) refl refl
+          (sends None o.node.mint.name s (has_reason s && payload_to o.node y) o k)
       go false = goes (route o.node y)
 
   posts_all : (ss : List Signal) (o : Work) → X o → X (post_all ss o)

@@ -34,21 +34,22 @@ turned x y p q h = go (same_pid x p && same_pid y q) refl
         let n : true ≡ false = sym w ∙ h in cc
     go false i = i
 
-pub told_view : (b : List LinkNews) (x y : Pid) (e : End) (s : LinkNews) (o : Work) (p q : Pid) → reaches o.node q.node ≡ true
+pub told_view : (b : List LinkNews) (x y : Pid) (e : End) (s : LinkNews) (pay : Bool) (o : Work) (p q : Pid)
+    → reaches o.node q.node ≡ true
     → (t : Bool) → (same_pid p x && same_pid q y) ≡ t
-    → view b (post_to y.node (Signalled (telling x y s)) (set_end x y e o)) p q ≡ cond t (told e s (view b o p q)) (view b o p q)
-told_view b x y e s o p q reach true h =
+    → view b (post_to y.node (Signalled (telling x y s) pay) (set_end x y e o)) p q ≡ cond t (told e s (view b o p q)) (view b o p q)
+told_view b x y e s pay o p q reach true h =
     let v = and_parts (same_pid p x) (same_pid q y) h in
     let w : (same_pid x p && same_pid y q) ≡ true =
     ap (λ t. t && same_pid y q) (same_pid_is x p (sym (same_pid_true p x v.0))) ∙ same_pid_is y q (sym (same_pid_true q y v.1)) in
-    post_view b y.node (Signalled (telling x y s)) (set_end x y e o) p q reach (linking_suits x y p q s)
-    ∙ ap (more (view b (set_end x y e o) p q)) (telling_news x y p q s)
+    post_view b y.node (Signalled (telling x y s) pay) (set_end x y e o) p q reach (linking_suits x y p q s pay)
+    ∙ ap (more (view b (set_end x y e o) p q)) (telling_news x y p q s pay)
     ∙ ap (λ a. more a (cond (same_pid x p && same_pid y q) (s ∷ []) [])) (set_view b x y e o p q)
     ∙ ap (λ t. more (ended_at t e (view b o p q)) (cond (same_pid x p && same_pid y q) (s ∷ []) [])) h
     ∙ ap (λ t. more (ended_at true e (view b o p q)) (cond t (s ∷ []) [])) w
-told_view b x y e s o p q reach false h =
-    post_view b y.node (Signalled (telling x y s)) (set_end x y e o) p q reach (linking_suits x y p q s)
-    ∙ ap (more (view b (set_end x y e o) p q)) (telling_news x y p q s)
+told_view b x y e s pay o p q reach false h =
+    post_view b y.node (Signalled (telling x y s) pay) (set_end x y e o) p q reach (linking_suits x y p q s pay)
+    ∙ ap (more (view b (set_end x y e o) p q)) (telling_news x y p q s pay)
     ∙ ap (λ a. more a (cond (same_pid x p && same_pid y q) (s ∷ []) [])) (set_view b x y e o p q)
     ∙ ap (λ t. more (ended_at t e (view b o p q)) (cond (same_pid x p && same_pid y q) (s ∷ []) [])) h
     ∙ ap (λ t. more (view b o p q) (cond t (s ∷ []) [])) (turned x y p q h)
@@ -63,36 +64,40 @@ at_pair P p q x y h k =
 links_reached : (x y : Pid) (o : Work)
     → (same_name y.node o.node.mint.name ≡ true → (is_stranger o.node y ≡ false) × (same_pid x y ≡ false))
     → living o.node x ≡ true → reaches o.node y.node ≡ true
-    → Moves o (post_to y.node (Signalled (telling x y (Signals LinkSignal.Link))) (set_end x y End.Active o))
+    → Moves o (post_to y.node (Signalled (telling x y (Signals LinkSignal.Link)) false) (set_end x y End.Active o))
 links_reached x y o v l reach = record {
-  sides = post_keeps (λ m. m.sides) (λ m u. refl) y.node (Signalled (telling x y (Signals LinkSignal.Link))) (set_end x y End.Active o);
-  dialed = post_keeps (λ m. m.dialed) (λ m u. refl) y.node (Signalled (telling x y (Signals LinkSignal.Link))) (set_end x y End.Active o);
-  name = post_keeps (λ m. m.mint.name) (λ m u. refl) y.node (Signalled (telling x y (Signals LinkSignal.Link))) (set_end x y End.Active o);
-  keeps = λ k. post_kept y.node (Signalled (telling x y (Signals LinkSignal.Link))) (set_end x y End.Active o)
+  sides = post_keeps (λ m. m.sides) (λ m u. refl) y.node (Signalled (telling x y (Signals LinkSignal.Link)) false)
+      (set_end x y End.Active o);
+  dialed = post_keeps (λ m. m.dialed) (λ m u. refl) y.node (Signalled (telling x y (Signals LinkSignal.Link)) false)
+      (set_end x y End.Active o);
+  name = post_keeps (λ m. m.mint.name) (λ m u. refl) y.node (Signalled (telling x y (Signals LinkSignal.Link)) false)
+      (set_end x y End.Active o);
+  keeps = λ k. post_kept y.node (Signalled (telling x y (Signals LinkSignal.Link)) false) (set_end x y End.Active o)
       (set_rooted x y End.Active o k (λ h. (l, reach_held o.node y.node reach, v)));
   grows = λ p h.
-      post_keeps (λ m. over m p) (λ m u. refl) y.node (Signalled (telling x y (Signals LinkSignal.Link))) (set_end x y End.Active o)
+      post_keeps (λ m. over m p) (λ m u. refl) y.node (Signalled (telling x y (Signals LinkSignal.Link)) false) (set_end x y End.Active o)
       ∙ h;
   draws = omega (
     arith,
     post_keeps (λ m. m.mint.unlink_ids) (λ m u. refl) y.node
-        (Signalled (telling x y (Signals LinkSignal.Link))) (set_end x y End.Active o),
+        (Signalled (telling x y (Signals LinkSignal.Link)) false) (set_end x y End.Active o),
   );
-  routed = λ a. post_routed y.node (Signalled (telling x y (Signals LinkSignal.Link))) (set_end x y End.Active o) a;
+  routed = λ a. post_routed y.node (Signalled (telling x y (Signals LinkSignal.Link)) false) (set_end x y End.Active o) a;
   nevers = λ p h.
-      post_keeps (λ m. is_stranger m p) (λ m u. refl) y.node (Signalled (telling x y (Signals LinkSignal.Link))) (set_end x y End.Active o)
+      post_keeps (λ m. is_stranger m p) (λ m u. refl) y.node (Signalled (telling x y (Signals LinkSignal.Link)) false)
+      (set_end x y End.Active o)
       ∙ h;
-  home = λ k h. post_home y.node (Signalled (telling x y (Signals LinkSignal.Link))) (set_end x y End.Active o)
-      (λ e. let d = v e in home_said (λ p. is_stranger o.node p) x y (Signals LinkSignal.Link) (k.born x l, d.0, d.1)) h;
+  home = λ k h. post_home y.node (Signalled (telling x y (Signals LinkSignal.Link)) false) (set_end x y End.Active o)
+      (λ e. let d = v e in home_said (λ p. is_stranger o.node p) x y (Signals LinkSignal.Link) false (k.born x l, d.0, d.1)) h;
   views = λ nk b p q c r k. go b p q c r k (same_pid p x && same_pid q y) refl;
 }
   where
     go : (b : List LinkNews) (p q : Pid) (c : Side) → reaches o.node q.node ≡ true → Kept (view b o p q) c → (t : Bool)
         → (same_pid p x && same_pid q y) ≡ t
-        → Kept (view b (post_to y.node (Signalled (telling x y (Signals LinkSignal.Link))) (set_end x y End.Active o)) p q) c
-    go b p q c r k true h = subst (λ a. Kept a c) (sym (told_view b x y End.Active (Signals LinkSignal.Link) o p q r true h))
+        → Kept (view b (post_to y.node (Signalled (telling x y (Signals LinkSignal.Link)) false) (set_end x y End.Active o)) p q) c
+    go b p q c r k true h = subst (λ a. Kept a c) (sym (told_view b x y End.Active (Signals LinkSignal.Link) false o p q r true h))
         (activates (view b o p q) c (at_pair (λ u v. over o.node u ≡ false) p q x y h (not_over o.node x l)) k)
-    go b p q c r k false h = subst (λ a. Kept a c) (sym (told_view b x y End.Active (Signals LinkSignal.Link) o p q r false h)) k
+    go b p q c r k false h = subst (λ a. Kept a c) (sym (told_view b x y End.Active (Signals LinkSignal.Link) false o p q r false h)) k
 
 -- the partner's node isn't reached: no pair that is reached is meant
 apart_by_reach : (n : Node) (p q x y : Pid) → reaches n q.node ≡ true → reaches n y.node ≡ false → (same_pid p x && same_pid q y) ≡ false
@@ -156,38 +161,38 @@ pub unlinks_as : (x y : Pid) (o : Work) (j : ℕ) → living o.node x ≡ true �
 unlinks_as x y o j l e lt =
     let o0 = draw_unlink j o in
     record {
-      sides = post_keeps (λ m. m.sides) (λ m u. refl) y.node (Signalled (telling x y (Signals (LinkSignal.Unlink j))))
+      sides = post_keeps (λ m. m.sides) (λ m u. refl) y.node (Signalled (telling x y (Signals (LinkSignal.Unlink j))) false)
           (set_end x y (End.Pending j) o0);
-      dialed = post_keeps (λ m. m.dialed) (λ m u. refl) y.node (Signalled (telling x y (Signals (LinkSignal.Unlink j))))
+      dialed = post_keeps (λ m. m.dialed) (λ m u. refl) y.node (Signalled (telling x y (Signals (LinkSignal.Unlink j))) false)
           (set_end x y (End.Pending j) o0);
-      name = post_keeps (λ m. m.mint.name) (λ m u. refl) y.node (Signalled (telling x y (Signals (LinkSignal.Unlink j))))
+      name = post_keeps (λ m. m.mint.name) (λ m u. refl) y.node (Signalled (telling x y (Signals (LinkSignal.Unlink j))) false)
           (set_end x y (End.Pending j) o0);
-      keeps = λ k. post_kept y.node (Signalled (telling x y (Signals (LinkSignal.Unlink j)))) (set_end x y (End.Pending j) o0)
+      keeps = λ k. post_kept y.node (Signalled (telling x y (Signals (LinkSignal.Unlink j))) false) (set_end x y (End.Pending j) o0)
           (set_rooted x y (End.Pending j) o0 (record { born = k.born; rooted = k.rooted })
           (λ h. k.rooted x y (λ a. let n : End.Active ≡ End.None = sym e ∙ a in cc)));
-      grows = λ p h. post_keeps (λ m. over m p) (λ m u. refl) y.node (Signalled (telling x y (Signals (LinkSignal.Unlink j))))
+      grows = λ p h. post_keeps (λ m. over m p) (λ m u. refl) y.node (Signalled (telling x y (Signals (LinkSignal.Unlink j))) false)
           (set_end x y (End.Pending j) o0) ∙ h;
       draws = omega (
         arith,
         lt,
         post_keeps (λ m. m.mint.unlink_ids) (λ m u. refl) y.node
-            (Signalled (telling x y (Signals (LinkSignal.Unlink j)))) (set_end x y (End.Pending j) o0),
+            (Signalled (telling x y (Signals (LinkSignal.Unlink j))) false) (set_end x y (End.Pending j) o0),
       );
-      routed = λ a. post_routed y.node (Signalled (telling x y (Signals (LinkSignal.Unlink j)))) (set_end x y (End.Pending j) o0) a;
+      routed = λ a. post_routed y.node (Signalled (telling x y (Signals (LinkSignal.Unlink j))) false) (set_end x y (End.Pending j) o0) a;
       nevers = λ p h. post_keeps (λ m. is_stranger m p) (λ m u. refl) y.node
-          (Signalled (telling x y (Signals (LinkSignal.Unlink j)))) (set_end x y (End.Pending j) o0) ∙ h;
-      home = λ k h. post_home y.node (Signalled (telling x y (Signals (LinkSignal.Unlink j)))) (set_end x y (End.Pending j) o0) (λ i.
+          (Signalled (telling x y (Signals (LinkSignal.Unlink j))) false) (set_end x y (End.Pending j) o0) ∙ h;
+      home = λ k h. post_home y.node (Signalled (telling x y (Signals (LinkSignal.Unlink j))) false) (set_end x y (End.Pending j) o0) (λ i.
           let d = (k.rooted x y (λ a. let n : End.Active ≡ End.None = sym e ∙ a in cc)).2 i in
-          home_said (λ p. is_stranger o.node p) x y (Signals (LinkSignal.Unlink j)) (k.born x l, d.0, d.1)) h;
+          home_said (λ p. is_stranger o.node p) x y (Signals (LinkSignal.Unlink j)) false (k.born x l, d.0, d.1)) h;
       views = λ nk b p q c r k. go b p q c r k (same_pid p x && same_pid q y) refl;
     }
   where
     go : (b : List LinkNews) (p q : Pid) (c : Side) → reaches o.node q.node ≡ true → Kept (view b o p q) c → (t : Bool)
         → (same_pid p x && same_pid q y) ≡ t → Kept (view b (unlink_at j x y o) p q) c
     go b p q c r k true h =
-        subst (λ a. Kept a c) (sym (told_view b x y (End.Pending j) (Signals (LinkSignal.Unlink j)) (draw_unlink j o) p q r true h))
+        subst (λ a. Kept a c) (sym (told_view b x y (End.Pending j) (Signals (LinkSignal.Unlink j)) false (draw_unlink j o) p q r true h))
         (deactivates (view b o p q) c j (at_pair (λ u v. over o.node u ≡ false) p q x y h (not_over o.node x l))
         (at_pair (λ u v. end_of o.node u v ≡ End.Active) p q x y h e) lt k)
     go b p q c r k false h =
-        subst (λ a. Kept a c) (sym (told_view b x y (End.Pending j) (Signals (LinkSignal.Unlink j)) (draw_unlink j o) p q r false h))
+        subst (λ a. Kept a c) (sym (told_view b x y (End.Pending j) (Signals (LinkSignal.Unlink j)) false (draw_unlink j o) p q r false h))
         (keeps_draw (view b o p q) c j (omega (arith, lt)) k)

@@ -23,13 +23,13 @@ use Rattle.dist_model.proofs.LastSignals.{exits_in}
 use Rattle.dist_model.proofs.EndOfProcess.{is_living_kept, is_living_cond}
 use Rattle.dist_model.specs.Exits.{buried, demonitors, end_process, is_owned, is_target, monitor_exits}
 use Rattle.dist_model.specs.Handshake.{with_side, write}
-use Rattle.dist_model.specs.Items.{Handshake, Item, Signalled}
+use Rattle.dist_model.specs.Items.{Handshake, Item}
 use Rattle.erl_control.specs.Ends.{receiver_of}
 use Rattle.dist_model.specs.Monitoring.{register, unregister, unwatch}
 use Rattle.dist_model.specs.Names.{Name, same_pid}
 use Rattle.dist_model.specs.Node.{Ended, Life, Node, is_living_life, living}
 use Rattle.dist_model.specs.Sides.{TrunkSide}
-use Rattle.dist_model.specs.Work.{Work, delivered, draw, post, post_all, put, report, set_end, set_life}
+use Rattle.dist_model.specs.Work.{Work, delivered, draw, post, post_all, put, report, set_end, set_life, spelled}
 use Rattle.dist_model.specs.declared.report.Effect.{Effect}
 use Rattle.erl_control.specs.declared.signal.Signal.{Signal}
 use Rattle.erl_names.specs.declared.trunk.TrunkId.{TrunkId}
@@ -40,7 +40,7 @@ use Rattle.exit_core.specs.Messages.{down_term}
 use Rattle.erl_term.proofs.Order.{reference_cmp_total}
 use Rattle.monitor_core.specs.Monitors.{added}
 use Rattle.monitor_core.specs.declared.monitor.Monitor.{Monitor}
-use Rattle.dist_model.proofs.Lands.{Lands, all_local_grows, all_sent_grows, any_to, any_to_append, at_place_append, down}
+use Rattle.dist_model.proofs.Lands.{Lands, all_local_grows, all_sent_grows, any_to, any_to_append, at_place_append, down, end_blind}
 use Rattle.dist_model.proofs.Lands.{down_said, downs_append, has_first, is_end, lands_all, no_more, quietly_downs, told_owner}
 
 cond_living : (b : Bool) (x : Data) (l : Option Life) → is_living_life l ≡ false → is_living_life (cond b (Some (Ended x)) l) ≡ false
@@ -292,7 +292,7 @@ module _ (n : Node) (Tells : Reference → Monitor → Data → Type 0) (Joins :
   finish_turns : (p : Pid) (x : Data) (o : Work) → Core o → Core (end_process p x o)
   finish_turns p x o k = record {
     turns = buried_turns p x (post_all (last_words p x o) o)
-        (λ j m h e. lands_all (is_end j) n m.owner.node (last_words p x o) o k.sides k.turns.name (owner_hears p x o j m
+        (λ j m h e. lands_all (is_end j) (end_blind j) n m.owner.node (last_words p x o) o k.sides k.turns.name (owner_hears p x o j m
         (ap (λ z. fm.get z j) (sym (all_posts_keep (λ v. v.registered) (λ v l. refl) (last_words p x o) o)) ∙ h) e))
         (turns_aside o (post_all (last_words p x o) o) (posts_aside (last_words p x o) o) k.turns);
     sides = all_posts_keep (λ m. m.sides) (λ m l. refl) (last_words p x o) o ∙ k.sides;
@@ -432,7 +432,8 @@ module _ (n : Node) (Tells : Reference → Monitor → Data → Type 0) (Joins :
   core_closed = record {
     plain = λ s h. tt;
     posted = λ s o h k.
-        core_aside o (post s o) (posts_aside (s ∷ []) o) (posts_keep (λ m. m.sides) (λ m l. refl) (receiver_of s).node (Signalled s) o) k;
+        core_aside o (post s o) (posts_aside (s ∷ []) o)
+        (posts_keep (λ m. m.sides) (λ m l. refl) (receiver_of s).node (spelled o.node s) o) k;
     end_set = λ p q e o l k.
         core_aside o (set_end p q e o) (node_aside o ((set_end p q e o).node) refl refl refl (λ z. refl) refl refl refl refl) refl k;
     drew = λ o k. core_aside o (draw kind.UnlinkId o)

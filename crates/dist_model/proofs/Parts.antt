@@ -74,16 +74,17 @@ pub record Closed (rules : Rules) (X : Work → Type 0) : Type 0 where
 
 -- why an item may be taken
 pub record Reasons (rules : Rules) (X : Work → Type 0) (i : Item) (o : Work) : Type 0 where
-  pub gone : (p q : Pid) → i ≡ Signalled (Signal.Link q p) → living o.node p ≡ false → rules.Says (Signal.Exit p q noproc)
-  pub acts : (p q : Pid) (x : Data) → i ≡ Signalled (Signal.Exit q p x) → living o.node p ≡ true
+  pub gone : (p q : Pid) (pay : Bool) → i ≡ Signalled (Signal.Link q p) pay → living o.node p ≡ false → rules.Says (Signal.Exit p q noproc)
+  pub acts : (p q : Pid) (x : Data) (pay : Bool) → i ≡ Signalled (Signal.Exit q p x) pay → living o.node p ≡ true
       → end_of o.node p q ≡ End.Active → rules.Reacts p q x
-  pub sent : (p : Pid) (m : Data) → i ≡ Signalled (Signal.Send p m) → X (put p m o)
-  pub nobody : (p q : Pid) (r : Reference) → i ≡ Signalled (Signal.Monitor p q r) → living o.node q ≡ false
+  pub sent : (p : Pid) (m : Data) (pay : Bool) → i ≡ Signalled (Signal.Send p m) pay → X (put p m o)
+  pub nobody : (p q : Pid) (r : Reference) (pay : Bool) → i ≡ Signalled (Signal.Monitor p q r) pay → living o.node q ≡ false
       → rules.Says (Signal.MonitorExit q p r noproc)
-  pub joins : (p q : Pid) (r : Reference) → i ≡ Signalled (Signal.Monitor p q r) → living o.node q ≡ true → rules.Joins r (monitor_of p q)
-  pub drops : (p q : Pid) (r : Reference) → i ≡ Signalled (Signal.Demonitor p q r)
+  pub joins : (p q : Pid) (r : Reference) (pay : Bool) → i ≡ Signalled (Signal.Monitor p q r) pay → living o.node q ≡ true
+      → rules.Joins r (monitor_of p q)
+  pub drops : (p q : Pid) (r : Reference) (pay : Bool) → i ≡ Signalled (Signal.Demonitor p q r) pay
       → fm.get o.node.registered r ≡ Some (monitor_of p q) → rules.Drops r (monitor_of p q)
-  pub tells : (p q : Pid) (r : Reference) (x : Data) → i ≡ Signalled (Signal.MonitorExit q p r x)
+  pub tells : (p q : Pid) (r : Reference) (x : Data) (pay : Bool) → i ≡ Signalled (Signal.MonitorExit q p r x) pay
       → fm.get o.node.watches r ≡ Some (monitor_of p q) → rules.Tells r (monitor_of p q) x
 
 pub held_is : (v : Option Monitor) (p q : Pid) → is_this v (monitor_of p q) ≡ true → v ≡ Some (monitor_of p q)
@@ -152,26 +153,26 @@ module _ (rules : Rules) (X : Work → Type 0) (c : Closed rules X) where
   cond_kept false x y h k = k refl
 
   pub item_kept : (i : Item) (o : Work) → Reasons rules X i o → X o → X (take_item i o)
-  item_kept (Signalled (Signal.Link q p)) o h k = take_link_kept p q (Signals LinkSignal.Link) o (λ e. h.gone p q refl) (λ x e. cc) k
-  item_kept (Signalled (Signal.Exit q p x)) o h k =
-      take_link_kept p q (Exited x) o (λ e. cc) (λ z e. h.acts p q z (ap (λ w. Signalled (Signal.Exit q p (reason_in x w))) e)) k
+  item_kept (Signalled (Signal.Link q p) pay) o h k = take_link_kept p q (Signals LinkSignal.Link) o (λ e. h.gone p q pay refl) (λ x e. cc) k
+  item_kept (Signalled (Signal.Exit q p x) pay) o h k =
+      take_link_kept p q (Exited x) o (λ e. cc) (λ z e. h.acts p q z pay (ap (λ w. Signalled (Signal.Exit q p (reason_in x w)) pay) e)) k
     where
       reason_in : Data → LinkNews → Data
       reason_in d (Signals s) = d
       reason_in d (Exited z) = z
-  item_kept (Signalled (Signal.UnlinkId i q p)) o h k = take_link_kept p q (Signals (LinkSignal.Unlink i)) o (λ e. cc) (λ x e. cc) k
-  item_kept (Signalled (Signal.UnlinkIdAck i q p)) o h k = take_link_kept p q (Signals (LinkSignal.Ack i)) o (λ e. cc) (λ x e. cc) k
-  item_kept (Signalled (Signal.Send p m)) o h k = cond_kept (living o.node p) _ o (λ l. h.sent p m refl) (λ l. k)
-  item_kept (Signalled (Signal.Exit2 q p x)) o h k =
+  item_kept (Signalled (Signal.UnlinkId i q p) pay) o h k = take_link_kept p q (Signals (LinkSignal.Unlink i)) o (λ e. cc) (λ x e. cc) k
+  item_kept (Signalled (Signal.UnlinkIdAck i q p) pay) o h k = take_link_kept p q (Signals (LinkSignal.Ack i)) o (λ e. cc) (λ x e. cc) k
+  item_kept (Signalled (Signal.Send p m) pay) o h k = cond_kept (living o.node p) _ o (λ l. h.sent p m pay refl) (λ l. k)
+  item_kept (Signalled (Signal.Exit2 q p x) pay) o h k =
       cond_kept (living o.node p) _ o (λ l. exit_kept (traps_life (fm.get o.node.lives p)) (sent_exit p q x) p o k) (λ l. k)
-  item_kept (Signalled (Signal.Monitor p q r)) o h k =
-      cond_kept (living o.node q) _ _ (λ l. c.registers r (monitor_of p q) o l (h.joins p q r refl l) k)
-      (λ l. c.posted (Signal.MonitorExit q p r noproc) o (h.nobody p q r refl l) k)
-  item_kept (Signalled (Signal.Demonitor p q r)) o h k = cond_kept (is_held o.node.registered r (monitor_of p q)) _ o
-      (λ l. let e = held_is (fm.get o.node.registered r) p q l in c.unregisters r (monitor_of p q) o e (h.drops p q r refl e) k) (λ l. k)
-  item_kept (Signalled (Signal.MonitorExit q p r x)) o h k = cond_kept (living o.node p && is_held o.node.watches r (monitor_of p q)) _ o
+  item_kept (Signalled (Signal.Monitor p q r) pay) o h k =
+      cond_kept (living o.node q) _ _ (λ l. c.registers r (monitor_of p q) o l (h.joins p q r pay refl l) k)
+      (λ l. c.posted (Signal.MonitorExit q p r noproc) o (h.nobody p q r pay refl l) k)
+  item_kept (Signalled (Signal.Demonitor p q r) pay) o h k = cond_kept (is_held o.node.registered r (monitor_of p q)) _ o
+      (λ l. let e = held_is (fm.get o.node.registered r) p q l in c.unregisters r (monitor_of p q) o e (h.drops p q r pay refl e) k) (λ l. k)
+  item_kept (Signalled (Signal.MonitorExit q p r x) pay) o h k = cond_kept (living o.node p && is_held o.node.watches r (monitor_of p q)) _ o
       (λ l. let e = held_is (fm.get o.node.watches r) p q (and_parts (living o.node p) _ l).1 in
-      c.ended r (monitor_of p q) x o e (h.tells p q r x refl e) k) (λ l. k)
+      c.ended r (monitor_of p q) x o e (h.tells p q r x pay refl e) k) (λ l. k)
   item_kept (Handshake m) o h k = k
   item_kept Tick o h k = k
 

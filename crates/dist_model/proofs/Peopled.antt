@@ -32,7 +32,7 @@ use Rattle.dist_model.proofs.LastSignals.{exits_in}
 use Rattle.dist_model.specs.Exits.{demonitors, end_process, monitor_exits}
 use Rattle.dist_model.specs.Handshake.{set_state, with_side, write}
 use Rattle.dist_model.specs.Incarnations.{start, started, stop, stopped}
-use Rattle.dist_model.specs.Items.{Item, Signalled}
+use Rattle.dist_model.specs.Items.{Item}
 use Rattle.erl_control.specs.Ends.{receiver_of}
 use Rattle.dist_model.proofs.Records.{has_records}
 use Rattle.dist_model.proofs.Truths.{not_both}
@@ -42,7 +42,7 @@ use Rattle.dist_model.specs.Names.{Name, same_name, same_pid, place_cmp}
 use Rattle.dist_model.specs.Node.{Ended, Life, Living, Node, is_living_life, living, is_stranger, route, side_where}
 use Rattle.dist_model.specs.Runs.{Always, Goes, Runs, new_node, opening}
 use Rattle.dist_model.specs.Sides.{in_state, Accepting, Gone, Parked, State, TrunkSide, is_gone, is_losing, is_parked}
-use Rattle.dist_model.specs.Work.{Work, at_work, delivered, draw, keep_local, post, post_all, post_to, put, send_on, set_life}
+use Rattle.dist_model.specs.Work.{Work, at_work, delivered, draw, keep_local, post, post_all, post_to, put, send_on, set_life, spelled}
 use Rattle.dist_model.specs.World.{Arrive, Call, Dial, Event, Local, Lose, Report, Start, Stepped}
 use Rattle.dist_model.specs.World.{Stop, Sweep, World, came_of, node_name, node_of, set_node, step_at}
 use Rattle.erl_control.specs.declared.signal.Signal.{Signal}
@@ -122,12 +122,12 @@ module _ (n : Node) (l : List Item) where
 
   posted : (s : Signal) (o : Work) → X o → X (post s o)
   posted s o = aside o.node ((post s o).node)
-      (post_keeps (λ m. m.up) (λ m l. refl) (receiver_of s).node (Signalled s) o)
-      (post_keeps (λ m. m.mint.name) (λ m l. refl) (receiver_of s).node (Signalled s) o)
-      (post_keeps (λ m. m.mint.creation) (λ m l. refl) (receiver_of s).node (Signalled s) o)
-      (post_keeps (λ m. m.mint.pids) (λ m l. refl) (receiver_of s).node (Signalled s) o)
-      (post_keeps (λ m. m.lives) (λ m l. refl) (receiver_of s).node (Signalled s) o)
-      (posted_local (receiver_of s).node (Signalled s) o)
+      (post_keeps (λ m. m.up) (λ m l. refl) (receiver_of s).node (spelled o.node s) o)
+      (post_keeps (λ m. m.mint.name) (λ m l. refl) (receiver_of s).node (spelled o.node s) o)
+      (post_keeps (λ m. m.mint.creation) (λ m l. refl) (receiver_of s).node (spelled o.node s) o)
+      (post_keeps (λ m. m.mint.pids) (λ m l. refl) (receiver_of s).node (spelled o.node s) o)
+      (post_keeps (λ m. m.lives) (λ m l. refl) (receiver_of s).node (spelled o.node s) o)
+      (posted_local (receiver_of s).node (spelled o.node s) o)
 
   posted_all : (ss : List Signal) (o : Work) → X o → X (post_all ss o)
   posted_all [] o k = k

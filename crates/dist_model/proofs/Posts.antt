@@ -10,15 +10,15 @@ use Rattle.std.specs.FinMap.Entries.{find, is_sorted, below_all}
 use Rattle.sorted_map.specs.Facts.{both_pass}
 use Rattle.dist_model.proofs.Envelopes.{Envelope, outgoing, sent_by, sent_in, sent_in-push, sent_in-silent}
 use Rattle.dist_model.proofs.Keys.{pair_exact, pair_total, same_pid_refl, same_pid_true, below_key}
-use Rattle.dist_model.proofs.Views.{post_keeps, telling_news}
+use Rattle.dist_model.proofs.Views.{post_keeps, telling_news, news_pay}
 use Rattle.dist_model.proofs.LastSignals.{exits_in, exits_cons}
 use Rattle.dist_model.specs.Exits.{demonitors, exit_for, monitor_exits}
-use Rattle.dist_model.specs.Items.{Item, Signalled, news_in, telling}
+use Rattle.dist_model.specs.Items.{Item, Signalled, news_in, telling, has_reason}
 use Rattle.erl_control.specs.Ends.{receiver_of}
 use Rattle.dist_model.specs.Names.{Name, pair_cmp, same_name, same_pid}
-use Rattle.dist_model.specs.Node.{Node, end_of, living, is_stranger, route, route_in, side_where}
+use Rattle.dist_model.specs.Node.{Node, end_of, living, is_stranger, route, route_in, side_where, payload_to}
 use Rattle.dist_model.specs.Sides.{TrunkSide, is_losing, is_up}
-use Rattle.dist_model.specs.Work.{Work, keep_local, post, post_all, post_to, send_on}
+use Rattle.dist_model.specs.Work.{Work, keep_local, post, post_all, post_to, send_on, spelled}
 use Rattle.dist_model.specs.declared.report.Effect.{Effect}
 use Rattle.erl_control.specs.declared.signal.Signal.{Signal}
 use Rattle.erl_names.specs.Order.{trunk_cmp}
@@ -45,9 +45,9 @@ pub record NodeKept (n : Node) : Type 0 where
 abbrev pub HomeItem : (Pid → Bool) → Item → Type 0
 HomeItem f x = (a b : Pid) → (news_in a b x ≡ [] → ⊥) → (f a ≡ false) × (f b ≡ false) × (same_pid a b ≡ false)
 
-pub home_said : (f : Pid → Bool) (a b : Pid) (s : LinkNews) → (f a ≡ false) × (f b ≡ false) × (same_pid a b ≡ false)
-    → HomeItem f (Signalled (telling a b s))
-home_said f a b s h x y n = go (same_pid a x && same_pid b y) refl
+pub home_said : (f : Pid → Bool) (a b : Pid) (s : LinkNews) (pay : Bool) → (f a ≡ false) × (f b ≡ false) × (same_pid a b ≡ false)
+    → HomeItem f (Signalled (telling a b s) pay)
+home_said f a b s pay h x y n = go (same_pid a x && same_pid b y) refl
   where
     go : (t : Bool) → (same_pid a x && same_pid b y) ≡ t → (f x ≡ false) × (f y ≡ false) × (same_pid x y ≡ false)
     go true e =
@@ -55,12 +55,12 @@ home_said f a b s h x y n = go (same_pid a x && same_pid b y) refl
         let xe : a ≡ x = same_pid_true a x v.0 in
         let ye : b ≡ y = same_pid_true b y v.1 in
         (sym (ap f xe) ∙ h.0, sym (ap f ye) ∙ h.1, sym (ap (λ z. same_pid z y) xe) ∙ sym (ap (same_pid a) ye) ∙ h.2)
-    go false e = absurd (n (telling_news a b x y s ∙ ap (λ t. cond t (s ∷ []) []) e))
+    go false e = absurd (n (telling_news a b x y s pay ∙ ap (λ t. cond t (s ∷ []) []) e))
 
-pub home_saying : (f : Pid → Bool) (a b : Pid) (s : LinkNews) → HomeItem f (Signalled (telling a b s)) → (f a ≡ false)
-    × (f b ≡ false) × (same_pid a b ≡ false)
-home_saying f a b s h =
-    h a b (λ e. let n : s ∷ [] ≡ [] = sym (telling_news a b a b s
+pub home_saying : (f : Pid → Bool) (a b : Pid) (s : LinkNews) (pay : Bool) → HomeItem f (Signalled (telling a b s) pay)
+    → (f a ≡ false) × (f b ≡ false) × (same_pid a b ≡ false)
+home_saying f a b s pay h =
+    h a b (λ e. let n : s ∷ [] ≡ [] = sym (telling_news a b a b s pay
     ∙ ap (λ t. cond (t && same_pid b b) (s ∷ []) []) (same_pid_refl a)
     ∙ ap (λ t. cond t (s ∷ []) []) (same_pid_refl b)) ∙ e in cc)
 
@@ -92,19 +92,24 @@ post_home y x o i h = go (same_name y o.node.mint.name) refl
     go true e = Homely-push (λ p. is_stranger o.node p) o.node.local x h (i e)
     go false e = sent (route o.node y)
 
+-- the payload changes nothing there
+home_pay : (f : Pid → Bool) (s : Signal) (u v : Bool) → HomeItem f (Signalled s u) → HomeItem f (Signalled s v)
+home_pay f s u v h a b n = h a b (λ e. n (news_pay a b s v u ∙ e))
+
 abbrev pub PostsHome : Name → (Pid → Bool) → List Signal → Type 0
 PostsHome z f [] = Unit {0}
-PostsHome z f (e ∷ es) = (same_name (receiver_of e).node z ≡ true → HomeItem f (Signalled e)) × PostsHome z f es
+PostsHome z f (e ∷ es) = (same_name (receiver_of e).node z ≡ true → HomeItem f (Signalled e false)) × PostsHome z f es
 
 pub post_all_home : (es : List Signal) (o : Work) → PostsHome o.node.mint.name (λ p. is_stranger o.node p) es → home_of o.node
     → home_of ((post_all es o).node)
 post_all_home [] o i h = h
 post_all_home (e ∷ es) o i h = post_all_home es (post e o)
     (subst (λ f. PostsHome ((post e o).node.mint.name) f es)
-    (sym (λ j p. post_keeps (λ n. is_stranger n p) (λ n m. refl) (receiver_of e).node (Signalled e) o j))
+    (sym (λ j p. post_keeps (λ n. is_stranger n p) (λ n m. refl) (receiver_of e).node (spelled o.node e) o j))
     (subst (λ z. PostsHome z (λ p. is_stranger o.node p) es)
-    (sym (post_keeps (λ n. n.mint.name) (λ n m. refl) (receiver_of e).node (Signalled e) o)) i.1))
-    (post_home (receiver_of e).node (Signalled e) o i.0 h)
+    (sym (post_keeps (λ n. n.mint.name) (λ n m. refl) (receiver_of e).node (spelled o.node e) o)) i.1))
+    (post_home (receiver_of e).node (spelled o.node e) o
+    (λ j. home_pay (λ p. is_stranger o.node p) e false (has_reason e && payload_to o.node (receiver_of e).node) (i.0 j)) h)
 
 pub PostsHome-append : (z : Name) (f : Pid → Bool) (xs ys : List Signal) → PostsHome z f xs → PostsHome z f ys → PostsHome z f (xs ++ ys)
 PostsHome-append z f [] ys a b = b
@@ -131,7 +136,7 @@ exits_home z f p r (e ∷ es) hp h s =
       λ nm. let d : (f e.0.1 ≡ false) × (same_pid p e.0.1 ≡ false) = subst (λ u. (f e.0.1 ≡ false)
           × (same_pid u e.0.1 ≡ false)) (same_pid_true e.0.0 p j) (h e
           (ap (λ c. cond (is_eq c) (Some e.1) (find pair_cmp e.0 es)) (tied_itself pair_total e.0))
-          (λ a. let c : End.Active ≡ End.None = i ∙ a in cc) nm) in home_said f p e.0.1 (Exited r) (hp, d.0, d.1),
+          (λ a. let c : End.Active ≡ End.None = i ∙ a in cc) nm) in home_said f p e.0.1 (Exited r) false (hp, d.0, d.1),
       tt,
     )
     own _ j _ i = tt
@@ -184,4 +189,4 @@ post_routed y x o a = go (same_name y o.node.mint.name)
 pub post_all_routed : (es : List Signal) (o : Work) → AllRouted o.node.sides (outgoing o)
     → AllRouted ((post_all es o).node.sides) (outgoing (post_all es o))
 post_all_routed [] o a = a
-post_all_routed (e ∷ es) o a = post_all_routed es (post e o) (post_routed (receiver_of e).node (Signalled e) o a)
+post_all_routed (e ∷ es) o a = post_all_routed es (post e o) (post_routed (receiver_of e).node (spelled o.node e) o a)

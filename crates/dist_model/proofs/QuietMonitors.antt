@@ -50,12 +50,12 @@ module _ (w : World) (h : History) (t : Tale w h) (k : Reference) (p q : Pid) (m
   named r a b e c = both a b refl (subst (λ z. Monitored z a b h) (sym (same_reference_true k r e)) c)
 
   call_of : (i : Item) → IsFounded w h i → is_call k i ≡ true → is_signal_of p q i ≡ true
-  call_of (Signalled (Signal.Monitor a b r)) f e =
+  call_of (Signalled (Signal.Monitor a b r) pay) f e =
       let o = named r a b e f in ap (λ c. c && same_pid b q) (same_pid_is a p o.0) ∙ same_pid_is b q o.1
   call_of _ f e = cc
 
   end_of : (i : Item) → IsFounded w h i → is_end k i ≡ true → is_signal_of q p i ≡ true
-  end_of (Signalled (Signal.MonitorExit b a r z)) f e =
+  end_of (Signalled (Signal.MonitorExit b a r z) pay) f e =
       let o = named r a b e f.1 in ap (λ c. c && same_pid a p) (same_pid_is b q o.1) ∙ same_pid_is a p o.0
   end_of _ f e = cc
 

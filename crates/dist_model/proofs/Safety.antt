@@ -52,10 +52,10 @@ silent_signals p q (x ∷ xs) h =
     neither _ _ h = cc
 
     unnamed : (p q : Pid) (x : Item) → is_signal_of p q x ≡ false → news_in p q x ≡ []
-    unnamed p q (Signalled (Signal.Link a b)) h = ap (λ t. cond t (Signals LinkSignal.Link ∷ []) []) h
-    unnamed p q (Signalled (Signal.Exit a b r)) h = ap (λ t. cond t (Exited r ∷ []) []) h
-    unnamed p q (Signalled (Signal.UnlinkId i a b)) h = ap (λ t. cond t (Signals (LinkSignal.Unlink i) ∷ []) []) h
-    unnamed p q (Signalled (Signal.UnlinkIdAck i a b)) h = ap (λ t. cond t (Signals (LinkSignal.Ack i) ∷ []) []) h
+    unnamed p q (Signalled (Signal.Link a b) pay) h = ap (λ t. cond t (Signals LinkSignal.Link ∷ []) []) h
+    unnamed p q (Signalled (Signal.Exit a b r) pay) h = ap (λ t. cond t (Exited r ∷ []) []) h
+    unnamed p q (Signalled (Signal.UnlinkId i a b) pay) h = ap (λ t. cond t (Signals (LinkSignal.Unlink i) ∷ []) []) h
+    unnamed p q (Signalled (Signal.UnlinkIdAck i a b) pay) h = ap (λ t. cond t (Signals (LinkSignal.Ack i) ∷ []) []) h
     unnamed p q _ h = refl
 
 not_active : {P : Type 0} (e : End) → e ≡ End.None → e ≡ End.Active → P

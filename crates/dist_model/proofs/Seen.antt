@@ -1,5 +1,5 @@
 -- What is seen of a node, if there is one, and of maps that hold nothing for a key.
-use Rattle.std.proofs.Common.{cond, map, ℕ, Bool, false, List, [], Option, None, ◌||◌}
+use Rattle.std.proofs.Common.{cond, map, Bool, false, List, [], Option, None, ◌||◌}
 use Rattle.std.specs.Option.{is_some, unwrap_or}
 use Rattle.std.specs.FinMap as fm
 use Rattle.dist_model.specs.Items.{Item, news, telling}

@@ -42,7 +42,7 @@ use Rattle.dist_model.specs.Node.{Node, end_of, living, is_stranger, reaches, si
 use Rattle.dist_model.specs.Runs.{Always, opening}
 use Rattle.dist_model.specs.Sides.{AwaitsStatus, is_gone, is_losing, TrunkSide, Accepting, Gone}
 use Rattle.dist_model.specs.Taking.{take_item}
-use Rattle.dist_model.specs.Work.{Work, at_work, draw, post, post_all, put, report, set_end}
+use Rattle.dist_model.specs.Work.{Work, at_work, draw, post, post_all, put, report, set_end, spelled}
 use Rattle.dist_model.specs.declared.report.Effect.{Effect}
 use Rattle.dist_model.specs.World.{Arrive, Call, Dial, Event, Local, Lose, Start, Stop, Sweep}
 use Rattle.dist_model.specs.World.{World, came_of, list_to, node_name, node_of, set_node, step_at}
@@ -71,11 +71,11 @@ use Rattle.erl_handshake.specs.declared.setup.Setup.{Setup}
 use Rattle.dist_model.specs.Sides.{untold}
 
 abbrev pub Sendable : Item → Type 0
-Sendable (Signalled s) = IsSendable s
+Sendable (Signalled s pay) = IsSendable s
 Sendable _ = Unit {0}
 
 abbrev One : Signal → Type 0
-One s = Sendable (Signalled s)
+One s = Sendable (Signalled s false)
 
 abbrev AllSendable : List Signal → Type 0
 AllSendable ss = All One ss
@@ -110,7 +110,7 @@ abbrev X : Work → Type 0
 X = Carried Sendable
 
 posted : (s : Signal) (o : Work) → IsSendable s → X o → X (post s o)
-posted s o h k = carried_post Sendable (receiver_of s).node (Signalled s) o h k
+posted s o h k = carried_post Sendable (receiver_of s).node (spelled o.node s) o h k
 
 -- nothing is sent on a trunk
 same : (o o' : Work) → o'.node.local ≡ o.node.local → outgoing o' ≡ outgoing o → X o → X o'
@@ -155,7 +155,8 @@ finished p x o f k =
     let a = exits p x (ends_of o.node p) in
     let b = monitor_exits p x (fm.entries o.node.registered) in
     let c = demonitors p (fm.entries o.node.watches) in
-    silent (post_all ((a ++ b) ++ c) o) (end_process p x o) (Effect.Ended p x) refl refl refl (carried_all Sendable ((a ++ b) ++ c) o
+    silent (post_all ((a ++ b) ++ c) o) (end_process p x o) (Effect.Ended p x) refl refl refl
+    (carried_all Sendable (λ s pay c. c) ((a ++ b) ++ c) o
     (All-append One (a ++ b) c (All-append One a b (exits_sendable p x (ends_of o.node p) f)
     (monitor_exits_sendable p x (fm.entries o.node.registered) f)) (demonitors_sendable p (fm.entries o.node.watches))) k)
 
@@ -195,23 +196,23 @@ link_taken p q s o h k = go (living o.node p)
     go true =
         let o1 = set_end p q (heard (end_of o.node p q) s) o in
         followed (end_of o.node p q) s p q (post_all (replies p q (reply false s)) o1) h
-        (carried_all Sendable (replies p q (reply false s)) o1 (replied false p q s h) (same o o1 refl refl k))
-    go false = carried_all Sendable (replies p q (reply true s)) o (replied true p q s h) k
+        (carried_all Sendable (λ s pay c. c) (replies p q (reply false s)) o1 (replied false p q s h) (same o o1 refl refl k))
+    go false = carried_all Sendable (λ s pay c. c) (replies p q (reply true s)) o (replied true p q s h) k
 
 taken : (i : Item) (o : Work) → Sendable i → X o → X (take_item i o)
-taken (Signalled (Signal.Link q p)) o h k = link_taken p q (Signals LinkSignal.Link) o h k
-taken (Signalled (Signal.Exit q p x)) o h k = link_taken p q (Exited x) o h k
-taken (Signalled (Signal.UnlinkId i q p)) o h k = link_taken p q (Signals (LinkSignal.Unlink i)) o h k
-taken (Signalled (Signal.UnlinkIdAck i q p)) o h k = link_taken p q (Signals (LinkSignal.Ack i)) o h k
-taken (Signalled (Signal.Send p m)) o h k = either (living o.node p) (put p m o) o
+taken (Signalled (Signal.Link q p) pay) o h k = link_taken p q (Signals LinkSignal.Link) o h k
+taken (Signalled (Signal.Exit q p x) pay) o h k = link_taken p q (Exited x) o h k
+taken (Signalled (Signal.UnlinkId i q p) pay) o h k = link_taken p q (Signals (LinkSignal.Unlink i)) o h k
+taken (Signalled (Signal.UnlinkIdAck i q p) pay) o h k = link_taken p q (Signals (LinkSignal.Ack i)) o h k
+taken (Signalled (Signal.Send p m) pay) o h k = either (living o.node p) (put p m o) o
     (silent o (put p m o) (Effect.Put p m) refl refl refl k) k
-taken (Signalled (Signal.Exit2 q p x)) o h k = either (living o.node p) _ o
+taken (Signalled (Signal.Exit2 q p x) pay) o h k = either (living o.node p) _ o
     (reacted (traps_life (fm.get o.node.lives p)) (sent_exit p q x) p o h.1 k) k
-taken (Signalled (Signal.Monitor p q r)) o h k = either (living o.node q) _ _ (same o (register r (monitor_of p q) o) refl refl k)
+taken (Signalled (Signal.Monitor p q r) pay) o h k = either (living o.node q) _ _ (same o (register r (monitor_of p q) o) refl refl k)
     (posted (Signal.MonitorExit q p r noproc) o (tt, noproc_fits) k)
-taken (Signalled (Signal.Demonitor p q r)) o h k = either (is_held o.node.registered r (monitor_of p q)) (unregister r o) o
+taken (Signalled (Signal.Demonitor p q r) pay) o h k = either (is_held o.node.registered r (monitor_of p q)) (unregister r o) o
     (same o (unregister r o) refl refl k) k
-taken (Signalled (Signal.MonitorExit q p r x)) o h k = either (living o.node p && is_held o.node.watches r (monitor_of p q)) _ o
+taken (Signalled (Signal.MonitorExit q p r x) pay) o h k = either (living o.node p && is_held o.node.watches r (monitor_of p q)) _ o
     (silent o (put p (down_term r q x) (unwatch r o)) (Effect.Put p (down_term r q x)) refl refl refl k) k
 taken _ o h k = k
 
@@ -413,12 +414,13 @@ abbrev kept : (Holds : World → Type 0) → ((w : World) → Travels w → Hold
 kept Holds = always_kept Travels (λ w e g. travels_at w (node_of w.nodes (node_name e)) e refl g) Holds opens
 
 pub every_signal_fits : Always EverySignalFits
-every_signal_fits = kept EverySignalFits (λ w g t x s c. All-contains Sendable (list_to w.lists t x) (Signalled s) (g.lists t x) c)
+every_signal_fits = kept EverySignalFits (λ w g t x s pay c. All-contains Sendable (list_to w.lists t x) (Signalled s pay) (g.lists t x) c)
 
 pub every_signal_fits_within : Always EverySignalFitsWithin
-every_signal_fits_within = kept EverySignalFitsWithin (λ w g x s c. go w g s (node_of w.nodes x) x refl c)
+every_signal_fits_within = kept EverySignalFitsWithin (λ w g x s pay c. go w g s pay (node_of w.nodes x) x refl c)
   where
-    go : (w : World) → Travels w → (s : Signal) (o : Option Node) (x : Name) → node_of w.nodes x ≡ o → Contains (local_at o) (Signalled s)
+    go : (w : World) → Travels w → (s : Signal) (pay : Bool) (o : Option Node) (x : Name) → node_of w.nodes x ≡ o
+        → Contains (local_at o) (Signalled s pay)
         → IsSendable s
-    go w g s None x e c = let lt = c.1 in absurd (omega arith)
-    go w g s (Some n) x e c = All-contains Sendable n.local (Signalled s) (local_of w.nodes x n e g.locals) c
+    go w g s pay None x e c = let lt = c.1 in absurd (omega arith)
+    go w g s pay (Some n) x e c = All-contains Sendable n.local (Signalled s pay) (local_of w.nodes x n e g.locals) c

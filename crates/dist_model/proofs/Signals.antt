@@ -110,13 +110,14 @@ module _ (w : World) (x : Name) (n : Node) (t0 : TrunkId) (s0 : TrunkSide) (i : 
   after : After n (take_item i (at_work n))
   after = go (kind i)
     where
-      go : ((p q : Pid) → news_in p q i ≡ []) ⊎ ((q : Pid) × (p : Pid) × (s : LinkNews) × (i ≡ Signalled (telling q p s)))
+      go : ((p q : Pid) → news_in p q i ≡ [])
+          ⊎ ((q : Pid) × (p : Pid) × (s : LinkNews) × (pay : Bool) × (i ≡ Signalled (telling q p s) pay))
           → After n (take_item i (at_work n))
       go (inl h) = after_plain i h
       go (inr h) =
-          subst (λ z. After n (take_item z (at_work n))) (sym h.3) (subst (λ z. After n z)
+          subst (λ z. After n (take_item z (at_work n))) (sym h.4) (subst (λ z. After n z)
           (sym (taken_link h.0 h.1 h.2 (at_work n)))
-          (after_link h.0 h.1 h.2 (sym (good_link n s0 h.0 h.1 h.2) ∙ sym (ap (is_good n s0) h.3) ∙ good)))
+          (after_link h.0 h.1 h.2 (sym (good_link n s0 h.0 h.1 h.2 h.3) ∙ sym (ap (is_good n s0) h.4) ∙ good)))
 
   some_first : (o : Option (List Item)) → list_in o ≡ i ∷ rest → is_some o ≡ true
   some_first None h = cc
@@ -227,20 +228,20 @@ good_local w x n i xs hx g first = go (kind i) (subst (λ l. Homely (λ p. is_st
         (local_core w x n j xs hx g e f.sides f.name (f.keeps k1) f.grows f.draws (f.routed tt) (λ p q b c far r k. f.views k1 b p q c r k))
         f.sides f.dialed f.name (f.routed tt) (f.home k1 (rest_home w x n j xs hx g e))
 
-    linking : (q0 p0 : Pid) (s : LinkNews) → n.local ≡ Signalled (telling q0 p0 s) ∷ xs → is_stranger n q0 ≡ false
-        → is_stranger n p0 ≡ false → same_pid q0 p0 ≡ false → Good (after_local w x n xs (Signalled (telling q0 p0 s)))
-    linking q0 p0 s e hq hp two =
+    linking : (q0 p0 : Pid) (s : LinkNews) (pay : Bool) → n.local ≡ Signalled (telling q0 p0 s) pay ∷ xs → is_stranger n q0 ≡ false
+        → is_stranger n p0 ≡ false → same_pid q0 p0 ≡ false → Good (after_local w x n xs (Signalled (telling q0 p0 s) pay))
+    linking q0 p0 s pay e hq hp two =
         let f : Takes p0 q0 s (at_work (record n { local = xs })) (take (telling q0 p0 s) (at_work (record n { local = xs }))) =
         subst (λ z. Takes p0 q0 s (at_work (record n { local = xs })) z)
         (sym (taken_link q0 p0 s (at_work (record n { local = xs }))))
         (takes_link p0 q0 s (at_work (record n { local = xs })) (λ z. (hq, same_pid_sym q0 p0 two)) hp) in
-        let k1 = kl w x n (Signalled (telling q0 p0 s)) xs hx g e in
+        let k1 = kl w x n (Signalled (telling q0 p0 s) pay) xs hx g e in
         let own : same_name q0.node n.mint.name ≡ true = never_own n q0 hq in
         let hd : held n q0.node ≡ true = reach_held n q0.node (own_reached n q0.node own) in
-        good_local_by w x n (Signalled (telling q0 p0 s)) xs hx g e
-        (local_core w x n (Signalled (telling q0 p0 s)) xs hx g e f.sides f.name (f.keeps k1 hd) f.grows f.draws (f.routed tt)
+        good_local_by w x n (Signalled (telling q0 p0 s) pay) xs hx g e
+        (local_core w x n (Signalled (telling q0 p0 s) pay) xs hx g e f.sides f.name (f.keeps k1 hd) f.grows f.draws (f.routed tt)
         (λ p q b c far r k. f.others k1 hd b p q c r (not_this p q q0 own far (same_pid p p0)) k))
-        f.sides f.dialed f.name (f.routed tt) (f.home k1 hd (rest_home w x n (Signalled (telling q0 p0 s)) xs hx g e))
+        f.sides f.dialed f.name (f.routed tt) (f.home k1 hd (rest_home w x n (Signalled (telling q0 p0 s) pay) xs hx g e))
       where
         not_this : (p q q0 : Pid) → same_name q0.node n.mint.name ≡ true → same_name q.node n.mint.name ≡ false → (b : Bool)
             → (b && same_pid q q0) ≡ false
@@ -248,10 +249,10 @@ good_local w x n i xs hx g first = go (kind i) (subst (λ l. Homely (λ p. is_st
             (λ i. let c : true ≡ false = sym own ∙ ap (λ (v : Pid). same_name v.node n.mint.name) (sym (same_pid_true q q0 i)) ∙ far in cc)
             (λ i. i))
 
-    go : ((p q : Pid) → news_in p q i ≡ []) ⊎ ((q : Pid) × (p : Pid) × (s : LinkNews) × (i ≡ Signalled (telling q p s)))
+    go : ((p q : Pid) → news_in p q i ≡ []) ⊎ ((q : Pid) × (p : Pid) × (s : LinkNews) × (pay : Bool) × (i ≡ Signalled (telling q p s) pay))
         → HomeItem (λ p. is_stranger n p) i → Good (after_local w x n xs i)
     go (inl h) m = plain i first h
     go (inr h) m =
         let v : (is_stranger n h.0 ≡ false) × (is_stranger n h.1 ≡ false) × (same_pid h.0 h.1 ≡ false) =
-        home_saying (λ p. is_stranger n p) h.0 h.1 h.2 (subst (λ z. HomeItem (λ p. is_stranger n p) z) h.3 m) in
-        subst (λ z. Good (after_local w x n xs z)) (sym h.3) (linking h.0 h.1 h.2 (first ∙ ap (λ z. z ∷ xs) h.3) v.0 v.1 v.2)
+        home_saying (λ p. is_stranger n p) h.0 h.1 h.2 h.3 (subst (λ z. HomeItem (λ p. is_stranger n p) z) h.4 m) in
+        subst (λ z. Good (after_local w x n xs z)) (sym h.4) (linking h.0 h.1 h.2 h.3 (first ∙ ap (λ z. z ∷ xs) h.4) v.0 v.1 v.2)

@@ -87,11 +87,13 @@ joined_asks (AwaitsAck w) h = refl
 joined_asks Up h = refl
 joined_asks _ h = cc
 
-pub signal_miss : (a b q p : Pid) (s : LinkNews) → (same_pid a q && same_pid b p) ≡ false → news_in q p (Signalled (telling a b s)) ≡ []
-signal_miss a b q p s h = telling_news a b q p s ∙ ap (λ t. cond t (s ∷ []) []) h
+pub signal_miss : (a b q p : Pid) (s : LinkNews) (pay : Bool) → (same_pid a q && same_pid b p) ≡ false
+    → news_in q p (Signalled (telling a b s) pay) ≡ []
+signal_miss a b q p s pay h = telling_news a b q p s pay ∙ ap (λ t. cond t (s ∷ []) []) h
 
-pub signal_hit : (a b q p : Pid) (s : LinkNews) → (same_pid a q && same_pid b p) ≡ true → news_in q p (Signalled (telling a b s)) ≡ s ∷ []
-signal_hit a b q p s h = telling_news a b q p s ∙ ap (λ t. cond t (s ∷ []) []) h
+pub signal_hit : (a b q p : Pid) (s : LinkNews) (pay : Bool) → (same_pid a q && same_pid b p) ≡ true
+    → news_in q p (Signalled (telling a b s) pay) ≡ s ∷ []
+signal_hit a b q p s pay h = telling_news a b q p s pay ∙ ap (λ t. cond t (s ∷ []) []) h
 
 module _ (w : World) (x : Name) (n : Node) (t0 : TrunkId) (s0 : TrunkSide) (i : Item) (rest : List Item) (o : Work)
     (hx : node_of w.nodes x ≡ Some n)
@@ -216,16 +218,18 @@ pub taken_link : (q p : Pid) (s : LinkNews) (o : Work) → take (telling q p s) 
 taken_link q p (Signals LinkSignal.Link) o = refl
 taken_link q p _ o = refl
 
-pub good_link : (n : Node) (v : TrunkSide) (q p : Pid) (s : LinkNews) → is_good n v (Signalled (telling q p s)) ≡ (is_from v q && is_to n p)
-good_link n v q p (Signals LinkSignal.Link) = refl
-good_link n v q p _ = refl
+pub good_link : (n : Node) (v : TrunkSide) (q p : Pid) (s : LinkNews) (pay : Bool)
+    → is_good n v (Signalled (telling q p s) pay) ≡ (is_from v q && is_to n p)
+good_link n v q p (Signals LinkSignal.Link) pay = refl
+good_link n v q p _ pay = refl
 
 -- about a link, or not
-pub kind : (i : Item) → ((p q : Pid) → news_in p q i ≡ []) ⊎ ((q : Pid) × (p : Pid) × (s : LinkNews) × (i ≡ Signalled (telling q p s)))
-kind (Signalled (Signal.Link q p)) = inr (q, p, Signals LinkSignal.Link, refl)
-kind (Signalled (Signal.Exit q p r)) = inr (q, p, Exited r, refl)
-kind (Signalled (Signal.UnlinkId i q p)) = inr (q, p, Signals (LinkSignal.Unlink i), refl)
-kind (Signalled (Signal.UnlinkIdAck i q p)) = inr (q, p, Signals (LinkSignal.Ack i), refl)
+pub kind : (i : Item) → ((p q : Pid) → news_in p q i ≡ [])
+    ⊎ ((q : Pid) × (p : Pid) × (s : LinkNews) × (pay : Bool) × (i ≡ Signalled (telling q p s) pay))
+kind (Signalled (Signal.Link q p) pay) = inr (q, p, Signals LinkSignal.Link, pay, refl)
+kind (Signalled (Signal.Exit q p r) pay) = inr (q, p, Exited r, pay, refl)
+kind (Signalled (Signal.UnlinkId i q p) pay) = inr (q, p, Signals (LinkSignal.Unlink i), pay, refl)
+kind (Signalled (Signal.UnlinkIdAck i q p) pay) = inr (q, p, Signals (LinkSignal.Ack i), pay, refl)
 kind _ = inl (λ a b. refl)
 
 module _ (w : World) (x : Name) (n : Node) (t0 : TrunkId) (s0 : TrunkSide) (rest : List Item) (hx : node_of w.nodes x ≡ Some n)
@@ -244,13 +248,14 @@ module _ (w : World) (x : Name) (n : Node) (t0 : TrunkId) (s0 : TrunkSide) (rest
       (λ p q b c s l e r. let z : s ∷ [] ≡ [] = sym e ∙ none q p in cc)
       (λ p q. inl (none q p))
 
-  linking : (q0 p0 : Pid) (s : LinkNews) → list_to w.lists t0 x ≡ Signalled (telling q0 p0 s) ∷ rest → (is_from s0 q0 && is_to n p0) ≡ true
+  linking : (q0 p0 : Pid) (s : LinkNews) (pay : Bool) → list_to w.lists t0 x ≡ Signalled (telling q0 p0 s) pay ∷ rest
+      → (is_from s0 q0 && is_to n p0) ≡ true
       → WorldKept (record {
         names = w.names;
         nodes = set_node w.nodes x ((take_link p0 q0 s (at_work n)).node);
         lists = carried (fm.insert w.lists (t0, x) rest) ((take_link p0 q0 s (at_work n)).effects);
       })
-  linking q0 p0 s first good =
+  linking q0 p0 s pay first good =
       let g = and_parts (is_from s0 q0) (is_to n p0) good in
       let from : q0.node ≡ s0.peer = is_from_peer s0 q0 g.0 in
       let f =
@@ -259,30 +264,30 @@ module _ (w : World) (x : Name) (n : Node) (t0 : TrunkId) (s0 : TrunkSide) (rest
       (not_never n p0 g.1) in
       let kn = k.nodes x n hx in
       let hd : held n q0.node ≡ true = ap (held n) from ∙ reach_held n s0.peer (reach_up n t0 s0 (k.sides x n hx) h0 u0) in
-      arrived w x n t0 s0 (Signalled (telling q0 p0 s)) rest (take_link p0 q0 s (at_work n)) hx h0 u0 first k f.sides f.name
+      arrived w x n t0 s0 (Signalled (telling q0 p0 s) pay) rest (take_link p0 q0 s (at_work n)) hx h0 u0 first k f.sides f.name
       (f.keeps kn hd) f.grows f.draws (f.routed tt)
       (λ p q b c e r. f.others kn hd b p q c r (miss p q e))
       (λ p q b c u l e r. hit p q b c u l e r f kn hd)
       (λ p q. by_test _ (same_pid q0 q && same_pid p0 p)
       (λ h. inr (
         s,
-        signal_hit q0 p0 q p s h,
+        signal_hit q0 p0 q p s pay h,
         ap (λ (v : Pid). v.node) (sym (same_pid_true q0 q (and_parts (same_pid q0 q) (same_pid p0 p) h).0)) ∙ from,
       ))
-      (λ h. inl (signal_miss q0 p0 q p s h)))
+      (λ h. inl (signal_miss q0 p0 q p s pay h)))
     where
-      miss : (p q : Pid) → news_in q p (Signalled (telling q0 p0 s)) ≡ [] → (same_pid p p0 && same_pid q q0) ≡ false
+      miss : (p q : Pid) → news_in q p (Signalled (telling q0 p0 s) pay) ≡ [] → (same_pid p p0 && same_pid q q0) ≡ false
       miss p q e = by_test _ (same_pid p p0 && same_pid q q0)
           (λ h.
           let v = and_parts (same_pid p p0) (same_pid q q0) h in
           let c : (same_pid q0 q && same_pid p0 p) ≡ true =
           ap (λ t. t && same_pid p0 p) (same_pid_is q0 q (sym (same_pid_true q q0 v.1)))
           ∙ same_pid_is p0 p (sym (same_pid_true p p0 v.0)) in
-          let z : s ∷ [] ≡ [] = sym (signal_hit q0 p0 q p s c) ∙ e in cc)
+          let z : s ∷ [] ≡ [] = sym (signal_hit q0 p0 q p s pay c) ∙ e in cc)
           (λ h. h)
 
       hit : (p q : Pid) (b : List LinkNews) (c : Side) (u : LinkNews) (l : List LinkNews)
-          → news_in q p (Signalled (telling q0 p0 s)) ≡ u ∷ [] → reaches n q.node ≡ true
+          → news_in q p (Signalled (telling q0 p0 s) pay) ≡ u ∷ [] → reaches n q.node ≡ true
           → Takes p0 q0 s (at_work n) (take_link p0 q0 s (at_work n)) → NodeKept n → held n q0.node ≡ true
           → Kept (view b (at_work n) p q) (with_sent c (u ∷ l)) → Kept (view b (take_link p0 q0 s (at_work n)) p q) (with_sent c l)
       hit p q b c u l e r f kn hd old = by_test _ (same_pid q0 q && same_pid p0 p)
@@ -290,7 +295,7 @@ module _ (w : World) (x : Name) (n : Node) (t0 : TrunkId) (s0 : TrunkSide) (rest
           let v = and_parts (same_pid q0 q) (same_pid p0 p) h in
           let qe : q0 ≡ q = same_pid_true q0 q v.0 in
           let pe : p0 ≡ p = same_pid_true p0 p v.1 in
-          let both : s ∷ [] ≡ u ∷ [] = sym (signal_hit q0 p0 q p s h) ∙ e in
+          let both : s ∷ [] ≡ u ∷ [] = sym (signal_hit q0 p0 q p s pay h) ∙ e in
           let ue : u ≡ s = cc in
           subst (λ z. Kept (view b (take_link p0 q0 s (at_work n)) z q) (with_sent c l)) pe
           (subst (λ z. Kept (view b (take_link p0 q0 s (at_work n)) p0 z) (with_sent c l)) qe
@@ -298,7 +303,7 @@ module _ (w : World) (x : Name) (n : Node) (t0 : TrunkId) (s0 : TrunkSide) (rest
           (subst (λ z. Kept (view b (at_work n) p0 z) (with_sent c (s ∷ l))) (sym qe)
           (subst (λ z. Kept (view b (at_work n) z q) (with_sent c (s ∷ l))) (sym pe)
           (subst (λ z. Kept (view b (at_work n) p q) (with_sent c (z ∷ l))) ue old))))))
-          (λ h. let z : u ∷ [] ≡ [] = sym e ∙ signal_miss q0 p0 q p s h in cc)
+          (λ h. let z : u ∷ [] ≡ [] = sym e ∙ signal_miss q0 p0 q p s pay h in cc)
 
   abbrev taken : Item → Type 0
   taken i =
@@ -312,12 +317,14 @@ module _ (w : World) (x : Name) (n : Node) (t0 : TrunkId) (s0 : TrunkSide) (rest
   pub good_item : (i : Item) → list_to w.lists t0 x ≡ i ∷ rest → is_good n s0 i ≡ true → taken i
   good_item i first good = go (kind i)
     where
-      go : ((p q : Pid) → news_in p q i ≡ []) ⊎ ((q : Pid) × (p : Pid) × (s : LinkNews) × (i ≡ Signalled (telling q p s))) → taken i
+      go : ((p q : Pid) → news_in p q i ≡ [])
+          ⊎ ((q : Pid) × (p : Pid) × (s : LinkNews) × (pay : Bool) × (i ≡ Signalled (telling q p s) pay)) → taken i
       go (inl h) = plain i first h
-      go (inr h) = subst (λ z. taken z) (sym h.3)
+      go (inr h) = subst (λ z. taken z) (sym h.4)
           (subst (λ (z : Work). WorldKept (record {
             names = w.names;
             nodes = set_node w.nodes x z.node;
             lists = carried (fm.insert w.lists (t0, x) rest) z.effects;
           })) (sym (taken_link h.0 h.1 h.2 (at_work n)))
-          (linking h.0 h.1 h.2 (first ∙ ap (λ z. z ∷ rest) h.3) (sym (good_link n s0 h.0 h.1 h.2) ∙ sym (ap (is_good n s0) h.3) ∙ good)))
+          (linking h.0 h.1 h.2 h.3 (first ∙ ap (λ z. z ∷ rest) h.4)
+          (sym (good_link n s0 h.0 h.1 h.2 h.3) ∙ sym (ap (is_good n s0) h.4) ∙ good)))

@@ -5,12 +5,11 @@ use Rattle.dist_model.proofs.Keys.{end_set_same}
 use Rattle.dist_model.proofs.Views.{post_keeps}
 use Rattle.dist_model.specs.Commands.{Accepts, with_id, Accepts, Refuses}
 use Rattle.dist_model.specs.declared.report.Answer.{Answer}
-use Rattle.dist_model.specs.Items.{Signalled}
 use Rattle.erl_control.specs.Ends.{receiver_of}
 use Rattle.dist_model.specs.Linking.{link_by, link_new, unlink_as, unlink_by}
 use Rattle.dist_model.specs.Node.{Node, end_of, reaches}
 use Rattle.dist_model.specs.Tabled.{links_by_table, unlinks_by_table}
-use Rattle.dist_model.specs.Work.{Work, at_work, draw, post, set_end}
+use Rattle.dist_model.specs.Work.{Work, at_work, draw, post, set_end, spelled}
 use Rattle.erl_control.specs.declared.signal.Signal.{Signal}
 use Rattle.erl_names.specs.Minted.{id_of}
 use Rattle.erl_term.specs.declared.refusal.Refusal.{Refusal}
@@ -21,7 +20,8 @@ use Rattle.link_core.specs.declared.end.End.{End}
 module _ (n : Node) (p q : Pid) where
   set_and_posted : (e : End) (s : Signal) (o : Work) → end_of ((post s (set_end p q e o)).node) p q ≡ e
   set_and_posted e s o =
-      post_keeps (λ m. end_of m p q) (λ m l. refl) (receiver_of s).node (Signalled s) (set_end p q e o) ∙ end_set_same o.node.ends p q e
+      post_keeps (λ m. end_of m p q) (λ m l. refl) (receiver_of s).node (spelled (set_end p q e o).node s) (set_end p q e o)
+      ∙ end_set_same o.node.ends p q e
 
   link_made : reaches n q.node ≡ true → (e : End) → link_by e p q (at_work n) ≡ links_by_table e p q (at_work n)
   link_made r End.Active = refl

@@ -12,7 +12,7 @@ use Rattle.erl_control.specs.Ends.{receiver_of}
 use Rattle.dist_model.specs.Linking.{exit_follows, take_link, take_link_by}
 use Rattle.dist_model.specs.Names.{Name, same_name, same_pid}
 use Rattle.dist_model.specs.Node.{end_of, living, is_stranger, reaches}
-use Rattle.dist_model.specs.Work.{Work, post, post_all, set_end}
+use Rattle.dist_model.specs.Work.{Work, post, post_all, set_end, spelled}
 use Rattle.erl_control.specs.declared.signal.Signal.{Signal}
 use Rattle.erl_term.specs.declared.term.Pid.{Pid}
 use Rattle.link_core.specs.declared.end.End.{End}
@@ -62,7 +62,7 @@ takes_then x y s a b c f g = record {
 suits_replies : (p q x y : Pid) (ss : List LinkNews) → AllSuit p q (replies x y ss)
 suits_replies p q x y [] = tt
 suits_replies p q x y (s ∷ ss) = (
-  subst (λ (z : Pid). Suits z.node (Signalled (telling x y s)) p q) (sym (telling_receiver x y s)) (linking_suits x y p q s),
+  subst (λ (z : Pid). Suits z.node (Signalled (telling x y s) false) p q) (sym (telling_receiver x y s)) (linking_suits x y p q s false),
   suits_replies p q x y ss,
 )
 
@@ -70,16 +70,16 @@ posted_replies : (t : Bool) (p q x y : Pid) (ss : List LinkNews) → (same_pid x
     → posted p q (replies x y ss) ≡ cond t ss []
 posted_replies true p q x y [] h = refl
 posted_replies true p q x y (s ∷ ss) h =
-    ap (λ l. l ++ posted p q (replies x y ss)) (telling_news x y p q s)
+    ap (λ l. l ++ posted p q (replies x y ss)) (telling_news x y p q s false)
     ∙ ap (λ t. cond t (s ∷ []) [] ++ posted p q (replies x y ss)) h ∙ ap (λ l. s ∷ l) (posted_replies true p q x y ss h)
 posted_replies false p q x y [] h = refl
 posted_replies false p q x y (s ∷ ss) h =
-    ap (λ l. l ++ posted p q (replies x y ss)) (telling_news x y p q s)
+    ap (λ l. l ++ posted p q (replies x y ss)) (telling_news x y p q s false)
     ∙ ap (λ t. cond t (s ∷ []) [] ++ posted p q (replies x y ss)) h ∙ posted_replies false p q x y ss h
 
 post_all_kept : (es : List Signal) (o : Work) → NodeKept o.node → NodeKept ((post_all es o).node)
 post_all_kept [] o k = k
-post_all_kept (e ∷ es) o k = post_all_kept es (post e o) (post_kept (receiver_of e).node (Signalled e) o k)
+post_all_kept (e ∷ es) o k = post_all_kept es (post e o) (post_kept (receiver_of e).node (spelled o.node e) o k)
 
 one_pair : (x y : Pid) → (same_pid x x && same_pid y y) ≡ true
 one_pair x y = ap (λ t. t && same_pid y y) (same_pid_refl x) ∙ same_pid_refl y
@@ -103,7 +103,7 @@ replies_home : (z : Name) (f : Pid → Bool) (x y : Pid) (ss : List LinkNews) �
 replies_home z f x y [] hx hy = tt
 replies_home z f x y (s ∷ ss) hx hy = (
   λ e. let d = hy (ap (λ (u : Pid). same_name u.node z) (sym (telling_receiver x y s)) ∙ e) in
-      home_said f x y s (hx, d.0, d.1),
+      home_said f x y s false (hx, d.0, d.1),
   replies_home z f x y ss hx hy,
 )
 

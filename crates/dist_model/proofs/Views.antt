@@ -5,12 +5,12 @@ use Rattle.std.proofs.lemmas.Bool.{and_parts}
 use Rattle.std.specs.Option.{is_some}
 use Rattle.dist_model.proofs.Envelopes.{Envelope, outgoing, sent_by, sent_in, sent_in-push, sent_in-silent}
 use Rattle.dist_model.proofs.Keys.{same_name_is, same_pid_refl, same_pid_true}
-use Rattle.dist_model.specs.Items.{Item, Signalled, news, news_in, telling}
+use Rattle.dist_model.specs.Items.{Item, Signalled, news, news_in, telling, has_reason}
 use Rattle.erl_control.specs.Ends.{receiver_of}
 use Rattle.dist_model.specs.Names.{Name, same_name, same_pid}
-use Rattle.dist_model.specs.Node.{Node, end_of, living, is_stranger, reaches, route}
+use Rattle.dist_model.specs.Node.{Node, end_of, living, is_stranger, reaches, route, payload_to}
 use Rattle.dist_model.specs.declared.report.Effect.{Effect}
-use Rattle.dist_model.specs.Work.{Work, keep_local, post, post_all, post_to, report, send_on}
+use Rattle.dist_model.specs.Work.{Work, keep_local, post, post_all, post_to, report, send_on, spelled}
 use Rattle.erl_control.specs.declared.signal.Signal.{Signal}
 use Rattle.erl_names.specs.declared.trunk.TrunkId.{TrunkId}
 use Rattle.erl_term.specs.declared.term.Pid.{Pid}
@@ -148,7 +148,7 @@ module _ {A : Type 0} (f : Node → A) (free : (n : Node) (l : List Item) → f 
 
   pub post_all_keeps : (es : List Signal) (o : Work) → f ((post_all es o).node) ≡ f o.node
   post_all_keeps [] o = refl
-  post_all_keeps (e ∷ es) o = post_all_keeps es (post e o) ∙ post_keeps (receiver_of e).node (Signalled e) o
+  post_all_keeps (e ∷ es) o = post_all_keeps es (post e o) ∙ post_keeps (receiver_of e).node (spelled o.node e) o
 
 -- a post is one signal more, or none
 pub post_view : (b : List LinkNews) (y : Name) (x : Item) (o : Work) (p q : Pid) → reaches o.node q.node ≡ true
@@ -158,14 +158,23 @@ post_view b y x o p q reach s = side_path (view b (post_to y x o) p q) (more (vi
     (post_keeps (λ n. n.mint.unlink_ids) (λ n l. refl) y x o)
     (ap (λ l. b ++ l) (post_line y x o p q reach s) ∙ sym (append_assoc b (news p q (line o q.node)) (news_in p q x)))
 
+-- link news do not depend on the payload
+pub news_pay : (p q : Pid) (s : Signal) (a b : Bool) → news_in p q (Signalled s a) ≡ news_in p q (Signalled s b)
+news_pay p q (Signal.Link x y) a b = refl
+news_pay p q _ a b = refl
+
+pub suits_pay : (y : Name) (s : Signal) (p q : Pid) (a b : Bool) → Suits y (Signalled s a) p q → Suits y (Signalled s b) p q
+suits_pay y s p q a b (inl e) = inl e
+suits_pay y s p q a b (inr n) = inr (news_pay p q s b a ∙ n)
+
 -- several posts
 abbrev pub posted : Pid → Pid → List Signal → List LinkNews
 posted p q [] = []
-posted p q (e ∷ es) = news_in p q (Signalled e) ++ posted p q es
+posted p q (e ∷ es) = news_in p q (Signalled e false) ++ posted p q es
 
 abbrev pub AllSuit : Pid → Pid → List Signal → Type 0
 AllSuit p q [] = Unit {0}
-AllSuit p q (e ∷ es) = Suits (receiver_of e).node (Signalled e) p q × AllSuit p q es
+AllSuit p q (e ∷ es) = Suits (receiver_of e).node (Signalled e false) p q × AllSuit p q es
 
 more-nil : (a : Side) → a ≡ more a []
 more-nil a = side_path a (more a []) refl refl refl (sym (append-nil a.sent))
@@ -177,15 +186,18 @@ pub post_all_view : (b : List LinkNews) (es : List Signal) (o : Work) (p q : Pid
     → AllSuit p q es → view b (post_all es o) p q ≡ more (view b o p q) (posted p q es)
 post_all_view b [] o p q reach s = more-nil (view b o p q)
 post_all_view b (e ∷ es) o p q reach s =
-    post_all_view b es (post e o) p q (post_keeps (λ n. reaches n q.node) (λ n l. refl) (receiver_of e).node (Signalled e) o ∙ reach) s.1
-    ∙ ap (λ a. more a (posted p q es)) (post_view b (receiver_of e).node (Signalled e) o p q reach s.0)
-    ∙ more-more (view b o p q) (news_in p q (Signalled e)) (posted p q es)
+    post_all_view b es (post e o) p q
+    (post_keeps (λ n. reaches n q.node) (λ n l. refl) (receiver_of e).node (spelled o.node e) o ∙ reach) s.1
+    ∙ ap (λ a. more a (posted p q es)) (post_view b (receiver_of e).node (spelled o.node e) o p q reach
+    (suits_pay (receiver_of e).node e p q false (has_reason e && payload_to o.node (receiver_of e).node) s.0)
+    ∙ ap (more (view b o p q)) (news_pay p q e (has_reason e && payload_to o.node (receiver_of e).node) false))
+    ∙ more-more (view b o p q) (news_in p q (Signalled e false)) (posted p q es)
 
 pub posted-append : (p q : Pid) (xs ys : List Signal) → posted p q (xs ++ ys) ≡ posted p q xs ++ posted p q ys
 posted-append p q [] ys = refl
 posted-append p q (x ∷ xs) ys =
-    ap (λ l. news_in p q (Signalled x) ++ l) (posted-append p q xs ys)
-    ∙ sym (append_assoc (news_in p q (Signalled x)) (posted p q xs) (posted p q ys))
+    ap (λ l. news_in p q (Signalled x false) ++ l) (posted-append p q xs ys)
+    ∙ sym (append_assoc (news_in p q (Signalled x false)) (posted p q xs) (posted p q ys))
 
 pub AllSuit-append : (p q : Pid) (xs ys : List Signal) → AllSuit p q xs → AllSuit p q ys → AllSuit p q (xs ++ ys)
 AllSuit-append p q [] ys a b = b
@@ -196,31 +208,32 @@ pub signal_other : (b : Bool) (s : LinkNews) → b ≡ false → ◌≡◌ {A = 
 signal_other true s h = cc
 signal_other false s h = refl
 
-pub telling_news : (a b p q : Pid) (s : LinkNews)
-    → news_in p q (Signalled (telling a b s)) ≡ cond (same_pid a p && same_pid b q) (s ∷ []) []
-telling_news a b p q (Signals LinkSignal.Link) = refl
-telling_news a b p q _ = refl
+pub telling_news : (a b p q : Pid) (s : LinkNews) (pay : Bool)
+    → news_in p q (Signalled (telling a b s) pay) ≡ cond (same_pid a p && same_pid b q) (s ∷ []) []
+telling_news a b p q (Signals LinkSignal.Link) pay = refl
+telling_news a b p q _ pay = refl
 
 pub telling_receiver : (a b : Pid) (s : LinkNews) → receiver_of (telling a b s) ≡ b
 telling_receiver a b (Signals LinkSignal.Link) = refl
 telling_receiver a b _ = refl
 
-pub linking_suits_by : (b : Bool) (x y p q : Pid) (s : LinkNews) → (same_pid x p && same_pid y q) ≡ b
-    → Suits y.node (Signalled (telling x y s)) p q
-linking_suits_by true x y p q s e = inl (ap (λ (v : Pid). v.node) (same_pid_true y q (and_parts (same_pid x p) (same_pid y q) e).1))
-linking_suits_by false x y p q s e = inr (telling_news x y p q s ∙ signal_other (same_pid x p && same_pid y q) s e)
+pub linking_suits_by : (b : Bool) (x y p q : Pid) (s : LinkNews) (pay : Bool) → (same_pid x p && same_pid y q) ≡ b
+    → Suits y.node (Signalled (telling x y s) pay) p q
+linking_suits_by true x y p q s pay e = inl (ap (λ (v : Pid). v.node) (same_pid_true y q (and_parts (same_pid x p) (same_pid y q) e).1))
+linking_suits_by false x y p q s pay e = inr (telling_news x y p q s pay ∙ signal_other (same_pid x p && same_pid y q) s e)
 
-pub linking_suits : (x y p q : Pid) (s : LinkNews) → Suits y.node (Signalled (telling x y s)) p q
-linking_suits x y p q s = linking_suits_by (same_pid x p && same_pid y q) x y p q s refl
+pub linking_suits : (x y p q : Pid) (s : LinkNews) (pay : Bool) → Suits y.node (Signalled (telling x y s) pay) p q
+linking_suits x y p q s pay = linking_suits_by (same_pid x p && same_pid y q) x y p q s pay refl
 
-pub news_told : (p q : Pid) (s : LinkNews) → news_in p q (Signalled (telling p q s)) ≡ s ∷ []
-news_told p q s =
-    telling_news p q p q s ∙ ap (λ b. cond (b && same_pid q q) (s ∷ []) []) (same_pid_refl p)
+pub news_told : (p q : Pid) (s : LinkNews) (pay : Bool) → news_in p q (Signalled (telling p q s) pay) ≡ s ∷ []
+news_told p q s pay =
+    telling_news p q p q s pay ∙ ap (λ b. cond (b && same_pid q q) (s ∷ []) []) (same_pid_refl p)
     ∙ ap (λ b. cond b (s ∷ []) []) (same_pid_refl q)
 
-pub no_news_of_others : (p q a b : Pid) (s : LinkNews) → ((a ≡ p) × (b ≡ q) → ⊥) → news_in p q (Signalled (telling a b s)) ≡ []
-no_news_of_others p q a b s n = go (same_pid a p && same_pid b q) refl
+pub no_news_of_others : (p q a b : Pid) (s : LinkNews) (pay : Bool) → ((a ≡ p) × (b ≡ q) → ⊥)
+    → news_in p q (Signalled (telling a b s) pay) ≡ []
+no_news_of_others p q a b s pay n = go (same_pid a p && same_pid b q) refl
   where
-    go : (t : Bool) → (same_pid a p && same_pid b q) ≡ t → news_in p q (Signalled (telling a b s)) ≡ []
+    go : (t : Bool) → (same_pid a p && same_pid b q) ≡ t → news_in p q (Signalled (telling a b s) pay) ≡ []
     go true e = let v = and_parts (same_pid a p) (same_pid b q) e in absurd (n (same_pid_true a p v.0, same_pid_true b q v.1))
-    go false e = telling_news a b p q s ∙ ap (λ t. cond t (s ∷ []) []) e
+    go false e = telling_news a b p q s pay ∙ ap (λ t. cond t (s ∷ []) []) e

@@ -45,7 +45,7 @@ use Rattle.dist_model.specs.Names.{Name, same_name, same_pid}
 use Rattle.dist_model.specs.Node.{Node, living, is_stranger, reaches, route}
 use Rattle.dist_model.specs.Sides.{Gone, State, TrunkSide, Up, is_losing, is_up, is_over, lost}
 use Rattle.dist_model.specs.Taking.{take_item}
-use Rattle.dist_model.specs.Work.{Work, at_work, draw, post, put}
+use Rattle.dist_model.specs.Work.{Work, at_work, draw, post, put, spelled}
 use Rattle.dist_model.specs.World.{Arrive, Call, Dial, Event, Local, Lose, Report, Reported, Start}
 use Rattle.dist_model.specs.World.{Stop, Sweep, World, came_of, list_to, node_name, node_of, step_at}
 use Rattle.erl_control.specs.declared.signal.Signal.{Signal}
@@ -93,7 +93,7 @@ module _ (w : World) (h : History) (x : Name) (n : Node) (hx : node_of w.nodes x
     -- a MONITOR_P_EXIT ends its watch
     end_taken : (i : Item) → IsFounded w h i → (k : Reference) (u : Monitor) → is_end k i ≡ true → fm.get n.watches k ≡ Some u
         → fm.get ((take_item i (at_work (record n { local = xs }))).node.watches) k ≡ Some u → ⊥
-    end_taken (Signalled (Signal.MonitorExit q p r z)) f k u e j s =
+    end_taken (Signalled (Signal.MonitorExit q p r z) pay) f k u e j s =
         let one = names x n k r u p q hx j e f.1 in
         let kr : k ≡ r = same_reference_true k r e in
         let at : fm.get n.watches r ≡ Some u = ap (fm.get n.watches) (sym kr) ∙ j in
@@ -119,7 +119,7 @@ module _ (w : World) (h : History) (x : Name) (n : Node) (hx : node_of w.nodes x
     call_taken : (i : Item) → IsFounded w h i → (y : Name) (v : Node) (k : Reference) (u : Monitor)
         → node_of w.nodes y ≡ Some v → fm.get v.watches k ≡ Some u → is_call k i ≡ true
         → Answered i k u (take_item i (at_work (record n { local = xs })))
-    call_taken (Signalled (Signal.Monitor p q r)) f y v k u hv j e = go (living n q)
+    call_taken (Signalled (Signal.Monitor p q r) pay) f y v k u hv j e = go (living n q)
       where
         one : (p ≡ u.owner) × (q ≡ u.target)
         one = names y v k r u p q hv j e f
@@ -127,7 +127,7 @@ module _ (w : World) (h : History) (x : Name) (n : Node) (hx : node_of w.nodes x
         kr : r ≡ k
         kr = sym (same_reference_true k r e)
 
-        go : (b : Bool) → Answered (Signalled (Signal.Monitor p q r)) k u (cond b
+        go : (b : Bool) → Answered (Signalled (Signal.Monitor p q r) pay) k u (cond b
             (register r (monitor_of p q) (at_work (record n { local = xs })))
             (post (Signal.MonitorExit q p r noproc) (at_work (record n { local = xs }))))
         go true =
@@ -137,25 +137,26 @@ module _ (w : World) (h : History) (x : Name) (n : Node) (hx : node_of w.nodes x
             inr (subst
             (λ (z : Pid). Lands (is_end k) n z.node (post (Signal.MonitorExit q p r noproc) (at_work (record n { local = xs })))) one.0
             (lands_one (is_end k) n (Signal.MonitorExit q p r noproc) (at_work (record n { local = xs })) refl refl e))
-    call_taken (Signalled (Signal.MonitorExit q p r z)) f y v k u hv j e = cc
+    call_taken (Signalled (Signal.MonitorExit q p r z) pay) f y v k u hv j e = cc
     call_taken _ f y v k u hv j e = cc
 
     -- taking one leaves the sides
     sides_taken : (i : Item) → (k : Reference) → is_call k i ≡ true → (take_item i (at_work (record n { local = xs }))).node.sides ≡ n.sides
-    sides_taken (Signalled (Signal.Monitor p q r)) k e = go (living n q)
+    sides_taken (Signalled (Signal.Monitor p q r) pay) k e = go (living n q)
       where
         go : (b : Bool) → (cond b (register r (monitor_of p q) (at_work (record n { local = xs })))
             (post (Signal.MonitorExit q p r noproc) (at_work (record n { local = xs })))).node.sides ≡ n.sides
         go true = refl
         go false =
-            posts_keep (λ m. m.sides) (λ m l. refl) p.node (Signalled (Signal.MonitorExit q p r noproc)) (at_work (record n { local = xs }))
+            posts_keep (λ m. m.sides) (λ m l. refl) p.node
+            (spelled (at_work (record n { local = xs })).node (Signal.MonitorExit q p r noproc)) (at_work (record n { local = xs }))
     sides_taken _ k e = cc
 
   -- whom a MONITOR_P that passes is from
   call_from : (v : TrunkSide) (i : Item) → is_good n v i ≡ true → IsFounded w h i
       → (y : Name) (m : Node) (k : Reference) (u : Monitor) → node_of w.nodes y ≡ Some m → fm.get m.watches k ≡ Some u
       → is_call k i ≡ true → u.owner.node ≡ v.peer
-  call_from v (Signalled (Signal.Monitor p q r)) good f y m k u hm j e =
+  call_from v (Signalled (Signal.Monitor p q r) pay) good f y m k u hm j e =
       ap (λ (z : Pid). z.node) (sym (names y m k r u p q hm j e f).0) ∙ is_from_peer v p (and_parts (is_from v p) (is_to n q) good).0
   call_from v _ good f y m k u hm j e = cc
 
@@ -246,12 +247,12 @@ module _ (w : World) (h : History) (x : Name) (n : Node) (hx : node_of w.nodes x
           ws : (post (Signal.Monitor p q (reference_of n.mint id))
               (watch (reference_of n.mint id) (monitor_of p q) (draw kind.Reference (at_work n)))).node.watches ≡ (watch
               (reference_of n.mint id) (monitor_of p q) (draw kind.Reference (at_work n))).node.watches
-          ws = posts_keep (λ m. m.watches) (λ m z. refl) q.node (Signalled (Signal.Monitor p q (reference_of n.mint id)))
+          ws = posts_keep (λ m. m.watches) (λ m z. refl) q.node (Signalled (Signal.Monitor p q (reference_of n.mint id)) false)
               (watch (reference_of n.mint id) (monitor_of p q) (draw kind.Reference (at_work n)))
 
           sd : (post (Signal.Monitor p q (reference_of n.mint id))
               (watch (reference_of n.mint id) (monitor_of p q) (draw kind.Reference (at_work n)))).node.sides ≡ n.sides
-          sd = posts_keep (λ m. m.sides) (λ m z. refl) q.node (Signalled (Signal.Monitor p q (reference_of n.mint id)))
+          sd = posts_keep (λ m. m.sides) (λ m z. refl) q.node (Signalled (Signal.Monitor p q (reference_of n.mint id)) false)
               (watch (reference_of n.mint id) (monitor_of p q) (draw kind.Reference (at_work n)))
 
           routed : (c : Option TrunkId) → route n q.node ≡ c → same_name q.node n.mint.name ≡ false → (t : TrunkId)

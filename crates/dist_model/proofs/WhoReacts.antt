@@ -40,7 +40,7 @@ use Rattle.dist_model.specs.Node.{Node, end_of, living, is_stranger, reaches, si
 use Rattle.dist_model.specs.Seen.{end_between}
 use Rattle.dist_model.specs.Sides.{Accepting, Asked, AwaitsAck, AwaitsChallenge, AwaitsStatus, Gone, Losing, Parked}
 use Rattle.dist_model.specs.Sides.{State, TrunkSide, Up, is_dialing, is_gone, is_losing, is_parked, is_up, is_waiting}
-use Rattle.dist_model.specs.Work.{Work, at_work, draw, set_end}
+use Rattle.dist_model.specs.Work.{Work, at_work, draw, set_end, spelled}
 use Rattle.dist_model.specs.World.{Arrive, Call, Dial, Event, Local, Lose, Refused, Report, Start}
 use Rattle.dist_model.specs.World.{Stop, Sweep, World, came_of, node_name, node_of, step, step_at}
 use Rattle.erl_control.specs.declared.signal.Signal.{Signal}
@@ -86,7 +86,8 @@ module _ (n : Node) where
       → OwnLink n (Command.Link a b) (link_new t a b o)
   links_new a b o e true r l p q h =
       nothing
-      (sym (ap (reacts_in p q) e) ∙ calm_post b.node (Signalled (telling a b (Signals LinkSignal.Link))) (set_end a b End.Active o) p q h)
+      (sym (ap (reacts_in p q) e)
+      ∙ calm_post b.node (Signalled (telling a b (Signals LinkSignal.Link)) false) (set_end a b End.Active o) p q h)
   links_new a b o e false r l p q h = pick (exit_of a b noconnection (set_end a b End.None o) p q h)
     where
       pick : (reacts_in p q o.effects ≡ true) ⊎ ((a ≡ p) × (b ≡ q)) → (Command.Link a b ≡ Command.Link p q)
@@ -107,7 +108,8 @@ module _ (n : Node) where
   unlinks_on : (e : End) (a b : Pid) → IfGoes (unlink_by e a b (at_work n)) (OwnLink n (Command.Unlink a b))
   unlinks_on End.Active a b =
       on_drawn (id_of n.mint kind.UnlinkId) _ (OwnLink n (Command.Unlink a b)) (λ id p q h.
-      nothing (calm_post b.node (Signalled (Signal.UnlinkId id a b)) (set_end a b (End.Pending id) (draw kind.UnlinkId (at_work n))) p q h))
+      nothing (calm_post b.node (Signalled (Signal.UnlinkId id a b) false)
+      (set_end a b (End.Pending id) (draw kind.UnlinkId (at_work n))) p q h))
   unlinks_on _ a b = λ p q h. nothing h
 
   demonitors_on : (v : Option Monitor) (a : Pid) (k : Reference)
@@ -115,19 +117,19 @@ module _ (n : Node) where
   demonitors_on None a k = tt
   demonitors_on (Some v) a k =
       if_cond (same_pid v.owner a) _ Refusal.NotTheOwner (OwnLink n (Command.Demonitor a k))
-      (λ i p q h. nothing (calm_post v.target.node (Signalled (Signal.Demonitor a v.target k)) (unwatch k (at_work n)) p q h))
+      (λ i p q h. nothing (calm_post v.target.node (Signalled (Signal.Demonitor a v.target k) false) (unwatch k (at_work n)) p q h))
 
   pub called : (c : Command) → IfGoes (call n c) (OwnLink n c)
   called Command.Spawn = on_drawn (id_of n.mint kind.Pid) _ (OwnLink n Command.Spawn) (λ id p q h. nothing h)
   called (Command.Send a b t) =
       acts_on (Command.Send a b t) a b _ (λ l. if_cond (fits t) _ Refusal.TooLong (OwnLink n (Command.Send a b t))
-      (λ i p q h. nothing (calm_post b.node (Signalled (Signal.Send b t)) (at_work n) p q h)))
+      (λ i p q h. nothing (calm_post b.node (Signalled (Signal.Send b t) false) (at_work n) p q h)))
   called (Command.Link a b) = acts_on (Command.Link a b) a b _ (λ l. link_cond (same_pid a b) a b l)
   called (Command.Unlink a b) = acts_on (Command.Unlink a b) a b _ (λ l. unlinks_on (end_of n a b) a b)
   called (Command.Monitor a b) =
       acts_on (Command.Monitor a b) a b _ (λ l. on_drawn (id_of n.mint kind.Reference) _ (OwnLink n (Command.Monitor a b))
       (λ count p q h. nothing (calm_cond (reaches n b.node) (at_work n) _ _
-      (calm_post b.node (Signalled (Signal.Monitor a b (reference_of n.mint count)))
+      (calm_post b.node (Signalled (Signal.Monitor a b (reference_of n.mint count)) false)
       (watch (reference_of n.mint count) (monitor_of a b) (draw kind.Reference (at_work n))))
       (calm_put a (down_term (reference_of n.mint count) b noconnection) (draw kind.Reference (at_work n))) p q h)))
   called (Command.Demonitor a k) =
@@ -135,7 +137,7 @@ module _ (n : Node) where
   called (Command.Trap a b) = if_cond (living n a) _ Refusal.NoSuchProcess (OwnLink n (Command.Trap a b)) (λ l p q h. nothing h)
   called (Command.ExitTo a b r) =
       acts_on (Command.ExitTo a b r) a b _ (λ l. if_cond (fits r) _ Refusal.TooLong (OwnLink n (Command.ExitTo a b r))
-      (λ i p q h. nothing (calm_post b.node (Signalled (Signal.Exit2 a b r)) (at_work n) p q h)))
+      (λ i p q h. nothing (calm_post b.node (spelled (at_work n).node (Signal.Exit2 a b r)) (at_work n) p q h)))
   called (Command.ExitSelf a r) =
       if_cond (living n a) _ Refusal.NoSuchProcess (OwnLink n (Command.ExitSelf a r))
       (λ l. if_cond (fits r) _ Refusal.TooLong (OwnLink n (Command.ExitSelf a r)) (λ i p q h. nothing (calm_finish a r (at_work n) p q h)))

@@ -33,7 +33,7 @@ abbrev pub is_to : Node → Pid → Bool
 is_to node p = same_name p.node node.mint.name && not (is_stranger node p)
 
 abbrev pub is_good : Node → TrunkSide → Item → Bool
-is_good node side (Signalled signal) = from_peer side (sender_of signal) && is_to node (receiver_of signal)
+is_good node side (Signalled signal payload) = from_peer side (sender_of signal) && is_to node (receiver_of signal)
 is_good node side (Handshake message) = true
 is_good node side Tick = true
 

@@ -1,5 +1,5 @@
 -- Claims about every world that a run leads to.
-use Rattle.std.specs.Prelude.{if◌then◌else◌, List, [], ◌∷◌, ◌++◌, ◌≡◌, ◌≤◌, ◌⊎◌, ◌↔◌, None, Some, ℕ, true, false, Contains}
+use Rattle.std.specs.Prelude.{if◌then◌else◌, List, [], ◌∷◌, ◌++◌, ◌≡◌, ◌≤◌, ◌⊎◌, ◌↔◌, None, Some, ℕ, Bool, true, false, Contains}
 use Rattle.std.specs.Ordering.{eq_by_cmp}
 use Rattle.std.specs.FinMap as fm
 use Rattle.dist_model.specs.Items.{Item, Signalled, news}
@@ -12,7 +12,7 @@ use Rattle.dist_model.specs.Work.{Work}
 use Rattle.dist_model.specs.declared.report.Answer.{Answer}
 use Rattle.dist_model.specs.declared.report.Effect.{Effect}
 use Rattle.erl_term.specs.declared.refusal.Refusal.{Refusal}
-use Rattle.dist_model.specs.Node.{Node, living, is_stranger, Ended}
+use Rattle.dist_model.specs.Node.{Node, has_payload, living, is_stranger, Ended}
 use Rattle.dist_model.specs.Quiet.{Quiet}
 use Rattle.dist_model.specs.Runs.{Runs}
 use Rattle.dist_model.specs.Seen.{AreConnected, HasSide, end_between, is_connected, is_living, local_list}
@@ -126,10 +126,15 @@ abbrev pub ConnectedKnow : World → Type 0
 ConnectedKnow w = (x y : Name) (t : TrunkId) → (both : AreConnected w x t y)
     → (introduced w y ≡ Some both.0.side.introduction) × (introduced w x ≡ Some both.1.side.introduction)
 
+-- of two connected nodes both let reasons follow the control terms, or neither
+abbrev pub PayloadIsAgreed : World → Type 0
+PayloadIsAgreed w = (x y : Name) (t : TrunkId) (here there : Node) → AreConnected w x t y → node_of w.nodes x ≡ Some here
+    → node_of w.nodes y ≡ Some there → has_payload here t ≡ has_payload there t
+
 -- a side accepts no signal from a process of an incarnation that is still to come
 abbrev pub NoneOfTheFuture : World → Type 0
-NoneOfTheFuture w = (x y : Name) (t : TrunkId) (node : Node) (signal : Signal) (p : Pid) → (own : HasSide w x t y is_up)
-    → HasSide w y t x goes_on → is_good node own.side (Signalled signal) ≡ true → sender_of signal ≡ Some p
+NoneOfTheFuture w = (x y : Name) (t : TrunkId) (node : Node) (signal : Signal) (payload : Bool) (p : Pid) → (own : HasSide w x t y is_up)
+    → HasSide w y t x goes_on → is_good node own.side (Signalled signal payload) ≡ true → sender_of signal ≡ Some p
     → (said : Introduction) × (introduced w y ≡ Some said) × (p.node ≡ y) × (p.creation ≤ said.creation)
 
 -- the introduction that a side knows stays right in every later world while the peer's side of the trunk is not gone. So the receiver of
@@ -195,7 +200,7 @@ KeepsOwnOrder w = (e : Event) (x : Name) → OwnListKept e x (local_list w x) (l
 
 -- erl_control can frame each signal in flight
 abbrev pub EverySignalFits : World → Type 0
-EverySignalFits w = (t : TrunkId) (x : Name) (signal : Signal) → Contains (list_to w.lists t x) (Signalled signal) → IsSendable signal
+EverySignalFits w = (t : TrunkId) (x : Name) (signal : Signal) (payload : Bool) → Contains (list_to w.lists t x) (Signalled signal payload) → IsSendable signal
 
 abbrev pub EverySignalFitsWithin : World → Type 0
-EverySignalFitsWithin w = (x : Name) (signal : Signal) → Contains (local_list w x) (Signalled signal) → IsSendable signal
+EverySignalFitsWithin w = (x : Name) (signal : Signal) (payload : Bool) → Contains (local_list w x) (Signalled signal payload) → IsSendable signal

@@ -1,5 +1,5 @@
 -- What holds of every world and of all that happened before it: the exits of links, and the monitors.
-use Rattle.std.specs.Prelude.{◌≡◌, ◌⊎◌, ◌≤◌, true, false, Option, None, Some, [], Contains, length}
+use Rattle.std.specs.Prelude.{◌≡◌, ◌⊎◌, ◌≤◌, Bool, true, false, Option, None, Some, [], Contains, length}
 use Rattle.std.specs.FinMap as fm
 use Rattle.dist_model.specs.Causes.{Reacts, TrueCause}
 use Rattle.dist_model.specs.declared.command.Command.{Command}
@@ -35,12 +35,12 @@ ReactsForTrueCause history world = (event : Event) → ReactsRightly history wor
 
 -- an EXIT that travels tells a true reason
 abbrev pub ExitsTellTrueCause : History → World → Type 0
-ExitsTellTrueCause history world = (trunk : TrunkId) (name : Name) (p q : Pid) (reason : Data)
-    → Contains (list_to world.lists trunk name) (Signalled (Signal.Exit q p reason)) → TrueCause history world p q reason
+ExitsTellTrueCause history world = (trunk : TrunkId) (name : Name) (p q : Pid) (reason : Data) (payload : Bool)
+    → Contains (list_to world.lists trunk name) (Signalled (Signal.Exit q p reason) payload) → TrueCause history world p q reason
 
 abbrev pub ExitsTellTrueCauseWithin : History → World → Type 0
-ExitsTellTrueCauseWithin history world = (name : Name) (p q : Pid) (reason : Data)
-    → Contains (local_list world name) (Signalled (Signal.Exit q p reason)) → TrueCause history world p q reason
+ExitsTellTrueCauseWithin history world = (name : Name) (p q : Pid) (reason : Data) (payload : Bool)
+    → Contains (local_list world name) (Signalled (Signal.Exit q p reason) payload) → TrueCause history world p q reason
 
 -- ---- Monitors. (Reference Manual, Processes, Monitors)
 

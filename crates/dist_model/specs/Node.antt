@@ -1,5 +1,5 @@
 -- One node: what it keeps of its processes, their links and monitors, and its connections.
-use Rattle.std.specs.Prelude.{unwrap_or, Option, Some, is_some, ℕ, Bool, true, false, not}
+use Rattle.std.specs.Prelude.{unwrap_or, Option, None, Some, is_some, ℕ, Bool, true, false, not}
 use Rattle.std.specs.Prelude.{if◌then◌else◌, List, [], ◌∷◌, ◌==◌, nat_lt, ◌&&◌, ◌||◌}
 use Rattle.std.specs.FinMap as fm
 use Rattle.std.specs.List.{flat_map}
@@ -8,6 +8,8 @@ use Rattle.dist_model.specs.Items.{Item}
 use Rattle.dist_model.specs.Names.{Name, pair_cmp, same_name, same_pid}
 use Rattle.dist_model.specs.Sides.{State, TrunkSide, is_up}
 pub use Rattle.sorted_map.specs.Entries.{first_where}
+use Rattle.erl_handshake.specs.Flags.{offers}
+use Rattle.erl_handshake.specs.declared.flags.Flag.{Flag}
 use Rattle.erl_names.specs.Minted.{Minted}
 use Rattle.erl_names.specs.Order.{trunk_cmp}
 use Rattle.erl_names.specs.declared.trunk.TrunkId.{TrunkId}
@@ -90,3 +92,20 @@ route node peer = route_in (fm.entries node.sides) peer
 -- whether a signal to a process of that name's node goes anywhere
 abbrev pub reaches : Node → Name → Bool
 reaches node name = same_name name node.mint.name || is_some (route node name)
+
+-- both nodes of a connection offer the flag
+abbrev pub both_offer : Flag → Node → Option TrunkSide → Bool
+both_offer flag node None = false
+both_offer flag node (Some side) = offers node.flags flag && offers side.introduction.flags flag
+
+-- reasons follow the control terms on this trunk. (ERTS User's Guide, Distribution Protocol, Distribution Flags, DFLAG_EXIT_PAYLOAD)
+abbrev pub has_payload : Node → TrunkId → Bool
+has_payload node trunk = both_offer Flag.ExitPayload node (fm.get node.sides trunk)
+
+-- the same of signals to processes of that name's node. Within a node none do
+abbrev pub payload_on : Node → Option TrunkId → Bool
+payload_on node None = false
+payload_on node (Some trunk) = has_payload node trunk
+
+abbrev pub payload_to : Node → Name → Bool
+payload_to node name = not (same_name name node.mint.name) && payload_on node (route node name)

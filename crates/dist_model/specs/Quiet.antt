@@ -17,7 +17,7 @@ names_sender p (Some sender) = same_pid sender p
 
 -- a signal of p to q. A message names no sender, so it is of nobody
 abbrev pub is_signal_of : Pid → Pid → Item → Bool
-is_signal_of p q (Signalled signal) = names_sender p (sender_of signal) && same_pid (receiver_of signal) q
+is_signal_of p q (Signalled signal payload) = names_sender p (sender_of signal) && same_pid (receiver_of signal) q
 is_signal_of p q (Handshake message) = false
 is_signal_of p q Tick = false
 

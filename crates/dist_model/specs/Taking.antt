@@ -24,6 +24,6 @@ take (Signal.UnlinkIdAck id from to) work = take_link to from (Signals (LinkSign
 
 -- a message of the handshake is no process's, and a tick is nobody's
 abbrev pub take_item : Item → Work → Work
-take_item (Signalled signal) work = take signal work
+take_item (Signalled signal payload) work = take signal work
 take_item (Handshake message) work = work
 take_item Tick work = work

@@ -1,7 +1,7 @@
 -- A run as a trace: each event with its report and the world before it; and the introduction in which the owner's node knew the target's
 -- node when Monitor was called.
 -- (ERTS User's Guide, Distribution Protocol, Distribution Handshake, on creations; Reference Manual, Processes, Monitors.)
-use Rattle.std.specs.Prelude.{◌≡◌, ◌⊎◌, ℕ, true, Option, None, Some, if◌then◌else◌, List, [], ◌∷◌, Contains}
+use Rattle.std.specs.Prelude.{◌≡◌, ◌⊎◌, ℕ, Bool, true, Option, None, Some, if◌then◌else◌, List, [], ◌∷◌, Contains}
 use Rattle.std.specs.FinMap as fm
 use Rattle.dist_model.specs.Introductions.{goes_on, introduced}
 use Rattle.dist_model.specs.declared.command.Command.{Command}
@@ -78,14 +78,14 @@ WasCalledIn r p q said (last ∷ before) = CalledIn r p q said last ⊎ WasCalle
 -- a MONITOR_P is in flight to a node whose side of the trunk is not gone. When its owner called Monitor, the owner's node knew that
 -- node by the introduction that it has. So its receiver is of the incarnation that the caller's node knew
 abbrev pub MonitorsKnowTheirNode : Trace → World → Type 0
-MonitorsKnowTheirNode trace world = (t : TrunkId) (y : Name) (p q : Pid) (r : Reference)
-    → Contains (list_to world.lists t y) (Signalled (Signal.Monitor p q r)) → HasSide world y t p.node goes_on
+MonitorsKnowTheirNode trace world = (t : TrunkId) (y : Name) (p q : Pid) (r : Reference) (payload : Bool)
+    → Contains (list_to world.lists t y) (Signalled (Signal.Monitor p q r) payload) → HasSide world y t p.node goes_on
     → (said : Introduction) × (introduced world y ≡ Some said) × (y ≡ q.node) × WasCalledIn r p q said trace
 
 -- the same for a MONITOR_P within one node
 abbrev pub MonitorsKnowTheirOwnNode : Trace → World → Type 0
-MonitorsKnowTheirOwnNode trace world = (x : Name) (p q : Pid) (r : Reference)
-    → Contains (local_list world x) (Signalled (Signal.Monitor p q r))
+MonitorsKnowTheirOwnNode trace world = (x : Name) (p q : Pid) (r : Reference) (payload : Bool)
+    → Contains (local_list world x) (Signalled (Signal.Monitor p q r) payload)
     → (said : Introduction) × (introduced world x ≡ Some said) × (x ≡ q.node) × WasCalledIn r p q said trace
 
 -- ---- the delivery of MONITOR_P
@@ -102,7 +102,8 @@ answer_of (Reported answer effects) = Some answer
 
 -- the event delivered the MONITOR_P of r
 pub record Taken (r : Reference) (p q : Pid) (moment : Moment) : Type 0 where
-  pub first : comes_first moment.before moment.happening.event ≡ Some (Signalled (Signal.Monitor p q r))
+  pub payload : Bool
+  pub first : comes_first moment.before moment.happening.event ≡ Some (Signalled (Signal.Monitor p q r) payload)
   pub took : answer_of moment.happening.report ≡ Some (Answer.Took Kind.Monitor)
 
 -- at each delivery the target's node had the introduction by which the owner's node knew it at the call. Each process alive there has

@@ -1,10 +1,10 @@
 -- A node in the midst of an event: what it has become, what it has sent, what it reports.
-use Rattle.std.specs.Prelude.{Option, None, Some, if◌then◌else◌, List, [], ◌∷◌, ◌++◌}
+use Rattle.std.specs.Prelude.{Option, None, Some, ◌&&◌, if◌then◌else◌, List, [], ◌∷◌, ◌++◌}
 use Rattle.std.specs.FinMap as fm
-use Rattle.dist_model.specs.Items.{Item, Signalled}
+use Rattle.dist_model.specs.Items.{Item, Signalled, has_reason}
 use Rattle.erl_control.specs.Ends.{receiver_of}
 use Rattle.dist_model.specs.Names.{Name, pair_cmp, same_name}
-use Rattle.dist_model.specs.Node.{Life, Living, Node, route}
+use Rattle.dist_model.specs.Node.{Life, Living, Node, payload_to, route}
 use Rattle.dist_model.specs.declared.report.Effect.{Effect}
 use Rattle.erl_control.specs.declared.signal.Signal.{Signal}
 use Rattle.erl_names.specs.Draw.{Draw}
@@ -44,9 +44,13 @@ abbrev pub post_to : Name → Item → Work → Work
 post_to target item work =
     if same_name target work.node.mint.name then keep_local item work else send_on (route work.node target) target item work
 
+-- a signal as the node spells it
+abbrev pub spelled : Node → Signal → Item
+spelled node signal = Signalled signal (has_reason signal && payload_to node (receiver_of signal).node)
+
 -- a signal goes to its receiver's node. (Reference Manual, Processes, Delivery of Signals)
 abbrev pub post : Signal → Work → Work
-post signal work = post_to (receiver_of signal).node (Signalled signal) work
+post signal work = post_to (receiver_of signal).node (spelled work.node signal) work
 
 abbrev pub post_all : List Signal → Work → Work
 post_all [] work = work

@@ -4,7 +4,7 @@
 //! without memory. A run's beginning is a run, so `Always` covers each moment of every run.
 //! `Throughout` adds the events and reports before that moment, and `ThroughoutTraced` their worlds
 //! too. The other laws are about all worlds, or about the definitions themselves.
-ghost use Rattle.std.specs.Prelude.{◌≡◌, ◌↔◌, ℕ, List, [], ◌∷◌, ◌++◌, length, true, false, Some, None};
+ghost use Rattle.std.specs.Prelude.{Bool, ◌≡◌, ◌↔◌, ℕ, List, [], ◌∷◌, ◌++◌, length, true, false, Some, None};
 ghost use Rattle.std.specs.FinMap as fm;
 ghost use Rattle.erl_term.specs.declared.term.Pid.{Pid};
 ghost use Rattle.erl_term.specs.declared.term.Reference.{Reference};
@@ -44,7 +44,7 @@ ghost use Rattle.dist_model.specs.Keeping.{Bearings, ComesOfOthers, CountsOwn, I
 ghost use Rattle.dist_model.specs.Work.{Work, at_work};
 ghost use Rattle.dist_model.specs.Seen.{end_between, AreConnected};
 ghost use Rattle.dist_model.specs.Schedules as schedule;
-ghost use Rattle.dist_model.specs.Claims.{Agreement, AgreementWithin, AgreementInQuiet, PendingOnItsWay, PendingWithin, NoLinkToTheDead, NoLinkToItself, LinkNeedsConnection, LivingMeans, SpawnedLivesOrEnded, DownHoldsNothing, OneTrunk, NoUpBesideLosing, IntroductionsAreTold, IntroductionsAreKnown, ConnectedKnow, NoneOfTheFuture, KnownForGood, EventIsLocal, KeepsOrder, KeepsOwnOrder, EverySignalFits, EverySignalFitsWithin};
+ghost use Rattle.dist_model.specs.Claims.{Agreement, AgreementWithin, AgreementInQuiet, PendingOnItsWay, PendingWithin, NoLinkToTheDead, NoLinkToItself, LinkNeedsConnection, LivingMeans, SpawnedLivesOrEnded, DownHoldsNothing, OneTrunk, NoUpBesideLosing, IntroductionsAreTold, IntroductionsAreKnown, ConnectedKnow, PayloadIsAgreed, NoneOfTheFuture, KnownForGood, EventIsLocal, KeepsOrder, KeepsOwnOrder, EverySignalFits, EverySignalFitsWithin};
 ghost use Rattle.dist_model.specs.Histories.{Throughout, told, history};
 ghost use Rattle.dist_model.specs.Causes.{Reacts};
 ghost use Rattle.dist_model.specs.Fates.{ReactsRightly, DownsRightly, ReactsForTrueCause, ExitsTellTrueCause, ExitsTellTrueCauseWithin, AnsweredOnce, DownOnce, DownToTheOwner, NoDownWhereDemonitored, DownsTellTrueCause, DownOrRegistered};
@@ -134,6 +134,7 @@ pub fn peers_are_known()
     ensures told { Always IntroductionsAreTold }
     ensures known { Always IntroductionsAreKnown }
     ensures connected { Always ConnectedKnow }
+    ensures payload { Always PayloadIsAgreed }
     ensures future { Always NoneOfTheFuture }
     ensures lasting { Always KnownForGood }
 {}
@@ -373,8 +374,8 @@ pub fn moments()
 /// Proves that a signal between two processes tells their link news, and that a signal between
 /// others tells none.
 pub fn news_is_told()
-    ensures told { (p q : Pid) (told : LinkNews) → news_in p q (Signalled (telling p q told)) ≡ told ∷ [] }
-    ensures others { (p q from to : Pid) (told : LinkNews) → ((from ≡ p) × (to ≡ q) → ⊥) → news_in p q (Signalled (telling from to told)) ≡ [] }
+    ensures told { (p q : Pid) (told : LinkNews) (payload : Bool) → news_in p q (Signalled (telling p q told) payload) ≡ told ∷ [] }
+    ensures others { (p q from to : Pid) (told : LinkNews) (payload : Bool) → ((from ≡ p) × (to ≡ q) → ⊥) → news_in p q (Signalled (telling from to told) payload) ≡ [] }
 {}
 
 /// Proves that a node keeps its name, its sides and their peers at every event, unless it dials on

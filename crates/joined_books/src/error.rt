@@ -1,4 +1,4 @@
-//! Why books don't merge.
+//! The faults of books that don't merge.
 ghost use Rattle.std.specs.Prelude.{◌≡◌};
 ghost use Rattle.joined_books.specs.declared.error.FinishError.TheVariants.{OutOfMemory};
 
@@ -6,7 +6,7 @@ use erl_names::TrunkId;
 use std::alloc::{AllocError, AllocFailed};
 use thiserror::Error;
 
-/// Why books and seats don't join. Nodes and positions are counted from 0.
+/// The reason why books and seats don't join. Nodes and positions count from 0.
 #[derive(Debug, Drop, Error)]
 pub enum FinishError {
     /// The book at this place isn't that of the node there: its name, its cookie, its profile or its list of names is
@@ -16,7 +16,7 @@ pub enum FinishError {
         /// The place among the books, and the nodes.
         node: usize,
     },
-    /// What one node took of a connection isn't what the other has put on it.
+    /// A node took parcels of a connection that its peer hasn't put on it.
     #[error("21 Torn {dialer}/{count} {seq}", dialer = .trunk.dialer.text(), count = .trunk.count)]
     Torn {
         /// The connection.

@@ -18,7 +18,7 @@ use erl_names::NodeName;
 use node_lock::{Book, Seat};
 use std::alloc::Global;
 
-// Whether each book is of the node of its place, and each node has one.
+// Checks that each book is of the node of its place, and that each node has one.
 fn check_names(nodes: &[(NodeName, Setup)], books: &[Book]) -> Result<(), FinishError>
     ensures ok { IfOk result (λ _. AreInPlace nodes.now books.now) }
     ensures err { IfErr result (λ e. (seats : List TheSeat) → IsFault nodes.now books.now seats e) }
@@ -46,7 +46,7 @@ fn all_replay(books: &[Book])
 /// and each act has one (`receipts`).
 ///
 /// # Errors
-/// What is wrong is where the error says, and what is looked at before is in order (`fault`):
+/// The fault is at the place that the error names, and the tests before it have passed (`fault`):
 /// [`FinishError::StrangeBook`] where a book isn't of the node at its place, or that node has none;
 /// [`FinishError::Torn`] where what a node took of a connection doesn't begin what the other has put on
 /// it; [`FinishError::StrangeReceipt`] where a receipt doesn't stand at its place in the book of its

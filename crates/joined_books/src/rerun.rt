@@ -57,7 +57,7 @@ fn entry_at<'a>(books: &'a [Book], placed: &Placed) -> Option<&'a Entry>
     entry_of(books[placed.node].entries(), placed.position)
 }
 
-// What an entry tells happens in a world, at the node of a place.
+// Lets the event of an entry happen in a world, at the node of a place.
 fn happens(alloc: Global, world: &mut World, node: usize, entry: &Entry) -> Result<(), Refusal>
     ensures ok { (m : TheWorld) → StandsFor world.old m → OnOk result (HappensAgain m node entry.now world.new) }
     ensures err { IfErr result (λ e. e ≡ OutOfMemory) }

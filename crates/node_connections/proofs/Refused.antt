@@ -57,9 +57,9 @@ module _ (m : Node) (trunk : TrunkId) (peer : List ℕ) (bytes : List ℕ) (word
       heard st message n due (heard_accepted trunk message (at_work m) (state_of st) (standing_side peer st))
   wanted (standing.Up c) h (signal, n, due) =
       record {
-        front = Holds (Signalled signal) n;
+        front = Holds (Signalled signal false) n;
         is = due;
-        accepted = taken_accepted trunk (standing_side peer (standing.Up c)) (Signalled signal) (at_work m);
+        accepted = taken_accepted trunk (standing_side peer (standing.Up c)) (Signalled signal false) (at_work m);
       }
   wanted (standing.Losing c) h x = absurd x
   wanted standing.Gone h x = absurd x

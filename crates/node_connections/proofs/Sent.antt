@@ -1,5 +1,5 @@
 -- What a side has read of a frame can be sent on.
-use Rattle.std.proofs.Common.{◌≡◌, ◌^◌, ℕ, List, true, ◌&&◌, nat_le, nat_lt, refl, subst, rules}
+use Rattle.std.proofs.Common.{◌≡◌, ◌^◌, ℕ, List, true, false, ◌&&◌, nat_le, nat_lt, refl, subst, rules}
 use Rattle.conn_core.specs.declared.arrival.Fault.{Fault}
 use Rattle.conn_core.specs.declared.arrival.Taken.{Taken}
 use Rattle.conn_core.specs.declared.arrival.Taken.TheVariants as taken
@@ -33,7 +33,7 @@ sendable_from _ h = refl
 pub item_sent : (st : Standing) (bytes : List ℕ) (item : Item) (len : ℕ) → state_of st ≡ Up
     → IsFrontIn (state_of st) bytes (Holds (item_of item) len) → CanBeSent item
 item_sent st bytes (frame.Signal signal) len up front =
-    sendable_from signal (due_sendable signal bytes len (subst (λ s. IsFrontIn s bytes (Holds (Signalled signal) len)) up front))
+    sendable_from signal (due_sendable signal bytes len (subst (λ s. IsFrontIn s bytes (Holds (Signalled signal false) len)) up front))
 item_sent st bytes frame.Tick len up front = tt
 
 -- so of all that is judged

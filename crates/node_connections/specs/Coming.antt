@@ -1,6 +1,6 @@
 -- What a node that runs does with what comes on a connection.
 -- (ERTS User's Guide, Distribution Protocol.)
-use Rattle.std.specs.Prelude.{◌≡◌, ℕ, Option, None, Some, true, if◌then◌else◌, List, Result, Ok, Err}
+use Rattle.std.specs.Prelude.{◌≡◌, ℕ, Option, None, Some, true, false, if◌then◌else◌, List, Result, Ok, Err}
 use Rattle.conn_core.specs.declared.arrival.Fault.{Fault}
 use Rattle.conn_core.specs.declared.arrival.Taken.{Taken}
 use Rattle.conn_core.specs.declared.arrival.Taken.TheVariants as taken
@@ -46,7 +46,7 @@ pub record PlansBytes (m : Node) (side : Option TrunkSide) (bytes : List ℕ) (d
 -- ---- what a side has judged: what a frame carries can be sent on, and so many bytes are taken
 
 abbrev pub item_of : FrameItem → Item
-item_of (frame.Signal signal) = Signalled signal
+item_of (frame.Signal signal) = Signalled signal false
 item_of frame.Tick = Tick
 
 abbrev pub CanBeSent : FrameItem → Type 0

@@ -1,7 +1,7 @@
 -- What stands at the front of the bytes that come to a node on a connection: a side that is up reads frames, any other
 -- messages of the handshake, and a node without a side reads as the acceptor of an attempt.
 -- (ERTS User's Guide, Distribution Protocol, Distribution Handshake and Protocol between Connected Nodes.)
-use Rattle.std.specs.Prelude.{ℕ, Option, None, Some, List, Ok, Err}
+use Rattle.std.specs.Prelude.{ℕ, false, Option, None, Some, List, Ok, Err}
 use Rattle.conn_core.specs.declared.arrival.Fault.{Fault}
 use Rattle.dist_model.specs.Items.{Item, Signalled, Handshake, Tick}
 use Rattle.dist_model.specs.Sides as state
@@ -35,9 +35,10 @@ IsMessageFront reader bytes (Holds (Handshake message) len) = IsShakeDue reader 
 IsMessageFront reader bytes (Spoils (Fault.Shake ShakeFault.BadMessage)) = IsShakeDue reader bytes (Err Refusal.BadMessage)
 IsMessageFront reader bytes _ = ⊥
 
+-- A signal stands here as `Signalled signal false`, in whichever spelling it came: the node does the same with both.
 abbrev pub IsFrameFront : List ℕ → Front → Type 0
 IsFrameFront bytes Begins = IsFrameDue bytes (Ok None)
-IsFrameFront bytes (Holds (Signalled signal) len) = IsFrameDue bytes (Ok (Some (frame.Signal signal, len)))
+IsFrameFront bytes (Holds (Signalled signal false) len) = IsFrameDue bytes (Ok (Some (frame.Signal signal, len)))
 IsFrameFront bytes (Holds Tick len) = IsFrameDue bytes (Ok (Some (frame.Tick, len)))
 IsFrameFront bytes (Spoils (Fault.Frame why)) = IsFrameDue bytes (Err (error_of why))
 IsFrameFront bytes _ = ⊥

@@ -1,5 +1,5 @@
 //! The arrival of bytes on a connection.
-ghost use Rattle.std.specs.Prelude.{◌≡◌, ℕ, List, Some, true};
+ghost use Rattle.std.specs.Prelude.{◌≡◌, ℕ, List, Some, true, false};
 ghost use Rattle.std.specs.FinMap as fm;
 ghost use Rattle.conn_core.specs.Arrivals.{ArrivalDue};
 ghost use Rattle.dist_model.specs.Arrivals.{on_up};
@@ -40,7 +40,7 @@ fn take_signal(
     requires there { fm.get (seen node.now).sides side.now.trunk ≡ Some (side_of side.now) }
     requires settled { is_settled side.now.standing ≡ true }
     requires sent { is_sendable signal.now ≡ true }
-    ensures { Plans (seen node.now) (on_up side.now.trunk (side_of side.now) (Signalled signal.now) (at_work (seen node.now))) plan.new result }
+    ensures { Plans (seen node.now) (on_up side.now.trunk (side_of side.now) (Signalled signal.now false) (at_work (seen node.now))) plan.new result }
 {
     if !is_good(node, side, signal) {
         return break_side(plan, side, Fault::Forged);

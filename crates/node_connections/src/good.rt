@@ -1,5 +1,5 @@
-//! Which signals a connection may bring.
-ghost use Rattle.std.specs.Prelude.{◌≡◌};
+//! The signals that a connection may bring.
+ghost use Rattle.std.specs.Prelude.{◌≡◌, false};
 ghost use Rattle.dist_model.specs.Arrivals as arrivals;
 ghost use Rattle.dist_model.specs.Items.{Signalled};
 ghost use Rattle.erl_control.specs.Ends.{sender_of};
@@ -49,7 +49,7 @@ fn is_known(node: &Node, process: &Pid) -> bool
 /// Returns true if the signal is from a process of the peer's and to one that this node has spawned. (Reference
 /// Manual, Processes, Delivery of Signals.)
 pub(crate) fn is_good(node: &Node, side: &Side, signal: &Signal) -> bool
-    ensures { result ≡ arrivals.is_good (seen node.now) (side_of side.now) (Signalled signal.now) }
+    ensures { result ≡ arrivals.is_good (seen node.now) (side_of side.now) (Signalled signal.now false) }
 {
     is_of_peer(side, signal) && is_known(node, receiver(signal))
 }

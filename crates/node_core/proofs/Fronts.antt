@@ -2,20 +2,23 @@
 use Rattle.std.proofs.Common.{◌≡◌, ℕ, Bool, true, false, cond, not, List, [], ◌++◌, length, Option, None}
 use Rattle.std.proofs.Common.{Some, Result, Ok, Err, refl, sym, ap, subst, ◌∙◌, append-nil, inl, lit<}
 use Rattle.conn_core.specs.declared.arrival.Fault.{Fault}
-use Rattle.dist_model.specs.Arrivals.{arrive, arrive_first}
-use Rattle.dist_model.specs.Commands.{Refuses}
+use Rattle.dist_model.specs.Arrivals.{arrive, arrive_first, is_good, signal_at}
+use Rattle.dist_model.specs.Commands.{Accepts, Refuses}
 use Rattle.dist_model.specs.Due.{is_handshake, of_role, shakes_for}
 use Rattle.dist_model.specs.Handshake.{fault}
-use Rattle.dist_model.specs.Items.{Handshake, Item, Signalled, Tick}
+use Rattle.dist_model.specs.Items.{Handshake, Item, Signalled, Tick, kind_of}
 use Rattle.dist_model.specs.Node.{Node}
 use Rattle.dist_model.specs.Sides as state
 use Rattle.dist_model.specs.Sides.{State, TrunkSide, is_over}
-use Rattle.dist_model.specs.Work.{at_work}
+use Rattle.dist_model.specs.Taking.{take}
+use Rattle.dist_model.specs.Work.{Work, at_work}
+use Rattle.dist_model.specs.declared.report.Answer.{Answer}
 use Rattle.erl_control.specs.Answer.{IsFrameDue}
 use Rattle.erl_control.specs.Frame.{IsFramed}
 use Rattle.erl_control.specs.declared.error.FrameError.{FrameError}
 use Rattle.erl_control.specs.declared.signal.Item.{Item as FrameItem}
 use Rattle.erl_control.specs.declared.signal.Item.TheVariants as frame
+use Rattle.erl_control.specs.declared.signal.Signal.{Signal}
 use Rattle.erl_control.specs.Numbers.{error_of}
 use Rattle.erl_handshake.proofs.Dues.{due_again, due_once, written_shake}
 use Rattle.erl_handshake.specs.Answer.{IsShakeDue}
@@ -93,7 +96,7 @@ message_front dials message bytes front f h b d = go front d
     go Begins k = none_or_one (message, len) (once (Ok None) k)
     go (Holds (Handshake other) n) k =
         (n, ap (λ (x : ShakeMsg × ℕ). Holds (Handshake x.0) n) (same_read (other, n) (message, len) (once (Ok (Some (other, n))) k)))
-    go (Holds (Signalled signal) n) k = absurd k
+    go (Holds (Signalled signal payload) n) k = absurd k
     go (Holds Tick n) k = absurd k
     go (Spoils (Fault.Shake ShakeFault.BadMessage)) k = err_or_one Refusal.BadMessage (message, len) (once (Err Refusal.BadMessage) k)
     go (Spoils (Fault.Shake ShakeFault.FlagsMissing)) k = absurd k
@@ -113,7 +116,7 @@ nothing_begins reader front d = go front d
     go : (front : Front) → IsMessageFront reader [] front → front ≡ Begins
     go Begins k = refl
     go (Holds (Handshake other) n) k = none_or_one (other, n) (sym (once (Ok (Some (other, n))) k))
-    go (Holds (Signalled signal) n) k = absurd k
+    go (Holds (Signalled signal payload) n) k = absurd k
     go (Holds Tick n) k = absurd k
     go (Spoils (Fault.Shake ShakeFault.BadMessage)) k =
         (let e : Err Refusal.BadMessage ≡ (let due : ShakeDue = Ok None in due) = once (Err Refusal.BadMessage) k in cc)
@@ -144,7 +147,8 @@ frame_front : (bytes : List ℕ) (item : FrameItem) (len : ℕ) (front : Front)
     → ((other : FrameDue) → IsFrameDue bytes other → other ≡ Ok (Some (item, len)))
     → IsFrameFront bytes front → (n : ℕ) × (front ≡ Holds (item_of item) n)
 frame_front bytes item len Begins once k = no_frame (item, len) (once (Ok None) k)
-frame_front bytes item len (Holds (Signalled signal) n) once k = (
+frame_front bytes item len (Holds (Signalled signal true) n) once k = absurd k
+frame_front bytes item len (Holds (Signalled signal false) n) once k = (
   n,
   ap (λ (x : FrameItem × ℕ). Holds (item_of x.0) n)
       (same_frame (frame.Signal signal, n) (item, len) (once (Ok (Some (frame.Signal signal, n))) k)),
@@ -159,7 +163,8 @@ frame_front bytes item len (Spoils Fault.Forged) once k = absurd k
 no_frame_front : (bytes : List ℕ) (front : Front) → ((other : FrameDue) → IsFrameDue bytes other → other ≡ Ok None)
     → IsFrameFront bytes front → front ≡ Begins
 no_frame_front bytes Begins once k = refl
-no_frame_front bytes (Holds (Signalled signal) n) once k =
+no_frame_front bytes (Holds (Signalled signal true) n) once k = absurd k
+no_frame_front bytes (Holds (Signalled signal false) n) once k =
     no_frame (frame.Signal signal, n) (sym (once (Ok (Some (frame.Signal signal, n))) k))
 no_frame_front bytes (Holds Tick n) once k = no_frame (frame.Tick, n) (sym (once (Ok (Some (frame.Tick, n))) k))
 no_frame_front bytes (Holds (Handshake message) n) once k = absurd k
@@ -168,20 +173,45 @@ no_frame_front bytes (Spoils (Fault.Frame why)) once k =
 no_frame_front bytes (Spoils (Fault.Shake why)) once k = absurd k
 no_frame_front bytes (Spoils Fault.Forged) once k = absurd k
 
+-- ---- the node does the same with both spellings of a signal
+
+-- an item as it is read: its spelling isn't kept
+abbrev as_read : Item → Item
+as_read (Signalled signal payload) = Signalled signal false
+as_read item = item
+
+kinds_alike : (signal : Signal) (payload : Bool) → kind_of (Signalled signal payload) ≡ kind_of (Signalled signal false)
+kinds_alike (Signal.Link from to) payload = refl
+kinds_alike signal payload = refl
+
+signals_alike : (st : State) (trunk : TrunkId) (side : TrunkSide) (signal : Signal) (payload : Bool) (work : Work)
+    → signal_at st trunk side (Signalled signal payload) work ≡ signal_at st trunk side (Signalled signal false) work
+signals_alike state.Up trunk side signal payload work =
+    ap (λ kind. cond (is_good work.node side (Signalled signal false)) (Accepts (Answer.Took kind) (take signal work))
+    (fault Fault.Forged trunk side work)) (kinds_alike signal payload)
+signals_alike st trunk side signal payload work = refl
+
+arrives_alike : (m : Node) (trunk : TrunkId) (word : ℕ) (o : Option TrunkSide) (item : Item)
+    → arrive m trunk o (Some item) word ≡ arrive m trunk o (Some (as_read item)) word
+arrives_alike m trunk word None (Signalled signal payload) = refl
+arrives_alike m trunk word (Some side) (Signalled signal payload) =
+    ap (λ outcome. cond (is_over side.state) (Refuses Refusal.NotLive) outcome)
+    (signals_alike side.state trunk side signal payload (at_work m))
+arrives_alike m trunk word o item = refl
+
 module _ (one : OneFrame) (again : FrameAgain) (bytes : List ℕ) (are : AreBytes bytes) where
   as_due : (due : FrameDue) → IsFrameDue bytes due → (other : FrameDue) → IsFrameDue bytes other → other ≡ due
   as_due due d other k = let o = one bytes are in o.2 other k ∙ sym (o.2 due d)
 
   up_front : (item : Item) (front : Front) → not (is_handshake item) ≡ true → IsSpelled item → bytes ≡ bytes_of item
       → IsFrameFront bytes front
-      → (n : ℕ) × (front ≡ Holds item n)
-  up_front (Signalled signal) front r s b k =
-      let due : IsFrameDue bytes (Ok (Some (frame.Signal signal, length (bytes_of (Signalled signal))))) =
-      subst (λ bs. IsFrameDue bs (Ok (Some (frame.Signal signal, length (bytes_of (Signalled signal))))))
-      (append-nil (bytes_of (Signalled signal)) ∙ sym b)
-      (again (frame.Signal signal) (bytes_of (Signalled signal)) [] s) in
-      frame_front bytes (frame.Signal signal) (length (bytes_of (Signalled signal))) front
-      (as_due (Ok (Some (frame.Signal signal, length (bytes_of (Signalled signal))))) due) k
+      → (n : ℕ) × (front ≡ Holds (as_read item) n)
+  up_front (Signalled signal payload) front r s b k =
+      let written = bytes_of (Signalled signal payload) in
+      let due : IsFrameDue bytes (Ok (Some (frame.Signal signal, length written))) =
+      subst (λ bs. IsFrameDue bs (Ok (Some (frame.Signal signal, length written)))) (append-nil written ∙ sym b)
+      (again (frame.Signal signal) written [] s.0) in
+      frame_front bytes (frame.Signal signal) (length written) front (as_due (Ok (Some (frame.Signal signal, length written))) due) k
   up_front Tick front r s b k =
       let due : IsFrameDue bytes (Ok (Some (frame.Tick, length (bytes_of Tick)))) =
       subst (λ bs. IsFrameDue bs (Ok (Some (frame.Tick, length (bytes_of Tick))))) (append-nil (bytes_of Tick) ∙ sym b)
@@ -190,14 +220,14 @@ module _ (one : OneFrame) (again : FrameAgain) (bytes : List ℕ) (are : AreByte
   up_front (Handshake message) front r s b k = cc
 
   shake_front : (dials : Bool) (item : Item) (front : Front) → shakes_for dials item ≡ true → IsSpelled item → bytes ≡ bytes_of item
-      → IsMessageFront (reader_of dials) bytes front → (n : ℕ) × (front ≡ Holds item n)
+      → IsMessageFront (reader_of dials) bytes front → (n : ℕ) × (front ≡ Holds (as_read item) n)
   shake_front dials (Handshake message) front r s b k = message_front dials message bytes front r s b k
-  shake_front dials (Signalled signal) front r s b k = cc
+  shake_front dials (Signalled signal payload) front r s b k = cc
   shake_front dials Tick front r s b k = cc
 
   -- what was sent is whole where it is read
-  not_begun : (item : Item) → ((n : ℕ) × (Begins ≡ Holds item n)) → ⊥
-  not_begun item h = let no : Begins ≡ Holds item h.0 = h.1 in cc
+  not_begun : (item : Item) → ((n : ℕ) × (Begins ≡ Holds (as_read item) n)) → ⊥
+  not_begun item h = let no : Begins ≡ Holds (as_read item) h.0 = h.1 in cc
 
   whole_in : (item : Item) (st : State) → reads st item ≡ true → IsSpelled item → bytes ≡ bytes_of item → IsWholeIn st bytes
   whole_in item (state.AwaitsStatus w) r s b = λ k. not_begun item (shake_front true item Begins r s b k)
@@ -228,9 +258,9 @@ module _ (one : OneFrame) (again : FrameAgain) (bytes : List ℕ) (are : AreByte
         here (Holds item n) = there (Some item)
         here (Spoils why) = ap (λ b. cond b (Refuses Refusal.NotLive) (fault why trunk side (at_work m))) h
 
-    held : (o : Option TrunkSide) (item : Item) (front : Front) → ((n : ℕ) × (front ≡ Holds item n))
+    held : (o : Option TrunkSide) (item : Item) (front : Front) → ((n : ℕ) × (front ≡ Holds (as_read item) n))
         → comes m trunk o front word ≡ arrive m trunk o (Some item) word
-    held o item front h = ap (λ f. comes m trunk o f word) h.1
+    held o item front h = ap (λ f. comes m trunk o f word) h.1 ∙ sym (arrives_alike m trunk word o item)
 
     side_comes : (side : TrunkSide) (item : Item) (front : Front) (st : State) → side.state ≡ st → reads st item ≡ true
         → IsSpelled item → bytes ≡ bytes_of item

@@ -1,5 +1,5 @@
 -- The bytes of an item tell its kind.
-use Rattle.std.proofs.Common.{◌≡◌, ℕ, zero, suc, ◌+◌, ◌*◌, ◌/◌, ◌%◌, ◌<◌, ◌≤◌, Some, true, false, List, [], ◌∷◌}
+use Rattle.std.proofs.Common.{◌≡◌, Bool, ℕ, zero, suc, ◌+◌, ◌*◌, ◌/◌, ◌%◌, ◌<◌, ◌≤◌, Some, true, false, List, [], ◌∷◌}
 use Rattle.std.proofs.Common.{◌++◌, length, ◌==◌, if◌then◌else◌, refl, sym, ap, ◌∙◌, subst, arith, length-append}
 use Rattle.std.specs.List.{AllPass}
 use Rattle.std.proofs.lemmas.Bool.Decides.{nat_tests}
@@ -88,26 +88,33 @@ message_is m h = by_letter m h
 frame_is : (n : ℕ) (rest : List ℕ) → n ≤ 65536 → is_message (big_bytes 4 n ++ rest) ≡ false
 frame_is n rest high = le-ltb 1 _ (omega arith)
 
-signal_is : (signal : Signal) → IsSignalFrame signal (canonical_frame signal false) → is_message (canonical_frame signal false) ≡ false
-signal_is signal is =
-    let text = canonical_text signal false in
-    let l : length (canonical_frame signal false) ≡ length (is.len ++ 112 ∷ is.text) = ap (λ (b : List ℕ). length b) is.bytes in
+signal_is : (signal : Signal) (payload : Bool) → IsSignalFrame signal (canonical_frame signal payload)
+    → is_message (canonical_frame signal payload) ≡ false
+signal_is signal payload is =
+    let text = canonical_text signal payload in
+    let l : length (canonical_frame signal payload) ≡ length (is.len ++ 112 ∷ is.text) = ap (λ (b : List ℕ). length b) is.bytes in
     let n = is.number.len in
     let s = is.short in
     frame_is (suc (length text)) (112 ∷ text) (omega (arith, length-append is.len (112 ∷ is.text)))
 
-is_no_tick : (signal : Signal) → (length (canonical_frame signal false) == 4) ≡ false
-is_no_tick signal = differ (length (canonical_frame signal false)) 4 (omega arith)
+is_no_tick : (signal : Signal) (payload : Bool) → (length (canonical_frame signal payload) == 4) ≡ false
+is_no_tick signal payload = differ (length (canonical_frame signal payload)) 4 (omega arith)
 
-tag_is : (signal : Signal) → signal_kind (byte_at (canonical_frame signal false) 9) ≡ Some (kind_of (Signalled signal))
+tag_is : (signal : Signal) (payload : Bool)
+    → signal_kind (byte_at (canonical_frame signal payload) 9) ≡ Some (kind_of (Signalled signal payload))
 unfolding canonical_head canonical_int
-tag_is (Signal.Link from to) = refl
-tag_is signal = refl
+tag_is (Signal.Exit from to reason) true = refl
+tag_is (Signal.Exit from to reason) false = refl
+tag_is (Signal.Exit2 from to reason) true = refl
+tag_is (Signal.Exit2 from to reason) false = refl
+tag_is (Signal.MonitorExit from to r reason) true = refl
+tag_is (Signal.MonitorExit from to r reason) false = refl
+tag_is signal payload = refl
 
 pub kind_is_told : (item : Item) → IsSpelled item → kind_in (bytes_of item) ≡ Some (kind_of item)
-kind_is_told (Signalled signal) h =
-    let bytes = canonical_frame signal false in
-    ap (λ b. if b then message_kind (byte_at bytes 2) bytes else frame_kind bytes) (signal_is signal h)
-    ∙ ap (λ b. if b then Some Kind.Tick else signal_kind (byte_at bytes 9)) (is_no_tick signal) ∙ tag_is signal
+kind_is_told (Signalled signal payload) h =
+    let bytes = canonical_frame signal payload in
+    ap (λ b. if b then message_kind (byte_at bytes 2) bytes else frame_kind bytes) (signal_is signal payload h.0)
+    ∙ ap (λ b. if b then Some Kind.Tick else signal_kind (byte_at bytes 9)) (is_no_tick signal payload) ∙ tag_is signal payload
 kind_is_told (Handshake message) h = message_is message h
 kind_is_told Tick h = refl

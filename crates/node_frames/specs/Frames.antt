@@ -1,8 +1,8 @@
 -- What travels, as it is sent: its bytes, and whose signal it is.
 -- (ERTS User's Guide, Distribution Protocol.)
-use Rattle.std.specs.Prelude.{Option, None, Some, ℕ, List, [], ◌∷◌, false, refl}
+use Rattle.std.specs.Prelude.{◌≡◌, Option, None, Some, ℕ, List, [], ◌∷◌, true, refl}
 use Rattle.std.specs.Coded.{Coded, code_by, coded×, coded_list, coded_option, coded_ℕ}
-use Rattle.dist_model.specs.Items.{Handshake, Item, Signalled, Tick}
+use Rattle.dist_model.specs.Items.{Handshake, Item, Signalled, Tick, has_reason}
 use Rattle.dist_model.specs.declared.report.Effect.{Effect}
 use Rattle.erl_control.specs.Canonical.{canonical_frame}
 use Rattle.erl_control.specs.Ends.{receiver_of, sender_of}
@@ -11,15 +11,16 @@ use Rattle.erl_control.specs.declared.signal.Item.TheVariants as frame
 use Rattle.erl_handshake.specs.Messages.{HasFields, written}
 use Rattle.erl_term.specs.declared.term.Pid.{Pid}
 
--- The one spelling in which it is sent. A reason stands in the control term.
+-- The bytes in which it is sent. The payload of a signal is its reason, which follows the control term.
 abbrev pub bytes_of : Item → List ℕ
-bytes_of (Signalled signal) = canonical_frame signal false
+bytes_of (Signalled signal payload) = canonical_frame signal payload
 bytes_of (Handshake message) = written message
 bytes_of Tick = 0 ∷ 0 ∷ 0 ∷ 0 ∷ []
 
--- an item that has this spelling: a reader of frames, or of the handshake, reads it again
+-- an item that has this spelling: a reader of frames, or of the handshake, reads it again. Only a reason follows a control term
 abbrev pub IsSpelled : Item → Type 0
-IsSpelled (Signalled signal) = IsFramed (frame.Signal signal) (canonical_frame signal false)
+IsSpelled (Signalled signal payload) =
+    IsFramed (frame.Signal signal) (canonical_frame signal payload) × (payload ≡ true → has_reason signal ≡ true)
 IsSpelled (Handshake message) = HasFields message
 IsSpelled Tick = Unit {0}
 
@@ -29,7 +30,7 @@ named None to = None
 named (Some from) to = Some (from, to)
 
 abbrev pub between_of : Item → Option (Pid × Pid)
-between_of (Signalled signal) = named (sender_of signal) (receiver_of signal)
+between_of (Signalled signal payload) = named (sender_of signal) (receiver_of signal)
 between_of (Handshake message) = None
 between_of Tick = None
 

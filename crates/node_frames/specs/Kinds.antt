@@ -1,7 +1,7 @@
 -- What an item is, told by the bytes in which it is sent: a message of the handshake by its letter, a frame by the tag of its
 -- control term.
 -- (ERTS User's Guide, Distribution Protocol, Distribution Handshake and Protocol between Connected Nodes.)
-use Rattle.std.specs.Prelude.{ℕ, ◌+◌, ◌*◌, Bool, ◌==◌, List, Option, None, Some, length, nat_lt, slice_index_or, if◌then◌else◌}
+use Rattle.std.specs.Prelude.{ℕ, ◌+◌, ◌*◌, Bool, ◌==◌, ◌||◌, List, Option, None, Some, length, nat_lt, slice_index_or, if◌then◌else◌}
 use Rattle.dist_model.specs.declared.report.Kind.{Kind}
 use Rattle.dist_model.specs.declared.report.Kind.TheVariants as kind
 
@@ -29,15 +29,16 @@ message_kind letter bytes =
     else if letter == 78 then Some (named_kind bytes)
     else None
 
+-- an exit and the exit of a monitor have two tags: by the second the reason follows the control term
 abbrev pub signal_kind : (tag : ℕ) → Option Kind
 signal_kind tag =
     if tag == 1 then Some kind.Link
     else if tag == 2 then Some kind.Send
-    else if tag == 3 then Some kind.Exit
-    else if tag == 8 then Some kind.Exit2
+    else if tag == 3 || tag == 24 then Some kind.Exit
+    else if tag == 8 || tag == 26 then Some kind.Exit2
     else if tag == 19 then Some kind.Monitor
     else if tag == 20 then Some kind.Demonitor
-    else if tag == 21 then Some kind.MonitorExit
+    else if tag == 21 || tag == 28 then Some kind.MonitorExit
     else if tag == 35 then Some kind.Unlink
     else if tag == 36 then Some kind.UnlinkAck
     else None

@@ -1,7 +1,7 @@
 //! What travels, as it is sent.
-ghost use Rattle.std.specs.Prelude.{◌≡◌, ◌<◌, ◌^◌, IfOk, length, true};
+ghost use Rattle.std.specs.Prelude.{◌≡◌, ◌<◌, ◌^◌, ◌&&◌, IfOk, length, true};
 ghost use Rattle.std.specs.Option.{option_copied};
-ghost use Rattle.dist_model.specs.Items.{Handshake, Signalled};
+ghost use Rattle.dist_model.specs.Items.{Handshake, Signalled, has_reason};
 ghost use Rattle.erl_handshake.specs.Messages.{HasFields};
 ghost use Rattle.node_frames.specs.Frames.{IsSpelled, framed, named};
 ghost use Rattle.node_frames.specs.Sendable.{is_sendable};
@@ -40,6 +40,16 @@ fn named(from: Option<&Pid>, to: &Pid) -> Result<Option<(Pid, Pid)>, AllocError>
         Some(from) => Ok(Some((from.clone()?, to.clone()?))),
         None => Ok(None),
     }
+}
+
+// Returns true if the signal has a reason. Only a reason may follow the control term.
+fn has_reason(signal: &Signal) -> bool
+    ensures { result ≡ has_reason signal.now }
+{
+    matches!(
+        signal,
+        Signal::Exit { .. } | Signal::Exit2 { .. } | Signal::MonitorExit { .. }
+    )
 }
 
 fn is_of_32_bits(number: u32)
@@ -89,18 +99,20 @@ fn has_fields(message: &ShakeMsg)
 }
 
 impl Frame {
-    /// The one frame that is written of a signal. (ERTS User's Guide, Distribution Protocol, Protocol
-    /// between Connected Nodes.)
+    /// Returns the one frame that is written of a signal. With `payload` its reason, if it has one,
+    /// follows the control term. (ERTS User's Guide, Distribution Protocol, Protocol between Connected
+    /// Nodes.)
     ///
     /// # Errors
     /// Where there is no memory for it.
-    pub fn of(alloc: Global, signal: &Signal) -> Result<Frame, AllocError>
+    pub fn of(alloc: Global, signal: &Signal, payload: bool) -> Result<Frame, AllocError>
         requires { is_sendable signal.now ≡ true }
-        ensures frame { IfOk result (λ f. f ≡ framed (Signalled signal.now)) }
-        ensures spelled { IfOk result (λ _. IsSpelled (Signalled signal.now)) }
+        ensures frame { IfOk result (λ f. f ≡ framed (Signalled signal.now (has_reason signal.now && payload))) }
+        ensures spelled { IfOk result (λ _. IsSpelled (Signalled signal.now (has_reason signal.now && payload))) }
     {
         let between = named(sender(signal), receiver(signal))?;
-        match frame(alloc, signal, false) {
+        let payload = has_reason(signal) && payload;
+        match frame(alloc, signal, payload) {
             Ok(bytes) => Ok(Frame { bytes, between }),
             Err(FrameError::OutOfMemory) => Err(AllocError),
             Err(_) => unreachable!(),

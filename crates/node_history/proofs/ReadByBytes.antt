@@ -1,5 +1,5 @@
 -- The bytes of an item tell whether it is read.
-use Rattle.std.proofs.Common.{◌≡◌, ℕ, List, Option, None, Some, true, false, not, refl, sym, ap, subst, ◌∙◌}
+use Rattle.std.proofs.Common.{◌≡◌, Bool, ℕ, List, Option, None, Some, true, false, not, refl, sym, ap, subst, ◌∙◌}
 use Rattle.std.proofs.lemmas.Bool.{and_parts, not-true}
 use Rattle.std.specs.FinMap as fm
 use Rattle.dist_model.specs.Due.{is_handshake, shakes_for}
@@ -23,9 +23,9 @@ use Rattle.node_core.specs.ComingToANode.{CanCome, reads, reads_at}
 abbrev IsNoMessage : Option Kind → Type 0
 IsNoMessage kind = (is_for_dialer kind ≡ false) × (is_for_acceptor kind ≡ false) × (is_message kind ≡ false)
 
-signal_is_none : (signal : Signal) → IsNoMessage (Some (kind_of (Signalled signal)))
-signal_is_none (Signal.Link from to) = (refl, refl, refl)
-signal_is_none _ = (refl, refl, refl)
+signal_is_none : (signal : Signal) (payload : Bool) → IsNoMessage (Some (kind_of (Signalled signal payload)))
+signal_is_none (Signal.Link from to) payload = (refl, refl, refl)
+signal_is_none signal payload = (refl, refl, refl)
 
 -- what a message is written to, by its kind
 abbrev IsMessage : ShakeMsg → Type 0
@@ -40,17 +40,17 @@ message_is _ = (refl, refl, refl)
 
 by_dialer : (item : Item) → shakes_for true item ≡ is_for_dialer (Some (kind_of item))
 by_dialer (Handshake message) = (message_is message).0
-by_dialer (Signalled signal) = sym (signal_is_none signal).0
+by_dialer (Signalled signal payload) = sym (signal_is_none signal payload).0
 by_dialer Tick = refl
 
 by_acceptor : (item : Item) → shakes_for false item ≡ is_for_acceptor (Some (kind_of item))
 by_acceptor (Handshake message) = (message_is message).1
-by_acceptor (Signalled signal) = sym (signal_is_none signal).1
+by_acceptor (Signalled signal payload) = sym (signal_is_none signal payload).1
 by_acceptor Tick = refl
 
 by_frames : (item : Item) → not (is_handshake item) ≡ not (is_message (Some (kind_of item)))
 by_frames (Handshake message) = sym (ap not (message_is message).2)
-by_frames (Signalled signal) = sym (ap not (signal_is_none signal).2)
+by_frames (Signalled signal payload) = sym (ap not (signal_is_none signal payload).2)
 by_frames Tick = refl
 
 by_state : (st : State) (item : Item) → reads st item ≡ reads_kind st (Some (kind_of item))

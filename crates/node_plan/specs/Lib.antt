@@ -4,6 +4,7 @@ pub mod Fresh
 pub mod RoomForChanges
 pub mod Registering
 pub mod Parts
+pub mod OwnList
 pub mod SeenOf
 pub mod Keeps
 pub mod Seen

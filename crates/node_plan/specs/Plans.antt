@@ -1,10 +1,10 @@
 -- What a plan makes of a node.
 use Rattle.std.specs.Prelude.{ℕ, ◌+◌, Bool, if◌then◌else◌, ◌++◌, map}
-use Rattle.dist_model.specs.Items.{Signalled}
 use Rattle.dist_model.specs.Node.{Node}
 use Rattle.dist_model.specs.declared.report.Answer.{Answer}
 use Rattle.node_plan.specs.Changed.{drawn_by, ends_after, lives_after, popped, registered, sides_after}
 use Rattle.node_plan.specs.Changed.{spawned_by, told_by, watched, watchers_left, watches_left}
+use Rattle.node_plan.specs.OwnList.{own_item}
 use Rattle.node_plan.specs.declared.plan.Plan.{Plan}
 
 abbrev pub dialed_after : Bool → ℕ → ℕ
@@ -24,7 +24,7 @@ committed plan m = record {
   watches = watches_left plan.change (watched plan.watches m.watches);
   registered = watchers_left plan.change (registered plan.watchers m.registered);
   sides = sides_after plan.sides.items m.sides;
-  local = popped plan.pops m.local ++ map Signalled plan.local.items;
+  local = popped plan.pops m.local ++ map own_item plan.local.items;
 }
 
 abbrev pub told : Plan → Node → Answer

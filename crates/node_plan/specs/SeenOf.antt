@@ -1,6 +1,5 @@
 -- The node of the model that these parts of a node stand for.
 use Rattle.std.specs.Prelude.{ℕ, List, map}
-use Rattle.dist_model.specs.Items.{Signalled}
 use Rattle.dist_model.specs.Node as model
 use Rattle.erl_control.specs.declared.signal.Signal.{Signal}
 use Rattle.erl_handshake.specs.declared.identity.Identity.{Identity}
@@ -9,6 +8,7 @@ use Rattle.node_tables.specs.Sides.{sides}
 use Rattle.node_tables.specs.declared.sides.Sides.{Sides}
 use Rattle.node_tables.specs.Held.{ends, lives}
 use Rattle.node_tables.specs.declared.incarnation.Incarnation.{Incarnation}
+use Rattle.node_plan.specs.OwnList.{own_item}
 
 abbrev pub seen_of : Incarnation → Identity → ℕ → (watches watchers : Held) → Sides → List Signal → model.Node
 seen_of it own dialed watches watchers held local = record {
@@ -22,5 +22,5 @@ seen_of it own dialed watches watchers held local = record {
   watches = watches.monitors;
   registered = watchers.monitors;
   sides = sides held;
-  local = map Signalled local;
+  local = map own_item local;
 }

@@ -1,11 +1,13 @@
 //! A signal is sent.
 ghost use Rattle.std.specs.Prelude.{◌≡◌, ◌++◌, [], ◌∷◌, true, None, Some, IfSome, OnOk};
+ghost use Rattle.std.specs.FinMap as fm;
 ghost use Rattle.dist_model.specs.Node as model;
 ghost use Rattle.dist_model.specs.Node.{Node as TheNode};
 ghost use Rattle.node_plan.specs.Plans.{told};
 ghost use Rattle.dist_model.specs.Work.{Work, post};
 ghost use Rattle.node_plan.specs.Carried.{Carries, CarriesOut};
 ghost use Rattle.node_frames.specs.Sendable.{is_sendable};
+ghost use Rattle.node_tables.specs.Standings.{side_of};
 ghost use Rattle.node_plan.specs.Seen.{seen};
 ghost use Rattle.node_plan.specs.Sent.{IsSent};
 
@@ -15,23 +17,42 @@ use crate::sending::{push_signal_here, push_signal_there};
 use conn_core::Side;
 use dist_model::Effect;
 use erl_control::Signal;
+use erl_handshake::{Flag, Flags};
 use erl_term::Atom;
 use node_frames::{Frame, receiver, same_name};
 use std::alloc::{AllocError, Global};
 
 impl Node {
-    // The side of the connection that is up to a peer.
+    // Returns the side of the connection that is up to a peer.
     fn way(&self, peer: &Atom) -> Option<&Side>
         ensures none { result ≡ None → model.route (seen self.now) peer.now ≡ None }
         ensures trunk { IfSome result (λ side. model.route (seen self.now) peer.now ≡ Some side.now.trunk) }
         ensures peer { IfSome result (λ side. side.now.peer ≡ peer.now) }
+        ensures side { IfSome result (λ side. fm.get (seen self.now).sides side.now.trunk ≡ Some (side_of side.now)) }
     {
         let trunk = self.sides.route(peer)?;
         self.sides.get(trunk)
     }
+
+    // Returns true if this node and the peer of the side offer the flag.
+    fn both_offer(&self, side: &Side, flag: Flag) -> bool
+        ensures { result ≡ model.both_offer flag (seen self.now) (Some (side_of side.now)) }
+    {
+        self.own.flags.offers(flag) && told_flags(side).offers(flag)
+    }
 }
 
-// It comes behind the others.
+// Returns the flags that the peer has told. They are none before it has told any.
+fn told_flags(side: &Side) -> Flags
+    ensures { result ≡ (side_of side.now).introduction.flags }
+{
+    match side.standing.introduction() {
+        Some(introduction) => Flags::from_bits(introduction.flags),
+        None => Flags::from_bits(0),
+    }
+}
+
+// Puts the signal behind the others.
 fn keep(local: &mut Vec<Signal>, signal: Signal) -> Result<(), AllocError>
     ensures { OnOk result (local.new.items ≡ local.old.items ++ signal ∷ []) }
 {
@@ -39,7 +60,7 @@ fn keep(local: &mut Vec<Signal>, signal: Signal) -> Result<(), AllocError>
     Ok(())
 }
 
-// A signal comes into the own list or onto the connection that is up, with what is told of it.
+// Puts the signal into the own list or onto the connection that is up, and tells of it.
 fn send(
     local: &mut Vec<Signal>,
     effects: &mut Vec<Effect<Frame>>,
@@ -66,7 +87,8 @@ fn send(
             Ok(())
         }
         Some(side) => {
-            let sent = push_signal_there(effects, alloc, side, &signal);
+            let payload = node.both_offer(side, Flag::ExitPayload);
+            let sent = push_signal_there(effects, alloc, side, &signal, payload);
             drop(signal);
             sent
         }
@@ -74,8 +96,10 @@ fn send(
 }
 
 impl Plan {
-    /// A signal is sent to the node of its receiver: into the own list, onto the connection that is
-    /// up, or nowhere. (Reference Manual, Processes, Delivery of Signals.)
+    /// Sends a signal to the node of its receiver: into the own list, onto the connection that is up,
+    /// or nowhere. Its reason follows the control term on a connection whose two nodes both offer this.
+    /// (Reference Manual, Processes, Delivery of Signals; ERTS User's Guide, Distribution Protocol,
+    /// Distribution Flags.)
     ///
     /// # Errors
     /// Where there is no memory for it.

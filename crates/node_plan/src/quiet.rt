@@ -1,8 +1,8 @@
 //! Whether anything travels between two processes of a node.
 ghost use Rattle.std.specs.Prelude.{◌≡◌, not, ◌||◌};
 ghost use Rattle.std.specs.List.{list_all};
-ghost use Rattle.dist_model.specs.Items.{Signalled};
 ghost use Rattle.dist_model.specs.Quiet.{is_signal_of, nothing_between};
+ghost use Rattle.node_plan.specs.OwnList.{own_item};
 ghost use Rattle.node_plan.specs.Seen.{seen};
 
 use crate::node::Node;
@@ -13,7 +13,7 @@ use std::collections::VecDeque;
 
 // Whether a signal is one of a process to another.
 fn is_signal_of(signal: &Signal, from: &Pid, to: &Pid) -> bool
-    ensures { result ≡ is_signal_of from.now to.now (Signalled signal.now) }
+    ensures { result ≡ is_signal_of from.now to.now (own_item signal.now) }
 {
     match sender(signal) {
         Some(process) => same_pid(process, from) && same_pid(receiver(signal), to),
@@ -23,13 +23,13 @@ fn is_signal_of(signal: &Signal, from: &Pid, to: &Pid) -> bool
 
 // Whether it is one of the two to the other.
 fn is_between(signal: &Signal, p: &Pid, q: &Pid) -> bool
-    ensures { result ≡ (is_signal_of p.now q.now (Signalled signal.now) || is_signal_of q.now p.now (Signalled signal.now)) }
+    ensures { result ≡ (is_signal_of p.now q.now (own_item signal.now) || is_signal_of q.now p.now (own_item signal.now)) }
 {
     is_signal_of(signal, p, q) || is_signal_of(signal, q, p)
 }
 
 fn all_pass(signals: &VecDeque<Signal>, p: &Pid, q: &Pid) -> bool
-    ensures { result ≡ list_all (λ s. not (is_signal_of p.now q.now (Signalled s) || is_signal_of q.now p.now (Signalled s))) signals.now.items }
+    ensures { result ≡ list_all (λ s. not (is_signal_of p.now q.now (own_item s) || is_signal_of q.now p.now (own_item s))) signals.now.items }
 {
     signals.iter().all(|signal| !is_between(signal, p, q))
 }

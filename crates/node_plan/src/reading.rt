@@ -15,10 +15,10 @@ ghost use Rattle.link_core.specs.declared.end.End.{End as TheEnd};
 ghost use Rattle.node_tables.specs.Passing.{passes};
 ghost use Rattle.node_tables.specs.Standings.{entry_of, is_settled, side_of, state_of};
 ghost use Rattle.dist_model.specs.Node as model;
-ghost use Rattle.dist_model.specs.Items.{Signalled};
 ghost use Rattle.dist_model.specs.World.{first_of as first_in};
 ghost use Rattle.node_frames.specs.Sendable.{is_sendable};
 ghost use Rattle.node_tables.specs.Lives.{life_of};
+ghost use Rattle.node_plan.specs.OwnList.{own_item};
 ghost use Rattle.node_plan.specs.Seen.{seen};
 
 use crate::node::Node;
@@ -93,9 +93,9 @@ impl Node {
         self.sides.first_losing()
     }
 
-    /// The first signal that travels from the node to itself.
+    /// Returns the first signal that travels from the node to itself.
     pub fn first_local(&self) -> Option<&Signal>
-        ensures first { first_in (seen self.now).local ≡ option_map Signalled (option_copied result) }
+        ensures first { first_in (seen self.now).local ≡ option_map own_item (option_copied result) }
         ensures sendable { IfSome (option_copied result) (λ signal. is_sendable signal ≡ true) }
     {
         self.local.front()

@@ -1,9 +1,10 @@
 //! What is sent.
-ghost use Rattle.std.specs.Prelude.{◌≡◌, ◌++◌, [], ◌∷◌, None, Some, OnOk, true};
-ghost use Rattle.dist_model.specs.Items.{Handshake, Signalled};
+ghost use Rattle.std.specs.Prelude.{◌≡◌, ◌&&◌, ◌++◌, [], ◌∷◌, None, Some, OnOk, true};
+ghost use Rattle.dist_model.specs.Items.{Handshake, Signalled, has_reason};
 ghost use Rattle.dist_model.specs.declared.report.Effect.TheVariants as effect;
 ghost use Rattle.node_frames.specs.Frames.{IsSpelled, framed};
 ghost use Rattle.node_frames.specs.Sendable.{is_sendable};
+ghost use Rattle.node_plan.specs.OwnList.{own_item};
 
 use crate::pushing::push;
 use conn_core::Side;
@@ -14,8 +15,8 @@ use erl_names::{NodeName, TrunkId};
 use node_frames::Frame;
 use std::alloc::{AllocError, Global};
 
-/// A signal travels from the node of this name to itself. (Reference Manual, Processes, Delivery of
-/// Signals.)
+/// Tells that a signal travels from the node of this name to itself. No reason follows the control term.
+/// (Reference Manual, Processes, Delivery of Signals.)
 ///
 /// # Errors
 /// Where there is no memory for it.
@@ -26,18 +27,19 @@ pub fn push_signal_here(
     signal: &Signal,
 ) -> Result<(), AllocError>
     requires { is_sendable signal.now ≡ true }
-    ensures effects { OnOk result (effects.new.items ≡ effects.old.items ++ effect.Sent None name.now (framed (Signalled signal.now)) ∷ []) }
-    ensures spelled { OnOk result (IsSpelled (Signalled signal.now)) }
+    ensures effects { OnOk result (effects.new.items ≡ effects.old.items ++ effect.Sent None name.now (framed (own_item signal.now)) ∷ []) }
+    ensures spelled { OnOk result (IsSpelled (own_item signal.now)) }
 {
     let here = Effect::Sent {
         trunk: None,
         peer: name.clone()?,
-        item: Frame::of(alloc, signal)?,
+        item: Frame::of(alloc, signal, false)?,
     };
     push(effects, here)
 }
 
-/// A signal is sent on the connection of this side. (Reference Manual, Processes, Delivery of Signals.)
+/// Tells that a signal is sent on the connection of this side. With `payload` its reason, if it has one,
+/// follows the control term. (Reference Manual, Processes, Delivery of Signals.)
 ///
 /// # Errors
 /// Where there is no memory for it.
@@ -46,15 +48,16 @@ pub fn push_signal_there(
     alloc: Global,
     side: &Side,
     signal: &Signal,
+    payload: bool,
 ) -> Result<(), AllocError>
     requires { is_sendable signal.now ≡ true }
-    ensures effects { OnOk result (effects.new.items ≡ effects.old.items ++ effect.Sent (Some side.now.trunk) side.now.peer (framed (Signalled signal.now)) ∷ []) }
-    ensures spelled { OnOk result (IsSpelled (Signalled signal.now)) }
+    ensures effects { OnOk result (effects.new.items ≡ effects.old.items ++ effect.Sent (Some side.now.trunk) side.now.peer (framed (Signalled signal.now (has_reason signal.now && payload))) ∷ []) }
+    ensures spelled { OnOk result (IsSpelled (Signalled signal.now (has_reason signal.now && payload))) }
 {
     let there = Effect::Sent {
         trunk: Some(side.trunk.clone()?),
         peer: side.peer.clone()?,
-        item: Frame::of(alloc, signal)?,
+        item: Frame::of(alloc, signal, payload)?,
     };
     push(effects, there)
 }

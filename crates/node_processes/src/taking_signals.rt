@@ -1,5 +1,5 @@
 //! A signal comes to its process, and the first of the own list.
-ghost use Rattle.std.specs.Prelude.{◌≡◌, true, List, ◌∷◌};
+ghost use Rattle.std.specs.Prelude.{◌≡◌, true, false, List, ◌∷◌};
 ghost use Rattle.dist_model.specs.Arrivals.{take_local};
 ghost use Rattle.dist_model.specs.Items.{Item as TheItem, Signalled, kind_of};
 ghost use Rattle.dist_model.specs.Node.{Node as TheNode};
@@ -22,7 +22,7 @@ use std::alloc::{AllocError, Global};
 
 /// Returns the kind of a signal.
 pub fn kind(signal: &Signal) -> Kind
-    ensures { result ≡ kind_of (Signalled signal.now) }
+    ensures { result ≡ kind_of (Signalled signal.now false) }
 {
     match signal {
         Signal::Link { .. } => Kind::Link,

@@ -1,5 +1,5 @@
 -- The length at the front of an item.
-use Rattle.std.proofs.Common.{◌≡◌, ℕ, suc, ◌+◌, ◌*◌, ◌/◌, ◌%◌, ◌<◌, ◌≤◌, None, Some, true, false, List, []}
+use Rattle.std.proofs.Common.{◌≡◌, Bool, ℕ, suc, ◌+◌, ◌*◌, ◌/◌, ◌%◌, ◌<◌, ◌≤◌, None, Some, true, false, List, []}
 use Rattle.std.proofs.Common.{◌∷◌, ◌++◌, length, nat_lt, if◌then◌else◌, refl, ap, ◌∙◌, arith, length-append}
 use Rattle.std.specs.Int.{to_be_bytes, w16}
 use Rattle.std.proofs.lemmas.Bool.{le-ltb, lt-ltb}
@@ -80,16 +80,16 @@ framed_front n text rest high is =
     let same : all ≡ suc (suc (suc (suc (length text)))) = omega arith in
     ap (λ t. if t then Some (number + 2) else Some all) (le-ltb 1 number (omega arith)) ∙ ap (λ k. Some k) same
 
-signal_front : (signal : Signal) → IsSignalFrame signal (canonical_frame signal false) → (rest : List ℕ)
-    → front_length (canonical_frame signal false ++ rest) ≡ Some (length (canonical_frame signal false))
-signal_front signal is rest =
-    let text = canonical_text signal false in
-    let l : length (canonical_frame signal false) ≡ length (is.len ++ 112 ∷ is.text) = ap (λ (b : List ℕ). length b) is.bytes in
+signal_front : (signal : Signal) (payload : Bool) → IsSignalFrame signal (canonical_frame signal payload) → (rest : List ℕ)
+    → front_length (canonical_frame signal payload ++ rest) ≡ Some (length (canonical_frame signal payload))
+signal_front signal payload is rest =
+    let text = canonical_text signal payload in
+    let l : length (canonical_frame signal payload) ≡ length (is.len ++ 112 ∷ is.text) = ap (λ (b : List ℕ). length b) is.bytes in
     let n = is.number.len in
     let s = is.short in
     framed_front (suc (length text)) (112 ∷ text) rest (omega (arith, length-append is.len (112 ∷ is.text))) refl
 
 pub front_is_told : FrontIsTold
-front_is_told (Signalled signal) h rest = signal_front signal h rest
+front_is_told (Signalled signal payload) h rest = signal_front signal payload h.0 rest
 front_is_told (Handshake message) h rest = message_front message h rest
 front_is_told Tick h rest = refl

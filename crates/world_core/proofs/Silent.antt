@@ -37,7 +37,7 @@ joins_is p q None to = refl
 joins_is p q (Some from) to = refl
 
 signal_is : (p q : Pid) (item : Item) → frames.joins p q (between_of item) ≡ is_signal_of p q item
-signal_is p q (Signalled signal) = joins_is p q (sender_of signal) (receiver_of signal)
+signal_is p q (Signalled signal payload) = joins_is p q (sender_of signal) (receiver_of signal)
 signal_is p q (Handshake message) = refl
 signal_is p q Tick = refl
 

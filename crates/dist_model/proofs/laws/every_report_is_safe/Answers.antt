@@ -1,4 +1,4 @@
-use Rattle.std.proofs.Common.{◌≡◌, [], ◌∷◌, ◌++◌, List, ℕ, length, subst, sym, arith, inl, inr}
+use Rattle.std.proofs.Common.{◌≡◌, [], ◌∷◌, ◌++◌, List, length, subst, sym, arith, inl, inr}
 use Rattle.dist_model.proofs.laws.every_report_is_safe.Goals as goal
 use Rattle.dist_model.proofs.Histories.{downs_tell_true_cause, reacts_for_true_cause, throughout}
 use Rattle.dist_model.specs.Fates.{DownsRightly, DownsTellTrueCause, ReactsForTrueCause, ReactsRightly}

@@ -1,4 +1,4 @@
-use Rattle.std.proofs.Common.{◌≡◌, ◌⊎◌, inl, inr, ℕ, List, Option, Some, cond, sym, ap, subst, ◌∙◌, rules}
+use Rattle.std.proofs.Common.{◌≡◌, ◌⊎◌, inl, inr, ℕ, false, List, Option, Some, cond, sym, ap, subst, ◌∙◌, rules}
 use Rattle.conn_core.specs.declared.arrival.Arrival.{Arrival}
 use Rattle.conn_core.specs.declared.arrival.Fault.{Fault}
 use Rattle.conn_core.specs.declared.arrival.Taken.{Taken}
@@ -29,7 +29,7 @@ use Rattle.node_connections.proofs.arriving.take_arrival.Goals as goal
 at_up : (m : Node) (trunk : TrunkId) (side : TrunkSide) (item : Item) (word : ℕ) → side.state ≡ Up
     → on_up trunk side (item_of item) (at_work m) ≡ arrive m trunk (Some side) (Some (item_of item)) word
 at_up m trunk side (frame.Signal signal) word up =
-    ap (λ state. cond (is_over state) (Refuses Refusal.NotLive) (signal_at state trunk side (Signalled signal) (at_work m))) (sym up)
+    ap (λ state. cond (is_over state) (Refuses Refusal.NotLive) (signal_at state trunk side (Signalled signal false) (at_work m))) (sym up)
 at_up m trunk side frame.Tick word up =
     ap (λ state. cond (is_over state) (Refuses Refusal.NotLive) (signal_at state trunk side Tick (at_work m))) (sym up)
 

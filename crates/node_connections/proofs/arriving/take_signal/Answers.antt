@@ -18,7 +18,7 @@ pub returns-then-not-is_good : goal.returns-then-not-is_good
 returns-then-not-is_good c =
     let m = seen c.args.node.now in
     let side = c.args.side.now in
-    let item = Signalled c.args.signal.now in
+    let item = Signalled c.args.signal.now false in
     let bad : is_good m (side_of side) item ≡ false = sym c.is_good.ensures ∙ c.if-not-is_good.true in
     let P : Outcome → Type 0 = λ o. Plans m o c.break_side.new.plan c.break_side.result in
     subst P (ap (λ b. cond b (Accepts (Answer.Took (kind_of item)) (take c.args.signal.now (at_work m)))
@@ -29,7 +29,7 @@ pub returns : goal.returns
 returns c =
     let m = seen c.args.node.now in
     let side = c.args.side.now in
-    let item = Signalled c.args.signal.now in
+    let item = Signalled c.args.signal.now false in
     let good : is_good m (side_of side) item ≡ true = sym c.is_good.ensures ∙ c.if-not-is_good.false in
     let work = take c.args.signal.now (at_work m) in
     rw c.or_refuse.ensures (planned_by m _ (Answer.Took (kind_of item)) work c.take.new.plan c.take.result

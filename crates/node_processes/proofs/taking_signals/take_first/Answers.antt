@@ -1,4 +1,4 @@
-use Rattle.std.proofs.Common.{◌≡◌, List, [], ◌∷◌, Option, Some, None, ap, ◌∙◌, rules}
+use Rattle.std.proofs.Common.{◌≡◌, false, List, [], ◌∷◌, Option, Some, None, ap, ◌∙◌, rules}
 use Rattle.dist_model.specs.Arrivals.{take_local}
 use Rattle.dist_model.specs.Items.{Item, Signalled, kind_of}
 use Rattle.dist_model.specs.Node.{Node}
@@ -26,12 +26,12 @@ returns c =
     let m = seen c.args.node.now in
     let signal = c.in-Some.signal.now in
     let rest = rest_of m.local in
-    let first : first_of m.local ≡ Some (Signalled signal) = search rules in
-    let there = parted m.local (Signalled signal) first in
-    let answer = Answer.Took (kind_of (Signalled signal)) in
+    let first : first_of m.local ≡ Some (Signalled signal false) = search rules in
+    let there = parted m.local (Signalled signal false) first in
+    let answer = Answer.Took (kind_of (Signalled signal false)) in
     let before : Node = record m { local = rest } in
     let work = take signal (at_work before) in
     rw c.or_refuse.ensures (planned_by m _ answer work c.take.new.plan c.take.result (ap (take_local m) there)
     (c.take.ensures.told m ∙ c.answers.ensures.told m ∙ ap Answer.Took c.kind.ensures)
     (c.take.ensures.carries (at_work before)
-    (c.answers.ensures.carries m (at_work before) (c.requires.taken (Signalled signal) rest there))))
+    (c.answers.ensures.carries m (at_work before) (c.requires.taken (Signalled signal false) rest there))))

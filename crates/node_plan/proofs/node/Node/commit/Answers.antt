@@ -1,9 +1,9 @@
 use Rattle.std.proofs.Common.{◌≡◌, sym, ap, subst, ◌∙◌}
-use Rattle.dist_model.specs.Items.{Signalled}
 use Rattle.dist_model.specs.Keeping.{CountsOwn, Steady}
 use Rattle.node_plan.specs.Plans.{committed}
 use Rattle.node_plan.specs.Changed.{drawn_by, spawned_by}
 use Rattle.node_plan.specs.Seen.{seen}
+use Rattle.node_plan.specs.OwnList.{own_item}
 use Rattle.node_plan.specs.SeenOf.{seen_of}
 use Rattle.erl_names.specs.Minted.{Minted}
 use Rattle.monitor_core.specs.Monitors.{MonitorMap}
@@ -20,8 +20,8 @@ invariant_of-self c =
     let lives = c.draw.ensures.lives ∙ c.change_processes-answer.ensures.lives in
     let ends = c.draw.ensures.ends ∙ c.change_processes-answer.ensures.ends in
     let local =
-    ap (λ xs. Rattle.std.proofs.Common.map Signalled xs) c.keep.ensures
-    ∙ map_popped Signalled plan.pops old.local.items plan.local.items in
+    ap (λ xs. Rattle.std.proofs.Common.map own_item xs) c.keep.ensures
+    ∙ map_popped own_item plan.pops old.local.items plan.local.items in
     let is : seen_of c.draw.new.incarnation old.own c.dialed_after-self.result c.change_watches.new.watches
     c.change_watchers.new.watchers c.change_sides.new.sides c.keep.new.list.items ≡ committed plan
     (seen old) = (λ i. record {

@@ -2,7 +2,6 @@ use Rattle.std.proofs.Common.{◌≡◌, map, sym, ap, subst, ◌∙◌, rules}
 use Rattle.std.specs.FinMap as fm
 use Rattle.dist_model.proofs.KeepCounted.{counted_new}
 use Rattle.dist_model.proofs.KeepSteady.{steady_new}
-use Rattle.dist_model.specs.Items.{Signalled}
 use Rattle.dist_model.specs.Keeping.{CountsOwn, Steady}
 use Rattle.dist_model.specs.Runs.{new_node}
 use Rattle.erl_handshake.specs.declared.identity.Identity.{Identity}
@@ -11,6 +10,7 @@ use Rattle.erl_names.specs.Minted.{Minted, nothing_drawn}
 use Rattle.monitor_core.specs.Monitors.{MonitorMap}
 use Rattle.erl_term.specs.Order.{reference_cmp}
 use Rattle.node_frames.specs.Sendable.{are_sendable}
+use Rattle.node_plan.specs.OwnList.{own_item}
 use Rattle.node_plan.specs.SeenOf.{seen_of}
 use Rattle.node_plan.proofs.node.Node.new.Goals as goal
 
@@ -20,7 +20,7 @@ invariant_of-result c =
     let setup = c.args.setup in
     let own : Identity = record { name = c.in_ok-clone.field-0; creation = c.first.result; flags = c.flags.result; cookie = setup.cookie } in
     let mint = c.new.ensures.mint ∙ ap (nothing_drawn name) c.first-2.ensures in
-    let local = ap (map Signalled) c.new-5.ensures.items in
+    let local = ap (map own_item) c.new-5.ensures.items in
     let is : seen_of c.new.result own 0 c.new-2.result c.new-3.result c.new-4.result c.new-5.result.items ≡ new_node name setup =
     (λ i. record {
       mint = mint i;

@@ -1,7 +1,6 @@
 use Rattle.std.proofs.Common.{◌≡◌, sym, ap, subst, ◌∙◌, map}
 use Rattle.std.specs.FinMap as fm
 use Rattle.dist_model.specs.Incarnations.{started}
-use Rattle.dist_model.specs.Items.{Signalled}
 use Rattle.dist_model.specs.Keeping.{CountsOwn, Steady}
 use Rattle.erl_handshake.specs.declared.identity.Identity.{Identity}
 use Rattle.erl_names.specs.Ids.{reference_of}
@@ -10,6 +9,7 @@ use Rattle.monitor_core.specs.Monitors.{MonitorMap}
 use Rattle.erl_term.specs.Order.{reference_cmp}
 use Rattle.node_frames.specs.Sendable.{are_sendable}
 use Rattle.node_plan.specs.Seen.{seen}
+use Rattle.node_plan.specs.OwnList.{own_item}
 use Rattle.node_plan.specs.SeenOf.{seen_of}
 use Rattle.node_plan.proofs.Restarted.{counted_started, steady_started}
 use Rattle.node_plan.proofs.node.Node.start.Goals as goal
@@ -37,7 +37,7 @@ invariant_of-self-2 c =
       watches = c.new.ensures i;
       registered = c.new-2.ensures i;
       sides = c.all_gone.ensures.sides i;
-      local = ap (map Signalled) c.clear.ensures.items i;
+      local = ap (map own_item) c.clear.ensures.items i;
     }) in
     record {
       introduces = record {

@@ -1,13 +1,13 @@
 use Rattle.std.proofs.Common.{◌≡◌, sym, ap, subst, ◌∙◌, map}
 use Rattle.std.specs.FinMap as fm
 use Rattle.dist_model.specs.Incarnations.{stopped}
-use Rattle.dist_model.specs.Items.{Signalled}
 use Rattle.dist_model.specs.Keeping.{CountsOwn, Steady}
 use Rattle.erl_names.specs.Ids.{reference_of}
 use Rattle.erl_names.specs.Minted.{Minted}
 use Rattle.monitor_core.specs.Monitors.{MonitorMap}
 use Rattle.erl_term.specs.Order.{reference_cmp}
 use Rattle.node_plan.specs.Seen.{seen}
+use Rattle.node_plan.specs.OwnList.{own_item}
 use Rattle.node_plan.specs.SeenOf.{seen_of}
 use Rattle.node_plan.proofs.Restarted.{counted_stopped, steady_stopped}
 use Rattle.node_plan.proofs.node.Node.stop.Goals as goal
@@ -29,7 +29,7 @@ invariant_of-self c =
       watches = c.new.ensures i;
       registered = c.new-2.ensures i;
       sides = c.all_gone.ensures.sides i;
-      local = map Signalled old.local.items;
+      local = map own_item old.local.items;
     }) in
     record {
       introduces = record {

@@ -36,6 +36,21 @@ trunk_is (Some side) s t h u k =
     up_not_gone Gone h = cc
     up_not_gone state h = refl
 
+side_is : (found : Option (Bor Side)) (side_at : TrunkId → Option TrunkSide) (t : TrunkId)
+    → option_map side_of (option_copied found) ≡ side_at t → IfSome found (λ side. side.now.trunk ≡ t)
+    → IfSome found (λ side. side_at side.now.trunk ≡ Some (side_of side.now))
+side_is None side_at t h k = tt
+side_is (Some side) side_at t h k = ap side_at k ∙ sym h
+
+pub returns-clause-side : goal.returns-clause-side
+returns-clause-side c =
+    let n = seen c.args.self.now in
+    let t = c.in_ok-trunk.trunk.now in
+    let up : route n c.args.peer.now ≡ Some t = search rules in
+    let f = route_from n c.args.peer.now t up in
+    side_is c.get.result (fm.get (sides c.args.self.now.sides)) t c.get.ensures.side
+    (trunk_is c.get.result f.found t (c.get.ensures.side ∙ f.there) f.up c.get.ensures.trunk)
+
 pub returns-clause-trunk : goal.returns-clause-trunk
 returns-clause-trunk c =
     let n = seen c.args.self.now in
