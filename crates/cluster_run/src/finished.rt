@@ -1,4 +1,4 @@
-//! What nodes in threads have come to.
+//! The end of nodes in threads.
 ghost use Rattle.std.specs.Prelude.{◌≡◌, IfErr, IfOk};
 ghost use Rattle.erl_term.specs.declared.refusal.Refusal.TheVariants.{OutOfMemory};
 ghost use Rattle.joined_books.specs.Joined.{AreARun};
@@ -23,11 +23,11 @@ pub struct Finished {
     pub trace: Trace,
 }
 
-/// Why what nodes in threads have come to wasn't merged, and what it is: nothing of it is lost, but what
-/// there was no memory for.
+/// Nodes in threads whose histories weren't merged, with the fault. Nothing is lost but the parts for which
+/// there was no memory.
 #[derive(Drop)]
 pub struct Unmerged {
-    /// What is wrong.
+    /// The fault.
     pub fault: FinishError,
     /// The names and setups of the nodes.
     pub nodes: Vec<(NodeName, Setup)>,
@@ -38,11 +38,11 @@ pub struct Unmerged {
 }
 
 impl Finished {
-    /// The world to which the trace leads: that at the end of the one run that all entries are. It is
+    /// Returns the world to which the trace leads: that at the end of the one run of all entries. It is
     /// made anew, by the events of the trace.
     ///
     /// # Errors
-    /// As those of [`replay`]: where nothing of this was changed since
+    /// Those of [`replay`]. If nothing here was changed since
     /// [`Cluster::finish`](crate::Cluster::finish), [`Refusal::OutOfMemory`] alone.
     pub fn world(&self, alloc: Global) -> Result<World, Refusal>
         ensures ok { (run : AreARun self.now.nodes.items self.now.books.items self.now.trace.entries.items) →

@@ -1,7 +1,8 @@
 -- What of an event stands in the row that is made of it: each item that it sent, on the queue of its way, and whether the row takes one.
-use Rattle.std.specs.Prelude.{◌≡◌, ℕ, Bool, ◌==◌, ◌&&◌, ◌||◌, not, nat_lt, if◌then◌else◌, List}
+use Rattle.std.specs.Prelude.{◌≡◌, ℕ, Bool, true, false, ◌==◌, ◌&&◌, ◌||◌, not, nat_lt, if◌then◌else◌, List}
 use Rattle.std.specs.Prelude.{[], ◌∷◌, ◌++◌, length, Option, None, Some, is_none, Result, Ok, Err}
 use Rattle.std.specs.List.{flat_map}
+use Rattle.diagram.specs.declared.rows.Diagram.{Diagram}
 use Rattle.diagram.specs.declared.rows.Mark.{Mark}
 use Rattle.diagram.specs.declared.rows.Mark.TheVariants as mark
 use Rattle.diagram.specs.declared.rows.Row.{Row}
@@ -15,6 +16,7 @@ use Rattle.erl_term.specs.declared.refusal.Refusal.{Refusal}
 use Rattle.node_frames.specs.Frames.{Framed}
 use Rattle.run_diagrams.specs.Numbers.{IsNumber, way_of}
 use Rattle.run_diagrams.specs.declared.queues.Way.{Way}
+use Rattle.run_diagrams.specs.declared.recorder.Recorder.{Recorder}
 
 -- ---- what an event sends on connections, and what it takes
 
@@ -87,6 +89,22 @@ pub record IsRecorded (node : Name) (trunk : Option TrunkId) (came : Result (Rep
   pub row : Row
   pub behind : new ≡ with_row old row
   pub is : IsRowFor node trunk came all row
+
+-- ---- the end of a recording
+
+-- a last row counts the rows that had no room, and shows no event
+pub record Counts (rows shown : List Row) : Type 0 where
+  pub row : Row
+  pub behind : shown ≡ rows ++ row ∷ []
+  pub marks : row.marks.items ≡ []
+  pub took : row.took ≡ None
+
+abbrev pub IsShown : (are_left_out : Bool) → (rows shown : List Row) → Type 0
+IsShown true rows shown = Counts rows shown
+IsShown false rows shown = shown ≡ rows
+
+abbrev pub IsPictureOf : Recorder → Diagram → Type 0
+IsPictureOf recorder diagram = IsShown (nat_lt 0 recorder.left_out) recorder.diagram.rows.items diagram.rows.items
 
 -- ---- on the way to it
 

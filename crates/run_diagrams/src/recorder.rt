@@ -1,7 +1,7 @@
 //! The recorder of a run.
 
-ghost use Rattle.std.specs.Prelude.{◌≡◌, [], None, OnOk};
-ghost use Rattle.run_diagrams.specs.Recording.{is_full, with_row};
+ghost use Rattle.std.specs.Prelude.{◌≡◌, [], None, IfOk, OnOk, nat_lt};
+ghost use Rattle.run_diagrams.specs.Recording.{IsPictureOf, IsShown, is_full, with_row};
 
 use crate::names::ProcessNames;
 use crate::notes::{Words, of_end};
@@ -22,13 +22,13 @@ pub struct Recorder {
     pub(crate) diagram: Diagram,
     pub(crate) ways: Ways,
     pub(crate) names: ProcessNames,
-    /// What is to stand at the left of the next row.
+    /// The words at the left of the next row.
     words: Vec<String>,
-    /// How many rows have no room.
+    /// The number of rows that had no room.
     left_out: u64,
 }
 
-/// The place of a node's lane; the one behind all where it has none.
+/// Returns the place of a node's lane, or the one behind all if it has none.
 pub(crate) fn place_of(lanes: &[Lane], node: &str) -> usize {
     for (place, lane) in lanes.iter().enumerate() {
         if lane.name.as_str() == node {
@@ -38,12 +38,27 @@ pub(crate) fn place_of(lanes: &[Lane], node: &str) -> usize {
     lanes.len()
 }
 
+// Adds a row that counts the rows that had no room, if there are any.
+fn put_left_out(alloc: Global, rows: &mut Vec<Row>, left_out: u64) -> Result<(), AllocError>
+    ensures { OnOk result (IsShown (nat_lt 0 left_out) rows.old.items rows.new.items) }
+{
+    if left_out > 0 {
+        let mut words = Vec::new(alloc);
+        words.push(format!(in alloc; "and {left_out} rows more")?)?;
+        rows.push(empty_row(alloc, words))?;
+    }
+    Ok(())
+}
+
 impl Recorder {
-    /// Nothing has happened yet.
+    /// Creates a recorder with no rows.
     ///
     /// # Errors
-    /// Where there is no memory for the title.
-    pub fn new(alloc: Global, title: &str) -> Result<Recorder, AllocError> {
+    /// [`AllocError`] if there is no memory for the title.
+    pub fn new(alloc: Global, title: &str) -> Result<Recorder, AllocError>
+        ensures rows { IfOk result (λ recorder. recorder.diagram.rows.items ≡ []) }
+        ensures counted { IfOk result (λ recorder. recorder.left_out ≡ 0) }
+    {
         Ok(Recorder {
             diagram: Diagram {
                 title: String::from_str(alloc, title)?,
@@ -57,15 +72,15 @@ impl Recorder {
         })
     }
 
-    /// The diagram of what has happened.
+    /// Returns the diagram of the rows so far.
     pub fn diagram(&self) -> &Diagram {
         &self.diagram
     }
 
-    /// A node more, at the right of those before it.
+    /// Adds a lane for a node, at the right of those before it.
     ///
     /// # Errors
-    /// Where memory is wanting, as of each call below.
+    /// [`AllocError`] if out of memory, as of each call below.
     pub fn add_node(&mut self, alloc: Global, name: &str) -> Result<(), AllocError> {
         let name = String::from_str(alloc, name)?;
         self.diagram.lanes.push(Lane {
@@ -75,12 +90,12 @@ impl Recorder {
         Ok(())
     }
 
-    /// The lane of a node; the one behind all where it has none.
+    /// Returns the place of a node's lane, or the one behind all if it has none.
     pub(crate) fn lane_of(&self, node: &str) -> usize {
         place_of(&self.diagram.lanes, node)
     }
 
-    /// A process has a name from now on: it stands below that of its node, and in place of the process.
+    /// Gives a name to a process. It stands below the node's name, and in place of the process.
     pub fn add_process(
         &mut self,
         alloc: Global,
@@ -121,7 +136,7 @@ impl Recorder {
         self.end(row)
     }
 
-    /// The next row, with what is to stand at its left.
+    /// Returns a row with the words that stand at its left.
     pub(crate) fn begin(&mut self, alloc: Global) -> Row
         ensures took { result.took ≡ None }
         ensures marks { result.marks.items ≡ [] }
@@ -132,14 +147,14 @@ impl Recorder {
         empty_row(alloc, words)
     }
 
-    // Whether no row has room any more.
+    // Returns true if no row has room any more.
     fn is_full(&self) -> bool
         ensures { result ≡ is_full self.now.diagram.rows.items }
     {
         self.diagram.rows.len() >= MOST_ROWS
     }
 
-    /// It is a row of the diagram, if there is something to be seen in it, and as long as there is room.
+    /// Adds the row to the diagram, if it shows something and there is room. Else counts or drops it.
     pub(crate) fn end(&mut self, row: Row) -> Result<(), AllocError>
         ensures rows { OnOk result (self.new.diagram.rows.items ≡ with_row self.old.diagram.rows.items row) }
         ensures ways { self.new.ways.ways.items ≡ self.old.ways.ways.items }
@@ -155,18 +170,16 @@ impl Recorder {
         Ok(())
     }
 
-    /// The diagram of what has happened: where rows had no room, a last one says how many.
-    pub fn finish(self, alloc: Global) -> Result<Diagram, AllocError> {
+    /// Returns the diagram of the recorded rows. Where rows had no room, a last one says how many.
+    pub fn finish(self, alloc: Global) -> Result<Diagram, AllocError>
+        ensures rows { IfOk result (λ diagram. IsPictureOf self diagram) }
+    {
         let Recorder {
             mut diagram,
             left_out,
             ..
         } = self;
-        if left_out > 0 {
-            let mut words = Vec::new(alloc);
-            words.push(format!(in alloc; "and {left_out} rows more")?)?;
-            diagram.rows.push(empty_row(alloc, words))?;
-        }
+        put_left_out(alloc, &mut diagram.rows, left_out)?;
         Ok(diagram)
     }
 
