@@ -174,6 +174,41 @@ wrong_after_faults() {
     done
 }
 
+# Prints what examples/exit_payload.script has to print with nodes of these profiles: a node of the first
+# tells another flag word, and where one has it the reason of the EXIT stands within the control term.
+expected_under_profiles() {
+    awk -v a="$1" -v b="$2" '
+        (($2 == "a@h" && a == 1) || ($2 == "b@h" && b == 1)) && $1 == "sent" { sub(/000000040345010C/, "000000040305010C") }
+        $1 == "sent" && (a == 1 || b == 1) {
+            # a length, and PAYLOAD_EXIT {24, From, To} with the reason noproc behind it
+            if (sub(/^00000033708368036118/, "00000032708368046103", $4)) sub(/8377066E6F70726F63$/, "77066E6F70726F63", $4)
+        }
+        { print }' examples/exit_payload.expected
+}
+
+# Prints each way in which the runs of these examples depend on the profiles of their nodes, but for the
+# frames of examples/exit_payload.script.
+wrong_under_profiles() {
+    local a b name
+    for a in 1 2; do
+        for b in 1 2; do
+            for name in lost_connection both_dial wrong_cookie restart exit_payload; do
+                sed -E "s/^(node a@h [a-z]+).*/\1 $a/; s/^(node b@h [a-z]+).*/\1 $b/" "examples/$name.script" > "$room/script"
+                if [ "$name" = exit_payload ]; then
+                    expected_under_profiles "$a" "$b" > "$room/wanted"
+                    timeout 60 "$program" --trace < "$room/script" 2>&1 | diff "$room/wanted" -
+                else
+                    timeout 60 "$program" < "$room/script" 2>&1 | diff "examples/$name.expected" -
+                fi
+                [ ! -f "examples/$name.threads" ] || {
+                    { print_plainly "examples/$name"; echo merged; } > "$room/wanted"
+                    timeout 60 "$program" --threads < "$room/script" 2>&1 | diff "$room/wanted" -
+                }
+            done | sed "s/^/profiles $a and $b: /"
+        done
+    done
+}
+
 # Tries all of this, and that the words that need no program are the program's own.
 try_program() {
     local word page run
@@ -187,6 +222,7 @@ try_program() {
     done
     try_command_lines
     try_streams
+    judge "nodes of each pair of profiles" "$(wrong_under_profiles)"
     for run in "${!events_of[@]}"; do
         judge "a fault after each event of $run" "$(wrong_after_faults "$run")"
     done

@@ -3,25 +3,25 @@ use clap::error::ErrorKind;
 use clap::{Arg, ArgAction, ArgMatches, Command, Error};
 use std::alloc::Global;
 
-/// How a script is run, and what is written of it.
+/// The form of a script's output.
 #[derive(Clone, Copy, Debug, PartialEq, Eq)]
 pub enum Form {
-    /// What its commands print.
+    /// The text that its commands print.
     Text,
     /// A line of JSON for each event.
     Events,
     /// A drawing in SVG of all that happens.
     Picture,
-    /// What its commands print, at nodes that have a thread each.
+    /// The text that its commands print, at nodes that have a thread each.
     Threads,
 }
 
 /// The options of the command line.
 #[derive(Clone, Copy, Debug, PartialEq, Eq)]
 pub struct Options {
-    /// Whether each frame that is sent is printed. A script of a pair prints them in any case.
+    /// True if each frame that is sent is printed. A script of a pair prints them in any case.
     pub trace: bool,
-    /// What is written of the script.
+    /// The form of the output.
     pub form: Form,
     /// The first challenge word of the handshakes, 0 to 4,294,967,295; 1 where none is given.
     pub seed: u32,
@@ -39,7 +39,8 @@ const VERSION: &str = "0.1";
 
 const COMMANDS: &str = "\
 Commands of a script, one a line:
-  node NAME COOKIE   a node; node lines come before all other commands
+  node NAME COOKIE [PROFILE]
+                     a node; PROFILE is 1 or 2, by default 2; node lines come before all other commands
   pair               two nodes with a process each, p and q, connected; the first command of all
   spawn NODE name    a process, under this name from then on
   send p q TERM      a message to q
@@ -71,7 +72,7 @@ Exit status: 0 the script ran; 2 wrong command line; 3 bad line; 4 no memory, or
 histories of nodes in threads don't merge; 6 reading or writing failed, or the script has more than
 1,048,576 lines. docs/SCRIPTS.md tells the whole.";
 
-// What a command line may have.
+// Returns the command line's options and their help.
 fn command<'a>(alloc: Global) -> Result<Command<'a>, Error> {
     let trace = Arg::new(alloc, "trace")
         .long("trace")
@@ -109,7 +110,7 @@ fn command<'a>(alloc: Global) -> Result<Command<'a>, Error> {
     )
 }
 
-// What is written of a script; None where what is asked for doesn't go together.
+// Returns the form of a script's output, or None if the options exclude each other.
 fn form_of(matches: &ArgMatches<'_>) -> Option<Form> {
     let events = matches.get_str("trace") == Some("json");
     match (matches.get_flag("threads"), matches.get_flag("picture")) {

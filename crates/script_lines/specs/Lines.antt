@@ -5,10 +5,11 @@ use Rattle.std.specs.Str.{is_utf8}
 use Rattle.erl_term.specs.Reading.{◌>>=◌}
 use Rattle.script_lines.specs.Commands.{verb_named}
 use Rattle.script_lines.specs.Naming.{process_named, processes_named, monitor_named, demonitor_named}
-use Rattle.script_lines.specs.Naming.{nodes_formed, node_formed, spawn_formed, formed, switch_named, term_read}
+use Rattle.script_lines.specs.Naming.{nodes_formed, node_formed, spawn_formed, formed, switch_named, profile_in, term_read}
 use Rattle.script_lines.specs.Said.{Said, said}
 use Rattle.script_lines.specs.Said as says
-use Rattle.script_lines.specs.Words.{word_of, behind_word, no_words, one_word, two_words, three_words, word_and_text, words_and_text}
+use Rattle.script_lines.specs.Words.{word_of, behind_word, no_words, one_word, two_words, two_words_or_three, three_words}
+use Rattle.script_lines.specs.Words.{word_and_text, words_and_text}
 use Rattle.script_lines.specs.declared.command.Verb.{Verb}
 use Rattle.script_lines.specs.declared.command.Verb.TheVariants as verb
 use Rattle.script_lines.specs.declared.line.Line.{Line}
@@ -48,7 +49,8 @@ process_and_term_in look rest =
 
 abbrev pub verb_says : MayCome → Look → Verb → List ℕ → Result Said Reason
 verb_says may look verb.Node rest =
-    two_words rest >>= λ words. placed may.node >>= λ _. node_formed words.0 words.1 >>= λ _. Ok (says.Node words.0 words.1)
+    two_words_or_three rest >>= λ words. profile_in words.2 >>= λ profile. placed may.node >>= λ _.
+    node_formed words.0 words.1 >>= λ _. Ok (says.Node words.0 words.1 profile)
 verb_says may look verb.Pair rest = no_words rest >>= λ _. placed may.pair >>= λ _. Ok says.Pair
 verb_says may look verb.Spawn rest = two_words rest >>= λ words. spawn_formed look words.0 words.1 >>= λ _. Ok (says.Spawn words.0 words.1)
 verb_says may look verb.Monitor rest =

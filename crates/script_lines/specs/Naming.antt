@@ -2,6 +2,7 @@
 use Rattle.std.specs.Prelude.{ℕ, ◌&&◌, Bool, true, false, List, length, codes, Option, None, Some, Result, Ok, Err, nat_le, if◌then◌else◌}
 use Rattle.std.specs.List.{list_all}
 use Rattle.std.specs.Str.{bytes_eq}
+use Rattle.erl_handshake.specs.declared.profile.Profile.{Profile}
 use Rattle.erl_names.specs.Name.{is_node_name}
 use Rattle.erl_term.specs.Data.{Data}
 use Rattle.erl_term.specs.Reading.{◌>>=◌}
@@ -77,6 +78,15 @@ node_formed name cookie = formed (is_node_name name && is_cookie cookie)
 
 abbrev pub switch_named : List ℕ → Result Bool Reason
 switch_named word = if bytes_eq word (codes "on") then Ok true else if bytes_eq word (codes "off") then Ok false else Err WrongWords
+
+abbrev pub profile_named : List ℕ → Result Profile Reason
+profile_named word =
+    if bytes_eq word (codes "1") then Ok Profile.One else if bytes_eq word (codes "2") then Ok Profile.Two else Err WrongWords
+
+-- a node line with no third word takes the second profile
+abbrev pub profile_in : Option (List ℕ) → Result Profile Reason
+profile_in None = Ok Profile.Two
+profile_in (Some word) = profile_named word
 
 -- a text has to be a term
 abbrev pub reason_of : TermFault → Reason

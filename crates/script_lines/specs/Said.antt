@@ -1,12 +1,13 @@
 -- What a line says, without where its words lie. A term is given by its text.
 use Rattle.std.specs.Prelude.{ℕ, Bool, List}
+use Rattle.erl_handshake.specs.declared.profile.Profile.{Profile}
 use Rattle.erl_term.specs.declared.term.Pid.{Pid}
 use Rattle.erl_term.specs.declared.term.Reference.{Reference}
 use Rattle.script_lines.specs.declared.line.Line.{Line}
 use Rattle.script_lines.specs.declared.line.Line.TheVariants as line
 
 pub data Said : Type 0 where
-  Node : (name cookie : List ℕ) → Said
+  Node : (name cookie : List ℕ) → Profile → Said
   Pair : Said
   Spawn : (node name : List ℕ) → Said
   Send : (from to : Pid) → (term : List ℕ) → Said
@@ -34,7 +35,7 @@ pub data Said : Type 0 where
   Show : Said
 
 abbrev pub said : Line → Said
-said (line.Node name cookie) = Node name.now cookie.now
+said (line.Node name cookie profile) = Node name.now cookie.now profile
 said line.Pair = Pair
 said (line.Spawn node name) = Spawn node.now name.now
 said (line.Send from to term) = Send from.now to.now term.now

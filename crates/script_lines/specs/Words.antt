@@ -1,6 +1,6 @@
 -- The words of a line: what stands between spaces, byte 32. A text at the end of a line is what is left of
 -- it, without the spaces around it.
-use Rattle.std.specs.Prelude.{◌≡◌, ℕ, ◌==◌, Bool, List, [], ◌∷◌, Result, Ok, Err, MatchResult, if◌then◌else◌}
+use Rattle.std.specs.Prelude.{◌≡◌, ℕ, ◌==◌, Bool, List, [], ◌∷◌, Option, None, Some, Result, Ok, Err, MatchResult, if◌then◌else◌}
 use Rattle.std.specs.List.{before_first, after_first}
 use Rattle.erl_term.specs.Reading.{◌>>=◌}
 use Rattle.script_lines.specs.declared.reason.Reason.{Reason}
@@ -61,6 +61,18 @@ two_words text = word_at text >>= λ first. one_word first.1 >>= λ second. Ok (
 
 abbrev pub three_words : List ℕ → Result (List ℕ × List ℕ × List ℕ) Reason
 three_words text = word_at text >>= λ first. two_words first.1 >>= λ words. Ok (first.0, words.0, words.1)
+
+-- a text of one word, or of none
+abbrev pub only_word : (word rest : List ℕ) → Result (Option (List ℕ)) Reason
+only_word [] rest = Ok None
+only_word (c ∷ cs) rest = no_words rest >>= λ none. Ok (Some (c ∷ cs))
+
+abbrev pub word_or_none : List ℕ → Result (Option (List ℕ)) Reason
+word_or_none text = only_word (word_of text) (behind_word text)
+
+abbrev pub two_words_or_three : List ℕ → Result (List ℕ × List ℕ × Option (List ℕ)) Reason
+two_words_or_three text =
+    word_at text >>= λ first. word_at first.1 >>= λ second. word_or_none second.1 >>= λ third. Ok (first.0, second.0, third)
 
 -- words, and then a text
 abbrev pub word_and_text : List ℕ → Result (List ℕ × List ℕ) Reason

@@ -77,6 +77,7 @@ fn put_wrong_words(out: &mut String, usage: &str, text: &str) -> Result<(), Allo
     if usage == "pair" {
         out.push_str(", alone, and is the first of all")?;
     }
+    put_wrong_profile(out, usage, text)?;
     if text.contains('#') {
         out.push_str("; a comment stands on a line of its own")?;
     }
@@ -86,11 +87,24 @@ fn put_wrong_words(out: &mut String, usage: &str, text: &str) -> Result<(), Allo
     put_line_end(out, text)
 }
 
+/// Appends the remedy for a word that is no profile and stands in the place of one.
+fn put_wrong_profile(out: &mut String, usage: &str, text: &str) -> Result<(), AllocError> {
+    let words = text.split(' ').filter(|word| !word.is_empty());
+    for (wanted, word) in usage.split(' ').zip(words) {
+        if wanted == "[PROFILE]" && !has_form(wanted, word) {
+            out.push_str("; PROFILE is 1 or 2, not ")?;
+            put_word(out, word)?;
+        }
+    }
+    Ok(())
+}
+
 /// Returns true if a word has the form that is wanted in its place.
 fn has_form(wanted: &str, word: &str) -> bool {
     match wanted {
         "NODE" | "PEER" | "NAME" => NodeName::fits(word),
         "COOKIE" => word.len() <= 255 && word.bytes().all(|byte| byte.is_ascii_graphic()),
+        "[PROFILE]" => word == "1" || word == "2",
         "TERM" => true,
         _ => is_name(word),
     }

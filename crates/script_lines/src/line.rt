@@ -1,15 +1,17 @@
 //! What a line says, once its names are looked up.
 
+use erl_handshake::Profile;
 use erl_term::{Pid, Reference};
 
 /// The meaning of a line. Words and terms are as they stand in the line: nodes may be unknown, a term
 /// is known to be one.
 #[derive(Clone, Copy, Debug)]
 pub enum Line<'a> {
-    /// `node NAME COOKIE`
+    /// `node NAME COOKIE [PROFILE]`
     Node {
         name: &'a str,
         cookie: &'a str,
+        profile: Profile,
     },
     /// `pair`
     Pair,

@@ -1,11 +1,13 @@
 //! The things that the words of a line name.
 ghost use Rattle.std.specs.Prelude.{◌≡◌, ◌&&◌};
-ghost use Rattle.script_lines.specs.Naming.{demonitor_named, formed, free_in, is_cookie, is_cookie_length, is_printable, monitor_named, node_formed, nodes_formed, process_in, process_named, processes_named, reference_in, spawn_formed, switch_named, term_read};
+ghost use Rattle.std.specs.Option.{option_copied};
+ghost use Rattle.script_lines.specs.Naming.{demonitor_named, formed, free_in, is_cookie, is_cookie_length, is_printable, monitor_named, node_formed, nodes_formed, process_in, process_named, processes_named, profile_in, profile_named, reference_in, spawn_formed, switch_named, term_read};
 ghost use Rattle.script_lines.specs.Words.{Answers};
 ghost use Rattle.script_terms.specs.Binding.{Look, Knows};
 ghost use Rattle.script_terms.specs.declared.names.Named.{Named};
 
 use crate::reason::Reason;
+use erl_handshake::Profile;
 use erl_names::NodeName;
 use erl_term::{Pid, Reference};
 use script_terms::{Named, Names, check_term, has_unbound, is_name};
@@ -149,6 +151,26 @@ pub(crate) fn switch_named(word: &str) -> Result<bool, Reason>
         "on" => Ok(true),
         "off" => Ok(false),
         _ => Err(Reason::WrongWords),
+    }
+}
+
+fn profile_named(word: &str) -> Result<Profile, Reason>
+    ensures { result ≡ profile_named word.now }
+{
+    match word {
+        "1" => Ok(Profile::One),
+        "2" => Ok(Profile::Two),
+        _ => Err(Reason::WrongWords),
+    }
+}
+
+/// Returns the profile that a word names, `1` or `2`, or [`Profile::Two`] if there is no word.
+pub(crate) fn profile_in(word: Option<&str>) -> Result<Profile, Reason>
+    ensures { result ≡ profile_in (option_copied word.entry) }
+{
+    match word {
+        Some(word) => profile_named(word),
+        None => Ok(Profile::Two),
     }
 }
 

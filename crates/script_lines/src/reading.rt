@@ -9,11 +9,12 @@ use crate::command::Verb;
 use crate::line::Line;
 use crate::naming::{
     demonitor_named, formed, monitor_named, node_formed, nodes_formed, process_named,
-    processes_named, spawn_formed, switch_named, term_read,
+    processes_named, profile_in, spawn_formed, switch_named, term_read,
 };
 use crate::reason::Reason;
 use crate::words::{
-    first_word, no_words, one_word, three_words, two_words, word_and_text, words_and_text,
+    first_word, no_words, one_word, three_words, two_words, two_words_or_three, word_and_text,
+    words_and_text,
 };
 use erl_names::NodeName;
 use erl_term::Pid;
@@ -99,10 +100,15 @@ fn process_and_term_in<'a>(names: &'a Names, rest: &'a str) -> Result<(&'a Pid, 
 fn node_line(may_come: MayCome, rest: &str) -> Result<Line<'_>, Reason>
     ensures { (look : Look) → Reads (verb_says may_come look verb.Node rest.now) result }
 {
-    let (name, cookie) = two_words(rest)?;
+    let (name, cookie, profile) = two_words_or_three(rest)?;
+    let profile = profile_in(profile)?;
     placed(may_come.node)?;
     node_formed(name, cookie)?;
-    Ok(Line::Node { name, cookie })
+    Ok(Line::Node {
+        name,
+        cookie,
+        profile,
+    })
 }
 
 fn pair_line(may_come: MayCome, rest: &str) -> Result<Line<'_>, Reason>

@@ -2,9 +2,10 @@
 use std::alloc::{AllocError, Global};
 use strsim::levenshtein;
 
-/// Each command with its words: in capitals what is written out, else a name.
+/// Each command with its words: in capitals what is written out, in brackets what may be left out, else a
+/// name.
 const USAGES: [&str; 26] = [
-    "node NAME COOKIE",
+    "node NAME COOKIE [PROFILE]",
     "pair",
     "spawn NODE name",
     "send from to TERM",

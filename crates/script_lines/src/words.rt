@@ -1,6 +1,7 @@
 //! The words of a line: what stands between spaces, byte 32.
 ghost use Rattle.std.specs.Prelude.{◌≡◌};
-ghost use Rattle.script_lines.specs.Words.{Answers, behind_word, from_word, no_words, one_word, three_words, trimmed, two_words, word_at, word_of, words_and_text, word_and_text, text_at};
+ghost use Rattle.std.specs.Option.{option_copied};
+ghost use Rattle.script_lines.specs.Words.{Answers, behind_word, from_word, no_words, one_word, three_words, trimmed, two_words, two_words_or_three, word_at, word_of, words_and_text, word_and_text, word_or_none, text_at};
 
 use crate::reason::Reason;
 
@@ -75,6 +76,28 @@ pub(crate) fn two_words(text: &str) -> Result<(&str, &str), Reason>
     let (first, rest) = word_at(text)?;
     let second = one_word(rest)?;
     Ok((first, second))
+}
+
+// Returns the word of a text, or None if the text has no word.
+fn word_or_none(text: &str) -> Result<Option<&str>, Reason>
+    ensures { Answers (λ word. option_copied word) result (word_or_none text.now) }
+{
+    let (word, rest) = first_word(text);
+    if word.is_empty() {
+        return Ok(None);
+    }
+    no_words(rest)?;
+    Ok(Some(word))
+}
+
+/// Returns the words of a text of two words or three.
+pub(crate) fn two_words_or_three(text: &str) -> Result<(&str, &str, Option<&str>), Reason>
+    ensures { Answers (λ words. (words.0.now, words.1.now, option_copied words.2)) result (two_words_or_three text.now) }
+{
+    let (first, rest) = word_at(text)?;
+    let (second, rest) = word_at(rest)?;
+    let third = word_or_none(rest)?;
+    Ok((first, second, third))
 }
 
 /// A text of three words.

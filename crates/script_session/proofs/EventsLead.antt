@@ -30,6 +30,7 @@ use Rattle.script_terms.specs.Binding.{Look}
 use Rattle.script_texts.specs.Texts.{route_text}
 use Rattle.world_core.proofs.Reached.{reached_next}
 use Rattle.world_core.specs.Stands.{IsReached}
+use Rattle.erl_handshake.specs.declared.profile.Profile.{Profile}
 use Rattle.script_session.specs.Pairs.{setup_of}
 use Rattle.erl_handshake.specs.declared.setup.Setup.{Setup}
 
@@ -115,19 +116,20 @@ lose_led node peer it h = go (node_of it.world.nodes node)
 
 -- ---- lines
 
-pub joined_opens : (world : World) (name cookie : List ℕ) → IsOpening world → IsOpening (joined world name cookie)
-joined_opens world name cookie o = (
-  o.0 ++ (name, setup_of cookie) ∷ [],
-  ap (λ w. joined w name cookie) o.1
+pub joined_opens : (world : World) (name cookie : List ℕ) (profile : Profile) → IsOpening world
+    → IsOpening (joined world name cookie profile)
+joined_opens world name cookie profile o = (
+  o.0 ++ (name, setup_of cookie profile) ∷ [],
+  ap (λ w. joined w name cookie profile) o.1
       ∙ (λ i. record {
-        names = sym (map-append (λ (n : Name × Setup). n.0) o.0 ((name, setup_of cookie) ∷ [])) i;
-        nodes = sym (map-append (λ (n : Name × Setup). new_node n.0 n.1) o.0 ((name, setup_of cookie) ∷ [])) i;
+        names = sym (map-append (λ (n : Name × Setup). n.0) o.0 ((name, setup_of cookie profile) ∷ [])) i;
+        nodes = sym (map-append (λ (n : Name × Setup). new_node n.0 n.1) o.0 ((name, setup_of cookie profile) ∷ [])) i;
         lists = fm.empty;
       }),
 )
 
 moves_led : (said : Said) (it : Stage) → Led it → (starts said ≡ false → IsOpening it.world) → Led (moves said it).stage
-moves_led (says.Node name cookie) it h o = opening_led _ (joined_opens it.world name cookie (o refl))
+moves_led (says.Node name cookie profile) it h o = opening_led _ (joined_opens it.world name cookie profile (o refl))
 moves_led says.Pair it h o = pair_led it.word
 moves_led (says.Spawn node name) it h o = after_led it (Call node Command.Spawn) h
 moves_led (says.Dial node peer) it h o = after_led it (Dial node peer it.word) h
@@ -152,7 +154,7 @@ plays_led look said it h o = go (asks look said)
 -- a line for a node leaves an opening world
 pub plays_opens : (look : Look) (said : Said) (it : Stage) → starts said ≡ false → IsOpening it.world
     → IsOpening (plays look said it).stage.world
-plays_opens look (says.Node name cookie) it s o = joined_opens it.world name cookie o
+plays_opens look (says.Node name cookie profile) it s o = joined_opens it.world name cookie profile o
 plays_opens look said it s o = cc
 
 does_led : (said : Said) (state : State) → IsLed state → (starts said ≡ false → state.started ≡ false) → IsLed (does said state).state

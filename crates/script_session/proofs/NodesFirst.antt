@@ -3,13 +3,14 @@ use Rattle.std.proofs.Common.{◌≡◌, ◌&&◌, ℕ, eqb, Bool, true, false, 
 use Rattle.std.proofs.Common.{nat_lt, Option, None, Some, Result, Ok, Err, refl, sym, ap, subst, ◌∙◌}
 use Rattle.std.specs.Str.{is_utf8}
 use Rattle.erl_term.specs.Reading.{◌>>=◌}
+use Rattle.erl_handshake.specs.declared.profile.Profile.{Profile}
 use Rattle.script_lines.specs.Commands.{verb_named}
 use Rattle.script_lines.specs.Lines.{found, line_says, node_in, nodes_in, placed, process_in, process_and_term_in}
 use Rattle.script_lines.specs.Lines.{processes_in, processes_and_term_in, verb_says, words_say}
-use Rattle.script_lines.specs.Naming.{demonitor_named, monitor_named, node_formed, process_named, spawn_formed, switch_named}
+use Rattle.script_lines.specs.Naming.{demonitor_named, monitor_named, node_formed, process_named, profile_in, spawn_formed, switch_named}
 use Rattle.script_lines.specs.Said.{Said}
 use Rattle.script_lines.specs.Said as says
-use Rattle.script_lines.specs.Words.{behind_word, no_words, three_words, two_words, word_of}
+use Rattle.script_lines.specs.Words.{behind_word, no_words, three_words, two_words, two_words_or_three, word_of}
 use Rattle.script_lines.specs.declared.command.Verb.{Verb}
 use Rattle.script_lines.specs.declared.command.Verb.TheVariants as verb
 use Rattle.script_lines.specs.declared.reading.MayCome.{MayCome}
@@ -27,11 +28,13 @@ bind (Ok x) f h = h x
 bind (Err reason) f h = tt
 
 late : (may : MayCome) (look : Look) (v : Verb) (rest : List ℕ) → may.node ≡ false → IsOther (verb_says may look v rest)
-late may look verb.Node rest e = bind (two_words rest) _ (λ words. never words)
+late may look verb.Node rest e =
+    bind (two_words_or_three rest) _ (λ words. bind (profile_in words.2) _ (λ profile. never words profile))
   where
-    never : (words : List ℕ × List ℕ)
-        → IsOther (placed may.node >>= λ _. node_formed words.0 words.1 >>= λ _. Ok (says.Node words.0 words.1))
-    never words = subst (λ b. IsOther (placed b >>= λ _. node_formed words.0 words.1 >>= λ _. Ok (says.Node words.0 words.1))) (sym e) tt
+    never : (words : List ℕ × List ℕ × Option (List ℕ)) (profile : Profile)
+        → IsOther (placed may.node >>= λ _. node_formed words.0 words.1 >>= λ _. Ok (says.Node words.0 words.1 profile))
+    never words profile =
+        subst (λ b. IsOther (placed b >>= λ _. node_formed words.0 words.1 >>= λ _. Ok (says.Node words.0 words.1 profile))) (sym e) tt
 late may look verb.Pair rest e = bind (no_words rest) _ (λ _. bind (placed may.pair) _ (λ _. refl))
 late may look verb.Spawn rest e = bind (two_words rest) _ (λ words. bind (spawn_formed look words.0 words.1) _ (λ _. refl))
 late may look verb.Monitor rest e = bind (three_words rest) _ (λ words. bind (monitor_named look words.0 words.1 words.2) _ (λ pids. refl))

@@ -1,4 +1,5 @@
--- The pair of a script: two nodes a@h and b@h, a process of each, and the connection that a@h dialed, which is up.
+-- The pair of a script: two nodes a@h and b@h of the second profile, a process of each, and the connection that a@h dialed,
+-- which is up.
 use Rattle.std.specs.Prelude.{ℕ, true, List, [], ◌∷◌, codes}
 use Rattle.dist_model.specs.Names.{Name}
 use Rattle.dist_model.specs.Runs.{opening}
@@ -18,12 +19,14 @@ first = codes "a@h"
 abbrev pub second : Name
 second = codes "b@h"
 
--- of a node with this cookie, which offers the mandatory flags alone
-abbrev pub setup_of : (cookie : List ℕ) → Setup
-setup_of cookie = record { cookie = cookie; profile = Profile.One }
+abbrev pub setup_of : (cookie : List ℕ) → Profile → Setup
+setup_of cookie profile = record { cookie = cookie; profile = profile }
+
+abbrev pub pair_node : Name → Name × Setup
+pair_node name = (name, setup_of (codes "c") Profile.Two)
 
 abbrev pub pair_nodes : List (Name × Setup)
-pair_nodes = (first, setup_of (codes "c")) ∷ (second, setup_of (codes "c")) ∷ []
+pair_nodes = pair_node first ∷ pair_node second ∷ []
 
 abbrev pub trunk : TrunkId
 trunk = record { dialer = first; count = 1 }

@@ -1,4 +1,4 @@
--- What each line of a script does, and what it prints.
+-- Each line of a script: its effect on the session, and its output.
 use Rattle.std.specs.Prelude.{Option, None, Some, ℕ, Bool, true, false, not, ◌==◌, ◌&&◌, nat_lt}
 use Rattle.std.specs.Prelude.{if◌then◌else◌, List, [], ◌∷◌, ◌++◌, length, Result, Ok, Err}
 use Rattle.std.specs.Option.{option_or}
@@ -9,6 +9,7 @@ use Rattle.dist_model.specs.Seen.{end_between}
 use Rattle.dist_model.specs.World.{Call, Dial, Local, Start, Stop, Sweep, World}
 use Rattle.dist_model.specs.declared.command.Command.{Command}
 use Rattle.dist_model.specs.declared.report.Answer.{Answer}
+use Rattle.erl_handshake.specs.declared.profile.Profile.{Profile}
 use Rattle.erl_term.specs.Data.{Data, list, no_items}
 use Rattle.erl_term.specs.declared.term.Pid.{Pid}
 use Rattle.script_lines.specs.Lines.{line_says}
@@ -50,16 +51,16 @@ abbrev pub read : Look → List ℕ → Data
 read look text = term_in (term_of look text)
 
 -- a node more, in its first incarnation
-abbrev pub joined : World → Name → (cookie : List ℕ) → World
-joined world name cookie = record {
+abbrev pub joined : World → Name → (cookie : List ℕ) → Profile → World
+joined world name cookie profile = record {
   names = world.names ++ name ∷ [];
-  nodes = world.nodes ++ new_node name (setup_of cookie) ∷ [];
+  nodes = world.nodes ++ new_node name (setup_of cookie profile) ∷ [];
   lists = world.lists;
 }
 
-abbrev pub joins : Name → (cookie : List ℕ) → Stage → Scene
-joins name cookie it = record {
-  stage = record it { world = joined it.world name cookie };
+abbrev pub joins : Name → (cookie : List ℕ) → Profile → Stage → Scene
+joins name cookie profile it = record {
+  stage = record it { world = joined it.world name cookie profile };
   text = answer_text name (Answer.Started 1);
   made = Made.Nothing;
 }
@@ -101,7 +102,7 @@ abbrev pub shows : Stage → Scene
 shows it = stage.says (shown_world it.world) it
 
 abbrev pub moves : Said → Stage → Scene
-moves (says.Node name cookie) it = joins name cookie it
+moves (says.Node name cookie profile) it = joins name cookie profile it
 moves says.Pair it = pairs it
 moves (says.Spawn node name) it = happens (Call node Command.Spawn) it
 moves (says.Ends p q) it = holds p q it
@@ -139,7 +140,7 @@ binds name (Made.One named) look = with_name look name named
 binds name Made.Pair look = pair_names look
 
 abbrev pub starts : Said → Bool
-starts (says.Node name cookie) = false
+starts (says.Node name cookie profile) = false
 starts _ = true
 
 -- ---- a line
@@ -157,7 +158,7 @@ does said state = let scene = plays state.names said state.stage in record {
 
 -- a line for a node whose name is taken is a bad line too
 abbrev pub is_taken : Said → List Name → Bool
-is_taken (says.Node name cookie) names = has_name name names
+is_taken (says.Node name cookie profile) names = has_name name names
 is_taken _ names = false
 
 abbrev pub says_does : State → Result (Option Said) Reason → Result Step Reason

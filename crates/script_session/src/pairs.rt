@@ -1,9 +1,9 @@
-//! The pair of a script.
+//! The pair of a script: two nodes and a process on each.
 ghost use Rattle.std.specs.Prelude.{◌≡◌, IfOk, OnOk};
 ghost use Rattle.dist_model.specs.Runs.{opening};
 ghost use Rattle.dist_model.specs.World.{Arrive, Call, Dial};
 ghost use Rattle.dist_model.specs.declared.command.Command.{Command as TheCommand};
-ghost use Rattle.script_session.specs.Pairs.{first_process, pair_nodes, pair_stage, setup_of, trunk};
+ghost use Rattle.script_session.specs.Pairs.{first_process, pair_node, pair_nodes, pair_stage, setup_of, trunk};
 ghost use Rattle.script_session.specs.Stage.{Stage as TheStage, after};
 ghost use Rattle.script_session.specs.Stands.{IsStage};
 ghost use Rattle.world_core.specs.Stands.{StandsFor};
@@ -16,42 +16,42 @@ use erl_term::Pid;
 use std::alloc::{AllocError, Global};
 use world_core::{NodeEvent, World};
 
-/// The nodes of a pair.
+/// The name of the first node of a pair.
 pub(crate) const FIRST: &str = "a@h";
 
+/// The name of the second node of a pair.
 pub(crate) const SECOND: &str = "b@h";
 
-// Their cookie.
+// The cookie of both nodes.
 const COOKIE: &str = "c";
 
-/// The name of a node, of a word that has the form of one.
+/// Returns the name of a node, from a word that has the form of one.
 ///
 /// # Errors
-/// Where memory is wanting.
+/// [`AllocError`] if out of memory.
 pub fn node_name(alloc: Global, word: &str) -> Result<NodeName, AllocError>
     ensures { IfOk result (λ name. name ≡ word.now) }
 {
     NodeName::read(alloc, word).map_err(|_| AllocError)
 }
 
-/// Returns the setup of a node with a cookie of these characters, which offers the mandatory flags
-/// alone.
+/// Returns the setup of a node of this profile with a cookie of these characters.
 ///
 /// # Errors
 /// [`AllocError`] if out of memory.
-pub fn setup(alloc: Global, cookie: &str) -> Result<Setup, AllocError>
-    ensures { IfOk result (λ setup. setup ≡ setup_of cookie.now) }
+pub fn setup(alloc: Global, cookie: &str, profile: Profile) -> Result<Setup, AllocError>
+    ensures { IfOk result (λ setup. setup ≡ setup_of cookie.now profile) }
 {
     Ok(Setup {
         cookie: Cookie::new(String::from_str(alloc, cookie)?.into_bytes()),
-        profile: Profile::One,
+        profile,
     })
 }
 
-/// The first process of the first incarnation of a node.
+/// Returns the first process of the first incarnation of a node.
 ///
 /// # Errors
-/// Where memory is wanting.
+/// [`AllocError`] if out of memory.
 pub(crate) fn first_process(alloc: Global, node: &str) -> Result<Pid, AllocError>
     ensures { IfOk result (λ process. process ≡ first_process node.now) }
 {
@@ -64,17 +64,25 @@ pub(crate) fn first_process(alloc: Global, node: &str) -> Result<Pid, AllocError
     })
 }
 
-// The two nodes of a pair, on which nothing has happened yet.
+// Returns the name and the setup of a node of a pair.
+fn pair_node(alloc: Global, name: &str) -> Result<(NodeName, Setup), AllocError>
+    ensures { IfOk result (λ node. node ≡ pair_node name.now) }
+{
+    let setup = setup(alloc, COOKIE, Profile::Two)?;
+    Ok((node_name(alloc, name)?, setup))
+}
+
+// Returns the two nodes of a pair before any event.
 fn pair_world(alloc: Global) -> Result<World, AllocError>
     ensures { IfOk result (λ world. StandsFor world (opening pair_nodes)) }
 {
     let mut nodes = Vec::new(alloc);
-    nodes.push((node_name(alloc, FIRST)?, setup(alloc, COOKIE)?))?;
-    nodes.push((node_name(alloc, SECOND)?, setup(alloc, COOKIE)?))?;
+    nodes.push(pair_node(alloc, FIRST)?)?;
+    nodes.push(pair_node(alloc, SECOND)?)?;
     World::new(alloc, nodes)
 }
 
-// The connection of a pair.
+// Returns the id of the connection of a pair.
 fn trunk(alloc: Global) -> Result<TrunkId, AllocError>
     ensures { IfOk result (λ it. it ≡ trunk) }
 {
@@ -85,7 +93,7 @@ fn trunk(alloc: Global) -> Result<TrunkId, AllocError>
 }
 
 impl Stage {
-    // What comes next on the connection of a pair comes to one of its nodes.
+    // Delivers the next item on the connection of a pair to one of its nodes.
     fn shake(&mut self, alloc: Global, node: &NodeName) -> Result<(), AllocError>
         ensures { (it : TheStage) → IsStage self.old it → OnOk result (IsStage self.new (after it (Arrive trunk node.now it.word))) }
     {
@@ -94,14 +102,14 @@ impl Stage {
         self.pass(alloc, node.atom(), NodeEvent::Arrive { trunk, word })
     }
 
-    // A process is spawned.
+    // Spawns a process.
     fn spawn(&mut self, alloc: Global, node: &NodeName) -> Result<(), AllocError>
         ensures { (it : TheStage) → IsStage self.old it → OnOk result (IsStage self.new (after it (Call node.now TheCommand.Spawn))) }
     {
         self.pass(alloc, node.atom(), NodeEvent::Call(Command::Spawn))
     }
 
-    // One node dials the other.
+    // Lets one node dial the other.
     fn dial(&mut self, alloc: Global, node: &NodeName, peer: NodeName) -> Result<(), AllocError>
         ensures { (it : TheStage) → IsStage self.old it → OnOk result (IsStage self.new (after it (Dial node.now peer it.word))) }
     {

@@ -1,4 +1,6 @@
-//! What happens, as a diagram, where one is asked for.
+//! The diagram of a script's events, if one is drawn.
+ghost use Rattle.std.specs.Prelude.{◌≡◌, None, IfOk, OnOk};
+ghost use Rattle.script_session.specs.Telling.{IsDrawing, IsTaken};
 
 use crate::made::Made;
 use crate::pairs::{FIRST, SECOND, first_process, node_name};
@@ -13,16 +15,16 @@ use script_texts::put_route;
 use std::alloc::{AllocError, Global};
 use world_core::{Frame, NodeEvent, World};
 
-/// What stands in the title of a picture.
+/// The title of a picture.
 const TITLE: &str = "A run of Erlang nodes";
 
-/// A picture of what happens, if one is drawn.
+/// A picture of the events, if one is drawn.
 #[derive(Drop)]
 pub(crate) struct Picture {
     recorder: Option<Recorder>,
 }
 
-// How two processes hold their links to one another.
+// Records the two ends of the link between two processes.
 fn put_ends(
     alloc: Global,
     recorder: &mut Recorder,
@@ -34,7 +36,7 @@ fn put_ends(
     recorder.ends(alloc, (first, of_first), (second, of_second))
 }
 
-// The connection of a node to a peer that is up, on the lane of the node.
+// Records the connection of a node to a peer that is up, on the lane of the node.
 fn note_route(
     alloc: Global,
     recorder: &mut Recorder,
@@ -46,7 +48,7 @@ fn note_route(
     recorder.note(alloc, node, Tone::Plain, text.as_str().trim_end())
 }
 
-// The same, or why there is none.
+// Records the same, or the reason why there is none.
 fn put_routes(
     alloc: Global,
     recorder: &mut Recorder,
@@ -62,7 +64,7 @@ fn put_routes(
     }
 }
 
-// A line has run in which no event tells what it came to.
+// Records a line of which no event tells the outcome.
 fn put_line(
     alloc: Global,
     recorder: &mut Recorder,
@@ -78,7 +80,7 @@ fn put_line(
     recorder.rest(alloc)
 }
 
-// What was made has a name now.
+// Records the name of a new process.
 fn put_names(
     alloc: Global,
     recorder: &mut Recorder,
@@ -96,29 +98,36 @@ fn put_names(
 }
 
 impl Picture {
-    /// None is drawn.
-    pub(crate) fn off() -> Picture {
+    /// Creates a picture that draws nothing.
+    pub(crate) fn off() -> Picture
+        ensures { result.recorder ≡ None }
+    {
         Picture { recorder: None }
     }
 
-    /// One is drawn of all that happens from now on.
+    /// Begins to draw each later event.
     ///
     /// # Errors
-    /// Where memory is wanting, as of each call below.
-    pub(crate) fn begin(&mut self, alloc: Global) -> Result<(), AllocError> {
+    /// [`AllocError`] if out of memory, as of each call below.
+    pub(crate) fn begin(&mut self, alloc: Global) -> Result<(), AllocError>
+        ensures { OnOk result (IsDrawing self.new.recorder) }
+    {
         self.recorder = Some(Recorder::new(alloc, TITLE)?);
         Ok(())
     }
 
-    /// What has happened, as a diagram; an empty one where none was drawn. From now on none is.
-    pub(crate) fn taken(&mut self, alloc: Global) -> Result<Diagram, AllocError> {
+    /// Returns the diagram of the events so far, an empty one if none was drawn, and draws no more.
+    pub(crate) fn taken(&mut self, alloc: Global) -> Result<Diagram, AllocError>
+        ensures taken { IfOk result (λ diagram. IsTaken self.old.recorder diagram) }
+        ensures ended { self.new.recorder ≡ None }
+    {
         match self.recorder.take() {
             Some(recorder) => recorder.finish(alloc),
             None => Recorder::new(alloc, TITLE)?.finish(alloc),
         }
     }
 
-    /// A line is to run: it is to stand at the left of what happens next.
+    /// Puts a line that is to run at the left of the next row.
     pub(crate) fn say(&mut self, alloc: Global, line: &[u8]) -> Result<(), AllocError> {
         match (&mut self.recorder, std::str::from_utf8(line)) {
             (Some(recorder), Ok(text)) => recorder.say(alloc, text.trim()),
@@ -126,7 +135,7 @@ impl Picture {
         }
     }
 
-    /// The connection of an arrival or of a loss, which an event that happens takes with it.
+    /// Returns the connection of an arrival or of a loss, if a picture is drawn.
     pub(crate) fn trunk_of(&self, happens: &NodeEvent) -> Result<Option<TrunkId>, AllocError> {
         if self.recorder.is_none() {
             return Ok(None);
@@ -137,7 +146,7 @@ impl Picture {
         }
     }
 
-    /// An event has happened at the node of a name, or was refused there.
+    /// Records an event at the node of this name, or its refusal.
     pub(crate) fn happened(
         &mut self,
         alloc: Global,
@@ -151,7 +160,7 @@ impl Picture {
         }
     }
 
-    /// What a line asked for is refused, and no event happened.
+    /// Records the refusal of a line at which no event happened.
     pub(crate) fn refused(&mut self, alloc: Global, why: Refusal) -> Result<(), AllocError> {
         match &mut self.recorder {
             Some(recorder) => recorder.refused(alloc, why),
@@ -159,7 +168,7 @@ impl Picture {
         }
     }
 
-    /// A node more.
+    /// Adds a lane for a node.
     pub(crate) fn join(&mut self, alloc: Global, node: &str) -> Result<(), AllocError> {
         match &mut self.recorder {
             Some(recorder) => recorder.add_node(alloc, node),
@@ -167,7 +176,7 @@ impl Picture {
         }
     }
 
-    /// A line has run, and what it made has a name.
+    /// Records a line that has run, and the name of the process that it made.
     pub(crate) fn ran(
         &mut self,
         alloc: Global,

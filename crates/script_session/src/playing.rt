@@ -1,4 +1,4 @@
-//! What a line's command does on the stage.
+//! The effect of a line's command on the stage.
 ghost use Rattle.std.specs.Prelude.{◌≡◌, false, IfOk, OnOk, string_bytes};
 ghost use Rattle.dist_model.specs.Dialing.{has_name};
 ghost use Rattle.dist_model.specs.World.{Dial};
@@ -16,6 +16,7 @@ use crate::pairs::{node_name, setup};
 use crate::showing::put_world;
 use crate::stage::Stage;
 use dist_model::{Answer, Command};
+use erl_handshake::Profile;
 use erl_term::{Atom, Payload, Pid};
 use script_lines::Line;
 use script_terms::{Names, read_term};
@@ -23,31 +24,31 @@ use script_texts::{put_answer, put_ends};
 use std::alloc::{AllocError, Global};
 use world_core::NodeEvent;
 
-// A term of a line, which is known to be one.
+// Returns the term of a line, which is known to be one.
 fn term(alloc: Global, names: &Names, text: &str) -> Result<Payload, AllocError>
     ensures { (look : Look) → Knows names.now look → IfOk result (λ t. t ≡ read look text.now) }
 {
     read_term(alloc, names, text).map_err(|_| AllocError)
 }
 
-// Copies of two processes, and of the name of the first one's node.
+// Returns copies of two processes, and of the name of the first one's node.
 fn at_two(first: &Pid, second: &Pid) -> Result<(Atom, Pid, Pid), AllocError>
     ensures { IfOk result (λ two. two ≡ (first.now.node, first.now, second.now)) }
 {
     Ok((first.node.clone()?, first.clone()?, second.clone()?))
 }
 
-// A copy of a process, and of the name of its node.
+// Returns a copy of a process, and of the name of its node.
 fn at_one(process: &Pid) -> Result<(Atom, Pid), AllocError>
     ensures { IfOk result (λ one. one ≡ (process.now.node, process.now)) }
 {
     Ok((process.node.clone()?, process.clone()?))
 }
 
-/// The name that a line gives to what it makes.
+/// Returns the name that a line gives to what it makes, or the empty string.
 ///
 /// # Errors
-/// Where memory is wanting.
+/// [`AllocError`] if out of memory.
 pub fn new_name(alloc: Global, line: Line) -> Result<String, AllocError>
     ensures { IfOk result (λ name. string_bytes name ≡ new_name (said line.entry)) }
 {
@@ -57,7 +58,7 @@ pub fn new_name(alloc: Global, line: Line) -> Result<String, AllocError>
     }
 }
 
-/// Whether a line is for a node whose name another has.
+/// Returns true if a line is for a node whose name another has.
 pub(crate) fn is_taken(stage: &Stage, line: Line) -> bool
     ensures { result ≡ is_taken (said line.entry) (names_of stage.now.world.nodes.items) }
 {
@@ -78,7 +79,7 @@ pub fn starts(line: Line) -> bool
 }
 
 impl Stage {
-    // Something happens at the node that a word names.
+    // Lets something happen at the node that a word names.
     fn at(
         &mut self,
         alloc: Global,
@@ -98,7 +99,7 @@ impl Stage {
         }
     }
 
-    // One node dials another.
+    // Lets one node dial another.
     fn dials(
         &mut self,
         alloc: Global,
@@ -114,25 +115,26 @@ impl Stage {
         self.at(alloc, node, NodeEvent::Dial { peer, word }, out)
     }
 
-    // A node more.
+    // Adds a node.
     fn join(
         &mut self,
         alloc: Global,
         name: &str,
         secret: &str,
+        profile: Profile,
         out: &mut String,
     ) -> Result<(), AllocError>
         requires { has_name name.now (names_of self.old.world.nodes.items) ≡ false }
         ensures { (it : TheStage) → IsStage self.old it → IsOpening it.world →
-            OnOk result (Plays (joins name.now secret.now it) self.new (string_bytes out.old) (string_bytes out.new) TheMade.Nothing) }
+            OnOk result (Plays (joins name.now secret.now profile it) self.new (string_bytes out.old) (string_bytes out.new) TheMade.Nothing) }
     {
-        let setup = setup(alloc, secret)?;
+        let setup = setup(alloc, secret, profile)?;
         self.world.join(alloc, node_name(alloc, name)?, setup)?;
         self.telling.picture.join(alloc, name)?;
         put_answer(out, name, &Answer::Started(1))
     }
 
-    // How two processes hold their links to one another.
+    // Prints the two ends of the link between two processes.
     fn ends(&self, first: &Pid, second: &Pid, out: &mut String) -> Result<(), AllocError>
         ensures { (it : TheStage) → IsStage self.now it →
             OnOk result (Plays (holds first.now second.now it) self.now (string_bytes out.old) (string_bytes out.new) TheMade.Nothing) }
@@ -141,7 +143,7 @@ impl Stage {
         put_ends(out, of_first, of_second)
     }
 
-    // All nodes and processes.
+    // Prints all nodes and processes.
     fn show(&self, out: &mut String) -> Result<(), AllocError>
         ensures { (it : TheStage) → IsStage self.now it →
             OnOk result (Plays (shows it) self.now (string_bytes out.old) (string_bytes out.new) TheMade.Nothing) }
@@ -261,8 +263,12 @@ impl Stage {
             IfOk result (Plays (moves (said line.entry) it) self.new (string_bytes out.old) (string_bytes out.new)) }
     {
         match line {
-            Line::Node { name, cookie } => self
-                .join(alloc, name, cookie, out)
+            Line::Node {
+                name,
+                cookie,
+                profile,
+            } => self
+                .join(alloc, name, cookie, profile, out)
                 .map(|()| Made::Nothing),
             Line::Pair => self.pair(alloc).map(|()| Made::Pair),
             Line::Spawn { node, .. } => self.at(alloc, node, NodeEvent::Call(Command::Spawn), out),

@@ -1,9 +1,10 @@
 //! The session of a script.
-ghost use Rattle.std.specs.Prelude.{◌≡◌, [], false, IfOk, OnOk, string_bytes};
+ghost use Rattle.std.specs.Prelude.{◌≡◌, [], true, false, None, IfOk, OnOk, string_bytes};
 ghost use Rattle.script_lines.specs.Said.{said};
 ghost use Rattle.script_session.specs.Session.{State, binds, fresh_state, is_taken, line_does, may_come, new_name, plays, starts};
 ghost use Rattle.script_session.specs.Stage.{Stage as TheStage};
 ghost use Rattle.script_session.specs.Stands.{IsOpening, IsStage, IsSession, Obeys, Plays};
+ghost use Rattle.script_session.specs.Telling.{IsDrawing, IsTaken};
 ghost use Rattle.script_terms.specs.Binding.{Knows, Look};
 ghost use Rattle.world_core.specs.Names.{names_of};
 
@@ -21,7 +22,7 @@ use world_core::World;
 /// The most nodes of a script.
 pub const MOST_NODES: usize = 64;
 
-/// Why a line isn't run.
+/// The reason why a line isn't run.
 #[derive(Clone, Copy, Debug, PartialEq, Eq)]
 pub enum Stop {
     /// It is a bad line.
@@ -30,7 +31,7 @@ pub enum Stop {
     OutOfMemory,
 }
 
-/// A script of which some lines have run: its world, and what its names stand for.
+/// A script of which some lines have run: its world, and the meanings of its names.
 #[derive(Drop)]
 pub struct Session {
     stage: Stage,
@@ -38,7 +39,7 @@ pub struct Session {
     started: bool,
 }
 
-// What a line's command makes, and the name that the line gives to it.
+// Carries out a line's command, and returns the thing that it makes with the name that the line gives to it.
 fn carry_out(
     alloc: Global,
     stage: &mut Stage,
@@ -84,8 +85,8 @@ pub fn bind(alloc: Global, names: &mut Names, name: String, made: Made) -> Resul
 }
 
 impl Session {
-    /// Before the first line. Each frame that is sent is printed where that is asked for; the first
-    /// challenge of a handshake is the seed, and each next one greater by 1. Takes no memory.
+    /// Creates a session before its first line. With `trace` each frame that is sent is printed. The first
+    /// challenge of a handshake is the seed, and each next one is greater by 1. Never allocates.
     pub fn new(alloc: Global, trace: bool, seed: u32) -> Session
         ensures { IsSession result (fresh_state trace seed) }
     {
@@ -101,7 +102,7 @@ impl Session {
         }
     }
 
-    // Which of the lines may still come that stand at the beginning alone.
+    // Returns which of the lines may still come that stand at the beginning alone.
     fn may_come(&self) -> MayCome
         ensures { (state : State) → IsSession self.now state → result ≡ may_come state }
     {
@@ -112,8 +113,7 @@ impl Session {
         }
     }
 
-    /// Runs a line, and puts what it prints behind what is printed. What it does is told over the events
-    /// of `dist_model`'s world.
+    /// Runs a line, and appends its output. Its effect is told over the events of `dist_model`'s world.
     ///
     /// # Errors
     /// [`Stop::Bad`] where the line is no command, or may not come here, before anything happens;
@@ -142,43 +142,47 @@ impl Session {
         Ok(())
     }
 
-    /// From now on each event is told, in a line of JSON.
+    /// Lets each later event be told in a line of JSON.
     pub fn tell_events(&mut self)
-        ensures { (state : State) → IsSession self.old state → IsSession self.new state }
+        ensures state { (state : State) → IsSession self.old state → IsSession self.new state }
+        ensures told { self.new.stage.telling.is_on ≡ true }
+        ensures events { string_bytes self.new.stage.telling.lines ≡ string_bytes self.old.stage.telling.lines }
     {
         self.stage.telling.is_on = true;
     }
 
-    /// From now on a picture is drawn of what happens.
+    /// Begins to draw a picture of each later event.
     ///
     /// # Errors
-    /// Where memory is wanting.
+    /// [`AllocError`] if out of memory.
     pub fn draw_picture(&mut self, alloc: Global) -> Result<(), AllocError>
-        ensures { (state : State) → IsSession self.old state → IsSession self.new state }
+        ensures state { (state : State) → IsSession self.old state → IsSession self.new state }
+        ensures drawn { OnOk result (IsDrawing self.new.stage.telling.picture.recorder) }
     {
         self.stage.telling.picture.begin(alloc)
     }
 
-    /// Returns a diagram of the events since; it is empty if no picture is drawn. Then none is any
-    /// more.
+    /// Returns a diagram of the events since, an empty one if no picture is drawn, and draws no more.
     ///
     /// # Errors
-    /// Where memory is wanting.
+    /// [`AllocError`] if out of memory.
     pub fn picture(&mut self, alloc: Global) -> Result<Diagram, AllocError>
-        ensures { (state : State) → IsSession self.old state → IsSession self.new state }
+        ensures state { (state : State) → IsSession self.old state → IsSession self.new state }
+        ensures taken { IfOk result (λ diagram. IsTaken self.old.stage.telling.picture.recorder diagram) }
+        ensures ended { self.new.stage.telling.picture.recorder ≡ None }
     {
         self.stage.telling.picture.taken(alloc)
     }
 
-    /// The lines of the events that have happened since they were last cleared: all those that come of
-    /// the script's lines, refused ones too, in their order.
+    /// Returns the lines of the events since the last call of [`Session::clear_events`], refused ones
+    /// too, in their order.
     pub fn events(&self) -> &str
         ensures { result.now ≡ string_bytes self.now.stage.telling.lines }
     {
         self.stage.telling.lines.as_str()
     }
 
-    /// Those were taken.
+    /// Clears the lines of the events.
     pub fn clear_events(&mut self)
         ensures state { (state : State) → IsSession self.old state → IsSession self.new state }
         ensures cleared { string_bytes self.new.stage.telling.lines ≡ [] }
@@ -186,8 +190,7 @@ impl Session {
         self.stage.telling.lines.clear();
     }
 
-    /// Puts what is wrong with a bad line behind what is printed, and the remedy where there is an obvious
-    /// one.
+    /// Appends the fault of a bad line, and its remedy if there is an obvious one.
     ///
     /// # Errors
     /// Where memory is wanting.

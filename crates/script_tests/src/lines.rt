@@ -4,7 +4,7 @@ use script_lines::{MayCome, Reason, read_line};
 use std::test::*;
 
 /// Lines at the beginning of a script in which p is a process and r a reference, and what is wrong with them.
-const LINES: [(&str, Option<Reason>); 49] = [
+const LINES: [(&str, Option<Reason>); 57] = [
     ("", None),
     ("   ", None),
     ("# anything", None),
@@ -13,6 +13,14 @@ const LINES: [(&str, Option<Reason>); 49] = [
     ("  node   a@h   c  ", None),
     ("node a@h", Some(Reason::WrongWords)),
     ("node a@h c d", Some(Reason::WrongWords)),
+    ("node a@h c 1", None),
+    ("node a@h c  2 ", None),
+    ("node a@h c 0", Some(Reason::WrongWords)),
+    ("node a@h c 3", Some(Reason::WrongWords)),
+    ("node a@h c 12", Some(Reason::WrongWords)),
+    ("node a@h c 1 2", Some(Reason::WrongWords)),
+    ("node a c 3", Some(Reason::WrongWords)),
+    ("node a c 2", Some(Reason::BadName)),
     ("node a c", Some(Reason::BadName)),
     ("node a@h é", Some(Reason::BadName)),
     ("pair", None),

@@ -165,7 +165,7 @@ fn many_nodes(rt: HostRuntime) -> Result<(), Fail> {
 }
 
 /// Bad lines of scripts of nodes, and what is said of them.
-const ADVICE: [(&str, &str); 16] = [
+const ADVICE: [(&str, &str); 17] = [
     ("lnk p q", "'lnk'; did you mean 'link'?"),
     ("pair\r", "'pair\\r'; lines end with a line feed alone"),
     (
@@ -189,7 +189,11 @@ const ADVICE: [(&str, &str); 16] = [
     ("node a@h c\nnode a@h c", "'a@h'; a name is given once"),
     (
         "settle\nnode a@h c",
-        "the command is 'node NAME COOKIE', stands before all other commands, and 64 times at most",
+        "the command is 'node NAME COOKIE [PROFILE]', stands before all other commands, and 64 times at most",
+    ),
+    (
+        "node a@h c 3",
+        "the command is 'node NAME COOKIE [PROFILE]', stands before all other commands, and 64 times at most; PROFILE is 1 or 2, not '3'",
     ),
     (
         "pair\nends p q\r",

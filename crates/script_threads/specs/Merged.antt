@@ -1,4 +1,4 @@
--- What the end of a script says of its nodes.
+-- The end of a script of nodes in threads: its last lines, and the claim on the nodes' histories.
 use Rattle.std.specs.Prelude.{◌≡◌, Option, None, Some, ℕ, Bool, true, false, ◌==◌, List}
 use Rattle.std.specs.Prelude.{[], ◌++◌, length, Result, Ok, Err, if◌then◌else◌, slice_get}
 use Rattle.std.specs.List.{flat_map}
@@ -19,7 +19,7 @@ use Rattle.script_threads.specs.declared.threads.Cast.{Cast}
 use Rattle.script_threads.specs.declared.threads.Cast.TheVariants as cast
 use Rattle.erl_handshake.specs.declared.setup.Setup.{Setup}
 
--- ---- what was sent with an entry
+-- ---- the items that were sent with an entry
 
 abbrev pub sents_of : Name → Result (Report Framed) Refusal → List ℕ
 sents_of name (Ok report) = flat_map (sent_in name) report.effects.items
@@ -56,7 +56,7 @@ pub record AreMerged (trace : Bool) (named : Cast) (old_text new_text : List ℕ
   pub finished : IsFinished (nodes_of named) books seats entries
   pub text : new_text ≡ old_text ++ trace_text trace (nodes_of named) books entries ++ merged_text
 
--- where the script has named no node nothing is told
+-- a script that has named no node tells nothing
 abbrev pub Tells : Bool → (trace : Bool) → Cast → (old_text new_text : List ℕ) → Type 0
 Tells true trace named old_text new_text = new_text ≡ old_text
 Tells false trace named old_text new_text = AreMerged trace named old_text new_text

@@ -1,4 +1,4 @@
--- What a session stands for: the nodes that the script has named, and what its names stand for.
+-- The nodes that a script has named, and the meaning of its names.
 use Rattle.std.specs.Prelude.{◌≡◌, Option, None, Some, ℕ, Bool, true, false, not, ◌&&◌}
 use Rattle.std.specs.Prelude.{◌==◌, nat_lt, List, [], ◌∷◌, ◌++◌, length, Result, Ok, Err}
 use Rattle.dist_books.specs.Acting.{Nodes, names_of}
@@ -42,7 +42,7 @@ MayCome said cast = starts said ≡ false → is_idle cast ≡ true
 pub record Known : Type 0 where
   pub nodes : Nodes
   pub look : Look
-  -- whether a command has come that no line for a node may follow
+  -- true once a command has come that no line for a node may follow
   pub started : Bool
 
 pub record IsKnown (session : ThreadedSession) (known : Known) : Type 0 where
@@ -51,7 +51,7 @@ pub record IsKnown (session : ThreadedSession) (known : Known) : Type 0 where
   pub started : session.started ≡ known.started
   pub idle : known.started ≡ false → is_idle session.threads.cast ≡ true
 
--- ---- what a line says there
+-- ---- the meaning of a line there
 
 abbrev pub may_come : Known → reading.MayCome
 may_come known = record {
@@ -62,13 +62,13 @@ may_come known = record {
 abbrev pub says_of : Known → List ℕ → Result (Option Said) Reason
 says_of known line = unless_taken (names_of known.nodes) (lines.says (may_come known) known.look line)
 
--- ---- what a line comes to
+-- ---- the outcome of a line
 
 abbrev pub nodes_after : Said → Nodes → Nodes
-nodes_after (says.Node name cookie) nodes = nodes ++ (name, setup_of cookie) ∷ []
+nodes_after (says.Node name cookie profile) nodes = nodes ++ (name, setup_of cookie profile) ∷ []
 nodes_after _ nodes = nodes
 
--- what it made, which the nodes have decided, has the name that it gave
+-- the name that the line gives is bound to the thing that it made, as the nodes have decided
 pub record Ran (said : Said) (known : Known) (new : ThreadedSession) : Type 0 where
   pub made : Made
   pub after : IsKnown new

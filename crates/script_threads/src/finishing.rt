@@ -44,7 +44,7 @@ impl From<FinishError> for Unfinished {
     }
 }
 
-// What a node of this name sent with an entry, if there is one.
+// Prints the items that a node of this name sent with an entry, if there is one.
 fn put_entry(
     alloc: Global,
     out: &mut String,
@@ -82,7 +82,7 @@ fn put_placed(
     }
 }
 
-// What was sent with all entries, in their order.
+// Prints the items that were sent with all entries, in their order.
 fn put_trace(
     alloc: Global,
     out: &mut String,

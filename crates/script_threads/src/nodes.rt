@@ -9,14 +9,14 @@ use erl_handshake::Setup;
 use erl_names::NodeName;
 use std::alloc::{AllocError, Global};
 
-// Whether one of them has the name that a text spells.
+// Returns true if one of them has the name that a text spells.
 fn is_one_named(nodes: &[(NodeName, Setup)], name: &str) -> bool
     ensures { result ≡ list_any (λ node. bytes_eq name.now node.0) nodes.now }
 {
     nodes.iter().any(|(node, _)| name == node.text())
 }
 
-/// Whether one of them has the name that a text spells.
+/// Returns true if one of them has the name that a text spells.
 pub(crate) fn has_name(nodes: &[(NodeName, Setup)], name: &str) -> bool
     ensures { result ≡ has_name name.now (names_of nodes.now) }
 {
@@ -33,7 +33,7 @@ pub(crate) fn place_of(nodes: &[(NodeName, Setup)], name: &str) -> Option<usize>
 /// Copies of the names and cookies.
 ///
 /// # Errors
-/// Where memory is wanting.
+/// [`AllocError`] if out of memory.
 pub(crate) fn copies(
     alloc: Global,
     nodes: &[(NodeName, Setup)],

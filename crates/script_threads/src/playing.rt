@@ -1,4 +1,4 @@
-//! What a line's command does at nodes in threads.
+//! The effect of a line's command at nodes in threads.
 ghost use Rattle.std.specs.Prelude.{◌≡◌, IfOk};
 ghost use Rattle.script_lines.specs.Said.{said};
 ghost use Rattle.script_terms.specs.Binding.{Knows, Look};
@@ -14,7 +14,7 @@ use script_terms::Names;
 use std::alloc::{AllocError, Global};
 
 impl NodeThreads {
-    // A line that asks nothing of a process's node.
+    // Carries out a line that asks nothing of a process's node.
     fn moves<R: Machine>(
         &mut self,
         rt: &R,
@@ -26,8 +26,12 @@ impl NodeThreads {
         ensures idle { is_idle self.new.cast ≡ is_idle self.old.cast }
     {
         match line {
-            Line::Node { name, cookie } => self
-                .join(alloc, name, cookie, out)
+            Line::Node {
+                name,
+                cookie,
+                profile,
+            } => self
+                .join(alloc, name, cookie, profile, out)
                 .map(|()| Made::Nothing),
             Line::Spawn { node, .. } => self.act(rt, node, Act::Run(Command::Spawn), out),
             Line::Ends { first, second } => self
@@ -52,7 +56,7 @@ impl NodeThreads {
             Line::Deliver { .. } => Ok(Made::Nothing),
             Line::Local { .. } => Ok(Made::Nothing),
             Line::Sweep { .. } => Ok(Made::Nothing),
-            // what asks a node is carried out there, and nothing is left to do
+            // a command to a process is carried out at its node, and nothing is left to do
             Line::Send { .. } => Ok(Made::Nothing),
             Line::Link { .. } => Ok(Made::Nothing),
             Line::Unlink { .. } => Ok(Made::Nothing),
@@ -67,10 +71,10 @@ impl NodeThreads {
         }
     }
 
-    /// A line's command.
+    /// Carries out a line's command.
     ///
     /// # Errors
-    /// Where memory is wanting.
+    /// [`AllocError`] if out of memory.
     pub(crate) fn play<R: Machine>(
         &mut self,
         rt: &R,

@@ -43,7 +43,7 @@ fn seats(alloc: Global, count: usize) -> Result<Vec<Seat>, AllocError> {
     Ok(seats)
 }
 
-// What an answer has made that a name may be bound to.
+// Returns the thing that an answer has made, if a name may be bound to it.
 fn made_of(answer: &Answer) -> Result<Made, AllocError>
     ensures { IfOk result (λ made. made ≡ made_of answer.now) }
 {
@@ -54,7 +54,7 @@ fn made_of(answer: &Answer) -> Result<Made, AllocError>
     }
 }
 
-// What a node of this name has answered.
+// Prints the answer of a node of this name.
 fn put_answered(out: &mut String, node: &str, answered: &Answered) -> Result<Made, AllocError>
     ensures text { OnOk result (string_bytes out.new ≡ string_bytes out.old ++ answered_text node.now answered.now) }
     ensures made { IfOk result (λ made. made ≡ made_by answered.now) }
@@ -71,7 +71,7 @@ fn put_answered(out: &mut String, node: &str, answered: &Answered) -> Result<Mad
     }
 }
 
-// What a node of this name has answered to what was asked for last by a seat.
+// Prints the answer of a node of this name to the last call of a seat.
 fn put_last(out: &mut String, node: &str, seat: &Seat) -> Result<Made, AllocError>
     ensures text { (asked : TheAsked) → last_of seat.now.receipts.items ≡ Some asked →
         OnOk result (string_bytes out.new ≡ string_bytes out.old ++ answered_text node.now asked.receipt.answer) }
@@ -83,10 +83,10 @@ fn put_last(out: &mut String, node: &str, seat: &Seat) -> Result<Made, AllocErro
     }
 }
 
-/// What is asked for by the seat at a node of this name, and what the node answers is printed.
+/// Makes a call by the seat at a node of this name, and prints the answer.
 ///
 /// # Errors
-/// Where memory is wanting.
+/// [`AllocError`] if out of memory.
 pub(crate) fn act<R: Wait>(
     rt: &R,
     cluster: &Cluster<Open>,
@@ -111,7 +111,7 @@ impl Running {
     /// Starts a thread for each node, none of which has the name of another.
     ///
     /// # Errors
-    /// Where memory is wanting, or threads are. Then those that were started are ended.
+    /// If out of memory, or if a thread can't be started. Then those that were started are ended.
     pub(crate) fn start<R: Machine>(
         rt: &R,
         alloc: Global,
@@ -134,10 +134,10 @@ impl Running {
         }
     }
 
-    /// What is asked for by the seat at the node of a name, and what the node answers is printed.
+    /// Makes a call by the seat at the node of a name, and prints the answer.
     ///
     /// # Errors
-    /// Where memory is wanting.
+    /// [`AllocError`] if out of memory.
     pub(crate) fn act<R: Wait>(
         &mut self,
         rt: &R,
@@ -160,7 +160,7 @@ impl Running {
     /// The same, and nothing is printed. A refusal is passed over, since it changes nothing.
     ///
     /// # Errors
-    /// Where memory is wanting.
+    /// [`AllocError`] if out of memory.
     pub(crate) fn pass<R: Wait>(&mut self, rt: &R, node: &str, asked: Act) -> Result<(), AllocError>
         ensures { self.new.nodes.items ≡ self.old.nodes.items }
     {

@@ -6,7 +6,7 @@ ghost use Rattle.script_threads.specs.Standing.{has_started, is_idle, nodes_of};
 use crate::running::{Machine, Running};
 use cluster_run::Settled;
 use dist_model::Answer;
-use erl_handshake::Setup;
+use erl_handshake::{Profile, Setup};
 use erl_names::NodeName;
 use erl_term::{Pid, Refusal};
 use link_core::End;
@@ -64,7 +64,7 @@ impl NodeThreads {
     /// Starts a thread for each node, unless that is done, or there is no node.
     ///
     /// # Errors
-    /// Where memory is wanting, or threads are.
+    /// If out of memory, or if a thread can't be started.
     pub(crate) fn start<R: Machine>(&mut self, rt: &R, alloc: Global) -> Result<(), AllocError>
         ensures nodes { nodes_of self.new.cast ≡ nodes_of self.old.cast }
         ensures started { OnOk result (has_started self.new.cast ≡ true) }
@@ -80,30 +80,31 @@ impl NodeThreads {
         Ok(())
     }
 
-    /// A node more, before the threads are started.
+    /// Adds a node, before the threads are started.
     ///
     /// # Errors
-    /// Where memory is wanting.
+    /// [`AllocError`] if out of memory.
     pub(crate) fn join(
         &mut self,
         alloc: Global,
         name: &str,
         secret: &str,
+        profile: Profile,
         out: &mut String,
     ) -> Result<(), AllocError>
-        ensures nodes { is_idle self.old.cast ≡ true → OnOk result (nodes_of self.new.cast ≡ nodes_of self.old.cast ++ (name.now, setup_of secret.now) ∷ []) }
+        ensures nodes { is_idle self.old.cast ≡ true → OnOk result (nodes_of self.new.cast ≡ nodes_of self.old.cast ++ (name.now, setup_of secret.now profile) ∷ []) }
         ensures idle { is_idle self.new.cast ≡ is_idle self.old.cast }
     {
         if let Cast::Named(nodes) = &mut self.cast {
-            nodes.push((node_name(alloc, name)?, setup(alloc, secret)?))?;
+            nodes.push((node_name(alloc, name)?, setup(alloc, secret, profile)?))?;
         }
         put_answer(out, name, &Answer::Started(1))
     }
 
-    /// What is asked for by the seat at the node of a name, and what it answers is printed.
+    /// Makes a call by the seat at the node of a name, and prints its answer.
     ///
     /// # Errors
-    /// Where memory is wanting.
+    /// [`AllocError`] if out of memory.
     pub(crate) fn act<R: Wait>(
         &mut self,
         rt: &R,
@@ -127,7 +128,7 @@ impl NodeThreads {
     /// One node dials another, under the next challenge.
     ///
     /// # Errors
-    /// Where memory is wanting.
+    /// [`AllocError`] if out of memory.
     pub(crate) fn dial<R: Wait>(
         &mut self,
         rt: &R,
@@ -145,7 +146,7 @@ impl NodeThreads {
         self.act(rt, node, Act::Dial { peer, word }, out)
     }
 
-    // How a process holds its link to another.
+    // Returns the end of a process's link to another.
     fn end<R: Wait>(&self, rt: &R, process: &Pid, partner: &Pid) -> End {
         match &self.cast {
             Cast::Running(running) => running.end(rt, process, partner),
@@ -153,10 +154,10 @@ impl NodeThreads {
         }
     }
 
-    /// How two processes hold their links to one another.
+    /// Prints the two ends of the link between two processes.
     ///
     /// # Errors
-    /// Where memory is wanting.
+    /// [`AllocError`] if out of memory.
     pub(crate) fn ends<R: Wait>(
         &self,
         rt: &R,
@@ -171,7 +172,7 @@ impl NodeThreads {
     /// Waits until nothing more happens by itself, and says whether it has come to that.
     ///
     /// # Errors
-    /// Where memory is wanting.
+    /// [`AllocError`] if out of memory.
     pub(crate) fn settle<R: Wait>(&self, rt: &R, out: &mut String) -> Result<(), AllocError> {
         let settled = match &self.cast {
             Cast::Running(running) => running.cluster.settle(rt, MOST_LOOKS),
@@ -183,7 +184,7 @@ impl NodeThreads {
     /// Each node as it then is, the one after the other, and its processes.
     ///
     /// # Errors
-    /// Where memory is wanting.
+    /// [`AllocError`] if out of memory.
     pub(crate) fn show<R: Wait>(
         &self,
         rt: &R,

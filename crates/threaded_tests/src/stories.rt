@@ -92,7 +92,7 @@ pub fn is_silent<R: Machine>(rt: &R, alloc: Global) -> bool {
 /// of the node that dials is the seed, and so is the first of the other node.
 const TRACE: (&str, &str) = (
     "node a@h c\nnode b@h c\nspawn a@h p\nspawn b@h q\ndial a@h b@h\nsettle\nlink p q\nsettle\nends p q\n",
-    "up a@h 1\nup b@h 1\n<a@h.1.0.1>\n<b@h.1.0.1>\ntrunk a@h/1\nsettled\ndone\nsettled\nends active active\nsent a@h b@h 00124E000000040305010C000000010003614068\nsent b@h a@h 0003736F6B\nsent b@h a@h 00164E000000040305010CFFFFFFFF000000010003624068\nsent a@h b@h 001572FFFFFFFFB6B9428EF079FC89EA04BB26BBF1A0DA\nsent b@h a@h 001161B6B9428EF079FC89EA04BB26BBF1A0DA\nsent a@h b@h 0000002A708368036101587703614068000000010000000000000001587703624068000000010000000000000001\nmerged\n",
+    "up a@h 1\nup b@h 1\n<a@h.1.0.1>\n<b@h.1.0.1>\ntrunk a@h/1\nsettled\ndone\nsettled\nends active active\nsent a@h b@h 00124E000000040345010C000000010003614068\nsent b@h a@h 0003736F6B\nsent b@h a@h 00164E000000040345010CFFFFFFFF000000010003624068\nsent a@h b@h 001572FFFFFFFFB6B9428EF079FC89EA04BB26BBF1A0DA\nsent b@h a@h 001161B6B9428EF079FC89EA04BB26BBF1A0DA\nsent a@h b@h 0000002A708368036101587703614068000000010000000000000001587703624068000000010000000000000001\nmerged\n",
 );
 
 /// Whether the frames are printed at the end, in the order in which they were sent.
@@ -157,7 +157,7 @@ const BAD_LINES: [(&[u8], u64, Reason, &str); 8] = [
         b"node a@h c\nspawn a@h p\nnode b@h c\n",
         3,
         Reason::WrongWords,
-        "the command is 'node NAME COOKIE', stands before all other commands, and 64 times at most",
+        "the command is 'node NAME COOKIE [PROFILE]', stands before all other commands, and 64 times at most",
     ),
     (
         b"node a@h c\nsettel\n",

@@ -19,7 +19,7 @@ returns-in-Ok-write_whole-clause-ends g c =
     (script c.args.options.now.trace c.args.options.now.seed) None None c.read_all-outcome.result
     (let opened = c.new-script.ensures.at at c.new-session.ensures in
     c.read_all-outcome.ensures at (record {
-      session = c.draw_picture.ensures at opened.session;
+      session = c.draw_picture.ensures.state at opened.session;
       pending = opened.pending;
       number = opened.number;
       one_line = opened.one_line;
