@@ -128,7 +128,7 @@ module _ (w : World) (x : Name) (n : Node) (t : TrunkId) (v : TrunkSide) (i : It
   good_on_up u = go (is_good n v i) refl
     where
       go : (b : Bool) → is_good n v i ≡ b
-          → IfGoes (cond b (Accepts (Answer.Took (kind_of i)) (take_item i (at_work n))) (fault Fault.Forged t v (at_work n))) Fin
+          → IfGoes (cond b (Accepts (Answer.Took (kind_of i)) (take_item v.peer i (at_work n))) (fault Fault.Forged t v (at_work n))) Fin
       go true e = good_arrive w x n t v i rest hx h u g first e
       go false e = good_fault Fault.Forged
 

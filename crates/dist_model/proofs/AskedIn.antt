@@ -248,7 +248,7 @@ took_up names n t s pay k = answers_if n.up _ Refusal.NodeDown (TookUp n t) (λ 
         → IfAnswers (signal_at x t v (Signalled s pay) (at_work n)) (TookUp n t)
     at v h Up e = good (is_good n v (Signalled s pay))
       where
-        good : (b : Bool) → IfAnswers (cond b (Accepts (Answer.Took (kind_of (Signalled s pay))) (take_item (Signalled s pay) (at_work n)))
+        good : (b : Bool) → IfAnswers (cond b (Accepts (Answer.Took (kind_of (Signalled s pay))) (take_item v.peer (Signalled s pay) (at_work n)))
             (fault Fault.Forged t v (at_work n))) (TookUp n t)
         good true = λ z. (v, h, e)
         good false = λ z. (v, h, e)

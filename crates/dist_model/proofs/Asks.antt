@@ -31,7 +31,7 @@ use Rattle.dist_model.specs.Node.{Node, ends_of, is_stranger, living, reaches, r
 use Rattle.dist_model.specs.NodeEvents.{Arrive, Call, Dial, Local, Lose, NodeEvent, Start, Stop, Sweep, at_node}
 use Rattle.dist_model.specs.Sides.{TrunkSide, is_losing, is_over}
 use Rattle.dist_model.specs.Taking.{take_item}
-use Rattle.dist_model.specs.Work.{Work, at_work, draw, keep_local, post, post_all, put, report, send_on, spelled}
+use Rattle.dist_model.specs.Work.{Addressed, Work, at_work, draw, keep_local, post, post_all, put, report, send_on, spelled, to_pid}
 use Rattle.erl_control.specs.Ends.{receiver_of}
 use Rattle.erl_control.specs.declared.signal.Signal.{Signal}
 use Rattle.erl_handshake.specs.declared.message.ShakeMsg.{ShakeMsg}
@@ -62,11 +62,11 @@ asks_blind : (s : Signal) (pay : Bool) → asks (Signalled s pay) ≡ asks (Sign
 asks_blind (Signal.Monitor p q r) pay = refl
 asks_blind _ pay = refl
 
-abbrev Quiets : List Signal → Type 0
+abbrev Quiets : List Addressed → Type 0
 Quiets [] = Unit {0}
-Quiets (s ∷ ss) = (asks (Signalled s false) ≡ false) × Quiets ss
+Quiets (s ∷ ss) = (asks (Signalled s.signal false) ≡ false) × Quiets ss
 
-quiets-append : (xs ys : List Signal) → Quiets xs → Quiets ys → Quiets (xs ++ ys)
+quiets-append : (xs ys : List Addressed) → Quiets xs → Quiets ys → Quiets (xs ++ ys)
 quiets-append [] ys h k = k
 quiets-append (x ∷ xs) ys h k = (h.0, quiets-append xs ys h.1 k)
 
@@ -81,20 +81,20 @@ exits_quiet p x (l ∷ ls) = quiets-append (exit_for p x l.0 l.1) (exits p x ls)
 monitor_exits_quiet : (p : Pid) (x : Data) (es : List (Reference × Monitor)) → Quiets (monitor_exits p x es)
 monitor_exits_quiet p x [] = tt
 monitor_exits_quiet p x (e ∷ es) =
-    quiets-append (cond (same_pid e.1.target p) (Signal.MonitorExit p e.1.owner e.0 x ∷ []) []) (monitor_exits p x es)
+    quiets-append (cond (same_pid e.1.target p) (to_pid e.1.owner (Signal.MonitorExit p e.1.owner e.0 x) ∷ []) []) (monitor_exits p x es)
     (one (same_pid e.1.target p)) (monitor_exits_quiet p x es)
   where
-    one : (b : Bool) → Quiets (cond b (Signal.MonitorExit p e.1.owner e.0 x ∷ []) [])
+    one : (b : Bool) → Quiets (cond b (to_pid e.1.owner (Signal.MonitorExit p e.1.owner e.0 x) ∷ []) [])
     one true = (refl, tt)
     one false = tt
 
 demonitors_quiet : (p : Pid) (es : List (Reference × Monitor)) → Quiets (demonitors p es)
 demonitors_quiet p [] = tt
 demonitors_quiet p (e ∷ es) =
-    quiets-append (cond (same_pid e.1.owner p) (Signal.Demonitor p e.1.target e.0 ∷ []) []) (demonitors p es)
+    quiets-append (cond (same_pid e.1.owner p) (to_pid e.1.target (Signal.Demonitor p e.1.target e.0) ∷ []) []) (demonitors p es)
     (one (same_pid e.1.owner p)) (demonitors_quiet p es)
   where
-    one : (b : Bool) → Quiets (cond b (Signal.Demonitor p e.1.target e.0 ∷ []) [])
+    one : (b : Bool) → Quiets (cond b (to_pid e.1.target (Signal.Demonitor p e.1.target e.0) ∷ []) [])
     one true = (refl, tt)
     one false = tt
 
@@ -104,7 +104,7 @@ plainly _ h = refl
 
 abbrev quiet_rules : Rules
 quiet_rules = record {
-  Says = λ s. asks (Signalled s false) ≡ false;
+  Says = λ s. asks (Signalled s.signal false) ≡ false;
   Reacts = λ p q x. Unit {0};
   Tells = λ r m x. Unit {0};
   Joins = λ r m. Unit {0};
@@ -128,14 +128,14 @@ module _ (l : List Item) where
   sends : (t : Option TrunkId) (y : Name) (j : Item) (o : Work) → asks j ≡ false → Unasked o → Unasked (report (Effect.Sent t y j) o)
   sends t y j o h k = reports (Effect.Sent t y j) o (λ u z i q. let e : j ≡ i = cc in sym (ap asks e) ∙ h) k
 
-  posts : (s : Signal) (o : Work) → asks (Signalled s false) ≡ false → Unasked o → Unasked (post s o)
-  posts s o h k = go (same_name (receiver_of s).node o.node.mint.name)
+  posts : (s : Addressed) (o : Work) → asks (Signalled s.signal false) ≡ false → Unasked o → Unasked (post s o)
+  posts s o h k = go (same_name s.node o.node.mint.name)
     where
       y : Name
-      y = (receiver_of s).node
+      y = s.node
 
       still : asks (spelled o.node s) ≡ false
-      still = asks_blind s (has_reason s && payload_to o.node (receiver_of s).node) ∙ h
+      still = asks_blind s.signal (has_reason s.signal && payload_to o.node s.node) ∙ h
 
       goes : (r : Option TrunkId) → Unasked (send_on r y (spelled o.node s) o)
       goes None = k
@@ -152,7 +152,7 @@ module _ (l : List Item) where
           pick i a (inr e) = let z : true ≡ false = sym a ∙ ap asks (sym e) ∙ still in cc
       go false = goes (route o.node y)
 
-  posts_all : (ss : List Signal) (o : Work) → Quiets ss → Unasked o → Unasked (post_all ss o)
+  posts_all : (ss : List Addressed) (o : Work) → Quiets ss → Unasked o → Unasked (post_all ss o)
   posts_all [] o h k = k
   posts_all (s ∷ ss) o h k = posts_all ss (post s o) h.1 (posts s o h.0 k)
 
@@ -167,7 +167,7 @@ module _ (l : List Item) where
 
   quiet_closed : Closed quiet_rules Unasked
   quiet_closed = record {
-    plain = plainly;
+    plain = λ s h. plainly s.signal h;
     posted = posts;
     end_set = λ p q e o l k. k;
     drew = λ o k. k;
@@ -180,8 +180,8 @@ module _ (l : List Item) where
     ended = λ r m x o e h k. reports (Effect.Put m.owner (down_term r m.target x)) o (λ t y i q. cc) k;
   }
 
-  takes_item : (i : Item) (o : Work) → Unasked o → Unasked (take_item i o)
-  takes_item i o k = item_kept quiet_rules Unasked quiet_closed i o (record {
+  takes_item : (y : Name) (i : Item) (o : Work) → Unasked o → Unasked (take_item y i o)
+  takes_item y i o k = item_kept quiet_rules Unasked quiet_closed y i o (record {
     gone = λ p q pay e l. refl;
     acts = λ p q x pay e l a. tt;
     sent = λ p m pay e. reports (Effect.Put p m) o (λ t y j q. cc) k;
@@ -216,7 +216,7 @@ module _ (n : Node) where
       comes v s f true = tt
       comes None s f false = tt
       comes (Some i) s f false = known_learns (λ u c. Unit {0}) X (turned n.local) (wrote n.local) t s (at_work n) f start i
-          (takes_item n.local i (at_work n) start) (handshake_in i) (λ l j c e. tt)
+          (takes_item n.local s.peer i (at_work n) start) (handshake_in i) (λ l j c e. tt)
 
       go : (v : Option Item) (s : Option TrunkSide) → side_at n t ≡ s → IfGoes (arrive n t s v w) X
       go None None f = tt
@@ -225,7 +225,7 @@ module _ (n : Node) where
 
   takes : (l : List Item) → n.local ≡ l → IfGoes (take_local n l) X
   takes [] h = tt
-  takes (i ∷ rest) h = takes_item n.local i (at_work (record n { local = rest })) (idle (record n { local = rest })
+  takes (i ∷ rest) h = takes_item n.local n.mint.name i (at_work (record n { local = rest })) (idle (record n { local = rest })
       (λ j c. subst (λ z. Contains z j) (sym h) (Contains-append_right (i ∷ []) rest j c)))
 
   swept : (y : Name) → X (sweep_record (least_record y n) (at_work n))
@@ -246,7 +246,7 @@ module _ (n : Node) where
   demonitored : (v : Option Monitor) (p : Pid) (r : Reference) → IfGoes (demonitor_by v p r (at_work n)) X
   demonitored None p r = tt
   demonitored (Some v) p r = if_cond (same_pid v.owner p) _ Refusal.NotTheOwner X
-      (λ h. posts n.local (Signal.Demonitor p v.target r) (unwatch r (at_work n)) refl start)
+      (λ h. posts n.local (to_pid v.target (Signal.Demonitor p v.target r)) (unwatch r (at_work n)) refl start)
 
   apart : (c : Command) → ((p q : Pid) → c ≡ Command.Monitor p q → ⊥) → ((p : Pid) (r : Reference) → c ≡ Command.Demonitor p r → ⊥)
       → IfGoes (call n c) X
@@ -364,7 +364,7 @@ module _ (n : Node) (p q : Pid) where
   drawn l (Some count) = go (reaches n q.node)
     where
       go : (b : Bool) → AllAsked (Answer.Reference (reference_of n.mint count)) (cond b
-          (post (Signal.Monitor p q (reference_of n.mint count)) (watch (reference_of n.mint count) (monitor_of p q) (draw kind.Reference (at_work n))))
+          (post (to_pid q (Signal.Monitor p q (reference_of n.mint count))) (watch (reference_of n.mint count) (monitor_of p q) (draw kind.Reference (at_work n))))
           (put p (down_term (reference_of n.mint count) q noconnection) (draw kind.Reference (at_work n))))
       go true = asked count l (same_name q.node n.mint.name) refl (route n q.node) refl
       go false = without (Effect.Put p (down_term (reference_of n.mint count) q noconnection)) (λ t y i e. cc)

@@ -22,7 +22,7 @@ use Rattle.dist_model.specs.Monitoring.{demonitor_by, monitor, register, unregis
 use Rattle.dist_model.specs.Names.{Name, same_name, same_pid}
 use Rattle.dist_model.specs.Node.{Life, Living, Node, end_of, is_living_life, living, is_stranger, reaches, traps_life}
 use Rattle.dist_model.specs.Taking.{take_item}
-use Rattle.dist_model.specs.Work.{Work, at_work, draw, post, put, set_end, set_life, spelled}
+use Rattle.dist_model.specs.Work.{Work, at_work, draw, post, put, set_end, set_life, spelled, to_pid}
 use Rattle.erl_control.specs.declared.signal.Signal.{Signal}
 use Rattle.erl_names.specs.Ids.{pid_of, reference_of}
 use Rattle.erl_names.specs.Minted.{Minted, drawn, id_of, last, risen}
@@ -119,24 +119,24 @@ says_something q p s pay h =
     ∙ ap (λ t. cond t (s ∷ []) []) (same_pid_refl p)) ∙ h in cc
 
 -- the other signals
-pub takes_other : (x : Item) (o : Work) → ((p q : Pid) → news_in p q x ≡ []) → Moves o (take_item x o)
-takes_other (Signalled (Signal.Link q p) pay) o h = absurd (says_something q p (Signals LinkSignal.Link) pay (h q p))
-takes_other (Signalled (Signal.Exit q p r) pay) o h = absurd (says_something q p (Exited r) pay (h q p))
-takes_other (Signalled (Signal.UnlinkId i q p) pay) o h = absurd (says_something q p (Signals (LinkSignal.Unlink i)) pay (h q p))
-takes_other (Signalled (Signal.UnlinkIdAck i q p) pay) o h = absurd (says_something q p (Signals (LinkSignal.Ack i)) pay (h q p))
-takes_other (Signalled (Signal.Send p t) pay) o h = moves_cond (living o.node p) o (put p t o) o (λ l. puts p t o) (λ l. stays o)
-takes_other (Signalled (Signal.Exit2 q p r) pay) o h =
+pub takes_other : (y : Name) (x : Item) (o : Work) → ((p q : Pid) → news_in p q x ≡ []) → Moves o (take_item y x o)
+takes_other y (Signalled (Signal.Link q p) pay) o h = absurd (says_something q p (Signals LinkSignal.Link) pay (h q p))
+takes_other y (Signalled (Signal.Exit q p r) pay) o h = absurd (says_something q p (Exited r) pay (h q p))
+takes_other y (Signalled (Signal.UnlinkId i q p) pay) o h = absurd (says_something q p (Signals (LinkSignal.Unlink i)) pay (h q p))
+takes_other y (Signalled (Signal.UnlinkIdAck i q p) pay) o h = absurd (says_something q p (Signals (LinkSignal.Ack i)) pay (h q p))
+takes_other y (Signalled (Signal.Send p t) pay) o h = moves_cond (living o.node p) o (put p t o) o (λ l. puts p t o) (λ l. stays o)
+takes_other y (Signalled (Signal.Exit2 q p r) pay) o h =
     moves_cond (living o.node p) o _ o
     (λ l. carries_out (reaction (traps_life (fm.get o.node.lives p)) (sent_exit p q r)) p o l) (λ l. stays o)
-takes_other (Signalled (Signal.Monitor q p k) pay) o h =
+takes_other y (Signalled (Signal.Monitor q p k) pay) o h =
     moves_cond (living o.node p) o _ _ (λ l. registers k (monitor_of q p) o)
-    (λ l. posts_other q.node (spelled o.node (Signal.MonitorExit p q k noproc)) o (λ a b. refl))
-takes_other (Signalled (Signal.Demonitor q p k) pay) o h =
+    (λ l. posts_other q.node (spelled o.node (to_pid q (Signal.MonitorExit p q k noproc))) o (λ a b. refl))
+takes_other y (Signalled (Signal.Demonitor q p k) pay) o h =
     moves_cond (is_held o.node.registered k (monitor_of q p)) o _ _ (λ l. unregisters k o) (λ l. stays o)
-takes_other (Signalled (Signal.MonitorExit q p k r) pay) o h = moves_cond (living o.node p && is_held o.node.watches k (monitor_of p q)) o _ _
+takes_other y (Signalled (Signal.MonitorExit q p k r) pay) o h = moves_cond (living o.node p && is_held o.node.watches k (monitor_of p q)) o _ _
     (λ l. then o (unwatch k o) (put p (down_term k q r) (unwatch k o)) (unwatches_one k o) (puts p (down_term k q r) (unwatch k o)))
     (λ l. stays o)
-takes_other _ o h = stays o
+takes_other y _ o h = stays o
 
 -- what a draw gives, and what it leaves
 pub if_drawn : (o : Option ℕ) (k : ℕ → Outcome) (P : Work → Type 0) → ((id : ℕ) → o ≡ Some id → IfGoes (k id) P) → IfGoes (with_id o k) P
@@ -346,7 +346,7 @@ unlinks_by : (e : End) (p q : Pid) (o : Work) → end_of o.node p q ≡ e → li
 unlinks_by End.Active p q o h l = if_drawn (id_of o.node.mint kind.UnlinkId) _ (Moves o) (λ id e.
     let d = unlink_drawn o.node.mint id e in
     subst
-    (λ m. Moves o (post (Signal.UnlinkId id p q) (set_end p q (End.Pending id) (record o { node = record (o.node) { mint = m } }))))
+    (λ m. Moves o (post (to_pid q (Signal.UnlinkId id p q)) (set_end p q (End.Pending id) (record o { node = record (o.node) { mint = m } }))))
     (sym d.0) (unlinks_as p q o id l h d.1))
 unlinks_by _ p q o h l = stays o
 
@@ -395,7 +395,7 @@ calls n (Command.Trap p b) =
     (λ l. sets_life n p (trapping (fm.get n.lives p) b) (living_trapping (fm.get n.lives p) b))
 calls n (Command.ExitTo p q r) =
     acts n p q _ (λ l. if_cond (fits r) _ Refusal.TooLong (Moves (at_work n))
-    (λ f. posts_other q.node (spelled (at_work n).node (Signal.Exit2 p q r)) (at_work n) (λ a b. refl)))
+    (λ f. posts_other q.node (spelled (at_work n).node (to_pid q (Signal.Exit2 p q r))) (at_work n) (λ a b. refl)))
 calls n (Command.ExitSelf p r) =
     if_cond (living n p) _ Refusal.NoSuchProcess (Moves (at_work n))
     (λ l. if_cond (fits r) _ Refusal.TooLong (Moves (at_work n)) (λ f. finishes p r (at_work n) l))

@@ -36,7 +36,7 @@ use Rattle.dist_model.proofs.Trunks.{Good, has}
 use Rattle.dist_model.proofs.Told.{Called, Course, Drawn, IsFounded, Leaves, Off, Old, Sound, Stays}
 use Rattle.dist_model.proofs.Lands.{no_more}
 use Rattle.dist_model.proofs.MonitorMoves.{lives_same, node_aside, turns_aside}
-use Rattle.dist_model.specs.Arrivals.{arrive_at, arrive_fresh, from_peer, handshake_in, is_good, is_to, on_up, signal_at, take_local}
+use Rattle.dist_model.specs.Arrivals.{arrive_at, arrive_fresh, from_peer, handshake_in, is_good, on_up, signal_at, take_local, to_own}
 use Rattle.dist_model.specs.Causes.{TrueCause}
 use Rattle.dist_model.specs.Commands.{Accepts, Outcome}
 use Rattle.dist_model.specs.declared.report.Answer.{Answer}
@@ -154,7 +154,7 @@ module _ (w : World) (h : History) (x : Name) (n : Node) (hx : node_of w.nodes x
 
       -- ---- an item is taken
 
-      module _ (i : Item) (fi : IsFounded w h i)
+      module _ (source : Name) (i : Item) (fi : IsFounded w h i)
           (link_known : (p q : Pid) (pay : Bool) → i ≡ Signalled (Signal.Link q p) pay → is_stranger n p ≡ false)
           (monitor_known : (p q : Pid) (r : Reference) (pay : Bool) → i ≡ Signalled (Signal.Monitor p q r) pay → is_stranger n q ≡ false)
           (counts : (fs : List (Effect Item))
@@ -174,13 +174,13 @@ module _ (w : World) (h : History) (x : Name) (n : Node) (hx : node_of w.nodes x
 
         item_done : ((p : Pid) (m : Data) (pay : Bool) → i ≡ Signalled (Signal.Send p m) pay → ⊥)
             → is_sent_message (Answer.Took (kind_of i)) ≡ false
-            → D e xs (Answer.Took (kind_of i)) (take_item i (at_work (record n { local = xs })))
+            → D e xs (Answer.Took (kind_of i)) (take_item source i (at_work (record n { local = xs })))
         item_done ns unsent =
-            let o = take_item i (at_work (record n { local = xs })) in
+            let o = take_item source i (at_work (record n { local = xs })) in
             done_whole w h x n hx gw g e xs (Answer.Took (kind_of i)) o
             (λ r. na r (Reported (Answer.Took (kind_of i)) o.effects))
             (λ r. nd r (Reported (Answer.Took (kind_of i)) o.effects)) (counts o.effects ∙ unsent)
-            (item_kept (rules w h x n hx gw g e xs) (Whole w h x n hx gw g e xs) (whole_closed w h x n hx gw g e xs) i
+            (item_kept (rules w h x n hx gw g e xs) (Whole w h x n hx gw g e xs) (whole_closed w h x n hx gw g e xs) source i
             (at_work (record n { local = xs })) (reasons ns) whole)
 
         -- a message that a process sent
@@ -207,10 +207,10 @@ module _ (w : World) (h : History) (x : Name) (n : Node) (hx : node_of w.nodes x
             (record { local = whole.home.local; name = whole.home.name }) (ageless n o.node refl)
 
         send_done : (p : Pid) (m : Data) (pay : Bool) → i ≡ Signalled (Signal.Send p m) pay
-            → D e xs (Answer.Took (kind_of i)) (take_item i (at_work (record n { local = xs })))
+            → D e xs (Answer.Took (kind_of i)) (take_item source i (at_work (record n { local = xs })))
         send_done p m pay j =
             let is_sent : is_sent_message (Answer.Took (kind_of i)) ≡ true = ap (λ v. is_sent_message (Answer.Took (kind_of v))) j in
-            subst (λ v. D e xs (Answer.Took (kind_of i)) (take_item v (at_work (record n { local = xs })))) (sym j)
+            subst (λ v. D e xs (Answer.Took (kind_of i)) (take_item source v (at_work (record n { local = xs })))) (sym j)
             (go (living n p) is_sent)
           where
             go : (b : Bool) → is_sent_message (Answer.Took (kind_of i)) ≡ true → D e xs (Answer.Took (kind_of i))
@@ -218,13 +218,13 @@ module _ (w : World) (h : History) (x : Name) (n : Node) (hx : node_of w.nodes x
             go true is_sent = put_done p m is_sent
             go false is_sent = calm_done (Answer.Took (kind_of i)) (at_work (record n { local = xs })) calm
 
-        pub taken_done : D e xs (Answer.Took (kind_of i)) (take_item i (at_work (record n { local = xs })))
+        pub taken_done : D e xs (Answer.Took (kind_of i)) (take_item source i (at_work (record n { local = xs })))
         taken_done = go (sent_or_not i)
           where
             go : ((p : Pid) × (m : Data) × (pay : Bool) × (i ≡ Signalled (Signal.Send p m) pay))
                 ⊎ (((p : Pid) (m : Data) (pay : Bool) → i ≡ Signalled (Signal.Send p m) pay → ⊥)
                 × (is_sent_message (Answer.Took (kind_of i)) ≡ false))
-                → D e xs (Answer.Took (kind_of i)) (take_item i (at_work (record n { local = xs })))
+                → D e xs (Answer.Took (kind_of i)) (take_item source i (at_work (record n { local = xs })))
             go (inl s) = send_done s.0 s.1 s.2 s.3
             go (inr s) = item_done s.0 s.1
 
@@ -257,18 +257,20 @@ module _ (w : World) (h : History) (x : Name) (n : Node) (hx : node_of w.nodes x
           (λ r z. refl)) (calm_side (Arrive t x k) n.local (λ r z. refl) (λ r z. refl)) (calm_wrote (Arrive t x k) n.local
           (λ r z. refl) (λ r z. refl)) j t v (at_work n) at calm0)
 
-      received : is_good n v i ≡ true → (s : Signal) (pay : Bool) → i ≡ Signalled s pay → is_stranger n (receiver_of s) ≡ false
-      received good s pay j =
-          not_never n (receiver_of s) (and_parts (from_peer v (sender_of s)) (is_to n (receiver_of s)) (sym (ap (is_good n v) j) ∙ good)).1
+      received : is_good n v i ≡ true → (s : Signal) (pay : Bool) (q : Pid) → i ≡ Signalled s pay → receiver_of s ≡ Some q
+          → is_stranger n q ≡ false
+      received good s pay q j r =
+          not_never n q (ap (to_own n) (sym r)
+          ∙ (and_parts (from_peer v (sender_of s)) (to_own n (receiver_of s)) (sym (ap (is_good n v) j) ∙ good)).1)
 
       up_comes : A (on_up t v i (at_work n))
       up_comes = go (is_good n v i) refl
         where
           go : (b : Bool) → is_good n v i ≡ b
-              → A (cond b (Accepts (Answer.Took (kind_of i)) (take_item i (at_work n))) (fault Fault.Forged t v (at_work n)))
+              → A (cond b (Accepts (Answer.Took (kind_of i)) (take_item v.peer i (at_work n))) (fault Fault.Forged t v (at_work n)))
           go true good =
-              taken_done (Arrive t x k) n.local (λ r z. refl) (λ r z. refl) (g.locals x n hx) (g.homes x n hx) i came
-              (λ p q pay j. received good (Signal.Link q p) pay j) (λ p q r pay j. received good (Signal.Monitor p q r) pay j) (λ fs. refl)
+              taken_done (Arrive t x k) n.local (λ r z. refl) (λ r z. refl) (g.locals x n hx) (g.homes x n hx) v.peer i came
+              (λ p q pay j. received good (Signal.Link q p) pay p j refl) (λ p q r pay j. received good (Signal.Monitor p q r) pay q j refl) (λ fs. refl)
           go false good = fails Fault.Forged
 
       signal_comes : (a : State) → A (signal_at a t v i (at_work n))
@@ -288,9 +290,9 @@ module _ (w : World) (h : History) (x : Name) (n : Node) (hx : node_of w.nodes x
       → AllGo (take_local n l) (λ a o. (i : Item) (xs : List Item) → l ≡ i ∷ xs → D (Local x) xs a o)
   local_done [] j = tt
   local_done (i ∷ xs) j =
-      λ i2 xs2 s. subst (λ z. D (Local x) z (Answer.Took (kind_of i)) (take_item i (at_work (record n { local = xs })))) (tail_same s)
+      λ i2 xs2 s. subst (λ z. D (Local x) z (Answer.Took (kind_of i)) (take_item n.mint.name i (at_work (record n { local = xs })))) (tail_same s)
       (taken_done (Local x) xs (λ r v. refl) (λ r v. refl) (All-tail (IsFounded w h) i xs fs)
-      (All-tail (TargetsIn (λ q. is_stranger n q ≡ false)) i xs ts) i (All-head (IsFounded w h) i xs fs)
+      (All-tail (TargetsIn (λ q. is_stranger n q ≡ false)) i xs ts) n.mint.name i (All-head (IsFounded w h) i xs fs)
       (λ p q pay s.
       (home_saying (λ a. is_stranger n a) q p (Signals LinkSignal.Link) pay (subst (λ z. HomeItem (λ a. is_stranger n a) z) s hl.0)).1)
       (λ p q r pay s. subst (λ z. TargetsIn (λ a. is_stranger n a ≡ false) z) s

@@ -35,7 +35,6 @@ use Rattle.dist_model.specs.Handshake.{identity, set_state, with_side, write}
 use Rattle.dist_model.specs.Histories.{History}
 use Rattle.dist_model.specs.Incarnations.{started, stopped}
 use Rattle.dist_model.specs.Items.{Handshake, Item, kind_of}
-use Rattle.erl_control.specs.Ends.{receiver_of}
 use Rattle.dist_model.specs.Keeping.{Towards}
 use Rattle.dist_model.specs.Losses.{any_side, close_if_swept, link_to, lose, sweep_by}
 use Rattle.dist_model.specs.Names.{Name, place_cmp, same_name}
@@ -72,7 +71,7 @@ module _ (names : List Name) (n : Node) where
 
   parts : Parts C
   parts = record {
-    posted = λ s o k. posts_keep (λ m. m.cookie) (λ m l. refl) (receiver_of s).node (spelled o.node s) o ∙ k;
+    posted = λ s o k. posts_keep (λ m. m.cookie) (λ m l. refl) s.node (spelled o.node s) o ∙ k;
     end_set = λ p q e o l k. k;
     drew = λ d o h k. k;
     life_set = λ p l o h k. k;
@@ -174,8 +173,8 @@ module _ (w : World) (h : History) (gw : Good w) (g : Known w h) (x : Name) (n :
     local : (l : List Item) → IfDone (take_local n l) P
     local [] = tt
     local (i ∷ xs) =
-        let k = sent_item (record n { local = xs }) i (at_work (record n { local = xs })) (sent_start (record n { local = xs })) in
-        sent_shows (Answer.Took (kind_of i)) (take_item i (at_work (record n { local = xs })))
+        let k = sent_item (record n { local = xs }) n.mint.name i (at_work (record n { local = xs })) (sent_start (record n { local = xs })) in
+        sent_shows (Answer.Took (kind_of i)) (take_item n.mint.name i (at_work (record n { local = xs })))
         (record { sides = k.sides; name = k.name; routed = k.routed; words = k.words })
 
   -- the next trunk is new

@@ -147,7 +147,7 @@ module _ (w : World) (h : History) (x : Name) (n : Node) (hx : node_of w.nodes x
 
     abbrev pub rules : Rules
     rules = record {
-      Says = λ s. FoundedSignal (Old w h) (Called h) (Off w h) s × Says (record n { local = xs }) Spawned s;
+      Says = λ s. FoundedSignal (Old w h) (Called h) (Off w h) s.signal × Says (record n { local = xs }) Spawned s;
       Reacts = Right w h e;
       Tells = Tells;
       Joins = Joins;

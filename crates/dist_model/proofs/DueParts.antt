@@ -24,7 +24,7 @@ use Rattle.dist_model.specs.Monitoring.{demonitor_by, unwatch, watch}
 use Rattle.dist_model.specs.Names.{Name, same_name, same_pid}
 use Rattle.dist_model.specs.Node.{Node, living, is_stranger, reaches, route, ends_of}
 use Rattle.dist_model.specs.Taking.{take_item}
-use Rattle.dist_model.specs.Work.{Work, at_work, draw, keep_local, post, post_all, put, report, send_on, spelled}
+use Rattle.dist_model.specs.Work.{Addressed, Work, at_work, draw, keep_local, post, post_all, put, report, send_on, spelled, to_pid}
 use Rattle.erl_control.specs.declared.signal.Signal.{Signal}
 use Rattle.erl_names.specs.Minted.{id_of}
 use Rattle.erl_names.specs.declared.trunk.TrunkId.{TrunkId}
@@ -37,25 +37,25 @@ use Rattle.erl_names.specs.Ids.{reference_of}
 use Rattle.monitor_core.specs.declared.monitor.Monitor.{Monitor}
 
 module _ (n : Node) where
-  pub sent_post : (s : Signal) (o : Work) → Sent n o → Sent n (post s o)
+  pub sent_post : (s : Addressed) (o : Work) → Sent n o → Sent n (post s o)
   sent_post s o k = record {
-    sides = posts_keep (λ z. z.sides) (λ z l. refl) (receiver_of s).node (spelled o.node s) o ∙ k.sides;
-    name = posts_keep (λ z. z.mint.name) (λ z l. refl) (receiver_of s).node (spelled o.node s) o ∙ k.name;
-    routed = post_routed (receiver_of s).node (spelled o.node s) o k.routed;
-    words = go (same_name (receiver_of s).node o.node.mint.name);
+    sides = posts_keep (λ z. z.sides) (λ z l. refl) s.node (spelled o.node s) o ∙ k.sides;
+    name = posts_keep (λ z. z.mint.name) (λ z l. refl) s.node (spelled o.node s) o ∙ k.name;
+    routed = post_routed s.node (spelled o.node s) o k.routed;
+    words = go (same_name s.node o.node.mint.name);
   }
     where
-      on : (r : Option TrunkId) → AllWords (outgoing (send_on r (receiver_of s).node (spelled o.node s) o))
+      on : (r : Option TrunkId) → AllWords (outgoing (send_on r s.node (spelled o.node s) o))
       on None = k.words
-      on (Some t) = subst AllWords (sym (sent_in-push o.effects (Effect.Sent (Some t) (receiver_of s).node (spelled o.node s))))
-          (words-push (outgoing o) (record { trunk = t; target = (receiver_of s).node; item = spelled o.node s }) k.words refl)
+      on (Some t) = subst AllWords (sym (sent_in-push o.effects (Effect.Sent (Some t) s.node (spelled o.node s))))
+          (words-push (outgoing o) (record { trunk = t; target = s.node; item = spelled o.node s }) k.words refl)
 
       go : (b : Bool) → AllWords (outgoing (cond b (keep_local (spelled o.node s) o)
-          (send_on (route o.node (receiver_of s).node) (receiver_of s).node (spelled o.node s) o)))
+          (send_on (route o.node s.node) s.node (spelled o.node s) o)))
       go true = subst AllWords (sym (sent_in-silent o.effects (Effect.Sent None o.node.mint.name (spelled o.node s)) refl)) k.words
-      go false = on (route o.node (receiver_of s).node)
+      go false = on (route o.node s.node)
 
-  sent_all : (ss : List Signal) (o : Work) → Sent n o → Sent n (post_all ss o)
+  sent_all : (ss : List Addressed) (o : Work) → Sent n o → Sent n (post_all ss o)
   sent_all [] o k = k
   sent_all (s ∷ ss) o k = sent_all ss (post s o) (sent_post s o k)
 
@@ -104,8 +104,8 @@ module _ (n : Node) where
   }
 
   -- an item is taken
-  pub sent_item : (i : Item) (o : Work) → Sent n o → Sent n (take_item i o)
-  sent_item i o k = item_kept all_rules (Sent n) sent_closed i o (record {
+  pub sent_item : (y : Name) (i : Item) (o : Work) → Sent n o → Sent n (take_item y i o)
+  sent_item y i o k = item_kept all_rules (Sent n) sent_closed y i o (record {
     gone = λ p q pay e l. tt;
     acts = λ p q x pay e l a. tt;
     sent = λ p m pay e. silent o (put p m o) (Effect.Put p m) refl refl refl refl k;
@@ -121,14 +121,14 @@ module _ (n : Node) where
   unwatched : (r : Reference) → Sent n (unwatch r (at_work n))
   unwatched r = record { sides = refl; name = refl; routed = tt; words = tt }
 
-  undone : (v : Monitor) (p : Pid) (r : Reference) → Sent n (post (Signal.Demonitor p v.target r) (unwatch r (at_work n)))
-  undone v p r = sent_post (Signal.Demonitor p v.target r) (unwatch r (at_work n)) (unwatched r)
+  undone : (v : Monitor) (p : Pid) (r : Reference) → Sent n (post (to_pid v.target (Signal.Demonitor p v.target r)) (unwatch r (at_work n)))
+  undone v p r = sent_post (to_pid v.target (Signal.Demonitor p v.target r)) (unwatch r (at_work n)) (unwatched r)
 
   demonitored : (v : Option Monitor) (p : Pid) (r : Reference) → IfGoes (demonitor_by v p r (at_work n)) (Sent n)
   demonitored None p r = tt
   demonitored (Some v) p r = go (same_pid v.owner p)
     where
-      go : (b : Bool) → IfGoes (cond b (Accepts Answer.Done (post (Signal.Demonitor p v.target r) (unwatch r (at_work n))))
+      go : (b : Bool) → IfGoes (cond b (Accepts Answer.Done (post (to_pid v.target (Signal.Demonitor p v.target r)) (unwatch r (at_work n))))
           (Refuses Refusal.NotTheOwner)) (Sent n)
       go true = undone v p r
       go false = tt
@@ -147,7 +147,7 @@ module _ (n : Node) where
   sent_call (Command.Monitor p q) = if_cond (living n p) _ Refusal.NoSuchProcess (Sent n)
       (λ l. if_not (same_name q.node n.mint.name && is_stranger n q) _ Refusal.Forged (Sent n)
       (if_drawn (id_of n.mint kind.Reference) _ (Sent n) (λ count h.
-      either (reaches n q.node) _ _ (sent_post (Signal.Monitor p q (reference_of n.mint count))
+      either (reaches n q.node) _ _ (sent_post (to_pid q (Signal.Monitor p q (reference_of n.mint count)))
       (watch (reference_of n.mint count) (monitor_of p q) (draw kind.Reference (at_work n)))
       (record { sides = refl; name = refl; routed = tt; words = tt }))
       (record { sides = refl; name = refl; routed = tt; words = tt }))))

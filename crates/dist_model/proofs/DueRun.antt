@@ -111,9 +111,9 @@ module _ (w : World) (x : Name) (n : Node) (hx : node_of w.nodes x ≡ Some n) (
       goes_up : v.state ≡ Up → Fin (on_up t v i (at_work n))
       goes_up e = go (is_good n v i)
         where
-          go : (b : Bool) → Fin (cond b (Accepts (Answer.Took (kind_of i)) (take_item i (at_work n))) (fault Fault.Forged t v (at_work n)))
-          go true = moved popped (Accepts (Answer.Took (kind_of i)) (take_item i (at_work n)))
-              (sent_item n i (at_work n) (sent_start n)) (up_pops e)
+          go : (b : Bool) → Fin (cond b (Accepts (Answer.Took (kind_of i)) (take_item v.peer i (at_work n))) (fault Fault.Forged t v (at_work n)))
+          go true = moved popped (Accepts (Answer.Took (kind_of i)) (take_item v.peer i (at_work n)))
+              (sent_item n v.peer i (at_work n) (sent_start n)) (up_pops e)
           go false = broken Fault.Forged
 
       true_comes : (k : ℕ) → v.state ≡ Asked k → (l : ShakeMsg) → Fin (awaits_true t v k l (at_work n))
@@ -177,9 +177,9 @@ module _ (w : World) (x : Name) (n : Node) (hx : node_of w.nodes x ≡ Some n) (
 
   pub local_due : (l : List Item) → Due w.nodes w.lists → After (came_of w x w.lists (take_local n l))
   local_due [] u = u
-  local_due (i ∷ xs) u = let k = sent_item (record n { local = xs }) i (at_work (record n { local = xs }))
+  local_due (i ∷ xs) u = let k = sent_item (record n { local = xs }) n.mint.name i (at_work (record n { local = xs }))
       (sent_start (record n { local = xs })) in
-      moved w.lists (Accepts (Answer.Took (kind_of i)) (take_item i (at_work (record n { local = xs }))))
+      moved w.lists (Accepts (Answer.Took (kind_of i)) (take_item n.mint.name i (at_work (record n { local = xs }))))
       (record { sides = k.sides; name = k.name; routed = k.routed; words = k.words }) u
 
   -- what travels to x on a trunk that x didn't dial

@@ -19,7 +19,7 @@ use Rattle.dist_model.specs.Exits.{buried, demonitors, exit_for, end_process, mo
 use Rattle.dist_model.specs.Items.{news}
 use Rattle.dist_model.specs.Names.{pair_cmp, same_pid}
 use Rattle.dist_model.specs.Node.{Ended, Life, end_of, is_living_life, living, is_stranger, reaches}
-use Rattle.dist_model.specs.Work.{Work, post_all}
+use Rattle.dist_model.specs.Work.{Addressed, Work, post_all, to_pid}
 use Rattle.erl_control.specs.declared.signal.Signal.{Signal}
 use Rattle.erl_term.specs.Data.{Data}
 use Rattle.erl_term.specs.declared.term.Pid.{Pid}
@@ -37,7 +37,7 @@ same_pid_sym p q h = go (same_pid q p) refl
     go true e = let c : same_pid p q ≡ true = same_pid_is p q (sym (same_pid_true q p e)) in let n : true ≡ false = sym c ∙ h in cc
     go false e = e
 
-abbrev head : Pid → Data → Pid → Pid → End → List Signal
+abbrev head : Pid → Data → Pid → Pid → End → List Addressed
 head p r o y e = cond (same_pid o p) (exit_for p r y e) []
 
 -- an exit for another pair says nothing to this one
@@ -124,27 +124,27 @@ posted_downs : (p q x : Pid) (r : Data) (es : List (Reference × Monitor)) → p
 posted_downs p q x r [] = refl
 posted_downs p q x r (e ∷ es) =
     elim (same_pid e.1.target x) as
-    (λ b. posted p q (cond b (Signal.MonitorExit x e.1.owner e.0 r ∷ []) [] ++ monitor_exits x r es) ≡ [])
+    (λ b. posted p q (cond b (to_pid e.1.owner (Signal.MonitorExit x e.1.owner e.0 r) ∷ []) [] ++ monitor_exits x r es) ≡ [])
     [ true ↦ posted_downs p q x r es | false ↦ posted_downs p q x r es ]
 
 posted_unwatches : (p q x : Pid) (es : List (Reference × Monitor)) → posted p q (demonitors x es) ≡ []
 posted_unwatches p q x [] = refl
 posted_unwatches p q x (e ∷ es) =
     elim (same_pid e.1.owner x) as
-    (λ b. posted p q (cond b (Signal.Demonitor x e.1.target e.0 ∷ []) [] ++ demonitors x es) ≡ [])
+    (λ b. posted p q (cond b (to_pid e.1.target (Signal.Demonitor x e.1.target e.0) ∷ []) [] ++ demonitors x es) ≡ [])
     [ true ↦ posted_unwatches p q x es | false ↦ posted_unwatches p q x es ]
 
 suits_downs : (p q x : Pid) (r : Data) (es : List (Reference × Monitor)) → AllSuit p q (monitor_exits x r es)
 suits_downs p q x r [] = tt
 suits_downs p q x r (e ∷ es) =
     elim (same_pid e.1.target x) as
-    (λ b. AllSuit p q (cond b (Signal.MonitorExit x e.1.owner e.0 r ∷ []) [] ++ monitor_exits x r es))
+    (λ b. AllSuit p q (cond b (to_pid e.1.owner (Signal.MonitorExit x e.1.owner e.0 r) ∷ []) [] ++ monitor_exits x r es))
     [ true ↦ (inr refl, suits_downs p q x r es) | false ↦ suits_downs p q x r es ]
 
 suits_unwatches : (p q x : Pid) (es : List (Reference × Monitor)) → AllSuit p q (demonitors x es)
 suits_unwatches p q x [] = tt
 suits_unwatches p q x (e ∷ es) =
-    elim (same_pid e.1.owner x) as (λ b. AllSuit p q (cond b (Signal.Demonitor x e.1.target e.0 ∷ []) [] ++ demonitors x es))
+    elim (same_pid e.1.owner x) as (λ b. AllSuit p q (cond b (to_pid e.1.target (Signal.Demonitor x e.1.target e.0) ∷ []) [] ++ demonitors x es))
     [ true ↦ (inr refl, suits_unwatches p q x es) | false ↦ suits_unwatches p q x es ]
 
 suits_exit : (p q x y : Pid) (r : Data) (e : End) → AllSuit p q (exit_for x r y e)
@@ -161,7 +161,7 @@ suits_exits p q x r (e ∷ es) =
     go true = suits_exit p q x e.0.1 r e.1
     go false = tt
 
-abbrev pub last_posts : Pid → Data → Work → List Signal
+abbrev pub last_posts : Pid → Data → Work → List Addressed
 last_posts p r o =
     exits_in p r (fm.entries o.node.ends) ++ monitor_exits p r (fm.entries o.node.registered) ++ demonitors p (fm.entries o.node.watches)
 

@@ -35,7 +35,7 @@ use Rattle.dist_model.specs.Monitoring.{demonitor_by, monitor, unwatch, watch}
 use Rattle.dist_model.specs.Names.{Name, same_name, same_pid}
 use Rattle.dist_model.specs.Node.{Node, is_living_life, living, is_stranger, reaches, Life, Living}
 use Rattle.dist_model.specs.Sides.{TrunkSide, is_over}
-use Rattle.dist_model.specs.Work.{Work, at_work, draw, post, put, delivered, spelled}
+use Rattle.dist_model.specs.Work.{Work, at_work, delivered, draw, post, put, spelled, to_pid}
 use Rattle.dist_model.specs.declared.report.Effect.{Effect}
 use Rattle.dist_model.specs.World.{Call, Event, Reported, World, node_of}
 use Rattle.erl_control.specs.declared.signal.Signal.{Signal}
@@ -261,11 +261,11 @@ module _ (w : World) (h : History) (x : Name) (n : Node) (hx : node_of w.nodes x
         }) ∷ h)) (OffNow n (Old w h) (λ a b z. Unit {0}) (Called h) (Off w h) o) i
     old_items o = founded_by _ _ _ _ _ _ (λ a z c. inl c) (λ a b k m. inr m) (λ k c. inl c)
 
-    reaching : Asks (post (Signal.Monitor p q (reference_of n.mint id))
+    reaching : Asks (post (to_pid q (Signal.Monitor p q (reference_of n.mint id)))
         (watch (reference_of n.mint id) (monitor_of p q) (draw kind.Reference (at_work n))))
     reaching =
         let o1 = watch (reference_of n.mint id) (monitor_of p q) (draw kind.Reference (at_work n)) in
-        let s = Signal.Monitor p q (reference_of n.mint id) in
+        let s = to_pid q (Signal.Monitor p q (reference_of n.mint id)) in
         let o = post s o1 in
         let quietly = quietly_post [] q.node (spelled o1.node s) o1 Nothing in
         let ws : o.node.watches ≡ o1.node.watches = posts_keep (λ m. m.watches) (λ m z. refl) q.node (spelled o1.node s) o1 in
@@ -380,7 +380,7 @@ module _ (w : World) (h : History) (x : Name) (n : Node) (hx : node_of w.nodes x
     monitor_done : Asks (monitor (reference_of n.mint id) p q (draw kind.Reference (at_work n)))
     monitor_done = go (reaches n q.node) refl
       where
-        go : (b : Bool) → reaches n q.node ≡ b → Asks (cond b (post (Signal.Monitor p q (reference_of n.mint id))
+        go : (b : Bool) → reaches n q.node ≡ b → Asks (cond b (post (to_pid q (Signal.Monitor p q (reference_of n.mint id)))
             (watch (reference_of n.mint id) (monitor_of p q) (draw kind.Reference (at_work n)))) (put p
             (down_term (reference_of n.mint id) q noconnection) (draw kind.Reference (at_work n))))
         go true i = reaching
@@ -393,7 +393,7 @@ module _ (w : World) (h : History) (x : Name) (n : Node) (hx : node_of w.nodes x
   demonitor_done p r None i = tt
   demonitor_done p r (Some m) i = go_cond (same_pid m.owner p) _ Refusal.NotTheOwner (Done (Call x (Command.Demonitor p r)) n.local) (λ own.
       let o1 = unwatch r (at_work n) in
-      let s = Signal.Demonitor p m.target r in
+      let s = to_pid m.target (Signal.Demonitor p m.target r) in
       let o = post s o1 in
       let e = Call x (Command.Demonitor p r) in
       let quietly = quietly_post [] m.target.node (spelled o1.node s) o1 Nothing in

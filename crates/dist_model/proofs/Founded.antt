@@ -19,12 +19,11 @@ use Rattle.dist_model.proofs.LastSignals.{exits_in, exits_cons}
 use Rattle.dist_model.specs.Exits.{demonitors, exit_for, end_process, is_owned, is_target, monitor_exits}
 use Rattle.dist_model.specs.Handshake.{with_side, write}
 use Rattle.dist_model.specs.Items.{Handshake, Item, Signalled, has_reason}
-use Rattle.erl_control.specs.Ends.{receiver_of}
 use Rattle.dist_model.specs.Monitoring.{register, unregister, unwatch}
 use Rattle.dist_model.specs.Names.{Name, place_cmp, same_name, same_pid}
 use Rattle.dist_model.specs.Node.{Node, route, payload_to}
 use Rattle.dist_model.specs.Sides.{TrunkSide}
-use Rattle.dist_model.specs.Work.{Work, draw, keep_local, post, post_all, post_to, put, report, send_on, set_end, set_life, spelled}
+use Rattle.dist_model.specs.Work.{Addressed, Work, draw, keep_local, post, post_all, post_to, put, report, send_on, set_end, set_life, spelled, to_pid}
 use Rattle.dist_model.specs.declared.report.Effect.{Effect}
 use Rattle.erl_control.specs.declared.signal.Signal.{Signal}
 use Rattle.erl_names.specs.declared.trunk.TrunkId.{TrunkId}
@@ -93,13 +92,13 @@ carried_post P y x o h k = go (same_name y o.node.mint.name)
     go false = on (route o.node y)
 
 pub carried_all : (P : Item → Type 0) → ((s : Signal) (pay : Bool) → P (Signalled s false) → P (Signalled s pay))
-    → (ss : List Signal) (o : Work)
-    → All (λ s. P (Signalled s false)) ss → Carried P o → Carried P (post_all ss o)
+    → (ss : List Addressed) (o : Work)
+    → All (λ s. P (Signalled s.signal false)) ss → Carried P o → Carried P (post_all ss o)
 carried_all P blind [] o h k = k
 carried_all P blind (s ∷ ss) o h k =
-    carried_all P blind ss (post s o) (All-tail (λ z. P (Signalled z false)) s ss h)
-    (carried_post P (receiver_of s).node (spelled o.node s) o
-    (blind s (has_reason s && payload_to o.node (receiver_of s).node) (All-head (λ z. P (Signalled z false)) s ss h)) k)
+    carried_all P blind ss (post s o) (All-tail (λ z. P (Signalled z.signal false)) s ss h)
+    (carried_post P s.node (spelled o.node s) o
+    (blind s.signal (has_reason s.signal && payload_to o.node s.node) (All-head (λ z. P (Signalled z.signal false)) s ss h)) k)
 
 pub carried_by : (P Q : Item → Type 0) (o : Work) → ((i : Item) → P i → Q i) → Carried P o → Carried Q o
 carried_by P Q o f k = record {
@@ -157,9 +156,9 @@ quietly_post fs y x o k = go (same_name y o.node.mint.name)
     go true = Sends o.effects None o.node.mint.name x k
     go false = on (route o.node y)
 
-pub quietly_all : (fs : List (Effect Item)) (ss : List Signal) (o : Work) → Quietly fs o.effects → Quietly fs ((post_all ss o).effects)
+pub quietly_all : (fs : List (Effect Item)) (ss : List Addressed) (o : Work) → Quietly fs o.effects → Quietly fs ((post_all ss o).effects)
 quietly_all fs [] o k = k
-quietly_all fs (s ∷ ss) o k = quietly_all fs ss (post s o) (quietly_post fs (receiver_of s).node (spelled o.node s) o k)
+quietly_all fs (s ∷ ss) o k = quietly_all fs ss (post s o) (quietly_post fs s.node (spelled o.node s) o k)
 
 pub quietly_more : (fs gs : List (Effect Item)) → Quietly fs gs → (f : Effect Item) → Contains fs f → Contains gs f
 quietly_more fs gs Nothing f h = h
@@ -190,9 +189,9 @@ posts_keep f h y x o = go (same_name y o.node.mint.name)
     go false = on (route o.node y)
 
 pub all_posts_keep : {A : Type 0} (f : Node → A) → ((n : Node) (l : List Item) → f (record n { local = l }) ≡ f n)
-    → (ss : List Signal) (o : Work) → f ((post_all ss o).node) ≡ f o.node
+    → (ss : List Addressed) (o : Work) → f ((post_all ss o).node) ≡ f o.node
 all_posts_keep f h [] o = refl
-all_posts_keep f h (s ∷ ss) o = all_posts_keep f h ss (post s o) ∙ posts_keep f h (receiver_of s).node (spelled o.node s) o
+all_posts_keep f h (s ∷ ss) o = all_posts_keep f h ss (post s o) ∙ posts_keep f h s.node (spelled o.node s) o
 
 cond_some : (b : Bool) (v : Option Monitor) (m : Monitor) → cond b None v ≡ Some m → v ≡ Some m
 cond_some true v m h = absurd (none-some m h)
@@ -310,7 +309,7 @@ module _ (n : Node) (Old : Pid → Data → Type 0) (Ok : Pid → Pid → Data �
           subst (λ v. Ok v b z) pa (subst (λ v. Ok p v z) qb (subst (λ v. Ok p q v) xz ok))
 
   -- signals that are founded in the end
-  true_posts : (ss : List Signal) (o : Work) → All (λ s. FoundedIn o (Signalled s false)) ss → True o → True (post_all ss o)
+  true_posts : (ss : List Addressed) (o : Work) → All (λ s. FoundedIn o (Signalled s.signal false)) ss → True o → True (post_all ss o)
   true_posts ss o h k =
       let q = quietly_all o.effects ss o Nothing in
       let ws = all_posts_keep (λ m. m.watches) (λ m l. refl) ss o in
@@ -324,17 +323,17 @@ module _ (n : Node) (Old : Pid → Data → Type 0) (Ok : Pid → Pid → Data �
         enrolled = λ r m e. k.enrolled r m (ap (λ z. fm.get z r) (sym rs) ∙ e);
       }
 
-  pub true_post : (s : Signal) (o : Work) → FoundedIn o (Signalled s false) → True o → True (post s o)
+  pub true_post : (s : Addressed) (o : Work) → FoundedIn o (Signalled s.signal false) → True o → True (post s o)
   true_post s o h k =
-      true_posts (s ∷ []) o (All-cons (λ z. FoundedIn o (Signalled z false)) s [] h (All-nil (λ z. FoundedIn o (Signalled z false)))) k
+      true_posts (s ∷ []) o (All-cons (λ z. FoundedIn o (Signalled z.signal false)) s [] h (All-nil (λ z. FoundedIn o (Signalled z.signal false)))) k
 
   pub old_now : (o : Work) (i : Item) → Founded Old Call Off i → FoundedIn o i
   old_now o = founded_by Old (EndedBefore o) Call Call Off (OffNow o) (λ q x h. inl h) (λ p q r h. h) (λ r h. inl h)
 
   -- a process ends
   module _ (p : Pid) (x : Data) (o : Work) (k : True o) where
-    abbrev Good : Signal → Type 0
-    Good s = FoundedIn (end_process p x o) (Signalled s false)
+    abbrev Good : Addressed → Type 0
+    Good s = FoundedIn (end_process p x o) (Signalled s.signal false)
 
     why : EndedBefore (end_process p x o) p x
     why = inr (Contains-push ((post_all (exits_in p x (fm.entries o.node.ends)
@@ -351,20 +350,20 @@ module _ (n : Node) (Old : Pid → Data → Type 0) (Ok : Pid → Pid → Data �
         (exits_in p x es) (go (same_pid e.0.0 p) e.1) (exits_good es))
       where
         go : (b : Bool) (v : End) → All Good (cond b (exit_for p x e.0.1 v) [])
-        go true End.Active = All-cons Good (Signal.Exit p e.0.1 x) [] why none
+        go true End.Active = All-cons Good (to_pid e.0.1 (Signal.Exit p e.0.1 x)) [] why none
         go _ _ = none
 
     monitor_exits_good : (es : List (Reference × Monitor)) → All (λ e. fm.get o.node.registered e.0 ≡ Some e.1) es
         → All Good (monitor_exits p x es)
     monitor_exits_good [] h = none
     monitor_exits_good (e ∷ es) h =
-        All-append Good (cond (same_pid e.1.target p) (Signal.MonitorExit p e.1.owner e.0 x ∷ []) []) (monitor_exits p x es)
+        All-append Good (cond (same_pid e.1.target p) (to_pid e.1.owner (Signal.MonitorExit p e.1.owner e.0 x) ∷ []) []) (monitor_exits p x es)
         (go (same_pid e.1.target p) refl)
         (monitor_exits_good es (All-tail (λ d. fm.get o.node.registered d.0 ≡ Some d.1) e es h))
       where
-        go : (b : Bool) → same_pid e.1.target p ≡ b → All Good (cond b (Signal.MonitorExit p e.1.owner e.0 x ∷ []) [])
+        go : (b : Bool) → same_pid e.1.target p ≡ b → All Good (cond b (to_pid e.1.owner (Signal.MonitorExit p e.1.owner e.0 x) ∷ []) [])
         go true i =
-            All-cons Good (Signal.MonitorExit p e.1.owner e.0 x) [] (
+            All-cons Good (to_pid e.1.owner (Signal.MonitorExit p e.1.owner e.0 x)) [] (
               why,
               subst (λ z. Call e.1.owner z e.0)
                   (same_pid_true e.1.target p i)
@@ -385,16 +384,16 @@ module _ (n : Node) (Old : Pid → Data → Type 0) (Ok : Pid → Pid → Data �
     demonitors_good : (es : List (Reference × Monitor)) → All (λ e. fm.get o.node.watches e.0 ≡ Some e.1) es → All Good (demonitors p es)
     demonitors_good [] h = none
     demonitors_good (e ∷ es) h =
-        All-append Good (cond (same_pid e.1.owner p) (Signal.Demonitor p e.1.target e.0 ∷ []) []) (demonitors p es)
+        All-append Good (cond (same_pid e.1.owner p) (to_pid e.1.target (Signal.Demonitor p e.1.target e.0) ∷ []) []) (demonitors p es)
         (go (same_pid e.1.owner p) refl)
         (demonitors_good es (All-tail (λ d. fm.get o.node.watches d.0 ≡ Some d.1) e es h))
       where
         here : fm.get o.node.watches e.0 ≡ Some e.1
         here = All-head (λ d. fm.get o.node.watches d.0 ≡ Some d.1) e es h
 
-        go : (b : Bool) → same_pid e.1.owner p ≡ b → All Good (cond b (Signal.Demonitor p e.1.target e.0 ∷ []) [])
+        go : (b : Bool) → same_pid e.1.owner p ≡ b → All Good (cond b (to_pid e.1.target (Signal.Demonitor p e.1.target e.0) ∷ []) [])
         go true i =
-            All-cons Good (Signal.Demonitor p e.1.target e.0) [] (inr (
+            All-cons Good (to_pid e.1.target (Signal.Demonitor p e.1.target e.0)) [] (inr (
               (e.1, k.watched e.0 e.1 here),
               left e.0 ∙ ap (λ v. cond (not (is_owned p v)) v None) here ∙ ap (λ b. cond (not b) (Some e.1) None) i,
             )) none
@@ -446,7 +445,7 @@ module _ (n : Node) (Old : Pid → Data → Type 0) (Ok : Pid → Pid → Data �
 
   abbrev pub true_rules : Rules
   true_rules = record {
-    Says = λ s. FoundedSignal Old Call Off s;
+    Says = λ s. FoundedSignal Old Call Off s.signal;
     Reacts = Ok;
     Tells = λ r m x. Unit {0};
     Joins = λ r m. Call m.owner m.target r;
@@ -455,8 +454,8 @@ module _ (n : Node) (Old : Pid → Data → Type 0) (Ok : Pid → Pid → Data �
 
   pub true_closed : Closed true_rules True
   true_closed = record {
-    plain = λ s h. plain_founded Old Call Off s h;
-    posted = λ s o h k. true_post s o (old_now o (Signalled s false) h) k;
+    plain = λ s h. plain_founded Old Call Off s.signal h;
+    posted = λ s o h k. true_post s o (old_now o (Signalled s.signal false) h) k;
     end_set = λ p q e o l k. true_node o ((set_end p q e o).node) refl refl refl k;
     drew = λ o k. true_node o ((draw kind.UnlinkId o).node) refl refl refl k;
     life_set = λ p l o h k. true_node o (record (o.node) { lives = set_life o.node.lives p l }) refl refl refl k;

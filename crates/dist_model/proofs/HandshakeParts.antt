@@ -412,12 +412,12 @@ module _ (New : TrunkId → Name → Type 0) (X : Work → Type 0)
     pub shaken : (v : State) → s.state ≡ v → (m : ShakeMsg) → IfGoes (handshake_at v t s m o) X
     shaken v h m = subst (λ z. IfGoes z X) (sym (handshake_as v t s m o)) (by_rule v h m)
 
-    module _ (x : Item) (taken : s.state ≡ Up → Arrivals.is_good o.node s x ≡ true → X (take_item x o)) where
+    module _ (x : Item) (taken : s.state ≡ Up → Arrivals.is_good o.node s x ≡ true → X (take_item s.peer x o)) where
       on_up_kept : s.state ≡ Up → IfGoes (on_up t s x o) X
       on_up_kept u = go (Arrivals.is_good o.node s x) refl
         where
           go : (b : Bool) → Arrivals.is_good o.node s x ≡ b
-              → IfGoes (cond b (Accepts (Answer.Took (kind_of x)) (take_item x o)) (fault Fault.Forged t s o)) X
+              → IfGoes (cond b (Accepts (Answer.Took (kind_of x)) (take_item s.peer x o)) (fault Fault.Forged t s o)) X
           go true e = taken u e
           go false e = known_fault Fault.Forged t s o at k
 

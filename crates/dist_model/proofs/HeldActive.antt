@@ -17,7 +17,7 @@ use Rattle.dist_model.specs.Monitoring.{register, unregister, unwatch}
 use Rattle.dist_model.specs.Names.{Name, same_name, same_pid}
 use Rattle.dist_model.specs.Node.{Node, end_of, living, route, traps_life}
 use Rattle.dist_model.specs.Taking.{take_item}
-use Rattle.dist_model.specs.Work.{Work, keep_local, post, post_all, post_to, put, report, send_on, set_end, spelled}
+use Rattle.dist_model.specs.Work.{Addressed, Work, keep_local, post, post_all, post_to, put, report, send_on, set_end, spelled, to_pid}
 use Rattle.dist_model.specs.declared.report.Effect.{Effect}
 use Rattle.dist_model.specs.World.{Refused, Report, Reported}
 use Rattle.erl_control.specs.declared.signal.Signal.{Signal}
@@ -104,9 +104,9 @@ calm_post y x o p q h = go (same_name y o.node.mint.name) h
     go true h = calm_last o.effects (Effect.Sent None o.node.mint.name x) (λ a b. refl) p q h
     go false h = calm_send (route o.node y) y x o p q h
 
-calm_post_all : (es : List Signal) (o : Work) → Calm o (post_all es o)
+calm_post_all : (es : List Addressed) (o : Work) → Calm o (post_all es o)
 calm_post_all [] o p q h = h
-calm_post_all (e ∷ es) o p q h = calm_post (receiver_of e).node (spelled o.node e) o p q (calm_post_all es (post e o) p q h)
+calm_post_all (e ∷ es) o p q h = calm_post e.node (spelled o.node e) o p q (calm_post_all es (post e o) p q h)
 
 pub calm_put : (x : Pid) (t : Data) (o : Work) → Calm o (put x t o)
 calm_put x t o p q h = calm_last o.effects (Effect.Put x t) (λ a b. refl) p q h
@@ -177,22 +177,22 @@ calm_cond false o x y f g = g
 calm_register : (k : Reference) (u : Monitor) (o : Work) → Calm o (register k u o)
 calm_register k u o p q h = h
 
-pub item_taken : (x : Item) (o : Work) (p q : Pid) → reacts_in p q ((take_item x o).effects) ≡ true
+pub item_taken : (y : Name) (x : Item) (o : Work) (p q : Pid) → reacts_in p q ((take_item y x o).effects) ≡ true
     → (reacts_in p q o.effects ≡ true) ⊎ Held o.node p q
-item_taken (Signalled (Signal.Link b a) pay) o p q h = link_taken a b (Signals LinkSignal.Link) o p q h
-item_taken (Signalled (Signal.Exit b a r) pay) o p q h = link_taken a b (Exited r) o p q h
-item_taken (Signalled (Signal.UnlinkId i b a) pay) o p q h = link_taken a b (Signals (LinkSignal.Unlink i)) o p q h
-item_taken (Signalled (Signal.UnlinkIdAck i b a) pay) o p q h = link_taken a b (Signals (LinkSignal.Ack i)) o p q h
-item_taken (Signalled (Signal.Send a t) pay) o p q h = inl (calm_cond (living o.node a) o (put a t o) o (calm_put a t o) (λ c d k. k) p q h)
-item_taken (Signalled (Signal.Exit2 b a r) pay) o p q h =
+item_taken y (Signalled (Signal.Link b a) pay) o p q h = link_taken a b (Signals LinkSignal.Link) o p q h
+item_taken y (Signalled (Signal.Exit b a r) pay) o p q h = link_taken a b (Exited r) o p q h
+item_taken y (Signalled (Signal.UnlinkId i b a) pay) o p q h = link_taken a b (Signals (LinkSignal.Unlink i)) o p q h
+item_taken y (Signalled (Signal.UnlinkIdAck i b a) pay) o p q h = link_taken a b (Signals (LinkSignal.Ack i)) o p q h
+item_taken y (Signalled (Signal.Send a t) pay) o p q h = inl (calm_cond (living o.node a) o (put a t o) o (calm_put a t o) (λ c d k. k) p q h)
+item_taken y (Signalled (Signal.Exit2 b a r) pay) o p q h =
     inl (calm_cond (living o.node a) o _ o (calm_carry (reaction (traps_life (fm.get o.node.lives a)) (sent_exit a b r)) a o)
     (λ c d k. k) p q h)
-item_taken (Signalled (Signal.Monitor b a k) pay) o p q h =
+item_taken y (Signalled (Signal.Monitor b a k) pay) o p q h =
     inl (calm_cond (living o.node a) o _ _ (calm_register k (monitor_of b a) o)
-    (calm_post b.node (spelled o.node (Signal.MonitorExit a b k noproc)) o) p q h)
-item_taken (Signalled (Signal.Demonitor b a k) pay) o p q h =
+    (calm_post b.node (spelled o.node (to_pid b (Signal.MonitorExit a b k noproc))) o) p q h)
+item_taken y (Signalled (Signal.Demonitor b a k) pay) o p q h =
     inl (calm_cond (is_held o.node.registered k (monitor_of b a)) o (unregister k o) o (λ c d z. z) (λ c d z. z) p q h)
-item_taken (Signalled (Signal.MonitorExit b a k r) pay) o p q h =
+item_taken y (Signalled (Signal.MonitorExit b a k r) pay) o p q h =
     inl (calm_cond (living o.node a && is_held o.node.watches k (monitor_of a b)) o _ o
     (calm_put a (down_term k b r) (unwatch k o)) (λ c d z. z) p q h)
-item_taken _ o p q h = inl h
+item_taken y _ o p q h = inl h

@@ -72,10 +72,10 @@ without_local n xs k = record { born = k.born; rooted = k.rooted }
 
 module _ (n : Node) (xs : List Item) (kn : NodeKept n) where
   plain_home : (i : Item) → n.local ≡ i ∷ xs → ((p q : Pid) → news_in p q i ≡ []) → HomePairs n
-      → HomePairs ((take_item i (at_work (record n { local = xs }))).node)
+      → HomePairs ((take_item n.mint.name i (at_work (record n { local = xs }))).node)
   plain_home i first none k =
-      home_moves (at_work (record n { local = xs })) (take_item i (at_work (record n { local = xs })))
-      (takes_other i (at_work (record n { local = xs })) none) (without_local n xs kn)
+      home_moves (at_work (record n { local = xs })) (take_item n.mint.name i (at_work (record n { local = xs })))
+      (takes_other n.mint.name i (at_work (record n { local = xs })) none) (without_local n xs kn)
       (λ p q hp hq d.
       let gone : (x y : Pid) → news x y n.local ≡ news x y xs = λ x y. ap (news x y) first ∙ ap (λ l. l ++ news x y xs) (none x y) in
       subst (λ l. Kept (side_of n p q l) (side_of n q p (news q p xs))) (gone p q)
@@ -189,17 +189,17 @@ never_own n p h = go (same_name p.node n.mint.name) h
 
 -- Local: each pair of the node
 pub local_home : (n : Node) (i : Item) (xs : List Item) → n.local ≡ i ∷ xs → NodeKept n → home_of n → HomePairs n
-    → HomePairs ((take_item i (at_work (record n { local = xs }))).node)
+    → HomePairs ((take_item n.mint.name i (at_work (record n { local = xs }))).node)
 unfolding o1
 local_home n i xs first kn hm k = go (kind i) (subst (λ l. Homely (λ p. is_stranger n p) l) first hm).0
   where
     go : ((p q : Pid) → news_in p q i ≡ [])
         ⊎ ((q : Pid) × (p : Pid) × (s : LinkNews) × (pay : Bool) × (i ≡ Signalled (telling q p s) pay))
-        → HomeItem (λ p. is_stranger n p) i → HomePairs ((take_item i (at_work (record n { local = xs }))).node)
+        → HomeItem (λ p. is_stranger n p) i → HomePairs ((take_item n.mint.name i (at_work (record n { local = xs }))).node)
     go (inl h) m = plain_home n xs kn i first h k
     go (inr h) m =
         let g : (is_stranger n h.0 ≡ false) × (is_stranger n h.1 ≡ false) × (same_pid h.0 h.1 ≡ false) =
         home_saying (λ p. is_stranger n p) h.0 h.1 h.2 h.3 (subst (λ z. HomeItem (λ p. is_stranger n p) z) h.4 m) in
-        subst (λ z. HomePairs ((take_item z (at_work (record n { local = xs }))).node)) (sym h.4)
-        (subst (λ (z : Work). HomePairs z.node) (sym (taken_link h.0 h.1 h.2 (at_work (record n { local = xs }))))
+        subst (λ z. HomePairs ((take_item n.mint.name z (at_work (record n { local = xs }))).node)) (sym h.4)
+        (subst (λ (z : Work). HomePairs z.node) (sym (taken_link n.mint.name h.0 h.1 h.2 (at_work (record n { local = xs }))))
         (linking_home n xs kn h.0 h.1 h.2 h.3 (first ∙ ap (λ z. z ∷ xs) h.4) g.1 g.0 (never_own n h.0 g.0) (same_pid_sym h.0 h.1 g.2) k))

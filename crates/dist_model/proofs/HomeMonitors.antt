@@ -11,11 +11,10 @@ use Rattle.dist_model.proofs.LastSignals.{exits_in, exits_cons}
 use Rattle.dist_model.specs.Exits.{demonitors, exit_for, end_process, monitor_exits}
 use Rattle.dist_model.specs.Handshake.{with_side, write}
 use Rattle.dist_model.specs.Items.{Item, Signalled}
-use Rattle.erl_control.specs.Ends.{receiver_of}
 use Rattle.dist_model.specs.Names.{Name, same_name, same_pid}
 use Rattle.dist_model.specs.Node.{Node, route}
 use Rattle.dist_model.specs.Sides.{TrunkSide}
-use Rattle.dist_model.specs.Work.{Work, keep_local, post, post_all, send_on, spelled}
+use Rattle.dist_model.specs.Work.{Addressed, Work, keep_local, post, post_all, send_on, spelled, to_pid}
 use Rattle.erl_control.specs.declared.signal.Signal.{Signal}
 use Rattle.erl_names.specs.declared.trunk.TrunkId.{TrunkId}
 use Rattle.erl_term.specs.Data.{Data}
@@ -46,58 +45,62 @@ module _ (n : Node) (P : Pid → Type 0) where
     pub local : All (TargetsIn P) o.node.local
     pub name : o.node.mint.name ≡ n.mint.name
 
-  abbrev pub Says : Signal → Type 0
-  Says s = same_name (receiver_of s).node n.mint.name ≡ true → Targets P s
+  abbrev pub Says : Addressed → Type 0
+  Says s = same_name s.node n.mint.name ≡ true → Targets P s.signal
 
-  pub homed_post : (s : Signal) (o : Work) → Says s → Homed o → Homed (post s o)
+  pub homed_post : (s : Addressed) (o : Work) → Says s → Homed o → Homed (post s o)
   homed_post s o h k = record {
-    local = go (same_name (receiver_of s).node o.node.mint.name) refl;
-    name = posts_keep (λ m. m.mint.name) (λ m l. refl) (receiver_of s).node (spelled o.node s) o ∙ k.name;
+    local = go (same_name s.node o.node.mint.name) refl;
+    name = posts_keep (λ m. m.mint.name) (λ m l. refl) s.node (spelled o.node s) o ∙ k.name;
   }
     where
-      on : (r : Option TrunkId) → All (TargetsIn P) ((send_on r (receiver_of s).node (spelled o.node s) o).node.local)
+      on : (r : Option TrunkId) → All (TargetsIn P) ((send_on r s.node (spelled o.node s) o).node.local)
       on None = k.local
       on (Some t) = k.local
 
-      go : (b : Bool) → same_name (receiver_of s).node o.node.mint.name ≡ b → All (TargetsIn P) ((cond b
+      go : (b : Bool) → same_name s.node o.node.mint.name ≡ b → All (TargetsIn P) ((cond b
           (keep_local (spelled o.node s) o)
-          (send_on (route o.node (receiver_of s).node) (receiver_of s).node (spelled o.node s) o)).node.local)
-      go true e = All-push (TargetsIn P) o.node.local (spelled o.node s) k.local (h (ap (same_name (receiver_of s).node) (sym k.name) ∙ e))
-      go false e = on (route o.node (receiver_of s).node)
+          (send_on (route o.node s.node) s.node (spelled o.node s) o)).node.local)
+      go true e = All-push (TargetsIn P) o.node.local (spelled o.node s) k.local (h (ap (same_name s.node) (sym k.name) ∙ e))
+      go false e = on (route o.node s.node)
 
-  homed_all : (ss : List Signal) (o : Work) → All (Targets P) ss → Homed o → Homed (post_all ss o)
+  -- the target that is posted
+  abbrev Posted : Addressed → Type 0
+  Posted s = Targets P s.signal
+
+  homed_all : (ss : List Addressed) (o : Work) → All Posted ss → Homed o → Homed (post_all ss o)
   homed_all [] o h k = k
-  homed_all (s ∷ ss) o h k = homed_all ss (post s o) (All-tail (Targets P) s ss h) (homed_post s o (λ e. All-head (Targets P) s ss h) k)
+  homed_all (s ∷ ss) o h k = homed_all ss (post s o) (All-tail Posted s ss h) (homed_post s o (λ e. All-head Posted s ss h) k)
 
-  exits_home : (p : Pid) (x : Data) (es : List ((Pid × Pid) × End)) → All (Targets P) (exits_in p x es)
-  exits_home p x [] = All-nil (Targets P)
+  exits_home : (p : Pid) (x : Data) (es : List ((Pid × Pid) × End)) → All Posted (exits_in p x es)
+  exits_home p x [] = All-nil Posted
   exits_home p x (e ∷ es) =
-      subst (All (Targets P)) (sym (exits_cons p x e es)) (All-append (Targets P)
+      subst (All Posted) (sym (exits_cons p x e es)) (All-append Posted
       (cond (same_pid e.0.0 p) (exit_for p x e.0.1 e.1) []) (exits_in p x es) (go (same_pid e.0.0 p) e.1) (exits_home p x es))
     where
-      go : (b : Bool) (v : End) → All (Targets P) (cond b (exit_for p x e.0.1 v) [])
-      go true End.Active = All-cons (Targets P) (Signal.Exit p e.0.1 x) [] tt (All-nil (Targets P))
-      go _ _ = All-nil (Targets P)
+      go : (b : Bool) (v : End) → All Posted (cond b (exit_for p x e.0.1 v) [])
+      go true End.Active = All-cons Posted (to_pid e.0.1 (Signal.Exit p e.0.1 x)) [] tt (All-nil Posted)
+      go _ _ = All-nil Posted
 
-  monitor_exits_home : (p : Pid) (x : Data) (es : List (Reference × Monitor)) → All (Targets P) (monitor_exits p x es)
-  monitor_exits_home p x [] = All-nil (Targets P)
+  monitor_exits_home : (p : Pid) (x : Data) (es : List (Reference × Monitor)) → All Posted (monitor_exits p x es)
+  monitor_exits_home p x [] = All-nil Posted
   monitor_exits_home p x (e ∷ es) =
-      All-append (Targets P) (cond (same_pid e.1.target p) (Signal.MonitorExit p e.1.owner e.0 x ∷ []) [])
+      All-append Posted (cond (same_pid e.1.target p) (to_pid e.1.owner (Signal.MonitorExit p e.1.owner e.0 x) ∷ []) [])
       (monitor_exits p x es) (go (same_pid e.1.target p)) (monitor_exits_home p x es)
     where
-      go : (b : Bool) → All (Targets P) (cond b (Signal.MonitorExit p e.1.owner e.0 x ∷ []) [])
-      go true = All-cons (Targets P) (Signal.MonitorExit p e.1.owner e.0 x) [] tt (All-nil (Targets P))
-      go false = All-nil (Targets P)
+      go : (b : Bool) → All Posted (cond b (to_pid e.1.owner (Signal.MonitorExit p e.1.owner e.0 x) ∷ []) [])
+      go true = All-cons Posted (to_pid e.1.owner (Signal.MonitorExit p e.1.owner e.0 x)) [] tt (All-nil Posted)
+      go false = All-nil Posted
 
-  demonitors_home : (p : Pid) (es : List (Reference × Monitor)) → All (Targets P) (demonitors p es)
-  demonitors_home p [] = All-nil (Targets P)
+  demonitors_home : (p : Pid) (es : List (Reference × Monitor)) → All Posted (demonitors p es)
+  demonitors_home p [] = All-nil Posted
   demonitors_home p (e ∷ es) =
-      All-append (Targets P) (cond (same_pid e.1.owner p) (Signal.Demonitor p e.1.target e.0 ∷ []) []) (demonitors p es)
+      All-append Posted (cond (same_pid e.1.owner p) (to_pid e.1.target (Signal.Demonitor p e.1.target e.0) ∷ []) []) (demonitors p es)
       (go (same_pid e.1.owner p)) (demonitors_home p es)
     where
-      go : (b : Bool) → All (Targets P) (cond b (Signal.Demonitor p e.1.target e.0 ∷ []) [])
-      go true = All-cons (Targets P) (Signal.Demonitor p e.1.target e.0) [] tt (All-nil (Targets P))
-      go false = All-nil (Targets P)
+      go : (b : Bool) → All Posted (cond b (to_pid e.1.target (Signal.Demonitor p e.1.target e.0) ∷ []) [])
+      go true = All-cons Posted (to_pid e.1.target (Signal.Demonitor p e.1.target e.0)) [] tt (All-nil Posted)
+      go false = All-nil Posted
 
   homed_finish : (p : Pid) (x : Data) (o : Work) → Homed o → Homed (end_process p x o)
   homed_finish p x o k =
@@ -105,8 +108,8 @@ module _ (n : Node) (P : Pid → Type 0) where
       let ms = monitor_exits p x (fm.entries o.node.registered) in
       let ds = demonitors p (fm.entries o.node.watches) in
       let v =
-      homed_all (es ++ ms ++ ds) o (All-append (Targets P) (es ++ ms) ds
-      (All-append (Targets P) es ms (exits_home p x (fm.entries o.node.ends)) (monitor_exits_home p x (fm.entries o.node.registered)))
+      homed_all (es ++ ms ++ ds) o (All-append Posted (es ++ ms) ds
+      (All-append Posted es ms (exits_home p x (fm.entries o.node.ends)) (monitor_exits_home p x (fm.entries o.node.registered)))
       (demonitors_home p (fm.entries o.node.watches))) k in
       record { local = v.local; name = v.name }
 
@@ -121,7 +124,7 @@ module _ (n : Node) (P : Pid → Type 0) where
 
   pub home_closed : Closed home_rules Homed
   home_closed = record {
-    plain = λ s h e. plain_targets P s h;
+    plain = λ s h e. plain_targets P s.signal h;
     posted = homed_post;
     end_set = λ p q e o l k. record { local = k.local; name = k.name };
     drew = λ o k. record { local = k.local; name = k.name };

@@ -169,7 +169,7 @@ module _ (w : World) where
       → OwnKept (Local x) ((came_of w x w.lists (take_local n l)).world)
   own_local x n [] h j = unchanged (Local x)
   own_local x n (i ∷ rest) h j = let k = own_taken n rest i in
-      goes (Local x) x n h w.lists (Answer.Took (kind_of i)) (take_item i (at_work (record n { local = rest })))
+      goes (Local x) x n h w.lists (Answer.Took (kind_of i)) (take_item n.mint.name i (at_work (record n { local = rest })))
       (k.name, inr (inl (refl, (i, rest, j, k.grows))))
 
   own_start : (x : Name) (n : Node) → node_of w.nodes x ≡ Some n → OwnKept (Start x) ((came_of w x w.lists (start n)).world)

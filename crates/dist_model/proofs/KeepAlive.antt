@@ -120,7 +120,7 @@ born m p x h = ap is_living_life (fm.get-insert pid_total m p (Living false []) 
 pub alive_parts : Parts (λ o. Alive o.node)
 alive_parts = record {
   posted = λ s o k.
-      let y = (receiver_of s).node in
+      let y = s.node in
       same o.node _ (posts_keep (λ m. m.lives) (λ m l. refl) y (spelled o.node s) o)
       (posts_keep (λ m. m.ends) (λ m l. refl) y (spelled o.node s) o)
       (posts_keep (λ m. m.watches) (λ m l. refl) y (spelled o.node s) o)

@@ -28,7 +28,7 @@ use Rattle.dist_model.specs.Names.{Name, same_name}
 use Rattle.dist_model.specs.Node.{Node, route}
 use Rattle.dist_model.specs.NodeEvents.{Arrive, Dial, Local, NodeEvent, Start, Stop, at_node, Call}
 use Rattle.dist_model.specs.Sides.{Accepting, AwaitsStatus, Gone, Losing, TrunkSide}
-use Rattle.dist_model.specs.Work.{Work, at_work, keep_local, post, post_all, post_to, put, report, send_on, spelled}
+use Rattle.dist_model.specs.Work.{Addressed, Work, at_work, keep_local, post, post_all, post_to, put, report, send_on, spelled}
 use Rattle.dist_model.specs.declared.report.Answer.{Answer}
 use Rattle.dist_model.specs.declared.report.Effect.{Effect}
 use Rattle.erl_control.specs.declared.signal.Signal.{Signal}
@@ -128,9 +128,9 @@ module _ (n : Node) (e : NodeEvent) where
       go true = kept_local x o k
       go false = challenge_or_park (route o.node y) refl
 
-  posts_all : (ss : List Signal) (o : Work) → X o → X (post_all ss o)
+  posts_all : (ss : List Addressed) (o : Work) → X o → X (post_all ss o)
   posts_all [] o k = k
-  posts_all (s ∷ ss) o k = posts_all ss (post s o) (posts (receiver_of s).node (spelled o.node s) o k)
+  posts_all (s ∷ ss) o k = posts_all ss (post s o) (posts s.node (spelled o.node s) o k)
 
   -- the node alone changes
   within : (o : Work) (m : Node) → m.mint.name ≡ o.node.mint.name → m.sides ≡ o.node.sides → X o → X (record o { node = m })
@@ -148,7 +148,7 @@ module _ (n : Node) (e : NodeEvent) where
 
   parts : Parts X
   parts = record {
-    posted = λ s o k. posts (receiver_of s).node (spelled o.node s) o k;
+    posted = λ s o k. posts s.node (spelled o.node s) o k;
     end_set = λ p q v o l k. within o _ refl refl k;
     drew = λ d o h k. within o _ (drawn_name o.node.mint d) refl k;
     life_set = λ p l o h k. within o _ refl refl k;

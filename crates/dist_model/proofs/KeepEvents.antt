@@ -39,7 +39,7 @@ use Rattle.dist_model.specs.Sides.{untold}
 pub outer_parts : (P : FinMap trunk_cmp TrunkSide → ℕ → Type 0) → Parts (λ o. P o.node.sides o.node.dialed)
 outer_parts P = record {
   posted = λ s o k.
-      let y = (receiver_of s).node in
+      let y = s.node in
       along (posts_keep (λ m. m.sides) (λ m l. refl) y (spelled o.node s) o)
       (posts_keep (λ m. m.dialed) (λ m l. refl) y (spelled o.node s) o) k;
   end_set = λ p q e o l k. k;
@@ -93,7 +93,7 @@ module _ (New : TrunkId → Name → Type 0) (X : Work → Type 0) (c : Parts X)
       comes v s h true e = tt
       comes None s h false e = tt
       comes (Some i) s h false e = known_kept New X side wrote t s (at_work n) h k i
-          (λ u g. item_keeps X c i (at_work n) k) (handshake_in i)
+          (λ u g. item_keeps X c s.peer i (at_work n) k) (handshake_in i)
 
       go : (v : Option Item) (s : Option TrunkSide) → side_at n t ≡ s → Rest (Arrive t v w) → IfGoes (arrive n t s v w) X
       go None None h f = tt
@@ -102,7 +102,7 @@ module _ (New : TrunkId → Name → Type 0) (X : Work → Type 0) (c : Parts X)
 
   takes : (l : List Item) → ((rest : List Item) → X (at_work (record n { local = rest }))) → IfGoes (take_local n l) X
   takes [] f = tt
-  takes (i ∷ rest) f = item_keeps X c i (at_work (record n { local = rest })) (f rest)
+  takes (i ∷ rest) f = item_keeps X c n.mint.name i (at_work (record n { local = rest })) (f rest)
 
   sweeps : (d : Option (TrunkId × TrunkSide)) → any_side is_losing (fm.entries n.sides) ≡ d → IfGoes (sweep_by d (at_work n)) X
   sweeps None h = tt

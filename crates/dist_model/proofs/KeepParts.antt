@@ -16,7 +16,7 @@ use Rattle.dist_model.specs.Monitoring.{demonitor_by, register, unregister, unwa
 use Rattle.dist_model.specs.Names.{Name, same_pid}
 use Rattle.dist_model.specs.Node.{Life, Node, is_living_life, living, reaches}
 use Rattle.dist_model.specs.Taking.{take_item}
-use Rattle.dist_model.specs.Work.{Work, at_work, draw, post, put, report, set_end, set_life}
+use Rattle.dist_model.specs.Work.{Addressed, Work, at_work, draw, post, put, report, set_end, set_life, to_pid}
 use Rattle.dist_model.specs.declared.report.Effect.{Effect}
 use Rattle.erl_control.specs.declared.signal.Signal.{Signal}
 use Rattle.erl_names.specs.Ids.{pid_of, reference_of}
@@ -33,7 +33,7 @@ use Rattle.monitor_core.specs.declared.monitor.Monitor.{Monitor}
 
 -- the parts of an event, but for what it does to sides
 pub record Parts (X : Work → Type 0) : Type 0 where
-  pub posted : (s : Signal) (o : Work) → X o → X (post s o)
+  pub posted : (s : Addressed) (o : Work) → X o → X (post s o)
   pub end_set : (p q : Pid) (e : End) (o : Work) → (living o.node p ≡ true) ⊎ (e ≡ End.None) → X o → X (set_end p q e o)
   pub drew : (d : Draw) (o : Work) → (d ≡ kind.Pid → ⊥) → X o → X (draw d o)
   pub life_set : (p : Pid) (l : Option Life) (o : Work) → is_living_life l ≡ living o.node p → X o
@@ -71,8 +71,8 @@ module _ (X : Work → Type 0) (c : Parts X) where
     ended = λ r m x o e h k. c.message m.owner (down_term r m.target x) (unwatch r o) (c.unwatches r o k);
   }
 
-  pub item_keeps : (i : Item) (o : Work) → X o → X (take_item i o)
-  item_keeps i o k = item_kept any_rules X closed i o (record {
+  pub item_keeps : (y : Name) (i : Item) (o : Work) → X o → X (take_item y i o)
+  item_keeps y i o k = item_kept any_rules X closed y i o (record {
     gone = λ p q pay e l. tt;
     acts = λ p q x pay e l a. tt;
     sent = λ p m pay e. c.message p m o k;
@@ -87,14 +87,14 @@ module _ (X : Work → Type 0) (c : Parts X) where
       let o = draw kind.Reference (at_work n) in
       let r = reference_of n.mint id in
       cond_kept any_rules X closed (reaches o.node q.node) _ _
-      (λ e. c.posted (Signal.Monitor p q r) (watch r (monitor_of p q) o) (c.watches r (monitor_of p q) o l (c.drew kind.Reference
+      (λ e. c.posted (to_pid q (Signal.Monitor p q r)) (watch r (monitor_of p q) o) (c.watches r (monitor_of p q) o l (c.drew kind.Reference
       (at_work n) (λ e. cc) k)))
       (λ e. c.message p (down_term r q noconnection) o (c.drew kind.Reference (at_work n) (λ e. cc) k))))
 
   demonitors : (v : Option Monitor) (p : Pid) (r : Reference) (o : Work) → X o → IfGoes (demonitor_by v p r o) X
   demonitors None p r o k = tt
   demonitors (Some m) p r o k = if_cond (same_pid m.owner p) _ Refusal.NotTheOwner X
-      (λ h. c.posted (Signal.Demonitor p m.target r) (unwatch r o) (c.unwatches r o k))
+      (λ h. c.posted (to_pid m.target (Signal.Demonitor p m.target r)) (unwatch r o) (c.unwatches r o k))
 
   others : (n : Node) (d : Command) → ((p q : Pid) → d ≡ Command.Monitor p q → ⊥) → ((p : Pid) (r : Reference)
       → d ≡ Command.Demonitor p r → ⊥)

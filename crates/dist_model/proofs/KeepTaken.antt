@@ -41,7 +41,7 @@ message_taken _ t s m o = after_taken _ t s _ m _ o
 signal_taken : (v : State) (t : TrunkId) (s : TrunkSide) (i : Item) (o : Work) → IsAccepted (signal_at v t s i o)
 signal_taken Up t s i o = go (is_good o.node s i)
   where
-    go : (b : Bool) → IsAccepted (cond b (Accepts (Answer.Took (kind_of i)) (take_item i o)) (fault Fault.Forged t s o))
+    go : (b : Bool) → IsAccepted (cond b (Accepts (Answer.Took (kind_of i)) (take_item s.peer i o)) (fault Fault.Forged t s o))
     go true = (_, _, refl)
     go false = (_, _, refl)
 signal_taken _ t s i o = (_, _, refl)

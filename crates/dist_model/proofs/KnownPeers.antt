@@ -11,7 +11,7 @@ use Rattle.dist_model.proofs.Seen.{list_in, side_in}
 use Rattle.dist_model.proofs.Sides.{side_at}
 use Rattle.dist_model.proofs.Trunks.{Good}
 use Rattle.dist_model.proofs.Truths.{none_within}
-use Rattle.dist_model.specs.Arrivals.{from_peer, is_from, is_to}
+use Rattle.dist_model.specs.Arrivals.{from_peer, is_from, to_own}
 use Rattle.dist_model.specs.Claims.{ConnectedKnow, IntroductionsAreKnown, IntroductionsAreTold, KnownForGood, NoneOfTheFuture}
 use Rattle.dist_model.specs.Claims.{PayloadIsAgreed}
 use Rattle.dist_model.specs.Introductions.{introduced, goes_on, knows_peer}
@@ -110,7 +110,7 @@ agreed_of w g x y t here there both hx hy =
 
 pub future_of : (w : World) → Fine w → NoneOfTheFuture w
 future_of w g x y t n signal pay p k other h j =
-    let v = and_parts (from_peer k.side (sender_of signal)) (is_to n (receiver_of signal)) h in
+    let v = and_parts (from_peer k.side (sender_of signal)) (to_own n (receiver_of signal)) h in
     let f : is_from k.side p ≡ true = sym (ap (from_peer k.side) j) ∙ v.0 in
     let u = and_parts (same_name p.node k.side.peer) _ f in (
       k.side.introduction,

@@ -17,7 +17,7 @@ use Rattle.dist_model.specs.Items.{Item, Signalled, has_reason}
 use Rattle.erl_control.specs.Ends.{receiver_of}
 use Rattle.dist_model.specs.Names.{Name, same_name, same_pid}
 use Rattle.dist_model.specs.Node.{Node, route, route_in, payload_to}
-use Rattle.dist_model.specs.Work.{Work, keep_local, post, post_all, post_to, send_on, spelled}
+use Rattle.dist_model.specs.Work.{Addressed, Work, keep_local, post, post_all, post_to, send_on, spelled, to_pid}
 use Rattle.dist_model.specs.declared.report.Effect.{Effect}
 use Rattle.erl_control.specs.declared.signal.Signal.{Signal}
 use Rattle.erl_names.specs.declared.trunk.TrunkId.{TrunkId}
@@ -89,15 +89,15 @@ down_said k r p q x = go (same_reference k r)
     go false = refl
 
 -- a signal that goes to y
-abbrev pub any_to : (Item → Bool) → Name → List Signal → Bool
+abbrev pub any_to : (Item → Bool) → Name → List Addressed → Bool
 any_to f y [] = false
-any_to f y (s ∷ ss) = (f (Signalled s false) && same_name y (receiver_of s).node) || any_to f y ss
+any_to f y (s ∷ ss) = (f (Signalled s.signal false) && same_name y s.node) || any_to f y ss
 
-pub any_to_append : (f : Item → Bool) (y : Name) (xs ys : List Signal) → any_to f y (xs ++ ys) ≡ (any_to f y xs || any_to f y ys)
+pub any_to_append : (f : Item → Bool) (y : Name) (xs ys : List Addressed) → any_to f y (xs ++ ys) ≡ (any_to f y xs || any_to f y ys)
 any_to_append f y [] ys = refl
 any_to_append f y (x ∷ xs) ys =
-    ap (λ b. (f (Signalled x false) && same_name y (receiver_of x).node) || b) (any_to_append f y xs ys)
-    ∙ sym (or_assoc (f (Signalled x false) && same_name y (receiver_of x).node) (any_to f y xs) (any_to f y ys))
+    ap (λ b. (f (Signalled x.signal false) && same_name y x.node) || b) (any_to_append f y xs ys)
+    ∙ sym (or_assoc (f (Signalled x.signal false) && same_name y x.node) (any_to f y xs) (any_to f y ys))
 
 -- posting keeps what is there
 pub local_grows : (f : Item → Bool) (z : Name) (x : Item) (o : Work) → has f o.node.local ≡ true → has f ((post_to z x o).node.local) ≡ true
@@ -126,15 +126,15 @@ sent_grows f t y z x o h = go (same_name z o.node.mint.name)
     go true = ap (λ l. has f (at_place t y l)) (sent_in-silent o.effects (Effect.Sent None o.node.mint.name x) refl) ∙ h
     go false = on (route o.node z)
 
-pub all_local_grows : (f : Item → Bool) (ss : List Signal) (o : Work) → has f o.node.local ≡ true
+pub all_local_grows : (f : Item → Bool) (ss : List Addressed) (o : Work) → has f o.node.local ≡ true
     → has f ((post_all ss o).node.local) ≡ true
 all_local_grows f [] o h = h
-all_local_grows f (s ∷ ss) o h = all_local_grows f ss (post s o) (local_grows f (receiver_of s).node (spelled o.node s) o h)
+all_local_grows f (s ∷ ss) o h = all_local_grows f ss (post s o) (local_grows f s.node (spelled o.node s) o h)
 
-pub all_sent_grows : (f : Item → Bool) (t : TrunkId) (y : Name) (ss : List Signal) (o : Work)
+pub all_sent_grows : (f : Item → Bool) (t : TrunkId) (y : Name) (ss : List Addressed) (o : Work)
     → has f (at_place t y (outgoing o)) ≡ true → has f (at_place t y (outgoing (post_all ss o))) ≡ true
 all_sent_grows f t y [] o h = h
-all_sent_grows f t y (s ∷ ss) o h = all_sent_grows f t y ss (post s o) (sent_grows f t y (receiver_of s).node (spelled o.node s) o h)
+all_sent_grows f t y (s ∷ ss) o h = all_sent_grows f t y ss (post s o) (sent_grows f t y s.node (spelled o.node s) o h)
 
 -- and what is posted comes there
 one_local : (f : Item → Bool) (z : Name) (x : Item) (o : Work) → f x ≡ true → same_name z o.node.mint.name ≡ true
@@ -159,29 +159,29 @@ Lands f n y o =
     (same_name y n.mint.name ≡ true → has f o.node.local ≡ true)
     × ((t : TrunkId) → same_name y n.mint.name ≡ false → route n y ≡ Some t → has f (at_place t y (outgoing o)) ≡ true)
 
-pub lands_one : (f : Item → Bool) (n : Node) (s : Signal) (o : Work) → o.node.sides ≡ n.sides → o.node.mint.name ≡ n.mint.name
-    → f (spelled o.node s) ≡ true → Lands f n (receiver_of s).node (post s o)
+pub lands_one : (f : Item → Bool) (n : Node) (s : Addressed) (o : Work) → o.node.sides ≡ n.sides → o.node.mint.name ≡ n.mint.name
+    → f (spelled o.node s) ≡ true → Lands f n s.node (post s o)
 lands_one f n s o sd nm h = (
-  λ e. one_local f (receiver_of s).node (spelled o.node s) o h (ap (same_name (receiver_of s).node) nm ∙ e),
-  λ t e r. one_sent f t (receiver_of s).node (spelled o.node s) o h (ap (same_name (receiver_of s).node) nm ∙ e)
-      (ap (λ l. route_in (fm.entries l) (receiver_of s).node) sd ∙ r),
+  λ e. one_local f s.node (spelled o.node s) o h (ap (same_name s.node) nm ∙ e),
+  λ t e r. one_sent f t s.node (spelled o.node s) o h (ap (same_name s.node) nm ∙ e)
+      (ap (λ l. route_in (fm.entries l) s.node) sd ∙ r),
 )
 
 pub lands_all : (f : Item → Bool) → ((s : Signal) (pay : Bool) → f (Signalled s pay) ≡ f (Signalled s false)) → (n : Node) (y : Name)
-    (ss : List Signal) (o : Work) → o.node.sides ≡ n.sides → o.node.mint.name ≡ n.mint.name → any_to f y ss ≡ true
+    (ss : List Addressed) (o : Work) → o.node.sides ≡ n.sides → o.node.mint.name ≡ n.mint.name → any_to f y ss ≡ true
     → Lands f n y (post_all ss o)
 lands_all f blind n y [] o sd nm h = cc
-lands_all f blind n y (s ∷ ss) o sd nm h = go (f (Signalled s false) && same_name y (receiver_of s).node) refl h
-    (lands_all f blind n y ss (post s o) (posts_keep (λ m. m.sides) (λ m l. refl) (receiver_of s).node (spelled o.node s) o ∙ sd)
-    (posts_keep (λ m. m.mint.name) (λ m l. refl) (receiver_of s).node (spelled o.node s) o ∙ nm))
+lands_all f blind n y (s ∷ ss) o sd nm h = go (f (Signalled s.signal false) && same_name y s.node) refl h
+    (lands_all f blind n y ss (post s o) (posts_keep (λ m. m.sides) (λ m l. refl) s.node (spelled o.node s) o ∙ sd)
+    (posts_keep (λ m. m.mint.name) (λ m l. refl) s.node (spelled o.node s) o ∙ nm))
   where
-    go : (b : Bool) → (f (Signalled s false) && same_name y (receiver_of s).node) ≡ b → (b || any_to f y ss) ≡ true
+    go : (b : Bool) → (f (Signalled s.signal false) && same_name y s.node) ≡ b → (b || any_to f y ss) ≡ true
         → (any_to f y ss ≡ true → Lands f n y (post_all ss (post s o))) → Lands f n y (post_all ss (post s o))
     go true e h k =
-        let v = and_parts (f (Signalled s false)) (same_name y (receiver_of s).node) e in
+        let v = and_parts (f (Signalled s.signal false)) (same_name y s.node) e in
         let l : Lands f n y (post s o) =
-        subst (λ z. Lands f n z (post s o)) (sym (same_name_true y (receiver_of s).node v.1)) (lands_one f n s o sd nm
-        (blind s (has_reason s && payload_to o.node (receiver_of s).node) ∙ v.0)) in
+        subst (λ z. Lands f n z (post s o)) (sym (same_name_true y s.node v.1)) (lands_one f n s o sd nm
+        (blind s.signal (has_reason s.signal && payload_to o.node s.node) ∙ v.0)) in
         (λ i. all_local_grows f ss (post s o) (l.0 i), λ t i r. all_sent_grows f t y ss (post s o) (l.1 t i r))
     go false e h k = k h
 
@@ -191,18 +191,18 @@ pub told_owner : (p : Pid) (x : Data) (k : Reference) (m : Monitor) (es : List (
     → any_to (is_end k) m.owner.node (monitor_exits p x es) ≡ true
 told_owner p x k m [] h t = absurd (none-some m h)
 told_owner p x k m (e ∷ es) h t =
-    any_to_append (is_end k) m.owner.node (cond (same_pid e.1.target p) (Signal.MonitorExit p e.1.owner e.0 x ∷ []) [])
+    any_to_append (is_end k) m.owner.node (cond (same_pid e.1.target p) (to_pid e.1.owner (Signal.MonitorExit p e.1.owner e.0 x) ∷ []) [])
     (monitor_exits p x es) ∙ go (same_reference k e.0) refl h (λ i. told_owner p x k m es i t)
   where
     first : (b : Bool) → same_pid e.1.target p ≡ b → b ≡ true → same_reference k e.0 ≡ true
         → same_name m.owner.node e.1.owner.node ≡ true
-        → any_to (is_end k) m.owner.node (cond b (Signal.MonitorExit p e.1.owner e.0 x ∷ []) []) ≡ true
+        → any_to (is_end k) m.owner.node (cond b (to_pid e.1.owner (Signal.MonitorExit p e.1.owner e.0 x) ∷ []) []) ≡ true
     first true i j a c = ap (λ b. (b && same_name m.owner.node e.1.owner.node) || false) a ∙ ap (λ b. b || false) c
     first false i j a c = cc
 
     go : (b : Bool) → same_reference k e.0 ≡ b → cond b (Some e.1) (find reference_cmp k es) ≡ Some m
         → (find reference_cmp k es ≡ Some m → any_to (is_end k) m.owner.node (monitor_exits p x es) ≡ true)
-        → (any_to (is_end k) m.owner.node (cond (same_pid e.1.target p) (Signal.MonitorExit p e.1.owner e.0 x ∷ []) [])
+        → (any_to (is_end k) m.owner.node (cond (same_pid e.1.target p) (to_pid e.1.owner (Signal.MonitorExit p e.1.owner e.0 x) ∷ []) [])
         || any_to (is_end k) m.owner.node (monitor_exits p x es)) ≡ true
     go true i h f = let c : e.1 ≡ m = same_Some e.1 m h in
         ap (λ b. b || any_to (is_end k) m.owner.node (monitor_exits p x es)) (first (same_pid e.1.target p) refl
@@ -210,5 +210,5 @@ told_owner p x k m (e ∷ es) h t =
         (same_name_is m.owner.node e.1.owner.node (ap (λ (z : Monitor). z.owner.node) (sym c))))
     go false i h f =
         or_right
-        (any_to (is_end k) m.owner.node (cond (same_pid e.1.target p) (Signal.MonitorExit p e.1.owner e.0 x ∷ []) []))
+        (any_to (is_end k) m.owner.node (cond (same_pid e.1.target p) (to_pid e.1.owner (Signal.MonitorExit p e.1.owner e.0 x) ∷ []) []))
         (any_to (is_end k) m.owner.node (monitor_exits p x es)) (f h)

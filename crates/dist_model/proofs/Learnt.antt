@@ -247,11 +247,11 @@ module _ (Heard : TrunkId → Introduction → Type 0) (X : Work → Type 0)
     shaken : (v : State) → s.state ≡ v → (m : ShakeMsg) → Hears t m → IfGoes (handshake_at v t s m o) X
     shaken v h m f = subst (λ z. IfGoes z X) (sym (handshake_as v t s m o)) (by_rule v h m f)
 
-    module _ (x : Item) (taken : X (take_item x o)) where
+    module _ (x : Item) (taken : X (take_item s.peer x o)) where
       on_up_learns : IfGoes (on_up t s x o) X
       on_up_learns = go (Arrivals.is_good o.node s x)
         where
-          go : (b : Bool) → IfGoes (cond b (Accepts (Answer.Took (kind_of x)) (take_item x o)) (fault Fault.Forged t s o)) X
+          go : (b : Bool) → IfGoes (cond b (Accepts (Answer.Took (kind_of x)) (take_item s.peer x o)) (fault Fault.Forged t s o)) X
           go true = taken
           go false = known_fault Fault.Forged t s o at k
 

@@ -30,7 +30,7 @@ use Rattle.dist_model.specs.Names.{Name, same_name}
 use Rattle.dist_model.specs.Node.{Node, route, payload_to}
 use Rattle.dist_model.specs.NodeEvents.{Arrive, Call, Dial, Local, Lose, NodeEvent, Start, Stop, Sweep, at_node}
 use Rattle.dist_model.specs.Sides.{AwaitsStatus, TrunkSide, is_gone, is_losing, is_over}
-use Rattle.dist_model.specs.Work.{Work, at_work, keep_local, post, post_all, put, report, send_on, spelled}
+use Rattle.dist_model.specs.Work.{Addressed, Work, at_work, keep_local, post, post_all, put, report, send_on, spelled}
 use Rattle.dist_model.specs.declared.report.Effect.{Effect}
 use Rattle.erl_control.specs.declared.signal.Signal.{Signal}
 use Rattle.erl_handshake.specs.Roles.{send_name}
@@ -102,22 +102,22 @@ module _ (n : Node) (e : NodeEvent) where
   within : (o : Work) (m : Node) → introduces m ≡ introduces o.node → m.sides ≡ o.node.sides → X o → X (record o { node = m })
   within o m nm sd k = on o (record o { node = m }) nm sd k.sent k
 
-  posts : (s : Signal) (o : Work) → X o → X (post s o)
-  posts s o k = go (same_name (receiver_of s).node o.node.mint.name)
+  posts : (s : Addressed) (o : Work) → X o → X (post s o)
+  posts s o k = go (same_name s.node o.node.mint.name)
     where
       y : Name
-      y = (receiver_of s).node
+      y = s.node
 
       goes : (r : Option TrunkId) → X (send_on r y (spelled o.node s) o)
       goes None = k
-      goes (Some t) = sends (Some t) y s (has_reason s && payload_to o.node y) o k
+      goes (Some t) = sends (Some t) y s.signal (has_reason s.signal && payload_to o.node y) o k
 
       go : (b : Bool) → X (cond b (keep_local (spelled o.node s) o) (send_on (route o.node y) y (spelled o.node s) o))
       go true = within (report (Effect.Sent None o.node.mint.name (spelled o.node s)) o) ((keep_local (spelled o.node s) o).node) refl refl
-          (sends None o.node.mint.name s (has_reason s && payload_to o.node y) o k)
+          (sends None o.node.mint.name s.signal (has_reason s.signal && payload_to o.node y) o k)
       go false = goes (route o.node y)
 
-  posts_all : (ss : List Signal) (o : Work) → X o → X (post_all ss o)
+  posts_all : (ss : List Addressed) (o : Work) → X o → X (post_all ss o)
   posts_all [] o k = k
   posts_all (s ∷ ss) o k = posts_all ss (post s o) (posts s o k)
 
@@ -226,7 +226,7 @@ module _ (n : Node) (e : NodeEvent) where
       comes v j s f true = tt
       comes None j s f false = tt
       comes (Some i) j s f false = known_learns (HearsOf e) X turned wrote t s (at_work n) f start i
-          (item_keeps X parts i (at_work n) start) (handshake_in i) (learns t i w j)
+          (item_keeps X parts s.peer i (at_work n) start) (handshake_in i) (learns t i w j)
 
       go : (v : Option Item) → e ≡ Arrive t v w → (s : Option TrunkSide) → side_at n t ≡ s → IfGoes (arrive n t s v w) X
       go None j None f = tt
@@ -235,7 +235,7 @@ module _ (n : Node) (e : NodeEvent) where
 
   takes : (l : List Item) → IfGoes (take_local n l) X
   takes [] = tt
-  takes (i ∷ rest) = item_keeps X parts i (at_work (record n { local = rest })) (idle (record n { local = rest }) refl refl)
+  takes (i ∷ rest) = item_keeps X parts n.mint.name i (at_work (record n { local = rest })) (idle (record n { local = rest }) refl refl)
 
   sweeps : (d : Option (TrunkId × TrunkSide)) → any_side is_losing (fm.entries n.sides) ≡ d → IfGoes (sweep_by d (at_work n)) X
   sweeps None h = tt

@@ -7,7 +7,7 @@ use Rattle.dist_model.specs.Items.{Signalled, telling}
 use Rattle.dist_model.specs.Linking.{link, link_by, link_new}
 use Rattle.dist_model.specs.Names.{same_name, same_pid}
 use Rattle.dist_model.specs.Node.{Node, end_of, living, is_stranger, reaches}
-use Rattle.dist_model.specs.Work.{Work, post, post_to, set_end}
+use Rattle.dist_model.specs.Work.{Work, post, post_to, set_end, to_pid}
 use Rattle.erl_control.specs.declared.signal.Signal.{Signal}
 use Rattle.erl_term.specs.declared.term.Pid.{Pid}
 use Rattle.link_core.proofs.Kept.{Kept, activates, deactivates, side_path}
@@ -154,7 +154,7 @@ abbrev pub draw_unlink : ℕ → Work → Work
 draw_unlink j o = record o { node = record (o.node) { mint = record (o.node.mint) { unlink_ids = j } } }
 
 abbrev pub unlink_at : ℕ → Pid → Pid → Work → Work
-unlink_at j p q o = post (Signal.UnlinkId j p q) (set_end p q (End.Pending j) (draw_unlink j o))
+unlink_at j p q o = post (to_pid q (Signal.UnlinkId j p q)) (set_end p q (End.Pending j) (draw_unlink j o))
 
 pub unlinks_as : (x y : Pid) (o : Work) (j : ℕ) → living o.node x ≡ true → end_of o.node x y ≡ End.Active
     → o.node.mint.unlink_ids < j → Moves o (unlink_at j x y o)

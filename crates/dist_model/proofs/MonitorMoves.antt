@@ -29,7 +29,7 @@ use Rattle.dist_model.specs.Monitoring.{register, unregister, unwatch}
 use Rattle.dist_model.specs.Names.{Name, same_pid}
 use Rattle.dist_model.specs.Node.{Ended, Life, Node, is_living_life, living}
 use Rattle.dist_model.specs.Sides.{TrunkSide}
-use Rattle.dist_model.specs.Work.{Work, delivered, draw, post, post_all, put, report, set_end, set_life, spelled}
+use Rattle.dist_model.specs.Work.{Addressed, Work, delivered, draw, post, post_all, put, report, set_end, set_life, spelled}
 use Rattle.dist_model.specs.declared.report.Effect.{Effect}
 use Rattle.erl_control.specs.declared.signal.Signal.{Signal}
 use Rattle.erl_names.specs.declared.trunk.TrunkId.{TrunkId}
@@ -127,7 +127,7 @@ module _ (n : Node) (Tells : Reference → Monitor → Data → Type 0) (Joins :
           inr (inl (lands_more (is_end j) m.owner.node o o' (a.local (is_end j)) (λ t. a.sent (is_end j) t m.owner.node) h))
       go j m (inr (inr h)) = inr (inr h)
 
-  posts_aside : (ss : List Signal) (o : Work) → Aside o (post_all ss o)
+  posts_aside : (ss : List Addressed) (o : Work) → Aside o (post_all ss o)
   posts_aside ss o = record {
     watches = λ k. ap (λ z. fm.get z k) (all_posts_keep (λ m. m.watches) (λ m l. refl) ss o);
     downs = λ k. quietly_downs k o.effects ((post_all ss o).effects) (quietly_all o.effects ss o Nothing);
@@ -274,7 +274,7 @@ module _ (n : Node) (Tells : Reference → Monitor → Data → Type 0) (Joins :
     pub turns : Turns o
     pub sides : o.node.sides ≡ n.sides
 
-  abbrev last_words : Pid → Data → Work → List Signal
+  abbrev last_words : Pid → Data → Work → List Addressed
   last_words p x o =
       exits_in p x (fm.entries o.node.ends) ++ monitor_exits p x (fm.entries o.node.registered) ++ demonitors p (fm.entries o.node.watches)
 
@@ -433,7 +433,7 @@ module _ (n : Node) (Tells : Reference → Monitor → Data → Type 0) (Joins :
     plain = λ s h. tt;
     posted = λ s o h k.
         core_aside o (post s o) (posts_aside (s ∷ []) o)
-        (posts_keep (λ m. m.sides) (λ m l. refl) (receiver_of s).node (spelled o.node s) o) k;
+        (posts_keep (λ m. m.sides) (λ m l. refl) s.node (spelled o.node s) o) k;
     end_set = λ p q e o l k.
         core_aside o (set_end p q e o) (node_aside o ((set_end p q e o).node) refl refl refl (λ z. refl) refl refl refl refl) refl k;
     drew = λ o k. core_aside o (draw kind.UnlinkId o)

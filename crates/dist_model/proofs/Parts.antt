@@ -21,7 +21,7 @@ use Rattle.dist_model.specs.Monitoring.{register, unregister, unwatch}
 use Rattle.dist_model.specs.Names.{Name, same_name, same_pid}
 use Rattle.dist_model.specs.Node.{Life, Node, end_of, is_living_life, living, is_stranger, reaches, traps_life}
 use Rattle.dist_model.specs.Taking.{take_item}
-use Rattle.dist_model.specs.Work.{Work, at_work, draw, post, post_all, put, report, set_end, set_life}
+use Rattle.dist_model.specs.Work.{Addressed, Work, at_work, draw, post, post_all, put, report, set_end, set_life, to_pid}
 use Rattle.dist_model.specs.declared.report.Effect.{Effect}
 use Rattle.erl_control.specs.declared.signal.Signal.{Signal}
 use Rattle.erl_names.specs.Ids.{pid_of}
@@ -50,15 +50,15 @@ is_plain _ = true
 
 -- what may be said, why a process may react to an exit, why a monitor may end, and why a registration may come and go
 pub record Rules : Type 1 where
-  pub Says : Signal → Type 0
+  pub Says : Addressed → Type 0
   pub Reacts : Pid → Pid → Data → Type 0
   pub Tells : Reference → Monitor → Data → Type 0
   pub Joins : Reference → Monitor → Type 0
   pub Drops : Reference → Monitor → Type 0
 
 pub record Closed (rules : Rules) (X : Work → Type 0) : Type 0 where
-  pub plain : (s : Signal) → is_plain s ≡ true → rules.Says s
-  pub posted : (s : Signal) (o : Work) → rules.Says s → X o → X (post s o)
+  pub plain : (s : Addressed) → is_plain s.signal ≡ true → rules.Says s
+  pub posted : (s : Addressed) (o : Work) → rules.Says s → X o → X (post s o)
   pub end_set : (p q : Pid) (e : End) (o : Work) → (living o.node p ≡ true) ⊎ (e ≡ End.None) → X o → X (set_end p q e o)
   pub drew : (o : Work) → X o → X (draw kind.UnlinkId o)
   pub life_set : (p : Pid) (l : Option Life) (o : Work) → is_living_life l ≡ living o.node p → X o
@@ -74,12 +74,12 @@ pub record Closed (rules : Rules) (X : Work → Type 0) : Type 0 where
 
 -- why an item may be taken
 pub record Reasons (rules : Rules) (X : Work → Type 0) (i : Item) (o : Work) : Type 0 where
-  pub gone : (p q : Pid) (pay : Bool) → i ≡ Signalled (Signal.Link q p) pay → living o.node p ≡ false → rules.Says (Signal.Exit p q noproc)
+  pub gone : (p q : Pid) (pay : Bool) → i ≡ Signalled (Signal.Link q p) pay → living o.node p ≡ false → rules.Says (to_pid q (Signal.Exit p q noproc))
   pub acts : (p q : Pid) (x : Data) (pay : Bool) → i ≡ Signalled (Signal.Exit q p x) pay → living o.node p ≡ true
       → end_of o.node p q ≡ End.Active → rules.Reacts p q x
   pub sent : (p : Pid) (m : Data) (pay : Bool) → i ≡ Signalled (Signal.Send p m) pay → X (put p m o)
   pub nobody : (p q : Pid) (r : Reference) (pay : Bool) → i ≡ Signalled (Signal.Monitor p q r) pay → living o.node q ≡ false
-      → rules.Says (Signal.MonitorExit q p r noproc)
+      → rules.Says (to_pid p (Signal.MonitorExit q p r noproc))
   pub joins : (p q : Pid) (r : Reference) (pay : Bool) → i ≡ Signalled (Signal.Monitor p q r) pay → living o.node q ≡ true
       → rules.Joins r (monitor_of p q)
   pub drops : (p q : Pid) (r : Reference) (pay : Bool) → i ≡ Signalled (Signal.Demonitor p q r) pay
@@ -96,11 +96,11 @@ held_is (Some v) p q h =
     λ i. Some (record { owner = x i; target = y i })
 
 module _ (rules : Rules) (X : Work → Type 0) (c : Closed rules X) where
-  abbrev AllSaid : List Signal → Type 0
+  abbrev AllSaid : List Addressed → Type 0
   AllSaid [] = Unit {0}
   AllSaid (s ∷ ss) = rules.Says s × AllSaid ss
 
-  post_all_kept : (ss : List Signal) (o : Work) → AllSaid ss → X o → X (post_all ss o)
+  post_all_kept : (ss : List Addressed) (o : Work) → AllSaid ss → X o → X (post_all ss o)
   post_all_kept [] o h k = k
   post_all_kept (s ∷ ss) o h k = post_all_kept ss (post s o) h.1 (c.posted s o h.0 k)
 
@@ -129,13 +129,13 @@ module _ (rules : Rules) (X : Work → Type 0) (c : Closed rules X) where
   follows_kept _ _ p q o h k = k
 
   replies_said : (g : Bool) (s : LinkNews) (p q : Pid)
-      → (g ≡ true → s ≡ Signals LinkSignal.Link → rules.Says (Signal.Exit p q noproc)) → AllSaid (replies p q (reply g s))
+      → (g ≡ true → s ≡ Signals LinkSignal.Link → rules.Says (to_pid q (Signal.Exit p q noproc))) → AllSaid (replies p q (reply g s))
   replies_said true (Signals LinkSignal.Link) p q h = (h refl refl, tt)
-  replies_said g (Signals (LinkSignal.Unlink i)) p q h = (c.plain (Signal.UnlinkIdAck i p q) refl, tt)
+  replies_said g (Signals (LinkSignal.Unlink i)) p q h = (c.plain (to_pid q (Signal.UnlinkIdAck i p q)) refl, tt)
   replies_said _ _ p q h = tt
 
   take_link_kept : (p q : Pid) (s : LinkNews) (o : Work)
-      → (s ≡ Signals LinkSignal.Link → living o.node p ≡ false → rules.Says (Signal.Exit p q noproc))
+      → (s ≡ Signals LinkSignal.Link → living o.node p ≡ false → rules.Says (to_pid q (Signal.Exit p q noproc)))
       → ((x : Data) → s ≡ Exited x → living o.node p ≡ true → end_of o.node p q ≡ End.Active → rules.Reacts p q x) → X o
       → X (take_link p q s o)
   take_link_kept p q s o gone acts k = go (living o.node p) refl
@@ -152,34 +152,34 @@ module _ (rules : Rules) (X : Work → Type 0) (c : Closed rules X) where
   cond_kept true x y h k = h refl
   cond_kept false x y h k = k refl
 
-  pub item_kept : (i : Item) (o : Work) → Reasons rules X i o → X o → X (take_item i o)
-  item_kept (Signalled (Signal.Link q p) pay) o h k = take_link_kept p q (Signals LinkSignal.Link) o (λ e. h.gone p q pay refl) (λ x e. cc) k
-  item_kept (Signalled (Signal.Exit q p x) pay) o h k =
+  pub item_kept : (y : Name) (i : Item) (o : Work) → Reasons rules X i o → X o → X (take_item y i o)
+  item_kept y (Signalled (Signal.Link q p) pay) o h k = take_link_kept p q (Signals LinkSignal.Link) o (λ e. h.gone p q pay refl) (λ x e. cc) k
+  item_kept y (Signalled (Signal.Exit q p x) pay) o h k =
       take_link_kept p q (Exited x) o (λ e. cc) (λ z e. h.acts p q z pay (ap (λ w. Signalled (Signal.Exit q p (reason_in x w)) pay) e)) k
     where
       reason_in : Data → LinkNews → Data
       reason_in d (Signals s) = d
       reason_in d (Exited z) = z
-  item_kept (Signalled (Signal.UnlinkId i q p) pay) o h k = take_link_kept p q (Signals (LinkSignal.Unlink i)) o (λ e. cc) (λ x e. cc) k
-  item_kept (Signalled (Signal.UnlinkIdAck i q p) pay) o h k = take_link_kept p q (Signals (LinkSignal.Ack i)) o (λ e. cc) (λ x e. cc) k
-  item_kept (Signalled (Signal.Send p m) pay) o h k = cond_kept (living o.node p) _ o (λ l. h.sent p m pay refl) (λ l. k)
-  item_kept (Signalled (Signal.Exit2 q p x) pay) o h k =
+  item_kept y (Signalled (Signal.UnlinkId i q p) pay) o h k = take_link_kept p q (Signals (LinkSignal.Unlink i)) o (λ e. cc) (λ x e. cc) k
+  item_kept y (Signalled (Signal.UnlinkIdAck i q p) pay) o h k = take_link_kept p q (Signals (LinkSignal.Ack i)) o (λ e. cc) (λ x e. cc) k
+  item_kept y (Signalled (Signal.Send p m) pay) o h k = cond_kept (living o.node p) _ o (λ l. h.sent p m pay refl) (λ l. k)
+  item_kept y (Signalled (Signal.Exit2 q p x) pay) o h k =
       cond_kept (living o.node p) _ o (λ l. exit_kept (traps_life (fm.get o.node.lives p)) (sent_exit p q x) p o k) (λ l. k)
-  item_kept (Signalled (Signal.Monitor p q r) pay) o h k =
+  item_kept y (Signalled (Signal.Monitor p q r) pay) o h k =
       cond_kept (living o.node q) _ _ (λ l. c.registers r (monitor_of p q) o l (h.joins p q r pay refl l) k)
-      (λ l. c.posted (Signal.MonitorExit q p r noproc) o (h.nobody p q r pay refl l) k)
-  item_kept (Signalled (Signal.Demonitor p q r) pay) o h k = cond_kept (is_held o.node.registered r (monitor_of p q)) _ o
+      (λ l. c.posted (to_pid p (Signal.MonitorExit q p r noproc)) o (h.nobody p q r pay refl l) k)
+  item_kept y (Signalled (Signal.Demonitor p q r) pay) o h k = cond_kept (is_held o.node.registered r (monitor_of p q)) _ o
       (λ l. let e = held_is (fm.get o.node.registered r) p q l in c.unregisters r (monitor_of p q) o e (h.drops p q r pay refl e) k) (λ l. k)
-  item_kept (Signalled (Signal.MonitorExit q p r x) pay) o h k = cond_kept (living o.node p && is_held o.node.watches r (monitor_of p q)) _ o
+  item_kept y (Signalled (Signal.MonitorExit q p r x) pay) o h k = cond_kept (living o.node p && is_held o.node.watches r (monitor_of p q)) _ o
       (λ l. let e = held_is (fm.get o.node.watches r) p q (and_parts (living o.node p) _ l).1 in
       c.ended r (monitor_of p q) x o e (h.tells p q r x pay refl e) k) (λ l. k)
-  item_kept (Handshake m) o h k = k
-  item_kept Tick o h k = k
+  item_kept y (Handshake m) o h k = k
+  item_kept y Tick o h k = k
 
   -- a call, but for those about monitors
   link_new_kept : (b : Bool) (p q : Pid) (o : Work) → living o.node p ≡ true → (b ≡ false → rules.Reacts p q noconnection) → X o
       → X (link_new b p q o)
-  link_new_kept true p q o l own k = c.posted (Signal.Link p q) (set_end p q End.Active o) (c.plain (Signal.Link p q) refl)
+  link_new_kept true p q o l own k = c.posted (to_pid q (Signal.Link p q)) (set_end p q End.Active o) (c.plain (to_pid q (Signal.Link p q)) refl)
       (c.end_set p q End.Active o (inl l) k)
   link_new_kept false p q o l own k = link_exit_kept p q noconnection (set_end p q End.None o) (own refl) (c.end_set p q End.None o
       (inl l) k)
@@ -191,7 +191,7 @@ module _ (rules : Rules) (X : Work → Type 0) (c : Closed rules X) where
 
   unlink_by_kept : (e : End) (p q : Pid) (o : Work) → living o.node p ≡ true → X o → IfGoes (unlink_by e p q o) X
   unlink_by_kept End.Active p q o l k = if_drawn (id_of o.node.mint kind.UnlinkId) _ X (λ id h.
-      c.posted (Signal.UnlinkId id p q) (set_end p q (End.Pending id) (draw kind.UnlinkId o)) (c.plain (Signal.UnlinkId id p q) refl)
+      c.posted (to_pid q (Signal.UnlinkId id p q)) (set_end p q (End.Pending id) (draw kind.UnlinkId o)) (c.plain (to_pid q (Signal.UnlinkId id p q)) refl)
       (c.end_set p q (End.Pending id) (draw kind.UnlinkId o) (inl l) (c.drew o k)))
   unlink_by_kept _ p q o l k = k
 
@@ -211,7 +211,7 @@ module _ (rules : Rules) (X : Work → Type 0) (c : Closed rules X) where
     call_kept Command.Spawn a s own = if_drawn (id_of n.mint kind.Pid) _ X (λ id h. s id refl h)
     call_kept (Command.Send p q m) a s own =
         acts_kept p q _
-        (λ l. if_cond (fits m) _ Refusal.TooLong X (λ f. c.posted (Signal.Send q m) (at_work n) (c.plain (Signal.Send q m) refl) k))
+        (λ l. if_cond (fits m) _ Refusal.TooLong X (λ f. c.posted (to_pid q (Signal.Send q m)) (at_work n) (c.plain (to_pid q (Signal.Send q m)) refl) k))
     call_kept (Command.Link p q) a s own = acts_kept p q _ (λ l. cond_kept (same_pid p q) (at_work n) _ (λ e. k)
         (λ e. link_by_kept (end_of n p q) p q (at_work n) l (own p q refl l) k))
     call_kept (Command.Unlink p q) a s own = acts_kept p q _ (λ l. unlink_by_kept (end_of n p q) p q (at_work n) l k)
@@ -222,7 +222,7 @@ module _ (rules : Rules) (X : Work → Type 0) (c : Closed rules X) where
         (λ l. c.life_set p (trapping (fm.get n.lives p) b) (at_work n) (living_trapping (fm.get n.lives p) b) k)
     call_kept (Command.ExitTo p q x) a s own =
         acts_kept p q _
-        (λ l. if_cond (fits x) _ Refusal.TooLong X (λ f. c.posted (Signal.Exit2 p q x) (at_work n) (c.plain (Signal.Exit2 p q x) refl) k))
+        (λ l. if_cond (fits x) _ Refusal.TooLong X (λ f. c.posted (to_pid q (Signal.Exit2 p q x)) (at_work n) (c.plain (to_pid q (Signal.Exit2 p q x)) refl) k))
     call_kept (Command.ExitSelf p x) a s own =
         if_cond (living n p) _ Refusal.NoSuchProcess X (λ l. if_cond (fits x) _ Refusal.TooLong X (λ f. c.finished p x (at_work n) k))
     call_kept (Command.Receive p) a s own =

@@ -42,7 +42,7 @@ use Rattle.dist_model.specs.Names.{Name, same_name, same_pid, place_cmp}
 use Rattle.dist_model.specs.Node.{Ended, Life, Living, Node, is_living_life, living, is_stranger, route, side_where}
 use Rattle.dist_model.specs.Runs.{Always, Goes, Runs, new_node, opening}
 use Rattle.dist_model.specs.Sides.{in_state, Accepting, Gone, Parked, State, TrunkSide, is_gone, is_losing, is_parked}
-use Rattle.dist_model.specs.Work.{Work, at_work, delivered, draw, keep_local, post, post_all, post_to, put, send_on, set_life, spelled}
+use Rattle.dist_model.specs.Work.{Addressed, Work, at_work, delivered, draw, keep_local, post, post_all, post_to, put, send_on, set_life, spelled}
 use Rattle.dist_model.specs.World.{Arrive, Call, Dial, Event, Local, Lose, Report, Start, Stepped}
 use Rattle.dist_model.specs.World.{Stop, Sweep, World, came_of, node_name, node_of, set_node, step_at}
 use Rattle.erl_control.specs.declared.signal.Signal.{Signal}
@@ -120,16 +120,16 @@ module _ (n : Node) (l : List Item) where
     grows = grows_on l a.local b.local k.grows g;
   }
 
-  posted : (s : Signal) (o : Work) → X o → X (post s o)
+  posted : (s : Addressed) (o : Work) → X o → X (post s o)
   posted s o = aside o.node ((post s o).node)
-      (post_keeps (λ m. m.up) (λ m l. refl) (receiver_of s).node (spelled o.node s) o)
-      (post_keeps (λ m. m.mint.name) (λ m l. refl) (receiver_of s).node (spelled o.node s) o)
-      (post_keeps (λ m. m.mint.creation) (λ m l. refl) (receiver_of s).node (spelled o.node s) o)
-      (post_keeps (λ m. m.mint.pids) (λ m l. refl) (receiver_of s).node (spelled o.node s) o)
-      (post_keeps (λ m. m.lives) (λ m l. refl) (receiver_of s).node (spelled o.node s) o)
-      (posted_local (receiver_of s).node (spelled o.node s) o)
+      (post_keeps (λ m. m.up) (λ m l. refl) s.node (spelled o.node s) o)
+      (post_keeps (λ m. m.mint.name) (λ m l. refl) s.node (spelled o.node s) o)
+      (post_keeps (λ m. m.mint.creation) (λ m l. refl) s.node (spelled o.node s) o)
+      (post_keeps (λ m. m.mint.pids) (λ m l. refl) s.node (spelled o.node s) o)
+      (post_keeps (λ m. m.lives) (λ m l. refl) s.node (spelled o.node s) o)
+      (posted_local s.node (spelled o.node s) o)
 
-  posted_all : (ss : List Signal) (o : Work) → X o → X (post_all ss o)
+  posted_all : (ss : List Addressed) (o : Work) → X o → X (post_all ss o)
   posted_all [] o k = k
   posted_all (s ∷ ss) o k = posted_all ss (post s o) (posted s o k)
 
@@ -209,7 +209,7 @@ module _ (n : Node) (l : List Item) where
         → IfGoes (arrive_at (handshake_in i) t v i (at_work n)) X
     known_arrived t v i h =
         known_kept (λ u y. Unit {0}) X (λ u s o c r. turned u s o c) (λ u y m o v. wrote u y m o) t v (at_work n) h start i
-        (λ u g. item_keeps X parts i (at_work n) start) (handshake_in i)
+        (λ u g. item_keeps X parts v.peer i (at_work n) start) (handshake_in i)
 
     -- ---- connections
 
@@ -241,7 +241,7 @@ module _ (n : Node) (l : List Item) where
 
   -- the first item of the own list is taken, and l is the rest
   pub own_taken : (i : Item) → IfGoes (take_local n (i ∷ l)) X
-  own_taken i = item_keeps X parts i (at_work (record n { local = l }))
+  own_taken i = item_keeps X parts n.mint.name i (at_work (record n { local = l }))
       (record { up = refl; name = refl; creation = refl; pids = refl; keeps = λ p h. h; dies = λ p h. h; grows = no_more l })
 
 -- no event yet

@@ -14,11 +14,10 @@ use Rattle.dist_model.proofs.Views.{post_keeps, telling_news, news_pay}
 use Rattle.dist_model.proofs.LastSignals.{exits_in, exits_cons}
 use Rattle.dist_model.specs.Exits.{demonitors, exit_for, monitor_exits}
 use Rattle.dist_model.specs.Items.{Item, Signalled, news_in, telling, has_reason}
-use Rattle.erl_control.specs.Ends.{receiver_of}
 use Rattle.dist_model.specs.Names.{Name, pair_cmp, same_name, same_pid}
 use Rattle.dist_model.specs.Node.{Node, end_of, living, is_stranger, route, route_in, side_where, payload_to}
 use Rattle.dist_model.specs.Sides.{TrunkSide, is_losing, is_up}
-use Rattle.dist_model.specs.Work.{Work, keep_local, post, post_all, post_to, send_on, spelled}
+use Rattle.dist_model.specs.Work.{Addressed, Work, keep_local, post, post_all, post_to, send_on, spelled, to_pid}
 use Rattle.dist_model.specs.declared.report.Effect.{Effect}
 use Rattle.erl_control.specs.declared.signal.Signal.{Signal}
 use Rattle.erl_names.specs.Order.{trunk_cmp}
@@ -96,22 +95,22 @@ post_home y x o i h = go (same_name y o.node.mint.name) refl
 home_pay : (f : Pid → Bool) (s : Signal) (u v : Bool) → HomeItem f (Signalled s u) → HomeItem f (Signalled s v)
 home_pay f s u v h a b n = h a b (λ e. n (news_pay a b s v u ∙ e))
 
-abbrev pub PostsHome : Name → (Pid → Bool) → List Signal → Type 0
+abbrev pub PostsHome : Name → (Pid → Bool) → List Addressed → Type 0
 PostsHome z f [] = Unit {0}
-PostsHome z f (e ∷ es) = (same_name (receiver_of e).node z ≡ true → HomeItem f (Signalled e false)) × PostsHome z f es
+PostsHome z f (e ∷ es) = (same_name e.node z ≡ true → HomeItem f (Signalled e.signal false)) × PostsHome z f es
 
-pub post_all_home : (es : List Signal) (o : Work) → PostsHome o.node.mint.name (λ p. is_stranger o.node p) es → home_of o.node
+pub post_all_home : (es : List Addressed) (o : Work) → PostsHome o.node.mint.name (λ p. is_stranger o.node p) es → home_of o.node
     → home_of ((post_all es o).node)
 post_all_home [] o i h = h
 post_all_home (e ∷ es) o i h = post_all_home es (post e o)
     (subst (λ f. PostsHome ((post e o).node.mint.name) f es)
-    (sym (λ j p. post_keeps (λ n. is_stranger n p) (λ n m. refl) (receiver_of e).node (spelled o.node e) o j))
+    (sym (λ j p. post_keeps (λ n. is_stranger n p) (λ n m. refl) e.node (spelled o.node e) o j))
     (subst (λ z. PostsHome z (λ p. is_stranger o.node p) es)
-    (sym (post_keeps (λ n. n.mint.name) (λ n m. refl) (receiver_of e).node (spelled o.node e) o)) i.1))
-    (post_home (receiver_of e).node (spelled o.node e) o
-    (λ j. home_pay (λ p. is_stranger o.node p) e false (has_reason e && payload_to o.node (receiver_of e).node) (i.0 j)) h)
+    (sym (post_keeps (λ n. n.mint.name) (λ n m. refl) e.node (spelled o.node e) o)) i.1))
+    (post_home e.node (spelled o.node e) o
+    (λ j. home_pay (λ p. is_stranger o.node p) e.signal false (has_reason e.signal && payload_to o.node e.node) (i.0 j)) h)
 
-pub PostsHome-append : (z : Name) (f : Pid → Bool) (xs ys : List Signal) → PostsHome z f xs → PostsHome z f ys → PostsHome z f (xs ++ ys)
+pub PostsHome-append : (z : Name) (f : Pid → Bool) (xs ys : List Addressed) → PostsHome z f xs → PostsHome z f ys → PostsHome z f (xs ++ ys)
 PostsHome-append z f [] ys a b = b
 PostsHome-append z f (x ∷ xs) ys a b = (a.0, PostsHome-append z f xs ys a.1 b)
 
@@ -145,14 +144,14 @@ pub downs_home : (z : Name) (f : Pid → Bool) (p : Pid) (r : Data) (es : List (
 downs_home z f p r [] = tt
 downs_home z f p r (e ∷ es) =
     elim (same_pid e.1.target p) as
-    (λ b. PostsHome z f (cond b (Signal.MonitorExit p e.1.owner e.0 r ∷ []) [] ++ monitor_exits p r es))
+    (λ b. PostsHome z f (cond b (to_pid e.1.owner (Signal.MonitorExit p e.1.owner e.0 r) ∷ []) [] ++ monitor_exits p r es))
     [ true ↦ (λ h a b n. absurd (n refl), downs_home z f p r es) | false ↦ downs_home z f p r es ]
 
 pub unwatches_home : (z : Name) (f : Pid → Bool) (p : Pid) (es : List (Reference × Monitor)) → PostsHome z f (demonitors p es)
 unwatches_home z f p [] = tt
 unwatches_home z f p (e ∷ es) =
     elim (same_pid e.1.owner p) as
-    (λ b. PostsHome z f (cond b (Signal.Demonitor p e.1.target e.0 ∷ []) [] ++ demonitors p es))
+    (λ b. PostsHome z f (cond b (to_pid e.1.target (Signal.Demonitor p e.1.target e.0) ∷ []) [] ++ demonitors p es))
     [ true ↦ (λ h a b n. absurd (n refl), unwatches_home z f p es) | false ↦ unwatches_home z f p es ]
 
 -- each envelope is on the trunk that is up
@@ -186,7 +185,7 @@ post_routed y x o a = go (same_name y o.node.mint.name)
     go true = silent_routed o.node.sides o.effects (Effect.Sent None o.node.mint.name x) refl a
     go false = send_routed (route o.node y) y x o refl a
 
-pub post_all_routed : (es : List Signal) (o : Work) → AllRouted o.node.sides (outgoing o)
+pub post_all_routed : (es : List Addressed) (o : Work) → AllRouted o.node.sides (outgoing o)
     → AllRouted ((post_all es o).node.sides) (outgoing (post_all es o))
 post_all_routed [] o a = a
-post_all_routed (e ∷ es) o a = post_all_routed es (post e o) (post_routed (receiver_of e).node (spelled o.node e) o a)
+post_all_routed (e ∷ es) o a = post_all_routed es (post e o) (post_routed e.node (spelled o.node e) o a)

@@ -2,6 +2,7 @@
 use Rattle.std.proofs.Common.{cond, map, Bool, false, List, [], Option, None, ◌||◌}
 use Rattle.std.specs.Option.{is_some, unwrap_or}
 use Rattle.std.specs.FinMap as fm
+use Rattle.dist_model.specs.Linking.{told_to}
 use Rattle.dist_model.specs.Items.{Item, news, telling}
 use Rattle.dist_model.specs.Losses.{close_side}
 use Rattle.dist_model.specs.Names.{Name}
@@ -9,7 +10,7 @@ use Rattle.dist_model.specs.Node.{Node, end_of, living, reaches, side_where}
 use Rattle.dist_model.specs.Runs.{new_node}
 use Rattle.dist_model.specs.Seen.{seen}
 use Rattle.dist_model.specs.Sides.{TrunkSide, is_losing, is_up}
-use Rattle.dist_model.specs.Work.{Work}
+use Rattle.dist_model.specs.Work.{Addressed, Work}
 use Rattle.erl_control.specs.declared.signal.Signal.{Signal}
 use Rattle.erl_names.specs.declared.trunk.TrunkId.{TrunkId}
 use Rattle.erl_term.specs.declared.term.Pid.{Pid}
@@ -44,8 +45,8 @@ reached_at o name = seen o false (λ node. reaches node name)
 abbrev pub sides_at : Option Node → List (TrunkId × TrunkSide)
 sides_at o = seen o [] (λ node. fm.entries node.sides)
 
-abbrev pub replies : Pid → Pid → List LinkNews → List Signal
-replies p q news = map (telling p q) news
+abbrev pub replies : Pid → Pid → List LinkNews → List Addressed
+replies p q news = map (told_to p q) news
 
 abbrev pub new_nodes : List (Name × Setup) → List Node
 new_nodes cs = map (λ (c : Name × Setup). new_node c.0 c.1) cs

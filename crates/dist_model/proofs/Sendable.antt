@@ -42,7 +42,7 @@ use Rattle.dist_model.specs.Node.{Node, end_of, living, is_stranger, reaches, si
 use Rattle.dist_model.specs.Runs.{Always, opening}
 use Rattle.dist_model.specs.Sides.{AwaitsStatus, is_gone, is_losing, TrunkSide, Accepting, Gone}
 use Rattle.dist_model.specs.Taking.{take_item}
-use Rattle.dist_model.specs.Work.{Work, at_work, draw, post, post_all, put, report, set_end, spelled}
+use Rattle.dist_model.specs.Work.{Addressed, Work, at_work, draw, post, post_all, put, report, set_end, spelled, to_pid}
 use Rattle.dist_model.specs.declared.report.Effect.{Effect}
 use Rattle.dist_model.specs.World.{Arrive, Call, Dial, Event, Local, Lose, Start, Stop, Sweep}
 use Rattle.dist_model.specs.World.{World, came_of, list_to, node_name, node_of, set_node, step_at}
@@ -74,10 +74,10 @@ abbrev pub Sendable : Item → Type 0
 Sendable (Signalled s pay) = IsSendable s
 Sendable _ = Unit {0}
 
-abbrev One : Signal → Type 0
-One s = Sendable (Signalled s false)
+abbrev One : Addressed → Type 0
+One s = Sendable (Signalled s.signal false)
 
-abbrev AllSendable : List Signal → Type 0
+abbrev AllSendable : List Addressed → Type 0
 AllSendable ss = All One ss
 
 -- ---- the reasons that nodes give themselves
@@ -109,8 +109,8 @@ drawn_id m id h = go (nat_lt m.unlink_ids (last kind.UnlinkId)) refl h
 abbrev X : Work → Type 0
 X = Carried Sendable
 
-posted : (s : Signal) (o : Work) → IsSendable s → X o → X (post s o)
-posted s o h k = carried_post Sendable (receiver_of s).node (spelled o.node s) o h k
+posted : (s : Addressed) (o : Work) → IsSendable s.signal → X o → X (post s o)
+posted s o h k = carried_post Sendable s.node (spelled o.node s) o h k
 
 -- nothing is sent on a trunk
 same : (o o' : Work) → o'.node.local ≡ o.node.local → outgoing o' ≡ outgoing o → X o → X o'
@@ -127,7 +127,7 @@ either true o p h k = h
 either false o p h k = k
 
 -- one that ends
-one_or_none : (b : Bool) (s : Signal) → IsSendable s → AllSendable (cond b (s ∷ []) [])
+one_or_none : (b : Bool) (s : Addressed) → IsSendable s.signal → AllSendable (cond b (s ∷ []) [])
 one_or_none true s h = All-cons One s [] h (All-nil One)
 one_or_none false s h = All-nil One
 
@@ -136,19 +136,19 @@ exits_sendable p x [] f = All-nil One
 exits_sendable p x (e ∷ es) f = All-append One (exit_for p x e.0 e.1) (exits p x es) (go e.1) (exits_sendable p x es f)
   where
     go : (d : End) → AllSendable (exit_for p x e.0 d)
-    go End.Active = one_or_none true (Signal.Exit p e.0 x) (tt, f)
+    go End.Active = one_or_none true (to_pid e.0 (Signal.Exit p e.0 x)) (tt, f)
     go _ = All-nil One
 
 monitor_exits_sendable : (p : Pid) (x : Data) (es : List (Reference × Monitor)) → Fits x → AllSendable (monitor_exits p x es)
 monitor_exits_sendable p x [] f = All-nil One
-monitor_exits_sendable p x (e ∷ es) f = All-append One (cond (same_pid e.1.target p) (Signal.MonitorExit p e.1.owner e.0 x ∷ []) [])
+monitor_exits_sendable p x (e ∷ es) f = All-append One (cond (same_pid e.1.target p) (to_pid e.1.owner (Signal.MonitorExit p e.1.owner e.0 x) ∷ []) [])
     (monitor_exits p x es)
-    (one_or_none (same_pid e.1.target p) (Signal.MonitorExit p e.1.owner e.0 x) (tt, f)) (monitor_exits_sendable p x es f)
+    (one_or_none (same_pid e.1.target p) (to_pid e.1.owner (Signal.MonitorExit p e.1.owner e.0 x)) (tt, f)) (monitor_exits_sendable p x es f)
 
 demonitors_sendable : (p : Pid) (es : List (Reference × Monitor)) → AllSendable (demonitors p es)
 demonitors_sendable p [] = All-nil One
-demonitors_sendable p (e ∷ es) = All-append One (cond (same_pid e.1.owner p) (Signal.Demonitor p e.1.target e.0 ∷ []) []) (demonitors p es)
-    (one_or_none (same_pid e.1.owner p) (Signal.Demonitor p e.1.target e.0) (tt, tt)) (demonitors_sendable p es)
+demonitors_sendable p (e ∷ es) = All-append One (cond (same_pid e.1.owner p) (to_pid e.1.target (Signal.Demonitor p e.1.target e.0) ∷ []) []) (demonitors p es)
+    (one_or_none (same_pid e.1.owner p) (to_pid e.1.target (Signal.Demonitor p e.1.target e.0)) (tt, tt)) (demonitors_sendable p es)
 
 finished : (p : Pid) (x : Data) (o : Work) → Fits x → X o → X (end_process p x o)
 finished p x o f k =
@@ -180,8 +180,8 @@ link_exited p q x o f k = reacted (traps_life (fm.get o.node.lives p)) (linked_e
 -- ---- an item is taken
 
 replied : (gone : Bool) (p q : Pid) (s : LinkNews) → IsSendable (telling q p s) → AllSendable (replies p q (reply gone s))
-replied true p q (Signals LinkSignal.Link) h = one_or_none true (Signal.Exit p q noproc) (tt, noproc_fits)
-replied gone p q (Signals (LinkSignal.Unlink i)) h = one_or_none true (Signal.UnlinkIdAck i p q) h
+replied true p q (Signals LinkSignal.Link) h = one_or_none true (to_pid q (Signal.Exit p q noproc)) (tt, noproc_fits)
+replied gone p q (Signals (LinkSignal.Unlink i)) h = one_or_none true (to_pid q (Signal.UnlinkIdAck i p q)) h
 replied _ p q _ h = All-nil One
 
 followed : (e : End) (s : LinkNews) (p q : Pid) (o : Work) → IsSendable (telling q p s) → X o → X (exit_follows e s p q o)
@@ -199,27 +199,27 @@ link_taken p q s o h k = go (living o.node p)
         (carried_all Sendable (λ s pay c. c) (replies p q (reply false s)) o1 (replied false p q s h) (same o o1 refl refl k))
     go false = carried_all Sendable (λ s pay c. c) (replies p q (reply true s)) o (replied true p q s h) k
 
-taken : (i : Item) (o : Work) → Sendable i → X o → X (take_item i o)
-taken (Signalled (Signal.Link q p) pay) o h k = link_taken p q (Signals LinkSignal.Link) o h k
-taken (Signalled (Signal.Exit q p x) pay) o h k = link_taken p q (Exited x) o h k
-taken (Signalled (Signal.UnlinkId i q p) pay) o h k = link_taken p q (Signals (LinkSignal.Unlink i)) o h k
-taken (Signalled (Signal.UnlinkIdAck i q p) pay) o h k = link_taken p q (Signals (LinkSignal.Ack i)) o h k
-taken (Signalled (Signal.Send p m) pay) o h k = either (living o.node p) (put p m o) o
+taken : (y : Name) (i : Item) (o : Work) → Sendable i → X o → X (take_item y i o)
+taken y (Signalled (Signal.Link q p) pay) o h k = link_taken p q (Signals LinkSignal.Link) o h k
+taken y (Signalled (Signal.Exit q p x) pay) o h k = link_taken p q (Exited x) o h k
+taken y (Signalled (Signal.UnlinkId i q p) pay) o h k = link_taken p q (Signals (LinkSignal.Unlink i)) o h k
+taken y (Signalled (Signal.UnlinkIdAck i q p) pay) o h k = link_taken p q (Signals (LinkSignal.Ack i)) o h k
+taken y (Signalled (Signal.Send p m) pay) o h k = either (living o.node p) (put p m o) o
     (silent o (put p m o) (Effect.Put p m) refl refl refl k) k
-taken (Signalled (Signal.Exit2 q p x) pay) o h k = either (living o.node p) _ o
+taken y (Signalled (Signal.Exit2 q p x) pay) o h k = either (living o.node p) _ o
     (reacted (traps_life (fm.get o.node.lives p)) (sent_exit p q x) p o h.1 k) k
-taken (Signalled (Signal.Monitor p q r) pay) o h k = either (living o.node q) _ _ (same o (register r (monitor_of p q) o) refl refl k)
-    (posted (Signal.MonitorExit q p r noproc) o (tt, noproc_fits) k)
-taken (Signalled (Signal.Demonitor p q r) pay) o h k = either (is_held o.node.registered r (monitor_of p q)) (unregister r o) o
+taken y (Signalled (Signal.Monitor p q r) pay) o h k = either (living o.node q) _ _ (same o (register r (monitor_of p q) o) refl refl k)
+    (posted (to_pid p (Signal.MonitorExit q p r noproc)) o (tt, noproc_fits) k)
+taken y (Signalled (Signal.Demonitor p q r) pay) o h k = either (is_held o.node.registered r (monitor_of p q)) (unregister r o) o
     (same o (unregister r o) refl refl k) k
-taken (Signalled (Signal.MonitorExit q p r x) pay) o h k = either (living o.node p && is_held o.node.watches r (monitor_of p q)) _ o
+taken y (Signalled (Signal.MonitorExit q p r x) pay) o h k = either (living o.node p && is_held o.node.watches r (monitor_of p q)) _ o
     (silent o (put p (down_term r q x) (unwatch r o)) (Effect.Put p (down_term r q x)) refl refl refl k) k
-taken _ o h k = k
+taken y _ o h k = k
 
 -- ---- a call
 
 linked_new : (b : Bool) (p q : Pid) (o : Work) → X o → X (link_new b p q o)
-linked_new true p q o k = posted (Signal.Link p q) (set_end p q End.Active o) (tt, tt) (same o (set_end p q End.Active o) refl refl k)
+linked_new true p q o k = posted (to_pid q (Signal.Link p q)) (set_end p q End.Active o) (tt, tt) (same o (set_end p q End.Active o) refl refl k)
 linked_new false p q o k = link_exited p q noconnection (set_end p q End.None o) noconnection_fits
     (same o (set_end p q End.None o) refl refl k)
 
@@ -229,14 +229,14 @@ linked_by _ p q o k = linked_new (reaches o.node q.node) p q o k
 
 unlinked_by : (e : End) (p q : Pid) (o : Work) → X o → IfGoes (unlink_by e p q o) X
 unlinked_by End.Active p q o k = if_drawn (id_of o.node.mint kind.UnlinkId) _ X (λ id h.
-    let o1 = set_end p q (End.Pending id) (draw kind.UnlinkId o) in posted (Signal.UnlinkId id p q) o1 (drawn_id o.node.mint id h, tt)
+    let o1 = set_end p q (End.Pending id) (draw kind.UnlinkId o) in posted (to_pid q (Signal.UnlinkId id p q)) o1 (drawn_id o.node.mint id h, tt)
     (same o o1 refl refl k))
 unlinked_by _ p q o k = k
 
 demonitored : (v : Option Monitor) (p : Pid) (r : Reference) (o : Work) → X o → IfGoes (demonitor_by v p r o) X
 demonitored None p r o k = tt
 demonitored (Some v) p r o k = if_cond (same_pid v.owner p) _ Refusal.NotTheOwner X
-    (λ e. posted (Signal.Demonitor p v.target r) (unwatch r o) (tt, tt) (same o (unwatch r o) refl refl k))
+    (λ e. posted (to_pid v.target (Signal.Demonitor p v.target r)) (unwatch r o) (tt, tt) (same o (unwatch r o) refl refl k))
 
 module _ (n : Node) (k : X (at_work n)) where
   acted : (p q : Pid) (o : Outcome) → IfGoes o X → IfGoes (acting n p (toward n q o)) X
@@ -251,19 +251,19 @@ module _ (n : Node) (k : X (at_work n)) where
 
   called : (c : Command) → IfGoes (call n c) X
   called Command.Spawn = if_drawn (id_of n.mint kind.Pid) _ X (λ id h. record { local = k.local; sent = k.sent })
-  called (Command.Send p q m) = acted p q _ (fitted m _ (λ f. posted (Signal.Send q m) (at_work n) (tt, f) k))
+  called (Command.Send p q m) = acted p q _ (fitted m _ (λ f. posted (to_pid q (Signal.Send q m)) (at_work n) (tt, f) k))
   called (Command.Link p q) = acted p q _ (either (same_pid p q) (at_work n) _ k (linked_by (end_of n p q) p q (at_work n) k))
   called (Command.Unlink p q) = acted p q _ (unlinked_by (end_of n p q) p q (at_work n) k)
   called (Command.Monitor p q) = acted p q _ (if_drawn (id_of n.mint kind.Reference) _ X (λ id h.
       let r = reference_of n.mint id in
       let o1 = draw kind.Reference (at_work n) in
       either (reaches n q.node) _ (put p (down_term r q noconnection) o1)
-      (posted (Signal.Monitor p q r) (watch r (monitor_of p q) o1) (tt, tt)
+      (posted (to_pid q (Signal.Monitor p q r)) (watch r (monitor_of p q) o1) (tt, tt)
       (same (at_work n) (watch r (monitor_of p q) o1) refl refl k))
       (same (at_work n) (put p (down_term r q noconnection) o1) refl refl k)))
   called (Command.Demonitor p r) = by_living p _ (demonitored (fm.get n.watches r) p r (at_work n) k)
   called (Command.Trap p b) = by_living p _ (record { local = k.local; sent = k.sent })
-  called (Command.ExitTo p q x) = acted p q _ (fitted x _ (λ f. posted (Signal.Exit2 p q x) (at_work n) (tt, f) k))
+  called (Command.ExitTo p q x) = acted p q _ (fitted x _ (λ f. posted (to_pid q (Signal.Exit2 p q x)) (at_work n) (tt, f) k))
   called (Command.ExitSelf p x) = by_living p _ (fitted x _ (λ f. finished p x (at_work n) f k))
   called (Command.Receive p) = by_living p _ (record { local = k.local; sent = k.sent })
   called (Command.LinksOf p) = by_living p _ k
@@ -370,14 +370,14 @@ module _ (w : World) (x : Name) (g : Travels w) where
         (λ i rest v first at over. ends (fm.insert w.lists (t, x) rest) (arrive_at (handshake_in i) t v i (at_work n))
         (popped_lists Sendable w.lists t x i rest first g.lists)
         (known_kept (λ u y. Unit {0}) X (λ u s o c r. side u s o c) (λ u y m o v. wrote u y m o) t v (at_work n) at (begins n k) i
-        (λ u h. taken i (at_work n) (All-head Sendable i rest (subst (λ l. All Sendable l) first (g.lists t x))) (begins n k))
+        (λ u h. taken v.peer i (at_work n) (All-head Sendable i rest (subst (λ l. All Sendable l) first (g.lists t x))) (begins n k))
         (handshake_in i)))
 
     local_taken : (l : List Item) → n.local ≡ l → Travels ((came_of w x w.lists (take_local n l)).world)
     local_taken [] e = g
     local_taken (i ∷ xs) e =
         let h : All Sendable (i ∷ xs) = subst (λ l. All Sendable l) e k in
-        ends w.lists (take_local n (i ∷ xs)) g.lists (taken i (at_work (record n { local = xs })) (All-head Sendable i xs h)
+        ends w.lists (take_local n (i ∷ xs)) g.lists (taken n.mint.name i (at_work (record n { local = xs })) (All-head Sendable i xs h)
         (begins (record n { local = xs }) (All-tail Sendable i xs h)))
 
 travels_at : (w : World) (o : Option Node) (e : Event) → node_of w.nodes (node_name e) ≡ o → Travels w → Travels ((step_at w o e).world)

@@ -201,14 +201,14 @@ module _ (n : Node) (Proven : TrunkId → Name → Type 0) (May : TrunkId → Na
       by_rule (Accepting u) e m k = on_reply u e m k
       by_rule _ e m k = bad (Fault.Shake ShakeFault.BadMessage)
 
-      taken : (i : Item) → X (take_item i (at_work n))
-      taken i = let k = sent_item n i (at_work n) (sent_start n) in
-          unmoved n Proven May Now old (take_item i (at_work n)) (λ u. ap (λ z. fm.get z u) k.sides) k.words
+      taken : (i : Item) → X (take_item v.peer i (at_work n))
+      taken i = let k = sent_item n v.peer i (at_work n) (sent_start n) in
+          unmoved n Proven May Now old (take_item v.peer i (at_work n)) (λ u. ap (λ z. fm.get z u) k.sides) k.words
 
       by_signal : (a : State) (i : Item) → IfGoes (signal_at a t v i (at_work n)) X
       by_signal Up i = go (is_good n v i)
         where
-          go : (b : Bool) → IfGoes (cond b (Accepts (Answer.Took (kind_of i)) (take_item i (at_work n))) (fault Fault.Forged t v (at_work n))) X
+          go : (b : Bool) → IfGoes (cond b (Accepts (Answer.Took (kind_of i)) (take_item v.peer i (at_work n))) (fault Fault.Forged t v (at_work n))) X
           go true = taken i
           go false = bad Fault.Forged
       by_signal _ i = bad (Fault.Shake ShakeFault.BadMessage)

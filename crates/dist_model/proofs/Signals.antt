@@ -95,28 +95,28 @@ module _ (w : World) (x : Name) (n : Node) (t0 : TrunkId) (s0 : TrunkSide) (i : 
       own_of a b p q hp hq (inl e) = ap (λ (v : Pid). same_name v.node n.mint.name) e.1 ∙ hq
       own_of a b p q hp hq (inr e) = ap (λ (v : Pid). same_name v.node n.mint.name) e.1 ∙ hp
 
-  after_plain : (j : Item) → ((p q : Pid) → news_in p q j ≡ []) → After n (take_item j (at_work n))
+  after_plain : (j : Item) → ((p q : Pid) → news_in p q j ≡ []) → After n (take_item s0.peer j (at_work n))
   after_plain j none =
-      let f = takes_other j (at_work n) none in
+      let f = takes_other s0.peer j (at_work n) none in
       record {
         sides = f.sides;
         dialed = f.dialed;
         name = f.name;
         routed = f.routed tt;
         local = f.home kn hk.local;
-        pairs = home_moves (at_work n) (take_item j (at_work n)) f kn hk.pairs;
+        pairs = home_moves (at_work n) (take_item s0.peer j (at_work n)) f kn hk.pairs;
       }
 
-  after : After n (take_item i (at_work n))
+  after : After n (take_item s0.peer i (at_work n))
   after = go (kind i)
     where
       go : ((p q : Pid) → news_in p q i ≡ [])
           ⊎ ((q : Pid) × (p : Pid) × (s : LinkNews) × (pay : Bool) × (i ≡ Signalled (telling q p s) pay))
-          → After n (take_item i (at_work n))
+          → After n (take_item s0.peer i (at_work n))
       go (inl h) = after_plain i h
       go (inr h) =
-          subst (λ z. After n (take_item z (at_work n))) (sym h.4) (subst (λ z. After n z)
-          (sym (taken_link h.0 h.1 h.2 (at_work n)))
+          subst (λ z. After n (take_item s0.peer z (at_work n))) (sym h.4) (subst (λ z. After n z)
+          (sym (taken_link s0.peer h.0 h.1 h.2 (at_work n)))
           (after_link h.0 h.1 h.2 (sym (good_link n s0 h.0 h.1 h.2 h.3) ∙ sym (ap (is_good n s0) h.4) ∙ good)))
 
   some_first : (o : Option (List Item)) → list_in o ≡ i ∷ rest → is_some o ≡ true
@@ -126,11 +126,11 @@ module _ (w : World) (x : Name) (n : Node) (t0 : TrunkId) (s0 : TrunkSide) (i : 
   -- Arrive on a side that is up
   pub good_arrive : Good (record {
     names = w.names;
-    nodes = set_node w.nodes x ((take_item i (at_work n)).node);
-    lists = carried (fm.insert w.lists (t0, x) rest) ((take_item i (at_work n)).effects);
+    nodes = set_node w.nodes x ((take_item s0.peer i (at_work n)).node);
+    lists = carried (fm.insert w.lists (t0, x) rest) ((take_item s0.peer i (at_work n)).effects);
   })
   good_arrive =
-      let o = take_item i (at_work n) in
+      let o = take_item s0.peer i (at_work n) in
       let m1 = fm.insert w.lists (t0, x) rest in
       good_changed w x n o.node (carried m1 o.effects) hx g after.sides (omega (arith, after.dialed)) after.name
       (good_item w x n t0 s0 rest hx h0 u0 g.core i first good) after.local after.pairs
@@ -160,7 +160,7 @@ module _ (w : World) (x : Name) (n : Node) (i : Item) (xs : List Item) (hx : nod
   n1 = record n { local = xs }
 
   abbrev o1 : Work
-  o1 = take_item i (at_work (record n { local = xs }))
+  o1 = take_item n.mint.name i (at_work (record n { local = xs }))
 
   kl : NodeKept n1
   kl = without_local n xs (g.core.nodes x n hx)
@@ -212,8 +212,8 @@ module _ (w : World) (x : Name) (n : Node) (i : Item) (xs : List Item) (hx : nod
 abbrev after_local : (w : World) (x : Name) (n : Node) (xs : List Item) → Item → World
 after_local w x n xs i = record {
   names = w.names;
-  nodes = set_node w.nodes x ((take_item i (at_work (record n { local = xs }))).node);
-  lists = carried w.lists ((take_item i (at_work (record n { local = xs }))).effects);
+  nodes = set_node w.nodes x ((take_item n.mint.name i (at_work (record n { local = xs }))).node);
+  lists = carried w.lists ((take_item n.mint.name i (at_work (record n { local = xs }))).effects);
 }
 
 pub good_local : (w : World) (x : Name) (n : Node) (i : Item) (xs : List Item) → node_of w.nodes x ≡ Some n → Good w
@@ -222,7 +222,7 @@ good_local w x n i xs hx g first = go (kind i) (subst (λ l. Homely (λ p. is_st
   where
     plain : (j : Item) → n.local ≡ j ∷ xs → ((p q : Pid) → news_in p q j ≡ []) → Good (after_local w x n xs j)
     plain j e none =
-        let f = takes_other j (at_work (record n { local = xs })) none in
+        let f = takes_other n.mint.name j (at_work (record n { local = xs })) none in
         let k1 = kl w x n j xs hx g e in
         good_local_by w x n j xs hx g e
         (local_core w x n j xs hx g e f.sides f.name (f.keeps k1) f.grows f.draws (f.routed tt) (λ p q b c far r k. f.views k1 b p q c r k))
@@ -231,9 +231,9 @@ good_local w x n i xs hx g first = go (kind i) (subst (λ l. Homely (λ p. is_st
     linking : (q0 p0 : Pid) (s : LinkNews) (pay : Bool) → n.local ≡ Signalled (telling q0 p0 s) pay ∷ xs → is_stranger n q0 ≡ false
         → is_stranger n p0 ≡ false → same_pid q0 p0 ≡ false → Good (after_local w x n xs (Signalled (telling q0 p0 s) pay))
     linking q0 p0 s pay e hq hp two =
-        let f : Takes p0 q0 s (at_work (record n { local = xs })) (take (telling q0 p0 s) (at_work (record n { local = xs }))) =
+        let f : Takes p0 q0 s (at_work (record n { local = xs })) (take n.mint.name (telling q0 p0 s) (at_work (record n { local = xs }))) =
         subst (λ z. Takes p0 q0 s (at_work (record n { local = xs })) z)
-        (sym (taken_link q0 p0 s (at_work (record n { local = xs }))))
+        (sym (taken_link n.mint.name q0 p0 s (at_work (record n { local = xs }))))
         (takes_link p0 q0 s (at_work (record n { local = xs })) (λ z. (hq, same_pid_sym q0 p0 two)) hp) in
         let k1 = kl w x n (Signalled (telling q0 p0 s) pay) xs hx g e in
         let own : same_name q0.node n.mint.name ≡ true = never_own n q0 hq in

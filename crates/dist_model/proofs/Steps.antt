@@ -214,9 +214,9 @@ not_never n p h = go (is_stranger n p) (and_parts (same_name p.node n.mint.name)
     go false h = refl
 
 -- who takes it
-pub taken_link : (q p : Pid) (s : LinkNews) (o : Work) → take (telling q p s) o ≡ take_link p q s o
-taken_link q p (Signals LinkSignal.Link) o = refl
-taken_link q p _ o = refl
+pub taken_link : (y : Name) (q p : Pid) (s : LinkNews) (o : Work) → take y (telling q p s) o ≡ take_link p q s o
+taken_link y q p (Signals LinkSignal.Link) o = refl
+taken_link y q p _ o = refl
 
 pub good_link : (n : Node) (v : TrunkSide) (q p : Pid) (s : LinkNews) (pay : Bool)
     → is_good n v (Signalled (telling q p s) pay) ≡ (is_from v q && is_to n p)
@@ -237,13 +237,13 @@ module _ (w : World) (x : Name) (n : Node) (t0 : TrunkId) (s0 : TrunkSide) (rest
   plain : (i : Item) → list_to w.lists t0 x ≡ i ∷ rest → ((p q : Pid) → news_in p q i ≡ [])
       → WorldKept (record {
         names = w.names;
-        nodes = set_node w.nodes x ((take_item i (at_work n)).node);
-        lists = carried (fm.insert w.lists (t0, x) rest) ((take_item i (at_work n)).effects);
+        nodes = set_node w.nodes x ((take_item s0.peer i (at_work n)).node);
+        lists = carried (fm.insert w.lists (t0, x) rest) ((take_item s0.peer i (at_work n)).effects);
       })
   plain i first none =
-      let f = takes_other i (at_work n) none in
+      let f = takes_other s0.peer i (at_work n) none in
       let kn = k.nodes x n hx in
-      arrived w x n t0 s0 i rest (take_item i (at_work n)) hx h0 u0 first k f.sides f.name (f.keeps kn) f.grows f.draws (f.routed tt)
+      arrived w x n t0 s0 i rest (take_item s0.peer i (at_work n)) hx h0 u0 first k f.sides f.name (f.keeps kn) f.grows f.draws (f.routed tt)
       (λ p q b c e r. f.views kn b p q c r)
       (λ p q b c s l e r. let z : s ∷ [] ≡ [] = sym e ∙ none q p in cc)
       (λ p q. inl (none q p))
@@ -309,8 +309,8 @@ module _ (w : World) (x : Name) (n : Node) (t0 : TrunkId) (s0 : TrunkSide) (rest
   taken i =
       WorldKept (record {
         names = w.names;
-        nodes = set_node w.nodes x ((take_item i (at_work n)).node);
-        lists = carried (fm.insert w.lists (t0, x) rest) ((take_item i (at_work n)).effects);
+        nodes = set_node w.nodes x ((take_item s0.peer i (at_work n)).node);
+        lists = carried (fm.insert w.lists (t0, x) rest) ((take_item s0.peer i (at_work n)).effects);
       })
 
   -- an item that passes the checks
@@ -325,6 +325,6 @@ module _ (w : World) (x : Name) (n : Node) (t0 : TrunkId) (s0 : TrunkSide) (rest
             names = w.names;
             nodes = set_node w.nodes x z.node;
             lists = carried (fm.insert w.lists (t0, x) rest) z.effects;
-          })) (sym (taken_link h.0 h.1 h.2 (at_work n)))
+          })) (sym (taken_link s0.peer h.0 h.1 h.2 (at_work n)))
           (linking h.0 h.1 h.2 h.3 (first ∙ ap (λ z. z ∷ rest) h.4)
           (sym (good_link n s0 h.0 h.1 h.2 h.3) ∙ sym (ap (is_good n s0) h.4) ∙ good)))

@@ -5,11 +5,10 @@ use Rattle.dist_model.proofs.Keys.{end_set_same}
 use Rattle.dist_model.proofs.Views.{post_keeps}
 use Rattle.dist_model.specs.Commands.{Accepts, with_id, Accepts, Refuses}
 use Rattle.dist_model.specs.declared.report.Answer.{Answer}
-use Rattle.erl_control.specs.Ends.{receiver_of}
 use Rattle.dist_model.specs.Linking.{link_by, link_new, unlink_as, unlink_by}
 use Rattle.dist_model.specs.Node.{Node, end_of, reaches}
 use Rattle.dist_model.specs.Tabled.{links_by_table, unlinks_by_table}
-use Rattle.dist_model.specs.Work.{Work, at_work, draw, post, set_end, spelled}
+use Rattle.dist_model.specs.Work.{Addressed, Work, at_work, draw, post, set_end, spelled, to_pid}
 use Rattle.erl_control.specs.declared.signal.Signal.{Signal}
 use Rattle.erl_names.specs.Minted.{id_of}
 use Rattle.erl_term.specs.declared.refusal.Refusal.{Refusal}
@@ -18,9 +17,9 @@ use Rattle.link_core.specs.Table.{is_active, linked, unlinked}
 use Rattle.link_core.specs.declared.end.End.{End}
 
 module _ (n : Node) (p q : Pid) where
-  set_and_posted : (e : End) (s : Signal) (o : Work) → end_of ((post s (set_end p q e o)).node) p q ≡ e
+  set_and_posted : (e : End) (s : Addressed) (o : Work) → end_of ((post s (set_end p q e o)).node) p q ≡ e
   set_and_posted e s o =
-      post_keeps (λ m. end_of m p q) (λ m l. refl) (receiver_of s).node (spelled (set_end p q e o).node s) (set_end p q e o)
+      post_keeps (λ m. end_of m p q) (λ m l. refl) s.node (spelled (set_end p q e o).node s) (set_end p q e o)
       ∙ end_set_same o.node.ends p q e
 
   link_made : reaches n q.node ≡ true → (e : End) → link_by e p q (at_work n) ≡ links_by_table e p q (at_work n)
@@ -29,7 +28,7 @@ module _ (n : Node) (p q : Pid) where
 
   linked_made : (e : End) → end_of n p q ≡ e → end_of ((links_by_table e p q (at_work n)).node) p q ≡ linked e
   linked_made End.Active h = h
-  linked_made _ h = set_and_posted End.Active (Signal.Link p q) (at_work n)
+  linked_made _ h = set_and_posted End.Active (to_pid q (Signal.Link p q)) (at_work n)
 
   unlink_made : (id : ℕ) → id_of n.mint kind.UnlinkId ≡ Some id → (e : End)
       → unlink_by e p q (at_work n) ≡ Accepts Answer.Done (unlinks_by_table e id p q (at_work n))
@@ -37,7 +36,7 @@ module _ (n : Node) (p q : Pid) where
   unlink_made id h _ = refl
 
   unlinked_made : (id : ℕ) (e : End) → end_of n p q ≡ e → end_of ((unlinks_by_table e id p q (at_work n)).node) p q ≡ unlinked e id
-  unlinked_made id End.Active h = set_and_posted (End.Pending id) (Signal.UnlinkId id p q) (draw kind.UnlinkId (at_work n))
+  unlinked_made id End.Active h = set_and_posted (End.Pending id) (to_pid q (Signal.UnlinkId id p q)) (draw kind.UnlinkId (at_work n))
   unlinked_made id _ h = h
 
   unlink_stays : (e : End) → is_active e ≡ false → unlink_by e p q (at_work n) ≡ Accepts Answer.Done (at_work n)

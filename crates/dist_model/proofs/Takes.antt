@@ -6,13 +6,12 @@ use Rattle.dist_model.proofs.Envelopes.{outgoing}
 use Rattle.dist_model.proofs.Keys.{same_pid_refl}
 use Rattle.dist_model.proofs.Seen.{replies}
 use Rattle.dist_model.proofs.Views.{AllSuit, Suits, linking_suits, more, over, post_all_keeps}
-use Rattle.dist_model.proofs.Views.{post_all_view, posted, telling_news, telling_receiver, view}
+use Rattle.dist_model.proofs.Views.{post_all_view, posted, telling_news, view}
 use Rattle.dist_model.specs.Items.{Signalled, telling}
-use Rattle.erl_control.specs.Ends.{receiver_of}
 use Rattle.dist_model.specs.Linking.{exit_follows, take_link, take_link_by}
 use Rattle.dist_model.specs.Names.{Name, same_name, same_pid}
 use Rattle.dist_model.specs.Node.{end_of, living, is_stranger, reaches}
-use Rattle.dist_model.specs.Work.{Work, post, post_all, set_end, spelled}
+use Rattle.dist_model.specs.Work.{Addressed, Work, post, post_all, set_end, spelled}
 use Rattle.erl_control.specs.declared.signal.Signal.{Signal}
 use Rattle.erl_term.specs.declared.term.Pid.{Pid}
 use Rattle.link_core.specs.declared.end.End.{End}
@@ -62,7 +61,7 @@ takes_then x y s a b c f g = record {
 suits_replies : (p q x y : Pid) (ss : List LinkNews) → AllSuit p q (replies x y ss)
 suits_replies p q x y [] = tt
 suits_replies p q x y (s ∷ ss) = (
-  subst (λ (z : Pid). Suits z.node (Signalled (telling x y s) false) p q) (sym (telling_receiver x y s)) (linking_suits x y p q s false),
+  linking_suits x y p q s false,
   suits_replies p q x y ss,
 )
 
@@ -77,9 +76,9 @@ posted_replies false p q x y (s ∷ ss) h =
     ap (λ l. l ++ posted p q (replies x y ss)) (telling_news x y p q s false)
     ∙ ap (λ t. cond t (s ∷ []) [] ++ posted p q (replies x y ss)) h ∙ posted_replies false p q x y ss h
 
-post_all_kept : (es : List Signal) (o : Work) → NodeKept o.node → NodeKept ((post_all es o).node)
+post_all_kept : (es : List Addressed) (o : Work) → NodeKept o.node → NodeKept ((post_all es o).node)
 post_all_kept [] o k = k
-post_all_kept (e ∷ es) o k = post_all_kept es (post e o) (post_kept (receiver_of e).node (spelled o.node e) o k)
+post_all_kept (e ∷ es) o k = post_all_kept es (post e o) (post_kept e.node (spelled o.node e) o k)
 
 one_pair : (x y : Pid) → (same_pid x x && same_pid y y) ≡ true
 one_pair x y = ap (λ t. t && same_pid y y) (same_pid_refl x) ∙ same_pid_refl y
@@ -102,7 +101,7 @@ replies_home : (z : Name) (f : Pid → Bool) (x y : Pid) (ss : List LinkNews) �
     → (same_name y.node z ≡ true → (f y ≡ false) × (same_pid x y ≡ false)) → PostsHome z f (replies x y ss)
 replies_home z f x y [] hx hy = tt
 replies_home z f x y (s ∷ ss) hx hy = (
-  λ e. let d = hy (ap (λ (u : Pid). same_name u.node z) (sym (telling_receiver x y s)) ∙ e) in
+  λ e. let d = hy e in
       home_said f x y s false (hx, d.0, d.1),
   replies_home z f x y ss hx hy,
 )

@@ -6,11 +6,10 @@ use Rattle.std.specs.Option.{is_some}
 use Rattle.dist_model.proofs.Envelopes.{Envelope, outgoing, sent_by, sent_in, sent_in-push, sent_in-silent}
 use Rattle.dist_model.proofs.Keys.{same_name_is, same_pid_refl, same_pid_true}
 use Rattle.dist_model.specs.Items.{Item, Signalled, news, news_in, telling, has_reason}
-use Rattle.erl_control.specs.Ends.{receiver_of}
 use Rattle.dist_model.specs.Names.{Name, same_name, same_pid}
 use Rattle.dist_model.specs.Node.{Node, end_of, living, is_stranger, reaches, route, payload_to}
 use Rattle.dist_model.specs.declared.report.Effect.{Effect}
-use Rattle.dist_model.specs.Work.{Work, keep_local, post, post_all, post_to, report, send_on, spelled}
+use Rattle.dist_model.specs.Work.{Addressed, Work, keep_local, post, post_all, post_to, report, send_on, spelled}
 use Rattle.erl_control.specs.declared.signal.Signal.{Signal}
 use Rattle.erl_names.specs.declared.trunk.TrunkId.{TrunkId}
 use Rattle.erl_term.specs.declared.term.Pid.{Pid}
@@ -146,9 +145,9 @@ module _ {A : Type 0} (f : Node → A) (free : (n : Node) (l : List Item) → f 
   pub post_keeps : (y : Name) (x : Item) (o : Work) → f ((post_to y x o).node) ≡ f o.node
   post_keeps y x o = post_keeps_by (same_name y o.node.mint.name) y x o
 
-  pub post_all_keeps : (es : List Signal) (o : Work) → f ((post_all es o).node) ≡ f o.node
+  pub post_all_keeps : (es : List Addressed) (o : Work) → f ((post_all es o).node) ≡ f o.node
   post_all_keeps [] o = refl
-  post_all_keeps (e ∷ es) o = post_all_keeps es (post e o) ∙ post_keeps (receiver_of e).node (spelled o.node e) o
+  post_all_keeps (e ∷ es) o = post_all_keeps es (post e o) ∙ post_keeps e.node (spelled o.node e) o
 
 -- a post is one signal more, or none
 pub post_view : (b : List LinkNews) (y : Name) (x : Item) (o : Work) (p q : Pid) → reaches o.node q.node ≡ true
@@ -168,13 +167,13 @@ suits_pay y s p q a b (inl e) = inl e
 suits_pay y s p q a b (inr n) = inr (news_pay p q s b a ∙ n)
 
 -- several posts
-abbrev pub posted : Pid → Pid → List Signal → List LinkNews
+abbrev pub posted : Pid → Pid → List Addressed → List LinkNews
 posted p q [] = []
-posted p q (e ∷ es) = news_in p q (Signalled e false) ++ posted p q es
+posted p q (e ∷ es) = news_in p q (Signalled e.signal false) ++ posted p q es
 
-abbrev pub AllSuit : Pid → Pid → List Signal → Type 0
+abbrev pub AllSuit : Pid → Pid → List Addressed → Type 0
 AllSuit p q [] = Unit {0}
-AllSuit p q (e ∷ es) = Suits (receiver_of e).node (Signalled e false) p q × AllSuit p q es
+AllSuit p q (e ∷ es) = Suits e.node (Signalled e.signal false) p q × AllSuit p q es
 
 more-nil : (a : Side) → a ≡ more a []
 more-nil a = side_path a (more a []) refl refl refl (sym (append-nil a.sent))
@@ -182,24 +181,24 @@ more-nil a = side_path a (more a []) refl refl refl (sym (append-nil a.sent))
 more-more : (a : Side) (L R : List LinkNews) → more (more a L) R ≡ more a (L ++ R)
 more-more a L R = side_path (more (more a L) R) (more a (L ++ R)) refl refl refl (append_assoc a.sent L R)
 
-pub post_all_view : (b : List LinkNews) (es : List Signal) (o : Work) (p q : Pid) → reaches o.node q.node ≡ true
+pub post_all_view : (b : List LinkNews) (es : List Addressed) (o : Work) (p q : Pid) → reaches o.node q.node ≡ true
     → AllSuit p q es → view b (post_all es o) p q ≡ more (view b o p q) (posted p q es)
 post_all_view b [] o p q reach s = more-nil (view b o p q)
 post_all_view b (e ∷ es) o p q reach s =
     post_all_view b es (post e o) p q
-    (post_keeps (λ n. reaches n q.node) (λ n l. refl) (receiver_of e).node (spelled o.node e) o ∙ reach) s.1
-    ∙ ap (λ a. more a (posted p q es)) (post_view b (receiver_of e).node (spelled o.node e) o p q reach
-    (suits_pay (receiver_of e).node e p q false (has_reason e && payload_to o.node (receiver_of e).node) s.0)
-    ∙ ap (more (view b o p q)) (news_pay p q e (has_reason e && payload_to o.node (receiver_of e).node) false))
-    ∙ more-more (view b o p q) (news_in p q (Signalled e false)) (posted p q es)
+    (post_keeps (λ n. reaches n q.node) (λ n l. refl) e.node (spelled o.node e) o ∙ reach) s.1
+    ∙ ap (λ a. more a (posted p q es)) (post_view b e.node (spelled o.node e) o p q reach
+    (suits_pay e.node e.signal p q false (has_reason e.signal && payload_to o.node e.node) s.0)
+    ∙ ap (more (view b o p q)) (news_pay p q e.signal (has_reason e.signal && payload_to o.node e.node) false))
+    ∙ more-more (view b o p q) (news_in p q (Signalled e.signal false)) (posted p q es)
 
-pub posted-append : (p q : Pid) (xs ys : List Signal) → posted p q (xs ++ ys) ≡ posted p q xs ++ posted p q ys
+pub posted-append : (p q : Pid) (xs ys : List Addressed) → posted p q (xs ++ ys) ≡ posted p q xs ++ posted p q ys
 posted-append p q [] ys = refl
 posted-append p q (x ∷ xs) ys =
-    ap (λ l. news_in p q (Signalled x false) ++ l) (posted-append p q xs ys)
-    ∙ sym (append_assoc (news_in p q (Signalled x false)) (posted p q xs) (posted p q ys))
+    ap (λ l. news_in p q (Signalled x.signal false) ++ l) (posted-append p q xs ys)
+    ∙ sym (append_assoc (news_in p q (Signalled x.signal false)) (posted p q xs) (posted p q ys))
 
-pub AllSuit-append : (p q : Pid) (xs ys : List Signal) → AllSuit p q xs → AllSuit p q ys → AllSuit p q (xs ++ ys)
+pub AllSuit-append : (p q : Pid) (xs ys : List Addressed) → AllSuit p q xs → AllSuit p q ys → AllSuit p q (xs ++ ys)
 AllSuit-append p q [] ys a b = b
 AllSuit-append p q (x ∷ xs) ys a b = (a.0, AllSuit-append p q xs ys a.1 b)
 
@@ -212,10 +211,6 @@ pub telling_news : (a b p q : Pid) (s : LinkNews) (pay : Bool)
     → news_in p q (Signalled (telling a b s) pay) ≡ cond (same_pid a p && same_pid b q) (s ∷ []) []
 telling_news a b p q (Signals LinkSignal.Link) pay = refl
 telling_news a b p q _ pay = refl
-
-pub telling_receiver : (a b : Pid) (s : LinkNews) → receiver_of (telling a b s) ≡ b
-telling_receiver a b (Signals LinkSignal.Link) = refl
-telling_receiver a b _ = refl
 
 pub linking_suits_by : (b : Bool) (x y p q : Pid) (s : LinkNews) (pay : Bool) → (same_pid x p && same_pid y q) ≡ b
     → Suits y.node (Signalled (telling x y s) pay) p q

@@ -45,7 +45,7 @@ use Rattle.dist_model.specs.Names.{Name, same_name, same_pid}
 use Rattle.dist_model.specs.Node.{Node, living, is_stranger, reaches, route}
 use Rattle.dist_model.specs.Sides.{Gone, State, TrunkSide, Up, is_losing, is_up, is_over, lost}
 use Rattle.dist_model.specs.Taking.{take_item}
-use Rattle.dist_model.specs.Work.{Work, at_work, draw, post, put, spelled}
+use Rattle.dist_model.specs.Work.{Work, at_work, draw, post, put, spelled, to_pid}
 use Rattle.dist_model.specs.World.{Arrive, Call, Dial, Event, Local, Lose, Report, Reported, Start}
 use Rattle.dist_model.specs.World.{Stop, Sweep, World, came_of, list_to, node_name, node_of, step_at}
 use Rattle.erl_control.specs.declared.signal.Signal.{Signal}
@@ -92,7 +92,7 @@ module _ (w : World) (h : History) (x : Name) (n : Node) (hx : node_of w.nodes x
   module _ (xs : List Item) where
     -- a MONITOR_P_EXIT ends its watch
     end_taken : (i : Item) → IsFounded w h i → (k : Reference) (u : Monitor) → is_end k i ≡ true → fm.get n.watches k ≡ Some u
-        → fm.get ((take_item i (at_work (record n { local = xs }))).node.watches) k ≡ Some u → ⊥
+        → fm.get ((take_item n.mint.name i (at_work (record n { local = xs }))).node.watches) k ≡ Some u → ⊥
     end_taken (Signalled (Signal.MonitorExit q p r z) pay) f k u e j s =
         let one = names x n k r u p q hx j e f.1 in
         let kr : k ≡ r = same_reference_true k r e in
@@ -118,7 +118,7 @@ module _ (w : World) (h : History) (x : Name) (n : Node) (hx : node_of w.nodes x
 
     call_taken : (i : Item) → IsFounded w h i → (y : Name) (v : Node) (k : Reference) (u : Monitor)
         → node_of w.nodes y ≡ Some v → fm.get v.watches k ≡ Some u → is_call k i ≡ true
-        → Answered i k u (take_item i (at_work (record n { local = xs })))
+        → Answered i k u (take_item n.mint.name i (at_work (record n { local = xs })))
     call_taken (Signalled (Signal.Monitor p q r) pay) f y v k u hv j e = go (living n q)
       where
         one : (p ≡ u.owner) × (q ≡ u.target)
@@ -129,27 +129,27 @@ module _ (w : World) (h : History) (x : Name) (n : Node) (hx : node_of w.nodes x
 
         go : (b : Bool) → Answered (Signalled (Signal.Monitor p q r) pay) k u (cond b
             (register r (monitor_of p q) (at_work (record n { local = xs })))
-            (post (Signal.MonitorExit q p r noproc) (at_work (record n { local = xs }))))
+            (post (to_pid p (Signal.MonitorExit q p r noproc)) (at_work (record n { local = xs }))))
         go true =
             inl (subst (λ z. (b : Monitor) × (fm.get (added n.registered r (monitor_of p q)) z ≡ Some b)) kr
             (added_there (fm.contains_key n.registered r) n.registered r (monitor_of p q) refl))
         go false =
             inr (subst
-            (λ (z : Pid). Lands (is_end k) n z.node (post (Signal.MonitorExit q p r noproc) (at_work (record n { local = xs })))) one.0
-            (lands_one (is_end k) n (Signal.MonitorExit q p r noproc) (at_work (record n { local = xs })) refl refl e))
+            (λ (z : Pid). Lands (is_end k) n z.node (post (to_pid p (Signal.MonitorExit q p r noproc)) (at_work (record n { local = xs })))) one.0
+            (lands_one (is_end k) n (to_pid p (Signal.MonitorExit q p r noproc)) (at_work (record n { local = xs })) refl refl e))
     call_taken (Signalled (Signal.MonitorExit q p r z) pay) f y v k u hv j e = cc
     call_taken _ f y v k u hv j e = cc
 
     -- taking one leaves the sides
-    sides_taken : (i : Item) → (k : Reference) → is_call k i ≡ true → (take_item i (at_work (record n { local = xs }))).node.sides ≡ n.sides
+    sides_taken : (i : Item) → (k : Reference) → is_call k i ≡ true → (take_item n.mint.name i (at_work (record n { local = xs }))).node.sides ≡ n.sides
     sides_taken (Signalled (Signal.Monitor p q r) pay) k e = go (living n q)
       where
         go : (b : Bool) → (cond b (register r (monitor_of p q) (at_work (record n { local = xs })))
-            (post (Signal.MonitorExit q p r noproc) (at_work (record n { local = xs })))).node.sides ≡ n.sides
+            (post (to_pid p (Signal.MonitorExit q p r noproc)) (at_work (record n { local = xs })))).node.sides ≡ n.sides
         go true = refl
         go false =
             posts_keep (λ m. m.sides) (λ m l. refl) p.node
-            (spelled (at_work (record n { local = xs })).node (Signal.MonitorExit q p r noproc)) (at_work (record n { local = xs }))
+            (spelled (at_work (record n { local = xs })).node (to_pid p (Signal.MonitorExit q p r noproc))) (at_work (record n { local = xs }))
     sides_taken _ k e = cc
 
   -- whom a MONITOR_P that passes is from
@@ -193,7 +193,7 @@ module _ (w : World) (h : History) (x : Name) (n : Node) (hx : node_of w.nodes x
     fresh_facts (Some m) e = other_facts m e (arrive_fresh (Some m) t k0 (at_work n))
 
     module _ (v : TrunkSide) (at : side_at n t ≡ Some v) where
-      taken_facts : is_up v.state ≡ true → is_good n v i ≡ true → Facts (Answer.Took (kind_of i)) (take_item i (at_work n))
+      taken_facts : is_up v.state ≡ true → is_good n v i ≡ true → Facts (Answer.Took (kind_of i)) (take_item v.peer i (at_work n))
       taken_facts up good = record {
         ends = λ k u e b c z q. absurd (end_taken n.local i fi k u e b c);
         calls = λ k y m u e dy hm c. calls k y m u e dy hm c (call_taken n.local i fi y m k u hm c e);
@@ -201,22 +201,22 @@ module _ (w : World) (h : History) (x : Name) (n : Node) (hx : node_of w.nodes x
         where
           calls : (k : Reference) (y : Name) (m : Node) (u : Monitor) → is_call k i ≡ true → (x ≡ y → ⊥)
               → node_of w.nodes y ≡ Some m → fm.get m.watches k ≡ Some u
-              → ((b : Monitor) × (fm.get ((take_item i (at_work n)).node.registered) k ≡ Some b))
-              ⊎ Lands (is_end k) n u.owner.node (take_item i (at_work n)) → TakenCall (take_item i (at_work n)) t y k
+              → ((b : Monitor) × (fm.get ((take_item v.peer i (at_work n)).node.registered) k ≡ Some b))
+              ⊎ Lands (is_end k) n u.owner.node (take_item v.peer i (at_work n)) → TakenCall (take_item v.peer i (at_work n)) t y k
           calls k y m u e dy hm c (inl b) = inr (inl (v, b.0, ap (λ z. fm.get z t) (sides_taken n.local i k e) ∙ at, up, b.1))
           calls k y m u e dy hm c (inr z) =
               let from : u.owner.node ≡ v.peer = call_from v i good fi y m k u hm c e in
               let own : same_name u.owner.node n.mint.name ≡ false =
               ap (λ b. same_name b n.mint.name) from ∙ not_own n t v (gw.core.sides x n hx) at in
               let way : route n u.owner.node ≡ Some t = ap (route n) from ∙ route_up n t v (gw.core.sides x n hx) at up in
-              inr (inr (subst (λ b. has (is_end k) (at_place t b (outgoing (take_item i (at_work n)))) ≡ true)
+              inr (inr (subst (λ b. has (is_end k) (at_place t b (outgoing (take_item v.peer i (at_work n)))) ≡ true)
               (owner_at w h gw g y m k u hm c) (z.1 t own way)))
 
       up_facts : is_up v.state ≡ true → AllGo (on_up t v i (at_work n)) Facts
       up_facts up = go (is_good n v i) refl
         where
           go : (b : Bool) → is_good n v i ≡ b
-              → AllGo (cond b (Accepts (Answer.Took (kind_of i)) (take_item i (at_work n))) (fault Fault.Forged t v (at_work n))) Facts
+              → AllGo (cond b (Accepts (Answer.Took (kind_of i)) (take_item v.peer i (at_work n))) (fault Fault.Forged t v (at_work n))) Facts
           go true good = taken_facts up good
           go false good = fault_facts Fault.Forged v
 
@@ -238,19 +238,19 @@ module _ (w : World) (h : History) (x : Name) (n : Node) (hx : node_of w.nodes x
   monitor_fresh p q id = go (reaches n q.node) refl
     where
       reached : reaches n q.node ≡ true → Fresh (Answer.Reference (reference_of n.mint id)) (post
-          (Signal.Monitor p q (reference_of n.mint id))
+          (to_pid q (Signal.Monitor p q (reference_of n.mint id)))
           (watch (reference_of n.mint id) (monitor_of p q) (draw kind.Reference (at_work n))))
       reached far k u i j =
           pick (same_reference k (reference_of n.mint id)) refl
           (sym (ap (λ z. fm.get z k) ws ∙ fm.get-insert reference_cmp_total n.watches (reference_of n.mint id) (monitor_of p q) k) ∙ j)
         where
-          ws : (post (Signal.Monitor p q (reference_of n.mint id))
+          ws : (post (to_pid q (Signal.Monitor p q (reference_of n.mint id)))
               (watch (reference_of n.mint id) (monitor_of p q) (draw kind.Reference (at_work n)))).node.watches ≡ (watch
               (reference_of n.mint id) (monitor_of p q) (draw kind.Reference (at_work n))).node.watches
           ws = posts_keep (λ m. m.watches) (λ m z. refl) q.node (Signalled (Signal.Monitor p q (reference_of n.mint id)) false)
               (watch (reference_of n.mint id) (monitor_of p q) (draw kind.Reference (at_work n)))
 
-          sd : (post (Signal.Monitor p q (reference_of n.mint id))
+          sd : (post (to_pid q (Signal.Monitor p q (reference_of n.mint id)))
               (watch (reference_of n.mint id) (monitor_of p q) (draw kind.Reference (at_work n)))).node.sides ≡ n.sides
           sd = posts_keep (λ m. m.sides) (λ m z. refl) q.node (Signalled (Signal.Monitor p q (reference_of n.mint id)) false)
               (watch (reference_of n.mint id) (monitor_of p q) (draw kind.Reference (at_work n)))
@@ -261,13 +261,13 @@ module _ (w : World) (h : History) (x : Name) (n : Node) (hx : node_of w.nodes x
           routed (Some t) r own = (t, r)
 
           pick : (b : Bool) → same_reference k (reference_of n.mint id) ≡ b → cond b (Some (monitor_of p q)) (fm.get n.watches k) ≡ Some u
-              → NewWatch n (post (Signal.Monitor p q (reference_of n.mint id))
+              → NewWatch n (post (to_pid q (Signal.Monitor p q (reference_of n.mint id)))
               (watch (reference_of n.mint id) (monitor_of p q) (draw kind.Reference (at_work n)))) k u
           pick false e c = absurd (none-some u (sym i ∙ c))
           pick true e c =
-              subst (λ z. NewWatch n (post (Signal.Monitor p q (reference_of n.mint id))
+              subst (λ z. NewWatch n (post (to_pid q (Signal.Monitor p q (reference_of n.mint id)))
               (watch (reference_of n.mint id) (monitor_of p q) (draw kind.Reference (at_work n)))) k z) (same_Some (monitor_of p q) u c)
-              (let ld = lands_one (is_call k) n (Signal.Monitor p q (reference_of n.mint id))
+              (let ld = lands_one (is_call k) n (to_pid q (Signal.Monitor p q (reference_of n.mint id)))
               (watch (reference_of n.mint id) (monitor_of p q) (draw kind.Reference (at_work n))) refl refl e in (
                 λ own. ld.0 own,
                 λ own. let r =
@@ -279,7 +279,7 @@ module _ (w : World) (h : History) (x : Name) (n : Node) (hx : node_of w.nodes x
               up_holding s up = (up_holds s.state up).0
 
       go : (b : Bool) → reaches n q.node ≡ b → Fresh (Answer.Reference (reference_of n.mint id)) (cond b (post
-          (Signal.Monitor p q (reference_of n.mint id))
+          (to_pid q (Signal.Monitor p q (reference_of n.mint id)))
           (watch (reference_of n.mint id) (monitor_of p q) (draw kind.Reference (at_work n)))) (put p
           (down_term (reference_of n.mint id) q noconnection) (draw kind.Reference (at_work n))))
       go true far = reached far
@@ -384,12 +384,12 @@ module _ (w : World) (h : History) (x : Name) (n : Node) (hx : node_of w.nodes x
     local_linked [] j = l
     local_linked (i ∷ xs) j =
         linked_after w h x n hx gw g l (Local x) xs (Answer.Took (kind_of i))
-        (take_item i (at_work (record n { local = xs }))) d w.lists (λ t q. ⊥) (λ q t y z. inl z) (λ t k u b. absurd b)
+        (take_item n.mint.name i (at_work (record n { local = xs }))) d w.lists (λ t q. ⊥) (λ q t y z. inl z) (λ t k u b. absurd b)
         (λ t k y v u b. absurd b)
         (λ q. q i ≡ true) pop_home (λ k u b c z. end_taken xs i fi k u b c z) home_call
-        (none_begun (Local x) xs (Answer.Took (kind_of i)) (take_item i (at_work (record n { local = xs }))) (λ k. refl) d)
+        (none_begun (Local x) xs (Answer.Took (kind_of i)) (take_item n.mint.name i (at_work (record n { local = xs }))) (λ k. refl) d)
       where
-        d : Done w h x n hx gw g (Local x) xs (Answer.Took (kind_of i)) (take_item i (at_work (record n { local = xs })))
+        d : Done w h x n hx gw g (Local x) xs (Answer.Took (kind_of i)) (take_item n.mint.name i (at_work (record n { local = xs })))
         d = local_done w h x n hx gw g (i ∷ xs) j i xs refl
 
         fi : IsFounded w h i
@@ -403,14 +403,14 @@ module _ (w : World) (h : History) (x : Name) (n : Node) (hx : node_of w.nodes x
             go false e z = inl z
 
         home_call : (k : Reference) (u : Monitor) → is_call k i ≡ true → fm.get n.watches k ≡ Some u
-            → ((b : Monitor) × (fm.get ((take_item i (at_work (record n { local = xs }))).node.registered) k ≡ Some b))
-            ⊎ (has (is_end k) ((take_item i (at_work (record n { local = xs }))).node.local) ≡ true)
+            → ((b : Monitor) × (fm.get ((take_item n.mint.name i (at_work (record n { local = xs }))).node.registered) k ≡ Some b))
+            ⊎ (has (is_end k) ((take_item n.mint.name i (at_work (record n { local = xs }))).node.local) ≡ true)
         home_call k u e c = go (call_taken xs i fi x n k u hx c e)
           where
-            go : ((b : Monitor) × (fm.get ((take_item i (at_work (record n { local = xs }))).node.registered) k ≡ Some b))
-                ⊎ Lands (is_end k) n u.owner.node (take_item i (at_work (record n { local = xs })))
-                → ((b : Monitor) × (fm.get ((take_item i (at_work (record n { local = xs }))).node.registered) k ≡ Some b))
-                ⊎ (has (is_end k) ((take_item i (at_work (record n { local = xs }))).node.local) ≡ true)
+            go : ((b : Monitor) × (fm.get ((take_item n.mint.name i (at_work (record n { local = xs }))).node.registered) k ≡ Some b))
+                ⊎ Lands (is_end k) n u.owner.node (take_item n.mint.name i (at_work (record n { local = xs })))
+                → ((b : Monitor) × (fm.get ((take_item n.mint.name i (at_work (record n { local = xs }))).node.registered) k ≡ Some b))
+                ⊎ (has (is_end k) ((take_item n.mint.name i (at_work (record n { local = xs }))).node.local) ≡ true)
             go (inl b) = inl b
             go (inr z) =
                 inr (z.0 (same_name_is u.owner.node n.mint.name (owner_at w h gw g x n k u hx c ∙ sym (node_of_name w.nodes x n hx))))

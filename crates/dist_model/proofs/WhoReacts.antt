@@ -40,7 +40,7 @@ use Rattle.dist_model.specs.Node.{Node, end_of, living, is_stranger, reaches, si
 use Rattle.dist_model.specs.Seen.{end_between}
 use Rattle.dist_model.specs.Sides.{Accepting, Asked, AwaitsAck, AwaitsChallenge, AwaitsStatus, Gone, Losing, Parked}
 use Rattle.dist_model.specs.Sides.{State, TrunkSide, Up, is_dialing, is_gone, is_losing, is_parked, is_up, is_waiting}
-use Rattle.dist_model.specs.Work.{Work, at_work, draw, set_end, spelled}
+use Rattle.dist_model.specs.Work.{Work, at_work, draw, set_end, spelled, to_pid}
 use Rattle.dist_model.specs.World.{Arrive, Call, Dial, Event, Local, Lose, Refused, Report, Start}
 use Rattle.dist_model.specs.World.{Stop, Sweep, World, came_of, node_name, node_of, step, step_at}
 use Rattle.erl_control.specs.declared.signal.Signal.{Signal}
@@ -137,7 +137,7 @@ module _ (n : Node) where
   called (Command.Trap a b) = if_cond (living n a) _ Refusal.NoSuchProcess (OwnLink n (Command.Trap a b)) (λ l p q h. nothing h)
   called (Command.ExitTo a b r) =
       acts_on (Command.ExitTo a b r) a b _ (λ l. if_cond (fits r) _ Refusal.TooLong (OwnLink n (Command.ExitTo a b r))
-      (λ i p q h. nothing (calm_post b.node (spelled (at_work n).node (Signal.Exit2 a b r)) (at_work n) p q h)))
+      (λ i p q h. nothing (calm_post b.node (spelled (at_work n).node (to_pid b (Signal.Exit2 a b r))) (at_work n) p q h)))
   called (Command.ExitSelf a r) =
       if_cond (living n a) _ Refusal.NoSuchProcess (OwnLink n (Command.ExitSelf a r))
       (λ l. if_cond (fits r) _ Refusal.TooLong (OwnLink n (Command.ExitSelf a r)) (λ i p q h. nothing (calm_finish a r (at_work n) p q h)))
@@ -299,7 +299,7 @@ module _ (n : Node) (t : TrunkId) where
 
     signal_comes : (a : State) (x : Item) → IfGoes (signal_at a t v x (at_work n)) (HeldBefore n)
     signal_comes Up x =
-        if_either (is_good n v x) _ _ (HeldBefore n) (λ p q h. old p q (item_taken x (at_work n) p q h)) (λ p q h. nothing h)
+        if_either (is_good n v x) _ _ (HeldBefore n) (λ p q h. old p q (item_taken v.peer x (at_work n) p q h)) (λ p q h. nothing h)
       where
         old : (p q : Pid) → (false ≡ true) ⊎ Held n p q → Held n p q
         old p q (inl z) = nothing z
@@ -327,7 +327,7 @@ loses n t (Some v) = still_holds n (lose_at v.state t v (at_work n)) (still_lost
 
 pub takes_local : (n : Node) (l : List Item) → IfGoes (take_local n l) (HeldBefore n)
 takes_local n [] = tt
-takes_local n (x ∷ xs) = λ p q h. old p q (item_taken x (at_work (record n { local = xs })) p q h)
+takes_local n (x ∷ xs) = λ p q h. old p q (item_taken n.mint.name x (at_work (record n { local = xs })) p q h)
   where
     old : (p q : Pid) → (false ≡ true) ⊎ Held (record n { local = xs }) p q → Held n p q
     old p q (inl z) = nothing z

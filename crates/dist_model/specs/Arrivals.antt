@@ -1,4 +1,4 @@
--- What comes to a node: the first item of a trunk, or of its own list.
+-- Arrivals at a node: the first item of a trunk, or of the node's own list.
 -- (ERTS User's Guide, Distribution Protocol; Reference Manual, Processes, Delivery of Signals.)
 use Rattle.std.specs.Prelude.{Option, None, Some, ℕ, Bool, true, not, if◌then◌else◌, List, [], ◌∷◌, nat_le, ◌&&◌}
 use Rattle.dist_model.specs.Admission.{hears_name}
@@ -19,8 +19,8 @@ use Rattle.erl_names.specs.declared.trunk.TrunkId.{TrunkId}
 use Rattle.erl_term.specs.declared.refusal.Refusal.{Refusal}
 use Rattle.erl_term.specs.declared.term.Pid.{Pid}
 
--- ---- on a side that is up, a signal has to be from a process of the peer's, of the incarnation that it named or an
--- earlier one, and to a process that this node has spawned
+-- ---- on a side that is up, the process that a signal names as its sender has to be the peer's, of the incarnation that the
+-- peer named or an earlier one. The process that it names as its receiver has to be one that this node has spawned
 
 abbrev pub is_from : TrunkSide → Pid → Bool
 is_from side p = same_name p.node side.peer && nat_le p.creation side.introduction.creation
@@ -32,14 +32,18 @@ from_peer side (Some p) = is_from side p
 abbrev pub is_to : Node → Pid → Bool
 is_to node p = same_name p.node node.mint.name && not (is_stranger node p)
 
+abbrev pub to_own : Node → Option Pid → Bool
+to_own node None = true
+to_own node (Some p) = is_to node p
+
 abbrev pub is_good : Node → TrunkSide → Item → Bool
-is_good node side (Signalled signal payload) = from_peer side (sender_of signal) && is_to node (receiver_of signal)
+is_good node side (Signalled signal payload) = from_peer side (sender_of signal) && to_own node (receiver_of signal)
 is_good node side (Handshake message) = true
 is_good node side Tick = true
 
 abbrev pub on_up : TrunkId → TrunkSide → Item → Work → Outcome
 on_up trunk side item work =
-    if is_good work.node side item then Accepts (Answer.Took (kind_of item)) (take_item item work) else fault Fault.Forged trunk side work
+    if is_good work.node side item then Accepts (Answer.Took (kind_of item)) (take_item side.peer item work) else fault Fault.Forged trunk side work
 
 -- ---- the first item of a trunk comes
 
@@ -76,4 +80,4 @@ arrive node trunk (Some side) first word =
 
 abbrev pub take_local : Node → List Item → Outcome
 take_local node [] = Refuses Refusal.NothingThere
-take_local node (item ∷ rest) = Accepts (Answer.Took (kind_of item)) (take_item item (at_work (record node { local = rest })))
+take_local node (item ∷ rest) = Accepts (Answer.Took (kind_of item)) (take_item node.mint.name item (at_work (record node { local = rest })))

@@ -1,4 +1,4 @@
--- What a caller may ask of a node.
+-- The calls of a node.
 -- (Reference Manual, Processes: Process Creation, Links, Monitors, Error Handling.)
 use Rattle.std.specs.Prelude.{Option, None, Some, Bool, false, if◌then◌else◌, [], ◌∷◌, ◌&&◌}
 use Rattle.std.specs.FinMap as fm
@@ -12,7 +12,7 @@ use Rattle.dist_model.specs.Linking.{link, unlink_by}
 use Rattle.dist_model.specs.Monitoring.{demonitor_by, monitor}
 use Rattle.dist_model.specs.Names.{same_name}
 use Rattle.dist_model.specs.Node.{Life, Living, Node, end_of, ends_of, living, is_stranger}
-use Rattle.dist_model.specs.Work.{Work, at_work, draw, post, set_life}
+use Rattle.dist_model.specs.Work.{Work, at_work, draw, post, set_life, to_pid}
 use Rattle.erl_control.specs.declared.signal.Signal.{Signal}
 use Rattle.erl_names.specs.Ids.{pid_of, reference_of}
 use Rattle.erl_names.specs.Minted.{drawn, id_of}
@@ -24,7 +24,7 @@ use Rattle.erl_term.specs.declared.term.Pid.{Pid}
 abbrev pub acting : Node → Pid → Outcome → Outcome
 acting node p outcome = if living node p then outcome else Refuses Refusal.NoSuchProcess
 
--- what it acts on may not be a pid of this node that it never spawned
+-- a pid of this node that the node never spawned can't be acted on
 abbrev pub toward : Node → Pid → Outcome → Outcome
 toward node q outcome = if same_name q.node node.mint.name && is_stranger node q then Refuses Refusal.Forged else outcome
 
@@ -53,7 +53,7 @@ abbrev pub call : Node → Command → Outcome
 call node Command.Spawn = with_id (id_of node.mint kind.Pid) (λ id.
     Accepts (Answer.Pid (pid_of node.mint id)) (spawn_life node (pid_of node.mint id)))
 call node (Command.Send p q message) =
-    acting node p (toward node q (fitting message (Accepts Answer.Done (post (Signal.Send q message) (at_work node)))))
+    acting node p (toward node q (fitting message (Accepts Answer.Done (post (to_pid q (Signal.Send q message)) (at_work node)))))
 call node (Command.Link p q) = acting node p (toward node q (Accepts Answer.Done (link p q (at_work node))))
 call node (Command.Unlink p q) = acting node p (toward node q (unlink_by (end_of node p q) p q (at_work node)))
 call node (Command.Monitor p q) = acting node p (toward node q (with_id (id_of node.mint kind.Reference) (λ count.
@@ -61,7 +61,7 @@ call node (Command.Monitor p q) = acting node p (toward node q (with_id (id_of n
 call node (Command.Demonitor p r) = acting node p (demonitor_by (fm.get node.watches r) p r (at_work node))
 call node (Command.Trap p on) = acting node p (Accepts Answer.Done (with_life node p (trapping (fm.get node.lives p) on)))
 call node (Command.ExitTo p q reason) =
-    acting node p (toward node q (fitting reason (Accepts Answer.Done (post (Signal.Exit2 p q reason) (at_work node)))))
+    acting node p (toward node q (fitting reason (Accepts Answer.Done (post (to_pid q (Signal.Exit2 p q reason)) (at_work node)))))
 call node (Command.ExitSelf p reason) = acting node p (fitting reason (Accepts Answer.Done (end_process p reason (at_work node))))
 call node (Command.Receive p) =
     acting node p (Accepts (Answer.Message (first_message (fm.get node.lives p))) (with_life node p (without_first (fm.get node.lives p))))

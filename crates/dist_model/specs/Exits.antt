@@ -1,11 +1,11 @@
--- What exits do: a process ends, and an exit signal comes to one.
+-- Exits: a process ends, and an exit signal comes to one.
 -- (Reference Manual, Processes, Receiving Exit Signals; Links; Monitors.)
 use Rattle.std.specs.List.{flat_map}
 use Rattle.std.specs.Prelude.{true, false, not, if◌then◌else◌, List, [], ◌∷◌, ◌++◌}
 use Rattle.std.specs.FinMap as fm
 use Rattle.dist_model.specs.Names.{same_pid}
 use Rattle.dist_model.specs.Node.{Ended, ends_of, traps}
-use Rattle.dist_model.specs.Work.{Work, post_all, put, report}
+use Rattle.dist_model.specs.Work.{Addressed, Work, post_all, put, report, to_pid}
 use Rattle.dist_model.specs.declared.report.Effect.{Effect}
 use Rattle.erl_control.specs.declared.signal.Signal.{Signal}
 use Rattle.erl_term.specs.Data.{Data}
@@ -22,20 +22,21 @@ use Rattle.monitor_core.specs.declared.monitor.Monitor.{Monitor}
 -- ---- a process ends
 
 -- EXIT to each partner to which its link is active
-abbrev pub exit_for : Pid → Data → Pid → End → List Signal
-exit_for p reason q end = if is_active end then Signal.Exit p q reason ∷ [] else []
+abbrev pub exit_for : Pid → Data → Pid → End → List Addressed
+exit_for p reason q end = if is_active end then to_pid q (Signal.Exit p q reason) ∷ [] else []
 
-abbrev pub exits : Pid → Data → List (Pid × End) → List Signal
+abbrev pub exits : Pid → Data → List (Pid × End) → List Addressed
 exits p reason = flat_map (λ link. exit_for p reason link.0 link.1)
 
 -- MONITOR_P_EXIT to the owner of each monitor that others have of it
-abbrev pub monitor_exits : Pid → Data → List (Reference × Monitor) → List Signal
-monitor_exits p reason =
-    flat_map (λ entry. if same_pid entry.1.target p then Signal.MonitorExit p entry.1.owner entry.0 reason ∷ [] else [])
+abbrev pub monitor_exits : Pid → Data → List (Reference × Monitor) → List Addressed
+monitor_exits p reason = flat_map (λ entry.
+    if same_pid entry.1.target p then to_pid entry.1.owner (Signal.MonitorExit p entry.1.owner entry.0 reason) ∷ [] else [])
 
 -- DEMONITOR_P for each of its own monitors
-abbrev pub demonitors : Pid → List (Reference × Monitor) → List Signal
-demonitors p = flat_map (λ entry. if same_pid entry.1.owner p then Signal.Demonitor p entry.1.target entry.0 ∷ [] else [])
+abbrev pub demonitors : Pid → List (Reference × Monitor) → List Addressed
+demonitors p = flat_map (λ entry.
+    if same_pid entry.1.owner p then to_pid entry.1.target (Signal.Demonitor p entry.1.target entry.0) ∷ [] else [])
 
 -- its mailbox and its records go, and it keeps its reason
 abbrev pub buried : Pid → Data → Work → Work

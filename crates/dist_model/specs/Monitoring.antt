@@ -6,7 +6,7 @@ use Rattle.dist_model.specs.Commands.{Accepts, Outcome, Refuses}
 use Rattle.dist_model.specs.declared.report.Answer.{Answer}
 use Rattle.dist_model.specs.Names.{same_pid}
 use Rattle.dist_model.specs.Node.{living, reaches}
-use Rattle.dist_model.specs.Work.{Work, post, put}
+use Rattle.dist_model.specs.Work.{Work, post, put, to_pid}
 use Rattle.erl_control.specs.declared.signal.Signal.{Signal}
 use Rattle.erl_term.specs.Data.{Data}
 use Rattle.erl_term.specs.declared.refusal.Refusal.{Refusal}
@@ -34,7 +34,7 @@ unregister r work = record work { node = record (work.node) { registered = fm.re
 abbrev pub monitor : Reference → Pid → Pid → Work → Work
 monitor r p q work =
     if reaches work.node q.node
-    then post (Signal.Monitor p q r) (watch r (monitor_of p q) work)
+    then post (to_pid q (Signal.Monitor p q r)) (watch r (monitor_of p q) work)
     else put p (down_term r q noconnection) work
 
 -- p takes a monitor back: it has to be its own
@@ -42,12 +42,13 @@ abbrev pub demonitor_by : Option Monitor → Pid → Reference → Work → Outc
 demonitor_by None p r work = Refuses Refusal.NotTheOwner
 demonitor_by (Some monitor) p r work =
     if same_pid monitor.owner p
-    then Accepts Answer.Done (post (Signal.Demonitor p monitor.target r) (unwatch r work))
+    then Accepts Answer.Done (post (to_pid monitor.target (Signal.Demonitor p monitor.target r)) (unwatch r work))
     else Refuses Refusal.NotTheOwner
 
 -- MONITOR_P comes to q
 abbrev pub take_monitor : Pid → Pid → Reference → Work → Work
-take_monitor p q r work = if living work.node q then register r (monitor_of p q) work else post (Signal.MonitorExit q p r noproc) work
+take_monitor p q r work =
+    if living work.node q then register r (monitor_of p q) work else post (to_pid p (Signal.MonitorExit q p r noproc)) work
 
 -- DEMONITOR_P comes to q
 abbrev pub take_demonitor : Pid → Pid → Reference → Work → Work

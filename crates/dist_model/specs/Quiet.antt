@@ -1,4 +1,4 @@
--- Where nothing travels between two processes.
+-- Two processes between which nothing is in flight.
 use Rattle.std.specs.Prelude.{◌≡◌, Option, None, Some, is_some, Bool, true, false, not, if◌then◌else◌, List, [], ◌∷◌, ◌&&◌, ◌||◌}
 use Rattle.std.specs.FinMap as fm
 use Rattle.dist_model.specs.Items.{Handshake, Item, Signalled, Tick}
@@ -11,13 +11,13 @@ use Rattle.dist_model.specs.World.{World, list_to, node_of}
 use Rattle.erl_names.specs.declared.trunk.TrunkId.{TrunkId}
 use Rattle.erl_term.specs.declared.term.Pid.{Pid}
 
-abbrev pub names_sender : Pid → Option Pid → Bool
-names_sender p None = false
-names_sender p (Some sender) = same_pid sender p
+abbrev pub names : Pid → Option Pid → Bool
+names p None = false
+names p (Some named) = same_pid named p
 
 -- a signal of p to q. A message names no sender, so it is of nobody
 abbrev pub is_signal_of : Pid → Pid → Item → Bool
-is_signal_of p q (Signalled signal payload) = names_sender p (sender_of signal) && same_pid (receiver_of signal) q
+is_signal_of p q (Signalled signal payload) = names p (sender_of signal) && names q (receiver_of signal)
 is_signal_of p q (Handshake message) = false
 is_signal_of p q Tick = false
 

@@ -1,8 +1,7 @@
--- A node in the midst of an event: what it has become, what it has sent, what it reports.
+-- A node in the midst of an event: its new state, and its effects so far.
 use Rattle.std.specs.Prelude.{Option, None, Some, ◌&&◌, if◌then◌else◌, List, [], ◌∷◌, ◌++◌}
 use Rattle.std.specs.FinMap as fm
 use Rattle.dist_model.specs.Items.{Item, Signalled, has_reason}
-use Rattle.erl_control.specs.Ends.{receiver_of}
 use Rattle.dist_model.specs.Names.{Name, pair_cmp, same_name}
 use Rattle.dist_model.specs.Node.{Life, Living, Node, payload_to, route}
 use Rattle.dist_model.specs.declared.report.Effect.{Effect}
@@ -27,7 +26,7 @@ at_work node = record { node = node; effects = [] }
 abbrev pub report : Effect Item → Work → Work
 report effect work = record work { effects = work.effects ++ effect ∷ [] }
 
--- ---- what is sent
+-- ---- sending
 
 abbrev pub keep_local : Item → Work → Work
 keep_local item work = record {
@@ -44,19 +43,31 @@ abbrev pub post_to : Name → Item → Work → Work
 post_to target item work =
     if same_name target work.node.mint.name then keep_local item work else send_on (route work.node target) target item work
 
--- a signal as the node spells it
-abbrev pub spelled : Node → Signal → Item
-spelled node signal = Signalled signal (has_reason signal && payload_to node (receiver_of signal).node)
+-- a signal, and the node that it goes to
+pub record Addressed : Type 0 where
+  pub node : Name
+  pub signal : Signal
 
--- a signal goes to its receiver's node. (Reference Manual, Processes, Delivery of Signals)
-abbrev pub post : Signal → Work → Work
-post signal work = post_to (receiver_of signal).node (spelled work.node signal) work
+abbrev pub to_node : Name → Signal → Addressed
+to_node name signal = record { node = name; signal = signal }
 
-abbrev pub post_all : List Signal → Work → Work
+-- to the node of a process
+abbrev pub to_pid : Pid → Signal → Addressed
+to_pid p signal = to_node p.node signal
+
+-- the signal as the sending node spells it
+abbrev pub spelled : Node → Addressed → Item
+spelled node letter = Signalled letter.signal (has_reason letter.signal && payload_to node letter.node)
+
+-- a signal goes to the node that it is addressed to. (Reference Manual, Processes, Delivery of Signals)
+abbrev pub post : Addressed → Work → Work
+post letter work = post_to letter.node (spelled work.node letter) work
+
+abbrev pub post_all : List Addressed → Work → Work
 post_all [] work = work
-post_all (signal ∷ rest) work = post_all rest (post signal work)
+post_all (letter ∷ rest) work = post_all rest (post letter work)
 
--- ---- what is kept
+-- ---- changes of the node
 
 abbrev pub delivered : Option Life → Data → Option Life
 delivered (Some (Living trap mailbox)) message = Some (Living trap (mailbox ++ message ∷ []))

@@ -1,4 +1,4 @@
--- From which process a signal comes, and to which it goes.
+-- The sender and the receiver that a signal names.
 -- (ERTS User's Guide, Distribution Protocol, Protocol between Connected Nodes.)
 use Rattle.std.specs.Prelude.{Option, None, Some}
 use Rattle.erl_control.specs.declared.signal.Signal.{Signal}
@@ -16,13 +16,13 @@ sender_of (Signal.MonitorExit from to r reason) = Some from
 sender_of (Signal.UnlinkId id from to) = Some from
 sender_of (Signal.UnlinkIdAck id from to) = Some from
 
-abbrev pub receiver_of : Signal → Pid
-receiver_of (Signal.Link from to) = to
-receiver_of (Signal.Send to message) = to
-receiver_of (Signal.Exit from to reason) = to
-receiver_of (Signal.Exit2 from to reason) = to
-receiver_of (Signal.Monitor from to r) = to
-receiver_of (Signal.Demonitor from to r) = to
-receiver_of (Signal.MonitorExit from to r reason) = to
-receiver_of (Signal.UnlinkId id from to) = to
-receiver_of (Signal.UnlinkIdAck id from to) = to
+abbrev pub receiver_of : Signal → Option Pid
+receiver_of (Signal.Link from to) = Some to
+receiver_of (Signal.Send to message) = Some to
+receiver_of (Signal.Exit from to reason) = Some to
+receiver_of (Signal.Exit2 from to reason) = Some to
+receiver_of (Signal.Monitor from to r) = Some to
+receiver_of (Signal.Demonitor from to r) = Some to
+receiver_of (Signal.MonitorExit from to r reason) = Some to
+receiver_of (Signal.UnlinkId id from to) = Some to
+receiver_of (Signal.UnlinkIdAck id from to) = Some to

@@ -58,7 +58,7 @@ pub taken_accepted : (trunk : TrunkId) (side : TrunkSide) (item : Item) (work : 
 taken_accepted trunk side item work = by_test (is_good work.node side item)
   where
     by_test : (good : Bool)
-        → IsAccepted (cond good (Accepts (Answer.Took (kind_of item)) (take_item item work)) (fault Fault.Forged trunk side work))
+        → IsAccepted (cond good (Accepts (Answer.Took (kind_of item)) (take_item side.peer item work)) (fault Fault.Forged trunk side work))
     by_test true = (_, _, refl)
     by_test false = (_, _, refl)
 

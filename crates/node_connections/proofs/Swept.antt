@@ -7,9 +7,8 @@ use Rattle.dist_model.specs.Exits.{buried, carry_out, demonitors, end_process, e
 use Rattle.dist_model.specs.Losses.{OfLink, OfRegistration, OfWatch, least_record, link_to, registered_by, sweep_end, watch_to}
 use Rattle.dist_model.specs.Names.{Name}
 use Rattle.dist_model.specs.Node.{Node, ends_of, traps}
-use Rattle.dist_model.specs.Work.{Work, at_work, post_all, report, set_end}
+use Rattle.dist_model.specs.Work.{Addressed, Work, at_work, post_all, report, set_end}
 use Rattle.dist_model.specs.declared.report.Effect.{Effect}
-use Rattle.erl_control.specs.declared.signal.Signal.{Signal}
 use Rattle.erl_term.specs.Data.{Data}
 use Rattle.erl_term.specs.declared.term.Pid.{Pid}
 use Rattle.erl_term.specs.declared.term.Reference.{Reference}
@@ -38,7 +37,7 @@ records_are peer m =
 
 -- ---- a process that ends leaves no record
 
-posts : Pid → Data → Work → List Signal
+posts : Pid → Data → Work → List Addressed
 posts p r w = exits p r (ends_of w.node p) ++ monitor_exits p r (fm.entries w.node.registered) ++ demonitors p (fm.entries w.node.watches)
 
 module _ (peer : Name) (p q : Pid) (m : Node) where

@@ -2,7 +2,7 @@
 ghost use Rattle.std.specs.Prelude.{◌≡◌, false};
 ghost use Rattle.dist_model.specs.Arrivals as arrivals;
 ghost use Rattle.dist_model.specs.Items.{Signalled};
-ghost use Rattle.erl_control.specs.Ends.{sender_of};
+ghost use Rattle.erl_control.specs.Ends.{receiver_of, sender_of};
 ghost use Rattle.node_plan.specs.Seen.{seen};
 ghost use Rattle.node_tables.specs.Standings.{side_of};
 
@@ -46,10 +46,20 @@ fn is_known(node: &Node, process: &Pid) -> bool
     same_name(&process.node, node.name().atom()) && !node.is_stranger(process)
 }
 
-/// Returns true if the signal is from a process of the peer's and to one that this node has spawned. (Reference
-/// Manual, Processes, Delivery of Signals.)
+// Returns true if this node has spawned the receiver, where the signal names one.
+fn is_to_own(node: &Node, signal: &Signal) -> bool
+    ensures { result ≡ arrivals.to_own (seen node.now) (receiver_of signal.now) }
+{
+    let Some(process) = receiver(signal) else {
+        return true;
+    };
+    is_known(node, process)
+}
+
+/// Returns true if the sender that the signal names is a process of the peer's, and the receiver that it names is one
+/// that this node has spawned. (Reference Manual, Processes, Delivery of Signals.)
 pub(crate) fn is_good(node: &Node, side: &Side, signal: &Signal) -> bool
     ensures { result ≡ arrivals.is_good (seen node.now) (side_of side.now) (Signalled signal.now false) }
 {
-    is_of_peer(side, signal) && is_known(node, receiver(signal))
+    is_of_peer(side, signal) && is_to_own(node, signal)
 }

@@ -187,7 +187,7 @@ kinds_alike signal payload = refl
 signals_alike : (st : State) (trunk : TrunkId) (side : TrunkSide) (signal : Signal) (payload : Bool) (work : Work)
     → signal_at st trunk side (Signalled signal payload) work ≡ signal_at st trunk side (Signalled signal false) work
 signals_alike state.Up trunk side signal payload work =
-    ap (λ kind. cond (is_good work.node side (Signalled signal false)) (Accepts (Answer.Took kind) (take signal work))
+    ap (λ kind. cond (is_good work.node side (Signalled signal false)) (Accepts (Answer.Took kind) (take side.peer signal work))
     (fault Fault.Forged trunk side work)) (kinds_alike signal payload)
 signals_alike st trunk side signal payload work = refl
 

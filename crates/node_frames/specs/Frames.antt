@@ -1,4 +1,4 @@
--- What travels, as it is sent: its bytes, and whose signal it is.
+-- Items as they are sent: the bytes, and the sender and receiver of a signal.
 -- (ERTS User's Guide, Distribution Protocol.)
 use Rattle.std.specs.Prelude.{◌≡◌, Option, None, Some, ℕ, List, [], ◌∷◌, true, refl}
 use Rattle.std.specs.Coded.{Coded, code_by, coded×, coded_list, coded_option, coded_ℕ}
@@ -17,17 +17,18 @@ bytes_of (Signalled signal payload) = canonical_frame signal payload
 bytes_of (Handshake message) = written message
 bytes_of Tick = 0 ∷ 0 ∷ 0 ∷ 0 ∷ []
 
--- an item that has this spelling: a reader of frames, or of the handshake, reads it again. Only a reason follows a control term
+-- an item of these bytes: a reader of frames, or of the handshake, reads the item from them. Only a reason follows a control term
 abbrev pub IsSpelled : Item → Type 0
 IsSpelled (Signalled signal payload) =
     IsFramed (frame.Signal signal) (canonical_frame signal payload) × (payload ≡ true → has_reason signal ≡ true)
 IsSpelled (Handshake message) = HasFields message
 IsSpelled Tick = Unit {0}
 
--- from whom it is and to whom, where it names both. A message names no sender
-abbrev pub named : Option Pid → Pid → Option (Pid × Pid)
+-- the sender and the receiver, if the signal names both. A message names no sender
+abbrev pub named : Option Pid → Option Pid → Option (Pid × Pid)
 named None to = None
-named (Some from) to = Some (from, to)
+named (Some from) None = None
+named (Some from) (Some to) = Some (from, to)
 
 abbrev pub between_of : Item → Option (Pid × Pid)
 between_of (Signalled signal payload) = named (sender_of signal) (receiver_of signal)

@@ -1,4 +1,4 @@
-//! What travels, as it is sent.
+//! Items as they are sent.
 ghost use Rattle.std.specs.Prelude.{◌≡◌, ◌<◌, ◌^◌, ◌&&◌, IfOk, length, true};
 ghost use Rattle.std.specs.Option.{option_copied};
 ghost use Rattle.dist_model.specs.Items.{Handshake, Signalled, has_reason};
@@ -13,8 +13,8 @@ use erl_term::Pid;
 use std::alloc::{AllocError, Global};
 use std::marker::Model;
 
-/// An item that travels: its bytes, and of a signal the processes from which and to which it is.
-/// Contracts see both. (ERTS User's Guide, Distribution Protocol.)
+/// An item in flight: its bytes, and the sender and receiver of a signal that names both. Contracts see
+/// the bytes and the two. (ERTS User's Guide, Distribution Protocol.)
 #[derive(Debug, Drop)]
 pub struct Frame {
     bytes: Vec<u8>,
@@ -32,13 +32,14 @@ impl Model for Frame {
     ghost view = { λ f. record { bytes = f.bytes.items; between = f.between } };
 }
 
-// Copies of the two, if both are named.
-fn named(from: Option<&Pid>, to: &Pid) -> Result<Option<(Pid, Pid)>, AllocError>
-    ensures { IfOk result (λ b. b ≡ named (option_copied from.entry) to.now) }
+// Returns copies of the two, if both are named.
+fn named(from: Option<&Pid>, to: Option<&Pid>) -> Result<Option<(Pid, Pid)>, AllocError>
+    ensures { IfOk result (λ b. b ≡ named (option_copied from.entry) (option_copied to.entry)) }
 {
-    match from {
-        Some(from) => Ok(Some((from.clone()?, to.clone()?))),
-        None => Ok(None),
+    match (from, to) {
+        (Some(from), Some(to)) => Ok(Some((from.clone()?, to.clone()?))),
+        (Some(_), None) => Ok(None),
+        (None, _) => Ok(None),
     }
 }
 
@@ -64,7 +65,7 @@ fn is_a_digest(digest: [u8; 16])
     ensures { length digest ≡ 16 }
 {}
 
-// What a message tells has room in its fields.
+// Shows that the parts of a message fit its fields.
 fn has_fields(message: &ShakeMsg)
     ensures { HasFields message.now }
 {
@@ -99,7 +100,7 @@ fn has_fields(message: &ShakeMsg)
 }
 
 impl Frame {
-    /// Returns the one frame that is written of a signal. With `payload` its reason, if it has one,
+    /// Returns the frame of a signal. With `payload` its reason, if it has one,
     /// follows the control term. (ERTS User's Guide, Distribution Protocol, Protocol between Connected
     /// Nodes.)
     ///
@@ -119,7 +120,7 @@ impl Frame {
         }
     }
 
-    /// The bytes of a message of the handshake. (ERTS User's Guide, Distribution Protocol,
+    /// Returns the bytes of a message of the handshake. (ERTS User's Guide, Distribution Protocol,
     /// Distribution Handshake.)
     ///
     /// # Errors
@@ -135,7 +136,7 @@ impl Frame {
         })
     }
 
-    /// The same again.
+    /// Returns a copy.
     ///
     /// # Errors
     /// Where there is no memory for it.
@@ -143,7 +144,7 @@ impl Frame {
         ensures { IfOk result (λ f. f ≡ self.now) }
     {
         let between = match &self.between {
-            Some((from, to)) => named(Some(from), to)?,
+            Some((from, to)) => named(Some(from), Some(to))?,
             None => None,
         };
         Ok(Frame {
@@ -152,14 +153,14 @@ impl Frame {
         })
     }
 
-    /// The bytes.
+    /// Returns the bytes.
     pub fn as_slice(&self) -> &[u8]
         ensures { result.now ≡ self.now.bytes }
     {
         &self.bytes
     }
 
-    /// From which process it is and to which, where it is a signal that names both.
+    /// Returns the sender and the receiver of a signal that names both.
     pub fn between(&self) -> Option<&(Pid, Pid)>
         ensures { option_copied result ≡ self.now.between }
     {

@@ -22,9 +22,9 @@ pub fn same_pid(a: &Pid, b: &Pid) -> bool
     a.cmp(b).is_eq()
 }
 
-/// The process that a signal goes to.
-pub fn receiver(signal: &Signal) -> &Pid
-    ensures { result.now ≡ receiver_of signal.now }
+/// Returns the process that a signal names as its receiver.
+pub fn receiver(signal: &Signal) -> Option<&Pid>
+    ensures { option_copied result ≡ receiver_of signal.now }
 {
     match signal {
         Signal::Link { to, .. }
@@ -35,11 +35,11 @@ pub fn receiver(signal: &Signal) -> &Pid
         | Signal::Demonitor { to, .. }
         | Signal::MonitorExit { to, .. }
         | Signal::UnlinkId { to, .. }
-        | Signal::UnlinkIdAck { to, .. } => to,
+        | Signal::UnlinkIdAck { to, .. } => Some(to),
     }
 }
 
-/// The process that a signal is from. A SEND tells none.
+/// Returns the process that a signal names as its sender. A SEND names none.
 pub fn sender(signal: &Signal) -> Option<&Pid>
     ensures { option_copied result ≡ sender_of signal.now }
 {

@@ -10,9 +10,8 @@ use Rattle.dist_model.specs.Items.{Item, Signalled, has_reason}
 use Rattle.dist_model.specs.Names.{Name, same_name}
 use Rattle.dist_model.specs.Node.{Node, both_offer, payload_on, payload_to, route, route_in}
 use Rattle.dist_model.specs.Sides.{TrunkSide}
-use Rattle.dist_model.specs.Work.{Work, keep_local, post, report, send_on, spelled}
+use Rattle.dist_model.specs.Work.{Addressed, Work, keep_local, post, report, send_on, spelled}
 use Rattle.dist_model.specs.declared.report.Effect.{Effect}
-use Rattle.erl_control.specs.Ends.{receiver_of}
 use Rattle.erl_control.specs.declared.signal.Signal.{Signal}
 use Rattle.erl_handshake.specs.Flags.{offers}
 use Rattle.erl_handshake.specs.declared.flags.Flag.{Flag}
@@ -75,20 +74,21 @@ and_false true = refl
 and_false false = refl
 
 -- within the node a signal has the first spelling
-pub spelled_within : (m : Node) (signal : Signal) → same_name (receiver_of signal).node m.mint.name ≡ true
-    → spelled m signal ≡ own_item signal
-spelled_within m signal e =
-    let way = payload_on m (route m (receiver_of signal).node) in
-    ap (λ b. Signalled signal (has_reason signal && (not b && way))) e ∙ ap (Signalled signal) (and_false (has_reason signal))
+pub spelled_within : (m : Node) (letter : Addressed) → same_name letter.node m.mint.name ≡ true
+    → spelled m letter ≡ own_item letter.signal
+spelled_within m letter e =
+    let way = payload_on m (route m letter.node) in
+    ap (λ b. Signalled letter.signal (has_reason letter.signal && (not b && way))) e
+    ∙ ap (Signalled letter.signal) (and_false (has_reason letter.signal))
 
-module _ (plan : Plan) (m : Node) (work : Work) (signal : Signal) (local : Vec Signal Global) (effects : Vec (Effect Framed) Global)
+module _ (plan : Plan) (m : Node) (work : Work) (letter : Addressed) (local : Vec Signal Global) (effects : Vec (Effect Framed) Global)
     (h : CarriesOut plan m work) where
   abbrev item : Item
-  item = spelled m signal
+  item = spelled m letter
 
   -- where the signal goes
   abbrev there : Name
-  there = (receiver_of signal).node
+  there = letter.node
 
   abbrev on : TrunkId → Effect Item
   on t = Effect.Sent (Some t) there item
@@ -99,34 +99,34 @@ module _ (plan : Plan) (m : Node) (work : Work) (signal : Signal) (local : Vec S
   name_stays : work.node.mint.name ≡ m.mint.name
   name_stays = ap (λ (n : Node). n.mint.name) h.node ∙ (named_after plan.change plan.draws m.mint).0
 
-  spelled_stays : spelled work.node signal ≡ item
+  spelled_stays : spelled work.node letter ≡ item
   spelled_stays =
       let sides = ap (λ (n : Node). n.sides) h.node ∙ ap (λ xs. sides_after xs m.sides) h.still in
-      ap (λ b. Signalled signal (has_reason signal && b))
+      ap (λ b. Signalled letter.signal (has_reason letter.signal && b))
       (payload_same work.node m there name_stays (ap (λ (n : Node). n.flags) h.node) sides)
 
   goes : (b : Bool) → same_name there m.mint.name ≡ b
-      → post signal work ≡ cond b (keep_local item work) (send_on (route work.node there) there item work)
+      → post letter work ≡ cond b (keep_local item work) (send_on (route work.node there) there item work)
   goes b e =
       let sends : Bool → Item → Work = (λ b item. cond b (keep_local item work) (send_on (route work.node there) there item work)) in
-      ap (λ b. sends b (spelled work.node signal)) (ap (same_name there) name_stays ∙ e) ∙ ap (sends b) spelled_stays
+      ap (λ b. sends b (spelled work.node letter)) (ap (same_name there) name_stays ∙ e) ∙ ap (sends b) spelled_stays
 
   way : (o : Option TrunkId) → route m there ≡ o → route work.node there ≡ o
   way o e = ap (λ (n : Node). route n there) h.node ∙ ap (λ xs. route_in (fm.entries (sides_after xs m.sides)) there) h.still ∙ e
 
   -- into the own list
-  kept : same_name there m.mint.name ≡ true → local.items ≡ plan.local.items ++ signal ∷ []
+  kept : same_name there m.mint.name ≡ true → local.items ≡ plan.local.items ++ letter.signal ∷ []
       → effects.items ≡ plan.effects.items ++ Effect.Sent None m.mint.name (framed item) ∷ []
-      → IsSpelled item → is_sendable signal ≡ true → CarriesOut after m (keep_local item work)
+      → IsSpelled item → is_sendable letter.signal ≡ true → CarriesOut after m (keep_local item work)
   kept e l f written s =
       let told : Effect Item = Effect.Sent None work.node.mint.name item in
       let more : work.node.local ++ item ∷ [] ≡ popped plan.pops m.local ++ map own_item local.items =
       ap (λ (n : Node). n.local ++ item ∷ []) h.node
       ∙ append_assoc (popped plan.pops m.local) (map own_item plan.local.items) (item ∷ [])
-      ∙ ap (λ xs. popped plan.pops m.local ++ xs) (ap (λ x. map own_item plan.local.items ++ x ∷ []) (spelled_within m signal e)
-      ∙ sym (map_push own_item plan.local.items signal) ∙ ap (map own_item) (sym l)) in
+      ∙ ap (λ xs. popped plan.pops m.local ++ xs) (ap (λ x. map own_item plan.local.items ++ x ∷ []) (spelled_within m letter e)
+      ∙ sym (map_push own_item plan.local.items letter.signal) ∙ ap (map own_item) (sym l)) in
       let sendable : are_sendable local.items ≡ true =
-      ap are_sendable l ∙ sendable_both plan.local.items (signal ∷ []) h.sound.sendable (ap (λ b. b && true) s) in
+      ap are_sendable l ∙ sendable_both plan.local.items (letter.signal ∷ []) h.sound.sendable (ap (λ b. b && true) s) in
       record {
         still = h.still;
         calm = h.calm;
@@ -166,17 +166,17 @@ module _ (plan : Plan) (m : Node) (work : Work) (signal : Signal) (local : Vec S
       spelled = h.spelled;
     }
 
-  by : (b : Bool) (o : Option TrunkId) → same_name there m.mint.name ≡ b → route m there ≡ o → is_sendable signal ≡ true
-      → IsSentBy b o m.mint.name signal item plan.local.items local.items plan.effects.items effects.items
-      → CarriesOut after m (post signal work)
+  by : (b : Bool) (o : Option TrunkId) → same_name there m.mint.name ≡ b → route m there ≡ o → is_sendable letter.signal ≡ true
+      → IsSentBy b o m.mint.name letter item plan.local.items local.items plan.effects.items effects.items
+      → CarriesOut after m (post letter work)
   by true o e r s k = subst (CarriesOut after m) (sym (goes true e)) (kept e k.0 k.1 k.2 s)
   by false (Some t) e r s k =
       subst (CarriesOut after m) (sym (goes false e ∙ ap (λ w. send_on w there item work) (way (Some t) r))) (sent_on k.0 t k.1 k.2)
   by false None e r s k =
       subst (CarriesOut after m) (sym (goes false e ∙ ap (λ w. send_on w there item work) (way None r))) (dropped k.0 k.1)
 
-  pub carries_post : (sent : Result (Unit {0}) AllocError) → is_sendable signal ≡ true
-      → OnOk sent (IsSent m signal plan.local.items local.items plan.effects.items effects.items)
-      → Carries m (post signal work) after sent
+  pub carries_post : (sent : Result (Unit {0}) AllocError) → is_sendable letter.signal ≡ true
+      → OnOk sent (IsSent m letter plan.local.items local.items plan.effects.items effects.items)
+      → Carries m (post letter work) after sent
   carries_post (Ok done) s k = by (same_name there m.mint.name) (route m there) refl refl s k
   carries_post (Err e) s k = tt

@@ -1,10 +1,10 @@
-//! A signal is sent.
+//! The sending of a signal.
 ghost use Rattle.std.specs.Prelude.{◌≡◌, ◌++◌, [], ◌∷◌, true, None, Some, IfSome, OnOk};
 ghost use Rattle.std.specs.FinMap as fm;
 ghost use Rattle.dist_model.specs.Node as model;
 ghost use Rattle.dist_model.specs.Node.{Node as TheNode};
 ghost use Rattle.node_plan.specs.Plans.{told};
-ghost use Rattle.dist_model.specs.Work.{Work, post};
+ghost use Rattle.dist_model.specs.Work.{Work, post, to_node};
 ghost use Rattle.node_plan.specs.Carried.{Carries, CarriesOut};
 ghost use Rattle.node_frames.specs.Sendable.{is_sendable};
 ghost use Rattle.node_tables.specs.Standings.{side_of};
@@ -19,7 +19,7 @@ use dist_model::Effect;
 use erl_control::Signal;
 use erl_handshake::{Flag, Flags};
 use erl_term::Atom;
-use node_frames::{Frame, receiver, same_name};
+use node_frames::{Frame, same_name};
 use std::alloc::{AllocError, Global};
 
 impl Node {
@@ -60,18 +60,18 @@ fn keep(local: &mut Vec<Signal>, signal: Signal) -> Result<(), AllocError>
     Ok(())
 }
 
-// Puts the signal into the own list or onto the connection that is up, and tells of it.
+// Puts the signal to the target node into the own list or onto the connection that is up, and tells of it.
 fn send(
     local: &mut Vec<Signal>,
     effects: &mut Vec<Effect<Frame>>,
     alloc: Global,
     node: &Node,
+    target: &Atom,
     signal: Signal,
 ) -> Result<(), AllocError>
     requires { is_sendable signal ≡ true }
-    ensures { OnOk result (IsSent (seen node.now) signal local.old.items local.new.items effects.old.items effects.new.items) }
+    ensures { OnOk result (IsSent (seen node.now) (to_node target.now signal) local.old.items local.new.items effects.old.items effects.new.items) }
 {
-    let target = &receiver(&signal).node;
     if same_name(target, node.name().atom()) {
         return match push_signal_here(effects, alloc, node.name(), &signal) {
             Ok(()) => keep(local, signal),
@@ -96,22 +96,35 @@ fn send(
 }
 
 impl Plan {
-    /// Sends a signal to the node of its receiver: into the own list, onto the connection that is up,
+    /// Sends a signal to the node `target`: into the own list, onto the connection that is up,
     /// or nowhere. Its reason follows the control term on a connection whose two nodes both offer this.
     /// (Reference Manual, Processes, Delivery of Signals; ERTS User's Guide, Distribution Protocol,
     /// Distribution Flags.)
     ///
     /// # Errors
     /// Where there is no memory for it.
-    pub fn post(&mut self, alloc: Global, node: &Node, signal: Signal) -> Result<(), AllocError>
+    pub fn post(
+        &mut self,
+        alloc: Global,
+        node: &Node,
+        target: &Atom,
+        signal: Signal,
+    ) -> Result<(), AllocError>
         requires { is_sendable signal ≡ true }
-        ensures carries { (work : Work) → CarriesOut self.old (seen node.now) work → Carries (seen node.now) (post signal work) self.new result }
+        ensures carries { (work : Work) → CarriesOut self.old (seen node.now) work → Carries (seen node.now) (post (to_node target.now signal) work) self.new result }
         ensures answer { self.new.answer ≡ self.old.answer }
         ensures told { (m : TheNode) → told self.new m ≡ told self.old m }
         ensures change { self.new.change ≡ self.old.change }
         ensures watches { self.new.watches ≡ self.old.watches }
         ensures watchers { self.new.watchers ≡ self.old.watchers }
     {
-        send(&mut self.local, &mut self.effects, alloc, node, signal)
+        send(
+            &mut self.local,
+            &mut self.effects,
+            alloc,
+            node,
+            target,
+            signal,
+        )
     }
 }

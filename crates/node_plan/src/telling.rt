@@ -1,8 +1,9 @@
-//! A process tells another of their link, or of a monitor.
+//! The signals by which a process tells another of their link, or of a monitor.
 ghost use Rattle.std.specs.Prelude.{◌≡◌, true};
 ghost use Rattle.dist_model.specs.Items.{telling};
 ghost use Rattle.dist_model.specs.Node.{Node as TheNode};
-ghost use Rattle.dist_model.specs.Work.{Work, post};
+ghost use Rattle.dist_model.specs.Linking.{told_to};
+ghost use Rattle.dist_model.specs.Work.{Work, post, to_pid};
 ghost use Rattle.erl_control.specs.declared.signal.Signal.TheVariants as signals;
 ghost use Rattle.link_core.specs.News.{Signals};
 ghost use Rattle.node_plan.specs.Carried.{Carries, CarriesOut};
@@ -18,7 +19,7 @@ use link_core::LinkSignal;
 use std::alloc::{AllocError, Global};
 
 impl Plan {
-    /// A process sends MONITOR_P. (ERTS User's Guide, Distribution Protocol, Protocol between
+    /// Posts MONITOR_P of a process. (ERTS User's Guide, Distribution Protocol, Protocol between
     /// Connected Nodes.)
     ///
     /// # Errors
@@ -31,13 +32,13 @@ impl Plan {
         to: &Pid,
         reference: &Reference,
     ) -> Result<(), AllocError>
-        ensures carries { (work : Work) → CarriesOut self.old (seen node.now) work → Carries (seen node.now) (post (signals.Monitor from.now to.now reference.now) work) self.new result }
+        ensures carries { (work : Work) → CarriesOut self.old (seen node.now) work → Carries (seen node.now) (post (to_pid to.now (signals.Monitor from.now to.now reference.now)) work) self.new result }
         ensures told { (m : TheNode) → told self.new m ≡ told self.old m }
     {
-        self.post(alloc, node, monitor_signal(from, to, reference)?)
+        self.post(alloc, node, &to.node, monitor_signal(from, to, reference)?)
     }
 
-    /// A process sends DEMONITOR_P. (ERTS User's Guide, Distribution Protocol, Protocol between
+    /// Posts DEMONITOR_P of a process. (ERTS User's Guide, Distribution Protocol, Protocol between
     /// Connected Nodes.)
     ///
     /// # Errors
@@ -50,13 +51,18 @@ impl Plan {
         to: &Pid,
         reference: &Reference,
     ) -> Result<(), AllocError>
-        ensures carries { (work : Work) → CarriesOut self.old (seen node.now) work → Carries (seen node.now) (post (signals.Demonitor from.now to.now reference.now) work) self.new result }
+        ensures carries { (work : Work) → CarriesOut self.old (seen node.now) work → Carries (seen node.now) (post (to_pid to.now (signals.Demonitor from.now to.now reference.now)) work) self.new result }
         ensures told { (m : TheNode) → told self.new m ≡ told self.old m }
     {
-        self.post(alloc, node, demonitor_signal(from, to, reference)?)
+        self.post(
+            alloc,
+            node,
+            &to.node,
+            demonitor_signal(from, to, reference)?,
+        )
     }
 
-    /// A process sends its partner a signal of the New Link Protocol. (ERTS User's Guide, Distribution
+    /// Posts a signal of the New Link Protocol from a process to its partner. (ERTS User's Guide, Distribution
     /// Protocol, New Link Protocol.)
     ///
     /// # Errors
@@ -70,12 +76,12 @@ impl Plan {
         signal: LinkSignal,
     ) -> Result<(), AllocError>
         requires { is_sendable (telling from.now to.now (Signals signal)) ≡ true }
-        ensures carries { (work : Work) → CarriesOut self.old (seen node.now) work → Carries (seen node.now) (post (telling from.now to.now (Signals signal)) work) self.new result }
+        ensures carries { (work : Work) → CarriesOut self.old (seen node.now) work → Carries (seen node.now) (post (told_to from.now to.now (Signals signal)) work) self.new result }
         ensures told { (m : TheNode) → told self.new m ≡ told self.old m }
         ensures change { self.new.change ≡ self.old.change }
         ensures watches { self.new.watches ≡ self.old.watches }
         ensures watchers { self.new.watchers ≡ self.old.watchers }
     {
-        self.post(alloc, node, link_signal(from, to, signal)?)
+        self.post(alloc, node, &to.node, link_signal(from, to, signal)?)
     }
 }

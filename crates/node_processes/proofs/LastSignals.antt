@@ -10,8 +10,7 @@ use Rattle.dist_model.proofs.Keys.{pair_exact, pair_total, same_pair}
 use Rattle.dist_model.specs.Exits.{buried, demonitors, end_process, exit_for, exits, monitor_exits}
 use Rattle.dist_model.specs.Names.{pair_cmp, same_pid}
 use Rattle.dist_model.specs.Node.{Node, ends_of, links_in}
-use Rattle.dist_model.specs.Work.{Work, post, post_all}
-use Rattle.erl_control.specs.declared.signal.Signal.{Signal}
+use Rattle.dist_model.specs.Work.{Addressed, Work, post, post_all}
 use Rattle.erl_term.specs.Data.{Data}
 use Rattle.erl_term.specs.declared.term.Pid.{Pid}
 use Rattle.link_core.specs.declared.end.End.{End}
@@ -29,27 +28,27 @@ use Rattle.sorted_map.proofs.Orderings.{turned}
 
 -- ---- signals sent in a row
 
-pub post_both : (xs ys : List Signal) (w : Work) → post_all (xs ++ ys) w ≡ post_all ys (post_all xs w)
+pub post_both : (xs ys : List Addressed) (w : Work) → post_all (xs ++ ys) w ≡ post_all ys (post_all xs w)
 post_both [] ys w = refl
 post_both (x ∷ xs) ys w = post_both xs ys (post x w)
 
-flat_more : {X : Type 0} (f : X → List Signal) (xs : List X) (x : X) → flat_map f (xs ++ x ∷ []) ≡ flat_map f xs ++ f x
+flat_more : {X : Type 0} (f : X → List Addressed) (xs : List X) (x : X) → flat_map f (xs ++ x ∷ []) ≡ flat_map f xs ++ f x
 flat_more f [] x = append-nil (f x)
 flat_more f (y ∷ xs) x = ap (λ l. f y ++ l) (flat_more f xs x) ∙ sym (append_assoc (f y) (flat_map f xs) (f x))
 
 -- and one more
-pub post_more : {X : Type 0} (f : X → List Signal) (xs ys : List X) (x : X) (w : Work) → ys ≡ xs ++ x ∷ []
+pub post_more : {X : Type 0} (f : X → List Addressed) (xs ys : List X) (x : X) (w : Work) → ys ≡ xs ++ x ∷ []
     → post_all (flat_map f ys) w ≡ post_all (f x) (post_all (flat_map f xs) w)
 post_more f xs ys x w h =
     ap (λ l. post_all (flat_map f l) w) h ∙ ap (λ l. post_all l w) (flat_more f xs x) ∙ post_both (flat_map f xs) (f x) w
 
 -- what doesn't pass gives none
-pub flat_passing : {X : Type 0} (passes : X → Bool) (f : X → List Signal) (xs : List X)
+pub flat_passing : {X : Type 0} (passes : X → Bool) (f : X → List Addressed) (xs : List X)
     → flat_map (λ x. cond (passes x) (f x) []) (filter passes xs) ≡ flat_map (λ x. cond (passes x) (f x) []) xs
 flat_passing passes f [] = refl
 flat_passing {X = X} passes f (x ∷ xs) = go (passes x) refl (flat_passing passes f xs)
   where
-    told : List X → List Signal
+    told : List X → List Addressed
     told = flat_map (λ y. cond (passes y) (f y) [])
 
     go : (b : Bool) → passes x ≡ b → told (filter passes xs) ≡ told xs
@@ -73,13 +72,13 @@ entries_removed ends k =
     (λ y t. ap (λ z. not (eq_by_cmp pair_cmp z k)) (sym (pair_exact x y t))) (fm.entries ends))) in
     ap fm.entries same ∙ fm.entries-from_sorted pair_cmp (where_key pair_cmp (λ x. not (eq_by_cmp pair_cmp x k)) (fm.entries ends)) sorted
 
-first_told : (f : Pid × End → List Signal) (b : Bool) (x : Pid × End) (rest : List (Pid × End))
+first_told : (f : Pid × End → List Addressed) (b : Bool) (x : Pid × End) (rest : List (Pid × End))
     → flat_map f (cond b (x ∷ []) [] ++ rest) ≡ cond b (f x) [] ++ flat_map f rest
 first_told f true x rest = ap (λ l. l ++ flat_map f rest) refl
 first_told f false x rest = refl
 
 module _ (p q : Pid) (reason : Data) where
-  all : Pid × End → List Signal
+  all : Pid × End → List Addressed
   all x = exit_for p reason x.0 x.1
 
   skipped : (xs : List ((Pid × Pid) × End))
@@ -107,7 +106,7 @@ module _ (p q : Pid) (reason : Data) where
           first_told (λ y. exit_for p reason y.0 y.1) (same_pid x.0.0 p) (x.0.1, x.1)
           (links_in (where_key pair_cmp (λ x. not (eq_by_cmp pair_cmp x (p, q))) xs) p)
 
-      either : (a b : Bool) (l : List Signal) → cond (not (a && b)) (cond a l []) [] ≡ cond a (cond b [] l) []
+      either : (a b : Bool) (l : List Addressed) → cond (not (a && b)) (cond a l []) [] ≡ cond a (cond b [] l) []
       either true true l = refl
       either _ _ l = refl
 

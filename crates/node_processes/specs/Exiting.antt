@@ -1,9 +1,9 @@
--- What a process that ends sends, where its link to one partner is gone already.
+-- The signals of a process that ends while its link to one partner is gone already.
 use Rattle.std.specs.Prelude.{◌≡◌, true, if◌then◌else◌, List, []}
 use Rattle.std.specs.List.{flat_map}
 use Rattle.dist_model.specs.Exits.{exit_for}
+use Rattle.dist_model.specs.Work.{Addressed}
 use Rattle.erl_control.specs.Fits.{fits}
-use Rattle.erl_control.specs.declared.signal.Signal.{Signal}
 use Rattle.erl_term.specs.Data.{Data}
 use Rattle.erl_term.specs.declared.term.Pid.{Pid}
 use Rattle.exit_core.specs.declared.reaction.Reaction.{Reaction}
@@ -20,13 +20,13 @@ OnlyExits (link.Becomes q end.Exits) = Unit {0}
 OnlyExits _ = ⊥
 
 -- EXIT to a partner to which the link is active, unless it is gone
-abbrev pub exit_to : LinkChange → Pid → Data → Pid → End → List Signal
+abbrev pub exit_to : LinkChange → Pid → Data → Pid → End → List Addressed
 exit_to planned p reason q end = if is_gone planned q then [] else exit_for p reason q end
 
-abbrev pub exits_to : LinkChange → Pid → Data → List (Pid × End) → List Signal
+abbrev pub exits_to : LinkChange → Pid → Data → List (Pid × End) → List Addressed
 exits_to planned p reason = flat_map (λ link. exit_to planned p reason link.0 link.1)
 
--- where a process ends, its reason fits a signal
+-- the reason of a process that ends fits a signal
 abbrev pub FitsWhereEnds : Reaction → Type 0
 FitsWhereEnds (Reaction.End reason) = fits reason ≡ true
 FitsWhereEnds _ = Unit {0}

@@ -1,12 +1,14 @@
-//! What a caller asks of a process by itself.
+//! The commands of a process that concern no link and no monitor.
 ghost use Rattle.std.specs.Prelude.{◌≡◌, true, IfOk};
 ghost use Rattle.dist_model.specs.Calls.{call};
-ghost use Rattle.dist_model.specs.Node.{ends_of};
-ghost use Rattle.dist_model.specs.Work.{at_work};
+ghost use Rattle.dist_model.specs.Node.{Node as TheNode, ends_of};
+ghost use Rattle.dist_model.specs.Work.{Work, at_work, post, to_pid};
 ghost use Rattle.dist_model.specs.declared.command.Command.TheVariants as command;
 ghost use Rattle.dist_model.specs.declared.report.Answer.TheVariants as answer;
+ghost use Rattle.erl_control.specs.declared.signal.Signal.TheVariants as signal;
+ghost use Rattle.node_frames.specs.Sendable.{is_sendable};
 ghost use Rattle.node_plan.specs.Planned.{Plans};
-ghost use Rattle.node_plan.specs.Carried.{CarriesOut, IsBlank};
+ghost use Rattle.node_plan.specs.Carried.{Carries, CarriesOut, IsBlank};
 ghost use Rattle.node_plan.specs.Plans.{told};
 ghost use Rattle.node_plan.specs.Seen.{seen};
 
@@ -18,7 +20,7 @@ use erl_term::{Payload, Pid, Refusal};
 use node_plan::{Node, Plan, or_refuse};
 use std::alloc::{AllocError, Global};
 
-/// A process is spawned.
+/// Plans to spawn a process.
 pub(crate) fn spawn(node: &Node, plan: &mut Plan) -> Result<(), Refusal>
     requires up { (seen node.now).up ≡ true }
     requires blank { IsBlank plan.old }
@@ -35,7 +37,40 @@ pub(crate) fn spawn(node: &Node, plan: &mut Plan) -> Result<(), Refusal>
     Ok(())
 }
 
-/// A process sends a message to another.
+// Posts SEND to the node of its receiver.
+fn post_message(
+    alloc: Global,
+    node: &Node,
+    plan: &mut Plan,
+    to: Pid,
+    message: Payload,
+) -> Result<(), AllocError>
+    requires { is_sendable (signal.Send to message) ≡ true }
+    ensures carries { (work : Work) → CarriesOut plan.old (seen node.now) work → Carries (seen node.now) (post (to_pid to (signal.Send to message)) work) plan.new result }
+    ensures told { (m : TheNode) → told plan.new m ≡ told plan.old m }
+{
+    let target = to.node.clone()?;
+    plan.post(alloc, node, &target, Signal::Send { to, message })
+}
+
+// Posts EXIT2 to the node of its receiver.
+fn post_exit2(
+    alloc: Global,
+    node: &Node,
+    plan: &mut Plan,
+    from: Pid,
+    to: Pid,
+    reason: Payload,
+) -> Result<(), AllocError>
+    requires { is_sendable (signal.Exit2 from to reason) ≡ true }
+    ensures carries { (work : Work) → CarriesOut plan.old (seen node.now) work → Carries (seen node.now) (post (to_pid to (signal.Exit2 from to reason)) work) plan.new result }
+    ensures told { (m : TheNode) → told plan.new m ≡ told plan.old m }
+{
+    let target = to.node.clone()?;
+    plan.post(alloc, node, &target, Signal::Exit2 { from, to, reason })
+}
+
+/// Plans to send a message from a process to another.
 pub(crate) fn send(
     alloc: Global,
     node: &Node,
@@ -51,10 +86,10 @@ pub(crate) fn send(
     acts(node, from)?;
     aims_at(node, &to)?;
     fits_in(&message)?;
-    or_refuse(plan.post(alloc, node, Signal::Send { to, message }))
+    or_refuse(post_message(alloc, node, plan, to, message))
 }
 
-/// A process asks another to end.
+/// Plans to send an exit signal from a process to another.
 pub(crate) fn exit_to(
     alloc: Global,
     node: &Node,
@@ -70,10 +105,10 @@ pub(crate) fn exit_to(
     acts(node, &from)?;
     aims_at(node, &to)?;
     fits_in(&reason)?;
-    or_refuse(plan.post(alloc, node, Signal::Exit2 { from, to, reason }))
+    or_refuse(post_exit2(alloc, node, plan, from, to, reason))
 }
 
-/// A process traps exits from now on, or doesn't.
+/// Plans that a process traps exits from now on, or doesn't.
 pub(crate) fn trap(node: &Node, plan: &mut Plan, process: Pid, on: bool) -> Result<(), Refusal>
     requires blank { IsBlank plan.old }
     requires told { told plan.old (seen node.now) ≡ answer.Done }
@@ -106,7 +141,7 @@ pub(crate) fn is_alive(node: &Node, plan: &mut Plan, process: &Pid) -> Result<()
     Ok(())
 }
 
-/// A process ends.
+/// Plans the end of a process.
 pub(crate) fn exit_self(
     alloc: Global,
     node: &Node,
@@ -124,7 +159,7 @@ pub(crate) fn exit_self(
     or_refuse(finish(plan, alloc, node, process, reason))
 }
 
-// Copies the links of a process.
+// Returns copies of the links of a process.
 fn copied_links(alloc: Global, node: &Node, process: &Pid) -> Result<Links, AllocError>
     ensures { IfOk result (λ told. told ≡ ends_of (seen node.now) process.now) }
 {

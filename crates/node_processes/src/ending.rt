@@ -1,10 +1,10 @@
-//! A process ends.
+//! The end of a process.
 ghost use Rattle.std.specs.Prelude.{◌≡◌, true, if◌then◌else◌, [], ◌∷◌};
 ghost use Rattle.std.specs.FinMap as fm;
 ghost use Rattle.dist_model.specs.Exits.{demonitors, end_process, monitor_exits};
 ghost use Rattle.dist_model.specs.Names.{same_pid};
 ghost use Rattle.dist_model.specs.Node.{Node as TheNode, ends_of, living};
-ghost use Rattle.dist_model.specs.Work.{Work, post_all};
+ghost use Rattle.dist_model.specs.Work.{Work, post_all, to_pid};
 ghost use Rattle.erl_control.specs.Fits.{fits};
 ghost use Rattle.erl_control.specs.declared.signal.Signal.TheVariants as signal;
 ghost use Rattle.link_core.specs.Table.{is_active};
@@ -30,7 +30,7 @@ pub fn is_active(end: End) -> bool
     matches!(end, End::Active)
 }
 
-// EXIT to a partner to which the link is active, unless it is gone.
+// Posts EXIT to a partner to which the link is active, unless it is gone.
 fn post_exit(
     plan: &mut Plan,
     alloc: Global,
@@ -55,7 +55,7 @@ fn post_exit(
         to: partner.clone()?,
         reason: reason.copy(alloc)?,
     };
-    plan.post(alloc, node, signal)
+    plan.post(alloc, node, &partner.node, signal)
 }
 
 // Posts EXIT to each partner to which the link is active, unless it is gone.
@@ -81,7 +81,7 @@ fn post_exits(
     Ok(())
 }
 
-// MONITOR_P_EXIT to the owner of a monitor, if it is one of the process.
+// Posts MONITOR_P_EXIT to the owner of a monitor, if it is one of the process.
 fn post_monitor_exit(
     plan: &mut Plan,
     alloc: Global,
@@ -92,7 +92,7 @@ fn post_monitor_exit(
     monitor: &Monitor,
 ) -> Result<(), AllocError>
     requires { fits reason.now ≡ true }
-    ensures carries { (work : Work) → CarriesOut plan.old (seen node.now) work → Carries (seen node.now) (post_all (if same_pid monitor.now.target process.now then signal.MonitorExit process.now monitor.now.owner reference.now reason.now ∷ [] else []) work) plan.new result }
+    ensures carries { (work : Work) → CarriesOut plan.old (seen node.now) work → Carries (seen node.now) (post_all (if same_pid monitor.now.target process.now then to_pid monitor.now.owner (signal.MonitorExit process.now monitor.now.owner reference.now reason.now) ∷ [] else []) work) plan.new result }
     ensures answer { plan.new.answer ≡ plan.old.answer }
     ensures change { plan.new.change ≡ plan.old.change }
     ensures watches { plan.new.watches ≡ plan.old.watches }
@@ -107,10 +107,10 @@ fn post_monitor_exit(
         reference: reference.clone()?,
         reason: reason.copy(alloc)?,
     };
-    plan.post(alloc, node, signal)
+    plan.post(alloc, node, &monitor.owner.node, signal)
 }
 
-// MONITOR_P_EXIT to the owner of each monitor of the process.
+// Posts MONITOR_P_EXIT to the owner of each monitor of the process.
 fn post_monitor_exits(
     plan: &mut Plan,
     alloc: Global,
@@ -134,7 +134,7 @@ fn post_monitor_exits(
     Ok(())
 }
 
-// DEMONITOR_P for a monitor, if the process owns it.
+// Posts DEMONITOR_P for a monitor, if the process owns it.
 fn post_demonitor(
     plan: &mut Plan,
     alloc: Global,
@@ -143,7 +143,7 @@ fn post_demonitor(
     reference: &Reference,
     monitor: &Monitor,
 ) -> Result<(), AllocError>
-    ensures carries { (work : Work) → CarriesOut plan.old (seen node.now) work → Carries (seen node.now) (post_all (if same_pid monitor.now.owner process.now then signal.Demonitor process.now monitor.now.target reference.now ∷ [] else []) work) plan.new result }
+    ensures carries { (work : Work) → CarriesOut plan.old (seen node.now) work → Carries (seen node.now) (post_all (if same_pid monitor.now.owner process.now then to_pid monitor.now.target (signal.Demonitor process.now monitor.now.target reference.now) ∷ [] else []) work) plan.new result }
     ensures answer { plan.new.answer ≡ plan.old.answer }
     ensures change { plan.new.change ≡ plan.old.change }
     ensures watches { plan.new.watches ≡ plan.old.watches }
@@ -157,10 +157,10 @@ fn post_demonitor(
         to: monitor.target.clone()?,
         reference: reference.clone()?,
     };
-    plan.post(alloc, node, signal)
+    plan.post(alloc, node, &monitor.target.node, signal)
 }
 
-// DEMONITOR_P for each monitor that the process owns.
+// Posts DEMONITOR_P for each monitor that the process owns.
 fn post_demonitors(
     plan: &mut Plan,
     alloc: Global,
@@ -182,7 +182,7 @@ fn post_demonitors(
     Ok(())
 }
 
-/// A process ends: EXIT goes to each partner to which it is linked, MONITOR_P_EXIT to the owners of
+/// Plans the end of a process: EXIT goes to each partner to which it is linked, MONITOR_P_EXIT to the owners of
 /// its monitors, and DEMONITOR_P for those that it owns itself. (Reference Manual, Processes,
 /// Process Termination; ERTS User's Guide, Distribution Protocol.)
 ///

@@ -1,10 +1,10 @@
-//! A process monitors another, and takes that back.
+//! The calls by which a process monitors another, and takes that back.
 ghost use Rattle.std.specs.Prelude.{◌≡◌, ◌+◌, ◌-◌, ◌^◌, ◌<◌, true, OnOk};
 ghost use Rattle.dist_model.specs.Calls.{call};
 ghost use Rattle.dist_model.specs.Monitoring as monitoring;
 ghost use Rattle.dist_model.specs.Node.{Node as TheNode};
 ghost use Rattle.dist_model.specs.Node as model;
-ghost use Rattle.dist_model.specs.Work.{Work, at_work, draw, post, put};
+ghost use Rattle.dist_model.specs.Work.{Work, at_work, draw, post, put, to_pid};
 ghost use Rattle.dist_model.specs.declared.command.Command.TheVariants as command;
 ghost use Rattle.dist_model.specs.declared.report.Answer.TheVariants as answer;
 ghost use Rattle.erl_control.specs.declared.signal.Signal.TheVariants as signal;
@@ -31,7 +31,7 @@ use node_frames::same_pid;
 use node_plan::{Node, Plan, copied, monitor_between, or_refuse};
 use std::alloc::{AllocError, Global};
 
-// A process monitors another whose node is reached, under the reference that is drawn for this.
+// Monitors a process whose node is reached, under the reference that is drawn for this.
 fn monitor_reached(
     alloc: Global,
     node: &Node,
@@ -45,7 +45,7 @@ fn monitor_reached(
     requires watches { plan.old.watches ≡ stays.Stays }
     requires next { reference.now ≡ reference_of (seen node.now).mint ((seen node.now).mint.references + 1) }
     requires below { (seen node.now).mint.references < 2 ^ 18 - 1 }
-    ensures carries { (work : Work) → CarriesOut plan.old (seen node.now) work → Carries (seen node.now) (post (signal.Monitor owner.now target.now reference.now) (monitoring.watch reference.now (monitor_of owner.now target.now) work)) plan.new result }
+    ensures carries { (work : Work) → CarriesOut plan.old (seen node.now) work → Carries (seen node.now) (post (to_pid target.now (signal.Monitor owner.now target.now reference.now)) (monitoring.watch reference.now (monitor_of owner.now target.now) work)) plan.new result }
     ensures told { (m : TheNode) → told plan.new m ≡ told plan.old m }
 {
     let monitor = monitor_between(owner, target)?;
@@ -53,7 +53,7 @@ fn monitor_reached(
     plan.tell_monitor(alloc, node, owner, target, reference)
 }
 
-// The node of the other isn't reached, so DOWN comes at once.
+// Puts DOWN at once, since the node of the other isn't reached.
 fn monitor_lost(
     alloc: Global,
     plan: &mut Plan,
@@ -70,7 +70,7 @@ fn monitor_lost(
     plan.put(alloc, owner, message)
 }
 
-// A process monitors another under the reference that is drawn for this.
+// Monitors a process under the reference that is drawn for this.
 fn monitor_as(
     alloc: Global,
     node: &Node,
@@ -94,7 +94,7 @@ fn monitor_as(
     }
 }
 
-// A process monitors another under the reference of this count, which is answered.
+// Monitors a process under the reference of this count, and answers the reference.
 fn monitor_under(
     alloc: Global,
     node: &Node,
@@ -116,7 +116,7 @@ fn monitor_under(
     monitor_as(alloc, node, plan, owner, target, &reference)
 }
 
-/// A process monitors another.
+/// Plans that a process monitors another.
 pub(crate) fn monitor(
     alloc: Global,
     node: &Node,
@@ -134,7 +134,7 @@ pub(crate) fn monitor(
     or_refuse(monitor_under(alloc, node, plan, owner, target, count))
 }
 
-// A process takes a monitor of its own back.
+// Takes back a monitor of the process.
 fn demonitor_own(
     alloc: Global,
     node: &Node,
@@ -144,14 +144,14 @@ fn demonitor_own(
     reference: &Reference,
 ) -> Result<(), AllocError>
     requires { IsBlank plan.old }
-    ensures carries { (work : Work) → CarriesOut plan.old (seen node.now) work → Carries (seen node.now) (post (signal.Demonitor owner.now target.now reference.now) (monitoring.unwatch reference.now work)) plan.new result }
+    ensures carries { (work : Work) → CarriesOut plan.old (seen node.now) work → Carries (seen node.now) (post (to_pid target.now (signal.Demonitor owner.now target.now reference.now)) (monitoring.unwatch reference.now work)) plan.new result }
     ensures told { (m : TheNode) → told plan.new m ≡ told plan.old m }
 {
     plan.unwatch(copied(reference)?);
     plan.tell_demonitor(alloc, node, owner, target, reference)
 }
 
-/// A process takes a monitor back.
+/// Plans that a process takes a monitor back.
 pub(crate) fn demonitor(
     alloc: Global,
     node: &Node,

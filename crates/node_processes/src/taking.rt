@@ -1,4 +1,4 @@
-//! A signal comes to the process that it names.
+//! The delivery of a signal to the process that it names.
 ghost use Rattle.std.specs.Prelude.{◌≡◌, true, false, IfOk};
 ghost use Rattle.dist_model.specs.Linking.{take_link, take_link_by};
 ghost use Rattle.dist_model.specs.Exits.{link_exit};
@@ -6,7 +6,8 @@ ghost use Rattle.dist_model.specs.Items.{telling};
 ghost use Rattle.dist_model.specs.Node as model;
 ghost use Rattle.dist_model.specs.Node.{Node as TheNode};
 ghost use Rattle.dist_model.specs.Taking.{take};
-ghost use Rattle.dist_model.specs.Work.{Work, post, set_end};
+ghost use Rattle.dist_model.specs.Names.{Name};
+ghost use Rattle.dist_model.specs.Work.{Work, post, set_end, to_pid};
 ghost use Rattle.link_core.specs.News.{Exited, Signals, noproc};
 ghost use Rattle.link_core.specs.declared.end.End.TheVariants as end;
 ghost use Rattle.erl_control.specs.declared.signal.Signal.TheVariants as signal;
@@ -27,7 +28,7 @@ use node_plan::{Node, Plan};
 use node_tables::EndChange;
 use std::alloc::{AllocError, Global};
 
-// SEND comes to a process.
+// Takes SEND to a process.
 pub(crate) fn take_message(
     alloc: Global,
     node: &Node,
@@ -36,7 +37,7 @@ pub(crate) fn take_message(
     message: &Payload,
 ) -> Result<(), AllocError>
     requires { IsBlank plan.old }
-    ensures carries { (work : Work) → CarriesOut plan.old (seen node.now) work → Carries (seen node.now) (take (signal.Send to.now message.now) work) plan.new result }
+    ensures carries { (source : Name) (work : Work) → CarriesOut plan.old (seen node.now) work → Carries (seen node.now) (take source (signal.Send to.now message.now) work) plan.new result }
     ensures told { (m : TheNode) → told plan.new m ≡ told plan.old m }
 {
     if !node.is_living(to) {
@@ -45,7 +46,7 @@ pub(crate) fn take_message(
     plan.put(alloc, to, message.copy(alloc)?)
 }
 
-// A signal of the New Link Protocol comes to a living process.
+// Takes a signal of the New Link Protocol to a living process.
 fn take_at_living(
     alloc: Global,
     node: &Node,
@@ -68,7 +69,7 @@ fn take_at_living(
     }
 }
 
-// LINK comes where the process isn't living.
+// Answers LINK to a process that isn't living.
 fn tell_no_process(
     alloc: Global,
     node: &Node,
@@ -76,13 +77,14 @@ fn tell_no_process(
     to: &Pid,
     from: &Pid,
 ) -> Result<(), AllocError>
-    ensures carries { (work : Work) → CarriesOut plan.old (seen node.now) work → Carries (seen node.now) (post (signal.Exit to.now from.now noproc) work) plan.new result }
+    ensures carries { (work : Work) → CarriesOut plan.old (seen node.now) work → Carries (seen node.now) (post (to_pid from.now (signal.Exit to.now from.now noproc)) work) plan.new result }
     ensures told { (m : TheNode) → told plan.new m ≡ told plan.old m }
 {
     let reason = no_process(alloc)?;
-    plan.post(alloc, node, exit_signal(to, from, reason)?)
+    plan.post(alloc, node, &from.node, exit_signal(to, from, reason)?)
 }
 
+// Returns EXIT of copies of the two pids.
 fn exit_signal(from: &Pid, to: &Pid, reason: Payload) -> Result<Signal, AllocError>
     ensures { IfOk result (λ s. s ≡ signal.Exit from.now to.now reason) }
 {
@@ -93,7 +95,7 @@ fn exit_signal(from: &Pid, to: &Pid, reason: Payload) -> Result<Signal, AllocErr
     })
 }
 
-// A signal of the New Link Protocol comes where the process isn't living.
+// Takes a signal of the New Link Protocol to a process that isn't living.
 fn take_at_none(
     alloc: Global,
     node: &Node,
@@ -113,7 +115,7 @@ fn take_at_none(
     }
 }
 
-// A signal of the New Link Protocol comes to a process.
+// Takes a signal of the New Link Protocol to a process.
 pub(crate) fn take_news(
     alloc: Global,
     node: &Node,
@@ -134,7 +136,7 @@ pub(crate) fn take_news(
     }
 }
 
-// The exit of its active link comes to a process, whose end goes.
+// Takes the exit of an active link to a process, whose end goes.
 fn take_active_exit(
     alloc: Global,
     node: &Node,
@@ -154,7 +156,7 @@ fn take_active_exit(
     link_exit(plan, alloc, node, to, from, reason)
 }
 
-// EXIT comes to a process.
+// Takes EXIT to a process.
 pub(crate) fn take_exit(
     alloc: Global,
     node: &Node,
@@ -178,7 +180,7 @@ pub(crate) fn take_exit(
     }
 }
 
-// EXIT2 comes to a process.
+// Takes EXIT2 to a process.
 pub(crate) fn take_exit2(
     alloc: Global,
     node: &Node,
@@ -189,7 +191,7 @@ pub(crate) fn take_exit2(
 ) -> Result<(), AllocError>
     requires blank { IsBlank plan.old }
     requires fits { fits reason.now ≡ true }
-    ensures carries { (work : Work) → CarriesOut plan.old (seen node.now) work → Carries (seen node.now) (take (signal.Exit2 from.now to.now reason.now) work) plan.new result }
+    ensures carries { (source : Name) (work : Work) → CarriesOut plan.old (seen node.now) work → Carries (seen node.now) (take source (signal.Exit2 from.now to.now reason.now) work) plan.new result }
     ensures told { (m : TheNode) → told plan.new m ≡ told plan.old m }
 {
     if !node.is_living(to) {

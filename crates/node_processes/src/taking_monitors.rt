@@ -1,9 +1,9 @@
-//! A signal about a monitor comes to the process that it names.
+//! The delivery of a signal about a monitor to the process that it names.
 ghost use Rattle.std.specs.Prelude.{◌≡◌, true, IfOk};
 ghost use Rattle.dist_model.specs.Monitoring as monitoring;
 ghost use Rattle.dist_model.specs.Node as model;
 ghost use Rattle.dist_model.specs.Node.{Node as TheNode};
-ghost use Rattle.dist_model.specs.Work.{Work, post, put};
+ghost use Rattle.dist_model.specs.Work.{Work, post, put, to_pid};
 ghost use Rattle.erl_control.specs.declared.signal.Signal.TheVariants as signal;
 ghost use Rattle.exit_core.specs.Messages.{down_term};
 ghost use Rattle.link_core.specs.News.{noproc};
@@ -22,7 +22,7 @@ use node_frames::same_pid;
 use node_plan::{Node, Plan, copied, monitor_between};
 use std::alloc::{AllocError, Global};
 
-// Whether it is the monitor of this owner and this target.
+// Returns true if it is the monitor of this owner and this target.
 fn is_this(held: Option<&Monitor>, owner: &Pid, target: &Pid) -> bool
     ensures { result ≡ is_this (option_copied held.entry) (monitor_of owner.now target.now) }
 {
@@ -48,7 +48,7 @@ fn monitor_exit_signal(
     })
 }
 
-// MONITOR_P comes where the process isn't living.
+// Answers MONITOR_P to a process that isn't living.
 fn tell_no_target(
     alloc: Global,
     node: &Node,
@@ -57,18 +57,19 @@ fn tell_no_target(
     target: &Pid,
     reference: &Reference,
 ) -> Result<(), AllocError>
-    ensures carries { (work : Work) → CarriesOut plan.old (seen node.now) work → Carries (seen node.now) (post (signal.MonitorExit target.now owner.now reference.now noproc) work) plan.new result }
+    ensures carries { (work : Work) → CarriesOut plan.old (seen node.now) work → Carries (seen node.now) (post (to_pid owner.now (signal.MonitorExit target.now owner.now reference.now noproc)) work) plan.new result }
     ensures told { (m : TheNode) → told plan.new m ≡ told plan.old m }
 {
     let reason = no_process(alloc)?;
     plan.post(
         alloc,
         node,
+        &owner.node,
         monitor_exit_signal(target, owner, reference, reason)?,
     )
 }
 
-// MONITOR_P comes to a living process.
+// Takes MONITOR_P to a living process.
 fn register(
     plan: &mut Plan,
     owner: &Pid,
@@ -84,7 +85,7 @@ fn register(
     Ok(())
 }
 
-/// MONITOR_P comes to a process.
+/// Takes MONITOR_P to a process.
 pub(crate) fn take_monitor(
     alloc: Global,
     node: &Node,
@@ -113,7 +114,7 @@ fn unregister(plan: &mut Plan, reference: &Reference) -> Result<(), AllocError>
     Ok(())
 }
 
-/// DEMONITOR_P comes to a process.
+/// Takes DEMONITOR_P to a process.
 pub(crate) fn take_demonitor(
     node: &Node,
     plan: &mut Plan,
@@ -132,7 +133,7 @@ pub(crate) fn take_demonitor(
     }
 }
 
-// The monitor of a living process ends: it gets DOWN.
+// Ends a monitor of a living process, which gets DOWN.
 fn take_down(
     alloc: Global,
     plan: &mut Plan,
@@ -162,7 +163,7 @@ fn down(
     down_message(alloc, copied(reference)?, target.clone()?, reason)
 }
 
-/// MONITOR_P_EXIT of a process comes to the one that monitors it.
+/// Takes MONITOR_P_EXIT of a process to the one that monitors it.
 pub(crate) fn take_monitor_exit(
     alloc: Global,
     node: &Node,

@@ -1,7 +1,8 @@
-//! A signal comes to its process, and the first of the own list.
+//! The delivery of a signal to its process, and of the first of the own list.
 ghost use Rattle.std.specs.Prelude.{◌≡◌, true, false, List, ◌∷◌};
 ghost use Rattle.dist_model.specs.Arrivals.{take_local};
 ghost use Rattle.dist_model.specs.Items.{Item as TheItem, Signalled, kind_of};
+ghost use Rattle.dist_model.specs.Names.{Name};
 ghost use Rattle.dist_model.specs.Node.{Node as TheNode};
 ghost use Rattle.dist_model.specs.Taking.{take};
 ghost use Rattle.dist_model.specs.Work.{Work, at_work};
@@ -37,12 +38,12 @@ pub fn kind(signal: &Signal) -> Kind
     }
 }
 
-/// A signal comes to the process that it names. (ERTS User's Guide, Distribution Protocol, Protocol
+/// Takes a signal to the process that it names. (ERTS User's Guide, Distribution Protocol, Protocol
 /// between Connected Nodes.)
 pub fn take(alloc: Global, node: &Node, plan: &mut Plan, signal: &Signal) -> Result<(), AllocError>
     requires blank { IsBlank plan.old }
     requires sendable { is_sendable signal.now ≡ true }
-    ensures carries { (work : Work) → CarriesOut plan.old (seen node.now) work → Carries (seen node.now) (take signal.now work) plan.new result }
+    ensures carries { (source : Name) (work : Work) → CarriesOut plan.old (seen node.now) work → Carries (seen node.now) (take source signal.now work) plan.new result }
     ensures told { (m : TheNode) → told plan.new m ≡ told plan.old m }
 {
     match signal {
@@ -75,7 +76,7 @@ pub fn take(alloc: Global, node: &Node, plan: &mut Plan, signal: &Signal) -> Res
     }
 }
 
-// The first signal of the own list comes.
+/// Takes the first signal of the own list.
 pub fn take_first(alloc: Global, node: &Node, plan: &mut Plan) -> Result<(), Refusal>
     requires blank { IsBlank plan.old }
     requires taken { (first : TheItem) (rest : List TheItem) → (seen node.now).local ≡ first ∷ rest → CarriesOut plan.old (seen node.now) (at_work (record (seen node.now) { local = rest })) }

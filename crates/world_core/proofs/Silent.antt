@@ -11,7 +11,7 @@ use Rattle.dist_model.specs.Items.{Handshake, Item, Signalled, Tick}
 use Rattle.dist_model.specs.Keeping.{Steady}
 use Rattle.dist_model.specs.Names.{Name, same_name, same_pid}
 use Rattle.dist_model.specs.Node.{Node, first_where, route_in, side_where}
-use Rattle.dist_model.specs.Quiet.{is_quiet_on, is_signal_of, names_sender, is_up_to, nothing_between}
+use Rattle.dist_model.specs.Quiet.{is_quiet_on, is_signal_of, names, is_up_to, nothing_between}
 use Rattle.dist_model.specs.Sides.{State, TrunkSide, Up, is_over, is_up}
 use Rattle.dist_model.specs.Seen.{seen, side_of_trunk}
 use Rattle.dist_model.specs.World as model
@@ -32,9 +32,14 @@ use Rattle.dist_model.proofs.Sides.{up_engaged}
 
 -- ---- frames
 
-joins_is : (p q : Pid) (sender : Option Pid) (to : Pid) → frames.joins p q (named sender to) ≡ (names_sender p sender && same_pid to q)
+and_false : (b : Bool) → false ≡ (b && false)
+and_false true = refl
+and_false false = refl
+
+joins_is : (p q : Pid) (sender receiver : Option Pid) → frames.joins p q (named sender receiver) ≡ (names p sender && names q receiver)
 joins_is p q None to = refl
-joins_is p q (Some from) to = refl
+joins_is p q (Some from) None = and_false (same_pid from p)
+joins_is p q (Some from) (Some to) = refl
 
 signal_is : (p q : Pid) (item : Item) → frames.joins p q (between_of item) ≡ is_signal_of p q item
 signal_is p q (Signalled signal payload) = joins_is p q (sender_of signal) (receiver_of signal)

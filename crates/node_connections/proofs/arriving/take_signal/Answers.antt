@@ -21,7 +21,7 @@ returns-then-not-is_good c =
     let item = Signalled c.args.signal.now false in
     let bad : is_good m (side_of side) item ≡ false = sym c.is_good.ensures ∙ c.if-not-is_good.true in
     let P : Outcome → Type 0 = λ o. Plans m o c.break_side.new.plan c.break_side.result in
-    subst P (ap (λ b. cond b (Accepts (Answer.Took (kind_of item)) (take c.args.signal.now (at_work m)))
+    subst P (ap (λ b. cond b (Accepts (Answer.Took (kind_of item)) (take (side_of side).peer c.args.signal.now (at_work m)))
     (fault Fault.Forged side.trunk (side_of side) (at_work m))) (sym bad))
     (c.break_side.ensures m (at_work m) c.requires.there (makes_it c.args.plan.now m (at_work m) c.requires.carries))
 
@@ -31,8 +31,8 @@ returns c =
     let side = c.args.side.now in
     let item = Signalled c.args.signal.now false in
     let good : is_good m (side_of side) item ≡ true = sym c.is_good.ensures ∙ c.if-not-is_good.false in
-    let work = take c.args.signal.now (at_work m) in
+    let work = take (side_of side).peer c.args.signal.now (at_work m) in
     rw c.or_refuse.ensures (planned_by m _ (Answer.Took (kind_of item)) work c.take.new.plan c.take.result
     (ap (λ b. cond b (Accepts (Answer.Took (kind_of item)) work) (fault Fault.Forged side.trunk (side_of side) (at_work m))) good)
     (c.take.ensures.told m ∙ c.answers.ensures.told m ∙ ap Answer.Took c.kind.ensures)
-    (c.take.ensures.carries (at_work m) (c.answers.ensures.carries m (at_work m) c.requires.carries)))
+    (c.take.ensures.carries (side_of side).peer (at_work m) (c.answers.ensures.carries m (at_work m) c.requires.carries)))

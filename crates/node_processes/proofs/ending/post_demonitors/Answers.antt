@@ -3,7 +3,7 @@ use Rattle.std.specs.FinMap as fm
 use Rattle.std.specs.Option.{option_copied}
 use Rattle.dist_model.specs.Exits.{demonitors}
 use Rattle.dist_model.specs.Names.{same_pid}
-use Rattle.dist_model.specs.Work.{post_all}
+use Rattle.dist_model.specs.Work.{Addressed, post_all, to_pid}
 use Rattle.erl_control.specs.declared.signal.Signal.{Signal}
 use Rattle.erl_term.specs.declared.term.Reference.{Reference}
 use Rattle.monitor_core.specs.Monitors.{MonitorMap}
@@ -45,7 +45,7 @@ loop-reference-preserved c =
     let p = c.args.process.now in
     let passes = λ (w : Monitor). same_pid w.owner p in
     let entries = fm.entries c.watches-watches.result.now.monitors in
-    let told_of = λ (e : Reference × Monitor). cond (same_pid e.1.owner p) (Signal.Demonitor p e.1.target e.0 ∷ []) [] in
+    let told_of = λ (e : Reference × Monitor). cond (same_pid e.1.owner p) (to_pid e.1.target (Signal.Demonitor p e.1.target e.0) ∷ []) [] in
     let behind = option_copied c.loop-reference.behind in
     let found : next passes behind entries ≡ Some c.in-Some.field-0.now = sym c.next_owned_by.ensures ∙ ap option_copied c.in-Some.is in
     let item = c.in-Some.field-0.now in
@@ -73,7 +73,7 @@ returns-clause-carries c = λ w h.
     let all = walked_all passes behind entries none in
     subst (CarriesOut c.loop-reference.plan m)
     (ap (λ (l : List (Reference × Monitor)). post_all (demonitors p l) w) all
-    ∙ ap (λ (signals : List Signal). post_all signals w) (flat_passing (λ (e : Reference × Monitor). same_pid e.1.owner p)
-    (λ (e : Reference × Monitor). Signal.Demonitor p e.1.target e.0 ∷ []) entries)
+    ∙ ap (λ (letters : List Addressed). post_all letters w) (flat_passing (λ (e : Reference × Monitor). same_pid e.1.owner p)
+    (λ (e : Reference × Monitor). to_pid e.1.target (Signal.Demonitor p e.1.target e.0) ∷ []) entries)
     ∙ ap (λ (monitors : MonitorMap). post_all (demonitors p (fm.entries monitors)) w) c.watches-watches.ensures)
     (c.loop-reference.invariant.told w h)

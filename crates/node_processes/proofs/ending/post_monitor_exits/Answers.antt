@@ -3,7 +3,7 @@ use Rattle.std.specs.FinMap as fm
 use Rattle.std.specs.Option.{option_copied}
 use Rattle.dist_model.specs.Exits.{monitor_exits}
 use Rattle.dist_model.specs.Names.{same_pid}
-use Rattle.dist_model.specs.Work.{post_all}
+use Rattle.dist_model.specs.Work.{Addressed, post_all, to_pid}
 use Rattle.erl_control.specs.declared.signal.Signal.{Signal}
 use Rattle.erl_term.specs.declared.term.Reference.{Reference}
 use Rattle.monitor_core.specs.Monitors.{MonitorMap}
@@ -48,7 +48,7 @@ loop-reference-preserved c =
     let x = c.args.reason.now in
     let passes = λ (w : Monitor). same_pid w.target p in
     let entries = fm.entries c.watchers-watchers.result.now.monitors in
-    let told_of = λ (e : Reference × Monitor). cond (same_pid e.1.target p) (Signal.MonitorExit p e.1.owner e.0 x ∷ []) [] in
+    let told_of = λ (e : Reference × Monitor). cond (same_pid e.1.target p) (to_pid e.1.owner (Signal.MonitorExit p e.1.owner e.0 x) ∷ []) [] in
     let behind = option_copied c.loop-reference.behind in
     let found : next passes behind entries ≡ Some c.in-Some.field-0.now = sym c.next_targeting.ensures ∙ ap option_copied c.in-Some.is in
     let item = c.in-Some.field-0.now in
@@ -77,7 +77,7 @@ returns-clause-carries c = λ w h.
     let all = walked_all passes behind entries none in
     subst (CarriesOut c.loop-reference.plan m)
     (ap (λ (l : List (Reference × Monitor)). post_all (monitor_exits p x l) w) all
-    ∙ ap (λ (signals : List Signal). post_all signals w) (flat_passing (λ (e : Reference × Monitor). same_pid e.1.target p)
-    (λ (e : Reference × Monitor). Signal.MonitorExit p e.1.owner e.0 x ∷ []) entries)
+    ∙ ap (λ (letters : List Addressed). post_all letters w) (flat_passing (λ (e : Reference × Monitor). same_pid e.1.target p)
+    (λ (e : Reference × Monitor). to_pid e.1.owner (Signal.MonitorExit p e.1.owner e.0 x) ∷ []) entries)
     ∙ ap (λ (monitors : MonitorMap). post_all (monitor_exits p x (fm.entries monitors)) w) c.watchers-watchers.ensures)
     (c.loop-reference.invariant.told w h)

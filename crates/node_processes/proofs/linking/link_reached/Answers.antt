@@ -1,5 +1,5 @@
 use Rattle.std.proofs.Common.{◌≡◌, refl, subst}
-use Rattle.dist_model.specs.Items.{telling}
+use Rattle.dist_model.specs.Linking.{told_to}
 use Rattle.dist_model.specs.Node.{end_of}
 use Rattle.dist_model.specs.Work.{post, set_end}
 use Rattle.link_core.specs.News.{Signals}
@@ -21,5 +21,5 @@ returns-clause-carries c = λ w h.
     let q = c.args.partner.now in
     let r = c.tell.ensures.carries _ (c.in_ok-change_end.ensures.carries m w c.requires.living h) in
     let P : End → Type 0 =
-    λ end. Carries m (post (telling p q (Signals LinkSignal.Link)) (set_end p q end w)) c.tell.new.self c.tell.result in
+    λ end. Carries m (post (told_to p q (Signals LinkSignal.Link)) (set_end p q end w)) c.tell.new.self c.tell.result in
     subst P (is_linked (end_of m p q)) r

@@ -1,5 +1,5 @@
 use Rattle.std.proofs.Common.{◌≡◌, true, subst}
-use Rattle.dist_model.specs.Items.{telling}
+use Rattle.dist_model.specs.Linking.{told_to}
 use Rattle.dist_model.specs.Node.{end_of}
 use Rattle.dist_model.specs.Work.{draw, post, set_end}
 use Rattle.erl_names.specs.Draw as kind
@@ -25,5 +25,5 @@ returns-clause-carries c = λ w h.
     let r = c.tell.ensures.carries _ (c.in_ok-change_end.ensures.carries m _ c.requires.living (c.draw_unlink_id.ensures.carries m w h)) in
     let P : End → Type 0 =
     λ end. Carries m
-    (post (telling p q (Signals (LinkSignal.Unlink id))) (set_end p q end (draw kind.UnlinkId w))) c.tell.new.self c.tell.result in
+    (post (told_to p q (Signals (LinkSignal.Unlink id))) (set_end p q end (draw kind.UnlinkId w))) c.tell.new.self c.tell.result in
     subst P (becomes_pending (end_of m p q) id c.requires.active) r

@@ -3,7 +3,7 @@ use Rattle.std.specs.FinMap as fm
 use Rattle.dist_model.specs.Commands.{Accepts, Outcome, Refuses}
 use Rattle.dist_model.specs.Monitoring.{demonitor_by, unwatch}
 use Rattle.dist_model.specs.Names.{same_pid}
-use Rattle.dist_model.specs.Work.{at_work, post}
+use Rattle.dist_model.specs.Work.{at_work, post, to_pid}
 use Rattle.dist_model.specs.declared.report.Answer.{Answer}
 use Rattle.erl_control.specs.declared.signal.Signal.{Signal}
 use Rattle.erl_term.specs.declared.refusal.Refusal.{Refusal}
@@ -21,7 +21,7 @@ returns c =
     let due : Option Monitor → Outcome = λ o. demonitor_by o p r (at_work m) in
     let there : fm.get m.watches r ≡ Some held = search rules in
     let own : same_pid held.owner p ≡ true = search rules in
-    let work = post (Signal.Demonitor p held.target r) (unwatch r (at_work m)) in
+    let work = post (to_pid held.target (Signal.Demonitor p held.target r)) (unwatch r (at_work m)) in
     let goes =
     c.in_ok-acts.ensures.due (due (fm.get m.watches r)) ∙ ap due there
     ∙ ap (λ b. cond b (Accepts Answer.Done work) (Refuses Refusal.NotTheOwner)) own in

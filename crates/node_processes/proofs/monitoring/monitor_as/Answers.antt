@@ -1,7 +1,7 @@
 use Rattle.std.proofs.Common.{◌≡◌, Bool, true, false, cond, sym, subst, rules}
 use Rattle.dist_model.specs.Monitoring.{watch}
 use Rattle.dist_model.specs.Node.{reaches}
-use Rattle.dist_model.specs.Work.{at_work, draw, post, put}
+use Rattle.dist_model.specs.Work.{at_work, draw, post, put, to_pid}
 use Rattle.erl_control.specs.declared.signal.Signal.{Signal}
 use Rattle.erl_names.specs.Draw as kind
 use Rattle.exit_core.specs.Messages.{down_term}
@@ -21,7 +21,7 @@ returns-then-reaches-clause-carries c = λ h.
     let there : reaches m q.node ≡ true = search rules in
     let P : Bool → Type 0 =
     λ b. Carries m
-    (cond b (post (Signal.Monitor p q r) (watch r (monitor_of p q) drawn)) (put p (down_term r q noconnection) drawn))
+    (cond b (post (to_pid q (Signal.Monitor p q r)) (watch r (monitor_of p q) drawn)) (put p (down_term r q noconnection) drawn))
     c.monitor_reached.new.plan c.monitor_reached.result in
     subst P (sym there) (c.monitor_reached.ensures.carries drawn (c.draw_reference.ensures.carries m (at_work m) h))
 
@@ -35,6 +35,6 @@ returns-else-reaches-clause-carries c = λ h.
     let there : reaches m q.node ≡ false = search rules in
     let P : Bool → Type 0 =
     λ b. Carries m
-    (cond b (post (Signal.Monitor p q r) (watch r (monitor_of p q) drawn)) (put p (down_term r q noconnection) drawn))
+    (cond b (post (to_pid q (Signal.Monitor p q r)) (watch r (monitor_of p q) drawn)) (put p (down_term r q noconnection) drawn))
     c.monitor_lost.new.plan c.monitor_lost.result in
     subst P (sym there) (c.monitor_lost.ensures.carries m drawn c.requires.living (c.draw_reference.ensures.carries m (at_work m) h))

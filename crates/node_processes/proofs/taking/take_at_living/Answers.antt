@@ -1,6 +1,5 @@
 use Rattle.std.proofs.Common.{◌≡◌, map, false, sym, subst, rules}
-use Rattle.dist_model.specs.Items.{telling}
-use Rattle.dist_model.specs.Linking.{exit_follows}
+use Rattle.dist_model.specs.Linking.{exit_follows, told_to}
 use Rattle.dist_model.specs.Node.{end_of}
 use Rattle.dist_model.specs.Work.{Work, post_all, set_end}
 use Rattle.erl_term.specs.declared.term.Pid.{Pid}
@@ -15,7 +14,7 @@ use Rattle.node_processes.proofs.taking.take_at_living.Goals as goal
 abbrev taken : Pid → Pid → End → LinkSignal → Work → Work
 taken p q was told w =
     exit_follows was (Signals told) p q
-    (post_all (map (telling p q) (reply false (Signals told))) (set_end p q (heard was (Signals told)) w))
+    (post_all (map (told_to p q) (reply false (Signals told))) (set_end p q (heard was (Signals told)) w))
 
 pub returns-in-Unlink-clause-carries : goal.returns-in-Unlink-clause-carries
 returns-in-Unlink-clause-carries c = λ w h.

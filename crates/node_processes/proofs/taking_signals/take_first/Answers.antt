@@ -30,8 +30,8 @@ returns c =
     let there = parted m.local (Signalled signal false) first in
     let answer = Answer.Took (kind_of (Signalled signal false)) in
     let before : Node = record m { local = rest } in
-    let work = take signal (at_work before) in
+    let work = take m.mint.name signal (at_work before) in
     rw c.or_refuse.ensures (planned_by m _ answer work c.take.new.plan c.take.result (ap (take_local m) there)
     (c.take.ensures.told m ∙ c.answers.ensures.told m ∙ ap Answer.Took c.kind.ensures)
-    (c.take.ensures.carries (at_work before)
+    (c.take.ensures.carries m.mint.name (at_work before)
     (c.answers.ensures.carries m (at_work before) (c.requires.taken (Signalled signal false) rest there))))
