@@ -184,7 +184,7 @@ def read_frame(data):
     if len(data) < 4:
         return ("none",)
     size = int.from_bytes(data[:4], "big")
-    if size > 65536:
+    if size > 1048576:
         return "fault", 8
     if len(data) < 4 + size:
         return ("none",)

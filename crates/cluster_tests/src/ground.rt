@@ -148,7 +148,7 @@ where
     asks(rt, cluster, seat, Act::Run(command))
 }
 
-/// A process sends a message to another.
+/// A process sends the number 7 to another.
 pub fn sends<R: Wait, G>(
     rt: &R,
     cluster: &Cluster<G>,
@@ -159,9 +159,24 @@ pub fn sends<R: Wait, G>(
 where
     G: Gate + Send + Sync + Drop + 'static,
 {
+    sends_term(rt, cluster, seat, from, to, Term::Int(7))
+}
+
+/// A process sends a term to another.
+pub fn sends_term<R: Wait, G>(
+    rt: &R,
+    cluster: &Cluster<G>,
+    seat: &mut Seat,
+    from: &Pid,
+    to: &Pid,
+    term: Term,
+) -> Result<bool, Refusal>
+where
+    G: Gate + Send + Sync + Drop + 'static,
+{
     let from = from.clone()?;
     let to = to.clone()?;
-    let message = Payload::new(Term::Int(7));
+    let message = Payload::new(term);
     asks(
         rt,
         cluster,

@@ -2,7 +2,7 @@
 
 use crate::ground::{
     Machine, Nodes, asks, cluster, count_told, dials, has_link, is_up, links, name, named, sends,
-    settles, spawned,
+    sends_term, settles, spawned,
 };
 use crate::meeting::{LONG_PIECES, Leaving, Meet, Meeting, Pieces, becomes};
 use crate::replaying::is_whole;
@@ -10,7 +10,7 @@ use crate::walking::walk;
 use anyhow::Result;
 use cluster_run::{Cluster, Finished, Settled, Unmerged};
 use erl_names::{NodeName, TrunkId};
-use erl_term::{Pid, Refusal};
+use erl_term::{Pid, Refusal, Term};
 use joined_books::FinishError;
 use link_core::End;
 use node_lock::{Act, Seat};
@@ -109,6 +109,11 @@ impl Two {
         sends(rt, &self.cluster, &mut self.at_a, &self.p, &self.q)
     }
 
+    // The first process sends a term to the other.
+    fn p_sends_term<R: Wait>(&mut self, rt: &R, term: Term) -> Result<bool, Refusal> {
+        sends_term(rt, &self.cluster, &mut self.at_a, &self.p, &self.q, term)
+    }
+
     // Returns the ends that the two processes have of their link.
     fn ends<R: Wait>(&self, rt: &R) -> Result<(End, End), Refusal> {
         let at_p = self.cluster.look(rt, 0, |node| node.end(&self.p, &self.q))?;
@@ -184,6 +189,18 @@ fn flood<R: Machine>(rt: &R, alloc: Global, two: &mut Two) -> Result<usize, Wron
     }
     check(12, settles(rt, &two.cluster))?;
     Ok(8 + 2000)
+}
+
+/// A binary of so many bytes takes 1,000,000 with its head, the most of a message. Its frame has 1,000,030.
+const LONGEST_BINARY: usize = 999_994;
+
+/// The longest message comes, in some 2,000 pieces at least.
+fn longest<R: Machine>(rt: &R, alloc: Global, two: &mut Two) -> Result<usize, Wrong> {
+    two.connects(rt, alloc, 1)?;
+    let binary = Term::Binary(vec![in alloc; 7; LONGEST_BINARY]?);
+    check(10, two.p_sends_term(rt, binary)?)?;
+    check(11, settles(rt, &two.cluster))?;
+    Ok(8 + 2)
 }
 
 // The node of a seat notices that the connection that the first node dialed as so-manieth is lost.
@@ -270,6 +287,7 @@ fn small<R: Machine>(rt: &R, alloc: Global, two: &mut Two) -> Result<(), Wrong> 
 enum AtTwo {
     Link,
     Flood,
+    Longest,
     Restart,
     Loss,
     Losses,
@@ -302,6 +320,7 @@ impl AtTwo {
         match self {
             AtTwo::Link => known(link(rt, alloc, two)),
             AtTwo::Flood => known(flood(rt, alloc, two)),
+            AtTwo::Longest => known(longest(rt, alloc, two)),
             AtTwo::Restart => unknown(restart(rt, alloc, two)),
             AtTwo::Loss => unknown(loss(rt, alloc, two)),
             AtTwo::Losses => unknown(losses(rt, alloc, two)),
@@ -591,6 +610,7 @@ const ALL: &[(Story, Pieces)] = &[
     (Story::AtTwo(AtTwo::Link), SHORT),
     (Story::AtTwo(AtTwo::Link), SHORTEST),
     (Story::AtTwo(AtTwo::Flood), LONG_PIECES),
+    (Story::AtTwo(AtTwo::Longest), LONG_PIECES),
     (Story::AtTwo(AtTwo::Restart), LONG_PIECES),
     (Story::AtTwo(AtTwo::Restart), SHORT),
     (Story::AtTwo(AtTwo::Restart), SHORTEST),
@@ -613,6 +633,7 @@ impl AtTwo {
         match self {
             AtTwo::Link => "a link is made and taken back",
             AtTwo::Flood => "more comes than a wire holds",
+            AtTwo::Longest => "the longest message comes",
             AtTwo::Restart => "a node stops and starts",
             AtTwo::Loss => "a connection is lost, and comes again",
             AtTwo::Losses => "a connection is lost twice, and comes a third time",

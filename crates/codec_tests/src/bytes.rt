@@ -21,6 +21,16 @@ const NAMES: &[(&str, &str)] = &[
     ("ATOM", "770161"),
     ("ONE", "6101"),
     ("EMPTY_LIST", "6C00000000"),
+    // A list of 50,100 integers of a byte, as a LIST of integers in five bytes.
+    (
+        "BYTES",
+        "6C0000C3B4 5010*6200000007620000000762000000076200000007620000000762000000076200000007620000000762000000076200000007 6A",
+    ),
+    // A list of 300 and 62,600 integers of a byte, which are a STRING in its tail.
+    (
+        "MIXED",
+        "6C00000001 620000012C 6BF488 3130*0707070707070707070707070707070707070707",
+    ),
     // The message hi.
     ("HI", "83 77026869"),
     // The heads of control terms.

@@ -361,11 +361,13 @@ const FRONTS: &[(&str, Front)] = &[
     ("00000000 09", Front::Tick(4)),
     ("000000", Front::Begun),
     ("00010000", Front::Begun),
+    ("00010001", Front::Begun),
+    ("00100000", Front::Begun),
     (
         "0000002A 70 83 LINK A 58 7703624068 00000001 00000000 000000",
         Front::Begun,
     ),
-    ("00010001", Front::Refused(FrameError::TooLong)),
+    ("00100001", Front::Refused(FrameError::TooLong)),
     ("00000002 8361", Front::Refused(FrameError::NotPassThrough)),
     (
         "00000001 70",
@@ -393,19 +395,25 @@ enum Carried {
     ListInTail,
 }
 
-/// Terms, and whether a signal can carry them: at most 60 levels and 60,000 bytes.
+/// Terms, and whether a signal can carry them: at most 60 levels and 1,000,000 bytes.
 const CARRIED: &[(Carried, bool)] = &[
     (Carried::Spelled("83 59*6801 6800"), true),
     (Carried::Spelled("83 60*6801 6800"), false),
     (Carried::Spelled("83 63*6801 6800"), false),
     // A binary, with its head of 6 bytes.
-    (Carried::Spelled("83 6D0000EA5A 59994*07"), true),
-    (Carried::Spelled("83 6D0000EA5B 59995*07"), false),
-    // 30,001 integers of a byte, written as a LIST of 60,008 bytes, are a STRING of 30,005.
-    (Carried::Spelled("83 6C00007531 30001*6107 6A"), true),
-    // 300 before a STRING of 30,000 bytes makes a LIST of 60,012.
     (
-        Carried::Spelled("83 6C00000001 620000012C 6B7530 30000*07"),
+        Carried::Spelled("83 6D000F423A 99999*07070707070707070707 4*07"),
+        true,
+    ),
+    (
+        Carried::Spelled("83 6D000F423B 99999*07070707070707070707 5*07"),
+        false,
+    ),
+    // Four lists of 50,100 integers of a byte, written as LISTs in 1,002,027 bytes, are STRINGs in 200,415.
+    (Carried::Spelled("83 6804 BYTES BYTES BYTES BYTES"), true),
+    // 300 before a STRING of 62,600 bytes makes a LIST. Eight of them, which came in 500,907 bytes, take 1,001,691.
+    (
+        Carried::Spelled("83 6808 MIXED MIXED MIXED MIXED MIXED MIXED MIXED MIXED"),
         false,
     ),
     // Lists with no elements are levels of the spelling, and none of the term.

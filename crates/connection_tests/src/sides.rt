@@ -304,7 +304,7 @@ const SCENARIOS: &[(Start, &[Step])] = &[
         UP,
         &[Breaks(&[0, 0, 0, 4, 112, 131, 97, 1], 7), LOSING, IsDeaf],
     ),
-    (UP, &[Breaks(&[0, 1, 0, 1], 8), LOSING, IsDeaf]),
+    (UP, &[Breaks(&[0, 16, 0, 1], 8), LOSING, IsDeaf]),
     (UP, &[Breaks(&[0, 0, 0, 1, 112], 9), LOSING, IsDeaf]),
     // A side that was up is lost, and cleared away.
     (
@@ -341,6 +341,8 @@ const SCENARIOS: &[(Start, &[Step])] = &[
     (FRESH, &[AsksForMore(SEND_NAME)]),
     (DIALING, &[AsksForMore(CHALLENGES)]),
     (UP, &[AsksForMore(&[0, 0, 0, 2, 112, 131])]),
+    (UP, &[AsksForMore(&[0, 1, 0, 1, 112, 131])]),
+    (UP, &[AsksForMore(&[0, 16, 0, 0, 112, 131])]),
 ];
 
 /// A node's name, of whose text a proof knows nothing more.

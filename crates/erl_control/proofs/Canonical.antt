@@ -96,11 +96,11 @@ module _ (ints : ShortIntegers) (pids : ShortPids) (references : ShortReferences
   two_pids n p q ts h k a =
       let b = one_more 1036 (1036 + n) (pid p) (item (pid q) ts) (pids p h) (one_more 1036 n (pid q) ts (pids q k) a) in omega arith
 
-  exit_short : (tag : ℕ) (p q : Pid) (t : Data) → IsPidInRange p → IsPidInRange q → length (canonical t) ≤ 60000
-      → length (canonical (row tag (pid p ∷ pid q ∷ t ∷ []))) ≤ 62097
+  exit_short : (tag : ℕ) (p q : Pid) (t : Data) → IsPidInRange p → IsPidInRange q → length (canonical t) ≤ 1000000
+      → length (canonical (row tag (pid p ∷ pid q ∷ t ∷ []))) ≤ 1002097
   exit_short tag p q t h k fit =
-      row_short tag 62072 (item (pid p) (item (pid q) (item t no_items))) ints
-      (two_pids 60000 p q (item t no_items) h k (one_more 60000 0 t no_items (omega arith) (omega arith)))
+      row_short tag 1002072 (item (pid p) (item (pid q) (item t no_items))) ints
+      (two_pids 1000000 p q (item t no_items) h k (one_more 1000000 0 t no_items (omega arith) (omega arith)))
 
   monitor_short : (tag : ℕ) (p q : Pid) (r : Reference) → IsPidInRange p → IsPidInRange q → IsReferenceInRange r
       → length (canonical (row tag (pid p ∷ pid q ∷ reference r ∷ []))) ≤ 3147
@@ -152,11 +152,11 @@ module _ (ints : ShortIntegers) (pids : ShortPids) (references : ShortReferences
       omega (arith, length-append {A = ℕ} (canonical_control (Demonitor p q r) w) [])
   text_short (MonitorExit p q r t) false f h =
       let g = f.2 in
-      let last = one_more 60000 0 t no_items (omega arith) (omega arith) in
+      let last = one_more 1000000 0 t no_items (omega arith) (omega arith) in
       let ts =
-      two_pids 61050 p q (item (reference r) (item t no_items)) h.1.1.0 h.1.1.1.0
-      (one_more 1050 60000 (reference r) (item t no_items) (references r h.1.1.1.1.0) last) in
-      let a = row_short 21 63122 (item (pid p) (item (pid q) (item (reference r) (item t no_items)))) ints ts in
+      two_pids 1001050 p q (item (reference r) (item t no_items)) h.1.1.0 h.1.1.1.0
+      (one_more 1050 1000000 (reference r) (item t no_items) (references r h.1.1.1.1.0) last) in
+      let a = row_short 21 1003122 (item (pid p) (item (pid q) (item (reference r) (item t no_items)))) ints ts in
       omega (arith, length-append {A = ℕ} (canonical_control (MonitorExit p q r t) false) [])
   text_short (MonitorExit p q r t) true f h =
       let a = monitor_short 28 p q r h.1.1.0 h.1.1.1.0 h.1.1.1.1.0 in

@@ -149,10 +149,10 @@ pub fits_test : (t : Data) → (fits t ≡ true) ↔ Fits t
 unfolding fits
 fits_test t = (
   λ h.
-      let v = and_parts (is_in_range t) (nat_le (levels_of t) 60 && nat_le (length (canonical t)) 60000) h in
-      let u = and_parts (nat_le (levels_of t) 60) (nat_le (length (canonical t)) 60000) v.1 in
-      (from t v.0, at_most (levels_of t) 60 u.0, at_most (length (canonical t)) 60000 u.1),
-  λ h. and_from (is_in_range t) (nat_le (levels_of t) 60 && nat_le (length (canonical t)) 60000) (is t h.0)
-      (and_from (nat_le (levels_of t) 60) (nat_le (length (canonical t)) 60000) (is_at_most (levels_of t) 60 h.1)
-      (is_at_most (length (canonical t)) 60000 h.2)),
+      let v = and_parts (is_in_range t) (nat_le (levels_of t) 60 && nat_le (length (canonical t)) 1000000) h in
+      let u = and_parts (nat_le (levels_of t) 60) (nat_le (length (canonical t)) 1000000) v.1 in
+      (from t v.0, at_most (levels_of t) 60 u.0, at_most (length (canonical t)) 1000000 u.1),
+  λ h. and_from (is_in_range t) (nat_le (levels_of t) 60 && nat_le (length (canonical t)) 1000000) (is t h.0)
+      (and_from (nat_le (levels_of t) 60) (nat_le (length (canonical t)) 1000000) (is_at_most (levels_of t) 60 h.1)
+      (is_at_most (length (canonical t)) 1000000 h.2)),
 )

@@ -239,7 +239,7 @@ fit_or_not t =
     elim (cases_lt 60 (levels_of t)) [
       | inl deep ↦ inr (λ f. let l = f.0 in omega arith)
       | inr few ↦
-          elim (cases_lt 60000 (length (canonical t))) [ inl long ↦ inr (λ f. let l = f.1 in omega arith) | inr short ↦ inl (few, short) ]
+          elim (cases_lt 1000000 (length (canonical t))) [ inl long ↦ inr (λ f. let l = f.1 in omega arith) | inr short ↦ inl (few, short) ]
     ]
 
 carries_or_not : (s : Signal) → Carries IsFit s ⊎ (¬ Carries IsFit s)

@@ -10,7 +10,7 @@ use erl_term::{Payload, Term, size_within};
 pub const MOST_PAYLOAD_LEVELS: u32 = 60;
 
 /// The most bytes of the canonical spelling of a message or a reason, its version byte included.
-pub const MOST_PAYLOAD_BYTES: usize = 60_000;
+pub const MOST_PAYLOAD_BYTES: usize = 1_000_000;
 
 /// Returns true if a signal can carry the term as its message or its reason. Such a term is a value of
 /// the profile whose canonical spelling has at most [`MOST_PAYLOAD_LEVELS`] levels and

@@ -56,7 +56,7 @@ fn exit_len(tag: u64, from: &Pid, to: &Pid, reason: &Payload) -> Option<usize>
     ensures none { IfNone result (¬ Fits reason.now) }
     ensures fits { IfSome result (λ _. Fits reason.now) }
     ensures len { IfSome result (λ n. n ≡ length (canonical (row tag (term.pid from.now ∷ term.pid to.now ∷ reason.now ∷ [])))) }
-    ensures bound { IfSome result (λ n. n < 65536) }
+    ensures bound { IfSome result (λ n. n < 1048576) }
     ensures in_range { IfSome result (λ _. IsInRange (row tag (term.pid from.now ∷ term.pid to.now ∷ reason.now ∷ []))) }
 {
     let len = payload_len(reason)?;
@@ -66,7 +66,7 @@ fn exit_len(tag: u64, from: &Pid, to: &Pid, reason: &Payload) -> Option<usize>
 /// Returns the number of bytes of a row of From, To and Ref.
 fn monitor_len(tag: u64, from: &Pid, to: &Pid, reference: &Reference) -> usize
     ensures len { result ≡ length (canonical (row tag (term.pid from.now ∷ term.pid to.now ∷ term.reference reference.now ∷ []))) }
-    ensures bound { result < 65536 }
+    ensures bound { result < 1048576 }
     ensures in_range { IsInRange (row tag (term.pid from.now ∷ term.pid to.now ∷ term.reference reference.now ∷ [])) }
 {
     let len = reference_len(reference);
@@ -78,7 +78,7 @@ fn payload_exit_len(tag: u64, from: &Pid, to: &Pid, reason: &Payload) -> Option<
     ensures none { IfNone result (¬ Fits reason.now) }
     ensures fits { IfSome result (λ _. Fits reason.now) }
     ensures len { IfSome result (λ n. n ≡ length (canonical (row tag (term.pid from.now ∷ term.pid to.now ∷ [])) ++ canonical reason.now)) }
-    ensures bound { IfSome result (λ n. n < 65536) }
+    ensures bound { IfSome result (λ n. n < 1048576) }
     ensures in_range { IfSome result (λ _. IsInRange (row tag (term.pid from.now ∷ term.pid to.now ∷ []))) }
 {
     let len = payload_len(reason)? + 1;
@@ -90,7 +90,7 @@ fn monitor_exit_len(from: &Pid, to: &Pid, reference: &Reference, reason: &Payloa
     ensures none { IfNone result (¬ Fits reason.now) }
     ensures fits { IfSome result (λ _. Fits reason.now) }
     ensures len { IfSome result (λ n. n ≡ length (canonical (row MONITOR_P_EXIT (term.pid from.now ∷ term.pid to.now ∷ term.reference reference.now ∷ reason.now ∷ [])))) }
-    ensures bound { IfSome result (λ n. n < 65536) }
+    ensures bound { IfSome result (λ n. n < 1048576) }
     ensures in_range { IfSome result (λ _. IsInRange (row MONITOR_P_EXIT (term.pid from.now ∷ term.pid to.now ∷ term.reference reference.now ∷ reason.now ∷ []))) }
 {
     let len = payload_len(reason)? + reference_len(reference) + pid_len(from) + pid_len(to);
@@ -107,7 +107,7 @@ fn payload_monitor_exit_len(
     ensures none { IfNone result (¬ Fits reason.now) }
     ensures fits { IfSome result (λ _. Fits reason.now) }
     ensures len { IfSome result (λ n. n ≡ length (canonical (row PAYLOAD_MONITOR_P_EXIT (term.pid from.now ∷ term.pid to.now ∷ term.reference reference.now ∷ [])) ++ canonical reason.now)) }
-    ensures bound { IfSome result (λ n. n < 65536) }
+    ensures bound { IfSome result (λ n. n < 1048576) }
     ensures in_range { IfSome result (λ _. IsInRange (row PAYLOAD_MONITOR_P_EXIT (term.pid from.now ∷ term.pid to.now ∷ term.reference reference.now ∷ []))) }
 {
     let len = payload_len(reason)? + 1 + reference_len(reference) + pid_len(from) + pid_len(to);
@@ -118,7 +118,7 @@ fn payload_monitor_exit_len(
 /// Returns the number of bytes of a row of Id, From and To.
 fn unlink_len(tag: u64, id: u64, from: &Pid, to: &Pid) -> usize
     ensures len { result ≡ length (canonical (row tag (term.int (pos id) ∷ term.pid from.now ∷ term.pid to.now ∷ []))) }
-    ensures bound { result < 65536 }
+    ensures bound { result < 1048576 }
     ensures in_range { IsInRange (row tag (term.int (pos id) ∷ term.pid from.now ∷ term.pid to.now ∷ [])) }
 {
     let len = integer_len(i128::from(id));
@@ -130,7 +130,7 @@ fn text_len(signal: SignalParts<'_>, payload: bool) -> Option<usize>
     ensures none { IfNone result (¬ Carries Fits (signal_of signal.entry)) }
     ensures fits { IfSome result (λ _. Carries Fits (signal_of signal.entry)) }
     ensures len { IfSome result (λ n. n ≡ length (canonical_text (signal_of signal.entry) payload)) }
-    ensures bound { IfSome result (λ n. n < 65536) }
+    ensures bound { IfSome result (λ n. n < 1048576) }
     ensures in_range { IfSome result (λ _. IsInRange (control_in (atom []) (signal_of signal.entry) payload)) }
 {
     match signal {

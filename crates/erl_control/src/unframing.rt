@@ -17,7 +17,7 @@ use byteorder::{BigEndian, ByteOrder};
 use std::alloc::Global;
 
 /// The most bytes of a frame after its length.
-pub const FRAME_LIMIT: usize = 65_536;
+pub const FRAME_LIMIT: usize = 1_048_576;
 
 /// What follows the length of the frame at the front, where the frame is whole.
 fn body_at(bytes: &[u8]) -> Result<Option<&[u8]>, FrameFault>

@@ -1,9 +1,10 @@
 -- What an item is, told by the bytes in which it is sent: a message of the handshake by its letter, a frame by the tag of its
 -- control term.
 -- (ERTS User's Guide, Distribution Protocol, Distribution Handshake and Protocol between Connected Nodes.)
-use Rattle.std.specs.Prelude.{ℕ, ◌+◌, ◌*◌, Bool, ◌==◌, ◌||◌, List, Option, None, Some, length, nat_lt, slice_index_or, if◌then◌else◌}
+use Rattle.std.specs.Prelude.{ℕ, ◌+◌, ◌*◌, Bool, true, false, ◌==◌, ◌||◌, List, Option, None, Some, length, slice_index_or, if◌then◌else◌}
 use Rattle.dist_model.specs.declared.report.Kind.{Kind}
 use Rattle.dist_model.specs.declared.report.Kind.TheVariants as kind
+use Rattle.node_frames.specs.Beginnings.{begins_message}
 
 abbrev pub byte_at : (bytes : List ℕ) → (place : ℕ) → ℕ
 byte_at bytes place = slice_index_or bytes place 0
@@ -11,10 +12,6 @@ byte_at bytes place = slice_index_or bytes place 0
 -- of two bytes
 abbrev pub number_at : (bytes : List ℕ) → (place : ℕ) → ℕ
 number_at bytes place = 256 * byte_at bytes place + byte_at bytes (place + 1)
-
--- a message begins with its length in two bytes, and has two at least; a frame with its length in four, which is 65,536 at most
-abbrev pub is_message : List ℕ → Bool
-is_message bytes = nat_lt 1 (number_at bytes 0)
 
 -- send_name and send_challenge have one letter: this one has the length of the name behind the flags and two numbers
 abbrev pub named_kind : List ℕ → Kind
@@ -47,5 +44,11 @@ signal_kind tag =
 abbrev pub frame_kind : List ℕ → Option Kind
 frame_kind bytes = if length bytes == 4 then Some kind.Tick else signal_kind (byte_at bytes 9)
 
+-- the first bytes tell if it is a message
+abbrev pub kind_told : Option Bool → List ℕ → Option Kind
+kind_told None bytes = None
+kind_told (Some true) bytes = message_kind (byte_at bytes 2) bytes
+kind_told (Some false) bytes = frame_kind bytes
+
 abbrev pub kind_in : List ℕ → Option Kind
-kind_in bytes = if is_message bytes then message_kind (byte_at bytes 2) bytes else frame_kind bytes
+kind_in bytes = kind_told (begins_message bytes) bytes

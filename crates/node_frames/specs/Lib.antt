@@ -1,3 +1,4 @@
 pub mod Frames
 pub mod Sendable
+pub mod Beginnings
 pub mod Kinds

@@ -2,6 +2,7 @@
 ghost use Rattle.std.specs.Prelude.{◌≡◌};
 ghost use Rattle.node_frames.specs.Kinds.{byte_at, frame_kind, kind_in, message_kind, named_kind, number_at, signal_kind};
 
+use crate::beginning::begins_message;
 use dist_model::Kind;
 
 fn byte_at(bytes: &[u8], place: usize) -> u8
@@ -73,7 +74,7 @@ fn frame_kind(bytes: &[u8]) -> Option<Kind>
 pub fn kind_in(bytes: &[u8]) -> Option<Kind>
     ensures { result ≡ kind_in bytes.now }
 {
-    if number_at(bytes, 0) > 1 {
+    if begins_message(bytes)? {
         message_kind(byte_at(bytes, 2), bytes)
     } else {
         frame_kind(bytes)

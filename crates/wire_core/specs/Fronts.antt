@@ -1,13 +1,23 @@
 -- How many bytes an item has, told by the first of them.
 -- (ERTS User's Guide, Distribution Protocol, Distribution Handshake and Protocol between Connected Nodes.)
-use Rattle.std.specs.Prelude.{ℕ, ◌+◌, ◌*◌, List, ◌∷◌, Option, None, Some, nat_lt, if◌then◌else◌}
+use Rattle.std.specs.Prelude.{ℕ, ◌+◌, ◌*◌, Bool, true, false, List, ◌∷◌, Option, None, Some}
+use Rattle.node_frames.specs.Beginnings.{begins_message}
 
--- a frame has a length of four bytes before it. This is what the first two say, and then the others
-abbrev pub frame_length : (high : ℕ) → List ℕ → Option ℕ
-frame_length high (c ∷ d ∷ rest) = Some (65536 * high + (256 * c + d) + 4)
-frame_length high _ = None
+-- a message of the handshake has a length of two bytes before it
+abbrev pub message_length : List ℕ → Option ℕ
+message_length (a ∷ b ∷ rest) = Some (256 * a + b + 2)
+message_length _ = None
 
--- a message of the handshake has a length of two bytes before it, and none is shorter than 2; of a frame these two are 0 or 1
+-- a frame has a length of four
+abbrev pub frame_length : List ℕ → Option ℕ
+frame_length (a ∷ b ∷ c ∷ d ∷ rest) = Some (65536 * (256 * a + b) + (256 * c + d) + 4)
+frame_length _ = None
+
+-- the first bytes tell if it is a message
+abbrev pub length_told : Option Bool → List ℕ → Option ℕ
+length_told None bytes = None
+length_told (Some true) bytes = message_length bytes
+length_told (Some false) bytes = frame_length bytes
+
 abbrev pub front_length : List ℕ → Option ℕ
-front_length (a ∷ b ∷ rest) = if nat_lt 1 (256 * a + b) then Some (256 * a + b + 2) else frame_length (256 * a + b) rest
-front_length _ = None
+front_length bytes = length_told (begins_message bytes) bytes

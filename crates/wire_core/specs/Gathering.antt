@@ -13,10 +13,11 @@ FrontIsTold = (item : Item) → IsSpelled item → (rest : List ℕ) → front_l
 abbrev pub FrontStays : Type 0
 FrontStays = (bytes rest : List ℕ) (n : ℕ) → front_length bytes ≡ Some n → front_length (bytes ++ rest) ≡ Some n
 
--- fewer than two tell nothing, and of a frame fewer than four
+-- fewer than two tell nothing, fewer than four where they are 0 or 1, and fewer than five where they are 2 to 16
 abbrev pub FrontIsNeeded : Type 0
 FrontIsNeeded = ((bytes : List ℕ) → length bytes < 2 → front_length bytes ≡ None)
     × ((a b : ℕ) (rest : List ℕ) → 256 * a + b ≤ 1 → length rest < 2 → front_length (a ∷ b ∷ rest) ≡ None)
+    × ((a b : ℕ) (rest : List ℕ) → 2 ≤ 256 * a + b → 256 * a + b ≤ 16 → length rest < 3 → front_length (a ∷ b ∷ rest) ≡ None)
 
 -- behind whole items stands what is cut from items
 abbrev pub IsCutBehind : Type 0

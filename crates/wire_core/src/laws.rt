@@ -1,8 +1,9 @@
 //! The laws of items in pieces. Each function does nothing: its contract is the law.
 ghost use Rattle.wire_core.specs.Gathering.{FrontIsNeeded, FrontIsTold, FrontStays, IsCutBehind, IsWholeByFront};
 
-/// The bytes at the front of an item tell how many it has, whatever follows, as soon as they are two, or
-/// four where it is a frame.
+/// Proves that the bytes at the front of an item tell how many it has, whatever follows. More bytes tell the
+/// same. Nothing is told by fewer than two, by fewer than four where these two make 0 or 1, or by fewer than
+/// five where they make 2 to 16.
 #[tactic(auto, using(crate::proofs::Fronts::front_is_told, crate::proofs::Fronts::front_stays, crate::proofs::Fronts::front_is_needed))]
 pub fn front_is_told()
     ensures told { FrontIsTold }

@@ -10,7 +10,7 @@ use erl_term::Refusal;
 use link_core::End::Active;
 use std::alloc::Global;
 use std::sync::Wait;
-use wire_core::{LONGEST, Offer, Port, Spelling, WireIn, connect};
+use wire_core::{LONGEST, Offer, Port, Spelling, WireIn, connect, front_length};
 
 /// What one node sends to the other, how long its pieces may be, and how long they are.
 struct Cut {
@@ -51,6 +51,36 @@ const CUTS: &[Cut] = &[
         greatest: 23,
         lengths: &[23, 23],
     },
+];
+
+/// Bytes at the front of an item, how many of them tell its length, and the length.
+type Front = (&'static [u8], usize, usize);
+
+/// Each status, other messages, a tick, and frames whose first two bytes make the lengths of messages. The
+/// longest of them is longer than a frame may be.
+const FRONTS: &[Front] = &[
+    (b"\0\x03sok", 5, 5),
+    (b"\0\x10sok_simultaneous", 5, 18),
+    (b"\0\x04snok", 5, 6),
+    (b"\0\x0csnot_allowed", 5, 14),
+    (b"\0\x06salive", 5, 8),
+    (b"\0\x05strue", 5, 7),
+    (b"\0\x06sfalse", 5, 8),
+    (b"\0\x11a\0\0pp", 2, 19),
+    (b"\0\x15r\0\0pp", 2, 23),
+    (b"\0\x12N\0\0pp", 2, 20),
+    (&[0, 0, 0, 0], 4, 4),
+    (&[0, 0, 0, 42, 112, 131], 4, 46),
+    (&[0, 1, 255, 255, 112, 131], 4, 0x0002_0003),
+    (&[0, 2, 0, 0, 112, 131], 5, 0x0002_0004),
+    (&[0, 3, 0, 0, 112, 131], 5, 0x0003_0004),
+    (&[0, 3, 115, 111, 112, 131], 5, 0x0003_7373),
+    (&[0, 4, 0, 0, 112, 131], 5, 0x0004_0004),
+    (&[0, 5, 0, 0, 112, 131], 5, 0x0005_0004),
+    (&[0, 6, 0, 0, 112, 131], 5, 0x0006_0004),
+    (&[0, 12, 0, 0, 112, 131], 5, 0x000C_0004),
+    (&[0, 16, 0, 0, 112, 131], 5, 0x0010_0004),
+    (&[0, 16, 255, 255, 112, 131], 5, 0x0011_0003),
 ];
 
 /// The longest item of a handshake and a link is the link.
@@ -137,6 +167,28 @@ pub fn cut_frames<R: Machine>(rt: &R, alloc: Global) -> Result<(), Wrong> {
     for cut in CUTS {
         number = number.saturating_add(1);
         check(number, holds(rt, alloc, cut)?)?;
+    }
+    Ok(())
+}
+
+// Returns true if these bytes tell the length of an item as soon as they are as many as are needed.
+fn is_told(front: Front) -> bool {
+    let (bytes, needed, length) = front;
+    for count in 0..bytes.len() {
+        let wanted = if count < needed { None } else { Some(length) };
+        if front_length(&bytes[..count]) != wanted {
+            return false;
+        }
+    }
+    front_length(bytes) == Some(length)
+}
+
+/// Statuses and long frames are told apart, cut at each byte.
+pub fn told_fronts() -> Result<(), Wrong> {
+    let mut number = 0u32;
+    for front in FRONTS {
+        number = number.saturating_add(1);
+        check(number, is_told(*front))?;
     }
     Ok(())
 }

@@ -1,5 +1,5 @@
 //! Stories are told, and what of them doesn't hold.
-use crate::cutting::{cut_frames, each_length};
+use crate::cutting::{cut_frames, each_length, told_fronts};
 use crate::passing::{full_wire, two_ports, two_threads};
 use crate::rows::{Kept, Story};
 use crate::stage::{Stage, open};
@@ -99,10 +99,11 @@ pub fn tell_wires<R: Machine>(rt: &R, alloc: Global) -> Result<bool> {
     let full = put(rt, "a full wire gives a piece back", full_wire(rt, alloc))?;
     let ports = put(rt, "two ports pass parcels", two_ports(rt, alloc))?;
     let cuts = put(rt, "frames are cut into pieces", cut_frames(rt, alloc))?;
+    let fronts = put(rt, "the first bytes tell a length", told_fronts())?;
     let lengths = put(
         rt,
         "a link in pieces of each length",
         each_length(rt, alloc),
     )?;
-    Ok(threads && full && ports && cuts && lengths)
+    Ok(threads && full && ports && cuts && fronts && lengths)
 }
